@@ -1,0 +1,62 @@
+-- Laws of bit fields, each over the width: what proofs above cite in place of the arithmetic.
+use mathlib.Core.Path.{_≡_, refl, sym, ap, _∙_}
+use mathlib.Core.Bool.{Bool, true, false, _&&_, _||_}
+use Prim.Native.Nat.{ℕ, zero, suc, _+_, _-_, _*_, _/_, _%_, _^_, _≤_, _<_, max}
+use native.Mathlib.Nat.{mod-eq-of-lt, add-sub-of-le, max-le}
+use native.Mathlib.Omega.{arith}
+use lib.Bits.{bitOr, or-shr, or-step}
+use lib.Dec.{eqb}
+use lib.Pow
+use lib.Pow.{split, shl-shr, shr-shr}
+use Rattle.word.specs.Bits.{bitOn, field, alignDown}
+
+-- a place below 64 is the place that the machine takes
+pub place : {n : ℕ} → n < 64 → n % 64 ≡ n
+place h = mod-eq-of-lt h
+
+-- aligning goes down
+pub align-le : (x n : ℕ) → alignDown x n ≤ x
+align-le x n = omega (arith, split x n)
+
+-- and what it drops is the remainder
+pub align-low : (x n : ℕ) → x - alignDown x n ≡ x % 2 ^ n
+align-low x n = omega (arith, split x n)
+
+-- aligned numbers have no bits below
+pub align-mod : (x n : ℕ) → alignDown x n % 2 ^ n ≡ 0
+align-mod x n = let h = split (alignDown x n) n in let e = shl-shr (x / 2 ^ n) n in omega (arith, rw e at h)
+
+-- aligning by n leaves every higher bit as it is
+pub align-div : (x : ℕ) {n m : ℕ} → n ≤ m → alignDown x n / 2 ^ m ≡ x / 2 ^ m
+align-div x {n} {m} h =
+    let e : n + (m - n) ≡ m = add-sub-of-le h in
+    ap (λ (k : ℕ). alignDown x n / 2 ^ k) (sym e) ∙ sym (shr-shr (alignDown x n) n (m - n)) ∙ ap (λ (k : ℕ). k / 2 ^ (m - n)) (shl-shr (x / 2 ^ n) n)
+    ∙ shr-shr x n (m - n) ∙ ap (λ (k : ℕ). x / 2 ^ k) e
+
+-- the bits lo to hi of a number cut at hi are those of the number
+pub cut-field : (x : ℕ) {lo hi : ℕ} → lo ≤ hi → x % 2 ^ hi / 2 ^ lo ≡ field x lo (hi - lo)
+cut-field x {lo} {hi} h =
+    let e : hi - lo + lo ≡ hi = omega arith in
+    ap (λ (k : ℕ). x % 2 ^ k / 2 ^ lo) (sym e) ∙ Pow.field x (hi - lo) lo
+
+-- cutting at hi and then lower is cutting lower
+pub cut-cut : (x : ℕ) {lo hi : ℕ} → lo ≤ hi → x % 2 ^ hi % 2 ^ lo ≡ x % 2 ^ lo
+cut-cut x {lo} {hi} h =
+    let e : hi - lo + lo ≡ hi = omega arith in
+    ap (λ (k : ℕ). x % 2 ^ k % 2 ^ lo) (sym e) ∙ Pow.mod-mod-pow x (hi - lo) lo
+
+-- a bit of two numbers joined is set where either's is
+max-bit : (a b : ℕ) → a < 2 → b < 2 → eqb (max a b) 1 ≡ (eqb a 1 || eqb b 1)
+max-bit zero zero h k = refl
+max-bit zero (suc zero) h k = refl
+max-bit (suc zero) zero h k = refl
+max-bit (suc zero) (suc zero) h k = refl
+max-bit (suc (suc a)) b h k = absurd (omega arith)
+max-bit zero (suc (suc b)) h k = absurd (omega arith)
+max-bit (suc zero) (suc (suc b)) h k = absurd (omega arith)
+
+low-bit : (a b : ℕ) → bitOr a b % 2 ≡ max (a % 2) (b % 2)
+low-bit a b = let h : max (a % 2) (b % 2) ≤ 1 = max-le (omega arith) (omega arith) in omega (arith, or-step a b)
+
+pub or-bit : (a b i : ℕ) → bitOn (bitOr a b) i ≡ (bitOn a i || bitOn b i)
+or-bit a b i = rw (or-shr a b i, low-bit) (max-bit (a / 2 ^ i % 2) (b / 2 ^ i % 2) (omega arith) (omega arith))

@@ -1,0 +1,4 @@
+pub mod Bits
+pub mod Ram
+pub mod BitLaws
+pub mod RamLaws
