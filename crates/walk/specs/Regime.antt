@@ -1,0 +1,41 @@
+-- The translation regimes, and what turns stage 1 on: DDI 0487, D5.2. A `Bank` holds the registers of one regime.
+use mathlib.Core.Bool.{Bool, true, false, not, _&&_, _||_}
+use Prim.Native.Nat.{ℕ}
+use lib.Dec.{eqb}
+use Rattle.word.specs.Bits.{bitOn, bit0, pick}
+use Rattle.walk.specs.declared.regime.Regime.{Regime}
+use Rattle.walk.specs.declared.regime.Regime.the-variants.{El1, El2, El3}
+use Rattle.walk.specs.declared.regime.Bank.{Bank}
+
+-- the regime of an exception level: EL0 shares that of EL1
+abbrev pub regimeOf : ℕ → Regime
+regimeOf level = pick (eqb level 2) El2 (pick (eqb level 3) El3 El1)
+
+-- EL2 and EL3 have one privilege level and one range of addresses; EL1&0 has two of each
+abbrev pub singlePriv : Regime → Bool
+singlePriv El1 = false
+singlePriv El2 = true
+singlePriv El3 = true
+
+-- SCTLR_ELx.M and SCTLR_ELx.WXN
+abbrev pub mmuOn : Bank → Bool
+mmuOn s = bit0 (s .sctlr)
+
+abbrev pub wxnOf : Bank → Bool
+wxnOf s = bitOn (s .sctlr) 19
+
+-- SCR_EL3.NS, HCR_EL2.TGE and HCR_EL2.DC
+abbrev pub nonSecure : Bank → Bool
+nonSecure s = bit0 (s .«scr_el3»)
+
+abbrev pub tge : Bank → Bool
+tge s = bitOn (s .«hcr_el2») 27
+
+abbrev pub dc : Bank → Bool
+dc s = bitOn (s .«hcr_el2») 12
+
+-- stage 1 is on by SCTLR_ELx.M; in Non-secure state TGE and DC turn that of EL1&0 off
+abbrev pub stage1On : Bank → Regime → Bool
+stage1On s El1 = mmuOn s && not (nonSecure s && (tge s || dc s))
+stage1On s El2 = mmuOn s
+stage1On s El3 = mmuOn s

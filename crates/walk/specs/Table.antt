@@ -1,0 +1,242 @@
+-- The VMSAv8-64 stage 1 translation table walk: DDI 0487, AArch64.TranslationTableWalk, with its variables' names. x<hi:lo> is
+-- `field x lo (hi + 1 - lo)`. Departures are marked.
+use mathlib.Core.Bool.{Bool, true, false, not, _&&_, _||_}
+use Prim.Native.Nat.{ℕ, zero, suc, _+_, _-_, _*_, _/_, _%_, _^_, min, max}
+use lib.Dec.{eqb, ltb}
+use Rattle.word.specs.Bits.{bitOn, field, alignDown, pick}
+use Rattle.word.specs.declared.ram.Word.{Word}
+use Rattle.word.specs.declared.ram.Word.the-variants.{Value, Outside}
+use Rattle.walk.specs.Descriptor.{valid, tableOrPage, attrIndx, ns, ap1, ap2, sh, af, nG, pxn, uxn, pxnTable, uxnTable, apTable0, apTable1}
+use Rattle.walk.specs.Regime.{singlePriv, wxnOf}
+use Rattle.walk.specs.Size.{paSize}
+use Rattle.walk.specs.declared.regime.Regime.{Regime}
+use Rattle.walk.specs.declared.regime.Regime.the-variants.{El1, El2, El3}
+use Rattle.walk.specs.declared.regime.Bank.{Bank}
+use Rattle.walk.specs.declared.range.Range.{Range}
+use Rattle.walk.specs.declared.rights.Permissions.{Permissions}
+use Rattle.walk.specs.declared.level.Params.{Params}
+
+-- how a walk ends short of a leaf, with the level
+pub data Fault : Type 0 where
+  addressSize translation accessFlag externalAbort : ℕ → Fault
+
+-- the fault's status code
+abbrev pub statusOf : Fault → ℕ
+statusOf (addressSize level) = level
+statusOf (translation level) = 4 + level
+statusOf (accessFlag level) = 8 + level
+statusOf (externalAbort level) = 20 + level
+
+-- what a walk finds: the output address, the permission attributes as the tables above leave them, the rest as the descriptor has it
+pub record Translation : Type 0 where
+  pub address : ℕ
+  pub level : ℕ
+  pub perms : Permissions
+  pub nG : Bool
+  pub ns : Bool
+  pub sh : ℕ
+  pub attrIndx : ℕ
+  pub descriptor : ℕ
+
+pub data Result : Type 0 where
+  mapped : Translation → Result
+  faults : Fault → Result
+
+-- the translation granule: log2 of its bytes, the address bits that a table resolves, the first level that may hold blocks
+abbrev pub grainsize : Bool → ℕ
+grainsize largegrain = pick largegrain 16 12
+
+abbrev pub stride : Bool → ℕ
+stride largegrain = grainsize largegrain - 3
+
+abbrev pub firstblocklevel : Bool → ℕ
+firstblocklevel largegrain = pick largegrain 2 1
+
+-- the range of an address: TTBR0 and TTBR1, T0SZ and T1SZ, EPD0 and EPD1, IPS in EL1&0, by va<55>; TTBR0, T0SZ, PS in EL2 and EL3.
+-- TG0 of '01' and TG1 of '11' are 64 KiB. Departure: every other code is 4 KiB
+abbrev pub lowerRange : Bank → Range
+lowerRange s =
+    record {
+      largegrain = eqb (field (s .tcr) 14 2) 1;
+      baseregister = s .ttbr0;
+      size = s .tcr % 2 ^ 6;
+      disabled = bitOn (s .tcr) 7;
+      ps = field (s .tcr) 32 3;
+      upper = false;
+    }
+
+abbrev pub upperRange : Bank → Range
+upperRange s =
+    record {
+      largegrain = eqb (field (s .tcr) 30 2) 3;
+      baseregister = s .«ttbr1_el1»;
+      size = field (s .tcr) 16 6;
+      disabled = bitOn (s .tcr) 23;
+      ps = field (s .tcr) 32 3;
+      upper = true;
+    }
+
+abbrev pub onlyRange : Bank → Range
+onlyRange s =
+    record {
+      largegrain = eqb (field (s .tcr) 14 2) 1;
+      baseregister = s .ttbr0;
+      size = s .tcr % 2 ^ 6;
+      disabled = false;
+      ps = field (s .tcr) 16 3;
+      upper = false;
+    }
+
+unfoldable pub rangeOf : Bank → Regime → ℕ → Range
+rangeOf s El1 va = pick (bitOn va 55) (upperRange s) (lowerRange s)
+rangeOf s El2 va = onlyRange s
+rangeOf s El3 va = onlyRange s
+
+-- Departure: TxSZ is held to 16..39
+abbrev pub inputsize : Range → ℕ
+inputsize g = 64 - max 16 (min 39 (g .size))
+
+-- va<63:inputsize> is all ones in an upper range, and zero in a lower one
+abbrev pub inRange : Range → ℕ → Bool
+inRange g va = eqb (va / 2 ^ inputsize g) (pick (g .upper) (2 ^ (64 - inputsize g) - 1) 0)
+
+-- 4 - RoundUp((inputsize - grainsize) / stride)
+abbrev pub startlevelOf : Bool → ℕ → ℕ
+startlevelOf largegrain size = 4 - (size - grainsize largegrain + (stride largegrain - 1)) / stride largegrain
+
+abbrev pub startlevel : Range → ℕ
+startlevel g = startlevelOf (g .largegrain) (inputsize g)
+
+-- the lowest address bit that indexes a table of the level
+abbrev pub addrselectbottom : Bool → ℕ → ℕ
+addrselectbottom largegrain level = (3 - level) * stride largegrain + grainsize largegrain
+
+-- log2 of the first table's bytes
+abbrev pub baselowerbound : Range → ℕ
+baselowerbound g = 3 + inputsize g - addrselectbottom (g .largegrain) (startlevel g)
+
+-- x<47:n> is not zero: an address beyond n bits
+abbrev pub beyond : ℕ → ℕ → Bool
+beyond n x = not (eqb (field x n (48 - n)) 0)
+
+-- what a regime's registers say of every level
+unfoldable pub paramsOf : Bank → Regime → Range → Params
+paramsOf s r g =
+    record { largegrain = g .largegrain; outputsize = paSize (g .ps % 2 ^ 3); singlepriv = singlePriv r; wxn = wxnOf s }
+
+-- a table: its level and base, the bit above those that index it, and what the tables above forbid
+pub record Lookup : Type 0 where
+  pub level : ℕ
+  pub baseaddress : ℕ
+  pub top : ℕ
+  pub apTable1 : Bool
+  pub apTable0 : Bool
+  pub xnTable : Bool
+  pub pxnTable : Bool
+
+-- baseregister<47:baselowerbound> : Zeros(baselowerbound); nothing is forbidden yet
+abbrev pub firstLookup : Range → Lookup
+firstLookup g =
+    record {
+      level = startlevel g;
+      baseaddress = alignDown (g .baseregister % 2 ^ 48) (baselowerbound g);
+      top = inputsize g;
+      apTable1 = false;
+      apTable0 = false;
+      xnTable = false;
+      pxnTable = false;
+    }
+
+-- what a descriptor leads to
+pub data Next : Type 0 where
+  deeper : Lookup → Next
+  ends : Result → Next
+
+-- a table descriptor: desc<47:grainsize>. APTable<1> and XNTable accumulate; APTable<0> and PXNTable too where there are two privilege levels
+unfoldable pub tableNext : Params → Lookup → ℕ → Next
+tableNext p l desc =
+    pick (beyond (p .outputsize) desc) (ends (faults (addressSize (l .level))))
+    (deeper
+    record {
+      level = l .level + 1;
+      baseaddress = alignDown (desc % 2 ^ 48) (grainsize (p .largegrain));
+      top = addrselectbottom (p .largegrain) (l .level);
+      apTable1 = l .apTable1 || apTable1 desc;
+      apTable0 = l .apTable0 || (not (p .singlepriv) && apTable0 desc);
+      xnTable = l .xnTable || uxnTable desc;
+      pxnTable = l .pxnTable || (not (p .singlepriv) && pxnTable desc);
+    })
+
+-- desc<47:addrselectbottom> : va<addrselectbottom-1:0>
+abbrev pub outputaddress : ℕ → ℕ → ℕ → ℕ
+outputaddress bottom va desc = alignDown (desc % 2 ^ 48) bottom + va % 2 ^ bottom
+
+-- the tables force read-only, no access from EL0, and no execution. With one privilege level AP<1> is one and PXN is zero
+unfoldable pub leafPermissions : Params → Lookup → ℕ → Permissions
+leafPermissions p l desc =
+    record {
+      ap2 = ap2 desc || l .apTable1;
+      ap1 = p .singlepriv || (ap1 desc && not (l .apTable0));
+      xn = uxn desc || l .xnTable;
+      pxn = not (p .singlepriv) && (pxn desc || l .pxnTable);
+    }
+
+-- with one privilege level nG is zero
+unfoldable pub leafTranslation : Params → ℕ → Lookup → ℕ → Translation
+leafTranslation p va l desc =
+    record {
+      address = outputaddress (addrselectbottom (p .largegrain) (l .level)) va desc;
+      level = l .level;
+      perms = leafPermissions p l desc;
+      nG = not (p .singlepriv) && nG desc;
+      ns = ns desc;
+      sh = sh desc;
+      attrIndx = attrIndx desc;
+      descriptor = desc;
+    }
+
+-- a block or page: its level, then its output size, then its access flag
+unfoldable pub leafResult : Params → ℕ → Lookup → ℕ → Result
+leafResult p va l desc =
+    pick (ltb (l .level) (firstblocklevel (p .largegrain))) (faults (translation (l .level)))
+    (pick (beyond (p .outputsize) desc) (faults (addressSize (l .level)))
+    (pick (af desc) (mapped (leafTranslation p va l desc)) (faults (accessFlag (l .level)))))
+
+-- '00', '10' and, at level 3, '01' are faults; '01' is a block, '11' a page at level 3 and a table above
+unfoldable pub levelNext : Params → ℕ → Lookup → ℕ → Next
+levelNext p va l desc =
+    pick (not (valid desc) || (eqb (l .level) 3 && not (tableOrPage desc))) (ends (faults (translation (l .level))))
+    (pick (eqb (l .level) 3 || not (tableOrPage desc)) (ends (leafResult p va l desc)) (tableNext p l desc))
+
+-- baseaddress, and in place of its low bits the index va<top-1:addrselectbottom> : '000'
+unfoldable pub descaddr : Params → ℕ → Lookup → ℕ
+descaddr p va l =
+    l .baseaddress
+    + field va (addrselectbottom (p .largegrain) (l .level)) (l .top - addrselectbottom (p .largegrain) (l .level)) * 8
+
+abbrev pub onWord : Word → (ℕ → Next) → Next → Next
+onWord (Value desc) k none = k desc
+onWord Outside k none = none
+
+-- one level: the descriptor is fetched from memory, a function from an address to the 64-bit word there, and read
+unfoldable pub lookupNext : (ℕ → Word) → Params → ℕ → Lookup → Next
+lookupNext memory p va l = onWord (memory (descaddr p va l)) (levelNext p va l) (ends (faults (externalAbort (l .level))))
+
+abbrev pub onNext : Next → (Lookup → Result) → Result
+onNext (deeper l) k = k l
+onNext (ends r) k = r
+
+-- the walk with n levels to go; none is left below level 3, where no descriptor is a table
+unfoldable pub walkFrom : ℕ → (ℕ → Word) → Params → ℕ → Lookup → Result
+walkFrom zero memory p va l = faults (translation 3)
+walkFrom (suc n) memory p va l = onNext (lookupNext memory p va l) (walkFrom n memory p va)
+
+-- the walk of an untagged address in its range
+unfoldable pub walkRange : Params → Range → ℕ → (ℕ → Word) → Result
+walkRange p g va memory =
+    pick (inRange g va && not (g .disabled))
+    (pick (beyond (p .outputsize) (g .baseregister)) (faults (addressSize 0)) (walkFrom (4 - startlevel g) memory p va (firstLookup g)))
+    (faults (translation 0))
+
+unfoldable pub tableWalk : Bank → Regime → ℕ → (ℕ → Word) → Result
+tableWalk s r va memory = walkRange (paramsOf s r (rangeOf s r va)) (rangeOf s r va) va memory
