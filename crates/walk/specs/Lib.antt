@@ -5,4 +5,6 @@ pub mod Descriptor
 pub mod Table
 pub mod Permission
 pub mod Walk
+pub mod PermissionLaws
+pub mod Cases
 pub mod State

@@ -136,12 +136,12 @@ fn leaf_step(p: Params, w: WalkState, va: u64, desc: u64) -> Walked
 {
     let first = first_block_level(p.largegrain);
     let early = w.level < first;
-    let large = too_large(desc, p.outputsize);
     let accessed = (desc >> 10) % 2 == 1;
+    let beyond = too_large(desc, p.outputsize);
     if early {
         return Walked::Fault(4 + w.level);
     }
-    if large {
+    if beyond {
         return Walked::Fault(w.level);
     }
     if accessed {
