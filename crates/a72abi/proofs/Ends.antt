@@ -1,0 +1,68 @@
+-- The ends of an exported walk, on plain values.
+use mathlib.Core.Path.{_≡_, refl, sym, ap, _∙_}
+use mathlib.Core.Bool.{Bool, true, false}
+use mathlib.Core.List.{List}
+use Prim.Native.Nat.{ℕ, _+_, _-_, _^_, _≤_, _<_}
+use native.Mathlib.Omega.{arith}
+use borrow.Author.Tests.{lt-ltb, le-ltb, ltb-true, ltb-false}
+use lib.Dec.{ltb}
+use lib.ListN.{length}
+use Rattle.word.specs.Ram.{wordAt}
+use Rattle.walk.specs.Walk.{walkOf}
+use Rattle.walk.specs.declared.regime.Regime.{Regime}
+use Rattle.walk.specs.declared.regime.Bank.{Bank}
+use Rattle.walk.specs.declared.level.Leaf.{Leaf}
+use Rattle.walk.specs.declared.level.Walked.{Walked}
+use Rattle.walk.specs.declared.level.Walked.the-variants.{Mapped, Fault}
+use Rattle.a72abi.specs.Walk.{bankAt, regimeAt, passes, leafAfter, walkCode, walkWords}
+use Rattle.a72abi.specs.declared.Named.{Named}
+use Rattle.a72abi.specs.declared.Named.the-variants.{Known, Unknown}
+
+-- a window from 0 never passes 2^64; another one does where its length is more than what is left
+pub never-past : (base len : ℕ) → base ≡ 0 → len < 2 ^ 64 → false ≡ passes base len
+never-past base len e h = sym (le-ltb (2 ^ 64) (base + len) (omega arith))
+
+pub past-left : (base len : ℕ) → base < 2 ^ 64 → ltb ((2 ^ 64 - 1) - base + 1) len ≡ passes base len
+past-left base len h = go (ltb (2 ^ 64) (base + len)) refl
+  where
+    go : (t : Bool) → ltb (2 ^ 64) (base + len) ≡ t → ltb ((2 ^ 64 - 1) - base + 1) len ≡ passes base len
+    go true e = let k = ltb-true (2 ^ 64) (base + len) e in rw e (lt-ltb ((2 ^ 64 - 1) - base + 1) len (omega arith))
+    go false e = let k = ltb-false (2 ^ 64) (base + len) e in rw e (le-ltb ((2 ^ 64 - 1) - base + 1) len (omega arith))
+
+module _ (ws : List ℕ) (n va base : ℕ) (ram : List ℕ) (x : Named) (ex : x ≡ regimeAt n) where
+  pub no-regime-code : x ≡ Unknown → 1 ≡ walkCode ws n va base ram
+  unfolding walkCode
+  no-regime-code e = rw (← ex, e)
+
+  pub no-regime-words : (out : List ℕ) → x ≡ Unknown → out ≡ walkWords ws n va base ram out
+  unfolding walkWords
+  no-regime-words out e = rw (← ex, e)
+
+  module _ (r : Regime) (past : Bool) (er : x ≡ Known r) (ep : past ≡ passes base (length ram)) where
+    pub past-code : past ≡ true → 2 ≡ walkCode ws n va base ram
+    unfolding walkCode
+    past-code t = rw (← ex, er, ← ep, t)
+
+    pub past-words : (out : List ℕ) → past ≡ true → out ≡ walkWords ws n va base ram out
+    unfolding walkWords
+    past-words out t = rw (← ex, er, ← ep, t)
+
+    module _ (s : Bank) (w : Walked) (t : past ≡ false) (es : s ≡ bankAt ws) (ew : w ≡ walkOf s r va (wordAt base ram 8)) where
+      whole : walkOf (bankAt ws) r va (wordAt base ram 8) ≡ w
+      whole = sym (rw es at ew)
+
+      pub mapped-code : (leaf : Leaf) → w ≡ Mapped leaf → 0 ≡ walkCode ws n va base ram
+      unfolding walkCode
+      mapped-code leaf e = rw (← ex, er, ← ep, t, whole, e)
+
+      pub mapped-words : (out : List ℕ) (leaf : Leaf) (ys : List ℕ) → w ≡ Mapped leaf → ys ≡ leafAfter leaf → ys ≡ walkWords ws n va base ram out
+      unfolding walkWords
+      mapped-words out leaf ys e l = rw (← ex, er, ← ep, t, whole, e) l
+
+      pub fault-code : (status : ℕ) → w ≡ Fault status → 256 + status ≡ walkCode ws n va base ram
+      unfolding walkCode
+      fault-code status e = rw (← ex, er, ← ep, t, whole, e)
+
+      pub fault-words : (out : List ℕ) (status : ℕ) → w ≡ Fault status → out ≡ walkWords ws n va base ram out
+      unfolding walkWords
+      fault-words out status e = rw (← ex, er, ← ep, t, whole, e)
