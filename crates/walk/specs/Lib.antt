@@ -1,3 +1,4 @@
+-- The architecture's definitions, top to bottom.
 pub mod Regime
 pub mod Tag
 pub mod Size
@@ -5,6 +6,15 @@ pub mod Descriptor
 pub mod Table
 pub mod Permission
 pub mod Walk
-pub mod PermissionLaws
+-- Worked cases.
 pub mod Cases
+-- Laws that the crates above cite in place of the definitions.
+pub mod TagLaws
+pub mod SizeLaws
+pub mod PermissionLaws
+pub mod WalkBounds
+pub mod Fetches
+pub mod PageLaws
+pub mod Order
+-- How the code keeps the walk's variables.
 pub mod State
