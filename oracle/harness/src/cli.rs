@@ -1,0 +1,140 @@
+//! What the programs share: arguments, usage, and the choice of a core. Exit status 0 is success, 1 a failure of
+//! what was tested, 2 a wrong call.
+use crate::ffi::CCore;
+use crate::generate::Style;
+use crate::model::{DocCore, Mistake, MISTAKES};
+use crate::op::Line;
+use crate::rust::RustCore;
+use crate::Core;
+use std::ops::Range;
+
+pub struct Args {
+    usage: &'static str,
+    words: Vec<String>,
+    flags: Vec<String>,
+    values: Vec<(String, String)>,
+}
+
+impl Args {
+    /// The program's arguments: `flags` are options without a value, `options` those with one.
+    pub fn new(usage: &'static str, flags: &[&str], options: &[&str]) -> Args {
+        let mut args = Args {
+            usage,
+            words: Vec::new(),
+            flags: Vec::new(),
+            values: Vec::new(),
+        };
+        let mut given = std::env::args().skip(1);
+        while let Some(a) = given.next() {
+            if flags.contains(&a.as_str()) {
+                args.flags.push(a);
+            } else if options.contains(&a.as_str()) {
+                let Some(v) = given.next() else {
+                    args.fail(&format!("{a} wants a value"))
+                };
+                args.values.push((a, v));
+            } else if a.starts_with('-') {
+                args.fail(&format!("no such option: {a}"));
+            } else {
+                args.words.push(a);
+            }
+        }
+        args
+    }
+
+    /// Say why, show the usage, end with status 2.
+    pub fn fail(&self, why: &str) -> ! {
+        eprintln!("{why}\nusage: {}", self.usage);
+        std::process::exit(2)
+    }
+
+    pub fn flag(&self, name: &str) -> bool {
+        self.flags.iter().any(|f| f == name)
+    }
+
+    pub fn value(&self, name: &str) -> Option<&str> {
+        self.values
+            .iter()
+            .find(|(n, _)| n == name)
+            .map(|(_, v)| v.as_str())
+    }
+
+    pub fn words(&self) -> &[String] {
+        &self.words
+    }
+
+    /// Exactly `n` words beside the options.
+    pub fn expect_words(&self, n: usize) {
+        if self.words.len() != n {
+            self.fail(&format!("{n} arguments wanted"));
+        }
+    }
+
+    fn parse<T: std::str::FromStr>(&self, text: &str) -> T {
+        text.parse()
+            .unwrap_or_else(|_| self.fail(&format!("not a number: {text}")))
+    }
+
+    pub fn number<T: std::str::FromStr>(&self, i: usize) -> T {
+        let Some(w) = self.words.get(i) else {
+            self.fail("a number is missing")
+        };
+        self.parse(w)
+    }
+
+    /// FROM TO N: seeds and the number of operations of each.
+    pub fn seeds(&self) -> (Range<u64>, usize) {
+        self.expect_words(3);
+        (self.number(0)..self.number(1), self.number(2))
+    }
+
+    pub fn style(&self) -> Style {
+        match (self.flag("--strict"), self.flag("--wild")) {
+            (false, false) => Style::Full,
+            (true, false) => Style::Strict,
+            (false, true) => Style::Wild,
+            (true, true) => self.fail("--strict and --wild exclude each other"),
+        }
+    }
+
+    pub fn mistake(&self) -> Option<Mistake> {
+        let n: usize = self.parse(self.value("--mistake")?);
+        match MISTAKES.get(n.wrapping_sub(1)) {
+            Some((m, _)) => Some(*m),
+            None => self.fail(&format!("mistakes are 1 to {}", MISTAKES.len())),
+        }
+    }
+
+    /// The core beside the Rust: the model, the model with a mistake, or the one behind the C boundary.
+    pub fn other_core(&self) -> Box<dyn Core> {
+        if self.flag("--c") {
+            Box::new(CCore::new())
+        } else {
+            Box::new(DocCore::with_mistake(self.mistake()))
+        }
+    }
+
+    /// One core alone: the Rust, the model, or the one behind the C boundary.
+    pub fn one_core(&self) -> Box<dyn Core> {
+        match (self.flag("--model"), self.flag("--c")) {
+            (false, false) => Box::new(RustCore::new()),
+            (true, false) => Box::new(DocCore::new()),
+            (false, true) => Box::new(CCore::new()),
+            (true, true) => self.fail("--model and --c exclude each other"),
+        }
+    }
+
+    /// A trace's lines with their numbers.
+    pub fn trace(&self, path: &str) -> Vec<(usize, Line)> {
+        Line::parse_all(&self.text(path)).unwrap_or_else(|e| self.fail(&format!("{path}: {e}")))
+    }
+
+    pub fn text(&self, path: &str) -> String {
+        std::fs::read_to_string(path).unwrap_or_else(|e| self.fail(&format!("{path}: {e}")))
+    }
+}
+
+/// End with status 0 or 1.
+pub fn finish(ok: bool) -> ! {
+    std::process::exit(!ok as i32)
+}

@@ -1,0 +1,60 @@
+//! An oracle for stage 1 of the A72: document 01's operations on pimu's own Rust, and traces of them.
+pub mod cli;
+pub mod compare;
+pub mod coverage;
+pub mod demand3;
+pub mod expect;
+pub mod ffi;
+pub mod generate;
+pub mod grid;
+pub mod instructions;
+pub mod model;
+pub mod op;
+pub mod ram;
+pub mod recorded;
+pub mod refusal;
+pub mod rust;
+pub mod shrink;
+pub mod state;
+pub mod tally;
+pub mod text;
+pub mod wild;
+
+pub use op::{Ans, Line, Op};
+pub use ram::Ram;
+pub use refusal::refusal;
+pub use state::State;
+
+/// One core under document 01's operations. Three stand here: pimu's Rust ([`rust::RustCore`]), a model written
+/// from document 01's words ([`model::DocCore`]), and whatever is behind the C boundary ([`ffi::CCore`]).
+pub trait Core {
+    /// Become a fresh core, the one `Cpu::new` gives.
+    fn reset(&mut self);
+    /// Carry out one operation on the RAM lent to it.
+    fn step(&mut self, op: &Op, ram: &mut Ram) -> Ans;
+    /// All that it holds.
+    fn state(&self) -> State;
+    /// Hold this from now on.
+    fn load(&mut self, state: &State);
+    fn copy(&self) -> Box<dyn Core>;
+}
+
+/// Feed a trace's line to a core and its RAM; `None` where the line is no operation of the core.
+pub fn feed(line: &Line, core: &mut dyn Core, ram: &mut Ram) -> Option<Ans> {
+    match line {
+        Line::Fresh => core.reset(),
+        Line::Window(base, len) => {
+            ram.base = *base;
+            ram.bytes.resize(*len as usize, 0);
+        }
+        Line::Zero => ram.bytes.fill(0),
+        Line::Poke(addr, v) => ram.poke(*addr, *v),
+        Line::Put(part) => {
+            let mut state = core.state();
+            state.put(part);
+            core.load(&state);
+        }
+        Line::Op(op) => return Some(core.step(op, ram)),
+    }
+    None
+}

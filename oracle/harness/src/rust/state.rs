@@ -1,0 +1,199 @@
+//! pimu's core as a [`State`], and back.
+use super::PAR;
+use crate::state::{self, Entry, State};
+use pimu::aarch64::access::mmu::{self, Record};
+use pimu::aarch64::access::{cpu, Inval, Tlb};
+use pimu::aarch64::sysreg::SysRegs;
+use pimu::aarch64::Cpu;
+
+const EMPTY: Record = Record {
+    tag: 0,
+    generation: 0,
+    perms: 0,
+    level: 0,
+    global: false,
+    asid: 0,
+    pa: 0,
+};
+
+/// The registers kept once for each of EL1 to EL3, and where they begin in [`state::REGS`].
+fn banks(s: &SysRegs) -> [(usize, &[u64; 4]); 9] {
+    [
+        (0, &s.sctlr),
+        (3, &s.tcr),
+        (6, &s.ttbr0),
+        (10, &s.mair),
+        (13, &s.vbar),
+        (16, &s.elr),
+        (19, &s.spsr),
+        (22, &s.esr),
+        (25, &s.far),
+    ]
+}
+
+fn banks_mut(s: &mut SysRegs) -> [(usize, &mut [u64; 4]); 9] {
+    [
+        (0, &mut s.sctlr),
+        (3, &mut s.tcr),
+        (6, &mut s.ttbr0),
+        (10, &mut s.mair),
+        (13, &mut s.vbar),
+        (16, &mut s.elr),
+        (19, &mut s.spsr),
+        (22, &mut s.esr),
+        (25, &mut s.far),
+    ]
+}
+
+fn registers(c: &Cpu) -> [u64; 34] {
+    let s = &c.sys;
+    let mut regs = [0; 34];
+    for (at, bank) in banks(s) {
+        regs[at..at + 3].copy_from_slice(&bank[1..]);
+    }
+    regs[9] = s.ttbr1_el1;
+    regs[28..32].copy_from_slice(&[s.scr_el3, s.hcr_el2, s.vpidr_el2, s.vmpidr_el2]);
+    regs[state::PAR] = s.plain.get(&PAR).copied().unwrap_or(0);
+    regs[state::PC] = c.pc;
+    regs
+}
+
+fn set_registers(c: &mut Cpu, regs: &[u64; 34]) {
+    let s = &mut c.sys;
+    for (at, bank) in banks_mut(s) {
+        bank[1..].copy_from_slice(&regs[at..at + 3]);
+    }
+    s.ttbr1_el1 = regs[9];
+    [s.scr_el3, s.hcr_el2, s.vpidr_el2, s.vmpidr_el2] = [regs[28], regs[29], regs[30], regs[31]];
+    s.plain.insert(PAR, regs[state::PAR]);
+    c.pc = regs[state::PC];
+}
+
+fn entry(slot: usize, r: Record) -> Entry {
+    Entry {
+        slot: slot as u16,
+        tag: r.tag,
+        perms: r.perms,
+        level: r.level,
+        global: r.global,
+        asid: r.asid,
+        pa: r.pa,
+    }
+}
+
+fn set_entry(t: &mut Tlb, generation: u32, e: &Entry) {
+    let r = Record {
+        tag: e.tag,
+        generation,
+        perms: e.perms,
+        level: e.level,
+        global: e.global,
+        asid: e.asid,
+        pa: e.pa,
+    };
+    mmu::set_record(t, e.slot.into(), r);
+}
+
+fn pending(t: &Tlb) -> (u8, u64) {
+    match t.broadcast {
+        None => (0, 0),
+        Some(Inval::All) => (1, 0),
+        Some(Inval::Page(p)) => (2, p),
+        Some(Inval::Asid(a)) => (3, a.into()),
+    }
+}
+
+fn set_pending(t: &mut Tlb, (kind, v): (u8, u64)) {
+    t.broadcast = match kind {
+        0 => None,
+        1 => Some(Inval::All),
+        2 => Some(Inval::Page(v)),
+        _ => Some(Inval::Asid(v as u16)),
+    };
+}
+
+pub fn of(c: &Cpu) -> State {
+    let t = &c.tlb;
+    debug_assert!(!mmu::host_or_code_used(t));
+    let generation = mmu::generation(t);
+    let (mut entries, mut ahead) = (Vec::new(), Vec::new());
+    for slot in 0..1024 {
+        let r = mmu::record(t, slot);
+        match r.generation.cmp(&generation) {
+            _ if r.tag == 0 => {}
+            std::cmp::Ordering::Equal => entries.push(entry(slot, r)),
+            std::cmp::Ordering::Greater => ahead.push((r.generation, entry(slot, r))),
+            std::cmp::Ordering::Less => {}
+        }
+    }
+    let hints = (0..512).map(|i| (i as u16, mmu::data_hint(t, i)));
+    State {
+        regs: registers(c),
+        flags: [c.nzcv.into(), c.daif.into(), c.spsel.into()],
+        x: c.x,
+        level: c.el,
+        mark: cpu::unprivileged(c),
+        hits: t.hits,
+        walks: t.walks,
+        flushes: t.flushes,
+        drops: t.drops,
+        epoch: t.epoch,
+        broadcast: pending(t),
+        last_pa: cpu::last_pa(c),
+        abort_pa: c.abort_pa,
+        generation,
+        cache_asid: mmu::cache_asid(t),
+        entries,
+        ahead,
+        hints: hints
+            .filter(|(_, h)| h.0 != u64::MAX)
+            .map(|(i, h)| (i, h.0, h.1))
+            .collect(),
+        fetch: t.fetch_hint(),
+    }
+}
+
+pub fn load(c: &mut Cpu, s: &State) {
+    set_registers(c, &s.regs);
+    c.nzcv = s.flags[0] as u32;
+    c.daif = s.flags[1] as u32;
+    c.spsel = s.flags[2] != 0;
+    c.x = s.x;
+    c.el = s.level;
+    cpu::set_unprivileged(c, s.mark);
+    cpu::set_last_pa(c, s.last_pa);
+    c.abort_pa = s.abort_pa;
+    let t = &mut c.tlb;
+    (t.hits, t.walks, t.flushes, t.drops, t.epoch) = (s.hits, s.walks, s.flushes, s.drops, s.epoch);
+    set_pending(t, s.broadcast);
+    mmu::set_generation(t, s.generation);
+    mmu::set_cache_asid(t, s.cache_asid);
+    (0..1024).for_each(|slot| mmu::set_record(t, slot, EMPTY));
+    s.entries.iter().for_each(|e| set_entry(t, s.generation, e));
+    s.ahead.iter().for_each(|(g, e)| set_entry(t, *g, e));
+    (0..512).for_each(|slot| mmu::set_data_hint(t, slot, (u64::MAX, 0)));
+    s.hints
+        .iter()
+        .for_each(|(slot, key, pa)| mmu::set_data_hint(t, (*slot).into(), (*key, *pa)));
+    mmu::set_fetch_hint(t, s.fetch);
+}
+
+/// As if many flushes had gone by: live entries stay live, and one that is dead already stays so, as it does in
+/// every real history, where the wrap clears it.
+pub fn move_generation(t: &mut Tlb, to: u32) {
+    let present = mmu::generation(t);
+    for slot in 0..1024 {
+        let r = mmu::record(t, slot);
+        let live = r.generation == present;
+        mmu::set_record(
+            t,
+            slot,
+            if live {
+                Record { generation: to, ..r }
+            } else {
+                EMPTY
+            },
+        );
+    }
+    mmu::set_generation(t, to);
+}

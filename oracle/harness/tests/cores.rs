@@ -1,0 +1,59 @@
+//! The Rust beside the model and beside the C boundary; mistakes, demand 3 and the walk's parameters in small.
+use harness::compare::compare;
+use harness::demand3;
+use harness::ffi::CCore;
+use harness::generate::{trace, Style};
+use harness::grid::{Ask, Grid};
+use harness::model::{DocCore, Mistake};
+use harness::rust::{Rule, RustCore};
+use harness::shrink::shrink;
+use harness::Core;
+
+fn equal(other: &mut dyn Core, seed: u64, n: usize, style: Style) {
+    if let Some(d) = compare(&trace(seed, n, style), other, |_| {}) {
+        panic!("seed {seed} line {}: {}", d.at + 1, d.report);
+    }
+}
+
+#[test]
+fn model_equals_rust() {
+    for style in [Style::Full, Style::Strict, Style::Wild] {
+        equal(&mut DocCore::new(), 100, 5000, style);
+    }
+}
+
+#[test]
+fn boundary_equals_rust() {
+    for style in [Style::Strict, Style::Wild] {
+        equal(&mut CCore::new(), 101, 1000, style);
+    }
+}
+
+#[test]
+fn a_mistake_is_found_and_shrunk() {
+    let mut wrong = DocCore::with_mistake(Some(Mistake::PageKeepsHints));
+    let short = shrink(trace(1, 3000, Style::Strict), &mut wrong).expect("a difference");
+    assert!(short.len() < 20, "{} lines", short.len());
+    assert!(compare(&short, &mut wrong, |_| {}).is_some());
+    assert!(compare(&short, &mut DocCore::new(), |_| {}).is_none());
+}
+
+#[test]
+fn demand_3_holds_of_the_rust_and_not_without_flush_or_retag() {
+    let hold = |rule| {
+        let mut core = RustCore::with_rule(rule);
+        demand3::hold(&trace(1, 3000, Style::Strict), &mut core, &mut Default::default())
+    };
+    assert_eq!(hold(Rule::Document), Ok(()));
+    assert_eq!(hold(Rule::Pimu), Ok(()));
+    assert!(hold(Rule::NoFlush).is_err());
+    assert!(hold(Rule::NoRetag).is_err());
+}
+
+#[test]
+fn every_walk_parameter() {
+    for ask in [Ask::Leaf, Ask::List] {
+        let mut model = DocCore::new();
+        assert_eq!(Grid::new(&mut model, ask).round(), Ok(()));
+    }
+}
