@@ -1,11 +1,12 @@
-//! With the feature `rattle`: link the static library that A72_LIB (folder) and A72_NAME (name) give.
+//! With the feature `rattle` or `walk`: link the static library that A72_LIB (folder) and A72_NAME (name) give.
 use std::env;
 
 fn main() {
     println!("cargo:rerun-if-changed=build.rs");
     println!("cargo:rerun-if-env-changed=A72_LIB");
     println!("cargo:rerun-if-env-changed=A72_NAME");
-    if env::var_os("CARGO_FEATURE_RATTLE").is_none() {
+    let wanted = ["CARGO_FEATURE_RATTLE", "CARGO_FEATURE_WALK"];
+    if wanted.iter().all(|f| env::var_os(f).is_none()) {
         return;
     }
     let dir = env::var("A72_LIB").expect("A72_LIB: the folder of the static library");

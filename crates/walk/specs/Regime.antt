@@ -3,6 +3,11 @@ use mathlib.Core.Bool.{Bool, true, false, not, _&&_, _||_}
 use Prim.Native.Nat.{ℕ}
 use lib.Dec.{eqb}
 use Rattle.word.specs.Bits.{bitOn, bit0, pick}
+use Rattle.sysreg.specs.Regs.{controlAt}
+use Rattle.sysreg.specs.declared.regs.Control.{Control}
+use Rattle.sysreg.specs.declared.regs.El.{El}
+use Rattle.sysreg.specs.declared.regs.El.the-variants as El
+use Rattle.sysreg.specs.declared.regs.ControlReg.the-variants.{Sctlr, Tcr, Ttbr0, Ttbr1, Scr, Hcr}
 use Rattle.walk.specs.declared.regime.Regime.{Regime}
 use Rattle.walk.specs.declared.regime.Regime.the-variants.{El1, El2, El3}
 use Rattle.walk.specs.declared.regime.Bank.{Bank}
@@ -10,6 +15,24 @@ use Rattle.walk.specs.declared.regime.Bank.{Bank}
 -- the regime of an exception level: EL0 shares that of EL1
 abbrev pub regimeOf : ℕ → Regime
 regimeOf level = pick (eqb level 2) El2 (pick (eqb level 3) El3 El1)
+
+-- the exception level whose registers a regime uses
+abbrev pub levelOf : Regime → El
+levelOf El1 = El.El1
+levelOf El2 = El.El2
+levelOf El3 = El.El3
+
+-- SCTLR, TCR and TTBR0 of the regime's own level; TTBR1_EL1, SCR_EL3 and HCR_EL2
+abbrev pub bankOf : Control → Regime → Bank
+bankOf c r =
+    record {
+      sctlr = controlAt c (Sctlr (levelOf r));
+      tcr = controlAt c (Tcr (levelOf r));
+      ttbr0 = controlAt c (Ttbr0 (levelOf r));
+      «ttbr1_el1» = controlAt c Ttbr1;
+      «scr_el3» = controlAt c Scr;
+      «hcr_el2» = controlAt c Hcr;
+    }
 
 -- EL2 and EL3 have one privilege level and one range of addresses; EL1&0 has two of each
 abbrev pub singlePriv : Regime → Bool

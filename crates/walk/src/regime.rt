@@ -1,6 +1,7 @@
 // The translation regimes and their registers.
 ghost use mathlib.Core.Path.{_≡_};
-ghost use Rattle.walk.specs.Regime.{regimeOf, singlePriv, stage1On};
+ghost use Rattle.walk.specs.Regime.{bankOf, regimeOf, singlePriv, stage1On};
+use sysreg::regs::Control;
 
 // EL1&0, EL2 and EL3.
 pub enum Regime {
@@ -17,6 +18,38 @@ pub struct Bank {
     pub ttbr1_el1: u64,
     pub scr_el3: u64,
     pub hcr_el2: u64,
+}
+
+// The registers of a regime.
+pub fn bank_of(c: Control, regime: Regime) -> Bank
+    ensures { λ r. ⌜ r ≡ bankOf c regime ⌝ }
+{
+    match regime {
+        Regime::El1 => Bank {
+            sctlr: c.sctlr[1],
+            tcr: c.tcr[1],
+            ttbr0: c.ttbr0[1],
+            ttbr1_el1: c.ttbr1_el1,
+            scr_el3: c.scr_el3,
+            hcr_el2: c.hcr_el2,
+        },
+        Regime::El2 => Bank {
+            sctlr: c.sctlr[2],
+            tcr: c.tcr[2],
+            ttbr0: c.ttbr0[2],
+            ttbr1_el1: c.ttbr1_el1,
+            scr_el3: c.scr_el3,
+            hcr_el2: c.hcr_el2,
+        },
+        Regime::El3 => Bank {
+            sctlr: c.sctlr[3],
+            tcr: c.tcr[3],
+            ttbr0: c.ttbr0[3],
+            ttbr1_el1: c.ttbr1_el1,
+            scr_el3: c.scr_el3,
+            hcr_el2: c.hcr_el2,
+        },
+    }
 }
 
 // The regime of an exception level.

@@ -18,6 +18,8 @@ pub mod shrink;
 pub mod state;
 pub mod tally;
 pub mod text;
+#[cfg(feature = "walk")]
+pub mod walk;
 pub mod wild;
 
 pub use op::{Ans, Line, Op};

@@ -2,14 +2,31 @@
 use harness::cli::{finish, Args};
 use harness::grid::{Ask, Grid};
 
-const USAGE: &str = "grid ROUNDS [--c | --mistake M] [--list]
+const USAGE: &str = "grid ROUNDS [--c | --walk | --mistake M] [--list]
   In each round 8,192 walks, one for each combination, on the Rust and the model (--c: the core behind the C boundary;
-  --mistake: the model with that mistake). --list: by document 01's list alone (translation and AT, states compared).";
+  --walk: the walk behind `a72_walk`, feature `walk`; --mistake: the model with that mistake). --list: by document 01's list alone (translation and AT, states compared).";
+
+#[cfg(feature = "walk")]
+fn other_core(args: &Args) -> Box<dyn harness::Core> {
+    if args.flag("--walk") {
+        Box::new(harness::walk::WalkCore::default())
+    } else {
+        args.other_core()
+    }
+}
+
+#[cfg(not(feature = "walk"))]
+fn other_core(args: &Args) -> Box<dyn harness::Core> {
+    if args.flag("--walk") {
+        args.fail("--walk wants the feature `walk`")
+    }
+    args.other_core()
+}
 
 fn main() {
-    let args = Args::new(USAGE, &["--c", "--list"], &["--mistake"]);
+    let args = Args::new(USAGE, &["--c", "--walk", "--list"], &["--mistake"]);
     args.expect_words(1);
-    let mut other = args.other_core();
+    let mut other = other_core(&args);
     let ask = if args.flag("--list") { Ask::List } else { Ask::Leaf };
     let mut grid = Grid::new(other.as_mut(), ask);
     let rounds: u64 = args.number(0);
