@@ -1,0 +1,24 @@
+-- `tlb::turn::remember_fetch` meets its contract.
+use Rattle.tlb.proofs.Turning.{fetch-noted, fetch-faulted}
+use borrow.Author.Needs.{needs}
+use Rattle.tlb.proofs.turn.remember_fetch.Statement.{statement}
+use Rattle.tlb.proofs.turn.remember_fetch.Tie as tie
+
+enum-known-answer : tie.Need-enum-known-answer
+enum-known-answer c = search needs
+
+fetch-for-requires : tie.Need-fetch-for-requires
+fetch-for-requires c κs = search needs
+
+enum-told : tie.Need-enum-told
+enum-told c = search needs
+
+returns : tie.Need-returns
+returns c = search (fetch-noted, needs)
+
+returns-2 : tie.Need-returns-2
+returns-2 c = search (fetch-faulted, needs)
+
+pub remember-fetch-spec : {M : Type 1} → statement M
+remember-fetch-spec =
+    tie.close (tie.spec enum-known-answer fetch-for-requires enum-told returns returns-2)

@@ -1,0 +1,38 @@
+-- `tlb::turn::turn` meets its contract.
+use Rattle.tlb.proofs.Turning.{served, missed}
+use borrow.Author.Needs.{needs}
+use Rattle.tlb.proofs.turn.turn.Statement.{statement}
+use Rattle.tlb.proofs.turn.turn.Tie as tie
+
+may-hint-requires : tie.Need-may-hint-requires
+may-hint-requires c κs = search needs
+
+hint-key-requires : tie.Need-hint-key-requires
+hint-key-requires c κs = search needs
+
+on-page-requires : tie.Need-on-page-requires
+on-page-requires c κs = search needs
+
+miss-requires : tie.Need-miss-requires
+miss-requires c κs = search needs
+
+remember-requires : tie.Need-remember-requires
+remember-requires c κs = search needs
+
+returns : tie.Need-returns
+returns c = search (served, needs)
+
+returns-2 : tie.Need-returns-2
+returns-2 c = search (missed, needs)
+
+pub turn-spec : {M : Type 1} → statement M
+turn-spec =
+    tie.close
+    (tie.spec
+    may-hint-requires
+    hint-key-requires
+    on-page-requires
+    miss-requires
+    remember-requires
+    returns
+    returns-2)

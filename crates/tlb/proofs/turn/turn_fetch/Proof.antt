@@ -1,0 +1,42 @@
+-- `tlb::turn::turn_fetch` meets its contract.
+use Rattle.tlb.proofs.Turning.{fetch-served, fetch-missed}
+use borrow.Author.Needs.{needs}
+use Rattle.tlb.proofs.turn.turn_fetch.Statement.{statement}
+use Rattle.tlb.proofs.turn.turn_fetch.Tie as tie
+
+fetch-found-requires : tie.Need-fetch-found-requires
+fetch-found-requires c κs = search needs
+
+enum-known-pa : tie.Need-enum-known-pa
+enum-known-pa c = search needs
+
+enum-told : tie.Need-enum-told
+enum-told c = search needs
+
+no-hint-requires : tie.Need-no-hint-requires
+no-hint-requires c κs = search needs
+
+turn-requires : tie.Need-turn-requires
+turn-requires c κs = search needs
+
+remember-fetch-requires : tie.Need-remember-fetch-requires
+remember-fetch-requires c κs = search needs
+
+returns : tie.Need-returns
+returns c = search (fetch-served, needs)
+
+returns-2 : tie.Need-returns-2
+returns-2 c = search (fetch-missed, needs)
+
+pub turn-fetch-spec : {M : Type 1} → statement M
+turn-fetch-spec =
+    tie.close
+    (tie.spec
+    fetch-found-requires
+    enum-known-pa
+    enum-told
+    no-hint-requires
+    turn-requires
+    remember-fetch-requires
+    returns
+    returns-2)

@@ -1,0 +1,19 @@
+-- What the contracts of `tlb` cite.
+pub mod Entry
+pub mod Hint
+pub mod Count
+pub mod Access
+pub mod Lists
+pub mod Cache
+pub mod Tlb
+pub mod Turn
+pub mod Model
+pub mod Live
+pub mod Cells
+pub mod Refines
+pub mod Step
+pub mod Misses
+pub mod Translations
+pub mod Counting
+pub mod Runs
+pub mod Worked

@@ -1,0 +1,252 @@
+-- A translation gives the plain model's answer, does to it what the requirement says, and keeps the cache well-formed.
+use mathlib.Core.Path.{_≡_, refl, sym, ap, subst, _∙_}
+use mathlib.Core.Bool.{Bool, true, false, _&&_}
+use Prim.Native.Nat.{ℕ, _/_, _%_, _≤_, _<_}
+use native.Mathlib.Omega.{arith}
+use lib.Dec.{eqb}
+use lib.ListN.{getD, set, length-set}
+use lib.Seq.{set-getD}
+use Rattle.word.specs.Bits.{pick}
+use Rattle.tlb.specs.Hint.{noHint, placeOf, dataSlot, hintKey, hintFor, fetchServes, fetchFor, onPage}
+use Rattle.tlb.specs.Lists.{each-getD, each-set, getD-set}
+use Rattle.tlb.specs.Cache.{entryAt, hintAt, setEntry, setHint, setFetch}
+use Rattle.tlb.specs.Tlb.{moved}
+use Rattle.tlb.specs.Access.{mayHint}
+use Rattle.tlb.specs.Turn.{missWith, remembered, turnWith, fetchRemembered, fetchEnd, fetchWith}
+use Rattle.tlb.specs.Model.{Slot, empty, holds, Known, keepHint, keepFetch, Access, Outcome, knownOf, unhinted, noted, tried, hinted, translate, notedFetch, fetched, fetch}
+use Rattle.tlb.specs.Live.{Follows, hintOf, hintsOf, live, Aligned, Sound, WellFormed, LeafLevel}
+use Rattle.tlb.specs.Cells.{on-aligned, may-is, known-is, hint-made, fetch-known-is, fetch-made}
+use Rattle.tlb.specs.Refines.{falsely}
+use Rattle.tlb.specs.Step.{placeFor, slotFor, withTurn, withFetch, turnIn, turned, fetchIn, fetchedIn}
+use Rattle.tlb.specs.declared.access.Kind.{Kind}
+use Rattle.tlb.specs.declared.access.Kind.the-variants.{Read, Write, Fetch}
+use Rattle.tlb.specs.declared.hint.Hint.{Hint}
+use Rattle.tlb.specs.declared.hint.FetchHint.{FetchHint}
+use Rattle.tlb.specs.declared.cache.Cache.{Cache}
+use Rattle.tlb.specs.declared.access.Who.{Who}
+use Rattle.tlb.specs.declared.access.Answer.{Answer}
+use Rattle.tlb.specs.declared.access.Answer.the-variants.{Address, Status}
+use Rattle.tlb.specs.declared.turn.Source.the-variants.{FromHint}
+use Rattle.tlb.specs.declared.turn.Turned.{Turned}
+use Rattle.tlb.specs.declared.Tlb.{Tlb}
+use Rattle.tlb.specs.Misses.{withEntry, entry, missed, unmoved, still-sound, miss-follows, miss-hint}
+
+-- HINTS
+
+-- a hint put back as it was
+same-hint : (c : Cache) (i : ℕ) → setHint c i (hintAt c i) ≡ c
+same-hint c i = λ n. record { present = c .present; fetch = c .fetch; hints = set-getD (c .hints) i noHint n; entries = c .entries }
+
+set-hint-sound : (c : Cache) (i : ℕ) (h : Hint) → Sound c → Aligned h → Sound (setHint c i h)
+set-hint-sound c i h s q =
+    record {
+      first = s .first;
+      last = s .last;
+      slots = s .slots;
+      places = length-set (c .hints) i h ∙ s .places;
+      entries = s .entries;
+      hints = each-set h q (s .hints) i;
+      fetch-page = s .fetch-page;
+      fetch-pa = s .fetch-pa;
+    }
+
+set-fetch-sound : (c : Cache) (f : FetchHint) → Sound c → f .page % 4096 ≡ 0 → f .pa % 4096 ≡ 0 → Sound (setFetch c f)
+set-fetch-sound c f s p q =
+    record {
+      first = s .first;
+      last = s .last;
+      slots = s .slots;
+      places = s .places;
+      entries = s .entries;
+      hints = s .hints;
+      fetch-page = p;
+      fetch-pa = q;
+    }
+
+place-low : (who : Who) (kind : Kind) (va : ℕ) → mayHint who kind ≡ true → dataSlot va kind < 512
+unfolding placeOf
+place-low who Read va q = omega arith
+place-low who Write va q = omega arith
+place-low who Fetch va q = falsely q
+
+-- a hint put back as it was
+module _ (a : Access) (t : Tlb) (r : Turned) (o : Outcome) (f : Follows (r .answer) (withEntry t (slotFor a) r) o)
+    (q : r .hint ≡ hintAt (t .cache) (placeFor a)) where
+  put-back : setHint (setEntry (t .cache) (slotFor a) (r .entry)) (placeFor a) (r .hint) ≡ setEntry (t .cache) (slotFor a) (r .entry)
+  put-back = rw q (same-hint (setEntry (t .cache) (slotFor a) (r .entry)) (placeFor a))
+
+  unnoted : Follows (r .answer) (withTurn t (placeFor a) (slotFor a) r) o
+  unnoted =
+      record {
+        answer = f .answer;
+        after = ap (λ (c : Cache). live (moved t c (r .counts))) put-back ∙ f .after;
+        well = subst Sound (sym put-back) (f .well);
+      }
+
+  module _ (s : WellFormed t) (place : placeFor a < 512) (low : a .who .level ≤ 3) where
+    hint-kept : (pa : ℕ)
+        → live (moved t (setHint (setEntry (t .cache) (slotFor a) (r .entry)) (placeFor a) (hintFor (a .va) (a .who .level) pa)) (r .counts))
+        ≡ keepHint (placeFor a) (knownOf a pa) (live (withEntry t (slotFor a) r))
+    unfolding hintsOf
+    hint-kept pa =
+        λ n.
+        record {
+          asid = t .cache .present .asid;
+          lines = live (withEntry t (slotFor a) r) .lines;
+          hints = λ i. at i n;
+          fetch = live t .fetch;
+          counts = r .counts;
+          pending = live t .pending;
+        }
+      where
+        pushed : (b : Bool) (x y : Hint) → hintOf (pick b x y) ≡ pick b (hintOf x) (hintOf y)
+        pushed true x y = refl
+        pushed false x y = refl
+
+        at : (i : ℕ) → hintOf (getD (set (t .cache .hints) (placeFor a) (hintFor (a .va) (a .who .level) pa)) i noHint)
+            ≡ pick (eqb i (placeFor a)) (holds (knownOf a pa)) (hintOf (getD (t .cache .hints) i noHint))
+        at i =
+            ap hintOf (getD-set (t .cache .hints) (placeFor a) i (hintFor (a .va) (a .who .level) pa) noHint (rw (s .places) place))
+            ∙ pushed (eqb i (placeFor a)) _ _
+            ∙ ap (λ (l : Slot Known). pick (eqb i (placeFor a)) l (hintOf (getD (t .cache .hints) i noHint)))
+            (hint-made (a .va) (a .who .level) pa low)
+
+    noted-follows : Follows (r .answer) (withTurn t (placeFor a) (slotFor a) (remembered r true (a .who .level) (a .va))) (noted a o)
+    unfolding remembered noted
+    noted-follows = go (r .answer) refl
+      where
+        go : (x : Answer) → r .answer ≡ x
+            → Follows (r .answer) (withTurn t (placeFor a) (slotFor a) (remembered r true (a .who .level) (a .va))) (noted a o)
+        go (Address pa) e =
+            let oe : o .answer ≡ Address pa = sym (f .answer) ∙ e in
+            rw (e, oe) (record {
+              answer = refl;
+              after = hint-kept pa ∙ ap (keepHint (placeFor a) (knownOf a pa)) (f .after);
+              well = set-hint-sound _ _ _ (f .well) (omega arith);
+            })
+        go (Status code) e =
+            let oe : o .answer ≡ Status code = sym (f .answer) ∙ e in
+            rw (e, oe) (record { answer = refl; after = unnoted .after; well = unnoted .well })
+
+-- TRANSLATIONS
+
+module _ (a : Access) (t : Tlb) (s : WellFormed t) (fits : LeafLevel (a .walk)) (low : a .who .level ≤ 3) where
+  abbrev hint : Hint
+  hint = hintAt (t .cache) (placeFor a)
+
+  abbrev afterMiss : Turned
+  afterMiss = missed a t s fits hint (a .on)
+
+  abbrev afterHint : Turned
+  afterHint =
+      record {
+        counts = t .counts;
+        hint = hint;
+        entry = entry a t s fits hint;
+        answer = Address (onPage (hint .pa) (a .va));
+        source = FromHint;
+      }
+
+  -- the hint answers
+  fast-follows : Follows (afterHint .answer) (withTurn t (placeFor a) (slotFor a) afterHint) (tried (holds (hint .pa / 4096)) a (live t))
+  unfolding tried
+  fast-follows =
+      unnoted a t afterHint _
+      (record {
+        answer = ap Address (on-aligned (hint .pa) (a .va) (each-getD {P = Aligned} noHint refl (s .hints) (placeFor a)));
+        after = unmoved a t s fits hint (t .counts);
+        well = still-sound a t s fits hint;
+      })
+      refl
+
+  by-hint : mayHint (a .who) (a .kind) ≡ true → (b : Bool)
+      → Follows (pick b afterHint (remembered afterMiss true (a .who .level) (a .va)) .answer)
+      (withTurn t (placeFor a) (slotFor a) (pick b afterHint (remembered afterMiss true (a .who .level) (a .va))))
+      (tried (pick b (holds (hint .pa / 4096)) empty) a (live t))
+  unfolding tried remembered
+  by-hint may true = fast-follows
+  by-hint may false =
+      noted-follows a t afterMiss (unhinted (a .on) a (live t)) (miss-follows a t s fits hint (a .on)) (miss-hint a t s fits hint (a .on)) s
+      (place-low (a .who) (a .kind) (a .va) may) low
+
+  by-mark : (m : Bool) → mayHint (a .who) (a .kind) ≡ m
+      → Follows
+      (pick (m && eqb (hint .key) (hintKey (a .va) (a .who .level))) afterHint (remembered afterMiss m (a .who .level) (a .va)) .answer)
+      (withTurn t (placeFor a) (slotFor a)
+      (pick (m && eqb (hint .key) (hintKey (a .va) (a .who .level))) afterHint (remembered afterMiss m (a .who .level) (a .va))))
+      (hinted m a (live t))
+  unfolding remembered hinted hintsOf
+  by-mark true q = rw (known-is hint (a .va) (a .who .level) low) (by-hint q (eqb (hint .key) (hintKey (a .va) (a .who .level))))
+  by-mark false q = unnoted a t afterMiss _ (miss-follows a t s fits hint (a .on)) (miss-hint a t s fits hint (a .on))
+
+  -- a translation follows the plain model
+  pub turn-follows : Follows (turnIn a t .answer) (turned a t) (translate a (live t))
+  unfolding turnWith translate
+  turn-follows =
+      subst (λ (m : Bool). Follows (turnIn a t .answer) (turned a t) (hinted m a (live t))) (may-is (a .who) (a .kind))
+      (by-mark (mayHint (a .who) (a .kind)) refl)
+
+-- FETCHES
+
+module _ (a : Access) (t : Tlb) (s : WellFormed t) (fits : LeafLevel (a .walk)) (kind : a .kind ≡ Fetch) where
+  abbrev now : FetchHint
+  now = t .cache .fetch
+
+  abbrev missBy : Kind → Turned
+  missBy k =
+      missWith (a .on) (a .untagged) (a .walk) (a .regime) (a .who) (t .cache .present) (t .counts) noHint
+      (entryAt (t .cache) (slotFor a)) (a .va) k
+
+  abbrev fetchMiss : Turned
+  fetchMiss = missBy Fetch
+
+  fetch-miss : Follows (fetchMiss .answer) (withEntry t (slotFor a) fetchMiss) (unhinted (a .on) a (live t))
+  fetch-miss =
+      subst (λ (k : Kind). Follows (missBy k .answer) (withEntry t (slotFor a) (missBy k)) (unhinted (a .on) a (live t))) kind
+      (miss-follows a t s fits noHint (a .on))
+
+  fetch-kept : (pa : ℕ)
+      → live (moved t (setFetch (setEntry (t .cache) (slotFor a) (fetchMiss .entry)) (fetchFor (a .va) (a .who .level) pa)) (fetchMiss .counts))
+      ≡ keepFetch (knownOf a pa) (live (withEntry t (slotFor a) fetchMiss))
+  fetch-kept pa =
+      λ n.
+      record {
+        asid = t .cache .present .asid;
+        lines = live (withEntry t (slotFor a) fetchMiss) .lines;
+        hints = live t .hints;
+        fetch = fetch-made (a .va) (a .who .level) pa n;
+        counts = fetchMiss .counts;
+        pending = live t .pending;
+      }
+
+  fetch-noted : (x : Answer) → fetchMiss .answer ≡ x
+      → Follows (fetchRemembered fetchMiss now (a .who .level) (a .va) .answer)
+      (withFetch t (slotFor a) (fetchRemembered fetchMiss now (a .who .level) (a .va))) (notedFetch a (unhinted (a .on) a (live t)))
+  unfolding fetchRemembered notedFetch
+  fetch-noted (Address pa) e =
+      let oe : unhinted (a .on) a (live t) .answer ≡ Address pa = sym (fetch-miss .answer) ∙ e in
+      rw (e, oe) (record {
+        answer = refl;
+        after = fetch-kept pa ∙ ap (keepFetch (knownOf a pa)) (fetch-miss .after);
+        well = set-fetch-sound _ _ (fetch-miss .well) (omega arith) (omega arith);
+      })
+  fetch-noted (Status code) e =
+      let oe : unhinted (a .on) a (live t) .answer ≡ Status code = sym (fetch-miss .answer) ∙ e in
+      rw (e, oe) (record { answer = refl; after = fetch-miss .after; well = fetch-miss .well })
+
+  by-fetch : (b : Bool) → fetchServes now (a .who .level) (a .va) ≡ b
+      → Follows (fetchIn a t .answer) (fetchedIn a t) (fetched (pick b (holds (now .pa / 4096)) empty) a (live t))
+  unfolding fetchWith fetchEnd turnWith remembered fetched
+  by-fetch true q =
+      rw q (record {
+        answer = ap Address (on-aligned (now .pa) (a .va) (s .fetch-pa));
+        after = unmoved a t s fits noHint (t .counts);
+        well = still-sound a t s fits noHint;
+      })
+  by-fetch false q = rw q (fetch-noted _ refl)
+
+  -- the translation that a fetch begins with follows the plain model
+  pub fetch-follows : Follows (fetchIn a t .answer) (fetchedIn a t) (fetch a (live t))
+  unfolding fetch
+  fetch-follows =
+      rw (fetch-known-is now (a .va) (a .who .level) (s .fetch-page)) (by-fetch (fetchServes now (a .who .level) (a .va)) refl)
