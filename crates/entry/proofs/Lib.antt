@@ -1,0 +1,6 @@
+-- What the proofs share.
+pub mod Picks
+pub mod Words
+pub mod Reports
+pub mod Routes
+pub mod Entries

@@ -1,0 +1,30 @@
+-- `entry::take::saved` meets its contract.
+use borrow.Author.Needs.{needs}
+use Rattle.entry.proofs.take.saved.Statement.{statement}
+use Rattle.entry.proofs.take.saved.Tie as tie
+use Rattle.entry.proofs.Entries.{arrays}
+
+at-target-requires : tie.Need-at-target-requires
+at-target-requires c κs = search needs
+
+at-target-requires-2 : tie.Need-at-target-requires-2
+at-target-requires-2 c κs = search needs
+
+at-target-requires-3 : tie.Need-at-target-requires-3
+at-target-requires-3 c κs = search needs
+
+far-after-requires : tie.Need-far-after-requires
+far-after-requires c κs = search needs
+
+returns : tie.Need-returns
+returns c = search (arrays, needs)
+
+pub saved-spec : {M : Type 1} → statement M
+saved-spec =
+    tie.close
+    (tie.spec
+    at-target-requires
+    at-target-requires-2
+    at-target-requires-3
+    far-after-requires
+    returns)

@@ -1,0 +1,169 @@
+-- Laws of exception entry: which registers change, and where it goes.
+use mathlib.Core.Path.{_≡_, refl, _∙_}
+use mathlib.Core.Bool.{Bool, true, false}
+use Prim.Native.Nat.{ℕ, zero, suc, _%_, _^_, _≤_, _<_}
+use native.Mathlib.Nat.{mod-eq-of-lt}
+use native.Mathlib.Omega.{arith}
+use lib.ListN.{getD}
+use Rattle.word.specs.Bits.{pick}
+use Rattle.sysreg.specs.Regs.{levelOf, sysAt}
+use Rattle.sysreg.specs.EncodingLaws.{by-level}
+use Rattle.sysreg.specs.declared.regs.El.{El}
+use Rattle.sysreg.specs.declared.regs.El.the-variants.{El1, El2, El3}
+use Rattle.sysreg.specs.declared.regs.SysReg.{SysReg}
+use Rattle.sysreg.specs.declared.regs.SysReg.the-variants.{Mair, Vbar, Elr, Spsr, Esr, Far, Vpidr, Vmpidr, Par}
+use Rattle.sysreg.specs.declared.regs.SysRegs.{SysRegs}
+use Rattle.entry.specs.declared.exception.Exception.{Exception}
+use Rattle.entry.specs.declared.exception.Exception.the-variants.{Undefined, Svc, Hvc, Smc, Brk, DataAbort, InsnAbort, PcAlignment}
+use Rattle.entry.specs.declared.flags.Flags.{Flags}
+use Rattle.entry.specs.declared.report.Report.{Report}
+use Rattle.entry.specs.declared.route.Origin.{Origin}
+use Rattle.entry.specs.Pstate.{spsrOf}
+use Rattle.entry.specs.Syndrome.{syndromeOf}
+use Rattle.entry.specs.Route.{defaultTarget, smcTrapped, callTarget, targetEl, generated, routedTo}
+use Rattle.entry.specs.Entry.{sameEl, atTarget, enteredSys, takeException, originOf, takeSync}
+
+-- what a register holds after an entry, from what it held
+abbrev pub registerAfter : El → Report → ℕ → ℕ → SysReg → ℕ → ℕ
+registerAfter target r spsr ret (Spsr el) held = pick (sameEl el target) spsr held
+registerAfter target r spsr ret (Elr el) held = pick (sameEl el target) ret held
+registerAfter target r spsr ret (Esr el) held = pick (sameEl el target) (r .esr) held
+registerAfter target r spsr ret (Far el) held = pick (r .valid) (pick (sameEl el target) (r .far) held) held
+registerAfter target r spsr ret (Mair el) held = held
+registerAfter target r spsr ret (Vbar el) held = held
+registerAfter target r spsr ret Vpidr held = held
+registerAfter target r spsr ret Vmpidr held = held
+registerAfter target r spsr ret Par held = held
+
+module _ (s : SysRegs) (target : El) (r : Report) (spsr ret : ℕ) where
+  abbrev Holds : SysReg → Type 0
+  Holds q = sysAt (enteredSys s target r spsr ret) q ≡ registerAfter target r spsr ret q (sysAt s q)
+
+  far-at : (el : El) (b : Bool) → getD (pick b (atTarget target (r .far) (s .far)) (s .far)) (levelOf el) 0
+      ≡ pick b (pick (sameEl el target) (r .far) (sysAt s (Far el))) (sysAt s (Far el))
+  far-at El1 true = refl
+  far-at El2 true = refl
+  far-at El3 true = refl
+  far-at El1 false = refl
+  far-at El2 false = refl
+  far-at El3 false = refl
+
+  pub entered-at : (q : SysReg) → sysAt (enteredSys s target r spsr ret) q ≡ registerAfter target r spsr ret q (sysAt s q)
+  unfolding enteredSys
+  entered-at (Spsr el) = by-level (λ x. Holds (Spsr x)) refl refl refl el
+  entered-at (Elr el) = by-level (λ x. Holds (Elr x)) refl refl refl el
+  entered-at (Esr el) = by-level (λ x. Holds (Esr x)) refl refl refl el
+  entered-at (Far el) = far-at el (r .valid)
+  entered-at (Mair el) = refl
+  entered-at (Vbar el) = refl
+  entered-at Vpidr = refl
+  entered-at Vmpidr = refl
+  entered-at Par = refl
+
+-- the registers that an entry may change: SPSR, ELR, ESR and FAR of its target
+abbrev pub ofEntry : El → SysReg → Bool
+ofEntry target (Spsr el) = sameEl el target
+ofEntry target (Elr el) = sameEl el target
+ofEntry target (Esr el) = sameEl el target
+ofEntry target (Far el) = sameEl el target
+ofEntry target (Mair el) = false
+ofEntry target (Vbar el) = false
+ofEntry target Vpidr = false
+ofEntry target Vmpidr = false
+ofEntry target Par = false
+
+module _ (s : SysRegs) (target : El) (r : Report) (spsr ret : ℕ) where
+  far-kept : (el : El) (b : Bool) (held : ℕ) → sameEl el target ≡ false → pick b (pick (sameEl el target) (r .far) held) held ≡ held
+  far-kept el true held n = simp n
+  far-kept el false held n = refl
+
+  stays : (q : SysReg) (held : ℕ) → ofEntry target q ≡ false → registerAfter target r spsr ret q held ≡ held
+  stays (Spsr el) held n = simp n
+  stays (Elr el) held n = simp n
+  stays (Esr el) held n = simp n
+  stays (Far el) held n = far-kept el (r .valid) held n
+  stays (Mair el) held n = refl
+  stays (Vbar el) held n = refl
+  stays Vpidr held n = refl
+  stays Vmpidr held n = refl
+  stays Par held n = refl
+
+  -- every other register holds what it held
+  pub entered-others : (q : SysReg) → ofEntry target q ≡ false → sysAt (enteredSys s target r spsr ret) q ≡ sysAt s q
+  entered-others q n = entered-at s target r spsr ret q ∙ stays q (sysAt s q) n
+
+-- The target level.
+module _ (scr hcr pc : ℕ) where
+  abbrev at : ℕ → Origin
+  at level = record { level = level; «scr_el3» = scr; «hcr_el2» = hcr; pc = pc }
+
+  default-up : (level : ℕ) → level < 4 → level ≤ levelOf (defaultTarget (at level))
+  default-up zero h = omega arith
+  default-up (suc zero) h = omega arith
+  default-up (suc (suc zero)) h = omega arith
+  default-up (suc (suc (suc zero))) h = omega arith
+  default-up (suc (suc (suc (suc n)))) h = absurd (omega arith)
+
+  call-up : (level : ℕ) → level < 4 → level ≤ levelOf (callTarget level)
+  call-up zero h = omega arith
+  call-up (suc zero) h = omega arith
+  call-up (suc (suc zero)) h = omega arith
+  call-up (suc (suc (suc zero))) h = omega arith
+  call-up (suc (suc (suc (suc n)))) h = absurd (omega arith)
+
+  smc-up : (level : ℕ) → level < 4 → level ≤ levelOf (pick (smcTrapped (at level)) El2 El3)
+  smc-up zero h = omega arith
+  smc-up (suc zero) h = go (smcTrapped (at 1))
+    where
+      go : (b : Bool) → 1 ≤ levelOf (pick b El2 El3)
+      go true = omega arith
+      go false = omega arith
+  smc-up (suc (suc zero)) h = omega arith
+  smc-up (suc (suc (suc zero))) h = omega arith
+  smc-up (suc (suc (suc (suc n)))) h = absurd (omega arith)
+
+  target-up : (level : ℕ) → level < 4 → (x : Exception) → level ≤ levelOf (targetEl (at level) x)
+  target-up level h Undefined = default-up level h
+  target-up level h (Svc imm) = default-up level h
+  target-up level h (Hvc imm) = call-up level h
+  target-up level h (Smc imm) = smc-up level h
+  target-up level h (Brk imm) = default-up level h
+  target-up level h (DataAbort addr write fsc) = default-up level h
+  target-up level h (InsnAbort addr fsc) = default-up level h
+  target-up level h PcAlignment = default-up level h
+
+level-bounds : (el : El) → (1 ≤ levelOf el) × (levelOf el ≤ 3)
+level-bounds El1 = (omega arith, omega arith)
+level-bounds El2 = (omega arith, omega arith)
+level-bounds El3 = (omega arith, omega arith)
+
+-- A synchronous exception.
+module _ (level pc scr hcr : ℕ) (f : Flags) (s : SysRegs) (e : Exception) where
+  abbrev target : El
+  target = routedTo (originOf level pc scr hcr) e .target
+
+  abbrev report : Report
+  report = syndromeOf (routedTo (originOf level pc scr hcr) e .exception) (level % 2 ^ 2) (levelOf target) pc
+
+  -- each register after it
+  pub take-at : (q : SysReg) → sysAt (takeSync level f pc scr hcr s e .sys) q
+      ≡ registerAfter target report (spsrOf (level % 2 ^ 2) f) (routedTo (originOf level pc scr hcr) e .ret) q (sysAt s q)
+  unfolding takeSync takeException
+  take-at q = entered-at s target report _ _ q
+
+  pub take-others : (q : SysReg) → ofEntry target q ≡ false → sysAt (takeSync level f pc scr hcr s e .sys) q ≡ sysAt s q
+  unfolding takeSync takeException
+  take-others q n = entered-others s target report _ _ q n
+
+  -- to EL1, EL2 or EL3
+  pub take-level : (1 ≤ takeSync level f pc scr hcr s e .level) × (takeSync level f pc scr hcr s e .level ≤ 3)
+  unfolding takeSync takeException
+  take-level = level-bounds target
+
+  -- and never down
+  pub take-up : level ≤ 3 → level ≤ takeSync level f pc scr hcr s e .level
+  unfolding takeSync takeException routedTo
+  take-up h =
+      let m : level % 2 ^ 2 ≡ level = mod-eq-of-lt (omega arith) in
+      let u = target-up scr hcr pc (level % 2 ^ 2) (omega arith) (generated (originOf level pc scr hcr) e) in
+      omega (arith, u, m)

@@ -1,0 +1,40 @@
+-- Where the values are those that the manual has, what the definitions add for others says nothing.
+use mathlib.Core.Path.{_≡_, refl}
+use mathlib.Core.Bool.{Bool, true, false}
+use Prim.Native.Nat.{ℕ, zero, _+_, _/_, _%_, _^_, _<_}
+use native.Mathlib.Nat.{mod-eq-of-lt}
+use native.Mathlib.Omega.{arith}
+use lib.Bits.{or-zero-r}
+use lib.Dec.{eqb}
+use Rattle.word.specs.Bits.{flag, wrap, pick}
+use Rattle.entry.specs.declared.flags.Flags.{Flags}
+use Rattle.entry.specs.Pstate.{freshFlags, psr, strayBits, spsrOf}
+use Rattle.entry.specs.Syndrome.{dataStatus}
+use Rattle.entry.specs.Entry.{vectOffset, entryFlags}
+
+-- PSTATE's words hold their own bits: after reset, and after every entry from such words
+pub spsr-fields : (level : ℕ) (f : Flags) → strayBits f ≡ 0 → spsrOf level f ≡ psr level f
+unfolding spsrOf
+spsr-fields level f h = rw h (or-zero-r (psr level f))
+
+pub fresh-fields : strayBits freshFlags ≡ 0
+fresh-fields = refl
+
+pub entry-fields : (f : Flags) → f .nzcv % 2 ^ 28 ≡ 0 → strayBits (entryFlags f) ≡ 0
+entry-fields f h = rw h
+
+-- a status of six bits
+pub status-fields : (write : Bool) (fsc : ℕ) → fsc < 2 ^ 6 → dataStatus write fsc ≡ flag write (2 ^ 6) + fsc
+status-fields true fsc h = let z : fsc / 2 ^ 6 ≡ 0 = omega arith in rw z (omega arith)
+status-fields false fsc h = let z : fsc / 2 ^ 6 ≡ 0 = omega arith in rw z (omega arith)
+
+-- VBAR_ELx<10:0> are zero: the address is VBAR_ELx<63:11> and the offset below
+pub vector-fields : (vbar from to : ℕ) (sp : Bool) → vbar < 2 ^ 64 → vbar % 2 ^ 11 ≡ 0
+    → wrap (vbar + vectOffset from to sp) ≡ vbar + vectOffset from to sp
+vector-fields vbar from to sp h z = go (eqb from to) sp
+  where
+    go : (same : Bool) (b : Bool) → wrap (vbar + pick same (pick b 0x200 0x000) 0x400) ≡ vbar + pick same (pick b 0x200 0x000) 0x400
+    go true true = mod-eq-of-lt (omega arith)
+    go true false = mod-eq-of-lt (omega arith)
+    go false true = mod-eq-of-lt (omega arith)
+    go false false = mod-eq-of-lt (omega arith)

@@ -1,0 +1,65 @@
+-- What an exception reports: DDI 0487, AArch64.ExceptionClass, AArch64.ReportException, and the layout of ESR_ELx. M16 is
+-- a row of docs/DIFFERENCES.md.
+use mathlib.Core.Bool.{Bool, true, false}
+use Prim.Native.Nat.{ℕ, _+_, _*_, _/_, _%_, _^_}
+use lib.Bits.{bitOr}
+use lib.Dec.{ltb}
+use Rattle.word.specs.Bits.{flag, pick}
+use Rattle.entry.specs.declared.exception.Exception.{Exception}
+use Rattle.entry.specs.declared.exception.Exception.the-variants.{Undefined, Svc, Hvc, Smc, Brk, DataAbort, InsnAbort, PcAlignment}
+use Rattle.entry.specs.declared.report.Report.{Report}
+
+-- ESR_ELx: EC is <31:26>, IL <25>, ISS <24:0>. IL is 1: the instruction has 32 bits, or the class has no use for it.
+abbrev pub esrOf : ℕ → ℕ → ℕ
+esrOf ec iss = ec * 2 ^ 26 + 1 * 2 ^ 25 + iss
+
+-- an abort's class from a lower level; from the same level it is one more
+abbrev pub abortClass : Bool → ℕ → ℕ
+abortClass lower ec = pick lower ec (ec + 1)
+
+-- EC, by whether the exception comes from a lower level
+abbrev pub classOf : Bool → Exception → ℕ
+classOf lower Undefined = 0x00
+classOf lower (Svc imm) = 0x15
+classOf lower (Hvc imm) = 0x16
+classOf lower (Smc imm) = 0x17
+classOf lower (InsnAbort addr fsc) = abortClass lower 0x20
+classOf lower PcAlignment = 0x22
+classOf lower (DataAbort addr write fsc) = abortClass lower 0x24
+classOf lower (Brk imm) = 0x3C
+
+-- ISS of a data abort: WnR is <6>, DFSC <5:0>. M16: the bits of a status above DFSC are or-ed in.
+abbrev pub dataStatus : Bool → ℕ → ℕ
+dataStatus write fsc = bitOr (fsc / 2 ^ 6) (flag write 1) * 2 ^ 6 + fsc % 2 ^ 6
+
+-- ISS: the immediate in <15:0>, or the status. An instruction abort's IFSC is <5:0>; M16 again.
+abbrev pub issOf : Exception → ℕ
+issOf Undefined = 0
+issOf (Svc imm) = imm
+issOf (Hvc imm) = imm
+issOf (Smc imm) = imm
+issOf (InsnAbort addr fsc) = fsc
+issOf PcAlignment = 0
+issOf (DataAbort addr write fsc) = dataStatus write fsc
+issOf (Brk imm) = imm
+
+abbrev pub bare : ℕ → Report
+bare esr = record { esr = esr; valid = false; far = 0 }
+
+abbrev pub located : ℕ → ℕ → Report
+located esr addr = record { esr = esr; valid = true; far = addr }
+
+-- FAR_ELx is written for aborts and PC alignment. For the others the manual leaves it UNKNOWN, and it stays.
+abbrev pub reported : ℕ → ℕ → Exception → Report
+reported esr pc Undefined = bare esr
+reported esr pc (Svc imm) = bare esr
+reported esr pc (Hvc imm) = bare esr
+reported esr pc (Smc imm) = bare esr
+reported esr pc (InsnAbort addr fsc) = located esr addr
+reported esr pc PcAlignment = located esr pc
+reported esr pc (DataAbort addr write fsc) = located esr addr
+reported esr pc (Brk imm) = bare esr
+
+-- the report of an exception at the PC, taken from one level to another
+unfoldable pub syndromeOf : Exception → ℕ → ℕ → ℕ → Report
+syndromeOf e from to pc = reported (esrOf (classOf (ltb from to) e) (issOf e)) pc e
