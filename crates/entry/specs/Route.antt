@@ -1,4 +1,4 @@
--- Routing of synchronous exceptions: DDI 0487, D1.10, and the pseudocode of SVC, HVC and SMC. A7, A16 and D2 are rows of docs/DIFFERENCES.md.
+-- Routing of synchronous exceptions: DDI 0487, D1.10, and the pseudocode of SVC, HVC and SMC. A7, A16, D2 and M18 are rows of docs/DIFFERENCES.md.
 use mathlib.Core.Bool.{Bool, not, _&&_, _||_}
 use Prim.Native.Nat.{ℕ, _+_}
 use lib.Dec.{eqb}
@@ -34,8 +34,8 @@ isSecure o = eqb (o .level) 3 || not (ns o)
 abbrev pub elOf : ℕ → El
 elOf level = pick (eqb level 2) El2 (pick (eqb level 3) El3 El1)
 
--- TGE takes the exceptions of Non-secure EL0 to EL2. The manual has no Non-secure EL1 while TGE is set; where a level is set so here,
--- its exceptions stay at EL1.
+-- TGE takes the exceptions of Non-secure EL0 to EL2. M18: the manual has no Non-secure EL1 while TGE is set; where a level is set so
+-- here, its exceptions stay at EL1.
 abbrev pub routeToEl2 : Origin → Bool
 routeToEl2 o = eqb (o .level) 0 && (not (isSecure o) && tge o)
 
