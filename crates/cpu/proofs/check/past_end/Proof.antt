@@ -1,0 +1,20 @@
+-- `cpu::check::past_end` meets its contract.
+use borrow.Author.Needs.{needs}
+use Rattle.cpu.proofs.check.past_end.Statement.{statement}
+use Rattle.cpu.proofs.check.past_end.Tie as tie
+use Rattle.cpu.proofs.Checks.{never-past, past-left}
+
+sub-result : tie.Need-sub-result
+sub-result c = search needs
+
+add-result : tie.Need-add-result
+add-result c = search needs
+
+returns : tie.Need-returns
+returns c = never-past (c .before .args .base) (c .before .args .len) (c .if1 .taken) (c .before .fits .len .fits)
+
+returns-2 : tie.Need-returns-2
+returns-2 c = past-left (c .before .args .base) (c .before .args .len) (c .before .fits .base .fits)
+
+pub past-end-spec : {M : Type 1} → statement M
+past-end-spec = tie.close (tie.spec sub-result add-result returns returns-2)

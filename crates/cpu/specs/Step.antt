@@ -1,0 +1,144 @@
+-- One call on the core: a number where a check is missed, and else the operation.
+use mathlib.Core.Bool.{Bool, true, false}
+use mathlib.Core.List.{List}
+use Prim.Native.Nat.{ℕ, zero, suc, _%_}
+use lib.ListN.{length}
+use Rattle.word.specs.Ram.{wordAt, widthOf, bytesIn}
+use Rattle.word.specs.declared.ram.Width.{Width}
+use Rattle.word.specs.declared.ram.Sized.{Sized}
+use Rattle.word.specs.declared.ram.Sized.the-variants.{Bytes, Refused as NoWidth}
+use Rattle.sysreg.specs.declared.write.WriteAnswer.{WriteAnswer}
+use Rattle.sysreg.specs.declared.write.WriteAnswer.the-variants as Written
+use Rattle.tlb.specs.declared.access.Answer.{Answer}
+use Rattle.tlb.specs.declared.access.Answer.the-variants.{Address, Status}
+use Rattle.entry.specs.declared.exception.Exception.the-variants as Exception
+use Rattle.entry.specs.declared.exception.Stop.the-variants as Stop
+use Rattle.mmu.specs.Core.{setReg}
+use Rattle.mmu.specs.Ops.{translateOf, readOf, writeOf, ramAfterWrite, fetchOf, fetchPaOf, dataPaOf}
+use Rattle.mmu.specs.declared.core.Core.{Core}
+use Rattle.mmu.specs.declared.ends.LoadAnswer.{LoadAnswer}
+use Rattle.mmu.specs.declared.ends.LoadAnswer.the-variants as Load
+use Rattle.mmu.specs.declared.ends.StoreAnswer.{StoreAnswer}
+use Rattle.mmu.specs.declared.ends.StoreAnswer.the-variants as Store
+use Rattle.mmu.specs.declared.ends.FetchAnswer.{FetchAnswer}
+use Rattle.mmu.specs.declared.ends.FetchAnswer.the-variants as Fetched
+use Rattle.mmu.specs.declared.ends.Reached.{Reached}
+use Rattle.mmu.specs.declared.ends.Reached.the-variants as Reach
+use Rattle.mmu.specs.declared.ops.Translated.{Translated}
+use Rattle.mmu.specs.declared.ops.Loaded.{Loaded}
+use Rattle.mmu.specs.declared.ops.Stored.{Stored}
+use Rattle.mmu.specs.declared.ops.Fetched.{Fetched}
+use Rattle.mmu.specs.declared.ops.Addressed.{Addressed}
+use Rattle.exec.specs.Ops.{writeRegister, setLevel, setMark, abortOf}
+use Rattle.exec.specs.Sys.{sysOf, sysRam}
+use Rattle.exec.specs.declared.ops.Registered.{Registered}
+use Rattle.cpu.specs.Check.{askedOf, missedOf}
+use Rattle.cpu.specs.declared.call.Call.{Call}
+use Rattle.cpu.specs.declared.call.Call.the-variants.{Translate, DataPa, FetchPa, Load as LoadCall, Store as StoreCall, Fetch, System, Register, Level, Mark, General, Abort}
+use Rattle.cpu.specs.declared.call.Reply.{Reply}
+use Rattle.cpu.specs.declared.call.Reply.the-variants.{Refused, Done, Value, Faults, Fault, Stopped}
+use Rattle.cpu.specs.declared.call.Stepped.{Stepped}
+
+abbrev pub ends : Core → Reply → Stepped
+ends c r = record { core = c; reply = r }
+
+-- each operation's answer as a reply
+abbrev pub translation : ℕ → Answer → Reply
+translation va (Address pa) = Value pa
+translation va (Status fsc) = Fault va fsc
+
+abbrev pub loading : LoadAnswer → Reply
+loading (Load.Value v) = Value v
+loading (Load.Stopped s) = Stopped s
+
+abbrev pub storing : StoreAnswer → Reply
+storing Store.Done = Done
+storing (Store.Stopped s) = Stopped s
+
+abbrev pub fetching : FetchAnswer → Reply
+fetching (Fetched.Value v) = Value v
+fetching (Fetched.Aborted e) = Stopped (Stop.Exception e)
+
+abbrev pub reaching : Reached → Reply
+reaching (Reach.At pa) = Value pa
+reaching Reach.Faults = Faults
+
+abbrev pub registering : WriteAnswer → Reply
+registering Written.Done = Done
+registering Written.Undefined = Stopped (Stop.Exception Exception.Undefined)
+registering Written.NoRegister = Refused 6
+
+abbrev pub afterTranslation : ℕ → Translated → Stepped
+afterTranslation va t = ends (t .core) (translation va (t .answer))
+
+abbrev pub afterAddress : Addressed → Stepped
+afterAddress t = ends (t .core) (reaching (t .answer))
+
+abbrev pub afterLoad : Loaded → Stepped
+afterLoad t = ends (t .core) (loading (t .answer))
+
+abbrev pub afterStore : Stored → Stepped
+afterStore t = ends (t .core) (storing (t .answer))
+
+abbrev pub afterFetch : Fetched → Stepped
+afterFetch t = ends (t .core) (fetching (t .answer))
+
+abbrev pub afterWrite : Registered → Stepped
+afterWrite t = ends (t .core) (registering (t .answer))
+
+-- a size is 1, 2, 4 or 8, or refusal 3
+abbrev pub loadBy : Sized → Core → ℕ → List ℕ → ℕ → Stepped
+loadBy (Bytes w) c base ram va = afterLoad (readOf c base ram va (bytesIn w))
+loadBy NoWidth c base ram va = ends c (Refused 3)
+
+abbrev pub storeBy : Sized → Core → ℕ → List ℕ → ℕ → Stepped
+storeBy (Bytes w) c base ram va = afterStore (writeOf c base ram va (bytesIn w))
+storeBy NoWidth c base ram va = ends c (Refused 3)
+
+abbrev pub storeRamBy : Sized → Core → ℕ → List ℕ → ℕ → ℕ → List ℕ
+storeRamBy (Bytes w) c base ram va value = ramAfterWrite c base ram va (bytesIn w) value
+storeRamBy NoWidth c base ram va value = ram
+
+-- the operation that a call is
+unfoldable pub runOf : Core → ℕ → List ℕ → Call → Stepped
+runOf c base ram (Translate kind va) = afterTranslation va (translateOf c (wordAt base ram 8) va kind)
+runOf c base ram (DataPa va) = afterAddress (dataPaOf c (wordAt base ram 8) va)
+runOf c base ram (FetchPa va) = afterAddress (fetchPaOf c (wordAt base ram 8) va)
+runOf c base ram (LoadCall va size) = loadBy (widthOf size) c base ram va
+runOf c base ram (StoreCall va size value) = storeBy (widthOf size) c base ram va
+runOf c base ram (Fetch va) = afterFetch (fetchOf c base ram va)
+runOf c base ram (System e) = afterStore (sysOf c base ram (e .op1) (e .crn) (e .crm) (e .op2) (e .rt))
+runOf c base ram (Register key value) = afterWrite (writeRegister c key value)
+runOf c base ram (Level level) = ends (setLevel c (level % 4)) Done
+runOf c base ram (Mark mark) = ends (setMark c mark) Done
+runOf c base ram (General number value) = ends (setReg c number value) Done
+runOf c base ram (Abort e) = ends (abortOf c e) Done
+
+-- RAM after it: stores and zeroing write, nothing else does
+unfoldable pub ramOf : Core → ℕ → List ℕ → Call → List ℕ
+ramOf c base ram (Translate kind va) = ram
+ramOf c base ram (DataPa va) = ram
+ramOf c base ram (FetchPa va) = ram
+ramOf c base ram (LoadCall va size) = ram
+ramOf c base ram (StoreCall va size value) = storeRamBy (widthOf size) c base ram va value
+ramOf c base ram (Fetch va) = ram
+ramOf c base ram (System e) = sysRam c base ram (e .op1) (e .crn) (e .crm) (e .op2) (e .rt)
+ramOf c base ram (Register key value) = ram
+ramOf c base ram (Level level) = ram
+ramOf c base ram (Mark mark) = ram
+ramOf c base ram (General number value) = ram
+ramOf c base ram (Abort e) = ram
+
+-- a number changes nothing
+abbrev pub refusedOr : {A : Type 0} → ℕ → (ℕ → A) → A → A
+refusedOr zero refused done = done
+refusedOr (suc n) refused done = refused (suc n)
+
+abbrev pub missedBy : Core → ℕ → List ℕ → Call → ℕ
+missedBy c base ram call = missedOf (c .who .level) base (length ram) (askedOf call)
+
+unfoldable pub stepOf : Core → ℕ → List ℕ → Call → Stepped
+stepOf c base ram call = refusedOr (missedBy c base ram call) (λ n. ends c (Refused n)) (runOf c base ram call)
+
+unfoldable pub ramAfter : Core → ℕ → List ℕ → Call → List ℕ
+ramAfter c base ram call = refusedOr (missedBy c base ram call) (λ n. ram) (ramOf c base ram call)

@@ -1,0 +1,193 @@
+// Each call's operation, by value.
+ghost use mathlib.Core.Path.{_≡_};
+ghost use Rattle.word.specs.Ram.{wordAt, widthOf};
+ghost use Rattle.mmu.specs.Ops.{translateOf, readOf, writeOf, ramAfterWrite, fetchOf, fetchPaOf, dataPaOf};
+ghost use Rattle.exec.specs.Ops.{writeRegister};
+ghost use Rattle.exec.specs.Sys.{sysOf, sysRam};
+ghost use Rattle.cpu.specs.Step.{ends, afterTranslation, afterAddress, afterFetch, afterStore, afterWrite, loadBy, storeBy, storeRamBy, storing, runOf, ramOf};
+use crate::call::Call;
+use crate::call::Encoding;
+use crate::call::Reply;
+use crate::call::Stepped;
+use entry::exception::Exception;
+use entry::exception::Stop;
+use mmu::core;
+use mmu::core::Core;
+use mmu::ends::FetchAnswer;
+use mmu::ends::LoadAnswer;
+use mmu::ends::Reached;
+use mmu::ends::StoreAnswer;
+use mmu::ops;
+use mmu::ops::Addressed;
+use sysreg::write::WriteAnswer;
+use tlb::access::Answer;
+use tlb::access::Kind;
+use word::ram;
+use word::ram::Sized;
+
+fn translation(core: Core, base: u64, ram: &[u8], kind: Kind, va: u64) -> Stepped
+    ensures { λ r. ⌜ r ≡ afterTranslation va (translateOf core (wordAt base (now (ram .entry)) 8) va kind) ⌝ }
+{
+    let t = ops::translate(core, base, ram, va, kind);
+    let c = t.core;
+    let answer = t.answer;
+    match answer {
+        Answer::Address(pa) => Stepped {
+            core: c,
+            reply: Reply::Value(pa),
+        },
+        Answer::Status(fsc) => Stepped {
+            core: c,
+            reply: Reply::Fault { addr: va, fsc },
+        },
+    }
+}
+
+fn addressed(p: Addressed) -> Stepped
+    ensures { λ r. ⌜ r ≡ afterAddress p ⌝ }
+{
+    let core = p.core;
+    let answer = p.answer;
+    match answer {
+        Reached::At(pa) => Stepped {
+            core,
+            reply: Reply::Value(pa),
+        },
+        Reached::Faults => Stepped {
+            core,
+            reply: Reply::Faults,
+        },
+    }
+}
+
+fn load(core: Core, base: u64, ram: &[u8], va: u64, size: u64) -> Stepped
+    ensures { λ r. ⌜ r ≡ loadBy (widthOf size) core base (now (ram .entry)) va ⌝ }
+{
+    match ram::width_of(size) {
+        Sized::Bytes(width) => {
+            let t = ops::read(core, base, ram, va, width);
+            let c = t.core;
+            let answer = t.answer;
+            match answer {
+                LoadAnswer::Value(v) => Stepped {
+                    core: c,
+                    reply: Reply::Value(v),
+                },
+                LoadAnswer::Stopped(s) => Stepped {
+                    core: c,
+                    reply: Reply::Stopped(s),
+                },
+            }
+        }
+        Sized::Refused => Stepped {
+            core,
+            reply: Reply::Refused(3),
+        },
+    }
+}
+
+fn stored(answer: StoreAnswer) -> Reply
+    ensures { λ r. ⌜ r ≡ storing answer ⌝ }
+{
+    match answer {
+        StoreAnswer::Done => Reply::Done,
+        StoreAnswer::Stopped(s) => Reply::Stopped(s),
+    }
+}
+
+fn store(core: Core, base: u64, ram: &mut [u8], va: u64, size: u64, value: u64) -> Stepped
+    ensures { λ r. ⌜ (r ≡ storeBy (widthOf size) core base (now (ram .entry)) va) × (now (ram .exit) ≡ storeRamBy (widthOf size) core base (now (ram .entry)) va value) ⌝ }
+{
+    match ram::width_of(size) {
+        Sized::Bytes(width) => {
+            let t = ops::write(core, base, ram, va, width, value);
+            let c = t.core;
+            let answer = t.answer;
+            let reply = stored(answer);
+            Stepped { core: c, reply }
+        }
+        Sized::Refused => Stepped {
+            core,
+            reply: Reply::Refused(3),
+        },
+    }
+}
+
+fn fetch(core: Core, base: u64, ram: &[u8], va: u64) -> Stepped
+    ensures { λ r. ⌜ r ≡ afterFetch (fetchOf core base (now (ram .entry)) va) ⌝ }
+{
+    let t = ops::fetch(core, base, ram, va);
+    let c = t.core;
+    let answer = t.answer;
+    match answer {
+        FetchAnswer::Value(v) => Stepped {
+            core: c,
+            reply: Reply::Value(v as u64),
+        },
+        FetchAnswer::Aborted(e) => Stepped {
+            core: c,
+            reply: Reply::Stopped(Stop::Exception(e)),
+        },
+    }
+}
+
+fn system(core: Core, base: u64, ram: &mut [u8], e: Encoding) -> Stepped
+    ensures { λ r. ⌜ (r ≡ afterStore (sysOf core base (now (ram .entry)) (e .op1) (e .crn) (e .crm) (e .op2) (e .rt))) × (now (ram .exit) ≡ sysRam core base (now (ram .entry)) (e .op1) (e .crn) (e .crm) (e .op2) (e .rt)) ⌝ }
+{
+    let t = exec::sys::sys(core, base, ram, e.op1, e.crn, e.crm, e.op2, e.rt);
+    let c = t.core;
+    let answer = t.answer;
+    let reply = stored(answer);
+    Stepped { core: c, reply }
+}
+
+fn register(core: Core, key: u32, value: u64) -> Stepped
+    ensures { λ r. ⌜ r ≡ afterWrite (writeRegister core key value) ⌝ }
+{
+    let t = exec::ops::write_register(core, key, value);
+    let c = t.core;
+    let answer = t.answer;
+    match answer {
+        WriteAnswer::Done => Stepped {
+            core: c,
+            reply: Reply::Done,
+        },
+        WriteAnswer::Undefined => Stepped {
+            core: c,
+            reply: Reply::Stopped(Stop::Exception(Exception::Undefined)),
+        },
+        WriteAnswer::NoRegister => Stepped {
+            core: c,
+            reply: Reply::Refused(6),
+        },
+    }
+}
+
+fn done(core: Core) -> Stepped
+    ensures { λ r. ⌜ r ≡ ends core Reply.Done ⌝ }
+{
+    Stepped {
+        core,
+        reply: Reply::Done,
+    }
+}
+
+// The operation that a call is.
+pub fn run(core: Core, base: u64, ram: &mut [u8], call: Call) -> Stepped
+    ensures { λ r. ⌜ (r ≡ runOf core base (now (ram .entry)) call) × (now (ram .exit) ≡ ramOf core base (now (ram .entry)) call) ⌝ }
+{
+    match call {
+        Call::Translate(kind, va) => translation(core, base, ram, kind, va),
+        Call::DataPa(va) => addressed(ops::data_pa(core, base, ram, va)),
+        Call::FetchPa(va) => addressed(ops::fetch_pa(core, base, ram, va)),
+        Call::Load(va, size) => load(core, base, ram, va, size),
+        Call::Store(va, size, value) => store(core, base, ram, va, size, value),
+        Call::Fetch(va) => fetch(core, base, ram, va),
+        Call::System(e) => system(core, base, ram, e),
+        Call::Register(key, value) => register(core, key, value),
+        Call::Level(level) => done(exec::ops::set_level(core, (level % 4) as u8)),
+        Call::Mark(mark) => done(exec::ops::set_mark(core, mark)),
+        Call::General(number, value) => done(core::set_reg(core, number, value)),
+        Call::Abort(e) => done(exec::ops::abort(core, e)),
+    }
+}

@@ -1,0 +1,176 @@
+-- The core's operations put together from their parts, on plain values.
+use mathlib.Core.Path.{_≡_, refl, sym, ap, _∙_}
+use mathlib.Core.Bool.{Bool, true, false}
+use mathlib.Core.List.{List}
+use Prim.Native.Nat.{ℕ, zero, suc, _+_, _-_, _%_, _≤_, _<_}
+use native.Mathlib.Nat.{pos-of-ne-zero}
+use native.Mathlib.Omega.{arith}
+use Rattle.word.specs.Bits.{alignDown, pick, wrap}
+use Rattle.word.specs.Ram.{wordAt}
+use Rattle.word.specs.declared.ram.Word.{Word}
+use Rattle.sysreg.specs.declared.regs.Control.{Control}
+use Rattle.sysreg.specs.declared.regs.SysRegs.{SysRegs}
+use Rattle.sysreg.specs.declared.write.WriteAnswer.{WriteAnswer}
+use Rattle.sysreg.specs.declared.write.WriteAnswer.the-variants as WriteAnswer
+use Rattle.sysreg.specs.declared.write.Written.{Written}
+use Rattle.tlb.specs.Tlb.{invalidateOf, broadcastOf}
+use Rattle.tlb.specs.declared.Tlb.{Tlb}
+use Rattle.tlb.specs.declared.Inval.{Inval}
+use Rattle.entry.specs.declared.exception.Exception.the-variants as Exception
+use Rattle.entry.specs.declared.exception.Stop.{Stop}
+use Rattle.entry.specs.declared.exception.Stop.the-variants as Stop
+use Rattle.sysop.specs.Op.{decodeOf}
+use Rattle.sysop.specs.Tlbi.{tlbiOf, reachesOthers}
+use Rattle.sysop.specs.Par.{atPar}
+use Rattle.sysop.specs.declared.op.AtForm.{AtForm}
+use Rattle.sysop.specs.declared.op.SysOp.{SysOp}
+use Rattle.sysop.specs.declared.op.SysOp.the-variants as SysOp
+use Rattle.mmu.specs.Core.{regOf}
+use Rattle.mmu.specs.Ops.{withTlb, writeOf, ramAfterWrite}
+use Rattle.mmu.specs.declared.core.Core.{Core}
+use Rattle.mmu.specs.declared.ends.StoreAnswer.{StoreAnswer}
+use Rattle.mmu.specs.declared.ends.StoreAnswer.the-variants.{Done, Stopped}
+use Rattle.mmu.specs.declared.ops.Stored.{Stored}
+use Rattle.exec.specs.Fit.{refitOf}
+use Rattle.exec.specs.Ops.{withRegs, appliedOf, registered, written, writeRegister}
+use Rattle.exec.specs.Sys.{mairOf, withPar, atOf, invalidatedOf, tlbiCore, zeroOf, zeroRam, opOf, sysOf, sysRam}
+use Rattle.exec.specs.declared.ops.Registered.{Registered}
+
+-- a register write that is done
+pub applied-is : (c : Core) (w : Written) (u : Tlb) (d e : Core) → u ≡ refitOf (c .tlb) (c .control) (w .control) → d ≡ withRegs c (w .control) (w .sys)
+    → e ≡ withTlb d u → e ≡ appliedOf c w
+unfolding appliedOf
+applied-is c w u d e eu ed ee = rw (ee, ed, eu)
+
+-- a register write by its answer
+module _ (c : Core) (key value : ℕ) (w : Written) (a : WriteAnswer) (ew : w ≡ written c key value) (ea : w .answer ≡ a) where
+  pub register-done : (d : Core) → a ≡ WriteAnswer.Done → d ≡ appliedOf c w → record { core = d; answer = a } ≡ writeRegister c key value
+  unfolding writeRegister
+  register-done d e ed =
+      let made : record { core = d; answer = a } ≡ registered c w WriteAnswer.Done = rw (ed, e) in
+      made ∙ ap (registered c w) (sym (ea ∙ e)) ∙ ap (λ (x : Written). registered c x (x .answer)) ew
+
+  pub register-undefined : a ≡ WriteAnswer.Undefined → record { core = c; answer = a } ≡ writeRegister c key value
+  unfolding writeRegister
+  register-undefined e = rw (← ew, ea, e)
+
+  pub register-none : a ≡ WriteAnswer.NoRegister → record { core = c; answer = a } ≡ writeRegister c key value
+  unfolding writeRegister
+  register-none e = rw (← ew, ea, e)
+
+-- AT, and TLBI
+pub at-is : (c : Core) (memory : ℕ → Word) (form : AtForm) (va m p : ℕ) (d : Core) → m ≡ mairOf (c .sys) (form .regime)
+    → p ≡ atPar (c .control) m form va memory → d ≡ withPar c p → d ≡ atOf c memory form va
+unfolding atOf
+at-is c memory form va m p d em ep ed = rw (ed, ep, em)
+
+pub shared-too : (t u v : Tlb) (what : Inval) (b : Bool) → u ≡ invalidateOf t what → b ≡ true → v ≡ broadcastOf u what → v ≡ invalidatedOf t what b
+unfolding invalidatedOf
+shared-too t u v what b eu eb ev = rw (eb, ev, eu)
+
+pub here-only : (t u : Tlb) (what : Inval) (b : Bool) → u ≡ invalidateOf t what → b ≡ false → u ≡ invalidatedOf t what b
+unfolding invalidatedOf
+here-only t u what b eu eb = rw (eb, eu)
+
+pub tlbi-is : (c : Core) (op1 crm op2 x : ℕ) (what : Inval) (b : Bool) (u : Tlb) (d : Core) → what ≡ tlbiOf (c .control) op1 crm op2 x
+    → b ≡ reachesOthers crm → u ≡ invalidatedOf (c .tlb) what b → d ≡ withTlb c u → d ≡ tlbiCore c op1 crm op2 x
+unfolding tlbiCore
+tlbi-is c op1 crm op2 x what b u d ew eb eu ed = rw (ed, eu, ew, eb)
+
+-- a zeroing, store by store
+pub some-left : (n : ℕ) → (n ≡ 0 → ⊥) → 1 ≤ n
+some-left n h = pos-of-ne-zero h
+
+pub fewer-left : (n t : ℕ) → (n ≡ 0 → ⊥) → n ≡ t → n - 1 < t
+fewer-left n t h e = let k = some-left n h in omega arith
+
+module _ (n : ℕ) (c : Core) (base : ℕ) (ram : List ℕ) (va : ℕ) where
+  pub zero-none : n ≡ 0 → record { core = c; answer = Done } ≡ zeroOf n c base ram va
+  unfolding zeroOf
+  zero-none e = rw e
+
+  pub zero-none-ram : n ≡ 0 → ram ≡ zeroRam n c base ram va
+  unfolding zeroRam
+  zero-none-ram e = rw e
+
+  module _ (s : Stored) (ram′ : List ℕ) (a : StoreAnswer) (h : n ≡ 0 → ⊥) (es : s ≡ writeOf c base ram va 8) (er : ram′ ≡ ramAfterWrite c base ram va 8 0)
+      (ea : s .answer ≡ a) where
+    more : n ≡ suc (n - 1)
+    more = let k : 0 < n = pos-of-ne-zero h in omega arith
+
+    pub zero-stops : (st : Stop) → a ≡ Stopped st → s ≡ zeroOf n c base ram va
+    unfolding zeroOf
+    zero-stops st e = rw (more, zeroOf, ← es, ea, e)
+
+    pub zero-stops-ram : (st : Stop) → a ≡ Stopped st → ram′ ≡ zeroRam n c base ram va
+    unfolding zeroRam
+    zero-stops-ram st e = rw (more, zeroRam, ← es, ea, e) er
+
+    pub zero-goes : (r : Stored) (next : ℕ) → a ≡ Done → next ≡ wrap (va + 8) → r ≡ zeroOf (n - 1) (s .core) base ram′ next → r ≡ zeroOf n c base ram va
+    unfolding zeroOf
+    zero-goes r next e en el = rw (more, zeroOf, ← es, ea, e, ← er, ← en) el
+
+    pub zero-goes-ram : (ys : List ℕ) (next : ℕ) → a ≡ Done → next ≡ wrap (va + 8) → ys ≡ zeroRam (n - 1) (s .core) base ram′ next
+        → ys ≡ zeroRam n c base ram va
+    unfolding zeroRam
+    zero-goes-ram ys next e en el = rw (more, zeroRam, ← es, ea, e, ← er, ← en) el
+
+-- the 64 bytes that hold an address
+lined : (x : ℕ) → x - x % 64 ≡ alignDown x 6
+lined x = omega arith
+
+pub zva-is : (c : Core) (base : ℕ) (ram : List ℕ) (x : ℕ) (s : Stored) → s ≡ zeroOf 8 c base ram (x - x % 64) → s ≡ zeroOf 8 c base ram (alignDown x 6)
+zva-is c base ram x s e = rw (← lined x) e
+
+pub zva-ram : (c : Core) (base : ℕ) (ram : List ℕ) (x : ℕ) (ys : List ℕ) → ys ≡ zeroRam 8 c base ram (x - x % 64) → ys ≡ zeroRam 8 c base ram (alignDown x 6)
+zva-ram c base ram x ys e = rw (← lined x) e
+
+-- what an encoding names, done
+module _ (c : Core) (base : ℕ) (ram : List ℕ) (op1 crn crm op2 rt x : ℕ) (o : SysOp) (ex : x ≡ regOf c rt) (eo : o ≡ opOf c op1 crn crm op2) where
+  pub sys-at : (form : AtForm) (d : Core) → o ≡ SysOp.At form → d ≡ atOf c (wordAt base ram 8) form x → record { core = d; answer = Done } ≡ sysOf c base ram op1 crn crm op2 rt
+  unfolding sysOf
+  sys-at form d e ed = rw (← eo, e, ed, ex)
+
+  pub sys-at-ram : (form : AtForm) → o ≡ SysOp.At form → ram ≡ sysRam c base ram op1 crn crm op2 rt
+  unfolding sysRam
+  sys-at-ram form e = rw (← eo, e)
+
+  pub sys-tlbi : (d : Core) → o ≡ SysOp.Tlbi → d ≡ tlbiCore c op1 crm op2 x → record { core = d; answer = Done } ≡ sysOf c base ram op1 crn crm op2 rt
+  unfolding sysOf
+  sys-tlbi d e ed = rw (← eo, e, ed, ex)
+
+  pub sys-tlbi-ram : o ≡ SysOp.Tlbi → ram ≡ sysRam c base ram op1 crn crm op2 rt
+  unfolding sysRam
+  sys-tlbi-ram e = rw (← eo, e)
+
+  pub sys-zva : (s : Stored) → o ≡ SysOp.Zva → s ≡ zeroOf 8 c base ram (alignDown x 6) → s ≡ sysOf c base ram op1 crn crm op2 rt
+  unfolding sysOf
+  sys-zva s e es = rw (← eo, e, ← ex) es
+
+  pub sys-zva-ram : (ys : List ℕ) → o ≡ SysOp.Zva → ys ≡ zeroRam 8 c base ram (alignDown x 6) → ys ≡ sysRam c base ram op1 crn crm op2 rt
+  unfolding sysRam
+  sys-zva-ram ys e es = rw (← eo, e, ← ex) es
+
+  pub sys-nothing : o ≡ SysOp.Nothing → record { core = c; answer = Done } ≡ sysOf c base ram op1 crn crm op2 rt
+  unfolding sysOf
+  sys-nothing e = rw (← eo, e)
+
+  pub sys-nothing-ram : o ≡ SysOp.Nothing → ram ≡ sysRam c base ram op1 crn crm op2 rt
+  unfolding sysRam
+  sys-nothing-ram e = rw (← eo, e)
+
+  pub sys-undefined : o ≡ SysOp.Undefined → record { core = c; answer = Stopped (Stop.Exception Exception.Undefined) } ≡ sysOf c base ram op1 crn crm op2 rt
+  unfolding sysOf
+  sys-undefined e = rw (← eo, e)
+
+  pub sys-undefined-ram : o ≡ SysOp.Undefined → ram ≡ sysRam c base ram op1 crn crm op2 rt
+  unfolding sysRam
+  sys-undefined-ram e = rw (← eo, e)
+
+  pub sys-unimplemented : o ≡ SysOp.Unimplemented → record { core = c; answer = Stopped Stop.Unimplemented } ≡ sysOf c base ram op1 crn crm op2 rt
+  unfolding sysOf
+  sys-unimplemented e = rw (← eo, e)
+
+  pub sys-unimplemented-ram : o ≡ SysOp.Unimplemented → ram ≡ sysRam c base ram op1 crn crm op2 rt
+  unfolding sysRam
+  sys-unimplemented-ram e = rw (← eo, e)

@@ -1,0 +1,85 @@
+-- Register writes, settings and abort entry on the core.
+use mathlib.Core.Bool.{Bool}
+use Prim.Native.Nat.{ℕ}
+use Rattle.sysreg.specs.Write.{writeReg}
+use Rattle.sysreg.specs.declared.regs.Control.{Control}
+use Rattle.sysreg.specs.declared.regs.SysRegs.{SysRegs}
+use Rattle.sysreg.specs.declared.write.WriteAnswer.{WriteAnswer}
+use Rattle.sysreg.specs.declared.write.WriteAnswer.the-variants.{Done, Undefined, NoRegister}
+use Rattle.sysreg.specs.declared.write.Written.{Written}
+use Rattle.entry.specs.Entry.{takeSync}
+use Rattle.entry.specs.declared.exception.Exception.{Exception}
+use Rattle.entry.specs.declared.take.Entered.{Entered}
+use Rattle.mmu.specs.Ops.{withTlb}
+use Rattle.mmu.specs.declared.core.Core.{Core}
+use Rattle.exec.specs.Fit.{refitOf}
+use Rattle.exec.specs.declared.ops.Registered.{Registered}
+
+-- the core with other registers
+unfoldable pub withRegs : Core → Control → SysRegs → Core
+withRegs c k s =
+    record {
+      who = c .who;
+      flags = c .flags;
+      pc = c .pc;
+      x = c .x;
+      control = k;
+      sys = s;
+      tlb = c .tlb;
+      «last_pa» = c .«last_pa»;
+      «abort_pa» = c .«abort_pa»;
+    }
+
+-- a write that is done changes its register, and then the cache by document 01's rule; any other changes nothing
+unfoldable pub appliedOf : Core → Written → Core
+appliedOf c w = withTlb (withRegs c (w .control) (w .sys)) (refitOf (c .tlb) (c .control) (w .control))
+
+abbrev pub registered : Core → Written → WriteAnswer → Registered
+registered c w Done = record { core = appliedOf c w; answer = Done }
+registered c w Undefined = record { core = c; answer = Undefined }
+registered c w NoRegister = record { core = c; answer = NoRegister }
+
+abbrev pub written : Core → ℕ → ℕ → Written
+written c key value = writeReg (c .control) (c .sys) (c .who .level) key value
+
+unfoldable pub writeRegister : Core → ℕ → ℕ → Registered
+writeRegister c key value = registered c (written c key value) (written c key value .answer)
+
+-- a setting stores its value
+abbrev pub withWho : Core → ℕ → Bool → Core
+withWho c level mark =
+    record {
+      who = record { level = level; mark = mark };
+      flags = c .flags;
+      pc = c .pc;
+      x = c .x;
+      control = c .control;
+      sys = c .sys;
+      tlb = c .tlb;
+      «last_pa» = c .«last_pa»;
+      «abort_pa» = c .«abort_pa»;
+    }
+
+unfoldable pub setLevel : Core → ℕ → Core
+setLevel c level = withWho c level (c .who .mark)
+
+unfoldable pub setMark : Core → Bool → Core
+setMark c mark = withWho c (c .who .level) mark
+
+-- level, flags, PC and registers after an exception; all else stays
+abbrev pub entering : Core → Entered → Core
+entering c e =
+    record {
+      who = record { level = e .level; mark = c .who .mark };
+      flags = e .flags;
+      pc = e .pc;
+      x = c .x;
+      control = c .control;
+      sys = e .sys;
+      tlb = c .tlb;
+      «last_pa» = c .«last_pa»;
+      «abort_pa» = c .«abort_pa»;
+    }
+
+unfoldable pub abortOf : Core → Exception → Core
+abortOf c e = entering c (takeSync (c .who .level) (c .flags) (c .pc) (c .control .«scr_el3») (c .control .«hcr_el2») (c .sys) e)

@@ -1,0 +1,20 @@
+-- Demand 3: what a reader believes, top to bottom.
+pub mod World
+pub mod History
+pub mod Invisible
+pub mod Calls
+-- The real registers and walk, and a worked history.
+pub mod Instance
+pub mod Worked
+-- What follows from it, and how to show the premise.
+pub mod Corollaries
+pub mod StepByStep
+pub mod Neighbours
+-- The proof.
+pub mod Lists
+pub mod Sound
+pub mod Right
+pub mod Theorem
+pub mod Inside
+pub mod EveryCall
+pub mod EveryReply

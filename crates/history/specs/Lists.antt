@@ -1,0 +1,42 @@
+-- Lists of events and translations: what holds of each element of two lists joined, where a run over both ends, one translation alone.
+use mathlib.Core.Path.{_≡_, refl}
+use mathlib.Core.List.{List, [], _∷_, _++_}
+use Rattle.tlb.specs.Lists.{Each, done, more}
+use Rattle.tlb.specs.declared.access.Answer.{Answer}
+use Rattle.tlb.specs.declared.access.Answer.the-variants.{Address, Status}
+use Rattle.tlb.specs.declared.Tlb.{Tlb}
+use Rattle.history.specs.World.{World, Plain}
+use Rattle.history.specs.History.{Ask, Event, afterEvent, plainRun, answerOf, askedOf, onward, asked, tlbEvent, tlbRun}
+
+module _ {A : Type 0} where
+  pub each-append : {P : A → Type 0} {l k : List A} → Each P l → Each P k → Each P (l ++ k)
+  each-append done qs = qs
+  each-append (more p ps) qs = more p (each-append ps qs)
+
+  pub each-left : {P : A → Type 0} (l k : List A) → Each P (l ++ k) → Each P l
+  each-left [] k qs = done
+  each-left (a ∷ l) k (more p ps) = more p (each-left l k ps)
+
+  pub each-right : {P : A → Type 0} (l k : List A) → Each P (l ++ k) → Each P k
+  each-right [] k qs = qs
+  each-right (a ∷ l) k (more p ps) = each-right l k ps
+
+  pub each-head : {P : A → Type 0} {a : A} {l : List A} → Each P (a ∷ l) → P a
+  each-head (more p ps) = p
+
+module _ (w : World) where
+  -- a step of one translation
+  pub asked-one : (c : Plain w) (m : w .Ram) (a : Ask) (t : Tlb) → asked w c m (a ∷ []) t ≡ askedOf w c m a t
+  asked-one c m a t = go (answerOf w c m a t)
+    where
+      go : (x : Answer) → onward w x (askedOf w c m a t) (askedOf w c m a t) ≡ askedOf w c m a t
+      go (Address pa) = refl
+      go (Status code) = refl
+
+  pub plain-append : (c : Plain w) (l k : List (Event w)) → plainRun w c (l ++ k) ≡ plainRun w (plainRun w c l) k
+  plain-append c [] k = refl
+  plain-append c (x ∷ l) k = plain-append (afterEvent w x c) l k
+
+  pub tlb-append : (c : Plain w) (l k : List (Event w)) (t : Tlb) → tlbRun w c (l ++ k) t ≡ tlbRun w (plainRun w c l) k (tlbRun w c l t)
+  tlb-append c [] k t = refl
+  tlb-append c (x ∷ l) k t = tlb-append (afterEvent w x c) l k (tlbEvent w x c t)

@@ -1,0 +1,1 @@
+// Demand 3, of every history of a core: definitions and theorems in specs/ alone.

@@ -1,0 +1,98 @@
+-- The cases of how an access ends, on plain values, for `search`.
+use mathlib.Core.Path.{_≡_, ap, _∙_}
+use mathlib.Core.Bool.{Bool, true, false}
+use mathlib.Core.List.{List}
+use Prim.Native.Nat.{ℕ, _+_}
+use lib.ListN.{length}
+use Rattle.word.specs.Bits.{wrap}
+use Rattle.tlb.specs.declared.access.Answer.{Answer}
+use Rattle.tlb.specs.declared.access.Answer.the-variants.{Address, Status}
+use Rattle.entry.specs.declared.exception.Stop.{Stop}
+use Rattle.entry.specs.declared.exception.Exception.the-variants.{InsnAbort}
+use Rattle.mmu.specs.Place.{firstPa, judged}
+use Rattle.mmu.specs.Bytes.{loadOf, storeRam, insnOf}
+use Rattle.mmu.specs.Ends.{external, dataAbort, externalAbort, loadEnd, storeEnd, storeRamEnd, fetchEnd, reachedBy}
+use Rattle.mmu.specs.declared.place.Place.{Place}
+use Rattle.mmu.specs.declared.place.Placed.{Placed}
+use Rattle.mmu.specs.declared.place.Placed.the-variants.{At, Fault}
+use Rattle.mmu.specs.declared.place.Verdict.{Verdict}
+use Rattle.mmu.specs.declared.place.Verdict.the-variants.{Inside, Outside}
+use Rattle.mmu.specs.declared.bytes.Got.{Got}
+use Rattle.mmu.specs.declared.bytes.Got.the-variants.{Value, Abort}
+use Rattle.mmu.specs.declared.bytes.Insn.{Insn}
+use Rattle.mmu.specs.declared.bytes.Insn.the-variants as Insn
+use Rattle.mmu.specs.declared.ends.LoadAnswer.the-variants as Load
+use Rattle.mmu.specs.declared.ends.StoreAnswer.the-variants as Store
+use Rattle.mmu.specs.declared.ends.FetchAnswer.the-variants as Fetch
+use Rattle.mmu.specs.declared.ends.Reached.the-variants as Reached
+use Rattle.mmu.specs.declared.ends.LoadEnd.{LoadEnd}
+use Rattle.mmu.specs.declared.ends.StoreEnd.{StoreEnd}
+use Rattle.mmu.specs.declared.ends.FetchEnd.{FetchEnd}
+
+pub external-is : (va i addr : ℕ) (write : Bool) (r : Stop) → addr ≡ wrap (va + i) → r ≡ dataAbort addr write 16 → r ≡ externalAbort va i write
+external-is va i addr write r ea er = er ∙ ap (λ (a : ℕ). dataAbort a write external) ea
+
+module _ (x : Placed) (last abort base : ℕ) (ram : List ℕ) (va n : ℕ) where
+  pub load-fault : (addr fsc : ℕ) (stop : Stop) → x ≡ Fault addr fsc → stop ≡ dataAbort addr false fsc
+      → _≡_ {A = LoadEnd} (record { «last_pa» = last; «abort_pa» = abort; answer = Load.Stopped stop }) (loadEnd x last abort base ram va n)
+  unfolding loadEnd
+  load-fault addr fsc stop ex es = rw (ex, es)
+
+  module _ (place : Place) (first : ℕ) (g : Got) (ex : x ≡ At place) (ef : first ≡ firstPa place) (eg : g ≡ loadOf base ram place n) where
+    pub load-value : (v : ℕ) → g ≡ Value v
+        → _≡_ {A = LoadEnd} (record { «last_pa» = first; «abort_pa» = abort; answer = Load.Value v }) (loadEnd x last abort base ram va n)
+    unfolding loadEnd
+    load-value v e = rw (ex, ef, ← eg, e)
+
+    pub load-abort : (i pa : ℕ) (stop : Stop) → g ≡ Abort i pa → stop ≡ externalAbort va i false
+        → _≡_ {A = LoadEnd} (record { «last_pa» = first; «abort_pa» = pa; answer = Load.Stopped stop }) (loadEnd x last abort base ram va n)
+    unfolding loadEnd
+    load-abort i pa stop e es = rw (ex, ef, ← eg, e, es)
+
+module _ (x : Placed) (abort base : ℕ) (ram : List ℕ) (va n : ℕ) where
+  pub store-fault : (addr fsc : ℕ) (stop : Stop) → x ≡ Fault addr fsc → stop ≡ dataAbort addr true fsc
+      → _≡_ {A = StoreEnd} (record { «abort_pa» = abort; answer = Store.Stopped stop }) (storeEnd x abort base ram va n)
+  unfolding storeEnd
+  store-fault addr fsc stop ex es = rw (ex, es)
+
+  module _ (place : Place) (d : Verdict) (ex : x ≡ At place) (ed : d ≡ judged base (length ram) place n) where
+    pub store-done : d ≡ Inside
+        → _≡_ {A = StoreEnd} (record { «abort_pa» = abort; answer = Store.Done }) (storeEnd x abort base ram va n)
+    unfolding storeEnd
+    store-done e = rw (ex, ← ed, e)
+
+    pub store-abort : (i pa : ℕ) (stop : Stop) → d ≡ Outside i pa → stop ≡ externalAbort va i true
+        → _≡_ {A = StoreEnd} (record { «abort_pa» = pa; answer = Store.Stopped stop }) (storeEnd x abort base ram va n)
+    unfolding storeEnd
+    store-abort i pa stop e es = rw (ex, ← ed, e, es)
+
+  pub ram-fault : (addr fsc v : ℕ) → x ≡ Fault addr fsc → ram ≡ storeRamEnd x base ram n v
+  unfolding storeRamEnd
+  ram-fault addr fsc v ex = rw ex
+
+  pub ram-at : (place : Place) (v : ℕ) (ys : List ℕ) → x ≡ At place → ys ≡ storeRam base ram place n v → ys ≡ storeRamEnd x base ram n v
+  unfolding storeRamEnd
+  ram-at place v ys ex e = rw ex e
+
+module _ (a : Answer) (abort base : ℕ) (ram : List ℕ) (va : ℕ) where
+  pub fetch-fault : (fsc : ℕ) → a ≡ Status fsc
+      → _≡_ {A = FetchEnd} (record { «abort_pa» = abort; answer = Fetch.Aborted (InsnAbort va fsc) }) (fetchEnd a abort base ram va)
+  unfolding fetchEnd
+  fetch-fault fsc e = rw e
+
+  module _ (pa : ℕ) (g : Insn) (ea : a ≡ Address pa) (eg : g ≡ insnOf base ram pa) where
+    pub fetch-value : (v : ℕ) → g ≡ Insn.Value v
+        → _≡_ {A = FetchEnd} (record { «abort_pa» = abort; answer = Fetch.Value v }) (fetchEnd a abort base ram va)
+    unfolding fetchEnd
+    fetch-value v e = rw (ea, ← eg, e)
+
+    pub fetch-abort : g ≡ Insn.Outside
+        → _≡_ {A = FetchEnd} (record { «abort_pa» = pa; answer = Fetch.Aborted (InsnAbort va 16) }) (fetchEnd a abort base ram va)
+    unfolding fetchEnd
+    fetch-abort e = rw (ea, ← eg, e)
+
+pub reach-at : (a : Answer) (pa : ℕ) → a ≡ Address pa → Reached.At pa ≡ reachedBy a
+reach-at a pa e = rw e
+
+pub reach-faults : (a : Answer) (fsc : ℕ) → a ≡ Status fsc → Reached.Faults ≡ reachedBy a
+reach-faults a fsc e = rw e

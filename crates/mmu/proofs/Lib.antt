@@ -1,0 +1,5 @@
+pub mod Places
+pub mod Moves
+pub mod Answers
+pub mod Steps
+pub mod Shells

@@ -1,0 +1,86 @@
+-- The cases of where an access lies, on plain values, for `search`.
+use mathlib.Core.Path.{_≡_, sym, ap, _∙_}
+use mathlib.Core.Bool.{Bool, true, false, _&&_}
+use mathlib.Core.List.{List}
+use Prim.Native.Nat.{ℕ, zero, suc, _+_, _-_, _≤_, _<_}
+use native.Mathlib.Nat.{sub-zero}
+use native.Mathlib.Omega.{arith}
+use borrow.Author.Tests.{lt-ltb, le-ltb}
+use lib.Dec.{ltb}
+use lib.ListN.{getD, set}
+use Rattle.word.specs.Bits.{pick, wrap}
+use Rattle.word.specs.Ram.{within}
+use Rattle.tlb.specs.declared.access.Answer.{Answer}
+use Rattle.tlb.specs.declared.access.Answer.the-variants.{Address, Status}
+use Rattle.mmu.specs.Core.{regIn, regSet}
+use Rattle.mmu.specs.Place.{inPage, nextPage, crosses, placedOne, placedBoth, byteAt, firstOutside}
+use Rattle.mmu.specs.declared.place.Pages.{Pages}
+use Rattle.mmu.specs.declared.place.Place.the-variants.{Whole, Split}
+use Rattle.mmu.specs.declared.place.Placed.the-variants.{At, Fault}
+use Rattle.mmu.specs.declared.place.Verdict.{Verdict}
+use Rattle.mmu.specs.declared.place.Verdict.the-variants.{Inside, Outside}
+
+-- a general register
+module _ (x : List ℕ) (n : ℕ) where
+  pub reg-kept : (v : ℕ) → n < 31 → v ≡ getD x n 0 → v ≡ regIn x n
+  reg-kept v h e = rw (lt-ltb n 31 h) e
+
+  pub reg-zero : 31 ≤ n → 0 ≡ regIn x n
+  reg-zero h = rw (le-ltb n 31 h)
+
+  pub reg-stored : (ys : List ℕ) (v : ℕ) → n < 31 → ys ≡ set x n v → ys ≡ regSet x n v
+  reg-stored ys v h e = rw (lt-ltb n 31 h) e
+
+  pub reg-dropped : (v : ℕ) → 31 ≤ n → x ≡ regSet x n v
+  reg-dropped v h = rw (le-ltb n 31 h)
+
+pub crossing : (on : Bool) (va n here : ℕ) → here ≡ inPage va → on && ltb here n ≡ crosses on va n
+crossing on va n here e = rw e
+
+module _ (va : ℕ) (a : Answer) where
+  pub one-at : (pa : ℕ) → a ≡ Address pa → At (Whole pa) ≡ placedOne va a
+  one-at pa e = rw e
+
+  pub one-fault : (fsc : ℕ) → a ≡ Status fsc → Fault va fsc ≡ placedOne va a
+  one-fault fsc e = rw e
+
+  pub both-at : (b : Answer) (pa pa2 n : ℕ) → a ≡ Address pa → b ≡ Address pa2 → n ≡ inPage va
+      → At (Split (record { «in_page» = n; pa = pa; pa2 = pa2 })) ≡ placedBoth va a b
+  both-at b pa pa2 n ea eb en = rw (ea, eb, en)
+
+  pub both-next : (b : Answer) (pa fsc next : ℕ) → a ≡ Address pa → b ≡ Status fsc → next ≡ nextPage va
+      → Fault next fsc ≡ placedBoth va a b
+  both-next b pa fsc next ea eb en = rw (ea, eb, en)
+
+  pub both-first : (b : Answer) (fsc : ℕ) → a ≡ Status fsc → Fault va fsc ≡ placedBoth va a b
+  both-first b fsc ea = rw ea
+
+module _ (p : Pages) (i : ℕ) where
+  pub byte-low : (r : ℕ) → i < p .«in_page» → r ≡ wrap (p .pa + i) → r ≡ byteAt p i
+  byte-low r h e = rw (lt-ltb _ _ h) e
+
+  pub byte-high : (r : ℕ) → p .«in_page» ≤ i → r ≡ wrap (p .pa2 + (i - p .«in_page»)) → r ≡ byteAt p i
+  byte-high r h e = rw (le-ltb _ _ h) e
+
+-- the loop that judges a split access's bytes, n in all
+module _ (base len : ℕ) (p : Pages) (n i : ℕ) where
+  pub judge-starts : firstOutside base len p 0 (n - 0) ≡ firstOutside base len p 0 n
+  judge-starts = rw sub-zero
+
+  module _ (x : Verdict) (inv : firstOutside base len p i (n - i) ≡ x) where
+    pub judge-in : n ≤ i → Inside ≡ x
+    unfolding firstOutside
+    judge-in h = let z : n - i ≡ zero = omega arith in rw z at inv
+
+    module _ (h : i < n) (pa : ℕ) (f : Bool) (ep : pa ≡ byteAt p i) (ef : f ≡ within base len 1 pa) where
+      step : pick f (firstOutside base len p (i + 1) (n - (i + 1))) (Outside i pa) ≡ x
+      unfolding firstOutside
+      step =
+          let s : n - i ≡ suc (n - (i + 1)) = omega arith in
+          rw (ef, ep) (sym (ap (λ (k : ℕ). firstOutside base len p i k) s) ∙ inv)
+
+      pub judge-on : f ≡ true → firstOutside base len p (i + 1) (n - (i + 1)) ≡ x
+      judge-on t = rw t at step
+
+      pub judge-out : f ≡ false → Outside i pa ≡ x
+      judge-out t = rw t at step

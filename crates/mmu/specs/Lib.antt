@@ -1,0 +1,14 @@
+-- What the contracts of `mmu` cite.
+pub mod Core
+pub mod Place
+pub mod Bytes
+pub mod Ends
+pub mod Step
+pub mod Ops
+-- Laws that the crates above cite.
+pub mod PlaceLaws
+pub mod BytesLaws
+pub mod Says
+pub mod Asks
+pub mod OpLaws
+pub mod OpSays

@@ -1,0 +1,150 @@
+-- What every operation leaves as it was, the cache that it leaves, and RAM after it.
+use mathlib.Core.Path.{_≡_, refl, sym, ap}
+use mathlib.Core.Bool.{Bool}
+use mathlib.Core.List.{List, [], _∷_}
+use Prim.Native.Nat.{ℕ, _+_, _<_}
+use lib.ListN.{length, getD}
+use Rattle.word.specs.Ram.{wordAt}
+use Rattle.walk.specs.Regime.{stage1On, regimeOf}
+use Rattle.tlb.specs.declared.access.Kind.{Kind}
+use Rattle.tlb.specs.declared.access.Kind.the-variants.{Read, Write}
+use Rattle.tlb.specs.declared.Tlb.{Tlb}
+use Rattle.mmu.specs.Core.{movedTo, bankNow}
+use Rattle.mmu.specs.BytesLaws.{addressIn, store-length, store-leaves}
+use Rattle.mmu.specs.Ends.{storeRamEnd}
+use Rattle.mmu.specs.Ops.{steppedNow, fetchSteppedNow, locatedNow, translateOf, translateAccessOf, readOf, writeOf, ramAfterWrite, fetchOf, fetchPaOf, dataPaOf}
+use Rattle.mmu.specs.Asks.{Ask, translates, fetches, accessAsks, tlbAfter, givenTo, placedBy, asked-one, located-asks}
+use Rattle.mmu.specs.declared.core.Core.{Core}
+use Rattle.mmu.specs.declared.place.Place.{Place}
+use Rattle.mmu.specs.declared.place.Placed.{Placed}
+use Rattle.mmu.specs.declared.place.Placed.the-variants.{At, Fault}
+use Rattle.mmu.specs.declared.step.Located.{Located}
+
+-- the operations; n is a number of bytes
+pub data Operation : Type 0 where
+  translate : (va : ℕ) → Kind → Operation
+  access : (va n : ℕ) → Kind → Operation
+  load : (va n : ℕ) → Operation
+  store : (va n value : ℕ) → Operation
+  fetch : (va : ℕ) → Operation
+  fetchPa : (va : ℕ) → Operation
+  dataPa : (va : ℕ) → Operation
+
+-- the core and RAM after each
+abbrev pub coreAfter : Core → ℕ → List ℕ → Operation → Core
+coreAfter c base ram (translate va kind) = translateOf c (wordAt base ram 8) va kind .core
+coreAfter c base ram (access va n kind) = translateAccessOf c (wordAt base ram 8) va n kind .core
+coreAfter c base ram (load va n) = readOf c base ram va n .core
+coreAfter c base ram (store va n v) = writeOf c base ram va n .core
+coreAfter c base ram (fetch va) = fetchOf c base ram va .core
+coreAfter c base ram (fetchPa va) = fetchPaOf c (wordAt base ram 8) va .core
+coreAfter c base ram (dataPa va) = dataPaOf c (wordAt base ram 8) va .core
+
+abbrev pub ramAfter : Core → ℕ → List ℕ → Operation → List ℕ
+ramAfter c base ram (store va n v) = ramAfterWrite c base ram va n v
+ramAfter c base ram (translate va kind) = ram
+ramAfter c base ram (access va n kind) = ram
+ramAfter c base ram (load va n) = ram
+ramAfter c base ram (fetch va) = ram
+ramAfter c base ram (fetchPa va) = ram
+ramAfter c base ram (dataPa va) = ram
+
+-- its translations, by whether stage 1 is on
+abbrev pub asksOf : Bool → Operation → List Ask
+asksOf on (translate va kind) = translates kind va ∷ []
+asksOf on (access va n kind) = accessAsks on va n kind
+asksOf on (load va n) = accessAsks on va n Read
+asksOf on (store va n v) = accessAsks on va n Write
+asksOf on (fetch va) = fetches va ∷ []
+asksOf on (fetchPa va) = fetches va ∷ []
+asksOf on (dataPa va) = translates Read va ∷ []
+
+abbrev pub onNow : Core → Bool
+onNow c = stage1On (bankNow c) (regimeOf (c .who .level))
+
+-- THE CORE
+
+-- the level, the mark, flags, PC and every register
+pub record Kept (c d : Core) : Type 0 where
+  pub who : d .who ≡ c .who
+  pub flags : d .flags ≡ c .flags
+  pub pc : d .pc ≡ c .pc
+  pub x : d .x ≡ c .x
+  pub control : d .control ≡ c .control
+  pub sys : d .sys ≡ c .sys
+
+moved-keeps : (c : Core) (t : Tlb) (last abort : ℕ) → Kept c (movedTo c t last abort)
+unfolding movedTo
+moved-keeps c t last abort = record { who = refl; flags = refl; pc = refl; x = refl; control = refl; sys = refl }
+
+-- no operation changes them
+pub kept : (c : Core) (base : ℕ) (ram : List ℕ) (o : Operation) → Kept c (coreAfter c base ram o)
+unfolding translateOf translateAccessOf readOf writeOf fetchOf fetchPaOf dataPaOf
+kept c base ram (translate va kind) = moved-keeps c _ _ _
+kept c base ram (access va n kind) = moved-keeps c _ _ _
+kept c base ram (load va n) = moved-keeps c _ _ _
+kept c base ram (store va n v) = moved-keeps c _ _ _
+kept c base ram (fetch va) = moved-keeps c _ _ _
+kept c base ram (fetchPa va) = moved-keeps c _ _ _
+kept c base ram (dataPa va) = moved-keeps c _ _ _
+
+-- the cache is the one that its translations leave
+pub tlb-after : (c : Core) (base : ℕ) (ram : List ℕ) (o : Operation)
+    → coreAfter c base ram o .tlb ≡ tlbAfter (bankNow c) (c .who) (wordAt base ram 8) (asksOf (onNow c) o) (c .tlb)
+unfolding translateOf translateAccessOf readOf writeOf fetchOf fetchPaOf dataPaOf steppedNow fetchSteppedNow locatedNow movedTo
+tlb-after c base ram (translate va kind) = sym (asked-one (bankNow c) (c .who) (wordAt base ram 8) (translates kind va) (c .tlb))
+tlb-after c base ram (access va n kind) =
+    ap (λ (r : Located). r .tlb) (located-asks (bankNow c) (c .who) (wordAt base ram 8) va n kind (c .tlb))
+tlb-after c base ram (load va n) =
+    ap (λ (r : Located). r .tlb) (located-asks (bankNow c) (c .who) (wordAt base ram 8) va n Read (c .tlb))
+tlb-after c base ram (store va n v) =
+    ap (λ (r : Located). r .tlb) (located-asks (bankNow c) (c .who) (wordAt base ram 8) va n Write (c .tlb))
+tlb-after c base ram (fetch va) = sym (asked-one (bankNow c) (c .who) (wordAt base ram 8) (fetches va) (c .tlb))
+tlb-after c base ram (fetchPa va) = sym (asked-one (bankNow c) (c .who) (wordAt base ram 8) (fetches va) (c .tlb))
+tlb-after c base ram (dataPa va) = sym (asked-one (bankNow c) (c .who) (wordAt base ram 8) (translates Read va) (c .tlb))
+
+-- and an access's place is what their answers say
+pub placed-by : (c : Core) (base : ℕ) (ram : List ℕ) (va n : ℕ) (kind : Kind)
+    → locatedNow c (wordAt base ram 8) va n kind .placed
+    ≡ placedBy va (givenTo (bankNow c) (c .who) (wordAt base ram 8) (accessAsks (onNow c) va n kind) (c .tlb))
+unfolding locatedNow
+placed-by c base ram va n kind =
+    ap (λ (r : Located). r .placed) (located-asks (bankNow c) (c .who) (wordAt base ram 8) va n kind (c .tlb))
+
+-- only a load sets `last_pa`
+pub store-last : (c : Core) (base : ℕ) (ram : List ℕ) (va n : ℕ) → writeOf c base ram va n .core .«last_pa» ≡ c .«last_pa»
+unfolding writeOf movedTo
+store-last c base ram va n = refl
+
+pub fetch-last : (c : Core) (base : ℕ) (ram : List ℕ) (va : ℕ) → fetchOf c base ram va .core .«last_pa» ≡ c .«last_pa»
+unfolding fetchOf movedTo
+fetch-last c base ram va = refl
+
+-- RAM
+
+pub ram-length : (c : Core) (base : ℕ) (ram : List ℕ) (o : Operation) → length (ramAfter c base ram o) ≡ length ram
+unfolding ramAfterWrite storeRamEnd
+ram-length c base ram (store va n v) = go (locatedNow c (wordAt base ram 8) va n Write .placed)
+  where
+    go : (x : Placed) → length (storeRamEnd x base ram n v) ≡ length ram
+    go (At place) = store-length base ram place n v
+    go (Fault addr fsc) = refl
+ram-length c base ram (translate va kind) = refl
+ram-length c base ram (access va n kind) = refl
+ram-length c base ram (load va n) = refl
+ram-length c base ram (fetch va) = refl
+ram-length c base ram (fetchPa va) = refl
+ram-length c base ram (dataPa va) = refl
+
+-- a store changes no byte but its own
+pub write-leaves : (c : Core) (base : ℕ) (ram : List ℕ) (va n v k : ℕ)
+    → ((place : Place) → locatedNow c (wordAt base ram 8) va n Write .placed ≡ At place
+    → (i : ℕ) → i < n → base + k ≡ addressIn place i → ⊥)
+    → getD (ramAfterWrite c base ram va n v) k 0 ≡ getD ram k 0
+unfolding ramAfterWrite storeRamEnd
+write-leaves c base ram va n v k none = go (locatedNow c (wordAt base ram 8) va n Write .placed) none
+  where
+    go : (x : Placed) → ((place : Place) → x ≡ At place → (i : ℕ) → i < n → base + k ≡ addressIn place i → ⊥)
+        → getD (storeRamEnd x base ram n v) k 0 ≡ getD ram k 0
+    go (At place) free = store-leaves base ram place n v k (free place refl)
+    go (Fault addr fsc) free = refl

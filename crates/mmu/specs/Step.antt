@@ -1,0 +1,47 @@
+-- Translations as steps of a cache, on the registers, the level and the RAM of the moment.
+use Prim.Native.Nat.{ℕ}
+use Rattle.word.specs.Bits.{pick}
+use Rattle.word.specs.declared.ram.Word.{Word}
+use Rattle.walk.specs.Regime.{stage1On, regimeOf}
+use Rattle.walk.specs.Tag.{untagged}
+use Rattle.walk.specs.declared.regime.Bank.{Bank}
+use Rattle.tlb.specs.Entry.{slotOf}
+use Rattle.tlb.specs.Access.{tagOf}
+use Rattle.tlb.specs.Step.{accessOf, turnIn, turned, fetchIn, fetchedIn}
+use Rattle.tlb.specs.declared.access.Kind.{Kind}
+use Rattle.tlb.specs.declared.access.Kind.the-variants.{Fetch}
+use Rattle.tlb.specs.declared.access.Who.{Who}
+use Rattle.tlb.specs.declared.access.Answer.{Answer}
+use Rattle.tlb.specs.declared.Tlb.{Tlb}
+use Rattle.mmu.specs.Place.{nextPage, crosses, goesOn, placedOne, placedBoth}
+use Rattle.mmu.specs.declared.step.Stepped.{Stepped}
+use Rattle.mmu.specs.declared.step.Located.{Located}
+
+-- the slot of the entry that may serve an address
+abbrev pub slotAt : Bank → ℕ → ℕ → ℕ
+slotAt s level va = slotOf (tagOf (regimeOf level) (untagged (s .tcr) (regimeOf level) va))
+
+abbrev pub onePage : ℕ → Stepped → Located
+onePage va a = record { tlb = a .tlb; placed = placedOne va (a .answer) }
+
+abbrev pub bothPages : ℕ → Answer → Stepped → Located
+bothPages va a b = record { tlb = b .tlb; placed = placedBoth va a (b .answer) }
+
+module _ (s : Bank) (who : Who) (memory : ℕ → Word) where
+  -- one translation
+  unfoldable pub stepOf : ℕ → Kind → Tlb → Stepped
+  stepOf va kind t =
+      record { tlb = turned (accessOf s who va kind memory) t; answer = turnIn (accessOf s who va kind memory) t .answer }
+
+  -- that of a fetch, by the fetch hint first
+  unfoldable pub fetchStepOf : ℕ → Tlb → Stepped
+  fetchStepOf va t =
+      record { tlb = fetchedIn (accessOf s who va Fetch memory) t; answer = fetchIn (accessOf s who va Fetch memory) t .answer }
+
+  -- The translations of an access of n bytes: its page's; and where it crosses and that was allowed, the next page's, in the cache that
+  -- the first one left.
+  unfoldable pub locatedOf : ℕ → ℕ → Kind → Tlb → Located
+  locatedOf va n kind t =
+      pick (goesOn (stepOf va kind t .answer) (crosses (stage1On s (regimeOf (who .level))) va n))
+      (bothPages va (stepOf va kind t .answer) (stepOf (nextPage va) kind (stepOf va kind t .tlb)))
+      (onePage va (stepOf va kind t))

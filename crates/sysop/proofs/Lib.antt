@@ -1,0 +1,3 @@
+pub mod Ops
+pub mod Tlbis
+pub mod Pars

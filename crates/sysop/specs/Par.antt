@@ -1,0 +1,89 @@
+-- PAR_EL1 after an AT: DDI 0487, D17.2, its two formats by field name.
+use mathlib.Core.Bool.{Bool, true, false, _||_}
+use Prim.Native.Nat.{ℕ, _+_, _*_, _^_}
+use Rattle.word.specs.Bits.{field, flag, pick}
+use Rattle.word.specs.declared.ram.Word.{Word}
+use Rattle.sysreg.specs.declared.regs.Control.{Control}
+use Rattle.walk.specs.Regime.{bankOf, nonSecure, stage1On}
+use Rattle.walk.specs.Tag.{untagged}
+use Rattle.walk.specs.Descriptor.{attrIndx, ns, sh}
+use Rattle.walk.specs.Walk.{walkOf}
+use Rattle.walk.specs.declared.regime.Regime.{Regime}
+use Rattle.walk.specs.declared.regime.Regime.the-variants.{El1, El2, El3}
+use Rattle.walk.specs.declared.regime.Bank.{Bank}
+use Rattle.walk.specs.declared.level.Leaf.{Leaf}
+use Rattle.walk.specs.declared.level.Walked.{Walked}
+use Rattle.walk.specs.declared.level.Walked.the-variants.{Mapped, Fault}
+use Rattle.tlb.specs.Access.{rightOf, hasRight}
+use Rattle.tlb.specs.declared.access.Kind.{Kind}
+use Rattle.tlb.specs.declared.access.Kind.the-variants.{Read, Write}
+use Rattle.sysop.specs.declared.op.AtForm.{AtForm}
+
+-- F is 0: ATTR<63:56>, PA<47:12>, bit 11 RES1, NS<9>, SH<8:7>
+pub record Translated : Type 0 where
+  pub attr : ℕ
+  pub pa : ℕ
+  pub nonsecure : Bool
+  pub shareability : ℕ
+
+abbrev pub translated : Translated → ℕ
+translated p =
+    p .attr * 2 ^ 56 + field (p .pa) 12 36 * 2 ^ 12 + 2 ^ 11 + flag (p .nonsecure) (2 ^ 9) + p .shareability * 2 ^ 7
+
+-- F is 1: bit 11 RES1, S<9>, PTW<8>, FST<6:1>
+pub record Faulted : Type 0 where
+  pub s : Bool
+  pub ptw : Bool
+  pub fst : ℕ
+
+abbrev pub faulted : Faulted → ℕ
+faulted p = 2 ^ 11 + flag (p .s) (2 ^ 9) + flag (p .ptw) (2 ^ 8) + p .fst * 2 ^ 1 + 1
+
+unfoldable pub success : ℕ → ℕ → Bool → ℕ → ℕ
+success attr pa nonsecure shareability = translated (record { attr = attr; pa = pa; nonsecure = nonsecure; shareability = shareability })
+
+-- Without stage 2 (M3) the fault is of stage 1, so S and PTW are 0. A walk's external abort is reported here and not taken (A1).
+unfoldable pub abort : ℕ → ℕ
+abort status = faulted (record { s = false; ptw = false; fst = status })
+
+-- MAIR_ELx.Attr<n>, as it stands (O9)
+abbrev pub mairAttr : ℕ → ℕ → ℕ
+mairAttr mair n = field mair (n * 8) 8
+
+-- a regime is Non-secure by SCR_EL3.NS, and EL3's never; PAR.NS is UNKNOWN from such a one, and 1 here
+abbrev pub fromNonSecure : Bank → Regime → Bool
+fromNonSecure s El1 = nonSecure s
+fromNonSecure s El2 = nonSecure s
+fromNonSecure s El3 = false
+
+abbrev pub kindOf : Bool → Kind
+kindOf true = Write
+kindOf false = Read
+
+-- the leaf has the right that the form asks for: EL0's or the regime's own, to read or to write
+abbrev pub permits : AtForm → Leaf → Bool
+permits f leaf = hasRight (leaf .perms) (rightOf (kindOf (f .write)) (f .user))
+
+-- NS and SH are the leaf descriptor's: NSTable is ignored (A6), and SH is not made 0b10 for Device and Non-cacheable memory (D1)
+abbrev pub leafFound : ℕ → Bool → Leaf → ℕ
+leafFound mair nonsecure leaf =
+    success (mairAttr mair (attrIndx (leaf .desc))) (leaf .oa) (nonsecure || ns (leaf .desc)) (sh (leaf .desc))
+
+-- a permission fault has status 0x0C plus the leaf's level
+unfoldable pub leafPar : ℕ → Bool → AtForm → Leaf → ℕ
+leafPar mair nonsecure f leaf = pick (permits f leaf) (leafFound mair nonsecure leaf) (abort (12 + leaf .level))
+
+abbrev pub walkPar : ℕ → Bool → AtForm → Walked → ℕ
+walkPar mair nonsecure f (Mapped leaf) = leafPar mair nonsecure f leaf
+walkPar mair nonsecure f (Fault status) = abort status
+
+-- With stage 1 off PA is the address: its tag (A4) and its size (A3) are not looked at. ATTR and SH are 0, under HCR_EL2.DC too (A5, D1).
+unfoldable pub parIn : Bank → ℕ → AtForm → ℕ → (ℕ → Word) → ℕ
+parIn s mair f va memory =
+    pick (stage1On s (f .regime))
+    (walkPar mair (fromNonSecure s (f .regime)) f (walkOf s (f .regime) (untagged (s .tcr) (f .regime) va) memory))
+    (success 0 va (fromNonSecure s (f .regime)) 0)
+
+-- the registers of the form's regime
+unfoldable pub atPar : Control → ℕ → AtForm → ℕ → (ℕ → Word) → ℕ
+atPar c mair f va memory = parIn (bankOf c (f .regime)) mair f va memory
