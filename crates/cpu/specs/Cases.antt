@@ -1,41 +1,122 @@
--- Document 01's thirteen proved cases, as one statement about the calls.
+-- Document 01's thirteen proved cases and the last address in range, as one computed statement about calls on a core with an empty cache.
 use mathlib.Core.Path.{_≡_, refl}
 use mathlib.Core.Bool.{Bool, true, false}
 use mathlib.Core.List.{List, [], _∷_}
-use Prim.Native.Nat.{ℕ}
+use Prim.Native.Nat.{ℕ, _^_}
+use lib.ListN.{getD, replicate}
 use Rattle.word.specs.Ram.{wordAt, littleEndian, bytesOf}
-use Rattle.sysreg.specs.declared.regs.Control.{Control}
-use Rattle.mmu.specs.Core.{freshCore}
-use Rattle.mmu.specs.declared.core.Core.{Core}
+use Rattle.sysreg.specs.Encoding.{registerAt}
+use Rattle.sysreg.specs.Regs.{levels, freshSys}
+use Rattle.walk.specs.Tag.{untagged}
+use Rattle.walk.specs.Size.{paSize}
+use Rattle.walk.specs.Table.{rangeOf, paramsOf, tableNext, leafPermissions, leafTranslation, leafResult, levelNext, descaddr, lookupNext, walkFrom, walkRange, tableWalk}
+use Rattle.walk.specs.Walk.{walkOf}
+use Rattle.walk.specs.declared.regime.Regime.the-variants.{El1}
+use Rattle.tlb.specs.Access.{judged}
+use Rattle.tlb.specs.Cache.{blanks, noHints}
+use Rattle.tlb.specs.Hint.{placeOf}
+use Rattle.tlb.specs.Tlb.{fresh}
+use Rattle.tlb.specs.Turn.{walkEnd, lookWith, missWith, remembered, turnWith, fetchRemembered, fetchEnd, fetchWith}
 use Rattle.tlb.specs.declared.access.Kind.{Kind}
-use Rattle.tlb.specs.declared.access.Kind.the-variants.{Read, Write, Fetch}
+use Rattle.tlb.specs.declared.access.Kind.the-variants.{Read, Fetch}
+use Rattle.entry.specs.Entry.{enteredSys, takeException, takeSync}
+use Rattle.entry.specs.Pstate.{freshFlags, spsrOf}
+use Rattle.entry.specs.Route.{routedTo}
+use Rattle.entry.specs.Syndrome.{syndromeOf}
+use Rattle.entry.specs.declared.exception.Exception.the-variants.{DataAbort}
+use Rattle.mmu.specs.Core.{regOf, movedTo}
+use Rattle.mmu.specs.Step.{stepOf as turnOf}
+use Rattle.mmu.specs.Ops.{steppedNow, translateOf}
+use Rattle.mmu.specs.declared.core.Core.{Core}
+use Rattle.sysop.specs.Op.{named, decodeOf}
+use Rattle.sysop.specs.Par.{success, abort, leafPar, parIn, atPar}
+use Rattle.exec.specs.Ops.{abortOf}
+use Rattle.exec.specs.Sys.{withPar, atOf, sysOf}
 use Rattle.cpu.specs.Check.{askedOf, missedOf}
 use Rattle.cpu.specs.Step.{runOf, stepOf}
 use Rattle.cpu.specs.declared.call.Call.{Call}
-use Rattle.cpu.specs.declared.call.Call.the-variants.{Translate}
+use Rattle.cpu.specs.declared.call.Call.the-variants.{Translate, System, Abort}
 use Rattle.cpu.specs.declared.call.Reply.{Reply}
 use Rattle.cpu.specs.declared.call.Reply.the-variants.{Value, Fault}
+use Rattle.cpu.specs.declared.call.Stepped.{Stepped}
 
--- a core at a level with SCTLR_EL1.M set, TCR_EL1 = 25 and TTBR0_EL1 as given, other registers zero, and an empty cache
-pub cored : ℕ → ℕ → Core
-unfolding freshCore
-cored level ttbr0 =
+-- a core at a level with SCTLR_EL1.M set, TCR_EL1 = 25 and TTBR0_EL1 as given, other registers zero, the address in X0, and an empty cache
+pub at : ℕ → ℕ → Core
+at level ttbr0 =
     record {
       who = record { level = level; mark = false };
-      flags = freshCore .flags;
+      flags = freshFlags;
       pc = 0;
-      x = freshCore .x;
+      x = 0x40001234 ∷ replicate 30 0;
       control =
           record {
-            sctlr = 0 ∷ 1 ∷ 0 ∷ 0 ∷ [];
-            tcr = 0 ∷ 25 ∷ 0 ∷ 0 ∷ [];
-            ttbr0 = 0 ∷ ttbr0 ∷ 0 ∷ 0 ∷ [];
+            sctlr = levels 1 0 0;
+            tcr = levels 25 0 0;
+            ttbr0 = levels ttbr0 0 0;
             «ttbr1_el1» = 0;
             «scr_el3» = 0;
             «hcr_el2» = 0;
           };
-      sys = freshCore .sys;
-      tlb = freshCore .tlb;
+      sys = freshSys;
+      tlb = fresh;
       «last_pa» = 0;
       «abort_pa» = 0;
     }
+
+-- a call with a window of eight bytes: its address and the word there
+pub called : Core → ℕ → ℕ → Call → Stepped
+called c base word call = stepOf c base (bytesOf 8 word) call
+
+-- rows 1 to 6: the word at 0x1008, address 0x40001234
+pub row : ℕ → ℕ → Kind → Reply
+unfolding at called
+row level word kind = called (at level 0x1000) 0x1008 word (Translate kind 0x40001234) .reply
+
+-- a row of its own: TTBR0, the window's address and the address read
+pub elsewhere : ℕ → ℕ → ℕ → Reply
+unfolding at called
+elsewhere ttbr0 base va = called (at 1 ttbr0) base 0x80000401 (Translate Read va) .reply
+
+-- PAR_EL1 after AT of X0 in case 1
+pub par : ℕ → Reply
+unfolding at called
+par op2 = Value (called (at 1 0x1000) 0x1008 0x80000401 (System (record { op1 = 0; crn = 7; crm = 8; op2 = op2; rt = 0 })) .core .sys .«par_el1»)
+
+-- ESR_EL1 after abort entry from EL0
+pub esr : Reply
+unfolding at called
+esr = Value (getD (called (at 0 0x1000) 0x1008 0x80000401 (Abort (DataAbort 0x40001234 true 0x0D)) .core .sys .esr) 1 0)
+
+pub cases :
+    (row 1 0x80000401 Read
+    ∷ row 0 0x80000401 Read
+    ∷ row 0 0x80000401 Fetch
+    ∷ row 1 0x80000001 Read
+    ∷ row 1 0 Read
+    ∷ row 1 0x100000001 Read
+    ∷ elsewhere 0x1000 0x1008 0x8000000000
+    ∷ elsewhere 0x100000000 0x1008 0x40001234
+    ∷ elsewhere 0x1000 0x1010 0x40001234
+    ∷ par 0
+    ∷ par 2
+    ∷ Value (untagged (2 ^ 38) El1 0x12FFFFFFFFFFF000)
+    ∷ esr
+    ∷ elsewhere 0x1000 0x1FF8 0x7FFFFFFFFF
+    ∷ [])
+    ≡ (Value 0x80001234
+    ∷ Fault 0x40001234 0x0D
+    ∷ Value 0x80001234
+    ∷ Fault 0x40001234 0x09
+    ∷ Fault 0x40001234 0x05
+    ∷ Fault 0x40001234 0x01
+    ∷ Fault 0x8000000000 0x04
+    ∷ Fault 0x40001234 0x00
+    ∷ Fault 0x40001234 0x15
+    ∷ Value 0x80001800
+    ∷ Value 0x81B
+    ∷ Value 0xFFFFFFFFFFFFF000
+    ∷ Value 0x9200004D
+    ∷ Value 0xBFFFFFFF
+    ∷ [])
+unfolding row elsewhere par esr at called stepOf runOf askedOf missedOf translateOf steppedNow turnOf registerAt freshSys regOf movedTo sysOf atOf withPar abortOf takeSync takeException enteredSys spsrOf routedTo syndromeOf named decodeOf success abort leafPar parIn atPar judged blanks noHints placeOf walkEnd lookWith missWith remembered turnWith fetchRemembered fetchEnd fetchWith walkOf tableWalk walkRange walkFrom lookupNext levelNext leafResult leafTranslation leafPermissions tableNext descaddr rangeOf paramsOf paSize untagged wordAt littleEndian bytesOf
+cases = refl

@@ -2,3 +2,4 @@
 pub mod Check
 pub mod Step
 pub mod Cases
+pub mod Demand1
