@@ -1,0 +1,283 @@
+-- The cache reaches a reply through the answers to the call's translations alone.
+use mathlib.Core.Path.{_≡_, refl, sym, ap, ap₂, _∙_}
+use mathlib.Core.Bool.{Bool, true, false, _&&_}
+use mathlib.Core.List.{List, [], _∷_, _++_, append-nil}
+use Prim.Native.Nat.{ℕ, zero, suc, _+_, _%_}
+use native.Mathlib.Omega.{arith}
+use lib.ListN.{length}
+use borrow.Author.Tests.{le-ltb}
+use Rattle.word.specs.Bits.{alignDown, wrap}
+use Rattle.word.specs.Ram.{widthOf, bytesIn}
+use Rattle.word.specs.declared.ram.Sized.{Sized}
+use Rattle.word.specs.declared.ram.Sized.the-variants as Sized
+use Rattle.sysreg.specs.declared.write.WriteAnswer.{WriteAnswer}
+use Rattle.sysreg.specs.declared.write.WriteAnswer.the-variants as Written
+use Rattle.sysreg.specs.declared.write.Written.{Written}
+use Rattle.tlb.specs.declared.access.Kind.the-variants as Kind
+use Rattle.tlb.specs.declared.access.Answer.{Answer}
+use Rattle.tlb.specs.declared.access.Answer.the-variants.{Address, Status}
+use Rattle.tlb.specs.declared.Tlb.{Tlb}
+use Rattle.sysop.specs.declared.op.SysOp.{SysOp}
+use Rattle.sysop.specs.declared.op.SysOp.the-variants as Op
+use Rattle.mmu.specs.Core.{regOf}
+use Rattle.mmu.specs.Place.{inPage, crosses, judged}
+use Rattle.mmu.specs.Bytes.{loadOf, insnOf}
+use Rattle.mmu.specs.Ends.{loadedFrom, loadEnd, storeEndBy, storeEnd, storeRamEnd, fetchedFrom, fetchEnd}
+use Rattle.mmu.specs.Step.{stepOf as stepMmu, fetchStepOf}
+use Rattle.mmu.specs.Ops.{steppedNow, fetchSteppedNow, translateOf, readOf, writeOf, ramAfterWrite, fetchOf, fetchPaOf, dataPaOf}
+use Rattle.mmu.specs.declared.core.Core.{Core}
+use Rattle.mmu.specs.declared.place.Placed.{Placed}
+use Rattle.mmu.specs.declared.place.Placed.the-variants.{At, Fault}
+use Rattle.mmu.specs.declared.place.Verdict.{Verdict}
+use Rattle.mmu.specs.declared.place.Verdict.the-variants.{Inside, Outside}
+use Rattle.mmu.specs.declared.bytes.Got.{Got}
+use Rattle.mmu.specs.declared.bytes.Got.the-variants as Got
+use Rattle.mmu.specs.declared.bytes.Insn.{Insn}
+use Rattle.mmu.specs.declared.bytes.Insn.the-variants as Insn
+use Rattle.mmu.specs.declared.ends.StoreAnswer.{StoreAnswer}
+use Rattle.mmu.specs.declared.ends.StoreAnswer.the-variants as Store
+use Rattle.exec.specs.Ops.{registered, writeRegister}
+use Rattle.exec.specs.Sys.{onStored, doneWith, zeroOf, zeroRam, sysBy, sysRamBy, sysOf, sysRam}
+use Rattle.cpu.specs.Step.{ends, loading, storing, fetching, afterStore, afterWrite, loadBy, storeBy, storeRamBy, runOf, ramOf, refusedOr, stepOf, ramAfter}
+use Rattle.cpu.specs.declared.call.Encoding.{Encoding}
+use Rattle.cpu.specs.declared.call.Call.{Call}
+use Rattle.cpu.specs.declared.call.Call.the-variants.{Translate, DataPa, FetchPa, Load, Store, Fetch, System, Register, Level, Mark, General, Abort}
+use Rattle.cpu.specs.declared.call.Reply.the-variants.{Refused, Done}
+use Rattle.history.specs.World.{onNow}
+use Rattle.history.specs.History.{translates, Given, steps, answerOf, onward, answers, asked}
+use Rattle.history.specs.Invisible.{answersRun}
+use Rattle.history.specs.Instance.{Ram, real}
+use Rattle.demand3.specs.Bare.{Bare, plainIn, number, missedIn, opIn, operandIn, writtenIn, bySys, byWrite, ruledIn, refusalOf, ifAllowed}
+use Rattle.demand3.specs.Events.{idle, accessIn, sizedIn, zeroSteps, sysSteps, stepsIn, eventsIn, bareOf, ramWith, zeroStarts, sysLater, laterOf, startsOf}
+use Rattle.demand3.specs.Replies.{outcome, outcomeOf, loadSays, storeSays, loadSized, storeSized, zeroSays, sysSays, callSays, saysIn}
+use Rattle.demand3.specs.Asks.{access-placed}
+use Rattle.demand3.specs.Bridge.{bare-then, tlb-then}
+
+-- `last_pa` and `abort_pa` reach no answer
+
+load-end : (x : Placed) (last abort base : ℕ) (ram : List ℕ) (va n : ℕ)
+    → loadEnd x last abort base ram va n .answer ≡ loadEnd x 0 0 base ram va n .answer
+unfolding loadEnd
+load-end (Fault addr fsc) last abort base ram va n = refl
+load-end (At place) last abort base ram va n = go (loadOf base ram place n)
+  where
+    go : (g : Got) → loadedFrom place g abort va .answer ≡ loadedFrom place g 0 va .answer
+    go (Got.Value v) = refl
+    go (Got.Abort i pa) = refl
+
+store-end : (x : Placed) (abort base : ℕ) (ram : List ℕ) (va n : ℕ) → storeEnd x abort base ram va n .answer ≡ storeEnd x 0 base ram va n .answer
+unfolding storeEnd
+store-end (Fault addr fsc) abort base ram va n = refl
+store-end (At place) abort base ram va n = go (judged base (length ram) place n)
+  where
+    go : (d : Verdict) → storeEndBy d abort va .answer ≡ storeEndBy d 0 va .answer
+    go Inside = refl
+    go (Outside i pa) = refl
+
+fetch-end : (a : Answer) (abort base : ℕ) (ram : List ℕ) (va : ℕ) → fetchEnd a abort base ram va .answer ≡ fetchEnd a 0 base ram va .answer
+unfolding fetchEnd
+fetch-end (Status fsc) abort base ram va = refl
+fetch-end (Address pa) abort base ram va = go (insnOf base ram pa)
+  where
+    go : (i : Insn) → fetchedFrom pa i abort va .answer ≡ fetchedFrom pa i 0 va .answer
+    go (Insn.Value v) = refl
+    go Insn.Outside = refl
+
+-- LOADS AND STORES
+
+abbrev accessGiven : Core → Ram → ℕ → ℕ → Kind.the-data → List Given
+accessGiven c m va n kind = answers real (plainIn (bareOf c)) m (accessIn (bareOf c) va n kind) (c .tlb)
+
+load-answered : (c : Core) (m : Ram) (va n : ℕ)
+    → outcome (loading (readOf c (m .base) (m .bytes) va n .answer)) (m .bytes) ≡ loadSays m va n (accessGiven c m va n Kind.Read)
+unfolding readOf
+load-answered c m va n =
+    ap (λ a. outcome (loading a) (m .bytes))
+    (load-end _ _ _ (m .base) (m .bytes) va n
+    ∙ ap (λ (p : Placed). loadEnd p 0 0 (m .base) (m .bytes) va n .answer) (access-placed c m va n Kind.Read))
+
+store-answered : (c : Core) (m : Ram) (va n v : ℕ)
+    → outcome (storing (writeOf c (m .base) (m .bytes) va n .answer)) (ramAfterWrite c (m .base) (m .bytes) va n v)
+    ≡ storeSays m va n v (accessGiven c m va n Kind.Write)
+unfolding writeOf ramAfterWrite
+store-answered c m va n v =
+    ap₂ (λ a (l : List ℕ). outcome (storing a) l)
+    (store-end _ _ (m .base) (m .bytes) va n
+    ∙ ap (λ (p : Placed). storeEnd p 0 (m .base) (m .bytes) va n .answer) (access-placed c m va n Kind.Write))
+    (ap (λ (p : Placed). storeRamEnd p (m .base) (m .bytes) n v) (access-placed c m va n Kind.Write))
+
+load-sized : (c : Core) (m : Ram) (va : ℕ) (s : Sized)
+    → outcome (loadBy s c (m .base) (m .bytes) va .reply) (m .bytes)
+    ≡ loadSized s m va (answers real (plainIn (bareOf c)) m (sizedIn (bareOf c) va s Kind.Read) (c .tlb) ++ [])
+load-sized c m va Sized.Refused = refl
+load-sized c m va (Sized.Bytes w) =
+    load-answered c m va (bytesIn w) ∙ ap (loadSays m va (bytesIn w)) (sym (append-nil (accessGiven c m va (bytesIn w) Kind.Read)))
+
+store-sized : (c : Core) (m : Ram) (va v : ℕ) (s : Sized)
+    → outcome (storeBy s c (m .base) (m .bytes) va .reply) (storeRamBy s c (m .base) (m .bytes) va v)
+    ≡ storeSized s m va v (answers real (plainIn (bareOf c)) m (sizedIn (bareOf c) va s Kind.Write) (c .tlb) ++ [])
+store-sized c m va v Sized.Refused = refl
+store-sized c m va v (Sized.Bytes w) =
+    store-answered c m va (bytesIn w) v ∙ ap (storeSays m va (bytesIn w) v) (sym (append-nil (accessGiven c m va (bytesIn w) Kind.Write)))
+
+-- ZEROING
+
+-- eight bytes at a multiple of eight lie in one page
+one-page : (on : Bool) (va : ℕ) → va % 8 ≡ 0 → crosses on va 8 ≡ false
+one-page on va e = rw (le-ltb (inPage va) 8 (omega (arith, e))) (go on)
+  where
+    go : (b : Bool) → (b && false) ≡ false
+    go true = refl
+    go false = refl
+
+next-aligned : (va : ℕ) → va % 8 ≡ 0 → wrap (va + 8) % 8 ≡ 0
+next-aligned va e = omega (arith, e)
+
+start-aligned : (x : ℕ) → alignDown x 6 % 8 ≡ 0
+start-aligned x = omega arith
+
+-- n stores from va on, in a core whose state without a cache is b and whose cache is t
+abbrev ZeroSaid : ℕ → Core → Ram → ℕ → Bare → Tlb → Type 0
+ZeroSaid n c m va b t =
+    outcome (storing (zeroOf n c (m .base) (m .bytes) va .answer)) (zeroRam n c (m .base) (m .bytes) va)
+    ≡ zeroSays (zeroStarts n c m va) va (answersRun real (plainIn b) (zeroSteps b (zeroStarts n c m va) va) t)
+
+module _ (c : Core) (m : Ram) (va : ℕ) (b : Bare) (t : Tlb) (eb : bareOf c ≡ b) (et : c .tlb ≡ t) where
+  abbrev storeEnds : StoreAnswer
+  storeEnds = writeOf c (m .base) (m .bytes) va 8 .answer
+
+  abbrev coreThen : Core
+  coreThen = writeOf c (m .base) (m .bytes) va 8 .core
+
+  abbrev ramThen : Ram
+  ramThen = ramWith m (ramAfterWrite c (m .base) (m .bytes) va 8 0)
+
+  abbrev firstGiven : List Given
+  firstGiven = answers real (plainIn b) m (accessIn b va 8 Kind.Write) t
+
+  abbrev tlbThen : Tlb
+  tlbThen = asked real (plainIn b) m (accessIn b va 8 Kind.Write) t
+
+  abbrev givenThen : List Ram → List Given
+  givenThen ms = answersRun real (plainIn b) (zeroSteps b ms (wrap (va + 8))) tlbThen
+
+  first-given : va % 8 ≡ 0
+      → firstGiven ≡ record { ask = translates Kind.Write va; answer = answerOf real (plainIn b) m (translates Kind.Write va) t } ∷ []
+  first-given e = rw (one-page (onNow real (plainIn b)) va e) (ap {B = List Given} (λ (l : List Given). g ∷ l) (go (g .answer)))
+    where
+      g : Given
+      g = record { ask = translates Kind.Write va; answer = answerOf real (plainIn b) m (translates Kind.Write va) t }
+
+      go : (x : Answer) → onward real {A = List Given} x [] [] ≡ []
+      go (Address pa) = refl
+      go (Status fsc) = refl
+
+  -- the last store begun
+  last-said : outcome (storing storeEnds) (ramThen .bytes) ≡ zeroSays (m ∷ []) va (firstGiven ++ [])
+  last-said =
+      store-answered c m va 8 0
+      ∙ ap (λ (d : Bare). storeSays m va 8 0 (answers real (plainIn d) m (accessIn d va 8 Kind.Write) (c .tlb))) eb
+      ∙ ap (λ (u : Tlb). storeSays m va 8 0 (answers real (plainIn b) m (accessIn b va 8 Kind.Write) u)) et
+      ∙ ap (storeSays m va 8 0) (sym (append-nil firstGiven))
+
+  one-said : ZeroSaid 1 c m va b t
+  unfolding zeroOf zeroRam
+  one-said = go storeEnds refl
+    where
+      go : (a : StoreAnswer) → storeEnds ≡ a
+          → outcome (storing (onStored a (doneWith coreThen) (writeOf c (m .base) (m .bytes) va 8) .answer)) (onStored a (ramThen .bytes) (ramThen .bytes))
+          ≡ zeroSays (m ∷ onStored a [] []) va (firstGiven ++ givenThen (onStored a [] []))
+      go Store.Done e = ap (λ (x : StoreAnswer). outcome (storing x) (ramThen .bytes)) (sym e) ∙ last-said
+      go (Store.Stopped s) e = last-said
+
+  more-said : (n : ℕ) → va % 8 ≡ 0 → ZeroSaid (suc n) coreThen ramThen (wrap (va + 8)) b tlbThen → ZeroSaid (suc (suc n)) c m va b t
+  unfolding zeroOf zeroRam
+  more-said n al rest = go storeEnds refl
+    where
+      go : (a : StoreAnswer) → storeEnds ≡ a
+          → outcome
+          (storing (onStored a (zeroOf (suc n) coreThen (m .base) (ramThen .bytes) (wrap (va + 8))) (writeOf c (m .base) (m .bytes) va 8) .answer))
+          (onStored a (zeroRam (suc n) coreThen (m .base) (ramThen .bytes) (wrap (va + 8))) (ramThen .bytes))
+          ≡ zeroSays (m ∷ onStored a (zeroStarts (suc n) coreThen ramThen (wrap (va + 8))) []) va
+          (firstGiven ++ givenThen (onStored a (zeroStarts (suc n) coreThen ramThen (wrap (va + 8))) []))
+      go Store.Done e =
+          rest
+          ∙ ap
+          (λ (l : List Given).
+          zeroSays (m ∷ zeroStarts (suc n) coreThen ramThen (wrap (va + 8))) va (l ++ givenThen (zeroStarts (suc n) coreThen ramThen (wrap (va + 8)))))
+          (sym (first-given al))
+      go (Store.Stopped s) e = last-said
+
+zero-said : (n : ℕ) (c : Core) (m : Ram) (va : ℕ) (b : Bare) (t : Tlb) → bareOf c ≡ b → c .tlb ≡ t → va % 8 ≡ 0 → ZeroSaid (suc n) c m va b t
+zero-said zero c m va b t eb et al = one-said c m va b t eb et
+zero-said (suc n) c m va b t eb et al =
+    more-said c m va b t eb et n al
+    (zero-said n (writeOf c (m .base) (m .bytes) va 8 .core) (ramWith m (ramAfterWrite c (m .base) (m .bytes) va 8 0)) (wrap (va + 8)) b
+    (asked real (plainIn b) m (accessIn b va 8 Kind.Write) t)
+    (bare-then n c m va b t eb et) (tlb-then n c m va b t eb et)
+    (next-aligned va al))
+
+-- EVERY CALL
+
+sys-said : (o : SysOp) (c : Core) (m : Ram) (e : Encoding)
+    → outcome (afterStore (sysBy o c (m .base) (m .bytes) (e .op1) (e .crm) (e .op2) (operandIn (bareOf c) e)) .reply)
+    (sysRamBy o c (m .base) (m .bytes) (operandIn (bareOf c) e))
+    ≡ ifAllowed (bySys o)
+    (sysSays o m (ifAllowed (bySys o) (sysLater o c m (operandIn (bareOf c) e)) []) (operandIn (bareOf c) e)
+    (answersRun real (plainIn (bareOf c))
+    (ifAllowed (bySys o) (sysSteps o (bareOf c) m (ifAllowed (bySys o) (sysLater o c m (operandIn (bareOf c) e)) []) e) (steps m idle ∷ [])) (c .tlb)))
+    (outcome (refusalOf (bySys o)) (m .bytes))
+sys-said (Op.At form) c m e = refl
+sys-said Op.Tlbi c m e = refl
+sys-said Op.Zva c m e =
+    zero-said 7 c m (alignDown (operandIn (bareOf c) e) 6) (bareOf c) (c .tlb) refl refl (start-aligned (operandIn (bareOf c) e))
+sys-said Op.Nothing c m e = refl
+sys-said Op.Undefined c m e = refl
+sys-said Op.Unimplemented c m e = refl
+
+write-said : (c : Core) (m : Ram) (w : Written) (a : WriteAnswer)
+    → outcome (afterWrite (registered c w a) .reply) (m .bytes)
+    ≡ ifAllowed (byWrite a) (outcome Done (m .bytes)) (outcome (refusalOf (byWrite a)) (m .bytes))
+write-said c m w Written.Done = refl
+write-said c m w Written.Undefined = refl
+write-said c m w Written.NoRegister = refl
+
+run-said : (c : Core) (m : Ram) (x : Call)
+    → outcome (runOf c (m .base) (m .bytes) x .reply) (ramOf c (m .base) (m .bytes) x)
+    ≡ ifAllowed (ruledIn (bareOf c) x)
+    (callSays (bareOf c) m (ifAllowed (ruledIn (bareOf c) x) (laterOf c m x) []) x
+    (answersRun real (plainIn (bareOf c))
+    (ifAllowed (ruledIn (bareOf c) x) (stepsIn (bareOf c) m (ifAllowed (ruledIn (bareOf c) x) (laterOf c m x) []) x) (steps m idle ∷ [])) (c .tlb)))
+    (outcome (refusalOf (ruledIn (bareOf c) x)) (m .bytes))
+unfolding runOf ramOf sysOf sysRam regOf writeRegister translateOf steppedNow fetchSteppedNow dataPaOf fetchPaOf fetchOf stepMmu fetchStepOf
+run-said c m (Translate kind va) = refl
+run-said c m (DataPa va) = refl
+run-said c m (FetchPa va) = refl
+run-said c m (Load va size) = load-sized c m va (widthOf size)
+run-said c m (Store va size value) = store-sized c m va value (widthOf size)
+run-said c m (Fetch va) = ap (λ a. outcome (fetching a) (m .bytes)) (fetch-end _ _ (m .base) (m .bytes) va)
+run-said c m (System e) = sys-said (opIn (bareOf c) e) c m e
+run-said c m (Register key value) = write-said c m (writtenIn (bareOf c) key value) (writtenIn (bareOf c) key value .answer)
+run-said c m (Level level) = refl
+run-said c m (Mark mark) = refl
+run-said c m (General n value) = refl
+run-said c m (Abort e) = refl
+
+pub reply-is : (c : Core) (m : Ram) (x : Call)
+    → outcomeOf c m x
+    ≡ saysIn (bareOf c) (startsOf c m x) x (answersRun real (plainIn (bareOf c)) (eventsIn (bareOf c) (startsOf c m x) x) (c .tlb))
+unfolding stepOf ramAfter
+reply-is c m x = go (missedIn (bareOf c) m x)
+  where
+    go : (n : ℕ)
+        → outcome (refusedOr n (λ k. ends c (Refused k)) (runOf c (m .base) (m .bytes) x) .reply)
+        (refusedOr n (λ k. m .bytes) (ramOf c (m .base) (m .bytes) x))
+        ≡ ifAllowed (refusedOr n number (ruledIn (bareOf c) x))
+        (callSays (bareOf c) m (ifAllowed (refusedOr n number (ruledIn (bareOf c) x)) (laterOf c m x) []) x
+        (answersRun real (plainIn (bareOf c))
+        (ifAllowed (refusedOr n number (ruledIn (bareOf c) x))
+        (stepsIn (bareOf c) m (ifAllowed (refusedOr n number (ruledIn (bareOf c) x)) (laterOf c m x) []) x)
+        (steps m idle ∷ [])) (c .tlb)))
+        (outcome (refusalOf (refusedOr n number (ruledIn (bareOf c) x))) (m .bytes))
+    go zero = run-said c m x
+    go (suc n) = refl

@@ -1,0 +1,267 @@
+-- Each call does to registers, level, mark and cache what its steps do.
+use mathlib.Core.Path.{_≡_, refl, sym, ap, _∙_}
+use mathlib.Core.Bool.{Bool, true, false}
+use mathlib.Core.List.{List, [], _∷_}
+use Prim.Native.Nat.{ℕ, zero, suc, _+_, _%_, _≤_, _<_}
+use native.Mathlib.Nat.{mod-eq-of-lt}
+use native.Mathlib.Omega.{arith}
+use lib.Dec.{eqb, leb, ltb}
+use borrow.Author.Tests.{eqb-true, eqb-false, eq-eqb, ne-eqb, leb-false, ltb-false}
+use Rattle.word.specs.Bits.{alignDown, pick, wrap}
+use Rattle.word.specs.Ram.{widthOf, bytesIn}
+use Rattle.word.specs.declared.ram.Sized.{Sized}
+use Rattle.word.specs.declared.ram.Sized.the-variants as Sized
+use Rattle.sysreg.specs.Shape.{sameShape, asidOf}
+use Rattle.sysreg.specs.declared.regs.Control.{Control}
+use Rattle.sysreg.specs.declared.write.WriteAnswer.{WriteAnswer}
+use Rattle.sysreg.specs.declared.write.WriteAnswer.the-variants as Written
+use Rattle.sysreg.specs.declared.write.Written.{Written}
+use Rattle.tlb.specs.Tlb.{flushOf, retagOf, invalidateOf, broadcastOf}
+use Rattle.tlb.specs.declared.access.Kind.{Kind}
+use Rattle.tlb.specs.declared.access.Kind.the-variants as Kind
+use Rattle.tlb.specs.declared.Inval.{Inval}
+use Rattle.tlb.specs.declared.Tlb.{Tlb}
+use Rattle.sysop.specs.declared.op.SysOp.{SysOp}
+use Rattle.sysop.specs.declared.op.SysOp.the-variants as Op
+use Rattle.mmu.specs.Core.{regOf, setReg, movedTo}
+use Rattle.mmu.specs.Ops.{writeOf, ramAfterWrite}
+use Rattle.mmu.specs.OpLaws as Laws
+use Rattle.mmu.specs.declared.core.Core.{Core}
+use Rattle.mmu.specs.declared.ends.StoreAnswer.{StoreAnswer}
+use Rattle.mmu.specs.declared.ends.StoreAnswer.the-variants.{Done, Stopped}
+use Rattle.mmu.specs.declared.ops.Stored.{Stored}
+use Rattle.exec.specs.Fit.{reshapedOf, retaggedOf, refitOf}
+use Rattle.exec.specs.Ops.{withRegs, appliedOf, registered, writeRegister, withWho as coreWho, setLevel, setMark, abortOf}
+use Rattle.exec.specs.Sys.{withPar as corePar, atOf, invalidatedOf, tlbiCore, onStored, zeroOf, sysBy, sysOf}
+use Rattle.cpu.specs.Check.{askedOf, missedOf}
+use Rattle.cpu.specs.Step.{ends, loadBy, storeBy, runOf, refusedOr, stepOf}
+use Rattle.cpu.specs.declared.check.Asked.{Asked}
+use Rattle.cpu.specs.declared.call.Encoding.{Encoding}
+use Rattle.cpu.specs.declared.call.Call.{Call}
+use Rattle.cpu.specs.declared.call.Call.the-variants.{Translate, DataPa, FetchPa, Load, Store, Fetch, System, Register, Level, Mark, General, Abort}
+use Rattle.cpu.specs.declared.call.Reply.the-variants.{Refused}
+use Rattle.history.specs.World.{Plain, onNow}
+use Rattle.history.specs.History.{Ask, writes, Event, steps, plainRun, asked, reshaped, refit, tlbRun}
+use Rattle.history.specs.Calls.{Bridge}
+use Rattle.history.specs.Instance.{Ram, real}
+use Rattle.demand3.specs.Bare.{Bare, plainIn, missedIn, opIn, operandIn, writtenIn, number, bySys, byWrite, ruledIn, ifAllowed, withWho, withWritten, sysDoes, bareDoes, bareStep}
+use Rattle.demand3.specs.Events.{does, asking, idle, accessIn, sizedIn, turning, setting, zeroSteps, sysSteps, stepsIn, eventsIn, bareOf, ramWith, zeroStarts, sysLater, laterOf, startsOf}
+use Rattle.demand3.specs.Asks.{allNamed, access-same, kept-bare, operation-tlb}
+use Rattle.demand3.specs.Machine.{machine}
+
+-- The core d that a call made of c, the state b without a cache after it, and the call's events.
+pub record Fits (c d : Core) (b : Bare) (es : List (Event real)) : Type 0 where
+  pub bare : bareOf d ≡ b
+  pub plain : plainIn b ≡ plainRun real (plainIn (bareOf c)) es
+  pub cache : d .tlb .cache ≡ tlbRun real (plainIn (bareOf c)) es (c .tlb) .cache
+
+fits-idle : (c : Core) (m : Ram) → Fits c c (bareOf c) (steps m idle ∷ [])
+fits-idle c m = record { bare = refl; plain = refl; cache = refl }
+
+-- TRANSLATIONS
+
+operation-fits : (c : Core) (m : Ram) (o : Laws.Operation) (l : List Ask) → allNamed (Laws.asksOf (Laws.onNow c) o) ≡ l
+    → Fits c (Laws.coreAfter c (m .base) (m .bytes) o) (bareOf c) (steps m (asking l) ∷ [])
+operation-fits c m o l e =
+    record {
+      bare = kept-bare c _ (Laws.kept c (m .base) (m .bytes) o);
+      plain = refl;
+      cache =
+          ap (λ (t : Tlb). t .cache) (operation-tlb c m o)
+          ∙ ap (λ (k : List Ask). asked real (plainIn (bareOf c)) m k (c .tlb) .cache) e;
+    }
+
+load-fits : (c : Core) (m : Ram) (va : ℕ) (s : Sized)
+    → Fits c (loadBy s c (m .base) (m .bytes) va .core) (bareOf c) (steps m (asking (sizedIn (bareOf c) va s Kind.Read)) ∷ [])
+load-fits c m va (Sized.Bytes w) = operation-fits c m (Laws.load va (bytesIn w)) _ (access-same c va (bytesIn w) Kind.Read)
+load-fits c m va Sized.Refused = fits-idle c m
+
+store-fits : (c : Core) (m : Ram) (va : ℕ) (s : Sized)
+    → Fits c (storeBy s c (m .base) (m .bytes) va .core) (bareOf c) (steps m (asking (sizedIn (bareOf c) va s Kind.Write)) ∷ [])
+store-fits c m va (Sized.Bytes w) = operation-fits c m (Laws.store va (bytesIn w) 0) _ (access-same c va (bytesIn w) Kind.Write)
+store-fits c m va Sized.Refused = fits-idle c m
+
+-- ZEROING
+
+zero-plain : (b : Bare) (p : Plain real) (l : List Ram) (va : ℕ) → p ≡ plainRun real p (zeroSteps b l va)
+zero-plain b p [] va = refl
+zero-plain b p (m ∷ l) va = zero-plain b p l (wrap (va + 8))
+
+-- what n stores from va on leave, in a core whose state without a cache is b and whose cache is t
+abbrev ZeroRuns : ℕ → Core → Ram → ℕ → Bare → Tlb → Type 0
+ZeroRuns n c m va b t =
+    (bareOf (zeroOf n c (m .base) (m .bytes) va .core) ≡ b)
+    × (zeroOf n c (m .base) (m .bytes) va .core .tlb ≡ tlbRun real (plainIn b) (zeroSteps b (zeroStarts n c m va) va) t)
+
+-- a store leaves the state without a cache, and of the cache what its translations leave
+pub stored-bare : (c : Core) (m : Ram) (va : ℕ) → bareOf (writeOf c (m .base) (m .bytes) va 8 .core) ≡ bareOf c
+stored-bare c m va = kept-bare c _ (Laws.kept c (m .base) (m .bytes) (Laws.store va 8 0))
+
+pub stored-tlb : (c : Core) (m : Ram) (va : ℕ)
+    → writeOf c (m .base) (m .bytes) va 8 .core .tlb ≡ asked real (plainIn (bareOf c)) m (accessIn (bareOf c) va 8 Kind.Write) (c .tlb)
+stored-tlb c m va =
+    operation-tlb c m (Laws.store va 8 0)
+    ∙ ap (λ (k : List Ask). asked real (plainIn (bareOf c)) m k (c .tlb)) (access-same c va 8 Kind.Write)
+
+-- after the first of them
+module _ (n : ℕ) (c : Core) (m : Ram) (va : ℕ) (b : Bare) (t : Tlb) (eb : bareOf c ≡ b) (et : c .tlb ≡ t) where
+  abbrev stored : Stored
+  stored = writeOf c (m .base) (m .bytes) va 8
+
+  abbrev ramThen : Ram
+  ramThen = ramWith m (ramAfterWrite c (m .base) (m .bytes) va 8 0)
+
+  abbrev tlbThen : Tlb
+  tlbThen = asked real (plainIn b) m (accessIn b va 8 Kind.Write) t
+
+  pub bare-then : bareOf (stored .core) ≡ b
+  bare-then = stored-bare c m va ∙ eb
+
+  pub tlb-then : stored .core .tlb ≡ tlbThen
+  tlb-then =
+      stored-tlb c m va
+      ∙ ap (λ (d : Bare). asked real (plainIn d) m (accessIn d va 8 Kind.Write) (c .tlb)) eb
+      ∙ ap (asked real (plainIn b) m (accessIn b va 8 Kind.Write)) et
+
+  zero-next : ZeroRuns n (stored .core) ramThen (wrap (va + 8)) b tlbThen → ZeroRuns (suc n) c m va b t
+  unfolding zeroOf
+  zero-next rest = go (stored .answer)
+    where
+      go : (a : StoreAnswer)
+          → (bareOf (onStored a (zeroOf n (stored .core) (m .base) (ramThen .bytes) (wrap (va + 8))) stored .core) ≡ b)
+          × (onStored a (zeroOf n (stored .core) (m .base) (ramThen .bytes) (wrap (va + 8))) stored .core .tlb
+          ≡ tlbRun real (plainIn b) (zeroSteps b (onStored a (zeroStarts n (stored .core) ramThen (wrap (va + 8))) []) (wrap (va + 8))) tlbThen)
+      go Done = rest
+      go (Stopped s) = (bare-then, tlb-then)
+
+zero-runs : (n : ℕ) (c : Core) (m : Ram) (va : ℕ) (b : Bare) (t : Tlb) → bareOf c ≡ b → c .tlb ≡ t → ZeroRuns n c m va b t
+unfolding zeroOf
+zero-runs zero c m va b t eb et = (eb, et)
+zero-runs (suc n) c m va b t eb et =
+    zero-next n c m va b t eb et
+    (zero-runs n (writeOf c (m .base) (m .bytes) va 8 .core) (ramWith m (ramAfterWrite c (m .base) (m .bytes) va 8 0)) (wrap (va + 8)) b
+    (asked real (plainIn b) m (accessIn b va 8 Kind.Write) t) (bare-then n c m va b t eb et) (tlb-then n c m va b t eb et))
+
+zero-fits : (c : Core) (m : Ram) (va : ℕ) → Fits c (zeroOf 8 c (m .base) (m .bytes) va .core) (bareOf c) (zeroSteps (bareOf c) (zeroStarts 8 c m va) va)
+zero-fits c m va =
+    record {
+      bare = zero-runs 8 c m va (bareOf c) (c .tlb) refl refl .0;
+      plain = zero-plain (bareOf c) (plainIn (bareOf c)) (zeroStarts 8 c m va) va;
+      cache = ap (λ (t : Tlb). t .cache) (zero-runs 8 c m va (bareOf c) (c .tlb) refl refl .1);
+    }
+
+-- SYSTEM OPERATIONS
+
+shared-cache : (t : Tlb) (v : Inval) (b : Bool) → invalidatedOf t v b .cache ≡ invalidateOf t v .cache
+unfolding invalidatedOf broadcastOf
+shared-cache t v true = refl
+shared-cache t v false = refl
+
+sys-fits : (o : SysOp) (c : Core) (m : Ram) (e : Encoding)
+    → Fits c (sysBy o c (m .base) (m .bytes) (e .op1) (e .crm) (e .op2) (operandIn (bareOf c) e) .core)
+    (ifAllowed (bySys o) (sysDoes o (bareOf c) m (operandIn (bareOf c) e)) (bareOf c))
+    (ifAllowed (bySys o) (sysSteps o (bareOf c) m (ifAllowed (bySys o) (sysLater o c m (operandIn (bareOf c) e)) []) e) (steps m idle ∷ []))
+unfolding atOf corePar tlbiCore movedTo
+sys-fits (Op.At form) c m e = record { bare = refl; plain = refl; cache = refl }
+sys-fits Op.Tlbi c m e = record { bare = refl; plain = refl; cache = shared-cache (c .tlb) _ _ }
+sys-fits Op.Zva c m e = zero-fits c m (alignDown (operandIn (bareOf c) e) 6)
+sys-fits Op.Nothing c m e = fits-idle c m
+sys-fits Op.Undefined c m e = fits-idle c m
+sys-fits Op.Unimplemented c m e = fits-idle c m
+
+-- REGISTER WRITES
+
+eqb-swap : (a b : ℕ) → eqb a b ≡ eqb b a
+eqb-swap a b = go (eqb a b) refl
+  where
+    go : (x : Bool) → eqb a b ≡ x → x ≡ eqb b a
+    go true e = sym (eq-eqb b a (sym (eqb-true a b e)))
+    go false e = sym (ne-eqb b a (λ q. eqb-false a b e (sym q)))
+
+refit-same : (t : Tlb) (R S : Control) → refitOf t R S ≡ refit real R S t
+unfolding refitOf retaggedOf reshapedOf refit reshaped
+refit-same t R S =
+    ap (λ (b : Bool). pick b (pick (sameShape R S) t (flushOf t)) (retagOf (pick (sameShape R S) t (flushOf t)) (asidOf S)))
+    (eqb-swap (pick (sameShape R S) t (flushOf t) .cache .present .asid) (asidOf S))
+
+write-fits : (c : Core) (m : Ram) (w : Written) (a : WriteAnswer)
+    → Fits c (registered c w a .core) (ifAllowed (byWrite a) (withWritten (bareOf c) w) (bareOf c))
+    (ifAllowed (byWrite a) (steps m (does (writes (w .control))) ∷ []) (steps m idle ∷ []))
+unfolding appliedOf withRegs movedTo
+write-fits c m w Written.Done =
+    record { bare = refl; plain = refl; cache = ap (λ (t : Tlb). t .cache) (refit-same (c .tlb) (c .control) (w .control)) }
+write-fits c m w Written.Undefined = fits-idle c m
+write-fits c m w Written.NoRegister = fits-idle c m
+
+-- SETTINGS
+
+setting-fits : (c : Core) (m : Ram) (level : ℕ) (mark : Bool) → level ≤ 3
+    → Fits c (coreWho c level mark) (withWho (bareOf c) level mark) (steps m (setting (record { level = level; mark = mark })) ∷ [])
+setting-fits c m level mark low = go (leb level 3) refl
+  where
+    go : (b : Bool) (e : leb level 3 ≡ b)
+        → Fits c (coreWho c level mark) (withWho (bareOf c) level mark) (steps m (does (turning (record { level = level; mark = mark }) b e)) ∷ [])
+    go true e = record { bare = refl; plain = refl; cache = refl }
+    go false e = let h : 3 < level = leb-false level 3 e in absurd (omega arith)
+
+-- a call that misses no check finds a level of 3 at most, and asks for no other
+missed-none : (level base len : ℕ) (a : Asked) → missedOf level base len a ≡ 0 → (level ≤ 3) × (a .level ≤ 3)
+unfolding missedOf
+missed-none level base len a e = go (ltb 3 level) (ltb 3 (a .level)) refl refl e
+  where
+    go : (x y : Bool) → ltb 3 level ≡ x → ltb 3 (a .level) ≡ y → missedOf level base len a ≡ 0 → (level ≤ 3) × (a .level ≤ 3)
+    go true y p q z = let k : _≡_ {A = ℕ} 1 0 = rw (← z, p) in absurd (omega arith)
+    go false true p q z = let k : _≡_ {A = ℕ} 1 0 = rw (← z, p, q) in absurd (omega arith)
+    go false false p q z = (ltb-false 3 level p, ltb-false 3 (a .level) q)
+
+level-fits : (c : Core) (m : Ram) (level : ℕ) → level ≤ 3
+    → Fits c (setLevel c (level % 4)) (withWho (bareOf c) level (c .who .mark)) (steps m (setting (record { level = level; mark = c .who .mark })) ∷ [])
+unfolding setLevel
+level-fits c m level low =
+    let q : level % 4 ≡ level = mod-eq-of-lt (omega arith) in
+    rw q (setting-fits c m level (c .who .mark) low)
+
+-- EVERY CALL
+
+-- that misses no check
+run-fits : (c : Core) (m : Ram) (x : Call) → missedIn (bareOf c) m x ≡ 0
+    → Fits c (runOf c (m .base) (m .bytes) x .core) (ifAllowed (ruledIn (bareOf c) x) (bareDoes (bareOf c) m x) (bareOf c))
+    (ifAllowed (ruledIn (bareOf c) x)
+    (stepsIn (bareOf c) m (ifAllowed (ruledIn (bareOf c) x) (laterOf c m x) []) x)
+    (steps m idle ∷ []))
+unfolding runOf askedOf sysOf regOf writeRegister setMark setReg abortOf
+run-fits c m (Translate kind va) p = operation-fits c m (Laws.translate va kind) _ refl
+run-fits c m (DataPa va) p = operation-fits c m (Laws.dataPa va) _ refl
+run-fits c m (FetchPa va) p = operation-fits c m (Laws.fetchPa va) _ refl
+run-fits c m (Load va size) p = load-fits c m va (widthOf size)
+run-fits c m (Store va size value) p = store-fits c m va (widthOf size)
+run-fits c m (Fetch va) p = operation-fits c m (Laws.fetch va) _ refl
+run-fits c m (System e) p = sys-fits (opIn (bareOf c) e) c m e
+run-fits c m (Register key value) p = write-fits c m (writtenIn (bareOf c) key value) (writtenIn (bareOf c) key value .answer)
+run-fits c m (Level level) p = level-fits c m level (missed-none _ _ _ _ p .1)
+run-fits c m (Mark mark) p = setting-fits c m (c .who .level) mark (missed-none _ _ _ _ p .0)
+run-fits c m (General n value) p = record { bare = refl; plain = refl; cache = refl }
+run-fits c m (Abort e) p = record { bare = refl; plain = refl; cache = refl }
+
+pub fits : (c : Core) (m : Ram) (x : Call)
+    → Fits c (stepOf c (m .base) (m .bytes) x .core) (bareStep (bareOf c) m x) (eventsIn (bareOf c) (startsOf c m x) x)
+unfolding stepOf
+fits c m x = go (missedIn (bareOf c) m x) refl
+  where
+    go : (n : ℕ) → missedIn (bareOf c) m x ≡ n
+        → Fits c (refusedOr n (λ k. ends c (Refused k)) (runOf c (m .base) (m .bytes) x) .core)
+        (ifAllowed (refusedOr n number (ruledIn (bareOf c) x)) (bareDoes (bareOf c) m x) (bareOf c))
+        (ifAllowed (refusedOr n number (ruledIn (bareOf c) x))
+        (stepsIn (bareOf c) m (ifAllowed (refusedOr n number (ruledIn (bareOf c) x)) (laterOf c m x) []) x)
+        (steps m idle ∷ []))
+    go zero e = run-fits c m x e
+    go (suc n) e = fits-idle c m
+
+pub bridge : Bridge real machine
+bridge =
+    record {
+      starts-here = λ c m x. (_, refl);
+      bare-is = λ c m x. fits c m x .bare;
+      plain-is = λ c m x. fits c m x .plain;
+      cache-is = λ c m x. fits c m x .cache;
+    }

@@ -1,0 +1,170 @@
+-- A call's steps as events of the history, each with the RAM at its start: read from the call, the state without a cache and those RAMs.
+--
+-- Nothing here looks at the cache or at what the core does with it. A core that ignored a TLBI could not hide here: the event of a TLBI that is
+-- not refused carries its invalidation whatever the core did (`tlbi-event`), the theory's cache loses what it names, and the core's own cache
+-- has to be that cache after every call (`cache-is` of the bridge). Nor could one that made an invalidation up: no other call carries one.
+use mathlib.Core.Path.{_≡_, refl}
+use mathlib.Core.Bool.{Bool, true, false}
+use mathlib.Core.List.{List, [], _∷_}
+use Prim.Native.Nat.{ℕ, zero, suc, _+_}
+use lib.Dec.{leb}
+use borrow.Author.Tests.{leb-true}
+use Rattle.word.specs.Bits.{alignDown, wrap}
+use Rattle.word.specs.Ram.{widthOf, bytesIn}
+use Rattle.word.specs.declared.ram.Sized.{Sized}
+use Rattle.word.specs.declared.ram.Sized.the-variants as Sized
+use Rattle.tlb.specs.declared.access.Kind.{Kind}
+use Rattle.tlb.specs.declared.access.Kind.the-variants as Kind
+use Rattle.tlb.specs.declared.access.Who.{Who}
+use Rattle.tlb.specs.declared.Inval.{Inval}
+use Rattle.entry.specs.EntryLaws.{take-level}
+use Rattle.entry.specs.declared.exception.Exception.{Exception}
+use Rattle.sysop.specs.Tlbi.{tlbiOf}
+use Rattle.sysop.specs.declared.op.SysOp.{SysOp}
+use Rattle.sysop.specs.declared.op.SysOp.the-variants as Op
+use Rattle.mmu.specs.Place.{nextPage, crosses}
+use Rattle.mmu.specs.Ops.{writeOf, ramAfterWrite}
+use Rattle.mmu.specs.declared.core.Core.{Core}
+use Rattle.exec.specs.Sys.{onStored}
+use Rattle.cpu.specs.declared.call.Encoding.{Encoding}
+use Rattle.cpu.specs.declared.call.Call.{Call}
+use Rattle.cpu.specs.declared.call.Call.the-variants.{Translate, DataPa, FetchPa, Load, Store, Fetch, System, Register, Level, Mark, General, Abort}
+use Rattle.history.specs.World.{onNow}
+use Rattle.history.specs.History.{Ask, translates, fetches, Effect, nothing, carries, writes, turns, Step, Event, steps}
+use Rattle.history.specs.Instance.{Ram, real}
+use Rattle.demand3.specs.Bare.{Bare, plainIn, missedIn, opIn, operandIn, writtenIn, takenIn, verdictIn, ifAllowed}
+
+-- STEPS
+
+abbrev pub does : Effect real → Step real
+does e = record { asks = []; effect = e }
+
+abbrev pub asking : List Ask → Step real
+asking l = record { asks = l; effect = nothing }
+
+-- a refused call, and every call that neither translates nor reaches the cache, level, mark or the registers that translation reads
+abbrev pub idle : Step real
+idle = does nothing
+
+-- An access of n bytes: its own page; and the next page, where it crosses with stage 1 on. The history makes the second translation only where
+-- the first did not fault (`asked`, `answers`): that is not said here, and so nothing here depends on an answer.
+abbrev pub pagesOf : Bool → ℕ → Kind → List Ask
+pagesOf true va kind = translates kind va ∷ translates kind (nextPage va) ∷ []
+pagesOf false va kind = translates kind va ∷ []
+
+abbrev pub accessIn : Bare → ℕ → ℕ → Kind → List Ask
+accessIn b va n kind = pagesOf (crosses (onNow real (plainIn b)) va n) va kind
+
+-- a size that is none is refused before
+abbrev pub sizedIn : Bare → ℕ → Sized → Kind → List Ask
+sizedIn b va (Sized.Bytes w) kind = accessIn b va (bytesIn w) kind
+sizedIn b va Sized.Refused kind = []
+
+-- a level above 3 is refused before
+abbrev pub turning : (who : Who) (b : Bool) → leb (who .level) 3 ≡ b → Effect real
+turning who true e = turns who (leb-true (who .level) 3 e)
+turning who false e = nothing
+
+abbrev pub setting : Who → Step real
+setting who = does (turning who (leb (who .level) 3) refl)
+
+-- abort entry goes to level 1, 2 or 3 and leaves the mark
+abbrev pub entering : Bare → Exception → Step real
+entering b e =
+    does
+    (turns (record { level = takenIn b e .level; mark = b .who .mark })
+    (take-level (b .who .level) (b .pc) (b .control .«scr_el3») (b .control .«hcr_el2») (b .flags) (b .sys) e .1))
+
+-- what a TLBI names
+abbrev pub invalIn : Bare → Encoding → Inval
+invalIn b e = tlbiOf (b .control) (e .op1) (e .crm) (e .op2) (operandIn b e)
+
+-- EVENTS
+
+-- "Each of DC ZVA's eight stores is a step": from the address and RAM at each start alone.
+abbrev pub zeroSteps : Bare → List Ram → ℕ → List (Event real)
+zeroSteps b [] va = []
+zeroSteps b (m ∷ ms) va = steps m (asking (accessIn b va 8 Kind.Write)) ∷ zeroSteps b ms (wrap (va + 8))
+
+abbrev pub sysSteps : SysOp → Bare → Ram → List Ram → Encoding → List (Event real)
+sysSteps Op.Tlbi b m ms e = steps m (does (carries (invalIn b e))) ∷ []
+sysSteps Op.Zva b m ms e = zeroSteps b (m ∷ ms) (alignDown (operandIn b e) 6)
+sysSteps (Op.At form) b m ms e = steps m idle ∷ []
+sysSteps Op.Nothing b m ms e = steps m idle ∷ []
+sysSteps Op.Undefined b m ms e = steps m idle ∷ []
+sysSteps Op.Unimplemented b m ms e = steps m idle ∷ []
+
+-- the steps of a call that is not refused
+abbrev pub stepsIn : Bare → Ram → List Ram → Call → List (Event real)
+stepsIn b m ms (Translate kind va) = steps m (asking (translates kind va ∷ [])) ∷ []
+stepsIn b m ms (DataPa va) = steps m (asking (translates Kind.Read va ∷ [])) ∷ []
+stepsIn b m ms (FetchPa va) = steps m (asking (fetches va ∷ [])) ∷ []
+stepsIn b m ms (Load va size) = steps m (asking (sizedIn b va (widthOf size) Kind.Read)) ∷ []
+stepsIn b m ms (Store va size value) = steps m (asking (sizedIn b va (widthOf size) Kind.Write)) ∷ []
+stepsIn b m ms (Fetch va) = steps m (asking (fetches va ∷ [])) ∷ []
+stepsIn b m ms (System e) = sysSteps (opIn b e) b m ms e
+stepsIn b m ms (Register key value) = steps m (does (writes (writtenIn b key value .control))) ∷ []
+stepsIn b m ms (Level level) = steps m (setting (record { level = level; mark = b .who .mark })) ∷ []
+stepsIn b m ms (Mark mark) = steps m (setting (record { level = b .who .level; mark = mark })) ∷ []
+stepsIn b m ms (General n value) = steps m idle ∷ []
+stepsIn b m ms (Abort e) = steps m (entering b e) ∷ []
+
+-- a refused call is a step that does nothing
+abbrev pub eventsIn : Bare → List Ram → Call → List (Event real)
+eventsIn b [] x = []
+eventsIn b (m ∷ ms) x = ifAllowed (verdictIn b m x) (stepsIn b m ms x) (steps m idle ∷ [])
+
+-- "An All, Page or Asid is one that a TLBI, not refused, carries out": each such TLBI has its event, and no more.
+pub tlbi-event : (b : Bare) (m : Ram) (ms : List Ram) (e : Encoding) → missedIn b m (System e) ≡ 0 → opIn b e ≡ Op.Tlbi
+    → eventsIn b (m ∷ ms) (System e) ≡ steps m (does (carries (invalIn b e))) ∷ []
+tlbi-event b m ms e passed named = rw (passed, named)
+
+-- STARTS: RAM as it stands when each step begins
+
+-- the state of a core without its cache
+abbrev pub bareOf : Core → Bare
+bareOf c = record { who = c .who; flags = c .flags; pc = c .pc; x = c .x; control = c .control; sys = c .sys }
+
+abbrev pub ramWith : Ram → List ℕ → Ram
+ramWith m bytes = record { base = m .base; bytes = bytes }
+
+-- of n stores of eight zero bytes from va on, those begun
+abbrev pub zeroStarts : ℕ → Core → Ram → ℕ → List Ram
+zeroStarts zero c m va = []
+zeroStarts (suc n) c m va =
+    m
+    ∷ onStored (writeOf c (m .base) (m .bytes) va 8 .answer)
+    (zeroStarts n (writeOf c (m .base) (m .bytes) va 8 .core) (ramWith m (ramAfterWrite c (m .base) (m .bytes) va 8 0)) (wrap (va + 8)))
+    []
+
+-- after the first: for a zeroing alone
+abbrev pub zeroLater : Core → Ram → ℕ → List Ram
+zeroLater c m va =
+    onStored (writeOf c (m .base) (m .bytes) va 8 .answer)
+    (zeroStarts 7 (writeOf c (m .base) (m .bytes) va 8 .core) (ramWith m (ramAfterWrite c (m .base) (m .bytes) va 8 0)) (wrap (va + 8)))
+    []
+
+abbrev pub sysLater : SysOp → Core → Ram → ℕ → List Ram
+sysLater Op.Zva c m va = zeroLater c m (alignDown va 6)
+sysLater (Op.At form) c m va = []
+sysLater Op.Tlbi c m va = []
+sysLater Op.Nothing c m va = []
+sysLater Op.Undefined c m va = []
+sysLater Op.Unimplemented c m va = []
+
+abbrev pub laterOf : Core → Ram → Call → List Ram
+laterOf c m (System e) = sysLater (opIn (bareOf c) e) c m (operandIn (bareOf c) e)
+laterOf c m (Translate kind va) = []
+laterOf c m (DataPa va) = []
+laterOf c m (FetchPa va) = []
+laterOf c m (Load va size) = []
+laterOf c m (Store va size value) = []
+laterOf c m (Fetch va) = []
+laterOf c m (Register key value) = []
+laterOf c m (Level level) = []
+laterOf c m (Mark mark) = []
+laterOf c m (General n value) = []
+laterOf c m (Abort e) = []
+
+abbrev pub startsOf : Core → Ram → Call → List Ram
+startsOf c m x = m ∷ ifAllowed (verdictIn (bareOf c) m x) (laterOf c m x) []

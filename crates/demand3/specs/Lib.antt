@@ -1,0 +1,13 @@
+-- Demand 3 of every list of calls: what a reader believes, top to bottom.
+pub mod Bare
+pub mod Events
+pub mod Machine
+pub mod Replies
+-- Its theorem, and what stands beside it.
+pub mod Instance
+pub mod Beside
+pub mod Direct
+-- The proof.
+pub mod Asks
+pub mod Answered
+pub mod Bridge
