@@ -7,6 +7,7 @@ pub mod Replies
 pub mod Instance
 pub mod Beside
 pub mod Direct
+pub mod Faithful
 -- The proof.
 pub mod Asks
 pub mod Answered
