@@ -123,3 +123,15 @@ refused-core c m x refuses = go (missedIn (bareOf c) m x) refuses
         (refusedOr n (λ k. m .bytes) (ramOf c (m .base) (m .bytes) x))
     go zero n = run-refused c m x n
     go (suc k) n = (refl, refl)
+
+-- after every list it is the refusal of the core without a cache
+pub refused-after : (list : List (Lent real machine)) (m : Ram) (x : Call) → (verdictIn (bareAfter list) m x ≡ allowed → ⊥)
+    → (stepOf (coreAfter list) (m .base) (m .bytes) x ≡ ends (coreAfter list) (refusalOf (verdictIn (bareAfter list) m x)))
+    × (ramAfter (coreAfter list) (m .base) (m .bytes) x ≡ m .bytes)
+refused-after list m x =
+    subst
+    (λ (b : Bare).
+    (verdictIn b m x ≡ allowed → ⊥)
+    → (stepOf (coreAfter list) (m .base) (m .bytes) x ≡ ends (coreAfter list) (refusalOf (verdictIn b m x)))
+    × (ramAfter (coreAfter list) (m .base) (m .bytes) x ≡ m .bytes))
+    (two-cores list) (refused-core (coreAfter list) m x)
