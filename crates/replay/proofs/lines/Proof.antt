@@ -1,0 +1,46 @@
+-- `replay::lines` is safe and ends. The measure is the number of turns that are left.
+use mathlib.Core.Path.{_≡_, refl, _∙_}
+use native.Mathlib.Omega.{arith}
+use lib.ListN.{length}
+use borrow.Author.Needs.{needs}
+use Rattle.replay.proofs.lines.Statement.{statement}
+use Rattle.replay.proofs.lines.Tie as tie
+
+abbrev Inv-loop : tie.InvT-loop
+Inv-loop ram₀ m₀ turns₀ ram m turns = length ram ≡ length ram₀
+
+abbrev μ-loop : tie.MeasureT-loop
+μ-loop ram₀ m₀ turns₀ ram m turns = turns
+
+start-requires : tie.Need-start-requires Inv-loop μ-loop
+start-requires c κs = search needs
+
+loop-holds : tie.Need-loop-holds Inv-loop μ-loop
+loop-holds c = refl
+
+line-requires : tie.Need-line-requires Inv-loop μ-loop
+line-requires c κs = search needs
+
+sub-turns : tie.Need-sub-turns Inv-loop μ-loop
+sub-turns c = omega arith
+
+loop-less : tie.Need-loop-less Inv-loop μ-loop
+loop-less c = omega arith
+
+loop-again : tie.Need-loop-again Inv-loop μ-loop
+loop-again c = omega arith
+
+same-length : tie.Need-same-length Inv-loop μ-loop
+same-length c = c .before .before .loop .inv
+
+returns : tie.Need-returns Inv-loop μ-loop
+returns c = tt
+
+same-length-2 : tie.Need-same-length-2 Inv-loop μ-loop
+same-length-2 c = c .before .loop .inv
+
+returns-2 : tie.Need-returns-2 Inv-loop μ-loop
+returns-2 c = tt
+
+pub lines-spec : {M : Type 1} → statement M
+lines-spec = tie.close (tie.spec Inv-loop μ-loop start-requires loop-holds line-requires sub-turns loop-less loop-again same-length returns same-length-2 returns-2)
