@@ -1,11 +1,8 @@
 -- The ends of an exported walk, on plain values.
-use mathlib.Core.Path.{_≡_, refl, sym, ap, _∙_}
+use mathlib.Core.Path.{_≡_, sym}
 use mathlib.Core.Bool.{Bool, true, false}
 use mathlib.Core.List.{List}
-use Prim.Native.Nat.{ℕ, _+_, _-_, _^_, _≤_, _<_}
-use native.Mathlib.Omega.{arith}
-use borrow.Author.Tests.{lt-ltb, le-ltb, ltb-true, ltb-false}
-use lib.Dec.{ltb}
+use Prim.Native.Nat.{ℕ, _+_, _-_}
 use lib.ListN.{length}
 use Rattle.word.specs.Ram.{wordAt}
 use Rattle.walk.specs.Walk.{walkOf}
@@ -14,20 +11,10 @@ use Rattle.walk.specs.declared.regime.Bank.{Bank}
 use Rattle.walk.specs.declared.level.Leaf.{Leaf}
 use Rattle.walk.specs.declared.level.Walked.{Walked}
 use Rattle.walk.specs.declared.level.Walked.the-variants.{Mapped, Fault}
-use Rattle.a72abi.specs.Walk.{bankAt, regimeAt, passes, leafAfter, walkCode, walkWords}
+use Rattle.cpu.specs.Check.{passes}
+use Rattle.a72abi.specs.Walk.{bankAt, regimeAt, leafAfter, walkCode, walkWords}
 use Rattle.a72abi.specs.declared.Named.{Named}
 use Rattle.a72abi.specs.declared.Named.the-variants.{Known, Unknown}
-
--- a window from 0 never passes 2^64; another one does where its length is more than what is left
-pub never-past : (base len : ℕ) → base ≡ 0 → len < 2 ^ 64 → false ≡ passes base len
-never-past base len e h = sym (le-ltb (2 ^ 64) (base + len) (omega arith))
-
-pub past-left : (base len : ℕ) → base < 2 ^ 64 → ltb ((2 ^ 64 - 1) - base + 1) len ≡ passes base len
-past-left base len h = go (ltb (2 ^ 64) (base + len)) refl
-  where
-    go : (t : Bool) → ltb (2 ^ 64) (base + len) ≡ t → ltb ((2 ^ 64 - 1) - base + 1) len ≡ passes base len
-    go true e = let k = ltb-true (2 ^ 64) (base + len) e in rw e (lt-ltb ((2 ^ 64 - 1) - base + 1) len (omega arith))
-    go false e = let k = ltb-false (2 ^ 64) (base + len) e in rw e (le-ltb ((2 ^ 64 - 1) - base + 1) len (omega arith))
 
 module _ (ws : List ℕ) (n va base : ℕ) (ram : List ℕ) (x : Named) (ex : x ≡ regimeAt n) where
   pub no-regime-code : x ≡ Unknown → 1 ≡ walkCode ws n va base ram

@@ -1,8 +1,8 @@
 -- The walk over lent words.
 use mathlib.Core.Bool.{Bool, true, false}
 use mathlib.Core.List.{List, [], _∷_}
-use Prim.Native.Nat.{ℕ, zero, suc, _+_, _^_}
-use lib.Dec.{eqb, ltb}
+use Prim.Native.Nat.{ℕ, _+_}
+use lib.Dec.{eqb}
 use lib.ListN.{getD, length}
 use Rattle.word.specs.Bits.{flag, pick}
 use Rattle.word.specs.Ram.{wordAt}
@@ -13,6 +13,7 @@ use Rattle.walk.specs.declared.regime.Bank.{Bank}
 use Rattle.walk.specs.declared.level.Leaf.{Leaf}
 use Rattle.walk.specs.declared.level.Walked.{Walked}
 use Rattle.walk.specs.declared.level.Walked.the-variants.{Mapped, Fault}
+use Rattle.cpu.specs.Check.{passes}
 use Rattle.a72abi.specs.declared.Named.{Named}
 use Rattle.a72abi.specs.declared.Named.the-variants.{Known, Unknown}
 
@@ -31,10 +32,6 @@ bankAt ws =
       «scr_el3» = getD ws 4 0;
       «hcr_el2» = getD ws 5 0;
     }
-
--- base plus length is above 2^64
-abbrev pub passes : ℕ → ℕ → Bool
-passes base len = ltb (2 ^ 64) (base + len)
 
 -- a leaf as words
 abbrev pub leafAfter : Leaf → List ℕ

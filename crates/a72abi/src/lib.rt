@@ -3,7 +3,8 @@ ghost use mathlib.Core.Path.{_≡_};
 ghost use Prim.Native.Nat.{_+_};
 ghost use lib.ListN.{length};
 ghost use Rattle.word.specs.Bits.{flag};
-ghost use Rattle.a72abi.specs.Walk.{bankAt, regimeAt, passes, leafAfter, codeOf, walkAt, walkCode, walkWords};
+ghost use Rattle.a72abi.specs.Walk.{bankAt, regimeAt, leafAfter, codeOf, walkAt, walkCode, walkWords};
+use cpu::check;
 use walk::level::Leaf;
 use walk::level::Walked;
 use walk::regime::Bank;
@@ -37,17 +38,6 @@ fn bank_at(words: &[u64; 6]) -> Bank
         ttbr1_el1: words[3],
         scr_el3: words[4],
         hcr_el2: words[5],
-    }
-}
-
-// Whether a window of len bytes from base passes 2^64.
-fn past_end(base: u64, len: u64) -> bool
-    ensures { λ r. ⌜ r ≡ passes base len ⌝ }
-{
-    if base == 0 {
-        false
-    } else {
-        0xFFFF_FFFF_FFFF_FFFF - base + 1 < len
     }
 }
 
@@ -86,7 +76,7 @@ pub extern "C" fn a72_walk(
     let named = regime_at(number);
     match named {
         Named::Known(regime) => {
-            let past = past_end(base, ram.len() as u64);
+            let past = check::past_end(base, ram.len() as u64);
             if past {
                 return 2;
             }
