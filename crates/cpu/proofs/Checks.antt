@@ -13,12 +13,8 @@ use Rattle.sysreg.specs.Encoding.{registerAt}
 use Rattle.sysreg.specs.declared.regs.Register.{Register}
 use Rattle.sysreg.specs.declared.encoding.Found.{Found}
 use Rattle.sysreg.specs.declared.encoding.Found.the-variants.{At, Nothing}
-use Rattle.tlb.specs.declared.access.Kind.{Kind}
-use Rattle.entry.specs.declared.exception.Exception.{Exception}
-use Rattle.cpu.specs.Check.{plainOf, sizedOf, encodedOf, keyedOf, levelledOf, numberedOf, askedOf, passes, known, kept, missedOf}
-use Rattle.cpu.specs.declared.call.Encoding.{Encoding}
+use Rattle.cpu.specs.Check.{askedOf, passes, known, kept, missedOf}
 use Rattle.cpu.specs.declared.call.Call.{Call}
-use Rattle.cpu.specs.declared.call.Call.the-variants.{Translate, DataPa, FetchPa, Load, Store, Fetch, System, Register as Write, Level, Mark, General, Abort}
 use Rattle.cpu.specs.declared.check.Asked.{Asked}
 
 -- a window from 0 never passes 2^64; another one does where its length is more than what is left
@@ -92,52 +88,6 @@ module _ (level base len : ℕ) (a : Asked) where
             unfolding missedOf
             misses-none k = rw (h1, ← ep, h2, ← es, not-false size h3, not-false (fields a) h4, le-ltb 31 (a .number) h5, ← ek, k)
 
--- what a call asks for
-module _ (call : Call) (a : Asked) where
-  pub asks-translate : (kind : Kind) (va : ℕ) → call ≡ Translate kind va → a ≡ plainOf true → a ≡ askedOf call
-  unfolding askedOf
-  asks-translate kind va e ea = rw e ea
-
-  pub asks-datapa : (va : ℕ) → call ≡ DataPa va → a ≡ plainOf true → a ≡ askedOf call
-  unfolding askedOf
-  asks-datapa va e ea = rw e ea
-
-  pub asks-fetchpa : (va : ℕ) → call ≡ FetchPa va → a ≡ plainOf true → a ≡ askedOf call
-  unfolding askedOf
-  asks-fetchpa va e ea = rw e ea
-
-  pub asks-load : (va size : ℕ) → call ≡ Load va size → a ≡ sizedOf size → a ≡ askedOf call
-  unfolding askedOf
-  asks-load va size e ea = rw e ea
-
-  pub asks-store : (va size value : ℕ) → call ≡ Store va size value → a ≡ sizedOf size → a ≡ askedOf call
-  unfolding askedOf
-  asks-store va size value e ea = rw e ea
-
-  pub asks-fetch : (va : ℕ) → call ≡ Fetch va → a ≡ plainOf true → a ≡ askedOf call
-  unfolding askedOf
-  asks-fetch va e ea = rw e ea
-
-  pub asks-system : (x : Encoding) → call ≡ System x → a ≡ encodedOf x → a ≡ askedOf call
-  unfolding askedOf
-  asks-system x e ea = rw e ea
-
-  pub asks-register : (key value : ℕ) → call ≡ Write key value → a ≡ keyedOf key → a ≡ askedOf call
-  unfolding askedOf
-  asks-register key value e ea = rw e ea
-
-  pub asks-level : (level : ℕ) → call ≡ Level level → a ≡ levelledOf level → a ≡ askedOf call
-  unfolding askedOf
-  asks-level level e ea = rw e ea
-
-  pub asks-mark : (mark : Bool) → call ≡ Mark mark → a ≡ plainOf false → a ≡ askedOf call
-  unfolding askedOf
-  asks-mark mark e ea = rw e ea
-
-  pub asks-general : (number value : ℕ) → call ≡ General number value → a ≡ numberedOf number → a ≡ askedOf call
-  unfolding askedOf
-  asks-general number value e ea = rw e ea
-
-  pub asks-abort : (x : Exception) → call ≡ Abort x → a ≡ plainOf false → a ≡ askedOf call
-  unfolding askedOf
-  asks-abort x e ea = rw e ea
+-- what a call asks for, where it is known which call it is
+pub asks-as : (call x : Call) (a b : Asked) → call ≡ x → a ≡ b → b ≡ askedOf x → a ≡ askedOf call
+asks-as call x a b e ea eb = ea ∙ eb ∙ ap askedOf (sym e)

@@ -1,6 +1,5 @@
 // System operations on the core, by value.
 ghost use mathlib.Core.Path.{_≡_};
-ghost use Prim.Native.Nat.{_≤_};
 ghost use Rattle.word.specs.Bits.{alignDown};
 ghost use Rattle.word.specs.Ram.{wordAt};
 ghost use Rattle.exec.specs.Sys.{mairOf, withPar, atOf, invalidatedOf, tlbiCore, zeroOf, zeroRam, sysOf, sysRam};
@@ -78,7 +77,6 @@ pub fn tlbi(core: Core, op1: u64, crm: u64, op2: u64, x: u64) -> Core
 
 // The n stores of a zeroing from va on, up to the first that stops.
 fn zero_from(core: Core, base: u64, ram: &mut [u8], va: u64, n: u64) -> Stored
-    requires { ⌜ n ≤ 8 ⌝ }
     ensures { λ r. ⌜ (r ≡ zeroOf n core base (now (ram .entry)) va) × (now (ram .exit) ≡ zeroRam n core base (now (ram .entry)) va) ⌝ }
 {
     if n == 0 {

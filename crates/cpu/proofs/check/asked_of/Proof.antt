@@ -2,7 +2,8 @@
 use borrow.Author.Needs.{needs}
 use Rattle.cpu.proofs.check.asked_of.Statement.{statement}
 use Rattle.cpu.proofs.check.asked_of.Tie as tie
-use Rattle.cpu.proofs.Checks.{asks-translate, asks-datapa, asks-fetchpa, asks-load, asks-store, asks-fetch, asks-system, asks-register, asks-level, asks-mark, asks-general, asks-abort}
+use Rattle.cpu.proofs.Checks.{asks-as}
+use Rattle.cpu.specs.Check.{askedOf}
 
 enum-told : tie.Need-enum-told
 enum-told c = search needs
@@ -77,40 +78,52 @@ plain-requires-6 : tie.Need-plain-requires-6
 plain-requires-6 c κs = search needs
 
 returns : tie.Need-returns
-returns c = search (asks-translate, needs)
+unfolding askedOf
+returns c = search (asks-as, needs)
 
 returns-2 : tie.Need-returns-2
-returns-2 c = search (asks-datapa, needs)
+unfolding askedOf
+returns-2 c = search (asks-as, needs)
 
 returns-3 : tie.Need-returns-3
-returns-3 c = search (asks-fetchpa, needs)
+unfolding askedOf
+returns-3 c = search (asks-as, needs)
 
 returns-4 : tie.Need-returns-4
-returns-4 c = search (asks-load, needs)
+unfolding askedOf
+returns-4 c = search (asks-as, needs)
 
 returns-5 : tie.Need-returns-5
-returns-5 c = search (asks-store, needs)
+unfolding askedOf
+returns-5 c = search (asks-as, needs)
 
 returns-6 : tie.Need-returns-6
-returns-6 c = search (asks-fetch, needs)
+unfolding askedOf
+returns-6 c = search (asks-as, needs)
 
 returns-7 : tie.Need-returns-7
-returns-7 c = search (asks-system, needs)
+unfolding askedOf
+returns-7 c = search (asks-as, needs)
 
 returns-8 : tie.Need-returns-8
-returns-8 c = search (asks-register, needs)
+unfolding askedOf
+returns-8 c = search (asks-as, needs)
 
 returns-9 : tie.Need-returns-9
-returns-9 c = search (asks-level, needs)
+unfolding askedOf
+returns-9 c = search (asks-as, needs)
 
 returns-10 : tie.Need-returns-10
-returns-10 c = search (asks-mark, needs)
+unfolding askedOf
+returns-10 c = search (asks-as, needs)
 
 returns-11 : tie.Need-returns-11
-returns-11 c = search (asks-general, needs)
+unfolding askedOf
+returns-11 c = search (asks-as, needs)
 
 returns-12 : tie.Need-returns-12
-returns-12 c = search (asks-abort, needs)
+unfolding askedOf
+returns-12 c = search (asks-as, needs)
 
 pub asked-of-spec : {M : Type 1} → statement M
 asked-of-spec =
