@@ -108,7 +108,7 @@ fn route_smc(o: Origin, imm: u16) -> Routed
 }
 
 // An exception is taken as it is, or as UNDEFINED. A call returns past itself, the others to their instruction.
-pub(crate) fn route(o: Origin, e: Exception) -> Routed
+pub fn route(o: Origin, e: Exception) -> Routed
     ensures { λ r. ⌜ r ≡ routedTo o e ⌝ }
 {
     match e {

@@ -87,7 +87,7 @@ fn leaf_par(mair: u64, ns: bool, form: AtForm, leaf: Leaf) -> u64
 }
 
 // PAR by the registers of the form's regime.
-fn par_in(s: Bank, mair: u64, form: AtForm, va: u64, base: u64, ram: &[u8]) -> u64
+pub fn par_in(s: Bank, mair: u64, form: AtForm, va: u64, base: u64, ram: &[u8]) -> u64
     ensures { λ r. ⌜ r ≡ parIn s mair form va (wordAt base (now (ram .entry)) 8) ⌝ }
 {
     let regime = form.regime;

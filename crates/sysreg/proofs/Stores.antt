@@ -1,10 +1,9 @@
 -- One store into the registers is the write of one register.
 use mathlib.Core.Path.{_≡_, refl, ap}
 use mathlib.Core.List.{List, [], _∷_}
-use Prim.Native.Nat.{ℕ, _%_, _^_}
+use Prim.Native.Nat.{ℕ}
 use native.Mathlib.Omega.{arith}
 use lib.ListN.{length, set}
-use Rattle.word.specs.Bits.{alignDown}
 use Rattle.sysreg.specs.declared.regs.Control.{Control}
 use Rattle.sysreg.specs.declared.regs.SysRegs.{SysRegs}
 use Rattle.sysreg.specs.declared.regs.El.{El}
@@ -14,8 +13,7 @@ use Rattle.sysreg.specs.declared.regs.ControlReg.the-variants.{Sctlr, Tc
 use Rattle.sysreg.specs.declared.regs.SysReg.{SysReg}
 use Rattle.sysreg.specs.declared.regs.SysReg.the-variants.{Mair, Vbar, Elr, Spsr, Esr, Far, Vpidr, Vmpidr, Par}
 use Rattle.sysreg.specs.Regs.{levelOf}
-use Rattle.sysreg.specs.Write.{spsrKept, bank, controlWith, sysWith}
-use Rattle.sysreg.proofs.Masks.{spsr-mask, vbar-mask, low-mask}
+use Rattle.sysreg.specs.Write.{kept, bank, controlWith, sysWith}
 
 -- an array written out
 abbrev plain : List ℕ → List ℕ
@@ -138,54 +136,54 @@ module _ (s : SysRegs) (h0 : length (s .mair) ≡ 4) (h1 : length (s .vbar) ≡ 
       system (four (s .mair) h0 j) (four (s .vbar) h1 j) (four (s .elr) h2 j) (four (s .spsr) h3 j) (four (s .esr) h4 j) (four (s .far) h5 j)
       (s .«vpidr_el2») (s .«vmpidr_el2») (s .«par_el1»)
 
-  pub put-mair : (i : ℕ) (el : El) → r ≡ Mair el → i ≡ levelOf el → setMair s i v ≡ sysWith s r v
+  pub put-mair : (x : ℕ) → x ≡ kept r v → (i : ℕ) (el : El) → r ≡ Mair el → i ≡ levelOf el → setMair s i x ≡ sysWith s r v
   unfolding sysWith
-  put-mair i El1 e p = rw (e, p) (ap (λ (m : SysRegs). setMair m 1 v) fullSysRegs)
-  put-mair i El2 e p = rw (e, p) (ap (λ (m : SysRegs). setMair m 2 v) fullSysRegs)
-  put-mair i El3 e p = rw (e, p) (ap (λ (m : SysRegs). setMair m 3 v) fullSysRegs)
+  put-mair x q i El1 e p = rw (q, e, p) (ap (λ (m : SysRegs). setMair m 1 (kept (Mair El1) v)) fullSysRegs)
+  put-mair x q i El2 e p = rw (q, e, p) (ap (λ (m : SysRegs). setMair m 2 (kept (Mair El2) v)) fullSysRegs)
+  put-mair x q i El3 e p = rw (q, e, p) (ap (λ (m : SysRegs). setMair m 3 (kept (Mair El3) v)) fullSysRegs)
 
-  pub put-vbar : (x : ℕ) → x ≡ alignDown v 11 → (i : ℕ) (el : El) → r ≡ Vbar el → i ≡ levelOf el → setVbar s i x ≡ sysWith s r v
+  pub put-vbar : (x : ℕ) → x ≡ kept r v → (i : ℕ) (el : El) → r ≡ Vbar el → i ≡ levelOf el → setVbar s i x ≡ sysWith s r v
   unfolding sysWith
-  put-vbar x q i El1 e p = rw (e, p, q) (ap (λ (m : SysRegs). setVbar m 1 (alignDown v 11)) fullSysRegs)
-  put-vbar x q i El2 e p = rw (e, p, q) (ap (λ (m : SysRegs). setVbar m 2 (alignDown v 11)) fullSysRegs)
-  put-vbar x q i El3 e p = rw (e, p, q) (ap (λ (m : SysRegs). setVbar m 3 (alignDown v 11)) fullSysRegs)
+  put-vbar x q i El1 e p = rw (q, e, p) (ap (λ (m : SysRegs). setVbar m 1 (kept (Vbar El1) v)) fullSysRegs)
+  put-vbar x q i El2 e p = rw (q, e, p) (ap (λ (m : SysRegs). setVbar m 2 (kept (Vbar El2) v)) fullSysRegs)
+  put-vbar x q i El3 e p = rw (q, e, p) (ap (λ (m : SysRegs). setVbar m 3 (kept (Vbar El3) v)) fullSysRegs)
 
-  pub put-elr : (i : ℕ) (el : El) → r ≡ Elr el → i ≡ levelOf el → setElr s i v ≡ sysWith s r v
+  pub put-elr : (x : ℕ) → x ≡ kept r v → (i : ℕ) (el : El) → r ≡ Elr el → i ≡ levelOf el → setElr s i x ≡ sysWith s r v
   unfolding sysWith
-  put-elr i El1 e p = rw (e, p) (ap (λ (m : SysRegs). setElr m 1 v) fullSysRegs)
-  put-elr i El2 e p = rw (e, p) (ap (λ (m : SysRegs). setElr m 2 v) fullSysRegs)
-  put-elr i El3 e p = rw (e, p) (ap (λ (m : SysRegs). setElr m 3 v) fullSysRegs)
+  put-elr x q i El1 e p = rw (q, e, p) (ap (λ (m : SysRegs). setElr m 1 (kept (Elr El1) v)) fullSysRegs)
+  put-elr x q i El2 e p = rw (q, e, p) (ap (λ (m : SysRegs). setElr m 2 (kept (Elr El2) v)) fullSysRegs)
+  put-elr x q i El3 e p = rw (q, e, p) (ap (λ (m : SysRegs). setElr m 3 (kept (Elr El3) v)) fullSysRegs)
 
-  pub put-spsr : (x : ℕ) → x ≡ spsrKept v → (i : ℕ) (el : El) → r ≡ Spsr el → i ≡ levelOf el → setSpsr s i x ≡ sysWith s r v
+  pub put-spsr : (x : ℕ) → x ≡ kept r v → (i : ℕ) (el : El) → r ≡ Spsr el → i ≡ levelOf el → setSpsr s i x ≡ sysWith s r v
   unfolding sysWith
-  put-spsr x q i El1 e p = rw (e, p, q) (ap (λ (m : SysRegs). setSpsr m 1 (spsrKept v)) fullSysRegs)
-  put-spsr x q i El2 e p = rw (e, p, q) (ap (λ (m : SysRegs). setSpsr m 2 (spsrKept v)) fullSysRegs)
-  put-spsr x q i El3 e p = rw (e, p, q) (ap (λ (m : SysRegs). setSpsr m 3 (spsrKept v)) fullSysRegs)
+  put-spsr x q i El1 e p = rw (q, e, p) (ap (λ (m : SysRegs). setSpsr m 1 (kept (Spsr El1) v)) fullSysRegs)
+  put-spsr x q i El2 e p = rw (q, e, p) (ap (λ (m : SysRegs). setSpsr m 2 (kept (Spsr El2) v)) fullSysRegs)
+  put-spsr x q i El3 e p = rw (q, e, p) (ap (λ (m : SysRegs). setSpsr m 3 (kept (Spsr El3) v)) fullSysRegs)
 
-  pub put-esr : (x : ℕ) → x ≡ v % 2 ^ 32 → (i : ℕ) (el : El) → r ≡ Esr el → i ≡ levelOf el → setEsr s i x ≡ sysWith s r v
+  pub put-esr : (x : ℕ) → x ≡ kept r v → (i : ℕ) (el : El) → r ≡ Esr el → i ≡ levelOf el → setEsr s i x ≡ sysWith s r v
   unfolding sysWith
-  put-esr x q i El1 e p = rw (e, p, q) (ap (λ (m : SysRegs). setEsr m 1 (v % 2 ^ 32)) fullSysRegs)
-  put-esr x q i El2 e p = rw (e, p, q) (ap (λ (m : SysRegs). setEsr m 2 (v % 2 ^ 32)) fullSysRegs)
-  put-esr x q i El3 e p = rw (e, p, q) (ap (λ (m : SysRegs). setEsr m 3 (v % 2 ^ 32)) fullSysRegs)
+  put-esr x q i El1 e p = rw (q, e, p) (ap (λ (m : SysRegs). setEsr m 1 (kept (Esr El1) v)) fullSysRegs)
+  put-esr x q i El2 e p = rw (q, e, p) (ap (λ (m : SysRegs). setEsr m 2 (kept (Esr El2) v)) fullSysRegs)
+  put-esr x q i El3 e p = rw (q, e, p) (ap (λ (m : SysRegs). setEsr m 3 (kept (Esr El3) v)) fullSysRegs)
 
-  pub put-far : (i : ℕ) (el : El) → r ≡ Far el → i ≡ levelOf el → setFar s i v ≡ sysWith s r v
+  pub put-far : (x : ℕ) → x ≡ kept r v → (i : ℕ) (el : El) → r ≡ Far el → i ≡ levelOf el → setFar s i x ≡ sysWith s r v
   unfolding sysWith
-  put-far i El1 e p = rw (e, p) (ap (λ (m : SysRegs). setFar m 1 v) fullSysRegs)
-  put-far i El2 e p = rw (e, p) (ap (λ (m : SysRegs). setFar m 2 v) fullSysRegs)
-  put-far i El3 e p = rw (e, p) (ap (λ (m : SysRegs). setFar m 3 v) fullSysRegs)
+  put-far x q i El1 e p = rw (q, e, p) (ap (λ (m : SysRegs). setFar m 1 (kept (Far El1) v)) fullSysRegs)
+  put-far x q i El2 e p = rw (q, e, p) (ap (λ (m : SysRegs). setFar m 2 (kept (Far El2) v)) fullSysRegs)
+  put-far x q i El3 e p = rw (q, e, p) (ap (λ (m : SysRegs). setFar m 3 (kept (Far El3) v)) fullSysRegs)
 
-  pub put-vpidr : (x : ℕ) → x ≡ v % 2 ^ 32 → r ≡ Vpidr → setVpidr s x ≡ sysWith s r v
+  pub put-vpidr : (x : ℕ) → x ≡ kept r v → r ≡ Vpidr → setVpidr s x ≡ sysWith s r v
   unfolding sysWith
-  put-vpidr x q e = rw (e, q) (ap (λ (m : SysRegs). setVpidr m (v % 2 ^ 32)) fullSysRegs)
+  put-vpidr x q e = rw (q, e) (ap (λ (m : SysRegs). setVpidr m (kept Vpidr v)) fullSysRegs)
 
-  pub put-vmpidr : r ≡ Vmpidr → setVmpidr s v ≡ sysWith s r v
+  pub put-vmpidr : (x : ℕ) → x ≡ kept r v → r ≡ Vmpidr → setVmpidr s x ≡ sysWith s r v
   unfolding sysWith
-  put-vmpidr e = rw e (ap (λ (m : SysRegs). setVmpidr m v) fullSysRegs)
+  put-vmpidr x q e = rw (q, e) (ap (λ (m : SysRegs). setVmpidr m (kept Vmpidr v)) fullSysRegs)
 
-  pub put-par : r ≡ Par → setPar s v ≡ sysWith s r v
+  pub put-par : (x : ℕ) → x ≡ kept r v → r ≡ Par → setPar s x ≡ sysWith s r v
   unfolding sysWith
-  put-par e = rw e (ap (λ (m : SysRegs). setPar m v) fullSysRegs)
+  put-par x q e = rw (q, e) (ap (λ (m : SysRegs). setPar m (kept Par v)) fullSysRegs)
 
 pub ruleset control-stores = (put-sctlr, put-tcr, put-ttbr0, put-ttbr1, put-scr, put-hcr)
 
-pub ruleset sys-stores = (put-mair, put-vbar, put-elr, put-spsr, put-esr, put-far, put-vpidr, put-vmpidr, put-par, spsr-mask, vbar-mask, low-mask)
+pub ruleset sys-stores = (put-mair, put-vbar, put-elr, put-spsr, put-esr, put-far, put-vpidr, put-vmpidr, put-par)

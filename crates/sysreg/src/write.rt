@@ -1,6 +1,6 @@
 // MSR to the registers kept.
 ghost use mathlib.Core.Path.{_≡_};
-ghost use Rattle.sysreg.specs.Write.{controlWith, sysWith, wrote, writeReg, replyOf, replyTo};
+ghost use Rattle.sysreg.specs.Write.{kept as keptOf, controlWith, sysWith, wrote, writeReg, replyOf, replyTo};
 use crate::encoding::Found;
 use crate::encoding::named;
 use crate::regs::Control;
@@ -51,38 +51,55 @@ fn put_control(control: Control, register: ControlReg, value: u64) -> Control
 }
 
 // VBAR, SPSR, ESR and VPIDR_EL2 keep only the bits that are not RES0.
+pub fn kept_bits(register: SysReg, value: u64) -> u64
+    ensures { λ r. ⌜ r ≡ keptOf register value ⌝ }
+{
+    match register {
+        SysReg::Vbar(el) => value & !0x7FF,
+        SysReg::Spsr(el) => value & 0xF03F_03DF,
+        SysReg::Esr(el) => value & 0xFFFF_FFFF,
+        SysReg::Vpidr => value & 0xFFFF_FFFF,
+        SysReg::Mair(el) => value,
+        SysReg::Elr(el) => value,
+        SysReg::Far(el) => value,
+        SysReg::Vmpidr => value,
+        SysReg::Par => value,
+    }
+}
+
 fn put_sys(sys: SysRegs, register: SysReg, value: u64) -> SysRegs
     ensures { λ r. ⌜ r ≡ sysWith sys register value ⌝ }
 {
+    let kept = kept_bits(register, value);
     let mut out = sys;
     match register {
         SysReg::Mair(el) => {
             let i = index(el);
-            out.mair[i] = value;
+            out.mair[i] = kept;
         }
         SysReg::Vbar(el) => {
             let i = index(el);
-            out.vbar[i] = value & !0x7FF;
+            out.vbar[i] = kept;
         }
         SysReg::Elr(el) => {
             let i = index(el);
-            out.elr[i] = value;
+            out.elr[i] = kept;
         }
         SysReg::Spsr(el) => {
             let i = index(el);
-            out.spsr[i] = value & 0xF03F_03DF;
+            out.spsr[i] = kept;
         }
         SysReg::Esr(el) => {
             let i = index(el);
-            out.esr[i] = value & 0xFFFF_FFFF;
+            out.esr[i] = kept;
         }
         SysReg::Far(el) => {
             let i = index(el);
-            out.far[i] = value;
+            out.far[i] = kept;
         }
-        SysReg::Vpidr => out.vpidr_el2 = value & 0xFFFF_FFFF,
-        SysReg::Vmpidr => out.vmpidr_el2 = value,
-        SysReg::Par => out.par_el1 = value,
+        SysReg::Vpidr => out.vpidr_el2 = kept,
+        SysReg::Vmpidr => out.vmpidr_el2 = kept,
+        SysReg::Par => out.par_el1 = kept,
     }
     out
 }

@@ -176,7 +176,7 @@ fn same_inval(a: Inval, b: Inval) -> bool
     }
 }
 
-fn pending_after(pending: Pending, what: Inval) -> Pending
+pub fn pending_after(pending: Pending, what: Inval) -> Pending
     ensures { λ r. ⌜ r ≡ pendingAfter pending what ⌝ }
 {
     match pending {

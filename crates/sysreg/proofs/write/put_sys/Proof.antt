@@ -4,6 +4,9 @@ use borrow.Author.Needs.{needs}
 use Rattle.sysreg.proofs.write.put_sys.Statement.{statement}
 use Rattle.sysreg.proofs.write.put_sys.Tie as tie
 
+kept-bits-requires : tie.Need-kept-bits-requires
+kept-bits-requires c κs = search needs
+
 enum-known-register : tie.Need-enum-known-register
 enum-known-register c = search needs
 
@@ -116,6 +119,7 @@ pub put-sys-spec : {M : Type 1} → statement M
 put-sys-spec =
     tie.close
     (tie.spec
+    kept-bits-requires
     enum-known-register
     index-requires
     mul-out

@@ -1,0 +1,17 @@
+-- `inplace::translate::answer_of` meets its contract.
+use Rattle.inplace.proofs.Looking.{answer-zero, answer-other}
+use borrow.Author.Needs.{needs}
+use Rattle.inplace.proofs.translate.answer_of.Statement.{statement}
+use Rattle.inplace.proofs.translate.answer_of.Tie as tie
+
+cast-t6 : tie.Need-cast-t6
+cast-t6 c = search needs
+
+returns : tie.Need-returns
+returns c = search (answer-zero, needs)
+
+returns-2 : tie.Need-returns-2
+returns-2 c = search (answer-other, needs)
+
+pub answer-of-spec : {M : Type 1} → statement M
+answer-of-spec = tie.close (tie.spec cast-t6 returns returns-2)

@@ -1,0 +1,46 @@
+-- `inplace::translate::find` meets its contract.
+use Rattle.inplace.proofs.Looking.{on-code, on-value, on-core, off-code, off-value, off-core}
+use borrow.Author.Needs.{needs}
+use Rattle.inplace.proofs.translate.find.Statement.{statement}
+use Rattle.inplace.proofs.translate.find.Tie as tie
+
+who-at-requires : tie.Need-who-at-requires
+who-at-requires c κs = search needs
+
+regime-of-requires : tie.Need-regime-of-requires
+regime-of-requires c κs = search needs
+
+bank-at-requires : tie.Need-bank-at-requires
+bank-at-requires c κs = search needs
+
+stage1-on-requires : tie.Need-stage1-on-requires
+stage1-on-requires c κs = search needs
+
+untag-requires : tie.Need-untag-requires
+untag-requires c κs = search needs
+
+look-requires : tie.Need-look-requires
+look-requires c κs = search needs
+
+note-requires : tie.Need-note-requires
+note-requires c κs = search needs
+
+returns : tie.Need-returns
+returns c = (search needs, (search (on-code, needs), (search (on-value, needs), search (on-core, needs))))
+
+returns-2 : tie.Need-returns-2
+returns-2 c = (search needs, (search (off-code, needs), (search (off-value, needs), search (off-core, needs))))
+
+pub find-spec : {M : Type 1} → statement M
+find-spec =
+    tie.close
+    (tie.spec
+    who-at-requires
+    regime-of-requires
+    bank-at-requires
+    stage1-on-requires
+    untag-requires
+    look-requires
+    note-requires
+    returns
+    returns-2)

@@ -1,0 +1,153 @@
+// Loads, stores and fetches in place, by the book.
+ghost use mathlib.Core.Path.{_≡_};
+ghost use Rattle.word.specs.Ram.{wordAt, bytesIn};
+ghost use Rattle.walk.specs.Regime.{regimeOf, stage1On};
+ghost use Rattle.mmu.specs.Core.{bankNow};
+ghost use Rattle.mmu.specs.Ends.{loadEnd, storeEnd, storeRamEnd, fetchEnd};
+ghost use Rattle.mmu.specs.Ops.{translateAccessOf, readOf, writeOf, ramAfterWrite, fetchOf, fetchPaOf, dataPaOf};
+ghost use Rattle.words.specs.Held.{held};
+ghost use Rattle.words.specs.Moved.{Moved};
+ghost use Rattle.inplace.specs.Accessed.{keptLast, keptAbort};
+use crate::translate;
+use mmu::ends;
+use mmu::ends::FetchAnswer;
+use mmu::ends::LoadAnswer;
+use mmu::ends::Reached;
+use mmu::ends::StoreAnswer;
+use mmu::place;
+use mmu::place::Placed;
+use tlb::access::Kind;
+use walk::regime;
+use word::ram;
+use word::ram::Width;
+use words::regs;
+use words::state;
+
+// Whether stage 1 is on at the level.
+fn on_at(state: &[u64; 5205]) -> bool
+    ensures { λ r. ⌜ r ≡ stage1On (bankNow (held (now (state .entry)))) (regimeOf ((held (now (state .entry))) .who .level)) ⌝ }
+{
+    let who = state::who_at(state);
+    let r = regime::regime_of(who.level);
+    let s = regs::bank_at(state, r);
+    regime::stage1_on(s, r)
+}
+
+// Both pages of an access, before a byte moves. The first one's effects remain where the second faults.
+fn locate(state: &mut [u64; 5205], va: u64, n: u64, kind: Kind, base: u64, ram: &[u8]) -> Placed
+    ensures { λ r. ⌜ r ≡ translateAccessOf (held (now (state .entry))) (wordAt base (now (ram .entry)) 8) va n kind .placed ⌝ }
+    ensures { λ _. ⌜ Moved (now (state .entry)) (now (state .exit)) (translateAccessOf (held (now (state .entry))) (wordAt base (now (ram .entry)) 8) va n kind .core) ⌝ }
+{
+    let on = on_at(state);
+    let split = place::crosses(on, va, n);
+    let first = translate::translate(state, va, kind, base, ram);
+    let more = place::goes_on(first, split);
+    if more {
+        let next = place::next_page(va);
+        let second = translate::translate(state, next, kind, base, ram);
+        place::both(va, first, second)
+    } else {
+        place::one(va, first)
+    }
+}
+
+// The bytes of a load that was placed.
+fn load_placed(
+    state: &mut [u64; 5205],
+    placed: Placed,
+    va: u64,
+    width: Width,
+    base: u64,
+    ram: &[u8],
+) -> LoadAnswer
+    ensures { λ r. ⌜ r ≡ loadEnd placed ((held (now (state .entry))) .«last_pa») ((held (now (state .entry))) .«abort_pa») base (now (ram .entry)) va (bytesIn width) .answer ⌝ }
+    ensures { λ _. ⌜ Moved (now (state .entry)) (now (state .exit)) (keptLast (held (now (state .entry))) (loadEnd placed ((held (now (state .entry))) .«last_pa») ((held (now (state .entry))) .«abort_pa») base (now (ram .entry)) va (bytesIn width))) ⌝ }
+{
+    let last = state::last_at(state);
+    let abort = state::abort_at(state);
+    let end = ends::load_end(placed, last, abort, base, ram, va, width);
+    let answer = end.answer;
+    state::put_last(state, end.last_pa);
+    state::put_abort(state, end.abort_pa);
+    answer
+}
+
+// A load.
+pub fn load(state: &mut [u64; 5205], va: u64, width: Width, base: u64, ram: &[u8]) -> LoadAnswer
+    ensures { λ r. ⌜ r ≡ readOf (held (now (state .entry))) base (now (ram .entry)) va (bytesIn width) .answer ⌝ }
+    ensures { λ _. ⌜ Moved (now (state .entry)) (now (state .exit)) (readOf (held (now (state .entry))) base (now (ram .entry)) va (bytesIn width) .core) ⌝ }
+{
+    let n = ram::bytes_in(width);
+    let placed = locate(state, va, n, Kind::Read, base, ram);
+    load_placed(state, placed, va, width, base, ram)
+}
+
+// The bytes of a store that was placed.
+fn store_placed(
+    state: &mut [u64; 5205],
+    placed: Placed,
+    va: u64,
+    width: Width,
+    value: u64,
+    base: u64,
+    ram: &mut [u8],
+) -> StoreAnswer
+    ensures { λ r. ⌜ r ≡ storeEnd placed ((held (now (state .entry))) .«abort_pa») base (now (ram .entry)) va (bytesIn width) .answer ⌝ }
+    ensures { λ _. ⌜ now (ram .exit) ≡ storeRamEnd placed base (now (ram .entry)) (bytesIn width) value ⌝ }
+    ensures { λ _. ⌜ Moved (now (state .entry)) (now (state .exit)) (keptAbort (held (now (state .entry))) (storeEnd placed ((held (now (state .entry))) .«abort_pa») base (now (ram .entry)) va (bytesIn width) .«abort_pa»)) ⌝ }
+{
+    let abort = state::abort_at(state);
+    let end = ends::store_end(placed, abort, base, ram, va, width, value);
+    let answer = end.answer;
+    state::put_abort(state, end.abort_pa);
+    answer
+}
+
+// A store of the low bytes of a value.
+pub fn store(
+    state: &mut [u64; 5205],
+    va: u64,
+    width: Width,
+    value: u64,
+    base: u64,
+    ram: &mut [u8],
+) -> StoreAnswer
+    ensures { λ r. ⌜ r ≡ writeOf (held (now (state .entry))) base (now (ram .entry)) va (bytesIn width) .answer ⌝ }
+    ensures { λ _. ⌜ now (ram .exit) ≡ ramAfterWrite (held (now (state .entry))) base (now (ram .entry)) va (bytesIn width) value ⌝ }
+    ensures { λ _. ⌜ Moved (now (state .entry)) (now (state .exit)) (writeOf (held (now (state .entry))) base (now (ram .entry)) va (bytesIn width) .core) ⌝ }
+{
+    let n = ram::bytes_in(width);
+    let placed = locate(state, va, n, Kind::Write, base, ram);
+    store_placed(state, placed, va, width, value, base, ram)
+}
+
+// An instruction, by the fetch hint first.
+pub fn fetch(state: &mut [u64; 5205], va: u64, base: u64, ram: &[u8]) -> FetchAnswer
+    ensures { λ r. ⌜ r ≡ fetchOf (held (now (state .entry))) base (now (ram .entry)) va .answer ⌝ }
+    ensures { λ _. ⌜ Moved (now (state .entry)) (now (state .exit)) (fetchOf (held (now (state .entry))) base (now (ram .entry)) va .core) ⌝ }
+{
+    let at = translate::fetch_translate(state, va, base, ram);
+    let abort = state::abort_at(state);
+    let end = ends::fetch_end(at, abort, base, ram, va);
+    let answer = end.answer;
+    state::put_abort(state, end.abort_pa);
+    answer
+}
+
+// Where a data read of va goes.
+pub fn data_pa(state: &mut [u64; 5205], va: u64, base: u64, ram: &[u8]) -> Reached
+    ensures { λ r. ⌜ r ≡ dataPaOf (held (now (state .entry))) (wordAt base (now (ram .entry)) 8) va .answer ⌝ }
+    ensures { λ _. ⌜ Moved (now (state .entry)) (now (state .exit)) (dataPaOf (held (now (state .entry))) (wordAt base (now (ram .entry)) 8) va .core) ⌝ }
+{
+    let at = translate::translate(state, va, Kind::Read, base, ram);
+    ends::reach(at)
+}
+
+// Where a fetch of va goes, by the same hint.
+pub fn fetch_pa(state: &mut [u64; 5205], va: u64, base: u64, ram: &[u8]) -> Reached
+    ensures { λ r. ⌜ r ≡ fetchPaOf (held (now (state .entry))) (wordAt base (now (ram .entry)) 8) va .answer ⌝ }
+    ensures { λ _. ⌜ Moved (now (state .entry)) (now (state .exit)) (fetchPaOf (held (now (state .entry))) (wordAt base (now (ram .entry)) 8) va .core) ⌝ }
+{
+    let at = translate::fetch_translate(state, va, base, ram);
+    ends::reach(at)
+}

@@ -1,0 +1,3 @@
+// The core's operations on memory, in place on words.
+pub mod access;
+pub mod translate;

@@ -1,0 +1,171 @@
+-- What is read of the words, as the parts of the core that they hold.
+use mathlib.Core.Path.{_≡_, refl, sym, ap, _∙_}
+use mathlib.Core.Bool.{Bool, true, false}
+use mathlib.Core.List.{List}
+use Prim.Native.Nat.{ℕ, _+_, _*_, _%_, _^_, _≤_, _<_}
+use borrow.Author.Tests.{lt-ltb, le-ltb, eq-eqb, ne-eqb}
+use lib.Dec.{eqb, ltb}
+use lib.ListN.{getD, length}
+use Rattle.word.specs.Bits.{pick}
+use Rattle.sysreg.specs.Regs.{levelOf, controlAt, sysAt}
+use Rattle.sysreg.specs.declared.regs.El.{El}
+use Rattle.sysreg.specs.declared.regs.El.the-variants.{El1, El2, El3}
+use Rattle.sysreg.specs.declared.regs.ControlReg.{ControlReg}
+use Rattle.sysreg.specs.declared.regs.ControlReg.the-variants.{Sctlr, Tcr, Ttbr0, Ttbr1, Scr, Hcr}
+use Rattle.sysreg.specs.declared.regs.SysReg.{SysReg}
+use Rattle.sysreg.specs.declared.regs.SysReg.the-variants.{Mair, Vbar, Elr, Spsr, Esr, Far, Vpidr, Vmpidr, Par}
+use Rattle.walk.specs.Regime as regime
+use Rattle.walk.specs.Regime.{bankOf}
+use Rattle.walk.specs.declared.regime.Regime.{Regime}
+use Rattle.walk.specs.declared.regime.Regime.the-variants as Regime
+use Rattle.walk.specs.declared.regime.Bank.{Bank}
+use Rattle.tlb.specs.Cache.{hintAt, entryAt}
+use Rattle.tlb.specs.Hint.{noHint}
+use Rattle.tlb.specs.Entry.{blank}
+use Rattle.tlb.specs.declared.access.Who.{Who}
+use Rattle.tlb.specs.declared.entry.Entry.{Entry}
+use Rattle.tlb.specs.declared.hint.Hint.{Hint}
+use Rattle.tlb.specs.declared.Inval.the-variants.{All, Page, Asid}
+use Rattle.tlb.specs.declared.Pending.{Pending}
+use Rattle.tlb.specs.declared.Pending.the-variants.{Nothing, Some}
+use Rattle.mmu.specs.Core.{regOf}
+use Rattle.words.specs.Tables.{table, table-at, table-past}
+use Rattle.words.specs.Held.{word, levelIn, pendingOf, hintIn, entryIn, heldOn, heldBy, held}
+use Rattle.words.specs.RegWrites.{bankIndex, controlPlace, sysPlace}
+
+abbrev whoBy : ℕ → Bool → Who
+whoBy level mark = record { level = level; mark = mark }
+
+pub who-read : (ws : List ℕ) (l : ℕ) → l ≡ levelIn (word ws 68) → whoBy l (eqb (word ws 69) 1) ≡ held ws .who
+unfolding held heldBy heldOn
+who-read ws l e = ap (λ (n : ℕ). whoBy n (eqb (word ws 69) 1)) e
+
+-- general registers
+pub general-read : (ws : List ℕ) (n : ℕ) → n < 31 → word ws (37 + n) ≡ regOf (held ws) n
+unfolding held heldBy heldOn regOf
+general-read ws n h = sym (rw (lt-ltb n 31 h) (table-at 31 (λ k. word ws (37 + k)) n 0 h))
+
+pub general-zero : (ws : List ℕ) (n : ℕ) → 31 ≤ n → 0 ≡ regOf (held ws) n
+unfolding regOf
+general-zero ws n h = sym (rw (le-ltb n 31 h))
+
+-- hints and entries
+pub hint-read : (ws : List ℕ) (i : ℕ) → i < 512 → hintIn (word ws) i ≡ hintAt (held ws .tlb .cache) i
+unfolding held heldBy heldOn
+hint-read ws i h = sym (table-at 512 (hintIn (word ws)) i noHint h)
+
+pub hint-past : (ws : List ℕ) (i : ℕ) (h : Hint) → h ≡ noHint → 512 ≤ i → h ≡ hintAt (held ws .tlb .cache) i
+unfolding held heldBy heldOn
+hint-past ws i h e g = e ∙ sym (table-past 512 (hintIn (word ws)) i noHint g)
+
+pub entry-read : (ws : List ℕ) (j : ℕ) → j < 1024 → entryIn (word ws) j ≡ entryAt (held ws .tlb .cache) j
+unfolding held heldBy heldOn
+entry-read ws j h = sym (table-at 1024 (entryIn (word ws)) j blank h)
+
+pub entry-past : (ws : List ℕ) (j : ℕ) (e : Entry) → e ≡ blank → 1024 ≤ j → e ≡ entryAt (held ws .tlb .cache) j
+unfolding held heldBy heldOn
+entry-past ws j e q g = q ∙ sym (table-past 1024 (entryIn (word ws)) j blank g)
+
+-- what is pending
+module _ (ws : List ℕ) where
+  pub pending-all : word ws 75 ≡ 1 → Some All ≡ held ws .tlb .broadcast
+  unfolding held heldBy heldOn
+  pending-all e = sym (ap (λ (n : ℕ). pendingOf n (word ws 76)) e)
+
+  pub pending-page : word ws 75 ≡ 2 → Some (Page (word ws 76)) ≡ held ws .tlb .broadcast
+  unfolding held heldBy heldOn
+  pending-page e = sym (ap (λ (n : ℕ). pendingOf n (word ws 76)) e)
+
+  pub pending-asid : word ws 75 ≡ 3 → Some (Asid (word ws 76 % 2 ^ 16)) ≡ held ws .tlb .broadcast
+  unfolding held heldBy heldOn
+  pending-asid e = sym (ap (λ (n : ℕ). pendingOf n (word ws 76)) e)
+
+  pub pending-none : (word ws 75 ≡ 1 → ⊥) → (word ws 75 ≡ 2 → ⊥) → (word ws 75 ≡ 3 → ⊥) → Nothing ≡ held ws .tlb .broadcast
+  unfolding held heldBy heldOn
+  pending-none a b d = sym (rw (ne-eqb _ 1 a, ne-eqb _ 2 b, ne-eqb _ 3 d))
+
+-- registers
+abbrev bankBy : (ℕ → ℕ) → ℕ → Bank
+bankBy w b =
+    record {
+      sctlr = w b;
+      tcr = w (3 + b);
+      ttbr0 = w (6 + b);
+      «ttbr1_el1» = w 9;
+      «scr_el3» = w 28;
+      «hcr_el2» = w 29;
+    }
+
+pub bank-read : (ws : List ℕ) (r : Regime) (b : ℕ) → b ≡ bankIndex r → bankBy (word ws) b ≡ bankOf (held ws .control) r
+unfolding held heldBy heldOn
+bank-read ws Regime.El1 b e = ap (bankBy (word ws)) e
+bank-read ws Regime.El2 b e = ap (bankBy (word ws)) e
+bank-read ws Regime.El3 b e = ap (bankBy (word ws)) e
+
+pub mair-read : (ws : List ℕ) (r : Regime) (b : ℕ) → b ≡ bankIndex r → word ws (10 + b) ≡ sysAt (held ws .sys) (Mair (regime.levelOf r))
+unfolding held heldBy heldOn
+mair-read ws Regime.El1 b e = ap (λ (n : ℕ). word ws (10 + n)) e
+mair-read ws Regime.El2 b e = ap (λ (n : ℕ). word ws (10 + n)) e
+mair-read ws Regime.El3 b e = ap (λ (n : ℕ). word ws (10 + n)) e
+
+pub vbar-read : (ws : List ℕ) (el : El) (i : ℕ) → i ≡ levelOf el → word ws (12 + i) ≡ sysAt (held ws .sys) (Vbar el)
+unfolding held heldBy heldOn
+vbar-read ws El1 i e = ap (λ (n : ℕ). word ws (12 + n)) e
+vbar-read ws El2 i e = ap (λ (n : ℕ). word ws (12 + n)) e
+vbar-read ws El3 i e = ap (λ (n : ℕ). word ws (12 + n)) e
+
+control-is : (ws : List ℕ) (r : ControlReg) → word ws (controlPlace r) ≡ controlAt (held ws .control) r
+unfolding held heldBy heldOn
+control-is ws (Sctlr El1) = refl
+control-is ws (Sctlr El2) = refl
+control-is ws (Sctlr El3) = refl
+control-is ws (Tcr El1) = refl
+control-is ws (Tcr El2) = refl
+control-is ws (Tcr El3) = refl
+control-is ws (Ttbr0 El1) = refl
+control-is ws (Ttbr0 El2) = refl
+control-is ws (Ttbr0 El3) = refl
+control-is ws Ttbr1 = refl
+control-is ws Scr = refl
+control-is ws Hcr = refl
+
+pub control-read : (ws : List ℕ) (r : ControlReg) (k : ℕ) → k ≡ controlPlace r → word ws k ≡ controlAt (held ws .control) r
+control-read ws r k e = ap (word ws) e ∙ control-is ws r
+
+-- places
+pub sctlr-of-1 : (el : El) → el ≡ El1 → 0 ≡ controlPlace (Sctlr el)
+sctlr-of-1 el e = rw e
+
+pub sctlr-of-2 : (el : El) → el ≡ El2 → 1 ≡ controlPlace (Sctlr el)
+sctlr-of-2 el e = rw e
+
+pub sctlr-of-3 : (el : El) → el ≡ El3 → 2 ≡ controlPlace (Sctlr el)
+sctlr-of-3 el e = rw e
+
+pub sctlr-at : (r : ControlReg) (k : ℕ) (el : El) → r ≡ Sctlr el → k ≡ controlPlace (Sctlr el) → k ≡ controlPlace r
+sctlr-at r k el e p = rw e p
+
+pub tcr-at : (r : ControlReg) (i : ℕ) (el : El) → r ≡ Tcr el → i ≡ levelOf el → 2 + i ≡ controlPlace r
+tcr-at r i el e p = rw (e, p)
+
+pub ttbr0-at : (r : ControlReg) (i : ℕ) (el : El) → r ≡ Ttbr0 el → i ≡ levelOf el → 5 + i ≡ controlPlace r
+ttbr0-at r i el e p = rw (e, p)
+
+module _ (r : SysReg) (i : ℕ) (el : El) where
+  pub mair-at : r ≡ Mair el → i ≡ levelOf el → 9 + i ≡ sysPlace r
+  mair-at e p = rw (e, p)
+
+  pub vbar-at : r ≡ Vbar el → i ≡ levelOf el → 12 + i ≡ sysPlace r
+  vbar-at e p = rw (e, p)
+
+  pub elr-at : r ≡ Elr el → i ≡ levelOf el → 15 + i ≡ sysPlace r
+  elr-at e p = rw (e, p)
+
+  pub spsr-at : r ≡ Spsr el → i ≡ levelOf el → 18 + i ≡ sysPlace r
+  spsr-at e p = rw (e, p)
+
+  pub esr-at : r ≡ Esr el → i ≡ levelOf el → 21 + i ≡ sysPlace r
+  esr-at e p = rw (e, p)
+
+  pub far-at : r ≡ Far el → i ≡ levelOf el → 24 + i ≡ sysPlace r
+  far-at e p = rw (e, p)

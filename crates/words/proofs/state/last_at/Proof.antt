@@ -1,0 +1,15 @@
+-- `words::state::last_at` meets its contract.
+use Rattle.words.specs.Held.{heldOn, heldBy, held}
+use borrow.Author.Needs.{needs}
+use Rattle.words.proofs.state.last_at.Statement.{statement}
+use Rattle.words.proofs.state.last_at.Tie as tie
+
+element-copy-out-result : tie.Need-element-copy-out-result
+element-copy-out-result c = search needs
+
+returns : tie.Need-returns
+unfolding held heldBy heldOn
+returns c = search needs
+
+pub last-at-spec : {M : Type 1} → statement M
+last-at-spec = tie.close (tie.spec element-copy-out-result returns)

@@ -1,0 +1,11 @@
+pub mod Tables
+pub mod Held
+pub mod Parts
+pub mod Moved
+pub mod Sweeps
+pub mod Puts
+pub mod Writes
+pub mod CellWrites
+pub mod EntryWrites
+pub mod RegWrites
+pub mod Moves

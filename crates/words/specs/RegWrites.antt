@@ -1,0 +1,114 @@
+-- What the words hold after a system register is written, and what they say of one.
+use mathlib.Core.Path.{_≡_, refl, sym, ap, _∙_}
+use mathlib.Core.Bool.{Bool, true, false}
+use mathlib.Core.List.{List}
+use Prim.Native.Nat.{ℕ, _+_, _-_, _≤_, _<_}
+use native.Mathlib.Omega.{arith}
+use borrow.Author.Tests.{ltb-true}
+use lib.Dec.{ltb}
+use lib.ListN.{set, length, length-set}
+use Rattle.word.specs.Bits.{pick}
+use Rattle.sysreg.specs.Regs.{levelOf, controlAt, sysAt}
+use Rattle.sysreg.specs.Write.{kept, controlWith, sysWith}
+use Rattle.sysreg.specs.declared.regs.El.{El}
+use Rattle.sysreg.specs.declared.regs.El.the-variants.{El1, El2, El3}
+use Rattle.sysreg.specs.declared.regs.ControlReg.{ControlReg}
+use Rattle.sysreg.specs.declared.regs.ControlReg.the-variants.{Sctlr, Tcr, Ttbr0, Ttbr1, Scr, Hcr}
+use Rattle.sysreg.specs.declared.regs.SysReg.{SysReg}
+use Rattle.sysreg.specs.declared.regs.SysReg.the-variants.{Mair, Vbar, Elr, Spsr, Esr, Far, Vpidr, Vmpidr, Par}
+use Rattle.entry.specs.Entry.{enteredSys}
+use Rattle.entry.specs.declared.report.Report.{Report}
+use Rattle.walk.specs.declared.regime.Regime.{Regime}
+use Rattle.walk.specs.declared.regime.Regime.the-variants as Regime
+use Rattle.words.specs.Held.{word, heldOn, heldBy, held}
+use Rattle.words.specs.Parts.{withControl, withSys}
+use Rattle.words.specs.Writes.{Small, set-one, set-three, set-four}
+
+-- a regime's place among its level's registers
+abbrev pub bankIndex : Regime → ℕ
+bankIndex Regime.El1 = 0
+bankIndex Regime.El2 = 1
+bankIndex Regime.El3 = 2
+
+-- where each register stands
+abbrev pub controlPlace : ControlReg → ℕ
+controlPlace (Sctlr el) = levelOf el - 1
+controlPlace (Tcr el) = 2 + levelOf el
+controlPlace (Ttbr0 el) = 5 + levelOf el
+controlPlace Ttbr1 = 9
+controlPlace Scr = 28
+controlPlace Hcr = 29
+
+abbrev pub sysPlace : SysReg → ℕ
+sysPlace (Mair el) = 9 + levelOf el
+sysPlace (Vbar el) = 12 + levelOf el
+sysPlace (Elr el) = 15 + levelOf el
+sysPlace (Spsr el) = 18 + levelOf el
+sysPlace (Esr el) = 21 + levelOf el
+sysPlace (Far el) = 24 + levelOf el
+sysPlace Vpidr = 30
+sysPlace Vmpidr = 31
+sysPlace Par = 32
+
+-- at a literal place
+at-place : (k : ℕ) → ltb k 37 ≡ true → Small k
+at-place k e = let h : k < 37 = ltb-true k 37 e in record { low = omega arith; apart = λ m a b q. omega arith }
+
+module _ (ws : List ℕ) (L : length ws ≡ 5205) where
+  pub control-held : (r : ControlReg) (v : ℕ) → held (set ws (controlPlace r) v) ≡ withControl (held ws) (controlWith (held ws .control) r v)
+  unfolding held heldBy heldOn withControl controlWith
+  control-held (Sctlr El1) v = set-one ws L 0 v (at-place 0 refl)
+  control-held (Sctlr El2) v = set-one ws L 1 v (at-place 1 refl)
+  control-held (Sctlr El3) v = set-one ws L 2 v (at-place 2 refl)
+  control-held (Tcr El1) v = set-one ws L 3 v (at-place 3 refl)
+  control-held (Tcr El2) v = set-one ws L 4 v (at-place 4 refl)
+  control-held (Tcr El3) v = set-one ws L 5 v (at-place 5 refl)
+  control-held (Ttbr0 El1) v = set-one ws L 6 v (at-place 6 refl)
+  control-held (Ttbr0 El2) v = set-one ws L 7 v (at-place 7 refl)
+  control-held (Ttbr0 El3) v = set-one ws L 8 v (at-place 8 refl)
+  control-held Ttbr1 v = set-one ws L 9 v (at-place 9 refl)
+  control-held Scr v = set-one ws L 28 v (at-place 28 refl)
+  control-held Hcr v = set-one ws L 29 v (at-place 29 refl)
+
+  pub sys-held : (r : SysReg) (v : ℕ) → held (set ws (sysPlace r) (kept r v)) ≡ withSys (held ws) (sysWith (held ws .sys) r v)
+  unfolding held heldBy heldOn withSys sysWith
+  sys-held (Mair El1) v = set-one ws L 10 (kept (Mair El1) v) (at-place 10 refl)
+  sys-held (Mair El2) v = set-one ws L 11 (kept (Mair El2) v) (at-place 11 refl)
+  sys-held (Mair El3) v = set-one ws L 12 (kept (Mair El3) v) (at-place 12 refl)
+  sys-held (Vbar El1) v = set-one ws L 13 (kept (Vbar El1) v) (at-place 13 refl)
+  sys-held (Vbar El2) v = set-one ws L 14 (kept (Vbar El2) v) (at-place 14 refl)
+  sys-held (Vbar El3) v = set-one ws L 15 (kept (Vbar El3) v) (at-place 15 refl)
+  sys-held (Elr El1) v = set-one ws L 16 (kept (Elr El1) v) (at-place 16 refl)
+  sys-held (Elr El2) v = set-one ws L 17 (kept (Elr El2) v) (at-place 17 refl)
+  sys-held (Elr El3) v = set-one ws L 18 (kept (Elr El3) v) (at-place 18 refl)
+  sys-held (Spsr El1) v = set-one ws L 19 (kept (Spsr El1) v) (at-place 19 refl)
+  sys-held (Spsr El2) v = set-one ws L 20 (kept (Spsr El2) v) (at-place 20 refl)
+  sys-held (Spsr El3) v = set-one ws L 21 (kept (Spsr El3) v) (at-place 21 refl)
+  sys-held (Esr El1) v = set-one ws L 22 (kept (Esr El1) v) (at-place 22 refl)
+  sys-held (Esr El2) v = set-one ws L 23 (kept (Esr El2) v) (at-place 23 refl)
+  sys-held (Esr El3) v = set-one ws L 24 (kept (Esr El3) v) (at-place 24 refl)
+  sys-held (Far El1) v = set-one ws L 25 (kept (Far El1) v) (at-place 25 refl)
+  sys-held (Far El2) v = set-one ws L 26 (kept (Far El2) v) (at-place 26 refl)
+  sys-held (Far El3) v = set-one ws L 27 (kept (Far El3) v) (at-place 27 refl)
+  sys-held Vpidr v = set-one ws L 30 (kept Vpidr v) (at-place 30 refl)
+  sys-held Vmpidr v = set-one ws L 31 (kept Vmpidr v) (at-place 31 refl)
+  sys-held Par v = set-one ws L 32 (kept Par v) (at-place 32 refl)
+
+  -- ELR, SPSR and ESR of a level, and FAR where there is an address
+  pub saved-held : (t : El) (r : Report) (spsr ret : ℕ) → r .valid ≡ false
+      → held (set (set (set ws (15 + levelOf t) ret) (18 + levelOf t) spsr) (21 + levelOf t) (r .esr)) ≡ withSys (held ws) (enteredSys (held ws .sys) t r spsr ret)
+  unfolding held heldBy heldOn withSys enteredSys
+  saved-held El1 r spsr ret h = set-three ws L 16 ret 19 spsr 22 (r .esr) (at-place 16 refl) (at-place 19 refl) (at-place 22 refl) ∙ sym (rw h)
+  saved-held El2 r spsr ret h = set-three ws L 17 ret 20 spsr 23 (r .esr) (at-place 17 refl) (at-place 20 refl) (at-place 23 refl) ∙ sym (rw h)
+  saved-held El3 r spsr ret h = set-three ws L 18 ret 21 spsr 24 (r .esr) (at-place 18 refl) (at-place 21 refl) (at-place 24 refl) ∙ sym (rw h)
+
+  pub saved-far-held : (t : El) (r : Report) (spsr ret : ℕ) → r .valid ≡ true
+      → held (set (set (set (set ws (15 + levelOf t) ret) (18 + levelOf t) spsr) (21 + levelOf t) (r .esr)) (24 + levelOf t) (r .far))
+      ≡ withSys (held ws) (enteredSys (held ws .sys) t r spsr ret)
+  unfolding held heldBy heldOn withSys enteredSys
+  saved-far-held El1 r spsr ret h =
+      set-four ws L 16 ret 19 spsr 22 (r .esr) 25 (r .far) (at-place 16 refl) (at-place 19 refl) (at-place 22 refl) (at-place 25 refl) ∙ sym (rw h)
+  saved-far-held El2 r spsr ret h =
+      set-four ws L 17 ret 20 spsr 23 (r .esr) 26 (r .far) (at-place 17 refl) (at-place 20 refl) (at-place 23 refl) (at-place 26 refl) ∙ sym (rw h)
+  saved-far-held El3 r spsr ret h =
+      set-four ws L 18 ret 21 spsr 24 (r .esr) 27 (r .far) (at-place 18 refl) (at-place 21 refl) (at-place 24 refl) (at-place 27 refl) ∙ sym (rw h)

@@ -1,0 +1,117 @@
+// The fetch hint, the data hints and the entries.
+ghost use mathlib.Core.Path.{_≡_};
+ghost use Prim.Native.Nat.{_<_};
+ghost use Rattle.tlb.specs.Cache.{hintAt, entryAt};
+ghost use Rattle.words.specs.Held.{held};
+ghost use Rattle.words.specs.Parts.{withHint, withEntry, withTag, withFetchHint};
+ghost use Rattle.words.specs.Moved.{Moved};
+ghost use Rattle.words.specs.EntryWrites.{attributes};
+use crate::state::one;
+use crate::state::whole;
+use tlb::entry::Entry;
+use tlb::hint;
+use tlb::hint::FetchHint;
+use tlb::hint::Hint;
+
+// A data hint, none past the last.
+pub fn hint_at(state: &[u64; 5205], i: usize) -> Hint
+    ensures { λ r. ⌜ r ≡ hintAt (held (now (state .entry)) .tlb .cache) i ⌝ }
+{
+    if i < 512 {
+        Hint {
+            key: state[85 + i * 2],
+            pa: state[86 + i * 2],
+        }
+    } else {
+        hint::no_hint()
+    }
+}
+
+pub fn put_hint(state: &mut [u64; 5205], i: usize, h: Hint)
+    ensures { λ _. ⌜ Moved (now (state .entry)) (now (state .exit)) (withHint (held (now (state .entry))) i h) ⌝ }
+{
+    whole(state);
+    if i < 512 {
+        state[85 + i * 2] = h.key;
+        state[86 + i * 2] = h.pa;
+    }
+}
+
+pub fn fetch_at(state: &[u64; 5205]) -> FetchHint
+    ensures { λ r. ⌜ r ≡ held (now (state .entry)) .tlb .cache .fetch ⌝ }
+{
+    FetchHint {
+        some: state[81] == 1,
+        page: state[82],
+        level: (state[83] % 256) as u8,
+        pa: state[84],
+    }
+}
+
+pub fn put_fetch(state: &mut [u64; 5205], f: FetchHint)
+    ensures { λ _. ⌜ Moved (now (state .entry)) (now (state .exit)) (withFetchHint (held (now (state .entry))) f) ⌝ }
+{
+    whole(state);
+    let some = one(f.some);
+    state[81] = some;
+    state[82] = f.page;
+    state[83] = f.level as u64;
+    state[84] = f.pa;
+}
+
+fn entry_in(state: &[u64; 5205], j: usize) -> Entry
+    requires { ⌜ j < 1024 ⌝ }
+    ensures { λ r. ⌜ r ≡ entryAt (held (now (state .entry)) .tlb .cache) j ⌝ }
+{
+    let w = state[1111 + j * 4];
+    Entry {
+        tag: state[1109 + j * 4],
+        generation: (state[1110 + j * 4] % 0x1_0000_0000) as u32,
+        perms: (w % 256) as u8,
+        level: (w / 256 % 256) as u8,
+        global: w / 65536 % 2 == 1,
+        asid: (w / 0x1_0000_0000 % 0x1_0000) as u16,
+        pa: state[1112 + j * 4],
+    }
+}
+
+// An entry, blank past the last.
+pub fn entry_at(state: &[u64; 5205], j: usize) -> Entry
+    ensures { λ r. ⌜ r ≡ entryAt (held (now (state .entry)) .tlb .cache) j ⌝ }
+{
+    if j < 1024 {
+        entry_in(state, j)
+    } else {
+        tlb::entry::blank()
+    }
+}
+
+// Rights, level, whether it is for every ASID, and its ASID, in one word.
+fn attributes_of(e: Entry) -> u64
+    ensures { λ r. ⌜ r ≡ attributes e ⌝ }
+{
+    let g = one(e.global);
+    e.perms as u64 + e.level as u64 * 256 + g * 65536 + e.asid as u64 * 0x1_0000_0000
+}
+
+pub fn put_entry(state: &mut [u64; 5205], j: usize, e: Entry)
+    ensures { λ _. ⌜ Moved (now (state .entry)) (now (state .exit)) (withEntry (held (now (state .entry))) j e) ⌝ }
+{
+    whole(state);
+    if j < 1024 {
+        let w = attributes_of(e);
+        state[1109 + j * 4] = e.tag;
+        state[1110 + j * 4] = e.generation as u64;
+        state[1111 + j * 4] = w;
+        state[1112 + j * 4] = e.pa;
+    }
+}
+
+// The tag of an entry.
+pub(crate) fn put_tag(state: &mut [u64; 5205], j: usize, tag: u64)
+    requires { ⌜ j < 1024 ⌝ }
+    ensures { λ _. ⌜ Moved (now (state .entry)) (now (state .exit)) (withTag (held (now (state .entry))) j tag) ⌝ }
+{
+    whole(state);
+    state[1109 + j * 4] = tag;
+}

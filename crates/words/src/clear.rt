@@ -1,0 +1,69 @@
+// Hints emptied, entries cleared or dropped: each place by itself.
+ghost use mathlib.Core.Path.{_≡_};
+ghost use mathlib.Core.List.{map};
+ghost use Rattle.tlb.specs.Entry.{pageDropped, asidDropped};
+ghost use Rattle.tlb.specs.Cache.{blanks, noHints};
+ghost use Rattle.words.specs.Held.{held};
+ghost use Rattle.words.specs.Parts.{withEntries, withoutHints};
+ghost use Rattle.words.specs.Sweeps.{withDataHints};
+ghost use Rattle.words.specs.Moved.{Moved};
+use crate::cells;
+use tlb::hint;
+
+fn no_data_hints(state: &mut [u64; 5205])
+    ensures { λ _. ⌜ Moved (now (state .entry)) (now (state .exit)) (withDataHints (held (now (state .entry))) noHints) ⌝ }
+{
+    let mut i: usize = 0;
+    while i < 512 {
+        let h = hint::no_hint();
+        cells::put_hint(state, i, h);
+        i += 1;
+    }
+}
+
+// Every hint out.
+pub fn no_hints(state: &mut [u64; 5205])
+    ensures { λ _. ⌜ Moved (now (state .entry)) (now (state .exit)) (withoutHints (held (now (state .entry)))) ⌝ }
+{
+    no_data_hints(state);
+    let f = hint::no_fetch();
+    cells::put_fetch(state, f);
+}
+
+// Every entry out.
+pub fn no_entries(state: &mut [u64; 5205])
+    ensures { λ _. ⌜ Moved (now (state .entry)) (now (state .exit)) (withEntries (held (now (state .entry))) blanks) ⌝ }
+{
+    let mut j: usize = 0;
+    while j < 1024 {
+        let e = tlb::entry::blank();
+        cells::put_entry(state, j, e);
+        j += 1;
+    }
+}
+
+// Each entry that a Page names loses its tag.
+pub fn drop_pages(state: &mut [u64; 5205], generation: u32, page: u64)
+    ensures { λ _. ⌜ Moved (now (state .entry)) (now (state .exit)) (withEntries (held (now (state .entry))) (map (pageDropped generation page) (held (now (state .entry)) .tlb .cache .entries))) ⌝ }
+{
+    let mut j: usize = 0;
+    while j < 1024 {
+        let e = cells::entry_at(state, j);
+        let d = tlb::entry::page_dropped(e, generation, page);
+        cells::put_tag(state, j, d.tag);
+        j += 1;
+    }
+}
+
+// Each entry that an Asid names loses its tag.
+pub fn drop_asids(state: &mut [u64; 5205], asid: u16)
+    ensures { λ _. ⌜ Moved (now (state .entry)) (now (state .exit)) (withEntries (held (now (state .entry))) (map (asidDropped asid) (held (now (state .entry)) .tlb .cache .entries))) ⌝ }
+{
+    let mut j: usize = 0;
+    while j < 1024 {
+        let e = cells::entry_at(state, j);
+        let d = tlb::entry::asid_dropped(e, asid);
+        cells::put_tag(state, j, d.tag);
+        j += 1;
+    }
+}

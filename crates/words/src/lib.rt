@@ -1,0 +1,6 @@
+// The core as 5,205 words that a caller lends: where each part stands, read and written in place.
+pub mod cells;
+pub mod clear;
+pub mod counts;
+pub mod regs;
+pub mod state;
