@@ -13,8 +13,8 @@ use Rattle.walk.specs.declared.level.Walked.{Walked}
 use Rattle.walk.specs.declared.level.Walked.the-variants.{Mapped, Fault}
 use Rattle.cpu.specs.Check.{passes}
 use Rattle.a72abi.specs.Walk.{bankAt, regimeAt, leafAfter, walkCode, walkWords}
-use Rattle.a72abi.specs.declared.Named.{Named}
-use Rattle.a72abi.specs.declared.Named.the-variants.{Known, Unknown}
+use Rattle.a72abi.specs.declared.tables.Named.{Named}
+use Rattle.a72abi.specs.declared.tables.Named.the-variants.{Known, Unknown}
 
 module _ (ws : List ℕ) (n va base : ℕ) (ram : List ℕ) (x : Named) (ex : x ≡ regimeAt n) where
   pub no-regime-code : x ≡ Unknown → 1 ≡ walkCode ws n va base ram

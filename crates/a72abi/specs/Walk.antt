@@ -14,8 +14,8 @@ use Rattle.walk.specs.declared.level.Leaf.{Leaf}
 use Rattle.walk.specs.declared.level.Walked.{Walked}
 use Rattle.walk.specs.declared.level.Walked.the-variants.{Mapped, Fault}
 use Rattle.cpu.specs.Check.{passes}
-use Rattle.a72abi.specs.declared.Named.{Named}
-use Rattle.a72abi.specs.declared.Named.the-variants.{Known, Unknown}
+use Rattle.a72abi.specs.declared.tables.Named.{Named}
+use Rattle.a72abi.specs.declared.tables.Named.the-variants.{Known, Unknown}
 
 -- regimes by number
 abbrev pub regimeAt : ℕ → Named

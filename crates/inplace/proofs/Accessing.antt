@@ -57,7 +57,7 @@ module _ (c : Core) (memory : ℕ → Word) (va n : ℕ) (kind : Kind) where
   abbrev one : Accessed
   one = record { core = translateOf c memory va kind .core; placed = placedOne va (translateOf c memory va kind .answer) }
 
-  one-is : test ≡ false → translateAccessOf c memory va n kind ≡ one
+  pub one-is : test ≡ false → translateAccessOf c memory va n kind ≡ one
   unfolding translateAccessOf locatedNow locatedOf translateOf steppedNow
   one-is f = rw f
 
@@ -121,7 +121,7 @@ module _ (ws : List ℕ) (placed : Placed) (last abort base : ℕ) (ram : List �
   unfolding keptLast
   load-kept xs ys m q = moved-on (λ c. withAbort c (e .«abort_pa»)) m q (ap (keptLast (held ws)) end-is)
 
-load-parts : (c : Core) (base : ℕ) (ram : List ℕ) (va n : ℕ) (p : Placed) (d : Core) → p ≡ translateAccessOf c (wordAt base ram 8) va n Read .placed
+pub load-parts : (c : Core) (base : ℕ) (ram : List ℕ) (va n : ℕ) (p : Placed) (d : Core) → p ≡ translateAccessOf c (wordAt base ram 8) va n Read .placed
     → d ≡ translateAccessOf c (wordAt base ram 8) va n Read .core
     → (loadEnd p (d .«last_pa») (d .«abort_pa») base ram va n .answer ≡ readOf c base ram va n .answer)
     × (keptLast d (loadEnd p (d .«last_pa») (d .«abort_pa») base ram va n) ≡ readOf c base ram va n .core)
@@ -162,7 +162,7 @@ module _ (ws : List ℕ) (placed : Placed) (abort base : ℕ) (ram : List ℕ) (
   unfolding keptAbort
   store-kept xs m = moved-as m (ap (λ (x : StoreEnd). withAbort (held ws) (x .«abort_pa»)) stored-is)
 
-store-parts : (c : Core) (base : ℕ) (ram : List ℕ) (va n v : ℕ) (p : Placed) (d : Core) → p ≡ translateAccessOf c (wordAt base ram 8) va n Write .placed
+pub store-parts : (c : Core) (base : ℕ) (ram : List ℕ) (va n v : ℕ) (p : Placed) (d : Core) → p ≡ translateAccessOf c (wordAt base ram 8) va n Write .placed
     → d ≡ translateAccessOf c (wordAt base ram 8) va n Write .core
     → (storeEnd p (d .«abort_pa») base ram va n .answer ≡ writeOf c base ram va n .answer)
     × ((storeRamEnd p base ram n v ≡ ramAfterWrite c base ram va n v) × (keptAbort d (storeEnd p (d .«abort_pa») base ram va n .«abort_pa») ≡ writeOf c base ram va n .core))

@@ -1,2 +1,3 @@
 pub mod Reading
 pub mod Clearing
+pub mod Resets

@@ -9,3 +9,4 @@ pub mod CellWrites
 pub mod EntryWrites
 pub mod RegWrites
 pub mod Moves
+pub mod Fresh

@@ -2,5 +2,6 @@
 pub mod cells;
 pub mod clear;
 pub mod counts;
+pub mod fresh;
 pub mod regs;
 pub mod state;

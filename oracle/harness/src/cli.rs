@@ -105,22 +105,39 @@ impl Args {
         }
     }
 
+    /// The core behind the C boundary, if it is asked for: by `a72_step`, or by the function of each operation.
+    fn foreign_core(&self) -> Option<Box<dyn Core>> {
+        match (self.flag("--c"), self.flag("--each")) {
+            (false, false) => None,
+            (true, false) => Some(Box::new(CCore::new())),
+            (false, true) => Some(self.each()),
+            (true, true) => self.fail("--c and --each exclude each other"),
+        }
+    }
+
+    #[cfg(feature = "rattle")]
+    fn each(&self) -> Box<dyn Core> {
+        Box::new(crate::ffi::each::EachCore::new())
+    }
+
+    #[cfg(not(feature = "rattle"))]
+    fn each(&self) -> Box<dyn Core> {
+        self.fail("--each wants the feature `rattle`")
+    }
+
     /// The core beside the Rust: the model, the model with a mistake, or the one behind the C boundary.
     pub fn other_core(&self) -> Box<dyn Core> {
-        if self.flag("--c") {
-            Box::new(CCore::new())
-        } else {
-            Box::new(DocCore::with_mistake(self.mistake()))
-        }
+        let model = || Box::new(DocCore::with_mistake(self.mistake()));
+        self.foreign_core().unwrap_or_else(|| model())
     }
 
     /// One core alone: the Rust, the model, or the one behind the C boundary.
     pub fn one_core(&self) -> Box<dyn Core> {
-        match (self.flag("--model"), self.flag("--c")) {
-            (false, false) => Box::new(RustCore::new()),
-            (true, false) => Box::new(DocCore::new()),
-            (false, true) => Box::new(CCore::new()),
-            (true, true) => self.fail("--model and --c exclude each other"),
+        match (self.flag("--model"), self.foreign_core()) {
+            (false, None) => Box::new(RustCore::new()),
+            (true, None) => Box::new(DocCore::new()),
+            (false, Some(core)) => core,
+            (true, Some(_)) => self.fail("--model excludes --c and --each"),
         }
     }
 

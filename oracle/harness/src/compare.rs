@@ -10,6 +10,8 @@ pub struct Step<'a> {
     /// Before the operation: hits and walks, to see where its answer came from.
     pub before: (u64, u64),
     pub rust: &'a RustCore,
+    /// The other core has no such operation, so nothing was compared.
+    pub left_out: bool,
 }
 
 pub struct Difference {
@@ -66,7 +68,11 @@ pub fn compare(lines: &[Line], other: &mut dyn Core, mut watch: impl FnMut(Step)
             answer,
             before,
             rust: &rust,
+            left_out: y.is_none(),
         });
+        if y.is_none() {
+            continue;
+        }
         if x != y || rust.state() != other.state() || ram != other_ram {
             let (a, b) = (Side::take(&rust, x, &ram), Side::take(other, y, &other_ram));
             return Some(Difference {

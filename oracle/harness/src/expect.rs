@@ -7,6 +7,8 @@ use crate::{feed, Core, Ram, State};
 #[derive(Default)]
 pub struct Outcome {
     pub expectations: usize,
+    /// Expectations of operations that the core has not: held to nothing, and not counted above.
+    pub left_out: usize,
     /// What went otherwise, one line each.
     pub wrong: Vec<String>,
 }
@@ -48,6 +50,10 @@ pub fn hold(text: &str, core: &mut dyn Core) -> Result<Outcome, String> {
         let line = Line::parse(l).map_err(at)?;
         let answer = line.and_then(|line| feed(&line, core, &mut ram));
         let expects = wanted(l).is_some();
+        if let (Some(Line::Op(_)), None) = (line, answer) {
+            outcome.left_out += expects as usize;
+            continue;
+        }
         outcome.expectations += expects as usize;
         match answer {
             Some(a) => outcome

@@ -1,23 +1,28 @@
 //! The C boundary, and the numeric forms that cross it. Everything here is in 64-bit words.
 //!
-//! # The two functions
+//! # The functions
 //!
-//! A core is a static library that exports (each slice is a pointer followed by its length in elements):
+//! A core is a static library that exports (an array of a fixed length is one pointer; `ram` is a pointer followed by
+//! its length in bytes):
 //!
 //! ```c
-//! void a72_fresh(uint64_t *state, size_t state_words);
-//! void a72_step(const uint64_t *op, size_t op_words, uint64_t *state, size_t state_words,
-//!               uint8_t *ram, size_t ram_bytes, uint64_t base, uint64_t *ans, size_t ans_words);
+//! void a72_fresh(uint64_t state[5205]);
+//! uint64_t a72_step(const uint64_t op[8], uint64_t state[5205], uint64_t base, uint8_t *ram, size_t ram_bytes,
+//!                   uint64_t ans[4]);
 //! ```
 //!
-//! In Rattle: `a72_fresh(state: &mut [u64])` and `a72_step(op: &[u64], state: &mut [u64], ram: &mut [u8],
-//! base: u64, ans: &mut [u64])`, both `#[no_mangle] pub extern "C"`. `state_words` is 5205, `op_words` 8,
-//! `ans_words` 4. The whole core is in the state's words: a caller may copy them and go on from the copy.
-//! `a72_fresh` is handed zeroes with the 512 hint keys all ones, so that it has to write only what `Cpu::new`
-//! makes something else: SCTLR_EL1 0x30D00800, SCTLR_EL2 and SCTLR_EL3 0x30C50830, VPIDR 0x410FD083, VMPIDR
-//! 0x80000000, DAIF 0x3C0, SPSel 1, level 3, generation 1. `a72_step` carries out one operation on the state
-//! and the lent window (`base`, `ram`) and writes the answer's words, which come zeroed. An operation's meaning is
-//! document 01's (the Rust function of that name); one that is refused answers its number and changes nothing.
+//! In Rattle: `a72_fresh(state: &mut [u64; 5205])` and `a72_step(op: &[u64; 8], state: &mut [u64; 5205], base: u64,
+//! ram: &mut [u8], ans: &mut [u64; 4]) -> u64`, both `#[no_mangle] pub extern "C"`. The whole core is in the state's
+//! words: a caller may copy them and go on from the copy. `a72_fresh` writes every word: the state that `Cpu::new`
+//! makes. `a72_step` carries out one operation on the state and the lent window (`base`, `ram`); its meaning is
+//! document 01's (the Rust function of that name).
+//!
+//! | `a72_step` gives | Where |
+//! |---|---|
+//! | 0 | all four words of `ans` are written; an operation that is refused answers its number and changes nothing |
+//! | 7 | the words name no operation: nothing is written |
+//!
+//! The library also exports a function for each operation: `ffi/each.rs`, with the feature `rattle`.
 //!
 //! # An operation: 8 words
 //!
@@ -51,11 +56,12 @@
 //! | 44 | `p-cnt`: hits, walks, flushes, drops, epoch become this | value |
 //! | 45 | `p-bc`: the pending broadcast is taken (none) | |
 //!
-//! Codes 1 to 12 are document 01's list; 20 to 28 are leaves, which change nothing; 40 to 45 are pokes, which
-//! only the comparer uses; a core that has only the list may leave both out. The lines of a trace around the
-//! operations never reach `a72_step`, but have codes in files: 60 `fresh`; 61 `window` base, length; 62 `zero`;
-//! 63 `poke` address, value; 64 `w-word` place, value; 65 `w-hint` slot, key, page; 66 `w-entry` slot, four words;
-//! 67 `w-fetch` page, level, physical page.
+//! Codes 1 to 12 are document 01's list, and only they reach `a72_step`. 20 to 28 are leaves, which change nothing: the
+//! core behind the boundary has none, so they are left out for it and counted ([`Core::has`]). 40 to 45 are pokes,
+//! which only the comparer uses: the harness edits the state's words itself. The lines of a trace around the
+//! operations have codes in files: 60 `fresh`; 61 `window` base, length; 62 `zero`; 63 `poke` address, value; 64
+//! `w-word` place, value; 65 `w-hint` slot, key, page; 66 `w-entry` slot, four words; 67 `w-fetch` page, level,
+//! physical page.
 //!
 //! Levels, sizes, fields, register numbers and keys are 32-bit numbers and may be any of them: the checks 1 to 6
 //! are the core's. A translation's kind and a leaf's regime are always one of those named.
@@ -108,6 +114,9 @@
 //! An entry is live where its tag is not 0 and its generation is the present one. One of a later generation, which only
 //! a wild core has, is compared too: it would be live once that generation comes. What stands in other entries and
 //! behind the keys and flags that say 'none' is free.
+#[cfg(feature = "rattle")]
+pub mod each;
+mod poke;
 mod state;
 mod words;
 
@@ -117,40 +126,52 @@ mod stand_in;
 use crate::op::{Ans, Line, Op};
 use crate::{Core, Ram, State};
 pub use state::{state_of, words_of, BROADCAST, COUNT, ENTRIES, FETCH, HINTS, STATE};
-pub use words::{decode, decode_answer, encode, encode_answer};
+pub use words::{decode, decode_answer, encode, encode_answer, exception};
 
 #[cfg(feature = "rattle")]
 extern "C" {
-    fn a72_fresh(state: *mut u64, state_words: usize);
+    fn a72_fresh(state: *mut [u64; STATE]);
     fn a72_step(
-        op: *const u64,
-        op_words: usize,
-        state: *mut u64,
-        state_words: usize,
+        op: *const [u64; 8],
+        state: *mut [u64; STATE],
+        base: u64,
         ram: *mut u8,
         ram_bytes: usize,
-        base: u64,
-        ans: *mut u64,
-        ans_words: usize,
-    );
+        ans: *mut [u64; 4],
+    ) -> u64;
 }
 
 #[cfg(not(feature = "rattle"))]
 use stand_in::{a72_fresh, a72_step};
 
-/// The core behind the C boundary.
+/// What stands where the library has to write: no answer and no part of a fresh state.
+const UNWRITTEN: u64 = 0xA5A5_A5A5_A5A5_A5A5;
+
+/// A state's words.
+pub type Words = Box<[u64; STATE]>;
+
+/// The words of a state, in a box.
+pub fn boxed(state: &State) -> Words {
+    words_of(state).try_into().expect("as many words as a state has")
+}
+
+/// The words that `a72_fresh` writes.
+pub fn fresh() -> Words {
+    let mut words: Words = vec![UNWRITTEN; STATE].try_into().expect("as many words");
+    // Sound: the pointer is that of an array of this length, which nobody else uses.
+    unsafe { a72_fresh(&mut *words) };
+    words
+}
+
+/// The core behind the C boundary, by `a72_step`.
 #[derive(Clone)]
 pub struct CCore {
-    words: Vec<u64>,
+    words: Words,
 }
 
 impl CCore {
     pub fn new() -> CCore {
-        let mut core = CCore {
-            words: vec![0; STATE],
-        };
-        core.reset();
-        core
+        CCore { words: fresh() }
     }
 }
 
@@ -162,41 +183,43 @@ impl Default for CCore {
 
 impl Core for CCore {
     fn reset(&mut self) {
-        self.words.fill(0);
-        self.words[HINTS..ENTRIES]
-            .iter_mut()
-            .step_by(2)
-            .for_each(|key| *key = u64::MAX);
-        // Sound: the pointer and the length are the vector's own.
-        unsafe { a72_fresh(self.words.as_mut_ptr(), self.words.len()) };
+        self.words = fresh();
+    }
+
+    fn has(&self, op: &Op) -> bool {
+        !op.is_leaf()
     }
 
     fn step(&mut self, op: &Op, ram: &mut Ram) -> Ans {
+        if op.is_poke() {
+            return poke::poke(&mut self.words, op);
+        }
         let op = encode(&Line::Op(*op));
-        let mut ans = [0; 4];
-        // Sound: each pointer and length are one vector's or array's own, and no two overlap.
-        unsafe {
+        let mut ans = [UNWRITTEN; 4];
+        let bytes = &mut ram.bytes;
+        // Sound: each pointer is that of an array or a vector, with its own length, and no two overlap.
+        let code = unsafe {
             a72_step(
-                op.as_ptr(),
-                op.len(),
-                self.words.as_mut_ptr(),
-                self.words.len(),
-                ram.bytes.as_mut_ptr(),
-                ram.bytes.len(),
+                &op,
+                &mut *self.words,
                 ram.base,
-                ans.as_mut_ptr(),
-                ans.len(),
+                bytes.as_mut_ptr(),
+                bytes.len(),
+                &mut ans,
             )
         };
-        decode_answer(&ans)
+        match code {
+            0 => decode_answer(&ans),
+            _ => Ans::Panic,
+        }
     }
 
     fn state(&self) -> State {
-        state_of(&self.words)
+        state_of(&self.words[..])
     }
 
     fn load(&mut self, state: &State) {
-        self.words = words_of(state);
+        self.words = boxed(state);
     }
 
     fn copy(&self) -> Box<dyn Core> {

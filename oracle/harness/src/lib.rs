@@ -1,4 +1,6 @@
 //! An oracle for stage 1 of the A72: document 01's operations on pimu's own Rust, and traces of them.
+#[cfg(feature = "rattle")]
+pub mod bench;
 pub mod cli;
 pub mod compare;
 pub mod coverage;
@@ -32,7 +34,11 @@ pub use state::State;
 pub trait Core {
     /// Become a fresh core, the one `Cpu::new` gives.
     fn reset(&mut self);
-    /// Carry out one operation on the RAM lent to it.
+    /// Whether the core has this operation. One that it has not is left out for it, and counted as such.
+    fn has(&self, _op: &Op) -> bool {
+        true
+    }
+    /// Carry out one operation that the core has, on the RAM lent to it.
     fn step(&mut self, op: &Op, ram: &mut Ram) -> Ans;
     /// All that it holds.
     fn state(&self) -> State;
@@ -41,7 +47,7 @@ pub trait Core {
     fn copy(&self) -> Box<dyn Core>;
 }
 
-/// Feed a trace's line to a core and its RAM; `None` where the line is no operation of the core.
+/// Feed a trace's line to a core and its RAM; `None` where the line is no operation, or none that the core has.
 pub fn feed(line: &Line, core: &mut dyn Core, ram: &mut Ram) -> Option<Ans> {
     match line {
         Line::Fresh => core.reset(),
@@ -56,7 +62,8 @@ pub fn feed(line: &Line, core: &mut dyn Core, ram: &mut Ram) -> Option<Ans> {
             state.put(part);
             core.load(&state);
         }
-        Line::Op(op) => return Some(core.step(op, ram)),
+        Line::Op(op) if core.has(op) => return Some(core.step(op, ram)),
+        Line::Op(_) => {}
     }
     None
 }

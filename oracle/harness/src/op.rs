@@ -50,6 +50,20 @@ impl Op {
         self.takes_ram() || matches!(self, Reg(..) | Level(_) | Mark(_) | SetX(..) | Abort(_))
     }
 
+    /// Whether it is a poke: a change of a core that no operation of the list makes.
+    pub fn is_poke(&self) -> bool {
+        use Op::*;
+        matches!(
+            self,
+            PokeLevel(_) | PokePc(_) | PokeSpsel(_) | PokeGeneration(_) | PokeCounters(_) | TakeBroadcast
+        )
+    }
+
+    /// Whether it is a leaf: a function of the registers alone, which changes nothing.
+    pub fn is_leaf(&self) -> bool {
+        !self.is_step() && !self.is_poke()
+    }
+
     /// Whether document 01's check 2 looks at the window.
     pub fn takes_ram(&self) -> bool {
         use Op::*;

@@ -85,6 +85,7 @@ impl Recorder<'_> {
             answer,
             before: (before.hits, before.walks),
             rust,
+            left_out: false,
         });
         for (subject, case) in (Event {
             op,

@@ -12,6 +12,8 @@ pub struct Tally {
     /// Translations answered by a walk, an entry, a hint, or flat.
     via: [u64; 4],
     pub operations: u64,
+    /// Operations that the other core has not; they are in no other number.
+    pub left_out: u64,
 }
 
 fn kind(op: &Op) -> &'static str {
@@ -35,12 +37,7 @@ fn kind(op: &Op) -> &'static str {
         Op::Abort(_) => "abort",
         Op::LeafWalk(..) => "l-walk",
         op if op.is_step() => "other",
-        Op::PokeLevel(_)
-        | Op::PokePc(_)
-        | Op::PokeSpsel(_)
-        | Op::PokeGeneration(_)
-        | Op::PokeCounters(_)
-        | Op::TakeBroadcast => "poke",
+        op if op.is_poke() => "poke",
         _ => "leaf",
     }
 }
@@ -65,6 +62,10 @@ fn class(step: &Step) -> String {
 
 impl Tally {
     pub fn note(&mut self, step: &Step) {
+        if step.left_out {
+            self.left_out += 1;
+            return;
+        }
         self.operations += 1;
         *self
             .counts
@@ -103,6 +104,14 @@ impl Display for Tally {
         for (kind, n, answers) in self.rows() {
             writeln!(f, "{kind:10} {n:8}  {answers}")?;
         }
-        writeln!(f, "{}", self.sources())
+        writeln!(f, "{}", self.sources())?;
+        if self.left_out != 0 {
+            writeln!(
+                f,
+                "left out: {} leaves, which the other core has not",
+                self.left_out
+            )?;
+        }
+        Ok(())
     }
 }

@@ -7,7 +7,8 @@ use harness::grid::{Ask, Grid};
 use harness::model::{DocCore, Mistake};
 use harness::rust::{Rule, RustCore};
 use harness::shrink::shrink;
-use harness::Core;
+use harness::tally::Tally;
+use harness::{Core, Line};
 
 fn equal(other: &mut dyn Core, seed: u64, n: usize, style: Style) {
     if let Some(d) = compare(&trace(seed, n, style), other, |_| {}) {
@@ -24,9 +25,21 @@ fn model_equals_rust() {
 
 #[test]
 fn boundary_equals_rust() {
-    for style in [Style::Strict, Style::Wild] {
+    for style in [Style::Full, Style::Strict, Style::Wild] {
         equal(&mut CCore::new(), 101, 1000, style);
     }
+}
+
+#[test]
+fn what_the_boundary_leaves_out_is_counted() {
+    let mut tally = Tally::default();
+    let lines = trace(102, 2000, Style::Full);
+    assert!(compare(&lines, &mut CCore::new(), |step| tally.note(&step)).is_none());
+    let leaves = lines
+        .iter()
+        .filter(|line| matches!(line, Line::Op(op) if op.is_leaf()));
+    assert_eq!(tally.left_out, leaves.count() as u64);
+    assert!(tally.left_out > 0 && tally.operations > tally.left_out);
 }
 
 #[test]

@@ -9,6 +9,7 @@ pub fn unprivileged(c: &Cpu) -> bool {
     c.unprivileged
 }
 
+#[inline(always)]
 pub fn set_unprivileged(c: &mut Cpu, on: bool) {
     c.unprivileged = on;
 }

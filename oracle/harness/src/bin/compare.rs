@@ -5,10 +5,10 @@ use harness::generate::trace;
 use harness::tally::Tally;
 use harness::{Core, Line};
 
-const USAGE: &str = "compare [--c | --mistake M] TRACE..
-       compare [--c | --mistake M] --seeds FROM TO N [--strict | --wild]
-  The Rust beside the model (--c: the core behind the C boundary; --mistake: the model with that mistake), on
-  traces or on those of the seeds FROM to TO - 1 with about N operations each. Stops at the first operation after
+const USAGE: &str = "compare [--c | --each | --mistake M] TRACE..
+       compare [--c | --each | --mistake M] --seeds FROM TO N [--strict | --wild]
+  The Rust beside the model (--c: the core behind the C boundary; --each: the same by its function for each
+  operation; --mistake: the model with that mistake), on traces or on those of the seeds FROM to TO - 1 with about N operations each. Stops at the first operation after
   which answer, state or RAM differ. Shows how often each operation gave each answer.";
 
 /// Lines with their numbers in the trace.
@@ -24,7 +24,11 @@ fn one(name: &str, trace: Numbered, other: &mut dyn Core, tally: &mut Tally) -> 
 }
 
 fn main() {
-    let args = Args::new(USAGE, &["--c", "--seeds", "--strict", "--wild"], &["--mistake"]);
+    let args = Args::new(
+        USAGE,
+        &["--c", "--each", "--seeds", "--strict", "--wild"],
+        &["--mistake"],
+    );
     let mut other = args.other_core();
     let mut tally = Tally::default();
     let mut one = |name: &str, trace: Numbered| one(name, trace, other.as_mut(), &mut tally);

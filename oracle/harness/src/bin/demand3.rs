@@ -5,12 +5,12 @@ use harness::generate::{trace, Style};
 use harness::rust::{Rule, RustCore};
 use harness::Core;
 
-const USAGE: &str = "demand3 FROM TO N [--c | --mistake M | --rule pimu|noflush|noretag]
+const USAGE: &str = "demand3 FROM TO N [--c | --each | --mistake M | --rule pimu|noflush|noretag]
   Strict traces of the seeds FROM to TO - 1 with about N operations each, on the Rust (--c: on the core behind the C
-  boundary; --mistake: on the model with that mistake; --rule: on the Rust with another rule of a register write).";
+  boundary, --each by its functions; --mistake: on the model with that mistake; --rule: on the Rust with another rule of a register write).";
 
 fn core(args: &Args) -> Box<dyn Core> {
-    if args.flag("--c") || args.value("--mistake").is_some() {
+    if args.flag("--c") || args.flag("--each") || args.value("--mistake").is_some() {
         return args.other_core();
     }
     let rule = match args.value("--rule") {
@@ -24,7 +24,7 @@ fn core(args: &Args) -> Box<dyn Core> {
 }
 
 fn main() {
-    let args = Args::new(USAGE, &["--c"], &["--mistake", "--rule"]);
+    let args = Args::new(USAGE, &["--c", "--each"], &["--mistake", "--rule"]);
     let (seeds, n) = args.seeds();
     let mut core = core(&args);
     let mut seen = Seen::default();

@@ -1,10 +1,12 @@
 //! Walk with every range, size, granule code and output size.
 use harness::cli::{finish, Args};
 use harness::grid::{Ask, Grid};
+use harness::Op;
 
-const USAGE: &str = "grid ROUNDS [--c | --walk | --mistake M] [--list]
-  In each round 8,192 walks, one for each combination, on the Rust and the model (--c: the core behind the C boundary;
-  --walk: the walk behind `a72_walk`, feature `walk`; --mistake: the model with that mistake). --list: by document 01's list alone (translation and AT, states compared).";
+const USAGE: &str = "grid ROUNDS [--c | --each | --walk | --mistake M] [--list]
+  In each round 8,192 walks, one for each combination, on the Rust and the model (--c: the core behind the C boundary,
+  --each by its functions; --walk: the walk behind `a72_walk`, feature `walk`; --mistake: the model with that mistake).
+  --list: by document 01's list alone (translation and AT, states compared); --c and --each want it.";
 
 #[cfg(feature = "walk")]
 fn other_core(args: &Args) -> Box<dyn harness::Core> {
@@ -24,10 +26,13 @@ fn other_core(args: &Args) -> Box<dyn harness::Core> {
 }
 
 fn main() {
-    let args = Args::new(USAGE, &["--c", "--walk", "--list"], &["--mistake"]);
+    let args = Args::new(USAGE, &["--c", "--each", "--walk", "--list"], &["--mistake"]);
     args.expect_words(1);
     let mut other = other_core(&args);
     let ask = if args.flag("--list") { Ask::List } else { Ask::Leaf };
+    if ask == Ask::Leaf && !other.has(&Op::LeafWalk(1, 0)) {
+        args.fail("the core has no leaves: --list asks for walks by document 01's list");
+    }
     let mut grid = Grid::new(other.as_mut(), ask);
     let rounds: u64 = args.number(0);
     let difference = (0..rounds).find_map(|_| grid.round().err());

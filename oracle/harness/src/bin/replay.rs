@@ -2,25 +2,32 @@
 use harness::cli::{finish, Args};
 use harness::recorded::replay::replay;
 
-const USAGE: &str = "replay [--model | --c] FILE.rec..
-  Replays recorded files on the Rust (--model: on the model; --c: on the core behind the C boundary).";
+const USAGE: &str = "replay [--model | --c | --each] FILE.rec..
+  Replays recorded files on the Rust (--model: on the model; --c: on the core behind the C boundary; --each:
+  by its function for each operation).";
 
 fn main() {
-    let args = Args::new(USAGE, &["--model", "--c"], &[]);
+    let args = Args::new(USAGE, &["--model", "--c", "--each"], &[]);
     if args.words().is_empty() {
         args.fail("a file is missing");
     }
     let mut core = args.one_core();
-    let (mut operations, mut wrong) = (0, 0);
+    let (mut operations, mut wrong, mut left_out) = (0, 0, 0);
     for file in args.words() {
         let bytes = std::fs::read(file).unwrap_or_else(|e| args.fail(&format!("{file}: {e}")));
         match replay(&bytes, core.as_mut()) {
-            Ok(n) => operations += n,
+            Ok(done) => {
+                operations += done.operations;
+                left_out += done.left_out;
+            }
             Err(e) => {
                 println!("{file}: {e}");
                 wrong += 1;
             }
         }
+    }
+    if left_out != 0 {
+        println!("left out: {left_out} leaves, which the core has not");
     }
     println!("{operations} operations as recorded, {wrong} files otherwise");
     finish(wrong == 0)

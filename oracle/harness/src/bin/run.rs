@@ -3,9 +3,10 @@ use harness::cli::Args;
 use harness::{feed, Line, Ram};
 use std::io::Write;
 
-const USAGE: &str = "run TRACE [--full] [--model | --c]
+const USAGE: &str = "run TRACE [--full] [--model | --c | --each]
   A line for each operation: its line number, the operation, the answer, the state after it. --full: the whole state
-  too. On the Rust; --model: on the model; --c: on the core behind the C boundary.";
+  too. On the Rust; --model: on the model; --c: on the core behind the C boundary (--each:
+  by its function for each operation).";
 
 /// Whether a line may change RAM: its digest is the dear part.
 fn moves_ram(line: &Line) -> bool {
@@ -16,7 +17,7 @@ fn moves_ram(line: &Line) -> bool {
 }
 
 fn main() -> std::io::Result<()> {
-    let args = Args::new(USAGE, &["--full", "--model", "--c"], &[]);
+    let args = Args::new(USAGE, &["--full", "--model", "--c", "--each"], &[]);
     args.expect_words(1);
     let mut core = args.one_core();
     let mut ram = Ram::default();
@@ -27,7 +28,12 @@ fn main() -> std::io::Result<()> {
         if moves_ram(&line) {
             digest = ram.digest();
         }
-        let Some(answer) = answer else { continue };
+        let Some(answer) = answer else {
+            if let Line::Op(op) = line {
+                writeln!(out, "{n} {op} => left out, the core has it not")?;
+            }
+            continue;
+        };
         let state = core.state();
         writeln!(out, "{n} {line} => {answer} | {}", state.line(digest))?;
         if args.flag("--full") {

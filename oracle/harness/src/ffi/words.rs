@@ -3,7 +3,7 @@ use crate::op::{Ans, Line, Op};
 use crate::wild::Part;
 use pimu::aarch64::Exception;
 
-fn exception(e: &Exception) -> [u64; 4] {
+pub fn exception(e: &Exception) -> [u64; 4] {
     match *e {
         Exception::Undefined => [0, 0, 0, 0],
         Exception::Svc(i) => [1, i.into(), 0, 0],

@@ -15,11 +15,21 @@ fn words(bytes: &[u8]) -> Result<Vec<u64>, String> {
     }
 }
 
-/// The number of operations; the error says which line first went otherwise.
-pub fn replay(bytes: &[u8], core: &mut dyn Core) -> Result<u64, String> {
+/// What a core replayed.
+#[derive(Default)]
+pub struct Replayed {
+    /// Operations that went as recorded.
+    pub operations: u64,
+    /// Operations that the core has not.
+    pub left_out: u64,
+}
+
+/// The error says which line first went otherwise.
+pub fn replay(bytes: &[u8], core: &mut dyn Core) -> Result<Replayed, String> {
     let words = words(bytes)?;
     let mut rest = words.get(8..).ok_or("no whole header")?;
-    let (mut lines, mut operations) = (0, 0);
+    let mut lines = 0;
+    let mut done = Replayed::default();
     let mut ram = Ram::default();
     core.reset();
     while !rest.is_empty() {
@@ -29,12 +39,16 @@ pub fn replay(bytes: &[u8], core: &mut dyn Core) -> Result<u64, String> {
         let line = decode(line).ok_or_else(|| wrong("not a line"))?;
         rest = tail;
         let answer = feed(&line, core, &mut ram);
-        let (Line::Op(op), Some(answer)) = (line, answer) else {
+        let Line::Op(op) = line else {
             continue;
         };
-        operations += 1;
         let (want, tail) = rest.split_first_chunk::<24>().ok_or_else(|| wrong("not whole"))?;
         rest = tail;
+        let Some(answer) = answer else {
+            done.left_out += 1;
+            continue;
+        };
+        done.operations += 1;
         let is = [
             encode_answer(&answer).as_slice(),
             &summary(&core.state(), ram.digest()),
@@ -49,8 +63,8 @@ pub fn replay(bytes: &[u8], core: &mut dyn Core) -> Result<u64, String> {
             )));
         }
     }
-    if (lines, operations) != (words[2], words[3]) {
+    if (lines, done.operations + done.left_out) != (words[2], words[3]) {
         return Err("the header has other numbers of lines or operations".into());
     }
-    Ok(operations)
+    Ok(done)
 }

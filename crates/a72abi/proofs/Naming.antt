@@ -1,0 +1,158 @@
+-- What the words of a call name, case by case, for `search`.
+use mathlib.Core.Path.{_≡_, refl, sym, ap, _∙_}
+use mathlib.Core.Bool.{true, false}
+use mathlib.Core.List.{List}
+use Prim.Native.Nat.{ℕ, _%_, _^_, _<_, _≤_}
+use borrow.Author.Tests.{eq-eqb, ne-eqb, lt-ltb, le-ltb}
+use lib.Dec.{eqb, ltb}
+use lib.ListN.{getD}
+use Rattle.word.specs.Bits.{pick}
+use Rattle.tlb.specs.declared.access.Kind.{Kind}
+use Rattle.tlb.specs.declared.access.Kind.the-variants.{Read, Write, Fetch}
+use Rattle.entry.specs.declared.exception.Exception.{Exception}
+use Rattle.entry.specs.declared.exception.Exception.the-variants.{Undefined, Svc, Hvc, Smc, Brk, DataAbort, InsnAbort, PcAlignment}
+use Rattle.cpu.specs.declared.call.Call.the-variants as Call
+use Rattle.a72abi.specs.Ops.{kindOf, exceptionOf, keyOf, translateCall, abortCall, markCall, encodingOf, callOf}
+use Rattle.a72abi.specs.declared.op.Kinds.{Kinds}
+use Rattle.a72abi.specs.declared.op.Kinds.the-variants as Kinds
+use Rattle.a72abi.specs.declared.op.Exceptions.{Exceptions}
+use Rattle.a72abi.specs.declared.op.Exceptions.the-variants as Exceptions
+use Rattle.a72abi.specs.declared.op.Calls.{Calls}
+use Rattle.a72abi.specs.declared.op.Calls.the-variants as Calls
+
+module _ (n : ℕ) where
+  pub kind-1 : n ≡ 1 → Kinds.Known Read ≡ kindOf n
+  kind-1 e = sym (rw e)
+
+  pub kind-2 : n ≡ 2 → Kinds.Known Write ≡ kindOf n
+  kind-2 e = sym (rw e)
+
+  pub kind-4 : n ≡ 4 → Kinds.Known Fetch ≡ kindOf n
+  kind-4 e = sym (rw e)
+
+  pub kind-none : (n ≡ 1 → ⊥) → (n ≡ 2 → ⊥) → (n ≡ 4 → ⊥) → Kinds.Unknown ≡ kindOf n
+  kind-none a b d = sym (rw (ne-eqb n 1 a, ne-eqb n 2 b, ne-eqb n 4 d))
+
+  pub mark-0 : n ≡ 0 → Calls.Known (Call.Mark false) ≡ markCall n
+  mark-0 e = sym (rw e)
+
+  pub mark-1 : n ≡ 1 → Calls.Known (Call.Mark true) ≡ markCall n
+  mark-1 e = sym (rw e)
+
+  pub mark-none : (n ≡ 0 → ⊥) → (n ≡ 1 → ⊥) → Calls.Unknown ≡ markCall n
+  mark-none a b = sym (rw (ne-eqb n 0 a, ne-eqb n 1 b))
+
+  pub key-low : n < 2 ^ 32 → n ≡ keyOf n
+  key-low h = sym (rw (lt-ltb n (2 ^ 32) h))
+
+  pub key-high : 2 ^ 32 ≤ n → 0 ≡ keyOf n
+  key-high h = sym (rw (le-ltb n (2 ^ 32) h))
+
+  pub exception-0 : (a b c : ℕ) → n ≡ 0 → Exceptions.Known Undefined ≡ exceptionOf n a b c
+  unfolding exceptionOf
+  exception-0 a b c e = sym (rw e)
+
+  pub exception-1 : (a b c : ℕ) → n ≡ 1 → Exceptions.Known (Svc (a % 2 ^ 16)) ≡ exceptionOf n a b c
+  unfolding exceptionOf
+  exception-1 a b c e = sym (rw e)
+
+  pub exception-2 : (a b c : ℕ) → n ≡ 2 → Exceptions.Known (Hvc (a % 2 ^ 16)) ≡ exceptionOf n a b c
+  unfolding exceptionOf
+  exception-2 a b c e = sym (rw e)
+
+  pub exception-3 : (a b c : ℕ) → n ≡ 3 → Exceptions.Known (Smc (a % 2 ^ 16)) ≡ exceptionOf n a b c
+  unfolding exceptionOf
+  exception-3 a b c e = sym (rw e)
+
+  pub exception-4 : (a b c : ℕ) → n ≡ 4 → Exceptions.Known (Brk (a % 2 ^ 16)) ≡ exceptionOf n a b c
+  unfolding exceptionOf
+  exception-4 a b c e = sym (rw e)
+
+  pub exception-5 : (a b c : ℕ) → n ≡ 5 → Exceptions.Known (DataAbort a (eqb b 1) (c % 2 ^ 8)) ≡ exceptionOf n a b c
+  unfolding exceptionOf
+  exception-5 a b c e = sym (rw e)
+
+  pub exception-6 : (a b c : ℕ) → n ≡ 6 → Exceptions.Known (InsnAbort a (b % 2 ^ 8)) ≡ exceptionOf n a b c
+  unfolding exceptionOf
+  exception-6 a b c e = sym (rw e)
+
+  pub exception-7 : (a b c : ℕ) → n ≡ 7 → Exceptions.Known PcAlignment ≡ exceptionOf n a b c
+  unfolding exceptionOf
+  exception-7 a b c e = sym (rw e)
+
+  pub exception-none : (a b c : ℕ) → (n ≡ 0 → ⊥) → (n ≡ 1 → ⊥) → (n ≡ 2 → ⊥) → (n ≡ 3 → ⊥) → (n ≡ 4 → ⊥) → (n ≡ 5 → ⊥) → (n ≡ 6 → ⊥) → (n ≡ 7 → ⊥) → Exceptions.Unknown ≡ exceptionOf n a b c
+  unfolding exceptionOf
+  exception-none a b c h0 h1 h2 h3 h4 h5 h6 h7 = sym (rw (ne-eqb n 0 h0, ne-eqb n 1 h1, ne-eqb n 2 h2, ne-eqb n 3 h3, ne-eqb n 4 h4, ne-eqb n 5 h5, ne-eqb n 6 h6, ne-eqb n 7 h7))
+
+  pub translate-known : (va : ℕ) (p : Kinds) (k : Kind) → p ≡ kindOf n → p ≡ Kinds.Known k → Calls.Known (Call.Translate k va) ≡ translateCall (kindOf n) va
+  translate-known va p k e q = ap (λ (x : Kinds). translateCall x va) (sym q ∙ e)
+
+  pub translate-unknown : (va : ℕ) (p : Kinds) → p ≡ kindOf n → p ≡ Kinds.Unknown → Calls.Unknown ≡ translateCall (kindOf n) va
+  translate-unknown va p e q = ap (λ (x : Kinds). translateCall x va) (sym q ∙ e)
+
+  pub abort-known : (a b c : ℕ) (p : Exceptions) (x : Exception) → p ≡ exceptionOf n a b c → p ≡ Exceptions.Known x → Calls.Known (Call.Abort x) ≡ abortCall (exceptionOf n a b c)
+  abort-known a b c p x e q = ap abortCall (sym q ∙ e)
+
+  pub abort-unknown : (a b c : ℕ) (p : Exceptions) → p ≡ exceptionOf n a b c → p ≡ Exceptions.Unknown → Calls.Unknown ≡ abortCall (exceptionOf n a b c)
+  abort-unknown a b c p e q = ap abortCall (sym q ∙ e)
+
+module _ (op : List ℕ) where
+  pub call-2 : getD op 0 0 ≡ 2 → Calls.Known (Call.DataPa (getD op 1 0)) ≡ callOf op
+  unfolding callOf
+  call-2 e = sym (rw e)
+
+  pub call-3 : getD op 0 0 ≡ 3 → Calls.Known (Call.FetchPa (getD op 1 0)) ≡ callOf op
+  unfolding callOf
+  call-3 e = sym (rw e)
+
+  pub call-4 : getD op 0 0 ≡ 4 → Calls.Known (Call.Load (getD op 1 0) (getD op 2 0)) ≡ callOf op
+  unfolding callOf
+  call-4 e = sym (rw e)
+
+  pub call-5 : getD op 0 0 ≡ 5 → Calls.Known (Call.Store (getD op 1 0) (getD op 2 0) (getD op 3 0)) ≡ callOf op
+  unfolding callOf
+  call-5 e = sym (rw e)
+
+  pub call-6 : getD op 0 0 ≡ 6 → Calls.Known (Call.Fetch (getD op 1 0)) ≡ callOf op
+  unfolding callOf
+  call-6 e = sym (rw e)
+
+  pub call-7 : getD op 0 0 ≡ 7 → Calls.Known (Call.System (encodingOf (getD op 1 0) (getD op 2 0) (getD op 3 0) (getD op 4 0) (getD op 5 0))) ≡ callOf op
+  unfolding callOf
+  call-7 e = sym (rw e)
+
+  pub call-9 : getD op 0 0 ≡ 9 → Calls.Known (Call.Level (getD op 1 0)) ≡ callOf op
+  unfolding callOf
+  call-9 e = sym (rw e)
+
+  pub call-11 : getD op 0 0 ≡ 11 → Calls.Known (Call.General (getD op 1 0) (getD op 2 0)) ≡ callOf op
+  unfolding callOf
+  call-11 e = sym (rw e)
+
+  pub call-1 : (p : Calls) → p ≡ translateCall (kindOf (getD op 1 0)) (getD op 2 0) → getD op 0 0 ≡ 1 → p ≡ callOf op
+  unfolding callOf
+  call-1 p q e = q ∙ sym (rw e)
+
+  pub call-10 : (p : Calls) → p ≡ markCall (getD op 1 0) → getD op 0 0 ≡ 10 → p ≡ callOf op
+  unfolding callOf
+  call-10 p q e = q ∙ sym (rw e)
+
+  pub call-12 : (p : Calls) → p ≡ abortCall (exceptionOf (getD op 1 0) (getD op 2 0) (getD op 3 0) (getD op 4 0)) → getD op 0 0 ≡ 12 → p ≡ callOf op
+  unfolding callOf
+  call-12 p q e = q ∙ sym (rw e)
+
+  pub call-8 : (k : ℕ) → k ≡ keyOf (getD op 1 0) → getD op 0 0 ≡ 8 → Calls.Known (Call.Register k (getD op 2 0)) ≡ callOf op
+  unfolding callOf
+  call-8 k q e = ap (λ (x : ℕ). Calls.Known (Call.Register x (getD op 2 0))) q ∙ sym (rw e)
+
+  pub call-none : (getD op 0 0 ≡ 1 → ⊥) → (getD op 0 0 ≡ 2 → ⊥) → (getD op 0 0 ≡ 3 → ⊥) → (getD op 0 0 ≡ 4 → ⊥) → (getD op 0 0 ≡ 5 → ⊥) → (getD op 0 0 ≡ 6 → ⊥) → (getD op 0 0 ≡ 7 → ⊥) → (getD op 0 0 ≡ 8 → ⊥) → (getD op 0 0 ≡ 9 → ⊥) → (getD op 0 0 ≡ 10 → ⊥) → (getD op 0 0 ≡ 11 → ⊥) → (getD op 0 0 ≡ 12 → ⊥) → Calls.Unknown ≡ callOf op
+  unfolding callOf
+  call-none h1 h2 h3 h4 h5 h6 h7 h8 h9 h10 h11 h12 = sym (rw (ne-eqb (getD op 0 0) 1 h1, ne-eqb (getD op 0 0) 2 h2, ne-eqb (getD op 0 0) 3 h3, ne-eqb (getD op 0 0) 4 h4, ne-eqb (getD op 0 0) 5 h5, ne-eqb (getD op 0 0) 6 h6, ne-eqb (getD op 0 0) 7 h7, ne-eqb (getD op 0 0) 8 h8, ne-eqb (getD op 0 0) 9 h9, ne-eqb (getD op 0 0) 10 h10, ne-eqb (getD op 0 0) 11 h11, ne-eqb (getD op 0 0) 12 h12))
+
+pub ruleset kinds = (kind-1, kind-2, kind-4, kind-none)
+
+pub ruleset marks = (mark-0, mark-1, mark-none)
+
+pub ruleset exceptions = (exception-0, exception-1, exception-2, exception-3, exception-4, exception-5, exception-6, exception-7, exception-none)
+
+pub ruleset calls = (call-2, call-3, call-4, call-5, call-6, call-7, call-9, call-11, call-1, call-10, call-12, call-8, call-none)

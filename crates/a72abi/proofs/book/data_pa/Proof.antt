@@ -1,0 +1,31 @@
+-- `a72abi::book::data_pa` meets its contract.
+use Rattle.a72abi.proofs.Booking.{refused-reply, refused-core, data-value, data-faults, data-core}
+use borrow.Author.Needs.{needs}
+use Rattle.a72abi.proofs.book.data_pa.Statement.{statement}
+use Rattle.a72abi.proofs.book.data_pa.Tie as tie
+
+missed-requires : tie.Need-missed-requires
+missed-requires c κs = search needs
+
+returns : tie.Need-returns
+returns c = (search (refused-reply, needs), search (refused-core, needs))
+
+data-pa-requires : tie.Need-data-pa-requires
+data-pa-requires c κs = search needs
+
+enum-known-pa : tie.Need-enum-known-pa
+enum-known-pa c = search needs
+
+enum-told : tie.Need-enum-told
+enum-told c = search needs
+
+returns-2 : tie.Need-returns-2
+returns-2 c = (search (data-value, needs), search (data-core, needs))
+
+returns-3 : tie.Need-returns-3
+returns-3 c = (search (data-faults, needs), search (data-core, needs))
+
+pub data-pa-spec : {M : Type 1} → statement M
+data-pa-spec =
+    tie.close
+    (tie.spec missed-requires returns data-pa-requires enum-known-pa enum-told returns-2 returns-3)

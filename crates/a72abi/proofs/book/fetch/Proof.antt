@@ -1,0 +1,42 @@
+-- `a72abi::book::fetch` meets its contract.
+use Rattle.a72abi.proofs.Booking.{refused-reply, refused-core, fetch-value, fetch-aborted, fetch-core}
+use borrow.Author.Needs.{needs}
+use Rattle.a72abi.proofs.book.fetch.Statement.{statement}
+use Rattle.a72abi.proofs.book.fetch.Tie as tie
+
+missed-requires : tie.Need-missed-requires
+missed-requires c κs = search needs
+
+returns : tie.Need-returns
+returns c = (search (refused-reply, needs), search (refused-core, needs))
+
+fetch-requires : tie.Need-fetch-requires
+fetch-requires c κs = search needs
+
+enum-known-v : tie.Need-enum-known-v
+enum-known-v c = search needs
+
+cast-t16 : tie.Need-cast-t16
+cast-t16 c = search needs
+
+enum-known-e : tie.Need-enum-known-e
+enum-known-e c = search needs
+
+returns-2 : tie.Need-returns-2
+returns-2 c = (search (fetch-value, needs), search (fetch-core, needs))
+
+returns-3 : tie.Need-returns-3
+returns-3 c = (search (fetch-aborted, needs), search (fetch-core, needs))
+
+pub fetch-spec : {M : Type 1} → statement M
+fetch-spec =
+    tie.close
+    (tie.spec
+    missed-requires
+    returns
+    fetch-requires
+    enum-known-v
+    cast-t16
+    enum-known-e
+    returns-2
+    returns-3)

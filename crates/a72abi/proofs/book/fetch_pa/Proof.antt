@@ -1,0 +1,38 @@
+-- `a72abi::book::fetch_pa` meets its contract.
+use Rattle.a72abi.proofs.Booking.{refused-reply, refused-core, fetch-pa-value, fetch-pa-faults, fetch-pa-core}
+use borrow.Author.Needs.{needs}
+use Rattle.a72abi.proofs.book.fetch_pa.Statement.{statement}
+use Rattle.a72abi.proofs.book.fetch_pa.Tie as tie
+
+missed-requires : tie.Need-missed-requires
+missed-requires c κs = search needs
+
+returns : tie.Need-returns
+returns c = (search (refused-reply, needs), search (refused-core, needs))
+
+fetch-pa-requires : tie.Need-fetch-pa-requires
+fetch-pa-requires c κs = search needs
+
+enum-known-pa : tie.Need-enum-known-pa
+enum-known-pa c = search needs
+
+enum-told : tie.Need-enum-told
+enum-told c = search needs
+
+returns-2 : tie.Need-returns-2
+returns-2 c = (search (fetch-pa-value, needs), search (fetch-pa-core, needs))
+
+returns-3 : tie.Need-returns-3
+returns-3 c = (search (fetch-pa-faults, needs), search (fetch-pa-core, needs))
+
+pub fetch-pa-spec : {M : Type 1} → statement M
+fetch-pa-spec =
+    tie.close
+    (tie.spec
+    missed-requires
+    returns
+    fetch-pa-requires
+    enum-known-pa
+    enum-told
+    returns-2
+    returns-3)

@@ -1,0 +1,24 @@
+-- `a72abi::book::level` meets its contract.
+use Rattle.a72abi.proofs.Booking.{refused-reply, refused-core, level-reply, level-core}
+use borrow.Author.Needs.{needs}
+use Rattle.a72abi.proofs.book.level.Statement.{statement}
+use Rattle.a72abi.proofs.book.level.Tie as tie
+
+missed-requires : tie.Need-missed-requires
+missed-requires c κs = search needs
+
+returns : tie.Need-returns
+returns c = (search (refused-reply, needs), search (refused-core, needs))
+
+cast-put-level : tie.Need-cast-put-level
+cast-put-level c = search needs
+
+put-level-requires : tie.Need-put-level-requires
+put-level-requires c κs = search needs
+
+returns-2 : tie.Need-returns-2
+returns-2 c = (search (level-reply, needs), search (level-core, needs))
+
+pub level-spec : {M : Type 1} → statement M
+level-spec =
+    tie.close (tie.spec missed-requires returns cast-put-level put-level-requires returns-2)

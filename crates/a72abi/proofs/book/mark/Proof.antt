@@ -1,0 +1,20 @@
+-- `a72abi::book::mark` meets its contract.
+use Rattle.a72abi.proofs.Booking.{refused-reply, refused-core, mark-reply, mark-core}
+use borrow.Author.Needs.{needs}
+use Rattle.a72abi.proofs.book.mark.Statement.{statement}
+use Rattle.a72abi.proofs.book.mark.Tie as tie
+
+missed-requires : tie.Need-missed-requires
+missed-requires c κs = search needs
+
+returns : tie.Need-returns
+returns c = (search (refused-reply, needs), search (refused-core, needs))
+
+put-mark-requires : tie.Need-put-mark-requires
+put-mark-requires c κs = search needs
+
+returns-2 : tie.Need-returns-2
+returns-2 c = (search (mark-reply, needs), search (mark-core, needs))
+
+pub mark-spec : {M : Type 1} → statement M
+mark-spec = tie.close (tie.spec missed-requires returns put-mark-requires returns-2)

@@ -1,0 +1,28 @@
+-- `a72abi::book::system` meets its contract.
+use Rattle.a72abi.proofs.Booking.{refused-reply, refused-ram, refused-core, system-reply, system-ram, system-core}
+use borrow.Author.Needs.{needs}
+use Rattle.a72abi.proofs.book.system.Statement.{statement}
+use Rattle.a72abi.proofs.book.system.Tie as tie
+
+missed-requires : tie.Need-missed-requires
+missed-requires c κs = search needs
+
+returns : tie.Need-returns
+returns c = (search (refused-reply, needs), (search (refused-ram, needs), search (refused-core, needs)))
+
+system-requires : tie.Need-system-requires
+system-requires c κs = search needs
+
+stored-requires : tie.Need-stored-requires
+stored-requires c κs = search needs
+
+same-length : tie.Need-same-length
+same-length c = search needs
+
+returns-2 : tie.Need-returns-2
+returns-2 c = (search (system-reply, needs), (search (system-ram, needs), search (system-core, needs)))
+
+pub system-spec : {M : Type 1} → statement M
+system-spec =
+    tie.close
+    (tie.spec missed-requires returns system-requires stored-requires same-length returns-2)

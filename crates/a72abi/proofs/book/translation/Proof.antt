@@ -1,0 +1,38 @@
+-- `a72abi::book::translation` meets its contract.
+use Rattle.a72abi.proofs.Booking.{refused-reply, refused-core, translate-value, translate-fault, translate-core}
+use borrow.Author.Needs.{needs}
+use Rattle.a72abi.proofs.book.translation.Statement.{statement}
+use Rattle.a72abi.proofs.book.translation.Tie as tie
+
+missed-requires : tie.Need-missed-requires
+missed-requires c κs = search needs
+
+returns : tie.Need-returns
+returns c = (search (refused-reply, needs), search (refused-core, needs))
+
+translate-requires : tie.Need-translate-requires
+translate-requires c κs = search needs
+
+enum-known-pa : tie.Need-enum-known-pa
+enum-known-pa c = search needs
+
+enum-known-fsc : tie.Need-enum-known-fsc
+enum-known-fsc c = search needs
+
+returns-2 : tie.Need-returns-2
+returns-2 c = (search (translate-value, needs), search (translate-core, needs))
+
+returns-3 : tie.Need-returns-3
+returns-3 c = (search (translate-fault, needs), search (translate-core, needs))
+
+pub translation-spec : {M : Type 1} → statement M
+translation-spec =
+    tie.close
+    (tie.spec
+    missed-requires
+    returns
+    translate-requires
+    enum-known-pa
+    enum-known-fsc
+    returns-2
+    returns-3)

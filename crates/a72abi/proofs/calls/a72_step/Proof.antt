@@ -1,0 +1,42 @@
+-- `a72abi::calls::a72_step` meets its contract.
+use Rattle.a72abi.proofs.Stepping.{known-code, known-words, known-ram, known-core, unknown-code, unknown-words, unknown-ram, unknown-core}
+use borrow.Author.Needs.{needs}
+use Rattle.a72abi.proofs.calls.a72_step.Statement.{statement}
+use Rattle.a72abi.proofs.calls.a72_step.Tie as tie
+
+call-of-requires : tie.Need-call-of-requires
+call-of-requires c κs = search needs
+
+enum-known-call : tie.Need-enum-known-call
+enum-known-call c = search needs
+
+step-requires : tie.Need-step-requires
+step-requires c κs = search needs
+
+words-requires : tie.Need-words-requires
+words-requires c κs = search needs
+
+enum-told : tie.Need-enum-told
+enum-told c = search needs
+
+same-length : tie.Need-same-length
+same-length c = search needs
+
+returns : tie.Need-returns
+returns c = (search (known-code, needs), (search (known-words, needs), (search (known-ram, needs), search (known-core, needs))))
+
+returns-2 : tie.Need-returns-2
+returns-2 c = (search (unknown-code, needs), (search (unknown-words, needs), (search (unknown-ram, needs), search (unknown-core, needs))))
+
+pub a72-step-spec : {M : Type 1} → statement M
+a72-step-spec =
+    tie.close
+    (tie.spec
+    call-of-requires
+    enum-known-call
+    step-requires
+    words-requires
+    enum-told
+    same-length
+    returns
+    returns-2)

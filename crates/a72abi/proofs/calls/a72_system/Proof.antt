@@ -1,0 +1,20 @@
+-- `a72abi::calls::a72_system` meets its contract.
+use Rattle.a72abi.proofs.Glancing.{told-code, told-value}
+use borrow.Author.Needs.{needs}
+use Rattle.a72abi.proofs.calls.a72_system.Statement.{statement}
+use Rattle.a72abi.proofs.calls.a72_system.Tie as tie
+
+system-requires : tie.Need-system-requires
+system-requires c κs = search needs
+
+answer-requires : tie.Need-answer-requires
+answer-requires c κs = search needs
+
+same-length : tie.Need-same-length
+same-length c = search needs
+
+returns : tie.Need-returns
+returns c = (search (told-code, needs), (search (told-value, needs), (search needs, search needs)))
+
+pub a72-system-spec : {M : Type 1} → statement M
+a72-system-spec = tie.close (tie.spec system-requires answer-requires same-length returns)

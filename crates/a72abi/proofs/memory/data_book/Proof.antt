@@ -1,0 +1,17 @@
+-- `a72abi::memory::data_book` meets its contract.
+use Rattle.a72abi.proofs.Glancing.{told-code, told-value}
+use borrow.Author.Needs.{needs}
+use Rattle.a72abi.proofs.memory.data_book.Statement.{statement}
+use Rattle.a72abi.proofs.memory.data_book.Tie as tie
+
+data-pa-requires : tie.Need-data-pa-requires
+data-pa-requires c κs = search needs
+
+answer-requires : tie.Need-answer-requires
+answer-requires c κs = search needs
+
+returns : tie.Need-returns
+returns c = (search (told-code, needs), (search (told-value, needs), search needs))
+
+pub data-book-spec : {M : Type 1} → statement M
+data-book-spec = tie.close (tie.spec data-pa-requires answer-requires returns)

@@ -1,0 +1,23 @@
+-- `a72abi::op::abort_of` meets its contract.
+use Rattle.a72abi.proofs.Naming.{abort-known, abort-unknown}
+use borrow.Author.Needs.{needs}
+use Rattle.a72abi.proofs.op.abort_of.Statement.{statement}
+use Rattle.a72abi.proofs.op.abort_of.Tie as tie
+
+exception-of-requires : tie.Need-exception-of-requires
+exception-of-requires c κs = search needs
+
+enum-known-e : tie.Need-enum-known-e
+enum-known-e c = search needs
+
+enum-told : tie.Need-enum-told
+enum-told c = search needs
+
+returns : tie.Need-returns
+returns c = search (abort-known, abort-unknown, needs)
+
+returns-2 : tie.Need-returns-2
+returns-2 c = search (abort-known, abort-unknown, needs)
+
+pub abort-of-spec : {M : Type 1} → statement M
+abort-of-spec = tie.close (tie.spec exception-of-requires enum-known-e enum-told returns returns-2)

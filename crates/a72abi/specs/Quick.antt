@@ -1,0 +1,68 @@
+-- What is answered at a glance, and sizes in bytes.
+use mathlib.Core.Bool.{Bool, false}
+use mathlib.Core.List.{List}
+use Prim.Native.Nat.{ℕ, _-_, _^_}
+use lib.Dec.{ltb}
+use lib.ListN.{length}
+use Rattle.word.specs.Bits.{pick}
+use Rattle.word.specs.Ram.{bytesIn, within, wordAt, stored, widthOf}
+use Rattle.word.specs.declared.ram.Sized.{Sized}
+use Rattle.word.specs.declared.ram.Sized.the-variants.{Bytes, Refused as NoWidth}
+use Rattle.word.specs.declared.ram.Word.{Word}
+use Rattle.word.specs.declared.ram.Word.the-variants.{Outside}
+use Rattle.tlb.specs.Hint.{fetchFound}
+use Rattle.tlb.specs.declared.access.Kind.{Kind}
+use Rattle.tlb.specs.declared.hint.Physical.{Physical}
+use Rattle.tlb.specs.declared.hint.Physical.the-variants.{Unknown}
+use Rattle.mmu.specs.declared.core.Core.{Core}
+use Rattle.cpu.specs.Step.{stepOf}
+use Rattle.cpu.specs.declared.call.Call.the-variants as Call
+use Rattle.inplace.specs.Found.{hintFound}
+use Rattle.a72abi.specs.Replies.{codeBy, valueBy}
+use Rattle.a72abi.specs.declared.op.Kinds.{Kinds}
+use Rattle.a72abi.specs.declared.op.Kinds.the-variants.{Known, Unknown as NoKind}
+
+-- what a hint says, at a level up to 3 and over a window that ends below the last address
+abbrev pub atGlance : Core → ℕ → ℕ → Physical → Physical
+atGlance c base len p = pick (ltb 3 (c .who .level)) Unknown (pick (ltb (2 ^ 64 - 1 - len) base) Unknown p)
+
+unfoldable pub quickOf : Core → ℕ → ℕ → ℕ → Kind → Physical
+quickOf c base len va kind = atGlance c base len (hintFound c va kind)
+
+unfoldable pub quickFetchOf : Core → ℕ → ℕ → ℕ → Physical
+quickFetchOf c base len va = atGlance c base len (fetchFound (c .tlb .cache .fetch) (c .who .level) va)
+
+-- a size's bytes at an address; a size that is none has none there
+abbrev pub sizedIn : Sized → ℕ → List ℕ → ℕ → Word
+sizedIn (Bytes w) base ram pa = wordAt base ram (bytesIn w) pa
+sizedIn NoWidth base ram pa = Outside
+
+abbrev pub sizedAt : ℕ → List ℕ → ℕ → ℕ → Word
+sizedAt base ram size pa = sizedIn (widthOf size) base ram pa
+
+abbrev pub madeIn : Sized → ℕ → List ℕ → ℕ → Bool
+madeIn (Bytes w) base ram pa = within base (length ram) (bytesIn w) pa
+madeIn NoWidth base ram pa = false
+
+abbrev pub sizedMade : ℕ → List ℕ → ℕ → ℕ → Bool
+sizedMade base ram size pa = madeIn (widthOf size) base ram pa
+
+abbrev pub ramIn : Sized → ℕ → List ℕ → ℕ → ℕ → List ℕ
+ramIn (Bytes w) base ram pa v = stored base ram (bytesIn w) pa v
+ramIn NoWidth base ram pa v = ram
+
+abbrev pub sizedRam : ℕ → List ℕ → ℕ → ℕ → ℕ → List ℕ
+sizedRam base ram size pa v = ramIn (widthOf size) base ram pa v
+
+-- a translation by the number of its kind; 7 for no kind, and nothing changes
+unfoldable pub kindCode : Kinds → Core → ℕ → List ℕ → ℕ → ℕ
+kindCode (Known k) c base ram va = codeBy (stepOf c base ram (Call.Translate k va) .reply)
+kindCode NoKind c base ram va = 7
+
+unfoldable pub kindValue : Kinds → Core → ℕ → List ℕ → ℕ → ℕ → ℕ
+kindValue (Known k) c base ram va old = valueBy (stepOf c base ram (Call.Translate k va) .reply) old
+kindValue NoKind c base ram va old = old
+
+unfoldable pub kindCore : Kinds → Core → ℕ → List ℕ → ℕ → Core
+kindCore (Known k) c base ram va = stepOf c base ram (Call.Translate k va) .core
+kindCore NoKind c base ram va = c

@@ -1,0 +1,84 @@
+-- A reply as a number and a word, and as four words.
+use mathlib.Core.Bool.{Bool}
+use mathlib.Core.List.{List, [], _∷_}
+use Prim.Native.Nat.{ℕ, _+_}
+use Rattle.word.specs.Bits.{flag}
+use Rattle.entry.specs.declared.exception.Exception.{Exception}
+use Rattle.entry.specs.declared.exception.Exception.the-variants.{Undefined, Svc, Hvc, Smc, Brk, DataAbort, InsnAbort, PcAlignment}
+use Rattle.entry.specs.declared.exception.Stop.{Stop}
+use Rattle.entry.specs.declared.exception.Stop.the-variants as Stop
+use Rattle.cpu.specs.declared.call.Reply.{Reply}
+use Rattle.cpu.specs.declared.call.Reply.the-variants.{Refused, Done, Value, Faults, Fault, Stopped}
+
+-- 256 plus the status of an abort; 8 for every other exception, which is Undefined where an operation stops
+abbrev pub exceptionCode : Exception → ℕ
+exceptionCode (DataAbort addr write fsc) = 256 + fsc
+exceptionCode (InsnAbort addr fsc) = 256 + fsc
+exceptionCode Undefined = 8
+exceptionCode (Svc imm) = 8
+exceptionCode (Hvc imm) = 8
+exceptionCode (Smc imm) = 8
+exceptionCode (Brk imm) = 8
+exceptionCode PcAlignment = 8
+
+abbrev pub stopCode : Stop → ℕ
+stopCode (Stop.Exception e) = exceptionCode e
+stopCode Stop.Unimplemented = 9
+
+-- 0 where it is done; 1 to 6 where it is refused; 256 where it faults, plus the status where that is told
+abbrev pub codeBy : Reply → ℕ
+codeBy (Refused n) = n
+codeBy Done = 0
+codeBy (Value v) = 0
+codeBy Faults = 256
+codeBy (Fault addr fsc) = 256 + fsc
+codeBy (Stopped s) = stopCode s
+
+-- the value, or the address of a data abort; else the word stays
+abbrev pub exceptionValue : Exception → ℕ → ℕ
+exceptionValue (DataAbort addr write fsc) old = addr
+exceptionValue (InsnAbort addr fsc) old = old
+exceptionValue Undefined old = old
+exceptionValue (Svc imm) old = old
+exceptionValue (Hvc imm) old = old
+exceptionValue (Smc imm) old = old
+exceptionValue (Brk imm) old = old
+exceptionValue PcAlignment old = old
+
+abbrev pub stopValue : Stop → ℕ → ℕ
+stopValue (Stop.Exception e) old = exceptionValue e old
+stopValue Stop.Unimplemented old = old
+
+abbrev pub valueBy : Reply → ℕ → ℕ
+valueBy (Refused n) old = old
+valueBy Done old = old
+valueBy (Value v) old = v
+valueBy Faults old = old
+valueBy (Fault addr fsc) old = old
+valueBy (Stopped s) old = stopValue s old
+
+-- four words: what it is, then what it holds
+abbrev pub four : ℕ → ℕ → ℕ → ℕ → List ℕ
+four a b c d = a ∷ b ∷ c ∷ d ∷ []
+
+abbrev pub exceptionWords : Exception → List ℕ
+exceptionWords (DataAbort addr write fsc) = four 9 addr fsc (flag write 1)
+exceptionWords (InsnAbort addr fsc) = four 10 addr fsc 0
+exceptionWords Undefined = four 6 0 0 0
+exceptionWords (Svc imm) = four 6 0 0 0
+exceptionWords (Hvc imm) = four 6 0 0 0
+exceptionWords (Smc imm) = four 6 0 0 0
+exceptionWords (Brk imm) = four 6 0 0 0
+exceptionWords PcAlignment = four 6 0 0 0
+
+abbrev pub stopWords : Stop → List ℕ
+stopWords (Stop.Exception e) = exceptionWords e
+stopWords Stop.Unimplemented = four 7 0 0 0
+
+unfoldable pub wordsBy : Reply → List ℕ
+wordsBy (Refused n) = four 5 n 0 0
+wordsBy Done = four 0 0 0 0
+wordsBy (Value v) = four 1 v 0 0
+wordsBy Faults = four 2 0 0 0
+wordsBy (Fault addr fsc) = four 8 addr fsc 0
+wordsBy (Stopped s) = stopWords s

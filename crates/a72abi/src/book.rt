@@ -1,0 +1,218 @@
+// Each call on lent words by the book: the number of the first check that it misses, or its operation in place.
+ghost use mathlib.Core.Path.{_≡_};
+ghost use mathlib.Core.List.{[]};
+ghost use Rattle.cpu.specs.Check.{askedOf, missedOf};
+ghost use Rattle.cpu.specs.Step.{stepOf, ramAfter, storing};
+ghost use Rattle.cpu.specs.declared.call.Call.the-variants as Call;
+ghost use Rattle.words.specs.Held.{held};
+ghost use Rattle.words.specs.Moved.{Moved};
+use cpu::call::Call;
+use cpu::call::Encoding;
+use cpu::call::Reply;
+use cpu::check;
+use entry::exception::Exception;
+use entry::exception::Stop;
+use inplace::access;
+use inplace::translate;
+use mmu::ends::FetchAnswer;
+use mmu::ends::LoadAnswer;
+use mmu::ends::Reached;
+use mmu::ends::StoreAnswer;
+use sysreg::write::WriteAnswer;
+use tlb::access::Answer;
+use tlb::access::Kind;
+use word::ram;
+use word::ram::Sized;
+use words::state;
+
+// The number of the first check that a call misses, or 0.
+fn missed(state: &[u64; 5205], base: u64, len: u64, call: Call) -> u8
+    ensures { λ r. ⌜ r ≡ missedOf ((held (now (state .entry))) .who .level) base len (askedOf call) ⌝ }
+{
+    let who = state::who_at(state);
+    let asked = check::asked_of(call);
+    check::missed(who.level, base, len, asked)
+}
+
+pub fn translation(state: &mut [u64; 5205], base: u64, ram: &[u8], kind: Kind, va: u64) -> Reply
+    ensures { λ r. ⌜ r ≡ stepOf (held (now (state .entry))) base (now (ram .entry)) (Call.Translate kind va) .reply ⌝ }
+    ensures { λ r. ⌜ Moved (now (state .entry)) (now (state .exit)) (stepOf (held (now (state .entry))) base (now (ram .entry)) (Call.Translate kind va) .core) ⌝ }
+{
+    let n = missed(state, base, ram.len() as u64, Call::Translate(kind, va));
+    if n != 0 {
+        return Reply::Refused(n);
+    }
+    match translate::translate(state, va, kind, base, ram) {
+        Answer::Address(pa) => Reply::Value(pa),
+        Answer::Status(fsc) => Reply::Fault { addr: va, fsc },
+    }
+}
+
+pub fn data_pa(state: &mut [u64; 5205], base: u64, ram: &[u8], va: u64) -> Reply
+    ensures { λ r. ⌜ r ≡ stepOf (held (now (state .entry))) base (now (ram .entry)) (Call.DataPa va) .reply ⌝ }
+    ensures { λ r. ⌜ Moved (now (state .entry)) (now (state .exit)) (stepOf (held (now (state .entry))) base (now (ram .entry)) (Call.DataPa va) .core) ⌝ }
+{
+    let n = missed(state, base, ram.len() as u64, Call::DataPa(va));
+    if n != 0 {
+        return Reply::Refused(n);
+    }
+    match access::data_pa(state, va, base, ram) {
+        Reached::At(pa) => Reply::Value(pa),
+        Reached::Faults => Reply::Faults,
+    }
+}
+
+pub fn fetch_pa(state: &mut [u64; 5205], base: u64, ram: &[u8], va: u64) -> Reply
+    ensures { λ r. ⌜ r ≡ stepOf (held (now (state .entry))) base (now (ram .entry)) (Call.FetchPa va) .reply ⌝ }
+    ensures { λ r. ⌜ Moved (now (state .entry)) (now (state .exit)) (stepOf (held (now (state .entry))) base (now (ram .entry)) (Call.FetchPa va) .core) ⌝ }
+{
+    let n = missed(state, base, ram.len() as u64, Call::FetchPa(va));
+    if n != 0 {
+        return Reply::Refused(n);
+    }
+    match access::fetch_pa(state, va, base, ram) {
+        Reached::At(pa) => Reply::Value(pa),
+        Reached::Faults => Reply::Faults,
+    }
+}
+
+pub fn load(state: &mut [u64; 5205], base: u64, ram: &[u8], va: u64, size: u64) -> Reply
+    ensures { λ r. ⌜ r ≡ stepOf (held (now (state .entry))) base (now (ram .entry)) (Call.Load va size) .reply ⌝ }
+    ensures { λ r. ⌜ Moved (now (state .entry)) (now (state .exit)) (stepOf (held (now (state .entry))) base (now (ram .entry)) (Call.Load va size) .core) ⌝ }
+{
+    let n = missed(state, base, ram.len() as u64, Call::Load(va, size));
+    if n != 0 {
+        return Reply::Refused(n);
+    }
+    match ram::width_of(size) {
+        Sized::Bytes(width) => match access::load(state, va, width, base, ram) {
+            LoadAnswer::Value(v) => Reply::Value(v),
+            LoadAnswer::Stopped(s) => Reply::Stopped(s),
+        },
+        Sized::Refused => Reply::Refused(3),
+    }
+}
+
+fn stored(answer: StoreAnswer) -> Reply
+    ensures { λ r. ⌜ r ≡ storing answer ⌝ }
+{
+    match answer {
+        StoreAnswer::Done => Reply::Done,
+        StoreAnswer::Stopped(s) => Reply::Stopped(s),
+    }
+}
+
+pub fn store(
+    state: &mut [u64; 5205],
+    base: u64,
+    ram: &mut [u8],
+    va: u64,
+    size: u64,
+    value: u64,
+) -> Reply
+    ensures { λ r. ⌜ r ≡ stepOf (held (now (state .entry))) base (now (ram .entry)) (Call.Store va size value) .reply ⌝ }
+    ensures { λ r. ⌜ now (ram .exit) ≡ ramAfter (held (now (state .entry))) base (now (ram .entry)) (Call.Store va size value) ⌝ }
+    ensures { λ r. ⌜ Moved (now (state .entry)) (now (state .exit)) (stepOf (held (now (state .entry))) base (now (ram .entry)) (Call.Store va size value) .core) ⌝ }
+{
+    let n = missed(state, base, ram.len() as u64, Call::Store(va, size, value));
+    if n != 0 {
+        return Reply::Refused(n);
+    }
+    match ram::width_of(size) {
+        Sized::Bytes(width) => {
+            let answer = access::store(state, va, width, value, base, ram);
+            stored(answer)
+        }
+        Sized::Refused => Reply::Refused(3),
+    }
+}
+
+pub fn fetch(state: &mut [u64; 5205], base: u64, ram: &[u8], va: u64) -> Reply
+    ensures { λ r. ⌜ r ≡ stepOf (held (now (state .entry))) base (now (ram .entry)) (Call.Fetch va) .reply ⌝ }
+    ensures { λ r. ⌜ Moved (now (state .entry)) (now (state .exit)) (stepOf (held (now (state .entry))) base (now (ram .entry)) (Call.Fetch va) .core) ⌝ }
+{
+    let n = missed(state, base, ram.len() as u64, Call::Fetch(va));
+    if n != 0 {
+        return Reply::Refused(n);
+    }
+    match access::fetch(state, va, base, ram) {
+        FetchAnswer::Value(v) => Reply::Value(v as u64),
+        FetchAnswer::Aborted(e) => Reply::Stopped(Stop::Exception(e)),
+    }
+}
+
+pub fn system(state: &mut [u64; 5205], base: u64, ram: &mut [u8], e: Encoding) -> Reply
+    ensures { λ r. ⌜ r ≡ stepOf (held (now (state .entry))) base (now (ram .entry)) (Call.System e) .reply ⌝ }
+    ensures { λ r. ⌜ now (ram .exit) ≡ ramAfter (held (now (state .entry))) base (now (ram .entry)) (Call.System e) ⌝ }
+    ensures { λ r. ⌜ Moved (now (state .entry)) (now (state .exit)) (stepOf (held (now (state .entry))) base (now (ram .entry)) (Call.System e) .core) ⌝ }
+{
+    let n = missed(state, base, ram.len() as u64, Call::System(e));
+    if n != 0 {
+        return Reply::Refused(n);
+    }
+    let answer = insys::zero::system(state, base, ram, e.op1, e.crn, e.crm, e.op2, e.rt);
+    stored(answer)
+}
+
+pub fn register(state: &mut [u64; 5205], key: u32, value: u64) -> Reply
+    ensures { λ r. ⌜ r ≡ stepOf (held (now (state .entry))) 0 [] (Call.Register key value) .reply ⌝ }
+    ensures { λ r. ⌜ Moved (now (state .entry)) (now (state .exit)) (stepOf (held (now (state .entry))) 0 [] (Call.Register key value) .core) ⌝ }
+{
+    let n = missed(state, 0, 0, Call::Register(key, value));
+    if n != 0 {
+        return Reply::Refused(n);
+    }
+    match insys::register::write_register(state, key, value) {
+        WriteAnswer::Done => Reply::Done,
+        WriteAnswer::Undefined => Reply::Stopped(Stop::Exception(Exception::Undefined)),
+        WriteAnswer::NoRegister => Reply::Refused(6),
+    }
+}
+
+pub fn level(state: &mut [u64; 5205], level: u64) -> Reply
+    ensures { λ r. ⌜ r ≡ stepOf (held (now (state .entry))) 0 [] (Call.Level level) .reply ⌝ }
+    ensures { λ r. ⌜ Moved (now (state .entry)) (now (state .exit)) (stepOf (held (now (state .entry))) 0 [] (Call.Level level) .core) ⌝ }
+{
+    let n = missed(state, 0, 0, Call::Level(level));
+    if n != 0 {
+        return Reply::Refused(n);
+    }
+    state::put_level(state, (level % 4) as u8);
+    Reply::Done
+}
+
+pub fn mark(state: &mut [u64; 5205], mark: bool) -> Reply
+    ensures { λ r. ⌜ r ≡ stepOf (held (now (state .entry))) 0 [] (Call.Mark mark) .reply ⌝ }
+    ensures { λ r. ⌜ Moved (now (state .entry)) (now (state .exit)) (stepOf (held (now (state .entry))) 0 [] (Call.Mark mark) .core) ⌝ }
+{
+    let n = missed(state, 0, 0, Call::Mark(mark));
+    if n != 0 {
+        return Reply::Refused(n);
+    }
+    state::put_mark(state, mark);
+    Reply::Done
+}
+
+pub fn general(state: &mut [u64; 5205], number: u64, value: u64) -> Reply
+    ensures { λ r. ⌜ r ≡ stepOf (held (now (state .entry))) 0 [] (Call.General number value) .reply ⌝ }
+    ensures { λ r. ⌜ Moved (now (state .entry)) (now (state .exit)) (stepOf (held (now (state .entry))) 0 [] (Call.General number value) .core) ⌝ }
+{
+    let n = missed(state, 0, 0, Call::General(number, value));
+    if n != 0 {
+        return Reply::Refused(n);
+    }
+    state::put_general(state, number, value);
+    Reply::Done
+}
+
+pub fn abort(state: &mut [u64; 5205], e: Exception) -> Reply
+    ensures { λ r. ⌜ r ≡ stepOf (held (now (state .entry))) 0 [] (Call.Abort e) .reply ⌝ }
+    ensures { λ r. ⌜ Moved (now (state .entry)) (now (state .exit)) (stepOf (held (now (state .entry))) 0 [] (Call.Abort e) .core) ⌝ }
+{
+    let n = missed(state, 0, 0, Call::Abort(e));
+    if n != 0 {
+        return Reply::Refused(n);
+    }
+    insys::abort::abort(state, e);
+    Reply::Done
+}

@@ -1,0 +1,166 @@
+// The other calls on lent words, in place, and every call by its words.
+ghost use mathlib.Core.Path.{_≡_};
+ghost use mathlib.Core.List.{[]};
+ghost use Rattle.cpu.specs.Step.{stepOf, ramAfter};
+ghost use Rattle.cpu.specs.declared.call.Call.the-variants as Call;
+ghost use Rattle.mmu.specs.Core.{freshCore};
+ghost use Rattle.words.specs.Held.{held};
+ghost use Rattle.words.specs.Moved.{Moved};
+ghost use Rattle.a72abi.specs.Replies.{codeBy, valueBy, wordsBy};
+ghost use Rattle.a72abi.specs.Ops.{keyOf, encodingOf, exceptionAt, abortCall, markCall, callOf};
+ghost use Rattle.a72abi.specs.Steps.{callCode, callWords, callCore, callRam, callNumber};
+use crate::book;
+use crate::op;
+use crate::op::Calls;
+use crate::op::Exceptions;
+use crate::reply;
+use cpu::call::Call;
+use cpu::call::Encoding;
+use cpu::call::Reply;
+
+// Every word written: the core after reset.
+#[no_mangle]
+pub extern "C" fn a72_fresh(state: &mut [u64; 5205])
+    ensures { λ _. ⌜ held (now (state .exit)) ≡ freshCore ⌝ }
+{
+    words::fresh::fresh(state);
+}
+
+// A system operation: SYS op1, CRn, CRm, op2 with the register rt.
+#[no_mangle]
+pub extern "C" fn a72_system(
+    state: &mut [u64; 5205],
+    op1: u64,
+    crn: u64,
+    crm: u64,
+    op2: u64,
+    rt: u64,
+    ans: &mut u64,
+    base: u64,
+    ram: &mut [u8],
+) -> u64
+    ensures { λ r. ⌜ r ≡ codeBy (stepOf (held (now (state .entry))) base (now (ram .entry)) (Call.System (encodingOf op1 crn crm op2 rt)) .reply) ⌝ }
+    ensures { λ r. ⌜ now (ans .exit) ≡ valueBy (stepOf (held (now (state .entry))) base (now (ram .entry)) (Call.System (encodingOf op1 crn crm op2 rt)) .reply) (now (ans .entry)) ⌝ }
+    ensures { λ r. ⌜ now (ram .exit) ≡ ramAfter (held (now (state .entry))) base (now (ram .entry)) (Call.System (encodingOf op1 crn crm op2 rt)) ⌝ }
+    ensures { λ r. ⌜ Moved (now (state .entry)) (now (state .exit)) (stepOf (held (now (state .entry))) base (now (ram .entry)) (Call.System (encodingOf op1 crn crm op2 rt)) .core) ⌝ }
+{
+    let e = Encoding {
+        op1,
+        crn,
+        crm,
+        op2,
+        rt,
+    };
+    let r = book::system(state, base, ram, e);
+    reply::answer(r, ans)
+}
+
+// A register write.
+#[no_mangle]
+pub extern "C" fn a72_register(state: &mut [u64; 5205], key: u64, value: u64) -> u64
+    ensures { λ r. ⌜ r ≡ codeBy (stepOf (held (now (state .entry))) 0 [] (Call.Register (keyOf key) value) .reply) ⌝ }
+    ensures { λ r. ⌜ Moved (now (state .entry)) (now (state .exit)) (stepOf (held (now (state .entry))) 0 [] (Call.Register (keyOf key) value) .core) ⌝ }
+{
+    let k = op::key_of(key);
+    let r = book::register(state, k, value);
+    reply::number(r)
+}
+
+#[no_mangle]
+pub extern "C" fn a72_level(state: &mut [u64; 5205], level: u64) -> u64
+    ensures { λ r. ⌜ r ≡ codeBy (stepOf (held (now (state .entry))) 0 [] (Call.Level level) .reply) ⌝ }
+    ensures { λ r. ⌜ Moved (now (state .entry)) (now (state .exit)) (stepOf (held (now (state .entry))) 0 [] (Call.Level level) .core) ⌝ }
+{
+    let r = book::level(state, level);
+    reply::number(r)
+}
+
+#[no_mangle]
+pub extern "C" fn a72_general(state: &mut [u64; 5205], number: u64, value: u64) -> u64
+    ensures { λ r. ⌜ r ≡ codeBy (stepOf (held (now (state .entry))) 0 [] (Call.General number value) .reply) ⌝ }
+    ensures { λ r. ⌜ Moved (now (state .entry)) (now (state .exit)) (stepOf (held (now (state .entry))) 0 [] (Call.General number value) .core) ⌝ }
+{
+    let r = book::general(state, number, value);
+    reply::number(r)
+}
+
+// The mark, 0 or 1.
+#[no_mangle]
+pub extern "C" fn a72_mark(state: &mut [u64; 5205], mark: u64) -> u64
+    ensures { λ r. ⌜ r ≡ callNumber (markCall mark) (held (now (state .entry))) ⌝ }
+    ensures { λ r. ⌜ Moved (now (state .entry)) (now (state .exit)) (callCore (markCall mark) (held (now (state .entry))) 0 []) ⌝ }
+{
+    match mark {
+        0 => {
+            let r = book::mark(state, false);
+            reply::number(r)
+        }
+        1 => {
+            let r = book::mark(state, true);
+            reply::number(r)
+        }
+        _ => 7,
+    }
+}
+
+// Abort entry, of an exception in four words.
+#[no_mangle]
+pub extern "C" fn a72_abort(state: &mut [u64; 5205], e: &[u64; 4]) -> u64
+    ensures { λ r. ⌜ r ≡ callNumber (abortCall (exceptionAt (now (e .entry)))) (held (now (state .entry))) ⌝ }
+    ensures { λ r. ⌜ Moved (now (state .entry)) (now (state .exit)) (callCore (abortCall (exceptionAt (now (e .entry)))) (held (now (state .entry))) 0 []) ⌝ }
+{
+    match op::exception_of(e[0], e[1], e[2], e[3]) {
+        Exceptions::Known(x) => {
+            let r = book::abort(state, x);
+            reply::number(r)
+        }
+        Exceptions::Unknown => 7,
+    }
+}
+
+// The operation that a call is.
+fn step(state: &mut [u64; 5205], base: u64, ram: &mut [u8], call: Call) -> Reply
+    ensures { λ r. ⌜ r ≡ stepOf (held (now (state .entry))) base (now (ram .entry)) call .reply ⌝ }
+    ensures { λ r. ⌜ now (ram .exit) ≡ ramAfter (held (now (state .entry))) base (now (ram .entry)) call ⌝ }
+    ensures { λ r. ⌜ Moved (now (state .entry)) (now (state .exit)) (stepOf (held (now (state .entry))) base (now (ram .entry)) call .core) ⌝ }
+{
+    match call {
+        Call::Translate(kind, va) => book::translation(state, base, ram, kind, va),
+        Call::DataPa(va) => book::data_pa(state, base, ram, va),
+        Call::FetchPa(va) => book::fetch_pa(state, base, ram, va),
+        Call::Load(va, size) => book::load(state, base, ram, va, size),
+        Call::Store(va, size, value) => book::store(state, base, ram, va, size, value),
+        Call::Fetch(va) => book::fetch(state, base, ram, va),
+        Call::System(e) => book::system(state, base, ram, e),
+        Call::Register(key, value) => book::register(state, key, value),
+        Call::Level(level) => book::level(state, level),
+        Call::Mark(mark) => book::mark(state, mark),
+        Call::General(number, value) => book::general(state, number, value),
+        Call::Abort(e) => book::abort(state, e),
+    }
+}
+
+// The call that eight words name: 0, and its answer in four words; 7 where they name none.
+#[no_mangle]
+pub extern "C" fn a72_step(
+    op: &[u64; 8],
+    state: &mut [u64; 5205],
+    base: u64,
+    ram: &mut [u8],
+    ans: &mut [u64; 4],
+) -> u64
+    ensures { λ r. ⌜ r ≡ callCode (callOf (now (op .entry))) ⌝ }
+    ensures { λ r. ⌜ now (ans .exit) ≡ callWords (callOf (now (op .entry))) (held (now (state .entry))) base (now (ram .entry)) (now (ans .entry)) ⌝ }
+    ensures { λ r. ⌜ now (ram .exit) ≡ callRam (callOf (now (op .entry))) (held (now (state .entry))) base (now (ram .entry)) ⌝ }
+    ensures { λ r. ⌜ Moved (now (state .entry)) (now (state .exit)) (callCore (callOf (now (op .entry))) (held (now (state .entry))) base (now (ram .entry))) ⌝ }
+{
+    match op::call_of(op) {
+        Calls::Known(call) => {
+            let r = step(state, base, ram, call);
+            let words = reply::words(r);
+            *ans = words;
+            0
+        }
+        Calls::Unknown => 7,
+    }
+}

@@ -1,0 +1,222 @@
+// Memory operations on lent words, in place: what a hint answers at a glance, and all else by the book. Each gives a number: 0 and in ans
+// the address or value; 1 to 6 for the check that it misses; 7 where a code names nothing; 256 plus the status of a fault.
+ghost use mathlib.Core.Path.{_≡_};
+ghost use mathlib.Core.List.{[]};
+ghost use Rattle.cpu.specs.Step.{stepOf, ramAfter};
+ghost use Rattle.cpu.specs.declared.call.Call.the-variants as Call;
+ghost use Rattle.words.specs.Held.{held};
+ghost use Rattle.words.specs.Moved.{Moved};
+ghost use Rattle.a72abi.specs.Replies.{codeBy, valueBy, wordsBy};
+ghost use Rattle.word.specs.Ram.{wordAt};
+ghost use Rattle.a72abi.specs.Ops.{kindOf};
+ghost use Rattle.a72abi.specs.Quick.{quickOf, quickFetchOf, sizedAt, sizedMade, sizedRam, kindCode, kindValue, kindCore};
+use crate::book;
+use crate::op;
+use crate::op::Kinds;
+use crate::reply;
+use inplace::translate;
+use mmu::bytes;
+use mmu::bytes::Insn;
+use tlb::access::Kind;
+use tlb::hint;
+use tlb::hint::Physical;
+use word::ram;
+use word::ram::Width;
+use word::ram::Word;
+use words::cells;
+use words::state;
+
+// What the hint says, where the level and the window pass at a glance. A window that ends at the last address is left to the book.
+pub(crate) fn quick(state: &[u64; 5205], va: u64, kind: Kind, base: u64, len: u64) -> Physical
+    ensures { λ r. ⌜ r ≡ quickOf (held (now (state .entry))) base len va kind ⌝ }
+{
+    let who = state::who_at(state);
+    if 3 < who.level {
+        return Physical::Unknown;
+    }
+    if u64::MAX - len < base {
+        return Physical::Unknown;
+    }
+    translate::by_hint(state, va, kind)
+}
+
+// The same of the fetch hint.
+fn quick_fetch(state: &[u64; 5205], va: u64, base: u64, len: u64) -> Physical
+    ensures { λ r. ⌜ r ≡ quickFetchOf (held (now (state .entry))) base len va ⌝ }
+{
+    let who = state::who_at(state);
+    if 3 < who.level {
+        return Physical::Unknown;
+    }
+    if u64::MAX - len < base {
+        return Physical::Unknown;
+    }
+    let f = cells::fetch_at(state);
+    hint::fetch_found(f, who.level, va)
+}
+
+fn translate_book(
+    state: &mut [u64; 5205],
+    va: u64,
+    kind: u64,
+    ans: &mut u64,
+    base: u64,
+    ram: &[u8],
+) -> u64
+    ensures { λ r. ⌜ r ≡ kindCode (kindOf kind) (held (now (state .entry))) base (now (ram .entry)) va ⌝ }
+    ensures { λ r. ⌜ now (ans .exit) ≡ kindValue (kindOf kind) (held (now (state .entry))) base (now (ram .entry)) va (now (ans .entry)) ⌝ }
+    ensures { λ r. ⌜ Moved (now (state .entry)) (now (state .exit)) (kindCore (kindOf kind) (held (now (state .entry))) base (now (ram .entry)) va) ⌝ }
+{
+    match op::kind_of(kind) {
+        Kinds::Known(k) => {
+            let r = book::translation(state, base, ram, k, va);
+            reply::answer(r, ans)
+        }
+        Kinds::Unknown => 7,
+    }
+}
+
+// The translation of va for an access of a kind: 1 read, 2 write, 4 fetch.
+#[no_mangle]
+pub extern "C" fn a72_translate(
+    state: &mut [u64; 5205],
+    va: u64,
+    kind: u64,
+    ans: &mut u64,
+    base: u64,
+    ram: &[u8],
+) -> u64
+    ensures { λ r. ⌜ r ≡ kindCode (kindOf kind) (held (now (state .entry))) base (now (ram .entry)) va ⌝ }
+    ensures { λ r. ⌜ now (ans .exit) ≡ kindValue (kindOf kind) (held (now (state .entry))) base (now (ram .entry)) va (now (ans .entry)) ⌝ }
+    ensures { λ r. ⌜ Moved (now (state .entry)) (now (state .exit)) (kindCore (kindOf kind) (held (now (state .entry))) base (now (ram .entry)) va) ⌝ }
+{
+    let who = state::who_at(state);
+    let len = ram.len() as u64;
+    if 3 < who.level {
+        return translate_book(state, va, kind, ans, base, ram);
+    }
+    if u64::MAX - len < base {
+        return translate_book(state, va, kind, ans, base, ram);
+    }
+    if kind < 2 {
+        if kind == 1 {
+            match translate::by_hint(state, va, Kind::Read) {
+                Physical::At(pa) => {
+                    *ans = pa;
+                    0
+                }
+                Physical::Unknown => translate::find(state, va, Kind::Read, ans, base, ram),
+            }
+        } else {
+            7
+        }
+    } else {
+        match kind {
+            2 => match translate::by_hint(state, va, Kind::Write) {
+                Physical::At(pa) => {
+                    *ans = pa;
+                    0
+                }
+                Physical::Unknown => translate::find(state, va, Kind::Write, ans, base, ram),
+            },
+            4 => translate::find(state, va, Kind::Fetch, ans, base, ram),
+            _ => 7,
+        }
+    }
+}
+
+fn data_book(state: &mut [u64; 5205], va: u64, ans: &mut u64, base: u64, ram: &[u8]) -> u64
+    ensures { λ r. ⌜ r ≡ codeBy (stepOf (held (now (state .entry))) base (now (ram .entry)) (Call.DataPa va) .reply) ⌝ }
+    ensures { λ r. ⌜ now (ans .exit) ≡ valueBy (stepOf (held (now (state .entry))) base (now (ram .entry)) (Call.DataPa va) .reply) (now (ans .entry)) ⌝ }
+    ensures { λ r. ⌜ Moved (now (state .entry)) (now (state .exit)) (stepOf (held (now (state .entry))) base (now (ram .entry)) (Call.DataPa va) .core) ⌝ }
+{
+    let r = book::data_pa(state, base, ram, va);
+    reply::answer(r, ans)
+}
+
+// Where a data read of va goes.
+#[no_mangle]
+pub extern "C" fn a72_data_pa(
+    state: &mut [u64; 5205],
+    va: u64,
+    ans: &mut u64,
+    base: u64,
+    ram: &[u8],
+) -> u64
+    ensures { λ r. ⌜ r ≡ codeBy (stepOf (held (now (state .entry))) base (now (ram .entry)) (Call.DataPa va) .reply) ⌝ }
+    ensures { λ r. ⌜ now (ans .exit) ≡ valueBy (stepOf (held (now (state .entry))) base (now (ram .entry)) (Call.DataPa va) .reply) (now (ans .entry)) ⌝ }
+    ensures { λ r. ⌜ Moved (now (state .entry)) (now (state .exit)) (stepOf (held (now (state .entry))) base (now (ram .entry)) (Call.DataPa va) .core) ⌝ }
+{
+    match quick(state, va, Kind::Read, base, ram.len() as u64) {
+        Physical::At(pa) => {
+            *ans = pa;
+            0
+        }
+        Physical::Unknown => data_book(state, va, ans, base, ram),
+    }
+}
+
+fn fetch_pa_book(state: &mut [u64; 5205], va: u64, ans: &mut u64, base: u64, ram: &[u8]) -> u64
+    ensures { λ r. ⌜ r ≡ codeBy (stepOf (held (now (state .entry))) base (now (ram .entry)) (Call.FetchPa va) .reply) ⌝ }
+    ensures { λ r. ⌜ now (ans .exit) ≡ valueBy (stepOf (held (now (state .entry))) base (now (ram .entry)) (Call.FetchPa va) .reply) (now (ans .entry)) ⌝ }
+    ensures { λ r. ⌜ Moved (now (state .entry)) (now (state .exit)) (stepOf (held (now (state .entry))) base (now (ram .entry)) (Call.FetchPa va) .core) ⌝ }
+{
+    let r = book::fetch_pa(state, base, ram, va);
+    reply::answer(r, ans)
+}
+
+// Where a fetch of va goes.
+#[no_mangle]
+pub extern "C" fn a72_fetch_pa(
+    state: &mut [u64; 5205],
+    va: u64,
+    ans: &mut u64,
+    base: u64,
+    ram: &[u8],
+) -> u64
+    ensures { λ r. ⌜ r ≡ codeBy (stepOf (held (now (state .entry))) base (now (ram .entry)) (Call.FetchPa va) .reply) ⌝ }
+    ensures { λ r. ⌜ now (ans .exit) ≡ valueBy (stepOf (held (now (state .entry))) base (now (ram .entry)) (Call.FetchPa va) .reply) (now (ans .entry)) ⌝ }
+    ensures { λ r. ⌜ Moved (now (state .entry)) (now (state .exit)) (stepOf (held (now (state .entry))) base (now (ram .entry)) (Call.FetchPa va) .core) ⌝ }
+{
+    match quick_fetch(state, va, base, ram.len() as u64) {
+        Physical::At(pa) => {
+            *ans = pa;
+            0
+        }
+        Physical::Unknown => fetch_pa_book(state, va, ans, base, ram),
+    }
+}
+
+fn fetch_book(state: &mut [u64; 5205], va: u64, ans: &mut u64, base: u64, ram: &[u8]) -> u64
+    ensures { λ r. ⌜ r ≡ codeBy (stepOf (held (now (state .entry))) base (now (ram .entry)) (Call.Fetch va) .reply) ⌝ }
+    ensures { λ r. ⌜ now (ans .exit) ≡ valueBy (stepOf (held (now (state .entry))) base (now (ram .entry)) (Call.Fetch va) .reply) (now (ans .entry)) ⌝ }
+    ensures { λ r. ⌜ Moved (now (state .entry)) (now (state .exit)) (stepOf (held (now (state .entry))) base (now (ram .entry)) (Call.Fetch va) .core) ⌝ }
+{
+    let r = book::fetch(state, base, ram, va);
+    reply::answer(r, ans)
+}
+
+// The instruction at va.
+#[no_mangle]
+pub extern "C" fn a72_fetch(
+    state: &mut [u64; 5205],
+    va: u64,
+    ans: &mut u64,
+    base: u64,
+    ram: &[u8],
+) -> u64
+    ensures { λ r. ⌜ r ≡ codeBy (stepOf (held (now (state .entry))) base (now (ram .entry)) (Call.Fetch va) .reply) ⌝ }
+    ensures { λ r. ⌜ now (ans .exit) ≡ valueBy (stepOf (held (now (state .entry))) base (now (ram .entry)) (Call.Fetch va) .reply) (now (ans .entry)) ⌝ }
+    ensures { λ r. ⌜ Moved (now (state .entry)) (now (state .exit)) (stepOf (held (now (state .entry))) base (now (ram .entry)) (Call.Fetch va) .core) ⌝ }
+{
+    match quick_fetch(state, va, base, ram.len() as u64) {
+        Physical::At(pa) => match bytes::insn_at(base, ram, pa) {
+            Insn::Value(v) => {
+                *ans = v as u64;
+                0
+            }
+            Insn::Outside => fetch_book(state, va, ans, base, ram),
+        },
+        Physical::Unknown => fetch_book(state, va, ans, base, ram),
+    }
+}

@@ -1,0 +1,125 @@
+// A call as words.
+ghost use mathlib.Core.Path.{_≡_};
+ghost use Rattle.a72abi.specs.Ops.{kindOf, exceptionOf, keyOf, translateCall, abortCall, markCall, callOf};
+use cpu::call::Call;
+use cpu::call::Encoding;
+use entry::exception::Exception;
+use tlb::access::Kind;
+
+// What a word names, or nothing.
+pub enum Kinds {
+    Known(Kind),
+    Unknown,
+}
+
+pub enum Exceptions {
+    Known(Exception),
+    Unknown,
+}
+
+pub enum Calls {
+    Known(Call),
+    Unknown,
+}
+
+pub fn kind_of(word: u64) -> Kinds
+    ensures { λ r. ⌜ r ≡ kindOf word ⌝ }
+{
+    match word {
+        1 => Kinds::Known(Kind::Read),
+        2 => Kinds::Known(Kind::Write),
+        4 => Kinds::Known(Kind::Fetch),
+        _ => Kinds::Unknown,
+    }
+}
+
+// 0 Undefined; 1 SVC, 2 HVC, 3 SMC, 4 BRK, each with its immediate; 5 data abort with address, write and status; 6 instruction abort
+// with address and status; 7 PC alignment. An immediate has 16 bits and a status 8.
+pub fn exception_of(code: u64, a: u64, b: u64, c: u64) -> Exceptions
+    ensures { λ r. ⌜ r ≡ exceptionOf code a b c ⌝ }
+{
+    let imm = (a % 0x1_0000) as u16;
+    match code {
+        0 => Exceptions::Known(Exception::Undefined),
+        1 => Exceptions::Known(Exception::Svc(imm)),
+        2 => Exceptions::Known(Exception::Hvc(imm)),
+        3 => Exceptions::Known(Exception::Smc(imm)),
+        4 => Exceptions::Known(Exception::Brk(imm)),
+        5 => Exceptions::Known(Exception::DataAbort {
+            addr: a,
+            write: b == 1,
+            fsc: (c % 256) as u8,
+        }),
+        6 => Exceptions::Known(Exception::InsnAbort {
+            addr: a,
+            fsc: (b % 256) as u8,
+        }),
+        7 => Exceptions::Known(Exception::PcAlignment),
+        _ => Exceptions::Unknown,
+    }
+}
+
+fn translate_of(kind: u64, va: u64) -> Calls
+    ensures { λ r. ⌜ r ≡ translateCall (kindOf kind) va ⌝ }
+{
+    match kind_of(kind) {
+        Kinds::Known(k) => Calls::Known(Call::Translate(k, va)),
+        Kinds::Unknown => Calls::Unknown,
+    }
+}
+
+fn mark_of(word: u64) -> Calls
+    ensures { λ r. ⌜ r ≡ markCall word ⌝ }
+{
+    match word {
+        0 => Calls::Known(Call::Mark(false)),
+        1 => Calls::Known(Call::Mark(true)),
+        _ => Calls::Unknown,
+    }
+}
+
+// A key that no 32 bits hold is that of no register.
+pub fn key_of(word: u64) -> u32
+    ensures { λ r. ⌜ r ≡ keyOf word ⌝ }
+{
+    if word < 0x1_0000_0000 { word as u32 } else { 0 }
+}
+
+fn abort_of(code: u64, a: u64, b: u64, c: u64) -> Calls
+    ensures { λ r. ⌜ r ≡ abortCall (exceptionOf code a b c) ⌝ }
+{
+    match exception_of(code, a, b, c) {
+        Exceptions::Known(e) => Calls::Known(Call::Abort(e)),
+        Exceptions::Unknown => Calls::Unknown,
+    }
+}
+
+// The call that eight words name.
+pub fn call_of(op: &[u64; 8]) -> Calls
+    ensures { λ r. ⌜ r ≡ callOf (now (op .entry)) ⌝ }
+{
+    match op[0] {
+        1 => translate_of(op[1], op[2]),
+        2 => Calls::Known(Call::DataPa(op[1])),
+        3 => Calls::Known(Call::FetchPa(op[1])),
+        4 => Calls::Known(Call::Load(op[1], op[2])),
+        5 => Calls::Known(Call::Store(op[1], op[2], op[3])),
+        6 => Calls::Known(Call::Fetch(op[1])),
+        7 => Calls::Known(Call::System(Encoding {
+            op1: op[1],
+            crn: op[2],
+            crm: op[3],
+            op2: op[4],
+            rt: op[5],
+        })),
+        8 => {
+            let key = key_of(op[1]);
+            Calls::Known(Call::Register(key, op[2]))
+        }
+        9 => Calls::Known(Call::Level(op[1])),
+        10 => mark_of(op[1]),
+        11 => Calls::Known(Call::General(op[1], op[2])),
+        12 => abort_of(op[1], op[2], op[3], op[4]),
+        _ => Calls::Unknown,
+    }
+}

@@ -1,0 +1,114 @@
+// A reply as a number and a word, and as four words.
+ghost use mathlib.Core.Path.{_≡_};
+ghost use Rattle.word.specs.Bits.{flag};
+ghost use Rattle.a72abi.specs.Replies.{exceptionCode, stopCode, codeBy, exceptionValue, stopValue, valueBy, exceptionWords, stopWords, wordsBy};
+use cpu::call::Reply;
+use entry::exception::Exception;
+use entry::exception::Stop;
+
+fn one(on: bool) -> u64
+    ensures { λ r. ⌜ r ≡ flag on 1 ⌝ }
+{
+    if on { 1 } else { 0 }
+}
+
+// The number of an exception that stops an operation, and the address of a data abort.
+fn told(e: Exception, ans: &mut u64) -> u64
+    ensures { λ r. ⌜ r ≡ exceptionCode e ⌝ }
+    ensures { λ _. ⌜ now (ans .exit) ≡ exceptionValue e (now (ans .entry)) ⌝ }
+{
+    match e {
+        Exception::DataAbort {
+            addr,
+            write: _,
+            fsc,
+        } => {
+            *ans = addr;
+            256 + fsc as u64
+        }
+        Exception::InsnAbort { addr: _, fsc } => 256 + fsc as u64,
+        Exception::Undefined => 8,
+        Exception::Svc(_) => 8,
+        Exception::Hvc(_) => 8,
+        Exception::Smc(_) => 8,
+        Exception::Brk(_) => 8,
+        Exception::PcAlignment => 8,
+    }
+}
+
+fn stopped(stop: Stop, ans: &mut u64) -> u64
+    ensures { λ r. ⌜ r ≡ stopCode stop ⌝ }
+    ensures { λ _. ⌜ now (ans .exit) ≡ stopValue stop (now (ans .entry)) ⌝ }
+{
+    match stop {
+        Stop::Exception(e) => told(e, ans),
+        Stop::Unimplemented => 9,
+    }
+}
+
+// The number of a reply, and in ans its value or the address of its data abort.
+pub fn answer(reply: Reply, ans: &mut u64) -> u64
+    ensures { λ r. ⌜ r ≡ codeBy reply ⌝ }
+    ensures { λ _. ⌜ now (ans .exit) ≡ valueBy reply (now (ans .entry)) ⌝ }
+{
+    match reply {
+        Reply::Refused(n) => n as u64,
+        Reply::Done => 0,
+        Reply::Value(v) => {
+            *ans = v;
+            0
+        }
+        Reply::Faults => 256,
+        Reply::Fault { addr: _, fsc } => 256 + fsc as u64,
+        Reply::Stopped(stop) => stopped(stop, ans),
+    }
+}
+
+// Its number alone.
+pub fn number(reply: Reply) -> u64
+    ensures { λ r. ⌜ r ≡ codeBy reply ⌝ }
+{
+    let mut dropped: u64 = 0;
+    answer(reply, &mut dropped)
+}
+
+fn exception_words(e: Exception) -> [u64; 4]
+    ensures { λ r. ⌜ r ≡ exceptionWords e ⌝ }
+{
+    match e {
+        Exception::DataAbort { addr, write, fsc } => {
+            let w = one(write);
+            [9, addr, fsc as u64, w]
+        }
+        Exception::InsnAbort { addr, fsc } => [10, addr, fsc as u64, 0],
+        Exception::Undefined => [6, 0, 0, 0],
+        Exception::Svc(_) => [6, 0, 0, 0],
+        Exception::Hvc(_) => [6, 0, 0, 0],
+        Exception::Smc(_) => [6, 0, 0, 0],
+        Exception::Brk(_) => [6, 0, 0, 0],
+        Exception::PcAlignment => [6, 0, 0, 0],
+    }
+}
+
+fn stop_words(stop: Stop) -> [u64; 4]
+    ensures { λ r. ⌜ r ≡ stopWords stop ⌝ }
+{
+    match stop {
+        Stop::Exception(e) => exception_words(e),
+        Stop::Unimplemented => [7, 0, 0, 0],
+    }
+}
+
+// The four words of a reply.
+pub fn words(reply: Reply) -> [u64; 4]
+    ensures { λ r. ⌜ r ≡ wordsBy reply ⌝ }
+{
+    match reply {
+        Reply::Refused(n) => [5, n as u64, 0, 0],
+        Reply::Done => [0, 0, 0, 0],
+        Reply::Value(v) => [1, v, 0, 0],
+        Reply::Faults => [2, 0, 0, 0],
+        Reply::Fault { addr, fsc } => [8, addr, fsc as u64, 0],
+        Reply::Stopped(stop) => stop_words(stop),
+    }
+}

@@ -1,0 +1,5 @@
+pub mod Caches
+pub mod Registers
+pub mod Systems
+pub mod Aborts
+pub mod Zeroes

@@ -1,0 +1,94 @@
+-- `insys::zero::system` meets its contract.
+use Rattle.insys.proofs.Zeroes.{at-answer, at-core, at-ram, tlbi-answer, tlbi-core, tlbi-ram, zva-answer, zva-core, zva-ram, nothing-answer, nothing-core, nothing-ram, undefined-answer, undefined-core, undefined-ram, unimplemented-answer, unimplemented-core, unimplemented-ram}
+use borrow.Author.Needs.{needs}
+use Rattle.insys.proofs.zero.system.Statement.{statement}
+use Rattle.insys.proofs.zero.system.Tie as tie
+
+general-at-requires : tie.Need-general-at-requires
+general-at-requires c κs = search needs
+
+who-at-requires : tie.Need-who-at-requires
+who-at-requires c κs = search needs
+
+decode-requires : tie.Need-decode-requires
+decode-requires c κs = search needs
+
+enum-known-form : tie.Need-enum-known-form
+enum-known-form c = search needs
+
+at-requires : tie.Need-at-requires
+at-requires c κs = search needs
+
+enum-told : tie.Need-enum-told
+enum-told c = search needs
+
+tlbi-requires : tie.Need-tlbi-requires
+tlbi-requires c κs = search needs
+
+enum-told-2 : tie.Need-enum-told-2
+enum-told-2 c = search needs
+
+sub-zero-from : tie.Need-sub-zero-from
+sub-zero-from c = search needs
+
+zero-from-requires : tie.Need-zero-from-requires
+zero-from-requires c κs = search needs
+
+enum-told-3 : tie.Need-enum-told-3
+enum-told-3 c = search needs
+
+enum-told-4 : tie.Need-enum-told-4
+enum-told-4 c = search needs
+
+enum-told-5 : tie.Need-enum-told-5
+enum-told-5 c = search needs
+
+same-length : tie.Need-same-length
+same-length c = search needs
+
+returns : tie.Need-returns
+returns c = (search (at-answer, needs), (search (at-core, needs), search (at-ram, needs)))
+
+returns-2 : tie.Need-returns-2
+returns-2 c = (search (tlbi-answer, needs), (search (tlbi-core, needs), search (tlbi-ram, needs)))
+
+same-length-2 : tie.Need-same-length-2
+same-length-2 c = search needs
+
+returns-3 : tie.Need-returns-3
+returns-3 c = (search (zva-answer, needs), (search (zva-core, needs), search (zva-ram, needs)))
+
+returns-4 : tie.Need-returns-4
+returns-4 c = (search (nothing-answer, needs), (search (nothing-core, needs), search (nothing-ram, needs)))
+
+returns-5 : tie.Need-returns-5
+returns-5 c = (search (undefined-answer, needs), (search (undefined-core, needs), search (undefined-ram, needs)))
+
+returns-6 : tie.Need-returns-6
+returns-6 c = (search (unimplemented-answer, needs), (search (unimplemented-core, needs), search (unimplemented-ram, needs)))
+
+pub system-spec : {M : Type 1} → statement M
+system-spec =
+    tie.close
+    (tie.spec
+    general-at-requires
+    who-at-requires
+    decode-requires
+    enum-known-form
+    at-requires
+    enum-told
+    tlbi-requires
+    enum-told-2
+    sub-zero-from
+    zero-from-requires
+    enum-told-3
+    enum-told-4
+    enum-told-5
+    same-length
+    returns
+    returns-2
+    same-length-2
+    returns-3
+    returns-4
+    returns-5
+    returns-6)

@@ -1,0 +1,124 @@
+// Register writes in place.
+ghost use mathlib.Core.Path.{_≡_};
+ghost use Rattle.sysreg.specs.Shape.{shape, member, asidOf};
+ghost use Rattle.sysreg.specs.Write.{wrote};
+ghost use Rattle.tlb.specs.Tlb.{flushOf, retagOf};
+ghost use Rattle.mmu.specs.Ops.{withTlb};
+ghost use Rattle.exec.specs.Fit.{retaggedOf};
+ghost use Rattle.exec.specs.Ops.{appliedOf, writeRegister};
+ghost use Rattle.words.specs.Held.{held};
+ghost use Rattle.words.specs.Moved.{Moved};
+ghost use Rattle.insys.specs.Register.{reshaped};
+use sysreg::encoding;
+use sysreg::encoding::Found;
+use sysreg::regs::ControlReg;
+use sysreg::regs::El;
+use sysreg::regs::Register;
+use sysreg::shape;
+use sysreg::write::WriteAnswer;
+use words::clear;
+use words::counts;
+use words::regs;
+use words::state;
+
+// Every entry and every hint out.
+pub fn flush(state: &mut [u64; 5205])
+    ensures { λ _. ⌜ Moved (now (state .entry)) (now (state .exit)) (withTlb (held (now (state .entry))) (flushOf (held (now (state .entry)) .tlb))) ⌝ }
+{
+    let at = counts::present_at(state);
+    let next = std::num::wrapping_add_u32(at.generation, 1);
+    clear::no_hints(state);
+    counts::count_flush(state);
+    if next == 0 {
+        clear::no_entries(state);
+        counts::put_generation(state, 1);
+    } else {
+        counts::put_generation(state, next);
+    }
+}
+
+// Another ASID in force, and every hint out.
+pub fn retag(state: &mut [u64; 5205], asid: u16)
+    ensures { λ _. ⌜ Moved (now (state .entry)) (now (state .exit)) (withTlb (held (now (state .entry))) (retagOf (held (now (state .entry)) .tlb) asid)) ⌝ }
+{
+    clear::no_hints(state);
+    counts::count_epoch(state);
+    counts::put_asid(state, asid);
+}
+
+// Whether a register shapes translation by more than the ASID.
+fn shapes(register: ControlReg) -> bool
+    ensures { λ r. ⌜ r ≡ member shape register ⌝ }
+{
+    match register {
+        ControlReg::Sctlr(_) => true,
+        ControlReg::Tcr(_) => true,
+        ControlReg::Ttbr0(el) => match el {
+            El::El1 => false,
+            El::El2 => true,
+            El::El3 => true,
+        },
+        ControlReg::Ttbr1 => false,
+        ControlReg::Scr => true,
+        ControlReg::Hcr => true,
+    }
+}
+
+// A retag where the ASID of the registers differs from the cache's.
+fn refit(state: &mut [u64; 5205])
+    ensures { λ _. ⌜ Moved (now (state .entry)) (now (state .exit)) (withTlb (held (now (state .entry))) (retaggedOf (held (now (state .entry)) .tlb) (asidOf (held (now (state .entry)) .control)))) ⌝ }
+{
+    let control = regs::control_at(state);
+    let asid = shape::asid(control);
+    let at = counts::present_at(state);
+    if at.asid != asid {
+        retag(state, asid);
+    }
+}
+
+// The register, and a flush where it shapes translation and its value is another.
+fn reshape(state: &mut [u64; 5205], register: ControlReg, value: u64)
+    ensures { λ _. ⌜ Moved (now (state .entry)) (now (state .exit)) (reshaped (held (now (state .entry))) register value) ⌝ }
+{
+    let shaping = shapes(register);
+    let before = regs::control_reg(state, register);
+    regs::put_control(state, register, value);
+    if shaping {
+        if before != value {
+            flush(state);
+        }
+    }
+}
+
+// A register write that is done.
+fn put_register(state: &mut [u64; 5205], register: Register, value: u64)
+    ensures { λ _. ⌜ Moved (now (state .entry)) (now (state .exit)) (appliedOf (held (now (state .entry))) (wrote (held (now (state .entry)) .control) (held (now (state .entry)) .sys) register value)) ⌝ }
+{
+    match register {
+        Register::InControl(r) => {
+            reshape(state, r, value);
+            refit(state);
+        }
+        Register::InSys(r) => {
+            regs::put_sys(state, r, value);
+            refit(state);
+        }
+    }
+}
+
+// A register write. One that is not done changes nothing.
+pub fn write_register(state: &mut [u64; 5205], key: u32, value: u64) -> WriteAnswer
+    ensures { λ r. ⌜ (r ≡ writeRegister (held (now (state .entry))) key value .answer) × Moved (now (state .entry)) (now (state .exit)) (writeRegister (held (now (state .entry))) key value .core) ⌝ }
+{
+    match encoding::named(key) {
+        Found::Nothing => WriteAnswer::NoRegister,
+        Found::At(register) => {
+            let who = state::who_at(state);
+            if who.level == 0 {
+                return WriteAnswer::Undefined;
+            }
+            put_register(state, register, value);
+            WriteAnswer::Done
+        }
+    }
+}

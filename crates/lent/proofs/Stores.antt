@@ -1,0 +1,171 @@
+-- What the stores of a store leave is the operation's core and RAM, on plain values.
+use mathlib.Core.Path.{_≡_, refl, sym, subst, ap, _∙_}
+use mathlib.Core.Bool.{Bool, true, false, not, _&&_, _||_}
+use mathlib.Core.List.{List}
+use Prim.Native.Nat.{ℕ, zero, suc}
+use native.Mathlib.Omega.{arith}
+use lib.Dec.{leb, ltb, T as Holds}
+use lib.ListN.{length}
+use Rattle.word.specs.Bits.{pick}
+use Rattle.word.specs.Ram.{wordAt, widthOf, bytesIn, within}
+use Rattle.word.specs.declared.ram.Sized.{Sized}
+use Rattle.word.specs.declared.ram.Sized.the-variants.{Bytes, Refused as NoWidth}
+use Rattle.word.specs.declared.ram.Width.{Width}
+use Rattle.sysreg.specs.Encoding.{registerAt}
+use Rattle.tlb.specs.Cache.{hintAt}
+use Rattle.tlb.specs.Hint.{onPage}
+use Rattle.tlb.specs.declared.access.Kind.the-variants.{Write}
+use Rattle.tlb.specs.declared.hint.Hint.{Hint}
+use Rattle.mmu.specs.Bytes.{storeRam}
+use Rattle.mmu.specs.Core.{movedTo}
+use Rattle.mmu.specs.Ends.{storeEnd, storeRamEnd}
+use Rattle.mmu.specs.Ops.{locatedNow, writeOf, ramAfterWrite}
+use Rattle.mmu.specs.Place.{inPage, judged}
+use Rattle.mmu.specs.declared.core.Core.{Core}
+use Rattle.mmu.specs.declared.place.Place.the-variants.{Whole}
+use Rattle.cpu.specs.Check.{sizedOf, askedOf, isWidth, known, passes, missedOf}
+use Rattle.cpu.specs.Step.{runOf, ramOf, stepOf, ramAfter, storeBy, storeRamBy, ends, refusedOr}
+use Rattle.cpu.specs.declared.call.Call.{Call}
+use Rattle.cpu.specs.declared.call.Call.the-variants as Call
+use Rattle.cpu.specs.declared.call.Reply.{Reply}
+use Rattle.cpu.specs.declared.call.Reply.the-variants.{Refused, Done}
+use Rattle.cpu.specs.declared.call.Stepped.{Stepped}
+use Rattle.lent.specs.Access.{bytesBy, keysOf, keysIn, hitIn}
+use Rattle.lent.specs.Cells.{cellsIn, putIn, putLastIn}
+use Rattle.lent.specs.Plan.{hintPlace, hintServes}
+use Rattle.lent.specs.Writes.{storeQuickBy, storeQuick, nowReplyBy, nowReply, nowRamBy, nowRam, sizedRam, storeAfter, storedBy, storedOf, storedRamBy, storedRam}
+use Rattle.lent.specs.declared.access.Access.{Access}
+use Rattle.lent.specs.declared.access.Keys.{Keys}
+use Rattle.lent.specs.declared.cells.Cells.{Cells}
+use Rattle.lent.specs.declared.writes.QuickStore.{QuickStore}
+use Rattle.lent.proofs.Hits.{size-is, hint-located, pair-is}
+use Rattle.lent.proofs.Loads.{putBack, own-back}
+use Rattle.lent.proofs.Runs.{write-place}
+
+-- a store that passes its checks has a size
+three-zero : _≡_ {A = ℕ} 3 0 → ⊥
+three-zero e = omega (arith, e)
+
+two-zero : _≡_ {A = ℕ} 2 0 → ⊥
+two-zero e = omega (arith, e)
+
+one-zero : _≡_ {A = ℕ} 1 0 → ⊥
+one-zero e = omega (arith, e)
+
+known-by : (h w k : Bool) → _≡_ {A = ℕ} (pick h 1 (pick w 2 (pick k 0 3))) 0 → k ≡ true
+known-by true w k e = absurd (one-zero e)
+known-by false true k e = absurd (two-zero e)
+known-by false false true e = refl
+known-by false false false e = absurd (three-zero e)
+
+known-of : (level base len size : ℕ) → missedOf level base len (sizedOf size) ≡ 0 → known size ≡ true
+unfolding missedOf registerAt
+known-of level base len size e = known-by (ltb 3 level || ltb 3 0) (true && passes base len) (known size) e
+
+and-both : (a b : Bool) → (a && b) ≡ true → (a ≡ true) × (b ≡ true)
+and-both true b e = (refl, e)
+and-both false b e = absurd (subst Holds (sym e) tt)
+
+holds-true : (b : Bool) → Holds b → b ≡ true
+holds-true true t = refl
+holds-true false t = absurd t
+
+module _ (c : Core) (base : ℕ) (ram : List ℕ) (va size value : ℕ) where
+  abbrev call : Call
+  call = Call.Store va size value
+
+  abbrev keys : Keys
+  keys = keysIn c va size Write
+
+  abbrev x₀ : Cells
+  x₀ = cellsIn c (keys .hint) (keys .entry)
+
+  abbrev y₀ : Cells
+  y₀ = cellsIn c (keys .hint2) (keys .entry2)
+
+  module _ (hs : length (c .tlb .cache .hints) ≡ 512) (es : length (c .tlb .cache .entries) ≡ 1024) where
+    abbrev Right : Sized → Type 0
+    Right z =
+        (storedBy z keys x₀ y₀ va base ram .reply ≡ storeBy z c base ram va .reply) × (putBack c keys (storedBy z keys x₀ y₀ va base ram) ≡ storeBy z c base ram va .core)
+        × (storedRamBy z keys x₀ y₀ va value base ram ≡ storeRamBy z c base ram va value)
+
+    by-size : (z : Sized) → z ≡ widthOf size → Right z
+    unfolding writeOf ramAfterWrite keysOf storeAfter
+    by-size (Bytes w) e =
+        let pair = pair-is c (wordAt base ram 8) va Write write-place size (bytesIn w) (ap bytesBy (sym e)) hs es in
+        let end = storeEnd (locatedNow c (wordAt base ram 8) va (bytesIn w) Write .placed) (c .«abort_pa») base ram va (bytesIn w) in
+        (rw (pair 0 0 .0), rw (pair 0 0 .0) (pair (c .«last_pa») (end .«abort_pa») .1), rw (pair 0 0 .0))
+    by-size NoWidth e = (refl, own-back c (keys .hint) (keys .entry) (keys .hint2) (keys .entry2), refl)
+
+    stored : (storedOf keys x₀ y₀ va size base ram .reply ≡ runOf c base ram call .reply) × (putBack c keys (storedOf keys x₀ y₀ va size base ram) ≡ runOf c base ram call .core)
+        × (storedRam keys x₀ y₀ va size value base ram ≡ ramOf c base ram call)
+    unfolding runOf ramOf storedOf storedRam
+    stored = by-size (widthOf size) refl
+
+  -- the keys, the cells, the store and the stores in place, put together
+  pub store-run-is : (k : Keys) (c₁ : Core) (x : Cells) (c₂ : Core) (y : Cells) (c₃ : Core) (t : Access) (ys : List ℕ) (d₁ d : Core)
+      → (k ≡ keysIn c va size Write) × (c₁ ≡ c) × (length (c .tlb .cache .hints) ≡ 512) × (length (c .tlb .cache .entries) ≡ 1024)
+      → (x ≡ cellsIn c₁ (k .hint) (k .entry)) × (c₂ ≡ c₁) → (y ≡ cellsIn c₂ (k .hint2) (k .entry2)) × (c₃ ≡ c₂)
+      → (t ≡ storedOf k x y va size base ram) × (ys ≡ storedRam k x y va size value base ram) → d₁ ≡ putIn c₃ (k .hint) (k .entry) (t .counts) (t .hint) (t .entry)
+      → d ≡ putLastIn d₁ (k .hint2) (k .entry2) (t .counts) (t .hint2) (t .entry2) (t .«last_pa») (t .«abort_pa»)
+      → (t .reply ≡ runOf c base ram call .reply) × (d ≡ runOf c base ram call .core) × (ys ≡ ramOf c base ram call)
+  store-run-is k c₁ x c₂ y c₃ t ys d₁ d (ek, e₁, hs, es) (ex, e₂) (ey, e₃) (et, er) ed₁ ed =
+      let is : t ≡ storedOf keys x₀ y₀ va size base ram = et ∙ rw (ex, ey, e₂, e₁, ek) in
+      (ap (λ (u : Access). u .reply) is ∙ stored hs es .0, ed ∙ rw (ed₁, e₃, e₂, e₁, ek, is) (stored hs es .1), er ∙ rw (ex, ey, e₂, e₁, ek) (stored hs es .2))
+
+  abbrev run : Stepped
+  run = runOf c base ram call
+
+  -- a hint that serves in its page, the bytes in RAM
+  by-hint : (h : Hint) (w : Width) → h ≡ hintAt (c .tlb .cache) (hintPlace va Write) → hintServes h (c .who) va Write ≡ true → leb size (inPage va) ≡ true
+      → within base (length ram) size (onPage (h .pa) va) ≡ true → widthOf size ≡ Bytes w
+      → (Done ≡ run .reply) × (c ≡ run .core) × (storeRam base ram (Whole (onPage (h .pa) va)) (bytesIn w) value ≡ ramOf c base ram call)
+  unfolding runOf ramOf writeOf ramAfterWrite storeEnd storeRamEnd judged movedTo
+  by-hint h w eh served here inside ew =
+      let at : locatedNow c (wordAt base ram 8) va (bytesIn w) Write ≡ _ = hint-located c (wordAt base ram 8) va Write write-place h eh served (bytesIn w) (rw (size-is size w ew) here) in
+      let fits : within base (length ram) (bytesIn w) (onPage (h .pa) va) ≡ true = rw (size-is size w ew) inside in
+      rw (ew, at, fits) (refl, refl, refl)
+
+  sized-ends : (h : Hint) → h ≡ hintAt (c .tlb .cache) (hintPlace va Write) → (hitIn h (c .who) va size Write && within base (length ram) size (onPage (h .pa) va)) ≡ true
+      → (z : Sized) → widthOf size ≡ z → isWidth z ≡ true
+      → (Done ≡ run .reply) × (c ≡ run .core) × (sizedRam z (onPage (h .pa) va) base ram value ≡ ramOf c base ram call)
+  sized-ends h eh e NoWidth ez k = absurd (subst Holds (sym k) tt)
+  sized-ends h eh e (Bytes w) ez k =
+      let one = and-both (hitIn h (c .who) va size Write) (within base (length ram) size (onPage (h .pa) va)) e in
+      let two = and-both (hintServes h (c .who) va Write) (leb size (inPage va)) (one .0) in
+      by-hint h w eh (two .0) (two .1) (one .1) ez
+
+  -- the checks and the hint, by the number of the first check missed
+  ends-by : (n : ℕ) (fits : Bool) (h : Hint) → h ≡ hintAt (c .tlb .cache) (hintPlace va Write) → missedOf (c .who .level) base (length ram) (sizedOf size) ≡ n
+      → (hitIn h (c .who) va size Write && within base (length ram) size (onPage (h .pa) va)) ≡ fits → Holds (storeQuickBy n fits (onPage (h .pa) va) .ends)
+      → (nowReplyBy (storeQuickBy n fits (onPage (h .pa) va) .refused) ≡ refusedOr n (λ k. ends c (Refused k)) run .reply)
+      × (c ≡ refusedOr n (λ k. ends c (Refused k)) run .core)
+      × (nowRamBy (storeQuickBy n fits (onPage (h .pa) va) .refused) ram (sizedRam (widthOf size) (storeQuickBy n fits (onPage (h .pa) va) .pa) base ram value)
+      ≡ refusedOr n (λ k. ram) (ramOf c base ram call))
+  ends-by zero fits h eh en ef t = sized-ends h eh (ef ∙ holds-true fits t) (widthOf size) refl (known-of (c .who .level) base (length ram) size en)
+  ends-by (suc n) fits h eh en ef t = (refl, refl, refl)
+
+  goes-by : (n : ℕ) (fits : Bool) (pa : ℕ) → Holds (not (storeQuickBy n fits pa .ends))
+      → (run ≡ refusedOr n (λ k. ends c (Refused k)) run) × (ramOf c base ram call ≡ refusedOr n (λ k. ram) (ramOf c base ram call))
+  goes-by zero fits pa t = (refl, refl)
+  goes-by (suc n) fits pa t = absurd t
+
+  module _ (i : ℕ) (q : QuickStore) (ei : i ≡ hintPlace va Write) (eq : q ≡ storeQuick (c .who) (hintAt (c .tlb .cache) i) base (length ram) va size) where
+    pub store-at-once-is : Holds (q .ends) → (r : Reply) (ys : List ℕ) → (r ≡ nowReply q) × (ys ≡ nowRam q base ram size value)
+        → (r ≡ stepOf c base ram call .reply) × (c ≡ stepOf c base ram call .core) × (ys ≡ ramAfter c base ram call)
+    unfolding storeQuick stepOf ramAfter askedOf nowRam
+    store-at-once-is t r ys (er, ey) =
+        let h = hintAt (c .tlb .cache) i in
+        let right = ends-by (missedOf (c .who .level) base (length ram) (sizedOf size)) (hitIn h (c .who) va size Write && within base (length ram) size (onPage (h .pa) va)) h
+        (ap (hintAt (c .tlb .cache)) ei) refl refl (subst (λ (x : QuickStore). Holds (x .ends)) eq t) in
+        (er ∙ ap (λ (x : QuickStore). nowReply x) eq ∙ right .0, right .1, ey ∙ ap (λ (x : QuickStore). nowRam x base ram size value) eq ∙ right .2)
+
+    pub store-goes-on-is : Holds (not (q .ends)) → (r : Reply) (d : Core) (ys : List ℕ)
+        → (r ≡ runOf c base ram call .reply) × (d ≡ runOf c base ram call .core) × (ys ≡ ramOf c base ram call)
+        → (r ≡ stepOf c base ram call .reply) × (d ≡ stepOf c base ram call .core) × (ys ≡ ramAfter c base ram call)
+    unfolding storeQuick stepOf ramAfter askedOf
+    store-goes-on-is t r d ys (er, ed, ey) =
+        let h = hintAt (c .tlb .cache) i in
+        let same = goes-by (missedOf (c .who .level) base (length ram) (sizedOf size)) (hitIn h (c .who) va size Write && within base (length ram) size (onPage (h .pa) va)) (onPage (h .pa) va)
+        (subst (λ (x : QuickStore). Holds (not (x .ends))) eq t) in
+        (er ∙ ap (λ (s : Stepped). s .reply) (same .0), ed ∙ ap (λ (s : Stepped). s .core) (same .0), ey ∙ same .1)

@@ -1,0 +1,64 @@
+-- The words of a core after reset: all zero, then what reset gives a value.
+use mathlib.Core.Path.{_≡_, refl, sym, ap, _∙_}
+use mathlib.Core.Bool.{false}
+use mathlib.Core.List.{List}
+use Prim.Native.Nat.{ℕ}
+use lib.ListN.{getD, replicate}
+use Rattle.sysreg.specs.Regs.{levels, freshControl, freshSys}
+use Rattle.sysreg.specs.Write.{controlWith, sysWith}
+use Rattle.sysreg.specs.declared.regs.El.the-variants.{El1, El2, El3}
+use Rattle.sysreg.specs.declared.regs.ControlReg.the-variants.{Sctlr}
+use Rattle.sysreg.specs.declared.regs.SysReg.the-variants.{Vpidr, Vmpidr}
+use Rattle.entry.specs.Entry.{entryFlags}
+use Rattle.entry.specs.Pstate.{freshFlags}
+use Rattle.tlb.specs.Entry.{blank}
+use Rattle.tlb.specs.Hint.{noFetch}
+use Rattle.tlb.specs.Cache.{blanks, noHints}
+use Rattle.tlb.specs.Count.{noCounts}
+use Rattle.tlb.specs.Lists.{replicate-at}
+use Rattle.tlb.specs.declared.entry.Entry.{Entry}
+use Rattle.tlb.specs.declared.hint.Hint.{Hint}
+use Rattle.tlb.specs.declared.Pending.the-variants.{Nothing}
+use Rattle.mmu.specs.Core.{zeros, freshCore, movedTo}
+use Rattle.mmu.specs.declared.core.Core.{Core}
+use Rattle.words.specs.Tables.{table, table-all}
+use Rattle.words.specs.Held.{word, hintIn, entryIn, heldOn, heldBy, held}
+use Rattle.words.specs.Parts.{withCache, withPresent, withWho, withFlags, withControl, withSys, withoutHints}
+
+unfoldable pub zeroWords : List ℕ
+zeroWords = replicate 5205 0
+
+abbrev nothing : Hint
+nothing = record { key = 0; pa = 0 }
+
+-- the core that they hold
+unfoldable pub zeroCore : Core
+zeroCore = heldOn (λ k. 0) zeros (replicate 512 nothing) blanks
+
+pub zero-held : held zeroWords ≡ zeroCore
+unfolding held heldBy zeroWords zeroCore zeros blanks
+zero-held =
+    ap heldBy (λ i k. replicate-at 0 5205 k i)
+    ∙ λ i. heldOn (λ k. 0) (table-all 31 0 i) (table-all 512 nothing i) (table-all 1024 blank i)
+
+-- the registers that reset gives a value
+unfoldable pub withSctlr : Core → Core
+withSctlr c =
+    withControl c (controlWith (controlWith (controlWith (c .control) (Sctlr El1) 0x30D0_0800) (Sctlr El2) 0x30C5_0830) (Sctlr El3) 0x30C5_0830)
+
+unfoldable pub registered : Core → Core
+registered c = withSys (withSctlr c) (sysWith (sysWith (c .sys) Vpidr 0x410F_D083) Vmpidr 0x8000_0000)
+
+-- with the interrupts masked, at EL3, in generation 1, without hints: the core after reset
+abbrev pub risen : Core → Core
+risen c = withFlags c (entryFlags (c .flags))
+
+abbrev pub atEl3 : Core → Core
+atEl3 c = withWho c (record { level = 3; mark = c .who .mark })
+
+abbrev pub firstGeneration : Core → Core
+firstGeneration c = withPresent c (record { generation = 1; asid = c .tlb .cache .present .asid })
+
+pub fresh-is : withoutHints (firstGeneration (atEl3 (risen (registered zeroCore)))) ≡ freshCore
+unfolding withoutHints withPresent withCache movedTo withWho withFlags registered withSctlr withSys withControl controlWith sysWith zeroCore heldOn freshCore freshControl freshSys
+fresh-is = refl

@@ -1,0 +1,78 @@
+#!/bin/sh
+# Writes ../docs/BENCHMARKS.md: builds `bench` with the library lib$A72_NAME.a of the folder $A72_LIB, counts instructions, times all
+# cases and reads the frames; about two minutes. FEATURE=harness/lent where the library has a72_lent_translate; NOTE is a sentence
+# about the run.
+#   A72_LIB=/absolute/path/target/staticlib A72_NAME=a72abi ./benchmarks.sh
+set -eu
+cd "$(dirname "$0")"
+work=$(mktemp -d)
+trap 'rm -r "$work"' EXIT
+
+cargo build --offline --release -j1 --features "${FEATURE:-harness/rattle}" --target-dir target-rattle
+bench=target-rattle/release/bench
+./ir.sh $bench "$work/counts" >/dev/null
+$bench time 900 --counts "$work/counts" >"$work/table"
+./stack.sh "$A72_LIB/lib$A72_NAME.a" >"$work/frames"
+
+# FIELD of the line of `frames` where it is the greatest: bytes, then the function.
+most() {
+    sort -k"$1","$1"rn "$work/frames" | awk -v f="$1" 'NR == 1 { print $f " bytes (`" $3 "`)" }'
+}
+
+machine=$(sed -n 's/^model name[^:]*: //p' /proc/cpuinfo | head -n 1)
+{
+    cat <<'TEXT'
+# Benchmarks
+
+pimu's Rust and the static library `liba72abi.a` in one process, on the same inputs: nanoseconds a call, the least of many runs, and
+instructions a call. A ratio is the library's number by the Rust's.
+
+## What is called
+
+On the Rust's side pimu's own function, behind one call that is not inlined, with RAM as a slice at its quickest (one test of the window, then
+a load or store of the size). Document 01's checks 1 to 6 are not made there: pimu has none. A register write is `write_reg` with document 01's
+rule. On the library's side the exported function on the state's words, with its checks.
+
+Before a case is timed both sides make 2,016 calls of it, and answers, whole state and RAM are compared after each of 63 runs of them; again at the
+end. One argument of each call alternates between two values, so that a case stays what its name says:
+
+| Case | How it stays so |
+|---|---|
+| hint hit | two addresses of one page |
+| entry hit | reads and writes: two pages whose hints share a place, so that each takes the other's; a translation for a fetch asks no hint |
+| walk | two pages whose entries and hints share a place; 2 levels end in a block of 2 MiB, 3 and 4 in a page |
+| permission fault | at EL0, on pages of EL1: a fault leaves no hint, so the entry answers; 'walk': two pages of one entry |
+| translation fault | the last table is empty, so no entry is ever made |
+| split | eight bytes cut in the middle and after seven, two bytes cut in the middle; both pages' hints serve |
+| TLBI | 1,024 live entries at the start |
+| register write | TCR_EL1 between two values; TTBR0_EL1 between two ASIDs; VBAR_EL1; SCTLR_EL1 to what it is |
+
+The bars were set before: hint hit 0.95, entry hit, walks and faults of translations 1.05, loads and stores on a hint 1.0, split ones 1.2, TLBI and
+register writes 1.2. The other cases have none. Those of translations came from a measurement in which the Rust's side turned the kind of access from a
+number into a `Kind` by a call out of line, 1.1 ns (4.33 ns for a hint hit); here that is inlined, and the Rust is as quick as pimu's own function is.
+
+## How it was run
+
+    rt staticlib a72abi
+    cd oracle
+    A72_LIB=$PWD/../target/staticlib A72_NAME=a72abi ./benchmarks.sh
+
+builds `bench` with the library, counts instructions (`ir.sh`: valgrind's callgrind, two runs of different length for each case and side), runs
+`bench time 900` in a thread of 2 MiB of stack, reads the frames (`stack.sh`) and writes this file. 900 runs of each side in turn, in six passes over
+all cases, each run of about 40 µs; the time of no call is subtracted. A call takes whole cycles, so that small ratios move in steps.
+TEXT
+    echo
+    echo "This run: $(date -u +%F), $(nproc) cores, shared, $machine.${NOTE:+ $NOTE}"
+    echo
+    echo "## Times and instructions"
+    echo
+    sed '/^$/,$d' "$work/table"
+    echo
+    echo "$(tail -n 1 "$work/table")."
+    echo
+    echo "## Stack"
+    echo
+    echo "The deepest frame takes $(most 1), the deepest chain of calls $(most 2): pushes, the stack pointer's"
+    echo "step and the return address of each function, summed along the calls. There is no recursion. All of the above ran in a thread of 2 MiB."
+} >../docs/BENCHMARKS.md
+tail -n 1 "$work/table"

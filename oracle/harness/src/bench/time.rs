@@ -1,0 +1,89 @@
+//! Least times of many runs.
+use super::{Case, Pair, Side};
+use std::time::Instant;
+
+/// Nanoseconds a call: the least of all runs.
+pub struct Times {
+    pub rust: f64,
+    pub ours: f64,
+}
+
+impl Times {
+    pub fn ratio(&self) -> f64 {
+        self.ours / self.rust
+    }
+
+    /// The lesser of each side.
+    pub fn merge(&mut self, other: &Times) {
+        self.rust = self.rust.min(other.rust);
+        self.ours = self.ours.min(other.ours);
+    }
+}
+
+/// How long one run lasts, about.
+const RUN: f64 = 40_000.0;
+
+/// How long a run of `n` calls takes, and the sum of the answers.
+fn run(pair: &mut Pair, side: Side, n: usize) -> (f64, u64) {
+    let begin = Instant::now();
+    let sum = pair.run(side, n);
+    (begin.elapsed().as_nanos() as f64, sum)
+}
+
+/// The least time of runs of one side, and of runs of no call.
+struct Least {
+    all: f64,
+    none: f64,
+}
+
+impl Least {
+    fn new() -> Least {
+        Least {
+            all: f64::MAX,
+            none: f64::MAX,
+        }
+    }
+
+    /// One run more; the sum of its answers.
+    fn add(&mut self, pair: &mut Pair, side: Side, n: usize) -> u64 {
+        let (none, _) = run(pair, side, 0);
+        let (all, sum) = run(pair, side, n);
+        self.none = self.none.min(none);
+        self.all = self.all.min(all);
+        sum
+    }
+
+    fn a_call(&self, n: usize) -> f64 {
+        (self.all - self.none) / n as f64
+    }
+}
+
+/// Time one case by `runs` runs of each side in turn. The error says where answers, states or RAM differed.
+pub fn time(case: &Case, runs: usize) -> Result<Times, String> {
+    let mut pair = Pair::new(case);
+    let differ = |what| Err(format!("{}: {what} differ", case.name));
+    for n in 1..64 {
+        if pair.run(Side::Rust, n) != pair.run(Side::Ours, n) {
+            return differ("answers");
+        }
+        if !pair.agree() {
+            return differ("states or RAM");
+        }
+    }
+    let (some, _) = run(&mut pair, Side::Rust, 64);
+    let n = ((64.0 * RUN / some) as usize).clamp(16, 4000) & !1;
+    pair.run(Side::Ours, 64);
+    let (mut rust, mut ours) = (Least::new(), Least::new());
+    for _ in 0..runs {
+        if rust.add(&mut pair, Side::Rust, n) != ours.add(&mut pair, Side::Ours, n) {
+            return differ("answers");
+        }
+    }
+    if !pair.agree() {
+        return differ("states or RAM");
+    }
+    Ok(Times {
+        rust: rust.a_call(n),
+        ours: ours.a_call(n),
+    })
+}

@@ -1,0 +1,245 @@
+//! The library's function for each operation, with the feature `rattle`; and a core that runs by them alone.
+//!
+//! Each gives 0, or document 01's number of the first check that it misses (1 to 6; then nothing is written), or
+//! 7 where a word is none of those named in [`super`], 8 Undefined, 9 Unimplemented, 256 plus the status of a fault.
+//! `ans` takes the value, or the address of a data abort; where there is neither it stays as it was.
+use super::{boxed, exception, fresh, poke, state_of, Words, STATE, UNWRITTEN};
+use crate::op::{Ans, Op};
+use crate::{Core, Ram, State};
+
+type StateWords = *mut [u64; STATE];
+
+extern "C" {
+    fn a72_translate(
+        state: StateWords,
+        va: u64,
+        kind: u64,
+        ans: *mut u64,
+        base: u64,
+        ram: *const u8,
+        n: usize,
+    ) -> u64;
+    fn a72_data_pa(state: StateWords, va: u64, ans: *mut u64, base: u64, ram: *const u8, n: usize) -> u64;
+    fn a72_fetch_pa(state: StateWords, va: u64, ans: *mut u64, base: u64, ram: *const u8, n: usize) -> u64;
+    fn a72_load(
+        state: StateWords,
+        va: u64,
+        size: u64,
+        ans: *mut u64,
+        base: u64,
+        ram: *const u8,
+        n: usize,
+    ) -> u64;
+    fn a72_store(
+        state: StateWords,
+        va: u64,
+        size: u64,
+        value: u64,
+        ans: *mut u64,
+        base: u64,
+        ram: *mut u8,
+        n: usize,
+    ) -> u64;
+    fn a72_fetch(state: StateWords, va: u64, ans: *mut u64, base: u64, ram: *const u8, n: usize) -> u64;
+    fn a72_system(
+        state: StateWords,
+        op1: u64,
+        crn: u64,
+        crm: u64,
+        op2: u64,
+        rt: u64,
+        ans: *mut u64,
+        base: u64,
+        ram: *mut u8,
+        n: usize,
+    ) -> u64;
+    fn a72_register(state: StateWords, key: u64, value: u64) -> u64;
+    fn a72_level(state: StateWords, level: u64) -> u64;
+    fn a72_mark(state: StateWords, mark: u64) -> u64;
+    fn a72_general(state: StateWords, number: u64, value: u64) -> u64;
+    fn a72_abort(state: StateWords, e: *const [u64; 4]) -> u64;
+}
+
+/// A state's words and the window lent with them, as the functions take them. Sound throughout: each pointer is that
+/// of an array or a slice, with its own length, and the exclusive borrows keep them apart.
+pub struct Lent<'a> {
+    pub words: &'a mut [u64; STATE],
+    pub base: u64,
+    pub ram: &'a mut [u8],
+}
+
+impl Lent<'_> {
+    #[inline(always)]
+    pub fn translate(&mut self, va: u64, kind: u64, ans: &mut u64) -> u64 {
+        let ram = &*self.ram;
+        unsafe { a72_translate(self.words, va, kind, ans, self.base, ram.as_ptr(), ram.len()) }
+    }
+
+    #[inline(always)]
+    pub fn data_pa(&mut self, va: u64, ans: &mut u64) -> u64 {
+        let ram = &*self.ram;
+        unsafe { a72_data_pa(self.words, va, ans, self.base, ram.as_ptr(), ram.len()) }
+    }
+
+    #[inline(always)]
+    pub fn fetch_pa(&mut self, va: u64, ans: &mut u64) -> u64 {
+        let ram = &*self.ram;
+        unsafe { a72_fetch_pa(self.words, va, ans, self.base, ram.as_ptr(), ram.len()) }
+    }
+
+    #[inline(always)]
+    pub fn load(&mut self, va: u64, size: u64, ans: &mut u64) -> u64 {
+        let ram = &*self.ram;
+        unsafe { a72_load(self.words, va, size, ans, self.base, ram.as_ptr(), ram.len()) }
+    }
+
+    #[inline(always)]
+    pub fn store(&mut self, va: u64, size: u64, value: u64, ans: &mut u64) -> u64 {
+        let ram = &mut *self.ram;
+        let (at, len) = (ram.as_mut_ptr(), ram.len());
+        unsafe { a72_store(self.words, va, size, value, ans, self.base, at, len) }
+    }
+
+    #[inline(always)]
+    pub fn fetch(&mut self, va: u64, ans: &mut u64) -> u64 {
+        let ram = &*self.ram;
+        unsafe { a72_fetch(self.words, va, ans, self.base, ram.as_ptr(), ram.len()) }
+    }
+
+    /// `fields`: op1, CRn, CRm, op2, register.
+    #[inline(always)]
+    pub fn system(&mut self, fields: [u64; 5], ans: &mut u64) -> u64 {
+        let [op1, crn, crm, op2, rt] = fields;
+        let ram = &mut *self.ram;
+        let (at, len) = (ram.as_mut_ptr(), ram.len());
+        unsafe { a72_system(self.words, op1, crn, crm, op2, rt, ans, self.base, at, len) }
+    }
+
+    #[inline(always)]
+    pub fn register(&mut self, key: u64, value: u64) -> u64 {
+        unsafe { a72_register(self.words, key, value) }
+    }
+
+    #[inline(always)]
+    pub fn level(&mut self, level: u64) -> u64 {
+        unsafe { a72_level(self.words, level) }
+    }
+
+    #[inline(always)]
+    pub fn mark(&mut self, mark: u64) -> u64 {
+        unsafe { a72_mark(self.words, mark) }
+    }
+
+    #[inline(always)]
+    pub fn general(&mut self, number: u64, value: u64) -> u64 {
+        unsafe { a72_general(self.words, number, value) }
+    }
+
+    #[inline(always)]
+    pub fn abort(&mut self, e: &[u64; 4]) -> u64 {
+        unsafe { a72_abort(self.words, e) }
+    }
+}
+
+/// An answer without a value, which leaves `ans` as it was.
+fn done(n: u64, ans: u64) -> Ans {
+    match n {
+        0 if ans == UNWRITTEN => Ans::Ok,
+        _ => other(n),
+    }
+}
+
+fn value(n: u64, ans: u64, fault: impl Fn(u8) -> Ans) -> Ans {
+    match n {
+        0 => Ans::Val(ans),
+        _ => status(n).map_or_else(|| other(n), fault),
+    }
+}
+
+fn write(n: u64, ans: u64) -> Ans {
+    status(n).map_or_else(|| done(n, ans), |s| Ans::Data(ans, true, s))
+}
+
+fn other(n: u64) -> Ans {
+    match n {
+        1..=6 => Ans::Number(n as u8),
+        8 => Ans::Undefined,
+        9 => Ans::Unimplemented,
+        _ => Ans::Panic,
+    }
+}
+
+/// The status of a fault.
+fn status(n: u64) -> Option<u8> {
+    u8::try_from(n.wrapping_sub(256)).ok()
+}
+
+/// The core behind the C boundary, by its function for each operation.
+#[derive(Clone)]
+pub struct EachCore {
+    words: Words,
+}
+
+impl EachCore {
+    pub fn new() -> EachCore {
+        EachCore { words: fresh() }
+    }
+}
+
+impl Default for EachCore {
+    fn default() -> EachCore {
+        EachCore::new()
+    }
+}
+
+impl Core for EachCore {
+    fn reset(&mut self) {
+        self.words = fresh();
+    }
+
+    fn has(&self, op: &Op) -> bool {
+        !op.is_leaf()
+    }
+
+    fn step(&mut self, op: &Op, ram: &mut Ram) -> Ans {
+        use Op::*;
+        let mut lent = Lent {
+            words: &mut self.words,
+            base: ram.base,
+            ram: &mut ram.bytes,
+        };
+        let quiet = |n| done(n, UNWRITTEN);
+        let mut ans = UNWRITTEN;
+        let a = &mut ans;
+        match *op {
+            Translate(k, va) => value(lent.translate(va, k.into(), a), *a, |s| Ans::Fault(va, s)),
+            DataPa(va) => value(lent.data_pa(va, a), *a, |_| Ans::None),
+            FetchPa(va) => value(lent.fetch_pa(va, a), *a, |_| Ans::None),
+            Load(va, size) => value(lent.load(va, size.into(), a), *a, |s| Ans::Data(*a, false, s)),
+            Store(va, size, v) => write(lent.store(va, size.into(), v, a), *a),
+            Fetch(va) => value(lent.fetch(va, a), *a, |s| Ans::Insn(va, s)),
+            Sys(op1, crn, crm, op2, rt) => {
+                let fields = [op1, crn, crm, op2, rt].map(u64::from);
+                write(lent.system(fields, a), *a)
+            }
+            Reg(k, v) => quiet(lent.register(k.into(), v)),
+            Level(l) => quiet(lent.level(l.into())),
+            Mark(m) => quiet(lent.mark(m.into())),
+            SetX(r, v) => quiet(lent.general(r.into(), v)),
+            Abort(e) => quiet(lent.abort(&exception(&e))),
+            _ => poke::poke(&mut self.words, op),
+        }
+    }
+
+    fn state(&self) -> State {
+        state_of(&self.words[..])
+    }
+
+    fn load(&mut self, state: &State) {
+        self.words = boxed(state);
+    }
+
+    fn copy(&self) -> Box<dyn Core> {
+        Box::new(self.clone())
+    }
+}
