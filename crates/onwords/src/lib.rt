@@ -1,0 +1,1 @@
+// Demand 3 of every list of calls on words: statements only.
