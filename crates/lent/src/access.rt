@@ -3,7 +3,7 @@ ghost use mathlib.Core.Path.{_≡_};
 ghost use Rattle.word.specs.Ram.{wordAt};
 ghost use Rattle.cpu.specs.Check.{sizedOf, missedOf};
 ghost use Rattle.cpu.specs.Step.{loading};
-ghost use Rattle.lent.specs.Access.{bytesOf, secondOf, keysOf, another, moreOf, oneTurn, twoTurns, secondsOf, bothAfter, bothOf, untouchedOf, afterBoth, loadedOf, hitIn, readQuick, loadQuick};
+ghost use Rattle.lent.specs.Access.{keysOf, another, oneTurn, twoTurns, secondsOf, bothAfter, bothOf, untouchedOf, afterBoth, loadedOf, readQuick, loadQuick};
 use crate::cells::Cells;
 use crate::plan;
 use cpu::call::Reply;
@@ -16,7 +16,6 @@ use mmu::place::Place;
 use mmu::place::Placed;
 use mmu::step;
 use sysreg::regs::Control;
-use tlb::access::Answer;
 use tlb::access::Kind;
 use tlb::access::Who;
 use tlb::count::Counts;
@@ -77,26 +76,6 @@ pub struct QuickLoad {
     pub reply: Reply,
 }
 
-// The number of bytes of a size, 0 where it is none.
-fn bytes_of(size: u64) -> u64
-    ensures { λ r. ⌜ r ≡ bytesOf size ⌝ }
-{
-    match ram::width_of(size) {
-        Sized::Bytes(width) => ram::bytes_in(width),
-        Sized::Refused => 0,
-    }
-}
-
-// The address that the second cells are for: the next page's where the access takes two, else its own.
-fn second_of(bank: Bank, level: u8, va: u64, size: u64) -> u64
-    ensures { λ r. ⌜ r ≡ secondOf bank level va size ⌝ }
-{
-    let on = step::on_at(bank, level);
-    let n = bytes_of(size);
-    let split = place::crosses(on, va, n);
-    if split { place::next_page(va) } else { va }
-}
-
 // Where the cells of an access lie.
 pub fn keys_of(
     control: Control,
@@ -112,7 +91,7 @@ pub fn keys_of(
     let bank = step::bank_at(control, who.level);
     let hint = plan::hint_place(va, kind);
     let entry = step::slot_at(bank, who.level, va);
-    let next = second_of(bank, who.level, va, size);
+    let next = plan::second_of(bank, who.level, va, size);
     let hint2 = plan::hint_place(next, kind);
     let entry2 = step::slot_at(bank, who.level, next);
     Keys {
@@ -189,15 +168,6 @@ fn two(
     }
 }
 
-// Whether the second page is translated, after the first one's answer.
-fn goes_on(bank: Bank, level: u8, answer: Answer, va: u64, n: u64) -> bool
-    ensures { λ r. ⌜ r ≡ moreOf bank level answer va n ⌝ }
-{
-    let on = step::on_at(bank, level);
-    let split = place::crosses(on, va, n);
-    place::goes_on(answer, split)
-}
-
 // One page's translation alone.
 fn one(first: Turned, hint2: Hint, entry2: Entry, va: u64) -> Both
     ensures { λ r. ⌜ r ≡ oneTurn first hint2 entry2 va ⌝ }
@@ -235,7 +205,7 @@ fn turns_after(
     let hint2 = s.hint;
     let entry2 = s.entry;
     let answer = first.answer;
-    let more = goes_on(bank, k.who.level, answer, va, n);
+    let more = plan::goes_on(bank, k.who.level, answer, va, n);
     if more {
         two(k, present, first, hint2, entry2, va, kind, base, ram)
     } else {
@@ -363,15 +333,6 @@ pub fn missed(level: u8, base: u64, len: u64, size: u64) -> u8
     }
 }
 
-// Whether the hint serves an access that lies in its page.
-pub fn hit(h: Hint, who: Who, va: u64, size: u64, kind: Kind) -> bool
-    ensures { λ r. ⌜ r ≡ hitIn h who va size kind ⌝ }
-{
-    let served = plan::served(h, who, va, kind);
-    let here = place::in_page(va);
-    served & (size <= here)
-}
-
 // The bytes at pa, or no answer where one lies outside RAM.
 fn read_at(base: u64, ram: &[u8], pa: u64, size: u64, last: u64) -> QuickLoad
     ensures { λ r. ⌜ r ≡ readQuick base (now (ram .entry)) pa size last ⌝ }
@@ -417,7 +378,7 @@ pub fn load_at_once(
             reply: Reply::Refused(n),
         };
     }
-    let found = hit(h, who, va, size, Kind::Read);
+    let found = plan::hit(h, who, va, size, Kind::Read);
     if found {
         let pa = hint::on_page(h.pa, va);
         read_at(base, ram, pa, size, last)

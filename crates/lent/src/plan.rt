@@ -5,10 +5,12 @@ ghost use lib.ListN.{length};
 ghost use Rattle.word.specs.Ram.{wordAt};
 ghost use Rattle.cpu.specs.Check.{plainOf, missedOf};
 ghost use Rattle.cpu.specs.Step.{translation};
+ghost use Rattle.lent.specs.Access.{bytesOf, secondOf, moreOf, hitIn};
 ghost use Rattle.lent.specs.Plan.{hintPlace, keyOf, hintServes, quickOf, turnedOf};
 use crate::cells::Cells;
 use cpu::call::Reply;
 use cpu::check;
+use mmu::place;
 use mmu::step;
 use sysreg::regs::Control;
 use tlb::access;
@@ -21,6 +23,8 @@ use tlb::hint;
 use tlb::hint::Hint;
 use tlb::turn;
 use walk::regime::Bank;
+use word::ram;
+use word::ram::Sized;
 
 // Who asks, the registers of its regime, and where the cells of an address lie.
 pub struct Key {
@@ -144,4 +148,42 @@ pub fn turned(k: Key, c: Cells, va: u64, kind: Kind, base: u64, ram: &[u8]) -> T
         entry: made,
         reply,
     }
+}
+
+// The number of bytes of a size, 0 where it is none.
+fn bytes_of(size: u64) -> u64
+    ensures { λ r. ⌜ r ≡ bytesOf size ⌝ }
+{
+    match ram::width_of(size) {
+        Sized::Bytes(width) => ram::bytes_in(width),
+        Sized::Refused => 0,
+    }
+}
+
+// The address that the second cells are for: the next page's where the access takes two, else its own.
+pub fn second_of(bank: Bank, level: u8, va: u64, size: u64) -> u64
+    ensures { λ r. ⌜ r ≡ secondOf bank level va size ⌝ }
+{
+    let on = step::on_at(bank, level);
+    let n = bytes_of(size);
+    let split = place::crosses(on, va, n);
+    if split { place::next_page(va) } else { va }
+}
+
+// Whether the second page is translated, after the first one's answer.
+pub fn goes_on(bank: Bank, level: u8, answer: Answer, va: u64, n: u64) -> bool
+    ensures { λ r. ⌜ r ≡ moreOf bank level answer va n ⌝ }
+{
+    let on = step::on_at(bank, level);
+    let split = place::crosses(on, va, n);
+    place::goes_on(answer, split)
+}
+
+// Whether the hint serves an access that lies in its page.
+pub fn hit(h: Hint, who: Who, va: u64, size: u64, kind: Kind) -> bool
+    ensures { λ r. ⌜ r ≡ hitIn h who va size kind ⌝ }
+{
+    let served = served(h, who, va, kind);
+    let here = place::in_page(va);
+    served & (size <= here)
 }

@@ -9,6 +9,7 @@ use crate::access::Access;
 use crate::access::Both;
 use crate::access::Keys;
 use crate::cells::Cells;
+use crate::plan;
 use cpu::call::Reply;
 use mmu::bytes;
 use mmu::ends;
@@ -41,7 +42,7 @@ pub fn at_once(who: Who, h: Hint, base: u64, len: u64, va: u64, size: u64) -> Qu
             pa: 0,
         };
     }
-    let found = access::hit(h, who, va, size, Kind::Write);
+    let found = plan::hit(h, who, va, size, Kind::Write);
     let pa = hint::on_page(h.pa, va);
     let fits = ram::inside(base, len, size, pa);
     QuickStore {

@@ -1,7 +1,7 @@
--- `lent::access::goes_on` meets its contract.
+-- `lent::plan::goes_on` meets its contract.
 use borrow.Author.Needs.{needs}
-use Rattle.lent.proofs.access.goes_on.Statement.{statement}
-use Rattle.lent.proofs.access.goes_on.Tie as tie
+use Rattle.lent.proofs.plan.goes_on.Statement.{statement}
+use Rattle.lent.proofs.plan.goes_on.Tie as tie
 use Rattle.lent.proofs.Accesses.{more-is}
 
 on-at-requires : tie.Need-on-at-requires

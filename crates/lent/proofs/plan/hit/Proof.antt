@@ -1,7 +1,7 @@
--- `lent::access::hit` meets its contract.
+-- `lent::plan::hit` meets its contract.
 use borrow.Author.Needs.{needs}
-use Rattle.lent.proofs.access.hit.Statement.{statement}
-use Rattle.lent.proofs.access.hit.Tie as tie
+use Rattle.lent.proofs.plan.hit.Statement.{statement}
+use Rattle.lent.proofs.plan.hit.Tie as tie
 use Rattle.lent.proofs.Accesses.{hit-is}
 
 served-requires : tie.Need-served-requires

@@ -1,7 +1,7 @@
--- `lent::access::bytes_of` meets its contract.
+-- `lent::plan::bytes_of` meets its contract.
 use borrow.Author.Needs.{needs}
-use Rattle.lent.proofs.access.bytes_of.Statement.{statement}
-use Rattle.lent.proofs.access.bytes_of.Tie as tie
+use Rattle.lent.proofs.plan.bytes_of.Statement.{statement}
+use Rattle.lent.proofs.plan.bytes_of.Tie as tie
 use Rattle.lent.proofs.Accesses.{bytes-none, bytes-some}
 
 width-of-requires : tie.Need-width-of-requires

@@ -1,7 +1,7 @@
--- `lent::access::second_of` meets its contract.
+-- `lent::plan::second_of` meets its contract.
 use borrow.Author.Needs.{needs}
-use Rattle.lent.proofs.access.second_of.Statement.{statement}
-use Rattle.lent.proofs.access.second_of.Tie as tie
+use Rattle.lent.proofs.plan.second_of.Statement.{statement}
+use Rattle.lent.proofs.plan.second_of.Tie as tie
 use Rattle.lent.proofs.Accesses.{second-next, second-own}
 
 on-at-requires : tie.Need-on-at-requires
