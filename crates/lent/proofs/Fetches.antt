@@ -29,12 +29,12 @@ use Rattle.cpu.specs.declared.call.Call.the-variants as Call
 use Rattle.cpu.specs.declared.call.Reply.{Reply}
 use Rattle.cpu.specs.declared.call.Reply.the-variants.{Refused, Value}
 use Rattle.cpu.specs.declared.call.Stepped.{Stepped}
-use Rattle.lent.specs.Cells.{keyIn, coreWith}
-use Rattle.lent.specs.Fetch.{fetchCellsIn, putFetchIn, quickInsn, quickFetchBy, fetchQuick, fetchedOf}
-use Rattle.lent.specs.declared.cells.FetchCells.{FetchCells}
-use Rattle.lent.specs.declared.insn.FetchTurn.{FetchTurn}
-use Rattle.lent.specs.declared.plan.Key.{Key}
-use Rattle.lent.specs.declared.plan.Quick.{Quick}
+use Rattle.lentparts.specs.Cells.{keyIn, coreWith}
+use Rattle.lentparts.specs.Fetch.{fetchCellsIn, putFetchIn, quickInsn, quickFetchBy, fetchQuick, fetchedOf}
+use Rattle.lentparts.specs.declared.cells.FetchCells.{FetchCells}
+use Rattle.lentparts.specs.declared.insn.FetchTurn.{FetchTurn}
+use Rattle.lentparts.specs.declared.plan.Key.{Key}
+use Rattle.lentparts.specs.declared.plan.Quick.{Quick}
 
 module _ (c : Core) (base : ℕ) (ram : List ℕ) (va : ℕ) where
   abbrev call : Call

@@ -27,11 +27,11 @@ use Rattle.mmu.specs.Step.{stepOf, slotAt, locatedOf}
 use Rattle.mmu.specs.declared.core.Core.{Core}
 use Rattle.mmu.specs.declared.place.Place.the-variants.{Whole}
 use Rattle.mmu.specs.declared.place.Placed.the-variants.{At}
-use Rattle.lent.specs.Access.{bytesOf, secondOf, keysOf, keysIn, bothOf}
-use Rattle.lent.specs.Cells.{cellsIn, coreWith, putIn, putLastIn}
-use Rattle.lent.specs.Plan.{hintPlace, hintServes}
-use Rattle.lent.specs.declared.access.Both.{Both}
-use Rattle.lent.specs.declared.access.Keys.{Keys}
+use Rattle.lentparts.specs.Access.{bytesOf, secondOf, keysOf, keysIn, bothOf}
+use Rattle.lentparts.specs.Cells.{cellsIn, coreWith, putIn, putLastIn}
+use Rattle.lentparts.specs.Plan.{hintPlace, hintServes}
+use Rattle.lentparts.specs.declared.access.Both.{Both}
+use Rattle.lentparts.specs.declared.access.Keys.{Keys}
 use Rattle.lent.proofs.Pairs.{put-same, step-at, pair-right}
 
 -- a size's bytes are its number

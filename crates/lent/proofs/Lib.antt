@@ -1,15 +1,8 @@
-pub mod Plans
-pub mod InPlace
-pub mod Parts
-pub mod Fields
-pub mod Laid
 pub mod Results
 pub mod Runs
 pub mod Locals
 pub mod Fetches
-pub mod Accesses
 pub mod Pairs
 pub mod Hits
 pub mod Loads
-pub mod Writings
 pub mod Stores

@@ -31,13 +31,13 @@ use Rattle.cpu.specs.declared.call.Call.the-variants as Call
 use Rattle.cpu.specs.declared.call.Reply.{Reply}
 use Rattle.cpu.specs.declared.call.Reply.the-variants.{Refused, Value}
 use Rattle.cpu.specs.declared.call.Stepped.{Stepped}
-use Rattle.lent.specs.Access.{bytesBy, keysOf, keysIn, loadedBy, loadedOf, hitIn, gotQuick, readBy, readQuick, loadQuickBy, loadQuick}
-use Rattle.lent.specs.Cells.{cellsIn, partsIn, putIn, putLastIn}
-use Rattle.lent.specs.Plan.{hintPlace, hintServes}
-use Rattle.lent.specs.declared.access.Access.{Access}
-use Rattle.lent.specs.declared.access.Keys.{Keys}
-use Rattle.lent.specs.declared.access.QuickLoad.{QuickLoad}
-use Rattle.lent.specs.declared.cells.Cells.{Cells}
+use Rattle.lentparts.specs.Access.{bytesBy, keysOf, keysIn, loadedBy, loadedOf, hitIn, gotQuick, readBy, readQuick, loadQuickBy, loadQuick}
+use Rattle.lentparts.specs.Cells.{cellsIn, partsIn, putIn, putLastIn}
+use Rattle.lentparts.specs.Plan.{hintPlace, hintServes}
+use Rattle.lentparts.specs.declared.access.Access.{Access}
+use Rattle.lentparts.specs.declared.access.Keys.{Keys}
+use Rattle.lentparts.specs.declared.access.QuickLoad.{QuickLoad}
+use Rattle.lentparts.specs.declared.cells.Cells.{Cells}
 use Rattle.lent.proofs.Hits.{size-is, hint-located, pair-is}
 use Rattle.lent.proofs.Runs.{read-place}
 

@@ -29,10 +29,10 @@ use Rattle.mmu.specs.Place.{nextPage, crosses, goesOn}
 use Rattle.mmu.specs.Step.{stepOf, slotAt, locatedOf, onePage, bothPages}
 use Rattle.mmu.specs.declared.step.Located.{Located}
 use Rattle.mmu.specs.declared.step.Stepped.{Stepped}
-use Rattle.lent.specs.Access.{another, moreOf, oneTurn, twoTurns, bothAfter, bothOf}
-use Rattle.lent.specs.declared.access.Both.{Both}
-use Rattle.lent.specs.declared.access.Keys.{Keys}
-use Rattle.lent.specs.declared.cells.Cells.{Cells}
+use Rattle.lentparts.specs.Access.{another, moreOf, oneTurn, twoTurns, bothAfter, bothOf}
+use Rattle.lentparts.specs.declared.access.Both.{Both}
+use Rattle.lentparts.specs.declared.access.Keys.{Keys}
+use Rattle.lentparts.specs.declared.cells.Cells.{Cells}
 
 -- an element of a list with another set
 get-set : {A : Type 0} (xs : List A) (i j : ℕ) (x d : A) → i < length xs → getD (set xs i x) j d ≡ another (eqb j i) x (getD xs j d)

@@ -9,16 +9,16 @@ use Rattle.tlb.proofs.count.Counts.Laws as N′
 use Rattle.tlb.proofs.entry.Entry.Laws as F′
 use Rattle.tlb.proofs.hint.Hint.Laws as E′
 use Rattle.cpu.proofs.call.Reply.Laws as Y′
-use Rattle.lent.proofs.plan.Key.Laws as KE′
-use Rattle.lent.proofs.plan.Turn.Laws as TU′
-use Rattle.lent.proofs.plan.Quick.Laws as QU′
+use Rattle.lentparts.proofs.plan.Key.Laws as KE′
+use Rattle.lentparts.proofs.plan.Turn.Laws as TU′
+use Rattle.lentparts.proofs.plan.Quick.Laws as QU′
 use Rattle.tlb.proofs.hint.FetchHint.Laws as X′
-use Rattle.lent.proofs.insn.FetchTurn.Laws as FT′
-use Rattle.lent.proofs.access.Keys.Laws as KS′
-use Rattle.lent.proofs.access.Access.Laws as AC′
-use Rattle.lent.proofs.access.QuickLoad.Laws as QL′
-use Rattle.lent.proofs.writes.QuickStore.Laws as QS′
-use Rattle.lent.proofs.Fields.{skip}
+use Rattle.lentparts.proofs.insn.FetchTurn.Laws as FT′
+use Rattle.lentparts.proofs.access.Keys.Laws as KS′
+use Rattle.lentparts.proofs.access.Access.Laws as AC′
+use Rattle.lentparts.proofs.access.QuickLoad.Laws as QL′
+use Rattle.lentparts.proofs.writes.QuickStore.Laws as QS′
+use Rattle.lentparts.proofs.Fields.{skip}
 
 pub key-hint : fieldOf KE′.mir 2 ≡ some (tyInt w64, 56)
 key-hint = skip Q′.mir (tcons BA′.mir (tcons (tyInt w64) (tcons (tyInt w64) tnil))) 1 0 2 refl (skip BA′.mir (tcons (tyInt w64) (tcons (tyInt w64) tnil)) 0 2 56 refl refl)

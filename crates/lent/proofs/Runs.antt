@@ -40,12 +40,12 @@ use Rattle.cpu.specs.declared.call.Reply.{Reply}
 use Rattle.cpu.specs.declared.call.Reply.the-variants.{Refused, Value}
 use Rattle.cpu.specs.declared.call.Stepped.{Stepped}
 use Rattle.cpu.specs.declared.call.Call.the-variants as Call
-use Rattle.lent.specs.Plan.{hintPlace, hintServes, quickBy, quickOf, turnBy, turnedOf}
-use Rattle.lent.specs.Cells.{keyIn, cellsIn, coreWith, putIn}
-use Rattle.lent.specs.declared.cells.Cells.{Cells}
-use Rattle.lent.specs.declared.plan.Key.{Key}
-use Rattle.lent.specs.declared.plan.Quick.{Quick}
-use Rattle.lent.specs.declared.plan.Turn.{Turn}
+use Rattle.lentparts.specs.Plan.{hintPlace, hintServes, quickBy, quickOf, turnBy, turnedOf}
+use Rattle.lentparts.specs.Cells.{keyIn, cellsIn, coreWith, putIn}
+use Rattle.lentparts.specs.declared.cells.Cells.{Cells}
+use Rattle.lentparts.specs.declared.plan.Key.{Key}
+use Rattle.lentparts.specs.declared.plan.Quick.{Quick}
+use Rattle.lentparts.specs.declared.plan.Turn.{Turn}
 
 -- a read's and a write's hint has its own place below 512
 place-small : (page : ℕ) → placeOf page < 256

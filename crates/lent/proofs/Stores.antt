@@ -30,14 +30,14 @@ use Rattle.cpu.specs.declared.call.Call.the-variants as Call
 use Rattle.cpu.specs.declared.call.Reply.{Reply}
 use Rattle.cpu.specs.declared.call.Reply.the-variants.{Refused, Done}
 use Rattle.cpu.specs.declared.call.Stepped.{Stepped}
-use Rattle.lent.specs.Access.{bytesBy, keysOf, keysIn, hitIn}
-use Rattle.lent.specs.Cells.{cellsIn, putIn, putLastIn}
-use Rattle.lent.specs.Plan.{hintPlace, hintServes}
-use Rattle.lent.specs.Writes.{storeQuickBy, storeQuick, nowReplyBy, nowReply, nowRamBy, nowRam, sizedRam, storeAfter, storedBy, storedOf, storedRamBy, storedRam}
-use Rattle.lent.specs.declared.access.Access.{Access}
-use Rattle.lent.specs.declared.access.Keys.{Keys}
-use Rattle.lent.specs.declared.cells.Cells.{Cells}
-use Rattle.lent.specs.declared.writes.QuickStore.{QuickStore}
+use Rattle.lentparts.specs.Access.{bytesBy, keysOf, keysIn, hitIn}
+use Rattle.lentparts.specs.Cells.{cellsIn, putIn, putLastIn}
+use Rattle.lentparts.specs.Plan.{hintPlace, hintServes}
+use Rattle.lentparts.specs.Writes.{storeQuickBy, storeQuick, nowReplyBy, nowReply, nowRamBy, nowRam, sizedRam, storeAfter, storedBy, storedOf, storedRamBy, storedRam}
+use Rattle.lentparts.specs.declared.access.Access.{Access}
+use Rattle.lentparts.specs.declared.access.Keys.{Keys}
+use Rattle.lentparts.specs.declared.cells.Cells.{Cells}
+use Rattle.lentparts.specs.declared.writes.QuickStore.{QuickStore}
 use Rattle.lent.proofs.Hits.{size-is, hint-located, pair-is}
 use Rattle.lent.proofs.Loads.{putBack, own-back}
 use Rattle.lent.proofs.Runs.{write-place}

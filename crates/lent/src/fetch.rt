@@ -2,9 +2,9 @@
 ghost use mathlib.Core.Path.{_≡_};
 ghost use Rattle.cpu.specs.Step.{runOf, stepOf};
 ghost use Rattle.cpu.specs.declared.call.Call.the-variants as Call;
-use crate::cells;
-use crate::insn;
 use cpu::call::Reply;
+use lentparts::cells;
+use lentparts::insn;
 use mmu::core::Core;
 use tlb::access::Kind;
 
@@ -13,9 +13,9 @@ fn run(core: &mut Core, base: u64, ram: &[u8], va: u64) -> Reply
     ensures { λ r. ⌜ (r ≡ runOf (now (core .entry)) base (now (ram .entry)) (Call.Fetch va) .reply) × (now (core .exit) ≡ runOf (now (core .entry)) base (now (ram .entry)) (Call.Fetch va) .core) ⌝ }
 {
     let k = cells::find(core, va, Kind::Fetch);
-    let c = crate::take_fetch(core, k.entry);
+    let c = lentparts::take_fetch(core, k.entry);
     let t = insn::fetched(k, c, va, base, ram);
-    crate::put_fetch(core, k.entry, t.counts, t.fetch, t.entry, t.abort_pa);
+    lentparts::put_fetch(core, k.entry, t.counts, t.fetch, t.entry, t.abort_pa);
     t.reply
 }
 

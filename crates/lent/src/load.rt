@@ -2,10 +2,10 @@
 ghost use mathlib.Core.Path.{_≡_};
 ghost use Rattle.cpu.specs.Step.{runOf, stepOf};
 ghost use Rattle.cpu.specs.declared.call.Call.the-variants as Call;
-use crate::access;
-use crate::cells;
-use crate::plan;
 use cpu::call::Reply;
+use lentparts::access;
+use lentparts::cells;
+use lentparts::plan;
 use mmu::core::Core;
 use tlb::access::Kind;
 
@@ -14,11 +14,11 @@ fn run(core: &mut Core, base: u64, ram: &[u8], va: u64, size: u64) -> Reply
     ensures { λ r. ⌜ (r ≡ runOf (now (core .entry)) base (now (ram .entry)) (Call.Load va size) .reply) × (now (core .exit) ≡ runOf (now (core .entry)) base (now (ram .entry)) (Call.Load va size) .core) ⌝ }
 {
     let k = cells::find_both(core, va, size, Kind::Read);
-    let x = crate::take(core, k.hint, k.entry);
-    let y = crate::take(core, k.hint2, k.entry2);
+    let x = lentparts::take(core, k.hint, k.entry);
+    let y = lentparts::take(core, k.hint2, k.entry2);
     let t = access::loaded(k, x, y, va, size, base, ram);
-    crate::put(core, k.hint, k.entry, t.counts, t.hint, t.entry);
-    crate::put_last(
+    lentparts::put(core, k.hint, k.entry, t.counts, t.hint, t.entry);
+    lentparts::put_last(
         core,
         k.hint2,
         k.entry2,

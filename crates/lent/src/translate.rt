@@ -2,9 +2,9 @@
 ghost use mathlib.Core.Path.{_≡_};
 ghost use Rattle.cpu.specs.Step.{runOf, stepOf};
 ghost use Rattle.cpu.specs.declared.call.Call.the-variants as Call;
-use crate::cells;
-use crate::plan;
 use cpu::call::Reply;
+use lentparts::cells;
+use lentparts::plan;
 use mmu::core::Core;
 use tlb::access::Kind;
 
@@ -13,9 +13,9 @@ fn run(core: &mut Core, base: u64, ram: &[u8], va: u64, kind: Kind) -> Reply
     ensures { λ r. ⌜ (r ≡ runOf (now (core .entry)) base (now (ram .entry)) (Call.Translate kind va) .reply) × (now (core .exit) ≡ runOf (now (core .entry)) base (now (ram .entry)) (Call.Translate kind va) .core) ⌝ }
 {
     let k = cells::find(core, va, kind);
-    let c = crate::take(core, k.hint, k.entry);
+    let c = lentparts::take(core, k.hint, k.entry);
     let t = plan::turned(k, c, va, kind, base, ram);
-    crate::put(core, k.hint, k.entry, t.counts, t.hint, t.entry);
+    lentparts::put(core, k.hint, k.entry, t.counts, t.hint, t.entry);
     t.reply
 }
 

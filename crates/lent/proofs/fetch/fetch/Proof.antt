@@ -43,7 +43,7 @@ use denote.Triple.Table.{entered, cited}
 use denote.Triple.Walked.{says, Stays, stay-ref, stay-dropped, walkOf, AllGo, goes-dropped, goes-ref, Walks, ends-at, walked, walk-meets}
 use denote.Exit.{yes}
 use Rattle.mmu.specs.declared.core.Core.{Core}
-use Rattle.lent.specs.declared.plan.Quick.{Quick}
+use Rattle.lentparts.specs.declared.plan.Quick.{Quick}
 use Rattle.cpu.specs.declared.call.Reply.{Reply}
 use Rattle.mmu.proofs.core.Core as T
 use Rattle.mmu.proofs.core.Core.Laws as T′
@@ -55,24 +55,24 @@ use Rattle.tlb.proofs.entry.Present as P
 use Rattle.tlb.proofs.entry.Present.Laws as P′
 use Rattle.tlb.proofs.hint.FetchHint as X
 use Rattle.tlb.proofs.hint.FetchHint.Laws as X′
-use Rattle.lent.proofs.plan.Quick as QU
-use Rattle.lent.proofs.plan.Quick.Laws as QU′
+use Rattle.lentparts.proofs.plan.Quick as QU
+use Rattle.lentparts.proofs.plan.Quick.Laws as QU′
 use Rattle.cpu.proofs.call.Reply as Y
 use Rattle.cpu.proofs.call.Reply.Laws as Y′
 use Rattle.cpu.specs.Step.{runOf, stepOf}
 use Rattle.cpu.specs.declared.call.Call.the-variants as Call
-use Rattle.lent.specs.Fetch.{fetchQuick}
+use Rattle.lentparts.specs.Fetch.{fetchQuick}
 use Rattle.lent.proofs.Fetches.{fetch-at-once-is, fetch-goes-on-is}
 use Rattle.lent.proofs.Results.{quick-ends, quick-reply}
-use Rattle.lent.proofs.Parts.{hints, entries, written, fetch-val, counts-val, core-vals, core-tells, who-is, fetch-is}
-use Rattle.lent.proofs.InPlace.{after-test}
+use Rattle.lentparts.proofs.Parts.{hints, entries, written, fetch-val, counts-val, core-vals, core-tells, who-is, fetch-is}
+use Rattle.lentparts.proofs.InPlace.{after-test}
 use Rattle.lent.proofs.Locals.{look-part}
-use Rattle.lent.proofs.Laid.{who-at, fetch-at}
-use Rattle.lent.proofs.Fields.{core-who, core-tlb, tlb-cache, cache-fetch}
-use Rattle.lent.proofs.insn.at_once as at-once
-use Rattle.lent.proofs.insn.at_once.Symbol as at-once-def
-use Rattle.lent.proofs.insn.at_once.Symbol.{name as #lent·insn·at-once}
-use Rattle.lent.proofs.insn.at_once.Met as at-once-thm
+use Rattle.lentparts.proofs.Laid.{who-at, fetch-at}
+use Rattle.lentparts.proofs.Fields.{core-who, core-tlb, tlb-cache, cache-fetch}
+use Rattle.lentparts.proofs.insn.at_once as at-once
+use Rattle.lentparts.proofs.insn.at_once.Symbol as at-once-def
+use Rattle.lentparts.proofs.insn.at_once.Symbol.{name as #lentparts·insn·at-once}
+use Rattle.lentparts.proofs.insn.at_once.Met as at-once-thm
 use Rattle.lent.proofs.fetch.run as runs
 use Rattle.lent.proofs.fetch.run.Symbol as runs-def
 use Rattle.lent.proofs.fetch.run.Symbol.{name as #lent·fetch·run}
@@ -219,7 +219,7 @@ module _ {M : Type 1} (𝓤 : URA M) (H : Heap 𝓤) (A : Atoms 𝓤) (W : Given
       use3 W (later (‵ (Own (ws .0)) ⊛ ‵ (flft κ q))) (comes-back 𝓤 H A W T.the-row (named 0) κ (ν ∷ []) q γ b o δ d (ws .0)) $ await ! tt $ split ! $ move ! (1 ∷ 2 ∷ []) $ join ! $ move ! (1 ∷ 0 ∷ []) $ join ! $
       at-once ! $ show ! (λ (r : Reply). ex 𝓤 (λ (y : Core). sep 𝓤 (sep 𝓤 (sem 𝓤 H A (Own y)) (sep 𝓤 (A .lft κ q) (sep 𝓤 (A .lft κ₁ q₁) (sem 𝓤 H A ftrue)))) (fact 𝓤 (said-runs d r y v)))) r $ show ! (λ (y : Core). sep 𝓤 (sep 𝓤 (sem 𝓤 H A (Own y)) (sep 𝓤 (A .lft κ q) (sep 𝓤 (A .lft κ₁ q₁) (sem 𝓤 H A ftrue)))) (fact 𝓤 (said-runs d r y v))) (ws .0) $ says ! (e, is) $ done !))))
 
-  module _ (C : Calls 𝓤 H) (Λ : Loops 𝓤 H) (fm : FmC 𝓤 H (W .laws) C) (known-at-once : Triple 𝓤 (C #lent·insn·at-once) (To-at-once 𝓤 H A at-mem run)) (known-runs : Triple 𝓤 (C #lent·fetch·run) (To-run 𝓤 H A at-mem run)) where
+  module _ (C : Calls 𝓤 H) (Λ : Loops 𝓤 H) (fm : FmC 𝓤 H (W .laws) C) (known-at-once : Triple 𝓤 (C #lentparts·insn·at-once) (To-at-once 𝓤 H A at-mem run)) (known-runs : Triple 𝓤 (C #lent·fetch·run) (To-run 𝓤 H A at-mem run)) where
     steps : Is u64 base ((vint w64 base) ∷ []) → Is (ShrSlice (named 1) κ₁ u8) m ((sliceVal (m .ptr) (length (m .now))) ∷ []) → Is u64 va ((vint w64 va) ∷ []) → ent 𝓤 (onEntry 𝓤 H A f.signature (κ, (κ₁, tt)) (q, (q₁, tt)) x₀ at) (WpFn 𝓤 H C Λ fn (vptr b o ∷ (vint w64 base) ∷ (sliceVal (m .ptr) (length (m .now))) ∷ (vint w64 va) ∷ []) Post)
     steps gb gm gv =
         qed W ((‵ (flft κ q) ⊛ (‵ (flft κ₁ q₁) ⊛ ‵ ftrue)) ∷ ‵ (owns (MutRef (named 0) κ T.the-row ∷ u64 ∷ ShrSlice (named 1) κ₁ u8 ∷ u64 ∷ []) x₀ at) ∷ []) ∵
@@ -267,7 +267,7 @@ module _ {M : Type 1} (𝓤 : URA M) (H : Heap 𝓤) (A : Atoms 𝓤) (W : Given
     walk gb gm gv = subst (λ (ls : List Local). ent 𝓤 (onEntry 𝓤 H A f.signature (κ, (κ₁, tt)) (q, (q₁, tt)) x₀ at) (WpFn 𝓤 H C Λ (with-locals ls) (vptr b o ∷ (vint w64 base) ∷ (sliceVal (m .ptr) (length (m .now))) ∷ (vint w64 va) ∷ []) Post)) (sym locals-are) (steps gb gm gv)
 
 module _ {M : Type 1} (𝓤 : URA M) (H : Heap 𝓤) (A : Atoms 𝓤) (W : Given 𝓤 H A) (at-mem : Memory → SProp 𝓤) (run : Routine → Fun 𝓤) where
-  fetch-walks : (C : Calls 𝓤 H) (Λ : Loops 𝓤 H) → FmC 𝓤 H (W .laws) C → Triple 𝓤 (C #lent·insn·at-once) (To-at-once 𝓤 H A at-mem run) → Triple 𝓤 (C #lent·fetch·run) (To-run 𝓤 H A at-mem run) → Walks 𝓤 H A f.ended stayed (WpFn 𝓤 H C Λ code.function) (f.clauses 𝓤 H A at-mem run)
+  fetch-walks : (C : Calls 𝓤 H) (Λ : Loops 𝓤 H) → FmC 𝓤 H (W .laws) C → Triple 𝓤 (C #lentparts·insn·at-once) (To-at-once 𝓤 H A at-mem run) → Triple 𝓤 (C #lent·fetch·run) (To-run 𝓤 H A at-mem run) → Walks 𝓤 H A f.ended stayed (WpFn 𝓤 H C Λ code.function) (f.clauses 𝓤 H A at-mem run)
   fetch-walks C Λ fm known-at-once known-runs =
       walked 𝓤 H A f.ended stayed (f.clauses 𝓤 H A at-mem run) (WpFn 𝓤 H C Λ code.function)
       (λ κs. (ptr-vals, (uint-vals w64, (slice-vals, (uint-vals w64, tt)))))
@@ -277,7 +277,7 @@ module _ {M : Type 1} (𝓤 : URA M) (H : Heap 𝓤) (A : Atoms 𝓤) (W : Given
   goes : AllGo 𝓤 H A W 2 (f.signature .params) (f.ended .kept) stayed
   goes = (goes-ref 𝓤 H A W 2 0 tt (plain (λ _. T.the-row)), (goes-dropped 𝓤 H A W 2 (plain (λ _. u64)) yes (λ κs x f. refl), (goes-dropped 𝓤 H A W 2 (shrSliceOf (1 ∷ []) tt (plain (λ _. u8))) yes (λ κs x f. refl), (goes-dropped 𝓤 H A W 2 (plain (λ _. u64)) yes (λ κs x f. refl), tt))))
 
-fetch-meets : {M : Type 1} (𝓤 : URA M) (H : Heap 𝓤) (A : Atoms 𝓤) (W : Given 𝓤 H A) (at-mem : Memory → SProp 𝓤) (run : Routine → Fun 𝓤) (𝓣 : Tables 𝓤 H) → Triple 𝓤 (𝓣 .C #lent·insn·at-once) (To-at-once 𝓤 H A at-mem run) → Triple 𝓤 (𝓣 .C #lent·fetch·run) (To-run 𝓤 H A at-mem run) → Meets 𝓤 H A f.signature (WpFn 𝓤 H (𝓣 .C) (𝓣 .Λ) code.function) (f.spec 𝓤 H A at-mem run)
+fetch-meets : {M : Type 1} (𝓤 : URA M) (H : Heap 𝓤) (A : Atoms 𝓤) (W : Given 𝓤 H A) (at-mem : Memory → SProp 𝓤) (run : Routine → Fun 𝓤) (𝓣 : Tables 𝓤 H) → Triple 𝓤 (𝓣 .C #lentparts·insn·at-once) (To-at-once 𝓤 H A at-mem run) → Triple 𝓤 (𝓣 .C #lent·fetch·run) (To-run 𝓤 H A at-mem run) → Meets 𝓤 H A f.signature (WpFn 𝓤 H (𝓣 .C) (𝓣 .Λ) code.function) (f.spec 𝓤 H A at-mem run)
 fetch-meets 𝓤 H A W at-mem run 𝓣 known-at-once known-runs =
     walk-meets 𝓤 H A f.ended stayed W (goes 𝓤 H A W at-mem run) (f.clauses 𝓤 H A at-mem run) (WpFn 𝓤 H (𝓣 .C) (𝓣 .Λ) code.function) (WpFn-mono 𝓤 H (W .laws) 𝓣 code.function)
     (fetch-walks 𝓤 H A W at-mem run (𝓣 .C) (𝓣 .Λ) (fmOf 𝓤 H (W .laws) 𝓣) known-at-once known-runs)
@@ -288,5 +288,5 @@ fetch-spec 𝓤 H 𝓜 𝓖 𝓡 =
     entered 𝓤 H (tripleOf 𝓤 H (𝓖 .A) f.signature (f.spec 𝓤 H (𝓖 .A) (𝓜 .mem) (𝓡 .run)))
     (tables 𝓤 H 𝓜 𝓡 code.env .C) (tables 𝓤 H 𝓜 𝓡 code.env .Λ) #self code.function (code.unfolded 𝓤 H 𝓜 𝓡)
     (fetch-meets 𝓤 H (𝓖 .A) (givenOf 𝓤 H 𝓜 𝓖) (𝓜 .mem) (𝓡 .run) (tablesOf 𝓤 H 𝓜 (tables 𝓤 H 𝓜 𝓡 code.env))
-    (cited 𝓤 H (To-at-once 𝓤 H (𝓖 .A) (𝓜 .mem) (𝓡 .run)) 𝓜 𝓡 code.env #lent·insn·at-once at-once-def.routine code.calls-lent·insn·at-once (at-once-thm.met 𝓤 H 𝓜 𝓖 𝓡))
+    (cited 𝓤 H (To-at-once 𝓤 H (𝓖 .A) (𝓜 .mem) (𝓡 .run)) 𝓜 𝓡 code.env #lentparts·insn·at-once at-once-def.routine code.calls-lentparts·insn·at-once (at-once-thm.met 𝓤 H 𝓜 𝓖 𝓡))
     (cited 𝓤 H (To-run 𝓤 H (𝓖 .A) (𝓜 .mem) (𝓡 .run)) 𝓜 𝓡 code.env #lent·fetch·run runs-def.routine code.calls-lent·fetch·run (runs-thm.met 𝓤 H 𝓜 𝓖 𝓡)))

@@ -43,9 +43,9 @@ use denote.Triple.Walked.{says, Stays, stay-ref, stay-dropped, walkOf, AllGo, go
 use denote.Exit.{yes}
 use Rattle.mmu.specs.declared.core.Core.{Core}
 use Rattle.tlb.specs.declared.access.Kind.{Kind}
-use Rattle.lent.specs.declared.plan.Key.{Key}
-use Rattle.lent.specs.declared.cells.FetchCells.{FetchCells}
-use Rattle.lent.specs.declared.insn.FetchTurn.{FetchTurn}
+use Rattle.lentparts.specs.declared.plan.Key.{Key}
+use Rattle.lentparts.specs.declared.cells.FetchCells.{FetchCells}
+use Rattle.lentparts.specs.declared.insn.FetchTurn.{FetchTurn}
 use Rattle.cpu.specs.declared.call.Reply.{Reply}
 use Rattle.mmu.proofs.core.Core as T
 use Rattle.tlb.proofs.access.Kind as KI
@@ -56,39 +56,39 @@ use Rattle.tlb.proofs.hint.FetchHint as X
 use Rattle.tlb.proofs.hint.FetchHint.Laws as X′
 use Rattle.tlb.proofs.entry.Entry as F
 use Rattle.tlb.proofs.entry.Entry.Laws as F′
-use Rattle.lent.proofs.plan.Key as KE
-use Rattle.lent.proofs.plan.Key.Laws as KE′
-use Rattle.lent.proofs.cells.FetchCells as FC
-use Rattle.lent.proofs.cells.FetchCells.Laws as FC′
-use Rattle.lent.proofs.insn.FetchTurn as FT
-use Rattle.lent.proofs.insn.FetchTurn.Laws as FT′
+use Rattle.lentparts.proofs.plan.Key as KE
+use Rattle.lentparts.proofs.plan.Key.Laws as KE′
+use Rattle.lentparts.proofs.cells.FetchCells as FC
+use Rattle.lentparts.proofs.cells.FetchCells.Laws as FC′
+use Rattle.lentparts.proofs.insn.FetchTurn as FT
+use Rattle.lentparts.proofs.insn.FetchTurn.Laws as FT′
 use Rattle.cpu.proofs.call.Reply as Y
 use Rattle.cpu.proofs.call.Reply.Laws as Y′
 use Rattle.tlb.specs.declared.access.Kind.the-variants as Kind
 use Rattle.cpu.specs.Step.{runOf}
 use Rattle.cpu.specs.declared.call.Call.the-variants as Call
-use Rattle.lent.specs.Cells.{keyIn}
-use Rattle.lent.specs.Fetch.{fetchCellsIn, putFetchIn, fetchedOf}
+use Rattle.lentparts.specs.Cells.{keyIn}
+use Rattle.lentparts.specs.Fetch.{fetchCellsIn, putFetchIn, fetchedOf}
 use Rattle.lent.proofs.Runs.{key-within}
 use Rattle.lent.proofs.Fetches.{fetch-run-is}
 use Rattle.lent.proofs.Results.{key-entry, fturn-counts, fturn-fetch, fturn-entry, fturn-abort, fturn-reply}
 use Rattle.lent.proofs.Locals.{look-part}
-use Rattle.lent.proofs.cells.find as find
-use Rattle.lent.proofs.cells.find.Symbol as find-def
-use Rattle.lent.proofs.cells.find.Symbol.{name as #lent·cells·find}
-use Rattle.lent.proofs.cells.find.Met as find-thm
-use Rattle.lent.proofs.take_fetch as take-fetch
-use Rattle.lent.proofs.take_fetch.Symbol as take-fetch-def
-use Rattle.lent.proofs.take_fetch.Symbol.{name as #lent·take-fetch}
-use Rattle.lent.proofs.take_fetch.Met as take-fetch-thm
-use Rattle.lent.proofs.insn.fetched as fetched
-use Rattle.lent.proofs.insn.fetched.Symbol as fetched-def
-use Rattle.lent.proofs.insn.fetched.Symbol.{name as #lent·insn·fetched}
-use Rattle.lent.proofs.insn.fetched.Met as fetched-thm
-use Rattle.lent.proofs.put_fetch as put-fetch
-use Rattle.lent.proofs.put_fetch.Symbol as put-fetch-def
-use Rattle.lent.proofs.put_fetch.Symbol.{name as #lent·put-fetch}
-use Rattle.lent.proofs.put_fetch.Met as put-fetch-thm
+use Rattle.lentparts.proofs.cells.find as find
+use Rattle.lentparts.proofs.cells.find.Symbol as find-def
+use Rattle.lentparts.proofs.cells.find.Symbol.{name as #lentparts·cells·find}
+use Rattle.lentparts.proofs.cells.find.Met as find-thm
+use Rattle.lentparts.proofs.take_fetch as take-fetch
+use Rattle.lentparts.proofs.take_fetch.Symbol as take-fetch-def
+use Rattle.lentparts.proofs.take_fetch.Symbol.{name as #lentparts·take-fetch}
+use Rattle.lentparts.proofs.take_fetch.Met as take-fetch-thm
+use Rattle.lentparts.proofs.insn.fetched as fetched
+use Rattle.lentparts.proofs.insn.fetched.Symbol as fetched-def
+use Rattle.lentparts.proofs.insn.fetched.Symbol.{name as #lentparts·insn·fetched}
+use Rattle.lentparts.proofs.insn.fetched.Met as fetched-thm
+use Rattle.lentparts.proofs.put_fetch as put-fetch
+use Rattle.lentparts.proofs.put_fetch.Symbol as put-fetch-def
+use Rattle.lentparts.proofs.put_fetch.Symbol.{name as #lentparts·put-fetch}
+use Rattle.lentparts.proofs.put_fetch.Met as put-fetch-thm
 use Rattle.lent.proofs.fetch.run.Key.{name as #self}
 use Rattle.lent.proofs.fetch.run as f
 use Rattle.lent.proofs.fetch.run.Statement as stated
@@ -284,7 +284,7 @@ module _ {M : Type 1} (𝓤 : URA M) (H : Heap 𝓤) (A : Atoms 𝓤) (W : Given
       use3 W (later (‵ (Own (ws .0)) ⊛ ‵ (flft κ q))) (comes-back 𝓤 H A W T.the-row (named 0) κ (ν ∷ []) q γ b o δ d (ws .0)) $ await ! tt $
       at-once ! $ show ! (λ (r : (Unit {0})). ex 𝓤 (λ (y : Core). sep 𝓤 (sep 𝓤 (sem 𝓤 H A (Own y)) (A .lft κ q)) (fact 𝓤 (said-put-fetch d k t r y v)))) r $ show ! (λ (y : Core). sep 𝓤 (sep 𝓤 (sem 𝓤 H A (Own y)) (A .lft κ q)) (fact 𝓤 (said-put-fetch d k t r y v))) (ws .0) $ says ! (e, is) $ keep ! (0 ∷ []) $ done !))))
 
-  module _ (C : Calls 𝓤 H) (Λ : Loops 𝓤 H) (fm : FmC 𝓤 H (W .laws) C) (known-find : Triple 𝓤 (C #lent·cells·find) (To-find 𝓤 H A at-mem run)) (known-take-fetch : Triple 𝓤 (C #lent·take-fetch) (To-take-fetch 𝓤 H A at-mem run)) (known-fetched : Triple 𝓤 (C #lent·insn·fetched) (To-fetched 𝓤 H A at-mem run)) (known-put-fetch : Triple 𝓤 (C #lent·put-fetch) (To-put-fetch 𝓤 H A at-mem run)) where
+  module _ (C : Calls 𝓤 H) (Λ : Loops 𝓤 H) (fm : FmC 𝓤 H (W .laws) C) (known-find : Triple 𝓤 (C #lentparts·cells·find) (To-find 𝓤 H A at-mem run)) (known-take-fetch : Triple 𝓤 (C #lentparts·take-fetch) (To-take-fetch 𝓤 H A at-mem run)) (known-fetched : Triple 𝓤 (C #lentparts·insn·fetched) (To-fetched 𝓤 H A at-mem run)) (known-put-fetch : Triple 𝓤 (C #lentparts·put-fetch) (To-put-fetch 𝓤 H A at-mem run)) where
     steps : Is u64 base ((vint w64 base) ∷ []) → Is (ShrSlice (named 1) κ₁ u8) m ((sliceVal (m .ptr) (length (m .now))) ∷ []) → Is u64 va ((vint w64 va) ∷ []) → ent 𝓤 (onEntry 𝓤 H A f.signature (κ, (κ₁, tt)) (q, (q₁, tt)) x₀ at) (WpFn 𝓤 H C Λ fn (vptr b o ∷ (vint w64 base) ∷ (sliceVal (m .ptr) (length (m .now))) ∷ (vint w64 va) ∷ []) Post)
     steps gb gm gv =
         qed W ((‵ (flft κ q) ⊛ (‵ (flft κ₁ q₁) ⊛ ‵ ftrue)) ∷ ‵ (owns (MutRef (named 0) κ T.the-row ∷ u64 ∷ ShrSlice (named 1) κ₁ u8 ∷ u64 ∷ []) x₀ at) ∷ []) ∵
@@ -333,7 +333,7 @@ module _ {M : Type 1} (𝓤 : URA M) (H : Heap 𝓤) (A : Atoms 𝓤) (W : Given
     walk gb gm gv = subst (λ (ls : List Local). ent 𝓤 (onEntry 𝓤 H A f.signature (κ, (κ₁, tt)) (q, (q₁, tt)) x₀ at) (WpFn 𝓤 H C Λ (with-locals ls) (vptr b o ∷ (vint w64 base) ∷ (sliceVal (m .ptr) (length (m .now))) ∷ (vint w64 va) ∷ []) Post)) (sym locals-are) (steps gb gm gv)
 
 module _ {M : Type 1} (𝓤 : URA M) (H : Heap 𝓤) (A : Atoms 𝓤) (W : Given 𝓤 H A) (at-mem : Memory → SProp 𝓤) (run : Routine → Fun 𝓤) where
-  run-walks : (C : Calls 𝓤 H) (Λ : Loops 𝓤 H) → FmC 𝓤 H (W .laws) C → Triple 𝓤 (C #lent·cells·find) (To-find 𝓤 H A at-mem run) → Triple 𝓤 (C #lent·take-fetch) (To-take-fetch 𝓤 H A at-mem run) → Triple 𝓤 (C #lent·insn·fetched) (To-fetched 𝓤 H A at-mem run) → Triple 𝓤 (C #lent·put-fetch) (To-put-fetch 𝓤 H A at-mem run) → Walks 𝓤 H A f.ended stayed (WpFn 𝓤 H C Λ code.function) (f.clauses 𝓤 H A at-mem run)
+  run-walks : (C : Calls 𝓤 H) (Λ : Loops 𝓤 H) → FmC 𝓤 H (W .laws) C → Triple 𝓤 (C #lentparts·cells·find) (To-find 𝓤 H A at-mem run) → Triple 𝓤 (C #lentparts·take-fetch) (To-take-fetch 𝓤 H A at-mem run) → Triple 𝓤 (C #lentparts·insn·fetched) (To-fetched 𝓤 H A at-mem run) → Triple 𝓤 (C #lentparts·put-fetch) (To-put-fetch 𝓤 H A at-mem run) → Walks 𝓤 H A f.ended stayed (WpFn 𝓤 H C Λ code.function) (f.clauses 𝓤 H A at-mem run)
   run-walks C Λ fm known-find known-take-fetch known-fetched known-put-fetch =
       walked 𝓤 H A f.ended stayed (f.clauses 𝓤 H A at-mem run) (WpFn 𝓤 H C Λ code.function)
       (λ κs. (ptr-vals, (uint-vals w64, (slice-vals, (uint-vals w64, tt)))))
@@ -343,7 +343,7 @@ module _ {M : Type 1} (𝓤 : URA M) (H : Heap 𝓤) (A : Atoms 𝓤) (W : Given
   goes : AllGo 𝓤 H A W 2 (f.signature .params) (f.ended .kept) stayed
   goes = (goes-ref 𝓤 H A W 2 0 tt (plain (λ _. T.the-row)), (goes-dropped 𝓤 H A W 2 (plain (λ _. u64)) yes (λ κs x f. refl), (goes-dropped 𝓤 H A W 2 (shrSliceOf (1 ∷ []) tt (plain (λ _. u8))) yes (λ κs x f. refl), (goes-dropped 𝓤 H A W 2 (plain (λ _. u64)) yes (λ κs x f. refl), tt))))
 
-run-meets : {M : Type 1} (𝓤 : URA M) (H : Heap 𝓤) (A : Atoms 𝓤) (W : Given 𝓤 H A) (at-mem : Memory → SProp 𝓤) (run : Routine → Fun 𝓤) (𝓣 : Tables 𝓤 H) → Triple 𝓤 (𝓣 .C #lent·cells·find) (To-find 𝓤 H A at-mem run) → Triple 𝓤 (𝓣 .C #lent·take-fetch) (To-take-fetch 𝓤 H A at-mem run) → Triple 𝓤 (𝓣 .C #lent·insn·fetched) (To-fetched 𝓤 H A at-mem run) → Triple 𝓤 (𝓣 .C #lent·put-fetch) (To-put-fetch 𝓤 H A at-mem run) → Meets 𝓤 H A f.signature (WpFn 𝓤 H (𝓣 .C) (𝓣 .Λ) code.function) (f.spec 𝓤 H A at-mem run)
+run-meets : {M : Type 1} (𝓤 : URA M) (H : Heap 𝓤) (A : Atoms 𝓤) (W : Given 𝓤 H A) (at-mem : Memory → SProp 𝓤) (run : Routine → Fun 𝓤) (𝓣 : Tables 𝓤 H) → Triple 𝓤 (𝓣 .C #lentparts·cells·find) (To-find 𝓤 H A at-mem run) → Triple 𝓤 (𝓣 .C #lentparts·take-fetch) (To-take-fetch 𝓤 H A at-mem run) → Triple 𝓤 (𝓣 .C #lentparts·insn·fetched) (To-fetched 𝓤 H A at-mem run) → Triple 𝓤 (𝓣 .C #lentparts·put-fetch) (To-put-fetch 𝓤 H A at-mem run) → Meets 𝓤 H A f.signature (WpFn 𝓤 H (𝓣 .C) (𝓣 .Λ) code.function) (f.spec 𝓤 H A at-mem run)
 run-meets 𝓤 H A W at-mem run 𝓣 known-find known-take-fetch known-fetched known-put-fetch =
     walk-meets 𝓤 H A f.ended stayed W (goes 𝓤 H A W at-mem run) (f.clauses 𝓤 H A at-mem run) (WpFn 𝓤 H (𝓣 .C) (𝓣 .Λ) code.function) (WpFn-mono 𝓤 H (W .laws) 𝓣 code.function)
     (run-walks 𝓤 H A W at-mem run (𝓣 .C) (𝓣 .Λ) (fmOf 𝓤 H (W .laws) 𝓣) known-find known-take-fetch known-fetched known-put-fetch)
@@ -354,7 +354,7 @@ run-spec 𝓤 H 𝓜 𝓖 𝓡 =
     entered 𝓤 H (tripleOf 𝓤 H (𝓖 .A) f.signature (f.spec 𝓤 H (𝓖 .A) (𝓜 .mem) (𝓡 .run)))
     (tables 𝓤 H 𝓜 𝓡 code.env .C) (tables 𝓤 H 𝓜 𝓡 code.env .Λ) #self code.function (code.unfolded 𝓤 H 𝓜 𝓡)
     (run-meets 𝓤 H (𝓖 .A) (givenOf 𝓤 H 𝓜 𝓖) (𝓜 .mem) (𝓡 .run) (tablesOf 𝓤 H 𝓜 (tables 𝓤 H 𝓜 𝓡 code.env))
-    (cited 𝓤 H (To-find 𝓤 H (𝓖 .A) (𝓜 .mem) (𝓡 .run)) 𝓜 𝓡 code.env #lent·cells·find find-def.routine code.calls-lent·cells·find (find-thm.met 𝓤 H 𝓜 𝓖 𝓡))
-    (cited 𝓤 H (To-take-fetch 𝓤 H (𝓖 .A) (𝓜 .mem) (𝓡 .run)) 𝓜 𝓡 code.env #lent·take-fetch take-fetch-def.routine code.calls-lent·take-fetch (take-fetch-thm.met 𝓤 H 𝓜 𝓖 𝓡))
-    (cited 𝓤 H (To-fetched 𝓤 H (𝓖 .A) (𝓜 .mem) (𝓡 .run)) 𝓜 𝓡 code.env #lent·insn·fetched fetched-def.routine code.calls-lent·insn·fetched (fetched-thm.met 𝓤 H 𝓜 𝓖 𝓡))
-    (cited 𝓤 H (To-put-fetch 𝓤 H (𝓖 .A) (𝓜 .mem) (𝓡 .run)) 𝓜 𝓡 code.env #lent·put-fetch put-fetch-def.routine code.calls-lent·put-fetch (put-fetch-thm.met 𝓤 H 𝓜 𝓖 𝓡)))
+    (cited 𝓤 H (To-find 𝓤 H (𝓖 .A) (𝓜 .mem) (𝓡 .run)) 𝓜 𝓡 code.env #lentparts·cells·find find-def.routine code.calls-lentparts·cells·find (find-thm.met 𝓤 H 𝓜 𝓖 𝓡))
+    (cited 𝓤 H (To-take-fetch 𝓤 H (𝓖 .A) (𝓜 .mem) (𝓡 .run)) 𝓜 𝓡 code.env #lentparts·take-fetch take-fetch-def.routine code.calls-lentparts·take-fetch (take-fetch-thm.met 𝓤 H 𝓜 𝓖 𝓡))
+    (cited 𝓤 H (To-fetched 𝓤 H (𝓖 .A) (𝓜 .mem) (𝓡 .run)) 𝓜 𝓡 code.env #lentparts·insn·fetched fetched-def.routine code.calls-lentparts·insn·fetched (fetched-thm.met 𝓤 H 𝓜 𝓖 𝓡))
+    (cited 𝓤 H (To-put-fetch 𝓤 H (𝓖 .A) (𝓜 .mem) (𝓡 .run)) 𝓜 𝓡 code.env #lentparts·put-fetch put-fetch-def.routine code.calls-lentparts·put-fetch (put-fetch-thm.met 𝓤 H 𝓜 𝓖 𝓡)))

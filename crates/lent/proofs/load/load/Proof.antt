@@ -46,7 +46,7 @@ use denote.Triple.Walked.{says, Stays, stay-ref, stay-dropped, walkOf, AllGo, go
 use denote.Exit.{yes}
 use Rattle.mmu.specs.declared.core.Core.{Core}
 use Rattle.tlb.specs.declared.access.Kind.{Kind}
-use Rattle.lent.specs.declared.access.QuickLoad.{QuickLoad}
+use Rattle.lentparts.specs.declared.access.QuickLoad.{QuickLoad}
 use Rattle.cpu.specs.declared.call.Reply.{Reply}
 use Rattle.mmu.proofs.core.Core as T
 use Rattle.mmu.proofs.core.Core.Laws as T′
@@ -60,33 +60,33 @@ use Rattle.tlb.proofs.access.Kind as KI
 use Rattle.tlb.proofs.access.Kind.Laws as KI′
 use Rattle.tlb.proofs.hint.Hint as E
 use Rattle.tlb.proofs.hint.Hint.Laws as E′
-use Rattle.lent.proofs.access.QuickLoad as QL
-use Rattle.lent.proofs.access.QuickLoad.Laws as QL′
+use Rattle.lentparts.proofs.access.QuickLoad as QL
+use Rattle.lentparts.proofs.access.QuickLoad.Laws as QL′
 use Rattle.cpu.proofs.call.Reply as Y
 use Rattle.cpu.proofs.call.Reply.Laws as Y′
 use Rattle.tlb.specs.Cache.{hintAt}
 use Rattle.tlb.specs.declared.access.Kind.the-variants as Kind
 use Rattle.cpu.specs.Step.{runOf, stepOf}
 use Rattle.cpu.specs.declared.call.Call.the-variants as Call
-use Rattle.lent.specs.Access.{loadQuick}
-use Rattle.lent.specs.Cells.{partsIn}
-use Rattle.lent.specs.Plan.{hintPlace}
+use Rattle.lentparts.specs.Access.{loadQuick}
+use Rattle.lentparts.specs.Cells.{partsIn}
+use Rattle.lentparts.specs.Plan.{hintPlace}
 use Rattle.lent.proofs.Runs.{place-within}
 use Rattle.lent.proofs.Loads.{load-at-once-is, load-goes-on-is}
 use Rattle.lent.proofs.Results.{quickload-ends, quickload-last, quickload-reply}
-use Rattle.lent.proofs.Parts.{hints, entries, with-parts, written, fetch-val, counts-val, core-vals, core-tells, who-is, last-fits, hints-long, hint-within, hint-as, hint-spelt, hint-is, last-is, scaled16}
-use Rattle.lent.proofs.InPlace.{after-test}
+use Rattle.lentparts.proofs.Parts.{hints, entries, with-parts, written, fetch-val, counts-val, core-vals, core-tells, who-is, last-fits, hints-long, hint-within, hint-as, hint-spelt, hint-is, last-is, scaled16}
+use Rattle.lentparts.proofs.InPlace.{after-test}
 use Rattle.lent.proofs.Locals.{look-part}
-use Rattle.lent.proofs.Laid.{who-at, hint-at, last-at}
-use Rattle.lent.proofs.Fields.{core-who, core-tlb, core-last, tlb-cache, cache-hints}
-use Rattle.lent.proofs.plan.hint_place as hint-place
-use Rattle.lent.proofs.plan.hint_place.Symbol as hint-place-def
-use Rattle.lent.proofs.plan.hint_place.Symbol.{name as #lent·plan·hint-place}
-use Rattle.lent.proofs.plan.hint_place.Met as hint-place-thm
-use Rattle.lent.proofs.access.load_at_once as load-at-once
-use Rattle.lent.proofs.access.load_at_once.Symbol as load-at-once-def
-use Rattle.lent.proofs.access.load_at_once.Symbol.{name as #lent·access·load-at-once}
-use Rattle.lent.proofs.access.load_at_once.Met as load-at-once-thm
+use Rattle.lentparts.proofs.Laid.{who-at, hint-at, last-at}
+use Rattle.lentparts.proofs.Fields.{core-who, core-tlb, core-last, tlb-cache, cache-hints}
+use Rattle.lentparts.proofs.plan.hint_place as hint-place
+use Rattle.lentparts.proofs.plan.hint_place.Symbol as hint-place-def
+use Rattle.lentparts.proofs.plan.hint_place.Symbol.{name as #lentparts·plan·hint-place}
+use Rattle.lentparts.proofs.plan.hint_place.Met as hint-place-thm
+use Rattle.lentparts.proofs.access.load_at_once as load-at-once
+use Rattle.lentparts.proofs.access.load_at_once.Symbol as load-at-once-def
+use Rattle.lentparts.proofs.access.load_at_once.Symbol.{name as #lentparts·access·load-at-once}
+use Rattle.lentparts.proofs.access.load_at_once.Met as load-at-once-thm
 use Rattle.lent.proofs.load.run as runs
 use Rattle.lent.proofs.load.run.Symbol as runs-def
 use Rattle.lent.proofs.load.run.Symbol.{name as #lent·load·run}
@@ -269,7 +269,7 @@ module _ {M : Type 1} (𝓤 : URA M) (H : Heap 𝓤) (A : Atoms 𝓤) (W : Given
       use3 W (later (‵ (Own (ws .0)) ⊛ ‵ (flft κ q))) (comes-back 𝓤 H A W T.the-row (named 0) κ (ν ∷ []) q γ b o δ d (ws .0)) $ await ! tt $ split ! $ move ! (1 ∷ 2 ∷ []) $ join ! $ move ! (1 ∷ 0 ∷ []) $ join ! $
       at-once ! $ show ! (λ (r : Reply). ex 𝓤 (λ (y : Core). sep 𝓤 (sep 𝓤 (sem 𝓤 H A (Own y)) (sep 𝓤 (A .lft κ q) (sep 𝓤 (A .lft κ₁ q₁) (sem 𝓤 H A ftrue)))) (fact 𝓤 (said-runs d r y v)))) r $ show ! (λ (y : Core). sep 𝓤 (sep 𝓤 (sem 𝓤 H A (Own y)) (sep 𝓤 (A .lft κ q) (sep 𝓤 (A .lft κ₁ q₁) (sem 𝓤 H A ftrue)))) (fact 𝓤 (said-runs d r y v))) (ws .0) $ says ! (e, is) $ done !))))
 
-  module _ (C : Calls 𝓤 H) (Λ : Loops 𝓤 H) (fm : FmC 𝓤 H (W .laws) C) (known-hint-place : Triple 𝓤 (C #lent·plan·hint-place) (To-hint-place 𝓤 H A at-mem run)) (known-load-at-once : Triple 𝓤 (C #lent·access·load-at-once) (To-load-at-once 𝓤 H A at-mem run)) (known-runs : Triple 𝓤 (C #lent·load·run) (To-run 𝓤 H A at-mem run)) where
+  module _ (C : Calls 𝓤 H) (Λ : Loops 𝓤 H) (fm : FmC 𝓤 H (W .laws) C) (known-hint-place : Triple 𝓤 (C #lentparts·plan·hint-place) (To-hint-place 𝓤 H A at-mem run)) (known-load-at-once : Triple 𝓤 (C #lentparts·access·load-at-once) (To-load-at-once 𝓤 H A at-mem run)) (known-runs : Triple 𝓤 (C #lent·load·run) (To-run 𝓤 H A at-mem run)) where
     steps : Is u64 base ((vint w64 base) ∷ []) → Is (ShrSlice (named 1) κ₁ u8) m ((sliceVal (m .ptr) (length (m .now))) ∷ []) → Is u64 va ((vint w64 va) ∷ []) → Is u64 size ((vint w64 size) ∷ []) → ent 𝓤 (onEntry 𝓤 H A f.signature (κ, (κ₁, tt)) (q, (q₁, tt)) x₀ at) (WpFn 𝓤 H C Λ fn (vptr b o ∷ (vint w64 base) ∷ (sliceVal (m .ptr) (length (m .now))) ∷ (vint w64 va) ∷ (vint w64 size) ∷ []) Post)
     steps gb gm gv gs =
         qed W ((‵ (flft κ q) ⊛ (‵ (flft κ₁ q₁) ⊛ ‵ ftrue)) ∷ ‵ (owns (MutRef (named 0) κ T.the-row ∷ u64 ∷ ShrSlice (named 1) κ₁ u8 ∷ u64 ∷ u64 ∷ []) x₀ at) ∷ []) ∵
@@ -339,7 +339,7 @@ module _ {M : Type 1} (𝓤 : URA M) (H : Heap 𝓤) (A : Atoms 𝓤) (W : Given
     walk gb gm gv gs = subst (λ (ls : List Local). ent 𝓤 (onEntry 𝓤 H A f.signature (κ, (κ₁, tt)) (q, (q₁, tt)) x₀ at) (WpFn 𝓤 H C Λ (with-locals ls) (vptr b o ∷ (vint w64 base) ∷ (sliceVal (m .ptr) (length (m .now))) ∷ (vint w64 va) ∷ (vint w64 size) ∷ []) Post)) (sym locals-are) (steps gb gm gv gs)
 
 module _ {M : Type 1} (𝓤 : URA M) (H : Heap 𝓤) (A : Atoms 𝓤) (W : Given 𝓤 H A) (at-mem : Memory → SProp 𝓤) (run : Routine → Fun 𝓤) where
-  load-walks : (C : Calls 𝓤 H) (Λ : Loops 𝓤 H) → FmC 𝓤 H (W .laws) C → Triple 𝓤 (C #lent·plan·hint-place) (To-hint-place 𝓤 H A at-mem run) → Triple 𝓤 (C #lent·access·load-at-once) (To-load-at-once 𝓤 H A at-mem run) → Triple 𝓤 (C #lent·load·run) (To-run 𝓤 H A at-mem run) → Walks 𝓤 H A f.ended stayed (WpFn 𝓤 H C Λ code.function) (f.clauses 𝓤 H A at-mem run)
+  load-walks : (C : Calls 𝓤 H) (Λ : Loops 𝓤 H) → FmC 𝓤 H (W .laws) C → Triple 𝓤 (C #lentparts·plan·hint-place) (To-hint-place 𝓤 H A at-mem run) → Triple 𝓤 (C #lentparts·access·load-at-once) (To-load-at-once 𝓤 H A at-mem run) → Triple 𝓤 (C #lent·load·run) (To-run 𝓤 H A at-mem run) → Walks 𝓤 H A f.ended stayed (WpFn 𝓤 H C Λ code.function) (f.clauses 𝓤 H A at-mem run)
   load-walks C Λ fm known-hint-place known-load-at-once known-runs =
       walked 𝓤 H A f.ended stayed (f.clauses 𝓤 H A at-mem run) (WpFn 𝓤 H C Λ code.function)
       (λ κs. (ptr-vals, (uint-vals w64, (slice-vals, (uint-vals w64, (uint-vals w64, tt))))))
@@ -349,7 +349,7 @@ module _ {M : Type 1} (𝓤 : URA M) (H : Heap 𝓤) (A : Atoms 𝓤) (W : Given
   goes : AllGo 𝓤 H A W 2 (f.signature .params) (f.ended .kept) stayed
   goes = (goes-ref 𝓤 H A W 2 0 tt (plain (λ _. T.the-row)), (goes-dropped 𝓤 H A W 2 (plain (λ _. u64)) yes (λ κs x f. refl), (goes-dropped 𝓤 H A W 2 (shrSliceOf (1 ∷ []) tt (plain (λ _. u8))) yes (λ κs x f. refl), (goes-dropped 𝓤 H A W 2 (plain (λ _. u64)) yes (λ κs x f. refl), (goes-dropped 𝓤 H A W 2 (plain (λ _. u64)) yes (λ κs x f. refl), tt)))))
 
-load-meets : {M : Type 1} (𝓤 : URA M) (H : Heap 𝓤) (A : Atoms 𝓤) (W : Given 𝓤 H A) (at-mem : Memory → SProp 𝓤) (run : Routine → Fun 𝓤) (𝓣 : Tables 𝓤 H) → Triple 𝓤 (𝓣 .C #lent·plan·hint-place) (To-hint-place 𝓤 H A at-mem run) → Triple 𝓤 (𝓣 .C #lent·access·load-at-once) (To-load-at-once 𝓤 H A at-mem run) → Triple 𝓤 (𝓣 .C #lent·load·run) (To-run 𝓤 H A at-mem run) → Meets 𝓤 H A f.signature (WpFn 𝓤 H (𝓣 .C) (𝓣 .Λ) code.function) (f.spec 𝓤 H A at-mem run)
+load-meets : {M : Type 1} (𝓤 : URA M) (H : Heap 𝓤) (A : Atoms 𝓤) (W : Given 𝓤 H A) (at-mem : Memory → SProp 𝓤) (run : Routine → Fun 𝓤) (𝓣 : Tables 𝓤 H) → Triple 𝓤 (𝓣 .C #lentparts·plan·hint-place) (To-hint-place 𝓤 H A at-mem run) → Triple 𝓤 (𝓣 .C #lentparts·access·load-at-once) (To-load-at-once 𝓤 H A at-mem run) → Triple 𝓤 (𝓣 .C #lent·load·run) (To-run 𝓤 H A at-mem run) → Meets 𝓤 H A f.signature (WpFn 𝓤 H (𝓣 .C) (𝓣 .Λ) code.function) (f.spec 𝓤 H A at-mem run)
 load-meets 𝓤 H A W at-mem run 𝓣 known-hint-place known-load-at-once known-runs =
     walk-meets 𝓤 H A f.ended stayed W (goes 𝓤 H A W at-mem run) (f.clauses 𝓤 H A at-mem run) (WpFn 𝓤 H (𝓣 .C) (𝓣 .Λ) code.function) (WpFn-mono 𝓤 H (W .laws) 𝓣 code.function)
     (load-walks 𝓤 H A W at-mem run (𝓣 .C) (𝓣 .Λ) (fmOf 𝓤 H (W .laws) 𝓣) known-hint-place known-load-at-once known-runs)
@@ -360,6 +360,6 @@ load-spec 𝓤 H 𝓜 𝓖 𝓡 =
     entered 𝓤 H (tripleOf 𝓤 H (𝓖 .A) f.signature (f.spec 𝓤 H (𝓖 .A) (𝓜 .mem) (𝓡 .run)))
     (tables 𝓤 H 𝓜 𝓡 code.env .C) (tables 𝓤 H 𝓜 𝓡 code.env .Λ) #self code.function (code.unfolded 𝓤 H 𝓜 𝓡)
     (load-meets 𝓤 H (𝓖 .A) (givenOf 𝓤 H 𝓜 𝓖) (𝓜 .mem) (𝓡 .run) (tablesOf 𝓤 H 𝓜 (tables 𝓤 H 𝓜 𝓡 code.env))
-    (cited 𝓤 H (To-hint-place 𝓤 H (𝓖 .A) (𝓜 .mem) (𝓡 .run)) 𝓜 𝓡 code.env #lent·plan·hint-place hint-place-def.routine code.calls-lent·plan·hint-place (hint-place-thm.met 𝓤 H 𝓜 𝓖 𝓡))
-    (cited 𝓤 H (To-load-at-once 𝓤 H (𝓖 .A) (𝓜 .mem) (𝓡 .run)) 𝓜 𝓡 code.env #lent·access·load-at-once load-at-once-def.routine code.calls-lent·access·load-at-once (load-at-once-thm.met 𝓤 H 𝓜 𝓖 𝓡))
+    (cited 𝓤 H (To-hint-place 𝓤 H (𝓖 .A) (𝓜 .mem) (𝓡 .run)) 𝓜 𝓡 code.env #lentparts·plan·hint-place hint-place-def.routine code.calls-lentparts·plan·hint-place (hint-place-thm.met 𝓤 H 𝓜 𝓖 𝓡))
+    (cited 𝓤 H (To-load-at-once 𝓤 H (𝓖 .A) (𝓜 .mem) (𝓡 .run)) 𝓜 𝓡 code.env #lentparts·access·load-at-once load-at-once-def.routine code.calls-lentparts·access·load-at-once (load-at-once-thm.met 𝓤 H 𝓜 𝓖 𝓡))
     (cited 𝓤 H (To-run 𝓤 H (𝓖 .A) (𝓜 .mem) (𝓡 .run)) 𝓜 𝓡 code.env #lent·load·run runs-def.routine code.calls-lent·load·run (runs-thm.met 𝓤 H 𝓜 𝓖 𝓡)))

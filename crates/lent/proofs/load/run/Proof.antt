@@ -46,9 +46,9 @@ use Rattle.tlb.specs.declared.access.Kind.{Kind}
 use Rattle.tlb.specs.declared.count.Counts.{Counts}
 use Rattle.tlb.specs.declared.hint.Hint.{Hint}
 use Rattle.tlb.specs.declared.entry.Entry.{Entry}
-use Rattle.lent.specs.declared.access.Keys.{Keys}
-use Rattle.lent.specs.declared.cells.Cells.{Cells}
-use Rattle.lent.specs.declared.access.Access.{Access}
+use Rattle.lentparts.specs.declared.access.Keys.{Keys}
+use Rattle.lentparts.specs.declared.cells.Cells.{Cells}
+use Rattle.lentparts.specs.declared.access.Access.{Access}
 use Rattle.cpu.specs.declared.call.Reply.{Reply}
 use Rattle.mmu.proofs.core.Core as T
 use Rattle.tlb.proofs.access.Kind as KI
@@ -59,43 +59,43 @@ use Rattle.tlb.proofs.hint.Hint as E
 use Rattle.tlb.proofs.hint.Hint.Laws as E′
 use Rattle.tlb.proofs.entry.Entry as F
 use Rattle.tlb.proofs.entry.Entry.Laws as F′
-use Rattle.lent.proofs.access.Keys as KS
-use Rattle.lent.proofs.access.Keys.Laws as KS′
-use Rattle.lent.proofs.cells.Cells as CE
-use Rattle.lent.proofs.cells.Cells.Laws as CE′
-use Rattle.lent.proofs.access.Access as AC
-use Rattle.lent.proofs.access.Access.Laws as AC′
+use Rattle.lentparts.proofs.access.Keys as KS
+use Rattle.lentparts.proofs.access.Keys.Laws as KS′
+use Rattle.lentparts.proofs.cells.Cells as CE
+use Rattle.lentparts.proofs.cells.Cells.Laws as CE′
+use Rattle.lentparts.proofs.access.Access as AC
+use Rattle.lentparts.proofs.access.Access.Laws as AC′
 use Rattle.cpu.proofs.call.Reply as Y
 use Rattle.cpu.proofs.call.Reply.Laws as Y′
 use Rattle.tlb.specs.declared.access.Kind.the-variants as Kind
 use Rattle.cpu.specs.Step.{runOf}
 use Rattle.cpu.specs.declared.call.Call.the-variants as Call
-use Rattle.lent.specs.Access.{keysIn, loadedOf}
-use Rattle.lent.specs.Cells.{cellsIn, putIn, putLastIn}
+use Rattle.lentparts.specs.Access.{keysIn, loadedOf}
+use Rattle.lentparts.specs.Cells.{cellsIn, putIn, putLastIn}
 use Rattle.lent.proofs.Hits.{keys-within}
 use Rattle.lent.proofs.Loads.{load-run-is}
 use Rattle.lent.proofs.Results.{keys-hint, keys-entry, keys-hint2, keys-entry2, access-counts, access-hint, access-entry, access-hint2, access-entry2, access-last, access-abort, access-reply}
 use Rattle.lent.proofs.Locals.{look-part}
-use Rattle.lent.proofs.cells.find_both as find-both
-use Rattle.lent.proofs.cells.find_both.Symbol as find-both-def
-use Rattle.lent.proofs.cells.find_both.Symbol.{name as #lent·cells·find-both}
-use Rattle.lent.proofs.cells.find_both.Met as find-both-thm
-use Rattle.lent.proofs.take as take
-use Rattle.lent.proofs.take.Symbol as take-def
-use Rattle.lent.proofs.take.Symbol.{name as #lent·take}
-use Rattle.lent.proofs.take.Met as take-thm
-use Rattle.lent.proofs.access.loaded as loaded
-use Rattle.lent.proofs.access.loaded.Symbol as loaded-def
-use Rattle.lent.proofs.access.loaded.Symbol.{name as #lent·access·loaded}
-use Rattle.lent.proofs.access.loaded.Met as loaded-thm
-use Rattle.lent.proofs.put as put
-use Rattle.lent.proofs.put.Symbol as put-def
-use Rattle.lent.proofs.put.Symbol.{name as #lent·put}
-use Rattle.lent.proofs.put.Met as put-thm
-use Rattle.lent.proofs.put_last as put-last
-use Rattle.lent.proofs.put_last.Symbol as put-last-def
-use Rattle.lent.proofs.put_last.Symbol.{name as #lent·put-last}
-use Rattle.lent.proofs.put_last.Met as put-last-thm
+use Rattle.lentparts.proofs.cells.find_both as find-both
+use Rattle.lentparts.proofs.cells.find_both.Symbol as find-both-def
+use Rattle.lentparts.proofs.cells.find_both.Symbol.{name as #lentparts·cells·find-both}
+use Rattle.lentparts.proofs.cells.find_both.Met as find-both-thm
+use Rattle.lentparts.proofs.take as take
+use Rattle.lentparts.proofs.take.Symbol as take-def
+use Rattle.lentparts.proofs.take.Symbol.{name as #lentparts·take}
+use Rattle.lentparts.proofs.take.Met as take-thm
+use Rattle.lentparts.proofs.access.loaded as loaded
+use Rattle.lentparts.proofs.access.loaded.Symbol as loaded-def
+use Rattle.lentparts.proofs.access.loaded.Symbol.{name as #lentparts·access·loaded}
+use Rattle.lentparts.proofs.access.loaded.Met as loaded-thm
+use Rattle.lentparts.proofs.put as put
+use Rattle.lentparts.proofs.put.Symbol as put-def
+use Rattle.lentparts.proofs.put.Symbol.{name as #lentparts·put}
+use Rattle.lentparts.proofs.put.Met as put-thm
+use Rattle.lentparts.proofs.put_last as put-last
+use Rattle.lentparts.proofs.put_last.Symbol as put-last-def
+use Rattle.lentparts.proofs.put_last.Symbol.{name as #lentparts·put-last}
+use Rattle.lentparts.proofs.put_last.Met as put-last-thm
 use Rattle.lent.proofs.load.run.Key.{name as #self}
 use Rattle.lent.proofs.load.run as f
 use Rattle.lent.proofs.load.run.Statement as stated
@@ -339,7 +339,7 @@ module _ {M : Type 1} (𝓤 : URA M) (H : Heap 𝓤) (A : Atoms 𝓤) (W : Given
       use3 W (later (‵ (Own (ws .0)) ⊛ ‵ (flft κ q))) (comes-back 𝓤 H A W T.the-row (named 0) κ (ν ∷ []) q γ b o δ d (ws .0)) $ await ! tt $
       at-once ! $ show ! (λ (r : (Unit {0})). ex 𝓤 (λ (y : Core). sep 𝓤 (sep 𝓤 (sem 𝓤 H A (Own y)) (A .lft κ q)) (fact 𝓤 (said-put-last d i j n h g l a r y v)))) r $ show ! (λ (y : Core). sep 𝓤 (sep 𝓤 (sem 𝓤 H A (Own y)) (A .lft κ q)) (fact 𝓤 (said-put-last d i j n h g l a r y v))) (ws .0) $ says ! (e, is) $ keep ! (0 ∷ []) $ done !))))
 
-  module _ (C : Calls 𝓤 H) (Λ : Loops 𝓤 H) (fm : FmC 𝓤 H (W .laws) C) (known-find-both : Triple 𝓤 (C #lent·cells·find-both) (To-find-both 𝓤 H A at-mem run)) (known-take : Triple 𝓤 (C #lent·take) (To-take 𝓤 H A at-mem run)) (known-loaded : Triple 𝓤 (C #lent·access·loaded) (To-loaded 𝓤 H A at-mem run)) (known-put : Triple 𝓤 (C #lent·put) (To-put 𝓤 H A at-mem run)) (known-put-last : Triple 𝓤 (C #lent·put-last) (To-put-last 𝓤 H A at-mem run)) where
+  module _ (C : Calls 𝓤 H) (Λ : Loops 𝓤 H) (fm : FmC 𝓤 H (W .laws) C) (known-find-both : Triple 𝓤 (C #lentparts·cells·find-both) (To-find-both 𝓤 H A at-mem run)) (known-take : Triple 𝓤 (C #lentparts·take) (To-take 𝓤 H A at-mem run)) (known-loaded : Triple 𝓤 (C #lentparts·access·loaded) (To-loaded 𝓤 H A at-mem run)) (known-put : Triple 𝓤 (C #lentparts·put) (To-put 𝓤 H A at-mem run)) (known-put-last : Triple 𝓤 (C #lentparts·put-last) (To-put-last 𝓤 H A at-mem run)) where
     steps : Is u64 base ((vint w64 base) ∷ []) → Is (ShrSlice (named 1) κ₁ u8) m ((sliceVal (m .ptr) (length (m .now))) ∷ []) → Is u64 va ((vint w64 va) ∷ []) → Is u64 size ((vint w64 size) ∷ []) → ent 𝓤 (onEntry 𝓤 H A f.signature (κ, (κ₁, tt)) (q, (q₁, tt)) x₀ at) (WpFn 𝓤 H C Λ fn (vptr b o ∷ (vint w64 base) ∷ (sliceVal (m .ptr) (length (m .now))) ∷ (vint w64 va) ∷ (vint w64 size) ∷ []) Post)
     steps gb gm gv gs =
         qed W ((‵ (flft κ q) ⊛ (‵ (flft κ₁ q₁) ⊛ ‵ ftrue)) ∷ ‵ (owns (MutRef (named 0) κ T.the-row ∷ u64 ∷ ShrSlice (named 1) κ₁ u8 ∷ u64 ∷ u64 ∷ []) x₀ at) ∷ []) ∵
@@ -402,7 +402,7 @@ module _ {M : Type 1} (𝓤 : URA M) (H : Heap 𝓤) (A : Atoms 𝓤) (W : Given
     walk gb gm gv gs = subst (λ (ls : List Local). ent 𝓤 (onEntry 𝓤 H A f.signature (κ, (κ₁, tt)) (q, (q₁, tt)) x₀ at) (WpFn 𝓤 H C Λ (with-locals ls) (vptr b o ∷ (vint w64 base) ∷ (sliceVal (m .ptr) (length (m .now))) ∷ (vint w64 va) ∷ (vint w64 size) ∷ []) Post)) (sym locals-are) (steps gb gm gv gs)
 
 module _ {M : Type 1} (𝓤 : URA M) (H : Heap 𝓤) (A : Atoms 𝓤) (W : Given 𝓤 H A) (at-mem : Memory → SProp 𝓤) (run : Routine → Fun 𝓤) where
-  run-walks : (C : Calls 𝓤 H) (Λ : Loops 𝓤 H) → FmC 𝓤 H (W .laws) C → Triple 𝓤 (C #lent·cells·find-both) (To-find-both 𝓤 H A at-mem run) → Triple 𝓤 (C #lent·take) (To-take 𝓤 H A at-mem run) → Triple 𝓤 (C #lent·access·loaded) (To-loaded 𝓤 H A at-mem run) → Triple 𝓤 (C #lent·put) (To-put 𝓤 H A at-mem run) → Triple 𝓤 (C #lent·put-last) (To-put-last 𝓤 H A at-mem run) → Walks 𝓤 H A f.ended stayed (WpFn 𝓤 H C Λ code.function) (f.clauses 𝓤 H A at-mem run)
+  run-walks : (C : Calls 𝓤 H) (Λ : Loops 𝓤 H) → FmC 𝓤 H (W .laws) C → Triple 𝓤 (C #lentparts·cells·find-both) (To-find-both 𝓤 H A at-mem run) → Triple 𝓤 (C #lentparts·take) (To-take 𝓤 H A at-mem run) → Triple 𝓤 (C #lentparts·access·loaded) (To-loaded 𝓤 H A at-mem run) → Triple 𝓤 (C #lentparts·put) (To-put 𝓤 H A at-mem run) → Triple 𝓤 (C #lentparts·put-last) (To-put-last 𝓤 H A at-mem run) → Walks 𝓤 H A f.ended stayed (WpFn 𝓤 H C Λ code.function) (f.clauses 𝓤 H A at-mem run)
   run-walks C Λ fm known-find-both known-take known-loaded known-put known-put-last =
       walked 𝓤 H A f.ended stayed (f.clauses 𝓤 H A at-mem run) (WpFn 𝓤 H C Λ code.function)
       (λ κs. (ptr-vals, (uint-vals w64, (slice-vals, (uint-vals w64, (uint-vals w64, tt))))))
@@ -412,7 +412,7 @@ module _ {M : Type 1} (𝓤 : URA M) (H : Heap 𝓤) (A : Atoms 𝓤) (W : Given
   goes : AllGo 𝓤 H A W 2 (f.signature .params) (f.ended .kept) stayed
   goes = (goes-ref 𝓤 H A W 2 0 tt (plain (λ _. T.the-row)), (goes-dropped 𝓤 H A W 2 (plain (λ _. u64)) yes (λ κs x f. refl), (goes-dropped 𝓤 H A W 2 (shrSliceOf (1 ∷ []) tt (plain (λ _. u8))) yes (λ κs x f. refl), (goes-dropped 𝓤 H A W 2 (plain (λ _. u64)) yes (λ κs x f. refl), (goes-dropped 𝓤 H A W 2 (plain (λ _. u64)) yes (λ κs x f. refl), tt)))))
 
-run-meets : {M : Type 1} (𝓤 : URA M) (H : Heap 𝓤) (A : Atoms 𝓤) (W : Given 𝓤 H A) (at-mem : Memory → SProp 𝓤) (run : Routine → Fun 𝓤) (𝓣 : Tables 𝓤 H) → Triple 𝓤 (𝓣 .C #lent·cells·find-both) (To-find-both 𝓤 H A at-mem run) → Triple 𝓤 (𝓣 .C #lent·take) (To-take 𝓤 H A at-mem run) → Triple 𝓤 (𝓣 .C #lent·access·loaded) (To-loaded 𝓤 H A at-mem run) → Triple 𝓤 (𝓣 .C #lent·put) (To-put 𝓤 H A at-mem run) → Triple 𝓤 (𝓣 .C #lent·put-last) (To-put-last 𝓤 H A at-mem run) → Meets 𝓤 H A f.signature (WpFn 𝓤 H (𝓣 .C) (𝓣 .Λ) code.function) (f.spec 𝓤 H A at-mem run)
+run-meets : {M : Type 1} (𝓤 : URA M) (H : Heap 𝓤) (A : Atoms 𝓤) (W : Given 𝓤 H A) (at-mem : Memory → SProp 𝓤) (run : Routine → Fun 𝓤) (𝓣 : Tables 𝓤 H) → Triple 𝓤 (𝓣 .C #lentparts·cells·find-both) (To-find-both 𝓤 H A at-mem run) → Triple 𝓤 (𝓣 .C #lentparts·take) (To-take 𝓤 H A at-mem run) → Triple 𝓤 (𝓣 .C #lentparts·access·loaded) (To-loaded 𝓤 H A at-mem run) → Triple 𝓤 (𝓣 .C #lentparts·put) (To-put 𝓤 H A at-mem run) → Triple 𝓤 (𝓣 .C #lentparts·put-last) (To-put-last 𝓤 H A at-mem run) → Meets 𝓤 H A f.signature (WpFn 𝓤 H (𝓣 .C) (𝓣 .Λ) code.function) (f.spec 𝓤 H A at-mem run)
 run-meets 𝓤 H A W at-mem run 𝓣 known-find-both known-take known-loaded known-put known-put-last =
     walk-meets 𝓤 H A f.ended stayed W (goes 𝓤 H A W at-mem run) (f.clauses 𝓤 H A at-mem run) (WpFn 𝓤 H (𝓣 .C) (𝓣 .Λ) code.function) (WpFn-mono 𝓤 H (W .laws) 𝓣 code.function)
     (run-walks 𝓤 H A W at-mem run (𝓣 .C) (𝓣 .Λ) (fmOf 𝓤 H (W .laws) 𝓣) known-find-both known-take known-loaded known-put known-put-last)
@@ -423,8 +423,8 @@ run-spec 𝓤 H 𝓜 𝓖 𝓡 =
     entered 𝓤 H (tripleOf 𝓤 H (𝓖 .A) f.signature (f.spec 𝓤 H (𝓖 .A) (𝓜 .mem) (𝓡 .run)))
     (tables 𝓤 H 𝓜 𝓡 code.env .C) (tables 𝓤 H 𝓜 𝓡 code.env .Λ) #self code.function (code.unfolded 𝓤 H 𝓜 𝓡)
     (run-meets 𝓤 H (𝓖 .A) (givenOf 𝓤 H 𝓜 𝓖) (𝓜 .mem) (𝓡 .run) (tablesOf 𝓤 H 𝓜 (tables 𝓤 H 𝓜 𝓡 code.env))
-    (cited 𝓤 H (To-find-both 𝓤 H (𝓖 .A) (𝓜 .mem) (𝓡 .run)) 𝓜 𝓡 code.env #lent·cells·find-both find-both-def.routine code.calls-lent·cells·find-both (find-both-thm.met 𝓤 H 𝓜 𝓖 𝓡))
-    (cited 𝓤 H (To-take 𝓤 H (𝓖 .A) (𝓜 .mem) (𝓡 .run)) 𝓜 𝓡 code.env #lent·take take-def.routine code.calls-lent·take (take-thm.met 𝓤 H 𝓜 𝓖 𝓡))
-    (cited 𝓤 H (To-loaded 𝓤 H (𝓖 .A) (𝓜 .mem) (𝓡 .run)) 𝓜 𝓡 code.env #lent·access·loaded loaded-def.routine code.calls-lent·access·loaded (loaded-thm.met 𝓤 H 𝓜 𝓖 𝓡))
-    (cited 𝓤 H (To-put 𝓤 H (𝓖 .A) (𝓜 .mem) (𝓡 .run)) 𝓜 𝓡 code.env #lent·put put-def.routine code.calls-lent·put (put-thm.met 𝓤 H 𝓜 𝓖 𝓡))
-    (cited 𝓤 H (To-put-last 𝓤 H (𝓖 .A) (𝓜 .mem) (𝓡 .run)) 𝓜 𝓡 code.env #lent·put-last put-last-def.routine code.calls-lent·put-last (put-last-thm.met 𝓤 H 𝓜 𝓖 𝓡)))
+    (cited 𝓤 H (To-find-both 𝓤 H (𝓖 .A) (𝓜 .mem) (𝓡 .run)) 𝓜 𝓡 code.env #lentparts·cells·find-both find-both-def.routine code.calls-lentparts·cells·find-both (find-both-thm.met 𝓤 H 𝓜 𝓖 𝓡))
+    (cited 𝓤 H (To-take 𝓤 H (𝓖 .A) (𝓜 .mem) (𝓡 .run)) 𝓜 𝓡 code.env #lentparts·take take-def.routine code.calls-lentparts·take (take-thm.met 𝓤 H 𝓜 𝓖 𝓡))
+    (cited 𝓤 H (To-loaded 𝓤 H (𝓖 .A) (𝓜 .mem) (𝓡 .run)) 𝓜 𝓡 code.env #lentparts·access·loaded loaded-def.routine code.calls-lentparts·access·loaded (loaded-thm.met 𝓤 H 𝓜 𝓖 𝓡))
+    (cited 𝓤 H (To-put 𝓤 H (𝓖 .A) (𝓜 .mem) (𝓡 .run)) 𝓜 𝓡 code.env #lentparts·put put-def.routine code.calls-lentparts·put (put-thm.met 𝓤 H 𝓜 𝓖 𝓡))
+    (cited 𝓤 H (To-put-last 𝓤 H (𝓖 .A) (𝓜 .mem) (𝓡 .run)) 𝓜 𝓡 code.env #lentparts·put-last put-last-def.routine code.calls-lentparts·put-last (put-last-thm.met 𝓤 H 𝓜 𝓖 𝓡)))

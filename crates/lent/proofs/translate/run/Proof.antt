@@ -43,9 +43,9 @@ use denote.Triple.Walked.{says, Stays, stay-ref, stay-dropped, walkOf, AllGo, go
 use denote.Exit.{yes}
 use Rattle.mmu.specs.declared.core.Core.{Core}
 use Rattle.tlb.specs.declared.access.Kind.{Kind}
-use Rattle.lent.specs.declared.plan.Key.{Key}
-use Rattle.lent.specs.declared.cells.Cells.{Cells}
-use Rattle.lent.specs.declared.plan.Turn.{Turn}
+use Rattle.lentparts.specs.declared.plan.Key.{Key}
+use Rattle.lentparts.specs.declared.cells.Cells.{Cells}
+use Rattle.lentparts.specs.declared.plan.Turn.{Turn}
 use Rattle.cpu.specs.declared.call.Reply.{Reply}
 use Rattle.mmu.proofs.core.Core as T
 use Rattle.tlb.proofs.access.Kind as KI
@@ -56,38 +56,38 @@ use Rattle.tlb.proofs.hint.Hint as E
 use Rattle.tlb.proofs.hint.Hint.Laws as E′
 use Rattle.tlb.proofs.entry.Entry as F
 use Rattle.tlb.proofs.entry.Entry.Laws as F′
-use Rattle.lent.proofs.plan.Key as KE
-use Rattle.lent.proofs.plan.Key.Laws as KE′
-use Rattle.lent.proofs.cells.Cells as CE
-use Rattle.lent.proofs.cells.Cells.Laws as CE′
-use Rattle.lent.proofs.plan.Turn as TU
-use Rattle.lent.proofs.plan.Turn.Laws as TU′
+use Rattle.lentparts.proofs.plan.Key as KE
+use Rattle.lentparts.proofs.plan.Key.Laws as KE′
+use Rattle.lentparts.proofs.cells.Cells as CE
+use Rattle.lentparts.proofs.cells.Cells.Laws as CE′
+use Rattle.lentparts.proofs.plan.Turn as TU
+use Rattle.lentparts.proofs.plan.Turn.Laws as TU′
 use Rattle.cpu.proofs.call.Reply as Y
 use Rattle.cpu.proofs.call.Reply.Laws as Y′
 use Rattle.word.specs.Ram.{wordAt}
 use Rattle.cpu.specs.Step.{runOf}
 use Rattle.cpu.specs.declared.call.Call.the-variants as Call
-use Rattle.lent.specs.Plan.{turnedOf}
-use Rattle.lent.specs.Cells.{keyIn, cellsIn, putIn}
+use Rattle.lentparts.specs.Plan.{turnedOf}
+use Rattle.lentparts.specs.Cells.{keyIn, cellsIn, putIn}
 use Rattle.lent.proofs.Runs.{run-is, key-within}
 use Rattle.lent.proofs.Locals.{look-part}
 use Rattle.lent.proofs.Results.{key-hint, key-entry, turn-counts, turn-hint, turn-entry, turn-reply}
-use Rattle.lent.proofs.cells.find as find
-use Rattle.lent.proofs.cells.find.Symbol as find-def
-use Rattle.lent.proofs.cells.find.Symbol.{name as #lent·cells·find}
-use Rattle.lent.proofs.cells.find.Met as find-thm
-use Rattle.lent.proofs.take as take
-use Rattle.lent.proofs.take.Symbol as take-def
-use Rattle.lent.proofs.take.Symbol.{name as #lent·take}
-use Rattle.lent.proofs.take.Met as take-thm
-use Rattle.lent.proofs.plan.turned as turned
-use Rattle.lent.proofs.plan.turned.Symbol as turned-def
-use Rattle.lent.proofs.plan.turned.Symbol.{name as #lent·plan·turned}
-use Rattle.lent.proofs.plan.turned.Met as turned-thm
-use Rattle.lent.proofs.put as put
-use Rattle.lent.proofs.put.Symbol as put-def
-use Rattle.lent.proofs.put.Symbol.{name as #lent·put}
-use Rattle.lent.proofs.put.Met as put-thm
+use Rattle.lentparts.proofs.cells.find as find
+use Rattle.lentparts.proofs.cells.find.Symbol as find-def
+use Rattle.lentparts.proofs.cells.find.Symbol.{name as #lentparts·cells·find}
+use Rattle.lentparts.proofs.cells.find.Met as find-thm
+use Rattle.lentparts.proofs.take as take
+use Rattle.lentparts.proofs.take.Symbol as take-def
+use Rattle.lentparts.proofs.take.Symbol.{name as #lentparts·take}
+use Rattle.lentparts.proofs.take.Met as take-thm
+use Rattle.lentparts.proofs.plan.turned as turned
+use Rattle.lentparts.proofs.plan.turned.Symbol as turned-def
+use Rattle.lentparts.proofs.plan.turned.Symbol.{name as #lentparts·plan·turned}
+use Rattle.lentparts.proofs.plan.turned.Met as turned-thm
+use Rattle.lentparts.proofs.put as put
+use Rattle.lentparts.proofs.put.Symbol as put-def
+use Rattle.lentparts.proofs.put.Symbol.{name as #lentparts·put}
+use Rattle.lentparts.proofs.put.Met as put-thm
 use Rattle.lent.proofs.translate.run.Key.{name as #self}
 use Rattle.lent.proofs.translate.run as f
 use Rattle.lent.proofs.translate.run.Statement as stated
@@ -280,7 +280,7 @@ module _ {M : Type 1} (𝓤 : URA M) (H : Heap 𝓤) (A : Atoms 𝓤) (W : Given
       use3 W (later (‵ (Own (ws .0)) ⊛ ‵ (flft κ q))) (comes-back 𝓤 H A W T.the-row (named 0) κ (ν ∷ []) q γ b o δ d (ws .0)) $ await ! tt $
       at-once ! $ show ! (λ (r : (Unit {0})). ex 𝓤 (λ (y : Core). sep 𝓤 (sep 𝓤 (sem 𝓤 H A (Own y)) (A .lft κ q)) (fact 𝓤 (said-put d k t r y v)))) r $ show ! (λ (y : Core). sep 𝓤 (sep 𝓤 (sem 𝓤 H A (Own y)) (A .lft κ q)) (fact 𝓤 (said-put d k t r y v))) (ws .0) $ says ! (e, is) $ keep ! (0 ∷ []) $ done !))))
 
-  module _ (C : Calls 𝓤 H) (Λ : Loops 𝓤 H) (fm : FmC 𝓤 H (W .laws) C) (known-find : Triple 𝓤 (C #lent·cells·find) (To-find 𝓤 H A at-mem run)) (known-take : Triple 𝓤 (C #lent·take) (To-take 𝓤 H A at-mem run)) (known-turned : Triple 𝓤 (C #lent·plan·turned) (To-turned 𝓤 H A at-mem run)) (known-put : Triple 𝓤 (C #lent·put) (To-put 𝓤 H A at-mem run)) where
+  module _ (C : Calls 𝓤 H) (Λ : Loops 𝓤 H) (fm : FmC 𝓤 H (W .laws) C) (known-find : Triple 𝓤 (C #lentparts·cells·find) (To-find 𝓤 H A at-mem run)) (known-take : Triple 𝓤 (C #lentparts·take) (To-take 𝓤 H A at-mem run)) (known-turned : Triple 𝓤 (C #lentparts·plan·turned) (To-turned 𝓤 H A at-mem run)) (known-put : Triple 𝓤 (C #lentparts·put) (To-put 𝓤 H A at-mem run)) where
     steps : Is u64 base ((vint w64 base) ∷ []) → Is (ShrSlice (named 1) κ₁ u8) m ((sliceVal (m .ptr) (length (m .now))) ∷ []) → Is u64 va ((vint w64 va) ∷ []) → Is KI.the-row kind ((EL.val KI.the-type KI′.the-laws kind) ∷ []) → ent 𝓤 (onEntry 𝓤 H A f.signature (κ, (κ₁, tt)) (q, (q₁, tt)) x₀ at) (WpFn 𝓤 H C Λ fn (vptr b o ∷ (vint w64 base) ∷ (sliceVal (m .ptr) (length (m .now))) ∷ (vint w64 va) ∷ (EL.val KI.the-type KI′.the-laws kind) ∷ []) Post)
     steps gb gm gv gk =
         qed W ((‵ (flft κ q) ⊛ (‵ (flft κ₁ q₁) ⊛ ‵ ftrue)) ∷ ‵ (owns (MutRef (named 0) κ T.the-row ∷ u64 ∷ ShrSlice (named 1) κ₁ u8 ∷ u64 ∷ KI.the-row ∷ []) x₀ at) ∷ []) ∵
@@ -329,7 +329,7 @@ module _ {M : Type 1} (𝓤 : URA M) (H : Heap 𝓤) (A : Atoms 𝓤) (W : Given
     walk gb gm gv gk = subst (λ (ls : List Local). ent 𝓤 (onEntry 𝓤 H A f.signature (κ, (κ₁, tt)) (q, (q₁, tt)) x₀ at) (WpFn 𝓤 H C Λ (with-locals ls) (vptr b o ∷ (vint w64 base) ∷ (sliceVal (m .ptr) (length (m .now))) ∷ (vint w64 va) ∷ (EL.val KI.the-type KI′.the-laws kind) ∷ []) Post)) (sym locals-are) (steps gb gm gv gk)
 
 module _ {M : Type 1} (𝓤 : URA M) (H : Heap 𝓤) (A : Atoms 𝓤) (W : Given 𝓤 H A) (at-mem : Memory → SProp 𝓤) (run : Routine → Fun 𝓤) where
-  run-walks : (C : Calls 𝓤 H) (Λ : Loops 𝓤 H) → FmC 𝓤 H (W .laws) C → Triple 𝓤 (C #lent·cells·find) (To-find 𝓤 H A at-mem run) → Triple 𝓤 (C #lent·take) (To-take 𝓤 H A at-mem run) → Triple 𝓤 (C #lent·plan·turned) (To-turned 𝓤 H A at-mem run) → Triple 𝓤 (C #lent·put) (To-put 𝓤 H A at-mem run) → Walks 𝓤 H A f.ended stayed (WpFn 𝓤 H C Λ code.function) (f.clauses 𝓤 H A at-mem run)
+  run-walks : (C : Calls 𝓤 H) (Λ : Loops 𝓤 H) → FmC 𝓤 H (W .laws) C → Triple 𝓤 (C #lentparts·cells·find) (To-find 𝓤 H A at-mem run) → Triple 𝓤 (C #lentparts·take) (To-take 𝓤 H A at-mem run) → Triple 𝓤 (C #lentparts·plan·turned) (To-turned 𝓤 H A at-mem run) → Triple 𝓤 (C #lentparts·put) (To-put 𝓤 H A at-mem run) → Walks 𝓤 H A f.ended stayed (WpFn 𝓤 H C Λ code.function) (f.clauses 𝓤 H A at-mem run)
   run-walks C Λ fm known-find known-take known-turned known-put =
       walked 𝓤 H A f.ended stayed (f.clauses 𝓤 H A at-mem run) (WpFn 𝓤 H C Λ code.function)
       (λ κs. (ptr-vals, (uint-vals w64, (slice-vals, (uint-vals w64, (EL.vals KI.the-type KI′.the-laws, tt))))))
@@ -339,7 +339,7 @@ module _ {M : Type 1} (𝓤 : URA M) (H : Heap 𝓤) (A : Atoms 𝓤) (W : Given
   goes : AllGo 𝓤 H A W 2 (f.signature .params) (f.ended .kept) stayed
   goes = (goes-ref 𝓤 H A W 2 0 tt (plain (λ _. T.the-row)), (goes-dropped 𝓤 H A W 2 (plain (λ _. u64)) yes (λ κs x f. refl), (goes-dropped 𝓤 H A W 2 (shrSliceOf (1 ∷ []) tt (plain (λ _. u8))) yes (λ κs x f. refl), (goes-dropped 𝓤 H A W 2 (plain (λ _. u64)) yes (λ κs x f. refl), (goes-dropped 𝓤 H A W 2 (plain (λ _. KI.the-row)) yes (λ κs x f. refl), tt)))))
 
-run-meets : {M : Type 1} (𝓤 : URA M) (H : Heap 𝓤) (A : Atoms 𝓤) (W : Given 𝓤 H A) (at-mem : Memory → SProp 𝓤) (run : Routine → Fun 𝓤) (𝓣 : Tables 𝓤 H) → Triple 𝓤 (𝓣 .C #lent·cells·find) (To-find 𝓤 H A at-mem run) → Triple 𝓤 (𝓣 .C #lent·take) (To-take 𝓤 H A at-mem run) → Triple 𝓤 (𝓣 .C #lent·plan·turned) (To-turned 𝓤 H A at-mem run) → Triple 𝓤 (𝓣 .C #lent·put) (To-put 𝓤 H A at-mem run) → Meets 𝓤 H A f.signature (WpFn 𝓤 H (𝓣 .C) (𝓣 .Λ) code.function) (f.spec 𝓤 H A at-mem run)
+run-meets : {M : Type 1} (𝓤 : URA M) (H : Heap 𝓤) (A : Atoms 𝓤) (W : Given 𝓤 H A) (at-mem : Memory → SProp 𝓤) (run : Routine → Fun 𝓤) (𝓣 : Tables 𝓤 H) → Triple 𝓤 (𝓣 .C #lentparts·cells·find) (To-find 𝓤 H A at-mem run) → Triple 𝓤 (𝓣 .C #lentparts·take) (To-take 𝓤 H A at-mem run) → Triple 𝓤 (𝓣 .C #lentparts·plan·turned) (To-turned 𝓤 H A at-mem run) → Triple 𝓤 (𝓣 .C #lentparts·put) (To-put 𝓤 H A at-mem run) → Meets 𝓤 H A f.signature (WpFn 𝓤 H (𝓣 .C) (𝓣 .Λ) code.function) (f.spec 𝓤 H A at-mem run)
 run-meets 𝓤 H A W at-mem run 𝓣 known-find known-take known-turned known-put =
     walk-meets 𝓤 H A f.ended stayed W (goes 𝓤 H A W at-mem run) (f.clauses 𝓤 H A at-mem run) (WpFn 𝓤 H (𝓣 .C) (𝓣 .Λ) code.function) (WpFn-mono 𝓤 H (W .laws) 𝓣 code.function)
     (run-walks 𝓤 H A W at-mem run (𝓣 .C) (𝓣 .Λ) (fmOf 𝓤 H (W .laws) 𝓣) known-find known-take known-turned known-put)
@@ -350,7 +350,7 @@ run-spec 𝓤 H 𝓜 𝓖 𝓡 =
     entered 𝓤 H (tripleOf 𝓤 H (𝓖 .A) f.signature (f.spec 𝓤 H (𝓖 .A) (𝓜 .mem) (𝓡 .run)))
     (tables 𝓤 H 𝓜 𝓡 code.env .C) (tables 𝓤 H 𝓜 𝓡 code.env .Λ) #self code.function (code.unfolded 𝓤 H 𝓜 𝓡)
     (run-meets 𝓤 H (𝓖 .A) (givenOf 𝓤 H 𝓜 𝓖) (𝓜 .mem) (𝓡 .run) (tablesOf 𝓤 H 𝓜 (tables 𝓤 H 𝓜 𝓡 code.env))
-    (cited 𝓤 H (To-find 𝓤 H (𝓖 .A) (𝓜 .mem) (𝓡 .run)) 𝓜 𝓡 code.env #lent·cells·find find-def.routine code.calls-lent·cells·find (find-thm.met 𝓤 H 𝓜 𝓖 𝓡))
-    (cited 𝓤 H (To-take 𝓤 H (𝓖 .A) (𝓜 .mem) (𝓡 .run)) 𝓜 𝓡 code.env #lent·take take-def.routine code.calls-lent·take (take-thm.met 𝓤 H 𝓜 𝓖 𝓡))
-    (cited 𝓤 H (To-turned 𝓤 H (𝓖 .A) (𝓜 .mem) (𝓡 .run)) 𝓜 𝓡 code.env #lent·plan·turned turned-def.routine code.calls-lent·plan·turned (turned-thm.met 𝓤 H 𝓜 𝓖 𝓡))
-    (cited 𝓤 H (To-put 𝓤 H (𝓖 .A) (𝓜 .mem) (𝓡 .run)) 𝓜 𝓡 code.env #lent·put put-def.routine code.calls-lent·put (put-thm.met 𝓤 H 𝓜 𝓖 𝓡)))
+    (cited 𝓤 H (To-find 𝓤 H (𝓖 .A) (𝓜 .mem) (𝓡 .run)) 𝓜 𝓡 code.env #lentparts·cells·find find-def.routine code.calls-lentparts·cells·find (find-thm.met 𝓤 H 𝓜 𝓖 𝓡))
+    (cited 𝓤 H (To-take 𝓤 H (𝓖 .A) (𝓜 .mem) (𝓡 .run)) 𝓜 𝓡 code.env #lentparts·take take-def.routine code.calls-lentparts·take (take-thm.met 𝓤 H 𝓜 𝓖 𝓡))
+    (cited 𝓤 H (To-turned 𝓤 H (𝓖 .A) (𝓜 .mem) (𝓡 .run)) 𝓜 𝓡 code.env #lentparts·plan·turned turned-def.routine code.calls-lentparts·plan·turned (turned-thm.met 𝓤 H 𝓜 𝓖 𝓡))
+    (cited 𝓤 H (To-put 𝓤 H (𝓖 .A) (𝓜 .mem) (𝓡 .run)) 𝓜 𝓡 code.env #lentparts·put put-def.routine code.calls-lentparts·put (put-thm.met 𝓤 H 𝓜 𝓖 𝓡)))

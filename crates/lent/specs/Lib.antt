@@ -1,6 +1,0 @@
--- The entry points over a lent core: what the work on small values gives, and the core with its cells put back.
-pub mod Plan
-pub mod Cells
-pub mod Fetch
-pub mod Access
-pub mod Writes

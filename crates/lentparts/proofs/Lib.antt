@@ -1,0 +1,7 @@
+pub mod Plans
+pub mod InPlace
+pub mod Parts
+pub mod Fields
+pub mod Laid
+pub mod Accesses
+pub mod Writings

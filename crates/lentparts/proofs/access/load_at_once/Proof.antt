@@ -1,0 +1,38 @@
+-- `lentparts::access::load_at_once` meets its contract.
+use borrow.Author.Needs.{needs}
+use Rattle.lentparts.proofs.access.load_at_once.Statement.{statement}
+use Rattle.lentparts.proofs.access.load_at_once.Tie as tie
+use Rattle.lentparts.proofs.Accesses.{load-hit, load-none, load-refused}
+
+missed-requires : tie.Need-missed-requires
+missed-requires c κs = search needs
+
+returns : tie.Need-returns
+returns c = search (load-refused, needs)
+
+hit-requires : tie.Need-hit-requires
+hit-requires c κs = search needs
+
+on-page-requires : tie.Need-on-page-requires
+on-page-requires c κs = search needs
+
+read-at-requires : tie.Need-read-at-requires
+read-at-requires c κs = search needs
+
+returns-2 : tie.Need-returns-2
+returns-2 c = search (load-hit, needs)
+
+returns-3 : tie.Need-returns-3
+returns-3 c = search (load-none, needs)
+
+pub load-at-once-spec : {M : Type 1} → statement M
+load-at-once-spec =
+    tie.close
+    (tie.spec
+    missed-requires
+    returns
+    hit-requires
+    on-page-requires
+    read-at-requires
+    returns-2
+    returns-3)

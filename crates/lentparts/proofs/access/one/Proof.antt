@@ -1,0 +1,14 @@
+-- `lentparts::access::one` meets its contract.
+use borrow.Author.Needs.{needs}
+use Rattle.lentparts.proofs.access.one.Statement.{statement}
+use Rattle.lentparts.proofs.access.one.Tie as tie
+use Rattle.lentparts.proofs.Accesses.{one-is}
+
+one-requires : tie.Need-one-requires
+one-requires c κs = search needs
+
+returns : tie.Need-returns
+returns c = search (one-is, needs)
+
+pub one-spec : {M : Type 1} → statement M
+one-spec = tie.close (tie.spec one-requires returns)

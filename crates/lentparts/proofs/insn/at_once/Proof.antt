@@ -1,0 +1,58 @@
+-- `lentparts::insn::at_once` meets its contract.
+use borrow.Author.Needs.{needs}
+use Rattle.lentparts.proofs.insn.at_once.Statement.{statement}
+use Rattle.lentparts.proofs.insn.at_once.Tie as tie
+use Rattle.lentparts.proofs.Plans.{fetch-none, fetch-outside, fetch-refused, fetch-value}
+
+missed-requires : tie.Need-missed-requires
+missed-requires c κs = search needs
+
+returns : tie.Need-returns
+returns c = search (fetch-refused, needs)
+
+fetch-found-requires : tie.Need-fetch-found-requires
+fetch-found-requires c κs = search needs
+
+enum-known-pa : tie.Need-enum-known-pa
+enum-known-pa c = search needs
+
+insn-at-requires : tie.Need-insn-at-requires
+insn-at-requires c κs = search needs
+
+enum-known-v : tie.Need-enum-known-v
+enum-known-v c = search needs
+
+cast-t17 : tie.Need-cast-t17
+cast-t17 c = search needs
+
+enum-told : tie.Need-enum-told
+enum-told c = search needs
+
+enum-told-2 : tie.Need-enum-told-2
+enum-told-2 c = search needs
+
+returns-2 : tie.Need-returns-2
+returns-2 c = search (fetch-value, needs)
+
+returns-3 : tie.Need-returns-3
+returns-3 c = search (fetch-outside, needs)
+
+returns-4 : tie.Need-returns-4
+returns-4 c = search (fetch-none, needs)
+
+pub at-once-spec : {M : Type 1} → statement M
+at-once-spec =
+    tie.close
+    (tie.spec
+    missed-requires
+    returns
+    fetch-found-requires
+    enum-known-pa
+    insn-at-requires
+    enum-known-v
+    cast-t17
+    enum-told
+    enum-told-2
+    returns-2
+    returns-3
+    returns-4)

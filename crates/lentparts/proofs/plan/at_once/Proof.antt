@@ -1,0 +1,28 @@
+-- `lentparts::plan::at_once` meets its contract.
+use borrow.Author.Needs.{needs}
+use Rattle.lentparts.proofs.plan.at_once.Statement.{statement}
+use Rattle.lentparts.proofs.plan.at_once.Tie as tie
+use Rattle.lentparts.proofs.Plans.{quick-hint, quick-none, quick-refused}
+
+missed-requires : tie.Need-missed-requires
+missed-requires c κs = search needs
+
+returns : tie.Need-returns
+returns c = search (quick-refused, needs)
+
+served-requires : tie.Need-served-requires
+served-requires c κs = search needs
+
+on-page-requires : tie.Need-on-page-requires
+on-page-requires c κs = search needs
+
+returns-2 : tie.Need-returns-2
+returns-2 c = search (quick-hint, needs)
+
+returns-3 : tie.Need-returns-3
+returns-3 c = search (quick-none, needs)
+
+pub at-once-spec : {M : Type 1} → statement M
+at-once-spec =
+    tie.close
+    (tie.spec missed-requires returns served-requires on-page-requires returns-2 returns-3)

@@ -1,0 +1,28 @@
+-- `lentparts::writes::at_once` meets its contract.
+use borrow.Author.Needs.{needs}
+use Rattle.lentparts.proofs.writes.at_once.Statement.{statement}
+use Rattle.lentparts.proofs.writes.at_once.Tie as tie
+use Rattle.lentparts.proofs.Writings.{quick-missed, quick-on}
+
+missed-requires : tie.Need-missed-requires
+missed-requires c κs = search needs
+
+returns : tie.Need-returns
+returns c = search (quick-missed, needs)
+
+hit-requires : tie.Need-hit-requires
+hit-requires c κs = search needs
+
+on-page-requires : tie.Need-on-page-requires
+on-page-requires c κs = search needs
+
+inside-requires : tie.Need-inside-requires
+inside-requires c κs = search needs
+
+returns-2 : tie.Need-returns-2
+returns-2 c = search (quick-on, needs)
+
+pub at-once-spec : {M : Type 1} → statement M
+at-once-spec =
+    tie.close
+    (tie.spec missed-requires returns hit-requires on-page-requires inside-requires returns-2)

@@ -1,0 +1,78 @@
+-- The work of a store, on small values.
+use mathlib.Core.Bool.{Bool, true, _&&_}
+use mathlib.Core.List.{List}
+use Prim.Native.Nat.{ℕ, zero, suc}
+use Rattle.word.specs.Ram.{wordAt, widthOf, bytesIn, within}
+use Rattle.word.specs.declared.ram.Sized.{Sized}
+use Rattle.word.specs.declared.ram.Sized.the-variants.{Bytes, Refused as NoWidth}
+use Rattle.tlb.specs.Hint.{onPage}
+use Rattle.tlb.specs.declared.access.Kind.the-variants.{Write}
+use Rattle.tlb.specs.declared.access.Who.{Who}
+use Rattle.tlb.specs.declared.hint.Hint.{Hint}
+use Rattle.mmu.specs.Bytes.{storeRam}
+use Rattle.mmu.specs.Ends.{storeEnd, storeRamEnd}
+use Rattle.mmu.specs.declared.ends.StoreEnd.{StoreEnd}
+use Rattle.mmu.specs.declared.place.Place.the-variants.{Whole}
+use Rattle.cpu.specs.Check.{sizedOf, missedOf}
+use Rattle.cpu.specs.Step.{storing}
+use Rattle.cpu.specs.declared.call.Reply.{Reply}
+use Rattle.cpu.specs.declared.call.Reply.the-variants.{Refused, Done}
+use Rattle.lentparts.specs.Access.{hitIn, bothOf, untouchedOf, afterBoth}
+use Rattle.lentparts.specs.declared.access.Access.{Access}
+use Rattle.lentparts.specs.declared.access.Both.{Both}
+use Rattle.lentparts.specs.declared.access.Keys.{Keys}
+use Rattle.lentparts.specs.declared.cells.Cells.{Cells}
+use Rattle.lentparts.specs.declared.writes.QuickStore.{QuickStore}
+
+-- whether a store ends at once: a check that it misses, or the hint that serves in its page, where the bytes lie in RAM
+abbrev pub storeQuickBy : ℕ → Bool → ℕ → QuickStore
+storeQuickBy zero fits pa = record { ends = fits; refused = 0; pa = pa }
+storeQuickBy (suc n) fits pa = record { ends = true; refused = suc n; pa = 0 }
+
+unfoldable pub storeQuick : Who → Hint → ℕ → ℕ → ℕ → ℕ → QuickStore
+storeQuick who h base len va size =
+    storeQuickBy (missedOf (who .level) base len (sizedOf size))
+    (hitIn h who va size Write && within base len size (onPage (h .pa) va))
+    (onPage (h .pa) va)
+
+-- its reply, and RAM after it
+abbrev pub nowReplyBy : ℕ → Reply
+nowReplyBy zero = Done
+nowReplyBy (suc n) = Refused (suc n)
+
+abbrev pub nowReply : QuickStore → Reply
+nowReply q = nowReplyBy (q .refused)
+
+abbrev pub sizedRam : Sized → ℕ → ℕ → List ℕ → ℕ → List ℕ
+sizedRam (Bytes w) pa base ram value = storeRam base ram (Whole pa) (bytesIn w) value
+sizedRam NoWidth pa base ram value = ram
+
+abbrev pub nowRamBy : ℕ → List ℕ → List ℕ → List ℕ
+nowRamBy zero ram after = after
+nowRamBy (suc n) ram after = ram
+
+unfoldable pub nowRam : QuickStore → ℕ → List ℕ → ℕ → ℕ → List ℕ
+nowRam q base ram size value = nowRamBy (q .refused) ram (sizedRam (widthOf size) (q .pa) base ram value)
+
+-- a store on the cells taken out, and RAM after it
+abbrev pub afterStoreEnd : Both → ℕ → StoreEnd → Access
+afterStoreEnd b last e = afterBoth b last (e .«abort_pa») (storing (e .answer))
+
+unfoldable pub storeAfter : Both → ℕ → ℕ → ℕ → ℕ → ℕ → List ℕ → Access
+storeAfter b last abort va n base ram = afterStoreEnd b last (storeEnd (b .placed) abort base ram va n)
+
+abbrev pub storedBy : Sized → Keys → Cells → Cells → ℕ → ℕ → List ℕ → Access
+storedBy (Bytes w) k x y va base ram =
+    storeAfter (bothOf k x y va (bytesIn w) Write (wordAt base ram 8)) (k .«last_pa») (k .«abort_pa») va (bytesIn w) base ram
+storedBy NoWidth k x y va base ram = untouchedOf k x y
+
+unfoldable pub storedOf : Keys → Cells → Cells → ℕ → ℕ → ℕ → List ℕ → Access
+storedOf k x y va size base ram = storedBy (widthOf size) k x y va base ram
+
+abbrev pub storedRamBy : Sized → Keys → Cells → Cells → ℕ → ℕ → ℕ → List ℕ → List ℕ
+storedRamBy (Bytes w) k x y va value base ram =
+    storeRamEnd (bothOf k x y va (bytesIn w) Write (wordAt base ram 8) .placed) base ram (bytesIn w) value
+storedRamBy NoWidth k x y va value base ram = ram
+
+unfoldable pub storedRam : Keys → Cells → Cells → ℕ → ℕ → ℕ → ℕ → List ℕ → List ℕ
+storedRam k x y va size value base ram = storedRamBy (widthOf size) k x y va value base ram

@@ -1,0 +1,122 @@
+// The work of a store, on small values.
+ghost use mathlib.Core.Path.{_≡_};
+ghost use Rattle.word.specs.Ram.{bytesIn};
+ghost use Rattle.mmu.specs.Ends.{storeRamEnd};
+ghost use Rattle.cpu.specs.Step.{storing};
+ghost use Rattle.lentparts.specs.Writes.{storeQuick, nowReply, nowRam, storeAfter, storedOf, storedRam};
+use crate::access;
+use crate::access::Access;
+use crate::access::Both;
+use crate::access::Keys;
+use crate::cells::Cells;
+use crate::plan;
+use cpu::call::Reply;
+use mmu::bytes;
+use mmu::ends;
+use mmu::ends::StoreAnswer;
+use mmu::place::Place;
+use tlb::access::Kind;
+use tlb::access::Who;
+use tlb::hint;
+use tlb::hint::Hint;
+use word::ram;
+use word::ram::Sized;
+use word::ram::Width;
+
+// What the checks and the hint say: whether the store ends at once, the number of the first check missed, or else where the bytes go.
+pub struct QuickStore {
+    pub ends: bool,
+    pub refused: u8,
+    pub pa: u64,
+}
+
+// The checks, and then the hint, where the bytes lie in one page and in RAM.
+pub fn at_once(who: Who, h: Hint, base: u64, len: u64, va: u64, size: u64) -> QuickStore
+    ensures { λ r. ⌜ r ≡ storeQuick who h base len va size ⌝ }
+{
+    let n = access::missed(who.level, base, len, size);
+    if n != 0 {
+        return QuickStore {
+            ends: true,
+            refused: n,
+            pa: 0,
+        };
+    }
+    let found = plan::hit(h, who, va, size, Kind::Write);
+    let pa = hint::on_page(h.pa, va);
+    let fits = ram::inside(base, len, size, pa);
+    QuickStore {
+        ends: found & fits,
+        refused: 0,
+        pa,
+    }
+}
+
+// A store that ends at once.
+pub fn store_now(q: QuickStore, base: u64, ram: &mut [u8], size: u64, value: u64) -> Reply
+    ensures { λ r. ⌜ (r ≡ nowReply q) × (now (ram .exit) ≡ nowRam q base (now (ram .entry)) size value) ⌝ }
+{
+    let n = q.refused;
+    if n != 0 {
+        return Reply::Refused(n);
+    }
+    match ram::width_of(size) {
+        Sized::Bytes(width) => {
+            let _ = bytes::store(base, ram, Place::Whole(q.pa), width, value);
+            Reply::Done
+        }
+        Sized::Refused => Reply::Done,
+    }
+}
+
+fn reply_of(answer: StoreAnswer) -> Reply
+    ensures { λ r. ⌜ r ≡ storing answer ⌝ }
+{
+    match answer {
+        StoreAnswer::Done => Reply::Done,
+        StoreAnswer::Stopped(s) => Reply::Stopped(s),
+    }
+}
+
+// The end of a store, after its translations.
+fn ended(
+    b: Both,
+    last: u64,
+    abort: u64,
+    va: u64,
+    width: Width,
+    value: u64,
+    base: u64,
+    ram: &mut [u8],
+) -> Access
+    ensures { λ r. ⌜ (r ≡ storeAfter b last abort va (bytesIn width) base (now (ram .entry))) × (now (ram .exit) ≡ storeRamEnd (b .placed) base (now (ram .entry)) (bytesIn width) value) ⌝ }
+{
+    let placed = b.placed;
+    let e = ends::store_end(placed, abort, base, ram, va, width, value);
+    let answer = e.answer;
+    let reply = reply_of(answer);
+    access::after(b, last, e.abort_pa, reply)
+}
+
+// A store on the cells taken out.
+pub fn stored(
+    k: Keys,
+    x: Cells,
+    y: Cells,
+    va: u64,
+    size: u64,
+    value: u64,
+    base: u64,
+    ram: &mut [u8],
+) -> Access
+    ensures { λ r. ⌜ (r ≡ storedOf k x y va size base (now (ram .entry))) × (now (ram .exit) ≡ storedRam k x y va size value base (now (ram .entry))) ⌝ }
+{
+    match ram::width_of(size) {
+        Sized::Bytes(width) => {
+            let n = ram::bytes_in(width);
+            let b = access::turns(k, x, y, va, n, Kind::Write, base, ram);
+            ended(b, k.last_pa, k.abort_pa, va, width, value, base, ram)
+        }
+        Sized::Refused => access::untouched(k, x, y),
+    }
+}
