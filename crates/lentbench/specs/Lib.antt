@@ -1,0 +1,2 @@
+-- What the loop that measures gives.
+pub mod Many

@@ -1,0 +1,22 @@
+// n translations on a lent core.
+ghost use mathlib.Core.Path.{_≡_};
+ghost use Rattle.lentbench.specs.Many.{coreAfter, sumAfter};
+use crate::sum;
+use lent::translate;
+use mmu::core::Core;
+use tlb::access::Kind;
+
+// Two addresses in turn, n times; the sum over the answers.
+pub fn many(core: &mut Core, base: u64, ram: &[u8], n: u64, even: u64, odd: u64, kind: Kind) -> u64
+    ensures { λ r. ⌜ (r ≡ sumAfter (now (core .entry)) base (now (ram .entry)) even odd kind n) × (now (core .exit) ≡ coreAfter (now (core .entry)) base (now (ram .entry)) even odd kind n) ⌝ }
+{
+    let mut i = 0;
+    let mut sum = 0;
+    while i < n {
+        let va = sum::va_of(i, even, odd);
+        let reply = translate::translate(core, base, ram, va, kind);
+        sum = sum::summed(sum, reply);
+        i += 1;
+    }
+    sum
+}
