@@ -32,6 +32,10 @@ summedOf sum r = (((sum + sum) % 2 ^ 64 + sum / 2 ^ 63) % 2 ^ 64 + partOf r) % 2
 abbrev pub vaOf : ℕ → ℕ → ℕ → ℕ
 vaOf i even odd = pick (eqb (i % 2) 0) even odd
 
+-- the core after a first translation
+abbrev pub warmed : Core → ℕ → List ℕ → ℕ → Kind → Core
+warmed c base ram va kind = stepOf c base ram (Call.Translate kind va) .core
+
 module _ (c : Core) (base : ℕ) (ram : List ℕ) (even odd : ℕ) (kind : Kind) where
   -- the core after i turns, and the sum
   unfoldable pub coreAfter : ℕ → Core
@@ -76,4 +80,5 @@ setUp = setIn freshCore freshControl
 -- what the exported function gives: the addresses and the registers as lists
 unfoldable pub measured : ℕ → List ℕ → ℕ → List ℕ → ℕ → List ℕ → ℕ
 measured n vas kind regs base ram =
-    sumAfter (setUp (getD regs 0 0) (getD regs 1 0) (getD regs 2 0) (getD regs 3 0)) base ram (getD vas 0 0) (getD vas 1 0) (kindOf kind) n
+    let c : Core = setUp (getD regs 0 0) (getD regs 1 0) (getD regs 2 0) (getD regs 3 0) in
+    sumAfter (warmed c base ram (getD vas 0 0) (kindOf kind)) base ram (getD vas 0 0) (getD vas 1 0) (kindOf kind) n

@@ -1,5 +1,5 @@
--- `lentbench::many::many` meets its contract: a walk of its MIR, by hand. Before turn i the core is what i translations leave, and the sum is theirs. A turn lends the
--- core again to `translate`, and takes it back at what the contract says of it; what is left to do goes down. Assumes nothing.
+-- `lentbench::many::many` meets its contract: a walk of its MIR, by hand. After the first translation, before turn i, the core is what i
+-- translations more leave, and the sum is theirs. A turn lends the core again to `translate`, and takes it back at what the contract says of it; what is left to do goes down. Assumes nothing.
 use mathlib.Core.Path.{_≡_, refl, sym, subst, ap}
 use mathlib.Core.Bool.{not}
 use Prim.Native.Nat.{ℕ, _+_, _-_, _≤_, _<_, _^_, zero-le}
@@ -23,7 +23,7 @@ use ghost.Atoms.{Atoms, sem}
 use contract.Monad.{Fun, fact}
 use contract.Running.{givenOf, tables, tablesOf}
 use types.Kit.{Given, Item, ⋆, ‵, raw, _⊛_, some, later, runs, anyQ, atRet, Sq, _$_, _∵_, !, qed, by, move, keep, drop, use0, use1, use2, use3, split, join, pick, rewrite, fsplit, fjoin, suffices, frame, await, updating, now as at-once, show, done}
-use types.Run.{look, store, init, forget, stop, hop, from, load, lit, bin, addr, of-opd, and-then, no-more, land, assigns, assigns-last, first, blocks, returns, enter, alloc1, alloc0, params1, pass1, pass0, free1, free0, exec, Below, again, loops}
+use types.Run.{look, store, init, forget, stop, hop, from, load, lit, bin, addr, of-opd, and-then, no-more, land, assigns, assigns-last, first as first′, blocks, returns, enter, alloc1, alloc0, params1, pass1, pass0, free1, free0, exec, Below, again, loops}
 use types.Tokens.{lft-new, lft-end}
 use sound.WpLaws.{FmC, fmOf, WpFn-mono}
 use denote.RattleType.{owns}
@@ -59,7 +59,7 @@ use Rattle.lent.proofs.translate.translate as step
 use Rattle.lent.proofs.translate.translate.Symbol as step-def
 use Rattle.lent.proofs.translate.translate.Symbol.{name as #lent·translate·translate}
 use Rattle.lent.proofs.translate.translate.Met as step-thm
-use Rattle.lentbench.specs.Many.{vaOf, summedOf, coreAfter, sumAfter}
+use Rattle.lentbench.specs.Many.{vaOf, summedOf, warmed, coreAfter, sumAfter}
 use Rattle.lentbench.proofs.Sums.{sum-fits, core-next, sum-next}
 use Rattle.lentbench.proofs.Turns.{while-test}
 use Rattle.lentbench.proofs.sum.va_of as va
@@ -81,7 +81,7 @@ abbrev coreName : Ty
 coreName = pointee (T.the-row .written)
 
 abbrev locals : List Local
-locals = local (tyInt w64) valueLocal ∷ local (tyRef (named 0) mut coreName) valueLocal ∷ local (tyInt w64) valueLocal ∷ local (lone (ShrSlice (named 1) [] u8 .mir)) valueLocal ∷ local (tyInt w64) valueLocal ∷ local (tyInt w64) valueLocal ∷ local (tyInt w64) valueLocal ∷ local KI′.mir valueLocal ∷ local (tyInt w64) valueLocal ∷ local (tyInt w64) valueLocal ∷ local (tyInt w64) valueLocal ∷ local Y′.mir valueLocal ∷ local tyBool valueLocal ∷ local (tyRef erased mut coreName) valueLocal ∷ []
+locals = local (tyInt w64) valueLocal ∷ local (tyRef (named 0) mut coreName) valueLocal ∷ local (tyInt w64) valueLocal ∷ local (lone (ShrSlice (named 1) [] u8 .mir)) valueLocal ∷ local (tyInt w64) valueLocal ∷ local (tyInt w64) valueLocal ∷ local (tyInt w64) valueLocal ∷ local KI′.mir valueLocal ∷ local Y′.mir valueLocal ∷ local (tyInt w64) valueLocal ∷ local (tyInt w64) valueLocal ∷ local (tyInt w64) valueLocal ∷ local Y′.mir valueLocal ∷ local (tyRef erased mut coreName) valueLocal ∷ local tyBool valueLocal ∷ local (tyRef erased mut coreName) valueLocal ∷ []
 
 locals-are : code.function .locals ≡ locals
 locals-are = refl
@@ -113,12 +113,15 @@ module _ {M : Type 1} (𝓤 : URA M) (H : Heap 𝓤) (A : Atoms 𝓤) (W : Given
   abbrev at : List Val × (List Val × (List Val × (List Val × (List Val × (List Val × (List Val × Unit {0}))))))
   at = (vptr b o ∷ [], (((vint w64 base) ∷ []), (((sliceVal (m .ptr) (length (m .now))) ∷ []), (((vint w64 n) ∷ []), (((vint w64 even) ∷ []), (((vint w64 odd) ∷ []), (((EL.val KI.the-type KI′.the-laws kind) ∷ []), tt)))))))
 
-  -- the core after i turns, and the sum
+  -- the core after the first translation; after i turns more, and the sum
+  abbrev first : Core
+  first = warmed c base (m .now) even kind
+
   abbrev core-at : ℕ → Core
-  core-at i = coreAfter c base (m .now) even odd kind i
+  core-at i = coreAfter first base (m .now) even odd kind i
 
   abbrev sum-at : ℕ → ℕ
-  sum-at i = sumAfter c base (m .now) even odd kind i
+  sum-at i = sumAfter first base (m .now) even odd kind i
 
   -- the reference at another value, and lent again for ν under another name
   abbrev ref : GName → Core → RefT Core
@@ -236,57 +239,57 @@ module _ {M : Type 1} (𝓤 : URA M) (H : Heap 𝓤) (A : Atoms 𝓤) (W : Given
     fits : (i : Upto) → i .0 < 2 ^ 64
     fits i = lt-of-le-of-lt (i .1) (gn .1)
 
-    module _ (l0 l1 l2 l3 l4 l5 l6 l7 l8 l9 l10 l11 l12 l13 : ℕ) where
+    module _ (l0 l1 l2 l3 l4 l5 l6 l7 l8 l9 l10 l11 l12 l13 l14 l15 : ℕ) where
       abbrev En : Env 𝓤 H
-      En = ((tyInt w64), l0) ∷ ((tyRef (named 0) mut coreName), l1) ∷ ((tyInt w64), l2) ∷ ((lone (ShrSlice (named 1) [] u8 .mir)), l3) ∷ ((tyInt w64), l4) ∷ ((tyInt w64), l5) ∷ ((tyInt w64), l6) ∷ (KI′.mir, l7) ∷ ((tyInt w64), l8) ∷ ((tyInt w64), l9) ∷ ((tyInt w64), l10) ∷ (Y′.mir, l11) ∷ (tyBool, l12) ∷ ((tyRef erased mut coreName), l13) ∷ []
+      En = ((tyInt w64), l0) ∷ ((tyRef (named 0) mut coreName), l1) ∷ ((tyInt w64), l2) ∷ ((lone (ShrSlice (named 1) [] u8 .mir)), l3) ∷ ((tyInt w64), l4) ∷ ((tyInt w64), l5) ∷ ((tyInt w64), l6) ∷ (KI′.mir, l7) ∷ (Y′.mir, l8) ∷ ((tyInt w64), l9) ∷ ((tyInt w64), l10) ∷ ((tyInt w64), l11) ∷ (Y′.mir, l12) ∷ ((tyRef erased mut coreName), l13) ∷ (tyBool, l14) ∷ ((tyRef erased mut coreName), l15) ∷ []
 
       -- before a turn: the reference, its token, memory, its token; the locals
       abbrev At : Upto → List (Item 𝓤)
-      At i = ‵ (Own (core-at (i .0))) ∷ ‵ (flft κ q) ∷ ‵ Mem ∷ (‵ (flft κ₁ q₁) ⊛ ‵ ftrue) ∷ ‵ (froom (tyRef erased mut coreName) l13 0) ∷ ‵ (fdies (tyRef erased mut coreName) l13) ∷ ‵ (froom tyBool l12 0) ∷ ‵ (fdies tyBool l12) ∷ ‵ (froom Y′.mir l11 0) ∷ ‵ (fdies Y′.mir l11) ∷ ‵ (froom (tyInt w64) l10 0) ∷ ‵ (fdies (tyInt w64) l10) ∷ ‵ (fat fullShare (tyInt w64) l9 0 (vint w64 (sum-at (i .0)))) ∷ ‵ (fdies (tyInt w64) l9) ∷ ‵ (fat fullShare (tyInt w64) l8 0 (vint w64 (i .0))) ∷ ‵ (fdies (tyInt w64) l8) ∷ ‵ (fat fullShare KI′.mir l7 0 (EL.val KI.the-type KI′.the-laws kind)) ∷ ‵ (fdies KI′.mir l7) ∷ ‵ (fat fullShare (tyInt w64) l6 0 (vint w64 odd)) ∷ ‵ (fdies (tyInt w64) l6) ∷ ‵ (fat fullShare (tyInt w64) l5 0 (vint w64 even)) ∷ ‵ (fdies (tyInt w64) l5) ∷ ‵ (fat fullShare (tyInt w64) l4 0 (vint w64 n)) ∷ ‵ (fdies (tyInt w64) l4) ∷ ‵ (fat fullShare (lone (ShrSlice (named 1) [] u8 .mir)) l3 0 (sliceVal (m .ptr) (length (m .now)))) ∷ ‵ (fdies (lone (ShrSlice (named 1) [] u8 .mir)) l3) ∷ ‵ (fat fullShare (tyInt w64) l2 0 (vint w64 base)) ∷ ‵ (fdies (tyInt w64) l2) ∷ ‵ (fat fullShare (tyRef (named 0) mut coreName) l1 0 (vptr b o)) ∷ ‵ (fdies (tyRef (named 0) mut coreName) l1) ∷ ‵ (froom (tyInt w64) l0 0) ∷ ‵ (fdies (tyInt w64) l0) ∷ []
+      At i = ‵ (Own (core-at (i .0))) ∷ ‵ (flft κ q) ∷ ‵ Mem ∷ (‵ (flft κ₁ q₁) ⊛ ‵ ftrue) ∷ ‵ (froom (tyRef erased mut coreName) l15 0) ∷ ‵ (fdies (tyRef erased mut coreName) l15) ∷ ‵ (froom tyBool l14 0) ∷ ‵ (fdies tyBool l14) ∷ ‵ (froom (tyRef erased mut coreName) l13 0) ∷ ‵ (fdies (tyRef erased mut coreName) l13) ∷ ‵ (froom Y′.mir l12 0) ∷ ‵ (fdies Y′.mir l12) ∷ ‵ (froom (tyInt w64) l11 0) ∷ ‵ (fdies (tyInt w64) l11) ∷ ‵ (fat fullShare (tyInt w64) l10 0 (vint w64 (sum-at (i .0)))) ∷ ‵ (fdies (tyInt w64) l10) ∷ ‵ (fat fullShare (tyInt w64) l9 0 (vint w64 (i .0))) ∷ ‵ (fdies (tyInt w64) l9) ∷ ‵ (froom Y′.mir l8 0) ∷ ‵ (fdies Y′.mir l8) ∷ ‵ (fat fullShare KI′.mir l7 0 (EL.val KI.the-type KI′.the-laws kind)) ∷ ‵ (fdies KI′.mir l7) ∷ ‵ (fat fullShare (tyInt w64) l6 0 (vint w64 odd)) ∷ ‵ (fdies (tyInt w64) l6) ∷ ‵ (fat fullShare (tyInt w64) l5 0 (vint w64 even)) ∷ ‵ (fdies (tyInt w64) l5) ∷ ‵ (fat fullShare (tyInt w64) l4 0 (vint w64 n)) ∷ ‵ (fdies (tyInt w64) l4) ∷ ‵ (fat fullShare (lone (ShrSlice (named 1) [] u8 .mir)) l3 0 (sliceVal (m .ptr) (length (m .now)))) ∷ ‵ (fdies (lone (ShrSlice (named 1) [] u8 .mir)) l3) ∷ ‵ (fat fullShare (tyInt w64) l2 0 (vint w64 base)) ∷ ‵ (fdies (tyInt w64) l2) ∷ ‵ (fat fullShare (tyRef (named 0) mut coreName) l1 0 (vptr b o)) ∷ ‵ (fdies (tyRef (named 0) mut coreName) l1) ∷ ‵ (froom (tyInt w64) l0 0) ∷ ‵ (fdies (tyInt w64) l0) ∷ []
 
       abbrev Turned : Upto → Out → SProp 𝓤
-      Turned i = afterTurn 𝓤 H (Below 𝓤 H A Nearer At i) (afterBlock 𝓤 H (afterSeq 𝓤 H (Wp 𝓤 H C Λ En steps-of.t-4 (atReturn 𝓤 H En Post)) (atReturn 𝓤 H En Post)))
+      Turned i = afterTurn 𝓤 H (Below 𝓤 H A Nearer At i) (afterBlock 𝓤 H (afterSeq 𝓤 H (Wp 𝓤 H C Λ En steps-of.t-6 (atReturn 𝓤 H En Post)) (atReturn 𝓤 H En Post)))
 
       -- a turn: an address, its translation, and its part of the sum; or the loop is left
       turns : (i : Upto) → Sq W (At i) (runs C Λ En steps-of.turn-1 (anyQ (Turned i)))
       unfolding afterTurn
       turns i =
-          assigns ! (bin ! (load ! (from ! (stop !)) (look ! 14 {q = fullShare} {τ = (tyInt w64)} {b = l8} {o = 0} {v = (vint w64 (i .0))} refl)) (load ! (from ! (stop !)) (look ! 22 {q = fullShare} {τ = (tyInt w64)} {b = l4} {o = 0} {v = (vint w64 n)} refl)) tt) (from ! (stop !)) (init ! 6 {τ = tyBool} {b = l12} {o = 0} refl (tt, tt)) $
-          while-test ! (load ! (from ! (stop !)) (look ! 6 {q = fullShare} {τ = tyBool} {b = l12} {o = 0} refl))
+          assigns ! (bin ! (load ! (from ! (stop !)) (look ! 16 {q = fullShare} {τ = (tyInt w64)} {b = l9} {o = 0} {v = (vint w64 (i .0))} refl)) (load ! (from ! (stop !)) (look ! 26 {q = fullShare} {τ = (tyInt w64)} {b = l4} {o = 0} {v = (vint w64 n)} refl)) tt) (from ! (stop !)) (init ! 6 {τ = tyBool} {b = l14} {o = 0} refl (tt, tt)) $
+          while-test ! (load ! (from ! (stop !)) (look ! 6 {q = fullShare} {τ = tyBool} {b = l14} {o = 0} refl))
           (λ less.
           use0 W (raw (To-va 𝓤 H A at-mem run .pre (to-va (i .0)))) (open-va (i .0) (refl, fits i) ge go) $
-          calls-at ! fm (To-va 𝓤 H A at-mem run) known-va (to-va (i .0)) (and-then ! (load ! (from ! (stop !)) (look ! 15 {q = fullShare} {τ = (tyInt w64)} {b = l8} {o = 0} {v = (vint w64 (i .0))} refl)) (and-then ! (load ! (from ! (stop !)) (look ! 21 {q = fullShare} {τ = (tyInt w64)} {b = l5} {o = 0} {v = (vint w64 even)} refl)) (and-then ! (load ! (from ! (stop !)) (look ! 19 {q = fullShare} {τ = (tyInt w64)} {b = l6} {o = 0} {v = (vint w64 odd)} refl)) (no-more !)))) (λ v₁.
+          calls-at ! fm (To-va 𝓤 H A at-mem run) known-va (to-va (i .0)) (and-then ! (load ! (from ! (stop !)) (look ! 17 {q = fullShare} {τ = (tyInt w64)} {b = l9} {o = 0} {v = (vint w64 (i .0))} refl)) (and-then ! (load ! (from ! (stop !)) (look ! 25 {q = fullShare} {τ = (tyInt w64)} {b = l5} {o = 0} {v = (vint w64 even)} refl)) (and-then ! (load ! (from ! (stop !)) (look ! 23 {q = fullShare} {τ = (tyInt w64)} {b = l6} {o = 0} {v = (vint w64 odd)} refl)) (no-more !)))) (λ v₁.
           use1 W (later (some (λ (r : ℕ). ‵ ftrue ⊛ raw (fact 𝓤 (said-va (i .0) r v₁))))) (close-va (i .0) v₁) $ await ! tt $ pick ! (λ a.
           split ! $ move ! (1 ∷ []) $ heard ! (said-va (i .0) a v₁) (λ e₁. drop ! $
-          land ! (from ! (stop !)) (init ! 10 {τ = (tyInt w64)} {b = l10} {o = 0} {v = v₁} refl (uint-lawful 𝓤 H A W w64 .typed a (v₁ ∷ []) (e₁ .1) .0)) $
-          rewrite ! 10 (λ (u : Val). ‵ (fat fullShare (tyInt w64) l10 0 u)) (ap only (uint-tells w64 a _ (e₁ .1))) refl $
-          assigns ! (addr ! (from ! (hop ! (look ! 28 {q = fullShare} {τ = (tyRef (named 0) mut coreName)} {b = l1} {o = 0} {v = (vptr b o)} refl) (stop !)))) (from ! (stop !)) (init ! 4 {τ = (tyRef erased mut coreName)} {b = l13} {o = 0} {v = (vptr b o)} refl (tt, tt)) $
+          land ! (from ! (stop !)) (init ! 12 {τ = (tyInt w64)} {b = l11} {o = 0} {v = v₁} refl (uint-lawful 𝓤 H A W w64 .typed a (v₁ ∷ []) (e₁ .1) .0)) $
+          rewrite ! 12 (λ (u : Val). ‵ (fat fullShare (tyInt w64) l11 0 u)) (ap only (uint-tells w64 a _ (e₁ .1))) refl $
+          assigns ! (addr ! (from ! (hop ! (look ! 32 {q = fullShare} {τ = (tyRef (named 0) mut coreName)} {b = l1} {o = 0} {v = (vptr b o)} refl) (stop !)))) (from ! (stop !)) (init ! 4 {τ = (tyRef erased mut coreName)} {b = l15} {o = 0} {v = (vptr b o)} refl (tt, tt)) $
           move ! (2 ∷ []) $ use1 W (‵ Mem ⊛ ‵ Mem) (shr-slice-copy 𝓤 H A W (named 1) κ₁ u8 .twice m ((sliceVal (m .ptr) (length (m .now))) ∷ [])) $ split ! $
           move ! (1 ∷ 4 ∷ []) $ join ! $ move ! (2 ∷ 3 ∷ 0 ∷ []) $
           use3 W (later (some (λ (ν : ℕ). some (λ (δ : GName). raw (To-step 𝓤 H A at-mem run .pre (to-step ν δ (core-at (i .0)) a)) ⊛ ‵ (LentAgain T.the-row κ (ν ∷ []) q γ b o δ (core-at (i .0))))))) (open-step (core-at (i .0)) a gb (subst (Is u64 a) (uint-tells w64 a _ (e₁ .1)) (e₁ .1)) gk) $ await ! tt $ pick ! (λ ν. pick ! (λ δ. split ! $
           -- [the call's pre; the loan; memory; the locals]
-          calls-at ! fm (To-step 𝓤 H A at-mem run) known-step (to-step ν δ (core-at (i .0)) a) (and-then ! (load ! (from ! (stop !)) (look ! 3 {q = fullShare} {τ = (tyRef erased mut coreName)} {b = l13} {o = 0} {v = (vptr b o)} refl)) (and-then ! (load ! (from ! (stop !)) (look ! 25 {q = fullShare} {τ = (tyInt w64)} {b = l2} {o = 0} {v = (vint w64 base)} refl)) (and-then ! (load ! (from ! (stop !)) (look ! 23 {q = fullShare} {τ = (lone (ShrSlice (named 1) [] u8 .mir))} {b = l3} {o = 0} {v = (sliceVal (m .ptr) (length (m .now)))} refl)) (and-then ! (load ! (from ! (stop !)) (look ! 9 {q = fullShare} {τ = (tyInt w64)} {b = l10} {o = 0} {v = (vint w64 a)} refl)) (and-then ! (load ! (from ! (stop !)) (look ! 15 {q = fullShare} {τ = KI′.mir} {b = l7} {o = 0} {v = (EL.val KI.the-type KI′.the-laws kind)} refl)) (no-more !)))))) (λ v₂.
+          calls-at ! fm (To-step 𝓤 H A at-mem run) known-step (to-step ν δ (core-at (i .0)) a) (and-then ! (load ! (from ! (stop !)) (look ! 3 {q = fullShare} {τ = (tyRef erased mut coreName)} {b = l15} {o = 0} {v = (vptr b o)} refl)) (and-then ! (load ! (from ! (stop !)) (look ! 29 {q = fullShare} {τ = (tyInt w64)} {b = l2} {o = 0} {v = (vint w64 base)} refl)) (and-then ! (load ! (from ! (stop !)) (look ! 27 {q = fullShare} {τ = (lone (ShrSlice (named 1) [] u8 .mir))} {b = l3} {o = 0} {v = (sliceVal (m .ptr) (length (m .now)))} refl)) (and-then ! (load ! (from ! (stop !)) (look ! 11 {q = fullShare} {τ = (tyInt w64)} {b = l11} {o = 0} {v = (vint w64 a)} refl)) (and-then ! (load ! (from ! (stop !)) (look ! 19 {q = fullShare} {τ = KI′.mir} {b = l7} {o = 0} {v = (EL.val KI.the-type KI′.the-laws kind)} refl)) (no-more !)))))) (λ v₂.
           use2 W (later (some (λ (r : Reply). some (λ (y : Core). (‵ (Own y) ⊛ (‵ (flft κ q) ⊛ (‵ (flft κ₁ q₁) ⊛ ‵ ftrue))) ⊛ raw (fact 𝓤 (said-step (core-at (i .0)) a r y v₂)))))) (close-step ν δ (core-at (i .0)) a v₂) $ await ! tt $ pick ! (λ r. pick ! (λ y.
           split ! $ move ! (1 ∷ []) $ heard ! (said-step (core-at (i .0)) a r y v₂) (λ e₂. split ! $ move ! (1 ∷ []) $ split ! $
           -- [the token; that of memory; the reference; memory; the locals]
-          land ! (from ! (stop !)) (init ! 8 {τ = Y′.mir} {b = l11} {o = 0} {v = v₂} refl (EL.lawful Y.the-type Y′.the-laws 𝓤 H A W tt .typed r (v₂ ∷ []) (e₂ .1) .0)) $
-          rewrite ! 8 (λ (u : Val). ‵ (fat fullShare Y′.mir l11 0 u)) (ap only (EL.tells Y.the-type Y′.the-laws r _ (e₂ .1))) refl $
-          use0 W (raw (To-add 𝓤 H A at-mem run .pre (to-add (sum-at (i .0)) r))) (open-add (sum-at (i .0)) r (refl, sum-fits c base (m .now) even odd kind (i .0)) (subst (Is Y.the-row r) (EL.tells Y.the-type Y′.the-laws r _ (e₂ .1)) (e₂ .1))) $
-          calls-at ! fm (To-add 𝓤 H A at-mem run) known-add (to-add (sum-at (i .0)) r) (and-then ! (load ! (from ! (stop !)) (look ! 13 {q = fullShare} {τ = (tyInt w64)} {b = l9} {o = 0} {v = (vint w64 (sum-at (i .0)))} refl)) (and-then ! (load ! (from ! (stop !)) (look ! 9 {q = fullShare} {τ = Y′.mir} {b = l11} {o = 0} {v = (EL.val Y.the-type Y′.the-laws r)} refl)) (no-more !))) (λ v₃.
+          land ! (from ! (stop !)) (init ! 10 {τ = Y′.mir} {b = l12} {o = 0} {v = v₂} refl (EL.lawful Y.the-type Y′.the-laws 𝓤 H A W tt .typed r (v₂ ∷ []) (e₂ .1) .0)) $
+          rewrite ! 10 (λ (u : Val). ‵ (fat fullShare Y′.mir l12 0 u)) (ap only (EL.tells Y.the-type Y′.the-laws r _ (e₂ .1))) refl $
+          use0 W (raw (To-add 𝓤 H A at-mem run .pre (to-add (sum-at (i .0)) r))) (open-add (sum-at (i .0)) r (refl, sum-fits first base (m .now) even odd kind (i .0)) (subst (Is Y.the-row r) (EL.tells Y.the-type Y′.the-laws r _ (e₂ .1)) (e₂ .1))) $
+          calls-at ! fm (To-add 𝓤 H A at-mem run) known-add (to-add (sum-at (i .0)) r) (and-then ! (load ! (from ! (stop !)) (look ! 15 {q = fullShare} {τ = (tyInt w64)} {b = l10} {o = 0} {v = (vint w64 (sum-at (i .0)))} refl)) (and-then ! (load ! (from ! (stop !)) (look ! 11 {q = fullShare} {τ = Y′.mir} {b = l12} {o = 0} {v = (EL.val Y.the-type Y′.the-laws r)} refl)) (no-more !))) (λ v₃.
           use1 W (later (some (λ (s : ℕ). ‵ ftrue ⊛ raw (fact 𝓤 (said-add (sum-at (i .0)) r s v₃))))) (close-add (sum-at (i .0)) r v₃) $ await ! tt $ pick ! (λ s.
           split ! $ move ! (1 ∷ []) $ heard ! (said-add (sum-at (i .0)) r s v₃) (λ e₃. drop ! $
-          land ! (from ! (stop !)) (store ! 12 {τ = (tyInt w64)} {b = l9} {o = 0} {v = v₃} refl (uint-lawful 𝓤 H A W w64 .typed s (v₃ ∷ []) (e₃ .1) .0)) $
-          rewrite ! 12 (λ (u : Val). ‵ (fat fullShare (tyInt w64) l9 0 u)) (ap only (uint-tells w64 s _ (e₃ .1))) refl $
-          assigns-last ! (bin ! (load ! (from ! (stop !)) (look ! 14 {q = fullShare} {τ = (tyInt w64)} {b = l8} {o = 0} {v = (vint w64 (i .0))} refl)) (lit ! tt) (record { fits = fits (next less) })) (from ! (stop !)) (store ! 14 refl (tt, record { fits = fits (next less) })) $
-          forget ! 4 refl $ forget ! 6 refl $ forget ! 8 refl $ forget ! 10 refl $
-          rewrite ! 2 (λ (d : Core). ‵ (Own d)) (core-next c base (m .now) even odd kind (i .0) a (e₁ .0) y (e₂ .0 .1)) refl $
-          rewrite ! 12 (λ (u : ℕ). ‵ (fat fullShare (tyInt w64) l9 0 (vint w64 u))) (sum-next c base (m .now) even odd kind (i .0) a (e₁ .0) r (e₂ .0 .0) s (e₃ .0)) refl $
-          keep ! (2 ∷ 0 ∷ 3 ∷ 1 ∷ 4 ∷ 5 ∷ 6 ∷ 7 ∷ 8 ∷ 9 ∷ 10 ∷ 11 ∷ 12 ∷ 13 ∷ 14 ∷ 15 ∷ 16 ∷ 17 ∷ 18 ∷ 19 ∷ 20 ∷ 21 ∷ 22 ∷ 23 ∷ 24 ∷ 25 ∷ 26 ∷ 27 ∷ 28 ∷ 29 ∷ 30 ∷ 31 ∷ []) $ again ! Nearer At i (next less) (add-one-dec n (i .0) (ltb→lt (i .0) n less)))))))))))))))
-          (λ over. exec ! C Λ En steps-of.t-4 (atRet En Post) $
-          assigns ! (of-opd ! (load ! (from ! (stop !)) (look ! 12 {q = fullShare} {τ = (tyInt w64)} {b = l9} {o = 0} {v = (vint w64 (sum-at (i .0)))} refl))) (from ! (stop !)) (init ! 30 {τ = (tyInt w64)} {b = l0} {o = 0} {v = (vint w64 (sum-at (i .0)))} refl (tt, record { fits = sum-fits c base (m .now) even odd kind (i .0) })) $
-          returns ! (look ! 30 {q = fullShare} {τ = (tyInt w64)} {b = l0} {o = 0} {v = (vint w64 (sum-at (i .0)))} refl) $ forget ! 6 refl $ forget ! 12 refl $ forget ! 14 refl $ forget ! 16 refl $ forget ! 18 refl $ forget ! 20 refl $ forget ! 22 refl $ forget ! 24 refl $ forget ! 26 refl $ forget ! 28 refl $ forget ! 30 refl $
-          move ! (30 ∷ 31 ∷ []) $ free1 ! $ move ! (28 ∷ 29 ∷ []) $ free1 ! $ move ! (26 ∷ 27 ∷ []) $ free1 ! $ move ! (24 ∷ 25 ∷ []) $ free1 ! $ move ! (22 ∷ 23 ∷ []) $ free1 ! $ move ! (20 ∷ 21 ∷ []) $ free1 ! $ move ! (18 ∷ 19 ∷ []) $ free1 ! $ move ! (16 ∷ 17 ∷ []) $ free1 ! $ move ! (14 ∷ 15 ∷ []) $ free1 ! $ move ! (12 ∷ 13 ∷ []) $ free1 ! $ move ! (10 ∷ 11 ∷ []) $ free1 ! $ move ! (8 ∷ 9 ∷ []) $ free1 ! $ move ! (6 ∷ 7 ∷ []) $ free1 ! $ move ! (4 ∷ 5 ∷ []) $ free1 ! $ free0 ! $
-          keep ! (0 ∷ 1 ∷ 3 ∷ []) $ by ! (exits (core-at (i .0)) (sum-at (i .0)) (ap sum-at (ends over), ap core-at (ends over)) (refl, sum-fits c base (m .now) even odd kind (i .0))))
+          land ! (from ! (stop !)) (store ! 14 {τ = (tyInt w64)} {b = l10} {o = 0} {v = v₃} refl (uint-lawful 𝓤 H A W w64 .typed s (v₃ ∷ []) (e₃ .1) .0)) $
+          rewrite ! 14 (λ (u : Val). ‵ (fat fullShare (tyInt w64) l10 0 u)) (ap only (uint-tells w64 s _ (e₃ .1))) refl $
+          assigns-last ! (bin ! (load ! (from ! (stop !)) (look ! 16 {q = fullShare} {τ = (tyInt w64)} {b = l9} {o = 0} {v = (vint w64 (i .0))} refl)) (lit ! tt) (record { fits = fits (next less) })) (from ! (stop !)) (store ! 16 refl (tt, record { fits = fits (next less) })) $
+          forget ! 4 refl $ forget ! 6 refl $ forget ! 10 refl $ forget ! 12 refl $
+          rewrite ! 2 (λ (d : Core). ‵ (Own d)) (core-next first base (m .now) even odd kind (i .0) a (e₁ .0) y (e₂ .0 .1)) refl $
+          rewrite ! 14 (λ (u : ℕ). ‵ (fat fullShare (tyInt w64) l10 0 (vint w64 u))) (sum-next first base (m .now) even odd kind (i .0) a (e₁ .0) r (e₂ .0 .0) s (e₃ .0)) refl $
+          keep ! (2 ∷ 0 ∷ 3 ∷ 1 ∷ 4 ∷ 5 ∷ 6 ∷ 7 ∷ 8 ∷ 9 ∷ 10 ∷ 11 ∷ 12 ∷ 13 ∷ 14 ∷ 15 ∷ 16 ∷ 17 ∷ 18 ∷ 19 ∷ 20 ∷ 21 ∷ 22 ∷ 23 ∷ 24 ∷ 25 ∷ 26 ∷ 27 ∷ 28 ∷ 29 ∷ 30 ∷ 31 ∷ 32 ∷ 33 ∷ 34 ∷ 35 ∷ []) $ again ! Nearer At i (next less) (add-one-dec n (i .0) (ltb→lt (i .0) n less)))))))))))))))
+          (λ over. exec ! C Λ En steps-of.t-6 (atRet En Post) $
+          assigns ! (of-opd ! (load ! (from ! (stop !)) (look ! 14 {q = fullShare} {τ = (tyInt w64)} {b = l10} {o = 0} {v = (vint w64 (sum-at (i .0)))} refl))) (from ! (stop !)) (init ! 34 {τ = (tyInt w64)} {b = l0} {o = 0} {v = (vint w64 (sum-at (i .0)))} refl (tt, record { fits = sum-fits first base (m .now) even odd kind (i .0) })) $
+          returns ! (look ! 34 {q = fullShare} {τ = (tyInt w64)} {b = l0} {o = 0} {v = (vint w64 (sum-at (i .0)))} refl) $ forget ! 6 refl $ forget ! 14 refl $ forget ! 16 refl $ forget ! 20 refl $ forget ! 22 refl $ forget ! 24 refl $ forget ! 26 refl $ forget ! 28 refl $ forget ! 30 refl $ forget ! 32 refl $ forget ! 34 refl $
+          move ! (34 ∷ 35 ∷ []) $ free1 ! $ move ! (32 ∷ 33 ∷ []) $ free1 ! $ move ! (30 ∷ 31 ∷ []) $ free1 ! $ move ! (28 ∷ 29 ∷ []) $ free1 ! $ move ! (26 ∷ 27 ∷ []) $ free1 ! $ move ! (24 ∷ 25 ∷ []) $ free1 ! $ move ! (22 ∷ 23 ∷ []) $ free1 ! $ move ! (20 ∷ 21 ∷ []) $ free1 ! $ move ! (18 ∷ 19 ∷ []) $ free1 ! $ move ! (16 ∷ 17 ∷ []) $ free1 ! $ move ! (14 ∷ 15 ∷ []) $ free1 ! $ move ! (12 ∷ 13 ∷ []) $ free1 ! $ move ! (10 ∷ 11 ∷ []) $ free1 ! $ move ! (8 ∷ 9 ∷ []) $ free1 ! $ move ! (6 ∷ 7 ∷ []) $ free1 ! $ move ! (4 ∷ 5 ∷ []) $ free1 ! $ free0 ! $
+          keep ! (0 ∷ 1 ∷ 3 ∷ []) $ by ! (exits (core-at (i .0)) (sum-at (i .0)) (ap sum-at (ends over), ap core-at (ends over)) (refl, sum-fits first base (m .now) even odd kind (i .0))))
         where
           next : T (ltb (i .0) n) → Upto
           next less = (i .0 + 1, add-one-le (ltb→lt (i .0) n less))
@@ -301,11 +304,24 @@ module _ {M : Type 1} (𝓤 : URA M) (H : Heap 𝓤) (A : Atoms 𝓤) (W : Given
         split ! $ move ! (2 ∷ []) $ fsplit ! $ move ! (1 ∷ []) $ fsplit ! $ drop ! $ fsplit ! $
         -- [what memory owns; what the others own; the reference; its token; that of memory]
         enter ! C Λ fn (vptr b o ∷ (vint w64 base) ∷ (sliceVal (m .ptr) (length (m .now))) ∷ (vint w64 n) ∷ (vint w64 even) ∷ (vint w64 odd) ∷ (EL.val KI.the-type KI′.the-laws kind) ∷ []) _ $
-        alloc1 ! (λ l0. alloc1 ! (λ l1. alloc1 ! (λ l2. alloc1 ! (λ l3. alloc1 ! (λ l4. alloc1 ! (λ l5. alloc1 ! (λ l6. alloc1 ! (λ l7. alloc1 ! (λ l8. alloc1 ! (λ l9. alloc1 ! (λ l10. alloc1 ! (λ l11. alloc1 ! (λ l12. alloc1 ! (λ l13. alloc0 ! $ params1 ! $
-        pass1 ! (init ! 24 {τ = (tyRef (named 0) mut coreName)} {b = l1} {o = 0} {v = (vptr b o)} refl (tt, tt)) $ pass1 ! (init ! 22 {τ = (tyInt w64)} {b = l2} {o = 0} {v = (vint w64 base)} refl (tt, record { fits = gb .1 })) $ pass1 ! (init ! 20 {τ = (lone (ShrSlice (named 1) [] u8 .mir))} {b = l3} {o = 0} {v = (sliceVal (m .ptr) (length (m .now)))} refl (shr-slice-lawful 𝓤 H A W (named 1) κ₁ u8 .typed m _ gm .0)) $ pass1 ! (init ! 18 {τ = (tyInt w64)} {b = l4} {o = 0} {v = (vint w64 n)} refl (tt, record { fits = gn .1 })) $ pass1 ! (init ! 16 {τ = (tyInt w64)} {b = l5} {o = 0} {v = (vint w64 even)} refl (tt, record { fits = ge .1 })) $ pass1 ! (init ! 14 {τ = (tyInt w64)} {b = l6} {o = 0} {v = (vint w64 odd)} refl (tt, record { fits = go .1 })) $ pass1 ! (init ! 12 {τ = KI′.mir} {b = l7} {o = 0} {v = (EL.val KI.the-type KI′.the-laws kind)} refl (EL.lawful KI.the-type KI′.the-laws 𝓤 H A W tt .typed kind _ gk .0)) $ pass0 ! $
-        assigns ! (of-opd ! (lit ! tt)) (from ! (stop !)) (init ! 10 refl (tt, record { fits = lit< tt })) $
-        assigns ! (of-opd ! (lit ! tt)) (from ! (stop !)) (init ! 8 refl (tt, record { fits = lit< tt })) $
-        keep ! (30 ∷ 31 ∷ 28 ∷ 32 ∷ 0 ∷ 1 ∷ 2 ∷ 3 ∷ 4 ∷ 5 ∷ 6 ∷ 7 ∷ 8 ∷ 9 ∷ 10 ∷ 11 ∷ 12 ∷ 13 ∷ 14 ∷ 15 ∷ 16 ∷ 17 ∷ 18 ∷ 19 ∷ 20 ∷ 21 ∷ 22 ∷ 23 ∷ 24 ∷ 25 ∷ 26 ∷ 27 ∷ []) $ first ! $ blocks ! $ loops ! 𝓣 Nearer Nearer-wf (At l0 l1 l2 l3 l4 l5 l6 l7 l8 l9 l10 l11 l12 l13) (turns l0 l1 l2 l3 l4 l5 l6 l7 l8 l9 l10 l11 l12 l13) (0, zero-le)))))))))))))))
+        alloc1 ! (λ l0. alloc1 ! (λ l1. alloc1 ! (λ l2. alloc1 ! (λ l3. alloc1 ! (λ l4. alloc1 ! (λ l5. alloc1 ! (λ l6. alloc1 ! (λ l7. alloc1 ! (λ l8. alloc1 ! (λ l9. alloc1 ! (λ l10. alloc1 ! (λ l11. alloc1 ! (λ l12. alloc1 ! (λ l13. alloc1 ! (λ l14. alloc1 ! (λ l15. alloc0 ! $ params1 ! $
+        pass1 ! (init ! 28 {τ = (tyRef (named 0) mut coreName)} {b = l1} {o = 0} {v = (vptr b o)} refl (tt, tt)) $ pass1 ! (init ! 26 {τ = (tyInt w64)} {b = l2} {o = 0} {v = (vint w64 base)} refl (tt, record { fits = gb .1 })) $ pass1 ! (init ! 24 {τ = (lone (ShrSlice (named 1) [] u8 .mir))} {b = l3} {o = 0} {v = (sliceVal (m .ptr) (length (m .now)))} refl (shr-slice-lawful 𝓤 H A W (named 1) κ₁ u8 .typed m _ gm .0)) $ pass1 ! (init ! 22 {τ = (tyInt w64)} {b = l4} {o = 0} {v = (vint w64 n)} refl (tt, record { fits = gn .1 })) $ pass1 ! (init ! 20 {τ = (tyInt w64)} {b = l5} {o = 0} {v = (vint w64 even)} refl (tt, record { fits = ge .1 })) $ pass1 ! (init ! 18 {τ = (tyInt w64)} {b = l6} {o = 0} {v = (vint w64 odd)} refl (tt, record { fits = go .1 })) $ pass1 ! (init ! 16 {τ = KI′.mir} {b = l7} {o = 0} {v = (EL.val KI.the-type KI′.the-laws kind)} refl (EL.lawful KI.the-type KI′.the-laws 𝓤 H A W tt .typed kind _ gk .0)) $ pass0 ! $
+        -- the first translation. [the reference; its token; memory; its token; the locals]
+        keep ! (34 ∷ 35 ∷ 32 ∷ 36 ∷ 0 ∷ 1 ∷ 2 ∷ 3 ∷ 4 ∷ 5 ∷ 6 ∷ 7 ∷ 8 ∷ 9 ∷ 10 ∷ 11 ∷ 12 ∷ 13 ∷ 14 ∷ 15 ∷ 16 ∷ 17 ∷ 18 ∷ 19 ∷ 20 ∷ 21 ∷ 22 ∷ 23 ∷ 24 ∷ 25 ∷ 26 ∷ 27 ∷ 28 ∷ 29 ∷ 30 ∷ 31 ∷ []) $
+        assigns ! (addr ! (from ! (hop ! (look ! 32 {q = fullShare} {τ = (tyRef (named 0) mut coreName)} {b = l1} {o = 0} {v = (vptr b o)} refl) (stop !)))) (from ! (stop !)) (init ! 8 {τ = (tyRef erased mut coreName)} {b = l13} {o = 0} {v = (vptr b o)} refl (tt, tt)) $
+        move ! (2 ∷ []) $ use1 W (‵ Mem ⊛ ‵ Mem) (shr-slice-copy 𝓤 H A W (named 1) κ₁ u8 .twice m ((sliceVal (m .ptr) (length (m .now))) ∷ [])) $ split ! $
+        move ! (1 ∷ 4 ∷ []) $ join ! $ move ! (2 ∷ 3 ∷ 0 ∷ []) $
+        use3 W (later (some (λ (ν : ℕ). some (λ (δ : GName). raw (To-step 𝓤 H A at-mem run .pre (to-step ν δ c even)) ⊛ ‵ (LentAgain T.the-row κ (ν ∷ []) q γ b o δ c))))) (open-step c even gb ge gk) $ await ! tt $ pick ! (λ ν. pick ! (λ δ. split ! $
+        calls-at ! fm (To-step 𝓤 H A at-mem run) known-step (to-step ν δ c even) (and-then ! (load ! (from ! (stop !)) (look ! 7 {q = fullShare} {τ = (tyRef erased mut coreName)} {b = l13} {o = 0} {v = (vptr b o)} refl)) (and-then ! (load ! (from ! (stop !)) (look ! 29 {q = fullShare} {τ = (tyInt w64)} {b = l2} {o = 0} {v = (vint w64 base)} refl)) (and-then ! (load ! (from ! (stop !)) (look ! 27 {q = fullShare} {τ = (lone (ShrSlice (named 1) [] u8 .mir))} {b = l3} {o = 0} {v = (sliceVal (m .ptr) (length (m .now)))} refl)) (and-then ! (load ! (from ! (stop !)) (look ! 23 {q = fullShare} {τ = (tyInt w64)} {b = l5} {o = 0} {v = (vint w64 even)} refl)) (and-then ! (load ! (from ! (stop !)) (look ! 19 {q = fullShare} {τ = KI′.mir} {b = l7} {o = 0} {v = (EL.val KI.the-type KI′.the-laws kind)} refl)) (no-more !)))))) (λ v.
+        use2 W (later (some (λ (r : Reply). some (λ (y : Core). (‵ (Own y) ⊛ (‵ (flft κ q) ⊛ (‵ (flft κ₁ q₁) ⊛ ‵ ftrue))) ⊛ raw (fact 𝓤 (said-step c even r y v)))))) (close-step ν δ c even v) $ await ! tt $ pick ! (λ r. pick ! (λ y.
+        split ! $ move ! (1 ∷ []) $ heard ! (said-step c even r y v) (λ e. split ! $ move ! (1 ∷ []) $ split ! $
+        land ! (from ! (stop !)) (init ! 18 {τ = Y′.mir} {b = l8} {o = 0} {v = v} refl (EL.lawful Y.the-type Y′.the-laws 𝓤 H A W tt .typed r (v ∷ []) (e .1) .0)) $
+        rewrite ! 2 (λ (d : Core). ‵ (Own d)) (e .0 .1) refl $
+        -- the loop
+        assigns ! (of-opd ! (lit ! tt)) (from ! (stop !)) (init ! 16 refl (tt, record { fits = lit< tt })) $
+        assigns ! (of-opd ! (lit ! tt)) (from ! (stop !)) (init ! 14 refl (tt, record { fits = lit< tt })) $
+        forget ! 18 refl $ forget ! 8 refl $
+        keep ! (2 ∷ 0 ∷ 3 ∷ 1 ∷ 4 ∷ 5 ∷ 6 ∷ 7 ∷ 8 ∷ 9 ∷ 10 ∷ 11 ∷ 12 ∷ 13 ∷ 14 ∷ 15 ∷ 16 ∷ 17 ∷ 18 ∷ 19 ∷ 20 ∷ 21 ∷ 22 ∷ 23 ∷ 24 ∷ 25 ∷ 26 ∷ 27 ∷ 28 ∷ 29 ∷ 30 ∷ 31 ∷ 32 ∷ 33 ∷ 34 ∷ 35 ∷ []) $ first′ ! $ blocks ! $ loops ! 𝓣 Nearer Nearer-wf (At l0 l1 l2 l3 l4 l5 l6 l7 l8 l9 l10 l11 l12 l13 l14 l15) (turns l0 l1 l2 l3 l4 l5 l6 l7 l8 l9 l10 l11 l12 l13 l14 l15) (0, zero-le)))))))))))))))))))))))
 
     walk : ent 𝓤 (onEntry 𝓤 H A f.signature (κ, (κ₁, tt)) (q, (q₁, tt)) x₀ at) (WpFn 𝓤 H C Λ code.function (vptr b o ∷ (vint w64 base) ∷ (sliceVal (m .ptr) (length (m .now))) ∷ (vint w64 n) ∷ (vint w64 even) ∷ (vint w64 odd) ∷ (EL.val KI.the-type KI′.the-laws kind) ∷ []) Post)
     walk = subst (λ (ls : List Local). ent 𝓤 (onEntry 𝓤 H A f.signature (κ, (κ₁, tt)) (q, (q₁, tt)) x₀ at) (WpFn 𝓤 H C Λ (with-locals ls) (vptr b o ∷ (vint w64 base) ∷ (sliceVal (m .ptr) (length (m .now))) ∷ (vint w64 n) ∷ (vint w64 even) ∷ (vint w64 odd) ∷ (EL.val KI.the-type KI′.the-laws kind) ∷ []) Post)) (sym locals-are) steps

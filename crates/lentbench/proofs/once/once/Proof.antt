@@ -49,7 +49,7 @@ use Rattle.mmu.proofs.core.Core as T
 use Rattle.mmu.proofs.core.Core.Laws as T′
 use Rattle.tlb.proofs.access.Kind as K
 use Rattle.tlb.proofs.access.Kind.Laws as K′
-use Rattle.lentbench.specs.Many.{coreAfter, sumAfter}
+use Rattle.lentbench.specs.Many.{warmed, coreAfter, sumAfter}
 use Rattle.lentbench.proofs.many.many as callee
 use Rattle.lentbench.proofs.many.many.Symbol as callee-def
 use Rattle.lentbench.proofs.many.many.Symbol.{name as #lentbench·many·many}
@@ -91,7 +91,7 @@ module _ {M : Type 1} (𝓤 : URA M) (H : Heap 𝓤) (A : Atoms 𝓤) (W : Given
 
   -- what the callee ensures of its result and of the core's last value
   abbrev Said : ℕ → Core → Type 0
-  Said r y = (r ≡ sumAfter c base (ram .now) even odd kind n) × (y ≡ coreAfter c base (ram .now) even odd kind n)
+  Said r y = (r ≡ sumAfter (warmed c base (ram .now) even kind) base (ram .now) even odd kind n) × (y ≡ coreAfter (warmed c base (ram .now) even kind) base (ram .now) even odd kind n)
 
   abbrev Post : Val → SProp 𝓤
   Post = walkOf 𝓤 H A f.ended stayed (f.clauses 𝓤 H A at-mem run) .post (((κ, tt), (q, tt), tt, (c, ps), (mach c ∷ [], pvals)), tt)
@@ -109,7 +109,7 @@ module _ {M : Type 1} (𝓤 : URA M) (H : Heap 𝓤) (A : Atoms 𝓤) (W : Given
   goes : (l ν : ℕ) (δ : GName) → ent 𝓤 (sep 𝓤 (sep 𝓤 (A .lft (ν ∷ []) fullShare) (sep 𝓤 (A .lft κ q) (sem 𝓤 H A ftrue))) (sep 𝓤 (sem 𝓤 H A (Ref l ν δ)) (sem 𝓤 H A Own))) (Callee 𝓤 H A at-mem run .pre (to l ν δ))
   goes l ν δ = qed W ((‵ (flft (ν ∷ []) fullShare) ⊛ ‵ (flft κ q) ⊛ ‵ ftrue) ∷ ‵ (Ref l ν δ) ∷ ‵ Own ∷ []) ∵ move ! (1 ∷ 2 ∷ []) $ fjoin ! $ move ! (1 ∷ 0 ∷ []) $ join ! $ frame ! $ done !
 
-  exits : Is T.the-row c (mach c ∷ []) → (r : ℕ) → r ≡ sumAfter c base (ram .now) even odd kind n → Is u64 r (vint w64 r ∷ []) → ent 𝓤 (⋆ 𝓤 H A ((‵ (flft κ q) ⊛ ‵ ftrue) ∷ ‵ Own ∷ [])) (Post (vint w64 r))
+  exits : Is T.the-row c (mach c ∷ []) → (r : ℕ) → r ≡ sumAfter (warmed c base (ram .now) even kind) base (ram .now) even odd kind n → Is u64 r (vint w64 r ∷ []) → ent 𝓤 (⋆ 𝓤 H A ((‵ (flft κ q) ⊛ ‵ ftrue) ∷ ‵ Own ∷ [])) (Post (vint w64 r))
   exits g r e is =
       qed W ((‵ (flft κ q) ⊛ ‵ ftrue) ∷ ‵ Own ∷ []) ∵
       suffices ! _ (ends-at 𝓤 H A f.ended stayed (f.clauses 𝓤 H A at-mem run) W (((κ, tt), (q, tt), tt, (c, ps), (mach c ∷ [], pvals)), tt) (vint w64 r) r (tt, (tt, (tt, (tt, (tt, (tt, (tt, tt))))))) (tt, (tt, (tt, (tt, (tt, (tt, (tt, tt)))))))) $ says ! e $
