@@ -4,8 +4,8 @@ use crate::ffi::{Words, COUNT};
 use crate::Ram;
 
 extern "C" {
-    /// A fresh core with these SCTLR_EL1, TCR_EL1, TTBR0_EL1 and level translates the two addresses in turn, `n` times;
-    /// the sum of [`super::repeat`] over the answers.
+    /// A fresh core with these SCTLR_EL1, TCR_EL1, TTBR0_EL1 and level translates the first address, and then the two in
+    /// turn, `n` times: the sum of [`super::repeat`] over the answers of these.
     fn a72_lent_translate(
         n: u64,
         vas: *const [u64; 2],
