@@ -1,7 +1,8 @@
 -- The work on small values put together from its parts, on plain values, for `search`.
 use mathlib.Core.Path.{_≡_, refl}
 use mathlib.Core.Bool.{Bool, true, false, _&&_}
-use Prim.Native.Nat.{ℕ, zero, suc, _≤_, _<_}
+use Prim.Native.Nat.{ℕ, zero, suc, _+_, _-_, _^_, _≤_, _<_}
+use native.Mathlib.Omega.{arith}
 use borrow.Author.Tests.{lt-ltb, le-ltb}
 use mathlib.Core.List.{List}
 use lib.Dec.{eqb}
@@ -59,6 +60,10 @@ module _ (level base len : ℕ) where
   pub misses1 : 3 < level → 1 ≡ missedOf level base len (plainOf true)
   unfolding missedOf
   misses1 h = rw (lt-ltb 3 level h)
+
+  pub misses-glance : level ≤ 3 → len < 2 ^ 64 → base ≤ 0xFFFF_FFFF_FFFF_FFFF - len → 0 ≡ missedOf level base len (plainOf true)
+  unfolding missedOf registerAt
+  misses-glance h l b = let ends : base + len ≤ 2 ^ 64 = omega arith in rw (le-ltb 3 level h, le-ltb (2 ^ 64) (base + len) ends)
 
   module _ (past : Bool) (ep : past ≡ passes base len) (h : level ≤ 3) where
     pub misses2 : past ≡ true → 2 ≡ missedOf level base len (plainOf true)

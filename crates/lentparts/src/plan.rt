@@ -75,6 +75,12 @@ pub fn key_of(control: Control, who: Who, va: u64, kind: Kind) -> Key
 pub fn missed(level: u8, base: u64, len: u64) -> u8
     ensures { λ r. ⌜ r ≡ missedOf level base len (plainOf true) ⌝ }
 {
+    // At a glance: nearly every window ends before the last address.
+    if level <= 3 {
+        if base <= 0xFFFF_FFFF_FFFF_FFFF - len {
+            return 0;
+        }
+    }
     let past = check::past_end(base, len);
     if 3 < level {
         return 1;
