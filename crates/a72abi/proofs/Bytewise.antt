@@ -19,6 +19,7 @@ use Rattle.walk.specs.Regime.{regimeOf, stage1On}
 use Rattle.tlb.specs.declared.access.Kind.{Kind}
 use Rattle.tlb.specs.declared.access.Kind.the-variants.{Read, Write}
 use Rattle.tlb.specs.declared.access.Answer.the-variants.{Address}
+use Rattle.tlb.specs.declared.access.Who.{Who}
 use Rattle.tlb.specs.declared.hint.Physical.{Physical}
 use Rattle.tlb.specs.declared.hint.Physical.the-variants.{At, Unknown}
 use Rattle.mmu.specs.Core.{movedTo, bankNow}
@@ -54,8 +55,8 @@ use Rattle.inplace.specs.Found.{answering, hintFound}
 use Rattle.inplace.specs.FoundLaws.{hint-serves}
 use Rattle.inplace.proofs.Accessing.{one-is, load-parts, store-parts}
 use Rattle.a72abi.specs.Replies.{codeBy, valueBy}
-use Rattle.a72abi.specs.Quick.{quickOf, sizedIn, sizedAt, madeIn, sizedMade, ramIn, sizedRam}
-use Rattle.a72abi.proofs.Glancing.{Clear, glance, clear-sized, passed, passed-ram}
+use Rattle.a72abi.specs.Quick.{Clear, quickOf, sizedIn, sizedAt, madeIn, sizedMade, ramIn, sizedRam}
+use Rattle.a72abi.proofs.Glancing.{glance, quick-found, clear-sized, passed, passed-ram}
 
 -- SIZES
 
@@ -72,7 +73,7 @@ unfolding is-width
 no-width w e = subst is-width (sym e) tt
 
 -- a width has as many bytes as its size says
-size-is : (size : ℕ) (w : Width) → widthOf size ≡ Bytes w → bytesIn w ≡ size
+pub size-is : (size : ℕ) (w : Width) → widthOf size ≡ Bytes w → bytesIn w ≡ size
 unfolding countOf
 size-is size w e = sym (ap countOf e) ∙ go (eqb size 1) refl (eqb size 2) refl (eqb size 4) refl (eqb size 8) refl
   where
@@ -153,7 +154,7 @@ module _ (base : ℕ) (ram : List ℕ) (pa : ℕ) where
 
 -- ONE PAGE, BY THE HINT
 
-and-false : (x : Bool) → x && false ≡ false
+pub and-false : (x : Bool) → x && false ≡ false
 and-false true = refl
 and-false false = refl
 
@@ -174,7 +175,7 @@ module _ (c : Core) (base : ℕ) (ram : List ℕ) (va n pa : ℕ) (kind : Kind) 
       one-is c (wordAt base ram 8) va n kind one-page
       ∙ ap (λ (t : Translated). record { core = t .core; placed = placedOne va (t .answer) }) serves
 
-false-true : false ≡ true → ⊥
+pub false-true : false ≡ true → ⊥
 false-true e = subst is-false e tt
   where
     is-false : Bool → Type 0
@@ -202,11 +203,11 @@ ram-ended : (base : ℕ) (ram : List ℕ) (n pa v : ℕ) → storeRamEnd (Placed
 unfolding storeRamEnd storeRam
 ram-ended base ram n pa v = refl
 
-kept-last : (c : Core) (pa v : ℕ) → keptLast c (record { «last_pa» = pa; «abort_pa» = c .«abort_pa»; answer = Load.Value v }) ≡ withLast c pa
+pub kept-last : (c : Core) (pa v : ℕ) → keptLast c (record { «last_pa» = pa; «abort_pa» = c .«abort_pa»; answer = Load.Value v }) ≡ withLast c pa
 unfolding keptLast withLast withAbort movedTo
 kept-last c pa v = refl
 
-kept-abort : (c : Core) → keptAbort c (c .«abort_pa») ≡ c
+pub kept-abort : (c : Core) → keptAbort c (c .«abort_pa») ≡ c
 unfolding keptAbort withAbort movedTo
 kept-abort c = refl
 
@@ -214,13 +215,13 @@ unstored : (base : ℕ) (ram : List ℕ) (n pa v : ℕ) → within base (length 
 unfolding stored
 unstored base ram n pa v e = rw e
 
-load-runs : (c : Core) (base : ℕ) (ram : List ℕ) (va size : ℕ) → length ram < 2 ^ 64 → Clear c base (length ram) → (w : Width) → widthOf size ≡ Bytes w
+pub load-runs : (c : Core) (base : ℕ) (ram : List ℕ) (va size : ℕ) → length ram < 2 ^ 64 → Clear c base (length ram) → (w : Width) → widthOf size ≡ Bytes w
     → stepOf c base ram (Call.Load va size) ≡ ends (readOf c base ram va (bytesIn w) .core) (loading (readOf c base ram va (bytesIn w) .answer))
 unfolding runOf askedOf
 load-runs c base ram va size h k w e =
     passed c base ram (Call.Load va size) (clear-sized c base (length ram) size h k (ap isWidth e)) ∙ ap (λ (s : Sized). loadBy s c base ram va) e
 
-store-runs : (c : Core) (base : ℕ) (ram : List ℕ) (va size v : ℕ) → length ram < 2 ^ 64 → Clear c base (length ram) → (w : Width) → widthOf size ≡ Bytes w
+pub store-runs : (c : Core) (base : ℕ) (ram : List ℕ) (va size v : ℕ) → length ram < 2 ^ 64 → Clear c base (length ram) → (w : Width) → widthOf size ≡ Bytes w
     → (stepOf c base ram (Call.Store va size v) ≡ ends (writeOf c base ram va (bytesIn w) .core) (storing (writeOf c base ram va (bytesIn w) .answer)))
     × (ramAfter c base ram (Call.Store va size v) ≡ ramAfterWrite c base ram va (bytesIn w) v)
 unfolding runOf ramOf askedOf
@@ -294,38 +295,43 @@ module _ (c : Core) (base : ℕ) (ram : List ℕ) (va pa v : ℕ) where
         go NoWidth e = absurd (false-true (sym (ap (λ (s : Sized). madeIn s base ram pa) e) ∙ b))
 
 -- as the code says it
-module _ (ws : List ℕ) (base : ℕ) (ram : List ℕ) (va size k len pa : ℕ) (p : Physical) (h : length ram < 2 ^ 64) (el : len ≡ length ram) (ek : k ≡ inPage va) (near : size ≤ k) (q : p ≡ At pa) where
+module _ (ws : List ℕ) (base : ℕ) (ram : List ℕ) (va size k : ℕ) (who : Who) (p : Physical) (h : length ram < 2 ^ 64) (ek : k ≡ inPage va)
+    (near : size ≤ k) (ew : who ≡ held ws .who) (lo : who .level ≤ 3) (sh : base ≤ 2 ^ 64 - 1 - length ram) where
   here-is : ltb (inPage va) size ≡ false
   here-is = ap (λ (n : ℕ). ltb n size) (sym ek) ∙ le-ltb k size near
 
-  module _ (e : p ≡ quickOf (held ws) base len va Read) (w : Word) (v : ℕ) (ew : w ≡ sizedAt base ram size pa) (eb : w ≡ Bits v) where
-    load-is : stepOf (held ws) base ram (Call.Load va size) ≡ ends (withLast (held ws) pa) (Value v)
-    load-is = load-quick (held ws) base ram va pa v size h here-is (ap (λ (n : ℕ). quickOf (held ws) base n va Read) (sym el) ∙ sym e ∙ q) (sym ew ∙ eb)
+  module _ (pa : ℕ) (q : p ≡ At pa) where
+    glance-is : (kind : Kind) → p ≡ hintFound (held ws) va kind → quickOf (held ws) base (length ram) va kind ≡ At pa
+    glance-is kind e = sym (quick-found ws base (length ram) va kind who p ew lo sh e) ∙ q
 
-    pub load-code : 0 ≡ codeBy (stepOf (held ws) base ram (Call.Load va size) .reply)
-    load-code = sym (ap (λ (s : Stepped). codeBy (s .reply)) load-is)
+    module _ (e : p ≡ hintFound (held ws) va Read) (w : Word) (v : ℕ) (ed : w ≡ sizedAt base ram size pa) (eb : w ≡ Bits v) where
+      load-is : stepOf (held ws) base ram (Call.Load va size) ≡ ends (withLast (held ws) pa) (Value v)
+      load-is = load-quick (held ws) base ram va pa v size h here-is (glance-is Read e) (sym ed ∙ eb)
 
-    pub load-value : (old : ℕ) → v ≡ valueBy (stepOf (held ws) base ram (Call.Load va size) .reply) old
-    load-value old = sym (ap (λ (s : Stepped). valueBy (s .reply) old) load-is)
+      pub load-code : 0 ≡ codeBy (stepOf (held ws) base ram (Call.Load va size) .reply)
+      load-code = sym (ap (λ (s : Stepped). codeBy (s .reply)) load-is)
 
-    pub load-core : (xs : List ℕ) → Moved ws xs (withLast (held ws) pa) → Moved ws xs (stepOf (held ws) base ram (Call.Load va size) .core)
-    load-core xs m = moved-as m (sym (ap (λ (s : Stepped). s .core) load-is))
+      pub load-value : (old : ℕ) → v ≡ valueBy (stepOf (held ws) base ram (Call.Load va size) .reply) old
+      load-value old = sym (ap (λ (s : Stepped). valueBy (s .reply) old) load-is)
 
-  module _ (e : p ≡ quickOf (held ws) base len va Write) (made : Bool) (value : ℕ) (em : made ≡ sizedMade base ram size pa) (et : made ≡ true) where
-    store-is : (stepOf (held ws) base ram (Call.Store va size value) ≡ ends (held ws) Done) × (ramAfter (held ws) base ram (Call.Store va size value) ≡ sizedRam base ram size pa value)
-    store-is = store-quick (held ws) base ram va pa value size h here-is (ap (λ (n : ℕ). quickOf (held ws) base n va Write) (sym el) ∙ sym e ∙ q) (sym em ∙ et)
+      pub load-core : (xs : List ℕ) → Moved ws xs (withLast (held ws) pa) → Moved ws xs (stepOf (held ws) base ram (Call.Load va size) .core)
+      load-core xs m = moved-as m (sym (ap (λ (s : Stepped). s .core) load-is))
 
-    pub store-code : 0 ≡ codeBy (stepOf (held ws) base ram (Call.Store va size value) .reply)
-    store-code = sym (ap (λ (s : Stepped). codeBy (s .reply)) (store-is .0))
+    module _ (e : p ≡ hintFound (held ws) va Write) (made : Bool) (value : ℕ) (em : made ≡ sizedMade base ram size pa) (et : made ≡ true) where
+      store-is : (stepOf (held ws) base ram (Call.Store va size value) ≡ ends (held ws) Done) × (ramAfter (held ws) base ram (Call.Store va size value) ≡ sizedRam base ram size pa value)
+      store-is = store-quick (held ws) base ram va pa value size h here-is (glance-is Write e) (sym em ∙ et)
 
-    pub store-value : (old : ℕ) → old ≡ valueBy (stepOf (held ws) base ram (Call.Store va size value) .reply) old
-    store-value old = sym (ap (λ (s : Stepped). valueBy (s .reply) old) (store-is .0))
+      pub store-code : 0 ≡ codeBy (stepOf (held ws) base ram (Call.Store va size value) .reply)
+      store-code = sym (ap (λ (s : Stepped). codeBy (s .reply)) (store-is .0))
 
-    pub store-ram : (ys : List ℕ) → ys ≡ sizedRam base ram size pa value → ys ≡ ramAfter (held ws) base ram (Call.Store va size value)
-    store-ram ys y = y ∙ sym (store-is .1)
+      pub store-value : (old : ℕ) → old ≡ valueBy (stepOf (held ws) base ram (Call.Store va size value) .reply) old
+      store-value old = sym (ap (λ (s : Stepped). valueBy (s .reply) old) (store-is .0))
 
-    pub store-core : Moved ws ws (stepOf (held ws) base ram (Call.Store va size value) .core)
-    store-core = moved-as stays (sym (ap (λ (s : Stepped). s .core) (store-is .0)))
+      pub store-ram : (ys : List ℕ) → ys ≡ sizedRam base ram size pa value → ys ≡ ramAfter (held ws) base ram (Call.Store va size value)
+      store-ram ys y = y ∙ sym (store-is .1)
+
+      pub store-core : Moved ws ws (stepOf (held ws) base ram (Call.Store va size value) .core)
+      store-core = moved-as stays (sym (ap (λ (s : Stepped). s .core) (store-is .0)))
 
 -- a store that was not made wrote nothing
 unmade-ram : (base : ℕ) (ram : List ℕ) (size pa v : ℕ) (made : Bool) (ys : List ℕ) → made ≡ sizedMade base ram size pa → made ≡ false → ys ≡ sizedRam base ram size pa v → ys ≡ ram
@@ -336,19 +342,35 @@ unmade-ram base ram size pa v made ys e f y = y ∙ go (widthOf size) refl
     go NoWidth q = rw q
 
 -- so the book is asked about the same RAM
+module _ (ws : List ℕ) (base : ℕ) (ram : List ℕ) (va size value : ℕ) (ys : List ℕ) (ey : ys ≡ ram) where
+  same-step : stepOf (held ws) base ys (Call.Store va size value) ≡ stepOf (held ws) base ram (Call.Store va size value)
+  same-step = ap (λ (x : List ℕ). stepOf (held ws) base x (Call.Store va size value)) ey
+
+  pub again-code : (n : ℕ) → n ≡ codeBy (stepOf (held ws) base ys (Call.Store va size value) .reply) → n ≡ codeBy (stepOf (held ws) base ram (Call.Store va size value) .reply)
+  again-code n e = e ∙ ap (λ (s : Stepped). codeBy (s .reply)) same-step
+
+  pub again-value : (v old : ℕ) → v ≡ valueBy (stepOf (held ws) base ys (Call.Store va size value) .reply) old → v ≡ valueBy (stepOf (held ws) base ram (Call.Store va size value) .reply) old
+  again-value v old e = e ∙ ap (λ (s : Stepped). valueBy (s .reply) old) same-step
+
+  pub again-ram : (zs : List ℕ) → zs ≡ ramAfter (held ws) base ys (Call.Store va size value) → zs ≡ ramAfter (held ws) base ram (Call.Store va size value)
+  again-ram zs e = e ∙ ap (λ (x : List ℕ). ramAfter (held ws) base x (Call.Store va size value)) ey
+
+  pub again-core : (xs : List ℕ) → Moved ws xs (stepOf (held ws) base ys (Call.Store va size value) .core) → Moved ws xs (stepOf (held ws) base ram (Call.Store va size value) .core)
+  again-core xs m = moved-as m (ap (λ (s : Stepped). s .core) same-step)
+
 module _ (ws : List ℕ) (base : ℕ) (ram : List ℕ) (va size pa value : ℕ) (made : Bool) (ys : List ℕ) (em : made ≡ sizedMade base ram size pa) (ef : made ≡ false)
     (ey : ys ≡ sizedRam base ram size pa value) where
-  same-step : stepOf (held ws) base ys (Call.Store va size value) ≡ stepOf (held ws) base ram (Call.Store va size value)
-  same-step = ap (λ (x : List ℕ). stepOf (held ws) base x (Call.Store va size value)) (unmade-ram base ram size pa value made ys em ef ey)
+  unwritten : ys ≡ ram
+  unwritten = unmade-ram base ram size pa value made ys em ef ey
 
   pub unmade-code : (n : ℕ) → n ≡ codeBy (stepOf (held ws) base ys (Call.Store va size value) .reply) → n ≡ codeBy (stepOf (held ws) base ram (Call.Store va size value) .reply)
-  unmade-code n e = e ∙ ap (λ (s : Stepped). codeBy (s .reply)) same-step
+  unmade-code = again-code ws base ram va size value ys unwritten
 
   pub unmade-value : (v old : ℕ) → v ≡ valueBy (stepOf (held ws) base ys (Call.Store va size value) .reply) old → v ≡ valueBy (stepOf (held ws) base ram (Call.Store va size value) .reply) old
-  unmade-value v old e = e ∙ ap (λ (s : Stepped). valueBy (s .reply) old) same-step
+  unmade-value = again-value ws base ram va size value ys unwritten
 
   pub unmade-after : (zs : List ℕ) → zs ≡ ramAfter (held ws) base ys (Call.Store va size value) → zs ≡ ramAfter (held ws) base ram (Call.Store va size value)
-  unmade-after zs e = e ∙ ap (λ (x : List ℕ). ramAfter (held ws) base x (Call.Store va size value)) (unmade-ram base ram size pa value made ys em ef ey)
+  unmade-after = again-ram ws base ram va size value ys unwritten
 
   pub unmade-core : (xs : List ℕ) → Moved ws xs (stepOf (held ws) base ys (Call.Store va size value) .core) → Moved ws xs (stepOf (held ws) base ram (Call.Store va size value) .core)
-  unmade-core xs m = moved-as m (ap (λ (s : Stepped). s .core) same-step)
+  unmade-core = again-core ws base ram va size value ys unwritten

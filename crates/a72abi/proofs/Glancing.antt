@@ -47,18 +47,13 @@ use Rattle.inplace.specs.FoundLaws.{hint-serves, hint-misses}
 use Rattle.inplace.specs.FetchLaws.{fetchTo, fetch-serves}
 use Rattle.a72abi.specs.Replies.{codeBy, valueBy}
 use Rattle.a72abi.specs.Ops.{kindOf}
-use Rattle.a72abi.specs.Quick.{atGlance, quickOf, quickFetchOf, kindCode, kindValue, kindCore}
+use Rattle.a72abi.specs.Quick.{Clear, atGlance, quickOf, quickFetchOf, kindCode, kindValue, kindCore}
 use Rattle.a72abi.specs.declared.op.Kinds.{Kinds}
 use Rattle.a72abi.specs.declared.op.Kinds.the-variants.{Known, Unknown as NoKind}
 
 past : {b : Bool} (x : Bool) (p : Physical) → b ≡ true → Unknown ≡ pick x Unknown (pick b Unknown p)
 past true p e = refl
 past false p e = sym (rw e)
-
--- a level up to 3, and a window that ends below the last address
-pub record Clear (c : Core) (base len : ℕ) : Type 0 where
-  pub low : ltb 3 (c .who .level) ≡ false
-  pub short : ltb (2 ^ 64 - 1 - len) base ≡ false
 
 at-unknown : (p : ℕ) → Unknown ≡ At p → ⊥
 at-unknown p q = subst is-at (sym q) tt

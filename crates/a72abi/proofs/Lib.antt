@@ -4,4 +4,6 @@ pub mod Replying
 pub mod Booking
 pub mod Glancing
 pub mod Bytewise
+pub mod Splitting
+pub mod Founding
 pub mod Stepping

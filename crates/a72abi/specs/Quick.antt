@@ -1,5 +1,6 @@
 -- What is answered at a glance, and sizes in bytes.
-use mathlib.Core.Bool.{Bool, false}
+use mathlib.Core.Path.{_≡_}
+use mathlib.Core.Bool.{Bool, true, false}
 use mathlib.Core.List.{List}
 use Prim.Native.Nat.{ℕ, _-_, _^_}
 use lib.Dec.{ltb}
@@ -22,6 +23,14 @@ use Rattle.a72abi.specs.Replies.{codeBy, valueBy}
 use Rattle.a72abi.specs.declared.op.Kinds.{Kinds}
 use Rattle.a72abi.specs.declared.op.Kinds.the-variants.{Known, Unknown as NoKind}
 
+-- a level up to 3, and a window that ends below the last address
+unfoldable pub clearOf : Core → ℕ → ℕ → Bool
+clearOf c base len = pick (ltb 3 (c .who .level)) false (pick (ltb (2 ^ 64 - 1 - len) base) false true)
+
+pub record Clear (c : Core) (base len : ℕ) : Type 0 where
+  pub low : ltb 3 (c .who .level) ≡ false
+  pub short : ltb (2 ^ 64 - 1 - len) base ≡ false
+
 -- what a hint says, at a level up to 3 and over a window that ends below the last address
 abbrev pub atGlance : Core → ℕ → ℕ → Physical → Physical
 atGlance c base len p = pick (ltb 3 (c .who .level)) Unknown (pick (ltb (2 ^ 64 - 1 - len) base) Unknown p)
@@ -31,6 +40,10 @@ quickOf c base len va kind = atGlance c base len (hintFound c va kind)
 
 unfoldable pub quickFetchOf : Core → ℕ → ℕ → ℕ → Physical
 quickFetchOf c base len va = atGlance c base len (fetchFound (c .tlb .cache .fetch) (c .who .level) va)
+
+-- no hint serves, where that is asked at all
+pub record Unhinted (c : Core) (base len va : ℕ) (kind : Kind) : Type 0 where
+  pub none : Clear c base len → hintFound c va kind ≡ Unknown
 
 -- a size's bytes at an address; a size that is none has none there
 abbrev pub sizedIn : Sized → ℕ → List ℕ → ℕ → Word

@@ -1,21 +1,30 @@
-// Loads and stores on lent words, in place: where the hint answers and the bytes lie in one page and in RAM, at a glance; all else by the
-// book.
+// Loads and stores on lent words, in place: where hints answer and the bytes lie in RAM, at a glance; in one page by its translation; all
+// else by the book.
 ghost use mathlib.Core.Path.{_≡_};
-ghost use mathlib.Core.List.{[]};
+ghost use mathlib.Core.Bool.{true};
+ghost use Prim.Native.Nat.{_≤_};
+ghost use lib.ListN.{length};
+ghost use Rattle.cpu.specs.Check.{known};
 ghost use Rattle.cpu.specs.Step.{stepOf, ramAfter};
 ghost use Rattle.cpu.specs.declared.call.Call.the-variants as Call;
 ghost use Rattle.words.specs.Held.{held};
 ghost use Rattle.words.specs.Moved.{Moved};
-ghost use Rattle.a72abi.specs.Replies.{codeBy, valueBy, wordsBy};
-ghost use Rattle.word.specs.Ram.{wordAt};
-ghost use Rattle.a72abi.specs.Quick.{quickOf, sizedAt, sizedMade, sizedRam};
+ghost use Rattle.a72abi.specs.Replies.{codeBy, valueBy};
+ghost use Rattle.tlb.specs.declared.access.Kind.the-variants.{Read, Write};
+ghost use Rattle.mmu.specs.Place.{inPage};
+ghost use Rattle.a72abi.specs.Quick.{Unhinted, sizedAt, sizedMade, sizedRam};
 use crate::book;
+use crate::found;
 use crate::memory;
 use crate::reply;
+use crate::split;
+use crate::split::Split;
+use inplace::translate;
 use mmu::place;
 use tlb::access::Kind;
 use tlb::hint::Physical;
 use word::ram;
+use word::ram::Sized;
 use word::ram::Width;
 use word::ram::Word;
 use words::state;
@@ -76,6 +85,76 @@ fn load_book(
     reply::answer(r, ans)
 }
 
+// A load in one page that no hint serves, or not at a glance.
+fn load_rest(
+    state: &mut [u64; 5205],
+    va: u64,
+    size: u64,
+    ans: &mut u64,
+    base: u64,
+    ram: &[u8],
+) -> u64
+    requires { ⌜ size ≤ inPage va ⌝ }
+    requires { ⌜ Unhinted (held (now state)) base (length (now ram)) va Read ⌝ }
+    ensures { λ r. ⌜ r ≡ codeBy (stepOf (held (now (state .entry))) base (now (ram .entry)) (Call.Load va size) .reply) ⌝ }
+    ensures { λ r. ⌜ now (ans .exit) ≡ valueBy (stepOf (held (now (state .entry))) base (now (ram .entry)) (Call.Load va size) .reply) (now (ans .entry)) ⌝ }
+    ensures { λ r. ⌜ Moved (now (state .entry)) (now (state .exit)) (stepOf (held (now (state .entry))) base (now (ram .entry)) (Call.Load va size) .core) ⌝ }
+{
+    let clear = memory::clear(state, base, ram.len() as u64);
+    if clear {
+        match ram::width_of(size) {
+            Sized::Bytes(width) => found::load(state, va, width, ans, base, ram),
+            Sized::Refused => load_book(state, va, size, ans, base, ram),
+        }
+    } else {
+        load_book(state, va, size, ans, base, ram)
+    }
+}
+
+// A load over two pages: their hints, or by the book.
+fn load_split(
+    state: &mut [u64; 5205],
+    va: u64,
+    size: u64,
+    ans: &mut u64,
+    base: u64,
+    ram: &[u8],
+) -> u64
+    requires { ⌜ known size ≡ true ⌝ }
+    ensures { λ r. ⌜ r ≡ codeBy (stepOf (held (now (state .entry))) base (now (ram .entry)) (Call.Load va size) .reply) ⌝ }
+    ensures { λ r. ⌜ now (ans .exit) ≡ valueBy (stepOf (held (now (state .entry))) base (now (ram .entry)) (Call.Load va size) .reply) (now (ans .entry)) ⌝ }
+    ensures { λ r. ⌜ Moved (now (state .entry)) (now (state .exit)) (stepOf (held (now (state .entry))) base (now (ram .entry)) (Call.Load va size) .core) ⌝ }
+{
+    match split::load(state, va, size, base, ram) {
+        Split::Value { pa, v } => {
+            state::put_last(state, pa);
+            *ans = v;
+            0
+        }
+        Split::Unknown => load_book(state, va, size, ans, base, ram),
+    }
+}
+
+fn load_across(
+    state: &mut [u64; 5205],
+    va: u64,
+    size: u64,
+    ans: &mut u64,
+    base: u64,
+    ram: &[u8],
+) -> u64
+    ensures { λ r. ⌜ r ≡ codeBy (stepOf (held (now (state .entry))) base (now (ram .entry)) (Call.Load va size) .reply) ⌝ }
+    ensures { λ r. ⌜ now (ans .exit) ≡ valueBy (stepOf (held (now (state .entry))) base (now (ram .entry)) (Call.Load va size) .reply) (now (ans .entry)) ⌝ }
+    ensures { λ r. ⌜ Moved (now (state .entry)) (now (state .exit)) (stepOf (held (now (state .entry))) base (now (ram .entry)) (Call.Load va size) .core) ⌝ }
+{
+    match size {
+        8 => load_split(state, va, 8, ans, base, ram),
+        4 => load_split(state, va, 4, ans, base, ram),
+        2 => load_split(state, va, 2, ans, base, ram),
+        _ => load_book(state, va, size, ans, base, ram),
+    }
+}
+
 // A load of 1, 2, 4 or 8 bytes.
 #[no_mangle]
 pub extern "C" fn a72_load(
@@ -91,9 +170,17 @@ pub extern "C" fn a72_load(
     ensures { λ r. ⌜ Moved (now (state .entry)) (now (state .exit)) (stepOf (held (now (state .entry))) base (now (ram .entry)) (Call.Load va size) .core) ⌝ }
 {
     if place::in_page(va) < size {
-        return load_book(state, va, size, ans, base, ram);
+        return load_across(state, va, size, ans, base, ram);
     }
-    match memory::quick(state, va, Kind::Read, base, ram.len() as u64) {
+    let who = state::who_at(state);
+    let len = ram.len() as u64;
+    if 3 < who.level {
+        return load_rest(state, va, size, ans, base, ram);
+    }
+    if u64::MAX - len < base {
+        return load_rest(state, va, size, ans, base, ram);
+    }
+    match translate::by_hint(state, va, Kind::Read) {
         Physical::At(pa) => match read_sized(base, ram, size, pa) {
             Word::Value(v) => {
                 state::put_last(state, pa);
@@ -102,7 +189,7 @@ pub extern "C" fn a72_load(
             }
             Word::Outside => load_book(state, va, size, ans, base, ram),
         },
-        Physical::Unknown => load_book(state, va, size, ans, base, ram),
+        Physical::Unknown => load_rest(state, va, size, ans, base, ram),
     }
 }
 
@@ -124,6 +211,80 @@ fn store_book(
     reply::answer(r, ans)
 }
 
+// A store in one page that no hint serves, or not at a glance.
+fn store_rest(
+    state: &mut [u64; 5205],
+    va: u64,
+    size: u64,
+    value: u64,
+    ans: &mut u64,
+    base: u64,
+    ram: &mut [u8],
+) -> u64
+    requires { ⌜ size ≤ inPage va ⌝ }
+    requires { ⌜ Unhinted (held (now state)) base (length (now ram)) va Write ⌝ }
+    ensures { λ r. ⌜ r ≡ codeBy (stepOf (held (now (state .entry))) base (now (ram .entry)) (Call.Store va size value) .reply) ⌝ }
+    ensures { λ r. ⌜ now (ans .exit) ≡ valueBy (stepOf (held (now (state .entry))) base (now (ram .entry)) (Call.Store va size value) .reply) (now (ans .entry)) ⌝ }
+    ensures { λ r. ⌜ now (ram .exit) ≡ ramAfter (held (now (state .entry))) base (now (ram .entry)) (Call.Store va size value) ⌝ }
+    ensures { λ r. ⌜ Moved (now (state .entry)) (now (state .exit)) (stepOf (held (now (state .entry))) base (now (ram .entry)) (Call.Store va size value) .core) ⌝ }
+{
+    let clear = memory::clear(state, base, ram.len() as u64);
+    if clear {
+        match ram::width_of(size) {
+            Sized::Bytes(width) => found::store(state, va, width, value, ans, base, ram),
+            Sized::Refused => store_book(state, va, size, value, ans, base, ram),
+        }
+    } else {
+        store_book(state, va, size, value, ans, base, ram)
+    }
+}
+
+// A store over two pages: their hints, or by the book.
+fn store_split(
+    state: &mut [u64; 5205],
+    va: u64,
+    size: u64,
+    value: u64,
+    ans: &mut u64,
+    base: u64,
+    ram: &mut [u8],
+) -> u64
+    requires { ⌜ known size ≡ true ⌝ }
+    ensures { λ r. ⌜ r ≡ codeBy (stepOf (held (now (state .entry))) base (now (ram .entry)) (Call.Store va size value) .reply) ⌝ }
+    ensures { λ r. ⌜ now (ans .exit) ≡ valueBy (stepOf (held (now (state .entry))) base (now (ram .entry)) (Call.Store va size value) .reply) (now (ans .entry)) ⌝ }
+    ensures { λ r. ⌜ now (ram .exit) ≡ ramAfter (held (now (state .entry))) base (now (ram .entry)) (Call.Store va size value) ⌝ }
+    ensures { λ r. ⌜ Moved (now (state .entry)) (now (state .exit)) (stepOf (held (now (state .entry))) base (now (ram .entry)) (Call.Store va size value) .core) ⌝ }
+{
+    let made = split::store(state, va, size, value, base, ram);
+    if made {
+        0
+    } else {
+        store_book(state, va, size, value, ans, base, ram)
+    }
+}
+
+fn store_across(
+    state: &mut [u64; 5205],
+    va: u64,
+    size: u64,
+    value: u64,
+    ans: &mut u64,
+    base: u64,
+    ram: &mut [u8],
+) -> u64
+    ensures { λ r. ⌜ r ≡ codeBy (stepOf (held (now (state .entry))) base (now (ram .entry)) (Call.Store va size value) .reply) ⌝ }
+    ensures { λ r. ⌜ now (ans .exit) ≡ valueBy (stepOf (held (now (state .entry))) base (now (ram .entry)) (Call.Store va size value) .reply) (now (ans .entry)) ⌝ }
+    ensures { λ r. ⌜ now (ram .exit) ≡ ramAfter (held (now (state .entry))) base (now (ram .entry)) (Call.Store va size value) ⌝ }
+    ensures { λ r. ⌜ Moved (now (state .entry)) (now (state .exit)) (stepOf (held (now (state .entry))) base (now (ram .entry)) (Call.Store va size value) .core) ⌝ }
+{
+    match size {
+        8 => store_split(state, va, 8, value, ans, base, ram),
+        4 => store_split(state, va, 4, value, ans, base, ram),
+        2 => store_split(state, va, 2, value, ans, base, ram),
+        _ => store_book(state, va, size, value, ans, base, ram),
+    }
+}
+
 // A store of the low 1, 2, 4 or 8 bytes of a value.
 #[no_mangle]
 pub extern "C" fn a72_store(
@@ -141,9 +302,17 @@ pub extern "C" fn a72_store(
     ensures { λ r. ⌜ Moved (now (state .entry)) (now (state .exit)) (stepOf (held (now (state .entry))) base (now (ram .entry)) (Call.Store va size value) .core) ⌝ }
 {
     if place::in_page(va) < size {
-        return store_book(state, va, size, value, ans, base, ram);
+        return store_across(state, va, size, value, ans, base, ram);
     }
-    match memory::quick(state, va, Kind::Write, base, ram.len() as u64) {
+    let who = state::who_at(state);
+    let len = ram.len() as u64;
+    if 3 < who.level {
+        return store_rest(state, va, size, value, ans, base, ram);
+    }
+    if u64::MAX - len < base {
+        return store_rest(state, va, size, value, ans, base, ram);
+    }
+    match translate::by_hint(state, va, Kind::Write) {
         Physical::At(pa) => {
             let made = write_sized(base, ram, size, pa, value);
             if made {
@@ -152,6 +321,6 @@ pub extern "C" fn a72_store(
                 store_book(state, va, size, value, ans, base, ram)
             }
         }
-        Physical::Unknown => store_book(state, va, size, value, ans, base, ram),
+        Physical::Unknown => store_rest(state, va, size, value, ans, base, ram),
     }
 }

@@ -2,7 +2,9 @@
 pub mod book;
 pub mod bytes;
 pub mod calls;
+pub mod found;
 pub mod memory;
 pub mod op;
 pub mod reply;
+pub mod split;
 pub mod tables;

@@ -9,7 +9,7 @@ ghost use Rattle.words.specs.Moved.{Moved};
 ghost use Rattle.a72abi.specs.Replies.{codeBy, valueBy, wordsBy};
 ghost use Rattle.word.specs.Ram.{wordAt};
 ghost use Rattle.a72abi.specs.Ops.{kindOf};
-ghost use Rattle.a72abi.specs.Quick.{quickOf, quickFetchOf, sizedAt, sizedMade, sizedRam, kindCode, kindValue, kindCore};
+ghost use Rattle.a72abi.specs.Quick.{clearOf, quickOf, quickFetchOf, kindCode, kindValue, kindCore};
 use crate::book;
 use crate::op;
 use crate::op::Kinds;
@@ -26,8 +26,22 @@ use word::ram::Word;
 use words::cells;
 use words::state;
 
+// Whether level and window pass at a glance. A window that ends at the last address is left to the book.
+pub(crate) fn clear(state: &[u64; 5205], base: u64, len: u64) -> bool
+    ensures { λ r. ⌜ r ≡ clearOf (held (now (state .entry))) base len ⌝ }
+{
+    let who = state::who_at(state);
+    if 3 < who.level {
+        return false;
+    }
+    if u64::MAX - len < base {
+        return false;
+    }
+    true
+}
+
 // What the hint says, where the level and the window pass at a glance. A window that ends at the last address is left to the book.
-pub(crate) fn quick(state: &[u64; 5205], va: u64, kind: Kind, base: u64, len: u64) -> Physical
+fn quick(state: &[u64; 5205], va: u64, kind: Kind, base: u64, len: u64) -> Physical
     ensures { λ r. ⌜ r ≡ quickOf (held (now (state .entry))) base len va kind ⌝ }
 {
     let who = state::who_at(state);

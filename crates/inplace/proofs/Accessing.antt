@@ -71,7 +71,7 @@ module _ (c : Core) (memory : ℕ → Word) (va n : ℕ) (kind : Kind) where
         placed = placedBoth va (translateOf c memory va kind .answer) (translateOf after memory (nextPage va) kind .answer);
       }
 
-  both-is : test ≡ true → translateAccessOf c memory va n kind ≡ both
+  pub both-is : test ≡ true → translateAccessOf c memory va n kind ≡ both
   unfolding translateAccessOf locatedNow locatedOf translateOf steppedNow movedTo
   both-is t = rw t
 

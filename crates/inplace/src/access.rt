@@ -24,7 +24,7 @@ use words::regs;
 use words::state;
 
 // Whether stage 1 is on at the level.
-fn on_at(state: &[u64; 5205]) -> bool
+pub fn on_at(state: &[u64; 5205]) -> bool
     ensures { λ r. ⌜ r ≡ stage1On (bankNow (held (now (state .entry)))) (regimeOf ((held (now (state .entry))) .who .level)) ⌝ }
 {
     let who = state::who_at(state);

@@ -3,3 +3,4 @@ pub mod Moves
 pub mod Answers
 pub mod Steps
 pub mod Shells
+pub mod Both

@@ -3,8 +3,8 @@ ghost use mathlib.Core.Path.{_≡_};
 ghost use Prim.Native.Nat.{_+_, _≤_, _<_};
 ghost use lib.ListN.{length, getD};
 ghost use Rattle.word.specs.Ram.{bytesIn, littleEndian};
-ghost use Rattle.mmu.specs.Place.{judged};
-ghost use Rattle.mmu.specs.Bytes.{byteIn, splitValue, splitStored, loadOf, storeRam, insnOf};
+ghost use Rattle.mmu.specs.Place.{judged, bothInside};
+ghost use Rattle.mmu.specs.Bytes.{byteIn, splitValue, splitStored, loadOf, storeRam, insnOf, Lie, bothAt, bothStored};
 use crate::place;
 use crate::place::Pages;
 use crate::place::Place;
@@ -150,6 +150,63 @@ pub fn store(base: u64, ram: &mut [u8], place: Place, width: Width, value: u64) 
             let n = ram::bytes_in(width);
             store_split(base, ram, p, n, value)
         }
+    }
+}
+
+// The value of a split access whose bytes lie in RAM.
+fn joined(base: u64, ram: &[u8], p: Pages, n: u64) -> u64
+    requires { ⌜ n ≤ 8 ⌝ }
+    requires { ⌜ Lie base (length (now ram)) p n ⌝ }
+    ensures { λ r. ⌜ r ≡ splitValue base (now (ram .entry)) p 0 n ⌝ }
+{
+    let mut v: u64 = 0;
+    let mut i: u64 = n;
+    while 0 < i {
+        i -= 1;
+        let pa = place::byte_at(p, i);
+        v = v * 256 + byte(ram, (pa - base) as usize);
+    }
+    v
+}
+
+// The value of a split access, where both parts lie in RAM at a glance.
+pub fn read_both(base: u64, ram: &[u8], p: Pages, n: u64) -> Word
+    ensures { λ r. ⌜ r ≡ bothAt base (now (ram .entry)) p n ⌝ }
+{
+    let fits = place::both_inside(base, ram.len() as u64, p, n);
+    if fits {
+        let v = joined(base, ram, p, n);
+        Word::Value(v)
+    } else {
+        Word::Outside
+    }
+}
+
+// The low n bytes of a value, to bytes that lie in RAM.
+fn parted(base: u64, ram: &mut [u8], p: Pages, n: u64, value: u64)
+    requires { ⌜ Lie base (length (now ram)) p n ⌝ }
+    ensures { λ _. ⌜ now (ram .exit) ≡ splitStored base p value 0 n (now (ram .entry)) ⌝ }
+{
+    let mut v = value;
+    let mut i: u64 = 0;
+    while i < n {
+        let pa = place::byte_at(p, i);
+        ram[(pa - base) as usize] = (v % 256) as u8;
+        v = v / 256;
+        i += 1;
+    }
+}
+
+// A split store, where both parts lie in RAM at a glance, and whether it was made.
+pub fn write_both(base: u64, ram: &mut [u8], p: Pages, n: u64, value: u64) -> bool
+    ensures { λ r. ⌜ (r ≡ bothInside base (length (now (ram .entry))) p n) × (now (ram .exit) ≡ bothStored base (now (ram .entry)) p n value) ⌝ }
+{
+    let fits = place::both_inside(base, ram.len() as u64, p, n);
+    if fits {
+        parted(base, ram, p, n, value);
+        true
+    } else {
+        false
     }
 }
 

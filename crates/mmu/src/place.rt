@@ -1,7 +1,7 @@
 // Where the bytes of an access lie, and which of them lie outside RAM.
 ghost use mathlib.Core.Path.{_≡_};
 ghost use Prim.Native.Nat.{_≤_};
-ghost use Rattle.mmu.specs.Place.{inPage, nextPage, crosses as crossesOf, goesOn, placedOne, placedBoth, firstPa, byteAt, firstOutside, bytesBefore};
+ghost use Rattle.mmu.specs.Place.{inPage, nextPage, crosses as crossesOf, goesOn, placedOne, placedBoth, firstPa, byteAt, firstOutside, bytesBefore, bothInside};
 use tlb::access::Answer;
 use word::ram;
 
@@ -134,4 +134,23 @@ pub fn bytes_before(v: Verdict, n: u64) -> u64
         Verdict::Inside => n,
         Verdict::Outside { index, pa: _ } => index,
     }
+}
+
+// Whether both parts of a split access of up to eight bytes lie in RAM, at a glance: a window that ends at the last address is left to the
+// bytes.
+pub fn both_inside(base: u64, len: u64, p: Pages, n: u64) -> bool
+    ensures { λ r. ⌜ r ≡ bothInside base len p n ⌝ }
+{
+    if u64::MAX - len < base {
+        return false;
+    }
+    if n < p.in_page {
+        return false;
+    }
+    if 8 < n {
+        return false;
+    }
+    let first = ram::inside(base, len, p.in_page, p.pa);
+    let second = ram::inside(base, len, n - p.in_page, p.pa2);
+    if first { second } else { false }
 }

@@ -1,0 +1,432 @@
+-- Loads and stores over two pages whose hints serve are what the book says, on plain values, for `search`.
+use mathlib.Core.Path.{_≡_, refl, sym, ap, subst, _∙_}
+use mathlib.Core.Bool.{Bool, true, false, _&&_}
+use mathlib.Core.List.{List}
+use Prim.Native.Nat.{ℕ, _+_, _-_, _^_, _≤_, _<_}
+use borrow.Author.Tests.{lt-ltb, le-ltb}
+use lib.Dec.{ltb}
+use lib.ListN.{length}
+use Rattle.word.specs.Bits.{pick}
+use Rattle.word.specs.Ram.{wordAt, bytesIn, widthOf}
+use Rattle.word.specs.declared.ram.Width.{Width}
+use Rattle.word.specs.declared.ram.Sized.{Sized}
+use Rattle.word.specs.declared.ram.Sized.the-variants.{Bytes, Refused as NoWidth}
+use Rattle.word.specs.declared.ram.Word.{Word}
+use Rattle.word.specs.declared.ram.Word.the-variants as Word
+use Rattle.walk.specs.Regime.{regimeOf, stage1On}
+use Rattle.tlb.specs.declared.access.Kind.{Kind}
+use Rattle.tlb.specs.declared.access.Kind.the-variants.{Read, Write}
+use Rattle.tlb.specs.declared.access.Answer.the-variants.{Address}
+use Rattle.tlb.specs.declared.access.Who.{Who}
+use Rattle.tlb.specs.declared.hint.Physical.{Physical}
+use Rattle.tlb.specs.declared.hint.Physical.the-variants.{At, Unknown}
+use Rattle.mmu.specs.Core.{bankNow}
+use Rattle.mmu.specs.Place.{inPage, nextPage, crosses, goesOn, placedBoth, firstPa, judged, bothInside}
+use Rattle.mmu.specs.Bytes.{loadOf, storeRam, bothAt, bothStored}
+use Rattle.mmu.specs.Ends.{loadEnd, storeEnd, storeRamEnd}
+use Rattle.mmu.specs.Ops.{translateOf, translateAccessOf, readOf, writeOf, ramAfterWrite}
+use Rattle.mmu.proofs.Both.{both-loads, both-judged, both-stores}
+use Rattle.mmu.specs.declared.core.Core.{Core}
+use Rattle.mmu.specs.declared.place.Place.{Place}
+use Rattle.mmu.specs.declared.place.Place.the-variants.{Split as Parts}
+use Rattle.mmu.specs.declared.place.Placed.the-variants as Placed
+use Rattle.mmu.specs.declared.place.Verdict.the-variants.{Inside}
+use Rattle.mmu.specs.declared.bytes.Got.the-variants as Got
+use Rattle.mmu.specs.declared.ends.LoadEnd.{LoadEnd}
+use Rattle.mmu.specs.declared.ends.StoreEnd.{StoreEnd}
+use Rattle.mmu.specs.declared.ends.LoadAnswer.the-variants as Load
+use Rattle.mmu.specs.declared.ends.StoreAnswer.the-variants as Store
+use Rattle.mmu.specs.declared.ops.Accessed.{Accessed}
+use Rattle.mmu.specs.declared.ops.Translated.{Translated}
+use Rattle.cpu.specs.Check.{isWidth, known}
+use Rattle.cpu.specs.Step.{loading, storing, stepOf, ramAfter, ends}
+use Rattle.cpu.specs.declared.call.Call.the-variants as Call
+use Rattle.cpu.specs.declared.call.Reply.the-variants.{Done, Value}
+use Rattle.cpu.specs.declared.call.Stepped.{Stepped}
+use Rattle.words.specs.Held.{held}
+use Rattle.words.specs.Parts.{withLast}
+use Rattle.words.specs.Moved.{Moved, stays, moved-as}
+use Rattle.inplace.specs.Accessed.{keptLast, keptAbort}
+use Rattle.inplace.specs.Found.{answering, hintFound}
+use Rattle.inplace.specs.FoundLaws.{hint-serves}
+use Rattle.inplace.proofs.Accessing.{both-is, load-parts, store-parts}
+use Rattle.a72abi.specs.Replies.{codeBy, valueBy}
+use Rattle.a72abi.specs.Quick.{Clear, clearOf}
+use Rattle.a72abi.specs.Splits.{apartOf, pagesAt, valueFrom, loadBoth, madeBoth, ramBoth, splitLoad, splitMade, splitRam}
+use Rattle.a72abi.specs.declared.split.Split.{Split}
+use Rattle.a72abi.specs.declared.split.Split.the-variants as Split
+use Rattle.a72abi.proofs.Bytewise.{size-is, false-true, kept-last, kept-abort, load-runs, store-runs, again-code, again-value, again-ram, again-core}
+
+-- THE TESTS OF THE CODE
+
+pub clear-is : (c : Core) (base len : ℕ) → clearOf c base len ≡ true → Clear c base len
+unfolding clearOf
+clear-is c base len = go (ltb 3 (c .who .level)) refl (ltb (2 ^ 64 - 1 - len) base) refl
+  where
+    go : (x : Bool) → ltb 3 (c .who .level) ≡ x → (y : Bool) → ltb (2 ^ 64 - 1 - len) base ≡ y → pick x false (pick y false true) ≡ true → Clear c base len
+    go true ex y ey e = absurd (false-true e)
+    go false ex true ey e = absurd (false-true e)
+    go false ex false ey e = record { low = ex; short = ey }
+
+module _ (ws : List ℕ) (base len : ℕ) (who : Who) (ew : who ≡ held ws .who) where
+  pub clear-high : 3 < who .level → false ≡ clearOf (held ws) base len
+  unfolding clearOf
+  clear-high h = sym (rw (ap (λ (w : Who). ltb 3 (w .level)) (sym ew) ∙ lt-ltb 3 (who .level) h))
+
+  module _ (lo : who .level ≤ 3) where
+    clear-low : ltb 3 (held ws .who .level) ≡ false
+    clear-low = ap (λ (w : Who). ltb 3 (w .level)) (sym ew) ∙ le-ltb 3 (who .level) lo
+
+    pub clear-past : 2 ^ 64 - 1 - len < base → false ≡ clearOf (held ws) base len
+    unfolding clearOf
+    clear-past h = sym (rw (clear-low, lt-ltb (2 ^ 64 - 1 - len) base h))
+
+    pub clear-both : base ≤ 2 ^ 64 - 1 - len → true ≡ clearOf (held ws) base len
+    unfolding clearOf
+    clear-both h = sym (rw (clear-low, le-ltb (2 ^ 64 - 1 - len) base h))
+
+abbrev twoPages : Core → ℕ → ℕ → Bool
+twoPages c va n = crosses (stage1On (bankNow c) (regimeOf (c .who .level))) va n
+
+-- two pages, or not at a glance
+module _ (c : Core) (base len va n : ℕ) (b : Bool) (eb : b ≡ clearOf c base len) where
+  pub apart-not : b ≡ false → false ≡ apartOf c base len va n
+  unfolding apartOf
+  apart-not f = sym (rw (← eb, f))
+
+  pub apart-is : (on r : Bool) → b ≡ true → on ≡ stage1On (bankNow c) (regimeOf (c .who .level)) → r ≡ crosses on va n → r ≡ apartOf c base len va n
+  unfolding apartOf
+  apart-is on r t eo er = er ∙ ap (λ (x : Bool). crosses x va n) eo ∙ sym (rw (← eb, t))
+
+-- the second page's hint
+module _ (c : Core) (base : ℕ) (ram : List ℕ) (va n pa next : ℕ) (p : Physical) (en : next ≡ nextPage va) where
+  module _ (ep : p ≡ hintFound c next Read) where
+    next-read : hintFound c (nextPage va) Read ≡ p
+    next-read = sym (ep ∙ ap (λ (x : ℕ). hintFound c x Read) en)
+
+    pub read-unknown : p ≡ Unknown → Split.Unknown ≡ loadBoth true (At pa) (hintFound c (nextPage va) Read) va base ram n
+    unfolding loadBoth
+    read-unknown e = sym (rw (next-read ∙ e))
+
+    module _ (pa2 k : ℕ) (w : Word) (e : p ≡ At pa2) (ek : k ≡ inPage va) (ew : w ≡ bothAt base ram (record { «in_page» = k; pa = pa; pa2 = pa2 }) n) where
+      both-word : w ≡ bothAt base ram (pagesAt va pa pa2) n
+      both-word = ew ∙ ap (λ (m : ℕ). bothAt base ram (record { «in_page» = m; pa = pa; pa2 = pa2 }) n) ek
+
+      read-is : valueFrom pa w ≡ loadBoth true (At pa) (hintFound c (nextPage va) Read) va base ram n
+      unfolding loadBoth
+      read-is = rw (next-read ∙ e, both-word)
+
+      pub read-value : (v : ℕ) → w ≡ Word.Value v → Split.Value pa v ≡ loadBoth true (At pa) (hintFound c (nextPage va) Read) va base ram n
+      read-value v q = ap (valueFrom pa) (sym q) ∙ read-is
+
+      pub read-outside : w ≡ Word.Outside → Split.Unknown ≡ loadBoth true (At pa) (hintFound c (nextPage va) Read) va base ram n
+      read-outside q = ap (valueFrom pa) (sym q) ∙ read-is
+
+  module _ (ep : p ≡ hintFound c next Write) where
+    next-write : hintFound c (nextPage va) Write ≡ p
+    next-write = sym (ep ∙ ap (λ (x : ℕ). hintFound c x Write) en)
+
+    pub write-unknown : p ≡ Unknown → false ≡ madeBoth true (At pa) (hintFound c (nextPage va) Write) va base ram n
+    unfolding madeBoth
+    write-unknown e = sym (rw (next-write ∙ e))
+
+    pub write-untouched : (v : ℕ) → p ≡ Unknown → ram ≡ ramBoth true (At pa) (hintFound c (nextPage va) Write) va base ram n v
+    unfolding ramBoth
+    write-untouched v e = sym (rw (next-write ∙ e))
+
+    module _ (pa2 k : ℕ) (e : p ≡ At pa2) (ek : k ≡ inPage va) where
+      pub write-made : (b : Bool) → b ≡ bothInside base (length ram) (record { «in_page» = k; pa = pa; pa2 = pa2 }) n
+          → b ≡ madeBoth true (At pa) (hintFound c (nextPage va) Write) va base ram n
+      unfolding madeBoth
+      write-made b q = rw (next-write ∙ e) (q ∙ ap (λ (m : ℕ). bothInside base (length ram) (record { «in_page» = m; pa = pa; pa2 = pa2 }) n) ek)
+
+      pub write-ram : (ys : List ℕ) (v : ℕ) → ys ≡ bothStored base ram (record { «in_page» = k; pa = pa; pa2 = pa2 }) n v
+          → ys ≡ ramBoth true (At pa) (hintFound c (nextPage va) Write) va base ram n v
+      unfolding ramBoth
+      write-ram ys v q = rw (next-write ∙ e) (q ∙ ap (λ (m : ℕ). bothStored base ram (record { «in_page» = m; pa = pa; pa2 = pa2 }) n v) ek)
+
+-- the first page's
+module _ (c : Core) (base : ℕ) (ram : List ℕ) (va n : ℕ) (b : Bool) (eb : b ≡ apartOf c base (length ram) va n) where
+  apart-here : apartOf c base (length ram) va n ≡ b
+  apart-here = sym eb
+
+  pub load-together : b ≡ false → Split.Unknown ≡ splitLoad c base ram va n
+  unfolding splitLoad loadBoth
+  load-together f = sym (rw (apart-here ∙ f))
+
+  pub store-together : b ≡ false → false ≡ splitMade c base ram va n
+  unfolding splitMade madeBoth
+  store-together f = sym (rw (apart-here ∙ f))
+
+  pub ram-together : (v : ℕ) → b ≡ false → ram ≡ splitRam c base ram va n v
+  unfolding splitRam ramBoth
+  ram-together v f = sym (rw (apart-here ∙ f))
+
+  module _ (t : b ≡ true) (p : Physical) where
+    module _ (ep : p ≡ hintFound c va Read) where
+      pub load-unknown : p ≡ Unknown → Split.Unknown ≡ splitLoad c base ram va n
+      unfolding splitLoad loadBoth
+      load-unknown e = sym (rw (apart-here ∙ t, sym ep ∙ e))
+
+      pub load-on : (pa : ℕ) (s : Split) → p ≡ At pa → s ≡ loadBoth true (At pa) (hintFound c (nextPage va) Read) va base ram n → s ≡ splitLoad c base ram va n
+      unfolding splitLoad
+      load-on pa s e q = q ∙ sym (rw (apart-here ∙ t, sym ep ∙ e))
+
+    module _ (ep : p ≡ hintFound c va Write) where
+      pub store-unknown : p ≡ Unknown → false ≡ splitMade c base ram va n
+      unfolding splitMade madeBoth
+      store-unknown e = sym (rw (apart-here ∙ t, sym ep ∙ e))
+
+      pub ram-unknown : (v : ℕ) → p ≡ Unknown → ram ≡ splitRam c base ram va n v
+      unfolding splitRam ramBoth
+      ram-unknown v e = sym (rw (apart-here ∙ t, sym ep ∙ e))
+
+      pub store-on : (pa : ℕ) (s : Bool) → p ≡ At pa → s ≡ madeBoth true (At pa) (hintFound c (nextPage va) Write) va base ram n → s ≡ splitMade c base ram va n
+      unfolding splitMade
+      store-on pa s e q = q ∙ sym (rw (apart-here ∙ t, sym ep ∙ e))
+
+      pub ram-on : (pa v : ℕ) (ys : List ℕ) → p ≡ At pa → ys ≡ ramBoth true (At pa) (hintFound c (nextPage va) Write) va base ram n v → ys ≡ splitRam c base ram va n v
+      unfolding splitRam
+      ram-on pa v ys e q = q ∙ sym (rw (apart-here ∙ t, sym ep ∙ e))
+
+-- WHAT THE GLANCE SAYS
+
+record Says (c : Core) (base len va n pa : ℕ) (kind : Kind) : Type 0 where
+  clear : Clear c base len
+  two : twoPages c va n ≡ true
+  pa2 : ℕ
+  first : hintFound c va kind ≡ At pa
+  second : hintFound c (nextPage va) kind ≡ At pa2
+
+apart-says : (c : Core) (base len va n : ℕ) → apartOf c base len va n ≡ true → Clear c base len × (twoPages c va n ≡ true)
+unfolding apartOf
+apart-says c base len va n = go (clearOf c base len) refl
+  where
+    go : (x : Bool) → clearOf c base len ≡ x → pick x (twoPages c va n) false ≡ true → Clear c base len × (twoPages c va n ≡ true)
+    go true ex e = (clear-is c base len ex, e)
+    go false ex e = absurd (false-true e)
+
+unknown-value : (pa v : ℕ) → Split.Unknown ≡ Split.Value pa v → ⊥
+unknown-value pa v e = subst is-unknown e tt
+  where
+    is-unknown : Split → Type 0
+    is-unknown (Split.Value a b) = ⊥
+    is-unknown Split.Unknown = Unit {0}
+
+abbrev addressIn : Split → ℕ
+addressIn (Split.Value a b) = a
+addressIn Split.Unknown = 0
+
+abbrev valueIn : Split → ℕ
+valueIn (Split.Value a b) = b
+valueIn Split.Unknown = 0
+
+value-says : (pa a v : ℕ) (w : Word) → valueFrom a w ≡ Split.Value pa v → (a ≡ pa) × (w ≡ Word.Value v)
+value-says pa a v (Word.Value x) e = (ap addressIn e, ap (λ (s : Split). Word.Value (valueIn s)) e)
+value-says pa a v Word.Outside e = absurd (unknown-value pa v e)
+
+module _ (c : Core) (base : ℕ) (ram : List ℕ) (va n : ℕ) where
+  load-says : (pa v : ℕ) → splitLoad c base ram va n ≡ Split.Value pa v
+      → (s : Says c base (length ram) va n pa Read) × (bothAt base ram (pagesAt va pa (s .pa2)) n ≡ Word.Value v)
+  unfolding splitLoad loadBoth
+  load-says pa v = go (apartOf c base (length ram) va n) refl (hintFound c va Read) refl (hintFound c (nextPage va) Read) refl
+    where
+      go : (b : Bool) → apartOf c base (length ram) va n ≡ b → (x : Physical) → hintFound c va Read ≡ x → (y : Physical) → hintFound c (nextPage va) Read ≡ y
+          → loadBoth b x y va base ram n ≡ Split.Value pa v → (s : Says c base (length ram) va n pa Read) × (bothAt base ram (pagesAt va pa (s .pa2)) n ≡ Word.Value v)
+      go false eb x ex y ey e = absurd (unknown-value pa v e)
+      go true eb Unknown ex y ey e = absurd (unknown-value pa v e)
+      go true eb (At a) ex Unknown ey e = absurd (unknown-value pa v e)
+      go true eb (At a) ex (At d) ey e =
+          let p = apart-says c base (length ram) va n eb in
+          let q = value-says pa a v (bothAt base ram (pagesAt va a d) n) e in
+          (record { clear = p .0; two = p .1; pa2 = d; first = ex ∙ ap At (q .0); second = ey }, ap (λ (m : ℕ). bothAt base ram (pagesAt va m d) n) (sym (q .0)) ∙ q .1)
+
+  store-says : (v : ℕ) → splitMade c base ram va n ≡ true
+      → (pa : ℕ) × ((s : Says c base (length ram) va n pa Write)
+      × ((bothInside base (length ram) (pagesAt va pa (s .pa2)) n ≡ true) × (splitRam c base ram va n v ≡ bothStored base ram (pagesAt va pa (s .pa2)) n v)))
+  unfolding splitMade madeBoth splitRam ramBoth
+  store-says v = go (apartOf c base (length ram) va n) refl (hintFound c va Write) refl (hintFound c (nextPage va) Write) refl
+    where
+      go : (b : Bool) → apartOf c base (length ram) va n ≡ b → (x : Physical) → hintFound c va Write ≡ x → (y : Physical) → hintFound c (nextPage va) Write ≡ y
+          → madeBoth b x y va base ram n ≡ true
+          → (pa : ℕ) × ((s : Says c base (length ram) va n pa Write)
+          × ((bothInside base (length ram) (pagesAt va pa (s .pa2)) n ≡ true)
+          × (ramBoth (apartOf c base (length ram) va n) (hintFound c va Write) (hintFound c (nextPage va) Write) va base ram n v ≡ bothStored base ram (pagesAt va pa (s .pa2)) n v)))
+      go false eb x ex y ey e = absurd (false-true e)
+      go true eb Unknown ex y ey e = absurd (false-true e)
+      go true eb (At a) ex Unknown ey e = absurd (false-true e)
+      go true eb (At a) ex (At d) ey e =
+          let p = apart-says c base (length ram) va n eb in
+          (a, (record { clear = p .0; two = p .1; pa2 = d; first = ex; second = ey }, (e, rw (eb, ex, ey))))
+
+  -- a store that was not made wrote nothing
+  split-kept : (v : ℕ) → splitMade c base ram va n ≡ false → splitRam c base ram va n v ≡ ram
+  unfolding splitMade madeBoth splitRam ramBoth bothStored
+  split-kept v = go (apartOf c base (length ram) va n) (hintFound c va Write) (hintFound c (nextPage va) Write)
+    where
+      go : (b : Bool) (x y : Physical) → madeBoth b x y va base ram n ≡ false → ramBoth b x y va base ram n v ≡ ram
+      go false x y e = refl
+      go true Unknown y e = refl
+      go true (At a) Unknown e = refl
+      go true (At a) (At d) e = rw e
+
+-- AND WHAT THE BOOK SAYS
+
+module _ (c : Core) (base : ℕ) (ram : List ℕ) (va n pa : ℕ) (kind : Kind) (s : Says c base (length ram) va n pa kind) where
+  found-first : translateOf c (wordAt base ram 8) va kind ≡ answering c (Address pa)
+  found-first = hint-serves c (wordAt base ram 8) va kind pa (s .first)
+
+  found-second : translateOf c (wordAt base ram 8) (nextPage va) kind ≡ answering c (Address (s .pa2))
+  found-second = hint-serves c (wordAt base ram 8) (nextPage va) kind (s .pa2) (s .second)
+
+  both-goes : goesOn (translateOf c (wordAt base ram 8) va kind .answer) (twoPages c va n) ≡ true
+  both-goes = ap (λ (t : Translated). goesOn (t .answer) (twoPages c va n)) found-first ∙ s .two
+
+  abbrev apart-placed : Accessed
+  apart-placed = record { core = c; placed = Placed.At (Parts (pagesAt va pa (s .pa2))) }
+
+  lie-apart : translateAccessOf c (wordAt base ram 8) va n kind ≡ apart-placed
+  lie-apart =
+      both-is c (wordAt base ram 8) va n kind both-goes
+      ∙ ap (λ (t : Translated). record {
+        core = translateOf (t .core) (wordAt base ram 8) (nextPage va) kind .core;
+        placed = placedBoth va (t .answer) (translateOf (t .core) (wordAt base ram 8) (nextPage va) kind .answer);
+      }) found-first
+      ∙ ap (λ (t : Translated). record { core = t .core; placed = placedBoth va (Address pa) (t .answer) }) found-second
+
+load-ends : (last abort base : ℕ) (ram : List ℕ) (va n v : ℕ) (place : Place) → loadOf base ram place n ≡ Got.Value v
+    → loadEnd (Placed.At place) last abort base ram va n ≡ record { «last_pa» = firstPa place; «abort_pa» = abort; answer = Load.Value v }
+unfolding loadEnd
+load-ends last abort base ram va n v place e = rw e
+
+store-ends : (abort base : ℕ) (ram : List ℕ) (va n : ℕ) (place : Place) → judged base (length ram) place n ≡ Inside
+    → storeEnd (Placed.At place) abort base ram va n ≡ record { «abort_pa» = abort; answer = Store.Done }
+unfolding storeEnd
+store-ends abort base ram va n place e = rw e
+
+ram-ends : (base : ℕ) (ram : List ℕ) (n v : ℕ) (place : Place) → storeRamEnd (Placed.At place) base ram n v ≡ storeRam base ram place n v
+unfolding storeRamEnd
+ram-ends base ram n v place = refl
+
+module _ (c : Core) (base : ℕ) (ram : List ℕ) (va n pa : ℕ) (h : length ram < 2 ^ 64) where
+  read-apart : (v : ℕ) (s : Says c base (length ram) va n pa Read) → bothAt base ram (pagesAt va pa (s .pa2)) n ≡ Word.Value v
+      → (readOf c base ram va n .answer ≡ Load.Value v) × (readOf c base ram va n .core ≡ withLast c pa)
+  read-apart v s w =
+      let l = lie-apart c base ram va n pa Read s in
+      let p = load-parts c base ram va n (Placed.At (Parts (pagesAt va pa (s .pa2)))) c (sym (ap (λ (x : Accessed). x .placed) l)) (sym (ap (λ (x : Accessed). x .core) l)) in
+      let e = load-ends (c .«last_pa») (c .«abort_pa») base ram va n v (Parts (pagesAt va pa (s .pa2))) (both-loads base ram (pagesAt va pa (s .pa2)) n h v w) in
+      (sym (p .0) ∙ ap (λ (x : LoadEnd). x .answer) e, sym (p .1) ∙ ap (keptLast c) e ∙ kept-last c pa v)
+
+  write-apart : (v : ℕ) (s : Says c base (length ram) va n pa Write) → bothInside base (length ram) (pagesAt va pa (s .pa2)) n ≡ true
+      → (writeOf c base ram va n .answer ≡ Store.Done)
+      × ((ramAfterWrite c base ram va n v ≡ bothStored base ram (pagesAt va pa (s .pa2)) n v) × (writeOf c base ram va n .core ≡ c))
+  write-apart v s w =
+      let l = lie-apart c base ram va n pa Write s in
+      let p = store-parts c base ram va n v (Placed.At (Parts (pagesAt va pa (s .pa2)))) c (sym (ap (λ (x : Accessed). x .placed) l)) (sym (ap (λ (x : Accessed). x .core) l)) in
+      let e = store-ends (c .«abort_pa») base ram va n (Parts (pagesAt va pa (s .pa2))) (both-judged base ram (pagesAt va pa (s .pa2)) n h w) in (
+        sym (p .0) ∙ ap (λ (x : StoreEnd). x .answer) e,
+        (
+          sym (p .1 .0) ∙ ram-ends base ram n v (Parts (pagesAt va pa (s .pa2))) ∙ both-stores base ram (pagesAt va pa (s .pa2)) n h v w,
+          sym (p .1 .1) ∙ ap (λ (x : StoreEnd). keptAbort c (x .«abort_pa»)) e ∙ kept-abort c,
+        ),
+      )
+
+no-width-known : (size : ℕ) → widthOf size ≡ NoWidth → known size ≡ true → ⊥
+no-width-known size e k = false-true (sym (ap isWidth e) ∙ k)
+
+module _ (c : Core) (base : ℕ) (ram : List ℕ) (va size : ℕ) (h : length ram < 2 ^ 64) (k : known size ≡ true) where
+  load-apart : (pa v : ℕ) → splitLoad c base ram va size ≡ Split.Value pa v → stepOf c base ram (Call.Load va size) ≡ ends (withLast c pa) (Value v)
+  load-apart pa v e = go (widthOf size) refl
+    where
+      go : (z : Sized) → widthOf size ≡ z → stepOf c base ram (Call.Load va size) ≡ ends (withLast c pa) (Value v)
+      go (Bytes w) ez =
+          let l = load-says c base ram va (bytesIn w) pa v (ap (splitLoad c base ram va) (size-is size w ez) ∙ e) in
+          let r = read-apart c base ram va (bytesIn w) pa h v (l .0) (l .1) in
+          load-runs c base ram va size h (l .0 .clear) w ez ∙ λ i. ends (r .1 i) (loading (r .0 i))
+      go NoWidth ez = absurd (no-width-known size ez k)
+
+  store-apart : (v : ℕ) → splitMade c base ram va size ≡ true
+      → (stepOf c base ram (Call.Store va size v) ≡ ends c Done) × (ramAfter c base ram (Call.Store va size v) ≡ splitRam c base ram va size v)
+  store-apart v e = go (widthOf size) refl
+    where
+      go : (z : Sized) → widthOf size ≡ z → (stepOf c base ram (Call.Store va size v) ≡ ends c Done) × (ramAfter c base ram (Call.Store va size v) ≡ splitRam c base ram va size v)
+      go (Bytes w) ez =
+          let l = store-says c base ram va (bytesIn w) v (ap (splitMade c base ram va) (size-is size w ez) ∙ e) in
+          let r = write-apart c base ram va (bytesIn w) (l .0) h v (l .1 .0) (l .1 .1 .0) in
+          let s = store-runs c base ram va size v h (l .1 .0 .clear) w ez in (
+            s .0 ∙ (λ i. ends (r .1 .1 i) (storing (r .0 i))),
+            s .1 ∙ r .1 .0 ∙ sym (l .1 .1 .1) ∙ ap (λ (n : ℕ). splitRam c base ram va n v) (size-is size w ez),
+          )
+      go NoWidth ez = absurd (no-width-known size ez k)
+
+-- as the code says it
+module _ (ws : List ℕ) (base : ℕ) (ram : List ℕ) (va size : ℕ) (h : length ram < 2 ^ 64) (k : known size ≡ true) where
+  module _ (s : Split) (pa v : ℕ) (es : s ≡ splitLoad (held ws) base ram va size) (e : s ≡ Split.Value pa v) where
+    load-is : stepOf (held ws) base ram (Call.Load va size) ≡ ends (withLast (held ws) pa) (Value v)
+    load-is = load-apart (held ws) base ram va size h k pa v (sym es ∙ e)
+
+    pub split-code : 0 ≡ codeBy (stepOf (held ws) base ram (Call.Load va size) .reply)
+    split-code = sym (ap (λ (x : Stepped). codeBy (x .reply)) load-is)
+
+    pub split-value : (old : ℕ) → v ≡ valueBy (stepOf (held ws) base ram (Call.Load va size) .reply) old
+    split-value old = sym (ap (λ (x : Stepped). valueBy (x .reply) old) load-is)
+
+    pub split-core : (xs : List ℕ) → Moved ws xs (withLast (held ws) pa) → Moved ws xs (stepOf (held ws) base ram (Call.Load va size) .core)
+    split-core xs m = moved-as m (sym (ap (λ (x : Stepped). x .core) load-is))
+
+  module _ (made : Bool) (value : ℕ) (ys : List ℕ) (em : made ≡ splitMade (held ws) base ram va size) (ey : ys ≡ splitRam (held ws) base ram va size value) where
+    module _ (t : made ≡ true) where
+      store-is : (stepOf (held ws) base ram (Call.Store va size value) ≡ ends (held ws) Done) × (ramAfter (held ws) base ram (Call.Store va size value) ≡ splitRam (held ws) base ram va size value)
+      store-is = store-apart (held ws) base ram va size h k value (sym em ∙ t)
+
+      pub put-code : 0 ≡ codeBy (stepOf (held ws) base ram (Call.Store va size value) .reply)
+      put-code = sym (ap (λ (x : Stepped). codeBy (x .reply)) (store-is .0))
+
+      pub put-value : (old : ℕ) → old ≡ valueBy (stepOf (held ws) base ram (Call.Store va size value) .reply) old
+      put-value old = sym (ap (λ (x : Stepped). valueBy (x .reply) old) (store-is .0))
+
+      pub put-ram : ys ≡ ramAfter (held ws) base ram (Call.Store va size value)
+      put-ram = ey ∙ sym (store-is .1)
+
+      pub put-core : Moved ws ws (stepOf (held ws) base ram (Call.Store va size value) .core)
+      put-core = moved-as stays (sym (ap (λ (x : Stepped). x .core) (store-is .0)))
+
+    module _ (f : made ≡ false) where
+      unsplit : ys ≡ ram
+      unsplit = ey ∙ split-kept (held ws) base ram va size value (sym em ∙ f)
+
+      pub unput-code : (n : ℕ) → n ≡ codeBy (stepOf (held ws) base ys (Call.Store va size value) .reply) → n ≡ codeBy (stepOf (held ws) base ram (Call.Store va size value) .reply)
+      unput-code = again-code ws base ram va size value ys unsplit
+
+      pub unput-value : (v old : ℕ) → v ≡ valueBy (stepOf (held ws) base ys (Call.Store va size value) .reply) old → v ≡ valueBy (stepOf (held ws) base ram (Call.Store va size value) .reply) old
+      unput-value = again-value ws base ram va size value ys unsplit
+
+      pub unput-ram : (zs : List ℕ) → zs ≡ ramAfter (held ws) base ys (Call.Store va size value) → zs ≡ ramAfter (held ws) base ram (Call.Store va size value)
+      unput-ram = again-ram ws base ram va size value ys unsplit
+
+      pub unput-core : (xs : List ℕ) → Moved ws xs (stepOf (held ws) base ys (Call.Store va size value) .core) → Moved ws xs (stepOf (held ws) base ram (Call.Store va size value) .core)
+      unput-core = again-core ws base ram va size value ys unsplit
+
+-- a size by its number
+module _ (ws : List ℕ) (base : ℕ) (ram : List ℕ) (va size n : ℕ) (e : size ≡ n) where
+  pub same-load-code : (r : ℕ) → r ≡ codeBy (stepOf (held ws) base ram (Call.Load va n) .reply) → r ≡ codeBy (stepOf (held ws) base ram (Call.Load va size) .reply)
+  same-load-code r q = rw e q
+
+  pub same-load-value : (v old : ℕ) → v ≡ valueBy (stepOf (held ws) base ram (Call.Load va n) .reply) old → v ≡ valueBy (stepOf (held ws) base ram (Call.Load va size) .reply) old
+  same-load-value v old q = rw e q
+
+  pub same-load-core : (xs : List ℕ) → Moved ws xs (stepOf (held ws) base ram (Call.Load va n) .core) → Moved ws xs (stepOf (held ws) base ram (Call.Load va size) .core)
+  same-load-core xs m = rw e m
+
+  module _ (value : ℕ) where
+    pub same-store-code : (r : ℕ) → r ≡ codeBy (stepOf (held ws) base ram (Call.Store va n value) .reply) → r ≡ codeBy (stepOf (held ws) base ram (Call.Store va size value) .reply)
+    same-store-code r q = rw e q
+
+    pub same-store-value : (v old : ℕ) → v ≡ valueBy (stepOf (held ws) base ram (Call.Store va n value) .reply) old → v ≡ valueBy (stepOf (held ws) base ram (Call.Store va size value) .reply) old
+    same-store-value v old q = rw e q
+
+    pub same-store-ram : (ys : List ℕ) → ys ≡ ramAfter (held ws) base ram (Call.Store va n value) → ys ≡ ramAfter (held ws) base ram (Call.Store va size value)
+    same-store-ram ys q = rw e q
+
+    pub same-store-core : (xs : List ℕ) → Moved ws xs (stepOf (held ws) base ram (Call.Store va n value) .core) → Moved ws xs (stepOf (held ws) base ram (Call.Store va size value) .core)
+    same-store-core xs m = rw e m

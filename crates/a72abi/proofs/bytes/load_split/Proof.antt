@@ -1,0 +1,38 @@
+-- `a72abi::bytes::load_split` meets its contract.
+use Rattle.a72abi.proofs.Splitting.{split-code, split-value, split-core}
+use borrow.Author.Needs.{needs}
+use Rattle.a72abi.proofs.bytes.load_split.Statement.{statement}
+use Rattle.a72abi.proofs.bytes.load_split.Tie as tie
+
+load-requires : tie.Need-load-requires
+load-requires c κs = search needs
+
+enum-known-pa : tie.Need-enum-known-pa
+enum-known-pa c = search needs
+
+put-last-requires : tie.Need-put-last-requires
+put-last-requires c κs = search needs
+
+enum-told : tie.Need-enum-told
+enum-told c = search needs
+
+load-book-requires : tie.Need-load-book-requires
+load-book-requires c κs = search needs
+
+returns : tie.Need-returns
+returns c = (search (split-code, needs), (search (split-value, needs), search (split-core, needs)))
+
+returns-2 : tie.Need-returns-2
+returns-2 c = search needs
+
+pub load-split-spec : {M : Type 1} → statement M
+load-split-spec =
+    tie.close
+    (tie.spec
+    load-requires
+    enum-known-pa
+    put-last-requires
+    enum-told
+    load-book-requires
+    returns
+    returns-2)

@@ -1,0 +1,28 @@
+-- `a72abi::bytes::store_split` meets its contract.
+use Rattle.a72abi.proofs.Splitting.{put-code, put-value, put-ram, put-core, unput-code, unput-value, unput-ram, unput-core}
+use borrow.Author.Needs.{needs}
+use Rattle.a72abi.proofs.bytes.store_split.Statement.{statement}
+use Rattle.a72abi.proofs.bytes.store_split.Tie as tie
+
+store-requires : tie.Need-store-requires
+store-requires c κs = search needs
+
+store-book-requires : tie.Need-store-book-requires
+store-book-requires c κs = search needs
+
+same-length : tie.Need-same-length
+same-length c = search needs
+
+returns : tie.Need-returns
+returns c = (search (put-code, needs), (search (put-value, needs), (search (put-ram, needs), search (put-core, needs))))
+
+same-length-2 : tie.Need-same-length-2
+same-length-2 c = search needs
+
+returns-2 : tie.Need-returns-2
+returns-2 c = (search (unput-code, needs), (search (unput-value, needs), (search (unput-ram, needs), search (unput-core, needs))))
+
+pub store-split-spec : {M : Type 1} → statement M
+store-split-spec =
+    tie.close
+    (tie.spec store-requires store-book-requires same-length returns same-length-2 returns-2)

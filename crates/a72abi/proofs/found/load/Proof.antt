@@ -1,0 +1,20 @@
+-- `a72abi::found::load` meets its contract.
+use Rattle.a72abi.proofs.Founding.{fault-code, fault-value, fault-core, found-code, found-value, found-core}
+use borrow.Author.Needs.{needs}
+use Rattle.a72abi.proofs.found.load.Statement.{statement}
+use Rattle.a72abi.proofs.found.load.Tie as tie
+
+find-requires : tie.Need-find-requires
+find-requires c κs = search needs
+
+returns : tie.Need-returns
+returns c = (search (fault-code, needs), (search (fault-value, needs), search (fault-core, needs)))
+
+load-at-requires : tie.Need-load-at-requires
+load-at-requires c κs = search needs
+
+returns-2 : tie.Need-returns-2
+returns-2 c = (search (found-code, needs), (search (found-value, needs), search (found-core, needs)))
+
+pub load-spec : {M : Type 1} → statement M
+load-spec = tie.close (tie.spec find-requires returns load-at-requires returns-2)

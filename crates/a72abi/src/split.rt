@@ -1,0 +1,113 @@
+// Loads and stores over two pages whose hints both serve at a glance and whose bytes lie in RAM. All others are left to the book.
+ghost use mathlib.Core.Path.{_≡_};
+ghost use mathlib.Core.Bool.{true};
+ghost use Rattle.tlb.specs.declared.access.Kind.the-variants.{Read, Write};
+ghost use Rattle.tlb.specs.declared.hint.Physical.the-variants.{At};
+ghost use Rattle.mmu.specs.Place.{inPage, nextPage};
+ghost use Rattle.words.specs.Held.{held};
+ghost use Rattle.inplace.specs.Found.{hintFound};
+ghost use Rattle.a72abi.specs.Splits.{apartOf, loadBoth, madeBoth, ramBoth, splitLoad, splitMade, splitRam};
+use crate::memory;
+use inplace::access;
+use inplace::translate;
+use mmu::bytes;
+use mmu::place;
+use mmu::place::Pages;
+use tlb::access::Kind;
+use tlb::hint::Physical;
+use word::ram::Word;
+
+// The value of a load, and the physical address of its first byte.
+pub enum Split {
+    Value { pa: u64, v: u64 },
+    Unknown,
+}
+
+// Whether the access takes two pages, at a level and over a window that pass at a glance.
+fn apart(state: &[u64; 5205], va: u64, n: u64, base: u64, len: u64) -> bool
+    ensures { λ r. ⌜ r ≡ apartOf (held (now (state .entry))) base len va n ⌝ }
+{
+    let clear = memory::clear(state, base, len);
+    if clear {
+        let on = access::on_at(state);
+        place::crosses(on, va, n)
+    } else {
+        false
+    }
+}
+
+// A load whose first page lies at pa.
+fn load_on(state: &[u64; 5205], va: u64, n: u64, pa: u64, base: u64, ram: &[u8]) -> Split
+    ensures { λ r. ⌜ r ≡ loadBoth true (At pa) (hintFound (held (now (state .entry))) (nextPage va) Read) va base (now (ram .entry)) n ⌝ }
+{
+    let next = place::next_page(va);
+    match translate::by_hint(state, next, Kind::Read) {
+        Physical::At(pa2) => {
+            let in_page = place::in_page(va);
+            match bytes::read_both(base, ram, Pages { in_page, pa, pa2 }, n) {
+                Word::Value(v) => Split::Value { pa, v },
+                Word::Outside => Split::Unknown,
+            }
+        }
+        Physical::Unknown => Split::Unknown,
+    }
+}
+
+pub(crate) fn load(state: &[u64; 5205], va: u64, n: u64, base: u64, ram: &[u8]) -> Split
+    ensures { λ r. ⌜ r ≡ splitLoad (held (now (state .entry))) base (now (ram .entry)) va n ⌝ }
+{
+    let apart = apart(state, va, n, base, ram.len() as u64);
+    if apart {
+        match translate::by_hint(state, va, Kind::Read) {
+            Physical::At(pa) => load_on(state, va, n, pa, base, ram),
+            Physical::Unknown => Split::Unknown,
+        }
+    } else {
+        Split::Unknown
+    }
+}
+
+// A store whose first page lies at pa, and whether it was made.
+fn store_on(
+    state: &[u64; 5205],
+    va: u64,
+    n: u64,
+    value: u64,
+    pa: u64,
+    base: u64,
+    ram: &mut [u8],
+) -> bool
+    ensures { λ r. ⌜ r ≡ madeBoth true (At pa) (hintFound (held (now (state .entry))) (nextPage va) Write) va base (now (ram .entry)) n ⌝ }
+    ensures { λ _. ⌜ now (ram .exit) ≡ ramBoth true (At pa) (hintFound (held (now (state .entry))) (nextPage va) Write) va base (now (ram .entry)) n value ⌝ }
+{
+    let next = place::next_page(va);
+    match translate::by_hint(state, next, Kind::Write) {
+        Physical::At(pa2) => {
+            let in_page = place::in_page(va);
+            bytes::write_both(base, ram, Pages { in_page, pa, pa2 }, n, value)
+        }
+        Physical::Unknown => false,
+    }
+}
+
+pub(crate) fn store(
+    state: &[u64; 5205],
+    va: u64,
+    n: u64,
+    value: u64,
+    base: u64,
+    ram: &mut [u8],
+) -> bool
+    ensures { λ r. ⌜ r ≡ splitMade (held (now (state .entry))) base (now (ram .entry)) va n ⌝ }
+    ensures { λ _. ⌜ now (ram .exit) ≡ splitRam (held (now (state .entry))) base (now (ram .entry)) va n value ⌝ }
+{
+    let apart = apart(state, va, n, base, ram.len() as u64);
+    if apart {
+        match translate::by_hint(state, va, Kind::Write) {
+            Physical::At(pa) => store_on(state, va, n, value, pa, base, ram),
+            Physical::Unknown => false,
+        }
+    } else {
+        false
+    }
+}

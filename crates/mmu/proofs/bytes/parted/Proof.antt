@@ -1,0 +1,64 @@
+-- `mmu::bytes::parted` meets its contract.
+use Rattle.mmu.proofs.bytes.parted.Statement.{statement}
+use Rattle.mmu.proofs.bytes.parted.Tie as tie
+use Prim.Native.Nat.{_≤_, _-_}
+use mathlib.Core.Path.{_≡_}
+use native.Mathlib.Omega.{arith}
+use lib.ListN.{length}
+use Rattle.mmu.specs.Bytes.{splitStored}
+use Rattle.mmu.proofs.Moves.{put-starts, put-end}
+use Rattle.mmu.proofs.Both.{next-base, next-slot, parted-length, parted-on}
+use borrow.Author.Needs.{needs}
+
+abbrev Inv-loop : tie.InvT-loop
+Inv-loop base ram₀ p n value v₀ i₀ ram v i = (i ≤ n) × ((length ram ≡ length ram₀) × (splitStored base p v i (n - i) ram ≡ splitStored base p value 0 n ram₀))
+
+abbrev μ-loop : tie.MeasureT-loop
+μ-loop base ram₀ p n value v₀ i₀ ram v i = n - i
+
+loop-holds : tie.Need-loop-holds Inv-loop μ-loop
+loop-holds c = (search needs, (search needs, search (put-starts, needs)))
+
+byte-at-requires : tie.Need-byte-at-requires Inv-loop μ-loop
+byte-at-requires c κs = search needs
+
+cast-ram : tie.Need-cast-ram Inv-loop μ-loop
+cast-ram c = search needs
+
+sub-ram : tie.Need-sub-ram Inv-loop μ-loop
+sub-ram c = search (next-base, needs)
+
+slice-write-ram : tie.Need-slice-write-ram Inv-loop μ-loop
+slice-write-ram c = search (next-slot, needs)
+
+add-i : tie.Need-add-i Inv-loop μ-loop
+add-i c = search needs
+
+loop-less : tie.Need-loop-less Inv-loop μ-loop
+loop-less c = omega arith
+
+loop-again : tie.Need-loop-again Inv-loop μ-loop
+loop-again c = (search needs, (search (parted-length, needs), search (parted-on, needs)))
+
+same-length : tie.Need-same-length Inv-loop μ-loop
+same-length c = search needs
+
+returns : tie.Need-returns Inv-loop μ-loop
+returns c = search (put-end, needs)
+
+pub parted-spec : {M : Type 1} → statement M
+parted-spec =
+    tie.close
+    (tie.spec
+    Inv-loop
+    μ-loop
+    loop-holds
+    byte-at-requires
+    cast-ram
+    sub-ram
+    slice-write-ram
+    add-i
+    loop-less
+    loop-again
+    same-length
+    returns)
