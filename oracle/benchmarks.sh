@@ -33,6 +33,11 @@ On the Rust's side pimu's own function, behind one call that is not inlined, wit
 a load or store of the size). Document 01's checks 1 to 6 are not made there: pimu has none. A register write is `write_reg` with document 01's
 rule. On the library's side the exported function on the state's words, with its checks.
 
+So the library does more: it checks level, window, kind and size, and takes and gives numbers. For translations, loads and stores a third column has
+the *checked Rust*: the same function of pimu behind the library's own signature, with the same checks before it (`oracle/harness/src/bench/checked.rs`).
+That is what a caller of the Rust would have to write for the same promise, and the ratio beside it is that of equal work. The bars are held to
+the bare function all the same.
+
 Before a case is timed both sides make 2,016 calls of it, and answers, whole state and RAM are compared after each of 63 runs of them; again at the
 end. One argument of each call alternates between two values, so that a case stays what its name says:
 
@@ -49,16 +54,17 @@ end. One argument of each call alternates between two values, so that a case sta
 | register write | TCR_EL1 between two values; TTBR0_EL1 between two ASIDs; VBAR_EL1; SCTLR_EL1 to what it is |
 
 The bars were set before: hint hit 0.95, entry hit, walks and faults of translations 1.05, loads and stores on a hint 1.0, split ones 1.2, TLBI and
-register writes 1.2. The other cases have none. Those of translations came from a measurement in which the Rust's side turned the kind of access from a
-number into a `Kind` by a call out of line, 1.1 ns (4.33 ns for a hint hit); here that is inlined, and the Rust is as quick as pimu's own function is.
+register writes 1.2; on a lent core hint hit 1.5, entry hit 1.8, walks 1.5. The other cases have none. Those of translations came from a measurement in
+which the Rust's side turned the kind of access from a number into a `Kind` by a call out of line, 1.1 ns; here that is inlined, and the Rust is as
+quick as pimu's own function is.
 
 ## How it was run
 
-    rt staticlib a72abi
+    rt staticlib a72abi && rt staticlib lentbench
     cd oracle
-    A72_LIB=$PWD/../target/staticlib A72_NAME=a72abi ./benchmarks.sh
+    FEATURE=harness/lent A72_LIB=$PWD/../target/staticlib A72_NAME=a72abi ./benchmarks.sh
 
-builds `bench` with the library, counts instructions (`ir.sh`: valgrind's callgrind, two runs of different length for each case and side), runs
+builds `bench` with the libraries, counts instructions (`ir.sh`: valgrind's callgrind, two runs of different length for each case and side), runs
 `bench time 900` in a thread of 2 MiB of stack, reads the frames (`stack.sh`) and writes this file. 900 runs of each side in turn, in six passes over
 all cases, each run of about 40 µs; the time of no call is subtracted. A call takes whole cycles, so that small ratios move in steps.
 TEXT

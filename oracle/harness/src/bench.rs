@@ -1,8 +1,10 @@
 //! pimu's Rust and the library's functions on words, side by side in one process: the same cases, the same inputs.
 //!
 //! On the Rust's side the operation itself is called, behind one call that is not inlined, with RAM at its quickest;
-//! document 01's checks 1 to 6 are not made there. On the library's side its exported function is called.
+//! document 01's checks 1 to 6 are not made there. On the library's side its exported function is called. Translations,
+//! loads and stores have a third side: the Rust behind the library's signatures, with the checks.
 mod cases;
+mod checked;
 #[cfg(feature = "lent")]
 mod lent;
 mod ours;
@@ -60,10 +62,12 @@ pub struct Case {
 /// The value that every store writes.
 const STORED: u64 = 0x1122_3344_5566_7788;
 
-/// Which of the two runs.
+/// Which side runs.
 #[derive(Clone, Copy, PartialEq, Eq)]
 pub enum Side {
     Rust,
+    /// The Rust with the checks, behind the library's signatures.
+    Checked,
     Ours,
 }
 
@@ -94,12 +98,18 @@ impl Pair {
     pub fn run(&mut self, side: Side, n: usize) -> u64 {
         match side {
             Side::Rust => rust::run(self.work, self.args, &mut self.rust.cpu, &mut self.rust_ram, n),
+            Side::Checked => checked::run(self.work, self.args, &mut self.rust.cpu, &mut self.rust_ram, n),
             #[cfg(feature = "lent")]
             Side::Ours if matches!(self.work, Work::Lent(_)) => {
                 lent::run(self.work, self.args, &self.words, &self.ram, n)
             }
             Side::Ours => ours::run(self.work, self.args, &mut self.words, &mut self.ram, n),
         }
+    }
+
+    /// Whether the case has the side with the checks.
+    pub fn has_checked(&self) -> bool {
+        checked::has(self.work)
     }
 
     /// Whether both sides hold the same: whole state and RAM. A core inside the library cannot be seen: its answers

@@ -7,7 +7,7 @@ use std::hint::black_box;
 
 /// The answer's part of the sum: the value, or a fault's status and address.
 #[inline(always)]
-fn summed(n: u64, v: u64, addr: u64) -> u64 {
+pub(super) fn summed(n: u64, v: u64, addr: u64) -> u64 {
     if n == 0 {
         v
     } else {

@@ -6,6 +6,8 @@ use std::time::Instant;
 pub struct Times {
     pub rust: f64,
     pub ours: f64,
+    /// The Rust with the checks, where the case has that side.
+    pub checked: Option<f64>,
 }
 
 impl Times {
@@ -13,10 +15,16 @@ impl Times {
         self.ours / self.rust
     }
 
+    /// The ratio to the Rust with the checks, where there is one.
+    pub fn level_ratio(&self) -> f64 {
+        self.ours / self.checked.unwrap_or(self.rust)
+    }
+
     /// The lesser of each side.
     pub fn merge(&mut self, other: &Times) {
         self.rust = self.rust.min(other.rust);
         self.ours = self.ours.min(other.ours);
+        self.checked = self.checked.zip(other.checked).map(|(a, b)| a.min(b));
     }
 }
 
@@ -58,6 +66,16 @@ impl Least {
     }
 }
 
+/// The time of the side with the checks, after all was compared.
+fn checked(pair: &mut Pair, runs: usize, n: usize) -> Option<f64> {
+    let mut least = Least::new();
+    let timed = pair.has_checked();
+    (0..runs).filter(|_| timed).for_each(|_| {
+        least.add(pair, Side::Checked, n);
+    });
+    timed.then(|| least.a_call(n))
+}
+
 /// Time one case by `runs` runs of each side in turn. The error says where answers, states or RAM differed.
 pub fn time(case: &Case, runs: usize) -> Result<Times, String> {
     let mut pair = Pair::new(case);
@@ -85,5 +103,6 @@ pub fn time(case: &Case, runs: usize) -> Result<Times, String> {
     Ok(Times {
         rust: rust.a_call(n),
         ours: ours.a_call(n),
+        checked: checked(&mut pair, runs, n),
     })
 }

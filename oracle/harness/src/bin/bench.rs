@@ -5,9 +5,10 @@ use std::collections::BTreeMap;
 
 const USAGE: &str = "bench time [RUNS] [--only TEXT] [--counts FILE]
        bench list
-       bench one CASE rust|ours N
+       bench one CASE rust|checked|ours N
   time: a table of all cases (--only: of those whose name holds TEXT): nanoseconds a call on the Rust and on the
-  library, the least of RUNS runs (600), the ratio and its bar; --counts: with the instructions a call that
+  library, the least of RUNS runs (600), the ratio and its bar, then the Rust with document 01's checks behind the
+  library's signatures and the ratio to that; --counts: with the instructions a call that
   `ir.sh` wrote. Status 1 where the two sides differ in an answer or a state. list: the cases' numbers and names.
   one: N calls of one case on one side, to count instructions.";
 
@@ -42,7 +43,11 @@ fn row(number: usize, case: &Case, times: &Times, counts: &Option<Counts>) -> St
         None => " | | |".into(),
     });
     let counted = counted.unwrap_or_default();
-    format!("| {number} | {name} | {rust:.2} | {ours:.2} | {ratio:.3} | {bar} |{counted}")
+    let checked = times
+        .checked
+        .map(|checked| format!("{checked:.2} | {:.3}", ours / checked));
+    let checked = checked.unwrap_or("| ".into());
+    format!("| {number} | {name} | {rust:.2} | {ours:.2} | {ratio:.3} | {bar} | {checked} |{counted}")
 }
 
 /// All cases are gone through this often, so that a busy moment of the machine spoils none of them.
@@ -77,24 +82,25 @@ fn table(args: &Args) -> bool {
         Some(_) => (" Rust instr. | library instr. | ratio |", "---:|---:|---:|"),
         None => ("", ""),
     };
-    println!("| # | Case | Rust ns | library ns | ratio | bar |{more}");
-    println!("|---:|---|---:|---:|---:|---|{line}");
-    let (mut met, mut bars, mut equal) = (0, 0, true);
+    println!("| # | Case | Rust ns | library ns | ratio | bar | checked Rust ns | ratio |{more}");
+    println!("|---:|---|---:|---:|---:|---|---:|---:|{line}");
+    let (mut met, mut level, mut bars, mut equal) = (0, 0, 0, true);
     for ((number, case), outcome) in cases.iter().zip(least(&cases, runs)) {
         match outcome {
             Ok(times) => {
                 bars += case.bar.is_some() as usize;
                 met += case.bar.is_some_and(|bar| times.ratio() <= bar) as usize;
+                level += case.bar.is_some_and(|bar| times.level_ratio() <= bar) as usize;
                 println!("{}", row(*number, case, &times, &counts));
             }
             Err(e) => {
-                println!("| {number} | {e} | | | | |");
+                println!("| {number} | {e} | | | | | | |");
                 equal = false;
             }
         }
     }
     println!(
-        "\n{met} of {bars} bars met; {}",
+        "\n{met} of {bars} bars met, {level} against the Rust with the checks; {}",
         if equal { "all equal" } else { "DIFFERENT" }
     );
     equal
@@ -105,8 +111,9 @@ fn one(args: &Args) -> bool {
     let number: usize = args.number(1);
     let side = match args.words()[2].as_str() {
         "rust" => Side::Rust,
+        "checked" => Side::Checked,
         "ours" => Side::Ours,
-        _ => args.fail("rust or ours"),
+        _ => args.fail("rust, checked or ours"),
     };
     let cases = cases();
     let Some(case) = cases.get(number.wrapping_sub(1)) else {
