@@ -47,29 +47,26 @@ fn begin(m: Machine, class: u64) -> Machine {
     out
 }
 
-fn show(m: Machine, place: u64, is: u64, want: u64) {
-    say::text(b": line ");
-    say::decimal(m.lines);
-    say::text(b", word ");
-    say::decimal(place);
-    say::text(b" is ");
-    say::hex(is, 1);
-    say::text(b", not ");
-    say::hex(want, 1);
-}
-
 // What the core must have come to.
-fn due(m: Machine, state: &[u64; 5205], place: u64, want: u64) -> Machine {
-    let is = found(m, state, place);
+fn due(m: Machine, place: u64, is: u64, want: u64) -> Machine {
     if is == want {
         return m;
     }
-    show(m, place, is, want);
+    say::differs(m.lines, place, is, want);
     let mut c = m.case;
     c.wrong = true;
     let mut out = m;
     out.case = c;
     out
+}
+
+// The answer that is due: its code, third and fourth word in one, and its second word.
+fn answered(m: Machine, small: u64, value: u64) -> Machine {
+    let a = m.ans;
+    let code = due(m, 5205, a[0], small % 256);
+    let second = due(code, 5206, a[1], value);
+    let third = due(second, 5207, a[2], small / 256 % 256);
+    due(third, 5208, a[3], small / 65536 % 256)
 }
 
 // A part of the other answer.
@@ -109,18 +106,21 @@ fn end(m: Machine, counts: &mut [u64; 2048]) -> Machine {
     out.cases = bits::more(m.cases);
     if right(c) {
         note(c, counts);
-        out
-    } else {
-        lines::wrong(out)
+        return out;
     }
+    if !c.wrong {
+        say::text(b"\n  a case that agrees, or has no class");
+    }
+    lines::wrong(out)
 }
 
 pub fn line(m: Machine, op: &[u64; 8], state: &[u64; 5205], counts: &mut [u64; 2048]) -> Machine {
     match op[0] {
         70 => begin(m, op[1]),
-        71 => due(m, state, op[1], op[2]),
+        71 => due(m, op[1], parts::get(state, op[1]), op[2]),
         72 => other(m, state, op[1], op[2]),
         73 => end(m, counts),
+        74 => answered(m, op[1], op[2]),
         _ => lines::broken(m, b"no such line"),
     }
 }

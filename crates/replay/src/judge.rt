@@ -38,17 +38,8 @@ fn digest_words(sum: u64, state: &[u64; 5205]) -> [u64; 6] {
     [e.count, h.count, r, e.digest, h.digest, sum]
 }
 
-fn show(m: Machine, op: &[u64; 8], place: u64, is: u64, want: u64) -> Machine {
-    say::text(b": line ");
-    say::decimal(m.lines);
-    say::text(b", operation ");
-    say::decimal(op[0]);
-    say::text(b", word ");
-    say::decimal(place);
-    say::text(b" is ");
-    say::hex(is, 1);
-    say::text(b", not ");
-    say::hex(want, 1);
+fn show(m: Machine, place: u64, is: u64, want: u64) -> Machine {
+    say::differs(m.lines, place, is, want);
     lines::wrong(m)
 }
 
@@ -64,24 +55,17 @@ fn first_wrong(is: &[u64], want: &[u8], from: u64) -> usize {
     i
 }
 
-fn judge(m: Machine, op: &[u64; 8], state: &[u64; 5205], want: &[u8]) -> Machine {
+fn judge(m: Machine, state: &[u64; 5205], want: &[u8]) -> Machine {
     let plain = plain_words(m, state);
     let i = first_wrong(&plain, want, 0);
     if i < 18 {
-        return show(
-            m,
-            op,
-            8 + i as u64,
-            plain[i],
-            parts::word_of(want, i as u64),
-        );
+        return show(m, 8 + i as u64, plain[i], parts::word_of(want, i as u64));
     }
     let digests = digest_words(m.sum, state);
     let j = first_wrong(&digests, want, 18);
     if j < 6 {
         show(
             m,
-            op,
             26 + j as u64,
             digests[j],
             parts::word_of(want, 18 + j as u64),
@@ -121,7 +105,7 @@ pub fn tail(
             let ans = m.ans;
             tally::note(op, ans, state[32], counts);
             let now = summed(m, ram);
-            judge(now, op, state, &want[..n])
+            judge(now, state, &want[..n])
         }
         1 => m,
         _ => lines::broken(m, b"no such operation"),

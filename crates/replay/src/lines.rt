@@ -51,7 +51,7 @@ fn start() -> Machine {
 pub fn broken(m: Machine, why: &[u8]) -> Machine {
     let mut out = wrong(m);
     out.more = false;
-    say::text(b": ");
+    say::text(b"\n  ");
     say::text(why);
     out
 }

@@ -15,7 +15,11 @@ pub struct Total {
 
 // A record's line.
 pub fn file(m: Machine) {
-    say::text(b": ");
+    if m.wrong == 0 {
+        say::text(b": ");
+    } else {
+        say::text(b"\n  ");
+    }
     say::part(m.done, b"operations", true);
     if m.left != 0 {
         say::part(m.left, b"left out", false);

@@ -21,3 +21,15 @@ pub fn part(n: u64, word: &[u8], first: bool) {
     text(b" ");
     text(word);
 }
+
+// A difference: the line, the word by its place, what it is and what it should be.
+pub fn differs(line: u64, place: u64, is: u64, want: u64) {
+    text(b"\n  line ");
+    decimal(line);
+    text(b": word ");
+    decimal(place);
+    text(b" is ");
+    hex(is, 1);
+    text(b", not ");
+    hex(want, 1);
+}

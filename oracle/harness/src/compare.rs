@@ -73,7 +73,7 @@ pub fn compare(lines: &[Line], other: &mut dyn Core, mut watch: impl FnMut(Step)
         if y.is_none() {
             continue;
         }
-        if x != y || rust.state() != other.state() || ram != other_ram {
+        if x != y || !other.holds(&rust) || ram != other_ram {
             let (a, b) = (Side::take(&rust, x, &ram), Side::take(other, y, &other_ram));
             return Some(Difference {
                 at,

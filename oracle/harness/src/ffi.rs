@@ -124,6 +124,7 @@ mod words;
 mod stand_in;
 
 use crate::op::{Ans, Line, Op};
+use crate::rust::RustCore;
 use crate::{Core, Ram, State};
 pub use state::{state_of, words_of, BROADCAST, COUNT, ENTRIES, FETCH, HINTS, STATE};
 pub use words::{decode, decode_answer, encode, encode_answer, exception};
@@ -216,6 +217,10 @@ impl Core for CCore {
 
     fn state(&self) -> State {
         state_of(&self.words[..])
+    }
+
+    fn holds(&self, rust: &RustCore) -> bool {
+        rust.is_held_by(&self.words)
     }
 
     fn load(&mut self, state: &State) {

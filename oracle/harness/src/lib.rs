@@ -42,6 +42,10 @@ pub trait Core {
     fn step(&mut self, op: &Op, ram: &mut Ram) -> Ans;
     /// All that it holds.
     fn state(&self) -> State;
+    /// Whether it holds all that the Rust holds.
+    fn holds(&self, rust: &rust::RustCore) -> bool {
+        self.state() == rust.state()
+    }
     /// Hold this from now on.
     fn load(&mut self, state: &State);
     fn copy(&self) -> Box<dyn Core>;

@@ -5,6 +5,7 @@
 //! `ans` takes the value, or the address of a data abort; where there is neither it stays as it was.
 use super::{boxed, exception, fresh, poke, state_of, Words, STATE, UNWRITTEN};
 use crate::op::{Ans, Op};
+use crate::rust::RustCore;
 use crate::{Core, Ram, State};
 
 type StateWords = *mut [u64; STATE];
@@ -233,6 +234,10 @@ impl Core for EachCore {
 
     fn state(&self) -> State {
         state_of(&self.words[..])
+    }
+
+    fn holds(&self, rust: &RustCore) -> bool {
+        rust.is_held_by(&self.words)
     }
 
     fn load(&mut self, state: &State) {
