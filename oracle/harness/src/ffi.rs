@@ -195,20 +195,11 @@ impl Core for CCore {
         if op.is_poke() {
             return poke::poke(&mut self.words, op);
         }
+        let (at, len) = (ram.bytes.lent(op.may_write_ram()), ram.bytes.len());
         let op = encode(&Line::Op(*op));
         let mut ans = [UNWRITTEN; 4];
-        let bytes = &mut ram.bytes;
         // Sound: each pointer is that of an array or a vector, with its own length, and no two overlap.
-        let code = unsafe {
-            a72_step(
-                &op,
-                &mut *self.words,
-                ram.base,
-                bytes.as_mut_ptr(),
-                bytes.len(),
-                &mut ans,
-            )
-        };
+        let code = unsafe { a72_step(&op, &mut *self.words, ram.base, at, len, &mut ans) };
         match code {
             0 => decode_answer(&ans),
             _ => Ans::Panic,
@@ -217,6 +208,10 @@ impl Core for CCore {
 
     fn state(&self) -> State {
         state_of(&self.words[..])
+    }
+
+    fn seals(&self) -> bool {
+        true
     }
 
     fn holds(&self, rust: &RustCore) -> bool {

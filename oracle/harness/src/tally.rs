@@ -5,12 +5,40 @@ use std::fmt::{self, Display, Formatter};
 
 /// The kinds of operations, in the order of their names.
 const KINDS: [&str; 21] = [
-    "abort", "dpa", "fpa", "if", "l-walk", "ld", "leaf", "level", "mark", "other", "poke", "reg", "st", "sys AT",
-    "sys DC ZVA", "sys TLBI", "sys other", "tr fetch", "tr read", "tr write", "x",
+    "abort",
+    "dpa",
+    "fpa",
+    "if",
+    "l-walk",
+    "ld",
+    "leaf",
+    "level",
+    "mark",
+    "other",
+    "poke",
+    "reg",
+    "st",
+    "sys AT",
+    "sys DC ZVA",
+    "sys TLBI",
+    "sys other",
+    "tr fetch",
+    "tr read",
+    "tr write",
+    "x",
 ];
 
 /// The kinds of answers: those without a number, then numbers, levels of leaves, and four times 64 statuses.
-const PLAIN: [&str; 8] = ["ok", "val", "none", "pair", "undefined", "unimplemented", "panic", "PAR ok"];
+const PLAIN: [&str; 8] = [
+    "ok",
+    "val",
+    "none",
+    "pair",
+    "undefined",
+    "unimplemented",
+    "panic",
+    "PAR ok",
+];
 const NUMBERS: usize = PLAIN.len();
 const LEAVES: usize = NUMBERS + 8;
 const STATUSES: usize = LEAVES + 4;
@@ -121,15 +149,26 @@ impl Tally {
         }
     }
 
+    /// Another tally's numbers, too.
+    pub fn add(&mut self, other: &Tally) {
+        for (mine, theirs) in self.counts.iter_mut().zip(&other.counts) {
+            mine.iter_mut().zip(theirs).for_each(|(a, b)| *a += b);
+        }
+        self.via.iter_mut().zip(other.via).for_each(|(a, b)| *a += b);
+        self.operations += other.operations;
+        self.left_out += other.left_out;
+    }
+
     /// Rows of operation, number, and answers with their numbers, by name.
     pub fn rows(&self) -> impl Iterator<Item = (&'static str, u64, String)> + '_ {
         let seen = KINDS.iter().zip(&self.counts);
-        seen.filter(|(_, row)| row.iter().any(|n| *n != 0)).map(|(kind, row)| {
-            let some = row.iter().enumerate().filter(|(_, n)| **n != 0);
-            let mut parts: Vec<String> = some.map(|(p, n)| format!("{}: {n}", class_name(p))).collect();
-            parts.sort();
-            (*kind, row.iter().sum(), parts.join(", "))
-        })
+        seen.filter(|(_, row)| row.iter().any(|n| *n != 0))
+            .map(|(kind, row)| {
+                let some = row.iter().enumerate().filter(|(_, n)| **n != 0);
+                let mut parts: Vec<String> = some.map(|(p, n)| format!("{}: {n}", class_name(p))).collect();
+                parts.sort();
+                (*kind, row.iter().sum(), parts.join(", "))
+            })
     }
 
     pub fn sources(&self) -> String {

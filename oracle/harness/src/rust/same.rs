@@ -17,7 +17,17 @@ fn counts(c: &Cpu, w: &[u64; STATE]) -> bool {
     let t = &c.tlb;
     let (kind, value) = state::pending(t);
     let mark = w[COUNT + 1] == 1;
-    let is = [t.hits, t.walks, t.flushes, t.drops, t.epoch, kind.into(), value, cpu::last_pa(c), c.abort_pa];
+    let is = [
+        t.hits,
+        t.walks,
+        t.flushes,
+        t.drops,
+        t.epoch,
+        kind.into(),
+        value,
+        cpu::last_pa(c),
+        c.abort_pa,
+    ];
     let present: [u64; 2] = [mmu::generation(t).into(), mmu::cache_asid(t).into()];
     w[COUNT] == c.el.into()
         && mark == cpu::unprivileged(c)
