@@ -28,7 +28,6 @@ notice cases.rec $((first + 64)) "an answer"
 notice cases.rec $((first + 8 * 28)) "the digest of the registers"
 notice cases.rec $((first + 8 * 31)) "the digest of RAM"
 notice tlbi.rec $(($(wc -c <crates/replay/data/tlbi.rec) - 16)) "the last digest of hints"
-size=$(wc -c <crates/replay/data/outside-at.rec)
-notice outside-at.rec $((size - 16)) "PAR of the last outside vector"
+notice outside-perm.rec $(($(wc -c <crates/replay/data/outside-perm.rec) - 16)) "the last outside answer"
 notice rules.rec 24 "the number of operations"
 echo "wrong records: all noticed"

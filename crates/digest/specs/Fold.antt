@@ -1,6 +1,6 @@
 -- A digest of words: h becomes 3h + w modulo 2^64, and then h xor h / 2^32.
-use mathlib.Core.List.{List, [], _∷_}
-use Prim.Native.Nat.{ℕ, _+_, _*_, _/_, _^_}
+use mathlib.Core.List.{List, [], _∷_, _++_}
+use Prim.Native.Nat.{ℕ, zero, suc, _+_, _*_, _/_, _^_}
 use lib.Bits.{bitXor}
 use Rattle.word.specs.Bits.{wrap}
 
@@ -17,8 +17,10 @@ unfoldable pub digestFrom : ℕ → List ℕ → ℕ
 digestFrom h [] = h
 digestFrom h (w ∷ ws) = digestFrom (joined h w) ws
 
-abbrev pub start : ℕ
-start = 0x9E3779B97F4A7C15
+abbrev pub digestOf : List ℕ → ℕ
+digestOf ws = digestFrom 0x9E3779B97F4A7C15 ws
 
-unfoldable pub digestOf : List ℕ → ℕ
-digestOf ws = digestFrom start ws
+-- the words of n things from thing i on, one thing after another
+unfoldable pub gathered : (ℕ → List ℕ) → ℕ → ℕ → List ℕ
+gathered f zero i = []
+gathered f (suc n) i = f i ++ gathered f n (i + 1)

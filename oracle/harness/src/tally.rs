@@ -28,7 +28,7 @@ const KINDS: [&str; 21] = [
     "x",
 ];
 
-/// The kinds of answers: those without a number, then numbers, levels of leaves, and four times 64 statuses.
+/// The kinds of answers: those without a number, then numbers, levels of leaves, and four times 256 statuses.
 const PLAIN: [&str; 8] = [
     "ok",
     "val",
@@ -42,7 +42,7 @@ const PLAIN: [&str; 8] = [
 const NUMBERS: usize = PLAIN.len();
 const LEAVES: usize = NUMBERS + 8;
 const STATUSES: usize = LEAVES + 4;
-const CLASSES: usize = STATUSES + 4 * 64;
+const CLASSES: usize = STATUSES + 4 * 256;
 const STATUS: [&str; 4] = ["fault", "data", "insn", "PAR"];
 
 pub struct Tally {
@@ -95,14 +95,14 @@ fn kind(op: &Op) -> usize {
 const AT: usize = 13;
 
 fn status(which: usize, s: u8) -> usize {
-    STATUSES + 64 * which + usize::from(s % 64)
+    STATUSES + 256 * which + usize::from(s)
 }
 
 /// The place of the answer's kind, with its status; of an AT that was carried out, PAR's.
 fn class(step: &Step) -> usize {
     match step.answer {
         Ans::Ok if kind(step.op) == AT => match step.rust.par() {
-            p if p & 1 != 0 => status(3, (p >> 1) as u8),
+            p if p & 1 != 0 => status(3, (p >> 1 & 0x3F) as u8),
             _ => 7,
         },
         Ans::Ok => 0,
@@ -125,7 +125,7 @@ fn class_name(place: usize) -> String {
         p if p < NUMBERS => PLAIN[p].into(),
         p if p < LEAVES => format!("no {}", p - NUMBERS),
         p if p < STATUSES => format!("leaf {}", p - LEAVES),
-        p => format!("{} {:02x}", STATUS[(p - STATUSES) / 64], (p - STATUSES) % 64),
+        p => format!("{} {:02x}", STATUS[(p - STATUSES) / 256], (p - STATUSES) % 256),
     }
 }
 
