@@ -1,2 +1,3 @@
 pub mod Fold
 pub mod Parts
+pub mod Window

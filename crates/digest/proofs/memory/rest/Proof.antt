@@ -1,48 +1,28 @@
--- `digest::memory::rest` is safe and ends.
-use native.Mathlib.Omega.{arith}
-use Prim.Native.Nat.{ℕ, _≤_, _-_}
+-- `digest::memory::rest` meets its contract.
+use Rattle.digest.proofs.Wording.{join8}
 use borrow.Author.Needs.{needs}
-use lib.ListN.{length}
 use Rattle.digest.proofs.memory.rest.Statement.{statement}
 use Rattle.digest.proofs.memory.rest.Tie as tie
 
-abbrev Inv-loop : tie.InvT-loop
-Inv-loop ram at v₀ i₀ v i = i ≤ length ram
+four-at-requires : tie.Need-four-at-requires
+four-at-requires c κs = search needs
 
-abbrev μ-loop : tie.MeasureT-loop
-μ-loop ram at v₀ i₀ v i = i
+add-four-at : tie.Need-add-four-at
+add-four-at c = search needs
 
-loop-holds : tie.Need-loop-holds Inv-loop μ-loop
-loop-holds c = omega arith
+four-at-requires-2 : tie.Need-four-at-requires-2
+four-at-requires-2 c κs = search needs
 
-sub-i : tie.Need-sub-i Inv-loop μ-loop
-sub-i c = omega arith
+mul-result : tie.Need-mul-result
+mul-result c = search needs
 
-shared-slice-read-wide : tie.Need-shared-slice-read-wide Inv-loop μ-loop
-shared-slice-read-wide c = omega arith
+add-result : tie.Need-add-result
+add-result c = search needs
 
-wide-requires : tie.Need-wide-requires Inv-loop μ-loop
-wide-requires c κs = search needs
-
-loop-less : tie.Need-loop-less Inv-loop μ-loop
-loop-less c = omega arith
-
-loop-again : tie.Need-loop-again Inv-loop μ-loop
-loop-again c = omega arith
-
-returns : tie.Need-returns Inv-loop μ-loop
-returns c = tt
+returns : tie.Need-returns
+returns c = search (join8, needs)
 
 pub rest-spec : {M : Type 1} → statement M
 rest-spec =
     tie.close
-    (tie.spec
-    Inv-loop
-    μ-loop
-    loop-holds
-    sub-i
-    shared-slice-read-wide
-    wide-requires
-    loop-less
-    loop-again
-    returns)
+    (tie.spec four-at-requires add-four-at four-at-requires-2 mul-result add-result returns)
