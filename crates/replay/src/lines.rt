@@ -2,10 +2,10 @@
 use crate::arrange;
 use crate::cases;
 use crate::cases::Case;
-use crate::entries;
 use crate::judge;
 use crate::memory;
 use crate::parts;
+use crate::perform;
 use crate::say;
 use crate::short;
 use word::bits;
@@ -74,8 +74,8 @@ fn operate(
     counts: &mut [u64; 2048],
 ) -> Machine {
     let mut ans = [0u64; 4];
-    let code = entries::perform(op, state, m.base, ram, &mut ans);
-    let out = entries::noted(m, op, code, &ans);
+    let code = perform::perform(op, state, m.base, ram, &mut ans);
+    let out = perform::noted(m, op, code, &ans);
     if whole {
         judge::tail(out, fd, op, code, state, ram, counts)
     } else {

@@ -1,12 +1,12 @@
 // Replays recorded answers on the proved core: each argument names a record; each difference is shown, then what was replayed.
 mod arrange;
 mod cases;
-mod entries;
 mod judge;
 mod leaves;
 mod lines;
 mod memory;
 mod parts;
+mod perform;
 mod report;
 mod say;
 mod short;

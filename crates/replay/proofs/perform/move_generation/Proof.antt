@@ -1,9 +1,9 @@
--- `replay::entries::move_generation` is safe and ends.
+-- `replay::perform::move_generation` is safe and ends.
 use native.Mathlib.Omega.{arith}
 use Prim.Native.Nat.{ℕ, _≤_, _-_}
 use borrow.Author.Needs.{needs}
-use Rattle.replay.proofs.entries.move_generation.Statement.{statement}
-use Rattle.replay.proofs.entries.move_generation.Tie as tie
+use Rattle.replay.proofs.perform.move_generation.Statement.{statement}
+use Rattle.replay.proofs.perform.move_generation.Tie as tie
 
 abbrev Inv-loop : tie.InvT-loop
 Inv-loop state₀ to from j₀ state j = j ≤ 1024
