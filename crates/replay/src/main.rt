@@ -1,192 +1,100 @@
-// Replays recorded answers on the proved core: a record comes on standard input, each difference is shown, and the counts are the last line.
-ghost use mathlib.Core.Path.{_≡_};
-ghost use lib.ListN.{length};
-
-mod answers;
-mod calls;
+// Replays recorded answers on the proved core: each argument names a record; each difference is shown, then what was replayed.
+mod arrange;
+mod cases;
+mod judge;
+mod leaves;
+mod lines;
 mod memory;
+mod parts;
+mod perform;
+mod report;
+mod say;
+mod short;
+mod tables;
+mod tally;
 
-use answers::Answer;
-use cpu::call::Stepped;
-use mmu::core::Core;
+use lines::Machine;
+use report::Total;
+use word::bits;
 
-struct Machine {
-    core: Core,
-    base: u64,
-    len: usize,
-    done: u64,
-    wrong: u64,
-    more: bool,
+// RAM for the largest window of a record.
+fn ram_bytes() -> [u8; 1056768] {
+    [0; 1056768]
 }
 
-fn text(s: &[u8]) {
-    io::write_all(1, s);
-}
-
-fn hex(n: u64) {
-    io::print_hex(1, n, 1);
-    text(b" ");
-}
-
-fn show(head: &[u8], r: Answer, tail: &[u8]) {
-    text(b"op ");
-    hex(calls::at(head, 0));
-    hex(calls::at(head, 1));
-    hex(calls::at(head, 2));
-    hex(calls::at(head, 3));
-    hex(calls::at(head, 4));
-    hex(calls::at(head, 5));
-    text(b"ours ");
-    hex(r.code);
-    hex(r.a);
-    hex(r.b);
-    hex(r.c);
-    text(b"rust ");
-    hex(calls::at(tail, 0));
-    hex(calls::at(tail, 1));
-    hex(calls::at(tail, 2));
-    hex(calls::at(tail, 3));
-    text(b"\n");
-}
-
-fn perform(m: Machine, ram: &mut [u8], head: &[u8]) -> Stepped {
-    let call = calls::call_of(
-        calls::at(head, 0),
-        calls::at(head, 1),
-        calls::at(head, 2),
-        calls::at(head, 3),
-        calls::at(head, 4),
-        calls::at(head, 5),
-    );
-    let core = m.core;
-    cpu::step::step(core, m.base, ram, call)
-}
-
-fn judge(m: Machine, s: Stepped, head: &[u8], tail: &[u8]) -> Machine {
-    let after = s.core;
-    let reply = s.reply;
-    let r = answers::answer_of(reply);
-    let right = answers::same_answer(r, tail) & answers::same_core(after, tail);
-    let mut out = m;
-    out.core = after;
-    if m.done < 0xFFFF_FFFF {
-        out.done = m.done + 1;
-    }
-    if !right {
-        show(head, r, tail);
-        if m.wrong < 0xFFFF_FFFF {
-            out.wrong = m.wrong + 1;
-        }
-    }
-    out
-}
-
-fn finish(m: Machine, s: Stepped, head: &[u8]) -> Machine {
-    let mut tail = [0u8; 192];
-    let n = io::read_full(0, &mut tail);
-    judge(m, s, head, &tail[..n])
-}
-
-// An operation: 24 words follow its line.
-fn operate(m: Machine, ram: &mut [u8], head: &[u8]) -> Machine {
-    let s = perform(m, ram, head);
-    finish(m, s, head)
-}
-
-// A line that is no operation: fresh, window, zero or poke.
-fn arrange(m: Machine, ram: &mut [u8], head: &[u8]) -> Machine {
-    let mut out = m;
-    match calls::at(head, 0) {
-        60 => {
-            let c = Core::new();
-            out.core = c;
-        }
-        61 => {
-            out.base = calls::at(head, 1);
-            out.len = (calls::at(head, 2) % 0x100_0000) as usize;
-        }
-        62 => memory::wipe(ram),
-        _ => memory::poke(m.base, ram, calls::at(head, 1), calls::at(head, 2)),
-    }
-    out
-}
-
-fn act(m: Machine, ram: &mut [u8], head: &[u8]) -> Machine {
-    if 60 <= calls::at(head, 0) {
-        arrange(m, ram, head)
-    } else {
-        operate(m, ram, head)
-    }
-}
-
-fn end(m: Machine) -> Machine {
-    let mut out = m;
-    out.more = false;
-    out
-}
-
-// A line on the window, which is the first bytes of RAM.
-fn inside(m: Machine, ram: &mut [u8], head: &[u8]) -> Machine {
-    let k = m.len;
-    if k <= ram.len() {
-        act(m, &mut ram[0..k], head)
-    } else {
-        text(b"window too large\n");
-        end(m)
-    }
-}
-
-fn line(m: Machine, ram: &mut [u8]) -> Machine {
-    let mut head = [0u8; 64];
-    let n = io::read_full(0, &mut head);
-    if n < 64 {
-        end(m)
-    } else {
-        inside(m, ram, &head[..n])
-    }
-}
-
-fn start() -> Machine {
-    let core = Core::new();
-    Machine {
-        core,
-        base: 0,
-        len: 0,
+fn nothing() -> Total {
+    Total {
+        files: 0,
         done: 0,
+        left: 0,
+        cases: 0,
         wrong: 0,
-        more: true,
     }
 }
 
-// A proved loop ends: it counts its turns down from more than any record has.
-fn lines(ram: &mut [u8]) -> Machine {
-    let mut m = start();
-    let mut turns = 10_000_000u64;
-    while turns > 0 && m.more {
-        m = line(m, ram);
-        turns -= 1;
+fn with_record(t: Total, m: Machine) -> Total {
+    Total {
+        files: bits::more(t.files),
+        done: std::num::wrapping_add_u64(t.done, m.done),
+        left: std::num::wrapping_add_u64(t.left, m.left),
+        cases: std::num::wrapping_add_u64(t.cases, m.cases),
+        wrong: std::num::wrapping_add_u64(t.wrong, m.wrong),
     }
-    m
 }
 
-fn header() {
-    let mut head = [0u8; 64];
-    io::read_full(0, &mut head);
+fn missing(t: Total) -> Total {
+    say::text(b": no such file\n");
+    let mut out = t;
+    out.wrong = bits::more(t.wrong);
+    out
 }
 
-// RAM for the largest window that is replayed.
-fn ram_bytes() -> [u8; 262144]
-    ensures { λ r. ⌜ 262144 ≡ length r ⌝ }
-{
-    [0; 262144]
+// A record by its name.
+fn named(
+    t: Total,
+    name: &[u8],
+    state: &mut [u64; 5205],
+    ram: &mut [u8],
+    counts: &mut [u64; 2048],
+) -> Total {
+    let fd = os::open_read(name);
+    say::text(name);
+    if fd < 0 {
+        return missing(t);
+    }
+    let m = lines::record(fd, state, ram, counts);
+    libc::close(fd);
+    report::file(m);
+    with_record(t, m)
+}
+
+fn argument(
+    t: Total,
+    i: usize,
+    state: &mut [u64; 5205],
+    ram: &mut [u8],
+    counts: &mut [u64; 2048],
+) -> Total {
+    let mut name = [0u8; 256];
+    let n = os::arg(i, &mut name);
+    named(t, &name[..n], state, ram, counts)
+}
+
+fn arguments(state: &mut [u64; 5205], ram: &mut [u8], counts: &mut [u64; 2048]) -> Total {
+    let n = os::arg_count();
+    let mut t = nothing();
+    let mut i: usize = 1;
+    while i < n {
+        t = argument(t, i, state, ram, counts);
+        i += 1;
+    }
+    t
 }
 
 fn main() {
     let mut ram = ram_bytes();
-    header();
-    let m = lines(&mut ram);
-    io::print_decimal(1, m.done);
-    text(b" operations, ");
-    io::print_decimal(1, m.wrong);
-    text(b" differ\n");
+    let mut state = [0u64; 5205];
+    let mut counts = [0u64; 2048];
+    let t = arguments(&mut state, &mut ram, &mut counts);
+    report::all(t, &counts);
 }

@@ -1,4 +1,4 @@
-// The lent window: wiped, and set byte by byte.
+// The lent window, which is the first bytes of RAM: wiped, and set byte by byte.
 use word::ram;
 use word::ram::Width;
 
@@ -11,10 +11,17 @@ pub fn wipe(ram: &mut [u8]) {
     }
 }
 
+// The bytes from a place on are 0.
+pub fn wipe_from(ram: &mut [u8], start: usize) {
+    if start <= ram.len() {
+        wipe(&mut ram[start..]);
+    }
+}
+
 // Byte i of a value, at address plus i, where that is inside.
 fn poke_byte(base: u64, ram: &mut [u8], addr: u64, value: u64, i: u64) {
-    if addr <= 0xFFFF_FFFF_FFFF_FFF0 {
-        let k = i % 8;
+    let k = i % 8;
+    if addr <= 0xFFFF_FFFF_FFFF_FFFF - k {
         ram::write(base, ram, Width::Byte, addr + k, (value >> (k * 8)) % 256);
     }
 }

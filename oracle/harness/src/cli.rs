@@ -88,6 +88,11 @@ impl Args {
         (self.number(0)..self.number(1), self.number(2))
     }
 
+    /// How many seeds at a time: 1 unless it is said.
+    pub fn jobs(&self) -> usize {
+        self.value("--jobs").map_or(1, |text| self.parse(text))
+    }
+
     pub fn style(&self) -> Style {
         match (self.flag("--strict"), self.flag("--wild")) {
             (false, false) => Style::Full,

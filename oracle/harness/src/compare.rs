@@ -55,9 +55,15 @@ fn report(line: &Line, rust: &Side, other: &Side) -> String {
 pub fn compare(lines: &[Line], other: &mut dyn Core, mut watch: impl FnMut(Step)) -> Option<Difference> {
     let mut rust = RustCore::new();
     other.reset();
-    let (mut ram, mut other_ram) = (Ram::default(), Ram::default());
+    let mut ram = Ram::default();
+    let mut other_ram = if other.seals() {
+        Ram::sealable()
+    } else {
+        Ram::default()
+    };
     for (at, line) in lines.iter().enumerate() {
         let before = (rust.cpu.tlb.hits, rust.cpu.tlb.walks);
+        let writes = ram.writes;
         let x = feed(line, &mut rust, &mut ram);
         let y = feed(line, other, &mut other_ram);
         let (Line::Op(op), Some(answer)) = (line, x) else {
@@ -73,7 +79,9 @@ pub fn compare(lines: &[Line], other: &mut dyn Core, mut watch: impl FnMut(Step)
         if y.is_none() {
             continue;
         }
-        if x != y || rust.state() != other.state() || ram != other_ram {
+        // Where the Rust wrote nothing and the other could not have, RAM is as it was.
+        let unwritten = other.seals() && !op.may_write_ram() && ram.writes == writes;
+        if x != y || !other.holds(&rust) || !unwritten && ram != other_ram {
             let (a, b) = (Side::take(&rust, x, &ram), Side::take(other, y, &other_ram));
             return Some(Difference {
                 at,

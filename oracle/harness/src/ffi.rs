@@ -124,6 +124,7 @@ mod words;
 mod stand_in;
 
 use crate::op::{Ans, Line, Op};
+use crate::rust::RustCore;
 use crate::{Core, Ram, State};
 pub use state::{state_of, words_of, BROADCAST, COUNT, ENTRIES, FETCH, HINTS, STATE};
 pub use words::{decode, decode_answer, encode, encode_answer, exception};
@@ -194,20 +195,11 @@ impl Core for CCore {
         if op.is_poke() {
             return poke::poke(&mut self.words, op);
         }
+        let (at, len) = (ram.bytes.lent(op.may_write_ram()), ram.bytes.len());
         let op = encode(&Line::Op(*op));
         let mut ans = [UNWRITTEN; 4];
-        let bytes = &mut ram.bytes;
         // Sound: each pointer is that of an array or a vector, with its own length, and no two overlap.
-        let code = unsafe {
-            a72_step(
-                &op,
-                &mut *self.words,
-                ram.base,
-                bytes.as_mut_ptr(),
-                bytes.len(),
-                &mut ans,
-            )
-        };
+        let code = unsafe { a72_step(&op, &mut *self.words, ram.base, at, len, &mut ans) };
         match code {
             0 => decode_answer(&ans),
             _ => Ans::Panic,
@@ -216,6 +208,14 @@ impl Core for CCore {
 
     fn state(&self) -> State {
         state_of(&self.words[..])
+    }
+
+    fn seals(&self) -> bool {
+        true
+    }
+
+    fn holds(&self, rust: &RustCore) -> bool {
+        rust.is_held_by(&self.words)
     }
 
     fn load(&mut self, state: &State) {

@@ -91,10 +91,7 @@ impl Walk {
         let va = Walk::address(cell, word, root, r);
         let desc = Walk::descriptor(word & !((1 << granule) - 1), granule, r);
         let ttbr = root | r.word() & !((1 << 48) - 1) | r.word() & (root_size - 1);
-        let mut ram = Ram {
-            base: word,
-            bytes: desc.to_le_bytes().to_vec(),
-        };
+        let mut ram = Ram::of(word, desc.to_le_bytes().to_vec());
         if r.percent(3) {
             ram.base = ram.base.wrapping_add(1) & !(1 << 63);
         }
@@ -207,10 +204,10 @@ impl<'a> Grid<'a> {
         for op in walk.ops(cell, self.ask) {
             let x = self.rust.step(&op, &mut walk.ram);
             let y = self.other.step(&op, &mut walk.ram);
-            if x != y || (self.ask == Ask::List && self.rust.state() != self.other.state()) {
+            if x != y || (self.ask == Ask::List && !self.other.holds(&self.rust)) {
                 return Err(format!(
                     "{setting} word {:x?}: {op}: rust {x}, other {y}",
-                    walk.ram.bytes
+                    &walk.ram.bytes[..]
                 ));
             }
             last = x;

@@ -42,6 +42,14 @@ pub trait Core {
     fn step(&mut self, op: &Op, ram: &mut Ram) -> Ans;
     /// All that it holds.
     fn state(&self) -> State;
+    /// Whether it is lent sealed bytes wherever it may not write them.
+    fn seals(&self) -> bool {
+        false
+    }
+    /// Whether it holds all that the Rust holds.
+    fn holds(&self, rust: &rust::RustCore) -> bool {
+        self.state() == rust.state()
+    }
     /// Hold this from now on.
     fn load(&mut self, state: &State);
     fn copy(&self) -> Box<dyn Core>;
@@ -53,7 +61,7 @@ pub fn feed(line: &Line, core: &mut dyn Core, ram: &mut Ram) -> Option<Ans> {
         Line::Fresh => core.reset(),
         Line::Window(base, len) => {
             ram.base = *base;
-            ram.bytes.resize(*len as usize, 0);
+            ram.bytes.resize(*len as usize);
         }
         Line::Zero => ram.bytes.fill(0),
         Line::Poke(addr, v) => ram.poke(*addr, *v),

@@ -1,14 +1,98 @@
 //! The RAM window: a base address and bytes. `direct()` stays false.
+mod twin;
+
 use crate::state::Hash;
 use pimu::aarch64::{Abort, Memory};
+use std::ops::{Deref, DerefMut};
+use twin::Twin;
 
-#[derive(Clone, PartialEq, Eq, Default)]
+/// The bytes of a window: a vector, or mapped twice so that a core can be lent them to be read alone.
+pub enum Bytes {
+    Plain(Vec<u8>),
+    Twice(Twin),
+}
+
+impl Bytes {
+    /// New ones are zero.
+    pub fn resize(&mut self, len: usize) {
+        match self {
+            Bytes::Plain(v) => v.resize(len, 0),
+            Bytes::Twice(t) => t.resize(len),
+        }
+    }
+
+    /// Lent to an operation. Where that may not write them, a write through it ends the run if they are mapped twice.
+    pub fn lent(&mut self, to_write: bool) -> *mut u8 {
+        match self {
+            Bytes::Twice(t) if !to_write => t.sealed(),
+            _ => self.as_mut_ptr(),
+        }
+    }
+}
+
+impl Deref for Bytes {
+    type Target = [u8];
+
+    fn deref(&self) -> &[u8] {
+        match self {
+            Bytes::Plain(v) => v,
+            Bytes::Twice(t) => t.bytes(),
+        }
+    }
+}
+
+impl DerefMut for Bytes {
+    fn deref_mut(&mut self) -> &mut [u8] {
+        match self {
+            Bytes::Plain(v) => v,
+            Bytes::Twice(t) => t.bytes_mut(),
+        }
+    }
+}
+
+#[derive(Default)]
 pub struct Ram {
     pub base: u64,
-    pub bytes: Vec<u8>,
+    pub bytes: Bytes,
+    /// How many writes were carried out.
+    pub writes: u64,
+}
+
+impl Default for Bytes {
+    fn default() -> Bytes {
+        Bytes::Plain(Vec::new())
+    }
+}
+
+impl Clone for Ram {
+    fn clone(&self) -> Ram {
+        Ram::of(self.base, self.bytes.to_vec())
+    }
+}
+
+impl PartialEq for Ram {
+    fn eq(&self, other: &Ram) -> bool {
+        self.base == other.base && self.bytes[..] == other.bytes[..]
+    }
 }
 
 impl Ram {
+    pub fn of(base: u64, bytes: Vec<u8>) -> Ram {
+        Ram {
+            base,
+            bytes: Bytes::Plain(bytes),
+            writes: 0,
+        }
+    }
+
+    /// No bytes, mapped twice as they come.
+    pub fn sealable() -> Ram {
+        Ram {
+            bytes: Bytes::Twice(Twin::new(0)),
+            ..Ram::default()
+        }
+    }
+
     /// Where `size` bytes at `addr` lie, if every one is inside; no sum wraps.
     fn at(&self, addr: u64, size: u32) -> Option<usize> {
         let end = u128::from(addr) + u128::from(size);
@@ -32,6 +116,7 @@ impl Ram {
             return false;
         };
         self.bytes[at..at + size as usize].copy_from_slice(&v.to_le_bytes()[..size as usize]);
+        self.writes += 1;
         true
     }
 

@@ -3,6 +3,7 @@
 mod aborts;
 pub mod files;
 pub mod replay;
+mod short;
 mod splits;
 mod statuses;
 mod tlbi;

@@ -1,14 +1,52 @@
 //! How often each operation gave each kind of answer.
 use crate::compare::Step;
 use crate::op::{Ans, Op};
-use crate::state::PAR;
-use crate::Core;
-use std::collections::BTreeMap;
 use std::fmt::{self, Display, Formatter};
 
-#[derive(Default)]
+/// The kinds of operations, in the order of their names.
+const KINDS: [&str; 21] = [
+    "abort",
+    "dpa",
+    "fpa",
+    "if",
+    "l-walk",
+    "ld",
+    "leaf",
+    "level",
+    "mark",
+    "other",
+    "poke",
+    "reg",
+    "st",
+    "sys AT",
+    "sys DC ZVA",
+    "sys TLBI",
+    "sys other",
+    "tr fetch",
+    "tr read",
+    "tr write",
+    "x",
+];
+
+/// The kinds of answers: those without a number, then numbers, levels of leaves, and four times 256 statuses.
+const PLAIN: [&str; 8] = [
+    "ok",
+    "val",
+    "none",
+    "pair",
+    "undefined",
+    "unimplemented",
+    "panic",
+    "PAR ok",
+];
+const NUMBERS: usize = PLAIN.len();
+const LEAVES: usize = NUMBERS + 8;
+const STATUSES: usize = LEAVES + 4;
+const CLASSES: usize = STATUSES + 4 * 256;
+const STATUS: [&str; 4] = ["fault", "data", "insn", "PAR"];
+
 pub struct Tally {
-    counts: BTreeMap<&'static str, BTreeMap<String, u64>>,
+    counts: Vec<[u64; CLASSES]>,
     /// Translations answered by a walk, an entry, a hint, or flat.
     via: [u64; 4],
     pub operations: u64,
@@ -16,47 +54,78 @@ pub struct Tally {
     pub left_out: u64,
 }
 
-fn kind(op: &Op) -> &'static str {
-    match op {
-        Op::Translate(1, _) => "tr read",
-        Op::Translate(2, _) => "tr write",
-        Op::Translate(..) => "tr fetch",
-        Op::DataPa(_) => "dpa",
-        Op::FetchPa(_) => "fpa",
-        Op::Load(..) => "ld",
-        Op::Store(..) => "st",
-        Op::Fetch(_) => "if",
-        Op::Sys(3, 7, 4, 1, _) => "sys DC ZVA",
-        Op::Sys(_, 7, 8, _, _) => "sys AT",
-        Op::Sys(_, 8, _, _, _) => "sys TLBI",
-        Op::Sys(..) => "sys other",
-        Op::Reg(..) => "reg",
-        Op::Level(_) => "level",
-        Op::Mark(_) => "mark",
-        Op::SetX(..) => "x",
-        Op::Abort(_) => "abort",
-        Op::LeafWalk(..) => "l-walk",
-        op if op.is_step() => "other",
-        op if op.is_poke() => "poke",
-        _ => "leaf",
+impl Default for Tally {
+    fn default() -> Tally {
+        Tally {
+            counts: vec![[0; CLASSES]; KINDS.len()],
+            via: [0; 4],
+            operations: 0,
+            left_out: 0,
+        }
     }
 }
 
-/// The answer's kind with its status; of an AT that was carried out, PAR's.
-fn class(step: &Step) -> String {
-    let par = || step.rust.state().regs[PAR];
+/// The place of an operation's kind.
+fn kind(op: &Op) -> usize {
+    match op {
+        Op::Abort(_) => 0,
+        Op::DataPa(_) => 1,
+        Op::FetchPa(_) => 2,
+        Op::Fetch(_) => 3,
+        Op::LeafWalk(..) => 4,
+        Op::Load(..) => 5,
+        Op::Level(_) => 7,
+        Op::Mark(_) => 8,
+        Op::Reg(..) => 11,
+        Op::Store(..) => 12,
+        Op::Sys(3, 7, 4, 1, _) => 14,
+        Op::Sys(_, 7, 8, _, _) => AT,
+        Op::Sys(_, 8, _, _, _) => 15,
+        Op::Sys(..) => 16,
+        Op::Translate(1, _) => 18,
+        Op::Translate(2, _) => 19,
+        Op::Translate(..) => 17,
+        Op::SetX(..) => 20,
+        op if op.is_step() => 9,
+        op if op.is_poke() => 10,
+        _ => 6,
+    }
+}
+
+const AT: usize = 13;
+
+fn status(which: usize, s: u8) -> usize {
+    STATUSES + 256 * which + usize::from(s)
+}
+
+/// The place of the answer's kind, with its status; of an AT that was carried out, PAR's.
+fn class(step: &Step) -> usize {
     match step.answer {
-        Ans::Ok if kind(step.op) == "sys AT" => match par() {
-            p if p & 1 != 0 => format!("PAR {:02x}", p >> 1 & 0x3F),
-            _ => "PAR ok".into(),
+        Ans::Ok if kind(step.op) == AT => match step.rust.par() {
+            p if p & 1 != 0 => status(3, (p >> 1 & 0x3F) as u8),
+            _ => 7,
         },
-        Ans::Fault(_, s) => format!("fault {s:02x}"),
-        Ans::Data(_, _, s) => format!("data {s:02x}"),
-        Ans::Insn(_, s) => format!("insn {s:02x}"),
-        Ans::Leaf(_, _, l, ..) => format!("leaf {l}"),
-        Ans::Val(_) => "val".into(),
-        Ans::Pair(..) => "pair".into(),
-        ref a => a.to_string(),
+        Ans::Ok => 0,
+        Ans::Val(_) => 1,
+        Ans::None => 2,
+        Ans::Pair(..) => 3,
+        Ans::Undefined => 4,
+        Ans::Unimplemented => 5,
+        Ans::Panic => 6,
+        Ans::Number(n) => NUMBERS + usize::from(n % 8),
+        Ans::Leaf(_, _, l, ..) => LEAVES + usize::from(l % 4),
+        Ans::Fault(_, s) => status(0, s),
+        Ans::Data(_, _, s) => status(1, s),
+        Ans::Insn(_, s) => status(2, s),
+    }
+}
+
+fn class_name(place: usize) -> String {
+    match place {
+        p if p < NUMBERS => PLAIN[p].into(),
+        p if p < LEAVES => format!("no {}", p - NUMBERS),
+        p if p < STATUSES => format!("leaf {}", p - LEAVES),
+        p => format!("{} {:02x}", STATUS[(p - STATUSES) / 256], (p - STATUSES) % 256),
     }
 }
 
@@ -67,12 +136,7 @@ impl Tally {
             return;
         }
         self.operations += 1;
-        *self
-            .counts
-            .entry(kind(step.op))
-            .or_default()
-            .entry(class(step))
-            .or_default() += 1;
+        self.counts[kind(step.op)][class(step)] += 1;
         if let (Op::Translate(..), Ans::Val(_)) = (step.op, step.answer) {
             let t = &step.rust.cpu.tlb;
             let source = match step.before {
@@ -85,12 +149,26 @@ impl Tally {
         }
     }
 
-    /// Rows of operation, number, and answers with their numbers.
+    /// Another tally's numbers, too.
+    pub fn add(&mut self, other: &Tally) {
+        for (mine, theirs) in self.counts.iter_mut().zip(&other.counts) {
+            mine.iter_mut().zip(theirs).for_each(|(a, b)| *a += b);
+        }
+        self.via.iter_mut().zip(other.via).for_each(|(a, b)| *a += b);
+        self.operations += other.operations;
+        self.left_out += other.left_out;
+    }
+
+    /// Rows of operation, number, and answers with their numbers, by name.
     pub fn rows(&self) -> impl Iterator<Item = (&'static str, u64, String)> + '_ {
-        self.counts.iter().map(|(kind, answers)| {
-            let parts: Vec<String> = answers.iter().map(|(a, n)| format!("{a}: {n}")).collect();
-            (*kind, answers.values().sum(), parts.join(", "))
-        })
+        let seen = KINDS.iter().zip(&self.counts);
+        seen.filter(|(_, row)| row.iter().any(|n| *n != 0))
+            .map(|(kind, row)| {
+                let some = row.iter().enumerate().filter(|(_, n)| **n != 0);
+                let mut parts: Vec<String> = some.map(|(p, n)| format!("{}: {n}", class_name(p))).collect();
+                parts.sort();
+                (*kind, row.iter().sum(), parts.join(", "))
+            })
     }
 
     pub fn sources(&self) -> String {

@@ -1,14 +1,14 @@
 //! The Rust beside the model and beside the C boundary; mistakes, demand 3 and the walk's parameters in small.
 use harness::compare::compare;
 use harness::demand3;
-use harness::ffi::CCore;
-use harness::generate::{trace, Style};
+use harness::ffi::{boxed, state_of, CCore};
+use harness::generate::{trace, Rng, Style};
 use harness::grid::{Ask, Grid};
 use harness::model::{DocCore, Mistake};
 use harness::rust::{Rule, RustCore};
 use harness::shrink::shrink;
 use harness::tally::Tally;
-use harness::{Core, Line};
+use harness::{feed, Core, Line, Ram};
 
 fn equal(other: &mut dyn Core, seed: u64, n: usize, style: Style) {
     if let Some(d) = compare(&trace(seed, n, style), other, |_| {}) {
@@ -28,6 +28,46 @@ fn boundary_equals_rust() {
     for style in [Style::Full, Style::Strict, Style::Wild] {
         equal(&mut CCore::new(), 101, 1000, style);
     }
+}
+
+/// Judged in place as by the whole states, also where a word was changed.
+#[test]
+fn words_are_judged_as_states_are() {
+    let (mut rust, mut ram) = (RustCore::new(), Ram::default());
+    let mut r = Rng::new(103);
+    for line in trace(103, 2000, Style::Wild) {
+        feed(&line, &mut rust, &mut ram);
+        let mut words = boxed(&rust.state());
+        assert!(rust.is_held_by(&words));
+        let place = if r.percent(50) {
+            r.below(110)
+        } else {
+            r.below(5205)
+        } as usize;
+        words[place] ^= 1 << r.below(64);
+        // A word that is too large for its place is the largest there is in a state; in place it is a difference.
+        let (is, by_state) = (rust.is_held_by(&words), rust.state() == state_of(&words[..]));
+        assert!(
+            is == by_state || !is && words[place] > u64::from(u32::MAX),
+            "{place}"
+        );
+    }
+}
+
+/// A write through a sealed window ends the run; here that of a child.
+#[test]
+fn a_sealed_window_cannot_be_written() {
+    let mut ram = Ram::sealable();
+    ram.bytes.resize(8);
+    if std::env::var_os("A72_WRITE_SEALED").is_some() {
+        unsafe { *ram.bytes.lent(false) = 1 };
+        return;
+    }
+    let child = std::process::Command::new(std::env::current_exe().unwrap())
+        .args(["--exact", "a_sealed_window_cannot_be_written"])
+        .env("A72_WRITE_SEALED", "1")
+        .output();
+    assert!(!child.unwrap().status.success());
 }
 
 #[test]

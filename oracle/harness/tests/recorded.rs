@@ -12,6 +12,10 @@ fn folder() -> PathBuf {
     PathBuf::from(env!("CARGO_MANIFEST_DIR")).join("../../recorded")
 }
 
+fn records() -> PathBuf {
+    PathBuf::from(env!("CARGO_MANIFEST_DIR")).join("../../crates/replay/data")
+}
+
 fn cores() -> [Box<dyn Core>; 3] {
     [
         Box::new(RustCore::new()),
@@ -42,18 +46,16 @@ fn expectations_hold() {
 #[test]
 fn files_are_current() {
     let (files, _) = files::all(&folder()).unwrap();
-    for (name, bytes) in files {
-        assert!(
-            fs::read(folder().join(&name)).unwrap() == bytes,
-            "{name}: run record"
-        );
+    for file in files {
+        let path = files::folder_of(&file, &folder(), &records()).join(&file.0);
+        assert!(fs::read(path).unwrap() == file.1, "{}: run record", file.0);
     }
 }
 
 #[test]
 fn each_core_replays_them() {
     let mut operations = 0;
-    for entry in fs::read_dir(folder()).unwrap() {
+    for entry in fs::read_dir(records()).unwrap() {
         let path = entry.unwrap().path();
         if path.extension().is_some_and(|e| e == "rec") {
             let bytes = fs::read(&path).unwrap();
@@ -67,7 +69,7 @@ fn each_core_replays_them() {
 
 #[test]
 fn a_changed_file_is_noticed() {
-    let mut bytes = fs::read(folder().join("cases.rec")).unwrap();
+    let mut bytes = fs::read(records().join("cases.rec")).unwrap();
     let last = bytes.len() - 1;
     bytes[last] ^= 1;
     assert!(replay::replay(&bytes, &mut RustCore::new()).is_err());

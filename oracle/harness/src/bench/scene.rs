@@ -67,10 +67,7 @@ impl Default for Scene {
 impl Scene {
     /// Every descriptor of a table leads to the next one, every one of the last to a page or block.
     fn tables(&self) -> Ram {
-        let mut ram = Ram {
-            base: BASE,
-            bytes: (0..LENGTH).map(|i| (i / 3) as u8).collect(),
-        };
+        let mut ram = Ram::of(BASE, (0..LENGTH).map(|i| (i / 3) as u8).collect());
         let last = self.levels - 1;
         for i in 0..512 {
             for level in 0..last {

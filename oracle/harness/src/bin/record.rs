@@ -1,16 +1,17 @@
 //! Write or check the recorded answers.
 use harness::cli::{finish, Args};
-use harness::recorded::files::{all, File};
+use harness::recorded::files::{all, folder_of, File};
 use std::fs;
 use std::path::Path;
 
-const USAGE: &str = "record DIR [--check]
-  Writes the generated traces, the recorded answers of every trace in DIR, and the coverage table in DIR/README.md.
+const USAGE: &str = "record TRACES RECORDS [--check]
+  Writes the generated traces to the folder TRACES, the recorded answers of every trace there to the folder RECORDS,
+  and the coverage table to TRACES/README.md.
   --check: writes nothing; status 1 where a file is not what would be written.";
 
-/// Whether the folder holds the file as it has to.
-fn current(dir: &Path, file: &File) -> bool {
-    let same = fs::read(dir.join(&file.0)).is_ok_and(|bytes| bytes == file.1);
+/// Whether its folder holds the file as it has to.
+fn current(path: &Path, file: &File) -> bool {
+    let same = fs::read(path).is_ok_and(|bytes| bytes == file.1);
     if !same {
         println!("{} is not what the program makes", file.0);
     }
@@ -19,15 +20,16 @@ fn current(dir: &Path, file: &File) -> bool {
 
 fn main() {
     let args = Args::new(USAGE, &["--check"], &[]);
-    args.expect_words(1);
-    let dir = Path::new(&args.words()[0]);
+    args.expect_words(2);
+    let [dir, records] = [0, 1].map(|i| Path::new(&args.words()[i]));
+    let path = |file: &File| folder_of(file, dir, records).join(&file.0);
     let (files, shown) = all(dir).unwrap_or_else(|e| args.fail(&format!("{}: {e}", dir.display())));
     let mut good = files.len();
     if args.flag("--check") {
-        good = files.iter().filter(|f| current(dir, f)).count();
+        good = files.iter().filter(|f| current(&path(f), f)).count();
     } else {
-        for (name, bytes) in &files {
-            fs::write(dir.join(name), bytes).unwrap_or_else(|e| args.fail(&format!("{name}: {e}")));
+        for file in &files {
+            fs::write(path(file), &file.1).unwrap_or_else(|e| args.fail(&format!("{}: {e}", file.0)));
         }
     }
     let bytes: usize = files.iter().map(|(_, b)| b.len()).sum();

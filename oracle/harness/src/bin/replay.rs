@@ -12,13 +12,14 @@ fn main() {
         args.fail("a file is missing");
     }
     let mut core = args.one_core();
-    let (mut operations, mut wrong, mut left_out) = (0, 0, 0);
+    let (mut operations, mut wrong, mut left_out, mut cases) = (0, 0, 0, 0);
     for file in args.words() {
         let bytes = std::fs::read(file).unwrap_or_else(|e| args.fail(&format!("{file}: {e}")));
         match replay(&bytes, core.as_mut()) {
             Ok(done) => {
                 operations += done.operations;
                 left_out += done.left_out;
+                cases += done.cases;
             }
             Err(e) => {
                 println!("{file}: {e}");
@@ -29,6 +30,6 @@ fn main() {
     if left_out != 0 {
         println!("left out: {left_out} leaves, which the core has not");
     }
-    println!("{operations} operations as recorded, {wrong} files otherwise");
+    println!("{operations} operations and {cases} outside cases as recorded, {wrong} files otherwise");
     finish(wrong == 0)
 }

@@ -5,6 +5,7 @@
 //! `ans` takes the value, or the address of a data abort; where there is neither it stays as it was.
 use super::{boxed, exception, fresh, poke, state_of, Words, STATE, UNWRITTEN};
 use crate::op::{Ans, Op};
+use crate::rust::RustCore;
 use crate::{Core, Ram, State};
 
 type StateWords = *mut [u64; STATE];
@@ -203,10 +204,12 @@ impl Core for EachCore {
 
     fn step(&mut self, op: &Op, ram: &mut Ram) -> Ans {
         use Op::*;
+        let (at, len) = (ram.bytes.lent(op.may_write_ram()), ram.bytes.len());
         let mut lent = Lent {
             words: &mut self.words,
             base: ram.base,
-            ram: &mut ram.bytes,
+            // Sound: the window's bytes, which `ram` lends. Where they are sealed nobody here writes them.
+            ram: unsafe { std::slice::from_raw_parts_mut(at, len) },
         };
         let quiet = |n| done(n, UNWRITTEN);
         let mut ans = UNWRITTEN;
@@ -233,6 +236,14 @@ impl Core for EachCore {
 
     fn state(&self) -> State {
         state_of(&self.words[..])
+    }
+
+    fn seals(&self) -> bool {
+        true
+    }
+
+    fn holds(&self, rust: &RustCore) -> bool {
+        rust.is_held_by(&self.words)
     }
 
     fn load(&mut self, state: &State) {

@@ -29,12 +29,11 @@ pub unsafe fn a72_step(
     };
     let mut core = DocCore::new();
     core.load(&state_of(state));
-    let mut window = Ram {
-        base,
-        bytes: bytes.to_vec(),
-    };
+    let mut window = Ram::of(base, bytes.to_vec());
     let answer = core.step(&op, &mut window);
-    bytes.copy_from_slice(&window.bytes);
+    if window.writes != 0 {
+        bytes.copy_from_slice(&window.bytes);
+    }
     *state = *boxed(&core.state());
     *ans = encode_answer(&answer);
     0

@@ -24,6 +24,15 @@ const MARKS: (&str, &str) = ("<!-- coverage begins -->\n", "<!-- coverage ends -
 /// A file's name and what it has to hold.
 pub type File = (String, Vec<u8>);
 
+/// A file's folder: records stand apart from traces and the README.
+pub fn folder_of<'a>(file: &File, traces: &'a Path, records: &'a Path) -> &'a Path {
+    if file.0.ends_with(".rec") {
+        records
+    } else {
+        traces
+    }
+}
+
 fn text(head: &str, lines: &[Line]) -> String {
     let mut s = format!("# {head}\n");
     for l in lines {

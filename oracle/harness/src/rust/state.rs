@@ -45,7 +45,7 @@ fn banks_mut(s: &mut SysRegs) -> [(usize, &mut [u64; 4]); 9] {
     ]
 }
 
-fn registers(c: &Cpu) -> [u64; 34] {
+pub fn registers(c: &Cpu) -> [u64; 34] {
     let s = &c.sys;
     let mut regs = [0; 34];
     for (at, bank) in banks(s) {
@@ -94,7 +94,7 @@ fn set_entry(t: &mut Tlb, generation: u32, e: &Entry) {
     mmu::set_record(t, e.slot.into(), r);
 }
 
-fn pending(t: &Tlb) -> (u8, u64) {
+pub fn pending(t: &Tlb) -> (u8, u64) {
     match t.broadcast {
         None => (0, 0),
         Some(Inval::All) => (1, 0),

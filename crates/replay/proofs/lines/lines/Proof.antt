@@ -1,22 +1,23 @@
--- `replay::lines` is safe and ends. The measure is the number of turns that are left.
-use mathlib.Core.Path.{_≡_, refl, _∙_}
+-- `replay::lines::lines` is safe and ends.
 use native.Mathlib.Omega.{arith}
-use lib.ListN.{length}
+use Prim.Native.Nat.{ℕ, _≤_, _-_}
 use borrow.Author.Needs.{needs}
-use Rattle.replay.proofs.lines.Statement.{statement}
-use Rattle.replay.proofs.lines.Tie as tie
+use lib.ListN.{length}
+use mathlib.Core.Path.{_≡_, refl}
+use Rattle.replay.proofs.lines.lines.Statement.{statement}
+use Rattle.replay.proofs.lines.lines.Tie as tie
 
 abbrev Inv-loop : tie.InvT-loop
-Inv-loop ram₀ m₀ turns₀ ram m turns = length ram ≡ length ram₀
+Inv-loop fd state₀ ram₀ counts₀ m₀ turns₀ state ram counts m turns = length ram ≡ length ram₀
 
 abbrev μ-loop : tie.MeasureT-loop
-μ-loop ram₀ m₀ turns₀ ram m turns = turns
+μ-loop fd state₀ ram₀ counts₀ m₀ turns₀ state ram counts m turns = turns
 
 start-requires : tie.Need-start-requires Inv-loop μ-loop
 start-requires c κs = search needs
 
 loop-holds : tie.Need-loop-holds Inv-loop μ-loop
-loop-holds c = refl
+loop-holds c = omega arith
 
 line-requires : tie.Need-line-requires Inv-loop μ-loop
 line-requires c κs = search needs
@@ -31,16 +32,30 @@ loop-again : tie.Need-loop-again Inv-loop μ-loop
 loop-again c = omega arith
 
 same-length : tie.Need-same-length Inv-loop μ-loop
-same-length c = c .before .before .loop .inv
+same-length c = omega arith
 
 returns : tie.Need-returns Inv-loop μ-loop
 returns c = tt
 
 same-length-2 : tie.Need-same-length-2 Inv-loop μ-loop
-same-length-2 c = c .before .loop .inv
+same-length-2 c = omega arith
 
 returns-2 : tie.Need-returns-2 Inv-loop μ-loop
 returns-2 c = tt
 
 pub lines-spec : {M : Type 1} → statement M
-lines-spec = tie.close (tie.spec Inv-loop μ-loop start-requires loop-holds line-requires sub-turns loop-less loop-again same-length returns same-length-2 returns-2)
+lines-spec =
+    tie.close
+    (tie.spec
+    Inv-loop
+    μ-loop
+    start-requires
+    loop-holds
+    line-requires
+    sub-turns
+    loop-less
+    loop-again
+    same-length
+    returns
+    same-length-2
+    returns-2)

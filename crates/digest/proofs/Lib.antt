@@ -1,0 +1,3 @@
+mod Folding
+mod Parting
+mod Wording

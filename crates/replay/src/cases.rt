@@ -1,0 +1,126 @@
+// Cases that another implementation answered: what the core must come to, and for a class of difference what it must not.
+use crate::lines;
+use crate::lines::Machine;
+use crate::parts;
+use crate::say;
+use crate::tally;
+use word::bits;
+
+pub struct Case {
+    // up to two classes, a byte each; 0 where both answer alike
+    pub class: u64,
+    pub wrong: bool,
+    // how many parts of the other answer were told, and how many of them the core has too
+    pub told: u64,
+    pub same: u64,
+}
+
+pub fn none() -> Case {
+    begun(0)
+}
+
+fn begun(class: u64) -> Case {
+    Case {
+        class,
+        wrong: false,
+        told: 0,
+        same: 0,
+    }
+}
+
+// A word of the state, or from 5205 on of the last answer.
+fn found(m: Machine, state: &[u64; 5205], place: u64) -> u64 {
+    let a = m.ans;
+    match place {
+        5205 => a[0],
+        5206 => a[1],
+        5207 => a[2],
+        5208 => a[3],
+        _ => parts::get(state, place),
+    }
+}
+
+fn begin(m: Machine, class: u64) -> Machine {
+    let mut out = m;
+    let c = begun(class);
+    out.case = c;
+    out
+}
+
+// What the core must have come to.
+fn due(m: Machine, place: u64, is: u64, want: u64) -> Machine {
+    if is == want {
+        return m;
+    }
+    say::differs(m.lines, place, is, want);
+    let mut c = m.case;
+    c.wrong = true;
+    let mut out = m;
+    out.case = c;
+    out
+}
+
+// The answer that is due: its code, third and fourth word in one, and its second word.
+fn answered(m: Machine, small: u64, value: u64) -> Machine {
+    let a = m.ans;
+    let code = due(m, 5205, a[0], small % 256);
+    let second = due(code, 5206, a[1], value);
+    let third = due(second, 5207, a[2], small / 256 % 256);
+    due(third, 5208, a[3], small / 65536 % 256)
+}
+
+// A part of the other answer.
+fn other(m: Machine, state: &[u64; 5205], place: u64, told: u64) -> Machine {
+    let is = found(m, state, place);
+    let mut c = m.case;
+    c.told = bits::more(c.told);
+    if is == told {
+        c.same = bits::more(c.same);
+    }
+    let mut out = m;
+    out.case = c;
+    out
+}
+
+// A case is right where all that is due was found; and where a class is named, some part of the other answer was not.
+fn right(c: Case) -> bool {
+    if c.wrong {
+        false
+    } else if c.class == 0 {
+        c.told == 0
+    } else {
+        c.same != c.told
+    }
+}
+
+fn note(c: Case, counts: &mut [u64; 2048]) {
+    tally::note_case(c.class % 32, counts);
+    if 256 <= c.class {
+        tally::note_case(c.class / 256 % 32, counts);
+    }
+}
+
+fn end(m: Machine, counts: &mut [u64; 2048]) -> Machine {
+    let c = m.case;
+    let mut out = m;
+    out.cases = bits::more(m.cases);
+    if right(c) {
+        note(c, counts);
+        return out;
+    }
+    if !c.wrong {
+        say::text(b"\n  a case that agrees, or has no class");
+    }
+    lines::wrong(out)
+}
+
+pub fn line(m: Machine, op: &[u64; 8], state: &[u64; 5205], counts: &mut [u64; 2048]) -> Machine {
+    match op[0] {
+        70 => begin(m, op[1]),
+        71 => due(m, op[1], parts::get(state, op[1]), op[2]),
+        72 => other(m, state, op[1], op[2]),
+        73 => end(m, counts),
+        74 => answered(m, op[1], op[2]),
+        _ => lines::broken(m, b"no such line"),
+    }
+}

@@ -1,0 +1,113 @@
+// The 24 words after an operation, held against what the core answered and holds.
+use crate::lines;
+use crate::lines::Machine;
+use crate::parts;
+use crate::say;
+use crate::tally;
+
+// Counters, what is pending, the addresses kept, level and mark, generation and ASID, PAR_EL1.
+fn plain_words(m: Machine, state: &[u64; 5205]) -> [u64; 18] {
+    let a = m.ans;
+    [
+        a[0],
+        a[1],
+        a[2],
+        a[3],
+        state[70],
+        state[71],
+        state[72],
+        state[73],
+        state[74],
+        state[75],
+        state[76],
+        state[77],
+        state[78],
+        state[68],
+        state[69],
+        state[79],
+        state[80],
+        state[32],
+    ]
+}
+
+// The numbers of entries and hints, and the digests of registers, entries, hints and RAM.
+fn digest_words(sum: u64, state: &[u64; 5205]) -> [u64; 6] {
+    let e = digest::parts::entries(state);
+    let h = digest::parts::hints(state);
+    let r = digest::parts::registers(state);
+    [e.count, h.count, r, e.digest, h.digest, sum]
+}
+
+fn show(m: Machine, place: u64, is: u64, want: u64) -> Machine {
+    say::differs(m.lines, place, is, want);
+    lines::wrong(m)
+}
+
+// The first of some words that is not as recorded from a place on, or their number.
+fn first_wrong(is: &[u64], want: &[u8], from: u64) -> usize {
+    let mut i: usize = 0;
+    while i < is.len() {
+        if is[i] != parts::word_of(want, from % 64 + i as u64 % 64) {
+            break;
+        }
+        i += 1;
+    }
+    i
+}
+
+fn judge(m: Machine, state: &[u64; 5205], want: &[u8]) -> Machine {
+    let plain = plain_words(m, state);
+    let i = first_wrong(&plain, want, 0);
+    if i < 18 {
+        return show(m, 8 + i as u64, plain[i], parts::word_of(want, i as u64));
+    }
+    let digests = digest_words(m.sum, state);
+    let j = first_wrong(&digests, want, 18);
+    if j < 6 {
+        show(
+            m,
+            26 + j as u64,
+            digests[j],
+            parts::word_of(want, 18 + j as u64),
+        )
+    } else {
+        m
+    }
+}
+
+// The digest of RAM, taken anew where RAM may have changed.
+fn summed(m: Machine, ram: &[u8]) -> Machine {
+    let mut out = m;
+    if m.stale {
+        out.sum = digest::memory::window(m.base, ram);
+        out.stale = false;
+    }
+    out
+}
+
+// The words after an operation that gave a code.
+pub fn tail(
+    m: Machine,
+    fd: i32,
+    op: &[u64; 8],
+    code: u64,
+    state: &[u64; 5205],
+    ram: &[u8],
+    counts: &mut [u64; 2048],
+) -> Machine {
+    let mut want = [0u8; 192];
+    let n = io::read_full(fd, &mut want);
+    if n < 192 {
+        return lines::broken(m, b"the last line is not whole");
+    }
+    match code {
+        0 => {
+            let ans = m.ans;
+            tally::note(op, ans, state[32], counts);
+            let now = summed(m, ram);
+            judge(now, state, &want[..n])
+        }
+        1 => m,
+        _ => lines::broken(m, b"no such operation"),
+    }
+}
