@@ -1,8 +1,4 @@
 // The tool: traces on the proved core, one translation step by step, and the chord.
-mod edits;
-mod leaves;
-mod machine;
-mod memory;
 mod report;
 mod run;
 mod show;

@@ -1,9 +1,9 @@
--- `a72::memory::zeros` has as many bytes as its type says, by the law of a repeated value: nothing is counted out.
+-- `machine::memory::zeros` has as many bytes as its type says, by the law of a repeated value: nothing is counted out.
 use mathlib.Core.Path.{sym}
 use Prim.Native.Nat.{ℕ}
 use lib.ListN.{length-replicate}
-use Rattle.a72.proofs.memory.zeros.Statement.{statement}
-use Rattle.a72.proofs.memory.zeros.Tie as tie
+use Rattle.machine.proofs.memory.zeros.Statement.{statement}
+use Rattle.machine.proofs.memory.zeros.Tie as tie
 
 returns : tie.Need-returns
 returns c = sym (length-replicate {0} {A = ℕ} 2097152 0)

@@ -1,8 +1,8 @@
--- `a72::edits::move_generation` is safe and ends.
+-- `machine::edits::move_generation` is safe and ends.
 use borrow.Author.Needs.{needs}
 use Prim.Native.Nat.{_-_}
-use Rattle.a72.proofs.edits.move_generation.Statement.{statement}
-use Rattle.a72.proofs.edits.move_generation.Tie as tie
+use Rattle.machine.proofs.edits.move_generation.Statement.{statement}
+use Rattle.machine.proofs.edits.move_generation.Tie as tie
 
 abbrev Inv-loop : tie.InvT-loop
 Inv-loop words₀ to later generation j₀ words j = Unit {0}

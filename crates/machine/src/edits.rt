@@ -13,10 +13,11 @@ fn put(words: &mut [u64; 5205], i: usize, value: u64) {
     }
 }
 
-// An entry when the generation is overwritten: a live one stays live; of the others those of a later generation stay, if they may.
+// An entry when the generation is overwritten: a live one stays live; of the others those that were and are of a later
+// generation stay, if they may.
 fn moved(e: Entry, present: u32, to: u32, later: bool) -> Entry {
     let live = e.generation == present;
-    let kept = later & (to < e.generation);
+    let kept = later & (present < e.generation) & (to < e.generation);
     if live {
         return tlb::entry::stamped(e, to);
     }

@@ -1,22 +1,22 @@
--- `a72::memory::poke` is safe and ends.
+-- `machine::memory::wipe` is safe and ends.
 use borrow.Author.Needs.{needs}
 use Prim.Native.Nat.{_-_}
 use mathlib.Core.Path.{_≡_}
 use lib.ListN.{length}
-use Rattle.a72.proofs.memory.poke.Statement.{statement}
-use Rattle.a72.proofs.memory.poke.Tie as tie
+use Rattle.machine.proofs.memory.wipe.Statement.{statement}
+use Rattle.machine.proofs.memory.wipe.Tie as tie
 
 abbrev Inv-loop : tie.InvT-loop
-Inv-loop base ram₀ addr value i₀ ram i = length ram ≡ length ram₀
+Inv-loop ram₀ n i₀ ram i = (n ≡ length ram₀) × (length ram ≡ length ram₀)
 
 abbrev μ-loop : tie.MeasureT-loop
-μ-loop base ram₀ addr value i₀ ram i = 8 - i
+μ-loop ram₀ n i₀ ram i = n - i
 
 loop-holds : tie.Need-loop-holds Inv-loop μ-loop
 loop-holds c = search needs
 
-poke-byte-requires : tie.Need-poke-byte-requires Inv-loop μ-loop
-poke-byte-requires c κs = search needs
+slice-write-ram : tie.Need-slice-write-ram Inv-loop μ-loop
+slice-write-ram c = search needs
 
 add-i : tie.Need-add-i Inv-loop μ-loop
 add-i c = search needs
@@ -33,14 +33,14 @@ same-length c = search needs
 returns : tie.Need-returns Inv-loop μ-loop
 returns c = search needs
 
-pub poke-spec : {M : Type 1} → statement M
-poke-spec =
+pub wipe-spec : {M : Type 1} → statement M
+wipe-spec =
     tie.close
     (tie.spec
     Inv-loop
     μ-loop
     loop-holds
-    poke-byte-requires
+    slice-write-ram
     add-i
     loop-less
     loop-again

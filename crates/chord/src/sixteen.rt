@@ -1,0 +1,101 @@
+// Sixteen voices at once: a table of what each gives, then every voice changes its note and takes a frame that another had.
+use crate::board;
+use crate::board::Off;
+use crate::hold;
+use crate::hold::Desk;
+use crate::hold::Heard;
+use crate::note;
+use trace::say;
+
+// The first sixteen partials of a low C, as numbers of notes.
+pub fn partial(voice: u64) -> u64 {
+    match voice {
+        0 => 36,
+        1 => 48,
+        2 => 55,
+        3 => 60,
+        4 => 64,
+        5 => 67,
+        6 => 70,
+        7 => 72,
+        8 => 74,
+        9 => 76,
+        10 => 78,
+        11 => 79,
+        12 => 81,
+        13 => 82,
+        14 => 83,
+        _ => 84,
+    }
+}
+
+pub fn press_all(ram: &mut [u8]) -> Desk {
+    let mut d = hold::silent();
+    let mut v = 0u64;
+    while v < 16 {
+        d = hold::press(d, ram, v, partial(v));
+        v += 1;
+    }
+    d
+}
+
+// A row: the voice, its note, its page, the slot of its entry, its frame, and what is heard.
+fn row(d: Desk, state: &mut [u64; 5205], ram: &[u8], voice: u64) {
+    let heard = board::hear(state, ram, voice);
+    say::number(voice % 16 + 1, 8);
+    say::text(b"   ");
+    note::show(hold::tone_of(d, voice));
+    say::text(b"  ");
+    say::hex(board::address(voice), 6);
+    say::text(b"    ");
+    say::hex(board::page(voice) % 1024, 3);
+    say::text(b"   ");
+    say::hex(board::frame(hold::frame_of(d, voice)), 8);
+    say::text(b"   ");
+    note::show(heard);
+    say::text(b"\n");
+}
+
+fn rows(d: Desk, state: &mut [u64; 5205], ram: &[u8]) {
+    let mut v = 0u64;
+    while v < 16 {
+        row(d, state, ram, v);
+        v += 1;
+    }
+}
+
+// All sixteen are held, and shown.
+pub fn table(state: &mut [u64; 5205], ram: &mut [u8]) -> Heard {
+    board::start(state, ram);
+    let d = press_all(ram);
+    say::text(b"   voice   note  page      slot  frame      heard\n");
+    rows(d, state, ram);
+    hold::listen_all(d, state, ram)
+}
+
+// A voice lets go of its note, and takes the one a semitone above, whose frame is the lowest that is free.
+fn change(d: Desk, state: &mut [u64; 5205], ram: &mut [u8], voice: u64, off: Off) -> Desk {
+    let after = hold::release(d, state, ram, voice, off);
+    hold::press(after, ram, voice, partial(voice) + 1)
+}
+
+// Two neighbours let go and change frames; all that are held are heard before and after.
+fn swap(d: Desk, state: &mut [u64; 5205], ram: &mut [u8], voice: u64, off: Off) -> Desk {
+    let one = hold::release(d, state, ram, voice, off);
+    let two = change(one, state, ram, voice % 16 + 1, off);
+    hold::press(two, ram, voice, partial(voice) + 1)
+}
+
+// Every pair of neighbours in turn.
+pub fn changes(state: &mut [u64; 5205], ram: &mut [u8], off: Off) -> Heard {
+    board::start(state, ram);
+    let mut d = press_all(ram);
+    let mut h = hold::listen_all(d, state, ram);
+    let mut v = 0u64;
+    while v < 16 {
+        d = swap(d, state, ram, v, off);
+        h = hold::sum(h, hold::listen_all(d, state, ram));
+        v += 2;
+    }
+    h
+}

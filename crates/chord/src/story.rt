@@ -1,0 +1,88 @@
+// The story: the sixteen voices, then every order of a small chord, on the proved core and against two that lose a tone.
+use crate::board::Off;
+use crate::hold::Heard;
+use crate::orders;
+use crate::orders::Tally;
+use crate::sixteen;
+use trace::say;
+
+fn lost(h: Heard) {
+    say::number(h.reads, 1);
+    say::text(b" reads, ");
+    say::number(h.lost, 1);
+    say::text(b" tones lost\n");
+}
+
+fn first_part(state: &mut [u64; 5205], ram: &mut [u8]) {
+    say::text(
+        b"1. Sixteen voices, a page each; voices 1 and 9, 2 and 10 .. share a slot of the cache.\n\n",
+    );
+    let h = sixteen::table(state, ram);
+    say::text(b"\n   sixteen voices held: ");
+    lost(h);
+}
+
+fn second_part(state: &mut [u64; 5205], ram: &mut [u8]) {
+    say::text(
+        b"\n2. Every voice changes its note and its frame: note-off, TLBI by address, note-on.\n\n",
+    );
+    let right = sixteen::changes(state, ram, Off::Invalidated);
+    let stale = sixteen::changes(state, ram, Off::HintKept);
+    let forgot = sixteen::changes(state, ram, Off::Forgotten);
+    say::text(b"   the proved core:       ");
+    lost(right);
+    say::text(b"   a stale cache:         ");
+    lost(stale);
+    say::text(b"   firmware without TLBI: ");
+    lost(forgot);
+}
+
+fn tally(t: Tally) {
+    let h = t.heard;
+    say::number(t.orders, 1);
+    say::text(b" orders, ");
+    lost(h);
+}
+
+fn first_loss(state: &mut [u64; 5205], ram: &mut [u8], t: Tally) {
+    if t.wrong == 0 {
+        return;
+    }
+    say::text(b"\n   The stale cache loses a tone in ");
+    say::number(t.wrong, 1);
+    say::text(b" orders. The first of them, on the stale cache:\n\n");
+    orders::show(state, ram, t.first, Off::HintKept);
+    say::text(b"\n   The same order on the proved core:\n\n");
+    orders::show(state, ram, t.first, Off::Invalidated);
+}
+
+fn third_part(state: &mut [u64; 5205], ram: &mut [u8]) -> Tally {
+    say::text(
+        b"\n3. Every order of a chord: C4 and E4 pressed twice, G4 and B4 once; C4 and E4 share a slot, and so do G4 and B4.\n\n",
+    );
+    let right = orders::all(state, ram, Off::Invalidated);
+    say::text(b"   the proved core:       ");
+    tally(right);
+    let stale = orders::all(state, ram, Off::HintKept);
+    say::text(b"   a stale cache:         ");
+    tally(stale);
+    let forgot = orders::all(state, ram, Off::Forgotten);
+    say::text(b"   firmware without TLBI: ");
+    tally(forgot);
+    first_loss(state, ram, stale);
+    right
+}
+
+// All three parts. Whether the proved core lost no tone is the last line.
+pub fn tell(ram: &mut [u8]) {
+    let mut state = [0u64; 5205];
+    first_part(&mut state, ram);
+    second_part(&mut state, ram);
+    let right = third_part(&mut state, ram);
+    let h = right.heard;
+    if h.lost == 0 {
+        say::text(b"\nthe chord is whole\n");
+    } else {
+        say::text(b"\nTHE CHORD LOST A TONE\n");
+    }
+}
