@@ -61,7 +61,7 @@ pub fn frame(n: u64) -> u64 {
 
 // A page for data: valid, accessed, inner shareable, read and write at EL1 alone, never executed.
 fn descriptor(n: u64) -> u64 {
-    0x0060_0000_0000_0703 + frame(n)
+    0x0060_0000_0000_0703 | frame(n)
 }
 
 fn tables(ram: &mut [u8]) {

@@ -35,5 +35,5 @@ pub fn show(n: u64) {
     }
     pitch(n);
     io::print_decimal(1, n / 12 - 1);
-    spaces(4 - letters(n));
+    spaces(4 - letters(n) % 4);
 }

@@ -46,7 +46,7 @@ fn counts(order: u64) -> u64 {
     let mut i = 0u64;
     while i < 10 {
         let k = key(order, i);
-        n = std::num::wrapping_add_u64(n, 1 << (k * 4));
+        n = std::num::wrapping_add_u64(n, 1 << (k % 4 * 4));
         i += 1;
     }
     n

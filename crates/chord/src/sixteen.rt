@@ -29,6 +29,11 @@ pub fn partial(voice: u64) -> u64 {
     }
 }
 
+// A semitone above.
+fn sharp(voice: u64) -> u64 {
+    partial(voice) % 128 + 1
+}
+
 pub fn press_all(ram: &mut [u8]) -> Desk {
     let mut d = hold::silent();
     let mut v = 0u64;
@@ -76,14 +81,14 @@ pub fn table(state: &mut [u64; 5205], ram: &mut [u8]) -> Heard {
 // A voice lets go of its note, and takes the one a semitone above, whose frame is the lowest that is free.
 fn change(d: Desk, state: &mut [u64; 5205], ram: &mut [u8], voice: u64, off: Off) -> Desk {
     let after = hold::release(d, state, ram, voice, off);
-    hold::press(after, ram, voice, partial(voice) + 1)
+    hold::press(after, ram, voice, sharp(voice))
 }
 
 // Two neighbours let go and change frames; all that are held are heard before and after.
 fn swap(d: Desk, state: &mut [u64; 5205], ram: &mut [u8], voice: u64, off: Off) -> Desk {
     let one = hold::release(d, state, ram, voice, off);
     let two = change(one, state, ram, voice % 16 + 1, off);
-    hold::press(two, ram, voice, partial(voice) + 1)
+    hold::press(two, ram, voice, sharp(voice))
 }
 
 // Every pair of neighbours in turn.

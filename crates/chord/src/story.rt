@@ -22,19 +22,19 @@ fn first_part(state: &mut [u64; 5205], ram: &mut [u8]) {
     lost(h);
 }
 
+fn changed(state: &mut [u64; 5205], ram: &mut [u8], name: &[u8], off: Off) {
+    let h = sixteen::changes(state, ram, off);
+    say::text(name);
+    lost(h);
+}
+
 fn second_part(state: &mut [u64; 5205], ram: &mut [u8]) {
     say::text(
         b"\n2. Every voice changes its note and its frame: note-off, TLBI by address, note-on.\n\n",
     );
-    let right = sixteen::changes(state, ram, Off::Invalidated);
-    let stale = sixteen::changes(state, ram, Off::HintKept);
-    let forgot = sixteen::changes(state, ram, Off::Forgotten);
-    say::text(b"   the proved core:       ");
-    lost(right);
-    say::text(b"   a stale cache:         ");
-    lost(stale);
-    say::text(b"   firmware without TLBI: ");
-    lost(forgot);
+    changed(state, ram, b"   the proved core:       ", Off::Invalidated);
+    changed(state, ram, b"   a stale cache:         ", Off::HintKept);
+    changed(state, ram, b"   firmware without TLBI: ", Off::Forgotten);
 }
 
 fn tally(t: Tally) {
@@ -56,19 +56,20 @@ fn first_loss(state: &mut [u64; 5205], ram: &mut [u8], t: Tally) {
     orders::show(state, ram, t.first, Off::Invalidated);
 }
 
+fn ordered(state: &mut [u64; 5205], ram: &mut [u8], name: &[u8], off: Off) -> Tally {
+    let t = orders::all(state, ram, off);
+    say::text(name);
+    tally(t);
+    t
+}
+
 fn third_part(state: &mut [u64; 5205], ram: &mut [u8]) -> Tally {
     say::text(
         b"\n3. Every order of a chord: C4 and E4 pressed twice, G4 and B4 once; C4 and E4 share a slot, and so do G4 and B4.\n\n",
     );
-    let right = orders::all(state, ram, Off::Invalidated);
-    say::text(b"   the proved core:       ");
-    tally(right);
-    let stale = orders::all(state, ram, Off::HintKept);
-    say::text(b"   a stale cache:         ");
-    tally(stale);
-    let forgot = orders::all(state, ram, Off::Forgotten);
-    say::text(b"   firmware without TLBI: ");
-    tally(forgot);
+    let right = ordered(state, ram, b"   the proved core:       ", Off::Invalidated);
+    let stale = ordered(state, ram, b"   a stale cache:         ", Off::HintKept);
+    ordered(state, ram, b"   firmware without TLBI: ", Off::Forgotten);
     first_loss(state, ram, stale);
     right
 }
