@@ -9,17 +9,32 @@ use trace::form;
 
 fn help(fd: i32) {
     io::write_all(fd, b"usage: a72 run TRACE\n");
-    io::write_all(fd, b"       a72 walk TRACE ADDRESS [read|write|fetch] [LEVEL]\n");
+    io::write_all(
+        fd,
+        b"       a72 walk TRACE ADDRESS [read|write|fetch] [LEVEL]\n",
+    );
     io::write_all(fd, b"       a72 chord\n");
     io::write_all(fd, b"       a72 help\n");
 }
 
 // What each command does.
 fn details() {
-    io::write_all(1, b"\nrun    carries out a trace on the proved core and prints a line for each operation: its line number,\n       the operation, the answer, counters, registers kept and digests, as the Rust's run does.\n");
-    io::write_all(1, b"walk   carries out a trace, then shows one translation of ADDRESS (hexadecimal) step by step: registers,\n       range, each descriptor, the end, and what the core answers. A read at the core's level, or as named.\n");
-    io::write_all(1, b"chord  sixteen voices, a page each, and every order of a small chord: no tone is lost; against a stale\n       cache, which loses one.\n\n");
-    io::write_all(1, b"TRACE is a file of lines: tr, dpa, fpa, ld, st, if, sys, reg, level, mark, x, abort; fresh, window, zero,\npoke; leaves l-..; pokes p-..; parts w-.. Numbers are hexadecimal without 0x; # starts a comment. A file with a\nbad line gets a message `a72: FILE:LINE:COLUMN: reason` on standard error, and nothing else happens.\n");
+    io::write_all(
+        1,
+        b"\nrun    carries out a trace on the proved core and prints a line for each operation: its line number,\n       the operation, the answer, counters, registers kept and digests, as the Rust's run does.\n",
+    );
+    io::write_all(
+        1,
+        b"walk   carries out a trace, then shows one translation of ADDRESS (hexadecimal) step by step: registers,\n       range, each descriptor, the end, and what the core answers. A read at the core's level, or as named.\n",
+    );
+    io::write_all(
+        1,
+        b"chord  sixteen voices, a page each, and every order of a small chord: no tone is lost; against a stale\n       cache, which loses one.\n\n",
+    );
+    io::write_all(
+        1,
+        b"TRACE is a file of lines: tr, dpa, fpa, ld, st, if, sys, reg, level, mark, x, abort; fresh, window, zero,\npoke; leaves l-..; pokes p-..; parts w-.. Numbers are hexadecimal without 0x; # starts a comment. A file with a\nbad line gets a message `a72: FILE:LINE:COLUMN: reason` on standard error, and nothing else happens.\n",
+    );
 }
 
 fn wrong(why: &[u8]) {

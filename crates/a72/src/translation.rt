@@ -108,14 +108,7 @@ fn explained(m: Machine, state: &mut [u64; 5205], ram: &mut [u8], q: Question, k
     }
 }
 
-fn open(
-    fd: i32,
-    path: &[u8],
-    state: &mut [u64; 5205],
-    ram: &mut [u8],
-    q: Question,
-    kind: Kind,
-) {
+fn open(fd: i32, path: &[u8], state: &mut [u64; 5205], ram: &mut [u8], q: Question, kind: Kind) {
     let good = run::is_trace(fd, path, state, ram);
     if good {
         let t = run::pass(Mode::Silent, fd, path, state, ram);

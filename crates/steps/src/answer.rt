@@ -26,7 +26,7 @@ pub fn kind_word(kind: Kind) -> u64 {
     }
 }
 
-fn told(a: Answer) -> Told {
+fn in_words(a: Answer) -> Told {
     match a {
         Answer::Address(pa) => Told { code: 1, value: pa },
         Answer::Status(fsc) => Told {
@@ -70,7 +70,7 @@ pub fn of_walk(
             let at = counts::present_at(state);
             let e = turn::entry_for(leaf, at, 0);
             let user = access::user_of(regime, who, kind);
-            told(access::judge(e, user, kind, va))
+            in_words(access::judge(e, user, kind, va))
         }
         Walked::Fault(code) => Told {
             code: 8,
@@ -95,7 +95,8 @@ pub fn same(a: Told, b: Told) -> bool {
 }
 
 pub fn show(t: Told) {
-    match t.code {
+    let code = t.code;
+    match code {
         1 => {
             say::text(b"address ");
             say::hex(t.value, 1);
