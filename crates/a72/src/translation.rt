@@ -77,7 +77,7 @@ fn level_arg() -> u64 {
     }
 }
 
-fn question() -> Question {
+fn ask() -> Question {
     let n = number_arg(3);
     let level = level_arg();
     if n.fault != lex::NUMBER {
@@ -133,7 +133,7 @@ fn asked(path: &[u8], q: Question, kind: Kind) {
 
 // The trace's path is the second argument; the others are read here.
 pub fn walk(path: &[u8]) {
-    let q = question();
+    let q = ask();
     if !q.good {
         return;
     }
