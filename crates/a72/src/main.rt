@@ -1,8 +1,6 @@
 // The tool: traces on the proved core, one translation step by step, and the chord.
 mod report;
 mod run;
-mod show;
-mod source;
 mod translation;
 
 use trace::form;

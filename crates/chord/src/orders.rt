@@ -132,7 +132,7 @@ fn show_key(d: Desk, state: &mut [u64; 5205], ram: &[u8], k: u64) {
     let v = voice(k);
     let expected = hold::tone_of(d, v);
     if expected == 0 {
-        say::text(b"   .          ");
+        say::text(b"   .              ");
         return;
     }
     let heard = board::hear(state, ram, v);

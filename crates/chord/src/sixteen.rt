@@ -78,29 +78,58 @@ pub fn table(state: &mut [u64; 5205], ram: &mut [u8]) -> Heard {
     hold::listen_all(d, state, ram)
 }
 
-// A voice lets go of its note, and takes the one a semitone above, whose frame is the lowest that is free.
-fn change(d: Desk, state: &mut [u64; 5205], ram: &mut [u8], voice: u64, off: Off) -> Desk {
-    let after = hold::release(d, state, ram, voice, off);
-    hold::press(after, ram, voice, sharp(voice))
+// The voices as they are held, and what was heard so far.
+pub struct Round {
+    pub desk: Desk,
+    pub heard: Heard,
 }
 
-// Two neighbours let go and change frames; all that are held are heard before and after.
-fn swap(d: Desk, state: &mut [u64; 5205], ram: &mut [u8], voice: u64, off: Off) -> Desk {
-    let one = hold::release(d, state, ram, voice, off);
-    let two = change(one, state, ram, voice % 16 + 1, off);
-    hold::press(two, ram, voice, sharp(voice))
+// All that are held now are heard.
+fn listened(r: Round, d: Desk, state: &mut [u64; 5205], ram: &[u8]) -> Round {
+    let before = r.heard;
+    let now = hold::listen_all(d, state, ram);
+    let heard = hold::sum(before, now);
+    Round { desk: d, heard }
 }
 
-// Every pair of neighbours in turn.
+fn let_go(r: Round, state: &mut [u64; 5205], ram: &mut [u8], voice: u64, off: Off) -> Round {
+    let before = r.desk;
+    let d = hold::release(before, state, ram, voice, off);
+    listened(r, d, state, ram)
+}
+
+// The note a semitone above, in the lowest frame that is free.
+fn take_up(r: Round, state: &mut [u64; 5205], ram: &mut [u8], voice: u64) -> Round {
+    let before = r.desk;
+    let d = hold::press(before, ram, voice, sharp(voice));
+    listened(r, d, state, ram)
+}
+
+// Two neighbours let go.
+fn both_go(r: Round, state: &mut [u64; 5205], ram: &mut [u8], voice: u64, off: Off) -> Round {
+    let one = let_go(r, state, ram, voice, off);
+    let_go(one, state, ram, voice % 16 + 1, off)
+}
+
+// Then each takes the other's frame.
+fn swap(r: Round, state: &mut [u64; 5205], ram: &mut [u8], voice: u64, off: Off) -> Round {
+    let gone = both_go(r, state, ram, voice, off);
+    let one = take_up(gone, state, ram, voice % 16 + 1);
+    take_up(one, state, ram, voice)
+}
+
+// Every pair of neighbours in turn, from all sixteen held.
 pub fn changes(state: &mut [u64; 5205], ram: &mut [u8], off: Off) -> Heard {
     board::start(state, ram);
-    let mut d = press_all(ram);
-    let mut h = hold::listen_all(d, state, ram);
+    let d = press_all(ram);
+    let mut r = Round {
+        desk: d,
+        heard: hold::listen_all(d, state, ram),
+    };
     let mut v = 0u64;
     while v < 16 {
-        d = swap(d, state, ram, v, off);
-        h = hold::sum(h, hold::listen_all(d, state, ram));
+        r = swap(r, state, ram, v, off);
         v += 2;
     }
-    h
+    r.heard
 }

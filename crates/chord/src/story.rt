@@ -50,7 +50,7 @@ fn first_loss(state: &mut [u64; 5205], ram: &mut [u8], t: Tally) {
     }
     say::text(b"\n   The stale cache loses a tone in ");
     say::number(t.wrong, 1);
-    say::text(b" orders. The first of them, on the stale cache:\n\n");
+    say::text(b" orders. The first of them, where two held keys read one page:\n\n");
     orders::show(state, ram, t.first, Off::HintKept);
     say::text(b"\n   The same order on the proved core:\n\n");
     orders::show(state, ram, t.first, Off::Invalidated);

@@ -7,10 +7,10 @@ use Rattle.chord.proofs.sixteen.changes.Statement.{statement}
 use Rattle.chord.proofs.sixteen.changes.Tie as tie
 
 abbrev Inv-loop : tie.InvT-loop
-Inv-loop state₀ ram₀ off d₀ h₀ v₀ state ram d h v = length ram ≡ length ram₀
+Inv-loop state₀ ram₀ off r₀ v₀ state ram r v = length ram ≡ length ram₀
 
 abbrev μ-loop : tie.MeasureT-loop
-μ-loop state₀ ram₀ off d₀ h₀ v₀ state ram d h v = 16 - v
+μ-loop state₀ ram₀ off r₀ v₀ state ram r v = 16 - v
 
 start-requires : tie.Need-start-requires Inv-loop μ-loop
 start-requires c κs = search needs
@@ -26,12 +26,6 @@ loop-holds c = search needs
 
 swap-requires : tie.Need-swap-requires Inv-loop μ-loop
 swap-requires c κs = search needs
-
-listen-all-requires-2 : tie.Need-listen-all-requires-2 Inv-loop μ-loop
-listen-all-requires-2 c κs = search needs
-
-sum-requires : tie.Need-sum-requires Inv-loop μ-loop
-sum-requires c κs = search needs
 
 add-v : tie.Need-add-v Inv-loop μ-loop
 add-v c = search needs
@@ -59,8 +53,6 @@ changes-spec =
     listen-all-requires
     loop-holds
     swap-requires
-    listen-all-requires-2
-    sum-requires
     add-v
     loop-less
     loop-again

@@ -1,7 +1,7 @@
--- `a72::source::next_line` is safe and ends.
+-- `lines::source::next_line` is safe and ends.
 use borrow.Author.Needs.{needs}
-use Rattle.a72.proofs.source.next_line.Statement.{statement}
-use Rattle.a72.proofs.source.next_line.Tie as tie
+use Rattle.lines.proofs.source.next_line.Statement.{statement}
+use Rattle.lines.proofs.source.next_line.Tie as tie
 
 abbrev Inv-loop : tie.InvT-loop
 Inv-loop fd buf₀ words₀ s₀ left₀ buf words s left = Unit {0}
