@@ -101,7 +101,7 @@ pub fn show(t: Told) {
             say::text(b"address ");
             say::hex(t.value, 1);
         }
-        5 => say::field(b"refused: ", t.value),
+        5 => say::field(b"no answer, check ", t.value),
         _ => {
             say::text(b"fault 0x");
             say::hex(t.value, 2);

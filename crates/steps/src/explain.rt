@@ -68,6 +68,13 @@ fn flat(va: u64) -> Told {
     Told { code: 1, value: va }
 }
 
+// Whether stage 1 is on in the regime of the core's level.
+fn is_on(words: &[u64; 5205]) -> bool {
+    let who = state::who_at(words);
+    let r = regime::regime_of(who.level);
+    regime::stage1_on(regs::bank_at(words, r), r)
+}
+
 // The answer of a walk made now, each step shown.
 fn now(words: &[u64; 5205], base: u64, ram: &[u8], kind: Kind, va: u64) -> Told {
     let who = state::who_at(words);
@@ -75,7 +82,7 @@ fn now(words: &[u64; 5205], base: u64, ram: &[u8], kind: Kind, va: u64) -> Told 
     let s = regs::bank_at(words, r);
     head(who, kind, r, va);
     registers::show(s, r);
-    let on = regime::stage1_on(s, r);
+    let on = is_on(words);
     if on {
         walked(words, base, ram, s, r, who, kind, va)
     } else {
@@ -83,8 +90,12 @@ fn now(words: &[u64; 5205], base: u64, ram: &[u8], kind: Kind, va: u64) -> Told 
     }
 }
 
-// Whether walks or hits were counted tells where the core's answer came from.
-fn source(walks: bool, hits: bool) {
+// Where the core's answer came from: the counters tell a walk and an entry.
+fn source(on: bool, walks: bool, hits: bool) {
+    if !on {
+        say::text(b", with stage 1 off\n");
+        return;
+    }
     if walks {
         say::text(b", by a walk\n");
         return;
@@ -92,14 +103,19 @@ fn source(walks: bool, hits: bool) {
     if hits {
         say::text(b", by an entry of the cache\n");
     } else {
-        say::text(b", by a hint, or with stage 1 off\n");
+        say::text(b", by a hint\n");
     }
 }
 
+// A stale cache is seen here.
 fn verdict(now: Told, core: Told) {
     let same = answer::same(now, core);
     if same {
         say::text(b"the two agree\n");
+        return;
+    }
+    if core.code == 5 {
+        say::text(b"the core refuses the call: its level is above 3, or its window passes 2^64\n");
     } else {
         say::text(b"THEY DIFFER: the cache holds a translation that the tables no longer make\n");
     }
@@ -111,11 +127,12 @@ pub fn explain(words: &mut [u64; 5205], base: u64, ram: &mut [u8], kind: Kind, v
     say::text(b"walk now   ");
     answer::show(by_walk);
     say::text(b"\n");
+    let on = is_on(words);
     let walks = words[71];
     let hits = words[70];
     let by_core = answer::of_core(words, base, ram, kind, va);
     say::text(b"the core   ");
     answer::show(by_core);
-    source(words[71] != walks, words[70] != hits);
+    source(on, words[71] != walks, words[70] != hits);
     verdict(by_walk, by_core);
 }
