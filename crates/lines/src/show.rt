@@ -1,0 +1,86 @@
+// A line of output for an operation: its number in the trace, the operation, the answer, and the core after it.
+use digest::parts;
+use trace::out;
+use trace::write;
+
+// A name and a number.
+fn field(line: &mut [u8; 1024], n: usize, name: &[u8], value: u64) -> usize {
+    let k = out::text(line, n, name);
+    out::hex(line, k, value, 1)
+}
+
+fn small(line: &mut [u8; 1024], n: usize, name: &[u8], value: u64) -> usize {
+    let k = out::text(line, n, name);
+    out::decimal(line, k, value)
+}
+
+fn digest(line: &mut [u8; 1024], n: usize, name: &[u8], value: u64) -> usize {
+    let k = out::text(line, n, name);
+    out::hex(line, k, value, 16)
+}
+
+fn counters(line: &mut [u8; 1024], n: usize, state: &[u64; 5205]) -> usize {
+    let a = field(line, n, b" | h=", state[70]);
+    let b = field(line, a, b" w=", state[71]);
+    let c = field(line, b, b" fl=", state[72]);
+    let d = field(line, c, b" dr=", state[73]);
+    let e = field(line, d, b" ep=", state[74]);
+    let f = small(line, e, b" bc=", state[75]);
+    field(line, f, b":", state[76])
+}
+
+fn place(line: &mut [u8; 1024], n: usize, state: &[u64; 5205]) -> usize {
+    let a = field(line, n, b" lp=", state[77]);
+    let b = field(line, a, b" ap=", state[78]);
+    let c = small(line, b, b" el=", state[68]);
+    let d = small(line, c, b" um=", state[69]);
+    let e = field(line, d, b" as=", state[80]);
+    let f = field(line, e, b" gen=", state[79]);
+    let g = field(line, f, b" par=", state[32]);
+    field(line, g, b" pc=", state[33])
+}
+
+fn digests(line: &mut [u8; 1024], n: usize, state: &[u64; 5205], ram: u64) -> usize {
+    let entries = parts::entries(state);
+    let hints = parts::hints(state);
+    let a = digest(line, n, b" R=", parts::registers(state));
+    let b = small(line, a, b" T=", entries.count);
+    let c = digest(line, b, b":", entries.digest);
+    let d = small(line, c, b" H=", hints.count);
+    let e = digest(line, d, b":", hints.digest);
+    digest(line, e, b" M=", ram)
+}
+
+fn write_first(line: &[u8], n: usize) -> bool {
+    if n <= line.len() {
+        io::write_all(1, &line[0..n])
+    } else {
+        false
+    }
+}
+
+// The line's first n bytes go to standard output.
+fn flush(line: &[u8; 1024], n: usize) -> bool {
+    write_first(line, n)
+}
+
+// Whether the line was written.
+pub fn operation(
+    number: u64,
+    op: &[u64; 8],
+    ans: &[u64; 4],
+    state: &[u64; 5205],
+    ram: u64,
+) -> bool {
+    let mut line = [0u8; 1024];
+    let a = out::decimal(&mut line, 0, number);
+    let b = out::byte(&mut line, a, b' ');
+    let c = write::operation(&mut line, b, op);
+    let d = out::text(&mut line, c, b" => ");
+    let e = write::answer(&mut line, d, ans);
+    let f = counters(&mut line, e, state);
+    let g = place(&mut line, f, state);
+    let h = digests(&mut line, g, state, ram);
+    let n = out::byte(&mut line, h, b'\n');
+    flush(&line, n)
+}
