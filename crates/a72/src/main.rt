@@ -1,20 +1,52 @@
 // The tool: traces on the proved core, one translation step by step, and the chord.
-mod edits;
-mod leaves;
-mod machine;
-mod memory;
 mod report;
 mod run;
-mod show;
-mod source;
+mod translation;
 
 use trace::form;
 
 fn help(fd: i32) {
     io::write_all(fd, b"usage: a72 run TRACE\n");
+    io::write_all(
+        fd,
+        b"       a72 walk TRACE ADDRESS [read|write|fetch] [LEVEL]\n",
+    );
+    io::write_all(fd, b"       a72 chord\n");
+    io::write_all(fd, b"       a72 help\n");
+}
+
+// What each command does.
+fn details() {
+    io::write_all(
+        1,
+        b"\nrun    carries out a trace on the proved core and prints a line for each operation: its line number,\n       the operation, the answer, counters, registers kept and digests, as the Rust's run does.\n",
+    );
+    io::write_all(
+        1,
+        b"walk   carries out a trace, then shows one translation of ADDRESS (hexadecimal) step by step: registers,\n       range, each descriptor, the end, and what the core answers. A read at the core's level, or as named.\n",
+    );
+    io::write_all(
+        1,
+        b"chord  sixteen voices, a page each, and every order of a small chord: no tone is lost; against a stale\n       cache, which loses one.\n\n",
+    );
+    io::write_all(
+        1,
+        b"TRACE is a file of lines: tr, dpa, fpa, ld, st, if, sys, reg, level, mark, x, abort; fresh, window, zero,\npoke; leaves l-..; pokes p-..; parts w-.. Numbers are hexadecimal without 0x; # starts a comment. A file with a\nbad line gets a message `a72: FILE:LINE:COLUMN: reason` on standard error, and nothing else happens.\n",
+    );
+}
+
+fn wrong(why: &[u8]) {
+    report::text(b"a72: ");
+    report::text(why);
+    report::text(b"\n");
+    help(2);
 }
 
 fn run_command() {
+    if os::arg_count() != 3 {
+        wrong(b"run wants one TRACE");
+        return;
+    }
     let mut path = io::buffer();
     let n = os::arg(2, &mut path);
     if os::errno() != 0 {
@@ -24,13 +56,57 @@ fn run_command() {
     run::run(&path[..n]);
 }
 
-fn main() {
-    let mut word = io::buffer();
-    let n = os::arg(1, &mut word);
-    let command = form::letters(&word[..n]);
-    if command == form::letters(b"run") {
+fn walk_command() {
+    let count = os::arg_count();
+    if count < 4 || 6 < count {
+        wrong(b"walk wants a TRACE and an ADDRESS, then a kind of access and a level if you like");
+        return;
+    }
+    let mut path = io::buffer();
+    let n = os::arg(2, &mut path);
+    if os::errno() != 0 {
+        report::system(b"TRACE");
+        return;
+    }
+    translation::walk(&path[..n]);
+}
+
+fn chord_command() {
+    if os::arg_count() != 2 {
+        wrong(b"chord wants nothing more");
+        return;
+    }
+    let mut ram = machine::memory::zeros();
+    chord::story::tell(&mut ram);
+}
+
+fn command(word: u64) {
+    if word == form::letters(b"run") {
         run_command();
         return;
     }
-    help(2);
+    if word == form::letters(b"walk") {
+        walk_command();
+        return;
+    }
+    if word == form::letters(b"chord") {
+        chord_command();
+        return;
+    }
+    if word == form::letters(b"help") || word == form::letters(b"--help") {
+        help(1);
+        details();
+        return;
+    }
+    wrong(b"no such command");
+}
+
+fn main() {
+    if os::arg_count() < 2 {
+        help(2);
+        return;
+    }
+    let mut word = [0u8; 8];
+    let n = os::arg(1, &mut word);
+    command(form::letters(&word[..n]));
 }

@@ -1,11 +1,11 @@
 // A trace from a file, line by line: checked, run with a line of output for each operation, or run in silence.
-use crate::machine;
-use crate::machine::Machine;
-use crate::memory;
 use crate::report;
-use crate::show;
-use crate::source;
-use crate::source::Source;
+use lines::show;
+use lines::source;
+use lines::source::Source;
+use machine::line;
+use machine::line::Machine;
+use machine::memory;
 use trace::parse;
 use trace::parse::Outcome;
 
@@ -41,18 +41,18 @@ fn shown(t: Turn, state: &mut [u64; 5205], ram: &mut [u8], op: &[u64; 8]) -> Tur
     let m = t.machine;
     let s = t.source;
     let mut out = t;
-    let changes = machine::moves_ram(op);
+    let changes = line::moves_ram(op);
     if 60 <= op[0] {
-        let after = machine::arrange(m, state, ram, op);
+        let after = line::arrange(m, state, ram, op);
         out.machine = after;
         if changes {
-            out.ram = machine::window_digest(after, ram);
+            out.ram = line::window_digest(after, ram);
         }
         return out;
     }
-    let ans = machine::perform(m, state, ram, op);
+    let ans = line::perform(m, state, ram, op);
     if changes {
-        out.ram = machine::window_digest(m, ram);
+        out.ram = line::window_digest(m, ram);
     }
     let written = show::operation(s.number, op, &ans, state, out.ram);
     if written {
@@ -68,10 +68,10 @@ fn silent(t: Turn, state: &mut [u64; 5205], ram: &mut [u8], op: &[u64; 8]) -> Tu
     let m = t.machine;
     let mut out = t;
     if 60 <= op[0] {
-        let after = machine::arrange(m, state, ram, op);
+        let after = line::arrange(m, state, ram, op);
         out.machine = after;
     } else {
-        machine::perform(m, state, ram, op);
+        line::perform(m, state, ram, op);
     }
     out
 }
@@ -90,7 +90,7 @@ fn act(t: Turn, mode: Mode, state: &mut [u64; 5205], ram: &mut [u8], op: &[u64; 
 }
 
 // A line that was read: what it means is done, or refused with its place and reason.
-fn line(
+fn meant(
     t: Turn,
     mode: Mode,
     path: &[u8],
@@ -148,7 +148,7 @@ fn one_line(
         report::at(path, s.number, 1, b"a line of more than 65535 bytes");
         return stopped(out, true);
     }
-    let after = line(out, mode, path, &words, state, ram);
+    let after = meant(out, mode, path, &words, state, ram);
     if s.ended {
         stopped(after, after.bad)
     } else {
@@ -157,11 +157,11 @@ fn one_line(
 }
 
 fn first(state: &mut [u64; 5205], ram: &[u8]) -> Turn {
-    let m = machine::start(state);
+    let m = line::start(state);
     Turn {
         source: source::start(),
         machine: m,
-        ram: machine::window_digest(m, ram),
+        ram: line::window_digest(m, ram),
         more: true,
         bad: false,
     }

@@ -174,3 +174,14 @@ pub fn step(c: Cursor, words: &mut [u64; 32], b: u8) -> Cursor {
     out.column = std::num::wrapping_add_u64(c.column, 1);
     out
 }
+
+// The number that a word's bytes write.
+pub fn value_of(word: &[u8]) -> Number {
+    let mut n = no_digits();
+    let mut i = 0usize;
+    while i < word.len() {
+        n = grown(n, digit(word[i]));
+        i += 1;
+    }
+    n
+}

@@ -4,4 +4,5 @@ pub mod form;
 pub mod lex;
 pub mod out;
 pub mod parse;
+pub mod say;
 pub mod write;

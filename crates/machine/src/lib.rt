@@ -1,0 +1,5 @@
+// The core and its window of RAM, and what each line of a trace does to them.
+pub mod edits;
+pub mod leaves;
+pub mod line;
+pub mod memory;
