@@ -145,7 +145,7 @@ fn one_line(
         return stopped(out, true);
     }
     if s.open {
-        report::at(path, s.number, 1, b"a line of more than 65535 bytes");
+        report::at(path, s.number, 1, b"a line of more than 65000 bytes");
         return stopped(out, true);
     }
     let after = meant(out, mode, path, &words, state, ram);
