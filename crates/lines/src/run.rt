@@ -1,8 +1,8 @@
 // A trace from a file, line by line: checked, run with a line of output for each operation, or run in silence.
 use crate::report;
-use lines::show;
-use lines::source;
-use lines::source::Source;
+use crate::show;
+use crate::source;
+use crate::source::Source;
 use machine::line;
 use machine::line::Machine;
 use machine::memory;
