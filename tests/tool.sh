@@ -62,7 +62,7 @@ line "$(printf 'x 1 \001')" 5 'a byte that no line holds'
 printf 'tr 1 0\nworse\n' >"$work/bad"
 refused 1 ':2:1:' run "$work/bad"
 head -c 70000 /dev/zero | tr '\0' ' ' >"$work/bad"
-refused 1 ':1:1: a line of more than 65535 bytes' run "$work/bad"
+refused 1 ':1:1: a line of more than 65000 bytes' run "$work/bad"
 head -c 5000 /dev/urandom >"$work/bad"
 refused 1 "$work/bad:" run "$work/bad"
 refused 1 'No such file' run "$work/none"

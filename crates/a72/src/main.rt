@@ -1,8 +1,8 @@
 // The tool: traces on the proved core, one translation step by step, and the chord.
-mod report;
-mod run;
 mod translation;
 
+use lines::report;
+use lines::run;
 use trace::form;
 
 fn help(fd: i32) {

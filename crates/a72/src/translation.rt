@@ -1,8 +1,8 @@
 // `a72 walk TRACE ADDRESS [read|write|fetch] [LEVEL]`: a trace in silence, then one translation step by step.
-use crate::report;
-use crate::run;
-use crate::run::Mode;
 use a72abi::calls;
+use lines::report;
+use lines::run;
+use lines::run::Mode;
 use machine::line::Machine;
 use machine::memory;
 use steps::explain;

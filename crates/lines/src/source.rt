@@ -2,8 +2,8 @@
 use trace::lex;
 use trace::lex::Cursor;
 
-// The longest line, in bytes, its end counted.
-pub const LONGEST: u64 = 65536;
+// A turn reads a byte or fills the buffer: enough for a line of 65,000 bytes.
+pub const TURNS: u64 = 65536;
 
 // Where the reading of a file stands.
 pub struct Source {
@@ -83,7 +83,7 @@ fn begun(s: Source) -> Source {
 // The words of the next line. It is still open afterwards where it is too long.
 pub fn next_line(fd: i32, buf: &mut [u8; 4096], words: &mut [u64; 32], from: Source) -> Source {
     let mut s = begun(from);
-    let mut left = LONGEST;
+    let mut left = TURNS;
     while left > 0 && s.open {
         s = next_byte(fd, buf, words, s);
         left -= 1;

@@ -1,9 +1,9 @@
--- `a72::run::pass` is safe and ends.
+-- `lines::run::pass` is safe and ends.
 use borrow.Author.Needs.{needs}
 use mathlib.Core.Path.{_≡_}
 use lib.ListN.{length}
-use Rattle.a72.proofs.run.pass.Statement.{statement}
-use Rattle.a72.proofs.run.pass.Tie as tie
+use Rattle.lines.proofs.run.pass.Statement.{statement}
+use Rattle.lines.proofs.run.pass.Tie as tie
 
 abbrev Inv-loop : tie.InvT-loop
 Inv-loop mode fd path state₀ ram₀ buf₀ t₀ left₀ state ram buf t left = length ram ≡ length ram₀

@@ -1,8 +1,8 @@
 // A trace from a file, line by line: checked, run with a line of output for each operation, or run in silence.
 use crate::report;
-use lines::show;
-use lines::source;
-use lines::source::Source;
+use crate::show;
+use crate::source;
+use crate::source::Source;
 use machine::line;
 use machine::line::Machine;
 use machine::memory;
@@ -145,7 +145,7 @@ fn one_line(
         return stopped(out, true);
     }
     if s.open {
-        report::at(path, s.number, 1, b"a line of more than 65535 bytes");
+        report::at(path, s.number, 1, b"a line of more than 65000 bytes");
         return stopped(out, true);
     }
     let after = meant(out, mode, path, &words, state, ram);
