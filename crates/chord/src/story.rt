@@ -13,28 +13,31 @@ fn lost(h: Heard) {
     say::text(b" tones lost\n");
 }
 
-fn first_part(state: &mut [u64; 5205], ram: &mut [u8]) {
+fn first_part(state: &mut [u64; 5205], ram: &mut [u8]) -> bool {
     say::text(
         b"1. Sixteen voices, a page each; voices 1 and 9, 2 and 10 .. share a slot of the cache.\n\n",
     );
     let h = sixteen::table(state, ram);
     say::text(b"\n   sixteen voices held: ");
     lost(h);
+    h.lost == 0
 }
 
-fn changed(state: &mut [u64; 5205], ram: &mut [u8], name: &[u8], off: Off) {
+fn changed(state: &mut [u64; 5205], ram: &mut [u8], name: &[u8], off: Off) -> bool {
     let h = sixteen::changes(state, ram, off);
     say::text(name);
     lost(h);
+    h.lost == 0
 }
 
-fn second_part(state: &mut [u64; 5205], ram: &mut [u8]) {
+fn second_part(state: &mut [u64; 5205], ram: &mut [u8]) -> bool {
     say::text(
         b"\n2. Every voice changes its note and its frame: note-off, TLBI by address, note-on.\n\n",
     );
-    changed(state, ram, b"   the proved core:       ", Off::Invalidated);
+    let whole = changed(state, ram, b"   the proved core:       ", Off::Invalidated);
     changed(state, ram, b"   a stale cache:         ", Off::HintKept);
     changed(state, ram, b"   firmware without TLBI: ", Off::Forgotten);
+    whole
 }
 
 fn tally(t: Tally) {
@@ -63,7 +66,7 @@ fn ordered(state: &mut [u64; 5205], ram: &mut [u8], name: &[u8], off: Off) -> Ta
     t
 }
 
-fn third_part(state: &mut [u64; 5205], ram: &mut [u8]) -> Tally {
+fn third_part(state: &mut [u64; 5205], ram: &mut [u8]) -> bool {
     say::text(
         b"\n3. Every order of a chord: C4 and E4 pressed twice, G4 and B4 once; C4 and E4 share a slot, and so do G4 and B4.\n\n",
     );
@@ -71,17 +74,17 @@ fn third_part(state: &mut [u64; 5205], ram: &mut [u8]) -> Tally {
     let stale = ordered(state, ram, b"   a stale cache:         ", Off::HintKept);
     ordered(state, ram, b"   firmware without TLBI: ", Off::Forgotten);
     first_loss(state, ram, stale);
-    right
+    let h = right.heard;
+    h.lost == 0
 }
 
-// All three parts. Whether the proved core lost no tone is the last line.
+// All three parts. Whether the proved core lost no tone in any is the last line.
 pub fn tell(ram: &mut [u8]) {
     let mut state = [0u64; 5205];
-    first_part(&mut state, ram);
-    second_part(&mut state, ram);
-    let right = third_part(&mut state, ram);
-    let h = right.heard;
-    if h.lost == 0 {
+    let held = first_part(&mut state, ram);
+    let changed = second_part(&mut state, ram);
+    let ordered = third_part(&mut state, ram);
+    if held & changed & ordered {
         say::text(b"\nthe chord is whole\n");
     } else {
         say::text(b"\nTHE CHORD LOST A TONE\n");
