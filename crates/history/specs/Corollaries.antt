@@ -14,9 +14,8 @@ use Rattle.tlb.specs.declared.Inval.the-variants.{All}
 use Rattle.tlb.specs.declared.Tlb.{Tlb}
 use Rattle.history.specs.Lists.{each-left, each-right, each-head, plain-append, tlb-append}
 use Rattle.history.specs.World.{World, Laws, covers, Plain, uncached}
-use Rattle.history.specs.History.{Ask, kindOf, addressOf, Given, Effect, nothing, carries, writes, turns, Step, Event, steps, receives, after, plainRun, drops, dropsRun, answerOf, askedOf, onward, answers, tlbRun, Settled, SettledFor, Faithful, FaithfulAfter}
+use Rattle.history.specs.History.{Ask, kindOf, addressOf, Given, Effect, nothing, carries, writes, turns, Step, Event, steps, receives, after, plainRun, drops, dropsRun, answerOf, askedOf, onward, answers, tlbRun, Settled, SettledFor, Faithful}
 use Rattle.history.specs.Theorem.{demand-3}
-use Rattle.history.specs.Inside.{answers-same}
 use Rattle.history.specs.Invisible.{plainAnswers, answersRun, plainAnswersRun, Tidy, Invisible}
 
 module _ (w : World) (laws : Laws w) where
@@ -27,7 +26,7 @@ module _ (w : World) (laws : Laws w) where
     effect-on : (e : Effect w) (c : Plain w) → Each (λ v. covers v p ℓ a ≡ false) (drops w e c) → w .on (after w e c .regs) r ≡ w .on (c .regs) r
     unfolding covers
     effect-on nothing c us = refl
-    effect-on (carries v) c us = refl
+    effect-on (carries v shared) c us = refl
     effect-on (turns who low) c us = refl
     effect-on (writes R) c us = go (w .same-shape (c .regs) R) refl us
       where
@@ -60,12 +59,10 @@ module _ (w : World) (laws : Laws w) where
   -- A FRESH CORE
 
   module _ (c₀ : Plain w) (zero-asid : w .asid (c₀ .regs) ≡ 0) (low : c₀ .who .level ≤ 3) where
-    pub faithful-after : (c : Plain w) (t : Tlb) (m : w .Ram) (a : Ask) → FaithfulAfter w c₀ c t m a (answerOf w c m a t)
-    faithful-after c t m a past e f st =
-        rw e
-        (each-head
-        (rw (answers-same w (plainRun w c₀ past) m (a ∷ []) (tlbRun w c₀ past fresh) t (sym f)) at
-        (demand-3 w laws c₀ zero-asid low past m (record { asks = a ∷ []; effect = nothing }))) st)
+    -- one translation after a history
+    pub one-settled : (past : List (Event w)) (m : w .Ram) (a : Ask) → SettledFor w c₀ past m a
+        → answerOf w (plainRun w c₀ past) m a (tlbRun w c₀ past fresh) ≡ uncached w (plainRun w c₀ past) m (kindOf a) (addressOf a)
+    one-settled past m a st = each-head (demand-3 w laws c₀ zero-asid low past m (record { asks = a ∷ []; effect = nothing })) st
 
     -- where all pages of a step are settled, all its answers are those of the core without a cache
     same-answers : (past : List (Event w)) (m : w .Ram) (l : List Ask) (t : Tlb) → Each (Faithful w c₀ past m) (answers w (plainRun w c₀ past) m l t)

@@ -1,7 +1,7 @@
 -- Document 01's "The list", the premise of demand 3, and demand 3 itself. With World.antt this is all that a reader has to believe; every term
 -- is read from the events, never from the cache.
 use mathlib.Core.Path.{_≡_}
-use mathlib.Core.Bool.{true, false}
+use mathlib.Core.Bool.{Bool, true, false}
 use mathlib.Core.List.{List, [], _∷_, _++_}
 use mathlib.Core.Logic.{_⊎_}
 use Prim.Native.Nat.{ℕ, _≤_}
@@ -11,7 +11,7 @@ use Rattle.walk.specs.declared.regime.Regime.{Regime}
 use Rattle.walk.specs.declared.level.Leaf.{Leaf}
 use Rattle.walk.specs.declared.level.Walked.the-variants.{Mapped}
 use Rattle.tlb.specs.Lists.{Each}
-use Rattle.tlb.specs.Tlb.{fresh, flushOf, retagOf, invalidateOf}
+use Rattle.tlb.specs.Tlb.{fresh, flushOf, retagOf, invalidateOf, broadcastOf}
 use Rattle.tlb.specs.Step.{turnIn, turned, fetchIn, fetchedIn}
 use Rattle.tlb.specs.declared.access.Kind.{Kind}
 use Rattle.tlb.specs.declared.access.Kind.the-variants.{Fetch}
@@ -47,12 +47,12 @@ module _ (w : World) where
 
   -- What a step does besides translating.
   --   nothing   a refused call, and every call that leaves the registers that translation reads, level, mark and cache alone
-  --   carries   a TLBI that is not refused
+  --   carries   a TLBI that is not refused: what it names, and whether it is an Inner Shareable form, which is left pending for other cores
   --   writes    a register write: the registers that translation reads become these
   --   turns     a setting of the level or the mark, or an abort entry
   pub data Effect : Type 0 where
     nothing : Effect
-    carries : Inval → Effect
+    carries : Inval → Bool → Effect
     writes : w .Regs → Effect
     turns : (who : Who) → who .level ≤ 3 → Effect
 
@@ -71,7 +71,7 @@ module _ (w : World) where
 
   abbrev pub after : Effect → Plain w → Plain w
   after nothing c = c
-  after (carries v) c = c
+  after (carries v shared) c = c
   after (writes R) c = record { regs = R; who = c .who }
   after (turns who low) c = record { regs = c .regs; who = who }
 
@@ -88,7 +88,7 @@ module _ (w : World) where
   -- "A flush is one that a register write makes by the rule above": where `shaping` changed. It counts as an All.
   abbrev pub drops : Effect → Plain w → List Inval
   drops nothing c = []
-  drops (carries v) c = v ∷ []
+  drops (carries v shared) c = v ∷ []
   drops (writes R) c = pick (w .same-shape (c .regs) R) [] (All ∷ [])
   drops (turns who low) c = []
 
@@ -134,7 +134,7 @@ module _ (w : World) where
 
   abbrev pub tlbAfter : Effect → Plain w → Tlb → Tlb
   tlbAfter nothing c t = t
-  tlbAfter (carries v) c t = invalidateOf t v
+  tlbAfter (carries v shared) c t = pick shared (broadcastOf (invalidateOf t v) v) (invalidateOf t v)
   tlbAfter (writes R) c t = refit (c .regs) R t
   tlbAfter (turns who low) c t = t
 
@@ -175,10 +175,3 @@ module _ (w : World) where
   Demand3 c₀ =
       (past : List Event) (m : w .Ram) (s : Step) →
       Each (Faithful c₀ past m) (answers (plainRun c₀ past) m (s .asks) (tlbRun c₀ past fresh))
-
-  -- The same of one translation, as the contract of an operation may cite it: wherever registers, level, mark and cache are those that a history
-  -- left, and the page is settled, the answer x is that of the core without a cache.
-  abbrev pub FaithfulAfter : Plain w → Plain w → Tlb → w .Ram → Ask → Answer → Type 0
-  FaithfulAfter c₀ c t m a x =
-      (past : List Event) → c ≡ plainRun c₀ past → t .cache ≡ tlbRun c₀ past fresh .cache → SettledFor c₀ past m a →
-      x ≡ uncached w c m (kindOf a) (addressOf a)

@@ -21,11 +21,9 @@ use Rattle.walk.specs.declared.regime.Regime.{Regime}
 use Rattle.walk.specs.declared.regime.Regime.the-variants.{El1, El2, El3}
 use Rattle.tlb.specs.Step as Step
 use Rattle.tlb.specs.declared.access.Kind.{Kind}
-use Rattle.tlb.specs.declared.Tlb.{Tlb}
 use Rattle.history.specs.World.{World, Laws, Plain, accessOf}
-use Rattle.history.specs.History.{Ask, answerOf, Demand3, FaithfulAfter}
+use Rattle.history.specs.History.{Demand3}
 use Rattle.history.specs.Theorem.{demand-3}
-use Rattle.history.specs.Corollaries.{faithful-after}
 
 -- RAM as a lent window: its first address and its bytes
 pub record Ram : Type 0 where
@@ -89,7 +87,3 @@ fresh-asid = refl
 -- Demand 3 of the real walk and registers, for every list of events.
 pub every-history : Demand3 real freshPlain
 every-history = demand-3 real real-laws freshPlain fresh-asid (omega arith)
-
--- and of one translation, for a contract
-pub every-translation : (c : Plain real) (t : Tlb) (m : Ram) (a : Ask) → FaithfulAfter real freshPlain c t m a (answerOf real c m a t)
-every-translation = faithful-after real real-laws freshPlain fresh-asid (omega arith)

@@ -21,7 +21,7 @@ use Rattle.tlb.specs.declared.Inval.{Inval}
 use Rattle.history.specs.Lists.{each-append, each-left, each-right}
 use Rattle.history.specs.World.{World, Laws, Agree, covers, Plain, pageWalk, regimeNow, untagNow, pageNow, uncached}
 use Rattle.history.specs.History.{Ask, kindOf, addressOf, Step, Event, steps, afterEvent, plainRun, dropsEvent, dropsRun, tlbRun, answerOf, Settled}
-use Rattle.history.specs.Corollaries.{faithful-after}
+use Rattle.history.specs.Corollaries.{one-settled}
 use Rattle.history.specs.Instance.{Ram, real, real-laws, freshPlain, fresh-asid}
 
 module _ (w : World) where
@@ -99,7 +99,7 @@ module _ (w : World) where
         alone : (past : List (Event w)) (k : w .Ram) → OwnFor c₀ past k a
             → answerOf w (plainRun w c₀ past) k a (tlbRun w c₀ past fresh) ≡ uncached w (plainRun w c₀ past) k (kindOf a) (addressOf a)
         alone past k own =
-            faithful-after w laws c₀ zero-asid low (plainRun w c₀ past) (tlbRun w c₀ past fresh) k a past refl refl (own-settled c₀ past k _ _ own)
+            one-settled w laws c₀ zero-asid low past k a (own-settled c₀ past k _ _ own)
 
 -- Of the real walk: RAMs of one window that agree on the bytes of each descriptor that the walk fetches.
 module _ (one two : List (Event real)) (base : ℕ) (xs ys : List ℕ) (a : Ask) where

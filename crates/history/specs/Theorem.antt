@@ -11,10 +11,10 @@ use Rattle.walk.specs.declared.regime.Regime.{Regime}
 use Rattle.walk.specs.declared.level.Leaf.{Leaf}
 use Rattle.walk.specs.declared.level.Walked.the-variants.{Mapped}
 use Rattle.tlb.specs.Lists.{Each, done, more}
-use Rattle.tlb.specs.Tlb.{fresh, flushOf, retagOf, invalidateOf}
-use Rattle.tlb.specs.Model.{Model, Outcome, invalidate}
+use Rattle.tlb.specs.Tlb.{fresh, flushOf, retagOf, invalidateOf, broadcastOf}
+use Rattle.tlb.specs.Model.{Model, Outcome, invalidate, broadcast}
 use Rattle.tlb.specs.Live.{live, WellFormed, LeafLevel, Follows}
-use Rattle.tlb.specs.Refines.{fresh-live, fresh-sound, flush-live, flush-sound, invalidate-live, invalidate-sound, retag-live, retag-sound}
+use Rattle.tlb.specs.Refines.{fresh-live, fresh-sound, flush-live, flush-sound, invalidate-live, invalidate-sound, retag-live, retag-sound, broadcast-live, broadcast-sound}
 use Rattle.tlb.specs.Translations.{turn-follows, fetch-follows}
 use Rattle.tlb.specs.declared.access.Kind.{Kind}
 use Rattle.tlb.specs.declared.access.Kind.the-variants.{Fetch}
@@ -47,6 +47,22 @@ module _ (w : World) (laws : Laws w) where
       record {
         well = invalidate-sound t (s .well) v;
         sound = subst (Sound w (drop v ∷ h) R) (sym (invalidate-live t (s .well) v)) (sound-invalidate w v R (s .sound .asid-is) (s .sound));
+      }
+
+  -- what is left pending for others is no part of what a translation reads
+  held-broadcast : {h : List (Mark w)} {R : w .Regs} {t : Tlb} (v : Inval) → Held h R t → Held h R (broadcastOf t v)
+  unfolding broadcast
+  held-broadcast {h} {R} {t} v s =
+      record {
+        well = broadcast-sound t v (s .well);
+        sound =
+            subst (Sound w h R) (sym (broadcast-live t v))
+            (record {
+              asid-is = s .sound .asid-is;
+              lines-ok = s .sound .lines-ok;
+              hints-ok = s .sound .hints-ok;
+              fetch-ok = s .sound .fetch-ok;
+            });
       }
 
   held-retag : {h : List (Mark w)} {R : w .Regs} {t : Tlb} (S : w .Regs) → Held h R t → Held h S (retagOf t (w .asid S))
@@ -151,7 +167,8 @@ module _ (w : World) (laws : Laws w) where
   effect-held : (h : List (Mark w)) (c : Plain w) (e : Effect w) (t : Tlb) → Held h (c .regs) t
       → Held (pushed (drops w e c) h) (after w e c .regs) (tlbAfter w e c t)
   effect-held h c nothing t s = s
-  effect-held h c (carries v) t s = held-invalidate v s
+  effect-held h c (carries v true) t s = held-broadcast v (held-invalidate v s)
+  effect-held h c (carries v false) t s = held-invalidate v s
   effect-held h c (turns who low) t s = s
   effect-held h c (writes R) t s =
       subst (λ (l : List (Mark w)). Held l R (refit w (c .regs) R t)) (same (w .same-shape (c .regs) R)) (held-refit R s)
@@ -168,7 +185,7 @@ module _ (w : World) (laws : Laws w) where
 
   effect-low : (e : Effect w) (c : Plain w) → c .who .level ≤ 3 → after w e c .who .level ≤ 3
   effect-low nothing c low = low
-  effect-low (carries v) c low = low
+  effect-low (carries v shared) c low = low
   effect-low (writes R) c low = low
   effect-low (turns who small) c low = small
 

@@ -74,7 +74,7 @@ start =
 
 -- The table is changed, a Page of another page of the block is carried out, and the page is read again.
 abbrev tidied : List (Event real)
-tidied = start ++ does new (carries (Page 0x7FFFF)) ∷ reads new ∷ []
+tidied = start ++ does new (carries (Page 0x7FFFF) false) ∷ reads new ∷ []
 
 -- the page's walks
 walks :
