@@ -75,7 +75,7 @@ store-end (At place) abort base ram va n = go (judged base (length ram) place n)
     go Inside = refl
     go (Outside i pa) = refl
 
-fetch-end : (a : Answer) (abort base : ℕ) (ram : List ℕ) (va : ℕ) → fetchEnd a abort base ram va .answer ≡ fetchEnd a 0 base ram va .answer
+pub fetch-end : (a : Answer) (abort base : ℕ) (ram : List ℕ) (va : ℕ) → fetchEnd a abort base ram va .answer ≡ fetchEnd a 0 base ram va .answer
 unfolding fetchEnd
 fetch-end (Status fsc) abort base ram va = refl
 fetch-end (Address pa) abort base ram va = go (insnOf base ram pa)
@@ -86,10 +86,10 @@ fetch-end (Address pa) abort base ram va = go (insnOf base ram pa)
 
 -- LOADS AND STORES
 
-abbrev accessGiven : Core → Ram → ℕ → ℕ → Kind.the-data → List Given
+abbrev pub accessGiven : Core → Ram → ℕ → ℕ → Kind.the-data → List Given
 accessGiven c m va n kind = answers real (plainIn (bareOf c)) m (accessIn (bareOf c) va n kind) (c .tlb)
 
-load-answered : (c : Core) (m : Ram) (va n : ℕ)
+pub load-answered : (c : Core) (m : Ram) (va n : ℕ)
     → outcome (loading (readOf c (m .base) (m .bytes) va n .answer)) (m .bytes) ≡ loadSays m va n (accessGiven c m va n Kind.Read)
 unfolding readOf
 load-answered c m va n =
@@ -97,7 +97,7 @@ load-answered c m va n =
     (load-end _ _ _ (m .base) (m .bytes) va n
     ∙ ap (λ (p : Placed). loadEnd p 0 0 (m .base) (m .bytes) va n .answer) (access-placed c m va n Kind.Read))
 
-store-answered : (c : Core) (m : Ram) (va n v : ℕ)
+pub store-answered : (c : Core) (m : Ram) (va n v : ℕ)
     → outcome (storing (writeOf c (m .base) (m .bytes) va n .answer)) (ramAfterWrite c (m .base) (m .bytes) va n v)
     ≡ storeSays m va n v (accessGiven c m va n Kind.Write)
 unfolding writeOf ramAfterWrite

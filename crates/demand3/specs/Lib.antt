@@ -9,6 +9,8 @@ pub mod Instance
 pub mod Beside
 pub mod Direct
 pub mod Faithful
+-- A worked list.
+pub mod Worked
 -- The proof.
 pub mod Asks
 pub mod Answered

@@ -3,9 +3,8 @@ pub mod World
 pub mod History
 pub mod Invisible
 pub mod Calls
--- The real registers and walk, and a worked history.
+-- The real registers and walk.
 pub mod Instance
-pub mod Worked
 -- What follows from it, and how to show the premise.
 pub mod Corollaries
 pub mod StepByStep
