@@ -7,7 +7,7 @@ use Rattle.tlb.specs.Tlb.{fresh}
 use Rattle.tlb.specs.declared.Tlb.{Tlb}
 use Rattle.history.specs.World.{World, Laws, Plain, regimeNow, pageNow, uncached}
 use Rattle.history.specs.Lists.{plain-append, tlb-append}
-use Rattle.history.specs.History.{kindOf, addressOf, Event, plainRun, answers, tlbRun, Settled}
+use Rattle.history.specs.History.{kindOf, addressOf, Given, Step, Event, plainRun, answers, tlbRun, Settled, Faithful}
 use Rattle.history.specs.Theorem.{demand-3}
 use Rattle.history.specs.Calls.{Machine, Lent, Fed, run, lentOf, bareRun, eventsFed, eventsRun, ShownIn, Shown, showing, shown, plainOf, eventsOf, Bridge, plainAfter, Demand3Calls}
 
@@ -90,26 +90,40 @@ module _ (w : World) (M : Machine w) (B : Bridge w M) where
         → M .tlb (run w M c₀ (lentOf w M list)) ≡ tlbRun w (plainOf w M c₀) (eventsRun w M (M .bare c₀) list) fresh
     fresh-run list s = run-tlb c₀ list s ∙ ap (tlbRun w (plainOf w M c₀) (eventsRun w M (M .bare c₀) list)) new
 
+    -- What holds of the answers of every step after every history holds of those of every step of a call after every list of calls.
+    pub lifted : (Q : List (Event w) → w .Ram → Given → Type 0)
+        → ((past : List (Event w)) (m : w .Ram) (s : Step w)
+        → Each (Q past m) (answers w (plainRun w (plainOf w M c₀) past) m (s .asks) (tlbRun w (plainOf w M c₀) past fresh)))
+        → (list : List (Fed w M)) → Shown w M c₀ list → (before : List (Event w)) (m : w .Ram) (s : Step w)
+        → Each (Q (eventsRun w M (M .bare c₀) list ++ before) m)
+        (answers w (plainAfter w M (M .bare c₀) list before) m (s .asks)
+        (tlbRun w (plainAfter w M (M .bare c₀) list []) before (M .tlb (run w M c₀ (lentOf w M list)))))
+    lifted Q h list shows before m s =
+        subst (λ (l : List Given). Each (Q (past ++ before) m) l)
+        (ap₂ (λ (q : Plain w) (t : Tlb). answers w q m (s .asks) t) (sym (now-plain c₀ list shows before)) caches)
+        (h (past ++ before) m s)
+      where
+        past : List (Event w)
+        past = eventsRun w M (M .bare c₀) list
+
+        at-last : plainAfter w M (M .bare c₀) list [] ≡ plainRun w (plainOf w M c₀) past
+        at-last = ap (M .plain) (sym (run-bare c₀ (lentOf w M list))) ∙ run-plain c₀ list shows
+
+        caches : tlbRun w (plainOf w M c₀) (past ++ before) fresh
+            ≡ tlbRun w (plainAfter w M (M .bare c₀) list []) before (M .tlb (run w M c₀ (lentOf w M list)))
+        caches =
+            tlb-append w (plainOf w M c₀) past before fresh
+            ∙ ap₂ (λ (q : Plain w) (u : Tlb). tlbRun w q before u) (sym at-last) (sym (fresh-run list shows))
+
     pub demand-3-calls : Demand3Calls w M c₀
     demand-3-calls list s x sx before m t later split =
         subst
         (λ (q : Plain w).
         Each
         (λ g.
-        Settled w (plainOf w M c₀) (past ++ before) m (regimeNow w q) (pageNow w q (addressOf (g .ask)))
+        Settled w (plainOf w M c₀) (eventsRun w M (M .bare c₀) list ++ before) m (regimeNow w q) (pageNow w q (addressOf (g .ask)))
         → g .answer ≡ uncached w q m (kindOf (g .ask)) (addressOf (g .ask)))
-        (answers w q m (t .asks) (tlbRun w (plainAfter w M (M .bare c₀) list []) before (M .tlb (run w M c₀ (lentOf w M list))))))
+        (answers w (plainAfter w M (M .bare c₀) list before) m (t .asks)
+        (tlbRun w (plainAfter w M (M .bare c₀) list []) before (M .tlb (run w M c₀ (lentOf w M list))))))
         (sym (now-plain c₀ list s before))
-        (rw caches at (demand-3 w laws (plainOf w M c₀) zero-asid low (past ++ before) m t))
-      where
-        past : List (Event w)
-        past = eventsRun w M (M .bare c₀) list
-
-        at-last : plainAfter w M (M .bare c₀) list [] ≡ plainRun w (plainOf w M c₀) past
-        at-last = ap (M .plain) (sym (run-bare c₀ (lentOf w M list))) ∙ run-plain c₀ list s
-
-        caches : tlbRun w (plainOf w M c₀) (past ++ before) fresh
-            ≡ tlbRun w (plainAfter w M (M .bare c₀) list []) before (M .tlb (run w M c₀ (lentOf w M list)))
-        caches =
-            tlb-append w (plainOf w M c₀) past before fresh
-            ∙ ap₂ (λ (q : Plain w) (u : Tlb). tlbRun w q before u) (sym at-last) (sym (fresh-run list s))
+        (lifted (Faithful w (plainOf w M c₀)) (demand-3 w laws (plainOf w M c₀) zero-asid low) list s before m t)

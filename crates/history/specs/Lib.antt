@@ -7,6 +7,8 @@ pub mod Calls
 pub mod Instance
 -- What follows from it, and how to show the premise.
 pub mod Corollaries
+pub mod Origin
+pub mod Judgement
 pub mod StepByStep
 pub mod Neighbours
 -- The proof.

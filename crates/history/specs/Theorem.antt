@@ -39,7 +39,7 @@ module _ (w : World) (laws : Laws w) where
   held-fresh : (R : w .Regs) → w .asid R ≡ 0 → Held [] R fresh
   held-fresh R z = record { well = fresh-sound; sound = subst (Sound w [] R) (sym fresh-live) (sound-empty w R z) }
 
-  held-at : {h : List (Mark w)} {R : w .Regs} {t : Tlb} (m : w .Ram) → Held h R t → Held (at R m ∷ h) R t
+  pub held-at : {h : List (Mark w)} {R : w .Regs} {t : Tlb} (m : w .Ram) → Held h R t → Held (at R m ∷ h) R t
   held-at m s = record { well = s .well; sound = sound-at w m (s .sound) }
 
   held-invalidate : {h : List (Mark w)} {R : w .Regs} {t : Tlb} (v : Inval) → Held h R t → Held (drop v ∷ h) R (invalidateOf t v)
@@ -116,9 +116,9 @@ module _ (w : World) (laws : Laws w) where
     leaf-fits : (k : Kind) (va : ℕ) → LeafLevel (accessOf w c m k va .walk)
     leaf-fits k va leaf e = laws .leaf-level (c .regs) m (regimeNow w c) (untagNow w c va) leaf e
 
-    record AskDone (a : Ask) : Type 0 where
-      held : Held (at (c .regs) m ∷ h) (c .regs) (askedOf w c m a t)
-      answered : Answered w laws (at (c .regs) m ∷ h) c m (kindOf a) (addressOf a) (answerOf w c m a t)
+    pub record AskDone (a : Ask) : Type 0 where
+      pub held : Held (at (c .regs) m ∷ h) (c .regs) (askedOf w c m a t)
+      pub answered : Answered w laws (at (c .regs) m ∷ h) c m (kindOf a) (addressOf a) (answerOf w c m a t)
 
     followed : (a : Ask) (o : Outcome) → Follows (answerOf w c m a t) (askedOf w c m a t) o
         → Done w laws (at (c .regs) m ∷ h) c m (kindOf a) (addressOf a) o → AskDone a
@@ -128,7 +128,7 @@ module _ (w : World) (laws : Laws w) where
           answered = subst (Answered w laws (at (c .regs) m ∷ h) c m (kindOf a) (addressOf a)) (sym (f .answer)) (d .answered);
         }
 
-    ask-done : (a : Ask) → AskDone a
+    pub ask-done : (a : Ask) → AskDone a
     ask-done (translates k va) =
         followed (translates k va) _ (turn-follows (accessOf w c m k va) t (s .well) (leaf-fits k va) low)
         (translate-done w laws h c m k va (live t) (s .sound))
@@ -138,15 +138,15 @@ module _ (w : World) (laws : Laws w) where
 
   -- A HISTORY AS MARKS, the last one first: a step's start, then its invalidations
 
-  abbrev pushed : List Inval → List (Mark w) → List (Mark w)
+  abbrev pub pushed : List Inval → List (Mark w) → List (Mark w)
   pushed [] h = h
   pushed (v ∷ vs) h = pushed vs (drop v ∷ h)
 
-  abbrev started : Event w → Plain w → List (Mark w) → List (Mark w)
+  abbrev pub started : Event w → Plain w → List (Mark w) → List (Mark w)
   started (steps m s) c h = at (c .regs) m ∷ h
   started (receives v) c h = h
 
-  abbrev marks : Plain w → List (Event w) → List (Mark w) → List (Mark w)
+  abbrev pub marks : Plain w → List (Event w) → List (Mark w) → List (Mark w)
   marks c [] h = h
   marks c (x ∷ xs) h = marks (afterEvent w x c) xs (pushed (dropsEvent w x c) (started x c h))
 
@@ -193,7 +193,7 @@ module _ (w : World) (laws : Laws w) where
   event-low (steps m s) c low = effect-low (s .effect) c low
   event-low (receives v) c low = low
 
-  run-low : (past : List (Event w)) (c : Plain w) → c .who .level ≤ 3 → plainRun w c past .who .level ≤ 3
+  pub run-low : (past : List (Event w)) (c : Plain w) → c .who .level ≤ 3 → plainRun w c past .who .level ≤ 3
   run-low [] c low = low
   run-low (x ∷ xs) c low = run-low xs (afterEvent w x c) (event-low x c low)
 
@@ -204,17 +204,17 @@ module _ (w : World) (laws : Laws w) where
 
   -- WHAT THE MARKS SHOW was a step of the history
 
-  abbrev Uncovered : ℕ → Leaf → ℕ → List Inval → Type 0
+  abbrev pub Uncovered : ℕ → Leaf → ℕ → List Inval → Type 0
   Uncovered p ℓ a vs = Each (λ v. covers v p ℓ a ≡ false) vs
 
-  record Found (c : Plain w) (past : List (Event w)) (r : Regime) (p : ℕ) (ℓ : Leaf) (a : ℕ) : Type 0 where
-    before : List (Event w)
-    ram : w .Ram
-    step : Step w
-    later : List (Event w)
-    split : past ≡ before ++ steps ram step ∷ later
-    walks : Walks w (plainRun w c before .regs) ram r p ℓ a
-    spared : Uncovered p ℓ a (dropsRun w (plainRun w c before) (steps ram step ∷ later))
+  pub record Found (c : Plain w) (past : List (Event w)) (r : Regime) (p : ℕ) (ℓ : Leaf) (a : ℕ) : Type 0 where
+    pub before : List (Event w)
+    pub ram : w .Ram
+    pub step : Step w
+    pub later : List (Event w)
+    pub split : past ≡ before ++ steps ram step ∷ later
+    pub walks : Walks w (plainRun w c before .regs) ram r p ℓ a
+    pub spared : Uncovered p ℓ a (dropsRun w (plainRun w c before) (steps ram step ∷ later))
 
   unpushed : (r : Regime) (p : ℕ) (ℓ : Leaf) (a : ℕ) (vs : List Inval) (h : List (Mark w)) → Seen w (pushed vs h) r p ℓ a
       → Uncovered p ℓ a vs × Seen w h r p ℓ a
@@ -229,7 +229,7 @@ module _ (w : World) (laws : Laws w) where
     found-first (steps m e) xs c h us (inr k) = inr (us, k)
     found-first (receives v) xs c h us k = inr (us, k)
 
-    found : (past : List (Event w)) (c : Plain w) (h : List (Mark w)) → Seen w (marks c past h) r p ℓ a
+    pub found : (past : List (Event w)) (c : Plain w) (h : List (Mark w)) → Seen w (marks c past h) r p ℓ a
         → Found c past r p ℓ a ⊎ (Uncovered p ℓ a (dropsRun w c past) × Seen w h r p ℓ a)
     found [] c h s = inr (done, s)
     found (x ∷ xs) c h s = go (found xs (afterEvent w x c) (pushed (dropsEvent w x c) (started x c h)) s)
@@ -297,7 +297,7 @@ module _ (w : World) (laws : Laws w) where
 
   -- A fresh core: its ASID is 0, its level at most 3, its cache new.
   module _ (c₀ : Plain w) (zero-asid : w .asid (c₀ .regs) ≡ 0) (low : c₀ .who .level ≤ 3) where
-    history-held : (past : List (Event w)) → Held (marks c₀ past []) (plainRun w c₀ past .regs) (tlbRun w c₀ past fresh)
+    pub history-held : (past : List (Event w)) → Held (marks c₀ past []) (plainRun w c₀ past .regs) (tlbRun w c₀ past fresh)
     history-held past = run-held past c₀ fresh [] low (held-fresh (c₀ .regs) zero-asid)
 
     pub demand-3 : Demand3 w c₀

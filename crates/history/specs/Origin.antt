@@ -1,0 +1,84 @@
+-- Where every answer comes from, with no premise: from the address itself with stage 1 off, from the walk of now, which failed, or from a walk that
+-- the page had, now or at a step of the history, which no invalidation since covers.
+use mathlib.Core.Path.{_≡_, refl, sym, _∙_}
+use mathlib.Core.Bool.{true, false}
+use mathlib.Core.List.{List, [], _∷_, _++_}
+use mathlib.Core.Logic.{_⊎_, inl, inr}
+use Prim.Native.Nat.{ℕ, _≤_}
+use Rattle.walk.specs.declared.regime.Regime.{Regime}
+use Rattle.walk.specs.declared.level.Leaf.{Leaf}
+use Rattle.walk.specs.declared.level.Walked.the-variants.{Mapped, Fault}
+use Rattle.tlb.specs.Lists.{Each, done, more}
+use Rattle.tlb.specs.Tlb.{fresh}
+use Rattle.tlb.specs.declared.access.Answer.{Answer}
+use Rattle.tlb.specs.declared.access.Answer.the-variants.{Address, Status}
+use Rattle.tlb.specs.declared.Inval.{Inval}
+use Rattle.tlb.specs.declared.Tlb.{Tlb}
+use Rattle.history.specs.World.{World, Laws, covers, judge, Plain, pageWalk, regimeNow, onNow, untagNow, pageNow, needNow}
+use Rattle.history.specs.History.{Ask, kindOf, addressOf, Given, Step, Event, steps, plainRun, dropsRun, answerOf, askedOf, onward, answers, tlbRun}
+use Rattle.history.specs.Sound.{Mark, at, Seen}
+use Rattle.history.specs.Right.{Answered, itself, by, failed}
+use Rattle.history.specs.Theorem.{Held, AskDone, ask-done, marks, Uncovered, Found, found, history-held, held-at, run-low}
+
+module _ (w : World) (c₀ : Plain w) where
+  -- The registers R and the RAM m′ are those of now, or those at the start of a step of the history; vs are the invalidations since.
+  pub data Stood (past : List (Event w)) (m : w .Ram) (R : w .Regs) (m′ : w .Ram) : List Inval → Type 0 where
+    now : R ≡ plainRun w c₀ past .regs → m′ ≡ m → Stood past m R m′ []
+    then : (before : List (Event w)) (s : Step w) (later : List (Event w)) → past ≡ before ++ steps m′ s ∷ later
+        → R ≡ plainRun w c₀ before .regs → Stood past m R m′ (dropsRun w (plainRun w c₀ before) (steps m′ s ∷ later))
+
+  -- The answer x to a translation a, made after the history on the RAM m.
+  pub data From (past : List (Event w)) (m : w .Ram) (a : Ask) (x : Answer) : Type 0 where
+    flat : onNow w (plainRun w c₀ past) ≡ false → x ≡ Address (addressOf a) → From past m a x
+    fails : (code : ℕ) → onNow w (plainRun w c₀ past) ≡ true
+        → w .walk (plainRun w c₀ past .regs) m (regimeNow w (plainRun w c₀ past)) (untagNow w (plainRun w c₀ past) (addressOf a)) ≡ Fault code
+        → x ≡ Status code → From past m a x
+    walks : (R : w .Regs) (m′ : w .Ram) (vs : List Inval) → Stood past m R m′ vs → (ℓ : Leaf)
+        → w .on R (regimeNow w (plainRun w c₀ past)) ≡ true
+        → pageWalk w R m′ (regimeNow w (plainRun w c₀ past)) (pageNow w (plainRun w c₀ past) (addressOf a)) ≡ Mapped ℓ
+        → (ℓ .global ≡ true) ⊎ (w .asid R ≡ w .asid (plainRun w c₀ past .regs))
+        → Each (λ v. covers v (pageNow w (plainRun w c₀ past) (addressOf a)) ℓ (w .asid R) ≡ false) vs
+        → x ≡ judge ℓ (needNow w (plainRun w c₀ past) (kindOf a)) (addressOf a) → From past m a x
+
+module _ (w : World) (laws : Laws w) (c₀ : Plain w) (zero-asid : w .asid (c₀ .regs) ≡ 0) (low : c₀ .who .level ≤ 3) where
+  module _ (past : List (Event w)) (m : w .Ram) where
+    abbrev c : Plain w
+    c = plainRun w c₀ past
+
+    abbrev h : List (Mark w)
+    h = marks w laws c₀ past []
+
+    from : (a : Ask) (x : Answer) → Answered w laws (at (c .regs) m ∷ h) c m (kindOf a) (addressOf a) x → From w c₀ past m a x
+    from a x (itself o e) = flat o e
+    from a x (failed code o f e) = fails code o f e
+    from a x (by ℓ i o (inl k) d e) = walks (c .regs) m [] (now refl refl) ℓ (k .is-on) (k .leaf) (inr refl) done e
+    from a x (by ℓ i o (inr k) d e) = go (found w laws past c₀ [] k)
+      where
+        go : Found w laws c₀ past (regimeNow w c) (pageNow w c (addressOf a)) ℓ i
+            ⊎ (Uncovered w laws (pageNow w c (addressOf a)) ℓ i (dropsRun w c₀ past) × ⊥) → From w c₀ past m a x
+        go (inr z) = absurd (z .1)
+        go (inl f) =
+            walks (plainRun w c₀ (f .before) .regs) (f .ram) _ (then (f .before) (f .step) (f .later) (f .split) refl) ℓ (f .walks .is-on) (f .walks .leaf)
+            (day d) (rw (f .walks .under) at (f .spared)) e
+          where
+            day : (ℓ .global ≡ true) ⊎ (i ≡ w .asid (c .regs)) → (ℓ .global ≡ true) ⊎ (w .asid (plainRun w c₀ (f .before) .regs) ≡ w .asid (c .regs))
+            day (inl g) = inl g
+            day (inr y) = inr (sym (f .walks .under) ∙ y)
+
+    all-from : (l : List Ask) (t : Tlb) → Held w laws (at (c .regs) m ∷ h) (c .regs) t
+        → Each (λ g. From w c₀ past m (g .ask) (g .answer)) (answers w c m l t)
+    all-from [] t s = done
+    all-from (a ∷ l) t s = more (from a (answerOf w c m a t) (next .answered)) (go (answerOf w c m a t) (all-from l (askedOf w c m a t) (next .held)))
+      where
+        next : AskDone w laws h c m t (run-low w laws past c₀ low) s a
+        next = ask-done w laws h c m t (run-low w laws past c₀ low) s a
+
+        go : (x : Answer) → Each (λ g. From w c₀ past m (g .ask) (g .answer)) (answers w c m l (askedOf w c m a t))
+            → Each (λ g. From w c₀ past m (g .ask) (g .answer)) (onward w x (answers w c m l (askedOf w c m a t)) [])
+        go (Address pa) rest = rest
+        go (Status code) rest = done
+
+  -- After every history, whatever the RAM, each answer comes from there.
+  pub origin : (past : List (Event w)) (m : w .Ram) (s : Step w)
+      → Each (λ g. From w c₀ past m (g .ask) (g .answer)) (answers w (plainRun w c₀ past) m (s .asks) (tlbRun w c₀ past fresh))
+  origin past m s = all-from past m (s .asks) (tlbRun w c₀ past fresh) (held-at w laws m (history-held w laws c₀ zero-asid low past))
