@@ -77,7 +77,7 @@ module _ (list : List (Lent real machine)) (m : Ram) (x : Call) where
   fed-events : eventsIn (bareAfter (lentOf real machine (fedBy list))) m (fed .later) x ≡ eventsAfter list m x
   fed-events = ap (λ (l : List (Lent real machine)). eventsIn (bareAfter l) m (fed .later) x) lents
 
-  said : outcomeOf (coreAfter list) m x ≡ saysIn (bareAfter list) m (laterIn (coreAfter list) m x) x (answersAfter list m x)
+  pub said : outcomeOf (coreAfter list) m x ≡ saysIn (bareAfter list) m (laterIn (coreAfter list) m x) x (answersAfter list m x)
   said =
       subst
       (λ (b : Bare).

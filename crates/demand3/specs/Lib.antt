@@ -9,6 +9,8 @@ pub mod Instance
 pub mod Beside
 pub mod Direct
 pub mod Faithful
+pub mod Judged
+pub mod Faults
 -- A worked list.
 pub mod Worked
 -- The proof.
