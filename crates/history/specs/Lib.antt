@@ -15,6 +15,7 @@ pub mod Lists
 pub mod Sound
 pub mod Right
 pub mod Theorem
+pub mod ModelRun
 pub mod Inside
 pub mod EveryCall
 pub mod EveryReply
