@@ -48,8 +48,9 @@ use Rattle.history.specs.History.{translates, Given, steps, answerOf, onward, a
 use Rattle.history.specs.Invisible.{answersRun}
 use Rattle.history.specs.Instance.{Ram, real}
 use Rattle.demand3.specs.Bare.{Bare, plainIn, number, missedIn, opIn, operandIn, writtenIn, bySys, byWrite, ruledIn, refusalOf, ifAllowed}
-use Rattle.demand3.specs.Events.{idle, accessIn, sizedIn, zeroSteps, sysSteps, stepsIn, eventsIn, bareOf, ramWith, zeroStarts, sysLater, laterOf, startsOf}
-use Rattle.demand3.specs.Replies.{outcome, outcomeOf, loadSays, storeSays, loadSized, storeSized, zeroSays, sysSays, callSays, saysIn}
+use Rattle.demand3.specs.Events.{idle, accessIn, sizedIn, zeroSteps, sysSteps, stepsIn, eventsIn}
+use Rattle.demand3.specs.Starts.{bareOf, ramZeroed, zeroLater, sysLater, laterOf, laterIn}
+use Rattle.demand3.specs.Replies.{Outcome, outcome, outcomeOf, loadSays, storeSays, loadSized, storeSized, zeroSays, sysSays, callSays, saysIn}
 use Rattle.demand3.specs.Asks.{access-placed}
 use Rattle.demand3.specs.Bridge.{bare-then, tlb-then}
 
@@ -123,45 +124,46 @@ store-sized c m va v (Sized.Bytes w) =
 -- ZEROING
 
 -- eight bytes at a multiple of eight lie in one page
-one-page : (on : Bool) (va : ℕ) → va % 8 ≡ 0 → crosses on va 8 ≡ false
+pub one-page : (on : Bool) (va : ℕ) → va % 8 ≡ 0 → crosses on va 8 ≡ false
 one-page on va e = rw (le-ltb (inPage va) 8 (omega (arith, e))) (go on)
   where
     go : (b : Bool) → (b && false) ≡ false
     go true = refl
     go false = refl
 
-next-aligned : (va : ℕ) → va % 8 ≡ 0 → wrap (va + 8) % 8 ≡ 0
+pub next-aligned : (va : ℕ) → va % 8 ≡ 0 → wrap (va + 8) % 8 ≡ 0
 next-aligned va e = omega (arith, e)
 
-start-aligned : (x : ℕ) → alignDown x 6 % 8 ≡ 0
+pub start-aligned : (x : ℕ) → alignDown x 6 % 8 ≡ 0
 start-aligned x = omega arith
 
--- n stores from va on, in a core whose state without a cache is b and whose cache is t
+-- the store at va and n further ones, in a core whose state without a cache is b and whose cache is t
+abbrev pub zeroOutcome : ℕ → Core → Ram → ℕ → Outcome
+zeroOutcome n c m va = outcome (storing (zeroOf (suc n) c (m .base) (m .bytes) va .answer)) (zeroRam (suc n) c (m .base) (m .bytes) va)
+
 abbrev ZeroSaid : ℕ → Core → Ram → ℕ → Bare → Tlb → Type 0
 ZeroSaid n c m va b t =
-    outcome (storing (zeroOf n c (m .base) (m .bytes) va .answer)) (zeroRam n c (m .base) (m .bytes) va)
-    ≡ zeroSays (zeroStarts n c m va) va (answersRun real (plainIn b) (zeroSteps b (zeroStarts n c m va) va) t)
+    zeroOutcome n c m va ≡ zeroSays m (zeroLater n c m va) va (answersRun real (plainIn b) (zeroSteps b m (zeroLater n c m va) va) t)
 
+-- the first of them
 module _ (c : Core) (m : Ram) (va : ℕ) (b : Bare) (t : Tlb) (eb : bareOf c ≡ b) (et : c .tlb ≡ t) where
-  abbrev storeEnds : StoreAnswer
+  abbrev pub storeEnds : StoreAnswer
   storeEnds = writeOf c (m .base) (m .bytes) va 8 .answer
 
-  abbrev coreThen : Core
+  abbrev pub coreThen : Core
   coreThen = writeOf c (m .base) (m .bytes) va 8 .core
 
-  abbrev ramThen : Ram
-  ramThen = ramWith m (ramAfterWrite c (m .base) (m .bytes) va 8 0)
-
-  abbrev firstGiven : List Given
-  firstGiven = answers real (plainIn b) m (accessIn b va 8 Kind.Write) t
-
-  abbrev tlbThen : Tlb
+  abbrev pub tlbThen : Tlb
   tlbThen = asked real (plainIn b) m (accessIn b va 8 Kind.Write) t
 
-  abbrev givenThen : List Ram → List Given
-  givenThen ms = answersRun real (plainIn b) (zeroSteps b ms (wrap (va + 8))) tlbThen
+  abbrev pub firstGiven : List Given
+  firstGiven = answers real (plainIn b) m (accessIn b va 8 Kind.Write) t
 
-  first-given : va % 8 ≡ 0
+  abbrev givenThen : Ram → List Ram → List Given
+  givenThen k ms = answersRun real (plainIn b) (zeroSteps b k ms (wrap (va + 8))) tlbThen
+
+  -- it has one translation
+  pub first-given : va % 8 ≡ 0
       → firstGiven ≡ record { ask = translates Kind.Write va; answer = answerOf real (plainIn b) m (translates Kind.Write va) t } ∷ []
   first-given e = rw (one-page (onNow real (plainIn b)) va e) (ap {B = List Given} (λ (l : List Given). g ∷ l) (go (g .answer)))
     where
@@ -172,49 +174,53 @@ module _ (c : Core) (m : Ram) (va : ℕ) (b : Bare) (t : Tlb) (eb : bareOf c ≡
       go (Address pa) = refl
       go (Status fsc) = refl
 
-  -- the last store begun
-  last-said : outcome (storing storeEnds) (ramThen .bytes) ≡ zeroSays (m ∷ []) va (firstGiven ++ [])
-  last-said =
+  pub store-said : outcome (storing storeEnds) (ramZeroed c m va .bytes) ≡ storeSays m va 8 0 firstGiven
+  store-said =
       store-answered c m va 8 0
       ∙ ap (λ (d : Bare). storeSays m va 8 0 (answers real (plainIn d) m (accessIn d va 8 Kind.Write) (c .tlb))) eb
       ∙ ap (λ (u : Tlb). storeSays m va 8 0 (answers real (plainIn b) m (accessIn b va 8 Kind.Write) u)) et
-      ∙ ap (storeSays m va 8 0) (sym (append-nil firstGiven))
 
-  one-said : ZeroSaid 1 c m va b t
+  last-said : outcome (storing storeEnds) (ramZeroed c m va .bytes) ≡ zeroSays m [] va (firstGiven ++ [])
+  last-said = store-said ∙ ap (storeSays m va 8 0) (sym (append-nil firstGiven))
+
+  -- what a zeroing of one store gives
+  pub one-outcome : zeroOutcome zero c m va ≡ outcome (storing storeEnds) (ramZeroed c m va .bytes)
   unfolding zeroOf zeroRam
-  one-said = go storeEnds refl
+  one-outcome = go storeEnds refl
     where
       go : (a : StoreAnswer) → storeEnds ≡ a
-          → outcome (storing (onStored a (doneWith coreThen) (writeOf c (m .base) (m .bytes) va 8) .answer)) (onStored a (ramThen .bytes) (ramThen .bytes))
-          ≡ zeroSays (m ∷ onStored a [] []) va (firstGiven ++ givenThen (onStored a [] []))
-      go Store.Done e = ap (λ (x : StoreAnswer). outcome (storing x) (ramThen .bytes)) (sym e) ∙ last-said
-      go (Store.Stopped s) e = last-said
+          → outcome (storing (onStored a (doneWith coreThen) (writeOf c (m .base) (m .bytes) va 8) .answer))
+          (onStored a (ramZeroed c m va .bytes) (ramZeroed c m va .bytes))
+          ≡ outcome (storing storeEnds) (ramZeroed c m va .bytes)
+      go Store.Done e = ap (λ (x : StoreAnswer). outcome (storing x) (ramZeroed c m va .bytes)) (sym e)
+      go (Store.Stopped s) e = refl
 
-  more-said : (n : ℕ) → va % 8 ≡ 0 → ZeroSaid (suc n) coreThen ramThen (wrap (va + 8)) b tlbThen → ZeroSaid (suc (suc n)) c m va b t
+  more-said : (n : ℕ) → va % 8 ≡ 0 → ZeroSaid n coreThen (ramZeroed c m va) (wrap (va + 8)) b tlbThen → ZeroSaid (suc n) c m va b t
   unfolding zeroOf zeroRam
-  more-said n al rest = go storeEnds refl
+  more-said n al rest = go storeEnds
     where
-      go : (a : StoreAnswer) → storeEnds ≡ a
+      more : List Ram
+      more = zeroLater n coreThen (ramZeroed c m va) (wrap (va + 8))
+
+      go : (a : StoreAnswer)
           → outcome
-          (storing (onStored a (zeroOf (suc n) coreThen (m .base) (ramThen .bytes) (wrap (va + 8))) (writeOf c (m .base) (m .bytes) va 8) .answer))
-          (onStored a (zeroRam (suc n) coreThen (m .base) (ramThen .bytes) (wrap (va + 8))) (ramThen .bytes))
-          ≡ zeroSays (m ∷ onStored a (zeroStarts (suc n) coreThen ramThen (wrap (va + 8))) []) va
-          (firstGiven ++ givenThen (onStored a (zeroStarts (suc n) coreThen ramThen (wrap (va + 8))) []))
-      go Store.Done e =
+          (storing
+          (onStored a (zeroOf (suc n) coreThen (m .base) (ramZeroed c m va .bytes) (wrap (va + 8))) (writeOf c (m .base) (m .bytes) va 8) .answer))
+          (onStored a (zeroRam (suc n) coreThen (m .base) (ramZeroed c m va .bytes) (wrap (va + 8))) (ramZeroed c m va .bytes))
+          ≡ zeroSays m (onStored a (ramZeroed c m va ∷ more) []) va
+          (answersRun real (plainIn b) (zeroSteps b m (onStored a (ramZeroed c m va ∷ more) []) va) t)
+      go Store.Done =
           rest
-          ∙ ap
-          (λ (l : List Given).
-          zeroSays (m ∷ zeroStarts (suc n) coreThen ramThen (wrap (va + 8))) va (l ++ givenThen (zeroStarts (suc n) coreThen ramThen (wrap (va + 8)))))
-          (sym (first-given al))
-      go (Store.Stopped s) e = last-said
+          ∙ ap (λ (l : List Given). zeroSays m (ramZeroed c m va ∷ more) va (l ++ givenThen (ramZeroed c m va) more)) (sym (first-given al))
+      go (Store.Stopped s) = last-said
 
-zero-said : (n : ℕ) (c : Core) (m : Ram) (va : ℕ) (b : Bare) (t : Tlb) → bareOf c ≡ b → c .tlb ≡ t → va % 8 ≡ 0 → ZeroSaid (suc n) c m va b t
-zero-said zero c m va b t eb et al = one-said c m va b t eb et
+pub zero-said : (n : ℕ) (c : Core) (m : Ram) (va : ℕ) (b : Bare) (t : Tlb) → bareOf c ≡ b → c .tlb ≡ t → va % 8 ≡ 0 → ZeroSaid n c m va b t
+zero-said zero c m va b t eb et al = one-outcome c m va b t eb et ∙ last-said c m va b t eb et
 zero-said (suc n) c m va b t eb et al =
     more-said c m va b t eb et n al
-    (zero-said n (writeOf c (m .base) (m .bytes) va 8 .core) (ramWith m (ramAfterWrite c (m .base) (m .bytes) va 8 0)) (wrap (va + 8)) b
+    (zero-said n (writeOf c (m .base) (m .bytes) va 8 .core) (ramZeroed c m va) (wrap (va + 8)) b
     (asked real (plainIn b) m (accessIn b va 8 Kind.Write) t)
-    (bare-then n c m va b t eb et) (tlb-then n c m va b t eb et)
+    (bare-then c m va b t eb et) (tlb-then c m va b t eb et)
     (next-aligned va al))
 
 -- EVERY CALL
@@ -265,7 +271,7 @@ run-said c m (Abort e) = refl
 
 pub reply-is : (c : Core) (m : Ram) (x : Call)
     → outcomeOf c m x
-    ≡ saysIn (bareOf c) (startsOf c m x) x (answersRun real (plainIn (bareOf c)) (eventsIn (bareOf c) (startsOf c m x) x) (c .tlb))
+    ≡ saysIn (bareOf c) m (laterIn c m x) x (answersRun real (plainIn (bareOf c)) (eventsIn (bareOf c) m (laterIn c m x) x) (c .tlb))
 unfolding stepOf ramAfter
 reply-is c m x = go (missedIn (bareOf c) m x)
   where

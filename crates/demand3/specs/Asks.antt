@@ -17,7 +17,8 @@ use Rattle.mmu.specs.declared.core.Core.{Core}
 use Rattle.history.specs.History.{Ask, translates, fetches, Given, answerOf, askedOf as askedOne, onward, answers, asked}
 use Rattle.history.specs.Instance.{Ram, memoryOf, real}
 use Rattle.demand3.specs.Bare.{plainIn}
-use Rattle.demand3.specs.Events.{pagesOf, accessIn, bareOf}
+use Rattle.demand3.specs.Events.{pagesOf, accessIn}
+use Rattle.demand3.specs.Starts.{bareOf}
 use Rattle.demand3.specs.Replies.{placedIn}
 
 -- the same translations, as `mmu` names them

@@ -22,7 +22,7 @@ use Rattle.history.specs.Calls.{Lent, run, bareRun}
 use Rattle.history.specs.EveryCall.{run-bare as runs-agree}
 use Rattle.history.specs.Instance.{Ram, real}
 use Rattle.demand3.specs.Bare.{Bare, freshBare, Verdict, allowed, number, undefined, unimplemented, missedIn, opIn, operandIn, writtenIn, bySys, byWrite, ruledIn, verdictIn, refusalOf, ifAllowed, withPar, parAt, bareDoes, bareStep}
-use Rattle.demand3.specs.Events.{bareOf}
+use Rattle.demand3.specs.Starts.{bareOf}
 use Rattle.demand3.specs.Machine.{machine}
 use Rattle.demand3.specs.Bridge.{bridge, fits}
 

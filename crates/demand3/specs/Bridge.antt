@@ -1,4 +1,4 @@
--- Each call does to registers, level, mark and cache what its steps do.
+-- Each call does to registers, level, mark and `Tlb` what its steps do.
 use mathlib.Core.Path.{_≡_, refl, sym, ap, _∙_}
 use mathlib.Core.Bool.{Bool, true, false}
 use mathlib.Core.List.{List, [], _∷_}
@@ -16,15 +16,14 @@ use Rattle.sysreg.specs.declared.regs.Control.{Control}
 use Rattle.sysreg.specs.declared.write.WriteAnswer.{WriteAnswer}
 use Rattle.sysreg.specs.declared.write.WriteAnswer.the-variants as Written
 use Rattle.sysreg.specs.declared.write.Written.{Written}
-use Rattle.tlb.specs.Tlb.{flushOf, retagOf, invalidateOf, broadcastOf}
+use Rattle.tlb.specs.Tlb.{flushOf, retagOf}
 use Rattle.tlb.specs.declared.access.Kind.{Kind}
 use Rattle.tlb.specs.declared.access.Kind.the-variants as Kind
-use Rattle.tlb.specs.declared.Inval.{Inval}
 use Rattle.tlb.specs.declared.Tlb.{Tlb}
 use Rattle.sysop.specs.declared.op.SysOp.{SysOp}
 use Rattle.sysop.specs.declared.op.SysOp.the-variants as Op
 use Rattle.mmu.specs.Core.{regOf, setReg, movedTo}
-use Rattle.mmu.specs.Ops.{writeOf, ramAfterWrite}
+use Rattle.mmu.specs.Ops.{writeOf}
 use Rattle.mmu.specs.OpLaws as Laws
 use Rattle.mmu.specs.declared.core.Core.{Core}
 use Rattle.mmu.specs.declared.ends.StoreAnswer.{StoreAnswer}
@@ -32,7 +31,7 @@ use Rattle.mmu.specs.declared.ends.StoreAnswer.the-variants.{Done, Stopped}
 use Rattle.mmu.specs.declared.ops.Stored.{Stored}
 use Rattle.exec.specs.Fit.{reshapedOf, retaggedOf, refitOf}
 use Rattle.exec.specs.Ops.{withRegs, appliedOf, registered, writeRegister, withWho as coreWho, setLevel, setMark, abortOf}
-use Rattle.exec.specs.Sys.{withPar as corePar, atOf, invalidatedOf, tlbiCore, onStored, zeroOf, sysBy, sysOf}
+use Rattle.exec.specs.Sys.{withPar as corePar, atOf, invalidatedOf, tlbiCore, onStored, doneWith, zeroOf, sysBy, sysOf}
 use Rattle.cpu.specs.Check.{askedOf, missedOf}
 use Rattle.cpu.specs.Step.{ends, loadBy, storeBy, runOf, refusedOr, stepOf}
 use Rattle.cpu.specs.declared.check.Asked.{Asked}
@@ -45,7 +44,8 @@ use Rattle.history.specs.History.{Ask, writes, Event, steps, plainRun, asked, r
 use Rattle.history.specs.Calls.{Bridge}
 use Rattle.history.specs.Instance.{Ram, real}
 use Rattle.demand3.specs.Bare.{Bare, plainIn, missedIn, opIn, operandIn, writtenIn, number, bySys, byWrite, ruledIn, ifAllowed, withWho, withWritten, sysDoes, bareDoes, bareStep}
-use Rattle.demand3.specs.Events.{does, asking, idle, accessIn, sizedIn, turning, setting, zeroSteps, sysSteps, stepsIn, eventsIn, bareOf, ramWith, zeroStarts, sysLater, laterOf, startsOf}
+use Rattle.demand3.specs.Events.{does, asking, idle, accessIn, sizedIn, turning, setting, zeroSteps, sysSteps, stepsIn, eventsIn}
+use Rattle.demand3.specs.Starts.{bareOf, ramZeroed, zeroLater, sysLater, laterOf, laterIn}
 use Rattle.demand3.specs.Asks.{allNamed, access-same, kept-bare, operation-tlb}
 use Rattle.demand3.specs.Machine.{machine}
 
@@ -53,10 +53,10 @@ use Rattle.demand3.specs.Machine.{machine}
 pub record Fits (c d : Core) (b : Bare) (es : List (Event real)) : Type 0 where
   pub bare : bareOf d ≡ b
   pub plain : plainIn b ≡ plainRun real (plainIn (bareOf c)) es
-  pub cache : d .tlb .cache ≡ tlbRun real (plainIn (bareOf c)) es (c .tlb) .cache
+  pub tlb : d .tlb ≡ tlbRun real (plainIn (bareOf c)) es (c .tlb)
 
 fits-idle : (c : Core) (m : Ram) → Fits c c (bareOf c) (steps m idle ∷ [])
-fits-idle c m = record { bare = refl; plain = refl; cache = refl }
+fits-idle c m = record { bare = refl; plain = refl; tlb = refl }
 
 -- TRANSLATIONS
 
@@ -66,9 +66,7 @@ operation-fits c m o l e =
     record {
       bare = kept-bare c _ (Laws.kept c (m .base) (m .bytes) o);
       plain = refl;
-      cache =
-          ap (λ (t : Tlb). t .cache) (operation-tlb c m o)
-          ∙ ap (λ (k : List Ask). asked real (plainIn (bareOf c)) m k (c .tlb) .cache) e;
+      tlb = operation-tlb c m o ∙ ap (λ (k : List Ask). asked real (plainIn (bareOf c)) m k (c .tlb)) e;
     }
 
 load-fits : (c : Core) (m : Ram) (va : ℕ) (s : Sized)
@@ -83,15 +81,15 @@ store-fits c m va Sized.Refused = fits-idle c m
 
 -- ZEROING
 
-zero-plain : (b : Bare) (p : Plain real) (l : List Ram) (va : ℕ) → p ≡ plainRun real p (zeroSteps b l va)
-zero-plain b p [] va = refl
-zero-plain b p (m ∷ l) va = zero-plain b p l (wrap (va + 8))
+zero-plain : (b : Bare) (p : Plain real) (m : Ram) (l : List Ram) (va : ℕ) → p ≡ plainRun real p (zeroSteps b m l va)
+zero-plain b p m [] va = refl
+zero-plain b p m (n ∷ l) va = zero-plain b p n l (wrap (va + 8))
 
--- what n stores from va on leave, in a core whose state without a cache is b and whose cache is t
+-- what the store at va and n further ones leave, in a core whose state without a cache is b and whose cache is t
 abbrev ZeroRuns : ℕ → Core → Ram → ℕ → Bare → Tlb → Type 0
 ZeroRuns n c m va b t =
-    (bareOf (zeroOf n c (m .base) (m .bytes) va .core) ≡ b)
-    × (zeroOf n c (m .base) (m .bytes) va .core .tlb ≡ tlbRun real (plainIn b) (zeroSteps b (zeroStarts n c m va) va) t)
+    (bareOf (zeroOf (suc n) c (m .base) (m .bytes) va .core) ≡ b)
+    × (zeroOf (suc n) c (m .base) (m .bytes) va .core .tlb ≡ tlbRun real (plainIn b) (zeroSteps b m (zeroLater n c m va) va) t)
 
 -- a store leaves the state without a cache, and of the cache what its translations leave
 pub stored-bare : (c : Core) (m : Ram) (va : ℕ) → bareOf (writeOf c (m .base) (m .bytes) va 8 .core) ≡ bareOf c
@@ -104,12 +102,9 @@ stored-tlb c m va =
     ∙ ap (λ (k : List Ask). asked real (plainIn (bareOf c)) m k (c .tlb)) (access-same c va 8 Kind.Write)
 
 -- after the first of them
-module _ (n : ℕ) (c : Core) (m : Ram) (va : ℕ) (b : Bare) (t : Tlb) (eb : bareOf c ≡ b) (et : c .tlb ≡ t) where
+module _ (c : Core) (m : Ram) (va : ℕ) (b : Bare) (t : Tlb) (eb : bareOf c ≡ b) (et : c .tlb ≡ t) where
   abbrev stored : Stored
   stored = writeOf c (m .base) (m .bytes) va 8
-
-  abbrev ramThen : Ram
-  ramThen = ramWith m (ramAfterWrite c (m .base) (m .bytes) va 8 0)
 
   abbrev tlbThen : Tlb
   tlbThen = asked real (plainIn b) m (accessIn b va 8 Kind.Write) t
@@ -123,47 +118,55 @@ module _ (n : ℕ) (c : Core) (m : Ram) (va : ℕ) (b : Bare) (t : Tlb) (eb : ba
       ∙ ap (λ (d : Bare). asked real (plainIn d) m (accessIn d va 8 Kind.Write) (c .tlb)) eb
       ∙ ap (asked real (plainIn b) m (accessIn b va 8 Kind.Write)) et
 
-  zero-next : ZeroRuns n (stored .core) ramThen (wrap (va + 8)) b tlbThen → ZeroRuns (suc n) c m va b t
+  zero-last : ZeroRuns zero c m va b t
   unfolding zeroOf
-  zero-next rest = go (stored .answer)
+  zero-last = go (stored .answer)
     where
       go : (a : StoreAnswer)
-          → (bareOf (onStored a (zeroOf n (stored .core) (m .base) (ramThen .bytes) (wrap (va + 8))) stored .core) ≡ b)
-          × (onStored a (zeroOf n (stored .core) (m .base) (ramThen .bytes) (wrap (va + 8))) stored .core .tlb
-          ≡ tlbRun real (plainIn b) (zeroSteps b (onStored a (zeroStarts n (stored .core) ramThen (wrap (va + 8))) []) (wrap (va + 8))) tlbThen)
+          → (bareOf (onStored a (doneWith (stored .core)) stored .core) ≡ b) × (onStored a (doneWith (stored .core)) stored .core .tlb ≡ tlbThen)
+      go Done = (bare-then, tlb-then)
+      go (Stopped s) = (bare-then, tlb-then)
+
+  zero-next : (n : ℕ) → ZeroRuns n (stored .core) (ramZeroed c m va) (wrap (va + 8)) b tlbThen → ZeroRuns (suc n) c m va b t
+  unfolding zeroOf
+  zero-next n rest = go (stored .answer)
+    where
+      more : Stored
+      more = zeroOf (suc n) (stored .core) (m .base) (ramZeroed c m va .bytes) (wrap (va + 8))
+
+      go : (a : StoreAnswer)
+          → (bareOf (onStored a more stored .core) ≡ b)
+          × (onStored a more stored .core .tlb
+          ≡ tlbRun real (plainIn b)
+          (zeroSteps b m (onStored a (ramZeroed c m va ∷ zeroLater n (stored .core) (ramZeroed c m va) (wrap (va + 8))) []) va) t)
       go Done = rest
       go (Stopped s) = (bare-then, tlb-then)
 
 zero-runs : (n : ℕ) (c : Core) (m : Ram) (va : ℕ) (b : Bare) (t : Tlb) → bareOf c ≡ b → c .tlb ≡ t → ZeroRuns n c m va b t
-unfolding zeroOf
-zero-runs zero c m va b t eb et = (eb, et)
+zero-runs zero c m va b t eb et = zero-last c m va b t eb et
 zero-runs (suc n) c m va b t eb et =
-    zero-next n c m va b t eb et
-    (zero-runs n (writeOf c (m .base) (m .bytes) va 8 .core) (ramWith m (ramAfterWrite c (m .base) (m .bytes) va 8 0)) (wrap (va + 8)) b
-    (asked real (plainIn b) m (accessIn b va 8 Kind.Write) t) (bare-then n c m va b t eb et) (tlb-then n c m va b t eb et))
+    zero-next c m va b t eb et n
+    (zero-runs n (writeOf c (m .base) (m .bytes) va 8 .core) (ramZeroed c m va) (wrap (va + 8)) b
+    (asked real (plainIn b) m (accessIn b va 8 Kind.Write) t) (bare-then c m va b t eb et) (tlb-then c m va b t eb et))
 
-zero-fits : (c : Core) (m : Ram) (va : ℕ) → Fits c (zeroOf 8 c (m .base) (m .bytes) va .core) (bareOf c) (zeroSteps (bareOf c) (zeroStarts 8 c m va) va)
+zero-fits : (c : Core) (m : Ram) (va : ℕ)
+    → Fits c (zeroOf 8 c (m .base) (m .bytes) va .core) (bareOf c) (zeroSteps (bareOf c) m (zeroLater 7 c m va) va)
 zero-fits c m va =
     record {
-      bare = zero-runs 8 c m va (bareOf c) (c .tlb) refl refl .0;
-      plain = zero-plain (bareOf c) (plainIn (bareOf c)) (zeroStarts 8 c m va) va;
-      cache = ap (λ (t : Tlb). t .cache) (zero-runs 8 c m va (bareOf c) (c .tlb) refl refl .1);
+      bare = zero-runs 7 c m va (bareOf c) (c .tlb) refl refl .0;
+      plain = zero-plain (bareOf c) (plainIn (bareOf c)) m (zeroLater 7 c m va) va;
+      tlb = zero-runs 7 c m va (bareOf c) (c .tlb) refl refl .1;
     }
 
 -- SYSTEM OPERATIONS
-
-shared-cache : (t : Tlb) (v : Inval) (b : Bool) → invalidatedOf t v b .cache ≡ invalidateOf t v .cache
-unfolding invalidatedOf broadcastOf
-shared-cache t v true = refl
-shared-cache t v false = refl
 
 sys-fits : (o : SysOp) (c : Core) (m : Ram) (e : Encoding)
     → Fits c (sysBy o c (m .base) (m .bytes) (e .op1) (e .crm) (e .op2) (operandIn (bareOf c) e) .core)
     (ifAllowed (bySys o) (sysDoes o (bareOf c) m (operandIn (bareOf c) e)) (bareOf c))
     (ifAllowed (bySys o) (sysSteps o (bareOf c) m (ifAllowed (bySys o) (sysLater o c m (operandIn (bareOf c) e)) []) e) (steps m idle ∷ []))
-unfolding atOf corePar tlbiCore movedTo
-sys-fits (Op.At form) c m e = record { bare = refl; plain = refl; cache = refl }
-sys-fits Op.Tlbi c m e = record { bare = refl; plain = refl; cache = shared-cache (c .tlb) _ _ }
+unfolding atOf corePar tlbiCore invalidatedOf movedTo
+sys-fits (Op.At form) c m e = record { bare = refl; plain = refl; tlb = refl }
+sys-fits Op.Tlbi c m e = record { bare = refl; plain = refl; tlb = refl }
 sys-fits Op.Zva c m e = zero-fits c m (alignDown (operandIn (bareOf c) e) 6)
 sys-fits Op.Nothing c m e = fits-idle c m
 sys-fits Op.Undefined c m e = fits-idle c m
@@ -189,7 +192,7 @@ write-fits : (c : Core) (m : Ram) (w : Written) (a : WriteAnswer)
     (ifAllowed (byWrite a) (steps m (does (writes (w .control))) ∷ []) (steps m idle ∷ []))
 unfolding appliedOf withRegs movedTo
 write-fits c m w Written.Done =
-    record { bare = refl; plain = refl; cache = ap (λ (t : Tlb). t .cache) (refit-same (c .tlb) (c .control) (w .control)) }
+    record { bare = refl; plain = refl; tlb = refit-same (c .tlb) (c .control) (w .control) }
 write-fits c m w Written.Undefined = fits-idle c m
 write-fits c m w Written.NoRegister = fits-idle c m
 
@@ -201,7 +204,7 @@ setting-fits c m level mark low = go (leb level 3) refl
   where
     go : (b : Bool) (e : leb level 3 ≡ b)
         → Fits c (coreWho c level mark) (withWho (bareOf c) level mark) (steps m (does (turning (record { level = level; mark = mark }) b e)) ∷ [])
-    go true e = record { bare = refl; plain = refl; cache = refl }
+    go true e = record { bare = refl; plain = refl; tlb = refl }
     go false e = let h : 3 < level = leb-false level 3 e in absurd (omega arith)
 
 -- a call that misses no check finds a level of 3 at most, and asks for no other
@@ -240,11 +243,11 @@ run-fits c m (System e) p = sys-fits (opIn (bareOf c) e) c m e
 run-fits c m (Register key value) p = write-fits c m (writtenIn (bareOf c) key value) (writtenIn (bareOf c) key value .answer)
 run-fits c m (Level level) p = level-fits c m level (missed-none _ _ _ _ p .1)
 run-fits c m (Mark mark) p = setting-fits c m (c .who .level) mark (missed-none _ _ _ _ p .0)
-run-fits c m (General n value) p = record { bare = refl; plain = refl; cache = refl }
-run-fits c m (Abort e) p = record { bare = refl; plain = refl; cache = refl }
+run-fits c m (General n value) p = record { bare = refl; plain = refl; tlb = refl }
+run-fits c m (Abort e) p = record { bare = refl; plain = refl; tlb = refl }
 
 pub fits : (c : Core) (m : Ram) (x : Call)
-    → Fits c (stepOf c (m .base) (m .bytes) x .core) (bareStep (bareOf c) m x) (eventsIn (bareOf c) (startsOf c m x) x)
+    → Fits c (stepOf c (m .base) (m .bytes) x .core) (bareStep (bareOf c) m x) (eventsIn (bareOf c) m (laterIn c m x) x)
 unfolding stepOf
 fits c m x = go (missedIn (bareOf c) m x) refl
   where
@@ -260,8 +263,7 @@ fits c m x = go (missedIn (bareOf c) m x) refl
 pub bridge : Bridge real machine
 bridge =
     record {
-      starts-here = λ c m x. (_, refl);
       bare-is = λ c m x. fits c m x .bare;
       plain-is = λ c m x. fits c m x .plain;
-      cache-is = λ c m x. fits c m x .cache;
+      tlb-is = λ c m x. fits c m x .tlb;
     }

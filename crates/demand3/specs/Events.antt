@@ -1,12 +1,12 @@
 -- A call's steps as events of the history, each with the RAM at its start: read from the call, the state without a cache and those RAMs.
 --
--- Nothing here looks at the cache or at what the core does with it. A core that ignored a TLBI could not hide here: the event of a TLBI that is
--- not refused carries its invalidation whatever the core did (`tlbi-event`), the theory's cache loses what it names, and the core's own cache
--- has to be that cache after every call (`cache-is` of the bridge). Nor could one that made an invalidation up: no other call carries one.
+-- Nothing here looks at the cache, at an answer or at what the core does. A core that ignored a TLBI could not hide here: the event of a TLBI that is
+-- not refused carries its invalidation whatever the core did (`tlbi-event`), the theory's cache loses what it names, and the core's own `Tlb`
+-- has to be that one after every call (`tlb-is` of the bridge). Nor could one that made an invalidation up: no other call carries one.
 use mathlib.Core.Path.{_≡_, refl}
 use mathlib.Core.Bool.{Bool, true, false}
 use mathlib.Core.List.{List, [], _∷_}
-use Prim.Native.Nat.{ℕ, zero, suc, _+_}
+use Prim.Native.Nat.{ℕ, _+_}
 use lib.Dec.{leb}
 use borrow.Author.Tests.{leb-true}
 use Rattle.word.specs.Bits.{alignDown, wrap}
@@ -19,13 +19,10 @@ use Rattle.tlb.specs.declared.access.Who.{Who}
 use Rattle.tlb.specs.declared.Inval.{Inval}
 use Rattle.entry.specs.EntryLaws.{take-level}
 use Rattle.entry.specs.declared.exception.Exception.{Exception}
-use Rattle.sysop.specs.Tlbi.{tlbiOf}
+use Rattle.sysop.specs.Tlbi.{tlbiOf, reachesOthers}
 use Rattle.sysop.specs.declared.op.SysOp.{SysOp}
 use Rattle.sysop.specs.declared.op.SysOp.the-variants as Op
 use Rattle.mmu.specs.Place.{nextPage, crosses}
-use Rattle.mmu.specs.Ops.{writeOf, ramAfterWrite}
-use Rattle.mmu.specs.declared.core.Core.{Core}
-use Rattle.exec.specs.Sys.{onStored}
 use Rattle.cpu.specs.declared.call.Encoding.{Encoding}
 use Rattle.cpu.specs.declared.call.Call.{Call}
 use Rattle.cpu.specs.declared.call.Call.the-variants.{Translate, DataPa, FetchPa, Load, Store, Fetch, System, Register, Level, Mark, General, Abort}
@@ -79,16 +76,20 @@ entering b e =
 abbrev pub invalIn : Bare → Encoding → Inval
 invalIn b e = tlbiOf (b .control) (e .op1) (e .crm) (e .op2) (operandIn b e)
 
--- EVENTS
+-- whether it is an Inner Shareable form, which other cores carry out too
+abbrev pub sharedIn : Encoding → Bool
+sharedIn e = reachesOthers (e .crm)
+
+-- EVENTS. m is RAM as the call begins, ms RAM as each further step begins.
 
 -- "Each of DC ZVA's eight stores is a step": from the address and RAM at each start alone.
-abbrev pub zeroSteps : Bare → List Ram → ℕ → List (Event real)
-zeroSteps b [] va = []
-zeroSteps b (m ∷ ms) va = steps m (asking (accessIn b va 8 Kind.Write)) ∷ zeroSteps b ms (wrap (va + 8))
+abbrev pub zeroSteps : Bare → Ram → List Ram → ℕ → List (Event real)
+zeroSteps b m [] va = steps m (asking (accessIn b va 8 Kind.Write)) ∷ []
+zeroSteps b m (n ∷ ms) va = steps m (asking (accessIn b va 8 Kind.Write)) ∷ zeroSteps b n ms (wrap (va + 8))
 
 abbrev pub sysSteps : SysOp → Bare → Ram → List Ram → Encoding → List (Event real)
-sysSteps Op.Tlbi b m ms e = steps m (does (carries (invalIn b e))) ∷ []
-sysSteps Op.Zva b m ms e = zeroSteps b (m ∷ ms) (alignDown (operandIn b e) 6)
+sysSteps Op.Tlbi b m ms e = steps m (does (carries (invalIn b e) (sharedIn e))) ∷ []
+sysSteps Op.Zva b m ms e = zeroSteps b m ms (alignDown (operandIn b e) 6)
 sysSteps (Op.At form) b m ms e = steps m idle ∷ []
 sysSteps Op.Nothing b m ms e = steps m idle ∷ []
 sysSteps Op.Undefined b m ms e = steps m idle ∷ []
@@ -110,61 +111,10 @@ stepsIn b m ms (General n value) = steps m idle ∷ []
 stepsIn b m ms (Abort e) = steps m (entering b e) ∷ []
 
 -- a refused call is a step that does nothing
-abbrev pub eventsIn : Bare → List Ram → Call → List (Event real)
-eventsIn b [] x = []
-eventsIn b (m ∷ ms) x = ifAllowed (verdictIn b m x) (stepsIn b m ms x) (steps m idle ∷ [])
+abbrev pub eventsIn : Bare → Ram → List Ram → Call → List (Event real)
+eventsIn b m ms x = ifAllowed (verdictIn b m x) (stepsIn b m ms x) (steps m idle ∷ [])
 
 -- "An All, Page or Asid is one that a TLBI, not refused, carries out": each such TLBI has its event, and no more.
 pub tlbi-event : (b : Bare) (m : Ram) (ms : List Ram) (e : Encoding) → missedIn b m (System e) ≡ 0 → opIn b e ≡ Op.Tlbi
-    → eventsIn b (m ∷ ms) (System e) ≡ steps m (does (carries (invalIn b e))) ∷ []
+    → eventsIn b m ms (System e) ≡ steps m (does (carries (invalIn b e) (sharedIn e))) ∷ []
 tlbi-event b m ms e passed named = rw (passed, named)
-
--- STARTS: RAM as it stands when each step begins
-
--- the state of a core without its cache
-abbrev pub bareOf : Core → Bare
-bareOf c = record { who = c .who; flags = c .flags; pc = c .pc; x = c .x; control = c .control; sys = c .sys }
-
-abbrev pub ramWith : Ram → List ℕ → Ram
-ramWith m bytes = record { base = m .base; bytes = bytes }
-
--- of n stores of eight zero bytes from va on, those begun
-abbrev pub zeroStarts : ℕ → Core → Ram → ℕ → List Ram
-zeroStarts zero c m va = []
-zeroStarts (suc n) c m va =
-    m
-    ∷ onStored (writeOf c (m .base) (m .bytes) va 8 .answer)
-    (zeroStarts n (writeOf c (m .base) (m .bytes) va 8 .core) (ramWith m (ramAfterWrite c (m .base) (m .bytes) va 8 0)) (wrap (va + 8)))
-    []
-
--- after the first: for a zeroing alone
-abbrev pub zeroLater : Core → Ram → ℕ → List Ram
-zeroLater c m va =
-    onStored (writeOf c (m .base) (m .bytes) va 8 .answer)
-    (zeroStarts 7 (writeOf c (m .base) (m .bytes) va 8 .core) (ramWith m (ramAfterWrite c (m .base) (m .bytes) va 8 0)) (wrap (va + 8)))
-    []
-
-abbrev pub sysLater : SysOp → Core → Ram → ℕ → List Ram
-sysLater Op.Zva c m va = zeroLater c m (alignDown va 6)
-sysLater (Op.At form) c m va = []
-sysLater Op.Tlbi c m va = []
-sysLater Op.Nothing c m va = []
-sysLater Op.Undefined c m va = []
-sysLater Op.Unimplemented c m va = []
-
-abbrev pub laterOf : Core → Ram → Call → List Ram
-laterOf c m (System e) = sysLater (opIn (bareOf c) e) c m (operandIn (bareOf c) e)
-laterOf c m (Translate kind va) = []
-laterOf c m (DataPa va) = []
-laterOf c m (FetchPa va) = []
-laterOf c m (Load va size) = []
-laterOf c m (Store va size value) = []
-laterOf c m (Fetch va) = []
-laterOf c m (Register key value) = []
-laterOf c m (Level level) = []
-laterOf c m (Mark mark) = []
-laterOf c m (General n value) = []
-laterOf c m (Abort e) = []
-
-abbrev pub startsOf : Core → Ram → Call → List Ram
-startsOf c m x = m ∷ ifAllowed (verdictIn (bareOf c) m x) (laterOf c m x) []

@@ -7,18 +7,18 @@ use Rattle.history.specs.EveryCall.{demand-3-calls}
 use Rattle.history.specs.EveryReply.{same-replies, invisible-calls}
 use Rattle.history.specs.Instance.{real, real-laws, fresh-asid}
 use Rattle.demand3.specs.Machine.{machine}
-use Rattle.demand3.specs.Replies.{Outcome, outcomeOf, saysIn}
+use Rattle.demand3.specs.Replies.{Outcome, outcomeOf, bareReply}
 use Rattle.demand3.specs.Bridge.{bridge}
-use Rattle.demand3.specs.Answered.{reply-is}
+use Rattle.demand3.specs.Alone.{alone-same}
 
 -- After every list of calls, in every call, each translation of a page that meets the premise is answered as by the core without a cache.
 pub every-call : Demand3Calls real machine freshCore
 unfolding freshCore
 every-call = demand-3-calls real machine bridge real-laws freshCore refl fresh-asid (omega arith)
 
--- the reply and RAM of a call: by `stepOf` and `ramAfter`, and from the answers to its translations
+-- the reply and RAM of a call: by `stepOf` and `ramAfter`, and by the core without a cache
 abbrev pub replies : Replies real machine
-replies = record { Reply = Outcome; reply = outcomeOf; says = saysIn; reply-is = reply-is }
+replies = record { Reply = Outcome; reply = outcomeOf; bareReply = bareReply; same = alone-same }
 
 -- Where all pages that a call translates meet the premise, its reply and RAM are those of the core without a cache.
 pub every-reply : SameReplies real machine replies freshCore

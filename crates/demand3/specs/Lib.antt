@@ -1,8 +1,9 @@
 -- Demand 3 of every list of calls: what a reader believes, top to bottom.
 pub mod Bare
 pub mod Events
-pub mod Machine
 pub mod Replies
+pub mod Starts
+pub mod Machine
 -- Its theorem, and what stands beside it.
 pub mod Instance
 pub mod Beside
@@ -11,4 +12,5 @@ pub mod Faithful
 -- The proof.
 pub mod Asks
 pub mod Answered
+pub mod Alone
 pub mod Bridge

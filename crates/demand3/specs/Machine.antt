@@ -5,7 +5,8 @@ use Rattle.cpu.specs.declared.call.Call.{Call}
 use Rattle.history.specs.Calls.{Machine}
 use Rattle.history.specs.Instance.{real}
 use Rattle.demand3.specs.Bare.{Bare, plainIn, bareStep}
-use Rattle.demand3.specs.Events.{eventsIn, bareOf, startsOf}
+use Rattle.demand3.specs.Events.{eventsIn}
+use Rattle.demand3.specs.Starts.{bareOf, laterIn}
 
 abbrev pub machine : Machine real
 machine =
@@ -16,7 +17,7 @@ machine =
       bare = bareOf;
       tlb = λ c. c .tlb;
       step = λ c m x. stepOf c (m .base) (m .bytes) x .core;
-      starts = startsOf;
+      later = laterIn;
       plain = plainIn;
       bareStep = bareStep;
       events = eventsIn;

@@ -1,12 +1,13 @@
--- What a call replies, and RAM after it, made from the call, the state without a cache, RAM at each step's start, and the answers to its
--- translations. The cache reaches a reply through those answers alone (`replies`, in Answered.antt), so that demand 3 of them is demand 3 of
--- what a caller sees.
+-- What a call replies, and RAM after it: of the core, made from the answers to its translations, through which alone the cache reaches a reply
+-- (`reply-is`, in Answered.antt), so that demand 3 of them is demand 3 of what a caller sees; and of the core without a cache, from its own
+-- state, RAM as the call begins, and the call.
 use mathlib.Core.List.{List, [], _∷_}
-use Prim.Native.Nat.{ℕ, _+_}
+use Prim.Native.Nat.{ℕ, zero, suc, _+_}
 use Rattle.word.specs.Bits.{alignDown, wrap}
 use Rattle.word.specs.Ram.{widthOf, bytesIn}
 use Rattle.word.specs.declared.ram.Sized.{Sized}
 use Rattle.word.specs.declared.ram.Sized.the-variants as Sized
+use Rattle.tlb.specs.declared.access.Kind.the-variants as Kind
 use Rattle.tlb.specs.declared.access.Answer.{Answer}
 use Rattle.tlb.specs.declared.access.Answer.the-variants.{Status}
 use Rattle.sysop.specs.declared.op.SysOp.{SysOp}
@@ -20,10 +21,14 @@ use Rattle.cpu.specs.Step.{translation, loading, storing, fetching, reaching, s
 use Rattle.cpu.specs.declared.call.Call.{Call}
 use Rattle.cpu.specs.declared.call.Call.the-variants.{Translate, DataPa, FetchPa, Load, Store, Fetch, System, Register, Level, Mark, General, Abort}
 use Rattle.cpu.specs.declared.call.Reply.{Reply}
-use Rattle.cpu.specs.declared.call.Reply.the-variants.{Refused, Done}
-use Rattle.history.specs.History.{Given}
-use Rattle.history.specs.Instance.{Ram}
-use Rattle.demand3.specs.Bare.{Bare, opIn, operandIn, verdictIn, refusalOf, ifAllowed}
+use Rattle.cpu.specs.declared.call.Reply.the-variants.{Refused, Done, Value, Faults, Fault as Faulted, Stopped}
+use Rattle.history.specs.World.{uncached}
+use Rattle.history.specs.History.{Ask, Given}
+use Rattle.history.specs.Invisible.{plainAnswers}
+use Rattle.history.specs.Instance.{Ram, real}
+use Rattle.demand3.specs.Bare.{Bare, plainIn, opIn, operandIn, verdictIn, refusalOf, ifAllowed}
+use Rattle.demand3.specs.Events.{accessIn, sizedIn}
+use Rattle.demand3.specs.Starts.{ramWith}
 
 -- a reply, and RAM's bytes after the call
 pub record Outcome : Type 0 where
@@ -69,15 +74,14 @@ abbrev pub storeSized : Sized → Ram → ℕ → ℕ → List Given → Outcome
 storeSized (Sized.Bytes w) m va v gs = storeSays m va (bytesIn w) v gs
 storeSized Sized.Refused m va v gs = outcome (Refused 3) (m .bytes)
 
--- A zeroing replies as the last store begun, and RAM is as that one leaves it; each store has one answer.
-abbrev pub zeroSays : List Ram → ℕ → List Given → Outcome
-zeroSays [] va gs = outcome Done []
-zeroSays (m ∷ []) va gs = storeSays m va 8 0 gs
-zeroSays (m ∷ n ∷ ms) va [] = outcome Done (m .bytes)
-zeroSays (m ∷ n ∷ ms) va (g ∷ gs) = zeroSays (n ∷ ms) (wrap (va + 8)) gs
+-- A zeroing replies as the last store begun, and RAM is as that one leaves it; each store has one answer, so that the case without one is none.
+abbrev pub zeroSays : Ram → List Ram → ℕ → List Given → Outcome
+zeroSays m [] va gs = storeSays m va 8 0 gs
+zeroSays m (n ∷ ms) va [] = outcome Done (m .bytes)
+zeroSays m (n ∷ ms) va (g ∷ gs) = zeroSays n ms (wrap (va + 8)) gs
 
 abbrev pub sysSays : SysOp → Ram → List Ram → ℕ → List Given → Outcome
-sysSays Op.Zva m ms x gs = zeroSays (m ∷ ms) (alignDown x 6) gs
+sysSays Op.Zva m ms x gs = zeroSays m ms (alignDown x 6) gs
 sysSays (Op.At form) m ms x gs = outcome Done (m .bytes)
 sysSays Op.Tlbi m ms x gs = outcome Done (m .bytes)
 sysSays Op.Nothing m ms x gs = outcome Done (m .bytes)
@@ -100,6 +104,56 @@ callSays b m ms (General n value) gs = outcome Done (m .bytes)
 callSays b m ms (Abort e) gs = outcome Done (m .bytes)
 
 -- "Where the table refuses the call, it gives that refusal."
-abbrev pub saysIn : Bare → List Ram → Call → List Given → Outcome
-saysIn b [] x gs = outcome Done []
-saysIn b (m ∷ ms) x gs = ifAllowed (verdictIn b m x) (callSays b m ms x gs) (outcome (refusalOf (verdictIn b m x)) (m .bytes))
+abbrev pub saysIn : Bare → Ram → List Ram → Call → List Given → Outcome
+saysIn b m ms x gs = ifAllowed (verdictIn b m x) (callSays b m ms x gs) (outcome (refusalOf (verdictIn b m x)) (m .bytes))
+
+-- OF THE CORE WITHOUT A CACHE
+
+-- its answers to the translations of an access: the second only where the first is an address
+abbrev pub answersAlone : Bare → Ram → List Ask → List Given
+answersAlone b m l = plainAnswers real (plainIn b) m l
+
+-- a store of eight zero bytes
+abbrev pub zeroOne : Bare → Ram → ℕ → Outcome
+zeroOne b m va = storeSays m va 8 0 (answersAlone b m (accessIn b va 8 Kind.Write))
+
+abbrev pub onDone : Reply → Outcome → Outcome → Outcome
+onDone Done more end = more
+onDone (Refused n) more end = end
+onDone (Value v) more end = end
+onDone Faults more end = end
+onDone (Faulted addr fsc) more end = end
+onDone (Stopped s) more end = end
+
+-- A zeroing: the store at va and n further ones, each on RAM as its own last one left it, up to the first that stops.
+abbrev pub zeroAlone : ℕ → Bare → Ram → ℕ → Outcome
+zeroAlone zero b m va = zeroOne b m va
+zeroAlone (suc n) b m va =
+    onDone (zeroOne b m va .reply) (zeroAlone n b (ramWith m (zeroOne b m va .bytes)) (wrap (va + 8))) (zeroOne b m va)
+
+abbrev pub sysAlone : SysOp → Bare → Ram → ℕ → Outcome
+sysAlone Op.Zva b m x = zeroAlone 7 b m (alignDown x 6)
+sysAlone (Op.At form) b m x = outcome Done (m .bytes)
+sysAlone Op.Tlbi b m x = outcome Done (m .bytes)
+sysAlone Op.Nothing b m x = outcome Done (m .bytes)
+sysAlone Op.Undefined b m x = outcome Done (m .bytes)
+sysAlone Op.Unimplemented b m x = outcome Done (m .bytes)
+
+abbrev pub callAlone : Bare → Ram → Call → Outcome
+callAlone b m (Translate kind va) = outcome (translation va (uncached real (plainIn b) m kind va)) (m .bytes)
+callAlone b m (DataPa va) = outcome (reaching (reachedBy (uncached real (plainIn b) m Kind.Read va))) (m .bytes)
+callAlone b m (FetchPa va) = outcome (reaching (reachedBy (uncached real (plainIn b) m Kind.Fetch va))) (m .bytes)
+callAlone b m (Load va size) = loadSized (widthOf size) m va (answersAlone b m (sizedIn b va (widthOf size) Kind.Read))
+callAlone b m (Store va size value) = storeSized (widthOf size) m va value (answersAlone b m (sizedIn b va (widthOf size) Kind.Write))
+callAlone b m (Fetch va) =
+    outcome (fetching (fetchEnd (uncached real (plainIn b) m Kind.Fetch va) 0 (m .base) (m .bytes) va .answer)) (m .bytes)
+callAlone b m (System e) = sysAlone (opIn b e) b m (operandIn b e)
+callAlone b m (Register key value) = outcome Done (m .bytes)
+callAlone b m (Level level) = outcome Done (m .bytes)
+callAlone b m (Mark mark) = outcome Done (m .bytes)
+callAlone b m (General n value) = outcome Done (m .bytes)
+callAlone b m (Abort e) = outcome Done (m .bytes)
+
+-- its reply to a call, and RAM after it
+abbrev pub bareReply : Bare → Ram → Call → Outcome
+bareReply b m x = ifAllowed (verdictIn b m x) (callAlone b m x) (outcome (refusalOf (verdictIn b m x)) (m .bytes))

@@ -3,6 +3,8 @@ pub mod World
 pub mod History
 pub mod Invisible
 pub mod Calls
+-- The plain model of the cache over a history.
+pub mod ModelRun
 -- The real registers and walk, and a worked history.
 pub mod Instance
 pub mod Worked
@@ -15,7 +17,5 @@ pub mod Lists
 pub mod Sound
 pub mod Right
 pub mod Theorem
-pub mod ModelRun
-pub mod Inside
 pub mod EveryCall
 pub mod EveryReply

@@ -1,12 +1,13 @@
 -- Lists of events and translations: what holds of each element of two lists joined, where a run over both ends, one translation alone.
-use mathlib.Core.Path.{_≡_, refl}
-use mathlib.Core.List.{List, [], _∷_, _++_}
+use mathlib.Core.Path.{_≡_, refl, sym, ap, _∙_}
+use mathlib.Core.List.{List, [], _∷_, _++_, append-assoc}
 use Rattle.tlb.specs.Lists.{Each, done, more}
 use Rattle.tlb.specs.declared.access.Answer.{Answer}
 use Rattle.tlb.specs.declared.access.Answer.the-variants.{Address, Status}
 use Rattle.tlb.specs.declared.Tlb.{Tlb}
 use Rattle.history.specs.World.{World, Plain}
-use Rattle.history.specs.History.{Ask, Event, afterEvent, plainRun, answerOf, askedOf, onward, asked, tlbEvent, tlbRun}
+use Rattle.history.specs.History.{Ask, Given, Step, Event, steps, receives, afterEvent, plainRun, answerOf, askedOf, onward, answers, asked, tlbEvent, tlbRun}
+use Rattle.history.specs.Invisible.{answersRun}
 
 module _ {A : Type 0} where
   pub each-append : {P : A → Type 0} {l k : List A} → Each P l → Each P k → Each P (l ++ k)
@@ -40,3 +41,18 @@ module _ (w : World) where
   pub tlb-append : (c : Plain w) (l k : List (Event w)) (t : Tlb) → tlbRun w c (l ++ k) t ≡ tlbRun w (plainRun w c l) k (tlbRun w c l t)
   tlb-append c [] k t = refl
   tlb-append c (x ∷ l) k t = tlb-append (afterEvent w x c) l k (tlbEvent w x c t)
+
+  -- the answers of a list's steps, one after the other
+  pub answers-split : (c : Plain w) (before : List (Event w)) (m : w .Ram) (s : Step w) (later : List (Event w)) (t : Tlb) (es : List (Event w))
+      → es ≡ before ++ steps m s ∷ later
+      → (first : List Given) × (last : List Given) × (answersRun w c es t ≡ first ++ (answers w (plainRun w c before) m (s .asks) (tlbRun w c before t) ++ last))
+  answers-split c before m s later t es e = let x = go before c t in (x .0, x .1, rw e (x .2))
+    where
+      go : (b : List (Event w)) (c : Plain w) (t : Tlb)
+          → (first : List Given) × (last : List Given)
+          × (answersRun w c (b ++ steps m s ∷ later) t ≡ first ++ (answers w (plainRun w c b) m (s .asks) (tlbRun w c b t) ++ last))
+      go [] c t = ([], _, refl)
+      go (steps n u ∷ b) c t =
+          let x = go b (afterEvent w (steps n u) c) (tlbEvent w (steps n u) c t) in
+          (answers w c n (u .asks) t ++ x .0, x .1, ap (λ (l : List Given). answers w c n (u .asks) t ++ l) (x .2) ∙ sym (append-assoc (answers w c n (u .asks) t) (x .0) _))
+      go (receives v ∷ b) c t = go b c (tlbEvent w (receives v) c t)
