@@ -9,6 +9,9 @@ pub mod Instance
 pub mod Beside
 pub mod Direct
 pub mod Faithful
+-- The plain model of the cache, call by call.
+pub mod ModelCalls
+pub mod Counted
 -- The proof.
 pub mod Asks
 pub mod Answered

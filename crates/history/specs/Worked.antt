@@ -72,9 +72,10 @@ start =
     ∷ reads old
     ∷ []
 
--- The table is changed, a Page of another page of the block is carried out, and the page is read again.
+-- A Page of another page of the block is carried out, the table is changed, and the page is read again. At the start of the Page's own step the
+-- walk is still the old one: the Page counts as later.
 abbrev tidied : List (Event real)
-tidied = start ++ does new (carries (Page 0x7FFFF) false) ∷ reads new ∷ []
+tidied = start ++ does old (carries (Page 0x7FFFF) false) ∷ reads new ∷ []
 
 -- the page's walks
 walks :
@@ -112,7 +113,7 @@ settled-step-by-step = (
     (
       λ ℓ on e d us. absurd (covered ℓ _ e us),
       (
-        λ ℓ on e d us. unchanged ℓ e,
+        λ ℓ on e d us. absurd (covered ℓ _ e us),
         (λ ℓ on e d us. unchanged ℓ e, tt),
       ),
     ),
