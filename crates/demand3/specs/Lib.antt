@@ -13,6 +13,9 @@ pub mod Judged
 pub mod Faults
 -- A worked list.
 pub mod Worked
+-- The plain model of the cache, call by call.
+pub mod ModelCalls
+pub mod Counted
 -- The proof.
 pub mod Asks
 pub mod Answered

@@ -3,6 +3,8 @@ pub mod World
 pub mod History
 pub mod Invisible
 pub mod Calls
+-- The plain model of the cache over a history.
+pub mod ModelRun
 -- The real registers and walk.
 pub mod Instance
 -- What follows from it, and how to show the premise.

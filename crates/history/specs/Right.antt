@@ -13,10 +13,7 @@ use Rattle.walk.specs.declared.regime.Regime.the-variants.{El1, El2, El3}
 use Rattle.walk.specs.declared.level.Leaf.{Leaf}
 use Rattle.walk.specs.declared.level.Walked.{Walked}
 use Rattle.walk.specs.declared.level.Walked.the-variants.{Mapped, Fault}
-use Rattle.tlb.specs.Hint.{placeOf, dataSlot}
-use Rattle.tlb.specs.Count.{hitCounted, walkCounted}
-use Rattle.tlb.specs.Access.{regimeNumber}
-use Rattle.tlb.specs.Model.{Slot, empty, holds, Line, Known, Model, Access, Outcome, asUser, need, reachOf, reaches, serving, lineFor, addressIn, judge as judgeLine, lineOfLeaf, walked, looked, unhinted, knownOf, noting, noted, knowing, tried, hinted, hintable, translate, notingFetch, notedFetch, fetched, fetch}
+use Rattle.tlb.specs.Model.{Slot, empty, holds, Line, Known, Model, oneHit, oneWalk, sameRegime, folded, hintPlace, Access, Outcome, asUser, need, reachOf, reaches, serving, lineFor, addressIn, judge as judgeLine, lineOfLeaf, walked, looked, unhinted, knownOf, noting, noted, knowing, tried, hinted, hintable, translate, notingFetch, notedFetch, fetched, fetch}
 use Rattle.tlb.specs.declared.access.Kind.{Kind}
 use Rattle.tlb.specs.declared.access.Kind.the-variants.{Read, Write, Fetch}
 use Rattle.tlb.specs.declared.access.Answer.{Answer}
@@ -32,7 +29,7 @@ and-right : (a b : Bool) → (a && b) ≡ true → b ≡ true
 and-right true b e = e
 and-right false b e = absurd (false≢true e)
 
-same-regime : (r s : Regime) → eqb (regimeNumber r) (regimeNumber s) ≡ true → r ≡ s
+same-regime : (r s : Regime) → sameRegime r s ≡ true → r ≡ s
 same-regime El1 El1 e = refl
 same-regime El1 El2 e = absurd (false≢true e)
 same-regime El1 El3 e = absurd (false≢true e)
@@ -63,15 +60,15 @@ hint-unmarked Read true e = absurd (false≢true e)
 hint-unmarked Write true e = absurd (false≢true e)
 hint-unmarked Fetch true e = absurd (false≢true e)
 
-place-low : (p : ℕ) → placeOf p < 256
-unfolding placeOf
+place-low : (p : ℕ) → folded p < 256
+unfolding folded
 place-low p = omega arith
 
 module _ (w : World) where
   -- a hint's place says its kind
-  kind-at : (k : Kind) (mark : Bool) (va : ℕ) → hintable k mark ≡ true → kindAt w (dataSlot va k) ≡ k
-  kind-at Read mark va e = rw (lt-ltb (0 + placeOf (va / 4096)) 256 (omega (arith, place-low (va / 4096))))
-  kind-at Write mark va e = rw (le-ltb (256 + placeOf (va / 4096)) 256 (omega arith))
+  kind-at : (k : Kind) (mark : Bool) (va : ℕ) → hintable k mark ≡ true → kindAt w (hintPlace k va) ≡ k
+  kind-at Read mark va e = rw (lt-ltb (0 + folded (va / 4096)) 256 (omega (arith, place-low (va / 4096))))
+  kind-at Write mark va e = rw (le-ltb (256 + folded (va / 4096)) 256 (omega arith))
   kind-at Fetch mark va e = absurd (false≢true e)
 
   pub judge-agree : {ℓ ℓ′ : Leaf} (bit va : ℕ) → Agree ℓ ℓ′ → judge ℓ bit va ≡ judge ℓ′ bit va
@@ -153,7 +150,7 @@ module _ (w : World) where
     ofPage l = eqb (l .page) (pageNow w c va)
 
     abbrev ofRegime : Line → Bool
-    ofRegime l = eqb (regimeNumber (l .regime)) (regimeNumber (regimeNow w c))
+    ofRegime l = sameRegime (l .regime) (regimeNow w c)
 
     abbrev hits : Known → Bool
     hits n = eqb (n .page) (va / 4096) && eqb (n .level) (c .who .level)
@@ -161,8 +158,8 @@ module _ (w : World) where
     module _ (t : Model) (s : Sound w h (c .regs) t) where
       walk-done : onNow w c ≡ true → (x : Walked) → w .walk (c .regs) m (regimeNow w c) (untagNow w c va) ≡ x → Fine (walked x a t)
       unfolding walked
-      walk-done o (Fault code) e = record { sound = sound-counting w walkCounted s; answered = failed code o e refl }
-      walk-done o (Mapped leaf) e = record { sound = sound-keep w line kept-walk (sound-counting w walkCounted s); answered = answer }
+      walk-done o (Fault code) e = record { sound = sound-counting w oneWalk s; answered = failed code o e refl }
+      walk-done o (Mapped leaf) e = record { sound = sound-keep w line kept-walk (sound-counting w oneWalk s); answered = answer }
         where
           line : Line
           line = lineOfLeaf leaf a (t .asid)
@@ -194,7 +191,7 @@ module _ (w : World) where
       unfolding looked
       line-done o l b p r q =
           record {
-            sound = sound-counting w hitCounted s;
+            sound = sound-counting w oneHit s;
             answered =
                 by (b .leaf) (b .under) o (rw (same-regime (l .regime) (regimeNow w c) r, eqb-true (l .page) (pageNow w c va) p) at (b .seen))
                 (today (b .leaf .global) refl (rw (b .reach) at q)) (line-judged laws h c m k va l b);
@@ -232,7 +229,7 @@ module _ (w : World) where
           go : (x : Answer) → o .answer ≡ x → Sound w h (c .regs) (noting x a (o .after))
           go (Status code) e = d .sound
           go (Address pa) e =
-              sound-hint w (dataSlot va k) (knownOf a pa)
+              sound-hint w (hintPlace k va) (knownOf a pa)
               (rw (kind-at k (c .who .mark) va b)
               (answered-promise laws h c m k va pa (inr (hint-unmarked k (c .who .mark) b)) (rw e at (d .answered))))
               (d .sound)
@@ -261,8 +258,8 @@ module _ (w : World) where
           go : (b : Bool) → hintable k (c .who .mark) ≡ b → Fine (hinted b a t)
           go false b = unhinted-done
           go true b =
-              tried-done b (t .hints (dataSlot va k))
-              (rw (kind-at k (c .who .mark) va b) at (s .hints-ok (dataSlot va k)))
+              tried-done b (t .hints (hintPlace k va))
+              (rw (kind-at k (c .who .mark) va b) at (s .hints-ok (hintPlace k va)))
 
       fetch-tried : k ≡ Fetch → (x : Slot Known) → HintOk w h (c .regs) k x → Fine (fetched (knowing (va / 4096) (c .who .level) x) a t)
       unfolding fetched notedFetch

@@ -12,10 +12,9 @@ use Rattle.walk.specs.Regime.{regimeOf}
 use Rattle.walk.specs.declared.regime.Regime.{Regime}
 use Rattle.walk.specs.declared.level.Leaf.{Leaf}
 use Rattle.walk.specs.declared.level.Walked.the-variants.{Mapped}
-use Rattle.tlb.specs.Model.{Slot, empty, holds, Line, Known, Model, emptyModel, belongsTo, covers as coversLine, uncovered, invalidate, retag, counting, keep, keepHint, keepFetch, asUser, need, reachOf}
+use Rattle.tlb.specs.Model.{Slot, empty, holds, Line, Known, Counters, Model, emptyModel, belongsTo, covers as coversLine, uncovered, invalidate, retag, counting, keep, keepHint, keepFetch, asUser, need, reachOf}
 use Rattle.tlb.specs.declared.access.Kind.{Kind}
 use Rattle.tlb.specs.declared.access.Kind.the-variants.{Read, Write, Fetch}
-use Rattle.tlb.specs.declared.count.Counts.{Counts}
 use Rattle.tlb.specs.declared.Inval.{Inval}
 use Rattle.tlb.specs.declared.Inval.the-variants.{All, Page, Asid}
 use Rattle.history.specs.World.{World, Laws, covers, pageWalk}
@@ -185,7 +184,7 @@ module _ (w : World) where
 
   -- WHAT A TRANSLATION LEAVES: a line, a hint, the fetch hint, other counters
 
-  pub sound-counting : {h : List Mark} {R : w .Regs} {t : Model} (f : Counts → Counts) → Sound h R t → Sound h R (counting f t)
+  pub sound-counting : {h : List Mark} {R : w .Regs} {t : Model} (f : Counters → Counters) → Sound h R t → Sound h R (counting f t)
   sound-counting f s = record { asid-is = s .asid-is; lines-ok = s .lines-ok; hints-ok = s .hints-ok; fetch-ok = s .fetch-ok }
 
   line-put : (h : List Mark) (b : Bool) (l : Line) (s : Slot Line) → Behind h l → LineOk h s → LineOk h (pick b (holds l) s)

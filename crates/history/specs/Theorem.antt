@@ -189,7 +189,7 @@ module _ (w : World) (laws : Laws w) where
   effect-low (writes R) c low = low
   effect-low (turns who small) c low = small
 
-  event-low : (x : Event w) (c : Plain w) → c .who .level ≤ 3 → afterEvent w x c .who .level ≤ 3
+  pub event-low : (x : Event w) (c : Plain w) → c .who .level ≤ 3 → afterEvent w x c .who .level ≤ 3
   event-low (steps m s) c low = effect-low (s .effect) c low
   event-low (receives v) c low = low
 

@@ -13,7 +13,7 @@ use Rattle.walk.specs.declared.regime.Regime.the-variants.{El1, El2, El3}
 use Rattle.tlb.specs.Entry.{serves, untagged, spanOf, pageDropped, asidDropped}
 use Rattle.tlb.specs.Hint.{onPage, hintKey, hintFor, fetchServes, fetchFor}
 use Rattle.tlb.specs.Access.{isFetch, mayHint, regimeNumber, ifTwoRanges, userOf, rightOf, hasRight, judged}
-use Rattle.tlb.specs.Model.{Slot, empty, holds, Line, reachOf, reaches, belongsTo, spanBits, covers, uncovered, serving, knowing, Access, asUser, need, needIn, judge, hintable}
+use Rattle.tlb.specs.Model.{Slot, empty, holds, Line, reachOf, reaches, belongsTo, spanBits, covers, uncovered, sameRegime, serving, knowing, Access, asUser, need, needIn, judge, hintable}
 use Rattle.tlb.specs.Live.{lineIn, tagged, lineOf, hintOf, fetchHintOf, Made}
 use Rattle.tlb.specs.declared.entry.Entry.{Entry}
 use Rattle.tlb.specs.declared.entry.Present.{Present}
@@ -66,7 +66,7 @@ reach-is false n a = refl
 
 module _ (a p : ℕ) (e : Entry) where
   in-regime : (r s : Regime) (x : Bool)
-      → pick ((x && eqb (regimeNumber s) (regimeNumber r)) && reaches (reachOf (e .global) (e .asid)) a) (holds (lineIn s e)) empty
+      → pick ((x && sameRegime s r) && reaches (reachOf (e .global) (e .asid)) a) (holds (lineIn s e)) empty
       ≡ pick ((x && eqb (regimeNumber s) (regimeNumber r)) && (e .global || eqb (e .asid) a)) (holds (lineIn r e)) empty
   in-regime El1 El1 x = rw reach-is
   in-regime El1 El2 x = rw and-false

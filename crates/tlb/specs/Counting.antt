@@ -1,72 +1,92 @@
--- The counters that a translation leaves are a function of its source.
-use mathlib.Core.Path.{_≡_, refl}
-use mathlib.Core.Bool.{Bool, true, false, _&&_}
-use Prim.Native.Nat.{ℕ}
-use lib.Dec.{eqb}
-use Rattle.word.specs.Bits.{pick}
-use Rattle.walk.specs.declared.regime.Regime.{Regime}
+-- The counters that a translation leaves in the plain model are a function of how it was answered.
+use mathlib.Core.Path.{_≡_, refl, _∙_}
+use mathlib.Core.Bool.{Bool, true, false}
+use Prim.Native.Nat.{ℕ, _/_}
 use Rattle.walk.specs.declared.level.Walked.{Walked}
 use Rattle.walk.specs.declared.level.Walked.the-variants.{Mapped, Fault}
-use Rattle.tlb.specs.Entry.{serves}
-use Rattle.tlb.specs.Hint.{noHint, hintKey, onPage, fetchFound}
-use Rattle.tlb.specs.Count.{hitCounted}
-use Rattle.tlb.specs.Access.{mayHint, userOf, tagOf, judged}
-use Rattle.tlb.specs.Turn.{walkEnd, lookWith, missWith, remembered, turnWith, fetchRemembered, fetchEnd, fetchWith}
-use Rattle.tlb.specs.Step.{countedBy}
-use Rattle.tlb.specs.declared.entry.Entry.{Entry}
-use Rattle.tlb.specs.declared.entry.Present.{Present}
-use Rattle.tlb.specs.declared.access.Kind.{Kind}
-use Rattle.tlb.specs.declared.access.Kind.the-variants.{Fetch}
-use Rattle.tlb.specs.declared.hint.Hint.{Hint}
-use Rattle.tlb.specs.declared.hint.FetchHint.{FetchHint}
-use Rattle.tlb.specs.declared.hint.Physical.{Physical}
-use Rattle.tlb.specs.declared.hint.Physical.the-variants.{At, Unknown}
-use Rattle.tlb.specs.declared.count.Counts.{Counts}
-use Rattle.tlb.specs.declared.access.Who.{Who}
-use Rattle.tlb.specs.declared.access.Answer.the-variants.{Address}
-use Rattle.tlb.specs.declared.turn.Source.the-variants.{FromHint, FromEntry}
-use Rattle.tlb.specs.declared.turn.Turned.{Turned}
+use Rattle.tlb.specs.Model.{Slot, empty, holds, Line, Counters, Model, oneHit, oneWalk, lineFor, keep, hintPlace, knowing, Access, Outcome, walked, looked, unhinted, noting, noted, tried, hinted, hintable, translate, notingFetch, notedFetch, fetched, fetch}
+use Rattle.tlb.specs.declared.access.Answer.{Answer}
+use Rattle.tlb.specs.declared.access.Answer.the-variants.{Address, Status}
 
-module _ (page : ℕ) (w : Walked) (r : Regime) (who : Who) (at : Present) (k : Counts) (h : Hint) (e : Entry) (va : ℕ) (kind : Kind) where
-  walk-counts : (tag : ℕ) (user : Bool) (v : Walked)
-      → walkEnd v at k h e tag user kind va .counts ≡ countedBy (walkEnd v at k h e tag user kind va .source) k
-  unfolding walkEnd
-  walk-counts tag user (Mapped leaf) = refl
-  walk-counts tag user (Fault code) = refl
+-- by a hint, by the address itself where stage 1 is off, by a line, or by a walk, whether it faults or not
+pub data How : Type 0 where
+  byHint : How
+  byItself : How
+  byLine : How
+  byWalk : How
 
-  abbrev onHit : Bool → Turned
-  onHit user = record { counts = hitCounted k; hint = h; entry = e; answer = judged e user kind va; source = FromEntry }
+-- a line is a hit, every walk counts one, a hint and the address itself nothing
+abbrev pub countedBy : How → Counters → Counters
+countedBy byHint k = k
+countedBy byItself k = k
+countedBy byLine k = oneHit k
+countedBy byWalk k = oneWalk k
 
-  look-counts : (tag : ℕ) (user : Bool) (b : Bool)
-      → pick b (onHit user) (walkEnd w at k h e tag user kind va) .counts
-      ≡ countedBy (pick b (onHit user) (walkEnd w at k h e tag user kind va) .source) k
-  look-counts tag user true = refl
-  look-counts tag user false = walk-counts tag user w
+abbrev pub howLooked : Bool → Slot Line → How
+howLooked false l = byItself
+howLooked true (holds l) = byLine
+howLooked true empty = byWalk
 
-  miss-counts : (on : Bool) → missWith on page w r who at k h e va kind .counts ≡ countedBy (missWith on page w r who at k h e va kind .source) k
-  unfolding missWith lookWith
-  miss-counts true = look-counts (tagOf r page) (userOf r who kind) (serves e at (tagOf r page))
+abbrev pub howUnhinted : Access → Model → How
+howUnhinted a m = howLooked (a .on) (lineFor m (a .regime) (a .untagged / 4096))
+
+abbrev pub howTried : Slot ℕ → How → How
+howTried (holds frame) other = byHint
+howTried empty other = other
+
+abbrev pub howHinted : Bool → Access → Model → How
+howHinted true a m = howTried (knowing (a .va / 4096) (a .who .level) (m .hints (hintPlace (a .kind) (a .va)))) (howUnhinted a m)
+howHinted false a m = howUnhinted a m
+
+abbrev pub howTranslated : Access → Model → How
+howTranslated a m = howHinted (hintable (a .kind) (a .who .mark)) a m
+
+abbrev pub howFetched : Access → Model → How
+howFetched a m = howTried (knowing (a .va / 4096) (a .who .level) (m .fetch)) (howUnhinted a m)
+
+module _ (a : Access) (m : Model) where
+  walk-counts : (w : Walked) → walked w a m .after .counts ≡ oneWalk (m .counts)
+  unfolding walked keep
+  walk-counts (Mapped leaf) = refl
+  walk-counts (Fault code) = refl
+
+  look-counts : (l : Slot Line) → looked l a m .after .counts ≡ countedBy (howLooked true l) (m .counts)
+  unfolding looked
+  look-counts (holds l) = refl
+  look-counts empty = walk-counts (a .walk)
+
+  miss-counts : (on : Bool)
+      → unhinted on a m .after .counts ≡ countedBy (howLooked on (lineFor m (a .regime) (a .untagged / 4096))) (m .counts)
+  unfolding unhinted
+  miss-counts true = look-counts (lineFor m (a .regime) (a .untagged / 4096))
   miss-counts false = refl
 
-  abbrev onHint : Turned
-  onHint = record { counts = k; hint = h; entry = e; answer = Address (onPage (h .pa) va); source = FromHint }
+  note-counts : (x : Answer) (n : Model) → noting x a n .counts ≡ n .counts
+  note-counts (Address pa) n = refl
+  note-counts (Status code) n = refl
 
-  pub turn-counts : (on : Bool)
-      → turnWith on page w r who at k h e va kind .counts ≡ countedBy (turnWith on page w r who at k h e va kind .source) k
-  unfolding turnWith remembered
-  turn-counts on = go (mayHint who kind && eqb (h .key) (hintKey va (who .level)))
+  note-fetch-counts : (x : Answer) (n : Model) → notingFetch x a n .counts ≡ n .counts
+  note-fetch-counts (Address pa) n = refl
+  note-fetch-counts (Status code) n = refl
+
+  try-counts : (h : Slot ℕ) → tried h a m .after .counts ≡ countedBy (howTried h (howUnhinted a m)) (m .counts)
+  unfolding tried noted
+  try-counts (holds frame) = refl
+  try-counts empty = note-counts (unhinted (a .on) a m .answer) (unhinted (a .on) a m .after) ∙ miss-counts (a .on)
+
+  try-fetch-counts : (h : Slot ℕ) → fetched h a m .after .counts ≡ countedBy (howTried h (howUnhinted a m)) (m .counts)
+  unfolding fetched notedFetch
+  try-fetch-counts (holds frame) = refl
+  try-fetch-counts empty = note-fetch-counts (unhinted (a .on) a m .answer) (unhinted (a .on) a m .after) ∙ miss-counts (a .on)
+
+  pub translate-counts : translate a m .after .counts ≡ countedBy (howTranslated a m) (m .counts)
+  unfolding translate hinted
+  translate-counts = go (hintable (a .kind) (a .who .mark))
     where
-      go : (b : Bool)
-          → pick b onHint (remembered (missWith on page w r who at k h e va kind) (mayHint who kind) (who .level) va) .counts
-          ≡ countedBy (pick b onHint (remembered (missWith on page w r who at k h e va kind) (mayHint who kind) (who .level) va) .source) k
-      go true = refl
-      go false = miss-counts on
+      go : (b : Bool) → hinted b a m .after .counts ≡ countedBy (howHinted b a m) (m .counts)
+      go true = try-counts (knowing (a .va / 4096) (a .who .level) (m .hints (hintPlace (a .kind) (a .va))))
+      go false = miss-counts (a .on)
 
-pub fetch-counts : (on : Bool) (page : ℕ) (w : Walked) (r : Regime) (who : Who) (at : Present) (k : Counts) (f : FetchHint) (e : Entry) (va : ℕ)
-    → fetchWith on page w r who at k f e va .counts ≡ countedBy (fetchWith on page w r who at k f e va .source) k
-unfolding fetchWith fetchEnd fetchRemembered
-fetch-counts on page w r who at k f e va = go (fetchFound f (who .level) va)
-  where
-    go : (p : Physical) → fetchEnd p on page w r who at k f e va .counts ≡ countedBy (fetchEnd p on page w r who at k f e va .source) k
-    go (At pa) = refl
-    go Unknown = turn-counts page w r who at k noHint e va Fetch on
+  pub fetch-counts : fetch a m .after .counts ≡ countedBy (howFetched a m) (m .counts)
+  unfolding fetch
+  fetch-counts = try-fetch-counts (knowing (a .va / 4096) (a .who .level) (m .fetch))

@@ -13,11 +13,12 @@ use Rattle.walk.specs.declared.level.Walked.the-variants.{Mapped}
 use Rattle.tlb.specs.Entry.{blank}
 use Rattle.tlb.specs.Hint.{noHint}
 use Rattle.tlb.specs.Lists.{Each}
-use Rattle.tlb.specs.Model.{Slot, empty, holds, Line, Known, Model, Outcome, reachOf}
+use Rattle.tlb.specs.Model.{Slot, empty, holds, Line, Known, Counters, Model, Outcome, reachOf}
 use Rattle.tlb.specs.declared.entry.Entry.{Entry}
 use Rattle.tlb.specs.declared.access.Answer.{Answer}
 use Rattle.tlb.specs.declared.hint.Hint.{Hint}
 use Rattle.tlb.specs.declared.hint.FetchHint.{FetchHint}
+use Rattle.tlb.specs.declared.count.Counts.{Counts}
 use Rattle.tlb.specs.declared.cache.Cache.{Cache}
 use Rattle.tlb.specs.declared.Tlb.{Tlb}
 use Rattle.tlb.specs.declared.Inval.{Inval}
@@ -64,6 +65,9 @@ linesOf g es i = lineOf g (getD es i blank)
 unfoldable pub hintsOf : List Hint → ℕ → Slot Known
 hintsOf hs i = hintOf (getD hs i noHint)
 
+abbrev pub countersOf : Counts → Counters
+countersOf k = record { hits = k .hits; walks = k .walks; flushes = k .flushes; drops = k .drops; epoch = k .epoch }
+
 abbrev pub live : Tlb → Model
 live t =
     record {
@@ -71,7 +75,7 @@ live t =
       lines = linesOf (t .cache .present .generation) (t .cache .entries);
       hints = hintsOf (t .cache .hints);
       fetch = fetchHintOf (t .cache .fetch);
-      counts = t .counts;
+      counts = countersOf (t .counts);
       pending = pendingOf (t .broadcast);
     }
 

@@ -15,7 +15,7 @@ use Rattle.tlb.specs.Cache.{entryAt, setEntry}
 use Rattle.tlb.specs.Tlb.{moved}
 use Rattle.tlb.specs.Access.{userOf, tagOf, judged}
 use Rattle.tlb.specs.Turn.{entryFor, walkEnd, lookWith, missWith}
-use Rattle.tlb.specs.Model.{empty, holds, Line, counting, keep, Access, lineOfLeaf, reachOf, judge, walked, looked, unhinted, fetch}
+use Rattle.tlb.specs.Model.{empty, holds, Line, oneWalk, counting, keep, Access, lineOfLeaf, reachOf, judge, walked, looked, unhinted, fetch}
 use Rattle.tlb.specs.Live.{Follows, lineIn, live, Made, Sound, WellFormed, LeafLevel}
 use Rattle.tlb.specs.Cells.{judged-is}
 use Rattle.tlb.specs.Refines.{blank-made, page-is, line-is, kept-lines, set-sound}
@@ -81,7 +81,7 @@ module _ (a : Access) (t : Tlb) (s : WellFormed t) (fits : LeafLevel (a .walk)) 
 
   leaf-kept : (leaf : Leaf)
       → live (moved t (setEntry (t .cache) (slotFor a) (made leaf)) (walkCounted (t .counts)))
-      ≡ keep (lineIn (a .regime) (made leaf)) (counting walkCounted (live t))
+      ≡ keep (lineIn (a .regime) (made leaf)) (counting oneWalk (live t))
   unfolding keep
   leaf-kept leaf =
       λ n.
@@ -90,7 +90,7 @@ module _ (a : Access) (t : Tlb) (s : WellFormed t) (fits : LeafLevel (a .walk)) 
         lines = λ i. kept-lines _ (a .untagged / 4096) (a .regime) (t .cache .entries) (made leaf) (s .slots) refl refl i n;
         hints = live t .hints;
         fetch = live t .fetch;
-        counts = walkCounted (t .counts);
+        counts = oneWalk (live t .counts);
         pending = live t .pending;
       }
 
@@ -102,7 +102,7 @@ module _ (a : Access) (t : Tlb) (s : WellFormed t) (fits : LeafLevel (a .walk)) 
   walk-follows (Mapped leaf) q =
       record {
         answer = judged-is _ (a .regime) (made leaf) a (leaf-made leaf q) ∙ ap (λ (l : Line). judge l a) (leaf-line leaf);
-        after = leaf-kept leaf ∙ ap (λ (l : Line). keep l (counting walkCounted (live t))) (leaf-line leaf);
+        after = leaf-kept leaf ∙ ap (λ (l : Line). keep l (counting oneWalk (live t))) (leaf-line leaf);
         well = set-sound (t .cache) (slotFor a) (made leaf) s (leaf-made leaf q);
       }
 

@@ -1,21 +1,18 @@
 -- The cache as the requirement tells it: slots that hold at most one line, places that hold at most one hint, the counters, and what is
--- pending. No generations, no tags, no keys.
+-- pending. No generations, no tags, no keys. It shares no function with the code's definitions that it judges: only the types of what goes in
+-- and out.
 use mathlib.Core.Bool.{Bool, true, false, not, _&&_}
-use Prim.Native.Nat.{ℕ, zero, suc, _+_, _*_, _/_, _%_, _^_}
+use Prim.Native.Nat.{ℕ, zero, suc, _+_, _-_, _*_, _/_, _%_, _^_}
 use lib.Dec.{eqb}
+use lib.Bits.{bitXor}
 use Rattle.word.specs.Bits.{pick}
 use Rattle.walk.specs.declared.regime.Regime.{Regime}
 use Rattle.walk.specs.declared.regime.Regime.the-variants.{El1, El2, El3}
 use Rattle.walk.specs.declared.level.Leaf.{Leaf}
 use Rattle.walk.specs.declared.level.Walked.{Walked}
 use Rattle.walk.specs.declared.level.Walked.the-variants.{Mapped, Fault}
-use Rattle.tlb.specs.Hint.{dataSlot}
-use Rattle.tlb.specs.Count.{noCounts, hitCounted, walkCounted, flushCounted, dropCounted, epochCounted}
-use Rattle.tlb.specs.Tlb.{sameInval}
-use Rattle.tlb.specs.Access.{regimeNumber}
 use Rattle.tlb.specs.declared.access.Kind.{Kind}
 use Rattle.tlb.specs.declared.access.Kind.the-variants.{Read, Write, Fetch}
-use Rattle.tlb.specs.declared.count.Counts.{Counts}
 use Rattle.tlb.specs.declared.access.Who.{Who}
 use Rattle.tlb.specs.declared.access.Answer.{Answer}
 use Rattle.tlb.specs.declared.access.Answer.the-variants.{Address, Status}
@@ -47,20 +44,56 @@ pub record Known : Type 0 where
   pub level : ℕ
   pub frame : ℕ
 
+-- answers from a line, walks, flushes, Pages, and how often all hints went
+pub record Counters : Type 0 where
+  pub hits : ℕ
+  pub walks : ℕ
+  pub flushes : ℕ
+  pub drops : ℕ
+  pub epoch : ℕ
+
 -- lines by slot number, below 1,024; hints by place, below 512: reads, then writes
 pub record Model : Type 0 where
   pub asid : ℕ
   pub lines : ℕ → Slot Line
   pub hints : ℕ → Slot Known
   pub fetch : Slot Known
-  pub counts : Counts
+  pub counts : Counters
   pub pending : Slot Inval
 
 abbrev pub emptyModel : Model
-emptyModel = record { asid = 0; lines = λ i. empty; hints = λ i. empty; fetch = empty; counts = noCounts; pending = empty }
+emptyModel =
+    record {
+      asid = 0;
+      lines = λ i. empty;
+      hints = λ i. empty;
+      fetch = empty;
+      counts = record { hits = 0; walks = 0; flushes = 0; drops = 0; epoch = 0 };
+      pending = empty;
+    }
+
+-- COUNTERS: each goes up by one, and wraps at 2^64
+
+abbrev pub up : ℕ → ℕ
+up n = (n + 1) % 2 ^ 64
+
+abbrev pub oneHit : Counters → Counters
+oneHit k = record { hits = up (k .hits); walks = k .walks; flushes = k .flushes; drops = k .drops; epoch = k .epoch }
+
+abbrev pub oneWalk : Counters → Counters
+oneWalk k = record { hits = k .hits; walks = up (k .walks); flushes = k .flushes; drops = k .drops; epoch = k .epoch }
+
+abbrev pub oneFlush : Counters → Counters
+oneFlush k = record { hits = k .hits; walks = k .walks; flushes = up (k .flushes); drops = k .drops; epoch = k .epoch }
+
+abbrev pub oneDrop : Counters → Counters
+oneDrop k = record { hits = k .hits; walks = k .walks; flushes = k .flushes; drops = up (k .drops); epoch = k .epoch }
+
+abbrev pub oneEpoch : Counters → Counters
+oneEpoch k = record { hits = k .hits; walks = k .walks; flushes = k .flushes; drops = k .drops; epoch = up (k .epoch) }
 
 -- the model with other counters
-abbrev pub counting : (Counts → Counts) → Model → Model
+abbrev pub counting : (Counters → Counters) → Model → Model
 counting f m =
     record { asid = m .asid; lines = m .lines; hints = m .hints; fetch = m .fetch; counts = f (m .counts); pending = m .pending }
 
@@ -87,11 +120,11 @@ abbrev pub uncovered : Inval → Slot Line → Slot Line
 uncovered what empty = empty
 uncovered what (holds l) = pick (covers what l) empty (holds l)
 
--- All counts as a flush, a Page as a drop, whether it matched or not; each moves the epoch
-abbrev pub invalCounted : Inval → Counts → Counts
-invalCounted All k = flushCounted k
-invalCounted (Page n) k = dropCounted k
-invalCounted (Asid a) k = epochCounted k
+-- All counts as a flush, a Page as a drop, whether it matched or not; each moves the epoch, an Asid nothing else
+abbrev pub invalCounted : Inval → Counters → Counters
+invalCounted All k = oneEpoch (oneFlush k)
+invalCounted (Page n) k = oneEpoch (oneDrop k)
+invalCounted (Asid a) k = oneEpoch k
 
 -- the lines that it covers go, and every hint
 unfoldable pub invalidate : Inval → Model → Model
@@ -113,14 +146,26 @@ retag a m =
       lines = m .lines;
       hints = λ i. empty;
       fetch = empty;
-      counts = epochCounted (m .counts);
+      counts = oneEpoch (m .counts);
       pending = m .pending;
     }
 
--- a second broadcast that differs from the pending one becomes All
+-- both All, Pages of one number, or Asids of one number
+abbrev pub equal : Inval → Inval → Bool
+equal All All = true
+equal All (Page q) = false
+equal All (Asid b) = false
+equal (Page p) All = false
+equal (Page p) (Page q) = eqb p q
+equal (Page p) (Asid b) = false
+equal (Asid a) All = false
+equal (Asid a) (Page q) = false
+equal (Asid a) (Asid b) = eqb a b
+
+-- a second broadcast that differs from the pending one becomes All; an equal one stays
 abbrev pub joined : Slot Inval → Inval → Slot Inval
 joined empty what = holds what
-joined (holds earlier) what = holds (pick (sameInval earlier what) earlier All)
+joined (holds earlier) what = holds (pick (equal earlier what) earlier All)
 
 unfoldable pub broadcast : Inval → Model → Model
 broadcast what m =
@@ -139,11 +184,22 @@ abbrev pub reaches : Reach → ℕ → Bool
 reaches everyone a = true
 reaches (only b) a = eqb b a
 
+abbrev pub sameRegime : Regime → Regime → Bool
+sameRegime El1 El1 = true
+sameRegime El1 El2 = false
+sameRegime El1 El3 = false
+sameRegime El2 El1 = false
+sameRegime El2 El2 = true
+sameRegime El2 El3 = false
+sameRegime El3 El1 = false
+sameRegime El3 El2 = false
+sameRegime El3 El3 = true
+
 -- the line, where it is of the page and the regime and serves the ASID
 abbrev pub serving : ℕ → Regime → ℕ → Slot Line → Slot Line
 serving a r p empty = empty
 serving a r p (holds l) =
-    pick ((eqb (l .page) p && eqb (regimeNumber (l .regime)) (regimeNumber r)) && reaches (l .reach) a) (holds l) empty
+    pick ((eqb (l .page) p && sameRegime (l .regime) r) && reaches (l .reach) a) (holds l) empty
 
 -- a page's line stands in the slot of its low ten bits
 unfoldable pub lineFor : Model → Regime → ℕ → Slot Line
@@ -161,6 +217,20 @@ keep l m =
     }
 
 -- HINTS
+
+-- a kind as `data_slot` numbers it
+abbrev pub kindNumber : Kind → ℕ
+kindNumber Read = 1
+kindNumber Write = 2
+kindNumber Fetch = 4
+
+-- (p xor p >> 5 xor p >> 10) mod 256
+unfoldable pub folded : ℕ → ℕ
+folded p = bitXor (bitXor p (p / 2 ^ 5)) (p / 2 ^ 10) % 256
+
+-- a data hint's place: (kind - 1) * 256, and the raw page folded; a fetch has none below 512
+abbrev pub hintPlace : Kind → ℕ → ℕ
+hintPlace kind va = (kindNumber kind - 1) * 256 + folded (va / 4096)
 
 -- the physical page of the hint, where it is of the raw page and the level
 abbrev pub knowing : ℕ → ℕ → Slot Known → Slot ℕ
@@ -251,13 +321,13 @@ lineOfLeaf leaf a asid =
 
 -- a walk counts one; a leaf is kept and judged; a fault is the answer and leaves no line
 unfoldable pub walked : Walked → Access → Model → Outcome
-walked (Fault code) a m = record { answer = Status code; after = counting walkCounted m }
+walked (Fault code) a m = record { answer = Status code; after = counting oneWalk m }
 walked (Mapped leaf) a m =
-    record { answer = judge (lineOfLeaf leaf a (m .asid)) a; after = keep (lineOfLeaf leaf a (m .asid)) (counting walkCounted m) }
+    record { answer = judge (lineOfLeaf leaf a (m .asid)) a; after = keep (lineOfLeaf leaf a (m .asid)) (counting oneWalk m) }
 
 -- a line that serves is a hit; where none does, the page is walked
 unfoldable pub looked : Slot Line → Access → Model → Outcome
-looked (holds l) a m = record { answer = judge l a; after = counting hitCounted m }
+looked (holds l) a m = record { answer = judge l a; after = counting oneHit m }
 looked empty a m = walked (a .walk) a m
 
 -- with stage 1 off the answer is the address itself
@@ -270,7 +340,7 @@ abbrev pub knownOf : Access → ℕ → Known
 knownOf a pa = record { page = a .va / 4096; level = a .who .level; frame = pa / 4096 }
 
 abbrev pub noting : Answer → Access → Model → Model
-noting (Address pa) a m = keepHint (dataSlot (a .va) (a .kind)) (knownOf a pa) m
+noting (Address pa) a m = keepHint (hintPlace (a .kind) (a .va)) (knownOf a pa) m
 noting (Status code) a m = m
 
 unfoldable pub noted : Access → Outcome → Outcome
@@ -282,7 +352,7 @@ tried (holds frame) a m = record { answer = addressIn frame (a .va); after = m }
 tried empty a m = noted a (unhinted (a .on) a m)
 
 unfoldable pub hinted : Bool → Access → Model → Outcome
-hinted true a m = tried (knowing (a .va / 4096) (a .who .level) (m .hints (dataSlot (a .va) (a .kind)))) a m
+hinted true a m = tried (knowing (a .va / 4096) (a .who .level) (m .hints (hintPlace (a .kind) (a .va)))) a m
 hinted false a m = unhinted (a .on) a m
 
 -- hints serve reads and writes, and not while the mark is set

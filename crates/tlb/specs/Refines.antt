@@ -16,8 +16,8 @@ use Rattle.tlb.specs.Count.{flushCounted}
 use Rattle.tlb.specs.Cache.{blanks, noHints, hintless, entryAt, setEntry, nextGeneration, flushed, withoutPage, withoutAsid, retagged}
 use Rattle.tlb.specs.Tlb.{fresh, getOf, putOf, flushOf, dropPageOf, dropAsidOf, retagOf, invalidateOf, sameInval, pendingAfter, broadcastOf}
 use Rattle.tlb.specs.Access.{regimeNumber}
-use Rattle.tlb.specs.Model.{Slot, empty, holds, Line, emptyModel, uncovered, invalidate, retag, joined, broadcast, serving, lineFor, keep}
-use Rattle.tlb.specs.Live.{lineIn, lineOf, hintOf, fetchHintOf, pendingOf, linesOf, hintsOf, live, Made, Aligned, Sound, WellFormed}
+use Rattle.tlb.specs.Model.{Slot, empty, holds, Line, emptyModel, uncovered, invalidate, retag, equal, joined, broadcast, serving, lineFor, keep}
+use Rattle.tlb.specs.Live.{lineIn, lineOf, hintOf, fetchHintOf, pendingOf, linesOf, hintsOf, countersOf, live, Made, Aligned, Sound, WellFormed}
 use Rattle.tlb.specs.Cells.{same-pick, regime-low, found, line-made, page-drops, asid-drops, all-covered, flush-drops}
 use Rattle.tlb.specs.declared.entry.Entry.{Entry}
 use Rattle.tlb.specs.declared.entry.Present.{Present}
@@ -65,9 +65,17 @@ module _ (p : Present) (es : List Entry) where
 
   hintless-live : (k : Counts) (b : Pending) (ls : ℕ → Slot Line) → ((i : ℕ) → linesOf (p .generation) es i ≡ ls i)
       → live (record { cache = hintless p es; counts = k; broadcast = b })
-      ≡ record { asid = p .asid; lines = ls; hints = λ i. empty; fetch = empty; counts = k; pending = pendingOf b }
+      ≡ record { asid = p .asid; lines = ls; hints = λ i. empty; fetch = empty; counts = countersOf k; pending = pendingOf b }
   hintless-live k b ls q =
-      λ n. record { asid = p .asid; lines = λ i. q i n; hints = λ i. no-hints-at i n; fetch = no-fetch n; counts = k; pending = pendingOf b }
+      λ n.
+      record {
+        asid = p .asid;
+        lines = λ i. q i n;
+        hints = λ i. no-hints-at i n;
+        fetch = no-fetch n;
+        counts = countersOf k;
+        pending = pendingOf b;
+      }
 
 blank-lines : (i : ℕ) → linesOf 1 blanks i ≡ empty
 unfolding linesOf lineOf
@@ -219,6 +227,17 @@ module _ (t : Tlb) (s : WellFormed t) where
 pub falsely : {A : Type 0} → false ≡ true → A
 falsely e = absurd (let z : _≡_ {A = ℕ} 0 1 = ap (λ (b : Bool). pick b 1 0) e in omega arith)
 
+equal-is : (v w : Inval) → equal v w ≡ sameInval v w
+equal-is All All = refl
+equal-is All (Page q) = refl
+equal-is All (Asid m) = refl
+equal-is (Page p) All = refl
+equal-is (Page p) (Page q) = refl
+equal-is (Page p) (Asid m) = refl
+equal-is (Asid n) All = refl
+equal-is (Asid n) (Page q) = refl
+equal-is (Asid n) (Asid m) = refl
+
 same-is : (v w : Inval) → sameInval v w ≡ true → v ≡ w
 same-is All All e = refl
 same-is All (Page q) e = falsely e
@@ -235,8 +254,8 @@ joined-is Nothing what = refl
 joined-is (Some earlier) what = go (sameInval earlier what) refl
   where
     go : (b : Bool) → sameInval earlier what ≡ b → pendingOf (pendingAfter (Some earlier) what) ≡ joined (holds earlier) what
-    go true e = rw e (ap holds (sym (same-is earlier what e)))
-    go false e = rw e
+    go true e = rw (equal-is earlier what, e) (ap holds (sym (same-is earlier what e)))
+    go false e = rw (equal-is earlier what, e)
 
 pub broadcast-live : (t : Tlb) (what : Inval) → live (broadcastOf t what) ≡ broadcast what (live t)
 unfolding broadcastOf broadcast
@@ -247,7 +266,7 @@ broadcast-live t what =
       lines = live t .lines;
       hints = live t .hints;
       fetch = live t .fetch;
-      counts = t .counts;
+      counts = live t .counts;
       pending = joined-is (t .broadcast) what n;
     }
 
@@ -326,7 +345,7 @@ module _ (t : Tlb) (s : WellFormed t) (r : Regime) (p : ℕ) (e : Entry) where
         lines = λ i. kept-lines _ p r (t .cache .entries) (stamped e (t .cache .present .generation)) (s .slots) refl w i n;
         hints = live t .hints;
         fetch = live t .fetch;
-        counts = t .counts;
+        counts = live t .counts;
         pending = live t .pending;
       }
 

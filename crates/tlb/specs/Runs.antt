@@ -5,14 +5,13 @@ use mathlib.Core.List.{List, [], _∷_}
 use Prim.Native.Nat.{ℕ, _≤_}
 use Rattle.tlb.specs.Lists.{Each, more}
 use Rattle.tlb.specs.Tlb.{fresh, invalidateOf, retagOf, broadcastOf}
-use Rattle.tlb.specs.Model.{Slot, empty, holds, Model, emptyModel, invalidate, retag, broadcast, Access, translate, fetch}
-use Rattle.tlb.specs.Live.{pendingOf, live, WellFormed, LeafLevel}
+use Rattle.tlb.specs.Model.{Slot, empty, holds, Counters, Model, emptyModel, invalidate, retag, broadcast, Access, translate, fetch}
+use Rattle.tlb.specs.Live.{countersOf, pendingOf, live, WellFormed, LeafLevel}
 use Rattle.tlb.specs.Refines.{fresh-live, fresh-sound, invalidate-live, invalidate-sound, retag-live, retag-sound, broadcast-live, broadcast-sound}
 use Rattle.tlb.specs.Step.{turnIn, turned, fetchIn, fetchedIn}
 use Rattle.tlb.specs.Translations.{turn-follows, fetch-follows}
 use Rattle.tlb.specs.declared.access.Answer.{Answer}
 use Rattle.tlb.specs.declared.access.Kind.the-variants.{Fetch}
-use Rattle.tlb.specs.declared.count.Counts.{Counts}
 use Rattle.tlb.specs.declared.Tlb.{Tlb}
 use Rattle.tlb.specs.declared.Inval.{Inval}
 
@@ -35,7 +34,7 @@ Fair (fetches a) = (a .kind ≡ Fetch) × LeafLevel (a .walk)
 -- what is seen of an operation: its answer, if it has one, the counters, and what is pending
 pub record Seen : Type 0 where
   pub answer : Slot Answer
-  pub counts : Counts
+  pub counts : Counters
   pub pending : Slot Inval
 
 -- on the cache
@@ -54,7 +53,7 @@ answerOf (translates a) t = holds (turnIn a t .answer)
 answerOf (fetches a) t = holds (fetchIn a t .answer)
 
 abbrev pub seenOf : Op → Tlb → Seen
-seenOf o t = record { answer = answerOf o t; counts = afterOp o t .counts; pending = pendingOf (afterOp o t .broadcast) }
+seenOf o t = record { answer = answerOf o t; counts = countersOf (afterOp o t .counts); pending = pendingOf (afterOp o t .broadcast) }
 
 unfoldable pub run : List Op → Tlb → List Seen
 run [] t = []

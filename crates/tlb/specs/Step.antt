@@ -6,7 +6,6 @@ use Rattle.word.specs.declared.ram.Word.{Word}
 use Rattle.walk.specs.declared.regime.Bank.{Bank}
 use Rattle.tlb.specs.Entry.{slotOf}
 use Rattle.tlb.specs.Hint.{dataSlot}
-use Rattle.tlb.specs.Count.{hitCounted, walkCounted}
 use Rattle.tlb.specs.Cache.{entryAt, hintAt, setEntry, setHint, setFetch}
 use Rattle.tlb.specs.Tlb.{moved}
 use Rattle.tlb.specs.Access.{tagOf}
@@ -14,10 +13,7 @@ use Rattle.tlb.specs.Turn.{onNow, untaggedNow, walkNow, turnWith, fetchW
 use Rattle.tlb.specs.Model.{Access}
 use Rattle.tlb.specs.declared.access.Kind.{Kind}
 use Rattle.tlb.specs.declared.access.Kind.the-variants.{Fetch}
-use Rattle.tlb.specs.declared.count.Counts.{Counts}
 use Rattle.tlb.specs.declared.access.Who.{Who}
-use Rattle.tlb.specs.declared.turn.Source.{Source}
-use Rattle.tlb.specs.declared.turn.Source.the-variants.{FromHint, FromFlat, FromEntry, FromWalk, NoLeaf}
 use Rattle.tlb.specs.declared.turn.Turned.{Turned}
 use Rattle.tlb.specs.declared.turn.FetchTurned.{FetchTurned}
 use Rattle.tlb.specs.declared.Tlb.{Tlb}
@@ -65,14 +61,6 @@ fetchIn a t =
 
 abbrev pub fetchedIn : Access → Tlb → Tlb
 fetchedIn a t = withFetch t (slotFor a) (fetchIn a t)
-
--- an answer from an entry is a hit, every walk counts, a hint and a flat answer count nothing
-abbrev pub countedBy : Source → Counts → Counts
-countedBy FromHint k = k
-countedBy FromFlat k = k
-countedBy FromEntry k = hitCounted k
-countedBy FromWalk k = walkCounted k
-countedBy NoLeaf k = walkCounted k
 
 -- the code's turn is that of its access
 pub turn-is : (s : Bank) (who : Who) (va : ℕ) (kind : Kind) (memory : ℕ → Word) (t : Tlb)

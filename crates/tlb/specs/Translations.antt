@@ -13,8 +13,8 @@ use Rattle.tlb.specs.Cache.{entryAt, hintAt, setEntry, setHint, setFetch
 use Rattle.tlb.specs.Tlb.{moved}
 use Rattle.tlb.specs.Access.{mayHint}
 use Rattle.tlb.specs.Turn.{missWith, remembered, turnWith, fetchRemembered, fetchEnd, fetchWith}
-use Rattle.tlb.specs.Model.{Slot, empty, holds, Known, keepHint, keepFetch, Access, Outcome, knownOf, unhinted, noted, tried, hinted, translate, notedFetch, fetched, fetch}
-use Rattle.tlb.specs.Live.{Follows, hintOf, hintsOf, live, Aligned, Sound, WellFormed, LeafLevel}
+use Rattle.tlb.specs.Model.{Slot, empty, holds, Known, folded, hintPlace, keepHint, keepFetch, Access, Outcome, knownOf, unhinted, noted, tried, hinted, translate, notedFetch, fetched, fetch}
+use Rattle.tlb.specs.Live.{Follows, hintOf, hintsOf, countersOf, live, Aligned, Sound, WellFormed, LeafLevel}
 use Rattle.tlb.specs.Cells.{on-aligned, may-is, known-is, hint-made, fetch-known-is, fetch-made}
 use Rattle.tlb.specs.Refines.{falsely}
 use Rattle.tlb.specs.Step.{placeFor, slotFor, withTurn, withFetch, turnIn, turned, fetchIn, fetchedIn}
@@ -63,6 +63,13 @@ set-fetch-sound c f s p q =
       fetch-pa = q;
     }
 
+-- the place that the code gives a hint is the model's
+pub place-is : (kind : Kind) (va : ℕ) → hintPlace kind va ≡ dataSlot va kind
+unfolding folded placeOf
+place-is Read va = refl
+place-is Write va = refl
+place-is Fetch va = refl
+
 place-low : (who : Who) (kind : Kind) (va : ℕ) → mayHint who kind ≡ true → dataSlot va kind < 512
 unfolding placeOf
 place-low who Read va q = omega arith
@@ -95,7 +102,7 @@ module _ (a : Access) (t : Tlb) (r : Turned) (o : Outcome) (f : Follows (r .answ
           lines = live (withEntry t (slotFor a) r) .lines;
           hints = λ i. at i n;
           fetch = live t .fetch;
-          counts = r .counts;
+          counts = countersOf (r .counts);
           pending = live t .pending;
         }
       where
@@ -119,7 +126,7 @@ module _ (a : Access) (t : Tlb) (r : Turned) (o : Outcome) (f : Follows (r .answ
             → Follows (r .answer) (withTurn t (placeFor a) (slotFor a) (remembered r true (a .who .level) (a .va))) (noted a o)
         go (Address pa) e =
             let oe : o .answer ≡ Address pa = sym (f .answer) ∙ e in
-            rw (e, oe) (record {
+            rw (e, oe, place-is (a .kind) (a .va)) (record {
               answer = refl;
               after = hint-kept pa ∙ ap (keepHint (placeFor a) (knownOf a pa)) (f .after);
               well = set-hint-sound _ _ _ (f .well) (omega arith);
@@ -176,7 +183,7 @@ module _ (a : Access) (t : Tlb) (s : WellFormed t) (fits : LeafLevel (a .walk)) 
       (pick (m && eqb (hint .key) (hintKey (a .va) (a .who .level))) afterHint (remembered afterMiss m (a .who .level) (a .va))))
       (hinted m a (live t))
   unfolding remembered hinted hintsOf
-  by-mark true q = rw (known-is hint (a .va) (a .who .level) low) (by-hint q (eqb (hint .key) (hintKey (a .va) (a .who .level))))
+  by-mark true q = rw (place-is (a .kind) (a .va), known-is hint (a .va) (a .who .level) low) (by-hint q (eqb (hint .key) (hintKey (a .va) (a .who .level))))
   by-mark false q = unnoted a t afterMiss _ (miss-follows a t s fits hint (a .on)) (miss-hint a t s fits hint (a .on))
 
   -- a translation follows the plain model
@@ -215,7 +222,7 @@ module _ (a : Access) (t : Tlb) (s : WellFormed t) (fits : LeafLevel (a .walk)) 
         lines = live (withEntry t (slotFor a) fetchMiss) .lines;
         hints = live t .hints;
         fetch = fetch-made (a .va) (a .who .level) pa n;
-        counts = fetchMiss .counts;
+        counts = countersOf (fetchMiss .counts);
         pending = live t .pending;
       }
 

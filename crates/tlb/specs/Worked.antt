@@ -7,8 +7,7 @@ use Prim.Native.Nat.{ℕ}
 use Rattle.walk.specs.declared.regime.Regime.the-variants.{El1}
 use Rattle.walk.specs.declared.level.Walked.{Walked}
 use Rattle.walk.specs.declared.level.Walked.the-variants.{Mapped, Fault}
-use Rattle.tlb.specs.Hint.{placeOf}
-use Rattle.tlb.specs.Model.{Slot, empty, holds, emptyModel, keep, lineFor, judge, walked, looked, unhinted, noted, tried, hinted, translate, invalidate}
+use Rattle.tlb.specs.Model.{Slot, empty, holds, emptyModel, folded, keep, lineFor, judge, walked, looked, unhinted, noted, tried, hinted, translate, invalidate}
 use Rattle.tlb.specs.Runs.{Op, invalidates, translates, Seen, modelRun}
 use Rattle.tlb.specs.declared.access.Kind.{Kind}
 use Rattle.tlb.specs.declared.access.Kind.the-variants.{Read, Write}
@@ -71,5 +70,5 @@ pub worked :
     ∷ (0 ∷ 3 ∷ 2 ∷ 1 ∷ 2 ∷ 4 ∷ [])
     ∷ (6 ∷ 3 ∷ 3 ∷ 1 ∷ 2 ∷ 4 ∷ [])
     ∷ []
-unfolding modelRun translate hinted tried noted unhinted looked walked judge keep lineFor invalidate placeOf
+unfolding modelRun translate hinted tried noted unhinted looked walked judge keep lineFor invalidate folded
 worked = refl

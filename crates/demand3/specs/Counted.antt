@@ -1,0 +1,176 @@
+-- What the plain model says of the core's own counters and of what is pending, call by call, after every list of calls from the fresh core: as
+-- document 01's checklist asks it.
+use mathlib.Core.Path.{_≡_, refl, sym, ap, _∙_}
+use mathlib.Core.Bool.{Bool, true, false}
+use mathlib.Core.List.{List, [], _∷_}
+use Prim.Native.Nat.{ℕ, _+_, _%_, _^_}
+use borrow.Author.Tests.{eq-eqb, ne-eqb}
+use Rattle.sysreg.specs.Shape.{asidOf}
+use Rattle.sysreg.specs.declared.regs.Control.{Control}
+use Rattle.sysreg.specs.declared.write.WriteAnswer.the-variants as Written
+use Rattle.tlb.specs.Model.{Slot, Counters, Model, invalCounted, joined, invalidate, broadcast, Outcome}
+use Rattle.tlb.specs.Counting.{countedBy, howTranslated, howFetched, translate-counts, fetch-counts}
+use Rattle.tlb.specs.Live.{countersOf, pendingOf, live}
+use Rattle.tlb.specs.declared.access.Kind.{Kind}
+use Rattle.tlb.specs.declared.access.Kind.the-variants as Kind
+use Rattle.tlb.specs.declared.access.Answer.{Answer}
+use Rattle.tlb.specs.declared.access.Answer.the-variants.{Address, Status}
+use Rattle.tlb.specs.declared.count.Counts.{Counts}
+use Rattle.tlb.specs.declared.Inval.{Inval}
+use Rattle.tlb.specs.declared.Inval.the-variants.{All, Page, Asid}
+use Rattle.tlb.specs.declared.Tlb.{Tlb}
+use Rattle.sysop.specs.declared.op.SysOp.the-variants as Op
+use Rattle.cpu.specs.declared.call.Encoding.{Encoding}
+use Rattle.cpu.specs.declared.call.Call.{Call}
+use Rattle.cpu.specs.declared.call.Call.the-variants.{Translate, FetchPa, Fetch, System, Register}
+use Rattle.history.specs.World.{accessOf}
+use Rattle.history.specs.History.{Ask, translates, fetches, Effect, carries, writes, Event, steps, onward}
+use Rattle.history.specs.ModelRun.{modelTurn, modelAsked, modelAfter, modelFlushed, modelRetagged, modelRun}
+use Rattle.history.specs.Calls.{Lent}
+use Rattle.history.specs.Instance.{Ram, real}
+use Rattle.demand3.specs.Bare.{Bare, plainIn, missedIn, opIn, writtenIn}
+use Rattle.demand3.specs.Events.{does, asking, invalIn, sharedIn, eventsIn, tlbi-event}
+use Rattle.demand3.specs.Starts.{laterIn}
+use Rattle.demand3.specs.Machine.{machine}
+use Rattle.demand3.specs.Beside.{coreAfter, bareAfter}
+use Rattle.demand3.specs.Faithful.{eventsAfter}
+use Rattle.demand3.specs.ModelCalls.{modelAfterList, modelAfterCall, tlbAfterCall, every-call-model}
+
+-- the model's counters as the core's
+abbrev countsOf : Counters → Counts
+countsOf k = record { hits = k .hits; walks = k .walks; flushes = k .flushes; drops = k .drops; epoch = k .epoch }
+
+-- a step of one translation
+asked-one : (b : Bare) (m : Ram) (a : Ask) (u : Model)
+    → modelAsked real (plainIn b) m (a ∷ []) u ≡ modelTurn real (plainIn b) m a u .after
+asked-one b m a u = go (modelTurn real (plainIn b) m a u .answer)
+  where
+    v : Model
+    v = modelTurn real (plainIn b) m a u .after
+
+    go : (x : Answer) → onward real x v v ≡ v
+    go (Address pa) = refl
+    go (Status code) = refl
+
+module _ (list : List (Lent real machine)) (m : Ram) where
+  abbrev now : Tlb
+  now = coreAfter list .tlb
+
+  abbrev model : Model
+  model = modelAfterList list
+
+  -- the model after a call of one step
+  one-step : (x : Call) (es : List (Event real)) → eventsAfter list m x ≡ es
+      → live (tlbAfterCall list m x) ≡ modelRun real (plainIn (bareAfter list)) es model
+  one-step x es e =
+      every-call-model list m x .after ∙ ap (λ (l : List (Event real)). modelRun real (plainIn (bareAfter list)) l model) e
+
+  model-counts : model .counts ≡ countersOf (now .counts)
+  model-counts = ap (λ (u : Model). u .counts) (sym (every-call-model list m (Fetch 0) .before))
+
+  model-pending : model .pending ≡ pendingOf (now .broadcast)
+  model-pending = ap (λ (u : Model). u .pending) (sym (every-call-model list m (Fetch 0) .before))
+
+  -- TRANSLATIONS
+
+  -- One that a line of the model answers counts one in `hits`, one that is walked one in `walks`, whether it faults or not; a hint, and the
+  -- address itself with stage 1 off, count nothing. Lines and hints are those that the list left in the plain model.
+  pub translate-counted : (kind : Kind) (va : ℕ) → missedIn (bareAfter list) m (Translate kind va) ≡ 0
+      → countersOf (tlbAfterCall list m (Translate kind va) .counts)
+      ≡ countedBy (howTranslated (accessOf real (plainIn (bareAfter list)) m kind va) model) (countersOf (now .counts))
+  translate-counted kind va passed =
+      ap (λ (u : Model). u .counts)
+      (one-step (Translate kind va) (steps m (asking (translates kind va ∷ [])) ∷ []) (rw passed) ∙ asked-one (bareAfter list) m (translates kind va) model)
+      ∙ translate-counts (accessOf real (plainIn (bareAfter list)) m kind va) model
+      ∙ ap (countedBy (howTranslated (accessOf real (plainIn (bareAfter list)) m kind va) model)) model-counts
+
+  pub fetch-pa-counted : (va : ℕ) → missedIn (bareAfter list) m (FetchPa va) ≡ 0
+      → countersOf (tlbAfterCall list m (FetchPa va) .counts)
+      ≡ countedBy (howFetched (accessOf real (plainIn (bareAfter list)) m Kind.Fetch va) model) (countersOf (now .counts))
+  fetch-pa-counted va passed =
+      ap (λ (u : Model). u .counts)
+      (one-step (FetchPa va) (steps m (asking (fetches va ∷ [])) ∷ []) (rw passed) ∙ asked-one (bareAfter list) m (fetches va) model)
+      ∙ fetch-counts (accessOf real (plainIn (bareAfter list)) m Kind.Fetch va) model
+      ∙ ap (countedBy (howFetched (accessOf real (plainIn (bareAfter list)) m Kind.Fetch va) model)) model-counts
+
+  -- TLBI, not refused
+
+  module _ (e : Encoding) (passed : missedIn (bareAfter list) m (System e) ≡ 0) (named : opIn (bareAfter list) e ≡ Op.Tlbi) where
+    abbrev what : Inval
+    what = invalIn (bareAfter list) e
+
+    abbrev then : Tlb
+    then = tlbAfterCall list m (System e)
+
+    abbrev carried : Bool → Model
+    carried shared = modelAfter real (carries what shared) (plainIn (bareAfter list)) model
+
+    tlbi-model : live then ≡ carried (sharedIn e)
+    tlbi-model =
+        one-step (System e) (steps m (does (carries what (sharedIn e))) ∷ [])
+        (tlbi-event (bareAfter list) m (laterIn (coreAfter list) m (System e)) e passed named)
+
+    carried-counts : (shared : Bool) → carried shared .counts ≡ invalCounted what (model .counts)
+    unfolding invalidate broadcast
+    carried-counts true = refl
+    carried-counts false = refl
+
+    -- it counts what it names, once, whether it is an Inner Shareable form or not
+    pub tlbi-counted : countersOf (then .counts) ≡ invalCounted what (countersOf (now .counts))
+    tlbi-counted = ap (λ (u : Model). u .counts) tlbi-model ∙ carried-counts (sharedIn e) ∙ ap (invalCounted what) model-counts
+
+    -- a Page adds just one to `drops` and one to `epoch`
+    pub page-counted : (n : ℕ) → what ≡ Page n
+        → then .counts
+        ≡ record {
+          hits = now .counts .hits;
+          walks = now .counts .walks;
+          flushes = now .counts .flushes;
+          drops = (now .counts .drops + 1) % 2 ^ 64;
+          epoch = (now .counts .epoch + 1) % 2 ^ 64;
+        }
+    page-counted n q = ap countsOf (tlbi-counted ∙ ap (λ (v : Inval). invalCounted v (countersOf (now .counts))) q)
+
+    -- an All one to `flushes` and one to `epoch`
+    pub all-counted : what ≡ All
+        → then .counts
+        ≡ record {
+          hits = now .counts .hits;
+          walks = now .counts .walks;
+          flushes = (now .counts .flushes + 1) % 2 ^ 64;
+          drops = now .counts .drops;
+          epoch = (now .counts .epoch + 1) % 2 ^ 64;
+        }
+    all-counted q = ap countsOf (tlbi-counted ∙ ap (λ (v : Inval). invalCounted v (countersOf (now .counts))) q)
+
+    -- an Asid one to `epoch` alone
+    pub asid-counted : (a : ℕ) → what ≡ Asid a
+        → then .counts
+        ≡ record {
+          hits = now .counts .hits;
+          walks = now .counts .walks;
+          flushes = now .counts .flushes;
+          drops = now .counts .drops;
+          epoch = (now .counts .epoch + 1) % 2 ^ 64;
+        }
+    asid-counted a q = ap countsOf (tlbi-counted ∙ ap (λ (v : Inval). invalCounted v (countersOf (now .counts))) q)
+
+    -- "A second broadcast that differs from the pending one becomes All; an equal one stays": of an Inner Shareable form, whose CRm is 3
+    pub shared-pending : e .crm ≡ 3 → pendingOf (then .broadcast) ≡ joined (pendingOf (now .broadcast)) what
+    unfolding invalidate broadcast
+    shared-pending q =
+        ap (λ (u : Model). u .pending) (tlbi-model ∙ ap carried (eq-eqb (e .crm) 3 q)) ∙ ap (λ (p : Slot Inval). joined p what) model-pending
+
+    -- every other form leaves what is pending
+    pub own-pending : (e .crm ≡ 3 → ⊥) → pendingOf (then .broadcast) ≡ pendingOf (now .broadcast)
+    unfolding invalidate
+    own-pending q = ap (λ (u : Model). u .pending) (tlbi-model ∙ ap carried (ne-eqb (e .crm) 3 q)) ∙ model-pending
+
+  -- REGISTER WRITES, not refused: "where `shaping` changed, it flushes; then, where `asid` differs from the cache's, it retags"
+  pub write-modelled : (key value : ℕ) → missedIn (bareAfter list) m (Register key value) ≡ 0
+      → writtenIn (bareAfter list) key value .answer ≡ Written.Done
+      → live (tlbAfterCall list m (Register key value))
+      ≡ modelRetagged real (asidOf (writtenIn (bareAfter list) key value .control))
+      (modelFlushed real (bareAfter list .control) (writtenIn (bareAfter list) key value .control) model)
+  write-modelled key value passed done =
+      one-step (Register key value) (steps m (does (writes (writtenIn (bareAfter list) key value .control))) ∷ []) (rw (passed, done))
