@@ -5,6 +5,7 @@ pub mod Write
 pub mod Tcr
 pub mod TcrPlaces
 pub mod Shape
+pub mod Parts
 pub mod EncodingLaws
 pub mod WriteLaws
 pub mod ShapeLaws

@@ -3,7 +3,6 @@ use mathlib.Core.Bool.{Bool, true, false, not, _&&_, _||_}
 use mathlib.Core.List.{List, [], _∷_}
 use Prim.Native.Nat.{ℕ}
 use lib.Dec.{eqb}
-use lib.ListN.{getD}
 use Rattle.word.specs.Bits.{field, pick}
 use Rattle.sysreg.specs.declared.regs.Control.{Control}
 use Rattle.sysreg.specs.declared.regs.El.the-variants.{El1, El2, El3}
@@ -35,10 +34,6 @@ outsideShape (At (InControl r)) = not (member shape r)
 abbrev pub agreeOn : List ControlReg → Control → Control → Bool
 agreeOn [] a b = true
 agreeOn (r ∷ rs) a b = eqb (controlAt a r) (controlAt b r) && agreeOn rs a b
-
--- two arrays hold the same at EL1, EL2 and EL3
-abbrev pub sameLevels : List ℕ → List ℕ → Bool
-sameLevels a b = eqb (getD a 1 0) (getD b 1 0) && eqb (getD a 2 0) (getD b 2 0) && eqb (getD a 3 0) (getD b 3 0)
 
 unfoldable pub sameShape : Control → Control → Bool
 sameShape a b = agreeOn shape a b
