@@ -118,7 +118,7 @@ fn show_range(g: Range, p: Params) {
     }
     say::text(b" ");
     say::hex(g.baseregister, 16);
-    say::field(b", TxSZ ", g.size);
+    say::field(b", TxSZ ", g.txsz);
     if g.largegrain {
         say::text(b", granule 64 KiB");
     } else {

@@ -92,16 +92,16 @@ module _ (wxn s : Bool) (a : Permissions) (x : ℕ) where
 
 -- where a walk begins
 module _ (g : Range) (out va : ℕ) (ranged : Bool) (er : ranged ≡ inRange g va) where
-  pub no-walk : (ranged && not (g .disabled)) ≡ false → Refused 4 ≡ beginOf g out va
+  pub no-walk : (not ranged || g .disabled) ≡ true → Refused 4 ≡ beginOf g out va
   unfolding beginOf
   no-walk w = rw (← er, w)
 
-  pub base-beyond : (large : Bool) → (ranged && not (g .disabled)) ≡ true → large ≡ beyond out (g .baseregister) → large ≡ true
+  pub base-beyond : (large : Bool) → (not ranged || g .disabled) ≡ false → large ≡ beyond out (g .baseregister) → large ≡ true
       → Refused 0 ≡ beginOf g out va
   unfolding beginOf
   base-beyond large w el f = rw (← er, w, ← el, f)
 
-  pub begins : (large : Bool) (n t : ℕ) (st : Start) → (ranged && not (g .disabled)) ≡ true → large ≡ beyond out (g .baseregister)
+  pub begins : (large : Bool) (n t : ℕ) (st : Start) → (not ranged || g .disabled) ≡ false → large ≡ beyond out (g .baseregister)
       → large ≡ false → n ≡ inputsize g → n ≤ 48 → st ≡ startOf (g .largegrain) n
       → t ≡ alignDown (g .baseregister % 2 ^ 48) ((3 + n - st .lsb) % 64)
       → At record { tables = 0; table = t; top = n; lsb = st .lsb; level = st .level } ≡ beginOf g out va

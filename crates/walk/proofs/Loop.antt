@@ -1,6 +1,6 @@
 -- The loop over the levels: a step that leads on stands one level lower and ends as before; a step that is done has the walk's answer.
 use mathlib.Core.Path.{_≡_, refl, sym, ap, _∙_, subst}
-use mathlib.Core.Bool.{Bool, true, false, not, _&&_}
+use mathlib.Core.Bool.{Bool, true, false, not, _&&_, _||_}
 use Prim.Native.Nat.{ℕ, zero, suc, _+_, _-_, _*_, _≤_, _<_, _%_, _^_}
 use native.Mathlib.Omega.{arith}
 use Rattle.word.specs.declared.ram.Word.{Word}
@@ -146,21 +146,21 @@ module _ (s : Bank) (r : Regime) (va : ℕ) (memory : ℕ → Word) (g : Range) 
   abbrev Begun : WalkState → Type 0
   Begun w = Standing p w × (walkRange p g va memory ≡ walkFrom (4 - w .level) memory p va (lookupOf p w))
 
-  begun : (w : WalkState) (a b : Bool) → (inRange g va && not (g .disabled)) ≡ a → beyond (p .outputsize) (g .baseregister) ≡ b
+  begun : (w : WalkState) (a b : Bool) → (not (inRange g va) || g .disabled) ≡ a → beyond (p .outputsize) (g .baseregister) ≡ b
       → beginOf g (p .outputsize) va ≡ At w → Begun w
   unfolding beginOf walkRange first
-  begun w false b ea eb e = absurd (refused-at _ w (rw ea at e))
-  begun w true true ea eb e = absurd (refused-at _ w (rw (ea, eb) at e))
-  begun w true false ea eb e =
+  begun w true b ea eb e = absurd (refused-at _ w (rw ea at e))
+  begun w false true ea eb e = absurd (refused-at _ w (rw (ea, eb) at e))
+  begun w false false ea eb e =
       let i : first g ≡ w = at-inj (first g) w (rw (ea, eb) at e) in
       rw (← i, ea, eb) (first-stands p g same-grain, ap (λ (l : Lookup). walkFrom (4 - startlevel g) memory p va l) (first-is p g))
 
-  refused : (n : ℕ) (a b : Bool) → (inRange g va && not (g .disabled)) ≡ a → beyond (p .outputsize) (g .baseregister) ≡ b
+  refused : (n : ℕ) (a b : Bool) → (not (inRange g va) || g .disabled) ≡ a → beyond (p .outputsize) (g .baseregister) ≡ b
       → beginOf g (p .outputsize) va ≡ Refused n → Fault n ≡ walkedOf (p .singlepriv) (p .wxn) (walkRange p g va memory)
   unfolding beginOf walkRange
-  refused n false b ea eb e = rw (ea, ← refused-inj _ n (rw ea at e))
-  refused n true true ea eb e = rw (ea, eb, ← refused-inj _ n (rw (ea, eb) at e))
-  refused n true false ea eb e = absurd (at-refused n _ (rw (ea, eb) at e))
+  refused n true b ea eb e = rw (ea, ← refused-inj _ n (rw ea at e))
+  refused n false true ea eb e = rw (ea, eb, ← refused-inj _ n (rw (ea, eb) at e))
+  refused n false false ea eb e = absurd (at-refused n _ (rw (ea, eb) at e))
 
   walked : walkedOf (p .singlepriv) (p .wxn) (walkRange p g va memory) ≡ walkOf s r va memory
   unfolding walkOf tableWalk paramsOf

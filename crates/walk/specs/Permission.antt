@@ -63,3 +63,13 @@ accessBits g = flag (grants g reading) 1 + flag (grants g writing) 2 + flag (gra
 abbrev pub permissionByte : Bool → Bool → Permissions → ℕ
 permissionByte singlepriv wxn t =
     accessBits (rightsOf singlepriv false wxn t) + accessBits (rightsOf singlepriv true wxn t) * 8
+
+-- the bit of an access: EL0's from 0, the privileged ones from 3
+abbrev pub kindBit : Access → ℕ
+kindBit reading = 0
+kindBit writing = 1
+kindBit fetching = 2
+
+abbrev pub firstBit : Bool → ℕ
+firstBit true = 3
+firstBit false = 0

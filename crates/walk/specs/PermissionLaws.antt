@@ -6,17 +6,8 @@ use native.Mathlib.Omega.{arith}
 use lib.Dec.{eqb}
 use Rattle.word.specs.Bits.{bitOn, flag}
 use Rattle.walk.specs.Permission.{Access, reading, writing, fetching, Rights, grants, rightsOf, allowed, accessBits, permissionByte}
+pub use Rattle.walk.specs.Permission.{kindBit, firstBit}
 use Rattle.walk.specs.declared.rights.Permissions.{Permissions}
-
--- the bit of an access: EL0's from 0, the privileged ones from 3
-abbrev pub kindBit : Access → ℕ
-kindBit reading = 0
-kindBit writing = 1
-kindBit fetching = 2
-
-abbrev pub firstBit : Bool → ℕ
-firstBit true = 3
-firstBit false = 0
 
 flag-one : (b : Bool) → eqb (flag b 1) 1 ≡ b
 flag-one true = refl

@@ -2,9 +2,9 @@
 use mathlib.Core.Path.{_≡_}
 use mathlib.Core.Bool.{Bool, not, _&&_}
 use Prim.Native.Nat.{ℕ, _+_, _-_, _%_, _^_, _≤_, _<_}
-use Rattle.word.specs.Bits.{alignDown, pick}
+use Rattle.word.specs.Bits.{alignDown}
 use Rattle.walk.specs.Descriptor.{apTable0, apTable1, uxnTable, pxnTable}
-use Rattle.walk.specs.Table.{Lookup, Result, Next, deeper, ends, beyond, inputsize, inRange, startlevel, startlevelOf, addrselectbottom, baselowerbound}
+use Rattle.walk.specs.Table.{statusOf, entered, Lookup, Result, Next, deeper, ends, inputsize, startlevel, startlevelOf, addrselectbottom, baselowerbound}
 use Rattle.walk.specs.Walk.{walkedOf}
 use Rattle.walk.specs.declared.range.Range.{Range}
 use Rattle.walk.specs.declared.range.Start.{Start}
@@ -67,8 +67,7 @@ startOf largegrain size =
 -- where the code begins a walk
 unfoldable pub beginOf : Range → ℕ → ℕ → Begin
 beginOf g outputsize va =
-    pick (inRange g va && not (g .disabled))
-    (pick (beyond outputsize (g .baseregister)) (Refused 0)
+    entered outputsize g va (λ f. Refused (statusOf f))
     (At
     record {
       tables = 0;
@@ -76,5 +75,4 @@ beginOf g outputsize va =
       top = inputsize g;
       lsb = addrselectbottom (g .largegrain) (startlevel g);
       level = startlevel g;
-    }))
-    (Refused 4)
+    })

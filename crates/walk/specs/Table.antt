@@ -6,7 +6,8 @@ use lib.Dec.{eqb, ltb}
 use Rattle.word.specs.Bits.{bitOn, field, alignDown, pick}
 use Rattle.word.specs.declared.ram.Word.{Word}
 use Rattle.word.specs.declared.ram.Word.the-variants.{Value, Outside}
-use Rattle.walk.specs.Descriptor.{valid, tableOrPage, attrIndx, ns, ap1, ap2, sh, af, nG, pxn, uxn, pxnTable, uxnTable, apTable0, apTable1}
+use Rattle.sysreg.specs.Tcr.{t0sz, epd0, tg0, t1sz, epd1, tg1, ips, ps}
+use Rattle.walk.specs.Descriptor.{valid, tableOrPage, ap1, ap2, af, nG, pxn, uxn, pxnTable, uxnTable, apTable0, apTable1}
 use Rattle.walk.specs.Regime.{singlePriv, wxnOf}
 use Rattle.walk.specs.Size.{paSize}
 use Rattle.walk.specs.declared.regime.Regime.{Regime}
@@ -33,9 +34,6 @@ pub record Translation : Type 0 where
   pub level : ℕ
   pub perms : Permissions
   pub nG : Bool
-  pub ns : Bool
-  pub sh : ℕ
-  pub attrIndx : ℕ
   pub descriptor : ℕ
 
 pub data Result : Type 0 where
@@ -52,38 +50,42 @@ stride largegrain = grainsize largegrain - 3
 abbrev pub firstblocklevel : Bool → ℕ
 firstblocklevel largegrain = pick largegrain 2 1
 
+-- how many levels a granule has at most
+abbrev pub levelsOf : Bool → ℕ
+levelsOf largegrain = pick largegrain 3 4
+
 -- the range of an address: TTBR0 and TTBR1, T0SZ and T1SZ, EPD0 and EPD1, IPS in EL1&0, by va<55>; TTBR0, T0SZ, PS in EL2 and EL3.
 -- TG0 of '01' and TG1 of '11' are 64 KiB. Departure: every other code is 4 KiB
 abbrev pub lowerRange : Bank → Range
 lowerRange s =
     record {
-      largegrain = eqb (field (s .tcr) 14 2) 1;
+      largegrain = eqb (tg0 (s .tcr)) 0b01;
       baseregister = s .ttbr0;
-      size = s .tcr % 2 ^ 6;
-      disabled = bitOn (s .tcr) 7;
-      ps = field (s .tcr) 32 3;
+      txsz = t0sz (s .tcr);
+      disabled = epd0 (s .tcr);
+      ps = ips (s .tcr);
       upper = false;
     }
 
 abbrev pub upperRange : Bank → Range
 upperRange s =
     record {
-      largegrain = eqb (field (s .tcr) 30 2) 3;
+      largegrain = eqb (tg1 (s .tcr)) 0b11;
       baseregister = s .«ttbr1_el1»;
-      size = field (s .tcr) 16 6;
-      disabled = bitOn (s .tcr) 23;
-      ps = field (s .tcr) 32 3;
+      txsz = t1sz (s .tcr);
+      disabled = epd1 (s .tcr);
+      ps = ips (s .tcr);
       upper = true;
     }
 
 abbrev pub onlyRange : Bank → Range
 onlyRange s =
     record {
-      largegrain = eqb (field (s .tcr) 14 2) 1;
+      largegrain = eqb (tg0 (s .tcr)) 0b01;
       baseregister = s .ttbr0;
-      size = s .tcr % 2 ^ 6;
+      txsz = t0sz (s .tcr);
       disabled = false;
-      ps = field (s .tcr) 16 3;
+      ps = ps (s .tcr);
       upper = false;
     }
 
@@ -94,7 +96,7 @@ rangeOf s El3 va = onlyRange s
 
 -- Departure: TxSZ is held to 16..39
 abbrev pub inputsize : Range → ℕ
-inputsize g = 64 - max 16 (min 39 (g .size))
+inputsize g = 64 - max 16 (min 39 (g .txsz))
 
 -- va<63:inputsize> is all ones in an upper range, and zero in a lower one
 abbrev pub inRange : Range → ℕ → Bool
@@ -189,9 +191,6 @@ leafTranslation p va l desc =
       level = l .level;
       perms = leafPermissions p l desc;
       nG = not (p .singlepriv) && nG desc;
-      ns = ns desc;
-      sh = sh desc;
-      attrIndx = attrIndx desc;
       descriptor = desc;
     }
 
@@ -231,12 +230,15 @@ unfoldable pub walkFrom : ℕ → (ℕ → Word) → Params → ℕ → Lookup �
 walkFrom zero memory p va l = faults (translation 3)
 walkFrom (suc n) memory p va l = onNext (lookupNext memory p va l) (walkFrom n memory p va)
 
+-- the walk's entry: out of range or disabled, a level 0 translation fault; then a base beyond the output size, a level 0 address size fault
+abbrev pub entered : {A : Type 0} → ℕ → Range → ℕ → (Fault → A) → A → A
+entered outputsize g va fault walk =
+    pick (not (inRange g va) || g .disabled) (fault (translation 0))
+    (pick (beyond outputsize (g .baseregister)) (fault (addressSize 0)) walk)
+
 -- the walk of an untagged address in its range
 unfoldable pub walkRange : Params → Range → ℕ → (ℕ → Word) → Result
-walkRange p g va memory =
-    pick (inRange g va && not (g .disabled))
-    (pick (beyond (p .outputsize) (g .baseregister)) (faults (addressSize 0)) (walkFrom (4 - startlevel g) memory p va (firstLookup g)))
-    (faults (translation 0))
+walkRange p g va memory = entered (p .outputsize) g va faults (walkFrom (4 - startlevel g) memory p va (firstLookup g))
 
 unfoldable pub tableWalk : Bank → Regime → ℕ → (ℕ → Word) → Result
 tableWalk s r va memory = walkRange (paramsOf s r (rangeOf s r va)) (rangeOf s r va) va memory

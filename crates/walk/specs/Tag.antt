@@ -2,14 +2,16 @@
 use mathlib.Core.Bool.{Bool, true, false}
 use Prim.Native.Nat.{ℕ, _+_, _-_, _*_, _/_, _%_, _^_}
 use Rattle.word.specs.Bits.{bitOn, pick}
+use Rattle.sysreg.specs.Tcr as fields
+use Rattle.sysreg.specs.Tcr.{tbi0, tbi1}
 use Rattle.walk.specs.declared.regime.Regime.{Regime}
 use Rattle.walk.specs.declared.regime.Regime.the-variants.{El1, El2, El3}
 
 -- TCR_EL1.TBI0 for the lower range, TCR_EL1.TBI1 for the upper one; TCR_ELx.TBI in EL2 and EL3
 abbrev pub tbi : ℕ → Regime → ℕ → Bool
-tbi tcr El1 va = pick (bitOn va 55) (bitOn tcr 38) (bitOn tcr 37)
-tbi tcr El2 va = bitOn tcr 20
-tbi tcr El3 va = bitOn tcr 20
+tbi tcr El1 va = pick (bitOn va 55) (tbi1 tcr) (tbi0 tcr)
+tbi tcr El2 va = fields.tbi tcr
+tbi tcr El3 va = fields.tbi tcr
 
 -- SignExtend(va<55:0>, 64): bit 55 is copied to bits 63 to 56
 abbrev pub signExtend56 : ℕ → ℕ
