@@ -3,8 +3,8 @@ pub mod Regime
 pub mod Tag
 pub mod Size
 pub mod Descriptor
-pub mod Table
 pub mod Permission
+pub mod Table
 pub mod Walk
 -- Worked cases.
 pub mod Cases

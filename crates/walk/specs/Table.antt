@@ -8,6 +8,7 @@ use Rattle.word.specs.declared.ram.Word.{Word}
 use Rattle.word.specs.declared.ram.Word.the-variants.{Value, Outside}
 use Rattle.sysreg.specs.Tcr.{t0sz, epd0, tg0, t1sz, epd1, tg1, ips, ps}
 use Rattle.walk.specs.Descriptor.{valid, tableOrPage, ap1, ap2, af, nG, pxn, uxn, pxnTable, uxnTable, apTable0, apTable1}
+use Rattle.walk.specs.Permission.{underApTable, underXnTable}
 use Rattle.walk.specs.Regime.{singlePriv, wxnOf}
 use Rattle.walk.specs.Size.{paSize}
 use Rattle.walk.specs.declared.regime.Regime.{Regime}
@@ -173,15 +174,28 @@ tableNext p l desc =
 abbrev pub outputaddress : ℕ → ℕ → ℕ → ℕ
 outputaddress bottom va desc = alignDown (desc % 2 ^ 48) bottom + va % 2 ^ bottom
 
--- the tables force read-only, no access from EL0, and no execution. With one privilege level AP<1> is one and PXN is zero
-unfoldable pub leafPermissions : Params → Lookup → ℕ → Permissions
-leafPermissions p l desc =
+-- a leaf's permission attributes under those of the tables above, with two privilege levels
+abbrev pub permissionsTwo : Lookup → ℕ → Permissions
+permissionsTwo l desc =
     record {
-      ap2 = ap2 desc || l .apTable1;
-      ap1 = p .singlepriv || (ap1 desc && not (l .apTable0));
-      xn = uxn desc || l .xnTable;
-      pxn = not (p .singlepriv) && (pxn desc || l .pxnTable);
+      ap2 = underApTable (l .apTable1) (l .apTable0) (ap2 desc) (ap1 desc) .0;
+      ap1 = underApTable (l .apTable1) (l .apTable0) (ap2 desc) (ap1 desc) .1;
+      xn = underXnTable (l .xnTable) (uxn desc);
+      pxn = underXnTable (l .pxnTable) (pxn desc);
     }
+
+-- and with one, where AP[1] is one, PXN is zero, and APTable[0] and PXNTable have no effect
+abbrev pub permissionsOne : Lookup → ℕ → Permissions
+permissionsOne l desc =
+    record {
+      ap2 = underApTable (l .apTable1) false (ap2 desc) true .0;
+      ap1 = true;
+      xn = underXnTable (l .xnTable) (uxn desc);
+      pxn = false;
+    }
+
+unfoldable pub leafPermissions : Params → Lookup → ℕ → Permissions
+leafPermissions p l desc = pick (p .singlepriv) (permissionsOne l desc) (permissionsTwo l desc)
 
 -- with one privilege level nG is zero
 unfoldable pub leafTranslation : Params → ℕ → Lookup → ℕ → Translation

@@ -162,7 +162,7 @@ table-walk-sound s r va memory =
 
 -- the permission byte has six bits
 access-small : (g : Rights) → accessBits g ≤ 7
-access-small g = go (g .r) (g .w) (not (g .xn))
+access-small g = go (g .r) (g .w) (g .x)
   where
     go : (a b c : Bool) → flag a 1 + flag b 2 + flag c 4 ≤ 7
     go true true true = lit≤ tt
