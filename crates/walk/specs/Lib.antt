@@ -6,7 +6,8 @@ pub mod Descriptor
 pub mod Permission
 pub mod Table
 pub mod Walk
--- Worked cases.
+-- Computed places and worked cases.
+pub mod Places
 pub mod Cases
 -- Laws that the crates above cite in place of the definitions.
 pub mod TagLaws

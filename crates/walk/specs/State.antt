@@ -1,4 +1,5 @@
--- How the code keeps the manual's variables: the bits of all table descriptors passed in one word, and the bit at which an index begins.
+-- How the code keeps the manual's variables: the bits of all table descriptors passed in one word, and the bit at which an index begins. These
+-- are the code's own states, for the contracts of its parts; no definition of the walk reads this file.
 use mathlib.Core.Path.{_≡_}
 use mathlib.Core.Bool.{Bool, not, _&&_}
 use Prim.Native.Nat.{ℕ, _+_, _-_, _%_, _^_, _≤_, _<_}
@@ -16,7 +17,7 @@ use Rattle.walk.specs.declared.level.Walked.{Walked}
 use Rattle.walk.specs.declared.level.Step.{Step}
 use Rattle.walk.specs.declared.level.Step.the-variants.{Next as Onward, Done}
 
--- the manual's state that a state of the code stands for
+-- the manual's state that a state of the code stands for. Of `tables` bits 62 to 59 alone count; the others are free
 abbrev pub lookupOf : Params → WalkState → Lookup
 lookupOf p w =
     record {
