@@ -19,3 +19,4 @@ pub mod PageLaws
 pub mod Order
 -- How the code keeps the walk's variables.
 pub mod State
+pub mod Visits

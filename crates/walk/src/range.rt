@@ -167,7 +167,7 @@ fn start_of(largegrain: bool, n: u64) -> Start
 }
 
 // The first table, unless the address is out of range or walks are disabled, or the table lies beyond the output size.
-pub fn begin_walk(g: Range, outputsize: u64, va: u64) -> Begin
+pub(crate) fn begin_walk(g: Range, outputsize: u64, va: u64) -> Begin
     requires { ⌜ outputsize ≤ 44 ⌝ }
     ensures { λ r. ⌜ r ≡ beginOf g outputsize va ⌝ }
 {
