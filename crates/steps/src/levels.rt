@@ -1,24 +1,21 @@
-// The levels of a walk, each shown as it is taken. The steps are the walk's own, and what they come to is proved to be the walk.
+// A walk with each level shown: the tables that the walk reads, and its answer.
 ghost use mathlib.Core.Path.{_≡_};
-ghost use Prim.Native.Nat.{ℕ, _-_, _≤_};
 ghost use Rattle.word.specs.Ram.{wordAt};
-ghost use Rattle.walk.specs.Table.{walkFrom};
-ghost use Rattle.walk.specs.Walk.{walkedOf, walkOf};
-ghost use Rattle.walk.specs.State.{lookupOf, Standing};
+ghost use Rattle.walk.specs.Walk.{walkOf};
 use crate::fields;
 use trace::say;
-use walk::level;
 use walk::level::Leaf;
 use walk::level::Params;
 use walk::level::Step;
 use walk::level::WalkState;
 use walk::level::Walked;
 use walk::range;
-use walk::range::Begin;
 use walk::range::Range;
 use walk::regime::Bank;
 use walk::regime::Regime;
 use walk::table;
+use walk::table::Visit;
+use walk::table::Visited;
 use word::ram;
 use word::ram::Width;
 use word::ram::Word;
@@ -72,42 +69,20 @@ fn show_word(w: WalkState, word: Word, step: Step) {
 }
 
 // One level: the table, the index, the descriptor's address and value, and what it leads to.
-fn show_level(p: Params, w: WalkState, va: u64, base: u64, ram: &[u8], step: Step)
-    requires { ⌜ Standing p w ⌝ }
-{
-    let at = level::descriptor_address(p, w, va);
-    let word = ram::read(base, ram, Width::Double, at);
+fn show_level(v: Visit, base: u64, ram: &[u8]) {
+    let w = v.state;
+    let step = v.step;
+    let word = ram::read(base, ram, Width::Double, v.at);
     say::field(b"level ", w.level as u64);
     say::text(b"    table ");
     say::hex(w.table, 1);
     say::text(b"[");
-    say::hex(std::num::wrapping_sub_u64(at, w.table) / 8, 1);
+    say::hex(std::num::wrapping_sub_u64(v.at, w.table) / 8, 1);
     say::text(b"]  at ");
-    say::hex(at, 1);
+    say::hex(v.at, 1);
     say::text(b"  ");
     show_word(w, word, step);
     say::text(b"\n");
-}
-
-// The walk from the state first, each level shown.
-fn levels(p: Params, first: WalkState, va: u64, base: u64, ram: &[u8]) -> Walked
-    requires { ⌜ Standing p first ⌝ }
-    requires { ⌜ p .outputsize ≤ 44 ⌝ }
-    ensures { λ r. ⌜ r ≡ walkedOf (p .singlepriv) (p .wxn) (walkFrom (4 - first .level) (wordAt base (now (ram .entry)) 8) p va (lookupOf p first)) ⌝ }
-{
-    let mut w = first;
-    loop {
-        let step = table::lookup(p, w, va, base, ram);
-        show_level(p, w, va, base, ram, step);
-        match step {
-            Step::Next(next) => {
-                w = next;
-            }
-            Step::Done(answer) => {
-                break answer;
-            }
-        }
-    }
 }
 
 fn show_range(g: Range, p: Params) {
@@ -118,7 +93,7 @@ fn show_range(g: Range, p: Params) {
     }
     say::text(b" ");
     say::hex(g.baseregister, 16);
-    say::field(b", TxSZ ", g.size);
+    say::field(b", TxSZ ", g.txsz);
     if g.largegrain {
         say::text(b", granule 64 KiB");
     } else {
@@ -132,13 +107,35 @@ fn show_range(g: Range, p: Params) {
     say::text(b"\n");
 }
 
-fn show_refused(code: u8) {
+fn show_refused(answer: Walked) {
     say::text(b"start      ");
-    fields::status(code as u64);
-    if code == 4 {
-        say::text(b": the address is out of range, or walks are disabled\n");
-    } else {
-        say::text(b": the table lies beyond the output size\n");
+    match answer {
+        Walked::Mapped(_) => {}
+        Walked::Fault(code) => {
+            fields::status(code as u64);
+            if code == 4 {
+                say::text(b": the address is out of range, or walks are disabled\n");
+            } else {
+                say::text(b": the table lies beyond the output size\n");
+            }
+        }
+    }
+}
+
+// The tables that the walk reads, each shown; where it reads none, why.
+fn show_levels(s: Bank, regime: Regime, va: u64, base: u64, ram: &[u8], answer: Walked) {
+    let mut n: u8 = 0;
+    while n < 4 {
+        match table::visit_nth(s, regime, va, base, ram, n) {
+            Visited::At(v) => show_level(v, base, ram),
+            Visited::Beyond => {
+                if n == 0 {
+                    show_refused(answer);
+                }
+                return;
+            }
+        }
+        n += 1;
     }
 }
 
@@ -148,12 +145,8 @@ pub fn walk(s: Bank, regime: Regime, va: u64, base: u64, ram: &[u8]) -> Walked
 {
     let g = range::range_of(s, regime, va);
     let p = range::params_of(s, regime, g);
+    let answer = table::walk(s, regime, va, base, ram);
     show_range(g, p);
-    match range::begin_walk(g, p.outputsize, va) {
-        Begin::At(w) => levels(p, w, va, base, ram),
-        Begin::Refused(status) => {
-            show_refused(status);
-            Walked::Fault(status)
-        }
-    }
+    show_levels(s, regime, va, base, ram, answer);
+    answer
 }

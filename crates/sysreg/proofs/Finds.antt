@@ -12,7 +12,8 @@ use Rattle.sysreg.specs.declared.regs.El.the-variants.{El1, El2, El3}
 use Rattle.sysreg.specs.declared.regs.Register.{Register}
 use Rattle.sysreg.specs.declared.encoding.Found.{Found}
 use Rattle.sysreg.specs.declared.encoding.Found.the-variants.{At}
-use Rattle.sysreg.specs.Encoding.{bankedAt, blockOf}
+use Rattle.sysreg.specs.Encoding.{bankedAt}
+use Rattle.sysreg.specs.Parts.{blockOf}
 
 -- whether a number is one of a list
 abbrev pub among : List ℕ → ℕ → Bool

@@ -1,7 +1,8 @@
 -- How the manual encodes each register, and the register that an encoding names.
 use mathlib.Core.Bool.{Bool, true, false}
 use mathlib.Core.List.{List, [], _∷_, _++_}
-use Prim.Native.Nat.{ℕ, _+_, _*_, _^_}
+use Prim.Native.Nat.{ℕ, _+_, _*_, _%_, _^_}
+use lib.Bits.{bitOr}
 use lib.Dec.{eqb}
 use Rattle.word.specs.Bits.{pick}
 use Rattle.sysreg.specs.declared.regs.El.{El}
@@ -19,7 +20,16 @@ use Rattle.sysreg.specs.declared.encoding.Found.the-variants.{At, Nothin
 abbrev pub encode : ℕ → ℕ → ℕ → ℕ → ℕ → ℕ
 encode op0 op1 crn crm op2 = op0 * 2 ^ 14 + op1 * 2 ^ 11 + crn * 2 ^ 7 + crm * 2 ^ 3 + op2
 
--- op0, op1, CRn, CRm and op2 of each register: DDI 0487, its description
+-- x << n in 32 bits
+abbrev pub shifted : ℕ → ℕ → ℕ
+shifted x n = x * 2 ^ n % 2 ^ 32
+
+-- the Rust's `key`, of any five words: shifted and or-ed, none cut to its field. Of fields in range it is `encode` (EncodingLaws, `key-in-range`)
+abbrev pub keyWord : ℕ → ℕ → ℕ → ℕ → ℕ → ℕ
+keyWord op0 op1 crn crm op2 =
+    bitOr (bitOr (bitOr (bitOr (shifted op0 14) (shifted op1 11)) (shifted crn 7)) (shifted crm 3)) op2
+
+-- op0, op1, CRn, CRm and op2 of each register: DDI 0487, its description (from knowledge of the manual; the document itself was not at hand)
 abbrev pub controlKey : ControlReg → ℕ
 controlKey (Sctlr El1) = encode 3 0 1 0 0
 controlKey (Sctlr El2) = encode 3 4 1 0 0
@@ -90,13 +100,3 @@ bankedAt k = find (eachLevel ++ oneLevel) k
 -- any register kept
 unfoldable pub registerAt : ℕ → Found
 registerAt k = pick (eqb k (keyOf (InSys Par))) (At (InSys Par)) (bankedAt k)
-
--- a banked register that one level alone has
-unfoldable pub singleAt : ℕ → Found
-singleAt k = find oneLevel k
-
--- op0:op1 of the registers of a level, as one number
-abbrev pub blockOf : El → ℕ
-blockOf El1 = 3 * 8 + 0
-blockOf El2 = 3 * 8 + 4
-blockOf El3 = 3 * 8 + 6

@@ -2,9 +2,10 @@
 use mathlib.Core.Path.{_≡_, refl, sym, ap, _∙_}
 use mathlib.Core.Bool.{Bool, true, false, _&&_, false≢true}
 use mathlib.Core.List.{List, [], _∷_, _++_}
-use Prim.Native.Nat.{ℕ, _+_, _%_, _^_, _≤_, _<_}
+use Prim.Native.Nat.{ℕ, _+_, _*_, _%_, _^_, _≤_, _<_}
 use native.Mathlib.Nat.{mod-eq-of-lt}
 use native.Mathlib.Omega.{arith}
+use lib.Bits.{bitOr, or-shifted}
 use lib.Dec.{eqb, ltb}
 use borrow.Author.Tests.{eqb-true, le-ltb}
 use Rattle.word.specs.Bits.{pick}
@@ -15,7 +16,7 @@ use Rattle.sysreg.specs.declared.regs.SysReg.the-variants.{Mair, Vbar, E
 use Rattle.sysreg.specs.declared.regs.Register.{Register}
 use Rattle.sysreg.specs.declared.regs.Register.the-variants.{InControl, InSys}
 use Rattle.sysreg.specs.declared.encoding.Found.the-variants.{At, Nothing}
-use Rattle.sysreg.specs.Encoding.{encode, keyOf, find, bankedAt, registerAt, eachLevel, oneLevel}
+use Rattle.sysreg.specs.Encoding.{encode, keyWord, keyOf, find, bankedAt, registerAt, eachLevel, oneLevel}
 
 -- what holds at each level holds at any
 pub by-level : (P : El → Type 0) → P El1 → P El2 → P El3 → (el : El) → P el
@@ -23,11 +24,28 @@ by-level P a b c El1 = a
 by-level P a b c El2 = b
 by-level P a b c El3 = c
 
--- fields within their widths stand in the key as they are
+-- what stands below the bits of a word is or-ed to it by a sum
+below : (x k b y : ℕ) → b < 2 ^ k → y ≡ x * 2 ^ k → bitOr y b ≡ y + b
+below x k b y h e = rw e (or-shifted x k b h)
+
+-- the key of fields within their widths is the encoding
 pub key-in-range : (op0 op1 crn crm op2 : ℕ) → op0 < 4 → op1 < 8 → crn < 16 → crm < 16 → op2 < 8 →
-    encode (op0 % 4) (op1 % 8) (crn % 16) (crm % 16) (op2 % 8) ≡ encode op0 op1 crn crm op2
+    keyWord op0 op1 crn crm op2 ≡ encode op0 op1 crn crm op2
 key-in-range op0 op1 crn crm op2 a b c d e =
-    rw (mod-eq-of-lt a, mod-eq-of-lt b, mod-eq-of-lt c, mod-eq-of-lt d, mod-eq-of-lt e)
+    rw (
+      mod-eq-of-lt {n = op0 * 2 ^ 14} {m = 2 ^ 32} (omega arith),
+      mod-eq-of-lt {n = op1 * 2 ^ 11} {m = 2 ^ 32} (omega arith),
+      mod-eq-of-lt {n = crn * 2 ^ 7} {m = 2 ^ 32} (omega arith),
+      mod-eq-of-lt {n = crm * 2 ^ 3} {m = 2 ^ 32} (omega arith),
+      below op0 14 (op1 * 2 ^ 11) (op0 * 2 ^ 14) (omega arith) refl,
+      below (op0 * 8 + op1) 11 (crn * 2 ^ 7) (op0 * 2 ^ 14 + op1 * 2 ^ 11) (omega arith) (omega arith),
+      below ((op0 * 8 + op1) * 16 + crn) 7 (crm * 2 ^ 3) (op0 * 2 ^ 14 + op1 * 2 ^ 11 + crn * 2 ^ 7) (omega arith) (omega arith),
+      below (((op0 * 8 + op1) * 16 + crn) * 16 + crm) 3 op2 (op0 * 2 ^ 14 + op1 * 2 ^ 11 + crn * 2 ^ 7 + crm * 2 ^ 3) (omega arith) (omega arith),
+    )
+
+-- and outside them the fields run into one another
+pub key-wide : (keyWord 4 0 0 0 0 ≡ 0x10000) × (keyWord 0 8 0 0 0 ≡ 0x4000) × (keyWord 0 0 0 16 0 ≡ 0x80)
+key-wide = (refl, refl, refl)
 
 pub par-key : keyOf (InSys Par) ≡ 0xC3A0
 par-key = refl

@@ -2,7 +2,10 @@
 pub mod Regs
 pub mod Encoding
 pub mod Write
+pub mod Tcr
+pub mod TcrPlaces
 pub mod Shape
+pub mod Parts
 pub mod EncodingLaws
 pub mod WriteLaws
 pub mod ShapeLaws

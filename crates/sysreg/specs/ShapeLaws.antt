@@ -6,7 +6,7 @@ use Prim.Native.Nat.{ℕ, _^_, _<_}
 use native.Mathlib.Omega.{arith}
 use lib.Dec.{eqb}
 use borrow.Author.Tests.{eqb-true, eq-eqb, not-true}
-use Rattle.word.specs.Bits.{bitOn, field, pick}
+use Rattle.word.specs.Bits.{field, pick}
 use Rattle.sysreg.specs.declared.regs.Control.{Control}
 use Rattle.sysreg.specs.declared.regs.SysRegs.{SysRegs}
 use Rattle.sysreg.specs.declared.regs.El.{El}
@@ -23,6 +23,7 @@ use Rattle.sysreg.specs.Encoding.{controlKey, registerAt}
 use Rattle.sysreg.specs.EncodingLaws.{by-level}
 use Rattle.sysreg.specs.Write.{controlWith, ended, wrote, writeFound, writeReg}
 use Rattle.sysreg.specs.WriteLaws.{control-after}
+use Rattle.sysreg.specs.Tcr.{«as»}
 use Rattle.sysreg.specs.Shape.{shape, member, outsideShape, agreeOn, sameShape, asidBase, asidOf}
 
 -- Two settings of one shape agree in all that translation reads but TTBR0_EL1 and TTBR1_EL1.
@@ -91,7 +92,7 @@ shape-self c =
 -- an ASID has at most 16 bits
 pub asid-small : (c : Control) → asidOf c < 2 ^ 16
 unfolding asidOf
-asid-small c = go (bitOn (controlAt c (Tcr El1)) 36)
+asid-small c = go («as» (controlAt c (Tcr El1)))
   where
     go : (b : Bool) → field (asidBase c) 48 (pick b 16 8) < 2 ^ 16
     go true = omega arith

@@ -1,7 +1,8 @@
 // Encodings of system registers, and the register that one names.
 ghost use mathlib.Core.Path.{_≡_};
-ghost use Prim.Native.Nat.{_/_, _%_, _^_};
-ghost use Rattle.sysreg.specs.Encoding.{encode, blockOf, singleAt, bankedAt, registerAt};
+ghost use Prim.Native.Nat.{_/_, _^_};
+ghost use Rattle.sysreg.specs.Encoding.{keyWord, bankedAt, registerAt};
+ghost use Rattle.sysreg.specs.Parts.{blockOf, singleAt};
 use crate::regs::ControlReg;
 use crate::regs::El;
 use crate::regs::Register;
@@ -16,11 +17,11 @@ pub enum Found {
     Nothing,
 }
 
-// The encoding op0:op1:CRn:CRm:op2, as in bits 20 to 5 of MRS and MSR. Of each field only the bits that it has there count.
+// The encoding op0:op1:CRn:CRm:op2, as in bits 20 to 5 of MRS and MSR.
 pub fn key(op0: u32, op1: u32, crn: u32, crm: u32, op2: u32) -> u32
-    ensures { λ r. ⌜ r ≡ encode (op0 % 4) (op1 % 8) (crn % 16) (crm % 16) (op2 % 8) ⌝ }
+    ensures { λ r. ⌜ r ≡ keyWord op0 op1 crn crm op2 ⌝ }
 {
-    (op0 % 4) * 0x4000 + (op1 % 8) * 0x800 + (crn % 16) * 0x80 + (crm % 16) * 8 + op2 % 8
+    (op0 << 14) | (op1 << 11) | (crn << 7) | (crm << 3) | op2
 }
 
 // A register that one level alone has, by its whole encoding.

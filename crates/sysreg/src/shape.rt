@@ -1,6 +1,7 @@
 // What of the registers shapes a translation, and the ASID of the EL1&0 regime.
 ghost use mathlib.Core.Path.{_≡_};
-ghost use Rattle.sysreg.specs.Shape.{sameLevels, sameShape, asidBase, asidOf};
+ghost use Rattle.sysreg.specs.Shape.{sameShape, asidBase, asidOf};
+ghost use Rattle.sysreg.specs.Parts.{sameLevels};
 use crate::regs::Control;
 
 fn same_levels(a: [u64; 4], b: [u64; 4]) -> bool

@@ -11,7 +11,8 @@ use Rattle.walk.specs.Regime.{regimeOf, singlePriv, stage1On, wxnOf}
 use Rattle.walk.specs.Tag.{tbi, tagDropped, untagged}
 use Rattle.walk.specs.Size.{paSize}
 use Rattle.walk.specs.Table.{lowerRange, upperRange, onlyRange, rangeOf, paramsOf, inputsize, inRange, startlevelOf, addrselectbottom, startlevel, baselowerbound, beyond}
-use Rattle.walk.specs.Permission.{permissionByte, accessBits, grants, rightsOf, reading, writing, fetching}
+use Rattle.walk.specs.Permission.{permissionByte, accessBits}
+use Rattle.walk.specs.PermissionLaws.{privileged-rights, user-rights, only-rights}
 use Rattle.walk.specs.State.{startOf, beginOf}
 use Rattle.walk.specs.declared.regime.Regime.{Regime}
 use Rattle.walk.specs.declared.regime.Regime.the-variants.{El1, El2, El3}
@@ -83,25 +84,30 @@ starts g h n l b e el eb = rw (eb, el, e)
 
 -- the permission byte
 module _ (wxn s : Bool) (a : Permissions) (x : ℕ) where
-  pub only-level : s ≡ true → x ≡ accessBits (rightsOf true true wxn a) → x * 8 ≡ permissionByte s wxn a
-  only-level e ex = rw (ex, e) (omega arith)
+  pub only-level : s ≡ true
+      → x ≡ flag true 1 + flag (not (a .ap2)) 2 + flag (not (a .xn || (not (a .ap2) && wxn))) 4
+      → x * 8 ≡ permissionByte s wxn a
+  only-level e ex = rw (ex, e) (omega (arith, ap accessBits (only-rights wxn a)))
 
-  pub both-levels : (y : ℕ) → s ≡ false → x ≡ accessBits (rightsOf false false wxn a) → y ≡ accessBits (rightsOf false true wxn a)
+  pub both-levels : (y : ℕ) → s ≡ false
+      → x ≡ flag (a .ap1) 1 + flag (a .ap1 && not (a .ap2)) 2 + flag (not (a .xn || ((a .ap1 && not (a .ap2)) && wxn))) 4
+      → y ≡ flag true 1 + flag (not (a .ap2)) 2 + flag (not ((a .pxn || (not (a .ap2) && wxn)) || (a .ap1 && not (a .ap2)))) 4
       → x + y * 8 ≡ permissionByte s wxn a
-  both-levels y e ex ey = rw (ex, ey, e)
+  both-levels y e ex ey =
+      rw (ex, ey, e) (omega (arith, ap accessBits (user-rights wxn a), ap accessBits (privileged-rights wxn a)))
 
 -- where a walk begins
 module _ (g : Range) (out va : ℕ) (ranged : Bool) (er : ranged ≡ inRange g va) where
-  pub no-walk : (ranged && not (g .disabled)) ≡ false → Refused 4 ≡ beginOf g out va
+  pub no-walk : (not ranged || g .disabled) ≡ true → Refused 4 ≡ beginOf g out va
   unfolding beginOf
   no-walk w = rw (← er, w)
 
-  pub base-beyond : (large : Bool) → (ranged && not (g .disabled)) ≡ true → large ≡ beyond out (g .baseregister) → large ≡ true
+  pub base-beyond : (large : Bool) → (not ranged || g .disabled) ≡ false → large ≡ beyond out (g .baseregister) → large ≡ true
       → Refused 0 ≡ beginOf g out va
   unfolding beginOf
   base-beyond large w el f = rw (← er, w, ← el, f)
 
-  pub begins : (large : Bool) (n t : ℕ) (st : Start) → (ranged && not (g .disabled)) ≡ true → large ≡ beyond out (g .baseregister)
+  pub begins : (large : Bool) (n t : ℕ) (st : Start) → (not ranged || g .disabled) ≡ false → large ≡ beyond out (g .baseregister)
       → large ≡ false → n ≡ inputsize g → n ≤ 48 → st ≡ startOf (g .largegrain) n
       → t ≡ alignDown (g .baseregister % 2 ^ 48) ((3 + n - st .lsb) % 64)
       → At record { tables = 0; table = t; top = n; lsb = st .lsb; level = st .level } ≡ beginOf g out va

@@ -1,3 +1,4 @@
 pub mod Leaves
 pub mod Levels
 pub mod Loop
+pub mod Visiting

@@ -1,6 +1,6 @@
 -- The loop over the levels: a step that leads on stands one level lower and ends as before; a step that is done has the walk's answer.
 use mathlib.Core.Path.{_≡_, refl, sym, ap, _∙_, subst}
-use mathlib.Core.Bool.{Bool, true, false, not, _&&_}
+use mathlib.Core.Bool.{Bool, true, false, not, _&&_, _||_}
 use Prim.Native.Nat.{ℕ, zero, suc, _+_, _-_, _*_, _≤_, _<_, _%_, _^_}
 use native.Mathlib.Omega.{arith}
 use Rattle.word.specs.declared.ram.Word.{Word}
@@ -24,7 +24,7 @@ use Rattle.walk.specs.declared.level.Step.{Step}
 use Rattle.walk.specs.declared.level.Step.the-variants.{Next as Onward, Done}
 
 -- the two outcomes are apart
-apart : (l : Lookup) (a : Walked) → onward l ≡ answers a → ⊥
+pub apart : (l : Lookup) (a : Walked) → onward l ≡ answers a → ⊥
 apart l a e = let z : _≡_ {A = ℕ} 0 1 = cc in omega arith
 
 onward-inj : (l k : Lookup) → onward l ≡ onward k → l ≡ k
@@ -44,7 +44,7 @@ leads-on : (p : Params) (w v : WalkState) (s : Step) → Leads p w s → s ≡ O
 leads-on p w v (Onward u) (next o) e = rw (onward-state u v e) at o
 leads-on p w v (Done a) stop e = absurd (steps-apart v a e)
 
-is-deeper : (p : Params) (l : Lookup) (n : Next) → onward l ≡ meant p n → n ≡ deeper l
+pub is-deeper : (p : Params) (l : Lookup) (n : Next) → onward l ≡ meant p n → n ≡ deeper l
 is-deeper p l (deeper k) e = ap deeper (sym (onward-inj l k e))
 is-deeper p l (ends r) e = absurd (apart l _ e)
 
@@ -95,16 +95,16 @@ module _ (memory : ℕ → Word) (p : Params) (w : WalkState) (va : ℕ) (s : St
           answers-inj _ _ (rw (n, e, h′) at es)
 
 -- where a walk begins it stands, and what it stands for is the manual's first table
-at-inj : (w v : WalkState) → At w ≡ At v → w ≡ v
+pub at-inj : (w v : WalkState) → At w ≡ At v → w ≡ v
 at-inj w v e = cc
 
-refused-at : (n : ℕ) (w : WalkState) → Refused n ≡ At w → ⊥
+pub refused-at : (n : ℕ) (w : WalkState) → Refused n ≡ At w → ⊥
 refused-at n w e = let z : _≡_ {A = ℕ} 0 1 = cc in omega arith
 
 refused-inj : (n m : ℕ) → Refused n ≡ Refused m → n ≡ m
 refused-inj n m e = cc
 
-at-refused : (n : ℕ) (w : WalkState) → At w ≡ Refused n → ⊥
+pub at-refused : (n : ℕ) (w : WalkState) → At w ≡ Refused n → ⊥
 at-refused n w e = let z : _≡_ {A = ℕ} 0 1 = cc in omega arith
 
 start-stands : (g : Bool) (n : ℕ) → 25 ≤ n → n ≤ 48 → (startlevelOf g n ≤ 3) × (addrselectbottom g (startlevelOf g n) < n)
@@ -116,7 +116,7 @@ and-false true = refl
 and-false false = refl
 
 -- the code's first state
-first : Range → WalkState
+unfoldable pub first : Range → WalkState
 first g =
     record {
       tables = 0;
@@ -133,7 +133,7 @@ first-stands p g e =
     let le = align-le (g .baseregister % 2 ^ 48) (baselowerbound g) in
     record { level = st .0; lsb = rw e; below-top = st .1; top = omega arith; table = omega arith }
 
-first-is : (p : Params) (g : Range) → firstLookup g ≡ lookupOf p (first g)
+pub first-is : (p : Params) (g : Range) → firstLookup g ≡ lookupOf p (first g)
 unfolding first
 first-is p g = simp and-false
 
@@ -146,21 +146,21 @@ module _ (s : Bank) (r : Regime) (va : ℕ) (memory : ℕ → Word) (g : Range) 
   abbrev Begun : WalkState → Type 0
   Begun w = Standing p w × (walkRange p g va memory ≡ walkFrom (4 - w .level) memory p va (lookupOf p w))
 
-  begun : (w : WalkState) (a b : Bool) → (inRange g va && not (g .disabled)) ≡ a → beyond (p .outputsize) (g .baseregister) ≡ b
+  begun : (w : WalkState) (a b : Bool) → (not (inRange g va) || g .disabled) ≡ a → beyond (p .outputsize) (g .baseregister) ≡ b
       → beginOf g (p .outputsize) va ≡ At w → Begun w
   unfolding beginOf walkRange first
-  begun w false b ea eb e = absurd (refused-at _ w (rw ea at e))
-  begun w true true ea eb e = absurd (refused-at _ w (rw (ea, eb) at e))
-  begun w true false ea eb e =
+  begun w true b ea eb e = absurd (refused-at _ w (rw ea at e))
+  begun w false true ea eb e = absurd (refused-at _ w (rw (ea, eb) at e))
+  begun w false false ea eb e =
       let i : first g ≡ w = at-inj (first g) w (rw (ea, eb) at e) in
       rw (← i, ea, eb) (first-stands p g same-grain, ap (λ (l : Lookup). walkFrom (4 - startlevel g) memory p va l) (first-is p g))
 
-  refused : (n : ℕ) (a b : Bool) → (inRange g va && not (g .disabled)) ≡ a → beyond (p .outputsize) (g .baseregister) ≡ b
+  refused : (n : ℕ) (a b : Bool) → (not (inRange g va) || g .disabled) ≡ a → beyond (p .outputsize) (g .baseregister) ≡ b
       → beginOf g (p .outputsize) va ≡ Refused n → Fault n ≡ walkedOf (p .singlepriv) (p .wxn) (walkRange p g va memory)
   unfolding beginOf walkRange
-  refused n false b ea eb e = rw (ea, ← refused-inj _ n (rw ea at e))
-  refused n true true ea eb e = rw (ea, eb, ← refused-inj _ n (rw (ea, eb) at e))
-  refused n true false ea eb e = absurd (at-refused n _ (rw (ea, eb) at e))
+  refused n true b ea eb e = rw (ea, ← refused-inj _ n (rw ea at e))
+  refused n false true ea eb e = rw (ea, eb, ← refused-inj _ n (rw (ea, eb) at e))
+  refused n false false ea eb e = absurd (at-refused n _ (rw (ea, eb) at e))
 
   walked : walkedOf (p .singlepriv) (p .wxn) (walkRange p g va memory) ≡ walkOf s r va memory
   unfolding walkOf tableWalk paramsOf

@@ -8,8 +8,7 @@ use Rattle.word.specs.Ram.{wordAt, littleEndian, bytesOf}
 use Rattle.walk.specs.Tag.{untagged}
 use Rattle.walk.specs.Size.{paSize}
 use Rattle.walk.specs.Table.{rangeOf, paramsOf, tableNext, leafPermissions, leafTranslation, leafResult, levelNext, descaddr, lookupNext, walkFrom, walkRange, tableWalk}
-use Rattle.walk.specs.Permission.{Access, reading, writing, fetching}
-use Rattle.walk.specs.PermissionLaws.{kindBit, firstBit}
+use Rattle.walk.specs.Permission.{Access, reading, writing, fetching, kindBit, firstBit}
 use Rattle.walk.specs.Walk.{walkOf}
 use Rattle.walk.specs.declared.regime.Regime.the-variants.{El1}
 use Rattle.walk.specs.declared.regime.Bank.{Bank}

@@ -1,6 +1,6 @@
 -- The descriptors that a walk fetches. A walk sees of memory only these, and there are few.
 use mathlib.Core.Path.{_≡_, refl, ap}
-use mathlib.Core.Bool.{Bool, true, false, not, _&&_}
+use mathlib.Core.Bool.{Bool, true, false, not, _||_}
 use mathlib.Core.List.{List, [], _∷_, List·Memᴰ, List·Memᴰ·head, List·Memᴰ·tail}
 use Prim.Native.Nat.{ℕ, zero, suc, _+_, _-_, _≤_, _<_, zero-le, suc-le-suc}
 use native.Mathlib.Nat.{le-trans}
@@ -9,9 +9,9 @@ use Rattle.word.specs.Bits.{pick}
 use Rattle.word.specs.Ram.{wordAt}
 use Rattle.word.specs.RamLaws.{word-agree}
 use Rattle.word.specs.declared.ram.Word.{Word}
-use Rattle.walk.specs.Table.{Result, faults, addressSize, translation, inRange, beyond, startlevel, Lookup, Next, deeper, ends, firstLookup, rangeOf, paramsOf, descaddr, lookupNext, onNext, walkFrom, walkRange, tableWalk}
+use Rattle.walk.specs.Table.{Result, faults, addressSize, translation, inRange, beyond, startlevel, levelsOf, entered, Lookup, Next, deeper, ends, firstLookup, rangeOf, paramsOf, descaddr, lookupNext, onNext, walkFrom, walkRange, tableWalk}
 use Rattle.walk.specs.Walk.{walkOf}
-use Rattle.walk.specs.SizeLaws.{levelsOf, level-count}
+use Rattle.walk.specs.SizeLaws.{level-count}
 use Rattle.walk.specs.declared.regime.Regime.{Regime}
 use Rattle.walk.specs.declared.regime.Bank.{Bank}
 use Rattle.walk.specs.declared.range.Range.{Range}
@@ -27,10 +27,7 @@ fetchesFrom zero memory p va l = []
 fetchesFrom (suc n) memory p va l = descaddr p va l ∷ afterNext (lookupNext memory p va l) (fetchesFrom n memory p va)
 
 unfoldable pub fetchesRange : Params → Range → ℕ → (ℕ → Word) → List ℕ
-fetchesRange p g va memory =
-    pick (inRange g va && not (g .disabled))
-    (pick (beyond (p .outputsize) (g .baseregister)) [] (fetchesFrom (4 - startlevel g) memory p va (firstLookup g)))
-    []
+fetchesRange p g va memory = entered (p .outputsize) g va (λ f. []) (fetchesFrom (4 - startlevel g) memory p va (firstLookup g))
 
 -- those of the whole walk
 unfoldable pub fetchesOf : Bank → Regime → ℕ → (ℕ → Word) → List ℕ
@@ -81,7 +78,7 @@ module _ (m m′ : ℕ → Word) (p : Params) (va : ℕ) where
   range-agrees : (g : Range) → Agree m m′ (fetchesRange p g va m)
       → (walkRange p g va m ≡ walkRange p g va m′) × (fetchesRange p g va m ≡ fetchesRange p g va m′)
   unfolding walkRange fetchesRange
-  range-agrees g = go (inRange g va && not (g .disabled)) (beyond (p .outputsize) (g .baseregister))
+  range-agrees g = go (not (inRange g va) || g .disabled) (beyond (p .outputsize) (g .baseregister))
     where
       from : (ℕ → Word) → Result
       from memory = walkFrom (4 - startlevel g) memory p va (firstLookup g)
@@ -90,13 +87,13 @@ module _ (m m′ : ℕ → Word) (p : Params) (va : ℕ) where
       list memory = fetchesFrom (4 - startlevel g) memory p va (firstLookup g)
 
       go : (a b : Bool)
-          → Agree m m′ (pick a (pick b [] (list m)) [])
-          → (pick a (pick b (faults (addressSize 0)) (from m)) (faults (translation 0))
-          ≡ pick a (pick b (faults (addressSize 0)) (from m′)) (faults (translation 0)))
-          × (pick a (pick b [] (list m)) [] ≡ pick a (pick b [] (list m′)) [])
-      go true true h = (refl, refl)
-      go true false h = from-agrees (4 - startlevel g) (firstLookup g) h
-      go false b h = (refl, refl)
+          → Agree m m′ (pick a [] (pick b [] (list m)))
+          → (pick a (faults (translation 0)) (pick b (faults (addressSize 0)) (from m))
+          ≡ pick a (faults (translation 0)) (pick b (faults (addressSize 0)) (from m′)))
+          × (pick a [] (pick b [] (list m)) ≡ pick a [] (pick b [] (list m′)))
+      go true b h = (refl, refl)
+      go false true h = (refl, refl)
+      go false false h = from-agrees (4 - startlevel g) (firstLookup g) h
 
 -- memories that agree where the walk fetches give one walk
 pub agrees : (s : Bank) (r : Regime) (va : ℕ) (m m′ : ℕ → Word) → Agree m m′ (fetchesOf s r va m) → walkOf s r va m ≡ walkOf s r va m′
@@ -120,12 +117,12 @@ few-from (suc n) m p va l = go (lookupNext m p va l) (few-from n m p va)
 
 few-range : (p : Params) (g : Range) (va : ℕ) (m : ℕ → Word) → length (fetchesRange p g va m) ≤ levelsOf (g .largegrain)
 unfolding fetchesRange
-few-range p g va m = go (inRange g va && not (g .disabled)) (beyond (p .outputsize) (g .baseregister))
+few-range p g va m = go (not (inRange g va) || g .disabled) (beyond (p .outputsize) (g .baseregister))
   where
-    go : (a b : Bool) → length (pick a (pick b [] (fetchesFrom (4 - startlevel g) m p va (firstLookup g))) []) ≤ levelsOf (g .largegrain)
-    go true true = zero-le
-    go true false = le-trans (few-from (4 - startlevel g) m p va (firstLookup g)) (level-count g)
-    go false b = zero-le
+    go : (a b : Bool) → length (pick a [] (pick b [] (fetchesFrom (4 - startlevel g) m p va (firstLookup g)))) ≤ levelsOf (g .largegrain)
+    go true b = zero-le
+    go false true = zero-le
+    go false false = le-trans (few-from (4 - startlevel g) m p va (firstLookup g)) (level-count g)
 
 -- at most four descriptors with a granule of 4 KiB, three with one of 64 KiB
 pub few-fetches : (s : Bank) (r : Regime) (va : ℕ) (m : ℕ → Word) → length (fetchesOf s r va m) ≤ levelsOf (rangeOf s r va .largegrain)

@@ -3,10 +3,11 @@ pub mod Regime
 pub mod Tag
 pub mod Size
 pub mod Descriptor
-pub mod Table
 pub mod Permission
+pub mod Table
 pub mod Walk
--- Worked cases.
+-- Computed places and worked cases.
+pub mod Places
 pub mod Cases
 -- Laws that the crates above cite in place of the definitions.
 pub mod TagLaws
@@ -18,3 +19,4 @@ pub mod PageLaws
 pub mod Order
 -- How the code keeps the walk's variables.
 pub mod State
+pub mod Visits

@@ -160,10 +160,6 @@ record Stage (s : Bank) (r : Regime) (va : ℕ) (memory : ℕ → Word) (l : Loo
   level : l .level ≤ 3
   walk : tableWalk s r va memory ≡ walkFrom (4 - l .level) memory (paramsAt s r va) va l
 
-and-false : (a : Bool) → (a && false) ≡ false
-and-false true = refl
-and-false false = refl
-
 module _ (s : Bank) (r : Regime) (va : ℕ) (memory : ℕ → Word) where
   -- Walk entry, out of range: 0x04, and nothing is fetched
   pub out-of-range : inRange (rangeOf s r va) va ≡ false → (walkOf s r va memory ≡ Faulted 0x04) × (fetchesOf s r va memory ≡ [])
@@ -173,7 +169,7 @@ module _ (s : Bank) (r : Regime) (va : ℕ) (memory : ℕ → Word) where
   -- Walk entry, EPD set: 0x04, and nothing is fetched
   pub range-disabled : rangeOf s r va .disabled ≡ true → (walkOf s r va memory ≡ Faulted 0x04) × (fetchesOf s r va memory ≡ [])
   unfolding walkOf tableWalk walkRange fetchesOf fetchesRange
-  range-disabled e = rw (e, and-false (inRange (rangeOf s r va) va)) (refl, refl)
+  range-disabled e = rw (e, or-true (not (inRange (rangeOf s r va) va))) (refl, refl)
 
   -- Walk entry, base beyond the output size: 0x00, and nothing is fetched
   pub base-too-large : inRange (rangeOf s r va) va ≡ true → rangeOf s r va .disabled ≡ false

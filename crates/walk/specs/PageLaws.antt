@@ -46,9 +46,6 @@ pagedFound t =
       level = t .level;
       perms = t .perms;
       nG = t .nG;
-      ns = t .ns;
-      sh = t .sh;
-      attrIndx = t .attrIndx;
       descriptor = t .descriptor;
     }
 
@@ -145,15 +142,15 @@ module _ (va vb : ℕ) (same : va / 2 ^ 12 ≡ vb / 2 ^ 12) where
     unfolding walkRange
     range-page g memory =
         let h : 12 ≤ inputsize g = omega (arith, input-low g) in
-        rw (above (inputsize g) h) (go (inRange g vb && not (g .disabled)) (beyond (p .outputsize) (g .baseregister)))
+        rw (above (inputsize g) h) (go (not (inRange g vb) || g .disabled) (beyond (p .outputsize) (g .baseregister)))
       where
         result : Bool → Bool → ℕ → Result
-        result a b v = pick a (pick b (faults (addressSize 0)) (walkFrom (4 - startlevel g) memory p v (firstLookup g))) (faults (translation 0))
+        result a b v = pick a (faults (translation 0)) (pick b (faults (addressSize 0)) (walkFrom (4 - startlevel g) memory p v (firstLookup g)))
 
         go : (a b : Bool) → pagedResult (result a b va) ≡ pagedResult (result a b vb)
-        go true true = refl
-        go true false = from-page (4 - startlevel g) memory (firstLookup g)
-        go false b = refl
+        go true b = refl
+        go false true = refl
+        go false false = from-page (4 - startlevel g) memory (firstLookup g)
 
     fetches-page : (n : ℕ) (memory : ℕ → Word) (l : Lookup) → fetchesFrom n memory p va l ≡ fetchesFrom n memory p vb l
     unfolding fetchesFrom

@@ -1,22 +1,118 @@
--- Bit k of the permission byte is set exactly where the permission check allows that access.
+-- The permission tables as the pseudocode's expressions; and: bit k of the permission byte is set exactly where the permission check allows that
+-- access.
 use mathlib.Core.Path.{_≡_, refl, sym, ap, _∙_}
-use mathlib.Core.Bool.{Bool, true, false}
+use mathlib.Core.Bool.{Bool, true, false, not, _&&_, _||_}
 use Prim.Native.Nat.{ℕ, _+_, _*_, _/_, _%_, _^_, _≤_, _<_}
 use native.Mathlib.Omega.{arith}
 use lib.Dec.{eqb}
-use Rattle.word.specs.Bits.{bitOn, flag}
-use Rattle.walk.specs.Permission.{Access, reading, writing, fetching, Rights, grants, rightsOf, allowed, accessBits, permissionByte}
+use Rattle.word.specs.Bits.{bitOn, flag, pick}
+use Rattle.walk.specs.Descriptor.{ap1, ap2, pxn, uxn}
+use Rattle.walk.specs.Permission.{Access, reading, writing, fetching, DataAccess, dataAccess, dataAccessOnly, executeEl1, executeEl0, executeOnly, underApTable, underXnTable, Rights, rights, grants, rightsOf, allowed, accessBits, permissionByte}
+use Rattle.walk.specs.Table.{Lookup, leafPermissions, permissionsOne, permissionsTwo}
+pub use Rattle.walk.specs.Permission.{kindBit, firstBit}
+use Rattle.walk.specs.declared.level.Params.{Params}
 use Rattle.walk.specs.declared.rights.Permissions.{Permissions}
 
--- the bit of an access: EL0's from 0, the privileged ones from 3
-abbrev pub kindBit : Access → ℕ
-kindBit reading = 0
-kindBit writing = 1
-kindBit fetching = 2
+-- AArch64.CheckPermission: r, w, and xn negated
+abbrev made : Bool → Bool → Bool → Rights
+made r w x = record { r = r; w = w; x = x }
 
-abbrev pub firstBit : Bool → ℕ
-firstBit true = 3
-firstBit false = 0
+module _ (wxn : Bool) (t : Permissions) where
+  -- EL1: priv_r, priv_w, priv_xn
+  pub privileged-rights : rightsOf false true wxn t
+      ≡ made true (not (t .ap2)) (not ((t .pxn || (not (t .ap2) && wxn)) || (t .ap1 && not (t .ap2))))
+  privileged-rights = go (t .ap2) (t .ap1) (t .pxn) wxn
+    where
+      go : (a2 a1 x n : Bool) → rights (dataAccess a2 a1 .0) (executeEl1 x a2 a1 n)
+          ≡ made true (not a2) (not ((x || (not a2 && n)) || (a1 && not a2)))
+      go true true true n = refl
+      go true true false n = refl
+      go true false true n = refl
+      go true false false n = refl
+      go false true true n = refl
+      go false true false true = refl
+      go false true false false = refl
+      go false false true n = refl
+      go false false false true = refl
+      go false false false false = refl
+
+  -- EL0: user_r, user_w, user_xn
+  pub user-rights : rightsOf false false wxn t
+      ≡ made (t .ap1) (t .ap1 && not (t .ap2)) (not (t .xn || ((t .ap1 && not (t .ap2)) && wxn)))
+  user-rights = go (t .ap2) (t .ap1) (t .xn) wxn
+    where
+      go : (a2 a1 x n : Bool) → rights (dataAccess a2 a1 .1) (executeEl0 x a2 a1 n)
+          ≡ made a1 (a1 && not a2) (not (x || ((a1 && not a2) && n)))
+      go true true true n = refl
+      go true true false n = refl
+      go true false true n = refl
+      go true false false n = refl
+      go false true true n = refl
+      go false true false true = refl
+      go false true false false = refl
+      go false false true n = refl
+      go false false false n = refl
+
+  -- EL2 and EL3: r, w, xn
+  pub only-rights : rightsOf true true wxn t ≡ made true (not (t .ap2)) (not (t .xn || (not (t .ap2) && wxn)))
+  only-rights = go (t .ap2) (t .xn) wxn
+    where
+      go : (a2 x n : Bool) → rights (dataAccessOnly a2) (executeOnly x a2 n) ≡ made true (not a2) (not (x || (not a2 && n)))
+      go true true n = refl
+      go true false n = refl
+      go false true n = refl
+      go false false true = refl
+      go false false false = refl
+
+-- AArch64.TranslationTableWalk's last lines: AP<2> OR ap_table<1>, AP<1> AND NOT ap_table<0>, xn OR xn_table, pxn OR pxn_table
+under-ap2 : (t1 t0 a2 a1 : Bool) → underApTable t1 t0 a2 a1 .0 ≡ (a2 || t1)
+under-ap2 true true true a1 = refl
+under-ap2 true true false a1 = refl
+under-ap2 true false true a1 = refl
+under-ap2 true false false a1 = refl
+under-ap2 false true true a1 = refl
+under-ap2 false true false a1 = refl
+under-ap2 false false true a1 = refl
+under-ap2 false false false a1 = refl
+
+under-ap1 : (t1 t0 a2 a1 : Bool) → underApTable t1 t0 a2 a1 .1 ≡ (a1 && not t0)
+under-ap1 true true a2 true = refl
+under-ap1 true true a2 false = refl
+under-ap1 true false a2 true = refl
+under-ap1 true false a2 false = refl
+under-ap1 false true a2 true = refl
+under-ap1 false true a2 false = refl
+under-ap1 false false a2 true = refl
+under-ap1 false false a2 false = refl
+
+under-xn : (t x : Bool) → underXnTable t x ≡ (x || t)
+under-xn true true = refl
+under-xn true false = refl
+under-xn false true = refl
+under-xn false false = refl
+
+abbrev attributes : Bool → Bool → Bool → Bool → Permissions
+attributes a2 a1 x p = record { ap2 = a2; ap1 = a1; xn = x; pxn = p }
+
+pub leaf-attributes : (p : Params) (l : Lookup) (desc : ℕ)
+    → leafPermissions p l desc
+    ≡ attributes (ap2 desc || l .apTable1) (p .singlepriv || (ap1 desc && not (l .apTable0))) (uxn desc || l .xnTable)
+    (not (p .singlepriv) && (pxn desc || l .pxnTable))
+unfolding leafPermissions
+leaf-attributes p l desc = go (p .singlepriv)
+  where
+    x : underXnTable (l .xnTable) (uxn desc) ≡ (uxn desc || l .xnTable)
+    x = under-xn (l .xnTable) (uxn desc)
+
+    go : (s : Bool) → pick s (permissionsOne l desc) (permissionsTwo l desc)
+        ≡ attributes (ap2 desc || l .apTable1) (s || (ap1 desc && not (l .apTable0))) (uxn desc || l .xnTable) (not s && (pxn desc || l .pxnTable))
+    go true = let a = under-ap2 (l .apTable1) false (ap2 desc) true in let b = x in cc
+    go false =
+        let a = under-ap2 (l .apTable1) (l .apTable0) (ap2 desc) (ap1 desc) in
+        let b = under-ap1 (l .apTable1) (l .apTable0) (ap2 desc) (ap1 desc) in
+        let c = x in
+        let d = under-xn (l .pxnTable) (pxn desc) in
+        cc
 
 flag-one : (b : Bool) → eqb (flag b 1) 1 ≡ b
 flag-one true = refl

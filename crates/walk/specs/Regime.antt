@@ -1,4 +1,6 @@
--- The translation regimes, and what turns stage 1 on: DDI 0487, D5.2. A `Bank` holds the registers of one regime.
+-- The translation regimes, and what turns stage 1 on: DDI 0487, S1TranslationRegime and AArch64.FirstStageTranslate of ARMv8.0. Written from
+-- knowledge of them; the document itself was not at hand. Letters with a number are rows of docs/DIFFERENCES.md. A `Bank` holds the registers of one
+-- regime.
 use mathlib.Core.Bool.{Bool, true, false, not, _&&_, _||_}
 use Prim.Native.Nat.{ℕ}
 use lib.Dec.{eqb}
@@ -12,7 +14,8 @@ use Rattle.walk.specs.declared.regime.Regime.{Regime}
 use Rattle.walk.specs.declared.regime.Regime.the-variants.{El1, El2, El3}
 use Rattle.walk.specs.declared.regime.Bank.{Bank}
 
--- the regime of an exception level: EL0 shares that of EL1
+-- the regime of an exception level: EL0 shares that of EL1. M15: v8.0 has no EL2 in Secure state, and so no such regime there. M12: SCR_EL3.RW and
+-- HCR_EL2.RW would make it AArch32's
 abbrev pub regimeOf : ℕ → Regime
 regimeOf level = pick (eqb level 2) El2 (pick (eqb level 3) El3 El1)
 
@@ -57,7 +60,9 @@ tge s = bitOn (s .«hcr_el2») 27
 abbrev pub dc : Bank → Bool
 dc s = bitOn (s .«hcr_el2») 12
 
--- stage 1 is on by SCTLR_ELx.M; in Non-secure state TGE and DC turn that of EL1&0 off
+-- stage 1 is on by SCTLR_ELx.M; in Non-secure state TGE and DC turn that of EL1&0 off. M3, M4: HCR_EL2.VM, and DC, would turn stage 2 on there.
+-- A3, A4: with stage 1 off AArch64.TranslateAddressS1Off would fault an address beyond the implemented size and drop a tag; the address itself is
+-- the answer here
 abbrev pub stage1On : Bank → Regime → Bool
 stage1On s El1 = mmuOn s && not (nonSecure s && (tge s || dc s))
 stage1On s El2 = mmuOn s

@@ -1,7 +1,8 @@
--- The output address size: TCR_EL1.IPS and TCR_ELx.PS, and what the A72 implements.
+-- The output address size: DDI 0487, TCR_EL1.IPS and TCR_ELx.PS as AArch64.TranslationTableWalk of ARMv8.0 reads them, and what the A72 implements.
+-- Written from knowledge of them; the document itself was not at hand.
 use Prim.Native.Nat.{ℕ, zero, suc, min}
 
--- the number of bits that a code names; the reserved codes above 5 count as 5
+-- the number of bits that a code names; O2 (docs/DIFFERENCES.md): the reserved codes above 5 count as 5
 abbrev pub psBits : ℕ → ℕ
 psBits zero = 32
 psBits (suc zero) = 36
@@ -14,6 +15,6 @@ psBits (suc (suc (suc (suc (suc n))))) = 48
 abbrev pub paMax : ℕ
 paMax = 44
 
--- never more than the implemented size
+-- never more than the implemented size. O2: so codes 5 to 7 are 44 bits
 unfoldable pub paSize : ℕ → ℕ
 paSize code = min (psBits code) paMax

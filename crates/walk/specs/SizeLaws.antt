@@ -2,9 +2,8 @@
 use mathlib.Core.Bool.{Bool, true, false}
 use Prim.Native.Nat.{ℕ, zero, suc, _-_, _≤_}
 use native.Mathlib.Omega.{arith}
-use Rattle.word.specs.Bits.{pick}
 use Rattle.walk.specs.Size.{paSize}
-use Rattle.walk.specs.Table.{firstblocklevel, inputsize, startlevelOf, startlevel, addrselectbottom}
+use Rattle.walk.specs.Table.{firstblocklevel, levelsOf, inputsize, startlevelOf, startlevel, addrselectbottom}
 use Rattle.walk.specs.declared.range.Range.{Range}
 
 -- an output address has at least 32 bits
@@ -51,14 +50,10 @@ pub index-above-page : (g : Bool) (n : ℕ) → 12 ≤ addrselectbottom g n
 index-above-page true n = omega arith
 index-above-page false n = omega arith
 
--- how many levels a granule has
-abbrev pub levelsOf : Bool → ℕ
-levelsOf largegrain = pick largegrain 3 4
-
 levels-within : (g : Bool) (n : ℕ) → n ≤ 48 → 4 - startlevelOf g n ≤ levelsOf g
 levels-within true n h = omega arith
 levels-within false n h = omega arith
 
--- and a walk goes through at most those
+-- a walk goes through at most the levels that its granule has
 pub level-count : (g : Range) → 4 - startlevel g ≤ levelsOf (g .largegrain)
 level-count g = levels-within (g .largegrain) (inputsize g) (input-high g)

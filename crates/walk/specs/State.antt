@@ -1,10 +1,11 @@
--- How the code keeps the manual's variables: the bits of all table descriptors passed in one word, and the bit at which an index begins.
+-- How the code keeps the manual's variables: the bits of all table descriptors passed in one word, and the bit at which an index begins. These
+-- are the code's own states, for the contracts of its parts; no definition of the walk reads this file.
 use mathlib.Core.Path.{_≡_}
 use mathlib.Core.Bool.{Bool, not, _&&_}
 use Prim.Native.Nat.{ℕ, _+_, _-_, _%_, _^_, _≤_, _<_}
-use Rattle.word.specs.Bits.{alignDown, pick}
+use Rattle.word.specs.Bits.{alignDown}
 use Rattle.walk.specs.Descriptor.{apTable0, apTable1, uxnTable, pxnTable}
-use Rattle.walk.specs.Table.{Lookup, Result, Next, deeper, ends, beyond, inputsize, inRange, startlevel, startlevelOf, addrselectbottom, baselowerbound}
+use Rattle.walk.specs.Table.{statusOf, entered, Lookup, Result, Next, deeper, ends, inputsize, startlevel, startlevelOf, addrselectbottom, baselowerbound}
 use Rattle.walk.specs.Walk.{walkedOf}
 use Rattle.walk.specs.declared.range.Range.{Range}
 use Rattle.walk.specs.declared.range.Start.{Start}
@@ -16,7 +17,7 @@ use Rattle.walk.specs.declared.level.Walked.{Walked}
 use Rattle.walk.specs.declared.level.Step.{Step}
 use Rattle.walk.specs.declared.level.Step.the-variants.{Next as Onward, Done}
 
--- the manual's state that a state of the code stands for
+-- the manual's state that a state of the code stands for. Of `tables` bits 62 to 59 alone count; the others are free
 abbrev pub lookupOf : Params → WalkState → Lookup
 lookupOf p w =
     record {
@@ -67,8 +68,7 @@ startOf largegrain size =
 -- where the code begins a walk
 unfoldable pub beginOf : Range → ℕ → ℕ → Begin
 beginOf g outputsize va =
-    pick (inRange g va && not (g .disabled))
-    (pick (beyond outputsize (g .baseregister)) (Refused 0)
+    entered outputsize g va (λ f. Refused (statusOf f))
     (At
     record {
       tables = 0;
@@ -76,5 +76,4 @@ beginOf g outputsize va =
       top = inputsize g;
       lsb = addrselectbottom (g .largegrain) (startlevel g);
       level = startlevel g;
-    }))
-    (Refused 4)
+    })

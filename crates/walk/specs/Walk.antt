@@ -1,4 +1,4 @@
--- The walk as the code's own types hold it.
+-- The walk as the code's own types hold it: what is left of `Table`'s result once the permission byte of `Permission` stands for the attributes.
 use mathlib.Core.Bool.{Bool, not}
 use Prim.Native.Nat.{ℕ}
 use Rattle.word.specs.declared.ram.Word.{Word}
@@ -11,7 +11,8 @@ use Rattle.walk.specs.declared.level.Leaf.{Leaf}
 use Rattle.walk.specs.declared.level.Walked.{Walked}
 use Rattle.walk.specs.declared.level.Walked.the-variants.{Mapped, Fault}
 
--- a leaf keeps the output address, the permission byte, the level, whether it holds for every ASID, and its descriptor
+-- a leaf keeps the output address, the permission byte, the level, whether it holds for every ASID, and its descriptor. M1 (docs/DIFFERENCES.md): in
+-- Secure EL1&0 NSTable would make it hold for one ASID alone
 abbrev pub leafOf : Bool → Bool → Translation → Leaf
 leafOf singlepriv wxn t =
     record {

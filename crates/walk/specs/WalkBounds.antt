@@ -145,14 +145,14 @@ module _ (p : Params) (low : 32 ≤ p .outputsize) (high : p .outputsize ≤ 44)
 
   range-sound : (g : Range) (memory : ℕ → Word) → Sound va (walkRange p g va memory)
   unfolding walkRange
-  range-sound g memory = go (inRange g va && not (g .disabled)) (beyond (p .outputsize) (g .baseregister))
+  range-sound g memory = go (not (inRange g va) || g .disabled) (beyond (p .outputsize) (g .baseregister))
     where
       go : (a b : Bool)
           → Sound va
-          (pick a (pick b (faults (addressSize 0)) (walkFrom (4 - startlevel g) memory p va (firstLookup g))) (faults (translation 0)))
-      go true true = omega arith
-      go true false = from-sound (4 - startlevel g) memory (firstLookup g) (start-level g)
-      go false b = omega arith
+          (pick a (faults (translation 0)) (pick b (faults (addressSize 0)) (walkFrom (4 - startlevel g) memory p va (firstLookup g))))
+      go true b = omega arith
+      go false true = omega arith
+      go false false = from-sound (4 - startlevel g) memory (firstLookup g) (start-level g)
 
 -- every walk of the manual's ends in a leaf or a fault of the table of answers
 pub table-walk-sound : (s : Bank) (r : Regime) (va : ℕ) (memory : ℕ → Word) → Sound va (tableWalk s r va memory)
@@ -162,7 +162,7 @@ table-walk-sound s r va memory =
 
 -- the permission byte has six bits
 access-small : (g : Rights) → accessBits g ≤ 7
-access-small g = go (g .r) (g .w) (not (g .xn))
+access-small g = go (g .r) (g .w) (g .x)
   where
     go : (a b c : Bool) → flag a 1 + flag b 2 + flag c 4 ≤ 7
     go true true true = lit≤ tt

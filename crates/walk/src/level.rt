@@ -80,7 +80,7 @@ pub(crate) fn too_large(x: u64, n: u64) -> bool
 }
 
 // The address of the descriptor that va selects.
-pub fn descriptor_address(p: Params, w: WalkState, va: u64) -> u64
+pub(crate) fn descriptor_address(p: Params, w: WalkState, va: u64) -> u64
     requires { ⌜ Standing p w ⌝ }
     ensures { λ r. ⌜ r ≡ descaddr p va (lookupOf p w) ⌝ }
 {

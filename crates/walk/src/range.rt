@@ -18,8 +18,7 @@ pub struct Range {
     pub largegrain: bool,
     // TTBR0 or TTBR1
     pub baseregister: u64,
-    // TxSZ
-    pub size: u64,
+    pub txsz: u64,
     // EPD: walks of the range fault
     pub disabled: bool,
     // IPS or PS
@@ -46,7 +45,7 @@ fn lower_range(s: Bank) -> Range
     Range {
         largegrain: (s.tcr >> 14) % 4 == 1,
         baseregister: s.ttbr0,
-        size: s.tcr % 64,
+        txsz: s.tcr % 64,
         disabled: (s.tcr >> 7) % 2 == 1,
         ps: (s.tcr >> 32) % 8,
         upper: false,
@@ -60,7 +59,7 @@ fn upper_range(s: Bank) -> Range
     Range {
         largegrain: (s.tcr >> 30) % 4 == 3,
         baseregister: s.ttbr1_el1,
-        size: (s.tcr >> 16) % 64,
+        txsz: (s.tcr >> 16) % 64,
         disabled: (s.tcr >> 23) % 2 == 1,
         ps: (s.tcr >> 32) % 8,
         upper: true,
@@ -74,7 +73,7 @@ fn only_range(s: Bank) -> Range
     Range {
         largegrain: (s.tcr >> 14) % 4 == 1,
         baseregister: s.ttbr0,
-        size: s.tcr % 64,
+        txsz: s.tcr % 64,
         disabled: false,
         ps: (s.tcr >> 16) % 8,
         upper: false,
@@ -119,10 +118,10 @@ fn input_size(g: Range) -> u64
     ensures { λ r. ⌜ r ≡ inputsize g ⌝ }
     ensures { λ r. ⌜ (25 ≤ r) × (r ≤ 48) ⌝ }
 {
-    if g.size < 16 {
+    if g.txsz < 16 {
         48
     } else {
-        if 39 < g.size { 25 } else { 64 - g.size }
+        if 39 < g.txsz { 25 } else { 64 - g.txsz }
     }
 }
 
@@ -168,7 +167,7 @@ fn start_of(largegrain: bool, n: u64) -> Start
 }
 
 // The first table, unless the address is out of range or walks are disabled, or the table lies beyond the output size.
-pub fn begin_walk(g: Range, outputsize: u64, va: u64) -> Begin
+pub(crate) fn begin_walk(g: Range, outputsize: u64, va: u64) -> Begin
     requires { ⌜ outputsize ≤ 44 ⌝ }
     ensures { λ r. ⌜ r ≡ beginOf g outputsize va ⌝ }
 {
@@ -176,21 +175,20 @@ pub fn begin_walk(g: Range, outputsize: u64, va: u64) -> Begin
     let start = start_of(g.largegrain, n);
     let table = bits::align_down(g.baseregister % 0x1_0000_0000_0000, 3 + n - start.lsb);
     let ranged = in_range(g, va);
-    let walks = ranged & !g.disabled;
+    let faults = !ranged | g.disabled;
     let large = level::too_large(g.baseregister, outputsize);
-    if walks {
-        if large {
-            Begin::Refused(0)
-        } else {
-            Begin::At(WalkState {
-                tables: 0,
-                table,
-                top: n,
-                lsb: start.lsb,
-                level: start.level,
-            })
-        }
+    if faults {
+        return Begin::Refused(4);
+    }
+    if large {
+        Begin::Refused(0)
     } else {
-        Begin::Refused(4)
+        Begin::At(WalkState {
+            tables: 0,
+            table,
+            top: n,
+            lsb: start.lsb,
+            level: start.level,
+        })
     }
 }

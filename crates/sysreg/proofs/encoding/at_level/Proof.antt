@@ -6,7 +6,8 @@ use Prim.Native.Nat.{ℕ, _%_, _^_}
 use Rattle.sysreg.specs.declared.regs.ControlReg.the-variants.{Sctlr, Tcr, Ttbr0}
 use Rattle.sysreg.specs.declared.regs.SysReg.the-variants.{Mair, Vbar, Elr, Spsr, Esr, Far}
 use Rattle.sysreg.specs.declared.regs.Register.the-variants.{InControl, InSys}
-use Rattle.sysreg.specs.Encoding.{bankedAt, singleAt, eachLevel, oneLevel}
+use Rattle.sysreg.specs.Encoding.{bankedAt, eachLevel, oneLevel}
+use Rattle.sysreg.specs.Parts.{singleAt}
 use Rattle.sysreg.specs.EncodingLaws.{skip}
 use Rattle.sysreg.proofs.Finds.{among, at-level, denied}
 use borrow.Author.Needs.{needs}

@@ -1,6 +1,6 @@
 -- `sysreg::encoding::single` meets its contract.
 use borrow.Author.Needs.{needs}
-use Rattle.sysreg.specs.Encoding.{singleAt}
+use Rattle.sysreg.specs.Parts.{singleAt}
 use Rattle.sysreg.proofs.Finds.{denied}
 use Rattle.sysreg.proofs.encoding.single.Statement.{statement}
 use Rattle.sysreg.proofs.encoding.single.Tie as tie

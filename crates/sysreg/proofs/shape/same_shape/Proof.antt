@@ -8,7 +8,8 @@ use Rattle.sysreg.specs.declared.regs.El.the-variants.{El1, El2, El3}
 use Rattle.sysreg.specs.declared.regs.ControlReg.{ControlReg}
 use Rattle.sysreg.specs.declared.regs.ControlReg.the-variants.{Sctlr, Tcr, Ttbr0, Scr, Hcr}
 use Rattle.sysreg.specs.Regs.{controlAt}
-use Rattle.sysreg.specs.Shape.{sameLevels, sameShape}
+use Rattle.sysreg.specs.Parts.{sameLevels}
+use Rattle.sysreg.specs.Shape.{sameShape}
 use borrow.Author.Needs.{needs}
 use Rattle.sysreg.proofs.shape.same_shape.Statement.{statement}
 use Rattle.sysreg.proofs.shape.same_shape.Tie as tie

@@ -26,13 +26,13 @@ too-large-requires : tie.Need-too-large-requires
 too-large-requires c κs = search needs
 
 returns : tie.Need-returns
-returns c = search (base-beyond, needs)
+returns c = search (no-walk, needs)
 
 returns-2 : tie.Need-returns-2
-returns-2 c = search (begins, needs)
+returns-2 c = search (base-beyond, needs)
 
 returns-3 : tie.Need-returns-3
-returns-3 c = search (no-walk, needs)
+returns-3 c = search (begins, needs)
 
 pub begin-walk-spec : {M : Type 1} → statement M
 begin-walk-spec =
