@@ -2,6 +2,8 @@
 pub mod Regs
 pub mod Encoding
 pub mod Write
+pub mod Tcr
+pub mod TcrPlaces
 pub mod Shape
 pub mod EncodingLaws
 pub mod WriteLaws

@@ -4,7 +4,7 @@ use mathlib.Core.List.{List, [], _∷_}
 use Prim.Native.Nat.{ℕ}
 use lib.Dec.{eqb}
 use lib.ListN.{getD}
-use Rattle.word.specs.Bits.{bitOn, field, pick}
+use Rattle.word.specs.Bits.{field, pick}
 use Rattle.sysreg.specs.declared.regs.Control.{Control}
 use Rattle.sysreg.specs.declared.regs.El.the-variants.{El1, El2, El3}
 use Rattle.sysreg.specs.declared.regs.ControlReg.{ControlReg}
@@ -14,6 +14,7 @@ use Rattle.sysreg.specs.declared.encoding.Found.{Found}
 use Rattle.sysreg.specs.declared.encoding.Found.the-variants.{At, Nothing}
 use Rattle.sysreg.specs.Regs.{controlAt}
 use Rattle.sysreg.specs.Encoding.{controlKey}
+use Rattle.sysreg.specs.Tcr.{a1, «as»}
 
 -- The registers that shape translations: all that translation reads but TTBR0_EL1 and TTBR1_EL1, which an ASID tells apart.
 abbrev pub shape : List ControlReg
@@ -42,10 +43,10 @@ sameLevels a b = eqb (getD a 1 0) (getD b 1 0) && eqb (getD a 2 0) (getD b 2 0) 
 unfoldable pub sameShape : Control → Control → Bool
 sameShape a b = agreeOn shape a b
 
--- TCR_EL1.A1, bit 22: TTBR1_EL1 and not TTBR0_EL1 holds the ASID
+-- by TCR_EL1.A1, TTBR1_EL1 and not TTBR0_EL1 holds the ASID
 unfoldable pub asidBase : Control → ℕ
-asidBase c = pick (bitOn (controlAt c (Tcr El1)) 22) (controlAt c Ttbr1) (controlAt c (Ttbr0 El1))
+asidBase c = pick (a1 (controlAt c (Tcr El1))) (controlAt c Ttbr1) (controlAt c (Ttbr0 El1))
 
--- TCR_EL1.AS, bit 36: the ASID is its bits 63:48, and not 55:48
+-- by TCR_EL1.AS, the ASID is its bits 63:48, and not 55:48
 unfoldable pub asidOf : Control → ℕ
-asidOf c = field (asidBase c) 48 (pick (bitOn (controlAt c (Tcr El1)) 36) 16 8)
+asidOf c = field (asidBase c) 48 (pick («as» (controlAt c (Tcr El1))) 16 8)
