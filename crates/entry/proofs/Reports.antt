@@ -7,7 +7,8 @@ use Rattle.word.specs.Bits.{pick}
 use Rattle.entry.specs.declared.exception.Exception.{Exception}
 use Rattle.entry.specs.declared.exception.Exception.the-variants.{DataAbort, InsnAbort}
 use Rattle.entry.specs.declared.report.Report.{Report}
-use Rattle.entry.specs.Syndrome.{esrOf, dataStatus, located, syndromeOf}
+use Rattle.entry.specs.Syndrome.{esrOf, dataStatus, syndromeOf}
+use Rattle.entry.specs.Parts.{located}
 
 module _ (e : Exception) (from to pc : ℕ) (r : Report) where
   -- the exception is known

@@ -9,7 +9,8 @@ use Rattle.entry.specs.declared.exception.Exception.{Exception}
 use Rattle.entry.specs.declared.exception.Exception.the-variants.{Undefined, Svc, Hvc, Smc}
 use Rattle.entry.specs.declared.route.Origin.{Origin}
 use Rattle.entry.specs.declared.route.Routed.{Routed}
-use Rattle.entry.specs.Route.{isSecure, hce, smd, tsc, tge, elOf, defaultTarget, callTarget, nextInstr, usually, routedTo}
+use Rattle.entry.specs.Route.{isSecure, hce, smd, tsc, tge, elOf, defaultTarget, callTarget, nextInstr, routedTo}
+use Rattle.entry.specs.Parts.{usually}
 
 -- s is the code's own test of security
 module _ (o : Origin) (s : Bool) (es : s ≡ isSecure o) where

@@ -13,10 +13,11 @@ use Rattle.entry.specs.declared.exception.Exception.{Exception}
 use Rattle.entry.specs.declared.exception.Exception.the-variants.{Svc, Hvc, Smc, Brk, DataAbort, InsnAbort, PcAlignment}
 use Rattle.entry.specs.declared.flags.Flags.{Flags}
 use Rattle.entry.specs.declared.take.Entered.{Entered}
+use Rattle.entry.specs.declared.take.Update.the-variants.{Keep}
 use Rattle.entry.specs.Pstate.{spsrOf}
 use Rattle.entry.specs.Syndrome.{syndromeOf}
 use Rattle.entry.specs.Route.{routedTo}
-use Rattle.entry.specs.Entry.{enteredSys, takeException, takeSync}
+use Rattle.entry.specs.Entry.{enteredSys, takeException, enterOf, takeSync}
 
 pub registers : SysRegs
 registers =
@@ -108,3 +109,10 @@ pub departures :
     ∷ [])
 unfolding entry seen registers user masked takeSync takeException enteredSys syndromeOf routedTo spsrOf
 departures = refl
+
+-- an IRQ from EL1 to EL2, and an FIQ from EL3 with SP_EL0 to itself: ESR and FAR stay
+pub interrupts :
+    (seen El2 (enterOf 1 (masked true) registers El2 0x80 Keep Keep 0x8000) ∷ seen El3 (enterOf 3 (masked false) registers El3 0x100 Keep Keep 0x8000) ∷ [])
+    ≡ ((2 ∷ 0x20480 ∷ 0 ∷ 0xF2 ∷ 0x8000 ∷ 0x3C5 ∷ []) ∷ (3 ∷ 0x30100 ∷ 0 ∷ 0xF3 ∷ 0x8000 ∷ 0x3CC ∷ []) ∷ [])
+unfolding seen registers masked enterOf spsrOf
+interrupts = refl

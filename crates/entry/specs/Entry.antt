@@ -1,5 +1,6 @@
--- Exception entry to AArch64: DDI 0487, AArch64.TakeException.
-use mathlib.Core.Bool.{Bool, true}
+-- Exception entry to AArch64: DDI 0487, AArch64.TakeException, from knowledge of ARMv8.0: the document itself was not at hand. M12 is a row of
+-- docs/DIFFERENCES.md.
+use mathlib.Core.Bool.{Bool, true, false}
 use mathlib.Core.List.{List}
 use Prim.Native.Nat.{ℕ, _+_, _%_, _^_}
 use lib.Dec.{eqb}
@@ -7,7 +8,8 @@ use Rattle.word.specs.Bits.{wrap, pick}
 use Rattle.sysreg.specs.Regs.{levelOf, sysAt}
 use Rattle.sysreg.specs.Write.{bank}
 use Rattle.sysreg.specs.declared.regs.El.{El}
-use Rattle.sysreg.specs.declared.regs.SysReg.the-variants.{Vbar}
+use Rattle.sysreg.specs.declared.regs.SysReg.{SysReg}
+use Rattle.sysreg.specs.declared.regs.SysReg.the-variants.{Mair, Vbar, Elr, Spsr, Esr, Far, Vpidr, Vmpidr, Par}
 use Rattle.sysreg.specs.declared.regs.SysRegs.{SysRegs}
 use Rattle.entry.specs.declared.exception.Exception.{Exception}
 use Rattle.entry.specs.declared.flags.Flags.{Flags}
@@ -15,11 +17,14 @@ use Rattle.entry.specs.declared.report.Report.{Report}
 use Rattle.entry.specs.declared.route.Origin.{Origin}
 use Rattle.entry.specs.declared.route.Routed.{Routed}
 use Rattle.entry.specs.declared.take.Entered.{Entered}
+use Rattle.entry.specs.declared.take.Update.{Update}
+use Rattle.entry.specs.declared.take.Update.the-variants.{Write, Keep}
 use Rattle.entry.specs.Pstate.{daifAll, spsrOf}
 use Rattle.entry.specs.Syndrome.{syndromeOf}
 use Rattle.entry.specs.Route.{routedTo}
 
--- vect_offset of a synchronous exception: 0x400 from a lower level, which is AArch64 (M12); else 0x200 with SP_ELx and 0x000 with SP_EL0
+-- vect_offset of a synchronous exception: 0x400 from a lower level; else 0x200 with SP_ELx and 0x000 with SP_EL0. M12: never 0x600, as a lower
+-- level is AArch64 whatever SCR_EL3.RW and HCR_EL2.RW hold.
 abbrev pub vectOffset : ℕ → ℕ → Bool → ℕ
 vectOffset from to sp = pick (eqb from to) (pick sp 0x200 0x000) 0x400
 
@@ -30,24 +35,51 @@ sameEl a b = eqb (levelOf a) (levelOf b)
 abbrev pub atTarget : El → ℕ → List ℕ → List ℕ
 atTarget target v l = bank (λ el held. pick (sameEl el target) v held) l
 
--- FAR is written where the exception has an address
-abbrev pub farAfter : El → Report → List ℕ → List ℕ
-farAfter target r l = pick (r .valid) (atTarget target (r .far) l) l
-
--- SPSR, ELR, ESR and FAR of the target level, and no other register
-unfoldable pub enteredSys : SysRegs → El → Report → ℕ → ℕ → SysRegs
-enteredSys s target r spsr ret =
+-- SPSR and ELR of the target level, the ESRs and FARs that are given, and no other register
+abbrev afterEntry : SysRegs → El → ℕ → ℕ → List ℕ → List ℕ → SysRegs
+afterEntry s target spsr ret esr far =
     record {
       mair = s .mair;
       vbar = s .vbar;
       elr = atTarget target ret (s .elr);
       spsr = atTarget target spsr (s .spsr);
-      esr = atTarget target (r .esr) (s .esr);
-      far = farAfter target r (s .far);
+      esr = esr;
+      far = far;
       «vpidr_el2» = s .«vpidr_el2»;
       «vmpidr_el2» = s .«vmpidr_el2»;
       «par_el1» = s .«par_el1»;
     }
+
+-- FAR is written where the exception has an address
+abbrev pub farAfter : El → Report → List ℕ → List ℕ
+farAfter target r l = pick (r .valid) (atTarget target (r .far) l) l
+
+unfoldable pub enteredSys : SysRegs → El → Report → ℕ → ℕ → SysRegs
+enteredSys s target r spsr ret = afterEntry s target spsr ret (atTarget target (r .esr) (s .esr)) (farAfter target r (s .far))
+
+-- the same, register by register: what one holds after an entry, from what it held
+abbrev pub registerAfter : El → Report → ℕ → ℕ → SysReg → ℕ → ℕ
+registerAfter target r spsr ret (Spsr el) held = pick (sameEl el target) spsr held
+registerAfter target r spsr ret (Elr el) held = pick (sameEl el target) ret held
+registerAfter target r spsr ret (Esr el) held = pick (sameEl el target) (r .esr) held
+registerAfter target r spsr ret (Far el) held = pick (r .valid) (pick (sameEl el target) (r .far) held) held
+registerAfter target r spsr ret (Mair el) held = held
+registerAfter target r spsr ret (Vbar el) held = held
+registerAfter target r spsr ret Vpidr held = held
+registerAfter target r spsr ret Vmpidr held = held
+registerAfter target r spsr ret Par held = held
+
+-- the registers that an entry may change: SPSR, ELR, ESR and FAR of its target
+abbrev pub ofEntry : El → SysReg → Bool
+ofEntry target (Spsr el) = sameEl el target
+ofEntry target (Elr el) = sameEl el target
+ofEntry target (Esr el) = sameEl el target
+ofEntry target (Far el) = sameEl el target
+ofEntry target (Mair el) = false
+ofEntry target (Vbar el) = false
+ofEntry target Vpidr = false
+ofEntry target Vmpidr = false
+ofEntry target Par = false
 
 -- PSTATE.SP = '1', PSTATE.<D,A,I,F> = '1111'; N, Z, C, V stay
 abbrev pub entryFlags : Flags → Flags
@@ -61,6 +93,24 @@ takeException level f s target r ret =
       flags = entryFlags f;
       pc = wrap (sysAt s (Vbar target) + vectOffset level (levelOf target) (f .spsel));
       sys = enteredSys s target r (spsrOf level f) ret;
+    }
+
+-- An entry of any kind, which is added to the offset (0x000 for a synchronous exception, 0x080 for an IRQ, 0x100 for an FIQ); ESR and FAR are
+-- written, or kept as an interrupt keeps both. A synchronous one is `takeException` (`enter-sync` of EntryLaws).
+abbrev pub updated : El → Update → List ℕ → List ℕ
+updated target (Write v) l = atTarget target v l
+updated target Keep l = l
+
+abbrev pub updatedSys : SysRegs → El → Update → Update → ℕ → ℕ → SysRegs
+updatedSys s target esr far spsr ret = afterEntry s target spsr ret (updated target esr (s .esr)) (updated target far (s .far))
+
+unfoldable pub enterOf : ℕ → Flags → SysRegs → El → ℕ → Update → Update → ℕ → Entered
+enterOf level f s target kind esr far ret =
+    record {
+      level = levelOf target;
+      flags = entryFlags f;
+      pc = wrap (sysAt s (Vbar target) + (vectOffset level (levelOf target) (f .spsel) + kind));
+      sys = updatedSys s target esr far (spsrOf level f) ret;
     }
 
 -- a routed exception is reported and taken

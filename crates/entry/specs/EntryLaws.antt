@@ -1,7 +1,7 @@
 -- Laws of exception entry: which registers change, and where it goes.
 use mathlib.Core.Path.{_≡_, refl, _∙_}
 use mathlib.Core.Bool.{Bool, true, false}
-use Prim.Native.Nat.{ℕ, zero, suc, _%_, _^_, _≤_, _<_}
+use Prim.Native.Nat.{ℕ, zero, suc, _+_, _%_, _^_, _≤_, _<_}
 use native.Mathlib.Nat.{mod-eq-of-lt}
 use native.Mathlib.Omega.{arith}
 use lib.ListN.{getD}
@@ -21,19 +21,9 @@ use Rattle.entry.specs.declared.route.Origin.{Origin}
 use Rattle.entry.specs.Pstate.{spsrOf}
 use Rattle.entry.specs.Syndrome.{syndromeOf}
 use Rattle.entry.specs.Route.{defaultTarget, smcTrapped, callTarget, targetEl, generated, routedTo}
-use Rattle.entry.specs.Entry.{sameEl, atTarget, enteredSys, takeException, originOf, takeSync}
-
--- what a register holds after an entry, from what it held
-abbrev pub registerAfter : El → Report → ℕ → ℕ → SysReg → ℕ → ℕ
-registerAfter target r spsr ret (Spsr el) held = pick (sameEl el target) spsr held
-registerAfter target r spsr ret (Elr el) held = pick (sameEl el target) ret held
-registerAfter target r spsr ret (Esr el) held = pick (sameEl el target) (r .esr) held
-registerAfter target r spsr ret (Far el) held = pick (r .valid) (pick (sameEl el target) (r .far) held) held
-registerAfter target r spsr ret (Mair el) held = held
-registerAfter target r spsr ret (Vbar el) held = held
-registerAfter target r spsr ret Vpidr held = held
-registerAfter target r spsr ret Vmpidr held = held
-registerAfter target r spsr ret Par held = held
+use Rattle.entry.specs.Entry.{vectOffset, sameEl, atTarget, enteredSys, registerAfter, ofEntry, updated, takeException, enterOf, originOf, takeSync}
+use Rattle.entry.specs.Parts.{farUpdate}
+use Rattle.entry.specs.declared.take.Update.the-variants.{Write, Keep}
 
 module _ (s : SysRegs) (target : El) (r : Report) (spsr ret : ℕ) where
   abbrev Holds : SysReg → Type 0
@@ -60,18 +50,6 @@ module _ (s : SysRegs) (target : El) (r : Report) (spsr ret : ℕ) where
   entered-at Vmpidr = refl
   entered-at Par = refl
 
--- the registers that an entry may change: SPSR, ELR, ESR and FAR of its target
-abbrev pub ofEntry : El → SysReg → Bool
-ofEntry target (Spsr el) = sameEl el target
-ofEntry target (Elr el) = sameEl el target
-ofEntry target (Esr el) = sameEl el target
-ofEntry target (Far el) = sameEl el target
-ofEntry target (Mair el) = false
-ofEntry target (Vbar el) = false
-ofEntry target Vpidr = false
-ofEntry target Vmpidr = false
-ofEntry target Par = false
-
 module _ (s : SysRegs) (target : El) (r : Report) (spsr ret : ℕ) where
   far-kept : (el : El) (b : Bool) (held : ℕ) → sameEl el target ≡ false → pick b (pick (sameEl el target) (r .far) held) held ≡ held
   far-kept el true held n = simp n
@@ -91,6 +69,19 @@ module _ (s : SysRegs) (target : El) (r : Report) (spsr ret : ℕ) where
   -- every other register holds what it held
   pub entered-others : (q : SysReg) → ofEntry target q ≡ false → sysAt (enteredSys s target r spsr ret) q ≡ sysAt s q
   entered-others q n = entered-at s target r spsr ret q ∙ stays q (sysAt s q) n
+
+-- an entry of the synchronous kind that writes what a report has it write is the manual's
+pub enter-sync : (level : ℕ) (f : Flags) (s : SysRegs) (target : El) (r : Report) (ret : ℕ)
+    → enterOf level f s target 0 (Write (r .esr)) (farUpdate r) ret ≡ takeException level f s target r ret
+unfolding enterOf takeException enteredSys
+enter-sync level f s target r ret = rw (kind-zero, far-as (r .valid))
+  where
+    kind-zero : vectOffset level (levelOf target) (f .spsel) + 0 ≡ vectOffset level (levelOf target) (f .spsel)
+    kind-zero = omega arith
+
+    far-as : (b : Bool) → updated target (pick b (Write (r .far)) Keep) (s .far) ≡ pick b (atTarget target (r .far) (s .far)) (s .far)
+    far-as true = refl
+    far-as false = refl
 
 -- The target level.
 module _ (scr hcr pc : ℕ) where

@@ -8,20 +8,24 @@ use lib.Bits.{or-zero-r}
 use lib.Dec.{eqb}
 use Rattle.word.specs.Bits.{flag, wrap, pick}
 use Rattle.entry.specs.declared.flags.Flags.{Flags}
-use Rattle.entry.specs.Pstate.{freshFlags, psr, strayBits, spsrOf}
+use Rattle.entry.specs.Pstate.{freshFlags, psr, OwnBits, strayBits, spsrOf}
 use Rattle.entry.specs.Syndrome.{dataStatus}
 use Rattle.entry.specs.Entry.{vectOffset, entryFlags}
 
--- PSTATE's words hold their own bits: after reset, and after every entry from such words
-pub spsr-fields : (level : ℕ) (f : Flags) → strayBits f ≡ 0 → spsrOf level f ≡ psr level f
+-- where PSTATE's words hold their own bits alone, SPSR is the manual's
+own-stray : (f : Flags) → OwnBits f → strayBits f ≡ 0
+own-stray f h = rw (h .nzcv-31-28, h .daif-9, h .daif-6)
+
+pub spsr-fields : (level : ℕ) (f : Flags) → OwnBits f → spsrOf level f ≡ psr level f
 unfolding spsrOf
-spsr-fields level f h = rw h (or-zero-r (psr level f))
+spsr-fields level f h = rw (own-stray f h) (or-zero-r (psr level f))
 
-pub fresh-fields : strayBits freshFlags ≡ 0
-fresh-fields = refl
+-- as they do after reset, and after every entry from such words
+pub fresh-fields : OwnBits freshFlags
+fresh-fields = record { nzcv-31-28 = refl; daif-9 = refl; daif-6 = refl }
 
-pub entry-fields : (f : Flags) → f .nzcv % 2 ^ 28 ≡ 0 → strayBits (entryFlags f) ≡ 0
-entry-fields f h = rw h
+pub entry-fields : (f : Flags) → OwnBits f → OwnBits (entryFlags f)
+entry-fields f h = record { nzcv-31-28 = h .nzcv-31-28; daif-9 = refl; daif-6 = refl }
 
 -- a status of six bits
 pub status-fields : (write : Bool) (fsc : ℕ) → fsc < 2 ^ 6 → dataStatus write fsc ≡ flag write (2 ^ 6) + fsc

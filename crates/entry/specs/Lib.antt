@@ -3,6 +3,10 @@ pub mod Pstate
 pub mod Syndrome
 pub mod Route
 pub mod Entry
+-- What private functions promise.
+pub mod Parts
+-- Laws, worked cases, and the places of bits.
 pub mod EntryLaws
 pub mod FieldLaws
 pub mod Cases
+pub mod Places

@@ -1,4 +1,5 @@
--- Routing of synchronous exceptions: DDI 0487, D1.10, and the pseudocode of SVC, HVC and SMC. A7, A16, D2 and M18 are rows of docs/DIFFERENCES.md.
+-- Routing of synchronous exceptions: DDI 0487, D1.10, and the pseudocode of SVC, HVC and SMC, from knowledge of ARMv8.0: the document itself was
+-- not at hand. A7, D2 and the like are rows of docs/DIFFERENCES.md.
 use mathlib.Core.Bool.{Bool, not, _&&_, _||_}
 use Prim.Native.Nat.{ℕ, _+_}
 use lib.Dec.{eqb}
@@ -39,7 +40,7 @@ elOf level = pick (eqb level 2) El2 (pick (eqb level 3) El3 El1)
 abbrev pub routeToEl2 : Origin → Bool
 routeToEl2 o = eqb (o .level) 0 && (not (isSecure o) && tge o)
 
--- D2: SCR_EL3.EA takes no external abort to EL3
+-- D2: SCR_EL3.EA takes no external abort to EL3. O11: an external abort is synchronous, a store's too.
 abbrev pub defaultTarget : Origin → El
 defaultTarget o = pick (routeToEl2 o) El2 (elOf (o .level))
 
@@ -104,7 +105,3 @@ routed o x = record { exception = x; target = targetEl o x; ret = returnAddress 
 
 unfoldable pub routedTo : Origin → Exception → Routed
 routedTo o e = routed o (generated o e)
-
--- an exception on the usual way, back to an address
-abbrev pub usually : Origin → Exception → ℕ → Routed
-usually o e ret = record { exception = e; target = defaultTarget o; ret = ret }

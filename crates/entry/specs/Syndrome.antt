@@ -1,5 +1,5 @@
--- What an exception reports: DDI 0487, AArch64.ExceptionClass, AArch64.ReportException, and the layout of ESR_ELx. M16 is
--- a row of docs/DIFFERENCES.md.
+-- What an exception reports: DDI 0487, AArch64.ExceptionClass, AArch64.ReportException, and the layout of ESR_ELx, from knowledge of ARMv8.0: the
+-- document itself was not at hand. M16, O6 and the like are rows of docs/DIFFERENCES.md.
 use mathlib.Core.Bool.{Bool, true, false}
 use Prim.Native.Nat.{ℕ, _+_, _*_, _/_, _%_, _^_}
 use lib.Bits.{bitOr}
@@ -28,11 +28,12 @@ classOf lower PcAlignment = 0x22
 classOf lower (DataAbort addr write fsc) = abortClass lower 0x24
 classOf lower (Brk imm) = 0x3C
 
--- ISS of a data abort: WnR is <6>, DFSC <5:0>. M16: the bits of a status above DFSC are or-ed in.
+-- ISS of a data abort: WnR is <6>, DFSC <5:0>; M3: S1PTW <7> is 0, without stage 2; ISV, CM and the rest are 0. O6: EA <9> is 0. M16: the bits of
+-- a status above DFSC are or-ed in.
 abbrev pub dataStatus : Bool → ℕ → ℕ
 dataStatus write fsc = bitOr (fsc / 2 ^ 6) (flag write 1) * 2 ^ 6 + fsc % 2 ^ 6
 
--- ISS: the immediate in <15:0>, or the status. An instruction abort's IFSC is <5:0>; M16 again.
+-- ISS: the immediate in <15:0>, or the status. An instruction abort's IFSC is <5:0>; O6 and M16 again.
 abbrev pub issOf : Exception → ℕ
 issOf Undefined = 0
 issOf (Svc imm) = imm
@@ -43,23 +44,28 @@ issOf PcAlignment = 0
 issOf (DataAbort addr write fsc) = dataStatus write fsc
 issOf (Brk imm) = imm
 
-abbrev pub bare : ℕ → Report
-bare esr = record { esr = esr; valid = false; far = 0 }
+-- FAR_ELx is written for aborts and PC alignment. O12: for the others, where the manual leaves it UNKNOWN, it is kept.
+abbrev pub farWritten : Exception → Bool
+farWritten Undefined = false
+farWritten (Svc imm) = false
+farWritten (Hvc imm) = false
+farWritten (Smc imm) = false
+farWritten (InsnAbort addr fsc) = true
+farWritten PcAlignment = true
+farWritten (DataAbort addr write fsc) = true
+farWritten (Brk imm) = false
 
-abbrev pub located : ℕ → ℕ → Report
-located esr addr = record { esr = esr; valid = true; far = addr }
-
--- FAR_ELx is written for aborts and PC alignment. For the others the manual leaves it UNKNOWN, and it stays.
-abbrev pub reported : ℕ → ℕ → Exception → Report
-reported esr pc Undefined = bare esr
-reported esr pc (Svc imm) = bare esr
-reported esr pc (Hvc imm) = bare esr
-reported esr pc (Smc imm) = bare esr
-reported esr pc (InsnAbort addr fsc) = located esr addr
-reported esr pc PcAlignment = located esr pc
-reported esr pc (DataAbort addr write fsc) = located esr addr
-reported esr pc (Brk imm) = bare esr
+-- its value: the address of the access, or the PC
+abbrev pub farOf : ℕ → Exception → ℕ
+farOf pc Undefined = 0
+farOf pc (Svc imm) = 0
+farOf pc (Hvc imm) = 0
+farOf pc (Smc imm) = 0
+farOf pc (InsnAbort addr fsc) = addr
+farOf pc PcAlignment = pc
+farOf pc (DataAbort addr write fsc) = addr
+farOf pc (Brk imm) = 0
 
 -- the report of an exception at the PC, taken from one level to another
 unfoldable pub syndromeOf : Exception → ℕ → ℕ → ℕ → Report
-syndromeOf e from to pc = reported (esrOf (classOf (ltb from to) e) (issOf e)) pc e
+syndromeOf e from to pc = record { esr = esrOf (classOf (ltb from to) e) (issOf e); valid = farWritten e; far = farOf pc e }

@@ -1,7 +1,8 @@
 // What an exception reports: ESR_ELx and FAR_ELx.
 ghost use mathlib.Core.Path.{_≡_};
 ghost use Rattle.word.specs.Bits.{pick};
-ghost use Rattle.entry.specs.Syndrome.{esrOf, dataStatus, bare, located, syndromeOf};
+ghost use Rattle.entry.specs.Syndrome.{esrOf, dataStatus, syndromeOf};
+ghost use Rattle.entry.specs.Parts.{bare, located};
 use crate::exception::Exception;
 
 // ESR_ELx, whether FAR_ELx is written, and its value.

@@ -1,7 +1,8 @@
 // Where a synchronous exception is taken to, as what, and the address that it returns to.
 ghost use mathlib.Core.Path.{_≡_};
 ghost use Rattle.entry.specs.declared.exception.Exception.the-variants.{Hvc, Smc};
-ghost use Rattle.entry.specs.Route.{isSecure, elOf, defaultTarget, callTarget, usually, routedTo};
+ghost use Rattle.entry.specs.Route.{isSecure, elOf, defaultTarget, callTarget, routedTo};
+ghost use Rattle.entry.specs.Parts.{usually};
 use crate::exception::Exception;
 use sysreg::regs::El;
 

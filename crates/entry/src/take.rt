@@ -1,6 +1,7 @@
 // Exception entry. take_sync takes a level modulo 4, as PSTATE.EL has two bits; levels are 0 to 3 below it.
 ghost use mathlib.Core.Path.{_≡_};
-ghost use Rattle.entry.specs.Entry.{vectOffset, atTarget, farAfter, enteredSys, entryFlags, takeException, takeSync};
+ghost use Rattle.entry.specs.Entry.{vectOffset, atTarget, updated, updatedSys, entryFlags, enterOf, takeSync};
+ghost use Rattle.entry.specs.Parts.{farUpdate};
 use crate::exception::Exception;
 use crate::flags::DAIF_ALL;
 use crate::flags::Flags;
@@ -12,6 +13,15 @@ use crate::route::route;
 use sysreg::regs::El;
 use sysreg::regs::SysRegs;
 use sysreg::regs::index;
+
+// The place of a vector in its group, by the kind of exception.
+pub const VECTOR_SYNC: u64 = 0x000;
+
+// What an entry makes of a register of its target level.
+pub enum Update {
+    Write(u64),
+    Keep,
+}
 
 // What an entry leaves: the level, PSTATE, the PC and the registers.
 pub struct Entered {
@@ -43,33 +53,32 @@ fn at_target(held: [u64; 4], target: El, value: u64) -> [u64; 4]
     out
 }
 
-fn far_after(held: [u64; 4], target: El, report: Report) -> [u64; 4]
-    ensures { λ r. ⌜ r ≡ farAfter target report held ⌝ }
+fn updated(held: [u64; 4], target: El, u: Update) -> [u64; 4]
+    ensures { λ r. ⌜ r ≡ updated target u held ⌝ }
 {
-    if report.valid {
-        at_target(held, target, report.far)
-    } else {
-        held
+    match u {
+        Update::Write(value) => at_target(held, target, value),
+        Update::Keep => held,
     }
 }
 
 // SPSR, ELR, ESR and FAR of the target level.
-fn saved(sys: SysRegs, target: El, report: Report, spsr: u64, ret: u64) -> SysRegs
-    ensures { λ r. ⌜ r ≡ enteredSys sys target report spsr ret ⌝ }
+fn saved(sys: SysRegs, target: El, esr: Update, far: Update, spsr: u64, ret: u64) -> SysRegs
+    ensures { λ r. ⌜ r ≡ updatedSys sys target esr far spsr ret ⌝ }
 {
-    let elr = sys.elr;
-    let elr = at_target(elr, target, ret);
+    let elrs = sys.elr;
+    let elrs = at_target(elrs, target, ret);
     let spsrs = sys.spsr;
     let spsrs = at_target(spsrs, target, spsr);
-    let esr = sys.esr;
-    let esr = at_target(esr, target, report.esr);
-    let far = sys.far;
-    let far = far_after(far, target, report);
+    let esrs = sys.esr;
+    let esrs = updated(esrs, target, esr);
+    let fars = sys.far;
+    let fars = updated(fars, target, far);
     let mut out = sys;
-    out.elr = elr;
+    out.elr = elrs;
     out.spsr = spsrs;
-    out.esr = esr;
-    out.far = far;
+    out.esr = esrs;
+    out.far = fars;
     out
 }
 
@@ -84,18 +93,39 @@ fn masked(flags: Flags) -> Flags
     }
 }
 
-// Exception entry to a level, with the address that it returns to.
-pub fn enter(level: u8, flags: Flags, sys: SysRegs, target: El, report: Report, ret: u64) -> Entered
-    ensures { λ r. ⌜ r ≡ takeException level flags sys target report ret ⌝ }
+// Exception entry to a level: the kind is the vector's place in its group, and ret the address that it returns to.
+pub fn enter(
+    level: u8,
+    flags: Flags,
+    sys: SysRegs,
+    target: El,
+    kind: u64,
+    esr: Update,
+    far: Update,
+    ret: u64,
+) -> Entered
+    ensures { λ r. ⌜ r ≡ enterOf level flags sys target kind esr far ret ⌝ }
 {
     let t = index(target);
     let to = t as u8;
     let group = vector_group(level, to, flags.spsel);
+    let vector = std::num::wrapping_add_u64(group, kind);
     Entered {
         level: to,
         flags: masked(flags),
-        pc: std::num::wrapping_add_u64(sys.vbar[t], group),
-        sys: saved(sys, target, report, pstate(level, flags), ret),
+        pc: std::num::wrapping_add_u64(sys.vbar[t], vector),
+        sys: saved(sys, target, esr, far, pstate(level, flags), ret),
+    }
+}
+
+// FAR_ELx is written where the exception has an address.
+fn far_update(report: Report) -> Update
+    ensures { λ r. ⌜ r ≡ farUpdate report ⌝ }
+{
+    if report.valid {
+        Update::Write(report.far)
+    } else {
+        Update::Keep
     }
 }
 
@@ -124,5 +154,7 @@ pub fn take_sync(
     let exception = routed.exception;
     let target = routed.target;
     let report = syndrome(exception, el, index(target) as u8, pc);
-    enter(el, flags, sys, target, report, routed.ret)
+    let esr = Update::Write(report.esr);
+    let far = far_update(report);
+    enter(el, flags, sys, target, VECTOR_SYNC, esr, far, routed.ret)
 }

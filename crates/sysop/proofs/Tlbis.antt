@@ -7,7 +7,8 @@ use Prim.Native.Nat.{ℕ}
 use lib.Dec.{eqb}
 use types.Run.{OneOf}
 use borrow.Author.Tests.{ne-eqb}
-use Rattle.word.specs.Bits.{bitOn, field, pick}
+use Rattle.word.specs.Bits.{field, pick}
+use Rattle.sysreg.specs.Tcr.{«as»}
 use Rattle.sysreg.specs.declared.regs.Control.{Control}
 use Rattle.walk.specs.Regime.{bankOf}
 use Rattle.walk.specs.declared.regime.Bank.{Bank}
@@ -15,7 +16,7 @@ use Rattle.walk.specs.declared.regime.Regime.{Regime}
 use Rattle.walk.specs.declared.regime.Regime.the-variants.{El1, El2, El3}
 use Rattle.tlb.specs.declared.Inval.{Inval}
 use Rattle.tlb.specs.declared.Inval.the-variants.{All, Page, Asid}
-use Rattle.sysop.specs.Tlbi.{Scope, everything, asidForm, stage2, ranged, scopeOf, tcrOf, pages4k, whatOf, tlbiOf}
+use Rattle.sysop.specs.Tlbi.{Name, VMALLE1, ALLE1, ALLE2, VMALLS12E1, IPAS2E1, IPAS2LE1, ALLE3, unallocated, asidForm, ranged, scope, scopeOf, tcrOf, pages4k, whatOf, tlbiOf}
 
 module _ (c : Control) (x : ℕ) where
   module _ (r : Regime) (s : Bank) (b : Bool) (q : s ≡ bankOf c r) (e : b ≡ pages4k (s .tcr) r) where
@@ -30,19 +31,20 @@ module _ (c : Control) (x : ℕ) where
     unfolding whatOf
     every-page h = rw (← small-pages, h)
 
-  pub wide-asid : bitOn (tcrOf c El1) 36 ≡ true → Asid (field x 48 16) ≡ whatOf c x asidForm
+  pub wide-asid : «as» (tcrOf c El1) ≡ true → Asid (field x 48 16) ≡ whatOf c x asidForm
   unfolding whatOf
   wide-asid h = rw h
 
-  pub narrow-asid : bitOn (tcrOf c El1) 36 ≡ false → Asid (field x 48 8) ≡ whatOf c x asidForm
+  pub narrow-asid : «as» (tcrOf c El1) ≡ false → Asid (field x 48 8) ≡ whatOf c x asidForm
   unfolding whatOf
   narrow-asid h = rw h
 
 pub ruleset scopes = (one-page, every-page, wide-asid, narrow-asid)
 
-either : (b : Bool) (s : Scope) → pick b s s ≡ s
-either true s = refl
-either false s = refl
+-- past an instruction that names everything
+passed : (c : Control) (x : ℕ) (b : Bool) (n m : Name) → All ≡ whatOf c x (scope n) → All ≡ whatOf c x (scope m) → All ≡ whatOf c x (scope (pick b n m))
+passed c x true n m p q = p
+passed c x false n m p q = q
 
 module _ (c : Control) (x op2 : ℕ) where
   module _ (i : Inval) where
@@ -72,27 +74,19 @@ module _ (c : Control) (x op2 : ℕ) where
   el1-all a b =
       rw
       (ne-eqb op2 1 (λ q. a (inl q)), ne-eqb op2 2 b, ne-eqb op2 3 (λ q. a (inr (inl q))), ne-eqb op2 5 (λ q. a (inr (inr (inl q)))), ne-eqb op2 7 (λ q. a (inr (inr (inr q)))))
-      (simp either)
+      (passed c x (eqb op2 0) VMALLE1 unallocated refl refl)
 
   pub el2-all : (OneOf (1 ∷ 5 ∷ []) op2 → ⊥) → All ≡ tlbiOf c 4 7 op2 x
   unfolding tlbiOf scopeOf whatOf
-  el2-all a = rw (ne-eqb op2 1 (λ q. a (inl q)), ne-eqb op2 5 (λ q. a (inr q))) (simp either)
+  el2-all a =
+      rw (ne-eqb op2 1 (λ q. a (inl q)), ne-eqb op2 5 (λ q. a (inr q)))
+      (passed c x (eqb op2 0) ALLE2 _ refl (passed c x (eqb op2 4) ALLE1 _ refl (passed c x (eqb op2 6) VMALLS12E1 unallocated refl refl)))
 
   pub el3-all : (OneOf (1 ∷ 5 ∷ []) op2 → ⊥) → All ≡ tlbiOf c 6 7 op2 x
   unfolding tlbiOf scopeOf whatOf
-  el3-all a = rw (ne-eqb op2 1 (λ q. a (inl q)), ne-eqb op2 5 (λ q. a (inr q))) (simp either)
+  el3-all a = rw (ne-eqb op2 1 (λ q. a (inl q)), ne-eqb op2 5 (λ q. a (inr q))) (passed c x (eqb op2 0) ALLE3 unallocated refl refl)
 
 pub ruleset entries = (el1-page, el1-asid, el2-page, el3-page, el1-all, el2-all, el3-all)
-
-nothing-named : (c : Control) (x : ℕ) → All ≡ whatOf c x everything
-unfolding whatOf
-nothing-named c x = refl
-
--- past an address of stage 2
-passed : (c : Control) (x : ℕ) (b : Bool) (s : Scope) → All ≡ whatOf c x s → All ≡ whatOf c x (pick b stage2 s)
-unfolding whatOf
-passed c x true s e = refl
-passed c x false s e = e
 
 module _ (c : Control) (op1 crm op2 x : ℕ) where
   module _ (i : Inval) where
@@ -116,12 +110,12 @@ module _ (c : Control) (op1 crm op2 x : ℕ) where
   el1-crm a b = rw (a, ne-eqb crm 3 (λ q. b (inl q)), ne-eqb crm 7 (λ q. b (inr q)))
 
   pub el2-crm : op1 ≡ 4 → (OneOf (3 ∷ 7 ∷ []) crm → ⊥) → All ≡ tlbiOf c op1 crm op2 x
-  unfolding tlbiOf scopeOf
+  unfolding tlbiOf scopeOf whatOf
   el2-crm a b =
       rw (a, ne-eqb crm 3 (λ q. b (inl q)), ne-eqb crm 7 (λ q. b (inr q)))
-      (passed c x (eqb crm 0 && eqb op2 1) _
-      (passed c x (eqb crm 0 && eqb op2 5) _
-      (passed c x (eqb crm 4 && eqb op2 1) _ (passed c x (eqb crm 4 && eqb op2 5) everything (nothing-named c x)))))
+      (passed c x (eqb crm 0 && eqb op2 1) IPAS2E1 _ refl
+      (passed c x (eqb crm 0 && eqb op2 5) IPAS2LE1 _ refl
+      (passed c x (eqb crm 4 && eqb op2 1) IPAS2E1 _ refl (passed c x (eqb crm 4 && eqb op2 5) IPAS2LE1 unallocated refl refl))))
 
   pub el3-crm : op1 ≡ 6 → (OneOf (3 ∷ 7 ∷ []) crm → ⊥) → All ≡ tlbiOf c op1 crm op2 x
   unfolding tlbiOf scopeOf whatOf

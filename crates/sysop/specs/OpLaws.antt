@@ -3,7 +3,7 @@ use mathlib.Core.Path.{_≡_, refl, sym, ap, subst, _∙_}
 use mathlib.Core.Bool.{Bool, true, false, not, _&&_, _||_, false≢true}
 use mathlib.Core.List.{List, [], _∷_}
 use mathlib.Core.Logic.{_⊎_, inl, inr}
-use Prim.Native.Nat.{ℕ, zero, suc, _≤_, _<_}
+use Prim.Native.Nat.{ℕ, zero, suc, _/_, _≤_, _<_}
 use native.Mathlib.Omega.{arith}
 use lib.Dec.{eqb, leb}
 use borrow.Author.Tests.{eqb-true, eq-eqb, ne-eqb, le-leb, leb-true, lt-leb}
@@ -13,7 +13,7 @@ use Rattle.walk.specs.declared.regime.Regime.the-variants.{El1, El2, El3}
 use Rattle.sysop.specs.declared.op.AtForm.{AtForm}
 use Rattle.sysop.specs.declared.op.SysOp.{SysOp}
 use Rattle.sysop.specs.declared.op.SysOp.the-variants.{At, Tlbi, Zva, Nothing, Undefined, Unimplemented}
-use Rattle.sysop.specs.Op.{Field, only, any, Row, table, absent, holds, names, lookUp, named, refusal, ruled, decodeOf}
+use Rattle.sysop.specs.Op.{Field, only, any, Row, table, absent, holds, names, lookUp, named, operation, refusal, ruled, decodeOf}
 
 abbrev pub every : (Row → Bool) → List Row → Bool
 every p [] = true
@@ -45,45 +45,52 @@ module _ (P : Row → Type 0) (p : Row → Bool) (op1 crn crm op2 : ℕ) (good :
           let l = both (eqb crn (r .crn)) (holds (r .crm) crm && holds (r .op2) op2) (k .1) in
           good r (eqb-true op1 (r .op1) (k .0)) (eqb-true crn (r .crn) (l .0)) x
 
--- a row of another op1, or one that passes a test
-abbrev pub ifOp1 : ℕ → Bool → Row → Bool
-ifOp1 op1 b r = not (eqb op1 (r .op1)) || b
-
-of-op1 : (op1 : ℕ) (b : Bool) (r : Row) → op1 ≡ r .op1 → ifOp1 op1 b r ≡ true → b ≡ true
-of-op1 op1 b r e h = implied (eqb op1 (r .op1)) b (eq-eqb op1 (r .op1) e) h
-
--- from the lowest level of an op1's rows up, what is named is what is decoded
-pub at-level : (n level op1 crn crm op2 : ℕ) → every (λ r. ifOp1 op1 (leb (r .lowest) n) r) table ≡ true → 1 ≤ n → n ≤ level
-    → named op1 crn crm op2 .op ≡ decodeOf level op1 crn crm op2
-unfolding decodeOf named
-at-level n level op1 crn crm op2 e o h =
-    found (λ r. r .op ≡ ruled level r) (λ r. ifOp1 op1 (leb (r .lowest) n) r) op1 crn crm op2
-    (λ r a b t. here r (leb-true (r .lowest) n (of-op1 op1 (leb (r .lowest) n) r a t))) (here absent o) table e
-  where
-    here : (r : Row) → r .lowest ≤ n → r .op ≡ ruled level r
-    here r k = rw (le-leb (r .lowest) level (omega arith))
-
 -- an encoding that names nothing is refused at every level
 pub absent-refused : (level : ℕ) → refusal level ≡ ruled level absent
 absent-refused zero = refl
 absent-refused (suc n) = rw (le-leb 1 (suc n) (omega arith), ne-eqb (suc n) 0 (λ e. omega arith))
 
--- below the lowest level of an op1's rows everything is refused
-pub too-low : (n level op1 crn crm op2 : ℕ) → every (λ r. ifOp1 op1 (leb n (r .lowest)) r) table ≡ true → level < n
-    → decodeOf level op1 crn crm op2 ≡ refusal level
-unfolding decodeOf named
-too-low n level op1 crn crm op2 e h =
-    found (λ r. ruled level r ≡ refusal level) (λ r. ifOp1 op1 (leb n (r .lowest)) r) op1 crn crm op2
-    (λ r a b t. here r (leb-true n (r .lowest) (of-op1 op1 (leb n (r .lowest)) r a t))) (sym (absent-refused level)) table e
-  where
-    here : (r : Row) → n ≤ r .lowest → ruled level r ≡ refusal level
-    here r k = rw (lt-leb (r .lowest) level (omega arith))
+module _ (level op1 crn crm op2 : ℕ) where
+  -- from EL1 and from op1 / 2 up, what is named is what is decoded
+  pub at-level : 1 ≤ level → op1 / 2 ≤ level → operation (named op1 crn crm op2 .name) ≡ decodeOf level op1 crn crm op2
+  unfolding decodeOf named
+  at-level o h =
+      found (λ r. operation (r .name) ≡ ruled level r) (λ r. leb (r .lowest) 1 || leb (r .lowest) (r .op1 / 2)) op1 crn crm op2
+      (λ r a b t. here r a (either (leb (r .lowest) 1) (leb (r .lowest) (r .op1 / 2)) t)) (rw (le-leb 1 level o)) table refl
+    where
+      known : (r : Row) → r .lowest ≤ level → operation (r .name) ≡ ruled level r
+      known r k = rw (le-leb (r .lowest) level k)
+
+      here : (r : Row) → op1 ≡ r .op1 → (leb (r .lowest) 1 ≡ true) ⊎ (leb (r .lowest) (r .op1 / 2) ≡ true) → operation (r .name) ≡ ruled level r
+      here r a (inl e) = known r (omega (arith, leb-true (r .lowest) 1 e))
+      here r a (inr e) = let k : r .op1 / 2 ≤ level = rw a at h in known r (omega (arith, leb-true (r .lowest) (r .op1 / 2) e, k))
+
+  -- below, everything but op1 3 is refused
+  pub too-low : (op1 ≡ 3 → ⊥) → (level < 1) ⊎ (level < op1 / 2) → decodeOf level op1 crn crm op2 ≡ refusal level
+  unfolding decodeOf named
+  too-low n h =
+      found (λ r. ruled level r ≡ refusal level) (λ r. eqb (r .op1) 3 || (leb 1 (r .lowest) && leb (r .op1 / 2) (r .lowest))) op1 crn crm op2
+      (λ r a b t. here r a (either (eqb (r .op1) 3) (leb 1 (r .lowest) && leb (r .op1 / 2) (r .lowest)) t)) (sym (absent-refused level)) table refl
+    where
+      known : (r : Row) → level < r .lowest → ruled level r ≡ refusal level
+      known r k = rw (lt-leb (r .lowest) level k)
+
+      above : (r : Row) → op1 ≡ r .op1 → 1 ≤ r .lowest → r .op1 / 2 ≤ r .lowest → (level < 1) ⊎ (level < op1 / 2) → ruled level r ≡ refusal level
+      above r a x y (inl z) = known r (omega arith)
+      above r a x y (inr z) = let k : level < r .op1 / 2 = rw a at z in known r (omega arith)
+
+      here : (r : Row) → op1 ≡ r .op1 → (eqb (r .op1) 3 ≡ true) ⊎ ((leb 1 (r .lowest) && leb (r .op1 / 2) (r .lowest)) ≡ true)
+          → ruled level r ≡ refusal level
+      here r a (inl e) = absurd (n (a ∙ eqb-true (r .op1) 3 e))
+      here r a (inr e) =
+          let k = both (leb 1 (r .lowest)) (leb (r .op1 / 2) (r .lowest)) e in
+          above r a (leb-true 1 (r .lowest) (k .0)) (leb-true (r .op1 / 2) (r .lowest) (k .1)) h
 
 -- what is decoded is a row's operation or a refusal
-by-rule : (P : SysOp → Type 0) (level : ℕ) (r : Row) → P (r .op) → P (refusal level) → P (ruled level r)
+by-rule : (P : SysOp → Type 0) (level : ℕ) (r : Row) → P (operation (r .name)) → P (refusal level) → P (ruled level r)
 by-rule P level r a b = go (leb (r .lowest) level)
   where
-    go : (t : Bool) → P (pick t (r .op) (refusal level))
+    go : (t : Bool) → P (pick t (operation (r .name)) (refusal level))
     go true = a
     go false = b
 
@@ -104,7 +111,7 @@ undefined-el0 (suc n) op1 crn crm op2 e =
     (false≢true
     (sym (ap defined e)
     ∙ by-rule (λ o. defined o ≡ true) (suc n) (lookUp table op1 crn crm op2)
-    (found (λ r. defined (r .op) ≡ true) (λ r. defined (r .op)) op1 crn crm op2 (λ r a b t. t) refl table refl)
+    (found (λ r. defined (operation (r .name)) ≡ true) (λ r. defined (operation (r .name))) op1 crn crm op2 (λ r a b t. t) refl table refl)
     (rw (ne-eqb (suc n) 0 (λ z. omega arith)))))
 
 -- a TLBI that is not refused has CRn 8 and op1 0, 4 or 6
@@ -127,7 +134,7 @@ pub tlbi-fields : (level op1 crn crm op2 : ℕ) → decodeOf level op1 crn crm o
 unfolding decodeOf named isTlbi
 tlbi-fields level op1 crn crm op2 =
     by-rule (λ o. o ≡ Tlbi → TlbiFields op1 crn) level (lookUp table op1 crn crm op2)
-    (found (λ r. r .op ≡ Tlbi → TlbiFields op1 crn) (λ r. not (isTlbi (r .op)) || fields r) op1 crn crm op2 here (λ e. never e) table refl)
+    (found (λ r. operation (r .name) ≡ Tlbi → TlbiFields op1 crn) (λ r. not (isTlbi (operation (r .name))) || fields r) op1 crn crm op2 here (λ e. never e) table refl)
     (λ e. never (refused (eqb level 0) e))
   where
     never : Unimplemented ≡ Tlbi → TlbiFields op1 crn
@@ -145,9 +152,9 @@ tlbi-fields level op1 crn crm op2 =
         last (inl x) = inl (a ∙ eqb-true (r .op1) 4 x)
         last (inr x) = inr (a ∙ eqb-true (r .op1) 6 x)
 
-    here : (r : Row) → op1 ≡ r .op1 → crn ≡ r .crn → (not (isTlbi (r .op)) || fields r) ≡ true → r .op ≡ Tlbi → TlbiFields op1 crn
+    here : (r : Row) → op1 ≡ r .op1 → crn ≡ r .crn → (not (isTlbi (operation (r .name))) || fields r) ≡ true → operation (r .name) ≡ Tlbi → TlbiFields op1 crn
     here r a b t e =
-        let k = both (eqb (r .crn) 8) (eqb (r .op1) 0 || (eqb (r .op1) 4 || eqb (r .op1) 6)) (implied (isTlbi (r .op)) (fields r) (ap isTlbi e) t) in
+        let k = both (eqb (r .crn) 8) (eqb (r .op1) 0 || (eqb (r .op1) 4 || eqb (r .op1) 6)) (implied (isTlbi (operation (r .name))) (fields r) (ap isTlbi e) t) in
         record {
           crn-8 = b ∙ eqb-true (r .crn) 8 (k .0);
           whose = whose r a (either (eqb (r .op1) 0) (eqb (r .op1) 4 || eqb (r .op1) 6) (k .1));
@@ -194,7 +201,7 @@ unfolding decodeOf named userFits isEl1
 user-el1 level op1 crn crm op2 f e =
     subst UserInEl1 e
     (by-rule UserInEl1 level (lookUp table op1 crn crm op2)
-    (found (λ r. UserInEl1 (r .op)) (λ r. userFits (r .op)) op1 crn crm op2 (λ r a b t. user-fits (r .op) t) tt table refl) (refused (eqb level 0)))
+    (found (λ r. UserInEl1 (operation (r .name))) (λ r. userFits (operation (r .name))) op1 crn crm op2 (λ r a b t. user-fits (operation (r .name)) t) tt table refl) (refused (eqb level 0)))
   where
     refused : (b : Bool) → UserInEl1 (pick b Undefined Unimplemented)
     refused true = tt

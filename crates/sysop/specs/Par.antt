@@ -1,12 +1,15 @@
--- PAR_EL1 after an AT: DDI 0487, D17.2, its two formats by field name.
-use mathlib.Core.Bool.{Bool, true, false, _||_}
+-- PAR_EL1 after an AT, its two formats by field name (DDI 0487, D17.2, from knowledge of ARMv8.0: the document itself was not at hand). A1, D1
+-- and the like are rows of docs/DIFFERENCES.md.
+use mathlib.Core.Bool.{Bool, true, false, not, _||_}
 use Prim.Native.Nat.{ℕ, _+_, _*_, _^_}
 use Rattle.word.specs.Bits.{field, flag, pick}
 use Rattle.word.specs.declared.ram.Word.{Word}
 use Rattle.sysreg.specs.declared.regs.Control.{Control}
-use Rattle.walk.specs.Regime.{bankOf, nonSecure, stage1On}
+use Rattle.walk.specs.Regime.{bankOf, nonSecure, singlePriv, wxnOf, stage1On}
 use Rattle.walk.specs.Tag.{untagged}
 use Rattle.walk.specs.Descriptor.{attrIndx, ns, sh}
+use Rattle.walk.specs.Table.{Translation, Result, mapped, faults, statusOf}
+use Rattle.walk.specs.Permission.{Access, reading, writing, allowed}
 use Rattle.walk.specs.Walk.{walkOf}
 use Rattle.walk.specs.declared.regime.Regime.{Regime}
 use Rattle.walk.specs.declared.regime.Regime.the-variants.{El1, El2, El3}
@@ -42,15 +45,15 @@ faulted p = 2 ^ 11 + flag (p .s) (2 ^ 9) + flag (p .ptw) (2 ^ 8) + p .fst * 2 ^ 
 unfoldable pub success : ℕ → ℕ → Bool → ℕ → ℕ
 success attr pa nonsecure shareability = translated (record { attr = attr; pa = pa; nonsecure = nonsecure; shareability = shareability })
 
--- Without stage 2 (M3) the fault is of stage 1, so S and PTW are 0. A walk's external abort is reported here and not taken (A1).
+-- M3: without stage 2 the fault is of stage 1, so S and PTW are 0. A1: a walk's external abort is reported here and not taken.
 unfoldable pub abort : ℕ → ℕ
 abort status = faulted (record { s = false; ptw = false; fst = status })
 
--- MAIR_ELx.Attr<n>, as it stands (O9)
+-- MAIR_ELx.Attr<n>. O9: as it stands.
 abbrev pub mairAttr : ℕ → ℕ → ℕ
 mairAttr mair n = field mair (n * 8) 8
 
--- a regime is Non-secure by SCR_EL3.NS, and EL3's never; PAR.NS is UNKNOWN from such a one, and 1 here
+-- a regime is Non-secure by SCR_EL3.NS, and EL3's never. O10: PAR.NS, UNKNOWN from a Non-secure regime in the manual, is 1.
 abbrev pub fromNonSecure : Bank → Regime → Bool
 fromNonSecure s El1 = nonSecure s
 fromNonSecure s El2 = nonSecure s
@@ -64,7 +67,7 @@ kindOf false = Read
 abbrev pub permits : AtForm → Leaf → Bool
 permits f leaf = hasRight (leaf .perms) (rightOf (kindOf (f .write)) (f .user))
 
--- NS and SH are the leaf descriptor's: NSTable is ignored (A6), and SH is not made 0b10 for Device and Non-cacheable memory (D1)
+-- NS and SH are the leaf descriptor's. A6: NSTable is ignored. D1: SH is not made 0b10 for Device and Non-cacheable memory.
 abbrev pub leafFound : ℕ → Bool → Leaf → ℕ
 leafFound mair nonsecure leaf =
     success (mairAttr mair (attrIndx (leaf .desc))) (leaf .oa) (nonsecure || ns (leaf .desc)) (sh (leaf .desc))
@@ -77,7 +80,8 @@ abbrev pub walkPar : ℕ → Bool → AtForm → Walked → ℕ
 walkPar mair nonsecure f (Mapped leaf) = leafPar mair nonsecure f leaf
 walkPar mair nonsecure f (Fault status) = abort status
 
--- With stage 1 off PA is the address: its tag (A4) and its size (A3) are not looked at. ATTR and SH are 0, under HCR_EL2.DC too (A5, D1).
+-- With stage 1 off PA is the address. A3, A4: its size and its tag are not looked at. D1: SH is 0, and not 0b10. A5: ATTR is 0 under
+-- HCR_EL2.DC too.
 unfoldable pub parIn : Bank → ℕ → AtForm → ℕ → (ℕ → Word) → ℕ
 parIn s mair f va memory =
     pick (stage1On s (f .regime))
@@ -87,3 +91,18 @@ parIn s mair f va memory =
 -- the registers of the form's regime
 unfoldable pub atPar : Control → ℕ → AtForm → ℕ → (ℕ → Word) → ℕ
 atPar c mair f va memory = parIn (bankOf c (f .regime)) mair f va memory
+
+-- PAR_EL1 by the manual's own walk and permission check, AArch64.TranslationTableWalk and AArch64.CheckPermission: `manual-par` of ParLaws has the
+-- two equal
+abbrev pub accessOf : Bool → Access
+accessOf true = writing
+accessOf false = reading
+
+abbrev pub checked : Bank → AtForm → Translation → Bool
+checked s f t = allowed (singlePriv (f .regime)) (not (f .user)) (wxnOf s) (t .perms) (accessOf (f .write))
+
+unfoldable pub resultPar : Bank → AtForm → ℕ → Bool → Result → ℕ
+resultPar s f mair nonsecure (mapped t) =
+    pick (checked s f t) (success (mairAttr mair (attrIndx (t .descriptor))) (t .address) (nonsecure || ns (t .descriptor)) (sh (t .descriptor)))
+    (abort (12 + t .level))
+resultPar s f mair nonsecure (faults x) = abort (statusOf x)

@@ -10,7 +10,7 @@ use Rattle.walk.specs.Regime.{bankOf, singlePriv, wxnOf, stage1On}
 use Rattle.walk.specs.Tag.{untagged}
 use Rattle.walk.specs.Descriptor.{attrIndx, ns, sh}
 use Rattle.walk.specs.Table.{Translation, Result, mapped, faults, statusOf, tableWalk}
-use Rattle.walk.specs.Permission.{Access, reading, writing, allowed, permissionByte}
+use Rattle.walk.specs.Permission.{permissionByte}
 use Rattle.walk.specs.PermissionLaws.{kindBit, firstBit, permission-bit}
 use Rattle.walk.specs.Walk.{leafOf, walkedOf, walkOf}
 use Rattle.walk.specs.WalkBounds.{SoundWalked, walk-sound, status-small}
@@ -19,7 +19,7 @@ use Rattle.walk.specs.declared.level.Walked.{Walked}
 use Rattle.walk.specs.declared.level.Walked.the-variants.{Mapped, Fault}
 use Rattle.tlb.specs.Access.{rightOf}
 use Rattle.sysop.specs.declared.op.AtForm.{AtForm}
-use Rattle.sysop.specs.Par.{success, abort, mairAttr, fromNonSecure, kindOf, permits, leafFound, leafPar, walkPar, parIn, atPar}
+use Rattle.sysop.specs.Par.{success, abort, mairAttr, fromNonSecure, kindOf, permits, leafFound, leafPar, walkPar, parIn, atPar, accessOf, checked, resultPar}
 
 -- the walk that an AT makes
 abbrev pub atWalk : Control → AtForm → ℕ → (ℕ → Word) → Walked
@@ -137,37 +137,24 @@ unfolding atPar parIn
 by-walk c mair f va m n e = rw e
 
 -- PAR_EL1 by the manual's own walk and permission check
-abbrev pub accessOf : Bool → Access
-accessOf true = writing
-accessOf false = reading
-
 module _ (s : Bank) (f : AtForm) where
-  abbrev pub checked : Translation → Bool
-  checked t = allowed (singlePriv (f .regime)) (not (f .user)) (wxnOf s) (t .perms) (accessOf (f .write))
-
-  unfoldable pub resultPar : ℕ → Bool → Result → ℕ
-  resultPar mair n (mapped t) =
-      pick (checked t) (success (mairAttr mair (attrIndx (t .descriptor))) (t .address) (n || ns (t .descriptor)) (sh (t .descriptor)))
-      (abort (12 + t .level))
-  resultPar mair n (faults x) = abort (statusOf x)
-
   bits : (w u : Bool) → rightOf (kindOf w) u ≡ kindBit (accessOf w) + firstBit (not u)
   bits true true = refl
   bits true false = refl
   bits false true = refl
   bits false false = refl
 
-  permits-checked : (t : Translation) → permits f (leafOf (singlePriv (f .regime)) (wxnOf s) t) ≡ checked t
+  permits-checked : (t : Translation) → permits f (leafOf (singlePriv (f .regime)) (wxnOf s) t) ≡ checked s f t
   permits-checked t =
       ap (λ (n : ℕ). bitOn (permissionByte (singlePriv (f .regime)) (wxnOf s) (t .perms)) n) (bits (f .write) (f .user))
       ∙ permission-bit (singlePriv (f .regime)) (wxnOf s) (t .perms) (not (f .user)) (accessOf (f .write))
 
   pub manual-par : (mair : ℕ) (n : Bool) (va : ℕ) (memory : ℕ → Word)
-      → walkPar mair n f (walkOf s (f .regime) va memory) ≡ resultPar mair n (tableWalk s (f .regime) va memory)
+      → walkPar mair n f (walkOf s (f .regime) va memory) ≡ resultPar s f mair n (tableWalk s (f .regime) va memory)
   unfolding walkOf leafPar resultPar
   manual-par mair n va memory = go (tableWalk s (f .regime) va memory)
     where
-      go : (x : Result) → walkPar mair n f (walkedOf (singlePriv (f .regime)) (wxnOf s) x) ≡ resultPar mair n x
+      go : (x : Result) → walkPar mair n f (walkedOf (singlePriv (f .regime)) (wxnOf s) x) ≡ resultPar s f mair n x
       go (mapped t) =
           ap
           (λ (b : Bool). pick b (leafFound mair n (leafOf (singlePriv (f .regime)) (wxnOf s) t)) (abort (12 + t .level)))

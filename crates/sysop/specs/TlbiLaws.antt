@@ -4,12 +4,13 @@ use mathlib.Core.Bool.{Bool, true, false}
 use mathlib.Core.List.{List, [], _∷_}
 use Prim.Native.Nat.{ℕ, _^_, _<_}
 use native.Mathlib.Omega.{arith}
-use Rattle.word.specs.Bits.{bitOn, field, pick}
+use Rattle.word.specs.Bits.{field, pick}
+use Rattle.sysreg.specs.Tcr.{«as»}
 use Rattle.sysreg.specs.declared.regs.Control.{Control}
 use Rattle.walk.specs.declared.regime.Regime.the-variants.{El1}
 use Rattle.tlb.specs.declared.Inval.{Inval}
 use Rattle.tlb.specs.declared.Inval.the-variants.{All, Page, Asid}
-use Rattle.sysop.specs.Tlbi.{Scope, everything, asidForm, stage2, ranged, Row, stage1, scopeOf, tcrOf, pages4k, whatOf, tlbiOf, reachesOthers}
+use Rattle.sysop.specs.Tlbi.{Scope, everything, asidForm, ranged, Row, stage1, scopeOf, tcrOf, pages4k, whatOf, tlbiOf, reachesOthers}
 
 -- what is named lies within the operand: a Page is the operand itself, and an ASID has 16 bits
 abbrev pub Within : ℕ → Inval → Type 0
@@ -20,13 +21,12 @@ Within x (Asid n) = n < 2 ^ 16
 within : (c : Control) (x : ℕ) (s : Scope) → Within x (whatOf c x s)
 unfolding whatOf
 within c x everything = tt
-within c x stage2 = tt
 within c x (ranged r) = go (pages4k (tcrOf c r) r)
   where
     go : (b : Bool) → Within x (pick b (Page x) All)
     go true = refl
     go false = tt
-within c x asidForm = go (bitOn (tcrOf c El1) 36)
+within c x asidForm = go («as» (tcrOf c El1))
   where
     go : (b : Bool) → field x 48 (pick b 16 8) < 2 ^ 16
     go true = omega arith

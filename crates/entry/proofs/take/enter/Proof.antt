@@ -13,6 +13,9 @@ cast-to c = search needs
 vector-group-requires : tie.Need-vector-group-requires
 vector-group-requires c κs = search needs
 
+wrapping-add-u64-requires : tie.Need-wrapping-add-u64-requires
+wrapping-add-u64-requires c κs = search needs
+
 masked-requires : tie.Need-masked-requires
 masked-requires c κs = search needs
 
@@ -22,8 +25,8 @@ mul-wrapping-add-u64 c = search needs
 element-copy-out-wrapping-add-u64 : tie.Need-element-copy-out-wrapping-add-u64
 element-copy-out-wrapping-add-u64 c = search needs
 
-wrapping-add-u64-requires : tie.Need-wrapping-add-u64-requires
-wrapping-add-u64-requires c κs = search needs
+wrapping-add-u64-requires-2 : tie.Need-wrapping-add-u64-requires-2
+wrapping-add-u64-requires-2 c κs = search needs
 
 pstate-requires : tie.Need-pstate-requires
 pstate-requires c κs = search needs
@@ -41,10 +44,11 @@ enter-spec =
     index-requires
     cast-to
     vector-group-requires
+    wrapping-add-u64-requires
     masked-requires
     mul-wrapping-add-u64
     element-copy-out-wrapping-add-u64
-    wrapping-add-u64-requires
+    wrapping-add-u64-requires-2
     pstate-requires
     saved-requires
     returns)

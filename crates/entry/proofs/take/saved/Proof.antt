@@ -10,11 +10,11 @@ at-target-requires c κs = search needs
 at-target-requires-2 : tie.Need-at-target-requires-2
 at-target-requires-2 c κs = search needs
 
-at-target-requires-3 : tie.Need-at-target-requires-3
-at-target-requires-3 c κs = search needs
+updated-requires : tie.Need-updated-requires
+updated-requires c κs = search needs
 
-far-after-requires : tie.Need-far-after-requires
-far-after-requires c κs = search needs
+updated-requires-2 : tie.Need-updated-requires-2
+updated-requires-2 c κs = search needs
 
 returns : tie.Need-returns
 returns c = search (arrays, needs)
@@ -25,6 +25,6 @@ saved-spec =
     (tie.spec
     at-target-requires
     at-target-requires-2
-    at-target-requires-3
-    far-after-requires
+    updated-requires
+    updated-requires-2
     returns)

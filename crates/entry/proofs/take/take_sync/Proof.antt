@@ -16,6 +16,9 @@ cast-syndrome c = search needs
 syndrome-requires : tie.Need-syndrome-requires
 syndrome-requires c κs = search needs
 
+far-update-requires : tie.Need-far-update-requires
+far-update-requires c κs = search needs
+
 enter-requires : tie.Need-enter-requires
 enter-requires c κs = search needs
 
@@ -25,4 +28,11 @@ returns c = search (taken, needs)
 pub take-sync-spec : {M : Type 1} → statement M
 take-sync-spec =
     tie.close
-    (tie.spec route-requires index-requires cast-syndrome syndrome-requires enter-requires returns)
+    (tie.spec
+    route-requires
+    index-requires
+    cast-syndrome
+    syndrome-requires
+    far-update-requires
+    enter-requires
+    returns)
