@@ -1,4 +1,4 @@
--- What a register write does.
+-- What a register write does. Letters with a number are rows of docs/DIFFERENCES.md.
 use mathlib.Core.Bool.{Bool, true, false}
 use mathlib.Core.List.{List, [], _∷_}
 use Prim.Native.Nat.{ℕ, _+_, _*_, _%_, _^_}
@@ -26,11 +26,13 @@ use Rattle.sysreg.specs.Encoding.{controlKey, sysKey, registerAt}
 abbrev pub inPlace : ℕ → ℕ → ℕ → ℕ
 inPlace v lo n = field v lo n * 2 ^ lo
 
--- SPSR_ELx: N, Z, C, V are 31:28, SS 21, IL 20, GE 19:16 (the AArch32 form's), D, A, I, F 9:6, M 4:0; the others are RES0
+-- SPSR_ELx: N, Z, C, V are 31:28, SS 21, IL 20, GE 19:16 (the AArch32 form's), D, A, I, F 9:6, M 4:0; the others are RES0.
+-- M13: of a saved AArch32 state T, IT, Q and E would be kept too
 unfoldable pub spsrKept : ℕ → ℕ
 spsrKept v = inPlace v 28 4 + inPlace v 21 1 + inPlace v 20 1 + inPlace v 16 4 + inPlace v 6 4 + v % 2 ^ 5
 
--- What a register keeps of a value. VBAR_ELx<10:0> are RES0, and so are bits 63:32 of ESR_ELx and VPIDR_EL2.
+-- What a register keeps of a value. VBAR_ELx<10:0> are RES0, and so are bits 63:32 of ESR_ELx and VPIDR_EL2. O5: the others, and those of `Control`,
+-- keep the bits that are RES0 or RES1 as they are written
 abbrev pub kept : SysReg → ℕ → ℕ
 kept (Vbar el) v = alignDown v 11
 kept (Spsr el) v = spsrKept v
@@ -87,7 +89,8 @@ abbrev pub wrote : Control → SysRegs → Register → ℕ → Written
 wrote c s (InControl r) v = ended (controlWith c r v) s Done
 wrote c s (InSys r) v = ended c (sysWith s r v) Done
 
--- A key that names no register is refused first; then EL0 may write none; then the register is written.
+-- A key that names no register is refused first; then EL0 may write none; then the register is written. R1: below the register's own level too. M7: at
+-- Non-secure EL1 HCR_EL2 could trap the write
 abbrev pub writeFound : Control → SysRegs → ℕ → Found → ℕ → Written
 writeFound c s level Nothing v = ended c s NoRegister
 writeFound c s level (At r) v = pick (eqb level 0) (ended c s Undefined) (wrote c s r v)

@@ -8,8 +8,8 @@ use lib.Dec.{eqb}
 use Rattle.word.specs.Bits.{pick}
 use Rattle.word.specs.declared.ram.Word.{Word}
 use Rattle.walk.specs.Table.{Lookup, Next, deeper, ends, descaddr, lookupNext, rangeOf, paramsOf, firstLookup, inRange, beyond}
-use Rattle.walk.specs.State.{lookupOf, Outcome, onward, answers, stepped, meant, Leads, beginOf}
-use Rattle.walk.specs.Visits.{Seen, seen, past, seenAfter, visitFrom, visitOf, seenAs}
+use Rattle.walk.specs.State.{lookupOf, stepped, meant, beginOf}
+use Rattle.walk.specs.Visits.{Seen, seen, past, visitFrom, visitOf, seenAs}
 use Rattle.walk.specs.declared.regime.Regime.{Regime}
 use Rattle.walk.specs.declared.regime.Bank.{Bank}
 use Rattle.walk.specs.declared.range.Range.{Range}

@@ -1,13 +1,13 @@
 -- The permission tables as the pseudocode's expressions; and: bit k of the permission byte is set exactly where the permission check allows that
 -- access.
-use mathlib.Core.Path.{_≡_, refl, sym, ap, _∙_}
+use mathlib.Core.Path.{_≡_, refl}
 use mathlib.Core.Bool.{Bool, true, false, not, _&&_, _||_}
-use Prim.Native.Nat.{ℕ, _+_, _*_, _/_, _%_, _^_, _≤_, _<_}
+use Prim.Native.Nat.{ℕ, _+_, _*_, _/_, _%_, _^_, _≤_}
 use native.Mathlib.Omega.{arith}
 use lib.Dec.{eqb}
 use Rattle.word.specs.Bits.{bitOn, flag, pick}
 use Rattle.walk.specs.Descriptor.{ap1, ap2, pxn, uxn}
-use Rattle.walk.specs.Permission.{Access, reading, writing, fetching, DataAccess, dataAccess, dataAccessOnly, executeEl1, executeEl0, executeOnly, underApTable, underXnTable, Rights, rights, grants, rightsOf, allowed, accessBits, permissionByte}
+use Rattle.walk.specs.Permission.{Access, reading, writing, fetching, dataAccess, dataAccessOnly, executeEl1, executeEl0, executeOnly, underApTable, underXnTable, Rights, rights, grants, rightsOf, allowed, accessBits, permissionByte}
 use Rattle.walk.specs.Table.{Lookup, leafPermissions, permissionsOne, permissionsTwo}
 pub use Rattle.walk.specs.Permission.{kindBit, firstBit}
 use Rattle.walk.specs.declared.level.Params.{Params}

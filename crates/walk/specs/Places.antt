@@ -7,7 +7,7 @@ use Prim.Native.Nat.{ℕ, _-_, _*_, _^_}
 use Rattle.walk.specs.Descriptor.{valid, tableOrPage, attrIndx, ns, ap1, ap2, sh, af, nG, pxn, uxn, pxnTable, uxnTable, apTable0, apTable1}
 use Rattle.walk.specs.Regime.{mmuOn, wxnOf, nonSecure, tge, dc}
 use Rattle.walk.specs.Size.{paSize}
-use Rattle.walk.specs.Table.{lowerRange, upperRange, onlyRange, inputsize, inRange, startlevelOf, firstblocklevel, beyond, outputaddress}
+use Rattle.walk.specs.Table.{lowerRange, upperRange, onlyRange, inputsize, startlevelOf, firstblocklevel, beyond, outputaddress}
 use Rattle.walk.specs.declared.regime.Bank.{Bank}
 use Rattle.walk.specs.declared.range.Range.{Range}
 

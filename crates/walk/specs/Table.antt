@@ -1,7 +1,7 @@
 -- The VMSAv8-64 stage 1 translation table walk: DDI 0487, AArch64.TranslationTableWalk of ARMv8.0, with its variables' names. Written from
 -- knowledge of that pseudocode; the document itself was not at hand. x<hi:lo> is `field x lo (hi + 1 - lo)`.
 -- Where the pseudocode has something else, a comment names the row of docs/DIFFERENCES.md. Left out of it are: ns_table, and with it what it does to
--- nG (M1) and to the NS of the output (A6) and of the descriptors' addresses (M17); reversedescriptors (A10); stage 2 of a descriptor's address (M3);
+-- nG (M1), to the NS of the output (A6, M17) and to that of the descriptors' addresses (M17); reversedescriptors (A10); stage 2 of a descriptor's address (M3);
 -- the contiguous bit (O4); a memory type (D3, D4, O7). What it leaves open is settled by B1, O1, O2 and O3.
 use mathlib.Core.Bool.{Bool, true, false, not, _&&_, _||_}
 use Prim.Native.Nat.{ℕ, zero, suc, _+_, _-_, _*_, _/_, _%_, _^_, min, max}
@@ -33,7 +33,7 @@ statusOf (accessFlag level) = 8 + level
 statusOf (externalAbort level) = 20 + level
 
 -- what a walk finds: the output address, the permission attributes as the tables above leave them, the rest as the descriptor has it.
--- A6: NS would be NS OR ns_table, and not the descriptor's alone. D3, D4, O7: no memory type is made of AttrIndx
+-- A6, M17: NS would be NS OR ns_table, and choose one of two physical address spaces. D3, D4, O7: no memory type is made of AttrIndx
 pub record Translation : Type 0 where
   pub address : ℕ
   pub level : ℕ

@@ -5,7 +5,6 @@ use borrow.Author.Needs.{needs}
 use Rattle.walk.proofs.Loop.{stands}
 use Rattle.walk.proofs.Visiting.{one-left, one-fewer, visit-on, visit-here, visit-past}
 use mathlib.Core.Path.{_≡_}
-use Prim.Native.Nat.{_-_}
 use Rattle.word.specs.Ram.{wordAt}
 use Rattle.walk.specs.State.{Standing, lookupOf}
 use Rattle.walk.specs.Visits.{visitFrom}
