@@ -16,7 +16,7 @@ use Rattle.walk.specs.declared.regime.Regime.{Regime}
 use Rattle.walk.specs.declared.regime.Regime.the-variants.{El1, El2, El3}
 use Rattle.tlb.specs.declared.Inval.{Inval}
 use Rattle.tlb.specs.declared.Inval.the-variants.{All, Page, Asid}
-use Rattle.sysop.specs.Tlbi.{Name, VMALLE1, ALLE1, ALLE2, VMALLS12E1, IPAS2E1, IPAS2LE1, ALLE3, unallocated, asidForm, ranged, scope, scopeOf, tcrOf, pages4k, whatOf, tlbiOf}
+use Rattle.sysop.specs.Tlbi.{Instruction, VMALLE1, ALLE1, ALLE2, VMALLS12E1, IPAS2E1, IPAS2LE1, ALLE3, unallocated, asidForm, ranged, scope, scopeOf, tcrOf, pages4k, whatOf, tlbiOf}
 
 module _ (c : Control) (x : ℕ) where
   module _ (r : Regime) (s : Bank) (b : Bool) (q : s ≡ bankOf c r) (e : b ≡ pages4k (s .tcr) r) where
@@ -42,7 +42,7 @@ module _ (c : Control) (x : ℕ) where
 pub ruleset scopes = (one-page, every-page, wide-asid, narrow-asid)
 
 -- past an instruction that names everything
-passed : (c : Control) (x : ℕ) (b : Bool) (n m : Name) → All ≡ whatOf c x (scope n) → All ≡ whatOf c x (scope m) → All ≡ whatOf c x (scope (pick b n m))
+passed : (c : Control) (x : ℕ) (b : Bool) (n m : Instruction) → All ≡ whatOf c x (scope n) → All ≡ whatOf c x (scope m) → All ≡ whatOf c x (scope (pick b n m))
 passed c x true n m p q = p
 passed c x false n m p q = q
 

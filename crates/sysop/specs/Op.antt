@@ -84,7 +84,8 @@ row n a b c d l = record { name = n; op1 = a; crn = b; crm = only c; op2 = only 
 abbrev pub block : Name → ℕ → ℕ → ℕ → Row
 block n a b l = record { name = n; op1 = a; crn = b; crm = any; op2 = any; lowest = l }
 
--- op1 3. A11: SCTLR_EL1.DZE traps no DC ZVA of EL0. A12: SCTLR_EL1.UCI traps none of the others. M7: nor does HCR_EL2 at EL1 and EL0.
+-- op1 3. A11: SCTLR_EL1.DZE traps no DC ZVA of EL0. M21: under the mark its stores are judged by EL0's rights. A12: SCTLR_EL1.UCI traps none of
+-- the others. M7: nor does HCR_EL2 at EL1 and EL0.
 abbrev ofEl0 : List Row
 ofEl0 = row DC-ZVA 3 7 4 1 0 ∷ row IC-IVAU 3 7 5 1 0 ∷ row DC-CVAC 3 7 10 1 0 ∷ row DC-CVAU 3 7 11 1 0 ∷ row DC-CIVAC 3 7 14 1 0 ∷ []
 
@@ -138,12 +139,12 @@ abbrev pub holds : Field → ℕ → Bool
 holds (only n) x = eqb x n
 holds any x = true
 
-abbrev pub names : Row → ℕ → ℕ → ℕ → ℕ → Bool
-names r op1 crn crm op2 = eqb op1 (r .op1) && (eqb crn (r .crn) && (holds (r .crm) crm && holds (r .op2) op2))
+abbrev pub encodes : Row → ℕ → ℕ → ℕ → ℕ → Bool
+encodes r op1 crn crm op2 = eqb op1 (r .op1) && (eqb crn (r .crn) && (holds (r .crm) crm && holds (r .op2) op2))
 
 abbrev pub lookUp : List Row → ℕ → ℕ → ℕ → ℕ → Row
 lookUp [] op1 crn crm op2 = absent
-lookUp (r ∷ rs) op1 crn crm op2 = pick (names r op1 crn crm op2) r (lookUp rs op1 crn crm op2)
+lookUp (r ∷ rs) op1 crn crm op2 = pick (encodes r op1 crn crm op2) r (lookUp rs op1 crn crm op2)
 
 -- the row of an encoding
 unfoldable pub named : ℕ → ℕ → ℕ → ℕ → Row

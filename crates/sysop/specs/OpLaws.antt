@@ -13,7 +13,7 @@ use Rattle.walk.specs.declared.regime.Regime.the-variants.{El1, El2, El3}
 use Rattle.sysop.specs.declared.op.AtForm.{AtForm}
 use Rattle.sysop.specs.declared.op.SysOp.{SysOp}
 use Rattle.sysop.specs.declared.op.SysOp.the-variants.{At, Tlbi, Zva, Nothing, Undefined, Unimplemented}
-use Rattle.sysop.specs.Op.{Field, only, any, Row, table, absent, holds, names, lookUp, named, operation, refusal, ruled, decodeOf}
+use Rattle.sysop.specs.Op.{Field, only, any, Row, table, absent, holds, encodes, lookUp, named, operation, refusal, ruled, decodeOf}
 
 abbrev pub every : (Row → Bool) → List Row → Bool
 every p [] = true
@@ -36,9 +36,9 @@ module _ (P : Row → Type 0) (p : Row → Bool) (op1 crn crm op2 : ℕ) (good :
     (other : P absent) where
   found : (rs : List Row) → every p rs ≡ true → P (lookUp rs op1 crn crm op2)
   found [] e = other
-  found (r ∷ rs) e = let k = both (p r) (every p rs) e in go (names r op1 crn crm op2) refl (k .0) (found rs (k .1))
+  found (r ∷ rs) e = let k = both (p r) (every p rs) e in go (encodes r op1 crn crm op2) refl (k .0) (found rs (k .1))
     where
-      go : (b : Bool) → names r op1 crn crm op2 ≡ b → p r ≡ true → P (lookUp rs op1 crn crm op2) → P (pick b r (lookUp rs op1 crn crm op2))
+      go : (b : Bool) → encodes r op1 crn crm op2 ≡ b → p r ≡ true → P (lookUp rs op1 crn crm op2) → P (pick b r (lookUp rs op1 crn crm op2))
       go false n x y = y
       go true n x y =
           let k = both (eqb op1 (r .op1)) (eqb crn (r .crn) && (holds (r .crm) crm && holds (r .op2) op2)) n in

@@ -1,43 +1,73 @@
 -- Encodings by mnemonic, and the bits of each field, computed: a place that code and definition both had wrong fails here.
 use mathlib.Core.Path.{_≡_, refl}
 use mathlib.Core.Bool.{true, false}
-use mathlib.Core.List.{List, [], _∷_}
+use mathlib.Core.List.{[], _∷_}
 use Prim.Native.Nat.{ℕ}
 use Rattle.sysreg.specs.Regs.{levels}
 use Rattle.sysreg.specs.declared.regs.Control.{Control}
-use Rattle.tlb.specs.declared.Inval.{Inval}
 use Rattle.tlb.specs.declared.Inval.the-variants.{All, Page, Asid}
 use Rattle.sysop.specs.Op as op
-use Rattle.sysop.specs.Op.{AT-S1E1R, AT-S1E1W, AT-S1E0R, AT-S1E0W, AT-S1E2R, AT-S1E2W, AT-S12E1R, AT-S12E1W, AT-S12E0R, AT-S12E0W, AT-S1E3R, AT-S1E3W, DC-ZVA, DC-CVAC, DC-CVAU, DC-CIVAC, IC-IVAU, DC-IVAC, DC-ISW, DC-CSW, DC-CISW, IC-IALLU, IC-IALLUIS, TLBI}
-use Rattle.sysop.specs.Tlbi.{VMALLE1, VAE1, ASIDE1, VAAE1, VALE1, VAALE1, ALLE2, VAE2, ALLE1, VALE2, VMALLS12E1, IPAS2E1, IPAS2LE1, ALLE3, VAE3, VALE3, instructions, find, scopeOf, whatOf, tlbiOf}
+use Rattle.sysop.specs.Op.{AT-S1E1R, AT-S1E1W, AT-S1E0R, AT-S1E0W, AT-S1E2R, AT-S1E2W, AT-S12E1R, AT-S12E1W, AT-S12E0R, AT-S12E0W, AT-S1E3R, AT-S1E3W, DC-ZVA, DC-CVAC, DC-CVAU, DC-CIVAC, IC-IVAU, DC-IVAC, DC-ISW, DC-CSW, DC-CISW, IC-IALLU, IC-IALLUIS}
+use Rattle.sysop.specs.Tlbi.{Instruction, VMALLE1, VAE1, ASIDE1, VAAE1, VALE1, VAALE1, ALLE2, VAE2, ALLE1, VALE2, VMALLS12E1, IPAS2E1, IPAS2LE1, ALLE3, VAE3, VALE3, instructions, instructionAt, scopeOf, whatOf, tlbiOf}
 use Rattle.sysop.specs.Par.{success, abort}
 
 -- SYS op1, CRn, CRm, op2
-abbrev mnemonic : ℕ → ℕ → ℕ → ℕ → op.Name
-mnemonic op1 crn crm op2 = op.named op1 crn crm op2 .name
+abbrev Is : op.Name → ℕ → ℕ → ℕ → ℕ → Type 0
+Is n op1 crn crm op2 = op.named op1 crn crm op2 .name ≡ n
 
 pub translations :
-    (mnemonic 0 7 8 0 ∷ mnemonic 0 7 8 1 ∷ mnemonic 0 7 8 2 ∷ mnemonic 0 7 8 3 ∷ mnemonic 4 7 8 0 ∷ mnemonic 4 7 8 1 ∷ mnemonic 4 7 8 4 ∷ mnemonic 4 7 8 5 ∷ mnemonic 4 7 8 6 ∷ mnemonic 4 7 8 7 ∷ mnemonic 6 7 8 0 ∷ mnemonic 6 7 8 1 ∷ [])
-    ≡ (AT-S1E1R ∷ AT-S1E1W ∷ AT-S1E0R ∷ AT-S1E0W ∷ AT-S1E2R ∷ AT-S1E2W ∷ AT-S12E1R ∷ AT-S12E1W ∷ AT-S12E0R ∷ AT-S12E0W ∷ AT-S1E3R ∷ AT-S1E3W ∷ [])
+    Is AT-S1E1R 0 7 8 0
+    × Is AT-S1E1W 0 7 8 1
+    × Is AT-S1E0R 0 7 8 2
+    × Is AT-S1E0W 0 7 8 3
+    × Is AT-S1E2R 4 7 8 0
+    × Is AT-S1E2W 4 7 8 1
+    × Is AT-S12E1R 4 7 8 4
+    × Is AT-S12E1W 4 7 8 5
+    × Is AT-S12E0R 4 7 8 6
+    × Is AT-S12E0W 4 7 8 7
+    × Is AT-S1E3R 6 7 8 0
+    × Is AT-S1E3W 6 7 8 1
 unfolding op.named
-translations = refl
+translations = (refl, refl, refl, refl, refl, refl, refl, refl, refl, refl, refl, refl)
 
 pub maintenance :
-    (mnemonic 3 7 4 1 ∷ mnemonic 3 7 5 1 ∷ mnemonic 3 7 10 1 ∷ mnemonic 3 7 11 1 ∷ mnemonic 3 7 14 1 ∷ mnemonic 0 7 1 0 ∷ mnemonic 0 7 5 0 ∷ mnemonic 0 7 6 1 ∷ mnemonic 0 7 6 2 ∷ mnemonic 0 7 10 2 ∷ mnemonic 0 7 14 2 ∷ [])
-    ≡ (DC-ZVA ∷ IC-IVAU ∷ DC-CVAC ∷ DC-CVAU ∷ DC-CIVAC ∷ IC-IALLUIS ∷ IC-IALLU ∷ DC-IVAC ∷ DC-ISW ∷ DC-CSW ∷ DC-CISW ∷ [])
+    Is DC-ZVA 3 7 4 1
+    × Is IC-IVAU 3 7 5 1
+    × Is DC-CVAC 3 7 10 1
+    × Is DC-CVAU 3 7 11 1
+    × Is DC-CIVAC 3 7 14 1
+    × Is IC-IALLUIS 0 7 1 0
+    × Is IC-IALLU 0 7 5 0
+    × Is DC-IVAC 0 7 6 1
+    × Is DC-ISW 0 7 6 2
+    × Is DC-CSW 0 7 10 2
+    × Is DC-CISW 0 7 14 2
 unfolding op.named
-maintenance = refl
+maintenance = (refl, refl, refl, refl, refl, refl, refl, refl, refl, refl, refl)
 
--- TLBI op1, CRm, op2: VMALLE1IS is 0 3 0, VMALLE1 0 7 0
-pub shareable :
-    (find instructions 0 3 0 ∷ find instructions 0 3 1 ∷ find instructions 0 3 2 ∷ find instructions 0 3 3 ∷ find instructions 0 3 5 ∷ find instructions 0 3 7 ∷ find instructions 4 3 0 ∷ find instructions 4 3 1 ∷ find instructions 4 3 4 ∷ find instructions 4 3 5 ∷ find instructions 4 3 6 ∷ find instructions 6 3 0 ∷ find instructions 6 3 1 ∷ find instructions 6 3 5 ∷ find instructions 4 0 1 ∷ find instructions 4 0 5 ∷ [])
-    ≡ (VMALLE1 ∷ VAE1 ∷ ASIDE1 ∷ VAAE1 ∷ VALE1 ∷ VAALE1 ∷ ALLE2 ∷ VAE2 ∷ ALLE1 ∷ VALE2 ∷ VMALLS12E1 ∷ ALLE3 ∷ VAE3 ∷ VALE3 ∷ IPAS2E1 ∷ IPAS2LE1 ∷ [])
-shareable = refl
+-- TLBI op1, op2: the Inner Shareable form with CRm 3, and the other with CRm 7; by intermediate physical address with CRm 0 and 4
+abbrev Both : Instruction → ℕ → ℕ → ℕ → ℕ → Type 0
+Both n op1 crm local op2 = (instructionAt instructions op1 crm op2 ≡ n) × (instructionAt instructions op1 local op2 ≡ n)
 
-pub local :
-    (find instructions 0 7 0 ∷ find instructions 0 7 1 ∷ find instructions 0 7 2 ∷ find instructions 0 7 3 ∷ find instructions 0 7 5 ∷ find instructions 0 7 7 ∷ find instructions 4 7 0 ∷ find instructions 4 7 1 ∷ find instructions 4 7 4 ∷ find instructions 4 7 5 ∷ find instructions 4 7 6 ∷ find instructions 6 7 0 ∷ find instructions 6 7 1 ∷ find instructions 6 7 5 ∷ find instructions 4 4 1 ∷ find instructions 4 4 5 ∷ [])
-    ≡ (VMALLE1 ∷ VAE1 ∷ ASIDE1 ∷ VAAE1 ∷ VALE1 ∷ VAALE1 ∷ ALLE2 ∷ VAE2 ∷ ALLE1 ∷ VALE2 ∷ VMALLS12E1 ∷ ALLE3 ∷ VAE3 ∷ VALE3 ∷ IPAS2E1 ∷ IPAS2LE1 ∷ [])
-local = refl
+pub invalidations :
+    Both VMALLE1 0 3 7 0
+    × Both VAE1 0 3 7 1
+    × Both ASIDE1 0 3 7 2
+    × Both VAAE1 0 3 7 3
+    × Both VALE1 0 3 7 5
+    × Both VAALE1 0 3 7 7
+    × Both ALLE2 4 3 7 0
+    × Both VAE2 4 3 7 1
+    × Both ALLE1 4 3 7 4
+    × Both VALE2 4 3 7 5
+    × Both VMALLS12E1 4 3 7 6
+    × Both ALLE3 6 3 7 0
+    × Both VAE3 6 3 7 1
+    × Both VALE3 6 3 7 5
+    × Both IPAS2E1 4 0 4 1
+    × Both IPAS2LE1 4 0 4 5
+invalidations = ((refl, refl), (refl, refl), (refl, refl), (refl, refl), (refl, refl), (refl, refl), (refl, refl), (refl, refl), (refl, refl), (refl, refl), (refl, refl), (refl, refl), (refl, refl), (refl, refl), (refl, refl), (refl, refl))
 
 -- a core whose TCR_EL1 is given
 abbrev tcrEl1 : ℕ → Control

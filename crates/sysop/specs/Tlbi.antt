@@ -17,11 +17,11 @@ use Rattle.tlb.specs.declared.Inval.{Inval}
 use Rattle.tlb.specs.declared.Inval.the-variants.{All, Page, Asid}
 
 -- each name stands for two instructions, of which one has IS at its end
-pub data Name : Type 0 where
-  VMALLE1 VAE1 ASIDE1 VAAE1 VALE1 VAALE1 : Name
-  ALLE2 VAE2 ALLE1 VALE2 VMALLS12E1 IPAS2E1 IPAS2LE1 : Name
-  ALLE3 VAE3 VALE3 : Name
-  unallocated : Name
+pub data Instruction : Type 0 where
+  VMALLE1 VAE1 ASIDE1 VAAE1 VALE1 VAALE1 : Instruction
+  ALLE2 VAE2 ALLE1 VALE2 VMALLS12E1 IPAS2E1 IPAS2LE1 : Instruction
+  ALLE3 VAE3 VALE3 : Instruction
+  unallocated : Instruction
 
 -- what is named: everything, the operand's virtual address in a regime, or the operand's ASID
 pub data Scope : Type 0 where
@@ -31,7 +31,7 @@ pub data Scope : Type 0 where
 -- What each names here, which is at least what the manual has it name: an address in every ASID and at every level (VAA, VAL and VAAL are VA),
 -- and everything for what names a regime or a stage. M20: IPAS2E1 and IPAS2LE1 name an intermediate physical address of stage 2, which is not
 -- there (M3); they too drop everything.
-abbrev pub scope : Name → Scope
+abbrev pub scope : Instruction → Scope
 scope VMALLE1 = everything
 scope VAE1 = ranged El1
 scope ASIDE1 = asidForm
@@ -51,21 +51,21 @@ scope VALE3 = ranged El3
 -- M9: UNDEFINED in the manual
 scope unallocated = everything
 
-pub record Row : Type 0 where
-  pub name : Name
+pub record Encoding : Type 0 where
+  pub name : Instruction
   pub shareable : Bool
   pub op1 : ℕ
   pub crm : ℕ
   pub op2 : ℕ
 
-abbrev row : Name → Bool → ℕ → ℕ → ℕ → Row
-row n i a b c = record { name = n; shareable = i; op1 = a; crm = b; op2 = c }
+abbrev encoding : Instruction → Bool → ℕ → ℕ → ℕ → Encoding
+encoding n i a b c = record { name = n; shareable = i; op1 = a; crm = b; op2 = c }
 
 -- the Inner Shareable form has CRm 3, the other CRm 7
-abbrev forms : Name → ℕ → ℕ → List Row
-forms n op1 op2 = row n true op1 3 op2 ∷ row n false op1 7 op2 ∷ []
+abbrev forms : Instruction → ℕ → ℕ → List Encoding
+forms n op1 op2 = encoding n true op1 3 op2 ∷ encoding n false op1 7 op2 ∷ []
 
-abbrev pub stage1 : List Row
+abbrev pub stage1 : List Encoding
 stage1 =
     forms VMALLE1 0 0
     ++ forms VAE1 0 1
@@ -83,19 +83,19 @@ stage1 =
     ++ forms VALE3 6 5
 
 -- here the Inner Shareable form has CRm 0, the other CRm 4
-abbrev pub byIpa : List Row
-byIpa = row IPAS2E1 true 4 0 1 ∷ row IPAS2LE1 true 4 0 5 ∷ row IPAS2E1 false 4 4 1 ∷ row IPAS2LE1 false 4 4 5 ∷ []
+abbrev pub byIpa : List Encoding
+byIpa = encoding IPAS2E1 true 4 0 1 ∷ encoding IPAS2LE1 true 4 0 5 ∷ encoding IPAS2E1 false 4 4 1 ∷ encoding IPAS2LE1 false 4 4 5 ∷ []
 
-abbrev pub instructions : List Row
+abbrev pub instructions : List Encoding
 instructions = stage1 ++ byIpa
 
 -- the instruction of an encoding
-abbrev pub find : List Row → ℕ → ℕ → ℕ → Name
-find [] op1 crm op2 = unallocated
-find (r ∷ rs) op1 crm op2 = pick (eqb op1 (r .op1) && (eqb crm (r .crm) && eqb op2 (r .op2))) (r .name) (find rs op1 crm op2)
+abbrev pub instructionAt : List Encoding → ℕ → ℕ → ℕ → Instruction
+instructionAt [] op1 crm op2 = unallocated
+instructionAt (r ∷ rs) op1 crm op2 = pick (eqb op1 (r .op1) && (eqb crm (r .crm) && eqb op2 (r .op2))) (r .name) (instructionAt rs op1 crm op2)
 
 unfoldable pub scopeOf : ℕ → ℕ → ℕ → Scope
-scopeOf op1 crm op2 = scope (find instructions op1 crm op2)
+scopeOf op1 crm op2 = scope (instructionAt instructions op1 crm op2)
 
 abbrev pub tcrOf : Control → Regime → ℕ
 tcrOf c r = controlAt c (Tcr (levelOf r))

@@ -10,7 +10,7 @@ use Rattle.sysreg.specs.declared.regs.Control.{Control}
 use Rattle.walk.specs.declared.regime.Regime.the-variants.{El1}
 use Rattle.tlb.specs.declared.Inval.{Inval}
 use Rattle.tlb.specs.declared.Inval.the-variants.{All, Page, Asid}
-use Rattle.sysop.specs.Tlbi.{Scope, everything, asidForm, ranged, Row, stage1, scopeOf, tcrOf, pages4k, whatOf, tlbiOf, reachesOthers}
+use Rattle.sysop.specs.Tlbi.{Scope, everything, asidForm, ranged, Encoding, stage1, scopeOf, tcrOf, pages4k, whatOf, tlbiOf, reachesOthers}
 
 -- what is named lies within the operand: a Page is the operand itself, and an ASID has 16 bits
 abbrev pub Within : ℕ → Inval → Type 0
@@ -41,11 +41,11 @@ unfolding tlbiOf
 page-operand c op1 crm op2 x page e = subst (Within x) e (within c x (scopeOf op1 crm op2))
 
 -- the forms that reach the other cores are the Inner Shareable ones of stage 1
-abbrev pub shareables : List Row → List Bool
+abbrev pub shareables : List Encoding → List Bool
 shareables [] = []
 shareables (r ∷ rs) = r .shareable ∷ shareables rs
 
-abbrev pub reaching : List Row → List Bool
+abbrev pub reaching : List Encoding → List Bool
 reaching [] = []
 reaching (r ∷ rs) = reachesOthers (r .crm) ∷ reaching rs
 
