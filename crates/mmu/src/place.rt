@@ -1,7 +1,8 @@
 // Where the bytes of an access lie, and which of them lie outside RAM.
 ghost use mathlib.Core.Path.{_≡_};
 ghost use Prim.Native.Nat.{_≤_};
-ghost use Rattle.mmu.specs.Place.{inPage, nextPage, crosses as crossesOf, goesOn, placedOne, placedBoth, firstPa, byteAt, firstOutside, bytesBefore, bothInside};
+ghost use Rattle.mmu.specs.Place.{inPage, nextPage, crosses as crossesOf, goesOn, placedOne, placedBoth, firstPa, byteAt, firstOutside, bytesBefore};
+ghost use Rattle.mmu.specs.AtOnce.{bothInside};
 use tlb::access::Answer;
 use word::ram;
 
