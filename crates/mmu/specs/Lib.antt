@@ -10,6 +10,7 @@ pub mod Ops
 pub mod PlaceLaws
 pub mod BytesLaws
 pub mod PageLaws
+pub mod PageGiven
 pub mod Says
 pub mod Asks
 pub mod OpLaws

@@ -1,14 +1,10 @@
--- Translations go by pages. In one cache the addresses of a page get one answer but for the offset in the page, which is each address's own. And
--- once a page was given an address, the cache gives it again to the same level, mark and kind, whatever the tables then hold.
-use mathlib.Core.Path.{_≡_, refl, sym, ap, subst, _∙_}
+-- Translations go by pages: in one cache the addresses of a page get one answer but for the offset in the page, which is each address's own.
+use mathlib.Core.Path.{_≡_, refl, sym, ap, _∙_}
 use mathlib.Core.Bool.{Bool, true, false, _&&_}
-use Prim.Native.Nat.{ℕ, _+_, _*_, _/_, _%_, _<_}
+use Prim.Native.Nat.{ℕ, _+_, _*_, _/_, _%_}
 use native.Mathlib.Omega.{arith}
-use borrow.Author.Tests.{eqb-true, eq-eqb}
 use lib.Bits.{bitOr}
 use lib.Dec.{eqb}
-use lib.ListN.{getD, set, length}
-use lib.Seq.{set-getD, getD-set-same}
 use Rattle.word.specs.Bits.{pick}
 use Rattle.word.specs.declared.ram.Word.{Word}
 use Rattle.walk.specs.Regime.{stage1On, regimeOf}
@@ -21,20 +17,17 @@ use Rattle.walk.specs.declared.level.Leaf.{Leaf}
 use Rattle.walk.specs.declared.level.Walked.{Walked}
 use Rattle.walk.specs.declared.level.Walked.the-variants.{Mapped, Fault}
 use Rattle.tlb.specs.Access.{mayHint, tagOf, userOf, rightOf, hasRight, judged}
-use Rattle.tlb.specs.Entry.{blank, serves, slotOf}
-use Rattle.tlb.specs.Hint.{noHint, pageOf, onPage, placeOf, dataSlot, hintKey, hintFor}
+use Rattle.tlb.specs.Entry.{blank, serves}
+use Rattle.tlb.specs.Hint.{noHint, onPage, dataSlot, hintKey}
 use Rattle.tlb.specs.Cache.{entryAt, hintAt}
 use Rattle.tlb.specs.Lists.{each-getD, each-imp}
-use Rattle.tlb.specs.Live.{Made, Aligned, Sound, WellFormed}
+use Rattle.tlb.specs.Live.{Made, Aligned, WellFormed}
 use Rattle.tlb.specs.Cells.{or-page}
-use Rattle.tlb.specs.Turn.{entryFor, walkEnd, lookWith, missWith, remembered, turnWith, walkNow, untaggedNow}
-use Rattle.tlb.specs.Step.{accessOf, turnIn, withTurn}
+use Rattle.tlb.specs.Turn.{entryFor, walkEnd, lookWith, missWith, remembered, turnWith, walkNow}
 use Rattle.tlb.specs.declared.access.Kind.{Kind}
-use Rattle.tlb.specs.declared.access.Kind.the-variants.{Read, Write, Fetch}
 use Rattle.tlb.specs.declared.access.Who.{Who}
 use Rattle.tlb.specs.declared.access.Answer.{Answer}
 use Rattle.tlb.specs.declared.access.Answer.the-variants.{Address, Status}
-use Rattle.tlb.specs.declared.cache.Cache.{Cache}
 use Rattle.tlb.specs.declared.count.Counts.{Counts}
 use Rattle.tlb.specs.declared.entry.Entry.{Entry}
 use Rattle.tlb.specs.declared.entry.Present.{Present}
@@ -51,32 +44,32 @@ answerAt (Status fsc) b = Status fsc
 -- THE ANSWER OF A TURN, by its tests
 
 module _ (on : Bool) (page : ℕ) (w : Walked) (r : Regime) (who : Who) (at : Present) (k : Counts) (h : Hint) (e : Entry) (va : ℕ) (kind : Kind) where
-  abbrev turn : Turned
+  abbrev pub turn : Turned
   turn = turnWith on page w r who at k h e va kind
 
-  abbrev miss : Turned
+  abbrev pub miss : Turned
   miss = missWith on page w r who at k h e va kind
 
-  abbrev hits : Bool
+  abbrev pub hits : Bool
   hits = mayHint who kind && eqb (h .key) (hintKey va (who .level))
 
-  by-hint : hits ≡ true → turn .answer ≡ Address (onPage (h .pa) va)
+  pub by-hint : hits ≡ true → turn .answer ≡ Address (onPage (h .pa) va)
   unfolding turnWith
   by-hint q = rw q
 
-  by-miss : hits ≡ false → turn .answer ≡ miss .answer
+  pub by-miss : hits ≡ false → turn .answer ≡ miss .answer
   unfolding turnWith remembered
   by-miss q = rw q
 
-  by-flat : on ≡ false → miss .answer ≡ Address va
+  pub by-flat : on ≡ false → miss .answer ≡ Address va
   unfolding missWith
   by-flat q = rw q
 
-  by-entry : on ≡ true → serves e at (tagOf r page) ≡ true → miss .answer ≡ judged e (userOf r who kind) kind va
+  pub by-entry : on ≡ true → serves e at (tagOf r page) ≡ true → miss .answer ≡ judged e (userOf r who kind) kind va
   unfolding missWith lookWith
   by-entry q p = rw (q, p)
 
-  by-walk : on ≡ true → serves e at (tagOf r page) ≡ false → miss .answer ≡ walkEnd w at k h e (tagOf r page) (userOf r who kind) kind va .answer
+  pub by-walk : on ≡ true → serves e at (tagOf r page) ≡ false → miss .answer ≡ walkEnd w at k h e (tagOf r page) (userOf r who kind) kind va .answer
   unfolding missWith lookWith
   by-walk q p = rw (q, p)
 
@@ -151,10 +144,10 @@ module _ (a b pa pb : ℕ) (v w : Walked) (same : a / 4096 ≡ b / 4096) (same-t
           rw (by-miss on pb w r who at k h e b kind q, by-miss on pa v r who at k h e a kind (key ∙ q)) (missed on refl)
 
 module _ (s : Bank) (who : Who) (memory : ℕ → Word) (kind : Kind) (t : Tlb) (f : WellFormed t) where
-  hint-aligned : (i : ℕ) → hintAt (t .cache) i .pa % 4096 ≡ 0
+  pub hint-aligned : (i : ℕ) → hintAt (t .cache) i .pa % 4096 ≡ 0
   hint-aligned i = each-getD {P = Aligned} noHint refl (f .hints) i
 
-  entry-aligned : (i : ℕ) → entryAt (t .cache) i .pa % 4096 ≡ 0
+  pub entry-aligned : (i : ℕ) → entryAt (t .cache) i .pa % 4096 ≡ 0
   entry-aligned i =
       each-getD {P = λ (e : Entry). e .pa % 4096 ≡ 0} blank refl
       (each-imp {P = Made (t .cache .present .generation)} (λ e m. m .aligned) (f .entries)) i
