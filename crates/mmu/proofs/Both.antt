@@ -1,29 +1,28 @@
 -- Split accesses whose two parts lie in RAM, on plain values, for `search`.
 use mathlib.Core.Path.{_≡_, refl, sym, ap, subst, _∙_}
 use mathlib.Core.Bool.{Bool, true, false, _&&_}
-use mathlib.Core.List.{List, [], _∷_, _++_}
+use mathlib.Core.List.{List}
 use Prim.Native.Nat.{ℕ, zero, suc, _+_, _-_, _*_, _/_, _%_, _^_, _≤_, _<_}
 use native.Mathlib.Nat.{mod-eq-of-lt, zero-add, suc-add, pow-suc, pow-zero, div-one}
-use native.Mathlib.Numerals.{add-one}
 use native.Mathlib.Omega.{arith}
-use borrow.Author.Tests.{leb-true, le-leb, ltb-true, ltb-false, lt-ltb, le-ltb}
-use lib.Dec.{leb, ltb}
-use lib.ListN.{length, getD, take, drop, take-append-drop}
+use borrow.Author.Tests.{le-leb, ltb-true, ltb-false, lt-ltb, le-ltb}
+use lib.Dec.{ltb}
+use lib.ListN.{length, getD, take-append-drop}
 use lib.Pow.{pow-add, shr-shr}
 use Rattle.word.specs.Bits.{pick, wrap}
 use Rattle.word.specs.Ram.{within, written, stored, bytesOf}
 use Rattle.word.specs.declared.ram.Word.{Word}
 use Rattle.word.specs.declared.ram.Word.the-variants as Word
 use Rattle.word.specs.RamLaws.{digit-next, written-next}
-use Rattle.mmu.specs.Place.{byteAt, firstOutside, judged, bytesBefore}
-use Rattle.mmu.specs.Bytes.{byteIn, splitValue, splitStored, loadOf, storeRam}
+use Rattle.mmu.specs.Place.{byteAt, firstOutside, judged}
+use Rattle.mmu.specs.Bytes.{splitValue, splitStored, loadOf, storeRam}
 use Rattle.mmu.specs.BytesLaws.{stored-length}
 use Rattle.mmu.specs.AtOnce.{bothInside, Lie, bothAt, bothStored}
 use Rattle.mmu.specs.declared.place.Pages.{Pages}
 use Rattle.mmu.specs.declared.place.Place.the-variants.{Split}
 use Rattle.mmu.specs.declared.place.Verdict.the-variants.{Inside}
 use Rattle.mmu.specs.declared.bytes.Got.the-variants as Got
-use Rattle.mmu.proofs.Moves.{fits-base, fits-end, fits-at, byte-there, sum-on, put-on, put-length, split-value}
+use Rattle.mmu.proofs.Moves.{fits-base, fits-end, fits-at, byte-there, sum-on, split-value}
 
 -- the tests of the code
 module _ (base len : ℕ) (p : Pages) (n : ℕ) where
@@ -222,7 +221,8 @@ module _ (base : ℕ) (ram : List ℕ) (p : Pages) (n v : ℕ) (h : length ram <
   pub parts-stored : stored base first-part (n - p .«in_page») (p .pa2) rest-of ≡ splitStored base p v 0 n ram
   parts-stored =
       let f = unfold-both base (length ram) p n t in
-      let w = and-both _ _ (f .both) in
+      let w : (within base (length ram) (p .«in_page») (p .pa) ≡ true) × (within base (length ram) (n - p .«in_page») (p .pa2) ≡ true)
+      = and-both _ _ (f .both) in
       let low : base ≤ 2 ^ 64 - 1 - length ram = f .low in
       let some : p .«in_page» ≤ n = f .some in
       let long : length first-part ≡ length ram = stored-length base ram (p .«in_page») (p .pa) v in

@@ -117,7 +117,7 @@ stored-leaves base ram n pa v k none = go (leb base pa) (leb (pa + n) (base + le
     go true false ea eb = refl
     go false b ea eb = refl
 
-split-leaves : (base : ℕ) (p : Pages) (v s n k : ℕ) (ram : List ℕ) → ((i : ℕ) → s ≤ i → i < s + n → base + k ≡ byteAt p i → ⊥)
+pub split-leaves : (base : ℕ) (p : Pages) (v s n k : ℕ) (ram : List ℕ) → ((i : ℕ) → s ≤ i → i < s + n → base + k ≡ byteAt p i → ⊥)
     → getD (splitStored base p v s n ram) k 0 ≡ getD ram k 0
 unfolding splitStored
 split-leaves base p v s zero k ram none = refl

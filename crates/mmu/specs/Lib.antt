@@ -15,3 +15,5 @@ pub mod Says
 pub mod Asks
 pub mod OpLaws
 pub mod OpSays
+pub mod OwnAddress
+pub mod ByteMeaning

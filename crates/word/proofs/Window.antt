@@ -1,13 +1,13 @@
 -- What the window's test says of the numbers, and how a part that was lent comes back.
 use mathlib.Core.Path.{_≡_, refl, sym, ap, _∙_}
 use mathlib.Core.Bool.{Bool, true, false, _&&_}
-use mathlib.Core.List.{List, [], _∷_, _++_, append-nil}
+use mathlib.Core.List.{List, _++_, append-nil}
 use Prim.Native.Nat.{ℕ, zero, suc, _+_, _-_, _*_, _/_, _%_, _<_, _≤_}
 use native.Mathlib.Numerals.{add-one}
 use native.Mathlib.Omega.{arith}
 use borrow.Author.Tests.{le-leb, lt-leb, leb-true, leb-false}
 use lib.Dec.{leb}
-use lib.ListN.{take, drop, length, getD, set, length-drop, length-append}
+use lib.ListN.{take, drop, length, getD, set, length-drop}
 use lib.Seq.{take-suc-set, append-snoc, take-all, length-take-le}
 use Rattle.word.specs.Ram.{littleEndian, bytesOf, within, wordAt, written, stored}
 use Rattle.word.specs.RamLaws.{le-join}

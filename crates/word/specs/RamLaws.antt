@@ -1,7 +1,7 @@
 -- Laws of little-endian words and of stores, each over the width.
 use mathlib.Core.Path.{_≡_, refl, sym, ap, _∙_}
 use mathlib.Core.Bool.{Bool, true, false, _&&_}
-use mathlib.Core.List.{List, [], _∷_, _++_, append-nil}
+use mathlib.Core.List.{List, [], _∷_, _++_}
 use Prim.Native.Nat.{ℕ, zero, suc, _+_, _-_, _*_, _/_, _%_, _^_, _≤_, _<_}
 use native.Mathlib.Nat.{pow-suc, zero-add, suc-add, mul-assoc, mul-comm, div-one, div-div-eq-div-mul}
 use native.Mathlib.Numerals.{add-one}
@@ -11,7 +11,7 @@ use lib.Dec.{leb}
 use lib.ListN.{length, getD, take, drop, List·getD-append}
 use lib.Seq.{length-take-le, getD-append-add}
 use Rattle.word.specs.Bits.{pick}
-use Rattle.word.specs.Ram.{littleEndian, bytesOf, within, wordAt, written, stored}
+use Rattle.word.specs.Ram.{littleEndian, bytesOf, wordAt, written}
 use Rattle.word.specs.declared.ram.Word.the-variants.{Value, Outside}
 
 -- the value of m + n bytes is that of the first m, and above it that of the rest
