@@ -3,13 +3,13 @@ use mathlib.Core.Path.{_≡_, refl, sym, ap, _∙_}
 use mathlib.Core.Bool.{Bool, true, false, _&&_}
 use mathlib.Core.List.{List}
 use Prim.Native.Nat.{ℕ, zero, suc, _+_, _-_, _*_, _/_, _%_, _^_, _≤_, _<_}
-use native.Mathlib.Nat.{mod-eq-of-lt, zero-div, zero-mod}
+use native.Mathlib.Nat.{mod-eq-of-lt, zero-div}
 use native.Mathlib.Omega.{arith}
-use borrow.Author.Tests.{leb-true, leb-false, ltb-true, ltb-false, le-leb, le-ltb, eqb-true, eqb-false}
-use lib.Dec.{leb, ltb, eqb}
+use borrow.Author.Tests.{leb-true, leb-false, ltb-true, ltb-false, le-ltb}
+use lib.Dec.{leb, ltb}
 use lib.ListN.{length, getD}
 use Rattle.word.specs.Bits.{pick, wrap}
-use Rattle.word.specs.Ram.{within, wordAt, written, stored}
+use Rattle.word.specs.Ram.{within, wordAt, stored}
 use Rattle.word.specs.RamLaws.{written-byte}
 use Rattle.tlb.specs.declared.access.Kind.the-variants.{Write}
 use Rattle.tlb.specs.declared.access.Answer.{Answer}
@@ -17,17 +17,15 @@ use Rattle.tlb.specs.declared.access.Answer.the-variants.{Address, Status}
 use Rattle.mmu.specs.Core.{movedTo, bankNow}
 use Rattle.mmu.specs.Place.{inPage, crosses, goesOn, placedOne, judged}
 use Rattle.mmu.specs.Bytes.{storeRam}
-use Rattle.mmu.specs.BytesLaws.{stored-length, stored-leaves}
-use Rattle.mmu.specs.Step.{onePage, bothPages, stepOf, locatedOf}
+use Rattle.mmu.specs.BytesLaws.{stored-leaves}
+use Rattle.mmu.specs.Step.{onePage, stepOf, locatedOf}
 use Rattle.mmu.specs.Ends.{storeEnd, storeRamEnd}
 use Rattle.mmu.specs.Ops.{steppedNow, locatedNow, translateOf, writeOf, ramAfterWrite}
-use Rattle.mmu.specs.OpLaws.{onNow, store as storeOperation, ram-length}
+use Rattle.mmu.specs.OpLaws.{onNow}
 use Rattle.mmu.specs.declared.core.Core.{Core}
 use Rattle.mmu.specs.declared.place.Place.the-variants.{Whole}
 use Rattle.mmu.specs.declared.place.Placed.{Placed}
 use Rattle.mmu.specs.declared.place.Placed.the-variants.{At, Fault}
-use Rattle.mmu.specs.declared.place.Verdict.{Verdict}
-use Rattle.mmu.specs.declared.place.Verdict.the-variants.{Inside, Outside}
 use Rattle.mmu.specs.declared.ends.StoreAnswer.{StoreAnswer}
 use Rattle.mmu.specs.declared.ends.StoreAnswer.the-variants.{Done, Stopped}
 use Rattle.mmu.specs.declared.step.Located.{Located}

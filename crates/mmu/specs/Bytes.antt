@@ -1,4 +1,4 @@
--- Bytes moved between a value and RAM.
+-- Bytes moved between a value and RAM, the lowest first; `ByteMeaning` has it by each byte's own address.
 use mathlib.Core.List.{List}
 use Prim.Native.Nat.{ℕ, zero, suc, _+_, _-_, _*_, _/_}
 use lib.ListN.{length, getD}
