@@ -145,13 +145,17 @@ pub fn both_inside(base: u64, len: u64, p: Pages, n: u64) -> bool
     if u64::MAX - len < base {
         return false;
     }
+    if 8 < p.in_page {
+        return false;
+    }
     if n < p.in_page {
         return false;
     }
-    if 8 < n {
+    let more = n - p.in_page;
+    if 8 - p.in_page < more {
         return false;
     }
     let first = ram::inside(base, len, p.in_page, p.pa);
-    let second = ram::inside(base, len, n - p.in_page, p.pa2);
+    let second = ram::inside(base, len, more, p.pa2);
     if first { second } else { false }
 }
