@@ -11,8 +11,8 @@ use Rattle.tlb.specs.declared.access.Kind.the-variants.{Read, Write}
 use Rattle.tlb.specs.declared.hint.Physical.{Physical}
 use Rattle.tlb.specs.declared.hint.Physical.the-variants.{At, Unknown}
 use Rattle.mmu.specs.Core.{bankNow}
-use Rattle.mmu.specs.Place.{inPage, nextPage, crosses, bothInside}
-use Rattle.mmu.specs.Bytes.{bothAt, bothStored}
+use Rattle.mmu.specs.Place.{inPage, nextPage, crosses}
+use Rattle.mmu.specs.AtOnce.{bothInside, bothAt, bothStored}
 use Rattle.mmu.specs.declared.core.Core.{Core}
 use Rattle.mmu.specs.declared.place.Pages.{Pages}
 use Rattle.inplace.specs.Found.{hintFound}

@@ -6,7 +6,8 @@ use Prim.Native.Nat.{ℕ, zero, suc, _+_, _*_, _-_, _≤_, _/_}
 use native.Mathlib.Nat.{sub-zero}
 use native.Mathlib.Omega.{arith}
 use lib.ListN.{length, getD, List·getD-eq-default}
-use Rattle.word.specs.Ram.{littleEndian, wordAt, within, pickWord}
+use Rattle.word.specs.Bits.{pick}
+use Rattle.word.specs.Ram.{littleEndian, wordAt, within}
 use Rattle.word.specs.RamLaws.{le-join}
 use Rattle.word.specs.declared.ram.Word.{Word}
 use Rattle.word.specs.declared.ram.Word.the-variants.{Value, Outside}
@@ -32,7 +33,7 @@ join4 ram at x y p q = omega (arith, le-join ram 2 2 at)
 pub join8 : (ram : List ℕ) (at x y : ℕ) → x ≡ littleEndian ram 4 at → y ≡ littleEndian ram 4 (at + 4) → x + y * 0x100000000 ≡ littleEndian ram 8 at
 join8 ram at x y p q = omega (arith, le-join ram 4 4 at)
 
-value-go : (b : Bool) (v x : ℕ) → Value v ≡ pickWord b (Value x) Outside → v ≡ x
+value-go : (b : Bool) (v x : ℕ) → Value v ≡ pick b (Value x) Outside → v ≡ x
 value-go true v x e = cc
 value-go false v x e = cc
 

@@ -33,7 +33,7 @@ use Rattle.mmu.specs.declared.ends.StoreAnswer.the-variants.{Done, Stopped}
 use Rattle.mmu.specs.declared.ops.Stored.{Stored}
 use Rattle.exec.specs.Fit.{refitOf}
 use Rattle.exec.specs.Ops.{withRegs, appliedOf, registered, written, writeRegister}
-use Rattle.exec.specs.Sys.{mairOf, withPar, atOf, invalidatedOf, tlbiCore, zeroOf, zeroRam, opOf, sysOf, sysRam}
+use Rattle.exec.specs.Sys.{mairOf, withPar, atOf, invalidatedOf, tlbiCore, zeroOf, zeroRam, sysBy, sysRamBy, opOf, sysOf, sysRam}
 use Rattle.exec.specs.declared.ops.Registered.{Registered}
 
 -- a register write that is done
@@ -119,11 +119,11 @@ module _ (n : ℕ) (c : Core) (base : ℕ) (ram : List ℕ) (va : ℕ) where
 lined : (x : ℕ) → x - x % 64 ≡ alignDown x 6
 lined x = omega arith
 
-pub zva-is : (c : Core) (base : ℕ) (ram : List ℕ) (x : ℕ) (s : Stored) → s ≡ zeroOf 8 c base ram (x - x % 64) → s ≡ zeroOf 8 c base ram (alignDown x 6)
-zva-is c base ram x s e = rw (← lined x) e
+pub zva-is : (n : ℕ) (c : Core) (base : ℕ) (ram : List ℕ) (x : ℕ) (s : Stored) → s ≡ zeroOf n c base ram (x - x % 64) → s ≡ zeroOf n c base ram (alignDown x 6)
+zva-is n c base ram x s e = rw (← lined x) e
 
-pub zva-ram : (c : Core) (base : ℕ) (ram : List ℕ) (x : ℕ) (ys : List ℕ) → ys ≡ zeroRam 8 c base ram (x - x % 64) → ys ≡ zeroRam 8 c base ram (alignDown x 6)
-zva-ram c base ram x ys e = rw (← lined x) e
+pub zva-ram : (n : ℕ) (c : Core) (base : ℕ) (ram : List ℕ) (x : ℕ) (ys : List ℕ) → ys ≡ zeroRam n c base ram (x - x % 64) → ys ≡ zeroRam n c base ram (alignDown x 6)
+zva-ram n c base ram x ys e = rw (← lined x) e
 
 -- what an encoding names, done
 module _ (c : Core) (base : ℕ) (ram : List ℕ) (op1 crn crm op2 rt x : ℕ) (o : SysOp) (ex : x ≡ regOf c rt) (eo : o ≡ opOf c op1 crn crm op2) where
@@ -143,11 +143,11 @@ module _ (c : Core) (base : ℕ) (ram : List ℕ) (op1 crn crm op2 rt x : ℕ) (
   unfolding sysRam
   sys-tlbi-ram e = rw (← eo, e)
 
-  pub sys-zva : (s : Stored) → o ≡ SysOp.Zva → s ≡ zeroOf 8 c base ram (alignDown x 6) → s ≡ sysOf c base ram op1 crn crm op2 rt
+  pub sys-zva : (s : Stored) → o ≡ SysOp.Zva → s ≡ sysBy SysOp.Zva c base ram op1 crm op2 x → s ≡ sysOf c base ram op1 crn crm op2 rt
   unfolding sysOf
   sys-zva s e es = rw (← eo, e, ← ex) es
 
-  pub sys-zva-ram : (ys : List ℕ) → o ≡ SysOp.Zva → ys ≡ zeroRam 8 c base ram (alignDown x 6) → ys ≡ sysRam c base ram op1 crn crm op2 rt
+  pub sys-zva-ram : (ys : List ℕ) → o ≡ SysOp.Zva → ys ≡ sysRamBy SysOp.Zva c base ram x → ys ≡ sysRam c base ram op1 crn crm op2 rt
   unfolding sysRam
   sys-zva-ram ys e es = rw (← eo, e, ← ex) es
 

@@ -70,7 +70,7 @@ invalidatedOf t what shared = pick shared (broadcastOf (invalidateOf t what) wha
 unfoldable pub tlbiCore : Core → ℕ → ℕ → ℕ → ℕ → Core
 tlbiCore c op1 crm op2 x = withTlb c (invalidatedOf (c .tlb) (tlbiOf (c .control) op1 crm op2 x) (reachesOthers crm))
 
--- n stores of eight zero bytes from va on, up to the first that stops
+-- n stores of eight zero bytes from va on, up to the first that stops; `ZeroMeaning` says what they leave in RAM
 abbrev pub doneWith : Core → Stored
 doneWith c = record { core = c; answer = Done }
 

@@ -6,7 +6,8 @@ use native.Mathlib.Omega.{arith}
 use borrow.Author.Tests.{leb-true, le-ltb}
 use lib.Dec.{eqb, eqb→eq, leb, T as Holds}
 use lib.ListN.{length}
-use Rattle.word.specs.Ram.{widthOf, bytesIn, pickSized}
+use Rattle.word.specs.Bits.{pick}
+use Rattle.word.specs.Ram.{widthOf, bytesIn}
 use Rattle.word.specs.declared.ram.Sized.{Sized}
 use Rattle.word.specs.declared.ram.Sized.the-variants.{Bytes, Refused as NoWidth}
 use Rattle.word.specs.declared.ram.Width.{Width}
@@ -39,7 +40,7 @@ abbrev Fits : Sized → ℕ → Type 0
 Fits (Bytes w) n = bytesIn w ≡ n
 Fits NoWidth n = Unit {0}
 
-pick-fits : (b : Bool) (n : ℕ) (x y : Sized) → (b ≡ true → Fits x n) → Fits y n → Fits (pickSized b x y) n
+pick-fits : (b : Bool) (n : ℕ) (x y : Sized) → (b ≡ true → Fits x n) → Fits y n → Fits (pick b x y) n
 pick-fits true n x y fx fy = fx refl
 pick-fits false n x y fx fy = fy
 

@@ -1,24 +1,28 @@
 -- Split accesses whose two parts lie in RAM, on plain values, for `search`.
 use mathlib.Core.Path.{_≡_, refl, sym, ap, subst, _∙_}
 use mathlib.Core.Bool.{Bool, true, false, _&&_}
-use mathlib.Core.List.{List, [], _∷_, _++_}
+use mathlib.Core.List.{List}
 use Prim.Native.Nat.{ℕ, zero, suc, _+_, _-_, _*_, _/_, _%_, _^_, _≤_, _<_}
-use native.Mathlib.Nat.{mod-eq-of-lt}
+use native.Mathlib.Nat.{mod-eq-of-lt, zero-add, suc-add, pow-suc, pow-zero, div-one}
 use native.Mathlib.Omega.{arith}
-use borrow.Author.Tests.{leb-true, le-leb, ltb-true, ltb-false, lt-ltb, le-ltb}
-use lib.Dec.{leb, ltb}
-use lib.ListN.{length, getD, set, take, drop}
+use borrow.Author.Tests.{le-leb, ltb-true, ltb-false, lt-ltb, le-ltb}
+use lib.Dec.{ltb}
+use lib.ListN.{length, getD, take-append-drop}
+use lib.Pow.{pow-add}
 use Rattle.word.specs.Bits.{pick, wrap}
-use Rattle.word.specs.Ram.{within, written, stored, bytesOf, pickWord, pickRam}
+use Rattle.word.specs.Ram.{within, written, stored, bytesOf}
 use Rattle.word.specs.declared.ram.Word.{Word}
 use Rattle.word.specs.declared.ram.Word.the-variants as Word
-use Rattle.mmu.specs.Place.{byteAt, firstOutside, judged, bytesBefore, bothInside}
-use Rattle.mmu.specs.Bytes.{byteIn, splitValue, splitStored, loadOf, storeRam, Lie, bothAt, bothStored}
+use Rattle.word.specs.RamLaws.{digit-next, written-next}
+use Rattle.mmu.specs.Place.{byteAt, firstOutside, judged}
+use Rattle.mmu.specs.Bytes.{splitValue, splitStored, loadOf, storeRam}
+use Rattle.mmu.specs.BytesLaws.{stored-length}
+use Rattle.mmu.specs.AtOnce.{bothInside, Lie, bothAt, bothStored}
 use Rattle.mmu.specs.declared.place.Pages.{Pages}
 use Rattle.mmu.specs.declared.place.Place.the-variants.{Split}
 use Rattle.mmu.specs.declared.place.Verdict.the-variants.{Inside}
 use Rattle.mmu.specs.declared.bytes.Got.the-variants as Got
-use Rattle.mmu.proofs.Moves.{fits-base, fits-end, fits-at, byte-there, sum-on, put-on, put-length, split-value}
+use Rattle.mmu.proofs.Moves.{fits-base, fits-end, fits-at, byte-there, sum-on, split-value}
 
 -- the tests of the code
 module _ (base len : ℕ) (p : Pages) (n : ℕ) where
@@ -27,23 +31,35 @@ module _ (base len : ℕ) (p : Pages) (n : ℕ) where
   glance-past h = sym (rw (lt-ltb _ _ h))
 
   module _ (h : base ≤ 2 ^ 64 - 1 - len) where
+    pub glance-wide : 8 < p .«in_page» → false ≡ bothInside base len p n
+    unfolding bothInside
+    glance-wide k = sym (rw (le-ltb _ _ h) (go (ltb n (p .«in_page»)) refl))
+      where
+        go : (b : Bool) → ltb n (p .«in_page») ≡ b
+            → pick b false (pick (ltb 8 n) false (within base len (p .«in_page») (p .pa) && within base len (n - p .«in_page») (p .pa2))) ≡ false
+        go true e = refl
+        go false e = let l : p .«in_page» ≤ n = ltb-false _ _ e in rw (lt-ltb 8 n (omega arith))
+
     pub glance-short : n < p .«in_page» → false ≡ bothInside base len p n
     unfolding bothInside
     glance-short k = sym (rw (le-ltb _ _ h, lt-ltb _ _ k))
 
-    module _ (k : p .«in_page» ≤ n) where
-      pub glance-long : 8 < n → false ≡ bothInside base len p n
+    module _ (w : p .«in_page» ≤ 8) (k : p .«in_page» ≤ n) where
+      pub glance-long : 8 - p .«in_page» < n - p .«in_page» → false ≡ bothInside base len p n
       unfolding bothInside
-      glance-long l = sym (rw (le-ltb _ _ h, le-ltb _ _ k, lt-ltb _ _ l))
+      glance-long l = let m : 8 < n = omega arith in sym (rw (le-ltb _ _ h, le-ltb _ _ k, lt-ltb _ _ m))
 
-      module _ (l : n ≤ 8) (f s : Bool) (ef : f ≡ within base len (p .«in_page») (p .pa)) (es : s ≡ within base len (n - p .«in_page») (p .pa2)) where
+      module _ (l : n - p .«in_page» ≤ 8 - p .«in_page») (f s : Bool) (ef : f ≡ within base len (p .«in_page») (p .pa)) (es : s ≡ within base len (n - p .«in_page») (p .pa2)) where
+        eight : n ≤ 8
+        eight = omega arith
+
         pub glance-both : f ≡ true → s ≡ bothInside base len p n
         unfolding bothInside
-        glance-both t = sym (rw (le-ltb _ _ h, le-ltb _ _ k, le-ltb _ _ l, ← ef, ← es, t))
+        glance-both t = sym (rw (le-ltb _ _ h, le-ltb _ _ k, le-ltb _ _ eight, ← ef, ← es, t))
 
         pub glance-first : f ≡ false → false ≡ bothInside base len p n
         unfolding bothInside
-        glance-first t = sym (rw (le-ltb _ _ h, le-ltb _ _ k, le-ltb _ _ l, ← ef, t))
+        glance-first t = sym (rw (le-ltb _ _ h, le-ltb _ _ k, le-ltb _ _ eight, ← ef, t))
 
 -- n bytes from pa lie in RAM, so each of them does
 one-within : (base len n pa i : ℕ) → base + len < 2 ^ 64 → within base len n pa ≡ true → i < n → within base len 1 (wrap (pa + i)) ≡ true
@@ -83,22 +99,28 @@ module _ (base len : ℕ) (p : Pages) (n : ℕ) where
   abbrev parts : Bool
   parts = within base len (p .«in_page») (p .pa) && within base len (n - p .«in_page») (p .pa2)
 
-  unfold-both : bothInside base len p n ≡ true → (base ≤ 2 ^ 64 - 1 - len) × ((n ≤ 8) × (parts ≡ true))
+  record Fit : Type 0 where
+    low : base ≤ 2 ^ 64 - 1 - len
+    some : p .«in_page» ≤ n
+    few : n ≤ 8
+    both : parts ≡ true
+
+  unfold-both : bothInside base len p n ≡ true → Fit
   unfolding bothInside
-  unfold-both = go (ltb (2 ^ 64 - 1 - len) base) refl (ltb n (p .«in_page»)) (ltb 8 n) refl
+  unfold-both = go (ltb (2 ^ 64 - 1 - len) base) refl (ltb n (p .«in_page»)) refl (ltb 8 n) refl
     where
-      go : (x : Bool) → ltb (2 ^ 64 - 1 - len) base ≡ x → (y z : Bool) → ltb 8 n ≡ z → pick x false (pick y false (pick z false parts)) ≡ true
-          → (base ≤ 2 ^ 64 - 1 - len) × ((n ≤ 8) × (parts ≡ true))
-      go true ex y z ez e = absurd (false-true e)
-      go false ex true z ez e = absurd (false-true e)
-      go false ex false true ez e = absurd (false-true e)
-      go false ex false false ez e = (ltb-false _ _ ex, (ltb-false _ _ ez, e))
+      go : (x : Bool) → ltb (2 ^ 64 - 1 - len) base ≡ x → (y : Bool) → ltb n (p .«in_page») ≡ y → (z : Bool) → ltb 8 n ≡ z
+          → pick x false (pick y false (pick z false parts)) ≡ true → Fit
+      go true ex y ey z ez e = absurd (false-true e)
+      go false ex true ey z ez e = absurd (false-true e)
+      go false ex false ey true ez e = absurd (false-true e)
+      go false ex false ey false ez e = record { low = ltb-false _ _ ex; some = ltb-false _ _ ey; few = ltb-false _ _ ez; both = e }
 
   pub both-lie : len < 2 ^ 64 → bothInside base len p n ≡ true → Lie base len p n
   both-lie h t =
       let u = unfold-both t in
-      let s : base ≤ 2 ^ 64 - 1 - len = u .0 in
-      record { each = λ i k. byte i k (omega arith) (and-both _ _ (u .1 .1)) (ltb i (p .«in_page»)) refl }
+      let s : base ≤ 2 ^ 64 - 1 - len = u .low in
+      record { each = λ i k. byte i k (omega arith) (and-both _ _ (u .both)) (ltb i (p .«in_page»)) refl }
     where
       byte : (i : ℕ) → i < n → base + len < 2 ^ 64
           → (within base len (p .«in_page») (p .pa) ≡ true) × (within base len (n - p .«in_page») (p .pa2) ≡ true)
@@ -119,9 +141,6 @@ module _ (base len : ℕ) (p : Pages) (n i pa : ℕ) (l : Lie base len p n) (h :
   pub next-at : pa - base < len
   next-at = fits-at base len pa true refl next-within
 
-  pub next-slot : (ram : List ℕ) → length ram ≡ len → pa - base < length ram
-  next-slot ram e = let q = next-at in omega (arith, e)
-
 module _ (base len : ℕ) (p : Pages) (n i pa : ℕ) (l : Lie base len p n) (h : 0 < i) (k : i ≤ n) (ep : pa ≡ byteAt p (i - 1)) where
   pub last-base : base ≤ pa
   last-base = next-base base len p n (i - 1) pa l (omega arith) ep
@@ -134,27 +153,111 @@ pub joined-on : (base : ℕ) (ram : List ℕ) (p : Pages) (n i v pa b : ℕ) →
 joined-on base ram p n i v pa b l h k ev ep eb =
     sum-on base ram p n i v pa b h k ev ep (byte-there base ram pa true (next-within base (length ram) p n (i - 1) pa l (omega arith) ep) b refl eb)
 
--- one byte of a list
-set-written : (xs : List ℕ) (at v : ℕ) → at < length xs → set xs at (v % 256) ≡ written xs at 1 v
-unfolding bytesOf
-set-written [] at v h = absurd (omega arith)
-set-written (x ∷ xs) zero v h = refl
-set-written (x ∷ xs) (suc at) v h = ap (λ (ys : List ℕ). x ∷ ys) (set-written xs at v (omega arith))
+-- THE TWO PARTS OF A STORE
 
-set-stored : (base : ℕ) (ram : List ℕ) (pa v : ℕ) → true ≡ within base (length ram) 1 pa → set ram (pa - base) (v % 256) ≡ stored base ram 1 pa v
+-- a store of no bytes
+stored-none : (base : ℕ) (ram : List ℕ) (pa v : ℕ) → stored base ram 0 pa v ≡ ram
+unfolding stored bytesOf
+stored-none base ram pa v = go (within base (length ram) 0 pa)
+  where
+    go : (b : Bool) → pick b (written ram (pa - base) 0 v) ram ≡ ram
+    go true = take-append-drop (pa - base) ram
+    go false = refl
+
+-- of bytes that lie in RAM
+inside : (base : ℕ) (xs : List ℕ) (m q w : ℕ) → base ≤ q → q + m ≤ base + length xs → stored base xs m q w ≡ written xs (q - base) m w
 unfolding stored
-set-stored base ram pa v e = rw (← e) (set-written ram (pa - base) v (fits-at base (length ram) pa true refl e))
+inside base xs m q w h k = rw (le-leb _ _ h, le-leb _ _ k)
 
-module _ (base len : ℕ) (p : Pages) (n i v pa : ℕ) (ram : List ℕ) (l : Lie base len p n) (el : length ram ≡ len) (h : i < n) (ep : pa ≡ byteAt p i) where
-  set-is : set ram (pa - base) (v % 256) ≡ stored base ram 1 pa v
-  set-is = set-stored base ram pa v (next-within base len p n i pa l h ep ∙ ap (λ (m : ℕ). within base m 1 pa) (sym el))
+-- of one byte more: the lowest, and then the others
+stored-next : (base : ℕ) (ram : List ℕ) (n pa v : ℕ) → true ≡ within base (length ram) (suc n) pa
+    → stored base ram (suc n) pa v ≡ stored base (stored base ram 1 pa v) n (pa + 1) (v / 256)
+stored-next base ram n pa v e =
+    let b : base ≤ pa = fits-base base (length ram) (suc n) pa true refl e in
+    let t : pa - base + suc n ≤ length ram = fits-end base (length ram) (suc n) pa true refl e in
+    let q : pa + 1 - base ≡ pa - base + 1 = omega arith in
+    let one : stored base ram 1 pa v ≡ written ram (pa - base) 1 v = inside base ram 1 pa v b (omega arith) in
+    let long : length (stored base ram 1 pa v) ≡ length ram = stored-length base ram 1 pa v in
+    inside base ram (suc n) pa v b (omega arith)
+    ∙ written-next ram (pa - base) n v (omega arith)
+    ∙ ap (λ (ys : List ℕ). written ys (pa - base + 1) n (v / 256)) (sym one)
+    ∙ ap (λ (m : ℕ). written (stored base ram 1 pa v) m n (v / 256)) (sym q)
+    ∙ sym (inside base (stored base ram 1 pa v) n (pa + 1) (v / 256) (omega arith) (omega arith))
 
-  pub parted-length : length (set ram (pa - base) (v % 256)) ≡ len
-  parted-length = put-length base ram (set ram (pa - base) (v % 256)) pa v len set-is el
+-- bytes that follow one another in RAM are one part
+row-stored : (base : ℕ) (p : Pages) (v i n q : ℕ) (ram : List ℕ) → ((j : ℕ) → j < n → byteAt p (i + j) ≡ q + j)
+    → true ≡ within base (length ram) n q → splitStored base p v i n ram ≡ stored base ram n q v
+unfolding splitStored
+row-stored base p v i zero q ram row e = sym (stored-none base ram q v)
+row-stored base p v i (suc n) q ram row e =
+    let b : base ≤ q = fits-base base (length ram) (suc n) q true refl e in
+    let t : q - base + suc n ≤ length ram = fits-end base (length ram) (suc n) q true refl e in
+    let zi : i + 0 ≡ i = omega arith in
+    let zq : q + 0 ≡ q = omega arith in
+    let here : byteAt p i ≡ q = rw (zi, zq) at (row 0 (omega arith)) in
+    let long : length (stored base ram 1 q v) ≡ length ram = stored-length base ram 1 q v in
+    rw here
+    (row-stored base p (v / 256) (i + 1) n (q + 1) (stored base ram 1 q v)
+    (λ j h. let a : i + suc j ≡ i + 1 + j = omega arith in let c : q + suc j ≡ q + 1 + j = omega arith in rw (a, c) at (row (suc j) (omega arith)))
+    (sym (rw (le-leb base (q + 1) (omega arith), le-leb (q + 1 + n) (base + length (stored base ram 1 q v)) (omega arith))))
+    ∙ sym (stored-next base ram n q v e))
 
-  pub parted-on : (ys : List ℕ) → splitStored base p v i (n - i) ram ≡ ys
-      → splitStored base p (v / 256) (i + 1) (n - (i + 1)) (set ram (pa - base) (v % 256)) ≡ ys
-  parted-on ys inv = put-on base p n i v ram ys inv pa (set ram (pa - base) (v % 256)) h ep set-is
+-- m bytes, and then n more
+split-join : (base : ℕ) (p : Pages) (v i m n : ℕ) (ram : List ℕ)
+    → splitStored base p v i (m + n) ram ≡ splitStored base p (v / 256 ^ m) (i + m) n (splitStored base p v i m ram)
+unfolding splitStored
+split-join base p v i zero n ram =
+    let z : i + 0 ≡ i = omega arith in
+    rw (zero-add n, z, pow-zero 256, div-one v)
+split-join base p v i (suc m) n ram =
+    let z : i + suc m ≡ i + 1 + m = omega arith in
+    rw (suc-add m n, z, digit-next v m) (split-join base p (v / 256) (i + 1) m n (stored base ram 1 (byteAt p i) v))
+
+-- a shift takes off the bytes of the first part
+bytes-bits : (k : ℕ) → 2 ^ (k * 8) ≡ 256 ^ k
+bytes-bits zero = refl
+bytes-bits (suc k) =
+    let e : suc k * 8 ≡ k * 8 + 8 = omega arith in
+    rw (e, pow-add 2 (k * 8) 8, bytes-bits k, pow-suc 256 k)
+
+module _ (base : ℕ) (ram : List ℕ) (p : Pages) (n v : ℕ) (h : length ram < 2 ^ 64) (t : bothInside base (length ram) p n ≡ true) where
+  abbrev first-part : List ℕ
+  first-part = stored base ram (p .«in_page») (p .pa) v
+
+  abbrev rest-of : ℕ
+  rest-of = v / 256 ^ p .«in_page»
+
+  pub parts-stored : stored base first-part (n - p .«in_page») (p .pa2) rest-of ≡ splitStored base p v 0 n ram
+  parts-stored =
+      let f = unfold-both base (length ram) p n t in
+      let w : (within base (length ram) (p .«in_page») (p .pa) ≡ true) × (within base (length ram) (n - p .«in_page») (p .pa2) ≡ true)
+      = and-both _ _ (f .both) in
+      let low : base ≤ 2 ^ 64 - 1 - length ram = f .low in
+      let some : p .«in_page» ≤ n = f .some in
+      let long : length first-part ≡ length ram = stored-length base ram (p .«in_page») (p .pa) v in
+      let sum : p .«in_page» + (n - p .«in_page») ≡ n = omega arith in
+      let b1 = fits-base base (length ram) (p .«in_page») (p .pa) true refl (sym (w .0)) in
+      let e1 = fits-end base (length ram) (p .«in_page») (p .pa) true refl (sym (w .0)) in
+      let b2 = fits-base base (length ram) (n - p .«in_page») (p .pa2) true refl (sym (w .1)) in
+      let e2 = fits-end base (length ram) (n - p .«in_page») (p .pa2) true refl (sym (w .1)) in
+      let one : splitStored base p v 0 (p .«in_page») ram ≡ first-part
+      = row-stored base p v 0 (p .«in_page») (p .pa) ram (λ j k. here j k (omega arith)) (sym (w .0)) in
+      let two : splitStored base p rest-of (p .«in_page») (n - p .«in_page») first-part ≡ stored base first-part (n - p .«in_page») (p .pa2) rest-of
+      = row-stored base p rest-of (p .«in_page») (n - p .«in_page») (p .pa2) first-part (λ j k. there j (omega arith))
+      (sym (ap (λ (m : ℕ). within base m (n - p .«in_page») (p .pa2)) long ∙ w .1)) in
+      sym two
+      ∙ ap (splitStored base p rest-of (p .«in_page») (n - p .«in_page»)) (sym one)
+      ∙ ap (λ (m : ℕ). splitStored base p rest-of m (n - p .«in_page») (splitStored base p v 0 (p .«in_page») ram)) (sym (zero-add (p .«in_page»)))
+      ∙ sym (split-join base p v 0 (p .«in_page») (n - p .«in_page») ram)
+      ∙ ap (λ (m : ℕ). splitStored base p v 0 m ram) sum
+    where
+      here : (j : ℕ) → j < p .«in_page» → p .pa + j < 2 ^ 64 → byteAt p (0 + j) ≡ p .pa + j
+      here j k s = rw (zero-add j, lt-ltb _ _ k) (mod-eq-of-lt s)
+
+      there : (j : ℕ) → p .pa2 + j < 2 ^ 64 → byteAt p (p .«in_page» + j) ≡ p .pa2 + j
+      there j s =
+          let q : p .«in_page» + j - p .«in_page» ≡ j = omega arith in
+          rw (le-ltb (p .«in_page» + j) (p .«in_page») (omega arith), q) (mod-eq-of-lt s)
 
 -- a load and a store at a glance
 module _ (base : ℕ) (ram : List ℕ) (p : Pages) (n : ℕ) (f : Bool) (ef : f ≡ bothInside base (length ram) p n) where
@@ -162,7 +265,7 @@ module _ (base : ℕ) (ram : List ℕ) (p : Pages) (n : ℕ) (f : Bool) (ef : f 
   lies h t = both-lie base (length ram) p n h (sym ef ∙ t)
 
   pub few : f ≡ true → n ≤ 8
-  few t = unfold-both base (length ram) p n (sym ef ∙ t) .1 .0
+  few t = unfold-both base (length ram) p n (sym ef ∙ t) .few
 
   pub both-read : (v : ℕ) → f ≡ true → v ≡ splitValue base ram p 0 n → Word.Value v ≡ bothAt base ram p n
   unfolding bothAt
@@ -178,9 +281,38 @@ module _ (base : ℕ) (ram : List ℕ) (p : Pages) (n : ℕ) (f : Bool) (ef : f 
   pub unmade : f ≡ false → false ≡ bothInside base (length ram) p n
   unmade t = sym t ∙ ef
 
-  pub both-wrote : (ys : List ℕ) (v : ℕ) → f ≡ true → ys ≡ splitStored base p v 0 n ram → ys ≡ bothStored base ram p n v
+  pub both-wrote : length ram < 2 ^ 64 → (xs ys : List ℕ) (v : ℕ) → f ≡ true → xs ≡ stored base ram (p .«in_page») (p .pa) v
+      → ys ≡ stored base xs (n - p .«in_page») (p .pa2) (v / 2 ^ (p .«in_page» * 8 % 64)) → ys ≡ bothStored base ram p n v
   unfolding bothStored
-  both-wrote ys v t e = rw (← ef, t) e
+  both-wrote h xs ys v t ex ey =
+      rw (← ef, t)
+      (ey
+      ∙ rest (ltb (p .«in_page») 8) refl
+      ∙ ap (λ (zs : List ℕ). stored base zs (n - p .«in_page») (p .pa2) (v / 256 ^ p .«in_page»)) ex
+      ∙ parts-stored base ram p n v h (sym ef ∙ t))
+    where
+      -- where all eight bytes are the first part's, the second has none
+      rest : (b : Bool) → ltb (p .«in_page») 8 ≡ b
+          → stored base xs (n - p .«in_page») (p .pa2) (v / 2 ^ (p .«in_page» * 8 % 64))
+          ≡ stored base xs (n - p .«in_page») (p .pa2) (v / 256 ^ p .«in_page»)
+      rest true e =
+          let l : p .«in_page» < 8 = ltb-true _ _ e in
+          let m : p .«in_page» * 8 % 64 ≡ p .«in_page» * 8 = mod-eq-of-lt (omega arith) in
+          rw (m, bytes-bits (p .«in_page»))
+      rest false e =
+          let l : 8 ≤ p .«in_page» = ltb-false _ _ e in
+          let k : n ≤ 8 = few t in
+          let z : n - p .«in_page» ≡ 0 = omega arith in
+          rw z (stored-none base xs (p .pa2) _ ∙ sym (stored-none base xs (p .pa2) _))
+
+  pub part-bits : f ≡ true → p .«in_page» * 8 ≤ 64
+  part-bits t =
+      let a : p .«in_page» ≤ n = unfold-both base (length ram) p n (sym ef ∙ t) .some in
+      let b : n ≤ 8 = few t in
+      omega arith
+
+  pub some : f ≡ true → p .«in_page» ≤ n
+  some t = unfold-both base (length ram) p n (sym ef ∙ t) .some
 
   pub both-unwritten : (v : ℕ) → f ≡ false → ram ≡ bothStored base ram p n v
   unfolding bothStored
@@ -200,7 +332,7 @@ module _ (base : ℕ) (ram : List ℕ) (p : Pages) (n : ℕ) (h : length ram < 2
   unfolding bothAt
   both-loads v = go (bothInside base (length ram) p n) refl
     where
-      go : (f : Bool) → bothInside base (length ram) p n ≡ f → pickWord f (Word.Value (splitValue base ram p 0 n)) Word.Outside ≡ Word.Value v
+      go : (f : Bool) → bothInside base (length ram) p n ≡ f → pick f (Word.Value (splitValue base ram p 0 n)) Word.Outside ≡ Word.Value v
           → loadOf base ram (Split p) n ≡ Got.Value v
       go true ef e = sym (split-value base ram p n v Inside (sym (all-inside ef)) refl (sym (value-is _ _ e)))
       go false ef e = absurd (outside-value v e)

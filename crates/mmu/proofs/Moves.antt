@@ -9,7 +9,7 @@ use borrow.Author.Tests.{leb-true}
 use lib.Dec.{leb}
 use lib.ListN.{length, getD}
 use Rattle.word.specs.Bits.{pick}
-use Rattle.word.specs.Ram.{littleEndian, within, pickWord, wordAt, stored}
+use Rattle.word.specs.Ram.{littleEndian, within, wordAt, stored}
 use Rattle.word.specs.declared.ram.Word.{Word}
 use Rattle.word.specs.declared.ram.Word.the-variants as Word
 use Rattle.mmu.specs.Place.{byteAt, firstOutside, judged, bytesBefore}
@@ -115,12 +115,12 @@ module _ (n i v : ℕ) (few : n ≤ 8) (h : 0 < i) (k : i ≤ n) (l : v < 256 ^ 
 
 -- loads
 module _ (base : ℕ) (ram : List ℕ) where
-  by-value : (pa : ℕ) (f : Bool) (v x : ℕ) → pickWord f (Word.Value x) Word.Outside ≡ Word.Value v
+  by-value : (pa : ℕ) (f : Bool) (v x : ℕ) → pick f (Word.Value x) Word.Outside ≡ Word.Value v
       → Value v ≡ gotBy (pick f Inside (Outside 0 pa)) x
   by-value pa true v x q = cc
   by-value pa false v x q = cc
 
-  by-none : (pa : ℕ) (f : Bool) (x : ℕ) → pickWord f (Word.Value x) Word.Outside ≡ Word.Outside
+  by-none : (pa : ℕ) (f : Bool) (x : ℕ) → pick f (Word.Value x) Word.Outside ≡ Word.Outside
       → Abort 0 pa ≡ gotBy (pick f Inside (Outside 0 pa)) x
   by-none pa true x q = cc
   by-none pa false x q = refl

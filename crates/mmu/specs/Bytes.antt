@@ -1,14 +1,10 @@
--- Bytes moved between a value and RAM.
-use mathlib.Core.Path.{_≡_}
-use mathlib.Core.Bool.{true}
+-- Bytes moved between a value and RAM, the lowest first; `ByteMeaning` has it by each byte's own address.
 use mathlib.Core.List.{List}
-use Prim.Native.Nat.{ℕ, zero, suc, _+_, _-_, _*_, _/_, _<_}
+use Prim.Native.Nat.{ℕ, zero, suc, _+_, _-_, _*_, _/_}
 use lib.ListN.{length, getD}
 use Rattle.word.specs.Bits.{pick}
-use Rattle.word.specs.Ram.{within, littleEndian, stored, pickWord, pickRam}
-use Rattle.word.specs.declared.ram.Word.{Word}
-use Rattle.word.specs.declared.ram.Word.the-variants as Word
-use Rattle.mmu.specs.Place.{byteAt, judged, bytesBefore, bothInside}
+use Rattle.word.specs.Ram.{within, littleEndian, stored}
+use Rattle.mmu.specs.Place.{byteAt, judged, bytesBefore}
 use Rattle.mmu.specs.declared.place.Pages.{Pages}
 use Rattle.mmu.specs.declared.place.Place.{Place}
 use Rattle.mmu.specs.declared.place.Place.the-variants.{Whole, Split}
@@ -55,14 +51,3 @@ storeRam base ram (Split p) n v = splitStored base p v 0 (bytesBefore (judged ba
 -- four bytes, or nothing where one of them lies outside
 unfoldable pub insnOf : ℕ → List ℕ → ℕ → Insn
 insnOf base ram pa = pick (within base (length ram) 4 pa) (Insn.Value (littleEndian ram 4 (pa - base))) Insn.Outside
-
--- each of n bytes of a split access lies in RAM
-pub record Lie (base len : ℕ) (p : Pages) (n : ℕ) : Type 0 where
-  pub each : (i : ℕ) → i < n → within base len 1 (byteAt p i) ≡ true
-
--- a split access at a glance: its value, and RAM after it, where both parts lie in RAM
-unfoldable pub bothAt : ℕ → List ℕ → Pages → ℕ → Word
-bothAt base ram p n = pickWord (bothInside base (length ram) p n) (Word.Value (splitValue base ram p 0 n)) Word.Outside
-
-unfoldable pub bothStored : ℕ → List ℕ → Pages → ℕ → ℕ → List ℕ
-bothStored base ram p n v = pickRam (bothInside base (length ram) p n) (splitStored base p v 0 n ram) ram

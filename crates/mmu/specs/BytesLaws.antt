@@ -10,7 +10,7 @@ use lib.Dec.{leb, ltb}
 use lib.ListN.{length, getD, take, drop, length-append, length-drop, List·getD-append}
 use lib.Seq.{length-take-le, getD-append-add, getD-take, getD-drop}
 use Rattle.word.specs.Bits.{pick}
-use Rattle.word.specs.Ram.{littleEndian, bytesOf, within, written, stored, pickRam}
+use Rattle.word.specs.Ram.{littleEndian, bytesOf, within, written, stored}
 use Rattle.word.specs.RamLaws.{length-bytes}
 use Rattle.mmu.specs.Place.{byteAt, firstOutside, judged, bytesBefore}
 use Rattle.mmu.specs.PlaceLaws.{before-le}
@@ -35,7 +35,7 @@ unfolding stored
 stored-length base ram n pa v = go (leb base pa) (leb (pa + n) (base + length ram)) refl refl
   where
     go : (a b : Bool) → leb base pa ≡ a → leb (pa + n) (base + length ram) ≡ b
-        → length (pickRam (a && b) (written ram (pa - base) n v) ram) ≡ length ram
+        → length (pick (a && b) (written ram (pa - base) n v) ram) ≡ length ram
     go true true ea eb =
         let h : base ≤ pa = leb-true _ _ ea in
         let k : pa + n ≤ base + length ram = leb-true _ _ eb in
@@ -60,7 +60,7 @@ pub whole-or-none : (base : ℕ) (ram : List ℕ) (pa n v i q : ℕ) → judged 
 unfolding judged storeRam stored
 whole-or-none base ram pa n v i q = go (within base (length ram) n pa)
   where
-    go : (b : Bool) → pick b Inside (Outside 0 pa) ≡ Outside i q → pickRam b (written ram (pa - base) n v) ram ≡ ram
+    go : (b : Bool) → pick b Inside (Outside 0 pa) ≡ Outside i q → pick b (written ram (pa - base) n v) ram ≡ ram
     go true e = let z : _≡_ {A = ℕ} 0 1 = cc in absurd (omega arith)
     go false e = refl
 
@@ -112,12 +112,12 @@ stored-leaves base ram n pa v k none = go (leb base pa) (leb (pa + n) (base + le
             absurd (none (k - (pa - base)) (omega arith) (omega arith))
 
     go : (a b : Bool) → leb base pa ≡ a → leb (pa + n) (base + length ram) ≡ b
-        → getD (pickRam (a && b) (written ram (pa - base) n v) ram) k 0 ≡ getD ram k 0
+        → getD (pick (a && b) (written ram (pa - base) n v) ram) k 0 ≡ getD ram k 0
     go true true ea eb = within-it (leb-true _ _ ea) (leb-true _ _ eb)
     go true false ea eb = refl
     go false b ea eb = refl
 
-split-leaves : (base : ℕ) (p : Pages) (v s n k : ℕ) (ram : List ℕ) → ((i : ℕ) → s ≤ i → i < s + n → base + k ≡ byteAt p i → ⊥)
+pub split-leaves : (base : ℕ) (p : Pages) (v s n k : ℕ) (ram : List ℕ) → ((i : ℕ) → s ≤ i → i < s + n → base + k ≡ byteAt p i → ⊥)
     → getD (splitStored base p v s n ram) k 0 ≡ getD ram k 0
 unfolding splitStored
 split-leaves base p v s zero k ram none = refl

@@ -1,4 +1,5 @@
--- The core's operations on memory: answer, core and RAM of each.
+-- The core's operations on memory: answer, core and RAM of each. Exact definitions, on the code's own types. What they mean: `OpSays`, the answers;
+-- `OpLaws`, what stays as it was; `ByteMeaning`, each byte that moves.
 use mathlib.Core.List.{List}
 use Prim.Native.Nat.{ℕ}
 use Rattle.word.specs.Ram.{wordAt}

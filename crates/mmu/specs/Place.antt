@@ -1,6 +1,7 @@
--- Where the bytes of an access lie, and which of them lie outside RAM.
+-- Where the bytes of an access lie, and which of them lie outside RAM, by the code's own two parts; `OwnAddress` has it by each byte's own
+-- address.
 use mathlib.Core.Bool.{Bool, false, _&&_}
-use Prim.Native.Nat.{ℕ, zero, suc, _+_, _-_, _%_, _^_}
+use Prim.Native.Nat.{ℕ, zero, suc, _+_, _-_, _%_}
 use lib.Dec.{ltb}
 use Rattle.word.specs.Bits.{pick, wrap}
 use Rattle.word.specs.Ram.{within}
@@ -65,10 +66,3 @@ judged base len (Split p) n = firstOutside base len p 0 n
 abbrev pub bytesBefore : Verdict → ℕ → ℕ
 bytesBefore Inside n = n
 bytesBefore (Outside i pa) n = i
-
--- both parts of up to eight bytes lie in RAM, in a window that ends below the last address
-unfoldable pub bothInside : ℕ → ℕ → Pages → ℕ → Bool
-bothInside base len p n =
-    pick (ltb (2 ^ 64 - 1 - len) base) false
-    (pick (ltb n (p .«in_page»)) false
-    (pick (ltb 8 n) false (within base len (p .«in_page») (p .pa) && within base len (n - p .«in_page») (p .pa2))))

@@ -1,4 +1,5 @@
--- Translations as steps of a cache, on the registers, the level and the RAM of the moment.
+-- Translations as steps of a cache, on the registers, the level and the RAM of the moment. Exact definitions, on the code's own types. What they
+-- mean: `Asks`, which translations an access makes; `PageLaws`, that they go by pages; `OwnAddress`, where each byte then lies.
 use Prim.Native.Nat.{ℕ}
 use Rattle.word.specs.Bits.{pick}
 use Rattle.word.specs.declared.ram.Word.{Word}

@@ -3,8 +3,9 @@ ghost use mathlib.Core.Path.{_≡_};
 ghost use Prim.Native.Nat.{_+_, _≤_, _<_};
 ghost use lib.ListN.{length, getD};
 ghost use Rattle.word.specs.Ram.{bytesIn, littleEndian};
-ghost use Rattle.mmu.specs.Place.{judged, bothInside};
-ghost use Rattle.mmu.specs.Bytes.{byteIn, splitValue, splitStored, loadOf, storeRam, insnOf, Lie, bothAt, bothStored};
+ghost use Rattle.mmu.specs.Place.{judged};
+ghost use Rattle.mmu.specs.Bytes.{byteIn, splitValue, splitStored, loadOf, storeRam, insnOf};
+ghost use Rattle.mmu.specs.AtOnce.{bothInside, Lie, bothAt, bothStored};
 use crate::place;
 use crate::place::Pages;
 use crate::place::Place;
@@ -182,28 +183,17 @@ pub fn read_both(base: u64, ram: &[u8], p: Pages, n: u64) -> Word
     }
 }
 
-// The low n bytes of a value, to bytes that lie in RAM.
-fn parted(base: u64, ram: &mut [u8], p: Pages, n: u64, value: u64)
-    requires { ⌜ Lie base (length (now ram)) p n ⌝ }
-    ensures { λ _. ⌜ now (ram .exit) ≡ splitStored base p value 0 n (now (ram .entry)) ⌝ }
-{
-    let mut v = value;
-    let mut i: u64 = 0;
-    while i < n {
-        let pa = place::byte_at(p, i);
-        ram[(pa - base) as usize] = (v % 256) as u8;
-        v = v / 256;
-        i += 1;
-    }
-}
-
-// A split store, where both parts lie in RAM at a glance, and whether it was made.
+// A split store, where both parts lie in RAM at a glance, and whether it was made. The byte writer is lent each part by itself: the first
+// page's bytes, and then the others, which are those of the value above them.
 pub fn write_both(base: u64, ram: &mut [u8], p: Pages, n: u64, value: u64) -> bool
     ensures { λ r. ⌜ (r ≡ bothInside base (length (now (ram .entry))) p n) × (now (ram .exit) ≡ bothStored base (now (ram .entry)) p n value) ⌝ }
 {
     let fits = place::both_inside(base, ram.len() as u64, p, n);
     if fits {
-        parted(base, ram, p, n, value);
+        let here = p.in_page;
+        let rest = value >> (here * 8 % 64);
+        ram::write_bytes(base, ram, here, p.pa, value);
+        ram::write_bytes(base, ram, n - here, p.pa2, rest);
         true
     } else {
         false

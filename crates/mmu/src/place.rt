@@ -1,7 +1,8 @@
 // Where the bytes of an access lie, and which of them lie outside RAM.
 ghost use mathlib.Core.Path.{_≡_};
 ghost use Prim.Native.Nat.{_≤_};
-ghost use Rattle.mmu.specs.Place.{inPage, nextPage, crosses as crossesOf, goesOn, placedOne, placedBoth, firstPa, byteAt, firstOutside, bytesBefore, bothInside};
+ghost use Rattle.mmu.specs.Place.{inPage, nextPage, crosses as crossesOf, goesOn, placedOne, placedBoth, firstPa, byteAt, firstOutside, bytesBefore};
+ghost use Rattle.mmu.specs.AtOnce.{bothInside};
 use tlb::access::Answer;
 use word::ram;
 
@@ -144,13 +145,17 @@ pub fn both_inside(base: u64, len: u64, p: Pages, n: u64) -> bool
     if u64::MAX - len < base {
         return false;
     }
+    if 8 < p.in_page {
+        return false;
+    }
     if n < p.in_page {
         return false;
     }
-    if 8 < n {
+    let more = n - p.in_page;
+    if 8 - p.in_page < more {
         return false;
     }
     let first = ram::inside(base, len, p.in_page, p.pa);
-    let second = ram::inside(base, len, n - p.in_page, p.pa2);
+    let second = ram::inside(base, len, more, p.pa2);
     if first { second } else { false }
 }

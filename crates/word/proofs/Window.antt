@@ -1,13 +1,13 @@
 -- What the window's test says of the numbers, and how a part that was lent comes back.
 use mathlib.Core.Path.{_≡_, refl, sym, ap, _∙_}
 use mathlib.Core.Bool.{Bool, true, false, _&&_}
-use mathlib.Core.List.{List, [], _∷_, _++_, append-nil}
+use mathlib.Core.List.{List, _++_, append-nil}
 use Prim.Native.Nat.{ℕ, zero, suc, _+_, _-_, _*_, _/_, _%_, _<_, _≤_}
 use native.Mathlib.Numerals.{add-one}
 use native.Mathlib.Omega.{arith}
 use borrow.Author.Tests.{le-leb, lt-leb, leb-true, leb-false}
 use lib.Dec.{leb}
-use lib.ListN.{take, drop, length, getD, set, length-drop, length-append}
+use lib.ListN.{take, drop, length, getD, set, length-drop}
 use lib.Seq.{take-suc-set, append-snoc, take-all, length-take-le}
 use Rattle.word.specs.Ram.{littleEndian, bytesOf, within, wordAt, written, stored}
 use Rattle.word.specs.RamLaws.{le-join}
@@ -54,8 +54,15 @@ fits-end base len n pa r t e =
 pub part-end : (base len n m pa : ℕ) (r : Bool) → r ≡ true → r ≡ within base len n pa → n ≡ m → pa - base + m ≤ len
 part-end base len n m pa r t e w = rw w at (fits-end base len n pa r t e)
 
-pub test-width : (base len n m pa : ℕ) (r s : Bool) → r ≡ s → r ≡ within base len n pa → n ≡ m → s ≡ within base len m pa
-test-width base len n m pa r s t e w = rw w at (sym t ∙ e)
+pub test-tells : (base len n pa : ℕ) (r s : Bool) → r ≡ s → r ≡ within base len n pa → s ≡ within base len n pa
+test-tells base len n pa r s t e = sym t ∙ e
+
+-- a store of a width's bytes
+pub test-width : (base len n m pa : ℕ) (r : Bool) → n ≡ m → r ≡ within base len n pa → r ≡ within base len m pa
+test-width base len n m pa r w e = rw w at e
+
+pub store-width : (base : ℕ) (ram ys : List ℕ) (n m pa v : ℕ) → n ≡ m → ys ≡ stored base ram n pa v → ys ≡ stored base ram m pa v
+store-width base ram ys n m pa v w e = rw w at e
 
 -- a read, by its test
 module _ (base : ℕ) (ram : List ℕ) (n pa : ℕ) where
@@ -67,13 +74,13 @@ module _ (base : ℕ) (ram : List ℕ) (n pa : ℕ) where
   unfolding wordAt
   read-outside k r t e w = rw (← w, ← e, t)
 
-  pub store-inside : (ys : List ℕ) (v k : ℕ) (r : Bool) → r ≡ true → r ≡ within base (length ram) k pa → k ≡ n → ys ≡ written ram (pa - base) k v → ys ≡ stored base ram n pa v
+  pub store-inside : (ys : List ℕ) (v : ℕ) (r : Bool) → r ≡ true → r ≡ within base (length ram) n pa → ys ≡ written ram (pa - base) n v → ys ≡ stored base ram n pa v
   unfolding stored
-  store-inside ys v k r t e w l = rw (← w, ← e, t) l
+  store-inside ys v r t e l = rw (← e, t) l
 
-  pub store-outside : (v k : ℕ) (r : Bool) → r ≡ false → r ≡ within base (length ram) k pa → k ≡ n → ram ≡ stored base ram n pa v
+  pub store-outside : (v : ℕ) (r : Bool) → r ≡ false → r ≡ within base (length ram) n pa → ram ≡ stored base ram n pa v
   unfolding stored
-  store-outside v k r t e w = rw (← w, ← e, t)
+  store-outside v r t e = rw (← e, t)
 
 -- a turn of the loop that writes the bytes, and its end
 pub bytes-turn : (l : List ℕ) (i v n : ℕ) → i < length l → length l ≡ n → take (i + 1) (set l i (v % 256)) ++ bytesOf (n - (i + 1)) (v / 256) ≡ take i l ++ bytesOf (n - i) v

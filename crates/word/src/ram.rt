@@ -150,11 +150,10 @@ fn put_part(ram: &mut [u8], at: usize, n: usize, value: u64)
     put_bytes(&mut ram[at..at + n], value);
 }
 
-// A store: the part from the address minus the base, of the store's size, or nothing. Whether it was made.
-pub fn write(base: u64, ram: &mut [u8], width: Width, pa: u64, value: u64) -> bool
-    ensures { λ r. ⌜ (r ≡ within base (length (now (ram .entry))) (bytesIn width) pa) × (now (ram .exit) ≡ stored base (now (ram .entry)) (bytesIn width) pa value) ⌝ }
+// A store of the n low bytes of a value: the part from the address minus the base, of the store's size, or nothing. Whether it was made.
+pub fn write_bytes(base: u64, ram: &mut [u8], n: u64, pa: u64, value: u64) -> bool
+    ensures { λ r. ⌜ (r ≡ within base (length (now (ram .entry))) n pa) × (now (ram .exit) ≡ stored base (now (ram .entry)) n pa value) ⌝ }
 {
-    let n = bytes_in(width);
     let fits = inside(base, ram.len() as u64, n, pa);
     if fits {
         put_part(ram, (pa - base) as usize, n as usize, value);
@@ -162,4 +161,12 @@ pub fn write(base: u64, ram: &mut [u8], width: Width, pa: u64, value: u64) -> bo
     } else {
         false
     }
+}
+
+// A store of a width's bytes.
+pub fn write(base: u64, ram: &mut [u8], width: Width, pa: u64, value: u64) -> bool
+    ensures { λ r. ⌜ (r ≡ within base (length (now (ram .entry))) (bytesIn width) pa) × (now (ram .exit) ≡ stored base (now (ram .entry)) (bytesIn width) pa value) ⌝ }
+{
+    let n = bytes_in(width);
+    write_bytes(base, ram, n, pa, value)
 }

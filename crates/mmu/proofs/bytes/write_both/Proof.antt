@@ -1,5 +1,7 @@
 -- `mmu::bytes::write_both` meets its contract.
-use Rattle.mmu.proofs.Both.{lies, made, unmade, both-wrote, both-unwritten}
+use Rattle.mmu.proofs.Both.{part-bits, some, made, unmade, both-wrote, both-unwritten}
+use Prim.Native.Nat.{_*_, _≤_}
+use native.Mathlib.Omega.{arith}
 use borrow.Author.Needs.{needs}
 use Rattle.mmu.proofs.bytes.write_both.Statement.{statement}
 use Rattle.mmu.proofs.bytes.write_both.Tie as tie
@@ -7,8 +9,22 @@ use Rattle.mmu.proofs.bytes.write_both.Tie as tie
 both-inside-requires : tie.Need-both-inside-requires
 both-inside-requires c κs = search needs
 
-parted-requires : tie.Need-parted-requires
-parted-requires c κs = search (lies, needs)
+mul-rest : tie.Need-mul-rest
+mul-rest c =
+    let h : c .before .before .before .args .p .«in_page» * 8 ≤ 64 = search (part-bits, needs) in
+    omega arith
+
+shr-rest : tie.Need-shr-rest
+shr-rest c = search needs
+
+write-bytes-requires : tie.Need-write-bytes-requires
+write-bytes-requires c κs = search needs
+
+sub-write-bytes : tie.Need-sub-write-bytes
+sub-write-bytes c = search (some, needs)
+
+write-bytes-requires-2 : tie.Need-write-bytes-requires-2
+write-bytes-requires-2 c κs = search needs
 
 same-length : tie.Need-same-length
 same-length c = search needs
@@ -24,7 +40,11 @@ write-both-spec =
     tie.close
     (tie.spec
     both-inside-requires
-    parted-requires
+    mul-rest
+    shr-rest
+    write-bytes-requires
+    sub-write-bytes
+    write-bytes-requires-2
     same-length
     returns
     returns-2)

@@ -1,0 +1,179 @@
+-- Translations go by pages: in one cache the addresses of a page get one answer but for the offset in the page, which is each address's own.
+use mathlib.Core.Path.{_≡_, refl, sym, ap, _∙_}
+use mathlib.Core.Bool.{Bool, true, false, _&&_}
+use Prim.Native.Nat.{ℕ, _+_, _*_, _/_, _%_}
+use native.Mathlib.Omega.{arith}
+use lib.Bits.{bitOr}
+use lib.Dec.{eqb}
+use Rattle.word.specs.Bits.{pick}
+use Rattle.word.specs.declared.ram.Word.{Word}
+use Rattle.walk.specs.Regime.{stage1On, regimeOf}
+use Rattle.walk.specs.Tag.{untagged}
+use Rattle.walk.specs.TagLaws.{untagged-page}
+use Rattle.walk.specs.PageLaws.{paged, pagedLeaf, walk-of-page}
+use Rattle.walk.specs.declared.regime.Regime.{Regime}
+use Rattle.walk.specs.declared.regime.Bank.{Bank}
+use Rattle.walk.specs.declared.level.Leaf.{Leaf}
+use Rattle.walk.specs.declared.level.Walked.{Walked}
+use Rattle.walk.specs.declared.level.Walked.the-variants.{Mapped, Fault}
+use Rattle.tlb.specs.Access.{mayHint, tagOf, userOf, rightOf, hasRight, judged}
+use Rattle.tlb.specs.Entry.{blank, serves}
+use Rattle.tlb.specs.Hint.{noHint, onPage, dataSlot, hintKey}
+use Rattle.tlb.specs.Cache.{entryAt, hintAt}
+use Rattle.tlb.specs.Lists.{each-getD, each-imp}
+use Rattle.tlb.specs.Live.{Made, Aligned, WellFormed}
+use Rattle.tlb.specs.Cells.{or-page}
+use Rattle.tlb.specs.Turn.{entryFor, walkEnd, lookWith, missWith, remembered, turnWith, walkNow}
+use Rattle.tlb.specs.declared.access.Kind.{Kind}
+use Rattle.tlb.specs.declared.access.Who.{Who}
+use Rattle.tlb.specs.declared.access.Answer.{Answer}
+use Rattle.tlb.specs.declared.access.Answer.the-variants.{Address, Status}
+use Rattle.tlb.specs.declared.count.Counts.{Counts}
+use Rattle.tlb.specs.declared.entry.Entry.{Entry}
+use Rattle.tlb.specs.declared.entry.Present.{Present}
+use Rattle.tlb.specs.declared.hint.Hint.{Hint}
+use Rattle.tlb.specs.declared.turn.Turned.{Turned}
+use Rattle.tlb.specs.declared.Tlb.{Tlb}
+use Rattle.mmu.specs.Step.{slotAt, stepOf}
+
+-- an answer as another address of its page gets it
+abbrev pub answerAt : Answer → ℕ → Answer
+answerAt (Address pa) b = Address (pa / 4096 * 4096 + b % 4096)
+answerAt (Status fsc) b = Status fsc
+
+-- THE ANSWER OF A TURN, by its tests
+
+module _ (on : Bool) (page : ℕ) (w : Walked) (r : Regime) (who : Who) (at : Present) (k : Counts) (h : Hint) (e : Entry) (va : ℕ) (kind : Kind) where
+  abbrev pub turn : Turned
+  turn = turnWith on page w r who at k h e va kind
+
+  abbrev pub miss : Turned
+  miss = missWith on page w r who at k h e va kind
+
+  abbrev pub hits : Bool
+  hits = mayHint who kind && eqb (h .key) (hintKey va (who .level))
+
+  pub by-hint : hits ≡ true → turn .answer ≡ Address (onPage (h .pa) va)
+  unfolding turnWith
+  by-hint q = rw q
+
+  pub by-miss : hits ≡ false → turn .answer ≡ miss .answer
+  unfolding turnWith remembered
+  by-miss q = rw q
+
+  pub by-flat : on ≡ false → miss .answer ≡ Address va
+  unfolding missWith
+  by-flat q = rw q
+
+  pub by-entry : on ≡ true → serves e at (tagOf r page) ≡ true → miss .answer ≡ judged e (userOf r who kind) kind va
+  unfolding missWith lookWith
+  by-entry q p = rw (q, p)
+
+  pub by-walk : on ≡ true → serves e at (tagOf r page) ≡ false → miss .answer ≡ walkEnd w at k h e (tagOf r page) (userOf r who kind) kind va .answer
+  unfolding missWith lookWith
+  by-walk q p = rw (q, p)
+
+-- IN ONE CACHE
+
+module _ (a b : ℕ) where
+  on-page : (pa : ℕ) → pa % 4096 ≡ 0 → onPage pa b ≡ onPage pa a / 4096 * 4096 + b % 4096
+  on-page pa q = let x = or-page pa a q in or-page pa b q ∙ omega arith
+
+  judged-page : (e : Entry) (user : Bool) (kind : Kind) → e .pa % 4096 ≡ 0 → judged e user kind b ≡ answerAt (judged e user kind a) b
+  unfolding judged
+  judged-page e user kind q = go (hasRight (e .perms) (rightOf kind user))
+    where
+      go : (x : Bool)
+          → pick x (Address (onPage (e .pa) b)) (Status (bitOr 12 (e .level)))
+          ≡ answerAt (pick x (Address (onPage (e .pa) a)) (Status (bitOr 12 (e .level)))) b
+      go true = ap Address (on-page (e .pa) q)
+      go false = refl
+
+  -- an entry is made of a leaf's page
+  abbrev entryOf : Present → ℕ → Leaf → Entry
+  entryOf at tag leaf =
+      record { tag = tag; generation = at .generation; perms = leaf .perms; level = leaf .level; global = leaf .global; asid = at .asid; pa = leaf .oa }
+
+  walk-page : (v w : Walked) (at : Present) (k : Counts) (h : Hint) (e : Entry) (tag : ℕ) (user : Bool) (kind : Kind) → paged v ≡ paged w
+      → walkEnd w at k h e tag user kind b .answer ≡ answerAt (walkEnd v at k h e tag user kind a .answer) b
+  unfolding walkEnd
+  walk-page (Mapped x) (Mapped y) at k h e tag user kind q =
+      let leaf : pagedLeaf x ≡ pagedLeaf y = cc in
+      let same : entryFor x at tag ≡ entryFor y at tag = ap (entryOf at tag) leaf in
+      ap (λ (z : Entry). judged z user kind b) (sym same) ∙ judged-page (entryFor x at tag) user kind (omega arith)
+  walk-page (Fault n) (Fault m) at k h e tag user kind q = let x : n ≡ m = cc in rw x
+  walk-page (Mapped x) (Fault m) at k h e tag user kind q = let z : _≡_ {A = ℕ} 0 1 = cc in absurd (omega arith)
+  walk-page (Fault n) (Mapped y) at k h e tag user kind q = let z : _≡_ {A = ℕ} 0 1 = cc in absurd (omega arith)
+
+module _ (a b pa pb : ℕ) (v w : Walked) (same : a / 4096 ≡ b / 4096) (same-tag : pa / 4096 ≡ pb / 4096) (walks : paged v ≡ paged w)
+    (on : Bool) (r : Regime) (who : Who) (at : Present) (k : Counts) (h : Hint) (e : Entry) (kind : Kind)
+    (ah : h .pa % 4096 ≡ 0) (ae : e .pa % 4096 ≡ 0) where
+  abbrev atA : Answer
+  atA = turnWith on pa v r who at k h e a kind .answer
+
+  abbrev atB : Answer
+  atB = turnWith on pb w r who at k h e b kind .answer
+
+  turn-page : atB ≡ answerAt atA b
+  turn-page = hint (hits on pb w r who at k h e b kind) refl
+    where
+      key : hits on pa v r who at k h e a kind ≡ hits on pb w r who at k h e b kind
+      key = rw same
+
+      tags : serves e at (tagOf r pa) ≡ serves e at (tagOf r pb)
+      tags = rw same-tag
+
+      missed : (x : Bool) → on ≡ x → missWith on pb w r who at k h e b kind .answer ≡ answerAt (missWith on pa v r who at k h e a kind .answer) b
+      missed false q =
+          rw (by-flat on pb w r who at k h e b kind q, by-flat on pa v r who at k h e a kind q) (ap Address (omega arith))
+      missed true q = go (serves e at (tagOf r pb)) refl
+        where
+          go : (y : Bool) → serves e at (tagOf r pb) ≡ y
+              → missWith on pb w r who at k h e b kind .answer ≡ answerAt (missWith on pa v r who at k h e a kind .answer) b
+          go true z =
+              rw (by-entry on pb w r who at k h e b kind q z, by-entry on pa v r who at k h e a kind q (tags ∙ z))
+              (judged-page a b e (userOf r who kind) kind ae)
+          go false z =
+              rw (by-walk on pb w r who at k h e b kind q z, by-walk on pa v r who at k h e a kind q (tags ∙ z), same-tag)
+              (walk-page a b v w at k h e (tagOf r pb) (userOf r who kind) kind walks)
+
+      hint : (x : Bool) → hits on pb w r who at k h e b kind ≡ x → atB ≡ answerAt atA b
+      hint true q =
+          rw (by-hint on pb w r who at k h e b kind q, by-hint on pa v r who at k h e a kind (key ∙ q)) (ap Address (on-page a b (h .pa) ah))
+      hint false q =
+          rw (by-miss on pb w r who at k h e b kind q, by-miss on pa v r who at k h e a kind (key ∙ q)) (missed on refl)
+
+module _ (s : Bank) (who : Who) (memory : ℕ → Word) (kind : Kind) (t : Tlb) (f : WellFormed t) where
+  pub hint-aligned : (i : ℕ) → hintAt (t .cache) i .pa % 4096 ≡ 0
+  hint-aligned i = each-getD {P = Aligned} noHint refl (f .hints) i
+
+  pub entry-aligned : (i : ℕ) → entryAt (t .cache) i .pa % 4096 ≡ 0
+  entry-aligned i =
+      each-getD {P = λ (e : Entry). e .pa % 4096 ≡ 0} blank refl
+      (each-imp {P = Made (t .cache .present .generation)} (λ e m. m .aligned) (f .entries)) i
+
+  -- addresses of one page get one answer, each with its own offset
+  pub step-page : (a b : ℕ) → a / 4096 ≡ b / 4096 → stepOf s who memory b kind t .answer ≡ answerAt (stepOf s who memory a kind t .answer) b
+  unfolding stepOf
+  step-page a b same =
+      let r = regimeOf (who .level) in
+      let tags : untagged (s .tcr) r a / 4096 ≡ untagged (s .tcr) r b / 4096 = untagged-page (s .tcr) r a b same in
+      let places : dataSlot b kind ≡ dataSlot a kind = rw same in
+      let slots : slotAt s (who .level) b ≡ slotAt s (who .level) a = rw tags in
+      let answers : ℕ → ℕ → Answer = λ i j.
+      turnWith (stage1On s r) (untagged (s .tcr) r b) (walkNow s (who .level) b memory) r who (t .cache .present) (t .counts) (hintAt (t .cache) i)
+      (entryAt (t .cache) j) b kind .answer in
+      ap (λ (i : ℕ). answers i (slotAt s (who .level) b)) places
+      ∙ ap (answers (dataSlot a kind)) slots
+      ∙ turn-page a b (untagged (s .tcr) r a) (untagged (s .tcr) r b) (walkNow s (who .level) a memory) (walkNow s (who .level) b memory) same tags
+      (walk-of-page (untagged (s .tcr) r a) (untagged (s .tcr) r b) tags s r memory) (stage1On s r) r who (t .cache .present) (t .counts)
+      (hintAt (t .cache) (dataSlot a kind)) (entryAt (t .cache) (slotAt s (who .level) a)) kind (hint-aligned (dataSlot a kind))
+      (entry-aligned (slotAt s (who .level) a))
+
+  -- so an address that is answered has the offset of the one that was asked for
+  pub step-offset : (a pa : ℕ) → stepOf s who memory a kind t .answer ≡ Address pa → pa % 4096 ≡ a % 4096
+  step-offset a pa e =
+      let q : stepOf s who memory a kind t .answer ≡ answerAt (stepOf s who memory a kind t .answer) a = step-page a a refl in
+      let p : Address pa ≡ Address (pa / 4096 * 4096 + a % 4096) = rw e at q in
+      let n : pa ≡ pa / 4096 * 4096 + a % 4096 = cc in
+      omega arith
