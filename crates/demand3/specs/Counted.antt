@@ -4,12 +4,13 @@ use mathlib.Core.Path.{_≡_, refl, sym, ap, _∙_}
 use mathlib.Core.Bool.{Bool, true, false}
 use mathlib.Core.List.{List, [], _∷_}
 use Prim.Native.Nat.{ℕ, _+_, _%_, _^_}
+use lib.Dec.{eqb}
 use borrow.Author.Tests.{eq-eqb, ne-eqb}
-use Rattle.sysreg.specs.Shape.{asidOf}
+use Rattle.sysreg.specs.Shape.{sameShape, asidOf}
 use Rattle.sysreg.specs.declared.regs.Control.{Control}
 use Rattle.sysreg.specs.declared.write.WriteAnswer.the-variants as Written
-use Rattle.tlb.specs.Model.{Slot, Counters, Model, invalCounted, joined, invalidate, broadcast, Outcome}
-use Rattle.tlb.specs.Counting.{countedBy, howTranslated, howFetched, translate-counts, fetch-counts}
+use Rattle.tlb.specs.Model.{Slot, Counters, Model, oneFlush, oneEpoch, invalCounted, invalidate, retag, joined, broadcast}
+use Rattle.tlb.specs.Counting.{How, countedBy, howTranslated, howFetched, translate-counts, fetch-counts}
 use Rattle.tlb.specs.Live.{countersOf, pendingOf, live}
 use Rattle.tlb.specs.declared.access.Kind.{Kind}
 use Rattle.tlb.specs.declared.access.Kind.the-variants as Kind
@@ -22,19 +23,19 @@ use Rattle.tlb.specs.declared.Tlb.{Tlb}
 use Rattle.sysop.specs.declared.op.SysOp.the-variants as Op
 use Rattle.cpu.specs.declared.call.Encoding.{Encoding}
 use Rattle.cpu.specs.declared.call.Call.{Call}
-use Rattle.cpu.specs.declared.call.Call.the-variants.{Translate, FetchPa, Fetch, System, Register}
+use Rattle.cpu.specs.declared.call.Call.the-variants.{Translate, DataPa, FetchPa, Fetch, System, Register}
 use Rattle.history.specs.World.{accessOf}
-use Rattle.history.specs.History.{Ask, translates, fetches, Effect, carries, writes, Event, steps, onward}
+use Rattle.history.specs.History.{Ask, translates, fetches, carries, writes, Event, steps, onward}
 use Rattle.history.specs.ModelRun.{modelTurn, modelAsked, modelAfter, modelFlushed, modelRetagged, modelRun}
 use Rattle.history.specs.Calls.{Lent}
 use Rattle.history.specs.Instance.{Ram, real}
 use Rattle.demand3.specs.Bare.{Bare, plainIn, missedIn, opIn, writtenIn}
-use Rattle.demand3.specs.Events.{does, asking, invalIn, sharedIn, eventsIn, tlbi-event}
+use Rattle.demand3.specs.Events.{does, asking, invalIn, sharedIn, tlbi-event}
 use Rattle.demand3.specs.Starts.{laterIn}
 use Rattle.demand3.specs.Machine.{machine}
-use Rattle.demand3.specs.Beside.{coreAfter, bareAfter}
+use Rattle.demand3.specs.Beside.{coreAfter, bareAfter, two-cores}
 use Rattle.demand3.specs.Faithful.{eventsAfter}
-use Rattle.demand3.specs.ModelCalls.{modelAfterList, modelAfterCall, tlbAfterCall, every-call-model}
+use Rattle.demand3.specs.ModelCalls.{modelAfterList, tlbAfterCall, every-core-well, every-call-model}
 
 -- the model's counters as the core's
 abbrev countsOf : Counters → Counts
@@ -73,25 +74,39 @@ module _ (list : List (Lent real machine)) (m : Ram) where
 
   -- TRANSLATIONS
 
+  -- how the plain model, as the list left it, answers
+  abbrev pub howAnswered : Ask → How
+  howAnswered (translates kind va) = howTranslated (accessOf real (plainIn (bareAfter list)) m kind va) model
+  howAnswered (fetches va) = howFetched (accessOf real (plainIn (bareAfter list)) m Kind.Fetch va) model
+
+  turn-counts : (a : Ask) → modelTurn real (plainIn (bareAfter list)) m a model .after .counts ≡ countedBy (howAnswered a) (model .counts)
+  turn-counts (translates kind va) = translate-counts (accessOf real (plainIn (bareAfter list)) m kind va) model
+  turn-counts (fetches va) = fetch-counts (accessOf real (plainIn (bareAfter list)) m Kind.Fetch va) model
+
+  one-counted : (x : Call) (a : Ask) → eventsAfter list m x ≡ steps m (asking (a ∷ [])) ∷ []
+      → countersOf (tlbAfterCall list m x .counts) ≡ countedBy (howAnswered a) (countersOf (now .counts))
+  one-counted x a e =
+      ap (λ (u : Model). u .counts) (one-step x (steps m (asking (a ∷ [])) ∷ []) e ∙ asked-one (bareAfter list) m a model)
+      ∙ turn-counts a
+      ∙ ap (countedBy (howAnswered a)) model-counts
+
   -- One that a line of the model answers counts one in `hits`, one that is walked one in `walks`, whether it faults or not; a hint, and the
-  -- address itself with stage 1 off, count nothing. Lines and hints are those that the list left in the plain model.
+  -- address itself with stage 1 off, count nothing.
   pub translate-counted : (kind : Kind) (va : ℕ) → missedIn (bareAfter list) m (Translate kind va) ≡ 0
-      → countersOf (tlbAfterCall list m (Translate kind va) .counts)
-      ≡ countedBy (howTranslated (accessOf real (plainIn (bareAfter list)) m kind va) model) (countersOf (now .counts))
-  translate-counted kind va passed =
-      ap (λ (u : Model). u .counts)
-      (one-step (Translate kind va) (steps m (asking (translates kind va ∷ [])) ∷ []) (rw passed) ∙ asked-one (bareAfter list) m (translates kind va) model)
-      ∙ translate-counts (accessOf real (plainIn (bareAfter list)) m kind va) model
-      ∙ ap (countedBy (howTranslated (accessOf real (plainIn (bareAfter list)) m kind va) model)) model-counts
+      → countersOf (tlbAfterCall list m (Translate kind va) .counts) ≡ countedBy (howAnswered (translates kind va)) (countersOf (now .counts))
+  translate-counted kind va passed = one-counted (Translate kind va) (translates kind va) (rw passed)
+
+  pub data-pa-counted : (va : ℕ) → missedIn (bareAfter list) m (DataPa va) ≡ 0
+      → countersOf (tlbAfterCall list m (DataPa va) .counts) ≡ countedBy (howAnswered (translates Kind.Read va)) (countersOf (now .counts))
+  data-pa-counted va passed = one-counted (DataPa va) (translates Kind.Read va) (rw passed)
 
   pub fetch-pa-counted : (va : ℕ) → missedIn (bareAfter list) m (FetchPa va) ≡ 0
-      → countersOf (tlbAfterCall list m (FetchPa va) .counts)
-      ≡ countedBy (howFetched (accessOf real (plainIn (bareAfter list)) m Kind.Fetch va) model) (countersOf (now .counts))
-  fetch-pa-counted va passed =
-      ap (λ (u : Model). u .counts)
-      (one-step (FetchPa va) (steps m (asking (fetches va ∷ [])) ∷ []) (rw passed) ∙ asked-one (bareAfter list) m (fetches va) model)
-      ∙ fetch-counts (accessOf real (plainIn (bareAfter list)) m Kind.Fetch va) model
-      ∙ ap (countedBy (howFetched (accessOf real (plainIn (bareAfter list)) m Kind.Fetch va) model)) model-counts
+      → countersOf (tlbAfterCall list m (FetchPa va) .counts) ≡ countedBy (howAnswered (fetches va)) (countersOf (now .counts))
+  fetch-pa-counted va passed = one-counted (FetchPa va) (fetches va) (rw passed)
+
+  pub fetch-counted : (va : ℕ) → missedIn (bareAfter list) m (Fetch va) ≡ 0
+      → countersOf (tlbAfterCall list m (Fetch va) .counts) ≡ countedBy (howAnswered (fetches va)) (countersOf (now .counts))
+  fetch-counted va passed = one-counted (Fetch va) (fetches va) (rw passed)
 
   -- TLBI, not refused
 
@@ -167,10 +182,45 @@ module _ (list : List (Lent real machine)) (m : Ram) where
     own-pending q = ap (λ (u : Model). u .pending) (tlbi-model ∙ ap carried (ne-eqb (e .crm) 3 q)) ∙ model-pending
 
   -- REGISTER WRITES, not refused: "where `shaping` changed, it flushes; then, where `asid` differs from the cache's, it retags"
-  pub write-modelled : (key value : ℕ) → missedIn (bareAfter list) m (Register key value) ≡ 0
-      → writtenIn (bareAfter list) key value .answer ≡ Written.Done
-      → live (tlbAfterCall list m (Register key value))
-      ≡ modelRetagged real (asidOf (writtenIn (bareAfter list) key value .control))
-      (modelFlushed real (bareAfter list .control) (writtenIn (bareAfter list) key value .control) model)
-  write-modelled key value passed done =
-      one-step (Register key value) (steps m (does (writes (writtenIn (bareAfter list) key value .control))) ∷ []) (rw (passed, done))
+
+  module _ (key value : ℕ) (passed : missedIn (bareAfter list) m (Register key value) ≡ 0)
+      (done : writtenIn (bareAfter list) key value .answer ≡ Written.Done) where
+    abbrev registers : Control
+    registers = writtenIn (bareAfter list) key value .control
+
+    abbrev written : Tlb
+    written = tlbAfterCall list m (Register key value)
+
+    pub write-modelled : live written ≡ modelRetagged real (asidOf registers) (modelFlushed real (bareAfter list .control) registers model)
+    write-modelled = one-step (Register key value) (steps m (does (writes registers)) ∷ []) (rw (passed, done))
+
+    -- the ASID in force is the cache's
+    asid-now : model .asid ≡ asidOf (bareAfter list .control)
+    asid-now =
+        ap (λ (u : Model). u .asid) (sym (every-call-model list m (Register key value) .before))
+        ∙ every-core-well list .asid
+        ∙ ap (λ (b : Bare). asidOf (b .control)) (two-cores list)
+
+    -- neither changed: nothing of the cache changes
+    pub write-quiet : sameShape (bareAfter list .control) registers ≡ true → asidOf registers ≡ asidOf (bareAfter list .control)
+        → live written ≡ live now
+    unfolding modelRetagged modelFlushed
+    write-quiet shape asid =
+        let same : eqb (asidOf registers) (model .asid) ≡ true = eq-eqb _ _ (asid ∙ sym asid-now) in
+        write-modelled ∙ rw (shape, same) (sym (every-call-model list m (Register key value) .before))
+
+    -- `shaping` alone: a flush, one in `flushes` and one in `epoch`
+    pub write-flushes : sameShape (bareAfter list .control) registers ≡ false → asidOf registers ≡ asidOf (bareAfter list .control)
+        → countersOf (written .counts) ≡ oneEpoch (oneFlush (countersOf (now .counts)))
+    unfolding modelRetagged modelFlushed invalidate
+    write-flushes shape asid =
+        let same : eqb (asidOf registers) (model .asid) ≡ true = eq-eqb _ _ (asid ∙ sym asid-now) in
+        ap (λ (u : Model). u .counts) write-modelled ∙ rw (shape, same) (ap (λ (k : Counters). oneEpoch (oneFlush k)) model-counts)
+
+    -- the ASID alone: a retag, one in `epoch`
+    pub write-retags : sameShape (bareAfter list .control) registers ≡ true → (asidOf registers ≡ asidOf (bareAfter list .control) → ⊥)
+        → countersOf (written .counts) ≡ oneEpoch (countersOf (now .counts))
+    unfolding modelRetagged modelFlushed retag
+    write-retags shape differs =
+        let other : eqb (asidOf registers) (model .asid) ≡ false = ne-eqb _ _ (λ q. differs (q ∙ asid-now)) in
+        ap (λ (u : Model). u .counts) write-modelled ∙ rw (shape, other) (ap oneEpoch model-counts)

@@ -7,7 +7,7 @@ use Prim.Native.Nat.{ℕ}
 use native.Mathlib.Omega.{arith}
 use Rattle.word.specs.Ram.{wordAt, littleEndian, bytesOf}
 use Rattle.sysreg.specs.Regs.{freshControl, freshSys}
-use Rattle.sysreg.specs.Encoding.{bankedAt, registerAt, singleAt}
+use Rattle.sysreg.specs.Encoding.{bankedAt, registerAt}
 use Rattle.sysreg.specs.Write.{controlWith, sysWith, writeReg}
 use Rattle.sysreg.specs.Shape.{sameShape, asidBase, asidOf}
 use Rattle.sysreg.specs.declared.regs.Control.{Control}
@@ -181,14 +181,14 @@ step-by-step = (
 -- WITH THE TLBI the page is settled, and the cache answers from a hint, as the core without a cache does.
 
 pub settled : SettledAt (fedBy tidied) (shown-shown real machine freshCore tidied) new 0x40001234
-unfolding bytesOf setReg freshBare freshCore zeros freshControl freshSys bankedAt registerAt singleAt controlWith sysWith writeReg askedOf missedOf named decodeOf scopeOf whatOf tlbiOf untagged
+unfolding bytesOf setReg freshBare freshCore zeros freshControl freshSys bankedAt registerAt controlWith sysWith writeReg askedOf missedOf named decodeOf scopeOf whatOf tlbiOf untagged
 settled = steps-settled real (plainIn freshBare) events new El1 0x40001 step-by-step
 
 pub by-cache :
     (turnIn (accessOf real (plainIn (bareAfter tidied)) new Read 0x40001234) (coreAfter tidied .tlb) .source ≡ FromHint)
     × (stepOf (coreAfter tidied) (new .base) (new .bytes) read .reply ≡ Value 0xC0001234)
     × (uncached real (plainIn (bareAfter tidied)) new Read 0x40001234 ≡ Address 0xC0001234)
-unfolding stepOf runOf translateOf steppedNow stepMmu movedTo regOf setReg writeRegister appliedOf withRegs refitOf retaggedOf reshapedOf setLevel sysOf tlbiCore invalidatedOf uncached judged judge sameShape asidOf asidBase freshBare freshCore zeros freshControl freshSys bankedAt registerAt singleAt controlWith sysWith writeReg askedOf missedOf named decodeOf scopeOf whatOf tlbiOf flushOf flushed invalidateOf dropPageOf withoutPage pageDropped turnWith missWith lookWith walkEnd remembered entryJudged walkOf tableWalk walkRange walkFrom lookupNext levelNext leafResult leafTranslation leafPermissions tableNext descaddr rangeOf paramsOf paSize untagged wordAt littleEndian bytesOf placeOf blanks noHints
+unfolding stepOf runOf translateOf steppedNow stepMmu movedTo regOf setReg writeRegister appliedOf withRegs refitOf retaggedOf reshapedOf setLevel sysOf tlbiCore invalidatedOf uncached judged judge sameShape asidOf asidBase freshBare freshCore zeros freshControl freshSys bankedAt registerAt controlWith sysWith writeReg askedOf missedOf named decodeOf scopeOf whatOf tlbiOf flushOf flushed invalidateOf dropPageOf withoutPage pageDropped turnWith missWith lookWith walkEnd remembered entryJudged walkOf tableWalk walkRange walkFrom lookupNext levelNext leafResult leafTranslation leafPermissions tableNext descaddr rangeOf paramsOf paSize untagged wordAt littleEndian bytesOf placeOf blanks noHints
 by-cache = (refl, refl, refl)
 
 -- WITHOUT IT the cache answers by the old table, so the page is not settled.
@@ -197,7 +197,7 @@ pub stale :
     (stepOf (coreAfter start) (new .base) (new .bytes) read .reply ≡ Value 0x80001234)
     × (uncached real (plainIn (bareAfter start)) new Read 0x40001234 ≡ Address 0xC0001234)
     × (missedIn (bareOf (coreAfter start)) new read ≡ 0)
-unfolding stepOf runOf translateOf steppedNow stepMmu movedTo regOf setReg writeRegister appliedOf withRegs refitOf retaggedOf reshapedOf setLevel uncached judged judge sameShape asidOf asidBase freshBare freshCore zeros freshControl freshSys bankedAt registerAt singleAt controlWith sysWith writeReg askedOf missedOf flushOf flushed turnWith missWith lookWith walkEnd remembered entryJudged walkOf tableWalk walkRange walkFrom lookupNext levelNext leafResult leafTranslation leafPermissions tableNext descaddr rangeOf paramsOf paSize untagged wordAt littleEndian bytesOf placeOf blanks noHints
+unfolding stepOf runOf translateOf steppedNow stepMmu movedTo regOf setReg writeRegister appliedOf withRegs refitOf retaggedOf reshapedOf setLevel uncached judged judge sameShape asidOf asidBase freshBare freshCore zeros freshControl freshSys bankedAt registerAt controlWith sysWith writeReg askedOf missedOf flushOf flushed turnWith missWith lookWith walkEnd remembered entryJudged walkOf tableWalk walkRange walkFrom lookupNext levelNext leafResult leafTranslation leafPermissions tableNext descaddr rangeOf paramsOf paSize untagged wordAt littleEndian bytesOf placeOf blanks noHints
 stale = (refl, refl, refl)
 
 pub unsettled : SettledAt (fedBy start) (shown-shown real machine freshCore start) new 0x40001234 → ⊥
