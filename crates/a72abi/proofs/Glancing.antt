@@ -227,7 +227,7 @@ pub high-kind : (n : ℕ) → 2 ≤ n → (n ≡ 2 → ⊥) → (n ≡ 4 → ⊥
 high-kind n h a b = sym (rw (ne-eqb n 1 (λ e. omega arith), ne-eqb n 2 a, ne-eqb n 4 b))
 
 module _ (c : Core) (base : ℕ) (ram : List ℕ) (va : ℕ) (p : Kinds) where
-  pub no-kind-code : NoKind ≡ p → 7 ≡ kindCode p c base ram va
+  pub no-kind-code : NoKind ≡ p → 64 ≡ kindCode p c base ram va
   unfolding kindCode
   no-kind-code e = rw (← e)
 
@@ -256,7 +256,7 @@ module _ (ws : List ℕ) (base : ℕ) (ram : List ℕ) (va : ℕ) (p o : Kinds) 
   unfolding kindCore
   book-core xs m = rw known-is m
 
-pub book-none-code : (c : Core) (base : ℕ) (ram : List ℕ) (va : ℕ) (p o : Kinds) → o ≡ p → o ≡ NoKind → 7 ≡ kindCode p c base ram va
+pub book-none-code : (c : Core) (base : ℕ) (ram : List ℕ) (va : ℕ) (p o : Kinds) → o ≡ p → o ≡ NoKind → 64 ≡ kindCode p c base ram va
 book-none-code c base ram va p o eo e = no-kind-code c base ram va p (sym e ∙ eo)
 
 pub book-none-value : (c : Core) (base : ℕ) (ram : List ℕ) (va : ℕ) (p o : Kinds) (old : ℕ) → o ≡ p → o ≡ NoKind → old ≡ kindValue p c base ram va old

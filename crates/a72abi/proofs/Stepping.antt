@@ -225,7 +225,7 @@ module _ (ws : List ℕ) (base : ℕ) (ram : List ℕ) (p o : Calls) (eo : o ≡
     unknown-is : p ≡ Calls.Unknown
     unknown-is = sym eo ∙ e
 
-    pub unknown-code : 7 ≡ callCode p
+    pub unknown-code : 64 ≡ callCode p
     unfolding callCode
     unknown-code = rw unknown-is
 
@@ -252,7 +252,7 @@ module _ (ws : List ℕ) (p : Calls) (call : Call) (e : Calls.Known call ≡ p) 
   bare-core xs m = rw (← e) m
 
 module _ (ws : List ℕ) (p : Calls) (e : Calls.Unknown ≡ p) where
-  pub none-number : 7 ≡ callNumber p (held ws)
+  pub none-number : 64 ≡ callNumber p (held ws)
   unfolding callNumber
   none-number = rw (← e)
 

@@ -67,10 +67,10 @@ ramIn NoWidth base ram pa v = ram
 abbrev pub sizedRam : ℕ → List ℕ → ℕ → ℕ → ℕ → List ℕ
 sizedRam base ram size pa v = ramIn (widthOf size) base ram pa v
 
--- a translation by the number of its kind; 7 for no kind, and nothing changes
+-- a translation by the number of its kind; 64 for no kind, and nothing changes
 unfoldable pub kindCode : Kinds → Core → ℕ → List ℕ → ℕ → ℕ
 kindCode (Known k) c base ram va = codeBy (stepOf c base ram (Call.Translate k va) .reply)
-kindCode NoKind c base ram va = 7
+kindCode NoKind c base ram va = 64
 
 unfoldable pub kindValue : Kinds → Core → ℕ → List ℕ → ℕ → ℕ → ℕ
 kindValue (Known k) c base ram va old = valueBy (stepOf c base ram (Call.Translate k va) .reply) old

@@ -8,10 +8,10 @@ use Rattle.a72abi.specs.Replies.{codeBy, wordsBy}
 use Rattle.a72abi.specs.declared.op.Calls.{Calls}
 use Rattle.a72abi.specs.declared.op.Calls.the-variants.{Known, Unknown}
 
--- 0 where the words name a call, which is then carried out; 7 where they name none, and nothing changes
+-- 0 where the words name a call, which is then carried out; 64 where they name none, and nothing changes
 unfoldable pub callCode : Calls → ℕ
 callCode (Known call) = 0
-callCode Unknown = 7
+callCode Unknown = 64
 
 unfoldable pub callWords : Calls → Core → ℕ → List ℕ → List ℕ → List ℕ
 callWords (Known call) c base ram old = wordsBy (stepOf c base ram call .reply)
@@ -28,4 +28,4 @@ callRam Unknown c base ram = ram
 -- a call that is handed no RAM, as a number
 unfoldable pub callNumber : Calls → Core → ℕ
 callNumber (Known call) c = codeBy (stepOf c 0 [] call .reply)
-callNumber Unknown c = 7
+callNumber Unknown c = 64

@@ -99,7 +99,7 @@ pub extern "C" fn a72_mark(state: &mut [u64; 5205], mark: u64) -> u64
             let r = book::mark(state, true);
             reply::number(r)
         }
-        _ => 7,
+        _ => 64,
     }
 }
 
@@ -114,7 +114,7 @@ pub extern "C" fn a72_abort(state: &mut [u64; 5205], e: &[u64; 4]) -> u64
             let r = book::abort(state, x);
             reply::number(r)
         }
-        Exceptions::Unknown => 7,
+        Exceptions::Unknown => 64,
     }
 }
 
@@ -140,7 +140,7 @@ fn step(state: &mut [u64; 5205], base: u64, ram: &mut [u8], call: Call) -> Reply
     }
 }
 
-// The call that eight words name: 0, and its answer in four words; 7 where they name none.
+// The call that eight words name: 0, and its answer in four words; 64 where they name none.
 #[no_mangle]
 pub extern "C" fn a72_step(
     op: &[u64; 8],
@@ -161,6 +161,6 @@ pub extern "C" fn a72_step(
             *ans = words;
             0
         }
-        Calls::Unknown => 7,
+        Calls::Unknown => 64,
     }
 }

@@ -1,5 +1,5 @@
-// Memory operations on lent words, in place: what a hint answers at a glance, and all else by the book. Each gives a number: 0 and in ans
-// the address or value; 1 to 6 for the check that it misses; 7 where a code names nothing; 256 plus the status of a fault.
+// Memory operations on lent words, in place: what a hint answers at a glance, and all else by the book. Each gives a number, and in ans the
+// address or value, or the address of a data abort.
 ghost use mathlib.Core.Path.{_≡_};
 ghost use mathlib.Core.List.{[]};
 ghost use Rattle.cpu.specs.Step.{stepOf, ramAfter};
@@ -86,7 +86,7 @@ fn translate_book(
             let r = book::translation(state, base, ram, k, va);
             reply::answer(r, ans)
         }
-        Kinds::Unknown => 7,
+        Kinds::Unknown => 64,
     }
 }
 
@@ -122,7 +122,7 @@ pub extern "C" fn a72_translate(
                 Physical::Unknown => translate::find(state, va, Kind::Read, ans, base, ram),
             }
         } else {
-            7
+            64
         }
     } else {
         match kind {
@@ -134,7 +134,7 @@ pub extern "C" fn a72_translate(
                 Physical::Unknown => translate::find(state, va, Kind::Write, ans, base, ram),
             },
             4 => translate::find(state, va, Kind::Fetch, ans, base, ram),
-            _ => 7,
+            _ => 64,
         }
     }
 }

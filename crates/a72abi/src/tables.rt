@@ -1,4 +1,4 @@
-// The static library's boundary: numbers, and words that the caller lends. Bad codes get a number, and nothing is written.
+// One walk of the tables, of registers and RAM that the caller lends. A number other than 0 writes no word of the leaf.
 ghost use mathlib.Core.Path.{_≡_};
 ghost use Prim.Native.Nat.{_+_};
 ghost use lib.ListN.{length};
