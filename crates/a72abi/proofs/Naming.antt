@@ -101,9 +101,11 @@ module _ (n : ℕ) where
       go false false false false = refl
 
   pub translate-known : (va : ℕ) (p : Kinds) (k : Kind) → p ≡ kindOf n → p ≡ Kinds.Known k → Calls.Known (Call.Translate k va) ≡ translateCall (kindOf n) va
+  unfolding translateCall
   translate-known va p k e q = ap (λ (x : Kinds). translateCall x va) (sym q ∙ e)
 
   pub translate-unknown : (va : ℕ) (p : Kinds) → p ≡ kindOf n → p ≡ Kinds.Unknown → Calls.Unknown ≡ translateCall (kindOf n) va
+  unfolding translateCall
   translate-unknown va p e q = ap (λ (x : Kinds). translateCall x va) (sym q ∙ e)
 
   pub abort-known : (a b c : ℕ) (p : Exceptions) (x : Exception) → p ≡ exceptionOf n a b c → p ≡ Exceptions.Known x → Calls.Known (Call.Abort x) ≡ abortCall (exceptionOf n a b c)

@@ -60,7 +60,7 @@ exceptionAt e = exceptionOf (getD e 0 0) (getD e 1 0) (getD e 2 0) (getD e 3 0)
 abbrev pub keyOf : ℕ → ℕ
 keyOf n = pick (ltb n (2 ^ 32)) n 0
 
-abbrev pub translateCall : Kinds → ℕ → Calls
+unfoldable pub translateCall : Kinds → ℕ → Calls
 translateCall (Kinds.Known k) va = Calls.Known (Call.Translate k va)
 translateCall Kinds.Unknown va = Calls.Unknown
 

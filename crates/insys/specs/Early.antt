@@ -44,17 +44,18 @@ pub never : {A : Type 0} → false ≡ true → A
 never e = absurd (let z : _≡_ {A = ℕ} 0 1 = ap (λ (b : Bool). pick b 1 0) e in omega arith)
 
 -- a store stops by an abort, and so does a zeroing
-pub store-late : (c : Core) (base : ℕ) (ram : List ℕ) (va n : ℕ) → earlyStop (writeOf c base ram va n .answer) ≡ false
-unfolding writeOf storeEnd
-store-late c base ram va n = placed (locatedNow c (wordAt base ram 8) va n Write .placed)
+pub end-late : (x : Placed) (abort base : ℕ) (ram : List ℕ) (va n : ℕ) → earlyStop (storeEnd x abort base ram va n .answer) ≡ false
+unfolding storeEnd
+end-late (Fault addr fsc) abort base ram va n = refl
+end-late (At place) abort base ram va n = inside (judged base (length ram) place n)
   where
-    inside : (d : Verdict) → earlyStop (storeEndBy d (c .«abort_pa») va .answer) ≡ false
+    inside : (d : Verdict) → earlyStop (storeEndBy d abort va .answer) ≡ false
     inside Inside = refl
     inside (Outside i pa) = refl
 
-    placed : (x : Placed) → earlyStop (storeEnd x (c .«abort_pa») base ram va n .answer) ≡ false
-    placed (Fault addr fsc) = refl
-    placed (At place) = inside (judged base (length ram) place n)
+pub store-late : (c : Core) (base : ℕ) (ram : List ℕ) (va n : ℕ) → earlyStop (writeOf c base ram va n .answer) ≡ false
+unfolding writeOf
+store-late c base ram va n = end-late (locatedNow c (wordAt base ram 8) va n Write .placed) (c .«abort_pa») base ram va n
 
 pub zero-late : (n : ℕ) (c : Core) (base : ℕ) (ram : List ℕ) (va : ℕ) → earlyStop (zeroOf n c base ram va .answer) ≡ false
 unfolding zeroOf
