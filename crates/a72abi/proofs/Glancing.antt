@@ -1,24 +1,18 @@
 -- What a hint answers at a glance is what the book says, on plain values, for `search`.
 use mathlib.Core.Path.{_≡_, refl, sym, ap, subst, _∙_}
-use mathlib.Core.Bool.{Bool, true, false, _||_, _&&_}
+use mathlib.Core.Bool.{Bool, true, false}
 use mathlib.Core.List.{List}
 use Prim.Native.Nat.{ℕ, _+_, _-_, _^_, _≤_, _<_}
 use native.Mathlib.Omega.{arith}
-use borrow.Author.Tests.{ltb-true, ltb-false, lt-ltb, le-ltb, eq-eqb, ne-eqb, eqb-true}
-use lib.Dec.{eqb, ltb}
+use borrow.Author.Tests.{ltb-false, lt-ltb, le-ltb, ne-eqb}
+use lib.Dec.{ltb}
 use lib.ListN.{length}
 use Rattle.word.specs.Bits.{pick}
-use Rattle.word.specs.Ram.{wordAt, bytesIn, within, stored, widthOf}
-use Rattle.word.specs.declared.ram.Width.{Width}
-use Rattle.word.specs.declared.ram.Width.the-variants.{Byte, Half, Word as Single, Double}
-use Rattle.word.specs.declared.ram.Sized.{Sized}
-use Rattle.word.specs.declared.ram.Sized.the-variants.{Bytes, Refused as NoWidth}
-use Rattle.word.specs.declared.ram.Word.{Word}
-use Rattle.word.specs.declared.ram.Word.the-variants.{Value as Bits, Outside}
+use Rattle.word.specs.Ram.{wordAt}
 use Rattle.sysreg.specs.Encoding.{registerAt}
 use Rattle.tlb.specs.Hint.{fetchFound}
 use Rattle.tlb.specs.declared.access.Kind.{Kind}
-use Rattle.tlb.specs.declared.access.Kind.the-variants.{Read, Write, Fetch}
+use Rattle.tlb.specs.declared.access.Kind.the-variants.{Read, Fetch}
 use Rattle.tlb.specs.declared.access.Answer.{Answer}
 use Rattle.tlb.specs.declared.access.Answer.the-variants.{Address, Status}
 use Rattle.tlb.specs.declared.access.Who.{Who}
@@ -28,7 +22,7 @@ use Rattle.tlb.specs.declared.hint.Physical.the-variants.{At, Unknown}
 use Rattle.mmu.specs.Core.{movedTo}
 use Rattle.mmu.specs.Ends.{fetchEnd, reachedBy}
 use Rattle.mmu.specs.Bytes.{insnOf}
-use Rattle.mmu.specs.Ops.{translateOf, steppedNow, dataPaOf, fetchPaOf, fetchSteppedNow, fetchOf, withTlb}
+use Rattle.mmu.specs.Ops.{translateOf, dataPaOf, fetchPaOf, fetchOf}
 use Rattle.mmu.specs.declared.core.Core.{Core}
 use Rattle.mmu.specs.declared.bytes.Insn.{Insn}
 use Rattle.mmu.specs.declared.bytes.Insn.the-variants as Insn
@@ -38,7 +32,7 @@ use Rattle.cpu.specs.Step.{afterTranslation, afterAddress, afterFetch, translat
 use Rattle.cpu.specs.declared.call.Call.{Call}
 use Rattle.cpu.specs.declared.call.Call.the-variants as Call
 use Rattle.cpu.specs.declared.call.Reply.{Reply}
-use Rattle.cpu.specs.declared.call.Reply.the-variants.{Refused, Done, Value}
+use Rattle.cpu.specs.declared.call.Reply.the-variants.{Value}
 use Rattle.cpu.specs.declared.call.Stepped.{Stepped}
 use Rattle.words.specs.Held.{held}
 use Rattle.words.specs.Moved.{Moved, stays, moved-as}

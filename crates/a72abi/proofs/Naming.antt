@@ -3,8 +3,8 @@ use mathlib.Core.Path.{_≡_, refl, sym, ap, _∙_}
 use mathlib.Core.Bool.{Bool, true, false}
 use mathlib.Core.List.{List}
 use Prim.Native.Nat.{ℕ, _^_, _<_, _≤_}
-use borrow.Author.Tests.{eq-eqb, ne-eqb, lt-ltb, le-ltb}
-use lib.Dec.{eqb, ltb}
+use borrow.Author.Tests.{ne-eqb, lt-ltb, le-ltb}
+use lib.Dec.{eqb}
 use lib.ListN.{getD}
 use Rattle.word.specs.Bits.{pick}
 use Rattle.tlb.specs.declared.access.Kind.{Kind}

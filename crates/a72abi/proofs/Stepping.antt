@@ -4,8 +4,6 @@ use mathlib.Core.Bool.{Bool, true, false}
 use mathlib.Core.List.{List, []}
 use Prim.Native.Nat.{ℕ, zero, suc}
 use borrow.Author.Tests.{ne-eqb}
-use lib.ListN.{length, getD}
-use Rattle.word.specs.Bits.{pick}
 use Rattle.tlb.specs.declared.access.Kind.{Kind}
 use Rattle.entry.specs.declared.exception.Exception.{Exception}
 use Rattle.mmu.specs.declared.core.Core.{Core}
@@ -17,10 +15,8 @@ use Rattle.cpu.specs.declared.call.Encoding.{Encoding}
 use Rattle.cpu.specs.declared.call.Reply.{Reply}
 use Rattle.cpu.specs.declared.call.Stepped.{Stepped}
 use Rattle.words.specs.Held.{held}
-use Rattle.words.specs.Moved.{Moved, stays, moved-as}
-use Rattle.a72abi.specs.Replies.{codeBy, wordsBy}
-use Rattle.a72abi.specs.Ops.{keyOf, exceptionAt, abortCall, markCall, callOf}
-use Rattle.a72abi.specs.Steps.{callCode, callWords, callCore, callRam, callNumber}
+use Rattle.words.specs.Moved.{Moved, moved-as}
+use Rattle.a72abi.specs.Ops.{exceptionAt, abortCall, markCall}
 use Rattle.a72abi.specs.declared.op.Calls.{Calls}
 use Rattle.a72abi.specs.declared.op.Calls.the-variants as Calls
 use Rattle.a72abi.specs.declared.op.Exceptions.{Exceptions}

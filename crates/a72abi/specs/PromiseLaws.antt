@@ -2,9 +2,9 @@
 use mathlib.Core.Path.{_≡_, refl, sym, ap, _∙_}
 use mathlib.Core.Bool.{Bool, true, false}
 use mathlib.Core.List.{List, []}
-use Prim.Native.Nat.{ℕ, zero, suc, _<_, _+_}
+use Prim.Native.Nat.{ℕ, zero, suc, _<_}
 use native.Mathlib.Omega.{arith}
-use lib.ListN.{length, getD}
+use lib.ListN.{getD}
 use Rattle.sysreg.specs.declared.write.WriteAnswer.{WriteAnswer}
 use Rattle.sysreg.specs.declared.write.WriteAnswer.the-variants as Written
 use Rattle.entry.specs.declared.exception.Exception.{Exception}
@@ -14,7 +14,6 @@ use Rattle.word.specs.Bits.{alignDown}
 use Rattle.word.specs.Ram.{bytesIn, widthOf}
 use Rattle.word.specs.declared.ram.Sized.{Sized}
 use Rattle.word.specs.declared.ram.Sized.the-variants.{Bytes, Refused as NoWidth}
-use Rattle.tlb.specs.declared.access.Kind.{Kind}
 use Rattle.sysop.specs.declared.op.SysOp.{SysOp}
 use Rattle.sysop.specs.declared.op.SysOp.the-variants as SysOp
 use Rattle.mmu.specs.Core.{regOf}
@@ -31,16 +30,12 @@ use Rattle.cpu.specs.declared.call.Call.the-variants as Call
 use Rattle.cpu.specs.declared.call.Reply.{Reply}
 use Rattle.cpu.specs.declared.call.Reply.the-variants.{Refused, Done, Value, Faults, Fault, Stopped}
 use Rattle.cpu.specs.declared.call.Stepped.{Stepped}
-use Rattle.history.specs.Calls.{Lent}
-use Rattle.history.specs.Instance.{real}
-use Rattle.demand3.specs.Machine.{machine}
-use Rattle.demand3.specs.Beside.{coreAfter}
-use Rattle.demand3.specs.Faithful.{ramOf, FaithfulCall, faithful-step}
+use Rattle.demand3.specs.Faithful.{FaithfulCall, faithful-step}
 use Rattle.words.specs.Held.{held}
-use Rattle.words.specs.Moved.{Moved, stays, moved-as}
+use Rattle.words.specs.Moved.{stays, moved-as}
 use Rattle.a72abi.specs.Replies.{codeBy, valueBy, wordsBy}
 use Rattle.a72abi.specs.Ops.{keyOf, translateCall}
-use Rattle.a72abi.specs.Steps.{callNumber, callValue, callRam, callCore, callCode, callWords}
+use Rattle.a72abi.specs.Steps.{callRam}
 use Rattle.insys.specs.Early.{never, earlyStop, store-late, zero-late}
 use Rattle.a72abi.specs.Kept.{unmoved, number-unmoved, unmoved-value, storing-late, kept-same, kept-told}
 use Rattle.a72abi.specs.Promise.{Promise, Setting, StepPromise, Runs, Gives}
