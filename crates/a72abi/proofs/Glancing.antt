@@ -1,24 +1,18 @@
 -- What a hint answers at a glance is what the book says, on plain values, for `search`.
 use mathlib.Core.Path.{_≡_, refl, sym, ap, subst, _∙_}
-use mathlib.Core.Bool.{Bool, true, false, _||_, _&&_}
+use mathlib.Core.Bool.{Bool, true, false}
 use mathlib.Core.List.{List}
 use Prim.Native.Nat.{ℕ, _+_, _-_, _^_, _≤_, _<_}
 use native.Mathlib.Omega.{arith}
-use borrow.Author.Tests.{ltb-true, ltb-false, lt-ltb, le-ltb, eq-eqb, ne-eqb, eqb-true}
-use lib.Dec.{eqb, ltb}
+use borrow.Author.Tests.{ltb-false, lt-ltb, le-ltb, ne-eqb}
+use lib.Dec.{ltb}
 use lib.ListN.{length}
 use Rattle.word.specs.Bits.{pick}
-use Rattle.word.specs.Ram.{wordAt, bytesIn, within, stored, widthOf}
-use Rattle.word.specs.declared.ram.Width.{Width}
-use Rattle.word.specs.declared.ram.Width.the-variants.{Byte, Half, Word as Single, Double}
-use Rattle.word.specs.declared.ram.Sized.{Sized}
-use Rattle.word.specs.declared.ram.Sized.the-variants.{Bytes, Refused as NoWidth}
-use Rattle.word.specs.declared.ram.Word.{Word}
-use Rattle.word.specs.declared.ram.Word.the-variants.{Value as Bits, Outside}
+use Rattle.word.specs.Ram.{wordAt}
 use Rattle.sysreg.specs.Encoding.{registerAt}
 use Rattle.tlb.specs.Hint.{fetchFound}
 use Rattle.tlb.specs.declared.access.Kind.{Kind}
-use Rattle.tlb.specs.declared.access.Kind.the-variants.{Read, Write, Fetch}
+use Rattle.tlb.specs.declared.access.Kind.the-variants.{Read, Fetch}
 use Rattle.tlb.specs.declared.access.Answer.{Answer}
 use Rattle.tlb.specs.declared.access.Answer.the-variants.{Address, Status}
 use Rattle.tlb.specs.declared.access.Who.{Who}
@@ -28,7 +22,7 @@ use Rattle.tlb.specs.declared.hint.Physical.the-variants.{At, Unknown}
 use Rattle.mmu.specs.Core.{movedTo}
 use Rattle.mmu.specs.Ends.{fetchEnd, reachedBy}
 use Rattle.mmu.specs.Bytes.{insnOf}
-use Rattle.mmu.specs.Ops.{translateOf, steppedNow, dataPaOf, fetchPaOf, fetchSteppedNow, fetchOf, withTlb}
+use Rattle.mmu.specs.Ops.{translateOf, dataPaOf, fetchPaOf, fetchOf}
 use Rattle.mmu.specs.declared.core.Core.{Core}
 use Rattle.mmu.specs.declared.bytes.Insn.{Insn}
 use Rattle.mmu.specs.declared.bytes.Insn.the-variants as Insn
@@ -38,7 +32,7 @@ use Rattle.cpu.specs.Step.{afterTranslation, afterAddress, afterFetch, translat
 use Rattle.cpu.specs.declared.call.Call.{Call}
 use Rattle.cpu.specs.declared.call.Call.the-variants as Call
 use Rattle.cpu.specs.declared.call.Reply.{Reply}
-use Rattle.cpu.specs.declared.call.Reply.the-variants.{Refused, Done, Value}
+use Rattle.cpu.specs.declared.call.Reply.the-variants.{Value}
 use Rattle.cpu.specs.declared.call.Stepped.{Stepped}
 use Rattle.words.specs.Held.{held}
 use Rattle.words.specs.Moved.{Moved, stays, moved-as}
@@ -46,8 +40,9 @@ use Rattle.inplace.specs.Found.{codeOf, valueOf, answering, hintFound, foundTo}
 use Rattle.inplace.specs.FoundLaws.{hint-serves, hint-misses}
 use Rattle.inplace.specs.FetchLaws.{fetchTo, fetch-serves}
 use Rattle.a72abi.specs.Replies.{codeBy, valueBy}
-use Rattle.a72abi.specs.Ops.{kindOf}
-use Rattle.a72abi.specs.Quick.{Clear, atGlance, quickOf, quickFetchOf, kindCode, kindValue, kindCore}
+use Rattle.a72abi.specs.Ops.{kindOf, translateCall}
+use Rattle.a72abi.specs.Quick.{Clear, atGlance, quickOf, quickFetchOf}
+use Rattle.a72abi.specs.Steps.{callNumber, callValue, callCore}
 use Rattle.a72abi.specs.declared.op.Kinds.{Kinds}
 use Rattle.a72abi.specs.declared.op.Kinds.the-variants.{Known, Unknown as NoKind}
 
@@ -227,16 +222,16 @@ pub high-kind : (n : ℕ) → 2 ≤ n → (n ≡ 2 → ⊥) → (n ≡ 4 → ⊥
 high-kind n h a b = sym (rw (ne-eqb n 1 (λ e. omega arith), ne-eqb n 2 a, ne-eqb n 4 b))
 
 module _ (c : Core) (base : ℕ) (ram : List ℕ) (va : ℕ) (p : Kinds) where
-  pub no-kind-code : NoKind ≡ p → 7 ≡ kindCode p c base ram va
-  unfolding kindCode
+  pub no-kind-code : NoKind ≡ p → 64 ≡ callNumber (translateCall p va) c base ram
+  unfolding translateCall
   no-kind-code e = rw (← e)
 
-  pub no-kind-value : (old : ℕ) → NoKind ≡ p → old ≡ kindValue p c base ram va old
-  unfolding kindValue
+  pub no-kind-value : (old : ℕ) → NoKind ≡ p → old ≡ callValue (translateCall p va) c base ram old
+  unfolding translateCall
   no-kind-value old e = rw (← e)
 
-pub no-kind-core : (ws : List ℕ) (base : ℕ) (ram : List ℕ) (va : ℕ) (p : Kinds) → NoKind ≡ p → Moved ws ws (kindCore p (held ws) base ram va)
-unfolding kindCore
+pub no-kind-core : (ws : List ℕ) (base : ℕ) (ram : List ℕ) (va : ℕ) (p : Kinds) → NoKind ≡ p → Moved ws ws (callCore (translateCall p va) (held ws) base ram)
+unfolding translateCall
 no-kind-core ws base ram va p e = rw (← e) stays
 
 -- by the book
@@ -244,25 +239,25 @@ module _ (ws : List ℕ) (base : ℕ) (ram : List ℕ) (va : ℕ) (p o : Kinds) 
   known-is : p ≡ Known k
   known-is = sym eo ∙ e
 
-  pub book-code : (r : Reply) (n : ℕ) → r ≡ stepOf (held ws) base ram (Call.Translate k va) .reply → n ≡ codeBy r → n ≡ kindCode p (held ws) base ram va
-  unfolding kindCode
+  pub book-code : (r : Reply) (n : ℕ) → r ≡ stepOf (held ws) base ram (Call.Translate k va) .reply → n ≡ codeBy r → n ≡ callNumber (translateCall p va) (held ws) base ram
+  unfolding translateCall
   book-code r n er en = rw known-is (en ∙ ap codeBy er)
 
-  pub book-value : (r : Reply) (v old : ℕ) → r ≡ stepOf (held ws) base ram (Call.Translate k va) .reply → v ≡ valueBy r old → v ≡ kindValue p (held ws) base ram va old
-  unfolding kindValue
+  pub book-value : (r : Reply) (v old : ℕ) → r ≡ stepOf (held ws) base ram (Call.Translate k va) .reply → v ≡ valueBy r old → v ≡ callValue (translateCall p va) (held ws) base ram old
+  unfolding translateCall
   book-value r v old er ev = rw known-is (ev ∙ ap (λ (x : Reply). valueBy x old) er)
 
-  pub book-core : (xs : List ℕ) → Moved ws xs (stepOf (held ws) base ram (Call.Translate k va) .core) → Moved ws xs (kindCore p (held ws) base ram va)
-  unfolding kindCore
+  pub book-core : (xs : List ℕ) → Moved ws xs (stepOf (held ws) base ram (Call.Translate k va) .core) → Moved ws xs (callCore (translateCall p va) (held ws) base ram)
+  unfolding translateCall
   book-core xs m = rw known-is m
 
-pub book-none-code : (c : Core) (base : ℕ) (ram : List ℕ) (va : ℕ) (p o : Kinds) → o ≡ p → o ≡ NoKind → 7 ≡ kindCode p c base ram va
+pub book-none-code : (c : Core) (base : ℕ) (ram : List ℕ) (va : ℕ) (p o : Kinds) → o ≡ p → o ≡ NoKind → 64 ≡ callNumber (translateCall p va) c base ram
 book-none-code c base ram va p o eo e = no-kind-code c base ram va p (sym e ∙ eo)
 
-pub book-none-value : (c : Core) (base : ℕ) (ram : List ℕ) (va : ℕ) (p o : Kinds) (old : ℕ) → o ≡ p → o ≡ NoKind → old ≡ kindValue p c base ram va old
+pub book-none-value : (c : Core) (base : ℕ) (ram : List ℕ) (va : ℕ) (p o : Kinds) (old : ℕ) → o ≡ p → o ≡ NoKind → old ≡ callValue (translateCall p va) c base ram old
 book-none-value c base ram va p o old eo e = no-kind-value c base ram va p old (sym e ∙ eo)
 
-pub book-none-core : (ws : List ℕ) (base : ℕ) (ram : List ℕ) (va : ℕ) (p o : Kinds) → o ≡ p → o ≡ NoKind → Moved ws ws (kindCore p (held ws) base ram va)
+pub book-none-core : (ws : List ℕ) (base : ℕ) (ram : List ℕ) (va : ℕ) (p o : Kinds) → o ≡ p → o ≡ NoKind → Moved ws ws (callCore (translateCall p va) (held ws) base ram)
 book-none-core ws base ram va p o eo e = no-kind-core ws base ram va p (sym e ∙ eo)
 
 -- at a glance
@@ -289,16 +284,16 @@ module _ (ws : List ℕ) (base : ℕ) (ram : List ℕ) (va : ℕ) (kind : ℕ) (
   step-is : stepOf (held ws) base ram (Call.Translate k va) ≡ afterTranslation va found
   step-is = translates (held ws) base ram va h k is-clear
 
-  code-is : kindCode (kindOf kind) (held ws) base ram va ≡ codeOf (found .answer)
-  unfolding kindCode
+  code-is : callNumber (translateCall (kindOf kind) va) (held ws) base ram ≡ codeOf (found .answer)
+  unfolding translateCall
   code-is = rw (← kn) (ap (λ (s : Stepped). codeBy (s .reply)) step-is ∙ translation-code va (found .answer))
 
-  value-is : (old : ℕ) → kindValue (kindOf kind) (held ws) base ram va old ≡ valueOf (found .answer) old
-  unfolding kindValue
+  value-is : (old : ℕ) → callValue (translateCall (kindOf kind) va) (held ws) base ram old ≡ valueOf (found .answer) old
+  unfolding translateCall
   value-is old = rw (← kn) (ap (λ (s : Stepped). valueBy (s .reply) old) step-is ∙ translation-value va old (found .answer))
 
-  core-is : kindCore (kindOf kind) (held ws) base ram va ≡ found .core
-  unfolding kindCore
+  core-is : callCore (translateCall (kindOf kind) va) (held ws) base ram ≡ found .core
+  unfolding translateCall
   core-is = rw (← kn) (ap (λ (s : Stepped). s .core) step-is)
 
   module _ (p : Physical) (ep : p ≡ hintFound (held ws) va k) where
@@ -306,26 +301,26 @@ module _ (ws : List ℕ) (base : ℕ) (ram : List ℕ) (va : ℕ) (kind : ℕ) (
       hint-is : found ≡ answering (held ws) (Address pa)
       hint-is = hint-serves (held ws) (wordAt base ram 8) va k pa (sym ep ∙ q)
 
-      pub hint-code : 0 ≡ kindCode (kindOf kind) (held ws) base ram va
+      pub hint-code : 0 ≡ callNumber (translateCall (kindOf kind) va) (held ws) base ram
       hint-code = sym (code-is ∙ ap (λ (t : Translated). codeOf (t .answer)) hint-is)
 
-      pub hint-value : (old : ℕ) → pa ≡ kindValue (kindOf kind) (held ws) base ram va old
+      pub hint-value : (old : ℕ) → pa ≡ callValue (translateCall (kindOf kind) va) (held ws) base ram old
       hint-value old = sym (value-is old ∙ ap (λ (t : Translated). valueOf (t .answer) old) hint-is)
 
-      pub hint-core : Moved ws ws (kindCore (kindOf kind) (held ws) base ram va)
+      pub hint-core : Moved ws ws (callCore (translateCall (kindOf kind) va) (held ws) base ram)
       hint-core = moved-as stays (sym (core-is ∙ ap (λ (t : Translated). t .core) hint-is))
 
     module _ (q : p ≡ Unknown) where
       find-is : found ≡ foundTo (held ws) (wordAt base ram 8) va k
       find-is = hint-misses (held ws) (wordAt base ram 8) va k (sym ep ∙ q)
 
-      pub find-code : (n : ℕ) → n ≡ codeOf (foundTo (held ws) (wordAt base ram 8) va k .answer) → n ≡ kindCode (kindOf kind) (held ws) base ram va
+      pub find-code : (n : ℕ) → n ≡ codeOf (foundTo (held ws) (wordAt base ram 8) va k .answer) → n ≡ callNumber (translateCall (kindOf kind) va) (held ws) base ram
       find-code n e = e ∙ sym (code-is ∙ ap (λ (t : Translated). codeOf (t .answer)) find-is)
 
-      pub find-value : (v old : ℕ) → v ≡ valueOf (foundTo (held ws) (wordAt base ram 8) va k .answer) old → v ≡ kindValue (kindOf kind) (held ws) base ram va old
+      pub find-value : (v old : ℕ) → v ≡ valueOf (foundTo (held ws) (wordAt base ram 8) va k .answer) old → v ≡ callValue (translateCall (kindOf kind) va) (held ws) base ram old
       find-value v old e = e ∙ sym (value-is old ∙ ap (λ (t : Translated). valueOf (t .answer) old) find-is)
 
-      pub find-core : (xs : List ℕ) → Moved ws xs (foundTo (held ws) (wordAt base ram 8) va k .core) → Moved ws xs (kindCore (kindOf kind) (held ws) base ram va)
+      pub find-core : (xs : List ℕ) → Moved ws xs (foundTo (held ws) (wordAt base ram 8) va k .core) → Moved ws xs (callCore (translateCall (kindOf kind) va) (held ws) base ram)
       find-core xs m = moved-as m (sym (core-is ∙ ap (λ (t : Translated). t .core) find-is))
 
 -- no hint serves a fetch
@@ -335,13 +330,13 @@ no-fetch-hint c va = refl
 
 module _ (ws : List ℕ) (base : ℕ) (ram : List ℕ) (va : ℕ) (kind : ℕ) (len : ℕ) (who : Who) (h : length ram < 2 ^ 64) (el : len ≡ length ram) (ew : who ≡ held ws .who)
     (lo : who .level ≤ 3) (sh : base ≤ 2 ^ 64 - 1 - len) (kn : Known Fetch ≡ kindOf kind) where
-  pub fetch-kind-code : (n : ℕ) → n ≡ codeOf (foundTo (held ws) (wordAt base ram 8) va Fetch .answer) → n ≡ kindCode (kindOf kind) (held ws) base ram va
+  pub fetch-kind-code : (n : ℕ) → n ≡ codeOf (foundTo (held ws) (wordAt base ram 8) va Fetch .answer) → n ≡ callNumber (translateCall (kindOf kind) va) (held ws) base ram
   fetch-kind-code n e = find-code ws base ram va kind Fetch len who h el ew lo sh kn Unknown (no-fetch-hint (held ws) va) refl n e
 
-  pub fetch-kind-value : (v old : ℕ) → v ≡ valueOf (foundTo (held ws) (wordAt base ram 8) va Fetch .answer) old → v ≡ kindValue (kindOf kind) (held ws) base ram va old
+  pub fetch-kind-value : (v old : ℕ) → v ≡ valueOf (foundTo (held ws) (wordAt base ram 8) va Fetch .answer) old → v ≡ callValue (translateCall (kindOf kind) va) (held ws) base ram old
   fetch-kind-value v old e = find-value ws base ram va kind Fetch len who h el ew lo sh kn Unknown (no-fetch-hint (held ws) va) refl v old e
 
-  pub fetch-kind-core : (xs : List ℕ) → Moved ws xs (foundTo (held ws) (wordAt base ram 8) va Fetch .core) → Moved ws xs (kindCore (kindOf kind) (held ws) base ram va)
+  pub fetch-kind-core : (xs : List ℕ) → Moved ws xs (foundTo (held ws) (wordAt base ram 8) va Fetch .core) → Moved ws xs (callCore (translateCall (kindOf kind) va) (held ws) base ram)
   fetch-kind-core xs m = find-core ws base ram va kind Fetch len who h el ew lo sh kn Unknown (no-fetch-hint (held ws) va) refl xs m
 
 -- a reply told

@@ -1,10 +1,10 @@
 -- What the words of a call name, case by case, for `search`.
 use mathlib.Core.Path.{_≡_, refl, sym, ap, _∙_}
-use mathlib.Core.Bool.{true, false}
+use mathlib.Core.Bool.{Bool, true, false}
 use mathlib.Core.List.{List}
-use Prim.Native.Nat.{ℕ, _%_, _^_, _<_, _≤_}
-use borrow.Author.Tests.{eq-eqb, ne-eqb, lt-ltb, le-ltb}
-use lib.Dec.{eqb, ltb}
+use Prim.Native.Nat.{ℕ, _^_, _<_, _≤_}
+use borrow.Author.Tests.{ne-eqb, lt-ltb, le-ltb}
+use lib.Dec.{eqb}
 use lib.ListN.{getD}
 use Rattle.word.specs.Bits.{pick}
 use Rattle.tlb.specs.declared.access.Kind.{Kind}
@@ -12,7 +12,7 @@ use Rattle.tlb.specs.declared.access.Kind.the-variants.{Read, Write, Fetch}
 use Rattle.entry.specs.declared.exception.Exception.{Exception}
 use Rattle.entry.specs.declared.exception.Exception.the-variants.{Undefined, Svc, Hvc, Smc, Brk, DataAbort, InsnAbort, PcAlignment}
 use Rattle.cpu.specs.declared.call.Call.the-variants as Call
-use Rattle.a72abi.specs.Ops.{kindOf, exceptionOf, keyOf, translateCall, abortCall, markCall, encodingOf, callOf}
+use Rattle.a72abi.specs.Ops.{kindOf, dataAbortOf, insnAbortOf, callExceptionOf, exceptionOf, keyOf, translateCall, abortCall, markCall, encodingOf, callOf}
 use Rattle.a72abi.specs.declared.op.Kinds.{Kinds}
 use Rattle.a72abi.specs.declared.op.Kinds.the-variants as Kinds
 use Rattle.a72abi.specs.declared.op.Exceptions.{Exceptions}
@@ -52,42 +52,60 @@ module _ (n : ℕ) where
   unfolding exceptionOf
   exception-0 a b c e = sym (rw e)
 
-  pub exception-1 : (a b c : ℕ) → n ≡ 1 → Exceptions.Known (Svc (a % 2 ^ 16)) ≡ exceptionOf n a b c
+  pub exception-5 : (a b c : ℕ) (p : Exceptions) → p ≡ dataAbortOf a b c → n ≡ 5 → p ≡ exceptionOf n a b c
   unfolding exceptionOf
-  exception-1 a b c e = sym (rw e)
+  exception-5 a b c p q e = q ∙ sym (rw e)
 
-  pub exception-2 : (a b c : ℕ) → n ≡ 2 → Exceptions.Known (Hvc (a % 2 ^ 16)) ≡ exceptionOf n a b c
+  pub exception-6 : (a b c : ℕ) (p : Exceptions) → p ≡ insnAbortOf a b → n ≡ 6 → p ≡ exceptionOf n a b c
   unfolding exceptionOf
-  exception-2 a b c e = sym (rw e)
-
-  pub exception-3 : (a b c : ℕ) → n ≡ 3 → Exceptions.Known (Smc (a % 2 ^ 16)) ≡ exceptionOf n a b c
-  unfolding exceptionOf
-  exception-3 a b c e = sym (rw e)
-
-  pub exception-4 : (a b c : ℕ) → n ≡ 4 → Exceptions.Known (Brk (a % 2 ^ 16)) ≡ exceptionOf n a b c
-  unfolding exceptionOf
-  exception-4 a b c e = sym (rw e)
-
-  pub exception-5 : (a b c : ℕ) → n ≡ 5 → Exceptions.Known (DataAbort a (eqb b 1) (c % 2 ^ 8)) ≡ exceptionOf n a b c
-  unfolding exceptionOf
-  exception-5 a b c e = sym (rw e)
-
-  pub exception-6 : (a b c : ℕ) → n ≡ 6 → Exceptions.Known (InsnAbort a (b % 2 ^ 8)) ≡ exceptionOf n a b c
-  unfolding exceptionOf
-  exception-6 a b c e = sym (rw e)
+  exception-6 a b c p q e = q ∙ sym (rw e)
 
   pub exception-7 : (a b c : ℕ) → n ≡ 7 → Exceptions.Known PcAlignment ≡ exceptionOf n a b c
   unfolding exceptionOf
   exception-7 a b c e = sym (rw e)
 
-  pub exception-none : (a b c : ℕ) → (n ≡ 0 → ⊥) → (n ≡ 1 → ⊥) → (n ≡ 2 → ⊥) → (n ≡ 3 → ⊥) → (n ≡ 4 → ⊥) → (n ≡ 5 → ⊥) → (n ≡ 6 → ⊥) → (n ≡ 7 → ⊥) → Exceptions.Unknown ≡ exceptionOf n a b c
+  pub exception-call : (a b c : ℕ) (p : Exceptions) → p ≡ callExceptionOf n a → (n ≡ 0 → ⊥) → (n ≡ 5 → ⊥) → (n ≡ 6 → ⊥) → (n ≡ 7 → ⊥) → p ≡ exceptionOf n a b c
   unfolding exceptionOf
-  exception-none a b c h0 h1 h2 h3 h4 h5 h6 h7 = sym (rw (ne-eqb n 0 h0, ne-eqb n 1 h1, ne-eqb n 2 h2, ne-eqb n 3 h3, ne-eqb n 4 h4, ne-eqb n 5 h5, ne-eqb n 6 h6, ne-eqb n 7 h7))
+  exception-call a b c p q h0 h5 h6 h7 = q ∙ sym (rw (ne-eqb n 0 h0, ne-eqb n 5 h5, ne-eqb n 6 h6, ne-eqb n 7 h7))
+
+  module _ (a : ℕ) (h : a < 2 ^ 16) where
+    pub call-svc : n ≡ 1 → Exceptions.Known (Svc a) ≡ callExceptionOf n a
+    unfolding callExceptionOf
+    call-svc e = sym (rw (e, lt-ltb a (2 ^ 16) h))
+
+    pub call-hvc : n ≡ 2 → Exceptions.Known (Hvc a) ≡ callExceptionOf n a
+    unfolding callExceptionOf
+    call-hvc e = sym (rw (e, lt-ltb a (2 ^ 16) h))
+
+    pub call-smc : n ≡ 3 → Exceptions.Known (Smc a) ≡ callExceptionOf n a
+    unfolding callExceptionOf
+    call-smc e = sym (rw (e, lt-ltb a (2 ^ 16) h))
+
+    pub call-brk : n ≡ 4 → Exceptions.Known (Brk a) ≡ callExceptionOf n a
+    unfolding callExceptionOf
+    call-brk e = sym (rw (e, lt-ltb a (2 ^ 16) h))
+
+  pub call-other : (a : ℕ) → (n ≡ 1 → ⊥) → (n ≡ 2 → ⊥) → (n ≡ 3 → ⊥) → (n ≡ 4 → ⊥) → Exceptions.Unknown ≡ callExceptionOf n a
+  unfolding callExceptionOf
+  call-other a h1 h2 h3 h4 = sym (rw (ne-eqb n 1 h1, ne-eqb n 2 h2, ne-eqb n 3 h3, ne-eqb n 4 h4))
+
+  pub call-wide : (a : ℕ) → 2 ^ 16 ≤ a → Exceptions.Unknown ≡ callExceptionOf n a
+  unfolding callExceptionOf
+  call-wide a h = rw (le-ltb a (2 ^ 16) h) (go (eqb n 1) (eqb n 2) (eqb n 3) (eqb n 4))
+    where
+      go : (p q r s : Bool) → Exceptions.Unknown ≡ pick p Exceptions.Unknown (pick q Exceptions.Unknown (pick r Exceptions.Unknown (pick s Exceptions.Unknown Exceptions.Unknown)))
+      go true q r s = refl
+      go false true r s = refl
+      go false false true s = refl
+      go false false false true = refl
+      go false false false false = refl
 
   pub translate-known : (va : ℕ) (p : Kinds) (k : Kind) → p ≡ kindOf n → p ≡ Kinds.Known k → Calls.Known (Call.Translate k va) ≡ translateCall (kindOf n) va
+  unfolding translateCall
   translate-known va p k e q = ap (λ (x : Kinds). translateCall x va) (sym q ∙ e)
 
   pub translate-unknown : (va : ℕ) (p : Kinds) → p ≡ kindOf n → p ≡ Kinds.Unknown → Calls.Unknown ≡ translateCall (kindOf n) va
+  unfolding translateCall
   translate-unknown va p e q = ap (λ (x : Kinds). translateCall x va) (sym q ∙ e)
 
   pub abort-known : (a b c : ℕ) (p : Exceptions) (x : Exception) → p ≡ exceptionOf n a b c → p ≡ Exceptions.Known x → Calls.Known (Call.Abort x) ≡ abortCall (exceptionOf n a b c)
@@ -95,6 +113,34 @@ module _ (n : ℕ) where
 
   pub abort-unknown : (a b c : ℕ) (p : Exceptions) → p ≡ exceptionOf n a b c → p ≡ Exceptions.Unknown → Calls.Unknown ≡ abortCall (exceptionOf n a b c)
   abort-unknown a b c p e q = ap abortCall (sym q ∙ e)
+
+module _ (addr write fsc : ℕ) where
+  pub data-read : fsc < 2 ^ 8 → write ≡ 0 → Exceptions.Known (DataAbort addr false fsc) ≡ dataAbortOf addr write fsc
+  unfolding dataAbortOf
+  data-read h e = sym (rw (e, lt-ltb fsc (2 ^ 8) h))
+
+  pub data-write : fsc < 2 ^ 8 → write ≡ 1 → Exceptions.Known (DataAbort addr true fsc) ≡ dataAbortOf addr write fsc
+  unfolding dataAbortOf
+  data-write h e = sym (rw (e, lt-ltb fsc (2 ^ 8) h))
+
+  pub data-other : (write ≡ 0 → ⊥) → (write ≡ 1 → ⊥) → Exceptions.Unknown ≡ dataAbortOf addr write fsc
+  unfolding dataAbortOf
+  data-other h0 h1 = sym (rw (ne-eqb write 0 h0, ne-eqb write 1 h1))
+
+  pub data-wide : 2 ^ 8 ≤ fsc → Exceptions.Unknown ≡ dataAbortOf addr write fsc
+  unfolding dataAbortOf
+  data-wide h = rw (le-ltb fsc (2 ^ 8) h) (go (eqb write 0) (eqb write 1))
+    where
+      go : (p q : Bool) → Exceptions.Unknown ≡ pick p Exceptions.Unknown (pick q Exceptions.Unknown Exceptions.Unknown)
+      go true q = refl
+      go false true = refl
+      go false false = refl
+
+  pub insn-fits : fsc < 2 ^ 8 → Exceptions.Known (InsnAbort addr fsc) ≡ insnAbortOf addr fsc
+  insn-fits h = sym (rw (lt-ltb fsc (2 ^ 8) h))
+
+  pub insn-wide : 2 ^ 8 ≤ fsc → Exceptions.Unknown ≡ insnAbortOf addr fsc
+  insn-wide h = sym (rw (le-ltb fsc (2 ^ 8) h))
 
 module _ (op : List ℕ) where
   pub call-2 : getD op 0 0 ≡ 2 → Calls.Known (Call.DataPa (getD op 1 0)) ≡ callOf op
@@ -153,6 +199,10 @@ pub ruleset kinds = (kind-1, kind-2, kind-4, kind-none)
 
 pub ruleset marks = (mark-0, mark-1, mark-none)
 
-pub ruleset exceptions = (exception-0, exception-1, exception-2, exception-3, exception-4, exception-5, exception-6, exception-7, exception-none)
+pub ruleset exceptions = (exception-0, exception-5, exception-6, exception-7, exception-call)
+
+pub ruleset call-exceptions = (call-svc, call-hvc, call-smc, call-brk, call-other, call-wide)
+
+pub ruleset data-aborts = (data-read, data-write, data-other, data-wide)
 
 pub ruleset calls = (call-2, call-3, call-4, call-5, call-6, call-7, call-9, call-11, call-1, call-10, call-12, call-8, call-none)

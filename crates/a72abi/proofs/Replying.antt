@@ -31,7 +31,7 @@ module _ (e : Exception) where
   pub insn-words : (addr fsc : ℕ) → e ≡ InsnAbort addr fsc → four 10 addr fsc 0 ≡ exceptionWords e
   insn-words addr fsc q = sym (rw q)
 
-  pub undefined-code : e ≡ Undefined → 8 ≡ exceptionCode e
+  pub undefined-code : e ≡ Undefined → 65 ≡ exceptionCode e
   undefined-code q = sym (rw q)
 
   pub undefined-value : (old : ℕ) → e ≡ Undefined → old ≡ exceptionValue e old
@@ -40,7 +40,7 @@ module _ (e : Exception) where
   pub undefined-words : e ≡ Undefined → four 6 0 0 0 ≡ exceptionWords e
   undefined-words q = sym (rw q)
 
-  pub svc-code : (imm : ℕ) → e ≡ Svc imm → 8 ≡ exceptionCode e
+  pub svc-code : (imm : ℕ) → e ≡ Svc imm → 65 ≡ exceptionCode e
   svc-code imm q = sym (rw q)
 
   pub svc-value : (old : ℕ) → (imm : ℕ) → e ≡ Svc imm → old ≡ exceptionValue e old
@@ -49,7 +49,7 @@ module _ (e : Exception) where
   pub svc-words : (imm : ℕ) → e ≡ Svc imm → four 6 0 0 0 ≡ exceptionWords e
   svc-words imm q = sym (rw q)
 
-  pub hvc-code : (imm : ℕ) → e ≡ Hvc imm → 8 ≡ exceptionCode e
+  pub hvc-code : (imm : ℕ) → e ≡ Hvc imm → 65 ≡ exceptionCode e
   hvc-code imm q = sym (rw q)
 
   pub hvc-value : (old : ℕ) → (imm : ℕ) → e ≡ Hvc imm → old ≡ exceptionValue e old
@@ -58,7 +58,7 @@ module _ (e : Exception) where
   pub hvc-words : (imm : ℕ) → e ≡ Hvc imm → four 6 0 0 0 ≡ exceptionWords e
   hvc-words imm q = sym (rw q)
 
-  pub smc-code : (imm : ℕ) → e ≡ Smc imm → 8 ≡ exceptionCode e
+  pub smc-code : (imm : ℕ) → e ≡ Smc imm → 65 ≡ exceptionCode e
   smc-code imm q = sym (rw q)
 
   pub smc-value : (old : ℕ) → (imm : ℕ) → e ≡ Smc imm → old ≡ exceptionValue e old
@@ -67,7 +67,7 @@ module _ (e : Exception) where
   pub smc-words : (imm : ℕ) → e ≡ Smc imm → four 6 0 0 0 ≡ exceptionWords e
   smc-words imm q = sym (rw q)
 
-  pub brk-code : (imm : ℕ) → e ≡ Brk imm → 8 ≡ exceptionCode e
+  pub brk-code : (imm : ℕ) → e ≡ Brk imm → 65 ≡ exceptionCode e
   brk-code imm q = sym (rw q)
 
   pub brk-value : (old : ℕ) → (imm : ℕ) → e ≡ Brk imm → old ≡ exceptionValue e old
@@ -76,7 +76,7 @@ module _ (e : Exception) where
   pub brk-words : (imm : ℕ) → e ≡ Brk imm → four 6 0 0 0 ≡ exceptionWords e
   brk-words imm q = sym (rw q)
 
-  pub pc-alignment-code : e ≡ PcAlignment → 8 ≡ exceptionCode e
+  pub pc-alignment-code : e ≡ PcAlignment → 65 ≡ exceptionCode e
   pc-alignment-code q = sym (rw q)
 
   pub pc-alignment-value : (old : ℕ) → e ≡ PcAlignment → old ≡ exceptionValue e old
@@ -95,7 +95,7 @@ module _ (s : Stop) where
   pub stop-words : (e : Exception) (l : List ℕ) → s ≡ Stop.Exception e → l ≡ exceptionWords e → l ≡ stopWords s
   stop-words e l q p = p ∙ sym (rw q)
 
-  pub none-code : s ≡ Stop.Unimplemented → 9 ≡ stopCode s
+  pub none-code : s ≡ Stop.Unimplemented → 66 ≡ stopCode s
   none-code q = sym (rw q)
 
   pub none-value : (old : ℕ) → s ≡ Stop.Unimplemented → old ≡ stopValue s old

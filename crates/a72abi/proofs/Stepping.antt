@@ -4,8 +4,6 @@ use mathlib.Core.Bool.{Bool, true, false}
 use mathlib.Core.List.{List, []}
 use Prim.Native.Nat.{ℕ, zero, suc}
 use borrow.Author.Tests.{ne-eqb}
-use lib.ListN.{length, getD}
-use Rattle.word.specs.Bits.{pick}
 use Rattle.tlb.specs.declared.access.Kind.{Kind}
 use Rattle.entry.specs.declared.exception.Exception.{Exception}
 use Rattle.mmu.specs.declared.core.Core.{Core}
@@ -17,10 +15,8 @@ use Rattle.cpu.specs.declared.call.Encoding.{Encoding}
 use Rattle.cpu.specs.declared.call.Reply.{Reply}
 use Rattle.cpu.specs.declared.call.Stepped.{Stepped}
 use Rattle.words.specs.Held.{held}
-use Rattle.words.specs.Moved.{Moved, stays, moved-as}
-use Rattle.a72abi.specs.Replies.{codeBy, wordsBy}
-use Rattle.a72abi.specs.Ops.{keyOf, exceptionAt, abortCall, markCall, callOf}
-use Rattle.a72abi.specs.Steps.{callCode, callWords, callCore, callRam, callNumber}
+use Rattle.words.specs.Moved.{Moved, moved-as}
+use Rattle.a72abi.specs.Ops.{exceptionAt, abortCall, markCall}
 use Rattle.a72abi.specs.declared.op.Calls.{Calls}
 use Rattle.a72abi.specs.declared.op.Calls.the-variants as Calls
 use Rattle.a72abi.specs.declared.op.Exceptions.{Exceptions}
@@ -199,67 +195,6 @@ module _ (ws : List ℕ) (base : ℕ) (ram : List ℕ) (call : Call) where
   pub abort-written : (x : Exception) → call ≡ Call.Abort x → ram ≡ ramAfter (held ws) base ram call
   abort-written x e = abort-ram (held ws) base ram x ∙ ap (ramAfter (held ws) base ram) (sym e)
 
--- the call that words name
-module _ (ws : List ℕ) (base : ℕ) (ram : List ℕ) (p o : Calls) (eo : o ≡ p) where
-  module _ (call : Call) (e : o ≡ Calls.Known call) where
-    known-is : p ≡ Calls.Known call
-    known-is = sym eo ∙ e
-
-    pub known-code : 0 ≡ callCode p
-    unfolding callCode
-    known-code = rw known-is
-
-    pub known-words : (r : Reply) (l old : List ℕ) → r ≡ stepOf (held ws) base ram call .reply → l ≡ wordsBy r → l ≡ callWords p (held ws) base ram old
-    unfolding callWords
-    known-words r l old er el = rw known-is (el ∙ ap wordsBy er)
-
-    pub known-ram : (ys : List ℕ) → ys ≡ ramAfter (held ws) base ram call → ys ≡ callRam p (held ws) base ram
-    unfolding callRam
-    known-ram ys q = rw known-is q
-
-    pub known-core : (xs : List ℕ) → Moved ws xs (stepOf (held ws) base ram call .core) → Moved ws xs (callCore p (held ws) base ram)
-    unfolding callCore
-    known-core xs m = rw known-is m
-
-  module _ (e : o ≡ Calls.Unknown) where
-    unknown-is : p ≡ Calls.Unknown
-    unknown-is = sym eo ∙ e
-
-    pub unknown-code : 7 ≡ callCode p
-    unfolding callCode
-    unknown-code = rw unknown-is
-
-    pub unknown-words : (old : List ℕ) → old ≡ callWords p (held ws) base ram old
-    unfolding callWords
-    unknown-words old = rw unknown-is
-
-    pub unknown-ram : ram ≡ callRam p (held ws) base ram
-    unfolding callRam
-    unknown-ram = rw unknown-is
-
-    pub unknown-core : Moved ws ws (callCore p (held ws) base ram)
-    unfolding callCore
-    unknown-core = rw unknown-is stays
-
--- calls that are handed no RAM
-module _ (ws : List ℕ) (p : Calls) (call : Call) (e : Calls.Known call ≡ p) where
-  pub bare-number : (r : Reply) (n : ℕ) → r ≡ stepOf (held ws) 0 [] call .reply → n ≡ codeBy r → n ≡ callNumber p (held ws)
-  unfolding callNumber
-  bare-number r n er en = rw (← e) (en ∙ ap codeBy er)
-
-  pub bare-core : (xs : List ℕ) → Moved ws xs (stepOf (held ws) 0 [] call .core) → Moved ws xs (callCore p (held ws) 0 [])
-  unfolding callCore
-  bare-core xs m = rw (← e) m
-
-module _ (ws : List ℕ) (p : Calls) (e : Calls.Unknown ≡ p) where
-  pub none-number : 7 ≡ callNumber p (held ws)
-  unfolding callNumber
-  none-number = rw (← e)
-
-  pub none-core : Moved ws ws (callCore p (held ws) 0 [])
-  unfolding callCore
-  none-core = rw (← e) stays
-
 pub mark-0 : (n : ℕ) → n ≡ 0 → Calls.Known (Call.Mark false) ≡ markCall n
 mark-0 n e = sym (rw e)
 
@@ -274,14 +209,6 @@ abort-known l o x e q = ap abortCall (sym q ∙ e)
 
 pub abort-none : (l : List ℕ) (o : Exceptions) → o ≡ exceptionAt l → o ≡ Exceptions.Unknown → Calls.Unknown ≡ abortCall (exceptionAt l)
 abort-none l o e q = ap abortCall (sym q ∙ e)
-
--- a register by a word
-module _ (ws : List ℕ) (key value k : ℕ) (e : k ≡ keyOf key) where
-  pub key-code : (r : Reply) (n : ℕ) → r ≡ stepOf (held ws) 0 [] (Call.Register k value) .reply → n ≡ codeBy r → n ≡ codeBy (stepOf (held ws) 0 [] (Call.Register (keyOf key) value) .reply)
-  key-code r n er en = en ∙ ap codeBy er ∙ ap (λ (x : ℕ). codeBy (stepOf (held ws) 0 [] (Call.Register x value) .reply)) e
-
-  pub key-core : (xs : List ℕ) → Moved ws xs (stepOf (held ws) 0 [] (Call.Register k value) .core) → Moved ws xs (stepOf (held ws) 0 [] (Call.Register (keyOf key) value) .core)
-  key-core xs m = moved-as m (ap (λ (x : ℕ). stepOf (held ws) 0 [] (Call.Register x value) .core) e)
 
 pub ruleset replies = (translate-told, data-told, fetch-pa-told, load-told, store-told, fetch-told, system-told, register-told, level-told, mark-told, general-told, abort-told)
 

@@ -4,3 +4,6 @@ pub mod Ops
 pub mod Quick
 pub mod Splits
 pub mod Steps
+pub mod Kept
+pub mod Promise
+pub mod PromiseLaws

@@ -1,15 +1,16 @@
 -- A call as eight words.
 use mathlib.Core.List.{List}
-use Prim.Native.Nat.{ℕ, _%_, _^_}
+use Prim.Native.Nat.{ℕ, _^_}
 use lib.Dec.{eqb, ltb}
 use lib.ListN.{getD}
 use Rattle.word.specs.Bits.{pick}
 use Rattle.tlb.specs.declared.access.Kind.the-variants.{Read, Write, Fetch}
+use Rattle.entry.specs.declared.exception.Exception.{Exception}
 use Rattle.entry.specs.declared.exception.Exception.the-variants.{Undefined, Svc, Hvc, Smc, Brk, DataAbort, InsnAbort, PcAlignment}
 use Rattle.cpu.specs.declared.call.Call.{Call}
 use Rattle.cpu.specs.declared.call.Call.the-variants as Call
 use Rattle.cpu.specs.declared.call.Encoding.{Encoding}
-use mathlib.Core.Bool.{true, false}
+use mathlib.Core.Bool.{Bool, true, false}
 use Rattle.a72abi.specs.declared.op.Kinds.{Kinds}
 use Rattle.a72abi.specs.declared.op.Kinds.the-variants as Kinds
 use Rattle.a72abi.specs.declared.op.Exceptions.{Exceptions}
@@ -21,18 +22,35 @@ use Rattle.a72abi.specs.declared.op.Calls.the-variants as Calls
 abbrev pub kindOf : ℕ → Kinds
 kindOf n = pick (eqb n 1) (Kinds.Known Read) (pick (eqb n 2) (Kinds.Known Write) (pick (eqb n 4) (Kinds.Known Fetch) Kinds.Unknown))
 
--- 0 Undefined; 1 SVC, 2 HVC, 3 SMC, 4 BRK, each with its immediate; 5 data abort with address, write and status; 6 instruction abort with
--- address and status; 7 PC alignment. An immediate has 16 bits, a status 8.
+-- an exception whose words are in range
+abbrev pub inRange : Bool → Exception → Exceptions
+inRange ok e = pick ok (Exceptions.Known e) Exceptions.Unknown
+
+-- write is 0 or 1, and a status has 8 bits
+unfoldable pub dataAbortOf : ℕ → ℕ → ℕ → Exceptions
+dataAbortOf addr write fsc =
+    pick (eqb write 0) (inRange (ltb fsc (2 ^ 8)) (DataAbort addr false fsc))
+    (pick (eqb write 1) (inRange (ltb fsc (2 ^ 8)) (DataAbort addr true fsc)) Exceptions.Unknown)
+
+abbrev pub insnAbortOf : ℕ → ℕ → Exceptions
+insnAbortOf addr fsc = inRange (ltb fsc (2 ^ 8)) (InsnAbort addr fsc)
+
+-- 1 SVC, 2 HVC, 3 SMC, 4 BRK; the immediate has 16 bits
+unfoldable pub callExceptionOf : ℕ → ℕ → Exceptions
+callExceptionOf n imm =
+    pick (eqb n 1) (inRange (ltb imm (2 ^ 16)) (Svc imm))
+    (pick (eqb n 2) (inRange (ltb imm (2 ^ 16)) (Hvc imm))
+    (pick (eqb n 3) (inRange (ltb imm (2 ^ 16)) (Smc imm))
+    (pick (eqb n 4) (inRange (ltb imm (2 ^ 16)) (Brk imm)) Exceptions.Unknown)))
+
+-- 0 Undefined; 1 to 4 with an immediate; 5 data abort with address, write and status; 6 instruction abort with address and status; 7 PC
+-- alignment. Words out of range name nothing, and words that an exception does not take are not read.
 unfoldable pub exceptionOf : ℕ → ℕ → ℕ → ℕ → Exceptions
 exceptionOf n a b c =
     pick (eqb n 0) (Exceptions.Known Undefined)
-    (pick (eqb n 1) (Exceptions.Known (Svc (a % 2 ^ 16)))
-    (pick (eqb n 2) (Exceptions.Known (Hvc (a % 2 ^ 16)))
-    (pick (eqb n 3) (Exceptions.Known (Smc (a % 2 ^ 16)))
-    (pick (eqb n 4) (Exceptions.Known (Brk (a % 2 ^ 16)))
-    (pick (eqb n 5) (Exceptions.Known (DataAbort a (eqb b 1) (c % 2 ^ 8)))
-    (pick (eqb n 6) (Exceptions.Known (InsnAbort a (b % 2 ^ 8)))
-    (pick (eqb n 7) (Exceptions.Known PcAlignment) Exceptions.Unknown)))))))
+    (pick (eqb n 5) (dataAbortOf a b c)
+    (pick (eqb n 6) (insnAbortOf a b)
+    (pick (eqb n 7) (Exceptions.Known PcAlignment) (callExceptionOf n a))))
 
 -- the same of four words
 abbrev pub exceptionAt : List ℕ → Exceptions
@@ -42,7 +60,7 @@ exceptionAt e = exceptionOf (getD e 0 0) (getD e 1 0) (getD e 2 0) (getD e 3 0)
 abbrev pub keyOf : ℕ → ℕ
 keyOf n = pick (ltb n (2 ^ 32)) n 0
 
-abbrev pub translateCall : Kinds → ℕ → Calls
+unfoldable pub translateCall : Kinds → ℕ → Calls
 translateCall (Kinds.Known k) va = Calls.Known (Call.Translate k va)
 translateCall Kinds.Unknown va = Calls.Unknown
 

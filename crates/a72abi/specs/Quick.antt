@@ -16,12 +16,7 @@ use Rattle.tlb.specs.declared.access.Kind.{Kind}
 use Rattle.tlb.specs.declared.hint.Physical.{Physical}
 use Rattle.tlb.specs.declared.hint.Physical.the-variants.{Unknown}
 use Rattle.mmu.specs.declared.core.Core.{Core}
-use Rattle.cpu.specs.Step.{stepOf}
-use Rattle.cpu.specs.declared.call.Call.the-variants as Call
 use Rattle.inplace.specs.Found.{hintFound}
-use Rattle.a72abi.specs.Replies.{codeBy, valueBy}
-use Rattle.a72abi.specs.declared.op.Kinds.{Kinds}
-use Rattle.a72abi.specs.declared.op.Kinds.the-variants.{Known, Unknown as NoKind}
 
 -- a level up to 3, and a window that ends below the last address
 unfoldable pub clearOf : Core → ℕ → ℕ → Bool
@@ -66,16 +61,3 @@ ramIn NoWidth base ram pa v = ram
 
 abbrev pub sizedRam : ℕ → List ℕ → ℕ → ℕ → ℕ → List ℕ
 sizedRam base ram size pa v = ramIn (widthOf size) base ram pa v
-
--- a translation by the number of its kind; 7 for no kind, and nothing changes
-unfoldable pub kindCode : Kinds → Core → ℕ → List ℕ → ℕ → ℕ
-kindCode (Known k) c base ram va = codeBy (stepOf c base ram (Call.Translate k va) .reply)
-kindCode NoKind c base ram va = 7
-
-unfoldable pub kindValue : Kinds → Core → ℕ → List ℕ → ℕ → ℕ → ℕ
-kindValue (Known k) c base ram va old = valueBy (stepOf c base ram (Call.Translate k va) .reply) old
-kindValue NoKind c base ram va old = old
-
-unfoldable pub kindCore : Kinds → Core → ℕ → List ℕ → ℕ → Core
-kindCore (Known k) c base ram va = stepOf c base ram (Call.Translate k va) .core
-kindCore NoKind c base ram va = c

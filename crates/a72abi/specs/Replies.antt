@@ -10,22 +10,22 @@ use Rattle.entry.specs.declared.exception.Stop.the-variants as Stop
 use Rattle.cpu.specs.declared.call.Reply.{Reply}
 use Rattle.cpu.specs.declared.call.Reply.the-variants.{Refused, Done, Value, Faults, Fault, Stopped}
 
--- 256 plus the status of an abort; 8 for every other exception, which is Undefined where an operation stops
+-- 256 plus the status of an abort; 65 for every other exception, which is Undefined where an operation stops
 abbrev pub exceptionCode : Exception → ℕ
 exceptionCode (DataAbort addr write fsc) = 256 + fsc
 exceptionCode (InsnAbort addr fsc) = 256 + fsc
-exceptionCode Undefined = 8
-exceptionCode (Svc imm) = 8
-exceptionCode (Hvc imm) = 8
-exceptionCode (Smc imm) = 8
-exceptionCode (Brk imm) = 8
-exceptionCode PcAlignment = 8
+exceptionCode Undefined = 65
+exceptionCode (Svc imm) = 65
+exceptionCode (Hvc imm) = 65
+exceptionCode (Smc imm) = 65
+exceptionCode (Brk imm) = 65
+exceptionCode PcAlignment = 65
 
 abbrev pub stopCode : Stop → ℕ
 stopCode (Stop.Exception e) = exceptionCode e
-stopCode Stop.Unimplemented = 9
+stopCode Stop.Unimplemented = 66
 
--- 0 where it is done; 1 to 6 where it is refused; 256 where it faults, plus the status where that is told
+-- 0 where it is done; 1 to 63, the document's number, where it is refused; 256 where it faults, plus the status where that is told
 abbrev pub codeBy : Reply → ℕ
 codeBy (Refused n) = n
 codeBy Done = 0

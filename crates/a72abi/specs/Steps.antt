@@ -1,31 +1,34 @@
--- Every call by its words.
-use mathlib.Core.List.{List, []}
+-- A call by its words: what is given where they name one; else 64, and nothing changes.
+use mathlib.Core.List.{List}
 use Prim.Native.Nat.{ℕ}
 use Rattle.mmu.specs.declared.core.Core.{Core}
 use Rattle.cpu.specs.Step.{stepOf, ramAfter}
-use Rattle.cpu.specs.declared.call.Call.the-variants as Call
-use Rattle.a72abi.specs.Replies.{codeBy, wordsBy}
+use Rattle.a72abi.specs.Replies.{codeBy, valueBy, wordsBy}
 use Rattle.a72abi.specs.declared.op.Calls.{Calls}
 use Rattle.a72abi.specs.declared.op.Calls.the-variants.{Known, Unknown}
 
--- 0 where the words name a call, which is then carried out; 7 where they name none, and nothing changes
-unfoldable pub callCode : Calls → ℕ
-callCode (Known call) = 0
-callCode Unknown = 7
+-- the number, the value or else the word as it was, RAM and the core
+abbrev pub callNumber : Calls → Core → ℕ → List ℕ → ℕ
+callNumber (Known call) c base ram = codeBy (stepOf c base ram call .reply)
+callNumber Unknown c base ram = 64
 
-unfoldable pub callWords : Calls → Core → ℕ → List ℕ → List ℕ → List ℕ
-callWords (Known call) c base ram old = wordsBy (stepOf c base ram call .reply)
-callWords Unknown c base ram old = old
+abbrev pub callValue : Calls → Core → ℕ → List ℕ → ℕ → ℕ
+callValue (Known call) c base ram old = valueBy (stepOf c base ram call .reply) old
+callValue Unknown c base ram old = old
 
-unfoldable pub callCore : Calls → Core → ℕ → List ℕ → Core
-callCore (Known call) c base ram = stepOf c base ram call .core
-callCore Unknown c base ram = c
-
-unfoldable pub callRam : Calls → Core → ℕ → List ℕ → List ℕ
+abbrev pub callRam : Calls → Core → ℕ → List ℕ → List ℕ
 callRam (Known call) c base ram = ramAfter c base ram call
 callRam Unknown c base ram = ram
 
--- a call that is handed no RAM, as a number
-unfoldable pub callNumber : Calls → Core → ℕ
-callNumber (Known call) c = codeBy (stepOf c 0 [] call .reply)
-callNumber Unknown c = 7
+abbrev pub callCore : Calls → Core → ℕ → List ℕ → Core
+callCore (Known call) c base ram = stepOf c base ram call .core
+callCore Unknown c base ram = c
+
+-- every call by eight words: 0 and four words of answer
+abbrev pub callCode : Calls → ℕ
+callCode (Known call) = 0
+callCode Unknown = 64
+
+abbrev pub callWords : Calls → Core → ℕ → List ℕ → List ℕ → List ℕ
+callWords (Known call) c base ram old = wordsBy (stepOf c base ram call .reply)
+callWords Unknown c base ram old = old

@@ -2,10 +2,10 @@
 ghost use mathlib.Core.Path.{_≡_};
 ghost use mathlib.Core.List.{[]};
 ghost use Rattle.cpu.specs.Check.{askedOf, missedOf};
-ghost use Rattle.cpu.specs.Step.{stepOf, ramAfter, storing};
+ghost use Rattle.cpu.specs.Step.{ramAfter, storing};
 ghost use Rattle.cpu.specs.declared.call.Call.the-variants as Call;
 ghost use Rattle.words.specs.Held.{held};
-ghost use Rattle.words.specs.Moved.{Moved};
+ghost use Rattle.a72abi.specs.Promise.{Runs};
 use cpu::call::Call;
 use cpu::call::Encoding;
 use cpu::call::Reply;
@@ -35,8 +35,8 @@ fn missed(state: &[u64; 5205], base: u64, len: u64, call: Call) -> u8
 }
 
 pub fn translation(state: &mut [u64; 5205], base: u64, ram: &[u8], kind: Kind, va: u64) -> Reply
-    ensures { λ r. ⌜ r ≡ stepOf (held (now (state .entry))) base (now (ram .entry)) (Call.Translate kind va) .reply ⌝ }
-    ensures { λ r. ⌜ Moved (now (state .entry)) (now (state .exit)) (stepOf (held (now (state .entry))) base (now (ram .entry)) (Call.Translate kind va) .core) ⌝ }
+    ensures { λ r. ⌜ Runs (Call.Translate kind va) base (now (ram .entry)) (now (state .entry)) r
+        (now (state .exit)) ⌝ }
 {
     let n = missed(state, base, ram.len() as u64, Call::Translate(kind, va));
     if n != 0 {
@@ -49,8 +49,7 @@ pub fn translation(state: &mut [u64; 5205], base: u64, ram: &[u8], kind: Kind, v
 }
 
 pub fn data_pa(state: &mut [u64; 5205], base: u64, ram: &[u8], va: u64) -> Reply
-    ensures { λ r. ⌜ r ≡ stepOf (held (now (state .entry))) base (now (ram .entry)) (Call.DataPa va) .reply ⌝ }
-    ensures { λ r. ⌜ Moved (now (state .entry)) (now (state .exit)) (stepOf (held (now (state .entry))) base (now (ram .entry)) (Call.DataPa va) .core) ⌝ }
+    ensures { λ r. ⌜ Runs (Call.DataPa va) base (now (ram .entry)) (now (state .entry)) r (now (state .exit)) ⌝ }
 {
     let n = missed(state, base, ram.len() as u64, Call::DataPa(va));
     if n != 0 {
@@ -63,8 +62,7 @@ pub fn data_pa(state: &mut [u64; 5205], base: u64, ram: &[u8], va: u64) -> Reply
 }
 
 pub fn fetch_pa(state: &mut [u64; 5205], base: u64, ram: &[u8], va: u64) -> Reply
-    ensures { λ r. ⌜ r ≡ stepOf (held (now (state .entry))) base (now (ram .entry)) (Call.FetchPa va) .reply ⌝ }
-    ensures { λ r. ⌜ Moved (now (state .entry)) (now (state .exit)) (stepOf (held (now (state .entry))) base (now (ram .entry)) (Call.FetchPa va) .core) ⌝ }
+    ensures { λ r. ⌜ Runs (Call.FetchPa va) base (now (ram .entry)) (now (state .entry)) r (now (state .exit)) ⌝ }
 {
     let n = missed(state, base, ram.len() as u64, Call::FetchPa(va));
     if n != 0 {
@@ -77,8 +75,7 @@ pub fn fetch_pa(state: &mut [u64; 5205], base: u64, ram: &[u8], va: u64) -> Repl
 }
 
 pub fn load(state: &mut [u64; 5205], base: u64, ram: &[u8], va: u64, size: u64) -> Reply
-    ensures { λ r. ⌜ r ≡ stepOf (held (now (state .entry))) base (now (ram .entry)) (Call.Load va size) .reply ⌝ }
-    ensures { λ r. ⌜ Moved (now (state .entry)) (now (state .exit)) (stepOf (held (now (state .entry))) base (now (ram .entry)) (Call.Load va size) .core) ⌝ }
+    ensures { λ r. ⌜ Runs (Call.Load va size) base (now (ram .entry)) (now (state .entry)) r (now (state .exit)) ⌝ }
 {
     let n = missed(state, base, ram.len() as u64, Call::Load(va, size));
     if n != 0 {
@@ -110,9 +107,10 @@ pub fn store(
     size: u64,
     value: u64,
 ) -> Reply
-    ensures { λ r. ⌜ r ≡ stepOf (held (now (state .entry))) base (now (ram .entry)) (Call.Store va size value) .reply ⌝ }
-    ensures { λ r. ⌜ now (ram .exit) ≡ ramAfter (held (now (state .entry))) base (now (ram .entry)) (Call.Store va size value) ⌝ }
-    ensures { λ r. ⌜ Moved (now (state .entry)) (now (state .exit)) (stepOf (held (now (state .entry))) base (now (ram .entry)) (Call.Store va size value) .core) ⌝ }
+    ensures { λ r. ⌜ Runs (Call.Store va size value) base (now (ram .entry)) (now (state .entry)) r
+        (now (state .exit)) ⌝ }
+    ensures { λ r. ⌜ now (ram .exit) ≡ ramAfter (held (now (state .entry))) base (now (ram .entry))
+        (Call.Store va size value) ⌝ }
 {
     let n = missed(state, base, ram.len() as u64, Call::Store(va, size, value));
     if n != 0 {
@@ -128,8 +126,7 @@ pub fn store(
 }
 
 pub fn fetch(state: &mut [u64; 5205], base: u64, ram: &[u8], va: u64) -> Reply
-    ensures { λ r. ⌜ r ≡ stepOf (held (now (state .entry))) base (now (ram .entry)) (Call.Fetch va) .reply ⌝ }
-    ensures { λ r. ⌜ Moved (now (state .entry)) (now (state .exit)) (stepOf (held (now (state .entry))) base (now (ram .entry)) (Call.Fetch va) .core) ⌝ }
+    ensures { λ r. ⌜ Runs (Call.Fetch va) base (now (ram .entry)) (now (state .entry)) r (now (state .exit)) ⌝ }
 {
     let n = missed(state, base, ram.len() as u64, Call::Fetch(va));
     if n != 0 {
@@ -142,9 +139,8 @@ pub fn fetch(state: &mut [u64; 5205], base: u64, ram: &[u8], va: u64) -> Reply
 }
 
 pub fn system(state: &mut [u64; 5205], base: u64, ram: &mut [u8], e: Encoding) -> Reply
-    ensures { λ r. ⌜ r ≡ stepOf (held (now (state .entry))) base (now (ram .entry)) (Call.System e) .reply ⌝ }
+    ensures { λ r. ⌜ Runs (Call.System e) base (now (ram .entry)) (now (state .entry)) r (now (state .exit)) ⌝ }
     ensures { λ r. ⌜ now (ram .exit) ≡ ramAfter (held (now (state .entry))) base (now (ram .entry)) (Call.System e) ⌝ }
-    ensures { λ r. ⌜ Moved (now (state .entry)) (now (state .exit)) (stepOf (held (now (state .entry))) base (now (ram .entry)) (Call.System e) .core) ⌝ }
 {
     let n = missed(state, base, ram.len() as u64, Call::System(e));
     if n != 0 {
@@ -155,8 +151,7 @@ pub fn system(state: &mut [u64; 5205], base: u64, ram: &mut [u8], e: Encoding) -
 }
 
 pub fn register(state: &mut [u64; 5205], key: u32, value: u64) -> Reply
-    ensures { λ r. ⌜ r ≡ stepOf (held (now (state .entry))) 0 [] (Call.Register key value) .reply ⌝ }
-    ensures { λ r. ⌜ Moved (now (state .entry)) (now (state .exit)) (stepOf (held (now (state .entry))) 0 [] (Call.Register key value) .core) ⌝ }
+    ensures { λ r. ⌜ Runs (Call.Register key value) 0 [] (now (state .entry)) r (now (state .exit)) ⌝ }
 {
     let n = missed(state, 0, 0, Call::Register(key, value));
     if n != 0 {
@@ -170,8 +165,7 @@ pub fn register(state: &mut [u64; 5205], key: u32, value: u64) -> Reply
 }
 
 pub fn level(state: &mut [u64; 5205], level: u64) -> Reply
-    ensures { λ r. ⌜ r ≡ stepOf (held (now (state .entry))) 0 [] (Call.Level level) .reply ⌝ }
-    ensures { λ r. ⌜ Moved (now (state .entry)) (now (state .exit)) (stepOf (held (now (state .entry))) 0 [] (Call.Level level) .core) ⌝ }
+    ensures { λ r. ⌜ Runs (Call.Level level) 0 [] (now (state .entry)) r (now (state .exit)) ⌝ }
 {
     let n = missed(state, 0, 0, Call::Level(level));
     if n != 0 {
@@ -182,8 +176,7 @@ pub fn level(state: &mut [u64; 5205], level: u64) -> Reply
 }
 
 pub fn mark(state: &mut [u64; 5205], mark: bool) -> Reply
-    ensures { λ r. ⌜ r ≡ stepOf (held (now (state .entry))) 0 [] (Call.Mark mark) .reply ⌝ }
-    ensures { λ r. ⌜ Moved (now (state .entry)) (now (state .exit)) (stepOf (held (now (state .entry))) 0 [] (Call.Mark mark) .core) ⌝ }
+    ensures { λ r. ⌜ Runs (Call.Mark mark) 0 [] (now (state .entry)) r (now (state .exit)) ⌝ }
 {
     let n = missed(state, 0, 0, Call::Mark(mark));
     if n != 0 {
@@ -194,8 +187,7 @@ pub fn mark(state: &mut [u64; 5205], mark: bool) -> Reply
 }
 
 pub fn general(state: &mut [u64; 5205], number: u64, value: u64) -> Reply
-    ensures { λ r. ⌜ r ≡ stepOf (held (now (state .entry))) 0 [] (Call.General number value) .reply ⌝ }
-    ensures { λ r. ⌜ Moved (now (state .entry)) (now (state .exit)) (stepOf (held (now (state .entry))) 0 [] (Call.General number value) .core) ⌝ }
+    ensures { λ r. ⌜ Runs (Call.General number value) 0 [] (now (state .entry)) r (now (state .exit)) ⌝ }
 {
     let n = missed(state, 0, 0, Call::General(number, value));
     if n != 0 {
@@ -206,8 +198,7 @@ pub fn general(state: &mut [u64; 5205], number: u64, value: u64) -> Reply
 }
 
 pub fn abort(state: &mut [u64; 5205], e: Exception) -> Reply
-    ensures { λ r. ⌜ r ≡ stepOf (held (now (state .entry))) 0 [] (Call.Abort e) .reply ⌝ }
-    ensures { λ r. ⌜ Moved (now (state .entry)) (now (state .exit)) (stepOf (held (now (state .entry))) 0 [] (Call.Abort e) .core) ⌝ }
+    ensures { λ r. ⌜ Runs (Call.Abort e) 0 [] (now (state .entry)) r (now (state .exit)) ⌝ }
 {
     let n = missed(state, 0, 0, Call::Abort(e));
     if n != 0 {

@@ -5,11 +5,11 @@ ghost use mathlib.Core.Bool.{true};
 ghost use Prim.Native.Nat.{_≤_};
 ghost use lib.ListN.{length};
 ghost use Rattle.cpu.specs.Check.{known};
-ghost use Rattle.cpu.specs.Step.{stepOf, ramAfter};
+ghost use Rattle.cpu.specs.Step.{ramAfter};
 ghost use Rattle.cpu.specs.declared.call.Call.the-variants as Call;
 ghost use Rattle.words.specs.Held.{held};
-ghost use Rattle.words.specs.Moved.{Moved};
-ghost use Rattle.a72abi.specs.Replies.{codeBy, valueBy};
+ghost use Rattle.a72abi.specs.declared.op.Calls.the-variants as Calls;
+ghost use Rattle.a72abi.specs.Promise.{Promise, Gives};
 ghost use Rattle.tlb.specs.declared.access.Kind.the-variants.{Read, Write};
 ghost use Rattle.mmu.specs.Place.{inPage};
 ghost use Rattle.a72abi.specs.Quick.{Unhinted, sizedAt, sizedMade, sizedRam};
@@ -77,9 +77,8 @@ fn load_book(
     base: u64,
     ram: &[u8],
 ) -> u64
-    ensures { λ r. ⌜ r ≡ codeBy (stepOf (held (now (state .entry))) base (now (ram .entry)) (Call.Load va size) .reply) ⌝ }
-    ensures { λ r. ⌜ now (ans .exit) ≡ valueBy (stepOf (held (now (state .entry))) base (now (ram .entry)) (Call.Load va size) .reply) (now (ans .entry)) ⌝ }
-    ensures { λ r. ⌜ Moved (now (state .entry)) (now (state .exit)) (stepOf (held (now (state .entry))) base (now (ram .entry)) (Call.Load va size) .core) ⌝ }
+    ensures { λ r. ⌜ Gives (Calls.Known (Call.Load va size)) base (now (ram .entry)) (now (state .entry)) r
+        (now (ans .entry)) (now (ans .exit)) (now (state .exit)) ⌝ }
 {
     let r = book::load(state, base, ram, va, size);
     reply::answer(r, ans)
@@ -96,9 +95,8 @@ fn load_rest(
 ) -> u64
     requires { ⌜ size ≤ inPage va ⌝ }
     requires { ⌜ Unhinted (held (now state)) base (length (now ram)) va Read ⌝ }
-    ensures { λ r. ⌜ r ≡ codeBy (stepOf (held (now (state .entry))) base (now (ram .entry)) (Call.Load va size) .reply) ⌝ }
-    ensures { λ r. ⌜ now (ans .exit) ≡ valueBy (stepOf (held (now (state .entry))) base (now (ram .entry)) (Call.Load va size) .reply) (now (ans .entry)) ⌝ }
-    ensures { λ r. ⌜ Moved (now (state .entry)) (now (state .exit)) (stepOf (held (now (state .entry))) base (now (ram .entry)) (Call.Load va size) .core) ⌝ }
+    ensures { λ r. ⌜ Gives (Calls.Known (Call.Load va size)) base (now (ram .entry)) (now (state .entry)) r
+        (now (ans .entry)) (now (ans .exit)) (now (state .exit)) ⌝ }
 {
     let clear = memory::clear(state, base, ram.len() as u64);
     if clear {
@@ -121,9 +119,8 @@ fn load_split(
     ram: &[u8],
 ) -> u64
     requires { ⌜ known size ≡ true ⌝ }
-    ensures { λ r. ⌜ r ≡ codeBy (stepOf (held (now (state .entry))) base (now (ram .entry)) (Call.Load va size) .reply) ⌝ }
-    ensures { λ r. ⌜ now (ans .exit) ≡ valueBy (stepOf (held (now (state .entry))) base (now (ram .entry)) (Call.Load va size) .reply) (now (ans .entry)) ⌝ }
-    ensures { λ r. ⌜ Moved (now (state .entry)) (now (state .exit)) (stepOf (held (now (state .entry))) base (now (ram .entry)) (Call.Load va size) .core) ⌝ }
+    ensures { λ r. ⌜ Gives (Calls.Known (Call.Load va size)) base (now (ram .entry)) (now (state .entry)) r
+        (now (ans .entry)) (now (ans .exit)) (now (state .exit)) ⌝ }
 {
     match split::load(state, va, size, base, ram) {
         Split::Value { pa, v } => {
@@ -143,9 +140,8 @@ fn load_across(
     base: u64,
     ram: &[u8],
 ) -> u64
-    ensures { λ r. ⌜ r ≡ codeBy (stepOf (held (now (state .entry))) base (now (ram .entry)) (Call.Load va size) .reply) ⌝ }
-    ensures { λ r. ⌜ now (ans .exit) ≡ valueBy (stepOf (held (now (state .entry))) base (now (ram .entry)) (Call.Load va size) .reply) (now (ans .entry)) ⌝ }
-    ensures { λ r. ⌜ Moved (now (state .entry)) (now (state .exit)) (stepOf (held (now (state .entry))) base (now (ram .entry)) (Call.Load va size) .core) ⌝ }
+    ensures { λ r. ⌜ Gives (Calls.Known (Call.Load va size)) base (now (ram .entry)) (now (state .entry)) r
+        (now (ans .entry)) (now (ans .exit)) (now (state .exit)) ⌝ }
 {
     match size {
         8 => load_split(state, va, 8, ans, base, ram),
@@ -165,9 +161,8 @@ pub extern "C" fn a72_load(
     base: u64,
     ram: &[u8],
 ) -> u64
-    ensures { λ r. ⌜ r ≡ codeBy (stepOf (held (now (state .entry))) base (now (ram .entry)) (Call.Load va size) .reply) ⌝ }
-    ensures { λ r. ⌜ now (ans .exit) ≡ valueBy (stepOf (held (now (state .entry))) base (now (ram .entry)) (Call.Load va size) .reply) (now (ans .entry)) ⌝ }
-    ensures { λ r. ⌜ Moved (now (state .entry)) (now (state .exit)) (stepOf (held (now (state .entry))) base (now (ram .entry)) (Call.Load va size) .core) ⌝ }
+    ensures { λ r. ⌜ Promise (Calls.Known (Call.Load va size)) base (now (ram .entry)) (now (state .entry)) r
+        (now (ans .entry)) (now (ans .exit)) (now (ram .entry)) (now (state .exit)) ⌝ }
 {
     if place::in_page(va) < size {
         return load_across(state, va, size, ans, base, ram);
@@ -202,10 +197,10 @@ fn store_book(
     base: u64,
     ram: &mut [u8],
 ) -> u64
-    ensures { λ r. ⌜ r ≡ codeBy (stepOf (held (now (state .entry))) base (now (ram .entry)) (Call.Store va size value) .reply) ⌝ }
-    ensures { λ r. ⌜ now (ans .exit) ≡ valueBy (stepOf (held (now (state .entry))) base (now (ram .entry)) (Call.Store va size value) .reply) (now (ans .entry)) ⌝ }
-    ensures { λ r. ⌜ now (ram .exit) ≡ ramAfter (held (now (state .entry))) base (now (ram .entry)) (Call.Store va size value) ⌝ }
-    ensures { λ r. ⌜ Moved (now (state .entry)) (now (state .exit)) (stepOf (held (now (state .entry))) base (now (ram .entry)) (Call.Store va size value) .core) ⌝ }
+    ensures { λ r. ⌜ Gives (Calls.Known (Call.Store va size value)) base (now (ram .entry)) (now (state .entry)) r
+        (now (ans .entry)) (now (ans .exit)) (now (state .exit)) ⌝ }
+    ensures { λ r. ⌜ now (ram .exit) ≡ ramAfter (held (now (state .entry))) base (now (ram .entry))
+        (Call.Store va size value) ⌝ }
 {
     let r = book::store(state, base, ram, va, size, value);
     reply::answer(r, ans)
@@ -223,10 +218,10 @@ fn store_rest(
 ) -> u64
     requires { ⌜ size ≤ inPage va ⌝ }
     requires { ⌜ Unhinted (held (now state)) base (length (now ram)) va Write ⌝ }
-    ensures { λ r. ⌜ r ≡ codeBy (stepOf (held (now (state .entry))) base (now (ram .entry)) (Call.Store va size value) .reply) ⌝ }
-    ensures { λ r. ⌜ now (ans .exit) ≡ valueBy (stepOf (held (now (state .entry))) base (now (ram .entry)) (Call.Store va size value) .reply) (now (ans .entry)) ⌝ }
-    ensures { λ r. ⌜ now (ram .exit) ≡ ramAfter (held (now (state .entry))) base (now (ram .entry)) (Call.Store va size value) ⌝ }
-    ensures { λ r. ⌜ Moved (now (state .entry)) (now (state .exit)) (stepOf (held (now (state .entry))) base (now (ram .entry)) (Call.Store va size value) .core) ⌝ }
+    ensures { λ r. ⌜ Gives (Calls.Known (Call.Store va size value)) base (now (ram .entry)) (now (state .entry)) r
+        (now (ans .entry)) (now (ans .exit)) (now (state .exit)) ⌝ }
+    ensures { λ r. ⌜ now (ram .exit) ≡ ramAfter (held (now (state .entry))) base (now (ram .entry))
+        (Call.Store va size value) ⌝ }
 {
     let clear = memory::clear(state, base, ram.len() as u64);
     if clear {
@@ -250,10 +245,10 @@ fn store_split(
     ram: &mut [u8],
 ) -> u64
     requires { ⌜ known size ≡ true ⌝ }
-    ensures { λ r. ⌜ r ≡ codeBy (stepOf (held (now (state .entry))) base (now (ram .entry)) (Call.Store va size value) .reply) ⌝ }
-    ensures { λ r. ⌜ now (ans .exit) ≡ valueBy (stepOf (held (now (state .entry))) base (now (ram .entry)) (Call.Store va size value) .reply) (now (ans .entry)) ⌝ }
-    ensures { λ r. ⌜ now (ram .exit) ≡ ramAfter (held (now (state .entry))) base (now (ram .entry)) (Call.Store va size value) ⌝ }
-    ensures { λ r. ⌜ Moved (now (state .entry)) (now (state .exit)) (stepOf (held (now (state .entry))) base (now (ram .entry)) (Call.Store va size value) .core) ⌝ }
+    ensures { λ r. ⌜ Gives (Calls.Known (Call.Store va size value)) base (now (ram .entry)) (now (state .entry)) r
+        (now (ans .entry)) (now (ans .exit)) (now (state .exit)) ⌝ }
+    ensures { λ r. ⌜ now (ram .exit) ≡ ramAfter (held (now (state .entry))) base (now (ram .entry))
+        (Call.Store va size value) ⌝ }
 {
     let made = split::store(state, va, size, value, base, ram);
     if made {
@@ -272,10 +267,10 @@ fn store_across(
     base: u64,
     ram: &mut [u8],
 ) -> u64
-    ensures { λ r. ⌜ r ≡ codeBy (stepOf (held (now (state .entry))) base (now (ram .entry)) (Call.Store va size value) .reply) ⌝ }
-    ensures { λ r. ⌜ now (ans .exit) ≡ valueBy (stepOf (held (now (state .entry))) base (now (ram .entry)) (Call.Store va size value) .reply) (now (ans .entry)) ⌝ }
-    ensures { λ r. ⌜ now (ram .exit) ≡ ramAfter (held (now (state .entry))) base (now (ram .entry)) (Call.Store va size value) ⌝ }
-    ensures { λ r. ⌜ Moved (now (state .entry)) (now (state .exit)) (stepOf (held (now (state .entry))) base (now (ram .entry)) (Call.Store va size value) .core) ⌝ }
+    ensures { λ r. ⌜ Gives (Calls.Known (Call.Store va size value)) base (now (ram .entry)) (now (state .entry)) r
+        (now (ans .entry)) (now (ans .exit)) (now (state .exit)) ⌝ }
+    ensures { λ r. ⌜ now (ram .exit) ≡ ramAfter (held (now (state .entry))) base (now (ram .entry))
+        (Call.Store va size value) ⌝ }
 {
     match size {
         8 => store_split(state, va, 8, value, ans, base, ram),
@@ -296,10 +291,8 @@ pub extern "C" fn a72_store(
     base: u64,
     ram: &mut [u8],
 ) -> u64
-    ensures { λ r. ⌜ r ≡ codeBy (stepOf (held (now (state .entry))) base (now (ram .entry)) (Call.Store va size value) .reply) ⌝ }
-    ensures { λ r. ⌜ now (ans .exit) ≡ valueBy (stepOf (held (now (state .entry))) base (now (ram .entry)) (Call.Store va size value) .reply) (now (ans .entry)) ⌝ }
-    ensures { λ r. ⌜ now (ram .exit) ≡ ramAfter (held (now (state .entry))) base (now (ram .entry)) (Call.Store va size value) ⌝ }
-    ensures { λ r. ⌜ Moved (now (state .entry)) (now (state .exit)) (stepOf (held (now (state .entry))) base (now (ram .entry)) (Call.Store va size value) .core) ⌝ }
+    ensures { λ r. ⌜ Promise (Calls.Known (Call.Store va size value)) base (now (ram .entry)) (now (state .entry)) r
+        (now (ans .entry)) (now (ans .exit)) (now (ram .exit)) (now (state .exit)) ⌝ }
 {
     if place::in_page(va) < size {
         return store_across(state, va, size, value, ans, base, ram);

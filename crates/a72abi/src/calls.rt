@@ -1,14 +1,12 @@
 // The other calls on lent words, in place, and every call by its words.
 ghost use mathlib.Core.Path.{_≡_};
-ghost use mathlib.Core.List.{[]};
-ghost use Rattle.cpu.specs.Step.{stepOf, ramAfter};
+ghost use Rattle.cpu.specs.Step.{ramAfter};
 ghost use Rattle.cpu.specs.declared.call.Call.the-variants as Call;
 ghost use Rattle.mmu.specs.Core.{freshCore};
 ghost use Rattle.words.specs.Held.{held};
-ghost use Rattle.words.specs.Moved.{Moved};
-ghost use Rattle.a72abi.specs.Replies.{codeBy, valueBy, wordsBy};
+ghost use Rattle.a72abi.specs.declared.op.Calls.the-variants as Calls;
 ghost use Rattle.a72abi.specs.Ops.{keyOf, encodingOf, exceptionAt, abortCall, markCall, callOf};
-ghost use Rattle.a72abi.specs.Steps.{callCode, callWords, callCore, callRam, callNumber};
+ghost use Rattle.a72abi.specs.Promise.{Promise, Setting, StepPromise, Runs};
 use crate::book;
 use crate::op;
 use crate::op::Calls;
@@ -39,10 +37,8 @@ pub extern "C" fn a72_system(
     base: u64,
     ram: &mut [u8],
 ) -> u64
-    ensures { λ r. ⌜ r ≡ codeBy (stepOf (held (now (state .entry))) base (now (ram .entry)) (Call.System (encodingOf op1 crn crm op2 rt)) .reply) ⌝ }
-    ensures { λ r. ⌜ now (ans .exit) ≡ valueBy (stepOf (held (now (state .entry))) base (now (ram .entry)) (Call.System (encodingOf op1 crn crm op2 rt)) .reply) (now (ans .entry)) ⌝ }
-    ensures { λ r. ⌜ now (ram .exit) ≡ ramAfter (held (now (state .entry))) base (now (ram .entry)) (Call.System (encodingOf op1 crn crm op2 rt)) ⌝ }
-    ensures { λ r. ⌜ Moved (now (state .entry)) (now (state .exit)) (stepOf (held (now (state .entry))) base (now (ram .entry)) (Call.System (encodingOf op1 crn crm op2 rt)) .core) ⌝ }
+    ensures { λ r. ⌜ Promise (Calls.Known (Call.System (encodingOf op1 crn crm op2 rt))) base (now (ram .entry))
+        (now (state .entry)) r (now (ans .entry)) (now (ans .exit)) (now (ram .exit)) (now (state .exit)) ⌝ }
 {
     let e = Encoding {
         op1,
@@ -58,8 +54,8 @@ pub extern "C" fn a72_system(
 // A register write.
 #[no_mangle]
 pub extern "C" fn a72_register(state: &mut [u64; 5205], key: u64, value: u64) -> u64
-    ensures { λ r. ⌜ r ≡ codeBy (stepOf (held (now (state .entry))) 0 [] (Call.Register (keyOf key) value) .reply) ⌝ }
-    ensures { λ r. ⌜ Moved (now (state .entry)) (now (state .exit)) (stepOf (held (now (state .entry))) 0 [] (Call.Register (keyOf key) value) .core) ⌝ }
+    ensures { λ r. ⌜ Setting (Calls.Known (Call.Register (keyOf key) value)) (now (state .entry)) r
+        (now (state .exit)) ⌝ }
 {
     let k = op::key_of(key);
     let r = book::register(state, k, value);
@@ -68,8 +64,7 @@ pub extern "C" fn a72_register(state: &mut [u64; 5205], key: u64, value: u64) ->
 
 #[no_mangle]
 pub extern "C" fn a72_level(state: &mut [u64; 5205], level: u64) -> u64
-    ensures { λ r. ⌜ r ≡ codeBy (stepOf (held (now (state .entry))) 0 [] (Call.Level level) .reply) ⌝ }
-    ensures { λ r. ⌜ Moved (now (state .entry)) (now (state .exit)) (stepOf (held (now (state .entry))) 0 [] (Call.Level level) .core) ⌝ }
+    ensures { λ r. ⌜ Setting (Calls.Known (Call.Level level)) (now (state .entry)) r (now (state .exit)) ⌝ }
 {
     let r = book::level(state, level);
     reply::number(r)
@@ -77,8 +72,7 @@ pub extern "C" fn a72_level(state: &mut [u64; 5205], level: u64) -> u64
 
 #[no_mangle]
 pub extern "C" fn a72_general(state: &mut [u64; 5205], number: u64, value: u64) -> u64
-    ensures { λ r. ⌜ r ≡ codeBy (stepOf (held (now (state .entry))) 0 [] (Call.General number value) .reply) ⌝ }
-    ensures { λ r. ⌜ Moved (now (state .entry)) (now (state .exit)) (stepOf (held (now (state .entry))) 0 [] (Call.General number value) .core) ⌝ }
+    ensures { λ r. ⌜ Setting (Calls.Known (Call.General number value)) (now (state .entry)) r (now (state .exit)) ⌝ }
 {
     let r = book::general(state, number, value);
     reply::number(r)
@@ -87,8 +81,7 @@ pub extern "C" fn a72_general(state: &mut [u64; 5205], number: u64, value: u64) 
 // The mark, 0 or 1.
 #[no_mangle]
 pub extern "C" fn a72_mark(state: &mut [u64; 5205], mark: u64) -> u64
-    ensures { λ r. ⌜ r ≡ callNumber (markCall mark) (held (now (state .entry))) ⌝ }
-    ensures { λ r. ⌜ Moved (now (state .entry)) (now (state .exit)) (callCore (markCall mark) (held (now (state .entry))) 0 []) ⌝ }
+    ensures { λ r. ⌜ Setting (markCall mark) (now (state .entry)) r (now (state .exit)) ⌝ }
 {
     match mark {
         0 => {
@@ -99,30 +92,28 @@ pub extern "C" fn a72_mark(state: &mut [u64; 5205], mark: u64) -> u64
             let r = book::mark(state, true);
             reply::number(r)
         }
-        _ => 7,
+        _ => 64,
     }
 }
 
 // Abort entry, of an exception in four words.
 #[no_mangle]
 pub extern "C" fn a72_abort(state: &mut [u64; 5205], e: &[u64; 4]) -> u64
-    ensures { λ r. ⌜ r ≡ callNumber (abortCall (exceptionAt (now (e .entry)))) (held (now (state .entry))) ⌝ }
-    ensures { λ r. ⌜ Moved (now (state .entry)) (now (state .exit)) (callCore (abortCall (exceptionAt (now (e .entry)))) (held (now (state .entry))) 0 []) ⌝ }
+    ensures { λ r. ⌜ Setting (abortCall (exceptionAt (now (e .entry)))) (now (state .entry)) r (now (state .exit)) ⌝ }
 {
     match op::exception_of(e[0], e[1], e[2], e[3]) {
         Exceptions::Known(x) => {
             let r = book::abort(state, x);
             reply::number(r)
         }
-        Exceptions::Unknown => 7,
+        Exceptions::Unknown => 64,
     }
 }
 
 // The operation that a call is.
 fn step(state: &mut [u64; 5205], base: u64, ram: &mut [u8], call: Call) -> Reply
-    ensures { λ r. ⌜ r ≡ stepOf (held (now (state .entry))) base (now (ram .entry)) call .reply ⌝ }
+    ensures { λ r. ⌜ Runs call base (now (ram .entry)) (now (state .entry)) r (now (state .exit)) ⌝ }
     ensures { λ r. ⌜ now (ram .exit) ≡ ramAfter (held (now (state .entry))) base (now (ram .entry)) call ⌝ }
-    ensures { λ r. ⌜ Moved (now (state .entry)) (now (state .exit)) (stepOf (held (now (state .entry))) base (now (ram .entry)) call .core) ⌝ }
 {
     match call {
         Call::Translate(kind, va) => book::translation(state, base, ram, kind, va),
@@ -140,7 +131,7 @@ fn step(state: &mut [u64; 5205], base: u64, ram: &mut [u8], call: Call) -> Reply
     }
 }
 
-// The call that eight words name: 0, and its answer in four words; 7 where they name none.
+// The call that eight words name: 0, and its answer in four words; 64 where they name none.
 #[no_mangle]
 pub extern "C" fn a72_step(
     op: &[u64; 8],
@@ -149,10 +140,8 @@ pub extern "C" fn a72_step(
     ram: &mut [u8],
     ans: &mut [u64; 4],
 ) -> u64
-    ensures { λ r. ⌜ r ≡ callCode (callOf (now (op .entry))) ⌝ }
-    ensures { λ r. ⌜ now (ans .exit) ≡ callWords (callOf (now (op .entry))) (held (now (state .entry))) base (now (ram .entry)) (now (ans .entry)) ⌝ }
-    ensures { λ r. ⌜ now (ram .exit) ≡ callRam (callOf (now (op .entry))) (held (now (state .entry))) base (now (ram .entry)) ⌝ }
-    ensures { λ r. ⌜ Moved (now (state .entry)) (now (state .exit)) (callCore (callOf (now (op .entry))) (held (now (state .entry))) base (now (ram .entry))) ⌝ }
+    ensures { λ r. ⌜ StepPromise (callOf (now (op .entry))) base (now (ram .entry)) (now (state .entry)) r
+        (now (ans .entry)) (now (ans .exit)) (now (ram .exit)) (now (state .exit)) ⌝ }
 {
     match op::call_of(op) {
         Calls::Known(call) => {
@@ -161,6 +150,6 @@ pub extern "C" fn a72_step(
             *ans = words;
             0
         }
-        Calls::Unknown => 7,
+        Calls::Unknown => 64,
     }
 }

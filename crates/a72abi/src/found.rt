@@ -9,7 +9,7 @@ ghost use Rattle.mmu.specs.Place.{inPage};
 ghost use Rattle.mmu.specs.Ends.{loadEnd, storeEnd};
 ghost use Rattle.mmu.specs.declared.place.Place.the-variants.{Whole};
 ghost use Rattle.mmu.specs.declared.place.Placed.the-variants.{At};
-ghost use Rattle.cpu.specs.Step.{stepOf, ramAfter, loading, storing};
+ghost use Rattle.cpu.specs.Step.{ramAfter, loading, storing};
 ghost use Rattle.cpu.specs.declared.call.Call.the-variants as Call;
 ghost use Rattle.words.specs.Held.{held};
 ghost use Rattle.words.specs.Moved.{Moved};
@@ -17,6 +17,8 @@ ghost use Rattle.inplace.specs.Accessed.{keptLast, keptAbort};
 ghost use Rattle.inplace.specs.Found.{hintFound};
 ghost use Rattle.a72abi.specs.Replies.{codeBy, valueBy};
 ghost use Rattle.a72abi.specs.Quick.{Clear};
+ghost use Rattle.a72abi.specs.declared.op.Calls.the-variants as Calls;
+ghost use Rattle.a72abi.specs.Promise.{Gives};
 use inplace::translate;
 use tlb::access::Kind;
 use word::ram;
@@ -63,9 +65,8 @@ pub(crate) fn load(
     requires { ⌜ bytesIn width ≤ inPage va ⌝ }
     requires { ⌜ Clear (held (now state)) base (length (now ram)) ⌝ }
     requires { ⌜ hintFound (held (now state)) va Read ≡ Unknown ⌝ }
-    ensures { λ r. ⌜ r ≡ codeBy (stepOf (held (now (state .entry))) base (now (ram .entry)) (Call.Load va (bytesIn width)) .reply) ⌝ }
-    ensures { λ r. ⌜ now (ans .exit) ≡ valueBy (stepOf (held (now (state .entry))) base (now (ram .entry)) (Call.Load va (bytesIn width)) .reply) (now (ans .entry)) ⌝ }
-    ensures { λ r. ⌜ Moved (now (state .entry)) (now (state .exit)) (stepOf (held (now (state .entry))) base (now (ram .entry)) (Call.Load va (bytesIn width)) .core) ⌝ }
+    ensures { λ r. ⌜ Gives (Calls.Known (Call.Load va (bytesIn width))) base (now (ram .entry)) (now (state .entry))
+        r (now (ans .entry)) (now (ans .exit)) (now (state .exit)) ⌝ }
 {
     let mut pa: u64 = 0;
     let code = translate::find(state, va, Kind::Read, &mut pa, base, ram);
@@ -114,10 +115,10 @@ pub(crate) fn store(
     requires { ⌜ bytesIn width ≤ inPage va ⌝ }
     requires { ⌜ Clear (held (now state)) base (length (now ram)) ⌝ }
     requires { ⌜ hintFound (held (now state)) va Write ≡ Unknown ⌝ }
-    ensures { λ r. ⌜ r ≡ codeBy (stepOf (held (now (state .entry))) base (now (ram .entry)) (Call.Store va (bytesIn width) value) .reply) ⌝ }
-    ensures { λ r. ⌜ now (ans .exit) ≡ valueBy (stepOf (held (now (state .entry))) base (now (ram .entry)) (Call.Store va (bytesIn width) value) .reply) (now (ans .entry)) ⌝ }
-    ensures { λ r. ⌜ now (ram .exit) ≡ ramAfter (held (now (state .entry))) base (now (ram .entry)) (Call.Store va (bytesIn width) value) ⌝ }
-    ensures { λ r. ⌜ Moved (now (state .entry)) (now (state .exit)) (stepOf (held (now (state .entry))) base (now (ram .entry)) (Call.Store va (bytesIn width) value) .core) ⌝ }
+    ensures { λ r. ⌜ Gives (Calls.Known (Call.Store va (bytesIn width) value)) base (now (ram .entry))
+        (now (state .entry)) r (now (ans .entry)) (now (ans .exit)) (now (state .exit)) ⌝ }
+    ensures { λ r. ⌜ now (ram .exit) ≡ ramAfter (held (now (state .entry))) base (now (ram .entry))
+        (Call.Store va (bytesIn width) value) ⌝ }
 {
     let mut pa: u64 = 0;
     let code = translate::find(state, va, Kind::Write, &mut pa, base, ram);

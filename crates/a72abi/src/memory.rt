@@ -1,15 +1,12 @@
-// Memory operations on lent words, in place: what a hint answers at a glance, and all else by the book. Each gives a number: 0 and in ans
-// the address or value; 1 to 6 for the check that it misses; 7 where a code names nothing; 256 plus the status of a fault.
+// Memory operations on lent words, in place: what a hint answers at a glance, and all else by the book. Each gives a number, and in ans the
+// address or value, or the address of a data abort.
 ghost use mathlib.Core.Path.{_≡_};
-ghost use mathlib.Core.List.{[]};
-ghost use Rattle.cpu.specs.Step.{stepOf, ramAfter};
 ghost use Rattle.cpu.specs.declared.call.Call.the-variants as Call;
 ghost use Rattle.words.specs.Held.{held};
-ghost use Rattle.words.specs.Moved.{Moved};
-ghost use Rattle.a72abi.specs.Replies.{codeBy, valueBy, wordsBy};
-ghost use Rattle.word.specs.Ram.{wordAt};
-ghost use Rattle.a72abi.specs.Ops.{kindOf};
-ghost use Rattle.a72abi.specs.Quick.{clearOf, quickOf, quickFetchOf, kindCode, kindValue, kindCore};
+ghost use Rattle.a72abi.specs.declared.op.Calls.the-variants as Calls;
+ghost use Rattle.a72abi.specs.Ops.{kindOf, translateCall};
+ghost use Rattle.a72abi.specs.Quick.{clearOf, quickOf, quickFetchOf};
+ghost use Rattle.a72abi.specs.Promise.{Promise, Gives};
 use crate::book;
 use crate::op;
 use crate::op::Kinds;
@@ -77,16 +74,15 @@ fn translate_book(
     base: u64,
     ram: &[u8],
 ) -> u64
-    ensures { λ r. ⌜ r ≡ kindCode (kindOf kind) (held (now (state .entry))) base (now (ram .entry)) va ⌝ }
-    ensures { λ r. ⌜ now (ans .exit) ≡ kindValue (kindOf kind) (held (now (state .entry))) base (now (ram .entry)) va (now (ans .entry)) ⌝ }
-    ensures { λ r. ⌜ Moved (now (state .entry)) (now (state .exit)) (kindCore (kindOf kind) (held (now (state .entry))) base (now (ram .entry)) va) ⌝ }
+    ensures { λ r. ⌜ Gives (translateCall (kindOf kind) va) base (now (ram .entry)) (now (state .entry)) r
+        (now (ans .entry)) (now (ans .exit)) (now (state .exit)) ⌝ }
 {
     match op::kind_of(kind) {
         Kinds::Known(k) => {
             let r = book::translation(state, base, ram, k, va);
             reply::answer(r, ans)
         }
-        Kinds::Unknown => 7,
+        Kinds::Unknown => 64,
     }
 }
 
@@ -100,9 +96,8 @@ pub extern "C" fn a72_translate(
     base: u64,
     ram: &[u8],
 ) -> u64
-    ensures { λ r. ⌜ r ≡ kindCode (kindOf kind) (held (now (state .entry))) base (now (ram .entry)) va ⌝ }
-    ensures { λ r. ⌜ now (ans .exit) ≡ kindValue (kindOf kind) (held (now (state .entry))) base (now (ram .entry)) va (now (ans .entry)) ⌝ }
-    ensures { λ r. ⌜ Moved (now (state .entry)) (now (state .exit)) (kindCore (kindOf kind) (held (now (state .entry))) base (now (ram .entry)) va) ⌝ }
+    ensures { λ r. ⌜ Promise (translateCall (kindOf kind) va) base (now (ram .entry)) (now (state .entry)) r
+        (now (ans .entry)) (now (ans .exit)) (now (ram .entry)) (now (state .exit)) ⌝ }
 {
     let who = state::who_at(state);
     let len = ram.len() as u64;
@@ -122,7 +117,7 @@ pub extern "C" fn a72_translate(
                 Physical::Unknown => translate::find(state, va, Kind::Read, ans, base, ram),
             }
         } else {
-            7
+            64
         }
     } else {
         match kind {
@@ -134,15 +129,14 @@ pub extern "C" fn a72_translate(
                 Physical::Unknown => translate::find(state, va, Kind::Write, ans, base, ram),
             },
             4 => translate::find(state, va, Kind::Fetch, ans, base, ram),
-            _ => 7,
+            _ => 64,
         }
     }
 }
 
 fn data_book(state: &mut [u64; 5205], va: u64, ans: &mut u64, base: u64, ram: &[u8]) -> u64
-    ensures { λ r. ⌜ r ≡ codeBy (stepOf (held (now (state .entry))) base (now (ram .entry)) (Call.DataPa va) .reply) ⌝ }
-    ensures { λ r. ⌜ now (ans .exit) ≡ valueBy (stepOf (held (now (state .entry))) base (now (ram .entry)) (Call.DataPa va) .reply) (now (ans .entry)) ⌝ }
-    ensures { λ r. ⌜ Moved (now (state .entry)) (now (state .exit)) (stepOf (held (now (state .entry))) base (now (ram .entry)) (Call.DataPa va) .core) ⌝ }
+    ensures { λ r. ⌜ Gives (Calls.Known (Call.DataPa va)) base (now (ram .entry)) (now (state .entry)) r
+        (now (ans .entry)) (now (ans .exit)) (now (state .exit)) ⌝ }
 {
     let r = book::data_pa(state, base, ram, va);
     reply::answer(r, ans)
@@ -157,9 +151,8 @@ pub extern "C" fn a72_data_pa(
     base: u64,
     ram: &[u8],
 ) -> u64
-    ensures { λ r. ⌜ r ≡ codeBy (stepOf (held (now (state .entry))) base (now (ram .entry)) (Call.DataPa va) .reply) ⌝ }
-    ensures { λ r. ⌜ now (ans .exit) ≡ valueBy (stepOf (held (now (state .entry))) base (now (ram .entry)) (Call.DataPa va) .reply) (now (ans .entry)) ⌝ }
-    ensures { λ r. ⌜ Moved (now (state .entry)) (now (state .exit)) (stepOf (held (now (state .entry))) base (now (ram .entry)) (Call.DataPa va) .core) ⌝ }
+    ensures { λ r. ⌜ Promise (Calls.Known (Call.DataPa va)) base (now (ram .entry)) (now (state .entry)) r
+        (now (ans .entry)) (now (ans .exit)) (now (ram .entry)) (now (state .exit)) ⌝ }
 {
     match quick(state, va, Kind::Read, base, ram.len() as u64) {
         Physical::At(pa) => {
@@ -171,9 +164,8 @@ pub extern "C" fn a72_data_pa(
 }
 
 fn fetch_pa_book(state: &mut [u64; 5205], va: u64, ans: &mut u64, base: u64, ram: &[u8]) -> u64
-    ensures { λ r. ⌜ r ≡ codeBy (stepOf (held (now (state .entry))) base (now (ram .entry)) (Call.FetchPa va) .reply) ⌝ }
-    ensures { λ r. ⌜ now (ans .exit) ≡ valueBy (stepOf (held (now (state .entry))) base (now (ram .entry)) (Call.FetchPa va) .reply) (now (ans .entry)) ⌝ }
-    ensures { λ r. ⌜ Moved (now (state .entry)) (now (state .exit)) (stepOf (held (now (state .entry))) base (now (ram .entry)) (Call.FetchPa va) .core) ⌝ }
+    ensures { λ r. ⌜ Gives (Calls.Known (Call.FetchPa va)) base (now (ram .entry)) (now (state .entry)) r
+        (now (ans .entry)) (now (ans .exit)) (now (state .exit)) ⌝ }
 {
     let r = book::fetch_pa(state, base, ram, va);
     reply::answer(r, ans)
@@ -188,9 +180,8 @@ pub extern "C" fn a72_fetch_pa(
     base: u64,
     ram: &[u8],
 ) -> u64
-    ensures { λ r. ⌜ r ≡ codeBy (stepOf (held (now (state .entry))) base (now (ram .entry)) (Call.FetchPa va) .reply) ⌝ }
-    ensures { λ r. ⌜ now (ans .exit) ≡ valueBy (stepOf (held (now (state .entry))) base (now (ram .entry)) (Call.FetchPa va) .reply) (now (ans .entry)) ⌝ }
-    ensures { λ r. ⌜ Moved (now (state .entry)) (now (state .exit)) (stepOf (held (now (state .entry))) base (now (ram .entry)) (Call.FetchPa va) .core) ⌝ }
+    ensures { λ r. ⌜ Promise (Calls.Known (Call.FetchPa va)) base (now (ram .entry)) (now (state .entry)) r
+        (now (ans .entry)) (now (ans .exit)) (now (ram .entry)) (now (state .exit)) ⌝ }
 {
     match quick_fetch(state, va, base, ram.len() as u64) {
         Physical::At(pa) => {
@@ -202,9 +193,8 @@ pub extern "C" fn a72_fetch_pa(
 }
 
 fn fetch_book(state: &mut [u64; 5205], va: u64, ans: &mut u64, base: u64, ram: &[u8]) -> u64
-    ensures { λ r. ⌜ r ≡ codeBy (stepOf (held (now (state .entry))) base (now (ram .entry)) (Call.Fetch va) .reply) ⌝ }
-    ensures { λ r. ⌜ now (ans .exit) ≡ valueBy (stepOf (held (now (state .entry))) base (now (ram .entry)) (Call.Fetch va) .reply) (now (ans .entry)) ⌝ }
-    ensures { λ r. ⌜ Moved (now (state .entry)) (now (state .exit)) (stepOf (held (now (state .entry))) base (now (ram .entry)) (Call.Fetch va) .core) ⌝ }
+    ensures { λ r. ⌜ Gives (Calls.Known (Call.Fetch va)) base (now (ram .entry)) (now (state .entry)) r
+        (now (ans .entry)) (now (ans .exit)) (now (state .exit)) ⌝ }
 {
     let r = book::fetch(state, base, ram, va);
     reply::answer(r, ans)
@@ -219,9 +209,8 @@ pub extern "C" fn a72_fetch(
     base: u64,
     ram: &[u8],
 ) -> u64
-    ensures { λ r. ⌜ r ≡ codeBy (stepOf (held (now (state .entry))) base (now (ram .entry)) (Call.Fetch va) .reply) ⌝ }
-    ensures { λ r. ⌜ now (ans .exit) ≡ valueBy (stepOf (held (now (state .entry))) base (now (ram .entry)) (Call.Fetch va) .reply) (now (ans .entry)) ⌝ }
-    ensures { λ r. ⌜ Moved (now (state .entry)) (now (state .exit)) (stepOf (held (now (state .entry))) base (now (ram .entry)) (Call.Fetch va) .core) ⌝ }
+    ensures { λ r. ⌜ Promise (Calls.Known (Call.Fetch va)) base (now (ram .entry)) (now (state .entry)) r
+        (now (ans .entry)) (now (ans .exit)) (now (ram .entry)) (now (state .exit)) ⌝ }
 {
     match quick_fetch(state, va, base, ram.len() as u64) {
         Physical::At(pa) => match bytes::insn_at(base, ram, pa) {

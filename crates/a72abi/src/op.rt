@@ -1,6 +1,6 @@
 // A call as words.
 ghost use mathlib.Core.Path.{_≡_};
-ghost use Rattle.a72abi.specs.Ops.{kindOf, exceptionOf, keyOf, translateCall, abortCall, markCall, callOf};
+ghost use Rattle.a72abi.specs.Ops.{kindOf, dataAbortOf, insnAbortOf, callExceptionOf, exceptionOf, keyOf, translateCall, abortCall, markCall, callOf};
 use cpu::call::Call;
 use cpu::call::Encoding;
 use entry::exception::Exception;
@@ -33,29 +33,69 @@ pub fn kind_of(word: u64) -> Kinds
     }
 }
 
+fn data_abort_of(addr: u64, write: u64, fsc: u64) -> Exceptions
+    ensures { λ r. ⌜ r ≡ dataAbortOf addr write fsc ⌝ }
+{
+    if fsc < 256 {
+        let fsc = fsc as u8;
+        match write {
+            0 => Exceptions::Known(Exception::DataAbort {
+                addr,
+                write: false,
+                fsc,
+            }),
+            1 => Exceptions::Known(Exception::DataAbort {
+                addr,
+                write: true,
+                fsc,
+            }),
+            _ => Exceptions::Unknown,
+        }
+    } else {
+        Exceptions::Unknown
+    }
+}
+
+fn insn_abort_of(addr: u64, fsc: u64) -> Exceptions
+    ensures { λ r. ⌜ r ≡ insnAbortOf addr fsc ⌝ }
+{
+    if fsc < 256 {
+        let fsc = fsc as u8;
+        Exceptions::Known(Exception::InsnAbort { addr, fsc })
+    } else {
+        Exceptions::Unknown
+    }
+}
+
+// SVC, HVC, SMC or BRK, by code 1 to 4; the immediate has 16 bits.
+fn call_exception_of(code: u64, imm: u64) -> Exceptions
+    ensures { λ r. ⌜ r ≡ callExceptionOf code imm ⌝ }
+{
+    if imm < 0x1_0000 {
+        let imm = imm as u16;
+        match code {
+            1 => Exceptions::Known(Exception::Svc(imm)),
+            2 => Exceptions::Known(Exception::Hvc(imm)),
+            3 => Exceptions::Known(Exception::Smc(imm)),
+            4 => Exceptions::Known(Exception::Brk(imm)),
+            _ => Exceptions::Unknown,
+        }
+    } else {
+        Exceptions::Unknown
+    }
+}
+
 // 0 Undefined; 1 SVC, 2 HVC, 3 SMC, 4 BRK, each with its immediate; 5 data abort with address, write and status; 6 instruction abort
-// with address and status; 7 PC alignment. An immediate has 16 bits and a status 8.
+// with address and status; 7 PC alignment. Words out of range name nothing.
 pub fn exception_of(code: u64, a: u64, b: u64, c: u64) -> Exceptions
     ensures { λ r. ⌜ r ≡ exceptionOf code a b c ⌝ }
 {
-    let imm = (a % 0x1_0000) as u16;
     match code {
         0 => Exceptions::Known(Exception::Undefined),
-        1 => Exceptions::Known(Exception::Svc(imm)),
-        2 => Exceptions::Known(Exception::Hvc(imm)),
-        3 => Exceptions::Known(Exception::Smc(imm)),
-        4 => Exceptions::Known(Exception::Brk(imm)),
-        5 => Exceptions::Known(Exception::DataAbort {
-            addr: a,
-            write: b == 1,
-            fsc: (c % 256) as u8,
-        }),
-        6 => Exceptions::Known(Exception::InsnAbort {
-            addr: a,
-            fsc: (b % 256) as u8,
-        }),
+        5 => data_abort_of(a, b, c),
+        6 => insn_abort_of(a, b),
         7 => Exceptions::Known(Exception::PcAlignment),
-        _ => Exceptions::Unknown,
+        _ => call_exception_of(code, a),
     }
 }
 

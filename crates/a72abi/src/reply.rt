@@ -27,12 +27,12 @@ fn told(e: Exception, ans: &mut u64) -> u64
             256 + fsc as u64
         }
         Exception::InsnAbort { addr: _, fsc } => 256 + fsc as u64,
-        Exception::Undefined => 8,
-        Exception::Svc(_) => 8,
-        Exception::Hvc(_) => 8,
-        Exception::Smc(_) => 8,
-        Exception::Brk(_) => 8,
-        Exception::PcAlignment => 8,
+        Exception::Undefined => 65,
+        Exception::Svc(_) => 65,
+        Exception::Hvc(_) => 65,
+        Exception::Smc(_) => 65,
+        Exception::Brk(_) => 65,
+        Exception::PcAlignment => 65,
     }
 }
 
@@ -42,7 +42,7 @@ fn stopped(stop: Stop, ans: &mut u64) -> u64
 {
     match stop {
         Stop::Exception(e) => told(e, ans),
-        Stop::Unimplemented => 9,
+        Stop::Unimplemented => 66,
     }
 }
 

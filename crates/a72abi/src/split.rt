@@ -3,7 +3,7 @@ ghost use mathlib.Core.Path.{_≡_};
 ghost use mathlib.Core.Bool.{true};
 ghost use Rattle.tlb.specs.declared.access.Kind.the-variants.{Read, Write};
 ghost use Rattle.tlb.specs.declared.hint.Physical.the-variants.{At};
-ghost use Rattle.mmu.specs.Place.{inPage, nextPage};
+ghost use Rattle.mmu.specs.Place.{nextPage};
 ghost use Rattle.words.specs.Held.{held};
 ghost use Rattle.inplace.specs.Found.{hintFound};
 ghost use Rattle.a72abi.specs.Splits.{apartOf, loadBoth, madeBoth, ramBoth, splitLoad, splitMade, splitRam};

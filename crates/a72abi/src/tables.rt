@@ -1,9 +1,8 @@
-// The static library's boundary: numbers, and words that the caller lends. Bad codes get a number, and nothing is written.
+// One walk of the tables, of registers and RAM that the caller lends. A number other than 0 writes no word of the leaf.
 ghost use mathlib.Core.Path.{_≡_};
 ghost use Prim.Native.Nat.{_+_};
-ghost use lib.ListN.{length};
 ghost use Rattle.word.specs.Bits.{flag};
-ghost use Rattle.a72abi.specs.Walk.{bankAt, regimeAt, leafAfter, codeOf, walkAt, walkCode, walkWords};
+ghost use Rattle.a72abi.specs.Walk.{bankAt, regimeAt, leafAfter, walkCode, walkWords};
 use cpu::check;
 use walk::level::Leaf;
 use walk::level::Walked;

@@ -2,6 +2,7 @@
 ghost use mathlib.Core.Path.{_≡_};
 ghost use Rattle.sysreg.specs.Shape.{shape, member, asidOf};
 ghost use Rattle.sysreg.specs.Write.{wrote};
+ghost use Rattle.sysreg.specs.declared.write.WriteAnswer.the-variants as WriteAnswer;
 ghost use Rattle.tlb.specs.Tlb.{flushOf, retagOf};
 ghost use Rattle.mmu.specs.Ops.{withTlb};
 ghost use Rattle.exec.specs.Fit.{retaggedOf};
@@ -106,9 +107,11 @@ fn put_register(state: &mut [u64; 5205], register: Register, value: u64)
     }
 }
 
-// A register write. One that is not done changes nothing.
+// A register write. One that is not done writes no word.
 pub fn write_register(state: &mut [u64; 5205], key: u32, value: u64) -> WriteAnswer
-    ensures { λ r. ⌜ (r ≡ writeRegister (held (now (state .entry))) key value .answer) × Moved (now (state .entry)) (now (state .exit)) (writeRegister (held (now (state .entry))) key value .core) ⌝ }
+    ensures { λ r. ⌜ r ≡ writeRegister (held (now (state .entry))) key value .answer ⌝ }
+    ensures { λ _. ⌜ Moved (now (state .entry)) (now (state .exit)) (writeRegister (held (now (state .entry))) key value .core) ⌝ }
+    ensures { λ r. ⌜ ((r ≡ WriteAnswer.Done → ⊥) → now (state .exit) ≡ now (state .entry)) ⌝ }
 {
     match encoding::named(key) {
         Found::Nothing => WriteAnswer::NoRegister,

@@ -1,8 +1,10 @@
 // System operations in place, DC ZVA among them.
 ghost use mathlib.Core.Path.{_≡_};
+ghost use mathlib.Core.Bool.{true};
 ghost use Rattle.exec.specs.Sys.{zeroOf, zeroRam, sysOf, sysRam};
 ghost use Rattle.words.specs.Held.{held};
 ghost use Rattle.words.specs.Moved.{Moved};
+ghost use Rattle.insys.specs.Early.{earlyStop};
 use crate::system;
 use entry::exception::Exception;
 use entry::exception::Stop;
@@ -26,7 +28,7 @@ fn zero_from(state: &mut [u64; 5205], base: u64, ram: &mut [u8], va: u64, n: u64
     }
 }
 
-// A system operation of register rt.
+// A system operation of register rt. Undefined and Unimplemented write no word.
 pub fn system(
     state: &mut [u64; 5205],
     base: u64,
@@ -37,7 +39,10 @@ pub fn system(
     op2: u64,
     rt: u64,
 ) -> StoreAnswer
-    ensures { λ r. ⌜ (r ≡ sysOf (held (now (state .entry))) base (now (ram .entry)) op1 crn crm op2 rt .answer) × (Moved (now (state .entry)) (now (state .exit)) (sysOf (held (now (state .entry))) base (now (ram .entry)) op1 crn crm op2 rt .core) × (now (ram .exit) ≡ sysRam (held (now (state .entry))) base (now (ram .entry)) op1 crn crm op2 rt)) ⌝ }
+    ensures { λ r. ⌜ r ≡ sysOf (held (now (state .entry))) base (now (ram .entry)) op1 crn crm op2 rt .answer ⌝ }
+    ensures { λ _. ⌜ Moved (now (state .entry)) (now (state .exit)) (sysOf (held (now (state .entry))) base (now (ram .entry)) op1 crn crm op2 rt .core) ⌝ }
+    ensures { λ _. ⌜ now (ram .exit) ≡ sysRam (held (now (state .entry))) base (now (ram .entry)) op1 crn crm op2 rt ⌝ }
+    ensures { λ r. ⌜ (earlyStop r ≡ true → now (state .exit) ≡ now (state .entry)) ⌝ }
 {
     let x = state::general_at(state, rt);
     let who = state::who_at(state);

@@ -1,36 +1,70 @@
--- Demand 3 of calls on words. An exported function promises that the words afterwards hold the core that `stepOf` leaves of the core they held.
+-- Demand 3 of every list of exported calls. Words that `a72_fresh` made and then exported calls, each as its contract promises, hold the core
+-- after the list, so that each further call keeps demand 3.
 use mathlib.Core.Path.{_≡_, refl, ap, _∙_}
-use mathlib.Core.List.{List, [], _∷_}
+use mathlib.Core.List.{List, [], _∷_, _++_}
 use Prim.Native.Nat.{ℕ}
 use Rattle.mmu.specs.Core.{freshCore}
 use Rattle.mmu.specs.declared.core.Core.{Core}
-use Rattle.cpu.specs.Step.{stepOf, ramAfter}
+use Rattle.cpu.specs.Step.{stepOf}
 use Rattle.cpu.specs.declared.call.Call.{Call}
-use Rattle.cpu.specs.declared.call.Stepped.{Stepped}
 use Rattle.history.specs.Calls.{Lent, run}
 use Rattle.history.specs.Instance.{real}
 use Rattle.demand3.specs.Machine.{machine}
-use Rattle.demand3.specs.Replies.{outcome}
 use Rattle.demand3.specs.Beside.{coreAfter}
-use Rattle.demand3.specs.Faithful.{ramOf, Faithful, FaithfulCall, faithful-step}
+use Rattle.demand3.specs.Faithful.{ramOf}
 use Rattle.words.specs.Held.{held}
+use Rattle.words.specs.Moved.{Moved}
+use Rattle.a72abi.specs.Steps.{callCore}
+use Rattle.a72abi.specs.Promise.{FaithfulNumber, FaithfulWords, Promise, Setting, StepPromise}
+use Rattle.a72abi.specs.declared.op.Calls.{Calls}
+use Rattle.a72abi.specs.declared.op.Calls.the-variants.{Known, Unknown}
 
--- the words ys, that a list of calls made of ws, each call as it promises
-pub data Led : List ℕ → List (Lent real machine) → List ℕ → Type 0 where
-  none : {ws : List ℕ} → Led ws [] ws
-  more : {ws xs ys : List ℕ} {rest : List (Lent real machine)} (l : Lent real machine)
-      → held xs ≡ stepOf (held ws) (l .ram .base) (l .ram .bytes) (l .call) .core → Led xs rest ys → Led ws (l ∷ rest) ys
+-- a call with the RAM that stands when it begins
+abbrev pub lentOf : ℕ → List ℕ → Call → Lent real machine
+lentOf base ram x = record { ram = ramOf base ram; call = x }
 
--- they hold the core after the list
-pub led-core : {ws ys : List ℕ} {list : List (Lent real machine)} → Led ws list ys → held ys ≡ run real machine (held ws) list
-led-core none = refl
-led-core (more {ws} {xs} {ys} {rest} l e r) = led-core r ∙ ap (λ (c : Core). run real machine c rest) e
+-- what a call adds to the list; words that name none add nothing
+abbrev pub added : Calls → ℕ → List ℕ → List (Lent real machine)
+added (Known x) base ram = lentOf base ram x ∷ []
+added Unknown base ram = []
 
--- A call on words that a list of calls made of those after reset keeps demand 3: its answers are those of the core without a cache, wherever the
--- page meets the premise.
-pub demand-3-on-words : {ws ys : List ℕ} (list : List (Lent real machine)) → held ws ≡ freshCore → Led ws list ys → (base : ℕ) (bytes : List ℕ) (x : Call)
-    → Faithful list (ramOf base bytes) x (outcome (stepOf (held ys) base bytes x .reply) (ramAfter (held ys) base bytes x))
-unfolding FaithfulCall
-demand-3-on-words {ws} {ys} list fresh led base bytes x =
-    faithful-step (held ys) base bytes x (stepOf (held ys) base bytes x) (ramAfter (held ys) base bytes x) refl refl list
-    (led-core led ∙ ap (λ (c : Core). run real machine c list) fresh)
+-- the words after a list of exported calls
+pub data Made : List ℕ → List (Lent real machine) → Type 0 where
+  fresh : (ws : List ℕ) → held ws ≡ freshCore → Made ws []
+  called : (call : Calls) (base : ℕ) (ram ws : List ℕ) (n old v : ℕ) (ys xs : List ℕ) (list : List (Lent real machine))
+      → Made ws list → Promise call base ram ws n old v ys xs → Made xs (list ++ added call base ram)
+  set : (call : Calls) (base : ℕ) (ram ws : List ℕ) (n : ℕ) (xs : List ℕ) (list : List (Lent real machine))
+      → Made ws list → Setting call ws n xs → Made xs (list ++ added call base ram)
+  stepped : (call : Calls) (base : ℕ) (ram ws : List ℕ) (n : ℕ) (old v ys xs : List ℕ) (list : List (Lent real machine))
+      → Made ws list → StepPromise call base ram ws n old v ys xs → Made xs (list ++ added call base ram)
+
+run-append : (c : Core) (l k : List (Lent real machine)) → run real machine c (l ++ k) ≡ run real machine (run real machine c l) k
+run-append c [] k = refl
+run-append c (x ∷ l) k = run-append (stepOf c (x .ram .base) (x .ram .bytes) (x .call) .core) l k
+
+run-added : (call : Calls) (c : Core) (base : ℕ) (ram : List ℕ) → callCore call c base ram ≡ run real machine c (added call base ram)
+run-added (Known x) c base ram = refl
+run-added Unknown c base ram = refl
+
+-- one call more
+grown : (call : Calls) (base : ℕ) (ram ws xs : List ℕ) (list : List (Lent real machine))
+    → held ws ≡ coreAfter list → Moved ws xs (callCore call (held ws) base ram) → held xs ≡ coreAfter (list ++ added call base ram)
+grown call base ram ws xs list e m =
+    m .holds ∙ ap (λ (c : Core). callCore call c base ram) e ∙ run-added call (coreAfter list) base ram
+    ∙ (rw (run-append freshCore list (added call base ram)) refl)
+
+pub made-core : (xs : List ℕ) (list : List (Lent real machine)) → Made xs list → held xs ≡ coreAfter list
+made-core _ _ (fresh ws e) = e
+made-core _ _ (called call base ram ws n old v ys xs list m p) = grown call base ram ws xs list (made-core ws list m) (p .words)
+made-core _ _ (set call base ram ws n xs list m p) = grown call base ram ws xs list (made-core ws list m) (p .on base ram 0 .words)
+made-core _ _ (stepped call base ram ws n old v ys xs list m p) = grown call base ram ws xs list (made-core ws list m) (p .words)
+
+-- THE THEOREM: on such words each call that its contract promises keeps demand 3.
+module _ (ws : List ℕ) (list : List (Lent real machine)) (m : Made ws list) where
+  pub demand-3-on-words : (x : Call) (base : ℕ) (ram : List ℕ) (n old v : ℕ) (ys xs : List ℕ)
+      → Promise (Known x) base ram ws n old v ys xs → FaithfulNumber list (ramOf base ram) x n old v ys
+  demand-3-on-words x base ram n old v ys xs p = p .demand-3 list (made-core ws list m)
+
+  pub demand-3-step : (x : Call) (base : ℕ) (ram : List ℕ) (n : ℕ) (old v ys xs : List ℕ)
+      → StepPromise (Known x) base ram ws n old v ys xs → FaithfulWords list (ramOf base ram) x v ys
+  demand-3-step x base ram n old v ys xs p = p .demand-3 list (made-core ws list m)

@@ -1,5 +1,6 @@
 -- `a72abi::book::abort` meets its contract.
 use Rattle.a72abi.proofs.Booking.{refused-reply, refused-core, abort-reply, abort-core}
+use Rattle.a72abi.specs.Kept.{staying}
 use borrow.Author.Needs.{needs}
 use Rattle.a72abi.proofs.book.abort.Statement.{statement}
 use Rattle.a72abi.proofs.book.abort.Tie as tie
@@ -8,13 +9,13 @@ missed-requires : tie.Need-missed-requires
 missed-requires c κs = search needs
 
 returns : tie.Need-returns
-returns c = (search (refused-reply, needs), search (refused-core, needs))
+returns c = record { reply = search (refused-reply, needs); words = search (refused-core, needs); stays = search (staying, needs) }
 
 abort-requires : tie.Need-abort-requires
 abort-requires c κs = search needs
 
 returns-2 : tie.Need-returns-2
-returns-2 c = (search (abort-reply, needs), search (abort-core, needs))
+returns-2 c = record { reply = search (abort-reply, needs); words = search (abort-core, needs); stays = search (staying, needs) }
 
 pub abort-spec : {M : Type 1} → statement M
 abort-spec = tie.close (tie.spec missed-requires returns abort-requires returns-2)

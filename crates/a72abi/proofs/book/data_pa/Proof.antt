@@ -1,5 +1,6 @@
 -- `a72abi::book::data_pa` meets its contract.
 use Rattle.a72abi.proofs.Booking.{refused-reply, refused-core, data-value, data-faults, data-core}
+use Rattle.a72abi.specs.Kept.{staying}
 use borrow.Author.Needs.{needs}
 use Rattle.a72abi.proofs.book.data_pa.Statement.{statement}
 use Rattle.a72abi.proofs.book.data_pa.Tie as tie
@@ -8,7 +9,7 @@ missed-requires : tie.Need-missed-requires
 missed-requires c κs = search needs
 
 returns : tie.Need-returns
-returns c = (search (refused-reply, needs), search (refused-core, needs))
+returns c = record { reply = search (refused-reply, needs); words = search (refused-core, needs); stays = search (staying, needs) }
 
 data-pa-requires : tie.Need-data-pa-requires
 data-pa-requires c κs = search needs
@@ -20,10 +21,10 @@ enum-told : tie.Need-enum-told
 enum-told c = search needs
 
 returns-2 : tie.Need-returns-2
-returns-2 c = (search (data-value, needs), search (data-core, needs))
+returns-2 c = record { reply = search (data-value, needs); words = search (data-core, needs); stays = search (staying, needs) }
 
 returns-3 : tie.Need-returns-3
-returns-3 c = (search (data-faults, needs), search (data-core, needs))
+returns-3 c = record { reply = search (data-faults, needs); words = search (data-core, needs); stays = search (staying, needs) }
 
 pub data-pa-spec : {M : Type 1} → statement M
 data-pa-spec =

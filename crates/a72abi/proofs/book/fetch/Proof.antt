@@ -1,5 +1,6 @@
 -- `a72abi::book::fetch` meets its contract.
 use Rattle.a72abi.proofs.Booking.{refused-reply, refused-core, fetch-value, fetch-aborted, fetch-core}
+use Rattle.a72abi.specs.Kept.{staying}
 use borrow.Author.Needs.{needs}
 use Rattle.a72abi.proofs.book.fetch.Statement.{statement}
 use Rattle.a72abi.proofs.book.fetch.Tie as tie
@@ -8,7 +9,7 @@ missed-requires : tie.Need-missed-requires
 missed-requires c κs = search needs
 
 returns : tie.Need-returns
-returns c = (search (refused-reply, needs), search (refused-core, needs))
+returns c = record { reply = search (refused-reply, needs); words = search (refused-core, needs); stays = search (staying, needs) }
 
 fetch-requires : tie.Need-fetch-requires
 fetch-requires c κs = search needs
@@ -23,10 +24,10 @@ enum-known-e : tie.Need-enum-known-e
 enum-known-e c = search needs
 
 returns-2 : tie.Need-returns-2
-returns-2 c = (search (fetch-value, needs), search (fetch-core, needs))
+returns-2 c = record { reply = search (fetch-value, needs); words = search (fetch-core, needs); stays = search (staying, needs) }
 
 returns-3 : tie.Need-returns-3
-returns-3 c = (search (fetch-aborted, needs), search (fetch-core, needs))
+returns-3 c = record { reply = search (fetch-aborted, needs); words = search (fetch-core, needs); stays = search (staying, needs) }
 
 pub fetch-spec : {M : Type 1} → statement M
 fetch-spec =

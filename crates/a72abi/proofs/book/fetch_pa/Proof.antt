@@ -1,5 +1,6 @@
 -- `a72abi::book::fetch_pa` meets its contract.
 use Rattle.a72abi.proofs.Booking.{refused-reply, refused-core, fetch-pa-value, fetch-pa-faults, fetch-pa-core}
+use Rattle.a72abi.specs.Kept.{staying}
 use borrow.Author.Needs.{needs}
 use Rattle.a72abi.proofs.book.fetch_pa.Statement.{statement}
 use Rattle.a72abi.proofs.book.fetch_pa.Tie as tie
@@ -8,7 +9,7 @@ missed-requires : tie.Need-missed-requires
 missed-requires c κs = search needs
 
 returns : tie.Need-returns
-returns c = (search (refused-reply, needs), search (refused-core, needs))
+returns c = record { reply = search (refused-reply, needs); words = search (refused-core, needs); stays = search (staying, needs) }
 
 fetch-pa-requires : tie.Need-fetch-pa-requires
 fetch-pa-requires c κs = search needs
@@ -20,10 +21,10 @@ enum-told : tie.Need-enum-told
 enum-told c = search needs
 
 returns-2 : tie.Need-returns-2
-returns-2 c = (search (fetch-pa-value, needs), search (fetch-pa-core, needs))
+returns-2 c = record { reply = search (fetch-pa-value, needs); words = search (fetch-pa-core, needs); stays = search (staying, needs) }
 
 returns-3 : tie.Need-returns-3
-returns-3 c = (search (fetch-pa-faults, needs), search (fetch-pa-core, needs))
+returns-3 c = record { reply = search (fetch-pa-faults, needs); words = search (fetch-pa-core, needs); stays = search (staying, needs) }
 
 pub fetch-pa-spec : {M : Type 1} → statement M
 fetch-pa-spec =

@@ -1,5 +1,6 @@
 -- `a72abi::book::general` meets its contract.
 use Rattle.a72abi.proofs.Booking.{refused-reply, refused-core, general-reply, general-core}
+use Rattle.a72abi.specs.Kept.{staying}
 use borrow.Author.Needs.{needs}
 use Rattle.a72abi.proofs.book.general.Statement.{statement}
 use Rattle.a72abi.proofs.book.general.Tie as tie
@@ -8,13 +9,13 @@ missed-requires : tie.Need-missed-requires
 missed-requires c κs = search needs
 
 returns : tie.Need-returns
-returns c = (search (refused-reply, needs), search (refused-core, needs))
+returns c = record { reply = search (refused-reply, needs); words = search (refused-core, needs); stays = search (staying, needs) }
 
 put-general-requires : tie.Need-put-general-requires
 put-general-requires c κs = search needs
 
 returns-2 : tie.Need-returns-2
-returns-2 c = (search (general-reply, needs), search (general-core, needs))
+returns-2 c = record { reply = search (general-reply, needs); words = search (general-core, needs); stays = search (staying, needs) }
 
 pub general-spec : {M : Type 1} → statement M
 general-spec = tie.close (tie.spec missed-requires returns put-general-requires returns-2)

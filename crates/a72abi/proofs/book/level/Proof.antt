@@ -1,5 +1,6 @@
 -- `a72abi::book::level` meets its contract.
 use Rattle.a72abi.proofs.Booking.{refused-reply, refused-core, level-reply, level-core}
+use Rattle.a72abi.specs.Kept.{staying}
 use borrow.Author.Needs.{needs}
 use Rattle.a72abi.proofs.book.level.Statement.{statement}
 use Rattle.a72abi.proofs.book.level.Tie as tie
@@ -8,7 +9,7 @@ missed-requires : tie.Need-missed-requires
 missed-requires c κs = search needs
 
 returns : tie.Need-returns
-returns c = (search (refused-reply, needs), search (refused-core, needs))
+returns c = record { reply = search (refused-reply, needs); words = search (refused-core, needs); stays = search (staying, needs) }
 
 cast-put-level : tie.Need-cast-put-level
 cast-put-level c = search needs
@@ -17,7 +18,7 @@ put-level-requires : tie.Need-put-level-requires
 put-level-requires c κs = search needs
 
 returns-2 : tie.Need-returns-2
-returns-2 c = (search (level-reply, needs), search (level-core, needs))
+returns-2 c = record { reply = search (level-reply, needs); words = search (level-core, needs); stays = search (staying, needs) }
 
 pub level-spec : {M : Type 1} → statement M
 level-spec =

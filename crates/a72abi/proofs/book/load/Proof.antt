@@ -1,5 +1,6 @@
 -- `a72abi::book::load` meets its contract.
 use Rattle.a72abi.proofs.Booking.{refused-reply, refused-core, load-value, load-stopped, load-core, load-size, load-size-core}
+use Rattle.a72abi.specs.Kept.{staying}
 use borrow.Author.Needs.{needs}
 use Rattle.a72abi.proofs.book.load.Statement.{statement}
 use Rattle.a72abi.proofs.book.load.Tie as tie
@@ -8,7 +9,7 @@ missed-requires : tie.Need-missed-requires
 missed-requires c κs = search needs
 
 returns : tie.Need-returns
-returns c = (search (refused-reply, needs), search (refused-core, needs))
+returns c = record { reply = search (refused-reply, needs); words = search (refused-core, needs); stays = search (staying, needs) }
 
 width-of-requires : tie.Need-width-of-requires
 width-of-requires c κs = search needs
@@ -29,13 +30,13 @@ enum-told : tie.Need-enum-told
 enum-told c = search needs
 
 returns-2 : tie.Need-returns-2
-returns-2 c = (search (load-value, needs), search (load-core, needs))
+returns-2 c = record { reply = search (load-value, needs); words = search (load-core, needs); stays = search (staying, needs) }
 
 returns-3 : tie.Need-returns-3
-returns-3 c = (search (load-stopped, needs), search (load-core, needs))
+returns-3 c = record { reply = search (load-stopped, needs); words = search (load-core, needs); stays = search (staying, needs) }
 
 returns-4 : tie.Need-returns-4
-returns-4 c = (search (load-size, needs), search (load-size-core, needs))
+returns-4 c = record { reply = search (load-size, needs); words = search (load-size-core, needs); stays = search (staying, needs) }
 
 pub load-spec : {M : Type 1} → statement M
 load-spec =

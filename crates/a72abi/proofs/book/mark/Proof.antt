@@ -1,5 +1,6 @@
 -- `a72abi::book::mark` meets its contract.
 use Rattle.a72abi.proofs.Booking.{refused-reply, refused-core, mark-reply, mark-core}
+use Rattle.a72abi.specs.Kept.{staying}
 use borrow.Author.Needs.{needs}
 use Rattle.a72abi.proofs.book.mark.Statement.{statement}
 use Rattle.a72abi.proofs.book.mark.Tie as tie
@@ -8,13 +9,13 @@ missed-requires : tie.Need-missed-requires
 missed-requires c κs = search needs
 
 returns : tie.Need-returns
-returns c = (search (refused-reply, needs), search (refused-core, needs))
+returns c = record { reply = search (refused-reply, needs); words = search (refused-core, needs); stays = search (staying, needs) }
 
 put-mark-requires : tie.Need-put-mark-requires
 put-mark-requires c κs = search needs
 
 returns-2 : tie.Need-returns-2
-returns-2 c = (search (mark-reply, needs), search (mark-core, needs))
+returns-2 c = record { reply = search (mark-reply, needs); words = search (mark-core, needs); stays = search (staying, needs) }
 
 pub mark-spec : {M : Type 1} → statement M
 mark-spec = tie.close (tie.spec missed-requires returns put-mark-requires returns-2)

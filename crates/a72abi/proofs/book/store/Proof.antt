@@ -1,5 +1,6 @@
 -- `a72abi::book::store` meets its contract.
 use Rattle.a72abi.proofs.Booking.{refused-reply, refused-ram, refused-core, store-reply, store-ram, store-core, store-size, store-size-ram, store-size-core}
+use Rattle.a72abi.specs.Kept.{staying}
 use borrow.Author.Needs.{needs}
 use Rattle.a72abi.proofs.book.store.Statement.{statement}
 use Rattle.a72abi.proofs.book.store.Tie as tie
@@ -8,7 +9,7 @@ missed-requires : tie.Need-missed-requires
 missed-requires c κs = search needs
 
 returns : tie.Need-returns
-returns c = (search (refused-reply, needs), (search (refused-ram, needs), search (refused-core, needs)))
+returns c = (record { reply = search (refused-reply, needs); words = search (refused-core, needs); stays = search (staying, needs) }, search (refused-ram, needs))
 
 width-of-requires : tie.Need-width-of-requires
 width-of-requires c κs = search needs
@@ -29,10 +30,10 @@ same-length : tie.Need-same-length
 same-length c = search needs
 
 returns-2 : tie.Need-returns-2
-returns-2 c = (search (store-reply, needs), (search (store-ram, needs), search (store-core, needs)))
+returns-2 c = (record { reply = search (store-reply, needs); words = search (store-core, needs); stays = search (staying, needs) }, search (store-ram, needs))
 
 returns-3 : tie.Need-returns-3
-returns-3 c = (search (store-size, needs), (search (store-size-ram, needs), search (store-size-core, needs)))
+returns-3 c = (record { reply = search (store-size, needs); words = search (store-size-core, needs); stays = search (staying, needs) }, search (store-size-ram, needs))
 
 pub store-spec : {M : Type 1} → statement M
 store-spec =

@@ -1,5 +1,6 @@
 -- `a72abi::book::system` meets its contract.
 use Rattle.a72abi.proofs.Booking.{refused-reply, refused-ram, refused-core, system-reply, system-ram, system-core}
+use Rattle.a72abi.specs.Kept.{staying}
 use borrow.Author.Needs.{needs}
 use Rattle.a72abi.proofs.book.system.Statement.{statement}
 use Rattle.a72abi.proofs.book.system.Tie as tie
@@ -8,7 +9,7 @@ missed-requires : tie.Need-missed-requires
 missed-requires c κs = search needs
 
 returns : tie.Need-returns
-returns c = (search (refused-reply, needs), (search (refused-ram, needs), search (refused-core, needs)))
+returns c = (record { reply = search (refused-reply, needs); words = search (refused-core, needs); stays = search (staying, needs) }, search (refused-ram, needs))
 
 system-requires : tie.Need-system-requires
 system-requires c κs = search needs
@@ -20,7 +21,7 @@ same-length : tie.Need-same-length
 same-length c = search needs
 
 returns-2 : tie.Need-returns-2
-returns-2 c = (search (system-reply, needs), (search (system-ram, needs), search (system-core, needs)))
+returns-2 c = (record { reply = search (system-reply, needs); words = search (system-core, needs); stays = search (staying, needs) }, search (system-ram, needs))
 
 pub system-spec : {M : Type 1} → statement M
 system-spec =

@@ -1,5 +1,6 @@
 -- `a72abi::book::translation` meets its contract.
 use Rattle.a72abi.proofs.Booking.{refused-reply, refused-core, translate-value, translate-fault, translate-core}
+use Rattle.a72abi.specs.Kept.{staying}
 use borrow.Author.Needs.{needs}
 use Rattle.a72abi.proofs.book.translation.Statement.{statement}
 use Rattle.a72abi.proofs.book.translation.Tie as tie
@@ -8,7 +9,7 @@ missed-requires : tie.Need-missed-requires
 missed-requires c κs = search needs
 
 returns : tie.Need-returns
-returns c = (search (refused-reply, needs), search (refused-core, needs))
+returns c = record { reply = search (refused-reply, needs); words = search (refused-core, needs); stays = search (staying, needs) }
 
 translate-requires : tie.Need-translate-requires
 translate-requires c κs = search needs
@@ -20,10 +21,10 @@ enum-known-fsc : tie.Need-enum-known-fsc
 enum-known-fsc c = search needs
 
 returns-2 : tie.Need-returns-2
-returns-2 c = (search (translate-value, needs), search (translate-core, needs))
+returns-2 c = record { reply = search (translate-value, needs); words = search (translate-core, needs); stays = search (staying, needs) }
 
 returns-3 : tie.Need-returns-3
-returns-3 c = (search (translate-fault, needs), search (translate-core, needs))
+returns-3 c = record { reply = search (translate-fault, needs); words = search (translate-core, needs); stays = search (staying, needs) }
 
 pub translation-spec : {M : Type 1} → statement M
 translation-spec =

@@ -1,5 +1,6 @@
 -- `a72abi::bytes::load_across` meets its contract.
 use Rattle.a72abi.proofs.Splitting.{same-load-code, same-load-value, same-load-core}
+use Rattle.a72abi.specs.Kept.{keeping}
 use borrow.Author.Needs.{needs}
 use Rattle.a72abi.proofs.bytes.load_across.Statement.{statement}
 use Rattle.a72abi.proofs.bytes.load_across.Tie as tie
@@ -17,13 +18,13 @@ load-book-requires : tie.Need-load-book-requires
 load-book-requires c κs = search needs
 
 returns : tie.Need-returns
-returns c = (search (same-load-code, needs), (search (same-load-value, needs), search (same-load-core, needs)))
+returns c = record { code = search (same-load-code, needs); value = search (same-load-value, needs); words = search (same-load-core, needs); kept = search (keeping, needs) }
 
 returns-2 : tie.Need-returns-2
-returns-2 c = (search (same-load-code, needs), (search (same-load-value, needs), search (same-load-core, needs)))
+returns-2 c = record { code = search (same-load-code, needs); value = search (same-load-value, needs); words = search (same-load-core, needs); kept = search (keeping, needs) }
 
 returns-3 : tie.Need-returns-3
-returns-3 c = (search (same-load-code, needs), (search (same-load-value, needs), search (same-load-core, needs)))
+returns-3 c = record { code = search (same-load-code, needs); value = search (same-load-value, needs); words = search (same-load-core, needs); kept = search (keeping, needs) }
 
 returns-4 : tie.Need-returns-4
 returns-4 c = search needs

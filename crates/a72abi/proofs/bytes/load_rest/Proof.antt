@@ -1,6 +1,7 @@
 -- `a72abi::bytes::load_rest` meets its contract.
 use Rattle.a72abi.proofs.Founding.{near-width, rest-clear, rest-hint, width-size}
 use Rattle.a72abi.proofs.Splitting.{same-load-code, same-load-value, same-load-core}
+use Rattle.a72abi.specs.Kept.{keeping}
 use borrow.Author.Needs.{needs}
 use Rattle.a72abi.proofs.bytes.load_rest.Statement.{statement}
 use Rattle.a72abi.proofs.bytes.load_rest.Tie as tie
@@ -27,7 +28,7 @@ load-book-requires-2 : tie.Need-load-book-requires-2
 load-book-requires-2 c κs = search needs
 
 returns : tie.Need-returns
-returns c = (search (same-load-code, width-size, needs), (search (same-load-value, width-size, needs), search (same-load-core, width-size, needs)))
+returns c = record { code = search (same-load-code, width-size, needs); value = search (same-load-value, width-size, needs); words = search (same-load-core, width-size, needs); kept = search (keeping, needs) }
 
 returns-2 : tie.Need-returns-2
 returns-2 c = search needs

@@ -1,5 +1,6 @@
 -- `a72abi::bytes::load_split` meets its contract.
 use Rattle.a72abi.proofs.Splitting.{split-code, split-value, split-core}
+use Rattle.a72abi.specs.Kept.{keeping}
 use borrow.Author.Needs.{needs}
 use Rattle.a72abi.proofs.bytes.load_split.Statement.{statement}
 use Rattle.a72abi.proofs.bytes.load_split.Tie as tie
@@ -20,7 +21,7 @@ load-book-requires : tie.Need-load-book-requires
 load-book-requires c κs = search needs
 
 returns : tie.Need-returns
-returns c = (search (split-code, needs), (search (split-value, needs), search (split-core, needs)))
+returns c = record { code = search (split-code, needs); value = search (split-value, needs); words = search (split-core, needs); kept = search (keeping, needs) }
 
 returns-2 : tie.Need-returns-2
 returns-2 c = search needs

@@ -1,6 +1,7 @@
 -- `a72abi::bytes::store_rest` meets its contract.
 use Rattle.a72abi.proofs.Founding.{near-width, rest-clear, rest-hint, width-size}
 use Rattle.a72abi.proofs.Splitting.{same-store-code, same-store-value, same-store-ram, same-store-core}
+use Rattle.a72abi.specs.Kept.{keeping}
 use borrow.Author.Needs.{needs}
 use Rattle.a72abi.proofs.bytes.store_rest.Statement.{statement}
 use Rattle.a72abi.proofs.bytes.store_rest.Tie as tie
@@ -30,7 +31,7 @@ same-length : tie.Need-same-length
 same-length c = search needs
 
 returns : tie.Need-returns
-returns c = (search (same-store-code, width-size, needs), (search (same-store-value, width-size, needs), (search (same-store-ram, width-size, needs), search (same-store-core, width-size, needs))))
+returns c = (record { code = search (same-store-code, width-size, needs); value = search (same-store-value, width-size, needs); words = search (same-store-core, width-size, needs); kept = search (keeping, needs) }, search (same-store-ram, width-size, needs))
 
 same-length-2 : tie.Need-same-length-2
 same-length-2 c = search needs

@@ -1,5 +1,6 @@
 -- `a72abi::bytes::store_split` meets its contract.
 use Rattle.a72abi.proofs.Splitting.{put-code, put-value, put-ram, put-core, unput-code, unput-value, unput-ram, unput-core}
+use Rattle.a72abi.specs.Kept.{keeping}
 use borrow.Author.Needs.{needs}
 use Rattle.a72abi.proofs.bytes.store_split.Statement.{statement}
 use Rattle.a72abi.proofs.bytes.store_split.Tie as tie
@@ -14,13 +15,13 @@ same-length : tie.Need-same-length
 same-length c = search needs
 
 returns : tie.Need-returns
-returns c = (search (put-code, needs), (search (put-value, needs), (search (put-ram, needs), search (put-core, needs))))
+returns c = (record { code = search (put-code, needs); value = search (put-value, needs); words = search (put-core, needs); kept = search (keeping, needs) }, search (put-ram, needs))
 
 same-length-2 : tie.Need-same-length-2
 same-length-2 c = search needs
 
 returns-2 : tie.Need-returns-2
-returns-2 c = (search (unput-code, needs), (search (unput-value, needs), (search (unput-ram, needs), search (unput-core, needs))))
+returns-2 c = (record { code = search (unput-code, needs); value = search (unput-value, needs); words = search (unput-core, needs); kept = search (keeping, needs) }, search (unput-ram, needs))
 
 pub store-split-spec : {M : Type 1} → statement M
 store-split-spec =

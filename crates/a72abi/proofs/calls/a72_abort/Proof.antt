@@ -1,5 +1,6 @@
 -- `a72abi::calls::a72_abort` meets its contract.
-use Rattle.a72abi.proofs.Stepping.{bare-number, bare-core, none-number, none-core, abort-known, abort-none}
+use Rattle.a72abi.proofs.Stepping.{abort-known, abort-none}
+use Rattle.a72abi.specs.PromiseLaws.{set-abort, set-unnamed}
 use borrow.Author.Needs.{needs}
 use Rattle.a72abi.proofs.calls.a72_abort.Statement.{statement}
 use Rattle.a72abi.proofs.calls.a72_abort.Tie as tie
@@ -32,10 +33,10 @@ enum-told : tie.Need-enum-told
 enum-told c = search needs
 
 returns : tie.Need-returns
-returns c = (search (bare-number, abort-known, needs), search (bare-core, abort-known, needs))
+returns c = search (set-abort, abort-known, needs)
 
 returns-2 : tie.Need-returns-2
-returns-2 c = (search (none-number, abort-none, needs), search (none-core, abort-none, needs))
+returns-2 c = search (set-unnamed, abort-none, needs)
 
 pub a72-abort-spec : {M : Type 1} → statement M
 a72-abort-spec =

@@ -1,5 +1,6 @@
 -- `a72abi::calls::a72_mark` meets its contract.
-use Rattle.a72abi.proofs.Stepping.{bare-number, bare-core, none-number, none-core, mark-0, mark-1, mark-none}
+use Rattle.a72abi.proofs.Stepping.{mark-0, mark-1, mark-none}
+use Rattle.a72abi.specs.PromiseLaws.{set-mark, set-unnamed}
 use borrow.Author.Needs.{needs}
 use Rattle.a72abi.proofs.calls.a72_mark.Statement.{statement}
 use Rattle.a72abi.proofs.calls.a72_mark.Tie as tie
@@ -17,13 +18,13 @@ number-requires-2 : tie.Need-number-requires-2
 number-requires-2 c κs = search needs
 
 returns : tie.Need-returns
-returns c = (search (bare-number, mark-0, needs), search (bare-core, mark-0, needs))
+returns c = search (set-mark, mark-0, needs)
 
 returns-2 : tie.Need-returns-2
-returns-2 c = (search (bare-number, mark-1, needs), search (bare-core, mark-1, needs))
+returns-2 c = search (set-mark, mark-1, needs)
 
 returns-3 : tie.Need-returns-3
-returns-3 c = (search (none-number, mark-none, needs), search (none-core, mark-none, needs))
+returns-3 c = search (set-unnamed, mark-none, needs)
 
 pub a72-mark-spec : {M : Type 1} → statement M
 a72-mark-spec =

@@ -1,5 +1,5 @@
 -- `a72abi::calls::a72_step` meets its contract.
-use Rattle.a72abi.proofs.Stepping.{known-code, known-words, known-ram, known-core, unknown-code, unknown-words, unknown-ram, unknown-core}
+use Rattle.a72abi.specs.PromiseLaws.{step-known, step-unknown}
 use borrow.Author.Needs.{needs}
 use Rattle.a72abi.proofs.calls.a72_step.Statement.{statement}
 use Rattle.a72abi.proofs.calls.a72_step.Tie as tie
@@ -23,10 +23,10 @@ same-length : tie.Need-same-length
 same-length c = search needs
 
 returns : tie.Need-returns
-returns c = (search (known-code, needs), (search (known-words, needs), (search (known-ram, needs), search (known-core, needs))))
+returns c = search (step-known, needs)
 
 returns-2 : tie.Need-returns-2
-returns-2 c = (search (unknown-code, needs), (search (unknown-words, needs), (search (unknown-ram, needs), search (unknown-core, needs))))
+returns-2 c = search (step-unknown, needs)
 
 pub a72-step-spec : {M : Type 1} → statement M
 a72-step-spec =

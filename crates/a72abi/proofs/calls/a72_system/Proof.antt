@@ -1,5 +1,7 @@
 -- `a72abi::calls::a72_system` meets its contract.
 use Rattle.a72abi.proofs.Glancing.{told-code, told-value}
+use Rattle.a72abi.specs.PromiseLaws.{promise}
+use Rattle.a72abi.specs.Kept.{keeping}
 use borrow.Author.Needs.{needs}
 use Rattle.a72abi.proofs.calls.a72_system.Statement.{statement}
 use Rattle.a72abi.proofs.calls.a72_system.Tie as tie
@@ -14,7 +16,7 @@ same-length : tie.Need-same-length
 same-length c = search needs
 
 returns : tie.Need-returns
-returns c = (search (told-code, needs), (search (told-value, needs), (search needs, search needs)))
+returns c = promise _ _ _ _ _ _ _ _ _ (record { code = search (told-code, needs); value = search (told-value, needs); words = search needs; kept = search (keeping, needs) }) (search needs)
 
 pub a72-system-spec : {M : Type 1} → statement M
 a72-system-spec = tie.close (tie.spec system-requires answer-requires same-length returns)

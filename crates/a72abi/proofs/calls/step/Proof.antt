@@ -80,58 +80,58 @@ same-length : tie.Need-same-length
 same-length c = search needs
 
 returns : tie.Need-returns
-returns c = (search (replies, needs), (search (rams, needs), search (cores, needs)))
+returns c = (record { reply = search (replies, needs); words = search (cores, needs); stays = search needs }, search (rams, needs))
 
 same-length-2 : tie.Need-same-length-2
 same-length-2 c = search needs
 
 returns-2 : tie.Need-returns-2
-returns-2 c = (search (replies, needs), (search (rams, needs), search (cores, needs)))
+returns-2 c = (record { reply = search (replies, needs); words = search (cores, needs); stays = search needs }, search (rams, needs))
 
 same-length-3 : tie.Need-same-length-3
 same-length-3 c = search needs
 
 returns-3 : tie.Need-returns-3
-returns-3 c = (search (replies, needs), (search (rams, needs), search (cores, needs)))
+returns-3 c = (record { reply = search (replies, needs); words = search (cores, needs); stays = search needs }, search (rams, needs))
 
 same-length-4 : tie.Need-same-length-4
 same-length-4 c = search needs
 
 returns-4 : tie.Need-returns-4
-returns-4 c = (search (replies, needs), (search (rams, needs), search (cores, needs)))
+returns-4 c = (record { reply = search (replies, needs); words = search (cores, needs); stays = search needs }, search (rams, needs))
 
 same-length-5 : tie.Need-same-length-5
 same-length-5 c = search needs
 
 returns-5 : tie.Need-returns-5
-returns-5 c = (search (replies, needs), (search (rams, needs), search (cores, needs)))
+returns-5 c = (record { reply = search (replies, needs); words = search (cores, needs); stays = search needs }, search (rams, needs))
 
 same-length-6 : tie.Need-same-length-6
 same-length-6 c = search needs
 
 returns-6 : tie.Need-returns-6
-returns-6 c = (search (replies, needs), (search (rams, needs), search (cores, needs)))
+returns-6 c = (record { reply = search (replies, needs); words = search (cores, needs); stays = search needs }, search (rams, needs))
 
 same-length-7 : tie.Need-same-length-7
 same-length-7 c = search needs
 
 returns-7 : tie.Need-returns-7
-returns-7 c = (search (replies, needs), (search (rams, needs), search (cores, needs)))
+returns-7 c = (record { reply = search (replies, needs); words = search (cores, needs); stays = search needs }, search (rams, needs))
 
 returns-8 : tie.Need-returns-8
-returns-8 c = (search (replies, needs), (search (rams, needs), search (cores, needs)))
+returns-8 c = (record { reply = search (replies, needs); words = search (cores, needs); stays = search needs }, search (rams, needs))
 
 returns-9 : tie.Need-returns-9
-returns-9 c = (search (replies, needs), (search (rams, needs), search (cores, needs)))
+returns-9 c = (record { reply = search (replies, needs); words = search (cores, needs); stays = search needs }, search (rams, needs))
 
 returns-10 : tie.Need-returns-10
-returns-10 c = (search (replies, needs), (search (rams, needs), search (cores, needs)))
+returns-10 c = (record { reply = search (replies, needs); words = search (cores, needs); stays = search needs }, search (rams, needs))
 
 returns-11 : tie.Need-returns-11
-returns-11 c = (search (replies, needs), (search (rams, needs), search (cores, needs)))
+returns-11 c = (record { reply = search (replies, needs); words = search (cores, needs); stays = search needs }, search (rams, needs))
 
 returns-12 : tie.Need-returns-12
-returns-12 c = (search (replies, needs), (search (rams, needs), search (cores, needs)))
+returns-12 c = (record { reply = search (replies, needs); words = search (cores, needs); stays = search needs }, search (rams, needs))
 
 pub step-spec : {M : Type 1} → statement M
 step-spec =

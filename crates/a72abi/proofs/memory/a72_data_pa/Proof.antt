@@ -1,5 +1,8 @@
 -- `a72abi::memory::a72_data_pa` meets its contract.
 use Rattle.a72abi.proofs.Glancing.{data-code, data-value, data-core}
+use mathlib.Core.Path.{refl}
+use Rattle.a72abi.specs.PromiseLaws.{promise-quiet}
+use Rattle.a72abi.specs.Kept.{keeping}
 use borrow.Author.Needs.{needs}
 use Rattle.a72abi.proofs.memory.a72_data_pa.Statement.{statement}
 use Rattle.a72abi.proofs.memory.a72_data_pa.Tie as tie
@@ -17,10 +20,10 @@ data-book-requires : tie.Need-data-book-requires
 data-book-requires c κs = search needs
 
 returns : tie.Need-returns
-returns c = (search (data-code, needs), (search (data-value, needs), search (data-core, needs)))
+returns c = promise-quiet _ _ _ _ _ _ _ _ refl (record { code = search (data-code, needs); value = search (data-value, needs); words = search (data-core, needs); kept = search (keeping, needs) })
 
 returns-2 : tie.Need-returns-2
-returns-2 c = (search needs, (search needs, search needs))
+returns-2 c = promise-quiet _ _ _ _ _ _ _ _ refl (search needs)
 
 pub a72-data-pa-spec : {M : Type 1} → statement M
 a72-data-pa-spec =

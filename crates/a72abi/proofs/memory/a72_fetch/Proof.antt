@@ -1,5 +1,8 @@
 -- `a72abi::memory::a72_fetch` meets its contract.
 use Rattle.a72abi.proofs.Glancing.{fetch-code, fetch-value, fetch-core}
+use mathlib.Core.Path.{refl}
+use Rattle.a72abi.specs.PromiseLaws.{promise-quiet}
+use Rattle.a72abi.specs.Kept.{keeping}
 use borrow.Author.Needs.{needs}
 use Rattle.a72abi.proofs.memory.a72_fetch.Statement.{statement}
 use Rattle.a72abi.proofs.memory.a72_fetch.Tie as tie
@@ -32,13 +35,13 @@ fetch-book-requires-2 : tie.Need-fetch-book-requires-2
 fetch-book-requires-2 c κs = search needs
 
 returns : tie.Need-returns
-returns c = (search (fetch-code, needs), (search (fetch-value, needs), search (fetch-core, needs)))
+returns c = promise-quiet _ _ _ _ _ _ _ _ refl (record { code = search (fetch-code, needs); value = search (fetch-value, needs); words = search (fetch-core, needs); kept = search (keeping, needs) })
 
 returns-2 : tie.Need-returns-2
-returns-2 c = (search needs, (search needs, search needs))
+returns-2 c = promise-quiet _ _ _ _ _ _ _ _ refl (search needs)
 
 returns-3 : tie.Need-returns-3
-returns-3 c = (search needs, (search needs, search needs))
+returns-3 c = promise-quiet _ _ _ _ _ _ _ _ refl (search needs)
 
 pub a72-fetch-spec : {M : Type 1} → statement M
 a72-fetch-spec =

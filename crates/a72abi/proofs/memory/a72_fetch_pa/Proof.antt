@@ -1,5 +1,8 @@
 -- `a72abi::memory::a72_fetch_pa` meets its contract.
 use Rattle.a72abi.proofs.Glancing.{fetch-pa-code, fetch-pa-value, fetch-pa-core}
+use mathlib.Core.Path.{refl}
+use Rattle.a72abi.specs.PromiseLaws.{promise-quiet}
+use Rattle.a72abi.specs.Kept.{keeping}
 use borrow.Author.Needs.{needs}
 use Rattle.a72abi.proofs.memory.a72_fetch_pa.Statement.{statement}
 use Rattle.a72abi.proofs.memory.a72_fetch_pa.Tie as tie
@@ -17,10 +20,10 @@ fetch-pa-book-requires : tie.Need-fetch-pa-book-requires
 fetch-pa-book-requires c κs = search needs
 
 returns : tie.Need-returns
-returns c = (search (fetch-pa-code, needs), (search (fetch-pa-value, needs), search (fetch-pa-core, needs)))
+returns c = promise-quiet _ _ _ _ _ _ _ _ refl (record { code = search (fetch-pa-code, needs); value = search (fetch-pa-value, needs); words = search (fetch-pa-core, needs); kept = search (keeping, needs) })
 
 returns-2 : tie.Need-returns-2
-returns-2 c = (search needs, (search needs, search needs))
+returns-2 c = promise-quiet _ _ _ _ _ _ _ _ refl (search needs)
 
 pub a72-fetch-pa-spec : {M : Type 1} → statement M
 a72-fetch-pa-spec =

@@ -1,5 +1,6 @@
 -- `a72abi::memory::translate_book` meets its contract.
 use Rattle.a72abi.proofs.Glancing.{book-code, book-value, book-core, book-none-code, book-none-value, book-none-core}
+use Rattle.a72abi.specs.Kept.{keeping}
 use borrow.Author.Needs.{needs}
 use Rattle.a72abi.proofs.memory.translate_book.Statement.{statement}
 use Rattle.a72abi.proofs.memory.translate_book.Tie as tie
@@ -20,10 +21,10 @@ enum-told : tie.Need-enum-told
 enum-told c = search needs
 
 returns : tie.Need-returns
-returns c = (search (book-code, needs), (search (book-value, needs), search (book-core, needs)))
+returns c = record { code = search (book-code, needs); value = search (book-value, needs); words = search (book-core, needs); kept = search (keeping, needs) }
 
 returns-2 : tie.Need-returns-2
-returns-2 c = (search (book-none-code, needs), (search (book-none-value, needs), search (book-none-core, needs)))
+returns-2 c = record { code = search (book-none-code, needs); value = search (book-none-value, needs); words = search (book-none-core, needs); kept = search (keeping, needs) }
 
 pub translate-book-spec : {M : Type 1} → statement M
 translate-book-spec =

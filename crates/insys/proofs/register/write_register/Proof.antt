@@ -1,5 +1,6 @@
 -- `insys::register::write_register` meets its contract.
 use Rattle.insys.proofs.Registers.{none-answer, none-core, low-answer, low-core, done-answer, done-core}
+use mathlib.Core.Path.{refl}
 use borrow.Author.Needs.{needs}
 use Rattle.insys.proofs.register.write_register.Statement.{statement}
 use Rattle.insys.proofs.register.write_register.Tie as tie
@@ -17,16 +18,16 @@ who-at-requires : tie.Need-who-at-requires
 who-at-requires c κs = search needs
 
 returns : tie.Need-returns
-returns c = (search (low-answer, needs), search (low-core, needs))
+returns c = (search (low-answer, needs), (search (low-core, needs), λ h. refl))
 
 put-register-requires : tie.Need-put-register-requires
 put-register-requires c κs = search needs
 
 returns-2 : tie.Need-returns-2
-returns-2 c = (search (none-answer, needs), search (none-core, needs))
+returns-2 c = (search (none-answer, needs), (search (none-core, needs), λ h. refl))
 
 returns-3 : tie.Need-returns-3
-returns-3 c = (search (done-answer, needs), search (done-core, needs))
+returns-3 c = (search (done-answer, needs), (search (done-core, needs), λ h. absurd (h refl)))
 
 pub write-register-spec : {M : Type 1} → statement M
 write-register-spec =

@@ -1,5 +1,7 @@
 -- `insys::zero::system` meets its contract.
 use Rattle.insys.proofs.Zeroes.{at-answer, at-core, at-ram, tlbi-answer, tlbi-core, tlbi-ram, zva-answer, zva-core, zva-ram, nothing-answer, nothing-core, nothing-ram, undefined-answer, undefined-core, undefined-ram, unimplemented-answer, unimplemented-core, unimplemented-ram}
+use mathlib.Core.Path.{refl}
+use Rattle.insys.specs.Early.{never, late-zero}
 use borrow.Author.Needs.{needs}
 use Rattle.insys.proofs.zero.system.Statement.{statement}
 use Rattle.insys.proofs.zero.system.Tie as tie
@@ -47,25 +49,25 @@ same-length : tie.Need-same-length
 same-length c = search needs
 
 returns : tie.Need-returns
-returns c = (search (at-answer, needs), (search (at-core, needs), search (at-ram, needs)))
+returns c = (search (at-answer, needs), (search (at-core, needs), (search (at-ram, needs), λ e. never e)))
 
 returns-2 : tie.Need-returns-2
-returns-2 c = (search (tlbi-answer, needs), (search (tlbi-core, needs), search (tlbi-ram, needs)))
+returns-2 c = (search (tlbi-answer, needs), (search (tlbi-core, needs), (search (tlbi-ram, needs), λ e. never e)))
 
 same-length-2 : tie.Need-same-length-2
 same-length-2 c = search needs
 
 returns-3 : tie.Need-returns-3
-returns-3 c = (search (zva-answer, needs), (search (zva-core, needs), search (zva-ram, needs)))
+returns-3 c = (search (zva-answer, needs), (search (zva-core, needs), (search (zva-ram, needs), λ e. search (late-zero, needs))))
 
 returns-4 : tie.Need-returns-4
-returns-4 c = (search (nothing-answer, needs), (search (nothing-core, needs), search (nothing-ram, needs)))
+returns-4 c = (search (nothing-answer, needs), (search (nothing-core, needs), (search (nothing-ram, needs), λ e. never e)))
 
 returns-5 : tie.Need-returns-5
-returns-5 c = (search (undefined-answer, needs), (search (undefined-core, needs), search (undefined-ram, needs)))
+returns-5 c = (search (undefined-answer, needs), (search (undefined-core, needs), (search (undefined-ram, needs), λ e. refl)))
 
 returns-6 : tie.Need-returns-6
-returns-6 c = (search (unimplemented-answer, needs), (search (unimplemented-core, needs), search (unimplemented-ram, needs)))
+returns-6 c = (search (unimplemented-answer, needs), (search (unimplemented-core, needs), (search (unimplemented-ram, needs), λ e. refl)))
 
 pub system-spec : {M : Type 1} → statement M
 system-spec =

@@ -1,0 +1,17 @@
+-- `a72abi::op::insn_abort_of` meets its contract.
+use Rattle.a72abi.proofs.Naming.{insn-fits, insn-wide}
+use borrow.Author.Needs.{needs}
+use Rattle.a72abi.proofs.op.insn_abort_of.Statement.{statement}
+use Rattle.a72abi.proofs.op.insn_abort_of.Tie as tie
+
+cast-fsc : tie.Need-cast-fsc
+cast-fsc c = search needs
+
+returns : tie.Need-returns
+returns c = search (insn-fits, insn-wide, needs)
+
+returns-2 : tie.Need-returns-2
+returns-2 c = search (insn-fits, insn-wide, needs)
+
+pub insn-abort-of-spec : {M : Type 1} → statement M
+insn-abort-of-spec = tie.close (tie.spec cast-fsc returns returns-2)

@@ -1,0 +1,205 @@
+-- Where a call writes no word.
+use mathlib.Core.Path.{_≡_, refl, sym, ap, _∙_}
+use mathlib.Core.Bool.{Bool, true, false}
+use mathlib.Core.List.{List}
+use Prim.Native.Nat.{ℕ, _<_}
+use native.Mathlib.Omega.{arith}
+use Rattle.word.specs.Ram.{wordAt}
+use Rattle.entry.specs.declared.exception.Exception.{Exception}
+use Rattle.entry.specs.declared.exception.Exception.the-variants as Exception
+use Rattle.entry.specs.declared.exception.Stop.{Stop}
+use Rattle.entry.specs.declared.exception.Stop.the-variants as Stop
+use Rattle.sysreg.specs.declared.write.WriteAnswer.{WriteAnswer}
+use Rattle.sysreg.specs.declared.write.WriteAnswer.the-variants as Written
+use Rattle.tlb.specs.declared.access.Kind.the-variants as Kind
+use Rattle.tlb.specs.declared.access.Answer.{Answer}
+use Rattle.tlb.specs.declared.access.Answer.the-variants.{Address, Status}
+use Rattle.mmu.specs.Bytes.{loadOf, insnOf}
+use Rattle.mmu.specs.Ends.{loadedFrom, loadEnd, storeEnd, fetchedFrom, fetchEnd}
+use Rattle.mmu.specs.Ops.{locatedNow, fetchSteppedNow, readOf, writeOf, fetchOf}
+use Rattle.mmu.specs.declared.core.Core.{Core}
+use Rattle.mmu.specs.declared.place.Placed.{Placed}
+use Rattle.mmu.specs.declared.place.Placed.the-variants.{At, Fault as NotPlaced}
+use Rattle.mmu.specs.declared.bytes.Got.{Got}
+use Rattle.mmu.specs.declared.bytes.Got.the-variants as Got
+use Rattle.mmu.specs.declared.bytes.Insn.{Insn}
+use Rattle.mmu.specs.declared.bytes.Insn.the-variants as Insn
+use Rattle.mmu.specs.declared.ends.LoadAnswer.{LoadAnswer}
+use Rattle.mmu.specs.declared.ends.LoadAnswer.the-variants as Load
+use Rattle.mmu.specs.declared.ends.StoreAnswer.{StoreAnswer}
+use Rattle.mmu.specs.declared.ends.StoreAnswer.the-variants as Store
+use Rattle.mmu.specs.declared.ends.FetchAnswer.{FetchAnswer}
+use Rattle.mmu.specs.declared.ends.FetchAnswer.the-variants as Fetched
+use Rattle.cpu.specs.Step.{translation, loading, storing, fetching}
+use Rattle.cpu.specs.declared.call.Reply.{Reply}
+use Rattle.cpu.specs.declared.call.Reply.the-variants.{Refused, Done, Value, Faults, Fault, Stopped}
+use Rattle.inplace.specs.Found.{codeOf}
+use Rattle.insys.specs.Early.{early, earlyStop, never, end-late, store-late}
+use Rattle.a72abi.specs.Replies.{codeBy, valueBy}
+
+-- a refusal, Undefined, Unimplemented
+abbrev pub unmoved : Reply → Bool
+unmoved (Refused n) = true
+unmoved Done = false
+unmoved (Value v) = false
+unmoved Faults = false
+unmoved (Fault addr fsc) = false
+unmoved (Stopped s) = early s
+
+-- the words xs that a call made of ws, by its reply
+pub record Stays (r : Reply) (ws xs : List ℕ) : Type 0 where
+  pub still : unmoved r ≡ true → xs ≡ ws
+
+-- and by its number: 1 to 63 the documents', 64 where no call is named, 65 Undefined, 66 Unimplemented
+pub record Kept (n : ℕ) (ws xs : List ℕ) : Type 0 where
+  pub same : 0 < n → n < 256 → xs ≡ ws
+
+-- such a number is of such a reply, which has no value
+pub number-unmoved : (r : Reply) → 0 < codeBy r → codeBy r < 256 → unmoved r ≡ true
+number-unmoved (Refused n) l h = refl
+number-unmoved Done l h = absurd (omega arith)
+number-unmoved (Value v) l h = absurd (omega arith)
+number-unmoved Faults l h = absurd (omega arith)
+number-unmoved (Fault addr fsc) l h = absurd (omega arith)
+number-unmoved (Stopped Stop.Unimplemented) l h = refl
+number-unmoved (Stopped (Stop.Exception (Exception.DataAbort addr write fsc))) l h = absurd (omega arith)
+number-unmoved (Stopped (Stop.Exception (Exception.InsnAbort addr fsc))) l h = absurd (omega arith)
+number-unmoved (Stopped (Stop.Exception Exception.Undefined)) l h = refl
+number-unmoved (Stopped (Stop.Exception (Exception.Svc imm))) l h = refl
+number-unmoved (Stopped (Stop.Exception (Exception.Hvc imm))) l h = refl
+number-unmoved (Stopped (Stop.Exception (Exception.Smc imm))) l h = refl
+number-unmoved (Stopped (Stop.Exception (Exception.Brk imm))) l h = refl
+number-unmoved (Stopped (Stop.Exception Exception.PcAlignment)) l h = refl
+
+pub unmoved-value : (r : Reply) (old : ℕ) → unmoved r ≡ true → valueBy r old ≡ old
+unmoved-value (Refused n) old e = refl
+unmoved-value Done old e = refl
+unmoved-value (Value v) old e = never e
+unmoved-value Faults old e = refl
+unmoved-value (Fault addr fsc) old e = refl
+unmoved-value (Stopped Stop.Unimplemented) old e = refl
+unmoved-value (Stopped (Stop.Exception (Exception.DataAbort addr write fsc))) old e = never e
+unmoved-value (Stopped (Stop.Exception (Exception.InsnAbort addr fsc))) old e = refl
+unmoved-value (Stopped (Stop.Exception Exception.Undefined)) old e = refl
+unmoved-value (Stopped (Stop.Exception (Exception.Svc imm))) old e = refl
+unmoved-value (Stopped (Stop.Exception (Exception.Hvc imm))) old e = refl
+unmoved-value (Stopped (Stop.Exception (Exception.Smc imm))) old e = refl
+unmoved-value (Stopped (Stop.Exception (Exception.Brk imm))) old e = refl
+unmoved-value (Stopped (Stop.Exception Exception.PcAlignment)) old e = refl
+
+-- WHAT STOPS BY AN ABORT
+
+load-late : (x : Placed) (last abort base : ℕ) (ram : List ℕ) (va n : ℕ)
+    → unmoved (loading (loadEnd x last abort base ram va n .answer)) ≡ false
+unfolding loadEnd
+load-late (NotPlaced addr fsc) last abort base ram va n = refl
+load-late (At place) last abort base ram va n = go (loadOf base ram place n)
+  where
+    go : (g : Got) → unmoved (loading (loadedFrom place g abort va .answer)) ≡ false
+    go (Got.Value v) = refl
+    go (Got.Abort i pa) = refl
+
+read-late : (c : Core) (base : ℕ) (ram : List ℕ) (va n : ℕ) → unmoved (loading (readOf c base ram va n .answer)) ≡ false
+unfolding readOf
+read-late c base ram va n = load-late (locatedNow c (wordAt base ram 8) va n Kind.Read .placed) _ _ base ram va n
+
+pub storing-late : (a : StoreAnswer) → unmoved (storing a) ≡ earlyStop a
+storing-late Store.Done = refl
+storing-late (Store.Stopped s) = refl
+
+fetch-late : (c : Core) (base : ℕ) (ram : List ℕ) (va : ℕ) → unmoved (fetching (fetchOf c base ram va .answer)) ≡ false
+unfolding fetchOf fetchEnd
+fetch-late c base ram va = answered (fetchSteppedNow c (wordAt base ram 8) va .answer)
+  where
+    inside : (pa : ℕ) (i : Insn) → unmoved (fetching (fetchedFrom pa i (c .«abort_pa») va .answer)) ≡ false
+    inside pa (Insn.Value v) = refl
+    inside pa Insn.Outside = refl
+
+    answered : (a : Answer) → unmoved (fetching (fetchEnd a (c .«abort_pa») base ram va .answer)) ≡ false
+    answered (Status fsc) = refl
+    answered (Address pa) = inside pa (insnOf base ram pa)
+
+-- BY THE REPLY
+
+module _ (ws xs : List ℕ) where
+  by-late : (r : Reply) → unmoved r ≡ false → Stays r ws xs
+  by-late r e = record { still = λ t. never (sym e ∙ t) }
+
+  pub value-moves : (v : ℕ) → Stays (Value v) ws xs
+  value-moves v = by-late (Value v) refl
+
+  pub done-moves : Stays Done ws xs
+  done-moves = by-late Done refl
+
+  pub faults-move : Stays Faults ws xs
+  faults-move = by-late Faults refl
+
+  pub fault-moves : (addr fsc : ℕ) → Stays (Fault addr fsc) ws xs
+  fault-moves addr fsc = by-late (Fault addr fsc) refl
+
+  pub load-moves : (c : Core) (base : ℕ) (ram : List ℕ) (va n : ℕ) (a : LoadAnswer) (s : Stop)
+      → a ≡ readOf c base ram va n .answer → a ≡ Load.Stopped s → Stays (Stopped s) ws xs
+  load-moves c base ram va n a s ea e = by-late (Stopped s) (ap (λ (x : LoadAnswer). unmoved (loading x)) (sym e ∙ ea) ∙ read-late c base ram va n)
+
+  pub store-moves : (c : Core) (base : ℕ) (ram : List ℕ) (va n : ℕ) (a : StoreAnswer) (r : Reply)
+      → a ≡ writeOf c base ram va n .answer → r ≡ storing a → Stays r ws xs
+  store-moves c base ram va n a r ea er = by-late r (ap unmoved er ∙ storing-late a ∙ ap earlyStop ea ∙ store-late c base ram va n)
+
+  pub fetch-moves : (c : Core) (base : ℕ) (ram : List ℕ) (va : ℕ) (a : FetchAnswer) (x : Exception)
+      → a ≡ fetchOf c base ram va .answer → a ≡ Fetched.Aborted x → Stays (Stopped (Stop.Exception x)) ws xs
+  fetch-moves c base ram va a x ea e =
+      by-late (Stopped (Stop.Exception x)) (ap (λ (y : FetchAnswer). unmoved (fetching y)) (sym e ∙ ea) ∙ fetch-late c base ram va)
+
+  pub system-stays : (a : StoreAnswer) (r : Reply) → r ≡ storing a → (earlyStop a ≡ true → xs ≡ ws) → Stays r ws xs
+  system-stays a r er h = record { still = λ t. h (sym (ap unmoved er ∙ storing-late a) ∙ t) }
+
+  pub undefined-stays : (a : WriteAnswer) (r : Reply) → a ≡ Written.Undefined → ((a ≡ Written.Done → ⊥) → xs ≡ ws) → Stays r ws xs
+  undefined-stays a r e h = record { still = λ t. h (λ d. let z : _≡_ {A = ℕ} 0 1 = cc in omega arith) }
+
+  pub none-stays : (a : WriteAnswer) (r : Reply) → a ≡ Written.NoRegister → ((a ≡ Written.Done → ⊥) → xs ≡ ws) → Stays r ws xs
+  none-stays a r e h = record { still = λ t. h (λ d. let z : _≡_ {A = ℕ} 0 1 = cc in omega arith) }
+
+pub stays-same : (r : Reply) (ws : List ℕ) → Stays r ws ws
+stays-same r ws = record { still = λ t. refl }
+
+pub ruleset staying = (stays-same, value-moves, done-moves, faults-move, fault-moves, load-moves, store-moves, fetch-moves, system-stays, undefined-stays, none-stays)
+
+-- BY THE NUMBER
+
+pub kept-same : (n : ℕ) (ws : List ℕ) → Kept n ws ws
+kept-same n ws = record { same = λ l h. refl }
+
+module _ (ws xs : List ℕ) where
+  pub kept-done : Kept 0 ws xs
+  kept-done = record { same = λ l h. absurd (omega arith) }
+
+  pub kept-told : (r : Reply) (n : ℕ) → n ≡ codeBy r → Stays r ws xs → Kept n ws xs
+  kept-told r n e s = record { same = λ l h. s .still (number-unmoved r (rw e at l) (rw e at h)) }
+
+  by-code : (r : Reply) (n : ℕ) → n ≡ codeBy r → unmoved r ≡ false → Kept n ws xs
+  by-code r n e q = kept-told r n e (record { still = λ t. never (sym q ∙ t) })
+
+  -- a translation
+  pub kept-found : (a : Answer) (n : ℕ) → n ≡ codeOf a → Kept n ws xs
+  kept-found a n e = by-code (translation 0 a) n (e ∙ sym (code a)) (late a)
+    where
+      code : (x : Answer) → codeBy (translation 0 x) ≡ codeOf x
+      code (Address pa) = refl
+      code (Status fsc) = refl
+
+      late : (x : Answer) → unmoved (translation 0 x) ≡ false
+      late (Address pa) = refl
+      late (Status fsc) = refl
+
+  -- the bytes of a load or store
+  pub kept-load : (x : Placed) (last abort base : ℕ) (ram : List ℕ) (va k n : ℕ)
+      → n ≡ codeBy (loading (loadEnd x last abort base ram va k .answer)) → Kept n ws xs
+  kept-load x last abort base ram va k n e = by-code (loading (loadEnd x last abort base ram va k .answer)) n e (load-late x last abort base ram va k)
+
+  pub kept-store : (x : Placed) (abort base : ℕ) (ram : List ℕ) (va k n : ℕ)
+      → n ≡ codeBy (storing (storeEnd x abort base ram va k .answer)) → Kept n ws xs
+  kept-store x abort base ram va k n e =
+      by-code (storing (storeEnd x abort base ram va k .answer)) n e
+      (storing-late (storeEnd x abort base ram va k .answer) ∙ end-late x abort base ram va k)
+
+pub ruleset keeping = (kept-same, kept-done, kept-told, kept-found, kept-load, kept-store)
