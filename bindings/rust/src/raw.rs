@@ -12,7 +12,8 @@ pub type State = [u64; WORDS];
 pub mod number {
     /// The operation is done.
     pub const DONE: u64 = 0;
-    /// A word names nothing: a kind of access, a mark, an exception or a part of one. The types of this crate name none such.
+    /// A word names nothing: a kind of access, a mark, an exception or a part of one. The types of this crate let no
+    /// such word pass.
     #[cfg(test)]
     pub const NAMES_NOTHING: u64 = 64;
     /// The operation is Undefined.
