@@ -223,7 +223,7 @@ mod tests {
         let before = *state;
         assert_eq!(translate(state, 0, 3, 0, &[]), (NAMES_NOTHING, 0));
         assert_eq!(mark(state, 2), NAMES_NOTHING);
-        // No exception; an immediate of more than 16 bits; a write that is neither 0 nor 1; a status of more than 8 bits.
+        // No exception; an immediate of more than 16 bits; a write neither 0 nor 1; a status of more than 8 bits.
         for exception in [
             [8, 0, 0, 0],
             [1, 0x1_0000, 0, 0],

@@ -17,8 +17,9 @@
 //! makes. `a72_step` carries out one operation on the state and the lent window (`base`, `ram`); its meaning is
 //! document 01's (the Rust function of that name).
 //!
-//! It gives 0, and then all four words of `ans` are written (an operation that is refused answers its number and changes
-//! nothing), or 64. The library also exports a function for each operation: `ffi/each.rs`, with the feature `rattle`.
+//! It gives 0, and then all four words of `ans` are written (an operation that is refused answers its number and
+//! changes nothing), or 64. The library also exports a function for each operation: `ffi/each.rs`, with the feature
+//! `rattle`.
 //!
 //! # The number that a function gives
 //!
