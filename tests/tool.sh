@@ -81,6 +81,8 @@ refused 2 'usage:'
 # A trace is read as the Rust reads it.
 printf '\n  # only a comment\nwindow 0 1000 \t # a comment\ntr +1 00000000000000FF ignored\r\nlevel 1' >"$work/odd"
 same "$work/odd" 'spaces, signs, comments'
+printf 'mark 2\nabort data 1000 ffff ff\nabort data 1000 0 0\nabort insn 1000 ff\nabort svc ffff\nabort brk 0\n' >"$work/odd"
+same "$work/odd" 'flags, statuses and immediates at their ends'
 : >"$work/empty"
 "$tool" run "$work/empty" >"$work/out" 2>&1 && [ ! -s "$work/out" ] && pass || fail 'an empty trace'
 

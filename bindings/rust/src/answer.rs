@@ -1,5 +1,6 @@
 //! What stops an operation.
 use crate::operation::{Access, Exception, Status};
+use crate::raw::number::{FAULT, LAST_FAULT, UNDEFINED, UNIMPLEMENTED};
 use std::fmt::{self, Display, Formatter};
 
 /// A check that a call missed. The call changed nothing.
@@ -20,7 +21,7 @@ pub enum Check {
 }
 
 impl Check {
-    /// Its number, 1 to 6.
+    /// Its number in document 01, 1 to 6.
     pub fn number(self) -> u64 {
         self as u64
     }
@@ -66,9 +67,9 @@ pub enum Stop {
     Refused(Check),
     /// A translation or an access faulted. No exception has been taken: [`crate::Core::take`] takes it.
     Fault(Fault),
-    /// The operation is undefined at this level.
+    /// The operation is undefined at this level: nothing was changed.
     Undefined,
-    /// The operation is defined, and pimu does not do it.
+    /// The operation is defined, and pimu does not do it: nothing was changed.
     Unimplemented,
 }
 
@@ -86,12 +87,12 @@ impl Stop {
     #[cold]
     pub(crate) fn of(number: u64, access: Access, address: u64) -> Stop {
         match number {
-            8 => Stop::Undefined,
-            9 => Stop::Unimplemented,
-            256..=511 => Stop::Fault(Fault {
+            UNDEFINED => Stop::Undefined,
+            UNIMPLEMENTED => Stop::Unimplemented,
+            FAULT..=LAST_FAULT => Stop::Fault(Fault {
                 access,
                 address,
-                status: Status((number - 256) as u8),
+                status: Status((number - FAULT) as u8),
             }),
             _ => match Check::of(number) {
                 Some(check) => Stop::Refused(check),

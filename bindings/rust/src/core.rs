@@ -2,6 +2,7 @@
 use crate::answer::Stop;
 use crate::operation::{Access, Exception, SystemOperation, Width};
 use crate::ram::Ram;
+use crate::raw::number::{DONE, FAULT};
 use crate::raw::{self, State, WORDS};
 
 /// One core: its registers, its cache of translations and their counters, in 5,205 words.
@@ -20,7 +21,7 @@ impl Default for Core {
 #[inline]
 fn done(number: u64) -> Result<(), Stop> {
     match number {
-        0 => Ok(()),
+        DONE => Ok(()),
         n => Err(Stop::of(n, Access::Read, 0)),
     }
 }
@@ -58,7 +59,7 @@ impl Core {
     #[inline]
     pub fn translate(&mut self, ram: &Ram, va: u64, access: Access) -> Result<u64, Stop> {
         match raw::translate(&mut self.words, va, access as u64, ram.base, ram.bytes) {
-            (0, pa) => Ok(pa),
+            (DONE, pa) => Ok(pa),
             (n, _) => Err(Stop::of(n, access, va)),
         }
     }
@@ -67,8 +68,8 @@ impl Core {
     #[inline]
     pub fn data_pa(&mut self, ram: &Ram, va: u64) -> Result<Option<u64>, Stop> {
         match raw::data_pa(&mut self.words, va, ram.base, ram.bytes) {
-            (0, pa) => Ok(Some(pa)),
-            (256.., _) => Ok(None),
+            (DONE, pa) => Ok(Some(pa)),
+            (FAULT.., _) => Ok(None),
             (n, _) => Err(Stop::of(n, Access::Read, va)),
         }
     }
@@ -77,8 +78,8 @@ impl Core {
     #[inline]
     pub fn fetch_pa(&mut self, ram: &Ram, va: u64) -> Result<Option<u64>, Stop> {
         match raw::fetch_pa(&mut self.words, va, ram.base, ram.bytes) {
-            (0, pa) => Ok(Some(pa)),
-            (256.., _) => Ok(None),
+            (DONE, pa) => Ok(Some(pa)),
+            (FAULT.., _) => Ok(None),
             (n, _) => Err(Stop::of(n, Access::Fetch, va)),
         }
     }
@@ -93,7 +94,7 @@ impl Core {
     #[inline]
     pub fn load_bytes(&mut self, ram: &Ram, va: u64, size: u64) -> Result<u64, Stop> {
         match raw::load(&mut self.words, va, size, ram.base, ram.bytes) {
-            (0, v) => Ok(v),
+            (DONE, v) => Ok(v),
             (n, address) => Err(Stop::of(n, Access::Read, address)),
         }
     }
@@ -108,7 +109,7 @@ impl Core {
     #[inline]
     pub fn store_bytes(&mut self, ram: &mut Ram, va: u64, size: u64, value: u64) -> Result<(), Stop> {
         match raw::store(&mut self.words, va, size, value, ram.base, ram.bytes) {
-            (0, _) => Ok(()),
+            (DONE, _) => Ok(()),
             (n, address) => Err(Stop::of(n, Access::Write, address)),
         }
     }
@@ -117,7 +118,7 @@ impl Core {
     #[inline]
     pub fn fetch(&mut self, ram: &Ram, va: u64) -> Result<u32, Stop> {
         match raw::fetch(&mut self.words, va, ram.base, ram.bytes) {
-            (0, instruction) => Ok(instruction as u32),
+            (DONE, instruction) => Ok(instruction as u32),
             (n, _) => Err(Stop::of(n, Access::Fetch, va)),
         }
     }
@@ -125,7 +126,7 @@ impl Core {
     /// Carry out a SYS instruction: TLBI, AT, DC ZVA; other cache maintenance does nothing.
     pub fn system(&mut self, ram: &mut Ram, operation: SystemOperation) -> Result<(), Stop> {
         match raw::system(&mut self.words, operation.fields(), ram.base, ram.bytes) {
-            (0, _) => Ok(()),
+            (DONE, _) => Ok(()),
             (n, address) => Err(Stop::of(n, Access::Write, address)),
         }
     }

@@ -3,8 +3,8 @@
 //! written in Rattle, in which every function is proved to meet its contract; this crate gives it types.
 //!
 //! A [`Core`] owns its state. It owns no memory: each call is lent a window of RAM, a base address and bytes ([`Ram`]).
-//! An answer is a [`Result`] whose error is a [`Stop`]: the call was refused and changed nothing, or it ended in a
-//! fault, an undefined or an unimplemented operation.
+//! An answer is a [`Result`] whose error is a [`Stop`]: the call was refused, or the operation is undefined or
+//! unimplemented, and nothing was changed; or it ended in a fault.
 //!
 //! # Example
 //!

@@ -83,7 +83,8 @@ pub enum Exception {
 }
 
 impl Exception {
-    /// The four words by which the library knows it.
+    /// The four words by which the library knows it. Each part fits: the library refuses an immediate of more than 16
+    /// bits, a status of more than 8, and a `write` that is neither 0 nor 1.
     pub(crate) fn words(&self) -> [u64; 4] {
         match *self {
             Exception::Undefined => [0, 0, 0, 0],

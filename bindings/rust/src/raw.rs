@@ -7,6 +7,25 @@ pub const WORDS: usize = 5205;
 
 pub type State = [u64; WORDS];
 
+/// The numbers that the functions give, beside those of the checks: 1 to 63 ([`crate::Check`]). With any number from 1
+/// to 66 nothing is written.
+pub mod number {
+    /// The operation is done.
+    pub const DONE: u64 = 0;
+    /// A word names nothing: a kind of access, a mark, an exception or a part of one. The types of this crate let no
+    /// such word pass.
+    #[cfg(test)]
+    pub const NAMES_NOTHING: u64 = 64;
+    /// The operation is Undefined.
+    pub const UNDEFINED: u64 = 65;
+    /// The operation is Unimplemented.
+    pub const UNIMPLEMENTED: u64 = 66;
+    /// A fault: this plus its status.
+    pub const FAULT: u64 = 256;
+    /// A status has eight bits.
+    pub const LAST_FAULT: u64 = FAULT + 255;
+}
+
 mod library {
     use super::State;
 
@@ -196,14 +215,27 @@ mod tests {
     }
 
     #[test]
-    fn what_names_no_call_is_7() {
+    fn what_names_nothing_is_refused() {
+        use number::NAMES_NOTHING;
         let mut state = vec![0; WORDS];
         let state: &mut State = state.as_mut_slice().try_into().unwrap();
         fresh(state);
         let before = *state;
-        assert_eq!(translate(state, 0, 3, 0, &[]), (7, 0));
-        assert_eq!(mark(state, 2), 7);
-        assert_eq!(abort(state, &[8, 0, 0, 0]), 7);
+        assert_eq!(translate(state, 0, 3, 0, &[]), (NAMES_NOTHING, 0));
+        assert_eq!(mark(state, 2), NAMES_NOTHING);
+        // No exception; an immediate of more than 16 bits; a write neither 0 nor 1; a status of more than 8 bits.
+        for exception in [
+            [8, 0, 0, 0],
+            [1, 0x1_0000, 0, 0],
+            [2, 0x1_0000, 0, 0],
+            [3, 0x1_0000, 0, 0],
+            [4, u64::MAX, 0, 0],
+            [5, 0, 2, 0],
+            [5, 0, 0, 0x100],
+            [6, 0, 0x100, 0],
+        ] {
+            assert_eq!(abort(state, &exception), NAMES_NOTHING, "{exception:?}");
+        }
         assert!(*state == before);
     }
 }

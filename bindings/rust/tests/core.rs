@@ -212,13 +212,17 @@ fn system_operations() {
         core.system(&mut ram, SystemOperation::new(3, 7, 10, 1, 0)),
         Ok(())
     );
+    let before = core.clone();
     let above = core.system(&mut ram, SystemOperation::new(4, 8, 7, 0, 31));
     assert_eq!(above, Err(Stop::Unimplemented));
+    assert!(core == before);
     core.set_level(0).unwrap();
+    let before = core.clone();
     let below = core.system(&mut ram, SystemOperation::TLBI_VMALLE1);
     assert_eq!(below, Err(Stop::Undefined));
     assert_eq!(below.unwrap_err().exception(), Some(Exception::Undefined));
     assert_eq!(core.write_register(registers::VBAR_EL1, 0), Err(Stop::Undefined));
+    assert!(core == before);
     // TLBI VMALLE1 by its instruction word.
     let decoded = SystemOperation::decode(0xD508_871F);
     assert_eq!(decoded, Some(SystemOperation::TLBI_VMALLE1));

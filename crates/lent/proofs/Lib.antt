@@ -1,4 +1,5 @@
 pub mod Results
+pub mod Promised
 pub mod Runs
 pub mod Locals
 pub mod Fetches

@@ -1,7 +1,8 @@
 // A load on a lent core.
 ghost use mathlib.Core.Path.{_≡_};
-ghost use Rattle.cpu.specs.Step.{runOf, stepOf};
+ghost use Rattle.cpu.specs.Step.{runOf, stepOf, ends};
 ghost use Rattle.cpu.specs.declared.call.Call.the-variants as Call;
+ghost use Rattle.demand3.specs.Faithful.{FaithfulCall};
 use cpu::call::Reply;
 use lentparts::access;
 use lentparts::cells;
@@ -11,7 +12,8 @@ use tlb::access::Kind;
 
 // The load of a call that passed its checks.
 fn run(core: &mut Core, base: u64, ram: &[u8], va: u64, size: u64) -> Reply
-    ensures { λ r. ⌜ (r ≡ runOf (now (core .entry)) base (now (ram .entry)) (Call.Load va size) .reply) × (now (core .exit) ≡ runOf (now (core .entry)) base (now (ram .entry)) (Call.Load va size) .core) ⌝ }
+    ensures { λ r. ⌜ (r ≡ runOf (now (core .entry)) base (now (ram .entry)) (Call.Load va size) .reply)
+        × (now (core .exit) ≡ runOf (now (core .entry)) base (now (ram .entry)) (Call.Load va size) .core) ⌝ }
 {
     let k = cells::find_both(core, va, size, Kind::Read);
     let x = lentparts::take(core, k.hint, k.entry);
@@ -33,7 +35,10 @@ fn run(core: &mut Core, base: u64, ram: &[u8], va: u64, size: u64) -> Reply
 
 // The checks and the hint first, which change the address kept alone; else the load.
 pub fn load(core: &mut Core, base: u64, ram: &[u8], va: u64, size: u64) -> Reply
-    ensures { λ r. ⌜ (r ≡ stepOf (now (core .entry)) base (now (ram .entry)) (Call.Load va size) .reply) × (now (core .exit) ≡ stepOf (now (core .entry)) base (now (ram .entry)) (Call.Load va size) .core) ⌝ }
+    ensures { λ r. ⌜ (r ≡ stepOf (now (core .entry)) base (now (ram .entry)) (Call.Load va size) .reply)
+        × (now (core .exit) ≡ stepOf (now (core .entry)) base (now (ram .entry)) (Call.Load va size) .core)
+        × FaithfulCall (now (core .entry)) base (now (ram .entry)) (Call.Load va size)
+        (ends (now (core .exit)) r) (now (ram .entry)) ⌝ }
 {
     let who = core.who;
     let last = core.last_pa;

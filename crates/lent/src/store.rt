@@ -1,7 +1,8 @@
 // A store on a lent core.
 ghost use mathlib.Core.Path.{_≡_};
-ghost use Rattle.cpu.specs.Step.{runOf, ramOf, stepOf, ramAfter};
+ghost use Rattle.cpu.specs.Step.{runOf, ramOf, stepOf, ramAfter, ends};
 ghost use Rattle.cpu.specs.declared.call.Call.the-variants as Call;
+ghost use Rattle.demand3.specs.Faithful.{FaithfulCall};
 use cpu::call::Reply;
 use lentparts::cells;
 use lentparts::plan;
@@ -11,7 +12,9 @@ use tlb::access::Kind;
 
 // The store of a call that passed its checks.
 fn run(core: &mut Core, base: u64, ram: &mut [u8], va: u64, size: u64, value: u64) -> Reply
-    ensures { λ r. ⌜ (r ≡ runOf (now (core .entry)) base (now (ram .entry)) (Call.Store va size value) .reply) × (now (core .exit) ≡ runOf (now (core .entry)) base (now (ram .entry)) (Call.Store va size value) .core) × (now (ram .exit) ≡ ramOf (now (core .entry)) base (now (ram .entry)) (Call.Store va size value)) ⌝ }
+    ensures { λ r. ⌜ (r ≡ runOf (now (core .entry)) base (now (ram .entry)) (Call.Store va size value) .reply)
+        × (now (core .exit) ≡ runOf (now (core .entry)) base (now (ram .entry)) (Call.Store va size value) .core)
+        × (now (ram .exit) ≡ ramOf (now (core .entry)) base (now (ram .entry)) (Call.Store va size value)) ⌝ }
 {
     let k = cells::find_both(core, va, size, Kind::Write);
     let x = lentparts::take(core, k.hint, k.entry);
@@ -33,7 +36,11 @@ fn run(core: &mut Core, base: u64, ram: &mut [u8], va: u64, size: u64, value: u6
 
 // The checks and the hint first, which leave the core as it was; else the store.
 pub fn store(core: &mut Core, base: u64, ram: &mut [u8], va: u64, size: u64, value: u64) -> Reply
-    ensures { λ r. ⌜ (r ≡ stepOf (now (core .entry)) base (now (ram .entry)) (Call.Store va size value) .reply) × (now (core .exit) ≡ stepOf (now (core .entry)) base (now (ram .entry)) (Call.Store va size value) .core) × (now (ram .exit) ≡ ramAfter (now (core .entry)) base (now (ram .entry)) (Call.Store va size value)) ⌝ }
+    ensures { λ r. ⌜ (r ≡ stepOf (now (core .entry)) base (now (ram .entry)) (Call.Store va size value) .reply)
+        × (now (core .exit) ≡ stepOf (now (core .entry)) base (now (ram .entry)) (Call.Store va size value) .core)
+        × (now (ram .exit) ≡ ramAfter (now (core .entry)) base (now (ram .entry)) (Call.Store va size value))
+        × FaithfulCall (now (core .entry)) base (now (ram .entry)) (Call.Store va size value)
+        (ends (now (core .exit)) r) (now (ram .exit)) ⌝ }
 {
     let who = core.who;
     let i = plan::hint_place(va, Kind::Write);

@@ -1,4 +1,5 @@
 // The leaves: functions of the registers alone, each by the proved function of its crate.
+use crate::perform;
 use a72abi::op;
 use a72abi::op::Exceptions;
 use sysreg::encoding;
@@ -64,11 +65,11 @@ fn walked(
     if code == 0 {
         *ans = leaf_words(&out);
         0
-    } else if 256 <= code {
+    } else if perform::FAULT <= code {
         *ans = [8, va, code % 256, 0];
         0
     } else {
-        7
+        perform::NAMES_NOTHING
     }
 }
 
@@ -119,7 +120,7 @@ fn sys_pair(r: SysReg, ans: &mut [u64; 4]) -> u64 {
         SysReg::Far(el) => banked_pair(9, el, ans),
         SysReg::Vpidr => pair(12, 2, ans),
         SysReg::Vmpidr => pair(13, 2, ans),
-        SysReg::Par => 7,
+        SysReg::Par => perform::NAMES_NOTHING,
     }
 }
 
@@ -157,11 +158,11 @@ fn syndrome(line: &[u64; 8], ans: &mut [u64; 4]) -> u64 {
                 value(r.esr, ans)
             }
         }
-        Exceptions::Unknown => 7,
+        Exceptions::Unknown => perform::NAMES_NOTHING,
     }
 }
 
-// A leaf by its code: 0 and its answer; 7 where the code is none.
+// A leaf by its code: 0 and its answer, or that the code names nothing.
 pub fn leaf(
     line: &[u64; 8],
     state: &[u64; 5205],
@@ -179,6 +180,6 @@ pub fn leaf(
         26 => bank(line[1], ans),
         27 => vector(line[1], line[2], line[3], ans),
         28 => syndrome(line, ans),
-        _ => 7,
+        _ => perform::NAMES_NOTHING,
     }
 }

@@ -4,6 +4,12 @@ use crate::lines::Machine;
 use crate::parts;
 use word::bits;
 
+// The library's number of words that name nothing.
+pub const NAMES_NOTHING: u64 = 64;
+
+// Its number of a fault is this plus the status.
+pub const FAULT: u64 = 256;
+
 // Live entries take the generation, all others are cleared.
 fn move_entry(state: &mut [u64; 5205], j: u64, from: u64, to: u64) {
     let at = 1109 + j % 1024 * 4;
@@ -40,7 +46,7 @@ fn no_pending(state: &mut [u64; 5205]) {
     parts::put(state, 76, 0);
 }
 
-// A poke: 0, or 7 where the code is none.
+// A poke: 0, or that the code names nothing.
 fn poke(op: &[u64; 8], state: &mut [u64; 5205]) -> u64 {
     let value = op[1];
     match op[0] {
@@ -50,12 +56,12 @@ fn poke(op: &[u64; 8], state: &mut [u64; 5205]) -> u64 {
         43 => move_generation(state, value),
         44 => all_counters(state, value),
         45 => no_pending(state),
-        _ => return 7,
+        _ => return NAMES_NOTHING,
     }
     0
 }
 
-// What an operation gives: 0 and its answer; 1 where the replay has no such operation; 7 where there is none.
+// What an operation gives: 0 and its answer; 1 where the replay has no such operation; or that the words name nothing.
 pub fn perform(
     op: &[u64; 8],
     state: &mut [u64; 5205],

@@ -17,18 +17,28 @@
 //! makes. `a72_step` carries out one operation on the state and the lent window (`base`, `ram`); its meaning is
 //! document 01's (the Rust function of that name).
 //!
-//! | `a72_step` gives | Where |
-//! |---|---|
-//! | 0 | all four words of `ans` are written; an operation that is refused answers its number and changes nothing |
-//! | 7 | the words name no operation: nothing is written |
+//! It gives 0, and then all four words of `ans` are written (an operation that is refused answers its number and
+//! changes nothing), or 64. The library also exports a function for each operation: `ffi/each.rs`, with the feature
+//! `rattle`.
 //!
-//! The library also exports a function for each operation: `ffi/each.rs`, with the feature `rattle`.
+//! # The number that a function gives
+//!
+//! | Number | Where |
+//! |---|---|
+//! | 0 | the operation is done |
+//! | 1 to 63 | the number of the first check that the call misses; document 01 has 1 to 6 |
+//! | 64 | a word names nothing: the code, a kind, a mark, an exception or a part of one |
+//! | 65, 66 | the operation is Undefined, Unimplemented |
+//! | 256 + status | it ends in a fault |
+//!
+//! With a number from 1 to 66 nothing is written. They are the constants of [`number`].
 //!
 //! # An operation: 8 words
 //!
 //! The code, then the arguments; words that are not named are zero. `E` is an exception, four words: 0 Undefined;
-//! 1 SVC, 2 HVC, 3 SMC, 4 BRK, then the immediate; 5 data abort, then address, write (0 or 1), status; 6 instruction
-//! abort, then address, status; 7 PC alignment.
+//! 1 SVC, 2 HVC, 3 SMC, 4 BRK, then the immediate (16 bits); 5 data abort, then address, write (0 or 1), status (8
+//! bits); 6 instruction abort, then address, status; 7 PC alignment. Four words of which one is none of these, or does
+//! not fit, are no exception.
 //!
 //! | Code | Operation | Arguments |
 //! |---|---|---|
@@ -116,6 +126,7 @@
 //! behind the keys and flags that say 'none' is free.
 #[cfg(feature = "rattle")]
 pub mod each;
+pub mod number;
 mod poke;
 mod state;
 mod words;
@@ -201,7 +212,7 @@ impl Core for CCore {
         // Sound: each pointer is that of an array or a vector, with its own length, and no two overlap.
         let code = unsafe { a72_step(&op, &mut *self.words, ram.base, at, len, &mut ans) };
         match code {
-            0 => decode_answer(&ans),
+            number::DONE => decode_answer(&ans),
             _ => Ans::Panic,
         }
     }
@@ -224,5 +235,36 @@ impl Core for CCore {
 
     fn copy(&self) -> Box<dyn Core> {
         Box::new(self.clone())
+    }
+}
+
+#[cfg(test)]
+mod tests {
+    use super::*;
+
+    #[test]
+    fn words_that_name_nothing() {
+        let before = fresh();
+        for words in [
+            &[0][..],
+            &[13],
+            &[20],
+            &[1, 3],
+            &[10, 2],
+            &[12, 8],
+            &[12, 1, 0x1_0000],
+            &[12, 4, u64::MAX],
+            &[12, 5, 0, 2],
+            &[12, 5, 0, 1, 0x100],
+            &[12, 6, 0, 0x100],
+        ] {
+            let (mut op, mut ans, mut state) = ([0; 8], [UNWRITTEN; 4], before.clone());
+            op[..words.len()].copy_from_slice(words);
+            let mut ram = [UNWRITTEN as u8; 8];
+            // Sound: each pointer is that of an array, with its own length, and no two overlap.
+            let code = unsafe { a72_step(&op, &mut *state, 0, ram.as_mut_ptr(), 8, &mut ans) };
+            assert_eq!(code, number::NAMES_NOTHING, "{words:?}");
+            assert!(ans == [UNWRITTEN; 4] && state == before && ram == [UNWRITTEN as u8; 8]);
+        }
     }
 }

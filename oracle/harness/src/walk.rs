@@ -1,4 +1,5 @@
 //! A core whose walks are those of a static library's `a72_walk`, and all else the model's: to compare a walk alone.
+use crate::ffi::number::{self, DONE};
 use crate::model::DocCore;
 use crate::op::{Ans, Op};
 use crate::state::REGS;
@@ -53,8 +54,8 @@ impl WalkCore {
                 ram.bytes.len(),
             )
         };
-        if code != 0 {
-            return Ans::Fault(va, (code - 256) as u8);
+        if code != DONE {
+            return number::status(code).map_or(Ans::Panic, |s| Ans::Fault(va, s));
         }
         let [oa, desc, perms, level, global] = leaf;
         Ans::Leaf(

@@ -2,6 +2,7 @@
 //! before pimu's function. So both sides do the same work.
 use super::rust::Quick;
 use super::{ours::summed, repeat, Work, DONE, STORED};
+use crate::ffi::number::{FAULT, NAMES_NOTHING, UNDEFINED, UNIMPLEMENTED};
 use crate::Ram;
 use pimu::aarch64::access::{self, Halt};
 use pimu::aarch64::{Cpu, Exception};
@@ -25,17 +26,17 @@ fn stopped(halt: Halt, ans: &mut u64) -> u64 {
     match halt {
         Halt::Exception(Exception::DataAbort { addr, fsc, .. }) => {
             *ans = addr;
-            256 + u64::from(fsc)
+            FAULT + u64::from(fsc)
         }
-        Halt::Exception(_) => 8,
-        _ => 9,
+        Halt::Exception(_) => UNDEFINED,
+        _ => UNIMPLEMENTED,
     }
 }
 
 #[inline(never)]
 fn translate(c: &mut Cpu, va: u64, kind: u64, ans: &mut u64, base: u64, ram: &mut [u8]) -> u64 {
     if !matches!(kind, 1 | 2 | 4) {
-        return 7;
+        return NAMES_NOTHING;
     }
     let n = missed(c, base, ram.len());
     if n != 0 {
@@ -46,7 +47,7 @@ fn translate(c: &mut Cpu, va: u64, kind: u64, ans: &mut u64, base: u64, ram: &mu
             *ans = pa;
             0
         }
-        Err(status) => 256 + u64::from(status),
+        Err(status) => FAULT + u64::from(status),
     }
 }
 

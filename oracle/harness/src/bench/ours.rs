@@ -1,6 +1,7 @@
 //! The library's side: its function for each operation, on a state's words.
 use super::{fault, repeat, Work, DONE, STORED};
 use crate::ffi::each::Lent;
+use crate::ffi::number::FAULT;
 use crate::ffi::Words;
 use crate::Ram;
 use std::hint::black_box;
@@ -11,7 +12,7 @@ pub(super) fn summed(n: u64, v: u64, addr: u64) -> u64 {
     if n == 0 {
         v
     } else {
-        fault(n - 256, addr)
+        fault(n - FAULT, addr)
     }
 }
 

@@ -1,8 +1,8 @@
 //! The library's function for each operation, with the feature `rattle`; and a core that runs by them alone.
 //!
-//! Each gives 0, or document 01's number of the first check that it misses (1 to 6; then nothing is written), or
-//! 7 where a word is none of those named in [`super`], 8 Undefined, 9 Unimplemented, 256 plus the status of a fault.
-//! `ans` takes the value, or the address of a data abort; where there is neither it stays as it was.
+//! Each gives one of the numbers in [`super`]. `ans` takes the value, or the address of a data abort; where there is
+//! neither it stays as it was.
+use super::number::{status, DONE, LAST_CHECK, UNDEFINED, UNIMPLEMENTED};
 use super::{boxed, exception, fresh, poke, state_of, Words, STATE, UNWRITTEN};
 use crate::op::{Ans, Op};
 use crate::rust::RustCore;
@@ -145,14 +145,14 @@ impl Lent<'_> {
 /// An answer without a value, which leaves `ans` as it was.
 fn done(n: u64, ans: u64) -> Ans {
     match n {
-        0 if ans == UNWRITTEN => Ans::Ok,
+        DONE if ans == UNWRITTEN => Ans::Ok,
         _ => other(n),
     }
 }
 
 fn value(n: u64, ans: u64, fault: impl Fn(u8) -> Ans) -> Ans {
     match n {
-        0 => Ans::Val(ans),
+        DONE => Ans::Val(ans),
         _ => status(n).map_or_else(|| other(n), fault),
     }
 }
@@ -163,16 +163,11 @@ fn write(n: u64, ans: u64) -> Ans {
 
 fn other(n: u64) -> Ans {
     match n {
-        1..=6 => Ans::Number(n as u8),
-        8 => Ans::Undefined,
-        9 => Ans::Unimplemented,
+        1..=LAST_CHECK => Ans::Number(n as u8),
+        UNDEFINED => Ans::Undefined,
+        UNIMPLEMENTED => Ans::Unimplemented,
         _ => Ans::Panic,
     }
-}
-
-/// The status of a fault.
-fn status(n: u64) -> Option<u8> {
-    u8::try_from(n.wrapping_sub(256)).ok()
 }
 
 /// The core behind the C boundary, by its function for each operation.

@@ -1,4 +1,5 @@
 //! Without the feature `rattle` the model stands behind the two functions, so that the boundary itself is tested.
+use super::number::{DONE, NAMES_NOTHING};
 use super::{boxed, decode, encode_answer, state_of, STATE};
 use crate::model::DocCore;
 use crate::op::Line;
@@ -25,7 +26,7 @@ pub unsafe fn a72_step(
     let bytes = from_raw_parts_mut(ram, ram_bytes);
     let op = match decode(&*op) {
         Some(Line::Op(op)) if op.is_step() => op,
-        _ => return 7,
+        _ => return NAMES_NOTHING,
     };
     let mut core = DocCore::new();
     core.load(&state_of(state));
@@ -36,5 +37,5 @@ pub unsafe fn a72_step(
     }
     *state = *boxed(&core.state());
     *ans = encode_answer(&answer);
-    0
+    DONE
 }

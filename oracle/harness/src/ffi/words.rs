@@ -16,21 +16,27 @@ pub fn exception(e: &Exception) -> [u64; 4] {
     }
 }
 
+fn flag(w: u64) -> Option<bool> {
+    (w <= 1).then_some(w == 1)
+}
+
 fn exception_of(w: &[u64]) -> Option<Exception> {
+    let immediate = || u16::try_from(w[1]).ok();
+    let status = |i: usize| u8::try_from(w[i]).ok();
     Some(match w[0] {
         0 => Exception::Undefined,
-        1 => Exception::Svc(w[1] as u16),
-        2 => Exception::Hvc(w[1] as u16),
-        3 => Exception::Smc(w[1] as u16),
-        4 => Exception::Brk(w[1] as u16),
+        1 => Exception::Svc(immediate()?),
+        2 => Exception::Hvc(immediate()?),
+        3 => Exception::Smc(immediate()?),
+        4 => Exception::Brk(immediate()?),
         5 => Exception::DataAbort {
             addr: w[1],
-            write: w[2] != 0,
-            fsc: w[3] as u8,
+            write: flag(w[2])?,
+            fsc: status(3)?,
         },
         6 => Exception::InsnAbort {
             addr: w[1],
-            fsc: w[2] as u8,
+            fsc: status(2)?,
         },
         7 => Exception::PcAlignment,
         _ => return None,
@@ -87,7 +93,7 @@ fn operation(op: &Op) -> Vec<u64> {
     }
 }
 
-/// `None` where the code, an exception's code, a kind or a regime is none of those named.
+/// `None` where the code, an exception, a mark, a kind or a regime is none of those named.
 pub fn decode(w: &[u64; 8]) -> Option<Line> {
     Some(match w[0] {
         60 => Line::Fresh,
@@ -117,7 +123,7 @@ fn operation_of(w: &[u64; 8]) -> Option<Op> {
         7 => Sys(u(1), u(2), u(3), u(4), u(5)),
         8 => Reg(u(1), w[2]),
         9 => Level(u(1)),
-        10 => Mark(w[1] != 0),
+        10 => Mark(flag(w[1])?),
         11 => SetX(u(1), w[2]),
         12 => Abort(exception_of(&w[1..])?),
         20 => LeafAsid,

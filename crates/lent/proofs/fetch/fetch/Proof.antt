@@ -59,7 +59,7 @@ use Rattle.lentparts.proofs.plan.Quick as QU
 use Rattle.lentparts.proofs.plan.Quick.Laws as QU′
 use Rattle.cpu.proofs.call.Reply as Y
 use Rattle.cpu.proofs.call.Reply.Laws as Y′
-use Rattle.cpu.specs.Step.{runOf, stepOf}
+use Rattle.cpu.specs.Step.{runOf, ramOf, stepOf}
 use Rattle.cpu.specs.declared.call.Call.the-variants as Call
 use Rattle.lentparts.specs.Fetch.{fetchQuick}
 use Rattle.lent.proofs.Fetches.{fetch-at-once-is, fetch-goes-on-is}
@@ -67,6 +67,7 @@ use Rattle.lent.proofs.Results.{quick-ends, quick-reply}
 use Rattle.lentparts.proofs.Parts.{hints, entries, written, fetch-val, counts-val, core-vals, core-tells, who-is, fetch-is}
 use Rattle.lentparts.proofs.InPlace.{after-test}
 use Rattle.lent.proofs.Locals.{look-part}
+use Rattle.lent.proofs.Promised.{faithful-kept}
 use Rattle.lentparts.proofs.Laid.{who-at, fetch-at}
 use Rattle.lentparts.proofs.Fields.{core-who, core-tlb, tlb-cache, cache-fetch}
 use Rattle.lentparts.proofs.insn.at_once as at-once
@@ -165,10 +166,11 @@ module _ {M : Type 1} (𝓤 : URA M) (H : Heap 𝓤) (A : Atoms 𝓤) (W : Given
   Post = walkOf 𝓤 H A f.ended stayed (f.clauses 𝓤 H A at-mem run) .post bound
 
   exits : (d : Core) (r : Reply) → (r ≡ stepOf c base (m .now) (Call.Fetch va) .reply) × (d ≡ stepOf c base (m .now) (Call.Fetch va) .core) → Is Y.the-row r ((EL.val Y.the-type Y′.the-laws r) ∷ []) → ent 𝓤 (⋆ 𝓤 H A (‵ (Own d) ∷ ‵ (flft κ q) ∷ (‵ (flft κ₁ q₁) ⊛ ‵ ftrue) ∷ [])) (Post (EL.val Y.the-type Y′.the-laws r))
+  unfolding ramOf
   exits d r e is =
       qed W (‵ (Own d) ∷ ‵ (flft κ q) ∷ (‵ (flft κ₁ q₁) ⊛ ‵ ftrue) ∷ []) ∵
       suffices ! _ (ends-at 𝓤 H A f.ended stayed (f.clauses 𝓤 H A at-mem run) W bound (EL.val Y.the-type Y′.the-laws r) r (d, (tt, (tt, (tt, tt)))) (tt, (tt, (tt, (tt, tt))))) $
-      says ! e $ move ! (1 ∷ 2 ∷ []) $ join ! $ frame ! $ nothing ! $ nothing ! $ fjoin ! $ nothing ! $ fjoin ! $ nothing ! $ fjoin ! $ move ! (1 ∷ 0 ∷ []) $ fjoin ! $ owned ! Y.the-row (Is Y.the-row) ((EL.makes Y.the-type Y′.the-plain) 𝓤 H A) r ((EL.val Y.the-type Y′.the-laws r) ∷ []) is $ move ! (1 ∷ 0 ∷ []) $ done !
+      says ! (e .0, e .1, faithful-kept c base (m .now) (Call.Fetch va) r d refl e) $ move ! (1 ∷ 2 ∷ []) $ join ! $ frame ! $ nothing ! $ nothing ! $ fjoin ! $ nothing ! $ fjoin ! $ nothing ! $ fjoin ! $ move ! (1 ∷ 0 ∷ []) $ fjoin ! $ owned ! Y.the-row (Is Y.the-row) ((EL.makes Y.the-type Y′.the-plain) 𝓤 H A) r ((EL.val Y.the-type Y′.the-laws r) ∷ []) is $ move ! (1 ∷ 0 ∷ []) $ done !
 
   -- `at_once`, on small values
   abbrev to-at-once : To-at-once 𝓤 H A at-mem run .Ghost

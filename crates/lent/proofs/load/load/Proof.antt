@@ -66,7 +66,7 @@ use Rattle.cpu.proofs.call.Reply as Y
 use Rattle.cpu.proofs.call.Reply.Laws as Y′
 use Rattle.tlb.specs.Cache.{hintAt}
 use Rattle.tlb.specs.declared.access.Kind.the-variants as Kind
-use Rattle.cpu.specs.Step.{runOf, stepOf}
+use Rattle.cpu.specs.Step.{runOf, ramOf, stepOf}
 use Rattle.cpu.specs.declared.call.Call.the-variants as Call
 use Rattle.lentparts.specs.Access.{loadQuick}
 use Rattle.lentparts.specs.Cells.{partsIn}
@@ -77,6 +77,7 @@ use Rattle.lent.proofs.Results.{quickload-ends, quickload-last, quicklo
 use Rattle.lentparts.proofs.Parts.{hints, entries, with-parts, written, fetch-val, counts-val, core-vals, core-tells, who-is, last-fits, hints-long, hint-within, hint-as, hint-spelt, hint-is, last-is, scaled16}
 use Rattle.lentparts.proofs.InPlace.{after-test}
 use Rattle.lent.proofs.Locals.{look-part}
+use Rattle.lent.proofs.Promised.{faithful-kept}
 use Rattle.lentparts.proofs.Laid.{who-at, hint-at, last-at}
 use Rattle.lentparts.proofs.Fields.{core-who, core-tlb, core-last, tlb-cache, cache-hints}
 use Rattle.lentparts.proofs.plan.hint_place as hint-place
@@ -192,10 +193,11 @@ module _ {M : Type 1} (𝓤 : URA M) (H : Heap 𝓤) (A : Atoms 𝓤) (W : Given
   Post = walkOf 𝓤 H A f.ended stayed (f.clauses 𝓤 H A at-mem run) .post bound
 
   exits : (d : Core) (r : Reply) → (r ≡ stepOf c base (m .now) (Call.Load va size) .reply) × (d ≡ stepOf c base (m .now) (Call.Load va size) .core) → Is Y.the-row r ((EL.val Y.the-type Y′.the-laws r) ∷ []) → ent 𝓤 (⋆ 𝓤 H A (‵ (Own d) ∷ ‵ (flft κ q) ∷ (‵ (flft κ₁ q₁) ⊛ ‵ ftrue) ∷ [])) (Post (EL.val Y.the-type Y′.the-laws r))
+  unfolding ramOf
   exits d r e is =
       qed W (‵ (Own d) ∷ ‵ (flft κ q) ∷ (‵ (flft κ₁ q₁) ⊛ ‵ ftrue) ∷ []) ∵
       suffices ! _ (ends-at 𝓤 H A f.ended stayed (f.clauses 𝓤 H A at-mem run) W bound (EL.val Y.the-type Y′.the-laws r) r (d, (tt, (tt, (tt, (tt, tt))))) (tt, (tt, (tt, (tt, (tt, tt)))))) $
-      says ! e $ move ! (1 ∷ 2 ∷ []) $ join ! $ frame ! $ nothing ! $ nothing ! $ fjoin ! $ nothing ! $ fjoin ! $ nothing ! $ fjoin ! $ nothing ! $ fjoin ! $ move ! (1 ∷ 0 ∷ []) $ fjoin ! $ owned ! Y.the-row (Is Y.the-row) ((EL.makes Y.the-type Y′.the-plain) 𝓤 H A) r ((EL.val Y.the-type Y′.the-laws r) ∷ []) is $ move ! (1 ∷ 0 ∷ []) $ done !
+      says ! (e .0, e .1, faithful-kept c base (m .now) (Call.Load va size) r d refl e) $ move ! (1 ∷ 2 ∷ []) $ join ! $ frame ! $ nothing ! $ nothing ! $ fjoin ! $ nothing ! $ fjoin ! $ nothing ! $ fjoin ! $ nothing ! $ fjoin ! $ move ! (1 ∷ 0 ∷ []) $ fjoin ! $ owned ! Y.the-row (Is Y.the-row) ((EL.makes Y.the-type Y′.the-plain) 𝓤 H A) r ((EL.val Y.the-type Y′.the-laws r) ∷ []) is $ move ! (1 ∷ 0 ∷ []) $ done !
 
   kind-is : Is KI.the-row Kind.Read ((EL.val KI.the-type KI′.the-laws Kind.Read) ∷ [])
   kind-is = EL.owes KI.the-type KI′.the-laws Kind.Read tt

@@ -75,6 +75,7 @@ use Rattle.lent.proofs.Results.{quickstore-ends}
 use Rattle.lentparts.proofs.Parts.{hints, entries, written, fetch-val, counts-val, core-vals, core-tells, who-is, hints-long, hint-within, hint-as, hint-spelt, hint-is, scaled16}
 use Rattle.lentparts.proofs.InPlace.{after-test}
 use Rattle.lent.proofs.Locals.{look-part}
+use Rattle.lent.proofs.Promised.{faithful-after}
 use Rattle.lentparts.proofs.Laid.{who-at, hint-at}
 use Rattle.lentparts.proofs.Fields.{core-who, core-tlb, tlb-cache, cache-hints}
 use Rattle.lentparts.proofs.plan.hint_place as hint-place
@@ -187,7 +188,7 @@ module _ {M : Type 1} (𝓤 : URA M) (H : Heap 𝓤) (A : Atoms 𝓤) (W : Given
   exits d r ys e l is =
       qed W (‵ (Own d) ∷ ‵ (flft κ q) ∷ (‵ (flft κ₁ q₁) ⊛ ‵ ftrue) ∷ ‵ (finally u8 (m .name) ys) ∷ []) ∵
       suffices ! _ (ends-at 𝓤 H A f.ended stayed (f.clauses 𝓤 H A at-mem run) W bound (EL.val Y.the-type Y′.the-laws r) r (d, (tt, (ys, (tt, (tt, (tt, tt)))))) (tt, (tt, (l, (tt, (tt, (tt, tt))))))) $
-      says ! e $ move ! (1 ∷ 2 ∷ []) $ join ! $ frame ! $ nothing ! $ nothing ! $ fjoin ! $ nothing ! $ fjoin ! $ nothing ! $ fjoin ! $ move ! (2 ∷ 0 ∷ []) $ fjoin ! $ nothing ! $ fjoin ! $ move ! (1 ∷ 0 ∷ []) $ fjoin ! $ owned ! Y.the-row (Is Y.the-row) ((EL.makes Y.the-type Y′.the-plain) 𝓤 H A) r ((EL.val Y.the-type Y′.the-laws r) ∷ []) is $ move ! (1 ∷ 0 ∷ []) $ done !
+      says ! (e .0, e .1, e .2, faithful-after c base (m .now) (Call.Store va size value) r d ys e) $ move ! (1 ∷ 2 ∷ []) $ join ! $ frame ! $ nothing ! $ nothing ! $ fjoin ! $ nothing ! $ fjoin ! $ nothing ! $ fjoin ! $ move ! (2 ∷ 0 ∷ []) $ fjoin ! $ nothing ! $ fjoin ! $ move ! (1 ∷ 0 ∷ []) $ fjoin ! $ owned ! Y.the-row (Is Y.the-row) ((EL.makes Y.the-type Y′.the-plain) 𝓤 H A) r ((EL.val Y.the-type Y′.the-laws r) ∷ []) is $ move ! (1 ∷ 0 ∷ []) $ done !
 
   kind-is : Is KI.the-row Kind.Write ((EL.val KI.the-type KI′.the-laws Kind.Write) ∷ [])
   kind-is = EL.owes KI.the-type KI′.the-laws Kind.Write tt

@@ -49,7 +49,8 @@ use Rattle.mmu.specs.declared.core.Core.{Core}
 use Rattle.tlb.specs.declared.access.Kind.{Kind}
 use Rattle.cpu.specs.declared.call.Reply.{Reply}
 use Rattle.cpu.specs.declared.call.Call.the-variants as Call
-use Rattle.cpu.specs.Step.{stepOf}
+use Rattle.demand3.specs.Faithful.{FaithfulCall}
+use Rattle.cpu.specs.Step.{stepOf, ends}
 use Rattle.mmu.proofs.core.Core as T
 use Rattle.tlb.proofs.access.Kind as KI
 use Rattle.tlb.proofs.access.Kind.Laws as KI′
@@ -193,6 +194,10 @@ module _ {M : Type 1} (𝓤 : URA M) (H : Heap 𝓤) (A : Atoms 𝓤) (W : Given
   abbrev to-step : (ν : ℕ) (δ : GName) (d : Core) (a : ℕ) → To-step 𝓤 H A at-mem run .Ghost
   to-step ν δ d a = (((ν ∷ [], (κ₁, tt)), (fullShare, (q₁, tt)), tt, (ref δ d, (base, (m, (a, (kind, tt))))), (vptr b o ∷ [], (((vint w64 base) ∷ []), (((sliceVal (m .ptr) (length (m .now))) ∷ []), (((vint w64 a) ∷ []), (((EL.val KI.the-type KI′.the-laws kind) ∷ []), tt)))))), tt)
 
+  abbrev promised : (d : Core) (a : ℕ) → Reply → Core → Type 0
+  promised d a r y = (r ≡ stepOf d base (m .now) (Call.Translate kind a) .reply) × (y ≡ stepOf d base (m .now) (Call.Translate kind a) .core) × FaithfulCall d base (m .now) (Call.Translate kind a) (ends y r) (m .now)
+
+  -- what of it the sum needs
   abbrev said-step : (d : Core) (a : ℕ) → Reply → Core → Val → Type 0
   said-step d a r y v = ((r ≡ stepOf d base (m .now) (Call.Translate kind a) .reply) × (y ≡ stepOf d base (m .now) (Call.Translate kind a) .core)) × Is Y.the-row r (v ∷ [])
 
@@ -210,11 +215,11 @@ module _ {M : Type 1} (𝓤 : URA M) (H : Heap 𝓤) (A : Atoms 𝓤) (W : Given
   close-step ν δ d a v =
       qed W (raw (To-step 𝓤 H A at-mem run .post (to-step ν δ d a) v) ∷ ‵ (LentAgain T.the-row κ (ν ∷ []) q γ b o δ d) ∷ []) ∵ updating ! $
       use1 W (later (some (λ (r : Reply). ((‵ (flft (ν ∷ []) fullShare) ⊛ (‵ (flft κ₁ q₁) ⊛ ‵ ftrue)) ⊛ ‵ (Y.the-row .own r (v ∷ []))) ⊛ raw (ensured 𝓤 H A step.ended (step.clauses 𝓤 H A at-mem run) (ν ∷ [], (κ₁, tt)) (ref δ d, (base, (m, (a, (kind, tt))))) tt r)))) (id⊢ 𝓤 _) $ await ! tt $ pick ! (λ r.
-      split ! $ move ! (1 ∷ []) $ use1 W (some (λ (ws : Core × (Unit {0} × (Unit {0} × (Unit {0} × (Unit {0} × Unit {0}))))). ‵ (lasts step.ended (ν ∷ [], (κ₁, tt)) (ref δ d, (base, (m, (a, (kind, tt))))) ws) ⊛ raw (fact 𝓤 ((r ≡ stepOf d base (m .now) (Call.Translate kind a) .reply) × ((ws .0) ≡ stepOf d base (m .now) (Call.Translate kind a) .core))))) (id⊢ 𝓤 _) $ pick ! (λ ws.
-      split ! $ move ! (1 ∷ []) $ heard ! ((r ≡ stepOf d base (m .now) (Call.Translate kind a) .reply) × ((ws .0) ≡ stepOf d base (m .now) (Call.Translate kind a) .core)) (λ e. fsplit ! $ move ! (1 ∷ []) $ drop ! $ move ! (1 ∷ []) $ split ! $ move ! (1 ∷ []) $
+      split ! $ move ! (1 ∷ []) $ use1 W (some (λ (ws : Core × (Unit {0} × (Unit {0} × (Unit {0} × (Unit {0} × Unit {0}))))). ‵ (lasts step.ended (ν ∷ [], (κ₁, tt)) (ref δ d, (base, (m, (a, (kind, tt))))) ws) ⊛ raw (fact 𝓤 (promised d a r (ws .0))))) (id⊢ 𝓤 _) $ pick ! (λ ws.
+      split ! $ move ! (1 ∷ []) $ heard ! (promised d a r (ws .0)) (λ e. fsplit ! $ move ! (1 ∷ []) $ drop ! $ move ! (1 ∷ []) $ split ! $ move ! (1 ∷ []) $
       peeks ! Y.the-row (Is Y.the-row) (shows 𝓤 H A Y.the-row) r (v ∷ []) (λ is. drop ! $ split ! $ lft-end ! tt $ move ! (0 ∷ 3 ∷ 2 ∷ []) $
       use3 W (later (‵ (Own (ws .0)) ⊛ ‵ (flft κ q))) (comes-back 𝓤 H A W T.the-row (named 0) κ (ν ∷ []) q γ b o δ d (ws .0)) $ await ! tt $ split ! $ move ! (1 ∷ 2 ∷ []) $ join ! $ move ! (1 ∷ 0 ∷ []) $ join ! $
-      at-once ! $ show ! (λ (r : Reply). ex 𝓤 (λ (y : Core). sep 𝓤 (sep 𝓤 (sem 𝓤 H A (Own y)) (sep 𝓤 (A .lft κ q) (sep 𝓤 (A .lft κ₁ q₁) (sem 𝓤 H A ftrue)))) (fact 𝓤 (said-step d a r y v)))) r $ show ! (λ (y : Core). sep 𝓤 (sep 𝓤 (sem 𝓤 H A (Own y)) (sep 𝓤 (A .lft κ q) (sep 𝓤 (A .lft κ₁ q₁) (sem 𝓤 H A ftrue)))) (fact 𝓤 (said-step d a r y v))) (ws .0) $ says ! (e, is) $ done !))))
+      at-once ! $ show ! (λ (r : Reply). ex 𝓤 (λ (y : Core). sep 𝓤 (sep 𝓤 (sem 𝓤 H A (Own y)) (sep 𝓤 (A .lft κ q) (sep 𝓤 (A .lft κ₁ q₁) (sem 𝓤 H A ftrue)))) (fact 𝓤 (said-step d a r y v)))) r $ show ! (λ (y : Core). sep 𝓤 (sep 𝓤 (sem 𝓤 H A (Own y)) (sep 𝓤 (A .lft κ q) (sep 𝓤 (A .lft κ₁ q₁) (sem 𝓤 H A ftrue)))) (fact 𝓤 (said-step d a r y v))) (ws .0) $ says ! ((e .0, e .1), is) $ done !))))
 
   -- how many turns are done, at most n; nearer to n is below
   abbrev Upto : Type 0
