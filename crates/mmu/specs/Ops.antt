@@ -61,7 +61,8 @@ fetchPaOf c memory va = addressedBy c (fetchSteppedNow c memory va)
 unfoldable pub dataPaOf : Core → (ℕ → Word) → ℕ → Addressed
 dataPaOf c memory va = addressedBy c (steppedNow c memory va Read)
 
--- LOADS AND STORES of n bytes; the tables lie in the same RAM
+-- LOADS AND STORES of n bytes; the tables lie in the same RAM. A13, D3: no address is misaligned, whatever SCTLR_ELx.A and the memory's
+-- type. M5: bytes are little-endian, whatever SCTLR_ELx.EE and E0E.
 
 abbrev pub loadedBy : Core → Tlb → LoadEnd → Loaded
 loadedBy c t e = record { core = movedTo c t (e .«last_pa») (e .«abort_pa»); answer = e .answer }
@@ -85,7 +86,7 @@ writeOf c base ram va n = writeAfter c (locatedNow c (wordAt base ram 8) va n Wr
 unfoldable pub ramAfterWrite : Core → ℕ → List ℕ → ℕ → ℕ → ℕ → List ℕ
 ramAfterWrite c base ram va n v = storeRamEnd (locatedNow c (wordAt base ram 8) va n Write .placed) base ram n v
 
--- FETCHES
+-- FETCHES. M14: from an address that is no multiple of four too. O7: from Device memory too.
 
 abbrev pub fetchedBy : Core → Tlb → FetchEnd → Fetched
 fetchedBy c t e = record { core = movedTo c t (c .«last_pa») (e .«abort_pa»); answer = e .answer }

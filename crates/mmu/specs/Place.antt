@@ -19,7 +19,7 @@ use Rattle.mmu.specs.declared.place.Verdict.the-variants.{Inside, Outsid
 abbrev pub inPage : ℕ → ℕ
 inPage va = 4096 - va % 4096
 
--- the first address of the next page; the last page is followed by the first
+-- the first address of the next page; the last page is followed by the first (O8)
 abbrev pub nextPage : ℕ → ℕ
 nextPage va = wrap (va + inPage va)
 

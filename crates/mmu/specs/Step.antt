@@ -40,7 +40,7 @@ module _ (s : Bank) (who : Who) (memory : ℕ → Word) where
       record { tlb = fetchedIn (accessOf s who va Fetch memory) t; answer = fetchIn (accessOf s who va Fetch memory) t .answer }
 
   -- The translations of an access of n bytes: its page's; and where it crosses and that was allowed, the next page's, in the cache that
-  -- the first one left.
+  -- the first one left. B2: both are made before a byte moves.
   unfoldable pub locatedOf : ℕ → ℕ → Kind → Tlb → Located
   locatedOf va n kind t =
       pick (goesOn (stepOf va kind t .answer) (crosses (stage1On s (regimeOf (who .level))) va n))

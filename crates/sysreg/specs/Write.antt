@@ -27,7 +27,7 @@ abbrev pub inPlace : ℕ → ℕ → ℕ → ℕ
 inPlace v lo n = field v lo n * 2 ^ lo
 
 -- SPSR_ELx: N, Z, C, V are 31:28, SS 21, IL 20, GE 19:16 (the AArch32 form's), D, A, I, F 9:6, M 4:0; the others are RES0.
--- M13: of a saved AArch32 state T, IT, Q and E would be kept too
+-- M13: of a saved AArch32 state T, IT and Q would be kept too; E stands at D
 unfoldable pub spsrKept : ℕ → ℕ
 spsrKept v = inPlace v 28 4 + inPlace v 21 1 + inPlace v 20 1 + inPlace v 16 4 + inPlace v 6 4 + v % 2 ^ 5
 
@@ -89,8 +89,8 @@ abbrev pub wrote : Control → SysRegs → Register → ℕ → Written
 wrote c s (InControl r) v = ended (controlWith c r v) s Done
 wrote c s (InSys r) v = ended c (sysWith s r v) Done
 
--- A key that names no register is refused first; then EL0 may write none; then the register is written. R1: below the register's own level too. M7: at
--- Non-secure EL1 HCR_EL2 could trap the write
+-- A key that names no register is refused first; then EL0 may write none; then the register is written. M22, R1: below the
+-- register's own level too. M7: at Non-secure EL1 HCR_EL2 could trap the write
 abbrev pub writeFound : Control → SysRegs → ℕ → Found → ℕ → Written
 writeFound c s level Nothing v = ended c s NoRegister
 writeFound c s level (At r) v = pick (eqb level 0) (ended c s Undefined) (wrote c s r v)
