@@ -51,7 +51,8 @@ fn read_sized(base: u64, ram: &[u8], size: u64, pa: u64) -> Word
 
 // A store of a size's bytes at pa, and whether it was made.
 fn write_sized(base: u64, ram: &mut [u8], size: u64, pa: u64, value: u64) -> bool
-    ensures { λ r. ⌜ (r ≡ sizedMade base (now (ram .entry)) size pa) × (now (ram .exit) ≡ sizedRam base (now (ram .entry)) size pa value) ⌝ }
+    ensures { λ r. ⌜ (r ≡ sizedMade base (now (ram .entry)) size pa) ×
+        (now (ram .exit) ≡ sizedRam base (now (ram .entry)) size pa value) ⌝ }
 {
     if 4 < size {
         if size == 8 {

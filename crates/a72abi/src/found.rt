@@ -36,9 +36,14 @@ fn load_at(
     base: u64,
     ram: &[u8],
 ) -> u64
-    ensures { λ r. ⌜ r ≡ codeBy (loading ((loadEnd (At (Whole pa)) ((held (now (state .entry))) .«last_pa») ((held (now (state .entry))) .«abort_pa») base (now (ram .entry)) va (bytesIn width)) .answer)) ⌝ }
-    ensures { λ _. ⌜ now (ans .exit) ≡ valueBy (loading ((loadEnd (At (Whole pa)) ((held (now (state .entry))) .«last_pa») ((held (now (state .entry))) .«abort_pa») base (now (ram .entry)) va (bytesIn width)) .answer)) (now (ans .entry)) ⌝ }
-    ensures { λ _. ⌜ Moved (now (state .entry)) (now (state .exit)) (keptLast (held (now (state .entry))) (loadEnd (At (Whole pa)) ((held (now (state .entry))) .«last_pa») ((held (now (state .entry))) .«abort_pa») base (now (ram .entry)) va (bytesIn width))) ⌝ }
+    ensures { λ r. ⌜ r ≡ codeBy (loading ((loadEnd (At (Whole pa)) ((held (now (state .entry))) .«last_pa»)
+        ((held (now (state .entry))) .«abort_pa») base (now (ram .entry)) va (bytesIn width)) .answer)) ⌝ }
+    ensures { λ _. ⌜ now (ans .exit) ≡ valueBy (loading
+        ((loadEnd (At (Whole pa)) ((held (now (state .entry))) .«last_pa») ((held (now (state .entry))) .«abort_pa»)
+        base (now (ram .entry)) va (bytesIn width)) .answer)) (now (ans .entry)) ⌝ }
+    ensures { λ _. ⌜ Moved (now (state .entry)) (now (state .exit))
+        (keptLast (held (now (state .entry))) (loadEnd (At (Whole pa)) ((held (now (state .entry))) .«last_pa»)
+        ((held (now (state .entry))) .«abort_pa») base (now (ram .entry)) va (bytesIn width))) ⌝ }
 {
     state::put_last(state, pa);
     match ram::read(base, ram, width, pa) {
@@ -88,10 +93,15 @@ fn store_at(
     base: u64,
     ram: &mut [u8],
 ) -> u64
-    ensures { λ r. ⌜ r ≡ codeBy (storing ((storeEnd (At (Whole pa)) ((held (now (state .entry))) .«abort_pa») base (now (ram .entry)) va (bytesIn width)) .answer)) ⌝ }
-    ensures { λ _. ⌜ now (ans .exit) ≡ valueBy (storing ((storeEnd (At (Whole pa)) ((held (now (state .entry))) .«abort_pa») base (now (ram .entry)) va (bytesIn width)) .answer)) (now (ans .entry)) ⌝ }
+    ensures { λ r. ⌜ r ≡ codeBy (storing ((storeEnd (At (Whole pa)) ((held (now (state .entry))) .«abort_pa») base
+        (now (ram .entry)) va (bytesIn width)) .answer)) ⌝ }
+    ensures { λ _. ⌜ now (ans .exit) ≡ valueBy (storing
+        ((storeEnd (At (Whole pa)) ((held (now (state .entry))) .«abort_pa») base (now (ram .entry)) va
+        (bytesIn width)) .answer)) (now (ans .entry)) ⌝ }
     ensures { λ _. ⌜ now (ram .exit) ≡ stored base (now (ram .entry)) (bytesIn width) pa value ⌝ }
-    ensures { λ _. ⌜ Moved (now (state .entry)) (now (state .exit)) (keptAbort (held (now (state .entry))) ((storeEnd (At (Whole pa)) ((held (now (state .entry))) .«abort_pa») base (now (ram .entry)) va (bytesIn width)) .«abort_pa»)) ⌝ }
+    ensures { λ _. ⌜ Moved (now (state .entry)) (now (state .exit))
+        (keptAbort (held (now (state .entry))) ((storeEnd (At (Whole pa)) ((held (now (state .entry))) .«abort_pa»)
+        base (now (ram .entry)) va (bytesIn width)) .«abort_pa»)) ⌝ }
 {
     let made = ram::write(base, ram, width, pa, value);
     if made {

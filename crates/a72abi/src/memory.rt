@@ -1,5 +1,5 @@
-// Memory operations on lent words, in place: what a hint answers at a glance, and all else by the book. Each gives a number, and in ans the
-// address or value, or the address of a data abort.
+// Memory operations on lent words, in place: what a hint answers at a glance, and all else by the book. Each gives a
+// number, and in ans the address or value, or the address of a data abort.
 ghost use mathlib.Core.Path.{_≡_};
 ghost use Rattle.cpu.specs.declared.call.Call.the-variants as Call;
 ghost use Rattle.words.specs.Held.{held};

@@ -38,7 +38,8 @@ fn apart(state: &[u64; 5205], va: u64, n: u64, base: u64, len: u64) -> bool
 
 // A load whose first page lies at pa.
 fn load_on(state: &[u64; 5205], va: u64, n: u64, pa: u64, base: u64, ram: &[u8]) -> Split
-    ensures { λ r. ⌜ r ≡ loadBoth true (At pa) (hintFound (held (now (state .entry))) (nextPage va) Read) va base (now (ram .entry)) n ⌝ }
+    ensures { λ r. ⌜ r ≡ loadBoth true (At pa) (hintFound (held (now (state .entry))) (nextPage va) Read) va base
+        (now (ram .entry)) n ⌝ }
 {
     let next = place::next_page(va);
     match translate::by_hint(state, next, Kind::Read) {
@@ -77,8 +78,10 @@ fn store_on(
     base: u64,
     ram: &mut [u8],
 ) -> bool
-    ensures { λ r. ⌜ r ≡ madeBoth true (At pa) (hintFound (held (now (state .entry))) (nextPage va) Write) va base (now (ram .entry)) n ⌝ }
-    ensures { λ _. ⌜ now (ram .exit) ≡ ramBoth true (At pa) (hintFound (held (now (state .entry))) (nextPage va) Write) va base (now (ram .entry)) n value ⌝ }
+    ensures { λ r. ⌜ r ≡ madeBoth true (At pa) (hintFound (held (now (state .entry))) (nextPage va) Write) va base
+        (now (ram .entry)) n ⌝ }
+    ensures { λ _. ⌜ now (ram .exit) ≡ ramBoth true (At pa)
+        (hintFound (held (now (state .entry))) (nextPage va) Write) va base (now (ram .entry)) n value ⌝ }
 {
     let next = place::next_page(va);
     match translate::by_hint(state, next, Kind::Write) {

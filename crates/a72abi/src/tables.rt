@@ -70,7 +70,8 @@ pub extern "C" fn a72_walk(
     base: u64,
     ram: &[u8],
 ) -> u64
-    ensures { λ r. ⌜ (r ≡ walkCode (now (words .entry)) number va base (now (ram .entry))) × (now (out .exit) ≡ walkWords (now (words .entry)) number va base (now (ram .entry)) (now (out .entry))) ⌝ }
+    ensures { λ r. ⌜ (r ≡ walkCode (now (words .entry)) number va base (now (ram .entry))) ×
+        (now (out .exit) ≡ walkWords (now (words .entry)) number va base (now (ram .entry)) (now (out .entry))) ⌝ }
 {
     let named = regime_at(number);
     match named {

@@ -23,8 +23,8 @@ fn op_at(ops: &[u64], at: usize) -> [u64; 8]
     ]
 }
 
-// Every word written; then the calls of ops, eight words to a call, each on RAM as the last one left it; then one call more, whose number
-// and answer are given. Whatever the calls were, the last one's answer keeps demand 3.
+// Every word written; then the calls of ops, eight words to a call, each on RAM as the last one left it; then one call
+// more, whose number and answer are given. Whatever the calls were, the last one's answer keeps demand 3.
 pub fn run(
     state: &mut [u64; 5205],
     ops: &[u64],
