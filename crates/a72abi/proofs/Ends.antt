@@ -17,7 +17,7 @@ use Rattle.a72abi.specs.declared.tables.Named.{Named}
 use Rattle.a72abi.specs.declared.tables.Named.the-variants.{Known, Unknown}
 
 module _ (ws : List ℕ) (n va base : ℕ) (ram : List ℕ) (x : Named) (ex : x ≡ regimeAt n) where
-  pub no-regime-code : x ≡ Unknown → 1 ≡ walkCode ws n va base ram
+  pub no-regime-code : x ≡ Unknown → 64 ≡ walkCode ws n va base ram
   unfolding walkCode
   no-regime-code e = rw (← ex, e)
 

@@ -49,14 +49,14 @@ abbrev pub walkAt : List ℕ → Regime → ℕ → ℕ → List ℕ → Walked
 walkAt ws r va base ram = walkOf (bankAt ws) r va (wordAt base ram 8)
 
 abbrev pub codeIn : Named → Bool → List ℕ → ℕ → ℕ → List ℕ → ℕ
-codeIn Unknown past ws va base ram = 1
+codeIn Unknown past ws va base ram = 64
 codeIn (Known r) past ws va base ram = pick past 2 (codeOf (walkAt ws r va base ram))
 
 abbrev pub wordsIn : Named → Bool → List ℕ → ℕ → ℕ → List ℕ → List ℕ → List ℕ
 wordsIn Unknown past ws va base ram out = out
 wordsIn (Known r) past ws va base ram out = pick past out (wordsOf (walkAt ws r va base ram) out)
 
--- 1 for no regime, 2 for a window that passes 2^64, 0 for a leaf, 256 plus a fault's status
+-- 64 for a number that names no regime, 2 for a window that passes 2^64, 0 for a leaf, 256 plus a fault's status
 unfoldable pub walkCode : List ℕ → ℕ → ℕ → ℕ → List ℕ → ℕ
 walkCode ws number va base ram = codeIn (regimeAt number) (passes base (length ram)) ws va base ram
 

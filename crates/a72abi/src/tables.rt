@@ -60,7 +60,7 @@ fn put_leaf(out: &mut [u64; 5], leaf: Leaf)
     ];
 }
 
-// One walk of an untagged address: 0 and the leaf, or 256 plus the fault's status; 1 for no regime, 2 for a window that passes 2^64.
+// One walk of an untagged address: 0 and the leaf, or 256 plus the fault's status; 64 for no regime, 2 for a window that passes 2^64.
 #[no_mangle]
 pub extern "C" fn a72_walk(
     words: &[u64; 6],
@@ -89,6 +89,6 @@ pub extern "C" fn a72_walk(
                 Walked::Fault(status) => 256 + status as u64,
             }
         }
-        Named::Unknown => 1,
+        Named::Unknown => 64,
     }
 }
