@@ -8,7 +8,7 @@ use native.Mathlib.Omega.{arith}
 use borrow.Author.Tests.{le-leb, ltb-true, ltb-false, lt-ltb, le-ltb}
 use lib.Dec.{ltb}
 use lib.ListN.{length, getD, take-append-drop}
-use lib.Pow.{pow-add}
+use lib.Pow.{pow-add, shr-shr}
 use Rattle.word.specs.Bits.{pick, wrap}
 use Rattle.word.specs.Ram.{within, written, stored, bytesOf}
 use Rattle.word.specs.declared.ram.Word.{Word}
@@ -31,35 +31,23 @@ module _ (base len : ℕ) (p : Pages) (n : ℕ) where
   glance-past h = sym (rw (lt-ltb _ _ h))
 
   module _ (h : base ≤ 2 ^ 64 - 1 - len) where
-    pub glance-wide : 8 < p .«in_page» → false ≡ bothInside base len p n
-    unfolding bothInside
-    glance-wide k = sym (rw (le-ltb _ _ h) (go (ltb n (p .«in_page»)) refl))
-      where
-        go : (b : Bool) → ltb n (p .«in_page») ≡ b
-            → pick b false (pick (ltb 8 n) false (within base len (p .«in_page») (p .pa) && within base len (n - p .«in_page») (p .pa2))) ≡ false
-        go true e = refl
-        go false e = let l : p .«in_page» ≤ n = ltb-false _ _ e in rw (lt-ltb 8 n (omega arith))
-
     pub glance-short : n < p .«in_page» → false ≡ bothInside base len p n
     unfolding bothInside
     glance-short k = sym (rw (le-ltb _ _ h, lt-ltb _ _ k))
 
-    module _ (w : p .«in_page» ≤ 8) (k : p .«in_page» ≤ n) where
-      pub glance-long : 8 - p .«in_page» < n - p .«in_page» → false ≡ bothInside base len p n
+    module _ (k : p .«in_page» ≤ n) where
+      pub glance-long : 8 < n → false ≡ bothInside base len p n
       unfolding bothInside
-      glance-long l = let m : 8 < n = omega arith in sym (rw (le-ltb _ _ h, le-ltb _ _ k, lt-ltb _ _ m))
+      glance-long l = sym (rw (le-ltb _ _ h, le-ltb _ _ k, lt-ltb _ _ l))
 
-      module _ (l : n - p .«in_page» ≤ 8 - p .«in_page») (f s : Bool) (ef : f ≡ within base len (p .«in_page») (p .pa)) (es : s ≡ within base len (n - p .«in_page») (p .pa2)) where
-        eight : n ≤ 8
-        eight = omega arith
-
+      module _ (l : n ≤ 8) (f s : Bool) (ef : f ≡ within base len (p .«in_page») (p .pa)) (es : s ≡ within base len (n - p .«in_page») (p .pa2)) where
         pub glance-both : f ≡ true → s ≡ bothInside base len p n
         unfolding bothInside
-        glance-both t = sym (rw (le-ltb _ _ h, le-ltb _ _ k, le-ltb _ _ eight, ← ef, ← es, t))
+        glance-both t = sym (rw (le-ltb _ _ h, le-ltb _ _ k, le-ltb _ _ l, ← ef, ← es, t))
 
         pub glance-first : f ≡ false → false ≡ bothInside base len p n
         unfolding bothInside
-        glance-first t = sym (rw (le-ltb _ _ h, le-ltb _ _ k, le-ltb _ _ eight, ← ef, t))
+        glance-first t = sym (rw (le-ltb _ _ h, le-ltb _ _ k, le-ltb _ _ l, ← ef, t))
 
 -- n bytes from pa lie in RAM, so each of them does
 one-within : (base len n pa i : ℕ) → base + len < 2 ^ 64 → within base len n pa ≡ true → i < n → within base len 1 (wrap (pa + i)) ≡ true
@@ -213,12 +201,15 @@ split-join base p v i (suc m) n ram =
     let z : i + suc m ≡ i + 1 + m = omega arith in
     rw (suc-add m n, z, digit-next v m) (split-join base p (v / 256) (i + 1) m n (stored base ram 1 (byteAt p i) v))
 
--- a shift takes off the bytes of the first part
-bytes-bits : (k : ℕ) → 2 ^ (k * 8) ≡ 256 ^ k
-bytes-bits zero = refl
-bytes-bits (suc k) =
-    let e : suc k * 8 ≡ k * 8 + 8 = omega arith in
-    rw (e, pow-add 2 (k * 8) 8, bytes-bits k, pow-suc 256 k)
+-- two shifts by half of its bits take off k bytes
+double-shift : (k : ℕ) → 2 ^ (k * 4 + k * 4) ≡ 256 ^ k
+double-shift zero = refl
+double-shift (suc k) =
+    let e : suc k * 4 + suc k * 4 ≡ k * 4 + k * 4 + 8 = omega arith in
+    rw (e, pow-add 2 (k * 4 + k * 4) 8, double-shift k, pow-suc 256 k)
+
+pub shifted : (v k : ℕ) → v / 2 ^ (k * 4) / 2 ^ (k * 4) ≡ v / 256 ^ k
+shifted v k = shr-shr v (k * 4) (k * 4) ∙ ap (λ (m : ℕ). v / m) (double-shift k)
 
 module _ (base : ℕ) (ram : List ℕ) (p : Pages) (n v : ℕ) (h : length ram < 2 ^ 64) (t : bothInside base (length ram) p n ≡ true) where
   abbrev first-part : List ℕ
@@ -282,31 +273,17 @@ module _ (base : ℕ) (ram : List ℕ) (p : Pages) (n : ℕ) (f : Bool) (ef : f 
   unmade t = sym t ∙ ef
 
   pub both-wrote : length ram < 2 ^ 64 → (xs ys : List ℕ) (v : ℕ) → f ≡ true → xs ≡ stored base ram (p .«in_page») (p .pa) v
-      → ys ≡ stored base xs (n - p .«in_page») (p .pa2) (v / 2 ^ (p .«in_page» * 8 % 64)) → ys ≡ bothStored base ram p n v
+      → ys ≡ stored base xs (n - p .«in_page») (p .pa2) (v / 2 ^ (p .«in_page» * 4) / 2 ^ (p .«in_page» * 4)) → ys ≡ bothStored base ram p n v
   unfolding bothStored
   both-wrote h xs ys v t ex ey =
       rw (← ef, t)
       (ey
-      ∙ rest (ltb (p .«in_page») 8) refl
+      ∙ ap (stored base xs (n - p .«in_page») (p .pa2)) (shifted v (p .«in_page»))
       ∙ ap (λ (zs : List ℕ). stored base zs (n - p .«in_page») (p .pa2) (v / 256 ^ p .«in_page»)) ex
       ∙ parts-stored base ram p n v h (sym ef ∙ t))
-    where
-      -- where all eight bytes are the first part's, the second has none
-      rest : (b : Bool) → ltb (p .«in_page») 8 ≡ b
-          → stored base xs (n - p .«in_page») (p .pa2) (v / 2 ^ (p .«in_page» * 8 % 64))
-          ≡ stored base xs (n - p .«in_page») (p .pa2) (v / 256 ^ p .«in_page»)
-      rest true e =
-          let l : p .«in_page» < 8 = ltb-true _ _ e in
-          let m : p .«in_page» * 8 % 64 ≡ p .«in_page» * 8 = mod-eq-of-lt (omega arith) in
-          rw (m, bytes-bits (p .«in_page»))
-      rest false e =
-          let l : 8 ≤ p .«in_page» = ltb-false _ _ e in
-          let k : n ≤ 8 = few t in
-          let z : n - p .«in_page» ≡ 0 = omega arith in
-          rw z (stored-none base xs (p .pa2) _ ∙ sym (stored-none base xs (p .pa2) _))
 
-  pub part-bits : f ≡ true → p .«in_page» * 8 ≤ 64
-  part-bits t =
+  pub part-shift : f ≡ true → p .«in_page» * 4 < 64
+  part-shift t =
       let a : p .«in_page» ≤ n = unfold-both base (length ram) p n (sym ef ∙ t) .some in
       let b : n ≤ 8 = few t in
       omega arith

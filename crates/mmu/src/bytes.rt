@@ -191,7 +191,7 @@ pub fn write_both(base: u64, ram: &mut [u8], p: Pages, n: u64, value: u64) -> bo
     let fits = place::both_inside(base, ram.len() as u64, p, n);
     if fits {
         let here = p.in_page;
-        let rest = value >> (here * 8 % 64);
+        let rest = value >> (here * 4) >> (here * 4);
         ram::write_bytes(base, ram, here, p.pa, value);
         ram::write_bytes(base, ram, n - here, p.pa2, rest);
         true

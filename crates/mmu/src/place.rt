@@ -145,17 +145,13 @@ pub fn both_inside(base: u64, len: u64, p: Pages, n: u64) -> bool
     if u64::MAX - len < base {
         return false;
     }
-    if 8 < p.in_page {
-        return false;
-    }
     if n < p.in_page {
         return false;
     }
-    let more = n - p.in_page;
-    if 8 - p.in_page < more {
+    if 8 < n {
         return false;
     }
     let first = ram::inside(base, len, p.in_page, p.pa);
-    let second = ram::inside(base, len, more, p.pa2);
+    let second = ram::inside(base, len, n - p.in_page, p.pa2);
     if first { second } else { false }
 }

@@ -1,6 +1,6 @@
 -- `mmu::bytes::write_both` meets its contract.
-use Rattle.mmu.proofs.Both.{part-bits, some, made, unmade, both-wrote, both-unwritten}
-use Prim.Native.Nat.{_*_, _≤_}
+use Rattle.mmu.proofs.Both.{part-shift, some, made, unmade, both-wrote, both-unwritten}
+use Prim.Native.Nat.{_*_, _<_}
 use native.Mathlib.Omega.{arith}
 use borrow.Author.Needs.{needs}
 use Rattle.mmu.proofs.bytes.write_both.Statement.{statement}
@@ -11,11 +11,19 @@ both-inside-requires c κs = search needs
 
 mul-rest : tie.Need-mul-rest
 mul-rest c =
-    let h : c .before .before .before .args .p .«in_page» * 8 ≤ 64 = search (part-bits, needs) in
+    let h : c .before .before .before .args .p .«in_page» * 4 < 64 = search (part-shift, needs) in
     omega arith
 
 shr-rest : tie.Need-shr-rest
-shr-rest c = search needs
+shr-rest c = search (part-shift, needs)
+
+mul-rest-2 : tie.Need-mul-rest-2
+mul-rest-2 c =
+    let h : c .before .before .before .args .p .«in_page» * 4 < 64 = search (part-shift, needs) in
+    omega arith
+
+shr-rest-2 : tie.Need-shr-rest-2
+shr-rest-2 c = search (part-shift, needs)
 
 write-bytes-requires : tie.Need-write-bytes-requires
 write-bytes-requires c κs = search needs
@@ -42,6 +50,8 @@ write-both-spec =
     both-inside-requires
     mul-rest
     shr-rest
+    mul-rest-2
+    shr-rest-2
     write-bytes-requires
     sub-write-bytes
     write-bytes-requires-2
