@@ -1,2 +1,1 @@
-// Demand 3, of every list of calls of the core.
-pub mod step;
+// Demand 3 and the plain model, of every list of calls of the core: definitions and theorems in specs/ alone.
