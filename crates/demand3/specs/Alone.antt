@@ -1,35 +1,32 @@
 -- Where the answers to a call's translations are those of the core without a cache, so are its reply and RAM after it.
-use mathlib.Core.Path.{_≡_, refl, sym, ap, ap₂, subst, _∙_}
+use mathlib.Core.Path.{_≡_, refl, sym, ap, _∙_}
 use mathlib.Core.List.{List, [], _∷_, _++_, append-nil}
 use Prim.Native.Nat.{ℕ, zero, suc, _+_, _%_}
 use Rattle.word.specs.Bits.{alignDown, wrap}
-use Rattle.word.specs.Ram.{widthOf, bytesIn}
+use Rattle.word.specs.Ram.{widthOf}
 use Rattle.word.specs.declared.ram.Sized.{Sized}
-use Rattle.word.specs.declared.ram.Sized.the-variants as Sized
 use Rattle.tlb.specs.declared.access.Kind.the-variants as Kind
 use Rattle.tlb.specs.declared.access.Answer.{Answer}
 use Rattle.tlb.specs.declared.access.Answer.the-variants.{Address, Status}
 use Rattle.tlb.specs.declared.Tlb.{Tlb}
 use Rattle.sysop.specs.declared.op.SysOp.{SysOp}
 use Rattle.sysop.specs.declared.op.SysOp.the-variants as Op
-use Rattle.mmu.specs.Ops.{writeOf}
 use Rattle.mmu.specs.declared.core.Core.{Core}
 use Rattle.mmu.specs.declared.ends.StoreAnswer.{StoreAnswer}
 use Rattle.mmu.specs.declared.ends.StoreAnswer.the-variants as Store
-use Rattle.exec.specs.Sys.{onStored, zeroOf, zeroRam}
-use Rattle.cpu.specs.Step.{storing, refusedOr}
+use Rattle.exec.specs.Sys.{zeroOf, zeroRam}
+use Rattle.cpu.specs.Step.{storing}
 use Rattle.cpu.specs.declared.call.Encoding.{Encoding}
 use Rattle.cpu.specs.declared.call.Call.{Call}
 use Rattle.cpu.specs.declared.call.Call.the-variants.{Translate, DataPa, FetchPa, Load, Store, Fetch, System, Register, Level, Mark, General, Abort}
-use Rattle.cpu.specs.declared.call.Reply.{Reply}
 use Rattle.history.specs.World.{onNow, uncached}
 use Rattle.history.specs.History.{translates, Given, Event, steps, answerOf, onward}
-use Rattle.history.specs.Invisible.{plainAnswers, answersRun, plainAnswersRun}
+use Rattle.history.specs.Invisible.{answersRun, plainAnswersRun}
 use Rattle.history.specs.Instance.{Ram, real}
 use Rattle.demand3.specs.Bare.{Bare, plainIn, opIn, operandIn, Verdict, allowed, number, undefined, unimplemented, verdictIn, refusalOf, ifAllowed}
 use Rattle.demand3.specs.Events.{idle, accessIn, sizedIn, zeroSteps, sysSteps, stepsIn, eventsIn}
 use Rattle.demand3.specs.Starts.{bareOf, ramWith, ramZeroed, zeroLater, sysLater, laterOf, laterIn}
-use Rattle.demand3.specs.Replies.{Outcome, outcome, outcomeOf, loadSays, storeSays, loadSized, storeSized, zeroSays, sysSays, callSays, saysIn, answersAlone, zeroOne, onDone, zeroAlone, sysAlone, callAlone, bareReply}
+use Rattle.demand3.specs.Replies.{Outcome, outcome, outcomeOf, storeSays, loadSized, storeSized, sysSays, callSays, answersAlone, zeroOne, onDone, zeroAlone, sysAlone, callAlone, bareReply}
 use Rattle.demand3.specs.Bridge.{bare-then, tlb-then}
 use Rattle.demand3.specs.Answered.{one-page, next-aligned, start-aligned, zeroOutcome, storeEnds, coreThen, tlbThen, firstGiven, first-given, store-said, one-outcome, zero-said, reply-is}
 

@@ -16,7 +16,7 @@ use Rattle.cpu.specs.Step.{ends, afterStore, afterWrite, runOf, ramOf, refusedO
 use Rattle.cpu.specs.declared.call.Encoding.{Encoding}
 use Rattle.cpu.specs.declared.call.Call.{Call}
 use Rattle.cpu.specs.declared.call.Call.the-variants.{Translate, DataPa, FetchPa, Load, Store, Fetch, System, Register, Level, Mark, General, Abort}
-use Rattle.cpu.specs.declared.call.Reply.the-variants.{Refused, Done}
+use Rattle.cpu.specs.declared.call.Reply.the-variants.{Refused}
 use Rattle.cpu.specs.declared.call.Stepped.{Stepped}
 use Rattle.history.specs.Calls.{Lent, run, bareRun}
 use Rattle.history.specs.EveryCall.{run-bare as runs-agree}

@@ -39,7 +39,7 @@ use Rattle.cpu.specs.declared.call.Encoding.{Encoding}
 use Rattle.cpu.specs.declared.call.Call.{Call}
 use Rattle.cpu.specs.declared.call.Call.the-variants.{Translate, DataPa, FetchPa, Load, Store, Fetch, System, Register, Level, Mark, General, Abort}
 use Rattle.cpu.specs.declared.call.Reply.the-variants.{Refused}
-use Rattle.history.specs.World.{Plain, onNow}
+use Rattle.history.specs.World.{Plain}
 use Rattle.history.specs.History.{Ask, writes, Event, steps, plainRun, asked, reshaped, refit, tlbRun}
 use Rattle.history.specs.Calls.{Bridge}
 use Rattle.history.specs.Instance.{Ram, real}

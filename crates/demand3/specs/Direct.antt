@@ -7,7 +7,6 @@ use Prim.Native.Nat.{ℕ}
 use native.Mathlib.Omega.{arith}
 use Rattle.word.specs.Bits.{alignDown, pick}
 use Rattle.word.specs.Ram.{widthOf, bytesIn}
-use Rattle.word.specs.declared.ram.Sized.{Sized}
 use Rattle.word.specs.declared.ram.Sized.the-variants.{Bytes}
 use Rattle.word.specs.declared.ram.Width.{Width}
 use Rattle.tlb.specs.Lists.{Each, done, more}
@@ -79,7 +78,7 @@ module _ (list : List (Fed real machine)) (seen : Shown real machine freshCore l
 
   -- ANSWERS to the translations of a step after the list
 
-  begins : plainRun real (plainIn freshBare) past ≡ plainIn bareNow
+  pub begins : plainRun real (plainIn freshBare) past ≡ plainIn bareNow
   unfolding freshCore freshBare
   begins =
       ap (plainRun real (plainIn freshBare)) (sym (append-nil past))
@@ -102,7 +101,7 @@ module _ (list : List (Fed real machine)) (seen : Shown real machine freshCore l
       (λ s. all-settled real real-laws (plainIn freshBare) fresh-asid (omega arith) past m (record { asks = l; effect = nothing }) s)
       ss
 
-  one-ask : (a : Ask) → SettledAt (addressOf a)
+  pub one-ask : (a : Ask) → SettledAt (addressOf a)
       → answerOf real (plainIn (bareOf coreNow)) m a (coreNow .tlb) ≡ uncachedAt (kindOf a) (addressOf a)
   one-ask a st = ap firstOf (given-after (a ∷ []) (more st done))
 

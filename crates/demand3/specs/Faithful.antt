@@ -11,7 +11,7 @@ use Rattle.cpu.specs.declared.call.Stepped.{Stepped}
 use Rattle.history.specs.History.{Given, Step, Event, steps, plainRun, tlbRun, answers}
 use Rattle.history.specs.Invisible.{Tidy, answersRun}
 use Rattle.history.specs.Lists.{answers-split}
-use Rattle.history.specs.Calls.{Lent, Fed, lentOf, eventsRun, shown, showing, plainAfter, FaithfulIn}
+use Rattle.history.specs.Calls.{Lent, Fed, lentOf, eventsRun, shown, showing, FaithfulIn}
 use Rattle.history.specs.EveryCall.{shown-lent, shown-shown}
 use Rattle.history.specs.Instance.{Ram, real}
 use Rattle.demand3.specs.Bare.{Bare, freshBare, plainIn}

@@ -16,6 +16,8 @@ pub mod Worked
 -- The plain model of the cache, call by call.
 pub mod ModelCalls
 pub mod Counted
+-- The bytes.
+pub mod Bytes
 -- The proof.
 pub mod Asks
 pub mod Answered

@@ -4,11 +4,11 @@
 -- cache and RAM at each step alone.
 use mathlib.Core.Path.{_≡_, refl, sym, ap, subst, _∙_}
 use mathlib.Core.List.{List}
-use Prim.Native.Nat.{ℕ, _≤_}
+use Prim.Native.Nat.{_≤_}
 use native.Mathlib.Omega.{arith}
 use Rattle.sysreg.specs.Shape.{asidOf}
 use Rattle.tlb.specs.Tlb.{fresh}
-use Rattle.tlb.specs.Model.{Slot, Counters, Model, emptyModel}
+use Rattle.tlb.specs.Model.{Model, emptyModel}
 use Rattle.tlb.specs.Live.{countersOf, pendingOf, live, WellFormed}
 use Rattle.tlb.specs.declared.Tlb.{Tlb}
 use Rattle.mmu.specs.Core.{freshCore}
@@ -24,7 +24,7 @@ use Rattle.history.specs.EveryCall.{shown-lent, shown-shown, run-plain, run-tlb
 use Rattle.history.specs.Instance.{Ram, real, real-laws, fresh-asid}
 use Rattle.demand3.specs.Bare.{Bare, freshBare, plainIn}
 use Rattle.demand3.specs.Events.{eventsIn}
-use Rattle.demand3.specs.Replies.{Outcome, outcomeOf, saysIn}
+use Rattle.demand3.specs.Replies.{outcomeOf, saysIn}
 use Rattle.demand3.specs.Starts.{bareOf, laterIn}
 use Rattle.demand3.specs.Machine.{machine}
 use Rattle.demand3.specs.Bridge.{bridge, fits}

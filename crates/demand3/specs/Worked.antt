@@ -49,7 +49,7 @@ use Rattle.history.specs.World.{Agree, covers, judge, judged, pageWalk, uncache
 use Rattle.history.specs.Lists.{each-head}
 use Rattle.history.specs.History.{translates, carries, writes, Event, steps}
 use Rattle.history.specs.StepByStep.{HoldsFrom, steps-settled}
-use Rattle.history.specs.Calls.{Lent, eventsRun}
+use Rattle.history.specs.Calls.{Lent}
 use Rattle.history.specs.EveryCall.{shown-shown}
 use Rattle.history.specs.Instance.{Ram, real}
 use Rattle.demand3.specs.Bare.{freshBare, plainIn, missedIn}

@@ -9,7 +9,7 @@ use Rattle.history.specs.World.{World, Laws, Plain, regimeNow, pageNow, 
 use Rattle.history.specs.Lists.{plain-append, tlb-append}
 use Rattle.history.specs.History.{kindOf, addressOf, Given, Step, Event, plainRun, answers, tlbRun, Settled, Faithful}
 use Rattle.history.specs.Theorem.{demand-3}
-use Rattle.history.specs.Calls.{Machine, Lent, Fed, run, lentOf, bareRun, eventsFed, eventsRun, ShownIn, Shown, showing, shown, plainOf, eventsOf, Bridge, plainAfter, Demand3Calls}
+use Rattle.history.specs.Calls.{Machine, Lent, Fed, run, lentOf, bareRun, eventsFed, eventsRun, ShownIn, Shown, shown, plainOf, eventsOf, Bridge, plainAfter, Demand3Calls}
 
 module _ (w : World) (M : Machine w) where
   -- every list of calls is shown by its run

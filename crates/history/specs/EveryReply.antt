@@ -3,12 +3,11 @@ use mathlib.Core.Path.{_≡_, refl, sym, ap, ap₂, subst, _∙_}
 use mathlib.Core.List.{List, [], _∷_, _++_, append-nil, append-assoc}
 use Prim.Native.Nat.{_≤_}
 use Rattle.tlb.specs.Tlb.{fresh}
-use Rattle.tlb.specs.declared.Tlb.{Tlb}
 use Rattle.history.specs.World.{World, Laws, Plain}
 use Rattle.history.specs.History.{Event, steps, tlbRun}
 use Rattle.history.specs.Invisible.{answersRun, plainAnswersRun, Tidy}
 use Rattle.history.specs.Corollaries.{rest-invisible}
-use Rattle.history.specs.Calls.{Machine, Lent, Fed, run, lentOf, bareRun, eventsFed, eventsRun, ShownIn, Shown, plainOf, eventsOf, Bridge, Replies, SameReplies, replies, bareReplies, InvisibleCalls}
+use Rattle.history.specs.Calls.{Machine, Fed, run, lentOf, bareRun, eventsFed, eventsRun, ShownIn, Shown, plainOf, eventsOf, Bridge, Replies, SameReplies, replies, bareReplies, InvisibleCalls}
 use Rattle.history.specs.EveryCall.{run-bare, fed-events, run-plain, fresh-run}
 
 module _ (w : World) where

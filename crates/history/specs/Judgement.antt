@@ -3,10 +3,9 @@
 use mathlib.Core.Path.{_≡_, refl, sym, ap, subst, _∙_}
 use mathlib.Core.Bool.{Bool, true, false, not}
 use mathlib.Core.List.{List}
-use mathlib.Core.Logic.{_⊎_, inl, inr}
 use Prim.Native.Nat.{ℕ, _+_, _*_, _/_, _%_, _^_, _≤_}
 use native.Mathlib.Omega.{arith}
-use Rattle.word.specs.Bits.{bitOn, pick}
+use Rattle.word.specs.Bits.{pick}
 use Rattle.walk.specs.Regime.{singlePriv, wxnOf, bankOf}
 use Rattle.walk.specs.Table.{Fault, addressSize, translation, accessFlag, externalAbort, statusOf, Translation, Result, mapped, faults, tableWalk}
 use Rattle.walk.specs.Permission.{Access, reading, writing, fetching, allowed}
@@ -16,7 +15,6 @@ use Rattle.walk.specs.WalkBounds.{Levelled, Found, Sound, table-walk-sound}
 use Rattle.walk.specs.declared.regime.Regime.{Regime}
 use Rattle.walk.specs.declared.regime.Bank.{Bank}
 use Rattle.walk.specs.declared.level.Leaf.{Leaf}
-use Rattle.walk.specs.declared.level.Walked.{Walked}
 use Rattle.walk.specs.declared.level.Walked.the-variants.{Mapped, Fault as Faulted}
 use Rattle.word.specs.declared.ram.Word.{Word}
 use Rattle.sysreg.specs.declared.regs.Control.{Control}
@@ -29,7 +27,7 @@ use Rattle.tlb.specs.declared.access.Answer.{Answer}
 use Rattle.tlb.specs.declared.access.Answer.the-variants.{Address, Status}
 use Rattle.tlb.specs.declared.Inval.{Inval}
 use Rattle.history.specs.World.{Plain, judge, judged, regimeNow, onNow, untagNow, pageNow, uncached}
-use Rattle.history.specs.History.{Ask, kindOf, addressOf, Given, Step, Event, plainRun, answers, tlbRun}
+use Rattle.history.specs.History.{Ask, kindOf, addressOf, Step, Event, plainRun, answers, tlbRun}
 use Rattle.history.specs.Instance.{Ram, memoryOf, real, real-laws, freshPlain, fresh-asid}
 use Rattle.history.specs.Origin.{Stood, From, flat, fails, walks, origin}
 

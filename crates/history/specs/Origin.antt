@@ -5,7 +5,6 @@ use mathlib.Core.Bool.{true, false}
 use mathlib.Core.List.{List, [], _∷_, _++_}
 use mathlib.Core.Logic.{_⊎_, inl, inr}
 use Prim.Native.Nat.{ℕ, _≤_}
-use Rattle.walk.specs.declared.regime.Regime.{Regime}
 use Rattle.walk.specs.declared.level.Leaf.{Leaf}
 use Rattle.walk.specs.declared.level.Walked.the-variants.{Mapped, Fault}
 use Rattle.tlb.specs.Lists.{Each, done, more}
@@ -15,8 +14,8 @@ use Rattle.tlb.specs.declared.access.Answer.the-variants.{Address, Status}
 use Rattle.tlb.specs.declared.Inval.{Inval}
 use Rattle.tlb.specs.declared.Tlb.{Tlb}
 use Rattle.history.specs.World.{World, Laws, covers, judge, Plain, pageWalk, regimeNow, onNow, untagNow, pageNow, needNow}
-use Rattle.history.specs.History.{Ask, kindOf, addressOf, Given, Step, Event, steps, plainRun, dropsRun, answerOf, askedOf, onward, answers, tlbRun}
-use Rattle.history.specs.Sound.{Mark, at, Seen}
+use Rattle.history.specs.History.{Ask, kindOf, addressOf, Step, Event, steps, plainRun, dropsRun, answerOf, askedOf, onward, answers, tlbRun}
+use Rattle.history.specs.Sound.{Mark, at}
 use Rattle.history.specs.Right.{Answered, itself, by, failed}
 use Rattle.history.specs.Theorem.{Held, AskDone, ask-done, marks, Uncovered, Found, found, history-held, held-at, run-low}
 
