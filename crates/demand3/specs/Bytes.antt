@@ -1,5 +1,6 @@
 -- Of every core that calls reach: each byte of a load or a store is the byte at the translation of its own address, and DC ZVA leaves 64 zero bytes at the
--- translation of the aligned address and every other byte as it was. The laws are mmu's and exec's, of cores that are well-formed.
+-- translation of the aligned address and every other byte as it was. The laws are mmu's and exec's, of cores that are well-formed; `readOf`, `writeOf`,
+-- `ramAfterWrite`, `sysOf` and `sysRam` are what `stepOf` and `ramAfter` make of a call that misses no check.
 use mathlib.Core.Path.{_≡_, refl, sym, ap, _∙_}
 use mathlib.Core.Bool.{false}
 use mathlib.Core.List.{List, [], _∷_, _++_}
@@ -14,10 +15,10 @@ use Rattle.tlb.specs.declared.access.Answer.the-variants.{Address}
 use Rattle.mmu.specs.Core.{freshCore, regOf}
 use Rattle.mmu.specs.Bytes.{byteIn}
 use Rattle.mmu.specs.Step.{stepOf as stepMmu}
-use Rattle.mmu.specs.Ops.{steppedNow, translateOf, readOf}
+use Rattle.mmu.specs.Ops.{steppedNow, translateOf, readOf, writeOf, ramAfterWrite}
 use Rattle.mmu.specs.OpLaws.{onNow}
-use Rattle.mmu.specs.OwnAddress.{Ready}
-use Rattle.mmu.specs.ByteMeaning.{OwnByte, load-byte}
+use Rattle.mmu.specs.OwnAddress.{ownAnswer, Ready}
+use Rattle.mmu.specs.ByteMeaning.{OwnByte, load-byte, store-byte, store-others}
 use Rattle.mmu.specs.declared.ends.LoadAnswer.the-variants as Load
 use Rattle.mmu.specs.declared.ends.StoreAnswer.the-variants as Store
 use Rattle.sysop.specs.declared.op.SysOp.the-variants as Op
@@ -114,6 +115,24 @@ pub load-byte-after : (list : List (Fed real machine)) (seen : Shown real machin
     → (o : OwnByte (coreNow list seen m) (m .base) (m .bytes) va Read i) × (v / 256 ^ i % 256 ≡ byteIn (m .base) (m .bytes) (wrap (o .pa)))
 load-byte-after list seen m va n v i small few room bytes e h =
     load-byte (coreNow list seen m) (m .base) (m .bytes) va n v i (ready-after list seen m va n Read small few room) bytes e h
+
+-- after a store that is done, the byte of RAM at the translation of byte i's own address is byte i of the value; of two bytes at one place the later
+pub store-byte-after : (list : List (Fed real machine)) (seen : Shown real machine freshCore list) (m : Ram) (va n v i : ℕ)
+    → va < 2 ^ 64 → n ≤ 8 → m .base + length (m .bytes) ≤ 2 ^ 64
+    → writeOf (coreNow list seen m) (m .base) (m .bytes) va n .answer ≡ Store.Done → i < n
+    → (o : OwnByte (coreNow list seen m) (m .base) (m .bytes) va Write i)
+    × (((j pa : ℕ) → i < j → j < n → ownAnswer (coreNow list seen m) (memoryOf m) va Write j ≡ Address pa → wrap pa ≡ wrap (o .pa) → ⊥)
+    → byteIn (m .base) (ramAfterWrite (coreNow list seen m) (m .base) (m .bytes) va n v) (wrap (o .pa)) ≡ v / 256 ^ i % 256)
+store-byte-after list seen m va n v i small few room e h =
+    store-byte (coreNow list seen m) (m .base) (m .bytes) va n v i (ready-after list seen m va n Write small few room) e h
+
+-- and every byte that is at the translation of none of its bytes' own addresses stays
+pub store-others-after : (list : List (Fed real machine)) (seen : Shown real machine freshCore list) (m : Ram) (va n v k : ℕ)
+    → va < 2 ^ 64 → n ≤ 8 → m .base + length (m .bytes) ≤ 2 ^ 64 → k < length (m .bytes)
+    → ((i pa : ℕ) → i < n → ownAnswer (coreNow list seen m) (memoryOf m) va Write i ≡ Address pa → wrap pa ≡ m .base + k → ⊥)
+    → getD (ramAfterWrite (coreNow list seen m) (m .base) (m .bytes) va n v) k 0 ≡ getD (m .bytes) k 0
+store-others-after list seen m va n v k small few room h none =
+    store-others (coreNow list seen m) (m .base) (m .bytes) va n v k (ready-after list seen m va n Write small few room) h none
 
 -- DC ZVA that is done
 pub zva-after : (list : List (Fed real machine)) (seen : Shown real machine freshCore list) (m : Ram) (op1 crn crm op2 rt : ℕ)

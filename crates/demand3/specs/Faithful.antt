@@ -8,7 +8,7 @@ use Rattle.mmu.specs.declared.core.Core.{Core}
 use Rattle.cpu.specs.Step.{stepOf, ramAfter}
 use Rattle.cpu.specs.declared.call.Call.{Call}
 use Rattle.cpu.specs.declared.call.Stepped.{Stepped}
-use Rattle.history.specs.History.{Given, Step, Event, steps, plainRun, tlbRun, answers}
+use Rattle.history.specs.History.{Given, Step, Event, steps, afterEvent, plainRun, tlbEvent, tlbRun, answers}
 use Rattle.history.specs.Invisible.{Tidy, answersRun}
 use Rattle.history.specs.Lists.{answers-split}
 use Rattle.history.specs.Calls.{Lent, Fed, lentOf, eventsRun, shown, showing, FaithfulIn}
@@ -43,16 +43,25 @@ abbrev pub answersAt : List (Lent real machine) → List (Event real) → Ram �
 answersAt list before m s =
     answers real (plainRun real (plainIn (bareAfter list)) before) m (s .asks) (tlbRun real (plainIn (bareAfter list)) before (coreAfter list .tlb))
 
+-- those of the steps before it, and of those after it
+abbrev pub answersBefore : List (Lent real machine) → List (Event real) → List Given
+answersBefore list before = answersRun real (plainIn (bareAfter list)) before (coreAfter list .tlb)
+
+abbrev pub answersFrom : List (Lent real machine) → List (Event real) → Ram → Step real → List (Event real) → List Given
+answersFrom list before m s later =
+    answersRun real (afterEvent real (steps m s) (plainRun real (plainIn (bareAfter list)) before)) later
+    (tlbEvent real (steps m s) (plainRun real (plainIn (bareAfter list)) before) (tlbRun real (plainIn (bareAfter list)) before (coreAfter list .tlb)))
+
 -- A call x on the RAM m, after a list of calls from the fresh core; o is its reply with the bytes after it.
 --   answered   the reply and the bytes are made from the answers to the call's translations
---   parts      these are the answers of its steps, one after the other
+--   parts      these are the answers of its steps, one after the other: those of the steps before one, its own, those of the steps after it
 --   faithful   each answer, at each step of the call, whose page meets the premise is that of the core without a cache
 --   same       where all pages do, so are the reply and the bytes
 pub record Faithful (list : List (Lent real machine)) (m : Ram) (x : Call) (o : Outcome) : Type 0 where
   pub answered : o ≡ saysIn (bareAfter list) m (laterIn (coreAfter list) m x) x (answersAfter list m x)
   pub parts : (before : List (Event real)) (m′ : Ram) (s : Step real) (later : List (Event real))
       → eventsAfter list m x ≡ before ++ steps m′ s ∷ later
-      → (first : List Given) × (last : List Given) × (answersAfter list m x ≡ first ++ (answersAt list before m′ s ++ last))
+      → answersAfter list m x ≡ answersBefore list before ++ (answersAt list before m′ s ++ answersFrom list before m′ s later)
   pub faithful : (before : List (Event real)) (m′ : Ram) (s : Step real) (later : List (Event real))
       → eventsAfter list m x ≡ before ++ steps m′ s ∷ later
       → Each (FaithfulIn real machine freshBare (fedBy list) before m′) (answersAt list before m′ s)
@@ -109,7 +118,9 @@ faithful-step c base bytes x r after er ea list ec =
     let made : outcome (r .reply) after ≡ outcomeOf (coreAfter list) m x = rw (er, ea, ec) in
     record {
       answered = made ∙ said list m x;
-      parts = λ before m′ s later e. answers-split real (plainIn (bareAfter list)) before m′ s later (coreAfter list .tlb) (eventsAfter list m x) e;
+      parts = λ before m′ s later e.
+          ap (λ (es : List (Event real)). answersRun real (plainIn (bareAfter list)) es (coreAfter list .tlb)) e
+          ∙ answers-split real (plainIn (bareAfter list)) before m′ s later (coreAfter list .tlb);
       faithful = fed-answers list m x;
       same = λ tidy. made ∙ fed-same list m x tidy;
     }

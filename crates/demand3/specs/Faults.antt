@@ -1,4 +1,4 @@
--- Each fault that a call replies is a row of document 01's table, with the address translated.
+-- Each fault that a call replies is a row of document 01's table, with the address translated, or for 0x10 that of a byte of the access.
 use mathlib.Core.Path.{_≡_, refl, sym, ap, subst, subst⁻¹, _∙_}
 use mathlib.Core.Bool.{Bool, true, false}
 use mathlib.Core.List.{List, [], _∷_, _++_, append-nil, List·Memᴰ, List·Memᴰ·head, List·Memᴰ·tail}
@@ -76,8 +76,9 @@ Tells Reply.Done addr fsc = ⊥
 Tells (Reply.Value v) addr fsc = ⊥
 Tells Reply.Faults addr fsc = ⊥
 
--- Where it comes from, among the answers to the call's translations: from one that met this status at this address; or from an access that begins
--- at the address of one that was allowed, whose byte i lies outside RAM.
+-- Where it comes from, among the answers to the call's translations: from one that met this status at this address; or, for an abort, from an access
+-- that begins at the address of one that was allowed, with the address of its byte i (which byte: `lowest` of mmu/specs/PlaceLaws.antt, and the first
+-- where the access is not split).
 pub data Told (gs : List Given) (addr fsc : ℕ) : Type 0 where
   translating : (g : Given) → List·Memᴰ g gs → addressOf (g .ask) ≡ addr → g .answer ≡ Status fsc → Told gs addr fsc
   outside : (g : Given) → List·Memᴰ g gs → (pa : ℕ) → g .answer ≡ Address pa → (i : ℕ) → i < 8 → wrap addr ≡ wrap (addressOf (g .ask) + i) → fsc ≡ 0x10
@@ -327,7 +328,7 @@ each-at {P} (more p ps) (List·Memᴰ·head e) = subst⁻¹ P e p
 each-at (more p ps) (List·Memᴰ·tail m) = each-at ps m
 
 -- Whatever the call and RAM: where a call after the list replies a fault, its status is a row of the table, a translation's or 0x10, and it comes from
--- the answers to the call's translations, with the address translated or that of the byte outside.
+-- the answers to the call's translations, with the address translated or, for 0x10, that of a byte of the access.
 pub every-fault : (list : List (Fed real machine)) → Shown real machine freshCore list → (m : Ram) (x : Call) (addr fsc : ℕ)
     → Tells (stepOf (coreAfter (lentOf real machine list)) (m .base) (m .bytes) x .reply) addr fsc
     → (Row fsc ⊎ (fsc ≡ 0x10)) × Told (answersAfter (lentOf real machine list) m x) addr fsc

@@ -1,7 +1,7 @@
 -- The plain model of the cache, call by call: after every list of calls from the fresh core, whatever RAM is at each step, the core's cache stands
 -- for the model that the list's steps make of the empty one, and the next call's answers, counters and what it leaves pending are the model's.
 -- The model is that of tlb/specs/Model.antt, its run over steps that of history/specs/ModelRun.antt; the steps are read from the state without a
--- cache and RAM at each step alone.
+-- cache and RAM at each step, as the run shows it (Starts.antt).
 use mathlib.Core.Path.{_≡_, refl, sym, ap, subst, _∙_}
 use mathlib.Core.List.{List}
 use Prim.Native.Nat.{_≤_}

@@ -1,6 +1,7 @@
 -- RAM as it stands when each step of a call begins, as the run on the core shows it: the one place where the premise meets the core. A call's first
--- step begins on the RAM that the list gives; a zeroing's further stores begin on what its earlier stores have left. `Shown` of history's Calls
--- is the hypothesis that the list is fed so.
+-- step begins on the RAM that the list gives; a zeroing's further stores begin on what its earlier stores have left, and there are as many as the core
+-- began (a store that was not begun would have the same registers and RAM as the last one, and so the same walk). `Shown` of history's Calls is the
+-- hypothesis that the list is fed so.
 use mathlib.Core.List.{List, [], _∷_}
 use Prim.Native.Nat.{ℕ, zero, suc, _+_}
 use Rattle.word.specs.Bits.{alignDown, wrap}

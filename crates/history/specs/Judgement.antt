@@ -1,8 +1,9 @@
 -- Every translation, by walk, entry or hint, is judged by the manual's permission check on the attributes that a walk of its page found; and the
 -- statuses that there are. No premise: this holds after every history.
 use mathlib.Core.Path.{_≡_, refl, sym, ap, subst, _∙_}
-use mathlib.Core.Bool.{Bool, true, false, not}
+use mathlib.Core.Bool.{Bool, true, false, not, false≢true}
 use mathlib.Core.List.{List}
+use mathlib.Core.Logic.{_⊎_, inl, inr}
 use Prim.Native.Nat.{ℕ, _+_, _*_, _/_, _%_, _^_, _≤_}
 use native.Mathlib.Omega.{arith}
 use Rattle.word.specs.Bits.{pick}
@@ -26,7 +27,7 @@ use Rattle.tlb.specs.declared.access.Kind.the-variants.{Read, Write, Fetch}
 use Rattle.tlb.specs.declared.access.Answer.{Answer}
 use Rattle.tlb.specs.declared.access.Answer.the-variants.{Address, Status}
 use Rattle.tlb.specs.declared.Inval.{Inval}
-use Rattle.history.specs.World.{Plain, judge, judged, regimeNow, onNow, untagNow, pageNow, uncached}
+use Rattle.history.specs.World.{covers, Plain, judge, judged, regimeNow, onNow, untagNow, pageNow, uncached}
 use Rattle.history.specs.History.{Ask, kindOf, addressOf, Step, Event, plainRun, answers, tlbRun}
 use Rattle.history.specs.Instance.{Ram, memoryOf, real, real-laws, freshPlain, fresh-asid}
 use Rattle.history.specs.Origin.{Stood, From, flat, fails, walks, origin}
@@ -48,8 +49,8 @@ checked s r user k t va =
     pick (allowed (singlePriv r) (not user) (wxnOf s) (t .perms) (accessFor k)) (Address (t .address / 4096 * 4096 + va % 4096)) (Status (12 + t .level))
 
 -- The answer x to a translation a, made after the history on the RAM m. Either stage 1 is off, and it is the address itself; or the walk of now
--- faults, and it is that fault; or the page had the walk t at the registers R and the RAM m′, of now or of a step of the history, which no
--- invalidation since covers, and the access of now is checked on what t found.
+-- faults, and it is that fault; or the page had the walk t at the registers R and the RAM m′, of now or of a step of the history, global or under
+-- today's ASID, which no invalidation since covers, and the access of now is checked on what t found.
 pub data Judged (past : List (Event real)) (m : Ram) (a : Ask) (x : Answer) : Type 0 where
   itself : onNow real (plainRun real freshPlain past) ≡ false → x ≡ Address (addressOf a) → Judged past m a x
   faulted : (f : Fault) → onNow real (plainRun real freshPlain past) ≡ true
@@ -62,6 +63,14 @@ pub data Judged (past : List (Event real)) (m : Ram) (a : Ask) (x : Answer) : Ty
       → tableWalk (bankOf R (regimeNow real (plainRun real freshPlain past))) (regimeNow real (plainRun real freshPlain past))
       (pageNow real (plainRun real freshPlain past) (addressOf a) * 4096) (memoryOf m′)
       ≡ mapped t
+      → (t .nG ≡ false) ⊎ (real .asid R ≡ real .asid (plainRun real freshPlain past .regs))
+      → Each
+      (λ v.
+      covers v (pageNow real (plainRun real freshPlain past) (addressOf a))
+      (leafOf (singlePriv (regimeNow real (plainRun real freshPlain past))) (wxnOf (bankOf R (regimeNow real (plainRun real freshPlain past)))) t)
+      (real .asid R)
+      ≡ false)
+      vs
       → x
       ≡ checked (bankOf R (regimeNow real (plainRun real freshPlain past))) (regimeNow real (plainRun real freshPlain past))
       (userNow (plainRun real freshPlain past) (kindOf a)) (kindOf a) t (addressOf a)
@@ -108,15 +117,27 @@ judge-checked s r t k user va =
 
 -- EVERY TRANSLATION
 
+not-true : (b : Bool) → not b ≡ true → b ≡ false
+not-true false e = refl
+not-true true e = absurd (false≢true e)
+
 judged-from : (past : List (Event real)) (m : Ram) (a : Ask) (x : Answer) → From real freshPlain past m a x → Judged past m a x
 judged-from past m a x (flat o e) = itself o e
 judged-from past m a x (fails code o f e) = let (g, h, q) = manual-fault _ _ _ _ code f in faulted g o h (e ∙ ap Status q)
 judged-from past m a x (walks R m′ vs stood ℓ o leaf d us e) =
     let (t, h, q) = manual-leaf _ _ _ _ ℓ leaf in
-    allowing R m′ vs stood t o h
+    allowing R m′ vs stood t o h (day t (subst (λ (l : Leaf). (l .global ≡ true) ⊎ (real .asid R ≡ real .asid (plainRun real freshPlain past .regs))) (sym q) d))
+    (subst
+    (λ (l : Leaf). Each (λ v. covers v (pageNow real (plainRun real freshPlain past) (addressOf a)) l (real .asid R) ≡ false) vs) (sym q) us)
     (e
     ∙ ap (λ (l : Leaf). judge l (need (kindOf a) (userNow (plainRun real freshPlain past) (kindOf a))) (addressOf a)) (sym q)
     ∙ judge-checked (bankOf R (regimeNow real (plainRun real freshPlain past))) (regimeNow real (plainRun real freshPlain past)) t (kindOf a) (userNow (plainRun real freshPlain past) (kindOf a)) (addressOf a))
+  where
+    -- a leaf is global where nG is clear
+    day : (t : Translation) → (not (t .nG) ≡ true) ⊎ (real .asid R ≡ real .asid (plainRun real freshPlain past .regs))
+        → (t .nG ≡ false) ⊎ (real .asid R ≡ real .asid (plainRun real freshPlain past .regs))
+    day t (inl g) = inl (not-true (t .nG) g)
+    day t (inr y) = inr y
 
 each-map : {A : Type 0} {P Q : A → Type 0} {l : List A} → ((a : A) → P a → Q a) → Each P l → Each Q l
 each-map f done = done
@@ -150,7 +171,7 @@ pub status-row : (past : List (Event real)) (m : Ram) (a : Ask) (code : ℕ) →
 status-row past m a code (itself o e) = let z : _≡_ {A = ℕ} 0 1 = cc in absurd (omega arith)
 status-row past m a code (faulted f o h e) =
     rw (status-injective e) (walk-row f (subst (Sound _) h (table-walk-sound _ _ _ (memoryOf m))))
-status-row past m a code (allowing R m′ vs stood t o h e) =
+status-row past m a code (allowing R m′ vs stood t o h d us e) =
     go (allowed (singlePriv r) (not (userNow c (kindOf a))) (wxnOf (bankOf R r)) (t .perms) (accessFor (kindOf a))) e
   where
     c : Plain real

@@ -42,17 +42,15 @@ module _ (w : World) where
   tlb-append c [] k t = refl
   tlb-append c (x ∷ l) k t = tlb-append (afterEvent w x c) l k (tlbEvent w x c t)
 
-  -- the answers of a list's steps, one after the other
-  pub answers-split : (c : Plain w) (before : List (Event w)) (m : w .Ram) (s : Step w) (later : List (Event w)) (t : Tlb) (es : List (Event w))
-      → es ≡ before ++ steps m s ∷ later
-      → (first : List Given) × (last : List Given) × (answersRun w c es t ≡ first ++ (answers w (plainRun w c before) m (s .asks) (tlbRun w c before t) ++ last))
-  answers-split c before m s later t es e = let x = go before c t in (x .0, x .1, rw e (x .2))
-    where
-      go : (b : List (Event w)) (c : Plain w) (t : Tlb)
-          → (first : List Given) × (last : List Given)
-          × (answersRun w c (b ++ steps m s ∷ later) t ≡ first ++ (answers w (plainRun w c b) m (s .asks) (tlbRun w c b t) ++ last))
-      go [] c t = ([], _, refl)
-      go (steps n u ∷ b) c t =
-          let x = go b (afterEvent w (steps n u) c) (tlbEvent w (steps n u) c t) in
-          (answers w c n (u .asks) t ++ x .0, x .1, ap (λ (l : List Given). answers w c n (u .asks) t ++ l) (x .2) ∙ sym (append-assoc (answers w c n (u .asks) t) (x .0) _))
-      go (receives v ∷ b) c t = go b c (tlbEvent w (receives v) c t)
+  -- the answers of a list's steps, one after the other: those before a step, its own, those after it
+  pub answers-split : (c : Plain w) (before : List (Event w)) (m : w .Ram) (s : Step w) (later : List (Event w)) (t : Tlb)
+      → answersRun w c (before ++ steps m s ∷ later) t
+      ≡ answersRun w c before t
+      ++ (answers w (plainRun w c before) m (s .asks) (tlbRun w c before t)
+      ++ answersRun w (afterEvent w (steps m s) (plainRun w c before)) later (tlbEvent w (steps m s) (plainRun w c before) (tlbRun w c before t)))
+  answers-split c [] m s later t = refl
+  answers-split c (steps n u ∷ b) m s later t =
+      ap (λ (l : List Given). answers w c n (u .asks) t ++ l)
+      (answers-split (afterEvent w (steps n u) c) b m s later (tlbEvent w (steps n u) c t))
+      ∙ sym (append-assoc (answers w c n (u .asks) t) _ _)
+  answers-split c (receives v ∷ b) m s later t = answers-split c b m s later (tlbEvent w (receives v) c t)

@@ -37,7 +37,7 @@ pub fn decode(level: u8, op1: u64, crn: u64, crm: u64, op2: u64) -> SysOp
     } else {
         SysOp::Unimplemented
     };
-    // EL0 has op1 3 alone; op1 0, 4 and 6 are of EL1, EL2 and EL3 and those above.
+    // EL0 has op1 3 alone; op1 0 is of EL1 and above, 4 of EL2 and above, 6 of EL3.
     let low = (level == 0) | ((level as u64) < op1 / 2);
     if low & (op1 != 3) {
         return refused;
