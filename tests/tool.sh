@@ -4,7 +4,11 @@
 set -u
 cd "$(dirname "$0")/.."
 tool=./a72
-rust=oracle/target/release
+rust=${CARGO_TARGET_DIR:-oracle/target}/release
+[ -x target/bin/a72 ] || { echo "tool.sh: target/bin/a72 is missing: ./run or rt check a72 makes it"; exit 1; }
+for program in run generate; do
+    [ -x "$rust/$program" ] || { echo "tool.sh: $rust/$program is missing: cargo build --offline --release in oracle/ makes it"; exit 1; }
+done
 seeds=${1-5}
 work=$(mktemp -d) || exit 1
 trap 'rm -rf "$work"' EXIT

@@ -3,6 +3,7 @@
 set -eu
 cd "$(dirname "$0")/.."
 program=$PWD/target/bin/replay
+[ -x "$program" ] || { echo "wrong-record.sh: target/bin/replay is missing: rt check replay makes it"; exit 1; }
 room=$(mktemp -d)
 trap 'rm -rf "$room"' EXIT
 cp crates/replay/data/*.rec "$room"

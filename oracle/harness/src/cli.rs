@@ -156,6 +156,17 @@ impl Args {
     }
 }
 
+pub const NOTHING: &str = "NOTHING WAS TESTED";
+
+/// The words that end a test: whether all that it saw was good. A test that saw nothing has failed.
+pub fn verdict<'a>(seen: u64, good: bool, words: [&'a str; 2]) -> (&'a str, bool) {
+    match (good, seen) {
+        (false, _) => (words[1], false),
+        (true, 0) => (NOTHING, false),
+        (true, _) => (words[0], true),
+    }
+}
+
 /// End with status 0 or 1.
 pub fn finish(ok: bool) -> ! {
     std::process::exit(!ok as i32)

@@ -1,5 +1,5 @@
 //! Expectations in a trace: after `#=` on an operation's line stands its answer, then after `;` values of the state
-//! by the names of [`State::line`] and [`crate::state::REGS`], then after `--` the reason. Answer and values may be
+//! by the names of [`State::line`] and [`crate::state::REGS`], then after `--` the reason. Answer or values may be
 //! left out.
 use crate::op::{Ans, Line};
 use crate::{feed, Core, Ram, State};
@@ -26,6 +26,9 @@ fn judge(text: &str, answer: Ans, state: &State) -> Vec<String> {
         return Vec::new();
     };
     let mut wrong = Vec::new();
+    if want.is_empty() && values.is_empty() {
+        wrong.push("an expectation of nothing".into());
+    }
     if !want.is_empty() && want != answer.to_string() {
         wrong.push(format!("answer is {answer}, not {want}"));
     }

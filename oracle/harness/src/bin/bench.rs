@@ -77,6 +77,9 @@ fn table(args: &Args) -> bool {
     };
     let wanted = |case: &Case| args.value("--only").is_none_or(|text| case.name.contains(text));
     let cases: Vec<_> = (1..).zip(cases()).filter(|(_, case)| wanted(case)).collect();
+    if cases.is_empty() {
+        args.fail("no case has this name");
+    }
     let counts = counts(args);
     let (more, line) = match counts {
         Some(_) => (" Rust instr. | library instr. | ratio |", "---:|---:|---:|"),

@@ -1,5 +1,5 @@
 //! Compare the Rust with another core.
-use harness::cli::{finish, Args};
+use harness::cli::{finish, verdict, Args};
 use harness::compare::compare;
 use harness::generate::trace;
 use harness::tally::Tally;
@@ -12,7 +12,7 @@ const USAGE: &str = "compare [--c | --each | --mistake M] TRACE..
   The Rust beside the model (--c: the core behind the C boundary; --each: the same by its function for each
   operation; --mistake: the model with that mistake), on traces or on those of the seeds FROM to TO - 1 with about N
   operations each, J seeds at a time. Stops at the first operation after which answer, state or RAM differ. Shows how
-  often each operation gave each answer.";
+  often each operation gave each answer. Status 1 where they differ, or no operation was compared.";
 
 /// Lines with their numbers in the trace.
 type Numbered = Vec<(usize, Line)>;
@@ -74,11 +74,8 @@ fn main() {
         let equal = args.words().iter().all(&mut one);
         (tally, equal)
     };
+    let (said, good) = verdict(tally.operations, equal, ["all equal", "DIFFERENT"]);
     print!("{tally}");
-    println!(
-        "{} operations, {}",
-        tally.operations,
-        if equal { "all equal" } else { "DIFFERENT" }
-    );
-    finish(equal)
+    println!("{} operations, {said}", tally.operations);
+    finish(good)
 }

@@ -1,11 +1,11 @@
 //! Hold traces to the expectations written in them.
-use harness::cli::{finish, Args};
+use harness::cli::{finish, Args, NOTHING};
 use harness::expect::hold;
 
 const USAGE: &str = "expect [--model | --c | --each] TRACE..
   Runs each trace on the Rust (--model: on the model; --c: on the core behind the C boundary; --each:
   by its function for each operation) and holds each operation
-  to what stands after '#=' on its line.";
+  to what stands after '#=' on its line. Status 1 where one is wrong, or there is none.";
 
 fn main() {
     let args = Args::new(USAGE, &["--model", "--c", "--each"], &[]);
@@ -24,6 +24,10 @@ fn main() {
     }
     if left_out != 0 {
         println!("left out: {left_out} expectations of leaves, which the core has not");
+    }
+    if expectations == 0 {
+        println!("0 expectations: {NOTHING}");
+        finish(false)
     }
     println!("{expectations} expectations, {wrong} wrong");
     finish(wrong == 0)

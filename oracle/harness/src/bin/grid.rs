@@ -1,5 +1,5 @@
 //! Walk with every range, size, granule code and output size.
-use harness::cli::{finish, Args};
+use harness::cli::{finish, verdict, Args};
 use harness::grid::{Ask, Grid};
 use harness::Op;
 
@@ -43,11 +43,7 @@ fn main() {
     if let Some(d) = &difference {
         println!("{d}");
     }
-    let equal = difference.is_none();
-    println!(
-        "{} walks, {}",
-        grid.walks,
-        if equal { "all equal" } else { "DIFFERENT" }
-    );
-    finish(equal)
+    let (said, good) = verdict(grid.walks, difference.is_none(), ["all equal", "DIFFERENT"]);
+    println!("{} walks, {said}", grid.walks);
+    finish(good)
 }

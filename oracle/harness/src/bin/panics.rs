@@ -1,5 +1,5 @@
 //! Where a debug build of the Rust would panic, each place once.
-use harness::cli::Args;
+use harness::cli::{finish, Args};
 use harness::generate::{trace, Style};
 use harness::rust::RustCore;
 use harness::{feed, Ans, Line, Ram};
@@ -37,4 +37,5 @@ fn main() {
         println!("{n:6} {at}\n       first: {first}");
     }
     println!("{operations} operations, {} places", seen.len());
+    finish(operations != 0)
 }

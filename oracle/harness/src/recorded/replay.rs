@@ -25,6 +25,8 @@ pub struct Replayed {
     pub left_out: u64,
     /// Cases that another implementation answered.
     pub cases: u64,
+    /// What was held to a record: operations with an answer, and lines of cases that say what is due.
+    pub judged: u64,
 }
 
 struct Replay<'a> {
@@ -54,6 +56,7 @@ impl Replay<'_> {
         let (words, short) = self.next().ok_or("not whole")?;
         if words[0] >= 70 {
             self.done.cases += (words[0] == 73) as u64;
+            self.done.judged += matches!(words[0], 71 | 74) as u64;
             return self.case.line(&words, &self.core.state(), &self.answer);
         }
         let line = decode(&words).ok_or("not a line")?;
@@ -71,6 +74,7 @@ impl Replay<'_> {
         };
         self.done.operations += 1;
         self.answer = encode_answer(&answer);
+        self.done.judged += want.is_some() as u64;
         match want {
             Some(want) => self.judge(want).map_err(|e| format!("{op}: {e}")),
             None => Ok(()),
