@@ -1,6 +1,6 @@
 // Cases that another implementation answered: what the core must come to, and for a class of difference what it must not.
 use crate::lines;
-use crate::lines::Machine;
+use crate::lines::Replay;
 use crate::parts;
 use crate::say;
 use crate::tally;
@@ -29,7 +29,7 @@ fn begun(class: u64) -> Case {
 }
 
 // A word of the state, or from 5205 on of the last answer.
-fn found(m: Machine, state: &[u64; 5205], place: u64) -> u64 {
+fn found(m: Replay, state: &[u64; 5205], place: u64) -> u64 {
     let a = m.ans;
     match place {
         5205 => a[0],
@@ -40,7 +40,7 @@ fn found(m: Machine, state: &[u64; 5205], place: u64) -> u64 {
     }
 }
 
-fn begin(m: Machine, class: u64) -> Machine {
+fn begin(m: Replay, class: u64) -> Replay {
     let mut out = m;
     let c = begun(class);
     out.case = c;
@@ -48,7 +48,7 @@ fn begin(m: Machine, class: u64) -> Machine {
 }
 
 // What the core must have come to.
-fn due(m: Machine, place: u64, is: u64, want: u64) -> Machine {
+fn due(m: Replay, place: u64, is: u64, want: u64) -> Replay {
     if is == want {
         return m;
     }
@@ -61,7 +61,7 @@ fn due(m: Machine, place: u64, is: u64, want: u64) -> Machine {
 }
 
 // The answer that is due: its code, third and fourth word in one, and its second word.
-fn answered(m: Machine, small: u64, value: u64) -> Machine {
+fn answered(m: Replay, small: u64, value: u64) -> Replay {
     let a = m.ans;
     let code = due(m, 5205, a[0], small % 256);
     let second = due(code, 5206, a[1], value);
@@ -70,7 +70,7 @@ fn answered(m: Machine, small: u64, value: u64) -> Machine {
 }
 
 // A part of the other answer.
-fn other(m: Machine, state: &[u64; 5205], place: u64, told: u64) -> Machine {
+fn other(m: Replay, state: &[u64; 5205], place: u64, told: u64) -> Replay {
     let is = found(m, state, place);
     let mut c = m.case;
     c.told = bits::more(c.told);
@@ -100,7 +100,7 @@ fn note(c: Case, counts: &mut [u64; 2048]) {
     }
 }
 
-fn end(m: Machine, counts: &mut [u64; 2048]) -> Machine {
+fn end(m: Replay, counts: &mut [u64; 2048]) -> Replay {
     let c = m.case;
     let mut out = m;
     out.cases = bits::more(m.cases);
@@ -114,7 +114,7 @@ fn end(m: Machine, counts: &mut [u64; 2048]) -> Machine {
     lines::wrong(out)
 }
 
-pub fn line(m: Machine, op: &[u64; 8], state: &[u64; 5205], counts: &mut [u64; 2048]) -> Machine {
+pub fn line(m: Replay, op: &[u64; 8], state: &[u64; 5205], counts: &mut [u64; 2048]) -> Replay {
     match op[0] {
         70 => begin(m, op[1]),
         71 => due(m, op[1], parts::get(state, op[1]), op[2]),

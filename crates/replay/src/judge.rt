@@ -1,12 +1,13 @@
 // The 24 words after an operation, held against what the core answered and holds.
 use crate::lines;
-use crate::lines::Machine;
+use crate::lines::Replay;
 use crate::parts;
 use crate::say;
 use crate::tally;
+use machine::line;
 
 // Counters, what is pending, the addresses kept, level and mark, generation and ASID, PAR_EL1.
-fn plain_words(m: Machine, state: &[u64; 5205]) -> [u64; 18] {
+fn plain_words(m: Replay, state: &[u64; 5205]) -> [u64; 18] {
     let a = m.ans;
     [
         a[0],
@@ -38,7 +39,7 @@ fn digest_words(sum: u64, state: &[u64; 5205]) -> [u64; 6] {
     [e.count, h.count, r, e.digest, h.digest, sum]
 }
 
-fn show(m: Machine, place: u64, is: u64, want: u64) -> Machine {
+fn show(m: Replay, place: u64, is: u64, want: u64) -> Replay {
     say::differs(m.lines, place, is, want);
     lines::wrong(m)
 }
@@ -55,7 +56,7 @@ fn first_wrong(is: &[u64], want: &[u8], from: u64) -> usize {
     i
 }
 
-fn judge(m: Machine, state: &[u64; 5205], want: &[u8]) -> Machine {
+fn judge(m: Replay, state: &[u64; 5205], want: &[u8]) -> Replay {
     let plain = plain_words(m, state);
     let i = first_wrong(&plain, want, 0);
     if i < 18 {
@@ -76,38 +77,32 @@ fn judge(m: Machine, state: &[u64; 5205], want: &[u8]) -> Machine {
 }
 
 // The digest of RAM, taken anew where RAM may have changed.
-fn summed(m: Machine, ram: &[u8]) -> Machine {
+fn summed(m: Replay, ram: &[u8]) -> Replay {
     let mut out = m;
     if m.stale {
-        out.sum = digest::memory::window(m.base, ram);
+        let window = m.window;
+        out.sum = line::window_digest(window, ram);
         out.stale = false;
     }
     out
 }
 
-// The words after an operation that gave a code.
+// The words after an operation.
 pub fn tail(
-    m: Machine,
+    m: Replay,
     fd: i32,
     op: &[u64; 8],
-    code: u64,
     state: &[u64; 5205],
     ram: &[u8],
     counts: &mut [u64; 2048],
-) -> Machine {
+) -> Replay {
     let mut want = [0u8; 192];
     let n = io::read_full(fd, &mut want);
     if n < 192 {
         return lines::broken(m, b"the last line is not whole");
     }
-    match code {
-        0 => {
-            let ans = m.ans;
-            tally::note(op, ans, state[32], counts);
-            let now = summed(m, ram);
-            judge(now, state, &want[..n])
-        }
-        1 => m,
-        _ => lines::broken(m, b"no such operation"),
-    }
+    let ans = m.ans;
+    tally::note(op, ans, state[32], counts);
+    let now = summed(m, ram);
+    judge(now, state, &want[..n])
 }

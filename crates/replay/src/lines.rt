@@ -1,26 +1,28 @@
 // A record's lines, one after another, on the core's words and a window of RAM.
-use crate::arrange;
 use crate::cases;
 use crate::cases::Case;
 use crate::judge;
-use crate::memory;
 use crate::parts;
-use crate::perform;
 use crate::say;
 use crate::short;
+use machine::line;
+use machine::line::Machine;
+use machine::memory;
 use word::bits;
 
+// The first word of an answer where an operation's words name nothing.
+const NO_ANSWER: u64 = 99;
+
 // What stands while a record is replayed, beside the core's words and RAM.
-pub struct Machine {
-    // the window
-    pub base: u64,
-    pub len: usize,
+pub struct Replay {
+    pub window: Machine,
     // the digest of RAM, and whether RAM may have changed since it was taken
     pub sum: u64,
     pub stale: bool,
     pub more: bool,
     pub lines: u64,
     pub done: u64,
+    // operations that the header has and that were not replayed
     pub left: u64,
     pub wrong: u64,
     pub case: Case,
@@ -29,11 +31,12 @@ pub struct Machine {
     pub ans: [u64; 4],
 }
 
-fn start() -> Machine {
+// A fresh core, and a window without bytes.
+fn start(state: &mut [u64; 5205]) -> Replay {
+    let window = line::start(state);
     let case = cases::none();
-    Machine {
-        base: 0,
-        len: 0,
+    Replay {
+        window,
         sum: 0,
         stale: true,
         more: true,
@@ -48,7 +51,7 @@ fn start() -> Machine {
 }
 
 // One difference more; the lines after it are not replayed.
-pub fn broken(m: Machine, why: &[u8]) -> Machine {
+pub fn broken(m: Replay, why: &[u8]) -> Replay {
     let mut out = wrong(m);
     out.more = false;
     say::text(b"\n  ");
@@ -57,88 +60,106 @@ pub fn broken(m: Machine, why: &[u8]) -> Machine {
 }
 
 // One difference more.
-pub fn wrong(m: Machine) -> Machine {
+pub fn wrong(m: Replay) -> Replay {
     let mut out = m;
     out.wrong = bits::more(m.wrong);
     out
 }
 
+// Another digest of RAM is due where the line may have changed it.
+fn moved(m: Replay, op: &[u64; 8]) -> Replay {
+    let mut out = m;
+    let changes = line::moves_ram(op);
+    if changes {
+        out.stale = true;
+    }
+    out
+}
+
+// An operation counted, with its answer.
+fn counted(m: Replay, op: &[u64; 8], ans: &[u64; 4]) -> Replay {
+    let mut out = moved(m, op);
+    let last = *ans;
+    out.ans = last;
+    out.done = bits::more(m.done);
+    out
+}
+
 // An operation: where the line is a whole one, the 24 words after it are held against the core.
 fn operate(
-    m: Machine,
+    m: Replay,
     fd: i32,
     op: &[u64; 8],
     whole: bool,
     state: &mut [u64; 5205],
     ram: &mut [u8],
     counts: &mut [u64; 2048],
-) -> Machine {
-    let mut ans = [0u64; 4];
-    let code = perform::perform(op, state, m.base, ram, &mut ans);
-    let out = perform::noted(m, op, code, &ans);
+) -> Replay {
+    let window = m.window;
+    let ans = line::perform(window, state, ram, op);
+    if ans[0] == NO_ANSWER {
+        return broken(m, b"no such operation");
+    }
+    let out = counted(m, op, &ans);
     if whole {
-        judge::tail(out, fd, op, code, state, ram, counts)
+        judge::tail(out, fd, op, state, ram, counts)
     } else {
         out
     }
 }
 
-// A line on the window, which is the first bytes of RAM.
+// A line of code 60 to 63.
+fn arrange(m: Replay, op: &[u64; 8], state: &mut [u64; 5205], ram: &mut [u8]) -> Replay {
+    if (op[0] == 61) & (memory::LONGEST < op[2]) {
+        return broken(m, b"the window is too large");
+    }
+    let window = m.window;
+    let after = line::arrange(window, state, ram, op);
+    let mut out = moved(m, op);
+    out.window = after;
+    out
+}
+
+// Codes of operations: calls, leaves, pokes.
+fn is_operation(code: u64) -> bool {
+    (code < 29) | ((40 <= code) & (code < 46))
+}
+
 fn act(
-    m: Machine,
+    m: Replay,
     fd: i32,
     op: &[u64; 8],
     whole: bool,
     state: &mut [u64; 5205],
     ram: &mut [u8],
     counts: &mut [u64; 2048],
-) -> Machine {
+) -> Replay {
     let code = op[0];
-    if code < 60 {
+    if is_operation(code) {
         operate(m, fd, op, whole, state, ram, counts)
-    } else if code < 70 {
-        arrange::line(m, op, state, ram)
+    } else if (60 <= code) & (code < 64) {
+        arrange(m, op, state, ram)
     } else {
         cases::line(m, op, state, counts)
     }
 }
 
-fn dispatch(
-    m: Machine,
-    fd: i32,
-    op: &[u64; 8],
-    whole: bool,
-    state: &mut [u64; 5205],
-    ram: &mut [u8],
-    counts: &mut [u64; 2048],
-) -> Machine {
-    if op[0] == 61 {
-        return arrange::window(m, op[1], op[2], ram);
-    }
-    let k = m.len;
-    if k <= ram.len() {
-        act(m, fd, op, whole, state, &mut ram[0..k], counts)
-    } else {
-        broken(m, b"the window is too large")
-    }
-}
-
 // A line of eight words, of which the first is read.
 fn full(
-    m: Machine,
+    m: Replay,
     fd: i32,
     first: u64,
     state: &mut [u64; 5205],
     ram: &mut [u8],
     counts: &mut [u64; 2048],
-) -> Machine {
+) -> Replay {
     let mut rest = [0u8; 56];
     let n = io::read_full(fd, &mut rest);
     if n < 56 {
         return broken(m, b"the last line is not whole");
     }
     let op = parts::after(first, &rest[..n]);
-    dispatch(m, fd, &op, true, state, ram, counts)
+    act(m, fd, &op, true, state, ram, counts)
 }
 
 // A word that follows, where there is one.
@@ -154,47 +175,47 @@ fn next(fd: i32, some: bool) -> u64 {
 
 // A short line: its first word says how many follow.
 fn brief(
-    m: Machine,
+    m: Replay,
     fd: i32,
     first: u64,
     state: &mut [u64; 5205],
     ram: &mut [u8],
     counts: &mut [u64; 2048],
-) -> Machine {
+) -> Replay {
     let n = first / 256 % 256;
     let a = next(fd, 0 < n);
     let b = next(fd, 1 < n);
     let c = next(fd, 2 < n);
     let op = short::words(first, a, b, c);
-    dispatch(m, fd, &op, false, state, ram, counts)
+    act(m, fd, &op, false, state, ram, counts)
 }
 
-fn ended(m: Machine) -> Machine {
+fn ended(m: Replay) -> Replay {
     let mut out = m;
     out.more = false;
     out
 }
 
-fn counted(m: Machine) -> Machine {
+fn another(m: Replay) -> Replay {
     let mut out = m;
     out.lines = bits::more(m.lines);
     out
 }
 
 fn line(
-    m: Machine,
+    m: Replay,
     fd: i32,
     state: &mut [u64; 5205],
     ram: &mut [u8],
     counts: &mut [u64; 2048],
-) -> Machine {
+) -> Replay {
     let mut head = [0u8; 8];
     let n = io::read_full(fd, &mut head);
     if n < 8 {
         return ended(m);
     }
     let first = parts::word_of(&head[..n], 0);
-    let next = counted(m);
+    let next = another(m);
     if first % 256 < 128 {
         full(next, fd, first, state, ram, counts)
     } else {
@@ -202,9 +223,10 @@ fn line(
     }
 }
 
-// A proved loop ends: it counts its turns down from more than any record has.
-fn lines(fd: i32, state: &mut [u64; 5205], ram: &mut [u8], counts: &mut [u64; 2048]) -> Machine {
-    let mut m = start();
+// The lines from a fresh core and no RAM. A proved loop ends: it counts its turns down from more than any record has.
+fn lines(fd: i32, state: &mut [u64; 5205], ram: &mut [u8], counts: &mut [u64; 2048]) -> Replay {
+    memory::wipe(ram);
+    let mut m = start(state);
     let mut turns = 100_000_000u64;
     while turns > 0 && m.more {
         m = line(m, fd, state, ram, counts);
@@ -213,31 +235,35 @@ fn lines(fd: i32, state: &mut [u64; 5205], ram: &mut [u8], counts: &mut [u64; 20
     m
 }
 
-// The header's numbers of lines, operations and cases are those that were there.
-fn as_headed(m: Machine, head: &[u8]) -> Machine {
-    let ops = std::num::wrapping_add_u64(m.done, m.left);
+// The header's numbers of lines, operations and cases are those that were there, and there was an operation.
+fn as_headed(m: Replay, head: &[u8]) -> Replay {
+    let told = parts::word_of(head, 3);
     let right = (parts::word_of(head, 0) == 0x3130_4345_5232_3741)
         & (parts::word_of(head, 2) == m.lines)
-        & (parts::word_of(head, 3) == ops)
+        & (told == m.done)
         & (parts::word_of(head, 5) == m.cases);
-    if right {
-        m
+    let mut out = m;
+    if m.done < told {
+        out.left = told - m.done;
+    }
+    if m.done == 0 {
+        broken(out, b"no operation was replayed")
+    } else if right {
+        out
     } else {
-        broken(m, b"the header has other numbers")
+        broken(out, b"the header has other numbers")
     }
 }
 
-// A whole record, from a fresh core and no RAM.
+// A whole record.
 pub fn record(
     fd: i32,
     state: &mut [u64; 5205],
     ram: &mut [u8],
     counts: &mut [u64; 2048],
-) -> Machine {
+) -> Replay {
     let mut head = [0u8; 64];
     let n = io::read_full(fd, &mut head);
-    a72abi::calls::a72_fresh(state);
-    memory::wipe(ram);
     let m = lines(fd, state, ram, counts);
     as_headed(m, &head[..n])
 }

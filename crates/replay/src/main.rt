@@ -1,26 +1,17 @@
 // Replays recorded answers on the proved core: each argument names a record; each difference is shown, then what was replayed.
-mod arrange;
 mod cases;
 mod judge;
-mod leaves;
 mod lines;
-mod memory;
 mod parts;
-mod perform;
 mod report;
 mod say;
 mod short;
 mod tables;
 mod tally;
 
-use lines::Machine;
+use lines::Replay;
 use report::Total;
 use word::bits;
-
-// RAM for the largest window of a record.
-fn ram_bytes() -> [u8; 1056768] {
-    [0; 1056768]
-}
 
 fn nothing() -> Total {
     Total {
@@ -32,7 +23,7 @@ fn nothing() -> Total {
     }
 }
 
-fn with_record(t: Total, m: Machine) -> Total {
+fn with_record(t: Total, m: Replay) -> Total {
     Total {
         files: bits::more(t.files),
         done: std::num::wrapping_add_u64(t.done, m.done),
@@ -91,10 +82,22 @@ fn arguments(state: &mut [u64; 5205], ram: &mut [u8], counts: &mut [u64; 2048]) 
     t
 }
 
+// Where no record was replayed, that is a difference.
+fn judged(t: Total) -> Total {
+    if t.files != 0 {
+        return t;
+    }
+    say::text(b"no record was replayed\n");
+    let mut out = t;
+    out.wrong = bits::more(t.wrong);
+    out
+}
+
 fn main() {
-    let mut ram = ram_bytes();
+    let mut ram = machine::memory::zeros();
     let mut state = [0u64; 5205];
     let mut counts = [0u64; 2048];
     let t = arguments(&mut state, &mut ram, &mut counts);
-    report::all(t, &counts);
+    let total = judged(t);
+    report::all(total, &counts);
 }

@@ -1,4 +1,4 @@
-// Words of a line and of a state, read and written by number: 0 past the last, and nothing written there.
+// Words of a line and of a state, read by number: 0 past the last.
 use word::ram;
 use word::ram::Width;
 use word::ram::Word;
@@ -17,13 +17,6 @@ pub fn get(state: &[u64; 5205], place: u64) -> u64 {
         state[i]
     } else {
         0
-    }
-}
-
-pub fn put(state: &mut [u64; 5205], place: u64, value: u64) {
-    if place < 5205 {
-        let i = place as usize;
-        state[i] = value;
     }
 }
 

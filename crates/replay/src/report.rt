@@ -1,5 +1,5 @@
 // The summary: each record, operations by kind and answer, cases by class.
-use crate::lines::Machine;
+use crate::lines::Replay;
 use crate::say;
 use crate::tables;
 use crate::tally;
@@ -14,7 +14,7 @@ pub struct Total {
 }
 
 // A record's line.
-pub fn file(m: Machine) {
+pub fn file(m: Replay) {
     if m.wrong == 0 {
         say::text(b": ");
     } else {

@@ -13,6 +13,9 @@ Inv-loop fd state₀ ram₀ counts₀ m₀ turns₀ state ram counts m turns = l
 abbrev μ-loop : tie.MeasureT-loop
 μ-loop fd state₀ ram₀ counts₀ m₀ turns₀ state ram counts m turns = turns
 
+wipe-requires : tie.Need-wipe-requires Inv-loop μ-loop
+wipe-requires c κs = search needs
+
 start-requires : tie.Need-start-requires Inv-loop μ-loop
 start-requires c κs = search needs
 
@@ -49,6 +52,7 @@ lines-spec =
     (tie.spec
     Inv-loop
     μ-loop
+    wipe-requires
     start-requires
     loop-holds
     line-requires
