@@ -10,7 +10,7 @@ use machine::line::Machine;
 use machine::memory;
 use word::bits;
 
-// The first word of an answer where an operation's words name nothing.
+// The first word of machine's answer where words name no operation.
 const NO_ANSWER: u64 = 99;
 
 // What stands while a record is replayed, beside the core's words and RAM.
@@ -66,7 +66,7 @@ pub fn wrong(m: Replay) -> Replay {
     out
 }
 
-// Another digest of RAM is due where the line may have changed it.
+// RAM's digest is stale after a line that may have changed RAM.
 fn moved(m: Replay, op: &[u64; 8]) -> Replay {
     let mut out = m;
     let changes = line::moves_ram(op);
@@ -120,7 +120,7 @@ fn arrange(m: Replay, op: &[u64; 8], state: &mut [u64; 5205], ram: &mut [u8]) ->
     out
 }
 
-// Codes of operations: calls, leaves, pokes.
+// Calls are below 20, leaves 20 to 28, pokes 40 to 45.
 fn is_operation(code: u64) -> bool {
     (code < 29) | ((40 <= code) & (code < 46))
 }
@@ -196,6 +196,7 @@ fn ended(m: Replay) -> Replay {
     out
 }
 
+// One line more.
 fn another(m: Replay) -> Replay {
     let mut out = m;
     out.lines = bits::more(m.lines);

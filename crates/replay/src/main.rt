@@ -33,8 +33,9 @@ fn with_record(t: Total, m: Replay) -> Total {
     }
 }
 
-fn missing(t: Total) -> Total {
-    say::text(b": no such file\n");
+// One difference more.
+fn one_wrong(t: Total, why: &[u8]) -> Total {
+    say::text(why);
     let mut out = t;
     out.wrong = bits::more(t.wrong);
     out
@@ -51,7 +52,7 @@ fn named(
     let fd = os::open_read(name);
     say::text(name);
     if fd < 0 {
-        return missing(t);
+        return one_wrong(t, b": no such file\n");
     }
     let m = lines::record(fd, state, ram, counts);
     libc::close(fd);
@@ -82,15 +83,13 @@ fn arguments(state: &mut [u64; 5205], ram: &mut [u8], counts: &mut [u64; 2048]) 
     t
 }
 
-// Where no record was replayed, that is a difference.
+// A run without a record shows nothing.
 fn judged(t: Total) -> Total {
-    if t.files != 0 {
-        return t;
+    if t.files == 0 {
+        one_wrong(t, b"no record was replayed\n")
+    } else {
+        t
     }
-    say::text(b"no record was replayed\n");
-    let mut out = t;
-    out.wrong = bits::more(t.wrong);
-    out
 }
 
 fn main() {
