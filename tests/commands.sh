@@ -158,6 +158,17 @@ in_out 1 ./check tests && {
     has out 'check: tests/silent.sh: FAILED (..'
 }
 
+# Without cargo and python3 their parts are left out; `all` counts them as failed, after the gate's own numbers.
+rm tests/bad.sh tests/silent.sh
+mkdir "$work/few"
+for tool in sh awk sed grep cat tr date mkdir tail head mktemp rm chmod df find basename dirname; do ln -s "$(command -v $tool)" "$work/few/$tool"; done
+in_out 0 env PATH="$work/bin:$work/few" ./check tests && {
+    has out 'check: differential: left out, cargo is missing'
+    has out 'check: rows of docs/DIFFERENCES.md: left out, python3 is missing'
+    last out '2 passed, 0 failed'
+}
+in_out 1 env PATH="$work/bin:$work/few" ./check all && last out '5 passed, 5 failed'
+
 # Stopped: what rt had started ends too, and no scratch files stay.
 cat >"$DOES" <<RT
 # starts a prover
