@@ -61,7 +61,7 @@ echo 'rt: ok, 2 crates proved'
 : >target/stamp/a72
 RT
 in_out 0 ./run && {
-    has err 'run: proves a72 and what it stands on, 2 crates: about 15 minutes..'
+    has err 'run: proves a72 and what it stands on, 2 crates: about 11 minutes..'
     has err 'rt: word proved (9 s), 1 of 2'
     has err 'rt: a72 proved (2 s), 2 of 2'
     hasnt err 'fn word::bits'
