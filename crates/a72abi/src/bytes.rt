@@ -1,5 +1,5 @@
-// Loads and stores on lent words, in place: where hints answer and the bytes lie in RAM, at a glance; in one page by its translation; all
-// else by the book.
+// Loads and stores on lent words, in place: where hints answer and the bytes lie in RAM, at a glance; in one page by
+// its translation; all else by the book.
 ghost use mathlib.Core.Path.{_≡_};
 ghost use mathlib.Core.Bool.{true};
 ghost use Prim.Native.Nat.{_≤_};
@@ -29,7 +29,8 @@ use word::ram::Width;
 use word::ram::Word;
 use words::state;
 
-// The value of a size's bytes at pa; nothing where the size is none. The tests come in this order for the sake of the commonest size.
+// The value of a size's bytes at pa; nothing where the size is none. The tests come in this order for the sake of
+// the commonest size.
 fn read_sized(base: u64, ram: &[u8], size: u64, pa: u64) -> Word
     ensures { λ r. ⌜ r ≡ sizedAt base (now (ram .entry)) size pa ⌝ }
 {

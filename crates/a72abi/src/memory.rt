@@ -37,7 +37,8 @@ pub(crate) fn clear(state: &[u64; 5205], base: u64, len: u64) -> bool
     true
 }
 
-// What the hint says, where the level and the window pass at a glance. A window that ends at the last address is left to the book.
+// What the hint says, where the level and the window pass at a glance. A window that ends at the last address is
+// left to the book.
 fn quick(state: &[u64; 5205], va: u64, kind: Kind, base: u64, len: u64) -> Physical
     ensures { λ r. ⌜ r ≡ quickOf (held (now (state .entry))) base len va kind ⌝ }
 {

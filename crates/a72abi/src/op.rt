@@ -85,8 +85,8 @@ fn call_exception_of(code: u64, imm: u64) -> Exceptions
     }
 }
 
-// 0 Undefined; 1 SVC, 2 HVC, 3 SMC, 4 BRK, each with its immediate; 5 data abort with address, write and status; 6 instruction abort
-// with address and status; 7 PC alignment. Words out of range name nothing.
+// 0 Undefined; 1 SVC, 2 HVC, 3 SMC, 4 BRK, each with its immediate; 5 data abort with address, write and status; 6
+// instruction abort with address and status; 7 PC alignment. Words out of range name nothing.
 pub fn exception_of(code: u64, a: u64, b: u64, c: u64) -> Exceptions
     ensures { λ r. ⌜ r ≡ exceptionOf code a b c ⌝ }
 {

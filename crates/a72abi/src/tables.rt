@@ -60,7 +60,8 @@ fn put_leaf(out: &mut [u64; 5], leaf: Leaf)
     ];
 }
 
-// One walk of an untagged address: 0 and the leaf, or 256 plus the fault's status; 64 for no regime, 2 for a window that passes 2^64.
+// One walk of an untagged address: 0 and the leaf, or 256 plus the fault's status; 64 for no regime, 2 for a window
+// that passes 2^64.
 #[no_mangle]
 pub extern "C" fn a72_walk(
     words: &[u64; 6],
