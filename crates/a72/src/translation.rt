@@ -10,6 +10,7 @@ use tlb::access::Kind;
 use trace::form;
 use trace::lex;
 use trace::lex::Number;
+use words::place::State;
 
 // A kind of access, or none.
 enum Kinds {
@@ -98,7 +99,7 @@ fn ask() -> Question {
     }
 }
 
-fn explained(m: Machine, state: &mut [u64; 5205], ram: &mut [u8], q: Question, kind: Kind) {
+fn explained(m: Machine, state: &mut State, ram: &mut [u8], q: Question, kind: Kind) {
     if q.level < 4 {
         calls::a72_level(state, q.level);
     }
@@ -108,7 +109,7 @@ fn explained(m: Machine, state: &mut [u64; 5205], ram: &mut [u8], q: Question, k
     }
 }
 
-fn open(fd: i32, path: &[u8], state: &mut [u64; 5205], ram: &mut [u8], q: Question, kind: Kind) {
+fn open(fd: i32, path: &[u8], state: &mut State, ram: &mut [u8], q: Question, kind: Kind) {
     let good = run::is_trace(fd, path, state, ram);
     if good {
         let t = run::pass(Mode::Silent, fd, path, state, ram);

@@ -23,10 +23,11 @@ use tlb::access::Answer;
 use tlb::access::Kind;
 use word::ram;
 use word::ram::Sized;
+use words::place::State;
 use words::state;
 
 // The number of the first check that a call misses, or 0.
-fn missed(state: &[u64; 5205], base: u64, len: u64, call: Call) -> u8
+fn missed(state: &State, base: u64, len: u64, call: Call) -> u8
     ensures { λ r. ⌜ r ≡ missedOf ((held (now (state .entry))) .who .level) base len (askedOf call) ⌝ }
 {
     let who = state::who_at(state);
@@ -34,7 +35,7 @@ fn missed(state: &[u64; 5205], base: u64, len: u64, call: Call) -> u8
     check::missed(who.level, base, len, asked)
 }
 
-pub fn translation(state: &mut [u64; 5205], base: u64, ram: &[u8], kind: Kind, va: u64) -> Reply
+pub fn translation(state: &mut State, base: u64, ram: &[u8], kind: Kind, va: u64) -> Reply
     ensures { λ r. ⌜ Runs (Call.Translate kind va) base (now (ram .entry)) (now (state .entry)) r
         (now (state .exit)) ⌝ }
 {
@@ -48,7 +49,7 @@ pub fn translation(state: &mut [u64; 5205], base: u64, ram: &[u8], kind: Kind, v
     }
 }
 
-pub fn data_pa(state: &mut [u64; 5205], base: u64, ram: &[u8], va: u64) -> Reply
+pub fn data_pa(state: &mut State, base: u64, ram: &[u8], va: u64) -> Reply
     ensures { λ r. ⌜ Runs (Call.DataPa va) base (now (ram .entry)) (now (state .entry)) r (now (state .exit)) ⌝ }
 {
     let n = missed(state, base, ram.len() as u64, Call::DataPa(va));
@@ -61,7 +62,7 @@ pub fn data_pa(state: &mut [u64; 5205], base: u64, ram: &[u8], va: u64) -> Reply
     }
 }
 
-pub fn fetch_pa(state: &mut [u64; 5205], base: u64, ram: &[u8], va: u64) -> Reply
+pub fn fetch_pa(state: &mut State, base: u64, ram: &[u8], va: u64) -> Reply
     ensures { λ r. ⌜ Runs (Call.FetchPa va) base (now (ram .entry)) (now (state .entry)) r (now (state .exit)) ⌝ }
 {
     let n = missed(state, base, ram.len() as u64, Call::FetchPa(va));
@@ -74,7 +75,7 @@ pub fn fetch_pa(state: &mut [u64; 5205], base: u64, ram: &[u8], va: u64) -> Repl
     }
 }
 
-pub fn load(state: &mut [u64; 5205], base: u64, ram: &[u8], va: u64, size: u64) -> Reply
+pub fn load(state: &mut State, base: u64, ram: &[u8], va: u64, size: u64) -> Reply
     ensures { λ r. ⌜ Runs (Call.Load va size) base (now (ram .entry)) (now (state .entry)) r (now (state .exit)) ⌝ }
 {
     let n = missed(state, base, ram.len() as u64, Call::Load(va, size));
@@ -99,14 +100,7 @@ fn stored(answer: StoreAnswer) -> Reply
     }
 }
 
-pub fn store(
-    state: &mut [u64; 5205],
-    base: u64,
-    ram: &mut [u8],
-    va: u64,
-    size: u64,
-    value: u64,
-) -> Reply
+pub fn store(state: &mut State, base: u64, ram: &mut [u8], va: u64, size: u64, value: u64) -> Reply
     ensures { λ r. ⌜ Runs (Call.Store va size value) base (now (ram .entry)) (now (state .entry)) r
         (now (state .exit)) ⌝ }
     ensures { λ r. ⌜ now (ram .exit) ≡ ramAfter (held (now (state .entry))) base (now (ram .entry))
@@ -125,7 +119,7 @@ pub fn store(
     }
 }
 
-pub fn fetch(state: &mut [u64; 5205], base: u64, ram: &[u8], va: u64) -> Reply
+pub fn fetch(state: &mut State, base: u64, ram: &[u8], va: u64) -> Reply
     ensures { λ r. ⌜ Runs (Call.Fetch va) base (now (ram .entry)) (now (state .entry)) r (now (state .exit)) ⌝ }
 {
     let n = missed(state, base, ram.len() as u64, Call::Fetch(va));
@@ -138,7 +132,7 @@ pub fn fetch(state: &mut [u64; 5205], base: u64, ram: &[u8], va: u64) -> Reply
     }
 }
 
-pub fn system(state: &mut [u64; 5205], base: u64, ram: &mut [u8], e: Encoding) -> Reply
+pub fn system(state: &mut State, base: u64, ram: &mut [u8], e: Encoding) -> Reply
     ensures { λ r. ⌜ Runs (Call.System e) base (now (ram .entry)) (now (state .entry)) r (now (state .exit)) ⌝ }
     ensures { λ r. ⌜ now (ram .exit) ≡ ramAfter (held (now (state .entry))) base (now (ram .entry)) (Call.System e) ⌝ }
 {
@@ -150,7 +144,7 @@ pub fn system(state: &mut [u64; 5205], base: u64, ram: &mut [u8], e: Encoding) -
     stored(answer)
 }
 
-pub fn register(state: &mut [u64; 5205], key: u32, value: u64) -> Reply
+pub fn register(state: &mut State, key: u32, value: u64) -> Reply
     ensures { λ r. ⌜ Runs (Call.Register key value) 0 [] (now (state .entry)) r (now (state .exit)) ⌝ }
 {
     let n = missed(state, 0, 0, Call::Register(key, value));
@@ -164,7 +158,7 @@ pub fn register(state: &mut [u64; 5205], key: u32, value: u64) -> Reply
     }
 }
 
-pub fn level(state: &mut [u64; 5205], level: u64) -> Reply
+pub fn level(state: &mut State, level: u64) -> Reply
     ensures { λ r. ⌜ Runs (Call.Level level) 0 [] (now (state .entry)) r (now (state .exit)) ⌝ }
 {
     let n = missed(state, 0, 0, Call::Level(level));
@@ -175,7 +169,7 @@ pub fn level(state: &mut [u64; 5205], level: u64) -> Reply
     Reply::Done
 }
 
-pub fn mark(state: &mut [u64; 5205], mark: bool) -> Reply
+pub fn mark(state: &mut State, mark: bool) -> Reply
     ensures { λ r. ⌜ Runs (Call.Mark mark) 0 [] (now (state .entry)) r (now (state .exit)) ⌝ }
 {
     let n = missed(state, 0, 0, Call::Mark(mark));
@@ -186,7 +180,7 @@ pub fn mark(state: &mut [u64; 5205], mark: bool) -> Reply
     Reply::Done
 }
 
-pub fn general(state: &mut [u64; 5205], number: u64, value: u64) -> Reply
+pub fn general(state: &mut State, number: u64, value: u64) -> Reply
     ensures { λ r. ⌜ Runs (Call.General number value) 0 [] (now (state .entry)) r (now (state .exit)) ⌝ }
 {
     let n = missed(state, 0, 0, Call::General(number, value));
@@ -197,7 +191,7 @@ pub fn general(state: &mut [u64; 5205], number: u64, value: u64) -> Reply
     Reply::Done
 }
 
-pub fn abort(state: &mut [u64; 5205], e: Exception) -> Reply
+pub fn abort(state: &mut State, e: Exception) -> Reply
     ensures { λ r. ⌜ Runs (Call.Abort e) 0 [] (now (state .entry)) r (now (state .exit)) ⌝ }
 {
     let n = missed(state, 0, 0, Call::Abort(e));

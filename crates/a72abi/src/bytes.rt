@@ -27,6 +27,7 @@ use word::ram;
 use word::ram::Sized;
 use word::ram::Width;
 use word::ram::Word;
+use words::place::State;
 use words::state;
 
 // The value of a size's bytes at pa; nothing where the size is none. The tests come in this order for the sake of
@@ -71,14 +72,7 @@ fn write_sized(base: u64, ram: &mut [u8], size: u64, pa: u64, value: u64) -> boo
     }
 }
 
-fn load_book(
-    state: &mut [u64; 5205],
-    va: u64,
-    size: u64,
-    ans: &mut u64,
-    base: u64,
-    ram: &[u8],
-) -> u64
+fn load_book(state: &mut State, va: u64, size: u64, ans: &mut u64, base: u64, ram: &[u8]) -> u64
     ensures { λ r. ⌜ Gives (Calls.Known (Call.Load va size)) base (now (ram .entry)) (now (state .entry)) r
         (now (ans .entry)) (now (ans .exit)) (now (state .exit)) ⌝ }
 {
@@ -87,14 +81,7 @@ fn load_book(
 }
 
 // A load in one page that no hint serves, or not at a glance.
-fn load_rest(
-    state: &mut [u64; 5205],
-    va: u64,
-    size: u64,
-    ans: &mut u64,
-    base: u64,
-    ram: &[u8],
-) -> u64
+fn load_rest(state: &mut State, va: u64, size: u64, ans: &mut u64, base: u64, ram: &[u8]) -> u64
     requires { ⌜ size ≤ inPage va ⌝ }
     requires { ⌜ Unhinted (held (now state)) base (length (now ram)) va Read ⌝ }
     ensures { λ r. ⌜ Gives (Calls.Known (Call.Load va size)) base (now (ram .entry)) (now (state .entry)) r
@@ -112,14 +99,7 @@ fn load_rest(
 }
 
 // A load over two pages: their hints, or by the book.
-fn load_split(
-    state: &mut [u64; 5205],
-    va: u64,
-    size: u64,
-    ans: &mut u64,
-    base: u64,
-    ram: &[u8],
-) -> u64
+fn load_split(state: &mut State, va: u64, size: u64, ans: &mut u64, base: u64, ram: &[u8]) -> u64
     requires { ⌜ known size ≡ true ⌝ }
     ensures { λ r. ⌜ Gives (Calls.Known (Call.Load va size)) base (now (ram .entry)) (now (state .entry)) r
         (now (ans .entry)) (now (ans .exit)) (now (state .exit)) ⌝ }
@@ -134,14 +114,7 @@ fn load_split(
     }
 }
 
-fn load_across(
-    state: &mut [u64; 5205],
-    va: u64,
-    size: u64,
-    ans: &mut u64,
-    base: u64,
-    ram: &[u8],
-) -> u64
+fn load_across(state: &mut State, va: u64, size: u64, ans: &mut u64, base: u64, ram: &[u8]) -> u64
     ensures { λ r. ⌜ Gives (Calls.Known (Call.Load va size)) base (now (ram .entry)) (now (state .entry)) r
         (now (ans .entry)) (now (ans .exit)) (now (state .exit)) ⌝ }
 {
@@ -156,7 +129,7 @@ fn load_across(
 // A load of 1, 2, 4 or 8 bytes.
 #[no_mangle]
 pub extern "C" fn a72_load(
-    state: &mut [u64; 5205],
+    state: &mut State,
     va: u64,
     size: u64,
     ans: &mut u64,
@@ -191,7 +164,7 @@ pub extern "C" fn a72_load(
 }
 
 fn store_book(
-    state: &mut [u64; 5205],
+    state: &mut State,
     va: u64,
     size: u64,
     value: u64,
@@ -210,7 +183,7 @@ fn store_book(
 
 // A store in one page that no hint serves, or not at a glance.
 fn store_rest(
-    state: &mut [u64; 5205],
+    state: &mut State,
     va: u64,
     size: u64,
     value: u64,
@@ -238,7 +211,7 @@ fn store_rest(
 
 // A store over two pages: their hints, or by the book.
 fn store_split(
-    state: &mut [u64; 5205],
+    state: &mut State,
     va: u64,
     size: u64,
     value: u64,
@@ -261,7 +234,7 @@ fn store_split(
 }
 
 fn store_across(
-    state: &mut [u64; 5205],
+    state: &mut State,
     va: u64,
     size: u64,
     value: u64,
@@ -285,7 +258,7 @@ fn store_across(
 // A store of the low 1, 2, 4 or 8 bytes of a value.
 #[no_mangle]
 pub extern "C" fn a72_store(
-    state: &mut [u64; 5205],
+    state: &mut State,
     va: u64,
     size: u64,
     value: u64,

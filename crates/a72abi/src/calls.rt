@@ -15,10 +15,11 @@ use crate::reply;
 use cpu::call::Call;
 use cpu::call::Encoding;
 use cpu::call::Reply;
+use words::place::State;
 
 // Every word written: the core after reset.
 #[no_mangle]
-pub extern "C" fn a72_fresh(state: &mut [u64; 5205])
+pub extern "C" fn a72_fresh(state: &mut State)
     ensures { λ _. ⌜ held (now (state .exit)) ≡ freshCore ⌝ }
 {
     words::fresh::fresh(state);
@@ -27,7 +28,7 @@ pub extern "C" fn a72_fresh(state: &mut [u64; 5205])
 // A system operation: SYS op1, CRn, CRm, op2 with the register rt.
 #[no_mangle]
 pub extern "C" fn a72_system(
-    state: &mut [u64; 5205],
+    state: &mut State,
     op1: u64,
     crn: u64,
     crm: u64,
@@ -53,7 +54,7 @@ pub extern "C" fn a72_system(
 
 // A register write.
 #[no_mangle]
-pub extern "C" fn a72_register(state: &mut [u64; 5205], key: u64, value: u64) -> u64
+pub extern "C" fn a72_register(state: &mut State, key: u64, value: u64) -> u64
     ensures { λ r. ⌜ Setting (Calls.Known (Call.Register (keyOf key) value)) (now (state .entry)) r
         (now (state .exit)) ⌝ }
 {
@@ -63,7 +64,7 @@ pub extern "C" fn a72_register(state: &mut [u64; 5205], key: u64, value: u64) ->
 }
 
 #[no_mangle]
-pub extern "C" fn a72_level(state: &mut [u64; 5205], level: u64) -> u64
+pub extern "C" fn a72_level(state: &mut State, level: u64) -> u64
     ensures { λ r. ⌜ Setting (Calls.Known (Call.Level level)) (now (state .entry)) r (now (state .exit)) ⌝ }
 {
     let r = book::level(state, level);
@@ -71,7 +72,7 @@ pub extern "C" fn a72_level(state: &mut [u64; 5205], level: u64) -> u64
 }
 
 #[no_mangle]
-pub extern "C" fn a72_general(state: &mut [u64; 5205], number: u64, value: u64) -> u64
+pub extern "C" fn a72_general(state: &mut State, number: u64, value: u64) -> u64
     ensures { λ r. ⌜ Setting (Calls.Known (Call.General number value)) (now (state .entry)) r (now (state .exit)) ⌝ }
 {
     let r = book::general(state, number, value);
@@ -80,7 +81,7 @@ pub extern "C" fn a72_general(state: &mut [u64; 5205], number: u64, value: u64) 
 
 // The mark, 0 or 1.
 #[no_mangle]
-pub extern "C" fn a72_mark(state: &mut [u64; 5205], mark: u64) -> u64
+pub extern "C" fn a72_mark(state: &mut State, mark: u64) -> u64
     ensures { λ r. ⌜ Setting (markCall mark) (now (state .entry)) r (now (state .exit)) ⌝ }
 {
     match mark {
@@ -98,7 +99,7 @@ pub extern "C" fn a72_mark(state: &mut [u64; 5205], mark: u64) -> u64
 
 // Abort entry, of an exception in four words.
 #[no_mangle]
-pub extern "C" fn a72_abort(state: &mut [u64; 5205], e: &[u64; 4]) -> u64
+pub extern "C" fn a72_abort(state: &mut State, e: &[u64; 4]) -> u64
     ensures { λ r. ⌜ Setting (abortCall (exceptionAt (now (e .entry)))) (now (state .entry)) r (now (state .exit)) ⌝ }
 {
     match op::exception_of(e[0], e[1], e[2], e[3]) {
@@ -111,7 +112,7 @@ pub extern "C" fn a72_abort(state: &mut [u64; 5205], e: &[u64; 4]) -> u64
 }
 
 // The operation that a call is.
-fn step(state: &mut [u64; 5205], base: u64, ram: &mut [u8], call: Call) -> Reply
+fn step(state: &mut State, base: u64, ram: &mut [u8], call: Call) -> Reply
     ensures { λ r. ⌜ Runs call base (now (ram .entry)) (now (state .entry)) r (now (state .exit)) ⌝ }
     ensures { λ r. ⌜ now (ram .exit) ≡ ramAfter (held (now (state .entry))) base (now (ram .entry)) call ⌝ }
 {
@@ -135,7 +136,7 @@ fn step(state: &mut [u64; 5205], base: u64, ram: &mut [u8], call: Call) -> Reply
 #[no_mangle]
 pub extern "C" fn a72_step(
     op: &[u64; 8],
-    state: &mut [u64; 5205],
+    state: &mut State,
     base: u64,
     ram: &mut [u8],
     ans: &mut [u64; 4],

@@ -24,11 +24,12 @@ use tlb::access::Kind;
 use word::ram;
 use word::ram::Width;
 use word::ram::Word;
+use words::place::State;
 use words::state;
 
 // The bytes of a load that lie from pa on. An external abort is told as 256 plus its status.
 fn load_at(
-    state: &mut [u64; 5205],
+    state: &mut State,
     va: u64,
     width: Width,
     pa: u64,
@@ -60,7 +61,7 @@ fn load_at(
 }
 
 pub(crate) fn load(
-    state: &mut [u64; 5205],
+    state: &mut State,
     va: u64,
     width: Width,
     ans: &mut u64,
@@ -84,7 +85,7 @@ pub(crate) fn load(
 
 // The bytes of a store that lie from pa on.
 fn store_at(
-    state: &mut [u64; 5205],
+    state: &mut State,
     va: u64,
     width: Width,
     value: u64,
@@ -114,7 +115,7 @@ fn store_at(
 }
 
 pub(crate) fn store(
-    state: &mut [u64; 5205],
+    state: &mut State,
     va: u64,
     width: Width,
     value: u64,

@@ -21,10 +21,11 @@ use word::ram;
 use word::ram::Width;
 use word::ram::Word;
 use words::cells;
+use words::place::State;
 use words::state;
 
 // Whether level and window pass at a glance. A window that ends at the last address is left to the book.
-pub(crate) fn clear(state: &[u64; 5205], base: u64, len: u64) -> bool
+pub(crate) fn clear(state: &State, base: u64, len: u64) -> bool
     ensures { λ r. ⌜ r ≡ clearOf (held (now (state .entry))) base len ⌝ }
 {
     let who = state::who_at(state);
@@ -39,7 +40,7 @@ pub(crate) fn clear(state: &[u64; 5205], base: u64, len: u64) -> bool
 
 // What the hint says, where the level and the window pass at a glance. A window that ends at the last address is
 // left to the book.
-fn quick(state: &[u64; 5205], va: u64, kind: Kind, base: u64, len: u64) -> Physical
+fn quick(state: &State, va: u64, kind: Kind, base: u64, len: u64) -> Physical
     ensures { λ r. ⌜ r ≡ quickOf (held (now (state .entry))) base len va kind ⌝ }
 {
     let who = state::who_at(state);
@@ -53,7 +54,7 @@ fn quick(state: &[u64; 5205], va: u64, kind: Kind, base: u64, len: u64) -> Physi
 }
 
 // The same of the fetch hint.
-fn quick_fetch(state: &[u64; 5205], va: u64, base: u64, len: u64) -> Physical
+fn quick_fetch(state: &State, va: u64, base: u64, len: u64) -> Physical
     ensures { λ r. ⌜ r ≡ quickFetchOf (held (now (state .entry))) base len va ⌝ }
 {
     let who = state::who_at(state);
@@ -68,7 +69,7 @@ fn quick_fetch(state: &[u64; 5205], va: u64, base: u64, len: u64) -> Physical
 }
 
 fn translate_book(
-    state: &mut [u64; 5205],
+    state: &mut State,
     va: u64,
     kind: u64,
     ans: &mut u64,
@@ -90,7 +91,7 @@ fn translate_book(
 // The translation of va for an access of a kind: 1 read, 2 write, 4 fetch.
 #[no_mangle]
 pub extern "C" fn a72_translate(
-    state: &mut [u64; 5205],
+    state: &mut State,
     va: u64,
     kind: u64,
     ans: &mut u64,
@@ -135,7 +136,7 @@ pub extern "C" fn a72_translate(
     }
 }
 
-fn data_book(state: &mut [u64; 5205], va: u64, ans: &mut u64, base: u64, ram: &[u8]) -> u64
+fn data_book(state: &mut State, va: u64, ans: &mut u64, base: u64, ram: &[u8]) -> u64
     ensures { λ r. ⌜ Gives (Calls.Known (Call.DataPa va)) base (now (ram .entry)) (now (state .entry)) r
         (now (ans .entry)) (now (ans .exit)) (now (state .exit)) ⌝ }
 {
@@ -146,7 +147,7 @@ fn data_book(state: &mut [u64; 5205], va: u64, ans: &mut u64, base: u64, ram: &[
 // Where a data read of va goes.
 #[no_mangle]
 pub extern "C" fn a72_data_pa(
-    state: &mut [u64; 5205],
+    state: &mut State,
     va: u64,
     ans: &mut u64,
     base: u64,
@@ -164,7 +165,7 @@ pub extern "C" fn a72_data_pa(
     }
 }
 
-fn fetch_pa_book(state: &mut [u64; 5205], va: u64, ans: &mut u64, base: u64, ram: &[u8]) -> u64
+fn fetch_pa_book(state: &mut State, va: u64, ans: &mut u64, base: u64, ram: &[u8]) -> u64
     ensures { λ r. ⌜ Gives (Calls.Known (Call.FetchPa va)) base (now (ram .entry)) (now (state .entry)) r
         (now (ans .entry)) (now (ans .exit)) (now (state .exit)) ⌝ }
 {
@@ -175,7 +176,7 @@ fn fetch_pa_book(state: &mut [u64; 5205], va: u64, ans: &mut u64, base: u64, ram
 // Where a fetch of va goes.
 #[no_mangle]
 pub extern "C" fn a72_fetch_pa(
-    state: &mut [u64; 5205],
+    state: &mut State,
     va: u64,
     ans: &mut u64,
     base: u64,
@@ -193,7 +194,7 @@ pub extern "C" fn a72_fetch_pa(
     }
 }
 
-fn fetch_book(state: &mut [u64; 5205], va: u64, ans: &mut u64, base: u64, ram: &[u8]) -> u64
+fn fetch_book(state: &mut State, va: u64, ans: &mut u64, base: u64, ram: &[u8]) -> u64
     ensures { λ r. ⌜ Gives (Calls.Known (Call.Fetch va)) base (now (ram .entry)) (now (state .entry)) r
         (now (ans .entry)) (now (ans .exit)) (now (state .exit)) ⌝ }
 {
@@ -203,13 +204,7 @@ fn fetch_book(state: &mut [u64; 5205], va: u64, ans: &mut u64, base: u64, ram: &
 
 // The instruction at va.
 #[no_mangle]
-pub extern "C" fn a72_fetch(
-    state: &mut [u64; 5205],
-    va: u64,
-    ans: &mut u64,
-    base: u64,
-    ram: &[u8],
-) -> u64
+pub extern "C" fn a72_fetch(state: &mut State, va: u64, ans: &mut u64, base: u64, ram: &[u8]) -> u64
     ensures { λ r. ⌜ Promise (Calls.Known (Call.Fetch va)) base (now (ram .entry)) (now (state .entry)) r
         (now (ans .entry)) (now (ans .exit)) (now (ram .entry)) (now (state .exit)) ⌝ }
 {

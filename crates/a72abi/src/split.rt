@@ -17,6 +17,7 @@ use mmu::place::Pages;
 use tlb::access::Kind;
 use tlb::hint::Physical;
 use word::ram::Word;
+use words::place::State;
 
 // The value of a load, and the physical address of its first byte.
 pub enum Split {
@@ -25,7 +26,7 @@ pub enum Split {
 }
 
 // Whether the access takes two pages, at a level and over a window that pass at a glance.
-fn apart(state: &[u64; 5205], va: u64, n: u64, base: u64, len: u64) -> bool
+fn apart(state: &State, va: u64, n: u64, base: u64, len: u64) -> bool
     ensures { λ r. ⌜ r ≡ apartOf (held (now (state .entry))) base len va n ⌝ }
 {
     let clear = memory::clear(state, base, len);
@@ -38,7 +39,7 @@ fn apart(state: &[u64; 5205], va: u64, n: u64, base: u64, len: u64) -> bool
 }
 
 // A load whose first page lies at pa.
-fn load_on(state: &[u64; 5205], va: u64, n: u64, pa: u64, base: u64, ram: &[u8]) -> Split
+fn load_on(state: &State, va: u64, n: u64, pa: u64, base: u64, ram: &[u8]) -> Split
     ensures { λ r. ⌜ r ≡ loadBoth true (At pa) (hintFound (held (now (state .entry))) (nextPage va) Read) va base
         (now (ram .entry)) n ⌝ }
 {
@@ -55,7 +56,7 @@ fn load_on(state: &[u64; 5205], va: u64, n: u64, pa: u64, base: u64, ram: &[u8])
     }
 }
 
-pub(crate) fn load(state: &[u64; 5205], va: u64, n: u64, base: u64, ram: &[u8]) -> Split
+pub(crate) fn load(state: &State, va: u64, n: u64, base: u64, ram: &[u8]) -> Split
     ensures { λ r. ⌜ r ≡ splitLoad (held (now (state .entry))) base (now (ram .entry)) va n ⌝ }
 {
     let apart = apart(state, va, n, base, ram.len() as u64);
@@ -70,15 +71,7 @@ pub(crate) fn load(state: &[u64; 5205], va: u64, n: u64, base: u64, ram: &[u8]) 
 }
 
 // A store whose first page lies at pa, and whether it was made.
-fn store_on(
-    state: &[u64; 5205],
-    va: u64,
-    n: u64,
-    value: u64,
-    pa: u64,
-    base: u64,
-    ram: &mut [u8],
-) -> bool
+fn store_on(state: &State, va: u64, n: u64, value: u64, pa: u64, base: u64, ram: &mut [u8]) -> bool
     ensures { λ r. ⌜ r ≡ madeBoth true (At pa) (hintFound (held (now (state .entry))) (nextPage va) Write) va base
         (now (ram .entry)) n ⌝ }
     ensures { λ _. ⌜ now (ram .exit) ≡ ramBoth true (At pa)
@@ -94,14 +87,7 @@ fn store_on(
     }
 }
 
-pub(crate) fn store(
-    state: &[u64; 5205],
-    va: u64,
-    n: u64,
-    value: u64,
-    base: u64,
-    ram: &mut [u8],
-) -> bool
+pub(crate) fn store(state: &State, va: u64, n: u64, value: u64, base: u64, ram: &mut [u8]) -> bool
     ensures { λ r. ⌜ r ≡ splitMade (held (now (state .entry))) base (now (ram .entry)) va n ⌝ }
     ensures { λ _. ⌜ now (ram .exit) ≡ splitRam (held (now (state .entry))) base (now (ram .entry)) va n value ⌝ }
 {

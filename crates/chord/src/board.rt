@@ -6,6 +6,7 @@ use tlb::hint;
 use word::ram;
 use word::ram::Width;
 use words::cells;
+use words::place::State;
 
 // The first address of RAM.
 pub const BASE: u64 = 0x4000_0000;
@@ -79,7 +80,7 @@ fn unmap_all(ram: &mut [u8]) {
 }
 
 // A fresh core at EL1 with stage 1 on, and no page mapped.
-pub fn start(state: &mut [u64; 5205], ram: &mut [u8]) {
+pub fn start(state: &mut State, ram: &mut [u8]) {
     tables(ram);
     unmap_all(ram);
     calls::a72_fresh(state);
@@ -96,14 +97,14 @@ pub fn note_on(ram: &mut [u8], voice: u64, n: u64, tone: u64) {
 }
 
 // TLBI VAE1 of a voice's page.
-fn invalidate(state: &mut [u64; 5205], ram: &mut [u8], voice: u64) {
+fn invalidate(state: &mut State, ram: &mut [u8], voice: u64) {
     let mut ans = 0u64;
     calls::a72_general(state, 1, page(voice));
     calls::a72_system(state, 0, 8, 7, 1, 1, &mut ans, BASE, ram);
 }
 
 // The same on a core that lets one translation outlive it: the hint of the page is put back.
-fn invalidate_stale(state: &mut [u64; 5205], ram: &mut [u8], voice: u64) {
+fn invalidate_stale(state: &mut State, ram: &mut [u8], voice: u64) {
     let slot = hint::data_slot(address(voice), Kind::Read);
     let old = cells::hint_at(state, slot);
     invalidate(state, ram, voice);
@@ -111,7 +112,7 @@ fn invalidate_stale(state: &mut [u64; 5205], ram: &mut [u8], voice: u64) {
 }
 
 // Note-off: the page is taken back, and its old translation is invalidated.
-pub fn note_off(state: &mut [u64; 5205], ram: &mut [u8], voice: u64, off: Off) {
+pub fn note_off(state: &mut State, ram: &mut [u8], voice: u64, off: Off) {
     put(ram, descriptor_at(voice), 0);
     match off {
         Off::Invalidated => invalidate(state, ram, voice),
@@ -121,7 +122,7 @@ pub fn note_off(state: &mut [u64; 5205], ram: &mut [u8], voice: u64, off: Off) {
 }
 
 // What a voice gives, read through the core.
-pub fn hear(state: &mut [u64; 5205], ram: &[u8], voice: u64) -> u64 {
+pub fn hear(state: &mut State, ram: &[u8], voice: u64) -> u64 {
     let mut tone = SILENCE;
     let code = bytes::a72_load(state, address(voice), 8, &mut tone, BASE, ram);
     if code == 0 { tone } else { SILENCE }

@@ -1,6 +1,7 @@
 // The keys that are held: which frame each voice has and which tone it is to give, and whether it is heard.
 use crate::board;
 use crate::board::Off;
+use words::place::State;
 
 pub struct Desk {
     // a bit for each frame in use
@@ -60,7 +61,7 @@ pub fn press(d: Desk, ram: &mut [u8], voice: u64, tone: u64) -> Desk {
     out
 }
 
-pub fn release(d: Desk, state: &mut [u64; 5205], ram: &mut [u8], voice: u64, off: Off) -> Desk {
+pub fn release(d: Desk, state: &mut State, ram: &mut [u8], voice: u64, off: Off) -> Desk {
     let v = (voice % 16) as usize;
     board::note_off(state, ram, voice, off);
     let n = d.frames[v] % 32;
@@ -71,7 +72,7 @@ pub fn release(d: Desk, state: &mut [u64; 5205], ram: &mut [u8], voice: u64, off
 }
 
 // One voice: nothing where it is silent; else whether its own tone is heard.
-fn listen(d: Desk, state: &mut [u64; 5205], ram: &[u8], voice: u64) -> Heard {
+fn listen(d: Desk, state: &mut State, ram: &[u8], voice: u64) -> Heard {
     let tone = tone_of(d, voice);
     if tone == 0 {
         return nothing();
@@ -85,7 +86,7 @@ fn listen(d: Desk, state: &mut [u64; 5205], ram: &[u8], voice: u64) -> Heard {
 }
 
 // Every voice that is held.
-pub fn listen_all(d: Desk, state: &mut [u64; 5205], ram: &[u8]) -> Heard {
+pub fn listen_all(d: Desk, state: &mut State, ram: &[u8]) -> Heard {
     let mut h = nothing();
     let mut v = 0u64;
     while v < 16 {

@@ -7,6 +7,7 @@ use crate::hold::Desk;
 use crate::hold::Heard;
 use crate::note;
 use trace::say;
+use words::place::State;
 
 // Numbers of ten such digits.
 const ALL: u64 = 0x10_0000;
@@ -58,7 +59,7 @@ fn is_order(order: u64) -> bool {
 }
 
 // A key is pressed if it is not held, and let go if it is.
-fn event(d: Desk, state: &mut [u64; 5205], ram: &mut [u8], key: u64, off: Off) -> Desk {
+fn event(d: Desk, state: &mut State, ram: &mut [u8], key: u64, off: Off) -> Desk {
     let v = voice(key);
     if hold::tone_of(d, v) == 0 {
         hold::press(d, ram, v, tone(key))
@@ -68,7 +69,7 @@ fn event(d: Desk, state: &mut [u64; 5205], ram: &mut [u8], key: u64, off: Off) -
 }
 
 // One order: after each event every key that is held is heard.
-fn play(state: &mut [u64; 5205], ram: &mut [u8], order: u64, off: Off) -> Heard {
+fn play(state: &mut State, ram: &mut [u8], order: u64, off: Off) -> Heard {
     board::start(state, ram);
     let mut d = hold::silent();
     let mut h = hold::nothing();
@@ -106,7 +107,7 @@ fn counted(t: Tally, order: u64, h: Heard) -> Tally {
     }
 }
 
-fn tried(t: Tally, state: &mut [u64; 5205], ram: &mut [u8], order: u64, off: Off) -> Tally {
+fn tried(t: Tally, state: &mut State, ram: &mut [u8], order: u64, off: Off) -> Tally {
     let whole = is_order(order);
     if whole {
         let h = play(state, ram, order, off);
@@ -117,7 +118,7 @@ fn tried(t: Tally, state: &mut [u64; 5205], ram: &mut [u8], order: u64, off: Off
 }
 
 // All orders.
-pub fn all(state: &mut [u64; 5205], ram: &mut [u8], off: Off) -> Tally {
+pub fn all(state: &mut State, ram: &mut [u8], off: Off) -> Tally {
     let mut t = none();
     let mut order = 0u64;
     while order < ALL {
@@ -128,7 +129,7 @@ pub fn all(state: &mut [u64; 5205], ram: &mut [u8], off: Off) -> Tally {
 }
 
 // What a key that is held gives.
-fn show_key(d: Desk, state: &mut [u64; 5205], ram: &[u8], k: u64) {
+fn show_key(d: Desk, state: &mut State, ram: &[u8], k: u64) {
     let v = voice(k);
     let expected = hold::tone_of(d, v);
     if expected == 0 {
@@ -147,7 +148,7 @@ fn show_key(d: Desk, state: &mut [u64; 5205], ram: &[u8], k: u64) {
     }
 }
 
-fn show_event(d: Desk, state: &mut [u64; 5205], ram: &[u8], k: u64) {
+fn show_event(d: Desk, state: &mut State, ram: &[u8], k: u64) {
     let down = hold::tone_of(d, voice(k)) != 0;
     say::text(b"     ");
     note::show(tone(k));
@@ -164,7 +165,7 @@ fn show_event(d: Desk, state: &mut [u64; 5205], ram: &[u8], k: u64) {
 }
 
 // One order, event by event.
-pub fn show(state: &mut [u64; 5205], ram: &mut [u8], order: u64, off: Off) {
+pub fn show(state: &mut State, ram: &mut [u8], order: u64, off: Off) {
     board::start(state, ram);
     let mut d = hold::silent();
     let mut i = 0u64;

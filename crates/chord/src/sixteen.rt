@@ -6,6 +6,7 @@ use crate::hold::Desk;
 use crate::hold::Heard;
 use crate::note;
 use trace::say;
+use words::place::State;
 
 // The first sixteen partials of a low C, as numbers of notes.
 pub fn partial(voice: u64) -> u64 {
@@ -45,7 +46,7 @@ pub fn press_all(ram: &mut [u8]) -> Desk {
 }
 
 // A row: the voice, its note, its page, the slot of its entry, its frame, and what is heard.
-fn row(d: Desk, state: &mut [u64; 5205], ram: &[u8], voice: u64) {
+fn row(d: Desk, state: &mut State, ram: &[u8], voice: u64) {
     let heard = board::hear(state, ram, voice);
     say::number(voice % 16 + 1, 8);
     say::text(b"   ");
@@ -61,7 +62,7 @@ fn row(d: Desk, state: &mut [u64; 5205], ram: &[u8], voice: u64) {
     say::text(b"\n");
 }
 
-fn rows(d: Desk, state: &mut [u64; 5205], ram: &[u8]) {
+fn rows(d: Desk, state: &mut State, ram: &[u8]) {
     let mut v = 0u64;
     while v < 16 {
         row(d, state, ram, v);
@@ -70,7 +71,7 @@ fn rows(d: Desk, state: &mut [u64; 5205], ram: &[u8]) {
 }
 
 // All sixteen are held, and shown.
-pub fn table(state: &mut [u64; 5205], ram: &mut [u8]) -> Heard {
+pub fn table(state: &mut State, ram: &mut [u8]) -> Heard {
     board::start(state, ram);
     let d = press_all(ram);
     say::text(b"   voice   note  page      slot  frame      heard\n");
@@ -85,41 +86,41 @@ pub struct Round {
 }
 
 // All that are held now are heard.
-fn listened(r: Round, d: Desk, state: &mut [u64; 5205], ram: &[u8]) -> Round {
+fn listened(r: Round, d: Desk, state: &mut State, ram: &[u8]) -> Round {
     let before = r.heard;
     let now = hold::listen_all(d, state, ram);
     let heard = hold::sum(before, now);
     Round { desk: d, heard }
 }
 
-fn let_go(r: Round, state: &mut [u64; 5205], ram: &mut [u8], voice: u64, off: Off) -> Round {
+fn let_go(r: Round, state: &mut State, ram: &mut [u8], voice: u64, off: Off) -> Round {
     let before = r.desk;
     let d = hold::release(before, state, ram, voice, off);
     listened(r, d, state, ram)
 }
 
 // The note a semitone above, in the lowest frame that is free.
-fn take_up(r: Round, state: &mut [u64; 5205], ram: &mut [u8], voice: u64) -> Round {
+fn take_up(r: Round, state: &mut State, ram: &mut [u8], voice: u64) -> Round {
     let before = r.desk;
     let d = hold::press(before, ram, voice, sharp(voice));
     listened(r, d, state, ram)
 }
 
 // Two neighbours let go.
-fn both_go(r: Round, state: &mut [u64; 5205], ram: &mut [u8], voice: u64, off: Off) -> Round {
+fn both_go(r: Round, state: &mut State, ram: &mut [u8], voice: u64, off: Off) -> Round {
     let one = let_go(r, state, ram, voice, off);
     let_go(one, state, ram, voice % 16 + 1, off)
 }
 
 // Then each takes the other's frame.
-fn swap(r: Round, state: &mut [u64; 5205], ram: &mut [u8], voice: u64, off: Off) -> Round {
+fn swap(r: Round, state: &mut State, ram: &mut [u8], voice: u64, off: Off) -> Round {
     let gone = both_go(r, state, ram, voice, off);
     let one = take_up(gone, state, ram, voice % 16 + 1);
     take_up(one, state, ram, voice)
 }
 
 // Every pair of neighbours in turn, from all sixteen held.
-pub fn changes(state: &mut [u64; 5205], ram: &mut [u8], off: Off) -> Heard {
+pub fn changes(state: &mut State, ram: &mut [u8], off: Off) -> Heard {
     board::start(state, ram);
     let d = press_all(ram);
     let mut r = Round {

@@ -5,6 +5,7 @@ use crate::orders;
 use crate::orders::Tally;
 use crate::sixteen;
 use trace::say;
+use words::place::State;
 
 fn lost(h: Heard) {
     say::number(h.reads, 1);
@@ -13,7 +14,7 @@ fn lost(h: Heard) {
     say::text(b" tones lost\n");
 }
 
-fn first_part(state: &mut [u64; 5205], ram: &mut [u8]) -> bool {
+fn first_part(state: &mut State, ram: &mut [u8]) -> bool {
     say::text(
         b"1. Sixteen voices, a page each; voices 1 and 9, 2 and 10 .. share a slot of the cache.\n\n",
     );
@@ -23,14 +24,14 @@ fn first_part(state: &mut [u64; 5205], ram: &mut [u8]) -> bool {
     h.lost == 0
 }
 
-fn changed(state: &mut [u64; 5205], ram: &mut [u8], name: &[u8], off: Off) -> bool {
+fn changed(state: &mut State, ram: &mut [u8], name: &[u8], off: Off) -> bool {
     let h = sixteen::changes(state, ram, off);
     say::text(name);
     lost(h);
     h.lost == 0
 }
 
-fn second_part(state: &mut [u64; 5205], ram: &mut [u8]) -> bool {
+fn second_part(state: &mut State, ram: &mut [u8]) -> bool {
     say::text(
         b"\n2. Every voice changes its note and its frame: note-off, TLBI by address, note-on.\n\n",
     );
@@ -47,7 +48,7 @@ fn tally(t: Tally) {
     lost(h);
 }
 
-fn first_loss(state: &mut [u64; 5205], ram: &mut [u8], t: Tally) {
+fn first_loss(state: &mut State, ram: &mut [u8], t: Tally) {
     if t.wrong == 0 {
         return;
     }
@@ -59,14 +60,14 @@ fn first_loss(state: &mut [u64; 5205], ram: &mut [u8], t: Tally) {
     orders::show(state, ram, t.first, Off::Invalidated);
 }
 
-fn ordered(state: &mut [u64; 5205], ram: &mut [u8], name: &[u8], off: Off) -> Tally {
+fn ordered(state: &mut State, ram: &mut [u8], name: &[u8], off: Off) -> Tally {
     let t = orders::all(state, ram, off);
     say::text(name);
     tally(t);
     t
 }
 
-fn third_part(state: &mut [u64; 5205], ram: &mut [u8]) -> bool {
+fn third_part(state: &mut State, ram: &mut [u8]) -> bool {
     say::text(
         b"\n3. Every order of a chord: C4 and E4 pressed twice, G4 and B4 once; C4 and E4 share a slot, and so do G4 and B4.\n\n",
     );

@@ -9,6 +9,7 @@ use crate::fold;
 use tlb::entry::Entry;
 use words::cells;
 use words::counts;
+use words::place::State;
 
 // How many there are, and their digest.
 pub struct Sum {
@@ -44,7 +45,7 @@ fn counted(s: Sum, digest: u64) -> Sum
 }
 
 // The registers, the flags and the general registers: the first 68 words.
-pub fn registers(state: &[u64; 5205]) -> u64
+pub fn registers(state: &State) -> u64
     ensures { λ r. ⌜ r ≡ digestOf (registerWords (now (state .entry))) ⌝ }
 {
     let mut h = fold::START;
@@ -73,7 +74,7 @@ fn with_entry(digest: u64, slot: u64, e: Entry) -> u64
 }
 
 // An entry is live where it has a tag and is of the present generation.
-fn with_live(s: Sum, state: &[u64; 5205], j: usize) -> Sum
+fn with_live(s: Sum, state: &State, j: usize) -> Sum
     ensures { λ r. ⌜ r .digest ≡ digestFrom (s .digest) (entryWords (held (now (state .entry)) .tlb .cache) j) ⌝ }
 {
     let e = cells::entry_at(state, j);
@@ -88,7 +89,7 @@ fn with_live(s: Sum, state: &[u64; 5205], j: usize) -> Sum
 }
 
 // The live entries by rising slot.
-pub fn entries(state: &[u64; 5205]) -> Sum
+pub fn entries(state: &State) -> Sum
     ensures { λ r. ⌜ r .digest ≡ digestOf (entriesWords (held (now (state .entry)) .tlb .cache)) ⌝ }
 {
     let mut s = start();
@@ -100,7 +101,7 @@ pub fn entries(state: &[u64; 5205]) -> Sum
     s
 }
 
-fn with_hint(s: Sum, state: &[u64; 5205], i: usize) -> Sum
+fn with_hint(s: Sum, state: &State, i: usize) -> Sum
     ensures { λ r. ⌜ r .digest ≡ digestFrom (s .digest) (hintWords (held (now (state .entry)) .tlb .cache) i) ⌝ }
 {
     let h = cells::hint_at(state, i);
@@ -113,7 +114,7 @@ fn with_hint(s: Sum, state: &[u64; 5205], i: usize) -> Sum
     }
 }
 
-fn with_fetch(s: Sum, state: &[u64; 5205]) -> Sum
+fn with_fetch(s: Sum, state: &State) -> Sum
     ensures { λ r. ⌜ r .digest ≡ digestFrom (s .digest) (fetchWords (held (now (state .entry)) .tlb .cache .fetch)) ⌝ }
 {
     let f = cells::fetch_at(state);
@@ -125,7 +126,7 @@ fn with_fetch(s: Sum, state: &[u64; 5205]) -> Sum
     }
 }
 
-fn data_hints(state: &[u64; 5205]) -> Sum
+fn data_hints(state: &State) -> Sum
     ensures { λ r. ⌜ r .digest ≡ digestOf (gathered (hintWords (held (now (state .entry)) .tlb .cache)) 512 0) ⌝ }
 {
     let mut s = start();
@@ -138,7 +139,7 @@ fn data_hints(state: &[u64; 5205]) -> Sum
 }
 
 // The data hints that are set, by rising slot, then the fetch hint.
-pub fn hints(state: &[u64; 5205]) -> Sum
+pub fn hints(state: &State) -> Sum
     ensures { λ r. ⌜ r .digest ≡ digestOf (hintsWords (held (now (state .entry)) .tlb .cache)) ⌝ }
 {
     let s = data_hints(state);

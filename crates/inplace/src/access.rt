@@ -20,11 +20,12 @@ use tlb::access::Kind;
 use walk::regime;
 use word::ram;
 use word::ram::Width;
+use words::place::State;
 use words::regs;
 use words::state;
 
 // Whether stage 1 is on at the level.
-pub fn on_at(state: &[u64; 5205]) -> bool
+pub fn on_at(state: &State) -> bool
     ensures { λ r. ⌜ r ≡ stage1On (bankNow (held (now (state .entry)))) (regimeOf ((held (now (state .entry))) .who .level)) ⌝ }
 {
     let who = state::who_at(state);
@@ -34,7 +35,7 @@ pub fn on_at(state: &[u64; 5205]) -> bool
 }
 
 // Both pages of an access, before a byte moves. The first one's effects remain where the second faults.
-fn locate(state: &mut [u64; 5205], va: u64, n: u64, kind: Kind, base: u64, ram: &[u8]) -> Placed
+fn locate(state: &mut State, va: u64, n: u64, kind: Kind, base: u64, ram: &[u8]) -> Placed
     ensures { λ r. ⌜ r ≡ translateAccessOf (held (now (state .entry))) (wordAt base (now (ram .entry)) 8) va n kind .placed ⌝ }
     ensures { λ _. ⌜ Moved (now (state .entry)) (now (state .exit)) (translateAccessOf (held (now (state .entry))) (wordAt base (now (ram .entry)) 8) va n kind .core) ⌝ }
 {
@@ -53,7 +54,7 @@ fn locate(state: &mut [u64; 5205], va: u64, n: u64, kind: Kind, base: u64, ram: 
 
 // The bytes of a load that was placed.
 fn load_placed(
-    state: &mut [u64; 5205],
+    state: &mut State,
     placed: Placed,
     va: u64,
     width: Width,
@@ -73,7 +74,7 @@ fn load_placed(
 }
 
 // A load.
-pub fn load(state: &mut [u64; 5205], va: u64, width: Width, base: u64, ram: &[u8]) -> LoadAnswer
+pub fn load(state: &mut State, va: u64, width: Width, base: u64, ram: &[u8]) -> LoadAnswer
     ensures { λ r. ⌜ r ≡ readOf (held (now (state .entry))) base (now (ram .entry)) va (bytesIn width) .answer ⌝ }
     ensures { λ _. ⌜ Moved (now (state .entry)) (now (state .exit)) (readOf (held (now (state .entry))) base (now (ram .entry)) va (bytesIn width) .core) ⌝ }
 {
@@ -84,7 +85,7 @@ pub fn load(state: &mut [u64; 5205], va: u64, width: Width, base: u64, ram: &[u8
 
 // The bytes of a store that was placed.
 fn store_placed(
-    state: &mut [u64; 5205],
+    state: &mut State,
     placed: Placed,
     va: u64,
     width: Width,
@@ -105,7 +106,7 @@ fn store_placed(
 
 // A store of the low bytes of a value.
 pub fn store(
-    state: &mut [u64; 5205],
+    state: &mut State,
     va: u64,
     width: Width,
     value: u64,
@@ -122,7 +123,7 @@ pub fn store(
 }
 
 // An instruction, by the fetch hint first.
-pub fn fetch(state: &mut [u64; 5205], va: u64, base: u64, ram: &[u8]) -> FetchAnswer
+pub fn fetch(state: &mut State, va: u64, base: u64, ram: &[u8]) -> FetchAnswer
     ensures { λ r. ⌜ r ≡ fetchOf (held (now (state .entry))) base (now (ram .entry)) va .answer ⌝ }
     ensures { λ _. ⌜ Moved (now (state .entry)) (now (state .exit)) (fetchOf (held (now (state .entry))) base (now (ram .entry)) va .core) ⌝ }
 {
@@ -135,7 +136,7 @@ pub fn fetch(state: &mut [u64; 5205], va: u64, base: u64, ram: &[u8]) -> FetchAn
 }
 
 // Where a data read of va goes.
-pub fn data_pa(state: &mut [u64; 5205], va: u64, base: u64, ram: &[u8]) -> Reached
+pub fn data_pa(state: &mut State, va: u64, base: u64, ram: &[u8]) -> Reached
     ensures { λ r. ⌜ r ≡ dataPaOf (held (now (state .entry))) (wordAt base (now (ram .entry)) 8) va .answer ⌝ }
     ensures { λ _. ⌜ Moved (now (state .entry)) (now (state .exit)) (dataPaOf (held (now (state .entry))) (wordAt base (now (ram .entry)) 8) va .core) ⌝ }
 {
@@ -144,7 +145,7 @@ pub fn data_pa(state: &mut [u64; 5205], va: u64, base: u64, ram: &[u8]) -> Reach
 }
 
 // Where a fetch of va goes, by the same hint.
-pub fn fetch_pa(state: &mut [u64; 5205], va: u64, base: u64, ram: &[u8]) -> Reached
+pub fn fetch_pa(state: &mut State, va: u64, base: u64, ram: &[u8]) -> Reached
     ensures { λ r. ⌜ r ≡ fetchPaOf (held (now (state .entry))) (wordAt base (now (ram .entry)) 8) va .answer ⌝ }
     ensures { λ _. ⌜ Moved (now (state .entry)) (now (state .exit)) (fetchPaOf (held (now (state .entry))) (wordAt base (now (ram .entry)) 8) va .core) ⌝ }
 {

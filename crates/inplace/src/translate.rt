@@ -24,11 +24,12 @@ use walk::regime;
 use walk::regime::Regime;
 use words::cells;
 use words::counts;
+use words::place::State;
 use words::regs;
 use words::state;
 
 // An allowed address becomes a hint, where hints may serve.
-fn note(state: &mut [u64; 5205], who: Who, kind: Kind, va: u64, pa: u64)
+fn note(state: &mut State, who: Who, kind: Kind, va: u64, pa: u64)
     ensures { λ _. ⌜ Moved (now (state .entry)) (now (state .exit)) (noted (held (now (state .entry))) who kind va pa) ⌝ }
 {
     let hinted = access::may_hint(who, kind);
@@ -40,7 +41,7 @@ fn note(state: &mut [u64; 5205], who: Who, kind: Kind, va: u64, pa: u64)
 }
 
 // An answer's number; its address becomes a hint.
-fn told(state: &mut [u64; 5205], who: Who, kind: Kind, va: u64, answer: Answer, pa: &mut u64) -> u64
+fn told(state: &mut State, who: Who, kind: Kind, va: u64, answer: Answer, pa: &mut u64) -> u64
     ensures { λ r. ⌜ r ≤ 511 ⌝ }
     ensures { λ r. ⌜ r ≡ codeOf answer ⌝ }
     ensures { λ r. ⌜ now (pa .exit) ≡ valueOf answer (now (pa .entry)) ⌝ }
@@ -58,7 +59,7 @@ fn told(state: &mut [u64; 5205], who: Who, kind: Kind, va: u64, answer: Answer, 
 
 // A leaf becomes an entry and is judged. page is the untagged address.
 fn keep(
-    state: &mut [u64; 5205],
+    state: &mut State,
     leaf: Leaf,
     at: Present,
     regime: Regime,
@@ -83,7 +84,7 @@ fn keep(
 
 // Neither a hint nor the entry serves: a walk.
 fn walk_in(
-    state: &mut [u64; 5205],
+    state: &mut State,
     regime: Regime,
     page: u64,
     who: Who,
@@ -110,7 +111,7 @@ fn walk_in(
 
 // With stage 1 on: the entry, or a walk.
 fn look(
-    state: &mut [u64; 5205],
+    state: &mut State,
     regime: Regime,
     page: u64,
     who: Who,
@@ -140,14 +141,7 @@ fn look(
 }
 
 // A translation that no hint serves.
-pub fn find(
-    state: &mut [u64; 5205],
-    va: u64,
-    kind: Kind,
-    pa: &mut u64,
-    base: u64,
-    ram: &[u8],
-) -> u64
+pub fn find(state: &mut State, va: u64, kind: Kind, pa: &mut u64, base: u64, ram: &[u8]) -> u64
     ensures { λ r. ⌜ r ≤ 511 ⌝ }
     ensures { λ r. ⌜ r ≡ codeOf (foundTo (held (now (state .entry))) (wordAt base (now (ram .entry)) 8) va kind .answer) ⌝ }
     ensures { λ r. ⌜ now (pa .exit) ≡ valueOf (foundTo (held (now (state .entry))) (wordAt base (now (ram .entry)) 8) va kind .answer) (now (pa .entry)) ⌝ }
@@ -168,7 +162,7 @@ pub fn find(
 }
 
 // What the hint says of va.
-pub fn by_hint(state: &[u64; 5205], va: u64, kind: Kind) -> Physical
+pub fn by_hint(state: &State, va: u64, kind: Kind) -> Physical
     ensures { λ r. ⌜ r ≡ hintFound (held (now (state .entry))) va kind ⌝ }
 {
     let who = state::who_at(state);
@@ -197,7 +191,7 @@ fn answer_of(code: u64, pa: u64) -> Answer
 }
 
 // A translation that no hint serves, and its answer.
-fn slow(state: &mut [u64; 5205], va: u64, kind: Kind, base: u64, ram: &[u8]) -> Answer
+fn slow(state: &mut State, va: u64, kind: Kind, base: u64, ram: &[u8]) -> Answer
     ensures { λ r. ⌜ r ≡ foundTo (held (now (state .entry))) (wordAt base (now (ram .entry)) 8) va kind .answer ⌝ }
     ensures { λ _. ⌜ Moved (now (state .entry)) (now (state .exit)) (foundTo (held (now (state .entry))) (wordAt base (now (ram .entry)) 8) va kind .core) ⌝ }
 {
@@ -207,7 +201,7 @@ fn slow(state: &mut [u64; 5205], va: u64, kind: Kind, base: u64, ram: &[u8]) -> 
 }
 
 // The translation of va: the hint first, where it may serve.
-pub fn translate(state: &mut [u64; 5205], va: u64, kind: Kind, base: u64, ram: &[u8]) -> Answer
+pub fn translate(state: &mut State, va: u64, kind: Kind, base: u64, ram: &[u8]) -> Answer
     ensures { λ r. ⌜ r ≡ translateOf (held (now (state .entry))) (wordAt base (now (ram .entry)) 8) va kind .answer ⌝ }
     ensures { λ _. ⌜ Moved (now (state .entry)) (now (state .exit)) (translateOf (held (now (state .entry))) (wordAt base (now (ram .entry)) 8) va kind .core) ⌝ }
 {
@@ -218,7 +212,7 @@ pub fn translate(state: &mut [u64; 5205], va: u64, kind: Kind, base: u64, ram: &
 }
 
 // A fetch from a page that the fetch hint does not name.
-fn fetch_page(state: &mut [u64; 5205], level: u8, va: u64, base: u64, ram: &[u8]) -> Answer
+fn fetch_page(state: &mut State, level: u8, va: u64, base: u64, ram: &[u8]) -> Answer
     ensures { λ r. ⌜ r ≡ foundTo (held (now (state .entry))) (wordAt base (now (ram .entry)) 8) va Fetch .answer ⌝ }
     ensures { λ _. ⌜ Moved (now (state .entry)) (now (state .exit)) (pagedTo level va (foundTo (held (now (state .entry))) (wordAt base (now (ram .entry)) 8) va Fetch)) ⌝ }
 {
@@ -233,7 +227,7 @@ fn fetch_page(state: &mut [u64; 5205], level: u8, va: u64, base: u64, ram: &[u8]
 }
 
 // The translation that a fetch begins with: the fetch hint first.
-pub fn fetch_translate(state: &mut [u64; 5205], va: u64, base: u64, ram: &[u8]) -> Answer
+pub fn fetch_translate(state: &mut State, va: u64, base: u64, ram: &[u8]) -> Answer
     ensures { λ r. ⌜ r ≡ fetchSteppedNow (held (now (state .entry))) (wordAt base (now (ram .entry)) 8) va .answer ⌝ }
     ensures { λ _. ⌜ Moved (now (state .entry)) (now (state .exit)) (withTlb (held (now (state .entry))) (fetchSteppedNow (held (now (state .entry))) (wordAt base (now (ram .entry)) 8) va .tlb)) ⌝ }
 {

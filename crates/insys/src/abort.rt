@@ -17,11 +17,12 @@ use entry::route::Origin;
 use entry::take;
 use sysreg::regs::El;
 use sysreg::regs::index;
+use words::place::State;
 use words::regs;
 use words::state;
 
 // The vector of a synchronous exception from one level to another.
-fn vector(state: &[u64; 5205], level: u8, target: El) -> u64
+fn vector(state: &State, level: u8, target: El) -> u64
     ensures { λ r. ⌜ r ≡ wrap (sysAt (held (now (state .entry)) .sys) (Vbar target) + vectOffset level (levelOf target) (held (now (state .entry)) .flags .spsel)) ⌝ }
 {
     let to = index(target) as u8;
@@ -32,7 +33,7 @@ fn vector(state: &[u64; 5205], level: u8, target: El) -> u64
 }
 
 // Exception entry to a level, with the address that it returns to.
-fn enter(state: &mut [u64; 5205], level: u8, target: El, report: Report, ret: u64)
+fn enter(state: &mut State, level: u8, target: El, report: Report, ret: u64)
     ensures { λ _. ⌜ Moved (now (state .entry)) (now (state .exit)) (entering (held (now (state .entry))) (takeException level (held (now (state .entry)) .flags) (held (now (state .entry)) .sys) target report ret)) ⌝ }
 {
     let to = index(target) as u8;
@@ -46,7 +47,7 @@ fn enter(state: &mut [u64; 5205], level: u8, target: El, report: Report, ret: u6
 }
 
 // A synchronous exception at the PC is routed, reported and taken.
-pub fn abort(state: &mut [u64; 5205], e: Exception)
+pub fn abort(state: &mut State, e: Exception)
     ensures { λ _. ⌜ Moved (now (state .entry)) (now (state .exit)) (abortOf (held (now (state .entry))) e) ⌝ }
 {
     let who = state::who_at(state);

@@ -19,11 +19,12 @@ use sysreg::shape;
 use sysreg::write::WriteAnswer;
 use words::clear;
 use words::counts;
+use words::place::State;
 use words::regs;
 use words::state;
 
 // Every entry and every hint out.
-pub fn flush(state: &mut [u64; 5205])
+pub fn flush(state: &mut State)
     ensures { λ _. ⌜ Moved (now (state .entry)) (now (state .exit)) (withTlb (held (now (state .entry))) (flushOf (held (now (state .entry)) .tlb))) ⌝ }
 {
     let at = counts::present_at(state);
@@ -39,7 +40,7 @@ pub fn flush(state: &mut [u64; 5205])
 }
 
 // Another ASID in force, and every hint out.
-pub fn retag(state: &mut [u64; 5205], asid: u16)
+pub fn retag(state: &mut State, asid: u16)
     ensures { λ _. ⌜ Moved (now (state .entry)) (now (state .exit)) (withTlb (held (now (state .entry))) (retagOf (held (now (state .entry)) .tlb) asid)) ⌝ }
 {
     clear::no_hints(state);
@@ -66,7 +67,7 @@ fn shapes(register: ControlReg) -> bool
 }
 
 // A retag where the ASID of the registers differs from the cache's.
-fn refit(state: &mut [u64; 5205])
+fn refit(state: &mut State)
     ensures { λ _. ⌜ Moved (now (state .entry)) (now (state .exit)) (withTlb (held (now (state .entry))) (retaggedOf (held (now (state .entry)) .tlb) (asidOf (held (now (state .entry)) .control)))) ⌝ }
 {
     let control = regs::control_at(state);
@@ -78,7 +79,7 @@ fn refit(state: &mut [u64; 5205])
 }
 
 // The register, and a flush where it shapes translation and its value is another.
-fn reshape(state: &mut [u64; 5205], register: ControlReg, value: u64)
+fn reshape(state: &mut State, register: ControlReg, value: u64)
     ensures { λ _. ⌜ Moved (now (state .entry)) (now (state .exit)) (reshaped (held (now (state .entry))) register value) ⌝ }
 {
     let shaping = shapes(register);
@@ -92,7 +93,7 @@ fn reshape(state: &mut [u64; 5205], register: ControlReg, value: u64)
 }
 
 // A register write that is done.
-fn put_register(state: &mut [u64; 5205], register: Register, value: u64)
+fn put_register(state: &mut State, register: Register, value: u64)
     ensures { λ _. ⌜ Moved (now (state .entry)) (now (state .exit)) (appliedOf (held (now (state .entry))) (wrote (held (now (state .entry)) .control) (held (now (state .entry)) .sys) register value)) ⌝ }
 {
     match register {
@@ -108,7 +109,7 @@ fn put_register(state: &mut [u64; 5205], register: Register, value: u64)
 }
 
 // A register write. One that is not done writes no word.
-pub fn write_register(state: &mut [u64; 5205], key: u32, value: u64) -> WriteAnswer
+pub fn write_register(state: &mut State, key: u32, value: u64) -> WriteAnswer
     ensures { λ r. ⌜ r ≡ writeRegister (held (now (state .entry))) key value .answer ⌝ }
     ensures { λ _. ⌜ Moved (now (state .entry)) (now (state .exit)) (writeRegister (held (now (state .entry))) key value .core) ⌝ }
     ensures { λ r. ⌜ ((r ≡ WriteAnswer.Done → ⊥) → now (state .exit) ≡ now (state .entry)) ⌝ }

@@ -13,10 +13,11 @@ use sysreg::regs::SysReg;
 use tlb::Inval;
 use words::clear;
 use words::counts;
+use words::place::State;
 use words::regs;
 
 // What translates the page out, and every hint.
-fn drop_page(state: &mut [u64; 5205], page: u64)
+fn drop_page(state: &mut State, page: u64)
     ensures { λ _. ⌜ Moved (now (state .entry)) (now (state .exit)) (withTlb (held (now (state .entry))) (dropPageOf (held (now (state .entry)) .tlb) page)) ⌝ }
 {
     let at = counts::present_at(state);
@@ -26,7 +27,7 @@ fn drop_page(state: &mut [u64; 5205], page: u64)
 }
 
 // What was walked for the ASID and is not global out, and every hint.
-fn drop_asid(state: &mut [u64; 5205], asid: u16)
+fn drop_asid(state: &mut State, asid: u16)
     ensures { λ _. ⌜ Moved (now (state .entry)) (now (state .exit)) (withTlb (held (now (state .entry))) (dropAsidOf (held (now (state .entry)) .tlb) asid)) ⌝ }
 {
     clear::drop_asids(state, asid);
@@ -34,7 +35,7 @@ fn drop_asid(state: &mut [u64; 5205], asid: u16)
     counts::count_epoch(state);
 }
 
-fn invalidate(state: &mut [u64; 5205], what: Inval)
+fn invalidate(state: &mut State, what: Inval)
     ensures { λ _. ⌜ Moved (now (state .entry)) (now (state .exit)) (withTlb (held (now (state .entry))) (invalidateOf (held (now (state .entry)) .tlb) what)) ⌝ }
 {
     match what {
@@ -45,7 +46,7 @@ fn invalidate(state: &mut [u64; 5205], what: Inval)
 }
 
 // Left pending for the other cores.
-fn broadcast(state: &mut [u64; 5205], what: Inval)
+fn broadcast(state: &mut State, what: Inval)
     ensures { λ _. ⌜ Moved (now (state .entry)) (now (state .exit)) (withTlb (held (now (state .entry))) (broadcastOf (held (now (state .entry)) .tlb) what)) ⌝ }
 {
     let earlier = counts::pending_at(state);
@@ -54,7 +55,7 @@ fn broadcast(state: &mut [u64; 5205], what: Inval)
 }
 
 // TLBI; the Inner Shareable forms are left pending for the other cores.
-pub fn tlbi(state: &mut [u64; 5205], op1: u64, crm: u64, op2: u64, x: u64)
+pub fn tlbi(state: &mut State, op1: u64, crm: u64, op2: u64, x: u64)
     ensures { λ _. ⌜ Moved (now (state .entry)) (now (state .exit)) (tlbiCore (held (now (state .entry))) op1 crm op2 x) ⌝ }
 {
     let control = regs::control_at(state);
@@ -67,7 +68,7 @@ pub fn tlbi(state: &mut [u64; 5205], op1: u64, crm: u64, op2: u64, x: u64)
 }
 
 // AT: a fresh walk into PAR_EL1.
-pub fn at(state: &mut [u64; 5205], form: AtForm, va: u64, base: u64, ram: &[u8])
+pub fn at(state: &mut State, form: AtForm, va: u64, base: u64, ram: &[u8])
     ensures { λ _. ⌜ Moved (now (state .entry)) (now (state .exit)) (atOf (held (now (state .entry))) (wordAt base (now (ram .entry)) 8) form va) ⌝ }
 {
     let regime = form.regime;

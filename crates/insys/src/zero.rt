@@ -13,10 +13,11 @@ use mmu::ends::StoreAnswer;
 use sysop::op;
 use sysop::op::SysOp;
 use word::ram::Width;
+use words::place::State;
 use words::state;
 
 // The n stores of a zeroing from va on, up to the first that stops.
-fn zero_from(state: &mut [u64; 5205], base: u64, ram: &mut [u8], va: u64, n: u64) -> StoreAnswer
+fn zero_from(state: &mut State, base: u64, ram: &mut [u8], va: u64, n: u64) -> StoreAnswer
     ensures { λ r. ⌜ (r ≡ zeroOf n (held (now (state .entry))) base (now (ram .entry)) va .answer) × (Moved (now (state .entry)) (now (state .exit)) (zeroOf n (held (now (state .entry))) base (now (ram .entry)) va .core) × (now (ram .exit) ≡ zeroRam n (held (now (state .entry))) base (now (ram .entry)) va)) ⌝ }
 {
     if n == 0 {
@@ -30,7 +31,7 @@ fn zero_from(state: &mut [u64; 5205], base: u64, ram: &mut [u8], va: u64, n: u64
 
 // A system operation of register rt. Undefined and Unimplemented write no word.
 pub fn system(
-    state: &mut [u64; 5205],
+    state: &mut State,
     base: u64,
     ram: &mut [u8],
     op1: u64,

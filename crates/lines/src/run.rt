@@ -8,6 +8,7 @@ use machine::line::Machine;
 use machine::memory;
 use trace::parse;
 use trace::parse::Outcome;
+use words::place::State;
 
 // What is done with each line.
 pub enum Mode {
@@ -37,7 +38,7 @@ fn stopped(t: Turn, bad: bool) -> Turn {
 }
 
 // A line is carried out and shown.
-fn shown(t: Turn, state: &mut [u64; 5205], ram: &mut [u8], op: &[u64; 8]) -> Turn {
+fn shown(t: Turn, state: &mut State, ram: &mut [u8], op: &[u64; 8]) -> Turn {
     let m = t.machine;
     let s = t.source;
     let mut out = t;
@@ -64,7 +65,7 @@ fn shown(t: Turn, state: &mut [u64; 5205], ram: &mut [u8], op: &[u64; 8]) -> Tur
 }
 
 // A line is carried out, and nothing is said.
-fn silent(t: Turn, state: &mut [u64; 5205], ram: &mut [u8], op: &[u64; 8]) -> Turn {
+fn silent(t: Turn, state: &mut State, ram: &mut [u8], op: &[u64; 8]) -> Turn {
     let m = t.machine;
     let mut out = t;
     if 60 <= op[0] {
@@ -81,7 +82,7 @@ fn fits(op: &[u64; 8]) -> bool {
     (op[0] != 61) | (op[2] <= memory::LONGEST)
 }
 
-fn act(t: Turn, mode: Mode, state: &mut [u64; 5205], ram: &mut [u8], op: &[u64; 8]) -> Turn {
+fn act(t: Turn, mode: Mode, state: &mut State, ram: &mut [u8], op: &[u64; 8]) -> Turn {
     match mode {
         Mode::Check => t,
         Mode::Run => shown(t, state, ram, op),
@@ -95,7 +96,7 @@ fn meant(
     mode: Mode,
     path: &[u8],
     words: &[u64; 32],
-    state: &mut [u64; 5205],
+    state: &mut State,
     ram: &mut [u8],
 ) -> Turn {
     let s = t.source;
@@ -132,7 +133,7 @@ fn one_line(
     fd: i32,
     path: &[u8],
     buf: &mut [u8; 4096],
-    state: &mut [u64; 5205],
+    state: &mut State,
     ram: &mut [u8],
 ) -> Turn {
     let mut words = [0u64; 32];
@@ -156,7 +157,7 @@ fn one_line(
     }
 }
 
-fn first(state: &mut [u64; 5205], ram: &[u8]) -> Turn {
+fn first(state: &mut State, ram: &[u8]) -> Turn {
     let m = line::start(state);
     Turn {
         source: source::start(),
@@ -168,7 +169,7 @@ fn first(state: &mut [u64; 5205], ram: &[u8]) -> Turn {
 }
 
 // All lines of a file that stands at its start.
-pub fn pass(mode: Mode, fd: i32, path: &[u8], state: &mut [u64; 5205], ram: &mut [u8]) -> Turn {
+pub fn pass(mode: Mode, fd: i32, path: &[u8], state: &mut State, ram: &mut [u8]) -> Turn {
     let mut buf = [0u8; 4096];
     let mut t = first(state, ram);
     let mut left = LINES;
@@ -180,7 +181,7 @@ pub fn pass(mode: Mode, fd: i32, path: &[u8], state: &mut [u64; 5205], ram: &mut
 }
 
 // Checks the file whole, then goes back to its start. Whether it is a trace.
-pub fn is_trace(fd: i32, path: &[u8], state: &mut [u64; 5205], ram: &mut [u8]) -> bool {
+pub fn is_trace(fd: i32, path: &[u8], state: &mut State, ram: &mut [u8]) -> bool {
     let t = pass(Mode::Check, fd, path, state, ram);
     if t.bad {
         return false;
@@ -197,7 +198,7 @@ pub fn is_trace(fd: i32, path: &[u8], state: &mut [u64; 5205], ram: &mut [u8]) -
     }
 }
 
-fn run_open(fd: i32, path: &[u8], state: &mut [u64; 5205], ram: &mut [u8]) {
+fn run_open(fd: i32, path: &[u8], state: &mut State, ram: &mut [u8]) {
     let good = is_trace(fd, path, state, ram);
     if good {
         pass(Mode::Run, fd, path, state, ram);

@@ -2,6 +2,7 @@
 use digest::parts;
 use trace::out;
 use trace::write;
+use words::place::State;
 
 // A name and a number.
 fn field(line: &mut [u8; 1024], n: usize, name: &[u8], value: u64) -> usize {
@@ -19,7 +20,7 @@ fn digest(line: &mut [u8; 1024], n: usize, name: &[u8], value: u64) -> usize {
     out::hex(line, k, value, 16)
 }
 
-fn counters(line: &mut [u8; 1024], n: usize, state: &[u64; 5205]) -> usize {
+fn counters(line: &mut [u8; 1024], n: usize, state: &State) -> usize {
     let a = field(line, n, b" | h=", state[70]);
     let b = field(line, a, b" w=", state[71]);
     let c = field(line, b, b" fl=", state[72]);
@@ -29,7 +30,7 @@ fn counters(line: &mut [u8; 1024], n: usize, state: &[u64; 5205]) -> usize {
     field(line, f, b":", state[76])
 }
 
-fn place(line: &mut [u8; 1024], n: usize, state: &[u64; 5205]) -> usize {
+fn place(line: &mut [u8; 1024], n: usize, state: &State) -> usize {
     let a = field(line, n, b" lp=", state[77]);
     let b = field(line, a, b" ap=", state[78]);
     let c = small(line, b, b" el=", state[68]);
@@ -40,7 +41,7 @@ fn place(line: &mut [u8; 1024], n: usize, state: &[u64; 5205]) -> usize {
     field(line, g, b" pc=", state[33])
 }
 
-fn digests(line: &mut [u8; 1024], n: usize, state: &[u64; 5205], ram: u64) -> usize {
+fn digests(line: &mut [u8; 1024], n: usize, state: &State, ram: u64) -> usize {
     let entries = parts::entries(state);
     let hints = parts::hints(state);
     let a = digest(line, n, b" R=", parts::registers(state));
@@ -65,13 +66,7 @@ fn flush(line: &[u8; 1024], n: usize) -> bool {
 }
 
 // Whether the line was written.
-pub fn operation(
-    number: u64,
-    op: &[u64; 8],
-    ans: &[u64; 4],
-    state: &[u64; 5205],
-    ram: u64,
-) -> bool {
+pub fn operation(number: u64, op: &[u64; 8], ans: &[u64; 4], state: &State, ram: u64) -> bool {
     let mut line = [0u8; 1024];
     let a = out::decimal(&mut line, 0, number);
     let b = out::byte(&mut line, a, b' ');

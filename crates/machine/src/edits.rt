@@ -3,10 +3,11 @@ use tlb::entry::Entry;
 use tlb::hint::Hint;
 use words::cells;
 use words::counts;
+use words::place::State;
 use words::state;
 
 // Sets word i, where there is one.
-fn put(words: &mut [u64; 5205], i: usize, value: u64) {
+fn put(words: &mut State, i: usize, value: u64) {
     state::whole(words);
     if i < 5205 {
         words[i] = value;
@@ -24,7 +25,7 @@ fn moved(e: Entry, present: u32, to: u32, later: bool) -> Entry {
     if kept { e } else { tlb::entry::blank() }
 }
 
-fn move_generation(words: &mut [u64; 5205], to: u32, later: bool) {
+fn move_generation(words: &mut State, to: u32, later: bool) {
     let present = counts::present_at(words);
     let generation = present.generation;
     let mut j = 0usize;
@@ -37,7 +38,7 @@ fn move_generation(words: &mut [u64; 5205], to: u32, later: bool) {
     counts::put_generation(words, to);
 }
 
-fn put_counters(words: &mut [u64; 5205], value: u64) {
+fn put_counters(words: &mut State, value: u64) {
     put(words, 70, value);
     put(words, 71, value);
     put(words, 72, value);
@@ -45,7 +46,7 @@ fn put_counters(words: &mut [u64; 5205], value: u64) {
     put(words, 74, value);
 }
 
-fn take_broadcast(words: &mut [u64; 5205]) {
+fn take_broadcast(words: &mut State) {
     put(words, 75, 0);
     put(words, 76, 0);
 }
@@ -64,7 +65,7 @@ fn fitting(place: u64, v: u64) -> u64 {
 }
 
 // The bits that a pending invalidation's value has: an address, an ASID, or none.
-fn fit_broadcast(words: &mut [u64; 5205]) {
+fn fit_broadcast(words: &mut State) {
     let value = match words[75] {
         2 => words[76],
         3 => words[76] % 0x1_0000,
@@ -74,7 +75,7 @@ fn fit_broadcast(words: &mut [u64; 5205]) {
 }
 
 // A word before the fetch hint.
-fn put_word(words: &mut [u64; 5205], place: u64, v: u64) {
+fn put_word(words: &mut State, place: u64, v: u64) {
     let value = fitting(place, v);
     if place == 79 {
         move_generation(words, (value % 0x1_0000_0000) as u32, true);
@@ -87,7 +88,7 @@ fn put_word(words: &mut [u64; 5205], place: u64, v: u64) {
 }
 
 // An entry of four words. No core holds a generation of more than 32 bits.
-fn put_entry(words: &mut [u64; 5205], slot: u64, op: &[u64; 8]) {
+fn put_entry(words: &mut State, slot: u64, op: &[u64; 8]) {
     let j = (slot % 1024) as usize;
     let bits = op[4];
     if op[3] < 0x1_0000_0000 {
@@ -107,7 +108,7 @@ fn put_entry(words: &mut [u64; 5205], slot: u64, op: &[u64; 8]) {
     }
 }
 
-fn put_fetch(words: &mut [u64; 5205], page: u64, level: u64, pa: u64) {
+fn put_fetch(words: &mut State, page: u64, level: u64, pa: u64) {
     put(words, 81, 1);
     put(words, 82, page);
     put(words, 83, level);
@@ -115,7 +116,7 @@ fn put_fetch(words: &mut [u64; 5205], page: u64, level: u64, pa: u64) {
 }
 
 // A line of code 40 to 45.
-pub fn poke(words: &mut [u64; 5205], op: &[u64; 8]) {
+pub fn poke(words: &mut State, op: &[u64; 8]) {
     match op[0] {
         40 => put(words, 68, op[1]),
         41 => put(words, 33, op[1]),
@@ -127,7 +128,7 @@ pub fn poke(words: &mut [u64; 5205], op: &[u64; 8]) {
 }
 
 // A line of code 64 to 67.
-pub fn overwrite(words: &mut [u64; 5205], op: &[u64; 8]) {
+pub fn overwrite(words: &mut State, op: &[u64; 8]) {
     match op[0] {
         64 => put_word(words, op[1], op[2]),
         65 => {

@@ -20,6 +20,7 @@ use walk::rights;
 use walk::size;
 use walk::table;
 use walk::tag;
+use words::place::State;
 use words::regs::bank_at;
 use words::regs::control_at;
 
@@ -43,18 +44,18 @@ fn regime_at(n: u64) -> Regime {
     }
 }
 
-fn asid(state: &[u64; 5205]) -> [u64; 4] {
+fn asid(state: &State) -> [u64; 4] {
     let c = control_at(state);
     value(shape::asid(c) as u64)
 }
 
-fn stage1_on(state: &[u64; 5205], n: u64) -> [u64; 4] {
+fn stage1_on(state: &State, n: u64) -> [u64; 4] {
     let r = regime_at(n);
     let on = regime::stage1_on(bank_at(state, r), r);
     value(flag(on))
 }
 
-fn untag(state: &[u64; 5205], n: u64, va: u64) -> [u64; 4] {
+fn untag(state: &State, n: u64, va: u64) -> [u64; 4] {
     let r = regime_at(n);
     let b = bank_at(state, r);
     value(tag::untag(b.tcr, r, va))
@@ -68,7 +69,7 @@ fn leaf_words(l: Leaf) -> [u64; 4] {
     [3, l.oa, l.perms as u64 + l.level as u64 * 256, kind]
 }
 
-fn walk_of(state: &[u64; 5205], n: u64, va: u64, base: u64, ram: &[u8]) -> [u64; 4] {
+fn walk_of(state: &State, n: u64, va: u64, base: u64, ram: &[u8]) -> [u64; 4] {
     let r = regime_at(n);
     match table::walk(bank_at(state, r), r, va, base, ram) {
         Walked::Mapped(l) => leaf_words(l),
@@ -147,7 +148,7 @@ fn syndrome(op: &[u64; 8]) -> [u64; 4] {
 }
 
 // A line of code 20 to 28.
-pub fn answer(state: &[u64; 5205], op: &[u64; 8], base: u64, ram: &[u8]) -> [u64; 4] {
+pub fn answer(state: &State, op: &[u64; 8], base: u64, ram: &[u8]) -> [u64; 4] {
     match op[0] {
         20 => asid(state),
         21 => stage1_on(state, op[1]),

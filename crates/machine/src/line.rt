@@ -3,6 +3,7 @@ use crate::edits;
 use crate::leaves;
 use crate::memory;
 use a72abi::calls;
+use words::place::State;
 
 // The window: its base, and how many of RAM's bytes are in it.
 pub struct Machine {
@@ -11,13 +12,13 @@ pub struct Machine {
 }
 
 // At the start a trace has a fresh core and a window without bytes.
-pub fn start(state: &mut [u64; 5205]) -> Machine {
+pub fn start(state: &mut State) -> Machine {
     calls::a72_fresh(state);
     Machine { base: 0, len: 0 }
 }
 
 // An operation of code 1 to 12, 20 to 28 or 40 to 45: its answer.
-fn operate(state: &mut [u64; 5205], base: u64, ram: &mut [u8], op: &[u64; 8]) -> [u64; 4] {
+fn operate(state: &mut State, base: u64, ram: &mut [u8], op: &[u64; 8]) -> [u64; 4] {
     if op[0] < 20 {
         let mut ans = [99; 4];
         calls::a72_step(op, state, base, ram, &mut ans);
@@ -58,7 +59,7 @@ fn rewrite(m: Machine, ram: &mut [u8], op: &[u64; 8]) {
 }
 
 // A line that is no operation: code 60 to 67.
-pub fn arrange(m: Machine, state: &mut [u64; 5205], ram: &mut [u8], op: &[u64; 8]) -> Machine {
+pub fn arrange(m: Machine, state: &mut State, ram: &mut [u8], op: &[u64; 8]) -> Machine {
     match op[0] {
         60 => calls::a72_fresh(state),
         61 => return set_window(m, ram, op[1], op[2]),
@@ -69,7 +70,7 @@ pub fn arrange(m: Machine, state: &mut [u64; 5205], ram: &mut [u8], op: &[u64; 8
 }
 
 // The answer of an operation on the window.
-pub fn perform(m: Machine, state: &mut [u64; 5205], ram: &mut [u8], op: &[u64; 8]) -> [u64; 4] {
+pub fn perform(m: Machine, state: &mut State, ram: &mut [u8], op: &[u64; 8]) -> [u64; 4] {
     let k = m.len;
     if k <= ram.len() {
         operate(state, m.base, &mut ram[0..k], op)

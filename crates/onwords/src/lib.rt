@@ -5,6 +5,7 @@ ghost use lib.ListN.{length};
 ghost use Rattle.a72abi.specs.Ops.{callOf};
 ghost use Rattle.onwords.specs.Run.{eight, reached, RunPromise};
 use a72abi::calls;
+use words::place::State;
 
 // The eight words of a call.
 fn op_at(ops: &[u64], at: usize) -> [u64; 8]
@@ -26,7 +27,7 @@ fn op_at(ops: &[u64], at: usize) -> [u64; 8]
 // Every word written; then the calls of ops, eight words to a call, each on RAM as the last one left it; then one call
 // more, whose number and answer are given. Whatever the calls were, the last one's answer keeps demand 3.
 pub fn run(
-    state: &mut [u64; 5205],
+    state: &mut State,
     ops: &[u64],
     last: &[u64; 8],
     base: u64,

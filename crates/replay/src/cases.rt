@@ -5,6 +5,7 @@ use crate::parts;
 use crate::say;
 use crate::tally;
 use word::bits;
+use words::place::State;
 
 pub struct Case {
     // up to two classes, a byte each; 0 where both answer alike
@@ -29,7 +30,7 @@ fn begun(class: u64) -> Case {
 }
 
 // A word of the state, or from 5205 on of the last answer.
-fn found(m: Replay, state: &[u64; 5205], place: u64) -> u64 {
+fn found(m: Replay, state: &State, place: u64) -> u64 {
     let a = m.ans;
     match place {
         5205 => a[0],
@@ -70,7 +71,7 @@ fn answered(m: Replay, small: u64, value: u64) -> Replay {
 }
 
 // A part of the other answer.
-fn other(m: Replay, state: &[u64; 5205], place: u64, told: u64) -> Replay {
+fn other(m: Replay, state: &State, place: u64, told: u64) -> Replay {
     let is = found(m, state, place);
     let mut c = m.case;
     c.told = bits::more(c.told);
@@ -114,7 +115,7 @@ fn end(m: Replay, counts: &mut [u64; 2048]) -> Replay {
     lines::wrong(out)
 }
 
-pub fn line(m: Replay, op: &[u64; 8], state: &[u64; 5205], counts: &mut [u64; 2048]) -> Replay {
+pub fn line(m: Replay, op: &[u64; 8], state: &State, counts: &mut [u64; 2048]) -> Replay {
     match op[0] {
         70 => begin(m, op[1]),
         71 => due(m, op[1], parts::get(state, op[1]), op[2]),

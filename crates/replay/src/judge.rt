@@ -5,9 +5,10 @@ use crate::parts;
 use crate::say;
 use crate::tally;
 use machine::line;
+use words::place::State;
 
 // Counters, what is pending, the addresses kept, level and mark, generation and ASID, PAR_EL1.
-fn plain_words(m: Replay, state: &[u64; 5205]) -> [u64; 18] {
+fn plain_words(m: Replay, state: &State) -> [u64; 18] {
     let a = m.ans;
     [
         a[0],
@@ -32,7 +33,7 @@ fn plain_words(m: Replay, state: &[u64; 5205]) -> [u64; 18] {
 }
 
 // The numbers of entries and hints, and the digests of registers, entries, hints and RAM.
-fn digest_words(sum: u64, state: &[u64; 5205]) -> [u64; 6] {
+fn digest_words(sum: u64, state: &State) -> [u64; 6] {
     let e = digest::parts::entries(state);
     let h = digest::parts::hints(state);
     let r = digest::parts::registers(state);
@@ -56,7 +57,7 @@ fn first_wrong(is: &[u64], want: &[u8], from: u64) -> usize {
     i
 }
 
-fn judge(m: Replay, state: &[u64; 5205], want: &[u8]) -> Replay {
+fn judge(m: Replay, state: &State, want: &[u8]) -> Replay {
     let plain = plain_words(m, state);
     let i = first_wrong(&plain, want, 0);
     if i < 18 {
@@ -92,7 +93,7 @@ pub fn tail(
     m: Replay,
     fd: i32,
     op: &[u64; 8],
-    state: &[u64; 5205],
+    state: &State,
     ram: &[u8],
     counts: &mut [u64; 2048],
 ) -> Replay {

@@ -9,6 +9,7 @@ use machine::line;
 use machine::line::Machine;
 use machine::memory;
 use word::bits;
+use words::place::State;
 
 // The first word of machine's answer where words name no operation.
 const NO_ANSWER: u64 = 99;
@@ -32,7 +33,7 @@ pub struct Replay {
 }
 
 // A fresh core, and a window without bytes.
-fn start(state: &mut [u64; 5205]) -> Replay {
+fn start(state: &mut State) -> Replay {
     let window = line::start(state);
     let case = cases::none();
     Replay {
@@ -91,7 +92,7 @@ fn operate(
     fd: i32,
     op: &[u64; 8],
     whole: bool,
-    state: &mut [u64; 5205],
+    state: &mut State,
     ram: &mut [u8],
     counts: &mut [u64; 2048],
 ) -> Replay {
@@ -109,7 +110,7 @@ fn operate(
 }
 
 // A line of code 60 to 63.
-fn arrange(m: Replay, op: &[u64; 8], state: &mut [u64; 5205], ram: &mut [u8]) -> Replay {
+fn arrange(m: Replay, op: &[u64; 8], state: &mut State, ram: &mut [u8]) -> Replay {
     if (op[0] == 61) & (memory::LONGEST < op[2]) {
         return broken(m, b"the window is too large");
     }
@@ -130,7 +131,7 @@ fn act(
     fd: i32,
     op: &[u64; 8],
     whole: bool,
-    state: &mut [u64; 5205],
+    state: &mut State,
     ram: &mut [u8],
     counts: &mut [u64; 2048],
 ) -> Replay {
@@ -149,7 +150,7 @@ fn full(
     m: Replay,
     fd: i32,
     first: u64,
-    state: &mut [u64; 5205],
+    state: &mut State,
     ram: &mut [u8],
     counts: &mut [u64; 2048],
 ) -> Replay {
@@ -178,7 +179,7 @@ fn brief(
     m: Replay,
     fd: i32,
     first: u64,
-    state: &mut [u64; 5205],
+    state: &mut State,
     ram: &mut [u8],
     counts: &mut [u64; 2048],
 ) -> Replay {
@@ -203,13 +204,7 @@ fn another(m: Replay) -> Replay {
     out
 }
 
-fn line(
-    m: Replay,
-    fd: i32,
-    state: &mut [u64; 5205],
-    ram: &mut [u8],
-    counts: &mut [u64; 2048],
-) -> Replay {
+fn line(m: Replay, fd: i32, state: &mut State, ram: &mut [u8], counts: &mut [u64; 2048]) -> Replay {
     let mut head = [0u8; 8];
     let n = io::read_full(fd, &mut head);
     if n < 8 {
@@ -225,7 +220,7 @@ fn line(
 }
 
 // The lines from a fresh core and no RAM. A proved loop ends: it counts its turns down from more than any record has.
-fn lines(fd: i32, state: &mut [u64; 5205], ram: &mut [u8], counts: &mut [u64; 2048]) -> Replay {
+fn lines(fd: i32, state: &mut State, ram: &mut [u8], counts: &mut [u64; 2048]) -> Replay {
     memory::wipe(ram);
     let mut m = start(state);
     let mut turns = 100_000_000u64;
@@ -257,12 +252,7 @@ fn as_headed(m: Replay, head: &[u8]) -> Replay {
 }
 
 // A whole record.
-pub fn record(
-    fd: i32,
-    state: &mut [u64; 5205],
-    ram: &mut [u8],
-    counts: &mut [u64; 2048],
-) -> Replay {
+pub fn record(fd: i32, state: &mut State, ram: &mut [u8], counts: &mut [u64; 2048]) -> Replay {
     let mut head = [0u8; 64];
     let n = io::read_full(fd, &mut head);
     let m = lines(fd, state, ram, counts);

@@ -12,6 +12,7 @@ mod tally;
 use lines::Replay;
 use report::Total;
 use word::bits;
+use words::place::State;
 
 fn nothing() -> Total {
     Total {
@@ -45,7 +46,7 @@ fn one_wrong(t: Total, why: &[u8]) -> Total {
 fn named(
     t: Total,
     name: &[u8],
-    state: &mut [u64; 5205],
+    state: &mut State,
     ram: &mut [u8],
     counts: &mut [u64; 2048],
 ) -> Total {
@@ -63,7 +64,7 @@ fn named(
 fn argument(
     t: Total,
     i: usize,
-    state: &mut [u64; 5205],
+    state: &mut State,
     ram: &mut [u8],
     counts: &mut [u64; 2048],
 ) -> Total {
@@ -72,7 +73,7 @@ fn argument(
     named(t, &name[..n], state, ram, counts)
 }
 
-fn arguments(state: &mut [u64; 5205], ram: &mut [u8], counts: &mut [u64; 2048]) -> Total {
+fn arguments(state: &mut State, ram: &mut [u8], counts: &mut [u64; 2048]) -> Total {
     let n = os::arg_count();
     let mut t = nothing();
     let mut i: usize = 1;

@@ -2,6 +2,7 @@
 use word::ram;
 use word::ram::Width;
 use word::ram::Word;
+use words::place::State;
 
 // Word i of a line's bytes.
 pub fn word_of(buf: &[u8], i: u64) -> u64 {
@@ -11,7 +12,7 @@ pub fn word_of(buf: &[u8], i: u64) -> u64 {
     }
 }
 
-pub fn get(state: &[u64; 5205], place: u64) -> u64 {
+pub fn get(state: &State, place: u64) -> u64 {
     if place < 5205 {
         let i = place as usize;
         state[i]

@@ -11,6 +11,7 @@ use walk::level::Leaf;
 use walk::level::Walked;
 use walk::regime::Regime;
 use words::counts;
+use words::place::State;
 
 // An answer as words of a core's answer: 1 and the address, or 8 and the status.
 pub struct Told {
@@ -56,14 +57,7 @@ fn show_rights(regime: Regime, leaf: Leaf) {
 }
 
 // A walk's end, judged for the access.
-pub fn of_walk(
-    state: &[u64; 5205],
-    w: Walked,
-    regime: Regime,
-    who: Who,
-    kind: Kind,
-    va: u64,
-) -> Told {
+pub fn of_walk(state: &State, w: Walked, regime: Regime, who: Who, kind: Kind, va: u64) -> Told {
     match w {
         Walked::Mapped(leaf) => {
             show_rights(regime, leaf);
@@ -80,7 +74,7 @@ pub fn of_walk(
 }
 
 // The core's own answer to the translation.
-pub fn of_core(state: &mut [u64; 5205], base: u64, ram: &mut [u8], kind: Kind, va: u64) -> Told {
+pub fn of_core(state: &mut State, base: u64, ram: &mut [u8], kind: Kind, va: u64) -> Told {
     let op = [1, kind_word(kind), va, 0, 0, 0, 0, 0];
     let mut ans = [99; 4];
     calls::a72_step(&op, state, base, ram, &mut ans);

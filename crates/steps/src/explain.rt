@@ -10,6 +10,7 @@ use walk::regime;
 use walk::regime::Bank;
 use walk::regime::Regime;
 use walk::tag;
+use words::place::State;
 use words::regs;
 use words::state;
 
@@ -44,7 +45,7 @@ fn head(who: Who, kind: Kind, r: Regime, va: u64) {
 
 // With stage 1 on: untagged, walked, judged.
 fn walked(
-    words: &[u64; 5205],
+    words: &State,
     base: u64,
     ram: &[u8],
     s: Bank,
@@ -69,14 +70,14 @@ fn flat(va: u64) -> Told {
 }
 
 // Whether stage 1 is on in the regime of the core's level.
-fn is_on(words: &[u64; 5205]) -> bool {
+fn is_on(words: &State) -> bool {
     let who = state::who_at(words);
     let r = regime::regime_of(who.level);
     regime::stage1_on(regs::bank_at(words, r), r)
 }
 
 // The answer of a walk made now, each step shown.
-fn now(words: &[u64; 5205], base: u64, ram: &[u8], kind: Kind, va: u64) -> Told {
+fn now(words: &State, base: u64, ram: &[u8], kind: Kind, va: u64) -> Told {
     let who = state::who_at(words);
     let r = regime::regime_of(who.level);
     let s = regs::bank_at(words, r);
@@ -122,7 +123,7 @@ fn verdict(now: Told, core: Told) {
 }
 
 // One translation on a core and its window.
-pub fn explain(words: &mut [u64; 5205], base: u64, ram: &mut [u8], kind: Kind, va: u64) {
+pub fn explain(words: &mut State, base: u64, ram: &mut [u8], kind: Kind, va: u64) {
     let by_walk = now(words, base, ram, kind, va);
     say::text(b"walk now   ");
     answer::show(by_walk);

@@ -19,6 +19,7 @@ use Rattle.tlb.specs.declared.Pending.{Pending}
 use Rattle.tlb.specs.declared.Pending.the-variants.{Nothing, Some}
 use Rattle.mmu.specs.declared.core.Core.{Core}
 use Rattle.words.specs.Tables.{table}
+use Rattle.words.specs.Places.{SCTLR, TCR, TTBR0, TTBR1-EL1, MAIR, VBAR, ELR, SPSR, ESR, FAR, SCR-EL3, HCR-EL2, VPIDR-EL2, VMPIDR-EL2, PAR-EL1, PC, NZCV, DAIF, SPSEL, GENERAL, LEVEL, UNPRIVILEGED, HITS, WALKS, FLUSHES, DROPS, EPOCH, PENDING, PENDING-VALUE, LAST-PA, ABORT-PA, GENERATION, ASID, FETCH, FETCH-PAGE, FETCH-LEVEL, FETCH-PA, HINTS, HINT-PA, ENTRIES, ENTRY-GENERATION, ENTRY-ATTRIBUTES, ENTRY-PA}
 
 -- word k
 abbrev pub word : List ℕ → ℕ → ℕ
@@ -34,40 +35,40 @@ levelIn v = pick (ltb v 256) v 255
 abbrev pub controlIn : (ℕ → ℕ) → Control
 controlIn w =
     record {
-      sctlr = levels (w 0) (w 1) (w 2);
-      tcr = levels (w 3) (w 4) (w 5);
-      ttbr0 = levels (w 6) (w 7) (w 8);
-      «ttbr1_el1» = w 9;
-      «scr_el3» = w 28;
-      «hcr_el2» = w 29;
+      sctlr = levels (w SCTLR) (w (SCTLR + 1)) (w (SCTLR + 2));
+      tcr = levels (w TCR) (w (TCR + 1)) (w (TCR + 2));
+      ttbr0 = levels (w TTBR0) (w (TTBR0 + 1)) (w (TTBR0 + 2));
+      «ttbr1_el1» = w TTBR1-EL1;
+      «scr_el3» = w SCR-EL3;
+      «hcr_el2» = w HCR-EL2;
     }
 
 -- words 10 to 27, 30 to 32
 abbrev pub sysIn : (ℕ → ℕ) → SysRegs
 sysIn w =
     record {
-      mair = levels (w 10) (w 11) (w 12);
-      vbar = levels (w 13) (w 14) (w 15);
-      elr = levels (w 16) (w 17) (w 18);
-      spsr = levels (w 19) (w 20) (w 21);
-      esr = levels (w 22) (w 23) (w 24);
-      far = levels (w 25) (w 26) (w 27);
-      «vpidr_el2» = w 30;
-      «vmpidr_el2» = w 31;
-      «par_el1» = w 32;
+      mair = levels (w MAIR) (w (MAIR + 1)) (w (MAIR + 2));
+      vbar = levels (w VBAR) (w (VBAR + 1)) (w (VBAR + 2));
+      elr = levels (w ELR) (w (ELR + 1)) (w (ELR + 2));
+      spsr = levels (w SPSR) (w (SPSR + 1)) (w (SPSR + 2));
+      esr = levels (w ESR) (w (ESR + 1)) (w (ESR + 2));
+      far = levels (w FAR) (w (FAR + 1)) (w (FAR + 2));
+      «vpidr_el2» = w VPIDR-EL2;
+      «vmpidr_el2» = w VMPIDR-EL2;
+      «par_el1» = w PAR-EL1;
     }
 
 -- words 34 to 36
 abbrev pub flagsIn : (ℕ → ℕ) → Flags
-flagsIn w = record { nzcv = w 34 % 2 ^ 32; daif = w 35 % 2 ^ 32; spsel = eqb (w 36) 1 }
+flagsIn w = record { nzcv = w NZCV % 2 ^ 32; daif = w DAIF % 2 ^ 32; spsel = eqb (w SPSEL) 1 }
 
 -- words 68 and 69
 abbrev pub whoIn : (ℕ → ℕ) → Who
-whoIn w = record { level = levelIn (w 68); mark = eqb (w 69) 1 }
+whoIn w = record { level = levelIn (w LEVEL); mark = eqb (w UNPRIVILEGED) 1 }
 
 -- words 70 to 74
 abbrev pub countsIn : (ℕ → ℕ) → Counts
-countsIn w = record { hits = w 70; walks = w 71; flushes = w 72; drops = w 73; epoch = w 74 }
+countsIn w = record { hits = w HITS; walks = w WALKS; flushes = w FLUSHES; drops = w DROPS; epoch = w EPOCH }
 
 -- words 75 and 76
 abbrev pub pendingOf : ℕ → ℕ → Pending
@@ -76,15 +77,15 @@ pendingOf what v =
 
 -- words 79 and 80
 abbrev pub presentIn : (ℕ → ℕ) → Present
-presentIn w = record { generation = w 79 % 2 ^ 32; asid = w 80 % 2 ^ 16 }
+presentIn w = record { generation = w GENERATION % 2 ^ 32; asid = w ASID % 2 ^ 16 }
 
 -- words 81 to 84
 abbrev pub fetchIn : (ℕ → ℕ) → FetchHint
-fetchIn w = record { some = eqb (w 81) 1; page = w 82; level = w 83 % 2 ^ 8; pa = w 84 }
+fetchIn w = record { some = eqb (w FETCH) 1; page = w FETCH-PAGE; level = w FETCH-LEVEL % 2 ^ 8; pa = w FETCH-PA }
 
 -- two words from 85 on for each data hint
 abbrev pub hintIn : (ℕ → ℕ) → ℕ → Hint
-hintIn w i = record { key = w (85 + i * 2); pa = w (86 + i * 2) }
+hintIn w i = record { key = w (HINTS + i * 2); pa = w (HINT-PA + i * 2) }
 
 -- four words from 1109 on for each entry: tag, generation, attributes, physical page
 abbrev pub entryOf : ℕ → ℕ → ℕ → ℕ → Entry
@@ -100,7 +101,7 @@ entryOf tag generation bits pa =
     }
 
 abbrev pub entryIn : (ℕ → ℕ) → ℕ → Entry
-entryIn w j = entryOf (w (1109 + j * 4)) (w (1110 + j * 4)) (w (1111 + j * 4)) (w (1112 + j * 4))
+entryIn w j = entryOf (w (ENTRIES + j * 4)) (w (ENTRY-GENERATION + j * 4)) (w (ENTRY-ATTRIBUTES + j * 4)) (w (ENTRY-PA + j * 4))
 
 -- the core of its small parts, its general registers, its data hints and its entries
 unfoldable pub heldOn : (ℕ → ℕ) → List ℕ → List Hint → List Entry → Core
@@ -108,7 +109,7 @@ heldOn w xs hs es =
     record {
       who = whoIn w;
       flags = flagsIn w;
-      pc = w 33;
+      pc = w PC;
       x = xs;
       control = controlIn w;
       sys = sysIn w;
@@ -116,15 +117,15 @@ heldOn w xs hs es =
           record {
             cache = record { present = presentIn w; fetch = fetchIn w; hints = hs; entries = es };
             counts = countsIn w;
-            broadcast = pendingOf (w 75) (w 76);
+            broadcast = pendingOf (w PENDING) (w PENDING-VALUE);
           };
-      «last_pa» = w 77;
-      «abort_pa» = w 78;
+      «last_pa» = w LAST-PA;
+      «abort_pa» = w ABORT-PA;
     }
 
 -- X0 to X30 are words 37 to 67
 unfoldable pub heldBy : (ℕ → ℕ) → Core
-heldBy w = heldOn w (table 31 (λ n. w (37 + n))) (table 512 (hintIn w)) (table 1024 (entryIn w))
+heldBy w = heldOn w (table 31 (λ n. w (GENERAL + n))) (table 512 (hintIn w)) (table 1024 (entryIn w))
 
 unfoldable pub held : List ℕ → Core
 held ws = heldBy (word ws)

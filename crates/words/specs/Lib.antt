@@ -1,4 +1,5 @@
 pub mod Tables
+pub mod Places
 pub mod Held
 pub mod Parts
 pub mod Moved

@@ -6,6 +6,8 @@ ghost use Rattle.words.specs.Held.{held};
 ghost use Rattle.words.specs.Parts.{withHint, withEntry, withTag, withFetchHint};
 ghost use Rattle.words.specs.Moved.{Moved};
 ghost use Rattle.words.specs.EntryWrites.{attributes};
+use crate::place;
+use crate::place::State;
 use crate::state::one;
 use crate::state::whole;
 use tlb::entry::Entry;
@@ -14,69 +16,69 @@ use tlb::hint::FetchHint;
 use tlb::hint::Hint;
 
 // A data hint, none past the last.
-pub fn hint_at(state: &[u64; 5205], i: usize) -> Hint
+pub fn hint_at(state: &State, i: usize) -> Hint
     ensures { λ r. ⌜ r ≡ hintAt (held (now (state .entry)) .tlb .cache) i ⌝ }
 {
     if i < 512 {
         Hint {
-            key: state[85 + i * 2],
-            pa: state[86 + i * 2],
+            key: state[place::HINTS + i * 2],
+            pa: state[place::HINT_PA + i * 2],
         }
     } else {
         hint::no_hint()
     }
 }
 
-pub fn put_hint(state: &mut [u64; 5205], i: usize, h: Hint)
+pub fn put_hint(state: &mut State, i: usize, h: Hint)
     ensures { λ _. ⌜ Moved (now (state .entry)) (now (state .exit)) (withHint (held (now (state .entry))) i h) ⌝ }
 {
     whole(state);
     if i < 512 {
-        state[85 + i * 2] = h.key;
-        state[86 + i * 2] = h.pa;
+        state[place::HINTS + i * 2] = h.key;
+        state[place::HINT_PA + i * 2] = h.pa;
     }
 }
 
-pub fn fetch_at(state: &[u64; 5205]) -> FetchHint
+pub fn fetch_at(state: &State) -> FetchHint
     ensures { λ r. ⌜ r ≡ held (now (state .entry)) .tlb .cache .fetch ⌝ }
 {
     FetchHint {
-        some: state[81] == 1,
-        page: state[82],
-        level: (state[83] % 256) as u8,
-        pa: state[84],
+        some: state[place::FETCH] == 1,
+        page: state[place::FETCH_PAGE],
+        level: (state[place::FETCH_LEVEL] % 256) as u8,
+        pa: state[place::FETCH_PA],
     }
 }
 
-pub fn put_fetch(state: &mut [u64; 5205], f: FetchHint)
+pub fn put_fetch(state: &mut State, f: FetchHint)
     ensures { λ _. ⌜ Moved (now (state .entry)) (now (state .exit)) (withFetchHint (held (now (state .entry))) f) ⌝ }
 {
     whole(state);
     let some = one(f.some);
-    state[81] = some;
-    state[82] = f.page;
-    state[83] = f.level as u64;
-    state[84] = f.pa;
+    state[place::FETCH] = some;
+    state[place::FETCH_PAGE] = f.page;
+    state[place::FETCH_LEVEL] = f.level as u64;
+    state[place::FETCH_PA] = f.pa;
 }
 
-fn entry_in(state: &[u64; 5205], j: usize) -> Entry
+fn entry_in(state: &State, j: usize) -> Entry
     requires { ⌜ j < 1024 ⌝ }
     ensures { λ r. ⌜ r ≡ entryAt (held (now (state .entry)) .tlb .cache) j ⌝ }
 {
-    let w = state[1111 + j * 4];
+    let w = state[place::ENTRY_ATTRIBUTES + j * 4];
     Entry {
-        tag: state[1109 + j * 4],
-        generation: (state[1110 + j * 4] % 0x1_0000_0000) as u32,
+        tag: state[place::ENTRIES + j * 4],
+        generation: (state[place::ENTRY_GENERATION + j * 4] % 0x1_0000_0000) as u32,
         perms: (w % 256) as u8,
         level: (w / 256 % 256) as u8,
         global: w / 65536 % 2 == 1,
         asid: (w / 0x1_0000_0000 % 0x1_0000) as u16,
-        pa: state[1112 + j * 4],
+        pa: state[place::ENTRY_PA + j * 4],
     }
 }
 
 // An entry, blank past the last.
-pub fn entry_at(state: &[u64; 5205], j: usize) -> Entry
+pub fn entry_at(state: &State, j: usize) -> Entry
     ensures { λ r. ⌜ r ≡ entryAt (held (now (state .entry)) .tlb .cache) j ⌝ }
 {
     if j < 1024 {
@@ -94,24 +96,24 @@ fn attributes_of(e: Entry) -> u64
     e.perms as u64 + e.level as u64 * 256 + g * 65536 + e.asid as u64 * 0x1_0000_0000
 }
 
-pub fn put_entry(state: &mut [u64; 5205], j: usize, e: Entry)
+pub fn put_entry(state: &mut State, j: usize, e: Entry)
     ensures { λ _. ⌜ Moved (now (state .entry)) (now (state .exit)) (withEntry (held (now (state .entry))) j e) ⌝ }
 {
     whole(state);
     if j < 1024 {
         let w = attributes_of(e);
-        state[1109 + j * 4] = e.tag;
-        state[1110 + j * 4] = e.generation as u64;
-        state[1111 + j * 4] = w;
-        state[1112 + j * 4] = e.pa;
+        state[place::ENTRIES + j * 4] = e.tag;
+        state[place::ENTRY_GENERATION + j * 4] = e.generation as u64;
+        state[place::ENTRY_ATTRIBUTES + j * 4] = w;
+        state[place::ENTRY_PA + j * 4] = e.pa;
     }
 }
 
 // The tag of an entry.
-pub(crate) fn put_tag(state: &mut [u64; 5205], j: usize, tag: u64)
+pub(crate) fn put_tag(state: &mut State, j: usize, tag: u64)
     requires { ⌜ j < 1024 ⌝ }
     ensures { λ _. ⌜ Moved (now (state .entry)) (now (state .exit)) (withTag (held (now (state .entry))) j tag) ⌝ }
 {
     whole(state);
-    state[1109 + j * 4] = tag;
+    state[place::ENTRIES + j * 4] = tag;
 }

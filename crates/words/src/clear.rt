@@ -8,9 +8,10 @@ ghost use Rattle.words.specs.Parts.{withEntries, withoutHints};
 ghost use Rattle.words.specs.Sweeps.{withDataHints};
 ghost use Rattle.words.specs.Moved.{Moved};
 use crate::cells;
+use crate::place::State;
 use tlb::hint;
 
-fn no_data_hints(state: &mut [u64; 5205])
+fn no_data_hints(state: &mut State)
     ensures { λ _. ⌜ Moved (now (state .entry)) (now (state .exit)) (withDataHints (held (now (state .entry))) noHints) ⌝ }
 {
     let mut i: usize = 0;
@@ -22,7 +23,7 @@ fn no_data_hints(state: &mut [u64; 5205])
 }
 
 // Every hint out.
-pub fn no_hints(state: &mut [u64; 5205])
+pub fn no_hints(state: &mut State)
     ensures { λ _. ⌜ Moved (now (state .entry)) (now (state .exit)) (withoutHints (held (now (state .entry)))) ⌝ }
 {
     no_data_hints(state);
@@ -31,7 +32,7 @@ pub fn no_hints(state: &mut [u64; 5205])
 }
 
 // Every entry out.
-pub fn no_entries(state: &mut [u64; 5205])
+pub fn no_entries(state: &mut State)
     ensures { λ _. ⌜ Moved (now (state .entry)) (now (state .exit)) (withEntries (held (now (state .entry))) blanks) ⌝ }
 {
     let mut j: usize = 0;
@@ -43,7 +44,7 @@ pub fn no_entries(state: &mut [u64; 5205])
 }
 
 // Each entry that a Page names loses its tag.
-pub fn drop_pages(state: &mut [u64; 5205], generation: u32, page: u64)
+pub fn drop_pages(state: &mut State, generation: u32, page: u64)
     ensures { λ _. ⌜ Moved (now (state .entry)) (now (state .exit)) (withEntries (held (now (state .entry))) (map (pageDropped generation page) (held (now (state .entry)) .tlb .cache .entries))) ⌝ }
 {
     let mut j: usize = 0;
@@ -56,7 +57,7 @@ pub fn drop_pages(state: &mut [u64; 5205], generation: u32, page: u64)
 }
 
 // Each entry that an Asid names loses its tag.
-pub fn drop_asids(state: &mut [u64; 5205], asid: u16)
+pub fn drop_asids(state: &mut State, asid: u16)
     ensures { λ _. ⌜ Moved (now (state .entry)) (now (state .exit)) (withEntries (held (now (state .entry))) (map (asidDropped asid) (held (now (state .entry)) .tlb .cache .entries))) ⌝ }
 {
     let mut j: usize = 0;

@@ -5,20 +5,21 @@ ghost use Rattle.words.specs.Held.{held};
 ghost use Rattle.words.specs.Fresh.{zeroWords, zeroCore, registered};
 use crate::clear;
 use crate::counts;
+use crate::place::State;
 use crate::regs;
 use crate::state;
 use sysreg::regs::ControlReg;
 use sysreg::regs::El;
 use sysreg::regs::SysReg;
 
-fn zeros() -> [u64; 5205]
+fn zeros() -> State
     ensures { λ r. ⌜ r ≡ zeroWords ⌝ }
 {
     [0; 5205]
 }
 
 // All zero: no register, no hint, no entry.
-fn clear_all(state: &mut [u64; 5205])
+fn clear_all(state: &mut State)
     ensures { λ _. ⌜ held (now (state .exit)) ≡ zeroCore ⌝ }
 {
     let z = zeros();
@@ -26,7 +27,7 @@ fn clear_all(state: &mut [u64; 5205])
 }
 
 // The registers that reset gives a value.
-fn put_registers(state: &mut [u64; 5205])
+fn put_registers(state: &mut State)
     ensures { λ _. ⌜ held (now (state .exit)) ≡ registered (held (now (state .entry))) ⌝ }
 {
     regs::put_control(state, ControlReg::Sctlr(El::El1), 0x30D0_0800);
@@ -37,7 +38,7 @@ fn put_registers(state: &mut [u64; 5205])
 }
 
 // Every word written: the core after reset.
-pub fn fresh(state: &mut [u64; 5205])
+pub fn fresh(state: &mut State)
     ensures { λ _. ⌜ held (now (state .exit)) ≡ freshCore ⌝ }
 {
     clear_all(state);

@@ -3,5 +3,6 @@ pub mod cells;
 pub mod clear;
 pub mod counts;
 pub mod fresh;
+pub mod place;
 pub mod regs;
 pub mod state;

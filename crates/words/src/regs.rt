@@ -10,6 +10,8 @@ ghost use Rattle.words.specs.Held.{held};
 ghost use Rattle.words.specs.Parts.{withControl, withSys};
 ghost use Rattle.words.specs.Moved.{Moved};
 ghost use Rattle.words.specs.RegWrites.{bankIndex, controlPlace, sysPlace};
+use crate::place;
+use crate::place::State;
 use crate::state::whole;
 use entry::report::Report;
 use sysreg::regs;
@@ -33,56 +35,56 @@ fn bank_index(regime: Regime) -> usize
 }
 
 // The registers that translation in a regime reads.
-pub fn bank_at(state: &[u64; 5205], regime: Regime) -> Bank
+pub fn bank_at(state: &State, regime: Regime) -> Bank
     ensures { λ r. ⌜ r ≡ bankOf (held (now (state .entry)) .control) regime ⌝ }
 {
     let b = bank_index(regime);
     Bank {
         sctlr: state[b],
-        tcr: state[3 + b],
-        ttbr0: state[6 + b],
-        ttbr1_el1: state[9],
-        scr_el3: state[28],
-        hcr_el2: state[29],
+        tcr: state[place::TCR + b],
+        ttbr0: state[place::TTBR0 + b],
+        ttbr1_el1: state[place::TTBR1_EL1],
+        scr_el3: state[place::SCR_EL3],
+        hcr_el2: state[place::HCR_EL2],
     }
 }
 
-pub fn mair_at(state: &[u64; 5205], regime: Regime) -> u64
+pub fn mair_at(state: &State, regime: Regime) -> u64
     ensures { λ r. ⌜ r ≡ sysAt (held (now (state .entry)) .sys) (Mair (levelOf regime)) ⌝ }
 {
     let b = bank_index(regime);
-    state[10 + b]
+    state[place::MAIR + b]
 }
 
-pub fn scr_at(state: &[u64; 5205]) -> u64
+pub fn scr_at(state: &State) -> u64
     ensures { λ r. ⌜ r ≡ held (now (state .entry)) .control .«scr_el3» ⌝ }
 {
-    state[28]
+    state[place::SCR_EL3]
 }
 
-pub fn hcr_at(state: &[u64; 5205]) -> u64
+pub fn hcr_at(state: &State) -> u64
     ensures { λ r. ⌜ r ≡ held (now (state .entry)) .control .«hcr_el2» ⌝ }
 {
-    state[29]
+    state[place::HCR_EL2]
 }
 
-pub fn vbar_at(state: &[u64; 5205], el: El) -> u64
+pub fn vbar_at(state: &State, el: El) -> u64
     ensures { λ r. ⌜ r ≡ sysAt (held (now (state .entry)) .sys) (Vbar el) ⌝ }
 {
     let i = regs::index(el);
     state[12 + i]
 }
 
-pub fn control_at(state: &[u64; 5205]) -> Control
+pub fn control_at(state: &State) -> Control
     ensures { λ r. ⌜ r ≡ held (now (state .entry)) .control ⌝ }
 {
     Control {
         sctlr: [0, state[0], state[1], state[2]],
         tcr: [0, state[3], state[4], state[5]],
         ttbr0: [0, state[6], state[7], state[8]],
-        ttbr1_el1: state[9],
-        scr_el3: state[28],
-        hcr_el2: state[29],
+        ttbr1_el1: state[place::TTBR1_EL1],
+        scr_el3: state[place::SCR_EL3],
+        hcr_el2: state[place::HCR_EL2],
     }
 }
 
@@ -129,14 +131,14 @@ fn sys_place(register: SysReg) -> usize
     }
 }
 
-pub fn control_reg(state: &[u64; 5205], register: ControlReg) -> u64
+pub fn control_reg(state: &State, register: ControlReg) -> u64
     ensures { λ r. ⌜ r ≡ controlAt (held (now (state .entry)) .control) register ⌝ }
 {
     let k = control_place(register);
     state[k]
 }
 
-pub fn put_control(state: &mut [u64; 5205], register: ControlReg, value: u64)
+pub fn put_control(state: &mut State, register: ControlReg, value: u64)
     ensures { λ _. ⌜ Moved (now (state .entry)) (now (state .exit)) (withControl (held (now (state .entry))) (controlWith (held (now (state .entry)) .control) register value)) ⌝ }
 {
     whole(state);
@@ -144,7 +146,7 @@ pub fn put_control(state: &mut [u64; 5205], register: ControlReg, value: u64)
     state[k] = value;
 }
 
-pub fn put_sys(state: &mut [u64; 5205], register: SysReg, value: u64)
+pub fn put_sys(state: &mut State, register: SysReg, value: u64)
     ensures { λ _. ⌜ Moved (now (state .entry)) (now (state .exit)) (withSys (held (now (state .entry))) (sysWith (held (now (state .entry)) .sys) register value)) ⌝ }
 {
     whole(state);
@@ -154,7 +156,7 @@ pub fn put_sys(state: &mut [u64; 5205], register: SysReg, value: u64)
 }
 
 // ELR, SPSR and ESR of an exception's target, and FAR where it has an address.
-pub fn put_saved(state: &mut [u64; 5205], target: El, report: Report, spsr: u64, ret: u64)
+pub fn put_saved(state: &mut State, target: El, report: Report, spsr: u64, ret: u64)
     ensures { λ _. ⌜ Moved (now (state .entry)) (now (state .exit)) (withSys (held (now (state .entry))) (enteredSys (held (now (state .entry)) .sys) target report spsr ret)) ⌝ }
 {
     whole(state);

@@ -8,12 +8,14 @@ ghost use Rattle.mmu.specs.Core.{regOf, setReg};
 ghost use Rattle.words.specs.Held.{levelIn, held};
 ghost use Rattle.words.specs.Parts.{withLast, withAbort, withWho, withFlags, withPc};
 ghost use Rattle.words.specs.Moved.{Moved};
+use crate::place;
+use crate::place::State;
 use entry::flags::DAIF_ALL;
 use entry::flags::Flags;
 use tlb::access::Who;
 
 // An array has as many words as its type says: what a slice of it tells a proof.
-pub fn whole(state: &[u64; 5205])
+pub fn whole(state: &State)
     ensures { λ _. ⌜ length (now (state .entry)) ≡ 5205 ⌝ }
 {
     let _words: &[u64] = state;
@@ -34,108 +36,108 @@ fn level_of(word: u64) -> u8
     if word < 256 { word as u8 } else { 255 }
 }
 
-pub fn who_at(state: &[u64; 5205]) -> Who
+pub fn who_at(state: &State) -> Who
     ensures { λ r. ⌜ r ≡ held (now (state .entry)) .who ⌝ }
 {
-    let level = level_of(state[68]);
+    let level = level_of(state[place::LEVEL]);
     Who {
         level,
-        mark: state[69] == 1,
+        mark: state[place::UNPRIVILEGED] == 1,
     }
 }
 
-pub fn put_level(state: &mut [u64; 5205], level: u8)
+pub fn put_level(state: &mut State, level: u8)
     ensures { λ _. ⌜ Moved (now (state .entry)) (now (state .exit)) (withWho (held (now (state .entry))) (record { level = level; mark = held (now (state .entry)) .who .mark })) ⌝ }
 {
     whole(state);
-    state[68] = level as u64;
+    state[place::LEVEL] = level as u64;
 }
 
-pub fn put_mark(state: &mut [u64; 5205], mark: bool)
+pub fn put_mark(state: &mut State, mark: bool)
     ensures { λ _. ⌜ Moved (now (state .entry)) (now (state .exit)) (withWho (held (now (state .entry))) (record { level = held (now (state .entry)) .who .level; mark = mark })) ⌝ }
 {
     whole(state);
     let word = one(mark);
-    state[69] = word;
+    state[place::UNPRIVILEGED] = word;
 }
 
-pub fn flags_at(state: &[u64; 5205]) -> Flags
+pub fn flags_at(state: &State) -> Flags
     ensures { λ r. ⌜ r ≡ held (now (state .entry)) .flags ⌝ }
 {
     Flags {
-        nzcv: (state[34] % 0x1_0000_0000) as u32,
-        daif: (state[35] % 0x1_0000_0000) as u32,
-        spsel: state[36] == 1,
+        nzcv: (state[place::NZCV] % 0x1_0000_0000) as u32,
+        daif: (state[place::DAIF] % 0x1_0000_0000) as u32,
+        spsel: state[place::SPSEL] == 1,
     }
 }
 
 // An exception masks the interrupts and takes SP_ELx.
-pub fn put_masked(state: &mut [u64; 5205])
+pub fn put_masked(state: &mut State)
     ensures { λ _. ⌜ Moved (now (state .entry)) (now (state .exit)) (withFlags (held (now (state .entry))) (entryFlags (held (now (state .entry)) .flags))) ⌝ }
 {
     whole(state);
-    state[35] = DAIF_ALL as u64;
-    state[36] = 1;
+    state[place::DAIF] = DAIF_ALL as u64;
+    state[place::SPSEL] = 1;
 }
 
-pub fn pc_at(state: &[u64; 5205]) -> u64
+pub fn pc_at(state: &State) -> u64
     ensures { λ r. ⌜ r ≡ held (now (state .entry)) .pc ⌝ }
 {
-    state[33]
+    state[place::PC]
 }
 
-pub fn put_pc(state: &mut [u64; 5205], pc: u64)
+pub fn put_pc(state: &mut State, pc: u64)
     ensures { λ _. ⌜ Moved (now (state .entry)) (now (state .exit)) (withPc (held (now (state .entry))) pc) ⌝ }
 {
     whole(state);
-    state[33] = pc;
+    state[place::PC] = pc;
 }
 
 // Register 31 reads as zero.
-pub fn general_at(state: &[u64; 5205], n: u64) -> u64
+pub fn general_at(state: &State, n: u64) -> u64
     ensures { λ r. ⌜ r ≡ regOf (held (now (state .entry))) n ⌝ }
 {
     if n < 31 {
         let i = n as usize;
-        state[37 + i]
+        state[place::GENERAL + i]
     } else {
         0
     }
 }
 
 // Register 31 drops what is written.
-pub fn put_general(state: &mut [u64; 5205], n: u64, value: u64)
+pub fn put_general(state: &mut State, n: u64, value: u64)
     ensures { λ _. ⌜ Moved (now (state .entry)) (now (state .exit)) (setReg (held (now (state .entry))) n value) ⌝ }
 {
     whole(state);
     if n < 31 {
         let i = n as usize;
-        state[37 + i] = value;
+        state[place::GENERAL + i] = value;
     }
 }
 
-pub fn last_at(state: &[u64; 5205]) -> u64
+pub fn last_at(state: &State) -> u64
     ensures { λ r. ⌜ r ≡ held (now (state .entry)) .«last_pa» ⌝ }
 {
-    state[77]
+    state[place::LAST_PA]
 }
 
-pub fn put_last(state: &mut [u64; 5205], pa: u64)
+pub fn put_last(state: &mut State, pa: u64)
     ensures { λ _. ⌜ Moved (now (state .entry)) (now (state .exit)) (withLast (held (now (state .entry))) pa) ⌝ }
 {
     whole(state);
-    state[77] = pa;
+    state[place::LAST_PA] = pa;
 }
 
-pub fn abort_at(state: &[u64; 5205]) -> u64
+pub fn abort_at(state: &State) -> u64
     ensures { λ r. ⌜ r ≡ held (now (state .entry)) .«abort_pa» ⌝ }
 {
-    state[78]
+    state[place::ABORT_PA]
 }
 
-pub fn put_abort(state: &mut [u64; 5205], pa: u64)
+pub fn put_abort(state: &mut State, pa: u64)
     ensures { λ _. ⌜ Moved (now (state .entry)) (now (state .exit)) (withAbort (held (now (state .entry))) pa) ⌝ }
 {
     whole(state);
-    state[78] = pa;
+    state[place::ABORT_PA] = pa;
 }
