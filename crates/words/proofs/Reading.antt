@@ -32,18 +32,19 @@ use Rattle.mmu.specs.Core.{regOf}
 use Rattle.words.specs.Tables.{table, table-at, table-past}
 use Rattle.words.specs.Held.{word, levelIn, pendingOf, hintIn, entryIn, heldOn, heldBy, held}
 use Rattle.words.specs.RegWrites.{bankIndex, controlPlace, sysPlace}
+use Rattle.words.specs.Places.{GENERAL, LEVEL, UNPRIVILEGED, PENDING, PENDING-VALUE}
 
 abbrev whoBy : ℕ → Bool → Who
 whoBy level mark = record { level = level; mark = mark }
 
-pub who-read : (ws : List ℕ) (l : ℕ) → l ≡ levelIn (word ws 68) → whoBy l (eqb (word ws 69) 1) ≡ held ws .who
+pub who-read : (ws : List ℕ) (l : ℕ) → l ≡ levelIn (word ws LEVEL) → whoBy l (eqb (word ws UNPRIVILEGED) 1) ≡ held ws .who
 unfolding held heldBy heldOn
-who-read ws l e = ap (λ (n : ℕ). whoBy n (eqb (word ws 69) 1)) e
+who-read ws l e = ap (λ (n : ℕ). whoBy n (eqb (word ws UNPRIVILEGED) 1)) e
 
 -- general registers
-pub general-read : (ws : List ℕ) (n : ℕ) → n < 31 → word ws (37 + n) ≡ regOf (held ws) n
+pub general-read : (ws : List ℕ) (n : ℕ) → n < 31 → word ws (GENERAL + n) ≡ regOf (held ws) n
 unfolding held heldBy heldOn regOf
-general-read ws n h = sym (rw (lt-ltb n 31 h) (table-at 31 (λ k. word ws (37 + k)) n 0 h))
+general-read ws n h = sym (rw (lt-ltb n 31 h) (table-at 31 (λ k. word ws (GENERAL + k)) n 0 h))
 
 pub general-zero : (ws : List ℕ) (n : ℕ) → 31 ≤ n → 0 ≡ regOf (held ws) n
 unfolding regOf
@@ -68,19 +69,19 @@ entry-past ws j e q g = q ∙ sym (table-past 1024 (entryIn (word ws)) j blank g
 
 -- what is pending
 module _ (ws : List ℕ) where
-  pub pending-all : word ws 75 ≡ 1 → Some All ≡ held ws .tlb .broadcast
+  pub pending-all : word ws PENDING ≡ 1 → Some All ≡ held ws .tlb .broadcast
   unfolding held heldBy heldOn
-  pending-all e = sym (ap (λ (n : ℕ). pendingOf n (word ws 76)) e)
+  pending-all e = sym (ap (λ (n : ℕ). pendingOf n (word ws PENDING-VALUE)) e)
 
-  pub pending-page : word ws 75 ≡ 2 → Some (Page (word ws 76)) ≡ held ws .tlb .broadcast
+  pub pending-page : word ws PENDING ≡ 2 → Some (Page (word ws PENDING-VALUE)) ≡ held ws .tlb .broadcast
   unfolding held heldBy heldOn
-  pending-page e = sym (ap (λ (n : ℕ). pendingOf n (word ws 76)) e)
+  pending-page e = sym (ap (λ (n : ℕ). pendingOf n (word ws PENDING-VALUE)) e)
 
-  pub pending-asid : word ws 75 ≡ 3 → Some (Asid (word ws 76 % 2 ^ 16)) ≡ held ws .tlb .broadcast
+  pub pending-asid : word ws PENDING ≡ 3 → Some (Asid (word ws PENDING-VALUE % 2 ^ 16)) ≡ held ws .tlb .broadcast
   unfolding held heldBy heldOn
-  pending-asid e = sym (ap (λ (n : ℕ). pendingOf n (word ws 76)) e)
+  pending-asid e = sym (ap (λ (n : ℕ). pendingOf n (word ws PENDING-VALUE)) e)
 
-  pub pending-none : (word ws 75 ≡ 1 → ⊥) → (word ws 75 ≡ 2 → ⊥) → (word ws 75 ≡ 3 → ⊥) → Nothing ≡ held ws .tlb .broadcast
+  pub pending-none : (word ws PENDING ≡ 1 → ⊥) → (word ws PENDING ≡ 2 → ⊥) → (word ws PENDING ≡ 3 → ⊥) → Nothing ≡ held ws .tlb .broadcast
   unfolding held heldBy heldOn
   pending-none a b d = sym (rw (ne-eqb _ 1 a, ne-eqb _ 2 b, ne-eqb _ 3 d))
 

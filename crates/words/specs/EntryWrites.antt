@@ -17,6 +17,7 @@ use Rattle.words.specs.Tables.{table, table-at, table-same, table-set, t
 use Rattle.words.specs.Held.{word, hintIn, entryIn, entryOf, heldOn, heldBy, held}
 use Rattle.words.specs.Parts.{tagged, withCache, withEntry, withTag}
 use Rattle.words.specs.Puts.{put, other, same, word-set, generals, held-tables}
+use Rattle.words.specs.Places.{HINTS, HINT-PA, ENTRIES, ENTRY-GENERATION, ENTRY-ATTRIBUTES, ENTRY-PA, WORDS}
 
 -- THE ATTRIBUTES OF AN ENTRY in one word, and back
 
@@ -64,58 +65,58 @@ module _ (e : Entry) (p : e .perms < 2 ^ 8) (l : e .level < 2 ^ 8) (a : e .asid 
         pa = e .pa;
       }
 
-module _ (ws : List ℕ) (L : length ws ≡ 5205) where
+module _ (ws : List ℕ) (L : length ws ≡ WORDS) where
   abbrev w : ℕ → ℕ
   w = word ws
 
   -- four words of an entry
   abbrev entryPut : ℕ → ℕ → ℕ → ℕ → ℕ → ℕ → ℕ
-  entryPut j t g b p = put (put (put (put w (1109 + j * 4) t) (1110 + j * 4) g) (1111 + j * 4) b) (1112 + j * 4) p
+  entryPut j t g b p = put (put (put (put w (ENTRIES + j * 4) t) (ENTRY-GENERATION + j * 4) g) (ENTRY-ATTRIBUTES + j * 4) b) (ENTRY-PA + j * 4) p
 
   module _ (j t g b p : ℕ) where
-    entry-elsewhere : (m : ℕ) → (m ≡ 1109 + j * 4 → ⊥) → (m ≡ 1110 + j * 4 → ⊥) → (m ≡ 1111 + j * 4 → ⊥) → (m ≡ 1112 + j * 4 → ⊥) → entryPut j t g b p m ≡ w m
+    entry-elsewhere : (m : ℕ) → (m ≡ ENTRIES + j * 4 → ⊥) → (m ≡ ENTRY-GENERATION + j * 4 → ⊥) → (m ≡ ENTRY-ATTRIBUTES + j * 4 → ⊥) → (m ≡ ENTRY-PA + j * 4 → ⊥) → entryPut j t g b p m ≡ w m
     entry-elsewhere m x y z u =
-        other (put (put (put w (1109 + j * 4) t) (1110 + j * 4) g) (1111 + j * 4) b) (1112 + j * 4) p m u
-        ∙ other (put (put w (1109 + j * 4) t) (1110 + j * 4) g) (1111 + j * 4) b m z
-        ∙ other (put w (1109 + j * 4) t) (1110 + j * 4) g m y
-        ∙ other w (1109 + j * 4) t m x
+        other (put (put (put w (ENTRIES + j * 4) t) (ENTRY-GENERATION + j * 4) g) (ENTRY-ATTRIBUTES + j * 4) b) (ENTRY-PA + j * 4) p m u
+        ∙ other (put (put w (ENTRIES + j * 4) t) (ENTRY-GENERATION + j * 4) g) (ENTRY-ATTRIBUTES + j * 4) b m z
+        ∙ other (put w (ENTRIES + j * 4) t) (ENTRY-GENERATION + j * 4) g m y
+        ∙ other w (ENTRIES + j * 4) t m x
 
     entry-there : entryIn (entryPut j t g b p) j ≡ entryOf t g b p
     entry-there =
-        λ i. entryOf (tag-there i) (generation-there i) (bits-there i) (same (put (put (put w (1109 + j * 4) t) (1110 + j * 4) g) (1111 + j * 4) b) (1112 + j * 4) p i)
+        λ i. entryOf (tag-there i) (generation-there i) (bits-there i) (same (put (put (put w (ENTRIES + j * 4) t) (ENTRY-GENERATION + j * 4) g) (ENTRY-ATTRIBUTES + j * 4) b) (ENTRY-PA + j * 4) p i)
       where
-        bits-there : entryPut j t g b p (1111 + j * 4) ≡ b
+        bits-there : entryPut j t g b p (ENTRY-ATTRIBUTES + j * 4) ≡ b
         bits-there =
-            other (put (put (put w (1109 + j * 4) t) (1110 + j * 4) g) (1111 + j * 4) b) (1112 + j * 4) p (1111 + j * 4) (λ e. omega arith)
-            ∙ same (put (put w (1109 + j * 4) t) (1110 + j * 4) g) (1111 + j * 4) b
+            other (put (put (put w (ENTRIES + j * 4) t) (ENTRY-GENERATION + j * 4) g) (ENTRY-ATTRIBUTES + j * 4) b) (ENTRY-PA + j * 4) p (ENTRY-ATTRIBUTES + j * 4) (λ e. omega arith)
+            ∙ same (put (put w (ENTRIES + j * 4) t) (ENTRY-GENERATION + j * 4) g) (ENTRY-ATTRIBUTES + j * 4) b
 
-        generation-there : entryPut j t g b p (1110 + j * 4) ≡ g
+        generation-there : entryPut j t g b p (ENTRY-GENERATION + j * 4) ≡ g
         generation-there =
-            other (put (put (put w (1109 + j * 4) t) (1110 + j * 4) g) (1111 + j * 4) b) (1112 + j * 4) p (1110 + j * 4) (λ e. omega arith)
-            ∙ other (put (put w (1109 + j * 4) t) (1110 + j * 4) g) (1111 + j * 4) b (1110 + j * 4) (λ e. omega arith)
-            ∙ same (put w (1109 + j * 4) t) (1110 + j * 4) g
+            other (put (put (put w (ENTRIES + j * 4) t) (ENTRY-GENERATION + j * 4) g) (ENTRY-ATTRIBUTES + j * 4) b) (ENTRY-PA + j * 4) p (ENTRY-GENERATION + j * 4) (λ e. omega arith)
+            ∙ other (put (put w (ENTRIES + j * 4) t) (ENTRY-GENERATION + j * 4) g) (ENTRY-ATTRIBUTES + j * 4) b (ENTRY-GENERATION + j * 4) (λ e. omega arith)
+            ∙ same (put w (ENTRIES + j * 4) t) (ENTRY-GENERATION + j * 4) g
 
-        tag-there : entryPut j t g b p (1109 + j * 4) ≡ t
+        tag-there : entryPut j t g b p (ENTRIES + j * 4) ≡ t
         tag-there =
-            other (put (put (put w (1109 + j * 4) t) (1110 + j * 4) g) (1111 + j * 4) b) (1112 + j * 4) p (1109 + j * 4) (λ e. omega arith)
-            ∙ other (put (put w (1109 + j * 4) t) (1110 + j * 4) g) (1111 + j * 4) b (1109 + j * 4) (λ e. omega arith)
-            ∙ other (put w (1109 + j * 4) t) (1110 + j * 4) g (1109 + j * 4) (λ e. omega arith)
-            ∙ same w (1109 + j * 4) t
+            other (put (put (put w (ENTRIES + j * 4) t) (ENTRY-GENERATION + j * 4) g) (ENTRY-ATTRIBUTES + j * 4) b) (ENTRY-PA + j * 4) p (ENTRIES + j * 4) (λ e. omega arith)
+            ∙ other (put (put w (ENTRIES + j * 4) t) (ENTRY-GENERATION + j * 4) g) (ENTRY-ATTRIBUTES + j * 4) b (ENTRIES + j * 4) (λ e. omega arith)
+            ∙ other (put w (ENTRIES + j * 4) t) (ENTRY-GENERATION + j * 4) g (ENTRIES + j * 4) (λ e. omega arith)
+            ∙ same w (ENTRIES + j * 4) t
 
   -- words that are those of ws but for entry j
   entries-put : (v : ℕ → ℕ) (j : ℕ) → j < 1024
-      → ((m : ℕ) → (m ≡ 1109 + j * 4 → ⊥) → (m ≡ 1110 + j * 4 → ⊥) → (m ≡ 1111 + j * 4 → ⊥) → (m ≡ 1112 + j * 4 → ⊥) → v m ≡ w m)
+      → ((m : ℕ) → (m ≡ ENTRIES + j * 4 → ⊥) → (m ≡ ENTRY-GENERATION + j * 4 → ⊥) → (m ≡ ENTRY-ATTRIBUTES + j * 4 → ⊥) → (m ≡ ENTRY-PA + j * 4 → ⊥) → v m ≡ w m)
       → table 1024 (entryIn v) ≡ set (table 1024 (entryIn w)) j (entryIn v j)
   entries-put v j h o =
       table-set 1024 (entryIn w) (entryIn v) j h
       (λ n k ne i.
-      entryOf (o (1109 + n * 4) (λ e. ne (omega arith)) (λ e. omega arith) (λ e. omega arith) (λ e. omega arith) i)
-      (o (1110 + n * 4) (λ e. omega arith) (λ e. ne (omega arith)) (λ e. omega arith) (λ e. omega arith) i)
-      (o (1111 + n * 4) (λ e. omega arith) (λ e. omega arith) (λ e. ne (omega arith)) (λ e. omega arith) i)
-      (o (1112 + n * 4) (λ e. omega arith) (λ e. omega arith) (λ e. omega arith) (λ e. ne (omega arith)) i))
+      entryOf (o (ENTRIES + n * 4) (λ e. ne (omega arith)) (λ e. omega arith) (λ e. omega arith) (λ e. omega arith) i)
+      (o (ENTRY-GENERATION + n * 4) (λ e. omega arith) (λ e. ne (omega arith)) (λ e. omega arith) (λ e. omega arith) i)
+      (o (ENTRY-ATTRIBUTES + n * 4) (λ e. omega arith) (λ e. omega arith) (λ e. ne (omega arith)) (λ e. omega arith) i)
+      (o (ENTRY-PA + n * 4) (λ e. omega arith) (λ e. omega arith) (λ e. omega arith) (λ e. ne (omega arith)) i))
 
   held-entry : (v : ℕ → ℕ) (j : ℕ) → j < 1024
-      → ((m : ℕ) → (m ≡ 1109 + j * 4 → ⊥) → (m ≡ 1110 + j * 4 → ⊥) → (m ≡ 1111 + j * 4 → ⊥) → (m ≡ 1112 + j * 4 → ⊥) → v m ≡ w m)
+      → ((m : ℕ) → (m ≡ ENTRIES + j * 4 → ⊥) → (m ≡ ENTRY-GENERATION + j * 4 → ⊥) → (m ≡ ENTRY-ATTRIBUTES + j * 4 → ⊥) → (m ≡ ENTRY-PA + j * 4 → ⊥) → v m ≡ w m)
       → heldBy v ≡ withEntry (held ws) j (entryIn v j)
   unfolding held heldBy heldOn withEntry withCache movedTo
   held-entry v j h o =
@@ -132,12 +133,12 @@ module _ (ws : List ℕ) (L : length ws ≡ 5205) where
           table-same 512 (hintIn v) (hintIn w)
           (λ n k i.
           record {
-            key = o (85 + n * 2) (λ e. omega arith) (λ e. omega arith) (λ e. omega arith) (λ e. omega arith) i;
-            pa = o (86 + n * 2) (λ e. omega arith) (λ e. omega arith) (λ e. omega arith) (λ e. omega arith) i;
+            key = o (HINTS + n * 2) (λ e. omega arith) (λ e. omega arith) (λ e. omega arith) (λ e. omega arith) i;
+            pa = o (HINT-PA + n * 2) (λ e. omega arith) (λ e. omega arith) (λ e. omega arith) (λ e. omega arith) i;
           })
 
   pub entry-held : (j : ℕ) (e : Entry) → j < 1024 → e .generation < 2 ^ 32 → e .perms < 2 ^ 8 → e .level < 2 ^ 8 → e .asid < 2 ^ 16
-      → held (set (set (set (set ws (1109 + j * 4) (e .tag)) (1110 + j * 4) (e .generation)) (1111 + j * 4) (attributes e)) (1112 + j * 4) (e .pa))
+      → held (set (set (set (set ws (ENTRIES + j * 4) (e .tag)) (ENTRY-GENERATION + j * 4) (e .generation)) (ENTRY-ATTRIBUTES + j * 4) (attributes e)) (ENTRY-PA + j * 4) (e .pa))
       ≡ withEntry (held ws) j e
   unfolding held
   entry-held j e h g p l a =
@@ -145,18 +146,18 @@ module _ (ws : List ℕ) (L : length ws ≡ 5205) where
       ∙ held-entry (entryPut j (e .tag) (e .generation) (attributes e) (e .pa)) j h (entry-elsewhere j (e .tag) (e .generation) (attributes e) (e .pa))
       ∙ ap (λ (x : Entry). withEntry (held ws) j x) (entry-there j (e .tag) (e .generation) (attributes e) (e .pa) ∙ entry-back e p l a g)
     where
-      words : word (set (set (set (set ws (1109 + j * 4) (e .tag)) (1110 + j * 4) (e .generation)) (1111 + j * 4) (attributes e)) (1112 + j * 4) (e .pa))
+      words : word (set (set (set (set ws (ENTRIES + j * 4) (e .tag)) (ENTRY-GENERATION + j * 4) (e .generation)) (ENTRY-ATTRIBUTES + j * 4) (attributes e)) (ENTRY-PA + j * 4) (e .pa))
           ≡ entryPut j (e .tag) (e .generation) (attributes e) (e .pa)
       words =
-          let l1 : length (set ws (1109 + j * 4) (e .tag)) ≡ 5205 = length-set ws (1109 + j * 4) (e .tag) ∙ L in
-          let l2 : length (set (set ws (1109 + j * 4) (e .tag)) (1110 + j * 4) (e .generation)) ≡ 5205 = length-set (set ws (1109 + j * 4) (e .tag)) (1110 + j * 4) (e .generation) ∙ l1 in
-          let l3 : length (set (set (set ws (1109 + j * 4) (e .tag)) (1110 + j * 4) (e .generation)) (1111 + j * 4) (attributes e)) ≡ 5205 = length-set (set (set ws (1109 + j * 4) (e .tag)) (1110 + j * 4) (e .generation)) (1111 + j * 4) (attributes e) ∙ l2 in
-          word-set (set (set (set ws (1109 + j * 4) (e .tag)) (1110 + j * 4) (e .generation)) (1111 + j * 4) (attributes e)) (1112 + j * 4) (e .pa) (omega arith)
-          ∙ ap (λ (f : ℕ → ℕ). put f (1112 + j * 4) (e .pa))
-          (word-set (set (set ws (1109 + j * 4) (e .tag)) (1110 + j * 4) (e .generation)) (1111 + j * 4) (attributes e) (omega arith)
-          ∙ ap (λ (f : ℕ → ℕ). put f (1111 + j * 4) (attributes e))
-          (word-set (set ws (1109 + j * 4) (e .tag)) (1110 + j * 4) (e .generation) (omega arith)
-          ∙ ap (λ (f : ℕ → ℕ). put f (1110 + j * 4) (e .generation)) (word-set ws (1109 + j * 4) (e .tag) (omega arith))))
+          let l1 : length (set ws (ENTRIES + j * 4) (e .tag)) ≡ WORDS = length-set ws (ENTRIES + j * 4) (e .tag) ∙ L in
+          let l2 : length (set (set ws (ENTRIES + j * 4) (e .tag)) (ENTRY-GENERATION + j * 4) (e .generation)) ≡ WORDS = length-set (set ws (ENTRIES + j * 4) (e .tag)) (ENTRY-GENERATION + j * 4) (e .generation) ∙ l1 in
+          let l3 : length (set (set (set ws (ENTRIES + j * 4) (e .tag)) (ENTRY-GENERATION + j * 4) (e .generation)) (ENTRY-ATTRIBUTES + j * 4) (attributes e)) ≡ WORDS = length-set (set (set ws (ENTRIES + j * 4) (e .tag)) (ENTRY-GENERATION + j * 4) (e .generation)) (ENTRY-ATTRIBUTES + j * 4) (attributes e) ∙ l2 in
+          word-set (set (set (set ws (ENTRIES + j * 4) (e .tag)) (ENTRY-GENERATION + j * 4) (e .generation)) (ENTRY-ATTRIBUTES + j * 4) (attributes e)) (ENTRY-PA + j * 4) (e .pa) (omega arith)
+          ∙ ap (λ (f : ℕ → ℕ). put f (ENTRY-PA + j * 4) (e .pa))
+          (word-set (set (set ws (ENTRIES + j * 4) (e .tag)) (ENTRY-GENERATION + j * 4) (e .generation)) (ENTRY-ATTRIBUTES + j * 4) (attributes e) (omega arith)
+          ∙ ap (λ (f : ℕ → ℕ). put f (ENTRY-ATTRIBUTES + j * 4) (attributes e))
+          (word-set (set ws (ENTRIES + j * 4) (e .tag)) (ENTRY-GENERATION + j * 4) (e .generation) (omega arith)
+          ∙ ap (λ (f : ℕ → ℕ). put f (ENTRY-GENERATION + j * 4) (e .generation)) (word-set ws (ENTRIES + j * 4) (e .tag) (omega arith))))
 
   pub entry-kept : (j : ℕ) (e : Entry) → 1024 ≤ j → held ws ≡ withEntry (held ws) j e
   unfolding held heldBy heldOn withEntry withCache movedTo
@@ -169,16 +170,16 @@ module _ (ws : List ℕ) (L : length ws ≡ 5205) where
   at-is j h = table-at 1024 (entryIn w) j blank h
 
   -- the tag alone
-  pub tag-held : (j t : ℕ) → j < 1024 → held (set ws (1109 + j * 4) t) ≡ withTag (held ws) j t
+  pub tag-held : (j t : ℕ) → j < 1024 → held (set ws (ENTRIES + j * 4) t) ≡ withTag (held ws) j t
   unfolding held withTag
   tag-held j t h =
-      ap heldBy (word-set ws (1109 + j * 4) t (omega arith))
-      ∙ held-entry (put w (1109 + j * 4) t) j h (λ m x y z u. other w (1109 + j * 4) t m x)
+      ap heldBy (word-set ws (ENTRIES + j * 4) t (omega arith))
+      ∙ held-entry (put w (ENTRIES + j * 4) t) j h (λ m x y z u. other w (ENTRIES + j * 4) t m x)
       ∙ ap (λ (x : Entry). withEntry (held ws) j x) there
     where
-      there : entryIn (put w (1109 + j * 4) t) j ≡ tagged (entryAt (held ws .tlb .cache) j) t
+      there : entryIn (put w (ENTRIES + j * 4) t) j ≡ tagged (entryAt (held ws .tlb .cache) j) t
       there =
           (λ i.
-          entryOf (same w (1109 + j * 4) t i) (other w (1109 + j * 4) t (1110 + j * 4) (λ e. omega arith) i)
-          (other w (1109 + j * 4) t (1111 + j * 4) (λ e. omega arith) i) (other w (1109 + j * 4) t (1112 + j * 4) (λ e. omega arith) i))
+          entryOf (same w (ENTRIES + j * 4) t i) (other w (ENTRIES + j * 4) t (ENTRY-GENERATION + j * 4) (λ e. omega arith) i)
+          (other w (ENTRIES + j * 4) t (ENTRY-ATTRIBUTES + j * 4) (λ e. omega arith) i) (other w (ENTRIES + j * 4) t (ENTRY-PA + j * 4) (λ e. omega arith) i))
           ∙ sym (ap (λ (x : Entry). tagged x t) (at-is j h))

@@ -24,9 +24,10 @@ use Rattle.mmu.specs.declared.core.Core.{Core}
 use Rattle.words.specs.Tables.{table, table-all}
 use Rattle.words.specs.Held.{word, hintIn, entryIn, heldOn, heldBy, held}
 use Rattle.words.specs.Parts.{withCache, withPresent, withWho, withFlags, withControl, withSys, withoutHints}
+use Rattle.words.specs.Places.{WORDS}
 
 unfoldable pub zeroWords : List ℕ
-zeroWords = replicate 5205 0
+zeroWords = replicate WORDS 0
 
 abbrev nothing : Hint
 nothing = record { key = 0; pa = 0 }
@@ -38,7 +39,7 @@ zeroCore = heldOn (λ k. 0) zeros (replicate 512 nothing) blanks
 pub zero-held : held zeroWords ≡ zeroCore
 unfolding held heldBy zeroWords zeroCore zeros blanks
 zero-held =
-    ap heldBy (λ i k. replicate-at 0 5205 k i)
+    ap heldBy (λ i k. replicate-at 0 WORDS k i)
     ∙ λ i. heldOn (λ k. 0) (table-all 31 0 i) (table-all 512 nothing i) (table-all 1024 blank i)
 
 -- the registers that reset gives a value

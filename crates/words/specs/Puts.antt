@@ -15,6 +15,7 @@ use Rattle.tlb.specs.declared.hint.Hint.{Hint}
 use Rattle.mmu.specs.declared.core.Core.{Core}
 use Rattle.words.specs.Tables.{table, table-same, table-set}
 use Rattle.words.specs.Held.{word, hintIn, entryIn, heldOn, heldBy, held}
+use Rattle.words.specs.Places.{GENERAL, LEVEL, HINTS, HINT-PA, ENTRIES, ENTRY-GENERATION, ENTRY-ATTRIBUTES, ENTRY-PA}
 
 -- v at place k
 abbrev pub put : (ℕ → ℕ) → ℕ → ℕ → ℕ → ℕ
@@ -32,51 +33,51 @@ same w k v = rw (eq-eqb k k refl)
 
 -- the places of the small parts
 abbrev small : (ℕ → ℕ) → ℕ → ℕ
-small w m = pick (ltb m 37) (w m) (pick (ltb m 68) 0 (pick (ltb m 85) (w m) 0))
+small w m = pick (ltb m GENERAL) (w m) (pick (ltb m LEVEL) 0 (pick (ltb m HINTS) (w m) 0))
 
 small-only : (w : ℕ → ℕ) (xs : List ℕ) (hs : List Hint) (es : List Entry) → heldOn w xs hs es ≡ heldOn (small w) xs hs es
 unfolding heldOn
 small-only w xs hs es = refl
 
 abbrev pub generals : (ℕ → ℕ) → List ℕ
-generals w = table 31 (λ n. w (37 + n))
+generals w = table 31 (λ n. w (GENERAL + n))
 
 -- v and w agree on the small parts
 pub record SmallSame (v w : ℕ → ℕ) : Type 0 where
-  pub below : (m : ℕ) → m < 37 → v m ≡ w m
-  pub among : (m : ℕ) → 68 ≤ m → m < 85 → v m ≡ w m
+  pub below : (m : ℕ) → m < GENERAL → v m ≡ w m
+  pub among : (m : ℕ) → LEVEL ≤ m → m < HINTS → v m ≡ w m
 
 -- and on the others
 pub record RestSame (v w : ℕ → ℕ) : Type 0 where
-  pub general : (m : ℕ) → 37 ≤ m → m < 68 → v m ≡ w m
-  pub above : (m : ℕ) → 85 ≤ m → v m ≡ w m
+  pub general : (m : ℕ) → GENERAL ≤ m → m < LEVEL → v m ≡ w m
+  pub above : (m : ℕ) → HINTS ≤ m → v m ≡ w m
 
 module _ (v w : ℕ → ℕ) where
   small-at : SmallSame v w → (m : ℕ) → small v m ≡ small w m
-  small-at s m = go (ltb m 37) refl (ltb m 68) refl (ltb m 85) refl
+  small-at s m = go (ltb m GENERAL) refl (ltb m LEVEL) refl (ltb m HINTS) refl
     where
-      go : (a : Bool) → ltb m 37 ≡ a → (b : Bool) → ltb m 68 ≡ b → (c : Bool) → ltb m 85 ≡ c → small v m ≡ small w m
-      go true a b p c q = rw (a, s .below m (ltb-true m 37 a))
+      go : (a : Bool) → ltb m GENERAL ≡ a → (b : Bool) → ltb m LEVEL ≡ b → (c : Bool) → ltb m HINTS ≡ c → small v m ≡ small w m
+      go true a b p c q = rw (a, s .below m (ltb-true m GENERAL a))
       go false a true p c q = rw (a, p)
-      go false a false p true q = rw (a, p, q, s .among m (ltb-false m 68 p) (ltb-true m 85 q))
+      go false a false p true q = rw (a, p, q, s .among m (ltb-false m LEVEL p) (ltb-true m HINTS q))
       go false a false p false q = rw (a, p, q)
 
   pub small-same : SmallSame v w → (xs : List ℕ) (hs : List Hint) (es : List Entry) → heldOn v xs hs es ≡ heldOn w xs hs es
   small-same s xs hs es =
       small-only v xs hs es ∙ ap (λ (f : ℕ → ℕ). heldOn f xs hs es) (λ i m. small-at s m i) ∙ sym (small-only w xs hs es)
 
-  pub hints-same : ((m : ℕ) → 85 ≤ m → v m ≡ w m) → table 512 (hintIn v) ≡ table 512 (hintIn w)
+  pub hints-same : ((m : ℕ) → HINTS ≤ m → v m ≡ w m) → table 512 (hintIn v) ≡ table 512 (hintIn w)
   hints-same h =
       table-same 512 (hintIn v) (hintIn w)
-      (λ i k. rw (h (85 + i * 2) (omega arith), h (86 + i * 2) (omega arith)))
+      (λ i k. rw (h (HINTS + i * 2) (omega arith), h (HINT-PA + i * 2) (omega arith)))
 
-  pub entries-same : ((m : ℕ) → 1109 ≤ m → v m ≡ w m) → table 1024 (entryIn v) ≡ table 1024 (entryIn w)
+  pub entries-same : ((m : ℕ) → ENTRIES ≤ m → v m ≡ w m) → table 1024 (entryIn v) ≡ table 1024 (entryIn w)
   entries-same h =
       table-same 1024 (entryIn v) (entryIn w)
-      (λ j k. rw (h (1109 + j * 4) (omega arith), h (1110 + j * 4) (omega arith), h (1111 + j * 4) (omega arith), h (1112 + j * 4) (omega arith)))
+      (λ j k. rw (h (ENTRIES + j * 4) (omega arith), h (ENTRY-GENERATION + j * 4) (omega arith), h (ENTRY-ATTRIBUTES + j * 4) (omega arith), h (ENTRY-PA + j * 4) (omega arith)))
 
-  pub generals-same : ((m : ℕ) → 37 ≤ m → m < 68 → v m ≡ w m) → generals v ≡ generals w
-  generals-same h = table-same 31 (λ n. v (37 + n)) (λ n. w (37 + n)) (λ n k. h (37 + n) (omega arith) (omega arith))
+  pub generals-same : ((m : ℕ) → GENERAL ≤ m → m < LEVEL → v m ≡ w m) → generals v ≡ generals w
+  generals-same h = table-same 31 (λ n. v (GENERAL + n)) (λ n. w (GENERAL + n)) (λ n k. h (GENERAL + n) (omega arith) (omega arith))
 
   -- small parts put anew
   pub held-small : RestSame v w → heldBy v ≡ heldOn v (generals w) (table 512 (hintIn w)) (table 1024 (entryIn w))
@@ -85,7 +86,7 @@ module _ (v w : ℕ → ℕ) where
       λ i. heldOn v (generals-same (r .general) i) (hints-same (r .above) i) (entries-same (λ m k. r .above m (omega arith)) i)
 
   -- hints or entries put anew
-  pub held-tables : SmallSame v w → ((m : ℕ) → 37 ≤ m → m < 68 → v m ≡ w m) → heldBy v ≡ heldOn w (generals w) (table 512 (hintIn v)) (table 1024 (entryIn v))
+  pub held-tables : SmallSame v w → ((m : ℕ) → GENERAL ≤ m → m < LEVEL → v m ≡ w m) → heldBy v ≡ heldOn w (generals w) (table 512 (hintIn v)) (table 1024 (entryIn v))
   unfolding heldBy
   held-tables s g =
       small-same s (generals v) (table 512 (hintIn v)) (table 1024 (entryIn v))

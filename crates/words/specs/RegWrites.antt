@@ -23,6 +23,7 @@ use Rattle.walk.specs.declared.regime.Regime.the-variants as Regime
 use Rattle.words.specs.Held.{word, heldOn, heldBy, held}
 use Rattle.words.specs.Parts.{withControl, withSys}
 use Rattle.words.specs.Writes.{Small, set-one, set-three, set-four}
+use Rattle.words.specs.Places.{GENERAL, WORDS}
 
 -- a regime's place among its level's registers
 abbrev pub bankIndex : Regime → ℕ
@@ -51,10 +52,10 @@ sysPlace Vmpidr = 31
 sysPlace Par = 32
 
 -- at a literal place
-at-place : (k : ℕ) → ltb k 37 ≡ true → Small k
-at-place k e = let h : k < 37 = ltb-true k 37 e in record { low = omega arith; apart = λ m a b q. omega arith }
+at-place : (k : ℕ) → ltb k GENERAL ≡ true → Small k
+at-place k e = let h : k < GENERAL = ltb-true k GENERAL e in record { low = omega arith; apart = λ m a b q. omega arith }
 
-module _ (ws : List ℕ) (L : length ws ≡ 5205) where
+module _ (ws : List ℕ) (L : length ws ≡ WORDS) where
   pub control-held : (r : ControlReg) (v : ℕ) → held (set ws (controlPlace r) v) ≡ withControl (held ws) (controlWith (held ws .control) r v)
   unfolding held heldBy heldOn withControl controlWith
   control-held (Sctlr El1) v = set-one ws L 0 v (at-place 0 refl)
