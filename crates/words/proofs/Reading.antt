@@ -7,7 +7,7 @@ use borrow.Author.Tests.{lt-ltb, le-ltb, eq-eqb, ne-eqb}
 use lib.Dec.{eqb, ltb}
 use lib.ListN.{getD, length}
 use Rattle.word.specs.Bits.{pick}
-use Rattle.sysreg.specs.Regs.{levelOf, controlAt, sysAt}
+use Rattle.sysreg.specs.Regs.{controlAt, sysAt}
 use Rattle.sysreg.specs.declared.regs.El.{El}
 use Rattle.sysreg.specs.declared.regs.El.the-variants.{El1, El2, El3}
 use Rattle.sysreg.specs.declared.regs.ControlReg.{ControlReg}
@@ -31,8 +31,8 @@ use Rattle.tlb.specs.declared.Pending.the-variants.{Nothing, Some}
 use Rattle.mmu.specs.Core.{regOf}
 use Rattle.words.specs.Tables.{table, table-at, table-past}
 use Rattle.words.specs.Held.{word, levelIn, pendingOf, hintIn, entryIn, heldOn, heldBy, held}
-use Rattle.words.specs.RegWrites.{bankIndex, controlPlace, sysPlace}
-use Rattle.words.specs.Places.{GENERAL, LEVEL, UNPRIVILEGED, PENDING, PENDING-VALUE}
+use Rattle.words.specs.RegWrites.{bankIndex, levelIndex, controlPlace, sysPlace}
+use Rattle.words.specs.Places.{TCR, TTBR0, MAIR, VBAR, ELR, SPSR, ESR, FAR, GENERAL, LEVEL, UNPRIVILEGED, PENDING, PENDING-VALUE}
 
 abbrev whoBy : ℕ → Bool → Who
 whoBy level mark = record { level = level; mark = mark }
@@ -103,17 +103,17 @@ bank-read ws Regime.El1 b e = ap (bankBy (word ws)) e
 bank-read ws Regime.El2 b e = ap (bankBy (word ws)) e
 bank-read ws Regime.El3 b e = ap (bankBy (word ws)) e
 
-pub mair-read : (ws : List ℕ) (r : Regime) (b : ℕ) → b ≡ bankIndex r → word ws (10 + b) ≡ sysAt (held ws .sys) (Mair (regime.levelOf r))
+pub mair-read : (ws : List ℕ) (r : Regime) (b : ℕ) → b ≡ bankIndex r → word ws (MAIR + b) ≡ sysAt (held ws .sys) (Mair (regime.levelOf r))
 unfolding held heldBy heldOn
-mair-read ws Regime.El1 b e = ap (λ (n : ℕ). word ws (10 + n)) e
-mair-read ws Regime.El2 b e = ap (λ (n : ℕ). word ws (10 + n)) e
-mair-read ws Regime.El3 b e = ap (λ (n : ℕ). word ws (10 + n)) e
+mair-read ws Regime.El1 b e = ap (λ (n : ℕ). word ws (MAIR + n)) e
+mair-read ws Regime.El2 b e = ap (λ (n : ℕ). word ws (MAIR + n)) e
+mair-read ws Regime.El3 b e = ap (λ (n : ℕ). word ws (MAIR + n)) e
 
-pub vbar-read : (ws : List ℕ) (el : El) (i : ℕ) → i ≡ levelOf el → word ws (12 + i) ≡ sysAt (held ws .sys) (Vbar el)
+pub vbar-read : (ws : List ℕ) (el : El) (i : ℕ) → i ≡ levelIndex el → word ws (VBAR + i) ≡ sysAt (held ws .sys) (Vbar el)
 unfolding held heldBy heldOn
-vbar-read ws El1 i e = ap (λ (n : ℕ). word ws (12 + n)) e
-vbar-read ws El2 i e = ap (λ (n : ℕ). word ws (12 + n)) e
-vbar-read ws El3 i e = ap (λ (n : ℕ). word ws (12 + n)) e
+vbar-read ws El1 i e = ap (λ (n : ℕ). word ws (VBAR + n)) e
+vbar-read ws El2 i e = ap (λ (n : ℕ). word ws (VBAR + n)) e
+vbar-read ws El3 i e = ap (λ (n : ℕ). word ws (VBAR + n)) e
 
 control-is : (ws : List ℕ) (r : ControlReg) → word ws (controlPlace r) ≡ controlAt (held ws .control) r
 unfolding held heldBy heldOn
@@ -134,39 +134,39 @@ pub control-read : (ws : List ℕ) (r : ControlReg) (k : ℕ) → k ≡ controlP
 control-read ws r k e = ap (word ws) e ∙ control-is ws r
 
 -- places
-pub sctlr-of-1 : (el : El) → el ≡ El1 → 0 ≡ controlPlace (Sctlr el)
-sctlr-of-1 el e = rw e
+pub level-1 : (el : El) → el ≡ El1 → 0 ≡ levelIndex el
+level-1 el e = rw e
 
-pub sctlr-of-2 : (el : El) → el ≡ El2 → 1 ≡ controlPlace (Sctlr el)
-sctlr-of-2 el e = rw e
+pub level-2 : (el : El) → el ≡ El2 → 1 ≡ levelIndex el
+level-2 el e = rw e
 
-pub sctlr-of-3 : (el : El) → el ≡ El3 → 2 ≡ controlPlace (Sctlr el)
-sctlr-of-3 el e = rw e
+pub level-3 : (el : El) → el ≡ El3 → 2 ≡ levelIndex el
+level-3 el e = rw e
 
-pub sctlr-at : (r : ControlReg) (k : ℕ) (el : El) → r ≡ Sctlr el → k ≡ controlPlace (Sctlr el) → k ≡ controlPlace r
+pub sctlr-at : (r : ControlReg) (k : ℕ) (el : El) → r ≡ Sctlr el → k ≡ levelIndex el → k ≡ controlPlace r
 sctlr-at r k el e p = rw e p
 
-pub tcr-at : (r : ControlReg) (i : ℕ) (el : El) → r ≡ Tcr el → i ≡ levelOf el → 2 + i ≡ controlPlace r
+pub tcr-at : (r : ControlReg) (i : ℕ) (el : El) → r ≡ Tcr el → i ≡ levelIndex el → TCR + i ≡ controlPlace r
 tcr-at r i el e p = rw (e, p)
 
-pub ttbr0-at : (r : ControlReg) (i : ℕ) (el : El) → r ≡ Ttbr0 el → i ≡ levelOf el → 5 + i ≡ controlPlace r
+pub ttbr0-at : (r : ControlReg) (i : ℕ) (el : El) → r ≡ Ttbr0 el → i ≡ levelIndex el → TTBR0 + i ≡ controlPlace r
 ttbr0-at r i el e p = rw (e, p)
 
 module _ (r : SysReg) (i : ℕ) (el : El) where
-  pub mair-at : r ≡ Mair el → i ≡ levelOf el → 9 + i ≡ sysPlace r
+  pub mair-at : r ≡ Mair el → i ≡ levelIndex el → MAIR + i ≡ sysPlace r
   mair-at e p = rw (e, p)
 
-  pub vbar-at : r ≡ Vbar el → i ≡ levelOf el → 12 + i ≡ sysPlace r
+  pub vbar-at : r ≡ Vbar el → i ≡ levelIndex el → VBAR + i ≡ sysPlace r
   vbar-at e p = rw (e, p)
 
-  pub elr-at : r ≡ Elr el → i ≡ levelOf el → 15 + i ≡ sysPlace r
+  pub elr-at : r ≡ Elr el → i ≡ levelIndex el → ELR + i ≡ sysPlace r
   elr-at e p = rw (e, p)
 
-  pub spsr-at : r ≡ Spsr el → i ≡ levelOf el → 18 + i ≡ sysPlace r
+  pub spsr-at : r ≡ Spsr el → i ≡ levelIndex el → SPSR + i ≡ sysPlace r
   spsr-at e p = rw (e, p)
 
-  pub esr-at : r ≡ Esr el → i ≡ levelOf el → 21 + i ≡ sysPlace r
+  pub esr-at : r ≡ Esr el → i ≡ levelIndex el → ESR + i ≡ sysPlace r
   esr-at e p = rw (e, p)
 
-  pub far-at : r ≡ Far el → i ≡ levelOf el → 24 + i ≡ sysPlace r
+  pub far-at : r ≡ Far el → i ≡ levelIndex el → FAR + i ≡ sysPlace r
   far-at e p = rw (e, p)

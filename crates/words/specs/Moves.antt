@@ -5,7 +5,6 @@ use mathlib.Core.List.{List}
 use Prim.Native.Nat.{ℕ, _+_, _*_, _^_, _≤_, _<_}
 use lib.ListN.{set, length, length-set}
 use Rattle.word.specs.Bits.{flag}
-use Rattle.sysreg.specs.Regs.{levelOf}
 use Rattle.sysreg.specs.Write.{kept, controlWith, sysWith}
 use Rattle.sysreg.specs.declared.regs.El.{El}
 use Rattle.sysreg.specs.declared.regs.ControlReg.{ControlReg}
@@ -27,8 +26,8 @@ use Rattle.words.specs.Moved.{Moved}
 use Rattle.words.specs.Writes.{level-held, mark-held, flags-held, pc-held, last-held, abort-held, hit-held, walk-held, epoch-held, flush-held, drop-held, generation-held, asid-held, nothing-held, all-held, page-held, asid-pending-held, fetch-held}
 use Rattle.words.specs.CellWrites.{general-held, hint-held, hint-kept, general-kept}
 use Rattle.words.specs.EntryWrites.{entry-held, entry-kept, tag-held, attributes}
-use Rattle.words.specs.RegWrites.{control-held, sys-held, saved-held, saved-far-held, controlPlace, sysPlace}
-use Rattle.words.specs.Places.{PC, DAIF, SPSEL, GENERAL, LEVEL, UNPRIVILEGED, HITS, WALKS, FLUSHES, DROPS, EPOCH, PENDING, PENDING-VALUE, LAST-PA, ABORT-PA, GENERATION, ASID, FETCH, FETCH-PAGE, FETCH-LEVEL, FETCH-PA, HINTS, HINT-PA, ENTRIES, ENTRY-GENERATION, ENTRY-ATTRIBUTES, ENTRY-PA, WORDS}
+use Rattle.words.specs.RegWrites.{control-held, sys-held, saved-held, saved-far-held, controlPlace, sysPlace, levelIndex}
+use Rattle.words.specs.Places.{ELR, SPSR, ESR, FAR, PC, DAIF, SPSEL, GENERAL, LEVEL, UNPRIVILEGED, HITS, WALKS, FLUSHES, DROPS, EPOCH, PENDING, PENDING-VALUE, LAST-PA, ABORT-PA, GENERATION, ASID, FETCH, FETCH-PAGE, FETCH-LEVEL, FETCH-PA, HINTS, HINT-PA, ENTRIES, ENTRY-GENERATION, ENTRY-ATTRIBUTES, ENTRY-PA, WORDS}
 
 module _ (ws : List ℕ) (l : length ws ≡ WORDS) where
   pub level-put : (v : ℕ) → v < 2 ^ 8 → Moved ws (set ws LEVEL v) (withWho (held ws) (record { level = v; mark = held ws .who .mark }))
@@ -112,11 +111,11 @@ module _ (ws : List ℕ) (l : length ws ≡ WORDS) where
   pub sys-put : (r : SysReg) (k v u : ℕ) → k ≡ sysPlace r → u ≡ kept r v → Moved ws (set ws k u) (withSys (held ws) (sysWith (held ws .sys) r v))
   sys-put r k v u e q = rw (e, q) (record { long = length-set ws (sysPlace r) (kept r v); holds = sys-held ws l r v })
 
-  pub saved-put : (t : El) (i : ℕ) (r : Report) (spsr ret : ℕ) → i ≡ levelOf t → r .valid ≡ false → Moved ws (set (set (set ws (15 + i) ret) (18 + i) spsr) (21 + i) (r .esr)) (withSys (held ws) (enteredSys (held ws .sys) t r spsr ret))
-  saved-put t i r spsr ret e h1 = rw e (record { long = length-set (set (set ws (15 + levelOf t) ret) (18 + levelOf t) spsr) (21 + levelOf t) (r .esr) ∙ length-set (set ws (15 + levelOf t) ret) (18 + levelOf t) spsr ∙ length-set ws (15 + levelOf t) ret; holds = saved-held ws l t r spsr ret h1 })
+  pub saved-put : (t : El) (i : ℕ) (r : Report) (spsr ret : ℕ) → i ≡ levelIndex t → r .valid ≡ false → Moved ws (set (set (set ws (ELR + i) ret) (SPSR + i) spsr) (ESR + i) (r .esr)) (withSys (held ws) (enteredSys (held ws .sys) t r spsr ret))
+  saved-put t i r spsr ret e h1 = rw e (record { long = length-set (set (set ws (ELR + levelIndex t) ret) (SPSR + levelIndex t) spsr) (ESR + levelIndex t) (r .esr) ∙ length-set (set ws (ELR + levelIndex t) ret) (SPSR + levelIndex t) spsr ∙ length-set ws (ELR + levelIndex t) ret; holds = saved-held ws l t r spsr ret h1 })
 
-  pub saved-far-put : (t : El) (i : ℕ) (r : Report) (spsr ret : ℕ) → i ≡ levelOf t → r .valid ≡ true → Moved ws (set (set (set (set ws (15 + i) ret) (18 + i) spsr) (21 + i) (r .esr)) (24 + i) (r .far)) (withSys (held ws) (enteredSys (held ws .sys) t r spsr ret))
-  saved-far-put t i r spsr ret e h1 = rw e (record { long = length-set (set (set (set ws (15 + levelOf t) ret) (18 + levelOf t) spsr) (21 + levelOf t) (r .esr)) (24 + levelOf t) (r .far) ∙ length-set (set (set ws (15 + levelOf t) ret) (18 + levelOf t) spsr) (21 + levelOf t) (r .esr) ∙ length-set (set ws (15 + levelOf t) ret) (18 + levelOf t) spsr ∙ length-set ws (15 + levelOf t) ret; holds = saved-far-held ws l t r spsr ret h1 })
+  pub saved-far-put : (t : El) (i : ℕ) (r : Report) (spsr ret : ℕ) → i ≡ levelIndex t → r .valid ≡ true → Moved ws (set (set (set (set ws (ELR + i) ret) (SPSR + i) spsr) (ESR + i) (r .esr)) (FAR + i) (r .far)) (withSys (held ws) (enteredSys (held ws .sys) t r spsr ret))
+  saved-far-put t i r spsr ret e h1 = rw e (record { long = length-set (set (set (set ws (ELR + levelIndex t) ret) (SPSR + levelIndex t) spsr) (ESR + levelIndex t) (r .esr)) (FAR + levelIndex t) (r .far) ∙ length-set (set (set ws (ELR + levelIndex t) ret) (SPSR + levelIndex t) spsr) (ESR + levelIndex t) (r .esr) ∙ length-set (set ws (ELR + levelIndex t) ret) (SPSR + levelIndex t) spsr ∙ length-set ws (ELR + levelIndex t) ret; holds = saved-far-held ws l t r spsr ret h1 })
 
 -- what is pending, by what it is
 pub moved-some : (ws xs : List ℕ) (p : Pending) (what : Inval) → p ≡ Some what → Moved ws xs (withPending (held ws) (Some what)) → Moved ws xs (withPending (held ws) p)

@@ -2,13 +2,13 @@
 use mathlib.Core.Path.{_≡_, refl, sym, ap, _∙_}
 use mathlib.Core.Bool.{Bool, true, false}
 use mathlib.Core.List.{List}
-use Prim.Native.Nat.{ℕ, _+_, _-_, _≤_, _<_}
+use Prim.Native.Nat.{ℕ, _+_, _≤_, _<_}
 use native.Mathlib.Omega.{arith}
 use borrow.Author.Tests.{ltb-true}
 use lib.Dec.{ltb}
 use lib.ListN.{set, length, length-set}
 use Rattle.word.specs.Bits.{pick}
-use Rattle.sysreg.specs.Regs.{levelOf, controlAt, sysAt}
+use Rattle.sysreg.specs.Regs.{controlAt, sysAt}
 use Rattle.sysreg.specs.Write.{kept, controlWith, sysWith}
 use Rattle.sysreg.specs.declared.regs.El.{El}
 use Rattle.sysreg.specs.declared.regs.El.the-variants.{El1, El2, El3}
@@ -23,7 +23,7 @@ use Rattle.walk.specs.declared.regime.Regime.the-variants as Regime
 use Rattle.words.specs.Held.{word, heldOn, heldBy, held}
 use Rattle.words.specs.Parts.{withControl, withSys}
 use Rattle.words.specs.Writes.{Small, set-one, set-three, set-four}
-use Rattle.words.specs.Places.{GENERAL, WORDS}
+use Rattle.words.specs.Places.{TCR, TTBR0, TTBR1-EL1, MAIR, VBAR, ELR, SPSR, ESR, FAR, SCR-EL3, HCR-EL2, VPIDR-EL2, VMPIDR-EL2, PAR-EL1, GENERAL, LEVEL, WORDS}
 
 -- a regime's place among its level's registers
 abbrev pub bankIndex : Regime → ℕ
@@ -31,25 +31,31 @@ bankIndex Regime.El1 = 0
 bankIndex Regime.El2 = 1
 bankIndex Regime.El3 = 2
 
+-- a level's place among its registers
+abbrev pub levelIndex : El → ℕ
+levelIndex El1 = 0
+levelIndex El2 = 1
+levelIndex El3 = 2
+
 -- where each register stands
 abbrev pub controlPlace : ControlReg → ℕ
-controlPlace (Sctlr el) = levelOf el - 1
-controlPlace (Tcr el) = 2 + levelOf el
-controlPlace (Ttbr0 el) = 5 + levelOf el
-controlPlace Ttbr1 = 9
-controlPlace Scr = 28
-controlPlace Hcr = 29
+controlPlace (Sctlr el) = levelIndex el
+controlPlace (Tcr el) = TCR + levelIndex el
+controlPlace (Ttbr0 el) = TTBR0 + levelIndex el
+controlPlace Ttbr1 = TTBR1-EL1
+controlPlace Scr = SCR-EL3
+controlPlace Hcr = HCR-EL2
 
 abbrev pub sysPlace : SysReg → ℕ
-sysPlace (Mair el) = 9 + levelOf el
-sysPlace (Vbar el) = 12 + levelOf el
-sysPlace (Elr el) = 15 + levelOf el
-sysPlace (Spsr el) = 18 + levelOf el
-sysPlace (Esr el) = 21 + levelOf el
-sysPlace (Far el) = 24 + levelOf el
-sysPlace Vpidr = 30
-sysPlace Vmpidr = 31
-sysPlace Par = 32
+sysPlace (Mair el) = MAIR + levelIndex el
+sysPlace (Vbar el) = VBAR + levelIndex el
+sysPlace (Elr el) = ELR + levelIndex el
+sysPlace (Spsr el) = SPSR + levelIndex el
+sysPlace (Esr el) = ESR + levelIndex el
+sysPlace (Far el) = FAR + levelIndex el
+sysPlace Vpidr = VPIDR-EL2
+sysPlace Vmpidr = VMPIDR-EL2
+sysPlace Par = PAR-EL1
 
 -- at a literal place
 at-place : (k : ℕ) → ltb k GENERAL ≡ true → Small k
@@ -97,14 +103,14 @@ module _ (ws : List ℕ) (L : length ws ≡ WORDS) where
 
   -- ELR, SPSR and ESR of a level, and FAR where there is an address
   pub saved-held : (t : El) (r : Report) (spsr ret : ℕ) → r .valid ≡ false
-      → held (set (set (set ws (15 + levelOf t) ret) (18 + levelOf t) spsr) (21 + levelOf t) (r .esr)) ≡ withSys (held ws) (enteredSys (held ws .sys) t r spsr ret)
+      → held (set (set (set ws (ELR + levelIndex t) ret) (SPSR + levelIndex t) spsr) (ESR + levelIndex t) (r .esr)) ≡ withSys (held ws) (enteredSys (held ws .sys) t r spsr ret)
   unfolding held heldBy heldOn withSys enteredSys
   saved-held El1 r spsr ret h = set-three ws L 16 ret 19 spsr 22 (r .esr) (at-place 16 refl) (at-place 19 refl) (at-place 22 refl) ∙ sym (rw h)
   saved-held El2 r spsr ret h = set-three ws L 17 ret 20 spsr 23 (r .esr) (at-place 17 refl) (at-place 20 refl) (at-place 23 refl) ∙ sym (rw h)
   saved-held El3 r spsr ret h = set-three ws L 18 ret 21 spsr 24 (r .esr) (at-place 18 refl) (at-place 21 refl) (at-place 24 refl) ∙ sym (rw h)
 
   pub saved-far-held : (t : El) (r : Report) (spsr ret : ℕ) → r .valid ≡ true
-      → held (set (set (set (set ws (15 + levelOf t) ret) (18 + levelOf t) spsr) (21 + levelOf t) (r .esr)) (24 + levelOf t) (r .far))
+      → held (set (set (set (set ws (ELR + levelIndex t) ret) (SPSR + levelIndex t) spsr) (ESR + levelIndex t) (r .esr)) (FAR + levelIndex t) (r .far))
       ≡ withSys (held ws) (enteredSys (held ws .sys) t r spsr ret)
   unfolding held heldBy heldOn withSys enteredSys
   saved-far-held El1 r spsr ret h =

@@ -9,12 +9,11 @@ ghost use Rattle.walk.specs.Regime.{levelOf, bankOf};
 ghost use Rattle.words.specs.Held.{held};
 ghost use Rattle.words.specs.Parts.{withControl, withSys};
 ghost use Rattle.words.specs.Moved.{Moved};
-ghost use Rattle.words.specs.RegWrites.{bankIndex, controlPlace, sysPlace};
+ghost use Rattle.words.specs.RegWrites.{bankIndex, levelIndex, controlPlace, sysPlace};
 use crate::place;
 use crate::place::State;
 use crate::state::whole;
 use entry::report::Report;
-use sysreg::regs;
 use sysreg::regs::Control;
 use sysreg::regs::ControlReg;
 use sysreg::regs::El;
@@ -71,26 +70,42 @@ pub fn hcr_at(state: &State) -> u64
 pub fn vbar_at(state: &State, el: El) -> u64
     ensures { λ r. ⌜ r ≡ sysAt (held (now (state .entry)) .sys) (Vbar el) ⌝ }
 {
-    let i = regs::index(el);
-    state[12 + i]
+    let i = level_index(el);
+    state[place::VBAR + i]
 }
 
 pub fn control_at(state: &State) -> Control
     ensures { λ r. ⌜ r ≡ held (now (state .entry)) .control ⌝ }
 {
     Control {
-        sctlr: [0, state[0], state[1], state[2]],
-        tcr: [0, state[3], state[4], state[5]],
-        ttbr0: [0, state[6], state[7], state[8]],
+        sctlr: [
+            0,
+            state[place::SCTLR],
+            state[place::SCTLR + 1],
+            state[place::SCTLR + 2],
+        ],
+        tcr: [
+            0,
+            state[place::TCR],
+            state[place::TCR + 1],
+            state[place::TCR + 2],
+        ],
+        ttbr0: [
+            0,
+            state[place::TTBR0],
+            state[place::TTBR0 + 1],
+            state[place::TTBR0 + 2],
+        ],
         ttbr1_el1: state[place::TTBR1_EL1],
         scr_el3: state[place::SCR_EL3],
         hcr_el2: state[place::HCR_EL2],
     }
 }
 
-fn sctlr_place(el: El) -> usize
-    ensures { λ r. ⌜ r ≡ controlPlace (ControlReg.Sctlr el) ⌝ }
-    ensures { λ r. ⌜ r < 37 ⌝ }
+// A level's place among its registers.
+fn level_index(el: El) -> usize
+    ensures { λ r. ⌜ r ≡ levelIndex el ⌝ }
+    ensures { λ r. ⌜ r ≤ 2 ⌝ }
 {
     match el {
         El::El1 => 0,
@@ -105,12 +120,12 @@ fn control_place(register: ControlReg) -> usize
     ensures { λ r. ⌜ r < 37 ⌝ }
 {
     match register {
-        ControlReg::Sctlr(el) => sctlr_place(el),
-        ControlReg::Tcr(el) => 2 + regs::index(el),
-        ControlReg::Ttbr0(el) => 5 + regs::index(el),
-        ControlReg::Ttbr1 => 9,
-        ControlReg::Scr => 28,
-        ControlReg::Hcr => 29,
+        ControlReg::Sctlr(el) => level_index(el),
+        ControlReg::Tcr(el) => place::TCR + level_index(el),
+        ControlReg::Ttbr0(el) => place::TTBR0 + level_index(el),
+        ControlReg::Ttbr1 => place::TTBR1_EL1,
+        ControlReg::Scr => place::SCR_EL3,
+        ControlReg::Hcr => place::HCR_EL2,
     }
 }
 
@@ -119,15 +134,15 @@ fn sys_place(register: SysReg) -> usize
     ensures { λ r. ⌜ r < 37 ⌝ }
 {
     match register {
-        SysReg::Mair(el) => 9 + regs::index(el),
-        SysReg::Vbar(el) => 12 + regs::index(el),
-        SysReg::Elr(el) => 15 + regs::index(el),
-        SysReg::Spsr(el) => 18 + regs::index(el),
-        SysReg::Esr(el) => 21 + regs::index(el),
-        SysReg::Far(el) => 24 + regs::index(el),
-        SysReg::Vpidr => 30,
-        SysReg::Vmpidr => 31,
-        SysReg::Par => 32,
+        SysReg::Mair(el) => place::MAIR + level_index(el),
+        SysReg::Vbar(el) => place::VBAR + level_index(el),
+        SysReg::Elr(el) => place::ELR + level_index(el),
+        SysReg::Spsr(el) => place::SPSR + level_index(el),
+        SysReg::Esr(el) => place::ESR + level_index(el),
+        SysReg::Far(el) => place::FAR + level_index(el),
+        SysReg::Vpidr => place::VPIDR_EL2,
+        SysReg::Vmpidr => place::VMPIDR_EL2,
+        SysReg::Par => place::PAR_EL1,
     }
 }
 
@@ -160,11 +175,11 @@ pub fn put_saved(state: &mut State, target: El, report: Report, spsr: u64, ret: 
     ensures { λ _. ⌜ Moved (now (state .entry)) (now (state .exit)) (withSys (held (now (state .entry))) (enteredSys (held (now (state .entry)) .sys) target report spsr ret)) ⌝ }
 {
     whole(state);
-    let t = regs::index(target);
-    state[15 + t] = ret;
-    state[18 + t] = spsr;
-    state[21 + t] = report.esr;
+    let t = level_index(target);
+    state[place::ELR + t] = ret;
+    state[place::SPSR + t] = spsr;
+    state[place::ESR + t] = report.esr;
     if report.valid {
-        state[24 + t] = report.far;
+        state[place::FAR + t] = report.far;
     }
 }

@@ -7,14 +7,14 @@ use Rattle.words.proofs.regs.control_place.Tie as tie
 enum-known-register : tie.Need-enum-known-register
 enum-known-register c = search needs
 
-sctlr-place-requires : tie.Need-sctlr-place-requires
-sctlr-place-requires c κs = search needs
+level-index-requires : tie.Need-level-index-requires
+level-index-requires c κs = search needs
 
 enum-known-register-2 : tie.Need-enum-known-register-2
 enum-known-register-2 c = search needs
 
-index-requires : tie.Need-index-requires
-index-requires c κs = search needs
+level-index-requires-2 : tie.Need-level-index-requires-2
+level-index-requires-2 c κs = search needs
 
 add-result : tie.Need-add-result
 add-result c = search needs
@@ -22,8 +22,8 @@ add-result c = search needs
 enum-known-register-3 : tie.Need-enum-known-register-3
 enum-known-register-3 c = search needs
 
-index-requires-2 : tie.Need-index-requires-2
-index-requires-2 c κs = search needs
+level-index-requires-3 : tie.Need-level-index-requires-3
+level-index-requires-3 c κs = search needs
 
 add-result-2 : tie.Need-add-result-2
 add-result-2 c = search needs
@@ -60,12 +60,12 @@ control-place-spec =
     tie.close
     (tie.spec
     enum-known-register
-    sctlr-place-requires
+    level-index-requires
     enum-known-register-2
-    index-requires
+    level-index-requires-2
     add-result
     enum-known-register-3
-    index-requires-2
+    level-index-requires-3
     add-result-2
     enum-told
     enum-told-2

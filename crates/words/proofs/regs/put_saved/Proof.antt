@@ -7,8 +7,8 @@ use Rattle.words.proofs.regs.put_saved.Tie as tie
 whole-requires : tie.Need-whole-requires
 whole-requires c κs = search needs
 
-index-requires : tie.Need-index-requires
-index-requires c κs = search needs
+level-index-requires : tie.Need-level-index-requires
+level-index-requires c κs = search needs
 
 add-state : tie.Need-add-state
 add-state c = search needs
@@ -57,7 +57,7 @@ put-saved-spec =
     tie.close
     (tie.spec
     whole-requires
-    index-requires
+    level-index-requires
     add-state
     mul-state
     element-write-state

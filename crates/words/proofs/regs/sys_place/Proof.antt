@@ -7,8 +7,8 @@ use Rattle.words.proofs.regs.sys_place.Tie as tie
 enum-known-register : tie.Need-enum-known-register
 enum-known-register c = search needs
 
-index-requires : tie.Need-index-requires
-index-requires c κs = search needs
+level-index-requires : tie.Need-level-index-requires
+level-index-requires c κs = search needs
 
 add-result : tie.Need-add-result
 add-result c = search needs
@@ -16,8 +16,8 @@ add-result c = search needs
 enum-known-register-2 : tie.Need-enum-known-register-2
 enum-known-register-2 c = search needs
 
-index-requires-2 : tie.Need-index-requires-2
-index-requires-2 c κs = search needs
+level-index-requires-2 : tie.Need-level-index-requires-2
+level-index-requires-2 c κs = search needs
 
 add-result-2 : tie.Need-add-result-2
 add-result-2 c = search needs
@@ -25,8 +25,8 @@ add-result-2 c = search needs
 enum-known-register-3 : tie.Need-enum-known-register-3
 enum-known-register-3 c = search needs
 
-index-requires-3 : tie.Need-index-requires-3
-index-requires-3 c κs = search needs
+level-index-requires-3 : tie.Need-level-index-requires-3
+level-index-requires-3 c κs = search needs
 
 add-result-3 : tie.Need-add-result-3
 add-result-3 c = search needs
@@ -34,8 +34,8 @@ add-result-3 c = search needs
 enum-known-register-4 : tie.Need-enum-known-register-4
 enum-known-register-4 c = search needs
 
-index-requires-4 : tie.Need-index-requires-4
-index-requires-4 c κs = search needs
+level-index-requires-4 : tie.Need-level-index-requires-4
+level-index-requires-4 c κs = search needs
 
 add-result-4 : tie.Need-add-result-4
 add-result-4 c = search needs
@@ -43,8 +43,8 @@ add-result-4 c = search needs
 enum-known-register-5 : tie.Need-enum-known-register-5
 enum-known-register-5 c = search needs
 
-index-requires-5 : tie.Need-index-requires-5
-index-requires-5 c κs = search needs
+level-index-requires-5 : tie.Need-level-index-requires-5
+level-index-requires-5 c κs = search needs
 
 add-result-5 : tie.Need-add-result-5
 add-result-5 c = search needs
@@ -52,8 +52,8 @@ add-result-5 c = search needs
 enum-known-register-6 : tie.Need-enum-known-register-6
 enum-known-register-6 c = search needs
 
-index-requires-6 : tie.Need-index-requires-6
-index-requires-6 c κs = search needs
+level-index-requires-6 : tie.Need-level-index-requires-6
+level-index-requires-6 c κs = search needs
 
 add-result-6 : tie.Need-add-result-6
 add-result-6 c = search needs
@@ -99,22 +99,22 @@ sys-place-spec =
     tie.close
     (tie.spec
     enum-known-register
-    index-requires
+    level-index-requires
     add-result
     enum-known-register-2
-    index-requires-2
+    level-index-requires-2
     add-result-2
     enum-known-register-3
-    index-requires-3
+    level-index-requires-3
     add-result-3
     enum-known-register-4
-    index-requires-4
+    level-index-requires-4
     add-result-4
     enum-known-register-5
-    index-requires-5
+    level-index-requires-5
     add-result-5
     enum-known-register-6
-    index-requires-6
+    level-index-requires-6
     add-result-6
     enum-told
     enum-told-2

@@ -4,8 +4,8 @@ use borrow.Author.Needs.{needs}
 use Rattle.words.proofs.regs.vbar_at.Statement.{statement}
 use Rattle.words.proofs.regs.vbar_at.Tie as tie
 
-index-requires : tie.Need-index-requires
-index-requires c κs = search needs
+level-index-requires : tie.Need-level-index-requires
+level-index-requires c κs = search needs
 
 add-result : tie.Need-add-result
 add-result c = search needs
@@ -21,4 +21,4 @@ returns c = search (vbar-read, needs)
 
 pub vbar-at-spec : {M : Type 1} → statement M
 vbar-at-spec =
-    tie.close (tie.spec index-requires add-result mul-result element-copy-out-result returns)
+    tie.close (tie.spec level-index-requires add-result mul-result element-copy-out-result returns)
