@@ -11,6 +11,7 @@ use trace::form;
 use trace::lex;
 use trace::lex::Number;
 use words::place::State;
+use words::place::WORDS;
 
 // A kind of access, or none.
 enum Kinds {
@@ -126,7 +127,7 @@ fn asked(path: &[u8], q: Question, kind: Kind) {
         report::system(path);
         return;
     }
-    let mut state = [0u64; 5205];
+    let mut state = [0u64; WORDS];
     let mut ram = memory::zeros();
     open(fd, path, &mut state, &mut ram, q, kind);
     libc::close(fd);

@@ -6,6 +6,7 @@ use crate::orders::Tally;
 use crate::sixteen;
 use trace::say;
 use words::place::State;
+use words::place::WORDS;
 
 fn lost(h: Heard) {
     say::number(h.reads, 1);
@@ -81,7 +82,7 @@ fn third_part(state: &mut State, ram: &mut [u8]) -> bool {
 
 // All three parts. Whether the proved core lost no tone in any is the last line.
 pub fn tell(ram: &mut [u8]) {
-    let mut state = [0u64; 5205];
+    let mut state = [0u64; WORDS];
     let held = first_part(&mut state, ram);
     let changed = second_part(&mut state, ram);
     let ordered = third_part(&mut state, ram);

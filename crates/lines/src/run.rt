@@ -9,6 +9,7 @@ use machine::memory;
 use trace::parse;
 use trace::parse::Outcome;
 use words::place::State;
+use words::place::WORDS;
 
 // What is done with each line.
 pub enum Mode {
@@ -212,7 +213,7 @@ pub fn run(path: &[u8]) {
         report::system(path);
         return;
     }
-    let mut state = [0u64; 5205];
+    let mut state = [0u64; WORDS];
     let mut ram = memory::zeros();
     run_open(fd, path, &mut state, &mut ram);
     libc::close(fd);

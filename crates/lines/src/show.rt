@@ -2,6 +2,7 @@
 use digest::parts;
 use trace::out;
 use trace::write;
+use words::place;
 use words::place::State;
 
 // A name and a number.
@@ -21,24 +22,24 @@ fn digest(line: &mut [u8; 1024], n: usize, name: &[u8], value: u64) -> usize {
 }
 
 fn counters(line: &mut [u8; 1024], n: usize, state: &State) -> usize {
-    let a = field(line, n, b" | h=", state[70]);
-    let b = field(line, a, b" w=", state[71]);
-    let c = field(line, b, b" fl=", state[72]);
-    let d = field(line, c, b" dr=", state[73]);
-    let e = field(line, d, b" ep=", state[74]);
-    let f = small(line, e, b" bc=", state[75]);
-    field(line, f, b":", state[76])
+    let a = field(line, n, b" | h=", state[place::HITS]);
+    let b = field(line, a, b" w=", state[place::WALKS]);
+    let c = field(line, b, b" fl=", state[place::FLUSHES]);
+    let d = field(line, c, b" dr=", state[place::DROPS]);
+    let e = field(line, d, b" ep=", state[place::EPOCH]);
+    let f = small(line, e, b" bc=", state[place::PENDING]);
+    field(line, f, b":", state[place::PENDING_VALUE])
 }
 
 fn place(line: &mut [u8; 1024], n: usize, state: &State) -> usize {
-    let a = field(line, n, b" lp=", state[77]);
-    let b = field(line, a, b" ap=", state[78]);
-    let c = small(line, b, b" el=", state[68]);
-    let d = small(line, c, b" um=", state[69]);
-    let e = field(line, d, b" as=", state[80]);
-    let f = field(line, e, b" gen=", state[79]);
-    let g = field(line, f, b" par=", state[32]);
-    field(line, g, b" pc=", state[33])
+    let a = field(line, n, b" lp=", state[place::LAST_PA]);
+    let b = field(line, a, b" ap=", state[place::ABORT_PA]);
+    let c = small(line, b, b" el=", state[place::LEVEL]);
+    let d = small(line, c, b" um=", state[place::UNPRIVILEGED]);
+    let e = field(line, d, b" as=", state[place::ASID]);
+    let f = field(line, e, b" gen=", state[place::GENERATION]);
+    let g = field(line, f, b" par=", state[place::PAR_EL1]);
+    field(line, g, b" pc=", state[place::PC])
 }
 
 fn digests(line: &mut [u8; 1024], n: usize, state: &State, ram: u64) -> usize {

@@ -3,13 +3,14 @@ use tlb::entry::Entry;
 use tlb::hint::Hint;
 use words::cells;
 use words::counts;
+use words::place;
 use words::place::State;
 use words::state;
 
 // Sets word i, where there is one.
 fn put(words: &mut State, i: usize, value: u64) {
     state::whole(words);
-    if i < 5205 {
+    if i < place::WORDS {
         words[i] = value;
     }
 }
@@ -39,50 +40,50 @@ fn move_generation(words: &mut State, to: u32, later: bool) {
 }
 
 fn put_counters(words: &mut State, value: u64) {
-    put(words, 70, value);
-    put(words, 71, value);
-    put(words, 72, value);
-    put(words, 73, value);
-    put(words, 74, value);
+    put(words, place::HITS, value);
+    put(words, place::WALKS, value);
+    put(words, place::FLUSHES, value);
+    put(words, place::DROPS, value);
+    put(words, place::EPOCH, value);
 }
 
 fn take_broadcast(words: &mut State) {
-    put(words, 75, 0);
-    put(words, 76, 0);
+    put(words, place::PENDING, 0);
+    put(words, place::PENDING_VALUE, 0);
 }
 
 // The bits of a word that a core can hold.
-fn fitting(place: u64, v: u64) -> u64 {
-    match place {
-        34 => v & 0xF000_0000,
-        35 => v & 0x3C0,
-        36 | 69 => v % 2,
-        68 | 79 => v % 0x1_0000_0000,
-        75 => v % 4,
-        80 => v % 0x1_0000,
+fn fitting(i: usize, v: u64) -> u64 {
+    match i {
+        place::NZCV => v & 0xF000_0000,
+        place::DAIF => v & 0x3C0,
+        place::SPSEL | place::UNPRIVILEGED => v % 2,
+        place::LEVEL | place::GENERATION => v % 0x1_0000_0000,
+        place::PENDING => v % 4,
+        place::ASID => v % 0x1_0000,
         _ => v,
     }
 }
 
 // The bits that a pending invalidation's value has: an address, an ASID, or none.
 fn fit_broadcast(words: &mut State) {
-    let value = match words[75] {
-        2 => words[76],
-        3 => words[76] % 0x1_0000,
+    let value = match words[place::PENDING] {
+        2 => words[place::PENDING_VALUE],
+        3 => words[place::PENDING_VALUE] % 0x1_0000,
         _ => 0,
     };
-    put(words, 76, value);
+    put(words, place::PENDING_VALUE, value);
 }
 
 // A word before the fetch hint.
-fn put_word(words: &mut State, place: u64, v: u64) {
-    let value = fitting(place, v);
-    if place == 79 {
+fn put_word(words: &mut State, i: usize, v: u64) {
+    let value = fitting(i, v);
+    if i == place::GENERATION {
         move_generation(words, (value % 0x1_0000_0000) as u32, true);
         return;
     }
-    if place < 81 {
-        put(words, place as usize, value);
+    if i < place::FETCH {
+        put(words, i, value);
         fit_broadcast(words);
     }
 }
@@ -109,18 +110,18 @@ fn put_entry(words: &mut State, slot: u64, op: &[u64; 8]) {
 }
 
 fn put_fetch(words: &mut State, page: u64, level: u64, pa: u64) {
-    put(words, 81, 1);
-    put(words, 82, page);
-    put(words, 83, level);
-    put(words, 84, pa);
+    put(words, place::FETCH, 1);
+    put(words, place::FETCH_PAGE, page);
+    put(words, place::FETCH_LEVEL, level);
+    put(words, place::FETCH_PA, pa);
 }
 
 // A line of code 40 to 45.
 pub fn poke(words: &mut State, op: &[u64; 8]) {
     match op[0] {
-        40 => put(words, 68, op[1]),
-        41 => put(words, 33, op[1]),
-        42 => put(words, 36, op[1]),
+        40 => put(words, place::LEVEL, op[1]),
+        41 => put(words, place::PC, op[1]),
+        42 => put(words, place::SPSEL, op[1]),
         43 => move_generation(words, (op[1] % 0x1_0000_0000) as u32, false),
         44 => put_counters(words, op[1]),
         _ => take_broadcast(words),
@@ -130,7 +131,7 @@ pub fn poke(words: &mut State, op: &[u64; 8]) {
 // A line of code 64 to 67.
 pub fn overwrite(words: &mut State, op: &[u64; 8]) {
     match op[0] {
-        64 => put_word(words, op[1], op[2]),
+        64 => put_word(words, op[1] as usize, op[2]),
         65 => {
             let h = Hint {
                 key: op[2],

@@ -29,15 +29,21 @@ fn begun(class: u64) -> Case {
     }
 }
 
-// A word of the state, or from 5205 on of the last answer.
+// In a record the places from here on are the words of the last answer.
+const ANSWER: u64 = 5205;
+
+// A word of the state or of the last answer.
 fn found(m: Replay, state: &State, place: u64) -> u64 {
     let a = m.ans;
-    match place {
-        5205 => a[0],
-        5206 => a[1],
-        5207 => a[2],
-        5208 => a[3],
-        _ => parts::get(state, place),
+    if place < ANSWER {
+        return parts::get(state, place);
+    }
+    match place - ANSWER {
+        0 => a[0],
+        1 => a[1],
+        2 => a[2],
+        3 => a[3],
+        _ => 0,
     }
 }
 
@@ -64,10 +70,10 @@ fn due(m: Replay, place: u64, is: u64, want: u64) -> Replay {
 // The answer that is due: its code, third and fourth word in one, and its second word.
 fn answered(m: Replay, small: u64, value: u64) -> Replay {
     let a = m.ans;
-    let code = due(m, 5205, a[0], small % 256);
-    let second = due(code, 5206, a[1], value);
-    let third = due(second, 5207, a[2], small / 256 % 256);
-    due(third, 5208, a[3], small / 65536 % 256)
+    let code = due(m, ANSWER, a[0], small % 256);
+    let second = due(code, ANSWER + 1, a[1], value);
+    let third = due(second, ANSWER + 2, a[2], small / 256 % 256);
+    due(third, ANSWER + 3, a[3], small / 65536 % 256)
 }
 
 // A part of the other answer.

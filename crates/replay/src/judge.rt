@@ -5,6 +5,7 @@ use crate::parts;
 use crate::say;
 use crate::tally;
 use machine::line;
+use words::place;
 use words::place::State;
 
 // Counters, what is pending, the addresses kept, level and mark, generation and ASID, PAR_EL1.
@@ -15,20 +16,20 @@ fn plain_words(m: Replay, state: &State) -> [u64; 18] {
         a[1],
         a[2],
         a[3],
-        state[70],
-        state[71],
-        state[72],
-        state[73],
-        state[74],
-        state[75],
-        state[76],
-        state[77],
-        state[78],
-        state[68],
-        state[69],
-        state[79],
-        state[80],
-        state[32],
+        state[place::HITS],
+        state[place::WALKS],
+        state[place::FLUSHES],
+        state[place::DROPS],
+        state[place::EPOCH],
+        state[place::PENDING],
+        state[place::PENDING_VALUE],
+        state[place::LAST_PA],
+        state[place::ABORT_PA],
+        state[place::LEVEL],
+        state[place::UNPRIVILEGED],
+        state[place::GENERATION],
+        state[place::ASID],
+        state[place::PAR_EL1],
     ]
 }
 
@@ -103,7 +104,7 @@ pub fn tail(
         return lines::broken(m, b"the last line is not whole");
     }
     let ans = m.ans;
-    tally::note(op, ans, state[32], counts);
+    tally::note(op, ans, state[place::PAR_EL1], counts);
     let now = summed(m, ram);
     judge(now, state, &want[..n])
 }

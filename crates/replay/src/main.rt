@@ -13,6 +13,7 @@ use lines::Replay;
 use report::Total;
 use word::bits;
 use words::place::State;
+use words::place::WORDS;
 
 fn nothing() -> Total {
     Total {
@@ -95,7 +96,7 @@ fn judged(t: Total) -> Total {
 
 fn main() {
     let mut ram = machine::memory::zeros();
-    let mut state = [0u64; 5205];
+    let mut state = [0u64; WORDS];
     let mut counts = [0u64; 2048];
     let t = arguments(&mut state, &mut ram, &mut counts);
     let total = judged(t);

@@ -3,6 +3,7 @@ use word::ram;
 use word::ram::Width;
 use word::ram::Word;
 use words::place::State;
+use words::place::WORDS;
 
 // Word i of a line's bytes.
 pub fn word_of(buf: &[u8], i: u64) -> u64 {
@@ -12,13 +13,9 @@ pub fn word_of(buf: &[u8], i: u64) -> u64 {
     }
 }
 
-pub fn get(state: &State, place: u64) -> u64 {
-    if place < 5205 {
-        let i = place as usize;
-        state[i]
-    } else {
-        0
-    }
+pub fn get(state: &State, at: u64) -> u64 {
+    let i = at as usize;
+    if i < WORDS { state[i] } else { 0 }
 }
 
 // A first word, and the seven after it.

@@ -10,6 +10,7 @@ use walk::regime;
 use walk::regime::Bank;
 use walk::regime::Regime;
 use walk::tag;
+use words::place;
 use words::place::State;
 use words::regs;
 use words::state;
@@ -129,11 +130,11 @@ pub fn explain(words: &mut State, base: u64, ram: &mut [u8], kind: Kind, va: u64
     answer::show(by_walk);
     say::text(b"\n");
     let on = is_on(words);
-    let walks = words[71];
-    let hits = words[70];
+    let walks = words[place::WALKS];
+    let hits = words[place::HITS];
     let by_core = answer::of_core(words, base, ram, kind, va);
     say::text(b"the core   ");
     answer::show(by_core);
-    source(on, words[71] != walks, words[70] != hits);
+    source(on, words[place::WALKS] != walks, words[place::HITS] != hits);
     verdict(by_walk, by_core);
 }

@@ -6,6 +6,7 @@ ghost use Rattle.words.specs.Fresh.{zeroWords, zeroCore, registered};
 use crate::clear;
 use crate::counts;
 use crate::place::State;
+use crate::place::WORDS;
 use crate::regs;
 use crate::state;
 use sysreg::regs::ControlReg;
@@ -15,7 +16,7 @@ use sysreg::regs::SysReg;
 fn zeros() -> State
     ensures { λ r. ⌜ r ≡ zeroWords ⌝ }
 {
-    [0; 5205]
+    [0; WORDS]
 }
 
 // All zero: no register, no hint, no entry.

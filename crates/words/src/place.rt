@@ -1,5 +1,7 @@
 // Where each part of a core stands among the words of a state. A place never moves: new words are appended.
-pub type State = [u64; 5205];
+pub const WORDS: usize = 5205;
+
+pub type State = [u64; WORDS];
 
 // The registers by level: EL1, EL2, EL3.
 pub const SCTLR: usize = 0;
