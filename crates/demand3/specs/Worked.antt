@@ -30,7 +30,7 @@ use Rattle.tlb.specs.Turn.{walkEnd, lookWith, missWith, remembered, turnWith}
 use Rattle.tlb.specs.Step.{turnIn}
 use Rattle.tlb.specs.declared.access.Kind.the-variants.{Read}
 use Rattle.tlb.specs.declared.access.Answer.the-variants.{Address}
-use Rattle.tlb.specs.declared.turn.Source.the-variants.{FromHint}
+use Rattle.tlb.specs.declared.resolve.Source.the-variants.{FromHint}
 use Rattle.tlb.specs.declared.Inval.the-variants.{Page}
 use Rattle.mmu.specs.Core.{zeros, freshCore, regOf, setReg, movedTo}
 use Rattle.mmu.specs.Step.{stepOf as stepMmu}

@@ -27,7 +27,7 @@ use Rattle.tlb.specs.declared.entry.Entry.{Entry}
 use Rattle.tlb.specs.declared.entry.Present.{Present}
 use Rattle.tlb.specs.declared.hint.Hint.{Hint}
 use Rattle.tlb.specs.declared.access.Answer.the-variants.{Address}
-use Rattle.tlb.specs.declared.turn.Source.the-variants.{FromHint}
+use Rattle.tlb.specs.declared.resolve.Source.the-variants.{FromHint}
 use Rattle.tlb.specs.declared.turn.Turned.{Turned}
 use Rattle.mmu.specs.Core.{movedTo}
 use Rattle.mmu.specs.Step.{stepOf as stepIn}

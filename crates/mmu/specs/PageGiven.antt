@@ -25,7 +25,8 @@ use Rattle.tlb.specs.Hint.{noHint, pageOf, onPage, placeOf, dataSlot, hintKey, 
 use Rattle.tlb.specs.Cache.{entryAt, hintAt}
 use Rattle.tlb.specs.Live.{WellFormed}
 use Rattle.tlb.specs.Cells.{or-page}
-use Rattle.tlb.specs.Turn.{entryFor, walkEnd, lookWith, missWith, remembered, turnWith, walkNow}
+use Rattle.tlb.specs.Resolve.{entryFor}
+use Rattle.tlb.specs.Turn.{walkEnd, lookWith, missWith, remembered, turnWith, walkNow}
 use Rattle.tlb.specs.declared.access.Kind.{Kind}
 use Rattle.tlb.specs.declared.access.Kind.the-variants.{Read, Write, Fetch}
 use Rattle.tlb.specs.declared.access.Who.{Who}

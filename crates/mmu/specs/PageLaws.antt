@@ -23,7 +23,8 @@ use Rattle.tlb.specs.Cache.{entryAt, hintAt}
 use Rattle.tlb.specs.Lists.{each-getD, each-imp}
 use Rattle.tlb.specs.Live.{Made, Aligned, WellFormed}
 use Rattle.tlb.specs.Cells.{or-page}
-use Rattle.tlb.specs.Turn.{entryFor, walkEnd, lookWith, missWith, remembered, turnWith, walkNow}
+use Rattle.tlb.specs.Resolve.{entryFor}
+use Rattle.tlb.specs.Turn.{walkEnd, lookWith, missWith, remembered, turnWith, walkNow}
 use Rattle.tlb.specs.declared.access.Kind.{Kind}
 use Rattle.tlb.specs.declared.access.Who.{Who}
 use Rattle.tlb.specs.declared.access.Answer.{Answer}

@@ -18,7 +18,8 @@ use Rattle.tlb.specs.Entry.{serves}
 use Rattle.tlb.specs.Hint.{noHint, onPage, hintKey, hintFor, fetchFor, fetchFound}
 use Rattle.tlb.specs.Count.{hitCounted, walkCounted}
 use Rattle.tlb.specs.Access.{isFetch, mayHint, userOf, tagOf, rightOf, hasRight, judged}
-use Rattle.tlb.specs.Turn.{entryFor, walkEnd, lookWith, missWith, missOf, remembered, turnWith, turnOf, fetchRemembered, fetchEnd, fetchWith, fetchOf}
+use Rattle.tlb.specs.Resolve.{entryFor}
+use Rattle.tlb.specs.Turn.{walkEnd, lookWith, missWith, missOf, remembered, turnWith, turnOf, fetchRemembered, fetchEnd, fetchWith, fetchOf}
 use Rattle.tlb.specs.declared.entry.Entry.{Entry}
 use Rattle.tlb.specs.declared.entry.Present.{Present}
 use Rattle.tlb.specs.declared.access.Kind.{Kind}
@@ -31,7 +32,7 @@ use Rattle.tlb.specs.declared.count.Counts.{Counts}
 use Rattle.tlb.specs.declared.access.Who.{Who}
 use Rattle.tlb.specs.declared.access.Answer.{Answer}
 use Rattle.tlb.specs.declared.access.Answer.the-variants.{Address, Status}
-use Rattle.tlb.specs.declared.turn.Source.the-variants.{FromHint, FromFlat, FromEntry, FromWalk, NoLeaf}
+use Rattle.tlb.specs.declared.resolve.Source.the-variants.{FromHint, FromFlat, FromEntry, FromWalk, NoLeaf}
 use Rattle.tlb.specs.declared.turn.Turned.{Turned}
 use Rattle.tlb.specs.declared.turn.FetchTurned.{FetchTurned}
 

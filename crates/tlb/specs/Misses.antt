@@ -14,7 +14,8 @@ use Rattle.tlb.specs.Lists.{each-getD}
 use Rattle.tlb.specs.Cache.{entryAt, setEntry}
 use Rattle.tlb.specs.Tlb.{moved}
 use Rattle.tlb.specs.Access.{userOf, tagOf, judged}
-use Rattle.tlb.specs.Turn.{entryFor, walkEnd, lookWith, missWith}
+use Rattle.tlb.specs.Resolve.{entryFor}
+use Rattle.tlb.specs.Turn.{walkEnd, lookWith, missWith}
 use Rattle.tlb.specs.Model.{empty, holds, Line, oneWalk, counting, keep, Access, lineOfLeaf, reachOf, judge, walked, looked, unhinted, fetch}
 use Rattle.tlb.specs.Live.{Follows, lineIn, live, Made, Sound, WellFormed, LeafLevel}
 use Rattle.tlb.specs.Cells.{judged-is}
@@ -24,7 +25,7 @@ use Rattle.tlb.specs.declared.entry.Entry.{Entry}
 use Rattle.tlb.specs.declared.hint.Hint.{Hint}
 use Rattle.tlb.specs.declared.count.Counts.{Counts}
 use Rattle.tlb.specs.declared.cache.Cache.{Cache}
-use Rattle.tlb.specs.declared.turn.Source.the-variants.{FromEntry}
+use Rattle.tlb.specs.declared.resolve.Source.the-variants.{FromEntry}
 use Rattle.tlb.specs.declared.turn.Turned.{Turned}
 use Rattle.tlb.specs.declared.Tlb.{Tlb}
 

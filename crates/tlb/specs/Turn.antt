@@ -15,6 +15,7 @@ use Rattle.walk.specs.declared.level.Walked.the-variants.{Mapped, Fault}
 use Rattle.tlb.specs.Access.{mayHint, tagOf, userOf, judged}
 use Rattle.tlb.specs.Entry.{serves}
 use Rattle.tlb.specs.Hint.{noHint, pageOf, onPage, hintKey, hintFor, fetchFor, fetchFound}
+use Rattle.tlb.specs.Resolve.{entryFor}
 use Rattle.tlb.specs.Count.{hitCounted, walkCounted}
 use Rattle.tlb.specs.declared.entry.Entry.{Entry}
 use Rattle.tlb.specs.declared.entry.Present.{Present}
@@ -28,22 +29,9 @@ use Rattle.tlb.specs.declared.count.Counts.{Counts}
 use Rattle.tlb.specs.declared.access.Who.{Who}
 use Rattle.tlb.specs.declared.access.Answer.{Answer}
 use Rattle.tlb.specs.declared.access.Answer.the-variants.{Address, Status}
-use Rattle.tlb.specs.declared.turn.Source.the-variants.{FromHint, FromFlat, FromEntry, FromWalk, NoLeaf}
+use Rattle.tlb.specs.declared.resolve.Source.the-variants.{FromHint, FromFlat, FromEntry, FromWalk, NoLeaf}
 use Rattle.tlb.specs.declared.turn.Turned.{Turned}
 use Rattle.tlb.specs.declared.turn.FetchTurned.{FetchTurned}
-
--- the entry that a leaf becomes
-abbrev pub entryFor : Leaf → Present → ℕ → Entry
-entryFor leaf at tag =
-    record {
-      tag = tag;
-      generation = at .generation;
-      perms = leaf .perms;
-      level = leaf .level;
-      global = leaf .global;
-      asid = at .asid;
-      pa = pageOf (leaf .oa);
-    }
 
 -- a leaf is kept and judged; a fault keeps nothing
 unfoldable pub walkEnd : Walked → Present → Counts → Hint → Entry → ℕ → Bool → Kind → ℕ → Turned

@@ -3,7 +3,7 @@ ghost use mathlib.Core.Path.{_≡_};
 ghost use Rattle.word.specs.Ram.{wordAt};
 ghost use Rattle.walk.specs.Walk.{walkOf};
 ghost use Rattle.tlb.specs.Access.{tagOf};
-ghost use Rattle.tlb.specs.Turn.{entryFor, walkEnd, lookWith, missOf, remembered, turnOf, fetchRemembered, fetchOf};
+ghost use Rattle.tlb.specs.Turn.{walkEnd, lookWith, missOf, remembered, turnOf, fetchRemembered, fetchOf};
 use crate::access;
 use crate::access::Answer;
 use crate::access::Kind;
@@ -17,19 +17,11 @@ use crate::hint;
 use crate::hint::FetchHint;
 use crate::hint::Hint;
 use crate::hint::Physical;
-use walk::level::Leaf;
+use crate::resolve;
+use crate::resolve::Source;
 use walk::level::Walked;
 use walk::regime::Bank;
 use walk::regime::Regime;
-
-// Where an answer came from. NoLeaf: a walk that ended in a fault.
-pub enum Source {
-    FromHint,
-    FromFlat,
-    FromEntry,
-    FromWalk,
-    NoLeaf,
-}
 
 // What a translation leaves, and its answer.
 pub struct Turned {
@@ -49,21 +41,6 @@ pub struct FetchTurned {
     pub source: Source,
 }
 
-// The entry that a leaf becomes.
-pub fn entry_for(leaf: Leaf, at: Present, tag: u64) -> Entry
-    ensures { λ r. ⌜ r ≡ entryFor leaf at tag ⌝ }
-{
-    Entry {
-        tag,
-        generation: at.generation,
-        perms: leaf.perms,
-        level: leaf.level,
-        global: leaf.global,
-        asid: at.asid,
-        pa: leaf.oa / 4096 * 4096,
-    }
-}
-
 // What the end of a walk does: a leaf is kept and judged, a fault keeps nothing.
 fn walk_end(
     w: Walked,
@@ -81,7 +58,7 @@ fn walk_end(
     let counted = count::walk(counts);
     match w {
         Walked::Mapped(leaf) => {
-            let made = entry_for(leaf, at, tag);
+            let made = resolve::entry_for(leaf, at, tag);
             let answer = access::judge(made, user, kind, va);
             Turned {
                 counts: counted,
