@@ -53,11 +53,7 @@ pub fn ask(s: Bank, who: Who, va: u64) -> Asked
     if on {
         let page = walk::tag::untag(s.tcr, regime, va);
         let tag = access::tag_of(regime, page);
-        Asked::Of(Query {
-            regime,
-            page,
-            tag,
-        })
+        Asked::Of(Query { regime, page, tag })
     } else {
         Asked::Flat
     }
@@ -106,7 +102,16 @@ fn ends(w: Walked, q: Query, who: Who, at: Present, kind: Kind, va: u64) -> Reso
 }
 
 // By a walk. A function of its own, so that the registers are laid out for the walk in this branch alone.
-fn walked(q: Query, s: Bank, who: Who, at: Present, va: u64, kind: Kind, base: u64, ram: &[u8]) -> Resolved
+fn walked(
+    q: Query,
+    s: Bank,
+    who: Who,
+    at: Present,
+    va: u64,
+    kind: Kind,
+    base: u64,
+    ram: &[u8],
+) -> Resolved
     ensures { λ r. ⌜ r ≡ byWalk (walkOf s (q .regime) (q .page) (wordAt base (now (ram .entry)) 8)) q who at va kind ⌝ }
 {
     let regime = q.regime;
