@@ -1,5 +1,5 @@
 -- A translation that no hint serves, as its changes: what it asks of the cache, its answer, where that came from, the entry that a walk
--- made; and what each of the three changes: the counters, the entry, the hint.
+-- made; and what becomes of the counters, the entry and the hint.
 use mathlib.Core.Bool.{Bool, true, false}
 use Prim.Native.Nat.{ℕ}
 use Rattle.word.specs.Bits.{pick}
@@ -14,7 +14,7 @@ use Rattle.walk.specs.declared.level.Walked.{Walked}
 use Rattle.walk.specs.declared.level.Walked.the-variants.{Mapped, Fault}
 use Rattle.tlb.specs.Access.{tagOf, userOf, judged}
 use Rattle.tlb.specs.Entry.{blank, serves}
-use Rattle.tlb.specs.Hint.{pageOf, hintFor}
+use Rattle.tlb.specs.Hint.{pageOf, hintFor, fetchFor}
 use Rattle.tlb.specs.Count.{hitCounted, walkCounted}
 use Rattle.tlb.specs.declared.entry.Entry.{Entry}
 use Rattle.tlb.specs.declared.entry.Present.{Present}
@@ -24,6 +24,7 @@ use Rattle.tlb.specs.declared.access.Answer.{Answer}
 use Rattle.tlb.specs.declared.access.Answer.the-variants.{Address, Status}
 use Rattle.tlb.specs.declared.count.Counts.{Counts}
 use Rattle.tlb.specs.declared.hint.Hint.{Hint}
+use Rattle.tlb.specs.declared.hint.FetchHint.{FetchHint}
 use Rattle.tlb.specs.declared.resolve.Source.{Source}
 use Rattle.tlb.specs.declared.resolve.Source.the-variants.{FromHint, FromFlat, FromEntry, FromWalk, NoLeaf}
 use Rattle.tlb.specs.declared.resolve.Query.{Query}
@@ -82,6 +83,11 @@ resolveWith w q who at e va kind = pick (serves e at (q .tag)) (byEntry q who e 
 unfoldable pub resolveOf : Query → Bank → Who → Present → Entry → ℕ → Kind → (ℕ → Word) → Resolved
 resolveOf q s who at e va kind memory = resolveWith (walkOf s (q .regime) (q .page) memory) q who at e va kind
 
+-- with stage 1 off the address itself
+abbrev pub changesOf : Asked → Bank → Who → Present → Entry → ℕ → Kind → (ℕ → Word) → Resolved
+changesOf Flat s who at e va kind memory = byItself va
+changesOf (Of q) s who at e va kind memory = resolveOf q s who at e va kind memory
+
 -- a hit is counted where an entry answered, a walk where one was made
 abbrev pub countedBy : Source → Counts → Counts
 countedBy FromHint k = k
@@ -103,3 +109,8 @@ abbrev pub hintAfter : Bool → ℕ → ℕ → Answer → Hint → Hint
 hintAfter true level va (Address pa) old = hintFor va level pa
 hintAfter true level va (Status code) old = old
 hintAfter false level va a old = old
+
+-- an address that a fetch was allowed becomes the fetch hint
+abbrev pub fetchAfter : ℕ → ℕ → Answer → FetchHint → FetchHint
+fetchAfter level va (Address pa) old = fetchFor va level pa
+fetchAfter level va (Status code) old = old
