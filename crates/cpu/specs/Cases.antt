@@ -16,7 +16,8 @@ use Rattle.tlb.specs.Access.{judged}
 use Rattle.tlb.specs.Cache.{blanks, noHints}
 use Rattle.tlb.specs.Hint.{placeOf}
 use Rattle.tlb.specs.Tlb.{fresh}
-use Rattle.tlb.specs.Turn.{walkEnd, lookWith, missWith, remembered, turnWith, fetchRemembered, fetchEnd, fetchWith}
+use Rattle.tlb.specs.Resolve.{byWalk, resolveWith}
+use Rattle.tlb.specs.Turn.{missWith, applied, turnWith, fetchApplied, fetchEnd, fetchWith}
 use Rattle.tlb.specs.declared.access.Kind.{Kind}
 use Rattle.tlb.specs.declared.access.Kind.the-variants.{Read, Fetch}
 use Rattle.entry.specs.Entry.{enteredSys, takeException, takeSync}
@@ -118,5 +119,5 @@ pub cases :
     ∷ Value 0x9200004D
     ∷ Value 0xBFFFFFFF
     ∷ [])
-unfolding row elsewhere par esr at called stepOf runOf askedOf missedOf translateOf steppedNow turnOf registerAt freshSys regOf movedTo sysOf atOf withPar abortOf takeSync takeException enteredSys spsrOf routedTo syndromeOf named decodeOf success abort leafPar parIn atPar judged blanks noHints placeOf walkEnd lookWith missWith remembered turnWith fetchRemembered fetchEnd fetchWith walkOf tableWalk walkRange walkFrom lookupNext levelNext leafResult leafTranslation leafPermissions tableNext descaddr rangeOf paramsOf paSize untagged wordAt littleEndian bytesOf
+unfolding row elsewhere par esr at called stepOf runOf askedOf missedOf translateOf steppedNow turnOf registerAt freshSys regOf movedTo sysOf atOf withPar abortOf takeSync takeException enteredSys spsrOf routedTo syndromeOf named decodeOf success abort leafPar parIn atPar judged blanks noHints placeOf byWalk resolveWith missWith applied turnWith fetchApplied fetchEnd fetchWith walkOf tableWalk walkRange walkFrom lookupNext levelNext leafResult leafTranslation leafPermissions tableNext descaddr rangeOf paramsOf paSize untagged wordAt littleEndian bytesOf
 cases = refl

@@ -20,7 +20,7 @@ use Rattle.tlb.specs.Access.{mayHint, tagOf, userOf, judged}
 use Rattle.tlb.specs.Entry.{slotOf, serves}
 use Rattle.tlb.specs.Hint.{dataSlot, hintKey, hintFor, onPage, fetchFor, fetchFound}
 use Rattle.tlb.specs.Cache.{entryAt, hintAt}
-use Rattle.tlb.specs.Turn.{entryFor}
+use Rattle.tlb.specs.Resolve.{entryFor}
 use Rattle.tlb.specs.declared.access.Kind.{Kind}
 use Rattle.tlb.specs.declared.access.Kind.the-variants.{Fetch}
 use Rattle.tlb.specs.declared.access.Who.{Who}

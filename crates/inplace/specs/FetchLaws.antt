@@ -19,7 +19,8 @@ use Rattle.tlb.specs.Entry.{blank, slotOf, serves}
 use Rattle.tlb.specs.Hint.{noHint, dataSlot, hintKey, onPage, fetchFor, fetchFound}
 use Rattle.tlb.specs.Cache.{entryAt, hintAt, setEntry, setHint, setFetch}
 use Rattle.tlb.specs.Tlb.{moved}
-use Rattle.tlb.specs.Turn.{entryFor, walkEnd, lookWith, missWith, newHint, remembered, turnWith, newFetch, fetchRemembered, fetchEnd, fetchWith}
+use Rattle.tlb.specs.Resolve.{entryFor}
+use Rattle.tlb.specs.Turn.{walkEnd, lookWith, missWith, newHint, remembered, turnWith, newFetch, fetchRemembered, fetchEnd, fetchWith}
 use Rattle.tlb.specs.Step.{accessOf, turnIn, turned, fetchIn, fetchedIn}
 use Rattle.tlb.specs.declared.access.Kind.{Kind}
 use Rattle.tlb.specs.declared.access.Kind.the-variants.{Fetch}

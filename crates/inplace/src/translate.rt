@@ -17,7 +17,7 @@ use tlb::access::Who;
 use tlb::entry::Present;
 use tlb::hint;
 use tlb::hint::Physical;
-use tlb::turn;
+use tlb::resolve;
 use walk::level::Leaf;
 use walk::level::Walked;
 use walk::regime;
@@ -75,7 +75,7 @@ fn keep(
     ensures { λ _. ⌜ Moved (now (state .entry)) (now (state .exit)) (toldTo (leafKept (held (now (state .entry))) leaf at regime page) who kind va (leafAnswer leaf at who regime page kind va)) ⌝ }
 {
     let tag = access::tag_of(regime, page);
-    let made = turn::entry_for(leaf, at, tag);
+    let made = resolve::entry_for(leaf, at, tag);
     let user = access::user_of(regime, who, kind);
     let answer = access::judge(made, user, kind, va);
     cells::put_entry(state, tlb::entry::slot(tag), made);

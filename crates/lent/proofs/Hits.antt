@@ -19,7 +19,7 @@ use Rattle.tlb.specs.Turn.{turnOf, turnWith}
 use Rattle.tlb.specs.declared.access.Answer.the-variants.{Address}
 use Rattle.tlb.specs.declared.access.Kind.{Kind}
 use Rattle.tlb.specs.declared.hint.Hint.{Hint}
-use Rattle.tlb.specs.declared.turn.Source.the-variants.{FromHint}
+use Rattle.tlb.specs.declared.resolve.Source.the-variants.{FromHint}
 use Rattle.tlb.specs.declared.Tlb.{Tlb}
 use Rattle.mmu.specs.Core.{bankNow, movedTo}
 use Rattle.mmu.specs.Ops.{locatedNow}

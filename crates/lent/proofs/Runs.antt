@@ -16,7 +16,7 @@ use Rattle.walk.specs.declared.regime.Regime.{Regime}
 use Rattle.tlb.specs.Access.{tagOf, userOf}
 use Rattle.tlb.specs.Entry.{serves, blank}
 use Rattle.tlb.specs.Hint.{placeOf, dataSlot, noHint, onPage}
-use Rattle.tlb.specs.Turn.{walkEnd, lookWith, missWith, remembered, turnWith, turnOf}
+use Rattle.tlb.specs.Turn.{applied, turnWith, turnOf}
 use Rattle.tlb.specs.Cache.{hintAt, entryAt}
 use Rattle.tlb.specs.Tlb.{moved}
 use Rattle.tlb.specs.declared.access.Kind.{Kind}
@@ -27,7 +27,7 @@ use Rattle.tlb.specs.declared.entry.Entry.{Entry}
 use Rattle.tlb.specs.declared.entry.Present.{Present}
 use Rattle.tlb.specs.declared.hint.Hint.{Hint}
 use Rattle.tlb.specs.declared.access.Answer.the-variants.{Address}
-use Rattle.tlb.specs.declared.turn.Source.the-variants.{FromHint}
+use Rattle.tlb.specs.declared.resolve.Source.the-variants.{FromHint}
 use Rattle.tlb.specs.declared.turn.Turned.{Turned}
 use Rattle.mmu.specs.Core.{movedTo}
 use Rattle.mmu.specs.Step.{stepOf as stepIn}
@@ -62,31 +62,11 @@ write-place va = let h = place-small (va / 4096) in omega arith
 abbrev hintless : Turned → Hint → Turned
 hintless t h = record { counts = t .counts; hint = h; entry = t .entry; answer = t .answer; source = t .source }
 
-pick-hint : (b : Bool) (x y x′ y′ : Turned) (h : Hint) → x ≡ hintless x′ h → y ≡ hintless y′ h → pick b x y ≡ hintless (pick b x′ y′) h
-pick-hint true x y x′ y′ h ex ey = ex
-pick-hint false x y x′ y′ h ex ey = ey
-
--- a turn that no hint serves hands the hint on
-end-hint : (w : Walked) (at : Present) (k : Counts) (h g : Hint) (e : Entry) (tag : ℕ) (user : Bool) (kind : Kind) (va : ℕ)
-    → walkEnd w at k h e tag user kind va ≡ hintless (walkEnd w at k g e tag user kind va) h
-unfolding walkEnd
-end-hint (Mapped leaf) at k h g e tag user kind va = refl
-end-hint (Fault code) at k h g e tag user kind va = refl
-
-look-hint : (w : Walked) (at : Present) (k : Counts) (h g : Hint) (e : Entry) (tag : ℕ) (user : Bool) (kind : Kind) (va : ℕ)
-    → lookWith w at k h e tag user kind va ≡ hintless (lookWith w at k g e tag user kind va) h
-unfolding lookWith
-look-hint w at k h g e tag user kind va = pick-hint (serves e at tag) _ _ _ _ h refl (end-hint w at k h g e tag user kind va)
-
-module _ (on : Bool) (page : ℕ) (w : Walked) (r : Regime) (who : Who) (at : Present) (k : Counts) (h g : Hint) (e : Entry) (va : ℕ) where
-  miss-hint : (kind : Kind) → missWith on page w r who at k h e va kind ≡ hintless (missWith on page w r who at k g e va kind) h
-  unfolding missWith
-  miss-hint kind = pick-hint on _ _ _ _ h (look-hint w at k h g e (tagOf r page) (userOf r who kind) kind va) refl
-
-  -- a fetch's turn leaves the hint that it was handed, and does nothing else with it
-  fetch-turn : turnWith on page w r who at k h e va Fetch ≡ hintless (turnWith on page w r who at k g e va Fetch) h
-  unfolding turnWith remembered
-  fetch-turn = ap (λ (t : Turned). remembered t false (who .level) va) (miss-hint Fetch)
+-- a fetch's turn leaves the hint that it was handed, and does nothing else with it
+fetch-turn : (on : Bool) (page : ℕ) (w : Walked) (r : Regime) (who : Who) (at : Present) (k : Counts) (h g : Hint) (e : Entry) (va : ℕ)
+    → turnWith on page w r who at k h e va Fetch ≡ hintless (turnWith on page w r who at k g e va Fetch) h
+unfolding turnWith applied
+fetch-turn on page w r who at k h g e va = refl
 
 module _ (c : Core) (memory : ℕ → Word) (va : ℕ) where
   -- the slot of the entry, and the turn with the hint of a place

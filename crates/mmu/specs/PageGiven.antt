@@ -25,7 +25,8 @@ use Rattle.tlb.specs.Hint.{noHint, pageOf, onPage, placeOf, dataSlot, hintKey, 
 use Rattle.tlb.specs.Cache.{entryAt, hintAt}
 use Rattle.tlb.specs.Live.{WellFormed}
 use Rattle.tlb.specs.Cells.{or-page}
-use Rattle.tlb.specs.Turn.{entryFor, walkEnd, lookWith, missWith, remembered, turnWith, walkNow}
+use Rattle.tlb.specs.Resolve.{queryOf, entryFor, byWalk, resolveWith}
+use Rattle.tlb.specs.Turn.{missWith, applied, turnWith, walkNow}
 use Rattle.tlb.specs.declared.access.Kind.{Kind}
 use Rattle.tlb.specs.declared.access.Kind.the-variants.{Read, Write, Fetch}
 use Rattle.tlb.specs.declared.access.Who.{Who}
@@ -55,24 +56,24 @@ module _ (on : Bool) (page : ℕ) (w : Walked) (r : Regime) (who : Who) (at : Pr
 
   new-hint : (pa : ℕ) → mayHint who kind ≡ true → hits on page w r who at k h e va kind ≡ false → done .answer ≡ Address pa
       → done .hint ≡ hintFor va (who .level) pa
-  unfolding turnWith remembered
+  unfolding turnWith applied
   new-hint pa m q p =
-      let x : missWith on page w r who at k h e va kind .answer ≡ Address pa = sym (by-miss on page w r who at k h e va kind q) ∙ p in
+      let x : missWith on page w r who at e va kind .answer ≡ Address pa = sym (by-miss on page w r who at k h e va kind q) ∙ p in
       rw (q, m, x)
 
   module _ (m : mayHint who kind ≡ false) where
     flat-left : on ≡ false → (done .hint ≡ h) × (done .entry ≡ e)
-    unfolding turnWith remembered missWith
-    flat-left o = (rw (m, o), rw (m, o))
+    unfolding turnWith applied missWith
+    flat-left o = (rw m, rw (m, o))
 
     entry-left : on ≡ true → serves e at (tagOf r page) ≡ true → (done .hint ≡ h) × (done .entry ≡ e)
-    unfolding turnWith remembered missWith lookWith
-    entry-left o s = (rw (m, o, s), rw (m, o, s))
+    unfolding turnWith applied missWith resolveWith
+    entry-left o s = (rw m, rw (m, o, s))
 
     walk-left : (leaf : Leaf) → on ≡ true → serves e at (tagOf r page) ≡ false → w ≡ Mapped leaf
         → (done .hint ≡ h) × (done .entry ≡ entryFor leaf at (tagOf r page))
-    unfolding turnWith remembered missWith lookWith walkEnd
-    walk-left leaf o s x = (rw (m, o, s, x), rw (m, o, s, x))
+    unfolding turnWith applied missWith resolveWith byWalk
+    walk-left leaf o s x = (rw m, rw (m, o, s, x))
 
 address-is : {x y : ℕ} → Address x ≡ Address y → x ≡ y
 address-is e = cc
@@ -197,7 +198,7 @@ module _ (s : Bank) (who : Who) (kind : Kind) where
 
     abbrev missed-answer : Answer
     missed-answer =
-        missWith (isOn s who) (pageIn s who a) itsWalk (regimeOf (who .level)) who (t .cache .present) (t .counts) itsHint itsEntry a kind .answer
+        missWith (isOn s who) (pageIn s who a) itsWalk (regimeOf (who .level)) who (t .cache .present) itsEntry a kind .answer
 
     miss-answer : hit ≡ false → its .answer ≡ missed-answer
     miss-answer =
@@ -212,7 +213,7 @@ module _ (s : Bank) (who : Who) (kind : Kind) where
         by-entry (isOn s who) (pageIn s who a) itsWalk (regimeOf (who .level)) who (t .cache .present) (t .counts) itsHint itsEntry a kind
 
     walk-answer : isOn s who ≡ true → serves itsEntry (t .cache .present) (tagIn s who a) ≡ false
-        → missed-answer ≡ walkEnd itsWalk (t .cache .present) (t .counts) itsHint itsEntry (tagIn s who a) (userIn who kind) kind a .answer
+        → missed-answer ≡ byWalk itsWalk (queryOf (regimeOf (who .level)) (pageIn s who a)) who (t .cache .present) a kind .answer
     walk-answer =
         by-walk (isOn s who) (pageIn s who a) itsWalk (regimeOf (who .level)) who (t .cache .present) (t .counts) itsHint itsEntry a kind
 
@@ -296,10 +297,10 @@ module _ (s : Bank) (who : Who) (kind : Kind) where
               rw (unmoved (entry-cells m o q)) (by-its-entry m o q (j .0) (omega arith))
 
           made-entry : serves itsEntry (t .cache .present) (tagIn s who a) ≡ false → (w : Walked) → itsWalk ≡ w → Gives s who kind a pa (step .tlb .cache)
-          unfolding stepOf walkEnd
+          unfolding stepOf byWalk
           made-entry q (Fault code) x =
               let z : Status code ≡ Address pa
-              = sym (ap (λ (y : Walked). walkEnd y (t .cache .present) (t .counts) itsHint itsEntry (tagIn s who a) (userIn who kind) kind a .answer) x)
+              = sym (ap (λ (y : Walked). byWalk y (queryOf (regimeOf (who .level)) (pageIn s who a)) who (t .cache .present) a kind .answer) x)
               ∙ sym (walk-answer o q) ∙ sym (miss-answer (no-hit m)) ∙ turned-to in
               let n : _≡_ {A = ℕ} 0 1 = cc in
               absurd (omega arith)
@@ -307,7 +308,7 @@ module _ (s : Bank) (who : Who) (kind : Kind) where
               let new : Entry = entryFor leaf (t .cache .present) (tagIn s who a) in
               let cells = walk-left (isOn s who) (pageIn s who a) itsWalk (regimeOf (who .level)) who (t .cache .present) (t .counts) itsHint itsEntry a kind m leaf o q x in
               let j = judged-right new (userIn who kind) kind a pa
-              (sym (ap (λ (y : Walked). walkEnd y (t .cache .present) (t .counts) itsHint itsEntry (tagIn s who a) (userIn who kind) kind a .answer) x)
+              (sym (ap (λ (y : Walked). byWalk y (queryOf (regimeOf (who .level)) (pageIn s who a)) who (t .cache .present) a kind .answer) x)
               ∙ sym (walk-answer o q) ∙ sym (miss-answer (no-hit m)) ∙ turned-to) in
               let there : entryFrom s who (step .tlb .cache) a ≡ new
               = getD-set-same (t .cache .entries) (slotAt s (who .level) a) (its .entry) blank slot-in ∙ cells .1 in

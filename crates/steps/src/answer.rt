@@ -5,7 +5,7 @@ use tlb::access;
 use tlb::access::Answer;
 use tlb::access::Kind;
 use tlb::access::Who;
-use tlb::turn;
+use tlb::resolve;
 use trace::say;
 use walk::level::Leaf;
 use walk::level::Walked;
@@ -62,7 +62,7 @@ pub fn of_walk(state: &State, w: Walked, regime: Regime, who: Who, kind: Kind, v
         Walked::Mapped(leaf) => {
             show_rights(regime, leaf);
             let at = counts::present_at(state);
-            let e = turn::entry_for(leaf, at, 0);
+            let e = resolve::entry_for(leaf, at, 0);
             let user = access::user_of(regime, who, kind);
             in_words(access::judge(e, user, kind, va))
         }

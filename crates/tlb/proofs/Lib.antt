@@ -1,3 +1,4 @@
 -- What the proofs share.
 pub mod Laws
+pub mod Resolving
 pub mod Turning

@@ -1,24 +1,19 @@
 -- The cases of a translation's definition, on plain values, for `search`.
-use mathlib.Core.Path.{_≡_, refl}
+use mathlib.Core.Path.{_≡_, refl, sym, ap, _∙_}
 use mathlib.Core.Bool.{Bool, true, false, not, _&&_, _||_}
 use Prim.Native.Nat.{ℕ}
 use lib.Dec.{eqb}
 use lib.Bits.{bitOr}
-use Rattle.walk.specs.Regime.{stage1On, regimeOf}
-use Rattle.walk.specs.Tag.{untagged}
-use Rattle.walk.specs.Walk.{walkOf}
 use Rattle.word.specs.declared.ram.Word.{Word}
 use Rattle.walk.specs.declared.regime.Regime.{Regime}
-use Rattle.walk.specs.declared.regime.Regime.the-variants.{El1, El2, El3}
+use Rattle.walk.specs.declared.regime.Regime.the-variants.{El1}
 use Rattle.walk.specs.declared.regime.Bank.{Bank}
-use Rattle.walk.specs.declared.level.Leaf.{Leaf}
-use Rattle.walk.specs.declared.level.Walked.{Walked}
-use Rattle.walk.specs.declared.level.Walked.the-variants.{Mapped, Fault}
-use Rattle.tlb.specs.Entry.{serves}
-use Rattle.tlb.specs.Hint.{noHint, onPage, hintKey, hintFor, fetchFor, fetchFound}
+use Rattle.tlb.specs.Entry.{blank}
+use Rattle.tlb.specs.Hint.{onPage, hintKey, hintFor, fetchFor, fetchFound}
 use Rattle.tlb.specs.Count.{hitCounted, walkCounted}
-use Rattle.tlb.specs.Access.{isFetch, mayHint, userOf, tagOf, rightOf, hasRight, judged}
-use Rattle.tlb.specs.Turn.{entryFor, walkEnd, lookWith, missWith, missOf, remembered, turnWith, turnOf, fetchRemembered, fetchEnd, fetchWith, fetchOf}
+use Rattle.tlb.specs.Access.{isFetch, mayHint, userOf, rightOf, hasRight, judged}
+use Rattle.tlb.specs.Resolve.{askOf, resolveOf, changesOf, countedBy, keptBy, hintAfter, fetchAfter}
+use Rattle.tlb.specs.Turn.{missOf, applied, turnWith, turnOf, fetchApplied, fetchEnd, fetchWith, fetchOf, changes-are}
 use Rattle.tlb.specs.declared.entry.Entry.{Entry}
 use Rattle.tlb.specs.declared.entry.Present.{Present}
 use Rattle.tlb.specs.declared.access.Kind.{Kind}
@@ -31,9 +26,12 @@ use Rattle.tlb.specs.declared.count.Counts.{Counts}
 use Rattle.tlb.specs.declared.access.Who.{Who}
 use Rattle.tlb.specs.declared.access.Answer.{Answer}
 use Rattle.tlb.specs.declared.access.Answer.the-variants.{Address, Status}
-use Rattle.tlb.specs.declared.turn.Source.the-variants.{FromHint, FromFlat, FromEntry, FromWalk, NoLeaf}
-use Rattle.tlb.specs.declared.turn.Turned.{Turned}
-use Rattle.tlb.specs.declared.turn.FetchTurned.{FetchTurned}
+use Rattle.tlb.specs.declared.resolve.Source.{Source}
+use Rattle.tlb.specs.declared.resolve.Source.the-variants.{FromHint, FromFlat, FromEntry, FromWalk, NoLeaf}
+use Rattle.tlb.specs.declared.resolve.Query.{Query}
+use Rattle.tlb.specs.declared.resolve.Asked.{Asked}
+use Rattle.tlb.specs.declared.resolve.Asked.the-variants.{Flat, Of}
+use Rattle.tlb.specs.declared.resolve.Resolved.{Resolved}
 
 pub hinting : (who : Who) (kind : Kind) (f : Bool) → f ≡ isFetch kind → not f && not (who .mark) ≡ mayHint who kind
 hinting who kind f e = rw e
@@ -51,59 +49,73 @@ module _ (e : Entry) (user : Bool) (kind : Kind) (va right : ℕ) (er : right �
   unfolding judged
   refused b = rw (← er, b)
 
-module _ (w : Walked) (at : Present) (k : Counts) (h : Hint) (e : Entry) (tag : ℕ) (user : Bool) (kind : Kind) (va : ℕ) (n : Counts)
-    (en : n ≡ walkCounted k) where
-  pub kept : (leaf : Leaf) (m : Entry) (a : Answer) → w ≡ Mapped leaf → m ≡ entryFor leaf at tag → a ≡ judged m user kind va
-      → record { counts = n; hint = h; entry = m; answer = a; source = FromWalk } ≡ walkEnd w at k h e tag user kind va
-  unfolding walkEnd
-  kept leaf m a ew em ea = rw (ew, ea, em, en)
+-- what becomes of the counters and the entry
+module _ (s : Source) (k : Counts) where
+  pub hint-counts : s ≡ FromHint → k ≡ countedBy s k
+  hint-counts e = rw e
 
-  pub no-leaf : (code : ℕ) → w ≡ Fault code
-      → record { counts = n; hint = h; entry = e; answer = Status code; source = NoLeaf } ≡ walkEnd w at k h e tag user kind va
-  unfolding walkEnd
-  no-leaf code ew = rw (ew, en)
+  pub flat-counts : s ≡ FromFlat → k ≡ countedBy s k
+  flat-counts e = rw e
 
-module _ (w : Walked) (at : Present) (k : Counts) (h : Hint) (e : Entry) (user : Bool) (kind : Kind) (va tag tag′ : ℕ) (b : Bool)
-    (et : tag ≡ tag′) (eb : b ≡ serves e at tag) where
-  pub hit : (n : Counts) (a : Answer) → b ≡ true → a ≡ judged e user kind va → n ≡ hitCounted k
-      → record { counts = n; hint = h; entry = e; answer = a; source = FromEntry } ≡ lookWith w at k h e tag′ user kind va
-  unfolding lookWith
-  hit n a t ea en = rw (← et, ← eb, t, ea, en)
+  pub entry-counts : (n : Counts) → s ≡ FromEntry → n ≡ hitCounted k → n ≡ countedBy s k
+  entry-counts n e p = p ∙ rw e
 
-  pub walked : (v : Walked) (t : Turned) → b ≡ false → v ≡ w → t ≡ walkEnd v at k h e tag user kind va
-      → t ≡ lookWith w at k h e tag′ user kind va
-  unfolding lookWith
-  walked v t f ew es = rw (← et, ← eb, f, ← ew) es
+  pub walk-counts : (n : Counts) → s ≡ FromWalk → n ≡ walkCounted k → n ≡ countedBy s k
+  walk-counts n e p = p ∙ rw e
 
-module _ (s : Bank) (who : Who) (at : Present) (k : Counts) (h : Hint) (e : Entry) (va : ℕ) (kind : Kind) (memory : ℕ → Word)
-    (r : Regime) (on : Bool) (er : r ≡ regimeOf (who .level)) (eo : on ≡ stage1On s r) where
-  pub when-on : (page : ℕ) (u : Bool) (t : Turned) → on ≡ true → page ≡ untagged (s .tcr) r va → u ≡ userOf r who kind
-      → t ≡ lookWith (walkOf s r page memory) at k h e (tagOf r page) u kind va → t ≡ missOf s who at k h e va kind memory
-  unfolding missOf missWith
-  when-on page u t o ep eu et = rw (← er, ← eo, o, ← ep, ← eu) et
+  pub no-leaf-counts : (n : Counts) → s ≡ NoLeaf → n ≡ walkCounted k → n ≡ countedBy s k
+  no-leaf-counts n e p = p ∙ rw e
 
-  pub when-off : on ≡ false
-      → record { counts = k; hint = h; entry = e; answer = Address va; source = FromFlat } ≡ missOf s who at k h e va kind memory
-  unfolding missOf missWith
-  when-off o = rw (← er, ← eo, o)
+module _ (s : Source) (old made : Entry) where
+  pub hint-keeps : s ≡ FromHint → old ≡ keptBy s old made
+  hint-keeps e = rw e
 
-module _ (t : Turned) (hinted : Bool) (level va : ℕ) where
-  pub noted : (pa : ℕ) (h : Hint) → t .answer ≡ Address pa → hinted ≡ true → h ≡ hintFor va level pa
-      → record { counts = t .counts; hint = h; entry = t .entry; answer = Address pa; source = t .source } ≡ remembered t hinted level va
-  unfolding remembered
-  noted pa h ea eh em = rw (ea, eh, em)
+  pub flat-keeps : s ≡ FromFlat → old ≡ keptBy s old made
+  flat-keeps e = rw e
 
-  pub unhinted : hinted ≡ false → t ≡ remembered t hinted level va
-  unfolding remembered
+  pub entry-keeps : s ≡ FromEntry → old ≡ keptBy s old made
+  entry-keeps e = rw e
+
+  pub walk-keeps : s ≡ FromWalk → made ≡ keptBy s old made
+  walk-keeps e = rw e
+
+  pub no-leaf-keeps : s ≡ NoLeaf → old ≡ keptBy s old made
+  no-leaf-keeps e = rw e
+
+-- and of the hints
+module _ (hinted : Bool) (level va : ℕ) (a : Answer) (old : Hint) where
+  pub noted : (pa : ℕ) (h : Hint) → a ≡ Address pa → hinted ≡ true → h ≡ hintFor va level pa → h ≡ hintAfter hinted level va a old
+  noted pa h ea eh em = em ∙ rw (ea, eh)
+
+  pub unhinted : hinted ≡ false → old ≡ hintAfter hinted level va a old
   unhinted eh = rw eh
 
-  pub faulted : (code : ℕ) → t .answer ≡ Status code → t ≡ remembered t hinted level va
-  unfolding remembered
+  pub faulted : (code : ℕ) → a ≡ Status code → old ≡ hintAfter hinted level va a old
   faulted code ea = go hinted
     where
-      go : (b : Bool) → t ≡ remembered t b level va
+      go : (b : Bool) → old ≡ hintAfter b level va a old
       go true = rw ea
       go false = refl
+
+module _ (level va : ℕ) (a : Answer) (old : FetchHint) where
+  pub fetch-noted : (pa : ℕ) (f : FetchHint) → a ≡ Address pa → f ≡ fetchFor va level pa → f ≡ fetchAfter level va a old
+  fetch-noted pa f ea ef = ef ∙ rw ea
+
+  pub fetch-faulted : (code : ℕ) → a ≡ Status code → old ≡ fetchAfter level va a old
+  fetch-faulted code ea = rw ea
+
+-- a translation that no hint serves
+module _ (s : Bank) (who : Who) (at : Present) (e : Entry) (va : ℕ) (kind : Kind) (memory : ℕ → Word) (a : Asked) (ea : a ≡ askOf s who va) where
+  pub when-off : (m : Entry) → a ≡ Flat → m ≡ blank
+      → record { answer = Address va; source = FromFlat; made = m } ≡ missOf s who at e va kind memory
+  when-off m f em =
+      (λ i. record { answer = Address va; source = FromFlat; made = em i })
+      ∙ ap (λ (x : Asked). changesOf x s who at e va kind memory) (sym f ∙ ea)
+      ∙ changes-are s who at e va kind memory
+
+  pub when-on : (q : Query) (t : Resolved) → a ≡ Of q → t ≡ resolveOf q s who at e va kind memory → t ≡ missOf s who at e va kind memory
+  when-on q t o et =
+      et ∙ ap (λ (x : Asked). changesOf x s who at e va kind memory) (sym o ∙ ea) ∙ changes-are s who at e va kind memory
 
 module _ (s : Bank) (who : Who) (at : Present) (k : Counts) (h : Hint) (e : Entry) (va : ℕ) (kind : Kind) (memory : ℕ → Word)
     (hinted : Bool) (key : ℕ) (eh : hinted ≡ mayHint who kind) (ek : key ≡ hintKey va (who .level)) where
@@ -112,21 +124,12 @@ module _ (s : Bank) (who : Who) (at : Present) (k : Counts) (h : Hint) (e : Entr
   unfolding turnOf turnWith
   served pa f ep = rw (← eh, ← ek, f, ep)
 
-  pub missed : (m t : Turned) → hinted && eqb (h .key) key ≡ false → m ≡ missOf s who at k h e va kind memory
-      → t ≡ remembered m hinted (who .level) va → t ≡ turnOf s who at k h e va kind memory
-  unfolding turnOf turnWith missOf
-  missed m t f em et = rw (← eh, ← ek, f, ← em) et
-
-module _ (t : Turned) (f : FetchHint) (level va : ℕ) where
-  pub fetch-noted : (pa : ℕ) (n : FetchHint) → t .answer ≡ Address pa → n ≡ fetchFor va level pa
-      → record { counts = t .counts; fetch = n; entry = t .entry; answer = Address pa; source = t .source } ≡ fetchRemembered t f level va
-  unfolding fetchRemembered
-  fetch-noted pa n ea en = rw (ea, en)
-
-  pub fetch-faulted : (code : ℕ) → t .answer ≡ Status code
-      → record { counts = t .counts; fetch = f; entry = t .entry; answer = t .answer; source = t .source } ≡ fetchRemembered t f level va
-  unfolding fetchRemembered
-  fetch-faulted code ea = rw ea
+  pub missed : (t : Resolved) (n : Counts) (x : Entry) (g : Hint) → hinted && eqb (h .key) key ≡ false
+      → t ≡ missOf s who at e va kind memory → n ≡ countedBy (t .source) k → x ≡ keptBy (t .source) e (t .made)
+      → g ≡ hintAfter hinted (who .level) va (t .answer) h
+      → record { counts = n; hint = g; entry = x; answer = t .answer; source = t .source } ≡ turnOf s who at k h e va kind memory
+  unfolding turnOf turnWith missOf applied
+  missed t n x g f et en ex eg = rw (← eh, ← ek, f, ← et, en, ex, eg)
 
 module _ (s : Bank) (who : Who) (at : Present) (k : Counts) (f : FetchHint) (e : Entry) (va : ℕ) (memory : ℕ → Word) (p : Physical)
     (q : p ≡ fetchFound f (who .level) va) where
@@ -135,7 +138,8 @@ module _ (s : Bank) (who : Who) (at : Present) (k : Counts) (f : FetchHint) (e :
   unfolding fetchOf fetchWith fetchEnd
   fetch-served pa ep = rw (← q, ep)
 
-  pub fetch-missed : (n : Hint) (t : Turned) (r : FetchTurned) → p ≡ Unknown → n ≡ noHint → t ≡ turnOf s who at k n e va Fetch memory
-      → r ≡ fetchRemembered t f (who .level) va → r ≡ fetchOf s who at k f e va memory
-  unfolding fetchOf fetchWith fetchEnd turnOf
-  fetch-missed n t r ep en et er = rw (← q, ep, ← en, ← et) er
+  pub fetch-missed : (t : Resolved) (n : Counts) (x : Entry) (g : FetchHint) → p ≡ Unknown → t ≡ missOf s who at e va Fetch memory
+      → n ≡ countedBy (t .source) k → x ≡ keptBy (t .source) e (t .made) → g ≡ fetchAfter (who .level) va (t .answer) f
+      → record { counts = n; fetch = g; entry = x; answer = t .answer; source = t .source } ≡ fetchOf s who at k f e va memory
+  unfolding fetchOf fetchWith fetchEnd fetchApplied missOf
+  fetch-missed t n x g ep et en ex eg = rw (← q, ep, ← et, en, ex, eg)

@@ -6,6 +6,7 @@ pub mod Access
 pub mod Lists
 pub mod Cache
 pub mod Tlb
+pub mod Resolve
 pub mod Turn
 pub mod Model
 pub mod Live

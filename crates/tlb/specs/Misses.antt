@@ -13,40 +13,36 @@ use Rattle.tlb.specs.Count.{hitCounted, walkCounted}
 use Rattle.tlb.specs.Lists.{each-getD}
 use Rattle.tlb.specs.Cache.{entryAt, setEntry}
 use Rattle.tlb.specs.Tlb.{moved}
-use Rattle.tlb.specs.Access.{userOf, tagOf, judged}
-use Rattle.tlb.specs.Turn.{entryFor, walkEnd, lookWith, missWith}
+use Rattle.tlb.specs.Resolve.{queryOf, entryFor, byWalk, resolveWith, countedBy, keptBy}
+use Rattle.tlb.specs.Turn.{missWith}
 use Rattle.tlb.specs.Model.{empty, holds, Line, oneWalk, counting, keep, Access, lineOfLeaf, reachOf, judge, walked, looked, unhinted, fetch}
 use Rattle.tlb.specs.Live.{Follows, lineIn, live, Made, Sound, WellFormed, LeafLevel}
 use Rattle.tlb.specs.Cells.{judged-is}
 use Rattle.tlb.specs.Refines.{blank-made, page-is, line-is, kept-lines, set-sound}
 use Rattle.tlb.specs.Step.{slotFor}
 use Rattle.tlb.specs.declared.entry.Entry.{Entry}
-use Rattle.tlb.specs.declared.hint.Hint.{Hint}
 use Rattle.tlb.specs.declared.count.Counts.{Counts}
 use Rattle.tlb.specs.declared.cache.Cache.{Cache}
-use Rattle.tlb.specs.declared.turn.Source.the-variants.{FromEntry}
-use Rattle.tlb.specs.declared.turn.Turned.{Turned}
+use Rattle.tlb.specs.declared.resolve.Query.{Query}
+use Rattle.tlb.specs.declared.resolve.Resolved.{Resolved}
 use Rattle.tlb.specs.declared.Tlb.{Tlb}
 
 -- a cell put back as it was
 same-entry : (c : Cache) (i : ℕ) → setEntry c i (entryAt c i) ≡ c
 same-entry c i = λ n. record { present = c .present; fetch = c .fetch; hints = c .hints; entries = set-getD (c .entries) i blank n }
 
--- the entry and the counters of a turn, put back
-abbrev pub withEntry : Tlb → ℕ → Turned → Tlb
-withEntry t j r = moved t (setEntry (t .cache) j (r .entry)) (r .counts)
+-- its entry and its counters, put back
+abbrev pub withEntry : Tlb → ℕ → Resolved → Tlb
+withEntry t j r = moved t (setEntry (t .cache) j (keptBy (r .source) (entryAt (t .cache) j) (r .made))) (countedBy (r .source) (t .counts))
 
 -- WITHOUT A HINT
 
-module _ (a : Access) (t : Tlb) (s : WellFormed t) (fits : LeafLevel (a .walk)) (h : Hint) where
+module _ (a : Access) (t : Tlb) (s : WellFormed t) (fits : LeafLevel (a .walk)) where
   abbrev pub entry : Entry
   entry = entryAt (t .cache) (slotFor a)
 
-  abbrev pub user : Bool
-  user = userOf (a .regime) (a .who) (a .kind)
-
-  abbrev pub tag : ℕ
-  tag = tagOf (a .regime) (a .untagged)
+  abbrev query : Query
+  query = queryOf (a .regime) (a .untagged)
 
   entry-made : Made (t .cache .present .generation) entry
   entry-made = each-getD {P = Made (t .cache .present .generation)} blank (blank-made _) (s .entries) (slotFor a)
@@ -61,7 +57,7 @@ module _ (a : Access) (t : Tlb) (s : WellFormed t) (fits : LeafLevel (a .walk)) 
 
   -- a leaf's entry is made, and is the leaf's line
   abbrev made : Leaf → Entry
-  made leaf = entryFor leaf (t .cache .present) tag
+  made leaf = entryFor leaf (t .cache .present) (query .tag)
 
   leaf-made : (leaf : Leaf) → a .walk ≡ Mapped leaf → Made (t .cache .present .generation) (made leaf)
   leaf-made leaf q = record { early = omega arith; aligned = omega arith; level = fits leaf q }
@@ -94,10 +90,11 @@ module _ (a : Access) (t : Tlb) (s : WellFormed t) (fits : LeafLevel (a .walk)) 
         pending = live t .pending;
       }
 
-  walk-follows : (w : Walked) → a .walk ≡ w
-      → Follows (walkEnd w (t .cache .present) (t .counts) h entry tag user (a .kind) (a .va) .answer)
-      (withEntry t (slotFor a) (walkEnd w (t .cache .present) (t .counts) h entry tag user (a .kind) (a .va))) (walked w a (live t))
-  unfolding walkEnd walked
+  abbrev byWalkOf : Walked → Resolved
+  byWalkOf w = byWalk w query (a .who) (t .cache .present) (a .va) (a .kind)
+
+  walk-follows : (w : Walked) → a .walk ≡ w → Follows (byWalkOf w .answer) (withEntry t (slotFor a) (byWalkOf w)) (walked w a (live t))
+  unfolding byWalk walked
   walk-follows (Fault code) q = record { answer = refl; after = unmoved (walkCounted (t .counts)); well = still-sound }
   walk-follows (Mapped leaf) q =
       record {
@@ -106,11 +103,12 @@ module _ (a : Access) (t : Tlb) (s : WellFormed t) (fits : LeafLevel (a .walk)) 
         well = set-sound (t .cache) (slotFor a) (made leaf) s (leaf-made leaf q);
       }
 
-  look-follows : (b : Bool) → serves entry (t .cache .present) tag ≡ b
-      → Follows (lookWith (a .walk) (t .cache .present) (t .counts) h entry tag user (a .kind) (a .va) .answer)
-      (withEntry t (slotFor a) (lookWith (a .walk) (t .cache .present) (t .counts) h entry tag user (a .kind) (a .va)))
-      (looked (pick b (holds (lineIn (a .regime) entry)) empty) a (live t))
-  unfolding lookWith looked
+  abbrev resolved : Resolved
+  resolved = resolveWith (a .walk) query (a .who) (t .cache .present) entry (a .va) (a .kind)
+
+  look-follows : (b : Bool) → serves entry (t .cache .present) (query .tag) ≡ b
+      → Follows (resolved .answer) (withEntry t (slotFor a) resolved) (looked (pick b (holds (lineIn (a .regime) entry)) empty) a (live t))
+  unfolding resolveWith looked
   look-follows true q =
       rw q (record {
         answer = judged-is (t .cache .present .generation) (a .regime) entry a entry-made;
@@ -119,25 +117,10 @@ module _ (a : Access) (t : Tlb) (s : WellFormed t) (fits : LeafLevel (a .walk)) 
       })
   look-follows false q = rw q (walk-follows (a .walk) refl)
 
-  abbrev pub missed : Bool → Turned
-  missed on = missWith on (a .untagged) (a .walk) (a .regime) (a .who) (t .cache .present) (t .counts) h entry (a .va) (a .kind)
+  abbrev pub missed : Bool → Resolved
+  missed on = missWith on (a .untagged) (a .walk) (a .regime) (a .who) (t .cache .present) entry (a .va) (a .kind)
 
   pub miss-follows : (on : Bool) → Follows (missed on .answer) (withEntry t (slotFor a) (missed on)) (unhinted on a (live t))
   unfolding missWith unhinted
   miss-follows true = rw (line-is t (a .regime) (a .untagged / 4096)) (look-follows _ refl)
   miss-follows false = record { answer = refl; after = unmoved (t .counts); well = still-sound }
-
-  pub miss-hint : (on : Bool) → missed on .hint ≡ h
-  unfolding missWith lookWith walkEnd
-  miss-hint true = go (serves entry (t .cache .present) tag) (a .walk)
-    where
-      go : (b : Bool) (w : Walked)
-          → pick b
-          (record { counts = hitCounted (t .counts); hint = h; entry = entry; answer = judged entry user (a .kind) (a .va); source = FromEntry })
-          (walkEnd w (t .cache .present) (t .counts) h entry tag user (a .kind) (a .va))
-          .hint
-          ≡ h
-      go true w = refl
-      go false (Mapped leaf) = refl
-      go false (Fault code) = refl
-  miss-hint false = refl

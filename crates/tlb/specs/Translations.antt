@@ -12,7 +12,8 @@ use Rattle.tlb.specs.Lists.{each-getD, each-set, getD-set}
 use Rattle.tlb.specs.Cache.{entryAt, hintAt, setEntry, setHint, setFetch}
 use Rattle.tlb.specs.Tlb.{moved}
 use Rattle.tlb.specs.Access.{mayHint}
-use Rattle.tlb.specs.Turn.{missWith, remembered, turnWith, fetchRemembered, fetchEnd, fetchWith}
+use Rattle.tlb.specs.Resolve.{countedBy, keptBy, hintAfter}
+use Rattle.tlb.specs.Turn.{missWith, applied, turnWith, fetchApplied, fetchEnd, fetchWith}
 use Rattle.tlb.specs.Model.{Slot, empty, holds, Known, folded, hintPlace, keepHint, keepFetch, Access, Outcome, knownOf, unhinted, noted, tried, hinted, translate, notedFetch, fetched, fetch}
 use Rattle.tlb.specs.Live.{Follows, hintOf, hintsOf, countersOf, live, Aligned, Sound, WellFormed, LeafLevel}
 use Rattle.tlb.specs.Cells.{on-aligned, may-is, known-is, hint-made, fetch-known-is, fetch-made}
@@ -26,10 +27,14 @@ use Rattle.tlb.specs.declared.cache.Cache.{Cache}
 use Rattle.tlb.specs.declared.access.Who.{Who}
 use Rattle.tlb.specs.declared.access.Answer.{Answer}
 use Rattle.tlb.specs.declared.access.Answer.the-variants.{Address, Status}
-use Rattle.tlb.specs.declared.turn.Source.the-variants.{FromHint}
+use Rattle.tlb.specs.declared.resolve.Source.the-variants.{FromHint}
+use Rattle.tlb.specs.declared.resolve.Resolved.{Resolved}
+use Rattle.tlb.specs.declared.count.Counts.{Counts}
+use Rattle.tlb.specs.declared.entry.Entry.{Entry}
 use Rattle.tlb.specs.declared.turn.Turned.{Turned}
+use Rattle.tlb.specs.declared.turn.FetchTurned.{FetchTurned}
 use Rattle.tlb.specs.declared.Tlb.{Tlb}
-use Rattle.tlb.specs.Misses.{withEntry, entry, missed, unmoved, still-sound, miss-follows, miss-hint}
+use Rattle.tlb.specs.Misses.{withEntry, entry, missed, unmoved, still-sound, miss-follows}
 
 -- HINTS
 
@@ -76,33 +81,34 @@ place-low who Read va q = omega arith
 place-low who Write va q = omega arith
 place-low who Fetch va q = falsely q
 
--- a hint put back as it was
-module _ (a : Access) (t : Tlb) (r : Turned) (o : Outcome) (f : Follows (r .answer) (withEntry t (slotFor a) r) o)
-    (q : r .hint ≡ hintAt (t .cache) (placeFor a)) where
-  put-back : setHint (setEntry (t .cache) (slotFor a) (r .entry)) (placeFor a) (r .hint) ≡ setEntry (t .cache) (slotFor a) (r .entry)
-  put-back = rw q (same-hint (setEntry (t .cache) (slotFor a) (r .entry)) (placeFor a))
+-- changes of the entry and the counters that a hint follows
+module _ (a : Access) (t : Tlb) (x : Answer) (e : Entry) (k : Counts) (o : Outcome)
+    (f : Follows x (moved t (setEntry (t .cache) (slotFor a) e) k) o) where
+  abbrev stored : Cache
+  stored = setEntry (t .cache) (slotFor a) e
 
-  unnoted : Follows (r .answer) (withTurn t (placeFor a) (slotFor a) r) o
+  abbrev put : Hint → Tlb
+  put h = moved t (setHint stored (placeFor a) h) k
+
+  unnoted : Follows x (put (hintAt (t .cache) (placeFor a))) o
   unnoted =
       record {
         answer = f .answer;
-        after = ap (λ (c : Cache). live (moved t c (r .counts))) put-back ∙ f .after;
-        well = subst Sound (sym put-back) (f .well);
+        after = ap (λ (c : Cache). live (moved t c k)) (same-hint stored (placeFor a)) ∙ f .after;
+        well = subst Sound (sym (same-hint stored (placeFor a))) (f .well);
       }
 
   module _ (s : WellFormed t) (place : placeFor a < 512) (low : a .who .level ≤ 3) where
-    hint-kept : (pa : ℕ)
-        → live (moved t (setHint (setEntry (t .cache) (slotFor a) (r .entry)) (placeFor a) (hintFor (a .va) (a .who .level) pa)) (r .counts))
-        ≡ keepHint (placeFor a) (knownOf a pa) (live (withEntry t (slotFor a) r))
+    hint-kept : (pa : ℕ) → live (put (hintFor (a .va) (a .who .level) pa)) ≡ keepHint (placeFor a) (knownOf a pa) (live (moved t stored k))
     unfolding hintsOf
     hint-kept pa =
         λ n.
         record {
           asid = t .cache .present .asid;
-          lines = live (withEntry t (slotFor a) r) .lines;
+          lines = live (moved t stored k) .lines;
           hints = λ i. at i n;
           fetch = live t .fetch;
-          counts = countersOf (r .counts);
+          counts = countersOf k;
           pending = live t .pending;
         }
       where
@@ -118,12 +124,12 @@ module _ (a : Access) (t : Tlb) (r : Turned) (o : Outcome) (f : Follows (r .answ
             ∙ ap (λ (l : Slot Known). pick (eqb i (placeFor a)) l (hintOf (getD (t .cache .hints) i noHint)))
             (hint-made (a .va) (a .who .level) pa low)
 
-    noted-follows : Follows (r .answer) (withTurn t (placeFor a) (slotFor a) (remembered r true (a .who .level) (a .va))) (noted a o)
-    unfolding remembered noted
-    noted-follows = go (r .answer) refl
+    noted-follows : Follows x (put (hintAfter true (a .who .level) (a .va) x (hintAt (t .cache) (placeFor a)))) (noted a o)
+    unfolding noted
+    noted-follows = go x refl
       where
-        go : (x : Answer) → r .answer ≡ x
-            → Follows (r .answer) (withTurn t (placeFor a) (slotFor a) (remembered r true (a .who .level) (a .va))) (noted a o)
+        go : (y : Answer) → x ≡ y
+            → Follows x (put (hintAfter true (a .who .level) (a .va) x (hintAt (t .cache) (placeFor a)))) (noted a o)
         go (Address pa) e =
             let oe : o .answer ≡ Address pa = sym (f .answer) ∙ e in
             rw (e, oe, place-is (a .kind) (a .va)) (record {
@@ -141,15 +147,18 @@ module _ (a : Access) (t : Tlb) (s : WellFormed t) (fits : LeafLevel (a .walk)) 
   abbrev hint : Hint
   hint = hintAt (t .cache) (placeFor a)
 
-  abbrev afterMiss : Turned
-  afterMiss = missed a t s fits hint (a .on)
+  abbrev miss : Resolved
+  miss = missed a t s fits (a .on)
+
+  abbrev afterMiss : Bool → Turned
+  afterMiss m = applied miss m (a .who .level) (t .counts) hint (entry a t s fits) (a .va)
 
   abbrev afterHint : Turned
   afterHint =
       record {
         counts = t .counts;
         hint = hint;
-        entry = entry a t s fits hint;
+        entry = entry a t s fits;
         answer = Address (onPage (hint .pa) (a .va));
         source = FromHint;
       }
@@ -158,33 +167,29 @@ module _ (a : Access) (t : Tlb) (s : WellFormed t) (fits : LeafLevel (a .walk)) 
   fast-follows : Follows (afterHint .answer) (withTurn t (placeFor a) (slotFor a) afterHint) (tried (holds (hint .pa / 4096)) a (live t))
   unfolding tried
   fast-follows =
-      unnoted a t afterHint _
+      unnoted a t (afterHint .answer) (entry a t s fits) (t .counts) _
       (record {
         answer = ap Address (on-aligned (hint .pa) (a .va) (each-getD {P = Aligned} noHint refl (s .hints) (placeFor a)));
-        after = unmoved a t s fits hint (t .counts);
-        well = still-sound a t s fits hint;
+        after = unmoved a t s fits (t .counts);
+        well = still-sound a t s fits;
       })
-      refl
 
   by-hint : mayHint (a .who) (a .kind) ≡ true → (b : Bool)
-      → Follows (pick b afterHint (remembered afterMiss true (a .who .level) (a .va)) .answer)
-      (withTurn t (placeFor a) (slotFor a) (pick b afterHint (remembered afterMiss true (a .who .level) (a .va))))
+      → Follows (pick b afterHint (afterMiss true) .answer) (withTurn t (placeFor a) (slotFor a) (pick b afterHint (afterMiss true)))
       (tried (pick b (holds (hint .pa / 4096)) empty) a (live t))
-  unfolding tried remembered
+  unfolding tried applied
   by-hint may true = fast-follows
   by-hint may false =
-      noted-follows a t afterMiss (unhinted (a .on) a (live t)) (miss-follows a t s fits hint (a .on)) (miss-hint a t s fits hint (a .on)) s
+      noted-follows a t (miss .answer) _ _ (unhinted (a .on) a (live t)) (miss-follows a t s fits (a .on)) s
       (place-low (a .who) (a .kind) (a .va) may) low
 
   by-mark : (m : Bool) → mayHint (a .who) (a .kind) ≡ m
-      → Follows
-      (pick (m && eqb (hint .key) (hintKey (a .va) (a .who .level))) afterHint (remembered afterMiss m (a .who .level) (a .va)) .answer)
-      (withTurn t (placeFor a) (slotFor a)
-      (pick (m && eqb (hint .key) (hintKey (a .va) (a .who .level))) afterHint (remembered afterMiss m (a .who .level) (a .va))))
+      → Follows (pick (m && eqb (hint .key) (hintKey (a .va) (a .who .level))) afterHint (afterMiss m) .answer)
+      (withTurn t (placeFor a) (slotFor a) (pick (m && eqb (hint .key) (hintKey (a .va) (a .who .level))) afterHint (afterMiss m)))
       (hinted m a (live t))
-  unfolding remembered hinted hintsOf
+  unfolding applied hinted hintsOf
   by-mark true q = rw (place-is (a .kind) (a .va), known-is hint (a .va) (a .who .level) low) (by-hint q (eqb (hint .key) (hintKey (a .va) (a .who .level))))
-  by-mark false q = unnoted a t afterMiss _ (miss-follows a t s fits hint (a .on)) (miss-hint a t s fits hint (a .on))
+  by-mark false q = unnoted a t (miss .answer) _ _ _ (miss-follows a t s fits (a .on))
 
   -- a translation follows the plain model
   pub turn-follows : Follows (turnIn a t .answer) (turned a t) (translate a (live t))
@@ -199,21 +204,26 @@ module _ (a : Access) (t : Tlb) (s : WellFormed t) (fits : LeafLevel (a .walk)) 
   abbrev now : FetchHint
   now = t .cache .fetch
 
-  abbrev missBy : Kind → Turned
+  abbrev missBy : Kind → Resolved
   missBy k =
-      missWith (a .on) (a .untagged) (a .walk) (a .regime) (a .who) (t .cache .present) (t .counts) noHint
-      (entryAt (t .cache) (slotFor a)) (a .va) k
+      missWith (a .on) (a .untagged) (a .walk) (a .regime) (a .who) (t .cache .present) (entryAt (t .cache) (slotFor a)) (a .va) k
 
-  abbrev fetchMiss : Turned
+  abbrev fetchMiss : Resolved
   fetchMiss = missBy Fetch
 
   fetch-miss : Follows (fetchMiss .answer) (withEntry t (slotFor a) fetchMiss) (unhinted (a .on) a (live t))
   fetch-miss =
       subst (λ (k : Kind). Follows (missBy k .answer) (withEntry t (slotFor a) (missBy k)) (unhinted (a .on) a (live t))) kind
-      (miss-follows a t s fits noHint (a .on))
+      (miss-follows a t s fits (a .on))
+
+  abbrev missCounts : Counts
+  missCounts = countedBy (fetchMiss .source) (t .counts)
+
+  abbrev missEntry : Entry
+  missEntry = keptBy (fetchMiss .source) (entryAt (t .cache) (slotFor a)) (fetchMiss .made)
 
   fetch-kept : (pa : ℕ)
-      → live (moved t (setFetch (setEntry (t .cache) (slotFor a) (fetchMiss .entry)) (fetchFor (a .va) (a .who .level) pa)) (fetchMiss .counts))
+      → live (withFetch t (slotFor a) (record { counts = missCounts; fetch = fetchFor (a .va) (a .who .level) pa; entry = missEntry; answer = Address pa; source = fetchMiss .source }))
       ≡ keepFetch (knownOf a pa) (live (withEntry t (slotFor a) fetchMiss))
   fetch-kept pa =
       λ n.
@@ -222,14 +232,16 @@ module _ (a : Access) (t : Tlb) (s : WellFormed t) (fits : LeafLevel (a .walk)) 
         lines = live (withEntry t (slotFor a) fetchMiss) .lines;
         hints = live t .hints;
         fetch = fetch-made (a .va) (a .who .level) pa n;
-        counts = countersOf (fetchMiss .counts);
+        counts = countersOf missCounts;
         pending = live t .pending;
       }
 
+  abbrev fetchMissed : FetchTurned
+  fetchMissed = fetchApplied fetchMiss (a .who .level) (t .counts) now (entryAt (t .cache) (slotFor a)) (a .va)
+
   fetch-noted : (x : Answer) → fetchMiss .answer ≡ x
-      → Follows (fetchRemembered fetchMiss now (a .who .level) (a .va) .answer)
-      (withFetch t (slotFor a) (fetchRemembered fetchMiss now (a .who .level) (a .va))) (notedFetch a (unhinted (a .on) a (live t)))
-  unfolding fetchRemembered notedFetch
+      → Follows (fetchMissed .answer) (withFetch t (slotFor a) fetchMissed) (notedFetch a (unhinted (a .on) a (live t)))
+  unfolding fetchApplied notedFetch
   fetch-noted (Address pa) e =
       let oe : unhinted (a .on) a (live t) .answer ≡ Address pa = sym (fetch-miss .answer) ∙ e in
       rw (e, oe) (record {
@@ -243,12 +255,12 @@ module _ (a : Access) (t : Tlb) (s : WellFormed t) (fits : LeafLevel (a .walk)) 
 
   by-fetch : (b : Bool) → fetchServes now (a .who .level) (a .va) ≡ b
       → Follows (fetchIn a t .answer) (fetchedIn a t) (fetched (pick b (holds (now .pa / 4096)) empty) a (live t))
-  unfolding fetchWith fetchEnd turnWith remembered fetched
+  unfolding fetchWith fetchEnd fetched
   by-fetch true q =
       rw q (record {
         answer = ap Address (on-aligned (now .pa) (a .va) (s .fetch-pa));
-        after = unmoved a t s fits noHint (t .counts);
-        well = still-sound a t s fits noHint;
+        after = unmoved a t s fits (t .counts);
+        well = still-sound a t s fits;
       })
   by-fetch false q = rw q (fetch-noted _ refl)
 

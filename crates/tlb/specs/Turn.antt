@@ -1,4 +1,5 @@
--- One translation over small values, for any walk: the hint, the flat answer, the entry, the walk.
+-- One translation over small values, for any walk: the hint, or the changes of a translation that no hint serves, applied.
+use mathlib.Core.Path.{_≡_, refl, sym, ap, _∙_}
 use mathlib.Core.Bool.{Bool, true, false, _&&_}
 use Prim.Native.Nat.{ℕ}
 use lib.Dec.{eqb}
@@ -9,13 +10,10 @@ use Rattle.walk.specs.Walk.{walkOf}
 use Rattle.word.specs.declared.ram.Word.{Word}
 use Rattle.walk.specs.declared.regime.Regime.{Regime}
 use Rattle.walk.specs.declared.regime.Bank.{Bank}
-use Rattle.walk.specs.declared.level.Leaf.{Leaf}
 use Rattle.walk.specs.declared.level.Walked.{Walked}
-use Rattle.walk.specs.declared.level.Walked.the-variants.{Mapped, Fault}
-use Rattle.tlb.specs.Access.{mayHint, tagOf, userOf, judged}
-use Rattle.tlb.specs.Entry.{serves}
-use Rattle.tlb.specs.Hint.{noHint, pageOf, onPage, hintKey, hintFor, fetchFor, fetchFound}
-use Rattle.tlb.specs.Count.{hitCounted, walkCounted}
+use Rattle.tlb.specs.Access.{mayHint}
+use Rattle.tlb.specs.Hint.{onPage, hintKey, fetchFound}
+use Rattle.tlb.specs.Resolve.{queryOf, askWith, askOf, byItself, resolveWith, resolveOf, changesOf, countedBy, keptBy, hintAfter, fetchAfter}
 use Rattle.tlb.specs.declared.entry.Entry.{Entry}
 use Rattle.tlb.specs.declared.entry.Present.{Present}
 use Rattle.tlb.specs.declared.access.Kind.{Kind}
@@ -26,63 +24,26 @@ use Rattle.tlb.specs.declared.hint.Physical.{Physical}
 use Rattle.tlb.specs.declared.hint.Physical.the-variants.{At, Unknown}
 use Rattle.tlb.specs.declared.count.Counts.{Counts}
 use Rattle.tlb.specs.declared.access.Who.{Who}
-use Rattle.tlb.specs.declared.access.Answer.{Answer}
-use Rattle.tlb.specs.declared.access.Answer.the-variants.{Address, Status}
-use Rattle.tlb.specs.declared.turn.Source.the-variants.{FromHint, FromFlat, FromEntry, FromWalk, NoLeaf}
+use Rattle.tlb.specs.declared.access.Answer.the-variants.{Address}
+use Rattle.tlb.specs.declared.resolve.Source.the-variants.{FromHint}
+use Rattle.tlb.specs.declared.resolve.Query.{Query}
+use Rattle.tlb.specs.declared.resolve.Asked.{Asked}
+use Rattle.tlb.specs.declared.resolve.Asked.the-variants.{Flat, Of}
+use Rattle.tlb.specs.declared.resolve.Resolved.{Resolved}
 use Rattle.tlb.specs.declared.turn.Turned.{Turned}
 use Rattle.tlb.specs.declared.turn.FetchTurned.{FetchTurned}
 
--- the entry that a leaf becomes
-abbrev pub entryFor : Leaf → Present → ℕ → Entry
-entryFor leaf at tag =
-    record {
-      tag = tag;
-      generation = at .generation;
-      perms = leaf .perms;
-      level = leaf .level;
-      global = leaf .global;
-      asid = at .asid;
-      pa = pageOf (leaf .oa);
-    }
-
--- a leaf is kept and judged; a fault keeps nothing
-unfoldable pub walkEnd : Walked → Present → Counts → Hint → Entry → ℕ → Bool → Kind → ℕ → Turned
-walkEnd (Mapped leaf) at k h e tag user kind va =
-    record {
-      counts = walkCounted k;
-      hint = h;
-      entry = entryFor leaf at tag;
-      answer = judged (entryFor leaf at tag) user kind va;
-      source = FromWalk;
-    }
-walkEnd (Fault code) at k h e tag user kind va =
-    record { counts = walkCounted k; hint = h; entry = e; answer = Status code; source = NoLeaf }
-
--- with stage 1 on: the entry, where it answers for the tag; else the walk
-unfoldable pub lookWith : Walked → Present → Counts → Hint → Entry → ℕ → Bool → Kind → ℕ → Turned
-lookWith w at k h e tag user kind va =
-    pick (serves e at tag)
-    (record { counts = hitCounted k; hint = h; entry = e; answer = judged e user kind va; source = FromEntry })
-    (walkEnd w at k h e tag user kind va)
-
 -- without a hint: with stage 1 off the address itself
-unfoldable pub missWith : Bool → ℕ → Walked → Regime → Who → Present → Counts → Hint → Entry → ℕ → Kind → Turned
-missWith on page w r who at k h e va kind =
-    pick on (lookWith w at k h e (tagOf r page) (userOf r who kind) kind va)
-    (record { counts = k; hint = h; entry = e; answer = Address va; source = FromFlat })
+unfoldable pub missWith : Bool → ℕ → Walked → Regime → Who → Present → Entry → ℕ → Kind → Resolved
+missWith on page w r who at e va kind = pick on (resolveWith w (queryOf r page) who at e va kind) (byItself va)
 
--- an address that was allowed becomes a hint, where hints may serve
-abbrev pub newHint : Bool → ℕ → ℕ → Answer → Hint → Hint
-newHint true level va (Address pa) h = hintFor va level pa
-newHint true level va (Status code) h = h
-newHint false level va a h = h
-
-unfoldable pub remembered : Turned → Bool → ℕ → ℕ → Turned
-remembered t hinted level va =
+-- the changes applied to the counters, the hint and the entry
+unfoldable pub applied : Resolved → Bool → ℕ → Counts → Hint → Entry → ℕ → Turned
+applied t hinted level k h e va =
     record {
-      counts = t .counts;
-      hint = newHint hinted level va (t .answer) (t .hint);
-      entry = t .entry;
+      counts = countedBy (t .source) k;
+      hint = hintAfter hinted level va (t .answer) h;
+      entry = keptBy (t .source) e (t .made);
       answer = t .answer;
       source = t .source;
     }
@@ -93,19 +54,15 @@ unfoldable pub turnWith : Bool → ℕ → Walked → Regime → Who → Present
 turnWith on page w r who at k h e va kind =
     pick (mayHint who kind && eqb (h .key) (hintKey va (who .level)))
     (record { counts = k; hint = h; entry = e; answer = Address (onPage (h .pa) va); source = FromHint })
-    (remembered (missWith on page w r who at k h e va kind) (mayHint who kind) (who .level) va)
+    (applied (missWith on page w r who at e va kind) (mayHint who kind) (who .level) k h e va)
 
--- an address that a fetch was allowed becomes the fetch hint
-abbrev pub newFetch : ℕ → ℕ → Answer → FetchHint → FetchHint
-newFetch level va (Address pa) f = fetchFor va level pa
-newFetch level va (Status code) f = f
-
-unfoldable pub fetchRemembered : Turned → FetchHint → ℕ → ℕ → FetchTurned
-fetchRemembered t f level va =
+-- the same with the fetch hint
+unfoldable pub fetchApplied : Resolved → ℕ → Counts → FetchHint → Entry → ℕ → FetchTurned
+fetchApplied t level k f e va =
     record {
-      counts = t .counts;
-      fetch = newFetch level va (t .answer) f;
-      entry = t .entry;
+      counts = countedBy (t .source) k;
+      fetch = fetchAfter level va (t .answer) f;
+      entry = keptBy (t .source) e (t .made);
       answer = t .answer;
       source = t .source;
     }
@@ -113,8 +70,7 @@ fetchRemembered t f level va =
 unfoldable pub fetchEnd : Physical → Bool → ℕ → Walked → Regime → Who → Present → Counts → FetchHint → Entry → ℕ → FetchTurned
 fetchEnd (At pa) on page w r who at k f e va =
     record { counts = k; fetch = f; entry = e; answer = Address pa; source = FromHint }
-fetchEnd Unknown on page w r who at k f e va =
-    fetchRemembered (turnWith on page w r who at k noHint e va Fetch) f (who .level) va
+fetchEnd Unknown on page w r who at k f e va = fetchApplied (missWith on page w r who at e va Fetch) (who .level) k f e va
 
 -- the translation that a fetch begins with: the fetch hint first, whatever the mark
 unfoldable pub fetchWith : Bool → ℕ → Walked → Regime → Who → Present → Counts → FetchHint → Entry → ℕ → FetchTurned
@@ -131,18 +87,47 @@ module _ (s : Bank) (level va : ℕ) where
   abbrev pub walkNow : (ℕ → Word) → Walked
   walkNow memory = walkOf s (regimeOf level) untaggedNow memory
 
-module _ (s : Bank) (who : Who) (at : Present) (k : Counts) where
-  unfoldable pub missOf : Hint → Entry → ℕ → Kind → (ℕ → Word) → Turned
-  missOf h e va kind memory =
+module _ (s : Bank) (who : Who) (at : Present) where
+  unfoldable pub missOf : Entry → ℕ → Kind → (ℕ → Word) → Resolved
+  missOf e va kind memory =
       missWith (onNow s (who .level) va) (untaggedNow s (who .level) va) (walkNow s (who .level) va memory)
-      (regimeOf (who .level)) who at k h e va kind
+      (regimeOf (who .level)) who at e va kind
 
-  unfoldable pub turnOf : Hint → Entry → ℕ → Kind → (ℕ → Word) → Turned
-  turnOf h e va kind memory =
+  unfoldable pub turnOf : Counts → Hint → Entry → ℕ → Kind → (ℕ → Word) → Turned
+  turnOf k h e va kind memory =
       turnWith (onNow s (who .level) va) (untaggedNow s (who .level) va) (walkNow s (who .level) va memory)
       (regimeOf (who .level)) who at k h e va kind
 
-  unfoldable pub fetchOf : FetchHint → Entry → ℕ → (ℕ → Word) → FetchTurned
-  fetchOf f e va memory =
+  unfoldable pub fetchOf : Counts → FetchHint → Entry → ℕ → (ℕ → Word) → FetchTurned
+  fetchOf k f e va memory =
       fetchWith (onNow s (who .level) va) (untaggedNow s (who .level) va) (walkNow s (who .level) va memory)
       (regimeOf (who .level)) who at k f e va
+
+  -- the changes of what is asked
+  pub changes-are : (e : Entry) (va : ℕ) (kind : Kind) (memory : ℕ → Word)
+      → changesOf (askOf s who va) s who at e va kind memory ≡ missOf e va kind memory
+  unfolding askOf missOf missWith resolveOf
+  changes-are e va kind memory = go (stage1On s (regimeOf (who .level)))
+    where
+      go : (on : Bool)
+          → changesOf (askWith on (regimeOf (who .level)) (untaggedNow s (who .level) va)) s who at e va kind memory
+          ≡ pick on (resolveWith (walkNow s (who .level) va memory) (queryOf (regimeOf (who .level)) (untaggedNow s (who .level) va)) who at e va kind) (byItself va)
+      go true = refl
+      go false = refl
+
+-- what is asked is the query of the untagged address
+abbrev queryIn : Query → Asked → Query
+queryIn other Flat = other
+queryIn other (Of q) = q
+
+pub asked-query : (s : Bank) (who : Who) (va : ℕ) (q : Query) → askOf s who va ≡ Of q
+    → q ≡ queryOf (regimeOf (who .level)) (untaggedNow s (who .level) va)
+unfolding askOf
+asked-query s who va q e = sym (ap (queryIn own) e) ∙ go (stage1On s (regimeOf (who .level)))
+  where
+    own : Query
+    own = queryOf (regimeOf (who .level)) (untaggedNow s (who .level) va)
+
+    go : (on : Bool) → queryIn own (askWith on (regimeOf (who .level)) (untaggedNow s (who .level) va)) ≡ own
+    go true = refl
+    go false = refl

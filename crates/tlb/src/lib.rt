@@ -13,6 +13,7 @@ pub mod cache;
 pub mod count;
 pub mod entry;
 pub mod hint;
+pub mod resolve;
 pub mod turn;
 
 // What a TLBI drops. A page is VA[55:12]; an ASID's entries are those that are not global.

@@ -1,9 +1,8 @@
 // One translation over small values: the registers, who asks, the counters, one hint, one entry. No array stands here.
 ghost use mathlib.Core.Path.{_≡_};
 ghost use Rattle.word.specs.Ram.{wordAt};
-ghost use Rattle.walk.specs.Walk.{walkOf};
-ghost use Rattle.tlb.specs.Access.{tagOf};
-ghost use Rattle.tlb.specs.Turn.{entryFor, walkEnd, lookWith, missOf, remembered, turnOf, fetchRemembered, fetchOf};
+ghost use Rattle.tlb.specs.Resolve.{countedBy, keptBy, hintAfter, fetchAfter};
+ghost use Rattle.tlb.specs.Turn.{missOf, turnOf, fetchOf};
 use crate::access;
 use crate::access::Answer;
 use crate::access::Kind;
@@ -17,19 +16,11 @@ use crate::hint;
 use crate::hint::FetchHint;
 use crate::hint::Hint;
 use crate::hint::Physical;
-use walk::level::Leaf;
-use walk::level::Walked;
+use crate::resolve;
+use crate::resolve::Asked;
+use crate::resolve::Resolved;
+use crate::resolve::Source;
 use walk::regime::Bank;
-use walk::regime::Regime;
-
-// Where an answer came from. NoLeaf: a walk that ended in a fault.
-pub enum Source {
-    FromHint,
-    FromFlat,
-    FromEntry,
-    FromWalk,
-    NoLeaf,
-}
 
 // What a translation leaves, and its answer.
 pub struct Turned {
@@ -49,162 +40,81 @@ pub struct FetchTurned {
     pub source: Source,
 }
 
-// The entry that a leaf becomes.
-pub fn entry_for(leaf: Leaf, at: Present, tag: u64) -> Entry
-    ensures { λ r. ⌜ r ≡ entryFor leaf at tag ⌝ }
+// The counters after an answer from a source.
+fn counted(source: Source, counts: Counts) -> Counts
+    ensures { λ r. ⌜ r ≡ countedBy source counts ⌝ }
 {
-    Entry {
-        tag,
-        generation: at.generation,
-        perms: leaf.perms,
-        level: leaf.level,
-        global: leaf.global,
-        asid: at.asid,
-        pa: leaf.oa / 4096 * 4096,
+    match source {
+        Source::FromHint => counts,
+        Source::FromFlat => counts,
+        Source::FromEntry => count::hit(counts),
+        Source::FromWalk => count::walk(counts),
+        Source::NoLeaf => count::walk(counts),
     }
 }
 
-// What the end of a walk does: a leaf is kept and judged, a fault keeps nothing.
-fn walk_end(
-    w: Walked,
-    at: Present,
-    counts: Counts,
-    hint: Hint,
-    entry: Entry,
-    tag: u64,
-    user: bool,
-    kind: Kind,
-    va: u64,
-) -> Turned
-    ensures { λ r. ⌜ r ≡ walkEnd w at counts hint entry tag user kind va ⌝ }
+// The entry after an answer from a source.
+fn kept(source: Source, e: Entry, made: Entry) -> Entry
+    ensures { λ r. ⌜ r ≡ keptBy source e made ⌝ }
 {
-    let counted = count::walk(counts);
-    match w {
-        Walked::Mapped(leaf) => {
-            let made = entry_for(leaf, at, tag);
-            let answer = access::judge(made, user, kind, va);
-            Turned {
-                counts: counted,
-                hint,
-                entry: made,
-                answer,
-                source: Source::FromWalk,
+    match source {
+        Source::FromHint => e,
+        Source::FromFlat => e,
+        Source::FromEntry => e,
+        Source::FromWalk => made,
+        Source::NoLeaf => e,
+    }
+}
+
+// The hint after an answer.
+fn hint_after(h: Hint, hinted: bool, level: u8, va: u64, answer: Answer) -> Hint
+    ensures { λ r. ⌜ r ≡ hintAfter hinted level va answer h ⌝ }
+{
+    match answer {
+        Answer::Address(pa) => {
+            if hinted {
+                hint::hint_for(va, level, pa)
+            } else {
+                h
             }
         }
-        Walked::Fault(code) => Turned {
-            counts: counted,
-            hint,
-            entry,
-            answer: Answer::Status(code),
-            source: Source::NoLeaf,
-        },
+        Answer::Status(_) => h,
     }
 }
 
-// With stage 1 on: the entry, or a walk. page is the untagged address.
-fn look(
-    s: Bank,
-    regime: Regime,
-    page: u64,
-    user: bool,
-    at: Present,
-    counts: Counts,
-    hint: Hint,
-    entry: Entry,
-    va: u64,
-    kind: Kind,
-    base: u64,
-    ram: &[u8],
-) -> Turned
-    ensures { λ r. ⌜ r ≡ lookWith (walkOf s regime page (wordAt base (now (ram .entry)) 8)) at counts hint entry (tagOf regime page) user kind va ⌝ }
+// The fetch hint after an answer.
+fn fetch_after(f: FetchHint, level: u8, va: u64, answer: Answer) -> FetchHint
+    ensures { λ r. ⌜ r ≡ fetchAfter level va answer f ⌝ }
 {
-    let tag = access::tag_of(regime, page);
-    let hit = entry::serves(entry, at, tag);
-    if hit {
-        let answer = access::judge(entry, user, kind, va);
-        let counted = count::hit(counts);
-        Turned {
-            counts: counted,
-            hint,
-            entry,
-            answer,
-            source: Source::FromEntry,
-        }
-    } else {
-        let w = walk::table::walk(s, regime, page, base, ram);
-        walk_end(w, at, counts, hint, entry, tag, user, kind, va)
+    match answer {
+        Answer::Address(pa) => hint::fetch_for(va, level, pa),
+        Answer::Status(_) => f,
     }
 }
 
-// A translation that no hint serves.
+// A translation that no hint serves, as its changes.
 fn miss(
     s: Bank,
     who: Who,
     at: Present,
-    counts: Counts,
-    hint: Hint,
-    entry: Entry,
+    e: Entry,
     va: u64,
     kind: Kind,
     base: u64,
     ram: &[u8],
-) -> Turned
-    ensures { λ r. ⌜ r ≡ missOf s who at counts hint entry va kind (wordAt base (now (ram .entry)) 8) ⌝ }
+) -> Resolved
+    ensures { λ r. ⌜ r ≡ missOf s who at e va kind (wordAt base (now (ram .entry)) 8) ⌝ }
 {
-    let regime = walk::regime::regime_of(who.level);
-    let on = walk::regime::stage1_on(s, regime);
-    if on {
-        let page = walk::tag::untag(s.tcr, regime, va);
-        let user = access::user_of(regime, who, kind);
-        look(
-            s,
-            regime,
-            page,
-            user,
-            at,
-            counts,
-            hint,
-            entry,
-            va,
-            kind,
-            base,
-            ram,
-        )
-    } else {
-        Turned {
-            counts,
-            hint,
-            entry,
-            answer: Answer::Address(va),
-            source: Source::FromFlat,
-        }
-    }
-}
-
-// The hint that a translation leaves.
-fn remember(t: Turned, hinted: bool, level: u8, va: u64) -> Turned
-    ensures { λ r. ⌜ r ≡ remembered t hinted level va ⌝ }
-{
-    let counts = t.counts;
-    let entry = t.entry;
-    let answer = t.answer;
-    let source = t.source;
-    match answer {
-        Answer::Address(pa) => {
-            if hinted {
-                let hint = hint::hint_for(va, level, pa);
-                Turned {
-                    counts,
-                    hint,
-                    entry,
-                    answer,
-                    source,
-                }
-            } else {
-                t
+    match resolve::ask(s, who, va) {
+        Asked::Flat => {
+            let made = entry::blank();
+            Resolved {
+                answer: Answer::Address(va),
+                source: Source::FromFlat,
+                made,
             }
         }
-        Answer::Status(_) => t,
+        Asked::Of(q) => resolve::resolve(q, s, who, at, e, va, kind, base, ram),
     }
 }
 
@@ -236,37 +146,20 @@ pub fn turn(
             source: Source::FromHint,
         }
     } else {
-        let t = miss(s, who, at, counts, hint, entry, va, kind, base, ram);
-        remember(t, hinted, who.level, va)
-    }
-}
-
-// The fetch hint that a fetch's translation leaves.
-fn remember_fetch(t: Turned, fetch: FetchHint, level: u8, va: u64) -> FetchTurned
-    ensures { λ r. ⌜ r ≡ fetchRemembered t fetch level va ⌝ }
-{
-    let counts = t.counts;
-    let entry = t.entry;
-    let answer = t.answer;
-    let source = t.source;
-    match answer {
-        Answer::Address(pa) => {
-            let made = hint::fetch_for(va, level, pa);
-            FetchTurned {
-                counts,
-                fetch: made,
-                entry,
-                answer,
-                source,
-            }
-        }
-        Answer::Status(_) => FetchTurned {
-            counts,
-            fetch,
-            entry,
+        let t = miss(s, who, at, entry, va, kind, base, ram);
+        let answer = t.answer;
+        let source = t.source;
+        let made = t.made;
+        let after = counted(source, counts);
+        let stored = kept(source, entry, made);
+        let noted = hint_after(hint, hinted, who.level, va, answer);
+        Turned {
+            counts: after,
+            hint: noted,
+            entry: stored,
             answer,
             source,
-        },
+        }
     }
 }
 
@@ -293,9 +186,20 @@ pub fn turn_fetch(
             source: Source::FromHint,
         },
         Physical::Unknown => {
-            let none = hint::no_hint();
-            let t = turn(s, who, at, counts, none, entry, va, Kind::Fetch, base, ram);
-            remember_fetch(t, fetch, who.level, va)
+            let t = miss(s, who, at, entry, va, Kind::Fetch, base, ram);
+            let answer = t.answer;
+            let source = t.source;
+            let made = t.made;
+            let after = counted(source, counts);
+            let stored = kept(source, entry, made);
+            let noted = fetch_after(fetch, who.level, va, answer);
+            FetchTurned {
+                counts: after,
+                fetch: noted,
+                entry: stored,
+                answer,
+                source,
+            }
         }
     }
 }

@@ -16,8 +16,14 @@ on-page-requires c κs = search needs
 miss-requires : tie.Need-miss-requires
 miss-requires c κs = search needs
 
-remember-requires : tie.Need-remember-requires
-remember-requires c κs = search needs
+counted-requires : tie.Need-counted-requires
+counted-requires c κs = search needs
+
+kept-requires : tie.Need-kept-requires
+kept-requires c κs = search needs
+
+hint-after-requires : tie.Need-hint-after-requires
+hint-after-requires c κs = search needs
 
 returns : tie.Need-returns
 returns c = search (served, needs)
@@ -33,6 +39,8 @@ turn-spec =
     hint-key-requires
     on-page-requires
     miss-requires
-    remember-requires
+    counted-requires
+    kept-requires
+    hint-after-requires
     returns
     returns-2)

@@ -13,14 +13,17 @@ enum-known-pa c = search needs
 enum-told : tie.Need-enum-told
 enum-told c = search needs
 
-no-hint-requires : tie.Need-no-hint-requires
-no-hint-requires c κs = search needs
+miss-requires : tie.Need-miss-requires
+miss-requires c κs = search needs
 
-turn-requires : tie.Need-turn-requires
-turn-requires c κs = search needs
+counted-requires : tie.Need-counted-requires
+counted-requires c κs = search needs
 
-remember-fetch-requires : tie.Need-remember-fetch-requires
-remember-fetch-requires c κs = search needs
+kept-requires : tie.Need-kept-requires
+kept-requires c κs = search needs
+
+fetch-after-requires : tie.Need-fetch-after-requires
+fetch-after-requires c κs = search needs
 
 returns : tie.Need-returns
 returns c = search (fetch-served, needs)
@@ -35,8 +38,9 @@ turn-fetch-spec =
     fetch-found-requires
     enum-known-pa
     enum-told
-    no-hint-requires
-    turn-requires
-    remember-fetch-requires
+    miss-requires
+    counted-requires
+    kept-requires
+    fetch-after-requires
     returns
     returns-2)

@@ -1,8 +1,8 @@
--- `tlb::turn::remember` meets its contract.
+-- `tlb::turn::hint_after` meets its contract.
 use Rattle.tlb.proofs.Turning.{noted, unhinted, faulted}
 use borrow.Author.Needs.{needs}
-use Rattle.tlb.proofs.turn.remember.Statement.{statement}
-use Rattle.tlb.proofs.turn.remember.Tie as tie
+use Rattle.tlb.proofs.turn.hint_after.Statement.{statement}
+use Rattle.tlb.proofs.turn.hint_after.Tie as tie
 
 enum-known-answer : tie.Need-enum-known-answer
 enum-known-answer c = search needs
@@ -22,6 +22,13 @@ returns-2 c = search (unhinted, needs)
 returns-3 : tie.Need-returns-3
 returns-3 c = search (faulted, needs)
 
-pub remember-spec : {M : Type 1} → statement M
-remember-spec =
-    tie.close (tie.spec enum-known-answer hint-for-requires enum-told returns returns-2 returns-3)
+pub hint-after-spec : {M : Type 1} → statement M
+hint-after-spec =
+    tie.close
+    (tie.spec
+    enum-known-answer
+    hint-for-requires
+    enum-told
+    returns
+    returns-2
+    returns-3)

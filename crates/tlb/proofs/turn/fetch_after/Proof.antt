@@ -1,8 +1,8 @@
--- `tlb::turn::remember_fetch` meets its contract.
+-- `tlb::turn::fetch_after` meets its contract.
 use Rattle.tlb.proofs.Turning.{fetch-noted, fetch-faulted}
 use borrow.Author.Needs.{needs}
-use Rattle.tlb.proofs.turn.remember_fetch.Statement.{statement}
-use Rattle.tlb.proofs.turn.remember_fetch.Tie as tie
+use Rattle.tlb.proofs.turn.fetch_after.Statement.{statement}
+use Rattle.tlb.proofs.turn.fetch_after.Tie as tie
 
 enum-known-answer : tie.Need-enum-known-answer
 enum-known-answer c = search needs
@@ -19,6 +19,12 @@ returns c = search (fetch-noted, needs)
 returns-2 : tie.Need-returns-2
 returns-2 c = search (fetch-faulted, needs)
 
-pub remember-fetch-spec : {M : Type 1} → statement M
-remember-fetch-spec =
-    tie.close (tie.spec enum-known-answer fetch-for-requires enum-told returns returns-2)
+pub fetch-after-spec : {M : Type 1} → statement M
+fetch-after-spec =
+    tie.close
+    (tie.spec
+    enum-known-answer
+    fetch-for-requires
+    enum-told
+    returns
+    returns-2)

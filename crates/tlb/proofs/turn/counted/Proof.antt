@@ -1,0 +1,62 @@
+-- `tlb::turn::counted` meets its contract.
+use Rattle.tlb.proofs.Turning.{hint-counts, flat-counts, entry-counts, walk-counts, no-leaf-counts}
+use borrow.Author.Needs.{needs}
+use Rattle.tlb.proofs.turn.counted.Statement.{statement}
+use Rattle.tlb.proofs.turn.counted.Tie as tie
+
+enum-told : tie.Need-enum-told
+enum-told c = search needs
+
+enum-told-2 : tie.Need-enum-told-2
+enum-told-2 c = search needs
+
+enum-told-3 : tie.Need-enum-told-3
+enum-told-3 c = search needs
+
+hit-requires : tie.Need-hit-requires
+hit-requires c κs = search needs
+
+enum-told-4 : tie.Need-enum-told-4
+enum-told-4 c = search needs
+
+walk-requires : tie.Need-walk-requires
+walk-requires c κs = search needs
+
+enum-told-5 : tie.Need-enum-told-5
+enum-told-5 c = search needs
+
+walk-requires-2 : tie.Need-walk-requires-2
+walk-requires-2 c κs = search needs
+
+returns : tie.Need-returns
+returns c = search (hint-counts, needs)
+
+returns-2 : tie.Need-returns-2
+returns-2 c = search (flat-counts, needs)
+
+returns-3 : tie.Need-returns-3
+returns-3 c = search (entry-counts, needs)
+
+returns-4 : tie.Need-returns-4
+returns-4 c = search (walk-counts, needs)
+
+returns-5 : tie.Need-returns-5
+returns-5 c = search (no-leaf-counts, needs)
+
+pub counted-spec : {M : Type 1} → statement M
+counted-spec =
+    tie.close
+    (tie.spec
+    enum-told
+    enum-told-2
+    enum-told-3
+    hit-requires
+    enum-told-4
+    walk-requires
+    enum-told-5
+    walk-requires-2
+    returns
+    returns-2
+    returns-3
+    returns-4
+    returns-5)

@@ -1,0 +1,50 @@
+-- `tlb::turn::kept` meets its contract.
+use Rattle.tlb.proofs.Turning.{hint-keeps, flat-keeps, entry-keeps, walk-keeps, no-leaf-keeps}
+use borrow.Author.Needs.{needs}
+use Rattle.tlb.proofs.turn.kept.Statement.{statement}
+use Rattle.tlb.proofs.turn.kept.Tie as tie
+
+enum-told : tie.Need-enum-told
+enum-told c = search needs
+
+enum-told-2 : tie.Need-enum-told-2
+enum-told-2 c = search needs
+
+enum-told-3 : tie.Need-enum-told-3
+enum-told-3 c = search needs
+
+enum-told-4 : tie.Need-enum-told-4
+enum-told-4 c = search needs
+
+enum-told-5 : tie.Need-enum-told-5
+enum-told-5 c = search needs
+
+returns : tie.Need-returns
+returns c = search (hint-keeps, needs)
+
+returns-2 : tie.Need-returns-2
+returns-2 c = search (flat-keeps, needs)
+
+returns-3 : tie.Need-returns-3
+returns-3 c = search (entry-keeps, needs)
+
+returns-4 : tie.Need-returns-4
+returns-4 c = search (walk-keeps, needs)
+
+returns-5 : tie.Need-returns-5
+returns-5 c = search (no-leaf-keeps, needs)
+
+pub kept-spec : {M : Type 1} → statement M
+kept-spec =
+    tie.close
+    (tie.spec
+    enum-told
+    enum-told-2
+    enum-told-3
+    enum-told-4
+    enum-told-5
+    returns
+    returns-2
+    returns-3
+    returns-4
+    returns-5)
