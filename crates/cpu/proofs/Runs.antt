@@ -35,10 +35,9 @@ use Rattle.mmu.specs.declared.ops.Addressed.{Addressed}
 use Rattle.exec.specs.Ops.{writeRegister, setLevel, setMark, abortOf}
 use Rattle.exec.specs.Sys.{sysOf, sysRam}
 use Rattle.exec.specs.declared.ops.Registered.{Registered}
-use Rattle.cpu.specs.Check.{askedOf, missedOf}
+use Rattle.cpu.specs.Check.{missedOf}
 use Rattle.cpu.specs.Step.{ends, storing, afterTranslation, afterAddress, afterLoad, afterStore, afterFetch, afterWrite, loadBy, storeBy, storeRamBy, runOf, ramOf, stepOf, ramAfter}
 use Rattle.cpu.specs.declared.call.Encoding.{Encoding}
-use Rattle.cpu.specs.declared.check.Asked.{Asked}
 use Rattle.cpu.specs.declared.call.Call.{Call}
 use Rattle.cpu.specs.declared.call.Call.the-variants.{Translate, DataPa, FetchPa, Load as LoadCall, Store as StoreCall, Fetch, System, Register, Level, Mark, General, Abort}
 use Rattle.cpu.specs.declared.call.Reply.{Reply}
@@ -206,25 +205,22 @@ module _ (c : Core) (base : ℕ) (ram : List ℕ) (call : Call) where
   ram-abort e x = rw x
 
 -- a call that misses a check, and one that misses none
-module _ (c : Core) (base : ℕ) (ram : List ℕ) (call : Call) (a : Asked) (n : ℕ) (ea : a ≡ askedOf call) (en : n ≡ missedOf (c .who .level) base (length ram) a) where
-  first : missedOf (c .who .level) base (length ram) (askedOf call) ≡ n
-  first = sym (rw ea at en)
-
+module _ (c : Core) (base : ℕ) (ram : List ℕ) (call : Call) (n : ℕ) (en : n ≡ missedOf (c .who .level) base (length ram) call) where
   pub step-runs : (r : Stepped) → n ≡ 0 → r ≡ runOf c base ram call → r ≡ stepOf c base ram call
   unfolding stepOf
-  step-runs r z e = rw (first, z) e
+  step-runs r z e = rw (← en, z) e
 
   pub step-runs-ram : (ys : List ℕ) → n ≡ 0 → ys ≡ ramOf c base ram call → ys ≡ ramAfter c base ram call
   unfolding ramAfter
-  step-runs-ram ys z e = rw (first, z) e
+  step-runs-ram ys z e = rw (← en, z) e
 
   more : (n ≡ 0 → ⊥) → n ≡ suc (n - 1)
   more h = let k = pos-of-ne-zero h in omega arith
 
   pub step-refuses : (n ≡ 0 → ⊥) → ends c (Refused n) ≡ stepOf c base ram call
   unfolding stepOf
-  step-refuses h = rw (first, more h)
+  step-refuses h = rw (← en, more h)
 
   pub step-refuses-ram : (n ≡ 0 → ⊥) → ram ≡ ramAfter c base ram call
   unfolding ramAfter
-  step-refuses-ram h = rw (first, more h)
+  step-refuses-ram h = rw (← en, more h)
