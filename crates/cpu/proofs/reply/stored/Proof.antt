@@ -1,8 +1,8 @@
--- `cpu::run::stored` meets its contract.
+-- `cpu::reply::stored` meets its contract.
 use borrow.Author.Needs.{needs}
-use Rattle.cpu.proofs.run.stored.Statement.{statement}
-use Rattle.cpu.proofs.run.stored.Tie as tie
-use Rattle.cpu.proofs.Runs.{stopped-is}
+use Rattle.cpu.proofs.reply.stored.Statement.{statement}
+use Rattle.cpu.proofs.reply.stored.Tie as tie
+use Rattle.cpu.proofs.Runs.{replies}
 
 enum-told : tie.Need-enum-told
 enum-told c = search needs
@@ -14,7 +14,7 @@ returns : tie.Need-returns
 returns c = search needs
 
 returns-2 : tie.Need-returns-2
-returns-2 c = search (stopped-is, needs)
+returns-2 c = search (replies, needs)
 
 pub stored-spec : {M : Type 1} → statement M
 stored-spec = tie.close (tie.spec enum-told enum-known-answer returns returns-2)
