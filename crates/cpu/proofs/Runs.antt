@@ -22,8 +22,11 @@ use Rattle.entry.specs.declared.exception.Stop.the-variants as Stops
 use Rattle.mmu.specs.Core.{setReg}
 use Rattle.mmu.specs.Ops.{translateOf, readOf, writeOf, ramAfterWrite, fetchOf, fetchPaOf, dataPaOf}
 use Rattle.mmu.specs.declared.core.Core.{Core}
+use Rattle.mmu.specs.declared.ends.LoadAnswer.{LoadAnswer}
 use Rattle.mmu.specs.declared.ends.LoadAnswer.the-variants as Load
+use Rattle.mmu.specs.declared.ends.FetchAnswer.{FetchAnswer}
 use Rattle.mmu.specs.declared.ends.FetchAnswer.the-variants as Fetches
+use Rattle.mmu.specs.declared.ends.Reached.{Reached}
 use Rattle.mmu.specs.declared.ends.Reached.the-variants as Reach
 use Rattle.mmu.specs.declared.ends.StoreAnswer.{StoreAnswer}
 use Rattle.mmu.specs.declared.ends.StoreAnswer.the-variants as Store
@@ -35,30 +38,60 @@ use Rattle.mmu.specs.declared.ops.Addressed.{Addressed}
 use Rattle.exec.specs.Ops.{writeRegister, setLevel, setMark, abortOf}
 use Rattle.exec.specs.Sys.{sysOf, sysRam}
 use Rattle.exec.specs.declared.ops.Registered.{Registered}
-use Rattle.cpu.specs.Check.{askedOf, missedOf}
-use Rattle.cpu.specs.Step.{ends, storing, afterTranslation, afterAddress, afterLoad, afterStore, afterFetch, afterWrite, loadBy, storeBy, storeRamBy, runOf, ramOf, stepOf, ramAfter}
+use Rattle.cpu.specs.Check.{missedOf}
+use Rattle.cpu.specs.Step.{ends, translation, reaching, loading, storing, fetching, registering, afterTranslation, afterAddress, afterLoad, afterStore, afterFetch, afterWrite, loadBy, storeBy, storeRamBy, runOf, ramOf, stepOf, ramAfter}
 use Rattle.cpu.specs.declared.call.Encoding.{Encoding}
-use Rattle.cpu.specs.declared.check.Asked.{Asked}
 use Rattle.cpu.specs.declared.call.Call.{Call}
 use Rattle.cpu.specs.declared.call.Call.the-variants.{Translate, DataPa, FetchPa, Load as LoadCall, Store as StoreCall, Fetch, System, Register, Level, Mark, General, Abort}
 use Rattle.cpu.specs.declared.call.Reply.{Reply}
 use Rattle.cpu.specs.declared.call.Reply.the-variants.{Refused, Done, Value, Faults, Fault, Stopped}
 use Rattle.cpu.specs.declared.call.Stepped.{Stepped}
 
--- a reply by the operation's answer
-module _ (t u : Translated) (va : ℕ) (e : t ≡ u) where
-  pub to-address : (pa : ℕ) → t .answer ≡ Address pa → ends (t .core) (Value pa) ≡ afterTranslation va u
-  to-address pa a = rw (← e, a)
+-- each answer as a reply
+pub is-address : (va : ℕ) (a : Answer) (pa : ℕ) → a ≡ Address pa → Value pa ≡ translation va a
+is-address va a pa e = rw e
 
-  pub to-fault : (fsc : ℕ) → t .answer ≡ Status fsc → ends (t .core) (Fault va fsc) ≡ afterTranslation va u
-  to-fault fsc a = rw (← e, a)
+pub is-status : (va : ℕ) (a : Answer) (fsc : ℕ) → a ≡ Status fsc → Fault va fsc ≡ translation va a
+is-status va a fsc e = rw e
 
-module _ (p : Addressed) where
-  pub reached : (pa : ℕ) → p .answer ≡ Reach.At pa → ends (p .core) (Value pa) ≡ afterAddress p
-  reached pa a = rw a
+pub is-reached : (a : Reached) (pa : ℕ) → a ≡ Reach.At pa → Value pa ≡ reaching a
+is-reached a pa e = rw e
 
-  pub unreached : p .answer ≡ Reach.Faults → ends (p .core) Faults ≡ afterAddress p
-  unreached a = rw a
+pub is-loaded : (a : LoadAnswer) (v : ℕ) → a ≡ Load.Value v → Value v ≡ loading a
+is-loaded a v e = rw e
+
+pub load-stops : (a : LoadAnswer) (s : Stop) → a ≡ Load.Stopped s → Stopped s ≡ loading a
+load-stops a s e = rw e
+
+pub store-stops : (a : StoreAnswer) (s : Stop) → a ≡ Store.Stopped s → Stopped s ≡ storing a
+store-stops a s e = rw e
+
+pub is-fetched : (a : FetchAnswer) (v : ℕ) → a ≡ Fetches.Value v → Value v ≡ fetching a
+is-fetched a v e = rw e
+
+pub fetch-stops : (a : FetchAnswer) (x : Exception) → a ≡ Fetches.Aborted x → Stopped (Stops.Exception x) ≡ fetching a
+fetch-stops a x e = rw e
+
+pub write-stops : (a : WriteAnswer) → a ≡ Written.Undefined → Stopped (Stops.Exception Exceptions.Undefined) ≡ registering a
+write-stops a e = rw e
+
+pub ruleset replies = (is-address, is-status, is-reached, is-loaded, load-stops, store-stops, is-fetched, fetch-stops, write-stops)
+
+-- the core and the reply after each operation
+pub translated-is : (t u : Translated) (va : ℕ) (r : Reply) → t ≡ u → r ≡ translation va (t .answer) → ends (t .core) r ≡ afterTranslation va u
+translated-is t u va r e a = rw (← e, a)
+
+pub reached-is : (t : Addressed) (r : Reply) → r ≡ reaching (t .answer) → ends (t .core) r ≡ afterAddress t
+reached-is t r a = rw a
+
+pub fetched-is : (t u : Fetched) (r : Reply) → t ≡ u → r ≡ fetching (t .answer) → ends (t .core) r ≡ afterFetch u
+fetched-is t u r e a = rw (← e, a)
+
+pub stored-is : (t u : Stored) (r : Reply) → t ≡ u → r ≡ storing (t .answer) → ends (t .core) r ≡ afterStore u
+stored-is t u r e a = rw (← e, a)
+
+pub written-is : (t u : Registered) (r : Reply) → t ≡ u → r ≡ registering (t .answer) → ends (t .core) r ≡ afterWrite u
+written-is t u r e a = rw (← e, a)
 
 module _ (z : Sized) (size : ℕ) (c : Core) (base : ℕ) (ram : List ℕ) (va : ℕ) (ez : z ≡ widthOf size) where
   pub load-refused : z ≡ NoWidth → ends c (Refused 3) ≡ loadBy (widthOf size) c base ram va
@@ -71,40 +104,14 @@ module _ (z : Sized) (size : ℕ) (c : Core) (base : ℕ) (ram : List ℕ) (va :
   store-refused-ram value e = rw (← ez, e)
 
   module _ (w : Width) (ew : z ≡ Bytes w) where
-    pub load-value : (t : Loaded) (v : ℕ) → t ≡ readOf c base ram va (bytesIn w) → t .answer ≡ Load.Value v → ends (t .core) (Value v) ≡ loadBy (widthOf size) c base ram va
-    load-value t v e a = rw (← ez, ew, ← e, a)
-
-    pub load-stopped : (t : Loaded) (s : Stop) → t ≡ readOf c base ram va (bytesIn w) → t .answer ≡ Load.Stopped s → ends (t .core) (Stopped s) ≡ loadBy (widthOf size) c base ram va
-    load-stopped t s e a = rw (← ez, ew, ← e, a)
+    pub load-done : (t : Loaded) (r : Reply) → t ≡ readOf c base ram va (bytesIn w) → r ≡ loading (t .answer) → ends (t .core) r ≡ loadBy (widthOf size) c base ram va
+    load-done t r e a = rw (← ez, ew, ← e, a)
 
     pub store-done : (t : Stored) (r : Reply) → t ≡ writeOf c base ram va (bytesIn w) → r ≡ storing (t .answer) → ends (t .core) r ≡ storeBy (widthOf size) c base ram va
     store-done t r e a = rw (← ez, ew, ← e, a)
 
     pub store-done-ram : (ys : List ℕ) (value : ℕ) → ys ≡ ramAfterWrite c base ram va (bytesIn w) value → ys ≡ storeRamBy (widthOf size) c base ram va value
     store-done-ram ys value e = rw (← ez, ew) e
-
-module _ (t u : Fetched) (e : t ≡ u) where
-  pub fetch-value : (v : ℕ) → t .answer ≡ Fetches.Value v → ends (t .core) (Value v) ≡ afterFetch u
-  fetch-value v a = rw (← e, a)
-
-  pub fetch-aborted : (x : Exception) → t .answer ≡ Fetches.Aborted x → ends (t .core) (Stopped (Stops.Exception x)) ≡ afterFetch u
-  fetch-aborted x a = rw (← e, a)
-
-pub stopped-is : (a : StoreAnswer) (s : Stop) → a ≡ Store.Stopped s → Stopped s ≡ storing a
-stopped-is a s e = rw e
-
-pub stored-is : (t u : Stored) (r : Reply) → t ≡ u → r ≡ storing (t .answer) → ends (t .core) r ≡ afterStore u
-stored-is t u r e a = rw (← e, a)
-
-module _ (t u : Registered) (e : t ≡ u) where
-  pub write-done : t .answer ≡ Written.Done → ends (t .core) Done ≡ afterWrite u
-  write-done a = rw (← e, a)
-
-  pub write-undefined : t .answer ≡ Written.Undefined → ends (t .core) (Stopped (Stops.Exception Exceptions.Undefined)) ≡ afterWrite u
-  write-undefined a = rw (← e, a)
-
-  pub write-unnamed : t .answer ≡ Written.NoRegister → ends (t .core) (Refused 6) ≡ afterWrite u
-  write-unnamed a = rw (← e, a)
 
 -- the operation that a call is, and RAM after it
 module _ (c : Core) (base : ℕ) (ram : List ℕ) (call : Call) (r : Stepped) where
@@ -206,25 +213,22 @@ module _ (c : Core) (base : ℕ) (ram : List ℕ) (call : Call) where
   ram-abort e x = rw x
 
 -- a call that misses a check, and one that misses none
-module _ (c : Core) (base : ℕ) (ram : List ℕ) (call : Call) (a : Asked) (n : ℕ) (ea : a ≡ askedOf call) (en : n ≡ missedOf (c .who .level) base (length ram) a) where
-  first : missedOf (c .who .level) base (length ram) (askedOf call) ≡ n
-  first = sym (rw ea at en)
-
+module _ (c : Core) (base : ℕ) (ram : List ℕ) (call : Call) (n : ℕ) (en : n ≡ missedOf (c .who .level) base (length ram) call) where
   pub step-runs : (r : Stepped) → n ≡ 0 → r ≡ runOf c base ram call → r ≡ stepOf c base ram call
   unfolding stepOf
-  step-runs r z e = rw (first, z) e
+  step-runs r z e = rw (← en, z) e
 
   pub step-runs-ram : (ys : List ℕ) → n ≡ 0 → ys ≡ ramOf c base ram call → ys ≡ ramAfter c base ram call
   unfolding ramAfter
-  step-runs-ram ys z e = rw (first, z) e
+  step-runs-ram ys z e = rw (← en, z) e
 
   more : (n ≡ 0 → ⊥) → n ≡ suc (n - 1)
   more h = let k = pos-of-ne-zero h in omega arith
 
   pub step-refuses : (n ≡ 0 → ⊥) → ends c (Refused n) ≡ stepOf c base ram call
   unfolding stepOf
-  step-refuses h = rw (first, more h)
+  step-refuses h = rw (← en, more h)
 
   pub step-refuses-ram : (n ≡ 0 → ⊥) → ram ≡ ramAfter c base ram call
   unfolding ramAfter
-  step-refuses-ram h = rw (first, more h)
+  step-refuses-ram h = rw (← en, more h)

@@ -33,7 +33,7 @@ use Rattle.sysop.specs.Op.{named, decodeOf}
 use Rattle.sysop.specs.Par.{success, abort, leafPar, parIn, atPar}
 use Rattle.exec.specs.Ops.{abortOf}
 use Rattle.exec.specs.Sys.{withPar, atOf, sysOf}
-use Rattle.cpu.specs.Check.{askedOf, missedOf}
+use Rattle.cpu.specs.Check.{missedOf}
 use Rattle.cpu.specs.Step.{runOf, stepOf}
 use Rattle.cpu.specs.declared.call.Call.{Call}
 use Rattle.cpu.specs.declared.call.Call.the-variants.{Translate, System, Abort}
@@ -119,5 +119,5 @@ pub cases :
     ∷ Value 0x9200004D
     ∷ Value 0xBFFFFFFF
     ∷ [])
-unfolding row elsewhere par esr at called stepOf runOf askedOf missedOf translateOf steppedNow turnOf registerAt freshSys regOf movedTo sysOf atOf withPar abortOf takeSync takeException enteredSys spsrOf routedTo syndromeOf named decodeOf success abort leafPar parIn atPar judged blanks noHints placeOf byWalk resolveWith missWith applied turnWith fetchApplied fetchEnd fetchWith walkOf tableWalk walkRange walkFrom lookupNext levelNext leafResult leafTranslation leafPermissions tableNext descaddr rangeOf paramsOf paSize untagged wordAt littleEndian bytesOf
+unfolding row elsewhere par esr at called stepOf runOf missedOf translateOf steppedNow turnOf registerAt freshSys regOf movedTo sysOf atOf withPar abortOf takeSync takeException enteredSys spsrOf routedTo syndromeOf named decodeOf success abort leafPar parIn atPar judged blanks noHints placeOf byWalk resolveWith missWith applied turnWith fetchApplied fetchEnd fetchWith walkOf tableWalk walkRange walkFrom lookupNext levelNext leafResult leafTranslation leafPermissions tableNext descaddr rangeOf paramsOf paSize untagged wordAt littleEndian bytesOf
 cases = refl

@@ -1,7 +1,8 @@
--- Document 01's numbers 1 to 6, checked from top to bottom.
-use mathlib.Core.Bool.{Bool, true, false, not, _&&_, _||_}
+-- Document 01's numbers 1 to 6.
+use mathlib.Core.Bool.{Bool, true, false, not, _||_}
+use mathlib.Core.List.{List, [], _∷_}
 use Prim.Native.Nat.{ℕ, _+_, _^_}
-use lib.Dec.{ltb, leb}
+use lib.Dec.{ltb}
 use Rattle.word.specs.Bits.{pick}
 use Rattle.word.specs.Ram.{widthOf}
 use Rattle.word.specs.declared.ram.Sized.{Sized}
@@ -11,43 +12,6 @@ use Rattle.sysreg.specs.Write.{names}
 use Rattle.cpu.specs.declared.call.Encoding.{Encoding}
 use Rattle.cpu.specs.declared.call.Call.{Call}
 use Rattle.cpu.specs.declared.call.Call.the-variants.{Translate, DataPa, FetchPa, Load, Store, Fetch, System, Register, Level, Mark, General, Abort}
-use Rattle.cpu.specs.declared.check.Asked.{Asked}
-
--- nothing to check but the level and, where the call is handed RAM, the window; PAR_EL1's key is 0xC3A0
-abbrev pub plainOf : Bool → Asked
-plainOf ram = record { level = 0; ram = ram; size = 1; op1 = 0; crn = 0; crm = 0; op2 = 0; number = 0; key = 0xC3A0 }
-
--- a size; the fields and the register's number of a system operation; a key; a level asked for; a register's number
-abbrev pub sizedOf : ℕ → Asked
-sizedOf size = record { level = 0; ram = true; size = size; op1 = 0; crn = 0; crm = 0; op2 = 0; number = 0; key = 0xC3A0 }
-
-abbrev pub encodedOf : Encoding → Asked
-encodedOf e =
-    record { level = 0; ram = true; size = 1; op1 = e .op1; crn = e .crn; crm = e .crm; op2 = e .op2; number = e .rt; key = 0xC3A0 }
-
-abbrev pub keyedOf : ℕ → Asked
-keyedOf key = record { level = 0; ram = false; size = 1; op1 = 0; crn = 0; crm = 0; op2 = 0; number = 0; key = key }
-
-abbrev pub levelledOf : ℕ → Asked
-levelledOf level = record { level = level; ram = false; size = 1; op1 = 0; crn = 0; crm = 0; op2 = 0; number = 0; key = 0xC3A0 }
-
-abbrev pub numberedOf : ℕ → Asked
-numberedOf number = record { level = 0; ram = false; size = 1; op1 = 0; crn = 0; crm = 0; op2 = 0; number = number; key = 0xC3A0 }
-
--- what each call has: translations, load, store, fetch and every system operation are handed RAM
-unfoldable pub askedOf : Call → Asked
-askedOf (Translate kind va) = plainOf true
-askedOf (DataPa va) = plainOf true
-askedOf (FetchPa va) = plainOf true
-askedOf (Load va size) = sizedOf size
-askedOf (Store va size value) = sizedOf size
-askedOf (Fetch va) = plainOf true
-askedOf (System e) = encodedOf e
-askedOf (Register key value) = keyedOf key
-askedOf (Level level) = levelledOf level
-askedOf (Mark mark) = plainOf false
-askedOf (General number value) = numberedOf number
-askedOf (Abort e) = plainOf false
 
 -- base plus length is above 2^64
 abbrev pub passes : ℕ → ℕ → Bool
@@ -61,17 +25,46 @@ isWidth Refused = false
 abbrev pub known : ℕ → Bool
 known size = isWidth (widthOf size)
 
+-- op1 or op2 above 7, CRn or CRm above 15
+abbrev pub unencoded : Encoding → Bool
+unencoded e = (ltb 7 (e .op1) || ltb 7 (e .op2)) || (ltb 15 (e .crn) || ltb 15 (e .crm))
+
 -- a key that is banked or PAR
 abbrev pub kept : ℕ → Bool
 kept key = names (registerAt key)
 
--- the first check that is missed, by the present level and the window; 0 where none is
-unfoldable pub missedOf : ℕ → ℕ → ℕ → Asked → ℕ
-missedOf level base len a =
-    pick (ltb 3 level || ltb 3 (a .level)) 1
-    (pick (a .ram && passes base len) 2
-    (pick (known (a .size))
-    (pick (((leb (a .op1) 7 && leb (a .op2) 7) && leb (a .crn) 15) && leb (a .crm) 15)
-    (pick (ltb 31 (a .number)) 5 (pick (kept (a .key)) 0 6))
-    4)
-    3))
+-- a row of the table: its condition and its number
+abbrev pub Row : Type 0
+Row = Bool × ℕ
+
+-- the rows of a call that is handed RAM, and of one that has a size besides
+abbrev pub ramRows : ℕ → ℕ → ℕ → List Row
+ramRows level base len = (ltb 3 level, 1) ∷ (passes base len, 2) ∷ []
+
+abbrev pub sizedRows : ℕ → ℕ → ℕ → ℕ → List Row
+sizedRows level base len size = (ltb 3 level, 1) ∷ (passes base len, 2) ∷ (not (known size), 3) ∷ []
+
+-- each call's rows of the table, from top to bottom, by the present level and the window;
+-- translations, load, store, fetch and every system operation are handed RAM
+abbrev pub checksOf : ℕ → ℕ → ℕ → Call → List Row
+checksOf level base len (Translate kind va) = ramRows level base len
+checksOf level base len (DataPa va) = ramRows level base len
+checksOf level base len (FetchPa va) = ramRows level base len
+checksOf level base len (Load va size) = sizedRows level base len size
+checksOf level base len (Store va size value) = sizedRows level base len size
+checksOf level base len (Fetch va) = ramRows level base len
+checksOf level base len (System e) = (ltb 3 level, 1) ∷ (passes base len, 2) ∷ (unencoded e, 4) ∷ (ltb 31 (e .rt), 5) ∷ []
+checksOf level base len (Register key value) = (ltb 3 level, 1) ∷ (not (kept key), 6) ∷ []
+checksOf level base len (Level requested) = (ltb 3 level || ltb 3 requested, 1) ∷ []
+checksOf level base len (Mark mark) = (ltb 3 level, 1) ∷ []
+checksOf level base len (General number value) = (ltb 3 level, 1) ∷ (ltb 31 number, 5) ∷ []
+checksOf level base len (Abort e) = (ltb 3 level, 1) ∷ []
+
+-- the number of the first row whose condition holds, or 0
+abbrev pub firstOf : List Row → ℕ
+firstOf [] = 0
+firstOf (row ∷ rows) = pick (row .0) (row .1) (firstOf rows)
+
+-- the number of the first check that a call misses; 0 where it misses none
+unfoldable pub missedOf : ℕ → ℕ → ℕ → Call → ℕ
+missedOf level base len call = firstOf (checksOf level base len call)

@@ -1,10 +1,11 @@
 -- Every call ends: a number and nothing changed, or its value, its fault, Undefined or Unimplemented.
 use mathlib.Core.Path.{_≡_, refl, sym, ap, subst, subst⁻¹, _∙_}
-use mathlib.Core.Bool.{Bool, true, false, _&&_, _||_}
-use mathlib.Core.List.{List}
+use mathlib.Core.Bool.{Bool, true, false, not, _&&_}
+use mathlib.Core.List.{List, [], _∷_}
 use Prim.Native.Nat.{ℕ, zero, suc, _+_, _≤_}
 use native.Mathlib.Omega.{arith}
-use lib.Dec.{eqb, ltb, leb}
+use borrow.Author.Tests.{leb-true, not-false}
+use lib.Dec.{eqb, leb}
 use lib.ListN.{length}
 use Rattle.word.specs.Bits.{pick, wrap, alignDown}
 use Rattle.word.specs.Ram.{wordAt, widthOf, bytesIn, within, littleEndian}
@@ -48,7 +49,7 @@ use Rattle.mmu.specs.declared.ends.Reached.the-variants as Reach
 use Rattle.mmu.specs.declared.ops.Stored.{Stored}
 use Rattle.exec.specs.Ops.{registered, written, writeRegister}
 use Rattle.exec.specs.Sys.{onStored, zeroOf, zeroRam, sysBy, sysRamBy, opOf, sysOf, sysRam}
-use Rattle.cpu.specs.Check.{askedOf, passes, missedOf, isWidth, known, kept}
+use Rattle.cpu.specs.Check.{Row, checksOf, firstOf, missedOf, isWidth, known, kept}
 use Rattle.cpu.specs.Step.{ends, translation, loading, storing, fetching, reaching, registering, loadBy, storeBy, storeRamBy, refusedOr, missedBy, runOf, ramOf, stepOf, ramAfter}
 use Rattle.cpu.specs.declared.call.Call.{Call}
 use Rattle.cpu.specs.declared.call.Call.the-variants.{Translate, DataPa, FetchPa, Load as LoadCall, Store as StoreCall, Fetch, System, Register as RegisterCall, Level, Mark, General, Abort}
@@ -70,42 +71,44 @@ outcomeOf (Stopped s) = says (stopSays s)
 
 -- A REFUSED CALL
 
--- the first check that is missed, by whether each is passed or missed
-abbrev firstMissed : Bool → Bool → Bool → Bool → Bool → Bool → ℕ
-firstMissed high window size fields register key = pick high 1 (pick window 2 (pick size (pick fields (pick register 5 (pick key 0 6)) 4) 3))
+-- the numbers of the rows are 1 to 6
+abbrev numbered : List Row → Bool
+numbered [] = true
+numbered (row ∷ rows) = (leb 1 (row .1) && leb (row .1) 6) && numbered rows
 
-small : (high window size fields register key : Bool) → firstMissed high window size fields register key ≤ 6
-small true w s f n k = omega arith
-small false true s f n k = omega arith
-small false false false f n k = omega arith
-small false false true false n k = omega arith
-small false false true true true k = omega arith
-small false false true true false true = omega arith
-small false false true true false false = omega arith
+checks-numbered : (level base len : ℕ) (call : Call) → numbered (checksOf level base len call) ≡ true
+checks-numbered level base len (Translate kind va) = refl
+checks-numbered level base len (DataPa va) = refl
+checks-numbered level base len (FetchPa va) = refl
+checks-numbered level base len (LoadCall va size) = refl
+checks-numbered level base len (StoreCall va size v) = refl
+checks-numbered level base len (Fetch va) = refl
+checks-numbered level base len (System e) = refl
+checks-numbered level base len (RegisterCall key v) = refl
+checks-numbered level base len (Level requested) = refl
+checks-numbered level base len (Mark mark) = refl
+checks-numbered level base len (General n v) = refl
+checks-numbered level base len (Abort e) = refl
 
--- where none is, the size is known and the key names a register
-sized : (high window size fields register key : Bool) → firstMissed high window size fields register key ≡ 0 → size ≡ true
-sized true w s f n k e = absurd (let z : _≡_ {A = ℕ} 1 0 = e in omega arith)
-sized false true s f n k e = absurd (let z : _≡_ {A = ℕ} 2 0 = e in omega arith)
-sized false false false f n k e = absurd (let z : _≡_ {A = ℕ} 3 0 = e in omega arith)
-sized false false true f n k e = refl
+both : (a b : Bool) → a && b ≡ true → (a ≡ true) × (b ≡ true)
+both true true e = (refl, refl)
+both true false e = (refl, e)
+both false b e = absurd (let z : _≡_ {A = ℕ} 1 0 = ap (λ (x : Bool). pick x 0 1) e in omega arith)
 
-keyed : (high window size fields register key : Bool) → firstMissed high window size fields register key ≡ 0 → key ≡ true
-keyed true w s f n k e = absurd (let z : _≡_ {A = ℕ} 1 0 = e in omega arith)
-keyed false true s f n k e = absurd (let z : _≡_ {A = ℕ} 2 0 = e in omega arith)
-keyed false false false f n k e = absurd (let z : _≡_ {A = ℕ} 3 0 = e in omega arith)
-keyed false false true false n k e = absurd (let z : _≡_ {A = ℕ} 4 0 = e in omega arith)
-keyed false false true true true k e = absurd (let z : _≡_ {A = ℕ} 5 0 = e in omega arith)
-keyed false false true true false false e = absurd (let z : _≡_ {A = ℕ} 6 0 = e in omega arith)
-keyed false false true true false true e = refl
+first-le : (rows : List Row) → numbered rows ≡ true → firstOf rows ≤ 6
+first-le [] h = omega arith
+first-le (row ∷ rows) h =
+    let (here, later) = both (leb 1 (row .1) && leb (row .1) 6) (numbered rows) h in
+    go (row .0) (leb-true (row .1) 6 (both (leb 1 (row .1)) (leb (row .1) 6) here .1)) (first-le rows later)
+  where
+    go : (b : Bool) → row .1 ≤ 6 → firstOf rows ≤ 6 → pick b (row .1) (firstOf rows) ≤ 6
+    go true here later = here
+    go false here later = later
 
--- the numbers are 1 to 6, and a call with one is the identity on core and RAM
+-- and a call with one is the identity on core and RAM
 pub number-le : (c : Core) (base : ℕ) (ram : List ℕ) (call : Call) → missedBy c base ram call ≤ 6
 unfolding missedOf
-number-le c base ram call =
-    small (ltb 3 (c .who .level) || ltb 3 (askedOf call .level)) (askedOf call .ram && passes base (length ram)) (known (askedOf call .size))
-    (((leb (askedOf call .op1) 7 && leb (askedOf call .op2) 7) && leb (askedOf call .crn) 15) && leb (askedOf call .crm) 15)
-    (ltb 31 (askedOf call .number)) (kept (askedOf call .key))
+number-le c base ram call = first-le (checksOf (c .who .level) base (length ram) call) (checks-numbered (c .who .level) base (length ram) call)
 
 module _ (c : Core) (base : ℕ) (ram : List ℕ) (call : Call) (n : ℕ) (e : missedBy c base ram call ≡ suc n) where
   pub refused : stepOf c base ram call ≡ ends c (Refused (suc n))
@@ -117,6 +120,25 @@ module _ (c : Core) (base : ℕ) (ram : List ℕ) (call : Call) (n : ℕ) (e : m
   refused-ram = rw e
 
 -- EVERY OTHER CALL
+
+-- where a call misses no check, no row's condition holds
+abbrev pub Passed : List Row → Type 0
+Passed [] = Unit {0}
+Passed (row ∷ rows) = (row .0 ≡ false) × Passed rows
+
+none-first : (rows : List Row) → numbered rows ≡ true → firstOf rows ≡ 0 → Passed rows
+none-first [] h e = tt
+none-first (row ∷ rows) h e =
+    let (here, later) = both (leb 1 (row .1) && leb (row .1) 6) (numbered rows) h in
+    go (row .0) (leb-true 1 (row .1) (both (leb 1 (row .1)) (leb (row .1) 6) here .0)) e (none-first rows later)
+  where
+    go : (b : Bool) → 1 ≤ row .1 → pick b (row .1) (firstOf rows) ≡ 0 → (firstOf rows ≡ 0 → Passed rows) → (b ≡ false) × Passed rows
+    go true above z later = absurd (omega arith)
+    go false above z later = (refl, later z)
+
+pub all-passed : (level base len : ℕ) (call : Call) → missedOf level base len call ≡ 0 → Passed (checksOf level base len call)
+unfolding missedOf
+all-passed level base len call = none-first (checksOf level base len call) (checks-numbered level base len call)
 
 -- RAM after a store or a zeroing: as many bytes, whether it is done or stops at a fault
 pub data Wrote (ram : List ℕ) : List ℕ → Said → Type 0 where
@@ -260,21 +282,6 @@ module _ (c : Core) (base : ℕ) (ram : List ℕ) where
       go Written.NoRegister e =
           absurd (let z : _≡_ {A = ℕ} 1 0 = ap code (sym e) ∙ named-write (c .control) (c .sys) (c .who .level) v (registerAt key) named in omega arith)
 
-  -- what the checks have shown where none is missed
-  size-known : (call : Call) → missedBy c base ram call ≡ 0 → known (askedOf call .size) ≡ true
-  unfolding missedOf
-  size-known call e =
-      sized (ltb 3 (c .who .level) || ltb 3 (askedOf call .level)) (askedOf call .ram && passes base (length ram)) (known (askedOf call .size))
-      (((leb (askedOf call .op1) 7 && leb (askedOf call .op2) 7) && leb (askedOf call .crn) 15) && leb (askedOf call .crm) 15)
-      (ltb 31 (askedOf call .number)) (kept (askedOf call .key)) e
-
-  key-kept : (call : Call) → missedBy c base ram call ≡ 0 → kept (askedOf call .key) ≡ true
-  unfolding missedOf
-  key-kept call e =
-      keyed (ltb 3 (c .who .level) || ltb 3 (askedOf call .level)) (askedOf call .ram && passes base (length ram)) (known (askedOf call .size))
-      (((leb (askedOf call .op1) 7 && leb (askedOf call .op2) 7) && leb (askedOf call .crn) 15) && leb (askedOf call .crm) 15)
-      (ltb 31 (askedOf call .number)) (kept (askedOf call .key)) e
-
   loads : (s : Sized) (va : ℕ) → isWidth s ≡ true → Ran c ram (loadBy s c base ram va .core) ram (outcomeOf (loadBy s c base ram va .reply))
   loads (Bytes w) va h = loaded va (bytesIn w)
   loads NoWidth va h = absurd (let z : _≡_ {A = ℕ} 0 1 = ap (λ (x : Bool). pick x 1 0) h in omega arith)
@@ -287,15 +294,15 @@ module _ (c : Core) (base : ℕ) (ram : List ℕ) where
   -- a call that misses no check ends in a value, a fault, Undefined or Unimplemented, or is done
   pub ran : (call : Call) → missedBy c base ram call ≡ 0
       → Ran c ram (runOf c base ram call .core) (ramOf c base ram call) (outcomeOf (runOf c base ram call .reply))
-  unfolding runOf ramOf askedOf sysOf sysRam
+  unfolding runOf ramOf sysOf sysRam
   ran (Translate kind va) e = translated (translateOf c (wordAt base ram 8) va kind .core) va (translateOf c (wordAt base ram 8) va kind .answer)
   ran (DataPa va) e = addressed (dataPaOf c (wordAt base ram 8) va .core) (dataPaOf c (wordAt base ram 8) va .answer)
   ran (FetchPa va) e = addressed (fetchPaOf c (wordAt base ram 8) va .core) (fetchPaOf c (wordAt base ram 8) va .answer)
-  ran (LoadCall va size) e = loads (widthOf size) va (size-known (LoadCall va size) e)
-  ran (StoreCall va size v) e = stores (widthOf size) va v (size-known (StoreCall va size v) e)
+  ran (LoadCall va size) e = loads (widthOf size) va (not-false (known size) (all-passed (c .who .level) base (length ram) (LoadCall va size) e .1 .1 .0))
+  ran (StoreCall va size v) e = stores (widthOf size) va v (not-false (known size) (all-passed (c .who .level) base (length ram) (StoreCall va size v) e .1 .1 .0))
   ran (Fetch va) e = fetched va
   ran (System f) e = system (opOf c (f .op1) (f .crn) (f .crm) (f .op2)) (f .op1) (f .crm) (f .op2) (regOf c (f .rt))
-  ran (RegisterCall key v) e = registers key v (key-kept (RegisterCall key v) e)
+  ran (RegisterCall key v) e = registers key v (not-false (kept key) (all-passed (c .who .level) base (length ram) (RegisterCall key v) e .1 .0))
   ran (Level level) e = only-done c _ ram
   ran (Mark mark) e = only-done c _ ram
   ran (General n v) e = only-done c _ ram

@@ -32,7 +32,7 @@ use Rattle.mmu.specs.declared.ops.Addressed.{Addressed}
 use Rattle.exec.specs.Ops.{writeRegister, setLevel, setMark, abortOf}
 use Rattle.exec.specs.Sys.{sysOf, sysRam}
 use Rattle.exec.specs.declared.ops.Registered.{Registered}
-use Rattle.cpu.specs.Check.{askedOf, missedOf}
+use Rattle.cpu.specs.Check.{missedOf}
 use Rattle.cpu.specs.declared.call.Call.{Call}
 use Rattle.cpu.specs.declared.call.Call.the-variants.{Translate, DataPa, FetchPa, Load as LoadCall, Store as StoreCall, Fetch, System, Register, Level, Mark, General, Abort}
 use Rattle.cpu.specs.declared.call.Reply.{Reply}
@@ -135,7 +135,7 @@ refusedOr zero refused done = done
 refusedOr (suc n) refused done = refused (suc n)
 
 abbrev pub missedBy : Core → ℕ → List ℕ → Call → ℕ
-missedBy c base ram call = missedOf (c .who .level) base (length ram) (askedOf call)
+missedBy c base ram call = missedOf (c .who .level) base (length ram) call
 
 unfoldable pub stepOf : Core → ℕ → List ℕ → Call → Stepped
 stepOf c base ram call = refusedOr (missedBy c base ram call) (λ n. ends c (Refused n)) (runOf c base ram call)

@@ -1,6 +1,10 @@
-// Document 01's checks 1 to 6.
+// Document 01's checks 1 to 6, each call's from top to bottom.
 ghost use mathlib.Core.Path.{_≡_};
-ghost use Rattle.cpu.specs.Check.{plainOf, sizedOf, encodedOf, keyedOf, levelledOf, numberedOf, askedOf, passes, known, kept, missedOf};
+ghost use mathlib.Core.Bool.{not, _||_};
+ghost use mathlib.Core.List.{[], _∷_};
+ghost use lib.Dec.{ltb};
+ghost use Rattle.cpu.specs.Check.{passes, known, kept, ramRows, sizedRows, firstOf, missedOf};
+ghost use Rattle.cpu.specs.declared.call.Call.the-variants as Call;
 use crate::call::Call;
 use crate::call::Encoding;
 use sysreg::encoding;
@@ -8,142 +12,11 @@ use sysreg::encoding::Found;
 use word::ram;
 use word::ram::Sized;
 
-// What a call asks to be checked; a part that it does not have is one that passes.
-pub struct Asked {
-    pub level: u64,
-    // whether it is handed RAM
-    pub ram: bool,
-    pub size: u64,
-    pub op1: u64,
-    pub crn: u64,
-    pub crm: u64,
-    pub op2: u64,
-    // a general register's number
-    pub number: u64,
-    pub key: u32,
-}
-
-fn plain(ram: bool) -> Asked
-    ensures { λ r. ⌜ r ≡ plainOf ram ⌝ }
-{
-    Asked {
-        level: 0,
-        ram,
-        size: 1,
-        op1: 0,
-        crn: 0,
-        crm: 0,
-        op2: 0,
-        number: 0,
-        key: encoding::PAR_EL1,
-    }
-}
-
-fn sized(size: u64) -> Asked
-    ensures { λ r. ⌜ r ≡ sizedOf size ⌝ }
-{
-    Asked {
-        level: 0,
-        ram: true,
-        size,
-        op1: 0,
-        crn: 0,
-        crm: 0,
-        op2: 0,
-        number: 0,
-        key: encoding::PAR_EL1,
-    }
-}
-
-fn encoded(e: Encoding) -> Asked
-    ensures { λ r. ⌜ r ≡ encodedOf e ⌝ }
-{
-    Asked {
-        level: 0,
-        ram: true,
-        size: 1,
-        op1: e.op1,
-        crn: e.crn,
-        crm: e.crm,
-        op2: e.op2,
-        number: e.rt,
-        key: encoding::PAR_EL1,
-    }
-}
-
-fn keyed(key: u32) -> Asked
-    ensures { λ r. ⌜ r ≡ keyedOf key ⌝ }
-{
-    Asked {
-        level: 0,
-        ram: false,
-        size: 1,
-        op1: 0,
-        crn: 0,
-        crm: 0,
-        op2: 0,
-        number: 0,
-        key,
-    }
-}
-
-fn levelled(level: u64) -> Asked
-    ensures { λ r. ⌜ r ≡ levelledOf level ⌝ }
-{
-    Asked {
-        level,
-        ram: false,
-        size: 1,
-        op1: 0,
-        crn: 0,
-        crm: 0,
-        op2: 0,
-        number: 0,
-        key: encoding::PAR_EL1,
-    }
-}
-
-fn numbered(number: u64) -> Asked
-    ensures { λ r. ⌜ r ≡ numberedOf number ⌝ }
-{
-    Asked {
-        level: 0,
-        ram: false,
-        size: 1,
-        op1: 0,
-        crn: 0,
-        crm: 0,
-        op2: 0,
-        number,
-        key: encoding::PAR_EL1,
-    }
-}
-
-// What a call asks for.
-pub fn asked_of(call: Call) -> Asked
-    ensures { λ r. ⌜ r ≡ askedOf call ⌝ }
-{
-    match call {
-        Call::Translate(_, _) => plain(true),
-        Call::DataPa(_) => plain(true),
-        Call::FetchPa(_) => plain(true),
-        Call::Load(_, size) => sized(size),
-        Call::Store(_, size, _) => sized(size),
-        Call::Fetch(_) => plain(true),
-        Call::System(e) => encoded(e),
-        Call::Register(key, _) => keyed(key),
-        Call::Level(level) => levelled(level),
-        Call::Mark(_) => plain(false),
-        Call::General(number, _) => numbered(number),
-        Call::Abort(_) => plain(false),
-    }
-}
-
-// Whether a window of len bytes from base passes 2^64.
+// Whether a window of len bytes from base passes 2^64. Nearly every one ends at the last address or before it.
 pub fn past_end(base: u64, len: u64) -> bool
     ensures { λ r. ⌜ r ≡ passes base len ⌝ }
 {
-    if base == 0 {
+    if base <= 0xFFFF_FFFF_FFFF_FFFF - len {
         false
     } else {
         0xFFFF_FFFF_FFFF_FFFF - base + 1 < len
@@ -170,30 +43,99 @@ fn is_key(key: u32) -> bool
     }
 }
 
-// The number of the first check that is missed, or 0.
-pub fn missed(level: u8, base: u64, len: u64, a: Asked) -> u8
-    ensures { λ r. ⌜ r ≡ missedOf level base len a ⌝ }
+// Each function gives the number of the first check that its calls miss, or 0.
+
+// Setting the mark, abort entry.
+fn any(level: u8) -> u8
+    ensures { λ r. ⌜ r ≡ firstOf ((ltb 3 level, 1) ∷ []) ⌝ }
 {
-    let high = (3 < level) | (3 < a.level);
-    let past = past_end(base, len);
-    let window = a.ram & past;
-    let size = is_size(a.size);
-    let fields = (a.op1 <= 7) & (a.op2 <= 7) & (a.crn <= 15) & (a.crm <= 15);
-    let key = is_key(a.key);
-    if high {
+    if 3 < level { 1 } else { 0 }
+}
+
+// Setting the level.
+fn levels(level: u8, requested: u64) -> u8
+    ensures { λ r. ⌜ r ≡ firstOf ((ltb 3 level || ltb 3 requested, 1) ∷ []) ⌝ }
+{
+    if (3 < level) | (3 < requested) { 1 } else { 0 }
+}
+
+// Translations and fetch: they are handed RAM and no more.
+pub fn with_ram(level: u8, base: u64, len: u64) -> u8
+    ensures { λ r. ⌜ r ≡ firstOf (ramRows level base len) ⌝ }
+{
+    if 3 < level {
         return 1;
     }
-    if window {
+    if past_end(base, len) { 2 } else { 0 }
+}
+
+// Load, store.
+pub fn sized(level: u8, base: u64, len: u64, size: u64) -> u8
+    ensures { λ r. ⌜ r ≡ firstOf (sizedRows level base len size) ⌝ }
+{
+    let past = past_end(base, len);
+    let known = is_size(size);
+    if 3 < level {
+        return 1;
+    }
+    if past {
         return 2;
     }
-    if !size {
-        return 3;
+    if known { 0 } else { 3 }
+}
+
+// System operation.
+fn system(level: u8, base: u64, len: u64, e: Encoding) -> u8
+    ensures { λ r. ⌜ r ≡ missedOf level base len (Call.System e) ⌝ }
+{
+    if 3 < level {
+        return 1;
     }
-    if !fields {
+    if past_end(base, len) {
+        return 2;
+    }
+    if ((7 < e.op1) | (7 < e.op2)) | ((15 < e.crn) | (15 < e.crm)) {
         return 4;
     }
-    if 31 < a.number {
-        return 5;
+    if 31 < e.rt { 5 } else { 0 }
+}
+
+// Register write.
+fn register(level: u8, key: u32) -> u8
+    ensures { λ r. ⌜ r ≡ firstOf ((ltb 3 level, 1) ∷ (not (kept key), 6) ∷ []) ⌝ }
+{
+    if 3 < level {
+        return 1;
     }
-    if key { 0 } else { 6 }
+    if is_key(key) { 0 } else { 6 }
+}
+
+// Setting a general register.
+fn general(level: u8, number: u64) -> u8
+    ensures { λ r. ⌜ r ≡ firstOf ((ltb 3 level, 1) ∷ (ltb 31 number, 5) ∷ []) ⌝ }
+{
+    if 3 < level {
+        return 1;
+    }
+    if 31 < number { 5 } else { 0 }
+}
+
+// Any call.
+pub fn missed(level: u8, base: u64, len: u64, call: Call) -> u8
+    ensures { λ r. ⌜ r ≡ missedOf level base len call ⌝ }
+{
+    match call {
+        Call::Translate(_, _) => with_ram(level, base, len),
+        Call::DataPa(_) => with_ram(level, base, len),
+        Call::FetchPa(_) => with_ram(level, base, len),
+        Call::Load(_, size) => sized(level, base, len, size),
+        Call::Store(_, size, _) => sized(level, base, len, size),
+        Call::Fetch(_) => with_ram(level, base, len),
+        Call::System(e) => system(level, base, len, e),
+        Call::Register(key, _) => register(level, key),
+        Call::Level(requested) => levels(level, requested),
+        Call::Mark(_) => any(level),
+        Call::General(number, _) => general(level, number),
+        Call::Abort(_) => any(level),
+    }
 }

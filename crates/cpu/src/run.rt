@@ -4,23 +4,16 @@ ghost use Rattle.word.specs.Ram.{wordAt, widthOf};
 ghost use Rattle.mmu.specs.Ops.{translateOf, readOf, writeOf, ramAfterWrite, fetchOf, fetchPaOf, dataPaOf};
 ghost use Rattle.exec.specs.Ops.{writeRegister};
 ghost use Rattle.exec.specs.Sys.{sysOf, sysRam};
-ghost use Rattle.cpu.specs.Step.{ends, afterTranslation, afterAddress, afterFetch, afterStore, afterWrite, loadBy, storeBy, storeRamBy, storing, runOf, ramOf};
+ghost use Rattle.cpu.specs.Step.{ends, afterTranslation, afterAddress, afterFetch, afterStore, afterWrite, loadBy, storeBy, storeRamBy, runOf, ramOf};
 use crate::call::Call;
 use crate::call::Encoding;
 use crate::call::Reply;
 use crate::call::Stepped;
-use entry::exception::Exception;
-use entry::exception::Stop;
+use crate::reply;
 use mmu::core;
 use mmu::core::Core;
-use mmu::ends::FetchAnswer;
-use mmu::ends::LoadAnswer;
-use mmu::ends::Reached;
-use mmu::ends::StoreAnswer;
 use mmu::ops;
 use mmu::ops::Addressed;
-use sysreg::write::WriteAnswer;
-use tlb::access::Answer;
 use tlb::access::Kind;
 use word::ram;
 use word::ram::Sized;
@@ -29,18 +22,10 @@ fn translation(core: Core, base: u64, ram: &[u8], kind: Kind, va: u64) -> Steppe
     ensures { λ r. ⌜ r ≡ afterTranslation va (translateOf core (wordAt base (now (ram .entry)) 8) va kind) ⌝ }
 {
     let t = ops::translate(core, base, ram, va, kind);
-    let c = t.core;
+    let core = t.core;
     let answer = t.answer;
-    match answer {
-        Answer::Address(pa) => Stepped {
-            core: c,
-            reply: Reply::Value(pa),
-        },
-        Answer::Status(fsc) => Stepped {
-            core: c,
-            reply: Reply::Fault { addr: va, fsc },
-        },
-    }
+    let reply = reply::translated(va, answer);
+    Stepped { core, reply }
 }
 
 fn addressed(p: Addressed) -> Stepped
@@ -48,16 +33,8 @@ fn addressed(p: Addressed) -> Stepped
 {
     let core = p.core;
     let answer = p.answer;
-    match answer {
-        Reached::At(pa) => Stepped {
-            core,
-            reply: Reply::Value(pa),
-        },
-        Reached::Faults => Stepped {
-            core,
-            reply: Reply::Faults,
-        },
-    }
+    let reply = reply::reached(answer);
+    Stepped { core, reply }
 }
 
 fn load(core: Core, base: u64, ram: &[u8], va: u64, size: u64) -> Stepped
@@ -66,32 +43,15 @@ fn load(core: Core, base: u64, ram: &[u8], va: u64, size: u64) -> Stepped
     match ram::width_of(size) {
         Sized::Bytes(width) => {
             let t = ops::read(core, base, ram, va, width);
-            let c = t.core;
+            let core = t.core;
             let answer = t.answer;
-            match answer {
-                LoadAnswer::Value(v) => Stepped {
-                    core: c,
-                    reply: Reply::Value(v),
-                },
-                LoadAnswer::Stopped(s) => Stepped {
-                    core: c,
-                    reply: Reply::Stopped(s),
-                },
-            }
+            let reply = reply::loaded(answer);
+            Stepped { core, reply }
         }
         Sized::Refused => Stepped {
             core,
             reply: Reply::Refused(3),
         },
-    }
-}
-
-fn stored(answer: StoreAnswer) -> Reply
-    ensures { λ r. ⌜ r ≡ storing answer ⌝ }
-{
-    match answer {
-        StoreAnswer::Done => Reply::Done,
-        StoreAnswer::Stopped(s) => Reply::Stopped(s),
     }
 }
 
@@ -101,10 +61,10 @@ fn store(core: Core, base: u64, ram: &mut [u8], va: u64, size: u64, value: u64) 
     match ram::width_of(size) {
         Sized::Bytes(width) => {
             let t = ops::write(core, base, ram, va, width, value);
-            let c = t.core;
+            let core = t.core;
             let answer = t.answer;
-            let reply = stored(answer);
-            Stepped { core: c, reply }
+            let reply = reply::stored(answer);
+            Stepped { core, reply }
         }
         Sized::Refused => Stepped {
             core,
@@ -117,50 +77,30 @@ fn fetch(core: Core, base: u64, ram: &[u8], va: u64) -> Stepped
     ensures { λ r. ⌜ r ≡ afterFetch (fetchOf core base (now (ram .entry)) va) ⌝ }
 {
     let t = ops::fetch(core, base, ram, va);
-    let c = t.core;
+    let core = t.core;
     let answer = t.answer;
-    match answer {
-        FetchAnswer::Value(v) => Stepped {
-            core: c,
-            reply: Reply::Value(v as u64),
-        },
-        FetchAnswer::Aborted(e) => Stepped {
-            core: c,
-            reply: Reply::Stopped(Stop::Exception(e)),
-        },
-    }
+    let reply = reply::fetched(answer);
+    Stepped { core, reply }
 }
 
 fn system(core: Core, base: u64, ram: &mut [u8], e: Encoding) -> Stepped
     ensures { λ r. ⌜ (r ≡ afterStore (sysOf core base (now (ram .entry)) (e .op1) (e .crn) (e .crm) (e .op2) (e .rt))) × (now (ram .exit) ≡ sysRam core base (now (ram .entry)) (e .op1) (e .crn) (e .crm) (e .op2) (e .rt)) ⌝ }
 {
     let t = exec::sys::sys(core, base, ram, e.op1, e.crn, e.crm, e.op2, e.rt);
-    let c = t.core;
+    let core = t.core;
     let answer = t.answer;
-    let reply = stored(answer);
-    Stepped { core: c, reply }
+    let reply = reply::stored(answer);
+    Stepped { core, reply }
 }
 
 fn register(core: Core, key: u32, value: u64) -> Stepped
     ensures { λ r. ⌜ r ≡ afterWrite (writeRegister core key value) ⌝ }
 {
     let t = exec::ops::write_register(core, key, value);
-    let c = t.core;
+    let core = t.core;
     let answer = t.answer;
-    match answer {
-        WriteAnswer::Done => Stepped {
-            core: c,
-            reply: Reply::Done,
-        },
-        WriteAnswer::Undefined => Stepped {
-            core: c,
-            reply: Reply::Stopped(Stop::Exception(Exception::Undefined)),
-        },
-        WriteAnswer::NoRegister => Stepped {
-            core: c,
-            reply: Reply::Refused(6),
-        },
-    }
+    let reply = reply::written(answer);
+    Stepped { core, reply }
 }
 
 fn done(core: Core) -> Stepped

@@ -12,8 +12,7 @@ use mmu::core::Core;
 pub fn step(core: Core, base: u64, ram: &mut [u8], call: Call) -> Stepped
     ensures { λ r. ⌜ (r ≡ stepOf core base (now (ram .entry)) call) × (now (ram .exit) ≡ ramAfter core base (now (ram .entry)) call) ⌝ }
 {
-    let asked = check::asked_of(call);
-    let n = check::missed(core.who.level, base, ram.len() as u64, asked);
+    let n = check::missed(core.who.level, base, ram.len() as u64, call);
     if n == 0 {
         run::run(core, base, ram, call)
     } else {

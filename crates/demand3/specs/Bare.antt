@@ -25,7 +25,7 @@ use Rattle.sysop.specs.declared.op.SysOp.{SysOp}
 use Rattle.sysop.specs.declared.op.SysOp.the-variants as Op
 use Rattle.mmu.specs.Core.{zeros, regIn, regSet}
 use Rattle.exec.specs.Sys.{mairOf}
-use Rattle.cpu.specs.Check.{askedOf, missedOf}
+use Rattle.cpu.specs.Check.{missedOf}
 use Rattle.cpu.specs.Step.{refusedOr}
 use Rattle.cpu.specs.declared.call.Encoding.{Encoding}
 use Rattle.cpu.specs.declared.call.Call.{Call}
@@ -70,7 +70,7 @@ pub data Verdict : Type 0 where
 
 -- numbers 1 to 6: the first check that the call misses, 0 where it misses none
 abbrev pub missedIn : Bare → Ram → Call → ℕ
-missedIn b m x = missedOf (b .who .level) (m .base) (length (m .bytes)) (askedOf x)
+missedIn b m x = missedOf (b .who .level) (m .base) (length (m .bytes)) x
 
 -- what a system operation's encoding names at the present level, and its operand
 abbrev pub opIn : Bare → Encoding → SysOp

@@ -1,11 +1,12 @@
 -- Each call does to registers, level, mark and `Tlb` what its steps do.
 use mathlib.Core.Path.{_≡_, refl, sym, ap, _∙_}
-use mathlib.Core.Bool.{Bool, true, false}
+use mathlib.Core.Bool.{Bool, true, false, _||_}
 use mathlib.Core.List.{List, [], _∷_}
 use Prim.Native.Nat.{ℕ, zero, suc, _+_, _%_, _≤_, _<_}
 use native.Mathlib.Nat.{mod-eq-of-lt}
 use native.Mathlib.Omega.{arith}
 use lib.Dec.{eqb, leb, ltb}
+use lib.ListN.{length}
 use borrow.Author.Tests.{eqb-true, eqb-false, eq-eqb, ne-eqb, leb-false, ltb-false}
 use Rattle.word.specs.Bits.{alignDown, pick, wrap}
 use Rattle.word.specs.Ram.{widthOf, bytesIn}
@@ -32,9 +33,9 @@ use Rattle.mmu.specs.declared.ops.Stored.{Stored}
 use Rattle.exec.specs.Fit.{reshapedOf, retaggedOf, refitOf}
 use Rattle.exec.specs.Ops.{withRegs, appliedOf, registered, writeRegister, withWho as coreWho, setLevel, setMark, abortOf}
 use Rattle.exec.specs.Sys.{withPar as corePar, atOf, invalidatedOf, tlbiCore, onStored, doneWith, zeroOf, sysBy, sysOf}
-use Rattle.cpu.specs.Check.{askedOf, missedOf}
+use Rattle.cpu.specs.Check.{missedOf}
+use Rattle.cpu.specs.Demand1.{all-passed}
 use Rattle.cpu.specs.Step.{ends, loadBy, storeBy, runOf, refusedOr, stepOf}
-use Rattle.cpu.specs.declared.check.Asked.{Asked}
 use Rattle.cpu.specs.declared.call.Encoding.{Encoding}
 use Rattle.cpu.specs.declared.call.Call.{Call}
 use Rattle.cpu.specs.declared.call.Call.the-variants.{Translate, DataPa, FetchPa, Load, Store, Fetch, System, Register, Level, Mark, General, Abort}
@@ -207,15 +208,16 @@ setting-fits c m level mark low = go (leb level 3) refl
     go true e = record { bare = refl; plain = refl; tlb = refl }
     go false e = let h : 3 < level = leb-false level 3 e in absurd (omega arith)
 
--- a call that misses no check finds a level of 3 at most, and asks for no other
-missed-none : (level base len : ℕ) (a : Asked) → missedOf level base len a ≡ 0 → (level ≤ 3) × (a .level ≤ 3)
-unfolding missedOf
-missed-none level base len a e = go (ltb 3 level) (ltb 3 (a .level)) refl refl e
+-- where no check is missed the level is 3 at most, the one asked for too
+level-low : (level base len requested : ℕ) → missedOf level base len (Level requested) ≡ 0 → requested ≤ 3
+level-low level base len requested e = ltb-false 3 requested (go (ltb 3 level) (all-passed level base len (Level requested) e .0))
   where
-    go : (x y : Bool) → ltb 3 level ≡ x → ltb 3 (a .level) ≡ y → missedOf level base len a ≡ 0 → (level ≤ 3) × (a .level ≤ 3)
-    go true y p q z = let k : _≡_ {A = ℕ} 1 0 = rw (← z, p) in absurd (omega arith)
-    go false true p q z = let k : _≡_ {A = ℕ} 1 0 = rw (← z, p, q) in absurd (omega arith)
-    go false false p q z = (ltb-false 3 level p, ltb-false 3 (a .level) q)
+    go : (b : Bool) → (b || ltb 3 requested) ≡ false → ltb 3 requested ≡ false
+    go true z = absurd (let k : _≡_ {A = ℕ} 1 0 = ap (λ (x : Bool). pick x 1 0) z in omega arith)
+    go false z = z
+
+mark-low : (level base len : ℕ) (mark : Bool) → missedOf level base len (Mark mark) ≡ 0 → level ≤ 3
+mark-low level base len mark e = ltb-false 3 level (all-passed level base len (Mark mark) e .0)
 
 level-fits : (c : Core) (m : Ram) (level : ℕ) → level ≤ 3
     → Fits c (setLevel c (level % 4)) (withWho (bareOf c) level (c .who .mark)) (steps m (setting (record { level = level; mark = c .who .mark })) ∷ [])
@@ -232,7 +234,7 @@ run-fits : (c : Core) (m : Ram) (x : Call) → missedIn (bareOf c) m x ≡ 0
     (ifAllowed (ruledIn (bareOf c) x)
     (stepsIn (bareOf c) m (ifAllowed (ruledIn (bareOf c) x) (laterOf c m x) []) x)
     (steps m idle ∷ []))
-unfolding runOf askedOf sysOf regOf writeRegister setMark setReg abortOf
+unfolding runOf sysOf regOf writeRegister setMark setReg abortOf
 run-fits c m (Translate kind va) p = operation-fits c m (Laws.translate va kind) _ refl
 run-fits c m (DataPa va) p = operation-fits c m (Laws.dataPa va) _ refl
 run-fits c m (FetchPa va) p = operation-fits c m (Laws.fetchPa va) _ refl
@@ -241,8 +243,8 @@ run-fits c m (Store va size value) p = store-fits c m va (widthOf size)
 run-fits c m (Fetch va) p = operation-fits c m (Laws.fetch va) _ refl
 run-fits c m (System e) p = sys-fits (opIn (bareOf c) e) c m e
 run-fits c m (Register key value) p = write-fits c m (writtenIn (bareOf c) key value) (writtenIn (bareOf c) key value .answer)
-run-fits c m (Level level) p = level-fits c m level (missed-none _ _ _ _ p .1)
-run-fits c m (Mark mark) p = setting-fits c m (c .who .level) mark (missed-none _ _ _ _ p .0)
+run-fits c m (Level level) p = level-fits c m level (level-low (c .who .level) (m .base) (length (m .bytes)) level p)
+run-fits c m (Mark mark) p = setting-fits c m (c .who .level) mark (mark-low (c .who .level) (m .base) (length (m .bytes)) mark p)
 run-fits c m (General n value) p = record { bare = refl; plain = refl; tlb = refl }
 run-fits c m (Abort e) p = record { bare = refl; plain = refl; tlb = refl }
 

@@ -8,7 +8,6 @@ use Prim.Native.Nat.{ℕ, _+_, _/_, _%_, _^_, _≤_, _<_}
 use borrow.Author.Tests.{le-ltb}
 use lib.ListN.{length, getD}
 use Rattle.word.specs.Bits.{alignDown, wrap}
-use Rattle.sysreg.specs.Encoding.{registerAt}
 use Rattle.tlb.specs.declared.access.Kind.{Kind}
 use Rattle.tlb.specs.declared.access.Kind.the-variants.{Read, Write}
 use Rattle.tlb.specs.declared.access.Answer.the-variants.{Address}
@@ -24,7 +23,7 @@ use Rattle.mmu.specs.declared.ends.StoreAnswer.the-variants as Store
 use Rattle.sysop.specs.declared.op.SysOp.the-variants as Op
 use Rattle.exec.specs.Sys.{opOf, sysOf, sysRam}
 use Rattle.exec.specs.ZeroMeaning.{Zeroed, zva-zeroes}
-use Rattle.cpu.specs.Check.{askedOf, missedOf}
+use Rattle.cpu.specs.Check.{missedOf}
 use Rattle.cpu.specs.Step.{runOf, stepOf}
 use Rattle.cpu.specs.declared.call.Call.the-variants.{Translate}
 use Rattle.history.specs.World.{uncached}
@@ -56,7 +55,7 @@ module _ (list : List (Fed real machine)) (seen : Shown real machine freshCore l
 
   -- a translation after the list is a call that misses no check
   passed : (m .base + length (m .bytes) ≤ 2 ^ 64) → (kind : Kind) (va : ℕ) → missedIn (bareOf (coreNow list seen m)) m (Translate kind va) ≡ 0
-  unfolding askedOf missedOf registerAt
+  unfolding missedOf
   passed room kind va =
       rw (
         le-ltb (2 ^ 64) (m .base + length (m .bytes)) room,

@@ -41,7 +41,7 @@ use Rattle.sysop.specs.Tlbi.{scopeOf, whatOf, tlbiOf}
 use Rattle.exec.specs.Fit.{reshapedOf, retaggedOf, refitOf}
 use Rattle.exec.specs.Ops.{withRegs, appliedOf, writeRegister, setLevel}
 use Rattle.exec.specs.Sys.{invalidatedOf, tlbiCore, sysOf}
-use Rattle.cpu.specs.Check.{askedOf, missedOf}
+use Rattle.cpu.specs.Check.{missedOf}
 use Rattle.cpu.specs.Step.{translation, runOf, stepOf}
 use Rattle.cpu.specs.declared.call.Call.{Call}
 use Rattle.cpu.specs.declared.call.Call.the-variants.{Translate, Register, Level, General, System}
@@ -182,14 +182,14 @@ step-by-step = (
 -- WITH THE TLBI the page is settled, and the cache answers from a hint, as the core without a cache does.
 
 pub settled : SettledAt (fedBy tidied) (shown-shown real machine freshCore tidied) new 0x40001234
-unfolding bytesOf setReg freshBare freshCore zeros freshControl freshSys bankedAt registerAt controlWith sysWith writeReg askedOf missedOf named decodeOf scopeOf whatOf tlbiOf untagged
+unfolding bytesOf setReg freshBare freshCore zeros freshControl freshSys bankedAt registerAt controlWith sysWith writeReg missedOf named decodeOf scopeOf whatOf tlbiOf untagged
 settled = steps-settled real (plainIn freshBare) events new El1 0x40001 step-by-step
 
 pub by-cache :
     (turnIn (accessOf real (plainIn (bareAfter tidied)) new Read 0x40001234) (coreAfter tidied .tlb) .source ≡ FromHint)
     × (stepOf (coreAfter tidied) (new .base) (new .bytes) read .reply ≡ Value 0xC0001234)
     × (uncached real (plainIn (bareAfter tidied)) new Read 0x40001234 ≡ Address 0xC0001234)
-unfolding stepOf runOf translateOf steppedNow stepMmu movedTo regOf setReg writeRegister appliedOf withRegs refitOf retaggedOf reshapedOf setLevel sysOf tlbiCore invalidatedOf uncached judged judge sameShape asidOf asidBase freshBare freshCore zeros freshControl freshSys bankedAt registerAt controlWith sysWith writeReg askedOf missedOf named decodeOf scopeOf whatOf tlbiOf flushOf flushed invalidateOf dropPageOf withoutPage pageDropped turnWith missWith resolveWith byWalk applied entryJudged walkOf tableWalk walkRange walkFrom lookupNext levelNext leafResult leafTranslation leafPermissions tableNext descaddr rangeOf paramsOf paSize untagged wordAt littleEndian bytesOf placeOf blanks noHints
+unfolding stepOf runOf translateOf steppedNow stepMmu movedTo regOf setReg writeRegister appliedOf withRegs refitOf retaggedOf reshapedOf setLevel sysOf tlbiCore invalidatedOf uncached judged judge sameShape asidOf asidBase freshBare freshCore zeros freshControl freshSys bankedAt registerAt controlWith sysWith writeReg missedOf named decodeOf scopeOf whatOf tlbiOf flushOf flushed invalidateOf dropPageOf withoutPage pageDropped turnWith missWith resolveWith byWalk applied entryJudged walkOf tableWalk walkRange walkFrom lookupNext levelNext leafResult leafTranslation leafPermissions tableNext descaddr rangeOf paramsOf paSize untagged wordAt littleEndian bytesOf placeOf blanks noHints
 by-cache = (refl, refl, refl)
 
 -- WITHOUT IT the cache answers by the old table, so the page is not settled.
@@ -198,7 +198,7 @@ pub stale :
     (stepOf (coreAfter start) (new .base) (new .bytes) read .reply ≡ Value 0x80001234)
     × (uncached real (plainIn (bareAfter start)) new Read 0x40001234 ≡ Address 0xC0001234)
     × (missedIn (bareOf (coreAfter start)) new read ≡ 0)
-unfolding stepOf runOf translateOf steppedNow stepMmu movedTo regOf setReg writeRegister appliedOf withRegs refitOf retaggedOf reshapedOf setLevel uncached judged judge sameShape asidOf asidBase freshBare freshCore zeros freshControl freshSys bankedAt registerAt controlWith sysWith writeReg askedOf missedOf flushOf flushed turnWith missWith resolveWith byWalk applied entryJudged walkOf tableWalk walkRange walkFrom lookupNext levelNext leafResult leafTranslation leafPermissions tableNext descaddr rangeOf paramsOf paSize untagged wordAt littleEndian bytesOf placeOf blanks noHints
+unfolding stepOf runOf translateOf steppedNow stepMmu movedTo regOf setReg writeRegister appliedOf withRegs refitOf retaggedOf reshapedOf setLevel uncached judged judge sameShape asidOf asidBase freshBare freshCore zeros freshControl freshSys bankedAt registerAt controlWith sysWith writeReg missedOf flushOf flushed turnWith missWith resolveWith byWalk applied entryJudged walkOf tableWalk walkRange walkFrom lookupNext levelNext leafResult leafTranslation leafPermissions tableNext descaddr rangeOf paramsOf paSize untagged wordAt littleEndian bytesOf placeOf blanks noHints
 stale = (refl, refl, refl)
 
 pub unsettled : SettledAt (fedBy start) (shown-shown real machine freshCore start) new 0x40001234 → ⊥

@@ -2,7 +2,7 @@
 use borrow.Author.Needs.{needs}
 use Rattle.cpu.proofs.run.load.Statement.{statement}
 use Rattle.cpu.proofs.run.load.Tie as tie
-use Rattle.cpu.proofs.Runs.{load-value, load-stopped, load-refused}
+use Rattle.cpu.proofs.Runs.{load-done, load-refused}
 
 width-of-requires : tie.Need-width-of-requires
 width-of-requires c κs = search needs
@@ -13,23 +13,17 @@ enum-known-width c = search needs
 read-requires : tie.Need-read-requires
 read-requires c κs = search needs
 
-enum-known-answer : tie.Need-enum-known-answer
-enum-known-answer c = search needs
-
-enum-known-answer-2 : tie.Need-enum-known-answer-2
-enum-known-answer-2 c = search needs
+loaded-requires : tie.Need-loaded-requires
+loaded-requires c κs = search needs
 
 enum-told : tie.Need-enum-told
 enum-told c = search needs
 
 returns : tie.Need-returns
-returns c = search (load-value, needs)
+returns c = search (load-done, needs)
 
 returns-2 : tie.Need-returns-2
-returns-2 c = search (load-stopped, needs)
-
-returns-3 : tie.Need-returns-3
-returns-3 c = search (load-refused, needs)
+returns-2 c = search (load-refused, needs)
 
 pub load-spec : {M : Type 1} → statement M
 load-spec =
@@ -38,9 +32,7 @@ load-spec =
     width-of-requires
     enum-known-width
     read-requires
-    enum-known-answer
-    enum-known-answer-2
+    loaded-requires
     enum-told
     returns
-    returns-2
-    returns-3)
+    returns-2)

@@ -2,23 +2,16 @@
 use borrow.Author.Needs.{needs}
 use Rattle.cpu.proofs.run.translation.Statement.{statement}
 use Rattle.cpu.proofs.run.translation.Tie as tie
-use Rattle.cpu.proofs.Runs.{to-address, to-fault}
+use Rattle.cpu.proofs.Runs.{translated-is}
 
 translate-requires : tie.Need-translate-requires
 translate-requires c κs = search needs
 
-enum-known-answer : tie.Need-enum-known-answer
-enum-known-answer c = search needs
-
-enum-known-answer-2 : tie.Need-enum-known-answer-2
-enum-known-answer-2 c = search needs
+translated-requires : tie.Need-translated-requires
+translated-requires c κs = search needs
 
 returns : tie.Need-returns
-returns c = search (to-address, needs)
-
-returns-2 : tie.Need-returns-2
-returns-2 c = search (to-fault, needs)
+returns c = search (translated-is, needs)
 
 pub translation-spec : {M : Type 1} → statement M
-translation-spec =
-    tie.close (tie.spec translate-requires enum-known-answer enum-known-answer-2 returns returns-2)
+translation-spec = tie.close (tie.spec translate-requires translated-requires returns)

@@ -4,9 +4,6 @@ use Rattle.cpu.proofs.step.step.Statement.{statement}
 use Rattle.cpu.proofs.step.step.Tie as tie
 use Rattle.cpu.proofs.Runs.{step-runs, step-runs-ram, step-refuses, step-refuses-ram}
 
-asked-of-requires : tie.Need-asked-of-requires
-asked-of-requires c κs = search needs
-
 missed-requires : tie.Need-missed-requires
 missed-requires c κs = search needs
 
@@ -25,4 +22,4 @@ returns-2 c = (search (step-refuses, needs), search (step-refuses-ram, needs))
 pub step-spec : {M : Type 1} → statement M
 step-spec =
     tie.close
-    (tie.spec asked-of-requires missed-requires run-requires same-length returns returns-2)
+    (tie.spec missed-requires run-requires same-length returns returns-2)

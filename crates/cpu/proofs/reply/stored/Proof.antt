@@ -1,8 +1,8 @@
--- `a72abi::book::stored` meets its contract.
-use Rattle.a72abi.proofs.Booking.{stored-done, stored-stopped}
+-- `cpu::reply::stored` meets its contract.
 use borrow.Author.Needs.{needs}
-use Rattle.a72abi.proofs.book.stored.Statement.{statement}
-use Rattle.a72abi.proofs.book.stored.Tie as tie
+use Rattle.cpu.proofs.reply.stored.Statement.{statement}
+use Rattle.cpu.proofs.reply.stored.Tie as tie
+use Rattle.cpu.proofs.Runs.{replies}
 
 enum-told : tie.Need-enum-told
 enum-told c = search needs
@@ -14,7 +14,7 @@ returns : tie.Need-returns
 returns c = search needs
 
 returns-2 : tie.Need-returns-2
-returns-2 c = search (stored-done, stored-stopped, needs)
+returns-2 c = search (replies, needs)
 
 pub stored-spec : {M : Type 1} → statement M
 stored-spec = tie.close (tie.spec enum-told enum-known-answer returns returns-2)
