@@ -12,50 +12,34 @@ use Rattle.sysreg.specs.declared.write.WriteAnswer.{WriteAnswer}
 use Rattle.tlb.specs.declared.access.Kind.{Kind}
 use Rattle.tlb.specs.declared.access.Who.{Who}
 use Rattle.tlb.specs.declared.access.Answer.{Answer}
-use Rattle.tlb.specs.declared.access.Answer.the-variants.{Address, Status}
 use Rattle.entry.specs.declared.exception.Exception.{Exception}
-use Rattle.entry.specs.declared.exception.Stop.{Stop}
-use Rattle.entry.specs.declared.exception.Stop.the-variants as Stop
 use Rattle.mmu.specs.Core.{setReg}
 use Rattle.mmu.specs.Ops.{translateOf, readOf, writeOf, ramAfterWrite, fetchOf, fetchPaOf, dataPaOf}
 use Rattle.mmu.specs.declared.core.Core.{Core}
 use Rattle.mmu.specs.declared.ends.LoadAnswer.{LoadAnswer}
-use Rattle.mmu.specs.declared.ends.LoadAnswer.the-variants as Load
 use Rattle.mmu.specs.declared.ends.StoreAnswer.{StoreAnswer}
-use Rattle.mmu.specs.declared.ends.StoreAnswer.the-variants as Store
 use Rattle.mmu.specs.declared.ends.FetchAnswer.{FetchAnswer}
-use Rattle.mmu.specs.declared.ends.FetchAnswer.the-variants as Fetched
 use Rattle.mmu.specs.declared.ends.Reached.{Reached}
-use Rattle.mmu.specs.declared.ends.Reached.the-variants as Reach
 use Rattle.exec.specs.Ops.{writeRegister, setLevel, setMark, abortOf}
 use Rattle.exec.specs.Sys.{sysOf, sysRam}
-use Rattle.cpu.specs.Check.{askedOf, missedOf}
-use Rattle.cpu.specs.Step.{translation, reaching, loading, storing, fetching, registering, loadBy, storeBy, storeRamBy, runOf, ramOf, refusedOr, missedBy, stepOf, ramAfter, ends}
-use Rattle.cpu.specs.declared.check.Asked.{Asked}
+use Rattle.cpu.specs.Check.{missedOf}
+use Rattle.cpu.specs.Step.{translation, reaching, loading, storing, fetching, registering, loadBy, storeBy, storeRamBy, runOf, ramOf, stepOf, ramAfter, ends}
 use Rattle.cpu.specs.declared.call.Call.{Call}
 use Rattle.cpu.specs.declared.call.Call.the-variants as Call
 use Rattle.cpu.specs.declared.call.Encoding.{Encoding}
 use Rattle.cpu.specs.declared.call.Reply.{Reply}
-use Rattle.cpu.specs.declared.call.Reply.the-variants.{Refused, Done, Value, Faults, Fault, Stopped}
+use Rattle.cpu.specs.declared.call.Reply.the-variants.{Refused, Done}
 use Rattle.cpu.specs.declared.call.Stepped.{Stepped}
-use Rattle.entry.specs.declared.exception.Exception.the-variants as Exception
-use Rattle.sysreg.specs.declared.write.WriteAnswer.the-variants as Written
 use Rattle.words.specs.Parts.{withWho}
 use Rattle.words.specs.Held.{held}
 use Rattle.words.specs.Moved.{Moved, stays, moved-as}
 
 -- the checks
-pub level-missed : (c : Core) (who : Who) (a : Asked) (n base len : ℕ) (call : Call) → who ≡ c .who → a ≡ askedOf call
-    → n ≡ missedOf (who .level) base len a → n ≡ missedOf (c .who .level) base len (askedOf call)
-level-missed c who a n base len call e ea q = q ∙ λ i. missedOf (e i .level) base len (ea i)
+pub level-missed : (c : Core) (who : Who) (n base len : ℕ) (call : Call) → who ≡ c .who
+    → n ≡ missedOf (who .level) base len call → n ≡ missedOf (c .who .level) base len call
+level-missed c who n base len call e q = q ∙ ap (λ (w : Who). missedOf (w .level) base len call) e
 
-pub stored-stopped : (a : StoreAnswer) (s : Stop) → a ≡ Store.Stopped s → Stopped s ≡ storing a
-stored-stopped a s e = sym (rw e)
-
-pub stored-done : (a : StoreAnswer) → a ≡ Store.Done → Done ≡ storing a
-stored-done a e = sym (rw e)
-
-module _ (ws : List ℕ) (base : ℕ) (ram : List ℕ) (call : Call) (n : ℕ) (en : n ≡ missedOf (held ws .who .level) base (length ram) (askedOf call)) where
+module _ (ws : List ℕ) (base : ℕ) (ram : List ℕ) (call : Call) (n : ℕ) (en : n ≡ missedOf (held ws .who .level) base (length ram) call) where
   refuses : (n ≡ 0 → ⊥) → stepOf (held ws) base ram call ≡ ends (held ws) (Refused n)
   unfolding stepOf
   refuses h = go n refl
@@ -95,71 +79,55 @@ module _ (ws : List ℕ) (base : ℕ) (ram : List ℕ) (call : Call) (n : ℕ) (
   run-core : n ≡ 0 → (xs : List ℕ) → Moved ws xs (runOf (held ws) base ram call .core) → Moved ws xs (stepOf (held ws) base ram call .core)
   run-core e xs m = moved-as m (sym (ap (λ (s : Stepped). s .core) (runs e)))
 
-module _ (ws : List ℕ) (base : ℕ) (ram : List ℕ) (kind : Kind) (va : ℕ) (n : ℕ) (en : n ≡ missedOf (held ws .who .level) base (length ram) (askedOf (Call.Translate kind va))) (z : n ≡ 0) where
+module _ (ws : List ℕ) (base : ℕ) (ram : List ℕ) (kind : Kind) (va : ℕ) (n : ℕ) (en : n ≡ missedOf (held ws .who .level) base (length ram) (Call.Translate kind va)) (z : n ≡ 0) where
   abbrev translate-step : Stepped
   translate-step = stepOf (held ws) base ram (Call.Translate kind va)
 
-  pub translate-value : (a : Answer) (pa : ℕ) → a ≡ translateOf (held ws) (wordAt base ram 8) va kind .answer → a ≡ Address pa → Value pa ≡ translate-step .reply
+  pub translate-reply : (a : Answer) (r : Reply) → a ≡ translateOf (held ws) (wordAt base ram 8) va kind .answer → r ≡ translation va a → r ≡ translate-step .reply
   unfolding runOf
-  translate-value a pa ea e = run-reply ws base ram (Call.Translate kind va) n en z _ (ap (translation va) (sym e ∙ ea))
-
-  pub translate-fault : (a : Answer) (fsc : ℕ) → a ≡ translateOf (held ws) (wordAt base ram 8) va kind .answer → a ≡ Status fsc → Fault va fsc ≡ translate-step .reply
-  unfolding runOf
-  translate-fault a fsc ea e = run-reply ws base ram (Call.Translate kind va) n en z _ (ap (translation va) (sym e ∙ ea))
+  translate-reply a r ea er = run-reply ws base ram (Call.Translate kind va) n en z _ (er ∙ ap (translation va) ea)
 
   pub translate-core : (xs : List ℕ) → Moved ws xs (translateOf (held ws) (wordAt base ram 8) va kind .core) → Moved ws xs (translate-step .core)
   unfolding runOf
   translate-core xs m = run-core ws base ram (Call.Translate kind va) n en z xs m
 
-module _ (ws : List ℕ) (base : ℕ) (ram : List ℕ) (va : ℕ) (n : ℕ) (en : n ≡ missedOf (held ws .who .level) base (length ram) (askedOf (Call.DataPa va))) (z : n ≡ 0) where
+module _ (ws : List ℕ) (base : ℕ) (ram : List ℕ) (va : ℕ) (n : ℕ) (en : n ≡ missedOf (held ws .who .level) base (length ram) (Call.DataPa va)) (z : n ≡ 0) where
   abbrev data-step : Stepped
   data-step = stepOf (held ws) base ram (Call.DataPa va)
 
-  pub data-value : (a : Reached) (pa : ℕ) → a ≡ dataPaOf (held ws) (wordAt base ram 8) va .answer → a ≡ Reach.At pa → Value pa ≡ data-step .reply
+  pub data-reply : (a : Reached) (r : Reply) → a ≡ dataPaOf (held ws) (wordAt base ram 8) va .answer → r ≡ reaching a → r ≡ data-step .reply
   unfolding runOf
-  data-value a pa ea e = run-reply ws base ram (Call.DataPa va) n en z _ (ap (reaching) (sym e ∙ ea))
-
-  pub data-faults : (a : Reached) → a ≡ dataPaOf (held ws) (wordAt base ram 8) va .answer → a ≡ Reach.Faults → Faults ≡ data-step .reply
-  unfolding runOf
-  data-faults a ea e = run-reply ws base ram (Call.DataPa va) n en z _ (ap (reaching) (sym e ∙ ea))
+  data-reply a r ea er = run-reply ws base ram (Call.DataPa va) n en z _ (er ∙ ap reaching ea)
 
   pub data-core : (xs : List ℕ) → Moved ws xs (dataPaOf (held ws) (wordAt base ram 8) va .core) → Moved ws xs (data-step .core)
   unfolding runOf
   data-core xs m = run-core ws base ram (Call.DataPa va) n en z xs m
 
-module _ (ws : List ℕ) (base : ℕ) (ram : List ℕ) (va : ℕ) (n : ℕ) (en : n ≡ missedOf (held ws .who .level) base (length ram) (askedOf (Call.FetchPa va))) (z : n ≡ 0) where
+module _ (ws : List ℕ) (base : ℕ) (ram : List ℕ) (va : ℕ) (n : ℕ) (en : n ≡ missedOf (held ws .who .level) base (length ram) (Call.FetchPa va)) (z : n ≡ 0) where
   abbrev fetch-pa-step : Stepped
   fetch-pa-step = stepOf (held ws) base ram (Call.FetchPa va)
 
-  pub fetch-pa-value : (a : Reached) (pa : ℕ) → a ≡ fetchPaOf (held ws) (wordAt base ram 8) va .answer → a ≡ Reach.At pa → Value pa ≡ fetch-pa-step .reply
+  pub fetch-pa-reply : (a : Reached) (r : Reply) → a ≡ fetchPaOf (held ws) (wordAt base ram 8) va .answer → r ≡ reaching a → r ≡ fetch-pa-step .reply
   unfolding runOf
-  fetch-pa-value a pa ea e = run-reply ws base ram (Call.FetchPa va) n en z _ (ap (reaching) (sym e ∙ ea))
-
-  pub fetch-pa-faults : (a : Reached) → a ≡ fetchPaOf (held ws) (wordAt base ram 8) va .answer → a ≡ Reach.Faults → Faults ≡ fetch-pa-step .reply
-  unfolding runOf
-  fetch-pa-faults a ea e = run-reply ws base ram (Call.FetchPa va) n en z _ (ap (reaching) (sym e ∙ ea))
+  fetch-pa-reply a r ea er = run-reply ws base ram (Call.FetchPa va) n en z _ (er ∙ ap reaching ea)
 
   pub fetch-pa-core : (xs : List ℕ) → Moved ws xs (fetchPaOf (held ws) (wordAt base ram 8) va .core) → Moved ws xs (fetch-pa-step .core)
   unfolding runOf
   fetch-pa-core xs m = run-core ws base ram (Call.FetchPa va) n en z xs m
 
-module _ (ws : List ℕ) (base : ℕ) (ram : List ℕ) (va : ℕ) (n : ℕ) (en : n ≡ missedOf (held ws .who .level) base (length ram) (askedOf (Call.Fetch va))) (z : n ≡ 0) where
+module _ (ws : List ℕ) (base : ℕ) (ram : List ℕ) (va : ℕ) (n : ℕ) (en : n ≡ missedOf (held ws .who .level) base (length ram) (Call.Fetch va)) (z : n ≡ 0) where
   abbrev fetch-step : Stepped
   fetch-step = stepOf (held ws) base ram (Call.Fetch va)
 
-  pub fetch-value : (a : FetchAnswer) (v : ℕ) → a ≡ fetchOf (held ws) base ram va .answer → a ≡ Fetched.Value v → Value v ≡ fetch-step .reply
+  pub fetch-reply : (a : FetchAnswer) (r : Reply) → a ≡ fetchOf (held ws) base ram va .answer → r ≡ fetching a → r ≡ fetch-step .reply
   unfolding runOf
-  fetch-value a v ea e = run-reply ws base ram (Call.Fetch va) n en z _ (ap (fetching) (sym e ∙ ea))
-
-  pub fetch-aborted : (a : FetchAnswer) (x : Exception) → a ≡ fetchOf (held ws) base ram va .answer → a ≡ Fetched.Aborted x → Stopped (Stop.Exception x) ≡ fetch-step .reply
-  unfolding runOf
-  fetch-aborted a x ea e = run-reply ws base ram (Call.Fetch va) n en z _ (ap (fetching) (sym e ∙ ea))
+  fetch-reply a r ea er = run-reply ws base ram (Call.Fetch va) n en z _ (er ∙ ap fetching ea)
 
   pub fetch-core : (xs : List ℕ) → Moved ws xs (fetchOf (held ws) base ram va .core) → Moved ws xs (fetch-step .core)
   unfolding runOf
   fetch-core xs m = run-core ws base ram (Call.Fetch va) n en z xs m
 
-module _ (ws : List ℕ) (base : ℕ) (ram : List ℕ) (va size : ℕ) (n : ℕ) (en : n ≡ missedOf (held ws .who .level) base (length ram) (askedOf (Call.Load va size))) (z : n ≡ 0) where
+module _ (ws : List ℕ) (base : ℕ) (ram : List ℕ) (va size : ℕ) (n : ℕ) (en : n ≡ missedOf (held ws .who .level) base (length ram) (Call.Load va size)) (z : n ≡ 0) where
   abbrev load-step : Stepped
   load-step = stepOf (held ws) base ram (Call.Load va size)
 
@@ -171,11 +139,8 @@ module _ (ws : List ℕ) (base : ℕ) (ram : List ℕ) (va size : ℕ) (n : ℕ)
   unfolding runOf
   load-none p e q = ap (λ (x : Sized). loadBy x (held ws) base ram va) (sym e ∙ q)
 
-  pub load-value : (p : Sized) (w : Width) (a : LoadAnswer) (v : ℕ) → p ≡ widthOf size → p ≡ Bytes w → a ≡ readOf (held ws) base ram va (bytesIn w) .answer → a ≡ Load.Value v → Value v ≡ load-step .reply
-  load-value p w a v e q ea ec = run-reply ws base ram (Call.Load va size) n en z _ (ap loading (sym ec ∙ ea) ∙ sym (ap (λ (s : Stepped). s .reply) (load-width p w e q)))
-
-  pub load-stopped : (p : Sized) (w : Width) (a : LoadAnswer) (s : Stop) → p ≡ widthOf size → p ≡ Bytes w → a ≡ readOf (held ws) base ram va (bytesIn w) .answer → a ≡ Load.Stopped s → Stopped s ≡ load-step .reply
-  load-stopped p w a s e q ea ec = run-reply ws base ram (Call.Load va size) n en z _ (ap loading (sym ec ∙ ea) ∙ sym (ap (λ (s : Stepped). s .reply) (load-width p w e q)))
+  pub load-reply : (p : Sized) (w : Width) (a : LoadAnswer) (r : Reply) → p ≡ widthOf size → p ≡ Bytes w → a ≡ readOf (held ws) base ram va (bytesIn w) .answer → r ≡ loading a → r ≡ load-step .reply
+  load-reply p w a r e q ea er = run-reply ws base ram (Call.Load va size) n en z _ (er ∙ ap loading ea ∙ sym (ap (λ (s : Stepped). s .reply) (load-width p w e q)))
 
   pub load-core : (p : Sized) (w : Width) (xs : List ℕ) → p ≡ widthOf size → p ≡ Bytes w → Moved ws xs (readOf (held ws) base ram va (bytesIn w) .core) → Moved ws xs (load-step .core)
   load-core p w xs e q m = run-core ws base ram (Call.Load va size) n en z xs (moved-as m (sym (ap (λ (s : Stepped). s .core) (load-width p w e q))))
@@ -186,7 +151,7 @@ module _ (ws : List ℕ) (base : ℕ) (ram : List ℕ) (va size : ℕ) (n : ℕ)
   pub load-size-core : (p : Sized) → p ≡ widthOf size → p ≡ NoWidth → Moved ws ws (load-step .core)
   load-size-core p e q = run-core ws base ram (Call.Load va size) n en z ws (moved-as stays (sym (ap (λ (s : Stepped). s .core) (load-none p e q))))
 
-module _ (ws : List ℕ) (base : ℕ) (ram : List ℕ) (va size value : ℕ) (n : ℕ) (en : n ≡ missedOf (held ws .who .level) base (length ram) (askedOf (Call.Store va size value))) (z : n ≡ 0) where
+module _ (ws : List ℕ) (base : ℕ) (ram : List ℕ) (va size value : ℕ) (n : ℕ) (en : n ≡ missedOf (held ws .who .level) base (length ram) (Call.Store va size value)) (z : n ≡ 0) where
   abbrev store-step : Stepped
   store-step = stepOf (held ws) base ram (Call.Store va size value)
 
@@ -218,7 +183,7 @@ module _ (ws : List ℕ) (base : ℕ) (ram : List ℕ) (va size value : ℕ) (n 
   unfolding ramOf
   store-size-ram p e q = ap (λ (x : Sized). storeRamBy x (held ws) base ram va value) (sym q ∙ e) ∙ sym (runs-ram ws base ram (Call.Store va size value) n en z)
 
-module _ (ws : List ℕ) (base : ℕ) (ram : List ℕ) (x : Encoding) (n : ℕ) (en : n ≡ missedOf (held ws .who .level) base (length ram) (askedOf (Call.System x))) (z : n ≡ 0) where
+module _ (ws : List ℕ) (base : ℕ) (ram : List ℕ) (x : Encoding) (n : ℕ) (en : n ≡ missedOf (held ws .who .level) base (length ram) (Call.System x)) (z : n ≡ 0) where
   abbrev system-step : Stepped
   system-step = stepOf (held ws) base ram (Call.System x)
 
@@ -234,27 +199,19 @@ module _ (ws : List ℕ) (base : ℕ) (ram : List ℕ) (x : Encoding) (n : ℕ) 
   unfolding ramOf
   system-ram ys r = r ∙ sym (runs-ram ws base ram (Call.System x) n en z)
 
-module _ (ws : List ℕ) (base : ℕ) (ram : List ℕ) (key value : ℕ) (n : ℕ) (en : n ≡ missedOf (held ws .who .level) base (length ram) (askedOf (Call.Register key value))) (z : n ≡ 0) where
+module _ (ws : List ℕ) (base : ℕ) (ram : List ℕ) (key value : ℕ) (n : ℕ) (en : n ≡ missedOf (held ws .who .level) base (length ram) (Call.Register key value)) (z : n ≡ 0) where
   abbrev register-step : Stepped
   register-step = stepOf (held ws) base ram (Call.Register key value)
 
-  pub register-done : (a : WriteAnswer) → a ≡ writeRegister (held ws) key value .answer → a ≡ Written.Done → Done ≡ register-step .reply
+  pub register-reply : (a : WriteAnswer) (r : Reply) → a ≡ writeRegister (held ws) key value .answer → r ≡ registering a → r ≡ register-step .reply
   unfolding runOf
-  register-done a ea e = run-reply ws base ram (Call.Register key value) n en z _ (ap registering (sym e ∙ ea))
-
-  pub register-undefined : (a : WriteAnswer) → a ≡ writeRegister (held ws) key value .answer → a ≡ Written.Undefined → Stopped (Stop.Exception Exception.Undefined) ≡ register-step .reply
-  unfolding runOf
-  register-undefined a ea e = run-reply ws base ram (Call.Register key value) n en z _ (ap registering (sym e ∙ ea))
-
-  pub register-none : (a : WriteAnswer) → a ≡ writeRegister (held ws) key value .answer → a ≡ Written.NoRegister → Refused 6 ≡ register-step .reply
-  unfolding runOf
-  register-none a ea e = run-reply ws base ram (Call.Register key value) n en z _ (ap registering (sym e ∙ ea))
+  register-reply a r ea er = run-reply ws base ram (Call.Register key value) n en z _ (er ∙ ap registering ea)
 
   pub register-core : (xs : List ℕ) → Moved ws xs (writeRegister (held ws) key value .core) → Moved ws xs (register-step .core)
   unfolding runOf
   register-core xs m = run-core ws base ram (Call.Register key value) n en z xs m
 
-module _ (ws : List ℕ) (base : ℕ) (ram : List ℕ) (level : ℕ) (n : ℕ) (en : n ≡ missedOf (held ws .who .level) base (length ram) (askedOf (Call.Level level))) (z : n ≡ 0) where
+module _ (ws : List ℕ) (base : ℕ) (ram : List ℕ) (level : ℕ) (n : ℕ) (en : n ≡ missedOf (held ws .who .level) base (length ram) (Call.Level level)) (z : n ≡ 0) where
   abbrev level-step : Stepped
   level-step = stepOf (held ws) base ram (Call.Level level)
 
@@ -266,7 +223,7 @@ module _ (ws : List ℕ) (base : ℕ) (ram : List ℕ) (level : ℕ) (n : ℕ) (
   unfolding runOf setLevel withWho
   level-core xs m = run-core ws base ram (Call.Level level) n en z xs m
 
-module _ (ws : List ℕ) (base : ℕ) (ram : List ℕ) (mark : Bool) (n : ℕ) (en : n ≡ missedOf (held ws .who .level) base (length ram) (askedOf (Call.Mark mark))) (z : n ≡ 0) where
+module _ (ws : List ℕ) (base : ℕ) (ram : List ℕ) (mark : Bool) (n : ℕ) (en : n ≡ missedOf (held ws .who .level) base (length ram) (Call.Mark mark)) (z : n ≡ 0) where
   abbrev mark-step : Stepped
   mark-step = stepOf (held ws) base ram (Call.Mark mark)
 
@@ -278,7 +235,7 @@ module _ (ws : List ℕ) (base : ℕ) (ram : List ℕ) (mark : Bool) (n : ℕ) (
   unfolding runOf setMark withWho
   mark-core xs m = run-core ws base ram (Call.Mark mark) n en z xs m
 
-module _ (ws : List ℕ) (base : ℕ) (ram : List ℕ) (number value : ℕ) (n : ℕ) (en : n ≡ missedOf (held ws .who .level) base (length ram) (askedOf (Call.General number value))) (z : n ≡ 0) where
+module _ (ws : List ℕ) (base : ℕ) (ram : List ℕ) (number value : ℕ) (n : ℕ) (en : n ≡ missedOf (held ws .who .level) base (length ram) (Call.General number value)) (z : n ≡ 0) where
   abbrev general-step : Stepped
   general-step = stepOf (held ws) base ram (Call.General number value)
 
@@ -290,7 +247,7 @@ module _ (ws : List ℕ) (base : ℕ) (ram : List ℕ) (number value : ℕ) (n :
   unfolding runOf
   general-core xs m = run-core ws base ram (Call.General number value) n en z xs m
 
-module _ (ws : List ℕ) (base : ℕ) (ram : List ℕ) (x : Exception) (n : ℕ) (en : n ≡ missedOf (held ws .who .level) base (length ram) (askedOf (Call.Abort x))) (z : n ≡ 0) where
+module _ (ws : List ℕ) (base : ℕ) (ram : List ℕ) (x : Exception) (n : ℕ) (en : n ≡ missedOf (held ws .who .level) base (length ram) (Call.Abort x)) (z : n ≡ 0) where
   abbrev abort-step : Stepped
   abort-step = stepOf (held ws) base ram (Call.Abort x)
 

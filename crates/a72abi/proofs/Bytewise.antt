@@ -41,7 +41,7 @@ use Rattle.mmu.specs.declared.ends.LoadAnswer.the-variants as Load
 use Rattle.mmu.specs.declared.ends.StoreAnswer.the-variants as Store
 use Rattle.mmu.specs.declared.ops.Accessed.{Accessed}
 use Rattle.mmu.specs.declared.ops.Translated.{Translated}
-use Rattle.cpu.specs.Check.{askedOf, sizedOf, missedOf, isWidth, known}
+use Rattle.cpu.specs.Check.{missedOf, isWidth, known}
 use Rattle.cpu.specs.Step.{loading, storing, loadBy, storeBy, storeRamBy, runOf, ramOf, stepOf, ramAfter, ends}
 use Rattle.cpu.specs.declared.call.Call.the-variants as Call
 use Rattle.cpu.specs.declared.call.Reply.{Reply}
@@ -217,14 +217,14 @@ unstored base ram n pa v e = rw e
 
 pub load-runs : (c : Core) (base : ℕ) (ram : List ℕ) (va size : ℕ) → length ram < 2 ^ 64 → Clear c base (length ram) → (w : Width) → widthOf size ≡ Bytes w
     → stepOf c base ram (Call.Load va size) ≡ ends (readOf c base ram va (bytesIn w) .core) (loading (readOf c base ram va (bytesIn w) .answer))
-unfolding runOf askedOf
+unfolding runOf missedOf
 load-runs c base ram va size h k w e =
     passed c base ram (Call.Load va size) (clear-sized c base (length ram) size h k (ap isWidth e)) ∙ ap (λ (s : Sized). loadBy s c base ram va) e
 
 pub store-runs : (c : Core) (base : ℕ) (ram : List ℕ) (va size v : ℕ) → length ram < 2 ^ 64 → Clear c base (length ram) → (w : Width) → widthOf size ≡ Bytes w
     → (stepOf c base ram (Call.Store va size v) ≡ ends (writeOf c base ram va (bytesIn w) .core) (storing (writeOf c base ram va (bytesIn w) .answer)))
     × (ramAfter c base ram (Call.Store va size v) ≡ ramAfterWrite c base ram va (bytesIn w) v)
-unfolding runOf ramOf askedOf
+unfolding runOf ramOf missedOf
 store-runs c base ram va size v h k w e =
     let z = clear-sized c base (length ram) size h k (ap isWidth e) in (
       passed c base ram (Call.Store va size v) z ∙ ap (λ (s : Sized). storeBy s c base ram va) e,

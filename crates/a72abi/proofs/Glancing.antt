@@ -27,7 +27,7 @@ use Rattle.mmu.specs.declared.core.Core.{Core}
 use Rattle.mmu.specs.declared.bytes.Insn.{Insn}
 use Rattle.mmu.specs.declared.bytes.Insn.the-variants as Insn
 use Rattle.mmu.specs.declared.ops.Translated.{Translated}
-use Rattle.cpu.specs.Check.{askedOf, plainOf, sizedOf, missedOf, passes, known}
+use Rattle.cpu.specs.Check.{ramRows, sizedRows, firstOf, missedOf, passes, known}
 use Rattle.cpu.specs.Step.{afterTranslation, afterAddress, afterFetch, translation, runOf, ramOf, stepOf, ramAfter, ends}
 use Rattle.cpu.specs.declared.call.Call.{Call}
 use Rattle.cpu.specs.declared.call.Call.the-variants as Call
@@ -70,68 +70,51 @@ fits-window : (base len : ℕ) → len < 2 ^ 64 → ltb (2 ^ 64 - 1 - len) base 
 fits-window base len h e = let s : base ≤ 2 ^ 64 - 1 - len = ltb-false _ _ e in le-ltb (2 ^ 64) (base + len) (omega arith)
 
 -- nothing but the level and the window to check
-pub clear-plain : (c : Core) (base len : ℕ) → len < 2 ^ 64 → Clear c base len → missedOf (c .who .level) base len (plainOf true) ≡ 0
-unfolding missedOf registerAt
-clear-plain c base len h k = rw (k .low, fits-window base len h (k .short))
+clear-ram : (c : Core) (base len : ℕ) → len < 2 ^ 64 → Clear c base len → firstOf (ramRows (c .who .level) base len) ≡ 0
+clear-ram c base len h k = rw (k .low, fits-window base len h (k .short))
 
-pub clear-sized : (c : Core) (base len size : ℕ) → len < 2 ^ 64 → Clear c base len → known size ≡ true → missedOf (c .who .level) base len (sizedOf size) ≡ 0
-unfolding missedOf registerAt
+pub clear-sized : (c : Core) (base len size : ℕ) → len < 2 ^ 64 → Clear c base len → known size ≡ true → firstOf (sizedRows (c .who .level) base len size) ≡ 0
 clear-sized c base len size h k s = rw (k .low, fits-window base len h (k .short), s)
 
-pub passed : (c : Core) (base : ℕ) (ram : List ℕ) (call : Call) → missedOf (c .who .level) base (length ram) (askedOf call) ≡ 0 → stepOf c base ram call ≡ runOf c base ram call
+pub passed : (c : Core) (base : ℕ) (ram : List ℕ) (call : Call) → missedOf (c .who .level) base (length ram) call ≡ 0 → stepOf c base ram call ≡ runOf c base ram call
 unfolding stepOf
 passed c base ram call e = rw e
 
-pub passed-ram : (c : Core) (base : ℕ) (ram : List ℕ) (call : Call) → missedOf (c .who .level) base (length ram) (askedOf call) ≡ 0 → ramAfter c base ram call ≡ ramOf c base ram call
+pub passed-ram : (c : Core) (base : ℕ) (ram : List ℕ) (call : Call) → missedOf (c .who .level) base (length ram) call ≡ 0 → ramAfter c base ram call ≡ ramOf c base ram call
 unfolding ramAfter
 passed-ram c base ram call e = rw e
 
 module _ (c : Core) (base : ℕ) (ram : List ℕ) (va : ℕ) (h : length ram < 2 ^ 64) where
-  plainly : (call : Call) → askedOf call ≡ plainOf true → Clear c base (length ram) → stepOf c base ram call ≡ runOf c base ram call
-  plainly call e k = passed c base ram call (ap (missedOf (c .who .level) base (length ram)) e ∙ clear-plain c base (length ram) h k)
-
-  asked-translate : (kind : Kind) → askedOf (Call.Translate kind va) ≡ plainOf true
-  unfolding askedOf
-  asked-translate kind = refl
-
-  asked-data : askedOf (Call.DataPa va) ≡ plainOf true
-  unfolding askedOf
-  asked-data = refl
-
-  asked-fetch-pa : askedOf (Call.FetchPa va) ≡ plainOf true
-  unfolding askedOf
-  asked-fetch-pa = refl
-
-  asked-fetch : askedOf (Call.Fetch va) ≡ plainOf true
-  unfolding askedOf
-  asked-fetch = refl
+  plainly : (call : Call) → missedOf (c .who .level) base (length ram) call ≡ firstOf (ramRows (c .who .level) base (length ram)) → Clear c base (length ram)
+      → stepOf c base ram call ≡ runOf c base ram call
+  plainly call e k = passed c base ram call (e ∙ clear-ram c base (length ram) h k)
 
   pub translates : (kind : Kind) → Clear c base (length ram) → stepOf c base ram (Call.Translate kind va) ≡ afterTranslation va (translateOf c (wordAt base ram 8) va kind)
-  unfolding runOf
-  translates kind k = plainly (Call.Translate kind va) (asked-translate kind) k
+  unfolding runOf missedOf
+  translates kind k = plainly (Call.Translate kind va) refl k
 
   data-quick : (pa : ℕ) → quickOf c base (length ram) va Read ≡ At pa → stepOf c base ram (Call.DataPa va) ≡ ends c (Value pa)
-  unfolding quickOf runOf dataPaOf translateOf
+  unfolding quickOf runOf missedOf dataPaOf translateOf
   data-quick pa q =
       let g : Clear c base (length ram) × (hintFound c va Read ≡ At pa) = glance c base (length ram) (hintFound c va Read) pa q in
-      plainly (Call.DataPa va) asked-data (g .0)
+      plainly (Call.DataPa va) refl (g .0)
       ∙ ap (λ (t : Translated). afterAddress (record { core = t .core; answer = reachedBy (t .answer) })) (hint-is (g .1))
     where
       hint-is : hintFound c va Read ≡ At pa → translateOf c (wordAt base ram 8) va Read ≡ answering c (Address pa)
       hint-is e = hint-serves c (wordAt base ram 8) va Read pa e
 
   fetch-pa-quick : (pa : ℕ) → quickFetchOf c base (length ram) va ≡ At pa → stepOf c base ram (Call.FetchPa va) ≡ ends c (Value pa)
-  unfolding quickFetchOf runOf fetchPaOf fetchTo
+  unfolding quickFetchOf runOf missedOf fetchPaOf fetchTo
   fetch-pa-quick pa q =
       let g : Clear c base (length ram) × (fetchFound (c .tlb .cache .fetch) (c .who .level) va ≡ At pa) = glance c base (length ram) (fetchFound (c .tlb .cache .fetch) (c .who .level) va) pa q in
-      plainly (Call.FetchPa va) asked-fetch-pa (g .0)
+      plainly (Call.FetchPa va) refl (g .0)
       ∙ ap (λ (t : Translated). afterAddress (record { core = t .core; answer = reachedBy (t .answer) })) (fetch-serves c (wordAt base ram 8) va pa (g .1))
 
   fetch-quick : (pa v : ℕ) → quickFetchOf c base (length ram) va ≡ At pa → insnOf base ram pa ≡ Insn.Value v → stepOf c base ram (Call.Fetch va) ≡ ends c (Value v)
-  unfolding quickFetchOf runOf fetchOf fetchTo fetchEnd movedTo
+  unfolding quickFetchOf runOf missedOf fetchOf fetchTo fetchEnd movedTo
   fetch-quick pa v q i =
       let g : Clear c base (length ram) × (fetchFound (c .tlb .cache .fetch) (c .who .level) va ≡ At pa) = glance c base (length ram) (fetchFound (c .tlb .cache .fetch) (c .who .level) va) pa q in
-      plainly (Call.Fetch va) asked-fetch (g .0)
+      plainly (Call.Fetch va) refl (g .0)
       ∙ ap
       (λ (t : Translated).
       afterFetch (record { core = movedTo c (t .core .tlb) (c .«last_pa») (fetchEnd (t .answer) (c .«abort_pa») base ram va .«abort_pa»); answer = fetchEnd (t .answer) (c .«abort_pa») base ram va .answer }))

@@ -7,7 +7,7 @@ use borrow.Author.Tests.{ne-eqb}
 use Rattle.tlb.specs.declared.access.Kind.{Kind}
 use Rattle.entry.specs.declared.exception.Exception.{Exception}
 use Rattle.mmu.specs.declared.core.Core.{Core}
-use Rattle.cpu.specs.Check.{askedOf, missedOf}
+use Rattle.cpu.specs.Check.{missedOf}
 use Rattle.cpu.specs.Step.{refusedOr, missedBy, runOf, ramOf, stepOf, ramAfter}
 use Rattle.cpu.specs.declared.call.Call.{Call}
 use Rattle.cpu.specs.declared.call.Call.the-variants as Call
@@ -47,7 +47,7 @@ unfolding ramAfter ramOf
 fetch-ram c base ram va = sym (either-way (missedBy c base ram (Call.Fetch va)) ram)
 
 register-bare : (c : Core) (base : ℕ) (ram : List ℕ) (key value : ℕ) → stepOf c 0 [] (Call.Register key value) ≡ stepOf c base ram (Call.Register key value)
-unfolding stepOf runOf askedOf missedOf
+unfolding stepOf runOf missedOf
 register-bare c base ram key value = refl
 
 register-ram : (c : Core) (base : ℕ) (ram : List ℕ) (key value : ℕ) → ram ≡ ramAfter c base ram (Call.Register key value)
@@ -55,7 +55,7 @@ unfolding ramAfter ramOf
 register-ram c base ram key value = sym (either-way (missedBy c base ram (Call.Register key value)) ram)
 
 level-bare : (c : Core) (base : ℕ) (ram : List ℕ) (level : ℕ) → stepOf c 0 [] (Call.Level level) ≡ stepOf c base ram (Call.Level level)
-unfolding stepOf runOf askedOf missedOf
+unfolding stepOf runOf missedOf
 level-bare c base ram level = refl
 
 level-ram : (c : Core) (base : ℕ) (ram : List ℕ) (level : ℕ) → ram ≡ ramAfter c base ram (Call.Level level)
@@ -63,7 +63,7 @@ unfolding ramAfter ramOf
 level-ram c base ram level = sym (either-way (missedBy c base ram (Call.Level level)) ram)
 
 mark-bare : (c : Core) (base : ℕ) (ram : List ℕ) (mark : Bool) → stepOf c 0 [] (Call.Mark mark) ≡ stepOf c base ram (Call.Mark mark)
-unfolding stepOf runOf askedOf missedOf
+unfolding stepOf runOf missedOf
 mark-bare c base ram mark = refl
 
 mark-ram : (c : Core) (base : ℕ) (ram : List ℕ) (mark : Bool) → ram ≡ ramAfter c base ram (Call.Mark mark)
@@ -71,7 +71,7 @@ unfolding ramAfter ramOf
 mark-ram c base ram mark = sym (either-way (missedBy c base ram (Call.Mark mark)) ram)
 
 general-bare : (c : Core) (base : ℕ) (ram : List ℕ) (number value : ℕ) → stepOf c 0 [] (Call.General number value) ≡ stepOf c base ram (Call.General number value)
-unfolding stepOf runOf askedOf missedOf
+unfolding stepOf runOf missedOf
 general-bare c base ram number value = refl
 
 general-ram : (c : Core) (base : ℕ) (ram : List ℕ) (number value : ℕ) → ram ≡ ramAfter c base ram (Call.General number value)
@@ -79,7 +79,7 @@ unfolding ramAfter ramOf
 general-ram c base ram number value = sym (either-way (missedBy c base ram (Call.General number value)) ram)
 
 abort-bare : (c : Core) (base : ℕ) (ram : List ℕ) (x : Exception) → stepOf c 0 [] (Call.Abort x) ≡ stepOf c base ram (Call.Abort x)
-unfolding stepOf runOf askedOf missedOf
+unfolding stepOf runOf missedOf
 abort-bare c base ram x = refl
 
 abort-ram : (c : Core) (base : ℕ) (ram : List ℕ) (x : Exception) → ram ≡ ramAfter c base ram (Call.Abort x)

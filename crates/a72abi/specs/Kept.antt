@@ -25,12 +25,12 @@ use Rattle.mmu.specs.declared.bytes.Got.the-variants as Got
 use Rattle.mmu.specs.declared.bytes.Insn.{Insn}
 use Rattle.mmu.specs.declared.bytes.Insn.the-variants as Insn
 use Rattle.mmu.specs.declared.ends.LoadAnswer.{LoadAnswer}
-use Rattle.mmu.specs.declared.ends.LoadAnswer.the-variants as Load
 use Rattle.mmu.specs.declared.ends.StoreAnswer.{StoreAnswer}
 use Rattle.mmu.specs.declared.ends.StoreAnswer.the-variants as Store
 use Rattle.mmu.specs.declared.ends.FetchAnswer.{FetchAnswer}
-use Rattle.mmu.specs.declared.ends.FetchAnswer.the-variants as Fetched
-use Rattle.cpu.specs.Step.{translation, loading, storing, fetching}
+use Rattle.mmu.specs.declared.ends.Reached.{Reached}
+use Rattle.mmu.specs.declared.ends.Reached.the-variants as Reach
+use Rattle.cpu.specs.Step.{translation, reaching, loading, storing, fetching, registering}
 use Rattle.cpu.specs.declared.call.Reply.{Reply}
 use Rattle.cpu.specs.declared.call.Reply.the-variants.{Refused, Done, Value, Faults, Fault, Stopped}
 use Rattle.inplace.specs.Found.{codeOf}
@@ -89,6 +89,14 @@ unmoved-value (Stopped (Stop.Exception Exception.PcAlignment)) old e = refl
 
 -- WHAT STOPS BY AN ABORT
 
+translation-late : (va : ℕ) (a : Answer) → unmoved (translation va a) ≡ false
+translation-late va (Address pa) = refl
+translation-late va (Status fsc) = refl
+
+reach-late : (a : Reached) → unmoved (reaching a) ≡ false
+reach-late (Reach.At pa) = refl
+reach-late Reach.Faults = refl
+
 load-late : (x : Placed) (last abort base : ℕ) (ram : List ℕ) (va n : ℕ)
     → unmoved (loading (loadEnd x last abort base ram va n .answer)) ≡ false
 unfolding loadEnd
@@ -125,44 +133,37 @@ module _ (ws xs : List ℕ) where
   by-late : (r : Reply) → unmoved r ≡ false → Stays r ws xs
   by-late r e = record { still = λ t. never (sym e ∙ t) }
 
-  pub value-moves : (v : ℕ) → Stays (Value v) ws xs
-  value-moves v = by-late (Value v) refl
-
   pub done-moves : Stays Done ws xs
   done-moves = by-late Done refl
 
-  pub faults-move : Stays Faults ws xs
-  faults-move = by-late Faults refl
+  pub translation-moves : (va : ℕ) (a : Answer) (r : Reply) → r ≡ translation va a → Stays r ws xs
+  translation-moves va a r er = by-late r (ap unmoved er ∙ translation-late va a)
 
-  pub fault-moves : (addr fsc : ℕ) → Stays (Fault addr fsc) ws xs
-  fault-moves addr fsc = by-late (Fault addr fsc) refl
+  pub reach-moves : (a : Reached) (r : Reply) → r ≡ reaching a → Stays r ws xs
+  reach-moves a r er = by-late r (ap unmoved er ∙ reach-late a)
 
-  pub load-moves : (c : Core) (base : ℕ) (ram : List ℕ) (va n : ℕ) (a : LoadAnswer) (s : Stop)
-      → a ≡ readOf c base ram va n .answer → a ≡ Load.Stopped s → Stays (Stopped s) ws xs
-  load-moves c base ram va n a s ea e = by-late (Stopped s) (ap (λ (x : LoadAnswer). unmoved (loading x)) (sym e ∙ ea) ∙ read-late c base ram va n)
+  pub load-moves : (c : Core) (base : ℕ) (ram : List ℕ) (va n : ℕ) (a : LoadAnswer) (r : Reply)
+      → a ≡ readOf c base ram va n .answer → r ≡ loading a → Stays r ws xs
+  load-moves c base ram va n a r ea er = by-late r (ap unmoved (er ∙ ap loading ea) ∙ read-late c base ram va n)
 
   pub store-moves : (c : Core) (base : ℕ) (ram : List ℕ) (va n : ℕ) (a : StoreAnswer) (r : Reply)
       → a ≡ writeOf c base ram va n .answer → r ≡ storing a → Stays r ws xs
   store-moves c base ram va n a r ea er = by-late r (ap unmoved er ∙ storing-late a ∙ ap earlyStop ea ∙ store-late c base ram va n)
 
-  pub fetch-moves : (c : Core) (base : ℕ) (ram : List ℕ) (va : ℕ) (a : FetchAnswer) (x : Exception)
-      → a ≡ fetchOf c base ram va .answer → a ≡ Fetched.Aborted x → Stays (Stopped (Stop.Exception x)) ws xs
-  fetch-moves c base ram va a x ea e =
-      by-late (Stopped (Stop.Exception x)) (ap (λ (y : FetchAnswer). unmoved (fetching y)) (sym e ∙ ea) ∙ fetch-late c base ram va)
+  pub fetch-moves : (c : Core) (base : ℕ) (ram : List ℕ) (va : ℕ) (a : FetchAnswer) (r : Reply)
+      → a ≡ fetchOf c base ram va .answer → r ≡ fetching a → Stays r ws xs
+  fetch-moves c base ram va a r ea er = by-late r (ap unmoved (er ∙ ap fetching ea) ∙ fetch-late c base ram va)
 
   pub system-stays : (a : StoreAnswer) (r : Reply) → r ≡ storing a → (earlyStop a ≡ true → xs ≡ ws) → Stays r ws xs
   system-stays a r er h = record { still = λ t. h (sym (ap unmoved er ∙ storing-late a) ∙ t) }
 
-  pub undefined-stays : (a : WriteAnswer) (r : Reply) → a ≡ Written.Undefined → ((a ≡ Written.Done → ⊥) → xs ≡ ws) → Stays r ws xs
-  undefined-stays a r e h = record { still = λ t. h (λ d. let z : _≡_ {A = ℕ} 0 1 = cc in omega arith) }
-
-  pub none-stays : (a : WriteAnswer) (r : Reply) → a ≡ Written.NoRegister → ((a ≡ Written.Done → ⊥) → xs ≡ ws) → Stays r ws xs
-  none-stays a r e h = record { still = λ t. h (λ d. let z : _≡_ {A = ℕ} 0 1 = cc in omega arith) }
+  pub register-stays : (a : WriteAnswer) (r : Reply) → r ≡ registering a → ((a ≡ Written.Done → ⊥) → xs ≡ ws) → Stays r ws xs
+  register-stays a r er h = record { still = λ t. h (λ d. never (sym (ap unmoved (er ∙ ap registering d)) ∙ t)) }
 
 pub stays-same : (r : Reply) (ws : List ℕ) → Stays r ws ws
 stays-same r ws = record { still = λ t. refl }
 
-pub ruleset staying = (stays-same, value-moves, done-moves, faults-move, fault-moves, load-moves, store-moves, fetch-moves, system-stays, undefined-stays, none-stays)
+pub ruleset staying = (stays-same, done-moves, translation-moves, reach-moves, load-moves, store-moves, fetch-moves, system-stays, register-stays)
 
 -- BY THE NUMBER
 
@@ -181,15 +182,11 @@ module _ (ws xs : List ℕ) where
 
   -- a translation
   pub kept-found : (a : Answer) (n : ℕ) → n ≡ codeOf a → Kept n ws xs
-  kept-found a n e = by-code (translation 0 a) n (e ∙ sym (code a)) (late a)
+  kept-found a n e = by-code (translation 0 a) n (e ∙ sym (code a)) (translation-late 0 a)
     where
       code : (x : Answer) → codeBy (translation 0 x) ≡ codeOf x
       code (Address pa) = refl
       code (Status fsc) = refl
-
-      late : (x : Answer) → unmoved (translation 0 x) ≡ false
-      late (Address pa) = refl
-      late (Status fsc) = refl
 
   -- the bytes of a load or store
   pub kept-load : (x : Placed) (last abort base : ℕ) (ram : List ℕ) (va k n : ℕ)

@@ -22,7 +22,7 @@ use Rattle.mmu.specs.declared.core.Core.{Core}
 use Rattle.mmu.specs.declared.ends.StoreAnswer.{StoreAnswer}
 use Rattle.exec.specs.Ops.{writeRegister}
 use Rattle.exec.specs.Sys.{zeroOf, sysBy, sysRamBy, opOf, sysOf, sysRam}
-use Rattle.cpu.specs.Check.{askedOf, missedOf}
+use Rattle.cpu.specs.Check.{missedOf}
 use Rattle.cpu.specs.Step.{storing, registering, storeBy, storeRamBy, runOf, ramOf as ramRun, refusedOr, missedBy, stepOf, ramAfter, ends}
 use Rattle.cpu.specs.Demand1.{writes, quiet}
 use Rattle.cpu.specs.declared.call.Call.{Call}
@@ -161,25 +161,25 @@ register-value Written.NoRegister old = refl
 
 module _ (ws : List ℕ) (r : Reply) (n : ℕ) (xs : List ℕ) where
   pub set-level : (level : ℕ) → Runs (Call.Level level) 0 [] ws r xs → n ≡ codeBy r → Setting (Known (Call.Level level)) ws n xs
-  unfolding stepOf runOf askedOf missedOf
+  unfolding stepOf runOf missedOf
   set-level level g e = set (Call.Level level) ws r n xs (λ base ram. refl) refl (λ old. no-value (missedBy (held ws) 0 [] (Call.Level level)) (held ws) (runOf (held ws) 0 [] (Call.Level level)) old refl) g e
 
   pub set-general : (i v : ℕ) → Runs (Call.General i v) 0 [] ws r xs → n ≡ codeBy r → Setting (Known (Call.General i v)) ws n xs
-  unfolding stepOf runOf askedOf missedOf
+  unfolding stepOf runOf missedOf
   set-general i v g e = set (Call.General i v) ws r n xs (λ base ram. refl) refl (λ old. no-value (missedBy (held ws) 0 [] (Call.General i v)) (held ws) (runOf (held ws) 0 [] (Call.General i v)) old refl) g e
 
   bare-register : (key v : ℕ) → Runs (Call.Register key v) 0 [] ws r xs → n ≡ codeBy r → Setting (Known (Call.Register key v)) ws n xs
-  unfolding stepOf runOf askedOf missedOf
+  unfolding stepOf runOf missedOf
   bare-register key v g e =
       set (Call.Register key v) ws r n xs (λ base ram. refl) refl
       (λ old. no-value (missedBy (held ws) 0 [] (Call.Register key v)) (held ws) (runOf (held ws) 0 [] (Call.Register key v)) old (register-value (writeRegister (held ws) key v .answer) old)) g e
 
   bare-mark : (mark : Bool) → Runs (Call.Mark mark) 0 [] ws r xs → n ≡ codeBy r → Setting (Known (Call.Mark mark)) ws n xs
-  unfolding stepOf runOf askedOf missedOf
+  unfolding stepOf runOf missedOf
   bare-mark mark g e = set (Call.Mark mark) ws r n xs (λ base ram. refl) refl (λ old. no-value (missedBy (held ws) 0 [] (Call.Mark mark)) (held ws) (runOf (held ws) 0 [] (Call.Mark mark)) old refl) g e
 
   bare-abort : (x : Exception) → Runs (Call.Abort x) 0 [] ws r xs → n ≡ codeBy r → Setting (Known (Call.Abort x)) ws n xs
-  unfolding stepOf runOf askedOf missedOf
+  unfolding stepOf runOf missedOf
   bare-abort x g e = set (Call.Abort x) ws r n xs (λ base ram. refl) refl (λ old. no-value (missedBy (held ws) 0 [] (Call.Abort x)) (held ws) (runOf (held ws) 0 [] (Call.Abort x)) old refl) g e
 
   -- by its words

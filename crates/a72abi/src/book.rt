@@ -1,8 +1,8 @@
 // Each call on lent words by the book: the number of the first check that it misses, or its operation in place.
 ghost use mathlib.Core.Path.{_≡_};
 ghost use mathlib.Core.List.{[]};
-ghost use Rattle.cpu.specs.Check.{askedOf, missedOf};
-ghost use Rattle.cpu.specs.Step.{ramAfter, storing};
+ghost use Rattle.cpu.specs.Check.{missedOf};
+ghost use Rattle.cpu.specs.Step.{ramAfter};
 ghost use Rattle.cpu.specs.declared.call.Call.the-variants as Call;
 ghost use Rattle.words.specs.Held.{held};
 ghost use Rattle.a72abi.specs.Promise.{Runs};
@@ -10,16 +10,10 @@ use cpu::call::Call;
 use cpu::call::Encoding;
 use cpu::call::Reply;
 use cpu::check;
+use cpu::reply;
 use entry::exception::Exception;
-use entry::exception::Stop;
 use inplace::access;
 use inplace::translate;
-use mmu::ends::FetchAnswer;
-use mmu::ends::LoadAnswer;
-use mmu::ends::Reached;
-use mmu::ends::StoreAnswer;
-use sysreg::write::WriteAnswer;
-use tlb::access::Answer;
 use tlb::access::Kind;
 use word::ram;
 use word::ram::Sized;
@@ -28,11 +22,10 @@ use words::state;
 
 // The number of the first check that a call misses, or 0.
 fn missed(state: &State, base: u64, len: u64, call: Call) -> u8
-    ensures { λ r. ⌜ r ≡ missedOf ((held (now (state .entry))) .who .level) base len (askedOf call) ⌝ }
+    ensures { λ r. ⌜ r ≡ missedOf ((held (now (state .entry))) .who .level) base len call ⌝ }
 {
     let who = state::who_at(state);
-    let asked = check::asked_of(call);
-    check::missed(who.level, base, len, asked)
+    check::missed(who.level, base, len, call)
 }
 
 pub fn translation(state: &mut State, base: u64, ram: &[u8], kind: Kind, va: u64) -> Reply
@@ -43,10 +36,8 @@ pub fn translation(state: &mut State, base: u64, ram: &[u8], kind: Kind, va: u64
     if n != 0 {
         return Reply::Refused(n);
     }
-    match translate::translate(state, va, kind, base, ram) {
-        Answer::Address(pa) => Reply::Value(pa),
-        Answer::Status(fsc) => Reply::Fault { addr: va, fsc },
-    }
+    let answer = translate::translate(state, va, kind, base, ram);
+    reply::translated(va, answer)
 }
 
 pub fn data_pa(state: &mut State, base: u64, ram: &[u8], va: u64) -> Reply
@@ -56,10 +47,8 @@ pub fn data_pa(state: &mut State, base: u64, ram: &[u8], va: u64) -> Reply
     if n != 0 {
         return Reply::Refused(n);
     }
-    match access::data_pa(state, va, base, ram) {
-        Reached::At(pa) => Reply::Value(pa),
-        Reached::Faults => Reply::Faults,
-    }
+    let answer = access::data_pa(state, va, base, ram);
+    reply::reached(answer)
 }
 
 pub fn fetch_pa(state: &mut State, base: u64, ram: &[u8], va: u64) -> Reply
@@ -69,10 +58,8 @@ pub fn fetch_pa(state: &mut State, base: u64, ram: &[u8], va: u64) -> Reply
     if n != 0 {
         return Reply::Refused(n);
     }
-    match access::fetch_pa(state, va, base, ram) {
-        Reached::At(pa) => Reply::Value(pa),
-        Reached::Faults => Reply::Faults,
-    }
+    let answer = access::fetch_pa(state, va, base, ram);
+    reply::reached(answer)
 }
 
 pub fn load(state: &mut State, base: u64, ram: &[u8], va: u64, size: u64) -> Reply
@@ -83,20 +70,11 @@ pub fn load(state: &mut State, base: u64, ram: &[u8], va: u64, size: u64) -> Rep
         return Reply::Refused(n);
     }
     match ram::width_of(size) {
-        Sized::Bytes(width) => match access::load(state, va, width, base, ram) {
-            LoadAnswer::Value(v) => Reply::Value(v),
-            LoadAnswer::Stopped(s) => Reply::Stopped(s),
-        },
+        Sized::Bytes(width) => {
+            let answer = access::load(state, va, width, base, ram);
+            reply::loaded(answer)
+        }
         Sized::Refused => Reply::Refused(3),
-    }
-}
-
-fn stored(answer: StoreAnswer) -> Reply
-    ensures { λ r. ⌜ r ≡ storing answer ⌝ }
-{
-    match answer {
-        StoreAnswer::Done => Reply::Done,
-        StoreAnswer::Stopped(s) => Reply::Stopped(s),
     }
 }
 
@@ -113,7 +91,7 @@ pub fn store(state: &mut State, base: u64, ram: &mut [u8], va: u64, size: u64, v
     match ram::width_of(size) {
         Sized::Bytes(width) => {
             let answer = access::store(state, va, width, value, base, ram);
-            stored(answer)
+            reply::stored(answer)
         }
         Sized::Refused => Reply::Refused(3),
     }
@@ -126,10 +104,8 @@ pub fn fetch(state: &mut State, base: u64, ram: &[u8], va: u64) -> Reply
     if n != 0 {
         return Reply::Refused(n);
     }
-    match access::fetch(state, va, base, ram) {
-        FetchAnswer::Value(v) => Reply::Value(v as u64),
-        FetchAnswer::Aborted(e) => Reply::Stopped(Stop::Exception(e)),
-    }
+    let answer = access::fetch(state, va, base, ram);
+    reply::fetched(answer)
 }
 
 pub fn system(state: &mut State, base: u64, ram: &mut [u8], e: Encoding) -> Reply
@@ -141,7 +117,7 @@ pub fn system(state: &mut State, base: u64, ram: &mut [u8], e: Encoding) -> Repl
         return Reply::Refused(n);
     }
     let answer = insys::zero::system(state, base, ram, e.op1, e.crn, e.crm, e.op2, e.rt);
-    stored(answer)
+    reply::stored(answer)
 }
 
 pub fn register(state: &mut State, key: u32, value: u64) -> Reply
@@ -151,11 +127,8 @@ pub fn register(state: &mut State, key: u32, value: u64) -> Reply
     if n != 0 {
         return Reply::Refused(n);
     }
-    match insys::register::write_register(state, key, value) {
-        WriteAnswer::Done => Reply::Done,
-        WriteAnswer::Undefined => Reply::Stopped(Stop::Exception(Exception::Undefined)),
-        WriteAnswer::NoRegister => Reply::Refused(6),
-    }
+    let answer = insys::register::write_register(state, key, value);
+    reply::written(answer)
 }
 
 pub fn level(state: &mut State, level: u64) -> Reply

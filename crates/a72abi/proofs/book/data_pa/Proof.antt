@@ -1,5 +1,5 @@
 -- `a72abi::book::data_pa` meets its contract.
-use Rattle.a72abi.proofs.Booking.{refused-reply, refused-core, data-value, data-faults, data-core}
+use Rattle.a72abi.proofs.Booking.{refused-reply, refused-core, data-reply, data-core}
 use Rattle.a72abi.specs.Kept.{staying}
 use borrow.Author.Needs.{needs}
 use Rattle.a72abi.proofs.book.data_pa.Statement.{statement}
@@ -14,19 +14,12 @@ returns c = record { reply = search (refused-reply, needs); words = search (refu
 data-pa-requires : tie.Need-data-pa-requires
 data-pa-requires c κs = search needs
 
-enum-known-pa : tie.Need-enum-known-pa
-enum-known-pa c = search needs
-
-enum-told : tie.Need-enum-told
-enum-told c = search needs
+reached-requires : tie.Need-reached-requires
+reached-requires c κs = search needs
 
 returns-2 : tie.Need-returns-2
-returns-2 c = record { reply = search (data-value, needs); words = search (data-core, needs); stays = search (staying, needs) }
-
-returns-3 : tie.Need-returns-3
-returns-3 c = record { reply = search (data-faults, needs); words = search (data-core, needs); stays = search (staying, needs) }
+returns-2 c = record { reply = search (data-reply, needs); words = search (data-core, needs); stays = search (staying, needs) }
 
 pub data-pa-spec : {M : Type 1} → statement M
 data-pa-spec =
-    tie.close
-    (tie.spec missed-requires returns data-pa-requires enum-known-pa enum-told returns-2 returns-3)
+    tie.close (tie.spec missed-requires returns data-pa-requires reached-requires returns-2)

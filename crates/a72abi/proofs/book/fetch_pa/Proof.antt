@@ -1,5 +1,5 @@
 -- `a72abi::book::fetch_pa` meets its contract.
-use Rattle.a72abi.proofs.Booking.{refused-reply, refused-core, fetch-pa-value, fetch-pa-faults, fetch-pa-core}
+use Rattle.a72abi.proofs.Booking.{refused-reply, refused-core, fetch-pa-reply, fetch-pa-core}
 use Rattle.a72abi.specs.Kept.{staying}
 use borrow.Author.Needs.{needs}
 use Rattle.a72abi.proofs.book.fetch_pa.Statement.{statement}
@@ -14,26 +14,12 @@ returns c = record { reply = search (refused-reply, needs); words = search (refu
 fetch-pa-requires : tie.Need-fetch-pa-requires
 fetch-pa-requires c κs = search needs
 
-enum-known-pa : tie.Need-enum-known-pa
-enum-known-pa c = search needs
-
-enum-told : tie.Need-enum-told
-enum-told c = search needs
+reached-requires : tie.Need-reached-requires
+reached-requires c κs = search needs
 
 returns-2 : tie.Need-returns-2
-returns-2 c = record { reply = search (fetch-pa-value, needs); words = search (fetch-pa-core, needs); stays = search (staying, needs) }
-
-returns-3 : tie.Need-returns-3
-returns-3 c = record { reply = search (fetch-pa-faults, needs); words = search (fetch-pa-core, needs); stays = search (staying, needs) }
+returns-2 c = record { reply = search (fetch-pa-reply, needs); words = search (fetch-pa-core, needs); stays = search (staying, needs) }
 
 pub fetch-pa-spec : {M : Type 1} → statement M
 fetch-pa-spec =
-    tie.close
-    (tie.spec
-    missed-requires
-    returns
-    fetch-pa-requires
-    enum-known-pa
-    enum-told
-    returns-2
-    returns-3)
+    tie.close (tie.spec missed-requires returns fetch-pa-requires reached-requires returns-2)

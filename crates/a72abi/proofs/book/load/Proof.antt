@@ -1,5 +1,5 @@
 -- `a72abi::book::load` meets its contract.
-use Rattle.a72abi.proofs.Booking.{refused-reply, refused-core, load-value, load-stopped, load-core, load-size, load-size-core}
+use Rattle.a72abi.proofs.Booking.{refused-reply, refused-core, load-reply, load-core, load-size, load-size-core}
 use Rattle.a72abi.specs.Kept.{staying}
 use borrow.Author.Needs.{needs}
 use Rattle.a72abi.proofs.book.load.Statement.{statement}
@@ -20,23 +20,17 @@ enum-known-width c = search needs
 load-requires : tie.Need-load-requires
 load-requires c κs = search needs
 
-enum-known-v : tie.Need-enum-known-v
-enum-known-v c = search needs
-
-enum-known-s : tie.Need-enum-known-s
-enum-known-s c = search needs
+loaded-requires : tie.Need-loaded-requires
+loaded-requires c κs = search needs
 
 enum-told : tie.Need-enum-told
 enum-told c = search needs
 
 returns-2 : tie.Need-returns-2
-returns-2 c = record { reply = search (load-value, needs); words = search (load-core, needs); stays = search (staying, needs) }
+returns-2 c = record { reply = search (load-reply, needs); words = search (load-core, needs); stays = search (staying, needs) }
 
 returns-3 : tie.Need-returns-3
-returns-3 c = record { reply = search (load-stopped, needs); words = search (load-core, needs); stays = search (staying, needs) }
-
-returns-4 : tie.Need-returns-4
-returns-4 c = record { reply = search (load-size, needs); words = search (load-size-core, needs); stays = search (staying, needs) }
+returns-3 c = record { reply = search (load-size, needs); words = search (load-size-core, needs); stays = search (staying, needs) }
 
 pub load-spec : {M : Type 1} → statement M
 load-spec =
@@ -47,9 +41,7 @@ load-spec =
     width-of-requires
     enum-known-width
     load-requires
-    enum-known-v
-    enum-known-s
+    loaded-requires
     enum-told
     returns-2
-    returns-3
-    returns-4)
+    returns-3)

@@ -7,9 +7,6 @@ use Rattle.a72abi.proofs.book.missed.Tie as tie
 who-at-requires : tie.Need-who-at-requires
 who-at-requires c κs = search needs
 
-asked-of-requires : tie.Need-asked-of-requires
-asked-of-requires c κs = search needs
-
 missed-requires : tie.Need-missed-requires
 missed-requires c κs = search needs
 
@@ -17,4 +14,4 @@ returns : tie.Need-returns
 returns c = search (level-missed, needs)
 
 pub missed-spec : {M : Type 1} → statement M
-missed-spec = tie.close (tie.spec who-at-requires asked-of-requires missed-requires returns)
+missed-spec = tie.close (tie.spec who-at-requires missed-requires returns)

@@ -1,5 +1,5 @@
 -- `a72abi::book::translation` meets its contract.
-use Rattle.a72abi.proofs.Booking.{refused-reply, refused-core, translate-value, translate-fault, translate-core}
+use Rattle.a72abi.proofs.Booking.{refused-reply, refused-core, translate-reply, translate-core}
 use Rattle.a72abi.specs.Kept.{staying}
 use borrow.Author.Needs.{needs}
 use Rattle.a72abi.proofs.book.translation.Statement.{statement}
@@ -14,26 +14,12 @@ returns c = record { reply = search (refused-reply, needs); words = search (refu
 translate-requires : tie.Need-translate-requires
 translate-requires c κs = search needs
 
-enum-known-pa : tie.Need-enum-known-pa
-enum-known-pa c = search needs
-
-enum-known-fsc : tie.Need-enum-known-fsc
-enum-known-fsc c = search needs
+translated-requires : tie.Need-translated-requires
+translated-requires c κs = search needs
 
 returns-2 : tie.Need-returns-2
-returns-2 c = record { reply = search (translate-value, needs); words = search (translate-core, needs); stays = search (staying, needs) }
-
-returns-3 : tie.Need-returns-3
-returns-3 c = record { reply = search (translate-fault, needs); words = search (translate-core, needs); stays = search (staying, needs) }
+returns-2 c = record { reply = search (translate-reply, needs); words = search (translate-core, needs); stays = search (staying, needs) }
 
 pub translation-spec : {M : Type 1} → statement M
 translation-spec =
-    tie.close
-    (tie.spec
-    missed-requires
-    returns
-    translate-requires
-    enum-known-pa
-    enum-known-fsc
-    returns-2
-    returns-3)
+    tie.close (tie.spec missed-requires returns translate-requires translated-requires returns-2)
