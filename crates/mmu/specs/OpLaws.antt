@@ -6,6 +6,8 @@ use Prim.Native.Nat.{ℕ, _+_, _<_}
 use lib.ListN.{length, getD}
 use Rattle.word.specs.Ram.{wordAt}
 use Rattle.walk.specs.Regime.{stage1On, regimeOf}
+use Rattle.tlb.specs.Model.{Access}
+use Rattle.tlb.specs.Asks.{Ask, translates, fetches, onward-same, answerOf, tlbAsk, answers, tlbAsks}
 use Rattle.tlb.specs.declared.access.Kind.{Kind}
 use Rattle.tlb.specs.declared.access.Kind.the-variants.{Read, Write}
 use Rattle.tlb.specs.declared.Tlb.{Tlb}
@@ -13,7 +15,8 @@ use Rattle.mmu.specs.Core.{movedTo, bankNow}
 use Rattle.mmu.specs.BytesLaws.{addressIn, store-length, store-leaves}
 use Rattle.mmu.specs.Ends.{storeRamEnd}
 use Rattle.mmu.specs.Ops.{steppedNow, fetchSteppedNow, locatedNow, translateOf, translateAccessOf, readOf, writeOf, ramAfterWrite, fetchOf, fetchPaOf, dataPaOf}
-use Rattle.mmu.specs.Asks.{Ask, translates, fetches, accessAsks, tlbAfter, givenTo, placedBy, asked-one, located-asks}
+use Rattle.mmu.specs.Step.{stepOf, fetchStepOf}
+use Rattle.mmu.specs.Asks.{accessAsks, accessAt, placedBy, located-asks}
 use Rattle.mmu.specs.declared.core.Core.{Core}
 use Rattle.mmu.specs.declared.place.Place.{Place}
 use Rattle.mmu.specs.declared.place.Placed.{Placed}
@@ -88,28 +91,38 @@ kept c base ram (fetch va) = moved-keeps c _ _ _
 kept c base ram (fetchPa va) = moved-keeps c _ _ _
 kept c base ram (dataPa va) = moved-keeps c _ _ _
 
--- the cache is the one that its translations leave
-pub tlb-after : (c : Core) (base : ℕ) (ram : List ℕ) (o : Operation)
-    → coreAfter c base ram o .tlb ≡ tlbAfter (bankNow c) (c .who) (wordAt base ram 8) (asksOf (onNow c) o) (c .tlb)
-unfolding translateOf translateAccessOf readOf writeOf fetchOf fetchPaOf dataPaOf steppedNow fetchSteppedNow locatedNow movedTo
-tlb-after c base ram (translate va kind) = sym (asked-one (bankNow c) (c .who) (wordAt base ram 8) (translates kind va) (c .tlb))
-tlb-after c base ram (access va n kind) =
-    ap (λ (r : Located). r .tlb) (located-asks (bankNow c) (c .who) (wordAt base ram 8) va n kind (c .tlb))
-tlb-after c base ram (load va n) =
-    ap (λ (r : Located). r .tlb) (located-asks (bankNow c) (c .who) (wordAt base ram 8) va n Read (c .tlb))
-tlb-after c base ram (store va n v) =
-    ap (λ (r : Located). r .tlb) (located-asks (bankNow c) (c .who) (wordAt base ram 8) va n Write (c .tlb))
-tlb-after c base ram (fetch va) = sym (asked-one (bankNow c) (c .who) (wordAt base ram 8) (fetches va) (c .tlb))
-tlb-after c base ram (fetchPa va) = sym (asked-one (bankNow c) (c .who) (wordAt base ram 8) (fetches va) (c .tlb))
-tlb-after c base ram (dataPa va) = sym (asked-one (bankNow c) (c .who) (wordAt base ram 8) (translates Read va) (c .tlb))
+module _ (c : Core) (base : ℕ) (ram : List ℕ) where
+  -- the access of a kind at an address
+  abbrev pub accessNow : Kind → ℕ → Access
+  accessNow kind va = accessAt (bankNow c) (c .who) (wordAt base ram 8) kind va
 
--- and an access's place is what their answers say
-pub placed-by : (c : Core) (base : ℕ) (ram : List ℕ) (va n : ℕ) (kind : Kind)
-    → locatedNow c (wordAt base ram 8) va n kind .placed
-    ≡ placedBy va (givenTo (bankNow c) (c .who) (wordAt base ram 8) (accessAsks (onNow c) va n kind) (c .tlb))
-unfolding locatedNow
-placed-by c base ram va n kind =
-    ap (λ (r : Located). r .placed) (located-asks (bankNow c) (c .who) (wordAt base ram 8) va n kind (c .tlb))
+  -- one translation
+  one-asked : (a : Ask) → tlbAsk accessNow a (c .tlb) ≡ tlbAsks accessNow (a ∷ []) (c .tlb)
+  one-asked a = sym (onward-same (answerOf accessNow a (c .tlb)) (tlbAsk accessNow a (c .tlb)))
+
+  accessed : (va n : ℕ) (kind : Kind) → locatedNow c (wordAt base ram 8) va n kind
+      ≡ record {
+        tlb = tlbAsks accessNow (accessAsks (onNow c) va n kind) (c .tlb);
+        placed = placedBy va (answers accessNow (accessAsks (onNow c) va n kind) (c .tlb));
+      }
+  unfolding locatedNow
+  accessed va n kind = located-asks (bankNow c) (c .who) (wordAt base ram 8) va n kind (c .tlb)
+
+  -- the cache is the one that its translations leave
+  pub tlb-after : (o : Operation) → coreAfter c base ram o .tlb ≡ tlbAsks accessNow (asksOf (onNow c) o) (c .tlb)
+  unfolding translateOf translateAccessOf readOf writeOf fetchOf fetchPaOf dataPaOf steppedNow fetchSteppedNow stepOf fetchStepOf movedTo
+  tlb-after (translate va kind) = one-asked (translates kind va)
+  tlb-after (access va n kind) = ap (λ (r : Located). r .tlb) (accessed va n kind)
+  tlb-after (load va n) = ap (λ (r : Located). r .tlb) (accessed va n Read)
+  tlb-after (store va n v) = ap (λ (r : Located). r .tlb) (accessed va n Write)
+  tlb-after (fetch va) = one-asked (fetches va)
+  tlb-after (fetchPa va) = one-asked (fetches va)
+  tlb-after (dataPa va) = one-asked (translates Read va)
+
+  -- and an access's place is what their answers say
+  pub placed-by : (va n : ℕ) (kind : Kind)
+      → locatedNow c (wordAt base ram 8) va n kind .placed ≡ placedBy va (answers accessNow (accessAsks (onNow c) va n kind) (c .tlb))
+  placed-by va n kind = ap (λ (r : Located). r .placed) (accessed va n kind)
 
 -- only a load sets `last_pa`
 pub store-last : (c : Core) (base : ℕ) (ram : List ℕ) (va n : ℕ) → writeOf c base ram va n .core .«last_pa» ≡ c .«last_pa»

@@ -1,20 +1,19 @@
 -- What an operation answers, and RAM after it, from its call, RAM before it and the answers that its translations got.
 use mathlib.Core.Path.{_≡_, refl, ap, _∙_}
-use mathlib.Core.List.{List, [], _∷_}
+use mathlib.Core.List.{List}
 use Prim.Native.Nat.{ℕ}
 use lib.ListN.{length}
 use Rattle.word.specs.Ram.{wordAt}
+use Rattle.tlb.specs.Asks.{Given, answers}
 use Rattle.tlb.specs.declared.access.Kind.the-variants.{Read, Write}
-use Rattle.tlb.specs.declared.access.Answer.{Answer}
-use Rattle.tlb.specs.declared.access.Answer.the-variants.{Status}
-use Rattle.mmu.specs.Core.{bankNow}
 use Rattle.mmu.specs.Place.{judged}
 use Rattle.mmu.specs.Bytes.{valueAt}
 use Rattle.mmu.specs.Ends.{reachedBy, storeRamEnd}
 use Rattle.mmu.specs.Ops.{steppedNow, fetchSteppedNow, translateOf, translateAccessOf, readOf, writeOf, ramAfterWrite, fetchOf, fetchPaOf, dataPaOf}
 use Rattle.mmu.specs.Says.{Said, value, done, answerSays, placedSays, reachedSays, loadSays, storeSays, fetchSays, accessSays, insnSays, load-says, store-says, fetch-says}
-use Rattle.mmu.specs.Asks.{Given, placedBy, givenTo}
-use Rattle.mmu.specs.OpLaws.{Operation, translate, access, load, store, fetch, fetchPa, dataPa, ramAfter, asksOf, onNow, placed-by}
+use Rattle.mmu.specs.Step.{stepOf, fetchStepOf}
+use Rattle.mmu.specs.Asks.{firstOf, placedBy}
+use Rattle.mmu.specs.OpLaws.{Operation, translate, access, load, store, fetch, fetchPa, dataPa, ramAfter, asksOf, onNow, accessNow, placed-by}
 use Rattle.mmu.specs.declared.core.Core.{Core}
 use Rattle.mmu.specs.declared.place.Placed.{Placed}
 use Rattle.mmu.specs.declared.place.Place.{Place}
@@ -28,11 +27,6 @@ says c base ram (store va n v) = storeSays (writeOf c base ram va n .answer)
 says c base ram (fetch va) = fetchSays (fetchOf c base ram va .answer)
 says c base ram (fetchPa va) = reachedSays (fetchPaOf c (wordAt base ram 8) va .answer)
 says c base ram (dataPa va) = reachedSays (dataPaOf c (wordAt base ram 8) va .answer)
-
--- the answer of the first; no operation has none
-abbrev pub firstOf : List Given → Answer
-firstOf [] = Status 0
-firstOf (g ∷ l) = g .answer
 
 abbrev pub judgedIn : ℕ → List ℕ → ℕ → Place → Verdict
 judgedIn base ram n place = judged base (length ram) place n
@@ -57,10 +51,10 @@ ramBy base ram (dataPa va) l = ram
 
 -- the translations that an operation makes, and their answers
 abbrev pub translationsOf : Core → ℕ → List ℕ → Operation → List Given
-translationsOf c base ram o = givenTo (bankNow c) (c .who) (wordAt base ram 8) (asksOf (onNow c) o) (c .tlb)
+translationsOf c base ram o = answers (accessNow c base ram) (asksOf (onNow c) o) (c .tlb)
 
 pub says-by : (c : Core) (base : ℕ) (ram : List ℕ) (o : Operation) → says c base ram o ≡ saidBy base ram o (translationsOf c base ram o)
-unfolding translateOf translateAccessOf fetchPaOf dataPaOf steppedNow fetchSteppedNow givenTo
+unfolding translateOf translateAccessOf fetchPaOf dataPaOf steppedNow fetchSteppedNow stepOf fetchStepOf
 says-by c base ram (translate va kind) = refl
 says-by c base ram (access va n kind) = ap placedSays (placed-by c base ram va n kind)
 says-by c base ram (load va n) =
