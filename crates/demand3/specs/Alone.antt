@@ -5,6 +5,7 @@ use Prim.Native.Nat.{ℕ, zero, suc, _+_, _%_}
 use Rattle.word.specs.Bits.{alignDown, wrap}
 use Rattle.word.specs.Ram.{widthOf}
 use Rattle.word.specs.declared.ram.Sized.{Sized}
+use Rattle.tlb.specs.Asks.{translates, Given, onward}
 use Rattle.tlb.specs.declared.access.Kind.the-variants as Kind
 use Rattle.tlb.specs.declared.access.Answer.{Answer}
 use Rattle.tlb.specs.declared.access.Answer.the-variants.{Address, Status}
@@ -20,7 +21,7 @@ use Rattle.cpu.specs.declared.call.Encoding.{Encoding}
 use Rattle.cpu.specs.declared.call.Call.{Call}
 use Rattle.cpu.specs.declared.call.Call.the-variants.{Translate, DataPa, FetchPa, Load, Store, Fetch, System, Register, Level, Mark, General, Abort}
 use Rattle.history.specs.World.{onNow, uncached}
-use Rattle.history.specs.History.{translates, Given, Event, steps, answerOf, onward}
+use Rattle.history.specs.History.{Event, steps, answerOf}
 use Rattle.history.specs.Invisible.{answersRun, plainAnswersRun}
 use Rattle.history.specs.Instance.{Ram, real}
 use Rattle.demand3.specs.Bare.{Bare, plainIn, opIn, operandIn, Verdict, allowed, number, undefined, unimplemented, verdictIn, refusalOf, ifAllowed}
@@ -52,7 +53,7 @@ module _ (c : Core) (m : Ram) (va : ℕ) (b : Bare) (t : Tlb) (eb : bareOf c ≡
   first-plain : answersAlone b m (accessIn b va 8 Kind.Write) ≡ given ∷ []
   first-plain = rw (one-page (onNow real (plainIn b)) va al) (ap {B = List Given} (λ (l : List Given). given ∷ l) (go (given .answer)))
     where
-      go : (x : Answer) → onward real {A = List Given} x [] [] ≡ []
+      go : (x : Answer) → onward {A = List Given} x [] [] ≡ []
       go (Address pa) = refl
       go (Status fsc) = refl
 

@@ -13,6 +13,7 @@ use Rattle.word.specs.declared.ram.Sized.the-variants as Sized
 use Rattle.sysreg.specs.declared.write.WriteAnswer.{WriteAnswer}
 use Rattle.sysreg.specs.declared.write.WriteAnswer.the-variants as Written
 use Rattle.sysreg.specs.declared.write.Written.{Written}
+use Rattle.tlb.specs.Asks.{translates, Given, onward}
 use Rattle.tlb.specs.declared.access.Kind.the-variants as Kind
 use Rattle.tlb.specs.declared.access.Answer.{Answer}
 use Rattle.tlb.specs.declared.access.Answer.the-variants.{Address, Status}
@@ -20,10 +21,10 @@ use Rattle.tlb.specs.declared.Tlb.{Tlb}
 use Rattle.sysop.specs.declared.op.SysOp.{SysOp}
 use Rattle.sysop.specs.declared.op.SysOp.the-variants as Op
 use Rattle.mmu.specs.Core.{regOf}
-use Rattle.mmu.specs.Place.{inPage, crosses, judged}
+use Rattle.mmu.specs.Place.{inPage, crosses, verdictOf}
 use Rattle.mmu.specs.Bytes.{loadOf, insnOf}
 use Rattle.mmu.specs.Ends.{loadedFrom, loadEnd, storeEndBy, storeEnd, storeRamEnd, fetchedFrom, fetchEnd}
-use Rattle.mmu.specs.Step.{stepOf as stepMmu, fetchStepOf}
+use Rattle.mmu.specs.Step.{translateIn, translateFetchIn}
 use Rattle.mmu.specs.Ops.{steppedNow, fetchSteppedNow, translateOf, readOf, writeOf, ramAfterWrite, fetchOf, fetchPaOf, dataPaOf}
 use Rattle.mmu.specs.declared.core.Core.{Core}
 use Rattle.mmu.specs.declared.place.Placed.{Placed}
@@ -44,7 +45,7 @@ use Rattle.cpu.specs.declared.call.Call.{Call}
 use Rattle.cpu.specs.declared.call.Call.the-variants.{Translate, DataPa, FetchPa, Load, Store, Fetch, System, Register, Level, Mark, General, Abort}
 use Rattle.cpu.specs.declared.call.Reply.the-variants.{Refused, Done}
 use Rattle.history.specs.World.{onNow}
-use Rattle.history.specs.History.{translates, Given, steps, answerOf, onward, answers, asked}
+use Rattle.history.specs.History.{steps, answerOf, answers, tlbAsks}
 use Rattle.history.specs.Invisible.{answersRun}
 use Rattle.history.specs.Instance.{Ram, real}
 use Rattle.demand3.specs.Bare.{Bare, plainIn, number, missedIn, opIn, operandIn, writtenIn, bySys, byWrite, ruledIn, refusalOf, ifAllowed}
@@ -69,7 +70,7 @@ load-end (At place) last abort base ram va n = go (loadOf base ram place n)
 store-end : (x : Placed) (abort base : ℕ) (ram : List ℕ) (va n : ℕ) → storeEnd x abort base ram va n .answer ≡ storeEnd x 0 base ram va n .answer
 unfolding storeEnd
 store-end (Fault addr fsc) abort base ram va n = refl
-store-end (At place) abort base ram va n = go (judged base (length ram) place n)
+store-end (At place) abort base ram va n = go (verdictOf base (length ram) place n)
   where
     go : (d : Verdict) → storeEndBy d abort va .answer ≡ storeEndBy d 0 va .answer
     go Inside = refl
@@ -154,7 +155,7 @@ module _ (c : Core) (m : Ram) (va : ℕ) (b : Bare) (t : Tlb) (eb : bareOf c ≡
   coreThen = writeOf c (m .base) (m .bytes) va 8 .core
 
   abbrev pub tlbThen : Tlb
-  tlbThen = asked real (plainIn b) m (accessIn b va 8 Kind.Write) t
+  tlbThen = tlbAsks real (plainIn b) m (accessIn b va 8 Kind.Write) t
 
   abbrev pub firstGiven : List Given
   firstGiven = answers real (plainIn b) m (accessIn b va 8 Kind.Write) t
@@ -170,7 +171,7 @@ module _ (c : Core) (m : Ram) (va : ℕ) (b : Bare) (t : Tlb) (eb : bareOf c ≡
       g : Given
       g = record { ask = translates Kind.Write va; answer = answerOf real (plainIn b) m (translates Kind.Write va) t }
 
-      go : (x : Answer) → onward real {A = List Given} x [] [] ≡ []
+      go : (x : Answer) → onward {A = List Given} x [] [] ≡ []
       go (Address pa) = refl
       go (Status fsc) = refl
 
@@ -219,7 +220,7 @@ zero-said zero c m va b t eb et al = one-outcome c m va b t eb et ∙ last-said 
 zero-said (suc n) c m va b t eb et al =
     more-said c m va b t eb et n al
     (zero-said n (writeOf c (m .base) (m .bytes) va 8 .core) (ramZeroed c m va) (wrap (va + 8)) b
-    (asked real (plainIn b) m (accessIn b va 8 Kind.Write) t)
+    (tlbAsks real (plainIn b) m (accessIn b va 8 Kind.Write) t)
     (bare-then c m va b t eb et) (tlb-then c m va b t eb et)
     (next-aligned va al))
 
@@ -255,7 +256,7 @@ run-said : (c : Core) (m : Ram) (x : Call)
     (answersRun real (plainIn (bareOf c))
     (ifAllowed (ruledIn (bareOf c) x) (stepsIn (bareOf c) m (ifAllowed (ruledIn (bareOf c) x) (laterOf c m x) []) x) (steps m idle ∷ [])) (c .tlb)))
     (outcome (refusalOf (ruledIn (bareOf c) x)) (m .bytes))
-unfolding runOf ramOf sysOf sysRam regOf writeRegister translateOf steppedNow fetchSteppedNow dataPaOf fetchPaOf fetchOf stepMmu fetchStepOf
+unfolding runOf ramOf sysOf sysRam regOf writeRegister translateOf steppedNow fetchSteppedNow dataPaOf fetchPaOf fetchOf translateIn translateFetchIn
 run-said c m (Translate kind va) = refl
 run-said c m (DataPa va) = refl
 run-said c m (FetchPa va) = refl

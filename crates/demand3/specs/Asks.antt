@@ -3,6 +3,7 @@ use mathlib.Core.Path.{_≡_, refl, ap, _∙_}
 use mathlib.Core.Bool.{Bool, true, false}
 use mathlib.Core.List.{List, [], _∷_}
 use Prim.Native.Nat.{ℕ}
+use Rattle.tlb.specs.Asks.{Ask, translates, fetches, Given, onward}
 use Rattle.tlb.specs.declared.access.Kind.{Kind}
 use Rattle.tlb.specs.declared.access.Answer.{Answer}
 use Rattle.tlb.specs.declared.access.Answer.the-variants.{Address, Status}
@@ -10,11 +11,11 @@ use Rattle.tlb.specs.declared.Tlb.{Tlb}
 use Rattle.mmu.specs.Core.{bankNow}
 use Rattle.mmu.specs.Asks as Asks
 use Rattle.mmu.specs.Place.{crosses}
-use Rattle.mmu.specs.Step.{stepOf as stepMmu, fetchStepOf}
+use Rattle.mmu.specs.Step.{translateIn, translateFetchIn}
 use Rattle.mmu.specs.Ops.{locatedNow}
 use Rattle.mmu.specs.OpLaws as Laws
 use Rattle.mmu.specs.declared.core.Core.{Core}
-use Rattle.history.specs.History.{Ask, translates, fetches, Given, answerOf, askedOf as askedOne, onward, answers, asked}
+use Rattle.history.specs.History.{answerOf, tlbAsk, answers, tlbAsks}
 use Rattle.history.specs.Instance.{Ram, memoryOf, real}
 use Rattle.demand3.specs.Bare.{plainIn}
 use Rattle.demand3.specs.Events.{pagesOf, accessIn}
@@ -30,20 +31,20 @@ abbrev pub allNamed : List Asks.Ask → List Ask
 allNamed [] = []
 allNamed (a ∷ l) = named a ∷ allNamed l
 
-onward-same : (a : Answer) (x y z : Tlb) → x ≡ y → Asks.onward a x z ≡ onward real a y z
+onward-same : (a : Answer) (x y z : Tlb) → x ≡ y → Asks.onward a x z ≡ onward a y z
 onward-same (Address pa) x y z e = e
 onward-same (Status fsc) x y z e = refl
 
 pub asks-same : (c : Core) (m : Ram) (l : List Asks.Ask) (t : Tlb)
-    → Asks.tlbAfter (bankNow c) (c .who) (memoryOf m) l t ≡ asked real (plainIn (bareOf c)) m (allNamed l) t
-unfolding Asks.tlbAfter stepMmu fetchStepOf
+    → Asks.tlbAfter (bankNow c) (c .who) (memoryOf m) l t ≡ tlbAsks real (plainIn (bareOf c)) m (allNamed l) t
+unfolding Asks.tlbAfter translateIn translateFetchIn
 asks-same c m [] t = refl
 asks-same c m (Asks.translates kind va ∷ l) t =
-    onward-same (answerOf real (plainIn (bareOf c)) m (translates kind va) t) _ _ (askedOne real (plainIn (bareOf c)) m (translates kind va) t)
-    (asks-same c m l (askedOne real (plainIn (bareOf c)) m (translates kind va) t))
+    onward-same (answerOf real (plainIn (bareOf c)) m (translates kind va) t) _ _ (tlbAsk real (plainIn (bareOf c)) m (translates kind va) t)
+    (asks-same c m l (tlbAsk real (plainIn (bareOf c)) m (translates kind va) t))
 asks-same c m (Asks.fetches va ∷ l) t =
-    onward-same (answerOf real (plainIn (bareOf c)) m (fetches va) t) _ _ (askedOne real (plainIn (bareOf c)) m (fetches va) t)
-    (asks-same c m l (askedOne real (plainIn (bareOf c)) m (fetches va) t))
+    onward-same (answerOf real (plainIn (bareOf c)) m (fetches va) t) _ _ (tlbAsk real (plainIn (bareOf c)) m (fetches va) t)
+    (asks-same c m l (tlbAsk real (plainIn (bareOf c)) m (fetches va) t))
 
 pages-same : (b : Bool) (va : ℕ) (kind : Kind) → allNamed (Asks.asksBy b va kind) ≡ pagesOf b va kind
 pages-same true va kind = refl
@@ -56,7 +57,7 @@ pub kept-bare : (c d : Core) → Laws.Kept c d → bareOf d ≡ bareOf c
 kept-bare c d k = rw (k .who, k .flags, k .pc, k .x, k .control, k .sys)
 
 pub operation-tlb : (c : Core) (m : Ram) (o : Laws.Operation)
-    → Laws.coreAfter c (m .base) (m .bytes) o .tlb ≡ asked real (plainIn (bareOf c)) m (allNamed (Laws.asksOf (Laws.onNow c) o)) (c .tlb)
+    → Laws.operationCore c (m .base) (m .bytes) o .tlb ≡ tlbAsks real (plainIn (bareOf c)) m (allNamed (Laws.asksOf (Laws.onNow c) o)) (c .tlb)
 operation-tlb c m o = Laws.tlb-after c (m .base) (m .bytes) o ∙ asks-same c m (Laws.asksOf (Laws.onNow c) o) (c .tlb)
 
 -- ANSWERS
@@ -68,22 +69,22 @@ abbrev allGiven : List Asks.Given → List Given
 allGiven [] = []
 allGiven (g ∷ l) = namedGiven g ∷ allGiven l
 
-onward-given : (a : Answer) (l : List Asks.Given) (k : List Given) → allGiven l ≡ k → allGiven (Asks.onward a l []) ≡ onward real a k []
+onward-given : (a : Answer) (l : List Asks.Given) (k : List Given) → allGiven l ≡ k → allGiven (Asks.onward a l []) ≡ onward a k []
 onward-given (Address pa) l k e = e
 onward-given (Status fsc) l k e = refl
 
 given-same : (c : Core) (m : Ram) (l : List Asks.Ask) (t : Tlb)
     → allGiven (Asks.givenTo (bankNow c) (c .who) (memoryOf m) l t) ≡ answers real (plainIn (bareOf c)) m (allNamed l) t
-unfolding Asks.givenTo stepMmu fetchStepOf
+unfolding Asks.givenTo translateIn translateFetchIn
 given-same c m [] t = refl
 given-same c m (Asks.translates kind va ∷ l) t =
     ap {B = List Given} (λ (k : List Given). record { ask = translates kind va; answer = answerOf real (plainIn (bareOf c)) m (translates kind va) t } ∷ k)
     (onward-given (answerOf real (plainIn (bareOf c)) m (translates kind va) t) _ _
-    (given-same c m l (askedOne real (plainIn (bareOf c)) m (translates kind va) t)))
+    (given-same c m l (tlbAsk real (plainIn (bareOf c)) m (translates kind va) t)))
 given-same c m (Asks.fetches va ∷ l) t =
     ap {B = List Given} (λ (k : List Given). record { ask = fetches va; answer = answerOf real (plainIn (bareOf c)) m (fetches va) t } ∷ k)
     (onward-given (answerOf real (plainIn (bareOf c)) m (fetches va) t) _ _
-    (given-same c m l (askedOne real (plainIn (bareOf c)) m (fetches va) t)))
+    (given-same c m l (tlbAsk real (plainIn (bareOf c)) m (fetches va) t)))
 
 placed-same : (va : ℕ) (l : List Asks.Given) → Asks.placedBy va l ≡ placedIn va (allGiven l)
 placed-same va [] = refl

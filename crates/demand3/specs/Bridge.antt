@@ -17,6 +17,7 @@ use Rattle.sysreg.specs.declared.write.WriteAnswer.{WriteAnswer}
 use Rattle.sysreg.specs.declared.write.WriteAnswer.the-variants as Written
 use Rattle.sysreg.specs.declared.write.Written.{Written}
 use Rattle.tlb.specs.Tlb.{flushOf, retagOf}
+use Rattle.tlb.specs.Asks.{Ask}
 use Rattle.tlb.specs.declared.access.Kind.{Kind}
 use Rattle.tlb.specs.declared.access.Kind.the-variants as Kind
 use Rattle.tlb.specs.declared.Tlb.{Tlb}
@@ -40,7 +41,7 @@ use Rattle.cpu.specs.declared.call.Call.{Call}
 use Rattle.cpu.specs.declared.call.Call.the-variants.{Translate, DataPa, FetchPa, Load, Store, Fetch, System, Register, Level, Mark, General, Abort}
 use Rattle.cpu.specs.declared.call.Reply.the-variants.{Refused}
 use Rattle.history.specs.World.{Plain}
-use Rattle.history.specs.History.{Ask, writes, Event, steps, plainRun, asked, reshaped, refit, tlbRun}
+use Rattle.history.specs.History.{writes, Event, steps, plainRun, tlbAsks, tlbRun}
 use Rattle.history.specs.Calls.{Bridge}
 use Rattle.history.specs.Instance.{Ram, real}
 use Rattle.demand3.specs.Bare.{Bare, plainIn, missedIn, opIn, operandIn, writtenIn, number, bySys, byWrite, ruledIn, ifAllowed, withWho, withWritten, sysDoes, bareDoes, bareStep}
@@ -61,12 +62,12 @@ fits-idle c m = record { bare = refl; plain = refl; tlb = refl }
 -- TRANSLATIONS
 
 operation-fits : (c : Core) (m : Ram) (o : Laws.Operation) (l : List Ask) → allNamed (Laws.asksOf (Laws.onNow c) o) ≡ l
-    → Fits c (Laws.coreAfter c (m .base) (m .bytes) o) (bareOf c) (steps m (asking l) ∷ [])
+    → Fits c (Laws.operationCore c (m .base) (m .bytes) o) (bareOf c) (steps m (asking l) ∷ [])
 operation-fits c m o l e =
     record {
       bare = kept-bare c _ (Laws.kept c (m .base) (m .bytes) o);
       plain = refl;
-      tlb = operation-tlb c m o ∙ ap (λ (k : List Ask). asked real (plainIn (bareOf c)) m k (c .tlb)) e;
+      tlb = operation-tlb c m o ∙ ap (λ (k : List Ask). tlbAsks real (plainIn (bareOf c)) m k (c .tlb)) e;
     }
 
 load-fits : (c : Core) (m : Ram) (va : ℕ) (s : Sized)
@@ -96,10 +97,10 @@ pub stored-bare : (c : Core) (m : Ram) (va : ℕ) → bareOf (writeOf c (m .base
 stored-bare c m va = kept-bare c _ (Laws.kept c (m .base) (m .bytes) (Laws.store va 8 0))
 
 pub stored-tlb : (c : Core) (m : Ram) (va : ℕ)
-    → writeOf c (m .base) (m .bytes) va 8 .core .tlb ≡ asked real (plainIn (bareOf c)) m (accessIn (bareOf c) va 8 Kind.Write) (c .tlb)
+    → writeOf c (m .base) (m .bytes) va 8 .core .tlb ≡ tlbAsks real (plainIn (bareOf c)) m (accessIn (bareOf c) va 8 Kind.Write) (c .tlb)
 stored-tlb c m va =
     operation-tlb c m (Laws.store va 8 0)
-    ∙ ap (λ (k : List Ask). asked real (plainIn (bareOf c)) m k (c .tlb)) (access-same c va 8 Kind.Write)
+    ∙ ap (λ (k : List Ask). tlbAsks real (plainIn (bareOf c)) m k (c .tlb)) (access-same c va 8 Kind.Write)
 
 -- after the first of them
 module _ (c : Core) (m : Ram) (va : ℕ) (b : Bare) (t : Tlb) (eb : bareOf c ≡ b) (et : c .tlb ≡ t) where
@@ -107,7 +108,7 @@ module _ (c : Core) (m : Ram) (va : ℕ) (b : Bare) (t : Tlb) (eb : bareOf c ≡
   stored = writeOf c (m .base) (m .bytes) va 8
 
   abbrev tlbThen : Tlb
-  tlbThen = asked real (plainIn b) m (accessIn b va 8 Kind.Write) t
+  tlbThen = tlbAsks real (plainIn b) m (accessIn b va 8 Kind.Write) t
 
   pub bare-then : bareOf (stored .core) ≡ b
   bare-then = stored-bare c m va ∙ eb
@@ -115,8 +116,8 @@ module _ (c : Core) (m : Ram) (va : ℕ) (b : Bare) (t : Tlb) (eb : bareOf c ≡
   pub tlb-then : stored .core .tlb ≡ tlbThen
   tlb-then =
       stored-tlb c m va
-      ∙ ap (λ (d : Bare). asked real (plainIn d) m (accessIn d va 8 Kind.Write) (c .tlb)) eb
-      ∙ ap (asked real (plainIn b) m (accessIn b va 8 Kind.Write)) et
+      ∙ ap (λ (d : Bare). tlbAsks real (plainIn d) m (accessIn d va 8 Kind.Write) (c .tlb)) eb
+      ∙ ap (tlbAsks real (plainIn b) m (accessIn b va 8 Kind.Write)) et
 
   zero-last : ZeroRuns zero c m va b t
   unfolding zeroOf
@@ -147,7 +148,7 @@ zero-runs zero c m va b t eb et = zero-last c m va b t eb et
 zero-runs (suc n) c m va b t eb et =
     zero-next c m va b t eb et n
     (zero-runs n (writeOf c (m .base) (m .bytes) va 8 .core) (ramZeroed c m va) (wrap (va + 8)) b
-    (asked real (plainIn b) m (accessIn b va 8 Kind.Write) t) (bare-then c m va b t eb et) (tlb-then c m va b t eb et))
+    (tlbAsks real (plainIn b) m (accessIn b va 8 Kind.Write) t) (bare-then c m va b t eb et) (tlb-then c m va b t eb et))
 
 zero-fits : (c : Core) (m : Ram) (va : ℕ)
     → Fits c (zeroOf 8 c (m .base) (m .bytes) va .core) (bareOf c) (zeroSteps (bareOf c) m (zeroLater 7 c m va) va)

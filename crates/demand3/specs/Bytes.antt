@@ -9,12 +9,13 @@ use borrow.Author.Tests.{le-ltb}
 use lib.ListN.{length, getD}
 use Rattle.word.specs.Bits.{alignDown, wrap}
 use Rattle.sysreg.specs.Encoding.{registerAt}
+use Rattle.tlb.specs.Asks.{translates}
 use Rattle.tlb.specs.declared.access.Kind.{Kind}
 use Rattle.tlb.specs.declared.access.Kind.the-variants.{Read, Write}
 use Rattle.tlb.specs.declared.access.Answer.the-variants.{Address}
 use Rattle.mmu.specs.Core.{freshCore, regOf}
 use Rattle.mmu.specs.Bytes.{byteIn}
-use Rattle.mmu.specs.Step.{stepOf as stepMmu}
+use Rattle.mmu.specs.Step.{translateIn}
 use Rattle.mmu.specs.Ops.{steppedNow, translateOf, readOf, writeOf, ramAfterWrite}
 use Rattle.mmu.specs.OpLaws.{onNow}
 use Rattle.mmu.specs.OwnAddress.{ownAnswer, Ready}
@@ -29,7 +30,6 @@ use Rattle.cpu.specs.Step.{runOf, stepOf}
 use Rattle.cpu.specs.declared.call.Call.the-variants.{Translate}
 use Rattle.history.specs.World.{uncached}
 use Rattle.history.specs.World as World
-use Rattle.history.specs.History.{translates}
 use Rattle.history.specs.Corollaries.{off-settled}
 use Rattle.history.specs.Calls.{Fed, lentOf, Shown, showing}
 use Rattle.history.specs.EveryReply.{run-one, bare-one, shown-one}
@@ -51,7 +51,7 @@ module _ (list : List (Fed real machine)) (seen : Shown real machine freshCore l
 
   pub flat-after : World.onNow real (plainIn (bareNow list seen m)) ≡ false → (kind : Kind) (va : ℕ)
       → translateOf (coreNow list seen m) (memoryOf m) va kind .answer ≡ Address va
-  unfolding translateOf steppedNow stepMmu uncached
+  unfolding translateOf steppedNow translateIn uncached
   flat-after off kind va = one-ask list seen m (translates kind va) (off-here off va) ∙ rw off
 
   -- a translation after the list is a call that misses no check

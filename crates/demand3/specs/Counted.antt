@@ -12,6 +12,7 @@ use Rattle.sysreg.specs.declared.write.WriteAnswer.the-variants as Written
 use Rattle.tlb.specs.Model.{Slot, Counters, Model, oneFlush, oneEpoch, invalCounted, invalidate, retag, joined, broadcast}
 use Rattle.tlb.specs.Counting.{How, countedBy, howTranslated, howFetched, translate-counts, fetch-counts}
 use Rattle.tlb.specs.Live.{countersOf, pendingOf, live}
+use Rattle.tlb.specs.Asks.{Ask, translates, fetches, onward}
 use Rattle.tlb.specs.declared.access.Kind.{Kind}
 use Rattle.tlb.specs.declared.access.Kind.the-variants as Kind
 use Rattle.tlb.specs.declared.access.Answer.{Answer}
@@ -25,7 +26,7 @@ use Rattle.cpu.specs.declared.call.Encoding.{Encoding}
 use Rattle.cpu.specs.declared.call.Call.{Call}
 use Rattle.cpu.specs.declared.call.Call.the-variants.{Translate, DataPa, FetchPa, Fetch, System, Register}
 use Rattle.history.specs.World.{accessOf}
-use Rattle.history.specs.History.{Ask, translates, fetches, carries, writes, Event, steps, onward}
+use Rattle.history.specs.History.{carries, writes, Event, steps}
 use Rattle.history.specs.ModelRun.{modelTurn, modelAsked, modelAfter, modelFlushed, modelRetagged, modelRun}
 use Rattle.history.specs.Calls.{Lent}
 use Rattle.history.specs.Instance.{Ram, real}
@@ -49,7 +50,7 @@ asked-one b m a u = go (modelTurn real (plainIn b) m a u .answer)
     v : Model
     v = modelTurn real (plainIn b) m a u .after
 
-    go : (x : Answer) → onward real x v v ≡ v
+    go : (x : Answer) → onward x v v ≡ v
     go (Address pa) = refl
     go (Status code) = refl
 

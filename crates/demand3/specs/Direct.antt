@@ -11,6 +11,7 @@ use Rattle.word.specs.declared.ram.Sized.the-variants.{Bytes}
 use Rattle.word.specs.declared.ram.Width.{Width}
 use Rattle.tlb.specs.Lists.{Each, done, more}
 use Rattle.tlb.specs.Tlb.{fresh}
+use Rattle.tlb.specs.Asks.{Ask, translates, fetches, kindOf, addressOf, Given, onward}
 use Rattle.tlb.specs.declared.access.Kind.{Kind}
 use Rattle.tlb.specs.declared.access.Kind.the-variants as Kind
 use Rattle.tlb.specs.declared.access.Answer.{Answer}
@@ -18,7 +19,7 @@ use Rattle.tlb.specs.declared.access.Answer.the-variants.{Address, Status}
 use Rattle.tlb.specs.declared.Tlb.{Tlb}
 use Rattle.mmu.specs.Core.{freshCore}
 use Rattle.mmu.specs.Place.{nextPage, crosses, placedOne, placedBoth}
-use Rattle.mmu.specs.Step.{stepOf as stepMmu, fetchStepOf}
+use Rattle.mmu.specs.Step.{translateIn, translateFetchIn}
 use Rattle.mmu.specs.Ends.{reachedBy, loadEnd, storeEnd, storeRamEnd, fetchEnd}
 use Rattle.mmu.specs.Ops.{steppedNow, fetchSteppedNow, locatedNow, translateOf, fetchPaOf, dataPaOf, fetchOf}
 use Rattle.mmu.specs.declared.core.Core.{Core}
@@ -28,7 +29,7 @@ use Rattle.cpu.specs.Step.{translation, reaching, loading, storing, fetching, r
 use Rattle.cpu.specs.declared.call.Encoding.{Encoding}
 use Rattle.cpu.specs.declared.call.Call.the-variants.{Translate, DataPa, FetchPa, Load, Store, Fetch, System}
 use Rattle.history.specs.World.{Plain, regimeNow, pageNow, onNow, uncached}
-use Rattle.history.specs.History.{Ask, translates, fetches, kindOf, addressOf, Given, nothing, Event, plainRun, tlbRun, answerOf, onward, answers, Settled}
+use Rattle.history.specs.History.{nothing, Event, plainRun, tlbRun, answerOf, answers, Settled}
 use Rattle.history.specs.Invisible.{plainAnswers, Tidy}
 use Rattle.history.specs.Corollaries.{all-settled}
 use Rattle.history.specs.Calls.{Fed, lentOf, eventsRun, Shown, showing}
@@ -110,17 +111,17 @@ module _ (list : List (Fed real machine)) (seen : Shown real machine freshCore l
   -- the same physical address, or the same fault with its status and address
   pub translate-after : (kind : Kind) (va : ℕ) → missedIn (bareOf coreNow) m (Translate kind va) ≡ 0 → SettledAt va
       → stepOf coreNow (m .base) (m .bytes) (Translate kind va) .reply ≡ translation va (uncachedAt kind va)
-  unfolding stepOf runOf translateOf steppedNow stepMmu
+  unfolding stepOf runOf translateOf steppedNow translateIn
   translate-after kind va passed st = rw passed (ap (translation va) (one-ask (translates kind va) st))
 
   pub data-pa-after : (va : ℕ) → missedIn (bareOf coreNow) m (DataPa va) ≡ 0 → SettledAt va
       → stepOf coreNow (m .base) (m .bytes) (DataPa va) .reply ≡ reaching (reachedBy (uncachedAt Kind.Read va))
-  unfolding stepOf runOf dataPaOf steppedNow stepMmu
+  unfolding stepOf runOf dataPaOf steppedNow translateIn
   data-pa-after va passed st = rw passed (ap (λ (x : Answer). reaching (reachedBy x)) (one-ask (translates Kind.Read va) st))
 
   pub fetch-pa-after : (va : ℕ) → missedIn (bareOf coreNow) m (FetchPa va) ≡ 0 → SettledAt va
       → stepOf coreNow (m .base) (m .bytes) (FetchPa va) .reply ≡ reaching (reachedBy (uncachedAt Kind.Fetch va))
-  unfolding stepOf runOf fetchPaOf fetchSteppedNow fetchStepOf
+  unfolding stepOf runOf fetchPaOf fetchSteppedNow translateFetchIn
   fetch-pa-after va passed st = rw passed (ap (λ (x : Answer). reaching (reachedBy x)) (one-ask (fetches va) st))
 
   -- ACCESSES
@@ -136,13 +137,13 @@ module _ (list : List (Fed real machine)) (seen : Shown real machine freshCore l
       go : (x : Answer)
           → placedIn va
           (record { ask = translates kind va; answer = x }
-          ∷ onward real x (second ∷ onward real {A = List Given} (second .answer) [] []) [])
+          ∷ onward x (second ∷ onward {A = List Given} (second .answer) [] []) [])
           ≡ placedBoth va x (uncachedAt kind (nextPage va))
       go (Address pa) = refl
       go (Status fsc) = refl
   placed-plain false va kind = go (uncachedAt kind va)
     where
-      go : (x : Answer) → placedIn va (record { ask = translates kind va; answer = x } ∷ onward real {A = List Given} x [] []) ≡ placedOne va x
+      go : (x : Answer) → placedIn va (record { ask = translates kind va; answer = x } ∷ onward {A = List Given} x [] []) ≡ placedOne va x
       go (Address pa) = refl
       go (Status fsc) = refl
 
@@ -188,7 +189,7 @@ module _ (list : List (Fed real machine)) (seen : Shown real machine freshCore l
   -- A fetch replies the four bytes there, or the fault or the abort.
   pub fetch-after : (va : ℕ) → missedIn (bareOf coreNow) m (Fetch va) ≡ 0 → SettledAt va
       → stepOf coreNow (m .base) (m .bytes) (Fetch va) .reply ≡ fetching (fetchEnd (uncachedAt Kind.Fetch va) 0 (m .base) (m .bytes) va .answer)
-  unfolding stepOf runOf fetchOf fetchSteppedNow fetchStepOf
+  unfolding stepOf runOf fetchOf fetchSteppedNow translateFetchIn
   fetch-after va passed st =
       rw passed
       (ap fetching (fetch-end _ _ (m .base) (m .bytes) va)

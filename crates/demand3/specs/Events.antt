@@ -13,6 +13,7 @@ use Rattle.word.specs.Bits.{alignDown, wrap}
 use Rattle.word.specs.Ram.{widthOf, bytesIn}
 use Rattle.word.specs.declared.ram.Sized.{Sized}
 use Rattle.word.specs.declared.ram.Sized.the-variants as Sized
+use Rattle.tlb.specs.Asks.{Ask, translates, fetches}
 use Rattle.tlb.specs.declared.access.Kind.{Kind}
 use Rattle.tlb.specs.declared.access.Kind.the-variants as Kind
 use Rattle.tlb.specs.declared.access.Who.{Who}
@@ -27,7 +28,7 @@ use Rattle.cpu.specs.declared.call.Encoding.{Encoding}
 use Rattle.cpu.specs.declared.call.Call.{Call}
 use Rattle.cpu.specs.declared.call.Call.the-variants.{Translate, DataPa, FetchPa, Load, Store, Fetch, System, Register, Level, Mark, General, Abort}
 use Rattle.history.specs.World.{onNow}
-use Rattle.history.specs.History.{Ask, translates, fetches, Effect, nothing, carries, writes, turns, Step, Event, steps}
+use Rattle.history.specs.History.{Effect, nothing, carries, writes, sets, Step, Event, steps}
 use Rattle.history.specs.Instance.{Ram, real}
 use Rattle.demand3.specs.Bare.{Bare, plainIn, missedIn, opIn, operandIn, writtenIn, takenIn, verdictIn, ifAllowed}
 
@@ -69,7 +70,7 @@ setting who = does (turning who (leb (who .level) 3) refl)
 abbrev pub entering : Bare → Exception → Step real
 entering b e =
     does
-    (turns (record { level = takenIn b e .level; mark = b .who .mark })
+    (sets (record { level = takenIn b e .level; mark = b .who .mark })
     (take-level (b .who .level) (b .pc) (b .control .«scr_el3») (b .control .«hcr_el2») (b .flags) (b .sys) e .1))
 
 -- what a TLBI names

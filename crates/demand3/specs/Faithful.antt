@@ -3,12 +3,13 @@ use mathlib.Core.Path.{_≡_, sym, ap, subst, _∙_}
 use mathlib.Core.List.{List, _∷_, _++_}
 use Prim.Native.Nat.{ℕ}
 use Rattle.tlb.specs.Lists.{Each}
+use Rattle.tlb.specs.Asks.{Given}
 use Rattle.mmu.specs.Core.{freshCore}
 use Rattle.mmu.specs.declared.core.Core.{Core}
 use Rattle.cpu.specs.Step.{stepOf, ramAfter}
 use Rattle.cpu.specs.declared.call.Call.{Call}
 use Rattle.cpu.specs.declared.call.Stepped.{Stepped}
-use Rattle.history.specs.History.{Given, Step, Event, steps, afterEvent, plainRun, tlbEvent, tlbRun, answers}
+use Rattle.history.specs.History.{Step, Event, steps, afterEvent, plainRun, tlbEvent, tlbRun, answers}
 use Rattle.history.specs.Invisible.{Tidy, answersRun}
 use Rattle.history.specs.Lists.{answers-split}
 use Rattle.history.specs.Calls.{Lent, Fed, lentOf, eventsRun, shown, showing, FaithfulIn}

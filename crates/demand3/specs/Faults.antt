@@ -14,6 +14,7 @@ use Rattle.word.specs.declared.ram.Sized.the-variants as Sized
 use Rattle.word.specs.declared.ram.Width.{Width}
 use Rattle.word.specs.declared.ram.Width.the-variants as Width
 use Rattle.tlb.specs.Lists.{Each, more}
+use Rattle.tlb.specs.Asks.{Ask, translates, fetches, addressOf, Given, onward}
 use Rattle.tlb.specs.declared.access.Kind.{Kind}
 use Rattle.tlb.specs.declared.access.Kind.the-variants as Kind
 use Rattle.tlb.specs.declared.access.Answer.{Answer}
@@ -22,7 +23,7 @@ use Rattle.tlb.specs.declared.Tlb.{Tlb}
 use Rattle.entry.specs.declared.exception.Exception.the-variants as Exception
 use Rattle.entry.specs.declared.exception.Stop.the-variants as Stop
 use Rattle.mmu.specs.Core.{freshCore}
-use Rattle.mmu.specs.Place.{nextPage, crosses, byteAt, firstOutside, judged}
+use Rattle.mmu.specs.Place.{nextPage, crosses, byteAt, firstOutside, verdictOf}
 use Rattle.mmu.specs.Bytes.{gotBy, valueAt, loadOf, insnOf}
 use Rattle.mmu.specs.Ends.{reachedBy, loadedFrom, loadEnd, storeEndBy, storeEnd, fetchedFrom, fetchEnd}
 use Rattle.mmu.specs.declared.place.Pages.{Pages}
@@ -42,7 +43,7 @@ use Rattle.cpu.specs.declared.call.Call.the-variants.{Translate, DataPa, FetchP
 use Rattle.cpu.specs.declared.call.Reply.{Reply}
 use Rattle.cpu.specs.declared.call.Reply.the-variants as Reply
 use Rattle.history.specs.World.{Plain, onNow}
-use Rattle.history.specs.History.{Ask, translates, fetches, addressOf, Given, steps, answerOf, askedOf, onward, answers, asked}
+use Rattle.history.specs.History.{steps, answerOf, tlbAsk, answers, tlbAsks}
 use Rattle.history.specs.Invisible.{answersRun}
 use Rattle.history.specs.Calls.{Lent, Fed, lentOf, Shown}
 use Rattle.history.specs.Instance.{Ram, real}
@@ -99,8 +100,8 @@ first-outside base len p i (suc n) j pa e = go (within base len 1 (byteAt p i)) 
     go true f k = let h : j < i + 1 + n = k f in omega arith
     go false f k = let h : i ≡ j = outside-injective f in omega arith
 
-byte-low : (base len : ℕ) (place : Place) (n j pa : ℕ) → 0 < n → judged base len place n ≡ Outside j pa → j < n
-unfolding judged
+byte-low : (base len : ℕ) (place : Place) (n j pa : ℕ) → 0 < n → verdictOf base len place n ≡ Outside j pa → j < n
+unfolding verdictOf
 byte-low base len (Whole q) n j pa some e = go (within base len n q) e
   where
     go : (b : Bool) → pick b Inside (Outside 0 q) ≡ Outside j pa → j < n
@@ -152,7 +153,7 @@ module _ (va : ℕ) (kind : Kind) where
         lying = λ place e. let z : _≡_ {A = ℕ} 0 1 = cc in absurd (omega arith);
       }
 
-  onward-none : (x : Answer) → onward real {A = List Given} x [] [] ≡ []
+  onward-none : (x : Answer) → onward {A = List Given} x [] [] ≡ []
   onward-none (Address pa) = refl
   onward-none (Status code) = refl
 
@@ -160,9 +161,9 @@ module _ (va : ℕ) (kind : Kind) where
   answers-sit false q m t =
       subst (λ (l : List Given). Sits va (one (answerOf real q m (translates kind va) t) ∷ l)) (sym (onward-none (answerOf real q m (translates kind va) t)))
       (sits-one (answerOf real q m (translates kind va) t))
-  answers-sit true q m t = go (answerOf real q m (translates kind va) t) (answerOf real q m (translates kind (nextPage va)) (askedOf real q m (translates kind va) t))
+  answers-sit true q m t = go (answerOf real q m (translates kind va) t) (answerOf real q m (translates kind (nextPage va)) (tlbAsk real q m (translates kind va) t))
     where
-      go : (x y : Answer) → Sits va (one x ∷ onward real {A = List Given} x (two y ∷ onward real {A = List Given} y [] []) [])
+      go : (x y : Answer) → Sits va (one x ∷ onward {A = List Given} x (two y ∷ onward {A = List Given} y [] []) [])
       go (Address pa) y = subst (λ (l : List Given). Sits va (one (Address pa) ∷ two y ∷ l)) (sym (onward-none y)) (sits-two pa y)
       go (Status code) y = sits-one (Status code)
 
@@ -176,7 +177,7 @@ some-bytes Width.Double = (omega arith, omega arith)
 
 module _ (m : Ram) (va n : ℕ) (some : 0 < n) (few : n ≤ 8) (gs : List Given) (sits : Sits va gs) (addr fsc : ℕ) where
   -- a byte outside
-  out : (place : Place) (j pa : ℕ) → placedIn va gs ≡ Placed.At place → judged (m .base) (length (m .bytes)) place n ≡ Outside j pa
+  out : (place : Place) (j pa : ℕ) → placedIn va gs ≡ Placed.At place → verdictOf (m .base) (length (m .bytes)) place n ≡ Outside j pa
       → wrap (va + j) ≡ addr → 0x10 ≡ fsc → Told gs addr fsc
   out place j pa e v a f =
       let (g, mem, q, pb, r) = sits .lying place e in
@@ -191,9 +192,9 @@ module _ (m : Ram) (va n : ℕ) (some : 0 < n) (few : n ≤ 8) (gs : List Given)
       go (Placed.Fault a code) e w =
           let (g, mem, p, r) = sits .faulting a code e in
           translating g mem (p ∙ w .0) (r ∙ ap Status (w .1))
-      go (Placed.At place) e w = by-verdict (judged (m .base) (length (m .bytes)) place n) refl w
+      go (Placed.At place) e w = by-verdict (verdictOf (m .base) (length (m .bytes)) place n) refl w
         where
-          by-verdict : (v : Verdict) → judged (m .base) (length (m .bytes)) place n ≡ v
+          by-verdict : (v : Verdict) → verdictOf (m .base) (length (m .bytes)) place n ≡ v
               → Tells (loading (loadedFrom place (gotBy v (valueAt (m .base) (m .bytes) place n)) 0 va .answer)) addr fsc → Told gs addr fsc
           by-verdict Inside d x = absurd x
           by-verdict (Outside j pa) d x = out place j pa e d (x .0) (x .1)
@@ -206,9 +207,9 @@ module _ (m : Ram) (va n : ℕ) (some : 0 < n) (few : n ≤ 8) (gs : List Given)
       go (Placed.Fault a code) e w =
           let (g, mem, p, r) = sits .faulting a code e in
           translating g mem (p ∙ w .0) (r ∙ ap Status (w .1))
-      go (Placed.At place) e w = by-verdict (judged (m .base) (length (m .bytes)) place n) refl w
+      go (Placed.At place) e w = by-verdict (verdictOf (m .base) (length (m .bytes)) place n) refl w
         where
-          by-verdict : (d : Verdict) → judged (m .base) (length (m .bytes)) place n ≡ d → Tells (storing (storeEndBy d 0 va .answer)) addr fsc → Told gs addr fsc
+          by-verdict : (d : Verdict) → verdictOf (m .base) (length (m .bytes)) place n ≡ d → Tells (storing (storeEndBy d 0 va .answer)) addr fsc → Told gs addr fsc
           by-verdict Inside d x = absurd x
           by-verdict (Outside j pa) d x = out place j pa e d (x .0) (x .1)
 
@@ -230,14 +231,14 @@ zero-told b m [] va t addr fsc al w =
 zero-told b m (n ∷ ms) va t addr fsc al w =
     subst (λ (l : List Given). Told (l ++ rest) addr fsc) (sym one-given)
     (told-later first rest addr fsc
-    (zero-told b n ms (wrap (va + 8)) (asked real (plainIn b) m (accessIn b va 8 Kind.Write) t) addr fsc (next-aligned va al)
+    (zero-told b n ms (wrap (va + 8)) (tlbAsks real (plainIn b) m (accessIn b va 8 Kind.Write) t) addr fsc (next-aligned va al)
     (subst (λ (l : List Given). Tells (zeroSays m (n ∷ ms) va (l ++ rest) .reply) addr fsc) one-given w)))
   where
     first : Given
     first = record { ask = translates Kind.Write va; answer = answerOf real (plainIn b) m (translates Kind.Write va) t }
 
     rest : List Given
-    rest = answersRun real (plainIn b) (zeroSteps b n ms (wrap (va + 8))) (asked real (plainIn b) m (accessIn b va 8 Kind.Write) t)
+    rest = answersRun real (plainIn b) (zeroSteps b n ms (wrap (va + 8))) (tlbAsks real (plainIn b) m (accessIn b va 8 Kind.Write) t)
 
     one-given : answers real (plainIn b) m (accessIn b va 8 Kind.Write) t ≡ first ∷ []
     one-given =

@@ -10,13 +10,14 @@ use Rattle.sysreg.specs.Shape.{asidOf}
 use Rattle.tlb.specs.Tlb.{fresh}
 use Rattle.tlb.specs.Model.{Model, emptyModel}
 use Rattle.tlb.specs.Live.{countersOf, pendingOf, live, WellFormed}
+use Rattle.tlb.specs.Asks.{Given}
 use Rattle.tlb.specs.declared.Tlb.{Tlb}
 use Rattle.mmu.specs.Core.{freshCore}
 use Rattle.mmu.specs.declared.core.Core.{Core}
 use Rattle.cpu.specs.Step.{stepOf}
 use Rattle.cpu.specs.declared.call.Call.{Call}
 use Rattle.history.specs.World.{Plain}
-use Rattle.history.specs.History.{Given, Event, plainRun, tlbRun}
+use Rattle.history.specs.History.{Event, plainRun, tlbRun}
 use Rattle.history.specs.Theorem.{run-low, history-asid, history-well}
 use Rattle.history.specs.ModelRun.{modelRun, modelAnswersRun, StandsFor, run-stands, fresh-stands, answers-run-live}
 use Rattle.history.specs.Calls.{Lent, eventsRun}

@@ -7,6 +7,7 @@ use Rattle.word.specs.Bits.{alignDown, wrap}
 use Rattle.word.specs.Ram.{widthOf, bytesIn}
 use Rattle.word.specs.declared.ram.Sized.{Sized}
 use Rattle.word.specs.declared.ram.Sized.the-variants as Sized
+use Rattle.tlb.specs.Asks.{Ask, Given}
 use Rattle.tlb.specs.declared.access.Kind.the-variants as Kind
 use Rattle.tlb.specs.declared.access.Answer.{Answer}
 use Rattle.tlb.specs.declared.access.Answer.the-variants.{Status}
@@ -23,7 +24,6 @@ use Rattle.cpu.specs.declared.call.Call.the-variants.{Translate, DataPa, FetchP
 use Rattle.cpu.specs.declared.call.Reply.{Reply}
 use Rattle.cpu.specs.declared.call.Reply.the-variants.{Refused, Done, Value, Faults, Fault as Faulted, Stopped}
 use Rattle.history.specs.World.{uncached}
-use Rattle.history.specs.History.{Ask, Given}
 use Rattle.history.specs.Invisible.{plainAnswers}
 use Rattle.history.specs.Instance.{Ram, real}
 use Rattle.demand3.specs.Bare.{Bare, plainIn, opIn, operandIn, verdictIn, refusalOf, ifAllowed}

@@ -28,12 +28,13 @@ use Rattle.tlb.specs.Tlb.{flushOf, dropPageOf, invalidateOf}
 use Rattle.tlb.specs.Access.{judged as entryJudged}
 use Rattle.tlb.specs.Turn.{walkEnd, lookWith, missWith, remembered, turnWith}
 use Rattle.tlb.specs.Step.{turnIn}
+use Rattle.tlb.specs.Asks.{translates}
 use Rattle.tlb.specs.declared.access.Kind.the-variants.{Read}
 use Rattle.tlb.specs.declared.access.Answer.the-variants.{Address}
 use Rattle.tlb.specs.declared.turn.Source.the-variants.{FromHint}
 use Rattle.tlb.specs.declared.Inval.the-variants.{Page}
 use Rattle.mmu.specs.Core.{zeros, freshCore, regOf, setReg, movedTo}
-use Rattle.mmu.specs.Step.{stepOf as stepMmu}
+use Rattle.mmu.specs.Step.{translateIn}
 use Rattle.mmu.specs.Ops.{steppedNow, translateOf}
 use Rattle.sysop.specs.Op.{named, decodeOf}
 use Rattle.sysop.specs.Tlbi.{scopeOf, whatOf, tlbiOf}
@@ -47,7 +48,7 @@ use Rattle.cpu.specs.declared.call.Call.the-variants.{Translate, Register, Leve
 use Rattle.cpu.specs.declared.call.Reply.the-variants.{Value}
 use Rattle.history.specs.World.{Agree, covers, judge, judged, pageWalk, uncached, accessOf}
 use Rattle.history.specs.Lists.{each-head}
-use Rattle.history.specs.History.{translates, carries, writes, Event, steps}
+use Rattle.history.specs.History.{carries, writes, Event, steps}
 use Rattle.history.specs.StepByStep.{HoldsFrom, steps-settled}
 use Rattle.history.specs.Calls.{Lent}
 use Rattle.history.specs.EveryCall.{shown-shown}
@@ -188,7 +189,7 @@ pub by-cache :
     (turnIn (accessOf real (plainIn (bareAfter tidied)) new Read 0x40001234) (coreAfter tidied .tlb) .source ≡ FromHint)
     × (stepOf (coreAfter tidied) (new .base) (new .bytes) read .reply ≡ Value 0xC0001234)
     × (uncached real (plainIn (bareAfter tidied)) new Read 0x40001234 ≡ Address 0xC0001234)
-unfolding stepOf runOf translateOf steppedNow stepMmu movedTo regOf setReg writeRegister appliedOf withRegs refitOf retaggedOf reshapedOf setLevel sysOf tlbiCore invalidatedOf uncached judged judge sameShape asidOf asidBase freshBare freshCore zeros freshControl freshSys bankedAt registerAt controlWith sysWith writeReg askedOf missedOf named decodeOf scopeOf whatOf tlbiOf flushOf flushed invalidateOf dropPageOf withoutPage pageDropped turnWith missWith lookWith walkEnd remembered entryJudged walkOf tableWalk walkRange walkFrom lookupNext levelNext leafResult leafTranslation leafPermissions tableNext descaddr rangeOf paramsOf paSize untagged wordAt littleEndian bytesOf placeOf blanks noHints
+unfolding stepOf runOf translateOf steppedNow translateIn movedTo regOf setReg writeRegister appliedOf withRegs refitOf retaggedOf reshapedOf setLevel sysOf tlbiCore invalidatedOf uncached judged judge sameShape asidOf asidBase freshBare freshCore zeros freshControl freshSys bankedAt registerAt controlWith sysWith writeReg askedOf missedOf named decodeOf scopeOf whatOf tlbiOf flushOf flushed invalidateOf dropPageOf withoutPage pageDropped turnWith missWith lookWith walkEnd remembered entryJudged walkOf tableWalk walkRange walkFrom lookupNext levelNext leafResult leafTranslation leafPermissions tableNext descaddr rangeOf paramsOf paSize untagged wordAt littleEndian bytesOf placeOf blanks noHints
 by-cache = (refl, refl, refl)
 
 -- WITHOUT IT the cache answers by the old table, so the page is not settled.
@@ -197,7 +198,7 @@ pub stale :
     (stepOf (coreAfter start) (new .base) (new .bytes) read .reply ≡ Value 0x80001234)
     × (uncached real (plainIn (bareAfter start)) new Read 0x40001234 ≡ Address 0xC0001234)
     × (missedIn (bareOf (coreAfter start)) new read ≡ 0)
-unfolding stepOf runOf translateOf steppedNow stepMmu movedTo regOf setReg writeRegister appliedOf withRegs refitOf retaggedOf reshapedOf setLevel uncached judged judge sameShape asidOf asidBase freshBare freshCore zeros freshControl freshSys bankedAt registerAt controlWith sysWith writeReg askedOf missedOf flushOf flushed turnWith missWith lookWith walkEnd remembered entryJudged walkOf tableWalk walkRange walkFrom lookupNext levelNext leafResult leafTranslation leafPermissions tableNext descaddr rangeOf paramsOf paSize untagged wordAt littleEndian bytesOf placeOf blanks noHints
+unfolding stepOf runOf translateOf steppedNow translateIn movedTo regOf setReg writeRegister appliedOf withRegs refitOf retaggedOf reshapedOf setLevel uncached judged judge sameShape asidOf asidBase freshBare freshCore zeros freshControl freshSys bankedAt registerAt controlWith sysWith writeReg askedOf missedOf flushOf flushed turnWith missWith lookWith walkEnd remembered entryJudged walkOf tableWalk walkRange walkFrom lookupNext levelNext leafResult leafTranslation leafPermissions tableNext descaddr rangeOf paramsOf paSize untagged wordAt littleEndian bytesOf placeOf blanks noHints
 stale = (refl, refl, refl)
 
 pub unsettled : SettledAt (fedBy start) (shown-shown real machine freshCore start) new 0x40001234 → ⊥

@@ -22,7 +22,7 @@ use Rattle.mmu.specs.Core.{bankNow, regOf}
 use Rattle.mmu.specs.BytesLaws.{stored-leaves}
 use Rattle.mmu.specs.PageLaws.{step-offset}
 use Rattle.mmu.specs.PageGiven.{Gives, gives-page, given, step-gives}
-use Rattle.mmu.specs.Step.{stepOf}
+use Rattle.mmu.specs.Step.{translateIn}
 use Rattle.mmu.specs.Ops.{steppedNow, translateOf, writeOf, ramAfterWrite}
 use Rattle.mmu.specs.OpLaws.{store as storing, kept, ram-length}
 use Rattle.mmu.specs.declared.core.Core.{Core}
@@ -193,9 +193,9 @@ module _ (c d : Core) (base : ℕ) (ram : List ℕ) (va pa a : ℕ) (ew : d .who
   unfolding translateOf steppedNow
   again =
       let q = given (bankNow c) (c .who) Write (wordAt base ram 8) (d .tlb) a pa (gives-page (bankNow c) (c .who) Write a same g) in (
-        (λ i. stepOf (bankOf (ec i) (regimeOf (ew i .level))) (ew i) (wordAt base ram 8) a Write (d .tlb) .answer) ∙ q .0,
+        (λ i. translateIn (bankOf (ec i) (regimeOf (ew i .level))) (ew i) (wordAt base ram 8) a Write (d .tlb) .answer) ∙ q .0,
         ap (λ (t : Tlb). t .cache) (one-tlb d base ram a even)
-            ∙ (λ i. stepOf (bankOf (ec i) (regimeOf (ew i .level))) (ew i) (wordAt base ram 8) a Write (d .tlb) .tlb .cache)
+            ∙ (λ i. translateIn (bankOf (ec i) (regimeOf (ew i .level))) (ew i) (wordAt base ram 8) a Write (d .tlb) .tlb .cache)
             ∙ q .1,
       )
 

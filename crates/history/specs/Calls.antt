@@ -2,9 +2,10 @@
 use mathlib.Core.Path.{_≡_}
 use mathlib.Core.List.{List, [], _∷_, _++_}
 use Rattle.tlb.specs.Lists.{Each}
+use Rattle.tlb.specs.Asks.{kindOf, addressOf, Given}
 use Rattle.tlb.specs.declared.Tlb.{Tlb}
 use Rattle.history.specs.World.{World, Plain, regimeNow, pageNow, uncached}
-use Rattle.history.specs.History.{kindOf, addressOf, Given, Step, Event, steps, plainRun, answers, tlbRun, Settled}
+use Rattle.history.specs.History.{Step, Event, steps, plainRun, answers, tlbRun, Settled}
 use Rattle.history.specs.Invisible.{answersRun, plainAnswersRun, Tidy}
 
 -- A core by its operations' exact definitions, and document 01's core without a cache beside it.

@@ -8,13 +8,14 @@ use Rattle.walk.specs.declared.regime.Regime.{Regime}
 use Rattle.walk.specs.declared.level.Leaf.{Leaf}
 use Rattle.tlb.specs.Lists.{Each, more}
 use Rattle.tlb.specs.Tlb.{fresh}
+use Rattle.tlb.specs.Asks.{Ask, kindOf, addressOf, Given, onward}
 use Rattle.tlb.specs.declared.access.Answer.{Answer}
 use Rattle.tlb.specs.declared.access.Answer.the-variants.{Address, Status}
 use Rattle.tlb.specs.declared.Inval.the-variants.{All}
 use Rattle.tlb.specs.declared.Tlb.{Tlb}
 use Rattle.history.specs.Lists.{each-left, each-right, each-head, plain-append, tlb-append}
 use Rattle.history.specs.World.{World, Laws, covers, Plain, uncached}
-use Rattle.history.specs.History.{Ask, kindOf, addressOf, Given, Effect, nothing, carries, writes, turns, Step, Event, steps, receives, after, plainRun, drops, dropsRun, answerOf, askedOf, onward, answers, tlbRun, Settled, SettledFor, Faithful}
+use Rattle.history.specs.History.{Effect, nothing, carries, writes, sets, Step, Event, steps, receives, after, plainRun, drops, dropsRun, answerOf, tlbAsk, answers, tlbRun, Settled, SettledFor, Faithful}
 use Rattle.history.specs.Theorem.{demand-3}
 use Rattle.history.specs.Invisible.{plainAnswers, answersRun, plainAnswersRun, Tidy, Invisible}
 
@@ -27,7 +28,7 @@ module _ (w : World) (laws : Laws w) where
     unfolding covers
     effect-on nothing c us = refl
     effect-on (carries v shared) c us = refl
-    effect-on (turns who low) c us = refl
+    effect-on (sets who low) c us = refl
     effect-on (writes R) c us = go (w .same-shape (c .regs) R) refl us
       where
         go : (b : Bool) → w .same-shape (c .regs) R ≡ b → Each (λ v. covers v p ℓ a ≡ false) (pick b [] (All ∷ [])) → w .on R r ≡ w .on (c .regs) r
@@ -69,21 +70,21 @@ module _ (w : World) (laws : Laws w) where
         → Each (SettledFor w c₀ past m) l → answers w (plainRun w c₀ past) m l t ≡ plainAnswers w (plainRun w c₀ past) m l
     same-answers past m [] t fs ss = refl
     same-answers past m (a ∷ l) t (more f fs) (more s ss) =
-        go (answerOf w c m a t) (f s) fs (λ gs. same-answers past m l (askedOf w c m a t) gs ss)
+        go (answerOf w c m a t) (f s) fs (λ gs. same-answers past m l (tlbAsk w c m a t) gs ss)
       where
         c : Plain w
         c = plainRun w c₀ past
 
         rest : List Given
-        rest = answers w c m l (askedOf w c m a t)
+        rest = answers w c m l (tlbAsk w c m a t)
 
         u : Answer
         u = uncached w c m (kindOf a) (addressOf a)
 
-        go : (x : Answer) → x ≡ u → Each (Faithful w c₀ past m) (onward w x rest [])
+        go : (x : Answer) → x ≡ u → Each (Faithful w c₀ past m) (onward x rest [])
             → (Each (Faithful w c₀ past m) rest → rest ≡ plainAnswers w c m l)
-            → _≡_ {A = List Given} (record { ask = a; answer = x } ∷ onward w x rest [])
-            (record { ask = a; answer = u } ∷ onward w u (plainAnswers w c m l) [])
+            → _≡_ {A = List Given} (record { ask = a; answer = x } ∷ onward x rest [])
+            (record { ask = a; answer = u } ∷ onward u (plainAnswers w c m l) [])
         go (Address pa) e gs k = rw (← e) (ap {B = List Given} (λ (n : List Given). record { ask = a; answer = Address pa } ∷ n) (k gs))
         go (Status code) e gs k = rw (← e)
 

@@ -4,10 +4,11 @@ use mathlib.Core.List.{List, [], _∷_, _++_}
 use Prim.Native.Nat.{_≤_}
 use Rattle.tlb.specs.Lists.{Each}
 use Rattle.tlb.specs.Tlb.{fresh}
+use Rattle.tlb.specs.Asks.{kindOf, addressOf, Given}
 use Rattle.tlb.specs.declared.Tlb.{Tlb}
 use Rattle.history.specs.World.{World, Laws, Plain, regimeNow, pageNow, uncached}
 use Rattle.history.specs.Lists.{plain-append, tlb-append}
-use Rattle.history.specs.History.{kindOf, addressOf, Given, Step, Event, plainRun, answers, tlbRun, Settled, Faithful}
+use Rattle.history.specs.History.{Step, Event, plainRun, answers, tlbRun, Settled, Faithful}
 use Rattle.history.specs.Theorem.{demand-3}
 use Rattle.history.specs.Calls.{Machine, Lent, Fed, run, lentOf, bareRun, eventsFed, eventsRun, ShownIn, Shown, shown, plainOf, eventsOf, Bridge, plainAfter, Demand3Calls}
 

@@ -3,9 +3,10 @@ use mathlib.Core.Path.{_≡_}
 use mathlib.Core.List.{List, [], _∷_, _++_}
 use Rattle.tlb.specs.Lists.{Each}
 use Rattle.tlb.specs.Tlb.{fresh}
+use Rattle.tlb.specs.Asks.{Ask, kindOf, addressOf, Given, onward}
 use Rattle.tlb.specs.declared.Tlb.{Tlb}
 use Rattle.history.specs.World.{World, Plain, uncached}
-use Rattle.history.specs.History.{Ask, kindOf, addressOf, Given, Step, Event, steps, receives, afterEvent, onward, answers, tlbEvent, SettledFor}
+use Rattle.history.specs.History.{Step, Event, steps, receives, afterEvent, answers, tlbEvent, SettledFor}
 
 module _ (w : World) where
   -- the answers of the core without a cache to a step's translations
@@ -13,7 +14,7 @@ module _ (w : World) where
   plainAnswers c m [] = []
   plainAnswers c m (a ∷ l) =
       record { ask = a; answer = uncached w c m (kindOf a) (addressOf a) }
-      ∷ onward w (uncached w c m (kindOf a) (addressOf a)) (plainAnswers c m l) []
+      ∷ onward (uncached w c m (kindOf a) (addressOf a)) (plainAnswers c m l) []
 
   -- every answer of a list: with the cache, and without
   abbrev pub answersRun : Plain w → List (Event w) → Tlb → List Given

@@ -22,13 +22,14 @@ use Rattle.sysreg.specs.declared.regs.Control.{Control}
 use Rattle.tlb.specs.Lists.{Each, done, more}
 use Rattle.tlb.specs.Tlb.{fresh}
 use Rattle.tlb.specs.Model.{asUser, need}
+use Rattle.tlb.specs.Asks.{Ask, kindOf, addressOf}
 use Rattle.tlb.specs.declared.access.Kind.{Kind}
 use Rattle.tlb.specs.declared.access.Kind.the-variants.{Read, Write, Fetch}
 use Rattle.tlb.specs.declared.access.Answer.{Answer}
 use Rattle.tlb.specs.declared.access.Answer.the-variants.{Address, Status}
 use Rattle.tlb.specs.declared.Inval.{Inval}
 use Rattle.history.specs.World.{covers, Plain, judge, judged, regimeNow, onNow, untagNow, pageNow, uncached}
-use Rattle.history.specs.History.{Ask, kindOf, addressOf, Step, Event, plainRun, answers, tlbRun}
+use Rattle.history.specs.History.{Step, Event, plainRun, answers, tlbRun}
 use Rattle.history.specs.Instance.{Ram, memoryOf, real, real-laws, freshPlain, fresh-asid}
 use Rattle.history.specs.Origin.{Stood, From, flat, fails, walks, origin}
 

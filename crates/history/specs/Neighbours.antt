@@ -17,10 +17,11 @@ use Rattle.walk.specs.declared.level.Leaf.{Leaf}
 use Rattle.walk.specs.declared.level.Walked.the-variants.{Mapped}
 use Rattle.tlb.specs.Lists.{Each, done}
 use Rattle.tlb.specs.Tlb.{fresh}
+use Rattle.tlb.specs.Asks.{Ask, kindOf, addressOf}
 use Rattle.tlb.specs.declared.Inval.{Inval}
 use Rattle.history.specs.Lists.{each-append, each-left, each-right}
 use Rattle.history.specs.World.{World, Laws, Agree, covers, Plain, pageWalk, regimeNow, untagNow, pageNow, uncached}
-use Rattle.history.specs.History.{Ask, kindOf, addressOf, Step, Event, steps, afterEvent, plainRun, dropsEvent, dropsRun, tlbRun, answerOf, Settled}
+use Rattle.history.specs.History.{Step, Event, steps, afterEvent, plainRun, dropsEvent, dropsRun, tlbRun, answerOf, Settled}
 use Rattle.history.specs.Corollaries.{one-settled}
 use Rattle.history.specs.Instance.{Ram, real, real-laws, freshPlain, fresh-asid}
 

@@ -1,6 +1,6 @@
 -- Where every answer comes from, with no premise: from the address itself with stage 1 off, from the walk of now, which failed, or from a walk that
 -- the page had, now or at a step of the history, which no invalidation since covers.
-use mathlib.Core.Path.{_≡_, refl, sym, _∙_}
+use mathlib.Core.Path.{_≡_, refl, sym, subst, _∙_}
 use mathlib.Core.Bool.{true, false}
 use mathlib.Core.List.{List, [], _∷_, _++_}
 use mathlib.Core.Logic.{_⊎_, inl, inr}
@@ -9,15 +9,17 @@ use Rattle.walk.specs.declared.level.Leaf.{Leaf}
 use Rattle.walk.specs.declared.level.Walked.the-variants.{Mapped, Fault}
 use Rattle.tlb.specs.Lists.{Each, done, more}
 use Rattle.tlb.specs.Tlb.{fresh}
+use Rattle.tlb.specs.Model.{Model, emptyModel}
+use Rattle.tlb.specs.Asks.{Ask, kindOf, addressOf, Given, onward}
 use Rattle.tlb.specs.declared.access.Answer.{Answer}
 use Rattle.tlb.specs.declared.access.Answer.the-variants.{Address, Status}
 use Rattle.tlb.specs.declared.Inval.{Inval}
-use Rattle.tlb.specs.declared.Tlb.{Tlb}
 use Rattle.history.specs.World.{World, Laws, covers, judge, Plain, pageWalk, regimeNow, onNow, untagNow, pageNow, needNow}
-use Rattle.history.specs.History.{Ask, kindOf, addressOf, Step, Event, steps, plainRun, dropsRun, answerOf, askedOf, onward, answers, tlbRun}
-use Rattle.history.specs.Sound.{Mark, at}
-use Rattle.history.specs.Right.{Answered, itself, by, failed}
-use Rattle.history.specs.Theorem.{Held, AskDone, ask-done, marks, Uncovered, Found, found, history-held, held-at, run-low}
+use Rattle.history.specs.History.{Step, Event, steps, plainRun, dropsRun, answers, tlbRun}
+use Rattle.history.specs.ModelRun.{modelAsk, modelAnswers, modelRun, history-answers}
+use Rattle.history.specs.Sound.{Mark, at, Sound, sound-at}
+use Rattle.history.specs.Right.{Answered, itself, by, failed, Done}
+use Rattle.history.specs.Theorem.{ask-done, marks, Uncovered, Found, found, history-sound}
 
 module _ (w : World) (c₀ : Plain w) where
   -- The registers R and the RAM m′ are those of now, or those at the start of a step of the history; vs are the invalidations since.
@@ -64,20 +66,23 @@ module _ (w : World) (laws : Laws w) (c₀ : Plain w) (zero-asid : w .asid (c₀
             day (inl g) = inl g
             day (inr y) = inr (sym (f .walks .under) ∙ y)
 
-    all-from : (l : List Ask) (t : Tlb) → Held w laws (at (c .regs) m ∷ h) (c .regs) t
-        → Each (λ g. From w c₀ past m (g .ask) (g .answer)) (answers w c m l t)
-    all-from [] t s = done
-    all-from (a ∷ l) t s = more (from a (answerOf w c m a t) (next .answered)) (go (answerOf w c m a t) (all-from l (askedOf w c m a t) (next .held)))
+    all-from : (l : List Ask) (u : Model) → Sound w (at (c .regs) m ∷ h) (c .regs) u
+        → Each (λ g. From w c₀ past m (g .ask) (g .answer)) (modelAnswers w c m l u)
+    all-from [] u s = done
+    all-from (a ∷ l) u s =
+        more (from a (modelAsk w c m a u .answer) (next .answered)) (go (modelAsk w c m a u .answer) (all-from l (modelAsk w c m a u .after) (next .sound)))
       where
-        next : AskDone w laws h c m t (run-low w laws past c₀ low) s a
-        next = ask-done w laws h c m t (run-low w laws past c₀ low) s a
+        next : Done w laws (at (c .regs) m ∷ h) c m (kindOf a) (addressOf a) (modelAsk w c m a u)
+        next = ask-done w laws h c m u s a
 
-        go : (x : Answer) → Each (λ g. From w c₀ past m (g .ask) (g .answer)) (answers w c m l (askedOf w c m a t))
-            → Each (λ g. From w c₀ past m (g .ask) (g .answer)) (onward w x (answers w c m l (askedOf w c m a t)) [])
+        go : (x : Answer) → Each (λ g. From w c₀ past m (g .ask) (g .answer)) (modelAnswers w c m l (modelAsk w c m a u .after))
+            → Each (λ g. From w c₀ past m (g .ask) (g .answer)) (onward x (modelAnswers w c m l (modelAsk w c m a u .after)) [])
         go (Address pa) rest = rest
         go (Status code) rest = done
 
   -- After every history, whatever the RAM, each answer comes from there.
   pub origin : (past : List (Event w)) (m : w .Ram) (s : Step w)
       → Each (λ g. From w c₀ past m (g .ask) (g .answer)) (answers w (plainRun w c₀ past) m (s .asks) (tlbRun w c₀ past fresh))
-  origin past m s = all-from past m (s .asks) (tlbRun w c₀ past fresh) (held-at w laws m (history-held w laws c₀ zero-asid low past))
+  origin past m s =
+      subst (λ (l : List Given). Each (λ g. From w c₀ past m (g .ask) (g .answer)) l) (sym (history-answers w laws c₀ low past m (s .asks)))
+      (all-from past m (s .asks) (modelRun w c₀ past emptyModel) (sound-at w m (history-sound w laws c₀ zero-asid low past)))

@@ -17,7 +17,7 @@ use Rattle.tlb.specs.declared.access.Answer.{Answer}
 use Rattle.tlb.specs.declared.access.Answer.the-variants.{Address, Status}
 use Rattle.tlb.specs.declared.Tlb.{Tlb}
 use Rattle.mmu.specs.Place.{nextPage, crosses, goesOn, placedOne, placedBoth}
-use Rattle.mmu.specs.Step.{onePage, bothPages, stepOf, locatedOf}
+use Rattle.mmu.specs.Step.{onePage, bothPages, translateIn, locatedOf}
 use Rattle.mmu.specs.declared.place.Placed.{Placed}
 use Rattle.mmu.specs.declared.place.Placed.the-variants.{Fault}
 use Rattle.mmu.specs.declared.step.Stepped.{Stepped}
@@ -72,17 +72,17 @@ module _ (s : Bank) (who : Who) (memory : ℕ → Word) where
     onIt = stage1On s (regimeOf (who .level))
 
     abbrev first : Stepped
-    first = stepOf s who memory va kind t
+    first = translateIn s who memory va kind t
 
     abbrev second : Stepped
-    second = stepOf s who memory (nextPage va) kind (first .tlb)
+    second = translateIn s who memory (nextPage va) kind (first .tlb)
 
     pub located-asks : locatedOf s who memory va n kind t
         ≡ record {
           tlb = tlbAsks accessAt (accessAsks onIt va n kind) t;
           placed = placedBy va (answers accessAt (accessAsks onIt va n kind) t);
         }
-    unfolding locatedOf stepOf
+    unfolding locatedOf translateIn
     located-asks = go (crosses onIt va n)
       where
         neither : (x : Answer) → goesOn x false ≡ false

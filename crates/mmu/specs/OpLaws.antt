@@ -15,7 +15,7 @@ use Rattle.mmu.specs.Core.{movedTo, bankNow}
 use Rattle.mmu.specs.BytesLaws.{addressIn, store-length, store-leaves}
 use Rattle.mmu.specs.Ends.{storeRamEnd}
 use Rattle.mmu.specs.Ops.{steppedNow, fetchSteppedNow, locatedNow, translateOf, translateAccessOf, readOf, writeOf, ramAfterWrite, fetchOf, fetchPaOf, dataPaOf}
-use Rattle.mmu.specs.Step.{stepOf, fetchStepOf}
+use Rattle.mmu.specs.Step.{translateIn, translateFetchIn}
 use Rattle.mmu.specs.Asks.{accessAsks, accessAt, placedBy, located-asks}
 use Rattle.mmu.specs.declared.core.Core.{Core}
 use Rattle.mmu.specs.declared.place.Place.{Place}
@@ -34,23 +34,23 @@ pub data Operation : Type 0 where
   dataPa : (va : ℕ) → Operation
 
 -- the core and RAM after each
-abbrev pub coreAfter : Core → ℕ → List ℕ → Operation → Core
-coreAfter c base ram (translate va kind) = translateOf c (wordAt base ram 8) va kind .core
-coreAfter c base ram (access va n kind) = translateAccessOf c (wordAt base ram 8) va n kind .core
-coreAfter c base ram (load va n) = readOf c base ram va n .core
-coreAfter c base ram (store va n v) = writeOf c base ram va n .core
-coreAfter c base ram (fetch va) = fetchOf c base ram va .core
-coreAfter c base ram (fetchPa va) = fetchPaOf c (wordAt base ram 8) va .core
-coreAfter c base ram (dataPa va) = dataPaOf c (wordAt base ram 8) va .core
+abbrev pub operationCore : Core → ℕ → List ℕ → Operation → Core
+operationCore c base ram (translate va kind) = translateOf c (wordAt base ram 8) va kind .core
+operationCore c base ram (access va n kind) = translateAccessOf c (wordAt base ram 8) va n kind .core
+operationCore c base ram (load va n) = readOf c base ram va n .core
+operationCore c base ram (store va n v) = writeOf c base ram va n .core
+operationCore c base ram (fetch va) = fetchOf c base ram va .core
+operationCore c base ram (fetchPa va) = fetchPaOf c (wordAt base ram 8) va .core
+operationCore c base ram (dataPa va) = dataPaOf c (wordAt base ram 8) va .core
 
-abbrev pub ramAfter : Core → ℕ → List ℕ → Operation → List ℕ
-ramAfter c base ram (store va n v) = ramAfterWrite c base ram va n v
-ramAfter c base ram (translate va kind) = ram
-ramAfter c base ram (access va n kind) = ram
-ramAfter c base ram (load va n) = ram
-ramAfter c base ram (fetch va) = ram
-ramAfter c base ram (fetchPa va) = ram
-ramAfter c base ram (dataPa va) = ram
+abbrev pub operationRam : Core → ℕ → List ℕ → Operation → List ℕ
+operationRam c base ram (store va n v) = ramAfterWrite c base ram va n v
+operationRam c base ram (translate va kind) = ram
+operationRam c base ram (access va n kind) = ram
+operationRam c base ram (load va n) = ram
+operationRam c base ram (fetch va) = ram
+operationRam c base ram (fetchPa va) = ram
+operationRam c base ram (dataPa va) = ram
 
 -- its translations, by whether stage 1 is on
 abbrev pub asksOf : Bool → Operation → List Ask
@@ -81,7 +81,7 @@ unfolding movedTo
 moved-keeps c t last abort = record { who = refl; flags = refl; pc = refl; x = refl; control = refl; sys = refl }
 
 -- no operation changes them
-pub kept : (c : Core) (base : ℕ) (ram : List ℕ) (o : Operation) → Kept c (coreAfter c base ram o)
+pub kept : (c : Core) (base : ℕ) (ram : List ℕ) (o : Operation) → Kept c (operationCore c base ram o)
 unfolding translateOf translateAccessOf readOf writeOf fetchOf fetchPaOf dataPaOf
 kept c base ram (translate va kind) = moved-keeps c _ _ _
 kept c base ram (access va n kind) = moved-keeps c _ _ _
@@ -109,8 +109,8 @@ module _ (c : Core) (base : ℕ) (ram : List ℕ) where
   accessed va n kind = located-asks (bankNow c) (c .who) (wordAt base ram 8) va n kind (c .tlb)
 
   -- the cache is the one that its translations leave
-  pub tlb-after : (o : Operation) → coreAfter c base ram o .tlb ≡ tlbAsks accessNow (asksOf (onNow c) o) (c .tlb)
-  unfolding translateOf translateAccessOf readOf writeOf fetchOf fetchPaOf dataPaOf steppedNow fetchSteppedNow stepOf fetchStepOf movedTo
+  pub tlb-after : (o : Operation) → operationCore c base ram o .tlb ≡ tlbAsks accessNow (asksOf (onNow c) o) (c .tlb)
+  unfolding translateOf translateAccessOf readOf writeOf fetchOf fetchPaOf dataPaOf steppedNow fetchSteppedNow translateIn translateFetchIn movedTo
   tlb-after (translate va kind) = one-asked (translates kind va)
   tlb-after (access va n kind) = ap (λ (r : Located). r .tlb) (accessed va n kind)
   tlb-after (load va n) = ap (λ (r : Located). r .tlb) (accessed va n Read)
@@ -135,7 +135,7 @@ fetch-last c base ram va = refl
 
 -- RAM
 
-pub ram-length : (c : Core) (base : ℕ) (ram : List ℕ) (o : Operation) → length (ramAfter c base ram o) ≡ length ram
+pub ram-length : (c : Core) (base : ℕ) (ram : List ℕ) (o : Operation) → length (operationRam c base ram o) ≡ length ram
 unfolding ramAfterWrite storeRamEnd
 ram-length c base ram (store va n v) = go (locatedNow c (wordAt base ram 8) va n Write .placed)
   where
