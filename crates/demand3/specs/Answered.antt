@@ -13,19 +13,21 @@ use Rattle.word.specs.declared.ram.Sized.the-variants as Sized
 use Rattle.sysreg.specs.declared.write.WriteAnswer.{WriteAnswer}
 use Rattle.sysreg.specs.declared.write.WriteAnswer.the-variants as Written
 use Rattle.sysreg.specs.declared.write.Written.{Written}
-use Rattle.tlb.specs.Asks.{translates, Given, onward}
+use Rattle.tlb.specs.Asks.{translates, Given, onward-same}
 use Rattle.tlb.specs.declared.access.Kind.the-variants as Kind
 use Rattle.tlb.specs.declared.access.Answer.{Answer}
 use Rattle.tlb.specs.declared.access.Answer.the-variants.{Address, Status}
 use Rattle.tlb.specs.declared.Tlb.{Tlb}
 use Rattle.sysop.specs.declared.op.SysOp.{SysOp}
 use Rattle.sysop.specs.declared.op.SysOp.the-variants as Op
+use Rattle.mmu.specs.Bare.{Bare, bareOf}
 use Rattle.mmu.specs.Core.{regOf}
 use Rattle.mmu.specs.Place.{inPage, crosses, verdictOf}
 use Rattle.mmu.specs.Bytes.{loadOf, insnOf}
 use Rattle.mmu.specs.Ends.{loadedFrom, loadEnd, storeEndBy, storeEnd, storeRamEnd, fetchedFrom, fetchEnd}
 use Rattle.mmu.specs.Step.{translateIn, translateFetchIn}
 use Rattle.mmu.specs.Ops.{steppedNow, fetchSteppedNow, translateOf, readOf, writeOf, ramAfterWrite, fetchOf, fetchPaOf, dataPaOf}
+use Rattle.mmu.specs.OpLaws.{placed-by}
 use Rattle.mmu.specs.declared.core.Core.{Core}
 use Rattle.mmu.specs.declared.place.Placed.{Placed}
 use Rattle.mmu.specs.declared.place.Placed.the-variants.{At, Fault}
@@ -48,11 +50,10 @@ use Rattle.history.specs.World.{onNow}
 use Rattle.history.specs.History.{steps, answerOf, answers, tlbAsks}
 use Rattle.history.specs.Invisible.{answersRun}
 use Rattle.history.specs.Instance.{Ram, real}
-use Rattle.demand3.specs.Bare.{Bare, plainIn, number, missedIn, opIn, operandIn, writtenIn, bySys, byWrite, ruledIn, refusalOf, ifAllowed}
+use Rattle.demand3.specs.Bare.{plainIn, number, missedIn, opIn, operandIn, writtenIn, bySys, byWrite, ruledIn, refusalOf, ifAllowed}
 use Rattle.demand3.specs.Events.{idle, accessIn, sizedIn, zeroSteps, sysSteps, stepsIn, eventsIn}
-use Rattle.demand3.specs.Starts.{bareOf, ramZeroed, zeroLater, sysLater, laterOf, laterIn}
+use Rattle.demand3.specs.Starts.{ramZeroed, zeroLater, sysLater, laterOf, laterIn}
 use Rattle.demand3.specs.Replies.{Outcome, outcome, outcomeOf, loadSays, storeSays, loadSized, storeSized, zeroSays, sysSays, callSays, saysIn}
-use Rattle.demand3.specs.Asks.{access-placed}
 use Rattle.demand3.specs.Bridge.{bare-then, tlb-then}
 
 -- `last_pa` and `abort_pa` reach no answer
@@ -96,7 +97,7 @@ unfolding readOf
 load-answered c m va n =
     ap (λ a. outcome (loading a) (m .bytes))
     (load-end _ _ _ (m .base) (m .bytes) va n
-    ∙ ap (λ (p : Placed). loadEnd p 0 0 (m .base) (m .bytes) va n .answer) (access-placed c m va n Kind.Read))
+    ∙ ap (λ (p : Placed). loadEnd p 0 0 (m .base) (m .bytes) va n .answer) (placed-by c (m .base) (m .bytes) va n Kind.Read))
 
 pub store-answered : (c : Core) (m : Ram) (va n v : ℕ)
     → outcome (storing (writeOf c (m .base) (m .bytes) va n .answer)) (ramAfterWrite c (m .base) (m .bytes) va n v)
@@ -105,8 +106,8 @@ unfolding writeOf ramAfterWrite
 store-answered c m va n v =
     ap₂ (λ a (l : List ℕ). outcome (storing a) l)
     (store-end _ _ (m .base) (m .bytes) va n
-    ∙ ap (λ (p : Placed). storeEnd p 0 (m .base) (m .bytes) va n .answer) (access-placed c m va n Kind.Write))
-    (ap (λ (p : Placed). storeRamEnd p (m .base) (m .bytes) n v) (access-placed c m va n Kind.Write))
+    ∙ ap (λ (p : Placed). storeEnd p 0 (m .base) (m .bytes) va n .answer) (placed-by c (m .base) (m .bytes) va n Kind.Write))
+    (ap (λ (p : Placed). storeRamEnd p (m .base) (m .bytes) n v) (placed-by c (m .base) (m .bytes) va n Kind.Write))
 
 load-sized : (c : Core) (m : Ram) (va : ℕ) (s : Sized)
     → outcome (loadBy s c (m .base) (m .bytes) va .reply) (m .bytes)
@@ -166,14 +167,10 @@ module _ (c : Core) (m : Ram) (va : ℕ) (b : Bare) (t : Tlb) (eb : bareOf c ≡
   -- it has one translation
   pub first-given : va % 8 ≡ 0
       → firstGiven ≡ record { ask = translates Kind.Write va; answer = answerOf real (plainIn b) m (translates Kind.Write va) t } ∷ []
-  first-given e = rw (one-page (onNow real (plainIn b)) va e) (ap {B = List Given} (λ (l : List Given). g ∷ l) (go (g .answer)))
+  first-given e = rw (one-page (onNow real (plainIn b)) va e) (ap {B = List Given} (λ (l : List Given). g ∷ l) (onward-same (g .answer) []))
     where
       g : Given
       g = record { ask = translates Kind.Write va; answer = answerOf real (plainIn b) m (translates Kind.Write va) t }
-
-      go : (x : Answer) → onward {A = List Given} x [] [] ≡ []
-      go (Address pa) = refl
-      go (Status fsc) = refl
 
   pub store-said : outcome (storing storeEnds) (ramZeroed c m va .bytes) ≡ storeSays m va 8 0 firstGiven
   store-said =

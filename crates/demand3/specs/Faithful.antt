@@ -4,6 +4,7 @@ use mathlib.Core.List.{List, _∷_, _++_}
 use Prim.Native.Nat.{ℕ}
 use Rattle.tlb.specs.Lists.{Each}
 use Rattle.tlb.specs.Asks.{Given}
+use Rattle.mmu.specs.Bare.{Bare, freshBare}
 use Rattle.mmu.specs.Core.{freshCore}
 use Rattle.mmu.specs.declared.core.Core.{Core}
 use Rattle.cpu.specs.Step.{stepOf, ramAfter}
@@ -15,7 +16,7 @@ use Rattle.history.specs.Lists.{answers-split}
 use Rattle.history.specs.Calls.{Lent, Fed, lentOf, eventsRun, shown, showing, FaithfulIn}
 use Rattle.history.specs.EveryCall.{shown-lent, shown-shown}
 use Rattle.history.specs.Instance.{Ram, real}
-use Rattle.demand3.specs.Bare.{Bare, freshBare, plainIn}
+use Rattle.demand3.specs.Bare.{plainIn}
 use Rattle.demand3.specs.Events.{eventsIn}
 use Rattle.demand3.specs.Starts.{laterIn}
 use Rattle.demand3.specs.Machine.{machine}
@@ -98,14 +99,14 @@ module _ (list : List (Lent real machine)) (m : Ram) (x : Call) where
   fed-answers : (before : List (Event real)) (m′ : Ram) (s : Step real) (later : List (Event real))
       → eventsAfter list m x ≡ before ++ steps m′ s ∷ later
       → Each (FaithfulIn real machine freshBare (fedBy list) before m′) (answersAt list before m′ s)
-  unfolding freshCore freshBare
+  unfolding freshCore
   fed-answers before m′ s later e =
       subst (λ (l : List (Lent real machine)). Each (FaithfulIn real machine freshBare (fedBy list) before m′) (answersAt l before m′ s)) lents
       (every-call (fedBy list) (shown-shown real machine freshCore list) fed fed-shown before m′ s later (fed-events ∙ e))
 
   fed-same : Tidy real (plainIn freshBare) (eventsRun real machine freshBare (fedBy list)) (eventsAfter list m x)
       → outcomeOf (coreAfter list) m x ≡ bareReply (bareAfter list) m x
-  unfolding freshCore freshBare
+  unfolding freshCore
   fed-same tidy =
       subst (λ (l : List (Lent real machine)). outcomeOf (coreAfter l) m x ≡ bareReply (bareAfter l) m x) lents
       (every-reply (fedBy list) (shown-shown real machine freshCore list) fed fed-shown

@@ -1,4 +1,5 @@
--- What follows from demand 3: the answers of one translation, of a step, of a whole list; and pages that need no premise.
+-- What follows from demand 3: the answers of one translation, of a step, of a whole list; and pages that need no
+-- premise.
 use mathlib.Core.Path.{_≡_, refl, sym, ap, ap₂, _∙_}
 use mathlib.Core.Bool.{Bool, true, false, true≢false}
 use mathlib.Core.List.{List, [], _∷_, _++_, append-nil, append-assoc}
@@ -15,7 +16,7 @@ use Rattle.tlb.specs.declared.Inval.the-variants.{All}
 use Rattle.tlb.specs.declared.Tlb.{Tlb}
 use Rattle.history.specs.Lists.{each-left, each-right, each-head, plain-append, tlb-append}
 use Rattle.history.specs.World.{World, Laws, covers, Plain, uncached}
-use Rattle.history.specs.History.{Effect, nothing, carries, writes, sets, Step, Event, steps, receives, after, plainRun, drops, dropsRun, answerOf, tlbAsk, answers, tlbRun, Settled, SettledFor, Faithful}
+use Rattle.history.specs.History.{Effect, nothing, carries, writes, sets, Step, Event, steps, receives, after, plainRun, drops, dropsRun, answerOf, tlbAsk, answers, tlbRun, Settled, SettledFor, FaithfulAnswer}
 use Rattle.history.specs.Theorem.{demand-3}
 use Rattle.history.specs.Invisible.{plainAnswers, answersRun, plainAnswersRun, Tidy, Invisible}
 
@@ -66,7 +67,7 @@ module _ (w : World) (laws : Laws w) where
     one-settled past m a st = each-head (demand-3 w laws c₀ zero-asid low past m (record { asks = a ∷ []; effect = nothing })) st
 
     -- where all pages of a step are settled, all its answers are those of the core without a cache
-    same-answers : (past : List (Event w)) (m : w .Ram) (l : List Ask) (t : Tlb) → Each (Faithful w c₀ past m) (answers w (plainRun w c₀ past) m l t)
+    same-answers : (past : List (Event w)) (m : w .Ram) (l : List Ask) (t : Tlb) → Each (FaithfulAnswer w c₀ past m) (answers w (plainRun w c₀ past) m l t)
         → Each (SettledFor w c₀ past m) l → answers w (plainRun w c₀ past) m l t ≡ plainAnswers w (plainRun w c₀ past) m l
     same-answers past m [] t fs ss = refl
     same-answers past m (a ∷ l) t (more f fs) (more s ss) =
@@ -81,8 +82,8 @@ module _ (w : World) (laws : Laws w) where
         u : Answer
         u = uncached w c m (kindOf a) (addressOf a)
 
-        go : (x : Answer) → x ≡ u → Each (Faithful w c₀ past m) (onward x rest [])
-            → (Each (Faithful w c₀ past m) rest → rest ≡ plainAnswers w c m l)
+        go : (x : Answer) → x ≡ u → Each (FaithfulAnswer w c₀ past m) (onward x rest [])
+            → (Each (FaithfulAnswer w c₀ past m) rest → rest ≡ plainAnswers w c m l)
             → _≡_ {A = List Given} (record { ask = a; answer = x } ∷ onward x rest [])
             (record { ask = a; answer = u } ∷ onward u (plainAnswers w c m l) [])
         go (Address pa) e gs k = rw (← e) (ap {B = List Given} (λ (n : List Given). record { ask = a; answer = Address pa } ∷ n) (k gs))

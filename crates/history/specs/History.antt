@@ -1,5 +1,5 @@
--- Document 01's "The list", the premise of demand 3, and demand 3 itself. With World.antt this is all that a reader has to believe; every term
--- is read from the events, never from the cache.
+-- Document 01's "The list", the premise of demand 3, and demand 3 itself. With World.antt this is all that a reader has
+-- to believe; every term is read from the events, never from the cache.
 use mathlib.Core.Path.{_≡_}
 use mathlib.Core.Bool.{Bool, true, false}
 use mathlib.Core.List.{List, [], _∷_, _++_}
@@ -19,7 +19,7 @@ use Rattle.tlb.specs.declared.access.Answer.{Answer}
 use Rattle.tlb.specs.declared.Inval.{Inval}
 use Rattle.tlb.specs.declared.Inval.the-variants.{All}
 use Rattle.tlb.specs.declared.Tlb.{Tlb}
-use Rattle.history.specs.World.{World, Agree, covers, Plain, pageWalk, regimeNow, pageNow, uncached, accessOf}
+use Rattle.history.specs.World.{World, LeavesEqual, covers, Plain, pageWalk, regimeNow, pageNow, uncached, accessOf}
 
 module _ (w : World) where
   -- EVENTS
@@ -35,13 +35,14 @@ module _ (w : World) where
     writes : w .Regs → Effect
     sets : (who : Who) → who .level ≤ 3 → Effect
 
-  -- A step: its translations, in order until one faults, on the registers and RAM at its start; then its effect. A load or a store has one
-  -- translation, or two where it is split; each store of a zeroing is a step of its own.
+  -- A step: its translations, in order until one faults, on the registers and RAM at its start; then its effect. A load
+  -- or a store has one translation, or two where it is split; each store of a zeroing is a step of its own.
   pub record Step : Type 0 where
     pub asks : List Ask
     pub effect : Effect
 
-  -- An event of the core's history: a step, with RAM as it stands when the step begins; or an invalidation received from another core.
+  -- An event of the core's history: a step, with RAM as it stands when the step begins; or an invalidation received
+  -- from another core.
   pub data Event : Type 0 where
     steps : w .Ram → Step → Event
     receives : Inval → Event
@@ -109,9 +110,10 @@ module _ (w : World) where
 
   -- DEMAND 3
 
-  -- The premise, for the page p of the regime r, after the history `past` from the fresh core c₀, with the RAM m now. Take any step of the
-  -- history, with the RAM m′ at its start, at which stage 1 was on in r and the page's walk ended in the leaf ℓ. If ℓ is global or was
-  -- walked under today's ASID, and no invalidation of that step or of a later event covers it, then it equals the page's walk now.
+  -- The premise, for the page p of the regime r, after the history `past` from the fresh core c₀, with the RAM m now.
+  -- Take any step of the history, with the RAM m′ at its start, at which stage 1 was on in r and the page's walk ended
+  -- in the leaf ℓ. If ℓ is global or was walked under today's ASID, and no invalidation of that step or of a later
+  -- event covers it, then it equals the page's walk now.
   pub record Settled (c₀ : Plain w) (past : List Event) (m : w .Ram) (r : Regime) (p : ℕ) : Type 0 where
     pub holds : (before : List Event) (m′ : w .Ram) (s : Step) (later : List Event) → past ≡ before ++ steps m′ s ∷ later →
         (ℓ : Leaf) →
@@ -119,20 +121,20 @@ module _ (w : World) where
         pageWalk w (plainRun c₀ before .regs) m′ r p ≡ Mapped ℓ →
         (ℓ .global ≡ true) ⊎ (w .asid (plainRun c₀ before .regs) ≡ w .asid (plainRun c₀ past .regs)) →
         Each (λ v. covers v p ℓ (w .asid (plainRun c₀ before .regs)) ≡ false) (dropsRun (plainRun c₀ before) (steps m′ s ∷ later)) →
-        (ℓ′ : Leaf) × (pageWalk w (plainRun c₀ past .regs) m r p ≡ Mapped ℓ′) × Agree ℓ ℓ′
+        (ℓ′ : Leaf) × (pageWalk w (plainRun c₀ past .regs) m r p ≡ Mapped ℓ′) × LeavesEqual ℓ ℓ′
 
   -- the page of a translation made after the history is settled
   abbrev pub SettledFor : Plain w → List Event → w .Ram → Ask → Type 0
   SettledFor c₀ past m a = Settled c₀ past m (regimeNow w (plainRun c₀ past)) (pageNow w (plainRun c₀ past) (addressOf a))
 
-  -- The conclusion, for a translation made now and its answer: where its page is settled, the core without a cache, fed the same list and shown
-  -- the same RAM, answers the same.
-  abbrev pub Faithful : Plain w → List Event → w .Ram → Given → Type 0
-  Faithful c₀ past m g =
+  -- The conclusion, for a translation made now and its answer: where its page is settled, the core without a cache, fed
+  -- the same list and shown the same RAM, answers the same.
+  abbrev pub FaithfulAnswer : Plain w → List Event → w .Ram → Given → Type 0
+  FaithfulAnswer c₀ past m g =
       SettledFor c₀ past m (g .ask) → g .answer ≡ uncached w (plainRun c₀ past) m (kindOf (g .ask)) (addressOf (g .ask))
 
   -- Demand 3: after every history from the fresh core c₀, whatever the RAM, each translation of each step is faithful.
   abbrev pub Demand3 : Plain w → Type 0
   Demand3 c₀ =
       (past : List Event) (m : w .Ram) (s : Step) →
-      Each (Faithful c₀ past m) (answers (plainRun c₀ past) m (s .asks) (tlbRun c₀ past fresh))
+      Each (FaithfulAnswer c₀ past m) (answers (plainRun c₀ past) m (s .asks) (tlbRun c₀ past fresh))

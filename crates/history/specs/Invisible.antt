@@ -27,8 +27,9 @@ module _ (w : World) where
   plainAnswersRun c (steps m s ∷ xs) = plainAnswers c m (s .asks) ++ plainAnswersRun (afterEvent w (steps m s) c) xs
   plainAnswersRun c (receives v ∷ xs) = plainAnswersRun c xs
 
-  -- No table is changed without the matching TLBI, in a list after the history `past`: at each step, of each page that it translates, each
-  -- earlier walk that no invalidation since covers, global or under the ASID of now, equals the page's walk now.
+  -- No table is changed without the matching TLBI, in a list after the history `past`: at each step, of each page that
+  -- it translates, each earlier walk that no invalidation since covers, global or under the ASID of now, equals the
+  -- page's walk now.
   abbrev pub Tidy : Plain w → List (Event w) → List (Event w) → Type 0
   Tidy c₀ past list =
       (before : List (Event w)) (m : w .Ram) (s : Step w) (later : List (Event w)) → list ≡ before ++ steps m s ∷ later →

@@ -1,5 +1,5 @@
--- The plain model over a history: what each event does to it and what it answers, by the model's own functions; and that the cache of
--- History.antt does the same, answers, counters and what is pending included.
+-- The plain model over a history: what each event does to it and what it answers, by the model's own functions; and
+-- that the cache of History.antt does the same, answers, counters and what is pending included.
 use mathlib.Core.Path.{_≡_, refl, ap, ap₂, subst, _∙_}
 use mathlib.Core.Bool.{Bool, true, false}
 use mathlib.Core.List.{List, [], _∷_, _++_}
@@ -42,8 +42,8 @@ module _ (w : World) where
   modelAsks c m (a ∷ l) u =
       onward (modelAsk c m a u .answer) (modelAsks c m l (modelAsk c m a u .after)) (modelAsk c m a u .after)
 
-  -- "A register write first does `write_reg`; then, where `shaping` changed, it flushes; then, where `asid` differs from the cache's, it
-  -- retags." A flush is an All.
+  -- "A register write first does `write_reg`; then, where `shaping` changed, it flushes; then, where `asid` differs
+  -- from the cache's, it retags." A flush is an All.
   unfoldable pub modelFlushed : w .Regs → w .Regs → Model → Model
   modelFlushed R S u = pick (w .same-shape R S) u (invalidate All u)
 
@@ -213,7 +213,8 @@ module _ (w : World) (laws : Laws w) where
   pub fresh-stands : StandsFor fresh emptyModel
   fresh-stands = record { well = fresh-sound; is = fresh-live }
 
-  -- After every history from a core with a new cache: the plain model, and the model's answers to each translation of the next step.
+  -- After every history from a core with a new cache: the plain model, and the model's answers to each translation of
+  -- the next step.
   module _ (c₀ : Plain w) (low : c₀ .who .level ≤ 3) (past : List (Event w)) where
     pub history-model : live (tlbRun w c₀ past fresh) ≡ modelRun w c₀ past emptyModel
     history-model = run-stands past c₀ low fresh-stands .is

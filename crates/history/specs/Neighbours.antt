@@ -1,4 +1,5 @@
--- What runs under other ASIDs does not bend a page's translation: two histories that leave the page to one ASID give one answer.
+-- What runs under other ASIDs does not bend a page's translation: two histories that leave the page to one ASID give
+-- one answer.
 use mathlib.Core.Path.{_≡_, refl, sym, ap, _∙_}
 use mathlib.Core.Bool.{Bool, true, false, true≢false}
 use mathlib.Core.List.{List, [], _∷_, _++_, List·Memᴰ}
@@ -20,7 +21,7 @@ use Rattle.tlb.specs.Tlb.{fresh}
 use Rattle.tlb.specs.Asks.{Ask, kindOf, addressOf}
 use Rattle.tlb.specs.declared.Inval.{Inval}
 use Rattle.history.specs.Lists.{each-append, each-left, each-right}
-use Rattle.history.specs.World.{World, Laws, Agree, covers, Plain, pageWalk, regimeNow, untagNow, pageNow, uncached}
+use Rattle.history.specs.World.{World, Laws, LeavesEqual, covers, Plain, pageWalk, regimeNow, untagNow, pageNow, uncached}
 use Rattle.history.specs.History.{Step, Event, steps, afterEvent, plainRun, dropsEvent, dropsRun, tlbRun, answerOf, Settled}
 use Rattle.history.specs.Corollaries.{one-settled}
 use Rattle.history.specs.Instance.{Ram, real, real-laws, freshPlain, fresh-asid}
@@ -31,8 +32,8 @@ module _ (w : World) where
   dropsUnder a c [] = []
   dropsUnder a c (x ∷ xs) = pick (eqb (w .asid (c .regs)) a) (dropsEvent w x c) [] ++ dropsUnder a (afterEvent w x c) xs
 
-  -- The history leaves the page to the ASID of now: elsewhere it had no successful global walk, and each successful walk that it had there, covered
-  -- by no invalidation made there, equals its walk now.
+  -- The history leaves the page to the ASID of now: elsewhere it had no successful global walk, and each successful
+  -- walk that it had there, covered by no invalidation made there, equals its walk now.
   pub record Own (c₀ : Plain w) (past : List (Event w)) (m : w .Ram) (r : Regime) (p : ℕ) : Type 0 where
     pub elsewhere : (before : List (Event w)) (m′ : w .Ram) (s : Step w) (later : List (Event w)) → past ≡ before ++ steps m′ s ∷ later →
         (ℓ : Leaf) →
@@ -47,7 +48,7 @@ module _ (w : World) where
         w .asid (plainRun w c₀ before .regs) ≡ w .asid (plainRun w c₀ past .regs) →
         Each (λ v. covers v p ℓ (w .asid (plainRun w c₀ before .regs)) ≡ false)
         (dropsUnder (w .asid (plainRun w c₀ past .regs)) (plainRun w c₀ before) (steps m′ s ∷ later)) →
-        (ℓ′ : Leaf) × (pageWalk w (plainRun w c₀ past .regs) m r p ≡ Mapped ℓ′) × Agree ℓ ℓ′
+        (ℓ′ : Leaf) × (pageWalk w (plainRun w c₀ past .regs) m r p ≡ Mapped ℓ′) × LeavesEqual ℓ ℓ′
 
   abbrev pub OwnFor : Plain w → List (Event w) → w .Ram → Ask → Type 0
   OwnFor c₀ past m a = Own c₀ past m (regimeNow w (plainRun w c₀ past)) (pageNow w (plainRun w c₀ past) (addressOf a))
@@ -78,7 +79,7 @@ module _ (w : World) where
           → (ℓ .global ≡ true) ⊎ (w .asid (plainRun w c₀ before .regs) ≡ A)
           → Each (λ v. covers v p ℓ (w .asid (plainRun w c₀ before .regs)) ≡ false) (dropsRun w (plainRun w c₀ before) (steps m′ s ∷ later))
           → (b : Bool) → eqb (w .asid (plainRun w c₀ before .regs)) A ≡ b
-          → (ℓ′ : Leaf) × (pageWalk w (plainRun w c₀ past .regs) m r p ≡ Mapped ℓ′) × Agree ℓ ℓ′
+          → (ℓ′ : Leaf) × (pageWalk w (plainRun w c₀ past .regs) m r p ≡ Mapped ℓ′) × LeavesEqual ℓ ℓ′
       go before m′ s later split ℓ o x today us true b =
           own .there before m′ s later split ℓ o x (eqb-true _ _ b) (under A (plainRun w c₀ before) (steps m′ s ∷ later) us)
       go before m′ s later split ℓ o x (inr y) us false b = absurd (eqb-false _ _ b y)

@@ -1,5 +1,5 @@
--- Where every answer comes from, with no premise: from the address itself with stage 1 off, from the walk of now, which failed, or from a walk that
--- the page had, now or at a step of the history, which no invalidation since covers.
+-- Where every answer comes from, with no premise: from the address itself with stage 1 off, from the walk of now, which
+-- failed, or from a walk that the page had, now or at a step of the history, which no invalidation since covers.
 use mathlib.Core.Path.{_≡_, refl, sym, subst, _∙_}
 use mathlib.Core.Bool.{true, false}
 use mathlib.Core.List.{List, [], _∷_, _++_}
@@ -14,15 +14,16 @@ use Rattle.tlb.specs.Asks.{Ask, kindOf, addressOf, Given, onward}
 use Rattle.tlb.specs.declared.access.Answer.{Answer}
 use Rattle.tlb.specs.declared.access.Answer.the-variants.{Address, Status}
 use Rattle.tlb.specs.declared.Inval.{Inval}
-use Rattle.history.specs.World.{World, Laws, covers, judge, Plain, pageWalk, regimeNow, onNow, untagNow, pageNow, needNow}
+use Rattle.history.specs.World.{World, Laws, covers, leafAnswer, Plain, pageWalk, regimeNow, onNow, untagNow, pageNow, needNow}
 use Rattle.history.specs.History.{Step, Event, steps, plainRun, dropsRun, answers, tlbRun}
 use Rattle.history.specs.ModelRun.{modelAsk, modelAnswers, modelRun, history-answers}
-use Rattle.history.specs.Sound.{Mark, at, Sound, sound-at}
+use Rattle.history.specs.Traced.{Moment, at, Traced, traced-at}
 use Rattle.history.specs.Right.{Answered, itself, by, failed, Done}
-use Rattle.history.specs.Theorem.{ask-done, marks, Uncovered, Found, found, history-sound}
+use Rattle.history.specs.Theorem.{ask-done, moments, Uncovered, Found, found, history-traced}
 
 module _ (w : World) (c₀ : Plain w) where
-  -- The registers R and the RAM m′ are those of now, or those at the start of a step of the history; vs are the invalidations since.
+  -- The registers R and the RAM m′ are those of now, or those at the start of a step of the history; vs are the
+  -- invalidations since.
   pub data Stood (past : List (Event w)) (m : w .Ram) (R : w .Regs) (m′ : w .Ram) : List Inval → Type 0 where
     now : R ≡ plainRun w c₀ past .regs → m′ ≡ m → Stood past m R m′ []
     then : (before : List (Event w)) (s : Step w) (later : List (Event w)) → past ≡ before ++ steps m′ s ∷ later
@@ -39,15 +40,15 @@ module _ (w : World) (c₀ : Plain w) where
         → pageWalk w R m′ (regimeNow w (plainRun w c₀ past)) (pageNow w (plainRun w c₀ past) (addressOf a)) ≡ Mapped ℓ
         → (ℓ .global ≡ true) ⊎ (w .asid R ≡ w .asid (plainRun w c₀ past .regs))
         → Each (λ v. covers v (pageNow w (plainRun w c₀ past) (addressOf a)) ℓ (w .asid R) ≡ false) vs
-        → x ≡ judge ℓ (needNow w (plainRun w c₀ past) (kindOf a)) (addressOf a) → From past m a x
+        → x ≡ leafAnswer ℓ (needNow w (plainRun w c₀ past) (kindOf a)) (addressOf a) → From past m a x
 
 module _ (w : World) (laws : Laws w) (c₀ : Plain w) (zero-asid : w .asid (c₀ .regs) ≡ 0) (low : c₀ .who .level ≤ 3) where
   module _ (past : List (Event w)) (m : w .Ram) where
     abbrev c : Plain w
     c = plainRun w c₀ past
 
-    abbrev h : List (Mark w)
-    h = marks w laws c₀ past []
+    abbrev h : List (Moment w)
+    h = moments w laws c₀ past []
 
     from : (a : Ask) (x : Answer) → Answered w laws (at (c .regs) m ∷ h) c m (kindOf a) (addressOf a) x → From w c₀ past m a x
     from a x (itself o e) = flat o e
@@ -66,11 +67,11 @@ module _ (w : World) (laws : Laws w) (c₀ : Plain w) (zero-asid : w .asid (c₀
             day (inl g) = inl g
             day (inr y) = inr (sym (f .walks .under) ∙ y)
 
-    all-from : (l : List Ask) (u : Model) → Sound w (at (c .regs) m ∷ h) (c .regs) u
+    all-from : (l : List Ask) (u : Model) → Traced w (at (c .regs) m ∷ h) (c .regs) u
         → Each (λ g. From w c₀ past m (g .ask) (g .answer)) (modelAnswers w c m l u)
     all-from [] u s = done
     all-from (a ∷ l) u s =
-        more (from a (modelAsk w c m a u .answer) (next .answered)) (go (modelAsk w c m a u .answer) (all-from l (modelAsk w c m a u .after) (next .sound)))
+        more (from a (modelAsk w c m a u .answer) (next .answered)) (go (modelAsk w c m a u .answer) (all-from l (modelAsk w c m a u .after) (next .traced)))
       where
         next : Done w laws (at (c .regs) m ∷ h) c m (kindOf a) (addressOf a) (modelAsk w c m a u)
         next = ask-done w laws h c m u s a
@@ -85,4 +86,4 @@ module _ (w : World) (laws : Laws w) (c₀ : Plain w) (zero-asid : w .asid (c₀
       → Each (λ g. From w c₀ past m (g .ask) (g .answer)) (answers w (plainRun w c₀ past) m (s .asks) (tlbRun w c₀ past fresh))
   origin past m s =
       subst (λ (l : List Given). Each (λ g. From w c₀ past m (g .ask) (g .answer)) l) (sym (history-answers w laws c₀ low past m (s .asks)))
-      (all-from past m (s .asks) (modelRun w c₀ past emptyModel) (sound-at w m (history-sound w laws c₀ zero-asid low past)))
+      (all-from past m (s .asks) (modelRun w c₀ past emptyModel) (traced-at w m (history-traced w laws c₀ zero-asid low past)))

@@ -10,7 +10,7 @@ use Rattle.tlb.specs.Model.{Access}
 use Rattle.tlb.specs.Asks.{Ask, translates, fetches, onward-same, answerOf, tlbAsk, answers, tlbAsks}
 use Rattle.tlb.specs.declared.access.Kind.{Kind}
 use Rattle.tlb.specs.declared.access.Kind.the-variants.{Read, Write}
-use Rattle.tlb.specs.declared.Tlb.{Tlb}
+use Rattle.mmu.specs.Bare.{bareOf}
 use Rattle.mmu.specs.Core.{movedTo, bankNow}
 use Rattle.mmu.specs.BytesLaws.{addressIn, store-length, store-leaves}
 use Rattle.mmu.specs.Ends.{storeRamEnd}
@@ -67,29 +67,16 @@ onNow c = stage1On (bankNow c) (regimeOf (c .who .level))
 
 -- THE CORE
 
--- the level, the mark, flags, PC and every register
-pub record Kept (c d : Core) : Type 0 where
-  pub who : d .who ≡ c .who
-  pub flags : d .flags ≡ c .flags
-  pub pc : d .pc ≡ c .pc
-  pub x : d .x ≡ c .x
-  pub control : d .control ≡ c .control
-  pub sys : d .sys ≡ c .sys
-
-moved-keeps : (c : Core) (t : Tlb) (last abort : ℕ) → Kept c (movedTo c t last abort)
-unfolding movedTo
-moved-keeps c t last abort = record { who = refl; flags = refl; pc = refl; x = refl; control = refl; sys = refl }
-
--- no operation changes them
-pub kept : (c : Core) (base : ℕ) (ram : List ℕ) (o : Operation) → Kept c (operationCore c base ram o)
-unfolding translateOf translateAccessOf readOf writeOf fetchOf fetchPaOf dataPaOf
-kept c base ram (translate va kind) = moved-keeps c _ _ _
-kept c base ram (access va n kind) = moved-keeps c _ _ _
-kept c base ram (load va n) = moved-keeps c _ _ _
-kept c base ram (store va n v) = moved-keeps c _ _ _
-kept c base ram (fetch va) = moved-keeps c _ _ _
-kept c base ram (fetchPa va) = moved-keeps c _ _ _
-kept c base ram (dataPa va) = moved-keeps c _ _ _
+-- no operation changes the level, the mark, flags, PC or a register
+pub kept : (c : Core) (base : ℕ) (ram : List ℕ) (o : Operation) → bareOf (operationCore c base ram o) ≡ bareOf c
+unfolding translateOf translateAccessOf readOf writeOf fetchOf fetchPaOf dataPaOf movedTo
+kept c base ram (translate va kind) = refl
+kept c base ram (access va n kind) = refl
+kept c base ram (load va n) = refl
+kept c base ram (store va n v) = refl
+kept c base ram (fetch va) = refl
+kept c base ram (fetchPa va) = refl
+kept c base ram (dataPa va) = refl
 
 module _ (c : Core) (base : ℕ) (ram : List ℕ) where
   -- the access of a kind at an address

@@ -1,5 +1,5 @@
--- Demand 3 of every list of exported calls. Words that `a72_fresh` made and then exported calls, each as its contract promises, hold the core
--- after the list, so that each further call keeps demand 3.
+-- Demand 3 of every list of exported calls. Words that `a72_fresh` made and then exported calls, each as its contract
+-- promises, hold the core after the list, so that each further call keeps demand 3.
 use mathlib.Core.Path.{_≡_, refl, ap, _∙_}
 use mathlib.Core.List.{List, [], _∷_, _++_}
 use Prim.Native.Nat.{ℕ}
