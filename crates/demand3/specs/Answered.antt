@@ -141,11 +141,13 @@ start-aligned x = omega arith
 
 -- the store at va and n further ones, in a core whose state without a cache is b and whose cache is t
 abbrev pub zeroOutcome : ℕ → Core → Ram → ℕ → Outcome
-zeroOutcome n c m va = outcome (storing (zeroOf (suc n) c (m .base) (m .bytes) va .answer)) (zeroRam (suc n) c (m .base) (m .bytes) va)
+zeroOutcome n c m va =
+    outcome (storing (zeroOf (suc n) c (m .base) (m .bytes) va .answer)) (zeroRam (suc n) c (m .base) (m .bytes) va)
 
 abbrev ZeroSaid : ℕ → Core → Ram → ℕ → Bare → Tlb → Type 0
 ZeroSaid n c m va b t =
-    zeroOutcome n c m va ≡ zeroSays m (zeroLater n c m va) va (answersRun real (plainIn b) (zeroSteps b m (zeroLater n c m va) va) t)
+    zeroOutcome n c m va
+    ≡ zeroSays m (zeroLater n c m va) va (answersRun real (plainIn b) (zeroSteps b m (zeroLater n c m va) va) t)
 
 -- the first of them
 module _ (c : Core) (m : Ram) (va : ℕ) (b : Bare) (t : Tlb) (eb : bareOf c ≡ b) (et : c .tlb ≡ t) where

@@ -83,7 +83,8 @@ zero-plain b p m (n ∷ l) va = zero-plain b p n l (wrap (va + 8))
 abbrev ZeroRuns : ℕ → Core → Ram → ℕ → Bare → Tlb → Type 0
 ZeroRuns n c m va b t =
     (bareOf (zeroOf (suc n) c (m .base) (m .bytes) va .core) ≡ b)
-    × (zeroOf (suc n) c (m .base) (m .bytes) va .core .tlb ≡ tlbRun real (plainIn b) (zeroSteps b m (zeroLater n c m va) va) t)
+    × (zeroOf (suc n) c (m .base) (m .bytes) va .core .tlb
+    ≡ tlbRun real (plainIn b) (zeroSteps b m (zeroLater n c m va) va) t)
 
 -- a store leaves the state without a cache, and of the cache what its translations leave
 pub stored-bare : (c : Core) (m : Ram) (va : ℕ) → bareOf (writeOf c (m .base) (m .bytes) va 8 .core) ≡ bareOf c

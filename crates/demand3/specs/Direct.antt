@@ -62,7 +62,8 @@ module _ (list : List (Fed real machine)) (seen : Shown real machine freshCore l
 
   -- The page of the address meets the premise.
   abbrev pub SettledAt : ℕ → Type 0
-  SettledAt va = Settled real (plainIn freshBare) past m (regimeNow real (plainIn bareNow)) (pageNow real (plainIn bareNow) va)
+  SettledAt va =
+      Settled real (plainIn freshBare) past m (regimeNow real (plainIn bareNow)) (pageNow real (plainIn bareNow) va)
 
   -- so do the pages of n bytes: one, or two where they cross with stage 1 on
   abbrev pub SettledOver : ℕ → ℕ → Kind → Type 0

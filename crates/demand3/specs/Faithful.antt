@@ -43,7 +43,8 @@ answersAfter list m x = answersRun real (plainIn (bareAfter list)) (eventsAfter 
 -- those of one of its steps, on the RAM m at its start, after the steps before it
 abbrev pub answersAt : List (Lent real machine) → List (Event real) → Ram → Step real → List Given
 answersAt list before m s =
-    answers real (plainRun real (plainIn (bareAfter list)) before) m (s .asks) (tlbRun real (plainIn (bareAfter list)) before (coreAfter list .tlb))
+    answers real (plainRun real (plainIn (bareAfter list)) before) m (s .asks)
+    (tlbRun real (plainIn (bareAfter list)) before (coreAfter list .tlb))
 
 -- those of the steps before it, and of those after it
 abbrev pub answersBefore : List (Lent real machine) → List (Event real) → List Given
@@ -52,7 +53,8 @@ answersBefore list before = answersRun real (plainIn (bareAfter list)) before (c
 abbrev pub answersFrom : List (Lent real machine) → List (Event real) → Ram → Step real → List (Event real) → List Given
 answersFrom list before m s later =
     answersRun real (afterEvent real (steps m s) (plainRun real (plainIn (bareAfter list)) before)) later
-    (tlbEvent real (steps m s) (plainRun real (plainIn (bareAfter list)) before) (tlbRun real (plainIn (bareAfter list)) before (coreAfter list .tlb)))
+    (tlbEvent real (steps m s) (plainRun real (plainIn (bareAfter list)) before)
+    (tlbRun real (plainIn (bareAfter list)) before (coreAfter list .tlb)))
 
 -- A call x on the RAM m, after a list of calls from the fresh core; o is its reply with the bytes after it.
 --   answered   the reply and the bytes are made from the answers to the call's translations
@@ -72,7 +74,8 @@ pub record Faithful (list : List (Lent real machine)) (m : Ram) (x : Call) (o : 
 -- whatever list of calls left this core
 unfoldable pub FaithfulCall : Core → ℕ → List ℕ → Call → Stepped → List ℕ → Type 0
 FaithfulCall c base bytes x r after =
-    (list : List (Lent real machine)) → c ≡ coreAfter list → Faithful list (ramOf base bytes) x (outcome (r .reply) after)
+    (list : List (Lent real machine)) → c ≡ coreAfter list
+    → Faithful list (ramOf base bytes) x (outcome (r .reply) after)
 
 module _ (list : List (Lent real machine)) (m : Ram) (x : Call) where
   abbrev fed : Fed real machine

@@ -47,7 +47,8 @@ abbrev pub modelAfterCall : List (Lent real machine) → Ram → Call → Model
 modelAfterCall list m x = modelRun real (plainIn (bareAfter list)) (eventsAfter list m x) (modelAfterList list)
 
 abbrev pub modelAnswersAfter : List (Lent real machine) → Ram → Call → List Given
-modelAnswersAfter list m x = modelAnswersRun real (plainIn (bareAfter list)) (eventsAfter list m x) (modelAfterList list)
+modelAnswersAfter list m x =
+    modelAnswersRun real (plainIn (bareAfter list)) (eventsAfter list m x) (modelAfterList list)
 
 -- the cache after that call
 abbrev pub tlbAfterCall : List (Lent real machine) → Ram → Call → Tlb

@@ -47,7 +47,8 @@ loadSays m va n gs = outcome (loading (loadEnd (placedBy va gs) 0 0 (m .base) (m
 
 abbrev pub storeSays : Ram → ℕ → ℕ → ℕ → List Given → Outcome
 storeSays m va n v gs =
-    outcome (storing (storeEnd (placedBy va gs) 0 (m .base) (m .bytes) va n .answer)) (storeRamEnd (placedBy va gs) (m .base) (m .bytes) n v)
+    outcome (storing (storeEnd (placedBy va gs) 0 (m .base) (m .bytes) va n .answer))
+    (storeRamEnd (placedBy va gs) (m .base) (m .bytes) n v)
 
 abbrev pub fetchSays : Ram → ℕ → List Given → Outcome
 fetchSays m va gs = outcome (fetching (fetchEnd (firstOf gs) 0 (m .base) (m .bytes) va .answer)) (m .bytes)
@@ -131,9 +132,11 @@ callAlone b m (Translate kind va) = outcome (translation va (uncached real (plai
 callAlone b m (DataPa va) = outcome (reaching (reachedBy (uncached real (plainIn b) m Kind.Read va))) (m .bytes)
 callAlone b m (FetchPa va) = outcome (reaching (reachedBy (uncached real (plainIn b) m Kind.Fetch va))) (m .bytes)
 callAlone b m (Load va size) = loadSized (widthOf size) m va (answersAlone b m (sizedIn b va (widthOf size) Kind.Read))
-callAlone b m (Store va size value) = storeSized (widthOf size) m va value (answersAlone b m (sizedIn b va (widthOf size) Kind.Write))
+callAlone b m (Store va size value) =
+    storeSized (widthOf size) m va value (answersAlone b m (sizedIn b va (widthOf size) Kind.Write))
 callAlone b m (Fetch va) =
-    outcome (fetching (fetchEnd (uncached real (plainIn b) m Kind.Fetch va) 0 (m .base) (m .bytes) va .answer)) (m .bytes)
+    outcome (fetching (fetchEnd (uncached real (plainIn b) m Kind.Fetch va) 0 (m .base) (m .bytes) va .answer))
+    (m .bytes)
 callAlone b m (System e) = sysAlone (opIn b e) b m (operandIn b e)
 callAlone b m (Register key value) = outcome Done (m .bytes)
 callAlone b m (Level level) = outcome Done (m .bytes)

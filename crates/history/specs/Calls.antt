@@ -95,8 +95,10 @@ module _ (w : World) (M : Machine w) where
   -- registers, level, mark and the whole of the `Tlb`, counters and what is pending included, what its steps do.
   pub record Bridge : Type 0 where
     pub bare-is : (c : M .Core) (m : w .Ram) (x : M .Call) → M .bare (M .step c m x) ≡ M .bareStep (M .bare c) m x
-    pub plain-is : (c : M .Core) (m : w .Ram) (x : M .Call) → M .plain (M .bareStep (M .bare c) m x) ≡ plainRun w (plainOf c) (eventsOf c m x)
-    pub tlb-is : (c : M .Core) (m : w .Ram) (x : M .Call) → M .tlb (M .step c m x) ≡ tlbRun w (plainOf c) (eventsOf c m x) (M .tlb c)
+    pub plain-is : (c : M .Core) (m : w .Ram) (x : M .Call)
+        → M .plain (M .bareStep (M .bare c) m x) ≡ plainRun w (plainOf c) (eventsOf c m x)
+    pub tlb-is : (c : M .Core) (m : w .Ram) (x : M .Call)
+        → M .tlb (M .step c m x) ≡ tlbRun w (plainOf c) (eventsOf c m x) (M .tlb c)
 
   -- DEMAND 3
 
@@ -113,7 +115,8 @@ module _ (w : World) (M : Machine w) where
   -- Where the page of a translation is settled, its answer is that of the core without a cache.
   abbrev pub FaithfulIn : M .Bare → List (Fed w M) → List (Event w) → w .Ram → Given → Type 0
   FaithfulIn b₀ list before m g =
-      SettledIn b₀ list before m g → g .answer ≡ uncached w (plainAfter b₀ list before) m (kindOf (g .ask)) (addressOf (g .ask))
+      SettledIn b₀ list before m g
+      → g .answer ≡ uncached w (plainAfter b₀ list before) m (kindOf (g .ask)) (addressOf (g .ask))
 
   -- Demand 3 for calls: after every list of calls from the fresh core c₀, in every call x after it, at each step s of
   -- x, with the RAM m at its start. The steps before s in x, the earlier stores of a zeroing, belong to the list.

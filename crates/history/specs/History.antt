@@ -25,7 +25,7 @@ module _ (w : World) where
   -- EVENTS
 
   -- What a step does besides translating.
-  --   nothing   a refused call, and every call that leaves the registers that translation reads, level, mark and cache alone
+  --   nothing   a refused call, and every call that leaves level, mark, cache and the registers that translation reads
   --   carries   a TLBI that is not refused: what it names, and whether it is an Inner Shareable form, which is left pending for other cores
   --   writes    a register write: the registers that translation reads become these
   --   sets      a setting of the level or the mark, or an abort entry
@@ -115,17 +115,20 @@ module _ (w : World) where
   -- in the leaf ℓ. If ℓ is global or was walked under today's ASID, and no invalidation of that step or of a later
   -- event covers it, then it equals the page's walk now.
   pub record Settled (c₀ : Plain w) (past : List Event) (m : w .Ram) (r : Regime) (p : ℕ) : Type 0 where
-    pub holds : (before : List Event) (m′ : w .Ram) (s : Step) (later : List Event) → past ≡ before ++ steps m′ s ∷ later →
+    pub holds : (before : List Event) (m′ : w .Ram) (s : Step) (later : List Event) →
+        past ≡ before ++ steps m′ s ∷ later →
         (ℓ : Leaf) →
         w .on (plainRun c₀ before .regs) r ≡ true →
         pageWalk w (plainRun c₀ before .regs) m′ r p ≡ Mapped ℓ →
         (ℓ .global ≡ true) ⊎ (w .asid (plainRun c₀ before .regs) ≡ w .asid (plainRun c₀ past .regs)) →
-        Each (λ v. covers v p ℓ (w .asid (plainRun c₀ before .regs)) ≡ false) (dropsRun (plainRun c₀ before) (steps m′ s ∷ later)) →
+        Each (λ v. covers v p ℓ (w .asid (plainRun c₀ before .regs)) ≡ false)
+        (dropsRun (plainRun c₀ before) (steps m′ s ∷ later)) →
         (ℓ′ : Leaf) × (pageWalk w (plainRun c₀ past .regs) m r p ≡ Mapped ℓ′) × LeavesEqual ℓ ℓ′
 
   -- the page of a translation made after the history is settled
   abbrev pub SettledFor : Plain w → List Event → w .Ram → Ask → Type 0
-  SettledFor c₀ past m a = Settled c₀ past m (regimeNow w (plainRun c₀ past)) (pageNow w (plainRun c₀ past) (addressOf a))
+  SettledFor c₀ past m a =
+      Settled c₀ past m (regimeNow w (plainRun c₀ past)) (pageNow w (plainRun c₀ past) (addressOf a))
 
   -- The conclusion, for a translation made now and its answer: where its page is settled, the core without a cache, fed
   -- the same list and shown the same RAM, answers the same.

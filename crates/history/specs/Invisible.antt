@@ -19,7 +19,8 @@ module _ (w : World) where
   -- every answer of a list: with the cache, and without
   abbrev pub answersRun : Plain w → List (Event w) → Tlb → List Given
   answersRun c [] t = []
-  answersRun c (steps m s ∷ xs) t = answers w c m (s .asks) t ++ answersRun (afterEvent w (steps m s) c) xs (tlbEvent w (steps m s) c t)
+  answersRun c (steps m s ∷ xs) t =
+      answers w c m (s .asks) t ++ answersRun (afterEvent w (steps m s) c) xs (tlbEvent w (steps m s) c t)
   answersRun c (receives v ∷ xs) t = answersRun c xs (tlbEvent w (receives v) c t)
 
   abbrev pub plainAnswersRun : Plain w → List (Event w) → List Given
@@ -32,7 +33,8 @@ module _ (w : World) where
   -- page's walk now.
   abbrev pub Tidy : Plain w → List (Event w) → List (Event w) → Type 0
   Tidy c₀ past list =
-      (before : List (Event w)) (m : w .Ram) (s : Step w) (later : List (Event w)) → list ≡ before ++ steps m s ∷ later →
+      (before : List (Event w)) (m : w .Ram) (s : Step w) (later : List (Event w)) →
+      list ≡ before ++ steps m s ∷ later →
       Each (SettledFor w c₀ (past ++ before) m) (s .asks)
 
   -- Then every answer of the list is that of the core without a cache.

@@ -48,7 +48,8 @@ userNow c k = asUser (regimeNow real c) (c .who .level) (c .who .mark) k
 -- bits, or 0x0C plus the level
 abbrev pub checked : Bank → Regime → Bool → Kind → Translation → ℕ → Answer
 checked s r user k t va =
-    pick (allowed (singlePriv r) (not user) (wxnOf s) (t .perms) (accessFor k)) (Address (t .address / 4096 * 4096 + va % 4096)) (Status (12 + t .level))
+    pick (allowed (singlePriv r) (not user) (wxnOf s) (t .perms) (accessFor k))
+    (Address (t .address / 4096 * 4096 + va % 4096)) (Status (12 + t .level))
 
 -- The answer x to a translation a, made after the history on the RAM m. Either stage 1 is off, and it is the address
 -- itself; or the walk of now faults, and it is that fault; or the page had the walk t at the registers R and the RAM

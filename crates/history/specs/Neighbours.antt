@@ -35,13 +35,15 @@ module _ (w : World) where
   -- The history leaves the page to the ASID of now: elsewhere it had no successful global walk, and each successful
   -- walk that it had there, covered by no invalidation made there, equals its walk now.
   pub record Own (c₀ : Plain w) (past : List (Event w)) (m : w .Ram) (r : Regime) (p : ℕ) : Type 0 where
-    pub elsewhere : (before : List (Event w)) (m′ : w .Ram) (s : Step w) (later : List (Event w)) → past ≡ before ++ steps m′ s ∷ later →
+    pub elsewhere : (before : List (Event w)) (m′ : w .Ram) (s : Step w) (later : List (Event w)) →
+        past ≡ before ++ steps m′ s ∷ later →
         (ℓ : Leaf) →
         w .on (plainRun w c₀ before .regs) r ≡ true →
         pageWalk w (plainRun w c₀ before .regs) m′ r p ≡ Mapped ℓ →
         (w .asid (plainRun w c₀ before .regs) ≡ w .asid (plainRun w c₀ past .regs) → ⊥) →
         ℓ .global ≡ false
-    pub there : (before : List (Event w)) (m′ : w .Ram) (s : Step w) (later : List (Event w)) → past ≡ before ++ steps m′ s ∷ later →
+    pub there : (before : List (Event w)) (m′ : w .Ram) (s : Step w) (later : List (Event w)) →
+        past ≡ before ++ steps m′ s ∷ later →
         (ℓ : Leaf) →
         w .on (plainRun w c₀ before .regs) r ≡ true →
         pageWalk w (plainRun w c₀ before .regs) m′ r p ≡ Mapped ℓ →
@@ -112,7 +114,9 @@ module _ (one two : List (Event real)) (base : ℕ) (xs ys : List ℕ) (a : Ask)
   window bytes = record { base = base; bytes = bytes }
 
   abbrev fetched : List ℕ
-  fetched = fetchesOf (bankOf (now .regs) (regimeNow real now)) (regimeNow real now) (untagNow real now (addressOf a)) (wordAt base xs 8)
+  fetched =
+      fetchesOf (bankOf (now .regs) (regimeNow real now)) (regimeNow real now) (untagNow real now (addressOf a))
+      (wordAt base xs 8)
 
   pub real-neighbours : now ≡ plainRun real freshPlain two → length xs ≡ length ys
       → ((d : ℕ) → List·Memᴰ d fetched → base ≤ d → d + 8 ≤ base + length xs → (i : ℕ) → i < 8 → getD xs (d - base + i) 0 ≡ getD ys (d - base + i) 0)

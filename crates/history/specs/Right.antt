@@ -77,7 +77,9 @@ module _ (w : World) where
 
   -- each walk of the page that no invalidation since covers, global or under today's ASID, equals its walk now
   abbrev pub Agreed : List (Moment w) → w .Regs → w .Ram → Regime → ℕ → Type 0
-  Agreed h R m r p = (ℓ : Leaf) (a : ℕ) → Seen w h r p ℓ a → Today w R ℓ a → (ℓ′ : Leaf) × (pageWalk w R m r p ≡ Mapped ℓ′) × LeavesEqual ℓ ℓ′
+  Agreed h R m r p =
+      (ℓ : Leaf) (a : ℕ) → Seen w h r p ℓ a → Today w R ℓ a
+      → (ℓ′ : Leaf) × (pageWalk w R m r p ≡ Mapped ℓ′) × LeavesEqual ℓ ℓ′
 
   module _ (laws : Laws w) (h : List (Moment w)) (c : Plain w) (m : w .Ram) (k : Kind) (va : ℕ) where
     -- where an answer came from

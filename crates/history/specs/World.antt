@@ -58,7 +58,8 @@ covers (Asid b) p ℓ a = not (ℓ .global) && eqb a b
 -- "0x0C plus the leaf's level, where the leaf lacks the bit that the access needs; else the leaf's physical page with
 -- the address's low twelve bits."
 unfoldable pub leafAnswer : Leaf → ℕ → ℕ → Answer
-leafAnswer ℓ bit va = pick (eqb (ℓ .perms / bit % 2) 1) (Address (ℓ .oa / 4096 * 4096 + va % 4096)) (Status (12 + ℓ .level))
+leafAnswer ℓ bit va =
+    pick (eqb (ℓ .perms / bit % 2) 1) (Address (ℓ .oa / 4096 * 4096 + va % 4096)) (Status (12 + ℓ .level))
 
 -- "A walk fault is the answer."
 unfoldable pub walkAnswer : Walked → ℕ → ℕ → Answer
@@ -95,7 +96,8 @@ module _ (w : World) where
   -- and walks, by the walk's definition, on its own registers and the step's RAM." A fault is its status and the
   -- address translated, va.
   unfoldable pub uncached : Plain → w .Ram → Kind → ℕ → Answer
-  uncached c m k va = pick (onNow c) (walkAnswer (w .walk (c .regs) m (regimeNow c) (untagNow c va)) (needNow c k) va) (Address va)
+  uncached c m k va =
+      pick (onNow c) (walkAnswer (w .walk (c .regs) m (regimeNow c) (untagNow c va)) (needNow c k) va) (Address va)
 
   -- the access of the same translation through a cache
   abbrev pub accessOf : Plain → w .Ram → Kind → ℕ → Access

@@ -22,7 +22,8 @@ use Rattle.onwords.specs.OnWords.{added, Made, fresh, stepped, demand-3-
 -- the k-th call of words, eight to a call
 abbrev pub eight : List ℕ → ℕ → List ℕ
 eight l i =
-    getD l i 0 ∷ getD l (i + 1) 0 ∷ getD l (i + 2) 0 ∷ getD l (i + 3) 0 ∷ getD l (i + 4) 0 ∷ getD l (i + 5) 0 ∷ getD l (i + 6) 0 ∷ getD l (i + 7) 0 ∷ []
+    getD l i 0 ∷ getD l (i + 1) 0 ∷ getD l (i + 2) 0 ∷ getD l (i + 3) 0 ∷ getD l (i + 4) 0 ∷ getD l (i + 5) 0
+    ∷ getD l (i + 6) 0 ∷ getD l (i + 7) 0 ∷ []
 
 abbrev pub callAt : List ℕ → ℕ → Calls
 callAt ops k = callOf (eight ops (k * 8))
