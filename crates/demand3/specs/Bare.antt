@@ -28,8 +28,10 @@ use Rattle.history.specs.World.{Plain}
 use Rattle.history.specs.Instance.{Ram, memoryOf, real}
 
 -- "Its state is the level, the mark, the registers kept and the general registers", "at first those of `Cpu::new`"; and
--- what abort entry reads and sets besides: flags and PC. The record and its updates are mmu's; what each call does with
--- them is said here, on its own. what a translation reads of it
+-- what abort entry reads and sets besides: flags and PC. The record and its updates are mmu's (`Bare`, `freshBare`); what
+-- each call does with them is said here, on its own.
+
+-- what a translation reads of it
 abbrev pub plainIn : Bare → Plain real
 plainIn b = record { regs = b .control; who = b .who }
 

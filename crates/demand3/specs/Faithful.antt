@@ -15,7 +15,7 @@ use Rattle.history.specs.Invisible.{Tidy, answersRun}
 use Rattle.history.specs.Lists.{answers-split}
 use Rattle.history.specs.Calls.{Lent, Fed, lentOf, eventsRun, shown, showing, FaithfulIn}
 use Rattle.history.specs.EveryCall.{shown-lent, shown-shown}
-use Rattle.history.specs.Instance.{Ram, real}
+use Rattle.history.specs.Instance.{Ram, windowOf, real}
 use Rattle.demand3.specs.Bare.{plainIn}
 use Rattle.demand3.specs.Events.{eventsIn}
 use Rattle.demand3.specs.Starts.{laterIn}
@@ -24,9 +24,6 @@ use Rattle.demand3.specs.Replies.{Outcome, outcome, outcomeOf, saysIn, b
 use Rattle.demand3.specs.Answered.{reply-is}
 use Rattle.demand3.specs.Instance.{every-call, every-reply}
 use Rattle.demand3.specs.Beside.{coreAfter, bareAfter, two-cores}
-
-abbrev pub ramOf : ℕ → List ℕ → Ram
-ramOf base bytes = record { base = base; bytes = bytes }
 
 -- the list, each call with RAM at its steps as the run from the fresh core shows it
 abbrev pub fedBy : List (Lent real machine) → List (Fed real machine)
@@ -75,7 +72,7 @@ pub record Faithful (list : List (Lent real machine)) (m : Ram) (x : Call) (o : 
 unfoldable pub FaithfulCall : Core → ℕ → List ℕ → Call → Stepped → List ℕ → Type 0
 FaithfulCall c base bytes x r after =
     (list : List (Lent real machine)) → c ≡ coreAfter list
-    → Faithful list (ramOf base bytes) x (outcome (r .reply) after)
+    → Faithful list (windowOf base bytes) x (outcome (r .reply) after)
 
 module _ (list : List (Lent real machine)) (m : Ram) (x : Call) where
   abbrev fed : Fed real machine
@@ -119,7 +116,7 @@ pub faithful-step : (c : Core) (base : ℕ) (bytes : List ℕ) (x : Call) (r : S
     → r ≡ stepOf c base bytes x → after ≡ ramAfter c base bytes x → FaithfulCall c base bytes x r after
 unfolding FaithfulCall
 faithful-step c base bytes x r after er ea list ec =
-    let m : Ram = ramOf base bytes in
+    let m : Ram = windowOf base bytes in
     let made : outcome (r .reply) after ≡ outcomeOf (coreAfter list) m x = rw (er, ea, ec) in
     record {
       answered = made ∙ said list m x;

@@ -14,11 +14,11 @@ use Rattle.mmu.specs.declared.core.Core.{Core}
 use Rattle.exec.specs.Sys.{onStored}
 use Rattle.cpu.specs.declared.call.Call.{Call}
 use Rattle.cpu.specs.declared.call.Call.the-variants.{Translate, DataPa, FetchPa, Load, Store, Fetch, System, Register, Level, Mark, General, Abort}
-use Rattle.history.specs.Instance.{Ram}
+use Rattle.history.specs.Instance.{Ram, windowOf}
 use Rattle.demand3.specs.Bare.{opIn, operandIn, rulingIn, ifAllowed}
 
 abbrev pub ramWith : Ram → List ℕ → Ram
-ramWith m bytes = record { base = m .base; bytes = bytes }
+ramWith m bytes = windowOf (m .base) bytes
 
 -- RAM after a store of eight zero bytes
 abbrev pub ramZeroed : Core → Ram → ℕ → Ram

@@ -24,7 +24,7 @@ use Rattle.history.specs.Lists.{each-append, each-left, each-right}
 use Rattle.history.specs.World.{World, Laws, LeavesEqual, covers, Plain, pageWalk, regimeNow, untagNow, pageNow, uncached}
 use Rattle.history.specs.History.{Step, Event, steps, afterEvent, plainRun, dropsEvent, dropsRun, tlbRun, answerOf, Settled}
 use Rattle.history.specs.Corollaries.{one-settled}
-use Rattle.history.specs.Instance.{Ram, real, real-laws, freshPlain, fresh-asid}
+use Rattle.history.specs.Instance.{windowOf, real, real-laws, freshPlain, fresh-asid}
 
 module _ (w : World) where
   -- the invalidations of a history that are made under the ASID a
@@ -110,9 +110,6 @@ module _ (one two : List (Event real)) (base : ℕ) (xs ys : List ℕ) (a : Ask)
   abbrev now : Plain real
   now = plainRun real freshPlain one
 
-  abbrev window : List ℕ → Ram
-  window bytes = record { base = base; bytes = bytes }
-
   abbrev fetched : List ℕ
   fetched =
       fetchesOf (bankOf (now .regs) (regimeNow real now)) (regimeNow real now) (untagNow real now (addressOf a))
@@ -120,9 +117,9 @@ module _ (one two : List (Event real)) (base : ℕ) (xs ys : List ℕ) (a : Ask)
 
   pub real-neighbours : now ≡ plainRun real freshPlain two → length xs ≡ length ys
       → ((d : ℕ) → List·Memᴰ d fetched → base ≤ d → d + 8 ≤ base + length xs → (i : ℕ) → i < 8 → getD xs (d - base + i) 0 ≡ getD ys (d - base + i) 0)
-      → OwnFor real freshPlain one (window xs) a → OwnFor real freshPlain two (window ys) a
-      → answerOf real now (window xs) a (tlbRun real freshPlain one fresh)
-      ≡ answerOf real (plainRun real freshPlain two) (window ys) a (tlbRun real freshPlain two fresh)
+      → OwnFor real freshPlain one (windowOf base xs) a → OwnFor real freshPlain two (windowOf base ys) a
+      → answerOf real now (windowOf base xs) a (tlbRun real freshPlain one fresh)
+      ≡ answerOf real (plainRun real freshPlain two) (windowOf base ys) a (tlbRun real freshPlain two fresh)
   real-neighbours same long bytes own₁ own₂ =
-      neighbours real real-laws freshPlain fresh-asid (omega arith) one two (window xs) (window ys) a same
+      neighbours real real-laws freshPlain fresh-asid (omega arith) one two (windowOf base xs) (windowOf base ys) a same
       (bytes-agree _ _ _ base xs ys long bytes) own₁ own₂
