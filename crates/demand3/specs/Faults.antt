@@ -116,7 +116,8 @@ byte-low base len (Split p) n j pa some e = let h : j < 0 + n = first-outside ba
 
 pub record PlacedFrom (va : ℕ) (gs : List Given) : Type 0 where
   pub faulting : (a fsc : ℕ) → placedBy va gs ≡ Placed.Fault a fsc → (g : Given) × List·Memᴰ g gs × (addressOf (g .ask) ≡ a) × (g .answer ≡ Status fsc)
-  pub lying : (place : Place) → placedBy va gs ≡ Placed.At place → (g : Given) × List·Memᴰ g gs × (addressOf (g .ask) ≡ va) × (pa : ℕ) × (g .answer ≡ Address pa)
+  pub lying : (place : Place) → placedBy va gs ≡ Placed.At place
+      → (g : Given) × List·Memᴰ g gs × (addressOf (g .ask) ≡ va) × (pa : ℕ) × (g .answer ≡ Address pa)
 
 fault-one : {a b x y : ℕ} → Placed.Fault a x ≡ Placed.Fault b y → a ≡ b
 fault-one e = cc
@@ -158,9 +159,12 @@ module _ (va : ℕ) (kind : Kind) where
 
   pub answers-placed : (c : Bool) (q : Plain real) (m : Ram) (t : Tlb) → PlacedFrom va (answers real q m (asksBy c va kind) t)
   answers-placed false q m t =
-      subst (λ (l : List Given). PlacedFrom va (one (answerOf real q m (translates kind va) t) ∷ l)) (sym (onward-same (answerOf real q m (translates kind va) t) []))
+      subst (λ (l : List Given). PlacedFrom va (one (answerOf real q m (translates kind va) t) ∷ l))
+      (sym (onward-same (answerOf real q m (translates kind va) t) []))
       (placed-one (answerOf real q m (translates kind va) t))
-  answers-placed true q m t = go (answerOf real q m (translates kind va) t) (answerOf real q m (translates kind (nextPage va)) (tlbAsk real q m (translates kind va) t))
+  answers-placed true q m t =
+      go (answerOf real q m (translates kind va) t)
+      (answerOf real q m (translates kind (nextPage va)) (tlbAsk real q m (translates kind va) t))
     where
       go : (x y : Answer) → PlacedFrom va (one x ∷ onward {A = List Given} x (two y ∷ onward {A = List Given} y [] []) [])
       go (Address pa) y = subst (λ (l : List Given). PlacedFrom va (one (Address pa) ∷ two y ∷ l)) (sym (onward-same y [])) (placed-two pa y)
@@ -208,7 +212,8 @@ module _ (m : Ram) (va n : ℕ) (some : 0 < n) (few : n ≤ 8) (gs : List Given)
           translating g mem (p ∙ w .0) (r ∙ ap Status (w .1))
       go (Placed.At place) e w = by-verdict (verdictOf (m .base) (length (m .bytes)) place n) refl w
         where
-          by-verdict : (d : Verdict) → verdictOf (m .base) (length (m .bytes)) place n ≡ d → RepliesFault (storing (storeEndBy d 0 va .answer)) addr fsc → FaultFrom gs addr fsc
+          by-verdict : (d : Verdict) → verdictOf (m .base) (length (m .bytes)) place n ≡ d
+              → RepliesFault (storing (storeEndBy d 0 va .answer)) addr fsc → FaultFrom gs addr fsc
           by-verdict Inside d x = absurd x
           by-verdict (Outside j pa) d x = out place j pa e d (x .0) (x .1)
 
@@ -280,7 +285,8 @@ module _ (b : Bare) (m : Ram) (t : Tlb) (addr fsc : ℕ) where
   fetch-from va (Status code) w l = translating _ (List·Memᴰ·head refl) (w .0) (ap Status (w .1))
   fetch-from va (Address pa) w l = go (insnOf (m .base) (m .bytes) pa) w
     where
-      go : (i : Insn) → RepliesFault (fetching (fetchedFrom pa i 0 va .answer)) addr fsc → FaultFrom (record { ask = fetches va; answer = Address pa } ∷ l) addr fsc
+      go : (i : Insn) → RepliesFault (fetching (fetchedFrom pa i 0 va .answer)) addr fsc
+          → FaultFrom (record { ask = fetches va; answer = Address pa } ∷ l) addr fsc
       go (Insn.Value v) y = absurd y
       go Insn.Outside y =
           outside _ (List·Memᴰ·head refl) pa refl 0 (omega arith) (ap wrap (sym (y .0)) ∙ ap wrap (sym (add-zero va))) (sym (y .1))

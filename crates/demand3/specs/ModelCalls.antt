@@ -71,7 +71,9 @@ module _ (list : List (Lent real machine)) where
   fresh-low = omega arith
 
   stands : StandsFor (coreAfter list .tlb) (modelAfterList list)
-  stands = subst (λ (t : Tlb). StandsFor t (modelAfterList list)) (sym tlb-run) (run-stands real real-laws (eventsBy list) (plainIn freshBare) fresh-low (fresh-stands real real-laws))
+  stands =
+      subst (λ (t : Tlb). StandsFor t (modelAfterList list)) (sym tlb-run)
+      (run-stands real real-laws (eventsBy list) (plainIn freshBare) fresh-low (fresh-stands real real-laws))
 
 -- EVERY CORE THAT CALLS REACH: its level is 3 at most, its cache is well-formed, and the cache's ASID is that of the
 -- registers.

@@ -157,7 +157,7 @@ unchanged : (ℓ : Leaf) → pageWalk real registers new El1 0x40001 ≡ Mapped 
 unchanged ℓ e = (ℓ, e, record { pages = refl; perms = refl; levels = refl })
 
 step-by-step : HoldsFrom real registers new El1 0x40001 (plainIn freshBare) events
-unfolding freshBare freshControl controlWith
+unfolding freshControl controlWith
 step-by-step = (
   λ ℓ on e d us. absurd (false≢true on),
   (

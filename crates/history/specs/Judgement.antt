@@ -130,12 +130,14 @@ judged-from past m a x (flat o e) = itself o e
 judged-from past m a x (fails code o f e) = let (g, h, q) = manual-fault _ _ _ _ code f in faulted g o h (e ∙ ap Status q)
 judged-from past m a x (walks R m′ vs stood ℓ o leaf d us e) =
     let (t, h, q) = manual-leaf _ _ _ _ ℓ leaf in
-    allowing R m′ vs stood t o h (day t (subst (λ (l : Leaf). (l .global ≡ true) ⊎ (real .asid R ≡ real .asid (plainRun real freshPlain past .regs))) (sym q) d))
+    allowing R m′ vs stood t o h
+    (day t (subst (λ (l : Leaf). (l .global ≡ true) ⊎ (real .asid R ≡ real .asid (plainRun real freshPlain past .regs))) (sym q) d))
     (subst
     (λ (l : Leaf). Each (λ v. covers v (pageNow real (plainRun real freshPlain past) (addressOf a)) l (real .asid R) ≡ false) vs) (sym q) us)
     (e
     ∙ ap (λ (l : Leaf). leafAnswer l (need (kindOf a) (userNow (plainRun real freshPlain past) (kindOf a))) (addressOf a)) (sym q)
-    ∙ leaf-checked (bankOf R (regimeNow real (plainRun real freshPlain past))) (regimeNow real (plainRun real freshPlain past)) t (kindOf a) (userNow (plainRun real freshPlain past) (kindOf a)) (addressOf a))
+    ∙ leaf-checked (bankOf R (regimeNow real (plainRun real freshPlain past))) (regimeNow real (plainRun real freshPlain past)) t (kindOf a)
+    (userNow (plainRun real freshPlain past) (kindOf a)) (addressOf a))
   where
     -- a leaf is global where nG is clear
     day : (t : Translation) → (not (t .nG) ≡ true) ⊎ (real .asid R ≡ real .asid (plainRun real freshPlain past .regs))
