@@ -23,7 +23,7 @@ use Rattle.tlb.specs.declared.access.Who.{Who}
 use Rattle.tlb.specs.declared.hint.Physical.{Physical}
 use Rattle.tlb.specs.declared.hint.Physical.the-variants.{At, Unknown}
 use Rattle.mmu.specs.Core.{movedTo, bankNow}
-use Rattle.mmu.specs.Place.{inPage, goesOn, crosses, judged, placedOne}
+use Rattle.mmu.specs.Place.{inPage, goesOn, crosses, verdictOf as judged, placedOne}
 use Rattle.mmu.specs.Bytes.{loadOf, storeRam}
 use Rattle.mmu.specs.Ends.{loadEnd, storeEnd, storeRamEnd}
 use Rattle.mmu.specs.Ops.{translateOf, translateAccessOf, readOf, writeOf, ramAfterWrite}

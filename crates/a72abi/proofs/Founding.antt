@@ -25,7 +25,7 @@ use Rattle.tlb.specs.declared.access.Who.{Who}
 use Rattle.tlb.specs.declared.hint.Physical.{Physical}
 use Rattle.tlb.specs.declared.hint.Physical.the-variants.{Unknown}
 use Rattle.mmu.specs.Core.{movedTo, bankNow}
-use Rattle.mmu.specs.Place.{inPage, crosses, goesOn, placedOne, judged}
+use Rattle.mmu.specs.Place.{inPage, crosses, goesOn, placedOne, verdictOf as judged}
 use Rattle.mmu.specs.Bytes.{loadOf, storeRam}
 use Rattle.mmu.specs.Ends.{loadEnd, storeEnd, storeRamEnd, externalAbort}
 use Rattle.mmu.specs.Ops.{translateOf, translateAccessOf, readOf, writeOf, ramAfterWrite}

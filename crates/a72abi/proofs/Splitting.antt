@@ -21,7 +21,7 @@ use Rattle.tlb.specs.declared.access.Who.{Who}
 use Rattle.tlb.specs.declared.hint.Physical.{Physical}
 use Rattle.tlb.specs.declared.hint.Physical.the-variants.{At, Unknown}
 use Rattle.mmu.specs.Core.{bankNow}
-use Rattle.mmu.specs.Place.{inPage, nextPage, crosses, goesOn, placedBoth, firstPa, judged}
+use Rattle.mmu.specs.Place.{inPage, nextPage, crosses, goesOn, placedBoth, firstPa, verdictOf as judged}
 use Rattle.mmu.specs.Bytes.{loadOf, storeRam}
 use Rattle.mmu.specs.AtOnce.{bothInside, bothAt, bothStored}
 use Rattle.mmu.specs.Ends.{loadEnd, storeEnd, storeRamEnd}

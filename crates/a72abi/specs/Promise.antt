@@ -7,11 +7,11 @@ use Rattle.cpu.specs.Step.{stepOf}
 use Rattle.cpu.specs.declared.call.Call.{Call}
 use Rattle.cpu.specs.declared.call.Reply.{Reply}
 use Rattle.history.specs.Calls.{Lent}
-use Rattle.history.specs.Instance.{Ram, real}
+use Rattle.history.specs.Instance.{Ram, windowOf as ramOf, real}
 use Rattle.demand3.specs.Machine.{machine}
 use Rattle.demand3.specs.Replies.{outcome}
 use Rattle.demand3.specs.Beside.{coreAfter}
-use Rattle.demand3.specs.Faithful.{ramOf, Faithful}
+use Rattle.demand3.specs.Faithful.{Faithful}
 use Rattle.words.specs.Held.{held}
 use Rattle.words.specs.Moved.{Moved}
 use Rattle.a72abi.specs.Replies.{codeBy, valueBy, wordsBy}

@@ -26,7 +26,7 @@ use Rattle.entry.specs.Route.{routedTo}
 use Rattle.entry.specs.Syndrome.{syndromeOf}
 use Rattle.entry.specs.declared.exception.Exception.the-variants.{DataAbort}
 use Rattle.mmu.specs.Core.{regOf, movedTo}
-use Rattle.mmu.specs.Step.{stepOf as turnOf}
+use Rattle.mmu.specs.Step.{translateIn as turnOf}
 use Rattle.mmu.specs.Ops.{steppedNow, translateOf}
 use Rattle.mmu.specs.declared.core.Core.{Core}
 use Rattle.sysop.specs.Op.{named, decodeOf}

@@ -27,7 +27,7 @@ use Rattle.tlb.specs.declared.access.Kind.the-variants as Kind
 use Rattle.sysop.specs.declared.op.SysOp.{SysOp}
 use Rattle.sysop.specs.declared.op.SysOp.the-variants as SysOp
 use Rattle.mmu.specs.Core.{regOf}
-use Rattle.mmu.specs.Place.{judged}
+use Rattle.mmu.specs.Place.{verdictOf as judged}
 use Rattle.mmu.specs.Bytes.{valueAt}
 use Rattle.mmu.specs.Says.{Said, value, done, fault, faults, undefined, unimplemented, stopSays, loadSays, storeSays, fetchSays, memorySays, accessSays, insnSays, load-says, store-says, fetch-says}
 use Rattle.mmu.specs.Ops.{translateOf, readOf, writeOf, ramAfterWrite, fetchOf, fetchPaOf, dataPaOf, locatedNow, fetchSteppedNow}

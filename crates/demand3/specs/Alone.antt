@@ -5,12 +5,14 @@ use Prim.Native.Nat.{ℕ, zero, suc, _+_, _%_}
 use Rattle.word.specs.Bits.{alignDown, wrap}
 use Rattle.word.specs.Ram.{widthOf}
 use Rattle.word.specs.declared.ram.Sized.{Sized}
+use Rattle.tlb.specs.Asks.{translates, Given, onward-same}
 use Rattle.tlb.specs.declared.access.Kind.the-variants as Kind
 use Rattle.tlb.specs.declared.access.Answer.{Answer}
 use Rattle.tlb.specs.declared.access.Answer.the-variants.{Address, Status}
 use Rattle.tlb.specs.declared.Tlb.{Tlb}
 use Rattle.sysop.specs.declared.op.SysOp.{SysOp}
 use Rattle.sysop.specs.declared.op.SysOp.the-variants as Op
+use Rattle.mmu.specs.Bare.{Bare, bareOf}
 use Rattle.mmu.specs.declared.core.Core.{Core}
 use Rattle.mmu.specs.declared.ends.StoreAnswer.{StoreAnswer}
 use Rattle.mmu.specs.declared.ends.StoreAnswer.the-variants as Store
@@ -20,12 +22,12 @@ use Rattle.cpu.specs.declared.call.Encoding.{Encoding}
 use Rattle.cpu.specs.declared.call.Call.{Call}
 use Rattle.cpu.specs.declared.call.Call.the-variants.{Translate, DataPa, FetchPa, Load, Store, Fetch, System, Register, Level, Mark, General, Abort}
 use Rattle.history.specs.World.{onNow, uncached}
-use Rattle.history.specs.History.{translates, Given, Event, steps, answerOf, onward}
+use Rattle.history.specs.History.{Event, steps, answerOf}
 use Rattle.history.specs.Invisible.{answersRun, plainAnswersRun}
 use Rattle.history.specs.Instance.{Ram, real}
-use Rattle.demand3.specs.Bare.{Bare, plainIn, opIn, operandIn, Verdict, allowed, number, undefined, unimplemented, verdictIn, refusalOf, ifAllowed}
+use Rattle.demand3.specs.Bare.{plainIn, opIn, operandIn, Ruling, allowed, number, undefined, unimplemented, rulingIn, refusalOf, ifAllowed}
 use Rattle.demand3.specs.Events.{idle, accessIn, sizedIn, zeroSteps, sysSteps, stepsIn, eventsIn}
-use Rattle.demand3.specs.Starts.{bareOf, ramWith, ramZeroed, zeroLater, sysLater, laterOf, laterIn}
+use Rattle.demand3.specs.Starts.{ramWith, ramZeroed, zeroLater, sysLater, laterOf, laterIn}
 use Rattle.demand3.specs.Replies.{Outcome, outcome, outcomeOf, storeSays, loadSized, storeSized, sysSays, callSays, answersAlone, zeroOne, onDone, zeroAlone, sysAlone, callAlone, bareReply}
 use Rattle.demand3.specs.Bridge.{bare-then, tlb-then}
 use Rattle.demand3.specs.Answered.{one-page, next-aligned, start-aligned, zeroOutcome, storeEnds, coreThen, tlbThen, firstGiven, first-given, store-said, one-outcome, zero-said, reply-is}
@@ -50,11 +52,8 @@ module _ (c : Core) (m : Ram) (va : ℕ) (b : Bare) (t : Tlb) (eb : bareOf c ≡
   given = record { ask = translates Kind.Write va; answer = uncached real (plainIn b) m Kind.Write va }
 
   first-plain : answersAlone b m (accessIn b va 8 Kind.Write) ≡ given ∷ []
-  first-plain = rw (one-page (onNow real (plainIn b)) va al) (ap {B = List Given} (λ (l : List Given). given ∷ l) (go (given .answer)))
-    where
-      go : (x : Answer) → onward real {A = List Given} x [] [] ≡ []
-      go (Address pa) = refl
-      go (Status fsc) = refl
+  first-plain =
+      rw (one-page (onNow real (plainIn b)) va al) (ap {B = List Given} (λ (l : List Given). given ∷ l) (onward-same (given .answer) []))
 
   -- the first answers are equal, and so are the rest
   module _ (l k : List Given) (e : firstGiven c m va b t eb et ++ l ≡ answersAlone b m (accessIn b va 8 Kind.Write) ++ k) where
@@ -157,9 +156,9 @@ module _ (c : Core) (m : Ram) where
   call-alone (Abort e) h = refl
 
   pub alone-same : (x : Call) → with-cache (eventsIn b m (laterIn c m x) x) ≡ without (eventsIn b m (laterIn c m x) x) → outcomeOf c m x ≡ bareReply b m x
-  alone-same x h = reply-is c m x ∙ go (verdictIn b m x) h
+  alone-same x h = reply-is c m x ∙ go (rulingIn b m x) h
     where
-      go : (v : Verdict)
+      go : (v : Ruling)
           → with-cache (ifAllowed v (stepsIn b m (ifAllowed v (laterOf c m x) []) x) (steps m idle ∷ []))
           ≡ without (ifAllowed v (stepsIn b m (ifAllowed v (laterOf c m x) []) x) (steps m idle ∷ []))
           → ifAllowed v

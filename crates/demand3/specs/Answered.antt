@@ -13,18 +13,21 @@ use Rattle.word.specs.declared.ram.Sized.the-variants as Sized
 use Rattle.sysreg.specs.declared.write.WriteAnswer.{WriteAnswer}
 use Rattle.sysreg.specs.declared.write.WriteAnswer.the-variants as Written
 use Rattle.sysreg.specs.declared.write.Written.{Written}
+use Rattle.tlb.specs.Asks.{translates, Given, onward-same}
 use Rattle.tlb.specs.declared.access.Kind.the-variants as Kind
 use Rattle.tlb.specs.declared.access.Answer.{Answer}
 use Rattle.tlb.specs.declared.access.Answer.the-variants.{Address, Status}
 use Rattle.tlb.specs.declared.Tlb.{Tlb}
 use Rattle.sysop.specs.declared.op.SysOp.{SysOp}
 use Rattle.sysop.specs.declared.op.SysOp.the-variants as Op
+use Rattle.mmu.specs.Bare.{Bare, bareOf}
 use Rattle.mmu.specs.Core.{regOf}
-use Rattle.mmu.specs.Place.{inPage, crosses, judged}
+use Rattle.mmu.specs.Place.{inPage, crosses, verdictOf}
 use Rattle.mmu.specs.Bytes.{loadOf, insnOf}
 use Rattle.mmu.specs.Ends.{loadedFrom, loadEnd, storeEndBy, storeEnd, storeRamEnd, fetchedFrom, fetchEnd}
-use Rattle.mmu.specs.Step.{stepOf as stepMmu, fetchStepOf}
+use Rattle.mmu.specs.Step.{translateIn, translateFetchIn}
 use Rattle.mmu.specs.Ops.{steppedNow, fetchSteppedNow, translateOf, readOf, writeOf, ramAfterWrite, fetchOf, fetchPaOf, dataPaOf}
+use Rattle.mmu.specs.OpLaws.{placed-by}
 use Rattle.mmu.specs.declared.core.Core.{Core}
 use Rattle.mmu.specs.declared.place.Placed.{Placed}
 use Rattle.mmu.specs.declared.place.Placed.the-variants.{At, Fault}
@@ -44,14 +47,13 @@ use Rattle.cpu.specs.declared.call.Call.{Call}
 use Rattle.cpu.specs.declared.call.Call.the-variants.{Translate, DataPa, FetchPa, Load, Store, Fetch, System, Register, Level, Mark, General, Abort}
 use Rattle.cpu.specs.declared.call.Reply.the-variants.{Refused, Done}
 use Rattle.history.specs.World.{onNow}
-use Rattle.history.specs.History.{translates, Given, steps, answerOf, onward, answers, asked}
+use Rattle.history.specs.History.{steps, answerOf, answers, tlbAsks}
 use Rattle.history.specs.Invisible.{answersRun}
 use Rattle.history.specs.Instance.{Ram, real}
-use Rattle.demand3.specs.Bare.{Bare, plainIn, number, missedIn, opIn, operandIn, writtenIn, bySys, byWrite, ruledIn, refusalOf, ifAllowed}
+use Rattle.demand3.specs.Bare.{plainIn, number, missedIn, opIn, operandIn, writtenIn, bySys, byWrite, ruledIn, refusalOf, ifAllowed}
 use Rattle.demand3.specs.Events.{idle, accessIn, sizedIn, zeroSteps, sysSteps, stepsIn, eventsIn}
-use Rattle.demand3.specs.Starts.{bareOf, ramZeroed, zeroLater, sysLater, laterOf, laterIn}
+use Rattle.demand3.specs.Starts.{ramZeroed, zeroLater, sysLater, laterOf, laterIn}
 use Rattle.demand3.specs.Replies.{Outcome, outcome, outcomeOf, loadSays, storeSays, loadSized, storeSized, zeroSays, sysSays, callSays, saysIn}
-use Rattle.demand3.specs.Asks.{access-placed}
 use Rattle.demand3.specs.Bridge.{bare-then, tlb-then}
 
 -- `last_pa` and `abort_pa` reach no answer
@@ -69,7 +71,7 @@ load-end (At place) last abort base ram va n = go (loadOf base ram place n)
 store-end : (x : Placed) (abort base : ℕ) (ram : List ℕ) (va n : ℕ) → storeEnd x abort base ram va n .answer ≡ storeEnd x 0 base ram va n .answer
 unfolding storeEnd
 store-end (Fault addr fsc) abort base ram va n = refl
-store-end (At place) abort base ram va n = go (judged base (length ram) place n)
+store-end (At place) abort base ram va n = go (verdictOf base (length ram) place n)
   where
     go : (d : Verdict) → storeEndBy d abort va .answer ≡ storeEndBy d 0 va .answer
     go Inside = refl
@@ -95,7 +97,7 @@ unfolding readOf
 load-answered c m va n =
     ap (λ a. outcome (loading a) (m .bytes))
     (load-end _ _ _ (m .base) (m .bytes) va n
-    ∙ ap (λ (p : Placed). loadEnd p 0 0 (m .base) (m .bytes) va n .answer) (access-placed c m va n Kind.Read))
+    ∙ ap (λ (p : Placed). loadEnd p 0 0 (m .base) (m .bytes) va n .answer) (placed-by c (m .base) (m .bytes) va n Kind.Read))
 
 pub store-answered : (c : Core) (m : Ram) (va n v : ℕ)
     → outcome (storing (writeOf c (m .base) (m .bytes) va n .answer)) (ramAfterWrite c (m .base) (m .bytes) va n v)
@@ -104,8 +106,8 @@ unfolding writeOf ramAfterWrite
 store-answered c m va n v =
     ap₂ (λ a (l : List ℕ). outcome (storing a) l)
     (store-end _ _ (m .base) (m .bytes) va n
-    ∙ ap (λ (p : Placed). storeEnd p 0 (m .base) (m .bytes) va n .answer) (access-placed c m va n Kind.Write))
-    (ap (λ (p : Placed). storeRamEnd p (m .base) (m .bytes) n v) (access-placed c m va n Kind.Write))
+    ∙ ap (λ (p : Placed). storeEnd p 0 (m .base) (m .bytes) va n .answer) (placed-by c (m .base) (m .bytes) va n Kind.Write))
+    (ap (λ (p : Placed). storeRamEnd p (m .base) (m .bytes) n v) (placed-by c (m .base) (m .bytes) va n Kind.Write))
 
 load-sized : (c : Core) (m : Ram) (va : ℕ) (s : Sized)
     → outcome (loadBy s c (m .base) (m .bytes) va .reply) (m .bytes)
@@ -139,11 +141,13 @@ start-aligned x = omega arith
 
 -- the store at va and n further ones, in a core whose state without a cache is b and whose cache is t
 abbrev pub zeroOutcome : ℕ → Core → Ram → ℕ → Outcome
-zeroOutcome n c m va = outcome (storing (zeroOf (suc n) c (m .base) (m .bytes) va .answer)) (zeroRam (suc n) c (m .base) (m .bytes) va)
+zeroOutcome n c m va =
+    outcome (storing (zeroOf (suc n) c (m .base) (m .bytes) va .answer)) (zeroRam (suc n) c (m .base) (m .bytes) va)
 
 abbrev ZeroSaid : ℕ → Core → Ram → ℕ → Bare → Tlb → Type 0
 ZeroSaid n c m va b t =
-    zeroOutcome n c m va ≡ zeroSays m (zeroLater n c m va) va (answersRun real (plainIn b) (zeroSteps b m (zeroLater n c m va) va) t)
+    zeroOutcome n c m va
+    ≡ zeroSays m (zeroLater n c m va) va (answersRun real (plainIn b) (zeroSteps b m (zeroLater n c m va) va) t)
 
 -- the first of them
 module _ (c : Core) (m : Ram) (va : ℕ) (b : Bare) (t : Tlb) (eb : bareOf c ≡ b) (et : c .tlb ≡ t) where
@@ -154,7 +158,7 @@ module _ (c : Core) (m : Ram) (va : ℕ) (b : Bare) (t : Tlb) (eb : bareOf c ≡
   coreThen = writeOf c (m .base) (m .bytes) va 8 .core
 
   abbrev pub tlbThen : Tlb
-  tlbThen = asked real (plainIn b) m (accessIn b va 8 Kind.Write) t
+  tlbThen = tlbAsks real (plainIn b) m (accessIn b va 8 Kind.Write) t
 
   abbrev pub firstGiven : List Given
   firstGiven = answers real (plainIn b) m (accessIn b va 8 Kind.Write) t
@@ -165,14 +169,10 @@ module _ (c : Core) (m : Ram) (va : ℕ) (b : Bare) (t : Tlb) (eb : bareOf c ≡
   -- it has one translation
   pub first-given : va % 8 ≡ 0
       → firstGiven ≡ record { ask = translates Kind.Write va; answer = answerOf real (plainIn b) m (translates Kind.Write va) t } ∷ []
-  first-given e = rw (one-page (onNow real (plainIn b)) va e) (ap {B = List Given} (λ (l : List Given). g ∷ l) (go (g .answer)))
+  first-given e = rw (one-page (onNow real (plainIn b)) va e) (ap {B = List Given} (λ (l : List Given). g ∷ l) (onward-same (g .answer) []))
     where
       g : Given
       g = record { ask = translates Kind.Write va; answer = answerOf real (plainIn b) m (translates Kind.Write va) t }
-
-      go : (x : Answer) → onward real {A = List Given} x [] [] ≡ []
-      go (Address pa) = refl
-      go (Status fsc) = refl
 
   pub store-said : outcome (storing storeEnds) (ramZeroed c m va .bytes) ≡ storeSays m va 8 0 firstGiven
   store-said =
@@ -219,7 +219,7 @@ zero-said zero c m va b t eb et al = one-outcome c m va b t eb et ∙ last-said 
 zero-said (suc n) c m va b t eb et al =
     more-said c m va b t eb et n al
     (zero-said n (writeOf c (m .base) (m .bytes) va 8 .core) (ramZeroed c m va) (wrap (va + 8)) b
-    (asked real (plainIn b) m (accessIn b va 8 Kind.Write) t)
+    (tlbAsks real (plainIn b) m (accessIn b va 8 Kind.Write) t)
     (bare-then c m va b t eb et) (tlb-then c m va b t eb et)
     (next-aligned va al))
 
@@ -255,7 +255,7 @@ run-said : (c : Core) (m : Ram) (x : Call)
     (answersRun real (plainIn (bareOf c))
     (ifAllowed (ruledIn (bareOf c) x) (stepsIn (bareOf c) m (ifAllowed (ruledIn (bareOf c) x) (laterOf c m x) []) x) (steps m idle ∷ [])) (c .tlb)))
     (outcome (refusalOf (ruledIn (bareOf c) x)) (m .bytes))
-unfolding runOf ramOf sysOf sysRam regOf writeRegister translateOf steppedNow fetchSteppedNow dataPaOf fetchPaOf fetchOf stepMmu fetchStepOf
+unfolding runOf ramOf sysOf sysRam regOf writeRegister translateOf steppedNow fetchSteppedNow dataPaOf fetchPaOf fetchOf translateIn translateFetchIn
 run-said c m (Translate kind va) = refl
 run-said c m (DataPa va) = refl
 run-said c m (FetchPa va) = refl

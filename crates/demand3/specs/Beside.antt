@@ -8,6 +8,7 @@ use Rattle.sysreg.specs.declared.write.Written.{Written}
 use Rattle.sysop.specs.declared.op.AtForm.{AtForm}
 use Rattle.sysop.specs.declared.op.SysOp.{SysOp}
 use Rattle.sysop.specs.declared.op.SysOp.the-variants as Op
+use Rattle.mmu.specs.Bare.{Bare, freshBare, withPar, bareOf}
 use Rattle.mmu.specs.Core.{freshCore, regOf}
 use Rattle.mmu.specs.declared.core.Core.{Core}
 use Rattle.exec.specs.Ops.{registered, writeRegister}
@@ -21,8 +22,7 @@ use Rattle.cpu.specs.declared.call.Stepped.{Stepped}
 use Rattle.history.specs.Calls.{Lent, run, bareRun}
 use Rattle.history.specs.EveryCall.{run-bare as runs-agree}
 use Rattle.history.specs.Instance.{Ram, real}
-use Rattle.demand3.specs.Bare.{Bare, freshBare, Verdict, allowed, number, undefined, unimplemented, missedIn, opIn, operandIn, writtenIn, bySys, byWrite, ruledIn, verdictIn, refusalOf, ifAllowed, withPar, parAt, bareDoes, bareStep}
-use Rattle.demand3.specs.Starts.{bareOf}
+use Rattle.demand3.specs.Bare.{Ruling, allowed, number, undefined, unimplemented, missedIn, opIn, operandIn, writtenIn, bySys, byWrite, ruledIn, rulingIn, refusalOf, ifAllowed, parAt, bareDoes, bareStep}
 use Rattle.demand3.specs.Machine.{machine}
 use Rattle.demand3.specs.Bridge.{bridge, fits}
 
@@ -36,7 +36,7 @@ abbrev pub bareAfter : List (Lent real machine) → Bare
 bareAfter list = bareRun real machine freshBare list
 
 pub fresh-bare : bareOf freshCore ≡ freshBare
-unfolding freshCore freshBare
+unfolding freshCore
 fresh-bare = refl
 
 -- After every list they agree on level, mark, registers and general registers, and on flags and PC.
@@ -68,16 +68,16 @@ at-after list m e form =
 -- REFUSED CALLS
 
 -- a refused call leaves the core without a cache as it is
-pub refused-bare : (b : Bare) (m : Ram) (x : Call) → (verdictIn b m x ≡ allowed → ⊥) → bareStep b m x ≡ b
-refused-bare b m x refuses = go (verdictIn b m x) refuses
+pub refused-bare : (b : Bare) (m : Ram) (x : Call) → (rulingIn b m x ≡ allowed → ⊥) → bareStep b m x ≡ b
+refused-bare b m x refuses = go (rulingIn b m x) refuses
   where
-    go : (v : Verdict) → (v ≡ allowed → ⊥) → ifAllowed v (bareDoes b m x) b ≡ b
+    go : (v : Ruling) → (v ≡ allowed → ⊥) → ifAllowed v (bareDoes b m x) b ≡ b
     go allowed n = absurd (n refl)
     go (number k) n = refl
     go undefined n = refl
     go unimplemented n = refl
 
-abbrev Unchanged : Core → Ram → Verdict → Stepped → List ℕ → Type 0
+abbrev Unchanged : Core → Ram → Ruling → Stepped → List ℕ → Type 0
 Unchanged c m v s bytes = (s ≡ ends c (refusalOf v)) × (bytes ≡ m .bytes)
 
 sys-refused : (o : SysOp) (c : Core) (m : Ram) (op1 crm op2 x : ℕ) → (bySys o ≡ allowed → ⊥)
@@ -111,9 +111,10 @@ run-refused c m (Mark mark) refuses = absurd (refuses refl)
 run-refused c m (General n value) refuses = absurd (refuses refl)
 run-refused c m (Abort e) refuses = absurd (refuses refl)
 
--- A refused call leaves core, cache, counters and RAM as they are, and its reply is that refusal, by the state without a cache.
-pub refused-core : (c : Core) (m : Ram) (x : Call) → (verdictIn (bareOf c) m x ≡ allowed → ⊥)
-    → (stepOf c (m .base) (m .bytes) x ≡ ends c (refusalOf (verdictIn (bareOf c) m x))) × (ramAfter c (m .base) (m .bytes) x ≡ m .bytes)
+-- A refused call leaves core, cache, counters and RAM as they are, and its reply is that refusal, by the state without
+-- a cache.
+pub refused-core : (c : Core) (m : Ram) (x : Call) → (rulingIn (bareOf c) m x ≡ allowed → ⊥)
+    → (stepOf c (m .base) (m .bytes) x ≡ ends c (refusalOf (rulingIn (bareOf c) m x))) × (ramAfter c (m .base) (m .bytes) x ≡ m .bytes)
 unfolding stepOf ramAfter
 refused-core c m x refuses = go (missedIn (bareOf c) m x) refuses
   where
@@ -125,13 +126,13 @@ refused-core c m x refuses = go (missedIn (bareOf c) m x) refuses
     go (suc k) n = (refl, refl)
 
 -- after every list it is the refusal of the core without a cache
-pub refused-after : (list : List (Lent real machine)) (m : Ram) (x : Call) → (verdictIn (bareAfter list) m x ≡ allowed → ⊥)
-    → (stepOf (coreAfter list) (m .base) (m .bytes) x ≡ ends (coreAfter list) (refusalOf (verdictIn (bareAfter list) m x)))
+pub refused-after : (list : List (Lent real machine)) (m : Ram) (x : Call) → (rulingIn (bareAfter list) m x ≡ allowed → ⊥)
+    → (stepOf (coreAfter list) (m .base) (m .bytes) x ≡ ends (coreAfter list) (refusalOf (rulingIn (bareAfter list) m x)))
     × (ramAfter (coreAfter list) (m .base) (m .bytes) x ≡ m .bytes)
 refused-after list m x =
     subst
     (λ (b : Bare).
-    (verdictIn b m x ≡ allowed → ⊥)
-    → (stepOf (coreAfter list) (m .base) (m .bytes) x ≡ ends (coreAfter list) (refusalOf (verdictIn b m x)))
+    (rulingIn b m x ≡ allowed → ⊥)
+    → (stepOf (coreAfter list) (m .base) (m .bytes) x ≡ ends (coreAfter list) (refusalOf (rulingIn b m x)))
     × (ramAfter (coreAfter list) (m .base) (m .bytes) x ≡ m .bytes))
     (two-cores list) (refused-core (coreAfter list) m x)

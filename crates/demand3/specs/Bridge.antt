@@ -5,24 +5,23 @@ use mathlib.Core.List.{List, [], _∷_}
 use Prim.Native.Nat.{ℕ, zero, suc, _+_, _%_, _≤_, _<_}
 use native.Mathlib.Nat.{mod-eq-of-lt}
 use native.Mathlib.Omega.{arith}
-use lib.Dec.{eqb, leb, ltb}
+use lib.Dec.{leb, ltb}
 use lib.ListN.{length}
-use borrow.Author.Tests.{eqb-true, eqb-false, eq-eqb, ne-eqb, leb-false, ltb-false}
+use borrow.Author.Tests.{leb-false, ltb-false}
 use Rattle.word.specs.Bits.{alignDown, pick, wrap}
 use Rattle.word.specs.Ram.{widthOf, bytesIn}
 use Rattle.word.specs.declared.ram.Sized.{Sized}
 use Rattle.word.specs.declared.ram.Sized.the-variants as Sized
-use Rattle.sysreg.specs.Shape.{sameShape, asidOf}
-use Rattle.sysreg.specs.declared.regs.Control.{Control}
 use Rattle.sysreg.specs.declared.write.WriteAnswer.{WriteAnswer}
 use Rattle.sysreg.specs.declared.write.WriteAnswer.the-variants as Written
 use Rattle.sysreg.specs.declared.write.Written.{Written}
-use Rattle.tlb.specs.Tlb.{flushOf, retagOf}
+use Rattle.tlb.specs.Asks.{Ask}
 use Rattle.tlb.specs.declared.access.Kind.{Kind}
 use Rattle.tlb.specs.declared.access.Kind.the-variants as Kind
 use Rattle.tlb.specs.declared.Tlb.{Tlb}
 use Rattle.sysop.specs.declared.op.SysOp.{SysOp}
 use Rattle.sysop.specs.declared.op.SysOp.the-variants as Op
+use Rattle.mmu.specs.Bare.{Bare, withWho, bareOf, withRegs}
 use Rattle.mmu.specs.Core.{regOf, setReg, movedTo}
 use Rattle.mmu.specs.Ops.{writeOf}
 use Rattle.mmu.specs.OpLaws as Laws
@@ -30,8 +29,8 @@ use Rattle.mmu.specs.declared.core.Core.{Core}
 use Rattle.mmu.specs.declared.ends.StoreAnswer.{StoreAnswer}
 use Rattle.mmu.specs.declared.ends.StoreAnswer.the-variants.{Done, Stopped}
 use Rattle.mmu.specs.declared.ops.Stored.{Stored}
-use Rattle.exec.specs.Fit.{reshapedOf, retaggedOf, refitOf}
-use Rattle.exec.specs.Ops.{withRegs, appliedOf, registered, writeRegister, withWho as coreWho, setLevel, setMark, abortOf}
+use Rattle.exec.specs.Fit.{refitOf}
+use Rattle.exec.specs.Ops.{withRegs as coreRegs, appliedOf, registered, writeRegister, withWho as coreWho, setLevel, setMark, abortOf}
 use Rattle.exec.specs.Sys.{withPar as corePar, atOf, invalidatedOf, tlbiCore, onStored, doneWith, zeroOf, sysBy, sysOf}
 use Rattle.cpu.specs.Check.{missedOf}
 use Rattle.cpu.specs.Demand1.{all-passed}
@@ -41,13 +40,12 @@ use Rattle.cpu.specs.declared.call.Call.{Call}
 use Rattle.cpu.specs.declared.call.Call.the-variants.{Translate, DataPa, FetchPa, Load, Store, Fetch, System, Register, Level, Mark, General, Abort}
 use Rattle.cpu.specs.declared.call.Reply.the-variants.{Refused}
 use Rattle.history.specs.World.{Plain}
-use Rattle.history.specs.History.{Ask, writes, Event, steps, plainRun, asked, reshaped, refit, tlbRun}
+use Rattle.history.specs.History.{writes, Event, steps, plainRun, tlbAsks, tlbRun}
 use Rattle.history.specs.Calls.{Bridge}
 use Rattle.history.specs.Instance.{Ram, real}
-use Rattle.demand3.specs.Bare.{Bare, plainIn, missedIn, opIn, operandIn, writtenIn, number, bySys, byWrite, ruledIn, ifAllowed, withWho, withWritten, sysDoes, bareDoes, bareStep}
-use Rattle.demand3.specs.Events.{does, asking, idle, accessIn, sizedIn, turning, setting, zeroSteps, sysSteps, stepsIn, eventsIn}
-use Rattle.demand3.specs.Starts.{bareOf, ramZeroed, zeroLater, sysLater, laterOf, laterIn}
-use Rattle.demand3.specs.Asks.{allNamed, access-same, kept-bare, operation-tlb}
+use Rattle.demand3.specs.Bare.{plainIn, missedIn, opIn, operandIn, writtenIn, number, bySys, byWrite, ruledIn, ifAllowed, sysDoes, bareDoes, bareStep}
+use Rattle.demand3.specs.Events.{does, asking, idle, accessIn, sizedIn, setBy, setting, zeroSteps, sysSteps, stepsIn, eventsIn}
+use Rattle.demand3.specs.Starts.{ramZeroed, zeroLater, sysLater, laterOf, laterIn}
 use Rattle.demand3.specs.Machine.{machine}
 
 -- The core d that a call made of c, the state b without a cache after it, and the call's events.
@@ -61,23 +59,19 @@ fits-idle c m = record { bare = refl; plain = refl; tlb = refl }
 
 -- TRANSLATIONS
 
-operation-fits : (c : Core) (m : Ram) (o : Laws.Operation) (l : List Ask) → allNamed (Laws.asksOf (Laws.onNow c) o) ≡ l
-    → Fits c (Laws.coreAfter c (m .base) (m .bytes) o) (bareOf c) (steps m (asking l) ∷ [])
-operation-fits c m o l e =
-    record {
-      bare = kept-bare c _ (Laws.kept c (m .base) (m .bytes) o);
-      plain = refl;
-      tlb = operation-tlb c m o ∙ ap (λ (k : List Ask). asked real (plainIn (bareOf c)) m k (c .tlb)) e;
-    }
+operation-fits : (c : Core) (m : Ram) (o : Laws.Operation)
+    → Fits c (Laws.operationCore c (m .base) (m .bytes) o) (bareOf c) (steps m (asking (Laws.asksOf (Laws.onNow c) o)) ∷ [])
+operation-fits c m o =
+    record { bare = Laws.kept c (m .base) (m .bytes) o; plain = refl; tlb = Laws.tlb-after c (m .base) (m .bytes) o }
 
 load-fits : (c : Core) (m : Ram) (va : ℕ) (s : Sized)
     → Fits c (loadBy s c (m .base) (m .bytes) va .core) (bareOf c) (steps m (asking (sizedIn (bareOf c) va s Kind.Read)) ∷ [])
-load-fits c m va (Sized.Bytes w) = operation-fits c m (Laws.load va (bytesIn w)) _ (access-same c va (bytesIn w) Kind.Read)
+load-fits c m va (Sized.Bytes w) = operation-fits c m (Laws.load va (bytesIn w))
 load-fits c m va Sized.Refused = fits-idle c m
 
 store-fits : (c : Core) (m : Ram) (va : ℕ) (s : Sized)
     → Fits c (storeBy s c (m .base) (m .bytes) va .core) (bareOf c) (steps m (asking (sizedIn (bareOf c) va s Kind.Write)) ∷ [])
-store-fits c m va (Sized.Bytes w) = operation-fits c m (Laws.store va (bytesIn w) 0) _ (access-same c va (bytesIn w) Kind.Write)
+store-fits c m va (Sized.Bytes w) = operation-fits c m (Laws.store va (bytesIn w) 0)
 store-fits c m va Sized.Refused = fits-idle c m
 
 -- ZEROING
@@ -90,17 +84,16 @@ zero-plain b p m (n ∷ l) va = zero-plain b p n l (wrap (va + 8))
 abbrev ZeroRuns : ℕ → Core → Ram → ℕ → Bare → Tlb → Type 0
 ZeroRuns n c m va b t =
     (bareOf (zeroOf (suc n) c (m .base) (m .bytes) va .core) ≡ b)
-    × (zeroOf (suc n) c (m .base) (m .bytes) va .core .tlb ≡ tlbRun real (plainIn b) (zeroSteps b m (zeroLater n c m va) va) t)
+    × (zeroOf (suc n) c (m .base) (m .bytes) va .core .tlb
+    ≡ tlbRun real (plainIn b) (zeroSteps b m (zeroLater n c m va) va) t)
 
 -- a store leaves the state without a cache, and of the cache what its translations leave
 pub stored-bare : (c : Core) (m : Ram) (va : ℕ) → bareOf (writeOf c (m .base) (m .bytes) va 8 .core) ≡ bareOf c
-stored-bare c m va = kept-bare c _ (Laws.kept c (m .base) (m .bytes) (Laws.store va 8 0))
+stored-bare c m va = Laws.kept c (m .base) (m .bytes) (Laws.store va 8 0)
 
 pub stored-tlb : (c : Core) (m : Ram) (va : ℕ)
-    → writeOf c (m .base) (m .bytes) va 8 .core .tlb ≡ asked real (plainIn (bareOf c)) m (accessIn (bareOf c) va 8 Kind.Write) (c .tlb)
-stored-tlb c m va =
-    operation-tlb c m (Laws.store va 8 0)
-    ∙ ap (λ (k : List Ask). asked real (plainIn (bareOf c)) m k (c .tlb)) (access-same c va 8 Kind.Write)
+    → writeOf c (m .base) (m .bytes) va 8 .core .tlb ≡ tlbAsks real (plainIn (bareOf c)) m (accessIn (bareOf c) va 8 Kind.Write) (c .tlb)
+stored-tlb c m va = Laws.tlb-after c (m .base) (m .bytes) (Laws.store va 8 0)
 
 -- after the first of them
 module _ (c : Core) (m : Ram) (va : ℕ) (b : Bare) (t : Tlb) (eb : bareOf c ≡ b) (et : c .tlb ≡ t) where
@@ -108,7 +101,7 @@ module _ (c : Core) (m : Ram) (va : ℕ) (b : Bare) (t : Tlb) (eb : bareOf c ≡
   stored = writeOf c (m .base) (m .bytes) va 8
 
   abbrev tlbThen : Tlb
-  tlbThen = asked real (plainIn b) m (accessIn b va 8 Kind.Write) t
+  tlbThen = tlbAsks real (plainIn b) m (accessIn b va 8 Kind.Write) t
 
   pub bare-then : bareOf (stored .core) ≡ b
   bare-then = stored-bare c m va ∙ eb
@@ -116,8 +109,8 @@ module _ (c : Core) (m : Ram) (va : ℕ) (b : Bare) (t : Tlb) (eb : bareOf c ≡
   pub tlb-then : stored .core .tlb ≡ tlbThen
   tlb-then =
       stored-tlb c m va
-      ∙ ap (λ (d : Bare). asked real (plainIn d) m (accessIn d va 8 Kind.Write) (c .tlb)) eb
-      ∙ ap (asked real (plainIn b) m (accessIn b va 8 Kind.Write)) et
+      ∙ ap (λ (d : Bare). tlbAsks real (plainIn d) m (accessIn d va 8 Kind.Write) (c .tlb)) eb
+      ∙ ap (tlbAsks real (plainIn b) m (accessIn b va 8 Kind.Write)) et
 
   zero-last : ZeroRuns zero c m va b t
   unfolding zeroOf
@@ -148,7 +141,7 @@ zero-runs zero c m va b t eb et = zero-last c m va b t eb et
 zero-runs (suc n) c m va b t eb et =
     zero-next c m va b t eb et n
     (zero-runs n (writeOf c (m .base) (m .bytes) va 8 .core) (ramZeroed c m va) (wrap (va + 8)) b
-    (asked real (plainIn b) m (accessIn b va 8 Kind.Write) t) (bare-then c m va b t eb et) (tlb-then c m va b t eb et))
+    (tlbAsks real (plainIn b) m (accessIn b va 8 Kind.Write) t) (bare-then c m va b t eb et) (tlb-then c m va b t eb et))
 
 zero-fits : (c : Core) (m : Ram) (va : ℕ)
     → Fits c (zeroOf 8 c (m .base) (m .bytes) va .core) (bareOf c) (zeroSteps (bareOf c) m (zeroLater 7 c m va) va)
@@ -175,25 +168,12 @@ sys-fits Op.Unimplemented c m e = fits-idle c m
 
 -- REGISTER WRITES
 
-eqb-swap : (a b : ℕ) → eqb a b ≡ eqb b a
-eqb-swap a b = go (eqb a b) refl
-  where
-    go : (x : Bool) → eqb a b ≡ x → x ≡ eqb b a
-    go true e = sym (eq-eqb b a (sym (eqb-true a b e)))
-    go false e = sym (ne-eqb b a (λ q. eqb-false a b e (sym q)))
-
-refit-same : (t : Tlb) (R S : Control) → refitOf t R S ≡ refit real R S t
-unfolding refitOf retaggedOf reshapedOf refit reshaped
-refit-same t R S =
-    ap (λ (b : Bool). pick b (pick (sameShape R S) t (flushOf t)) (retagOf (pick (sameShape R S) t (flushOf t)) (asidOf S)))
-    (eqb-swap (pick (sameShape R S) t (flushOf t) .cache .present .asid) (asidOf S))
-
 write-fits : (c : Core) (m : Ram) (w : Written) (a : WriteAnswer)
-    → Fits c (registered c w a .core) (ifAllowed (byWrite a) (withWritten (bareOf c) w) (bareOf c))
+    → Fits c (registered c w a .core) (ifAllowed (byWrite a) (withRegs (bareOf c) (w .control) (w .sys)) (bareOf c))
     (ifAllowed (byWrite a) (steps m (does (writes (w .control))) ∷ []) (steps m idle ∷ []))
-unfolding appliedOf withRegs movedTo
+unfolding appliedOf coreRegs movedTo refitOf
 write-fits c m w Written.Done =
-    record { bare = refl; plain = refl; tlb = refit-same (c .tlb) (c .control) (w .control) }
+    record { bare = refl; plain = refl; tlb = refl }
 write-fits c m w Written.Undefined = fits-idle c m
 write-fits c m w Written.NoRegister = fits-idle c m
 
@@ -204,7 +184,7 @@ setting-fits : (c : Core) (m : Ram) (level : ℕ) (mark : Bool) → level ≤ 3
 setting-fits c m level mark low = go (leb level 3) refl
   where
     go : (b : Bool) (e : leb level 3 ≡ b)
-        → Fits c (coreWho c level mark) (withWho (bareOf c) level mark) (steps m (does (turning (record { level = level; mark = mark }) b e)) ∷ [])
+        → Fits c (coreWho c level mark) (withWho (bareOf c) level mark) (steps m (does (setBy (record { level = level; mark = mark }) b e)) ∷ [])
     go true e = record { bare = refl; plain = refl; tlb = refl }
     go false e = let h : 3 < level = leb-false level 3 e in absurd (omega arith)
 
@@ -235,12 +215,12 @@ run-fits : (c : Core) (m : Ram) (x : Call) → missedIn (bareOf c) m x ≡ 0
     (stepsIn (bareOf c) m (ifAllowed (ruledIn (bareOf c) x) (laterOf c m x) []) x)
     (steps m idle ∷ []))
 unfolding runOf sysOf regOf writeRegister setMark setReg abortOf
-run-fits c m (Translate kind va) p = operation-fits c m (Laws.translate va kind) _ refl
-run-fits c m (DataPa va) p = operation-fits c m (Laws.dataPa va) _ refl
-run-fits c m (FetchPa va) p = operation-fits c m (Laws.fetchPa va) _ refl
+run-fits c m (Translate kind va) p = operation-fits c m (Laws.translate va kind)
+run-fits c m (DataPa va) p = operation-fits c m (Laws.dataPa va)
+run-fits c m (FetchPa va) p = operation-fits c m (Laws.fetchPa va)
 run-fits c m (Load va size) p = load-fits c m va (widthOf size)
 run-fits c m (Store va size value) p = store-fits c m va (widthOf size)
-run-fits c m (Fetch va) p = operation-fits c m (Laws.fetch va) _ refl
+run-fits c m (Fetch va) p = operation-fits c m (Laws.fetch va)
 run-fits c m (System e) p = sys-fits (opIn (bareOf c) e) c m e
 run-fits c m (Register key value) p = write-fits c m (writtenIn (bareOf c) key value) (writtenIn (bareOf c) key value .answer)
 run-fits c m (Level level) p = level-fits c m level (level-low (c .who .level) (m .base) (length (m .bytes)) level p)

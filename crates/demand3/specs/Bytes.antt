@@ -1,6 +1,7 @@
--- Of every core that calls reach: each byte of a load or a store is the byte at the translation of its own address, and DC ZVA leaves 64 zero bytes at the
--- translation of the aligned address and every other byte as it was. The laws are mmu's and exec's, of cores that are well-formed; `readOf`, `writeOf`,
--- `ramAfterWrite`, `sysOf` and `sysRam` are what `stepOf` and `ramAfter` make of a call that misses no check.
+-- Of every core that calls reach: each byte of a load or a store is the byte at the translation of its own address, and
+-- DC ZVA leaves 64 zero bytes at the translation of the aligned address and every other byte as it was. The laws are
+-- mmu's and exec's, of cores that are well-formed; `readOf`, `writeOf`, `ramAfterWrite`, `sysOf` and `sysRam` are what
+-- `stepOf` and `ramAfter` make of a call that misses no check.
 use mathlib.Core.Path.{_≡_, refl, sym, ap, _∙_}
 use mathlib.Core.Bool.{false}
 use mathlib.Core.List.{List, [], _∷_, _++_}
@@ -8,12 +9,14 @@ use Prim.Native.Nat.{ℕ, _+_, _/_, _%_, _^_, _≤_, _<_}
 use borrow.Author.Tests.{le-ltb}
 use lib.ListN.{length, getD}
 use Rattle.word.specs.Bits.{alignDown, wrap}
+use Rattle.tlb.specs.Asks.{translates}
 use Rattle.tlb.specs.declared.access.Kind.{Kind}
 use Rattle.tlb.specs.declared.access.Kind.the-variants.{Read, Write}
 use Rattle.tlb.specs.declared.access.Answer.the-variants.{Address}
+use Rattle.mmu.specs.Bare.{Bare, freshBare, bareOf}
 use Rattle.mmu.specs.Core.{freshCore, regOf}
 use Rattle.mmu.specs.Bytes.{byteIn}
-use Rattle.mmu.specs.Step.{stepOf as stepMmu}
+use Rattle.mmu.specs.Step.{translateIn}
 use Rattle.mmu.specs.Ops.{steppedNow, translateOf, readOf, writeOf, ramAfterWrite}
 use Rattle.mmu.specs.OpLaws.{onNow}
 use Rattle.mmu.specs.OwnAddress.{ownAnswer, Ready}
@@ -28,13 +31,11 @@ use Rattle.cpu.specs.Step.{runOf, stepOf}
 use Rattle.cpu.specs.declared.call.Call.the-variants.{Translate}
 use Rattle.history.specs.World.{uncached}
 use Rattle.history.specs.World as World
-use Rattle.history.specs.History.{translates}
 use Rattle.history.specs.Corollaries.{off-settled}
 use Rattle.history.specs.Calls.{Fed, lentOf, Shown, showing}
 use Rattle.history.specs.EveryReply.{run-one, bare-one, shown-one}
 use Rattle.history.specs.Instance.{Ram, memoryOf, real, real-laws}
-use Rattle.demand3.specs.Bare.{Bare, freshBare, plainIn, missedIn, Verdict, allowed, number, undefined, unimplemented, verdictIn, ifAllowed, bareStep}
-use Rattle.demand3.specs.Starts.{bareOf}
+use Rattle.demand3.specs.Bare.{plainIn, missedIn, Ruling, allowed, number, undefined, unimplemented, rulingIn, ifAllowed, bareStep}
 use Rattle.demand3.specs.Machine.{machine}
 use Rattle.demand3.specs.Beside.{two-cores}
 use Rattle.demand3.specs.Direct.{coreNow, bareNow, past, SettledAt, begins, one-ask}
@@ -50,7 +51,7 @@ module _ (list : List (Fed real machine)) (seen : Shown real machine freshCore l
 
   pub flat-after : World.onNow real (plainIn (bareNow list seen m)) ≡ false → (kind : Kind) (va : ℕ)
       → translateOf (coreNow list seen m) (memoryOf m) va kind .answer ≡ Address va
-  unfolding translateOf steppedNow stepMmu uncached
+  unfolding translateOf steppedNow translateIn uncached
   flat-after off kind va = one-ask list seen m (translates kind va) (off-here off va) ∙ rw off
 
   -- a translation after the list is a call that misses no check
@@ -66,9 +67,9 @@ module _ (list : List (Fed real machine)) (seen : Shown real machine freshCore l
 
 -- a translation leaves the state without a cache
 unmoved : (b : Bare) (m : Ram) (kind : Kind) (va : ℕ) → bareStep b m (Translate kind va) ≡ b
-unmoved b m kind va = go (verdictIn b m (Translate kind va))
+unmoved b m kind va = go (rulingIn b m (Translate kind va))
   where
-    go : (v : Verdict) → ifAllowed v b b ≡ b
+    go : (v : Ruling) → ifAllowed v b b ≡ b
     go allowed = refl
     go (number n) = refl
     go undefined = refl
@@ -115,7 +116,8 @@ pub load-byte-after : (list : List (Fed real machine)) (seen : Shown real machin
 load-byte-after list seen m va n v i small few room bytes e h =
     load-byte (coreNow list seen m) (m .base) (m .bytes) va n v i (ready-after list seen m va n Read small few room) bytes e h
 
--- after a store that is done, the byte of RAM at the translation of byte i's own address is byte i of the value; of two bytes at one place the later
+-- after a store that is done, the byte of RAM at the translation of byte i's own address is byte i of the value; of two
+-- bytes at one place the later
 pub store-byte-after : (list : List (Fed real machine)) (seen : Shown real machine freshCore list) (m : Ram) (va n v i : ℕ)
     → va < 2 ^ 64 → n ≤ 8 → m .base + length (m .bytes) ≤ 2 ^ 64
     → writeOf (coreNow list seen m) (m .base) (m .bytes) va n .answer ≡ Store.Done → i < n

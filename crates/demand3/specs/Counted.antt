@@ -1,5 +1,5 @@
--- What the plain model says of the core's own counters and of what is pending, call by call, after every list of calls from the fresh core: as
--- document 01's checklist asks it.
+-- What the plain model says of the core's own counters and of what is pending, call by call, after every list of calls
+-- from the fresh core: as document 01's checklist asks it.
 use mathlib.Core.Path.{_≡_, refl, sym, ap, _∙_}
 use mathlib.Core.Bool.{Bool, true, false}
 use mathlib.Core.List.{List, [], _∷_}
@@ -12,24 +12,24 @@ use Rattle.sysreg.specs.declared.write.WriteAnswer.the-variants as Written
 use Rattle.tlb.specs.Model.{Slot, Counters, Model, oneFlush, oneEpoch, invalCounted, invalidate, retag, joined, broadcast}
 use Rattle.tlb.specs.Counting.{How, countedBy, howTranslated, howFetched, translate-counts, fetch-counts}
 use Rattle.tlb.specs.Live.{countersOf, pendingOf, live}
+use Rattle.tlb.specs.Asks.{Ask, translates, fetches, onward-same}
 use Rattle.tlb.specs.declared.access.Kind.{Kind}
 use Rattle.tlb.specs.declared.access.Kind.the-variants as Kind
-use Rattle.tlb.specs.declared.access.Answer.{Answer}
-use Rattle.tlb.specs.declared.access.Answer.the-variants.{Address, Status}
 use Rattle.tlb.specs.declared.count.Counts.{Counts}
 use Rattle.tlb.specs.declared.Inval.{Inval}
 use Rattle.tlb.specs.declared.Inval.the-variants.{All, Page, Asid}
 use Rattle.tlb.specs.declared.Tlb.{Tlb}
 use Rattle.sysop.specs.declared.op.SysOp.the-variants as Op
+use Rattle.mmu.specs.Bare.{Bare}
 use Rattle.cpu.specs.declared.call.Encoding.{Encoding}
 use Rattle.cpu.specs.declared.call.Call.{Call}
 use Rattle.cpu.specs.declared.call.Call.the-variants.{Translate, DataPa, FetchPa, Fetch, System, Register}
 use Rattle.history.specs.World.{accessOf}
-use Rattle.history.specs.History.{Ask, translates, fetches, carries, writes, Event, steps, onward}
-use Rattle.history.specs.ModelRun.{modelTurn, modelAsked, modelAfter, modelFlushed, modelRetagged, modelRun}
+use Rattle.history.specs.History.{carries, writes, Event, steps}
+use Rattle.history.specs.ModelRun.{modelAsk, modelAsks, modelAfter, modelFlushed, modelRetagged, modelRun}
 use Rattle.history.specs.Calls.{Lent}
 use Rattle.history.specs.Instance.{Ram, real}
-use Rattle.demand3.specs.Bare.{Bare, plainIn, missedIn, opIn, writtenIn}
+use Rattle.demand3.specs.Bare.{plainIn, missedIn, opIn, writtenIn}
 use Rattle.demand3.specs.Events.{does, asking, invalIn, sharedIn, tlbi-event}
 use Rattle.demand3.specs.Starts.{laterIn}
 use Rattle.demand3.specs.Machine.{machine}
@@ -40,18 +40,6 @@ use Rattle.demand3.specs.ModelCalls.{modelAfterList, tlbAfterCall, every
 -- the model's counters as the core's
 abbrev countsOf : Counters → Counts
 countsOf k = record { hits = k .hits; walks = k .walks; flushes = k .flushes; drops = k .drops; epoch = k .epoch }
-
--- a step of one translation
-asked-one : (b : Bare) (m : Ram) (a : Ask) (u : Model)
-    → modelAsked real (plainIn b) m (a ∷ []) u ≡ modelTurn real (plainIn b) m a u .after
-asked-one b m a u = go (modelTurn real (plainIn b) m a u .answer)
-  where
-    v : Model
-    v = modelTurn real (plainIn b) m a u .after
-
-    go : (x : Answer) → onward real x v v ≡ v
-    go (Address pa) = refl
-    go (Status code) = refl
 
 module _ (list : List (Lent real machine)) (m : Ram) where
   abbrev now : Tlb
@@ -79,19 +67,19 @@ module _ (list : List (Lent real machine)) (m : Ram) where
   howAnswered (translates kind va) = howTranslated (accessOf real (plainIn (bareAfter list)) m kind va) model
   howAnswered (fetches va) = howFetched (accessOf real (plainIn (bareAfter list)) m Kind.Fetch va) model
 
-  turn-counts : (a : Ask) → modelTurn real (plainIn (bareAfter list)) m a model .after .counts ≡ countedBy (howAnswered a) (model .counts)
+  turn-counts : (a : Ask) → modelAsk real (plainIn (bareAfter list)) m a model .after .counts ≡ countedBy (howAnswered a) (model .counts)
   turn-counts (translates kind va) = translate-counts (accessOf real (plainIn (bareAfter list)) m kind va) model
   turn-counts (fetches va) = fetch-counts (accessOf real (plainIn (bareAfter list)) m Kind.Fetch va) model
 
   one-counted : (x : Call) (a : Ask) → eventsAfter list m x ≡ steps m (asking (a ∷ [])) ∷ []
       → countersOf (tlbAfterCall list m x .counts) ≡ countedBy (howAnswered a) (countersOf (now .counts))
   one-counted x a e =
-      ap (λ (u : Model). u .counts) (one-step x (steps m (asking (a ∷ [])) ∷ []) e ∙ asked-one (bareAfter list) m a model)
+      ap (λ (u : Model). u .counts) (one-step x (steps m (asking (a ∷ [])) ∷ []) e ∙ onward-same (modelAsk real (plainIn (bareAfter list)) m a model .answer) _)
       ∙ turn-counts a
       ∙ ap (countedBy (howAnswered a)) model-counts
 
-  -- One that a line of the model answers counts one in `hits`, one that is walked one in `walks`, whether it faults or not; a hint, and the
-  -- address itself with stage 1 off, count nothing.
+  -- One that a line of the model answers counts one in `hits`, one that is walked one in `walks`, whether it faults or
+  -- not; a hint, and the address itself with stage 1 off, count nothing.
   pub translate-counted : (kind : Kind) (va : ℕ) → missedIn (bareAfter list) m (Translate kind va) ≡ 0
       → countersOf (tlbAfterCall list m (Translate kind va) .counts) ≡ countedBy (howAnswered (translates kind va)) (countersOf (now .counts))
   translate-counted kind va passed = one-counted (Translate kind va) (translates kind va) (rw passed)
@@ -170,7 +158,8 @@ module _ (list : List (Lent real machine)) (m : Ram) where
         }
     asid-counted a q = ap countsOf (tlbi-counted ∙ ap (λ (v : Inval). invalCounted v (countersOf (now .counts))) q)
 
-    -- "A second broadcast that differs from the pending one becomes All; an equal one stays": of an Inner Shareable form, whose CRm is 3
+    -- "A second broadcast that differs from the pending one becomes All; an equal one stays": of an Inner Shareable
+    -- form, whose CRm is 3
     pub shared-pending : e .crm ≡ 3 → pendingOf (then .broadcast) ≡ joined (pendingOf (now .broadcast)) what
     unfolding invalidate broadcast
     shared-pending q =
@@ -181,7 +170,8 @@ module _ (list : List (Lent real machine)) (m : Ram) where
     unfolding invalidate
     own-pending q = ap (λ (u : Model). u .pending) (tlbi-model ∙ ap carried (ne-eqb (e .crm) 3 q)) ∙ model-pending
 
-  -- REGISTER WRITES, not refused: "where `shaping` changed, it flushes; then, where `asid` differs from the cache's, it retags"
+  -- REGISTER WRITES, not refused: "where `shaping` changed, it flushes; then, where `asid` differs from the cache's, it
+  -- retags"
 
   module _ (key value : ℕ) (passed : missedIn (bareAfter list) m (Register key value) ≡ 0)
       (done : writtenIn (bareAfter list) key value .answer ≡ Written.Done) where
@@ -206,7 +196,7 @@ module _ (list : List (Lent real machine)) (m : Ram) where
         → live written ≡ live now
     unfolding modelRetagged modelFlushed
     write-quiet shape asid =
-        let same : eqb (asidOf registers) (model .asid) ≡ true = eq-eqb _ _ (asid ∙ sym asid-now) in
+        let same : eqb (model .asid) (asidOf registers) ≡ true = eq-eqb _ _ (asid-now ∙ sym asid) in
         write-modelled ∙ rw (shape, same) (sym (every-call-model list m (Register key value) .before))
 
     -- `shaping` alone: a flush, one in `flushes` and one in `epoch`
@@ -214,7 +204,7 @@ module _ (list : List (Lent real machine)) (m : Ram) where
         → countersOf (written .counts) ≡ oneEpoch (oneFlush (countersOf (now .counts)))
     unfolding modelRetagged modelFlushed invalidate
     write-flushes shape asid =
-        let same : eqb (asidOf registers) (model .asid) ≡ true = eq-eqb _ _ (asid ∙ sym asid-now) in
+        let same : eqb (model .asid) (asidOf registers) ≡ true = eq-eqb _ _ (asid-now ∙ sym asid) in
         ap (λ (u : Model). u .counts) write-modelled ∙ rw (shape, same) (ap (λ (k : Counters). oneEpoch (oneFlush k)) model-counts)
 
     -- the ASID alone: a retag, one in `epoch`
@@ -222,5 +212,5 @@ module _ (list : List (Lent real machine)) (m : Ram) where
         → countersOf (written .counts) ≡ oneEpoch (countersOf (now .counts))
     unfolding modelRetagged modelFlushed retag
     write-retags shape differs =
-        let other : eqb (asidOf registers) (model .asid) ≡ false = ne-eqb _ _ (λ q. differs (q ∙ asid-now)) in
+        let other : eqb (model .asid) (asidOf registers) ≡ false = ne-eqb _ _ (λ q. differs (sym q ∙ asid-now)) in
         ap (λ (u : Model). u .counts) write-modelled ∙ rw (shape, other) (ap oneEpoch model-counts)

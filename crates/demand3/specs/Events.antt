@@ -1,8 +1,10 @@
--- A call's steps as events of the history, each with the RAM at its start: read from the call, the state without a cache and those RAMs.
+-- A call's steps as events of the history, each with the RAM at its start: read from the call, the state without a
+-- cache and those RAMs.
 --
--- Nothing here looks at the cache, at an answer or at what the core does. A core that ignored a TLBI could not hide here: the event of a TLBI that is
--- not refused carries its invalidation whatever the core did (`tlbi-event`), the theory's cache loses what it names, and the core's own `Tlb`
--- has to be that one after every call (`tlb-is` of the bridge). Nor could one that made an invalidation up: no other call carries one.
+-- Nothing here looks at the cache, at an answer or at what the core does. A core that ignored a TLBI could not hide
+-- here: the event of a TLBI that is not refused carries its invalidation whatever the core did (`tlbi-event`), the
+-- theory's cache loses what it names, and the core's own `Tlb` has to be that one after every call (`tlb-is` of the
+-- bridge). Nor could one that made an invalidation up: no other call carries one.
 use mathlib.Core.Path.{_≡_, refl}
 use mathlib.Core.Bool.{Bool, true, false}
 use mathlib.Core.List.{List, [], _∷_}
@@ -13,6 +15,7 @@ use Rattle.word.specs.Bits.{alignDown, wrap}
 use Rattle.word.specs.Ram.{widthOf, bytesIn}
 use Rattle.word.specs.declared.ram.Sized.{Sized}
 use Rattle.word.specs.declared.ram.Sized.the-variants as Sized
+use Rattle.tlb.specs.Asks.{Ask, translates, fetches}
 use Rattle.tlb.specs.declared.access.Kind.{Kind}
 use Rattle.tlb.specs.declared.access.Kind.the-variants as Kind
 use Rattle.tlb.specs.declared.access.Who.{Who}
@@ -22,14 +25,15 @@ use Rattle.entry.specs.declared.exception.Exception.{Exception}
 use Rattle.sysop.specs.Tlbi.{tlbiOf, reachesOthers}
 use Rattle.sysop.specs.declared.op.SysOp.{SysOp}
 use Rattle.sysop.specs.declared.op.SysOp.the-variants as Op
-use Rattle.mmu.specs.Place.{nextPage, crosses}
+use Rattle.mmu.specs.Bare.{Bare}
+use Rattle.mmu.specs.Asks.{accessAsks}
 use Rattle.cpu.specs.declared.call.Encoding.{Encoding}
 use Rattle.cpu.specs.declared.call.Call.{Call}
 use Rattle.cpu.specs.declared.call.Call.the-variants.{Translate, DataPa, FetchPa, Load, Store, Fetch, System, Register, Level, Mark, General, Abort}
 use Rattle.history.specs.World.{onNow}
-use Rattle.history.specs.History.{Ask, translates, fetches, Effect, nothing, carries, writes, turns, Step, Event, steps}
+use Rattle.history.specs.History.{Effect, nothing, carries, writes, sets, Step, Event, steps}
 use Rattle.history.specs.Instance.{Ram, real}
-use Rattle.demand3.specs.Bare.{Bare, plainIn, missedIn, opIn, operandIn, writtenIn, takenIn, verdictIn, ifAllowed}
+use Rattle.demand3.specs.Bare.{plainIn, missedIn, opIn, operandIn, writtenIn, takenIn, rulingIn, ifAllowed}
 
 -- STEPS
 
@@ -39,18 +43,14 @@ does e = record { asks = []; effect = e }
 abbrev pub asking : List Ask → Step real
 asking l = record { asks = l; effect = nothing }
 
--- a refused call, and every call that neither translates nor reaches the cache, level, mark or the registers that translation reads
+-- a refused call, and every call that neither translates nor reaches the cache, level, mark or the registers that
+-- translation reads
 abbrev pub idle : Step real
 idle = does nothing
 
--- An access of n bytes: its own page; and the next page, where it crosses with stage 1 on. The history makes the second translation only where
--- the first did not fault (`asked`, `answers`): that is not said here, and so nothing here depends on an answer.
-abbrev pub pagesOf : Bool → ℕ → Kind → List Ask
-pagesOf true va kind = translates kind va ∷ translates kind (nextPage va) ∷ []
-pagesOf false va kind = translates kind va ∷ []
-
+-- an access of n bytes: its own page; and the next page, where it crosses with stage 1 on
 abbrev pub accessIn : Bare → ℕ → ℕ → Kind → List Ask
-accessIn b va n kind = pagesOf (crosses (onNow real (plainIn b)) va n) va kind
+accessIn b va n kind = accessAsks (onNow real (plainIn b)) va n kind
 
 -- a size that is none is refused before
 abbrev pub sizedIn : Bare → ℕ → Sized → Kind → List Ask
@@ -58,18 +58,18 @@ sizedIn b va (Sized.Bytes w) kind = accessIn b va (bytesIn w) kind
 sizedIn b va Sized.Refused kind = []
 
 -- a level above 3 is refused before
-abbrev pub turning : (who : Who) (b : Bool) → leb (who .level) 3 ≡ b → Effect real
-turning who true e = turns who (leb-true (who .level) 3 e)
-turning who false e = nothing
+abbrev pub setBy : (who : Who) (b : Bool) → leb (who .level) 3 ≡ b → Effect real
+setBy who true e = sets who (leb-true (who .level) 3 e)
+setBy who false e = nothing
 
 abbrev pub setting : Who → Step real
-setting who = does (turning who (leb (who .level) 3) refl)
+setting who = does (setBy who (leb (who .level) 3) refl)
 
 -- abort entry goes to level 1, 2 or 3 and leaves the mark
-abbrev pub entering : Bare → Exception → Step real
-entering b e =
+abbrev pub abortStep : Bare → Exception → Step real
+abortStep b e =
     does
-    (turns (record { level = takenIn b e .level; mark = b .who .mark })
+    (sets (record { level = takenIn b e .level; mark = b .who .mark })
     (take-level (b .who .level) (b .pc) (b .control .«scr_el3») (b .control .«hcr_el2») (b .flags) (b .sys) e .1))
 
 -- what a TLBI names
@@ -108,11 +108,11 @@ stepsIn b m ms (Register key value) = steps m (does (writes (writtenIn b key val
 stepsIn b m ms (Level level) = steps m (setting (record { level = level; mark = b .who .mark })) ∷ []
 stepsIn b m ms (Mark mark) = steps m (setting (record { level = b .who .level; mark = mark })) ∷ []
 stepsIn b m ms (General n value) = steps m idle ∷ []
-stepsIn b m ms (Abort e) = steps m (entering b e) ∷ []
+stepsIn b m ms (Abort e) = steps m (abortStep b e) ∷ []
 
 -- a refused call is a step that does nothing
 abbrev pub eventsIn : Bare → Ram → List Ram → Call → List (Event real)
-eventsIn b m ms x = ifAllowed (verdictIn b m x) (stepsIn b m ms x) (steps m idle ∷ [])
+eventsIn b m ms x = ifAllowed (rulingIn b m x) (stepsIn b m ms x) (steps m idle ∷ [])
 
 -- "An All, Page or Asid is one that a TLBI, not refused, carries out": each such TLBI has its event, and no more.
 pub tlbi-event : (b : Bare) (m : Ram) (ms : List Ram) (e : Encoding) → missedIn b m (System e) ≡ 0 → opIn b e ≡ Op.Tlbi

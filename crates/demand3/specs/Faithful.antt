@@ -3,18 +3,20 @@ use mathlib.Core.Path.{_≡_, sym, ap, subst, _∙_}
 use mathlib.Core.List.{List, _∷_, _++_}
 use Prim.Native.Nat.{ℕ}
 use Rattle.tlb.specs.Lists.{Each}
+use Rattle.tlb.specs.Asks.{Given}
+use Rattle.mmu.specs.Bare.{Bare, freshBare}
 use Rattle.mmu.specs.Core.{freshCore}
 use Rattle.mmu.specs.declared.core.Core.{Core}
 use Rattle.cpu.specs.Step.{stepOf, ramAfter}
 use Rattle.cpu.specs.declared.call.Call.{Call}
 use Rattle.cpu.specs.declared.call.Stepped.{Stepped}
-use Rattle.history.specs.History.{Given, Step, Event, steps, afterEvent, plainRun, tlbEvent, tlbRun, answers}
+use Rattle.history.specs.History.{Step, Event, steps, afterEvent, plainRun, tlbEvent, tlbRun, answers}
 use Rattle.history.specs.Invisible.{Tidy, answersRun}
 use Rattle.history.specs.Lists.{answers-split}
 use Rattle.history.specs.Calls.{Lent, Fed, lentOf, eventsRun, shown, showing, FaithfulIn}
 use Rattle.history.specs.EveryCall.{shown-lent, shown-shown}
-use Rattle.history.specs.Instance.{Ram, real}
-use Rattle.demand3.specs.Bare.{Bare, freshBare, plainIn}
+use Rattle.history.specs.Instance.{Ram, windowOf, real}
+use Rattle.demand3.specs.Bare.{plainIn}
 use Rattle.demand3.specs.Events.{eventsIn}
 use Rattle.demand3.specs.Starts.{laterIn}
 use Rattle.demand3.specs.Machine.{machine}
@@ -22,9 +24,6 @@ use Rattle.demand3.specs.Replies.{Outcome, outcome, outcomeOf, saysIn, b
 use Rattle.demand3.specs.Answered.{reply-is}
 use Rattle.demand3.specs.Instance.{every-call, every-reply}
 use Rattle.demand3.specs.Beside.{coreAfter, bareAfter, two-cores}
-
-abbrev pub ramOf : ℕ → List ℕ → Ram
-ramOf base bytes = record { base = base; bytes = bytes }
 
 -- the list, each call with RAM at its steps as the run from the fresh core shows it
 abbrev pub fedBy : List (Lent real machine) → List (Fed real machine)
@@ -41,7 +40,8 @@ answersAfter list m x = answersRun real (plainIn (bareAfter list)) (eventsAfter 
 -- those of one of its steps, on the RAM m at its start, after the steps before it
 abbrev pub answersAt : List (Lent real machine) → List (Event real) → Ram → Step real → List Given
 answersAt list before m s =
-    answers real (plainRun real (plainIn (bareAfter list)) before) m (s .asks) (tlbRun real (plainIn (bareAfter list)) before (coreAfter list .tlb))
+    answers real (plainRun real (plainIn (bareAfter list)) before) m (s .asks)
+    (tlbRun real (plainIn (bareAfter list)) before (coreAfter list .tlb))
 
 -- those of the steps before it, and of those after it
 abbrev pub answersBefore : List (Lent real machine) → List (Event real) → List Given
@@ -50,7 +50,8 @@ answersBefore list before = answersRun real (plainIn (bareAfter list)) before (c
 abbrev pub answersFrom : List (Lent real machine) → List (Event real) → Ram → Step real → List (Event real) → List Given
 answersFrom list before m s later =
     answersRun real (afterEvent real (steps m s) (plainRun real (plainIn (bareAfter list)) before)) later
-    (tlbEvent real (steps m s) (plainRun real (plainIn (bareAfter list)) before) (tlbRun real (plainIn (bareAfter list)) before (coreAfter list .tlb)))
+    (tlbEvent real (steps m s) (plainRun real (plainIn (bareAfter list)) before)
+    (tlbRun real (plainIn (bareAfter list)) before (coreAfter list .tlb)))
 
 -- A call x on the RAM m, after a list of calls from the fresh core; o is its reply with the bytes after it.
 --   answered   the reply and the bytes are made from the answers to the call's translations
@@ -70,7 +71,8 @@ pub record Faithful (list : List (Lent real machine)) (m : Ram) (x : Call) (o : 
 -- whatever list of calls left this core
 unfoldable pub FaithfulCall : Core → ℕ → List ℕ → Call → Stepped → List ℕ → Type 0
 FaithfulCall c base bytes x r after =
-    (list : List (Lent real machine)) → c ≡ coreAfter list → Faithful list (ramOf base bytes) x (outcome (r .reply) after)
+    (list : List (Lent real machine)) → c ≡ coreAfter list
+    → Faithful list (windowOf base bytes) x (outcome (r .reply) after)
 
 module _ (list : List (Lent real machine)) (m : Ram) (x : Call) where
   abbrev fed : Fed real machine
@@ -97,14 +99,14 @@ module _ (list : List (Lent real machine)) (m : Ram) (x : Call) where
   fed-answers : (before : List (Event real)) (m′ : Ram) (s : Step real) (later : List (Event real))
       → eventsAfter list m x ≡ before ++ steps m′ s ∷ later
       → Each (FaithfulIn real machine freshBare (fedBy list) before m′) (answersAt list before m′ s)
-  unfolding freshCore freshBare
+  unfolding freshCore
   fed-answers before m′ s later e =
       subst (λ (l : List (Lent real machine)). Each (FaithfulIn real machine freshBare (fedBy list) before m′) (answersAt l before m′ s)) lents
       (every-call (fedBy list) (shown-shown real machine freshCore list) fed fed-shown before m′ s later (fed-events ∙ e))
 
   fed-same : Tidy real (plainIn freshBare) (eventsRun real machine freshBare (fedBy list)) (eventsAfter list m x)
       → outcomeOf (coreAfter list) m x ≡ bareReply (bareAfter list) m x
-  unfolding freshCore freshBare
+  unfolding freshCore
   fed-same tidy =
       subst (λ (l : List (Lent real machine)). outcomeOf (coreAfter l) m x ≡ bareReply (bareAfter l) m x) lents
       (every-reply (fedBy list) (shown-shown real machine freshCore list) fed fed-shown
@@ -114,7 +116,7 @@ pub faithful-step : (c : Core) (base : ℕ) (bytes : List ℕ) (x : Call) (r : S
     → r ≡ stepOf c base bytes x → after ≡ ramAfter c base bytes x → FaithfulCall c base bytes x r after
 unfolding FaithfulCall
 faithful-step c base bytes x r after er ea list ec =
-    let m : Ram = ramOf base bytes in
+    let m : Ram = windowOf base bytes in
     let made : outcome (r .reply) after ≡ outcomeOf (coreAfter list) m x = rw (er, ea, ec) in
     record {
       answered = made ∙ said list m x;

@@ -1,4 +1,5 @@
--- Each fault that a call replies is a row of document 01's table, with the address translated, or for 0x10 that of a byte of the access.
+-- Each fault that a call replies is a row of document 01's table, with the address translated, or for 0x10 that of a
+-- byte of the access.
 use mathlib.Core.Path.{_≡_, refl, sym, ap, subst, subst⁻¹, _∙_}
 use mathlib.Core.Bool.{Bool, true, false}
 use mathlib.Core.List.{List, [], _∷_, _++_, append-nil, List·Memᴰ, List·Memᴰ·head, List·Memᴰ·tail}
@@ -14,6 +15,7 @@ use Rattle.word.specs.declared.ram.Sized.the-variants as Sized
 use Rattle.word.specs.declared.ram.Width.{Width}
 use Rattle.word.specs.declared.ram.Width.the-variants as Width
 use Rattle.tlb.specs.Lists.{Each, more}
+use Rattle.tlb.specs.Asks.{Ask, translates, fetches, addressOf, Given, onward, onward-same}
 use Rattle.tlb.specs.declared.access.Kind.{Kind}
 use Rattle.tlb.specs.declared.access.Kind.the-variants as Kind
 use Rattle.tlb.specs.declared.access.Answer.{Answer}
@@ -21,9 +23,11 @@ use Rattle.tlb.specs.declared.access.Answer.the-variants.{Address, Status}
 use Rattle.tlb.specs.declared.Tlb.{Tlb}
 use Rattle.entry.specs.declared.exception.Exception.the-variants as Exception
 use Rattle.entry.specs.declared.exception.Stop.the-variants as Stop
+use Rattle.mmu.specs.Bare.{Bare}
 use Rattle.mmu.specs.Core.{freshCore}
-use Rattle.mmu.specs.Place.{nextPage, crosses, byteAt, firstOutside, judged}
+use Rattle.mmu.specs.Place.{nextPage, crosses, byteAt, firstOutside, verdictOf}
 use Rattle.mmu.specs.Bytes.{gotBy, valueAt, loadOf, insnOf}
+use Rattle.mmu.specs.Asks.{asksBy, placedBy}
 use Rattle.mmu.specs.Ends.{reachedBy, loadedFrom, loadEnd, storeEndBy, storeEnd, fetchedFrom, fetchEnd}
 use Rattle.mmu.specs.declared.place.Pages.{Pages}
 use Rattle.mmu.specs.declared.place.Place.{Place}
@@ -42,14 +46,14 @@ use Rattle.cpu.specs.declared.call.Call.the-variants.{Translate, DataPa, FetchP
 use Rattle.cpu.specs.declared.call.Reply.{Reply}
 use Rattle.cpu.specs.declared.call.Reply.the-variants as Reply
 use Rattle.history.specs.World.{Plain, onNow}
-use Rattle.history.specs.History.{Ask, translates, fetches, addressOf, Given, steps, answerOf, askedOf, onward, answers, asked}
+use Rattle.history.specs.History.{steps, answerOf, tlbAsk, answers, tlbAsks}
 use Rattle.history.specs.Invisible.{answersRun}
 use Rattle.history.specs.Calls.{Lent, Fed, lentOf, Shown}
 use Rattle.history.specs.Instance.{Ram, real}
 use Rattle.history.specs.Judgement.{Row}
-use Rattle.demand3.specs.Bare.{Bare, plainIn, opIn, operandIn, Verdict as Verdicts, allowed, number, undefined, unimplemented, verdictIn, refusalOf, ifAllowed}
-use Rattle.demand3.specs.Events.{idle, pagesOf, accessIn, sizedIn, zeroSteps, sysSteps, stepsIn, eventsIn}
-use Rattle.demand3.specs.Replies.{Outcome, outcome, placedIn, loadSays, storeSays, loadSized, storeSized, zeroSays, sysSays, callSays, saysIn}
+use Rattle.demand3.specs.Bare.{plainIn, opIn, operandIn, Ruling, allowed, number, undefined, unimplemented, rulingIn, refusalOf, ifAllowed}
+use Rattle.demand3.specs.Events.{idle, accessIn, sizedIn, zeroSteps, sysSteps, stepsIn, eventsIn}
+use Rattle.demand3.specs.Replies.{Outcome, outcome, loadSays, storeSays, loadSized, storeSized, zeroSays, sysSays, callSays, saysIn}
 use Rattle.demand3.specs.Answered.{one-page, next-aligned, start-aligned}
 use Rattle.demand3.specs.Machine.{machine}
 use Rattle.demand3.specs.Beside.{coreAfter, bareAfter}
@@ -59,30 +63,30 @@ use Rattle.demand3.specs.Judged.{every-row}
 
 -- REPLIES
 
--- the address and the status that a reply tells
-abbrev pub Tells : Reply → ℕ → ℕ → Type 0
-Tells (Reply.Fault a code) addr fsc = (a ≡ addr) × (code ≡ fsc)
-Tells (Reply.Stopped (Stop.Exception (Exception.DataAbort a write code))) addr fsc = (a ≡ addr) × (code ≡ fsc)
-Tells (Reply.Stopped (Stop.Exception (Exception.InsnAbort a code))) addr fsc = (a ≡ addr) × (code ≡ fsc)
-Tells (Reply.Stopped (Stop.Exception Exception.Undefined)) addr fsc = ⊥
-Tells (Reply.Stopped (Stop.Exception (Exception.Svc imm))) addr fsc = ⊥
-Tells (Reply.Stopped (Stop.Exception (Exception.Hvc imm))) addr fsc = ⊥
-Tells (Reply.Stopped (Stop.Exception (Exception.Smc imm))) addr fsc = ⊥
-Tells (Reply.Stopped (Stop.Exception (Exception.Brk imm))) addr fsc = ⊥
-Tells (Reply.Stopped (Stop.Exception Exception.PcAlignment)) addr fsc = ⊥
-Tells (Reply.Stopped Stop.Unimplemented) addr fsc = ⊥
-Tells (Reply.Refused n) addr fsc = ⊥
-Tells Reply.Done addr fsc = ⊥
-Tells (Reply.Value v) addr fsc = ⊥
-Tells Reply.Faults addr fsc = ⊥
+-- the reply is a fault with this address and this status
+abbrev pub RepliesFault : Reply → ℕ → ℕ → Type 0
+RepliesFault (Reply.Fault a code) addr fsc = (a ≡ addr) × (code ≡ fsc)
+RepliesFault (Reply.Stopped (Stop.Exception (Exception.DataAbort a write code))) addr fsc = (a ≡ addr) × (code ≡ fsc)
+RepliesFault (Reply.Stopped (Stop.Exception (Exception.InsnAbort a code))) addr fsc = (a ≡ addr) × (code ≡ fsc)
+RepliesFault (Reply.Stopped (Stop.Exception Exception.Undefined)) addr fsc = ⊥
+RepliesFault (Reply.Stopped (Stop.Exception (Exception.Svc imm))) addr fsc = ⊥
+RepliesFault (Reply.Stopped (Stop.Exception (Exception.Hvc imm))) addr fsc = ⊥
+RepliesFault (Reply.Stopped (Stop.Exception (Exception.Smc imm))) addr fsc = ⊥
+RepliesFault (Reply.Stopped (Stop.Exception (Exception.Brk imm))) addr fsc = ⊥
+RepliesFault (Reply.Stopped (Stop.Exception Exception.PcAlignment)) addr fsc = ⊥
+RepliesFault (Reply.Stopped Stop.Unimplemented) addr fsc = ⊥
+RepliesFault (Reply.Refused n) addr fsc = ⊥
+RepliesFault Reply.Done addr fsc = ⊥
+RepliesFault (Reply.Value v) addr fsc = ⊥
+RepliesFault Reply.Faults addr fsc = ⊥
 
--- Where it comes from, among the answers to the call's translations: from one that met this status at this address; or, for an abort, from an access
--- that begins at the address of one that was allowed, with the address of its byte i (which byte: `lowest` of mmu/specs/PlaceLaws.antt, and the first
--- where the access is not split).
-pub data Told (gs : List Given) (addr fsc : ℕ) : Type 0 where
-  translating : (g : Given) → List·Memᴰ g gs → addressOf (g .ask) ≡ addr → g .answer ≡ Status fsc → Told gs addr fsc
+-- Where it comes from, among the answers to the call's translations: from one that met this status at this address; or,
+-- for an abort, from an access that begins at the address of one that was allowed, with the address of its byte i
+-- (which byte: `lowest` of mmu/specs/PlaceLaws.antt, and the first where the access is not split).
+pub data FaultFrom (gs : List Given) (addr fsc : ℕ) : Type 0 where
+  translating : (g : Given) → List·Memᴰ g gs → addressOf (g .ask) ≡ addr → g .answer ≡ Status fsc → FaultFrom gs addr fsc
   outside : (g : Given) → List·Memᴰ g gs → (pa : ℕ) → g .answer ≡ Address pa → (i : ℕ) → i < 8 → wrap addr ≡ wrap (addressOf (g .ask) + i) → fsc ≡ 0x10
-      → Told gs addr fsc
+      → FaultFrom gs addr fsc
 
 -- THE BYTE that lies outside is one of the access's
 
@@ -99,8 +103,8 @@ first-outside base len p i (suc n) j pa e = go (within base len 1 (byteAt p i)) 
     go true f k = let h : j < i + 1 + n = k f in omega arith
     go false f k = let h : i ≡ j = outside-injective f in omega arith
 
-byte-low : (base len : ℕ) (place : Place) (n j pa : ℕ) → 0 < n → judged base len place n ≡ Outside j pa → j < n
-unfolding judged
+byte-low : (base len : ℕ) (place : Place) (n j pa : ℕ) → 0 < n → verdictOf base len place n ≡ Outside j pa → j < n
+unfolding verdictOf
 byte-low base len (Whole q) n j pa some e = go (within base len n q) e
   where
     go : (b : Bool) → pick b Inside (Outside 0 q) ≡ Outside j pa → j < n
@@ -110,9 +114,10 @@ byte-low base len (Split p) n j pa some e = let h : j < 0 + n = first-outside ba
 
 -- AN ACCESS: a fault is that of one of its translations, and a place begins where the first was allowed
 
-pub record Sits (va : ℕ) (gs : List Given) : Type 0 where
-  pub faulting : (a fsc : ℕ) → placedIn va gs ≡ Placed.Fault a fsc → (g : Given) × List·Memᴰ g gs × (addressOf (g .ask) ≡ a) × (g .answer ≡ Status fsc)
-  pub lying : (place : Place) → placedIn va gs ≡ Placed.At place → (g : Given) × List·Memᴰ g gs × (addressOf (g .ask) ≡ va) × (pa : ℕ) × (g .answer ≡ Address pa)
+pub record PlacedFrom (va : ℕ) (gs : List Given) : Type 0 where
+  pub faulting : (a fsc : ℕ) → placedBy va gs ≡ Placed.Fault a fsc → (g : Given) × List·Memᴰ g gs × (addressOf (g .ask) ≡ a) × (g .answer ≡ Status fsc)
+  pub lying : (place : Place) → placedBy va gs ≡ Placed.At place
+      → (g : Given) × List·Memᴰ g gs × (addressOf (g .ask) ≡ va) × (pa : ℕ) × (g .answer ≡ Address pa)
 
 fault-one : {a b x y : ℕ} → Placed.Fault a x ≡ Placed.Fault b y → a ≡ b
 fault-one e = cc
@@ -128,43 +133,42 @@ module _ (va : ℕ) (kind : Kind) where
   abbrev two : Answer → Given
   two y = record { ask = translates kind (nextPage va); answer = y }
 
-  sits-one : (x : Answer) → Sits va (one x ∷ [])
-  sits-one (Address pa) =
+  placed-one : (x : Answer) → PlacedFrom va (one x ∷ [])
+  placed-one (Address pa) =
       record {
         faulting = λ a fsc e. let z : _≡_ {A = ℕ} 0 1 = cc in absurd (omega arith);
         lying = λ place e. (one (Address pa), List·Memᴰ·head refl, refl, pa, refl);
       }
-  sits-one (Status code) =
+  placed-one (Status code) =
       record {
         faulting = λ a fsc e. (one (Status code), List·Memᴰ·head refl, fault-one e, ap Status (fault-two e));
         lying = λ place e. let z : _≡_ {A = ℕ} 0 1 = cc in absurd (omega arith);
       }
 
-  sits-two : (pa : ℕ) (y : Answer) → Sits va (one (Address pa) ∷ two y ∷ [])
-  sits-two pa (Address pb) =
+  placed-two : (pa : ℕ) (y : Answer) → PlacedFrom va (one (Address pa) ∷ two y ∷ [])
+  placed-two pa (Address pb) =
       record {
         faulting = λ a fsc e. let z : _≡_ {A = ℕ} 0 1 = cc in absurd (omega arith);
         lying = λ place e. (one (Address pa), List·Memᴰ·head refl, refl, pa, refl);
       }
-  sits-two pa (Status code) =
+  placed-two pa (Status code) =
       record {
         faulting = λ a fsc e. (two (Status code), List·Memᴰ·tail (List·Memᴰ·head refl), fault-one e, ap Status (fault-two e));
         lying = λ place e. let z : _≡_ {A = ℕ} 0 1 = cc in absurd (omega arith);
       }
 
-  onward-none : (x : Answer) → onward real {A = List Given} x [] [] ≡ []
-  onward-none (Address pa) = refl
-  onward-none (Status code) = refl
-
-  pub answers-sit : (c : Bool) (q : Plain real) (m : Ram) (t : Tlb) → Sits va (answers real q m (pagesOf c va kind) t)
-  answers-sit false q m t =
-      subst (λ (l : List Given). Sits va (one (answerOf real q m (translates kind va) t) ∷ l)) (sym (onward-none (answerOf real q m (translates kind va) t)))
-      (sits-one (answerOf real q m (translates kind va) t))
-  answers-sit true q m t = go (answerOf real q m (translates kind va) t) (answerOf real q m (translates kind (nextPage va)) (askedOf real q m (translates kind va) t))
+  pub answers-placed : (c : Bool) (q : Plain real) (m : Ram) (t : Tlb) → PlacedFrom va (answers real q m (asksBy c va kind) t)
+  answers-placed false q m t =
+      subst (λ (l : List Given). PlacedFrom va (one (answerOf real q m (translates kind va) t) ∷ l))
+      (sym (onward-same (answerOf real q m (translates kind va) t) []))
+      (placed-one (answerOf real q m (translates kind va) t))
+  answers-placed true q m t =
+      go (answerOf real q m (translates kind va) t)
+      (answerOf real q m (translates kind (nextPage va)) (tlbAsk real q m (translates kind va) t))
     where
-      go : (x y : Answer) → Sits va (one x ∷ onward real {A = List Given} x (two y ∷ onward real {A = List Given} y [] []) [])
-      go (Address pa) y = subst (λ (l : List Given). Sits va (one (Address pa) ∷ two y ∷ l)) (sym (onward-none y)) (sits-two pa y)
-      go (Status code) y = sits-one (Status code)
+      go : (x y : Answer) → PlacedFrom va (one x ∷ onward {A = List Given} x (two y ∷ onward {A = List Given} y [] []) [])
+      go (Address pa) y = subst (λ (l : List Given). PlacedFrom va (one (Address pa) ∷ two y ∷ l)) (sym (onward-same y [])) (placed-two pa y)
+      go (Status code) y = placed-one (Status code)
 
 -- WHAT AN ACCESS REPLIES
 
@@ -174,149 +178,151 @@ some-bytes Width.Half = (omega arith, omega arith)
 some-bytes Width.Word = (omega arith, omega arith)
 some-bytes Width.Double = (omega arith, omega arith)
 
-module _ (m : Ram) (va n : ℕ) (some : 0 < n) (few : n ≤ 8) (gs : List Given) (sits : Sits va gs) (addr fsc : ℕ) where
+module _ (m : Ram) (va n : ℕ) (some : 0 < n) (few : n ≤ 8) (gs : List Given) (from : PlacedFrom va gs) (addr fsc : ℕ) where
   -- a byte outside
-  out : (place : Place) (j pa : ℕ) → placedIn va gs ≡ Placed.At place → judged (m .base) (length (m .bytes)) place n ≡ Outside j pa
-      → wrap (va + j) ≡ addr → 0x10 ≡ fsc → Told gs addr fsc
+  out : (place : Place) (j pa : ℕ) → placedBy va gs ≡ Placed.At place → verdictOf (m .base) (length (m .bytes)) place n ≡ Outside j pa
+      → wrap (va + j) ≡ addr → 0x10 ≡ fsc → FaultFrom gs addr fsc
   out place j pa e v a f =
-      let (g, mem, q, pb, r) = sits .lying place e in
+      let (g, mem, q, pb, r) = from .lying place e in
       let low : j < n = byte-low (m .base) (length (m .bytes)) place n j pa some v in
       outside g mem pb r j (omega arith) (ap wrap (sym a) ∙ mod-mod (va + j) (2 ^ 64) ∙ ap (λ (x : ℕ). wrap (x + j)) (sym q)) (sym f)
 
-  load-told : Tells (loadSays m va n gs .reply) addr fsc → Told gs addr fsc
+  load-from : RepliesFault (loadSays m va n gs .reply) addr fsc → FaultFrom gs addr fsc
   unfolding loadEnd loadOf
-  load-told = go (placedIn va gs) refl
+  load-from = go (placedBy va gs) refl
     where
-      go : (q : Placed) → placedIn va gs ≡ q → Tells (loading (loadEnd q 0 0 (m .base) (m .bytes) va n .answer)) addr fsc → Told gs addr fsc
+      go : (q : Placed) → placedBy va gs ≡ q → RepliesFault (loading (loadEnd q 0 0 (m .base) (m .bytes) va n .answer)) addr fsc → FaultFrom gs addr fsc
       go (Placed.Fault a code) e w =
-          let (g, mem, p, r) = sits .faulting a code e in
+          let (g, mem, p, r) = from .faulting a code e in
           translating g mem (p ∙ w .0) (r ∙ ap Status (w .1))
-      go (Placed.At place) e w = by-verdict (judged (m .base) (length (m .bytes)) place n) refl w
+      go (Placed.At place) e w = by-verdict (verdictOf (m .base) (length (m .bytes)) place n) refl w
         where
-          by-verdict : (v : Verdict) → judged (m .base) (length (m .bytes)) place n ≡ v
-              → Tells (loading (loadedFrom place (gotBy v (valueAt (m .base) (m .bytes) place n)) 0 va .answer)) addr fsc → Told gs addr fsc
+          by-verdict : (v : Verdict) → verdictOf (m .base) (length (m .bytes)) place n ≡ v
+              → RepliesFault (loading (loadedFrom place (gotBy v (valueAt (m .base) (m .bytes) place n)) 0 va .answer)) addr fsc → FaultFrom gs addr fsc
           by-verdict Inside d x = absurd x
           by-verdict (Outside j pa) d x = out place j pa e d (x .0) (x .1)
 
-  store-told : (v : ℕ) → Tells (storeSays m va n v gs .reply) addr fsc → Told gs addr fsc
+  store-from : (v : ℕ) → RepliesFault (storeSays m va n v gs .reply) addr fsc → FaultFrom gs addr fsc
   unfolding storeEnd
-  store-told v = go (placedIn va gs) refl
+  store-from v = go (placedBy va gs) refl
     where
-      go : (q : Placed) → placedIn va gs ≡ q → Tells (storing (storeEnd q 0 (m .base) (m .bytes) va n .answer)) addr fsc → Told gs addr fsc
+      go : (q : Placed) → placedBy va gs ≡ q → RepliesFault (storing (storeEnd q 0 (m .base) (m .bytes) va n .answer)) addr fsc → FaultFrom gs addr fsc
       go (Placed.Fault a code) e w =
-          let (g, mem, p, r) = sits .faulting a code e in
+          let (g, mem, p, r) = from .faulting a code e in
           translating g mem (p ∙ w .0) (r ∙ ap Status (w .1))
-      go (Placed.At place) e w = by-verdict (judged (m .base) (length (m .bytes)) place n) refl w
+      go (Placed.At place) e w = by-verdict (verdictOf (m .base) (length (m .bytes)) place n) refl w
         where
-          by-verdict : (d : Verdict) → judged (m .base) (length (m .bytes)) place n ≡ d → Tells (storing (storeEndBy d 0 va .answer)) addr fsc → Told gs addr fsc
+          by-verdict : (d : Verdict) → verdictOf (m .base) (length (m .bytes)) place n ≡ d
+              → RepliesFault (storing (storeEndBy d 0 va .answer)) addr fsc → FaultFrom gs addr fsc
           by-verdict Inside d x = absurd x
           by-verdict (Outside j pa) d x = out place j pa e d (x .0) (x .1)
 
 -- A ZEROING
 
-told-later : (g : Given) (gs : List Given) (addr fsc : ℕ) → Told gs addr fsc → Told (g ∷ gs) addr fsc
-told-later g gs addr fsc (translating h mem p r) = translating h (List·Memᴰ·tail mem) p r
-told-later g gs addr fsc (outside h mem pa r i low p f) = outside h (List·Memᴰ·tail mem) pa r i low p f
+from-later : (g : Given) (gs : List Given) (addr fsc : ℕ) → FaultFrom gs addr fsc → FaultFrom (g ∷ gs) addr fsc
+from-later g gs addr fsc (translating h mem p r) = translating h (List·Memᴰ·tail mem) p r
+from-later g gs addr fsc (outside h mem pa r i low p f) = outside h (List·Memᴰ·tail mem) pa r i low p f
 
-sits-nil : (va : ℕ) (gs : List Given) → Sits va gs → Sits va (gs ++ [])
-sits-nil va gs s = subst (Sits va) (sym (append-nil gs)) s
+placed-nil : (va : ℕ) (gs : List Given) → PlacedFrom va gs → PlacedFrom va (gs ++ [])
+placed-nil va gs s = subst (PlacedFrom va) (sym (append-nil gs)) s
 
-zero-told : (b : Bare) (m : Ram) (ms : List Ram) (va : ℕ) (t : Tlb) (addr fsc : ℕ) → va % 8 ≡ 0
-    → Tells (zeroSays m ms va (answersRun real (plainIn b) (zeroSteps b m ms va) t) .reply) addr fsc
-    → Told (answersRun real (plainIn b) (zeroSteps b m ms va) t) addr fsc
-zero-told b m [] va t addr fsc al w =
-    store-told m va 8 (omega arith) (omega arith) _ (sits-nil va _ (answers-sit va Kind.Write (crosses (onNow real (plainIn b)) va 8) (plainIn b) m t))
+zero-from : (b : Bare) (m : Ram) (ms : List Ram) (va : ℕ) (t : Tlb) (addr fsc : ℕ) → va % 8 ≡ 0
+    → RepliesFault (zeroSays m ms va (answersRun real (plainIn b) (zeroSteps b m ms va) t) .reply) addr fsc
+    → FaultFrom (answersRun real (plainIn b) (zeroSteps b m ms va) t) addr fsc
+zero-from b m [] va t addr fsc al w =
+    store-from m va 8 (omega arith) (omega arith) _ (placed-nil va _ (answers-placed va Kind.Write (crosses (onNow real (plainIn b)) va 8) (plainIn b) m t))
     addr fsc 0 w
-zero-told b m (n ∷ ms) va t addr fsc al w =
-    subst (λ (l : List Given). Told (l ++ rest) addr fsc) (sym one-given)
-    (told-later first rest addr fsc
-    (zero-told b n ms (wrap (va + 8)) (asked real (plainIn b) m (accessIn b va 8 Kind.Write) t) addr fsc (next-aligned va al)
-    (subst (λ (l : List Given). Tells (zeroSays m (n ∷ ms) va (l ++ rest) .reply) addr fsc) one-given w)))
+zero-from b m (n ∷ ms) va t addr fsc al w =
+    subst (λ (l : List Given). FaultFrom (l ++ rest) addr fsc) (sym one-given)
+    (from-later first rest addr fsc
+    (zero-from b n ms (wrap (va + 8)) (tlbAsks real (plainIn b) m (accessIn b va 8 Kind.Write) t) addr fsc (next-aligned va al)
+    (subst (λ (l : List Given). RepliesFault (zeroSays m (n ∷ ms) va (l ++ rest) .reply) addr fsc) one-given w)))
   where
     first : Given
     first = record { ask = translates Kind.Write va; answer = answerOf real (plainIn b) m (translates Kind.Write va) t }
 
     rest : List Given
-    rest = answersRun real (plainIn b) (zeroSteps b n ms (wrap (va + 8))) (asked real (plainIn b) m (accessIn b va 8 Kind.Write) t)
+    rest = answersRun real (plainIn b) (zeroSteps b n ms (wrap (va + 8))) (tlbAsks real (plainIn b) m (accessIn b va 8 Kind.Write) t)
 
     one-given : answers real (plainIn b) m (accessIn b va 8 Kind.Write) t ≡ first ∷ []
     one-given =
-        rw (one-page (onNow real (plainIn b)) va al) (ap {B = List Given} (λ (l : List Given). first ∷ l) (onward-none va Kind.Write (first .answer)))
+        rw (one-page (onNow real (plainIn b)) va al) (ap {B = List Given} (λ (l : List Given). first ∷ l) (onward-same (first .answer) []))
 
 -- EVERY CALL
 
 abbrev ranGiven : Bare → Ram → List Ram → Call → Tlb → List Given
 ranGiven b m ms x t = answersRun real (plainIn b) (stepsIn b m ms x) t
 
-load-sized-told : (s : Sized) (b : Bare) (m : Ram) (va : ℕ) (t : Tlb) (addr fsc : ℕ)
-    → Tells (loadSized s m va (answers real (plainIn b) m (sizedIn b va s Kind.Read) t ++ []) .reply) addr fsc
-    → Told (answers real (plainIn b) m (sizedIn b va s Kind.Read) t ++ []) addr fsc
-load-sized-told Sized.Refused b m va t addr fsc w = absurd w
-load-sized-told (Sized.Bytes w) b m va t addr fsc x =
-    load-told m va (bytesIn w) (some-bytes w .0) (some-bytes w .1) _
-    (sits-nil va _ (answers-sit va Kind.Read (crosses (onNow real (plainIn b)) va (bytesIn w)) (plainIn b) m t)) addr fsc x
+load-sized-from : (s : Sized) (b : Bare) (m : Ram) (va : ℕ) (t : Tlb) (addr fsc : ℕ)
+    → RepliesFault (loadSized s m va (answers real (plainIn b) m (sizedIn b va s Kind.Read) t ++ []) .reply) addr fsc
+    → FaultFrom (answers real (plainIn b) m (sizedIn b va s Kind.Read) t ++ []) addr fsc
+load-sized-from Sized.Refused b m va t addr fsc w = absurd w
+load-sized-from (Sized.Bytes w) b m va t addr fsc x =
+    load-from m va (bytesIn w) (some-bytes w .0) (some-bytes w .1) _
+    (placed-nil va _ (answers-placed va Kind.Read (crosses (onNow real (plainIn b)) va (bytesIn w)) (plainIn b) m t)) addr fsc x
 
-store-sized-told : (s : Sized) (b : Bare) (m : Ram) (va v : ℕ) (t : Tlb) (addr fsc : ℕ)
-    → Tells (storeSized s m va v (answers real (plainIn b) m (sizedIn b va s Kind.Write) t ++ []) .reply) addr fsc
-    → Told (answers real (plainIn b) m (sizedIn b va s Kind.Write) t ++ []) addr fsc
-store-sized-told Sized.Refused b m va v t addr fsc w = absurd w
-store-sized-told (Sized.Bytes w) b m va v t addr fsc x =
-    store-told m va (bytesIn w) (some-bytes w .0) (some-bytes w .1) _
-    (sits-nil va _ (answers-sit va Kind.Write (crosses (onNow real (plainIn b)) va (bytesIn w)) (plainIn b) m t)) addr fsc v x
+store-sized-from : (s : Sized) (b : Bare) (m : Ram) (va v : ℕ) (t : Tlb) (addr fsc : ℕ)
+    → RepliesFault (storeSized s m va v (answers real (plainIn b) m (sizedIn b va s Kind.Write) t ++ []) .reply) addr fsc
+    → FaultFrom (answers real (plainIn b) m (sizedIn b va s Kind.Write) t ++ []) addr fsc
+store-sized-from Sized.Refused b m va v t addr fsc w = absurd w
+store-sized-from (Sized.Bytes w) b m va v t addr fsc x =
+    store-from m va (bytesIn w) (some-bytes w .0) (some-bytes w .1) _
+    (placed-nil va _ (answers-placed va Kind.Write (crosses (onNow real (plainIn b)) va (bytesIn w)) (plainIn b) m t)) addr fsc v x
 
 module _ (b : Bare) (m : Ram) (t : Tlb) (addr fsc : ℕ) where
-  translate-told : (a : Ask) (x : Answer) → Tells (translation (addressOf a) x) addr fsc → (l : List Given)
-      → Told (record { ask = a; answer = x } ∷ l) addr fsc
-  translate-told a (Address pa) w l = absurd w
-  translate-told a (Status code) w l = translating _ (List·Memᴰ·head refl) (w .0) (ap Status (w .1))
+  translate-from : (a : Ask) (x : Answer) → RepliesFault (translation (addressOf a) x) addr fsc → (l : List Given)
+      → FaultFrom (record { ask = a; answer = x } ∷ l) addr fsc
+  translate-from a (Address pa) w l = absurd w
+  translate-from a (Status code) w l = translating _ (List·Memᴰ·head refl) (w .0) (ap Status (w .1))
 
-  reach-told : (x : Answer) → Tells (reaching (reachedBy x)) addr fsc → ⊥
-  reach-told (Address pa) w = w
-  reach-told (Status code) w = w
+  reach-from : (x : Answer) → RepliesFault (reaching (reachedBy x)) addr fsc → ⊥
+  reach-from (Address pa) w = w
+  reach-from (Status code) w = w
 
-  fetch-told : (va : ℕ) (x : Answer) → Tells (fetching (fetchEnd x 0 (m .base) (m .bytes) va .answer)) addr fsc → (l : List Given)
-      → Told (record { ask = fetches va; answer = x } ∷ l) addr fsc
+  fetch-from : (va : ℕ) (x : Answer) → RepliesFault (fetching (fetchEnd x 0 (m .base) (m .bytes) va .answer)) addr fsc → (l : List Given)
+      → FaultFrom (record { ask = fetches va; answer = x } ∷ l) addr fsc
   unfolding fetchEnd
-  fetch-told va (Status code) w l = translating _ (List·Memᴰ·head refl) (w .0) (ap Status (w .1))
-  fetch-told va (Address pa) w l = go (insnOf (m .base) (m .bytes) pa) w
+  fetch-from va (Status code) w l = translating _ (List·Memᴰ·head refl) (w .0) (ap Status (w .1))
+  fetch-from va (Address pa) w l = go (insnOf (m .base) (m .bytes) pa) w
     where
-      go : (i : Insn) → Tells (fetching (fetchedFrom pa i 0 va .answer)) addr fsc → Told (record { ask = fetches va; answer = Address pa } ∷ l) addr fsc
+      go : (i : Insn) → RepliesFault (fetching (fetchedFrom pa i 0 va .answer)) addr fsc
+          → FaultFrom (record { ask = fetches va; answer = Address pa } ∷ l) addr fsc
       go (Insn.Value v) y = absurd y
       go Insn.Outside y =
           outside _ (List·Memᴰ·head refl) pa refl 0 (omega arith) (ap wrap (sym (y .0)) ∙ ap wrap (sym (add-zero va))) (sym (y .1))
 
-  call-told : (ms : List Ram) (x : Call) → Tells (callSays b m ms x (ranGiven b m ms x t) .reply) addr fsc → Told (ranGiven b m ms x t) addr fsc
-  call-told ms (Translate kind va) w = translate-told (translates kind va) (answerOf real (plainIn b) m (translates kind va) t) w _
-  call-told ms (DataPa va) w = absurd (reach-told (answerOf real (plainIn b) m (translates Kind.Read va) t) w)
-  call-told ms (FetchPa va) w = absurd (reach-told (answerOf real (plainIn b) m (fetches va) t) w)
-  call-told ms (Load va size) w = load-sized-told (widthOf size) b m va t addr fsc w
-  call-told ms (Store va size value) w = store-sized-told (widthOf size) b m va value t addr fsc w
-  call-told ms (Fetch va) w = fetch-told va (answerOf real (plainIn b) m (fetches va) t) w _
-  call-told ms (System e) w = go (opIn b e) w
+  call-from : (ms : List Ram) (x : Call) → RepliesFault (callSays b m ms x (ranGiven b m ms x t) .reply) addr fsc → FaultFrom (ranGiven b m ms x t) addr fsc
+  call-from ms (Translate kind va) w = translate-from (translates kind va) (answerOf real (plainIn b) m (translates kind va) t) w _
+  call-from ms (DataPa va) w = absurd (reach-from (answerOf real (plainIn b) m (translates Kind.Read va) t) w)
+  call-from ms (FetchPa va) w = absurd (reach-from (answerOf real (plainIn b) m (fetches va) t) w)
+  call-from ms (Load va size) w = load-sized-from (widthOf size) b m va t addr fsc w
+  call-from ms (Store va size value) w = store-sized-from (widthOf size) b m va value t addr fsc w
+  call-from ms (Fetch va) w = fetch-from va (answerOf real (plainIn b) m (fetches va) t) w _
+  call-from ms (System e) w = go (opIn b e) w
     where
-      go : (o : SysOp) → Tells (sysSays o m ms (operandIn b e) (answersRun real (plainIn b) (sysSteps o b m ms e) t) .reply) addr fsc
-          → Told (answersRun real (plainIn b) (sysSteps o b m ms e) t) addr fsc
-      go Op.Zva y = zero-told b m ms (alignDown (operandIn b e) 6) t addr fsc (start-aligned (operandIn b e)) y
+      go : (o : SysOp) → RepliesFault (sysSays o m ms (operandIn b e) (answersRun real (plainIn b) (sysSteps o b m ms e) t) .reply) addr fsc
+          → FaultFrom (answersRun real (plainIn b) (sysSteps o b m ms e) t) addr fsc
+      go Op.Zva y = zero-from b m ms (alignDown (operandIn b e) 6) t addr fsc (start-aligned (operandIn b e)) y
       go (Op.At form) y = absurd y
       go Op.Tlbi y = absurd y
       go Op.Nothing y = absurd y
       go Op.Undefined y = absurd y
       go Op.Unimplemented y = absurd y
-  call-told ms (Register key value) w = absurd w
-  call-told ms (Level level) w = absurd w
-  call-told ms (Mark mark) w = absurd w
-  call-told ms (General n value) w = absurd w
-  call-told ms (Abort e) w = absurd w
+  call-from ms (Register key value) w = absurd w
+  call-from ms (Level level) w = absurd w
+  call-from ms (Mark mark) w = absurd w
+  call-from ms (General n value) w = absurd w
+  call-from ms (Abort e) w = absurd w
 
-  said-told : (ms : List Ram) (x : Call) → Tells (saysIn b m ms x (answersRun real (plainIn b) (eventsIn b m ms x) t) .reply) addr fsc
-      → Told (answersRun real (plainIn b) (eventsIn b m ms x) t) addr fsc
-  said-told ms x = go (verdictIn b m x)
+  said-from : (ms : List Ram) (x : Call) → RepliesFault (saysIn b m ms x (answersRun real (plainIn b) (eventsIn b m ms x) t) .reply) addr fsc
+      → FaultFrom (answersRun real (plainIn b) (eventsIn b m ms x) t) addr fsc
+  said-from ms x = go (rulingIn b m x)
     where
-      go : (v : Verdicts) → Tells
+      go : (v : Ruling) → RepliesFault
           (ifAllowed v (callSays b m ms x (answersRun real (plainIn b) (ifAllowed v (stepsIn b m ms x) (steps m idle ∷ [])) t))
           (outcome (refusalOf v) (m .bytes)) .reply) addr fsc
-          → Told (answersRun real (plainIn b) (ifAllowed v (stepsIn b m ms x) (steps m idle ∷ [])) t) addr fsc
-      go allowed w = call-told ms x w
+          → FaultFrom (answersRun real (plainIn b) (ifAllowed v (stepsIn b m ms x) (steps m idle ∷ [])) t) addr fsc
+      go allowed w = call-from ms x w
       go (number k) w = absurd w
       go undefined w = absurd w
       go unimplemented w = absurd w
@@ -327,21 +333,22 @@ each-at : {A : Type 0} {P : A → Type 0} {a : A} {l : List A} → Each P l → 
 each-at {P} (more p ps) (List·Memᴰ·head e) = subst⁻¹ P e p
 each-at (more p ps) (List·Memᴰ·tail m) = each-at ps m
 
--- Whatever the call and RAM: where a call after the list replies a fault, its status is a row of the table, a translation's or 0x10, and it comes from
--- the answers to the call's translations, with the address translated or, for 0x10, that of a byte of the access.
+-- Whatever the call and RAM: where a call after the list replies a fault, its status is a row of the table, a
+-- translation's or 0x10, and it comes from the answers to the call's translations, with the address translated or, for
+-- 0x10, that of a byte of the access.
 pub every-fault : (list : List (Fed real machine)) → Shown real machine freshCore list → (m : Ram) (x : Call) (addr fsc : ℕ)
-    → Tells (stepOf (coreAfter (lentOf real machine list)) (m .base) (m .bytes) x .reply) addr fsc
-    → (Row fsc ⊎ (fsc ≡ 0x10)) × Told (answersAfter (lentOf real machine list) m x) addr fsc
-every-fault list seen m x addr fsc w = (row told, told)
+    → RepliesFault (stepOf (coreAfter (lentOf real machine list)) (m .base) (m .bytes) x .reply) addr fsc
+    → (Row fsc ⊎ (fsc ≡ 0x10)) × FaultFrom (answersAfter (lentOf real machine list) m x) addr fsc
+every-fault list seen m x addr fsc w = (row from, from)
   where
     made : List (Lent real machine)
     made = lentOf real machine list
 
-    told : Told (answersAfter made m x) addr fsc
-    told =
-        said-told (bareAfter made) m (coreAfter made .tlb) addr fsc (laterIn (coreAfter made) m x) x
-        (subst (λ (o : Outcome). Tells (o .reply) addr fsc) (said made m x) w)
+    from : FaultFrom (answersAfter made m x) addr fsc
+    from =
+        said-from (bareAfter made) m (coreAfter made .tlb) addr fsc (laterIn (coreAfter made) m x) x
+        (subst (λ (o : Outcome). RepliesFault (o .reply) addr fsc) (said made m x) w)
 
-    row : Told (answersAfter made m x) addr fsc → Row fsc ⊎ (fsc ≡ 0x10)
+    row : FaultFrom (answersAfter made m x) addr fsc → Row fsc ⊎ (fsc ≡ 0x10)
     row (translating g mem p r) = inl (each-at (every-row list seen (eventsAfter made m x)) mem fsc r)
     row (outside g mem pa r i low p f) = inr f

@@ -11,7 +11,8 @@ use Rattle.demand3.specs.Replies.{Outcome, outcomeOf, bareReply}
 use Rattle.demand3.specs.Bridge.{bridge}
 use Rattle.demand3.specs.Alone.{alone-same}
 
--- After every list of calls, in every call, each translation of a page that meets the premise is answered as by the core without a cache.
+-- After every list of calls, in every call, each translation of a page that meets the premise is answered as by the
+-- core without a cache.
 pub every-call : Demand3Calls real machine freshCore
 unfolding freshCore
 every-call = demand-3-calls real machine bridge real-laws freshCore refl fresh-asid (omega arith)

@@ -1,24 +1,26 @@
--- Of every core that calls reach: each translation, by walk, entry or hint, is judged by the manual's permission check, and each fault that it meets
--- is a row of document 01's table.
+-- Of every core that calls reach: each translation, by walk, entry or hint, is judged by the manual's permission check,
+-- and each fault that it meets is a row of document 01's table.
 use mathlib.Core.Path.{_≡_, refl, ap₂, subst}
 use mathlib.Core.List.{List, [], _∷_, _++_}
 use Prim.Native.Nat.{ℕ, _+_}
 use native.Mathlib.Omega.{arith}
 use Rattle.tlb.specs.Lists.{Each, done, more}
 use Rattle.tlb.specs.Tlb.{fresh}
+use Rattle.tlb.specs.Asks.{Given}
 use Rattle.tlb.specs.declared.access.Answer.the-variants.{Status}
 use Rattle.tlb.specs.declared.Tlb.{Tlb}
+use Rattle.mmu.specs.Bare.{freshBare}
 use Rattle.mmu.specs.Core.{freshCore}
 use Rattle.cpu.specs.Step.{translation}
 use Rattle.history.specs.World.{Plain}
 use Rattle.history.specs.Lists.{each-append, plain-append, tlb-append}
-use Rattle.history.specs.History.{Given, Step, Event, steps, receives, afterEvent, plainRun, tlbEvent, tlbRun, answers}
+use Rattle.history.specs.History.{Step, Event, steps, receives, afterEvent, plainRun, tlbEvent, tlbRun, answers}
 use Rattle.history.specs.Invisible.{answersRun}
 use Rattle.history.specs.Calls.{Fed, lentOf, eventsRun, Shown, plainAfter}
 use Rattle.history.specs.EveryCall.{lifted}
 use Rattle.history.specs.Instance.{Ram, real, real-laws, fresh-asid}
 use Rattle.history.specs.Judgement.{Judged, every-judgement, Row, status-row}
-use Rattle.demand3.specs.Bare.{freshBare, plainIn}
+use Rattle.demand3.specs.Bare.{plainIn}
 use Rattle.demand3.specs.Machine.{machine}
 use Rattle.demand3.specs.Bridge.{bridge}
 use Rattle.demand3.specs.Beside.{coreAfter, bareAfter}
@@ -31,12 +33,13 @@ module _ (list : List (Fed real machine)) (seen : Shown real machine freshCore l
   abbrev pub t : Tlb
   t = coreAfter (lentOf real machine list) .tlb
 
-  -- JUDGED: each translation of each step of a call after it, after the steps before in the call, with the RAM m at the step's start
+  -- JUDGED: each translation of each step of a call after it, after the steps before in the call, with the RAM m at the
+  -- step's start
   pub every-call-judged : (before : List (Event real)) (m : Ram) (s : Step real)
       → Each (λ g. Judged (eventsRun real machine freshBare list ++ before) m (g .ask) (g .answer))
       (answers real (plainAfter real machine freshBare list before) m (s .asks)
       (tlbRun real (plainAfter real machine freshBare list []) before (coreAfter (lentOf real machine list) .tlb)))
-  unfolding freshCore freshBare
+  unfolding freshCore
   every-call-judged before m s =
       lifted real machine bridge real-laws freshCore refl fresh-asid (omega arith) (λ past k g. Judged past k (g .ask) (g .answer)) every-judgement list
       seen before m s

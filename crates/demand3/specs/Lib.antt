@@ -19,7 +19,6 @@ pub mod Counted
 -- The bytes.
 pub mod Bytes
 -- The proof.
-pub mod Asks
 pub mod Answered
 pub mod Alone
 pub mod Bridge

@@ -1,12 +1,13 @@
 -- The core as a machine of the theory: its step is `stepOf` of `cpu`, which the contract of the code's `step` cites.
+use Rattle.mmu.specs.Bare.{Bare, bareOf}
 use Rattle.mmu.specs.declared.core.Core.{Core}
 use Rattle.cpu.specs.Step.{stepOf}
 use Rattle.cpu.specs.declared.call.Call.{Call}
 use Rattle.history.specs.Calls.{Machine}
 use Rattle.history.specs.Instance.{real}
-use Rattle.demand3.specs.Bare.{Bare, plainIn, bareStep}
+use Rattle.demand3.specs.Bare.{plainIn, bareStep}
 use Rattle.demand3.specs.Events.{eventsIn}
-use Rattle.demand3.specs.Starts.{bareOf, laterIn}
+use Rattle.demand3.specs.Starts.{laterIn}
 
 abbrev pub machine : Machine real
 machine =

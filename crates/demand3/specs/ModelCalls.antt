@@ -1,7 +1,8 @@
--- The plain model of the cache, call by call: after every list of calls from the fresh core, whatever RAM is at each step, the core's cache stands
--- for the model that the list's steps make of the empty one, and the next call's answers, counters and what it leaves pending are the model's.
--- The model is that of tlb/specs/Model.antt, its run over steps that of history/specs/ModelRun.antt; the steps are read from the state without a
--- cache and RAM at each step, as the run shows it (Starts.antt).
+-- The plain model of the cache, call by call: after every list of calls from the fresh core, whatever RAM is at each
+-- step, the core's cache stands for the model that the list's steps make of the empty one, and the next call's answers,
+-- counters and what it leaves pending are the model's. The model is that of tlb/specs/Model.antt, its run over steps
+-- that of history/specs/ModelRun.antt; the steps are read from the state without a cache and RAM at each step, as the
+-- run shows it (Starts.antt).
 use mathlib.Core.Path.{_≡_, refl, sym, ap, subst, _∙_}
 use mathlib.Core.List.{List}
 use Prim.Native.Nat.{_≤_}
@@ -10,22 +11,25 @@ use Rattle.sysreg.specs.Shape.{asidOf}
 use Rattle.tlb.specs.Tlb.{fresh}
 use Rattle.tlb.specs.Model.{Model, emptyModel}
 use Rattle.tlb.specs.Live.{countersOf, pendingOf, live, WellFormed}
+use Rattle.tlb.specs.Asks.{Given}
 use Rattle.tlb.specs.declared.Tlb.{Tlb}
+use Rattle.mmu.specs.Bare.{Bare, freshBare, bareOf}
 use Rattle.mmu.specs.Core.{freshCore}
 use Rattle.mmu.specs.declared.core.Core.{Core}
 use Rattle.cpu.specs.Step.{stepOf}
 use Rattle.cpu.specs.declared.call.Call.{Call}
 use Rattle.history.specs.World.{Plain}
-use Rattle.history.specs.History.{Given, Event, plainRun, tlbRun}
-use Rattle.history.specs.Theorem.{run-low, history-asid, history-well}
+use Rattle.history.specs.History.{Event, plainRun, tlbRun}
+use Rattle.history.specs.Lists.{run-low}
+use Rattle.history.specs.Theorem.{history-asid, history-well}
 use Rattle.history.specs.ModelRun.{modelRun, modelAnswersRun, StandsFor, run-stands, fresh-stands, answers-run-live}
 use Rattle.history.specs.Calls.{Lent, eventsRun}
 use Rattle.history.specs.EveryCall.{shown-lent, shown-shown, run-plain, run-tlb}
 use Rattle.history.specs.Instance.{Ram, real, real-laws, fresh-asid}
-use Rattle.demand3.specs.Bare.{Bare, freshBare, plainIn}
+use Rattle.demand3.specs.Bare.{plainIn}
 use Rattle.demand3.specs.Events.{eventsIn}
 use Rattle.demand3.specs.Replies.{outcomeOf, saysIn}
-use Rattle.demand3.specs.Starts.{bareOf, laterIn}
+use Rattle.demand3.specs.Starts.{laterIn}
 use Rattle.demand3.specs.Machine.{machine}
 use Rattle.demand3.specs.Bridge.{bridge, fits}
 use Rattle.demand3.specs.Beside.{coreAfter, bareAfter, two-cores}
@@ -43,7 +47,8 @@ abbrev pub modelAfterCall : List (Lent real machine) → Ram → Call → Model
 modelAfterCall list m x = modelRun real (plainIn (bareAfter list)) (eventsAfter list m x) (modelAfterList list)
 
 abbrev pub modelAnswersAfter : List (Lent real machine) → Ram → Call → List Given
-modelAnswersAfter list m x = modelAnswersRun real (plainIn (bareAfter list)) (eventsAfter list m x) (modelAfterList list)
+modelAnswersAfter list m x =
+    modelAnswersRun real (plainIn (bareAfter list)) (eventsAfter list m x) (modelAfterList list)
 
 -- the cache after that call
 abbrev pub tlbAfterCall : List (Lent real machine) → Ram → Call → Tlb
@@ -51,25 +56,27 @@ tlbAfterCall list m x = stepOf (coreAfter list) (m .base) (m .bytes) x .core .tl
 
 module _ (list : List (Lent real machine)) where
   tlb-run : coreAfter list .tlb ≡ tlbRun real (plainIn freshBare) (eventsBy list) fresh
-  unfolding freshCore freshBare
+  unfolding freshCore
   tlb-run =
       subst (λ (l : List (Lent real machine)). coreAfter l .tlb ≡ tlbRun real (plainIn freshBare) (eventsBy list) fresh)
       (shown-lent real machine freshCore list) (run-tlb real machine bridge freshCore (fedBy list) (shown-shown real machine freshCore list))
 
   plain-run : plainIn (bareOf (coreAfter list)) ≡ plainRun real (plainIn freshBare) (eventsBy list)
-  unfolding freshCore freshBare
+  unfolding freshCore
   plain-run =
       subst (λ (l : List (Lent real machine)). plainIn (bareOf (coreAfter l)) ≡ plainRun real (plainIn freshBare) (eventsBy list))
       (shown-lent real machine freshCore list) (run-plain real machine bridge freshCore (fedBy list) (shown-shown real machine freshCore list))
 
   fresh-low : plainIn freshBare .who .level ≤ 3
-  unfolding freshBare
   fresh-low = omega arith
 
   stands : StandsFor (coreAfter list .tlb) (modelAfterList list)
-  stands = subst (λ (t : Tlb). StandsFor t (modelAfterList list)) (sym tlb-run) (run-stands real real-laws (eventsBy list) (plainIn freshBare) fresh-low (fresh-stands real real-laws))
+  stands =
+      subst (λ (t : Tlb). StandsFor t (modelAfterList list)) (sym tlb-run)
+      (run-stands real real-laws (eventsBy list) (plainIn freshBare) fresh-low (fresh-stands real real-laws))
 
--- EVERY CORE THAT CALLS REACH: its level is 3 at most, its cache is well-formed, and the cache's ASID is that of the registers.
+-- EVERY CORE THAT CALLS REACH: its level is 3 at most, its cache is well-formed, and the cache's ASID is that of the
+-- registers.
 
 pub record Well (c : Core) : Type 0 where
   pub level : c .who .level ≤ 3
@@ -77,10 +84,9 @@ pub record Well (c : Core) : Type 0 where
   pub asid : c .tlb .cache .present .asid ≡ asidOf (c .control)
 
 pub every-core-well : (list : List (Lent real machine)) → Well (coreAfter list)
-unfolding freshBare
 every-core-well list =
     record {
-      level = subst (λ (p : Plain real). p .who .level ≤ 3) (sym (plain-run list)) (run-low real real-laws (eventsBy list) (plainIn freshBare) (fresh-low list));
+      level = subst (λ (p : Plain real). p .who .level ≤ 3) (sym (plain-run list)) (run-low real (eventsBy list) (plainIn freshBare) (fresh-low list));
       cache = subst WellFormed (sym (tlb-run list)) (history-well real real-laws (plainIn freshBare) fresh-asid (fresh-low list) (eventsBy list));
       asid =
           ap (λ (t : Tlb). t .cache .present .asid) (tlb-run list)

@@ -1,32 +1,29 @@
--- What a call replies, and RAM after it: of the core, made from the answers to its translations, through which alone the cache reaches a reply
--- (`reply-is`, in Answered.antt), so that demand 3 of them is demand 3 of what a caller sees; and of the core without a cache, from its own
--- state, RAM as the call begins, and the call.
+-- What a call replies, and RAM after it: of the core, made from the answers to its translations, through which alone
+-- the cache reaches a reply (`reply-is`, in Answered.antt), so that demand 3 of them is demand 3 of what a caller sees;
+-- and of the core without a cache, from its own state, RAM as the call begins, and the call.
 use mathlib.Core.List.{List, [], _∷_}
 use Prim.Native.Nat.{ℕ, zero, suc, _+_}
 use Rattle.word.specs.Bits.{alignDown, wrap}
 use Rattle.word.specs.Ram.{widthOf, bytesIn}
 use Rattle.word.specs.declared.ram.Sized.{Sized}
 use Rattle.word.specs.declared.ram.Sized.the-variants as Sized
+use Rattle.tlb.specs.Asks.{Ask, Given}
 use Rattle.tlb.specs.declared.access.Kind.the-variants as Kind
-use Rattle.tlb.specs.declared.access.Answer.{Answer}
-use Rattle.tlb.specs.declared.access.Answer.the-variants.{Status}
 use Rattle.sysop.specs.declared.op.SysOp.{SysOp}
 use Rattle.sysop.specs.declared.op.SysOp.the-variants as Op
-use Rattle.mmu.specs.Place.{placedOne, placedBoth}
+use Rattle.mmu.specs.Bare.{Bare}
+use Rattle.mmu.specs.Asks.{firstOf, placedBy}
 use Rattle.mmu.specs.Ends.{loadEnd, storeEnd, storeRamEnd, fetchEnd, reachedBy}
 use Rattle.mmu.specs.declared.core.Core.{Core}
-use Rattle.mmu.specs.declared.place.Placed.{Placed}
-use Rattle.mmu.specs.declared.place.Placed.the-variants.{Fault}
 use Rattle.cpu.specs.Step.{translation, loading, storing, fetching, reaching, stepOf, ramAfter}
 use Rattle.cpu.specs.declared.call.Call.{Call}
 use Rattle.cpu.specs.declared.call.Call.the-variants.{Translate, DataPa, FetchPa, Load, Store, Fetch, System, Register, Level, Mark, General, Abort}
 use Rattle.cpu.specs.declared.call.Reply.{Reply}
 use Rattle.cpu.specs.declared.call.Reply.the-variants.{Refused, Done, Value, Faults, Fault as Faulted, Stopped}
 use Rattle.history.specs.World.{uncached}
-use Rattle.history.specs.History.{Ask, Given}
 use Rattle.history.specs.Invisible.{plainAnswers}
 use Rattle.history.specs.Instance.{Ram, real}
-use Rattle.demand3.specs.Bare.{Bare, plainIn, opIn, operandIn, verdictIn, refusalOf, ifAllowed}
+use Rattle.demand3.specs.Bare.{plainIn, opIn, operandIn, rulingIn, refusalOf, ifAllowed}
 use Rattle.demand3.specs.Events.{accessIn, sizedIn}
 use Rattle.demand3.specs.Starts.{ramWith}
 
@@ -44,24 +41,14 @@ outcomeOf c m x = outcome (stepOf c (m .base) (m .bytes) x .reply) (ramAfter c (
 
 -- FROM THE ANSWERS
 
--- a call of one translation has one answer
-abbrev pub firstOf : List Given → Answer
-firstOf [] = Status 0
-firstOf (g ∷ l) = g .answer
-
--- an access has one, or two where it is split and the first is an address
-abbrev pub placedIn : ℕ → List Given → Placed
-placedIn va [] = Fault va 0
-placedIn va (g ∷ []) = placedOne va (g .answer)
-placedIn va (g ∷ h ∷ l) = placedBoth va (g .answer) (h .answer)
-
 -- loads and stores of n bytes; `last_pa` and `abort_pa` reach no answer, and 0 stands for them
 abbrev pub loadSays : Ram → ℕ → ℕ → List Given → Outcome
-loadSays m va n gs = outcome (loading (loadEnd (placedIn va gs) 0 0 (m .base) (m .bytes) va n .answer)) (m .bytes)
+loadSays m va n gs = outcome (loading (loadEnd (placedBy va gs) 0 0 (m .base) (m .bytes) va n .answer)) (m .bytes)
 
 abbrev pub storeSays : Ram → ℕ → ℕ → ℕ → List Given → Outcome
 storeSays m va n v gs =
-    outcome (storing (storeEnd (placedIn va gs) 0 (m .base) (m .bytes) va n .answer)) (storeRamEnd (placedIn va gs) (m .base) (m .bytes) n v)
+    outcome (storing (storeEnd (placedBy va gs) 0 (m .base) (m .bytes) va n .answer))
+    (storeRamEnd (placedBy va gs) (m .base) (m .bytes) n v)
 
 abbrev pub fetchSays : Ram → ℕ → List Given → Outcome
 fetchSays m va gs = outcome (fetching (fetchEnd (firstOf gs) 0 (m .base) (m .bytes) va .answer)) (m .bytes)
@@ -74,7 +61,8 @@ abbrev pub storeSized : Sized → Ram → ℕ → ℕ → List Given → Outcome
 storeSized (Sized.Bytes w) m va v gs = storeSays m va (bytesIn w) v gs
 storeSized Sized.Refused m va v gs = outcome (Refused 3) (m .bytes)
 
--- A zeroing replies as the last store begun, and RAM is as that one leaves it; each store has one answer, so that the case without one is none.
+-- A zeroing replies as the last store begun, and RAM is as that one leaves it; each store has one answer, so that the
+-- case without one is none.
 abbrev pub zeroSays : Ram → List Ram → ℕ → List Given → Outcome
 zeroSays m [] va gs = storeSays m va 8 0 gs
 zeroSays m (n ∷ ms) va [] = outcome Done (m .bytes)
@@ -105,7 +93,7 @@ callSays b m ms (Abort e) gs = outcome Done (m .bytes)
 
 -- "Where the table refuses the call, it gives that refusal."
 abbrev pub saysIn : Bare → Ram → List Ram → Call → List Given → Outcome
-saysIn b m ms x gs = ifAllowed (verdictIn b m x) (callSays b m ms x gs) (outcome (refusalOf (verdictIn b m x)) (m .bytes))
+saysIn b m ms x gs = ifAllowed (rulingIn b m x) (callSays b m ms x gs) (outcome (refusalOf (rulingIn b m x)) (m .bytes))
 
 -- OF THE CORE WITHOUT A CACHE
 
@@ -144,9 +132,11 @@ callAlone b m (Translate kind va) = outcome (translation va (uncached real (plai
 callAlone b m (DataPa va) = outcome (reaching (reachedBy (uncached real (plainIn b) m Kind.Read va))) (m .bytes)
 callAlone b m (FetchPa va) = outcome (reaching (reachedBy (uncached real (plainIn b) m Kind.Fetch va))) (m .bytes)
 callAlone b m (Load va size) = loadSized (widthOf size) m va (answersAlone b m (sizedIn b va (widthOf size) Kind.Read))
-callAlone b m (Store va size value) = storeSized (widthOf size) m va value (answersAlone b m (sizedIn b va (widthOf size) Kind.Write))
+callAlone b m (Store va size value) =
+    storeSized (widthOf size) m va value (answersAlone b m (sizedIn b va (widthOf size) Kind.Write))
 callAlone b m (Fetch va) =
-    outcome (fetching (fetchEnd (uncached real (plainIn b) m Kind.Fetch va) 0 (m .base) (m .bytes) va .answer)) (m .bytes)
+    outcome (fetching (fetchEnd (uncached real (plainIn b) m Kind.Fetch va) 0 (m .base) (m .bytes) va .answer))
+    (m .bytes)
 callAlone b m (System e) = sysAlone (opIn b e) b m (operandIn b e)
 callAlone b m (Register key value) = outcome Done (m .bytes)
 callAlone b m (Level level) = outcome Done (m .bytes)
@@ -156,4 +146,4 @@ callAlone b m (Abort e) = outcome Done (m .bytes)
 
 -- its reply to a call, and RAM after it
 abbrev pub bareReply : Bare → Ram → Call → Outcome
-bareReply b m x = ifAllowed (verdictIn b m x) (callAlone b m x) (outcome (refusalOf (verdictIn b m x)) (m .bytes))
+bareReply b m x = ifAllowed (rulingIn b m x) (callAlone b m x) (outcome (refusalOf (rulingIn b m x)) (m .bytes))

@@ -1,26 +1,24 @@
--- RAM as it stands when each step of a call begins, as the run on the core shows it: the one place where the premise meets the core. A call's first
--- step begins on the RAM that the list gives; a zeroing's further stores begin on what its earlier stores have left, and there are as many as the core
--- began (a store that was not begun would have the same registers and RAM as the last one, and so the same walk). `Shown` of history's Calls is the
--- hypothesis that the list is fed so.
+-- RAM as it stands when each step of a call begins, as the run on the core shows it: the one place where the premise
+-- meets the core. A call's first step begins on the RAM that the list gives; a zeroing's further stores begin on what
+-- its earlier stores have left, and there are as many as the core began (a store that was not begun would have the same
+-- registers and RAM as the last one, and so the same walk). `Shown` of history's Calls is the hypothesis that the list
+-- is fed so.
 use mathlib.Core.List.{List, [], _∷_}
 use Prim.Native.Nat.{ℕ, zero, suc, _+_}
 use Rattle.word.specs.Bits.{alignDown, wrap}
 use Rattle.sysop.specs.declared.op.SysOp.{SysOp}
 use Rattle.sysop.specs.declared.op.SysOp.the-variants as Op
+use Rattle.mmu.specs.Bare.{bareOf}
 use Rattle.mmu.specs.Ops.{writeOf, ramAfterWrite}
 use Rattle.mmu.specs.declared.core.Core.{Core}
 use Rattle.exec.specs.Sys.{onStored}
 use Rattle.cpu.specs.declared.call.Call.{Call}
 use Rattle.cpu.specs.declared.call.Call.the-variants.{Translate, DataPa, FetchPa, Load, Store, Fetch, System, Register, Level, Mark, General, Abort}
-use Rattle.history.specs.Instance.{Ram}
-use Rattle.demand3.specs.Bare.{Bare, opIn, operandIn, verdictIn, ifAllowed}
-
--- the state of a core without its cache
-abbrev pub bareOf : Core → Bare
-bareOf c = record { who = c .who; flags = c .flags; pc = c .pc; x = c .x; control = c .control; sys = c .sys }
+use Rattle.history.specs.Instance.{Ram, windowOf}
+use Rattle.demand3.specs.Bare.{opIn, operandIn, rulingIn, ifAllowed}
 
 abbrev pub ramWith : Ram → List ℕ → Ram
-ramWith m bytes = record { base = m .base; bytes = bytes }
+ramWith m bytes = windowOf (m .base) bytes
 
 -- RAM after a store of eight zero bytes
 abbrev pub ramZeroed : Core → Ram → ℕ → Ram
@@ -58,4 +56,4 @@ laterOf c m (Abort e) = []
 
 -- a refused call has one step
 abbrev pub laterIn : Core → Ram → Call → List Ram
-laterIn c m x = ifAllowed (verdictIn (bareOf c) m x) (laterOf c m x) []
+laterIn c m x = ifAllowed (rulingIn (bareOf c) m x) (laterOf c m x) []

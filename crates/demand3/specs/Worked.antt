@@ -1,5 +1,5 @@
--- A worked list of calls, by computation on the core itself: demand 3's premise holds where the cache answers, and fails where a table was changed
--- without a TLBI.
+-- A worked list of calls, by computation on the core itself: demand 3's premise holds where the cache answers, and
+-- fails where a table was changed without a TLBI.
 use mathlib.Core.Path.{_≡_, refl, sym, ap, subst, _∙_}
 use mathlib.Core.Bool.{true, false, false≢true, true≢false}
 use mathlib.Core.List.{List, [], _∷_, _++_}
@@ -20,42 +20,44 @@ use Rattle.walk.specs.Walk.{walkOf}
 use Rattle.walk.specs.declared.regime.Regime.the-variants.{El1}
 use Rattle.walk.specs.declared.level.Leaf.{Leaf}
 use Rattle.walk.specs.declared.level.Walked.the-variants.{Mapped, Fault}
+use Rattle.tlb.specs.Maintenance.{invalidatedOf, reshapedOf, retaggedOf}
 use Rattle.tlb.specs.Lists.{Each}
 use Rattle.tlb.specs.Entry.{pageDropped}
 use Rattle.tlb.specs.Hint.{placeOf}
 use Rattle.tlb.specs.Cache.{blanks, noHints, flushed, withoutPage}
 use Rattle.tlb.specs.Tlb.{flushOf, dropPageOf, invalidateOf}
-use Rattle.tlb.specs.Access.{judged as entryJudged}
+use Rattle.tlb.specs.Access.{judged}
 use Rattle.tlb.specs.Resolve.{byWalk, resolveWith}
 use Rattle.tlb.specs.Turn.{missWith, applied, turnWith}
 use Rattle.tlb.specs.Step.{turnIn}
+use Rattle.tlb.specs.Asks.{translates}
 use Rattle.tlb.specs.declared.access.Kind.the-variants.{Read}
 use Rattle.tlb.specs.declared.access.Answer.the-variants.{Address}
 use Rattle.tlb.specs.declared.resolve.Source.the-variants.{FromHint}
 use Rattle.tlb.specs.declared.Inval.the-variants.{Page}
+use Rattle.mmu.specs.Bare.{freshBare, bareOf}
 use Rattle.mmu.specs.Core.{zeros, freshCore, regOf, setReg, movedTo}
-use Rattle.mmu.specs.Step.{stepOf as stepMmu}
+use Rattle.mmu.specs.Step.{translateIn}
 use Rattle.mmu.specs.Ops.{steppedNow, translateOf}
 use Rattle.sysop.specs.Op.{named, decodeOf}
 use Rattle.sysop.specs.Tlbi.{scopeOf, whatOf, tlbiOf}
-use Rattle.exec.specs.Fit.{reshapedOf, retaggedOf, refitOf}
+use Rattle.exec.specs.Fit.{refitOf}
 use Rattle.exec.specs.Ops.{withRegs, appliedOf, writeRegister, setLevel}
-use Rattle.exec.specs.Sys.{invalidatedOf, tlbiCore, sysOf}
+use Rattle.exec.specs.Sys.{tlbiCore, sysOf}
 use Rattle.cpu.specs.Check.{missedOf}
 use Rattle.cpu.specs.Step.{translation, runOf, stepOf}
 use Rattle.cpu.specs.declared.call.Call.{Call}
 use Rattle.cpu.specs.declared.call.Call.the-variants.{Translate, Register, Level, General, System}
 use Rattle.cpu.specs.declared.call.Reply.the-variants.{Value}
-use Rattle.history.specs.World.{Agree, covers, judge, judged, pageWalk, uncached, accessOf}
+use Rattle.history.specs.World.{LeavesEqual, covers, leafAnswer, walkAnswer, pageWalk, uncached, accessOf}
 use Rattle.history.specs.Lists.{each-head}
-use Rattle.history.specs.History.{translates, carries, writes, Event, steps}
+use Rattle.history.specs.History.{carries, writes, Event, steps}
 use Rattle.history.specs.StepByStep.{HoldsFrom, steps-settled}
 use Rattle.history.specs.Calls.{Lent}
 use Rattle.history.specs.EveryCall.{shown-shown}
 use Rattle.history.specs.Instance.{Ram, real}
-use Rattle.demand3.specs.Bare.{freshBare, plainIn, missedIn}
+use Rattle.demand3.specs.Bare.{plainIn, missedIn}
 use Rattle.demand3.specs.Events.{does, asking, idle, setting}
-use Rattle.demand3.specs.Starts.{bareOf}
 use Rattle.demand3.specs.Machine.{machine}
 use Rattle.demand3.specs.Beside.{coreAfter, bareAfter}
 use Rattle.demand3.specs.Faithful.{fedBy}
@@ -83,7 +85,8 @@ lent m x = record { ram = m; call = x }
 abbrev pub read : Call
 read = Translate Read 0x40001234
 
--- From reset, at EL3: TCR_EL1 (T0SZ 25, TG1 4 KiB), TTBR0_EL1 and SCTLR_EL1.M are written; then EL1, and the page 0x40001 is read by the old table.
+-- From reset, at EL3: TCR_EL1 (T0SZ 25, TG1 4 KiB), TTBR0_EL1 and SCTLR_EL1.M are written; then EL1, and the page
+-- 0x40001 is read by the old table.
 abbrev pub start : List (Lent real machine)
 start =
     lent none (Register 0xC102 0x80000019)
@@ -151,11 +154,11 @@ covered ℓ a e us =
 
 -- the new one equals the walk now
 unchanged : (ℓ : Leaf) → pageWalk real registers new El1 0x40001 ≡ Mapped ℓ
-    → (ℓ′ : Leaf) × (pageWalk real registers new El1 0x40001 ≡ Mapped ℓ′) × Agree ℓ ℓ′
+    → (ℓ′ : Leaf) × (pageWalk real registers new El1 0x40001 ≡ Mapped ℓ′) × LeavesEqual ℓ ℓ′
 unchanged ℓ e = (ℓ, e, record { pages = refl; perms = refl; levels = refl })
 
 step-by-step : HoldsFrom real registers new El1 0x40001 (plainIn freshBare) events
-unfolding freshBare freshControl controlWith
+unfolding freshControl controlWith
 step-by-step = (
   λ ℓ on e d us. absurd (false≢true on),
   (
@@ -182,14 +185,14 @@ step-by-step = (
 -- WITH THE TLBI the page is settled, and the cache answers from a hint, as the core without a cache does.
 
 pub settled : SettledAt (fedBy tidied) (shown-shown real machine freshCore tidied) new 0x40001234
-unfolding bytesOf setReg freshBare freshCore zeros freshControl freshSys bankedAt registerAt controlWith sysWith writeReg missedOf named decodeOf scopeOf whatOf tlbiOf untagged
+unfolding bytesOf setReg freshCore zeros freshControl freshSys bankedAt registerAt controlWith sysWith writeReg missedOf named decodeOf scopeOf whatOf tlbiOf untagged
 settled = steps-settled real (plainIn freshBare) events new El1 0x40001 step-by-step
 
 pub by-cache :
     (turnIn (accessOf real (plainIn (bareAfter tidied)) new Read 0x40001234) (coreAfter tidied .tlb) .source ≡ FromHint)
     × (stepOf (coreAfter tidied) (new .base) (new .bytes) read .reply ≡ Value 0xC0001234)
     × (uncached real (plainIn (bareAfter tidied)) new Read 0x40001234 ≡ Address 0xC0001234)
-unfolding stepOf runOf translateOf steppedNow stepMmu movedTo regOf setReg writeRegister appliedOf withRegs refitOf retaggedOf reshapedOf setLevel sysOf tlbiCore invalidatedOf uncached judged judge sameShape asidOf asidBase freshBare freshCore zeros freshControl freshSys bankedAt registerAt controlWith sysWith writeReg missedOf named decodeOf scopeOf whatOf tlbiOf flushOf flushed invalidateOf dropPageOf withoutPage pageDropped turnWith missWith resolveWith byWalk applied entryJudged walkOf tableWalk walkRange walkFrom lookupNext levelNext leafResult leafTranslation leafPermissions tableNext descaddr rangeOf paramsOf paSize untagged wordAt littleEndian bytesOf placeOf blanks noHints
+unfolding stepOf runOf translateOf steppedNow translateIn movedTo regOf setReg writeRegister appliedOf withRegs refitOf retaggedOf reshapedOf setLevel sysOf tlbiCore invalidatedOf uncached walkAnswer leafAnswer sameShape asidOf asidBase freshCore zeros freshControl freshSys bankedAt registerAt controlWith sysWith writeReg missedOf named decodeOf scopeOf whatOf tlbiOf flushOf flushed invalidateOf dropPageOf withoutPage pageDropped turnWith missWith resolveWith byWalk applied judged walkOf tableWalk walkRange walkFrom lookupNext levelNext leafResult leafTranslation leafPermissions tableNext descaddr rangeOf paramsOf paSize untagged wordAt littleEndian bytesOf placeOf blanks noHints
 by-cache = (refl, refl, refl)
 
 -- WITHOUT IT the cache answers by the old table, so the page is not settled.
@@ -198,7 +201,7 @@ pub stale :
     (stepOf (coreAfter start) (new .base) (new .bytes) read .reply ≡ Value 0x80001234)
     × (uncached real (plainIn (bareAfter start)) new Read 0x40001234 ≡ Address 0xC0001234)
     × (missedIn (bareOf (coreAfter start)) new read ≡ 0)
-unfolding stepOf runOf translateOf steppedNow stepMmu movedTo regOf setReg writeRegister appliedOf withRegs refitOf retaggedOf reshapedOf setLevel uncached judged judge sameShape asidOf asidBase freshBare freshCore zeros freshControl freshSys bankedAt registerAt controlWith sysWith writeReg missedOf flushOf flushed turnWith missWith resolveWith byWalk applied entryJudged walkOf tableWalk walkRange walkFrom lookupNext levelNext leafResult leafTranslation leafPermissions tableNext descaddr rangeOf paramsOf paSize untagged wordAt littleEndian bytesOf placeOf blanks noHints
+unfolding stepOf runOf translateOf steppedNow translateIn movedTo regOf setReg writeRegister appliedOf withRegs refitOf retaggedOf reshapedOf setLevel uncached walkAnswer leafAnswer sameShape asidOf asidBase freshCore zeros freshControl freshSys bankedAt registerAt controlWith sysWith writeReg missedOf flushOf flushed turnWith missWith resolveWith byWalk applied judged walkOf tableWalk walkRange walkFrom lookupNext levelNext leafResult leafTranslation leafPermissions tableNext descaddr rangeOf paramsOf paSize untagged wordAt littleEndian bytesOf placeOf blanks noHints
 stale = (refl, refl, refl)
 
 pub unsettled : SettledAt (fedBy start) (shown-shown real machine freshCore start) new 0x40001234 → ⊥

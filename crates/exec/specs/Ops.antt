@@ -10,6 +10,8 @@ use Rattle.sysreg.specs.declared.write.Written.{Written}
 use Rattle.entry.specs.Entry.{takeSync}
 use Rattle.entry.specs.declared.exception.Exception.{Exception}
 use Rattle.entry.specs.declared.take.Entered.{Entered}
+use Rattle.mmu.specs.Bare as Bare
+use Rattle.mmu.specs.Bare.{withEntered, bareOf, inCore}
 use Rattle.mmu.specs.Ops.{withTlb}
 use Rattle.mmu.specs.declared.core.Core.{Core}
 use Rattle.exec.specs.Fit.{refitOf}
@@ -17,18 +19,7 @@ use Rattle.exec.specs.declared.ops.Registered.{Registered}
 
 -- the core with other registers
 unfoldable pub withRegs : Core → Control → SysRegs → Core
-withRegs c k s =
-    record {
-      who = c .who;
-      flags = c .flags;
-      pc = c .pc;
-      x = c .x;
-      control = k;
-      sys = s;
-      tlb = c .tlb;
-      «last_pa» = c .«last_pa»;
-      «abort_pa» = c .«abort_pa»;
-    }
+withRegs c k s = inCore c (Bare.withRegs (bareOf c) k s)
 
 -- a write that is done changes its register, and then the cache by document 01's rule; any other changes nothing
 unfoldable pub appliedOf : Core → Written → Core
@@ -47,18 +38,7 @@ writeRegister c key value = registered c (written c key value) (written c key va
 
 -- a setting stores its value
 abbrev pub withWho : Core → ℕ → Bool → Core
-withWho c level mark =
-    record {
-      who = record { level = level; mark = mark };
-      flags = c .flags;
-      pc = c .pc;
-      x = c .x;
-      control = c .control;
-      sys = c .sys;
-      tlb = c .tlb;
-      «last_pa» = c .«last_pa»;
-      «abort_pa» = c .«abort_pa»;
-    }
+withWho c level mark = inCore c (Bare.withWho (bareOf c) level mark)
 
 unfoldable pub setLevel : Core → ℕ → Core
 setLevel c level = withWho c level (c .who .mark)
@@ -68,18 +48,7 @@ setMark c mark = withWho c (c .who .level) mark
 
 -- level, flags, PC and registers after an exception; all else stays
 abbrev pub entering : Core → Entered → Core
-entering c e =
-    record {
-      who = record { level = e .level; mark = c .who .mark };
-      flags = e .flags;
-      pc = e .pc;
-      x = c .x;
-      control = c .control;
-      sys = e .sys;
-      tlb = c .tlb;
-      «last_pa» = c .«last_pa»;
-      «abort_pa» = c .«abort_pa»;
-    }
+entering c e = inCore c (withEntered (bareOf c) e)
 
 unfoldable pub abortOf : Core → Exception → Core
 abortOf c e = entering c (takeSync (c .who .level) (c .flags) (c .pc) (c .control .«scr_el3») (c .control .«hcr_el2») (c .sys) e)

@@ -1,9 +1,7 @@
 -- System operations on the core.
-use mathlib.Core.Bool.{Bool, true, false}
 use mathlib.Core.List.{List}
 use Prim.Native.Nat.{ℕ, zero, suc, _+_}
-use lib.ListN.{getD}
-use Rattle.word.specs.Bits.{alignDown, pick, wrap}
+use Rattle.word.specs.Bits.{alignDown, wrap}
 use Rattle.word.specs.Ram.{wordAt}
 use Rattle.word.specs.declared.ram.Word.{Word}
 use Rattle.sysreg.specs.Regs.{sysAt}
@@ -11,9 +9,7 @@ use Rattle.sysreg.specs.declared.regs.SysRegs.{SysRegs}
 use Rattle.sysreg.specs.declared.regs.SysReg.the-variants.{Mair}
 use Rattle.walk.specs.Regime.{levelOf}
 use Rattle.walk.specs.declared.regime.Regime.{Regime}
-use Rattle.tlb.specs.Tlb.{invalidateOf, broadcastOf}
-use Rattle.tlb.specs.declared.Tlb.{Tlb}
-use Rattle.tlb.specs.declared.Inval.{Inval}
+unfoldable pub use Rattle.tlb.specs.Maintenance.{invalidatedOf}
 use Rattle.entry.specs.declared.exception.Exception.the-variants as Exception
 use Rattle.entry.specs.declared.exception.Stop.the-variants as Stop
 use Rattle.sysop.specs.Op.{decodeOf}
@@ -22,50 +18,25 @@ use Rattle.sysop.specs.Par.{atPar}
 use Rattle.sysop.specs.declared.op.AtForm.{AtForm}
 use Rattle.sysop.specs.declared.op.SysOp.{SysOp}
 use Rattle.sysop.specs.declared.op.SysOp.the-variants.{At, Tlbi, Zva, Nothing, Undefined, Unimplemented}
+use Rattle.mmu.specs.Bare as Bare
+use Rattle.mmu.specs.Bare.{bareOf, inCore}
 use Rattle.mmu.specs.Core.{regOf}
 use Rattle.mmu.specs.Ops.{withTlb, writeOf, ramAfterWrite}
 use Rattle.mmu.specs.declared.core.Core.{Core}
 use Rattle.mmu.specs.declared.ends.StoreAnswer.{StoreAnswer}
 use Rattle.mmu.specs.declared.ends.StoreAnswer.the-variants.{Done, Stopped}
 use Rattle.mmu.specs.declared.ops.Stored.{Stored}
-use Rattle.exec.specs.Ops.{withRegs}
 
 -- MAIR of a regime
 abbrev pub mairOf : SysRegs → Regime → ℕ
 mairOf s r = sysAt s (Mair (levelOf r))
 
 unfoldable pub withPar : Core → ℕ → Core
-withPar c par =
-    record {
-      who = c .who;
-      flags = c .flags;
-      pc = c .pc;
-      x = c .x;
-      control = c .control;
-      sys =
-          record {
-            mair = c .sys .mair;
-            vbar = c .sys .vbar;
-            elr = c .sys .elr;
-            spsr = c .sys .spsr;
-            esr = c .sys .esr;
-            far = c .sys .far;
-            «vpidr_el2» = c .sys .«vpidr_el2»;
-            «vmpidr_el2» = c .sys .«vmpidr_el2»;
-            «par_el1» = par;
-          };
-      tlb = c .tlb;
-      «last_pa» = c .«last_pa»;
-      «abort_pa» = c .«abort_pa»;
-    }
+withPar c par = inCore c (Bare.withPar (bareOf c) par)
 
 -- AT walks afresh, and PAR_EL1 alone changes
 unfoldable pub atOf : Core → (ℕ → Word) → AtForm → ℕ → Core
 atOf c memory form va = withPar c (atPar (c .control) (mairOf (c .sys) (form .regime)) form va memory)
-
--- a TLBI is carried out, and where it reaches other cores it is left pending
-unfoldable pub invalidatedOf : Tlb → Inval → Bool → Tlb
-invalidatedOf t what shared = pick shared (broadcastOf (invalidateOf t what) what) (invalidateOf t what)
 
 unfoldable pub tlbiCore : Core → ℕ → ℕ → ℕ → ℕ → Core
 tlbiCore c op1 crm op2 x = withTlb c (invalidatedOf (c .tlb) (tlbiOf (c .control) op1 crm op2 x) (reachesOthers crm))

@@ -15,10 +15,10 @@ use Rattle.tlb.specs.declared.access.Kind.the-variants.{Write}
 use Rattle.tlb.specs.declared.access.Answer.{Answer}
 use Rattle.tlb.specs.declared.access.Answer.the-variants.{Address, Status}
 use Rattle.mmu.specs.Core.{movedTo, bankNow}
-use Rattle.mmu.specs.Place.{inPage, crosses, goesOn, placedOne, judged}
+use Rattle.mmu.specs.Place.{inPage, crosses, goesOn, placedOne, verdictOf}
 use Rattle.mmu.specs.Bytes.{storeRam}
 use Rattle.mmu.specs.BytesLaws.{stored-leaves}
-use Rattle.mmu.specs.Step.{onePage, stepOf, locatedOf}
+use Rattle.mmu.specs.Step.{onePage, translateIn, locatedOf}
 use Rattle.mmu.specs.Ends.{storeEnd, storeRamEnd}
 use Rattle.mmu.specs.Ops.{steppedNow, locatedNow, translateOf, writeOf, ramAfterWrite}
 use Rattle.mmu.specs.OpLaws.{onNow}
@@ -52,9 +52,9 @@ module _ (c : Core) (base : ℕ) (ram : List ℕ) (a : ℕ) (even : a % 8 ≡ 0)
       go false = refl
 
   -- it takes one translation
-  pub one-located : locatedNow c (wordAt base ram 8) a 8 Write ≡ onePage a (stepOf (bankNow c) (c .who) (wordAt base ram 8) a Write (c .tlb))
+  pub one-located : locatedNow c (wordAt base ram 8) a 8 Write ≡ onePage a (translateIn (bankNow c) (c .who) (wordAt base ram 8) a Write (c .tlb))
   unfolding locatedNow locatedOf
-  one-located = rw (one-page-only (onNow c)) (go (stepOf (bankNow c) (c .who) (wordAt base ram 8) a Write (c .tlb) .answer) _ _)
+  one-located = rw (one-page-only (onNow c)) (go (translateIn (bankNow c) (c .who) (wordAt base ram 8) a Write (c .tlb) .answer) _ _)
     where
       go : (x : Answer) (y z : Located) → pick (goesOn x false) y z ≡ z
       go (Address pa) y z = refl
@@ -64,7 +64,7 @@ module _ (c : Core) (base : ℕ) (ram : List ℕ) (a : ℕ) (even : a % 8 ≡ 0)
   unfolding translateOf steppedNow
   one-placed = ap (λ (l : Located). l .placed) one-located
 
-  pub one-tlb : writeOf c base ram a 8 .core .tlb ≡ stepOf (bankNow c) (c .who) (wordAt base ram 8) a Write (c .tlb) .tlb
+  pub one-tlb : writeOf c base ram a 8 .core .tlb ≡ translateIn (bankNow c) (c .who) (wordAt base ram 8) a Write (c .tlb) .tlb
   unfolding writeOf movedTo
   one-tlb = ap (λ (l : Located). l .tlb) one-located
 
@@ -79,7 +79,7 @@ module _ (c : Core) (base : ℕ) (ram : List ℕ) (a : ℕ) (even : a % 8 ≡ 0)
 
   -- a store that is done has an address, of eight bytes of RAM
   pub one-done : writeOf c base ram a 8 .answer ≡ Done → (pa : ℕ) × ((answerFor ≡ Address pa) × (within base (length ram) 8 pa ≡ true))
-  unfolding writeOf storeEnd judged
+  unfolding writeOf storeEnd verdictOf
   one-done = go (locatedNow c (wordAt base ram 8) a 8 Write .placed) one-placed answerFor refl
     where
       go : (x : Placed) → x ≡ placedOne a answerFor → (y : Answer) → answerFor ≡ y → storeEnd x (c .«abort_pa») base ram a 8 .answer ≡ Done

@@ -22,8 +22,9 @@ use Rattle.mmu.specs.Core.{bankNow, regOf}
 use Rattle.mmu.specs.BytesLaws.{stored-leaves}
 use Rattle.mmu.specs.PageLaws.{step-offset}
 use Rattle.mmu.specs.PageGiven.{Gives, gives-page, given, step-gives}
-use Rattle.mmu.specs.Step.{stepOf}
+use Rattle.mmu.specs.Step.{translateIn}
 use Rattle.mmu.specs.Ops.{steppedNow, translateOf, writeOf, ramAfterWrite}
+use Rattle.mmu.specs.Bare.{Bare, bareOf}
 use Rattle.mmu.specs.OpLaws.{store as storing, kept, ram-length}
 use Rattle.mmu.specs.declared.core.Core.{Core}
 use Rattle.mmu.specs.declared.ends.StoreAnswer.{StoreAnswer}
@@ -153,26 +154,15 @@ module _ (c : Core) (base : ℕ) (ram : List ℕ) (va : ℕ) (even : va % 8 ≡ 
 
 -- a store leaves level, mark and registers
 module _ (c : Core) (base : ℕ) (ram : List ℕ) (va : ℕ) where
-  who-kept : (n : ℕ) → zeroOf n c base ram va .core .who ≡ c .who
+  bare-kept : (n : ℕ) → bareOf (zeroOf n c base ram va .core) ≡ bareOf c
   unfolding zeroOf
-  who-kept zero = refl
-  who-kept (suc n) = ap (λ (r : Stored). r .core .who) (zero-last base n c ram va) ∙ go (zeroOf n c base ram va .answer) ∙ who-kept n
+  bare-kept zero = refl
+  bare-kept (suc n) = ap (λ (r : Stored). bareOf (r .core)) (zero-last base n c ram va) ∙ go (zeroOf n c base ram va .answer) ∙ bare-kept n
     where
       go : (x : StoreAnswer)
-          → onStored x (writeOf (zeroOf n c base ram va .core) base (zeroRam n c base ram va) (storeVa va n) 8) (zeroOf n c base ram va) .core .who
-          ≡ zeroOf n c base ram va .core .who
-      go Done = kept (zeroOf n c base ram va .core) base (zeroRam n c base ram va) (storing (storeVa va n) 8 0) .who
-      go (Stopped s) = refl
-
-  control-kept : (n : ℕ) → zeroOf n c base ram va .core .control ≡ c .control
-  unfolding zeroOf
-  control-kept zero = refl
-  control-kept (suc n) = ap (λ (r : Stored). r .core .control) (zero-last base n c ram va) ∙ go (zeroOf n c base ram va .answer) ∙ control-kept n
-    where
-      go : (x : StoreAnswer)
-          → onStored x (writeOf (zeroOf n c base ram va .core) base (zeroRam n c base ram va) (storeVa va n) 8) (zeroOf n c base ram va) .core .control
-          ≡ zeroOf n c base ram va .core .control
-      go Done = kept (zeroOf n c base ram va .core) base (zeroRam n c base ram va) (storing (storeVa va n) 8 0) .control
+          → bareOf (onStored x (writeOf (zeroOf n c base ram va .core) base (zeroRam n c base ram va) (storeVa va n) 8) (zeroOf n c base ram va) .core)
+          ≡ bareOf (zeroOf n c base ram va .core)
+      go Done = kept (zeroOf n c base ram va .core) base (zeroRam n c base ram va) (storing (storeVa va n) 8 0)
       go (Stopped s) = refl
 
   -- where n stores are done, fewer are
@@ -193,9 +183,9 @@ module _ (c d : Core) (base : ℕ) (ram : List ℕ) (va pa a : ℕ) (ew : d .who
   unfolding translateOf steppedNow
   again =
       let q = given (bankNow c) (c .who) Write (wordAt base ram 8) (d .tlb) a pa (gives-page (bankNow c) (c .who) Write a same g) in (
-        (λ i. stepOf (bankOf (ec i) (regimeOf (ew i .level))) (ew i) (wordAt base ram 8) a Write (d .tlb) .answer) ∙ q .0,
+        (λ i. translateIn (bankOf (ec i) (regimeOf (ew i .level))) (ew i) (wordAt base ram 8) a Write (d .tlb) .answer) ∙ q .0,
         ap (λ (t : Tlb). t .cache) (one-tlb d base ram a even)
-            ∙ (λ i. stepOf (bankOf (ec i) (regimeOf (ew i .level))) (ew i) (wordAt base ram 8) a Write (d .tlb) .tlb .cache)
+            ∙ (λ i. translateIn (bankOf (ec i) (regimeOf (ew i .level))) (ew i) (wordAt base ram 8) a Write (d .tlb) .tlb .cache)
             ∙ q .1,
       )
 
@@ -233,8 +223,8 @@ module _ (c : Core) (base : ℕ) (ram : List ℕ) (va pa : ℕ) (well : WellForm
   agree (suc n) h e =
       let before = agree n (omega arith) (zero-fewer c base ram va (suc n) n (omega arith) e) in
       let o = offset in
-      let q = again c (zeroOf (suc n) c base ram va .core) base (zeroRam (suc n) c base ram va) va pa (va + 8 * suc n) (who-kept c base ram va (suc n))
-      (control-kept c base ram va (suc n)) (before .gives) (omega arith) (omega arith) in
+      let q = again c (zeroOf (suc n) c base ram va .core) base (zeroRam (suc n) c base ram va) va pa (va + 8 * suc n) (ap (λ (b : Bare). b .who) (bare-kept c base ram va (suc n)))
+      (ap (λ (b : Bare). b .control) (bare-kept c base ram va (suc n))) (before .gives) (omega arith) (omega arith) in
       record {
         answer = q .0 ∙ ap Address (omega arith);
         gives = subst (Gives (bankNow c) (c .who) Write va pa) (sym (ap (λ (d : Core). d .tlb .cache) (core-then (suc n) h e) ∙ q .1)) (before .gives);

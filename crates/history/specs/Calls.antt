@@ -2,9 +2,10 @@
 use mathlib.Core.Path.{_≡_}
 use mathlib.Core.List.{List, [], _∷_, _++_}
 use Rattle.tlb.specs.Lists.{Each}
+use Rattle.tlb.specs.Asks.{kindOf, addressOf, Given}
 use Rattle.tlb.specs.declared.Tlb.{Tlb}
 use Rattle.history.specs.World.{World, Plain, regimeNow, pageNow, uncached}
-use Rattle.history.specs.History.{kindOf, addressOf, Given, Step, Event, steps, plainRun, answers, tlbRun, Settled}
+use Rattle.history.specs.History.{Step, Event, steps, plainRun, answers, tlbRun, Settled}
 use Rattle.history.specs.Invisible.{answersRun, plainAnswersRun, Tidy}
 
 -- A core by its operations' exact definitions, and document 01's core without a cache beside it.
@@ -31,8 +32,8 @@ pub record Lent (w : World) (M : Machine w) : Type 0 where
   pub ram : w .Ram
   pub call : M .Call
 
--- "It is fed each step's call with its arguments and that step's RAM, and no answers": the call, with RAM as it stands when each of its steps
--- begins
+-- "It is fed each step's call with its arguments and that step's RAM, and no answers": the call, with RAM as it stands
+-- when each of its steps begins
 pub record Fed (w : World) (M : Machine w) : Type 0 where
   pub lent : Lent w M
   pub later : List (w .Ram)
@@ -63,8 +64,8 @@ module _ (w : World) (M : Machine w) where
   eventsRun b [] = []
   eventsRun b (x ∷ xs) = eventsFed b x ++ eventsRun (M .bareStep b (x .lent .ram) (x .lent .call)) xs
 
-  -- WHAT TIES THE TWO: RAM at each step is what the run on the core c shows. A call's first step begins on the RAM that the list gives; while the
-  -- call runs only the call writes RAM, so further steps begin on what it has written.
+  -- WHAT TIES THE TWO: RAM at each step is what the run on the core c shows. A call's first step begins on the RAM that
+  -- the list gives; while the call runs only the call writes RAM, so further steps begin on what it has written.
 
   abbrev pub ShownIn : M .Core → Fed w M → Type 0
   ShownIn c x = x .later ≡ M .later c (x .lent .ram) (x .lent .call)
@@ -90,12 +91,14 @@ module _ (w : World) (M : Machine w) where
   abbrev pub eventsOf : M .Core → w .Ram → M .Call → List (Event w)
   eventsOf c m x = M .events (M .bare c) m (M .later c m x) x
 
-  -- All that is to be shown of the calls: the cache does not reach the rest of the state, and each call does to registers, level, mark and the
-  -- whole of the `Tlb`, counters and what is pending included, what its steps do.
+  -- All that is to be shown of the calls: the cache does not reach the rest of the state, and each call does to
+  -- registers, level, mark and the whole of the `Tlb`, counters and what is pending included, what its steps do.
   pub record Bridge : Type 0 where
     pub bare-is : (c : M .Core) (m : w .Ram) (x : M .Call) → M .bare (M .step c m x) ≡ M .bareStep (M .bare c) m x
-    pub plain-is : (c : M .Core) (m : w .Ram) (x : M .Call) → M .plain (M .bareStep (M .bare c) m x) ≡ plainRun w (plainOf c) (eventsOf c m x)
-    pub tlb-is : (c : M .Core) (m : w .Ram) (x : M .Call) → M .tlb (M .step c m x) ≡ tlbRun w (plainOf c) (eventsOf c m x) (M .tlb c)
+    pub plain-is : (c : M .Core) (m : w .Ram) (x : M .Call)
+        → M .plain (M .bareStep (M .bare c) m x) ≡ plainRun w (plainOf c) (eventsOf c m x)
+    pub tlb-is : (c : M .Core) (m : w .Ram) (x : M .Call)
+        → M .tlb (M .step c m x) ≡ tlbRun w (plainOf c) (eventsOf c m x) (M .tlb c)
 
   -- DEMAND 3
 
@@ -112,10 +115,11 @@ module _ (w : World) (M : Machine w) where
   -- Where the page of a translation is settled, its answer is that of the core without a cache.
   abbrev pub FaithfulIn : M .Bare → List (Fed w M) → List (Event w) → w .Ram → Given → Type 0
   FaithfulIn b₀ list before m g =
-      SettledIn b₀ list before m g → g .answer ≡ uncached w (plainAfter b₀ list before) m (kindOf (g .ask)) (addressOf (g .ask))
+      SettledIn b₀ list before m g
+      → g .answer ≡ uncached w (plainAfter b₀ list before) m (kindOf (g .ask)) (addressOf (g .ask))
 
-  -- Demand 3 for calls: after every list of calls from the fresh core c₀, in every call x after it, at each step s of x, with the RAM m at its
-  -- start. The steps before s in x, the earlier stores of a zeroing, belong to the list.
+  -- Demand 3 for calls: after every list of calls from the fresh core c₀, in every call x after it, at each step s of
+  -- x, with the RAM m at its start. The steps before s in x, the earlier stores of a zeroing, belong to the list.
   abbrev pub Demand3Calls : M .Core → Type 0
   Demand3Calls c₀ =
       (list : List (Fed w M)) → Shown c₀ list → (x : Fed w M) → ShownIn (run c₀ (lentOf list)) x →
@@ -156,7 +160,8 @@ module _ (w : World) (M : Machine w) where
   bareReplies A b [] = []
   bareReplies A b (x ∷ xs) = A .bareReply b (x .ram) (x .call) ∷ bareReplies A (M .bareStep b (x .ram) (x .call)) xs
 
-  -- The corollary to read first: where no table is changed without the matching TLBI, no reply of a list shows the cache.
+  -- The corollary to read first: where no table is changed without the matching TLBI, no reply of a list shows the
+  -- cache.
   abbrev pub InvisibleCalls : Replies → M .Core → Type 0
   InvisibleCalls A c₀ =
       (list : List (Fed w M)) → Shown c₀ list → Tidy w (M .plain (M .bare c₀)) [] (eventsRun (M .bare c₀) list) →

@@ -1,4 +1,5 @@
--- What follows from demand 3: the answers of one translation, of a step, of a whole list; and pages that need no premise.
+-- What follows from demand 3: the answers of one translation, of a step, of a whole list; and pages that need no
+-- premise.
 use mathlib.Core.Path.{_≡_, refl, sym, ap, ap₂, _∙_}
 use mathlib.Core.Bool.{Bool, true, false, true≢false}
 use mathlib.Core.List.{List, [], _∷_, _++_, append-nil, append-assoc}
@@ -8,13 +9,14 @@ use Rattle.walk.specs.declared.regime.Regime.{Regime}
 use Rattle.walk.specs.declared.level.Leaf.{Leaf}
 use Rattle.tlb.specs.Lists.{Each, more}
 use Rattle.tlb.specs.Tlb.{fresh}
+use Rattle.tlb.specs.Asks.{Ask, kindOf, addressOf, Given, onward}
 use Rattle.tlb.specs.declared.access.Answer.{Answer}
 use Rattle.tlb.specs.declared.access.Answer.the-variants.{Address, Status}
 use Rattle.tlb.specs.declared.Inval.the-variants.{All}
 use Rattle.tlb.specs.declared.Tlb.{Tlb}
 use Rattle.history.specs.Lists.{each-left, each-right, each-head, plain-append, tlb-append}
 use Rattle.history.specs.World.{World, Laws, covers, Plain, uncached}
-use Rattle.history.specs.History.{Ask, kindOf, addressOf, Given, Effect, nothing, carries, writes, turns, Step, Event, steps, receives, after, plainRun, drops, dropsRun, answerOf, askedOf, onward, answers, tlbRun, Settled, SettledFor, Faithful}
+use Rattle.history.specs.History.{Effect, nothing, carries, writes, sets, Step, Event, steps, receives, after, plainRun, drops, dropsRun, answerOf, tlbAsk, answers, tlbRun, Settled, SettledFor, FaithfulAnswer}
 use Rattle.history.specs.Theorem.{demand-3}
 use Rattle.history.specs.Invisible.{plainAnswers, answersRun, plainAnswersRun, Tidy, Invisible}
 
@@ -27,7 +29,7 @@ module _ (w : World) (laws : Laws w) where
     unfolding covers
     effect-on nothing c us = refl
     effect-on (carries v shared) c us = refl
-    effect-on (turns who low) c us = refl
+    effect-on (sets who low) c us = refl
     effect-on (writes R) c us = go (w .same-shape (c .regs) R) refl us
       where
         go : (b : Bool) → w .same-shape (c .regs) R ≡ b → Each (λ v. covers v p ℓ a ≡ false) (pick b [] (All ∷ [])) → w .on R r ≡ w .on (c .regs) r
@@ -65,25 +67,25 @@ module _ (w : World) (laws : Laws w) where
     one-settled past m a st = each-head (demand-3 w laws c₀ zero-asid low past m (record { asks = a ∷ []; effect = nothing })) st
 
     -- where all pages of a step are settled, all its answers are those of the core without a cache
-    same-answers : (past : List (Event w)) (m : w .Ram) (l : List Ask) (t : Tlb) → Each (Faithful w c₀ past m) (answers w (plainRun w c₀ past) m l t)
+    same-answers : (past : List (Event w)) (m : w .Ram) (l : List Ask) (t : Tlb) → Each (FaithfulAnswer w c₀ past m) (answers w (plainRun w c₀ past) m l t)
         → Each (SettledFor w c₀ past m) l → answers w (plainRun w c₀ past) m l t ≡ plainAnswers w (plainRun w c₀ past) m l
     same-answers past m [] t fs ss = refl
     same-answers past m (a ∷ l) t (more f fs) (more s ss) =
-        go (answerOf w c m a t) (f s) fs (λ gs. same-answers past m l (askedOf w c m a t) gs ss)
+        go (answerOf w c m a t) (f s) fs (λ gs. same-answers past m l (tlbAsk w c m a t) gs ss)
       where
         c : Plain w
         c = plainRun w c₀ past
 
         rest : List Given
-        rest = answers w c m l (askedOf w c m a t)
+        rest = answers w c m l (tlbAsk w c m a t)
 
         u : Answer
         u = uncached w c m (kindOf a) (addressOf a)
 
-        go : (x : Answer) → x ≡ u → Each (Faithful w c₀ past m) (onward w x rest [])
-            → (Each (Faithful w c₀ past m) rest → rest ≡ plainAnswers w c m l)
-            → _≡_ {A = List Given} (record { ask = a; answer = x } ∷ onward w x rest [])
-            (record { ask = a; answer = u } ∷ onward w u (plainAnswers w c m l) [])
+        go : (x : Answer) → x ≡ u → Each (FaithfulAnswer w c₀ past m) (onward x rest [])
+            → (Each (FaithfulAnswer w c₀ past m) rest → rest ≡ plainAnswers w c m l)
+            → _≡_ {A = List Given} (record { ask = a; answer = x } ∷ onward x rest [])
+            (record { ask = a; answer = u } ∷ onward u (plainAnswers w c m l) [])
         go (Address pa) e gs k = rw (← e) (ap {B = List Given} (λ (n : List Given). record { ask = a; answer = Address pa } ∷ n) (k gs))
         go (Status code) e gs k = rw (← e)
 

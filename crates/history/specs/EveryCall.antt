@@ -4,10 +4,11 @@ use mathlib.Core.List.{List, [], _∷_, _++_}
 use Prim.Native.Nat.{_≤_}
 use Rattle.tlb.specs.Lists.{Each}
 use Rattle.tlb.specs.Tlb.{fresh}
+use Rattle.tlb.specs.Asks.{kindOf, addressOf, Given}
 use Rattle.tlb.specs.declared.Tlb.{Tlb}
 use Rattle.history.specs.World.{World, Laws, Plain, regimeNow, pageNow, uncached}
 use Rattle.history.specs.Lists.{plain-append, tlb-append}
-use Rattle.history.specs.History.{kindOf, addressOf, Given, Step, Event, plainRun, answers, tlbRun, Settled, Faithful}
+use Rattle.history.specs.History.{Step, Event, plainRun, answers, tlbRun, Settled, FaithfulAnswer}
 use Rattle.history.specs.Theorem.{demand-3}
 use Rattle.history.specs.Calls.{Machine, Lent, Fed, run, lentOf, bareRun, eventsFed, eventsRun, ShownIn, Shown, shown, plainOf, eventsOf, Bridge, plainAfter, Demand3Calls}
 
@@ -90,7 +91,8 @@ module _ (w : World) (M : Machine w) (B : Bridge w M) where
         → M .tlb (run w M c₀ (lentOf w M list)) ≡ tlbRun w (plainOf w M c₀) (eventsRun w M (M .bare c₀) list) fresh
     fresh-run list s = run-tlb c₀ list s ∙ ap (tlbRun w (plainOf w M c₀) (eventsRun w M (M .bare c₀) list)) new
 
-    -- What holds of the answers of every step after every history holds of those of every step of a call after every list of calls.
+    -- What holds of the answers of every step after every history holds of those of every step of a call after every
+    -- list of calls.
     pub lifted : (Q : List (Event w) → w .Ram → Given → Type 0)
         → ((past : List (Event w)) (m : w .Ram) (s : Step w)
         → Each (Q past m) (answers w (plainRun w (plainOf w M c₀) past) m (s .asks) (tlbRun w (plainOf w M c₀) past fresh)))
@@ -126,4 +128,4 @@ module _ (w : World) (M : Machine w) (B : Bridge w M) where
         (answers w (plainAfter w M (M .bare c₀) list before) m (t .asks)
         (tlbRun w (plainAfter w M (M .bare c₀) list []) before (M .tlb (run w M c₀ (lentOf w M list))))))
         (sym (now-plain c₀ list s before))
-        (lifted (Faithful w (plainOf w M c₀)) (demand-3 w laws (plainOf w M c₀) zero-asid low) list s before m t)
+        (lifted (FaithfulAnswer w (plainOf w M c₀)) (demand-3 w laws (plainOf w M c₀) zero-asid low) list s before m t)

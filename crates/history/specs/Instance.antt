@@ -30,6 +30,9 @@ pub record Ram : Type 0 where
   pub base : ℕ
   pub bytes : List ℕ
 
+abbrev pub windowOf : ℕ → List ℕ → Ram
+windowOf base bytes = record { base = base; bytes = bytes }
+
 -- the descriptor at an address
 abbrev pub memoryOf : Ram → ℕ → Word
 memoryOf m = wordAt (m .base) (m .bytes) 8

@@ -1,5 +1,5 @@
--- Every translation, by walk, entry or hint, is judged by the manual's permission check on the attributes that a walk of its page found; and the
--- statuses that there are. No premise: this holds after every history.
+-- Every translation, by walk, entry or hint, is judged by the manual's permission check on the attributes that a walk
+-- of its page found; and the statuses that there are. No premise: this holds after every history.
 use mathlib.Core.Path.{_≡_, refl, sym, ap, subst, _∙_}
 use mathlib.Core.Bool.{Bool, true, false, not, false≢true}
 use mathlib.Core.List.{List}
@@ -22,13 +22,14 @@ use Rattle.sysreg.specs.declared.regs.Control.{Control}
 use Rattle.tlb.specs.Lists.{Each, done, more}
 use Rattle.tlb.specs.Tlb.{fresh}
 use Rattle.tlb.specs.Model.{asUser, need}
+use Rattle.tlb.specs.Asks.{Ask, kindOf, addressOf}
 use Rattle.tlb.specs.declared.access.Kind.{Kind}
 use Rattle.tlb.specs.declared.access.Kind.the-variants.{Read, Write, Fetch}
 use Rattle.tlb.specs.declared.access.Answer.{Answer}
 use Rattle.tlb.specs.declared.access.Answer.the-variants.{Address, Status}
 use Rattle.tlb.specs.declared.Inval.{Inval}
-use Rattle.history.specs.World.{covers, Plain, judge, judged, regimeNow, onNow, untagNow, pageNow, uncached}
-use Rattle.history.specs.History.{Ask, kindOf, addressOf, Step, Event, plainRun, answers, tlbRun}
+use Rattle.history.specs.World.{covers, Plain, leafAnswer, walkAnswer, regimeNow, onNow, untagNow, pageNow, uncached}
+use Rattle.history.specs.History.{Step, Event, plainRun, answers, tlbRun}
 use Rattle.history.specs.Instance.{Ram, memoryOf, real, real-laws, freshPlain, fresh-asid}
 use Rattle.history.specs.Origin.{Stood, From, flat, fails, walks, origin}
 
@@ -43,14 +44,17 @@ accessFor Fetch = fetching
 abbrev pub userNow : Plain real → Kind → Bool
 userNow c k = asUser (regimeNow real c) (c .who .level) (c .who .mark) k
 
--- AArch64.CheckPermission on what a walk in the bank's registers found: the physical page with the address's low twelve bits, or 0x0C plus the level
+-- AArch64.CheckPermission on what a walk in the bank's registers found: the physical page with the address's low twelve
+-- bits, or 0x0C plus the level
 abbrev pub checked : Bank → Regime → Bool → Kind → Translation → ℕ → Answer
 checked s r user k t va =
-    pick (allowed (singlePriv r) (not user) (wxnOf s) (t .perms) (accessFor k)) (Address (t .address / 4096 * 4096 + va % 4096)) (Status (12 + t .level))
+    pick (allowed (singlePriv r) (not user) (wxnOf s) (t .perms) (accessFor k))
+    (Address (t .address / 4096 * 4096 + va % 4096)) (Status (12 + t .level))
 
--- The answer x to a translation a, made after the history on the RAM m. Either stage 1 is off, and it is the address itself; or the walk of now
--- faults, and it is that fault; or the page had the walk t at the registers R and the RAM m′, of now or of a step of the history, global or under
--- today's ASID, which no invalidation since covers, and the access of now is checked on what t found.
+-- The answer x to a translation a, made after the history on the RAM m. Either stage 1 is off, and it is the address
+-- itself; or the walk of now faults, and it is that fault; or the page had the walk t at the registers R and the RAM
+-- m′, of now or of a step of the history, global or under today's ASID, which no invalidation since covers, and the
+-- access of now is checked on what t found.
 pub data Judged (past : List (Event real)) (m : Ram) (a : Ask) (x : Answer) : Type 0 where
   itself : onNow real (plainRun real freshPlain past) ≡ false → x ≡ Address (addressOf a) → Judged past m a x
   faulted : (f : Fault) → onNow real (plainRun real freshPlain past) ≡ true
@@ -107,10 +111,10 @@ need-bit Write false = refl
 need-bit Fetch true = refl
 need-bit Fetch false = refl
 
-pub judge-checked : (s : Bank) (r : Regime) (t : Translation) (k : Kind) (user : Bool) (va : ℕ)
-    → judge (leafOf (singlePriv r) (wxnOf s) t) (need k user) va ≡ checked s r user k t va
-unfolding judge
-judge-checked s r t k user va =
+pub leaf-checked : (s : Bank) (r : Regime) (t : Translation) (k : Kind) (user : Bool) (va : ℕ)
+    → leafAnswer (leafOf (singlePriv r) (wxnOf s) t) (need k user) va ≡ checked s r user k t va
+unfolding leafAnswer
+leaf-checked s r t k user va =
     rw (need-bit k user)
     (ap (λ (b : Bool). pick b (Address (t .address / 4096 * 4096 + va % 4096)) (Status (12 + t .level)))
     (permission-bit (singlePriv r) (wxnOf s) (t .perms) (not user) (accessFor k)))
@@ -126,12 +130,14 @@ judged-from past m a x (flat o e) = itself o e
 judged-from past m a x (fails code o f e) = let (g, h, q) = manual-fault _ _ _ _ code f in faulted g o h (e ∙ ap Status q)
 judged-from past m a x (walks R m′ vs stood ℓ o leaf d us e) =
     let (t, h, q) = manual-leaf _ _ _ _ ℓ leaf in
-    allowing R m′ vs stood t o h (day t (subst (λ (l : Leaf). (l .global ≡ true) ⊎ (real .asid R ≡ real .asid (plainRun real freshPlain past .regs))) (sym q) d))
+    allowing R m′ vs stood t o h
+    (day t (subst (λ (l : Leaf). (l .global ≡ true) ⊎ (real .asid R ≡ real .asid (plainRun real freshPlain past .regs))) (sym q) d))
     (subst
     (λ (l : Leaf). Each (λ v. covers v (pageNow real (plainRun real freshPlain past) (addressOf a)) l (real .asid R) ≡ false) vs) (sym q) us)
     (e
-    ∙ ap (λ (l : Leaf). judge l (need (kindOf a) (userNow (plainRun real freshPlain past) (kindOf a))) (addressOf a)) (sym q)
-    ∙ judge-checked (bankOf R (regimeNow real (plainRun real freshPlain past))) (regimeNow real (plainRun real freshPlain past)) t (kindOf a) (userNow (plainRun real freshPlain past) (kindOf a)) (addressOf a))
+    ∙ ap (λ (l : Leaf). leafAnswer l (need (kindOf a) (userNow (plainRun real freshPlain past) (kindOf a))) (addressOf a)) (sym q)
+    ∙ leaf-checked (bankOf R (regimeNow real (plainRun real freshPlain past))) (regimeNow real (plainRun real freshPlain past)) t (kindOf a)
+    (userNow (plainRun real freshPlain past) (kindOf a)) (addressOf a))
   where
     -- a leaf is global where nG is clear
     day : (t : Translation) → (not (t .nG) ≡ true) ⊎ (real .asid R ≡ real .asid (plainRun real freshPlain past .regs))
@@ -192,5 +198,5 @@ status-row past m a code (allowing R m′ vs stood t o h d us e) =
 pub uncached-checked : (c : Plain real) (m : Ram) (k : Kind) (va : ℕ) (t : Translation) → onNow real c ≡ true
     → tableWalk (bankOf (c .regs) (regimeNow real c)) (regimeNow real c) (untagNow real c va) (memoryOf m) ≡ mapped t
     → uncached real c m k va ≡ checked (bankOf (c .regs) (regimeNow real c)) (regimeNow real c) (userNow c k) k t va
-unfolding uncached judged walkOf
-uncached-checked c m k va t o e = rw (o, e) (judge-checked (bankOf (c .regs) (regimeNow real c)) (regimeNow real c) t k (userNow c k) va)
+unfolding uncached walkAnswer walkOf
+uncached-checked c m k va t o e = rw (o, e) (leaf-checked (bankOf (c .regs) (regimeNow real c)) (regimeNow real c) t k (userNow c k) va)

@@ -15,7 +15,7 @@ pub mod StepByStep
 pub mod Neighbours
 -- The proof.
 pub mod Lists
-pub mod Sound
+pub mod Traced
 pub mod Right
 pub mod Theorem
 pub mod EveryCall

@@ -1,12 +1,12 @@
--- Lists of events and translations: what holds of each element of two lists joined, where a run over both ends, one translation alone.
+-- Lists of events: what holds of each element of two lists joined, where a run over both ends, and its level.
 use mathlib.Core.Path.{_≡_, refl, sym, ap, _∙_}
 use mathlib.Core.List.{List, [], _∷_, _++_, append-assoc}
+use Prim.Native.Nat.{_≤_}
 use Rattle.tlb.specs.Lists.{Each, done, more}
-use Rattle.tlb.specs.declared.access.Answer.{Answer}
-use Rattle.tlb.specs.declared.access.Answer.the-variants.{Address, Status}
+use Rattle.tlb.specs.Asks.{Given}
 use Rattle.tlb.specs.declared.Tlb.{Tlb}
 use Rattle.history.specs.World.{World, Plain}
-use Rattle.history.specs.History.{Ask, Given, Step, Event, steps, receives, afterEvent, plainRun, answerOf, askedOf, onward, answers, asked, tlbEvent, tlbRun}
+use Rattle.history.specs.History.{Effect, nothing, carries, writes, sets, Step, Event, steps, receives, after, afterEvent, plainRun, answers, tlbEvent, tlbRun}
 use Rattle.history.specs.Invisible.{answersRun}
 
 module _ {A : Type 0} where
@@ -26,13 +26,20 @@ module _ {A : Type 0} where
   each-head (more p ps) = p
 
 module _ (w : World) where
-  -- a step of one translation
-  pub asked-one : (c : Plain w) (m : w .Ram) (a : Ask) (t : Tlb) → asked w c m (a ∷ []) t ≡ askedOf w c m a t
-  asked-one c m a t = go (answerOf w c m a t)
-    where
-      go : (x : Answer) → onward w x (askedOf w c m a t) (askedOf w c m a t) ≡ askedOf w c m a t
-      go (Address pa) = refl
-      go (Status code) = refl
+  -- every level stays at 3 or below
+  effect-low : (e : Effect w) (c : Plain w) → c .who .level ≤ 3 → after w e c .who .level ≤ 3
+  effect-low nothing c low = low
+  effect-low (carries v shared) c low = low
+  effect-low (writes R) c low = low
+  effect-low (sets who small) c low = small
+
+  pub event-low : (x : Event w) (c : Plain w) → c .who .level ≤ 3 → afterEvent w x c .who .level ≤ 3
+  event-low (steps m s) c low = effect-low (s .effect) c low
+  event-low (receives v) c low = low
+
+  pub run-low : (past : List (Event w)) (c : Plain w) → c .who .level ≤ 3 → plainRun w c past .who .level ≤ 3
+  run-low [] c low = low
+  run-low (x ∷ xs) c low = run-low xs (afterEvent w x c) (event-low x c low)
 
   pub plain-append : (c : Plain w) (l k : List (Event w)) → plainRun w c (l ++ k) ≡ plainRun w (plainRun w c l) k
   plain-append c [] k = refl

@@ -1,4 +1,5 @@
--- What runs under other ASIDs does not bend a page's translation: two histories that leave the page to one ASID give one answer.
+-- What runs under other ASIDs does not bend a page's translation: two histories that leave the page to one ASID give
+-- one answer.
 use mathlib.Core.Path.{_≡_, refl, sym, ap, _∙_}
 use mathlib.Core.Bool.{Bool, true, false, true≢false}
 use mathlib.Core.List.{List, [], _∷_, _++_, List·Memᴰ}
@@ -17,12 +18,13 @@ use Rattle.walk.specs.declared.level.Leaf.{Leaf}
 use Rattle.walk.specs.declared.level.Walked.the-variants.{Mapped}
 use Rattle.tlb.specs.Lists.{Each, done}
 use Rattle.tlb.specs.Tlb.{fresh}
+use Rattle.tlb.specs.Asks.{Ask, kindOf, addressOf}
 use Rattle.tlb.specs.declared.Inval.{Inval}
 use Rattle.history.specs.Lists.{each-append, each-left, each-right}
-use Rattle.history.specs.World.{World, Laws, Agree, covers, Plain, pageWalk, regimeNow, untagNow, pageNow, uncached}
-use Rattle.history.specs.History.{Ask, kindOf, addressOf, Step, Event, steps, afterEvent, plainRun, dropsEvent, dropsRun, tlbRun, answerOf, Settled}
+use Rattle.history.specs.World.{World, Laws, LeavesEqual, covers, Plain, pageWalk, regimeNow, untagNow, pageNow, uncached}
+use Rattle.history.specs.History.{Step, Event, steps, afterEvent, plainRun, dropsEvent, dropsRun, tlbRun, answerOf, Settled}
 use Rattle.history.specs.Corollaries.{one-settled}
-use Rattle.history.specs.Instance.{Ram, real, real-laws, freshPlain, fresh-asid}
+use Rattle.history.specs.Instance.{windowOf, real, real-laws, freshPlain, fresh-asid}
 
 module _ (w : World) where
   -- the invalidations of a history that are made under the ASID a
@@ -30,23 +32,25 @@ module _ (w : World) where
   dropsUnder a c [] = []
   dropsUnder a c (x ∷ xs) = pick (eqb (w .asid (c .regs)) a) (dropsEvent w x c) [] ++ dropsUnder a (afterEvent w x c) xs
 
-  -- The history leaves the page to the ASID of now: elsewhere it had no successful global walk, and each successful walk that it had there, covered
-  -- by no invalidation made there, equals its walk now.
+  -- The history leaves the page to the ASID of now: elsewhere it had no successful global walk, and each successful
+  -- walk that it had there, covered by no invalidation made there, equals its walk now.
   pub record Own (c₀ : Plain w) (past : List (Event w)) (m : w .Ram) (r : Regime) (p : ℕ) : Type 0 where
-    pub elsewhere : (before : List (Event w)) (m′ : w .Ram) (s : Step w) (later : List (Event w)) → past ≡ before ++ steps m′ s ∷ later →
+    pub elsewhere : (before : List (Event w)) (m′ : w .Ram) (s : Step w) (later : List (Event w)) →
+        past ≡ before ++ steps m′ s ∷ later →
         (ℓ : Leaf) →
         w .on (plainRun w c₀ before .regs) r ≡ true →
         pageWalk w (plainRun w c₀ before .regs) m′ r p ≡ Mapped ℓ →
         (w .asid (plainRun w c₀ before .regs) ≡ w .asid (plainRun w c₀ past .regs) → ⊥) →
         ℓ .global ≡ false
-    pub there : (before : List (Event w)) (m′ : w .Ram) (s : Step w) (later : List (Event w)) → past ≡ before ++ steps m′ s ∷ later →
+    pub there : (before : List (Event w)) (m′ : w .Ram) (s : Step w) (later : List (Event w)) →
+        past ≡ before ++ steps m′ s ∷ later →
         (ℓ : Leaf) →
         w .on (plainRun w c₀ before .regs) r ≡ true →
         pageWalk w (plainRun w c₀ before .regs) m′ r p ≡ Mapped ℓ →
         w .asid (plainRun w c₀ before .regs) ≡ w .asid (plainRun w c₀ past .regs) →
         Each (λ v. covers v p ℓ (w .asid (plainRun w c₀ before .regs)) ≡ false)
         (dropsUnder (w .asid (plainRun w c₀ past .regs)) (plainRun w c₀ before) (steps m′ s ∷ later)) →
-        (ℓ′ : Leaf) × (pageWalk w (plainRun w c₀ past .regs) m r p ≡ Mapped ℓ′) × Agree ℓ ℓ′
+        (ℓ′ : Leaf) × (pageWalk w (plainRun w c₀ past .regs) m r p ≡ Mapped ℓ′) × LeavesEqual ℓ ℓ′
 
   abbrev pub OwnFor : Plain w → List (Event w) → w .Ram → Ask → Type 0
   OwnFor c₀ past m a = Own c₀ past m (regimeNow w (plainRun w c₀ past)) (pageNow w (plainRun w c₀ past) (addressOf a))
@@ -77,7 +81,7 @@ module _ (w : World) where
           → (ℓ .global ≡ true) ⊎ (w .asid (plainRun w c₀ before .regs) ≡ A)
           → Each (λ v. covers v p ℓ (w .asid (plainRun w c₀ before .regs)) ≡ false) (dropsRun w (plainRun w c₀ before) (steps m′ s ∷ later))
           → (b : Bool) → eqb (w .asid (plainRun w c₀ before .regs)) A ≡ b
-          → (ℓ′ : Leaf) × (pageWalk w (plainRun w c₀ past .regs) m r p ≡ Mapped ℓ′) × Agree ℓ ℓ′
+          → (ℓ′ : Leaf) × (pageWalk w (plainRun w c₀ past .regs) m r p ≡ Mapped ℓ′) × LeavesEqual ℓ ℓ′
       go before m′ s later split ℓ o x today us true b =
           own .there before m′ s later split ℓ o x (eqb-true _ _ b) (under A (plainRun w c₀ before) (steps m′ s ∷ later) us)
       go before m′ s later split ℓ o x (inr y) us false b = absurd (eqb-false _ _ b y)
@@ -106,17 +110,16 @@ module _ (one two : List (Event real)) (base : ℕ) (xs ys : List ℕ) (a : Ask)
   abbrev now : Plain real
   now = plainRun real freshPlain one
 
-  abbrev window : List ℕ → Ram
-  window bytes = record { base = base; bytes = bytes }
-
   abbrev fetched : List ℕ
-  fetched = fetchesOf (bankOf (now .regs) (regimeNow real now)) (regimeNow real now) (untagNow real now (addressOf a)) (wordAt base xs 8)
+  fetched =
+      fetchesOf (bankOf (now .regs) (regimeNow real now)) (regimeNow real now) (untagNow real now (addressOf a))
+      (wordAt base xs 8)
 
   pub real-neighbours : now ≡ plainRun real freshPlain two → length xs ≡ length ys
       → ((d : ℕ) → List·Memᴰ d fetched → base ≤ d → d + 8 ≤ base + length xs → (i : ℕ) → i < 8 → getD xs (d - base + i) 0 ≡ getD ys (d - base + i) 0)
-      → OwnFor real freshPlain one (window xs) a → OwnFor real freshPlain two (window ys) a
-      → answerOf real now (window xs) a (tlbRun real freshPlain one fresh)
-      ≡ answerOf real (plainRun real freshPlain two) (window ys) a (tlbRun real freshPlain two fresh)
+      → OwnFor real freshPlain one (windowOf base xs) a → OwnFor real freshPlain two (windowOf base ys) a
+      → answerOf real now (windowOf base xs) a (tlbRun real freshPlain one fresh)
+      ≡ answerOf real (plainRun real freshPlain two) (windowOf base ys) a (tlbRun real freshPlain two fresh)
   real-neighbours same long bytes own₁ own₂ =
-      neighbours real real-laws freshPlain fresh-asid (omega arith) one two (window xs) (window ys) a same
+      neighbours real real-laws freshPlain fresh-asid (omega arith) one two (windowOf base xs) (windowOf base ys) a same
       (bytes-agree _ _ _ base xs ys long bytes) own₁ own₂

@@ -1,6 +1,6 @@
--- Where every answer comes from, with no premise: from the address itself with stage 1 off, from the walk of now, which failed, or from a walk that
--- the page had, now or at a step of the history, which no invalidation since covers.
-use mathlib.Core.Path.{_≡_, refl, sym, _∙_}
+-- Where every answer comes from, with no premise: from the address itself with stage 1 off, from the walk of now, which
+-- failed, or from a walk that the page had, now or at a step of the history, which no invalidation since covers.
+use mathlib.Core.Path.{_≡_, refl, sym, subst, _∙_}
 use mathlib.Core.Bool.{true, false}
 use mathlib.Core.List.{List, [], _∷_, _++_}
 use mathlib.Core.Logic.{_⊎_, inl, inr}
@@ -9,18 +9,21 @@ use Rattle.walk.specs.declared.level.Leaf.{Leaf}
 use Rattle.walk.specs.declared.level.Walked.the-variants.{Mapped, Fault}
 use Rattle.tlb.specs.Lists.{Each, done, more}
 use Rattle.tlb.specs.Tlb.{fresh}
+use Rattle.tlb.specs.Model.{Model, emptyModel}
+use Rattle.tlb.specs.Asks.{Ask, kindOf, addressOf, Given, onward}
 use Rattle.tlb.specs.declared.access.Answer.{Answer}
 use Rattle.tlb.specs.declared.access.Answer.the-variants.{Address, Status}
 use Rattle.tlb.specs.declared.Inval.{Inval}
-use Rattle.tlb.specs.declared.Tlb.{Tlb}
-use Rattle.history.specs.World.{World, Laws, covers, judge, Plain, pageWalk, regimeNow, onNow, untagNow, pageNow, needNow}
-use Rattle.history.specs.History.{Ask, kindOf, addressOf, Step, Event, steps, plainRun, dropsRun, answerOf, askedOf, onward, answers, tlbRun}
-use Rattle.history.specs.Sound.{Mark, at}
-use Rattle.history.specs.Right.{Answered, itself, by, failed}
-use Rattle.history.specs.Theorem.{Held, AskDone, ask-done, marks, Uncovered, Found, found, history-held, held-at, run-low}
+use Rattle.history.specs.World.{World, Laws, covers, leafAnswer, Plain, pageWalk, regimeNow, onNow, untagNow, pageNow, needNow}
+use Rattle.history.specs.History.{Step, Event, steps, plainRun, dropsRun, answers, tlbRun}
+use Rattle.history.specs.ModelRun.{modelAsk, modelAnswers, modelRun, history-answers}
+use Rattle.history.specs.Traced.{Moment, at, Traced, traced-at}
+use Rattle.history.specs.Right.{Answered, itself, by, failed, Done}
+use Rattle.history.specs.Theorem.{ask-done, moments, Uncovered, Found, found, history-traced}
 
 module _ (w : World) (c₀ : Plain w) where
-  -- The registers R and the RAM m′ are those of now, or those at the start of a step of the history; vs are the invalidations since.
+  -- The registers R and the RAM m′ are those of now, or those at the start of a step of the history; vs are the
+  -- invalidations since.
   pub data Stood (past : List (Event w)) (m : w .Ram) (R : w .Regs) (m′ : w .Ram) : List Inval → Type 0 where
     now : R ≡ plainRun w c₀ past .regs → m′ ≡ m → Stood past m R m′ []
     then : (before : List (Event w)) (s : Step w) (later : List (Event w)) → past ≡ before ++ steps m′ s ∷ later
@@ -37,15 +40,15 @@ module _ (w : World) (c₀ : Plain w) where
         → pageWalk w R m′ (regimeNow w (plainRun w c₀ past)) (pageNow w (plainRun w c₀ past) (addressOf a)) ≡ Mapped ℓ
         → (ℓ .global ≡ true) ⊎ (w .asid R ≡ w .asid (plainRun w c₀ past .regs))
         → Each (λ v. covers v (pageNow w (plainRun w c₀ past) (addressOf a)) ℓ (w .asid R) ≡ false) vs
-        → x ≡ judge ℓ (needNow w (plainRun w c₀ past) (kindOf a)) (addressOf a) → From past m a x
+        → x ≡ leafAnswer ℓ (needNow w (plainRun w c₀ past) (kindOf a)) (addressOf a) → From past m a x
 
 module _ (w : World) (laws : Laws w) (c₀ : Plain w) (zero-asid : w .asid (c₀ .regs) ≡ 0) (low : c₀ .who .level ≤ 3) where
   module _ (past : List (Event w)) (m : w .Ram) where
     abbrev c : Plain w
     c = plainRun w c₀ past
 
-    abbrev h : List (Mark w)
-    h = marks w laws c₀ past []
+    abbrev h : List (Moment w)
+    h = moments w laws c₀ past []
 
     from : (a : Ask) (x : Answer) → Answered w laws (at (c .regs) m ∷ h) c m (kindOf a) (addressOf a) x → From w c₀ past m a x
     from a x (itself o e) = flat o e
@@ -64,20 +67,23 @@ module _ (w : World) (laws : Laws w) (c₀ : Plain w) (zero-asid : w .asid (c₀
             day (inl g) = inl g
             day (inr y) = inr (sym (f .walks .under) ∙ y)
 
-    all-from : (l : List Ask) (t : Tlb) → Held w laws (at (c .regs) m ∷ h) (c .regs) t
-        → Each (λ g. From w c₀ past m (g .ask) (g .answer)) (answers w c m l t)
-    all-from [] t s = done
-    all-from (a ∷ l) t s = more (from a (answerOf w c m a t) (next .answered)) (go (answerOf w c m a t) (all-from l (askedOf w c m a t) (next .held)))
+    all-from : (l : List Ask) (u : Model) → Traced w (at (c .regs) m ∷ h) (c .regs) u
+        → Each (λ g. From w c₀ past m (g .ask) (g .answer)) (modelAnswers w c m l u)
+    all-from [] u s = done
+    all-from (a ∷ l) u s =
+        more (from a (modelAsk w c m a u .answer) (next .answered)) (go (modelAsk w c m a u .answer) (all-from l (modelAsk w c m a u .after) (next .traced)))
       where
-        next : AskDone w laws h c m t (run-low w laws past c₀ low) s a
-        next = ask-done w laws h c m t (run-low w laws past c₀ low) s a
+        next : Done w laws (at (c .regs) m ∷ h) c m (kindOf a) (addressOf a) (modelAsk w c m a u)
+        next = ask-done w laws h c m u s a
 
-        go : (x : Answer) → Each (λ g. From w c₀ past m (g .ask) (g .answer)) (answers w c m l (askedOf w c m a t))
-            → Each (λ g. From w c₀ past m (g .ask) (g .answer)) (onward w x (answers w c m l (askedOf w c m a t)) [])
+        go : (x : Answer) → Each (λ g. From w c₀ past m (g .ask) (g .answer)) (modelAnswers w c m l (modelAsk w c m a u .after))
+            → Each (λ g. From w c₀ past m (g .ask) (g .answer)) (onward x (modelAnswers w c m l (modelAsk w c m a u .after)) [])
         go (Address pa) rest = rest
         go (Status code) rest = done
 
   -- After every history, whatever the RAM, each answer comes from there.
   pub origin : (past : List (Event w)) (m : w .Ram) (s : Step w)
       → Each (λ g. From w c₀ past m (g .ask) (g .answer)) (answers w (plainRun w c₀ past) m (s .asks) (tlbRun w c₀ past fresh))
-  origin past m s = all-from past m (s .asks) (tlbRun w c₀ past fresh) (held-at w laws m (history-held w laws c₀ zero-asid low past))
+  origin past m s =
+      subst (λ (l : List Given). Each (λ g. From w c₀ past m (g .ask) (g .answer)) l) (sym (history-answers w laws c₀ low past m (s .asks)))
+      (all-from past m (s .asks) (modelRun w c₀ past emptyModel) (traced-at w m (history-traced w laws c₀ zero-asid low past)))

@@ -1,4 +1,4 @@
--- What a translation through a sound cache answers, on the plain model, and that it leaves the cache sound.
+-- What a translation in a traced model answers, and that it leaves the model traced.
 use mathlib.Core.Path.{_≡_, refl, sym, ap, subst, _∙_}
 use mathlib.Core.Bool.{Bool, true, false, _&&_, false≢true}
 use mathlib.Core.List.{List, _∷_}
@@ -18,8 +18,8 @@ use Rattle.tlb.specs.declared.access.Kind.{Kind}
 use Rattle.tlb.specs.declared.access.Kind.the-variants.{Read, Write, Fetch}
 use Rattle.tlb.specs.declared.access.Answer.{Answer}
 use Rattle.tlb.specs.declared.access.Answer.the-variants.{Address, Status}
-use Rattle.history.specs.World.{World, Laws, Agree, judge, judged, pageWalk, Plain, regimeNow, onNow, untagNow, pageNow, needNow, uncached, accessOf}
-use Rattle.history.specs.Sound.{Mark, at, Seen, Today, Behind, LineOk, allows, Promise, flat, kept, HintOk, kindAt, Sound, sound-counting, sound-keep, sound-hint, sound-fetch-hint}
+use Rattle.history.specs.World.{World, Laws, LeavesEqual, leafAnswer, walkAnswer, pageWalk, Plain, regimeNow, onNow, untagNow, pageNow, needNow, uncached, accessOf}
+use Rattle.history.specs.Traced.{Moment, at, Seen, Today, Behind, LineOk, allows, Promise, flat, kept, HintOk, kindAt, Traced, traced-counting, traced-keep, traced-hint, traced-fetch-hint}
 
 and-left : (a b : Bool) → (a && b) ≡ true → a ≡ true
 and-left true b e = refl
@@ -71,30 +71,32 @@ module _ (w : World) where
   kind-at Write mark va e = rw (le-ltb (256 + folded (va / 4096)) 256 (omega arith))
   kind-at Fetch mark va e = absurd (false≢true e)
 
-  pub judge-agree : {ℓ ℓ′ : Leaf} (bit va : ℕ) → Agree ℓ ℓ′ → judge ℓ bit va ≡ judge ℓ′ bit va
-  unfolding judge
-  judge-agree bit va g = rw (g .pages, g .perms, g .levels)
+  pub leaf-equal : {ℓ ℓ′ : Leaf} (bit va : ℕ) → LeavesEqual ℓ ℓ′ → leafAnswer ℓ bit va ≡ leafAnswer ℓ′ bit va
+  unfolding leafAnswer
+  leaf-equal bit va g = rw (g .pages, g .perms, g .levels)
 
   -- each walk of the page that no invalidation since covers, global or under today's ASID, equals its walk now
-  abbrev pub Agreed : List (Mark w) → w .Regs → w .Ram → Regime → ℕ → Type 0
-  Agreed h R m r p = (ℓ : Leaf) (a : ℕ) → Seen w h r p ℓ a → Today w R ℓ a → (ℓ′ : Leaf) × (pageWalk w R m r p ≡ Mapped ℓ′) × Agree ℓ ℓ′
+  abbrev pub Agreed : List (Moment w) → w .Regs → w .Ram → Regime → ℕ → Type 0
+  Agreed h R m r p =
+      (ℓ : Leaf) (a : ℕ) → Seen w h r p ℓ a → Today w R ℓ a
+      → (ℓ′ : Leaf) × (pageWalk w R m r p ≡ Mapped ℓ′) × LeavesEqual ℓ ℓ′
 
-  module _ (laws : Laws w) (h : List (Mark w)) (c : Plain w) (m : w .Ram) (k : Kind) (va : ℕ) where
+  module _ (laws : Laws w) (h : List (Moment w)) (c : Plain w) (m : w .Ram) (k : Kind) (va : ℕ) where
     -- where an answer came from
     pub data Answered (x : Answer) : Type 0 where
       itself : onNow w c ≡ false → x ≡ Address va → Answered x
       by : (ℓ : Leaf) (a : ℕ) → onNow w c ≡ true → Seen w h (regimeNow w c) (pageNow w c va) ℓ a → Today w (c .regs) ℓ a
-          → x ≡ judge ℓ (needNow w c k) va → Answered x
+          → x ≡ leafAnswer ℓ (needNow w c k) va → Answered x
       failed : (code : ℕ) → onNow w c ≡ true → w .walk (c .regs) m (regimeNow w c) (untagNow w c va) ≡ Fault code → x ≡ Status code
           → Answered x
 
     pub answered-right : {x : Answer} → Agreed h (c .regs) m (regimeNow w c) (pageNow w c va) → Answered x → x ≡ uncached w c m k va
-    unfolding uncached judged
+    unfolding uncached walkAnswer
     answered-right st (itself o e) = rw o e
     answered-right st (by ℓ a o seen d e) =
         let (ℓ′, e′, g) = st ℓ a seen d in
         let (ℓ″, e″, g″, _) = laws .walk-page (c .regs) m (regimeNow w c) (pageNow w c va * 4096) (untagNow w c va) (omega arith) ℓ′ e′ in
-        rw (o, e″) (e ∙ judge-agree (needNow w c k) va g ∙ judge-agree (needNow w c k) va g″)
+        rw (o, e″) (e ∙ leaf-equal (needNow w c k) va g ∙ leaf-equal (needNow w c k) va g″)
     answered-right st (failed code o f e) = rw (o, f) e
 
     -- the pages of an address and of its page's first address are untagged to one page
@@ -105,7 +107,7 @@ module _ (w : World) where
     same-need u = ap (need k) (unmarked (regimeNow w c) (c .who .level) (c .who .mark) k u)
 
     answered-promise : (pa : ℕ) → Unmarked (c .who .mark) k → Answered (Address pa) → Promise w h (c .regs) k (va / 4096) (c .who .level) (pa / 4096)
-    unfolding judge
+    unfolding leafAnswer
     answered-promise pa u (itself o e) = let q : pa ≡ va = cc in flat o (ap (λ (n : ℕ). n / 4096) q)
     answered-promise pa u (by ℓ a o seen d e) = go (allows w ℓ (needNow w c k)) refl e
       where
@@ -119,24 +121,24 @@ module _ (w : World) where
     answered-promise pa u (failed code o f e) = let z : _≡_ {A = ℕ} 0 1 = cc in absurd (omega arith)
 
     promise-answered : (q : ℕ) → Unmarked (c .who .mark) k → Promise w h (c .regs) k (va / 4096) (c .who .level) q → Answered (addressIn q va)
-    unfolding judge
+    unfolding leafAnswer
     promise-answered q u (flat o e) = let x : q * 4096 + va % 4096 ≡ va = omega arith in itself o (ap Address x)
     promise-answered q u (kept ℓ a o seen d al e) =
         by ℓ a o (subst (λ (p : ℕ). Seen w h (regimeNow w c) p ℓ a) (sym untag-first) seen) d
         (rw (same-need u, al) (ap (λ (n : ℕ). Address (n * 4096 + va % 4096)) e))
 
-    -- an answer that came so, and a cache that is sound
+    -- an answer that came so, and a model that is traced
     pub record Done (o : Outcome) : Type 0 where
-      pub sound : Sound w h (c .regs) (o .after)
+      pub traced : Traced w h (c .regs) (o .after)
       pub answered : Answered (o .answer)
 
-    line-judged : (l : Line) (o : Behind w h l) → judgeLine l (accessOf w c m k va) ≡ judge (o .leaf) (needNow w c k) va
-    unfolding judgeLine judge
+    line-judged : (l : Line) (o : Behind w h l) → judgeLine l (accessOf w c m k va) ≡ leafAnswer (o .leaf) (needNow w c k) va
+    unfolding judgeLine leafAnswer
     line-judged l o = rw (o .frame, o .perms, o .level)
 
   -- a step has begun on the registers and RAM of now
-  module _ (laws : Laws w) (past : List (Mark w)) (c : Plain w) (m : w .Ram) (k : Kind) (va : ℕ) where
-    abbrev h : List (Mark w)
+  module _ (laws : Laws w) (past : List (Moment w)) (c : Plain w) (m : w .Ram) (k : Kind) (va : ℕ) where
+    abbrev h : List (Moment w)
     h = at (c .regs) m ∷ past
 
     abbrev Fine : Outcome → Type 0
@@ -155,16 +157,16 @@ module _ (w : World) where
     abbrev hits : Known → Bool
     hits n = eqb (n .page) (va / 4096) && eqb (n .level) (c .who .level)
 
-    module _ (t : Model) (s : Sound w h (c .regs) t) where
+    module _ (t : Model) (s : Traced w h (c .regs) t) where
       walk-done : onNow w c ≡ true → (x : Walked) → w .walk (c .regs) m (regimeNow w c) (untagNow w c va) ≡ x → Fine (walked x a t)
       unfolding walked
-      walk-done o (Fault code) e = record { sound = sound-counting w oneWalk s; answered = failed code o e refl }
-      walk-done o (Mapped leaf) e = record { sound = sound-keep w line kept-walk (sound-counting w oneWalk s); answered = answer }
+      walk-done o (Fault code) e = record { traced = traced-counting w oneWalk s; answered = failed code o e refl }
+      walk-done o (Mapped leaf) e = record { traced = traced-keep w line kept-walk (traced-counting w oneWalk s); answered = answer }
         where
           line : Line
           line = lineOfLeaf leaf a (t .asid)
 
-          first : (ℓ′ : Leaf) × (pageWalk w (c .regs) m (regimeNow w c) (pageNow w c va) ≡ Mapped ℓ′) × Agree leaf ℓ′ × (leaf .global ≡ ℓ′ .global)
+          first : (ℓ′ : Leaf) × (pageWalk w (c .regs) m (regimeNow w c) (pageNow w c va) ≡ Mapped ℓ′) × LeavesEqual leaf ℓ′ × (leaf .global ≡ ℓ′ .global)
           first = laws .walk-page (c .regs) m (regimeNow w c) (untagNow w c va) (pageNow w c va * 4096) (omega arith) leaf e
 
           seen : Seen w h (regimeNow w c) (pageNow w c va) (first .0) (t .asid)
@@ -191,7 +193,7 @@ module _ (w : World) where
       unfolding looked
       line-done o l b p r q =
           record {
-            sound = sound-counting w oneHit s;
+            traced = traced-counting w oneHit s;
             answered =
                 by (b .leaf) (b .under) o (rw (same-regime (l .regime) (regimeNow w c) r, eqb-true (l .page) (pageNow w c va) p) at (b .seen))
                 (today (b .leaf .global) refl (rw (b .reach) at q)) (line-judged laws h c m k va l b);
@@ -218,21 +220,21 @@ module _ (w : World) where
       unhinted-done = go (onNow w c) refl
         where
           go : (b : Bool) → onNow w c ≡ b → Fine (unhinted b a t)
-          go false o = record { sound = s; answered = itself o refl }
+          go false o = record { traced = s; answered = itself o refl }
           go true o = look-done o (t .lines (pageNow w c va % 1024)) (s .lines-ok (pageNow w c va % 1024))
 
       -- a data translation that came out sets a hint that holds
       hint-done : hintable k (c .who .mark) ≡ true → (o : Outcome) → Fine o → Fine (noted a o)
       unfolding noted
-      hint-done b o d = record { sound = go (o .answer) refl; answered = d .answered }
+      hint-done b o d = record { traced = go (o .answer) refl; answered = d .answered }
         where
-          go : (x : Answer) → o .answer ≡ x → Sound w h (c .regs) (noting x a (o .after))
-          go (Status code) e = d .sound
+          go : (x : Answer) → o .answer ≡ x → Traced w h (c .regs) (noting x a (o .after))
+          go (Status code) e = d .traced
           go (Address pa) e =
-              sound-hint w (hintPlace k va) (knownOf a pa)
+              traced-hint w (hintPlace k va) (knownOf a pa)
               (rw (kind-at k (c .who .mark) va b)
               (answered-promise laws h c m k va pa (inr (hint-unmarked k (c .who .mark) b)) (rw e at (d .answered))))
-              (d .sound)
+              (d .traced)
 
       -- a hint answers as it promised
       hit-done : Unmarked (c .who .mark) k → (n : Known) → Promise w h (c .regs) k (n .page) (n .level) (n .frame)
@@ -248,7 +250,7 @@ module _ (w : World) where
       tried-done b (holds n) ok = go (hits n) refl
         where
           go : (d : Bool) → hits n ≡ d → Fine (tried (pick d (holds (n .frame)) empty) a t)
-          go true e = record { sound = s; answered = hit-done (inr (hint-unmarked k (c .who .mark) b)) n ok e }
+          go true e = record { traced = s; answered = hit-done (inr (hint-unmarked k (c .who .mark) b)) n ok e }
           go false e = hint-done b _ unhinted-done
 
       pub translate-done : Fine (translate a t)
@@ -268,20 +270,20 @@ module _ (w : World) where
           d : Fine (unhinted (onNow w c) a t)
           d = unhinted-done
 
-          put : (y : Answer) → unhinted (onNow w c) a t .answer ≡ y → Sound w h (c .regs) (notingFetch y a (unhinted (onNow w c) a t .after))
-          put (Status code) e = d .sound
+          put : (y : Answer) → unhinted (onNow w c) a t .answer ≡ y → Traced w h (c .regs) (notingFetch y a (unhinted (onNow w c) a t .after))
+          put (Status code) e = d .traced
           put (Address pa) e =
-              sound-fetch-hint w (knownOf a pa) (rw f at (answered-promise laws h c m k va pa (inl f) (rw e at (d .answered)))) (d .sound)
+              traced-fetch-hint w (knownOf a pa) (rw f at (answered-promise laws h c m k va pa (inl f) (rw e at (d .answered)))) (d .traced)
 
           miss : Fine (notedFetch a (unhinted (onNow w c) a t))
-          miss = record { sound = put _ refl; answered = d .answered }
+          miss = record { traced = put _ refl; answered = d .answered }
 
           go : (y : Slot Known) → HintOk w h (c .regs) k y → Fine (fetched (knowing (va / 4096) (c .who .level) y) a t)
           go empty o = miss
           go (holds n) o = hit (hits n) refl
             where
               hit : (b : Bool) → hits n ≡ b → Fine (fetched (pick b (holds (n .frame)) empty) a t)
-              hit true e = record { sound = s; answered = hit-done (inl f) n o e }
+              hit true e = record { traced = s; answered = hit-done (inl f) n o e }
               hit false e = miss
 
       pub fetch-done : k ≡ Fetch → Fine (fetch a t)

@@ -9,19 +9,22 @@ use Rattle.walk.specs.declared.level.Leaf.{Leaf}
 use Rattle.walk.specs.declared.level.Walked.the-variants.{Mapped}
 use Rattle.tlb.specs.Lists.{Each}
 use Rattle.tlb.specs.declared.Inval.{Inval}
-use Rattle.history.specs.World.{World, Agree, covers, Plain, pageWalk}
+use Rattle.history.specs.World.{World, LeavesEqual, covers, Plain, pageWalk}
 use Rattle.history.specs.History.{Step, Event, steps, receives, afterEvent, plainRun, dropsRun, Settled}
 
 module _ (w : World) (R : w .Regs) (m : w .Ram) (r : Regime) (p : ℕ) where
   -- at a step that begins on c and m′, with the invalidations vs from then on; now the registers are R and RAM is m
   abbrev pub HoldsAt : Plain w → w .Ram → List Inval → Type 0
   HoldsAt c m′ vs =
-      (ℓ : Leaf) → w .on (c .regs) r ≡ true → pageWalk w (c .regs) m′ r p ≡ Mapped ℓ → (ℓ .global ≡ true) ⊎ (w .asid (c .regs) ≡ w .asid R)
-      → Each (λ v. covers v p ℓ (w .asid (c .regs)) ≡ false) vs → (ℓ′ : Leaf) × (pageWalk w R m r p ≡ Mapped ℓ′) × Agree ℓ ℓ′
+      (ℓ : Leaf) → w .on (c .regs) r ≡ true → pageWalk w (c .regs) m′ r p ≡ Mapped ℓ
+      → (ℓ .global ≡ true) ⊎ (w .asid (c .regs) ≡ w .asid R)
+      → Each (λ v. covers v p ℓ (w .asid (c .regs)) ≡ false) vs
+      → (ℓ′ : Leaf) × (pageWalk w R m r p ≡ Mapped ℓ′) × LeavesEqual ℓ ℓ′
 
   abbrev pub HoldsFrom : Plain w → List (Event w) → Type 0
   HoldsFrom c [] = Unit {0}
-  HoldsFrom c (steps m′ s ∷ l) = HoldsAt c m′ (dropsRun w c (steps m′ s ∷ l)) × HoldsFrom (afterEvent w (steps m′ s) c) l
+  HoldsFrom c (steps m′ s ∷ l) =
+      HoldsAt c m′ (dropsRun w c (steps m′ s ∷ l)) × HoldsFrom (afterEvent w (steps m′ s) c) l
   HoldsFrom c (receives v ∷ l) = HoldsFrom c l
 
   holds-later : (before : List (Event w)) (m′ : w .Ram) (s : Step w) (later : List (Event w)) (c : Plain w)

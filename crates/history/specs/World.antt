@@ -1,5 +1,5 @@
--- What the theory of histories takes from registers and walk, and document 01's terms on it: equal walks, covering, the core without a cache.
--- `spanBits`, `asUser` and `need` are the plain model's: tlb/specs/Model.antt.
+-- What the theory of histories takes from registers and walk, and document 01's terms on it: equal walks, covering, the
+-- core without a cache. `spanBits`, `asUser` and `need` are the plain model's: tlb/specs/Model.antt.
 use mathlib.Core.Path.{_≡_}
 use mathlib.Core.Bool.{Bool, true, not, _&&_}
 use Prim.Native.Nat.{ℕ, _+_, _*_, _/_, _%_, _^_, _≤_}
@@ -36,16 +36,18 @@ pub record World : Type 1 where
 -- EQUAL WALKS
 
 -- "Two walks are equal where both end in a leaf with the same physical page, permission bits and level."
-pub record Agree (ℓ ℓ′ : Leaf) : Type 0 where
+pub record LeavesEqual (ℓ ℓ′ : Leaf) : Type 0 where
   pub pages : ℓ .oa / 4096 ≡ ℓ′ .oa / 4096
   pub perms : ℓ .perms ≡ ℓ′ .perms
   pub levels : ℓ .level ≡ ℓ′ .level
 
 -- COVERING
 
--- The invalidation covers the leaf ℓ of the page p, walked with the ASID a in force. "A walk result is covered by a later All or flush; by a
--- Page whose low 44 bits agree with its page's above the lowest 18, 9 or 0 bits for level 1, 2, 3; by an Asid equal to the ASID in force at
--- that walk, if it isn't global."
+-- The invalidation covers the leaf ℓ of the page p, walked with the ASID a in force. "A walk result is covered by a
+-- later All or flush; by a Page whose low 44 bits agree with its page's above the lowest 18, 9 or 0 bits for level 1,
+-- 2, 3; by an Asid equal to the ASID in force at that walk, if it isn't global." The premise's own reading, on purpose:
+-- what the plain model drops of its lines is said in tlb/specs/Model.antt, what the cache drops in
+-- tlb/specs/Cache.antt, and `same-cover` (Traced.antt) and tlb/specs/Refines.antt show that they agree.
 unfoldable pub covers : Inval → ℕ → Leaf → ℕ → Bool
 covers All p ℓ a = true
 covers (Page n) p ℓ a = eqb (p % 2 ^ 44 / 2 ^ spanBits (ℓ .level)) (n % 2 ^ 44 / 2 ^ spanBits (ℓ .level))
@@ -53,15 +55,16 @@ covers (Asid b) p ℓ a = not (ℓ .global) && eqb a b
 
 -- CORE WITHOUT A CACHE
 
--- "0x0C plus the leaf's level, where the leaf lacks the bit that the access needs; else the leaf's physical page with the address's low twelve
--- bits."
-unfoldable pub judge : Leaf → ℕ → ℕ → Answer
-judge ℓ bit va = pick (eqb (ℓ .perms / bit % 2) 1) (Address (ℓ .oa / 4096 * 4096 + va % 4096)) (Status (12 + ℓ .level))
+-- "0x0C plus the leaf's level, where the leaf lacks the bit that the access needs; else the leaf's physical page with
+-- the address's low twelve bits."
+unfoldable pub leafAnswer : Leaf → ℕ → ℕ → Answer
+leafAnswer ℓ bit va =
+    pick (eqb (ℓ .perms / bit % 2) 1) (Address (ℓ .oa / 4096 * 4096 + va % 4096)) (Status (12 + ℓ .level))
 
 -- "A walk fault is the answer."
-unfoldable pub judged : Walked → ℕ → ℕ → Answer
-judged (Fault code) bit va = Status code
-judged (Mapped ℓ) bit va = judge ℓ bit va
+unfoldable pub walkAnswer : Walked → ℕ → ℕ → Answer
+walkAnswer (Fault code) bit va = Status code
+walkAnswer (Mapped ℓ) bit va = leafAnswer ℓ bit va
 
 module _ (w : World) where
   -- "A page is an untagged page of one regime"; its walk is that of its first address.
@@ -89,10 +92,12 @@ module _ (w : World) where
   abbrev pub needNow : Plain → Kind → ℕ
   needNow c k = need k (asUser (regimeNow c) (c .who .level) (c .who .mark) k)
 
-  -- Its answer to a translation that isn't refused: "with stage 1 off, the address itself. Else it untags the address and walks, by the walk's
-  -- definition, on its own registers and the step's RAM." A fault is its status and the address translated, va.
+  -- Its answer to a translation that isn't refused: "with stage 1 off, the address itself. Else it untags the address
+  -- and walks, by the walk's definition, on its own registers and the step's RAM." A fault is its status and the
+  -- address translated, va.
   unfoldable pub uncached : Plain → w .Ram → Kind → ℕ → Answer
-  uncached c m k va = pick (onNow c) (judged (w .walk (c .regs) m (regimeNow c) (untagNow c va)) (needNow c k) va) (Address va)
+  uncached c m k va =
+      pick (onNow c) (walkAnswer (w .walk (c .regs) m (regimeNow c) (untagNow c va)) (needNow c k) va) (Address va)
 
   -- the access of the same translation through a cache
   abbrev pub accessOf : Plain → w .Ram → Kind → ℕ → Access
@@ -120,4 +125,4 @@ pub record Laws (w : World) : Type 0 where
   pub leaf-level : (R : w .Regs) (m : w .Ram) (r : Regime) (va : ℕ) (ℓ : Leaf) → w .walk R m r va ≡ Mapped ℓ → ℓ .level ≤ 3
   -- addresses of one page have equal walks
   pub walk-page : (R : w .Regs) (m : w .Ram) (r : Regime) (va vb : ℕ) → va / 4096 ≡ vb / 4096 → (ℓ : Leaf) → w .walk R m r va ≡ Mapped ℓ →
-      (ℓ′ : Leaf) × (w .walk R m r vb ≡ Mapped ℓ′) × Agree ℓ ℓ′ × (ℓ .global ≡ ℓ′ .global)
+      (ℓ′ : Leaf) × (w .walk R m r vb ≡ Mapped ℓ′) × LeavesEqual ℓ ℓ′ × (ℓ .global ≡ ℓ′ .global)

@@ -33,7 +33,7 @@ use Rattle.tlb.specs.declared.hint.Physical.{Physical}
 use Rattle.tlb.specs.declared.hint.Physical.the-variants.{At, Unknown}
 use Rattle.mmu.specs.Core.{movedTo, bankNow}
 use Rattle.mmu.specs.Ops.{withTlb, steppedNow, fetchSteppedNow, translateOf}
-use Rattle.mmu.specs.Step.{stepOf, fetchStepOf}
+use Rattle.mmu.specs.Step.{translateIn as stepOf, translateFetchIn as fetchStepOf}
 use Rattle.mmu.specs.declared.core.Core.{Core}
 use Rattle.mmu.specs.declared.ops.Translated.{Translated}
 use Rattle.words.specs.Parts.{withCache, withCounts, withEntry, withHint, withFetchHint}

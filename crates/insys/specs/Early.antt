@@ -11,7 +11,7 @@ use Rattle.tlb.specs.declared.access.Kind.the-variants.{Write}
 use Rattle.entry.specs.declared.exception.Exception.the-variants.{Undefined, Svc, Hvc, Smc, Brk, DataAbort, InsnAbort, PcAlignment}
 use Rattle.entry.specs.declared.exception.Stop.{Stop}
 use Rattle.entry.specs.declared.exception.Stop.the-variants as Stop
-use Rattle.mmu.specs.Place.{judged}
+use Rattle.mmu.specs.Place.{verdictOf as judged}
 use Rattle.mmu.specs.Ends.{storeEnd, storeEndBy}
 use Rattle.mmu.specs.Ops.{locatedNow, writeOf, ramAfterWrite}
 use Rattle.mmu.specs.declared.core.Core.{Core}

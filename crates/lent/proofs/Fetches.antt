@@ -17,7 +17,7 @@ use Rattle.tlb.specs.declared.hint.Physical.the-variants.{At, Unknown}
 use Rattle.mmu.specs.Bytes.{insnOf}
 use Rattle.mmu.specs.Core.{movedTo}
 use Rattle.mmu.specs.Ends.{fetchEnd as endOf}
-use Rattle.mmu.specs.Step.{fetchStepOf}
+use Rattle.mmu.specs.Step.{translateFetchIn as fetchStepOf}
 use Rattle.mmu.specs.Ops.{fetchSteppedNow, fetchOf as fetchNow}
 use Rattle.mmu.specs.declared.bytes.Insn.{Insn}
 use Rattle.mmu.specs.declared.bytes.Insn.the-variants as Insn

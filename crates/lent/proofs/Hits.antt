@@ -24,7 +24,7 @@ use Rattle.tlb.specs.declared.Tlb.{Tlb}
 use Rattle.mmu.specs.Core.{bankNow, movedTo}
 use Rattle.mmu.specs.Ops.{locatedNow}
 use Rattle.mmu.specs.Place.{inPage, nextPage, crosses}
-use Rattle.mmu.specs.Step.{stepOf, slotAt, locatedOf}
+use Rattle.mmu.specs.Step.{translateIn as stepOf, slotAt, locatedOf}
 use Rattle.mmu.specs.declared.core.Core.{Core}
 use Rattle.mmu.specs.declared.place.Place.the-variants.{Whole}
 use Rattle.mmu.specs.declared.place.Placed.the-variants.{At}

@@ -26,7 +26,7 @@ use Rattle.tlb.specs.declared.hint.Hint.{Hint}
 use Rattle.tlb.specs.declared.turn.Turned.{Turned}
 use Rattle.tlb.specs.declared.Tlb.{Tlb}
 use Rattle.mmu.specs.Place.{nextPage, crosses, goesOn}
-use Rattle.mmu.specs.Step.{stepOf, slotAt, locatedOf, onePage, bothPages}
+use Rattle.mmu.specs.Step.{translateIn as stepOf, slotAt, locatedOf, onePage, bothPages}
 use Rattle.mmu.specs.declared.step.Located.{Located}
 use Rattle.mmu.specs.declared.step.Stepped.{Stepped}
 use Rattle.lentparts.specs.Access.{another, moreOf, oneTurn, twoTurns, bothAfter, bothOf}

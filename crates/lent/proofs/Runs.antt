@@ -30,7 +30,7 @@ use Rattle.tlb.specs.declared.access.Answer.the-variants.{Address}
 use Rattle.tlb.specs.declared.resolve.Source.the-variants.{FromHint}
 use Rattle.tlb.specs.declared.turn.Turned.{Turned}
 use Rattle.mmu.specs.Core.{movedTo}
-use Rattle.mmu.specs.Step.{stepOf as stepIn}
+use Rattle.mmu.specs.Step.{translateIn as stepIn}
 use Rattle.mmu.specs.Ops.{steppedNow, translateOf}
 use Rattle.mmu.specs.declared.core.Core.{Core}
 use Rattle.cpu.specs.Check.{plainOf, askedOf, missedOf}

@@ -20,7 +20,7 @@ use Rattle.mmu.specs.Bytes.{storeRam}
 use Rattle.mmu.specs.Core.{movedTo}
 use Rattle.mmu.specs.Ends.{storeEnd, storeRamEnd}
 use Rattle.mmu.specs.Ops.{locatedNow, writeOf, ramAfterWrite}
-use Rattle.mmu.specs.Place.{inPage, judged}
+use Rattle.mmu.specs.Place.{inPage, verdictOf as judged}
 use Rattle.mmu.specs.declared.core.Core.{Core}
 use Rattle.mmu.specs.declared.place.Place.the-variants.{Whole}
 use Rattle.cpu.specs.Check.{sizedOf, askedOf, isWidth, known, passes, missedOf}

@@ -9,7 +9,7 @@ use Rattle.tlb.specs.declared.access.Answer.{Answer}
 use Rattle.tlb.specs.declared.access.Answer.the-variants.{Address, Status}
 use Rattle.entry.specs.declared.exception.Stop.{Stop}
 use Rattle.entry.specs.declared.exception.Exception.the-variants.{InsnAbort}
-use Rattle.mmu.specs.Place.{firstPa, judged}
+use Rattle.mmu.specs.Place.{firstPa, verdictOf}
 use Rattle.mmu.specs.Bytes.{loadOf, storeRam, insnOf}
 use Rattle.mmu.specs.Ends.{external, dataAbort, externalAbort, loadEnd, storeEnd, storeRamEnd, fetchEnd, reachedBy}
 use Rattle.mmu.specs.declared.place.Place.{Place}
@@ -55,7 +55,7 @@ module _ (x : Placed) (abort base : ℕ) (ram : List ℕ) (va n : ℕ) where
   unfolding storeEnd
   store-fault addr fsc stop ex es = rw (ex, es)
 
-  module _ (place : Place) (d : Verdict) (ex : x ≡ At place) (ed : d ≡ judged base (length ram) place n) where
+  module _ (place : Place) (d : Verdict) (ex : x ≡ At place) (ed : d ≡ verdictOf base (length ram) place n) where
     pub store-done : d ≡ Inside
         → _≡_ {A = StoreEnd} (record { «abort_pa» = abort; answer = Store.Done }) (storeEnd x abort base ram va n)
     unfolding storeEnd

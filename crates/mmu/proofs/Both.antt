@@ -14,7 +14,7 @@ use Rattle.word.specs.Ram.{within, written, stored, bytesOf}
 use Rattle.word.specs.declared.ram.Word.{Word}
 use Rattle.word.specs.declared.ram.Word.the-variants as Word
 use Rattle.word.specs.RamLaws.{digit-next, written-next}
-use Rattle.mmu.specs.Place.{byteAt, firstOutside, judged}
+use Rattle.mmu.specs.Place.{byteAt, firstOutside, verdictOf}
 use Rattle.mmu.specs.Bytes.{splitValue, splitStored, loadOf, storeRam}
 use Rattle.mmu.specs.BytesLaws.{stored-length}
 use Rattle.mmu.specs.AtOnce.{bothInside, Lie, bothAt, bothStored}
@@ -314,10 +314,10 @@ module _ (base : ℕ) (ram : List ℕ) (p : Pages) (n : ℕ) (h : length ram < 2
       go true ef e = sym (split-value base ram p n v Inside (sym (all-inside ef)) refl (sym (value-is _ _ e)))
       go false ef e = absurd (outside-value v e)
 
-  pub both-judged : bothInside base (length ram) p n ≡ true → judged base (length ram) (Split p) n ≡ Inside
-  unfolding judged
+  pub both-judged : bothInside base (length ram) p n ≡ true → verdictOf base (length ram) (Split p) n ≡ Inside
+  unfolding verdictOf
   both-judged t = all-inside t
 
   pub both-stores : (v : ℕ) → bothInside base (length ram) p n ≡ true → storeRam base ram (Split p) n v ≡ bothStored base ram p n v
-  unfolding storeRam judged bothStored
+  unfolding storeRam verdictOf bothStored
   both-stores v t = rw (all-inside t, t)

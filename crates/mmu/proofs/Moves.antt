@@ -12,7 +12,7 @@ use Rattle.word.specs.Bits.{pick}
 use Rattle.word.specs.Ram.{littleEndian, within, wordAt, stored}
 use Rattle.word.specs.declared.ram.Word.{Word}
 use Rattle.word.specs.declared.ram.Word.the-variants as Word
-use Rattle.mmu.specs.Place.{byteAt, firstOutside, judged, bytesBefore}
+use Rattle.mmu.specs.Place.{byteAt, firstOutside, verdictOf, bytesBefore}
 use Rattle.mmu.specs.Bytes.{byteIn, splitValue, splitStored, gotBy, loadOf, storeRam, insnOf}
 use Rattle.mmu.specs.BytesLaws.{stored-length, split-length, store-length}
 use Rattle.mmu.specs.declared.place.Pages.{Pages}
@@ -126,21 +126,21 @@ module _ (base : ℕ) (ram : List ℕ) where
   by-none pa false x q = refl
 
   pub whole-value : (pa n : ℕ) (w : Word) (v : ℕ) → w ≡ wordAt base ram n pa → w ≡ Word.Value v → Value v ≡ loadOf base ram (Whole pa) n
-  unfolding loadOf judged wordAt
+  unfolding loadOf verdictOf wordAt
   whole-value pa n w v e q = by-value pa (within base (length ram) n pa) v (littleEndian ram n (pa - base)) (sym e ∙ q)
 
   pub whole-abort : (pa n : ℕ) (w : Word) → w ≡ wordAt base ram n pa → w ≡ Word.Outside → Abort 0 pa ≡ loadOf base ram (Whole pa) n
-  unfolding loadOf judged wordAt
+  unfolding loadOf verdictOf wordAt
   whole-abort pa n w e q = by-none pa (within base (length ram) n pa) (littleEndian ram n (pa - base)) (sym e ∙ q)
 
   pub split-value : (p : Pages) (n v : ℕ) (d : Verdict) → d ≡ firstOutside base (length ram) p 0 n → d ≡ Inside
       → v ≡ splitValue base ram p 0 n → Value v ≡ loadOf base ram (Split p) n
-  unfolding loadOf judged
+  unfolding loadOf verdictOf
   split-value p n v d e q s = rw (← e, q, s)
 
   pub split-abort : (p : Pages) (n i pa : ℕ) (d : Verdict) → d ≡ firstOutside base (length ram) p 0 n → d ≡ Outside i pa
       → Abort i pa ≡ loadOf base ram (Split p) n
-  unfolding loadOf judged
+  unfolding loadOf verdictOf
   split-abort p n i pa d e q = rw (← e, q)
 
   module _ (place : Place) (n : ℕ) (g : Got) where
@@ -171,21 +171,21 @@ put-length base ram ys pa v m e q = ap length e ∙ stored-length base ram 1 pa 
 
 -- stores
 module _ (base : ℕ) (ram : List ℕ) where
-  pub split-judged : (p : Pages) (n : ℕ) (d : Verdict) → d ≡ firstOutside base (length ram) p 0 n → d ≡ judged base (length ram) (Split p) n
-  unfolding judged
+  pub split-judged : (p : Pages) (n : ℕ) (d : Verdict) → d ≡ firstOutside base (length ram) p 0 n → d ≡ verdictOf base (length ram) (Split p) n
+  unfolding verdictOf
   split-judged p n d e = e
 
   pub split-written : (p : Pages) (n k v : ℕ) (d : Verdict) (ys : List ℕ) → d ≡ firstOutside base (length ram) p 0 n → k ≡ bytesBefore d n
       → ys ≡ splitStored base p v 0 k ram → ys ≡ storeRam base ram (Split p) n v
-  unfolding storeRam judged
+  unfolding storeRam verdictOf
   split-written p n k v d ys e q s = rw (← e, ← q) s
 
-  pub whole-inside : (pa n : ℕ) (f : Bool) → f ≡ true → f ≡ within base (length ram) n pa → Inside ≡ judged base (length ram) (Whole pa) n
-  unfolding judged
+  pub whole-inside : (pa n : ℕ) (f : Bool) → f ≡ true → f ≡ within base (length ram) n pa → Inside ≡ verdictOf base (length ram) (Whole pa) n
+  unfolding verdictOf
   whole-inside pa n f t e = rw (← e, t)
 
-  pub whole-outside : (pa n : ℕ) (f : Bool) → f ≡ false → f ≡ within base (length ram) n pa → Outside 0 pa ≡ judged base (length ram) (Whole pa) n
-  unfolding judged
+  pub whole-outside : (pa n : ℕ) (f : Bool) → f ≡ false → f ≡ within base (length ram) n pa → Outside 0 pa ≡ verdictOf base (length ram) (Whole pa) n
+  unfolding verdictOf
   whole-outside pa n f t e = rw (← e, t)
 
   pub whole-written : (pa n v : ℕ) (ys : List ℕ) → ys ≡ stored base ram n pa v → ys ≡ storeRam base ram (Whole pa) n v
@@ -202,14 +202,14 @@ module _ (base : ℕ) (ram : List ℕ) where
   store-kept place n v ys e = ap length e ∙ store-length base ram place n v
 
   module _ (place : Place) (n v : ℕ) where
-    pub verdict-whole : (pa : ℕ) (d : Verdict) → place ≡ Whole pa → d ≡ judged base (length ram) (Whole pa) n → d ≡ judged base (length ram) place n
+    pub verdict-whole : (pa : ℕ) (d : Verdict) → place ≡ Whole pa → d ≡ verdictOf base (length ram) (Whole pa) n → d ≡ verdictOf base (length ram) place n
     verdict-whole pa d e q = rw e q
 
     pub ram-whole : (pa : ℕ) (ys : List ℕ) → place ≡ Whole pa → ys ≡ storeRam base ram (Whole pa) n v → ys ≡ storeRam base ram place n v
     ram-whole pa ys e q = rw e q
 
-    pub verdict-split : (p : Pages) (k : ℕ) (d : Verdict) → place ≡ Split p → k ≡ n → d ≡ judged base (length ram) (Split p) k
-        → d ≡ judged base (length ram) place n
+    pub verdict-split : (p : Pages) (k : ℕ) (d : Verdict) → place ≡ Split p → k ≡ n → d ≡ verdictOf base (length ram) (Split p) k
+        → d ≡ verdictOf base (length ram) place n
     verdict-split p k d e m q = rw (e, ← m) q
 
     pub ram-split : (p : Pages) (k : ℕ) (ys : List ℕ) → place ≡ Split p → k ≡ n → ys ≡ storeRam base ram (Split p) k v

@@ -19,7 +19,7 @@ use Rattle.entry.specs.declared.flags.Flags.{Flags}
 use Rattle.mmu.specs.Core.{zeros, freshCore, regSet, setReg, movedTo, bankNow}
 use Rattle.mmu.specs.BytesLaws.{store-length}
 use Rattle.mmu.specs.Ends.{loadEnd, storeEnd, storeRamEnd, fetchEnd, reachedBy}
-use Rattle.mmu.specs.Step.{stepOf, fetchStepOf, locatedOf}
+use Rattle.mmu.specs.Step.{translateIn, translateFetchIn, locatedOf}
 use Rattle.mmu.specs.Ops.{steppedNow, fetchSteppedNow, locatedNow, translateOf, translateAccessOf, readOf, writeOf, ramAfterWrite, fetchOf, fetchPaOf, dataPaOf}
 use Rattle.mmu.specs.declared.core.Core.{Core}
 use Rattle.mmu.specs.declared.place.Placed.{Placed}
@@ -85,13 +85,13 @@ unfolding setReg
 set-is c n v x e = rw e
 
 module _ (c : Core) (memory : ℕ → Word) (va : ℕ) (s : Bank) (es : s ≡ bankNow c) where
-  pub stepped-is : (kind : Kind) (r : Stepped) → r ≡ stepOf s (c .who) memory va kind (c .tlb) → r ≡ steppedNow c memory va kind
+  pub stepped-is : (kind : Kind) (r : Stepped) → r ≡ translateIn s (c .who) memory va kind (c .tlb) → r ≡ steppedNow c memory va kind
   unfolding steppedNow
-  stepped-is kind r er = er ∙ ap (λ (b : Bank). stepOf b (c .who) memory va kind (c .tlb)) es
+  stepped-is kind r er = er ∙ ap (λ (b : Bank). translateIn b (c .who) memory va kind (c .tlb)) es
 
-  pub fetch-stepped-is : (r : Stepped) → r ≡ fetchStepOf s (c .who) memory va (c .tlb) → r ≡ fetchSteppedNow c memory va
+  pub fetch-stepped-is : (r : Stepped) → r ≡ translateFetchIn s (c .who) memory va (c .tlb) → r ≡ fetchSteppedNow c memory va
   unfolding fetchSteppedNow
-  fetch-stepped-is r er = er ∙ ap (λ (b : Bank). fetchStepOf b (c .who) memory va (c .tlb)) es
+  fetch-stepped-is r er = er ∙ ap (λ (b : Bank). translateFetchIn b (c .who) memory va (c .tlb)) es
 
   pub located-is : (n : ℕ) (kind : Kind) (r : Located) → r ≡ locatedOf s (c .who) memory va n kind (c .tlb) → r ≡ locatedNow c memory va n kind
   unfolding locatedNow

@@ -23,7 +23,7 @@ use Rattle.tlb.specs.declared.turn.Turned.{Turned}
 use Rattle.tlb.specs.declared.turn.FetchTurned.{FetchTurned}
 use Rattle.tlb.specs.declared.Tlb.{Tlb}
 use Rattle.mmu.specs.Place.{nextPage, crosses, goesOn, placedOne, placedBoth}
-use Rattle.mmu.specs.Step.{slotAt, stepOf, fetchStepOf, locatedOf}
+use Rattle.mmu.specs.Step.{slotAt, translateIn, translateFetchIn, locatedOf}
 use Rattle.mmu.specs.declared.place.Placed.{Placed}
 use Rattle.mmu.specs.declared.step.Stepped.{Stepped}
 use Rattle.mmu.specs.declared.step.Located.{Located}
@@ -42,30 +42,30 @@ module _ (s : Bank) (who : Who) (memory : ℕ → Word) (va : ℕ) (t : Tlb) (j 
     (ej : j ≡ slotAt s (who .level) va) (ee : e ≡ entryAt (t .cache) j) where
   pub step-is : (kind : Kind) (i : ℕ) (h : Hint) (r : Turned) → i ≡ dataSlot va kind → h ≡ hintAt (t .cache) i
       → r ≡ turnOf s who (t .cache .present) (t .counts) h e va kind memory → u ≡ withTurn t i j r
-      → _≡_ {A = Stepped} (record { tlb = u; answer = r .answer }) (stepOf s who memory va kind t)
-  unfolding stepOf
+      → _≡_ {A = Stepped} (record { tlb = u; answer = r .answer }) (translateIn s who memory va kind t)
+  unfolding translateIn
   step-is kind i h r ei eh er eu =
       let turn : r ≡ turnIn (accessOf s who va kind memory) t = er ∙ rw (eh, ee, ei, ej) (turn-is s who va kind memory t) in
       let after : u ≡ turned (accessOf s who va kind memory) t = eu ∙ rw (turn, ei, ej) in
       λ n. record { tlb = after n; answer = turn n .answer }
 
   pub fetch-step-is : (r : FetchTurned) → r ≡ fetchOf s who (t .cache .present) (t .counts) (t .cache .fetch) e va memory
-      → u ≡ withFetch t j r → _≡_ {A = Stepped} (record { tlb = u; answer = r .answer }) (fetchStepOf s who memory va t)
-  unfolding fetchStepOf
+      → u ≡ withFetch t j r → _≡_ {A = Stepped} (record { tlb = u; answer = r .answer }) (translateFetchIn s who memory va t)
+  unfolding translateFetchIn
   fetch-step-is r er eu =
       let turn : r ≡ fetchIn (accessOf s who va Fetch memory) t = er ∙ rw (ee, ej) (fetch-is s who va memory t) in
       let after : u ≡ fetchedIn (accessOf s who va Fetch memory) t = eu ∙ rw (turn, ej) in
       λ n. record { tlb = after n; answer = turn n .answer }
 
 module _ (s : Bank) (who : Who) (memory : ℕ → Word) (va n k : ℕ) (kind : Kind) (t : Tlb) (on split more : Bool) (f : Stepped)
-    (eo : on ≡ stage1On s (regimeOf (who .level))) (ek : k ≡ n) (es : split ≡ crosses on va k) (ef : f ≡ stepOf s who memory va kind t)
+    (eo : on ≡ stage1On s (regimeOf (who .level))) (ek : k ≡ n) (es : split ≡ crosses on va k) (ef : f ≡ translateIn s who memory va kind t)
     (em : more ≡ goesOn (f .answer) split) where
   pub located-one : (x : Placed) → more ≡ false → x ≡ placedOne va (f .answer)
       → _≡_ {A = Located} (record { tlb = f .tlb; placed = x }) (locatedOf s who memory va n kind t)
   unfolding locatedOf
   located-one x h ex = rw (← ef, ← ek, ← eo, ← es, ← em, h, ex)
 
-  pub located-both : (next : ℕ) (g : Stepped) (x : Placed) → more ≡ true → next ≡ nextPage va → g ≡ stepOf s who memory next kind (f .tlb)
+  pub located-both : (next : ℕ) (g : Stepped) (x : Placed) → more ≡ true → next ≡ nextPage va → g ≡ translateIn s who memory next kind (f .tlb)
       → x ≡ placedBoth va (f .answer) (g .answer)
       → _≡_ {A = Located} (record { tlb = g .tlb; placed = x }) (locatedOf s who memory va n kind t)
   unfolding locatedOf

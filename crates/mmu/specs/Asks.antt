@@ -1,4 +1,5 @@
--- The translations that an operation makes, in order and until one faults, and the answers that they get.
+-- The translations that an access makes, from its call and the registers; what their answers say of its place; and that they are those of the
+-- exact definitions.
 use mathlib.Core.Path.{_≡_, refl}
 use mathlib.Core.Bool.{Bool, true, false}
 use mathlib.Core.List.{List, [], _∷_}
@@ -7,29 +8,22 @@ use Rattle.word.specs.Bits.{pick}
 use Rattle.word.specs.declared.ram.Word.{Word}
 use Rattle.walk.specs.Regime.{stage1On, regimeOf}
 use Rattle.walk.specs.declared.regime.Bank.{Bank}
+use Rattle.tlb.specs.Model.{Access}
+use Rattle.tlb.specs.Step.{accessOf}
+use Rattle.tlb.specs.Asks.{Ask, translates, Given, onward, answers, tlbAsks}
 use Rattle.tlb.specs.declared.access.Kind.{Kind}
 use Rattle.tlb.specs.declared.access.Who.{Who}
 use Rattle.tlb.specs.declared.access.Answer.{Answer}
 use Rattle.tlb.specs.declared.access.Answer.the-variants.{Address, Status}
 use Rattle.tlb.specs.declared.Tlb.{Tlb}
 use Rattle.mmu.specs.Place.{nextPage, crosses, goesOn, placedOne, placedBoth}
-use Rattle.mmu.specs.Step.{onePage, bothPages, stepOf, fetchStepOf, locatedOf}
+use Rattle.mmu.specs.Step.{onePage, bothPages, translateIn, locatedOf}
 use Rattle.mmu.specs.declared.place.Placed.{Placed}
 use Rattle.mmu.specs.declared.place.Placed.the-variants.{Fault}
 use Rattle.mmu.specs.declared.step.Stepped.{Stepped}
 
--- a translation of a kind, or that of a fetch, by the fetch hint first
-pub data Ask : Type 0 where
-  translates : Kind → ℕ → Ask
-  fetches : ℕ → Ask
-
--- a translation made, and its answer
-pub record Given : Type 0 where
-  pub ask : Ask
-  pub answer : Answer
-
--- An access of n bytes: its own address, and where it crosses a page with stage 1 on the next page's first. Read from the call and the
--- registers, not from what the cache does.
+-- An access of n bytes: its own address, and where it crosses a page with stage 1 on the next page's first. The second is made only where the
+-- first does not fault (`answers`, `tlbAsks`): that is not said here, and so nothing here depends on an answer.
 abbrev pub asksBy : Bool → ℕ → Kind → List Ask
 asksBy true va kind = translates kind va ∷ translates kind (nextPage va) ∷ []
 asksBy false va kind = translates kind va ∷ []
@@ -37,39 +31,16 @@ asksBy false va kind = translates kind va ∷ []
 abbrev pub accessAsks : Bool → ℕ → ℕ → Kind → List Ask
 accessAsks on va n kind = asksBy (crosses on va n) va kind
 
--- on after an address, not after a fault
-abbrev pub onward : {A : Type 0} → Answer → A → A → A
-onward (Address pa) x y = x
-onward (Status fsc) x y = y
+-- the answer of a call of one translation
+abbrev pub firstOf : List Given → Answer
+firstOf [] = Status 0
+firstOf (g ∷ l) = g .answer
 
-module _ (s : Bank) (who : Who) (memory : ℕ → Word) where
-  abbrev pub asked : Ask → Tlb → Stepped
-  asked (translates kind va) t = stepOf s who memory va kind t
-  asked (fetches va) t = fetchStepOf s who memory va t
-
-  unfoldable pub givenTo : List Ask → Tlb → List Given
-  givenTo [] t = []
-  givenTo (a ∷ l) t =
-      record { ask = a; answer = asked a t .answer } ∷ onward (asked a t .answer) (givenTo l (asked a t .tlb)) []
-
-  unfoldable pub tlbAfter : List Ask → Tlb → Tlb
-  tlbAfter [] t = t
-  tlbAfter (a ∷ l) t = onward (asked a t .answer) (tlbAfter l (asked a t .tlb)) (asked a t .tlb)
-
--- what the answers of an access say of its place; no access has none
+-- what the answers of an access say of its place: it has one, or two where it is split and the first is an address
 abbrev pub placedBy : ℕ → List Given → Placed
 placedBy va [] = Fault va 0
 placedBy va (g ∷ []) = placedOne va (g .answer)
 placedBy va (g ∷ h ∷ l) = placedBoth va (g .answer) (h .answer)
-
--- one translation
-pub asked-one : (s : Bank) (who : Who) (memory : ℕ → Word) (a : Ask) (t : Tlb) → tlbAfter s who memory (a ∷ []) t ≡ asked s who memory a t .tlb
-unfolding tlbAfter
-asked-one s who memory a t = go (asked s who memory a t .answer)
-  where
-    go : (x : Answer) → onward x (asked s who memory a t .tlb) (asked s who memory a t .tlb) ≡ asked s who memory a t .tlb
-    go (Address pa) = refl
-    go (Status fsc) = refl
 
 -- an access's translations are those of its list
 module _ (va : ℕ) (a b : Ask) (f g : Stepped) where
@@ -91,30 +62,35 @@ module _ (va : ℕ) (a b : Ask) (f g : Stepped) where
   both-pages (Address pa) (Address pa2) e d = rw (e, d)
   both-pages (Address pa) (Status fsc) e d = rw (e, d)
 
-module _ (s : Bank) (who : Who) (memory : ℕ → Word) (va n : ℕ) (kind : Kind) (t : Tlb) where
-  abbrev onIt : Bool
-  onIt = stage1On s (regimeOf (who .level))
+module _ (s : Bank) (who : Who) (memory : ℕ → Word) where
+  -- the access of a kind at an address
+  abbrev pub accessAt : Kind → ℕ → Access
+  accessAt kind va = accessOf s who va kind memory
 
-  abbrev first : Stepped
-  first = stepOf s who memory va kind t
+  module _ (va n : ℕ) (kind : Kind) (t : Tlb) where
+    abbrev onIt : Bool
+    onIt = stage1On s (regimeOf (who .level))
 
-  abbrev second : Stepped
-  second = stepOf s who memory (nextPage va) kind (first .tlb)
+    abbrev first : Stepped
+    first = translateIn s who memory va kind t
 
-  pub located-asks : locatedOf s who memory va n kind t
-      ≡ record {
-        tlb = tlbAfter s who memory (accessAsks onIt va n kind) t;
-        placed = placedBy va (givenTo s who memory (accessAsks onIt va n kind) t);
-      }
-  unfolding locatedOf tlbAfter givenTo
-  located-asks = go (crosses onIt va n)
-    where
-      neither : (x : Answer) → goesOn x false ≡ false
-      neither (Address pa) = refl
-      neither (Status fsc) = refl
+    abbrev second : Stepped
+    second = translateIn s who memory (nextPage va) kind (first .tlb)
 
-      go : (b : Bool)
-          → pick (goesOn (first .answer) b) (bothPages va (first .answer) second) (onePage va first)
-          ≡ record { tlb = tlbAfter s who memory (asksBy b va kind) t; placed = placedBy va (givenTo s who memory (asksBy b va kind) t) }
-      go true = both-pages va (translates kind va) (translates kind (nextPage va)) first second _ _ refl refl
-      go false = rw (neither (first .answer)) (one-page va (translates kind va) (translates kind va) first first _ refl)
+    pub located-asks : locatedOf s who memory va n kind t
+        ≡ record {
+          tlb = tlbAsks accessAt (accessAsks onIt va n kind) t;
+          placed = placedBy va (answers accessAt (accessAsks onIt va n kind) t);
+        }
+    unfolding locatedOf translateIn
+    located-asks = go (crosses onIt va n)
+      where
+        neither : (x : Answer) → goesOn x false ≡ false
+        neither (Address pa) = refl
+        neither (Status fsc) = refl
+
+        go : (b : Bool)
+            → pick (goesOn (first .answer) b) (bothPages va (first .answer) second) (onePage va first)
+            ≡ record { tlb = tlbAsks accessAt (asksBy b va kind) t; placed = placedBy va (answers accessAt (asksBy b va kind) t) }
+        go true = both-pages va (translates kind va) (translates kind (nextPage va)) first second _ _ refl refl
+        go false = rw (neither (first .answer)) (one-page va (translates kind va) (translates kind va) first first _ refl)

@@ -15,7 +15,7 @@ use Rattle.word.specs.RamLaws.{digit-next, byte-of, written-byte}
 use Rattle.tlb.specs.declared.access.Kind.{Kind}
 use Rattle.tlb.specs.declared.access.Kind.the-variants.{Read, Write}
 use Rattle.tlb.specs.declared.access.Answer.the-variants.{Address}
-use Rattle.mmu.specs.Place.{byteAt, judged, bytesBefore}
+use Rattle.mmu.specs.Place.{byteAt, verdictOf, bytesBefore}
 use Rattle.mmu.specs.PlaceLaws.{all-inside}
 use Rattle.mmu.specs.Bytes.{byteIn, splitValue, splitStored, valueAt, loadOf, storeRam}
 use Rattle.mmu.specs.BytesLaws.{addressIn, stored-length, split-length, split-leaves}
@@ -128,20 +128,20 @@ wrap-at p i = go (ltb i (p .«in_page»))
     go true = mod-mod (p .pa + i) (2 ^ 64)
     go false = mod-mod (p .pa2 + (i - p .«in_page»)) (2 ^ 64)
 
-whole-inside : (base len n pa : ℕ) → judged base len (Whole pa) n ≡ Inside → within base len n pa ≡ true
-unfolding judged
+whole-inside : (base len n pa : ℕ) → verdictOf base len (Whole pa) n ≡ Inside → within base len n pa ≡ true
+unfolding verdictOf
 whole-inside base len n pa = go (within base len n pa)
   where
     go : (b : Bool) → pick b Inside (Outside 0 pa) ≡ Inside → b ≡ true
     go true e = refl
     go false e = let z : _≡_ {A = ℕ} 0 1 = cc in absurd (omega arith)
 
-split-inside : (base len n i : ℕ) (p : Pages) → judged base len (Split p) n ≡ Inside → i < n → within base len 1 (byteAt p i) ≡ true
-unfolding judged
+split-inside : (base len n i : ℕ) (p : Pages) → verdictOf base len (Split p) n ≡ Inside → i < n → within base len 1 (byteAt p i) ≡ true
+unfolding verdictOf
 split-inside base len n i p e h = all-inside base len p 0 n e i (omega arith) (omega arith)
 
 module _ (base : ℕ) (ram : List ℕ) (n i : ℕ) (window : base + length ram ≤ 2 ^ 64) (h : i < n) where
-  module _ (pa : ℕ) (e : judged base (length ram) (Whole pa) n ≡ Inside) where
+  module _ (pa : ℕ) (e : verdictOf base (length ram) (Whole pa) n ≡ Inside) where
     whole-low : base ≤ pa
     whole-low = fits-low base (length ram) n pa (whole-inside base (length ram) n pa e)
 
@@ -151,14 +151,14 @@ module _ (base : ℕ) (ram : List ℕ) (n i : ℕ) (window : base + length ram �
     whole-at : wrap (pa + i) ≡ pa + i
     whole-at = let k = whole-high in mod-eq-of-lt (omega arith)
 
-  in-window : (place : Place) → judged base (length ram) place n ≡ Inside → within base (length ram) 1 (wrap (addressIn place i)) ≡ true
+  in-window : (place : Place) → verdictOf base (length ram) place n ≡ Inside → within base (length ram) 1 (wrap (addressIn place i)) ≡ true
   in-window (Whole pa) e =
       let l = whole-low pa e in
       let k = whole-high pa e in
       rw (whole-at pa e, le-leb base (pa + i) (omega arith), le-leb (pa + i + 1) (base + length ram) (omega arith))
   in-window (Split p) e = rw (wrap-at p i) (split-inside base (length ram) n i p e h)
 
-  value-byte : ((k : ℕ) → getD ram k 0 < 256) → (place : Place) → judged base (length ram) place n ≡ Inside
+  value-byte : ((k : ℕ) → getD ram k 0 < 256) → (place : Place) → verdictOf base (length ram) place n ≡ Inside
       → valueAt base ram place n / 256 ^ i % 256 ≡ byteIn base ram (wrap (addressIn place i))
   value-byte small (Whole pa) e =
       let l = whole-low pa e in
@@ -173,7 +173,7 @@ module _ (base : ℕ) (ram : List ℕ) (n i : ℕ) (window : base + length ram �
       ∙ ap (λ (j : ℕ). byteIn base ram (byteAt p j)) (zero-add i)
       ∙ ap (byteIn base ram) (sym (wrap-at p i))
 
-  store-digit : (v : ℕ) (place : Place) → judged base (length ram) place n ≡ Inside
+  store-digit : (v : ℕ) (place : Place) → verdictOf base (length ram) place n ≡ Inside
       → ((j : ℕ) → i < j → j < n → wrap (addressIn place j) ≡ wrap (addressIn place i) → ⊥)
       → byteIn base (storeRam base ram place n v) (wrap (addressIn place i)) ≡ v / 256 ^ i % 256
   unfolding storeRam
@@ -188,7 +188,7 @@ module _ (base : ℕ) (ram : List ℕ) (n i : ℕ) (window : base + length ram �
       ∙ stored-byte base ram n pa v i l k h
   store-digit v (Split p) e last =
       let z : 0 + i ≡ i = zero-add i in
-      let all : bytesBefore (judged base (length ram) (Split p) n) n ≡ n = ap (λ (d : Verdict). bytesBefore d n) e in
+      let all : bytesBefore (verdictOf base (length ram) (Split p) n) n ≡ n = ap (λ (d : Verdict). bytesBefore d n) e in
       rw (all, wrap-at p i)
       (rw z at (split-byte base p v 0 n i ram h (rw z (split-inside base (length ram) n i p e h))
       (λ j a b q. last j a b (rw (wrap-at p j, wrap-at p i) (rw (zero-add j, z) at q)))))
@@ -202,7 +202,7 @@ module _ (c : Core) (base : ℕ) (ram : List ℕ) (va n : ℕ) where
   record Loaded (v : ℕ) : Type 0 where
     place : Place
     placed : placedFor Read ≡ At place
-    inside : judged base (length ram) place n ≡ Inside
+    inside : verdictOf base (length ram) place n ≡ Inside
     value : v ≡ valueAt base ram place n
 
   loaded : (v : ℕ) → readOf c base ram va n .answer ≡ Load.Value v → Loaded v
@@ -214,16 +214,16 @@ module _ (c : Core) (base : ℕ) (ram : List ℕ) (va n : ℕ) where
 
       go : (x : Placed) → placedFor Read ≡ x → loadEnd x (c .«last_pa») (c .«abort_pa») base ram va n .answer ≡ Load.Value v → Loaded v
       go (Fault addr fsc) e q = let z : _≡_ {A = ℕ} 0 1 = cc in absurd (omega arith)
-      go (At place) e q = verdict (judged base (length ram) place n) refl
+      go (At place) e q = verdict (verdictOf base (length ram) place n) refl
         where
-          verdict : (d : Verdict) → judged base (length ram) place n ≡ d → Loaded v
+          verdict : (d : Verdict) → verdictOf base (length ram) place n ≡ d → Loaded v
           verdict Inside d = record { place = place; placed = e; inside = d; value = value-is _ (rw d at q) }
           verdict (Outside i pa) d = let z = rw d at q in let w : _≡_ {A = ℕ} 0 1 = cc in absurd (omega arith)
 
   record Done : Type 0 where
     place : Place
     placed : placedFor Write ≡ At place
-    inside : judged base (length ram) place n ≡ Inside
+    inside : verdictOf base (length ram) place n ≡ Inside
 
   done : writeOf c base ram va n .answer ≡ Store.Done → Done
   unfolding writeOf storeEnd
@@ -231,9 +231,9 @@ module _ (c : Core) (base : ℕ) (ram : List ℕ) (va n : ℕ) where
     where
       go : (x : Placed) → placedFor Write ≡ x → storeEnd x (c .«abort_pa») base ram va n .answer ≡ Store.Done → Done
       go (Fault addr fsc) e q = let z : _≡_ {A = ℕ} 0 1 = cc in absurd (omega arith)
-      go (At place) e q = verdict (judged base (length ram) place n) refl
+      go (At place) e q = verdict (verdictOf base (length ram) place n) refl
         where
-          verdict : (d : Verdict) → judged base (length ram) place n ≡ d → Done
+          verdict : (d : Verdict) → verdictOf base (length ram) place n ≡ d → Done
           verdict Inside d = record { place = place; placed = e; inside = d }
           verdict (Outside i pa) d = let z = rw d at q in let w : _≡_ {A = ℕ} 0 1 = cc in absurd (omega arith)
 

@@ -4,7 +4,7 @@ use Prim.Native.Nat.{ℕ, zero, suc, _+_, _-_, _*_, _/_}
 use lib.ListN.{length, getD}
 use Rattle.word.specs.Bits.{pick}
 use Rattle.word.specs.Ram.{within, littleEndian, stored}
-use Rattle.mmu.specs.Place.{byteAt, judged, bytesBefore}
+use Rattle.mmu.specs.Place.{byteAt, verdictOf, bytesBefore}
 use Rattle.mmu.specs.declared.place.Pages.{Pages}
 use Rattle.mmu.specs.declared.place.Place.{Place}
 use Rattle.mmu.specs.declared.place.Place.the-variants.{Whole, Split}
@@ -36,7 +36,7 @@ gotBy (Outside i pa) v = Abort i pa
 
 -- a load: its value, where all bytes lie in RAM
 unfoldable pub loadOf : ℕ → List ℕ → Place → ℕ → Got
-loadOf base ram place n = gotBy (judged base (length ram) place n) (valueAt base ram place n)
+loadOf base ram place n = gotBy (verdictOf base (length ram) place n) (valueAt base ram place n)
 
 -- RAM after n bytes of a value go to a split access's bytes from index i on, the lowest first
 unfoldable pub splitStored : ℕ → Pages → ℕ → ℕ → ℕ → List ℕ → List ℕ
@@ -46,7 +46,7 @@ splitStored base p v i (suc n) ram = splitStored base p (v / 256) (i + 1) n (sto
 -- RAM after a store: a split one keeps the bytes before the first outside
 unfoldable pub storeRam : ℕ → List ℕ → Place → ℕ → ℕ → List ℕ
 storeRam base ram (Whole pa) n v = stored base ram n pa v
-storeRam base ram (Split p) n v = splitStored base p v 0 (bytesBefore (judged base (length ram) (Split p) n) n) ram
+storeRam base ram (Split p) n v = splitStored base p v 0 (bytesBefore (verdictOf base (length ram) (Split p) n) n) ram
 
 -- four bytes, or nothing where one of them lies outside
 unfoldable pub insnOf : ℕ → List ℕ → ℕ → Insn

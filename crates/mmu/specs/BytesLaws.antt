@@ -12,7 +12,7 @@ use lib.Seq.{length-take-le, getD-append-add, getD-take, getD-drop}
 use Rattle.word.specs.Bits.{pick}
 use Rattle.word.specs.Ram.{littleEndian, bytesOf, within, written, stored}
 use Rattle.word.specs.RamLaws.{length-bytes}
-use Rattle.mmu.specs.Place.{byteAt, firstOutside, judged, bytesBefore}
+use Rattle.mmu.specs.Place.{byteAt, firstOutside, verdictOf, bytesBefore}
 use Rattle.mmu.specs.PlaceLaws.{before-le}
 use Rattle.mmu.specs.Bytes.{byteIn, splitValue, splitStored, storeRam}
 use Rattle.mmu.specs.declared.place.Pages.{Pages}
@@ -52,12 +52,12 @@ split-length base p v i (suc n) ram =
 pub store-length : (base : ℕ) (ram : List ℕ) (place : Place) (n v : ℕ) → length (storeRam base ram place n v) ≡ length ram
 unfolding storeRam
 store-length base ram (Whole pa) n v = stored-length base ram n pa v
-store-length base ram (Split p) n v = split-length base p v 0 (bytesBefore (judged base (length ram) (Split p) n) n) ram
+store-length base ram (Split p) n v = split-length base p v 0 (bytesBefore (verdictOf base (length ram) (Split p) n) n) ram
 
 -- an access that is not split and has a byte outside moves nothing
-pub whole-or-none : (base : ℕ) (ram : List ℕ) (pa n v i q : ℕ) → judged base (length ram) (Whole pa) n ≡ Outside i q
+pub whole-or-none : (base : ℕ) (ram : List ℕ) (pa n v i q : ℕ) → verdictOf base (length ram) (Whole pa) n ≡ Outside i q
     → storeRam base ram (Whole pa) n v ≡ ram
-unfolding judged storeRam stored
+unfolding verdictOf storeRam stored
 whole-or-none base ram pa n v i q = go (within base (length ram) n pa)
   where
     go : (b : Bool) → pick b Inside (Outside 0 pa) ≡ Outside i q → pick b (written ram (pa - base) n v) ram ≡ ram
@@ -127,7 +127,7 @@ split-leaves base p v s (suc n) k ram none =
 
 pub store-leaves : (base : ℕ) (ram : List ℕ) (place : Place) (n v k : ℕ) → ((i : ℕ) → i < n → base + k ≡ addressIn place i → ⊥)
     → getD (storeRam base ram place n v) k 0 ≡ getD ram k 0
-unfolding storeRam judged
+unfolding storeRam verdictOf
 store-leaves base ram (Whole pa) n v k none = stored-leaves base ram n pa v k none
 store-leaves base ram (Split p) n v k none =
     let few : bytesBefore (firstOutside base (length ram) p 0 n) n ≤ n = before-le base (length ram) p n in

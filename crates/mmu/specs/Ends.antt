@@ -10,7 +10,7 @@ use Rattle.tlb.specs.declared.access.Answer.the-variants.{Address, Status}
 use Rattle.entry.specs.declared.exception.Stop.{Stop}
 use Rattle.entry.specs.declared.exception.Stop.the-variants as Stop
 use Rattle.entry.specs.declared.exception.Exception.the-variants.{DataAbort, InsnAbort}
-use Rattle.mmu.specs.Place.{firstPa, judged}
+use Rattle.mmu.specs.Place.{firstPa, verdictOf}
 use Rattle.mmu.specs.Bytes.{loadOf, storeRam, insnOf}
 use Rattle.mmu.specs.declared.place.Place.{Place}
 use Rattle.mmu.specs.declared.place.Placed.{Placed}
@@ -63,7 +63,7 @@ storeEndBy (Outside i pa) abort va = record { «abort_pa» = pa; answer = Store.
 unfoldable pub storeEnd : Placed → ℕ → ℕ → List ℕ → ℕ → ℕ → StoreEnd
 storeEnd (Fault addr fsc) abort base ram va n =
     record { «abort_pa» = abort; answer = Store.Stopped (dataAbort addr true fsc) }
-storeEnd (At place) abort base ram va n = storeEndBy (judged base (length ram) place n) abort va
+storeEnd (At place) abort base ram va n = storeEndBy (verdictOf base (length ram) place n) abort va
 
 -- a store that faults moves no byte
 unfoldable pub storeRamEnd : Placed → ℕ → List ℕ → ℕ → ℕ → List ℕ

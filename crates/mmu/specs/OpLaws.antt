@@ -6,14 +6,17 @@ use Prim.Native.Nat.{ℕ, _+_, _<_}
 use lib.ListN.{length, getD}
 use Rattle.word.specs.Ram.{wordAt}
 use Rattle.walk.specs.Regime.{stage1On, regimeOf}
+use Rattle.tlb.specs.Model.{Access}
+use Rattle.tlb.specs.Asks.{Ask, translates, fetches, onward-same, answerOf, tlbAsk, answers, tlbAsks}
 use Rattle.tlb.specs.declared.access.Kind.{Kind}
 use Rattle.tlb.specs.declared.access.Kind.the-variants.{Read, Write}
-use Rattle.tlb.specs.declared.Tlb.{Tlb}
+use Rattle.mmu.specs.Bare.{bareOf}
 use Rattle.mmu.specs.Core.{movedTo, bankNow}
 use Rattle.mmu.specs.BytesLaws.{addressIn, store-length, store-leaves}
 use Rattle.mmu.specs.Ends.{storeRamEnd}
 use Rattle.mmu.specs.Ops.{steppedNow, fetchSteppedNow, locatedNow, translateOf, translateAccessOf, readOf, writeOf, ramAfterWrite, fetchOf, fetchPaOf, dataPaOf}
-use Rattle.mmu.specs.Asks.{Ask, translates, fetches, accessAsks, tlbAfter, givenTo, placedBy, asked-one, located-asks}
+use Rattle.mmu.specs.Step.{translateIn, translateFetchIn}
+use Rattle.mmu.specs.Asks.{accessAsks, accessAt, placedBy, located-asks}
 use Rattle.mmu.specs.declared.core.Core.{Core}
 use Rattle.mmu.specs.declared.place.Place.{Place}
 use Rattle.mmu.specs.declared.place.Placed.{Placed}
@@ -31,23 +34,23 @@ pub data Operation : Type 0 where
   dataPa : (va : ℕ) → Operation
 
 -- the core and RAM after each
-abbrev pub coreAfter : Core → ℕ → List ℕ → Operation → Core
-coreAfter c base ram (translate va kind) = translateOf c (wordAt base ram 8) va kind .core
-coreAfter c base ram (access va n kind) = translateAccessOf c (wordAt base ram 8) va n kind .core
-coreAfter c base ram (load va n) = readOf c base ram va n .core
-coreAfter c base ram (store va n v) = writeOf c base ram va n .core
-coreAfter c base ram (fetch va) = fetchOf c base ram va .core
-coreAfter c base ram (fetchPa va) = fetchPaOf c (wordAt base ram 8) va .core
-coreAfter c base ram (dataPa va) = dataPaOf c (wordAt base ram 8) va .core
+abbrev pub operationCore : Core → ℕ → List ℕ → Operation → Core
+operationCore c base ram (translate va kind) = translateOf c (wordAt base ram 8) va kind .core
+operationCore c base ram (access va n kind) = translateAccessOf c (wordAt base ram 8) va n kind .core
+operationCore c base ram (load va n) = readOf c base ram va n .core
+operationCore c base ram (store va n v) = writeOf c base ram va n .core
+operationCore c base ram (fetch va) = fetchOf c base ram va .core
+operationCore c base ram (fetchPa va) = fetchPaOf c (wordAt base ram 8) va .core
+operationCore c base ram (dataPa va) = dataPaOf c (wordAt base ram 8) va .core
 
-abbrev pub ramAfter : Core → ℕ → List ℕ → Operation → List ℕ
-ramAfter c base ram (store va n v) = ramAfterWrite c base ram va n v
-ramAfter c base ram (translate va kind) = ram
-ramAfter c base ram (access va n kind) = ram
-ramAfter c base ram (load va n) = ram
-ramAfter c base ram (fetch va) = ram
-ramAfter c base ram (fetchPa va) = ram
-ramAfter c base ram (dataPa va) = ram
+abbrev pub operationRam : Core → ℕ → List ℕ → Operation → List ℕ
+operationRam c base ram (store va n v) = ramAfterWrite c base ram va n v
+operationRam c base ram (translate va kind) = ram
+operationRam c base ram (access va n kind) = ram
+operationRam c base ram (load va n) = ram
+operationRam c base ram (fetch va) = ram
+operationRam c base ram (fetchPa va) = ram
+operationRam c base ram (dataPa va) = ram
 
 -- its translations, by whether stage 1 is on
 abbrev pub asksOf : Bool → Operation → List Ask
@@ -64,52 +67,49 @@ onNow c = stage1On (bankNow c) (regimeOf (c .who .level))
 
 -- THE CORE
 
--- the level, the mark, flags, PC and every register
-pub record Kept (c d : Core) : Type 0 where
-  pub who : d .who ≡ c .who
-  pub flags : d .flags ≡ c .flags
-  pub pc : d .pc ≡ c .pc
-  pub x : d .x ≡ c .x
-  pub control : d .control ≡ c .control
-  pub sys : d .sys ≡ c .sys
+-- no operation changes the level, the mark, flags, PC or a register
+pub kept : (c : Core) (base : ℕ) (ram : List ℕ) (o : Operation) → bareOf (operationCore c base ram o) ≡ bareOf c
+unfolding translateOf translateAccessOf readOf writeOf fetchOf fetchPaOf dataPaOf movedTo
+kept c base ram (translate va kind) = refl
+kept c base ram (access va n kind) = refl
+kept c base ram (load va n) = refl
+kept c base ram (store va n v) = refl
+kept c base ram (fetch va) = refl
+kept c base ram (fetchPa va) = refl
+kept c base ram (dataPa va) = refl
 
-moved-keeps : (c : Core) (t : Tlb) (last abort : ℕ) → Kept c (movedTo c t last abort)
-unfolding movedTo
-moved-keeps c t last abort = record { who = refl; flags = refl; pc = refl; x = refl; control = refl; sys = refl }
+module _ (c : Core) (base : ℕ) (ram : List ℕ) where
+  -- the access of a kind at an address
+  abbrev pub accessNow : Kind → ℕ → Access
+  accessNow kind va = accessAt (bankNow c) (c .who) (wordAt base ram 8) kind va
 
--- no operation changes them
-pub kept : (c : Core) (base : ℕ) (ram : List ℕ) (o : Operation) → Kept c (coreAfter c base ram o)
-unfolding translateOf translateAccessOf readOf writeOf fetchOf fetchPaOf dataPaOf
-kept c base ram (translate va kind) = moved-keeps c _ _ _
-kept c base ram (access va n kind) = moved-keeps c _ _ _
-kept c base ram (load va n) = moved-keeps c _ _ _
-kept c base ram (store va n v) = moved-keeps c _ _ _
-kept c base ram (fetch va) = moved-keeps c _ _ _
-kept c base ram (fetchPa va) = moved-keeps c _ _ _
-kept c base ram (dataPa va) = moved-keeps c _ _ _
+  -- one translation
+  one-asked : (a : Ask) → tlbAsk accessNow a (c .tlb) ≡ tlbAsks accessNow (a ∷ []) (c .tlb)
+  one-asked a = sym (onward-same (answerOf accessNow a (c .tlb)) (tlbAsk accessNow a (c .tlb)))
 
--- the cache is the one that its translations leave
-pub tlb-after : (c : Core) (base : ℕ) (ram : List ℕ) (o : Operation)
-    → coreAfter c base ram o .tlb ≡ tlbAfter (bankNow c) (c .who) (wordAt base ram 8) (asksOf (onNow c) o) (c .tlb)
-unfolding translateOf translateAccessOf readOf writeOf fetchOf fetchPaOf dataPaOf steppedNow fetchSteppedNow locatedNow movedTo
-tlb-after c base ram (translate va kind) = sym (asked-one (bankNow c) (c .who) (wordAt base ram 8) (translates kind va) (c .tlb))
-tlb-after c base ram (access va n kind) =
-    ap (λ (r : Located). r .tlb) (located-asks (bankNow c) (c .who) (wordAt base ram 8) va n kind (c .tlb))
-tlb-after c base ram (load va n) =
-    ap (λ (r : Located). r .tlb) (located-asks (bankNow c) (c .who) (wordAt base ram 8) va n Read (c .tlb))
-tlb-after c base ram (store va n v) =
-    ap (λ (r : Located). r .tlb) (located-asks (bankNow c) (c .who) (wordAt base ram 8) va n Write (c .tlb))
-tlb-after c base ram (fetch va) = sym (asked-one (bankNow c) (c .who) (wordAt base ram 8) (fetches va) (c .tlb))
-tlb-after c base ram (fetchPa va) = sym (asked-one (bankNow c) (c .who) (wordAt base ram 8) (fetches va) (c .tlb))
-tlb-after c base ram (dataPa va) = sym (asked-one (bankNow c) (c .who) (wordAt base ram 8) (translates Read va) (c .tlb))
+  accessed : (va n : ℕ) (kind : Kind) → locatedNow c (wordAt base ram 8) va n kind
+      ≡ record {
+        tlb = tlbAsks accessNow (accessAsks (onNow c) va n kind) (c .tlb);
+        placed = placedBy va (answers accessNow (accessAsks (onNow c) va n kind) (c .tlb));
+      }
+  unfolding locatedNow
+  accessed va n kind = located-asks (bankNow c) (c .who) (wordAt base ram 8) va n kind (c .tlb)
 
--- and an access's place is what their answers say
-pub placed-by : (c : Core) (base : ℕ) (ram : List ℕ) (va n : ℕ) (kind : Kind)
-    → locatedNow c (wordAt base ram 8) va n kind .placed
-    ≡ placedBy va (givenTo (bankNow c) (c .who) (wordAt base ram 8) (accessAsks (onNow c) va n kind) (c .tlb))
-unfolding locatedNow
-placed-by c base ram va n kind =
-    ap (λ (r : Located). r .placed) (located-asks (bankNow c) (c .who) (wordAt base ram 8) va n kind (c .tlb))
+  -- the cache is the one that its translations leave
+  pub tlb-after : (o : Operation) → operationCore c base ram o .tlb ≡ tlbAsks accessNow (asksOf (onNow c) o) (c .tlb)
+  unfolding translateOf translateAccessOf readOf writeOf fetchOf fetchPaOf dataPaOf steppedNow fetchSteppedNow translateIn translateFetchIn movedTo
+  tlb-after (translate va kind) = one-asked (translates kind va)
+  tlb-after (access va n kind) = ap (λ (r : Located). r .tlb) (accessed va n kind)
+  tlb-after (load va n) = ap (λ (r : Located). r .tlb) (accessed va n Read)
+  tlb-after (store va n v) = ap (λ (r : Located). r .tlb) (accessed va n Write)
+  tlb-after (fetch va) = one-asked (fetches va)
+  tlb-after (fetchPa va) = one-asked (fetches va)
+  tlb-after (dataPa va) = one-asked (translates Read va)
+
+  -- and an access's place is what their answers say
+  pub placed-by : (va n : ℕ) (kind : Kind)
+      → locatedNow c (wordAt base ram 8) va n kind .placed ≡ placedBy va (answers accessNow (accessAsks (onNow c) va n kind) (c .tlb))
+  placed-by va n kind = ap (λ (r : Located). r .placed) (accessed va n kind)
 
 -- only a load sets `last_pa`
 pub store-last : (c : Core) (base : ℕ) (ram : List ℕ) (va n : ℕ) → writeOf c base ram va n .core .«last_pa» ≡ c .«last_pa»
@@ -122,7 +122,7 @@ fetch-last c base ram va = refl
 
 -- RAM
 
-pub ram-length : (c : Core) (base : ℕ) (ram : List ℕ) (o : Operation) → length (ramAfter c base ram o) ≡ length ram
+pub ram-length : (c : Core) (base : ℕ) (ram : List ℕ) (o : Operation) → length (operationRam c base ram o) ≡ length ram
 unfolding ramAfterWrite storeRamEnd
 ram-length c base ram (store va n v) = go (locatedNow c (wordAt base ram 8) va n Write .placed)
   where

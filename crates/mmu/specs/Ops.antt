@@ -9,7 +9,7 @@ use Rattle.tlb.specs.declared.access.Kind.the-variants.{Read, Write}
 use Rattle.tlb.specs.declared.Tlb.{Tlb}
 use Rattle.mmu.specs.Core.{movedTo, bankNow}
 use Rattle.mmu.specs.Ends.{loadEnd, storeEnd, storeRamEnd, fetchEnd, reachedBy}
-use Rattle.mmu.specs.Step.{stepOf, fetchStepOf, locatedOf}
+use Rattle.mmu.specs.Step.{translateIn, translateFetchIn, locatedOf}
 use Rattle.mmu.specs.declared.core.Core.{Core}
 use Rattle.mmu.specs.declared.step.Stepped.{Stepped}
 use Rattle.mmu.specs.declared.step.Located.{Located}
@@ -25,10 +25,10 @@ use Rattle.mmu.specs.declared.ops.Addressed.{Addressed}
 
 -- its translations: on its own registers, level and cache
 unfoldable pub steppedNow : Core → (ℕ → Word) → ℕ → Kind → Stepped
-steppedNow c memory va kind = stepOf (bankNow c) (c .who) memory va kind (c .tlb)
+steppedNow c memory va kind = translateIn (bankNow c) (c .who) memory va kind (c .tlb)
 
 unfoldable pub fetchSteppedNow : Core → (ℕ → Word) → ℕ → Stepped
-fetchSteppedNow c memory va = fetchStepOf (bankNow c) (c .who) memory va (c .tlb)
+fetchSteppedNow c memory va = translateFetchIn (bankNow c) (c .who) memory va (c .tlb)
 
 unfoldable pub locatedNow : Core → (ℕ → Word) → ℕ → ℕ → Kind → Located
 locatedNow c memory va n kind = locatedOf (bankNow c) (c .who) memory va n kind (c .tlb)

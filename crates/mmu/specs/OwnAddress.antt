@@ -26,7 +26,7 @@ use Rattle.mmu.specs.Place.{inPage, nextPage, crosses, goesOn}
 use Rattle.mmu.specs.PlaceLaws.{same-page, same-offset, next-first}
 use Rattle.mmu.specs.BytesLaws.{addressIn}
 use Rattle.mmu.specs.PageLaws.{answerAt, step-page, step-offset}
-use Rattle.mmu.specs.Step.{onePage, bothPages, stepOf, locatedOf}
+use Rattle.mmu.specs.Step.{onePage, bothPages, translateIn, locatedOf}
 use Rattle.mmu.specs.Ops.{steppedNow, locatedNow, translateOf}
 use Rattle.mmu.specs.OpLaws.{onNow}
 use Rattle.mmu.specs.declared.core.Core.{Core}
@@ -71,7 +71,7 @@ module _ (c : Core) (base : ℕ) (ram : List ℕ) (va n : ℕ) (kind : Kind) (re
   memory = wordAt base ram 8
 
   abbrev stepIn : ℕ → Tlb → Stepped
-  stepIn a t = stepOf (bankNow c) (c .who) memory a kind t
+  stepIn a t = translateIn (bankNow c) (c .who) memory a kind t
 
   abbrev first : Stepped
   first = stepIn va (c .tlb)
@@ -80,7 +80,7 @@ module _ (c : Core) (base : ℕ) (ram : List ℕ) (va n : ℕ) (kind : Kind) (re
   second = stepIn (nextPage va) (first .tlb)
 
   first-well : WellFormed (first .tlb)
-  unfolding stepOf
+  unfolding translateIn
   first-well =
       turn-follows (accessOf (bankNow c) (c .who) va kind memory) (c .tlb) (ready .well)
       (λ leaf e. subst (SoundWalked _) e (walk-sound (bankNow c) (regimeOf (c .who .level)) _ memory) .0 .level-high) (ready .level)

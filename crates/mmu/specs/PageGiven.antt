@@ -39,7 +39,7 @@ use Rattle.tlb.specs.declared.entry.Present.{Present}
 use Rattle.tlb.specs.declared.hint.Hint.{Hint}
 use Rattle.tlb.specs.declared.turn.Turned.{Turned}
 use Rattle.tlb.specs.declared.Tlb.{Tlb}
-use Rattle.mmu.specs.Step.{slotAt, stepOf}
+use Rattle.mmu.specs.Step.{slotAt, translateIn}
 use Rattle.mmu.specs.declared.step.Stepped.{Stepped}
 use Rattle.mmu.specs.PageLaws.{by-hint, by-miss, by-flat, by-entry, by-walk, hits, hint-aligned, entry-aligned}
 
@@ -156,7 +156,7 @@ module _ (s : Bank) (who : Who) (kind : Kind) where
 
   module _ (memory : ℕ → Word) (t : Tlb) (a : ℕ) where
     abbrev step : Stepped
-    step = stepOf s who memory a kind t
+    step = translateIn s who memory a kind t
 
     abbrev itsHint : Hint
     itsHint = hintAt (t .cache) (dataSlot a kind)
@@ -185,7 +185,7 @@ module _ (s : Bank) (who : Who) (kind : Kind) where
 
     -- a translation that leaves its cells as they were leaves the cache
     unmoved : (its .hint ≡ itsHint) × (its .entry ≡ itsEntry) → step .tlb .cache ≡ t .cache
-    unfolding stepOf
+    unfolding translateIn
     unmoved q =
         ap (λ (h : Hint). cacheWith h (its .entry)) (q .0) ∙ ap (cacheWith itsHint) (q .1) ∙ back (t .cache) (dataSlot a kind) (slotAt s (who .level) a)
 
@@ -233,7 +233,7 @@ module _ (s : Bank) (who : Who) (kind : Kind) where
     -- it answers, and the cache stays
     pub given : (pa : ℕ) → Gives s who kind a pa (t .cache)
         → (step .answer ≡ Address (pa / 4096 * 4096 + a % 4096)) × (step .tlb .cache ≡ t .cache)
-    unfolding stepOf
+    unfolding translateIn
     given pa (by-its-hint m e) =
         let key : itsHint .key ≡ hintKey a (who .level) = ap (λ (h : Hint). h .key) e in
         let frame : itsHint .pa ≡ pageOf pa = ap (λ (h : Hint). h .pa) e in
@@ -256,7 +256,7 @@ module _ (s : Bank) (who : Who) (kind : Kind) where
     -- ONCE A PAGE WAS GIVEN AN ADDRESS
     module _ (f : WellFormed t) (pa : ℕ) (e : step .answer ≡ Address pa) where
       turned-to : its .answer ≡ Address pa
-      unfolding stepOf
+      unfolding translateIn
       turned-to = e
 
       place-in : mayHint who kind ≡ true → dataSlot a kind < length (t .cache .hints)
@@ -275,7 +275,7 @@ module _ (s : Bank) (who : Who) (kind : Kind) where
           by-its-hint m (ap (λ (c : Cache). hintAt c (dataSlot a kind)) (unmoved (hit-cells q)) ∙ hint-eq itsHint _ _ key own)
 
       made-hint : mayHint who kind ≡ true → hit ≡ false → Gives s who kind a pa (step .tlb .cache)
-      unfolding stepOf
+      unfolding translateIn
       made-hint m q =
           by-its-hint m
           (getD-set-same (t .cache .hints) (dataSlot a kind) (its .hint) noHint (place-in m)
@@ -297,7 +297,7 @@ module _ (s : Bank) (who : Who) (kind : Kind) where
               rw (unmoved (entry-cells m o q)) (by-its-entry m o q (j .0) (omega arith))
 
           made-entry : serves itsEntry (t .cache .present) (tagIn s who a) ≡ false → (w : Walked) → itsWalk ≡ w → Gives s who kind a pa (step .tlb .cache)
-          unfolding stepOf byWalk
+          unfolding translateIn byWalk
           made-entry q (Fault code) x =
               let z : Status code ≡ Address pa
               = sym (ap (λ (y : Walked). byWalk y (queryOf (regimeOf (who .level)) (pageIn s who a)) who (t .cache .present) a kind .answer) x)

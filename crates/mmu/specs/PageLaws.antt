@@ -37,7 +37,7 @@ use Rattle.tlb.specs.declared.resolve.Query.{Query}
 use Rattle.tlb.specs.declared.resolve.Resolved.{Resolved}
 use Rattle.tlb.specs.declared.turn.Turned.{Turned}
 use Rattle.tlb.specs.declared.Tlb.{Tlb}
-use Rattle.mmu.specs.Step.{slotAt, stepOf}
+use Rattle.mmu.specs.Step.{slotAt, translateIn}
 
 -- an answer as another address of its page gets it
 abbrev pub answerAt : Answer → ℕ → Answer
@@ -156,8 +156,8 @@ module _ (s : Bank) (who : Who) (memory : ℕ → Word) (kind : Kind) (t : Tlb) 
       (each-imp {P = Made (t .cache .present .generation)} (λ e m. m .aligned) (f .entries)) i
 
   -- addresses of one page get one answer, each with its own offset
-  pub step-page : (a b : ℕ) → a / 4096 ≡ b / 4096 → stepOf s who memory b kind t .answer ≡ answerAt (stepOf s who memory a kind t .answer) b
-  unfolding stepOf
+  pub step-page : (a b : ℕ) → a / 4096 ≡ b / 4096 → translateIn s who memory b kind t .answer ≡ answerAt (translateIn s who memory a kind t .answer) b
+  unfolding translateIn
   step-page a b same =
       let r = regimeOf (who .level) in
       let tags : untagged (s .tcr) r a / 4096 ≡ untagged (s .tcr) r b / 4096 = untagged-page (s .tcr) r a b same in
@@ -174,9 +174,9 @@ module _ (s : Bank) (who : Who) (memory : ℕ → Word) (kind : Kind) (t : Tlb) 
       (entry-aligned (slotAt s (who .level) a))
 
   -- so an address that is answered has the offset of the one that was asked for
-  pub step-offset : (a pa : ℕ) → stepOf s who memory a kind t .answer ≡ Address pa → pa % 4096 ≡ a % 4096
+  pub step-offset : (a pa : ℕ) → translateIn s who memory a kind t .answer ≡ Address pa → pa % 4096 ≡ a % 4096
   step-offset a pa e =
-      let q : stepOf s who memory a kind t .answer ≡ answerAt (stepOf s who memory a kind t .answer) a = step-page a a refl in
+      let q : translateIn s who memory a kind t .answer ≡ answerAt (translateIn s who memory a kind t .answer) a = step-page a a refl in
       let p : Address pa ≡ Address (pa / 4096 * 4096 + a % 4096) = rw e at q in
       let n : pa ≡ pa / 4096 * 4096 + a % 4096 = cc in
       omega arith

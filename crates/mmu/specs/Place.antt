@@ -58,9 +58,9 @@ firstOutside base len p i (suc n) =
     pick (within base len 1 (byteAt p i)) (firstOutside base len p (i + 1) n) (Outside i (byteAt p i))
 
 -- Any other access is judged whole, and by its first byte where it is outside.
-unfoldable pub judged : ℕ → ℕ → Place → ℕ → Verdict
-judged base len (Whole pa) n = pick (within base len n pa) Inside (Outside 0 pa)
-judged base len (Split p) n = firstOutside base len p 0 n
+unfoldable pub verdictOf : ℕ → ℕ → Place → ℕ → Verdict
+verdictOf base len (Whole pa) n = pick (within base len n pa) Inside (Outside 0 pa)
+verdictOf base len (Split p) n = firstOutside base len p 0 n
 
 -- how many of n bytes come before the first outside
 abbrev pub bytesBefore : Verdict → ℕ → ℕ

@@ -13,7 +13,7 @@ use Rattle.entry.specs.declared.exception.Stop.{Stop}
 use Rattle.entry.specs.declared.exception.Stop.the-variants as Stop
 use Rattle.entry.specs.declared.exception.Exception.{Exception}
 use Rattle.entry.specs.declared.exception.Exception.the-variants.{Undefined, Svc, Hvc, Smc, Brk, DataAbort, InsnAbort, PcAlignment}
-use Rattle.mmu.specs.Place.{judged}
+use Rattle.mmu.specs.Place.{verdictOf}
 use Rattle.mmu.specs.Bytes.{valueAt, loadOf, insnOf}
 use Rattle.mmu.specs.Ends.{loadEnd, storeEnd, fetchEnd}
 use Rattle.mmu.specs.Ops.{fetchSteppedNow, locatedNow, readOf, writeOf, fetchOf}
@@ -94,41 +94,42 @@ abbrev pub accessSays : Placed → (Place → Verdict) → ℕ → (Place → Sa
 accessSays (Fault addr fsc) judge va said = fault addr fsc
 accessSays (At place) judge va said = memorySays (judge place) va (said place)
 
-module _ (c : Core) (base : ℕ) (ram : List ℕ) (va n : ℕ) where
-  abbrev judgedIn : Place → Verdict
-  judgedIn place = judged base (length ram) place n
+-- whether its n bytes lie in RAM
+abbrev pub verdictIn : ℕ → List ℕ → ℕ → Place → Verdict
+verdictIn base ram n place = verdictOf base (length ram) place n
 
+module _ (c : Core) (base : ℕ) (ram : List ℕ) (va n : ℕ) where
   load-ends : (x : Placed) (last abort : ℕ)
-      → loadSays (loadEnd x last abort base ram va n .answer) ≡ accessSays x judgedIn va (λ p. value (valueAt base ram p n))
+      → loadSays (loadEnd x last abort base ram va n .answer) ≡ accessSays x (verdictIn base ram n) va (λ p. value (valueAt base ram p n))
   unfolding loadEnd loadOf
   load-ends (Fault addr fsc) last abort = refl
-  load-ends (At place) last abort = go (judgedIn place) refl
+  load-ends (At place) last abort = go (verdictIn base ram n place) refl
     where
-      go : (d : Verdict) → judgedIn place ≡ d
-          → loadSays (loadEnd (At place) last abort base ram va n .answer) ≡ memorySays (judgedIn place) va (value (valueAt base ram place n))
+      go : (d : Verdict) → verdictIn base ram n place ≡ d
+          → loadSays (loadEnd (At place) last abort base ram va n .answer) ≡ memorySays (verdictIn base ram n place) va (value (valueAt base ram place n))
       go Inside e = rw e
       go (Outside i pa) e = rw e
 
   store-ends : (x : Placed) (abort : ℕ)
-      → storeSays (storeEnd x abort base ram va n .answer) ≡ accessSays x judgedIn va (λ p. done)
+      → storeSays (storeEnd x abort base ram va n .answer) ≡ accessSays x (verdictIn base ram n) va (λ p. done)
   unfolding storeEnd
   store-ends (Fault addr fsc) abort = refl
-  store-ends (At place) abort = go (judgedIn place) refl
+  store-ends (At place) abort = go (verdictIn base ram n place) refl
     where
-      go : (d : Verdict) → judgedIn place ≡ d
-          → storeSays (storeEnd (At place) abort base ram va n .answer) ≡ memorySays (judgedIn place) va done
+      go : (d : Verdict) → verdictIn base ram n place ≡ d
+          → storeSays (storeEnd (At place) abort base ram va n .answer) ≡ memorySays (verdictIn base ram n place) va done
       go Inside e = rw e
       go (Outside i pa) e = rw e
 
   -- a load answers the value of its bytes
   pub load-says : loadSays (readOf c base ram va n .answer)
-      ≡ accessSays (locatedNow c (wordAt base ram 8) va n Read .placed) judgedIn va (λ p. value (valueAt base ram p n))
+      ≡ accessSays (locatedNow c (wordAt base ram 8) va n Read .placed) (verdictIn base ram n) va (λ p. value (valueAt base ram p n))
   unfolding readOf
   load-says = load-ends (locatedNow c (wordAt base ram 8) va n Read .placed) _ _
 
   -- a store that it is done
   pub store-says : storeSays (writeOf c base ram va n .answer)
-      ≡ accessSays (locatedNow c (wordAt base ram 8) va n Write .placed) judgedIn va (λ p. done)
+      ≡ accessSays (locatedNow c (wordAt base ram 8) va n Write .placed) (verdictIn base ram n) va (λ p. done)
   unfolding writeOf
   store-says = store-ends (locatedNow c (wordAt base ram 8) va n Write .placed) _
 

@@ -30,19 +30,19 @@ bothPages va a b = record { tlb = b .tlb; placed = placedBoth va a (b .answer) }
 
 module _ (s : Bank) (who : Who) (memory : ℕ → Word) where
   -- one translation
-  unfoldable pub stepOf : ℕ → Kind → Tlb → Stepped
-  stepOf va kind t =
+  unfoldable pub translateIn : ℕ → Kind → Tlb → Stepped
+  translateIn va kind t =
       record { tlb = turned (accessOf s who va kind memory) t; answer = turnIn (accessOf s who va kind memory) t .answer }
 
   -- that of a fetch, by the fetch hint first
-  unfoldable pub fetchStepOf : ℕ → Tlb → Stepped
-  fetchStepOf va t =
+  unfoldable pub translateFetchIn : ℕ → Tlb → Stepped
+  translateFetchIn va t =
       record { tlb = fetchedIn (accessOf s who va Fetch memory) t; answer = fetchIn (accessOf s who va Fetch memory) t .answer }
 
   -- The translations of an access of n bytes: its page's; and where it crosses and that was allowed, the next page's, in the cache that
   -- the first one left. B2: both are made before a byte moves.
   unfoldable pub locatedOf : ℕ → ℕ → Kind → Tlb → Located
   locatedOf va n kind t =
-      pick (goesOn (stepOf va kind t .answer) (crosses (stage1On s (regimeOf (who .level))) va n))
-      (bothPages va (stepOf va kind t .answer) (stepOf (nextPage va) kind (stepOf va kind t .tlb)))
-      (onePage va (stepOf va kind t))
+      pick (goesOn (translateIn va kind t .answer) (crosses (stage1On s (regimeOf (who .level))) va n))
+      (bothPages va (translateIn va kind t .answer) (translateIn (nextPage va) kind (translateIn va kind t .tlb)))
+      (onePage va (translateIn va kind t))

@@ -3,7 +3,7 @@ ghost use mathlib.Core.Path.{_≡_};
 ghost use Prim.Native.Nat.{_+_, _≤_, _<_};
 ghost use lib.ListN.{length, getD};
 ghost use Rattle.word.specs.Ram.{bytesIn, littleEndian};
-ghost use Rattle.mmu.specs.Place.{judged};
+ghost use Rattle.mmu.specs.Place.{verdictOf};
 ghost use Rattle.mmu.specs.Bytes.{byteIn, splitValue, splitStored, loadOf, storeRam, insnOf};
 ghost use Rattle.mmu.specs.AtOnce.{bothInside, Lie, bothAt, bothStored};
 use crate::place;
@@ -122,7 +122,7 @@ fn put_split(base: u64, ram: &mut [u8], p: Pages, n: u64, value: u64)
 
 // The bytes before the first outside are written.
 fn store_split(base: u64, ram: &mut [u8], p: Pages, n: u64, value: u64) -> Verdict
-    ensures { λ r. ⌜ (r ≡ judged base (length (now (ram .entry))) (Place.Split p) n) × (now (ram .exit) ≡ storeRam base (now (ram .entry)) (Place.Split p) n value) ⌝ }
+    ensures { λ r. ⌜ (r ≡ verdictOf base (length (now (ram .entry))) (Place.Split p) n) × (now (ram .exit) ≡ storeRam base (now (ram .entry)) (Place.Split p) n value) ⌝ }
 {
     let v = place::first_outside(base, ram.len() as u64, p, n);
     let k = place::bytes_before(v, n);
@@ -131,7 +131,7 @@ fn store_split(base: u64, ram: &mut [u8], p: Pages, n: u64, value: u64) -> Verdi
 }
 
 fn store_whole(base: u64, ram: &mut [u8], pa: u64, width: Width, value: u64) -> Verdict
-    ensures { λ r. ⌜ (r ≡ judged base (length (now (ram .entry))) (Place.Whole pa) (bytesIn width)) × (now (ram .exit) ≡ storeRam base (now (ram .entry)) (Place.Whole pa) (bytesIn width) value) ⌝ }
+    ensures { λ r. ⌜ (r ≡ verdictOf base (length (now (ram .entry))) (Place.Whole pa) (bytesIn width)) × (now (ram .exit) ≡ storeRam base (now (ram .entry)) (Place.Whole pa) (bytesIn width) value) ⌝ }
 {
     let made = ram::write(base, ram, width, pa, value);
     if made {
@@ -143,7 +143,7 @@ fn store_whole(base: u64, ram: &mut [u8], pa: u64, width: Width, value: u64) -> 
 
 // A store to a place.
 pub fn store(base: u64, ram: &mut [u8], place: Place, width: Width, value: u64) -> Verdict
-    ensures { λ r. ⌜ (r ≡ judged base (length (now (ram .entry))) place (bytesIn width)) × (now (ram .exit) ≡ storeRam base (now (ram .entry)) place (bytesIn width) value) ⌝ }
+    ensures { λ r. ⌜ (r ≡ verdictOf base (length (now (ram .entry))) place (bytesIn width)) × (now (ram .exit) ≡ storeRam base (now (ram .entry)) place (bytesIn width) value) ⌝ }
 {
     match place {
         Place::Whole(pa) => store_whole(base, ram, pa, width, value),

@@ -2,7 +2,7 @@
 ghost use mathlib.Core.Path.{_≡_};
 ghost use Rattle.word.specs.Ram.{wordAt, bytesIn};
 ghost use Rattle.walk.specs.Regime.{bankOf, regimeOf, stage1On};
-ghost use Rattle.mmu.specs.Step.{slotAt, stepOf, fetchStepOf, locatedOf};
+ghost use Rattle.mmu.specs.Step.{slotAt, translateIn, translateFetchIn, locatedOf};
 use crate::place;
 use crate::place::Placed;
 use sysreg::regs::Control;
@@ -58,7 +58,7 @@ pub fn slot_at(s: Bank, level: u8, va: u64) -> usize
 }
 
 pub fn step(t: Tlb, s: Bank, who: Who, base: u64, ram: &[u8], va: u64, kind: Kind) -> Stepped
-    ensures { λ r. ⌜ r ≡ stepOf s who (wordAt base (now (ram .entry)) 8) va kind t ⌝ }
+    ensures { λ r. ⌜ r ≡ translateIn s who (wordAt base (now (ram .entry)) 8) va kind t ⌝ }
 {
     let slot = slot_at(s, who.level, va);
     let place = hint::data_slot(va, kind);
@@ -75,7 +75,7 @@ pub fn step(t: Tlb, s: Bank, who: Who, base: u64, ram: &[u8], va: u64, kind: Kin
 
 // The translation that a fetch begins with.
 pub fn fetch_step(t: Tlb, s: Bank, who: Who, base: u64, ram: &[u8], va: u64) -> Stepped
-    ensures { λ r. ⌜ r ≡ fetchStepOf s who (wordAt base (now (ram .entry)) 8) va t ⌝ }
+    ensures { λ r. ⌜ r ≡ translateFetchIn s who (wordAt base (now (ram .entry)) 8) va t ⌝ }
 {
     let slot = slot_at(s, who.level, va);
     let c = t.cache;

@@ -1,5 +1,5 @@
--- Demand 3 of every list of exported calls. Words that `a72_fresh` made and then exported calls, each as its contract promises, hold the core
--- after the list, so that each further call keeps demand 3.
+-- Demand 3 of every list of exported calls. Words that `a72_fresh` made and then exported calls, each as its contract
+-- promises, hold the core after the list, so that each further call keeps demand 3.
 use mathlib.Core.Path.{_≡_, refl, ap, _∙_}
 use mathlib.Core.List.{List, [], _∷_, _++_}
 use Prim.Native.Nat.{ℕ}
@@ -8,10 +8,9 @@ use Rattle.mmu.specs.declared.core.Core.{Core}
 use Rattle.cpu.specs.Step.{stepOf}
 use Rattle.cpu.specs.declared.call.Call.{Call}
 use Rattle.history.specs.Calls.{Lent, run}
-use Rattle.history.specs.Instance.{real}
+use Rattle.history.specs.Instance.{windowOf, real}
 use Rattle.demand3.specs.Machine.{machine}
 use Rattle.demand3.specs.Beside.{coreAfter}
-use Rattle.demand3.specs.Faithful.{ramOf}
 use Rattle.words.specs.Held.{held}
 use Rattle.words.specs.Moved.{Moved}
 use Rattle.a72abi.specs.Steps.{callCore}
@@ -21,7 +20,7 @@ use Rattle.a72abi.specs.declared.op.Calls.the-variants.{Known, Unknown}
 
 -- a call with the RAM that stands when it begins
 abbrev pub lentOf : ℕ → List ℕ → Call → Lent real machine
-lentOf base ram x = record { ram = ramOf base ram; call = x }
+lentOf base ram x = record { ram = windowOf base ram; call = x }
 
 -- what a call adds to the list; words that name none add nothing
 abbrev pub added : Calls → ℕ → List ℕ → List (Lent real machine)
@@ -62,9 +61,9 @@ made-core _ _ (stepped call base ram ws n old v ys xs list m p) = grown call bas
 -- THE THEOREM: on such words each call that its contract promises keeps demand 3.
 module _ (ws : List ℕ) (list : List (Lent real machine)) (m : Made ws list) where
   pub demand-3-on-words : (x : Call) (base : ℕ) (ram : List ℕ) (n old v : ℕ) (ys xs : List ℕ)
-      → Promise (Known x) base ram ws n old v ys xs → FaithfulNumber list (ramOf base ram) x n old v ys
+      → Promise (Known x) base ram ws n old v ys xs → FaithfulNumber list (windowOf base ram) x n old v ys
   demand-3-on-words x base ram n old v ys xs p = p .demand-3 list (made-core ws list m)
 
   pub demand-3-step : (x : Call) (base : ℕ) (ram : List ℕ) (n : ℕ) (old v ys xs : List ℕ)
-      → StepPromise (Known x) base ram ws n old v ys xs → FaithfulWords list (ramOf base ram) x v ys
+      → StepPromise (Known x) base ram ws n old v ys xs → FaithfulWords list (windowOf base ram) x v ys
   demand-3-step x base ram n old v ys xs p = p .demand-3 list (made-core ws list m)

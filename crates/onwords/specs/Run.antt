@@ -8,9 +8,8 @@ use lib.ListN.{getD}
 use Rattle.mmu.specs.Core.{freshCore}
 use Rattle.mmu.specs.declared.core.Core.{Core}
 use Rattle.history.specs.Calls.{Lent}
-use Rattle.history.specs.Instance.{real}
+use Rattle.history.specs.Instance.{windowOf, real}
 use Rattle.demand3.specs.Machine.{machine}
-use Rattle.demand3.specs.Faithful.{ramOf}
 use Rattle.words.specs.Held.{held}
 use Rattle.a72abi.specs.Ops.{callOf}
 use Rattle.a72abi.specs.Steps.{callCode, callCore, callRam}
@@ -22,7 +21,8 @@ use Rattle.onwords.specs.OnWords.{added, Made, fresh, stepped, demand-3-
 -- the k-th call of words, eight to a call
 abbrev pub eight : List ℕ → ℕ → List ℕ
 eight l i =
-    getD l i 0 ∷ getD l (i + 1) 0 ∷ getD l (i + 2) 0 ∷ getD l (i + 3) 0 ∷ getD l (i + 4) 0 ∷ getD l (i + 5) 0 ∷ getD l (i + 6) 0 ∷ getD l (i + 7) 0 ∷ []
+    getD l i 0 ∷ getD l (i + 1) 0 ∷ getD l (i + 2) 0 ∷ getD l (i + 3) 0 ∷ getD l (i + 4) 0 ∷ getD l (i + 5) 0
+    ∷ getD l (i + 6) 0 ∷ getD l (i + 7) 0 ∷ []
 
 abbrev pub callAt : List ℕ → ℕ → Calls
 callAt ops k = callOf (eight ops (k * 8))
@@ -54,7 +54,7 @@ pub record On (a : Reached) (ys xs : List ℕ) : Type 0 where
 
 -- demand 3 of a last call, on what was reached: no more is asked of the words
 abbrev pub FaithfulLast : Calls → Reached → ℕ → List ℕ → List ℕ → Type 0
-FaithfulLast (Known x) a base v ys = FaithfulWords (a .list) (ramOf base (a .bytes)) x v ys
+FaithfulLast (Known x) a base v ys = FaithfulWords (a .list) (windowOf base (a .bytes)) x v ys
 FaithfulLast Unknown a base v ys = Unit {0}
 
 pub record RunPromise (call : Calls) (a : Reached) (base n : ℕ) (v ys xs : List ℕ) : Type 0 where

@@ -13,6 +13,8 @@ pub mod Live
 pub mod Cells
 pub mod Refines
 pub mod Step
+pub mod Asks
+pub mod Maintenance
 pub mod Misses
 pub mod Translations
 pub mod Counting

@@ -1,5 +1,5 @@
--- What the cache's plain model has to do with the walks of the past: behind each line stands a walk that no invalidation since covers, and
--- behind each hint such a walk or stage 1 off. Each operation keeps that.
+-- What the cache's plain model has to do with the walks of the past: behind each line stands a walk that no
+-- invalidation since covers, and behind each hint such a walk or stage 1 off (`Traced`). Each operation keeps that.
 use mathlib.Core.Path.{_≡_, refl, sym, subst, _∙_}
 use mathlib.Core.Bool.{Bool, true, false, not, _&&_}
 use mathlib.Core.List.{List, [], _∷_}
@@ -20,10 +20,11 @@ use Rattle.tlb.specs.declared.Inval.the-variants.{All, Page, Asid}
 use Rattle.history.specs.World.{World, Laws, covers, pageWalk}
 
 module _ (w : World) where
-  -- The history as marks, the last one first: a step begins, on these registers and this RAM; or an invalidation is carried out.
-  pub data Mark : Type 0 where
-    at : w .Regs → w .Ram → Mark
-    drop : Inval → Mark
+  -- The history as moments, the last one first: a step begins, on these registers and this RAM; or an invalidation is
+  -- carried out.
+  pub data Moment : Type 0 where
+    at : w .Regs → w .Ram → Moment
+    drop : Inval → Moment
 
   -- The page p of the regime r has the walk ℓ, under the ASID a.
   pub record Walks (R : w .Regs) (m : w .Ram) (r : Regime) (p : ℕ) (ℓ : Leaf) (a : ℕ) : Type 0 where
@@ -32,7 +33,7 @@ module _ (w : World) where
     pub under : a ≡ w .asid R
 
   -- The page had this walk at a step, and no invalidation since covers it.
-  abbrev pub Seen : List Mark → Regime → ℕ → Leaf → ℕ → Type 0
+  abbrev pub Seen : List Moment → Regime → ℕ → Leaf → ℕ → Type 0
   Seen [] r p ℓ a = ⊥
   Seen (at R m ∷ h) r p ℓ a = Walks R m r p ℓ a ⊎ Seen h r p ℓ a
   Seen (drop v ∷ h) r p ℓ a = (covers v p ℓ a ≡ false) × Seen h r p ℓ a
@@ -42,7 +43,7 @@ module _ (w : World) where
   Today R ℓ a = (ℓ .global ≡ true) ⊎ (a ≡ w .asid R)
 
   -- A line keeps a walk that was seen.
-  pub record Behind (h : List Mark) (l : Line) : Type 0 where
+  pub record Behind (h : List Moment) (l : Line) : Type 0 where
     pub leaf : Leaf
     pub under : ℕ
     pub seen : Seen h (l .regime) (l .page) leaf under
@@ -51,20 +52,21 @@ module _ (w : World) where
     pub level : l .level ≡ leaf .level
     pub reach : l .reach ≡ reachOf (leaf .global) under
 
-  abbrev pub LineOk : List Mark → Slot Line → Type 0
+  abbrev pub LineOk : List Moment → Slot Line → Type 0
   LineOk h empty = Unit {0}
   LineOk h (holds l) = Behind h l
 
   abbrev pub allows : Leaf → ℕ → Bool
   allows ℓ bit = eqb (ℓ .perms / bit % 2) 1
 
-  -- What a hint for the raw page v at the level el promises to an access of the kind, without the mark: the physical page q.
-  pub data Promise (h : List Mark) (R : w .Regs) (k : Kind) (v el q : ℕ) : Type 0 where
+  -- What a hint for the raw page v at the level el promises to an access of the kind, without the mark: the physical
+  -- page q.
+  pub data Promise (h : List Moment) (R : w .Regs) (k : Kind) (v el q : ℕ) : Type 0 where
     flat : w .on R (regimeOf el) ≡ false → q ≡ v → Promise h R k v el q
     kept : (ℓ : Leaf) (a : ℕ) → w .on R (regimeOf el) ≡ true → Seen h (regimeOf el) (w .untag R (regimeOf el) (v * 4096) / 4096) ℓ a
         → Today R ℓ a → allows ℓ (need k (asUser (regimeOf el) el false k)) ≡ true → q ≡ ℓ .oa / 4096 → Promise h R k v el q
 
-  abbrev pub HintOk : List Mark → w .Regs → Kind → Slot Known → Type 0
+  abbrev pub HintOk : List Moment → w .Regs → Kind → Slot Known → Type 0
   HintOk h R k empty = Unit {0}
   HintOk h R k (holds n) = Promise h R k (n .page) (n .level) (n .frame)
 
@@ -72,18 +74,18 @@ module _ (w : World) where
   abbrev pub kindAt : ℕ → Kind
   kindAt i = pick (ltb i 256) Read Write
 
-  pub record Sound (h : List Mark) (R : w .Regs) (m : Model) : Type 0 where
+  pub record Traced (h : List Moment) (R : w .Regs) (m : Model) : Type 0 where
     pub asid-is : m .asid ≡ w .asid R
     pub lines-ok : (i : ℕ) → LineOk h (m .lines i)
     pub hints-ok : (i : ℕ) → HintOk h R (kindAt i) (m .hints i)
     pub fetch-ok : HintOk h R Fetch (m .fetch)
 
-  pub sound-empty : (R : w .Regs) → w .asid R ≡ 0 → Sound [] R emptyModel
-  sound-empty R z = record { asid-is = sym z; lines-ok = λ i. tt; hints-ok = λ i. tt; fetch-ok = tt }
+  pub traced-empty : (R : w .Regs) → w .asid R ≡ 0 → Traced [] R emptyModel
+  traced-empty R z = record { asid-is = sym z; lines-ok = λ i. tt; hints-ok = λ i. tt; fetch-ok = tt }
 
   -- A STEP BEGINS: more is seen, as much is promised
 
-  seen-line : (h : List Mark) (R : w .Regs) (m : w .Ram) (s : Slot Line) → LineOk h s → LineOk (at R m ∷ h) s
+  seen-line : (h : List Moment) (R : w .Regs) (m : w .Ram) (s : Slot Line) → LineOk h s → LineOk (at R m ∷ h) s
   seen-line h R m empty o = tt
   seen-line h R m (holds l) o =
       record {
@@ -96,17 +98,17 @@ module _ (w : World) where
         reach = o .reach;
       }
 
-  seen-promise : {h : List Mark} {R : w .Regs} {k : Kind} {v el q : ℕ} (S : w .Regs) (m : w .Ram) → Promise h R k v el q
+  seen-promise : {h : List Moment} {R : w .Regs} {k : Kind} {v el q : ℕ} (S : w .Regs) (m : w .Ram) → Promise h R k v el q
       → Promise (at S m ∷ h) R k v el q
   seen-promise S m (flat o e) = flat o e
   seen-promise S m (kept ℓ a o s d al e) = kept ℓ a o (inr s) d al e
 
-  seen-hint : (h : List Mark) (R S : w .Regs) (m : w .Ram) (k : Kind) (n : Slot Known) → HintOk h R k n → HintOk (at S m ∷ h) R k n
+  seen-hint : (h : List Moment) (R S : w .Regs) (m : w .Ram) (k : Kind) (n : Slot Known) → HintOk h R k n → HintOk (at S m ∷ h) R k n
   seen-hint h R S m k empty o = tt
   seen-hint h R S m k (holds n) o = seen-promise S m o
 
-  pub sound-at : {h : List Mark} {R : w .Regs} {t : Model} (m : w .Ram) → Sound h R t → Sound (at R m ∷ h) R t
-  sound-at {h} {R} {t} m s =
+  pub traced-at : {h : List Moment} {R : w .Regs} {t : Model} (m : w .Ram) → Traced h R t → Traced (at R m ∷ h) R t
+  traced-at {h} {R} {t} m s =
       record {
         asid-is = s .asid-is;
         lines-ok = λ i. seen-line h R m (t .lines i) (s .lines-ok i);
@@ -120,13 +122,13 @@ module _ (w : World) where
   belongs true a b = refl
   belongs false a b = refl
 
-  same-cover : (h : List Mark) (v : Inval) (l : Line) (o : Behind h l) → covers v (l .page) (o .leaf) (o .under) ≡ coversLine v l
+  same-cover : (h : List Moment) (v : Inval) (l : Line) (o : Behind h l) → covers v (l .page) (o .leaf) (o .under) ≡ coversLine v l
   unfolding covers
   same-cover h All l o = refl
   same-cover h (Page n) l o = rw (o .level)
   same-cover h (Asid b) l o = rw (o .reach) (sym (belongs (o .leaf .global) (o .under) b))
 
-  spared : (h : List Mark) (v : Inval) (s : Slot Line) → LineOk h s → LineOk (drop v ∷ h) (uncovered v s)
+  spared : (h : List Moment) (v : Inval) (s : Slot Line) → LineOk h s → LineOk (drop v ∷ h) (uncovered v s)
   spared h v empty o = tt
   spared h v (holds l) o = go (coversLine v l) refl
     where
@@ -144,17 +146,17 @@ module _ (w : World) where
           }
 
   -- the registers may have become S, of the same ASID
-  pub sound-invalidate : {h : List Mark} {R : w .Regs} {t : Model} (v : Inval) (S : w .Regs) → t .asid ≡ w .asid S → Sound h R t
-      → Sound (drop v ∷ h) S (invalidate v t)
+  pub traced-invalidate : {h : List Moment} {R : w .Regs} {t : Model} (v : Inval) (S : w .Regs) → t .asid ≡ w .asid S → Traced h R t
+      → Traced (drop v ∷ h) S (invalidate v t)
   unfolding invalidate
-  sound-invalidate {h} {t} v S e s =
+  traced-invalidate {h} {t} v S e s =
       record { asid-is = e; lines-ok = λ i. spared h v (t .lines i) (s .lines-ok i); hints-ok = λ i. tt; fetch-ok = tt }
 
   -- REGISTERS BECOME S
 
-  pub sound-retag : {h : List Mark} {R : w .Regs} {t : Model} (S : w .Regs) → Sound h R t → Sound h S (retag (w .asid S) t)
+  pub traced-retag : {h : List Moment} {R : w .Regs} {t : Model} (S : w .Regs) → Traced h R t → Traced h S (retag (w .asid S) t)
   unfolding retag
-  sound-retag S s = record { asid-is = refl; lines-ok = s .lines-ok; hints-ok = λ i. tt; fetch-ok = tt }
+  traced-retag S s = record { asid-is = refl; lines-ok = s .lines-ok; hints-ok = λ i. tt; fetch-ok = tt }
 
   -- where shape and ASID stay, what was promised is promised
   module _ (laws : Laws w) (R S : w .Regs) (shape : w .same-shape R S ≡ true) (asids : w .asid R ≡ w .asid S) where
@@ -162,19 +164,19 @@ module _ (w : World) where
     today-kept ℓ a (inl g) = inl g
     today-kept ℓ a (inr i) = inr (i ∙ asids)
 
-    promise-kept : {h : List Mark} {k : Kind} {v el q : ℕ} → Promise h R k v el q → Promise h S k v el q
+    promise-kept : {h : List Moment} {k : Kind} {v el q : ℕ} → Promise h R k v el q → Promise h S k v el q
     promise-kept {el} (flat o e) = flat (sym (laws .shape-on R S shape (regimeOf el)) ∙ o) e
     promise-kept {h} {v} {el} (kept ℓ a o s d al e) =
         kept ℓ a (sym (laws .shape-on R S shape (regimeOf el)) ∙ o)
         (subst (λ (u : ℕ). Seen h (regimeOf el) (u / 4096) ℓ a) (laws .shape-untag R S shape (regimeOf el) (v * 4096)) s)
         (today-kept ℓ a d) al e
 
-    hint-kept : (h : List Mark) (k : Kind) (n : Slot Known) → HintOk h R k n → HintOk h S k n
+    hint-kept : (h : List Moment) (k : Kind) (n : Slot Known) → HintOk h R k n → HintOk h S k n
     hint-kept h k empty o = tt
     hint-kept h k (holds n) o = promise-kept o
 
-    pub sound-kept : {h : List Mark} {t : Model} → Sound h R t → Sound h S t
-    sound-kept {h} {t} s =
+    pub traced-kept : {h : List Moment} {t : Model} → Traced h R t → Traced h S t
+    traced-kept {h} {t} s =
         record {
           asid-is = s .asid-is ∙ asids;
           lines-ok = s .lines-ok;
@@ -184,16 +186,16 @@ module _ (w : World) where
 
   -- WHAT A TRANSLATION LEAVES: a line, a hint, the fetch hint, other counters
 
-  pub sound-counting : {h : List Mark} {R : w .Regs} {t : Model} (f : Counters → Counters) → Sound h R t → Sound h R (counting f t)
-  sound-counting f s = record { asid-is = s .asid-is; lines-ok = s .lines-ok; hints-ok = s .hints-ok; fetch-ok = s .fetch-ok }
+  pub traced-counting : {h : List Moment} {R : w .Regs} {t : Model} (f : Counters → Counters) → Traced h R t → Traced h R (counting f t)
+  traced-counting f s = record { asid-is = s .asid-is; lines-ok = s .lines-ok; hints-ok = s .hints-ok; fetch-ok = s .fetch-ok }
 
-  line-put : (h : List Mark) (b : Bool) (l : Line) (s : Slot Line) → Behind h l → LineOk h s → LineOk h (pick b (holds l) s)
+  line-put : (h : List Moment) (b : Bool) (l : Line) (s : Slot Line) → Behind h l → LineOk h s → LineOk h (pick b (holds l) s)
   line-put h true l s o k = o
   line-put h false l s o k = k
 
-  pub sound-keep : {h : List Mark} {R : w .Regs} {t : Model} (l : Line) → Behind h l → Sound h R t → Sound h R (keep l t)
+  pub traced-keep : {h : List Moment} {R : w .Regs} {t : Model} (l : Line) → Behind h l → Traced h R t → Traced h R (keep l t)
   unfolding keep
-  sound-keep {h} {t} l o s =
+  traced-keep {h} {t} l o s =
       record {
         asid-is = s .asid-is;
         lines-ok = λ i. line-put h (eqb i (l .page % 1024)) l (t .lines i) o (s .lines-ok i);
@@ -201,9 +203,9 @@ module _ (w : World) where
         fetch-ok = s .fetch-ok;
       }
 
-  pub sound-hint : {h : List Mark} {R : w .Regs} {t : Model} (place : ℕ) (n : Known) → Promise h R (kindAt place) (n .page) (n .level) (n .frame)
-      → Sound h R t → Sound h R (keepHint place n t)
-  sound-hint {h} {R} {t} place n o s =
+  pub traced-hint : {h : List Moment} {R : w .Regs} {t : Model} (place : ℕ) (n : Known) → Promise h R (kindAt place) (n .page) (n .level) (n .frame)
+      → Traced h R t → Traced h R (keepHint place n t)
+  traced-hint {h} {R} {t} place n o s =
       record {
         asid-is = s .asid-is;
         lines-ok = s .lines-ok;
@@ -215,6 +217,6 @@ module _ (w : World) where
       put i true e = subst (λ (j : ℕ). Promise h R (kindAt j) (n .page) (n .level) (n .frame)) (sym (eqb-true i place e)) o
       put i false e = s .hints-ok i
 
-  pub sound-fetch-hint : {h : List Mark} {R : w .Regs} {t : Model} (n : Known) → Promise h R Fetch (n .page) (n .level) (n .frame)
-      → Sound h R t → Sound h R (keepFetch n t)
-  sound-fetch-hint n o s = record { asid-is = s .asid-is; lines-ok = s .lines-ok; hints-ok = s .hints-ok; fetch-ok = o }
+  pub traced-fetch-hint : {h : List Moment} {R : w .Regs} {t : Model} (n : Known) → Promise h R Fetch (n .page) (n .level) (n .frame)
+      → Traced h R t → Traced h R (keepFetch n t)
+  traced-fetch-hint n o s = record { asid-is = s .asid-is; lines-ok = s .lines-ok; hints-ok = s .hints-ok; fetch-ok = o }
