@@ -6,7 +6,6 @@ use Prim.Native.Nat.{ℕ, _+_, _%_, _^_, _<_, _≤_}
 use native.Mathlib.Omega.{arith}
 use borrow.Author.Tests.{eq-eqb, ne-eqb}
 use lib.Dec.{eqb}
-use Rattle.word.specs.Bits.{pick}
 use Rattle.word.specs.declared.ram.Word.{Word}
 use Rattle.walk.specs.Regime.{bankOf, regimeOf}
 use Rattle.walk.specs.declared.regime.Regime.{Regime}
@@ -15,7 +14,7 @@ use Rattle.tlb.specs.Access.{mayHint}
 use Rattle.tlb.specs.Entry.{slotOf}
 use Rattle.tlb.specs.Hint.{dataSlot, hintKey, onPage, fetchFor, fetchFound}
 use Rattle.tlb.specs.Cache.{entryAt, hintAt}
-use Rattle.tlb.specs.Resolve.{queryOf, askOf, byItself, resolveOf, changesOf}
+use Rattle.tlb.specs.Resolve.{queryOf, askOf, resolveOf, changesOf}
 use Rattle.tlb.specs.Turn.{untaggedNow, missOf, changes-are, asked-query}
 use Rattle.tlb.specs.declared.access.Kind.{Kind}
 use Rattle.tlb.specs.declared.access.Kind.the-variants.{Fetch}
@@ -40,7 +39,7 @@ use Rattle.mmu.specs.declared.ops.Translated.{Translated}
 use Rattle.words.specs.Held.{held}
 use Rattle.words.specs.Parts.{withFetchHint}
 use Rattle.words.specs.Moved.{Moved, stays, moved-as, moved-on}
-use Rattle.inplace.specs.Found.{codeOf, valueOf, answering, hintFound, noted, toldTo, sourced, committed, committing, lookedTo, foundTo, pagedBy, pagedTo, answerOf}
+use Rattle.inplace.specs.Found.{codeOf, valueOf, answering, hintFound, noted, sourced, committed, committing, lookedTo, foundTo, pagedBy, pagedTo, answerOf}
 use Rattle.inplace.specs.FoundLaws.{unchanged, hint-serves, hint-misses}
 use Rattle.inplace.specs.FetchLaws.{fetchTo, fetch-serves, fetch-misses}
 
@@ -96,14 +95,17 @@ module _ (ws : List ℕ) (memory : ℕ → Word) (va : ℕ) (kind : Kind) (who :
     abbrev here : Translated
     here = lookedTo c q who kind va memory
 
+    abbrev lookedFor : Regime → ℕ → Who → Translated
+    lookedFor regime place by =
+        committing c by kind va place
+        (resolveOf q (bankOf (c .control) regime) by (c .tlb .cache .present) (entryAt (c .tlb .cache) place) va kind memory)
+
     found-is : here ≡ found
     unfolding lookedTo foundTo
     found-is =
-        λ i.
-        committing c (ew i) kind va (slotOf (query-is i .tag))
-        (((λ j. resolveOf q (bankOf (c .control) (query-is j .regime)) (ew j) (c .tlb .cache .present) (entryAt (c .tlb .cache) (slotOf (query-is j .tag))) va kind memory)
-        ∙ ap (λ (x : Asked). changesOf x (bankNow c) (c .who) (c .tlb .cache .present) own va kind memory) (sym o)
-        ∙ changes-is) i)
+        (λ i. lookedFor (query-is i .regime) (slotOf (query-is i .tag)) (ew i))
+        ∙ ap (committing c (c .who) kind va slot)
+        (ap (λ (x : Asked). changesOf x (bankNow c) (c .who) (c .tlb .cache .present) own va kind memory) (sym o) ∙ changes-is)
 
     pub on-code : (n : ℕ) → n ≡ codeOf (here .answer) → n ≡ codeOf (found .answer)
     on-code n p = p ∙ ap (λ (x : Translated). codeOf (x .answer)) found-is
@@ -181,7 +183,8 @@ module _ (ws : List ℕ) (memory : ℕ → Word) (va : ℕ) (kind : Kind) (p : P
   pub by-find-answer : (a : Answer) → p ≡ Unknown → a ≡ foundTo (held ws) memory va kind .answer → a ≡ translateOf (held ws) memory va kind .answer
   by-find-answer a e q = q ∙ sym (ap (λ (x : Translated). x .answer) (hint-misses (held ws) memory va kind (sym ep ∙ e)))
 
-  pub by-find-core : (xs : List ℕ) → p ≡ Unknown → Moved ws xs (foundTo (held ws) memory va kind .core) → Moved ws xs (translateOf (held ws) memory va kind .core)
+  pub by-find-core : (xs : List ℕ) → p ≡ Unknown → Moved ws xs (foundTo (held ws) memory va kind .core)
+      → Moved ws xs (translateOf (held ws) memory va kind .core)
   by-find-core xs e m = moved-as m (sym (ap (λ (x : Translated). x .core) (hint-misses (held ws) memory va kind (sym ep ∙ e))))
 
 -- a fetch's page

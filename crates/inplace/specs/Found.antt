@@ -1,5 +1,5 @@
 -- One translation on the core as it is made in place: the hint first; else its changes, and the core with them stored.
-use mathlib.Core.Bool.{Bool, true, false, _&&_}
+use mathlib.Core.Bool.{_&&_}
 use mathlib.Core.List.{List}
 use Prim.Native.Nat.{ℕ, _+_, _%_, _^_}
 use lib.Dec.{eqb}

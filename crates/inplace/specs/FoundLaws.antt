@@ -2,7 +2,7 @@
 use mathlib.Core.Path.{_≡_, refl, sym, ap, subst, _∙_}
 use mathlib.Core.Bool.{Bool, true, false, _&&_}
 use mathlib.Core.List.{List}
-use Prim.Native.Nat.{ℕ, _+_}
+use Prim.Native.Nat.{ℕ}
 use lib.Dec.{eqb}
 use lib.Seq.{set-getD}
 use Rattle.word.specs.Bits.{pick}
@@ -28,7 +28,6 @@ use Rattle.mmu.specs.Core.{movedTo, bankNow}
 use Rattle.mmu.specs.Ops.{withTlb, steppedNow, translateOf}
 use Rattle.mmu.specs.Step.{slotAt, stepOf}
 use Rattle.mmu.specs.declared.core.Core.{Core}
-use Rattle.mmu.specs.declared.ops.Translated.{Translated}
 use Rattle.words.specs.Parts.{withCache, withCounts, withEntry, withHint}
 use Rattle.inplace.specs.Found.{answering, hintFound, noted, toldTo, sourced, foundTo}
 
@@ -67,11 +66,12 @@ module _ (c : Core) where
   abbrev back : ℕ → ℕ → Entry → Hint → Counts → Core
   back slot place e h k = withTlb c (moved (c .tlb) (setHint (setEntry (c .tlb .cache) slot e) place h) k)
 
+  abbrev celled : List Hint → List Entry → Counts → Core
+  celled hs es k = withTlb c (moved (c .tlb) (record { present = c .tlb .cache .present; fetch = c .tlb .cache .fetch; hints = hs; entries = es }) k)
+
   pub entry-back : (slot : ℕ) (k : Counts) → withEntry (withCounts c k) slot (entryAt (c .tlb .cache) slot) ≡ withCounts c k
   unfolding withEntry withCounts withCache movedTo
-  entry-back slot k =
-      ap (λ (es : List Entry). withTlb c (moved (c .tlb) (record { present = c .tlb .cache .present; fetch = c .tlb .cache .fetch; hints = c .tlb .cache .hints; entries = es }) k))
-      (set-getD (c .tlb .cache .entries) slot blank)
+  entry-back slot k = ap (λ (es : List Entry). celled (c .tlb .cache .hints) es k) (set-getD (c .tlb .cache .entries) slot blank)
 
   counts-back : withCounts c (c .tlb .counts) ≡ c
   unfolding withCounts movedTo
@@ -83,8 +83,7 @@ module _ (c : Core) where
   hint-back : (slot place : ℕ) (e : Entry) (k : Counts) → back slot place e (hintAt (c .tlb .cache) place) k ≡ withEntry (withCounts c k) slot e
   unfolding withEntry withCounts withCache movedTo
   hint-back slot place e k =
-      ap (λ (hs : List Hint). withTlb c (moved (c .tlb) (record { present = c .tlb .cache .present; fetch = c .tlb .cache .fetch; hints = hs; entries = setEntry (c .tlb .cache) slot e .entries }) k))
-      (set-getD (c .tlb .cache .hints) place noHint)
+      ap (λ (hs : List Hint). celled hs (setEntry (c .tlb .cache) slot e .entries) k) (set-getD (c .tlb .cache .hints) place noHint)
 
   module _ (va : ℕ) (kind : Kind) (slot : ℕ) (e : Entry) (k : Counts) where
     told-with : (b : Bool) → mayHint (c .who) kind ≡ b → (a : Answer)
@@ -129,4 +128,7 @@ module _ (c : Core) (memory : ℕ → Word) (va : ℕ) (kind : Kind) where
   unfolding hintFound translateOf steppedNow stepOf turnWith applied missOf foundTo sourced
   hint-misses h =
       rw (chose-none (mayHint (c .who) kind && eqb (hint .key) (hintKey va level)) (onPage (hint .pa) va) h)
-      (λ i. answering (told-back c va kind slot (keptBy (t .source) (entryAt (c .tlb .cache) slot) (t .made)) (countedBy (t .source) (c .tlb .counts)) (t .answer) i) (t .answer))
+      (λ i.
+      answering
+      (told-back c va kind slot (keptBy (t .source) (entryAt (c .tlb .cache) slot) (t .made)) (countedBy (t .source) (c .tlb .counts)) (t .answer) i)
+      (t .answer))
