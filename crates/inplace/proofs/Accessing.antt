@@ -3,11 +3,8 @@ use mathlib.Core.Path.{_≡_, refl, sym, ap, _∙_}
 use mathlib.Core.Bool.{Bool, true, false}
 use mathlib.Core.List.{List}
 use Prim.Native.Nat.{ℕ}
-use lib.ListN.{length}
-use Rattle.word.specs.Bits.{pick}
-use Rattle.word.specs.Ram.{wordAt, bytesIn}
+use Rattle.word.specs.Ram.{wordAt}
 use Rattle.word.specs.declared.ram.Word.{Word}
-use Rattle.word.specs.declared.ram.Width.{Width}
 use Rattle.walk.specs.Regime.{bankOf, regimeOf, stage1On}
 use Rattle.walk.specs.declared.regime.Regime.{Regime}
 use Rattle.walk.specs.declared.regime.Bank.{Bank}
@@ -18,7 +15,7 @@ use Rattle.tlb.specs.declared.access.Answer.{Answer}
 use Rattle.tlb.specs.declared.Tlb.{Tlb}
 use Rattle.mmu.specs.Core.{movedTo, bankNow}
 use Rattle.mmu.specs.Place.{nextPage, crosses, goesOn, placedOne, placedBoth}
-use Rattle.mmu.specs.Step.{translateIn as stepOf, locatedOf}
+use Rattle.mmu.specs.Step.{translateIn as translateIn, locatedOf}
 use Rattle.mmu.specs.Ends.{loadEnd, storeEnd, storeRamEnd, fetchEnd, reachedBy}
 use Rattle.mmu.specs.Ops.{withTlb, steppedNow, fetchSteppedNow, locatedNow, translateOf, translateAccessOf, readOf, writeOf, ramAfterWrite, fetchOf, fetchPaOf, dataPaOf}
 use Rattle.mmu.specs.declared.core.Core.{Core}
@@ -28,13 +25,12 @@ use Rattle.mmu.specs.declared.ends.StoreEnd.{StoreEnd}
 use Rattle.mmu.specs.declared.ends.FetchEnd.{FetchEnd}
 use Rattle.mmu.specs.declared.ends.LoadAnswer.{LoadAnswer}
 use Rattle.mmu.specs.declared.ends.StoreAnswer.{StoreAnswer}
-use Rattle.mmu.specs.declared.ends.FetchAnswer.{FetchAnswer}
 use Rattle.mmu.specs.declared.ends.Reached.{Reached}
 use Rattle.mmu.specs.declared.ops.Accessed.{Accessed}
 use Rattle.mmu.specs.declared.ops.Translated.{Translated}
 use Rattle.words.specs.Held.{held}
 use Rattle.words.specs.Parts.{withLast, withAbort}
-use Rattle.words.specs.Moved.{Moved, stays, moved-as, moved-on, moved-then}
+use Rattle.words.specs.Moved.{Moved, moved-as, moved-on}
 use Rattle.inplace.specs.Accessed.{keptLast, keptAbort}
 
 pub on-now : (c : Core) (who : Who) (r : Regime) (s : Bank) (b : Bool) → who ≡ c .who → r ≡ regimeOf (who .level) → s ≡ bankOf (c .control) r
@@ -46,7 +42,7 @@ on-now c who r s b ew er es eb =
 -- TWO PAGES
 
 -- a second translation, by what the first left
-second-is : (c : Core) (t : Tlb) (memory : ℕ → Word) (va : ℕ) (kind : Kind) → steppedNow (withTlb c t) memory va kind ≡ stepOf (bankNow c) (c .who) memory va kind t
+second-is : (c : Core) (t : Tlb) (memory : ℕ → Word) (va : ℕ) (kind : Kind) → steppedNow (withTlb c t) memory va kind ≡ translateIn (bankNow c) (c .who) memory va kind t
 unfolding steppedNow movedTo
 second-is c t memory va kind = refl
 

@@ -1,47 +1,28 @@
--- A translation in place put together from its parts, on plain values, for `search`.
-use mathlib.Core.Path.{_≡_, refl, sym, ap, _∙_}
-use mathlib.Core.Bool.{Bool, true, false, _&&_}
+-- The changes of a translation stored in place, on plain values, for `search`.
+use mathlib.Core.Path.{_≡_, refl, sym, _∙_}
+use mathlib.Core.Bool.{Bool, true, false}
 use mathlib.Core.List.{List}
-use Prim.Native.Nat.{ℕ, _+_, _%_, _^_, _<_, _≤_}
-use native.Mathlib.Omega.{arith}
-use borrow.Author.Tests.{eq-eqb, ne-eqb}
-use lib.Dec.{eqb}
-use Rattle.word.specs.Bits.{pick}
-use Rattle.word.specs.declared.ram.Word.{Word}
-use Rattle.walk.specs.Regime.{bankOf, regimeOf, stage1On}
-use Rattle.walk.specs.Tag.{untagged}
-use Rattle.walk.specs.Walk.{walkOf}
-use Rattle.walk.specs.declared.regime.Regime.{Regime}
-use Rattle.walk.specs.declared.regime.Bank.{Bank}
-use Rattle.walk.specs.declared.level.Leaf.{Leaf}
-use Rattle.walk.specs.declared.level.Walked.{Walked}
-use Rattle.walk.specs.declared.level.Walked.the-variants.{Mapped, Fault}
-use Rattle.tlb.specs.Access.{mayHint, tagOf, userOf, judged}
-use Rattle.tlb.specs.Entry.{slotOf, serves}
-use Rattle.tlb.specs.Hint.{dataSlot, hintKey, hintFor, onPage, fetchFor, fetchFound}
-use Rattle.tlb.specs.Cache.{entryAt, hintAt}
-use Rattle.tlb.specs.Resolve.{entryFor}
+use Prim.Native.Nat.{ℕ, _+_}
+use Rattle.tlb.specs.Access.{mayHint}
+use Rattle.tlb.specs.Cache.{entryAt}
+use Rattle.tlb.specs.Count.{hitCounted, walkCounted}
+use Rattle.tlb.specs.Hint.{dataSlot, hintFor}
+use Rattle.tlb.specs.Resolve.{countedBy, keptBy}
 use Rattle.tlb.specs.declared.access.Kind.{Kind}
-use Rattle.tlb.specs.declared.access.Kind.the-variants.{Fetch}
 use Rattle.tlb.specs.declared.access.Who.{Who}
 use Rattle.tlb.specs.declared.access.Answer.{Answer}
 use Rattle.tlb.specs.declared.access.Answer.the-variants.{Address, Status}
 use Rattle.tlb.specs.declared.entry.Entry.{Entry}
-use Rattle.tlb.specs.declared.entry.Present.{Present}
 use Rattle.tlb.specs.declared.hint.Hint.{Hint}
-use Rattle.tlb.specs.declared.hint.FetchHint.{FetchHint}
-use Rattle.tlb.specs.declared.hint.Physical.{Physical}
-use Rattle.tlb.specs.declared.hint.Physical.the-variants.{At, Unknown}
-use Rattle.mmu.specs.Core.{bankNow}
-use Rattle.mmu.specs.Ops.{withTlb, fetchSteppedNow, translateOf}
+use Rattle.tlb.specs.declared.resolve.Source.{Source}
+use Rattle.tlb.specs.declared.resolve.Source.the-variants.{FromHint, FromFlat, FromEntry, FromWalk, NoLeaf}
+use Rattle.tlb.specs.declared.resolve.Resolved.{Resolved}
 use Rattle.mmu.specs.declared.core.Core.{Core}
-use Rattle.mmu.specs.declared.ops.Translated.{Translated}
 use Rattle.words.specs.Held.{held}
-use Rattle.words.specs.Parts.{withEntry, withHint, withFetchHint}
-use Rattle.words.specs.Moved.{Moved, stays, moved-as, moved-on, moved-then}
-use Rattle.inplace.specs.Found.{codeOf, valueOf, answering, hintFound, noted, toldTo, hitCore, walkCore, leafAnswer, leafKept, telling, walkedTo, lookedTo, foundTo, pagedBy, pagedTo, answerOf}
-use Rattle.inplace.specs.FoundLaws.{hint-serves, hint-misses}
-use Rattle.inplace.specs.FetchLaws.{fetchTo, fetch-serves, fetch-misses}
+use Rattle.words.specs.Parts.{withCounts, withEntry, withHint}
+use Rattle.words.specs.Moved.{Moved, stays, moved-as, moved-on}
+use Rattle.inplace.specs.Found.{codeOf, valueOf, noted, toldTo, sourced, committed}
+use Rattle.inplace.specs.FoundLaws.{entry-back, unchanged}
 
 -- a hint noted
 module _ (ws : List ℕ) (who : Who) (kind : Kind) (va pa : ℕ) (b : Bool) (eb : b ≡ mayHint who kind) where
@@ -75,67 +56,32 @@ module _ (a : Answer) where
   pub status-core : (ws : List ℕ) (who : Who) (kind : Kind) (va fsc : ℕ) → a ≡ Status fsc → Moved ws ws (toldTo (held ws) who kind va a)
   status-core ws who kind va fsc e = rw e stays
 
--- a leaf kept
-module _ (leaf : Leaf) (at : Present) (who : Who) (r : Regime) (page : ℕ) (kind : Kind) (va tag : ℕ) (made : Entry) (user : Bool) (a : Answer)
-    (et : tag ≡ tagOf r page) (em : made ≡ entryFor leaf at tag) (eu : user ≡ userOf r who kind) (ea : a ≡ judged made user kind va) where
-  made-is : made ≡ entryFor leaf at (tagOf r page)
-  made-is = em ∙ ap (entryFor leaf at) et
+-- what a source changes
+module _ (ws : List ℕ) (slot : ℕ) (source : Source) (made : Entry) where
+  stored : (c : Core) (s : Source) → source ≡ s
+      → sourced c slot source made ≡ withEntry (withCounts c (countedBy s (c .tlb .counts))) slot (keptBy s (entryAt (c .tlb .cache) slot) made)
+  unfolding sourced
+  stored c s e = rw e
 
-  answer-is : a ≡ leafAnswer leaf at who r page kind va
-  unfolding leafAnswer
-  answer-is = ea ∙ λ i. judged (made-is i) (eu i) kind va
+  pub from-hint : source ≡ FromHint → Moved ws ws (sourced (held ws) slot source made)
+  from-hint e = moved-as stays (sym (stored (held ws) FromHint e ∙ unchanged (held ws) slot))
 
-  pub keep-code : (n : ℕ) → n ≡ codeOf a → n ≡ codeOf (leafAnswer leaf at who r page kind va)
-  keep-code n e = e ∙ ap codeOf answer-is
+  pub from-flat : source ≡ FromFlat → Moved ws ws (sourced (held ws) slot source made)
+  from-flat e = moved-as stays (sym (stored (held ws) FromFlat e ∙ unchanged (held ws) slot))
 
-  pub keep-value : (v old : ℕ) → v ≡ valueOf a old → v ≡ valueOf (leafAnswer leaf at who r page kind va) old
-  keep-value v old e = e ∙ ap (λ (x : Answer). valueOf x old) answer-is
+  pub from-entry : (xs : List ℕ) → source ≡ FromEntry → Moved ws xs (withCounts (held ws) (hitCounted (held ws .tlb .counts)))
+      → Moved ws xs (sourced (held ws) slot source made)
+  from-entry xs e m = moved-as m (sym (stored (held ws) FromEntry e ∙ entry-back (held ws) slot (hitCounted (held ws .tlb .counts))))
 
-  pub keep-core : (ws xs ys : List ℕ) (slot : ℕ) → slot ≡ slotOf tag → Moved ws xs (withEntry (held ws) slot made)
-      → Moved xs ys (toldTo (held xs) who kind va a) → Moved ws ys (toldTo (leafKept (held ws) leaf at r page) who kind va (leafAnswer leaf at who r page kind va))
-  unfolding leafKept
-  keep-core ws xs ys slot eo m n =
-      moved-on (λ c. toldTo c who kind va a) m n
-      (λ i. toldTo (withEntry (held ws) ((eo ∙ ap slotOf et) i) (made-is i)) who kind va (answer-is i))
+  pub from-no-leaf : (xs : List ℕ) → source ≡ NoLeaf → Moved ws xs (withCounts (held ws) (walkCounted (held ws .tlb .counts)))
+      → Moved ws xs (sourced (held ws) slot source made)
+  from-no-leaf xs e m = moved-as m (sym (stored (held ws) NoLeaf e ∙ entry-back (held ws) slot (walkCounted (held ws .tlb .counts))))
 
--- a walk
-leaf-ends : (c : Core) (who : Who) (r : Regime) (page : ℕ) (kind : Kind) (va : ℕ) (w : Walked) (leaf : Leaf) → w ≡ Mapped leaf
-    → walkedTo c who r page kind va w .core
-    ≡ toldTo (leafKept (walkCore c) leaf (c .tlb .cache .present) r page) who kind va (leafAnswer leaf (c .tlb .cache .present) who r page kind va)
-unfolding walkedTo
-leaf-ends c who r page kind va w leaf e = rw e
+  pub from-walk : (xs ys : List ℕ) → source ≡ FromWalk → Moved ws xs (withCounts (held ws) (walkCounted (held ws .tlb .counts)))
+      → Moved xs ys (withEntry (held xs) slot made) → Moved ws ys (sourced (held ws) slot source made)
+  from-walk xs ys e m n = moved-on (λ d. withEntry d slot made) m n (sym (stored (held ws) FromWalk e))
 
-module _ (ws : List ℕ) (s : Bank) (at : Present) (w : Walked) (r : Regime) (page : ℕ) (who : Who) (kind : Kind) (va : ℕ) (memory : ℕ → Word)
-    (es : s ≡ bankOf (held ws .control) r) (ep : at ≡ held ws .tlb .cache .present) (ew : w ≡ walkOf s r page memory) where
-  abbrev walked : Translated
-  walked = walkedTo (held ws) who r page kind va (walkOf (bankOf (held ws .control) r) r page memory)
-
-  same-walk : (v : Walked) → w ≡ v → walkOf (bankOf (held ws .control) r) r page memory ≡ v
-  same-walk v e = sym (ap (λ (b : Bank). walkOf b r page memory) es) ∙ sym ew ∙ e
-
-  pub leaf-code : (leaf : Leaf) (n : ℕ) → w ≡ Mapped leaf → n ≡ codeOf (leafAnswer leaf at who r page kind va) → n ≡ codeOf (walked .answer)
-  unfolding walkedTo
-  leaf-code leaf n e q = rw (same-walk (Mapped leaf) e, ← ep) q
-
-  pub leaf-value : (leaf : Leaf) (v old : ℕ) → w ≡ Mapped leaf → v ≡ valueOf (leafAnswer leaf at who r page kind va) old → v ≡ valueOf (walked .answer) old
-  unfolding walkedTo
-  leaf-value leaf v old e q = rw (same-walk (Mapped leaf) e, ← ep) q
-
-  pub leaf-core : (leaf : Leaf) (xs ys : List ℕ) → w ≡ Mapped leaf → Moved ws xs (walkCore (held ws))
-      → Moved xs ys (toldTo (leafKept (held xs) leaf at r page) who kind va (leafAnswer leaf at who r page kind va)) → Moved ws ys (walked .core)
-  leaf-core leaf xs ys e m n =
-      moved-on (λ c. toldTo (leafKept c leaf at r page) who kind va (leafAnswer leaf at who r page kind va)) m n
-      ((λ i. toldTo (leafKept (walkCore (held ws)) leaf (ep i) r page) who kind va (leafAnswer leaf (ep i) who r page kind va))
-      ∙ sym (leaf-ends (held ws) who r page kind va _ leaf (same-walk (Mapped leaf) e)))
-
-  pub fault-code : (code : ℕ) → w ≡ Fault code → 256 + code ≡ codeOf (walked .answer)
-  unfolding walkedTo
-  fault-code code e = rw (same-walk (Fault code) e)
-
-  pub fault-value : (code old : ℕ) → w ≡ Fault code → old ≡ valueOf (walked .answer) old
-  unfolding walkedTo
-  fault-value code old e = rw (same-walk (Fault code) e)
-
-  pub fault-core : (code : ℕ) (xs : List ℕ) → w ≡ Fault code → Moved ws xs (walkCore (held ws)) → Moved ws xs (walked .core)
-  unfolding walkedTo
-  fault-core code xs e m = rw (same-walk (Fault code) e) m
+-- and then the answer told
+pub commits : (ws xs ys : List ℕ) (who : Who) (kind : Kind) (va slot : ℕ) (t : Resolved) → Moved ws xs (sourced (held ws) slot (t .source) (t .made))
+    → Moved xs ys (toldTo (held xs) who kind va (t .answer)) → Moved ws ys (committed (held ws) who kind va slot t)
+commits ws xs ys who kind va slot t m n = moved-on (λ d. toldTo d who kind va (t .answer)) m n refl

@@ -1,4 +1,4 @@
--- The entry, the hint and the whole translation in place, on plain values, for `search`.
+-- The cell, the hint and the whole translation in place, on plain values, for `search`.
 use mathlib.Core.Path.{_≡_, refl, sym, ap, _∙_}
 use mathlib.Core.Bool.{Bool, true, false, _&&_}
 use mathlib.Core.List.{List}
@@ -6,21 +6,16 @@ use Prim.Native.Nat.{ℕ, _+_, _%_, _^_, _<_, _≤_}
 use native.Mathlib.Omega.{arith}
 use borrow.Author.Tests.{eq-eqb, ne-eqb}
 use lib.Dec.{eqb}
-use Rattle.word.specs.Bits.{pick}
 use Rattle.word.specs.declared.ram.Word.{Word}
-use Rattle.walk.specs.Regime.{bankOf, regimeOf, stage1On}
-use Rattle.walk.specs.Tag.{untagged}
-use Rattle.walk.specs.Walk.{walkOf}
+use Rattle.walk.specs.Regime.{bankOf, regimeOf}
 use Rattle.walk.specs.declared.regime.Regime.{Regime}
 use Rattle.walk.specs.declared.regime.Bank.{Bank}
-use Rattle.walk.specs.declared.level.Leaf.{Leaf}
-use Rattle.walk.specs.declared.level.Walked.{Walked}
-use Rattle.walk.specs.declared.level.Walked.the-variants.{Mapped, Fault}
-use Rattle.tlb.specs.Access.{mayHint, tagOf, userOf, judged}
-use Rattle.tlb.specs.Entry.{slotOf, serves}
-use Rattle.tlb.specs.Hint.{dataSlot, hintKey, hintFor, onPage, fetchFor, fetchFound}
+use Rattle.tlb.specs.Access.{mayHint}
+use Rattle.tlb.specs.Entry.{slotOf}
+use Rattle.tlb.specs.Hint.{dataSlot, hintKey, onPage, fetchFor, fetchFound}
 use Rattle.tlb.specs.Cache.{entryAt, hintAt}
-use Rattle.tlb.specs.Resolve.{entryFor}
+use Rattle.tlb.specs.Resolve.{queryOf, askOf, resolveOf, changesOf}
+use Rattle.tlb.specs.Turn.{untaggedNow, missOf, changes-are, asked-query}
 use Rattle.tlb.specs.declared.access.Kind.{Kind}
 use Rattle.tlb.specs.declared.access.Kind.the-variants.{Fetch}
 use Rattle.tlb.specs.declared.access.Who.{Who}
@@ -32,107 +27,102 @@ use Rattle.tlb.specs.declared.hint.Hint.{Hint}
 use Rattle.tlb.specs.declared.hint.FetchHint.{FetchHint}
 use Rattle.tlb.specs.declared.hint.Physical.{Physical}
 use Rattle.tlb.specs.declared.hint.Physical.the-variants.{At, Unknown}
+use Rattle.tlb.specs.declared.resolve.Query.{Query}
+use Rattle.tlb.specs.declared.resolve.Asked.{Asked}
+use Rattle.tlb.specs.declared.resolve.Asked.the-variants.{Flat, Of}
+use Rattle.tlb.specs.declared.resolve.Resolved.{Resolved}
 use Rattle.mmu.specs.Core.{bankNow}
+use Rattle.mmu.specs.Step.{slotAt}
 use Rattle.mmu.specs.Ops.{withTlb, fetchSteppedNow, translateOf}
 use Rattle.mmu.specs.declared.core.Core.{Core}
 use Rattle.mmu.specs.declared.ops.Translated.{Translated}
 use Rattle.words.specs.Held.{held}
-use Rattle.words.specs.Parts.{withEntry, withHint, withFetchHint}
-use Rattle.words.specs.Moved.{Moved, stays, moved-as, moved-on, moved-then}
-use Rattle.inplace.specs.Found.{codeOf, valueOf, answering, hintFound, noted, toldTo, hitCore, walkCore, telling, walkedTo, lookedTo, foundTo, pagedBy, pagedTo, answerOf}
-use Rattle.inplace.specs.FoundLaws.{hint-serves, hint-misses}
+use Rattle.words.specs.Parts.{withFetchHint}
+use Rattle.words.specs.Moved.{Moved, stays, moved-as, moved-on}
+use Rattle.inplace.specs.Found.{codeOf, valueOf, answering, hintFound, noted, sourced, committed, committing, lookedTo, foundTo, pagedBy, pagedTo, answerOf}
+use Rattle.inplace.specs.FoundLaws.{unchanged, hint-serves, hint-misses}
 use Rattle.inplace.specs.FetchLaws.{fetchTo, fetch-serves, fetch-misses}
 
--- the entry
-module _ (ws : List ℕ) (r : Regime) (page : ℕ) (who : Who) (kind : Kind) (va : ℕ) (w : Walked) (tag slot : ℕ) (at : Present) (e : Entry) (hit : Bool)
-    (et : tag ≡ tagOf r page) (ep : at ≡ held ws .tlb .cache .present) (es : slot ≡ slotOf tag) (ee : e ≡ entryAt (held ws .tlb .cache) slot)
-    (eh : hit ≡ serves e at tag) where
-  abbrev looked : Translated
-  looked = lookedTo (held ws) who r page kind va w
+-- the cell that a query names
+module _ (ws : List ℕ) (q : Query) (who : Who) (kind : Kind) (va : ℕ) (memory : ℕ → Word) (slot : ℕ) (at : Present) (e : Entry) (s : Bank) (t : Resolved)
+    (eo : slot ≡ slotOf (q .tag)) (ea : at ≡ held ws .tlb .cache .present) (ee : e ≡ entryAt (held ws .tlb .cache) slot)
+    (es : s ≡ bankOf (held ws .control) (q .regime)) (et : t ≡ resolveOf q s who at e va kind memory) where
+  looked-is : committing (held ws) who kind va slot t ≡ lookedTo (held ws) q who kind va memory
+  unfolding lookedTo
+  looked-is =
+      λ i.
+      committing (held ws) who kind va (eo i)
+      ((et ∙ λ j. resolveOf q (es j) who (ea j) ((ee ∙ ap (entryAt (held ws .tlb .cache)) eo) j) va kind memory) i)
 
-  abbrev own : Entry
-  own = entryAt (held ws .tlb .cache) (slotOf (tagOf r page))
+  pub look-code : (n : ℕ) → n ≡ codeOf (t .answer) → n ≡ codeOf (lookedTo (held ws) q who kind va memory .answer)
+  look-code n p = p ∙ ap (λ (x : Translated). codeOf (x .answer)) looked-is
 
-  entry-is : e ≡ own
-  entry-is = ee ∙ ap (entryAt (held ws .tlb .cache)) (es ∙ ap slotOf et)
+  pub look-value : (v old : ℕ) → v ≡ valueOf (t .answer) old → v ≡ valueOf (lookedTo (held ws) q who kind va memory .answer) old
+  look-value v old p = p ∙ ap (λ (x : Translated). valueOf (x .answer) old) looked-is
 
-  test-is : serves own (held ws .tlb .cache .present) (tagOf r page) ≡ hit
-  test-is = sym (eh ∙ λ i. serves (entry-is i) (ep i) (et i))
-
-  module _ (user : Bool) (a : Answer) (t : hit ≡ true) (eu : user ≡ userOf r who kind) (ea : a ≡ judged e user kind va) where
-    answer-is : a ≡ judged own (userOf r who kind) kind va
-    answer-is = ea ∙ λ i. judged (entry-is i) (eu i) kind va
-
-    served : looked ≡ telling (held ws) who r page kind va (hitCore (held ws)) (judged own (userOf r who kind) kind va)
-    unfolding lookedTo
-    served = rw (test-is, t)
-
-    pub hit-code : (n : ℕ) → n ≡ codeOf a → n ≡ codeOf (looked .answer)
-    hit-code n q = q ∙ ap codeOf (answer-is ∙ sym (ap (λ (x : Translated). x .answer) served))
-
-    pub hit-value : (v old : ℕ) → v ≡ valueOf a old → v ≡ valueOf (looked .answer) old
-    hit-value v old q = q ∙ ap (λ (x : Answer). valueOf x old) (answer-is ∙ sym (ap (λ (x : Translated). x .answer) served))
-
-    pub hit-core : (xs ys : List ℕ) → Moved ws xs (hitCore (held ws)) → Moved xs ys (toldTo (held xs) who kind va a) → Moved ws ys (looked .core)
-    hit-core xs ys m n =
-        moved-on (λ c. toldTo c who kind va a) m n
-        (ap (toldTo (hitCore (held ws)) who kind va) answer-is ∙ sym (ap (λ (x : Translated). x .core) served))
-
-  module _ (f : hit ≡ false) where
-    unserved : looked ≡ walkedTo (held ws) who r page kind va w
-    unfolding lookedTo
-    unserved = rw (test-is, f)
-
-    pub miss-code : (n : ℕ) → n ≡ codeOf (walkedTo (held ws) who r page kind va w .answer) → n ≡ codeOf (looked .answer)
-    miss-code n q = q ∙ ap (λ (x : Translated). codeOf (x .answer)) (sym unserved)
-
-    pub miss-value : (v old : ℕ) → v ≡ valueOf (walkedTo (held ws) who r page kind va w .answer) old → v ≡ valueOf (looked .answer) old
-    miss-value v old q = q ∙ ap (λ (x : Translated). valueOf (x .answer) old) (sym unserved)
-
-    pub miss-core : (xs : List ℕ) → Moved ws xs (walkedTo (held ws) who r page kind va w .core) → Moved ws xs (looked .core)
-    miss-core xs m = moved-as m (ap (λ (x : Translated). x .core) (sym unserved))
+  pub look-core : (xs : List ℕ) → Moved ws xs (committed (held ws) who kind va slot t) → Moved ws xs (lookedTo (held ws) q who kind va memory .core)
+  look-core xs m = moved-as m (ap (λ (x : Translated). x .core) looked-is)
 
 -- with stage 1 on and off
-module _ (ws : List ℕ) (memory : ℕ → Word) (va : ℕ) (kind : Kind) (who : Who) (r : Regime) (s : Bank) (on : Bool)
-    (ew : who ≡ held ws .who) (er : r ≡ regimeOf (who .level)) (es : s ≡ bankOf (held ws .control) r) (eo : on ≡ stage1On s r) where
+module _ (ws : List ℕ) (memory : ℕ → Word) (va : ℕ) (kind : Kind) (who : Who) (r : Regime) (s : Bank) (a : Asked)
+    (ew : who ≡ held ws .who) (er : r ≡ regimeOf (who .level)) (es : s ≡ bankOf (held ws .control) r) (ea : a ≡ askOf s who va) where
+  abbrev c : Core
+  c = held ws
+
   abbrev found : Translated
-  found = foundTo (held ws) memory va kind
+  found = foundTo c memory va kind
 
-  own-regime : r ≡ regimeOf (held ws .who .level)
-  own-regime = er ∙ ap (λ (x : Who). regimeOf (x .level)) ew
+  abbrev slot : ℕ
+  slot = slotAt (bankNow c) (c .who .level) va
 
-  own-bank : s ≡ bankNow (held ws)
-  own-bank = es ∙ ap (bankOf (held ws .control)) own-regime
+  abbrev own : Entry
+  own = entryAt (c .tlb .cache) slot
 
-  own-test : stage1On (bankNow (held ws)) (regimeOf (held ws .who .level)) ≡ on
-  own-test = sym (eo ∙ λ i. stage1On (own-bank i) (own-regime i))
+  own-asked : askOf (bankNow c) (c .who) va ≡ a
+  own-asked =
+      sym (ea ∙ λ i. askOf ((es ∙ ap (bankOf (c .control)) (er ∙ ap (λ (x : Who). regimeOf (x .level)) ew)) i) (ew i) va)
 
-  module _ (page : ℕ) (t : on ≡ true) (ep : page ≡ untagged (s .tcr) r va) where
-    own-page : page ≡ untagged (bankNow (held ws) .tcr) (regimeOf (held ws .who .level)) va
-    own-page = ep ∙ λ i. untagged (own-bank i .tcr) (own-regime i) va
+  changes-is : changesOf a (bankNow c) (c .who) (c .tlb .cache .present) own va kind memory
+      ≡ missOf (bankNow c) (c .who) (c .tlb .cache .present) own va kind memory
+  changes-is =
+      ap (λ (x : Asked). changesOf x (bankNow c) (c .who) (c .tlb .cache .present) own va kind memory) (sym own-asked)
+      ∙ changes-are (bankNow c) (c .who) (c .tlb .cache .present) own va kind memory
+
+  module _ (q : Query) (o : a ≡ Of q) where
+    query-is : q ≡ queryOf (regimeOf (c .who .level)) (untaggedNow (bankNow c) (c .who .level) va)
+    query-is = asked-query (bankNow c) (c .who) va q (own-asked ∙ o)
 
     abbrev here : Translated
-    here = lookedTo (held ws) who r page kind va (walkOf (bankOf (held ws .control) r) r page memory)
+    here = lookedTo c q who kind va memory
 
-    looked-is : here ≡ found
-    unfolding foundTo
-    looked-is =
-        (λ i. lookedTo (held ws) (ew i) (own-regime i) (own-page i) kind va (walkOf (bankOf (held ws .control) (own-regime i)) (own-regime i) (own-page i) memory))
-        ∙ sym (rw (own-test, t))
+    abbrev lookedFor : Regime → ℕ → Who → Translated
+    lookedFor regime place by =
+        committing c by kind va place
+        (resolveOf q (bankOf (c .control) regime) by (c .tlb .cache .present) (entryAt (c .tlb .cache) place) va kind memory)
+
+    found-is : here ≡ found
+    unfolding lookedTo foundTo
+    found-is =
+        (λ i. lookedFor (query-is i .regime) (slotOf (query-is i .tag)) (ew i))
+        ∙ ap (committing c (c .who) kind va slot)
+        (ap (λ (x : Asked). changesOf x (bankNow c) (c .who) (c .tlb .cache .present) own va kind memory) (sym o) ∙ changes-is)
 
     pub on-code : (n : ℕ) → n ≡ codeOf (here .answer) → n ≡ codeOf (found .answer)
-    on-code n q = q ∙ ap (λ (x : Translated). codeOf (x .answer)) looked-is
+    on-code n p = p ∙ ap (λ (x : Translated). codeOf (x .answer)) found-is
 
     pub on-value : (v old : ℕ) → v ≡ valueOf (here .answer) old → v ≡ valueOf (found .answer) old
-    on-value v old q = q ∙ ap (λ (x : Translated). valueOf (x .answer) old) looked-is
+    on-value v old p = p ∙ ap (λ (x : Translated). valueOf (x .answer) old) found-is
 
     pub on-core : (xs : List ℕ) → Moved ws xs (here .core) → Moved ws xs (found .core)
-    on-core xs m = moved-as m (ap (λ (x : Translated). x .core) looked-is)
+    on-core xs m = moved-as m (ap (λ (x : Translated). x .core) found-is)
 
-  module _ (f : on ≡ false) where
-    flat-is : answering (noted (held ws) who kind va va) (Address va) ≡ found
-    unfolding foundTo
-    flat-is = (λ i. answering (noted (held ws) (ew i) kind va va) (Address va)) ∙ sym (rw (own-test, f))
+  module _ (f : a ≡ Flat) where
+    flat-is : answering (noted c who kind va va) (Address va) ≡ found
+    unfolding foundTo sourced
+    flat-is =
+        (λ i. answering (noted (sym (unchanged c slot) i) (ew i) kind va va) (Address va))
+        ∙ ap (committing c (c .who) kind va slot)
+        (ap (λ (x : Asked). changesOf x (bankNow c) (c .who) (c .tlb .cache .present) own va kind memory) (sym f) ∙ changes-is)
 
     pub off-code : 0 ≡ codeOf (found .answer)
     off-code = ap (λ (x : Translated). codeOf (x .answer)) flat-is
@@ -140,7 +130,7 @@ module _ (ws : List ℕ) (memory : ℕ → Word) (va : ℕ) (kind : Kind) (who :
     pub off-value : (old : ℕ) → va ≡ valueOf (found .answer) old
     off-value old = ap (λ (x : Translated). valueOf (x .answer) old) flat-is
 
-    pub off-core : (xs : List ℕ) → Moved ws xs (noted (held ws) who kind va va) → Moved ws xs (found .core)
+    pub off-core : (xs : List ℕ) → Moved ws xs (noted c who kind va va) → Moved ws xs (found .core)
     off-core xs m = moved-as m (ap (λ (x : Translated). x .core) flat-is)
 
 -- the hint
@@ -193,7 +183,8 @@ module _ (ws : List ℕ) (memory : ℕ → Word) (va : ℕ) (kind : Kind) (p : P
   pub by-find-answer : (a : Answer) → p ≡ Unknown → a ≡ foundTo (held ws) memory va kind .answer → a ≡ translateOf (held ws) memory va kind .answer
   by-find-answer a e q = q ∙ sym (ap (λ (x : Translated). x .answer) (hint-misses (held ws) memory va kind (sym ep ∙ e)))
 
-  pub by-find-core : (xs : List ℕ) → p ≡ Unknown → Moved ws xs (foundTo (held ws) memory va kind .core) → Moved ws xs (translateOf (held ws) memory va kind .core)
+  pub by-find-core : (xs : List ℕ) → p ≡ Unknown → Moved ws xs (foundTo (held ws) memory va kind .core)
+      → Moved ws xs (translateOf (held ws) memory va kind .core)
   by-find-core xs e m = moved-as m (sym (ap (λ (x : Translated). x .core) (hint-misses (held ws) memory va kind (sym ep ∙ e))))
 
 -- a fetch's page

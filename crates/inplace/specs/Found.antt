@@ -1,34 +1,33 @@
--- One translation on the core as it is made in place: the hint first, then the entry, then the walk. Each branch says what it changes.
-use mathlib.Core.Bool.{Bool, true, false, _&&_}
+-- One translation on the core as it is made in place: the hint first; else its changes, and the core with them stored.
+use mathlib.Core.Bool.{_&&_}
+use mathlib.Core.List.{List}
 use Prim.Native.Nat.{ℕ, _+_, _%_, _^_}
 use lib.Dec.{eqb}
 use Rattle.word.specs.Bits.{pick}
+use Rattle.word.specs.Ram.{wordAt}
 use Rattle.word.specs.declared.ram.Word.{Word}
-use Rattle.walk.specs.Regime.{bankOf, regimeOf, stage1On}
-use Rattle.walk.specs.Tag.{untagged}
-use Rattle.walk.specs.Walk.{walkOf}
-use Rattle.walk.specs.declared.regime.Regime.{Regime}
-use Rattle.walk.specs.declared.level.Leaf.{Leaf}
-use Rattle.walk.specs.declared.level.Walked.{Walked}
-use Rattle.walk.specs.declared.level.Walked.the-variants.{Mapped, Fault}
-use Rattle.tlb.specs.Access.{mayHint, tagOf, userOf, judged}
-use Rattle.tlb.specs.Count.{hitCounted, walkCounted}
-use Rattle.tlb.specs.Entry.{slotOf, serves}
-use Rattle.tlb.specs.Hint.{dataSlot, hintKey, hintFor, onPage, fetchFor, fetchFound}
+use Rattle.walk.specs.Regime.{bankOf}
+use Rattle.tlb.specs.Access.{mayHint}
+use Rattle.tlb.specs.Entry.{slotOf}
+use Rattle.tlb.specs.Hint.{dataSlot, hintKey, hintFor, onPage, fetchFor}
 use Rattle.tlb.specs.Cache.{entryAt, hintAt}
-use Rattle.tlb.specs.Resolve.{entryFor}
+use Rattle.tlb.specs.Resolve.{resolveOf, countedBy, keptBy}
+use Rattle.tlb.specs.Turn.{missOf}
 use Rattle.tlb.specs.declared.access.Kind.{Kind}
-use Rattle.tlb.specs.declared.access.Kind.the-variants.{Fetch}
 use Rattle.tlb.specs.declared.access.Who.{Who}
 use Rattle.tlb.specs.declared.access.Answer.{Answer}
 use Rattle.tlb.specs.declared.access.Answer.the-variants.{Address, Status}
 use Rattle.tlb.specs.declared.entry.Entry.{Entry}
-use Rattle.tlb.specs.declared.entry.Present.{Present}
 use Rattle.tlb.specs.declared.hint.Physical.{Physical}
 use Rattle.tlb.specs.declared.hint.Physical.the-variants.{At, Unknown}
+use Rattle.tlb.specs.declared.resolve.Source.{Source}
+use Rattle.tlb.specs.declared.resolve.Query.{Query}
+use Rattle.tlb.specs.declared.resolve.Resolved.{Resolved}
 use Rattle.mmu.specs.Core.{bankNow}
+use Rattle.mmu.specs.Step.{slotAt}
 use Rattle.mmu.specs.declared.core.Core.{Core}
 use Rattle.mmu.specs.declared.ops.Translated.{Translated}
+use Rattle.words.specs.Held.{held}
 use Rattle.words.specs.Parts.{withCounts, withEntry, withHint, withFetchHint}
 
 -- an answer as a number: 0, or 256 plus the status; and the address where there is one
@@ -58,47 +57,37 @@ abbrev pub toldTo : Core → Who → Kind → ℕ → Answer → Core
 toldTo c who kind va (Address pa) = noted c who kind va pa
 toldTo c who kind va (Status fsc) = c
 
--- counted
-abbrev pub hitCore : Core → Core
-hitCore c = withCounts c (hitCounted (c .tlb .counts))
+-- the counters and the entry of the slot, by an answer's source
+unfoldable pub sourced : Core → ℕ → Source → Entry → Core
+sourced c slot source made =
+    withEntry (withCounts c (countedBy source (c .tlb .counts))) slot (keptBy source (entryAt (c .tlb .cache) slot) made)
 
-abbrev pub walkCore : Core → Core
-walkCore c = withCounts c (walkCounted (c .tlb .counts))
+-- the changes of a translation stored: these and the hint
+abbrev pub committed : Core → Who → Kind → ℕ → ℕ → Resolved → Core
+committed c who kind va slot t = toldTo (sourced c slot (t .source) (t .made)) who kind va (t .answer)
 
--- a leaf as an entry, judged and kept
-abbrev pub leafEntry : Leaf → Present → Regime → ℕ → Entry
-leafEntry leaf at r page = entryFor leaf at (tagOf r page)
+abbrev pub committing : Core → Who → Kind → ℕ → ℕ → Resolved → Translated
+committing c who kind va slot t = answering (committed c who kind va slot t) (t .answer)
 
-unfoldable pub leafAnswer : Leaf → Present → Who → Regime → ℕ → Kind → ℕ → Answer
-leafAnswer leaf at who r page kind va = judged (leafEntry leaf at r page) (userOf r who kind) kind va
+-- of what a query asks, with its cell
+unfoldable pub lookedTo : Core → Query → Who → Kind → ℕ → (ℕ → Word) → Translated
+lookedTo c q who kind va memory =
+    committing c who kind va (slotOf (q .tag))
+    (resolveOf q (bankOf (c .control) (q .regime)) who (c .tlb .cache .present) (entryAt (c .tlb .cache) (slotOf (q .tag))) va kind memory)
 
-unfoldable pub leafKept : Core → Leaf → Present → Regime → ℕ → Core
-leafKept c leaf at r page = withEntry c (slotOf (tagOf r page)) (leafEntry leaf at r page)
-
-module _ (c : Core) (who : Who) (r : Regime) (page : ℕ) (kind : Kind) (va : ℕ) where
-  abbrev pub telling : Core → Answer → Translated
-  telling d a = answering (toldTo d who kind va a) a
-
-  -- the end of a walk: a leaf is kept and judged
-  unfoldable pub walkedTo : Walked → Translated
-  walkedTo (Mapped leaf) =
-      telling (leafKept (walkCore c) leaf (c .tlb .cache .present) r page) (leafAnswer leaf (c .tlb .cache .present) who r page kind va)
-  walkedTo (Fault code) = answering (walkCore c) (Status code)
-
-  -- the entry where it serves, else the walk
-  unfoldable pub lookedTo : Walked → Translated
-  lookedTo w =
-      pick (serves (entryAt (c .tlb .cache) (slotOf (tagOf r page))) (c .tlb .cache .present) (tagOf r page))
-      (telling (hitCore c) (judged (entryAt (c .tlb .cache) (slotOf (tagOf r page))) (userOf r who kind) kind va))
-      (walkedTo w)
-
--- without a hint: with stage 1 off the address itself
+-- of an address that no hint serves
 unfoldable pub foundTo : Core → (ℕ → Word) → ℕ → Kind → Translated
 foundTo c memory va kind =
-    pick (stage1On (bankNow c) (regimeOf (c .who .level)))
-    (lookedTo c (c .who) (regimeOf (c .who .level)) (untagged (bankNow c .tcr) (regimeOf (c .who .level)) va) kind va
-    (walkOf (bankNow c) (regimeOf (c .who .level)) (untagged (bankNow c .tcr) (regimeOf (c .who .level)) va) memory))
-    (answering (noted c (c .who) kind va va) (Address va))
+    committing c (c .who) kind va (slotAt (bankNow c) (c .who .level) va)
+    (missOf (bankNow c) (c .who) (c .tlb .cache .present) (entryAt (c .tlb .cache) (slotAt (bankNow c) (c .who .level) va)) va kind memory)
+
+-- the same of words and of the bytes of RAM
+module _ (ws : List ℕ) (base : ℕ) (ram : List ℕ) where
+  abbrev pub lookedAt : Query → Who → Kind → ℕ → Translated
+  lookedAt q who kind va = lookedTo (held ws) q who kind va (wordAt base ram 8)
+
+  abbrev pub foundAt : ℕ → Kind → Translated
+  foundAt va kind = foundTo (held ws) (wordAt base ram 8) va kind
 
 -- the page of a fetch that was allowed becomes the fetch hint
 abbrev pub pagedBy : ℕ → ℕ → Core → Answer → Core

@@ -3,11 +3,11 @@ ghost use mathlib.Core.Path.{_≡_};
 ghost use Rattle.word.specs.Ram.{wordAt, bytesIn};
 ghost use Rattle.walk.specs.Regime.{regimeOf, stage1On};
 ghost use Rattle.mmu.specs.Core.{bankNow};
-ghost use Rattle.mmu.specs.Ends.{loadEnd, storeEnd, storeRamEnd, fetchEnd};
+ghost use Rattle.mmu.specs.Ends.{storeRamEnd};
 ghost use Rattle.mmu.specs.Ops.{translateAccessOf, readOf, writeOf, ramAfterWrite, fetchOf, fetchPaOf, dataPaOf};
 ghost use Rattle.words.specs.Held.{held};
 ghost use Rattle.words.specs.Moved.{Moved};
-ghost use Rattle.inplace.specs.Accessed.{keptLast, keptAbort};
+ghost use Rattle.inplace.specs.Accessed.{loadEndOf, storeEndOf, keptLast, keptAbort};
 use crate::translate;
 use mmu::ends;
 use mmu::ends::FetchAnswer;
@@ -26,7 +26,8 @@ use words::state;
 
 // Whether stage 1 is on at the level.
 pub fn on_at(state: &State) -> bool
-    ensures { λ r. ⌜ r ≡ stage1On (bankNow (held (now (state .entry)))) (regimeOf ((held (now (state .entry))) .who .level)) ⌝ }
+    ensures { λ r. ⌜ r ≡ stage1On (bankNow (held (now (state .entry))))
+        (regimeOf (held (now (state .entry)) .who .level)) ⌝ }
 {
     let who = state::who_at(state);
     let r = regime::regime_of(who.level);
@@ -36,8 +37,10 @@ pub fn on_at(state: &State) -> bool
 
 // Both pages of an access, before a byte moves. The first one's effects remain where the second faults.
 fn locate(state: &mut State, va: u64, n: u64, kind: Kind, base: u64, ram: &[u8]) -> Placed
-    ensures { λ r. ⌜ r ≡ translateAccessOf (held (now (state .entry))) (wordAt base (now (ram .entry)) 8) va n kind .placed ⌝ }
-    ensures { λ _. ⌜ Moved (now (state .entry)) (now (state .exit)) (translateAccessOf (held (now (state .entry))) (wordAt base (now (ram .entry)) 8) va n kind .core) ⌝ }
+    ensures { λ r. ⌜ r ≡ translateAccessOf (held (now (state .entry)))
+        (wordAt base (now (ram .entry)) 8) va n kind .placed ⌝ }
+    ensures { λ _. ⌜ Moved (now (state .entry)) (now (state .exit))
+        (translateAccessOf (held (now (state .entry))) (wordAt base (now (ram .entry)) 8) va n kind .core) ⌝ }
 {
     let on = on_at(state);
     let split = place::crosses(on, va, n);
@@ -61,8 +64,10 @@ fn load_placed(
     base: u64,
     ram: &[u8],
 ) -> LoadAnswer
-    ensures { λ r. ⌜ r ≡ loadEnd placed ((held (now (state .entry))) .«last_pa») ((held (now (state .entry))) .«abort_pa») base (now (ram .entry)) va (bytesIn width) .answer ⌝ }
-    ensures { λ _. ⌜ Moved (now (state .entry)) (now (state .exit)) (keptLast (held (now (state .entry))) (loadEnd placed ((held (now (state .entry))) .«last_pa») ((held (now (state .entry))) .«abort_pa») base (now (ram .entry)) va (bytesIn width))) ⌝ }
+    ensures { λ r. ⌜ r
+        ≡ loadEndOf (held (now (state .entry))) placed base (now (ram .entry)) va (bytesIn width) .answer ⌝ }
+    ensures { λ _. ⌜ Moved (now (state .entry)) (now (state .exit)) (keptLast (held (now (state .entry)))
+        (loadEndOf (held (now (state .entry))) placed base (now (ram .entry)) va (bytesIn width))) ⌝ }
 {
     let last = state::last_at(state);
     let abort = state::abort_at(state);
@@ -76,7 +81,8 @@ fn load_placed(
 // A load.
 pub fn load(state: &mut State, va: u64, width: Width, base: u64, ram: &[u8]) -> LoadAnswer
     ensures { λ r. ⌜ r ≡ readOf (held (now (state .entry))) base (now (ram .entry)) va (bytesIn width) .answer ⌝ }
-    ensures { λ _. ⌜ Moved (now (state .entry)) (now (state .exit)) (readOf (held (now (state .entry))) base (now (ram .entry)) va (bytesIn width) .core) ⌝ }
+    ensures { λ _. ⌜ Moved (now (state .entry)) (now (state .exit))
+        (readOf (held (now (state .entry))) base (now (ram .entry)) va (bytesIn width) .core) ⌝ }
 {
     let n = ram::bytes_in(width);
     let placed = locate(state, va, n, Kind::Read, base, ram);
@@ -93,9 +99,11 @@ fn store_placed(
     base: u64,
     ram: &mut [u8],
 ) -> StoreAnswer
-    ensures { λ r. ⌜ r ≡ storeEnd placed ((held (now (state .entry))) .«abort_pa») base (now (ram .entry)) va (bytesIn width) .answer ⌝ }
+    ensures { λ r. ⌜ r
+        ≡ storeEndOf (held (now (state .entry))) placed base (now (ram .entry)) va (bytesIn width) .answer ⌝ }
     ensures { λ _. ⌜ now (ram .exit) ≡ storeRamEnd placed base (now (ram .entry)) (bytesIn width) value ⌝ }
-    ensures { λ _. ⌜ Moved (now (state .entry)) (now (state .exit)) (keptAbort (held (now (state .entry))) (storeEnd placed ((held (now (state .entry))) .«abort_pa») base (now (ram .entry)) va (bytesIn width) .«abort_pa»)) ⌝ }
+    ensures { λ _. ⌜ Moved (now (state .entry)) (now (state .exit)) (keptAbort (held (now (state .entry)))
+        (storeEndOf (held (now (state .entry))) placed base (now (ram .entry)) va (bytesIn width) .«abort_pa»)) ⌝ }
 {
     let abort = state::abort_at(state);
     let end = ends::store_end(placed, abort, base, ram, va, width, value);
@@ -114,8 +122,10 @@ pub fn store(
     ram: &mut [u8],
 ) -> StoreAnswer
     ensures { λ r. ⌜ r ≡ writeOf (held (now (state .entry))) base (now (ram .entry)) va (bytesIn width) .answer ⌝ }
-    ensures { λ _. ⌜ now (ram .exit) ≡ ramAfterWrite (held (now (state .entry))) base (now (ram .entry)) va (bytesIn width) value ⌝ }
-    ensures { λ _. ⌜ Moved (now (state .entry)) (now (state .exit)) (writeOf (held (now (state .entry))) base (now (ram .entry)) va (bytesIn width) .core) ⌝ }
+    ensures { λ _. ⌜ now (ram .exit)
+        ≡ ramAfterWrite (held (now (state .entry))) base (now (ram .entry)) va (bytesIn width) value ⌝ }
+    ensures { λ _. ⌜ Moved (now (state .entry)) (now (state .exit))
+        (writeOf (held (now (state .entry))) base (now (ram .entry)) va (bytesIn width) .core) ⌝ }
 {
     let n = ram::bytes_in(width);
     let placed = locate(state, va, n, Kind::Write, base, ram);
@@ -125,7 +135,8 @@ pub fn store(
 // An instruction, by the fetch hint first.
 pub fn fetch(state: &mut State, va: u64, base: u64, ram: &[u8]) -> FetchAnswer
     ensures { λ r. ⌜ r ≡ fetchOf (held (now (state .entry))) base (now (ram .entry)) va .answer ⌝ }
-    ensures { λ _. ⌜ Moved (now (state .entry)) (now (state .exit)) (fetchOf (held (now (state .entry))) base (now (ram .entry)) va .core) ⌝ }
+    ensures { λ _. ⌜ Moved (now (state .entry)) (now (state .exit))
+        (fetchOf (held (now (state .entry))) base (now (ram .entry)) va .core) ⌝ }
 {
     let at = translate::fetch_translate(state, va, base, ram);
     let abort = state::abort_at(state);
@@ -138,7 +149,8 @@ pub fn fetch(state: &mut State, va: u64, base: u64, ram: &[u8]) -> FetchAnswer
 // Where a data read of va goes.
 pub fn data_pa(state: &mut State, va: u64, base: u64, ram: &[u8]) -> Reached
     ensures { λ r. ⌜ r ≡ dataPaOf (held (now (state .entry))) (wordAt base (now (ram .entry)) 8) va .answer ⌝ }
-    ensures { λ _. ⌜ Moved (now (state .entry)) (now (state .exit)) (dataPaOf (held (now (state .entry))) (wordAt base (now (ram .entry)) 8) va .core) ⌝ }
+    ensures { λ _. ⌜ Moved (now (state .entry)) (now (state .exit))
+        (dataPaOf (held (now (state .entry))) (wordAt base (now (ram .entry)) 8) va .core) ⌝ }
 {
     let at = translate::translate(state, va, Kind::Read, base, ram);
     ends::reach(at)
@@ -147,7 +159,8 @@ pub fn data_pa(state: &mut State, va: u64, base: u64, ram: &[u8]) -> Reached
 // Where a fetch of va goes, by the same hint.
 pub fn fetch_pa(state: &mut State, va: u64, base: u64, ram: &[u8]) -> Reached
     ensures { λ r. ⌜ r ≡ fetchPaOf (held (now (state .entry))) (wordAt base (now (ram .entry)) 8) va .answer ⌝ }
-    ensures { λ _. ⌜ Moved (now (state .entry)) (now (state .exit)) (fetchPaOf (held (now (state .entry))) (wordAt base (now (ram .entry)) 8) va .core) ⌝ }
+    ensures { λ _. ⌜ Moved (now (state .entry)) (now (state .exit))
+        (fetchPaOf (held (now (state .entry))) (wordAt base (now (ram .entry)) 8) va .core) ⌝ }
 {
     let at = translate::fetch_translate(state, va, base, ram);
     ends::reach(at)

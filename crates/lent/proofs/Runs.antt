@@ -7,13 +7,10 @@ use Prim.Native.Nat.{ℕ, zero, suc, _/_, _<_}
 use native.Mathlib.Omega.{arith}
 use lib.ListN.{length, set}
 use lib.Seq.{set-getD}
-use Rattle.word.specs.Bits.{pick}
 use Rattle.word.specs.Ram.{wordAt}
 use Rattle.word.specs.declared.ram.Word.{Word}
 use Rattle.walk.specs.declared.level.Walked.{Walked}
-use Rattle.walk.specs.declared.level.Walked.the-variants.{Mapped, Fault}
 use Rattle.walk.specs.declared.regime.Regime.{Regime}
-use Rattle.tlb.specs.Access.{tagOf, userOf}
 use Rattle.tlb.specs.Entry.{serves, blank}
 use Rattle.tlb.specs.Hint.{placeOf, dataSlot, noHint, onPage}
 use Rattle.tlb.specs.Turn.{applied, turnWith, turnOf}

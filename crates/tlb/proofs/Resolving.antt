@@ -1,5 +1,5 @@
 -- The cases of a translation's changes, on plain values, for `search`.
-use mathlib.Core.Path.{_≡_, refl}
+use mathlib.Core.Path.{_≡_}
 use mathlib.Core.Bool.{Bool, true, false}
 use Prim.Native.Nat.{ℕ}
 use Rattle.walk.specs.Regime.{stage1On, regimeOf}

@@ -223,7 +223,7 @@ module _ (a : Access) (t : Tlb) (s : WellFormed t) (fits : LeafLevel (a .walk)) 
   missEntry = keptBy (fetchMiss .source) (entryAt (t .cache) (slotFor a)) (fetchMiss .made)
 
   fetch-kept : (pa : ℕ)
-      → live (withFetch t (slotFor a) (record { counts = missCounts; fetch = fetchFor (a .va) (a .who .level) pa; entry = missEntry; answer = Address pa; source = fetchMiss .source }))
+      → live (moved t (setFetch (setEntry (t .cache) (slotFor a) missEntry) (fetchFor (a .va) (a .who .level) pa)) missCounts)
       ≡ keepFetch (knownOf a pa) (live (withEntry t (slotFor a) fetchMiss))
   fetch-kept pa =
       λ n.

@@ -111,7 +111,7 @@ module _ (s : Bank) (who : Who) (at : Present) where
     where
       go : (on : Bool)
           → changesOf (askWith on (regimeOf (who .level)) (untaggedNow s (who .level) va)) s who at e va kind memory
-          ≡ pick on (resolveWith (walkNow s (who .level) va memory) (queryOf (regimeOf (who .level)) (untaggedNow s (who .level) va)) who at e va kind) (byItself va)
+          ≡ missWith on (untaggedNow s (who .level) va) (walkNow s (who .level) va memory) (regimeOf (who .level)) who at e va kind
       go true = refl
       go false = refl
 

@@ -1,4 +1,5 @@
-// A translation that no hint serves, over small values, in two steps: what it asks of the cache, and its changes from the cell so named.
+// A translation that no hint serves, over small values, in two steps: what it asks of the cache, and its changes from
+// the cell so named.
 ghost use mathlib.Core.Path.{_≡_};
 ghost use Rattle.word.specs.Ram.{wordAt};
 ghost use Rattle.walk.specs.Walk.{walkOf};
@@ -37,7 +38,8 @@ pub enum Asked {
     Of(Query),
 }
 
-// The changes of a translation: its answer, where that came from, and the entry to store where a walk found a leaf (else blank).
+// The changes of a translation: its answer, where that came from, and the entry to store where a walk found a leaf
+// (else blank).
 pub struct Resolved {
     pub answer: Answer,
     pub source: Source,

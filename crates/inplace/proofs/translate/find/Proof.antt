@@ -13,23 +13,26 @@ regime-of-requires c κs = search needs
 bank-at-requires : tie.Need-bank-at-requires
 bank-at-requires c κs = search needs
 
-stage1-on-requires : tie.Need-stage1-on-requires
-stage1-on-requires c κs = search needs
+ask-requires : tie.Need-ask-requires
+ask-requires c κs = search needs
 
-untag-requires : tie.Need-untag-requires
-untag-requires c κs = search needs
-
-look-requires : tie.Need-look-requires
-look-requires c κs = search needs
+enum-told : tie.Need-enum-told
+enum-told c = search needs
 
 note-requires : tie.Need-note-requires
 note-requires c κs = search needs
 
+enum-known-q : tie.Need-enum-known-q
+enum-known-q c = search needs
+
+look-requires : tie.Need-look-requires
+look-requires c κs = search needs
+
 returns : tie.Need-returns
-returns c = (search needs, (search (on-code, needs), (search (on-value, needs), search (on-core, needs))))
+returns c = (search needs, (search (off-code, needs), (search (off-value, needs), search (off-core, needs))))
 
 returns-2 : tie.Need-returns-2
-returns-2 c = (search needs, (search (off-code, needs), (search (off-value, needs), search (off-core, needs))))
+returns-2 c = (search needs, (search (on-code, needs), (search (on-value, needs), search (on-core, needs))))
 
 pub find-spec : {M : Type 1} → statement M
 find-spec =
@@ -38,9 +41,10 @@ find-spec =
     who-at-requires
     regime-of-requires
     bank-at-requires
-    stage1-on-requires
-    untag-requires
-    look-requires
+    ask-requires
+    enum-told
     note-requires
+    enum-known-q
+    look-requires
     returns
     returns-2)
