@@ -15,7 +15,7 @@ use Rattle.tlb.specs.declared.access.Answer.{Answer}
 use Rattle.tlb.specs.declared.Tlb.{Tlb}
 use Rattle.mmu.specs.Core.{movedTo, bankNow}
 use Rattle.mmu.specs.Place.{nextPage, crosses, goesOn, placedOne, placedBoth}
-use Rattle.mmu.specs.Step.{translateIn as translateIn, locatedOf}
+use Rattle.mmu.specs.Step.{translateIn, locatedOf}
 use Rattle.mmu.specs.Ends.{loadEnd, storeEnd, storeRamEnd, fetchEnd, reachedBy}
 use Rattle.mmu.specs.Ops.{withTlb, steppedNow, fetchSteppedNow, locatedNow, translateOf, translateAccessOf, readOf, writeOf, ramAfterWrite, fetchOf, fetchPaOf, dataPaOf}
 use Rattle.mmu.specs.declared.core.Core.{Core}
