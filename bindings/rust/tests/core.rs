@@ -1,7 +1,7 @@
 //! Every operation, its answers and its refusals.
 use a72::{
-    registers, Access, Broadcast, Check, Core, Exception, Fault, Ram, Status, Stop, SystemOperation, Width,
-    WORDS,
+    place, registers, Access, Broadcast, Check, Core, Exception, Fault, Ram, Status, Stop, SystemOperation,
+    Width, WORDS,
 };
 
 const BASE: u64 = 0x4000_0000;
@@ -269,7 +269,7 @@ fn refusals_change_nothing() {
     assert!(core == before);
     assert_eq!(Check::Key.number(), 6);
     // A level above 3, which only the words can set, refuses everything.
-    core.words_mut()[68] = 4;
+    core.words_mut()[place::LEVEL] = 4;
     assert_eq!(
         core.translate(&ram, 0x1000, Access::Read).map(drop),
         refused(Check::Level)
