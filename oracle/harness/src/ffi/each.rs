@@ -2,69 +2,17 @@
 //!
 //! Each gives one of the numbers in [`super`]. `ans` takes the value, or the address of a data abort; where there is
 //! neither it stays as it was.
-use super::number::{status, DONE, LAST_CHECK, UNDEFINED, UNIMPLEMENTED};
-use super::{boxed, exception, fresh, poke, state_of, Words, STATE, UNWRITTEN};
+use super::{boxed, exception, fresh, poke, state_of, Words, UNWRITTEN};
+use crate::library::*;
+use crate::number::{status, DONE, LAST_CHECK, UNDEFINED, UNIMPLEMENTED};
 use crate::op::{Ans, Op};
 use crate::rust::RustCore;
-use crate::{Core, Ram, State};
-
-type StateWords = *mut [u64; STATE];
-
-extern "C" {
-    fn a72_translate(
-        state: StateWords,
-        va: u64,
-        kind: u64,
-        ans: *mut u64,
-        base: u64,
-        ram: *const u8,
-        n: usize,
-    ) -> u64;
-    fn a72_data_pa(state: StateWords, va: u64, ans: *mut u64, base: u64, ram: *const u8, n: usize) -> u64;
-    fn a72_fetch_pa(state: StateWords, va: u64, ans: *mut u64, base: u64, ram: *const u8, n: usize) -> u64;
-    fn a72_load(
-        state: StateWords,
-        va: u64,
-        size: u64,
-        ans: *mut u64,
-        base: u64,
-        ram: *const u8,
-        n: usize,
-    ) -> u64;
-    fn a72_store(
-        state: StateWords,
-        va: u64,
-        size: u64,
-        value: u64,
-        ans: *mut u64,
-        base: u64,
-        ram: *mut u8,
-        n: usize,
-    ) -> u64;
-    fn a72_fetch(state: StateWords, va: u64, ans: *mut u64, base: u64, ram: *const u8, n: usize) -> u64;
-    fn a72_system(
-        state: StateWords,
-        op1: u64,
-        crn: u64,
-        crm: u64,
-        op2: u64,
-        rt: u64,
-        ans: *mut u64,
-        base: u64,
-        ram: *mut u8,
-        n: usize,
-    ) -> u64;
-    fn a72_register(state: StateWords, key: u64, value: u64) -> u64;
-    fn a72_level(state: StateWords, level: u64) -> u64;
-    fn a72_mark(state: StateWords, mark: u64) -> u64;
-    fn a72_general(state: StateWords, number: u64, value: u64) -> u64;
-    fn a72_abort(state: StateWords, e: *const [u64; 4]) -> u64;
-}
+use crate::{place, Core, Ram, State};
 
 /// A state's words and the window lent with them, as the functions take them. Sound throughout: each pointer is that
 /// of an array or a slice, with its own length, and the exclusive borrows keep them apart.
 pub struct Lent<'a> {
-    pub words: &'a mut [u64; STATE],
+    pub words: &'a mut place::State,
     pub base: u64,
     pub ram: &'a mut [u8],
 }
