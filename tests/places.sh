@@ -25,7 +25,7 @@ one() {
             if (!wrong && same < n) { split(of[same + 1], want); print kind " " want[1] ": not in " b; wrong = 1 }
             if (!wrong && n == 0) { print kind ": " a " has none"; wrong = 1 }
             exit wrong
-        }' "$work/$2" "$work/$3"
+        }' "$work/$2" "$work/$3" || return 1
     lines=$((lines + $(wc -l <"$work/$2")))
 }
 table() { mkdir -p "$work/$(dirname "$1")" && cat >"$work/$1"; }
@@ -40,7 +40,7 @@ awk '/^#define A72_(WORDS|PLACE_[A-Z0-9_]+) [0-9]+/ { sub(/^A72_(PLACE_)?/, "", 
 for other in crates/words/specs/Places.antt $header bindings/rust/src/place.rs; do one place crates/words/src/place.rt "$other"; done
 
 # A table with one number changed is noticed, and the place is named.
-sed 's/^LEVEL 68$/LEVEL 69/' "$work/bindings/rust/src/place.rs" | table wrong
+sed 's/^LEVEL .*/LEVEL 0/' "$work/bindings/rust/src/place.rs" | table wrong
 said=$(one place crates/words/src/place.rt wrong) && { echo "places.sh: a changed number is not noticed"; exit 1; }
 case $said in 'place LEVEL: '*) ;; *) echo "places.sh: of a changed number it says: $said"; exit 1 ;; esac
 

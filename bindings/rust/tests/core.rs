@@ -278,6 +278,16 @@ fn refusals_change_nothing() {
     assert_eq!(core.take(&Exception::Undefined), refused(Check::Level));
 }
 
+/// The mark is the word 1, and no other, as the library reads it.
+#[test]
+fn a_mark_is_one() {
+    let mut core = Core::new();
+    for (word, marked) in [(0, false), (1, true), (2, false), (u64::MAX, false)] {
+        core.words_mut()[place::UNPRIVILEGED] = word;
+        assert_eq!(core.unprivileged(), marked);
+    }
+}
+
 #[test]
 fn a_window_may_end_at_the_last_address() {
     let mut few = [0x5A; 16];

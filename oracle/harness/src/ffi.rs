@@ -6,8 +6,8 @@
 //! gives ([`crate::number`]) and where a state's words hold what ([`crate::place`]). What an operation means is document
 //! 01's: the Rust function of that name. `a72_fresh` makes the state that `Cpu::new` makes.
 //!
-//! [`CCore`] runs by `a72_fresh` and `a72_step`; `ffi/each.rs`, with the feature `rattle`, by the function for each
-//! operation. Without the feature the model stands behind these two functions.
+//! [`CCore`] runs by `a72_fresh` and `a72_step`, or, with the feature `rattle`, by the function for each operation
+//! (`ffi/each.rs`). Without the feature the model stands behind these two functions.
 //!
 //! # An operation: 8 words
 //!
@@ -119,15 +119,42 @@ pub fn fresh() -> Words {
     words
 }
 
-/// The core behind the C boundary, by `a72_step`.
+/// One operation of document 01's list on a state's words.
+type Step = fn(&mut Words, &Op, &mut Ram) -> Ans;
+
+/// By `a72_step`.
+fn step(words: &mut Words, op: &Op, ram: &mut Ram) -> Ans {
+    let (at, len) = (ram.bytes.lent(op.may_write_ram()), ram.bytes.len());
+    let op = encode(&Line::Op(*op));
+    let mut ans = [UNWRITTEN; 4];
+    // Sound: each pointer is that of an array or a vector, with its own length, and no two overlap.
+    let code = unsafe { a72_step(&op, &mut **words, ram.base, at, len, &mut ans) };
+    match code {
+        number::DONE => decode_answer(&ans),
+        _ => Ans::Panic,
+    }
+}
+
+/// The core behind the C boundary.
 #[derive(Clone)]
 pub struct CCore {
     words: Words,
+    step: Step,
 }
 
 impl CCore {
+    /// By `a72_step`.
     pub fn new() -> CCore {
-        CCore { words: fresh() }
+        CCore { words: fresh(), step }
+    }
+
+    /// By the function for each operation.
+    #[cfg(feature = "rattle")]
+    pub fn by_each() -> CCore {
+        CCore {
+            words: fresh(),
+            step: each::step,
+        }
     }
 }
 
@@ -148,16 +175,9 @@ impl Core for CCore {
 
     fn step(&mut self, op: &Op, ram: &mut Ram) -> Ans {
         if op.is_poke() {
-            return poke::poke(&mut self.words, op);
-        }
-        let (at, len) = (ram.bytes.lent(op.may_write_ram()), ram.bytes.len());
-        let op = encode(&Line::Op(*op));
-        let mut ans = [UNWRITTEN; 4];
-        // Sound: each pointer is that of an array or a vector, with its own length, and no two overlap.
-        let code = unsafe { a72_step(&op, &mut *self.words, ram.base, at, len, &mut ans) };
-        match code {
-            number::DONE => decode_answer(&ans),
-            _ => Ans::Panic,
+            poke::poke(&mut self.words, op)
+        } else {
+            (self.step)(&mut self.words, op, ram)
         }
     }
 

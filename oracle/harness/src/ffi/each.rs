@@ -1,13 +1,12 @@
-//! The library's function for each operation, with the feature `rattle`; and a core that runs by them alone.
+//! The library's function for each operation, with the feature `rattle`.
 //!
-//! Each gives one of the numbers in [`super`]. `ans` takes the value, or the address of a data abort; where there is
+//! Each gives one of the numbers in [`crate::number`]. `ans` takes the value, or the address of a data abort; where there is
 //! neither it stays as it was.
-use super::{boxed, exception, fresh, poke, state_of, Words, UNWRITTEN};
+use super::{exception, Words, UNWRITTEN};
 use crate::library::*;
 use crate::number::{status, DONE, LAST_CHECK, UNDEFINED, UNIMPLEMENTED};
 use crate::op::{Ans, Op};
-use crate::rust::RustCore;
-use crate::{place, Core, Ram, State};
+use crate::{place, Ram};
 
 /// A state's words and the window lent with them, as the functions take them. Sound throughout: each pointer is that
 /// of an array or a slice, with its own length, and the exclusive borrows keep them apart.
@@ -118,82 +117,35 @@ fn other(n: u64) -> Ans {
     }
 }
 
-/// The core behind the C boundary, by its function for each operation.
-#[derive(Clone)]
-pub struct EachCore {
-    words: Words,
-}
-
-impl EachCore {
-    pub fn new() -> EachCore {
-        EachCore { words: fresh() }
-    }
-}
-
-impl Default for EachCore {
-    fn default() -> EachCore {
-        EachCore::new()
-    }
-}
-
-impl Core for EachCore {
-    fn reset(&mut self) {
-        self.words = fresh();
-    }
-
-    fn has(&self, op: &Op) -> bool {
-        !op.is_leaf()
-    }
-
-    fn step(&mut self, op: &Op, ram: &mut Ram) -> Ans {
-        use Op::*;
-        let (at, len) = (ram.bytes.lent(op.may_write_ram()), ram.bytes.len());
-        let mut lent = Lent {
-            words: &mut self.words,
-            base: ram.base,
-            // Sound: the window's bytes, which `ram` lends. Where they are sealed nobody here writes them.
-            ram: unsafe { std::slice::from_raw_parts_mut(at, len) },
-        };
-        let quiet = |n| done(n, UNWRITTEN);
-        let mut ans = UNWRITTEN;
-        let a = &mut ans;
-        match *op {
-            Translate(k, va) => value(lent.translate(va, k.into(), a), *a, |s| Ans::Fault(va, s)),
-            DataPa(va) => value(lent.data_pa(va, a), *a, |_| Ans::None),
-            FetchPa(va) => value(lent.fetch_pa(va, a), *a, |_| Ans::None),
-            Load(va, size) => value(lent.load(va, size.into(), a), *a, |s| Ans::Data(*a, false, s)),
-            Store(va, size, v) => write(lent.store(va, size.into(), v, a), *a),
-            Fetch(va) => value(lent.fetch(va, a), *a, |s| Ans::Insn(va, s)),
-            Sys(op1, crn, crm, op2, rt) => {
-                let fields = [op1, crn, crm, op2, rt].map(u64::from);
-                write(lent.system(fields, a), *a)
-            }
-            Reg(k, v) => quiet(lent.register(k.into(), v)),
-            Level(l) => quiet(lent.level(l.into())),
-            Mark(m) => quiet(lent.mark(m.into())),
-            SetX(r, v) => quiet(lent.general(r.into(), v)),
-            Abort(e) => quiet(lent.abort(&exception(&e))),
-            _ => poke::poke(&mut self.words, op),
+/// One operation of document 01's list, by its function.
+pub(super) fn step(words: &mut Words, op: &Op, ram: &mut Ram) -> Ans {
+    use Op::*;
+    let (at, len) = (ram.bytes.lent(op.may_write_ram()), ram.bytes.len());
+    let mut lent = Lent {
+        words,
+        base: ram.base,
+        // Sound: the window's bytes, which `ram` lends. Where they are sealed nobody here writes them.
+        ram: unsafe { std::slice::from_raw_parts_mut(at, len) },
+    };
+    let quiet = |n| done(n, UNWRITTEN);
+    let mut ans = UNWRITTEN;
+    let a = &mut ans;
+    match *op {
+        Translate(k, va) => value(lent.translate(va, k.into(), a), *a, |s| Ans::Fault(va, s)),
+        DataPa(va) => value(lent.data_pa(va, a), *a, |_| Ans::None),
+        FetchPa(va) => value(lent.fetch_pa(va, a), *a, |_| Ans::None),
+        Load(va, size) => value(lent.load(va, size.into(), a), *a, |s| Ans::Data(*a, false, s)),
+        Store(va, size, v) => write(lent.store(va, size.into(), v, a), *a),
+        Fetch(va) => value(lent.fetch(va, a), *a, |s| Ans::Insn(va, s)),
+        Sys(op1, crn, crm, op2, rt) => {
+            let fields = [op1, crn, crm, op2, rt].map(u64::from);
+            write(lent.system(fields, a), *a)
         }
-    }
-
-    fn state(&self) -> State {
-        state_of(&self.words[..])
-    }
-
-    fn seals(&self) -> bool {
-        true
-    }
-
-    fn holds(&self, rust: &RustCore) -> bool {
-        rust.is_held_by(&self.words)
-    }
-
-    fn load(&mut self, state: &State) {
-        self.words = boxed(state);
-    }
-
-    fn copy(&self) -> Box<dyn Core> {
-        Box::new(self.clone())
+        Reg(k, v) => quiet(lent.register(k.into(), v)),
+        Level(l) => quiet(lent.level(l.into())),
+        Mark(m) => quiet(lent.mark(m.into())),
+        SetX(r, v) => quiet(lent.general(r.into(), v)),
+        Abort(e) => quiet(lent.abort(&exception(&e))),
+        _ => unreachable!("{op} is none of the list"),
     }
 }
