@@ -1,7 +1,7 @@
 #!/bin/sh
-# bindings/c/example.c over include/a72.h: it compiles without a warning, as C++ too, and with the library it writes what bindings/c/example.out has.
-# Wants a C compiler (CC, or cc, gcc, clang, or the kit's, where it finds the C library's headers) and target/staticlib/liba72abi.a (rt staticlib a72abi; A72_LIB
-# names another folder). What lacks one of them is left out, and said to be.
+# include/a72.h from C: bindings/c/example.c writes what bindings/c/example.out has, and tests/readers.c reads what it set. Both compile without a
+# warning, as C++ too. Wants a C compiler (CC, or cc, gcc, clang, or the kit's where it finds the C library's headers) and target/staticlib/liba72abi.a
+# (rt staticlib a72abi; A72_LIB names another folder). What lacks one of them is left out, and said to be.
 set -eu
 cd "$(dirname "$0")/.."
 library=${A72_LIB:-target/staticlib}/liba72abi.a
@@ -26,12 +26,15 @@ cc=$(compiler c "${CC-}" cc gcc clang /opt/rattle/on/x86_64/toolchain/bin/clang)
 cxx=$(compiler c++ "${CXX-}" c++ g++ clang++)
 
 # shellcheck disable=SC2086
-{
-    "$cc" -std=c99 $strict -c bindings/c/example.c -o "$work/example.o"
-    [ -z "$cxx" ] || "$cxx" -x c++ -std=c++11 $strict -fsyntax-only bindings/c/example.c
-}
+for name in bindings/c/example tests/readers; do
+    "$cc" -std=c99 $strict -c "$name.c" -o "$work/$(basename "$name").o"
+    [ -z "$cxx" ] || "$cxx" -x c++ -std=c++11 $strict -fsyntax-only "$name.c"
+done
 [ -f "$library" ] || { echo "compiled; the run is left out: $library is missing, and rt staticlib a72abi makes it"; exit 0; }
-"$cc" "$work/example.o" "$library" -o "$work/example"
+for name in example readers; do
+    "$cc" "$work/$name.o" "$library" -o "$work/$name"
+done
 "$work/example" >"$work/out"
 diff bindings/c/example.out "$work/out"
-echo "the example compiles and writes what is expected${cxx:+; it is C++ too}"
+said=$("$work/readers") || { echo "$said"; exit 1; }
+echo "the example compiles${cxx:+, as C++ too,} and writes what is expected; $said"
