@@ -103,14 +103,10 @@ typedef uint64_t a72_state[A72_WORDS];
 #define A72_UNIMPLEMENTED 66
 #define A72_FAULT 256 /* plus the status: eight bits, as DFSC, IFSC and PAR_EL1.FST have it */
 
-static inline int a72_is_fault(uint64_t number) {
-    return A72_FAULT <= number && number <= A72_FAULT + 255;
-}
+static inline int a72_is_fault(uint64_t number) { return A72_FAULT <= number && number <= A72_FAULT + 255; }
 
 /* The status of a fault. */
-static inline uint8_t a72_status(uint64_t number) {
-    return (uint8_t)(number - A72_FAULT);
-}
+static inline uint8_t a72_status(uint64_t number) { return (uint8_t)(number - A72_FAULT); }
 
 /* ---- Words that the functions take ---- */
 
@@ -255,44 +251,25 @@ uint64_t a72_step(const uint64_t op[8], uint64_t state[A72_WORDS], uint64_t base
 /* ---- Readers ---- */
 
 /* The present level. */
-static inline uint64_t a72_get_level(const uint64_t state[A72_WORDS]) {
-    return state[A72_PLACE_LEVEL];
-}
+static inline uint64_t a72_get_level(const uint64_t state[A72_WORDS]) { return state[A72_PLACE_LEVEL]; }
 
 /* Whether accesses are marked unprivileged. */
-static inline int a72_get_unprivileged(const uint64_t state[A72_WORDS]) {
-    return state[A72_PLACE_UNPRIVILEGED] == 1;
-}
+static inline int a72_get_unprivileged(const uint64_t state[A72_WORDS]) { return state[A72_PLACE_UNPRIVILEGED] == 1; }
 
 /* X0 to X30; all others are zero. */
 static inline uint64_t a72_get_general(const uint64_t state[A72_WORDS], uint64_t number) {
     return number < 31 ? state[A72_PLACE_GENERAL + number] : 0;
 }
 
-static inline uint64_t a72_get_pc(const uint64_t state[A72_WORDS]) {
-    return state[A72_PLACE_PC];
-}
+static inline uint64_t a72_get_pc(const uint64_t state[A72_WORDS]) { return state[A72_PLACE_PC]; }
 
 /* An exception that is taken saves the PC. */
-static inline void a72_set_pc(uint64_t state[A72_WORDS], uint64_t pc) {
-    state[A72_PLACE_PC] = pc;
-}
+static inline void a72_set_pc(uint64_t state[A72_WORDS], uint64_t pc) { state[A72_PLACE_PC] = pc; }
 
-static inline uint64_t a72_get_par_el1(const uint64_t state[A72_WORDS]) {
-    return state[A72_PLACE_PAR_EL1];
-}
-
-static inline uint64_t a72_get_ttbr1_el1(const uint64_t state[A72_WORDS]) {
-    return state[A72_PLACE_TTBR1_EL1];
-}
-
-static inline uint64_t a72_get_scr_el3(const uint64_t state[A72_WORDS]) {
-    return state[A72_PLACE_SCR_EL3];
-}
-
-static inline uint64_t a72_get_hcr_el2(const uint64_t state[A72_WORDS]) {
-    return state[A72_PLACE_HCR_EL2];
-}
+static inline uint64_t a72_get_par_el1(const uint64_t state[A72_WORDS]) { return state[A72_PLACE_PAR_EL1]; }
+static inline uint64_t a72_get_ttbr1_el1(const uint64_t state[A72_WORDS]) { return state[A72_PLACE_TTBR1_EL1]; }
+static inline uint64_t a72_get_scr_el3(const uint64_t state[A72_WORDS]) { return state[A72_PLACE_SCR_EL3]; }
+static inline uint64_t a72_get_hcr_el2(const uint64_t state[A72_WORDS]) { return state[A72_PLACE_HCR_EL2]; }
 
 /* A register of EL1, EL2 or EL3, by the place of the first; zero for any other level. */
 static inline uint64_t a72_get_by_level(const uint64_t state[A72_WORDS], size_t place, uint64_t level) {
@@ -336,14 +313,10 @@ static inline uint64_t a72_get_far(const uint64_t state[A72_WORDS], uint64_t lev
 }
 
 /* The physical address of the last load that was translated. */
-static inline uint64_t a72_get_last_pa(const uint64_t state[A72_WORDS]) {
-    return state[A72_PLACE_LAST_PA];
-}
+static inline uint64_t a72_get_last_pa(const uint64_t state[A72_WORDS]) { return state[A72_PLACE_LAST_PA]; }
 
 /* The physical address of the last external abort: of a load or store with status 0x10, a device's address. */
-static inline uint64_t a72_get_abort_pa(const uint64_t state[A72_WORDS]) {
-    return state[A72_PLACE_ABORT_PA];
-}
+static inline uint64_t a72_get_abort_pa(const uint64_t state[A72_WORDS]) { return state[A72_PLACE_ABORT_PA]; }
 
 struct a72_counters {
     uint64_t hits;    /* translations that an entry of the cache answered */
@@ -395,9 +368,7 @@ static inline uint32_t a72_get_generation(const uint64_t state[A72_WORDS]) {
 }
 
 /* The ASID in force. */
-static inline uint16_t a72_get_asid(const uint64_t state[A72_WORDS]) {
-    return (uint16_t)state[A72_PLACE_ASID];
-}
+static inline uint16_t a72_get_asid(const uint64_t state[A72_WORDS]) { return (uint16_t)state[A72_PLACE_ASID]; }
 
 /* An entry of the cache. It stands in slot page number % A72_ENTRIES. */
 struct a72_entry {
