@@ -1,6 +1,6 @@
 //! What stops an operation.
+use crate::number::{status, UNDEFINED, UNIMPLEMENTED};
 use crate::operation::{Access, Exception, Status};
-use crate::raw::number::{FAULT, LAST_FAULT, UNDEFINED, UNIMPLEMENTED};
 use std::fmt::{self, Display, Formatter};
 
 /// A check that a call missed. The call changed nothing.
@@ -86,14 +86,16 @@ impl Stop {
     /// By the library's number, which is not 0. `access` and `address` are those of a fault.
     #[cold]
     pub(crate) fn of(number: u64, access: Access, address: u64) -> Stop {
+        if let Some(status) = status(number) {
+            return Stop::Fault(Fault {
+                access,
+                address,
+                status: Status(status),
+            });
+        }
         match number {
             UNDEFINED => Stop::Undefined,
             UNIMPLEMENTED => Stop::Unimplemented,
-            FAULT..=LAST_FAULT => Stop::Fault(Fault {
-                access,
-                address,
-                status: Status((number - FAULT) as u8),
-            }),
             _ => match Check::of(number) {
                 Some(check) => Stop::Refused(check),
                 None => unreachable!("the library gives no number {number} here"),

@@ -1,9 +1,10 @@
 //! The core: its state, and every operation as a method.
 use crate::answer::Stop;
+use crate::number::{DONE, FAULT};
 use crate::operation::{Access, Exception, SystemOperation, Width};
+use crate::place::{State, WORDS};
 use crate::ram::Ram;
-use crate::raw::number::{DONE, FAULT};
-use crate::raw::{self, State, WORDS};
+use crate::raw;
 
 /// One core: its registers, its cache of translations and their counters, in 5,205 words.
 #[derive(Clone, PartialEq, Eq)]
@@ -39,7 +40,7 @@ impl Core {
         Core { words }
     }
 
-    /// All that the core holds: a copy of the words is a copy of the core. `oracle/harness/src/ffi.rs` has the layout.
+    /// All that the core holds: a copy of the words is a copy of the core. [`crate::place`] has the layout.
     pub fn words(&self) -> &[u64; WORDS] {
         &self.words
     }

@@ -51,7 +51,13 @@
 #![warn(missing_docs)]
 mod answer;
 mod core;
+// `library`, `number` and `place` are the oracle's too, and it uses all of them.
+#[allow(dead_code)]
+mod library;
+#[allow(dead_code)]
+mod number;
 mod operation;
+pub mod place;
 mod ram;
 mod raw;
 pub mod registers;
@@ -60,6 +66,6 @@ mod view;
 pub use answer::{Check, Fault, Stop};
 pub use core::Core;
 pub use operation::{Access, Exception, Status, SystemOperation, Width};
+pub use place::WORDS;
 pub use ram::Ram;
-pub use raw::WORDS;
 pub use view::{Broadcast, Counters};

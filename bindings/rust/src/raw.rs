@@ -2,107 +2,8 @@
 //! one, and gives a number; the second number of a pair is what then stands in the answer's word.
 #![allow(unsafe_code)]
 
-/// The number of words of a core's state.
-pub const WORDS: usize = 5205;
-
-pub type State = [u64; WORDS];
-
-/// The numbers that the functions give, beside those of the checks: 1 to 63 ([`crate::Check`]). With any number from 1
-/// to 66 nothing is written.
-pub mod number {
-    /// The operation is done.
-    pub const DONE: u64 = 0;
-    /// A word names nothing: a kind of access, a mark, an exception or a part of one. The types of this crate let no
-    /// such word pass.
-    #[cfg(test)]
-    pub const NAMES_NOTHING: u64 = 64;
-    /// The operation is Undefined.
-    pub const UNDEFINED: u64 = 65;
-    /// The operation is Unimplemented.
-    pub const UNIMPLEMENTED: u64 = 66;
-    /// A fault: this plus its status.
-    pub const FAULT: u64 = 256;
-    /// A status has eight bits.
-    pub const LAST_FAULT: u64 = FAULT + 255;
-}
-
-mod library {
-    use super::State;
-
-    // An array is one pointer, RAM a pointer and its length.
-    extern "C" {
-        pub fn a72_fresh(state: *mut State);
-        pub fn a72_translate(
-            state: *mut State,
-            va: u64,
-            kind: u64,
-            ans: *mut u64,
-            base: u64,
-            ram: *const u8,
-            len: usize,
-        ) -> u64;
-        pub fn a72_data_pa(
-            state: *mut State,
-            va: u64,
-            ans: *mut u64,
-            base: u64,
-            ram: *const u8,
-            len: usize,
-        ) -> u64;
-        pub fn a72_fetch_pa(
-            state: *mut State,
-            va: u64,
-            ans: *mut u64,
-            base: u64,
-            ram: *const u8,
-            len: usize,
-        ) -> u64;
-        pub fn a72_load(
-            state: *mut State,
-            va: u64,
-            size: u64,
-            ans: *mut u64,
-            base: u64,
-            ram: *const u8,
-            len: usize,
-        ) -> u64;
-        pub fn a72_store(
-            state: *mut State,
-            va: u64,
-            size: u64,
-            value: u64,
-            ans: *mut u64,
-            base: u64,
-            ram: *mut u8,
-            len: usize,
-        ) -> u64;
-        pub fn a72_fetch(
-            state: *mut State,
-            va: u64,
-            ans: *mut u64,
-            base: u64,
-            ram: *const u8,
-            len: usize,
-        ) -> u64;
-        pub fn a72_system(
-            state: *mut State,
-            op1: u64,
-            crn: u64,
-            crm: u64,
-            op2: u64,
-            rt: u64,
-            ans: *mut u64,
-            base: u64,
-            ram: *mut u8,
-            len: usize,
-        ) -> u64;
-        pub fn a72_register(state: *mut State, key: u64, value: u64) -> u64;
-        pub fn a72_level(state: *mut State, level: u64) -> u64;
-        pub fn a72_mark(state: *mut State, mark: u64) -> u64;
-        pub fn a72_general(state: *mut State, number: u64, value: u64) -> u64;
-        pub fn a72_abort(state: *mut State, exception: *const [u64; 4]) -> u64;
-    }
-}
+use crate::library;
+use crate::place::State;
 
 // Why each call below is sound: the library reads and writes the array `state` points to, the bytes of `ram` up to the
 // length beside it, and the one word `ans`, and keeps no pointer. All three come from references that live through the
@@ -205,6 +106,8 @@ pub fn abort(state: &mut State, exception: &[u64; 4]) -> u64 {
 #[cfg(test)]
 mod tests {
     use super::*;
+    use crate::number::NAMES_NOTHING;
+    use crate::place::WORDS;
 
     #[test]
     fn fresh_writes_every_word() {
@@ -216,7 +119,6 @@ mod tests {
 
     #[test]
     fn what_names_nothing_is_refused() {
-        use number::NAMES_NOTHING;
         let mut state = vec![0; WORDS];
         let state: &mut State = state.as_mut_slice().try_into().unwrap();
         fresh(state);

@@ -1,15 +1,7 @@
 //! What a core holds, read from its words.
 use crate::core::Core;
+use crate::place;
 use crate::registers;
-
-const PC: usize = 33;
-const GENERAL: usize = 37;
-const LEVEL: usize = 68;
-const MARK: usize = 69;
-const COUNTERS: usize = 70;
-const BROADCAST: usize = 75;
-const LAST_PA: usize = 77;
-const ABORT_PA: usize = 78;
 
 /// The cache's counters.
 #[derive(Clone, Copy, Debug, PartialEq, Eq)]
@@ -31,7 +23,7 @@ pub struct Counters {
 pub enum Broadcast {
     /// Forget everything.
     All,
-    /// Forget this page, by its number.
+    /// Forget this page: the TLBI's register as it was, the page's number in bits 43 to 0.
     Page(u64),
     /// Forget what is not global and of this ASID.
     Asid(u16),
@@ -40,69 +32,69 @@ pub enum Broadcast {
 impl Core {
     /// A system register by its key ([`registers`]); `None` for a key of no register kept.
     pub fn register(&self, key: u64) -> Option<u64> {
-        registers::place(key).map(|place| self.words[place])
+        registers::place(key).map(|at| self.words[at])
     }
 
     /// The present exception level.
     pub fn level(&self) -> u64 {
-        self.words[LEVEL]
+        self.words[place::LEVEL]
     }
 
     /// Whether accesses are marked unprivileged.
     pub fn unprivileged(&self) -> bool {
-        self.words[MARK] != 0
+        self.words[place::UNPRIVILEGED] == 1
     }
 
     /// A general register, X0 to X30; all others are zero.
     pub fn general(&self, number: usize) -> u64 {
         match number {
-            0..=30 => self.words[GENERAL + number],
+            0..=30 => self.words[place::GENERAL + number],
             _ => 0,
         }
     }
 
     /// The PC.
     pub fn pc(&self) -> u64 {
-        self.words[PC]
+        self.words[place::PC]
     }
 
     /// Set the PC: an exception that is taken saves it.
     pub fn set_pc(&mut self, pc: u64) {
-        self.words[PC] = pc;
+        self.words[place::PC] = pc;
     }
 
     /// The cache's counters.
     pub fn counters(&self) -> Counters {
-        let at = |i| self.words[COUNTERS + i];
         Counters {
-            hits: at(0),
-            walks: at(1),
-            flushes: at(2),
-            drops: at(3),
-            epoch: at(4),
+            hits: self.words[place::HITS],
+            walks: self.words[place::WALKS],
+            flushes: self.words[place::FLUSHES],
+            drops: self.words[place::DROPS],
+            epoch: self.words[place::EPOCH],
         }
     }
 
     /// The physical address of the last load that was translated.
     pub fn last_pa(&self) -> u64 {
-        self.words[LAST_PA]
+        self.words[place::LAST_PA]
     }
 
     /// The physical address of the last external abort.
     pub fn abort_pa(&self) -> u64 {
-        self.words[ABORT_PA]
+        self.words[place::ABORT_PA]
     }
 
     /// What the other cores are to forget; afterwards nothing is pending.
     pub fn take_broadcast(&mut self) -> Option<Broadcast> {
-        let value = self.words[BROADCAST + 1];
-        let pending = match self.words[BROADCAST] {
+        let value = self.words[place::PENDING_VALUE];
+        let pending = match self.words[place::PENDING] {
             1 => Some(Broadcast::All),
             2 => Some(Broadcast::Page(value)),
             3 => Some(Broadcast::Asid(value as u16)),
             _ => None,
         };
-        self.words[BROADCAST..BROADCAST + 2].fill(0);
+        self.words[place::PENDING] = 0;
+        self.words[place::PENDING_VALUE] = 0;
         pending
     }
 }

@@ -1,7 +1,7 @@
 //! Every operation, its answers and its refusals.
 use a72::{
-    registers, Access, Broadcast, Check, Core, Exception, Fault, Ram, Status, Stop, SystemOperation, Width,
-    WORDS,
+    place, registers, Access, Broadcast, Check, Core, Exception, Fault, Ram, Status, Stop, SystemOperation,
+    Width, WORDS,
 };
 
 const BASE: u64 = 0x4000_0000;
@@ -269,13 +269,23 @@ fn refusals_change_nothing() {
     assert!(core == before);
     assert_eq!(Check::Key.number(), 6);
     // A level above 3, which only the words can set, refuses everything.
-    core.words_mut()[68] = 4;
+    core.words_mut()[place::LEVEL] = 4;
     assert_eq!(
         core.translate(&ram, 0x1000, Access::Read).map(drop),
         refused(Check::Level)
     );
     assert_eq!(core.set_unprivileged(true), refused(Check::Level));
     assert_eq!(core.take(&Exception::Undefined), refused(Check::Level));
+}
+
+/// The mark is the word 1, and no other, as the library reads it.
+#[test]
+fn a_mark_is_one() {
+    let mut core = Core::new();
+    for (word, marked) in [(0, false), (1, true), (2, false), (u64::MAX, false)] {
+        core.words_mut()[place::UNPRIVILEGED] = word;
+        assert_eq!(core.unprivileged(), marked);
+    }
 }
 
 #[test]

@@ -122,7 +122,7 @@ impl Args {
 
     #[cfg(feature = "rattle")]
     fn each(&self) -> Box<dyn Core> {
-        Box::new(crate::ffi::each::EachCore::new())
+        Box::new(CCore::by_each())
     }
 
     #[cfg(not(feature = "rattle"))]

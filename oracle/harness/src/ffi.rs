@@ -2,36 +2,12 @@
 //!
 //! # The functions
 //!
-//! A core is a static library that exports (an array of a fixed length is one pointer; `ram` is a pointer followed by
-//! its length in bytes):
+//! A core is a static library that exports the functions of `include/a72.h`, which says what each does, which number it
+//! gives ([`crate::number`]) and where a state's words hold what ([`crate::place`]). What an operation means is document
+//! 01's: the Rust function of that name. `a72_fresh` makes the state that `Cpu::new` makes.
 //!
-//! ```c
-//! void a72_fresh(uint64_t state[5205]);
-//! uint64_t a72_step(const uint64_t op[8], uint64_t state[5205], uint64_t base, uint8_t *ram, size_t ram_bytes,
-//!                   uint64_t ans[4]);
-//! ```
-//!
-//! In Rattle: `a72_fresh(state: &mut [u64; 5205])` and `a72_step(op: &[u64; 8], state: &mut [u64; 5205], base: u64,
-//! ram: &mut [u8], ans: &mut [u64; 4]) -> u64`, both `#[no_mangle] pub extern "C"`. The whole core is in the state's
-//! words: a caller may copy them and go on from the copy. `a72_fresh` writes every word: the state that `Cpu::new`
-//! makes. `a72_step` carries out one operation on the state and the lent window (`base`, `ram`); its meaning is
-//! document 01's (the Rust function of that name).
-//!
-//! It gives 0, and then all four words of `ans` are written (an operation that is refused answers its number and
-//! changes nothing), or 64. The library also exports a function for each operation: `ffi/each.rs`, with the feature
-//! `rattle`.
-//!
-//! # The number that a function gives
-//!
-//! | Number | Where |
-//! |---|---|
-//! | 0 | the operation is done |
-//! | 1 to 63 | the number of the first check that the call misses; document 01 has 1 to 6 |
-//! | 64 | a word names nothing: the code, a kind, a mark, an exception or a part of one |
-//! | 65, 66 | the operation is Undefined, Unimplemented |
-//! | 256 + status | it ends in a fault |
-//!
-//! With a number from 1 to 66 nothing is written. They are the constants of [`number`].
+//! [`CCore`] runs by `a72_fresh` and `a72_step`, or, with the feature `rattle`, by the function for each operation
+//! (`ffi/each.rs`). Without the feature the model stands behind these two functions.
 //!
 //! # An operation: 8 words
 //!
@@ -95,38 +71,15 @@
 //! ok. `l-bank` numbers the registers SCTLR 0, TCR, TTBR0, TTBR1, MAIR, VBAR, ELR, SPSR, ESR, FAR, SCR, HCR, VPIDR,
 //! VMPIDR 13. `l-syn` without a FAR gives a value, the ESR.
 //!
-//! # A state: 5205 words
+//! # A state
 //!
-//! | Words | Hold |
-//! |---|---|
-//! | 0 to 33 | registers, see below |
-//! | 34 to 36 | NZCV (bits 31 to 28), DAIF (bits 9 to 6), SPSel |
-//! | 37 to 67 | X0 to X30 |
-//! | 68, 69 | level, `unprivileged` mark |
-//! | 70 to 74 | hits, walks, flushes, drops, epoch |
-//! | 75, 76 | pending broadcast: 0 none, 1 All, 2 Page, 3 Asid; its value (0 for none and All) |
-//! | 77, 78 | last_pa, abort_pa |
-//! | 79, 80 | generation, the cache's ASID |
-//! | 81 to 84 | fetch hint: 1 or 0 (none), page address, level, physical page address |
-//! | 85 to 1108 | 512 data hints, two words each: key, physical page address |
-//! | 1109 to 5204 | 1024 entries, four words each: tag, generation, bits, physical page address |
-//!
-//! Registers: SCTLR (0 to 2), TCR (3 to 5), TTBR0 (6 to 8), each for EL1, EL2, EL3; TTBR1_EL1 (9); MAIR (10 to 12),
-//! VBAR (13 to 15), ELR (16 to 18), SPSR (19 to 21), ESR (22 to 24), FAR (25 to 27), each for EL1, EL2, EL3; SCR_EL3
-//! (28), HCR_EL2 (29), VPIDR_EL2 (30), VMPIDR_EL2 (31), PAR_EL1 (32), PC (33): [`crate::state::REGS`].
-//!
-//! A data hint's slot is `(kind - 1) * 256 + (p ^ p >> 5 ^ p >> 10) % 256` for kind 1 (read) or 2 (write) and raw page
-//! number p; its key is the page address plus the level, and all ones where there is no hint. An entry's slot is the
-//! untagged page number % 1024; its tag is that page number * 4 + regime, and 0 where it was dropped; its bits are
-//! permissions + level << 8 + global << 16 + ASID << 32, the permissions read 1, write 2, fetch 4 for EL0 and eight
-//! times that for the regime's own level.
+//! [`crate::place`] has its words, and `include/a72.h` the slots, tags and keys of entries and hints.
 //!
 //! An entry is live where its tag is not 0 and its generation is the present one. One of a later generation, which only
 //! a wild core has, is compared too: it would be live once that generation comes. What stands in other entries and
 //! behind the keys and flags that say 'none' is free.
 #[cfg(feature = "rattle")]
 pub mod each;
-pub mod number;
 mod poke;
 mod state;
 mod words;
@@ -134,25 +87,16 @@ mod words;
 #[cfg(not(feature = "rattle"))]
 mod stand_in;
 
+use crate::number;
 use crate::op::{Ans, Line, Op};
+use crate::place::{self, WORDS};
 use crate::rust::RustCore;
 use crate::{Core, Ram, State};
-pub use state::{state_of, words_of, BROADCAST, COUNT, ENTRIES, FETCH, HINTS, STATE};
+pub use state::{state_of, words_of, ENTRY_WORDS, HINT_WORDS};
 pub use words::{decode, decode_answer, encode, encode_answer, exception};
 
 #[cfg(feature = "rattle")]
-extern "C" {
-    fn a72_fresh(state: *mut [u64; STATE]);
-    fn a72_step(
-        op: *const [u64; 8],
-        state: *mut [u64; STATE],
-        base: u64,
-        ram: *mut u8,
-        ram_bytes: usize,
-        ans: *mut [u64; 4],
-    ) -> u64;
-}
-
+use crate::library::{a72_fresh, a72_step};
 #[cfg(not(feature = "rattle"))]
 use stand_in::{a72_fresh, a72_step};
 
@@ -160,7 +104,7 @@ use stand_in::{a72_fresh, a72_step};
 const UNWRITTEN: u64 = 0xA5A5_A5A5_A5A5_A5A5;
 
 /// A state's words.
-pub type Words = Box<[u64; STATE]>;
+pub type Words = Box<place::State>;
 
 /// The words of a state, in a box.
 pub fn boxed(state: &State) -> Words {
@@ -169,21 +113,48 @@ pub fn boxed(state: &State) -> Words {
 
 /// The words that `a72_fresh` writes.
 pub fn fresh() -> Words {
-    let mut words: Words = vec![UNWRITTEN; STATE].try_into().expect("as many words");
+    let mut words: Words = vec![UNWRITTEN; WORDS].try_into().expect("as many words");
     // Sound: the pointer is that of an array of this length, which nobody else uses.
     unsafe { a72_fresh(&mut *words) };
     words
 }
 
-/// The core behind the C boundary, by `a72_step`.
+/// One operation of document 01's list on a state's words.
+type Step = fn(&mut Words, &Op, &mut Ram) -> Ans;
+
+/// By `a72_step`.
+fn step(words: &mut Words, op: &Op, ram: &mut Ram) -> Ans {
+    let (at, len) = (ram.bytes.lent(op.may_write_ram()), ram.bytes.len());
+    let op = encode(&Line::Op(*op));
+    let mut ans = [UNWRITTEN; 4];
+    // Sound: each pointer is that of an array or a vector, with its own length, and no two overlap.
+    let code = unsafe { a72_step(&op, &mut **words, ram.base, at, len, &mut ans) };
+    match code {
+        number::DONE => decode_answer(&ans),
+        _ => Ans::Panic,
+    }
+}
+
+/// The core behind the C boundary.
 #[derive(Clone)]
 pub struct CCore {
     words: Words,
+    step: Step,
 }
 
 impl CCore {
+    /// By `a72_step`.
     pub fn new() -> CCore {
-        CCore { words: fresh() }
+        CCore { words: fresh(), step }
+    }
+
+    /// By the function for each operation.
+    #[cfg(feature = "rattle")]
+    pub fn by_each() -> CCore {
+        CCore {
+            words: fresh(),
+            step: each::step,
+        }
     }
 }
 
@@ -204,16 +175,9 @@ impl Core for CCore {
 
     fn step(&mut self, op: &Op, ram: &mut Ram) -> Ans {
         if op.is_poke() {
-            return poke::poke(&mut self.words, op);
-        }
-        let (at, len) = (ram.bytes.lent(op.may_write_ram()), ram.bytes.len());
-        let op = encode(&Line::Op(*op));
-        let mut ans = [UNWRITTEN; 4];
-        // Sound: each pointer is that of an array or a vector, with its own length, and no two overlap.
-        let code = unsafe { a72_step(&op, &mut *self.words, ram.base, at, len, &mut ans) };
-        match code {
-            number::DONE => decode_answer(&ans),
-            _ => Ans::Panic,
+            poke::poke(&mut self.words, op)
+        } else {
+            (self.step)(&mut self.words, op, ram)
         }
     }
 

@@ -24,6 +24,16 @@ pub mod text;
 pub mod walk;
 pub mod wild;
 
+// The C boundary as the Rust crate declares it: the functions, the numbers that they give, the places of a state's words.
+#[cfg(any(feature = "rattle", feature = "walk"))]
+#[allow(dead_code)]
+#[path = "../../../bindings/rust/src/library.rs"]
+mod library;
+#[path = "../../../bindings/rust/src/number.rs"]
+pub mod number;
+#[path = "../../../bindings/rust/src/place.rs"]
+pub mod place;
+
 pub use op::{Ans, Line, Op};
 pub use ram::Ram;
 pub use refusal::refusal;

@@ -35,15 +35,15 @@ pub struct Entry {
     pub pa: u64,
 }
 
+/// The registers in the order of a state's words.
 pub const REGS: [&str; 34] = [
     "SCTLR1", "SCTLR2", "SCTLR3", "TCR1", "TCR2", "TCR3", "TTBR0_1", "TTBR0_2", "TTBR0_3", "TTBR1", "MAIR1",
     "MAIR2", "MAIR3", "VBAR1", "VBAR2", "VBAR3", "ELR1", "ELR2", "ELR3", "SPSR1", "SPSR2", "SPSR3", "ESR1",
     "ESR2", "ESR3", "FAR1", "FAR2", "FAR3", "SCR", "HCR", "VPIDR", "VMPIDR", "PAR", "PC",
 ];
 
-/// PAR's and PC's places in [`REGS`].
-pub const PAR: usize = 32;
-pub const PC: usize = 33;
+/// PAR's and PC's places in [`REGS`], which are those of a state's words.
+pub use crate::place::{PAR_EL1 as PAR, PC};
 
 #[derive(Clone, Debug, PartialEq, Eq)]
 pub struct State {

@@ -1,21 +1,10 @@
 //! A core whose walks are those of a static library's `a72_walk`, and all else the model's: to compare a walk alone.
-use crate::ffi::number::{self, DONE};
+use crate::library::a72_walk;
 use crate::model::DocCore;
+use crate::number::{self, DONE};
 use crate::op::{Ans, Op};
 use crate::state::REGS;
 use crate::{Core, Ram, State};
-
-extern "C" {
-    fn a72_walk(
-        bank: *const [u64; 6],
-        regime: u64,
-        va: u64,
-        leaf: *mut [u64; 5],
-        base: u64,
-        ram: *const u8,
-        ram_bytes: usize,
-    ) -> u64;
-}
 
 /// The model, with another walk behind `l-walk`.
 #[derive(Default)]

@@ -1,12 +1,13 @@
 //! Wild cores: parts of a core's state overwritten from outside, with values that no list of operations need
 //! ever reach. The same parts go into both cores of a comparison.
-use crate::ffi::{state_of, words_of, BROADCAST, COUNT, FETCH};
+use crate::ffi::{state_of, words_of};
+use crate::place;
 use crate::state::State;
 
 /// A part of a state. Written whole, so that what a core leaves in dead records cannot show.
 #[derive(Clone, Copy, Debug, PartialEq, Eq)]
 pub enum Part {
-    /// A word before the fetch hint, by its place in [`crate::ffi`]'s layout.
+    /// A word before the fetch hint, by its place ([`crate::place`]).
     Word(u16, u64),
     /// Slot, key, physical page.
     Hint(u16, u64, u64),
@@ -17,16 +18,16 @@ pub enum Part {
 }
 
 /// The bits of a word that a core can hold.
-fn fitting(place: usize, v: u64) -> u64 {
-    match place {
-        34 => v & 0xF000_0000,
-        35 => v & 0x3C0,
-        36 => v & 1,
-        p if p == COUNT => v & 0xFFFF_FFFF,
-        p if p == COUNT + 1 => v & 1,
-        p if p == BROADCAST => v & 3,
-        p if p == COUNT + 11 => v & 0xFFFF_FFFF,
-        p if p == COUNT + 12 => v & 0xFFFF,
+fn fitting(at: usize, v: u64) -> u64 {
+    match at {
+        place::NZCV => v & 0xF000_0000,
+        place::DAIF => v & 0x3C0,
+        place::SPSEL => v & 1,
+        place::LEVEL => v & 0xFFFF_FFFF,
+        place::UNPRIVILEGED => v & 1,
+        place::PENDING => v & 3,
+        place::GENERATION => v & 0xFFFF_FFFF,
+        place::ASID => v & 0xFFFF,
         _ => v,
     }
 }
@@ -34,7 +35,7 @@ fn fitting(place: usize, v: u64) -> u64 {
 impl State {
     pub fn put(&mut self, part: &Part) {
         match *part {
-            Part::Word(place, v) => self.put_word(usize::from(place), v),
+            Part::Word(at, v) => self.put_word(usize::from(at), v),
             Part::Hint(slot, key, pa) => {
                 self.hints.retain(|h| h.0 != slot % 512);
                 if key != u64::MAX {
@@ -44,7 +45,7 @@ impl State {
             }
             Part::Entry(slot, record) => {
                 let mut words = words_of(self);
-                let at = crate::ffi::ENTRIES + 4 * usize::from(slot % 1024);
+                let at = place::ENTRIES + 4 * usize::from(slot % 1024);
                 words[at..at + 4].copy_from_slice(&record);
                 *self = state_of(&words);
             }
@@ -53,13 +54,13 @@ impl State {
     }
 
     /// Live entries stay live where the generation is overwritten.
-    fn put_word(&mut self, place: usize, v: u64) {
-        if place >= FETCH {
+    fn put_word(&mut self, at: usize, v: u64) {
+        if at >= place::FETCH {
             return;
         }
         let mut words = words_of(self);
-        words[place] = fitting(place, v);
-        words[BROADCAST + 1] &= [0, 0, u64::MAX, 0xFFFF][words[BROADCAST] as usize];
+        words[at] = fitting(at, v);
+        words[place::PENDING_VALUE] &= [0, 0, u64::MAX, 0xFFFF][words[place::PENDING] as usize];
         let new = state_of(&words);
         self.ahead.retain(|(g, _)| *g > new.generation);
         *self = State {

@@ -8,7 +8,7 @@ use harness::model::{DocCore, Mistake};
 use harness::rust::{Rule, RustCore};
 use harness::shrink::shrink;
 use harness::tally::Tally;
-use harness::{feed, Core, Line, Ram};
+use harness::{feed, place, Core, Line, Ram};
 
 fn equal(other: &mut dyn Core, seed: u64, n: usize, style: Style) {
     if let Some(d) = compare(&trace(seed, n, style), other, |_| {}) {
@@ -39,18 +39,15 @@ fn words_are_judged_as_states_are() {
         feed(&line, &mut rust, &mut ram);
         let mut words = boxed(&rust.state());
         assert!(rust.is_held_by(&words));
-        let place = if r.percent(50) {
+        let at = if r.percent(50) {
             r.below(110)
         } else {
-            r.below(5205)
+            r.below(place::WORDS as u64)
         } as usize;
-        words[place] ^= 1 << r.below(64);
+        words[at] ^= 1 << r.below(64);
         // A word that is too large for its place is the largest there is in a state; in place it is a difference.
         let (is, by_state) = (rust.is_held_by(&words), rust.state() == state_of(&words[..]));
-        assert!(
-            is == by_state || !is && words[place] > u64::from(u32::MAX),
-            "{place}"
-        );
+        assert!(is == by_state || !is && words[at] > u64::from(u32::MAX), "{at}");
     }
 }
 

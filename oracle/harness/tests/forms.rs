@@ -1,6 +1,7 @@
 //! Text and words: what is written is read back.
-use harness::ffi::{decode, decode_answer, encode, encode_answer, state_of, words_of, STATE};
+use harness::ffi::{decode, decode_answer, encode, encode_answer, state_of, words_of};
 use harness::generate::{trace, Style};
+use harness::place::WORDS;
 use harness::rust::RustCore;
 use harness::{feed, Ans, Core, Line, Op, Ram};
 use pimu::aarch64::Exception;
@@ -107,7 +108,7 @@ fn states_come_back_as_words_and_in_the_rust() {
         feed(&line, &mut core, &mut ram);
         let state = core.state();
         let words = words_of(&state);
-        assert_eq!(words.len(), STATE);
+        assert_eq!(words.len(), WORDS);
         assert!(state_of(&words) == state, "{line}");
         copy.load(&state);
         assert!(copy.state() == state, "{line}");

@@ -2,14 +2,14 @@
 #![cfg(feature = "rattle")]
 use harness::bench::{cases, Pair, Side};
 use harness::compare::compare;
-use harness::ffi::each::EachCore;
+use harness::ffi::CCore;
 use harness::generate::{trace, Style};
 use harness::grid::{Ask, Grid};
 
 #[test]
 fn each_function_equals_the_rust() {
     for style in [Style::Full, Style::Strict, Style::Wild] {
-        if let Some(d) = compare(&trace(103, 3000, style), &mut EachCore::new(), |_| {}) {
+        if let Some(d) = compare(&trace(103, 3000, style), &mut CCore::by_each(), |_| {}) {
             panic!("line {}: {}", d.at + 1, d.report);
         }
     }
@@ -17,7 +17,7 @@ fn each_function_equals_the_rust() {
 
 #[test]
 fn every_walk_parameter() {
-    assert_eq!(Grid::new(&mut EachCore::new(), Ask::List).round(), Ok(()));
+    assert_eq!(Grid::new(&mut CCore::by_each(), Ask::List).round(), Ok(()));
 }
 
 #[test]

@@ -2,7 +2,7 @@
 //! before pimu's function. So both sides do the same work.
 use super::rust::Quick;
 use super::{ours::summed, repeat, Work, DONE, STORED};
-use crate::ffi::number::{FAULT, NAMES_NOTHING, UNDEFINED, UNIMPLEMENTED};
+use crate::number::{FAULT, NAMES_NOTHING, UNDEFINED, UNIMPLEMENTED};
 use crate::Ram;
 use pimu::aarch64::access::{self, Halt};
 use pimu::aarch64::{Cpu, Exception};

@@ -1,8 +1,8 @@
 //! The library's side: its function for each operation, on a state's words.
 use super::{fault, repeat, Work, DONE, STORED};
 use crate::ffi::each::Lent;
-use crate::ffi::number::FAULT;
 use crate::ffi::Words;
+use crate::number::FAULT;
 use crate::Ram;
 use std::hint::black_box;
 

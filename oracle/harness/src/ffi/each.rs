@@ -1,70 +1,17 @@
-//! The library's function for each operation, with the feature `rattle`; and a core that runs by them alone.
+//! The library's function for each operation, with the feature `rattle`.
 //!
-//! Each gives one of the numbers in [`super`]. `ans` takes the value, or the address of a data abort; where there is
+//! Each gives one of the numbers in [`crate::number`]. `ans` takes the value, or the address of a data abort; where there is
 //! neither it stays as it was.
-use super::number::{status, DONE, LAST_CHECK, UNDEFINED, UNIMPLEMENTED};
-use super::{boxed, exception, fresh, poke, state_of, Words, STATE, UNWRITTEN};
+use super::{exception, Words, UNWRITTEN};
+use crate::library::*;
+use crate::number::{status, DONE, LAST_CHECK, UNDEFINED, UNIMPLEMENTED};
 use crate::op::{Ans, Op};
-use crate::rust::RustCore;
-use crate::{Core, Ram, State};
-
-type StateWords = *mut [u64; STATE];
-
-extern "C" {
-    fn a72_translate(
-        state: StateWords,
-        va: u64,
-        kind: u64,
-        ans: *mut u64,
-        base: u64,
-        ram: *const u8,
-        n: usize,
-    ) -> u64;
-    fn a72_data_pa(state: StateWords, va: u64, ans: *mut u64, base: u64, ram: *const u8, n: usize) -> u64;
-    fn a72_fetch_pa(state: StateWords, va: u64, ans: *mut u64, base: u64, ram: *const u8, n: usize) -> u64;
-    fn a72_load(
-        state: StateWords,
-        va: u64,
-        size: u64,
-        ans: *mut u64,
-        base: u64,
-        ram: *const u8,
-        n: usize,
-    ) -> u64;
-    fn a72_store(
-        state: StateWords,
-        va: u64,
-        size: u64,
-        value: u64,
-        ans: *mut u64,
-        base: u64,
-        ram: *mut u8,
-        n: usize,
-    ) -> u64;
-    fn a72_fetch(state: StateWords, va: u64, ans: *mut u64, base: u64, ram: *const u8, n: usize) -> u64;
-    fn a72_system(
-        state: StateWords,
-        op1: u64,
-        crn: u64,
-        crm: u64,
-        op2: u64,
-        rt: u64,
-        ans: *mut u64,
-        base: u64,
-        ram: *mut u8,
-        n: usize,
-    ) -> u64;
-    fn a72_register(state: StateWords, key: u64, value: u64) -> u64;
-    fn a72_level(state: StateWords, level: u64) -> u64;
-    fn a72_mark(state: StateWords, mark: u64) -> u64;
-    fn a72_general(state: StateWords, number: u64, value: u64) -> u64;
-    fn a72_abort(state: StateWords, e: *const [u64; 4]) -> u64;
-}
+use crate::{place, Ram};
 
 /// A state's words and the window lent with them, as the functions take them. Sound throughout: each pointer is that
 /// of an array or a slice, with its own length, and the exclusive borrows keep them apart.
 pub struct Lent<'a> {
-    pub words: &'a mut [u64; STATE],
+    pub words: &'a mut place::State,
     pub base: u64,
     pub ram: &'a mut [u8],
 }
@@ -170,82 +117,35 @@ fn other(n: u64) -> Ans {
     }
 }
 
-/// The core behind the C boundary, by its function for each operation.
-#[derive(Clone)]
-pub struct EachCore {
-    words: Words,
-}
-
-impl EachCore {
-    pub fn new() -> EachCore {
-        EachCore { words: fresh() }
-    }
-}
-
-impl Default for EachCore {
-    fn default() -> EachCore {
-        EachCore::new()
-    }
-}
-
-impl Core for EachCore {
-    fn reset(&mut self) {
-        self.words = fresh();
-    }
-
-    fn has(&self, op: &Op) -> bool {
-        !op.is_leaf()
-    }
-
-    fn step(&mut self, op: &Op, ram: &mut Ram) -> Ans {
-        use Op::*;
-        let (at, len) = (ram.bytes.lent(op.may_write_ram()), ram.bytes.len());
-        let mut lent = Lent {
-            words: &mut self.words,
-            base: ram.base,
-            // Sound: the window's bytes, which `ram` lends. Where they are sealed nobody here writes them.
-            ram: unsafe { std::slice::from_raw_parts_mut(at, len) },
-        };
-        let quiet = |n| done(n, UNWRITTEN);
-        let mut ans = UNWRITTEN;
-        let a = &mut ans;
-        match *op {
-            Translate(k, va) => value(lent.translate(va, k.into(), a), *a, |s| Ans::Fault(va, s)),
-            DataPa(va) => value(lent.data_pa(va, a), *a, |_| Ans::None),
-            FetchPa(va) => value(lent.fetch_pa(va, a), *a, |_| Ans::None),
-            Load(va, size) => value(lent.load(va, size.into(), a), *a, |s| Ans::Data(*a, false, s)),
-            Store(va, size, v) => write(lent.store(va, size.into(), v, a), *a),
-            Fetch(va) => value(lent.fetch(va, a), *a, |s| Ans::Insn(va, s)),
-            Sys(op1, crn, crm, op2, rt) => {
-                let fields = [op1, crn, crm, op2, rt].map(u64::from);
-                write(lent.system(fields, a), *a)
-            }
-            Reg(k, v) => quiet(lent.register(k.into(), v)),
-            Level(l) => quiet(lent.level(l.into())),
-            Mark(m) => quiet(lent.mark(m.into())),
-            SetX(r, v) => quiet(lent.general(r.into(), v)),
-            Abort(e) => quiet(lent.abort(&exception(&e))),
-            _ => poke::poke(&mut self.words, op),
+/// One operation of document 01's list, by its function.
+pub(super) fn step(words: &mut Words, op: &Op, ram: &mut Ram) -> Ans {
+    use Op::*;
+    let (at, len) = (ram.bytes.lent(op.may_write_ram()), ram.bytes.len());
+    let mut lent = Lent {
+        words,
+        base: ram.base,
+        // Sound: the window's bytes, which `ram` lends. Where they are sealed nobody here writes them.
+        ram: unsafe { std::slice::from_raw_parts_mut(at, len) },
+    };
+    let quiet = |n| done(n, UNWRITTEN);
+    let mut ans = UNWRITTEN;
+    let a = &mut ans;
+    match *op {
+        Translate(k, va) => value(lent.translate(va, k.into(), a), *a, |s| Ans::Fault(va, s)),
+        DataPa(va) => value(lent.data_pa(va, a), *a, |_| Ans::None),
+        FetchPa(va) => value(lent.fetch_pa(va, a), *a, |_| Ans::None),
+        Load(va, size) => value(lent.load(va, size.into(), a), *a, |s| Ans::Data(*a, false, s)),
+        Store(va, size, v) => write(lent.store(va, size.into(), v, a), *a),
+        Fetch(va) => value(lent.fetch(va, a), *a, |s| Ans::Insn(va, s)),
+        Sys(op1, crn, crm, op2, rt) => {
+            let fields = [op1, crn, crm, op2, rt].map(u64::from);
+            write(lent.system(fields, a), *a)
         }
-    }
-
-    fn state(&self) -> State {
-        state_of(&self.words[..])
-    }
-
-    fn seals(&self) -> bool {
-        true
-    }
-
-    fn holds(&self, rust: &RustCore) -> bool {
-        rust.is_held_by(&self.words)
-    }
-
-    fn load(&mut self, state: &State) {
-        self.words = boxed(state);
-    }
-
-    fn copy(&self) -> Box<dyn Core> {
-        Box::new(self.clone())
+        Reg(k, v) => quiet(lent.register(k.into(), v)),
+        Level(l) => quiet(lent.level(l.into())),
+        Mark(m) => quiet(lent.mark(m.into())),
+        SetX(r, v) => quiet(lent.general(r.into(), v)),
+        Abort(e) => quiet(lent.abort(&exception(&e))),
+        _ => unreachable!("{op} is none of the list"),
     }
 }

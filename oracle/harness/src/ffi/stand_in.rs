@@ -1,14 +1,14 @@
 //! Without the feature `rattle` the model stands behind the two functions, so that the boundary itself is tested.
-use super::number::{DONE, NAMES_NOTHING};
-use super::{boxed, decode, encode_answer, state_of, STATE};
+use super::{boxed, decode, encode_answer, state_of};
 use crate::model::DocCore;
+use crate::number::{DONE, NAMES_NOTHING};
 use crate::op::Line;
-use crate::{Core, Ram};
+use crate::{place, Core, Ram};
 use std::slice::from_raw_parts_mut;
 
 /// # Safety
 /// `state` is an array that nobody else uses.
-pub unsafe fn a72_fresh(state: *mut [u64; STATE]) {
+pub unsafe fn a72_fresh(state: *mut place::State) {
     *state = *boxed(&DocCore::new().state());
 }
 
@@ -16,7 +16,7 @@ pub unsafe fn a72_fresh(state: *mut [u64; STATE]) {
 /// Each pointer is an array, or the start of as many bytes as the length after it says, and nobody else uses them.
 pub unsafe fn a72_step(
     op: *const [u64; 8],
-    state: *mut [u64; STATE],
+    state: *mut place::State,
     base: u64,
     ram: *mut u8,
     ram_bytes: usize,

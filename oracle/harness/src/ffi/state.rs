@@ -1,15 +1,11 @@
-//! A state as words; the layout stands in [`super`].
+//! A state as words; [`crate::place`] has the layout.
+use crate::place;
 use crate::state::{Entry, State};
+use std::ops::Range;
 
-/// Where the level and the counters, the broadcast, the fetch hint, the data hints and the entries begin.
-pub const COUNT: usize = 68;
-pub const BROADCAST: usize = COUNT + 7;
-pub const FETCH: usize = COUNT + 13;
-pub const HINTS: usize = FETCH + 4;
-pub const ENTRIES: usize = HINTS + 1024;
-/// The number of words.
-pub const STATE: usize = ENTRIES + 4096;
-const _: () = assert!(STATE == 5205);
+/// The words of the data hints, two each, and of the entries, four each.
+pub const HINT_WORDS: Range<usize> = place::HINTS..place::HINTS + 2 * 512;
+pub const ENTRY_WORDS: Range<usize> = place::ENTRIES..place::ENTRIES + 4 * 1024;
 
 fn entry_of(slot: usize, w: &[u64]) -> Entry {
     Entry {
@@ -34,28 +30,34 @@ fn fit<T: TryFrom<u64>>(v: u64, largest: T) -> T {
 }
 
 pub fn state_of(w: &[u64]) -> State {
-    let c = &w[COUNT..];
-    let generation = fit(c[11], u32::MAX);
-    let hints = w[HINTS..ENTRIES].chunks(2).enumerate();
-    let records = || w[ENTRIES..].chunks(4).enumerate().filter(|(_, e)| e[0] != 0);
+    let generation = fit(w[place::GENERATION], u32::MAX);
+    let hints = w[HINT_WORDS].chunks(2).enumerate();
+    let records = || w[ENTRY_WORDS].chunks(4).enumerate().filter(|(_, e)| e[0] != 0);
     let ahead = |e: &[u64]| e[1] > u64::from(generation) && e[1] <= u64::from(u32::MAX);
+    let fetch = || {
+        (
+            w[place::FETCH_PAGE],
+            fit(w[place::FETCH_LEVEL], u32::MAX),
+            w[place::FETCH_PA],
+        )
+    };
     State {
-        regs: w[..34].try_into().unwrap(),
-        flags: w[34..37].try_into().unwrap(),
-        x: w[37..68].try_into().unwrap(),
-        level: fit(c[0], u32::MAX),
-        mark: c[1] == 1,
-        hits: c[2],
-        walks: c[3],
-        flushes: c[4],
-        drops: c[5],
-        epoch: c[6],
-        broadcast: (fit(c[7], u8::MAX), c[8]),
-        last_pa: c[9],
-        abort_pa: c[10],
+        regs: w[..place::NZCV].try_into().unwrap(),
+        flags: w[place::NZCV..place::GENERAL].try_into().unwrap(),
+        x: w[place::GENERAL..place::LEVEL].try_into().unwrap(),
+        level: fit(w[place::LEVEL], u32::MAX),
+        mark: w[place::UNPRIVILEGED] == 1,
+        hits: w[place::HITS],
+        walks: w[place::WALKS],
+        flushes: w[place::FLUSHES],
+        drops: w[place::DROPS],
+        epoch: w[place::EPOCH],
+        broadcast: (fit(w[place::PENDING], u8::MAX), w[place::PENDING_VALUE]),
+        last_pa: w[place::LAST_PA],
+        abort_pa: w[place::ABORT_PA],
         generation,
-        cache_asid: fit(c[12], u16::MAX),
-        fetch: (c[13] == 1).then_some((c[14], fit(c[15], u32::MAX), c[16])),
+        cache_asid: fit(w[place::ASID], u16::MAX),
+        fetch: (w[place::FETCH] == 1).then(fetch),
         hints: hints
             .filter(|(_, h)| h[0] != u64::MAX)
             .map(|(i, h)| (i as u16, h[0], h[1]))
@@ -72,34 +74,42 @@ pub fn state_of(w: &[u64]) -> State {
 }
 
 pub fn words_of(s: &State) -> Vec<u64> {
-    let mut w = Vec::with_capacity(STATE);
-    w.extend(s.regs);
-    w.extend(s.flags);
-    w.extend(s.x);
-    w.extend([
-        s.level.into(),
-        s.mark.into(),
-        s.hits,
-        s.walks,
-        s.flushes,
-        s.drops,
-        s.epoch,
-    ]);
-    w.extend([s.broadcast.0.into(), s.broadcast.1, s.last_pa, s.abort_pa]);
-    w.extend([u64::from(s.generation), s.cache_asid.into()]);
+    let mut w = vec![0; place::WORDS];
+    w[..place::NZCV].copy_from_slice(&s.regs);
+    w[place::NZCV..place::GENERAL].copy_from_slice(&s.flags);
+    w[place::GENERAL..place::LEVEL].copy_from_slice(&s.x);
     let (page, level, pa) = s.fetch.unwrap_or((0, 0, 0));
-    w.extend([s.fetch.is_some() as u64, page, level.into(), pa]);
-    for _ in 0..512 {
-        w.extend([u64::MAX, 0]);
+    for (at, v) in [
+        (place::LEVEL, s.level.into()),
+        (place::UNPRIVILEGED, s.mark.into()),
+        (place::HITS, s.hits),
+        (place::WALKS, s.walks),
+        (place::FLUSHES, s.flushes),
+        (place::DROPS, s.drops),
+        (place::EPOCH, s.epoch),
+        (place::PENDING, s.broadcast.0.into()),
+        (place::PENDING_VALUE, s.broadcast.1),
+        (place::LAST_PA, s.last_pa),
+        (place::ABORT_PA, s.abort_pa),
+        (place::GENERATION, s.generation.into()),
+        (place::ASID, s.cache_asid.into()),
+        (place::FETCH, s.fetch.is_some().into()),
+        (place::FETCH_PAGE, page),
+        (place::FETCH_LEVEL, level.into()),
+        (place::FETCH_PA, pa),
+    ] {
+        w[at] = v;
     }
-    w.resize(STATE, 0);
+    for hint in w[HINT_WORDS].chunks_mut(2) {
+        hint[0] = u64::MAX;
+    }
     for (slot, key, pa) in &s.hints {
-        let at = HINTS + 2 * usize::from(*slot);
+        let at = place::HINTS + 2 * usize::from(*slot);
         w[at..at + 2].copy_from_slice(&[*key, *pa]);
     }
     let live = s.entries.iter().map(|e| (s.generation, e));
     for (generation, e) in live.chain(s.ahead.iter().map(|(g, e)| (*g, e))) {
-        let at = ENTRIES + 4 * usize::from(e.slot);
+        let at = place::ENTRIES + 4 * usize::from(e.slot);
         w[at..at + 4].copy_from_slice(&[e.tag, generation.into(), entry_bits(e), e.pa]);
     }
     w

@@ -1,11 +1,9 @@
 //! Odd values in every part of the core's state: hints and entries of the mapped pages that no walk made,
 //! entries of other generations, wild counters.
 use super::{Generator, Rng};
-use crate::ffi::{BROADCAST, COUNT};
 use crate::op::Line;
+use crate::place;
 use crate::wild::Part;
-
-const GENERATION: usize = COUNT + 11;
 
 /// A generation near the wrap, near the start, or anywhere.
 fn generation(r: &mut Rng) -> u64 {
@@ -23,25 +21,25 @@ impl Generator {
 
     /// At the start of a scenario: any part of the state.
     pub(super) fn wild_core(&mut self) {
-        for place in COUNT + 2..COUNT + 11 {
+        for at in place::HITS..=place::ABORT_PA {
             if self.r.percent(50) {
-                let v = if place == BROADCAST {
+                let v = if at == place::PENDING {
                     self.r.below(4)
                 } else {
                     self.r.wild()
                 };
-                self.put(Part::Word(place as u16, v));
+                self.put(Part::Word(at as u16, v));
             }
         }
         for _ in 0..self.r.below(8) {
             // None of SCTLR, TCR and the TTBRs: the scenario would seldom translate.
-            let place = 10 + self.r.below(58);
+            let at = place::MAIR as u64 + self.r.below((place::LEVEL - place::MAIR) as u64);
             let v = self.r.wild();
-            self.put(Part::Word(place as u16, v));
+            self.put(Part::Word(at as u16, v));
         }
         if self.r.percent(30) {
             let asid = self.r.of(&[0, 1, 2, 0x101, 0xFFFF]);
-            self.put(Part::Word(COUNT as u16 + 12, asid));
+            self.put(Part::Word(place::ASID as u16, asid));
         }
         self.wild_cache(10 + self.level as usize * 10);
     }
@@ -50,7 +48,7 @@ impl Generator {
     pub(super) fn wild_cache(&mut self, n: usize) {
         let level = self.level;
         let g = generation(&mut self.r);
-        self.put(Part::Word(GENERATION as u16, g));
+        self.put(Part::Word(place::GENERATION as u16, g));
         for _ in 0..n {
             self.level = self.r.of(&[0, 0, 1, 1, 2, 3]);
             self.wild_entry(g);

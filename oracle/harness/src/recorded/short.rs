@@ -1,8 +1,11 @@
 //! Short lines, and cases that another implementation answered; `recorded/README.md` has both.
+use crate::place;
 use crate::state::State;
 
-/// Where an answer's words stand among the places of a case.
+/// In a record the places from here on are the words of the last answer. A number of the format: it stays where a state
+/// grows, and then the format needs another.
 const ANSWER: u64 = 5205;
+const _: () = assert!(place::WORDS as u64 <= ANSWER);
 
 /// A line's eight words from its first and those that follow: how many of these it took, too.
 pub fn expand(first: u64, rest: &[u64]) -> Option<([u64; 8], usize)> {

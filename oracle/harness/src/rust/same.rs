@@ -1,22 +1,25 @@
 //! Whether pimu's core holds what a state's words hold: the same judgement as comparing the two [`crate::State`]s,
 //! made in place. What is free in the words (dead entries, what stands behind 'none') is free here too.
 use super::{state, RustCore};
-use crate::ffi::{BROADCAST, COUNT, ENTRIES, FETCH, HINTS, STATE};
+use crate::ffi::{ENTRY_WORDS, HINT_WORDS};
+use crate::place;
 use pimu::aarch64::access::{cpu, mmu, Tlb};
 use pimu::aarch64::Cpu;
 
 /// Permissions, level, global and ASID in the word of an entry.
 const BITS: u64 = 0xFFFF_0001_FFFF;
 
-fn registers(c: &Cpu, w: &[u64; STATE]) -> bool {
+fn registers(c: &Cpu, w: &place::State) -> bool {
     let flags: [u64; 3] = [c.nzcv.into(), c.daif.into(), c.spsel.into()];
-    state::registers(c) == w[..34] && flags == w[34..37] && c.x == w[37..COUNT]
+    state::registers(c) == w[..place::NZCV]
+        && flags == w[place::NZCV..place::GENERAL]
+        && c.x == w[place::GENERAL..place::LEVEL]
 }
 
-fn counts(c: &Cpu, w: &[u64; STATE]) -> bool {
+fn counts(c: &Cpu, w: &place::State) -> bool {
     let t = &c.tlb;
     let (kind, value) = state::pending(t);
-    let mark = w[COUNT + 1] == 1;
+    let mark = w[place::UNPRIVILEGED] == 1;
     let is = [
         t.hits,
         t.walks,
@@ -29,23 +32,23 @@ fn counts(c: &Cpu, w: &[u64; STATE]) -> bool {
         c.abort_pa,
     ];
     let present: [u64; 2] = [mmu::generation(t).into(), mmu::cache_asid(t).into()];
-    w[COUNT] == c.el.into()
+    w[place::LEVEL] == c.el.into()
         && mark == cpu::unprivileged(c)
-        && is == w[COUNT + 2..BROADCAST + 4]
-        && present == w[BROADCAST + 4..FETCH]
+        && is == w[place::HITS..=place::ABORT_PA]
+        && present == w[place::GENERATION..=place::ASID]
 }
 
-fn fetch_hint(t: &Tlb, w: &[u64; STATE]) -> bool {
-    let f = &w[FETCH..HINTS];
+fn fetch_hint(t: &Tlb, w: &place::State) -> bool {
+    let f = &w[place::FETCH..=place::FETCH_PA];
     match t.fetch_hint() {
         Some((page, level, pa)) => *f == [1, page, level.into(), pa],
         None => f[0] != 1,
     }
 }
 
-fn data_hints(t: &Tlb, w: &[u64; STATE]) -> bool {
+fn data_hints(t: &Tlb, w: &place::State) -> bool {
     let mut differ = 0;
-    for (i, h) in w[HINTS..ENTRIES].chunks_exact(2).enumerate() {
+    for (i, h) in w[HINT_WORDS].chunks_exact(2).enumerate() {
         let (key, pa) = mmu::data_hint(t, i);
         let set = if key == u64::MAX { 0 } else { u64::MAX };
         differ |= (key ^ h[0]) | ((pa ^ h[1]) & set);
@@ -54,7 +57,7 @@ fn data_hints(t: &Tlb, w: &[u64; STATE]) -> bool {
 }
 
 /// An entry counts where it has a tag and is of the present generation or of a later one.
-fn entries(t: &Tlb, w: &[u64; STATE]) -> bool {
+fn entries(t: &Tlb, w: &place::State) -> bool {
     let present = u64::from(mmu::generation(t));
     let counts = |tag: u64, generation: u64| {
         let due = present <= generation && generation <= u64::from(u32::MAX);
@@ -65,7 +68,7 @@ fn entries(t: &Tlb, w: &[u64; STATE]) -> bool {
         }
     };
     let mut differ = 0;
-    for (slot, e) in w[ENTRIES..].chunks_exact(4).enumerate() {
+    for (slot, e) in w[ENTRY_WORDS].chunks_exact(4).enumerate() {
         let r = mmu::record(t, slot);
         let generation = u64::from(r.generation);
         let bits = u64::from(r.perms)
@@ -81,7 +84,7 @@ fn entries(t: &Tlb, w: &[u64; STATE]) -> bool {
 
 impl RustCore {
     /// Whether these words hold what it holds.
-    pub fn is_held_by(&self, w: &[u64; STATE]) -> bool {
+    pub fn is_held_by(&self, w: &place::State) -> bool {
         let c = &self.cpu;
         let t = &c.tlb;
         registers(c, w) && counts(c, w) && fetch_hint(t, w) && data_hints(t, w) && entries(t, w)

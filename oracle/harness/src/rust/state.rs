@@ -1,6 +1,7 @@
 //! pimu's core as a [`State`], and back.
 use super::PAR;
-use crate::state::{self, Entry, State};
+use crate::place;
+use crate::state::{Entry, State};
 use pimu::aarch64::access::mmu::{self, Record};
 use pimu::aarch64::access::{cpu, Inval, Tlb};
 use pimu::aarch64::sysreg::SysRegs;
@@ -16,32 +17,32 @@ const EMPTY: Record = Record {
     pa: 0,
 };
 
-/// The registers kept once for each of EL1 to EL3, and where they begin in [`state::REGS`].
+/// The registers kept once for each of EL1 to EL3, and where they begin in [`crate::state::REGS`].
 fn banks(s: &SysRegs) -> [(usize, &[u64; 4]); 9] {
     [
-        (0, &s.sctlr),
-        (3, &s.tcr),
-        (6, &s.ttbr0),
-        (10, &s.mair),
-        (13, &s.vbar),
-        (16, &s.elr),
-        (19, &s.spsr),
-        (22, &s.esr),
-        (25, &s.far),
+        (place::SCTLR, &s.sctlr),
+        (place::TCR, &s.tcr),
+        (place::TTBR0, &s.ttbr0),
+        (place::MAIR, &s.mair),
+        (place::VBAR, &s.vbar),
+        (place::ELR, &s.elr),
+        (place::SPSR, &s.spsr),
+        (place::ESR, &s.esr),
+        (place::FAR, &s.far),
     ]
 }
 
 fn banks_mut(s: &mut SysRegs) -> [(usize, &mut [u64; 4]); 9] {
     [
-        (0, &mut s.sctlr),
-        (3, &mut s.tcr),
-        (6, &mut s.ttbr0),
-        (10, &mut s.mair),
-        (13, &mut s.vbar),
-        (16, &mut s.elr),
-        (19, &mut s.spsr),
-        (22, &mut s.esr),
-        (25, &mut s.far),
+        (place::SCTLR, &mut s.sctlr),
+        (place::TCR, &mut s.tcr),
+        (place::TTBR0, &mut s.ttbr0),
+        (place::MAIR, &mut s.mair),
+        (place::VBAR, &mut s.vbar),
+        (place::ELR, &mut s.elr),
+        (place::SPSR, &mut s.spsr),
+        (place::ESR, &mut s.esr),
+        (place::FAR, &mut s.far),
     ]
 }
 
@@ -51,10 +52,13 @@ pub fn registers(c: &Cpu) -> [u64; 34] {
     for (at, bank) in banks(s) {
         regs[at..at + 3].copy_from_slice(&bank[1..]);
     }
-    regs[9] = s.ttbr1_el1;
-    regs[28..32].copy_from_slice(&[s.scr_el3, s.hcr_el2, s.vpidr_el2, s.vmpidr_el2]);
-    regs[state::PAR] = s.plain.get(&PAR).copied().unwrap_or(0);
-    regs[state::PC] = c.pc;
+    regs[place::TTBR1_EL1] = s.ttbr1_el1;
+    regs[place::SCR_EL3] = s.scr_el3;
+    regs[place::HCR_EL2] = s.hcr_el2;
+    regs[place::VPIDR_EL2] = s.vpidr_el2;
+    regs[place::VMPIDR_EL2] = s.vmpidr_el2;
+    regs[place::PAR_EL1] = s.plain.get(&PAR).copied().unwrap_or(0);
+    regs[place::PC] = c.pc;
     regs
 }
 
@@ -63,10 +67,13 @@ fn set_registers(c: &mut Cpu, regs: &[u64; 34]) {
     for (at, bank) in banks_mut(s) {
         bank[1..].copy_from_slice(&regs[at..at + 3]);
     }
-    s.ttbr1_el1 = regs[9];
-    [s.scr_el3, s.hcr_el2, s.vpidr_el2, s.vmpidr_el2] = [regs[28], regs[29], regs[30], regs[31]];
-    s.plain.insert(PAR, regs[state::PAR]);
-    c.pc = regs[state::PC];
+    s.ttbr1_el1 = regs[place::TTBR1_EL1];
+    s.scr_el3 = regs[place::SCR_EL3];
+    s.hcr_el2 = regs[place::HCR_EL2];
+    s.vpidr_el2 = regs[place::VPIDR_EL2];
+    s.vmpidr_el2 = regs[place::VMPIDR_EL2];
+    s.plain.insert(PAR, regs[place::PAR_EL1]);
+    c.pc = regs[place::PC];
 }
 
 fn entry(slot: usize, r: Record) -> Entry {
