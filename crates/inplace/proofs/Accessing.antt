@@ -31,7 +31,7 @@ use Rattle.mmu.specs.declared.ops.Translated.{Translated}
 use Rattle.words.specs.Held.{held}
 use Rattle.words.specs.Parts.{withLast, withAbort}
 use Rattle.words.specs.Moved.{Moved, moved-as, moved-on}
-use Rattle.inplace.specs.Accessed.{keptLast, keptAbort}
+use Rattle.inplace.specs.Accessed.{loadEndOf, storeEndOf, keptLast, keptAbort}
 
 pub on-now : (c : Core) (who : Who) (r : Regime) (s : Bank) (b : Bool) → who ≡ c .who → r ≡ regimeOf (who .level) → s ≡ bankOf (c .control) r
     → b ≡ stage1On s r → b ≡ stage1On (bankNow c) (regimeOf (c .who .level))
@@ -42,7 +42,8 @@ on-now c who r s b ew er es eb =
 -- TWO PAGES
 
 -- a second translation, by what the first left
-second-is : (c : Core) (t : Tlb) (memory : ℕ → Word) (va : ℕ) (kind : Kind) → steppedNow (withTlb c t) memory va kind ≡ translateIn (bankNow c) (c .who) memory va kind t
+second-is : (c : Core) (t : Tlb) (memory : ℕ → Word) (va : ℕ) (kind : Kind)
+    → steppedNow (withTlb c t) memory va kind ≡ translateIn (bankNow c) (c .who) memory va kind t
 unfolding steppedNow movedTo
 second-is c t memory va kind = refl
 
@@ -106,28 +107,29 @@ module _ (ws : List ℕ) (memory : ℕ → Word) (va n : ℕ) (kind : Kind) (on 
 
 module _ (ws : List ℕ) (placed : Placed) (last abort base : ℕ) (ram : List ℕ) (va n : ℕ) (e : LoadEnd) (el : last ≡ held ws .«last_pa»)
     (eb : abort ≡ held ws .«abort_pa») (ee : e ≡ loadEnd placed last abort base ram va n) where
-  end-is : e ≡ loadEnd placed (held ws .«last_pa») (held ws .«abort_pa») base ram va n
+  end-is : e ≡ loadEndOf (held ws) placed base ram va n
   end-is = ee ∙ λ i. loadEnd placed (el i) (eb i) base ram va n
 
-  pub load-answer : e .answer ≡ loadEnd placed (held ws .«last_pa») (held ws .«abort_pa») base ram va n .answer
+  pub load-answer : e .answer ≡ loadEndOf (held ws) placed base ram va n .answer
   load-answer = ap (λ (x : LoadEnd). x .answer) end-is
 
   pub load-kept : (xs ys : List ℕ) → Moved ws xs (withLast (held ws) (e .«last_pa»)) → Moved xs ys (withAbort (held xs) (e .«abort_pa»))
-      → Moved ws ys (keptLast (held ws) (loadEnd placed (held ws .«last_pa») (held ws .«abort_pa») base ram va n))
+      → Moved ws ys (keptLast (held ws) (loadEndOf (held ws) placed base ram va n))
   unfolding keptLast
   load-kept xs ys m q = moved-on (λ c. withAbort c (e .«abort_pa»)) m q (ap (keptLast (held ws)) end-is)
 
 pub load-parts : (c : Core) (base : ℕ) (ram : List ℕ) (va n : ℕ) (p : Placed) (d : Core) → p ≡ translateAccessOf c (wordAt base ram 8) va n Read .placed
     → d ≡ translateAccessOf c (wordAt base ram 8) va n Read .core
-    → (loadEnd p (d .«last_pa») (d .«abort_pa») base ram va n .answer ≡ readOf c base ram va n .answer)
-    × (keptLast d (loadEnd p (d .«last_pa») (d .«abort_pa») base ram va n) ≡ readOf c base ram va n .core)
+    → (loadEndOf d p base ram va n .answer ≡ readOf c base ram va n .answer)
+    × (keptLast d (loadEndOf d p base ram va n) ≡ readOf c base ram va n .core)
 unfolding readOf translateAccessOf keptLast withLast withAbort movedTo
 load-parts c base ram va n p d ep ed = rw (ep, ed) (refl, refl)
 
-module _ (ws xs : List ℕ) (base : ℕ) (ram : List ℕ) (va n k : ℕ) (p : Placed) (ek : k ≡ n) (ep : p ≡ translateAccessOf (held ws) (wordAt base ram 8) va k Read .placed)
+module _ (ws xs : List ℕ) (base : ℕ) (ram : List ℕ) (va n k : ℕ) (p : Placed) (ek : k ≡ n)
+    (ep : p ≡ translateAccessOf (held ws) (wordAt base ram 8) va k Read .placed)
     (m : Moved ws xs (translateAccessOf (held ws) (wordAt base ram 8) va k Read .core)) where
-  parts : (loadEnd p (held xs .«last_pa») (held xs .«abort_pa») base ram va n .answer ≡ readOf (held ws) base ram va n .answer)
-      × (keptLast (held xs) (loadEnd p (held xs .«last_pa») (held xs .«abort_pa») base ram va n) ≡ readOf (held ws) base ram va n .core)
+  parts : (loadEndOf (held xs) p base ram va n .answer ≡ readOf (held ws) base ram va n .answer)
+      × (keptLast (held xs) (loadEndOf (held xs) p base ram va n) ≡ readOf (held ws) base ram va n .core)
   parts = load-parts (held ws) base ram va n p (held xs) (ep ∙ same-placed) (m .holds ∙ same-core)
     where
       same-placed : translateAccessOf (held ws) (wordAt base ram 8) va k Read .placed ≡ translateAccessOf (held ws) (wordAt base ram 8) va n Read .placed
@@ -136,10 +138,10 @@ module _ (ws xs : List ℕ) (base : ℕ) (ram : List ℕ) (va n k : ℕ) (p : Pl
       same-core : translateAccessOf (held ws) (wordAt base ram 8) va k Read .core ≡ translateAccessOf (held ws) (wordAt base ram 8) va n Read .core
       same-core = ap (λ (j : ℕ). translateAccessOf (held ws) (wordAt base ram 8) va j Read .core) ek
 
-  pub read-answer : (a : LoadAnswer) → a ≡ loadEnd p (held xs .«last_pa») (held xs .«abort_pa») base ram va n .answer → a ≡ readOf (held ws) base ram va n .answer
+  pub read-answer : (a : LoadAnswer) → a ≡ loadEndOf (held xs) p base ram va n .answer → a ≡ readOf (held ws) base ram va n .answer
   read-answer a e = e ∙ parts .0
 
-  pub read-core : (ys : List ℕ) → Moved xs ys (keptLast (held xs) (loadEnd p (held xs .«last_pa») (held xs .«abort_pa») base ram va n))
+  pub read-core : (ys : List ℕ) → Moved xs ys (keptLast (held xs) (loadEndOf (held xs) p base ram va n))
       → Moved ws ys (readOf (held ws) base ram va n .core)
   read-core ys q = record { long = q .long ∙ m .long; holds = q .holds ∙ parts .1 }
 
@@ -147,28 +149,31 @@ module _ (ws xs : List ℕ) (base : ℕ) (ram : List ℕ) (va n k : ℕ) (p : Pl
 
 module _ (ws : List ℕ) (placed : Placed) (abort base : ℕ) (ram : List ℕ) (va n : ℕ) (e : StoreEnd) (eb : abort ≡ held ws .«abort_pa»)
     (ee : e ≡ storeEnd placed abort base ram va n) where
-  stored-is : e ≡ storeEnd placed (held ws .«abort_pa») base ram va n
+  stored-is : e ≡ storeEndOf (held ws) placed base ram va n
   stored-is = ee ∙ ap (λ (x : ℕ). storeEnd placed x base ram va n) eb
 
-  pub store-answer : e .answer ≡ storeEnd placed (held ws .«abort_pa») base ram va n .answer
+  pub store-answer : e .answer ≡ storeEndOf (held ws) placed base ram va n .answer
   store-answer = ap (λ (x : StoreEnd). x .answer) stored-is
 
   pub store-kept : (xs : List ℕ) → Moved ws xs (withAbort (held ws) (e .«abort_pa»))
-      → Moved ws xs (keptAbort (held ws) (storeEnd placed (held ws .«abort_pa») base ram va n .«abort_pa»))
+      → Moved ws xs (keptAbort (held ws) (storeEndOf (held ws) placed base ram va n .«abort_pa»))
   unfolding keptAbort
   store-kept xs m = moved-as m (ap (λ (x : StoreEnd). withAbort (held ws) (x .«abort_pa»)) stored-is)
 
 pub store-parts : (c : Core) (base : ℕ) (ram : List ℕ) (va n v : ℕ) (p : Placed) (d : Core) → p ≡ translateAccessOf c (wordAt base ram 8) va n Write .placed
     → d ≡ translateAccessOf c (wordAt base ram 8) va n Write .core
-    → (storeEnd p (d .«abort_pa») base ram va n .answer ≡ writeOf c base ram va n .answer)
-    × ((storeRamEnd p base ram n v ≡ ramAfterWrite c base ram va n v) × (keptAbort d (storeEnd p (d .«abort_pa») base ram va n .«abort_pa») ≡ writeOf c base ram va n .core))
+    → (storeEndOf d p base ram va n .answer ≡ writeOf c base ram va n .answer)
+    × ((storeRamEnd p base ram n v ≡ ramAfterWrite c base ram va n v)
+    × (keptAbort d (storeEndOf d p base ram va n .«abort_pa») ≡ writeOf c base ram va n .core))
 unfolding writeOf ramAfterWrite translateAccessOf keptAbort withAbort movedTo
 store-parts c base ram va n v p d ep ed = rw (ep, ed) (refl, (refl, refl))
 
-module _ (ws xs : List ℕ) (base : ℕ) (ram : List ℕ) (va n k v : ℕ) (p : Placed) (ek : k ≡ n) (ep : p ≡ translateAccessOf (held ws) (wordAt base ram 8) va k Write .placed)
+module _ (ws xs : List ℕ) (base : ℕ) (ram : List ℕ) (va n k v : ℕ) (p : Placed) (ek : k ≡ n)
+    (ep : p ≡ translateAccessOf (held ws) (wordAt base ram 8) va k Write .placed)
     (m : Moved ws xs (translateAccessOf (held ws) (wordAt base ram 8) va k Write .core)) where
-  store-halves : (storeEnd p (held xs .«abort_pa») base ram va n .answer ≡ writeOf (held ws) base ram va n .answer)
-      × ((storeRamEnd p base ram n v ≡ ramAfterWrite (held ws) base ram va n v) × (keptAbort (held xs) (storeEnd p (held xs .«abort_pa») base ram va n .«abort_pa») ≡ writeOf (held ws) base ram va n .core))
+  store-halves : (storeEndOf (held xs) p base ram va n .answer ≡ writeOf (held ws) base ram va n .answer)
+      × ((storeRamEnd p base ram n v ≡ ramAfterWrite (held ws) base ram va n v)
+      × (keptAbort (held xs) (storeEndOf (held xs) p base ram va n .«abort_pa») ≡ writeOf (held ws) base ram va n .core))
   store-halves = store-parts (held ws) base ram va n v p (held xs) (ep ∙ same-placed) (m .holds ∙ same-core)
     where
       same-placed : translateAccessOf (held ws) (wordAt base ram 8) va k Write .placed ≡ translateAccessOf (held ws) (wordAt base ram 8) va n Write .placed
@@ -177,13 +182,14 @@ module _ (ws xs : List ℕ) (base : ℕ) (ram : List ℕ) (va n k v : ℕ) (p : 
       same-core : translateAccessOf (held ws) (wordAt base ram 8) va k Write .core ≡ translateAccessOf (held ws) (wordAt base ram 8) va n Write .core
       same-core = ap (λ (j : ℕ). translateAccessOf (held ws) (wordAt base ram 8) va j Write .core) ek
 
-  pub write-answer : (a : StoreAnswer) → a ≡ storeEnd p (held xs .«abort_pa») base ram va n .answer → a ≡ writeOf (held ws) base ram va n .answer
+  pub write-answer : (a : StoreAnswer) → a ≡ storeEndOf (held xs) p base ram va n .answer → a ≡ writeOf (held ws) base ram va n .answer
   write-answer a e = e ∙ store-halves .0
 
   pub write-ram : (r : List ℕ) → r ≡ storeRamEnd p base ram n v → r ≡ ramAfterWrite (held ws) base ram va n v
   write-ram r e = e ∙ store-halves .1 .0
 
-  pub write-core : (ys : List ℕ) → Moved xs ys (keptAbort (held xs) (storeEnd p (held xs .«abort_pa») base ram va n .«abort_pa»)) → Moved ws ys (writeOf (held ws) base ram va n .core)
+  pub write-core : (ys : List ℕ) → Moved xs ys (keptAbort (held xs) (storeEndOf (held xs) p base ram va n .«abort_pa»))
+      → Moved ws ys (writeOf (held ws) base ram va n .core)
   write-core ys q = record { long = q .long ∙ m .long; holds = q .holds ∙ store-halves .1 .1 }
 
 -- FETCHES
@@ -195,7 +201,8 @@ fetch-parts : (c : Core) (base : ℕ) (ram : List ℕ) (va : ℕ) (a : Answer) (
 unfolding fetchOf withAbort movedTo
 fetch-parts c base ram va a d ea ed = rw (ea, ed) (refl, refl)
 
-module _ (ws xs : List ℕ) (base : ℕ) (ram : List ℕ) (va : ℕ) (a : Answer) (abort : ℕ) (e : FetchEnd) (ea : a ≡ fetchSteppedNow (held ws) (wordAt base ram 8) va .answer)
+module _ (ws xs : List ℕ) (base : ℕ) (ram : List ℕ) (va : ℕ) (a : Answer) (abort : ℕ) (e : FetchEnd)
+    (ea : a ≡ fetchSteppedNow (held ws) (wordAt base ram 8) va .answer)
     (m : Moved ws xs (withTlb (held ws) (fetchSteppedNow (held ws) (wordAt base ram 8) va .tlb))) (eb : abort ≡ held xs .«abort_pa»)
     (ee : e ≡ fetchEnd a abort base ram va) where
   fetched-is : e ≡ fetchEnd a (held xs .«abort_pa») base ram va
@@ -208,7 +215,8 @@ module _ (ws xs : List ℕ) (base : ℕ) (ram : List ℕ) (va : ℕ) (a : Answer
   fetch-core ys q =
       record {
         long = q .long ∙ m .long;
-        holds = q .holds ∙ ap (λ (x : FetchEnd). withAbort (held xs) (x .«abort_pa»)) fetched-is ∙ fetch-parts (held ws) base ram va a (held xs) ea (m .holds) .1;
+        holds = q .holds ∙ ap (λ (x : FetchEnd). withAbort (held xs) (x .«abort_pa»)) fetched-is
+            ∙ fetch-parts (held ws) base ram va a (held xs) ea (m .holds) .1;
       }
 
 -- ADDRESSES
@@ -222,10 +230,12 @@ module _ (ws xs : List ℕ) (memory : ℕ → Word) (va : ℕ) (a : Answer) (r :
   unfolding fetchPaOf
   fetch-pa-answer e = er ∙ ap reachedBy e
 
-pub data-core : (ws xs : List ℕ) (memory : ℕ → Word) (va : ℕ) → Moved ws xs (translateOf (held ws) memory va Read .core) → Moved ws xs (dataPaOf (held ws) memory va .core)
+pub data-core : (ws xs : List ℕ) (memory : ℕ → Word) (va : ℕ) → Moved ws xs (translateOf (held ws) memory va Read .core)
+    → Moved ws xs (dataPaOf (held ws) memory va .core)
 unfolding dataPaOf translateOf
 data-core ws xs memory va m = m
 
-pub fetch-pa-core : (ws xs : List ℕ) (memory : ℕ → Word) (va : ℕ) → Moved ws xs (withTlb (held ws) (fetchSteppedNow (held ws) memory va .tlb)) → Moved ws xs (fetchPaOf (held ws) memory va .core)
+pub fetch-pa-core : (ws xs : List ℕ) (memory : ℕ → Word) (va : ℕ) → Moved ws xs (withTlb (held ws) (fetchSteppedNow (held ws) memory va .tlb))
+    → Moved ws xs (fetchPaOf (held ws) memory va .core)
 unfolding fetchPaOf
 fetch-pa-core ws xs memory va m = m
