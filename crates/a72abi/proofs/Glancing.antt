@@ -9,7 +9,6 @@ use lib.Dec.{ltb}
 use lib.ListN.{length}
 use Rattle.word.specs.Bits.{pick}
 use Rattle.word.specs.Ram.{wordAt}
-use Rattle.sysreg.specs.Encoding.{registerAt}
 use Rattle.tlb.specs.Hint.{fetchFound}
 use Rattle.tlb.specs.declared.access.Kind.{Kind}
 use Rattle.tlb.specs.declared.access.Kind.the-variants.{Read, Fetch}

@@ -1,26 +1,23 @@
 -- Each call's operation, put together from its parts, on plain values.
 use mathlib.Core.Path.{_≡_, refl, sym, ap, _∙_}
-use mathlib.Core.Bool.{Bool, true, false}
 use mathlib.Core.List.{List}
-use Prim.Native.Nat.{ℕ, zero, suc, _+_, _-_, _%_, _≤_, _<_}
+use Prim.Native.Nat.{ℕ, suc, _-_}
 use native.Mathlib.Nat.{pos-of-ne-zero}
 use native.Mathlib.Omega.{arith}
 use lib.ListN.{length}
-use Rattle.word.specs.Ram.{wordAt, widthOf, bytesIn}
+use Rattle.word.specs.Ram.{widthOf, bytesIn}
 use Rattle.word.specs.declared.ram.Width.{Width}
 use Rattle.word.specs.declared.ram.Sized.{Sized}
 use Rattle.word.specs.declared.ram.Sized.the-variants.{Bytes, Refused as NoWidth}
 use Rattle.sysreg.specs.declared.write.WriteAnswer.{WriteAnswer}
 use Rattle.sysreg.specs.declared.write.WriteAnswer.the-variants as Written
-use Rattle.tlb.specs.declared.access.Kind.{Kind}
 use Rattle.tlb.specs.declared.access.Answer.{Answer}
 use Rattle.tlb.specs.declared.access.Answer.the-variants.{Address, Status}
 use Rattle.entry.specs.declared.exception.Exception.{Exception}
 use Rattle.entry.specs.declared.exception.Exception.the-variants as Exceptions
 use Rattle.entry.specs.declared.exception.Stop.{Stop}
 use Rattle.entry.specs.declared.exception.Stop.the-variants as Stops
-use Rattle.mmu.specs.Core.{setReg}
-use Rattle.mmu.specs.Ops.{translateOf, readOf, writeOf, ramAfterWrite, fetchOf, fetchPaOf, dataPaOf}
+use Rattle.mmu.specs.Ops.{readOf, writeOf, ramAfterWrite}
 use Rattle.mmu.specs.declared.core.Core.{Core}
 use Rattle.mmu.specs.declared.ends.LoadAnswer.{LoadAnswer}
 use Rattle.mmu.specs.declared.ends.LoadAnswer.the-variants as Load
@@ -35,16 +32,12 @@ use Rattle.mmu.specs.declared.ops.Loaded.{Loaded}
 use Rattle.mmu.specs.declared.ops.Stored.{Stored}
 use Rattle.mmu.specs.declared.ops.Fetched.{Fetched}
 use Rattle.mmu.specs.declared.ops.Addressed.{Addressed}
-use Rattle.exec.specs.Ops.{writeRegister, setLevel, setMark, abortOf}
-use Rattle.exec.specs.Sys.{sysOf, sysRam}
 use Rattle.exec.specs.declared.ops.Registered.{Registered}
 use Rattle.cpu.specs.Check.{missedOf}
-use Rattle.cpu.specs.Step.{ends, translation, reaching, loading, storing, fetching, registering, afterTranslation, afterAddress, afterLoad, afterStore, afterFetch, afterWrite, loadBy, storeBy, storeRamBy, runOf, ramOf, stepOf, ramAfter}
-use Rattle.cpu.specs.declared.call.Encoding.{Encoding}
+use Rattle.cpu.specs.Step.{ends, translation, reaching, loading, storing, fetching, registering, afterTranslation, afterAddress, afterStore, afterFetch, afterWrite, loadBy, storeBy, storeRamBy, runOf, ramOf, stepOf, ramAfter}
 use Rattle.cpu.specs.declared.call.Call.{Call}
-use Rattle.cpu.specs.declared.call.Call.the-variants.{Translate, DataPa, FetchPa, Load as LoadCall, Store as StoreCall, Fetch, System, Register, Level, Mark, General, Abort}
 use Rattle.cpu.specs.declared.call.Reply.{Reply}
-use Rattle.cpu.specs.declared.call.Reply.the-variants.{Refused, Done, Value, Faults, Fault, Stopped}
+use Rattle.cpu.specs.declared.call.Reply.the-variants.{Refused, Done, Value, Fault, Stopped}
 use Rattle.cpu.specs.declared.call.Stepped.{Stepped}
 
 -- each answer as a reply
@@ -113,104 +106,22 @@ module _ (z : Sized) (size : ℕ) (c : Core) (base : ℕ) (ram : List ℕ) (va :
     pub store-done-ram : (ys : List ℕ) (value : ℕ) → ys ≡ ramAfterWrite c base ram va (bytesIn w) value → ys ≡ storeRamBy (widthOf size) c base ram va value
     store-done-ram ys value e = rw (← ez, ew) e
 
--- the operation that a call is, and RAM after it
-module _ (c : Core) (base : ℕ) (ram : List ℕ) (call : Call) (r : Stepped) where
-  pub run-translate : (kind : Kind) (va : ℕ) → call ≡ Translate kind va → r ≡ afterTranslation va (translateOf c (wordAt base ram 8) va kind) → r ≡ runOf c base ram call
-  unfolding runOf
-  run-translate kind va e er = rw e er
+-- the operation that a call is, and RAM after it, where it is known which call it is
+module _ (c : Core) (base : ℕ) (ram : List ℕ) (call x : Call) (e : call ≡ x) where
+  pub run-as : (r s : Stepped) → r ≡ s → s ≡ runOf c base ram x → r ≡ runOf c base ram call
+  run-as r s er es = er ∙ es ∙ ap (runOf c base ram) (sym e)
 
-  pub run-data-pa : (va : ℕ) (p : Addressed) → call ≡ DataPa va → p ≡ dataPaOf c (wordAt base ram 8) va → r ≡ afterAddress p → r ≡ runOf c base ram call
-  unfolding runOf
-  run-data-pa va p e ep er = rw (e, ← ep) er
+  pub run-done : (r : Stepped) (d k : Core) → r ≡ ends d Done → d ≡ k → ends k Done ≡ runOf c base ram x → r ≡ runOf c base ram call
+  run-done r d k er ed ek = run-as r (ends d Done) er (ap (λ (y : Core). ends y Done) ed ∙ ek)
 
-  pub run-fetch-pa : (va : ℕ) (p : Addressed) → call ≡ FetchPa va → p ≡ fetchPaOf c (wordAt base ram 8) va → r ≡ afterAddress p → r ≡ runOf c base ram call
-  unfolding runOf
-  run-fetch-pa va p e ep er = rw (e, ← ep) er
+  pub run-reached : (r : Stepped) (p q : Addressed) → r ≡ afterAddress p → p ≡ q → afterAddress q ≡ runOf c base ram x → r ≡ runOf c base ram call
+  run-reached r p q er ep eq = run-as r (afterAddress p) er (ap (λ (y : Addressed). afterAddress y) ep ∙ eq)
 
-  pub run-load : (va size : ℕ) → call ≡ LoadCall va size → r ≡ loadBy (widthOf size) c base ram va → r ≡ runOf c base ram call
-  unfolding runOf
-  run-load va size e er = rw e er
+  pub ram-as : (ys zs : List ℕ) → ys ≡ zs → zs ≡ ramOf c base ram x → ys ≡ ramOf c base ram call
+  ram-as ys zs ey ez = ey ∙ ez ∙ ap (ramOf c base ram) (sym e)
 
-  pub run-store : (va size value : ℕ) → call ≡ StoreCall va size value → r ≡ storeBy (widthOf size) c base ram va → r ≡ runOf c base ram call
-  unfolding runOf
-  run-store va size value e er = rw e er
-
-  pub run-fetch : (va : ℕ) → call ≡ Fetch va → r ≡ afterFetch (fetchOf c base ram va) → r ≡ runOf c base ram call
-  unfolding runOf
-  run-fetch va e er = rw e er
-
-  pub run-system : (x : Encoding) → call ≡ System x → r ≡ afterStore (sysOf c base ram (x .op1) (x .crn) (x .crm) (x .op2) (x .rt)) → r ≡ runOf c base ram call
-  unfolding runOf
-  run-system x e er = rw e er
-
-  pub run-register : (key value : ℕ) → call ≡ Register key value → r ≡ afterWrite (writeRegister c key value) → r ≡ runOf c base ram call
-  unfolding runOf
-  run-register key value e er = rw e er
-
-  pub run-level : (level : ℕ) (d : Core) → call ≡ Level level → d ≡ setLevel c (level % 4) → r ≡ ends d Done → r ≡ runOf c base ram call
-  unfolding runOf
-  run-level level d e ed er = rw (e, er, ed)
-
-  pub run-mark : (mark : Bool) (d : Core) → call ≡ Mark mark → d ≡ setMark c mark → r ≡ ends d Done → r ≡ runOf c base ram call
-  unfolding runOf
-  run-mark mark d e ed er = rw (e, er, ed)
-
-  pub run-general : (number value : ℕ) (d : Core) → call ≡ General number value → d ≡ setReg c number value → r ≡ ends d Done → r ≡ runOf c base ram call
-  unfolding runOf
-  run-general number value d e ed er = rw (e, er, ed)
-
-  pub run-abort : (x : Exception) (d : Core) → call ≡ Abort x → d ≡ abortOf c x → r ≡ ends d Done → r ≡ runOf c base ram call
-  unfolding runOf
-  run-abort x d e ed er = rw (e, er, ed)
-
-module _ (c : Core) (base : ℕ) (ram : List ℕ) (call : Call) where
-  pub ram-translate : (kind : Kind) (va : ℕ) → call ≡ Translate kind va → ram ≡ ramOf c base ram call
-  unfolding ramOf
-  ram-translate kind va x = rw x
-
-  pub ram-data-pa : (va : ℕ) → call ≡ DataPa va → ram ≡ ramOf c base ram call
-  unfolding ramOf
-  ram-data-pa va x = rw x
-
-  pub ram-fetch-pa : (va : ℕ) → call ≡ FetchPa va → ram ≡ ramOf c base ram call
-  unfolding ramOf
-  ram-fetch-pa va x = rw x
-
-  pub ram-load : (va size : ℕ) → call ≡ LoadCall va size → ram ≡ ramOf c base ram call
-  unfolding ramOf
-  ram-load va size x = rw x
-
-  pub ram-store : (va size value : ℕ) (ys : List ℕ) → call ≡ StoreCall va size value → ys ≡ storeRamBy (widthOf size) c base ram va value → ys ≡ ramOf c base ram call
-  unfolding ramOf
-  ram-store va size value ys e er = rw e er
-
-  pub ram-fetch : (va : ℕ) → call ≡ Fetch va → ram ≡ ramOf c base ram call
-  unfolding ramOf
-  ram-fetch va x = rw x
-
-  pub ram-system : (x : Encoding) (ys : List ℕ) → call ≡ System x → ys ≡ sysRam c base ram (x .op1) (x .crn) (x .crm) (x .op2) (x .rt) → ys ≡ ramOf c base ram call
-  unfolding ramOf
-  ram-system x ys e er = rw e er
-
-  pub ram-register : (key value : ℕ) → call ≡ Register key value → ram ≡ ramOf c base ram call
-  unfolding ramOf
-  ram-register key value x = rw x
-
-  pub ram-level : (level : ℕ) → call ≡ Level level → ram ≡ ramOf c base ram call
-  unfolding ramOf
-  ram-level level x = rw x
-
-  pub ram-mark : (mark : Bool) → call ≡ Mark mark → ram ≡ ramOf c base ram call
-  unfolding ramOf
-  ram-mark mark x = rw x
-
-  pub ram-general : (number value : ℕ) → call ≡ General number value → ram ≡ ramOf c base ram call
-  unfolding ramOf
-  ram-general number value x = rw x
-
-  pub ram-abort : (e : Exception) → call ≡ Abort e → ram ≡ ramOf c base ram call
-  unfolding ramOf
-  ram-abort e x = rw x
+  pub ram-kept : ram ≡ ramOf c base ram x → ram ≡ ramOf c base ram call
+  ram-kept = ram-as ram ram refl
 
 -- a call that misses a check, and one that misses none
 module _ (c : Core) (base : ℕ) (ram : List ℕ) (call : Call) (n : ℕ) (en : n ≡ missedOf (c .who .level) base (length ram) call) where

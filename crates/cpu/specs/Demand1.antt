@@ -8,7 +8,7 @@ use borrow.Author.Tests.{leb-true, not-false}
 use lib.Dec.{eqb, leb}
 use lib.ListN.{length}
 use Rattle.word.specs.Bits.{pick, wrap, alignDown}
-use Rattle.word.specs.Ram.{wordAt, widthOf, bytesIn, within, littleEndian}
+use Rattle.word.specs.Ram.{wordAt, widthOf, bytesIn, within}
 use Rattle.word.specs.declared.ram.Sized.{Sized}
 use Rattle.word.specs.declared.ram.Sized.the-variants.{Bytes, Refused as NoWidth}
 use Rattle.sysreg.specs.Encoding.{registerAt}
@@ -33,7 +33,6 @@ use Rattle.mmu.specs.Says.{Said, value, done, fault, faults, undefined, unimple
 use Rattle.mmu.specs.Ops.{translateOf, readOf, writeOf, ramAfterWrite, fetchOf, fetchPaOf, dataPaOf, locatedNow, fetchSteppedNow}
 use Rattle.mmu.specs.OpLaws.{ram-length, store}
 use Rattle.mmu.specs.declared.core.Core.{Core}
-use Rattle.mmu.specs.declared.place.Place.{Place}
 use Rattle.mmu.specs.declared.place.Placed.{Placed}
 use Rattle.mmu.specs.declared.place.Placed.the-variants as Placed
 use Rattle.mmu.specs.declared.place.Verdict.{Verdict}

@@ -2,7 +2,8 @@
 use borrow.Author.Needs.{needs}
 use Rattle.cpu.proofs.run.run.Statement.{statement}
 use Rattle.cpu.proofs.run.run.Tie as tie
-use Rattle.cpu.proofs.Runs.{run-translate, ram-translate, run-data-pa, ram-data-pa, run-fetch-pa, ram-fetch-pa, run-load, ram-load, run-store, ram-store, run-fetch, ram-fetch, run-system, ram-system, run-register, ram-register, run-level, ram-level, run-mark, ram-mark, run-general, ram-general, run-abort, ram-abort}
+use Rattle.cpu.proofs.Runs.{run-as, run-done, run-reached, ram-as, ram-kept}
+use Rattle.cpu.specs.Step.{runOf, ramOf}
 
 enum-known-call : tie.Need-enum-known-call
 enum-known-call c = search needs
@@ -101,58 +102,70 @@ same-length : tie.Need-same-length
 same-length c = search needs
 
 returns : tie.Need-returns
-returns c = (search (run-translate, needs), search (ram-translate, needs))
+unfolding runOf ramOf
+returns c = (search (run-as, needs), search (ram-kept, needs))
 
 same-length-2 : tie.Need-same-length-2
 same-length-2 c = search needs
 
 returns-2 : tie.Need-returns-2
-returns-2 c = (search (run-data-pa, needs), search (ram-data-pa, needs))
+unfolding runOf ramOf
+returns-2 c = (search (run-reached, needs), search (ram-kept, needs))
 
 same-length-3 : tie.Need-same-length-3
 same-length-3 c = search needs
 
 returns-3 : tie.Need-returns-3
-returns-3 c = (search (run-fetch-pa, needs), search (ram-fetch-pa, needs))
+unfolding runOf ramOf
+returns-3 c = (search (run-reached, needs), search (ram-kept, needs))
 
 same-length-4 : tie.Need-same-length-4
 same-length-4 c = search needs
 
 returns-4 : tie.Need-returns-4
-returns-4 c = (search (run-load, needs), search (ram-load, needs))
+unfolding runOf ramOf
+returns-4 c = (search (run-as, needs), search (ram-kept, needs))
 
 same-length-5 : tie.Need-same-length-5
 same-length-5 c = search needs
 
 returns-5 : tie.Need-returns-5
-returns-5 c = (search (run-store, needs), search (ram-store, needs))
+unfolding runOf ramOf
+returns-5 c = (search (run-as, needs), search (ram-as, needs))
 
 same-length-6 : tie.Need-same-length-6
 same-length-6 c = search needs
 
 returns-6 : tie.Need-returns-6
-returns-6 c = (search (run-fetch, needs), search (ram-fetch, needs))
+unfolding runOf ramOf
+returns-6 c = (search (run-as, needs), search (ram-kept, needs))
 
 same-length-7 : tie.Need-same-length-7
 same-length-7 c = search needs
 
 returns-7 : tie.Need-returns-7
-returns-7 c = (search (run-system, needs), search (ram-system, needs))
+unfolding runOf ramOf
+returns-7 c = (search (run-as, needs), search (ram-as, needs))
 
 returns-8 : tie.Need-returns-8
-returns-8 c = (search (run-register, needs), search (ram-register, needs))
+unfolding runOf ramOf
+returns-8 c = (search (run-as, needs), search (ram-kept, needs))
 
 returns-9 : tie.Need-returns-9
-returns-9 c = (search (run-level, needs), search (ram-level, needs))
+unfolding runOf ramOf
+returns-9 c = (search (run-done, needs), search (ram-kept, needs))
 
 returns-10 : tie.Need-returns-10
-returns-10 c = (search (run-mark, needs), search (ram-mark, needs))
+unfolding runOf ramOf
+returns-10 c = (search (run-done, needs), search (ram-kept, needs))
 
 returns-11 : tie.Need-returns-11
-returns-11 c = (search (run-general, needs), search (ram-general, needs))
+unfolding runOf ramOf
+returns-11 c = (search (run-done, needs), search (ram-kept, needs))
 
 returns-12 : tie.Need-returns-12
-returns-12 c = (search (run-abort, needs), search (ram-abort, needs))
+unfolding runOf ramOf
+returns-12 c = (search (run-done, needs), search (ram-kept, needs))
 
 pub run-spec : {M : Type 1} → statement M
 run-spec =
