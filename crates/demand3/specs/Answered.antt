@@ -54,7 +54,7 @@ use Rattle.demand3.specs.Bare.{plainIn, number, missedIn, opIn, operandI
 use Rattle.demand3.specs.Events.{idle, accessIn, sizedIn, zeroSteps, sysSteps, stepsIn, eventsIn}
 use Rattle.demand3.specs.Starts.{ramZeroed, zeroLater, sysLater, laterOf, laterIn}
 use Rattle.demand3.specs.Replies.{Outcome, outcome, outcomeOf, loadSays, storeSays, loadSized, storeSized, zeroSays, sysSays, callSays, saysIn}
-use Rattle.demand3.specs.Bridge.{bare-then, tlb-then}
+use Rattle.demand3.specs.Bridge.{stored-bare, stored-tlb}
 
 -- `last_pa` and `abort_pa` reach no answer
 
@@ -139,18 +139,31 @@ next-aligned va e = omega (arith, e)
 pub start-aligned : (x : ℕ) → alignDown x 6 % 8 ≡ 0
 start-aligned x = omega arith
 
--- the store at va and n further ones, in a core whose state without a cache is b and whose cache is t
+-- so a store of them has one translation
+abbrev pub storeGiven : Bare → Tlb → Ram → ℕ → Given
+storeGiven b t m va = record { ask = translates Kind.Write va; answer = answerOf real (plainIn b) m (translates Kind.Write va) t }
+
+pub one-given : (b : Bare) (t : Tlb) (m : Ram) (va : ℕ) → va % 8 ≡ 0
+    → answers real (plainIn b) m (accessIn b va 8 Kind.Write) t ≡ storeGiven b t m va ∷ []
+one-given b t m va e =
+    rw (one-page (onNow real (plainIn b)) va e)
+    (ap {B = List Given} (λ (l : List Given). storeGiven b t m va ∷ l) (onward-same (storeGiven b t m va .answer) []))
+
+-- the store at va and n further ones
 abbrev pub zeroOutcome : ℕ → Core → Ram → ℕ → Outcome
 zeroOutcome n c m va =
     outcome (storing (zeroOf (suc n) c (m .base) (m .bytes) va .answer)) (zeroRam (suc n) c (m .base) (m .bytes) va)
 
-abbrev ZeroSaid : ℕ → Core → Ram → ℕ → Bare → Tlb → Type 0
-ZeroSaid n c m va b t =
-    zeroOutcome n c m va
-    ≡ zeroSays m (zeroLater n c m va) va (answersRun real (plainIn b) (zeroSteps b m (zeroLater n c m va) va) t)
+-- their answers, in a core whose state without a cache is b and whose cache is t
+abbrev pub zeroGiven : Bare → Tlb → Ram → List Ram → ℕ → List Given
+zeroGiven b t m ms va = answersRun real (plainIn b) (zeroSteps b m ms va) t
+
+abbrev ZeroSaid : ℕ → Core → Ram → ℕ → Type 0
+ZeroSaid n c m va =
+    zeroOutcome n c m va ≡ zeroSays m (zeroLater n c m va) va (zeroGiven (bareOf c) (c .tlb) m (zeroLater n c m va) va)
 
 -- the first of them
-module _ (c : Core) (m : Ram) (va : ℕ) (b : Bare) (t : Tlb) (eb : bareOf c ≡ b) (et : c .tlb ≡ t) where
+module _ (c : Core) (m : Ram) (va : ℕ) where
   abbrev pub storeEnds : StoreAnswer
   storeEnds = writeOf c (m .base) (m .bytes) va 8 .answer
 
@@ -158,30 +171,7 @@ module _ (c : Core) (m : Ram) (va : ℕ) (b : Bare) (t : Tlb) (eb : bareOf c ≡
   coreThen = writeOf c (m .base) (m .bytes) va 8 .core
 
   abbrev pub tlbThen : Tlb
-  tlbThen = tlbAsks real (plainIn b) m (accessIn b va 8 Kind.Write) t
-
-  abbrev pub firstGiven : List Given
-  firstGiven = answers real (plainIn b) m (accessIn b va 8 Kind.Write) t
-
-  abbrev givenThen : Ram → List Ram → List Given
-  givenThen k ms = answersRun real (plainIn b) (zeroSteps b k ms (wrap (va + 8))) tlbThen
-
-  -- it has one translation
-  pub first-given : va % 8 ≡ 0
-      → firstGiven ≡ record { ask = translates Kind.Write va; answer = answerOf real (plainIn b) m (translates Kind.Write va) t } ∷ []
-  first-given e = rw (one-page (onNow real (plainIn b)) va e) (ap {B = List Given} (λ (l : List Given). g ∷ l) (onward-same (g .answer) []))
-    where
-      g : Given
-      g = record { ask = translates Kind.Write va; answer = answerOf real (plainIn b) m (translates Kind.Write va) t }
-
-  pub store-said : outcome (storing storeEnds) (ramZeroed c m va .bytes) ≡ storeSays m va 8 0 firstGiven
-  store-said =
-      store-answered c m va 8 0
-      ∙ ap (λ (d : Bare). storeSays m va 8 0 (answers real (plainIn d) m (accessIn d va 8 Kind.Write) (c .tlb))) eb
-      ∙ ap (λ (u : Tlb). storeSays m va 8 0 (answers real (plainIn b) m (accessIn b va 8 Kind.Write) u)) et
-
-  last-said : outcome (storing storeEnds) (ramZeroed c m va .bytes) ≡ zeroSays m [] va (firstGiven ++ [])
-  last-said = store-said ∙ ap (storeSays m va 8 0) (sym (append-nil firstGiven))
+  tlbThen = tlbAsks real (plainIn (bareOf c)) m (accessIn (bareOf c) va 8 Kind.Write) (c .tlb)
 
   -- what a zeroing of one store gives
   pub one-outcome : zeroOutcome zero c m va ≡ outcome (storing storeEnds) (ramZeroed c m va .bytes)
@@ -195,33 +185,37 @@ module _ (c : Core) (m : Ram) (va : ℕ) (b : Bare) (t : Tlb) (eb : bareOf c ≡
       go Store.Done e = ap (λ (x : StoreAnswer). outcome (storing x) (ramZeroed c m va .bytes)) (sym e)
       go (Store.Stopped s) e = refl
 
-  more-said : (n : ℕ) → va % 8 ≡ 0 → ZeroSaid n coreThen (ramZeroed c m va) (wrap (va + 8)) b tlbThen → ZeroSaid (suc n) c m va b t
+  last-said : outcome (storing storeEnds) (ramZeroed c m va .bytes) ≡ zeroSays m [] va (accessGiven c m va 8 Kind.Write ++ [])
+  last-said = store-answered c m va 8 0 ∙ ap (storeSays m va 8 0) (sym (append-nil (accessGiven c m va 8 Kind.Write)))
+
+  more-said : (n : ℕ) → va % 8 ≡ 0 → ZeroSaid n coreThen (ramZeroed c m va) (wrap (va + 8)) → ZeroSaid (suc n) c m va
   unfolding zeroOf zeroRam
   more-said n al rest = go storeEnds
     where
+      next : Ram
+      next = ramZeroed c m va
+
       more : List Ram
-      more = zeroLater n coreThen (ramZeroed c m va) (wrap (va + 8))
+      more = zeroLater n coreThen next (wrap (va + 8))
 
       go : (a : StoreAnswer)
           → outcome
-          (storing
-          (onStored a (zeroOf (suc n) coreThen (m .base) (ramZeroed c m va .bytes) (wrap (va + 8))) (writeOf c (m .base) (m .bytes) va 8) .answer))
-          (onStored a (zeroRam (suc n) coreThen (m .base) (ramZeroed c m va .bytes) (wrap (va + 8))) (ramZeroed c m va .bytes))
-          ≡ zeroSays m (onStored a (ramZeroed c m va ∷ more) []) va
-          (answersRun real (plainIn b) (zeroSteps b m (onStored a (ramZeroed c m va ∷ more) []) va) t)
+          (storing (onStored a (zeroOf (suc n) coreThen (m .base) (next .bytes) (wrap (va + 8))) (writeOf c (m .base) (m .bytes) va 8) .answer))
+          (onStored a (zeroRam (suc n) coreThen (m .base) (next .bytes) (wrap (va + 8))) (next .bytes))
+          ≡ zeroSays m (onStored a (next ∷ more) []) va (zeroGiven (bareOf c) (c .tlb) m (onStored a (next ∷ more) []) va)
       go Store.Done =
           rest
-          ∙ ap (λ (l : List Given). zeroSays m (ramZeroed c m va ∷ more) va (l ++ givenThen (ramZeroed c m va) more)) (sym (first-given al))
+          ∙ ap₂ (λ (b : Bare) (t : Tlb). zeroSays next more (wrap (va + 8)) (zeroGiven b t next more (wrap (va + 8))))
+          (stored-bare c m va) (stored-tlb c m va)
+          ∙ ap (λ (l : List Given). zeroSays m (next ∷ more) va (l ++ zeroGiven (bareOf c) tlbThen next more (wrap (va + 8))))
+          (sym (one-given (bareOf c) (c .tlb) m va al))
       go (Store.Stopped s) = last-said
 
-pub zero-said : (n : ℕ) (c : Core) (m : Ram) (va : ℕ) (b : Bare) (t : Tlb) → bareOf c ≡ b → c .tlb ≡ t → va % 8 ≡ 0 → ZeroSaid n c m va b t
-zero-said zero c m va b t eb et al = one-outcome c m va b t eb et ∙ last-said c m va b t eb et
-zero-said (suc n) c m va b t eb et al =
-    more-said c m va b t eb et n al
-    (zero-said n (writeOf c (m .base) (m .bytes) va 8 .core) (ramZeroed c m va) (wrap (va + 8)) b
-    (tlbAsks real (plainIn b) m (accessIn b va 8 Kind.Write) t)
-    (bare-then c m va b t eb et) (tlb-then c m va b t eb et)
-    (next-aligned va al))
+pub zero-said : (n : ℕ) (c : Core) (m : Ram) (va : ℕ) → va % 8 ≡ 0 → ZeroSaid n c m va
+zero-said zero c m va al = one-outcome c m va ∙ last-said c m va
+zero-said (suc n) c m va al =
+    more-said c m va n al
+    (zero-said n (writeOf c (m .base) (m .bytes) va 8 .core) (ramZeroed c m va) (wrap (va + 8)) (next-aligned va al))
 
 -- EVERY CALL
 
@@ -236,7 +230,7 @@ sys-said : (o : SysOp) (c : Core) (m : Ram) (e : Encoding)
 sys-said (Op.At form) c m e = refl
 sys-said Op.Tlbi c m e = refl
 sys-said Op.Zva c m e =
-    zero-said 7 c m (alignDown (operandIn (bareOf c) e) 6) (bareOf c) (c .tlb) refl refl (start-aligned (operandIn (bareOf c) e))
+    zero-said 7 c m (alignDown (operandIn (bareOf c) e) 6) (start-aligned (operandIn (bareOf c) e))
 sys-said Op.Nothing c m e = refl
 sys-said Op.Undefined c m e = refl
 sys-said Op.Unimplemented c m e = refl

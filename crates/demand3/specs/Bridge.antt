@@ -8,17 +8,15 @@ use native.Mathlib.Omega.{arith}
 use lib.Dec.{leb, ltb}
 use lib.ListN.{length}
 use borrow.Author.Tests.{leb-false, ltb-false}
-use Rattle.word.specs.Bits.{alignDown, pick, wrap}
+use Rattle.word.specs.Bits.{alignDown, wrap}
 use Rattle.word.specs.Ram.{widthOf, bytesIn}
 use Rattle.word.specs.declared.ram.Sized.{Sized}
 use Rattle.word.specs.declared.ram.Sized.the-variants as Sized
 use Rattle.sysreg.specs.declared.write.WriteAnswer.{WriteAnswer}
 use Rattle.sysreg.specs.declared.write.WriteAnswer.the-variants as Written
 use Rattle.sysreg.specs.declared.write.Written.{Written}
-use Rattle.tlb.specs.Asks.{Ask}
 use Rattle.tlb.specs.declared.access.Kind.{Kind}
 use Rattle.tlb.specs.declared.access.Kind.the-variants as Kind
-use Rattle.tlb.specs.declared.Tlb.{Tlb}
 use Rattle.sysop.specs.declared.op.SysOp.{SysOp}
 use Rattle.sysop.specs.declared.op.SysOp.the-variants as Op
 use Rattle.mmu.specs.Bare.{Bare, withWho, bareOf, withRegs}
@@ -80,13 +78,6 @@ zero-plain : (b : Bare) (p : Plain real) (m : Ram) (l : List Ram) (va : ℕ) →
 zero-plain b p m [] va = refl
 zero-plain b p m (n ∷ l) va = zero-plain b p n l (wrap (va + 8))
 
--- what the store at va and n further ones leave, in a core whose state without a cache is b and whose cache is t
-abbrev ZeroRuns : ℕ → Core → Ram → ℕ → Bare → Tlb → Type 0
-ZeroRuns n c m va b t =
-    (bareOf (zeroOf (suc n) c (m .base) (m .bytes) va .core) ≡ b)
-    × (zeroOf (suc n) c (m .base) (m .bytes) va .core .tlb
-    ≡ tlbRun real (plainIn b) (zeroSteps b m (zeroLater n c m va) va) t)
-
 -- a store leaves the state without a cache, and of the cache what its translations leave
 pub stored-bare : (c : Core) (m : Ram) (va : ℕ) → bareOf (writeOf c (m .base) (m .bytes) va 8 .core) ≡ bareOf c
 stored-bare c m va = Laws.kept c (m .base) (m .bytes) (Laws.store va 8 0)
@@ -95,62 +86,52 @@ pub stored-tlb : (c : Core) (m : Ram) (va : ℕ)
     → writeOf c (m .base) (m .bytes) va 8 .core .tlb ≡ tlbAsks real (plainIn (bareOf c)) m (accessIn (bareOf c) va 8 Kind.Write) (c .tlb)
 stored-tlb c m va = Laws.tlb-after c (m .base) (m .bytes) (Laws.store va 8 0)
 
--- after the first of them
-module _ (c : Core) (m : Ram) (va : ℕ) (b : Bare) (t : Tlb) (eb : bareOf c ≡ b) (et : c .tlb ≡ t) where
+-- the store at va and n further ones: after the first, which leaves the state without a cache, the rest
+module _ (c : Core) (m : Ram) (va : ℕ) where
   abbrev stored : Stored
   stored = writeOf c (m .base) (m .bytes) va 8
 
-  abbrev tlbThen : Tlb
-  tlbThen = tlbAsks real (plainIn b) m (accessIn b va 8 Kind.Write) t
+  abbrev ZeroFits : ℕ → Core → Ram → ℕ → Type 0
+  ZeroFits n d k a = Fits d (zeroOf (suc n) d (k .base) (k .bytes) a .core) (bareOf d) (zeroSteps (bareOf d) k (zeroLater n d k a) a)
 
-  pub bare-then : bareOf (stored .core) ≡ b
-  bare-then = stored-bare c m va ∙ eb
+  one-fits : Fits c (stored .core) (bareOf c) (zeroSteps (bareOf c) m [] va)
+  one-fits = record { bare = stored-bare c m va; plain = refl; tlb = stored-tlb c m va }
 
-  pub tlb-then : stored .core .tlb ≡ tlbThen
-  tlb-then =
-      stored-tlb c m va
-      ∙ ap (λ (d : Bare). tlbAsks real (plainIn d) m (accessIn d va 8 Kind.Write) (c .tlb)) eb
-      ∙ ap (tlbAsks real (plainIn b) m (accessIn b va 8 Kind.Write)) et
-
-  zero-last : ZeroRuns zero c m va b t
+  zero-last : ZeroFits zero c m va
   unfolding zeroOf
   zero-last = go (stored .answer)
     where
-      go : (a : StoreAnswer)
-          → (bareOf (onStored a (doneWith (stored .core)) stored .core) ≡ b) × (onStored a (doneWith (stored .core)) stored .core .tlb ≡ tlbThen)
-      go Done = (bare-then, tlb-then)
-      go (Stopped s) = (bare-then, tlb-then)
+      go : (a : StoreAnswer) → Fits c (onStored a (doneWith (stored .core)) stored .core) (bareOf c) (zeroSteps (bareOf c) m [] va)
+      go Done = one-fits
+      go (Stopped s) = one-fits
 
-  zero-next : (n : ℕ) → ZeroRuns n (stored .core) (ramZeroed c m va) (wrap (va + 8)) b tlbThen → ZeroRuns (suc n) c m va b t
-  unfolding zeroOf
+  zero-next : (n : ℕ) → ZeroFits n (stored .core) (ramZeroed c m va) (wrap (va + 8)) → ZeroFits (suc n) c m va
+  unfolding zeroOf writeOf movedTo
   zero-next n rest = go (stored .answer)
     where
       more : Stored
       more = zeroOf (suc n) (stored .core) (m .base) (ramZeroed c m va .bytes) (wrap (va + 8))
 
+      later : List Ram
+      later = zeroLater n (stored .core) (ramZeroed c m va) (wrap (va + 8))
+
       go : (a : StoreAnswer)
-          → (bareOf (onStored a more stored .core) ≡ b)
-          × (onStored a more stored .core .tlb
-          ≡ tlbRun real (plainIn b)
-          (zeroSteps b m (onStored a (ramZeroed c m va ∷ zeroLater n (stored .core) (ramZeroed c m va) (wrap (va + 8))) []) va) t)
-      go Done = rest
-      go (Stopped s) = (bare-then, tlb-then)
+          → Fits c (onStored a more stored .core) (bareOf c) (zeroSteps (bareOf c) m (onStored a (ramZeroed c m va ∷ later) []) va)
+      go Done =
+          record {
+            bare = rest .bare;
+            plain = zero-plain (bareOf c) (plainIn (bareOf c)) m (ramZeroed c m va ∷ later) va;
+            tlb =
+                rest .tlb
+                ∙ ap (tlbRun real (plainIn (bareOf c)) (zeroSteps (bareOf c) (ramZeroed c m va) later (wrap (va + 8)))) (stored-tlb c m va);
+          }
+      go (Stopped s) = one-fits
 
-zero-runs : (n : ℕ) (c : Core) (m : Ram) (va : ℕ) (b : Bare) (t : Tlb) → bareOf c ≡ b → c .tlb ≡ t → ZeroRuns n c m va b t
-zero-runs zero c m va b t eb et = zero-last c m va b t eb et
-zero-runs (suc n) c m va b t eb et =
-    zero-next c m va b t eb et n
-    (zero-runs n (writeOf c (m .base) (m .bytes) va 8 .core) (ramZeroed c m va) (wrap (va + 8)) b
-    (tlbAsks real (plainIn b) m (accessIn b va 8 Kind.Write) t) (bare-then c m va b t eb et) (tlb-then c m va b t eb et))
-
-zero-fits : (c : Core) (m : Ram) (va : ℕ)
-    → Fits c (zeroOf 8 c (m .base) (m .bytes) va .core) (bareOf c) (zeroSteps (bareOf c) m (zeroLater 7 c m va) va)
-zero-fits c m va =
-    record {
-      bare = zero-runs 7 c m va (bareOf c) (c .tlb) refl refl .0;
-      plain = zero-plain (bareOf c) (plainIn (bareOf c)) m (zeroLater 7 c m va) va;
-      tlb = zero-runs 7 c m va (bareOf c) (c .tlb) refl refl .1;
-    }
+zero-fits : (n : ℕ) (c : Core) (m : Ram) (va : ℕ)
+    → Fits c (zeroOf (suc n) c (m .base) (m .bytes) va .core) (bareOf c) (zeroSteps (bareOf c) m (zeroLater n c m va) va)
+zero-fits zero c m va = zero-last c m va
+zero-fits (suc n) c m va =
+    zero-next c m va n (zero-fits n (writeOf c (m .base) (m .bytes) va 8 .core) (ramZeroed c m va) (wrap (va + 8)))
 
 -- SYSTEM OPERATIONS
 
@@ -161,7 +142,7 @@ sys-fits : (o : SysOp) (c : Core) (m : Ram) (e : Encoding)
 unfolding atOf corePar tlbiCore invalidatedOf movedTo
 sys-fits (Op.At form) c m e = record { bare = refl; plain = refl; tlb = refl }
 sys-fits Op.Tlbi c m e = record { bare = refl; plain = refl; tlb = refl }
-sys-fits Op.Zva c m e = zero-fits c m (alignDown (operandIn (bareOf c) e) 6)
+sys-fits Op.Zva c m e = zero-fits 7 c m (alignDown (operandIn (bareOf c) e) 6)
 sys-fits Op.Nothing c m e = fits-idle c m
 sys-fits Op.Undefined c m e = fits-idle c m
 sys-fits Op.Unimplemented c m e = fits-idle c m

@@ -26,7 +26,7 @@ use Rattle.cpu.specs.declared.call.Call.{Call}
 use Rattle.cpu.specs.declared.call.Call.the-variants.{Translate, DataPa, FetchPa, Fetch, System, Register}
 use Rattle.history.specs.World.{accessOf}
 use Rattle.history.specs.History.{carries, writes, Event, steps}
-use Rattle.history.specs.ModelRun.{modelAsk, modelAsks, modelAfter, modelFlushed, modelRetagged, modelRun}
+use Rattle.history.specs.ModelRun.{modelAsk, modelAfter, modelFlushed, modelRetagged, modelRun}
 use Rattle.history.specs.Calls.{Lent}
 use Rattle.history.specs.Instance.{Ram, real}
 use Rattle.demand3.specs.Bare.{plainIn, missedIn, opIn, writtenIn}

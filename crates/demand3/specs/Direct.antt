@@ -40,7 +40,7 @@ use Rattle.history.specs.EveryCall.{now-plain, fresh-run}
 use Rattle.history.specs.Instance.{Ram, memoryOf, real, real-laws, fresh-asid}
 use Rattle.demand3.specs.Bare.{plainIn, missedIn, opIn, operandIn}
 use Rattle.demand3.specs.Events.{accessIn, zeroSteps, eventsIn}
-use Rattle.demand3.specs.Replies.{Outcome, outcomeOf, zeroAlone, bareReply}
+use Rattle.demand3.specs.Replies.{Outcome, outcomeOf, bareZero, bareReply}
 use Rattle.demand3.specs.Starts.{laterIn}
 use Rattle.demand3.specs.Machine.{machine}
 use Rattle.demand3.specs.Answered.{load-answered, store-answered, fetch-end}
@@ -201,7 +201,7 @@ module _ (list : List (Fed real machine)) (seen : Shown real machine freshCore l
   -- core without a cache.
   pub zero-after : (e : Encoding) → missedIn bareNow m (System e) ≡ 0 → opIn bareNow e ≡ Op.Zva
       → Tidy real (plainIn freshBare) past (zeroSteps bareNow m (laterIn coreNow m (System e)) (alignDown (operandIn bareNow e) 6))
-      → outcomeOf coreNow m (System e) ≡ zeroAlone 7 bareNow m (alignDown (operandIn bareNow e) 6)
+      → outcomeOf coreNow m (System e) ≡ bareZero 7 bareNow m (alignDown (operandIn bareNow e) 6)
   unfolding freshCore
   zero-after e passed named tidy =
       every-reply list seen (showing real machine coreNow (record { ram = m; call = System e })) refl
@@ -212,5 +212,5 @@ module _ (list : List (Fed real machine)) (seen : Shown real machine freshCore l
           ≡ zeroSteps bareNow m (laterIn coreNow m (System e)) (alignDown (operandIn bareNow e) 6)
       events = rw (passed, named)
 
-      replies : bareReply bareNow m (System e) ≡ zeroAlone 7 bareNow m (alignDown (operandIn bareNow e) 6)
+      replies : bareReply bareNow m (System e) ≡ bareZero 7 bareNow m (alignDown (operandIn bareNow e) 6)
       replies = rw (passed, named)

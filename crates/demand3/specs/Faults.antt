@@ -54,7 +54,7 @@ use Rattle.history.specs.Judgement.{Row}
 use Rattle.demand3.specs.Bare.{plainIn, opIn, operandIn, Ruling, allowed, number, undefined, unimplemented, rulingIn, refusalOf, ifAllowed}
 use Rattle.demand3.specs.Events.{idle, accessIn, sizedIn, zeroSteps, sysSteps, stepsIn, eventsIn}
 use Rattle.demand3.specs.Replies.{Outcome, outcome, loadSays, storeSays, loadSized, storeSized, zeroSays, sysSays, callSays, saysIn}
-use Rattle.demand3.specs.Answered.{one-page, next-aligned, start-aligned}
+use Rattle.demand3.specs.Answered.{next-aligned, start-aligned, storeGiven, one-given}
 use Rattle.demand3.specs.Machine.{machine}
 use Rattle.demand3.specs.Beside.{coreAfter, bareAfter}
 use Rattle.demand3.specs.Starts.{laterIn}
@@ -233,20 +233,13 @@ zero-from b m [] va t addr fsc al w =
     store-from m va 8 (omega arith) (omega arith) _ (placed-nil va _ (answers-placed va Kind.Write (crosses (onNow real (plainIn b)) va 8) (plainIn b) m t))
     addr fsc 0 w
 zero-from b m (n ∷ ms) va t addr fsc al w =
-    subst (λ (l : List Given). FaultFrom (l ++ rest) addr fsc) (sym one-given)
-    (from-later first rest addr fsc
+    subst (λ (l : List Given). FaultFrom (l ++ rest) addr fsc) (sym (one-given b t m va al))
+    (from-later (storeGiven b t m va) rest addr fsc
     (zero-from b n ms (wrap (va + 8)) (tlbAsks real (plainIn b) m (accessIn b va 8 Kind.Write) t) addr fsc (next-aligned va al)
-    (subst (λ (l : List Given). RepliesFault (zeroSays m (n ∷ ms) va (l ++ rest) .reply) addr fsc) one-given w)))
+    (subst (λ (l : List Given). RepliesFault (zeroSays m (n ∷ ms) va (l ++ rest) .reply) addr fsc) (one-given b t m va al) w)))
   where
-    first : Given
-    first = record { ask = translates Kind.Write va; answer = answerOf real (plainIn b) m (translates Kind.Write va) t }
-
     rest : List Given
     rest = answersRun real (plainIn b) (zeroSteps b n ms (wrap (va + 8))) (tlbAsks real (plainIn b) m (accessIn b va 8 Kind.Write) t)
-
-    one-given : answers real (plainIn b) m (accessIn b va 8 Kind.Write) t ≡ first ∷ []
-    one-given =
-        rw (one-page (onNow real (plainIn b)) va al) (ap {B = List Given} (λ (l : List Given). first ∷ l) (onward-same (first .answer) []))
 
 -- EVERY CALL
 

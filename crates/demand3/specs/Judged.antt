@@ -5,13 +5,11 @@ use mathlib.Core.List.{List, [], _∷_, _++_}
 use Prim.Native.Nat.{ℕ, _+_}
 use native.Mathlib.Omega.{arith}
 use Rattle.tlb.specs.Lists.{Each, done, more}
-use Rattle.tlb.specs.Tlb.{fresh}
 use Rattle.tlb.specs.Asks.{Given}
 use Rattle.tlb.specs.declared.access.Answer.the-variants.{Status}
 use Rattle.tlb.specs.declared.Tlb.{Tlb}
 use Rattle.mmu.specs.Bare.{freshBare}
 use Rattle.mmu.specs.Core.{freshCore}
-use Rattle.cpu.specs.Step.{translation}
 use Rattle.history.specs.World.{Plain}
 use Rattle.history.specs.Lists.{each-append, plain-append, tlb-append}
 use Rattle.history.specs.History.{Step, Event, steps, receives, afterEvent, plainRun, tlbEvent, tlbRun, answers}

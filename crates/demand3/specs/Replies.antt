@@ -98,12 +98,12 @@ saysIn b m ms x gs = ifAllowed (rulingIn b m x) (callSays b m ms x gs) (outcome 
 -- OF THE CORE WITHOUT A CACHE
 
 -- its answers to the translations of an access: the second only where the first is an address
-abbrev pub answersAlone : Bare → Ram → List Ask → List Given
-answersAlone b m l = plainAnswers real (plainIn b) m l
+abbrev pub bareAnswers : Bare → Ram → List Ask → List Given
+bareAnswers b m l = plainAnswers real (plainIn b) m l
 
 -- a store of eight zero bytes
-abbrev pub zeroOne : Bare → Ram → ℕ → Outcome
-zeroOne b m va = storeSays m va 8 0 (answersAlone b m (accessIn b va 8 Kind.Write))
+abbrev pub bareZeroOne : Bare → Ram → ℕ → Outcome
+bareZeroOne b m va = storeSays m va 8 0 (bareAnswers b m (accessIn b va 8 Kind.Write))
 
 abbrev pub onDone : Reply → Outcome → Outcome → Outcome
 onDone Done more end = more
@@ -114,36 +114,36 @@ onDone (Faulted addr fsc) more end = end
 onDone (Stopped s) more end = end
 
 -- A zeroing: the store at va and n further ones, each on RAM as its own last one left it, up to the first that stops.
-abbrev pub zeroAlone : ℕ → Bare → Ram → ℕ → Outcome
-zeroAlone zero b m va = zeroOne b m va
-zeroAlone (suc n) b m va =
-    onDone (zeroOne b m va .reply) (zeroAlone n b (ramWith m (zeroOne b m va .bytes)) (wrap (va + 8))) (zeroOne b m va)
+abbrev pub bareZero : ℕ → Bare → Ram → ℕ → Outcome
+bareZero zero b m va = bareZeroOne b m va
+bareZero (suc n) b m va =
+    onDone (bareZeroOne b m va .reply) (bareZero n b (ramWith m (bareZeroOne b m va .bytes)) (wrap (va + 8))) (bareZeroOne b m va)
 
-abbrev pub sysAlone : SysOp → Bare → Ram → ℕ → Outcome
-sysAlone Op.Zva b m x = zeroAlone 7 b m (alignDown x 6)
-sysAlone (Op.At form) b m x = outcome Done (m .bytes)
-sysAlone Op.Tlbi b m x = outcome Done (m .bytes)
-sysAlone Op.Nothing b m x = outcome Done (m .bytes)
-sysAlone Op.Undefined b m x = outcome Done (m .bytes)
-sysAlone Op.Unimplemented b m x = outcome Done (m .bytes)
+abbrev pub bareSys : SysOp → Bare → Ram → ℕ → Outcome
+bareSys Op.Zva b m x = bareZero 7 b m (alignDown x 6)
+bareSys (Op.At form) b m x = outcome Done (m .bytes)
+bareSys Op.Tlbi b m x = outcome Done (m .bytes)
+bareSys Op.Nothing b m x = outcome Done (m .bytes)
+bareSys Op.Undefined b m x = outcome Done (m .bytes)
+bareSys Op.Unimplemented b m x = outcome Done (m .bytes)
 
-abbrev pub callAlone : Bare → Ram → Call → Outcome
-callAlone b m (Translate kind va) = outcome (translation va (uncached real (plainIn b) m kind va)) (m .bytes)
-callAlone b m (DataPa va) = outcome (reaching (reachedBy (uncached real (plainIn b) m Kind.Read va))) (m .bytes)
-callAlone b m (FetchPa va) = outcome (reaching (reachedBy (uncached real (plainIn b) m Kind.Fetch va))) (m .bytes)
-callAlone b m (Load va size) = loadSized (widthOf size) m va (answersAlone b m (sizedIn b va (widthOf size) Kind.Read))
-callAlone b m (Store va size value) =
-    storeSized (widthOf size) m va value (answersAlone b m (sizedIn b va (widthOf size) Kind.Write))
-callAlone b m (Fetch va) =
+abbrev pub bareCall : Bare → Ram → Call → Outcome
+bareCall b m (Translate kind va) = outcome (translation va (uncached real (plainIn b) m kind va)) (m .bytes)
+bareCall b m (DataPa va) = outcome (reaching (reachedBy (uncached real (plainIn b) m Kind.Read va))) (m .bytes)
+bareCall b m (FetchPa va) = outcome (reaching (reachedBy (uncached real (plainIn b) m Kind.Fetch va))) (m .bytes)
+bareCall b m (Load va size) = loadSized (widthOf size) m va (bareAnswers b m (sizedIn b va (widthOf size) Kind.Read))
+bareCall b m (Store va size value) =
+    storeSized (widthOf size) m va value (bareAnswers b m (sizedIn b va (widthOf size) Kind.Write))
+bareCall b m (Fetch va) =
     outcome (fetching (fetchEnd (uncached real (plainIn b) m Kind.Fetch va) 0 (m .base) (m .bytes) va .answer))
     (m .bytes)
-callAlone b m (System e) = sysAlone (opIn b e) b m (operandIn b e)
-callAlone b m (Register key value) = outcome Done (m .bytes)
-callAlone b m (Level level) = outcome Done (m .bytes)
-callAlone b m (Mark mark) = outcome Done (m .bytes)
-callAlone b m (General n value) = outcome Done (m .bytes)
-callAlone b m (Abort e) = outcome Done (m .bytes)
+bareCall b m (System e) = bareSys (opIn b e) b m (operandIn b e)
+bareCall b m (Register key value) = outcome Done (m .bytes)
+bareCall b m (Level level) = outcome Done (m .bytes)
+bareCall b m (Mark mark) = outcome Done (m .bytes)
+bareCall b m (General n value) = outcome Done (m .bytes)
+bareCall b m (Abort e) = outcome Done (m .bytes)
 
 -- its reply to a call, and RAM after it
 abbrev pub bareReply : Bare → Ram → Call → Outcome
-bareReply b m x = ifAllowed (rulingIn b m x) (callAlone b m x) (outcome (refusalOf (rulingIn b m x)) (m .bytes))
+bareReply b m x = ifAllowed (rulingIn b m x) (bareCall b m x) (outcome (refusalOf (rulingIn b m x)) (m .bytes))

@@ -51,4 +51,6 @@ abbrev pub entering : Core → Entered → Core
 entering c e = inCore c (withEntered (bareOf c) e)
 
 unfoldable pub abortOf : Core → Exception → Core
-abortOf c e = entering c (takeSync (c .who .level) (c .flags) (c .pc) (c .control .«scr_el3») (c .control .«hcr_el2») (c .sys) e)
+abortOf c e =
+    entering c
+    (takeSync (c .who .level) (c .flags) (c .pc) (c .control .«scr_el3») (c .control .«hcr_el2») (c .sys) e)

@@ -63,8 +63,8 @@ zeroRam (suc n) c base ram va =
     (zeroRam n (writeOf c base ram va 8 .core) base (ramAfterWrite c base ram va 8 0) (wrap (va + 8)))
     (ramAfterWrite c base ram va 8 0)
 
--- What a system operation does, by what its encoding names. DC ZVA: A8, its stores, and so a fault's address, begin at the register's value
--- aligned down to 64; M21, the mark holds for them; D4, they are made to Device memory too.
+-- What a system operation does, by what its encoding names. DC ZVA: A8, its stores, and so a fault's address, begin at
+-- the register's value aligned down to 64; M21, the mark holds for them; D4, they are made to Device memory too.
 abbrev pub sysBy : SysOp → Core → ℕ → List ℕ → ℕ → ℕ → ℕ → ℕ → Stored
 sysBy (At form) c base ram op1 crm op2 x = doneWith (atOf c (wordAt base ram 8) form x)
 sysBy Tlbi c base ram op1 crm op2 x = doneWith (tlbiCore c op1 crm op2 x)

@@ -1,6 +1,6 @@
--- What DC ZVA leaves in RAM. Each of its eight stores translates by itself, and RAM may hold the very tables that a store changes. So first by
--- each store's own translation; and then that the eight agree, whatever becomes of the tables: 64 bytes at the translation of the aligned
--- address are zero, and every other byte is as it was.
+-- What DC ZVA leaves in RAM. Each of its eight stores translates by itself, and RAM may hold the very tables that a
+-- store changes. So first by each store's own translation; and then that the eight agree, whatever becomes of the
+-- tables: 64 bytes at the translation of the aligned address are zero, and every other byte is as it was.
 use mathlib.Core.Path.{_≡_, refl, sym, ap, subst, _∙_}
 use mathlib.Core.Bool.{Bool, true, false}
 use mathlib.Core.List.{List}
@@ -35,7 +35,8 @@ use Rattle.exec.specs.ZeroLaws.{one-ram, none-ram, one-done, one-tlb, wi
 
 -- the translation that store j makes: of its own address, in the core and the RAM that the stores before it leave
 abbrev pub storeAnswer : Core → ℕ → List ℕ → ℕ → ℕ → Answer
-storeAnswer c base ram va j = translateOf (zeroOf j c base ram va .core) (wordAt base (zeroRam j c base ram va) 8) (va + 8 * j) Write .answer
+storeAnswer c base ram va j =
+    translateOf (zeroOf j c base ram va .core) (wordAt base (zeroRam j c base ram va) 8) (va + 8 * j) Write .answer
 
 -- of the first store, in the core and RAM as they stand
 pub first-answer : (c : Core) (base : ℕ) (ram : List ℕ) (va : ℕ) → storeAnswer c base ram va 0 ≡ translateOf c (wordAt base ram 8) va Write .answer
@@ -223,7 +224,8 @@ module _ (c : Core) (base : ℕ) (ram : List ℕ) (va pa : ℕ) (well : WellForm
   agree (suc n) h e =
       let before = agree n (omega arith) (zero-fewer c base ram va (suc n) n (omega arith) e) in
       let o = offset in
-      let q = again c (zeroOf (suc n) c base ram va .core) base (zeroRam (suc n) c base ram va) va pa (va + 8 * suc n) (ap (λ (b : Bare). b .who) (bare-kept c base ram va (suc n)))
+      let q = again c (zeroOf (suc n) c base ram va .core) base (zeroRam (suc n) c base ram va) va pa (va + 8 * suc n)
+      (ap (λ (b : Bare). b .who) (bare-kept c base ram va (suc n)))
       (ap (λ (b : Bare). b .control) (bare-kept c base ram va (suc n))) (before .gives) (omega arith) (omega arith) in
       record {
         answer = q .0 ∙ ap Address (omega arith);
@@ -280,7 +282,8 @@ first-of c base ram va line room e =
     let z = zero-each c base ram va (omega arith) 8 0 (omega arith) e (omega arith) in
     (z .pa, sym (first-answer c base ram va) ∙ z .answer)
 
--- a zeroing of the line of x that is done: 64 zero bytes at the translation of the aligned address, whatever the stores do to the tables
+-- a zeroing of the line of x that is done: 64 zero bytes at the translation of the aligned address, whatever the stores
+-- do to the tables
 pub zero-line : (c : Core) (base : ℕ) (ram : List ℕ) (x : ℕ) → WellFormed (c .tlb) → x < 2 ^ 64 → zeroOf 8 c base ram (alignDown x 6) .answer ≡ Done
     → (pa : ℕ) × ((translateOf c (wordAt base ram 8) (alignDown x 6) Write .answer ≡ Address pa)
     × Zeroed base pa ram (zeroRam 8 c base ram (alignDown x 6)))

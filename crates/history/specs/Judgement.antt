@@ -31,7 +31,7 @@ use Rattle.tlb.specs.declared.Inval.{Inval}
 use Rattle.history.specs.World.{covers, Plain, leafAnswer, walkAnswer, regimeNow, onNow, untagNow, pageNow, uncached}
 use Rattle.history.specs.History.{Step, Event, plainRun, answers, tlbRun}
 use Rattle.history.specs.Instance.{Ram, memoryOf, real, real-laws, freshPlain, fresh-asid}
-use Rattle.history.specs.Origin.{Stood, From, flat, fails, walks, origin}
+use Rattle.history.specs.Origin.{StateIn, From, flat, fails, walks, origin}
 
 -- THE PERMISSION CHECK
 
@@ -51,34 +51,31 @@ checked s r user k t va =
     pick (allowed (singlePriv r) (not user) (wxnOf s) (t .perms) (accessFor k))
     (Address (t .address / 4096 * 4096 + va % 4096)) (Status (12 + t .level))
 
--- The answer x to a translation a, made after the history on the RAM m. Either stage 1 is off, and it is the address
--- itself; or the walk of now faults, and it is that fault; or the page had the walk t at the registers R and the RAM
--- m′, of now or of a step of the history, global or under today's ASID, which no invalidation since covers, and the
--- access of now is checked on what t found.
-pub data Judged (past : List (Event real)) (m : Ram) (a : Ask) (x : Answer) : Type 0 where
-  itself : onNow real (plainRun real freshPlain past) ≡ false → x ≡ Address (addressOf a) → Judged past m a x
-  faulted : (f : Fault) → onNow real (plainRun real freshPlain past) ≡ true
-      → tableWalk (bankOf (plainRun real freshPlain past .regs) (regimeNow real (plainRun real freshPlain past)))
-      (regimeNow real (plainRun real freshPlain past)) (untagNow real (plainRun real freshPlain past) (addressOf a)) (memoryOf m)
-      ≡ faults f
-      → x ≡ Status (statusOf f) → Judged past m a x
-  allowing : (R : Control) (m′ : Ram) (vs : List Inval) → Stood real freshPlain past m R m′ vs → (t : Translation)
-      → real .on R (regimeNow real (plainRun real freshPlain past)) ≡ true
-      → tableWalk (bankOf R (regimeNow real (plainRun real freshPlain past))) (regimeNow real (plainRun real freshPlain past))
-      (pageNow real (plainRun real freshPlain past) (addressOf a) * 4096) (memoryOf m′)
-      ≡ mapped t
-      → (t .nG ≡ false) ⊎ (real .asid R ≡ real .asid (plainRun real freshPlain past .regs))
-      → Each
-      (λ v.
-      covers v (pageNow real (plainRun real freshPlain past) (addressOf a))
-      (leafOf (singlePriv (regimeNow real (plainRun real freshPlain past))) (wxnOf (bankOf R (regimeNow real (plainRun real freshPlain past)))) t)
-      (real .asid R)
-      ≡ false)
-      vs
-      → x
-      ≡ checked (bankOf R (regimeNow real (plainRun real freshPlain past))) (regimeNow real (plainRun real freshPlain past))
-      (userNow (plainRun real freshPlain past) (kindOf a)) (kindOf a) t (addressOf a)
-      → Judged past m a x
+module _ (past : List (Event real)) (m : Ram) where
+  -- registers, level and mark after the history
+  abbrev pub now : Plain real
+  now = plainRun real freshPlain past
+
+  abbrev pub regime : Regime
+  regime = regimeNow real now
+
+  -- The answer x to a translation a, made after the history on the RAM m. Either stage 1 is off, and it is the address
+  -- itself; or the walk of now faults, and it is that fault; or the page had the walk t at the registers R and the RAM
+  -- m′, of now or of a step of the history, global or under today's ASID, which no invalidation since covers, and the
+  -- access of now is checked on what t found.
+  pub data Judged (a : Ask) (x : Answer) : Type 0 where
+    itself : onNow real now ≡ false → x ≡ Address (addressOf a) → Judged a x
+    faulted : (f : Fault) → onNow real now ≡ true
+        → tableWalk (bankOf (now .regs) regime) regime (untagNow real now (addressOf a)) (memoryOf m) ≡ faults f
+        → x ≡ Status (statusOf f) → Judged a x
+    allowing : (R : Control) (m′ : Ram) (vs : List Inval) → StateIn real freshPlain past m R m′ vs → (t : Translation)
+        → real .on R regime ≡ true
+        → tableWalk (bankOf R regime) regime (pageNow real now (addressOf a) * 4096) (memoryOf m′) ≡ mapped t
+        → (t .nG ≡ false) ⊎ (real .asid R ≡ real .asid (now .regs))
+        → Each
+        (λ v. covers v (pageNow real now (addressOf a)) (leafOf (singlePriv regime) (wxnOf (bankOf R regime)) t) (real .asid R) ≡ false)
+        vs
+        → x ≡ checked (bankOf R regime) regime (userNow now (kindOf a)) (kindOf a) t (addressOf a) → Judged a x
 
 -- A WALK is the manual's
 
@@ -125,25 +122,23 @@ not-true : (b : Bool) → not b ≡ true → b ≡ false
 not-true false e = refl
 not-true true e = absurd (false≢true e)
 
-judged-from : (past : List (Event real)) (m : Ram) (a : Ask) (x : Answer) → From real freshPlain past m a x → Judged past m a x
-judged-from past m a x (flat o e) = itself o e
-judged-from past m a x (fails code o f e) = let (g, h, q) = manual-fault _ _ _ _ code f in faulted g o h (e ∙ ap Status q)
-judged-from past m a x (walks R m′ vs stood ℓ o leaf d us e) =
-    let (t, h, q) = manual-leaf _ _ _ _ ℓ leaf in
-    allowing R m′ vs stood t o h
-    (day t (subst (λ (l : Leaf). (l .global ≡ true) ⊎ (real .asid R ≡ real .asid (plainRun real freshPlain past .regs))) (sym q) d))
-    (subst
-    (λ (l : Leaf). Each (λ v. covers v (pageNow real (plainRun real freshPlain past) (addressOf a)) l (real .asid R) ≡ false) vs) (sym q) us)
-    (e
-    ∙ ap (λ (l : Leaf). leafAnswer l (need (kindOf a) (userNow (plainRun real freshPlain past) (kindOf a))) (addressOf a)) (sym q)
-    ∙ leaf-checked (bankOf R (regimeNow real (plainRun real freshPlain past))) (regimeNow real (plainRun real freshPlain past)) t (kindOf a)
-    (userNow (plainRun real freshPlain past) (kindOf a)) (addressOf a))
-  where
-    -- a leaf is global where nG is clear
-    day : (t : Translation) → (not (t .nG) ≡ true) ⊎ (real .asid R ≡ real .asid (plainRun real freshPlain past .regs))
-        → (t .nG ≡ false) ⊎ (real .asid R ≡ real .asid (plainRun real freshPlain past .regs))
-    day t (inl g) = inl (not-true (t .nG) g)
-    day t (inr y) = inr y
+module _ (past : List (Event real)) (m : Ram) (a : Ask) where
+  -- a leaf is global where nG is clear
+  global-or : (P : Type 0) (t : Translation) → (not (t .nG) ≡ true) ⊎ P → (t .nG ≡ false) ⊎ P
+  global-or P t (inl g) = inl (not-true (t .nG) g)
+  global-or P t (inr y) = inr y
+
+  judged-from : (x : Answer) → From real freshPlain past m a x → Judged past m a x
+  judged-from x (flat o e) = itself o e
+  judged-from x (fails code o f e) = let (g, h, q) = manual-fault _ _ _ _ code f in faulted g o h (e ∙ ap Status q)
+  judged-from x (walks R m′ vs at ℓ o leaf d us e) =
+      let (t, h, q) = manual-leaf _ _ _ _ ℓ leaf in
+      allowing R m′ vs at t o h
+      (global-or _ t (subst (λ (l : Leaf). (l .global ≡ true) ⊎ (real .asid R ≡ real .asid (now past m .regs))) (sym q) d))
+      (subst (λ (l : Leaf). Each (λ v. covers v (pageNow real (now past m) (addressOf a)) l (real .asid R) ≡ false) vs) (sym q) us)
+      (e
+      ∙ ap (λ (l : Leaf). leafAnswer l (need (kindOf a) (userNow (now past m) (kindOf a))) (addressOf a)) (sym q)
+      ∙ leaf-checked (bankOf R (regime past m)) (regime past m) t (kindOf a) (userNow (now past m) (kindOf a)) (addressOf a))
 
 each-map : {A : Type 0} {P Q : A → Type 0} {l : List A} → ((a : A) → P a → Q a) → Each P l → Each Q l
 each-map f done = done
@@ -151,7 +146,7 @@ each-map f (more {a = a} p ps) = more (f a p) (each-map f ps)
 
 -- After every history, whatever the RAM, each translation of each step is judged so.
 pub every-judgement : (past : List (Event real)) (m : Ram) (s : Step real)
-    → Each (λ g. Judged past m (g .ask) (g .answer)) (answers real (plainRun real freshPlain past) m (s .asks) (tlbRun real freshPlain past fresh))
+    → Each (λ g. Judged past m (g .ask) (g .answer)) (answers real (now past m) m (s .asks) (tlbRun real freshPlain past fresh))
 every-judgement past m s =
     each-map (λ g f. judged-from past m (g .ask) (g .answer) f) (origin real real-laws freshPlain fresh-asid (omega arith) past m s)
 
@@ -177,16 +172,13 @@ pub status-row : (past : List (Event real)) (m : Ram) (a : Ask) (code : ℕ) →
 status-row past m a code (itself o e) = let z : _≡_ {A = ℕ} 0 1 = cc in absurd (omega arith)
 status-row past m a code (faulted f o h e) =
     rw (status-injective e) (walk-row f (subst (Sound _) h (table-walk-sound _ _ _ (memoryOf m))))
-status-row past m a code (allowing R m′ vs stood t o h d us e) =
-    go (allowed (singlePriv r) (not (userNow c (kindOf a))) (wxnOf (bankOf R r)) (t .perms) (accessFor (kindOf a))) e
+status-row past m a code (allowing R m′ vs at t o h d us e) =
+    go (allowed (singlePriv r) (not (userNow (now past m) (kindOf a))) (wxnOf (bankOf R r)) (t .perms) (accessFor (kindOf a))) e
   where
-    c : Plain real
-    c = plainRun real freshPlain past
-
     r : Regime
-    r = regimeNow real c
+    r = regime past m
 
-    found : Found (pageNow real (plainRun real freshPlain past) (addressOf a) * 4096) t
+    found : Found (pageNow real (now past m) (addressOf a) * 4096) t
     found = subst (Sound _) h (table-walk-sound _ _ _ (memoryOf m′))
 
     go : (b : Bool) → Status code ≡ pick b (Address (t .address / 4096 * 4096 + addressOf a % 4096)) (Status (12 + t .level)) → Row code

@@ -24,23 +24,28 @@ use Rattle.history.specs.Theorem.{ask-done, moments, Uncovered, Found, f
 module _ (w : World) (c₀ : Plain w) where
   -- The registers R and the RAM m′ are those of now, or those at the start of a step of the history; vs are the
   -- invalidations since.
-  pub data Stood (past : List (Event w)) (m : w .Ram) (R : w .Regs) (m′ : w .Ram) : List Inval → Type 0 where
-    now : R ≡ plainRun w c₀ past .regs → m′ ≡ m → Stood past m R m′ []
+  pub data StateIn (past : List (Event w)) (m : w .Ram) (R : w .Regs) (m′ : w .Ram) : List Inval → Type 0 where
+    now : R ≡ plainRun w c₀ past .regs → m′ ≡ m → StateIn past m R m′ []
     then : (before : List (Event w)) (s : Step w) (later : List (Event w)) → past ≡ before ++ steps m′ s ∷ later
-        → R ≡ plainRun w c₀ before .regs → Stood past m R m′ (dropsRun w (plainRun w c₀ before) (steps m′ s ∷ later))
+        → R ≡ plainRun w c₀ before .regs → StateIn past m R m′ (dropsRun w (plainRun w c₀ before) (steps m′ s ∷ later))
 
-  -- The answer x to a translation a, made after the history on the RAM m.
-  pub data From (past : List (Event w)) (m : w .Ram) (a : Ask) (x : Answer) : Type 0 where
-    flat : onNow w (plainRun w c₀ past) ≡ false → x ≡ Address (addressOf a) → From past m a x
-    fails : (code : ℕ) → onNow w (plainRun w c₀ past) ≡ true
-        → w .walk (plainRun w c₀ past .regs) m (regimeNow w (plainRun w c₀ past)) (untagNow w (plainRun w c₀ past) (addressOf a)) ≡ Fault code
-        → x ≡ Status code → From past m a x
-    walks : (R : w .Regs) (m′ : w .Ram) (vs : List Inval) → Stood past m R m′ vs → (ℓ : Leaf)
-        → w .on R (regimeNow w (plainRun w c₀ past)) ≡ true
-        → pageWalk w R m′ (regimeNow w (plainRun w c₀ past)) (pageNow w (plainRun w c₀ past) (addressOf a)) ≡ Mapped ℓ
-        → (ℓ .global ≡ true) ⊎ (w .asid R ≡ w .asid (plainRun w c₀ past .regs))
-        → Each (λ v. covers v (pageNow w (plainRun w c₀ past) (addressOf a)) ℓ (w .asid R) ≡ false) vs
-        → x ≡ leafAnswer ℓ (needNow w (plainRun w c₀ past) (kindOf a)) (addressOf a) → From past m a x
+  module _ (past : List (Event w)) (m : w .Ram) where
+    -- what a translation reads after the history
+    abbrev pub here : Plain w
+    here = plainRun w c₀ past
+
+    -- The answer x to a translation a, made after the history on the RAM m.
+    pub data From (a : Ask) (x : Answer) : Type 0 where
+      flat : onNow w here ≡ false → x ≡ Address (addressOf a) → From a x
+      fails : (code : ℕ) → onNow w here ≡ true
+          → w .walk (here .regs) m (regimeNow w here) (untagNow w here (addressOf a)) ≡ Fault code
+          → x ≡ Status code → From a x
+      walks : (R : w .Regs) (m′ : w .Ram) (vs : List Inval) → StateIn past m R m′ vs → (ℓ : Leaf)
+          → w .on R (regimeNow w here) ≡ true
+          → pageWalk w R m′ (regimeNow w here) (pageNow w here (addressOf a)) ≡ Mapped ℓ
+          → (ℓ .global ≡ true) ⊎ (w .asid R ≡ w .asid (here .regs))
+          → Each (λ v. covers v (pageNow w here (addressOf a)) ℓ (w .asid R) ≡ false) vs
+          → x ≡ leafAnswer ℓ (needNow w here (kindOf a)) (addressOf a) → From a x
 
 module _ (w : World) (laws : Laws w) (c₀ : Plain w) (zero-asid : w .asid (c₀ .regs) ≡ 0) (low : c₀ .who .level ≤ 3) where
   module _ (past : List (Event w)) (m : w .Ram) where

@@ -19,7 +19,7 @@ use Rattle.tlb.specs.declared.access.Kind.the-variants.{Read, Write, Fetch}
 use Rattle.tlb.specs.declared.access.Answer.{Answer}
 use Rattle.tlb.specs.declared.access.Answer.the-variants.{Address, Status}
 use Rattle.history.specs.World.{World, Laws, LeavesEqual, leafAnswer, walkAnswer, pageWalk, Plain, regimeNow, onNow, untagNow, pageNow, needNow, uncached, accessOf}
-use Rattle.history.specs.Traced.{Moment, at, Seen, Today, Behind, LineOk, allows, Promise, flat, kept, HintOk, kindAt, Traced, traced-counting, traced-keep, traced-hint, traced-fetch-hint}
+use Rattle.history.specs.Traced.{Moment, at, Seen, Today, LineFrom, LineOk, allows, HintFrom, flat, kept, HintOk, kindAt, Traced, traced-counting, traced-keep, traced-hint, traced-fetch-hint}
 
 and-left : (a b : Bool) → (a && b) ≡ true → a ≡ true
 and-left true b e = refl
@@ -106,24 +106,24 @@ module _ (w : World) where
     same-need : Unmarked (c .who .mark) k → needNow w c k ≡ need k (asUser (regimeNow w c) (c .who .level) false k)
     same-need u = ap (need k) (unmarked (regimeNow w c) (c .who .level) (c .who .mark) k u)
 
-    answered-promise : (pa : ℕ) → Unmarked (c .who .mark) k → Answered (Address pa) → Promise w h (c .regs) k (va / 4096) (c .who .level) (pa / 4096)
+    answered-hint : (pa : ℕ) → Unmarked (c .who .mark) k → Answered (Address pa) → HintFrom w h (c .regs) k (va / 4096) (c .who .level) (pa / 4096)
     unfolding leafAnswer
-    answered-promise pa u (itself o e) = let q : pa ≡ va = cc in flat o (ap (λ (n : ℕ). n / 4096) q)
-    answered-promise pa u (by ℓ a o seen d e) = go (allows w ℓ (needNow w c k)) refl e
+    answered-hint pa u (itself o e) = let q : pa ≡ va = cc in flat o (ap (λ (n : ℕ). n / 4096) q)
+    answered-hint pa u (by ℓ a o seen d e) = go (allows w ℓ (needNow w c k)) refl e
       where
         go : (b : Bool) → allows w ℓ (needNow w c k) ≡ b → Address pa ≡ pick b (Address (ℓ .oa / 4096 * 4096 + va % 4096)) (Status (12 + ℓ .level))
-            → Promise w h (c .regs) k (va / 4096) (c .who .level) (pa / 4096)
+            → HintFrom w h (c .regs) k (va / 4096) (c .who .level) (pa / 4096)
         go true al q =
             let n : pa ≡ ℓ .oa / 4096 * 4096 + va % 4096 = cc in
             kept ℓ a o (subst (λ (p : ℕ). Seen w h (regimeNow w c) p ℓ a) untag-first seen) d
             (ap (allows w ℓ) (sym (same-need u)) ∙ al) (omega arith)
         go false al q = let z : _≡_ {A = ℕ} 0 1 = cc in absurd (omega arith)
-    answered-promise pa u (failed code o f e) = let z : _≡_ {A = ℕ} 0 1 = cc in absurd (omega arith)
+    answered-hint pa u (failed code o f e) = let z : _≡_ {A = ℕ} 0 1 = cc in absurd (omega arith)
 
-    promise-answered : (q : ℕ) → Unmarked (c .who .mark) k → Promise w h (c .regs) k (va / 4096) (c .who .level) q → Answered (addressIn q va)
+    hint-answered : (q : ℕ) → Unmarked (c .who .mark) k → HintFrom w h (c .regs) k (va / 4096) (c .who .level) q → Answered (addressIn q va)
     unfolding leafAnswer
-    promise-answered q u (flat o e) = let x : q * 4096 + va % 4096 ≡ va = omega arith in itself o (ap Address x)
-    promise-answered q u (kept ℓ a o seen d al e) =
+    hint-answered q u (flat o e) = let x : q * 4096 + va % 4096 ≡ va = omega arith in itself o (ap Address x)
+    hint-answered q u (kept ℓ a o seen d al e) =
         by ℓ a o (subst (λ (p : ℕ). Seen w h (regimeNow w c) p ℓ a) (sym untag-first) seen) d
         (rw (same-need u, al) (ap (λ (n : ℕ). Address (n * 4096 + va % 4096)) e))
 
@@ -132,7 +132,7 @@ module _ (w : World) where
       pub traced : Traced w h (c .regs) (o .after)
       pub answered : Answered (o .answer)
 
-    line-judged : (l : Line) (o : Behind w h l) → judgeLine l (accessOf w c m k va) ≡ leafAnswer (o .leaf) (needNow w c k) va
+    line-judged : (l : Line) (o : LineFrom w h l) → judgeLine l (accessOf w c m k va) ≡ leafAnswer (o .leaf) (needNow w c k) va
     unfolding judgeLine leafAnswer
     line-judged l o = rw (o .frame, o .perms, o .level)
 
@@ -172,7 +172,7 @@ module _ (w : World) where
           seen : Seen w h (regimeNow w c) (pageNow w c va) (first .0) (t .asid)
           seen = inl (record { is-on = o; leaf = first .1; under = s .asid-is })
 
-          kept-walk : Behind w h line
+          kept-walk : LineFrom w h line
           kept-walk =
               record {
                 leaf = first .0;
@@ -188,7 +188,7 @@ module _ (w : World) where
           answer = by (first .0) (t .asid) o seen (inr (s .asid-is)) (line-judged laws h c m k va line kept-walk)
 
       -- a line that serves keeps a walk that was seen, global or under today's ASID
-      line-done : onNow w c ≡ true → (l : Line) → Behind w h l → ofPage l ≡ true → ofRegime l ≡ true → reaches (l .reach) (t .asid) ≡ true
+      line-done : onNow w c ≡ true → (l : Line) → LineFrom w h l → ofPage l ≡ true → ofRegime l ≡ true → reaches (l .reach) (t .asid) ≡ true
           → Fine (looked (holds l) a t)
       unfolding looked
       line-done o l b p r q =
@@ -233,16 +233,16 @@ module _ (w : World) where
           go (Address pa) e =
               traced-hint w (hintPlace k va) (knownOf a pa)
               (rw (kind-at k (c .who .mark) va b)
-              (answered-promise laws h c m k va pa (inr (hint-unmarked k (c .who .mark) b)) (rw e at (d .answered))))
+              (answered-hint laws h c m k va pa (inr (hint-unmarked k (c .who .mark) b)) (rw e at (d .answered))))
               (d .traced)
 
-      -- a hint answers as it promised
-      hit-done : Unmarked (c .who .mark) k → (n : Known) → Promise w h (c .regs) k (n .page) (n .level) (n .frame)
+      -- a hint answers what it says
+      hit-done : Unmarked (c .who .mark) k → (n : Known) → HintFrom w h (c .regs) k (n .page) (n .level) (n .frame)
           → hits n ≡ true → Answered laws h c m k va (addressIn (n .frame) va)
       hit-done u n o e =
           let p : n .page ≡ va / 4096 = eqb-true _ _ (and-left _ _ e) in
           let l : n .level ≡ c .who .level = eqb-true _ _ (and-right (eqb (n .page) (va / 4096)) _ e) in
-          promise-answered laws h c m k va (n .frame) u (rw (p, l) at o)
+          hint-answered laws h c m k va (n .frame) u (rw (p, l) at o)
 
       tried-done : hintable k (c .who .mark) ≡ true → (x : Slot Known) → HintOk w h (c .regs) k x → Fine (tried (knowing (va / 4096) (c .who .level) x) a t)
       unfolding tried
@@ -273,7 +273,7 @@ module _ (w : World) where
           put : (y : Answer) → unhinted (onNow w c) a t .answer ≡ y → Traced w h (c .regs) (notingFetch y a (unhinted (onNow w c) a t .after))
           put (Status code) e = d .traced
           put (Address pa) e =
-              traced-fetch-hint w (knownOf a pa) (rw f at (answered-promise laws h c m k va pa (inl f) (rw e at (d .answered)))) (d .traced)
+              traced-fetch-hint w (knownOf a pa) (rw f at (answered-hint laws h c m k va pa (inl f) (rw e at (d .answered)))) (d .traced)
 
           miss : Fine (notedFetch a (unhinted (onNow w c) a t))
           miss = record { traced = put _ refl; answered = d .answered }

@@ -43,7 +43,7 @@ module _ (w : World) where
   Today R ℓ a = (ℓ .global ≡ true) ⊎ (a ≡ w .asid R)
 
   -- A line keeps a walk that was seen.
-  pub record Behind (h : List Moment) (l : Line) : Type 0 where
+  pub record LineFrom (h : List Moment) (l : Line) : Type 0 where
     pub leaf : Leaf
     pub under : ℕ
     pub seen : Seen h (l .regime) (l .page) leaf under
@@ -54,21 +54,21 @@ module _ (w : World) where
 
   abbrev pub LineOk : List Moment → Slot Line → Type 0
   LineOk h empty = Unit {0}
-  LineOk h (holds l) = Behind h l
+  LineOk h (holds l) = LineFrom h l
 
   abbrev pub allows : Leaf → ℕ → Bool
   allows ℓ bit = eqb (ℓ .perms / bit % 2) 1
 
-  -- What a hint for the raw page v at the level el promises to an access of the kind, without the mark: the physical
+  -- What a hint for the raw page v at the level el says to an access of the kind, without the mark: the physical
   -- page q.
-  pub data Promise (h : List Moment) (R : w .Regs) (k : Kind) (v el q : ℕ) : Type 0 where
-    flat : w .on R (regimeOf el) ≡ false → q ≡ v → Promise h R k v el q
+  pub data HintFrom (h : List Moment) (R : w .Regs) (k : Kind) (v el q : ℕ) : Type 0 where
+    flat : w .on R (regimeOf el) ≡ false → q ≡ v → HintFrom h R k v el q
     kept : (ℓ : Leaf) (a : ℕ) → w .on R (regimeOf el) ≡ true → Seen h (regimeOf el) (w .untag R (regimeOf el) (v * 4096) / 4096) ℓ a
-        → Today R ℓ a → allows ℓ (need k (asUser (regimeOf el) el false k)) ≡ true → q ≡ ℓ .oa / 4096 → Promise h R k v el q
+        → Today R ℓ a → allows ℓ (need k (asUser (regimeOf el) el false k)) ≡ true → q ≡ ℓ .oa / 4096 → HintFrom h R k v el q
 
   abbrev pub HintOk : List Moment → w .Regs → Kind → Slot Known → Type 0
   HintOk h R k empty = Unit {0}
-  HintOk h R k (holds n) = Promise h R k (n .page) (n .level) (n .frame)
+  HintOk h R k (holds n) = HintFrom h R k (n .page) (n .level) (n .frame)
 
   -- reads in the first 256 places, writes in the rest
   abbrev pub kindAt : ℕ → Kind
@@ -83,7 +83,7 @@ module _ (w : World) where
   pub traced-empty : (R : w .Regs) → w .asid R ≡ 0 → Traced [] R emptyModel
   traced-empty R z = record { asid-is = sym z; lines-ok = λ i. tt; hints-ok = λ i. tt; fetch-ok = tt }
 
-  -- A STEP BEGINS: more is seen, as much is promised
+  -- A STEP BEGINS: more is seen, and every hint stays so
 
   seen-line : (h : List Moment) (R : w .Regs) (m : w .Ram) (s : Slot Line) → LineOk h s → LineOk (at R m ∷ h) s
   seen-line h R m empty o = tt
@@ -98,14 +98,14 @@ module _ (w : World) where
         reach = o .reach;
       }
 
-  seen-promise : {h : List Moment} {R : w .Regs} {k : Kind} {v el q : ℕ} (S : w .Regs) (m : w .Ram) → Promise h R k v el q
-      → Promise (at S m ∷ h) R k v el q
-  seen-promise S m (flat o e) = flat o e
-  seen-promise S m (kept ℓ a o s d al e) = kept ℓ a o (inr s) d al e
+  seen-hint-from : {h : List Moment} {R : w .Regs} {k : Kind} {v el q : ℕ} (S : w .Regs) (m : w .Ram) → HintFrom h R k v el q
+      → HintFrom (at S m ∷ h) R k v el q
+  seen-hint-from S m (flat o e) = flat o e
+  seen-hint-from S m (kept ℓ a o s d al e) = kept ℓ a o (inr s) d al e
 
   seen-hint : (h : List Moment) (R S : w .Regs) (m : w .Ram) (k : Kind) (n : Slot Known) → HintOk h R k n → HintOk (at S m ∷ h) R k n
   seen-hint h R S m k empty o = tt
-  seen-hint h R S m k (holds n) o = seen-promise S m o
+  seen-hint h R S m k (holds n) o = seen-hint-from S m o
 
   pub traced-at : {h : List Moment} {R : w .Regs} {t : Model} (m : w .Ram) → Traced h R t → Traced (at R m ∷ h) R t
   traced-at {h} {R} {t} m s =
@@ -122,7 +122,7 @@ module _ (w : World) where
   belongs true a b = refl
   belongs false a b = refl
 
-  same-cover : (h : List Moment) (v : Inval) (l : Line) (o : Behind h l) → covers v (l .page) (o .leaf) (o .under) ≡ coversLine v l
+  same-cover : (h : List Moment) (v : Inval) (l : Line) (o : LineFrom h l) → covers v (l .page) (o .leaf) (o .under) ≡ coversLine v l
   unfolding covers
   same-cover h All l o = refl
   same-cover h (Page n) l o = rw (o .level)
@@ -158,22 +158,22 @@ module _ (w : World) where
   unfolding retag
   traced-retag S s = record { asid-is = refl; lines-ok = s .lines-ok; hints-ok = λ i. tt; fetch-ok = tt }
 
-  -- where shape and ASID stay, what was promised is promised
+  -- where shape and ASID stay, every hint stays so
   module _ (laws : Laws w) (R S : w .Regs) (shape : w .same-shape R S ≡ true) (asids : w .asid R ≡ w .asid S) where
     today-kept : (ℓ : Leaf) (a : ℕ) → Today R ℓ a → Today S ℓ a
     today-kept ℓ a (inl g) = inl g
     today-kept ℓ a (inr i) = inr (i ∙ asids)
 
-    promise-kept : {h : List Moment} {k : Kind} {v el q : ℕ} → Promise h R k v el q → Promise h S k v el q
-    promise-kept {el} (flat o e) = flat (sym (laws .shape-on R S shape (regimeOf el)) ∙ o) e
-    promise-kept {h} {v} {el} (kept ℓ a o s d al e) =
+    hint-from-kept : {h : List Moment} {k : Kind} {v el q : ℕ} → HintFrom h R k v el q → HintFrom h S k v el q
+    hint-from-kept {el} (flat o e) = flat (sym (laws .shape-on R S shape (regimeOf el)) ∙ o) e
+    hint-from-kept {h} {v} {el} (kept ℓ a o s d al e) =
         kept ℓ a (sym (laws .shape-on R S shape (regimeOf el)) ∙ o)
         (subst (λ (u : ℕ). Seen h (regimeOf el) (u / 4096) ℓ a) (laws .shape-untag R S shape (regimeOf el) (v * 4096)) s)
         (today-kept ℓ a d) al e
 
     hint-kept : (h : List Moment) (k : Kind) (n : Slot Known) → HintOk h R k n → HintOk h S k n
     hint-kept h k empty o = tt
-    hint-kept h k (holds n) o = promise-kept o
+    hint-kept h k (holds n) o = hint-from-kept o
 
     pub traced-kept : {h : List Moment} {t : Model} → Traced h R t → Traced h S t
     traced-kept {h} {t} s =
@@ -189,11 +189,11 @@ module _ (w : World) where
   pub traced-counting : {h : List Moment} {R : w .Regs} {t : Model} (f : Counters → Counters) → Traced h R t → Traced h R (counting f t)
   traced-counting f s = record { asid-is = s .asid-is; lines-ok = s .lines-ok; hints-ok = s .hints-ok; fetch-ok = s .fetch-ok }
 
-  line-put : (h : List Moment) (b : Bool) (l : Line) (s : Slot Line) → Behind h l → LineOk h s → LineOk h (pick b (holds l) s)
+  line-put : (h : List Moment) (b : Bool) (l : Line) (s : Slot Line) → LineFrom h l → LineOk h s → LineOk h (pick b (holds l) s)
   line-put h true l s o k = o
   line-put h false l s o k = k
 
-  pub traced-keep : {h : List Moment} {R : w .Regs} {t : Model} (l : Line) → Behind h l → Traced h R t → Traced h R (keep l t)
+  pub traced-keep : {h : List Moment} {R : w .Regs} {t : Model} (l : Line) → LineFrom h l → Traced h R t → Traced h R (keep l t)
   unfolding keep
   traced-keep {h} {t} l o s =
       record {
@@ -203,7 +203,7 @@ module _ (w : World) where
         fetch-ok = s .fetch-ok;
       }
 
-  pub traced-hint : {h : List Moment} {R : w .Regs} {t : Model} (place : ℕ) (n : Known) → Promise h R (kindAt place) (n .page) (n .level) (n .frame)
+  pub traced-hint : {h : List Moment} {R : w .Regs} {t : Model} (place : ℕ) (n : Known) → HintFrom h R (kindAt place) (n .page) (n .level) (n .frame)
       → Traced h R t → Traced h R (keepHint place n t)
   traced-hint {h} {R} {t} place n o s =
       record {
@@ -214,9 +214,9 @@ module _ (w : World) where
       }
     where
       put : (i : ℕ) (b : Bool) → eqb i place ≡ b → HintOk h R (kindAt i) (pick b (holds n) (t .hints i))
-      put i true e = subst (λ (j : ℕ). Promise h R (kindAt j) (n .page) (n .level) (n .frame)) (sym (eqb-true i place e)) o
+      put i true e = subst (λ (j : ℕ). HintFrom h R (kindAt j) (n .page) (n .level) (n .frame)) (sym (eqb-true i place e)) o
       put i false e = s .hints-ok i
 
-  pub traced-fetch-hint : {h : List Moment} {R : w .Regs} {t : Model} (n : Known) → Promise h R Fetch (n .page) (n .level) (n .frame)
+  pub traced-fetch-hint : {h : List Moment} {R : w .Regs} {t : Model} (n : Known) → HintFrom h R Fetch (n .page) (n .level) (n .frame)
       → Traced h R t → Traced h R (keepFetch n t)
   traced-fetch-hint n o s = record { asid-is = s .asid-is; lines-ok = s .lines-ok; hints-ok = s .hints-ok; fetch-ok = o }

@@ -1,5 +1,5 @@
--- The translations that an access makes, from its call and the registers; what their answers say of its place; and that they are those of the
--- exact definitions.
+-- The translations that an access makes, from its call and the registers; what their answers say of its place; and that
+-- they are those of the exact definitions.
 use mathlib.Core.Path.{_≡_, refl}
 use mathlib.Core.Bool.{Bool, true, false}
 use mathlib.Core.List.{List, [], _∷_}
@@ -22,8 +22,9 @@ use Rattle.mmu.specs.declared.place.Placed.{Placed}
 use Rattle.mmu.specs.declared.place.Placed.the-variants.{Fault}
 use Rattle.mmu.specs.declared.step.Stepped.{Stepped}
 
--- An access of n bytes: its own address, and where it crosses a page with stage 1 on the next page's first. The second is made only where the
--- first does not fault (`answers`, `tlbAsks`): that is not said here, and so nothing here depends on an answer.
+-- An access of n bytes: its own address, and where it crosses a page with stage 1 on the next page's first. The second
+-- is made only where the first does not fault (`answers`, `tlbAsks`): that is not said here, and so nothing here
+-- depends on an answer.
 abbrev pub asksBy : Bool → ℕ → Kind → List Ask
 asksBy true va kind = translates kind va ∷ translates kind (nextPage va) ∷ []
 asksBy false va kind = translates kind va ∷ []

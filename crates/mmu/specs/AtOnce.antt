@@ -1,5 +1,6 @@
--- The code's own test of a split access: whether both of its parts lie in RAM, decided at once. Nothing here has to be believed: where it says
--- yes, the value and RAM are those of the bytes, and where it says no, the bytes are judged one by one.
+-- The code's own test of a split access: whether both of its parts lie in RAM, decided at once. Nothing here has to be
+-- believed: where it says yes, the value and RAM are those of the bytes, and where it says no, the bytes are judged one
+-- by one.
 use mathlib.Core.Path.{_≡_}
 use mathlib.Core.Bool.{Bool, true, false, _&&_}
 use mathlib.Core.List.{List}

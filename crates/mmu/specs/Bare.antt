@@ -1,5 +1,6 @@
--- The architectural state of a core: all of it but the cache and the two physical addresses that it keeps. Each update is said here once: the core's
--- own definitions make it with `inCore`, the core without a cache (demand3) makes it as it is.
+-- The architectural state of a core: all of it but the cache and the two physical addresses that it keeps. Each update
+-- is said here once: the core's own definitions make it with `inCore`, the core without a cache (demand3) makes it as
+-- it is.
 use mathlib.Core.Bool.{Bool, false}
 use mathlib.Core.List.{List}
 use Prim.Native.Nat.{ℕ}
@@ -44,7 +45,14 @@ freshBare =
 -- the level and the mark
 abbrev pub withWho : Bare → ℕ → Bool → Bare
 withWho b level mark =
-    record { who = record { level = level; mark = mark }; flags = b .flags; pc = b .pc; x = b .x; control = b .control; sys = b .sys }
+    record {
+      who = record { level = level; mark = mark };
+      flags = b .flags;
+      pc = b .pc;
+      x = b .x;
+      control = b .control;
+      sys = b .sys;
+    }
 
 -- general registers 0 to 30 are kept; 31 reads as zero and drops what is written
 abbrev pub regIn : List ℕ → ℕ → ℕ
@@ -54,7 +62,8 @@ abbrev pub regSet : List ℕ → ℕ → ℕ → List ℕ
 regSet x n v = pick (ltb n 31) (set x n v) x
 
 abbrev pub withGeneral : Bare → ℕ → ℕ → Bare
-withGeneral b n v = record { who = b .who; flags = b .flags; pc = b .pc; x = regSet (b .x) n v; control = b .control; sys = b .sys }
+withGeneral b n v =
+    record { who = b .who; flags = b .flags; pc = b .pc; x = regSet (b .x) n v; control = b .control; sys = b .sys }
 
 -- other registers
 abbrev pub withRegs : Bare → Control → SysRegs → Bare
@@ -88,7 +97,8 @@ withEntered b e =
       sys = e .sys;
     }
 
--- THE CORE, of its architectural state, the cache, and the physical addresses of the last load and of the last external abort
+-- THE CORE, of its architectural state, the cache, and the physical addresses of the last load and of the last external
+-- abort
 
 abbrev pub coreOf : Bare → Tlb → ℕ → ℕ → Core
 coreOf b t last abort =

@@ -1,5 +1,5 @@
--- What a load answers and a store leaves, byte by byte, each byte by its own address: byte i of an access to va stands at the virtual address
--- wrap (va + i). With this `Pages`, `byteAt`, `inPage` and `nextPage` need not be believed.
+-- What a load answers and a store leaves, byte by byte, each byte by its own address: byte i of an access to va stands
+-- at the virtual address wrap (va + i). With this `Pages`, `byteAt`, `inPage` and `nextPage` need not be believed.
 use mathlib.Core.Path.{_≡_, refl, sym, ap, _∙_}
 use mathlib.Core.Bool.{Bool, true, false, _&&_}
 use mathlib.Core.List.{List}
@@ -258,8 +258,8 @@ load-byte c base ram va n v i ready small e h =
           ∙ ap (byteIn base ram) (sym (w .there)),
     )
 
--- after a store that is done, the byte of RAM at the translation of byte i's own address is byte i of the value; where the two pages of a split
--- store share bytes of RAM, that of the later byte
+-- after a store that is done, the byte of RAM at the translation of byte i's own address is byte i of the value; where
+-- the two pages of a split store share bytes of RAM, that of the later byte
 pub store-byte : (c : Core) (base : ℕ) (ram : List ℕ) (va n v i : ℕ) → Ready c base ram va n Write
     → writeOf c base ram va n .answer ≡ Store.Done → i < n
     → (o : OwnByte c base ram va Write i)

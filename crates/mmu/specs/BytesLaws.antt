@@ -1,5 +1,5 @@
--- Laws of bytes moved: RAM keeps its length, a store changes its own bytes only, and a split value is a plain one where the pages lie side
--- by side.
+-- Laws of bytes moved: RAM keeps its length, a store changes its own bytes only, and a split value is a plain one where
+-- the pages lie side by side.
 use mathlib.Core.Path.{_≡_, refl, sym, ap, _∙_}
 use mathlib.Core.Bool.{Bool, true, false, _&&_}
 use mathlib.Core.List.{List, _++_}

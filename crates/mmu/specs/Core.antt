@@ -18,7 +18,8 @@ regOf c n = regIn (c .x) n
 unfoldable pub setReg : Core → ℕ → ℕ → Core
 setReg c n v = inCore c (withGeneral (bareOf c) n v)
 
--- what a memory operation may change: the cache, and the physical addresses of the last load and of the last external abort
+-- what a memory operation may change: the cache, and the physical addresses of the last load and of the last external
+-- abort
 unfoldable pub movedTo : Core → Tlb → ℕ → ℕ → Core
 movedTo c t last abort = coreOf (bareOf c) t last abort
 

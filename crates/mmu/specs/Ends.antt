@@ -1,5 +1,6 @@
--- How an access ends, after its translations: its answer, and the physical addresses that the core keeps. Exact definitions, on the code's own
--- types. What they mean: `Says`, each answer as the requirement's value or fault; `ByteMeaning`, each byte by its own address.
+-- How an access ends, after its translations: its answer, and the physical addresses that the core keeps. Exact
+-- definitions, on the code's own types. What they mean: `Says`, each answer as the requirement's value or fault;
+-- `ByteMeaning`, each byte by its own address.
 use mathlib.Core.Bool.{Bool, true, false}
 use mathlib.Core.List.{List}
 use Prim.Native.Nat.{ℕ, _+_}

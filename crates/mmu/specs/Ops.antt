@@ -1,5 +1,5 @@
--- The core's operations on memory: answer, core and RAM of each. Exact definitions, on the code's own types. What they mean: `OpSays`, the answers;
--- `OpLaws`, what stays as it was; `ByteMeaning`, each byte that moves.
+-- The core's operations on memory: answer, core and RAM of each. Exact definitions, on the code's own types. What they
+-- mean: `OpSays`, the answers; `OpLaws`, what stays as it was; `ByteMeaning`, each byte that moves.
 use mathlib.Core.List.{List}
 use Prim.Native.Nat.{ℕ}
 use Rattle.word.specs.Ram.{wordAt}
@@ -61,8 +61,8 @@ fetchPaOf c memory va = addressedBy c (fetchSteppedNow c memory va)
 unfoldable pub dataPaOf : Core → (ℕ → Word) → ℕ → Addressed
 dataPaOf c memory va = addressedBy c (steppedNow c memory va Read)
 
--- LOADS AND STORES of n bytes; the tables lie in the same RAM. A13, D3: no address is misaligned, whatever SCTLR_ELx.A and the memory's
--- type. M5: bytes are little-endian, whatever SCTLR_ELx.EE and E0E.
+-- LOADS AND STORES of n bytes; the tables lie in the same RAM. A13, D3: no address is misaligned, whatever SCTLR_ELx.A
+-- and the memory's type. M5: bytes are little-endian, whatever SCTLR_ELx.EE and E0E.
 
 abbrev pub loadedBy : Core → Tlb → LoadEnd → Loaded
 loadedBy c t e = record { core = movedTo c t (e .«last_pa») (e .«abort_pa»); answer = e .answer }

@@ -1,5 +1,5 @@
--- Where each byte of an access lies, by the byte's own address: byte i of an access to va stands at the virtual address wrap (va + i), and in RAM
--- where the translation of that address says, split or not.
+-- Where each byte of an access lies, by the byte's own address: byte i of an access to va stands at the virtual address
+-- wrap (va + i), and in RAM where the translation of that address says, split or not.
 use mathlib.Core.Path.{_≡_, refl, sym, ap, subst, _∙_}
 use mathlib.Core.Bool.{Bool, true, false}
 use mathlib.Core.List.{List}
@@ -39,15 +39,15 @@ use Rattle.mmu.specs.declared.step.Stepped.{Stepped}
 abbrev pub byteVa : ℕ → ℕ → ℕ
 byteVa va i = wrap (va + i)
 
--- What the translation of that address answers: on va's own page in the core as it stands, and on the next page in the core that va's
--- translation leaves, since an access translates them in this order.
+-- What the translation of that address answers: on va's own page in the core as it stands, and on the next page in the
+-- core that va's translation leaves, since an access translates them in this order.
 abbrev pub ownAnswer : Core → (ℕ → Word) → ℕ → Kind → ℕ → Answer
 ownAnswer c memory va kind i =
     pick (eqb (byteVa va i / 4096) (va / 4096)) (translateOf c memory (byteVa va i) kind .answer)
     (translateOf (translateOf c memory va kind .core) memory (byteVa va i) kind .answer)
 
--- The core, the window and the access. The last is asked only of an access that leaves its page with stage 1 off, which is not split: there
--- each address is its own translation.
+-- The core, the window and the access. The last is asked only of an access that leaves its page with stage 1 off, which
+-- is not split: there each address is its own translation.
 pub record Ready (c : Core) (base : ℕ) (ram : List ℕ) (va n : ℕ) (kind : Kind) : Type 0 where
   pub well : WellFormed (c .tlb)
   pub level : c .who .level ≤ 3

@@ -1,5 +1,5 @@
--- Where the bytes of an access lie, and which of them lie outside RAM, by the code's own two parts; `OwnAddress` has it by each byte's own
--- address.
+-- Where the bytes of an access lie, and which of them lie outside RAM, by the code's own two parts; `OwnAddress` has it
+-- by each byte's own address.
 use mathlib.Core.Bool.{Bool, false, _&&_}
 use Prim.Native.Nat.{ℕ, zero, suc, _+_, _-_, _%_}
 use lib.Dec.{ltb}

@@ -1,5 +1,6 @@
--- Translations as steps of a cache, on the registers, the level and the RAM of the moment. Exact definitions, on the code's own types. What they
--- mean: `Asks`, which translations an access makes; `PageLaws`, that they go by pages; `OwnAddress`, where each byte then lies.
+-- Translations as steps of a cache, on the registers, the level and the RAM of the moment. Exact definitions, on the
+-- code's own types. What they mean: `Asks`, which translations an access makes; `PageLaws`, that they go by pages;
+-- `OwnAddress`, where each byte then lies.
 use Prim.Native.Nat.{ℕ}
 use Rattle.word.specs.Bits.{pick}
 use Rattle.word.specs.declared.ram.Word.{Word}
@@ -32,15 +33,21 @@ module _ (s : Bank) (who : Who) (memory : ℕ → Word) where
   -- one translation
   unfoldable pub translateIn : ℕ → Kind → Tlb → Stepped
   translateIn va kind t =
-      record { tlb = turned (accessOf s who va kind memory) t; answer = turnIn (accessOf s who va kind memory) t .answer }
+      record {
+        tlb = turned (accessOf s who va kind memory) t;
+        answer = turnIn (accessOf s who va kind memory) t .answer;
+      }
 
   -- that of a fetch, by the fetch hint first
   unfoldable pub translateFetchIn : ℕ → Tlb → Stepped
   translateFetchIn va t =
-      record { tlb = fetchedIn (accessOf s who va Fetch memory) t; answer = fetchIn (accessOf s who va Fetch memory) t .answer }
+      record {
+        tlb = fetchedIn (accessOf s who va Fetch memory) t;
+        answer = fetchIn (accessOf s who va Fetch memory) t .answer;
+      }
 
-  -- The translations of an access of n bytes: its page's; and where it crosses and that was allowed, the next page's, in the cache that
-  -- the first one left. B2: both are made before a byte moves.
+  -- The translations of an access of n bytes: its page's; and where it crosses and that was allowed, the next page's,
+  -- in the cache that the first one left. B2: both are made before a byte moves.
   unfoldable pub locatedOf : ℕ → ℕ → Kind → Tlb → Located
   locatedOf va n kind t =
       pick (goesOn (translateIn va kind t .answer) (crosses (stage1On s (regimeOf (who .level))) va n))

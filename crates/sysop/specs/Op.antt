@@ -1,6 +1,6 @@
--- System operations by the manual's names: the SYS encodings of an A72 and who may use each (DDI 0487, C5.3 to C5.5, from knowledge of
--- ARMv8.0: the document itself was not at hand). A1, M6 and the like are rows of docs/DIFFERENCES.md, each at the line where the manual
--- has something else.
+-- System operations by the manual's names: the SYS encodings of an A72 and who may use each (DDI 0487, C5.3 to C5.5,
+-- from knowledge of ARMv8.0: the document itself was not at hand). A1, M6 and the like are rows of docs/DIFFERENCES.md,
+-- each at the line where the manual has something else.
 use mathlib.Core.Bool.{Bool, true, false, _&&_}
 use mathlib.Core.List.{List, [], _∷_, _++_}
 use Prim.Native.Nat.{ℕ}
@@ -33,7 +33,8 @@ userReads = At (record { regime = El1; user = true; write = false })
 abbrev userWrites : SysOp
 userWrites = At (record { regime = El1; user = true; write = true })
 
--- What each is here. M3: there is no stage 2, so S12 is S1. M6: cache maintenance does nothing, and by address translates nothing.
+-- What each is here. M3: there is no stage 2, so S12 is S1. M6: cache maintenance does nothing, and by address
+-- translates nothing.
 abbrev pub operation : Name → SysOp
 operation AT-S1E1R = reads El1
 operation AT-S1E1W = writes El1
@@ -84,10 +85,11 @@ row n a b c d l = record { name = n; op1 = a; crn = b; crm = only c; op2 = only 
 abbrev pub block : Name → ℕ → ℕ → ℕ → Row
 block n a b l = record { name = n; op1 = a; crn = b; crm = any; op2 = any; lowest = l }
 
--- op1 3. A11: SCTLR_EL1.DZE traps no DC ZVA of EL0. M21: under the mark its stores are judged by EL0's rights. A12: SCTLR_EL1.UCI traps none of
--- the others. M7: nor does HCR_EL2 at EL1 and EL0.
+-- op1 3. A11: SCTLR_EL1.DZE traps no DC ZVA of EL0. M21: under the mark its stores are judged by EL0's rights. A12:
+-- SCTLR_EL1.UCI traps none of the others. M7: nor does HCR_EL2 at EL1 and EL0.
 abbrev ofEl0 : List Row
-ofEl0 = row DC-ZVA 3 7 4 1 0 ∷ row IC-IVAU 3 7 5 1 0 ∷ row DC-CVAC 3 7 10 1 0 ∷ row DC-CVAU 3 7 11 1 0 ∷ row DC-CIVAC 3 7 14 1 0 ∷ []
+ofEl0 =
+    row DC-ZVA 3 7 4 1 0 ∷ row IC-IVAU 3 7 5 1 0 ∷ row DC-CVAC 3 7 10 1 0 ∷ row DC-CVAU 3 7 11 1 0 ∷ row DC-CIVAC 3 7 14 1 0 ∷ []
 
 -- op1 0. M7: HCR_EL2 traps none of them.
 abbrev ofEl1 : List Row
@@ -119,8 +121,8 @@ ofEl2 =
 abbrev ofEl3 : List Row
 ofEl3 = row AT-S1E3R 6 7 8 0 3 ∷ row AT-S1E3W 6 7 8 1 3 ∷ []
 
--- CRn 8; op1 says whose entries, and Tlbi.antt has CRm and op2. M9: one that is not allocated counts as one. M10: those of EL2 are not
--- UNDEFINED at EL3 with SCR_EL3.NS clear.
+-- CRn 8; op1 says whose entries, and Tlbi.antt has CRm and op2. M9: one that is not allocated counts as one. M10: those
+-- of EL2 are not UNDEFINED at EL3 with SCR_EL3.NS clear.
 abbrev invalidations : List Row
 invalidations = block TLBI 0 8 1 ∷ block TLBI 4 8 2 ∷ block TLBI 6 8 3 ∷ []
 

@@ -1,5 +1,5 @@
--- PAR_EL1 after an AT, its two formats by field name (DDI 0487, D17.2, from knowledge of ARMv8.0: the document itself was not at hand). A1, D1
--- and the like are rows of docs/DIFFERENCES.md.
+-- PAR_EL1 after an AT, its two formats by field name (DDI 0487, D17.2, from knowledge of ARMv8.0: the document itself
+-- was not at hand). A1, D1 and the like are rows of docs/DIFFERENCES.md.
 use mathlib.Core.Bool.{Bool, true, false, not, _||_}
 use Prim.Native.Nat.{ℕ, _+_, _*_, _^_}
 use Rattle.word.specs.Bits.{field, flag, pick}
@@ -45,7 +45,8 @@ faulted p = 2 ^ 11 + flag (p .s) (2 ^ 9) + flag (p .ptw) (2 ^ 8) + p .fst * 2 ^ 
 unfoldable pub success : ℕ → ℕ → Bool → ℕ → ℕ
 success attr pa nonsecure shareability = translated (record { attr = attr; pa = pa; nonsecure = nonsecure; shareability = shareability })
 
--- M3: without stage 2 the fault is of stage 1, so S and PTW are 0. A1: a walk's external abort is reported here and not taken.
+-- M3: without stage 2 the fault is of stage 1, so S and PTW are 0. A1: a walk's external abort is reported here and not
+-- taken.
 unfoldable pub abort : ℕ → ℕ
 abort status = faulted (record { s = false; ptw = false; fst = status })
 
@@ -53,7 +54,8 @@ abort status = faulted (record { s = false; ptw = false; fst = status })
 abbrev pub mairAttr : ℕ → ℕ → ℕ
 mairAttr mair n = field mair (n * 8) 8
 
--- a regime is Non-secure by SCR_EL3.NS, and EL3's never. O10: PAR.NS, UNKNOWN from a Non-secure regime in the manual, is 1.
+-- a regime is Non-secure by SCR_EL3.NS, and EL3's never. O10: PAR.NS, UNKNOWN from a Non-secure regime in the manual,
+-- is 1.
 abbrev pub fromNonSecure : Bank → Regime → Bool
 fromNonSecure s El1 = nonSecure s
 fromNonSecure s El2 = nonSecure s
@@ -67,7 +69,8 @@ kindOf false = Read
 abbrev pub permits : AtForm → Leaf → Bool
 permits f leaf = hasRight (leaf .perms) (rightOf (kindOf (f .write)) (f .user))
 
--- NS and SH are the leaf descriptor's. A6: NSTable is ignored. D1: SH is not made 0b10 for Device and Non-cacheable memory.
+-- NS and SH are the leaf descriptor's. A6: NSTable is ignored. D1: SH is not made 0b10 for Device and Non-cacheable
+-- memory.
 abbrev pub leafFound : ℕ → Bool → Leaf → ℕ
 leafFound mair nonsecure leaf =
     success (mairAttr mair (attrIndx (leaf .desc))) (leaf .oa) (nonsecure || ns (leaf .desc)) (sh (leaf .desc))
@@ -80,8 +83,8 @@ abbrev pub walkPar : ℕ → Bool → AtForm → Walked → ℕ
 walkPar mair nonsecure f (Mapped leaf) = leafPar mair nonsecure f leaf
 walkPar mair nonsecure f (Fault status) = abort status
 
--- With stage 1 off PA is the address. A3, A4: its size and its tag are not looked at. D1: SH is 0, and not 0b10. A5: ATTR is 0 under
--- HCR_EL2.DC too.
+-- With stage 1 off PA is the address. A3, A4: its size and its tag are not looked at. D1: SH is 0, and not 0b10. A5:
+-- ATTR is 0 under HCR_EL2.DC too.
 unfoldable pub parIn : Bank → ℕ → AtForm → ℕ → (ℕ → Word) → ℕ
 parIn s mair f va memory =
     pick (stage1On s (f .regime))
@@ -92,8 +95,8 @@ parIn s mair f va memory =
 unfoldable pub atPar : Control → ℕ → AtForm → ℕ → (ℕ → Word) → ℕ
 atPar c mair f va memory = parIn (bankOf c (f .regime)) mair f va memory
 
--- PAR_EL1 by the manual's own walk and permission check, AArch64.TranslationTableWalk and AArch64.CheckPermission: `manual-par` of ParLaws has the
--- two equal
+-- PAR_EL1 by the manual's own walk and permission check, AArch64.TranslationTableWalk and AArch64.CheckPermission:
+-- `manual-par` of ParLaws has the two equal
 abbrev pub accessOf : Bool → Access
 accessOf true = writing
 accessOf false = reading

@@ -1,4 +1,5 @@
--- Encodings by mnemonic, and the bits of each field, computed: a place that code and definition both had wrong fails here.
+-- Encodings by mnemonic, and the bits of each field, computed: a place that code and definition both had wrong fails
+-- here.
 use mathlib.Core.Path.{_≡_, refl}
 use mathlib.Core.Bool.{true, false}
 use mathlib.Core.List.{[], _∷_}
@@ -46,7 +47,8 @@ pub maintenance :
 unfolding op.named
 maintenance = (refl, refl, refl, refl, refl, refl, refl, refl, refl, refl, refl)
 
--- TLBI op1, op2: the Inner Shareable form with CRm 3, and the other with CRm 7; by intermediate physical address with CRm 0 and 4
+-- TLBI op1, op2: the Inner Shareable form with CRm 3, and the other with CRm 7; by intermediate physical address with
+-- CRm 0 and 4
 abbrev Both : Instruction → ℕ → ℕ → ℕ → ℕ → Type 0
 Both n op1 crm local op2 = (instructionAt instructions op1 crm op2 ≡ n) × (instructionAt instructions op1 local op2 ≡ n)
 

@@ -1,5 +1,6 @@
--- What each TLBI invalidates, by the manual's names: the TLB maintenance instructions of an A72 (DDI 0487, C5.5, from knowledge of ARMv8.0:
--- the document itself was not at hand). CRn is 8. M3, M20 and the like are rows of docs/DIFFERENCES.md.
+-- What each TLBI invalidates, by the manual's names: the TLB maintenance instructions of an A72 (DDI 0487, C5.5, from
+-- knowledge of ARMv8.0: the document itself was not at hand). CRn is 8. M3, M20 and the like are rows of
+-- docs/DIFFERENCES.md.
 use mathlib.Core.Bool.{Bool, true, false, _&&_}
 use mathlib.Core.List.{List, [], _∷_, _++_}
 use Prim.Native.Nat.{ℕ}
@@ -28,9 +29,9 @@ pub data Scope : Type 0 where
   everything asidForm : Scope
   ranged : Regime → Scope
 
--- What each names here, which is at least what the manual has it name: an address in every ASID and at every level (VAA, VAL and VAAL are VA),
--- and everything for what names a regime or a stage. M20: IPAS2E1 and IPAS2LE1 name an intermediate physical address of stage 2, which is not
--- there (M3); they too drop everything.
+-- What each names here, which is at least what the manual has it name: an address in every ASID and at every level
+-- (VAA, VAL and VAAL are VA), and everything for what names a regime or a stage. M20: IPAS2E1 and IPAS2LE1 name an
+-- intermediate physical address of stage 2, which is not there (M3); they too drop everything.
 abbrev pub scope : Instruction → Scope
 scope VMALLE1 = everything
 scope VAE1 = ranged El1
@@ -84,7 +85,8 @@ stage1 =
 
 -- here the Inner Shareable form has CRm 0, the other CRm 4
 abbrev pub byIpa : List Encoding
-byIpa = encoding IPAS2E1 true 4 0 1 ∷ encoding IPAS2LE1 true 4 0 5 ∷ encoding IPAS2E1 false 4 4 1 ∷ encoding IPAS2LE1 false 4 4 5 ∷ []
+byIpa =
+    encoding IPAS2E1 true 4 0 1 ∷ encoding IPAS2LE1 true 4 0 5 ∷ encoding IPAS2E1 false 4 4 1 ∷ encoding IPAS2LE1 false 4 4 5 ∷ []
 
 abbrev pub instructions : List Encoding
 instructions = stage1 ++ byIpa
@@ -92,7 +94,8 @@ instructions = stage1 ++ byIpa
 -- the instruction of an encoding
 abbrev pub instructionAt : List Encoding → ℕ → ℕ → ℕ → Instruction
 instructionAt [] op1 crm op2 = unallocated
-instructionAt (r ∷ rs) op1 crm op2 = pick (eqb op1 (r .op1) && (eqb crm (r .crm) && eqb op2 (r .op2))) (r .name) (instructionAt rs op1 crm op2)
+instructionAt (r ∷ rs) op1 crm op2 =
+    pick (eqb op1 (r .op1) && (eqb crm (r .crm) && eqb op2 (r .op2))) (r .name) (instructionAt rs op1 crm op2)
 
 unfoldable pub scopeOf : ℕ → ℕ → ℕ → Scope
 scopeOf op1 crm op2 = scope (instructionAt instructions op1 crm op2)
@@ -110,8 +113,8 @@ pages4k tcr El3 = eqb (tg0 tcr) 0b00
 abbrev pub asidBits : Control → ℕ
 asidBits c = pick («as» (tcrOf c El1)) 16 8
 
--- More may be dropped than is named. An address that need not be of a 4 KiB page drops everything; one that is keeps all 64 bits of the
--- operand. O13: of a narrow ASID the operand's upper eight bits are masked.
+-- More may be dropped than is named. An address that need not be of a 4 KiB page drops everything; one that is keeps
+-- all 64 bits of the operand. O13: of a narrow ASID the operand's upper eight bits are masked.
 unfoldable pub whatOf : Control → ℕ → Scope → Inval
 whatOf c x everything = All
 whatOf c x (ranged r) = pick (pages4k (tcrOf c r) r) (Page x) All
@@ -120,6 +123,7 @@ whatOf c x asidForm = Asid (field x 48 (asidBits c))
 unfoldable pub tlbiOf : Control → ℕ → ℕ → ℕ → ℕ → Inval
 tlbiOf c op1 crm op2 x = whatOf c x (scopeOf op1 crm op2)
 
--- CRm 3 reaches the other cores. M8: HCR_EL2.FB makes no other form do so. M20: nor do IPAS2E1IS and IPAS2LE1IS, which have CRm 0.
+-- CRm 3 reaches the other cores. M8: HCR_EL2.FB makes no other form do so. M20: nor do IPAS2E1IS and IPAS2LE1IS, which
+-- have CRm 0.
 abbrev pub reachesOthers : ℕ → Bool
 reachesOthers crm = eqb crm 3

@@ -1,4 +1,5 @@
--- The translations that a step of a core makes, in order and until one faults, and the answers that they get in a cache.
+-- The translations that a step of a core makes, in order and until one faults, and the answers that they get in a
+-- cache.
 use mathlib.Core.Path.{_≡_, refl}
 use mathlib.Core.List.{List, [], _∷_}
 use Prim.Native.Nat.{ℕ}
@@ -10,7 +11,8 @@ use Rattle.tlb.specs.declared.access.Answer.{Answer}
 use Rattle.tlb.specs.declared.access.Answer.the-variants.{Address, Status}
 use Rattle.tlb.specs.declared.Tlb.{Tlb}
 
--- One translation: of a kind, alone or in a load, a store or a zeroing; or the one that a fetch begins with, which asks the fetch hint.
+-- One translation: of a kind, alone or in a load, a store or a zeroing; or the one that a fetch begins with, which asks
+-- the fetch hint.
 pub data Ask : Type 0 where
   translates : Kind → ℕ → Ask
   fetches : ℕ → Ask
@@ -37,8 +39,8 @@ pub onward-same : {A : Type 0} (a : Answer) (x : A) → onward a x x ≡ x
 onward-same (Address pa) x = refl
 onward-same (Status code) x = refl
 
--- In a cache, by the accesses that registers, level and tables make of kinds and addresses: the answer to one translation and the cache after it;
--- the answers to a step's, and the cache after them.
+-- In a cache, by the accesses that registers, level and tables make of kinds and addresses: the answer to one
+-- translation and the cache after it; the answers to a step's, and the cache after them.
 module _ (access : Kind → ℕ → Access) where
   abbrev pub answerOf : Ask → Tlb → Answer
   answerOf (translates k va) t = turnIn (access k va) t .answer

@@ -11,7 +11,8 @@ use Rattle.tlb.specs.declared.Tlb.{Tlb}
 unfoldable pub invalidatedOf : Tlb → Inval → Bool → Tlb
 invalidatedOf t what shared = pick shared (broadcastOf (invalidateOf t what) what) (invalidateOf t what)
 
--- "A register write first does `write_reg`; then, where `shaping` changed, it flushes; then, where `asid` differs from the cache's, it retags."
+-- "A register write first does `write_reg`; then, where `shaping` changed, it flushes; then, where `asid` differs from
+-- the cache's, it retags."
 unfoldable pub reshapedOf : Tlb → Bool → Tlb
 reshapedOf t same = pick same t (flushOf t)
 
