@@ -2,7 +2,8 @@
 use mathlib.Core.Path.{_≡_, sym, ap, subst, _∙_}
 use mathlib.Core.Bool.{Bool, true, false}
 use mathlib.Core.List.{List}
-use Prim.Native.Nat.{ℕ, _+_, _-_, _%_, _^_, _<_}
+use Prim.Native.Nat.{ℕ, _+_, _-_, _*_, _%_, _^_, _≤_, _<_}
+use native.Mathlib.Nat.{mod-eq-of-lt}
 use native.Mathlib.Omega.{arith}
 use borrow.Author.Tests.{ne-eqb}
 use lib.ListN.{length}
@@ -67,48 +68,88 @@ module _ (ws : List ℕ) (base : ℕ) (ram : List ℕ) (n va : ℕ) where
 
 -- THE LINE
 
-lined : (x : ℕ) → x - x % 64 ≡ alignDown x 6
-lined x = omega arith
-
--- the store of 64 bytes where the hint points
-module _ (h p : Physical) (base : ℕ) (ram : List ℕ) (eh : p ≡ h) where
-  pub no-hint : p ≡ Unknown → false ≡ clears h base (length ram)
+-- the store where the hint points
+module _ (h p : Physical) (from base : ℕ) (ram : List ℕ) (eh : p ≡ h) where
+  pub no-hint : p ≡ Unknown → false ≡ clears h from base (length ram)
   no-hint e = rw (← eh, e)
 
-  pub no-hint-ram : p ≡ Unknown → ram ≡ cleared h base ram
+  pub no-hint-ram : p ≡ Unknown → ram ≡ cleared h from base ram
   no-hint-ram e = rw (← eh, e)
 
   module _ (pa : ℕ) (e : p ≡ At pa) where
-    pub no-line : (pa % 64 ≡ 0 → ⊥) → false ≡ clears h base (length ram)
+    pub no-line : (pa % 64 ≡ 0 → ⊥) → false ≡ clears h from base (length ram)
     no-line z = rw (← eh, e, ne-eqb (pa % 64) 0 z)
 
-    pub no-line-ram : (pa % 64 ≡ 0 → ⊥) → ram ≡ cleared h base ram
+    pub no-line-ram : (pa % 64 ≡ 0 → ⊥) → ram ≡ cleared h from base ram
     no-line-ram z = rw (← eh, e, ne-eqb (pa % 64) 0 z)
 
-    pub line : (b : Bool) → pa % 64 ≡ 0 → b ≡ within base (length ram) 64 pa → b ≡ clears h base (length ram)
+    pub line : (b : Bool) → pa % 64 ≡ 0 → b ≡ within base (length ram) (64 - from) (pa + from) → b ≡ clears h from base (length ram)
     line b z q = rw (← eh, e, z) q
 
-    pub line-ram : (ys : List ℕ) → pa % 64 ≡ 0 → ys ≡ stored base ram 64 pa 0 → ys ≡ cleared h base ram
+    pub line-ram : (ys : List ℕ) → pa % 64 ≡ 0 → ys ≡ stored base ram (64 - from) (pa + from) 0 → ys ≡ cleared h from base ram
     line-ram ys z q = rw (← eh, e, z) q
 
-module _ (ws : List ℕ) (base : ℕ) (ram ys : List ℕ) (x : ℕ) (b : Bool) (small : x < 2 ^ 64)
-    (eb : b ≡ clears (hintFound (held ws) (x - x % 64) Write) base (length ram))
-    (er : ys ≡ cleared (hintFound (held ws) (x - x % 64) Write) base ram) where
-  pub cleared-line : b ≡ true → Zeroes 8 ws base ram (alignDown x 6) Done ws ys
-  cleared-line t =
-      let z = clears-line (held ws) base ram (x - x % 64) (omega arith) (omega arith) (sym eb ∙ t) in
-      rw (← lined x)
-      (record {
+-- the address is one of 64 bits
+pub line-end : (pa from : ℕ) → pa < 2 ^ 64 → pa % 64 ≡ 0 → from ≤ 8 → pa + from < 2 ^ 64
+line-end pa from h z k = omega arith
+
+pub line-next : (va : ℕ) → va < 2 ^ 64 → va % 64 ≡ 0 → va + 8 < 2 ^ 64
+line-next va h z = omega arith
+
+pub line-start : (x : ℕ) → (x - x % 64) % 64 ≡ 0
+line-start x = omega arith
+
+-- the stores from number k on, cleared or not
+module _ (ws : List ℕ) (base : ℕ) (ram ys : List ℕ) (va k : ℕ) (b : Bool) (h : k < 8) (start : va % 64 ≡ 0) (small : va < 2 ^ 64)
+    (eb : b ≡ clears (hintFound (held ws) va Write) (8 * k) base (length ram))
+    (er : ys ≡ cleared (hintFound (held ws) va Write) (8 * k) base ram) where
+  made : b ≡ true → Zeroes (8 - k) ws base ram (va + 8 * k) Done ws ys
+  made t =
+      let z = clears-line (held ws) base ram va k h start (omega arith) (sym eb ∙ t) in
+      record {
         answer = ap (λ (s : Stored). s .answer) (sym (z .0));
         words = moved-as stays (ap (λ (s : Stored). s .core) (sym (z .0)));
         bytes = er ∙ sym (z .1);
-      })
+      }
 
-  pub store-by-store : (r : StoreAnswer) (vs zs : List ℕ) → b ≡ false → Zeroes 8 ws base ys (x - x % 64) r vs zs
-      → Zeroes 8 ws base ram (alignDown x 6) r vs zs
-  store-by-store r vs zs f q =
-      let same : ys ≡ ram = er ∙ clears-none (hintFound (held ws) (x - x % 64) Write) base ram (sym eb ∙ f) in
-      rw (← lined x) (subst (λ (l : List ℕ). Zeroes 8 ws base l (x - x % 64) r vs zs) same q)
+  same : b ≡ false → ys ≡ ram
+  same f = er ∙ clears-none (hintFound (held ws) va Write) (8 * k) base ram (sym eb ∙ f)
+
+-- the rest
+module _ (ws : List ℕ) (base : ℕ) (ram ys : List ℕ) (va : ℕ) (b : Bool) (start : va % 64 ≡ 0) (small : va < 2 ^ 64)
+    (eb : b ≡ clears (hintFound (held ws) va Write) 8 base (length ram)) (er : ys ≡ cleared (hintFound (held ws) va Write) 8 base ram) where
+  pub rest-made : b ≡ true → Zeroes 7 ws base ram (va + 8) Done ws ys
+  rest-made t = made ws base ram ys va 1 b (omega arith) start small eb er t
+
+  pub rest-stores : (r : StoreAnswer) (vs zs : List ℕ) → b ≡ false → Zeroes 7 ws base ys (va + 8) r vs zs → Zeroes 7 ws base ram (va + 8) r vs zs
+  rest-stores r vs zs f q =
+      subst (λ (l : List ℕ). Zeroes 7 ws base l (va + 8) r vs zs) (same ws base ram ys va 1 b (omega arith) start small eb er f) q
+
+-- the whole line
+module _ (ws : List ℕ) (base : ℕ) (ram ys : List ℕ) (x : ℕ) (b : Bool) (small : x < 2 ^ 64)
+    (eb : b ≡ clears (hintFound (held ws) (x - x % 64) Write) 0 base (length ram))
+    (er : ys ≡ cleared (hintFound (held ws) (x - x % 64) Write) 0 base ram) where
+  pub line-made : b ≡ true → Zeroes 8 ws base ram (alignDown x 6) Done ws ys
+  line-made t =
+      let z : x - x % 64 + 8 * 0 ≡ alignDown x 6 = omega arith in
+      subst (λ (a : ℕ). Zeroes 8 ws base ram a Done ws ys) z (made ws base ram ys (x - x % 64) 0 b (omega arith) (line-start x) (omega arith) eb er t)
+
+  module _ (f : b ≡ false) (a : StoreAnswer) (xs ts : List ℕ) (ea : a ≡ writeOf (held ws) base ys (x - x % 64) 8 .answer)
+      (mx : Moved ws xs (writeOf (held ws) base ys (x - x % 64) 8 .core)) (et : ts ≡ ramAfterWrite (held ws) base ys (x - x % 64) 8 0) where
+    lined : (r : StoreAnswer) (vs zs : List ℕ) → Zeroes 8 ws base ys (x - x % 64) r vs zs → Zeroes 8 ws base ram (alignDown x 6) r vs zs
+    lined r vs zs q =
+        let z : x - x % 64 ≡ alignDown x 6 = omega arith in
+        let s = same ws base ram ys (x - x % 64) 0 b (omega arith) (line-start x) (omega arith) eb er f in
+        subst (λ (n : ℕ). Zeroes 8 ws base ram n r vs zs) z (subst (λ (l : List ℕ). Zeroes 8 ws base l (x - x % 64) r vs zs) s q)
+
+    pub line-stops : (s : Stop) → a ≡ Stopped s → Zeroes 8 ws base ram (alignDown x 6) (Stopped s) xs ts
+    line-stops s e = lined (Stopped s) xs ts (stops ws base ys 8 (x - x % 64) a xs ts (λ z. omega arith) ea mx et s e)
+
+    pub line-goes : (r : StoreAnswer) (vs zs : List ℕ) → a ≡ Done → Zeroes 7 xs base ts (x - x % 64 + 8) r vs zs
+        → Zeroes 8 ws base ram (alignDown x 6) r vs zs
+    line-goes r vs zs e q =
+        lined r vs zs
+        (goes ws base ys 8 (x - x % 64) a xs ts (λ z. omega arith) ea mx et (x - x % 64 + 8) r vs zs e (sym (mod-eq-of-lt (omega arith))) q)
 
 -- BY WHAT THE ENCODING NAMES
 

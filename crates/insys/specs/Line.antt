@@ -1,8 +1,8 @@
--- DC ZVA by a hint: where the hint of the line's page serves, its eight stores are one of 64 bytes.
+-- DC ZVA by a hint: where the hint of the line's page serves, its stores are one.
 use mathlib.Core.Path.{_≡_, refl, sym, ap, subst, _∙_}
 use mathlib.Core.Bool.{Bool, true, false, _&&_}
 use mathlib.Core.List.{List}
-use Prim.Native.Nat.{ℕ, _+_, _*_, _/_, _%_, _^_, _≤_, _<_}
+use Prim.Native.Nat.{ℕ, _+_, _-_, _*_, _/_, _%_, _^_, _≤_, _<_}
 use native.Mathlib.Omega.{arith}
 use borrow.Author.Tests.{eqb-true}
 use lib.Bits.{bitOr, or-mod, or-block, or-zero-l, or-zero-r}
@@ -24,14 +24,14 @@ use Rattle.exec.specs.ZeroLine.{addressed, zero-steady}
 use Rattle.inplace.specs.Found.{hintFound}
 use Rattle.inplace.specs.FoundLaws.{hint-serves}
 
--- whether the 64 bytes from where a hint points are cleared: they are a line, and lie in RAM
-abbrev pub clears : Physical → ℕ → ℕ → Bool
-clears (At pa) base len = eqb (pa % 64) 0 && within base len 64 pa
-clears Unknown base len = false
+-- whether the bytes of a line from one on are cleared: the hint points at a line, and they lie in RAM
+abbrev pub clears : Physical → ℕ → ℕ → ℕ → Bool
+clears (At pa) from base len = eqb (pa % 64) 0 && within base len (64 - from) (pa + from)
+clears Unknown from base len = false
 
-abbrev pub cleared : Physical → ℕ → List ℕ → List ℕ
-cleared (At pa) base ram = pick (eqb (pa % 64) 0) (stored base ram 64 pa 0) ram
-cleared Unknown base ram = ram
+abbrev pub cleared : Physical → ℕ → ℕ → List ℕ → List ℕ
+cleared (At pa) from base ram = pick (eqb (pa % 64) 0) (stored base ram (64 - from) (pa + from) 0) ram
+cleared Unknown from base ram = ram
 
 -- a frame whose address of a line's first byte is a line's: it adds up with each byte of it
 or-line : (p v i : ℕ) → v % 64 ≡ 0 → bitOr p v % 64 ≡ 0 → i < 64 → bitOr p (v + i) ≡ bitOr p v + i
@@ -74,10 +74,18 @@ module _ (c : Core) (va pa : ℕ) (line : va % 64 ≡ 0) (found : hintFound c va
       let each = or-line (hintAt (c .tlb .cache) (dataSlot va Write) .pa) (va % 4096) (8 * j) (omega arith) (ap (λ (x : ℕ). x % 64) sum ∙ flat) (omega arith) in
       rw (page, s .0, low) (ap At (each ∙ ap (λ (x : ℕ). x + 8 * j) sum))
 
-  line-zeroes : (base : ℕ) (ram : List ℕ) → va + 64 ≤ 2 ^ 64 → within base (length ram) 64 pa ≡ true
-      → (zeroOf 8 c base ram va ≡ doneWith c) × (zeroRam 8 c base ram va ≡ stored base ram 64 pa 0)
-  line-zeroes base ram room w =
-      zero-steady base c 8 ram va pa (omega arith) room w (λ memory j h. hint-serves c memory (va + 8 * j) Write (pa + 8 * j) (found-at j h))
+  -- the stores from number k on
+  line-zeroes : (k base : ℕ) (ram : List ℕ) → k < 8 → va + 64 ≤ 2 ^ 64 → within base (length ram) (64 - 8 * k) (pa + 8 * k) ≡ true
+      → (zeroOf (8 - k) c base ram (va + 8 * k) ≡ doneWith c) × (zeroRam (8 - k) c base ram (va + 8 * k) ≡ stored base ram (64 - 8 * k) (pa + 8 * k) 0)
+  line-zeroes k base ram h room w =
+      let d : 64 - 8 * k ≡ 8 * (8 - k) = omega arith in
+      let z = zero-steady base c (8 - k) ram (va + 8 * k) (pa + 8 * k) (omega arith) (omega arith) (ap (λ (n : ℕ). within base (length ram) n (pa + 8 * k)) (sym d) ∙ w)
+      (λ memory j i.
+      let a : va + 8 * (k + j) ≡ va + 8 * k + 8 * j = omega arith in
+      let p : pa + 8 * (k + j) ≡ pa + 8 * k + 8 * j = omega arith in
+      hint-serves c memory (va + 8 * k + 8 * j) Write (pa + 8 * k + 8 * j)
+      (ap (λ (n : ℕ). hintFound c n Write) (sym a) ∙ found-at (k + j) (omega arith) ∙ ap At p)) in
+      (z .0, z .1 ∙ ap (λ (n : ℕ). stored base ram n (pa + 8 * k) 0) (sym d))
 
 and-both : (x y : Bool) → (x && y) ≡ true → (x ≡ true) × (y ≡ true)
 and-both true true e = (refl, refl)
@@ -88,16 +96,17 @@ and-both false y e = (e, absurd (subst is-false e tt))
     is-false true = ⊥
     is-false false = Unit {0}
 
--- a line that was cleared is zeroed by the eight stores
-pub clears-line : (c : Core) (base : ℕ) (ram : List ℕ) (va : ℕ) → va % 64 ≡ 0 → va + 64 ≤ 2 ^ 64 → clears (hintFound c va Write) base (length ram) ≡ true
-    → (zeroOf 8 c base ram va ≡ doneWith c) × (zeroRam 8 c base ram va ≡ cleared (hintFound c va Write) base ram)
-clears-line c base ram va line room = go (hintFound c va Write) refl
+-- what was cleared is zeroed by the stores from number k on
+pub clears-line : (c : Core) (base : ℕ) (ram : List ℕ) (va k : ℕ) → k < 8 → va % 64 ≡ 0 → va + 64 ≤ 2 ^ 64
+    → clears (hintFound c va Write) (8 * k) base (length ram) ≡ true
+    → (zeroOf (8 - k) c base ram (va + 8 * k) ≡ doneWith c) × (zeroRam (8 - k) c base ram (va + 8 * k) ≡ cleared (hintFound c va Write) (8 * k) base ram)
+clears-line c base ram va k h line room = go (hintFound c va Write) refl
   where
-    go : (p : Physical) → hintFound c va Write ≡ p → clears p base (length ram) ≡ true
-        → (zeroOf 8 c base ram va ≡ doneWith c) × (zeroRam 8 c base ram va ≡ cleared p base ram)
+    go : (p : Physical) → hintFound c va Write ≡ p → clears p (8 * k) base (length ram) ≡ true
+        → (zeroOf (8 - k) c base ram (va + 8 * k) ≡ doneWith c) × (zeroRam (8 - k) c base ram (va + 8 * k) ≡ cleared p (8 * k) base ram)
     go (At pa) e t =
-        let b = and-both (eqb (pa % 64) 0) (within base (length ram) 64 pa) t in
-        let z = line-zeroes c va pa line e (eqb-true (pa % 64) 0 (b .0)) base ram room (b .1) in
+        let b = and-both (eqb (pa % 64) 0) (within base (length ram) (64 - 8 * k) (pa + 8 * k)) t in
+        let z = line-zeroes c va pa line e (eqb-true (pa % 64) 0 (b .0)) k base ram h room (b .1) in
         (z .0, rw (b .0) (z .1))
     go Unknown e t = absurd (subst is-false t tt)
       where
@@ -105,13 +114,14 @@ clears-line c base ram va line room = go (hintFound c va Write) refl
         is-false true = ⊥
         is-false false = Unit {0}
 
--- one that was not is as it was
-pub clears-none : (p : Physical) (base : ℕ) (ram : List ℕ) → clears p base (length ram) ≡ false → cleared p base ram ≡ ram
+-- what was not is as it was
+pub clears-none : (p : Physical) (from base : ℕ) (ram : List ℕ) → clears p from base (length ram) ≡ false → cleared p from base ram ≡ ram
 unfolding stored
-clears-none Unknown base ram e = refl
-clears-none (At pa) base ram e = go (eqb (pa % 64) 0) (within base (length ram) 64 pa) refl e
+clears-none Unknown from base ram e = refl
+clears-none (At pa) from base ram e = go (eqb (pa % 64) 0) (within base (length ram) (64 - from) (pa + from)) refl e
   where
-    go : (x y : Bool) → within base (length ram) 64 pa ≡ y → (x && y) ≡ false → pick x (stored base ram 64 pa 0) ram ≡ ram
+    go : (x y : Bool) → within base (length ram) (64 - from) (pa + from) ≡ y → (x && y) ≡ false
+        → pick x (stored base ram (64 - from) (pa + from) 0) ram ≡ ram
     go true true q e = absurd (subst is-true e tt)
       where
         is-true : Bool → Type 0

@@ -1,6 +1,7 @@
 // System operations in place, DC ZVA among them.
 ghost use mathlib.Core.Path.{_≡_};
 ghost use mathlib.Core.Bool.{true};
+ghost use Prim.Native.Nat.{_+_, _%_, _≤_};
 ghost use lib.ListN.{length};
 ghost use Rattle.word.specs.Bits.{alignDown};
 ghost use Rattle.tlb.specs.declared.access.Kind.the-variants.{Write};
@@ -38,15 +39,18 @@ fn zero_from(state: &mut [u64; 5205], base: u64, ram: &mut [u8], va: u64, n: u64
     }
 }
 
-// The 64 bytes from where the hint of va points, where it serves and they are a line in RAM: whether they were cleared.
-fn clear_line(state: &[u64; 5205], base: u64, ram: &mut [u8], va: u64) -> bool
-    ensures { λ r. ⌜ r ≡ clears (hintFound (held (now (state .entry))) va Write) base (length (now (ram .entry))) ⌝ }
-    ensures { λ _. ⌜ now (ram .exit) ≡ cleared (hintFound (held (now (state .entry))) va Write) base (now (ram .entry)) ⌝ }
+// The bytes of a line from one on, where the hint of its address va serves and points at a line, and they lie in RAM:
+// whether they were cleared.
+fn clear_line(state: &[u64; 5205], base: u64, ram: &mut [u8], va: u64, from: u64) -> bool
+    requires { ⌜ from ≤ 8 ⌝ }
+    ensures { λ r. ⌜ r ≡ clears (hintFound (held (now (state .entry))) va Write) from base (length (now (ram .entry))) ⌝ }
+    ensures { λ _. ⌜ now (ram .exit)
+        ≡ cleared (hintFound (held (now (state .entry))) va Write) from base (now (ram .entry)) ⌝ }
 {
     match translate::by_hint(state, va, Kind::Write) {
         Physical::At(pa) => {
             if pa % 64 == 0 {
-                ram::write_bytes(base, ram, 64, pa, 0)
+                ram::write_bytes(base, ram, 64 - from, pa + from, 0)
             } else {
                 false
             }
@@ -55,17 +59,34 @@ fn clear_line(state: &[u64; 5205], base: u64, ram: &mut [u8], va: u64) -> bool
     }
 }
 
-// DC ZVA: the line of x, by its page's hint or store by store.
+// The rest of a line, after its first store was made.
+fn zero_rest(state: &mut [u64; 5205], base: u64, ram: &mut [u8], va: u64) -> StoreAnswer
+    requires { ⌜ va % 64 ≡ 0 ⌝ }
+    ensures { λ r. ⌜ Zeroes 7 (now (state .entry)) base (now (ram .entry)) (va + 8) r
+        (now (state .exit)) (now (ram .exit)) ⌝ }
+{
+    let made = clear_line(state, base, ram, va, 8);
+    if made {
+        StoreAnswer::Done
+    } else {
+        zero_from(state, base, ram, va + 8, 7)
+    }
+}
+
+// DC ZVA, the line of x: by its page's hint; or the first store, and the rest by the hint that it leaves; or store by
+// store.
 fn zva(state: &mut [u64; 5205], base: u64, ram: &mut [u8], x: u64) -> StoreAnswer
     ensures { λ r. ⌜ Zeroes 8 (now (state .entry)) base (now (ram .entry)) (alignDown x 6) r
         (now (state .exit)) (now (ram .exit)) ⌝ }
 {
     let va = x - x % 64;
-    let made = clear_line(state, base, ram, va);
+    let made = clear_line(state, base, ram, va, 0);
     if made {
-        StoreAnswer::Done
-    } else {
-        zero_from(state, base, ram, va, 8)
+        return StoreAnswer::Done;
+    }
+    match access::store(state, va, Width::Double, 0, base, ram) {
+        StoreAnswer::Done => zero_rest(state, base, ram, va),
+        StoreAnswer::Stopped(stop) => StoreAnswer::Stopped(stop),
     }
 }
 

@@ -2,13 +2,19 @@
 use borrow.Author.Needs.{needs}
 use Rattle.insys.proofs.zero.clear_line.Statement.{statement}
 use Rattle.insys.proofs.zero.clear_line.Tie as tie
-use Rattle.insys.proofs.Zeroes.{line, line-ram, no-line, no-line-ram, no-hint, no-hint-ram}
+use Rattle.insys.proofs.Zeroes.{line-end, line, line-ram, no-line, no-line-ram, no-hint, no-hint-ram}
 
 by-hint-requires : tie.Need-by-hint-requires
 by-hint-requires c κs = search needs
 
 enum-known-pa : tie.Need-enum-known-pa
 enum-known-pa c = search needs
+
+sub-write-bytes : tie.Need-sub-write-bytes
+sub-write-bytes c = search needs
+
+add-write-bytes : tie.Need-add-write-bytes
+add-write-bytes c = search (line-end, needs)
 
 write-bytes-requires : tie.Need-write-bytes-requires
 write-bytes-requires c κs = search needs
@@ -34,6 +40,8 @@ clear-line-spec =
     (tie.spec
     by-hint-requires
     enum-known-pa
+    sub-write-bytes
+    add-write-bytes
     write-bytes-requires
     enum-told
     same-length
