@@ -48,7 +48,8 @@ commit-is ws xs ys zs vs t vbar i pc ev ep ei a b d e =
 abbrev taken : Core → ℕ → Reported → Core
 taken c level r = takenIn c (syncChanges level (c .flags) r)
 
-aborts : (c : Core) (e : Exception) → taken c (c .who .level) (syncReport (c .who .level) (c .pc) (c .control .«scr_el3») (c .control .«hcr_el2») e) ≡ abortOf c e
+aborts : (c : Core) (e : Exception)
+    → taken c (c .who .level) (syncReport (c .who .level) (c .pc) (c .control .«scr_el3») (c .control .«hcr_el2») e) ≡ abortOf c e
 unfolding takenIn abortOf
 aborts c e =
     ap (λ (x : Entered). entering c x) (take-changes (c .who .level) (c .pc) (c .control .«scr_el3») (c .control .«hcr_el2») (c .flags) (c .sys) e)

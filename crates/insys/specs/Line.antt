@@ -79,7 +79,8 @@ module _ (c : Core) (va pa : ℕ) (line : va % 64 ≡ 0) (found : hintFound c va
       → (zeroOf (8 - k) c base ram (va + 8 * k) ≡ doneWith c) × (zeroRam (8 - k) c base ram (va + 8 * k) ≡ stored base ram (64 - 8 * k) (pa + 8 * k) 0)
   line-zeroes k base ram h room w =
       let d : 64 - 8 * k ≡ 8 * (8 - k) = omega arith in
-      let z = zero-steady base c (8 - k) ram (va + 8 * k) (pa + 8 * k) (omega arith) (omega arith) (ap (λ (n : ℕ). within base (length ram) n (pa + 8 * k)) (sym d) ∙ w)
+      let z = zero-steady base c (8 - k) ram (va + 8 * k) (pa + 8 * k) (omega arith) (omega arith)
+      (ap (λ (n : ℕ). within base (length ram) n (pa + 8 * k)) (sym d) ∙ w)
       (λ memory j i.
       let a : va + 8 * (k + j) ≡ va + 8 * k + 8 * j = omega arith in
       let p : pa + 8 * (k + j) ≡ pa + 8 * k + 8 * j = omega arith in

@@ -28,7 +28,8 @@ use words::state;
 
 // The n stores of a zeroing from va on, up to the first that stops.
 fn zero_from(state: &mut [u64; 5205], base: u64, ram: &mut [u8], va: u64, n: u64) -> StoreAnswer
-    ensures { λ r. ⌜ Zeroes n (now (state .entry)) base (now (ram .entry)) va r (now (state .exit)) (now (ram .exit)) ⌝ }
+    ensures { λ r. ⌜ Zeroes n (now (state .entry)) base (now (ram .entry)) va r
+        (now (state .exit)) (now (ram .exit)) ⌝ }
 {
     if n == 0 {
         return StoreAnswer::Done;
@@ -43,7 +44,8 @@ fn zero_from(state: &mut [u64; 5205], base: u64, ram: &mut [u8], va: u64, n: u64
 // whether they were cleared.
 fn clear_line(state: &[u64; 5205], base: u64, ram: &mut [u8], va: u64, from: u64) -> bool
     requires { ⌜ from ≤ 8 ⌝ }
-    ensures { λ r. ⌜ r ≡ clears (hintFound (held (now (state .entry))) va Write) from base (length (now (ram .entry))) ⌝ }
+    ensures { λ r. ⌜ r
+        ≡ clears (hintFound (held (now (state .entry))) va Write) from base (length (now (ram .entry))) ⌝ }
     ensures { λ _. ⌜ now (ram .exit)
         ≡ cleared (hintFound (held (now (state .entry))) va Write) from base (now (ram .entry)) ⌝ }
 {

@@ -1,5 +1,7 @@
 -- `insys::zero::system` meets its contract.
-use Rattle.insys.proofs.Zeroes.{at-answer, at-core, at-ram, tlbi-answer, tlbi-core, tlbi-ram, zva-answer, zva-core, zva-ram, zva-late, nothing-answer, nothing-core, nothing-ram, undefined-answer, undefined-core, undefined-ram, unimplemented-answer, unimplemented-core, unimplemented-ram}
+use Rattle.insys.proofs.Zeroes.{at-answer, at-core, at-ram, tlbi-answer, tlbi-core, tlbi-ram, zva-answer, zva-core, zva-ram, zva-late}
+use Rattle.insys.proofs.Zeroes.{nothing-answer, nothing-core, nothing-ram, undefined-answer, undefined-core, undefined-ram}
+use Rattle.insys.proofs.Zeroes.{unimplemented-answer, unimplemented-core, unimplemented-ram}
 use mathlib.Core.Path.{refl}
 use Rattle.insys.specs.Early.{never}
 use borrow.Author.Needs.{needs}
