@@ -2,9 +2,10 @@
 use mathlib.Core.Path.{_≡_, refl, sym, ap, _∙_}
 use mathlib.Core.Bool.{Bool, true, false}
 use mathlib.Core.List.{List}
-use Prim.Native.Nat.{ℕ, _^_, _<_, _≤_}
-use borrow.Author.Tests.{ne-eqb, lt-ltb, le-ltb}
-use lib.Dec.{eqb}
+use Prim.Native.Nat.{ℕ, _%_, _^_, _<_, _≤_}
+use native.Mathlib.Nat.{mod-eq-of-lt}
+use borrow.Author.Tests.{ne-eqb, lt-ltb, le-ltb, ltb-true}
+use lib.Dec.{eqb, ltb}
 use lib.ListN.{getD}
 use Rattle.word.specs.Bits.{pick}
 use Rattle.tlb.specs.declared.access.Kind.{Kind}
@@ -12,7 +13,7 @@ use Rattle.tlb.specs.declared.access.Kind.the-variants.{Read, Write, Fetch}
 use Rattle.entry.specs.declared.exception.Exception.{Exception}
 use Rattle.entry.specs.declared.exception.Exception.the-variants.{Undefined, Svc, Hvc, Smc, Brk, DataAbort, InsnAbort, PcAlignment}
 use Rattle.cpu.specs.declared.call.Call.the-variants as Call
-use Rattle.a72abi.specs.Ops.{kindOf, dataAbortOf, insnAbortOf, callExceptionOf, exceptionOf, keyOf, translateCall, abortCall, markCall, encodingOf, callOf}
+use Rattle.a72abi.specs.Ops.{kindOf, inRange, dataAbortOf, insnAbortOf, callExceptionOf, exceptionOf, keyOf, translateCall, abortCall, markCall, encodingOf, callOf}
 use Rattle.a72abi.specs.declared.op.Kinds.{Kinds}
 use Rattle.a72abi.specs.declared.op.Kinds.the-variants as Kinds
 use Rattle.a72abi.specs.declared.op.Exceptions.{Exceptions}
@@ -64,41 +65,36 @@ module _ (n : ℕ) where
   unfolding exceptionOf
   exception-7 a b c e = sym (rw e)
 
-  pub exception-call : (a b c : ℕ) (p : Exceptions) → p ≡ callExceptionOf n a → (n ≡ 0 → ⊥) → (n ≡ 5 → ⊥) → (n ≡ 6 → ⊥) → (n ≡ 7 → ⊥) → p ≡ exceptionOf n a b c
-  unfolding exceptionOf
-  exception-call a b c p q h0 h5 h6 h7 = q ∙ sym (rw (ne-eqb n 0 h0, ne-eqb n 5 h5, ne-eqb n 6 h6, ne-eqb n 7 h7))
+  pub exception-none : (a b c : ℕ) → (n ≡ 0 → ⊥) → (n ≡ 1 → ⊥) → (n ≡ 2 → ⊥) → (n ≡ 3 → ⊥) → (n ≡ 4 → ⊥) → (n ≡ 5 → ⊥) → (n ≡ 6 → ⊥) → (n ≡ 7 → ⊥)
+      → Exceptions.Unknown ≡ exceptionOf n a b c
+  unfolding exceptionOf callExceptionOf
+  exception-none a b c h0 h1 h2 h3 h4 h5 h6 h7 =
+      sym (rw (ne-eqb n 0 h0, ne-eqb n 5 h5, ne-eqb n 6 h6, ne-eqb n 7 h7, ne-eqb n 1 h1, ne-eqb n 2 h2, ne-eqb n 3 h3, ne-eqb n 4 h4))
 
-  module _ (a : ℕ) (h : a < 2 ^ 16) where
-    pub call-svc : n ≡ 1 → Exceptions.Known (Svc a) ≡ callExceptionOf n a
-    unfolding callExceptionOf
-    call-svc e = sym (rw (e, lt-ltb a (2 ^ 16) h))
+  -- an immediate in range is its low 16 bits
+  module _ (a b c : ℕ) (ok : Bool) (p : Exceptions) (eo : ok ≡ ltb a (2 ^ 16)) where
+    low : (f : ℕ → Exception) → inRange ok (f (a % 2 ^ 16)) ≡ inRange (ltb a (2 ^ 16)) (f a)
+    low f = rw eo (go (ltb a (2 ^ 16)) refl)
+      where
+        go : (t : Bool) → ltb a (2 ^ 16) ≡ t → inRange t (f (a % 2 ^ 16)) ≡ inRange t (f a)
+        go true q = ap (λ (x : ℕ). Exceptions.Known (f x)) (mod-eq-of-lt (ltb-true a (2 ^ 16) q))
+        go false q = refl
 
-    pub call-hvc : n ≡ 2 → Exceptions.Known (Hvc a) ≡ callExceptionOf n a
-    unfolding callExceptionOf
-    call-hvc e = sym (rw (e, lt-ltb a (2 ^ 16) h))
+    pub exception-1 : p ≡ inRange ok (Svc (a % 2 ^ 16)) → n ≡ 1 → p ≡ exceptionOf n a b c
+    unfolding exceptionOf callExceptionOf
+    exception-1 q e = q ∙ low Svc ∙ sym (rw e)
 
-    pub call-smc : n ≡ 3 → Exceptions.Known (Smc a) ≡ callExceptionOf n a
-    unfolding callExceptionOf
-    call-smc e = sym (rw (e, lt-ltb a (2 ^ 16) h))
+    pub exception-2 : p ≡ inRange ok (Hvc (a % 2 ^ 16)) → n ≡ 2 → p ≡ exceptionOf n a b c
+    unfolding exceptionOf callExceptionOf
+    exception-2 q e = q ∙ low Hvc ∙ sym (rw e)
 
-    pub call-brk : n ≡ 4 → Exceptions.Known (Brk a) ≡ callExceptionOf n a
-    unfolding callExceptionOf
-    call-brk e = sym (rw (e, lt-ltb a (2 ^ 16) h))
+    pub exception-3 : p ≡ inRange ok (Smc (a % 2 ^ 16)) → n ≡ 3 → p ≡ exceptionOf n a b c
+    unfolding exceptionOf callExceptionOf
+    exception-3 q e = q ∙ low Smc ∙ sym (rw e)
 
-  pub call-other : (a : ℕ) → (n ≡ 1 → ⊥) → (n ≡ 2 → ⊥) → (n ≡ 3 → ⊥) → (n ≡ 4 → ⊥) → Exceptions.Unknown ≡ callExceptionOf n a
-  unfolding callExceptionOf
-  call-other a h1 h2 h3 h4 = sym (rw (ne-eqb n 1 h1, ne-eqb n 2 h2, ne-eqb n 3 h3, ne-eqb n 4 h4))
-
-  pub call-wide : (a : ℕ) → 2 ^ 16 ≤ a → Exceptions.Unknown ≡ callExceptionOf n a
-  unfolding callExceptionOf
-  call-wide a h = rw (le-ltb a (2 ^ 16) h) (go (eqb n 1) (eqb n 2) (eqb n 3) (eqb n 4))
-    where
-      go : (p q r s : Bool) → Exceptions.Unknown ≡ pick p Exceptions.Unknown (pick q Exceptions.Unknown (pick r Exceptions.Unknown (pick s Exceptions.Unknown Exceptions.Unknown)))
-      go true q r s = refl
-      go false true r s = refl
-      go false false true s = refl
-      go false false false true = refl
-      go false false false false = refl
+    pub exception-4 : p ≡ inRange ok (Brk (a % 2 ^ 16)) → n ≡ 4 → p ≡ exceptionOf n a b c
+    unfolding exceptionOf callExceptionOf
+    exception-4 q e = q ∙ low Brk ∙ sym (rw e)
 
   pub translate-known : (va : ℕ) (p : Kinds) (k : Kind) → p ≡ kindOf n → p ≡ Kinds.Known k → Calls.Known (Call.Translate k va) ≡ translateCall (kindOf n) va
   unfolding translateCall
@@ -141,6 +137,51 @@ module _ (addr write fsc : ℕ) where
 
   pub insn-wide : 2 ^ 8 ≤ fsc → Exceptions.Unknown ≡ insnAbortOf addr fsc
   insn-wide h = sym (rw (le-ltb fsc (2 ^ 8) h))
+
+pub in-range : (ok : Bool) (e : Exception) → ok ≡ true → Exceptions.Known e ≡ inRange ok e
+in-range ok e t = sym (rw t)
+
+pub out-of-range : (ok : Bool) (e : Exception) → ok ≡ false → Exceptions.Unknown ≡ inRange ok e
+out-of-range ok e t = sym (rw t)
+
+-- the words of an exception name it
+module _ (e : Exception) where
+  pub words-undefined : e ≡ Undefined → exceptionOf 0 0 0 0 ≡ Exceptions.Known e
+  unfolding exceptionOf
+  words-undefined q = rw q
+
+  pub words-svc : (imm : ℕ) → imm < 2 ^ 16 → e ≡ Svc imm → exceptionOf 1 imm 0 0 ≡ Exceptions.Known e
+  unfolding exceptionOf callExceptionOf
+  words-svc imm h q = rw (q, lt-ltb imm (2 ^ 16) h)
+
+  pub words-hvc : (imm : ℕ) → imm < 2 ^ 16 → e ≡ Hvc imm → exceptionOf 2 imm 0 0 ≡ Exceptions.Known e
+  unfolding exceptionOf callExceptionOf
+  words-hvc imm h q = rw (q, lt-ltb imm (2 ^ 16) h)
+
+  pub words-smc : (imm : ℕ) → imm < 2 ^ 16 → e ≡ Smc imm → exceptionOf 3 imm 0 0 ≡ Exceptions.Known e
+  unfolding exceptionOf callExceptionOf
+  words-smc imm h q = rw (q, lt-ltb imm (2 ^ 16) h)
+
+  pub words-brk : (imm : ℕ) → imm < 2 ^ 16 → e ≡ Brk imm → exceptionOf 4 imm 0 0 ≡ Exceptions.Known e
+  unfolding exceptionOf callExceptionOf
+  words-brk imm h q = rw (q, lt-ltb imm (2 ^ 16) h)
+
+  module _ (addr fsc : ℕ) (h : fsc < 2 ^ 8) where
+    pub words-write : (w : Bool) → w ≡ true → e ≡ DataAbort addr w fsc → exceptionOf 5 addr 1 fsc ≡ Exceptions.Known e
+    unfolding exceptionOf dataAbortOf
+    words-write w t q = rw (q, t, lt-ltb fsc (2 ^ 8) h)
+
+    pub words-read : (w : Bool) → w ≡ false → e ≡ DataAbort addr w fsc → exceptionOf 5 addr 0 fsc ≡ Exceptions.Known e
+    unfolding exceptionOf dataAbortOf
+    words-read w t q = rw (q, t, lt-ltb fsc (2 ^ 8) h)
+
+    pub words-insn : e ≡ InsnAbort addr fsc → exceptionOf 6 addr fsc 0 ≡ Exceptions.Known e
+    unfolding exceptionOf
+    words-insn q = rw (q, lt-ltb fsc (2 ^ 8) h)
+
+  pub words-alignment : e ≡ PcAlignment → exceptionOf 7 0 0 0 ≡ Exceptions.Known e
+  unfolding exceptionOf
+  words-alignment q = rw q
 
 module _ (op : List ℕ) where
   pub call-2 : getD op 0 0 ≡ 2 → Calls.Known (Call.DataPa (getD op 1 0)) ≡ callOf op
@@ -199,9 +240,9 @@ pub ruleset kinds = (kind-1, kind-2, kind-4, kind-none)
 
 pub ruleset marks = (mark-0, mark-1, mark-none)
 
-pub ruleset exceptions = (exception-0, exception-5, exception-6, exception-7, exception-call)
+pub ruleset exceptions = (exception-0, exception-1, exception-2, exception-3, exception-4, exception-5, exception-6, exception-7, exception-none)
 
-pub ruleset call-exceptions = (call-svc, call-hvc, call-smc, call-brk, call-other, call-wide)
+pub ruleset words = (words-undefined, words-svc, words-hvc, words-smc, words-brk, words-write, words-read, words-insn, words-alignment)
 
 pub ruleset data-aborts = (data-read, data-write, data-other, data-wide)
 

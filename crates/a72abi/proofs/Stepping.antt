@@ -1,9 +1,13 @@
 -- Every call by its words, on plain values, for `search`.
-use mathlib.Core.Path.{_≡_, refl, sym, ap, _∙_}
+use mathlib.Core.Path.{_≡_, refl, sym, ap, subst, _∙_}
 use mathlib.Core.Bool.{Bool, true, false}
 use mathlib.Core.List.{List, []}
-use Prim.Native.Nat.{ℕ, zero, suc}
+use Prim.Native.Nat.{ℕ, zero, suc, _%_, _<_, _≤_}
+use native.Mathlib.Nat.{mod-eq-of-lt, pos-of-ne-zero}
+use native.Mathlib.Omega.{arith}
 use borrow.Author.Tests.{ne-eqb}
+use lib.Dec.{ltb}
+use Rattle.word.specs.Bits.{pick}
 use Rattle.tlb.specs.declared.access.Kind.{Kind}
 use Rattle.entry.specs.declared.exception.Exception.{Exception}
 use Rattle.mmu.specs.declared.core.Core.{Core}
@@ -13,10 +17,15 @@ use Rattle.cpu.specs.declared.call.Call.{Call}
 use Rattle.cpu.specs.declared.call.Call.the-variants as Call
 use Rattle.cpu.specs.declared.call.Encoding.{Encoding}
 use Rattle.cpu.specs.declared.call.Reply.{Reply}
+use Rattle.cpu.specs.declared.call.Reply.the-variants.{Refused, Done}
 use Rattle.cpu.specs.declared.call.Stepped.{Stepped}
 use Rattle.words.specs.Held.{held}
 use Rattle.words.specs.Moved.{Moved, moved-as}
-use Rattle.a72abi.specs.Ops.{exceptionAt, abortCall, markCall}
+use Rattle.insys.specs.Early.{never}
+use Rattle.a72abi.specs.Ops.{abortCall, markCall}
+use Rattle.a72abi.specs.Promise.{Promise, Setting, Runs}
+use Rattle.a72abi.specs.Replies.{codeBy}
+use Rattle.a72abi.proofs.Booking.{refused-reply, abort-reply}
 use Rattle.a72abi.specs.declared.op.Calls.{Calls}
 use Rattle.a72abi.specs.declared.op.Calls.the-variants as Calls
 use Rattle.a72abi.specs.declared.op.Exceptions.{Exceptions}
@@ -204,11 +213,70 @@ mark-1 n e = sym (rw e)
 pub mark-none : (n : ℕ) → (n ≡ 0 → ⊥) → (n ≡ 1 → ⊥) → Calls.Unknown ≡ markCall n
 mark-none n a b = sym (rw (ne-eqb n 0 a, ne-eqb n 1 b))
 
-pub abort-known : (l : List ℕ) (o : Exceptions) (x : Exception) → o ≡ exceptionAt l → o ≡ Exceptions.Known x → Calls.Known (Call.Abort x) ≡ abortCall (exceptionAt l)
-abort-known l o x e q = ap abortCall (sym q ∙ e)
+-- abort entry by numbers
+pub abort-known : (o : Exceptions) (p : Exceptions) (x : Exception) → o ≡ p → o ≡ Exceptions.Known x → Calls.Known (Call.Abort x) ≡ abortCall p
+abort-known o p x e q = ap abortCall (sym q ∙ e)
 
-pub abort-none : (l : List ℕ) (o : Exceptions) → o ≡ exceptionAt l → o ≡ Exceptions.Unknown → Calls.Unknown ≡ abortCall (exceptionAt l)
-abort-none l o e q = ap abortCall (sym q ∙ e)
+pub abort-none : (o p : Exceptions) → o ≡ p → o ≡ Exceptions.Unknown → Calls.Unknown ≡ abortCall p
+abort-none o p e q = ap abortCall (sym q ∙ e)
+
+-- and of an exception by the numbers that name it: its reply from its number
+missed-small : (level base len : ℕ) (x : Exception) → missedOf level base len (Call.Abort x) ≤ 6
+unfolding missedOf
+missed-small level base len x = go (ltb 3 level)
+  where
+    go : (p : Bool) → pick p 1 0 ≤ 6
+    go true = omega arith
+    go false = omega arith
+
+module _ (ws xs : List ℕ) (x : Exception) (n : ℕ) (p : Exceptions) (q : p ≡ Exceptions.Known x) (s : Setting (abortCall p) ws n xs) where
+  abbrev said : Reply
+  said = stepOf (held ws) 0 [] (Call.Abort x) .reply
+
+  named : Promise (Calls.Known (Call.Abort x)) 0 [] ws n 0 0 [] xs
+  named = subst (λ (o : Exceptions). Setting (abortCall o) ws n xs) q s .on 0 [] 0
+
+  -- Done where no check is missed, and else the number of the check
+  by-number : (m : ℕ) → m ≡ missedOf (held ws .who .level) 0 0 (Call.Abort x) → m ≤ 6 → said ≡ refusedOr m Refused Done
+  by-number zero e h = sym (abort-reply ws 0 [] x 0 e refl)
+  by-number (suc m) e h = sym (refused-reply ws 0 [] (Call.Abort x) (suc m) e (λ z. omega arith))
+
+  abbrev number : ℕ
+  number = missedOf (held ws .who .level) 0 0 (Call.Abort x)
+
+  replied : said ≡ refusedOr number Refused Done
+  replied = by-number number refl (missed-small (held ws .who .level) 0 0 x)
+
+  its-code : (m : ℕ) → codeBy (refusedOr m Refused Done) ≡ m
+  its-code zero = refl
+  its-code (suc m) = refl
+
+  is-number : n ≡ number
+  is-number = named .code ∙ ap codeBy replied ∙ its-code number
+
+  pub again-done : n ≡ 0 → Runs (Call.Abort x) 0 [] ws Done xs
+  again-done z =
+      record {
+        reply = sym (replied ∙ ap (λ (m : ℕ). refusedOr m Refused Done) (sym is-number ∙ z));
+        words = named .words;
+        stays = record { still = λ e. never e };
+      }
+
+  pub again-refused : (n ≡ 0 → ⊥) → Runs (Call.Abort x) 0 [] ws (Refused (n % 256)) xs
+  again-refused h =
+      let few = missed-small (held ws .who .level) 0 0 x in
+      let k : n ≡ number = is-number in
+      let low : n % 256 ≡ n = mod-eq-of-lt (omega arith) in
+      let some : 0 < n = pos-of-ne-zero h in
+      record {
+        reply = ap Refused low ∙ sym (replied ∙ ap (λ (m : ℕ). refusedOr m Refused Done) (sym is-number) ∙ refuses n h);
+        words = named .words;
+        stays = record { still = λ e. named .unchanged some (omega arith) .0 };
+      }
+    where
+      refuses : (m : ℕ) → (m ≡ 0 → ⊥) → refusedOr m Refused Done ≡ Refused m
+      refuses zero z = absurd (z refl)
+      refuses (suc m) z = refl
 
 pub ruleset replies = (translate-told, data-told, fetch-pa-told, load-told, store-told, fetch-told, system-told, register-told, level-told, mark-told, general-told, abort-told)
 

@@ -1,11 +1,12 @@
 // The other calls on lent words, in place, and every call by its words.
 ghost use mathlib.Core.Path.{_≡_};
+ghost use mathlib.Core.List.{[]};
 ghost use Rattle.cpu.specs.Step.{ramAfter};
 ghost use Rattle.cpu.specs.declared.call.Call.the-variants as Call;
 ghost use Rattle.mmu.specs.Core.{freshCore};
 ghost use Rattle.words.specs.Held.{held};
 ghost use Rattle.a72abi.specs.declared.op.Calls.the-variants as Calls;
-ghost use Rattle.a72abi.specs.Ops.{keyOf, encodingOf, exceptionAt, abortCall, markCall, callOf};
+ghost use Rattle.a72abi.specs.Ops.{keyOf, encodingOf, exceptionOf, exceptionAt, abortCall, markCall, callOf};
 ghost use Rattle.a72abi.specs.Promise.{Promise, Setting, StepPromise, Runs};
 use crate::book;
 use crate::op;
@@ -15,6 +16,7 @@ use crate::reply;
 use cpu::call::Call;
 use cpu::call::Encoding;
 use cpu::call::Reply;
+use entry::exception::Exception;
 use words::place::State;
 
 // Every word written: the core after reset.
@@ -97,17 +99,37 @@ pub extern "C" fn a72_mark(state: &mut State, mark: u64) -> u64
     }
 }
 
-// Abort entry, of an exception in four words.
-#[no_mangle]
-pub extern "C" fn a72_abort(state: &mut State, e: &[u64; 4]) -> u64
-    ensures { λ r. ⌜ Setting (abortCall (exceptionAt (now (e .entry)))) (now (state .entry)) r (now (state .exit)) ⌝ }
+// Abort entry, of an exception's four words as numbers: named in memory it would take longer than the entry.
+fn abort_named(state: &mut State, code: u64, a: u64, b: u64, c: u64) -> u64
+    ensures { λ r. ⌜ Setting (abortCall (exceptionOf code a b c)) (now (state .entry)) r (now (state .exit)) ⌝ }
 {
-    match op::exception_of(e[0], e[1], e[2], e[3]) {
+    match op::exception_of(code, a, b, c) {
         Exceptions::Known(x) => {
             let r = book::abort(state, x);
             reply::number(r)
         }
         Exceptions::Unknown => 64,
+    }
+}
+
+// Abort entry, of an exception in four words.
+#[no_mangle]
+pub extern "C" fn a72_abort(state: &mut State, e: &[u64; 4]) -> u64
+    ensures { λ r. ⌜ Setting (abortCall (exceptionAt (now (e .entry)))) (now (state .entry)) r (now (state .exit)) ⌝ }
+{
+    abort_named(state, e[0], e[1], e[2], e[3])
+}
+
+// Abort entry, by the same numbers.
+fn abort(state: &mut State, e: Exception) -> Reply
+    ensures { λ r. ⌜ Runs (Call.Abort e) 0 [] (now (state .entry)) r (now (state .exit)) ⌝ }
+{
+    let w = op::words_of(e);
+    let n = abort_named(state, w[0], w[1], w[2], w[3]);
+    if n == 0 {
+        Reply::Done
+    } else {
+        Reply::Refused((n % 256) as u8)
     }
 }
 
@@ -128,7 +150,7 @@ fn step(state: &mut State, base: u64, ram: &mut [u8], call: Call) -> Reply
         Call::Level(level) => book::level(state, level),
         Call::Mark(mark) => book::mark(state, mark),
         Call::General(number, value) => book::general(state, number, value),
-        Call::Abort(e) => book::abort(state, e),
+        Call::Abort(e) => abort(state, e),
     }
 }
 

@@ -1,6 +1,8 @@
 // A call as words.
 ghost use mathlib.Core.Path.{_≡_};
-ghost use Rattle.a72abi.specs.Ops.{kindOf, dataAbortOf, insnAbortOf, callExceptionOf, exceptionOf, keyOf, translateCall, abortCall, markCall, callOf};
+ghost use Rattle.a72abi.specs.declared.op.Exceptions.the-variants as Exceptions;
+ghost use Rattle.a72abi.specs.Ops.{kindOf, inRange, dataAbortOf, insnAbortOf, exceptionOf, exceptionAt};
+ghost use Rattle.a72abi.specs.Ops.{keyOf, translateCall, abortCall, markCall, callOf};
 use cpu::call::Call;
 use cpu::call::Encoding;
 use entry::exception::Exception;
@@ -67,35 +69,56 @@ fn insn_abort_of(addr: u64, fsc: u64) -> Exceptions
     }
 }
 
-// SVC, HVC, SMC or BRK, by code 1 to 4; the immediate has 16 bits.
-fn call_exception_of(code: u64, imm: u64) -> Exceptions
-    ensures { λ r. ⌜ r ≡ callExceptionOf code imm ⌝ }
+// An exception whose words are in range.
+fn in_range(ok: bool, e: Exception) -> Exceptions
+    ensures { λ r. ⌜ r ≡ inRange ok e ⌝ }
 {
-    if imm < 0x1_0000 {
-        let imm = imm as u16;
-        match code {
-            1 => Exceptions::Known(Exception::Svc(imm)),
-            2 => Exceptions::Known(Exception::Hvc(imm)),
-            3 => Exceptions::Known(Exception::Smc(imm)),
-            4 => Exceptions::Known(Exception::Brk(imm)),
-            _ => Exceptions::Unknown,
-        }
+    if ok {
+        Exceptions::Known(e)
     } else {
         Exceptions::Unknown
     }
 }
 
-// 0 Undefined; 1 SVC, 2 HVC, 3 SMC, 4 BRK, each with its immediate; 5 data abort with address, write and status; 6
-// instruction abort with address and status; 7 PC alignment. Words out of range name nothing.
+// 0 Undefined; 1 SVC, 2 HVC, 3 SMC, 4 BRK, each with its immediate, of 16 bits; 5 data abort with address, write and
+// status; 6 instruction abort with address and status; 7 PC alignment. Words out of range name nothing.
 pub fn exception_of(code: u64, a: u64, b: u64, c: u64) -> Exceptions
     ensures { λ r. ⌜ r ≡ exceptionOf code a b c ⌝ }
 {
+    let ok = a < 0x1_0000;
+    let imm = (a % 0x1_0000) as u16;
     match code {
         0 => Exceptions::Known(Exception::Undefined),
+        1 => in_range(ok, Exception::Svc(imm)),
+        2 => in_range(ok, Exception::Hvc(imm)),
+        3 => in_range(ok, Exception::Smc(imm)),
+        4 => in_range(ok, Exception::Brk(imm)),
         5 => data_abort_of(a, b, c),
         6 => insn_abort_of(a, b),
         7 => Exceptions::Known(Exception::PcAlignment),
-        _ => call_exception_of(code, a),
+        _ => Exceptions::Unknown,
+    }
+}
+
+// The four words that name an exception.
+pub fn words_of(e: Exception) -> [u64; 4]
+    ensures { λ r. ⌜ exceptionAt r ≡ Exceptions.Known e ⌝ }
+{
+    match e {
+        Exception::Undefined => [0, 0, 0, 0],
+        Exception::Svc(imm) => [1, imm as u64, 0, 0],
+        Exception::Hvc(imm) => [2, imm as u64, 0, 0],
+        Exception::Smc(imm) => [3, imm as u64, 0, 0],
+        Exception::Brk(imm) => [4, imm as u64, 0, 0],
+        Exception::DataAbort { addr, write, fsc } => {
+            if write {
+                [5, addr, 1, fsc as u64]
+            } else {
+                [5, addr, 0, fsc as u64]
+            }
+        }
+        Exception::InsnAbort { addr, fsc } => [6, addr, fsc as u64, 0],
+        Exception::PcAlignment => [7, 0, 0, 0],
     }
 }
 

@@ -1,24 +1,27 @@
 -- A store into the registers of a level, and the state that an entry leaves.
-use mathlib.Core.Path.{_≡_, _∙_}
+use mathlib.Core.Path.{_≡_, ap, _∙_}
 use mathlib.Core.List.{List, [], _∷_}
 use Prim.Native.Nat.{ℕ, _+_, _%_}
 use native.Mathlib.Omega.{arith}
 use lib.ListN.{length, getD, set}
 use Rattle.word.specs.Bits.{wrap}
-use Rattle.sysreg.specs.Regs.{levelOf}
+use Rattle.sysreg.specs.Regs.{levelOf, sysAt}
 use Rattle.sysreg.specs.declared.regs.El.{El}
 use Rattle.sysreg.specs.declared.regs.El.the-variants.{El1, El2, El3}
+use Rattle.sysreg.specs.declared.regs.SysReg.the-variants.{Vbar}
 use Rattle.sysreg.specs.declared.regs.SysRegs.{SysRegs}
 use Rattle.entry.specs.declared.exception.Exception.{Exception}
 use Rattle.entry.specs.declared.flags.Flags.{Flags}
 use Rattle.entry.specs.declared.report.Report.{Report}
 use Rattle.entry.specs.declared.route.Routed.{Routed}
 use Rattle.entry.specs.declared.take.Entered.{Entered}
+use Rattle.entry.specs.declared.take.Reported.{Reported}
+use Rattle.entry.specs.declared.take.Taken.{Taken}
 use Rattle.entry.specs.Pstate.{spsrOf}
 use Rattle.entry.specs.Syndrome.{syndromeOf}
 use Rattle.entry.specs.Route.{routedTo}
-use Rattle.entry.specs.Entry.{vectOffset, atTarget, updated, updatedSys, entryFlags, takeException, enterOf, originOf, takeSync}
-use Rattle.entry.specs.EntryLaws.{enter-sync}
+use Rattle.entry.specs.Entry.{vectOffset, atTarget, updated, updatedSys, entryFlags, enteredWith, enterOf, originOf, takenTo, syncReport, syncChanges, takeSync}
+use Rattle.entry.specs.EntryLaws.{entered-report, take-changes}
 use Rattle.entry.specs.Parts.{farUpdate}
 use Rattle.entry.specs.declared.take.Update.{Update}
 use Rattle.entry.specs.declared.take.Update.the-variants.{Write}
@@ -56,17 +59,38 @@ module _ (s : SysRegs) (target : El) (esr far : Update) where
   arrays spsr ret a b c d ea eb ec ed = rw (ea, eb, ec, ed)
 
   -- the level, PSTATE, the PC and the registers
-  pub entered : (level ret kind t g v p pc : ℕ) (f h : Flags) (q : SysRegs) → t ≡ levelOf target → g ≡ vectOffset level t (f .spsel)
-      → v ≡ wrap (g + kind) → h ≡ entryFlags f → pc ≡ wrap (getD (s .vbar) t 0 + v) → p ≡ spsrOf level f → q ≡ updatedSys s target esr far p ret
-      → record { level = t; flags = h; pc = pc; sys = q } ≡ enterOf level f s target kind esr far ret
-  unfolding enterOf
-  entered level ret kind t g v p pc f h q et eg ev eh epc ep eq =
-      let k : pc ≡ wrap (getD (s .vbar) t 0 + (g + kind)) = epc ∙ rw ev (omega arith) in rw (k, eg, et, eh, eq, ep)
+  pub entered : (t offset pc spsr ret : ℕ) (f h : Flags) (q : SysRegs) → t ≡ levelOf target → h ≡ entryFlags f
+      → pc ≡ wrap (getD (s .vbar) t 0 + offset) → q ≡ updatedSys s target esr far spsr ret
+      → record { level = t; flags = h; pc = pc; sys = q } ≡ enteredWith f s target offset esr far spsr ret
+  entered t offset pc spsr ret f h q et eh epc eq = rw (epc, eh, eq, et)
 
-pub taken : (level pc scr hcr : ℕ) (f : Flags) (s : SysRegs) (e : Exception) (o : Routed) (t : ℕ) (r : Report) (u : Update) (q : Entered)
-    → o ≡ routedTo (originOf level pc scr hcr) e → t ≡ levelOf (o .target) → r ≡ syndromeOf (o .exception) (level % 4) t pc → u ≡ farUpdate r
-    → q ≡ enterOf (level % 4) f s (o .target) 0 (Write (r .esr)) u (o .ret) → q ≡ takeSync level f pc scr hcr s e
-unfolding takeSync
-taken level pc scr hcr f s e o t r u q eo et er eu eq =
-    let k : q ≡ takeException (level % 4) f s (o .target) r (o .ret) = rw eu at eq ∙ enter-sync (level % 4) f s (o .target) r (o .ret) in
-    rw (k, er, et, eo)
+  -- the vector is the group's, and the kind its place in it
+  pub enters : (level ret kind t g v p : ℕ) (f : Flags) (q : Entered) → t ≡ levelOf target → g ≡ vectOffset level t (f .spsel)
+      → v ≡ wrap (g + kind) → p ≡ spsrOf level f → q ≡ enteredWith f s target v esr far p ret
+      → q ≡ enterOf level f s target kind esr far ret
+  unfolding enterOf
+  enters level ret kind t g v p f q et eg ev ep eq =
+      let k : wrap (sysAt s (Vbar target) + v) ≡ wrap (sysAt s (Vbar target) + (g + kind)) = rw ev (omega arith) in
+      eq ∙ rw (k, ep, eg, et)
+
+-- a synchronous exception is reported
+pub reports : (level pc scr hcr : ℕ) (e : Exception) (o : Routed) (t : ℕ) (r : Report) → o ≡ routedTo (originOf level pc scr hcr) e
+    → t ≡ levelOf (o .target) → r ≡ syndromeOf (o .exception) (level % 4) t pc
+    → record { target = o .target; ret = o .ret; report = r } ≡ syncReport level pc scr hcr e
+unfolding syncReport
+reports level pc scr hcr e o t r eo et er = rw (er, et, eo)
+
+-- what its entry changes
+pub changes : (level : ℕ) (f : Flags) (r : Reported) (t g p : ℕ) → t ≡ levelOf (r .target) → g ≡ vectOffset (level % 4) t (f .spsel)
+    → p ≡ spsrOf (level % 4) f
+    → record { target = r .target; group = g; spsr = p; ret = r .ret; report = r .report } ≡ syncChanges level f r
+unfolding syncChanges
+changes level f r t g p et eg ep = rw (ep, eg, et)
+
+-- and it is taken
+pub taken : (level pc scr hcr : ℕ) (f : Flags) (s : SysRegs) (e : Exception) (r : Reported) (t : Taken) (u : Update) (q : Entered)
+    → r ≡ syncReport level pc scr hcr e → t ≡ syncChanges level f r → u ≡ farUpdate (t .report)
+    → q ≡ enteredWith f s (t .target) (t .group) (Write (t .report .esr)) u (t .spsr) (t .ret) → q ≡ takeSync level f pc scr hcr s e
+taken level pc scr hcr f s e r t u q er et eu eq =
+    let k : q ≡ takenTo f s t = rw eu at eq ∙ entered-report f s t in
+    k ∙ ap (takenTo f s) (et ∙ ap (syncChanges level f) er) ∙ take-changes level pc scr hcr f s e

@@ -17,6 +17,8 @@ use Rattle.entry.specs.declared.report.Report.{Report}
 use Rattle.entry.specs.declared.route.Origin.{Origin}
 use Rattle.entry.specs.declared.route.Routed.{Routed}
 use Rattle.entry.specs.declared.take.Entered.{Entered}
+use Rattle.entry.specs.declared.take.Reported.{Reported}
+use Rattle.entry.specs.declared.take.Taken.{Taken}
 use Rattle.entry.specs.declared.take.Update.{Update}
 use Rattle.entry.specs.declared.take.Update.the-variants.{Write, Keep}
 use Rattle.entry.specs.Pstate.{daifAll, spsrOf}
@@ -85,15 +87,29 @@ ofEntry target Par = false
 abbrev pub entryFlags : Flags → Flags
 entryFlags f = record { nzcv = f .nzcv; daif = daifAll; spsel = true }
 
--- PSTATE.EL = target_el, and the branch to VBAR_ELx plus the offset
-unfoldable pub takeException : ℕ → Flags → SysRegs → El → Report → ℕ → Entered
-takeException level f s target r ret =
+-- what a synchronous entry changes, whatever holds the registers
+abbrev pub changesOf : ℕ → Flags → El → Report → ℕ → Taken
+changesOf level f target r ret =
     record {
-      level = levelOf target;
-      flags = entryFlags f;
-      pc = wrap (sysAt s (Vbar target) + vectOffset level (levelOf target) (f .spsel));
-      sys = enteredSys s target r (spsrOf level f) ret;
+      target = target;
+      group = vectOffset level (levelOf target) (f .spsel);
+      spsr = spsrOf level f;
+      ret = ret;
+      report = r;
     }
+
+-- PSTATE.EL = target_el, and the branch to VBAR_ELx plus the offset
+abbrev pub takenTo : Flags → SysRegs → Taken → Entered
+takenTo f s t =
+    record {
+      level = levelOf (t .target);
+      flags = entryFlags f;
+      pc = wrap (sysAt s (Vbar (t .target)) + t .group);
+      sys = enteredSys s (t .target) (t .report) (t .spsr) (t .ret);
+    }
+
+unfoldable pub takeException : ℕ → Flags → SysRegs → El → Report → ℕ → Entered
+takeException level f s target r ret = takenTo f s (changesOf level f target r ret)
 
 -- An entry of any kind, which is added to the offset (0x000 for a synchronous exception, 0x080 for an IRQ, 0x100 for an FIQ); ESR and FAR are
 -- written, or kept as an interrupt keeps both. A synchronous one is `takeException` (`enter-sync` of EntryLaws).
@@ -104,23 +120,40 @@ updated target Keep l = l
 abbrev pub updatedSys : SysRegs → El → Update → Update → ℕ → ℕ → SysRegs
 updatedSys s target esr far spsr ret = afterEntry s target spsr ret (updated target esr (s .esr)) (updated target far (s .far))
 
-unfoldable pub enterOf : ℕ → Flags → SysRegs → El → ℕ → Update → Update → ℕ → Entered
-enterOf level f s target kind esr far ret =
+abbrev pub enteredWith : Flags → SysRegs → El → ℕ → Update → Update → ℕ → ℕ → Entered
+enteredWith f s target offset esr far spsr ret =
     record {
       level = levelOf target;
       flags = entryFlags f;
-      pc = wrap (sysAt s (Vbar target) + (vectOffset level (levelOf target) (f .spsel) + kind));
-      sys = updatedSys s target esr far (spsrOf level f) ret;
+      pc = wrap (sysAt s (Vbar target) + offset);
+      sys = updatedSys s target esr far spsr ret;
     }
 
--- a routed exception is reported and taken
-abbrev pub takeRouted : ℕ → Flags → ℕ → SysRegs → Routed → Entered
-takeRouted level f pc s r =
-    takeException level f s (r .target) (syndromeOf (r .exception) level (levelOf (r .target)) pc) (r .ret)
+unfoldable pub enterOf : ℕ → Flags → SysRegs → El → ℕ → Update → Update → ℕ → Entered
+enterOf level f s target kind esr far ret =
+    enteredWith f s target (vectOffset level (levelOf target) (f .spsel) + kind) esr far (spsrOf level f) ret
+
+-- a routed exception is reported
+abbrev pub reportOf : ℕ → ℕ → Routed → Report
+reportOf level pc r = syndromeOf (r .exception) level (levelOf (r .target)) pc
 
 -- PSTATE.EL has two bits: a level above 3 counts by those
 abbrev pub originOf : ℕ → ℕ → ℕ → ℕ → Origin
 originOf level pc scr hcr = record { level = level % 2 ^ 2; «scr_el3» = scr; «hcr_el2» = hcr; pc = pc }
+
+abbrev pub reported : ℕ → ℕ → Routed → Reported
+reported level pc r = record { target = r .target; ret = r .ret; report = reportOf level pc r }
+
+unfoldable pub syncReport : ℕ → ℕ → ℕ → ℕ → Exception → Reported
+syncReport level pc scr hcr e = reported (level % 2 ^ 2) pc (routedTo (originOf level pc scr hcr) e)
+
+-- what its entry changes
+unfoldable pub syncChanges : ℕ → Flags → Reported → Taken
+syncChanges level f r = changesOf (level % 2 ^ 2) f (r .target) (r .report) (r .ret)
+
+-- and it is taken
+abbrev pub takeRouted : ℕ → Flags → ℕ → SysRegs → Routed → Entered
+takeRouted level f pc s r = takeException level f s (r .target) (reportOf level pc r) (r .ret)
 
 unfoldable pub takeSync : ℕ → Flags → ℕ → ℕ → ℕ → SysRegs → Exception → Entered
 takeSync level f pc scr hcr s e = takeRouted (level % 2 ^ 2) f pc s (routedTo (originOf level pc scr hcr) e)

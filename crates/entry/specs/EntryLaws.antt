@@ -21,8 +21,9 @@ use Rattle.entry.specs.declared.route.Origin.{Origin}
 use Rattle.entry.specs.Pstate.{spsrOf}
 use Rattle.entry.specs.Syndrome.{syndromeOf}
 use Rattle.entry.specs.Route.{defaultTarget, smcTrapped, callTarget, targetEl, generated, routedTo}
-use Rattle.entry.specs.Entry.{vectOffset, sameEl, atTarget, enteredSys, registerAfter, ofEntry, updated, takeException, enterOf, originOf, takeSync}
+use Rattle.entry.specs.Entry.{vectOffset, sameEl, atTarget, enteredSys, registerAfter, ofEntry, updated, changesOf, enteredWith, takenTo, takeException, enterOf, originOf, syncReport, syncChanges, takeSync}
 use Rattle.entry.specs.Parts.{farUpdate}
+use Rattle.entry.specs.declared.take.Taken.{Taken}
 use Rattle.entry.specs.declared.take.Update.the-variants.{Write, Keep}
 
 module _ (s : SysRegs) (target : El) (r : Report) (spsr ret : ℕ) where
@@ -70,18 +71,31 @@ module _ (s : SysRegs) (target : El) (r : Report) (spsr ret : ℕ) where
   pub entered-others : (q : SysReg) → ofEntry target q ≡ false → sysAt (enteredSys s target r spsr ret) q ≡ sysAt s q
   entered-others q n = entered-at s target r spsr ret q ∙ stays q (sysAt s q) n
 
--- an entry of the synchronous kind that writes what a report has it write is the manual's
+-- an entry that writes what a report has it write is the manual's
+pub entered-report : (f : Flags) (s : SysRegs) (t : Taken)
+    → enteredWith f s (t .target) (t .group) (Write (t .report .esr)) (farUpdate (t .report)) (t .spsr) (t .ret) ≡ takenTo f s t
+unfolding enteredSys
+entered-report f s t = rw (far-as (t .report .valid))
+  where
+    far-as : (b : Bool)
+        → updated (t .target) (pick b (Write (t .report .far)) Keep) (s .far) ≡ pick b (atTarget (t .target) (t .report .far) (s .far)) (s .far)
+    far-as true = refl
+    far-as false = refl
+
+-- so is one of the synchronous kind
 pub enter-sync : (level : ℕ) (f : Flags) (s : SysRegs) (target : El) (r : Report) (ret : ℕ)
     → enterOf level f s target 0 (Write (r .esr)) (farUpdate r) ret ≡ takeException level f s target r ret
-unfolding enterOf takeException enteredSys
-enter-sync level f s target r ret = rw (kind-zero, far-as (r .valid))
+unfolding enterOf takeException
+enter-sync level f s target r ret = rw kind-zero (entered-report f s (changesOf level f target r ret))
   where
     kind-zero : vectOffset level (levelOf target) (f .spsel) + 0 ≡ vectOffset level (levelOf target) (f .spsel)
     kind-zero = omega arith
 
-    far-as : (b : Bool) → updated target (pick b (Write (r .far)) Keep) (s .far) ≡ pick b (atTarget target (r .far) (s .far)) (s .far)
-    far-as true = refl
-    far-as false = refl
+-- a synchronous exception is taken by what it changes
+pub take-changes : (level pc scr hcr : ℕ) (f : Flags) (s : SysRegs) (e : Exception)
+    → takenTo f s (syncChanges level f (syncReport level pc scr hcr e)) ≡ takeSync level f pc scr hcr s e
+unfolding syncReport syncChanges takeSync takeException
+take-changes level pc scr hcr f s e = refl
 
 -- The target level.
 module _ (scr hcr pc : ℕ) where

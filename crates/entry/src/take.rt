@@ -1,6 +1,7 @@
-// Exception entry. take_sync takes a level modulo 4, as PSTATE.EL has two bits; levels are 0 to 3 below it.
+// Exception entry. A synchronous one takes a level modulo 4, as PSTATE.EL has two bits; levels are 0 to 3 below it.
 ghost use mathlib.Core.Path.{_≡_};
-ghost use Rattle.entry.specs.Entry.{vectOffset, atTarget, updated, updatedSys, entryFlags, enterOf, takeSync};
+ghost use Rattle.entry.specs.Entry.{vectOffset, atTarget, updated, updatedSys, entryFlags, enterOf};
+ghost use Rattle.entry.specs.Entry.{enteredWith, syncReport, syncChanges, takeSync};
 ghost use Rattle.entry.specs.Parts.{farUpdate};
 use crate::exception::Exception;
 use crate::flags::DAIF_ALL;
@@ -21,6 +22,22 @@ pub const VECTOR_SYNC: u64 = 0x000;
 pub enum Update {
     Write(u64),
     Keep,
+}
+
+// Where a synchronous exception goes, the address that it returns to, and what it reports.
+pub struct Reported {
+    pub target: El,
+    pub ret: u64,
+    pub report: Report,
+}
+
+// What its entry changes: at the target the group of vectors, SPSR, ELR, and ESR with FAR.
+pub struct Taken {
+    pub target: El,
+    pub group: u64,
+    pub spsr: u64,
+    pub ret: u64,
+    pub report: Report,
 }
 
 // What an entry leaves: the level, PSTATE, the PC and the registers.
@@ -93,6 +110,28 @@ fn masked(flags: Flags) -> Flags
     }
 }
 
+// The state at the target: its vector is an offset from VBAR_ELx.
+fn enter_with(
+    flags: Flags,
+    sys: SysRegs,
+    target: El,
+    offset: u64,
+    esr: Update,
+    far: Update,
+    spsr: u64,
+    ret: u64,
+) -> Entered
+    ensures { λ r. ⌜ r ≡ enteredWith flags sys target offset esr far spsr ret ⌝ }
+{
+    let t = index(target);
+    Entered {
+        level: t as u8,
+        flags: masked(flags),
+        pc: std::num::wrapping_add_u64(sys.vbar[t], offset),
+        sys: saved(sys, target, esr, far, spsr, ret),
+    }
+}
+
 // Exception entry to a level: the kind is the vector's place in its group, and ret the address that it returns to.
 pub fn enter(
     level: u8,
@@ -106,16 +145,11 @@ pub fn enter(
 ) -> Entered
     ensures { λ r. ⌜ r ≡ enterOf level flags sys target kind esr far ret ⌝ }
 {
-    let t = index(target);
-    let to = t as u8;
+    let to = index(target) as u8;
     let group = vector_group(level, to, flags.spsel);
     let vector = std::num::wrapping_add_u64(group, kind);
-    Entered {
-        level: to,
-        flags: masked(flags),
-        pc: std::num::wrapping_add_u64(sys.vbar[t], vector),
-        sys: saved(sys, target, esr, far, pstate(level, flags), ret),
-    }
+    let spsr = pstate(level, flags);
+    enter_with(flags, sys, target, vector, esr, far, spsr, ret)
 }
 
 // FAR_ELx is written where the exception has an address.
@@ -129,17 +163,9 @@ fn far_update(report: Report) -> Update
     }
 }
 
-// A synchronous exception at the PC is routed, reported and taken.
-pub fn take_sync(
-    level: u8,
-    flags: Flags,
-    pc: u64,
-    scr_el3: u64,
-    hcr_el2: u64,
-    sys: SysRegs,
-    e: Exception,
-) -> Entered
-    ensures { λ r. ⌜ r ≡ takeSync level flags pc «scr_el3» «hcr_el2» sys e ⌝ }
+// A synchronous exception at the PC is routed and reported.
+pub fn report_sync(level: u8, pc: u64, scr_el3: u64, hcr_el2: u64, e: Exception) -> Reported
+    ensures { λ r. ⌜ r ≡ syncReport level pc «scr_el3» «hcr_el2» e ⌝ }
 {
     let el = level % 4;
     let routed = route(
@@ -153,8 +179,46 @@ pub fn take_sync(
     );
     let exception = routed.exception;
     let target = routed.target;
-    let report = syndrome(exception, el, index(target) as u8, pc);
+    Reported {
+        target,
+        ret: routed.ret,
+        report: syndrome(exception, el, index(target) as u8, pc),
+    }
+}
+
+// What its entry changes.
+pub fn sync_changes(level: u8, flags: Flags, r: Reported) -> Taken
+    ensures { λ t. ⌜ t ≡ syncChanges level flags r ⌝ }
+{
+    let el = level % 4;
+    let target = r.target;
+    let report = r.report;
+    Taken {
+        target,
+        group: vector_group(el, index(target) as u8, flags.spsel),
+        spsr: pstate(el, flags),
+        ret: r.ret,
+        report,
+    }
+}
+
+// It is routed, reported and taken.
+pub fn take_sync(
+    level: u8,
+    flags: Flags,
+    pc: u64,
+    scr_el3: u64,
+    hcr_el2: u64,
+    sys: SysRegs,
+    e: Exception,
+) -> Entered
+    ensures { λ r. ⌜ r ≡ takeSync level flags pc «scr_el3» «hcr_el2» sys e ⌝ }
+{
+    let r = report_sync(level, pc, scr_el3, hcr_el2, e);
+    let t = sync_changes(level, flags, r);
+    let target = t.target;
+    let report = t.report;
     let esr = Update::Write(report.esr);
     let far = far_update(report);
-    enter(el, flags, sys, target, VECTOR_SYNC, esr, far, routed.ret)
+    enter_with(flags, sys, target, t.group, esr, far, t.spsr, t.ret)
 }

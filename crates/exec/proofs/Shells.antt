@@ -2,8 +2,7 @@
 use mathlib.Core.Path.{_≡_, refl, sym, ap, _∙_}
 use mathlib.Core.Bool.{Bool, true, false}
 use mathlib.Core.List.{List}
-use Prim.Native.Nat.{ℕ, zero, suc, _+_, _-_, _%_, _≤_, _<_}
-use native.Mathlib.Nat.{pos-of-ne-zero}
+use Prim.Native.Nat.{ℕ, _+_, _-_, _%_}
 use native.Mathlib.Omega.{arith}
 use Rattle.word.specs.Bits.{alignDown, pick, wrap}
 use Rattle.word.specs.Ram.{wordAt}
@@ -34,6 +33,7 @@ use Rattle.mmu.specs.declared.ops.Stored.{Stored}
 use Rattle.exec.specs.Fit.{refitOf}
 use Rattle.exec.specs.Ops.{withRegs, appliedOf, registered, written, writeRegister}
 use Rattle.exec.specs.Sys.{mairOf, withPar, atOf, invalidatedOf, tlbiCore, zeroOf, zeroRam, sysBy, sysRamBy, opOf, sysOf, sysRam}
+use Rattle.exec.specs.ZeroLaws.{zero-none, zero-stops, zero-goes}
 use Rattle.exec.specs.declared.ops.Registered.{Registered}
 
 -- a register write that is done
@@ -78,42 +78,30 @@ unfolding tlbiCore
 tlbi-is c op1 crm op2 x what b u d ew eb eu ed = rw (ed, eu, ew, eb)
 
 -- a zeroing, store by store
-pub some-left : (n : ℕ) → (n ≡ 0 → ⊥) → 1 ≤ n
-some-left n h = pos-of-ne-zero h
-
-pub fewer-left : (n t : ℕ) → (n ≡ 0 → ⊥) → n ≡ t → n - 1 < t
-fewer-left n t h e = let k = some-left n h in omega arith
-
 module _ (n : ℕ) (c : Core) (base : ℕ) (ram : List ℕ) (va : ℕ) where
-  pub zero-none : n ≡ 0 → record { core = c; answer = Done } ≡ zeroOf n c base ram va
-  unfolding zeroOf
-  zero-none e = rw e
+  pub none-is : n ≡ 0 → record { core = c; answer = Done } ≡ zeroOf n c base ram va
+  none-is e = zero-none n c base ram va e .0
 
-  pub zero-none-ram : n ≡ 0 → ram ≡ zeroRam n c base ram va
-  unfolding zeroRam
-  zero-none-ram e = rw e
+  pub none-ram : n ≡ 0 → ram ≡ zeroRam n c base ram va
+  none-ram e = zero-none n c base ram va e .1
 
   module _ (s : Stored) (ram′ : List ℕ) (a : StoreAnswer) (h : n ≡ 0 → ⊥) (es : s ≡ writeOf c base ram va 8) (er : ram′ ≡ ramAfterWrite c base ram va 8 0)
       (ea : s .answer ≡ a) where
-    more : n ≡ suc (n - 1)
-    more = let k : 0 < n = pos-of-ne-zero h in omega arith
+    told : writeOf c base ram va 8 .answer ≡ a
+    told = ap (λ (x : Stored). x .answer) (sym es) ∙ ea
 
-    pub zero-stops : (st : Stop) → a ≡ Stopped st → s ≡ zeroOf n c base ram va
-    unfolding zeroOf
-    zero-stops st e = rw (more, zeroOf, ← es, ea, e)
+    pub stops-is : (st : Stop) → a ≡ Stopped st → s ≡ zeroOf n c base ram va
+    stops-is st e = es ∙ zero-stops n c base ram va h st (told ∙ e) .0
 
-    pub zero-stops-ram : (st : Stop) → a ≡ Stopped st → ram′ ≡ zeroRam n c base ram va
-    unfolding zeroRam
-    zero-stops-ram st e = rw (more, zeroRam, ← es, ea, e) er
+    pub stops-ram : (st : Stop) → a ≡ Stopped st → ram′ ≡ zeroRam n c base ram va
+    stops-ram st e = er ∙ zero-stops n c base ram va h st (told ∙ e) .1
 
-    pub zero-goes : (r : Stored) (next : ℕ) → a ≡ Done → next ≡ wrap (va + 8) → r ≡ zeroOf (n - 1) (s .core) base ram′ next → r ≡ zeroOf n c base ram va
-    unfolding zeroOf
-    zero-goes r next e en el = rw (more, zeroOf, ← es, ea, e, ← er, ← en) el
+    pub goes-is : (r : Stored) (next : ℕ) → a ≡ Done → next ≡ wrap (va + 8) → r ≡ zeroOf (n - 1) (s .core) base ram′ next → r ≡ zeroOf n c base ram va
+    goes-is r next e en el = el ∙ (λ i. zeroOf (n - 1) (es i .core) base (er i) (en i)) ∙ zero-goes n c base ram va h (told ∙ e) .0
 
-    pub zero-goes-ram : (ys : List ℕ) (next : ℕ) → a ≡ Done → next ≡ wrap (va + 8) → ys ≡ zeroRam (n - 1) (s .core) base ram′ next
+    pub goes-ram : (ys : List ℕ) (next : ℕ) → a ≡ Done → next ≡ wrap (va + 8) → ys ≡ zeroRam (n - 1) (s .core) base ram′ next
         → ys ≡ zeroRam n c base ram va
-    unfolding zeroRam
-    zero-goes-ram ys next e en el = rw (more, zeroRam, ← es, ea, e, ← er, ← en) el
+    goes-ram ys next e en el = el ∙ (λ i. zeroRam (n - 1) (es i .core) base (er i) (en i)) ∙ zero-goes n c base ram va h (told ∙ e) .1
 
 -- the 64 bytes that hold an address
 lined : (x : ℕ) → x - x % 64 ≡ alignDown x 6

@@ -3,7 +3,7 @@ use mathlib.Core.Path.{_≡_, refl, sym, ap, _∙_}
 use mathlib.Core.Bool.{Bool, true, false, _&&_}
 use mathlib.Core.List.{List}
 use Prim.Native.Nat.{ℕ, zero, suc, _+_, _-_, _*_, _/_, _%_, _^_, _≤_, _<_}
-use native.Mathlib.Nat.{mod-eq-of-lt, zero-div}
+use native.Mathlib.Nat.{mod-eq-of-lt, pos-of-ne-zero, zero-div}
 use native.Mathlib.Omega.{arith}
 use borrow.Author.Tests.{leb-true, leb-false, ltb-true, ltb-false, le-ltb}
 use lib.Dec.{leb, ltb}
@@ -14,6 +14,7 @@ use Rattle.word.specs.RamLaws.{written-byte}
 use Rattle.tlb.specs.declared.access.Kind.the-variants.{Write}
 use Rattle.tlb.specs.declared.access.Answer.{Answer}
 use Rattle.tlb.specs.declared.access.Answer.the-variants.{Address, Status}
+use Rattle.entry.specs.declared.exception.Stop.{Stop}
 use Rattle.mmu.specs.Core.{movedTo, bankNow}
 use Rattle.mmu.specs.Place.{inPage, crosses, goesOn, placedOne, verdictOf}
 use Rattle.mmu.specs.Bytes.{storeRam}
@@ -160,6 +161,38 @@ module _ (base : ℕ) (ram : List ℕ) (n pa : ℕ) where
               stored-leaves base ram n pa 0 k (λ i h q. omega arith) ∙ z
 
 -- STORE AFTER STORE
+
+pub some-left : (n : ℕ) → (n ≡ 0 → ⊥) → 1 ≤ n
+some-left n h = pos-of-ne-zero h
+
+pub fewer-left : (n t : ℕ) → (n ≡ 0 → ⊥) → n ≡ t → n - 1 < t
+fewer-left n t h e = let k = some-left n h in omega arith
+
+more : (n : ℕ) → (n ≡ 0 → ⊥) → n ≡ suc (n - 1)
+more n h = let k = some-left n h in omega arith
+
+-- no store, one that stops, and one that goes on
+module _ (n : ℕ) (c : Core) (base : ℕ) (ram : List ℕ) (va : ℕ) where
+  pub zero-none : n ≡ 0 → (doneWith c ≡ zeroOf n c base ram va) × (ram ≡ zeroRam n c base ram va)
+  unfolding zeroOf zeroRam
+  zero-none e = (rw e, rw e)
+
+  zero-next : (m : ℕ) → n ≡ suc m → writeOf c base ram va 8 .answer ≡ Done
+      → (zeroOf m (writeOf c base ram va 8 .core) base (ramAfterWrite c base ram va 8 0) (wrap (va + 8)) ≡ zeroOf n c base ram va)
+      × (zeroRam m (writeOf c base ram va 8 .core) base (ramAfterWrite c base ram va 8 0) (wrap (va + 8)) ≡ zeroRam n c base ram va)
+  unfolding zeroOf zeroRam
+  zero-next m k e = (rw (k, zeroOf, e), rw (k, zeroRam, e))
+
+  module _ (h : n ≡ 0 → ⊥) where
+    pub zero-stops : (s : Stop) → writeOf c base ram va 8 .answer ≡ Stopped s
+        → (writeOf c base ram va 8 ≡ zeroOf n c base ram va) × (ramAfterWrite c base ram va 8 0 ≡ zeroRam n c base ram va)
+    unfolding zeroOf zeroRam
+    zero-stops s e = (rw (more n h, zeroOf, e), rw (more n h, zeroRam, e))
+
+    pub zero-goes : writeOf c base ram va 8 .answer ≡ Done
+        → (zeroOf (n - 1) (writeOf c base ram va 8 .core) base (ramAfterWrite c base ram va 8 0) (wrap (va + 8)) ≡ zeroOf n c base ram va)
+        × (zeroRam (n - 1) (writeOf c base ram va 8 .core) base (ramAfterWrite c base ram va 8 0) (wrap (va + 8)) ≡ zeroRam n c base ram va)
+    zero-goes e = zero-next (n - 1) (more n h) e
 
 -- the address of store n
 abbrev pub storeVa : ℕ → ℕ → ℕ

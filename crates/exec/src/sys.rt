@@ -2,7 +2,8 @@
 ghost use mathlib.Core.Path.{_≡_};
 ghost use Rattle.word.specs.Bits.{alignDown};
 ghost use Rattle.word.specs.Ram.{wordAt};
-ghost use Rattle.exec.specs.Sys.{mairOf, withPar, atOf, invalidatedOf, tlbiCore, zeroOf, zeroRam, sysOf, sysRam};
+ghost use Rattle.exec.specs.Sys.{mairOf, withPar, atOf, invalidatedOf, tlbiCore};
+ghost use Rattle.exec.specs.Sys.{zeroOf, zeroRam, sysOf, sysRam};
 use crate::ops as cores;
 use entry::exception::Exception;
 use entry::exception::Stop;
@@ -77,7 +78,8 @@ pub fn tlbi(core: Core, op1: u64, crm: u64, op2: u64, x: u64) -> Core
 
 // The n stores of a zeroing from va on, up to the first that stops.
 fn zero_from(core: Core, base: u64, ram: &mut [u8], va: u64, n: u64) -> Stored
-    ensures { λ r. ⌜ (r ≡ zeroOf n core base (now (ram .entry)) va) × (now (ram .exit) ≡ zeroRam n core base (now (ram .entry)) va) ⌝ }
+    ensures { λ r. ⌜ r ≡ zeroOf n core base (now (ram .entry)) va ⌝ }
+    ensures { λ _. ⌜ now (ram .exit) ≡ zeroRam n core base (now (ram .entry)) va ⌝ }
 {
     if n == 0 {
         return Stored {
@@ -98,7 +100,8 @@ fn zero_from(core: Core, base: u64, ram: &mut [u8], va: u64, n: u64) -> Stored
 
 // DC ZVA: 64 bytes, aligned.
 pub fn zva(core: Core, base: u64, ram: &mut [u8], x: u64) -> Stored
-    ensures { λ r. ⌜ (r ≡ zeroOf 8 core base (now (ram .entry)) (alignDown x 6)) × (now (ram .exit) ≡ zeroRam 8 core base (now (ram .entry)) (alignDown x 6)) ⌝ }
+    ensures { λ r. ⌜ r ≡ zeroOf 8 core base (now (ram .entry)) (alignDown x 6) ⌝ }
+    ensures { λ _. ⌜ now (ram .exit) ≡ zeroRam 8 core base (now (ram .entry)) (alignDown x 6) ⌝ }
 {
     zero_from(core, base, ram, x - x % 64, 8)
 }
@@ -114,7 +117,8 @@ pub fn sys(
     op2: u64,
     rt: u64,
 ) -> Stored
-    ensures { λ r. ⌜ (r ≡ sysOf core base (now (ram .entry)) op1 crn crm op2 rt) × (now (ram .exit) ≡ sysRam core base (now (ram .entry)) op1 crn crm op2 rt) ⌝ }
+    ensures { λ r. ⌜ r ≡ sysOf core base (now (ram .entry)) op1 crn crm op2 rt ⌝ }
+    ensures { λ _. ⌜ now (ram .exit) ≡ sysRam core base (now (ram .entry)) op1 crn crm op2 rt ⌝ }
 {
     let x = core::reg(core, rt);
     match op::decode(core.who.level, op1, crn, crm, op2) {

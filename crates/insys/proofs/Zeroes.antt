@@ -1,125 +1,157 @@
--- A zeroing, store by store, and the system operations by what their encoding names.
-use mathlib.Core.Path.{_≡_, sym, ap, _∙_}
+-- A zeroing, store by store or by a hint, and the system operations by what their encoding names.
+use mathlib.Core.Path.{_≡_, sym, ap, subst, _∙_}
+use mathlib.Core.Bool.{Bool, true, false}
 use mathlib.Core.List.{List}
-use Prim.Native.Nat.{ℕ, suc, _+_, _-_, _%_, _≤_, _<_}
-use native.Mathlib.Nat.{pos-of-ne-zero}
+use Prim.Native.Nat.{ℕ, _+_, _-_, _*_, _%_, _^_, _≤_, _<_}
+use native.Mathlib.Nat.{mod-eq-of-lt}
 use native.Mathlib.Omega.{arith}
+use borrow.Author.Tests.{ne-eqb}
 use lib.ListN.{length}
 use Rattle.word.specs.Bits.{alignDown, wrap}
-use Rattle.word.specs.Ram.{wordAt}
+use Rattle.word.specs.Ram.{within, wordAt, stored}
 use Rattle.entry.specs.declared.exception.Exception.the-variants as Exception
 use Rattle.entry.specs.declared.exception.Stop.{Stop}
 use Rattle.entry.specs.declared.exception.Stop.the-variants as Stop
+use Rattle.tlb.specs.declared.access.Kind.the-variants.{Write}
 use Rattle.tlb.specs.declared.access.Who.{Who}
+use Rattle.tlb.specs.declared.hint.Physical.{Physical}
+use Rattle.tlb.specs.declared.hint.Physical.the-variants.{At, Unknown}
 use Rattle.sysop.specs.Op.{decodeOf}
 use Rattle.sysop.specs.declared.op.AtForm.{AtForm}
 use Rattle.sysop.specs.declared.op.SysOp.{SysOp}
 use Rattle.sysop.specs.declared.op.SysOp.the-variants as SysOp
 use Rattle.mmu.specs.Core.{regOf}
 use Rattle.mmu.specs.Ops.{writeOf, ramAfterWrite}
-use Rattle.mmu.specs.declared.core.Core.{Core}
 use Rattle.mmu.specs.declared.ends.StoreAnswer.{StoreAnswer}
 use Rattle.mmu.specs.declared.ends.StoreAnswer.the-variants.{Done, Stopped}
 use Rattle.mmu.specs.declared.ops.Stored.{Stored}
-use Rattle.exec.specs.Sys.{doneWith, atOf, tlbiCore, zeroOf, zeroRam, opOf, sysOf, sysRam}
+use Rattle.exec.specs.Sys.{atOf, tlbiCore, zeroOf, zeroRam, opOf, sysOf, sysRam}
+use Rattle.exec.specs.ZeroLaws.{zero-none, zero-stops, zero-goes}
 use Rattle.words.specs.Held.{held}
 use Rattle.words.specs.Moved.{Moved, stays, moved-as}
+use Rattle.inplace.specs.Found.{hintFound}
+use Rattle.insys.specs.Early.{earlyStop, late-zero}
+use Rattle.insys.specs.Line.{clears, cleared, clears-line, clears-none}
+use Rattle.insys.specs.Zero.{Zeroes}
 
--- the stores left
-pub some-left : (n : ℕ) → (n ≡ 0 → ⊥) → 1 ≤ n
-some-left n h = pos-of-ne-zero h
-
-pub fewer-left : (n t : ℕ) → (n ≡ 0 → ⊥) → n ≡ t → n - 1 < t
-fewer-left n t h e = let k = some-left n h in omega arith
-
-more : (n : ℕ) → (n ≡ 0 → ⊥) → n ≡ suc (n - 1)
-more n h = let k : 0 < n = pos-of-ne-zero h in omega arith
-
--- ON THE CORE
-
-module _ (n : ℕ) (c : Core) (base : ℕ) (ram : List ℕ) (va : ℕ) where
-  none : n ≡ 0 → doneWith c ≡ zeroOf n c base ram va
-  unfolding zeroOf
-  none e = rw e
-
-  kept : n ≡ 0 → ram ≡ zeroRam n c base ram va
-  unfolding zeroRam
-  kept e = rw e
-
-  module _ (m : ℕ) (k : n ≡ suc m) where
-    stops : (s : Stop) → writeOf c base ram va 8 .answer ≡ Stopped s → writeOf c base ram va 8 ≡ zeroOf n c base ram va
-    unfolding zeroOf
-    stops s e = rw (k, zeroOf, e)
-
-    stops-ram : (s : Stop) → writeOf c base ram va 8 .answer ≡ Stopped s → ramAfterWrite c base ram va 8 0 ≡ zeroRam n c base ram va
-    unfolding zeroRam
-    stops-ram s e = rw (k, zeroRam, e)
-
-    goes : writeOf c base ram va 8 .answer ≡ Done
-        → zeroOf m (writeOf c base ram va 8 .core) base (ramAfterWrite c base ram va 8 0) (wrap (va + 8)) ≡ zeroOf n c base ram va
-    unfolding zeroOf
-    goes e = rw (k, zeroOf, e)
-
-    goes-on-ram : writeOf c base ram va 8 .answer ≡ Done
-        → zeroRam m (writeOf c base ram va 8 .core) base (ramAfterWrite c base ram va 8 0) (wrap (va + 8)) ≡ zeroRam n c base ram va
-    unfolding zeroRam
-    goes-on-ram e = rw (k, zeroRam, e)
-
--- ON WORDS
+-- STORE AFTER STORE
 
 module _ (ws : List ℕ) (base : ℕ) (ram : List ℕ) (n va : ℕ) where
-  abbrev All : Stored
-  All = zeroOf n (held ws) base ram va
+  pub none : n ≡ 0 → Zeroes n ws base ram va Done ws ram
+  none e =
+      let z = zero-none n (held ws) base ram va e in
+      record { answer = ap (λ (s : Stored). s .answer) (z .0); words = moved-as stays (ap (λ (s : Stored). s .core) (z .0)); bytes = z .1 }
 
-  abbrev Ram : List ℕ
-  Ram = zeroRam n (held ws) base ram va
-
-  pub none-answer : n ≡ 0 → Done ≡ All .answer
-  none-answer e = ap (λ (s : Stored). s .answer) (none n (held ws) base ram va e)
-
-  pub none-core : n ≡ 0 → Moved ws ws (All .core)
-  none-core e = moved-as stays (ap (λ (s : Stored). s .core) (none n (held ws) base ram va e))
-
-  pub none-ram : n ≡ 0 → ram ≡ Ram
-  none-ram e = kept n (held ws) base ram va e
-
-  module _ (a : StoreAnswer) (h : n ≡ 0 → ⊥) (ea : a ≡ writeOf (held ws) base ram va 8 .answer) where
-    module _ (s : Stop) (e : a ≡ Stopped s) where
-      first : writeOf (held ws) base ram va 8 ≡ All
-      first = stops n (held ws) base ram va (n - 1) (more n h) s (sym ea ∙ e)
-
-      pub stop-answer : Stopped s ≡ All .answer
-      stop-answer = sym e ∙ ea ∙ ap (λ (s : Stored). s .answer) first
-
-      pub stop-core : (xs : List ℕ) → Moved ws xs (writeOf (held ws) base ram va 8 .core) → Moved ws xs (All .core)
-      stop-core xs m = moved-as m (ap (λ (s : Stored). s .core) first)
-
-      pub stop-ram : (ys : List ℕ) → ys ≡ ramAfterWrite (held ws) base ram va 8 0 → ys ≡ Ram
-      stop-ram ys q = q ∙ stops-ram n (held ws) base ram va (n - 1) (more n h) s (sym ea ∙ e)
+  module _ (a : StoreAnswer) (xs ys : List ℕ) (h : n ≡ 0 → ⊥) (ea : a ≡ writeOf (held ws) base ram va 8 .answer)
+      (mx : Moved ws xs (writeOf (held ws) base ram va 8 .core)) (er : ys ≡ ramAfterWrite (held ws) base ram va 8 0) where
+    pub stops : (s : Stop) → a ≡ Stopped s → Zeroes n ws base ram va (Stopped s) xs ys
+    stops s e =
+        let z = zero-stops n (held ws) base ram va h s (sym ea ∙ e) in
+        record {
+          answer = sym e ∙ ea ∙ ap (λ (x : Stored). x .answer) (z .0);
+          words = moved-as mx (ap (λ (x : Stored). x .core) (z .0));
+          bytes = er ∙ z .1;
+        }
 
     -- the words that the first store left hold what it says
-    module _ (xs ys : List ℕ) (next : ℕ) (e : a ≡ Done) (en : next ≡ wrap (va + 8))
-        (mx : Moved ws xs (writeOf (held ws) base ram va 8 .core)) (er : ys ≡ ramAfterWrite (held ws) base ram va 8 0) where
-      left : held xs ≡ writeOf (held ws) base ram va 8 .core
-      left = mx .holds
+    pub goes : (next : ℕ) (r : StoreAnswer) (vs zs : List ℕ) → a ≡ Done → next ≡ wrap (va + 8) → Zeroes (n - 1) xs base ys next r vs zs
+        → Zeroes n ws base ram va r vs zs
+    goes next r vs zs e en q =
+        let z = zero-goes n (held ws) base ram va h (sym ea ∙ e) in
+        let all : zeroOf (n - 1) (held xs) base ys next ≡ zeroOf n (held ws) base ram va
+        = (λ i. zeroOf (n - 1) (mx .holds i) base (er i) (en i)) ∙ z .0 in
+        record {
+          answer = q .answer ∙ ap (λ (x : Stored). x .answer) all;
+          words = record { long = q .words .long ∙ mx .long; holds = q .words .holds ∙ ap (λ (x : Stored). x .core) all };
+          bytes = q .bytes ∙ (λ i. zeroRam (n - 1) (mx .holds i) base (er i) (en i)) ∙ z .1;
+        }
 
-      rest : zeroOf (n - 1) (held xs) base ys next ≡ All
-      rest = rw (left, er, en) (goes n (held ws) base ram va (n - 1) (more n h) (sym ea ∙ e))
+-- THE LINE
 
-      pub goes-answer : (r : StoreAnswer) → r ≡ zeroOf (n - 1) (held xs) base ys next .answer → r ≡ All .answer
-      goes-answer r q = q ∙ ap (λ (s : Stored). s .answer) rest
+-- the store where the hint points
+module _ (h p : Physical) (from base : ℕ) (ram : List ℕ) (eh : p ≡ h) where
+  pub no-hint : p ≡ Unknown → false ≡ clears h from base (length ram)
+  no-hint e = rw (← eh, e)
 
-      pub goes-core : (vs : List ℕ) → Moved xs vs (zeroOf (n - 1) (held xs) base ys next .core) → Moved ws vs (All .core)
-      goes-core vs m =
-          record { long = m .long ∙ mx .long; holds = m .holds ∙ ap (λ (s : Stored). s .core) rest }
+  pub no-hint-ram : p ≡ Unknown → ram ≡ cleared h from base ram
+  no-hint-ram e = rw (← eh, e)
 
-      pub goes-ram : (zs : List ℕ) → zs ≡ zeroRam (n - 1) (held xs) base ys next → zs ≡ Ram
-      goes-ram zs z = z ∙ rw (left, er, en) (goes-on-ram n (held ws) base ram va (n - 1) (more n h) (sym ea ∙ e))
+  module _ (pa : ℕ) (e : p ≡ At pa) where
+    pub no-line : (pa % 64 ≡ 0 → ⊥) → false ≡ clears h from base (length ram)
+    no-line z = rw (← eh, e, ne-eqb (pa % 64) 0 z)
+
+    pub no-line-ram : (pa % 64 ≡ 0 → ⊥) → ram ≡ cleared h from base ram
+    no-line-ram z = rw (← eh, e, ne-eqb (pa % 64) 0 z)
+
+    pub line : (b : Bool) → pa % 64 ≡ 0 → b ≡ within base (length ram) (64 - from) (pa + from) → b ≡ clears h from base (length ram)
+    line b z q = rw (← eh, e, z) q
+
+    pub line-ram : (ys : List ℕ) → pa % 64 ≡ 0 → ys ≡ stored base ram (64 - from) (pa + from) 0 → ys ≡ cleared h from base ram
+    line-ram ys z q = rw (← eh, e, z) q
+
+-- the address is one of 64 bits
+pub line-end : (pa from : ℕ) → pa < 2 ^ 64 → pa % 64 ≡ 0 → from ≤ 8 → pa + from < 2 ^ 64
+line-end pa from h z k = omega arith
+
+pub line-next : (va : ℕ) → va < 2 ^ 64 → va % 64 ≡ 0 → va + 8 < 2 ^ 64
+line-next va h z = omega arith
+
+pub line-start : (x : ℕ) → (x - x % 64) % 64 ≡ 0
+line-start x = omega arith
+
+-- the stores from number k on, cleared or not
+module _ (ws : List ℕ) (base : ℕ) (ram ys : List ℕ) (va k : ℕ) (b : Bool) (h : k < 8) (start : va % 64 ≡ 0) (small : va < 2 ^ 64)
+    (eb : b ≡ clears (hintFound (held ws) va Write) (8 * k) base (length ram))
+    (er : ys ≡ cleared (hintFound (held ws) va Write) (8 * k) base ram) where
+  made : b ≡ true → Zeroes (8 - k) ws base ram (va + 8 * k) Done ws ys
+  made t =
+      let z = clears-line (held ws) base ram va k h start (omega arith) (sym eb ∙ t) in
+      record {
+        answer = ap (λ (s : Stored). s .answer) (sym (z .0));
+        words = moved-as stays (ap (λ (s : Stored). s .core) (sym (z .0)));
+        bytes = er ∙ sym (z .1);
+      }
+
+  same : b ≡ false → ys ≡ ram
+  same f = er ∙ clears-none (hintFound (held ws) va Write) (8 * k) base ram (sym eb ∙ f)
+
+-- the rest
+module _ (ws : List ℕ) (base : ℕ) (ram ys : List ℕ) (va : ℕ) (b : Bool) (start : va % 64 ≡ 0) (small : va < 2 ^ 64)
+    (eb : b ≡ clears (hintFound (held ws) va Write) 8 base (length ram)) (er : ys ≡ cleared (hintFound (held ws) va Write) 8 base ram) where
+  pub rest-made : b ≡ true → Zeroes 7 ws base ram (va + 8) Done ws ys
+  rest-made t = made ws base ram ys va 1 b (omega arith) start small eb er t
+
+  pub rest-stores : (r : StoreAnswer) (vs zs : List ℕ) → b ≡ false → Zeroes 7 ws base ys (va + 8) r vs zs → Zeroes 7 ws base ram (va + 8) r vs zs
+  rest-stores r vs zs f q =
+      subst (λ (l : List ℕ). Zeroes 7 ws base l (va + 8) r vs zs) (same ws base ram ys va 1 b (omega arith) start small eb er f) q
+
+-- the whole line
+module _ (ws : List ℕ) (base : ℕ) (ram ys : List ℕ) (x : ℕ) (b : Bool) (small : x < 2 ^ 64)
+    (eb : b ≡ clears (hintFound (held ws) (x - x % 64) Write) 0 base (length ram))
+    (er : ys ≡ cleared (hintFound (held ws) (x - x % 64) Write) 0 base ram) where
+  pub line-made : b ≡ true → Zeroes 8 ws base ram (alignDown x 6) Done ws ys
+  line-made t =
+      let z : x - x % 64 + 8 * 0 ≡ alignDown x 6 = omega arith in
+      subst (λ (a : ℕ). Zeroes 8 ws base ram a Done ws ys) z (made ws base ram ys (x - x % 64) 0 b (omega arith) (line-start x) (omega arith) eb er t)
+
+  module _ (f : b ≡ false) (a : StoreAnswer) (xs ts : List ℕ) (ea : a ≡ writeOf (held ws) base ys (x - x % 64) 8 .answer)
+      (mx : Moved ws xs (writeOf (held ws) base ys (x - x % 64) 8 .core)) (et : ts ≡ ramAfterWrite (held ws) base ys (x - x % 64) 8 0) where
+    lined : (r : StoreAnswer) (vs zs : List ℕ) → Zeroes 8 ws base ys (x - x % 64) r vs zs → Zeroes 8 ws base ram (alignDown x 6) r vs zs
+    lined r vs zs q =
+        let z : x - x % 64 ≡ alignDown x 6 = omega arith in
+        let s = same ws base ram ys (x - x % 64) 0 b (omega arith) (line-start x) (omega arith) eb er f in
+        subst (λ (n : ℕ). Zeroes 8 ws base ram n r vs zs) z (subst (λ (l : List ℕ). Zeroes 8 ws base l (x - x % 64) r vs zs) s q)
+
+    pub line-stops : (s : Stop) → a ≡ Stopped s → Zeroes 8 ws base ram (alignDown x 6) (Stopped s) xs ts
+    line-stops s e = lined (Stopped s) xs ts (stops ws base ys 8 (x - x % 64) a xs ts (λ z. omega arith) ea mx et s e)
+
+    pub line-goes : (r : StoreAnswer) (vs zs : List ℕ) → a ≡ Done → Zeroes 7 xs base ts (x - x % 64 + 8) r vs zs
+        → Zeroes 8 ws base ram (alignDown x 6) r vs zs
+    line-goes r vs zs e q =
+        lined r vs zs
+        (goes ws base ys 8 (x - x % 64) a xs ts (λ z. omega arith) ea mx et (x - x % 64 + 8) r vs zs e (sym (mod-eq-of-lt (omega arith))) q)
 
 -- BY WHAT THE ENCODING NAMES
-
-lined : (x : ℕ) → x - x % 64 ≡ alignDown x 6
-lined x = omega arith
 
 module _ (ws : List ℕ) (base : ℕ) (ram : List ℕ) (op1 crn crm op2 rt : ℕ) (w : Who) (o : SysOp) (ew : w ≡ held ws .who)
     (eo : o ≡ decodeOf (w .level) op1 crn crm op2) where
@@ -157,18 +189,22 @@ module _ (ws : List ℕ) (base : ℕ) (ram : List ℕ) (op1 crn crm op2 rt : ℕ
   unfolding sysRam
   tlbi-ram e = rw (← op, e)
 
-  module _ (x : ℕ) (e : o ≡ SysOp.Zva) (ex : x ≡ regOf (held ws) rt) where
-    pub zva-answer : (a : StoreAnswer) → a ≡ zeroOf 8 (held ws) base ram (x - x % 64) .answer → a ≡ Ends .answer
+  module _ (x : ℕ) (a : StoreAnswer) (xs ys : List ℕ) (e : o ≡ SysOp.Zva) (ex : x ≡ regOf (held ws) rt)
+      (z : Zeroes 8 ws base ram (alignDown x 6) a xs ys) where
+    pub zva-answer : a ≡ Ends .answer
     unfolding sysOf
-    zva-answer a q = rw (← op, e, ← ex, ← lined x) q
+    zva-answer = rw (← op, e, ← ex) (z .answer)
 
-    pub zva-core : (xs : List ℕ) → Moved ws xs (zeroOf 8 (held ws) base ram (x - x % 64) .core) → Moved ws xs (Ends .core)
+    pub zva-core : Moved ws xs (Ends .core)
     unfolding sysOf
-    zva-core xs m = rw (← op, e, ← ex, ← lined x) m
+    zva-core = rw (← op, e, ← ex) (z .words)
 
-    pub zva-ram : (ys : List ℕ) → ys ≡ zeroRam 8 (held ws) base ram (x - x % 64) → ys ≡ Leaves
+    pub zva-ram : ys ≡ Leaves
     unfolding sysRam
-    zva-ram ys q = rw (← op, e, ← ex, ← lined x) q
+    zva-ram = rw (← op, e, ← ex) (z .bytes)
+
+    pub zva-late : earlyStop a ≡ true → xs ≡ ws
+    zva-late t = late-zero ws xs 8 (held ws) base ram (alignDown x 6) a (z .answer) t
 
   pub nothing-answer : o ≡ SysOp.Nothing → Done ≡ Ends .answer
   unfolding sysOf

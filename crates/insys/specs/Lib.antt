@@ -1,3 +1,6 @@
+pub mod Abort
 pub mod Register
 pub mod Settings
+pub mod Zero
+pub mod Line
 pub mod Early

@@ -1,15 +1,11 @@
 // Register writes in place.
 ghost use mathlib.Core.Path.{_≡_};
-ghost use Rattle.sysreg.specs.Shape.{shape, member, asidOf};
-ghost use Rattle.sysreg.specs.Write.{wrote};
+ghost use Rattle.sysreg.specs.Shape.{shape, member};
 ghost use Rattle.sysreg.specs.declared.write.WriteAnswer.the-variants as WriteAnswer;
-ghost use Rattle.tlb.specs.Tlb.{flushOf, retagOf};
-ghost use Rattle.mmu.specs.Ops.{withTlb};
-ghost use Rattle.exec.specs.Fit.{retaggedOf};
-ghost use Rattle.exec.specs.Ops.{appliedOf, writeRegister};
+ghost use Rattle.exec.specs.Ops.{writeRegister};
 ghost use Rattle.words.specs.Held.{held};
 ghost use Rattle.words.specs.Moved.{Moved};
-ghost use Rattle.insys.specs.Register.{reshaped};
+ghost use Rattle.insys.specs.Register.{flushed, retagged, refitted, reshaped, registered};
 use sysreg::encoding;
 use sysreg::encoding::Found;
 use sysreg::regs::ControlReg;
@@ -25,7 +21,7 @@ use words::state;
 
 // Every entry and every hint out.
 pub fn flush(state: &mut State)
-    ensures { λ _. ⌜ Moved (now (state .entry)) (now (state .exit)) (withTlb (held (now (state .entry))) (flushOf (held (now (state .entry)) .tlb))) ⌝ }
+    ensures { λ _. ⌜ Moved (now (state .entry)) (now (state .exit)) (flushed (held (now (state .entry)))) ⌝ }
 {
     let at = counts::present_at(state);
     let next = std::num::wrapping_add_u32(at.generation, 1);
@@ -41,7 +37,7 @@ pub fn flush(state: &mut State)
 
 // Another ASID in force, and every hint out.
 pub fn retag(state: &mut State, asid: u16)
-    ensures { λ _. ⌜ Moved (now (state .entry)) (now (state .exit)) (withTlb (held (now (state .entry))) (retagOf (held (now (state .entry)) .tlb) asid)) ⌝ }
+    ensures { λ _. ⌜ Moved (now (state .entry)) (now (state .exit)) (retagged (held (now (state .entry))) asid) ⌝ }
 {
     clear::no_hints(state);
     counts::count_epoch(state);
@@ -68,7 +64,7 @@ fn shapes(register: ControlReg) -> bool
 
 // A retag where the ASID of the registers differs from the cache's.
 fn refit(state: &mut State)
-    ensures { λ _. ⌜ Moved (now (state .entry)) (now (state .exit)) (withTlb (held (now (state .entry))) (retaggedOf (held (now (state .entry)) .tlb) (asidOf (held (now (state .entry)) .control)))) ⌝ }
+    ensures { λ _. ⌜ Moved (now (state .entry)) (now (state .exit)) (refitted (held (now (state .entry)))) ⌝ }
 {
     let control = regs::control_at(state);
     let asid = shape::asid(control);
@@ -80,7 +76,8 @@ fn refit(state: &mut State)
 
 // The register, and a flush where it shapes translation and its value is another.
 fn reshape(state: &mut State, register: ControlReg, value: u64)
-    ensures { λ _. ⌜ Moved (now (state .entry)) (now (state .exit)) (reshaped (held (now (state .entry))) register value) ⌝ }
+    ensures { λ _. ⌜ Moved (now (state .entry)) (now (state .exit))
+        (reshaped (held (now (state .entry))) register value) ⌝ }
 {
     let shaping = shapes(register);
     let before = regs::control_reg(state, register);
@@ -94,7 +91,8 @@ fn reshape(state: &mut State, register: ControlReg, value: u64)
 
 // A register write that is done.
 fn put_register(state: &mut State, register: Register, value: u64)
-    ensures { λ _. ⌜ Moved (now (state .entry)) (now (state .exit)) (appliedOf (held (now (state .entry))) (wrote (held (now (state .entry)) .control) (held (now (state .entry)) .sys) register value)) ⌝ }
+    ensures { λ _. ⌜ Moved (now (state .entry)) (now (state .exit))
+        (registered (held (now (state .entry))) register value) ⌝ }
 {
     match register {
         Register::InControl(r) => {
@@ -111,7 +109,8 @@ fn put_register(state: &mut State, register: Register, value: u64)
 // A register write. One that is not done writes no word.
 pub fn write_register(state: &mut State, key: u32, value: u64) -> WriteAnswer
     ensures { λ r. ⌜ r ≡ writeRegister (held (now (state .entry))) key value .answer ⌝ }
-    ensures { λ _. ⌜ Moved (now (state .entry)) (now (state .exit)) (writeRegister (held (now (state .entry))) key value .core) ⌝ }
+    ensures { λ _. ⌜ Moved (now (state .entry)) (now (state .exit))
+        (writeRegister (held (now (state .entry))) key value .core) ⌝ }
     ensures { λ r. ⌜ ((r ≡ WriteAnswer.Done → ⊥) → now (state .exit) ≡ now (state .entry)) ⌝ }
 {
     match encoding::named(key) {

@@ -1,10 +1,9 @@
 // TLBI and AT in place.
 ghost use Rattle.word.specs.Ram.{wordAt};
-ghost use Rattle.tlb.specs.Tlb.{dropPageOf, dropAsidOf, invalidateOf, broadcastOf};
-ghost use Rattle.mmu.specs.Ops.{withTlb};
 ghost use Rattle.exec.specs.Sys.{atOf, tlbiCore};
 ghost use Rattle.words.specs.Held.{held};
 ghost use Rattle.words.specs.Moved.{Moved};
+ghost use Rattle.insys.specs.Register.{pageDropped, asidDropped, invalidated, leftPending};
 use crate::register;
 use sysop::op::AtForm;
 use sysop::par;
@@ -18,7 +17,7 @@ use words::regs;
 
 // What translates the page out, and every hint.
 fn drop_page(state: &mut State, page: u64)
-    ensures { λ _. ⌜ Moved (now (state .entry)) (now (state .exit)) (withTlb (held (now (state .entry))) (dropPageOf (held (now (state .entry)) .tlb) page)) ⌝ }
+    ensures { λ _. ⌜ Moved (now (state .entry)) (now (state .exit)) (pageDropped (held (now (state .entry))) page) ⌝ }
 {
     let at = counts::present_at(state);
     clear::drop_pages(state, at.generation, page);
@@ -28,7 +27,7 @@ fn drop_page(state: &mut State, page: u64)
 
 // What was walked for the ASID and is not global out, and every hint.
 fn drop_asid(state: &mut State, asid: u16)
-    ensures { λ _. ⌜ Moved (now (state .entry)) (now (state .exit)) (withTlb (held (now (state .entry))) (dropAsidOf (held (now (state .entry)) .tlb) asid)) ⌝ }
+    ensures { λ _. ⌜ Moved (now (state .entry)) (now (state .exit)) (asidDropped (held (now (state .entry))) asid) ⌝ }
 {
     clear::drop_asids(state, asid);
     clear::no_hints(state);
@@ -36,7 +35,7 @@ fn drop_asid(state: &mut State, asid: u16)
 }
 
 fn invalidate(state: &mut State, what: Inval)
-    ensures { λ _. ⌜ Moved (now (state .entry)) (now (state .exit)) (withTlb (held (now (state .entry))) (invalidateOf (held (now (state .entry)) .tlb) what)) ⌝ }
+    ensures { λ _. ⌜ Moved (now (state .entry)) (now (state .exit)) (invalidated (held (now (state .entry))) what) ⌝ }
 {
     match what {
         Inval::All => register::flush(state),
@@ -47,7 +46,7 @@ fn invalidate(state: &mut State, what: Inval)
 
 // Left pending for the other cores.
 fn broadcast(state: &mut State, what: Inval)
-    ensures { λ _. ⌜ Moved (now (state .entry)) (now (state .exit)) (withTlb (held (now (state .entry))) (broadcastOf (held (now (state .entry)) .tlb) what)) ⌝ }
+    ensures { λ _. ⌜ Moved (now (state .entry)) (now (state .exit)) (leftPending (held (now (state .entry))) what) ⌝ }
 {
     let earlier = counts::pending_at(state);
     let pending = tlb::pending_after(earlier, what);
@@ -56,7 +55,8 @@ fn broadcast(state: &mut State, what: Inval)
 
 // TLBI; the Inner Shareable forms are left pending for the other cores.
 pub fn tlbi(state: &mut State, op1: u64, crm: u64, op2: u64, x: u64)
-    ensures { λ _. ⌜ Moved (now (state .entry)) (now (state .exit)) (tlbiCore (held (now (state .entry))) op1 crm op2 x) ⌝ }
+    ensures { λ _. ⌜ Moved (now (state .entry)) (now (state .exit))
+        (tlbiCore (held (now (state .entry))) op1 crm op2 x) ⌝ }
 {
     let control = regs::control_at(state);
     let what = tlbi::tlbi(control, op1, crm, op2, x);
@@ -69,7 +69,8 @@ pub fn tlbi(state: &mut State, op1: u64, crm: u64, op2: u64, x: u64)
 
 // AT: a fresh walk into PAR_EL1.
 pub fn at(state: &mut State, form: AtForm, va: u64, base: u64, ram: &[u8])
-    ensures { λ _. ⌜ Moved (now (state .entry)) (now (state .exit)) (atOf (held (now (state .entry))) (wordAt base (now (ram .entry)) 8) form va) ⌝ }
+    ensures { λ _. ⌜ Moved (now (state .entry)) (now (state .exit))
+        (atOf (held (now (state .entry))) (wordAt base (now (ram .entry)) 8) form va) ⌝ }
 {
     let regime = form.regime;
     let s = regs::bank_at(state, regime);

@@ -1,30 +1,94 @@
 // System operations in place, DC ZVA among them.
 ghost use mathlib.Core.Path.{_≡_};
 ghost use mathlib.Core.Bool.{true};
-ghost use Rattle.exec.specs.Sys.{zeroOf, zeroRam, sysOf, sysRam};
+ghost use Prim.Native.Nat.{_+_, _%_, _≤_};
+ghost use lib.ListN.{length};
+ghost use Rattle.word.specs.Bits.{alignDown};
+ghost use Rattle.tlb.specs.declared.access.Kind.the-variants.{Write};
+ghost use Rattle.exec.specs.Sys.{sysOf, sysRam};
 ghost use Rattle.words.specs.Held.{held};
 ghost use Rattle.words.specs.Moved.{Moved};
+ghost use Rattle.inplace.specs.Found.{hintFound};
 ghost use Rattle.insys.specs.Early.{earlyStop};
+ghost use Rattle.insys.specs.Line.{clears, cleared};
+ghost use Rattle.insys.specs.Zero.{Zeroes};
 use crate::system;
 use entry::exception::Exception;
 use entry::exception::Stop;
 use inplace::access;
+use inplace::translate;
 use mmu::ends::StoreAnswer;
 use sysop::op;
 use sysop::op::SysOp;
+use tlb::access::Kind;
+use tlb::hint::Physical;
+use word::ram;
 use word::ram::Width;
 use words::place::State;
 use words::state;
 
 // The n stores of a zeroing from va on, up to the first that stops.
 fn zero_from(state: &mut State, base: u64, ram: &mut [u8], va: u64, n: u64) -> StoreAnswer
-    ensures { λ r. ⌜ (r ≡ zeroOf n (held (now (state .entry))) base (now (ram .entry)) va .answer) × (Moved (now (state .entry)) (now (state .exit)) (zeroOf n (held (now (state .entry))) base (now (ram .entry)) va .core) × (now (ram .exit) ≡ zeroRam n (held (now (state .entry))) base (now (ram .entry)) va)) ⌝ }
+    ensures { λ r. ⌜ Zeroes n (now (state .entry)) base (now (ram .entry)) va r
+        (now (state .exit)) (now (ram .exit)) ⌝ }
 {
     if n == 0 {
         return StoreAnswer::Done;
     }
     match access::store(state, va, Width::Double, 0, base, ram) {
         StoreAnswer::Done => zero_from(state, base, ram, std::num::wrapping_add_u64(va, 8), n - 1),
+        StoreAnswer::Stopped(stop) => StoreAnswer::Stopped(stop),
+    }
+}
+
+// The bytes of a line from one on, where the hint of its address va serves and points at a line, and they lie in RAM:
+// whether they were cleared.
+fn clear_line(state: &State, base: u64, ram: &mut [u8], va: u64, from: u64) -> bool
+    requires { ⌜ from ≤ 8 ⌝ }
+    ensures { λ r. ⌜ r
+        ≡ clears (hintFound (held (now (state .entry))) va Write) from base (length (now (ram .entry))) ⌝ }
+    ensures { λ _. ⌜ now (ram .exit)
+        ≡ cleared (hintFound (held (now (state .entry))) va Write) from base (now (ram .entry)) ⌝ }
+{
+    match translate::by_hint(state, va, Kind::Write) {
+        Physical::At(pa) => {
+            if pa % 64 == 0 {
+                ram::write_bytes(base, ram, 64 - from, pa + from, 0)
+            } else {
+                false
+            }
+        }
+        Physical::Unknown => false,
+    }
+}
+
+// The rest of a line, after its first store was made.
+fn zero_rest(state: &mut State, base: u64, ram: &mut [u8], va: u64) -> StoreAnswer
+    requires { ⌜ va % 64 ≡ 0 ⌝ }
+    ensures { λ r. ⌜ Zeroes 7 (now (state .entry)) base (now (ram .entry)) (va + 8) r
+        (now (state .exit)) (now (ram .exit)) ⌝ }
+{
+    let made = clear_line(state, base, ram, va, 8);
+    if made {
+        StoreAnswer::Done
+    } else {
+        zero_from(state, base, ram, va + 8, 7)
+    }
+}
+
+// DC ZVA, the line of x: by its page's hint; or the first store, and the rest by the hint that it leaves; or store by
+// store.
+fn zva(state: &mut State, base: u64, ram: &mut [u8], x: u64) -> StoreAnswer
+    ensures { λ r. ⌜ Zeroes 8 (now (state .entry)) base (now (ram .entry)) (alignDown x 6) r
+        (now (state .exit)) (now (ram .exit)) ⌝ }
+{
+    let va = x - x % 64;
+    let made = clear_line(state, base, ram, va, 0);
+    if made {
+        return StoreAnswer::Done;
+    }
+    match access::store(state, va, Width::Double, 0, base, ram) {
+        StoreAnswer::Done => zero_rest(state, base, ram, va),
         StoreAnswer::Stopped(stop) => StoreAnswer::Stopped(stop),
     }
 }
@@ -41,8 +105,10 @@ pub fn system(
     rt: u64,
 ) -> StoreAnswer
     ensures { λ r. ⌜ r ≡ sysOf (held (now (state .entry))) base (now (ram .entry)) op1 crn crm op2 rt .answer ⌝ }
-    ensures { λ _. ⌜ Moved (now (state .entry)) (now (state .exit)) (sysOf (held (now (state .entry))) base (now (ram .entry)) op1 crn crm op2 rt .core) ⌝ }
-    ensures { λ _. ⌜ now (ram .exit) ≡ sysRam (held (now (state .entry))) base (now (ram .entry)) op1 crn crm op2 rt ⌝ }
+    ensures { λ _. ⌜ Moved (now (state .entry)) (now (state .exit))
+        (sysOf (held (now (state .entry))) base (now (ram .entry)) op1 crn crm op2 rt .core) ⌝ }
+    ensures { λ _. ⌜ now (ram .exit)
+        ≡ sysRam (held (now (state .entry))) base (now (ram .entry)) op1 crn crm op2 rt ⌝ }
     ensures { λ r. ⌜ (earlyStop r ≡ true → now (state .exit) ≡ now (state .entry)) ⌝ }
 {
     let x = state::general_at(state, rt);
@@ -56,7 +122,7 @@ pub fn system(
             system::tlbi(state, op1, crm, op2, x);
             StoreAnswer::Done
         }
-        SysOp::Zva => zero_from(state, base, ram, x - x % 64, 8),
+        SysOp::Zva => zva(state, base, ram, x),
         SysOp::Nothing => StoreAnswer::Done,
         SysOp::Undefined => StoreAnswer::Stopped(Stop::Exception(Exception::Undefined)),
         SysOp::Unimplemented => StoreAnswer::Stopped(Stop::Unimplemented),

@@ -2,7 +2,7 @@
 use borrow.Author.Needs.{needs}
 use Rattle.entry.proofs.take.enter.Statement.{statement}
 use Rattle.entry.proofs.take.enter.Tie as tie
-use Rattle.entry.proofs.Entries.{entered}
+use Rattle.entry.proofs.Entries.{enters}
 
 index-requires : tie.Need-index-requires
 index-requires c κs = search needs
@@ -16,26 +16,14 @@ vector-group-requires c κs = search needs
 wrapping-add-u64-requires : tie.Need-wrapping-add-u64-requires
 wrapping-add-u64-requires c κs = search needs
 
-masked-requires : tie.Need-masked-requires
-masked-requires c κs = search needs
-
-mul-wrapping-add-u64 : tie.Need-mul-wrapping-add-u64
-mul-wrapping-add-u64 c = search needs
-
-element-copy-out-wrapping-add-u64 : tie.Need-element-copy-out-wrapping-add-u64
-element-copy-out-wrapping-add-u64 c = search needs
-
-wrapping-add-u64-requires-2 : tie.Need-wrapping-add-u64-requires-2
-wrapping-add-u64-requires-2 c κs = search needs
-
 pstate-requires : tie.Need-pstate-requires
 pstate-requires c κs = search needs
 
-saved-requires : tie.Need-saved-requires
-saved-requires c κs = search needs
+enter-with-requires : tie.Need-enter-with-requires
+enter-with-requires c κs = search needs
 
 returns : tie.Need-returns
-returns c = search (entered, needs)
+returns c = search (enters, needs)
 
 pub enter-spec : {M : Type 1} → statement M
 enter-spec =
@@ -45,10 +33,6 @@ enter-spec =
     cast-to
     vector-group-requires
     wrapping-add-u64-requires
-    masked-requires
-    mul-wrapping-add-u64
-    element-copy-out-wrapping-add-u64
-    wrapping-add-u64-requires-2
     pstate-requires
-    saved-requires
+    enter-with-requires
     returns)

@@ -1,6 +1,7 @@
 -- `exec::sys::zero_from` meets its contract; the stores left fall.
 use borrow.Author.Needs.{needs}
-use Rattle.exec.proofs.Shells.{some-left, fewer-left, zero-none, zero-none-ram, zero-goes, zero-goes-ram, zero-stops, zero-stops-ram}
+use Rattle.exec.specs.ZeroLaws.{some-left, fewer-left}
+use Rattle.exec.proofs.Shells.{none-is, none-ram, goes-is, goes-ram, stops-is, stops-ram}
 use Prim.Native.Nat.{ℕ, _<_}
 use borrow.Fn.Kinds.{In}
 use borrow.Fn.PlainCycle.{Measures, is, falls, and}
@@ -22,125 +23,44 @@ abbrev zero-from-below : ℕ → In 1 zero-from-kinds.ps
 zero-from-below t =
     and 1 zero-from-kinds.ps (falls 1 zero-from-kinds.ps _<_ μ-zero-from t) zero-from.Pre
 
-zero-from-returns : (t : ℕ) → zero-from-lts.Need-returns (
-  write-reads.Asked,
-  write-reads.Learnt,
-  wrapping-add-u64-reads.Asked,
-  wrapping-add-u64-reads.Learnt,
-  zero-from-below t,
-  zero-from.Post,
-) (zero-from-at t) zero-from.Post
-zero-from-returns t c = (search (zero-none, needs), search (zero-none-ram, needs))
+abbrev uses : ℕ → zero-from-lts.Claims
+uses t = (write-reads.Asked, write-reads.Learnt, wrapping-add-u64-reads.Asked, wrapping-add-u64-reads.Learnt, zero-from-below t, zero-from.Post)
 
-zero-from-write-requires : (t : ℕ) → zero-from-lts.Need-write-requires (
-  write-reads.Asked,
-  write-reads.Learnt,
-  wrapping-add-u64-reads.Asked,
-  wrapping-add-u64-reads.Learnt,
-  zero-from-below t,
-  zero-from.Post,
-) (zero-from-at t) zero-from.Post
+zero-from-returns : (t : ℕ) → zero-from-lts.Need-returns (uses t) (zero-from-at t) zero-from.Post
+zero-from-returns t c = (search (none-is, needs), search (none-ram, needs))
+
+zero-from-write-requires : (t : ℕ) → zero-from-lts.Need-write-requires (uses t) (zero-from-at t) zero-from.Post
 zero-from-write-requires t c κs = search needs
 
-zero-from-enum-told : (t : ℕ) → zero-from-lts.Need-enum-told (
-  write-reads.Asked,
-  write-reads.Learnt,
-  wrapping-add-u64-reads.Asked,
-  wrapping-add-u64-reads.Learnt,
-  zero-from-below t,
-  zero-from.Post,
-) (zero-from-at t) zero-from.Post
+zero-from-enum-told : (t : ℕ) → zero-from-lts.Need-enum-told (uses t) (zero-from-at t) zero-from.Post
 zero-from-enum-told t c = search needs
 
-zero-from-wrapping-add-u64-requires : (t : ℕ) → zero-from-lts.Need-wrapping-add-u64-requires (
-  write-reads.Asked,
-  write-reads.Learnt,
-  wrapping-add-u64-reads.Asked,
-  wrapping-add-u64-reads.Learnt,
-  zero-from-below t,
-  zero-from.Post,
-) (zero-from-at t) zero-from.Post
+zero-from-wrapping-add-u64-requires : (t : ℕ) → zero-from-lts.Need-wrapping-add-u64-requires (uses t) (zero-from-at t) zero-from.Post
 zero-from-wrapping-add-u64-requires t c κs = search needs
 
-zero-from-sub-zero-from : (t : ℕ) → zero-from-lts.Need-sub-zero-from (
-  write-reads.Asked,
-  write-reads.Learnt,
-  wrapping-add-u64-reads.Asked,
-  wrapping-add-u64-reads.Learnt,
-  zero-from-below t,
-  zero-from.Post,
-) (zero-from-at t) zero-from.Post
+zero-from-sub-zero-from : (t : ℕ) → zero-from-lts.Need-sub-zero-from (uses t) (zero-from-at t) zero-from.Post
 zero-from-sub-zero-from t c = search (some-left, needs)
 
-zero-from-zero-from-requires : (t : ℕ) → zero-from-lts.Need-zero-from-requires (
-  write-reads.Asked,
-  write-reads.Learnt,
-  wrapping-add-u64-reads.Asked,
-  wrapping-add-u64-reads.Learnt,
-  zero-from-below t,
-  zero-from.Post,
-) (zero-from-at t) zero-from.Post
+zero-from-zero-from-requires : (t : ℕ) → zero-from-lts.Need-zero-from-requires (uses t) (zero-from-at t) zero-from.Post
 zero-from-zero-from-requires t c κs = (search (fewer-left, needs), search needs)
 
-zero-from-enum-told-2 : (t : ℕ) → zero-from-lts.Need-enum-told-2 (
-  write-reads.Asked,
-  write-reads.Learnt,
-  wrapping-add-u64-reads.Asked,
-  wrapping-add-u64-reads.Learnt,
-  zero-from-below t,
-  zero-from.Post,
-) (zero-from-at t) zero-from.Post
+zero-from-enum-told-2 : (t : ℕ) → zero-from-lts.Need-enum-told-2 (uses t) (zero-from-at t) zero-from.Post
 zero-from-enum-told-2 t c = search needs
 
-zero-from-same-length : (t : ℕ) → zero-from-lts.Need-same-length (
-  write-reads.Asked,
-  write-reads.Learnt,
-  wrapping-add-u64-reads.Asked,
-  wrapping-add-u64-reads.Learnt,
-  zero-from-below t,
-  zero-from.Post,
-) (zero-from-at t) zero-from.Post
+zero-from-same-length : (t : ℕ) → zero-from-lts.Need-same-length (uses t) (zero-from-at t) zero-from.Post
 zero-from-same-length t c = search needs
 
-zero-from-returns-2 : (t : ℕ) → zero-from-lts.Need-returns-2 (
-  write-reads.Asked,
-  write-reads.Learnt,
-  wrapping-add-u64-reads.Asked,
-  wrapping-add-u64-reads.Learnt,
-  zero-from-below t,
-  zero-from.Post,
-) (zero-from-at t) zero-from.Post
-zero-from-returns-2 t c = (search (zero-goes, needs), search (zero-goes-ram, needs))
+zero-from-returns-2 : (t : ℕ) → zero-from-lts.Need-returns-2 (uses t) (zero-from-at t) zero-from.Post
+zero-from-returns-2 t c = (search (goes-is, needs), search (goes-ram, needs))
 
-zero-from-same-length-2 : (t : ℕ) → zero-from-lts.Need-same-length-2 (
-  write-reads.Asked,
-  write-reads.Learnt,
-  wrapping-add-u64-reads.Asked,
-  wrapping-add-u64-reads.Learnt,
-  zero-from-below t,
-  zero-from.Post,
-) (zero-from-at t) zero-from.Post
+zero-from-same-length-2 : (t : ℕ) → zero-from-lts.Need-same-length-2 (uses t) (zero-from-at t) zero-from.Post
 zero-from-same-length-2 t c = search needs
 
-zero-from-returns-3 : (t : ℕ) → zero-from-lts.Need-returns-3 (
-  write-reads.Asked,
-  write-reads.Learnt,
-  wrapping-add-u64-reads.Asked,
-  wrapping-add-u64-reads.Learnt,
-  zero-from-below t,
-  zero-from.Post,
-) (zero-from-at t) zero-from.Post
-zero-from-returns-3 t c = (search (zero-stops, needs), search (zero-stops-ram, needs))
+zero-from-returns-3 : (t : ℕ) → zero-from-lts.Need-returns-3 (uses t) (zero-from-at t) zero-from.Post
+zero-from-returns-3 t c = (search (stops-is, needs), search (stops-ram, needs))
 
 pub +zero-from-spec : {M : Type 1} → statement M
-+zero-from-spec = close μ-zero-from λ t. zero-from-lts.spec (
-  write-reads.Asked,
-  write-reads.Learnt,
-  wrapping-add-u64-reads.Asked,
-  wrapping-add-u64-reads.Learnt,
-  zero-from-below t,
-  zero-from.Post,
-)
++zero-from-spec = close μ-zero-from λ t. zero-from-lts.spec (uses t)
     (zero-from-at t)
     zero-from.Post
     (zero-from-returns t)

@@ -1,8 +1,8 @@
 -- `insys::abort::abort` meets its contract.
-use Rattle.insys.proofs.Aborts.{abort-is}
 use borrow.Author.Needs.{needs}
 use Rattle.insys.proofs.abort.abort.Statement.{statement}
 use Rattle.insys.proofs.abort.abort.Tie as tie
+use Rattle.insys.proofs.Aborts.{abort-is}
 
 who-at-requires : tie.Need-who-at-requires
 who-at-requires c κs = search needs
@@ -16,20 +16,17 @@ scr-at-requires c κs = search needs
 hcr-at-requires : tie.Need-hcr-at-requires
 hcr-at-requires c κs = search needs
 
-route-requires : tie.Need-route-requires
-route-requires c κs = search needs
+report-sync-requires : tie.Need-report-sync-requires
+report-sync-requires c κs = search needs
 
-index-requires : tie.Need-index-requires
-index-requires c κs = search needs
+flags-at-requires : tie.Need-flags-at-requires
+flags-at-requires c κs = search needs
 
-cast-syndrome : tie.Need-cast-syndrome
-cast-syndrome c = search needs
+sync-changes-requires : tie.Need-sync-changes-requires
+sync-changes-requires c κs = search needs
 
-syndrome-requires : tie.Need-syndrome-requires
-syndrome-requires c κs = search needs
-
-enter-requires : tie.Need-enter-requires
-enter-requires c κs = search needs
+commit-requires : tie.Need-commit-requires
+commit-requires c κs = search needs
 
 returns : tie.Need-returns
 returns c = search (abort-is, needs)
@@ -42,9 +39,8 @@ abort-spec =
     pc-at-requires
     scr-at-requires
     hcr-at-requires
-    route-requires
-    index-requires
-    cast-syndrome
-    syndrome-requires
-    enter-requires
+    report-sync-requires
+    flags-at-requires
+    sync-changes-requires
+    commit-requires
     returns)

@@ -1,6 +1,7 @@
 -- `insys::zero::zero_from` meets its contract; the stores left fall.
 use borrow.Author.Needs.{needs}
-use Rattle.insys.proofs.Zeroes.{some-left, fewer-left, none-answer, none-core, none-ram, goes-answer, goes-core, goes-ram, stop-answer, stop-core, stop-ram}
+use Rattle.exec.specs.ZeroLaws.{some-left, fewer-left}
+use Rattle.insys.proofs.Zeroes.{none, goes, stops}
 use Prim.Native.Nat.{ℕ, _<_}
 use borrow.Fn.Kinds.{In}
 use borrow.Fn.PlainCycle.{Measures, is, falls, and}
@@ -22,125 +23,44 @@ abbrev zero-from-below : ℕ → In 2 zero-from-kinds.ps
 zero-from-below t =
     and 2 zero-from-kinds.ps (falls 2 zero-from-kinds.ps _<_ μ-zero-from t) zero-from.Pre
 
-zero-from-returns : (t : ℕ) → zero-from-lts.Need-returns (
-  store-reads.Asked,
-  store-reads.Learnt,
-  wrapping-add-u64-reads.Asked,
-  wrapping-add-u64-reads.Learnt,
-  zero-from-below t,
-  zero-from.Post,
-) (zero-from-at t) zero-from.Post
-zero-from-returns t c = (search (none-answer, needs), (search (none-core, needs), search (none-ram, needs)))
+abbrev uses : ℕ → zero-from-lts.Claims
+uses t = (store-reads.Asked, store-reads.Learnt, wrapping-add-u64-reads.Asked, wrapping-add-u64-reads.Learnt, zero-from-below t, zero-from.Post)
 
-zero-from-store-requires : (t : ℕ) → zero-from-lts.Need-store-requires (
-  store-reads.Asked,
-  store-reads.Learnt,
-  wrapping-add-u64-reads.Asked,
-  wrapping-add-u64-reads.Learnt,
-  zero-from-below t,
-  zero-from.Post,
-) (zero-from-at t) zero-from.Post
+zero-from-returns : (t : ℕ) → zero-from-lts.Need-returns (uses t) (zero-from-at t) zero-from.Post
+zero-from-returns t c = search (none, needs)
+
+zero-from-store-requires : (t : ℕ) → zero-from-lts.Need-store-requires (uses t) (zero-from-at t) zero-from.Post
 zero-from-store-requires t c κs = search needs
 
-zero-from-enum-told : (t : ℕ) → zero-from-lts.Need-enum-told (
-  store-reads.Asked,
-  store-reads.Learnt,
-  wrapping-add-u64-reads.Asked,
-  wrapping-add-u64-reads.Learnt,
-  zero-from-below t,
-  zero-from.Post,
-) (zero-from-at t) zero-from.Post
+zero-from-enum-told : (t : ℕ) → zero-from-lts.Need-enum-told (uses t) (zero-from-at t) zero-from.Post
 zero-from-enum-told t c = search needs
 
-zero-from-wrapping-add-u64-requires : (t : ℕ) → zero-from-lts.Need-wrapping-add-u64-requires (
-  store-reads.Asked,
-  store-reads.Learnt,
-  wrapping-add-u64-reads.Asked,
-  wrapping-add-u64-reads.Learnt,
-  zero-from-below t,
-  zero-from.Post,
-) (zero-from-at t) zero-from.Post
+zero-from-wrapping-add-u64-requires : (t : ℕ) → zero-from-lts.Need-wrapping-add-u64-requires (uses t) (zero-from-at t) zero-from.Post
 zero-from-wrapping-add-u64-requires t c κs = search needs
 
-zero-from-sub-zero-from : (t : ℕ) → zero-from-lts.Need-sub-zero-from (
-  store-reads.Asked,
-  store-reads.Learnt,
-  wrapping-add-u64-reads.Asked,
-  wrapping-add-u64-reads.Learnt,
-  zero-from-below t,
-  zero-from.Post,
-) (zero-from-at t) zero-from.Post
+zero-from-sub-zero-from : (t : ℕ) → zero-from-lts.Need-sub-zero-from (uses t) (zero-from-at t) zero-from.Post
 zero-from-sub-zero-from t c = search (some-left, needs)
 
-zero-from-zero-from-requires : (t : ℕ) → zero-from-lts.Need-zero-from-requires (
-  store-reads.Asked,
-  store-reads.Learnt,
-  wrapping-add-u64-reads.Asked,
-  wrapping-add-u64-reads.Learnt,
-  zero-from-below t,
-  zero-from.Post,
-) (zero-from-at t) zero-from.Post
+zero-from-zero-from-requires : (t : ℕ) → zero-from-lts.Need-zero-from-requires (uses t) (zero-from-at t) zero-from.Post
 zero-from-zero-from-requires t c κs = (search (fewer-left, needs), search needs)
 
-zero-from-enum-known-stop : (t : ℕ) → zero-from-lts.Need-enum-known-stop (
-  store-reads.Asked,
-  store-reads.Learnt,
-  wrapping-add-u64-reads.Asked,
-  wrapping-add-u64-reads.Learnt,
-  zero-from-below t,
-  zero-from.Post,
-) (zero-from-at t) zero-from.Post
+zero-from-enum-known-stop : (t : ℕ) → zero-from-lts.Need-enum-known-stop (uses t) (zero-from-at t) zero-from.Post
 zero-from-enum-known-stop t c = search needs
 
-zero-from-same-length : (t : ℕ) → zero-from-lts.Need-same-length (
-  store-reads.Asked,
-  store-reads.Learnt,
-  wrapping-add-u64-reads.Asked,
-  wrapping-add-u64-reads.Learnt,
-  zero-from-below t,
-  zero-from.Post,
-) (zero-from-at t) zero-from.Post
+zero-from-same-length : (t : ℕ) → zero-from-lts.Need-same-length (uses t) (zero-from-at t) zero-from.Post
 zero-from-same-length t c = search needs
 
-zero-from-returns-2 : (t : ℕ) → zero-from-lts.Need-returns-2 (
-  store-reads.Asked,
-  store-reads.Learnt,
-  wrapping-add-u64-reads.Asked,
-  wrapping-add-u64-reads.Learnt,
-  zero-from-below t,
-  zero-from.Post,
-) (zero-from-at t) zero-from.Post
-zero-from-returns-2 t c = (search (goes-answer, needs), (search (goes-core, needs), search (goes-ram, needs)))
+zero-from-returns-2 : (t : ℕ) → zero-from-lts.Need-returns-2 (uses t) (zero-from-at t) zero-from.Post
+zero-from-returns-2 t c = search (goes, needs)
 
-zero-from-same-length-2 : (t : ℕ) → zero-from-lts.Need-same-length-2 (
-  store-reads.Asked,
-  store-reads.Learnt,
-  wrapping-add-u64-reads.Asked,
-  wrapping-add-u64-reads.Learnt,
-  zero-from-below t,
-  zero-from.Post,
-) (zero-from-at t) zero-from.Post
+zero-from-same-length-2 : (t : ℕ) → zero-from-lts.Need-same-length-2 (uses t) (zero-from-at t) zero-from.Post
 zero-from-same-length-2 t c = search needs
 
-zero-from-returns-3 : (t : ℕ) → zero-from-lts.Need-returns-3 (
-  store-reads.Asked,
-  store-reads.Learnt,
-  wrapping-add-u64-reads.Asked,
-  wrapping-add-u64-reads.Learnt,
-  zero-from-below t,
-  zero-from.Post,
-) (zero-from-at t) zero-from.Post
-zero-from-returns-3 t c = (search (stop-answer, needs), (search (stop-core, needs), search (stop-ram, needs)))
+zero-from-returns-3 : (t : ℕ) → zero-from-lts.Need-returns-3 (uses t) (zero-from-at t) zero-from.Post
+zero-from-returns-3 t c = search (stops, needs)
 
 pub +zero-from-spec : {M : Type 1} → statement M
-+zero-from-spec = close μ-zero-from λ t. zero-from-lts.spec (
-  store-reads.Asked,
-  store-reads.Learnt,
-  wrapping-add-u64-reads.Asked,
-  wrapping-add-u64-reads.Learnt,
-  zero-from-below t,
-  zero-from.Post,
-)
++zero-from-spec = close μ-zero-from λ t. zero-from-lts.spec (uses t)
     (zero-from-at t)
     zero-from.Post
     (zero-from-returns t)

@@ -1,7 +1,9 @@
 -- `insys::zero::system` meets its contract.
-use Rattle.insys.proofs.Zeroes.{at-answer, at-core, at-ram, tlbi-answer, tlbi-core, tlbi-ram, zva-answer, zva-core, zva-ram, nothing-answer, nothing-core, nothing-ram, undefined-answer, undefined-core, undefined-ram, unimplemented-answer, unimplemented-core, unimplemented-ram}
+use Rattle.insys.proofs.Zeroes.{at-answer, at-core, at-ram, tlbi-answer, tlbi-core, tlbi-ram, zva-answer, zva-core, zva-ram, zva-late}
+use Rattle.insys.proofs.Zeroes.{nothing-answer, nothing-core, nothing-ram, undefined-answer, undefined-core, undefined-ram}
+use Rattle.insys.proofs.Zeroes.{unimplemented-answer, unimplemented-core, unimplemented-ram}
 use mathlib.Core.Path.{refl}
-use Rattle.insys.specs.Early.{never, late-zero}
+use Rattle.insys.specs.Early.{never}
 use borrow.Author.Needs.{needs}
 use Rattle.insys.proofs.zero.system.Statement.{statement}
 use Rattle.insys.proofs.zero.system.Tie as tie
@@ -30,11 +32,8 @@ tlbi-requires c κs = search needs
 enum-told-2 : tie.Need-enum-told-2
 enum-told-2 c = search needs
 
-sub-zero-from : tie.Need-sub-zero-from
-sub-zero-from c = search needs
-
-zero-from-requires : tie.Need-zero-from-requires
-zero-from-requires c κs = search needs
+zva-requires : tie.Need-zva-requires
+zva-requires c κs = search needs
 
 enum-told-3 : tie.Need-enum-told-3
 enum-told-3 c = search needs
@@ -58,7 +57,7 @@ same-length-2 : tie.Need-same-length-2
 same-length-2 c = search needs
 
 returns-3 : tie.Need-returns-3
-returns-3 c = (search (zva-answer, needs), (search (zva-core, needs), (search (zva-ram, needs), λ e. search (late-zero, needs))))
+returns-3 c = (search (zva-answer, needs), (search (zva-core, needs), (search (zva-ram, needs), λ e. search (zva-late, needs))))
 
 returns-4 : tie.Need-returns-4
 returns-4 c = (search (nothing-answer, needs), (search (nothing-core, needs), (search (nothing-ram, needs), λ e. never e)))
@@ -81,8 +80,7 @@ system-spec =
     enum-told
     tlbi-requires
     enum-told-2
-    sub-zero-from
-    zero-from-requires
+    zva-requires
     enum-told-3
     enum-told-4
     enum-told-5
