@@ -1,5 +1,5 @@
 -- `tlb::turn::kept` meets its contract.
-use Rattle.tlb.proofs.Turning.{hint-keeps, flat-keeps, entry-keeps, walk-keeps, no-leaf-keeps}
+use Rattle.tlb.proofs.Turning.{kept-as}
 use borrow.Author.Needs.{needs}
 use Rattle.tlb.proofs.turn.kept.Statement.{statement}
 use Rattle.tlb.proofs.turn.kept.Tie as tie
@@ -20,19 +20,19 @@ enum-told-5 : tie.Need-enum-told-5
 enum-told-5 c = search needs
 
 returns : tie.Need-returns
-returns c = search (hint-keeps, needs)
+returns c = search (kept-as, needs)
 
 returns-2 : tie.Need-returns-2
-returns-2 c = search (flat-keeps, needs)
+returns-2 c = search (kept-as, needs)
 
 returns-3 : tie.Need-returns-3
-returns-3 c = search (entry-keeps, needs)
+returns-3 c = search (kept-as, needs)
 
 returns-4 : tie.Need-returns-4
-returns-4 c = search (walk-keeps, needs)
+returns-4 c = search (kept-as, needs)
 
 returns-5 : tie.Need-returns-5
-returns-5 c = search (no-leaf-keeps, needs)
+returns-5 c = search (kept-as, needs)
 
 pub kept-spec : {M : Type 1} → statement M
 kept-spec =
