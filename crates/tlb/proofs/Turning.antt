@@ -92,12 +92,9 @@ module _ (q : Query) (s : Bank) (who : Who) (at : Present) (e : Entry) (va : ℕ
   unfolding resolveOf resolveWith
   walk-resolves t f et = rw (← eb, f) et
 
--- what becomes of the counters and the entry
+-- what becomes of the counters
 pub counted-as : (s from : Source) (k n : Counts) → s ≡ from → n ≡ countedBy from k → n ≡ countedBy s k
 counted-as s from k n e p = p ∙ ap (λ (x : Source). countedBy x k) (sym e)
-
-pub kept-as : (s from : Source) (old made e : Entry) → s ≡ from → e ≡ keptBy from old made → e ≡ keptBy s old made
-kept-as s from old made e q p = p ∙ ap (λ (x : Source). keptBy x old made) (sym q)
 
 -- and of the hints
 module _ (hinted : Bool) (level va : ℕ) (a : Answer) (old : Hint) where
