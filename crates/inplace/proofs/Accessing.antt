@@ -42,7 +42,8 @@ on-now c who r s b ew er es eb =
 -- TWO PAGES
 
 -- a second translation, by what the first left
-second-is : (c : Core) (t : Tlb) (memory : ℕ → Word) (va : ℕ) (kind : Kind) → steppedNow (withTlb c t) memory va kind ≡ stepOf (bankNow c) (c .who) memory va kind t
+second-is : (c : Core) (t : Tlb) (memory : ℕ → Word) (va : ℕ) (kind : Kind)
+    → steppedNow (withTlb c t) memory va kind ≡ stepOf (bankNow c) (c .who) memory va kind t
 unfolding steppedNow movedTo
 second-is c t memory va kind = refl
 
