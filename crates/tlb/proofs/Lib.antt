@@ -1,4 +1,3 @@
 -- What the proofs share.
 pub mod Laws
-pub mod Resolving
 pub mod Turning

@@ -5,14 +5,20 @@ use Prim.Native.Nat.{ℕ}
 use lib.Dec.{eqb}
 use lib.Bits.{bitOr}
 use Rattle.word.specs.declared.ram.Word.{Word}
+use Rattle.walk.specs.Regime.{stage1On, regimeOf}
+use Rattle.walk.specs.Tag.{untagged}
+use Rattle.walk.specs.Walk.{walkOf}
 use Rattle.walk.specs.declared.regime.Regime.{Regime}
 use Rattle.walk.specs.declared.regime.Regime.the-variants.{El1}
 use Rattle.walk.specs.declared.regime.Bank.{Bank}
-use Rattle.tlb.specs.Entry.{blank}
+use Rattle.walk.specs.declared.level.Leaf.{Leaf}
+use Rattle.walk.specs.declared.level.Walked.{Walked}
+use Rattle.walk.specs.declared.level.Walked.the-variants.{Mapped, Fault}
+use Rattle.tlb.specs.Entry.{blank, serves}
 use Rattle.tlb.specs.Hint.{onPage, hintKey, hintFor, fetchFor, fetchFound}
 use Rattle.tlb.specs.Count.{hitCounted, walkCounted}
-use Rattle.tlb.specs.Access.{isFetch, mayHint, userOf, rightOf, hasRight, judged}
-use Rattle.tlb.specs.Resolve.{askOf, resolveOf, changesOf, countedBy, keptBy, hintAfter, fetchAfter}
+use Rattle.tlb.specs.Access.{isFetch, mayHint, userOf, tagOf, rightOf, hasRight, judged}
+use Rattle.tlb.specs.Resolve.{askOf, entryFor, byWalk, resolveWith, resolveOf, changesOf, countedBy, keptBy, hintAfter, fetchAfter}
 use Rattle.tlb.specs.Turn.{missOf, applied, turnWith, turnOf, fetchApplied, fetchEnd, fetchWith, fetchOf, changes-are}
 use Rattle.tlb.specs.declared.entry.Entry.{Entry}
 use Rattle.tlb.specs.declared.entry.Present.{Present}
@@ -49,38 +55,46 @@ module _ (e : Entry) (user : Bool) (kind : Kind) (va right : ℕ) (er : right �
   unfolding judged
   refused b = rw (← er, b)
 
--- what becomes of the counters and the entry
-module _ (s : Source) (k : Counts) where
-  pub hint-counts : s ≡ FromHint → k ≡ countedBy s k
-  hint-counts e = rw e
+-- what is asked, and the changes
+module _ (s : Bank) (who : Who) (va : ℕ) (r : Regime) (on : Bool) (er : r ≡ regimeOf (who .level)) (eo : on ≡ stage1On s r) where
+  pub asked : (page tag : ℕ) → on ≡ true → page ≡ untagged (s .tcr) r va → tag ≡ tagOf r page
+      → Of (record { regime = r; page = page; tag = tag }) ≡ askOf s who va
+  unfolding askOf
+  asked page tag o ep et = rw (← er, ← eo, o, ← ep, et)
 
-  pub flat-counts : s ≡ FromFlat → k ≡ countedBy s k
-  flat-counts e = rw e
+  pub unasked : on ≡ false → Flat ≡ askOf s who va
+  unfolding askOf
+  unasked o = rw (← er, ← eo, o)
 
-  pub entry-counts : (n : Counts) → s ≡ FromEntry → n ≡ hitCounted k → n ≡ countedBy s k
-  entry-counts n e p = p ∙ rw e
+module _ (w : Walked) (q : Query) (who : Who) (at : Present) (kind : Kind) (va : ℕ) (m : Entry) where
+  pub leaf-made : (leaf : Leaf) (u : Bool) (a : Answer) → w ≡ Mapped leaf → m ≡ entryFor leaf at (q .tag) → u ≡ userOf (q .regime) who kind
+      → a ≡ judged m u kind va → record { answer = a; source = FromWalk; made = m } ≡ byWalk w q who at va kind
+  unfolding byWalk
+  leaf-made leaf u a ew em eu ea = rw (ew, ea, em, eu)
 
-  pub walk-counts : (n : Counts) → s ≡ FromWalk → n ≡ walkCounted k → n ≡ countedBy s k
-  walk-counts n e p = p ∙ rw e
+  pub none-made : (code : ℕ) → w ≡ Fault code → m ≡ blank → record { answer = Status code; source = NoLeaf; made = m } ≡ byWalk w q who at va kind
+  unfolding byWalk
+  none-made code ew em = rw (ew, em)
 
-  pub no-leaf-counts : (n : Counts) → s ≡ NoLeaf → n ≡ walkCounted k → n ≡ countedBy s k
-  no-leaf-counts n e p = p ∙ rw e
+pub walk-made : (w v : Walked) (q : Query) (who : Who) (at : Present) (kind : Kind) (va : ℕ) (t : Resolved) → w ≡ v
+    → t ≡ byWalk w q who at va kind → t ≡ byWalk v q who at va kind
+walk-made w v q who at kind va t e p = rw e at p
 
-module _ (s : Source) (old made : Entry) where
-  pub hint-keeps : s ≡ FromHint → old ≡ keptBy s old made
-  hint-keeps e = rw e
+module _ (q : Query) (s : Bank) (who : Who) (at : Present) (e : Entry) (va : ℕ) (kind : Kind) (memory : ℕ → Word) (b : Bool)
+    (eb : b ≡ serves e at (q .tag)) where
+  pub entry-resolves : (u : Bool) (a : Answer) (m : Entry) → b ≡ true → u ≡ userOf (q .regime) who kind → a ≡ judged e u kind va → m ≡ blank
+      → record { answer = a; source = FromEntry; made = m } ≡ resolveOf q s who at e va kind memory
+  unfolding resolveOf resolveWith
+  entry-resolves u a m t eu ea em = rw (← eb, t, ea, eu, em)
 
-  pub flat-keeps : s ≡ FromFlat → old ≡ keptBy s old made
-  flat-keeps e = rw e
+  pub walk-resolves : (t : Resolved) → b ≡ false → t ≡ byWalk (walkOf s (q .regime) (q .page) memory) q who at va kind
+      → t ≡ resolveOf q s who at e va kind memory
+  unfolding resolveOf resolveWith
+  walk-resolves t f et = rw (← eb, f) et
 
-  pub entry-keeps : s ≡ FromEntry → old ≡ keptBy s old made
-  entry-keeps e = rw e
-
-  pub walk-keeps : s ≡ FromWalk → made ≡ keptBy s old made
-  walk-keeps e = rw e
-
-  pub no-leaf-keeps : s ≡ NoLeaf → old ≡ keptBy s old made
-  no-leaf-keeps e = rw e
+-- what becomes of the counters
+pub counted-as : (s from : Source) (k n : Counts) → s ≡ from → n ≡ countedBy from k → n ≡ countedBy s k
+counted-as s from k n e p = p ∙ ap (λ (x : Source). countedBy x k) (sym e)
 
 -- and of the hints
 module _ (hinted : Bool) (level va : ℕ) (a : Answer) (old : Hint) where

@@ -1,5 +1,5 @@
 -- `tlb::turn::counted` meets its contract.
-use Rattle.tlb.proofs.Turning.{hint-counts, flat-counts, entry-counts, walk-counts, no-leaf-counts}
+use Rattle.tlb.proofs.Turning.{counted-as}
 use borrow.Author.Needs.{needs}
 use Rattle.tlb.proofs.turn.counted.Statement.{statement}
 use Rattle.tlb.proofs.turn.counted.Tie as tie
@@ -29,19 +29,19 @@ walk-requires-2 : tie.Need-walk-requires-2
 walk-requires-2 c κs = search needs
 
 returns : tie.Need-returns
-returns c = search (hint-counts, needs)
+returns c = search (counted-as, needs)
 
 returns-2 : tie.Need-returns-2
-returns-2 c = search (flat-counts, needs)
+returns-2 c = search (counted-as, needs)
 
 returns-3 : tie.Need-returns-3
-returns-3 c = search (entry-counts, needs)
+returns-3 c = search (counted-as, needs)
 
 returns-4 : tie.Need-returns-4
-returns-4 c = search (walk-counts, needs)
+returns-4 c = search (counted-as, needs)
 
 returns-5 : tie.Need-returns-5
-returns-5 c = search (no-leaf-counts, needs)
+returns-5 c = search (counted-as, needs)
 
 pub counted-spec : {M : Type 1} → statement M
 counted-spec =
