@@ -100,7 +100,8 @@ module _ (ws : List ℕ) (base : ℕ) (ram : List ℕ) (call : Call) (n : ℕ) (
         → r ≡ stepOf (held ws) base ram call .reply
     written-reply = by-answer registering
 
-module _ (ws : List ℕ) (base : ℕ) (ram : List ℕ) (va size : ℕ) (n : ℕ) (en : n ≡ missedOf (held ws .who .level) base (length ram) (Call.Load va size)) (z : n ≡ 0) where
+module _ (ws : List ℕ) (base : ℕ) (ram : List ℕ) (va size : ℕ)
+    (n : ℕ) (en : n ≡ missedOf (held ws .who .level) base (length ram) (Call.Load va size)) (z : n ≡ 0) where
   abbrev load-step : Stepped
   load-step = stepOf (held ws) base ram (Call.Load va size)
 
@@ -112,10 +113,13 @@ module _ (ws : List ℕ) (base : ℕ) (ram : List ℕ) (va size : ℕ) (n : ℕ)
   unfolding runOf
   load-none p e q = ap (λ (x : Sized). loadBy x (held ws) base ram va) (sym e ∙ q)
 
-  pub load-reply : (p : Sized) (w : Width) (a : LoadAnswer) (r : Reply) → p ≡ widthOf size → p ≡ Bytes w → a ≡ readOf (held ws) base ram va (bytesIn w) .answer → r ≡ loading a → r ≡ load-step .reply
-  load-reply p w a r e q ea er = run-reply ws base ram (Call.Load va size) n en z _ (er ∙ ap loading ea ∙ sym (ap (λ (s : Stepped). s .reply) (load-width p w e q)))
+  pub load-reply : (p : Sized) (w : Width) (a : LoadAnswer) (r : Reply) → p ≡ widthOf size → p ≡ Bytes w
+      → a ≡ readOf (held ws) base ram va (bytesIn w) .answer → r ≡ loading a → r ≡ load-step .reply
+  load-reply p w a r e q ea er =
+      run-reply ws base ram (Call.Load va size) n en z _ (er ∙ ap loading ea ∙ sym (ap (λ (s : Stepped). s .reply) (load-width p w e q)))
 
-  pub load-core : (p : Sized) (w : Width) (xs : List ℕ) → p ≡ widthOf size → p ≡ Bytes w → Moved ws xs (readOf (held ws) base ram va (bytesIn w) .core) → Moved ws xs (load-step .core)
+  pub load-core : (p : Sized) (w : Width) (xs : List ℕ) → p ≡ widthOf size → p ≡ Bytes w
+      → Moved ws xs (readOf (held ws) base ram va (bytesIn w) .core) → Moved ws xs (load-step .core)
   load-core p w xs e q m = run-core ws base ram (Call.Load va size) n en z xs _ m (sym (ap (λ (s : Stepped). s .core) (load-width p w e q)))
 
   pub load-size : (p : Sized) → p ≡ widthOf size → p ≡ NoWidth → Refused 3 ≡ load-step .reply
@@ -124,11 +128,13 @@ module _ (ws : List ℕ) (base : ℕ) (ram : List ℕ) (va size : ℕ) (n : ℕ)
   pub load-size-core : (p : Sized) → p ≡ widthOf size → p ≡ NoWidth → Moved ws ws (load-step .core)
   load-size-core p e q = run-core ws base ram (Call.Load va size) n en z ws _ stays (sym (ap (λ (s : Stepped). s .core) (load-none p e q)))
 
-module _ (ws : List ℕ) (base : ℕ) (ram : List ℕ) (va size value : ℕ) (n : ℕ) (en : n ≡ missedOf (held ws .who .level) base (length ram) (Call.Store va size value)) (z : n ≡ 0) where
+module _ (ws : List ℕ) (base : ℕ) (ram : List ℕ) (va size value : ℕ)
+    (n : ℕ) (en : n ≡ missedOf (held ws .who .level) base (length ram) (Call.Store va size value)) (z : n ≡ 0) where
   abbrev store-step : Stepped
   store-step = stepOf (held ws) base ram (Call.Store va size value)
 
-  store-width : (p : Sized) (w : Width) → p ≡ widthOf size → p ≡ Bytes w → runOf (held ws) base ram (Call.Store va size value) ≡ storeBy (Bytes w) (held ws) base ram va
+  store-width : (p : Sized) (w : Width) → p ≡ widthOf size → p ≡ Bytes w
+      → runOf (held ws) base ram (Call.Store va size value) ≡ storeBy (Bytes w) (held ws) base ram va
   unfolding runOf
   store-width p w e q = ap (λ (x : Sized). storeBy x (held ws) base ram va) (sym e ∙ q)
 
@@ -136,15 +142,20 @@ module _ (ws : List ℕ) (base : ℕ) (ram : List ℕ) (va size value : ℕ) (n 
   unfolding runOf
   store-none p e q = ap (λ (x : Sized). storeBy x (held ws) base ram va) (sym e ∙ q)
 
-  pub store-reply : (p : Sized) (w : Width) (a : StoreAnswer) (r : Reply) → p ≡ widthOf size → p ≡ Bytes w → a ≡ writeOf (held ws) base ram va (bytesIn w) .answer → r ≡ storing a → r ≡ store-step .reply
-  store-reply p w a r e q ea er = run-reply ws base ram (Call.Store va size value) n en z _ (er ∙ ap storing ea ∙ sym (ap (λ (s : Stepped). s .reply) (store-width p w e q)))
+  pub store-reply : (p : Sized) (w : Width) (a : StoreAnswer) (r : Reply) → p ≡ widthOf size → p ≡ Bytes w
+      → a ≡ writeOf (held ws) base ram va (bytesIn w) .answer → r ≡ storing a → r ≡ store-step .reply
+  store-reply p w a r e q ea er =
+      run-reply ws base ram (Call.Store va size value) n en z _ (er ∙ ap storing ea ∙ sym (ap (λ (s : Stepped). s .reply) (store-width p w e q)))
 
-  pub store-core : (p : Sized) (w : Width) (xs : List ℕ) → p ≡ widthOf size → p ≡ Bytes w → Moved ws xs (writeOf (held ws) base ram va (bytesIn w) .core) → Moved ws xs (store-step .core)
+  pub store-core : (p : Sized) (w : Width) (xs : List ℕ) → p ≡ widthOf size → p ≡ Bytes w
+      → Moved ws xs (writeOf (held ws) base ram va (bytesIn w) .core) → Moved ws xs (store-step .core)
   store-core p w xs e q m = run-core ws base ram (Call.Store va size value) n en z xs _ m (sym (ap (λ (s : Stepped). s .core) (store-width p w e q)))
 
-  pub store-ram : (p : Sized) (w : Width) (ys : List ℕ) → p ≡ widthOf size → p ≡ Bytes w → ys ≡ ramAfterWrite (held ws) base ram va (bytesIn w) value → ys ≡ ramAfter (held ws) base ram (Call.Store va size value)
+  pub store-ram : (p : Sized) (w : Width) (ys : List ℕ) → p ≡ widthOf size → p ≡ Bytes w
+      → ys ≡ ramAfterWrite (held ws) base ram va (bytesIn w) value → ys ≡ ramAfter (held ws) base ram (Call.Store va size value)
   unfolding ramOf
-  store-ram p w ys e q r = r ∙ ap (λ (x : Sized). storeRamBy x (held ws) base ram va value) (sym q ∙ e) ∙ sym (runs-ram ws base ram (Call.Store va size value) n en z)
+  store-ram p w ys e q r =
+      r ∙ ap (λ (x : Sized). storeRamBy x (held ws) base ram va value) (sym q ∙ e) ∙ sym (runs-ram ws base ram (Call.Store va size value) n en z)
 
   pub store-size : (p : Sized) → p ≡ widthOf size → p ≡ NoWidth → Refused 3 ≡ store-step .reply
   store-size p e q = run-reply ws base ram (Call.Store va size value) n en z _ (sym (ap (λ (s : Stepped). s .reply) (store-none p e q)))
