@@ -53,7 +53,8 @@ checksOf level base len (FetchPa va) = ramRows level base len
 checksOf level base len (Load va size) = sizedRows level base len size
 checksOf level base len (Store va size value) = sizedRows level base len size
 checksOf level base len (Fetch va) = ramRows level base len
-checksOf level base len (System e) = (ltb 3 level, 1) ∷ (passes base len, 2) ∷ (unencoded e, 4) ∷ (ltb 31 (e .rt), 5) ∷ []
+checksOf level base len (System e) =
+    (ltb 3 level, 1) ∷ (passes base len, 2) ∷ (unencoded e, 4) ∷ (ltb 31 (e .rt), 5) ∷ []
 checksOf level base len (Register key value) = (ltb 3 level, 1) ∷ (not (kept key), 6) ∷ []
 checksOf level base len (Level requested) = (ltb 3 level || ltb 3 requested, 1) ∷ []
 checksOf level base len (Mark mark) = (ltb 3 level, 1) ∷ []

@@ -1,5 +1,6 @@
 -- `a72abi::book::abort` meets its contract.
-use Rattle.a72abi.proofs.Booking.{refused-reply, refused-core, abort-reply, abort-core}
+use Rattle.a72abi.proofs.Booking.{refused-reply, refused-core, run-reply, run-core}
+use Rattle.cpu.specs.Step.{runOf}
 use Rattle.a72abi.specs.Kept.{staying}
 use borrow.Author.Needs.{needs}
 use Rattle.a72abi.proofs.book.abort.Statement.{statement}
@@ -15,7 +16,8 @@ abort-requires : tie.Need-abort-requires
 abort-requires c κs = search needs
 
 returns-2 : tie.Need-returns-2
-returns-2 c = record { reply = search (abort-reply, needs); words = search (abort-core, needs); stays = search (staying, needs) }
+unfolding runOf
+returns-2 c = record { reply = search (run-reply, needs); words = search (run-core, needs); stays = search (staying, needs) }
 
 pub abort-spec : {M : Type 1} → statement M
 abort-spec = tie.close (tie.spec missed-requires returns abort-requires returns-2)

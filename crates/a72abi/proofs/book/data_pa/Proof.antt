@@ -1,5 +1,6 @@
 -- `a72abi::book::data_pa` meets its contract.
-use Rattle.a72abi.proofs.Booking.{refused-reply, refused-core, data-reply, data-core}
+use Rattle.a72abi.proofs.Booking.{refused-reply, refused-core, reached-reply, run-core}
+use Rattle.cpu.specs.Step.{runOf}
 use Rattle.a72abi.specs.Kept.{staying}
 use borrow.Author.Needs.{needs}
 use Rattle.a72abi.proofs.book.data_pa.Statement.{statement}
@@ -18,7 +19,8 @@ reached-requires : tie.Need-reached-requires
 reached-requires c κs = search needs
 
 returns-2 : tie.Need-returns-2
-returns-2 c = record { reply = search (data-reply, needs); words = search (data-core, needs); stays = search (staying, needs) }
+unfolding runOf
+returns-2 c = record { reply = search (reached-reply, needs); words = search (run-core, needs); stays = search (staying, needs) }
 
 pub data-pa-spec : {M : Type 1} → statement M
 data-pa-spec =

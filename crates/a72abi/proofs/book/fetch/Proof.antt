@@ -1,5 +1,6 @@
 -- `a72abi::book::fetch` meets its contract.
-use Rattle.a72abi.proofs.Booking.{refused-reply, refused-core, fetch-reply, fetch-core}
+use Rattle.a72abi.proofs.Booking.{refused-reply, refused-core, fetched-reply, run-core}
+use Rattle.cpu.specs.Step.{runOf}
 use Rattle.a72abi.specs.Kept.{staying}
 use borrow.Author.Needs.{needs}
 use Rattle.a72abi.proofs.book.fetch.Statement.{statement}
@@ -18,7 +19,8 @@ fetched-requires : tie.Need-fetched-requires
 fetched-requires c κs = search needs
 
 returns-2 : tie.Need-returns-2
-returns-2 c = record { reply = search (fetch-reply, needs); words = search (fetch-core, needs); stays = search (staying, needs) }
+unfolding runOf
+returns-2 c = record { reply = search (fetched-reply, needs); words = search (run-core, needs); stays = search (staying, needs) }
 
 pub fetch-spec : {M : Type 1} → statement M
 fetch-spec = tie.close (tie.spec missed-requires returns fetch-requires fetched-requires returns-2)

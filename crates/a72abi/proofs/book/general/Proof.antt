@@ -1,5 +1,6 @@
 -- `a72abi::book::general` meets its contract.
-use Rattle.a72abi.proofs.Booking.{refused-reply, refused-core, general-reply, general-core}
+use Rattle.a72abi.proofs.Booking.{refused-reply, refused-core, run-reply, run-core}
+use Rattle.cpu.specs.Step.{runOf}
 use Rattle.a72abi.specs.Kept.{staying}
 use borrow.Author.Needs.{needs}
 use Rattle.a72abi.proofs.book.general.Statement.{statement}
@@ -15,7 +16,8 @@ put-general-requires : tie.Need-put-general-requires
 put-general-requires c κs = search needs
 
 returns-2 : tie.Need-returns-2
-returns-2 c = record { reply = search (general-reply, needs); words = search (general-core, needs); stays = search (staying, needs) }
+unfolding runOf
+returns-2 c = record { reply = search (run-reply, needs); words = search (run-core, needs); stays = search (staying, needs) }
 
 pub general-spec : {M : Type 1} → statement M
 general-spec = tie.close (tie.spec missed-requires returns put-general-requires returns-2)

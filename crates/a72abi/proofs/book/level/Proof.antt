@@ -1,5 +1,8 @@
 -- `a72abi::book::level` meets its contract.
-use Rattle.a72abi.proofs.Booking.{refused-reply, refused-core, level-reply, level-core}
+use Rattle.a72abi.proofs.Booking.{refused-reply, refused-core, run-reply, run-core}
+use Rattle.cpu.specs.Step.{runOf}
+use Rattle.exec.specs.Ops.{setLevel}
+use Rattle.words.specs.Parts.{withWho}
 use Rattle.a72abi.specs.Kept.{staying}
 use borrow.Author.Needs.{needs}
 use Rattle.a72abi.proofs.book.level.Statement.{statement}
@@ -18,7 +21,8 @@ put-level-requires : tie.Need-put-level-requires
 put-level-requires c κs = search needs
 
 returns-2 : tie.Need-returns-2
-returns-2 c = record { reply = search (level-reply, needs); words = search (level-core, needs); stays = search (staying, needs) }
+unfolding runOf setLevel withWho
+returns-2 c = record { reply = search (run-reply, needs); words = search (run-core, needs); stays = search (staying, needs) }
 
 pub level-spec : {M : Type 1} → statement M
 level-spec =

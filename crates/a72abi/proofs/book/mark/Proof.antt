@@ -1,5 +1,8 @@
 -- `a72abi::book::mark` meets its contract.
-use Rattle.a72abi.proofs.Booking.{refused-reply, refused-core, mark-reply, mark-core}
+use Rattle.a72abi.proofs.Booking.{refused-reply, refused-core, run-reply, run-core}
+use Rattle.cpu.specs.Step.{runOf}
+use Rattle.exec.specs.Ops.{setMark}
+use Rattle.words.specs.Parts.{withWho}
 use Rattle.a72abi.specs.Kept.{staying}
 use borrow.Author.Needs.{needs}
 use Rattle.a72abi.proofs.book.mark.Statement.{statement}
@@ -15,7 +18,8 @@ put-mark-requires : tie.Need-put-mark-requires
 put-mark-requires c κs = search needs
 
 returns-2 : tie.Need-returns-2
-returns-2 c = record { reply = search (mark-reply, needs); words = search (mark-core, needs); stays = search (staying, needs) }
+unfolding runOf setMark withWho
+returns-2 c = record { reply = search (run-reply, needs); words = search (run-core, needs); stays = search (staying, needs) }
 
 pub mark-spec : {M : Type 1} → statement M
 mark-spec = tie.close (tie.spec missed-requires returns put-mark-requires returns-2)

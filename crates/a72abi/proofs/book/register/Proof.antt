@@ -1,5 +1,6 @@
 -- `a72abi::book::register` meets its contract.
-use Rattle.a72abi.proofs.Booking.{refused-reply, refused-core, register-reply, register-core}
+use Rattle.a72abi.proofs.Booking.{refused-reply, refused-core, written-reply, run-core}
+use Rattle.cpu.specs.Step.{runOf}
 use Rattle.a72abi.specs.Kept.{staying}
 use borrow.Author.Needs.{needs}
 use Rattle.a72abi.proofs.book.register.Statement.{statement}
@@ -18,7 +19,8 @@ written-requires : tie.Need-written-requires
 written-requires c κs = search needs
 
 returns-2 : tie.Need-returns-2
-returns-2 c = record { reply = search (register-reply, needs); words = search (register-core, needs); stays = search (staying, needs) }
+unfolding runOf
+returns-2 c = record { reply = search (written-reply, needs); words = search (run-core, needs); stays = search (staying, needs) }
 
 pub register-spec : {M : Type 1} → statement M
 register-spec =

@@ -1,5 +1,6 @@
 -- `a72abi::book::system` meets its contract.
-use Rattle.a72abi.proofs.Booking.{refused-reply, refused-ram, refused-core, system-reply, system-ram, system-core}
+use Rattle.a72abi.proofs.Booking.{refused-reply, refused-ram, refused-core, stored-reply, run-ram, run-core}
+use Rattle.cpu.specs.Step.{runOf, ramOf}
 use Rattle.a72abi.specs.Kept.{staying}
 use borrow.Author.Needs.{needs}
 use Rattle.a72abi.proofs.book.system.Statement.{statement}
@@ -21,7 +22,8 @@ same-length : tie.Need-same-length
 same-length c = search needs
 
 returns-2 : tie.Need-returns-2
-returns-2 c = (record { reply = search (system-reply, needs); words = search (system-core, needs); stays = search (staying, needs) }, search (system-ram, needs))
+unfolding runOf ramOf
+returns-2 c = (record { reply = search (stored-reply, needs); words = search (run-core, needs); stays = search (staying, needs) }, search (run-ram, needs))
 
 pub system-spec : {M : Type 1} → statement M
 system-spec =

@@ -1,5 +1,6 @@
 -- `a72abi::book::translation` meets its contract.
-use Rattle.a72abi.proofs.Booking.{refused-reply, refused-core, translate-reply, translate-core}
+use Rattle.a72abi.proofs.Booking.{refused-reply, refused-core, translated-reply, run-core}
+use Rattle.cpu.specs.Step.{runOf}
 use Rattle.a72abi.specs.Kept.{staying}
 use borrow.Author.Needs.{needs}
 use Rattle.a72abi.proofs.book.translation.Statement.{statement}
@@ -18,7 +19,8 @@ translated-requires : tie.Need-translated-requires
 translated-requires c κs = search needs
 
 returns-2 : tie.Need-returns-2
-returns-2 c = record { reply = search (translate-reply, needs); words = search (translate-core, needs); stays = search (staying, needs) }
+unfolding runOf
+returns-2 c = record { reply = search (translated-reply, needs); words = search (run-core, needs); stays = search (staying, needs) }
 
 pub translation-spec : {M : Type 1} → statement M
 translation-spec =
