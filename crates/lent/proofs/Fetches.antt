@@ -22,7 +22,7 @@ use Rattle.mmu.specs.Ops.{fetchSteppedNow, fetchOf as fetchNow}
 use Rattle.mmu.specs.declared.bytes.Insn.{Insn}
 use Rattle.mmu.specs.declared.bytes.Insn.the-variants as Insn
 use Rattle.mmu.specs.declared.core.Core.{Core}
-use Rattle.cpu.specs.Check.{plainOf, askedOf, missedOf}
+use Rattle.cpu.specs.Check.{ramRows, firstOf, missedOf}
 use Rattle.cpu.specs.Step.{runOf, stepOf, ends, refusedOr}
 use Rattle.cpu.specs.declared.call.Call.{Call}
 use Rattle.cpu.specs.declared.call.Call.the-variants as Call
@@ -96,13 +96,13 @@ module _ (c : Core) (base : ℕ) (ram : List ℕ) (va : ℕ) where
 
   module _ (q : Quick) (eq : q ≡ fetchQuick (c .who) (c .tlb .cache .fetch) base ram va) where
     pub fetch-at-once-is : Holds (q .ends) → (q .reply ≡ stepOf c base ram call .reply) × (c ≡ stepOf c base ram call .core)
-    unfolding fetchQuick stepOf askedOf
+    unfolding fetchQuick stepOf missedOf
     fetch-at-once-is t =
-        rw eq (ends-by (missedOf (c .who .level) base (length ram) (plainOf true)) (fetchFound (c .tlb .cache .fetch) (c .who .level) va) refl (subst (λ (x : Quick). Holds (x .ends)) eq t))
+        rw eq (ends-by (firstOf (ramRows (c .who .level) base (length ram))) (fetchFound (c .tlb .cache .fetch) (c .who .level) va) refl (subst (λ (x : Quick). Holds (x .ends)) eq t))
 
     pub fetch-goes-on-is : Holds (not (q .ends)) → (r : Reply) (d : Core) → (r ≡ runOf c base ram call .reply) × (d ≡ runOf c base ram call .core)
         → (r ≡ stepOf c base ram call .reply) × (d ≡ stepOf c base ram call .core)
-    unfolding fetchQuick stepOf askedOf
+    unfolding fetchQuick stepOf missedOf
     fetch-goes-on-is t r d (er, ed) =
-        let same = goes-by (missedOf (c .who .level) base (length ram) (plainOf true)) (fetchFound (c .tlb .cache .fetch) (c .who .level) va) (subst (λ (x : Quick). Holds (not (x .ends))) eq t) in
+        let same = goes-by (firstOf (ramRows (c .who .level) base (length ram))) (fetchFound (c .tlb .cache .fetch) (c .who .level) va) (subst (λ (x : Quick). Holds (not (x .ends))) eq t) in
         (er ∙ ap (λ (s : Stepped). s .reply) same, ed ∙ ap (λ (s : Stepped). s .core) same)

@@ -24,7 +24,7 @@ use Rattle.mmu.specs.declared.bytes.Got.{Got}
 use Rattle.mmu.specs.declared.bytes.Got.the-variants as Got
 use Rattle.mmu.specs.declared.core.Core.{Core}
 use Rattle.mmu.specs.declared.place.Place.the-variants.{Whole}
-use Rattle.cpu.specs.Check.{sizedOf, askedOf, missedOf}
+use Rattle.cpu.specs.Check.{sizedRows, firstOf, missedOf}
 use Rattle.cpu.specs.Step.{runOf, stepOf, loadBy, ends, refusedOr}
 use Rattle.cpu.specs.declared.call.Call.{Call}
 use Rattle.cpu.specs.declared.call.Call.the-variants as Call
@@ -153,15 +153,15 @@ module _ (c : Core) (base : ℕ) (ram : List ℕ) (va size : ℕ) where
 
   module _ (i : ℕ) (q : QuickLoad) (ei : i ≡ hintPlace va Read) (eq : q ≡ loadQuick (c .who) (hintAt (c .tlb .cache) i) (c .«last_pa») base ram va size) where
     pub load-at-once-is : Holds (q .ends) → (q .reply ≡ stepOf c base ram call .reply) × (kept (q .«last_pa») ≡ stepOf c base ram call .core)
-    unfolding loadQuick stepOf askedOf
+    unfolding loadQuick stepOf missedOf
     load-at-once-is t =
-        rw eq (ends-by (missedOf (c .who .level) base (length ram) (sizedOf size)) (hitIn (hintAt (c .tlb .cache) i) (c .who) va size Read) (hintAt (c .tlb .cache) i)
+        rw eq (ends-by (firstOf (sizedRows (c .who .level) base (length ram) size)) (hitIn (hintAt (c .tlb .cache) i) (c .who) va size Read) (hintAt (c .tlb .cache) i)
         (ap (hintAt (c .tlb .cache)) ei) refl (subst (λ (x : QuickLoad). Holds (x .ends)) eq t))
 
     pub load-goes-on-is : Holds (not (q .ends)) → (r : Reply) (d : Core) → (r ≡ runOf c base ram call .reply) × (d ≡ runOf c base ram call .core)
         → (r ≡ stepOf c base ram call .reply) × (d ≡ stepOf c base ram call .core)
-    unfolding loadQuick stepOf askedOf
+    unfolding loadQuick stepOf missedOf
     load-goes-on-is t r d (er, ed) =
-        let same = goes-by (missedOf (c .who .level) base (length ram) (sizedOf size)) (hitIn (hintAt (c .tlb .cache) i) (c .who) va size Read)
+        let same = goes-by (firstOf (sizedRows (c .who .level) base (length ram) size)) (hitIn (hintAt (c .tlb .cache) i) (c .who) va size Read)
         (readQuick base ram (onPage (hintAt (c .tlb .cache) i .pa) va) size (c .«last_pa»)) (c .«last_pa») (subst (λ (x : QuickLoad). Holds (not (x .ends))) eq t) in
         (er ∙ ap (λ (s : Stepped). s .reply) same, ed ∙ ap (λ (s : Stepped). s .core) same)

@@ -30,7 +30,7 @@ use Rattle.mmu.specs.Core.{movedTo}
 use Rattle.mmu.specs.Step.{translateIn as stepIn}
 use Rattle.mmu.specs.Ops.{steppedNow, translateOf}
 use Rattle.mmu.specs.declared.core.Core.{Core}
-use Rattle.cpu.specs.Check.{plainOf, askedOf, missedOf}
+use Rattle.cpu.specs.Check.{ramRows, firstOf, missedOf}
 use Rattle.cpu.specs.Step.{runOf, stepOf, translation, ends, refusedOr}
 use Rattle.cpu.specs.declared.call.Call.{Call}
 use Rattle.cpu.specs.declared.call.Reply.{Reply}
@@ -169,13 +169,13 @@ module _ (c : Core) (base : ℕ) (ram : List ℕ) (va : ℕ) (kind : Kind) where
 
   module _ (i : ℕ) (q : Quick) (ei : i ≡ hintPlace va kind) (eq : q ≡ quickOf (c .who) (hintAt (c .tlb .cache) i) base (length ram) va kind) where
     pub at-once-is : Holds (q .ends) → (q .reply ≡ stepOf c base ram call .reply) × (c ≡ stepOf c base ram call .core)
-    unfolding quickOf stepOf askedOf
+    unfolding quickOf stepOf missedOf
     at-once-is t =
-        rw eq (ends-by (missedOf (c .who .level) base (length ram) (plainOf true)) (hintServes (hintAt (c .tlb .cache) i) (c .who) va kind) (hintAt (c .tlb .cache) i) (ap (hintAt (c .tlb .cache)) ei) refl (subst (λ (x : Quick). Holds (x .ends)) eq t))
+        rw eq (ends-by (firstOf (ramRows (c .who .level) base (length ram))) (hintServes (hintAt (c .tlb .cache) i) (c .who) va kind) (hintAt (c .tlb .cache) i) (ap (hintAt (c .tlb .cache)) ei) refl (subst (λ (x : Quick). Holds (x .ends)) eq t))
 
     pub goes-on-is : Holds (not (q .ends)) → (r : Reply) (d : Core) → (r ≡ runOf c base ram call .reply) × (d ≡ runOf c base ram call .core)
         → (r ≡ stepOf c base ram call .reply) × (d ≡ stepOf c base ram call .core)
-    unfolding quickOf stepOf askedOf
+    unfolding quickOf stepOf missedOf
     goes-on-is t r d (er, ed) =
-        let same = goes-by (missedOf (c .who .level) base (length ram) (plainOf true)) (hintServes (hintAt (c .tlb .cache) i) (c .who) va kind) (onPage (hintAt (c .tlb .cache) i .pa) va) (subst (λ (x : Quick). Holds (not (x .ends))) eq t) in
+        let same = goes-by (firstOf (ramRows (c .who .level) base (length ram))) (hintServes (hintAt (c .tlb .cache) i) (c .who) va kind) (onPage (hintAt (c .tlb .cache) i .pa) va) (subst (λ (x : Quick). Holds (not (x .ends))) eq t) in
         (er ∙ ap (λ (s : Stepped). s .reply) same, ed ∙ ap (λ (s : Stepped). s .core) same)

@@ -23,7 +23,7 @@ use Rattle.mmu.specs.Ops.{locatedNow, writeOf, ramAfterWrite}
 use Rattle.mmu.specs.Place.{inPage, verdictOf as judged}
 use Rattle.mmu.specs.declared.core.Core.{Core}
 use Rattle.mmu.specs.declared.place.Place.the-variants.{Whole}
-use Rattle.cpu.specs.Check.{sizedOf, askedOf, isWidth, known, passes, missedOf}
+use Rattle.cpu.specs.Check.{isWidth, known, passes, sizedRows, firstOf, missedOf}
 use Rattle.cpu.specs.Step.{runOf, ramOf, stepOf, ramAfter, storeBy, storeRamBy, ends, refusedOr}
 use Rattle.cpu.specs.declared.call.Call.{Call}
 use Rattle.cpu.specs.declared.call.Call.the-variants as Call
@@ -52,15 +52,14 @@ two-zero e = omega (arith, e)
 one-zero : _≡_ {A = ℕ} 1 0 → ⊥
 one-zero e = omega (arith, e)
 
-known-by : (h w k : Bool) → _≡_ {A = ℕ} (pick h 1 (pick w 2 (pick k 0 3))) 0 → k ≡ true
+known-by : (h w k : Bool) → _≡_ {A = ℕ} (pick h 1 (pick w 2 (pick (not k) 3 0))) 0 → k ≡ true
 known-by true w k e = absurd (one-zero e)
 known-by false true k e = absurd (two-zero e)
 known-by false false true e = refl
 known-by false false false e = absurd (three-zero e)
 
-known-of : (level base len size : ℕ) → missedOf level base len (sizedOf size) ≡ 0 → known size ≡ true
-unfolding missedOf registerAt
-known-of level base len size e = known-by (ltb 3 level || ltb 3 0) (true && passes base len) (known size) e
+known-of : (level base len size : ℕ) → firstOf (sizedRows level base len size) ≡ 0 → known size ≡ true
+known-of level base len size e = known-by (ltb 3 level) (passes base len) (known size) e
 
 and-both : (a b : Bool) → (a && b) ≡ true → (a ≡ true) × (b ≡ true)
 and-both true b e = (refl, e)
@@ -136,7 +135,7 @@ module _ (c : Core) (base : ℕ) (ram : List ℕ) (va size value : ℕ) where
       by-hint h w eh (two .0) (two .1) (one .1) ez
 
   -- the checks and the hint, by the number of the first check missed
-  ends-by : (n : ℕ) (fits : Bool) (h : Hint) → h ≡ hintAt (c .tlb .cache) (hintPlace va Write) → missedOf (c .who .level) base (length ram) (sizedOf size) ≡ n
+  ends-by : (n : ℕ) (fits : Bool) (h : Hint) → h ≡ hintAt (c .tlb .cache) (hintPlace va Write) → firstOf (sizedRows (c .who .level) base (length ram) size) ≡ n
       → (hitIn h (c .who) va size Write && within base (length ram) size (onPage (h .pa) va)) ≡ fits → Holds (storeQuickBy n fits (onPage (h .pa) va) .ends)
       → (nowReplyBy (storeQuickBy n fits (onPage (h .pa) va) .refused) ≡ refusedOr n (λ k. ends c (Refused k)) run .reply)
       × (c ≡ refusedOr n (λ k. ends c (Refused k)) run .core)
@@ -153,19 +152,19 @@ module _ (c : Core) (base : ℕ) (ram : List ℕ) (va size value : ℕ) where
   module _ (i : ℕ) (q : QuickStore) (ei : i ≡ hintPlace va Write) (eq : q ≡ storeQuick (c .who) (hintAt (c .tlb .cache) i) base (length ram) va size) where
     pub store-at-once-is : Holds (q .ends) → (r : Reply) (ys : List ℕ) → (r ≡ nowReply q) × (ys ≡ nowRam q base ram size value)
         → (r ≡ stepOf c base ram call .reply) × (c ≡ stepOf c base ram call .core) × (ys ≡ ramAfter c base ram call)
-    unfolding storeQuick stepOf ramAfter askedOf nowRam
+    unfolding storeQuick stepOf ramAfter missedOf nowRam
     store-at-once-is t r ys (er, ey) =
         let h = hintAt (c .tlb .cache) i in
-        let right = ends-by (missedOf (c .who .level) base (length ram) (sizedOf size)) (hitIn h (c .who) va size Write && within base (length ram) size (onPage (h .pa) va)) h
+        let right = ends-by (firstOf (sizedRows (c .who .level) base (length ram) size)) (hitIn h (c .who) va size Write && within base (length ram) size (onPage (h .pa) va)) h
         (ap (hintAt (c .tlb .cache)) ei) refl refl (subst (λ (x : QuickStore). Holds (x .ends)) eq t) in
         (er ∙ ap (λ (x : QuickStore). nowReply x) eq ∙ right .0, right .1, ey ∙ ap (λ (x : QuickStore). nowRam x base ram size value) eq ∙ right .2)
 
     pub store-goes-on-is : Holds (not (q .ends)) → (r : Reply) (d : Core) (ys : List ℕ)
         → (r ≡ runOf c base ram call .reply) × (d ≡ runOf c base ram call .core) × (ys ≡ ramOf c base ram call)
         → (r ≡ stepOf c base ram call .reply) × (d ≡ stepOf c base ram call .core) × (ys ≡ ramAfter c base ram call)
-    unfolding storeQuick stepOf ramAfter askedOf
+    unfolding storeQuick stepOf ramAfter missedOf
     store-goes-on-is t r d ys (er, ed, ey) =
         let h = hintAt (c .tlb .cache) i in
-        let same = goes-by (missedOf (c .who .level) base (length ram) (sizedOf size)) (hitIn h (c .who) va size Write && within base (length ram) size (onPage (h .pa) va)) (onPage (h .pa) va)
+        let same = goes-by (firstOf (sizedRows (c .who .level) base (length ram) size)) (hitIn h (c .who) va size Write && within base (length ram) size (onPage (h .pa) va)) (onPage (h .pa) va)
         (subst (λ (x : QuickStore). Holds (not (x .ends))) eq t) in
         (er ∙ ap (λ (s : Stepped). s .reply) (same .0), ed ∙ ap (λ (s : Stepped). s .core) (same .0), ey ∙ same .1)

@@ -38,7 +38,7 @@ use Rattle.mmu.specs.declared.ends.LoadAnswer.the-variants as Load
 use Rattle.mmu.specs.declared.ends.LoadEnd.{LoadEnd}
 use Rattle.mmu.specs.declared.place.Place.the-variants.{Whole}
 use Rattle.mmu.specs.declared.place.Placed.{Placed}
-use Rattle.cpu.specs.Check.{plainOf, sizedOf, passes, known, missedOf}
+use Rattle.cpu.specs.Check.{passes, known, ramRows, sizedRows, firstOf, missedOf}
 use Rattle.cpu.specs.Step.{loading}
 use Rattle.cpu.specs.declared.call.Reply.{Reply}
 use Rattle.cpu.specs.declared.call.Reply.the-variants.{Refused, Done, Value, Stopped}
@@ -136,49 +136,6 @@ module _ (k : Keys) (x y : Cells) (va size base : ℕ) (ram : List ℕ) (s : Siz
 
 -- THE CHECKS AND THE HINT
 
-one-zero : _≡_ {A = ℕ} 1 0 → ⊥
-one-zero e = omega (arith, e)
-
-two-zero : _≡_ {A = ℕ} 2 0 → ⊥
-two-zero e = omega (arith, e)
-
-module _ (level base len : ℕ) where
-  abbrev high : Bool
-  high = ltb 3 level || ltb 3 0
-
-  abbrev window : Bool
-  window = true && passes base len
-
-  plain-is : missedOf level base len (plainOf true) ≡ pick high 1 (pick window 2 0)
-  unfolding missedOf registerAt
-  plain-is = refl
-
-  sized-is : (size : ℕ) → missedOf level base len (sizedOf size) ≡ pick high 1 (pick window 2 (pick (known size) 0 3))
-  unfolding missedOf registerAt
-  sized-is size = refl
-
-  early : (h w : Bool) (n : ℕ) → (_≡_ {A = ℕ} (pick h 1 (pick w 2 0)) 0 → ⊥) → _≡_ {A = ℕ} (pick h 1 (pick w 2 0)) (pick h 1 (pick w 2 n))
-  early true w n ne = refl
-  early false true n ne = refl
-  early false false n ne = absurd (ne refl)
-
-  late : (h w : Bool) (n : ℕ) → _≡_ {A = ℕ} (pick h 1 (pick w 2 0)) 0 → n ≡ pick h 1 (pick w 2 n)
-  late true w n e = absurd (one-zero e)
-  late false true n e = absurd (two-zero e)
-  late false false n e = refl
-
-  module _ (size n : ℕ) (en : n ≡ missedOf level base len (plainOf true)) where
-    pub sized-early : (n ≡ 0 → ⊥) → n ≡ missedOf level base len (sizedOf size)
-    sized-early ne =
-        en ∙ plain-is ∙ early high window (pick (known size) 0 3) (λ z. ne (en ∙ plain-is ∙ z)) ∙ sym (sized-is size)
-
-    module _ (z : n ≡ 0) (s : Sized) (es : s ≡ widthOf size) where
-      pub sized-some : (w : Width) → s ≡ Bytes w → 0 ≡ missedOf level base len (sizedOf size)
-      sized-some w e = late high window 0 (sym plain-is ∙ sym en ∙ z) ∙ rw (sized-is size, ← es, e)
-
-      pub sized-none : s ≡ NoWidth → 3 ≡ missedOf level base len (sizedOf size)
-      sized-none e = late high window 3 (sym plain-is ∙ sym en ∙ z) ∙ rw (sized-is size, ← es, e)
-
 pub hit-is : (h : Hint) (who : Who) (va size : ℕ) (kind : Kind) (served : Bool) (here : ℕ) → served ≡ hintServes h who va kind → here ≡ inPage va
     → (served && leb size here) ≡ hitIn h who va size kind
 hit-is h who va size kind served here e p = rw (e, p)
@@ -197,7 +154,7 @@ module _ (base : ℕ) (ram : List ℕ) (pa size last : ℕ) (s : Sized) (es : s 
   unfolding readQuick
   read-none e = rw (← es, e)
 
-module _ (who : Who) (h : Hint) (last base : ℕ) (ram : List ℕ) (va size n : ℕ) (en : n ≡ missedOf (who .level) base (length ram) (sizedOf size)) where
+module _ (who : Who) (h : Hint) (last base : ℕ) (ram : List ℕ) (va size n : ℕ) (en : n ≡ firstOf (sizedRows (who .level) base (length ram) size)) where
   pub load-refused : (n ≡ 0 → ⊥) → _≡_ {A = QuickLoad} (record { ends = true; «last_pa» = last; reply = Refused n }) (loadQuick who h last base ram va size)
   unfolding loadQuick
   load-refused ne = rw (← en) (go n ne)

@@ -36,7 +36,7 @@ use Rattle.mmu.specs.declared.ends.FetchAnswer.{FetchAnswer}
 use Rattle.mmu.specs.declared.ends.FetchAnswer.the-variants as Fetched
 use Rattle.mmu.specs.declared.ends.FetchEnd.{FetchEnd}
 use Rattle.mmu.specs.Step.{slotAt}
-use Rattle.cpu.specs.Check.{plainOf, passes, missedOf}
+use Rattle.cpu.specs.Check.{passes, ramRows, firstOf, missedOf}
 use Rattle.cpu.specs.Step.{translation, fetching}
 use Rattle.cpu.specs.declared.call.Reply.{Reply}
 use Rattle.cpu.specs.declared.call.Reply.the-variants.{Refused, Done, Value, Fault, Stopped}
@@ -55,25 +55,6 @@ reply-at va a pa e = rw e
 pub reply-fault : (va : ℕ) (a : Answer) (fsc : ℕ) → a ≡ Status fsc → Fault va fsc ≡ translation va a
 reply-fault va a fsc e = rw e
 
--- the two checks that a translation can miss
-module _ (level base len : ℕ) where
-  pub misses1 : 3 < level → 1 ≡ missedOf level base len (plainOf true)
-  unfolding missedOf
-  misses1 h = rw (lt-ltb 3 level h)
-
-  pub misses-glance : level ≤ 3 → len < 2 ^ 64 → base ≤ 0xFFFF_FFFF_FFFF_FFFF - len → 0 ≡ missedOf level base len (plainOf true)
-  unfolding missedOf registerAt
-  misses-glance h l b = let ends : base + len ≤ 2 ^ 64 = omega arith in rw (le-ltb 3 level h, le-ltb (2 ^ 64) (base + len) ends)
-
-  module _ (past : Bool) (ep : past ≡ passes base len) (h : level ≤ 3) where
-    pub misses2 : past ≡ true → 2 ≡ missedOf level base len (plainOf true)
-    unfolding missedOf
-    misses2 t = rw (le-ltb 3 level h, ← ep, t)
-
-    pub misses-none : past ≡ false → 0 ≡ missedOf level base len (plainOf true)
-    unfolding missedOf registerAt
-    misses-none t = rw (le-ltb 3 level h, ← ep, t)
-
 pub key-is : (c : Control) (who : Who) (va : ℕ) (kind : Kind) (s : Bank) (i j : ℕ) → s ≡ bankOf c (regimeOf (who .level)) → i ≡ hintPlace va kind
     → j ≡ slotAt s (who .level) va → _≡_ {A = Key} (record { who = who; bank = s; hint = i; entry = j }) (keyOf c who va kind)
 key-is c who va kind s i j es ei ej = rw (ej, es, ei)
@@ -82,7 +63,7 @@ pub served-is : (h : Hint) (who : Who) (va : ℕ) (kind : Kind) (may : Bool) (ke
     → (may && eqb (h .key) key) ≡ hintServes h who va kind
 served-is h who va kind may key em ek = rw (em, ek)
 
-module _ (who : Who) (h : Hint) (base len va : ℕ) (kind : Kind) (n : ℕ) (en : n ≡ missedOf (who .level) base len (plainOf true)) where
+module _ (who : Who) (h : Hint) (base len va : ℕ) (kind : Kind) (n : ℕ) (en : n ≡ firstOf (ramRows (who .level) base len)) where
   pub quick-refused : (n ≡ 0 → ⊥) → _≡_ {A = Quick} (record { ends = true; reply = Refused n }) (quickOf who h base len va kind)
   unfolding quickOf
   quick-refused ne = rw (← en) (go n ne)
@@ -108,7 +89,7 @@ turned-is k c va kind memory t y et ey = rw (← et, ey)
 
 -- FETCHES
 
-module _ (who : Who) (f : FetchHint) (base : ℕ) (ram : List ℕ) (va n : ℕ) (en : n ≡ missedOf (who .level) base (length ram) (plainOf true)) where
+module _ (who : Who) (f : FetchHint) (base : ℕ) (ram : List ℕ) (va n : ℕ) (en : n ≡ firstOf (ramRows (who .level) base (length ram))) where
   pub fetch-refused : (n ≡ 0 → ⊥) → _≡_ {A = Quick} (record { ends = true; reply = Refused n }) (fetchQuick who f base ram va)
   unfolding fetchQuick
   fetch-refused ne = rw (← en) (go n ne)

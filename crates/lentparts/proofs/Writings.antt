@@ -22,7 +22,7 @@ use Rattle.mmu.specs.declared.ends.StoreEnd.{StoreEnd}
 use Rattle.mmu.specs.declared.place.Place.the-variants.{Whole}
 use Rattle.mmu.specs.declared.place.Placed.{Placed}
 use Rattle.mmu.specs.declared.place.Placed.the-variants.{At, Fault}
-use Rattle.cpu.specs.Check.{sizedOf, missedOf}
+use Rattle.cpu.specs.Check.{sizedRows, firstOf}
 use Rattle.cpu.specs.Step.{storing}
 use Rattle.cpu.specs.declared.call.Reply.{Reply}
 use Rattle.cpu.specs.declared.call.Reply.the-variants.{Refused, Done, Stopped}
@@ -37,7 +37,7 @@ use Rattle.lentparts.specs.declared.writes.QuickStore.{QuickStore}
 pub store-stopped : (a : StoreAnswer) (s : Stop) → a ≡ Store.Stopped s → Stopped s ≡ storing a
 store-stopped a s e = rw e
 
-module _ (who : Who) (h : Hint) (base len va size n : ℕ) (en : n ≡ missedOf (who .level) base len (sizedOf size)) where
+module _ (who : Who) (h : Hint) (base len va size n : ℕ) (en : n ≡ firstOf (sizedRows (who .level) base len size)) where
   pub quick-missed : (n ≡ 0 → ⊥) → _≡_ {A = QuickStore} (record { ends = true; refused = n; pa = 0 }) (storeQuick who h base len va size)
   unfolding storeQuick
   quick-missed ne = rw (← en) (go n ne)

@@ -31,7 +31,7 @@ use Rattle.mmu.specs.declared.bytes.Got.{Got}
 use Rattle.mmu.specs.declared.bytes.Got.the-variants as Got
 use Rattle.mmu.specs.declared.place.Place.the-variants.{Whole}
 use Rattle.mmu.specs.declared.ends.LoadEnd.{LoadEnd}
-use Rattle.cpu.specs.Check.{sizedOf, missedOf}
+use Rattle.cpu.specs.Check.{sizedRows, firstOf}
 use Rattle.cpu.specs.Step.{loading}
 use Rattle.cpu.specs.declared.call.Reply.{Reply}
 use Rattle.cpu.specs.declared.call.Reply.the-variants.{Refused, Done, Value}
@@ -192,5 +192,5 @@ loadQuickBy (suc n) hit found last = record { ends = true; «last_pa» = last; r
 
 unfoldable pub loadQuick : Who → Hint → ℕ → ℕ → List ℕ → ℕ → ℕ → QuickLoad
 loadQuick who h last base ram va size =
-    loadQuickBy (missedOf (who .level) base (length ram) (sizedOf size)) (hitIn h who va size Read)
+    loadQuickBy (firstOf (sizedRows (who .level) base (length ram) size)) (hitIn h who va size Read)
     (readQuick base ram (onPage (h .pa) va) size last) last

@@ -21,7 +21,7 @@ use Rattle.mmu.specs.declared.bytes.Insn.{Insn}
 use Rattle.mmu.specs.declared.bytes.Insn.the-variants as Insn
 use Rattle.mmu.specs.declared.core.Core.{Core}
 use Rattle.mmu.specs.declared.ends.FetchEnd.{FetchEnd}
-use Rattle.cpu.specs.Check.{plainOf, missedOf}
+use Rattle.cpu.specs.Check.{ramRows, firstOf}
 use Rattle.cpu.specs.Step.{fetching}
 use Rattle.cpu.specs.declared.call.Reply.the-variants.{Refused, Done, Value}
 use Rattle.lentparts.specs.Cells.{coreWith}
@@ -58,7 +58,7 @@ quickFetchBy (suc n) found base ram = record { ends = true; reply = Refused (suc
 
 unfoldable pub fetchQuick : Who → FetchHint → ℕ → List ℕ → ℕ → Quick
 fetchQuick who f base ram va =
-    quickFetchBy (missedOf (who .level) base (length ram) (plainOf true)) (fetchFound f (who .level) va) base ram
+    quickFetchBy (firstOf (ramRows (who .level) base (length ram))) (fetchFound f (who .level) va) base ram
 
 -- a fetch on the cells taken out
 abbrev pub fetchTurnBy : FetchTurned → FetchEnd → FetchTurn

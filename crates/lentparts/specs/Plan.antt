@@ -13,7 +13,7 @@ use Rattle.tlb.specs.declared.access.Who.{Who}
 use Rattle.tlb.specs.declared.hint.Hint.{Hint}
 use Rattle.tlb.specs.declared.turn.Turned.{Turned}
 use Rattle.mmu.specs.Step.{slotAt}
-use Rattle.cpu.specs.Check.{plainOf, missedOf}
+use Rattle.cpu.specs.Check.{ramRows, firstOf}
 use Rattle.cpu.specs.Step.{translation}
 use Rattle.cpu.specs.declared.call.Reply.the-variants.{Refused, Done, Value}
 use Rattle.lentparts.specs.declared.plan.Key.{Key}
@@ -47,7 +47,7 @@ quickBy (suc n) served pa = record { ends = true; reply = Refused (suc n) }
 
 unfoldable pub quickOf : Who → Hint → ℕ → ℕ → ℕ → Kind → Quick
 quickOf who h base len va kind =
-    quickBy (missedOf (who .level) base len (plainOf true)) (hintServes h who va kind) (onPage (h .pa) va)
+    quickBy (firstOf (ramRows (who .level) base len)) (hintServes h who va kind) (onPage (h .pa) va)
 
 -- a translation on the cells taken out
 abbrev pub turnBy : ℕ → Turned → Turn

@@ -13,7 +13,7 @@ use Rattle.mmu.specs.Bytes.{storeRam}
 use Rattle.mmu.specs.Ends.{storeEnd, storeRamEnd}
 use Rattle.mmu.specs.declared.ends.StoreEnd.{StoreEnd}
 use Rattle.mmu.specs.declared.place.Place.the-variants.{Whole}
-use Rattle.cpu.specs.Check.{sizedOf, missedOf}
+use Rattle.cpu.specs.Check.{sizedRows, firstOf}
 use Rattle.cpu.specs.Step.{storing}
 use Rattle.cpu.specs.declared.call.Reply.{Reply}
 use Rattle.cpu.specs.declared.call.Reply.the-variants.{Refused, Done}
@@ -31,7 +31,7 @@ storeQuickBy (suc n) fits pa = record { ends = true; refused = suc n; pa = 0 }
 
 unfoldable pub storeQuick : Who → Hint → ℕ → ℕ → ℕ → ℕ → QuickStore
 storeQuick who h base len va size =
-    storeQuickBy (missedOf (who .level) base len (sizedOf size))
+    storeQuickBy (firstOf (sizedRows (who .level) base len size))
     (hitIn h who va size Write && within base len size (onPage (h .pa) va))
     (onPage (h .pa) va)
 

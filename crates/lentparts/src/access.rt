@@ -1,12 +1,12 @@
 // The work of a load and of a store, on small values: the cells of one page or two are taken out, and put back.
 ghost use mathlib.Core.Path.{_≡_};
 ghost use Rattle.word.specs.Ram.{wordAt};
-ghost use Rattle.cpu.specs.Check.{sizedOf, missedOf};
 ghost use Rattle.cpu.specs.Step.{loading};
 ghost use Rattle.lentparts.specs.Access.{keysOf, another, oneTurn, twoTurns, secondsOf, bothAfter, bothOf, untouchedOf, afterBoth, loadedOf, readQuick, loadQuick};
 use crate::cells::Cells;
 use crate::plan;
 use cpu::call::Reply;
+use cpu::check;
 use mmu::bytes;
 use mmu::bytes::Got;
 use mmu::ends;
@@ -319,20 +319,6 @@ pub fn loaded(k: Keys, x: Cells, y: Cells, va: u64, size: u64, base: u64, ram: &
     }
 }
 
-// The number of the first check that a load or a store misses, or 0.
-pub fn missed(level: u8, base: u64, len: u64, size: u64) -> u8
-    ensures { λ r. ⌜ r ≡ missedOf level base len (sizedOf size) ⌝ }
-{
-    let n = plan::missed(level, base, len);
-    if n != 0 {
-        return n;
-    }
-    match ram::width_of(size) {
-        Sized::Bytes(_) => 0,
-        Sized::Refused => 3,
-    }
-}
-
 // The bytes at pa, or no answer where one lies outside RAM.
 fn read_at(base: u64, ram: &[u8], pa: u64, size: u64, last: u64) -> QuickLoad
     ensures { λ r. ⌜ r ≡ readQuick base (now (ram .entry)) pa size last ⌝ }
@@ -370,7 +356,7 @@ pub fn load_at_once(
 ) -> QuickLoad
     ensures { λ r. ⌜ r ≡ loadQuick who h last base (now (ram .entry)) va size ⌝ }
 {
-    let n = missed(who.level, base, ram.len() as u64, size);
+    let n = check::sized(who.level, base, ram.len() as u64, size);
     if n != 0 {
         return QuickLoad {
             ends: true,

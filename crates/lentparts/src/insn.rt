@@ -7,6 +7,7 @@ use crate::plan;
 use crate::plan::Key;
 use crate::plan::Quick;
 use cpu::call::Reply;
+use cpu::check;
 use entry::exception::Stop;
 use mmu::bytes;
 use mmu::bytes::Insn;
@@ -33,7 +34,7 @@ pub struct FetchTurn {
 pub fn at_once(who: Who, f: FetchHint, base: u64, ram: &[u8], va: u64) -> Quick
     ensures { λ r. ⌜ r ≡ fetchQuick who f base (now (ram .entry)) va ⌝ }
 {
-    let n = plan::missed(who.level, base, ram.len() as u64);
+    let n = check::with_ram(who.level, base, ram.len() as u64);
     if n != 0 {
         return Quick {
             ends: true,

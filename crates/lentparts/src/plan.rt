@@ -1,9 +1,7 @@
 // The work of the entry points, on small values.
 ghost use mathlib.Core.Path.{_≡_};
-ghost use mathlib.Core.Bool.{true};
 ghost use lib.ListN.{length};
 ghost use Rattle.word.specs.Ram.{wordAt};
-ghost use Rattle.cpu.specs.Check.{plainOf, missedOf};
 ghost use Rattle.cpu.specs.Step.{translation};
 ghost use Rattle.lentparts.specs.Access.{bytesOf, secondOf, moreOf, hitIn};
 ghost use Rattle.lentparts.specs.Plan.{hintPlace, keyOf, hintServes, quickOf, turnedOf};
@@ -71,23 +69,6 @@ pub fn key_of(control: Control, who: Who, va: u64, kind: Kind) -> Key
     }
 }
 
-// The number of the first check that a translation misses, or 0.
-pub fn missed(level: u8, base: u64, len: u64) -> u8
-    ensures { λ r. ⌜ r ≡ missedOf level base len (plainOf true) ⌝ }
-{
-    // At a glance: nearly every window ends before the last address.
-    if level <= 3 {
-        if base <= 0xFFFF_FFFF_FFFF_FFFF - len {
-            return 0;
-        }
-    }
-    let past = check::past_end(base, len);
-    if 3 < level {
-        return 1;
-    }
-    if past { 2 } else { 0 }
-}
-
 // Whether the hint serves.
 pub fn served(h: Hint, who: Who, va: u64, kind: Kind) -> bool
     ensures { λ r. ⌜ r ≡ hintServes h who va kind ⌝ }
@@ -101,7 +82,7 @@ pub fn served(h: Hint, who: Who, va: u64, kind: Kind) -> bool
 pub fn at_once(who: Who, h: Hint, base: u64, ram: &[u8], va: u64, kind: Kind) -> Quick
     ensures { λ r. ⌜ r ≡ quickOf who h base (length (now (ram .entry))) va kind ⌝ }
 {
-    let n = missed(who.level, base, ram.len() as u64);
+    let n = check::with_ram(who.level, base, ram.len() as u64);
     if n != 0 {
         return Quick {
             ends: true,

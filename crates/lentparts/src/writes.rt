@@ -11,6 +11,7 @@ use crate::access::Keys;
 use crate::cells::Cells;
 use crate::plan;
 use cpu::call::Reply;
+use cpu::check;
 use mmu::bytes;
 use mmu::ends;
 use mmu::ends::StoreAnswer;
@@ -34,7 +35,7 @@ pub struct QuickStore {
 pub fn at_once(who: Who, h: Hint, base: u64, len: u64, va: u64, size: u64) -> QuickStore
     ensures { λ r. ⌜ r ≡ storeQuick who h base len va size ⌝ }
 {
-    let n = access::missed(who.level, base, len, size);
+    let n = check::sized(who.level, base, len, size);
     if n != 0 {
         return QuickStore {
             ends: true,

@@ -4,8 +4,8 @@ use Rattle.lentparts.proofs.access.load_at_once.Statement.{statement}
 use Rattle.lentparts.proofs.access.load_at_once.Tie as tie
 use Rattle.lentparts.proofs.Accesses.{load-hit, load-none, load-refused}
 
-missed-requires : tie.Need-missed-requires
-missed-requires c κs = search needs
+sized-requires : tie.Need-sized-requires
+sized-requires c κs = search needs
 
 returns : tie.Need-returns
 returns c = search (load-refused, needs)
@@ -29,7 +29,7 @@ pub load-at-once-spec : {M : Type 1} → statement M
 load-at-once-spec =
     tie.close
     (tie.spec
-    missed-requires
+    sized-requires
     returns
     hit-requires
     on-page-requires

@@ -4,8 +4,8 @@ use Rattle.lentparts.proofs.insn.at_once.Statement.{statement}
 use Rattle.lentparts.proofs.insn.at_once.Tie as tie
 use Rattle.lentparts.proofs.Plans.{fetch-none, fetch-outside, fetch-refused, fetch-value}
 
-missed-requires : tie.Need-missed-requires
-missed-requires c κs = search needs
+with-ram-requires : tie.Need-with-ram-requires
+with-ram-requires c κs = search needs
 
 returns : tie.Need-returns
 returns c = search (fetch-refused, needs)
@@ -44,7 +44,7 @@ pub at-once-spec : {M : Type 1} → statement M
 at-once-spec =
     tie.close
     (tie.spec
-    missed-requires
+    with-ram-requires
     returns
     fetch-found-requires
     enum-known-pa

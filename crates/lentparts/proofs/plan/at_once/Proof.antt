@@ -4,8 +4,8 @@ use Rattle.lentparts.proofs.plan.at_once.Statement.{statement}
 use Rattle.lentparts.proofs.plan.at_once.Tie as tie
 use Rattle.lentparts.proofs.Plans.{quick-hint, quick-none, quick-refused}
 
-missed-requires : tie.Need-missed-requires
-missed-requires c κs = search needs
+with-ram-requires : tie.Need-with-ram-requires
+with-ram-requires c κs = search needs
 
 returns : tie.Need-returns
 returns c = search (quick-refused, needs)
@@ -25,4 +25,4 @@ returns-3 c = search (quick-none, needs)
 pub at-once-spec : {M : Type 1} → statement M
 at-once-spec =
     tie.close
-    (tie.spec missed-requires returns served-requires on-page-requires returns-2 returns-3)
+    (tie.spec with-ram-requires returns served-requires on-page-requires returns-2 returns-3)

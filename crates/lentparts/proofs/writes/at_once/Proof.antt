@@ -4,8 +4,8 @@ use Rattle.lentparts.proofs.writes.at_once.Statement.{statement}
 use Rattle.lentparts.proofs.writes.at_once.Tie as tie
 use Rattle.lentparts.proofs.Writings.{quick-missed, quick-on}
 
-missed-requires : tie.Need-missed-requires
-missed-requires c κs = search needs
+sized-requires : tie.Need-sized-requires
+sized-requires c κs = search needs
 
 returns : tie.Need-returns
 returns c = search (quick-missed, needs)
@@ -25,4 +25,4 @@ returns-2 c = search (quick-on, needs)
 pub at-once-spec : {M : Type 1} → statement M
 at-once-spec =
     tie.close
-    (tie.spec missed-requires returns hit-requires on-page-requires inside-requires returns-2)
+    (tie.spec sized-requires returns hit-requires on-page-requires inside-requires returns-2)
