@@ -18,7 +18,7 @@ use Rattle.tlb.specs.declared.Tlb.{Tlb}
 use Rattle.mmu.specs.Core.{movedTo, bankNow}
 use Rattle.mmu.specs.Place.{placedOne, judged}
 use Rattle.mmu.specs.Ends.{storeEnd}
-use Rattle.mmu.specs.Step.{stepOf}
+use Rattle.mmu.specs.Step.{translateIn}
 use Rattle.mmu.specs.Ops.{steppedNow, translateOf, storedBy, writeAfter, writeOf, ramAfterWrite}
 use Rattle.mmu.specs.BytesLaws.{stored-length}
 use Rattle.mmu.specs.declared.core.Core.{Core}
@@ -46,7 +46,7 @@ module _ (base : ℕ) (ram : List ℕ) (n pa : ℕ) (low : base ≤ pa) (high : 
 module _ (c : Core) (base : ℕ) (ram : List ℕ) (a pa : ℕ) (even : a % 8 ≡ 0) (t : translateOf c (wordAt base ram 8) a Write ≡ addressed c pa)
     (w : within base (length ram) 8 pa ≡ true) where
   abbrev step : Stepped
-  step = stepOf (bankNow c) (c .who) (wordAt base ram 8) a Write (c .tlb)
+  step = translateIn (bankNow c) (c .who) (wordAt base ram 8) a Write (c .tlb)
 
   its-answer : step .answer ≡ Address pa
   unfolding translateOf steppedNow
