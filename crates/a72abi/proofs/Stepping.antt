@@ -25,7 +25,7 @@ use Rattle.insys.specs.Early.{never}
 use Rattle.a72abi.specs.Ops.{abortCall, markCall}
 use Rattle.a72abi.specs.Promise.{Promise, Setting, Runs}
 use Rattle.a72abi.specs.Replies.{codeBy}
-use Rattle.a72abi.proofs.Booking.{refused-reply, abort-reply}
+use Rattle.a72abi.proofs.Booking.{refused-reply, run-reply}
 use Rattle.a72abi.specs.declared.op.Calls.{Calls}
 use Rattle.a72abi.specs.declared.op.Calls.the-variants as Calls
 use Rattle.a72abi.specs.declared.op.Exceptions.{Exceptions}
@@ -238,7 +238,8 @@ module _ (ws xs : List ℕ) (x : Exception) (n : ℕ) (p : Exceptions) (q : p �
 
   -- Done where no check is missed, and else the number of the check
   by-number : (m : ℕ) → m ≡ missedOf (held ws .who .level) 0 0 (Call.Abort x) → m ≤ 6 → said ≡ refusedOr m Refused Done
-  by-number zero e h = sym (abort-reply ws 0 [] x 0 e refl)
+  unfolding runOf
+  by-number zero e h = sym (run-reply ws 0 [] (Call.Abort x) 0 e refl Done refl)
   by-number (suc m) e h = sym (refused-reply ws 0 [] (Call.Abort x) (suc m) e (λ z. omega arith))
 
   abbrev number : ℕ

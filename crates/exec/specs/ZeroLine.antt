@@ -16,7 +16,7 @@ use Rattle.tlb.specs.declared.access.Answer.{Answer}
 use Rattle.tlb.specs.declared.access.Answer.the-variants.{Address}
 use Rattle.tlb.specs.declared.Tlb.{Tlb}
 use Rattle.mmu.specs.Core.{movedTo, bankNow}
-use Rattle.mmu.specs.Place.{placedOne, judged}
+use Rattle.mmu.specs.Place.{placedOne, verdictOf}
 use Rattle.mmu.specs.Ends.{storeEnd}
 use Rattle.mmu.specs.Step.{translateIn}
 use Rattle.mmu.specs.Ops.{steppedNow, translateOf, storedBy, writeAfter, writeOf, ramAfterWrite}
@@ -57,7 +57,7 @@ module _ (c : Core) (base : ℕ) (ram : List ℕ) (a pa : ℕ) (even : a % 8 ≡
   its-tlb = ap (λ (x : Translated). x .core .tlb) t
 
   put : storedBy c (c .tlb) (storeEnd (placedOne a (Address pa)) (c .«abort_pa») base ram a 8) ≡ doneWith c
-  unfolding storeEnd judged movedTo
+  unfolding storeEnd verdictOf movedTo
   put = rw w
 
   pub write-steady : writeOf c base ram a 8 ≡ doneWith c
