@@ -1,6 +1,7 @@
 -- The cases of a translation's definition, on plain values, for `search`.
 use mathlib.Core.Path.{_≡_, refl, sym, ap, _∙_}
 use mathlib.Core.Bool.{Bool, true, false, not, _&&_, _||_}
+use borrow.Author.Tests.{ne-eqb}
 use Prim.Native.Nat.{ℕ}
 use lib.Dec.{eqb}
 use lib.Bits.{bitOr}
@@ -17,7 +18,7 @@ use Rattle.walk.specs.declared.level.Walked.the-variants.{Mapped, Fault}
 use Rattle.tlb.specs.Entry.{blank, serves}
 use Rattle.tlb.specs.Hint.{onPage, hintKey, hintFor, fetchFor, fetchFound}
 use Rattle.tlb.specs.Count.{hitCounted, walkCounted}
-use Rattle.tlb.specs.Access.{isFetch, mayHint, userOf, tagOf, rightOf, hasRight, judged}
+use Rattle.tlb.specs.Access.{isFetch, mayHint, asUser, userOf, tagOf, rightOf, hasRight, judged}
 use Rattle.tlb.specs.Resolve.{askOf, entryFor, byWalk, resolveWith, resolveOf, changesOf, countedBy, keptBy, hintAfter, fetchAfter}
 use Rattle.tlb.specs.Turn.{missOf, applied, turnWith, turnOf, fetchApplied, fetchEnd, fetchWith, fetchOf, changes-are}
 use Rattle.tlb.specs.declared.entry.Entry.{Entry}
@@ -42,9 +43,14 @@ use Rattle.tlb.specs.declared.resolve.Resolved.{Resolved}
 pub hinting : (who : Who) (kind : Kind) (f : Bool) → f ≡ isFetch kind → not f && not (who .mark) ≡ mayHint who kind
 hinting who kind f e = rw e
 
-pub as-user : (r : Regime) (who : Who) (kind : Kind) (f : Bool) → f ≡ isFetch kind → r ≡ El1
-    → eqb (who .level) 0 || (who .mark && not f) ≡ userOf r who kind
-as-user r who kind f e g = rw (g, e)
+pub as-own : (who : Who) (kind : Kind) → who .level ≡ 0 → true ≡ asUser who kind
+as-own who kind e = rw e
+
+pub as-marked : (who : Who) (kind : Kind) (f : Bool) → (who .level ≡ 0 → ⊥) → f ≡ isFetch kind → (who .mark && not f) ≡ asUser who kind
+as-marked who kind f ne e = rw (ne-eqb (who .level) 0 ne, e)
+
+pub as-user : (r : Regime) (who : Who) (kind : Kind) (u : Bool) → u ≡ asUser who kind → r ≡ El1 → u ≡ userOf r who kind
+as-user r who kind u e g = rw (g, e)
 
 module _ (e : Entry) (user : Bool) (kind : Kind) (va right : ℕ) (er : right ≡ rightOf kind user) where
   pub allowed : hasRight (e .perms) right ≡ true → Address (onPage (e .pa) va) ≡ judged e user kind va

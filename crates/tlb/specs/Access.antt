@@ -33,9 +33,13 @@ ifTwoRanges El1 b = b
 ifTwoRanges El2 b = false
 ifTwoRanges El3 b = false
 
--- in regime 1: at EL0, or under the mark unless it is a fetch
+-- at EL0, or under the mark unless it is a fetch
+abbrev pub asUser : Who → Kind → Bool
+asUser who kind = eqb (who .level) 0 || (who .mark && not (isFetch kind))
+
+-- in regime 1 alone
 abbrev pub userOf : Regime → Who → Kind → Bool
-userOf r who kind = ifTwoRanges r (eqb (who .level) 0 || (who .mark && not (isFetch kind)))
+userOf r who kind = ifTwoRanges r (asUser who kind)
 
 -- the untagged page times 4 plus the regime
 abbrev pub tagOf : Regime → ℕ → ℕ
@@ -46,10 +50,13 @@ abbrev pub ownRights : Bool → ℕ
 ownRights true = 0
 ownRights false = 3
 
+abbrev pub rightPlace : Kind → ℕ
+rightPlace Read = 0
+rightPlace Write = 1
+rightPlace Fetch = 2
+
 abbrev pub rightOf : Kind → Bool → ℕ
-rightOf Read user = ownRights user
-rightOf Write user = ownRights user + 1
-rightOf Fetch user = ownRights user + 2
+rightOf kind user = ownRights user + rightPlace kind
 
 abbrev pub hasRight : ℕ → ℕ → Bool
 hasRight perms right = eqb (perms / 2 ^ right % 2) 1

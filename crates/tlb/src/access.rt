@@ -1,7 +1,7 @@
 // An access: what it wants, who makes it, what it needs, and its answer.
 ghost use mathlib.Core.Path.{_≡_};
 ghost use Prim.Native.Nat.{_≤_};
-ghost use Rattle.tlb.specs.Access.{isFetch, mayHint, regimeNumber, tagOf, userOf, ownRights, rightOf, judged};
+ghost use Rattle.tlb.specs.Access.{isFetch, mayHint, regimeNumber, tagOf, asUser, userOf, ownRights, rightPlace, rightOf, judged};
 use crate::entry::Entry;
 use walk::regime::Regime;
 
@@ -60,14 +60,24 @@ pub fn tag_of(regime: Regime, va: u64) -> u64
     va / 4096 * 4 + n
 }
 
+// EL0's own accesses, and data accesses that count as its.
+fn as_user(who: Who, kind: Kind) -> bool
+    ensures { λ r. ⌜ r ≡ asUser who kind ⌝ }
+{
+    if who.level == 0 {
+        true
+    } else {
+        let fetch = is_fetch(kind);
+        who.mark & !fetch
+    }
+}
+
 // Whether the access is judged by EL0's rights.
 pub fn user_of(regime: Regime, who: Who, kind: Kind) -> bool
     ensures { λ r. ⌜ r ≡ userOf regime who kind ⌝ }
 {
-    let fetch = is_fetch(kind);
-    let as_user = (who.level == 0) | (who.mark & !fetch);
     match regime {
-        Regime::El1 => as_user,
+        Regime::El1 => as_user(who, kind),
         Regime::El2 => false,
         Regime::El3 => false,
     }
@@ -81,17 +91,26 @@ fn own_rights(user: bool) -> u8
     if user { 0 } else { 3 }
 }
 
+// A kind's place among three rights.
+fn right_place(kind: Kind) -> u8
+    ensures { λ r. ⌜ r ≡ rightPlace kind ⌝ }
+    ensures { λ r. ⌜ r ≤ 2 ⌝ }
+{
+    match kind {
+        Kind::Read => 0,
+        Kind::Write => 1,
+        Kind::Fetch => 2,
+    }
+}
+
 // The bit among an entry's rights that the access needs.
 pub fn right_of(kind: Kind, user: bool) -> u8
     ensures { λ r. ⌜ r ≡ rightOf kind user ⌝ }
     ensures { λ r. ⌜ r ≤ 5 ⌝ }
 {
     let own = own_rights(user);
-    match kind {
-        Kind::Read => own,
-        Kind::Write => own + 1,
-        Kind::Fetch => own + 2,
-    }
+    let place = right_place(kind);
+    own + place
 }
 
 // The entry's page, if it has the right that the access needs.

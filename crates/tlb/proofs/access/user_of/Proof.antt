@@ -4,11 +4,11 @@ use borrow.Author.Needs.{needs}
 use Rattle.tlb.proofs.access.user_of.Statement.{statement}
 use Rattle.tlb.proofs.access.user_of.Tie as tie
 
-is-fetch-requires : tie.Need-is-fetch-requires
-is-fetch-requires c κs = search needs
-
 enum-told : tie.Need-enum-told
 enum-told c = search needs
+
+as-user-requires : tie.Need-as-user-requires
+as-user-requires c κs = search needs
 
 enum-told-2 : tie.Need-enum-told-2
 enum-told-2 c = search needs
@@ -28,4 +28,4 @@ returns-3 c = search needs
 pub user-of-spec : {M : Type 1} → statement M
 user-of-spec =
     tie.close
-    (tie.spec is-fetch-requires enum-told enum-told-2 enum-told-3 returns returns-2 returns-3)
+    (tie.spec enum-told as-user-requires enum-told-2 enum-told-3 returns returns-2 returns-3)
