@@ -1,16 +1,10 @@
 // A reply as a number and a word, and as four words.
 ghost use mathlib.Core.Path.{_≡_};
-ghost use Rattle.word.specs.Bits.{flag};
 ghost use Rattle.a72abi.specs.Replies.{exceptionCode, stopCode, codeBy, exceptionValue, stopValue, valueBy, exceptionWords, stopWords, wordsBy};
 use cpu::call::Reply;
 use entry::exception::Exception;
 use entry::exception::Stop;
-
-fn one(on: bool) -> u64
-    ensures { λ r. ⌜ r ≡ flag on 1 ⌝ }
-{
-    if on { 1 } else { 0 }
-}
+use word::bits;
 
 // The number of an exception that stops an operation, and the address of a data abort.
 fn told(e: Exception, ans: &mut u64) -> u64
@@ -77,7 +71,7 @@ fn exception_words(e: Exception) -> [u64; 4]
 {
     match e {
         Exception::DataAbort { addr, write, fsc } => {
-            let w = one(write);
+            let w = bits::flag_word(write);
             [9, addr, fsc as u64, w]
         }
         Exception::InsnAbort { addr, fsc } => [10, addr, fsc as u64, 0],

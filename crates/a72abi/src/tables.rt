@@ -1,13 +1,13 @@
 // One walk of the tables, of registers and RAM that the caller lends. A number other than 0 writes no word of the leaf.
 ghost use mathlib.Core.Path.{_≡_};
 ghost use Prim.Native.Nat.{_+_};
-ghost use Rattle.word.specs.Bits.{flag};
 ghost use Rattle.a72abi.specs.Walk.{bankAt, regimeAt, leafAfter, walkCode, walkWords};
 use cpu::check;
 use walk::level::Leaf;
 use walk::level::Walked;
 use walk::regime::Bank;
 use walk::regime::Regime;
+use word::bits;
 
 // A regime by its number, or none.
 enum Named {
@@ -40,17 +40,11 @@ fn bank_at(words: &[u64; 6]) -> Bank
     }
 }
 
-fn flag_word(on: bool) -> u64
-    ensures { λ r. ⌜ r ≡ flag on 1 ⌝ }
-{
-    if on { 1 } else { 0 }
-}
-
 // The leaf as five words: output address, descriptor, permission byte, level, and 1 where it holds for every ASID.
 fn put_leaf(out: &mut [u64; 5], leaf: Leaf)
     ensures { λ _. ⌜ now (out .exit) ≡ leafAfter leaf ⌝ }
 {
-    let global = flag_word(leaf.global);
+    let global = bits::flag_word(leaf.global);
     *out = [
         leaf.oa,
         leaf.desc,

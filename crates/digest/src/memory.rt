@@ -6,23 +6,21 @@ ghost use Rattle.word.specs.Ram.{littleEndian};
 ghost use Rattle.digest.specs.Fold.{digestFrom, digestOf, gathered};
 ghost use Rattle.digest.specs.Window.{wholeWord, windowWords};
 use crate::fold;
+use word::bits;
 use word::ram;
 use word::ram::Width;
 use word::ram::Word;
-
-fn wide(x: u8) -> u64
-    ensures { λ r. ⌜ r ≡ x ⌝ }
-    ensures { λ r. ⌜ r ≤ 255 ⌝ }
-{
-    x as u64
-}
 
 // A byte, 0 past the last.
 fn byte_at(ram: &[u8], at: usize) -> u64
     ensures { λ r. ⌜ r ≡ getD (now (ram .entry)) at 0 ⌝ }
     ensures { λ r. ⌜ r ≤ 255 ⌝ }
 {
-    if at < ram.len() { wide(ram[at]) } else { 0 }
+    if at < ram.len() {
+        bits::wide(ram[at])
+    } else {
+        0
+    }
 }
 
 // Two, four and eight bytes, the lowest first: each joins two of the last.

@@ -1,12 +1,12 @@
 // The digests of a core's words.
 ghost use mathlib.Core.Path.{_≡_};
 ghost use mathlib.Core.List.{[], _∷_};
-ghost use Rattle.word.specs.Bits.{flag};
 ghost use Rattle.words.specs.Held.{held};
 ghost use Rattle.digest.specs.Fold.{digestFrom, digestOf, gathered};
 ghost use Rattle.digest.specs.Parts.{registerWords, recordWords, entryWords, entriesWords, hintWords, fetchWords, hintsWords};
 use crate::fold;
 use tlb::entry::Entry;
+use word::bits;
 use words::cells;
 use words::counts;
 use words::place::State;
@@ -57,18 +57,12 @@ pub fn registers(state: &State) -> u64
     h
 }
 
-fn one(on: bool) -> u64
-    ensures { λ r. ⌜ r ≡ flag on 1 ⌝ }
-{
-    if on { 1 } else { 0 }
-}
-
 // A digest with the slot of an entry, and the entry.
 fn with_entry(digest: u64, slot: u64, e: Entry) -> u64
     ensures { λ r. ⌜ r ≡ digestFrom digest (recordWords slot e) ⌝ }
 {
     let h = joined_three(digest, slot, e.tag, e.perms as u64);
-    let global = one(e.global);
+    let global = bits::flag_word(e.global);
     let k = joined_three(h, e.level as u64, global, e.asid as u64);
     fold::join(k, e.pa)
 }

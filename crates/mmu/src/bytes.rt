@@ -10,6 +10,7 @@ use crate::place;
 use crate::place::Pages;
 use crate::place::Place;
 use crate::place::Verdict;
+use word::bits;
 use word::ram;
 use word::ram::Width;
 use word::ram::Word;
@@ -26,19 +27,12 @@ pub enum Insn {
     Outside,
 }
 
-fn wide(x: u8) -> u64
-    ensures { λ r. ⌜ r ≡ x ⌝ }
-    ensures { λ r. ⌜ r ≤ 255 ⌝ }
-{
-    x as u64
-}
-
 fn byte(ram: &[u8], at: usize) -> u64
     requires { ⌜ at < length (now ram) ⌝ }
     ensures { λ r. ⌜ r ≡ getD (now (ram .entry)) at 0 ⌝ }
     ensures { λ r. ⌜ r ≤ 255 ⌝ }
 {
-    wide(ram[at])
+    bits::wide(ram[at])
 }
 
 // The byte at pa, 0 outside RAM.

@@ -4,6 +4,7 @@ ghost use mathlib.Core.Path.{_≡_};
 ghost use Prim.Native.Nat.{ℕ, _+_, _≤_};
 ghost use lib.ListN.{length};
 ghost use Rattle.word.specs.Ram.{littleEndian, bytesOf, bytesIn, within, wordAt, written, stored, widthOf};
+use crate::bits;
 
 // How many bytes an access moves.
 pub enum Width {
@@ -50,20 +51,13 @@ pub fn bytes_in(width: Width) -> u64
     }
 }
 
-fn wide(x: u8) -> u64
-    ensures { λ r. ⌜ r ≡ x ⌝ }
-    ensures { λ r. ⌜ r ≤ 255 ⌝ }
-{
-    x as u64
-}
-
 // The value of one, two, four and eight bytes from at, the lowest first: each joins two of the last, and the whole becomes one load.
 pub(crate) fn le1(ram: &[u8], at: usize) -> u64
     requires { ⌜ at + 1 ≤ length (now ram) ⌝ }
     ensures { λ r. ⌜ r ≡ littleEndian (now (ram .entry)) 1 at ⌝ }
     ensures { λ r. ⌜ r ≤ 0xFF ⌝ }
 {
-    wide(ram[at])
+    bits::wide(ram[at])
 }
 
 pub(crate) fn le2(ram: &[u8], at: usize) -> u64

@@ -8,12 +8,12 @@ ghost use Rattle.words.specs.Moved.{Moved};
 ghost use Rattle.words.specs.EntryWrites.{attributes};
 use crate::place;
 use crate::place::State;
-use crate::state::one;
 use crate::state::whole;
 use tlb::entry::Entry;
 use tlb::hint;
 use tlb::hint::FetchHint;
 use tlb::hint::Hint;
+use word::bits;
 
 // A data hint, none past the last.
 pub fn hint_at(state: &State, i: usize) -> Hint
@@ -54,7 +54,7 @@ pub fn put_fetch(state: &mut State, f: FetchHint)
     ensures { λ _. ⌜ Moved (now (state .entry)) (now (state .exit)) (withFetchHint (held (now (state .entry))) f) ⌝ }
 {
     whole(state);
-    let some = one(f.some);
+    let some = bits::flag_word(f.some);
     state[place::FETCH] = some;
     state[place::FETCH_PAGE] = f.page;
     state[place::FETCH_LEVEL] = f.level as u64;
@@ -92,7 +92,7 @@ pub fn entry_at(state: &State, j: usize) -> Entry
 fn attributes_of(e: Entry) -> u64
     ensures { λ r. ⌜ r ≡ attributes e ⌝ }
 {
-    let g = one(e.global);
+    let g = bits::flag_word(e.global);
     e.perms as u64 + e.level as u64 * 256 + g * 65536 + e.asid as u64 * 0x1_0000_0000
 }
 

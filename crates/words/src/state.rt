@@ -1,8 +1,6 @@
 // The level and the mark, PSTATE, the PC, the general registers, and the physical addresses kept.
 ghost use mathlib.Core.Path.{_≡_};
-ghost use Prim.Native.Nat.{_≤_};
 ghost use lib.ListN.{length};
-ghost use Rattle.word.specs.Bits.{flag};
 ghost use Rattle.entry.specs.Entry.{entryFlags};
 ghost use Rattle.mmu.specs.Core.{regOf, setReg};
 ghost use Rattle.words.specs.Held.{levelIn, held};
@@ -13,20 +11,13 @@ use crate::place::State;
 use entry::flags::DAIF_ALL;
 use entry::flags::Flags;
 use tlb::access::Who;
+use word::bits;
 
 // An array has as many words as its type says: what a slice of it tells a proof.
 pub fn whole(state: &State)
     ensures { λ _. ⌜ length (now (state .entry)) ≡ 5205 ⌝ }
 {
     let _words: &[u64] = state;
-}
-
-// A flag as a word.
-pub(crate) fn one(on: bool) -> u64
-    ensures { λ r. ⌜ r ≡ flag on 1 ⌝ }
-    ensures { λ r. ⌜ r ≤ 1 ⌝ }
-{
-    if on { 1 } else { 0 }
 }
 
 // A level that no byte holds reads as 255, which check 1 refuses like every level above 3.
@@ -57,7 +48,7 @@ pub fn put_mark(state: &mut State, mark: bool)
     ensures { λ _. ⌜ Moved (now (state .entry)) (now (state .exit)) (withWho (held (now (state .entry))) (record { level = held (now (state .entry)) .who .level; mark = mark })) ⌝ }
 {
     whole(state);
-    let word = one(mark);
+    let word = bits::flag_word(mark);
     state[place::UNPRIVILEGED] = word;
 }
 

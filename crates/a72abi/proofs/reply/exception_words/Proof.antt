@@ -7,8 +7,8 @@ use Rattle.a72abi.proofs.reply.exception_words.Tie as tie
 enum-known-e : tie.Need-enum-known-e
 enum-known-e c = search needs
 
-one-requires : tie.Need-one-requires
-one-requires c κs = search needs
+flag-word-requires : tie.Need-flag-word-requires
+flag-word-requires c κs = search needs
 
 cast-t9 : tie.Need-cast-t9
 cast-t9 c = search needs
@@ -66,7 +66,7 @@ exception-words-spec =
     tie.close
     (tie.spec
     enum-known-e
-    one-requires
+    flag-word-requires
     cast-t9
     enum-known-e-2
     cast-t10

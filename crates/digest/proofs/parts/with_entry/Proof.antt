@@ -10,8 +10,8 @@ cast-joined-three c = search needs
 joined-three-requires : tie.Need-joined-three-requires
 joined-three-requires c κs = search needs
 
-one-requires : tie.Need-one-requires
-one-requires c κs = search needs
+flag-word-requires : tie.Need-flag-word-requires
+flag-word-requires c κs = search needs
 
 cast-joined-three-2 : tie.Need-cast-joined-three-2
 cast-joined-three-2 c = search needs
@@ -34,7 +34,7 @@ with-entry-spec =
     (tie.spec
     cast-joined-three
     joined-three-requires
-    one-requires
+    flag-word-requires
     cast-joined-three-2
     cast-joined-three-3
     joined-three-requires-2

@@ -4,8 +4,8 @@ use borrow.Author.Needs.{needs}
 use Rattle.words.proofs.cells.attributes_of.Statement.{statement}
 use Rattle.words.proofs.cells.attributes_of.Tie as tie
 
-one-requires : tie.Need-one-requires
-one-requires c κs = search needs
+flag-word-requires : tie.Need-flag-word-requires
+flag-word-requires c κs = search needs
 
 cast-result : tie.Need-cast-result
 cast-result c = search needs
@@ -42,7 +42,7 @@ pub attributes-of-spec : {M : Type 1} → statement M
 attributes-of-spec =
     tie.close
     (tie.spec
-    one-requires
+    flag-word-requires
     cast-result
     cast-result-2
     mul-result

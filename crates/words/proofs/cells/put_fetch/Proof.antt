@@ -7,8 +7,8 @@ use Rattle.words.proofs.cells.put_fetch.Tie as tie
 whole-requires : tie.Need-whole-requires
 whole-requires c κs = search needs
 
-one-requires : tie.Need-one-requires
-one-requires c κs = search needs
+flag-word-requires : tie.Need-flag-word-requires
+flag-word-requires c κs = search needs
 
 element-write-state : tie.Need-element-write-state
 element-write-state c = search needs
@@ -33,7 +33,7 @@ put-fetch-spec =
     tie.close
     (tie.spec
     whole-requires
-    one-requires
+    flag-word-requires
     element-write-state
     element-write-state-2
     cast-state

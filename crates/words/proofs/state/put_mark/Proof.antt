@@ -7,8 +7,8 @@ use Rattle.words.proofs.state.put_mark.Tie as tie
 whole-requires : tie.Need-whole-requires
 whole-requires c κs = search needs
 
-one-requires : tie.Need-one-requires
-one-requires c κs = search needs
+flag-word-requires : tie.Need-flag-word-requires
+flag-word-requires c κs = search needs
 
 element-write-state : tie.Need-element-write-state
 element-write-state c = search needs
@@ -17,4 +17,4 @@ returns : tie.Need-returns
 returns c = search (mark-put, needs)
 
 pub put-mark-spec : {M : Type 1} → statement M
-put-mark-spec = tie.close (tie.spec whole-requires one-requires element-write-state returns)
+put-mark-spec = tie.close (tie.spec whole-requires flag-word-requires element-write-state returns)
