@@ -123,7 +123,8 @@ pub fn at_once(who: Who, h: Hint, base: u64, ram: &[u8], va: u64, kind: Kind) ->
     }
 }
 
-fn reply_of(va: u64, answer: Answer) -> Reply
+// The reply of a translation's answer.
+pub fn reply_of(va: u64, answer: Answer) -> Reply
     ensures { λ r. ⌜ r ≡ translation va answer ⌝ }
 {
     match answer {
