@@ -18,6 +18,9 @@ use Rattle.lentparts.proofs.access.Keys.Laws as KS′
 use Rattle.lentparts.proofs.access.Access.Laws as AC′
 use Rattle.lentparts.proofs.access.QuickLoad.Laws as QL′
 use Rattle.lentparts.proofs.writes.QuickStore.Laws as QS′
+use Rattle.lentparts.proofs.change.Hinted.Laws as HI′
+use Rattle.lentparts.proofs.change.Change.Laws as CH′
+use Rattle.lentparts.proofs.change.Translated.Laws as TR′
 use Rattle.lentparts.proofs.Fields.{skip}
 
 pub key-hint : fieldOf KE′.mir 2 ≡ some (tyInt w64, 56)
@@ -109,3 +112,15 @@ quickload-reply = skip tyBool (tcons (tyInt w64) (tcons Y′.mir tnil)) 1 0 1 re
 
 pub quickstore-ends : fieldOf QS′.mir 0 ≡ some (tyBool, 0)
 quickstore-ends = refl
+
+pub hinted-who : fieldOf HI′.mir 0 ≡ some (Q′.mir, 0)
+hinted-who = refl
+
+pub hinted-hint : fieldOf HI′.mir 1 ≡ some (E′.mir, 8)
+hinted-hint = refl
+
+pub translated-change : fieldOf TR′.mir 0 ≡ some (CH′.mir, 0)
+translated-change = refl
+
+pub translated-reply : fieldOf TR′.mir 1 ≡ some (Y′.mir, 72)
+translated-reply = refl
