@@ -10,7 +10,6 @@ use Rattle.tlb.proofs.entry.Entry.Laws as F′
 use Rattle.tlb.proofs.hint.Hint.Laws as E′
 use Rattle.cpu.proofs.call.Reply.Laws as Y′
 use Rattle.lentparts.proofs.plan.Key.Laws as KE′
-use Rattle.lentparts.proofs.plan.Turn.Laws as TU′
 use Rattle.lentparts.proofs.plan.Quick.Laws as QU′
 use Rattle.tlb.proofs.hint.FetchHint.Laws as X′
 use Rattle.lentparts.proofs.insn.FetchTurn.Laws as FT′
@@ -28,18 +27,6 @@ key-hint = skip Q′.mir (tcons BA′.mir (tcons (tyInt w64) (tcons (tyInt w64) 
 
 pub key-entry : fieldOf KE′.mir 3 ≡ some (tyInt w64, 64)
 key-entry = skip Q′.mir (tcons BA′.mir (tcons (tyInt w64) (tcons (tyInt w64) tnil))) 2 0 2 refl (skip BA′.mir (tcons (tyInt w64) (tcons (tyInt w64) tnil)) 1 2 56 refl (skip (tyInt w64) (tcons (tyInt w64) tnil) 0 56 64 refl refl))
-
-pub turn-counts : fieldOf TU′.mir 0 ≡ some (N′.mir, 0)
-turn-counts = refl
-
-pub turn-hint : fieldOf TU′.mir 1 ≡ some (E′.mir, 40)
-turn-hint = skip N′.mir (tcons E′.mir (tcons F′.mir (tcons Y′.mir tnil))) 0 0 40 refl refl
-
-pub turn-entry : fieldOf TU′.mir 2 ≡ some (F′.mir, 56)
-turn-entry = skip N′.mir (tcons E′.mir (tcons F′.mir (tcons Y′.mir tnil))) 1 0 40 refl (skip E′.mir (tcons F′.mir (tcons Y′.mir tnil)) 0 40 56 refl refl)
-
-pub turn-reply : fieldOf TU′.mir 3 ≡ some (Y′.mir, 88)
-turn-reply = skip N′.mir (tcons E′.mir (tcons F′.mir (tcons Y′.mir tnil))) 2 0 40 refl (skip E′.mir (tcons F′.mir (tcons Y′.mir tnil)) 1 40 56 refl (skip F′.mir (tcons Y′.mir tnil) 0 56 88 refl refl))
 
 pub quick-ends : fieldOf QU′.mir 0 ≡ some (tyBool, 0)
 quick-ends = refl

@@ -11,7 +11,6 @@ use Rattle.word.specs.Bits.{pick}
 use Rattle.word.specs.Ram.{wordAt}
 use Rattle.word.specs.declared.ram.Word.{Word}
 use Rattle.walk.specs.declared.level.Walked.{Walked}
-use Rattle.walk.specs.declared.level.Walked.the-variants.{Mapped, Fault}
 use Rattle.walk.specs.declared.regime.Regime.{Regime}
 use Rattle.tlb.specs.Entry.{serves, blank}
 use Rattle.tlb.specs.Hint.{placeOf, dataSlot, noHint, onPage, hintFor}
