@@ -10,7 +10,6 @@ use Rattle.tlb.proofs.entry.Entry.Laws as F′
 use Rattle.tlb.proofs.hint.Hint.Laws as E′
 use Rattle.cpu.proofs.call.Reply.Laws as Y′
 use Rattle.lentparts.proofs.plan.Key.Laws as KE′
-use Rattle.lentparts.proofs.plan.Turn.Laws as TU′
 use Rattle.lentparts.proofs.plan.Quick.Laws as QU′
 use Rattle.tlb.proofs.hint.FetchHint.Laws as X′
 use Rattle.lentparts.proofs.insn.FetchTurn.Laws as FT′
@@ -18,6 +17,9 @@ use Rattle.lentparts.proofs.access.Keys.Laws as KS′
 use Rattle.lentparts.proofs.access.Access.Laws as AC′
 use Rattle.lentparts.proofs.access.QuickLoad.Laws as QL′
 use Rattle.lentparts.proofs.writes.QuickStore.Laws as QS′
+use Rattle.lentparts.proofs.change.Hinted.Laws as HI′
+use Rattle.lentparts.proofs.change.Change.Laws as CH′
+use Rattle.lentparts.proofs.change.Translated.Laws as TR′
 use Rattle.lentparts.proofs.Fields.{skip}
 
 pub key-hint : fieldOf KE′.mir 2 ≡ some (tyInt w64, 56)
@@ -25,18 +27,6 @@ key-hint = skip Q′.mir (tcons BA′.mir (tcons (tyInt w64) (tcons (tyInt w64) 
 
 pub key-entry : fieldOf KE′.mir 3 ≡ some (tyInt w64, 64)
 key-entry = skip Q′.mir (tcons BA′.mir (tcons (tyInt w64) (tcons (tyInt w64) tnil))) 2 0 2 refl (skip BA′.mir (tcons (tyInt w64) (tcons (tyInt w64) tnil)) 1 2 56 refl (skip (tyInt w64) (tcons (tyInt w64) tnil) 0 56 64 refl refl))
-
-pub turn-counts : fieldOf TU′.mir 0 ≡ some (N′.mir, 0)
-turn-counts = refl
-
-pub turn-hint : fieldOf TU′.mir 1 ≡ some (E′.mir, 40)
-turn-hint = skip N′.mir (tcons E′.mir (tcons F′.mir (tcons Y′.mir tnil))) 0 0 40 refl refl
-
-pub turn-entry : fieldOf TU′.mir 2 ≡ some (F′.mir, 56)
-turn-entry = skip N′.mir (tcons E′.mir (tcons F′.mir (tcons Y′.mir tnil))) 1 0 40 refl (skip E′.mir (tcons F′.mir (tcons Y′.mir tnil)) 0 40 56 refl refl)
-
-pub turn-reply : fieldOf TU′.mir 3 ≡ some (Y′.mir, 88)
-turn-reply = skip N′.mir (tcons E′.mir (tcons F′.mir (tcons Y′.mir tnil))) 2 0 40 refl (skip E′.mir (tcons F′.mir (tcons Y′.mir tnil)) 1 40 56 refl (skip F′.mir (tcons Y′.mir tnil) 0 56 88 refl refl))
 
 pub quick-ends : fieldOf QU′.mir 0 ≡ some (tyBool, 0)
 quick-ends = refl
@@ -109,3 +99,15 @@ quickload-reply = skip tyBool (tcons (tyInt w64) (tcons Y′.mir tnil)) 1 0 1 re
 
 pub quickstore-ends : fieldOf QS′.mir 0 ≡ some (tyBool, 0)
 quickstore-ends = refl
+
+pub hinted-who : fieldOf HI′.mir 0 ≡ some (Q′.mir, 0)
+hinted-who = refl
+
+pub hinted-hint : fieldOf HI′.mir 1 ≡ some (E′.mir, 8)
+hinted-hint = refl
+
+pub translated-change : fieldOf TR′.mir 0 ≡ some (CH′.mir, 0)
+translated-change = refl
+
+pub translated-reply : fieldOf TR′.mir 1 ≡ some (Y′.mir, 72)
+translated-reply = refl

@@ -1,9 +1,9 @@
 -- What the stores of an entry point leave is the operation's core, on plain values.
 use mathlib.Core.Path.{_≡_, refl, sym, subst, ap, _∙_}
-use mathlib.Core.Bool.{Bool, true, false, not}
+use mathlib.Core.Bool.{Bool, true, false, not, _&&_}
 use lib.Dec.{T as Holds}
 use mathlib.Core.List.{List}
-use Prim.Native.Nat.{ℕ, zero, suc, _/_, _<_}
+use Prim.Native.Nat.{ℕ, zero, suc, _/_, _%_, _<_}
 use native.Mathlib.Omega.{arith}
 use lib.ListN.{length, set}
 use lib.Seq.{set-getD}
@@ -12,8 +12,16 @@ use Rattle.word.specs.declared.ram.Word.{Word}
 use Rattle.walk.specs.declared.level.Walked.{Walked}
 use Rattle.walk.specs.declared.regime.Regime.{Regime}
 use Rattle.tlb.specs.Entry.{serves, blank}
-use Rattle.tlb.specs.Hint.{placeOf, dataSlot, noHint, onPage}
-use Rattle.tlb.specs.Turn.{applied, turnWith, turnOf}
+use Rattle.tlb.specs.Hint.{placeOf, dataSlot, noHint, onPage, hintFor}
+use Rattle.tlb.specs.Turn.{applied, missWith, missOf, changes-are, turnWith, turnOf}
+use Rattle.tlb.specs.Access.{mayHint}
+use Rattle.tlb.specs.Resolve.{askOf, byItself, countedBy, keptBy, hintAfter}
+use Rattle.tlb.specs.declared.resolve.Asked.{Asked}
+use Rattle.tlb.specs.declared.resolve.Asked.the-variants.{Flat, Of}
+use Rattle.tlb.specs.declared.resolve.Resolved.{Resolved}
+use Rattle.tlb.specs.declared.resolve.Source.{Source}
+use Rattle.walk.specs.Regime.{bankOf, regimeOf, stage1On}
+use Rattle.walk.specs.declared.regime.Bank.{Bank}
 use Rattle.tlb.specs.Cache.{hintAt, entryAt}
 use Rattle.tlb.specs.Tlb.{moved}
 use Rattle.tlb.specs.declared.access.Kind.{Kind}
@@ -23,8 +31,9 @@ use Rattle.tlb.specs.declared.count.Counts.{Counts}
 use Rattle.tlb.specs.declared.entry.Entry.{Entry}
 use Rattle.tlb.specs.declared.entry.Present.{Present}
 use Rattle.tlb.specs.declared.hint.Hint.{Hint}
-use Rattle.tlb.specs.declared.access.Answer.the-variants.{Address}
-use Rattle.tlb.specs.declared.resolve.Source.the-variants.{FromHint}
+use Rattle.tlb.specs.declared.access.Answer.{Answer}
+use Rattle.tlb.specs.declared.access.Answer.the-variants.{Address, Status}
+use Rattle.tlb.specs.declared.resolve.Source.the-variants.{FromHint, FromFlat, FromEntry, FromWalk, NoLeaf}
 use Rattle.tlb.specs.declared.turn.Turned.{Turned}
 use Rattle.mmu.specs.Core.{movedTo}
 use Rattle.mmu.specs.Step.{translateIn as stepIn}
@@ -37,12 +46,15 @@ use Rattle.cpu.specs.declared.call.Reply.{Reply}
 use Rattle.cpu.specs.declared.call.Reply.the-variants.{Refused, Value}
 use Rattle.cpu.specs.declared.call.Stepped.{Stepped}
 use Rattle.cpu.specs.declared.call.Call.the-variants as Call
-use Rattle.lentparts.specs.Plan.{hintPlace, hintServes, quickBy, quickOf, turnBy, turnedOf}
-use Rattle.lentparts.specs.Cells.{keyIn, cellsIn, coreWith, putIn}
-use Rattle.lentparts.specs.declared.cells.Cells.{Cells}
+use Rattle.lentparts.specs.Plan.{hintPlace, hintServes, quickBy, quickOf}
+use Rattle.lentparts.specs.Change.{entryPlace, lookupIn, hintedIn, pageIn, effectOf, countedAs, keptAs, allowed, addressOf, missBy, changeOf, translatedOf, commitAt, commitIn}
+use Rattle.lentparts.specs.declared.change.Change.{Change}
+use Rattle.lentparts.specs.declared.change.Hinted.{Hinted}
+use Rattle.lentparts.specs.declared.change.Page.{Page}
+use Rattle.lentparts.specs.declared.change.Translated.{Translated}
+use Rattle.lentparts.specs.Cells.{keyIn, coreWith, partsIn, putIn}
 use Rattle.lentparts.specs.declared.plan.Key.{Key}
 use Rattle.lentparts.specs.declared.plan.Quick.{Quick}
-use Rattle.lentparts.specs.declared.plan.Turn.{Turn}
 
 -- a read's and a write's hint has its own place below 512
 place-small : (page : ℕ) → placeOf page < 256
@@ -113,18 +125,6 @@ module _ (c : Core) (memory : ℕ → Word) (va : ℕ) where
 pub key-within : (c : Core) (va : ℕ) (kind : Kind) (k : Key) → k ≡ keyIn c va kind → (k .hint < 512) × (k .entry < 1024)
 key-within c va kind k e = rw e (omega arith, omega arith)
 
--- the key, the cells, the turn and the stores, put together
-pub run-is : (c : Core) (base : ℕ) (ram : List ℕ) (va : ℕ) (kind : Kind) (k : Key) (c₁ : Core) (x : Cells) (c₂ : Core) (t : Turn) (d : Core)
-    → (k ≡ keyIn c va kind) × (c₁ ≡ c) → (x ≡ cellsIn c₁ (k .hint) (k .entry)) × (c₂ ≡ c₁) → t ≡ turnedOf k x va kind (wordAt base ram 8)
-    → d ≡ putIn c₂ (k .hint) (k .entry) (t .counts) (t .hint) (t .entry)
-    → (t .reply ≡ runOf c base ram (Call.Translate kind va) .reply) × (d ≡ runOf c base ram (Call.Translate kind va) .core)
-unfolding runOf turnedOf
-run-is c base ram va kind k c₁ x c₂ t d (ek, e₁) (ex, e₂) et ed =
-    let is : t ≡ turnBy va (turnAt c (wordAt base ram 8) va kind (hintPlace va kind)) = et ∙ rw (ex, e₁, ek) in (
-      ap (λ (u : Turn). u .reply) is ∙ translated c (wordAt base ram 8) va kind .0,
-      ed ∙ rw (e₂, e₁, ek, is) (translated c (wordAt base ram 8) va kind .1),
-    )
-
 pub place-within : (va : ℕ) (kind : Kind) (i : ℕ) → i ≡ hintPlace va kind → i < 512
 place-within va kind i e = rw e (omega arith)
 
@@ -179,3 +179,140 @@ module _ (c : Core) (base : ℕ) (ram : List ℕ) (va : ℕ) (kind : Kind) where
     goes-on-is t r d (er, ed) =
         let same = goes-by (firstOf (ramRows (c .who .level) base (length ram))) (hintServes (hintAt (c .tlb .cache) i) (c .who) va kind) (onPage (hintAt (c .tlb .cache) i .pa) va) (subst (λ (x : Quick). Holds (not (x .ends))) eq t) in
         (er ∙ ap (λ (s : Stepped). s .reply) same, ed ∙ ap (λ (s : Stepped). s .core) same)
+
+-- WHAT A TRANSLATION CHANGES
+
+counted-as : (s : Source) (k : Counts) → countedAs (effectOf s) k ≡ countedBy s k
+counted-as FromHint k = refl
+counted-as FromFlat k = refl
+counted-as FromEntry k = refl
+counted-as FromWalk k = refl
+counted-as NoLeaf k = refl
+
+kept-as : (s : Source) (old made : Entry) → keptAs (effectOf s) old made ≡ keptBy s old made
+kept-as FromHint old made = refl
+kept-as FromFlat old made = refl
+kept-as FromEntry old made = refl
+kept-as FromWalk old made = refl
+kept-as NoLeaf old made = refl
+
+hint-as : (may : Bool) (level va : ℕ) (a : Answer) (h : Hint) → pick (may && allowed a) (hintFor va level (addressOf a)) h ≡ hintAfter may level va a h
+hint-as true level va (Address pa) h = refl
+hint-as true level va (Status code) h = refl
+hint-as false level va (Address pa) h = refl
+hint-as false level va (Status code) h = refl
+
+module _ (c : Core) (memory : ℕ → Word) (va : ℕ) (kind : Kind) where
+  abbrev bank : Bank
+  bank = bankOf (c .control) (regimeOf (c .who .level))
+
+  abbrev i₀ : ℕ
+  i₀ = hintPlace va kind
+
+  abbrev changes : Resolved → ℕ → Change
+  changes t j = changeOf (record { who = c .who; bank = bank; asked = askOf bank (c .who) va; hint = i₀; entry = j }) t va kind
+
+  abbrev misses : ℕ → Resolved
+  misses j = missOf bank (c .who) (c .tlb .cache .present) (entryAt (c .tlb .cache) j) va kind memory
+
+  -- what is stored is the changes applied
+  stored-is : (t : Resolved) (j : ℕ) → commitAt c i₀ j (changes t j)
+      ≡ putIn c i₀ j (countedBy (t .source) (c .tlb .counts)) (hintAfter (mayHint (c .who) kind) (c .who .level) va (t .answer) (hintAt (c .tlb .cache) i₀)) (keptBy (t .source) (entryAt (c .tlb .cache) j) (t .made))
+  stored-is t j =
+      λ n.
+      putIn c i₀ j (counted-as (t .source) (c .tlb .counts) n) (hint-as (mayHint (c .who) kind) (c .who .level) va (t .answer) (hintAt (c .tlb .cache) i₀) n)
+      (kept-as (t .source) (entryAt (c .tlb .cache) j) (t .made) n)
+
+  -- an access that no hint serves
+  module _ (none : hintServes (hintAt (c .tlb .cache) i₀) (c .who) va kind ≡ false) where
+    turn-is : turnAt c memory va kind i₀
+        ≡ applied (misses (slot c memory va kind)) (mayHint (c .who) kind) (c .who .level) (c .tlb .counts) (hintAt (c .tlb .cache) i₀) (entryAt (c .tlb .cache) (slot c memory va kind)) va
+    unfolding turnOf turnWith missOf
+    turn-is = rw none
+
+    -- with the entry of its own slot
+    abbrev Right′ : ℕ → Resolved → Type 0
+    Right′ j t = (translation va (t .answer) ≡ translation va (translateOf c memory va kind .answer)) × (commitAt c i₀ j (changes t j) ≡ translateOf c memory va kind .core)
+
+    at-slot : Right′ (slot c memory va kind) (misses (slot c memory va kind))
+    unfolding applied
+    at-slot =
+        let right = translated c memory va kind in (
+          ap (λ (t : Turned). translation va (t .answer)) (sym turn-is) ∙ right .0,
+          stored-is (misses (slot c memory va kind)) (slot c memory va kind) ∙ ap (λ (t : Turned). putIn c i₀ (slot c memory va kind) (t .counts) (t .hint) (t .entry)) (sym turn-is) ∙ right .1,
+        )
+
+    -- with stage 1 off no entry is stored, whatever its place
+    flat-core : (j : ℕ) (h : Hint) → putIn c i₀ j (c .tlb .counts) h (entryAt (c .tlb .cache) j) ≡ partsIn c (c .tlb .cache .fetch) (c .tlb .counts) (set (c .tlb .cache .hints) i₀ h) (c .tlb .cache .entries) (c .«last_pa») (c .«abort_pa»)
+    flat-core j h = ap (λ es. partsIn c (c .tlb .cache .fetch) (c .tlb .counts) (set (c .tlb .cache .hints) i₀ h) es (c .«last_pa») (c .«abort_pa»)) (set-getD (c .tlb .cache .entries) j blank)
+
+    -- the place of the entry that is asked
+    abbrev j₀ : ℕ
+    j₀ = entryPlace (askOf bank (c .who) va)
+
+    place-on : stage1On bank (regimeOf (c .who .level)) ≡ true → j₀ ≡ slot c memory va kind
+    unfolding askOf
+    place-on e = rw e
+
+    flat-miss : (j : ℕ) → stage1On bank (regimeOf (c .who .level)) ≡ false → misses j ≡ byItself va
+    unfolding missOf missWith
+    flat-miss j e = rw e
+
+    abbrev flat-hint : Hint
+    flat-hint = pick (mayHint (c .who) kind && true) (hintFor va (c .who .level) va) (hintAt (c .tlb .cache) i₀)
+
+    by-stage : (on : Bool) → stage1On bank (regimeOf (c .who .level)) ≡ on → Right′ j₀ (misses j₀)
+    by-stage true e = subst (λ (j : ℕ). Right′ j (misses j)) (sym (place-on e)) at-slot
+    by-stage false e = (
+      ap (λ (t : Resolved). translation va (t .answer)) (flat-miss j₀ e ∙ sym (flat-miss (slot c memory va kind) e)) ∙ at-slot .0,
+      ap (λ (t : Resolved). commitAt c i₀ j₀ (changes t j₀)) (flat-miss j₀ e) ∙ flat-core j₀ flat-hint ∙ sym (flat-core (slot c memory va kind) flat-hint)
+          ∙ ap (λ (t : Resolved). commitAt c i₀ (slot c memory va kind) (changes t (slot c memory va kind))) (sym (flat-miss (slot c memory va kind) e)) ∙ at-slot .1,
+    )
+
+place-mod : (a : Asked) → entryPlace a % 1024 ≡ entryPlace a
+place-mod Flat = refl
+place-mod (Of q) = omega arith
+
+hint-mod : (va : ℕ) (kind : Kind) → hintPlace va kind % 512 ≡ hintPlace va kind
+hint-mod va kind = omega arith
+
+-- what a translation changes, stored, is the call's core
+changes-run : (c : Core) (base : ℕ) (ram : List ℕ) (va : ℕ) (kind : Kind) → hintServes (hintAt (c .tlb .cache) (hintPlace va kind)) (c .who) va kind ≡ false
+    → (translatedOf (pageIn c va kind) va kind (wordAt base ram 8) .reply ≡ runOf c base ram (Call.Translate kind va) .reply)
+    × (commitIn c (translatedOf (pageIn c va kind) va kind (wordAt base ram 8) .change) ≡ runOf c base ram (Call.Translate kind va) .core)
+unfolding runOf translatedOf missBy
+changes-run c base ram va kind none =
+    let right = by-stage c (wordAt base ram 8) va kind none (stage1On (bank c (wordAt base ram 8) va kind) (regimeOf (c .who .level))) refl in
+    let same = changes-are (bank c (wordAt base ram 8) va kind) (c .who) (c .tlb .cache .present) (pageIn c va kind .entry) va kind (wordAt base ram 8) in (
+      ap (λ (t : Resolved). translation va (t .answer)) same ∙ right .0,
+      (λ n. commitAt c (hint-mod va kind n) (place-mod (lookupIn c va kind .asked) n) (translatedOf (pageIn c va kind) va kind (wordAt base ram 8) .change))
+          ∙ ap (λ (t : Resolved). commitAt c (hintPlace va kind) (lookupIn c va kind .entry) (changeOf (lookupIn c va kind) t va kind)) same ∙ right .1,
+    )
+
+none-served : (n : ℕ) (b : Bool) (pa : ℕ) → Holds (not (quickBy n b pa .ends)) → b ≡ false
+none-served zero true pa t = absurd t
+none-served zero false pa t = refl
+none-served (suc n) b pa t = absurd t
+
+unserved : (c : Core) (base len va : ℕ) (kind : Kind) (h : Hint) → Holds (not (quickOf (c .who) h base len va kind .ends)) → hintServes h (c .who) va kind ≡ false
+unfolding quickOf
+unserved c base len va kind h t = none-served (firstOf (ramRows (c .who .level) base len)) (hintServes h (c .who) va kind) (onPage (h .pa) va) t
+
+pub ended-is : (c : Core) (base : ℕ) (ram : List ℕ) (va : ℕ) (kind : Kind) (g : Hinted) (c₁ : Core) (q : Quick) → (g ≡ hintedIn c va kind) × (c₁ ≡ c)
+    → q ≡ quickOf (g .who) (g .hint) base (length ram) va kind → Holds (q .ends) → (q .reply ≡ stepOf c base ram (Call.Translate kind va) .reply) × (c₁ ≡ stepOf c base ram (Call.Translate kind va) .core)
+ended-is c base ram va kind g c₁ q eg er t =
+    let h = at-once-is c base ram va kind (hintPlace va kind) q refl (er ∙ ap (λ (x : Hinted). quickOf (x .who) (x .hint) base (length ram) va kind) (eg .0)) t in (h .0, eg .1 ∙ h .1)
+
+pub committed-is : (c : Core) (base : ℕ) (ram : List ℕ) (va : ℕ) (kind : Kind) (g : Hinted) (c₁ : Core) (q : Quick) (p : Page) (c₂ : Core) (s : Translated) (c₃ : Core)
+    → (g ≡ hintedIn c va kind) × (c₁ ≡ c) → q ≡ quickOf (g .who) (g .hint) base (length ram) va kind → Holds (not (q .ends)) → (p ≡ pageIn c₁ va kind) × (c₂ ≡ c₁)
+    → s ≡ translatedOf p va kind (wordAt base ram 8) → c₃ ≡ commitIn c₂ (s .change)
+    → (s .reply ≡ stepOf c base ram (Call.Translate kind va) .reply) × (c₃ ≡ stepOf c base ram (Call.Translate kind va) .core)
+committed-is c base ram va kind g c₁ q p c₂ s c₃ eg er t ep es ec =
+    let quick = er ∙ ap (λ (x : Hinted). quickOf (x .who) (x .hint) base (length ram) va kind) (eg .0) in
+    let none = unserved c base (length ram) va kind (hintAt (c .tlb .cache) (hintPlace va kind)) (subst (λ (x : Quick). Holds (not (x .ends))) quick t) in
+    let same = es ∙ ap (λ (x : Page). translatedOf x va kind (wordAt base ram 8)) (ep .0 ∙ ap (λ (d : Core). pageIn d va kind) (eg .1)) in
+    let run = changes-run c base ram va kind none in
+    goes-on-is c base ram va kind (hintPlace va kind) q refl quick t (s .reply) c₃ (
+      ap (λ (x : Translated). x .reply) same ∙ run .0,
+      ec ∙ (λ n. commitIn ((ep .1 ∙ eg .1) n) (same n .change)) ∙ run .1,
+    )

@@ -2,7 +2,7 @@
 use mathlib.Core.Path.{_≡_, refl, ap, _∙_}
 use mathlib.Core.Option.{Option, some}
 use Prim.Native.Nat.{ℕ, suc, _+_}
-use mir.Syntax.{Ty, Tys, tnil, tcons, w64, tyInt, tyArray}
+use mir.Syntax.{Ty, Tys, tnil, tcons, w8, w64, tyInt, tyBool, tyArray}
 use prog.Memory.{align, size, up, fieldAt, fieldOf}
 use Rattle.mmu.proofs.core.Core.Laws as T′
 use Rattle.entry.proofs.flags.Flags.Laws as G′
@@ -17,6 +17,8 @@ use Rattle.tlb.proofs.entry.Present.Laws as P′
 use Rattle.tlb.proofs.entry.Entry.Laws as F′
 use Rattle.tlb.proofs.hint.Hint.Laws as E′
 use Rattle.tlb.proofs.hint.FetchHint.Laws as X′
+use Rattle.lentparts.proofs.change.Lookup.Laws as LO′
+use Rattle.lentparts.proofs.change.Change.Laws as CH′
 
 -- a field that comes after another, which ends at e′
 pub skip : (τ : Ty) (τs : Tys) {r : Option (Ty × ℕ)} (k e e′ : ℕ) → up (align τ) e + size τ ≡ e′ → fieldAt e′ τs k ≡ r → fieldAt e (tcons τ τs) (suc k) ≡ r
@@ -54,3 +56,29 @@ cache-hints = skip P′.mir (tcons X′.mir (tcons (tyArray E′.mir 512) (tcons
 
 pub cache-entries : fieldOf K′.mir 3 ≡ some (tyArray F′.mir 1024, 8232)
 cache-entries = skip P′.mir (tcons X′.mir (tcons (tyArray E′.mir 512) (tcons (tyArray F′.mir 1024) tnil))) 2 0 8 refl (skip X′.mir (tcons (tyArray E′.mir 512) (tcons (tyArray F′.mir 1024) tnil)) 1 8 40 refl (skip (tyArray E′.mir 512) (tcons (tyArray F′.mir 1024) tnil) 0 40 8232 refl refl))
+
+-- the places that a lookup found
+pub lookup-hint : fieldOf LO′.mir 3 ≡ some (tyInt w64, 88)
+lookup-hint = refl
+
+pub lookup-entry : fieldOf LO′.mir 4 ≡ some (tyInt w64, 96)
+lookup-entry = refl
+
+-- what a change holds
+pub change-hint-at : fieldOf CH′.mir 0 ≡ some (tyInt w64, 0)
+change-hint-at = refl
+
+pub change-entry-at : fieldOf CH′.mir 1 ≡ some (tyInt w64, 8)
+change-entry-at = refl
+
+pub change-effect : fieldOf CH′.mir 2 ≡ some (tyInt w8, 16)
+change-effect = refl
+
+pub change-hints : fieldOf CH′.mir 3 ≡ some (tyBool, 17)
+change-hints = refl
+
+pub change-hint : fieldOf CH′.mir 4 ≡ some (E′.mir, 24)
+change-hint = refl
+
+pub change-made : fieldOf CH′.mir 5 ≡ some (F′.mir, 40)
+change-made = refl

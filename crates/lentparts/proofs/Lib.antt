@@ -1,4 +1,6 @@
 pub mod Plans
+pub mod Changes
+pub mod Calling
 pub mod InPlace
 pub mod Parts
 pub mod Fields

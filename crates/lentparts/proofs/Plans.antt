@@ -8,14 +8,13 @@ use mathlib.Core.List.{List}
 use lib.Dec.{eqb}
 use lib.ListN.{length}
 use Rattle.word.specs.Ram.{wordAt}
-use Rattle.word.specs.declared.ram.Word.{Word}
 use Rattle.sysreg.specs.Encoding.{registerAt}
 use Rattle.sysreg.specs.declared.regs.Control.{Control}
 use Rattle.walk.specs.Regime.{bankOf, regimeOf}
 use Rattle.walk.specs.declared.regime.Bank.{Bank}
 use Rattle.tlb.specs.Access.{mayHint}
 use Rattle.tlb.specs.Hint.{hintKey, onPage, fetchFound}
-use Rattle.tlb.specs.Turn.{turnOf, fetchOf}
+use Rattle.tlb.specs.Turn.{fetchOf}
 use Rattle.tlb.specs.declared.access.Answer.{Answer}
 use Rattle.tlb.specs.declared.access.Answer.the-variants.{Address, Status}
 use Rattle.tlb.specs.declared.access.Kind.{Kind}
@@ -40,14 +39,12 @@ use Rattle.cpu.specs.Check.{passes, ramRows, firstOf, missedOf}
 use Rattle.cpu.specs.Step.{translation, fetching}
 use Rattle.cpu.specs.declared.call.Reply.{Reply}
 use Rattle.cpu.specs.declared.call.Reply.the-variants.{Refused, Done, Value, Fault, Stopped}
-use Rattle.lentparts.specs.Plan.{hintPlace, keyOf, hintServes, quickBy, quickOf, turnedOf}
+use Rattle.lentparts.specs.Plan.{hintPlace, keyOf, hintServes, quickBy, quickOf}
 use Rattle.lentparts.specs.Fetch.{quickFetchBy, fetchQuick, fetchedOf}
-use Rattle.lentparts.specs.declared.cells.Cells.{Cells}
 use Rattle.lentparts.specs.declared.cells.FetchCells.{FetchCells}
 use Rattle.lentparts.specs.declared.insn.FetchTurn.{FetchTurn}
 use Rattle.lentparts.specs.declared.plan.Key.{Key}
 use Rattle.lentparts.specs.declared.plan.Quick.{Quick}
-use Rattle.lentparts.specs.declared.plan.Turn.{Turn}
 
 pub reply-at : (va : ℕ) (a : Answer) (pa : ℕ) → a ≡ Address pa → Value pa ≡ translation va a
 reply-at va a pa e = rw e
@@ -80,12 +77,6 @@ module _ (who : Who) (h : Hint) (base len va : ℕ) (kind : Kind) (n : ℕ) (en 
     pub quick-none : hit ≡ false → _≡_ {A = Quick} (record { ends = false; reply = Done }) (quickOf who h base len va kind)
     unfolding quickOf
     quick-none t = rw (← en, z, ← eh, t)
-
-pub turned-is : (k : Key) (c : Cells) (va : ℕ) (kind : Kind) (memory : ℕ → Word) (t : Turned) (y : Reply)
-    → t ≡ turnOf (k .bank) (k .who) (c .present) (c .counts) (c .hint) (c .entry) va kind memory → y ≡ translation va (t .answer)
-    → _≡_ {A = Turn} (record { counts = t .counts; hint = t .hint; entry = t .entry; reply = y }) (turnedOf k c va kind memory)
-unfolding turnedOf
-turned-is k c va kind memory t y et ey = rw (← et, ey)
 
 -- FETCHES
 

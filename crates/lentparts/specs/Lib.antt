@@ -4,3 +4,4 @@ pub mod Cells
 pub mod Fetch
 pub mod Access
 pub mod Writes
+pub mod Change

@@ -2,24 +2,18 @@
 use mathlib.Core.Bool.{Bool, true, false, _&&_}
 use Prim.Native.Nat.{ℕ, zero, suc, _%_}
 use lib.Dec.{eqb}
-use Rattle.word.specs.declared.ram.Word.{Word}
 use Rattle.sysreg.specs.declared.regs.Control.{Control}
 use Rattle.walk.specs.Regime.{bankOf, regimeOf}
 use Rattle.tlb.specs.Access.{mayHint}
 use Rattle.tlb.specs.Hint.{dataSlot, hintKey, onPage}
-use Rattle.tlb.specs.Turn.{turnOf}
 use Rattle.tlb.specs.declared.access.Kind.{Kind}
 use Rattle.tlb.specs.declared.access.Who.{Who}
 use Rattle.tlb.specs.declared.hint.Hint.{Hint}
-use Rattle.tlb.specs.declared.turn.Turned.{Turned}
 use Rattle.mmu.specs.Step.{slotAt}
 use Rattle.cpu.specs.Check.{ramRows, firstOf}
-use Rattle.cpu.specs.Step.{translation}
 use Rattle.cpu.specs.declared.call.Reply.the-variants.{Refused, Done, Value}
 use Rattle.lentparts.specs.declared.plan.Key.{Key}
 use Rattle.lentparts.specs.declared.plan.Quick.{Quick}
-use Rattle.lentparts.specs.declared.plan.Turn.{Turn}
-use Rattle.lentparts.specs.declared.cells.Cells.{Cells}
 
 -- the place of an address's hint; a fetch has none, and reads any
 abbrev pub hintPlace : ℕ → Kind → ℕ
@@ -48,11 +42,3 @@ quickBy (suc n) served pa = record { ends = true; reply = Refused (suc n) }
 unfoldable pub quickOf : Who → Hint → ℕ → ℕ → ℕ → Kind → Quick
 quickOf who h base len va kind =
     quickBy (firstOf (ramRows (who .level) base len)) (hintServes h who va kind) (onPage (h .pa) va)
-
--- a translation on the cells taken out
-abbrev pub turnBy : ℕ → Turned → Turn
-turnBy va t = record { counts = t .counts; hint = t .hint; entry = t .entry; reply = translation va (t .answer) }
-
-unfoldable pub turnedOf : Key → Cells → ℕ → Kind → (ℕ → Word) → Turn
-turnedOf k c va kind memory =
-    turnBy va (turnOf (k .bank) (k .who) (c .present) (c .counts) (c .hint) (c .entry) va kind memory)

@@ -2,10 +2,16 @@
 ghost use mathlib.Core.Path.{_≡_};
 ghost use Prim.Native.Nat.{_<_};
 ghost use Rattle.lentparts.specs.Cells.{cellsIn, putIn, putLastIn};
+ghost use Rattle.lentparts.specs.Change.{hintedIn, pageIn, commitIn};
 ghost use Rattle.lentparts.specs.Fetch.{fetchCellsIn, putFetchIn};
 use cells::Cells;
 use cells::FetchCells;
+use change::Change;
+use change::Hinted;
+use change::Page;
 use mmu::core::Core;
+use tlb::access::Kind;
+use tlb::count;
 use tlb::count::Counts;
 use tlb::entry::Entry;
 use tlb::hint::FetchHint;
@@ -13,6 +19,7 @@ use tlb::hint::Hint;
 
 pub mod access;
 pub mod cells;
+pub mod change;
 pub mod insn;
 pub mod plan;
 pub mod writes;
@@ -100,4 +107,57 @@ pub fn put_last(
     core.tlb.cache.hints[i] = hint;
     core.last_pa = last;
     core.abort_pa = abort;
+}
+
+// Who asks, and the hint that may serve it.
+pub fn take_hint(core: &mut Core, va: u64, kind: Kind) -> Hinted
+    ensures { λ r. ⌜ (r ≡ hintedIn (now (core .entry)) va kind) × (now (core .exit) ≡ now (core .entry)) ⌝ }
+{
+    let who = core.who;
+    let i = plan::hint_place(va, kind);
+    let hint = core.tlb.cache.hints[i];
+    Hinted { who, hint }
+}
+
+// What a page's translation reads.
+pub fn take_page(core: &mut Core, va: u64, kind: Kind) -> Page
+    ensures { λ r. ⌜ (r ≡ pageIn (now (core .entry)) va kind) × (now (core .exit) ≡ now (core .entry)) ⌝ }
+{
+    let who = core.who;
+    let control = core.control;
+    let k = change::lookup_of(control, who, va, kind);
+    let present = core.tlb.cache.present;
+    let hint = core.tlb.cache.hints[k.hint];
+    let entry = core.tlb.cache.entries[k.entry];
+    Page {
+        lookup: k,
+        present,
+        hint,
+        entry,
+    }
+}
+
+// What a translation changes, stored.
+pub fn commit(core: &mut Core, t: Change)
+    ensures { λ r. ⌜ now (core .exit) ≡ commitIn (now (core .entry)) t ⌝ }
+{
+    let counts = core.tlb.counts;
+    let hit = count::hit(counts);
+    let walked = count::walk(counts);
+    match t.effect {
+        1 => {
+            core.tlb.counts = hit;
+        }
+        2 => {
+            core.tlb.counts = walked;
+        }
+        3 => {
+            core.tlb.counts = walked;
+            core.tlb.cache.entries[t.entry_at % 1024] = t.made;
+        }
+        _ => {}
+    }
+    if t.hints {
+        core.tlb.cache.hints[t.hint_at % 512] = t.hint;
+    }
 }

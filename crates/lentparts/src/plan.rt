@@ -1,11 +1,9 @@
 // The work of the entry points, on small values.
 ghost use mathlib.Core.Path.{_≡_};
 ghost use lib.ListN.{length};
-ghost use Rattle.word.specs.Ram.{wordAt};
 ghost use Rattle.cpu.specs.Step.{translation};
 ghost use Rattle.lentparts.specs.Access.{bytesOf, secondOf, moreOf, hitIn};
-ghost use Rattle.lentparts.specs.Plan.{hintPlace, keyOf, hintServes, quickOf, turnedOf};
-use crate::cells::Cells;
+ghost use Rattle.lentparts.specs.Plan.{hintPlace, keyOf, hintServes, quickOf};
 use cpu::call::Reply;
 use cpu::check;
 use mmu::place;
@@ -15,11 +13,8 @@ use tlb::access;
 use tlb::access::Answer;
 use tlb::access::Kind;
 use tlb::access::Who;
-use tlb::count::Counts;
-use tlb::entry::Entry;
 use tlb::hint;
 use tlb::hint::Hint;
-use tlb::turn;
 use walk::regime::Bank;
 use word::ram;
 use word::ram::Sized;
@@ -35,14 +30,6 @@ pub struct Key {
 // What the hint and the checks say: an answer at once, or none.
 pub struct Quick {
     pub ends: bool,
-    pub reply: Reply,
-}
-
-// What a translation leaves, and its reply.
-pub struct Turn {
-    pub counts: Counts,
-    pub hint: Hint,
-    pub entry: Entry,
     pub reply: Reply,
 }
 
@@ -104,36 +91,13 @@ pub fn at_once(who: Who, h: Hint, base: u64, ram: &[u8], va: u64, kind: Kind) ->
     }
 }
 
-fn reply_of(va: u64, answer: Answer) -> Reply
+// The reply of a translation's answer.
+pub fn reply_of(va: u64, answer: Answer) -> Reply
     ensures { λ r. ⌜ r ≡ translation va answer ⌝ }
 {
     match answer {
         Answer::Address(pa) => Reply::Value(pa),
         Answer::Status(fsc) => Reply::Fault { addr: va, fsc },
-    }
-}
-
-// A translation on the cells taken out.
-pub fn turned(k: Key, c: Cells, va: u64, kind: Kind, base: u64, ram: &[u8]) -> Turn
-    ensures { λ r. ⌜ r ≡ turnedOf k c va kind (wordAt base (now (ram .entry)) 8) ⌝ }
-{
-    let bank = k.bank;
-    let who = k.who;
-    let present = c.present;
-    let counts = c.counts;
-    let hint = c.hint;
-    let entry = c.entry;
-    let t = turn::turn(bank, who, present, counts, hint, entry, va, kind, base, ram);
-    let answer = t.answer;
-    let reply = reply_of(va, answer);
-    let counted = t.counts;
-    let hinted = t.hint;
-    let made = t.entry;
-    Turn {
-        counts: counted,
-        hint: hinted,
-        entry: made,
-        reply,
     }
 }
 

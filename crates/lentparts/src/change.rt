@@ -1,0 +1,177 @@
+// A translation that no hint serves, as what it changes; and the cells of the page that it is made of.
+ghost use mathlib.Core.Path.{_≡_};
+ghost use Rattle.word.specs.Ram.{wordAt};
+ghost use Rattle.lentparts.specs.Change.{entryPlace, lookupOf, effectOf, allowed, addressOf, missBy, changeOf, translatedOf};
+use crate::plan;
+use cpu::call::Reply;
+use mmu::step;
+use sysreg::regs::Control;
+use tlb::access;
+use tlb::access::Answer;
+use tlb::access::Kind;
+use tlb::access::Who;
+use tlb::entry::Entry;
+use tlb::entry::Present;
+use tlb::hint;
+use tlb::hint::Hint;
+use tlb::resolve;
+use tlb::resolve::Asked;
+use tlb::resolve::Resolved;
+use tlb::resolve::Source;
+use walk::regime::Bank;
+
+// Who asks, the registers of its regime, what is asked of the cache, and where the cells of the page lie.
+pub struct Lookup {
+    pub who: Who,
+    pub bank: Bank,
+    pub asked: Asked,
+    pub hint: usize,
+    pub entry: usize,
+}
+
+// What the hint is asked with.
+pub struct Hinted {
+    pub who: Who,
+    pub hint: Hint,
+}
+
+// What a page's translation reads of the core.
+pub struct Page {
+    pub lookup: Lookup,
+    pub present: Present,
+    pub hint: Hint,
+    pub entry: Entry,
+}
+
+// What a translation changes. By effect 1 a hit is counted, by 2 a walk, by 3 a walk whose entry is stored; the hint is
+// stored where hints says so.
+pub struct Change {
+    pub hint_at: usize,
+    pub entry_at: usize,
+    pub effect: u8,
+    pub hints: bool,
+    pub hint: Hint,
+    pub made: Entry,
+}
+
+// What a translation changes, and its reply.
+pub struct Translated {
+    pub change: Change,
+    pub reply: Reply,
+}
+
+// The place of the entry that is asked, any with stage 1 off.
+fn entry_place(a: Asked) -> usize
+    ensures { λ r. ⌜ r ≡ entryPlace a ⌝ }
+{
+    match a {
+        Asked::Flat => 0,
+        Asked::Of(q) => tlb::entry::slot(q.tag),
+    }
+}
+
+// Where the cells of an address lie.
+pub fn lookup_of(control: Control, who: Who, va: u64, kind: Kind) -> Lookup
+    ensures { λ r. ⌜ r ≡ lookupOf control who va kind ⌝ }
+{
+    let bank = step::bank_at(control, who.level);
+    let asked = resolve::ask(bank, who, va);
+    let hint = plan::hint_place(va, kind);
+    let entry = entry_place(asked);
+    Lookup {
+        who,
+        bank,
+        asked,
+        hint,
+        entry,
+    }
+}
+
+// What an answer's source changes.
+fn effect_of(source: Source) -> u8
+    ensures { λ r. ⌜ r ≡ effectOf source ⌝ }
+{
+    match source {
+        Source::FromHint => 0,
+        Source::FromFlat => 0,
+        Source::FromEntry => 1,
+        Source::FromWalk => 3,
+        Source::NoLeaf => 2,
+    }
+}
+
+fn is_address(answer: Answer) -> bool
+    ensures { λ r. ⌜ r ≡ allowed answer ⌝ }
+{
+    match answer {
+        Answer::Address(_) => true,
+        Answer::Status(_) => false,
+    }
+}
+
+// The address of an answer, 0 where it has none.
+fn address_of(answer: Answer) -> u64
+    ensures { λ r. ⌜ r ≡ addressOf answer ⌝ }
+{
+    match answer {
+        Answer::Address(pa) => pa,
+        Answer::Status(_) => 0,
+    }
+}
+
+// A translation that no hint serves.
+fn miss(k: Lookup, at: Present, e: Entry, va: u64, kind: Kind, base: u64, ram: &[u8]) -> Resolved
+    ensures { λ r. ⌜ r ≡ missBy (k .asked) (k .bank) (k .who) at e va kind (wordAt base (now (ram .entry)) 8) ⌝ }
+{
+    let bank = k.bank;
+    let who = k.who;
+    let asked = k.asked;
+    match asked {
+        Asked::Flat => {
+            let made = tlb::entry::blank();
+            Resolved {
+                answer: Answer::Address(va),
+                source: Source::FromFlat,
+                made,
+            }
+        }
+        Asked::Of(q) => resolve::resolve(q, bank, who, at, e, va, kind, base, ram),
+    }
+}
+
+// What a translation's answer changes.
+fn change_of(k: Lookup, t: Resolved, va: u64, kind: Kind) -> Change
+    ensures { λ r. ⌜ r ≡ changeOf k t va kind ⌝ }
+{
+    let who = k.who;
+    let answer = t.answer;
+    let source = t.source;
+    let made = t.made;
+    let may = access::may_hint(who, kind);
+    let is = is_address(answer);
+    let pa = address_of(answer);
+    let hint = hint::hint_for(va, who.level, pa);
+    let effect = effect_of(source);
+    Change {
+        hint_at: k.hint,
+        entry_at: k.entry,
+        effect,
+        hints: may & is,
+        hint,
+        made,
+    }
+}
+
+// A translation that no hint serves, on the cells taken out.
+pub fn translate(x: Page, va: u64, kind: Kind, base: u64, ram: &[u8]) -> Translated
+    ensures { λ r. ⌜ r ≡ translatedOf x va kind (wordAt base (now (ram .entry)) 8) ⌝ }
+{
+    let k = x.lookup;
+    let at = x.present;
+    let e = x.entry;
+    let t = miss(k, at, e, va, kind, base, ram);
+    let change = change_of(k, t, va, kind);
+    let answer = t.answer;
+    let reply = plan::reply_of(va, answer);
+    Translated { change, reply }
+}
