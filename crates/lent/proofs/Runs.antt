@@ -7,6 +7,7 @@ use Prim.Native.Nat.{ℕ, zero, suc, _/_, _%_, _<_}
 use native.Mathlib.Omega.{arith}
 use lib.ListN.{length, set}
 use lib.Seq.{set-getD}
+use Rattle.word.specs.Bits.{pick}
 use Rattle.word.specs.Ram.{wordAt}
 use Rattle.word.specs.declared.ram.Word.{Word}
 use Rattle.walk.specs.declared.level.Walked.{Walked}
