@@ -26,7 +26,7 @@ join-requires : tie.Need-join-requires
 join-requires c κs = search needs
 
 returns : tie.Need-returns
-returns c = seven _ _ _ _ _ _ _ _ _ _ _ _ (c .before .before .before .before .before .joined-three .ensures) (c .before .joined-three2 .ensures) (c .join .ensures) (c .before .before .before .before .flag-word .ensures)
+returns c = seven _ _ _ _ _ _ _ _ _ _ _ _ (c .before .before .before .before .before .joined-three .ensures) (c .before .joined-three2 .ensures) (c .join .ensures) (c .before .before .before .before .flag-word .ensures .0)
 
 pub with-entry-spec : {M : Type 1} → statement M
 with-entry-spec =
