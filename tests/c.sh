@@ -21,7 +21,7 @@ compiler() { # LANGUAGE COMMAND..
         fi
     done
 }
-cc=$(compiler c "${CC-}" cc gcc clang /opt/rattle/on/x86_64/toolchain/bin/clang)
+cc=$(compiler c "${CC-}" cc gcc clang)
 [ -n "$cc" ] || { echo "left out: there is no C compiler (cc, gcc, clang, or one that CC names) that makes a program"; exit 0; }
 cxx=$(compiler c++ "${CXX-}" c++ g++ clang++)
 

@@ -1,7 +1,9 @@
 -- Each call by the book: refused, or its operation, on plain values, for `search`.
 use mathlib.Core.Path.{_≡_, refl, sym, ap, _∙_}
-use mathlib.Core.List.{List}
+use mathlib.Core.Bool.{not, _||_}
+use mathlib.Core.List.{List, [], _∷_}
 use Prim.Native.Nat.{ℕ, zero, suc}
+use lib.Dec.{ltb}
 use lib.ListN.{length}
 use Rattle.word.specs.Ram.{bytesIn, widthOf}
 use Rattle.word.specs.declared.ram.Width.{Width}
@@ -16,8 +18,9 @@ use Rattle.mmu.specs.declared.ends.LoadAnswer.{LoadAnswer}
 use Rattle.mmu.specs.declared.ends.StoreAnswer.{StoreAnswer}
 use Rattle.mmu.specs.declared.ends.FetchAnswer.{FetchAnswer}
 use Rattle.mmu.specs.declared.ends.Reached.{Reached}
-use Rattle.cpu.specs.Check.{missedOf}
+use Rattle.cpu.specs.Check.{kept, ramRows, sizedRows, firstOf, missedOf}
 use Rattle.cpu.specs.Step.{translation, reaching, loading, storing, fetching, registering, loadBy, storeBy, storeRamBy, runOf, ramOf, stepOf, ramAfter, ends}
+use Rattle.cpu.specs.declared.call.Encoding.{Encoding}
 use Rattle.cpu.specs.declared.call.Call.{Call}
 use Rattle.cpu.specs.declared.call.Call.the-variants as Call
 use Rattle.cpu.specs.declared.call.Reply.{Reply}
@@ -27,9 +30,27 @@ use Rattle.words.specs.Held.{held}
 use Rattle.words.specs.Moved.{Moved, stays, moved-as}
 
 -- the checks
-pub level-missed : (c : Core) (who : Who) (n base len : ℕ) (call : Call) → who ≡ c .who
-    → n ≡ missedOf (who .level) base len call → n ≡ missedOf (c .who .level) base len call
-level-missed c who n base len call e q = q ∙ ap (λ (w : Who). missedOf (w .level) base len call) e
+module _ (c : Core) (who : Who) (n : ℕ) (e : who ≡ c .who) where
+  pub ram-missed : (base len : ℕ) → n ≡ firstOf (ramRows (who .level) base len) → n ≡ firstOf (ramRows (c .who .level) base len)
+  ram-missed base len q = q ∙ ap (λ (w : Who). firstOf (ramRows (w .level) base len)) e
+
+  pub sized-missed : (base len size : ℕ) → n ≡ firstOf (sizedRows (who .level) base len size) → n ≡ firstOf (sizedRows (c .who .level) base len size)
+  sized-missed base len size q = q ∙ ap (λ (w : Who). firstOf (sizedRows (w .level) base len size)) e
+
+  pub system-missed : (base len : ℕ) (x : Encoding) → n ≡ missedOf (who .level) base len (Call.System x) → n ≡ missedOf (c .who .level) base len (Call.System x)
+  system-missed base len x q = q ∙ ap (λ (w : Who). missedOf (w .level) base len (Call.System x)) e
+
+  pub register-missed : (key : ℕ) → n ≡ firstOf ((ltb 3 (who .level), 1) ∷ (not (kept key), 6) ∷ []) → n ≡ firstOf ((ltb 3 (c .who .level), 1) ∷ (not (kept key), 6) ∷ [])
+  register-missed key q = q ∙ ap (λ (w : Who). firstOf ((ltb 3 (w .level), 1) ∷ (not (kept key), 6) ∷ [])) e
+
+  pub level-missed : (requested : ℕ) → n ≡ firstOf ((ltb 3 (who .level) || ltb 3 requested, 1) ∷ []) → n ≡ firstOf ((ltb 3 (c .who .level) || ltb 3 requested, 1) ∷ [])
+  level-missed requested q = q ∙ ap (λ (w : Who). firstOf ((ltb 3 (w .level) || ltb 3 requested, 1) ∷ [])) e
+
+  pub any-missed : n ≡ firstOf ((ltb 3 (who .level), 1) ∷ []) → n ≡ firstOf ((ltb 3 (c .who .level), 1) ∷ [])
+  any-missed q = q ∙ ap (λ (w : Who). firstOf ((ltb 3 (w .level), 1) ∷ [])) e
+
+  pub general-missed : (number : ℕ) → n ≡ firstOf ((ltb 3 (who .level), 1) ∷ (ltb 31 number, 5) ∷ []) → n ≡ firstOf ((ltb 3 (c .who .level), 1) ∷ (ltb 31 number, 5) ∷ [])
+  general-missed number q = q ∙ ap (λ (w : Who). firstOf ((ltb 3 (w .level), 1) ∷ (ltb 31 number, 5) ∷ [])) e
 
 module _ (ws : List ℕ) (base : ℕ) (ram : List ℕ) (call : Call) (n : ℕ) (en : n ≡ missedOf (held ws .who .level) base (length ram) call) where
   refuses : (n ≡ 0 → ⊥) → stepOf (held ws) base ram call ≡ ends (held ws) (Refused n)

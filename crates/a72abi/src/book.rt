@@ -1,12 +1,13 @@
 // Each call on lent words by the book: the number of the first check that it misses, or its operation in place.
 ghost use mathlib.Core.Path.{_≡_};
-ghost use mathlib.Core.List.{[]};
-ghost use Rattle.cpu.specs.Check.{missedOf};
+ghost use mathlib.Core.Bool.{not, _||_};
+ghost use mathlib.Core.List.{[], _∷_};
+ghost use lib.Dec.{ltb};
+ghost use Rattle.cpu.specs.Check.{kept, ramRows, sizedRows, firstOf, missedOf};
 ghost use Rattle.cpu.specs.Step.{ramAfter};
 ghost use Rattle.cpu.specs.declared.call.Call.the-variants as Call;
 ghost use Rattle.words.specs.Held.{held};
 ghost use Rattle.a72abi.specs.Promise.{Runs};
-use cpu::call::Call;
 use cpu::call::Encoding;
 use cpu::call::Reply;
 use cpu::check;
@@ -20,19 +21,64 @@ use word::ram::Sized;
 use words::place::State;
 use words::state;
 
-// The number of the first check that a call misses, or 0.
-fn missed(state: &State, base: u64, len: u64, call: Call) -> u8
-    ensures { λ r. ⌜ r ≡ missedOf ((held (now (state .entry))) .who .level) base len call ⌝ }
+// Each gives the number of the first check that its calls miss, or 0. The call itself is not handed on: as an enum
+// in memory it would
+// take longer than the checks.
+
+fn missed_with_ram(state: &State, base: u64, len: u64) -> u8
+    ensures { λ r. ⌜ r ≡ firstOf (ramRows (held (now (state .entry)) .who .level) base len) ⌝ }
 {
     let who = state::who_at(state);
-    check::missed(who.level, base, len, call)
+    check::with_ram(who.level, base, len)
+}
+
+fn missed_sized(state: &State, base: u64, len: u64, size: u64) -> u8
+    ensures { λ r. ⌜ r ≡ firstOf (sizedRows (held (now (state .entry)) .who .level) base len size) ⌝ }
+{
+    let who = state::who_at(state);
+    check::sized(who.level, base, len, size)
+}
+
+fn missed_system(state: &State, base: u64, len: u64, e: Encoding) -> u8
+    ensures { λ r. ⌜ r ≡ missedOf (held (now (state .entry)) .who .level) base len (Call.System e) ⌝ }
+{
+    let who = state::who_at(state);
+    check::system(who.level, base, len, e)
+}
+
+fn missed_register(state: &State, key: u32) -> u8
+    ensures { λ r. ⌜ r ≡ firstOf ((ltb 3 (held (now (state .entry)) .who .level), 1) ∷ (not (kept key), 6) ∷ []) ⌝ }
+{
+    let who = state::who_at(state);
+    check::register(who.level, key)
+}
+
+fn missed_level(state: &State, requested: u64) -> u8
+    ensures { λ r. ⌜ r ≡ firstOf ((ltb 3 (held (now (state .entry)) .who .level) || ltb 3 requested, 1) ∷ []) ⌝ }
+{
+    let who = state::who_at(state);
+    check::levels(who.level, requested)
+}
+
+fn missed_any(state: &State) -> u8
+    ensures { λ r. ⌜ r ≡ firstOf ((ltb 3 (held (now (state .entry)) .who .level), 1) ∷ []) ⌝ }
+{
+    let who = state::who_at(state);
+    check::any(who.level)
+}
+
+fn missed_general(state: &State, number: u64) -> u8
+    ensures { λ r. ⌜ r ≡ firstOf ((ltb 3 (held (now (state .entry)) .who .level), 1) ∷ (ltb 31 number, 5) ∷ []) ⌝ }
+{
+    let who = state::who_at(state);
+    check::general(who.level, number)
 }
 
 pub fn translation(state: &mut State, base: u64, ram: &[u8], kind: Kind, va: u64) -> Reply
     ensures { λ r. ⌜ Runs (Call.Translate kind va) base (now (ram .entry)) (now (state .entry)) r
         (now (state .exit)) ⌝ }
 {
-    let n = missed(state, base, ram.len() as u64, Call::Translate(kind, va));
+    let n = missed_with_ram(state, base, ram.len() as u64);
     if n != 0 {
         return Reply::Refused(n);
     }
@@ -43,7 +89,7 @@ pub fn translation(state: &mut State, base: u64, ram: &[u8], kind: Kind, va: u64
 pub fn data_pa(state: &mut State, base: u64, ram: &[u8], va: u64) -> Reply
     ensures { λ r. ⌜ Runs (Call.DataPa va) base (now (ram .entry)) (now (state .entry)) r (now (state .exit)) ⌝ }
 {
-    let n = missed(state, base, ram.len() as u64, Call::DataPa(va));
+    let n = missed_with_ram(state, base, ram.len() as u64);
     if n != 0 {
         return Reply::Refused(n);
     }
@@ -54,7 +100,7 @@ pub fn data_pa(state: &mut State, base: u64, ram: &[u8], va: u64) -> Reply
 pub fn fetch_pa(state: &mut State, base: u64, ram: &[u8], va: u64) -> Reply
     ensures { λ r. ⌜ Runs (Call.FetchPa va) base (now (ram .entry)) (now (state .entry)) r (now (state .exit)) ⌝ }
 {
-    let n = missed(state, base, ram.len() as u64, Call::FetchPa(va));
+    let n = missed_with_ram(state, base, ram.len() as u64);
     if n != 0 {
         return Reply::Refused(n);
     }
@@ -65,7 +111,7 @@ pub fn fetch_pa(state: &mut State, base: u64, ram: &[u8], va: u64) -> Reply
 pub fn load(state: &mut State, base: u64, ram: &[u8], va: u64, size: u64) -> Reply
     ensures { λ r. ⌜ Runs (Call.Load va size) base (now (ram .entry)) (now (state .entry)) r (now (state .exit)) ⌝ }
 {
-    let n = missed(state, base, ram.len() as u64, Call::Load(va, size));
+    let n = missed_sized(state, base, ram.len() as u64, size);
     if n != 0 {
         return Reply::Refused(n);
     }
@@ -84,7 +130,7 @@ pub fn store(state: &mut State, base: u64, ram: &mut [u8], va: u64, size: u64, v
     ensures { λ r. ⌜ now (ram .exit) ≡ ramAfter (held (now (state .entry))) base (now (ram .entry))
         (Call.Store va size value) ⌝ }
 {
-    let n = missed(state, base, ram.len() as u64, Call::Store(va, size, value));
+    let n = missed_sized(state, base, ram.len() as u64, size);
     if n != 0 {
         return Reply::Refused(n);
     }
@@ -100,7 +146,7 @@ pub fn store(state: &mut State, base: u64, ram: &mut [u8], va: u64, size: u64, v
 pub fn fetch(state: &mut State, base: u64, ram: &[u8], va: u64) -> Reply
     ensures { λ r. ⌜ Runs (Call.Fetch va) base (now (ram .entry)) (now (state .entry)) r (now (state .exit)) ⌝ }
 {
-    let n = missed(state, base, ram.len() as u64, Call::Fetch(va));
+    let n = missed_with_ram(state, base, ram.len() as u64);
     if n != 0 {
         return Reply::Refused(n);
     }
@@ -112,7 +158,7 @@ pub fn system(state: &mut State, base: u64, ram: &mut [u8], e: Encoding) -> Repl
     ensures { λ r. ⌜ Runs (Call.System e) base (now (ram .entry)) (now (state .entry)) r (now (state .exit)) ⌝ }
     ensures { λ r. ⌜ now (ram .exit) ≡ ramAfter (held (now (state .entry))) base (now (ram .entry)) (Call.System e) ⌝ }
 {
-    let n = missed(state, base, ram.len() as u64, Call::System(e));
+    let n = missed_system(state, base, ram.len() as u64, e);
     if n != 0 {
         return Reply::Refused(n);
     }
@@ -123,7 +169,7 @@ pub fn system(state: &mut State, base: u64, ram: &mut [u8], e: Encoding) -> Repl
 pub fn register(state: &mut State, key: u32, value: u64) -> Reply
     ensures { λ r. ⌜ Runs (Call.Register key value) 0 [] (now (state .entry)) r (now (state .exit)) ⌝ }
 {
-    let n = missed(state, 0, 0, Call::Register(key, value));
+    let n = missed_register(state, key);
     if n != 0 {
         return Reply::Refused(n);
     }
@@ -134,7 +180,7 @@ pub fn register(state: &mut State, key: u32, value: u64) -> Reply
 pub fn level(state: &mut State, level: u64) -> Reply
     ensures { λ r. ⌜ Runs (Call.Level level) 0 [] (now (state .entry)) r (now (state .exit)) ⌝ }
 {
-    let n = missed(state, 0, 0, Call::Level(level));
+    let n = missed_level(state, level);
     if n != 0 {
         return Reply::Refused(n);
     }
@@ -145,7 +191,7 @@ pub fn level(state: &mut State, level: u64) -> Reply
 pub fn mark(state: &mut State, mark: bool) -> Reply
     ensures { λ r. ⌜ Runs (Call.Mark mark) 0 [] (now (state .entry)) r (now (state .exit)) ⌝ }
 {
-    let n = missed(state, 0, 0, Call::Mark(mark));
+    let n = missed_any(state);
     if n != 0 {
         return Reply::Refused(n);
     }
@@ -156,7 +202,7 @@ pub fn mark(state: &mut State, mark: bool) -> Reply
 pub fn general(state: &mut State, number: u64, value: u64) -> Reply
     ensures { λ r. ⌜ Runs (Call.General number value) 0 [] (now (state .entry)) r (now (state .exit)) ⌝ }
 {
-    let n = missed(state, 0, 0, Call::General(number, value));
+    let n = missed_general(state, number);
     if n != 0 {
         return Reply::Refused(n);
     }
@@ -167,7 +213,7 @@ pub fn general(state: &mut State, number: u64, value: u64) -> Reply
 pub fn abort(state: &mut State, e: Exception) -> Reply
     ensures { λ r. ⌜ Runs (Call.Abort e) 0 [] (now (state .entry)) r (now (state .exit)) ⌝ }
 {
-    let n = missed(state, 0, 0, Call::Abort(e));
+    let n = missed_any(state);
     if n != 0 {
         return Reply::Refused(n);
     }

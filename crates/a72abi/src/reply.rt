@@ -1,6 +1,7 @@
 // A reply as a number and a word, and as four words.
 ghost use mathlib.Core.Path.{_≡_};
-ghost use Rattle.a72abi.specs.Replies.{exceptionCode, stopCode, codeBy, exceptionValue, stopValue, valueBy, exceptionWords, stopWords, wordsBy};
+ghost use Rattle.a72abi.specs.Replies.{exceptionCode, stopCode, codeBy, exceptionValue, stopValue, valueBy};
+ghost use Rattle.a72abi.specs.Replies.{exceptionWords, stopWords, wordsBy};
 use cpu::call::Reply;
 use entry::exception::Exception;
 use entry::exception::Stop;

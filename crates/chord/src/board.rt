@@ -41,7 +41,8 @@ fn put(ram: &mut [u8], pa: u64, value: u64) {
     ram::write(BASE, ram, Width::Double, pa, value);
 }
 
-// The page number of a voice: eight pages from 0x100 on, and eight that are 1,024 pages further, so that two voices share each slot.
+// The page number of a voice: eight pages from 0x100 on, and eight that are 1,024 pages further, so that two voices
+// share each slot.
 pub fn page(voice: u64) -> u64 {
     0x100 + voice % 8 + voice / 8 % 2 * 0x400
 }

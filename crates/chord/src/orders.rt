@@ -1,4 +1,5 @@
-// Every order of a small chord: four keys, of which two are pressed twice, so ten events. An order is a number of ten digits to the base
+// Every order of a small chord: four keys, of which two are pressed twice, so ten events. An order is a number of
+// ten digits to the base
 // four, a key each; the first time a key comes it is pressed, then let go, then pressed again.
 use crate::board;
 use crate::board::Off;

@@ -1,4 +1,5 @@
-// Sixteen voices at once: a table of what each gives, then every voice changes its note and takes a frame that another had.
+// Sixteen voices at once: a table of what each gives, then every voice changes its note and takes a frame that
+// another had.
 use crate::board;
 use crate::board::Off;
 use crate::hold;

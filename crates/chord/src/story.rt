@@ -1,4 +1,5 @@
-// The story: the sixteen voices, then every order of a small chord, on the proved core and against two that lose a tone.
+// The story: the sixteen voices, then every order of a small chord, on the proved core and against two that lose a
+// tone.
 use crate::board::Off;
 use crate::hold::Heard;
 use crate::orders;

@@ -46,14 +46,14 @@ fn is_key(key: u32) -> bool
 // Each function gives the number of the first check that its calls miss, or 0.
 
 // Setting the mark, abort entry.
-fn any(level: u8) -> u8
+pub fn any(level: u8) -> u8
     ensures { λ r. ⌜ r ≡ firstOf ((ltb 3 level, 1) ∷ []) ⌝ }
 {
     if 3 < level { 1 } else { 0 }
 }
 
 // Setting the level.
-fn levels(level: u8, requested: u64) -> u8
+pub fn levels(level: u8, requested: u64) -> u8
     ensures { λ r. ⌜ r ≡ firstOf ((ltb 3 level || ltb 3 requested, 1) ∷ []) ⌝ }
 {
     if (3 < level) | (3 < requested) { 1 } else { 0 }
@@ -85,7 +85,7 @@ pub fn sized(level: u8, base: u64, len: u64, size: u64) -> u8
 }
 
 // System operation.
-fn system(level: u8, base: u64, len: u64, e: Encoding) -> u8
+pub fn system(level: u8, base: u64, len: u64, e: Encoding) -> u8
     ensures { λ r. ⌜ r ≡ missedOf level base len (Call.System e) ⌝ }
 {
     if 3 < level {
@@ -101,7 +101,7 @@ fn system(level: u8, base: u64, len: u64, e: Encoding) -> u8
 }
 
 // Register write.
-fn register(level: u8, key: u32) -> u8
+pub fn register(level: u8, key: u32) -> u8
     ensures { λ r. ⌜ r ≡ firstOf ((ltb 3 level, 1) ∷ (not (kept key), 6) ∷ []) ⌝ }
 {
     if 3 < level {
@@ -111,7 +111,7 @@ fn register(level: u8, key: u32) -> u8
 }
 
 // Setting a general register.
-fn general(level: u8, number: u64) -> u8
+pub fn general(level: u8, number: u64) -> u8
     ensures { λ r. ⌜ r ≡ firstOf ((ltb 3 level, 1) ∷ (ltb 31 number, 5) ∷ []) ⌝ }
 {
     if 3 < level {

@@ -4,7 +4,8 @@ ghost use Rattle.word.specs.Ram.{wordAt, widthOf};
 ghost use Rattle.mmu.specs.Ops.{translateOf, readOf, writeOf, ramAfterWrite, fetchOf, fetchPaOf, dataPaOf};
 ghost use Rattle.exec.specs.Ops.{writeRegister};
 ghost use Rattle.exec.specs.Sys.{sysOf, sysRam};
-ghost use Rattle.cpu.specs.Step.{ends, afterTranslation, afterAddress, afterFetch, afterStore, afterWrite, loadBy, storeBy, storeRamBy, runOf, ramOf};
+ghost use Rattle.cpu.specs.Step.{ends, afterTranslation, afterAddress, afterFetch, afterStore, afterWrite};
+ghost use Rattle.cpu.specs.Step.{loadBy, storeBy, storeRamBy, runOf, ramOf};
 use crate::call::Call;
 use crate::call::Encoding;
 use crate::call::Reply;
@@ -56,7 +57,8 @@ fn load(core: Core, base: u64, ram: &[u8], va: u64, size: u64) -> Stepped
 }
 
 fn store(core: Core, base: u64, ram: &mut [u8], va: u64, size: u64, value: u64) -> Stepped
-    ensures { λ r. ⌜ (r ≡ storeBy (widthOf size) core base (now (ram .entry)) va) × (now (ram .exit) ≡ storeRamBy (widthOf size) core base (now (ram .entry)) va value) ⌝ }
+    ensures { λ r. ⌜ (r ≡ storeBy (widthOf size) core base (now (ram .entry)) va)
+        × (now (ram .exit) ≡ storeRamBy (widthOf size) core base (now (ram .entry)) va value) ⌝ }
 {
     match ram::width_of(size) {
         Sized::Bytes(width) => {
@@ -84,7 +86,9 @@ fn fetch(core: Core, base: u64, ram: &[u8], va: u64) -> Stepped
 }
 
 fn system(core: Core, base: u64, ram: &mut [u8], e: Encoding) -> Stepped
-    ensures { λ r. ⌜ (r ≡ afterStore (sysOf core base (now (ram .entry)) (e .op1) (e .crn) (e .crm) (e .op2) (e .rt))) × (now (ram .exit) ≡ sysRam core base (now (ram .entry)) (e .op1) (e .crn) (e .crm) (e .op2) (e .rt)) ⌝ }
+    ensures { λ r. ⌜ (r ≡ afterStore (sysOf core base (now (ram .entry)) (e .op1) (e .crn) (e .crm) (e .op2)
+        (e .rt))) × (now (ram .exit) ≡ sysRam core base (now (ram .entry)) (e .op1) (e .crn) (e .crm) (e .op2)
+        (e .rt)) ⌝ }
 {
     let t = exec::sys::sys(core, base, ram, e.op1, e.crn, e.crm, e.op2, e.rt);
     let core = t.core;
@@ -114,7 +118,8 @@ fn done(core: Core) -> Stepped
 
 // The operation that a call is.
 pub fn run(core: Core, base: u64, ram: &mut [u8], call: Call) -> Stepped
-    ensures { λ r. ⌜ (r ≡ runOf core base (now (ram .entry)) call) × (now (ram .exit) ≡ ramOf core base (now (ram .entry)) call) ⌝ }
+    ensures { λ r. ⌜ (r ≡ runOf core base (now (ram .entry)) call)
+        × (now (ram .exit) ≡ ramOf core base (now (ram .entry)) call) ⌝ }
 {
     match call {
         Call::Translate(kind, va) => translation(core, base, ram, kind, va),

@@ -10,7 +10,8 @@ use mmu::core::Core;
 
 // The number of the first check that the call misses, and then nothing changes; else the operation.
 pub fn step(core: Core, base: u64, ram: &mut [u8], call: Call) -> Stepped
-    ensures { λ r. ⌜ (r ≡ stepOf core base (now (ram .entry)) call) × (now (ram .exit) ≡ ramAfter core base (now (ram .entry)) call) ⌝ }
+    ensures { λ r. ⌜ (r ≡ stepOf core base (now (ram .entry)) call)
+        × (now (ram .exit) ≡ ramAfter core base (now (ram .entry)) call) ⌝ }
 {
     let n = check::missed(core.who.level, base, ram.len() as u64, call);
     if n == 0 {

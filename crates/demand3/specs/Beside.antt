@@ -1,5 +1,6 @@
 -- Beside demand 3: the two cores agree, AT is a fresh walk, and a refused call changes nothing in either.
 use mathlib.Core.Path.{_≡_, refl, ap, subst, _∙_}
+use mathlib.Core.Bool.{Bool}
 use mathlib.Core.List.{List}
 use Prim.Native.Nat.{ℕ, zero, suc}
 use Rattle.sysreg.specs.declared.write.WriteAnswer.{WriteAnswer}
@@ -8,6 +9,7 @@ use Rattle.sysreg.specs.declared.write.Written.{Written}
 use Rattle.sysop.specs.declared.op.AtForm.{AtForm}
 use Rattle.sysop.specs.declared.op.SysOp.{SysOp}
 use Rattle.sysop.specs.declared.op.SysOp.the-variants as Op
+use Rattle.entry.specs.declared.exception.Exception.{Exception}
 use Rattle.mmu.specs.Bare.{Bare, freshBare, withPar, bareOf}
 use Rattle.mmu.specs.Core.{freshCore, regOf}
 use Rattle.mmu.specs.declared.core.Core.{Core}
@@ -42,6 +44,26 @@ fresh-bare = refl
 -- After every list they agree on level, mark, registers and general registers, and on flags and PC.
 pub two-cores : (list : List (Lent real machine)) → bareOf (coreAfter list) ≡ bareAfter list
 two-cores list = runs-agree real machine bridge freshCore list ∙ ap (λ (b : Bare). bareRun real machine b list) fresh-bare
+
+-- WHAT A CALL OF THE CORE WITHOUT A CACHE LEAVES: its updates are the core's own (mmu/specs/Bare.antt), so each says what else stays
+
+pub abort-leaves : (b : Bare) (m : Ram) (e : Exception) → (bareDoes b m (Abort e) .x ≡ b .x) × (bareDoes b m (Abort e) .control ≡ b .control)
+abort-leaves b m e = (refl, refl)
+
+pub level-leaves : (b : Bare) (m : Ram) (level : ℕ)
+    → (bareDoes b m (Level level) .x ≡ b .x) × (bareDoes b m (Level level) .control ≡ b .control)
+    × (bareDoes b m (Level level) .sys ≡ b .sys) × (bareDoes b m (Level level) .who .mark ≡ b .who .mark)
+level-leaves b m level = (refl, refl, refl, refl)
+
+pub mark-leaves : (b : Bare) (m : Ram) (mark : Bool)
+    → (bareDoes b m (Mark mark) .x ≡ b .x) × (bareDoes b m (Mark mark) .control ≡ b .control)
+    × (bareDoes b m (Mark mark) .sys ≡ b .sys) × (bareDoes b m (Mark mark) .who .level ≡ b .who .level)
+mark-leaves b m mark = (refl, refl, refl, refl)
+
+pub register-leaves : (b : Bare) (m : Ram) (key value : ℕ)
+    → (bareDoes b m (Register key value) .x ≡ b .x) × (bareDoes b m (Register key value) .flags ≡ b .flags)
+    × (bareDoes b m (Register key value) .pc ≡ b .pc) × (bareDoes b m (Register key value) .who ≡ b .who)
+register-leaves b m key value = (refl, refl, refl, refl)
 
 -- AT
 

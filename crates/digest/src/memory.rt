@@ -1,4 +1,5 @@
-// The digest of a window: its base, its length, and its bytes as little-endian words, the last filled up with zero bytes.
+// The digest of a window: its base, its length, and its bytes as little-endian words, the last filled up with zero
+// bytes.
 ghost use mathlib.Core.Path.{_≡_};
 ghost use Prim.Native.Nat.{_+_, _*_, _/_, _≤_};
 ghost use lib.ListN.{length, getD};
@@ -61,7 +62,8 @@ fn word_at(ram: &[u8], at: usize) -> u64
 
 // The whole words of a window.
 fn whole_words(ram: &[u8], start: u64) -> u64
-    ensures { λ r. ⌜ r ≡ digestFrom start (gathered (wholeWord (now (ram .entry))) (length (now (ram .entry)) / 8) 0) ⌝ }
+    ensures { λ r. ⌜ r ≡ digestFrom start (gathered (wholeWord (now (ram .entry))) (length (now
+        (ram .entry)) / 8) 0) ⌝ }
 {
     let n = ram.len() / 8;
     let mut h = start;
@@ -76,7 +78,8 @@ fn whole_words(ram: &[u8], start: u64) -> u64
 
 // Its bytes as words.
 fn all_words(ram: &[u8], start: u64) -> u64
-    ensures { λ r. ⌜ r ≡ digestFrom start (gathered (wholeWord (now (ram .entry))) ((length (now (ram .entry)) + 7) / 8) 0) ⌝ }
+    ensures { λ r. ⌜ r ≡ digestFrom start (gathered (wholeWord (now (ram .entry))) ((length (now
+        (ram .entry)) + 7) / 8) 0) ⌝ }
 {
     let h = whole_words(ram, start);
     let n = ram.len() / 8;

@@ -7,7 +7,8 @@ pub mod once;
 pub mod setup;
 pub mod sum;
 
-// A fresh core with these SCTLR_EL1, TCR_EL1, TTBR0_EL1 and level translates the first address, and then the two in turn, n times: the sum
+// A fresh core with these SCTLR_EL1, TCR_EL1, TTBR0_EL1 and level translates the first address, and then the two in
+// turn, n times: the sum
 // over the answers of these.
 #[no_mangle]
 pub extern "C" fn a72_lent_translate(

@@ -2,7 +2,8 @@
 ghost use mathlib.Core.Path.{_≡_};
 ghost use Rattle.word.specs.Ram.{wordAt};
 ghost use Rattle.cpu.specs.Step.{loading};
-ghost use Rattle.lentparts.specs.Access.{keysOf, another, oneTurn, twoTurns, secondsOf, bothAfter, bothOf, untouchedOf, afterBoth, loadedOf, readQuick, loadQuick};
+ghost use Rattle.lentparts.specs.Access.{keysOf, another, oneTurn, twoTurns, secondsOf, bothAfter, bothOf};
+ghost use Rattle.lentparts.specs.Access.{untouchedOf, afterBoth, loadedOf, readQuick, loadQuick};
 use crate::cells::Cells;
 use crate::plan;
 use cpu::call::Reply;
@@ -29,7 +30,8 @@ use walk::regime::Bank;
 use word::ram;
 use word::ram::Sized;
 
-// Who asks, the registers of its regime, where the cells of its pages lie, and the addresses kept. An access in one page has the same cells twice.
+// Who asks, the registers of its regime, where the cells of its pages lie, and the addresses kept. An access in one
+// page has the same cells twice.
 pub struct Keys {
     pub who: Who,
     pub bank: Bank,

@@ -43,7 +43,9 @@ pub fn find(core: &mut Core, va: u64, kind: Kind) -> Key
 
 // Who asks, the registers, the places of the cells of an access, and the addresses kept.
 pub fn find_both(core: &mut Core, va: u64, size: u64, kind: Kind) -> Keys
-    ensures { λ r. ⌜ (r ≡ keysIn (now (core .entry)) va size kind) × (now (core .exit) ≡ now (core .entry)) × (length (now (core .entry) .tlb .cache .hints) ≡ 512) × (length (now (core .entry) .tlb .cache .entries) ≡ 1024) ⌝ }
+    ensures { λ r. ⌜ (r ≡ keysIn (now (core .entry)) va size kind) × (now (core .exit) ≡ now (core .entry))
+        × (length (now (core .entry) .tlb .cache .hints) ≡ 512)
+        × (length (now (core .entry) .tlb .cache .entries) ≡ 1024) ⌝ }
 {
     let who = core.who;
     let control = core.control;

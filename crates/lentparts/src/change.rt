@@ -1,7 +1,8 @@
 // A translation that no hint serves, as what it changes; and the cells of the page that it is made of.
 ghost use mathlib.Core.Path.{_≡_};
 ghost use Rattle.word.specs.Ram.{wordAt};
-ghost use Rattle.lentparts.specs.Change.{entryPlace, lookupOf, effectOf, allowed, addressOf, missBy, changeOf, translatedOf};
+ghost use Rattle.lentparts.specs.Change.{entryPlace, lookupOf, effectOf, allowed, addressOf, missBy, changeOf};
+ghost use Rattle.lentparts.specs.Change.{translatedOf};
 use crate::plan;
 use cpu::call::Reply;
 use mmu::step;

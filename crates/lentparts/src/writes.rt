@@ -24,7 +24,8 @@ use word::ram;
 use word::ram::Sized;
 use word::ram::Width;
 
-// What the checks and the hint say: whether the store ends at once, the number of the first check missed, or else where the bytes go.
+// What the checks and the hint say: whether the store ends at once, the number of the first check missed, or else
+// where the bytes go.
 pub struct QuickStore {
     pub ends: bool,
     pub refused: u8,
@@ -90,7 +91,8 @@ fn ended(
     base: u64,
     ram: &mut [u8],
 ) -> Access
-    ensures { λ r. ⌜ (r ≡ storeAfter b last abort va (bytesIn width) base (now (ram .entry))) × (now (ram .exit) ≡ storeRamEnd (b .placed) base (now (ram .entry)) (bytesIn width) value) ⌝ }
+    ensures { λ r. ⌜ (r ≡ storeAfter b last abort va (bytesIn width) base (now (ram .entry)))
+        × (now (ram .exit) ≡ storeRamEnd (b .placed) base (now (ram .entry)) (bytesIn width) value) ⌝ }
 {
     let placed = b.placed;
     let e = ends::store_end(placed, abort, base, ram, va, width, value);
@@ -110,7 +112,8 @@ pub fn stored(
     base: u64,
     ram: &mut [u8],
 ) -> Access
-    ensures { λ r. ⌜ (r ≡ storedOf k x y va size base (now (ram .entry))) × (now (ram .exit) ≡ storedRam k x y va size value base (now (ram .entry))) ⌝ }
+    ensures { λ r. ⌜ (r ≡ storedOf k x y va size base (now (ram .entry)))
+        × (now (ram .exit) ≡ storedRam k x y va size value base (now (ram .entry))) ⌝ }
 {
     match ram::width_of(size) {
         Sized::Bytes(width) => {

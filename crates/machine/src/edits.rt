@@ -1,4 +1,5 @@
-// Lines that overwrite a part of the core: p-level, p-pc, p-spsel, p-gen, p-cnt, p-bc; w-word, w-hint, w-entry, w-fetch.
+// Lines that overwrite a part of the core: p-level, p-pc, p-spsel, p-gen, p-cnt, p-bc; w-word, w-hint, w-entry,
+// w-fetch.
 use tlb::entry::Entry;
 use tlb::hint::Hint;
 use words::cells;

@@ -116,7 +116,8 @@ fn put_split(base: u64, ram: &mut [u8], p: Pages, n: u64, value: u64)
 
 // The bytes before the first outside are written.
 fn store_split(base: u64, ram: &mut [u8], p: Pages, n: u64, value: u64) -> Verdict
-    ensures { λ r. ⌜ (r ≡ verdictOf base (length (now (ram .entry))) (Place.Split p) n) × (now (ram .exit) ≡ storeRam base (now (ram .entry)) (Place.Split p) n value) ⌝ }
+    ensures { λ r. ⌜ (r ≡ verdictOf base (length (now (ram .entry))) (Place.Split p) n)
+        × (now (ram .exit) ≡ storeRam base (now (ram .entry)) (Place.Split p) n value) ⌝ }
 {
     let v = place::first_outside(base, ram.len() as u64, p, n);
     let k = place::bytes_before(v, n);
@@ -125,7 +126,8 @@ fn store_split(base: u64, ram: &mut [u8], p: Pages, n: u64, value: u64) -> Verdi
 }
 
 fn store_whole(base: u64, ram: &mut [u8], pa: u64, width: Width, value: u64) -> Verdict
-    ensures { λ r. ⌜ (r ≡ verdictOf base (length (now (ram .entry))) (Place.Whole pa) (bytesIn width)) × (now (ram .exit) ≡ storeRam base (now (ram .entry)) (Place.Whole pa) (bytesIn width) value) ⌝ }
+    ensures { λ r. ⌜ (r ≡ verdictOf base (length (now (ram .entry))) (Place.Whole pa) (bytesIn width))
+        × (now (ram .exit) ≡ storeRam base (now (ram .entry)) (Place.Whole pa) (bytesIn width) value) ⌝ }
 {
     let made = ram::write(base, ram, width, pa, value);
     if made {
@@ -137,7 +139,8 @@ fn store_whole(base: u64, ram: &mut [u8], pa: u64, width: Width, value: u64) -> 
 
 // A store to a place.
 pub fn store(base: u64, ram: &mut [u8], place: Place, width: Width, value: u64) -> Verdict
-    ensures { λ r. ⌜ (r ≡ verdictOf base (length (now (ram .entry))) place (bytesIn width)) × (now (ram .exit) ≡ storeRam base (now (ram .entry)) place (bytesIn width) value) ⌝ }
+    ensures { λ r. ⌜ (r ≡ verdictOf base (length (now (ram .entry))) place (bytesIn width))
+        × (now (ram .exit) ≡ storeRam base (now (ram .entry)) place (bytesIn width) value) ⌝ }
 {
     match place {
         Place::Whole(pa) => store_whole(base, ram, pa, width, value),
@@ -177,10 +180,12 @@ pub fn read_both(base: u64, ram: &[u8], p: Pages, n: u64) -> Word
     }
 }
 
-// A split store, where both parts lie in RAM at a glance, and whether it was made. The byte writer is lent each part by itself: the first
+// A split store, where both parts lie in RAM at a glance, and whether it was made. The byte writer is lent each part
+// by itself: the first
 // page's bytes, and then the others, which are those of the value above them.
 pub fn write_both(base: u64, ram: &mut [u8], p: Pages, n: u64, value: u64) -> bool
-    ensures { λ r. ⌜ (r ≡ bothInside base (length (now (ram .entry))) p n) × (now (ram .exit) ≡ bothStored base (now (ram .entry)) p n value) ⌝ }
+    ensures { λ r. ⌜ (r ≡ bothInside base (length (now (ram .entry))) p n)
+        × (now (ram .exit) ≡ bothStored base (now (ram .entry)) p n value) ⌝ }
 {
     let fits = place::both_inside(base, ram.len() as u64, p, n);
     if fits {

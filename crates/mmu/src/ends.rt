@@ -118,7 +118,8 @@ pub fn store_end(
     width: Width,
     value: u64,
 ) -> StoreEnd
-    ensures { λ r. ⌜ (r ≡ storeEnd placed abort base (now (ram .entry)) va (bytesIn width)) × (now (ram .exit) ≡ storeRamEnd placed base (now (ram .entry)) (bytesIn width) value) ⌝ }
+    ensures { λ r. ⌜ (r ≡ storeEnd placed abort base (now (ram .entry)) va (bytesIn width))
+        × (now (ram .exit) ≡ storeRamEnd placed base (now (ram .entry)) (bytesIn width) value) ⌝ }
 {
     match placed {
         Placed::Fault { addr, fsc } => {

@@ -1,7 +1,9 @@
-// The core's operations on memory, by value: each takes the cache and the addresses kept out of the core, and puts them back.
+// The core's operations on memory, by value: each takes the cache and the addresses kept out of the core, and puts
+// them back.
 ghost use mathlib.Core.Path.{_≡_};
 ghost use Rattle.word.specs.Ram.{wordAt, bytesIn};
-ghost use Rattle.mmu.specs.Ops.{steppedNow, fetchSteppedNow, locatedNow, translateOf, translateAccessOf, readOf, writeOf, ramAfterWrite, fetchOf, fetchPaOf, dataPaOf};
+ghost use Rattle.mmu.specs.Ops.{steppedNow, fetchSteppedNow, locatedNow, translateOf, translateAccessOf};
+ghost use Rattle.mmu.specs.Ops.{readOf, writeOf, ramAfterWrite, fetchOf, fetchPaOf, dataPaOf};
 use crate::core;
 use crate::core::Core;
 use crate::ends;
@@ -131,7 +133,8 @@ pub fn read(core: Core, base: u64, ram: &[u8], va: u64, width: Width) -> Loaded
 
 // A store of the low bytes of a value.
 pub fn write(core: Core, base: u64, ram: &mut [u8], va: u64, width: Width, value: u64) -> Stored
-    ensures { λ r. ⌜ (r ≡ writeOf core base (now (ram .entry)) va (bytesIn width)) × (now (ram .exit) ≡ ramAfterWrite core base (now (ram .entry)) va (bytesIn width) value) ⌝ }
+    ensures { λ r. ⌜ (r ≡ writeOf core base (now (ram .entry)) va (bytesIn width))
+        × (now (ram .exit) ≡ ramAfterWrite core base (now (ram .entry)) va (bytesIn width) value) ⌝ }
 {
     let a = located(core, base, ram, va, width, Kind::Write);
     let t = a.tlb;

@@ -1,7 +1,8 @@
 // Where the bytes of an access lie, and which of them lie outside RAM.
 ghost use mathlib.Core.Path.{_≡_};
 ghost use Prim.Native.Nat.{_≤_};
-ghost use Rattle.mmu.specs.Place.{inPage, nextPage, crosses as crossesOf, goesOn, placedOne, placedBoth, firstPa, byteAt, firstOutside, bytesBefore};
+ghost use Rattle.mmu.specs.Place.{inPage, nextPage, crosses as crossesOf, goesOn, placedOne, placedBoth};
+ghost use Rattle.mmu.specs.Place.{firstPa, byteAt, firstOutside, bytesBefore};
 ghost use Rattle.mmu.specs.AtOnce.{bothInside};
 use tlb::access::Answer;
 use word::ram;
@@ -137,7 +138,8 @@ pub fn bytes_before(v: Verdict, n: u64) -> u64
     }
 }
 
-// Whether both parts of a split access of up to eight bytes lie in RAM, at a glance: a window that ends at the last address is left to the
+// Whether both parts of a split access of up to eight bytes lie in RAM, at a glance: a window that ends at the last
+// address is left to the
 // bytes.
 pub fn both_inside(base: u64, len: u64, p: Pages, n: u64) -> bool
     ensures { λ r. ⌜ r ≡ bothInside base len p n ⌝ }

@@ -89,7 +89,8 @@ pub fn fetch_step(t: Tlb, s: Bank, who: Who, base: u64, ram: &[u8], va: u64) -> 
     Stepped { tlb: u, answer }
 }
 
-// The translations of an access: one, or two where it crosses a page. The first one's effects remain where the second faults.
+// The translations of an access: one, or two where it crosses a page. The first one's effects remain where the
+// second faults.
 pub fn locate(
     t: Tlb,
     s: Bank,

@@ -1,4 +1,5 @@
-// Cases that another implementation answered: what the core must come to, and for a class of difference what it must not.
+// Cases that another implementation answered: what the core must come to, and for a class of difference what it must
+// not.
 use crate::lines;
 use crate::lines::Replay;
 use crate::parts;

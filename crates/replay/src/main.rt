@@ -1,4 +1,5 @@
-// Replays recorded answers on the proved core: each argument names a record; each difference is shown, then what was replayed.
+// Replays recorded answers on the proved core: each argument names a record; each difference is shown, then what was
+// replayed.
 mod cases;
 mod judge;
 mod lines;

@@ -1,4 +1,5 @@
-// A short line: code plus 128 in bits 0 to 7, the number of words that follow, up to three, in bits 8 to 15, a small argument in bits 16 to 63.
+// A short line: code plus 128 in bits 0 to 7, the number of words that follow, up to three, in bits 8 to 15, a small
+// argument in bits 16 to 63.
 
 // A system operation has its five arguments in bytes of the small one.
 fn system(small: u64) -> [u64; 8] {

@@ -57,7 +57,8 @@ fn done_class(kind: u64, par: u64) -> u64 {
     }
 }
 
-// The place of an answer in its row: ok 0, val 1, none 2, pair 3, undefined 4, unimplemented 5, PAR ok 6, numbers from 8, statuses from
+// The place of an answer in its row: ok 0, val 1, none 2, pair 3, undefined 4, unimplemented 5, PAR ok 6, numbers
+// from 8, statuses from
 // 16, leaves by level from 80.
 fn class_of(kind: u64, ans: [u64; 4], par: u64) -> u64 {
     match ans[0] {

@@ -1,4 +1,5 @@
-// One translation, step by step: the registers, the range, each level's descriptor, the end, and what the core itself answers.
+// One translation, step by step: the registers, the range, each level's descriptor, the end, and what the core
+// itself answers.
 pub mod answer;
 pub mod explain;
 pub mod fields;

@@ -1,4 +1,5 @@
-// The registers as two structs: what translation reads, and the rest. An array is indexed by exception level; index 0 is never written.
+// The registers as two structs: what translation reads, and the rest. An array is indexed by exception level; index
+// 0 is never written.
 ghost use mathlib.Core.Path.{_≡_};
 ghost use Prim.Native.Nat.{_<_};
 ghost use Rattle.sysreg.specs.Regs.{levelOf, freshControl, freshSys};

@@ -10,7 +10,8 @@ fn same_levels(a: [u64; 4], b: [u64; 4]) -> bool
     (a[1] == b[1]) & (a[2] == b[2]) & (a[3] == b[3])
 }
 
-// Whether two settings shape translations alike: in all but the TTBRs of the EL1&0 regime, which the ASID tells apart. Index 0 of an array
+// Whether two settings shape translations alike: in all but the TTBRs of the EL1&0 regime, which the ASID tells
+// apart. Index 0 of an array
 // is never written.
 pub fn same_shape(a: Control, b: Control) -> bool
     ensures { λ r. ⌜ r ≡ sameShape a b ⌝ }

@@ -1,7 +1,8 @@
 // An access: what it wants, who makes it, what it needs, and its answer.
 ghost use mathlib.Core.Path.{_≡_};
 ghost use Prim.Native.Nat.{_≤_};
-ghost use Rattle.tlb.specs.Access.{isFetch, mayHint, regimeNumber, tagOf, asUser, userOf, ownRights, rightPlace, rightOf, judged};
+ghost use Rattle.tlb.specs.Access.{isFetch, mayHint, regimeNumber, tagOf, asUser, userOf, ownRights};
+ghost use Rattle.tlb.specs.Access.{rightPlace, rightOf, judged};
 use crate::entry::Entry;
 use walk::regime::Regime;
 

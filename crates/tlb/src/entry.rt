@@ -1,7 +1,8 @@
 // One entry: what a walk found for a page of a regime.
 ghost use mathlib.Core.Path.{_≡_};
 ghost use Prim.Native.Nat.{_<_, _≤_};
-ghost use Rattle.tlb.specs.Entry.{blank as blankOf, slotOf, serves as servesOf, stamped as stampedOf, untagged as untaggedOf, spanOf, pageDropped, asidDropped};
+ghost use Rattle.tlb.specs.Entry.{blank as blankOf, slotOf, serves as servesOf, stamped as stampedOf};
+ghost use Rattle.tlb.specs.Entry.{untagged as untaggedOf, spanOf, pageDropped, asidDropped};
 
 pub struct Entry {
     // the untagged page times 4, plus the regime

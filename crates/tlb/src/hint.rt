@@ -51,7 +51,8 @@ pub fn on_page(pa: u64, va: u64) -> u64
     pa | (va % 4096)
 }
 
-// A data hint's place: by page, with higher bits folded in; reads in the first 256, writes in the next. A fetch has none below 512.
+// A data hint's place: by page, with higher bits folded in; reads in the first 256, writes in the next. A fetch has
+// none below 512.
 pub fn data_slot(va: u64, kind: Kind) -> usize
     ensures { λ r. ⌜ r ≡ dataSlot va kind ⌝ }
 {

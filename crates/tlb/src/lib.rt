@@ -1,6 +1,7 @@
 // The cache of stage 1: what walks found, the hints of recent accesses, the counters, and what other cores are to drop.
 ghost use mathlib.Core.Path.{_≡_};
-ghost use Rattle.tlb.specs.Tlb.{fresh, getOf, putOf, flushOf, dropPageOf, dropAsidOf, invalidateOf, retagOf, sameInval, pendingAfter, broadcastOf};
+ghost use Rattle.tlb.specs.Tlb.{fresh, getOf, putOf, flushOf, dropPageOf, dropAsidOf, invalidateOf, retagOf};
+ghost use Rattle.tlb.specs.Tlb.{sameInval, pendingAfter, broadcastOf};
 ghost use Rattle.tlb.specs.Step.{withTurn, withFetch};
 use cache::Cache;
 use count::Counts;

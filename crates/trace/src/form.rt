@@ -1,7 +1,9 @@
-// The lines of a trace: each by its code, with its name and its arguments. The codes are those of the operations' words.
+// The lines of a trace: each by its code, with its name and its arguments. The codes are those of the operations'
+// words.
 use crate::lex;
 
-// A name in letters, and a letter for each argument: n any number, w 32 bits, h 16 bits, b 8 bits, f a flag, k a kind of access,
+// A name in letters, and a letter for each argument: n any number, w 32 bits, h 16 bits, b 8 bits, f a flag, k a
+// kind of access,
 // r a regime, e an exception.
 pub struct Form {
     pub name: u64,

@@ -1,4 +1,5 @@
-// The words of a line, byte by byte. A word is kept as four numbers: its column, its letters, its value, and what keeps it from being a
+// The words of a line, byte by byte. A word is kept as four numbers: its column, its letters, its value, and what
+// keeps it from being a
 // number.
 
 // How many words are kept; a line may have more, which nothing reads.

@@ -1,7 +1,8 @@
 // One level of a walk: where its descriptor lies, and what the descriptor says.
 ghost use mathlib.Core.Path.{_≡_};
 ghost use Prim.Native.Nat.{ℕ, _≤_, _<_};
-ghost use Rattle.walk.specs.Table.{grainsize, stride, firstblocklevel, beyond, descaddr, tableNext, leafPermissions, leafResult, levelNext};
+ghost use Rattle.walk.specs.Table.{grainsize, stride, firstblocklevel, beyond, descaddr, tableNext};
+ghost use Rattle.walk.specs.Table.{leafPermissions, leafResult, levelNext};
 ghost use Rattle.walk.specs.Walk.{walkedOf};
 ghost use Rattle.walk.specs.State.{lookupOf, stepped, meant, Standing, Leads};
 use crate::rights;
@@ -18,7 +19,8 @@ pub struct Params {
     pub wxn: bool,
 }
 
-// Where a walk stands: the bits of the table descriptors passed, the table, the bit above those that index it, and the lowest of those.
+// Where a walk stands: the bits of the table descriptors passed, the table, the bit above those that index it, and
+// the lowest of those.
 pub struct WalkState {
     pub tables: u64,
     pub table: u64,
@@ -127,7 +129,8 @@ fn permissions(p: Params, w: WalkState, desc: u64) -> Permissions
     }
 }
 
-// A block or page descriptor: the leaf, unless blocks are not allowed there, its output lies beyond the output size, or its access flag
+// A block or page descriptor: the leaf, unless blocks are not allowed there, its output lies beyond the output size,
+// or its access flag
 // is clear.
 fn leaf_step(p: Params, w: WalkState, va: u64, desc: u64) -> Walked
     requires { ⌜ Standing p w ⌝ }

@@ -1,4 +1,5 @@
-// Bit fields whose place is a variable; a field at a fixed place is written out, as (x >> 14) % 4. A place is taken modulo 64, as the
+// Bit fields whose place is a variable; a field at a fixed place is written out, as (x >> 14) % 4. A place is taken
+// modulo 64, as the
 // machine's shifts take it, so that each function is total.
 ghost use mathlib.Core.Path.{_≡_};
 ghost use Prim.Native.Nat.{_+_, _%_, _^_, _≤_};

@@ -1,4 +1,5 @@
-// RAM as a lent window: its first address, and its bytes. An access is 1, 2, 4 or 8 bytes, little-endian, and has all of its bytes in the
+// RAM as a lent window: its first address, and its bytes. An access is 1, 2, 4 or 8 bytes, little-endian, and has
+// all of its bytes in the
 // window or moves none.
 ghost use mathlib.Core.Path.{_≡_};
 ghost use Prim.Native.Nat.{ℕ, _+_, _≤_};
@@ -51,7 +52,8 @@ pub fn bytes_in(width: Width) -> u64
     }
 }
 
-// The value of one, two, four and eight bytes from at, the lowest first: each joins two of the last, and the whole becomes one load.
+// The value of one, two, four and eight bytes from at, the lowest first: each joins two of the last, and the whole
+// becomes one load.
 pub(crate) fn le1(ram: &[u8], at: usize) -> u64
     requires { ⌜ at + 1 ≤ length (now ram) ⌝ }
     ensures { λ r. ⌜ r ≡ littleEndian (now (ram .entry)) 1 at ⌝ }
@@ -83,7 +85,8 @@ pub(crate) fn le8(ram: &[u8], at: usize) -> u64
     le4(ram, at) + le4(ram, at + 4) * 0x1_0000_0000
 }
 
-// Whether all n bytes from the address pa lie in a window of len bytes from base. The sum of address and size does not wrap.
+// Whether all n bytes from the address pa lie in a window of len bytes from base. The sum of address and size does
+// not wrap.
 pub fn inside(base: u64, len: u64, n: u64, pa: u64) -> bool
     ensures { λ r. ⌜ r ≡ within base len n pa ⌝ }
 {
@@ -144,9 +147,11 @@ fn put_part(ram: &mut [u8], at: usize, n: usize, value: u64)
     put_bytes(&mut ram[at..at + n], value);
 }
 
-// A store of the n low bytes of a value: the part from the address minus the base, of the store's size, or nothing. Whether it was made.
+// A store of the n low bytes of a value: the part from the address minus the base, of the store's size, or nothing.
+// Whether it was made.
 pub fn write_bytes(base: u64, ram: &mut [u8], n: u64, pa: u64, value: u64) -> bool
-    ensures { λ r. ⌜ (r ≡ within base (length (now (ram .entry))) n pa) × (now (ram .exit) ≡ stored base (now (ram .entry)) n pa value) ⌝ }
+    ensures { λ r. ⌜ (r ≡ within base (length (now (ram .entry))) n pa)
+        × (now (ram .exit) ≡ stored base (now (ram .entry)) n pa value) ⌝ }
 {
     let fits = inside(base, ram.len() as u64, n, pa);
     if fits {
@@ -159,7 +164,8 @@ pub fn write_bytes(base: u64, ram: &mut [u8], n: u64, pa: u64, value: u64) -> bo
 
 // A store of a width's bytes.
 pub fn write(base: u64, ram: &mut [u8], width: Width, pa: u64, value: u64) -> bool
-    ensures { λ r. ⌜ (r ≡ within base (length (now (ram .entry))) (bytesIn width) pa) × (now (ram .exit) ≡ stored base (now (ram .entry)) (bytesIn width) pa value) ⌝ }
+    ensures { λ r. ⌜ (r ≡ within base (length (now (ram .entry))) (bytesIn width) pa)
+        × (now (ram .exit) ≡ stored base (now (ram .entry)) (bytesIn width) pa value) ⌝ }
 {
     let n = bytes_in(width);
     write_bytes(base, ram, n, pa, value)

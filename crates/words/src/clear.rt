@@ -12,7 +12,8 @@ use crate::place::State;
 use tlb::hint;
 
 fn no_data_hints(state: &mut State)
-    ensures { λ _. ⌜ Moved (now (state .entry)) (now (state .exit)) (withDataHints (held (now (state .entry))) noHints) ⌝ }
+    ensures { λ _. ⌜ Moved (now (state .entry)) (now (state .exit)) (withDataHints (held (now
+        (state .entry))) noHints) ⌝ }
 {
     let mut i: usize = 0;
     while i < 512 {
@@ -45,7 +46,8 @@ pub fn no_entries(state: &mut State)
 
 // Each entry that a Page names loses its tag.
 pub fn drop_pages(state: &mut State, generation: u32, page: u64)
-    ensures { λ _. ⌜ Moved (now (state .entry)) (now (state .exit)) (withEntries (held (now (state .entry))) (map (pageDropped generation page) (held (now (state .entry)) .tlb .cache .entries))) ⌝ }
+    ensures { λ _. ⌜ Moved (now (state .entry)) (now (state .exit)) (withEntries (held (now (state .entry))) (map
+        (pageDropped generation page) (held (now (state .entry)) .tlb .cache .entries))) ⌝ }
 {
     let mut j: usize = 0;
     while j < 1024 {
@@ -58,7 +60,8 @@ pub fn drop_pages(state: &mut State, generation: u32, page: u64)
 
 // Each entry that an Asid names loses its tag.
 pub fn drop_asids(state: &mut State, asid: u16)
-    ensures { λ _. ⌜ Moved (now (state .entry)) (now (state .exit)) (withEntries (held (now (state .entry))) (map (asidDropped asid) (held (now (state .entry)) .tlb .cache .entries))) ⌝ }
+    ensures { λ _. ⌜ Moved (now (state .entry)) (now (state .exit)) (withEntries (held (now (state .entry))) (map
+        (asidDropped asid) (held (now (state .entry)) .tlb .cache .entries))) ⌝ }
 {
     let mut j: usize = 0;
     while j < 1024 {

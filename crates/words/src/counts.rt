@@ -12,7 +12,8 @@ use tlb::Pending;
 use tlb::entry::Present;
 
 pub fn count_hit(state: &mut State)
-    ensures { λ _. ⌜ Moved (now (state .entry)) (now (state .exit)) (withCounts (held (now (state .entry))) (hitCounted (held (now (state .entry)) .tlb .counts))) ⌝ }
+    ensures { λ _. ⌜ Moved (now (state .entry)) (now (state .exit)) (withCounts (held (now (state .entry)))
+        (hitCounted (held (now (state .entry)) .tlb .counts))) ⌝ }
 {
     whole(state);
     let n = std::num::wrapping_add_u64(state[place::HITS], 1);
@@ -20,7 +21,8 @@ pub fn count_hit(state: &mut State)
 }
 
 pub fn count_walk(state: &mut State)
-    ensures { λ _. ⌜ Moved (now (state .entry)) (now (state .exit)) (withCounts (held (now (state .entry))) (walkCounted (held (now (state .entry)) .tlb .counts))) ⌝ }
+    ensures { λ _. ⌜ Moved (now (state .entry)) (now (state .exit)) (withCounts (held (now (state .entry)))
+        (walkCounted (held (now (state .entry)) .tlb .counts))) ⌝ }
 {
     whole(state);
     let n = std::num::wrapping_add_u64(state[place::WALKS], 1);
@@ -28,7 +30,8 @@ pub fn count_walk(state: &mut State)
 }
 
 pub fn count_epoch(state: &mut State)
-    ensures { λ _. ⌜ Moved (now (state .entry)) (now (state .exit)) (withCounts (held (now (state .entry))) (epochCounted (held (now (state .entry)) .tlb .counts))) ⌝ }
+    ensures { λ _. ⌜ Moved (now (state .entry)) (now (state .exit)) (withCounts (held (now (state .entry)))
+        (epochCounted (held (now (state .entry)) .tlb .counts))) ⌝ }
 {
     whole(state);
     let n = std::num::wrapping_add_u64(state[place::EPOCH], 1);
@@ -36,7 +39,8 @@ pub fn count_epoch(state: &mut State)
 }
 
 pub fn count_flush(state: &mut State)
-    ensures { λ _. ⌜ Moved (now (state .entry)) (now (state .exit)) (withCounts (held (now (state .entry))) (flushCounted (held (now (state .entry)) .tlb .counts))) ⌝ }
+    ensures { λ _. ⌜ Moved (now (state .entry)) (now (state .exit)) (withCounts (held (now (state .entry)))
+        (flushCounted (held (now (state .entry)) .tlb .counts))) ⌝ }
 {
     whole(state);
     let n = std::num::wrapping_add_u64(state[place::FLUSHES], 1);
@@ -46,7 +50,8 @@ pub fn count_flush(state: &mut State)
 }
 
 pub fn count_drop(state: &mut State)
-    ensures { λ _. ⌜ Moved (now (state .entry)) (now (state .exit)) (withCounts (held (now (state .entry))) (dropCounted (held (now (state .entry)) .tlb .counts))) ⌝ }
+    ensures { λ _. ⌜ Moved (now (state .entry)) (now (state .exit)) (withCounts (held (now (state .entry)))
+        (dropCounted (held (now (state .entry)) .tlb .counts))) ⌝ }
 {
     whole(state);
     let n = std::num::wrapping_add_u64(state[place::DROPS], 1);
@@ -65,14 +70,16 @@ pub fn present_at(state: &State) -> Present
 }
 
 pub fn put_generation(state: &mut State, generation: u32)
-    ensures { λ _. ⌜ Moved (now (state .entry)) (now (state .exit)) (withPresent (held (now (state .entry))) (record { generation = generation; asid = held (now (state .entry)) .tlb .cache .present .asid })) ⌝ }
+    ensures { λ _. ⌜ Moved (now (state .entry)) (now (state .exit)) (withPresent (held (now (state .entry)))
+        (record { generation = generation; asid = held (now (state .entry)) .tlb .cache .present .asid })) ⌝ }
 {
     whole(state);
     state[place::GENERATION] = generation as u64;
 }
 
 pub fn put_asid(state: &mut State, asid: u16)
-    ensures { λ _. ⌜ Moved (now (state .entry)) (now (state .exit)) (withPresent (held (now (state .entry))) (record { generation = held (now (state .entry)) .tlb .cache .present .generation; asid = asid })) ⌝ }
+    ensures { λ _. ⌜ Moved (now (state .entry)) (now (state .exit)) (withPresent (held (now (state .entry)))
+        (record { generation = held (now (state .entry)) .tlb .cache .present .generation; asid = asid })) ⌝ }
 {
     whole(state);
     state[place::ASID] = asid as u64;
@@ -91,7 +98,8 @@ pub fn pending_at(state: &State) -> Pending
 }
 
 fn put_inval(state: &mut State, what: Inval)
-    ensures { λ _. ⌜ Moved (now (state .entry)) (now (state .exit)) (withPending (held (now (state .entry))) (Pending.Some what)) ⌝ }
+    ensures { λ _. ⌜ Moved (now (state .entry)) (now (state .exit)) (withPending (held (now (state .entry)))
+        (Pending.Some what)) ⌝ }
 {
     whole(state);
     match what {
@@ -111,7 +119,8 @@ fn put_inval(state: &mut State, what: Inval)
 }
 
 pub fn put_pending(state: &mut State, pending: Pending)
-    ensures { λ _. ⌜ Moved (now (state .entry)) (now (state .exit)) (withPending (held (now (state .entry))) pending) ⌝ }
+    ensures { λ _. ⌜ Moved (now (state .entry)) (now (state .exit)) (withPending (held (now
+        (state .entry))) pending) ⌝ }
 {
     whole(state);
     match pending {

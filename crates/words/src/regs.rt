@@ -154,7 +154,8 @@ pub fn control_reg(state: &State, register: ControlReg) -> u64
 }
 
 pub fn put_control(state: &mut State, register: ControlReg, value: u64)
-    ensures { λ _. ⌜ Moved (now (state .entry)) (now (state .exit)) (withControl (held (now (state .entry))) (controlWith (held (now (state .entry)) .control) register value)) ⌝ }
+    ensures { λ _. ⌜ Moved (now (state .entry)) (now (state .exit)) (withControl (held (now (state .entry)))
+        (controlWith (held (now (state .entry)) .control) register value)) ⌝ }
 {
     whole(state);
     let k = control_place(register);
@@ -162,7 +163,8 @@ pub fn put_control(state: &mut State, register: ControlReg, value: u64)
 }
 
 pub fn put_sys(state: &mut State, register: SysReg, value: u64)
-    ensures { λ _. ⌜ Moved (now (state .entry)) (now (state .exit)) (withSys (held (now (state .entry))) (sysWith (held (now (state .entry)) .sys) register value)) ⌝ }
+    ensures { λ _. ⌜ Moved (now (state .entry)) (now (state .exit)) (withSys (held (now (state .entry))) (sysWith
+        (held (now (state .entry)) .sys) register value)) ⌝ }
 {
     whole(state);
     let k = sys_place(register);
@@ -172,7 +174,8 @@ pub fn put_sys(state: &mut State, register: SysReg, value: u64)
 
 // ELR, SPSR and ESR of an exception's target, and FAR where it has an address.
 pub fn put_saved(state: &mut State, target: El, report: Report, spsr: u64, ret: u64)
-    ensures { λ _. ⌜ Moved (now (state .entry)) (now (state .exit)) (withSys (held (now (state .entry))) (enteredSys (held (now (state .entry)) .sys) target report spsr ret)) ⌝ }
+    ensures { λ _. ⌜ Moved (now (state .entry)) (now (state .exit)) (withSys (held (now (state .entry))) (enteredSys
+        (held (now (state .entry)) .sys) target report spsr ret)) ⌝ }
 {
     whole(state);
     let t = level_index(target);

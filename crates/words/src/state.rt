@@ -38,14 +38,16 @@ pub fn who_at(state: &State) -> Who
 }
 
 pub fn put_level(state: &mut State, level: u8)
-    ensures { λ _. ⌜ Moved (now (state .entry)) (now (state .exit)) (withWho (held (now (state .entry))) (record { level = level; mark = held (now (state .entry)) .who .mark })) ⌝ }
+    ensures { λ _. ⌜ Moved (now (state .entry)) (now (state .exit)) (withWho (held (now (state .entry)))
+        (record { level = level; mark = held (now (state .entry)) .who .mark })) ⌝ }
 {
     whole(state);
     state[place::LEVEL] = level as u64;
 }
 
 pub fn put_mark(state: &mut State, mark: bool)
-    ensures { λ _. ⌜ Moved (now (state .entry)) (now (state .exit)) (withWho (held (now (state .entry))) (record { level = held (now (state .entry)) .who .level; mark = mark })) ⌝ }
+    ensures { λ _. ⌜ Moved (now (state .entry)) (now (state .exit)) (withWho (held (now (state .entry)))
+        (record { level = held (now (state .entry)) .who .level; mark = mark })) ⌝ }
 {
     whole(state);
     let word = bits::flag_word(mark);
@@ -64,7 +66,8 @@ pub fn flags_at(state: &State) -> Flags
 
 // An exception masks the interrupts and takes SP_ELx.
 pub fn put_masked(state: &mut State)
-    ensures { λ _. ⌜ Moved (now (state .entry)) (now (state .exit)) (withFlags (held (now (state .entry))) (entryFlags (held (now (state .entry)) .flags))) ⌝ }
+    ensures { λ _. ⌜ Moved (now (state .entry)) (now (state .exit)) (withFlags (held (now (state .entry)))
+        (entryFlags (held (now (state .entry)) .flags))) ⌝ }
 {
     whole(state);
     state[place::DAIF] = DAIF_ALL as u64;

@@ -2,14 +2,16 @@
 use Rattle.a72abi.proofs.Booking.{refused-reply, refused-core, reached-reply, run-core}
 use Rattle.cpu.specs.Step.{runOf}
 use Rattle.a72abi.specs.Kept.{staying}
+use Rattle.cpu.specs.Check.{missedOf}
 use borrow.Author.Needs.{needs}
 use Rattle.a72abi.proofs.book.data_pa.Statement.{statement}
 use Rattle.a72abi.proofs.book.data_pa.Tie as tie
 
-missed-requires : tie.Need-missed-requires
-missed-requires c κs = search needs
+missed-with-ram-requires : tie.Need-missed-with-ram-requires
+missed-with-ram-requires c κs = search needs
 
 returns : tie.Need-returns
+unfolding missedOf
 returns c = record { reply = search (refused-reply, needs); words = search (refused-core, needs); stays = search (staying, needs) }
 
 data-pa-requires : tie.Need-data-pa-requires
@@ -19,9 +21,9 @@ reached-requires : tie.Need-reached-requires
 reached-requires c κs = search needs
 
 returns-2 : tie.Need-returns-2
-unfolding runOf
+unfolding missedOf runOf
 returns-2 c = record { reply = search (reached-reply, needs); words = search (run-core, needs); stays = search (staying, needs) }
 
 pub data-pa-spec : {M : Type 1} → statement M
 data-pa-spec =
-    tie.close (tie.spec missed-requires returns data-pa-requires reached-requires returns-2)
+    tie.close (tie.spec missed-with-ram-requires returns data-pa-requires reached-requires returns-2)

@@ -4,22 +4,24 @@ use Rattle.cpu.specs.Step.{runOf}
 use Rattle.exec.specs.Ops.{setMark}
 use Rattle.words.specs.Parts.{withWho}
 use Rattle.a72abi.specs.Kept.{staying}
+use Rattle.cpu.specs.Check.{missedOf}
 use borrow.Author.Needs.{needs}
 use Rattle.a72abi.proofs.book.mark.Statement.{statement}
 use Rattle.a72abi.proofs.book.mark.Tie as tie
 
-missed-requires : tie.Need-missed-requires
-missed-requires c κs = search needs
+missed-any-requires : tie.Need-missed-any-requires
+missed-any-requires c κs = search needs
 
 returns : tie.Need-returns
+unfolding missedOf
 returns c = record { reply = search (refused-reply, needs); words = search (refused-core, needs); stays = search (staying, needs) }
 
 put-mark-requires : tie.Need-put-mark-requires
 put-mark-requires c κs = search needs
 
 returns-2 : tie.Need-returns-2
-unfolding runOf setMark withWho
+unfolding missedOf runOf setMark withWho
 returns-2 c = record { reply = search (run-reply, needs); words = search (run-core, needs); stays = search (staying, needs) }
 
 pub mark-spec : {M : Type 1} → statement M
-mark-spec = tie.close (tie.spec missed-requires returns put-mark-requires returns-2)
+mark-spec = tie.close (tie.spec missed-any-requires returns put-mark-requires returns-2)

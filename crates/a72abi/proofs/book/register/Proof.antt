@@ -2,14 +2,16 @@
 use Rattle.a72abi.proofs.Booking.{refused-reply, refused-core, written-reply, run-core}
 use Rattle.cpu.specs.Step.{runOf}
 use Rattle.a72abi.specs.Kept.{staying}
+use Rattle.cpu.specs.Check.{missedOf}
 use borrow.Author.Needs.{needs}
 use Rattle.a72abi.proofs.book.register.Statement.{statement}
 use Rattle.a72abi.proofs.book.register.Tie as tie
 
-missed-requires : tie.Need-missed-requires
-missed-requires c κs = search needs
+missed-register-requires : tie.Need-missed-register-requires
+missed-register-requires c κs = search needs
 
 returns : tie.Need-returns
+unfolding missedOf
 returns c = record { reply = search (refused-reply, needs); words = search (refused-core, needs); stays = search (staying, needs) }
 
 write-register-requires : tie.Need-write-register-requires
@@ -19,9 +21,9 @@ written-requires : tie.Need-written-requires
 written-requires c κs = search needs
 
 returns-2 : tie.Need-returns-2
-unfolding runOf
+unfolding missedOf runOf
 returns-2 c = record { reply = search (written-reply, needs); words = search (run-core, needs); stays = search (staying, needs) }
 
 pub register-spec : {M : Type 1} → statement M
 register-spec =
-    tie.close (tie.spec missed-requires returns write-register-requires written-requires returns-2)
+    tie.close (tie.spec missed-register-requires returns write-register-requires written-requires returns-2)

@@ -6,8 +6,8 @@ use borrow.Author.Needs.{needs}
 use Rattle.a72abi.proofs.book.system.Statement.{statement}
 use Rattle.a72abi.proofs.book.system.Tie as tie
 
-missed-requires : tie.Need-missed-requires
-missed-requires c κs = search needs
+missed-system-requires : tie.Need-missed-system-requires
+missed-system-requires c κs = search needs
 
 returns : tie.Need-returns
 returns c = (record { reply = search (refused-reply, needs); words = search (refused-core, needs); stays = search (staying, needs) }, search (refused-ram, needs))
@@ -28,4 +28,4 @@ returns-2 c = (record { reply = search (stored-reply, needs); words = search (ru
 pub system-spec : {M : Type 1} → statement M
 system-spec =
     tie.close
-    (tie.spec missed-requires returns system-requires stored-requires same-length returns-2)
+    (tie.spec missed-system-requires returns system-requires stored-requires same-length returns-2)
