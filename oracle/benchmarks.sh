@@ -53,10 +53,9 @@ end. One argument of each call alternates between two values, so that a case sta
 | lent | with FEATURE=harness/lent: a loop in `liblentbench.a` over `lent::translate` on a core that is a local there, from a fresh one in each run; answers alone are compared |
 | register write | TCR_EL1 between two values; TTBR0_EL1 between two ASIDs; VBAR_EL1; SCTLR_EL1 to what it is |
 
-The bars were set before: hint hit 0.95, entry hit, walks and faults of translations 1.05, loads and stores on a hint 1.0, split ones 1.2, TLBI and
-register writes 1.2; on a lent core hint hit 1.5, entry hit 1.8, walks 1.5. The other cases have none. Those of translations came from a measurement in
-which the Rust's side turned the kind of access from a number into a `Kind` by a call out of line, 1.1 ns; here that is inlined, and the Rust is as
-quick as pimu's own function is.
+The bars: hint hits 1.05, on `fetch_pa` 1.5; entry hits of translate, data_pa and fetch_pa 1.1, of load, store and fetch 1.15; walks and faults of translations 1.05; split accesses,
+TLBI, register writes and settings 1.2; DC ZVA 1.0; abort entry 1.6; on a lent core hint hit 1.3, entry hit 1.2, walks 0.95. The other cases have none. Until November 2026 hint hits
+had 0.95 (translations) and 1.0 (loads and stores), entry hits of translations 1.05, a lent core 1.5, 1.8 and 1.5, and fetch, data_pa, DC ZVA, abort entry and settings none.
 
 ## How it was run
 

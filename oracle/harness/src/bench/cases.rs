@@ -3,12 +3,18 @@ use super::scene::{same_entry, same_hint, Scene, LOCAL, NOTHING, PAGE};
 use super::{Case, Work};
 use pimu::aarch64::sysreg::key;
 
-const HINT: f64 = 0.95;
-const ENTRY: f64 = 1.05;
+const HINT: f64 = 1.05;
+const ENTRY: f64 = 1.1;
 const WALK: f64 = 1.05;
-const ACCESS: f64 = 1.0;
+const ACCESS_ENTRY: f64 = 1.15;
 const SPLIT: f64 = 1.2;
 const UPKEEP: f64 = 1.2;
+const FETCH_PA: f64 = 1.5;
+const ZEROING: f64 = 1.0;
+const EXCEPTION: f64 = 1.6;
+const LENT_HINT: f64 = 1.3;
+const LENT_ENTRY: f64 = 1.2;
+const LENT_WALK: f64 = 0.95;
 
 const READ: Work = Work::Translate(1);
 const WRITE: Work = Work::Translate(2);
@@ -44,12 +50,12 @@ fn lent() -> Vec<Case> {
     let (hints, entries) = ([page(PAGE), page(same_hint())], [page(PAGE), page(same_entry())]);
     let (read, fetch) = (Work::Lent(1), Work::Lent(4));
     vec![
-        case("lent: hint hit", 1.5, read, here, scene()),
-        case("lent: entry hit, read", 1.8, read, hints, scene()),
-        case("lent: entry hit, fetch", 1.8, fetch, here, scene()),
-        case("lent: walk of 2 levels", 1.5, read, entries, walk(2)),
-        case("lent: walk of 3 levels", 1.5, read, entries, walk(3)),
-        case("lent: walk of 4 levels", 1.5, read, entries, walk(4)),
+        case("lent: hint hit", LENT_HINT, read, here, scene()),
+        case("lent: entry hit, read", LENT_ENTRY, read, hints, scene()),
+        case("lent: entry hit, fetch", LENT_ENTRY, fetch, here, scene()),
+        case("lent: walk of 2 levels", LENT_WALK, read, entries, walk(2)),
+        case("lent: walk of 3 levels", LENT_WALK, read, entries, walk(3)),
+        case("lent: walk of 4 levels", LENT_WALK, read, entries, walk(4)),
     ]
 }
 
@@ -113,8 +119,8 @@ fn translations() -> Vec<Case> {
             unmapped,
         ),
         case("translate: stage 1 off", None, READ, hints, off),
-        case("data_pa: hint hit", None, Work::DataPa, here, scene()),
-        case("data_pa: entry hit", None, Work::DataPa, hints, scene()),
+        case("data_pa: hint hit", HINT, Work::DataPa, here, scene()),
+        case("data_pa: entry hit", ENTRY, Work::DataPa, hints, scene()),
     ]
 }
 
@@ -126,8 +132,8 @@ fn accesses() -> Vec<Case> {
     // Across the end of the page: by half, and by all but one byte.
     let across = [page(PAGE) | 0xFFC, page(PAGE) | 0xFF9];
     let ends = [page(PAGE) | 0xFFF; 2];
-    let load = |name, size| case(name, ACCESS, Work::Load(size), here, scene());
-    let store = |name, size| case(name, ACCESS, Work::Store(size), here, scene());
+    let load = |name, size| case(name, HINT, Work::Load(size), here, scene());
+    let store = |name, size| case(name, HINT, Work::Store(size), here, scene());
     let split = |name, work, at| case(name, SPLIT, work, at, scene());
     vec![
         load("load 1: hint hit", 1),
@@ -138,8 +144,8 @@ fn accesses() -> Vec<Case> {
         store("store 2: hint hit", 2),
         store("store 4: hint hit", 4),
         store("store 8: hint hit", 8),
-        case("load 8: entry hit", None, Work::Load(8), hints, scene()),
-        case("store 8: entry hit", None, Work::Store(8), hints, scene()),
+        case("load 8: entry hit", ACCESS_ENTRY, Work::Load(8), hints, scene()),
+        case("store 8: entry hit", ACCESS_ENTRY, Work::Store(8), hints, scene()),
         case("load 8: walk of 3 levels", None, Work::Load(8), entries, scene()),
         case(
             "store 8: walk of 3 levels",
@@ -168,11 +174,11 @@ fn fetches() -> Vec<Case> {
     let there = [page(PAGE), page(PAGE + 1)];
     let entries = [page(PAGE), page(same_entry())];
     vec![
-        case("fetch: fetch hint hit", None, Work::Fetch, here, scene()),
-        case("fetch: entry hit", None, Work::Fetch, there, scene()),
+        case("fetch: fetch hint hit", HINT, Work::Fetch, here, scene()),
+        case("fetch: entry hit", ACCESS_ENTRY, Work::Fetch, there, scene()),
         case("fetch: walk of 3 levels", None, Work::Fetch, entries, scene()),
-        case("fetch_pa: fetch hint hit", None, Work::FetchPa, here, scene()),
-        case("fetch_pa: entry hit", None, Work::FetchPa, there, scene()),
+        case("fetch_pa: fetch hint hit", FETCH_PA, Work::FetchPa, here, scene()),
+        case("fetch_pa: entry hit", ENTRY, Work::FetchPa, there, scene()),
     ]
 }
 
@@ -195,7 +201,7 @@ fn upkeep() -> Vec<Case> {
     let shapes = [25 | 2 << 30 | 5 << 32, 24 | 2 << 30 | 5 << 32];
     let tlbi = |name, fields, scene| case(name, UPKEEP, Work::System(fields), [0, 1], scene);
     let reg = |name, key, values| case(name, UPKEEP, Work::Register(key), values, full([0, 0]));
-    let sys = |name, fields, scene| case(name, None, Work::System(fields), [0, 1], scene);
+    let sys = |name, bar: Option<f64>, fields, scene| case(name, bar, Work::System(fields), [0, 1], scene);
     vec![
         tlbi("TLBI All", all, full(pages)),
         tlbi("TLBI Page, 1,024 live entries", va, full(pages)),
@@ -206,9 +212,9 @@ fn upkeep() -> Vec<Case> {
         reg("register write: ASID changes", ttbr0, [7 << 48, 9 << 48]),
         reg("register write: neither", vbar, [0x800, 0x1000]),
         reg("register write: same SCTLR", sctlr, [1, 1]),
-        sys("AT S1E1R: walk of 3 levels", [0, 7, 8, 0], scene()),
-        sys("AT S1E0R: permission fault", [0, 7, 8, 2], scene()),
-        sys("DC ZVA: hint hit", [3, 7, 4, 1], scene()),
+        sys("AT S1E1R: walk of 3 levels", None, [0, 7, 8, 0], scene()),
+        sys("AT S1E0R: permission fault", None, [0, 7, 8, 2], scene()),
+        sys("DC ZVA: hint hit", Some(ZEROING), [3, 7, 4, 1], scene()),
     ]
 }
 
@@ -217,14 +223,14 @@ fn settings() -> Vec<Case> {
     vec![
         case(
             "abort entry: data abort",
-            None,
+            EXCEPTION,
             Work::DataAbort,
             addresses,
             scene(),
         ),
-        case("abort entry: SVC", None, Work::Svc, [1, 2], scene()),
-        case("level", None, Work::Level, [0, 1], scene()),
-        case("mark", None, Work::Mark, [0, 1], scene()),
-        case("general register", None, Work::General(7), addresses, scene()),
+        case("abort entry: SVC", EXCEPTION, Work::Svc, [1, 2], scene()),
+        case("level", UPKEEP, Work::Level, [0, 1], scene()),
+        case("mark", UPKEEP, Work::Mark, [0, 1], scene()),
+        case("general register", UPKEEP, Work::General(7), addresses, scene()),
     ]
 }
