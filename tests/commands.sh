@@ -15,6 +15,7 @@ here=$work/repository
 mkdir -p "$here/crates/word/src" "$here/crates/a72/src" "$here/tools" "$here/tests" "$here/target/bin" "$here/target/stamp" "$work/bin"
 cp run check a72 "$here"
 cp tools/said.sh tools/requires.awk "$here/tools"
+echo 'echo the places are one' >"$here/tests/places.sh"
 printf 'word: # entry layer\na72: word io\n' >"$here/crates.txt"
 echo 'kit of the test' >"$here/kit"
 : >"$here/crates/word/src/lib.rt"
@@ -141,6 +142,9 @@ in_out 2 ./check && { has out 'rt: a fault in rt'; last out '0 passed, 1 failed'
 printf 'pub fn f()\n    requires { x }\n{\n' >crates/word/src/lib.rt
 in_out 1 ./check && { has err 'check: a requires on a public function of an entry layer: crates/word/src/lib.rt:2'; last out '0 passed, 1 failed'; }
 : >crates/word/src/lib.rt
+echo 'echo place LEVEL: 68 and 69; exit 1' >tests/places.sh
+in_out 1 ./check && { has err 'check: the places of a state differ: place LEVEL: 68 and 69'; last out '0 passed, 1 failed'; }
+echo 'echo the places are one' >tests/places.sh
 mkdir crates/stray
 in_out 1 ./check && { has err 'check: crates/stray is not listed in crates.txt'; last out '0 passed, 1 failed'; }
 rmdir crates/stray
@@ -165,9 +169,9 @@ for tool in sh awk sed grep cat tr date mkdir tail head mktemp rm chmod df find 
 in_out 0 env PATH="$work/bin:$work/few" ./check tests && {
     has out 'check: differential: left out, cargo is missing'
     has out 'check: rows of docs/DIFFERENCES.md: left out, python3 is missing'
-    last out '2 passed, 0 failed'
+    last out '3 passed, 0 failed'
 }
-in_out 1 env PATH="$work/bin:$work/few" ./check all && last out '5 passed, 5 failed'
+in_out 1 env PATH="$work/bin:$work/few" ./check all && last out '6 passed, 5 failed'
 
 # Stopped: what rt had started ends too, and no scratch files stay.
 cat >"$DOES" <<RT
