@@ -7,6 +7,8 @@ use native.Mathlib.Omega.{arith}
 use borrow.Author.Tests.{eq-eqb, ne-eqb}
 use lib.Dec.{eqb}
 use Rattle.word.specs.declared.ram.Word.{Word}
+use Rattle.fault.specs.First.{first}
+use Rattle.fault.specs.declared.Fault.{Fault}
 use Rattle.walk.specs.Regime.{bankOf, regimeOf}
 use Rattle.walk.specs.declared.regime.Regime.{Regime}
 use Rattle.walk.specs.declared.regime.Bank.{Bank}
@@ -158,13 +160,13 @@ module _ (ws : List ℕ) (va : ℕ) (kind : Kind) (who : Who) (b : Bool) (key i 
 pub answer-zero : (code pa : ℕ) → code ≡ 0 → Address pa ≡ answerOf code pa
 answer-zero code pa e = sym (rw (eq-eqb code 0 e))
 
-pub answer-other : (code pa : ℕ) → (code ≡ 0 → ⊥) → Status (code % 2 ^ 8) ≡ answerOf code pa
-answer-other code pa e = sym (rw (ne-eqb code 0 e))
+pub answer-other : (code pa : ℕ) (f : Fault) → (code ≡ 0 → ⊥) → f ≡ first (code % 2 ^ 8) → Status f ≡ answerOf code pa
+answer-other code pa f e ef = rw (ne-eqb code 0 e, ef)
 
 -- and back: a number up to 511 has a status of eight bits
 code-back : (a : Answer) (old : ℕ) → codeOf a ≤ 511 → answerOf (codeOf a) (valueOf a old) ≡ a
 code-back (Address pa) old h = refl
-code-back (Status fsc) old h = rw (ne-eqb (256 + fsc) 0 (λ e. omega arith)) (ap Status (low fsc (omega arith)))
+code-back (Status f) old h = rw (ne-eqb (256 + f .fsc) 0 (λ e. omega arith)) (ap (λ (n : ℕ). Status (first n)) (low (f .fsc) (omega arith)))
   where
     low : (n : ℕ) → n < 256 → (256 + n) % 256 ≡ n
     low n g = omega arith
@@ -192,8 +194,8 @@ module _ (ws : List ℕ) (level va : ℕ) (f : Translated) (a : Answer) (ea : a 
   pub page-answer : (pa : ℕ) → a ≡ Address pa → Address pa ≡ f .answer
   page-answer pa e = sym e ∙ ea
 
-  pub fault-answer : (fsc : ℕ) → a ≡ Status fsc → Status fsc ≡ f .answer
-  fault-answer fsc e = sym e ∙ ea
+  pub fault-answer : (x : Fault) → a ≡ Status x → Status x ≡ f .answer
+  fault-answer x e = sym e ∙ ea
 
   pub page-core : (pa : ℕ) (xs ys : List ℕ) (h : FetchHint) → a ≡ Address pa → Moved ws xs (f .core) → h ≡ fetchFor va level pa
       → Moved xs ys (withFetchHint (held xs) h) → Moved ws ys (pagedTo level va f)
@@ -201,8 +203,8 @@ module _ (ws : List ℕ) (level va : ℕ) (f : Translated) (a : Answer) (ea : a 
       moved-on (λ c. withFetchHint c h) m n
       (ap (withFetchHint (f .core)) eh ∙ ap (pagedBy level va (f .core)) (sym e ∙ ea))
 
-  pub paged-fault : (fsc : ℕ) (xs : List ℕ) → a ≡ Status fsc → Moved ws xs (f .core) → Moved ws xs (pagedTo level va f)
-  paged-fault fsc xs e m = moved-as m (ap (pagedBy level va (f .core)) (sym e ∙ ea))
+  pub paged-fault : (x : Fault) (xs : List ℕ) → a ≡ Status x → Moved ws xs (f .core) → Moved ws xs (pagedTo level va f)
+  paged-fault x xs e m = moved-as m (ap (pagedBy level va (f .core)) (sym e ∙ ea))
 
 -- the translation that a fetch begins with
 module _ (ws : List ℕ) (memory : ℕ → Word) (va : ℕ) (who : Who) (f : FetchHint) (p : Physical) (ew : who ≡ held ws .who)

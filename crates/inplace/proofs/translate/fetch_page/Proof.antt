@@ -16,8 +16,8 @@ fetch-for-requires c κs = search needs
 put-fetch-requires : tie.Need-put-fetch-requires
 put-fetch-requires c κs = search needs
 
-enum-known-fsc : tie.Need-enum-known-fsc
-enum-known-fsc c = search needs
+enum-known-fault : tie.Need-enum-known-fault
+enum-known-fault c = search needs
 
 returns : tie.Need-returns
 returns c = (search (page-answer, needs), search (page-core, needs))
@@ -33,6 +33,6 @@ fetch-page-spec =
     enum-known-pa
     fetch-for-requires
     put-fetch-requires
-    enum-known-fsc
+    enum-known-fault
     returns
     returns-2)
