@@ -16,6 +16,8 @@ use Rattle.word.specs.declared.ram.Sized.{Sized}
 use Rattle.word.specs.declared.ram.Sized.the-variants.{Bytes}
 use Rattle.word.specs.declared.ram.Word.{Word}
 use Rattle.word.specs.declared.ram.Word.the-variants as Word
+use Rattle.fault.specs.First.{first}
+use Rattle.fault.specs.declared.Fault.{Fault}
 use Rattle.walk.specs.Regime.{regimeOf, stage1On}
 use Rattle.tlb.specs.declared.access.Kind.{Kind}
 use Rattle.tlb.specs.declared.access.Kind.the-variants.{Read, Write}
@@ -33,7 +35,7 @@ use Rattle.mmu.proofs.Moves.{whole-value, whole-abort, whole-inside, whole-outs
 use Rattle.mmu.specs.declared.core.Core.{Core}
 use Rattle.mmu.specs.declared.place.Place.the-variants.{Whole}
 use Rattle.mmu.specs.declared.place.Placed.{Placed}
-use Rattle.mmu.specs.declared.place.Placed.the-variants.{At, Fault}
+use Rattle.mmu.specs.declared.place.Placed.the-variants.{At}
 use Rattle.mmu.specs.declared.place.Verdict.the-variants.{Inside, Outside}
 use Rattle.mmu.specs.declared.bytes.Got.the-variants as Got
 use Rattle.mmu.specs.declared.ends.LoadEnd.{LoadEnd}
@@ -149,7 +151,7 @@ module _ (ws : List ℕ) (base : ℕ) (ram : List ℕ) (va n pa : ℕ) where
 
 goes-not : (a : Answer) → goesOn a false ≡ false
 goes-not (Address pa) = refl
-goes-not (Status fsc) = refl
+goes-not (Status f) = refl
 
 module _ (c : Core) (base : ℕ) (ram : List ℕ) (va n : ℕ) (kind : Kind) (near : n ≤ inPage va) (miss : hintFound c va kind ≡ Unknown) where
   abbrev found : Translated
@@ -206,30 +208,30 @@ module _ (c : Core) (base : ℕ) (ram : List ℕ) (va : ℕ) (w : Width) (h : le
 -- the number says which answer it was
 code-at : (a : Answer) (code pa old : ℕ) → code ≡ codeOf a → code ≡ 0 → pa ≡ valueOf a old → a ≡ Address pa
 code-at (Address x) code pa old e z q = ap Address (sym q)
-code-at (Status fsc) code pa old e z q = absurd (omega (arith, e, z))
+code-at (Status f) code pa old e z q = absurd (omega (arith, e, z))
 
-statusIn : Answer → ℕ
-statusIn (Address pa) = 0
-statusIn (Status fsc) = fsc
+faultIn : Answer → Fault
+faultIn (Address pa) = first 0
+faultIn (Status f) = f
 
-code-fault : (a : Answer) (code : ℕ) → code ≡ codeOf a → (code ≡ 0 → ⊥) → (a ≡ Status (statusIn a)) × (code ≡ 256 + statusIn a)
-unfolding statusIn
+code-fault : (a : Answer) (code : ℕ) → code ≡ codeOf a → (code ≡ 0 → ⊥) → (a ≡ Status (faultIn a)) × (code ≡ 256 + faultIn a .fsc)
+unfolding faultIn
 code-fault (Address x) code e n = absurd (n e)
-code-fault (Status fsc) code e n = (refl, e)
+code-fault (Status f) code e n = (refl, e)
 
-fault-end : (d : Core) (base : ℕ) (ram : List ℕ) (va n fsc : ℕ)
-    → (codeBy (loading (loadEnd (Fault va fsc) (d .«last_pa») (d .«abort_pa») base ram va n .answer)) ≡ 256 + fsc)
-    × ((old : ℕ) → valueBy (loading (loadEnd (Fault va fsc) (d .«last_pa») (d .«abort_pa») base ram va n .answer)) old ≡ va)
-    × (keptLast d (loadEnd (Fault va fsc) (d .«last_pa») (d .«abort_pa») base ram va n) ≡ d)
+fault-end : (d : Core) (base : ℕ) (ram : List ℕ) (va n : ℕ) (f : Fault)
+    → (codeBy (loading (loadEnd (Placed.Fault va f) (d .«last_pa») (d .«abort_pa») base ram va n .answer)) ≡ 256 + f .fsc)
+    × ((old : ℕ) → valueBy (loading (loadEnd (Placed.Fault va f) (d .«last_pa») (d .«abort_pa») base ram va n .answer)) old ≡ va)
+    × (keptLast d (loadEnd (Placed.Fault va f) (d .«last_pa») (d .«abort_pa») base ram va n) ≡ d)
 unfolding loadEnd keptLast withLast withAbort movedTo
-fault-end d base ram va n fsc = (refl, λ old. refl, refl)
+fault-end d base ram va n f = (refl, λ old. refl, refl)
 
-fault-store : (d : Core) (base : ℕ) (ram : List ℕ) (va n fsc v : ℕ)
-    → (codeBy (storing (storeEnd (Fault va fsc) (d .«abort_pa») base ram va n .answer)) ≡ 256 + fsc)
-    × ((old : ℕ) → valueBy (storing (storeEnd (Fault va fsc) (d .«abort_pa») base ram va n .answer)) old ≡ va)
-    × ((keptAbort d (storeEnd (Fault va fsc) (d .«abort_pa») base ram va n .«abort_pa») ≡ d) × (storeRamEnd (Fault va fsc) base ram n v ≡ ram))
+fault-store : (d : Core) (base : ℕ) (ram : List ℕ) (va n : ℕ) (f : Fault) (v : ℕ)
+    → (codeBy (storing (storeEnd (Placed.Fault va f) (d .«abort_pa») base ram va n .answer)) ≡ 256 + f .fsc)
+    × ((old : ℕ) → valueBy (storing (storeEnd (Placed.Fault va f) (d .«abort_pa») base ram va n .answer)) old ≡ va)
+    × ((keptAbort d (storeEnd (Placed.Fault va f) (d .«abort_pa») base ram va n .«abort_pa») ≡ d) × (storeRamEnd (Placed.Fault va f) base ram n v ≡ ram))
 unfolding storeEnd storeRamEnd keptAbort withAbort movedTo
-fault-store d base ram va n fsc v = (refl, λ old. refl, (refl, refl))
+fault-store d base ram va n f v = (refl, λ old. refl, (refl, refl))
 
 ram-at : (base : ℕ) (ram : List ℕ) (n pa v : ℕ) → storeRamEnd (At (Whole pa)) base ram n v ≡ stored base ram n pa v
 unfolding storeRamEnd storeRam
@@ -240,20 +242,20 @@ module _ (ws xs : List ℕ) (base : ℕ) (ram : List ℕ) (va : ℕ) (w : Width)
   module _ (miss : hintFound (held ws) va Read ≡ Unknown) (ec : code ≡ codeOf (foundTo (held ws) (wordAt base ram 8) va Read .answer))
       (m : Moved ws xs (foundTo (held ws) (wordAt base ram 8) va Read .core)) where
     module _ (n : code ≡ 0 → ⊥) where
-      abbrev fsc : ℕ
-      fsc = statusIn (foundTo (held ws) (wordAt base ram 8) va Read .answer)
+      abbrev f : Fault
+      f = faultIn (foundTo (held ws) (wordAt base ram 8) va Read .answer)
 
-      faulted : stepOf (held ws) base ram (Call.Load va (bytesIn w)) ≡ ends (keptLast (held xs) (loadEnd (Fault va fsc) (held xs .«last_pa») (held xs .«abort_pa») base ram va (bytesIn w))) (loading (loadEnd (Fault va fsc) (held xs .«last_pa») (held xs .«abort_pa») base ram va (bytesIn w) .answer))
-      faulted = load-found (held ws) base ram va w h k near miss (held xs) (Fault va fsc) (m .holds) (ap (placedOne va) (sym (code-fault (foundTo (held ws) (wordAt base ram 8) va Read .answer) code ec n .0)))
+      faulted : stepOf (held ws) base ram (Call.Load va (bytesIn w)) ≡ ends (keptLast (held xs) (loadEnd (Placed.Fault va f) (held xs .«last_pa») (held xs .«abort_pa») base ram va (bytesIn w))) (loading (loadEnd (Placed.Fault va f) (held xs .«last_pa») (held xs .«abort_pa») base ram va (bytesIn w) .answer))
+      faulted = load-found (held ws) base ram va w h k near miss (held xs) (Placed.Fault va f) (m .holds) (ap (placedOne va) (sym (code-fault (foundTo (held ws) (wordAt base ram 8) va Read .answer) code ec n .0)))
 
       pub fault-code : code ≡ codeBy (stepOf (held ws) base ram (Call.Load va (bytesIn w)) .reply)
-      fault-code = code-fault (foundTo (held ws) (wordAt base ram 8) va Read .answer) code ec n .1 ∙ sym (fault-end (held xs) base ram va (bytesIn w) fsc .0) ∙ sym (ap (λ (s : Stepped). codeBy (s .reply)) faulted)
+      fault-code = code-fault (foundTo (held ws) (wordAt base ram 8) va Read .answer) code ec n .1 ∙ sym (fault-end (held xs) base ram va (bytesIn w) f .0) ∙ sym (ap (λ (s : Stepped). codeBy (s .reply)) faulted)
 
       pub fault-value : (old : ℕ) → va ≡ valueBy (stepOf (held ws) base ram (Call.Load va (bytesIn w)) .reply) old
-      fault-value old = sym (ap (λ (s : Stepped). valueBy (s .reply) old) faulted ∙ fault-end (held xs) base ram va (bytesIn w) fsc .1 old)
+      fault-value old = sym (ap (λ (s : Stepped). valueBy (s .reply) old) faulted ∙ fault-end (held xs) base ram va (bytesIn w) f .1 old)
 
       pub fault-core : Moved ws xs (stepOf (held ws) base ram (Call.Load va (bytesIn w)) .core)
-      fault-core = record { long = m .long; holds = sym (ap (λ (s : Stepped). s .core) faulted ∙ fault-end (held xs) base ram va (bytesIn w) fsc .2) }
+      fault-core = record { long = m .long; holds = sym (ap (λ (s : Stepped). s .core) faulted ∙ fault-end (held xs) base ram va (bytesIn w) f .2) }
 
     module _ (pa old : ℕ) (z : code ≡ 0) (ep : pa ≡ valueOf (foundTo (held ws) (wordAt base ram 8) va Read .answer) old) where
       loaded : stepOf (held ws) base ram (Call.Load va (bytesIn w)) ≡ ends (keptLast (held xs) (load-end (held xs) base ram va (bytesIn w) pa)) (loading (load-end (held xs) base ram va (bytesIn w) pa .answer))
@@ -271,24 +273,24 @@ module _ (ws xs : List ℕ) (base : ℕ) (ram : List ℕ) (va : ℕ) (w : Width)
   module _ (v : ℕ) (miss : hintFound (held ws) va Write ≡ Unknown) (ec : code ≡ codeOf (foundTo (held ws) (wordAt base ram 8) va Write .answer))
       (m : Moved ws xs (foundTo (held ws) (wordAt base ram 8) va Write .core)) where
     module _ (n : code ≡ 0 → ⊥) where
-      abbrev status : ℕ
-      status = statusIn (foundTo (held ws) (wordAt base ram 8) va Write .answer)
+      abbrev denied : Fault
+      denied = faultIn (foundTo (held ws) (wordAt base ram 8) va Write .answer)
 
-      unwritten : (stepOf (held ws) base ram (Call.Store va (bytesIn w) v) ≡ ends (keptAbort (held xs) (storeEnd (Fault va status) (held xs .«abort_pa») base ram va (bytesIn w) .«abort_pa»)) (storing (storeEnd (Fault va status) (held xs .«abort_pa») base ram va (bytesIn w) .answer)))
-          × (ramAfter (held ws) base ram (Call.Store va (bytesIn w) v) ≡ storeRamEnd (Fault va status) base ram (bytesIn w) v)
-      unwritten = store-found (held ws) base ram va w h k near v miss (held xs) (Fault va status) (m .holds) (ap (placedOne va) (sym (code-fault (foundTo (held ws) (wordAt base ram 8) va Write .answer) code ec n .0)))
+      unwritten : (stepOf (held ws) base ram (Call.Store va (bytesIn w) v) ≡ ends (keptAbort (held xs) (storeEnd (Placed.Fault va denied) (held xs .«abort_pa») base ram va (bytesIn w) .«abort_pa»)) (storing (storeEnd (Placed.Fault va denied) (held xs .«abort_pa») base ram va (bytesIn w) .answer)))
+          × (ramAfter (held ws) base ram (Call.Store va (bytesIn w) v) ≡ storeRamEnd (Placed.Fault va denied) base ram (bytesIn w) v)
+      unwritten = store-found (held ws) base ram va w h k near v miss (held xs) (Placed.Fault va denied) (m .holds) (ap (placedOne va) (sym (code-fault (foundTo (held ws) (wordAt base ram 8) va Write .answer) code ec n .0)))
 
       pub deny-code : code ≡ codeBy (stepOf (held ws) base ram (Call.Store va (bytesIn w) v) .reply)
-      deny-code = code-fault (foundTo (held ws) (wordAt base ram 8) va Write .answer) code ec n .1 ∙ sym (fault-store (held xs) base ram va (bytesIn w) status v .0) ∙ sym (ap (λ (s : Stepped). codeBy (s .reply)) (unwritten .0))
+      deny-code = code-fault (foundTo (held ws) (wordAt base ram 8) va Write .answer) code ec n .1 ∙ sym (fault-store (held xs) base ram va (bytesIn w) denied v .0) ∙ sym (ap (λ (s : Stepped). codeBy (s .reply)) (unwritten .0))
 
       pub deny-value : (old : ℕ) → va ≡ valueBy (stepOf (held ws) base ram (Call.Store va (bytesIn w) v) .reply) old
-      deny-value old = sym (ap (λ (s : Stepped). valueBy (s .reply) old) (unwritten .0) ∙ fault-store (held xs) base ram va (bytesIn w) status v .1 old)
+      deny-value old = sym (ap (λ (s : Stepped). valueBy (s .reply) old) (unwritten .0) ∙ fault-store (held xs) base ram va (bytesIn w) denied v .1 old)
 
       pub deny-ram : ram ≡ ramAfter (held ws) base ram (Call.Store va (bytesIn w) v)
-      deny-ram = sym (unwritten .1 ∙ fault-store (held xs) base ram va (bytesIn w) status v .2 .1)
+      deny-ram = sym (unwritten .1 ∙ fault-store (held xs) base ram va (bytesIn w) denied v .2 .1)
 
       pub deny-core : Moved ws xs (stepOf (held ws) base ram (Call.Store va (bytesIn w) v) .core)
-      deny-core = record { long = m .long; holds = sym (ap (λ (s : Stepped). s .core) (unwritten .0) ∙ fault-store (held xs) base ram va (bytesIn w) status v .2 .0) }
+      deny-core = record { long = m .long; holds = sym (ap (λ (s : Stepped). s .core) (unwritten .0) ∙ fault-store (held xs) base ram va (bytesIn w) denied v .2 .0) }
 
     module _ (pa old : ℕ) (z : code ≡ 0) (ep : pa ≡ valueOf (foundTo (held ws) (wordAt base ram 8) va Write .answer) old) where
       wrote : (stepOf (held ws) base ram (Call.Store va (bytesIn w) v) ≡ ends (keptAbort (held xs) (store-end (held xs) base ram va (bytesIn w) pa .«abort_pa»)) (storing (store-end (held xs) base ram va (bytesIn w) pa .answer)))

@@ -245,11 +245,11 @@ book-none-core ws base ram va p o eo e = no-kind-core ws base ram va p (sym e �
 -- at a glance
 translation-code : (va : ℕ) (a : Answer) → codeBy (translation va a) ≡ codeOf a
 translation-code va (Address pa) = refl
-translation-code va (Status fsc) = refl
+translation-code va (Status f) = refl
 
 translation-value : (va old : ℕ) (a : Answer) → valueBy (translation va a) old ≡ valueOf a old
 translation-value va old (Address pa) = refl
-translation-value va old (Status fsc) = refl
+translation-value va old (Status f) = refl
 
 module _ (ws : List ℕ) (base : ℕ) (ram : List ℕ) (va : ℕ) (kind : ℕ) (k : Kind) (len : ℕ) (who : Who) (h : length ram < 2 ^ 64) (el : len ≡ length ram) (ew : who ≡ held ws .who)
     (lo : who .level ≤ 3) (sh : base ≤ 2 ^ 64 - 1 - len) (kn : Known k ≡ kindOf kind) where

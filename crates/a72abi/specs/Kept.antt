@@ -43,7 +43,7 @@ unmoved (Refused n) = true
 unmoved Done = false
 unmoved (Value v) = false
 unmoved Faults = false
-unmoved (Fault addr fsc) = false
+unmoved (Fault addr f) = false
 unmoved (Stopped s) = early s
 
 -- the words xs that a call made of ws, by its reply
@@ -60,10 +60,10 @@ number-unmoved (Refused n) l h = refl
 number-unmoved Done l h = absurd (omega arith)
 number-unmoved (Value v) l h = absurd (omega arith)
 number-unmoved Faults l h = absurd (omega arith)
-number-unmoved (Fault addr fsc) l h = absurd (omega arith)
+number-unmoved (Fault addr f) l h = absurd (omega arith)
 number-unmoved (Stopped Stop.Unimplemented) l h = refl
-number-unmoved (Stopped (Stop.Exception (Exception.DataAbort addr write fsc))) l h = absurd (omega arith)
-number-unmoved (Stopped (Stop.Exception (Exception.InsnAbort addr fsc))) l h = absurd (omega arith)
+number-unmoved (Stopped (Stop.Exception (Exception.DataAbort a))) l h = absurd (omega arith)
+number-unmoved (Stopped (Stop.Exception (Exception.InsnAbort a))) l h = absurd (omega arith)
 number-unmoved (Stopped (Stop.Exception Exception.Undefined)) l h = refl
 number-unmoved (Stopped (Stop.Exception (Exception.Svc imm))) l h = refl
 number-unmoved (Stopped (Stop.Exception (Exception.Hvc imm))) l h = refl
@@ -76,10 +76,10 @@ unmoved-value (Refused n) old e = refl
 unmoved-value Done old e = refl
 unmoved-value (Value v) old e = never e
 unmoved-value Faults old e = refl
-unmoved-value (Fault addr fsc) old e = refl
+unmoved-value (Fault addr f) old e = refl
 unmoved-value (Stopped Stop.Unimplemented) old e = refl
-unmoved-value (Stopped (Stop.Exception (Exception.DataAbort addr write fsc))) old e = never e
-unmoved-value (Stopped (Stop.Exception (Exception.InsnAbort addr fsc))) old e = refl
+unmoved-value (Stopped (Stop.Exception (Exception.DataAbort a))) old e = never e
+unmoved-value (Stopped (Stop.Exception (Exception.InsnAbort a))) old e = refl
 unmoved-value (Stopped (Stop.Exception Exception.Undefined)) old e = refl
 unmoved-value (Stopped (Stop.Exception (Exception.Svc imm))) old e = refl
 unmoved-value (Stopped (Stop.Exception (Exception.Hvc imm))) old e = refl
@@ -91,7 +91,7 @@ unmoved-value (Stopped (Stop.Exception Exception.PcAlignment)) old e = refl
 
 translation-late : (va : ℕ) (a : Answer) → unmoved (translation va a) ≡ false
 translation-late va (Address pa) = refl
-translation-late va (Status fsc) = refl
+translation-late va (Status f) = refl
 
 reach-late : (a : Reached) → unmoved (reaching a) ≡ false
 reach-late (Reach.At pa) = refl
@@ -100,7 +100,7 @@ reach-late Reach.Faults = refl
 load-late : (x : Placed) (last abort base : ℕ) (ram : List ℕ) (va n : ℕ)
     → unmoved (loading (loadEnd x last abort base ram va n .answer)) ≡ false
 unfolding loadEnd
-load-late (NotPlaced addr fsc) last abort base ram va n = refl
+load-late (NotPlaced addr f) last abort base ram va n = refl
 load-late (At place) last abort base ram va n = go (loadOf base ram place n)
   where
     go : (g : Got) → unmoved (loading (loadedFrom place g abort va .answer)) ≡ false
@@ -124,7 +124,7 @@ fetch-late c base ram va = answered (fetchSteppedNow c (wordAt base ram 8) va .a
     inside pa Insn.Outside = refl
 
     answered : (a : Answer) → unmoved (fetching (fetchEnd a (c .«abort_pa») base ram va .answer)) ≡ false
-    answered (Status fsc) = refl
+    answered (Status f) = refl
     answered (Address pa) = inside pa (insnOf base ram pa)
 
 -- BY THE REPLY
@@ -186,7 +186,7 @@ module _ (ws xs : List ℕ) where
     where
       code : (x : Answer) → codeBy (translation 0 x) ≡ codeOf x
       code (Address pa) = refl
-      code (Status fsc) = refl
+      code (Status f) = refl
 
   -- the bytes of a load or store
   pub kept-load : (x : Placed) (last abort base : ℕ) (ram : List ℕ) (va k n : ℕ)
