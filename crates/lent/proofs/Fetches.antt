@@ -1,23 +1,18 @@
--- What the stores of a fetch leave is the operation's core, on plain values.
+-- A fetch's call: what the checks and the fetch hint say, and what its changes leave, are the call's reply and core, on plain values.
 use mathlib.Core.Path.{_≡_, refl, sym, subst, ap, _∙_}
-use mathlib.Core.Bool.{true, not}
+use mathlib.Core.Bool.{not}
 use mathlib.Core.List.{List}
 use Prim.Native.Nat.{ℕ, zero, suc}
 use lib.Dec.{T as Holds}
 use lib.ListN.{length}
-use lib.Seq.{set-getD}
-use Rattle.tlb.specs.Cache.{entryAt}
-use Rattle.tlb.specs.Entry.{blank}
+use Rattle.word.specs.Ram.{wordAt}
 use Rattle.tlb.specs.Hint.{fetchFound}
-use Rattle.tlb.specs.Tlb.{moved}
-use Rattle.tlb.specs.Turn.{fetchOf, fetchWith, fetchEnd}
 use Rattle.tlb.specs.declared.access.Kind.the-variants.{Fetch}
 use Rattle.tlb.specs.declared.hint.Physical.{Physical}
 use Rattle.tlb.specs.declared.hint.Physical.the-variants.{At, Unknown}
 use Rattle.mmu.specs.Bytes.{insnOf}
 use Rattle.mmu.specs.Core.{movedTo}
 use Rattle.mmu.specs.Ends.{fetchEnd as endOf}
-use Rattle.mmu.specs.Step.{translateFetchIn as fetchStepOf}
 use Rattle.mmu.specs.Ops.{fetchSteppedNow, fetchOf as fetchNow}
 use Rattle.mmu.specs.declared.bytes.Insn.{Insn}
 use Rattle.mmu.specs.declared.bytes.Insn.the-variants as Insn
@@ -26,56 +21,43 @@ use Rattle.cpu.specs.Check.{ramRows, firstOf, missedOf}
 use Rattle.cpu.specs.Step.{runOf, stepOf, ends, refusedOr}
 use Rattle.cpu.specs.declared.call.Call.{Call}
 use Rattle.cpu.specs.declared.call.Call.the-variants as Call
-use Rattle.cpu.specs.declared.call.Reply.{Reply}
 use Rattle.cpu.specs.declared.call.Reply.the-variants.{Refused, Value}
 use Rattle.cpu.specs.declared.call.Stepped.{Stepped}
-use Rattle.lentparts.specs.Cells.{keyIn, coreWith}
-use Rattle.lentparts.specs.Fetch.{fetchCellsIn, putFetchIn, quickInsn, quickFetchBy, fetchQuick, fetchedOf}
-use Rattle.lentparts.specs.declared.cells.FetchCells.{FetchCells}
-use Rattle.lentparts.specs.declared.insn.FetchTurn.{FetchTurn}
-use Rattle.lentparts.specs.declared.plan.Key.{Key}
+use Rattle.lentparts.specs.Change.{unchanged, hintedIn, lookupIn, pageIn, commitIn, keptIn}
+use Rattle.lentparts.specs.Fetch.{quickInsn, quickFetchBy, fetchQuick, fetchTurnedOf, fetchedOf}
+use Rattle.lentparts.specs.declared.change.Hinted.{Hinted}
+use Rattle.lentparts.specs.declared.change.Page.{Page}
+use Rattle.lentparts.specs.declared.change.Turn.{Turn}
+use Rattle.lentparts.specs.declared.insn.FetchAccess.{FetchAccess}
 use Rattle.lentparts.specs.declared.plan.Quick.{Quick}
+use Rattle.lent.proofs.Turns.{none-changed, fetch-right}
 
 module _ (c : Core) (base : ℕ) (ram : List ℕ) (va : ℕ) where
   abbrev call : Call
   call = Call.Fetch va
 
-  -- the slot of the entry, and the turn on the core's own cells
-  abbrev slot : ℕ
-  slot = keyIn c va Fetch .entry
+  -- the turn on the core's own cells, and what it leaves
+  abbrev turn : Turn
+  turn = fetchTurnedOf (c .tlb .cache .fetch) (pageIn c va Fetch) va (wordAt base ram 8)
 
-  abbrev turn : FetchTurn
-  turn = fetchedOf (keyIn c va Fetch) (fetchCellsIn c slot) va base ram
+  abbrev left : FetchAccess → Core
+  left t = keptIn (commitIn c (t .change)) (t .«last_pa») (t .«abort_pa»)
 
-  fetched : (turn .reply ≡ runOf c base ram call .reply) × (putFetchIn c slot (turn .counts) (turn .fetch) (turn .entry) (turn .«abort_pa») ≡ runOf c base ram call .core)
-  unfolding runOf fetchNow fetchSteppedNow fetchStepOf fetchOf movedTo fetchedOf
-  fetched = (refl, refl)
-
-  -- the key, the cells, the fetch and the stores, put together
-  pub fetch-run-is : (k : Key) (c₁ : Core) (x : FetchCells) (c₂ : Core) (t : FetchTurn) (d : Core) → (k ≡ keyIn c va Fetch) × (c₁ ≡ c)
-      → (x ≡ fetchCellsIn c₁ (k .entry)) × (c₂ ≡ c₁) → t ≡ fetchedOf k x va base ram → d ≡ putFetchIn c₂ (k .entry) (t .counts) (t .fetch) (t .entry) (t .«abort_pa»)
-      → (t .reply ≡ runOf c base ram call .reply) × (d ≡ runOf c base ram call .core)
-  fetch-run-is k c₁ x c₂ t d (ek, e₁) (ex, e₂) et ed =
-      let is : t ≡ turn = et ∙ rw (ex, e₁, ek) in (ap (λ (u : FetchTurn). u .reply) is ∙ fetched .0, ed ∙ rw (e₂, e₁, ek, is) (fetched .1))
-
-  -- the core as it was is the core with its own cells put back
-  same-core : putFetchIn c slot (c .tlb .counts) (c .tlb .cache .fetch) (entryAt (c .tlb .cache) slot) (c .«abort_pa») ≡ c
-  same-core =
-      λ n.
-      coreWith c
-      (moved (c .tlb)
-      (record { present = c .tlb .cache .present; fetch = c .tlb .cache .fetch; hints = c .tlb .cache .hints; entries = set-getD (c .tlb .cache .entries) slot blank n })
-      (c .tlb .counts))
-      (c .«last_pa») (c .«abort_pa»)
+  fetched : (fetchedOf (hintedIn c va Fetch) (pageIn c va Fetch) va base ram .reply ≡ runOf c base ram call .reply) × (left (fetchedOf (hintedIn c va Fetch) (pageIn c va Fetch) va base ram) ≡ runOf c base ram call .core)
+  unfolding runOf fetchNow movedTo fetchedOf
+  fetched =
+      let right = fetch-right c (wordAt base ram 8) va in
+      let end = endOf (fetchSteppedNow c (wordAt base ram 8) va .answer) (c .«abort_pa») base ram va in
+      (rw (right .0), rw (right .0) (ap (λ (d : Core). keptIn d (c .«last_pa») (end .«abort_pa»)) (right .1)))
 
   -- a fetch hint that leads into RAM leaves the core as it was
   by-hint : (p : Physical) (g : Insn) (pa v : ℕ) → p ≡ fetchFound (c .tlb .cache .fetch) (c .who .level) va → p ≡ At pa → g ≡ insnOf base ram pa → g ≡ Insn.Value v
       → (Value v ≡ runOf c base ram call .reply) × (c ≡ runOf c base ram call .core)
-  unfolding fetchedOf fetchOf fetchWith fetchEnd endOf
+  unfolding fetchedOf fetchTurnedOf endOf
   by-hint p g pa v ep e eg ev =
-      let is : turn ≡ record { counts = c .tlb .counts; fetch = c .tlb .cache .fetch; entry = entryAt (c .tlb .cache) slot; «abort_pa» = c .«abort_pa»; reply = Value v } = rw (← ep, e, ← eg, ev) in (
-        sym (ap (λ (u : FetchTurn). u .reply) is) ∙ fetched .0,
-        sym same-core ∙ sym (ap (λ (u : FetchTurn). putFetchIn c slot (u .counts) (u .fetch) (u .entry) (u .«abort_pa»)) is) ∙ fetched .1,
+      let is : fetchedOf (hintedIn c va Fetch) (pageIn c va Fetch) va base ram ≡ record { change = unchanged (lookupIn c va Fetch); «last_pa» = c .«last_pa»; «abort_pa» = c .«abort_pa»; reply = Value v } = rw (← ep, e, ← eg, ev) in (
+        sym (ap (λ (u : FetchAccess). u .reply) is) ∙ fetched .0,
+        sym (none-changed c (lookupIn c va Fetch)) ∙ sym (ap left is) ∙ fetched .1,
       )
 
   -- the checks and the fetch hint, by the number of the first check missed
@@ -94,15 +76,25 @@ module _ (c : Core) (base : ℕ) (ram : List ℕ) (va : ℕ) where
   goes-by zero p t = refl
   goes-by (suc n) p t = absurd t
 
-  module _ (q : Quick) (eq : q ≡ fetchQuick (c .who) (c .tlb .cache .fetch) base ram va) where
-    pub fetch-at-once-is : Holds (q .ends) → (q .reply ≡ stepOf c base ram call .reply) × (c ≡ stepOf c base ram call .core)
-    unfolding fetchQuick stepOf missedOf
-    fetch-at-once-is t =
-        rw eq (ends-by (firstOf (ramRows (c .who .level) base (length ram))) (fetchFound (c .tlb .cache .fetch) (c .who .level) va) refl (subst (λ (x : Quick). Holds (x .ends)) eq t))
+  abbrev quick : Quick
+  quick = fetchQuick (c .who) (c .tlb .cache .fetch) base ram va
 
-    pub fetch-goes-on-is : Holds (not (q .ends)) → (r : Reply) (d : Core) → (r ≡ runOf c base ram call .reply) × (d ≡ runOf c base ram call .core)
-        → (r ≡ stepOf c base ram call .reply) × (d ≡ stepOf c base ram call .core)
-    unfolding fetchQuick stepOf missedOf
-    fetch-goes-on-is t r d (er, ed) =
-        let same = goes-by (firstOf (ramRows (c .who .level) base (length ram))) (fetchFound (c .tlb .cache .fetch) (c .who .level) va) (subst (λ (x : Quick). Holds (not (x .ends))) eq t) in
-        (er ∙ ap (λ (s : Stepped). s .reply) same, ed ∙ ap (λ (s : Stepped). s .core) same)
+  pub fetch-ended-is : (g : Hinted) (c₁ : Core) (q : Quick) → (g ≡ hintedIn c va Fetch) × (c₁ ≡ c) → q ≡ fetchQuick (g .who) (g .fetch) base ram va → Holds (q .ends)
+      → (q .reply ≡ stepOf c base ram call .reply) × (c₁ ≡ stepOf c base ram call .core)
+  unfolding fetchQuick stepOf missedOf
+  fetch-ended-is g c₁ q eg eq t =
+      let is : q ≡ quick = eq ∙ rw (eg .0) in
+      let h = ends-by (firstOf (ramRows (c .who .level) base (length ram))) (fetchFound (c .tlb .cache .fetch) (c .who .level) va) refl (subst (λ (x : Quick). Holds (x .ends)) is t) in
+      (ap (λ (x : Quick). x .reply) is ∙ h .0, eg .1 ∙ h .1)
+
+  pub fetch-committed-is : (g : Hinted) (c₁ : Core) (q : Quick) (p : Page) (c₂ : Core) (s : FetchAccess) (c₃ c₄ : Core) → (g ≡ hintedIn c va Fetch) × (c₁ ≡ c)
+      → q ≡ fetchQuick (g .who) (g .fetch) base ram va → Holds (not (q .ends)) → (p ≡ pageIn c₁ va Fetch) × (c₂ ≡ c₁) → s ≡ fetchedOf g p va base ram → c₃ ≡ commitIn c₂ (s .change)
+      → c₄ ≡ keptIn c₃ (s .«last_pa») (s .«abort_pa») → (s .reply ≡ stepOf c base ram call .reply) × (c₄ ≡ stepOf c base ram call .core)
+  unfolding fetchQuick stepOf missedOf
+  fetch-committed-is g c₁ q p c₂ s c₃ c₄ eg eq t ep es ec ek =
+      let is : q ≡ quick = eq ∙ rw (eg .0) in
+      let same = goes-by (firstOf (ramRows (c .who .level) base (length ram))) (fetchFound (c .tlb .cache .fetch) (c .who .level) va) (subst (λ (x : Quick). Holds (not (x .ends))) is t) in
+      let work : s ≡ fetchedOf (hintedIn c va Fetch) (pageIn c va Fetch) va base ram = es ∙ rw (ep .0, eg .1, eg .0) in (
+        ap (λ (x : FetchAccess). x .reply) work ∙ fetched .0 ∙ ap (λ (x : Stepped). x .reply) same,
+        ek ∙ rw (ec, ep .1, eg .1, work) (fetched .1) ∙ ap (λ (x : Stepped). x .core) same,
+      )

@@ -1,7 +1,8 @@
-pub mod Results
 pub mod Promised
+pub mod Lent
+pub mod Moves
+pub mod Turns
 pub mod Runs
-pub mod Locals
 pub mod Fetches
 pub mod Pairs
 pub mod Hits

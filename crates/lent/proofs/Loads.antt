@@ -1,18 +1,16 @@
--- What the stores of a load leave is the operation's core, on plain values.
+-- A load's call: what the checks and the hint say, and what its changes leave, are the call's reply and core, on plain values.
 use mathlib.Core.Path.{_≡_, refl, sym, subst, ap, _∙_}
 use mathlib.Core.Bool.{Bool, true, false, not, _&&_}
 use mathlib.Core.List.{List}
 use Prim.Native.Nat.{ℕ, zero, suc}
 use lib.Dec.{leb, T as Holds}
-use lib.ListN.{length, set}
-use lib.Seq.{set-getD}
+use lib.ListN.{length}
 use Rattle.word.specs.Ram.{wordAt, widthOf, bytesIn}
 use Rattle.word.specs.declared.ram.Sized.{Sized}
 use Rattle.word.specs.declared.ram.Sized.the-variants.{Bytes, Refused as NoWidth}
 use Rattle.word.specs.declared.ram.Width.{Width}
-use Rattle.tlb.specs.Cache.{hintAt, entryAt}
-use Rattle.tlb.specs.Entry.{blank}
-use Rattle.tlb.specs.Hint.{noHint, onPage}
+use Rattle.tlb.specs.Cache.{hintAt}
+use Rattle.tlb.specs.Hint.{onPage}
 use Rattle.tlb.specs.declared.access.Kind.the-variants.{Read}
 use Rattle.tlb.specs.declared.hint.Hint.{Hint}
 use Rattle.mmu.specs.Bytes.{loadOf}
@@ -28,89 +26,66 @@ use Rattle.cpu.specs.Check.{sizedRows, firstOf, missedOf}
 use Rattle.cpu.specs.Step.{runOf, stepOf, loadBy, ends, refusedOr}
 use Rattle.cpu.specs.declared.call.Call.{Call}
 use Rattle.cpu.specs.declared.call.Call.the-variants as Call
-use Rattle.cpu.specs.declared.call.Reply.{Reply}
 use Rattle.cpu.specs.declared.call.Reply.the-variants.{Refused, Value}
 use Rattle.cpu.specs.declared.call.Stepped.{Stepped}
-use Rattle.lentparts.specs.Access.{bytesBy, keysOf, keysIn, loadedBy, loadedOf, hitIn, gotQuick, readBy, readQuick, loadQuickBy, loadQuick}
-use Rattle.lentparts.specs.Cells.{cellsIn, partsIn, putIn, putLastIn}
+use Rattle.lentparts.specs.Access.{bytesBy, secondIn, loadedBy, loadedOf, hitIn, gotQuick, readBy, readQuick, loadQuickBy, loadQuick}
+use Rattle.lentparts.specs.Change.{unchanged, hintedIn, lookupIn, pageIn, commitIn, keptIn}
 use Rattle.lentparts.specs.Plan.{hintPlace, hintServes}
 use Rattle.lentparts.specs.declared.access.Access.{Access}
-use Rattle.lentparts.specs.declared.access.Keys.{Keys}
 use Rattle.lentparts.specs.declared.access.QuickLoad.{QuickLoad}
-use Rattle.lentparts.specs.declared.cells.Cells.{Cells}
-use Rattle.lent.proofs.Hits.{size-is, hint-located, pair-is}
-use Rattle.lent.proofs.Runs.{read-place}
+use Rattle.lentparts.specs.declared.change.Hinted.{Hinted}
+use Rattle.lentparts.specs.declared.change.Lookup.{Lookup}
+use Rattle.lentparts.specs.declared.change.Page.{Page}
+use Rattle.lent.proofs.Hits.{size-is, hint-located, sized-is}
+use Rattle.lent.proofs.Turns.{none-changed}
 
--- an access put back
-abbrev pub putBack : Core → Keys → Access → Core
-putBack c k t =
-    putLastIn (putIn c (k .hint) (k .entry) (t .counts) (t .hint) (t .entry)) (k .hint2) (k .entry2) (t .counts) (t .hint2) (t .entry2) (t .«last_pa»)
-    (t .«abort_pa»)
+-- what an access leaves
+abbrev pub left : Core → Access → Core
+left c t = keptIn (commitIn (commitIn c (t .first)) (t .second)) (t .«last_pa») (t .«abort_pa»)
 
--- the core with its own cells put back is the core
-pub own-back : (c : Core) (i j i₂ j₂ : ℕ)
-    → putLastIn (putIn c i j (c .tlb .counts) (hintAt (c .tlb .cache) i) (entryAt (c .tlb .cache) j)) i₂ j₂ (c .tlb .counts) (hintAt (c .tlb .cache) i₂) (entryAt (c .tlb .cache) j₂)
-    (c .«last_pa») (c .«abort_pa») ≡ c
-own-back c i j i₂ j₂ =
-    (λ n.
-    partsIn c (c .tlb .cache .fetch) (c .tlb .counts) (set (set-getD (c .tlb .cache .hints) i noHint n) i₂ (hintAt (c .tlb .cache) i₂))
-    (set (set-getD (c .tlb .cache .entries) j blank n) j₂ (entryAt (c .tlb .cache) j₂)) (c .«last_pa») (c .«abort_pa»))
-    ∙ (λ n.
-    partsIn c (c .tlb .cache .fetch) (c .tlb .counts) (set-getD (c .tlb .cache .hints) i₂ noHint n) (set-getD (c .tlb .cache .entries) j₂ blank n) (c .«last_pa») (c .«abort_pa»))
+-- of a size that is none: nothing
+pub none-left : (c : Core) (a b : Lookup) → keptIn (commitIn (commitIn c (unchanged a)) (unchanged b)) (c .«last_pa») (c .«abort_pa») ≡ c
+none-left c a b = ap (λ (d : Core). keptIn d (c .«last_pa») (c .«abort_pa»)) (none-changed (commitIn c (unchanged a)) b ∙ none-changed c a)
 
 module _ (c : Core) (base : ℕ) (ram : List ℕ) (va size : ℕ) where
   abbrev call : Call
   call = Call.Load va size
 
-  abbrev keys : Keys
-  keys = keysIn c va size Read
+  -- its pages
+  abbrev x₀ : Page
+  x₀ = pageIn c va Read
 
-  abbrev x₀ : Cells
-  x₀ = cellsIn c (keys .hint) (keys .entry)
-
-  abbrev y₀ : Cells
-  y₀ = cellsIn c (keys .hint2) (keys .entry2)
+  abbrev y₀ : Page
+  y₀ = pageIn c (secondIn x₀ va size) Read
 
   module _ (hs : length (c .tlb .cache .hints) ≡ 512) (es : length (c .tlb .cache .entries) ≡ 1024) where
     abbrev Right : Sized → Type 0
     Right z =
-        (loadedBy z keys x₀ y₀ va base ram .reply ≡ loadBy z c base ram va .reply) × (putBack c keys (loadedBy z keys x₀ y₀ va base ram) ≡ loadBy z c base ram va .core)
+        (loadedBy z (hintedIn c va Read) x₀ y₀ va base ram .reply ≡ loadBy z c base ram va .reply) × (left c (loadedBy z (hintedIn c va Read) x₀ y₀ va base ram) ≡ loadBy z c base ram va .core)
 
     by-size : (z : Sized) → z ≡ widthOf size → Right z
-    unfolding readOf keysOf
+    unfolding readOf
     by-size (Bytes w) e =
-        let pair = pair-is c (wordAt base ram 8) va Read read-place size (bytesIn w) (ap bytesBy (sym e)) hs es in
+        let pair = sized-is c (wordAt base ram 8) va Read size (bytesIn w) (ap bytesBy (sym e)) hs es in
         let end = loadEnd (locatedNow c (wordAt base ram 8) va (bytesIn w) Read .placed) (c .«last_pa») (c .«abort_pa») base ram va (bytesIn w) in
         (rw (pair 0 0 .0), rw (pair 0 0 .0) (pair (end .«last_pa») (end .«abort_pa») .1))
-    by-size NoWidth e = (refl, own-back c (keys .hint) (keys .entry) (keys .hint2) (keys .entry2))
+    by-size NoWidth e = (refl, none-left c (lookupIn c va Read) (y₀ .lookup))
 
-    loaded : (loadedOf keys x₀ y₀ va size base ram .reply ≡ runOf c base ram call .reply) × (putBack c keys (loadedOf keys x₀ y₀ va size base ram) ≡ runOf c base ram call .core)
+    loaded : (loadedOf (hintedIn c va Read) x₀ y₀ va size base ram .reply ≡ runOf c base ram call .reply) × (left c (loadedOf (hintedIn c va Read) x₀ y₀ va size base ram) ≡ runOf c base ram call .core)
     unfolding runOf loadedOf
     loaded = by-size (widthOf size) refl
-
-  -- the keys, the cells, the load and the stores, put together
-  pub load-run-is : (k : Keys) (c₁ : Core) (x : Cells) (c₂ : Core) (y : Cells) (c₃ : Core) (t : Access) (d₁ d : Core)
-      → (k ≡ keysIn c va size Read) × (c₁ ≡ c) × (length (c .tlb .cache .hints) ≡ 512) × (length (c .tlb .cache .entries) ≡ 1024)
-      → (x ≡ cellsIn c₁ (k .hint) (k .entry)) × (c₂ ≡ c₁) → (y ≡ cellsIn c₂ (k .hint2) (k .entry2)) × (c₃ ≡ c₂) → t ≡ loadedOf k x y va size base ram
-      → d₁ ≡ putIn c₃ (k .hint) (k .entry) (t .counts) (t .hint) (t .entry)
-      → d ≡ putLastIn d₁ (k .hint2) (k .entry2) (t .counts) (t .hint2) (t .entry2) (t .«last_pa») (t .«abort_pa»)
-      → (t .reply ≡ runOf c base ram call .reply) × (d ≡ runOf c base ram call .core)
-  load-run-is k c₁ x c₂ y c₃ t d₁ d (ek, e₁, hs, es) (ex, e₂) (ey, e₃) et ed₁ ed =
-      let is : t ≡ loadedOf keys x₀ y₀ va size base ram = et ∙ rw (ex, ey, e₂, e₁, ek) in
-      (ap (λ (u : Access). u .reply) is ∙ loaded hs es .0, ed ∙ rw (ed₁, e₃, e₂, e₁, ek, is) (loaded hs es .1))
-
-  -- the core with another address kept
-  abbrev kept : ℕ → Core
-  kept last = partsIn c (c .tlb .cache .fetch) (c .tlb .counts) (c .tlb .cache .hints) (c .tlb .cache .entries) last (c .«abort_pa»)
 
   -- a hint that serves in its page: the bytes
   by-hint : (h : Hint) (w : Width) (v : ℕ) → h ≡ hintAt (c .tlb .cache) (hintPlace va Read) → hintServes h (c .who) va Read ≡ true → leb size (inPage va) ≡ true
       → widthOf size ≡ Bytes w → loadOf base ram (Whole (onPage (h .pa) va)) (bytesIn w) ≡ Got.Value v
-      → (Value v ≡ runOf c base ram call .reply) × (kept (onPage (h .pa) va) ≡ runOf c base ram call .core)
+      → (Value v ≡ runOf c base ram call .reply) × (keptIn c (onPage (h .pa) va) (c .«abort_pa») ≡ runOf c base ram call .core)
   unfolding runOf readOf loadEnd movedTo
   by-hint h w v eh served here ew ev =
-      let at : locatedNow c (wordAt base ram 8) va (bytesIn w) Read ≡ _ = hint-located c (wordAt base ram 8) va Read read-place h eh served (bytesIn w) (rw (size-is size w ew) here) in
+      let at : locatedNow c (wordAt base ram 8) va (bytesIn w) Read ≡ _ = hint-located c (wordAt base ram 8) va Read h eh served (bytesIn w) (rw (size-is size w ew) here) in
       rw (ew, at, ev) (refl, refl)
+
+  abbrev kept : ℕ → Core
+  kept last = keptIn c last (c .«abort_pa»)
 
   and-both : (a b : Bool) → (a && b) ≡ true → (a ≡ true) × (b ≡ true)
   and-both true true e = (refl, refl)
@@ -151,17 +126,32 @@ module _ (c : Core) (base : ℕ) (ram : List ℕ) (va size : ℕ) where
   goes-by zero hit found last t = refl
   goes-by (suc n) hit found last t = absurd t
 
-  module _ (i : ℕ) (q : QuickLoad) (ei : i ≡ hintPlace va Read) (eq : q ≡ loadQuick (c .who) (hintAt (c .tlb .cache) i) (c .«last_pa») base ram va size) where
-    pub load-at-once-is : Holds (q .ends) → (q .reply ≡ stepOf c base ram call .reply) × (kept (q .«last_pa») ≡ stepOf c base ram call .core)
-    unfolding loadQuick stepOf missedOf
-    load-at-once-is t =
-        rw eq (ends-by (firstOf (sizedRows (c .who .level) base (length ram) size)) (hitIn (hintAt (c .tlb .cache) i) (c .who) va size Read) (hintAt (c .tlb .cache) i)
-        (ap (hintAt (c .tlb .cache)) ei) refl (subst (λ (x : QuickLoad). Holds (x .ends)) eq t))
+  abbrev quick : QuickLoad
+  quick = loadQuick (c .who) (hintAt (c .tlb .cache) (hintPlace va Read)) (c .«last_pa») base ram va size
 
-    pub load-goes-on-is : Holds (not (q .ends)) → (r : Reply) (d : Core) → (r ≡ runOf c base ram call .reply) × (d ≡ runOf c base ram call .core)
-        → (r ≡ stepOf c base ram call .reply) × (d ≡ stepOf c base ram call .core)
-    unfolding loadQuick stepOf missedOf
-    load-goes-on-is t r d (er, ed) =
-        let same = goes-by (firstOf (sizedRows (c .who .level) base (length ram) size)) (hitIn (hintAt (c .tlb .cache) i) (c .who) va size Read)
-        (readQuick base ram (onPage (hintAt (c .tlb .cache) i .pa) va) size (c .«last_pa»)) (c .«last_pa») (subst (λ (x : QuickLoad). Holds (not (x .ends))) eq t) in
-        (er ∙ ap (λ (s : Stepped). s .reply) same, ed ∙ ap (λ (s : Stepped). s .core) same)
+  pub load-ended-is : (g : Hinted) (c₁ : Core) (q : QuickLoad) (c₂ : Core) → (g ≡ hintedIn c va Read) × (c₁ ≡ c) → q ≡ loadQuick (g .who) (g .hint) (g .«last_pa») base ram va size
+      → Holds (q .ends) → c₂ ≡ keptIn c₁ (q .«last_pa») (g .«abort_pa») → (q .reply ≡ stepOf c base ram call .reply) × (c₂ ≡ stepOf c base ram call .core)
+  unfolding loadQuick stepOf missedOf
+  load-ended-is g c₁ q c₂ eg eq t ec =
+      let is : q ≡ quick = eq ∙ rw (eg .0) in
+      let h = ends-by (firstOf (sizedRows (c .who .level) base (length ram) size)) (hitIn (hintAt (c .tlb .cache) (hintPlace va Read)) (c .who) va size Read) (hintAt (c .tlb .cache) (hintPlace va Read)) refl refl
+      (subst (λ (x : QuickLoad). Holds (x .ends)) is t) in
+      (ap (λ (x : QuickLoad). x .reply) is ∙ h .0, ec ∙ rw (eg .0, eg .1, is) (h .1))
+
+  pub load-committed-is : (g : Hinted) (c₁ : Core) (q : QuickLoad) (x : Page) (c₂ : Core) (next : ℕ) (y : Page) (c₃ : Core) (s : Access) (c₄ c₅ c₆ : Core) → (g ≡ hintedIn c va Read) × (c₁ ≡ c)
+      → q ≡ loadQuick (g .who) (g .hint) (g .«last_pa») base ram va size → Holds (not (q .ends))
+      → (x ≡ pageIn c₁ va Read) × (c₂ ≡ c₁) × (length (c₁ .tlb .cache .hints) ≡ 512) × (length (c₁ .tlb .cache .entries) ≡ 1024) → next ≡ secondIn x va size
+      → (y ≡ pageIn c₂ next Read) × (c₃ ≡ c₂) × (length (c₂ .tlb .cache .hints) ≡ 512) × (length (c₂ .tlb .cache .entries) ≡ 1024) → s ≡ loadedOf g x y va size base ram
+      → c₄ ≡ commitIn c₃ (s .first) → c₅ ≡ commitIn c₄ (s .second) → c₆ ≡ keptIn c₅ (s .«last_pa») (s .«abort_pa»)
+      → (s .reply ≡ stepOf c base ram call .reply) × (c₆ ≡ stepOf c base ram call .core)
+  unfolding loadQuick stepOf missedOf
+  load-committed-is g c₁ q x c₂ next y c₃ s c₄ c₅ c₆ eg eq t ex en ey es e₄ e₅ e₆ =
+      let is : q ≡ quick = eq ∙ rw (eg .0) in
+      let same = goes-by (firstOf (sizedRows (c .who .level) base (length ram) size)) (hitIn (hintAt (c .tlb .cache) (hintPlace va Read)) (c .who) va size Read)
+      (readQuick base ram (onPage (hintAt (c .tlb .cache) (hintPlace va Read) .pa) va) size (c .«last_pa»)) (c .«last_pa») (subst (λ (x : QuickLoad). Holds (not (x .ends))) is t) in
+      let hs : length (c .tlb .cache .hints) ≡ 512 = rw (eg .1) at (ex .2) in
+      let ls : length (c .tlb .cache .entries) ≡ 1024 = rw (eg .1) at (ex .3) in
+      let work : s ≡ loadedOf (hintedIn c va Read) x₀ y₀ va size base ram = es ∙ rw (ey .0, en, ex .0, ex .1, eg .1, eg .0) in (
+        ap (λ (x : Access). x .reply) work ∙ loaded hs ls .0 ∙ ap (λ (x : Stepped). x .reply) same,
+        e₆ ∙ rw (e₅, e₄, ey .1, ex .1, eg .1, work) (loaded hs ls .1) ∙ ap (λ (x : Stepped). x .core) same,
+      )

@@ -1,161 +1,172 @@
--- The translations of a load or a store on the cells of its pages leave the cache that the operation's translations leave, on plain values.
+-- The translations of a load or a store as their changes leave the cache that the operation's translations leave, on plain values.
 use mathlib.Core.Path.{_≡_, refl, sym, subst, ap, _∙_}
-use mathlib.Core.Bool.{Bool, true, false}
+use mathlib.Core.Bool.{Bool, true, false, _&&_}
 use mathlib.Core.List.{List}
-use Prim.Native.Nat.{ℕ, _<_}
-use borrow.Author.Tests.{eqb-false}
+use Prim.Native.Nat.{ℕ, zero, suc, _<_, _%_}
+use native.Mathlib.Omega.{arith}
+use borrow.Author.Tests.{eqb-false, ne-eqb}
 use lib.Dec.{eqb, eqb→eq, T as Holds}
 use lib.ListN.{length, getD, set}
 use lib.Seq.{set-getD, getD-set-same, getD-set-other}
 use Rattle.word.specs.Bits.{pick}
 use Rattle.word.specs.declared.ram.Word.{Word}
 use Rattle.walk.specs.Regime.{regimeOf, stage1On}
-use Rattle.walk.specs.declared.regime.Bank.{Bank}
-use Rattle.tlb.specs.Cache.{hintAt, entryAt, setHint, setEntry}
+use Rattle.tlb.specs.Cache.{hintAt, entryAt}
 use Rattle.tlb.specs.Entry.{blank}
-use Rattle.tlb.specs.Hint.{dataSlot, noHint}
-use Rattle.tlb.specs.Step.{withTurn}
-use Rattle.tlb.specs.Tlb.{moved}
-use Rattle.tlb.specs.Turn.{turnOf}
+use Rattle.tlb.specs.Hint.{noHint, onPage}
+use Rattle.tlb.specs.Resolve.{askOf}
 use Rattle.tlb.specs.declared.access.Answer.{Answer}
 use Rattle.tlb.specs.declared.access.Answer.the-variants.{Address, Status}
 use Rattle.tlb.specs.declared.access.Kind.{Kind}
-use Rattle.tlb.specs.declared.access.Who.{Who}
 use Rattle.tlb.specs.declared.entry.Entry.{Entry}
-use Rattle.tlb.specs.declared.hint.Hint.{Hint}
-use Rattle.tlb.specs.declared.turn.Turned.{Turned}
+use Rattle.tlb.specs.declared.resolve.Asked.{Asked}
+use Rattle.tlb.specs.declared.resolve.Asked.the-variants.{Flat, Of}
 use Rattle.tlb.specs.declared.Tlb.{Tlb}
-use Rattle.mmu.specs.Place.{nextPage, crosses, goesOn}
-use Rattle.mmu.specs.Step.{translateIn as stepOf, slotAt, locatedOf, onePage, bothPages}
+use Rattle.mmu.specs.Core.{bankNow, movedTo}
+use Rattle.mmu.specs.Ops.{steppedNow, locatedNow, translateOf}
+use Rattle.mmu.specs.Place.{nextPage, crosses, goesOn, placedBoth}
+use Rattle.mmu.specs.Step.{translateIn, locatedOf, onePage, bothPages}
+use Rattle.mmu.specs.declared.core.Core.{Core}
 use Rattle.mmu.specs.declared.step.Located.{Located}
 use Rattle.mmu.specs.declared.step.Stepped.{Stepped}
-use Rattle.lentparts.specs.Access.{another, moreOf, oneTurn, twoTurns, bothAfter, bothOf}
+use Rattle.lentparts.specs.Access.{moreOf, oneTurn, twoTurns, bothOf}
+use Rattle.lentparts.specs.Change.{keptAs, entryPlace, lookupIn, pageIn, turnedOf, unchanged, hintLeft, entryLeft, pageAfter, missBy, turnBy, coreWith, keptIn, commitIn}
+use Rattle.lentparts.specs.Plan.{hintPlace, hintServes}
 use Rattle.lentparts.specs.declared.access.Both.{Both}
-use Rattle.lentparts.specs.declared.access.Keys.{Keys}
-use Rattle.lentparts.specs.declared.cells.Cells.{Cells}
+use Rattle.lentparts.specs.declared.change.Change.{Change}
+use Rattle.lentparts.specs.declared.change.Turn.{Turn}
+use Rattle.lent.proofs.Turns.{none-changed, turn-right}
 
 -- an element of a list with another set
-get-set : {A : Type 0} (xs : List A) (i j : ℕ) (x d : A) → i < length xs → getD (set xs i x) j d ≡ another (eqb j i) x (getD xs j d)
+get-set : {A : Type 0} (xs : List A) (i j : ℕ) (x d : A) → i < length xs → getD (set xs i x) j d ≡ pick (eqb j i) x (getD xs j d)
 get-set {A} xs i j x d l = go (eqb j i) refl
   where
-    go : (b : Bool) → eqb j i ≡ b → getD (set xs i x) j d ≡ another b x (getD xs j d)
+    go : (b : Bool) → eqb j i ≡ b → getD (set xs i x) j d ≡ pick b x (getD xs j d)
     go true e = rw (eqb→eq j i (subst Holds (sym e) tt)) (getD-set-same xs i x d l)
     go false e = getD-set-other xs i j x d (eqb-false j i e)
 
--- a cache with its own cells put back
-pub put-same : (t : Tlb) (i j : ℕ) → moved t (setHint (setEntry (t .cache) j (entryAt (t .cache) j)) i (hintAt (t .cache) i)) (t .counts) ≡ t
-put-same t i j =
-    λ n.
-    moved t
-    (record { present = t .cache .present; fetch = t .cache .fetch; hints = set-getD (t .cache .hints) i noHint n; entries = set-getD (t .cache .entries) j blank n })
-    (t .counts)
+-- where it is stored, or its own element goes back
+set-if : {A : Type 0} (b : Bool) (xs : List A) (i j : ℕ) (x d : A) → i < length xs → getD (set xs i (pick b x (getD xs i d))) j d ≡ pick (b && eqb j i) x (getD xs j d)
+set-if true xs i j x d l = get-set xs i j x d l
+set-if false xs i j x d l = ap (λ ys. getD ys j d) (set-getD xs i d)
+
+kept-pick : (n : ℕ) (old made : Entry) → keptAs n old made ≡ pick (eqb n 3) made old
+kept-pick zero old made = refl
+kept-pick (suc zero) old made = refl
+kept-pick (suc (suc zero)) old made = refl
+kept-pick (suc (suc (suc zero))) old made = refl
+kept-pick (suc (suc (suc (suc n)))) old made = rw (ne-eqb (suc (suc (suc (suc n)))) 3 (λ e. omega (arith, e)))
+
+-- the places of a change, as of the lookup that it was made for
+entry-small : (a : Asked) → entryPlace a < 1024
+entry-small Flat = omega arith
+entry-small (Of q) = omega arith
+
+abbrev At : Change → ℕ → ℕ → Type 0
+At t i j = (t .«hint_at» ≡ i) × (t .«entry_at» ≡ j)
+
+picked : (b : Bool) (x y : Turn) (i j : ℕ) → At (x .change) i j → At (y .change) i j → At (pick b x y .change) i j
+picked true x y i j p q = p
+picked false x y i j p q = q
 
 split-of : (a : Answer) (split : Bool) → goesOn a split ≡ true → split ≡ true
 split-of (Address pa) split e = e
 split-of (Status f) true e = refl
 split-of (Status f) false e = e
 
--- a translation of an access whose hint has the place i
-pub step-at : (s : Bank) (who : Who) (memory : ℕ → Word) (kind : Kind) (t : Tlb) (a i : ℕ) → i ≡ dataSlot a kind
-    → stepOf s who memory a kind t
-    ≡ record {
-      tlb =
-          withTurn t i (slotAt s (who .level) a)
-          (turnOf s who (t .cache .present) (t .counts) (hintAt (t .cache) i) (entryAt (t .cache) (slotAt s (who .level) a)) a kind memory);
-      answer = turnOf s who (t .cache .present) (t .counts) (hintAt (t .cache) i) (entryAt (t .cache) (slotAt s (who .level) a)) a kind memory .answer;
-    }
-unfolding stepOf turnOf
-step-at s who memory kind t a i e = rw e
+module _ (c : Core) (kind : Kind) (hs : length (c .tlb .cache .hints) ≡ 512) (es : length (c .tlb .cache .entries) ≡ 1024) where
+  -- a page read after a change is the page as the change leaves it
+  page-after : (t : Change) (a : ℕ) → t .«hint_at» < 512 → t .«entry_at» < 1024 → pageIn (commitIn c t) a kind ≡ pageAfter t (pageIn c a kind)
+  page-after t a li lj =
+      let ei : t .«hint_at» % 512 ≡ t .«hint_at» = omega arith in
+      let ej : t .«entry_at» % 1024 ≡ t .«entry_at» = omega arith in
+      let old : Entry = entryAt (c .tlb .cache) (t .«entry_at») in
+      let hint : hintAt (commitIn c t .tlb .cache) (hintPlace a kind) ≡ hintLeft t (lookupIn c a kind) (hintAt (c .tlb .cache) (hintPlace a kind))
+      = rw ei (set-if (t .hints) (c .tlb .cache .hints) (t .«hint_at») (hintPlace a kind) (t .hint) noHint (rw hs li)) in
+      let entry : entryAt (commitIn c t .tlb .cache) (lookupIn c a kind .entry) ≡ entryLeft t (lookupIn c a kind) (entryAt (c .tlb .cache) (lookupIn c a kind .entry))
+      = rw (ej, kept-pick (t .effect) old (t .made)) (set-if (eqb (t .effect) 3) (c .tlb .cache .entries) (t .«entry_at») (lookupIn c a kind .entry) (t .made) blank (rw es lj)) in
+      λ n. record { lookup = lookupIn c a kind; present = c .tlb .cache .present; hint = hint n; entry = entry n }
 
-module _ (s : Bank) (who : Who) (memory : ℕ → Word) (kind : Kind) (t : Tlb) (va n next i₁ i₂ last abort : ℕ) (e₁ : i₁ ≡ dataSlot va kind)
-    (e₂ : i₂ ≡ dataSlot next kind) (en : crosses (stage1On s (regimeOf (who .level))) va n ≡ true → next ≡ nextPage va)
-    (l₁ : i₁ < length (t .cache .hints)) (l₂ : slotAt s (who .level) va < length (t .cache .entries)) where
-  abbrev j₁ : ℕ
-  j₁ = slotAt s (who .level) va
+  module _ (memory : ℕ → Word) (va n next : ℕ) (en : crosses (stage1On (bankNow c) (regimeOf (c .who .level))) va n ≡ true → next ≡ nextPage va) where
+    -- the first page's translation, and the core that it leaves
+    abbrev first : Turn
+    first = turnedOf (pageIn c va kind) va kind memory
 
-  abbrev j₂ : ℕ
-  j₂ = slotAt s (who .level) next
+    abbrev c₁ : Core
+    c₁ = commitIn c (first .change)
 
-  abbrev keys : Keys
-  keys = record { who = who; bank = s; hint = i₁; entry = j₁; hint2 = i₂; entry2 = j₂; «last_pa» = last; «abort_pa» = abort }
+    abbrev step : Stepped
+    step = translateIn (bankNow c) (c .who) memory va kind (c .tlb)
 
-  -- the cells of a place and a slot
-  abbrev cells : ℕ → ℕ → Cells
-  cells i j = record { present = t .cache .present; counts = t .counts; hint = hintAt (t .cache) i; entry = entryAt (t .cache) j }
+    first-at : At (first .change) (hintPlace va kind) (entryPlace (askOf (bankNow c) (c .who) va))
+    unfolding turnedOf
+    first-at = picked (hintServes (hintAt (c .tlb .cache) (hintPlace va kind)) (c .who) va kind)
+        (record { change = unchanged (lookupIn c va kind); answer = Address (onPage (hintAt (c .tlb .cache) (hintPlace va kind) .pa) va) })
+        (turnBy (lookupIn c va kind) (missBy (lookupIn c va kind .asked) (bankNow c) (c .who) (c .tlb .cache .present) (pageIn c va kind .entry) va kind memory) va kind)
+        (hintPlace va kind) (entryPlace (askOf (bankNow c) (c .who) va)) (refl, refl) (refl, refl)
 
-  -- the first turn, and the cache that it leaves
-  abbrev first : Turned
-  first = turnOf s who (t .cache .present) (t .counts) (hintAt (t .cache) i₁) (entryAt (t .cache) j₁) va kind memory
+    -- what it leaves is what the operation's first translation leaves
+    answer-is : first .answer ≡ step .answer
+    unfolding translateOf steppedNow
+    answer-is = turn-right c memory va kind .0
 
-  abbrev t₁ : Tlb
-  t₁ = withTurn t i₁ j₁ first
+    tlb-is : c₁ .tlb ≡ step .tlb
+    unfolding translateOf steppedNow movedTo
+    tlb-is = ap (λ (d : Core). d .tlb) (turn-right c memory va kind .1)
 
-  abbrev more : Bool
-  more = moreOf s (who .level) (first .answer) va n
+    -- the second page's
+    abbrev second : Turn
+    second = turnedOf (pageIn c₁ (nextPage va) kind) (nextPage va) kind memory
 
-  abbrev h₂ : Hint
-  h₂ = another (eqb i₂ i₁) (first .hint) (hintAt (t .cache) i₂)
+    abbrev step₂ : Tlb → Stepped
+    step₂ t = translateIn (bankNow c) (c .who) memory (nextPage va) kind t
 
-  abbrev f₂ : Entry
-  f₂ = another (eqb j₂ j₁) (first .entry) (entryAt (t .cache) j₂)
+    answer-two : second .answer ≡ step₂ (step .tlb) .answer
+    unfolding translateOf steppedNow
+    answer-two = turn-right c₁ memory (nextPage va) kind .0 ∙ ap (λ (t : Tlb). step₂ t .answer) tlb-is
 
-  hint-two : hintAt (t₁ .cache) i₂ ≡ h₂
-  hint-two = get-set (t .cache .hints) i₁ i₂ (first .hint) noHint l₁
+    tlb-two : commitIn c₁ (second .change) .tlb ≡ step₂ (step .tlb) .tlb
+    unfolding translateOf steppedNow movedTo
+    tlb-two = ap (λ (d : Core). d .tlb) (turn-right c₁ memory (nextPage va) kind .1) ∙ ap (λ (t : Tlb). step₂ t .tlb) tlb-is
 
-  entry-two : entryAt (t₁ .cache) j₂ ≡ f₂
-  entry-two = get-set (t .cache .entries) j₁ j₂ (first .entry) blank l₂
+    abbrev more : Bool
+    more = moreOf (bankNow c) (c .who .level) (first .answer) va n
 
-  -- the work on the cells, and the cache with what it leaves put back
-  abbrev work : Both
-  work = bothOf keys (cells i₁ j₁) (cells i₂ j₂) va n kind memory
+    abbrev work : Both
+    work = bothOf (pageIn c va kind) (pageIn c next kind) va n kind memory
 
-  abbrev put : Both → Tlb
-  put b = moved t (setHint (setEntry (setHint (setEntry (t .cache) j₁ (b .entry)) i₁ (b .hint)) j₂ (b .entry2)) i₂ (b .hint2)) (b .counts)
+    abbrev located : Located
+    located = locatedNow c memory va n kind
 
-  abbrev located : Located
-  located = locatedOf s who memory va n kind t
+    abbrev Right : Both → Type 0
+    Right b = (b .placed ≡ located .placed) × (commitIn (commitIn c (b .first)) (b .second) .tlb ≡ located .tlb)
 
-  work-is : (m : Bool) → more ≡ m → work ≡ pick m (twoTurns keys (t .cache .present) first h₂ f₂ va kind memory) (oneTurn first h₂ f₂ va)
-  unfolding bothOf bothAfter
-  work-is m e = rw e
+    located-is : (m : Bool) → more ≡ m → located ≡ pick m (bothPages va (step .answer) (step₂ (step .tlb))) (onePage va step)
+    unfolding locatedNow locatedOf
+    located-is m e = rw (← answer-is, e)
 
-  located-is : (m : Bool) → more ≡ m
-      → located ≡ pick m (bothPages va (first .answer) (stepOf s who memory (nextPage va) kind t₁)) (onePage va (record { tlb = t₁; answer = first .answer }))
-  unfolding locatedOf
-  located-is m e = rw (step-at s who memory kind t va i₁ e₁, e)
+    one-page : more ≡ false → Right (oneTurn first (pageIn c next kind) va)
+    one-page m = rw (located-is false m, ← answer-is) (refl, ap (λ (d : Core). d .tlb) (none-changed c₁ (lookupIn c next kind)) ∙ tlb-is)
 
-  -- the second page's translation
-  abbrev second : Turned
-  second = turnOf s who (t .cache .present) (first .counts) h₂ f₂ (nextPage va) kind memory
+    -- the page that was read before is the page after the first change
+    page-is : next ≡ nextPage va → pageAfter (first .change) (pageIn c next kind) ≡ pageIn c₁ (nextPage va) kind
+    page-is e =
+        let small : (first .change .«hint_at» < 512) × (first .change .«entry_at» < 1024) = rw (first-at .0, first-at .1) (omega arith, entry-small (askOf (bankNow c) (c .who) va)) in
+        ap (λ (a : ℕ). pageAfter (first .change) (pageIn c a kind)) e ∙ sym (page-after (first .change) (nextPage va) (small .0) (small .1))
 
-  second-is : next ≡ nextPage va → stepOf s who memory (nextPage va) kind t₁ ≡ record { tlb = withTurn t₁ i₂ j₂ second; answer = second .answer }
-  second-is e =
-      step-at s who memory kind t₁ (nextPage va) i₂ (e₂ ∙ ap (λ (a : ℕ). dataSlot a kind) e)
-      ∙ subst (λ (a : ℕ). _≡_ {A = Stepped}
-      (record {
-        tlb = withTurn t₁ i₂ (slotAt s (who .level) a) (turnOf s who (t .cache .present) (first .counts) (hintAt (t₁ .cache) i₂) (entryAt (t₁ .cache) (slotAt s (who .level) a)) (nextPage va) kind memory);
-        answer = turnOf s who (t .cache .present) (first .counts) (hintAt (t₁ .cache) i₂) (entryAt (t₁ .cache) (slotAt s (who .level) a)) (nextPage va) kind memory .answer;
-      })
-      (record { tlb = withTurn t₁ i₂ j₂ second; answer = second .answer })) e (rw (hint-two, entry-two))
+    two-pages : more ≡ true → Right (twoTurns first (pageIn c next kind) va kind memory)
+    unfolding twoTurns
+    two-pages m = rw (located-is true m, page-is (en (split-of (first .answer) _ m))) ((λ x. placedBoth va (answer-is x) (answer-two x)), tlb-two)
 
-  abbrev Right : Type 0
-  Right = (work .placed ≡ located .placed) × (put work ≡ located .tlb)
+    right : Right work
+    unfolding bothOf
+    right = go more refl
+      where
+        go : (m : Bool) → more ≡ m → Right (pick m (twoTurns first (pageIn c next kind) va kind memory) (oneTurn first (pageIn c next kind) va))
+        go true m = two-pages m
+        go false m = one-page m
 
-  one-page : more ≡ false → Right
-  one-page m =
-      rw (work-is false m, located-is false m) (
-        refl,
-        ap (λ (h : Hint). moved t₁ (setHint (setEntry (t₁ .cache) j₂ f₂) i₂ h) (t₁ .counts)) (sym hint-two)
-            ∙ ap (λ (e : Entry). moved t₁ (setHint (setEntry (t₁ .cache) j₂ e) i₂ (hintAt (t₁ .cache) i₂)) (t₁ .counts)) (sym entry-two) ∙ put-same t₁ i₂ j₂,
-      )
-
-  two-pages : more ≡ true → Right
-  unfolding twoTurns
-  two-pages m = rw (work-is true m, located-is true m, second-is (en (split-of (first .answer) _ m))) (refl, refl)
-
-  pub pair-right : Right
-  pair-right = go more refl
-    where
-      go : (m : Bool) → more ≡ m → Right
-      go true m = two-pages m
-      go false m = one-page m
+    -- with any addresses kept
+    pub pair-is : (last abort : ℕ) → (work .placed ≡ located .placed) × (keptIn (commitIn (commitIn c (work .first)) (work .second)) last abort ≡ movedTo c (located .tlb) last abort)
+    unfolding movedTo
+    pair-is last abort = (right .0, ap (λ (t : Tlb). coreWith c t last abort) (right .1))

@@ -2,7 +2,6 @@
 use mathlib.Core.Path.{_≡_, refl, sym}
 use mathlib.Core.List.{List}
 use Prim.Native.Nat.{ℕ, zero, suc}
-use Rattle.tlb.specs.declared.access.Kind.{Kind}
 use Rattle.mmu.specs.declared.core.Core.{Core}
 use Rattle.cpu.specs.Step.{stepOf, ramOf, ramAfter, ends, refusedOr, missedBy}
 use Rattle.cpu.specs.declared.call.Call.{Call}

@@ -1,6 +1,6 @@
--- What the stores of a store leave is the operation's core and RAM, on plain values.
+-- A store's call: what the checks and the hint say, and what its changes leave, are the call's reply, core and RAM, on plain values.
 use mathlib.Core.Path.{_≡_, refl, sym, subst, ap, _∙_}
-use mathlib.Core.Bool.{Bool, true, false, not, _&&_, _||_}
+use mathlib.Core.Bool.{Bool, true, false, not, _&&_}
 use mathlib.Core.List.{List}
 use Prim.Native.Nat.{ℕ, zero, suc}
 use native.Mathlib.Omega.{arith}
@@ -11,7 +11,6 @@ use Rattle.word.specs.Ram.{wordAt, widthOf, bytesIn, within}
 use Rattle.word.specs.declared.ram.Sized.{Sized}
 use Rattle.word.specs.declared.ram.Sized.the-variants.{Bytes, Refused as NoWidth}
 use Rattle.word.specs.declared.ram.Width.{Width}
-use Rattle.sysreg.specs.Encoding.{registerAt}
 use Rattle.tlb.specs.Cache.{hintAt}
 use Rattle.tlb.specs.Hint.{onPage}
 use Rattle.tlb.specs.declared.access.Kind.the-variants.{Write}
@@ -30,17 +29,16 @@ use Rattle.cpu.specs.declared.call.Call.the-variants as Call
 use Rattle.cpu.specs.declared.call.Reply.{Reply}
 use Rattle.cpu.specs.declared.call.Reply.the-variants.{Refused, Done}
 use Rattle.cpu.specs.declared.call.Stepped.{Stepped}
-use Rattle.lentparts.specs.Access.{bytesBy, keysOf, keysIn, hitIn}
-use Rattle.lentparts.specs.Cells.{cellsIn, putIn, putLastIn}
+use Rattle.lentparts.specs.Access.{bytesBy, secondIn, hitIn}
+use Rattle.lentparts.specs.Change.{hintedIn, lookupIn, pageIn, commitIn, keptIn}
 use Rattle.lentparts.specs.Plan.{hintPlace, hintServes}
 use Rattle.lentparts.specs.Writes.{storeQuickBy, storeQuick, nowReplyBy, nowReply, nowRamBy, nowRam, sizedRam, storeAfter, storedBy, storedOf, storedRamBy, storedRam}
 use Rattle.lentparts.specs.declared.access.Access.{Access}
-use Rattle.lentparts.specs.declared.access.Keys.{Keys}
-use Rattle.lentparts.specs.declared.cells.Cells.{Cells}
+use Rattle.lentparts.specs.declared.change.Hinted.{Hinted}
+use Rattle.lentparts.specs.declared.change.Page.{Page}
 use Rattle.lentparts.specs.declared.writes.QuickStore.{QuickStore}
-use Rattle.lent.proofs.Hits.{size-is, hint-located, pair-is}
-use Rattle.lent.proofs.Loads.{putBack, own-back}
-use Rattle.lent.proofs.Runs.{write-place}
+use Rattle.lent.proofs.Hits.{size-is, hint-located, sized-is}
+use Rattle.lent.proofs.Loads.{left, none-left}
 
 -- a store that passes its checks has a size
 three-zero : _≡_ {A = ℕ} 3 0 → ⊥
@@ -73,44 +71,31 @@ module _ (c : Core) (base : ℕ) (ram : List ℕ) (va size value : ℕ) where
   abbrev call : Call
   call = Call.Store va size value
 
-  abbrev keys : Keys
-  keys = keysIn c va size Write
+  -- its pages
+  abbrev x₀ : Page
+  x₀ = pageIn c va Write
 
-  abbrev x₀ : Cells
-  x₀ = cellsIn c (keys .hint) (keys .entry)
-
-  abbrev y₀ : Cells
-  y₀ = cellsIn c (keys .hint2) (keys .entry2)
+  abbrev y₀ : Page
+  y₀ = pageIn c (secondIn x₀ va size) Write
 
   module _ (hs : length (c .tlb .cache .hints) ≡ 512) (es : length (c .tlb .cache .entries) ≡ 1024) where
     abbrev Right : Sized → Type 0
     Right z =
-        (storedBy z keys x₀ y₀ va base ram .reply ≡ storeBy z c base ram va .reply) × (putBack c keys (storedBy z keys x₀ y₀ va base ram) ≡ storeBy z c base ram va .core)
-        × (storedRamBy z keys x₀ y₀ va value base ram ≡ storeRamBy z c base ram va value)
+        (storedBy z (hintedIn c va Write) x₀ y₀ va base ram .reply ≡ storeBy z c base ram va .reply) × (left c (storedBy z (hintedIn c va Write) x₀ y₀ va base ram) ≡ storeBy z c base ram va .core)
+        × (storedRamBy z x₀ y₀ va value base ram ≡ storeRamBy z c base ram va value)
 
     by-size : (z : Sized) → z ≡ widthOf size → Right z
-    unfolding writeOf ramAfterWrite keysOf storeAfter
+    unfolding writeOf ramAfterWrite storeAfter
     by-size (Bytes w) e =
-        let pair = pair-is c (wordAt base ram 8) va Write write-place size (bytesIn w) (ap bytesBy (sym e)) hs es in
+        let pair = sized-is c (wordAt base ram 8) va Write size (bytesIn w) (ap bytesBy (sym e)) hs es in
         let end = storeEnd (locatedNow c (wordAt base ram 8) va (bytesIn w) Write .placed) (c .«abort_pa») base ram va (bytesIn w) in
         (rw (pair 0 0 .0), rw (pair 0 0 .0) (pair (c .«last_pa») (end .«abort_pa») .1), rw (pair 0 0 .0))
-    by-size NoWidth e = (refl, own-back c (keys .hint) (keys .entry) (keys .hint2) (keys .entry2), refl)
+    by-size NoWidth e = (refl, none-left c (lookupIn c va Write) (y₀ .lookup), refl)
 
-    stored : (storedOf keys x₀ y₀ va size base ram .reply ≡ runOf c base ram call .reply) × (putBack c keys (storedOf keys x₀ y₀ va size base ram) ≡ runOf c base ram call .core)
-        × (storedRam keys x₀ y₀ va size value base ram ≡ ramOf c base ram call)
+    stored : (storedOf (hintedIn c va Write) x₀ y₀ va size base ram .reply ≡ runOf c base ram call .reply) × (left c (storedOf (hintedIn c va Write) x₀ y₀ va size base ram) ≡ runOf c base ram call .core)
+        × (storedRam x₀ y₀ va size value base ram ≡ ramOf c base ram call)
     unfolding runOf ramOf storedOf storedRam
     stored = by-size (widthOf size) refl
-
-  -- the keys, the cells, the store and the stores in place, put together
-  pub store-run-is : (k : Keys) (c₁ : Core) (x : Cells) (c₂ : Core) (y : Cells) (c₃ : Core) (t : Access) (ys : List ℕ) (d₁ d : Core)
-      → (k ≡ keysIn c va size Write) × (c₁ ≡ c) × (length (c .tlb .cache .hints) ≡ 512) × (length (c .tlb .cache .entries) ≡ 1024)
-      → (x ≡ cellsIn c₁ (k .hint) (k .entry)) × (c₂ ≡ c₁) → (y ≡ cellsIn c₂ (k .hint2) (k .entry2)) × (c₃ ≡ c₂)
-      → (t ≡ storedOf k x y va size base ram) × (ys ≡ storedRam k x y va size value base ram) → d₁ ≡ putIn c₃ (k .hint) (k .entry) (t .counts) (t .hint) (t .entry)
-      → d ≡ putLastIn d₁ (k .hint2) (k .entry2) (t .counts) (t .hint2) (t .entry2) (t .«last_pa») (t .«abort_pa»)
-      → (t .reply ≡ runOf c base ram call .reply) × (d ≡ runOf c base ram call .core) × (ys ≡ ramOf c base ram call)
-  store-run-is k c₁ x c₂ y c₃ t ys d₁ d (ek, e₁, hs, es) (ex, e₂) (ey, e₃) (et, er) ed₁ ed =
-      let is : t ≡ storedOf keys x₀ y₀ va size base ram = et ∙ rw (ex, ey, e₂, e₁, ek) in
-      (ap (λ (u : Access). u .reply) is ∙ stored hs es .0, ed ∙ rw (ed₁, e₃, e₂, e₁, ek, is) (stored hs es .1), er ∙ rw (ex, ey, e₂, e₁, ek) (stored hs es .2))
 
   abbrev run : Stepped
   run = runOf c base ram call
@@ -121,7 +106,7 @@ module _ (c : Core) (base : ℕ) (ram : List ℕ) (va size value : ℕ) where
       → (Done ≡ run .reply) × (c ≡ run .core) × (storeRam base ram (Whole (onPage (h .pa) va)) (bytesIn w) value ≡ ramOf c base ram call)
   unfolding runOf ramOf writeOf ramAfterWrite storeEnd storeRamEnd judged movedTo
   by-hint h w eh served here inside ew =
-      let at : locatedNow c (wordAt base ram 8) va (bytesIn w) Write ≡ _ = hint-located c (wordAt base ram 8) va Write write-place h eh served (bytesIn w) (rw (size-is size w ew) here) in
+      let at : locatedNow c (wordAt base ram 8) va (bytesIn w) Write ≡ _ = hint-located c (wordAt base ram 8) va Write h eh served (bytesIn w) (rw (size-is size w ew) here) in
       let fits : within base (length ram) (bytesIn w) (onPage (h .pa) va) ≡ true = rw (size-is size w ew) inside in
       rw (ew, at, fits) (refl, refl, refl)
 
@@ -149,22 +134,38 @@ module _ (c : Core) (base : ℕ) (ram : List ℕ) (va size value : ℕ) where
   goes-by zero fits pa t = (refl, refl)
   goes-by (suc n) fits pa t = absurd t
 
-  module _ (i : ℕ) (q : QuickStore) (ei : i ≡ hintPlace va Write) (eq : q ≡ storeQuick (c .who) (hintAt (c .tlb .cache) i) base (length ram) va size) where
-    pub store-at-once-is : Holds (q .ends) → (r : Reply) (ys : List ℕ) → (r ≡ nowReply q) × (ys ≡ nowRam q base ram size value)
-        → (r ≡ stepOf c base ram call .reply) × (c ≡ stepOf c base ram call .core) × (ys ≡ ramAfter c base ram call)
-    unfolding storeQuick stepOf ramAfter missedOf nowRam
-    store-at-once-is t r ys (er, ey) =
-        let h = hintAt (c .tlb .cache) i in
-        let right = ends-by (firstOf (sizedRows (c .who .level) base (length ram) size)) (hitIn h (c .who) va size Write && within base (length ram) size (onPage (h .pa) va)) h
-        (ap (hintAt (c .tlb .cache)) ei) refl refl (subst (λ (x : QuickStore). Holds (x .ends)) eq t) in
-        (er ∙ ap (λ (x : QuickStore). nowReply x) eq ∙ right .0, right .1, ey ∙ ap (λ (x : QuickStore). nowRam x base ram size value) eq ∙ right .2)
+  abbrev quick : QuickStore
+  quick = storeQuick (c .who) (hintAt (c .tlb .cache) (hintPlace va Write)) base (length ram) va size
 
-    pub store-goes-on-is : Holds (not (q .ends)) → (r : Reply) (d : Core) (ys : List ℕ)
-        → (r ≡ runOf c base ram call .reply) × (d ≡ runOf c base ram call .core) × (ys ≡ ramOf c base ram call)
-        → (r ≡ stepOf c base ram call .reply) × (d ≡ stepOf c base ram call .core) × (ys ≡ ramAfter c base ram call)
-    unfolding storeQuick stepOf ramAfter missedOf
-    store-goes-on-is t r d ys (er, ed, ey) =
-        let h = hintAt (c .tlb .cache) i in
-        let same = goes-by (firstOf (sizedRows (c .who .level) base (length ram) size)) (hitIn h (c .who) va size Write && within base (length ram) size (onPage (h .pa) va)) (onPage (h .pa) va)
-        (subst (λ (x : QuickStore). Holds (not (x .ends))) eq t) in
-        (er ∙ ap (λ (s : Stepped). s .reply) (same .0), ed ∙ ap (λ (s : Stepped). s .core) (same .0), ey ∙ same .1)
+  abbrev Step : Reply → Core → List ℕ → Type 0
+  Step r d ys = (r ≡ stepOf c base ram call .reply) × (d ≡ stepOf c base ram call .core) × (ys ≡ ramAfter c base ram call)
+
+  pub store-ended-is : (g : Hinted) (c₁ : Core) (q : QuickStore) (r : Reply) (ys : List ℕ) → (g ≡ hintedIn c va Write) × (c₁ ≡ c) → q ≡ storeQuick (g .who) (g .hint) base (length ram) va size
+      → Holds (q .ends) → (r ≡ nowReply q) × (ys ≡ nowRam q base ram size value) → Step r c₁ ys
+  unfolding storeQuick stepOf ramAfter missedOf nowRam
+  store-ended-is g c₁ q r ys eg eq t (er, ey) =
+      let is : q ≡ quick = eq ∙ rw (eg .0) in
+      let h = hintAt (c .tlb .cache) (hintPlace va Write) in
+      let right = ends-by (firstOf (sizedRows (c .who .level) base (length ram) size)) (hitIn h (c .who) va size Write && within base (length ram) size (onPage (h .pa) va)) h
+      refl refl refl (subst (λ (x : QuickStore). Holds (x .ends)) is t) in
+      (er ∙ ap (λ (x : QuickStore). nowReply x) is ∙ right .0, eg .1 ∙ right .1, ey ∙ ap (λ (x : QuickStore). nowRam x base ram size value) is ∙ right .2)
+
+  pub store-committed-is : (g : Hinted) (c₁ : Core) (q : QuickStore) (x : Page) (c₂ : Core) (next : ℕ) (y : Page) (c₃ : Core) (s : Access) (ys : List ℕ) (c₄ c₅ c₆ : Core) → (g ≡ hintedIn c va Write) × (c₁ ≡ c)
+      → q ≡ storeQuick (g .who) (g .hint) base (length ram) va size → Holds (not (q .ends))
+      → (x ≡ pageIn c₁ va Write) × (c₂ ≡ c₁) × (length (c₁ .tlb .cache .hints) ≡ 512) × (length (c₁ .tlb .cache .entries) ≡ 1024) → next ≡ secondIn x va size
+      → (y ≡ pageIn c₂ next Write) × (c₃ ≡ c₂) × (length (c₂ .tlb .cache .hints) ≡ 512) × (length (c₂ .tlb .cache .entries) ≡ 1024)
+      → (s ≡ storedOf g x y va size base ram) × (ys ≡ storedRam x y va size value base ram)
+      → c₄ ≡ commitIn c₃ (s .first) → c₅ ≡ commitIn c₄ (s .second) → c₆ ≡ keptIn c₅ (s .«last_pa») (s .«abort_pa») → Step (s .reply) c₆ ys
+  unfolding storeQuick stepOf ramAfter missedOf
+  store-committed-is g c₁ q x c₂ next y c₃ s ys c₄ c₅ c₆ eg eq t ex en ey es e₄ e₅ e₆ =
+      let is : q ≡ quick = eq ∙ rw (eg .0) in
+      let h = hintAt (c .tlb .cache) (hintPlace va Write) in
+      let same = goes-by (firstOf (sizedRows (c .who .level) base (length ram) size)) (hitIn h (c .who) va size Write && within base (length ram) size (onPage (h .pa) va)) (onPage (h .pa) va)
+      (subst (λ (x : QuickStore). Holds (not (x .ends))) is t) in
+      let hs : length (c .tlb .cache .hints) ≡ 512 = rw (eg .1) at (ex .2) in
+      let ls : length (c .tlb .cache .entries) ≡ 1024 = rw (eg .1) at (ex .3) in
+      let work : s ≡ storedOf (hintedIn c va Write) x₀ y₀ va size base ram = es .0 ∙ rw (ey .0, en, ex .0, ex .1, eg .1, eg .0) in (
+        ap (λ (x : Access). x .reply) work ∙ stored hs ls .0 ∙ ap (λ (x : Stepped). x .reply) (same .0),
+        e₆ ∙ rw (e₅, e₄, ey .1, ex .1, eg .1, work) (stored hs ls .1) ∙ ap (λ (x : Stepped). x .core) (same .0),
+        es .1 ∙ rw (ey .0, en, ex .0, ex .1, eg .1) (stored hs ls .2) ∙ same .1,
+      )

@@ -17,7 +17,7 @@ pub fn translate(core: &mut Core, base: u64, ram: &[u8], va: u64, kind: Kind) ->
         (ends (now (core .exit)) r) (now (ram .entry)) ⌝ }
 {
     let g = lentparts::take_hint(core, va, kind);
-    let q = plan::at_once(g.who, g.hint, base, ram, va, kind);
+    let q = plan::at_once(g, base, ram, va, kind);
     if q.ends {
         return q.reply;
     }

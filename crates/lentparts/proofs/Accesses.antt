@@ -1,36 +1,27 @@
 -- The work of a load and of a store put together from its parts, on plain values, for `search`.
-use mathlib.Core.Path.{_≡_, refl, sym, _∙_}
-use mathlib.Core.Bool.{Bool, true, false, _&&_, _||_}
+use mathlib.Core.Path.{_≡_, refl, _∙_}
+use mathlib.Core.Bool.{Bool, true, false, _&&_}
 use mathlib.Core.List.{List}
 use Prim.Native.Nat.{ℕ, zero, suc}
-use native.Mathlib.Omega.{arith}
-use lib.Dec.{eqb, ltb, leb}
+use lib.Dec.{leb}
 use lib.ListN.{length}
-use Rattle.word.specs.Bits.{pick}
 use Rattle.word.specs.Ram.{wordAt, widthOf, bytesIn}
 use Rattle.word.specs.declared.ram.Sized.{Sized}
 use Rattle.word.specs.declared.ram.Sized.the-variants.{Bytes, Refused as NoWidth}
 use Rattle.word.specs.declared.ram.Width.{Width}
 use Rattle.word.specs.declared.ram.Word.{Word}
-use Rattle.sysreg.specs.Encoding.{registerAt}
-use Rattle.sysreg.specs.declared.regs.Control.{Control}
-use Rattle.walk.specs.Regime.{bankOf, regimeOf, stage1On}
+use Rattle.walk.specs.Regime.{regimeOf, stage1On}
 use Rattle.walk.specs.declared.regime.Bank.{Bank}
 use Rattle.tlb.specs.Hint.{onPage}
-use Rattle.tlb.specs.Turn.{turnOf}
 use Rattle.tlb.specs.declared.access.Answer.{Answer}
 use Rattle.tlb.specs.declared.access.Kind.{Kind}
 use Rattle.tlb.specs.declared.access.Kind.the-variants.{Read}
 use Rattle.tlb.specs.declared.access.Who.{Who}
-use Rattle.tlb.specs.declared.entry.Entry.{Entry}
-use Rattle.tlb.specs.declared.entry.Present.{Present}
 use Rattle.tlb.specs.declared.hint.Hint.{Hint}
-use Rattle.tlb.specs.declared.turn.Turned.{Turned}
 use Rattle.entry.specs.declared.exception.Stop.{Stop}
 use Rattle.mmu.specs.Bytes.{loadOf}
 use Rattle.mmu.specs.Ends.{loadEnd}
 use Rattle.mmu.specs.Place.{inPage, nextPage, crosses, goesOn, placedOne, placedBoth}
-use Rattle.mmu.specs.Step.{slotAt}
 use Rattle.mmu.specs.declared.bytes.Got.{Got}
 use Rattle.mmu.specs.declared.bytes.Got.the-variants as Got
 use Rattle.mmu.specs.declared.ends.LoadAnswer.{LoadAnswer}
@@ -38,18 +29,20 @@ use Rattle.mmu.specs.declared.ends.LoadAnswer.the-variants as Load
 use Rattle.mmu.specs.declared.ends.LoadEnd.{LoadEnd}
 use Rattle.mmu.specs.declared.place.Place.the-variants.{Whole}
 use Rattle.mmu.specs.declared.place.Placed.{Placed}
-use Rattle.cpu.specs.Check.{passes, known, ramRows, sizedRows, firstOf, missedOf}
+use Rattle.cpu.specs.Check.{sizedRows, firstOf}
 use Rattle.cpu.specs.Step.{loading}
 use Rattle.cpu.specs.declared.call.Reply.{Reply}
 use Rattle.cpu.specs.declared.call.Reply.the-variants.{Refused, Done, Value, Stopped}
-use Rattle.lentparts.specs.Plan.{hintPlace, hintServes}
-use Rattle.lentparts.specs.Access.{bytesOf, secondOf, keysOf, another, moreOf, oneTurn, twoTurns, secondsOf, bothAfter, bothOf, untouchedOf, afterBoth, loadedOf, hitIn, readQuick, loadQuickBy, loadQuick}
+use Rattle.lentparts.specs.Plan.{hintServes}
+use Rattle.lentparts.specs.Change.{unchanged, turnedOf, pageAfter}
+use Rattle.lentparts.specs.declared.change.Change.{Change}
+use Rattle.lentparts.specs.declared.change.Hinted.{Hinted}
+use Rattle.lentparts.specs.declared.change.Page.{Page}
+use Rattle.lentparts.specs.declared.change.Turn.{Turn}
+use Rattle.lentparts.specs.Access.{bytesOf, secondOf, moreOf, oneTurn, twoTurns, bothOf, untouchedOf, accessOf, loadedOf, hitIn, readQuick, loadQuickBy, loadQuick}
 use Rattle.lentparts.specs.declared.access.Access.{Access}
 use Rattle.lentparts.specs.declared.access.Both.{Both}
-use Rattle.lentparts.specs.declared.access.Keys.{Keys}
 use Rattle.lentparts.specs.declared.access.QuickLoad.{QuickLoad}
-use Rattle.lentparts.specs.declared.access.Seconds.{Seconds}
-use Rattle.lentparts.specs.declared.cells.Cells.{Cells}
 
 -- WHERE THE CELLS LIE
 
@@ -70,50 +63,35 @@ module _ (s : Bank) (level va size : ℕ) (on : Bool) (n : ℕ) (split : Bool) (
   unfolding secondOf
   second-own t = rw (← en, ← eo, ← ep, t)
 
-pub keys-is : (c : Control) (who : Who) (last abort va size : ℕ) (kind : Kind) (s : Bank) (i j next i2 j2 : ℕ) → s ≡ bankOf c (regimeOf (who .level))
-    → i ≡ hintPlace va kind → j ≡ slotAt s (who .level) va → next ≡ secondOf s (who .level) va size → i2 ≡ hintPlace next kind
-    → j2 ≡ slotAt s (who .level) next
-    → _≡_ {A = Keys} (record { who = who; bank = s; hint = i; entry = j; hint2 = i2; entry2 = j2; «last_pa» = last; «abort_pa» = abort })
-    (keysOf c who last abort va size kind)
-unfolding keysOf
-keys-is c who last abort va size kind s i j next i2 j2 es ei ej en ei2 ej2 = rw (ei, ej, ei2, ej2, en, es)
-
 -- THE TRANSLATIONS
 
-pub two-is : (k : Keys) (at : Present) (f : Turned) (h : Hint) (e : Entry) (va : ℕ) (kind : Kind) (memory : ℕ → Word) (next : ℕ) (t : Turned) (p : Placed)
-    → next ≡ nextPage va → t ≡ turnOf (k .bank) (k .who) at (f .counts) h e next kind memory → p ≡ placedBoth va (f .answer) (t .answer)
-    → _≡_ {A = Both} (record { counts = t .counts; hint = f .hint; entry = f .entry; hint2 = t .hint; entry2 = t .entry; placed = p })
-    (twoTurns k at f h e va kind memory)
+pub two-is : (f : Turn) (y : Page) (va : ℕ) (kind : Kind) (memory : ℕ → Word) (next : ℕ) (z : Page) (t : Turn) (p : Placed) → next ≡ nextPage va
+    → z ≡ pageAfter (f .change) y → t ≡ turnedOf z next kind memory → p ≡ placedBoth va (f .answer) (t .answer)
+    → _≡_ {A = Both} (record { first = f .change; second = t .change; placed = p }) (twoTurns f y va kind memory)
 unfolding twoTurns
-two-is k at f h e va kind memory next t p en et ep = rw (← en, ← et, ep)
+two-is f y va kind memory next z t p en ez et ep = rw (← en, ← ez, ← et, ep)
+
+pub one-is : (f : Turn) (y : Page) (va : ℕ) (c : Change) (p : Placed) → c ≡ unchanged (y .lookup) → p ≡ placedOne va (f .answer)
+    → _≡_ {A = Both} (record { first = f .change; second = c; placed = p }) (oneTurn f y va)
+one-is f y va c p ec ep = rw (ec, ep)
 
 pub more-is : (s : Bank) (level : ℕ) (a : Answer) (va n : ℕ) (on split more : Bool) → on ≡ stage1On s (regimeOf level) → split ≡ crosses on va n
     → more ≡ goesOn a split → more ≡ moreOf s level a va n
 more-is s level a va n on split more eo es em = em ∙ rw (es, eo)
 
-pub one-is : (f : Turned) (h : Hint) (e : Entry) (va : ℕ) (p : Placed) → p ≡ placedOne va (f .answer)
-    → _≡_ {A = Both} (record { counts = f .counts; hint = f .hint; entry = f .entry; hint2 = h; entry2 = e; placed = p }) (oneTurn f h e va)
-one-is f h e va p ep = rw ep
+module _ (x y : Page) (va n : ℕ) (kind : Kind) (memory : ℕ → Word) (f : Turn) (more : Bool) (ef : f ≡ turnedOf x va kind memory)
+    (em : more ≡ moreOf (x .lookup .bank) (x .lookup .who .level) (f .answer) va n) (b : Both) where
+  pub both-two : more ≡ true → b ≡ twoTurns f y va kind memory → b ≡ bothOf x y va n kind memory
+  unfolding bothOf
+  both-two m eb = rw (← ef, ← em, m) eb
 
-module _ (k : Keys) (at : Present) (f : Turned) (s : Seconds) (va n : ℕ) (kind : Kind) (memory : ℕ → Word) (more : Bool)
-    (em : more ≡ moreOf (k .bank) (k .who .level) (f .answer) va n) (b : Both) where
-  pub both-two : more ≡ true → b ≡ twoTurns k at f (s .hint) (s .entry) va kind memory → b ≡ bothAfter k at f s va n kind memory
-  unfolding bothAfter
-  both-two m eb = rw (← em, m) eb
+  pub both-one : more ≡ false → b ≡ oneTurn f y va → b ≡ bothOf x y va n kind memory
+  unfolding bothOf
+  both-one m eb = rw (← ef, ← em, m) eb
 
-  pub both-one : more ≡ false → b ≡ oneTurn f (s .hint) (s .entry) va → b ≡ bothAfter k at f s va n kind memory
-  unfolding bothAfter
-  both-one m eb = rw (← em, m) eb
-
-pub seconds-is : (k : Keys) (f : Turned) (y : Cells) (h : Hint) (e : Entry) → h ≡ another (eqb (k .hint2) (k .hint)) (f .hint) (y .hint)
-    → e ≡ another (eqb (k .entry2) (k .entry)) (f .entry) (y .entry) → _≡_ {A = Seconds} (record { hint = h; entry = e }) (secondsOf k f y)
-seconds-is k f y h e eh ee = λ i. record { hint = eh i; entry = ee i }
-
-pub both-is : (k : Keys) (x y : Cells) (va n : ℕ) (kind : Kind) (memory : ℕ → Word) (t : Turned) (s : Seconds) (b : Both)
-    → t ≡ turnOf (k .bank) (k .who) (x .present) (x .counts) (x .hint) (x .entry) va kind memory → s ≡ secondsOf k t y
-    → b ≡ bothAfter k (x .present) t s va n kind memory → b ≡ bothOf k x y va n kind memory
-unfolding bothOf
-both-is k x y va n kind memory t s b et es eb = eb ∙ rw (es, et)
+pub untouched-is : (g : Hinted) (x y : Page) (a b : Change) → a ≡ unchanged (x .lookup) → b ≡ unchanged (y .lookup)
+    → _≡_ {A = Access} (record { first = a; second = b; «last_pa» = g .«last_pa»; «abort_pa» = g .«abort_pa»; reply = Refused 3 }) (untouchedOf g x y)
+untouched-is g x y a b ea eb = rw (ea, eb)
 
 -- LOADS
 
@@ -123,14 +101,14 @@ load-value a v e = rw e
 pub load-stopped : (a : LoadAnswer) (s : Stop) → a ≡ Load.Stopped s → Stopped s ≡ loading a
 load-stopped a s e = rw e
 
-module _ (k : Keys) (x y : Cells) (va size base : ℕ) (ram : List ℕ) (s : Sized) (es : s ≡ widthOf size) (a : Access) where
-  pub loaded-some : (w : Width) (n : ℕ) (b : Both) (e : LoadEnd) (r : Reply) → s ≡ Bytes w → n ≡ bytesIn w → b ≡ bothOf k x y va n Read (wordAt base ram 8)
-      → e ≡ loadEnd (b .placed) (k .«last_pa») (k .«abort_pa») base ram va (bytesIn w) → r ≡ loading (e .answer)
-      → a ≡ afterBoth b (e .«last_pa») (e .«abort_pa») r → a ≡ loadedOf k x y va size base ram
+module _ (g : Hinted) (x y : Page) (va size base : ℕ) (ram : List ℕ) (s : Sized) (es : s ≡ widthOf size) (a : Access) where
+  pub loaded-some : (w : Width) (n : ℕ) (b : Both) (e : LoadEnd) (r : Reply) → s ≡ Bytes w → n ≡ bytesIn w → b ≡ bothOf x y va n Read (wordAt base ram 8)
+      → e ≡ loadEnd (b .placed) (g .«last_pa») (g .«abort_pa») base ram va (bytesIn w) → r ≡ loading (e .answer)
+      → a ≡ accessOf b (e .«last_pa») (e .«abort_pa») r → a ≡ loadedOf g x y va size base ram
   unfolding loadedOf
   loaded-some w n b e r ew en eb ee er ea = rw (← es, ew) (ea ∙ rw (er, ee, eb, en))
 
-  pub loaded-none : s ≡ NoWidth → a ≡ untouchedOf k x y → a ≡ loadedOf k x y va size base ram
+  pub loaded-none : s ≡ NoWidth → a ≡ untouchedOf g x y → a ≡ loadedOf g x y va size base ram
   unfolding loadedOf
   loaded-none ew ea = rw (← es, ew) ea
 

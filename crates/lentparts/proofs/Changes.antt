@@ -1,6 +1,7 @@
 -- What a translation changes, as the code computes it.
 use mathlib.Core.Path.{_≡_}
-use mathlib.Core.Bool.{Bool, _&&_}
+use mathlib.Core.Bool.{Bool, true, false, _&&_}
+use lib.Dec.{eqb}
 use Prim.Native.Nat.{ℕ, _<_}
 use native.Mathlib.Omega.{arith}
 use Rattle.word.specs.declared.ram.Word.{Word}
@@ -9,13 +10,14 @@ use Rattle.walk.specs.Regime.{bankOf, regimeOf}
 use Rattle.walk.specs.declared.regime.Bank.{Bank}
 use Rattle.tlb.specs.Access.{mayHint}
 use Rattle.tlb.specs.Entry.{blank, slotOf}
-use Rattle.tlb.specs.Hint.{hintFor}
+use Rattle.tlb.specs.Hint.{hintFor, noHint, noFetch, fetchFor, onPage}
 use Rattle.tlb.specs.Resolve.{askOf, resolveOf}
 use Rattle.tlb.specs.declared.access.Answer.the-variants.{Address}
 use Rattle.tlb.specs.declared.access.Kind.{Kind}
 use Rattle.tlb.specs.declared.access.Who.{Who}
 use Rattle.tlb.specs.declared.entry.Entry.{Entry}
 use Rattle.tlb.specs.declared.entry.Present.{Present}
+use Rattle.tlb.specs.declared.hint.FetchHint.{FetchHint}
 use Rattle.tlb.specs.declared.hint.Hint.{Hint}
 use Rattle.tlb.specs.declared.resolve.Asked.{Asked}
 use Rattle.tlb.specs.declared.resolve.Asked.the-variants.{Flat, Of}
@@ -24,12 +26,13 @@ use Rattle.tlb.specs.declared.resolve.Resolved.{Resolved}
 use Rattle.tlb.specs.declared.resolve.Source.the-variants.{FromFlat}
 use Rattle.cpu.specs.Step.{translation}
 use Rattle.cpu.specs.declared.call.Reply.{Reply}
-use Rattle.lentparts.specs.Change.{entryPlace, lookupOf, effectOf, allowed, addressOf, missBy, changeOf, translatedOf}
-use Rattle.lentparts.specs.Plan.{hintPlace}
+use Rattle.lentparts.specs.Change.{entryPlace, lookupOf, effectOf, allowed, addressOf, missBy, changeOf, fetchChangeOf, unchanged, translatedOf, turnedOf, hintLeft, entryLeft, pageAfter}
+use Rattle.lentparts.specs.Plan.{hintPlace, hintServes}
 use Rattle.lentparts.specs.declared.change.Change.{Change}
 use Rattle.lentparts.specs.declared.change.Translated.{Translated}
 use Rattle.lentparts.specs.declared.change.Lookup.{Lookup}
 use Rattle.lentparts.specs.declared.change.Page.{Page}
+use Rattle.lentparts.specs.declared.change.Turn.{Turn}
 
 module _ (a : Asked) where
   pub place-of : (q : Query) (j : ℕ) → a ≡ Of q → j ≡ slotOf (q .tag) → j ≡ entryPlace a
@@ -50,10 +53,54 @@ pub lookup-is : (c : Control) (who : Who) (va : ℕ) (kind : Kind) (s : Bank) (a
     → _≡_ {A = Lookup} (record { who = who; bank = s; asked = a; hint = i; entry = j }) (lookupOf c who va kind)
 lookup-is c who va kind s a i j es ea ei ej = rw (ej, ea, es, ei)
 
-pub change-is : (k : Lookup) (t : Resolved) (va : ℕ) (kind : Kind) (may is : Bool) (pa : ℕ) (h : Hint) (n : ℕ) → may ≡ mayHint (k .who) kind
-    → is ≡ allowed (t .answer) → pa ≡ addressOf (t .answer) → h ≡ hintFor va (k .who .level) pa → n ≡ effectOf (t .source)
-    → _≡_ {A = Change} (record { «hint_at» = k .hint; «entry_at» = k .entry; effect = n; hints = may && is; hint = h; made = t .made }) (changeOf k t va kind)
-change-is k t va kind may is pa h n em es ep eh en = rw (em, es, eh, ep, en)
+module _ (k : Lookup) (t : Resolved) (va : ℕ) (is : Bool) (pa n : ℕ) (es : is ≡ allowed (t .answer)) (ep : pa ≡ addressOf (t .answer)) (en : n ≡ effectOf (t .source)) where
+  pub change-is : (kind : Kind) (may : Bool) (h : Hint) (f : FetchHint) → may ≡ mayHint (k .who) kind → h ≡ hintFor va (k .who .level) pa → f ≡ noFetch
+      → _≡_ {A = Change} (record { «hint_at» = k .hint; «entry_at» = k .entry; effect = n; hints = may && is; fetches = false; hint = h; fetch = f; made = t .made })
+      (changeOf k t va kind)
+  change-is kind may h f em eh ef = rw (em, es, eh, ep, en, ef)
+
+  pub fetch-change-is : (h : Hint) (f : FetchHint) → h ≡ noHint → f ≡ fetchFor va (k .who .level) pa
+      → _≡_ {A = Change} (record { «hint_at» = k .hint; «entry_at» = k .entry; effect = n; hints = false; fetches = is; hint = h; fetch = f; made = t .made })
+      (fetchChangeOf k t va)
+  fetch-change-is h f eh ef = rw (eh, ef, ep, es, en)
+
+pub unchanged-is : (k : Lookup) (h : Hint) (f : FetchHint) (made : Entry) → h ≡ noHint → f ≡ noFetch → made ≡ blank
+    → _≡_ {A = Change} (record { «hint_at» = k .hint; «entry_at» = k .entry; effect = 0; hints = false; fetches = false; hint = h; fetch = f; made = made }) (unchanged k)
+unchanged-is k h f made eh ef em = rw (eh, ef, em)
+
+-- a translation on the cells taken out
+pub by-hint-is : (k : Lookup) (h : Hint) (va : ℕ) (c : Change) (pa : ℕ) → c ≡ unchanged k → pa ≡ onPage (h .pa) va
+    → _≡_ {A = Turn} (record { change = c; answer = Address pa }) (record { change = unchanged k; answer = Address (onPage (h .pa) va) })
+by-hint-is k h va c pa ec ep = rw (ec, ep)
+
+module _ (x : Page) (va : ℕ) (kind : Kind) (memory : ℕ → Word) (hit : Bool) (eh : hit ≡ hintServes (x .hint) (x .lookup .who) va kind) where
+  pub turned-hit : (r : Turn) → hit ≡ true → r ≡ record { change = unchanged (x .lookup); answer = Address (onPage (x .hint .pa) va) } → r ≡ turnedOf x va kind memory
+  unfolding turnedOf
+  turned-hit r e er = rw (← eh, e) er
+
+  pub turned-miss : (t : Resolved) (c : Change) → hit ≡ false
+      → t ≡ missBy (x .lookup .asked) (x .lookup .bank) (x .lookup .who) (x .present) (x .entry) va kind memory → c ≡ changeOf (x .lookup) t va kind
+      → _≡_ {A = Turn} (record { change = c; answer = t .answer }) (turnedOf x va kind memory)
+  unfolding turnedOf
+  turned-miss t c e et ec = rw (← eh, e, ← et, ec)
+
+-- a page, as an earlier change leaves it
+module _ (same : Bool) (f : Change) (k : Lookup) where
+  pub hint-taken : (h : Hint) → same ≡ (f .hints && eqb (k .hint) (f .«hint_at»)) → same ≡ true → f .hint ≡ hintLeft f k h
+  hint-taken h e t = rw (← e, t)
+
+  pub hint-kept : (h : Hint) → same ≡ (f .hints && eqb (k .hint) (f .«hint_at»)) → same ≡ false → h ≡ hintLeft f k h
+  hint-kept h e t = rw (← e, t)
+
+  pub entry-taken : (e : Entry) → same ≡ (eqb (f .effect) 3 && eqb (k .entry) (f .«entry_at»)) → same ≡ true → f .made ≡ entryLeft f k e
+  entry-taken e es t = rw (← es, t)
+
+  pub entry-kept : (e : Entry) → same ≡ (eqb (f .effect) 3 && eqb (k .entry) (f .«entry_at»)) → same ≡ false → e ≡ entryLeft f k e
+  entry-kept e es t = rw (← es, t)
+
+pub after-is : (f : Change) (y : Page) (h : Hint) (e : Entry) → h ≡ hintLeft f (y .lookup) (y .hint) → e ≡ entryLeft f (y .lookup) (y .entry)
+    → _≡_ {A = Page} (record { lookup = y .lookup; present = y .present; hint = h; entry = e }) (pageAfter f y)
+after-is f y h e eh ee = λ i. record { lookup = y .lookup; present = y .present; hint = eh i; entry = ee i }
 
 pub translated-is : (x : Page) (va : ℕ) (kind : Kind) (memory : ℕ → Word) (t : Resolved) (c : Change) (y : Reply)
     → t ≡ missBy (x .lookup .asked) (x .lookup .bank) (x .lookup .who) (x .present) (x .entry) va kind memory

@@ -1,6 +1,7 @@
 pub mod Plans
 pub mod Changes
 pub mod Calling
+pub mod Walking
 pub mod InPlace
 pub mod Parts
 pub mod Fields

@@ -23,7 +23,7 @@ use Rattle.tlb.specs.declared.entry.Entry.{Entry}
 use Rattle.tlb.specs.declared.hint.FetchHint.{FetchHint}
 use Rattle.tlb.specs.declared.hint.Hint.{Hint}
 use Rattle.mmu.specs.declared.core.Core.{Core}
-use Rattle.lentparts.specs.Cells.{partsIn}
+use Rattle.lentparts.specs.Change.{partsIn, storedIn, keptIn}
 use Rattle.lentparts.proofs.InPlace.{vs as valsOf, array-set, array-at, vals-set, vals-length}
 use Rattle.mmu.proofs.core.Core as T
 use Rattle.mmu.proofs.core.Core.Laws as T′
@@ -77,6 +77,28 @@ module _ (c : Core) where
   abbrev pub entries : List Val
   entries = valsOf F.the-field F′.the-field-laws (c .tlb .cache .entries)
 
+  -- the machine values of its parts
+  abbrev pub vwho : Val
+  vwho = LL.val Q.the-type Q′.the-laws (c .who)
+
+  abbrev pub vcontrol : Val
+  vcontrol = LL.val R.the-type R′.the-laws (c .control)
+
+  abbrev pub vpresent : Val
+  vpresent = LL.val P.the-type P′.the-laws (c .tlb .cache .present)
+
+  abbrev pub vfetch : Val
+  vfetch = fetch-val (c .tlb .cache .fetch)
+
+  abbrev pub vcounts : Val
+  vcounts = counts-val (c .tlb .counts)
+
+  abbrev pub vlast : Val
+  vlast = vint w64 (c .«last_pa»)
+
+  abbrev pub vabort : Val
+  vabort = vint w64 (c .«abort_pa»)
+
   -- the core's machine value with another fetch hint, counters, hints, entries and addresses kept
   unfoldable pub laid : Val → Val → Val → Val → Val → List Val → List Val → Val → Val → Val
   laid w r p f n hs es last abort =
@@ -87,12 +109,12 @@ module _ (c : Core) where
       (vcons last (vcons abort vnil)))))))))
 
   abbrev pub written : Val
-  written = laid (LL.val Q.the-type Q′.the-laws (c .who)) (LL.val R.the-type R′.the-laws (c .control)) (LL.val P.the-type P′.the-laws (c .tlb .cache .present)) (fetch-val (c .tlb .cache .fetch)) (counts-val (c .tlb .counts)) hints entries (vint w64 (c .«last_pa»)) (vint w64 (c .«abort_pa»))
+  written = laid vwho vcontrol vpresent vfetch vcounts hints entries vlast vabort
 
   -- the same with these parts only
   abbrev pub with-parts : Val → Val → List Val → List Val → Val → Val → Val
   with-parts f n hs es last abort =
-      laid (LL.val Q.the-type Q′.the-laws (c .who)) (LL.val R.the-type R′.the-laws (c .control)) (LL.val P.the-type P′.the-laws (c .tlb .cache .present)) f n hs es last abort
+      laid vwho vcontrol vpresent f n hs es last abort
 
   abbrev pub Was : Type 0
   Was = Is T.the-row c (written ∷ [])
@@ -177,7 +199,7 @@ module _ (c : Core) where
       entry-is = subst (λ (v : Val). Is F.the-row (entryAt (c .tlb .cache) j) (v ∷ [])) entry-spelt entry-as
 
     -- the core with other parts
-    laid-is : (f : FetchHint) (n : Counts) (hs : List Hint) (es : List Entry) (l a : ℕ) → Is X.the-row f (fetch-val f ∷ []) → Is N.the-row n (counts-val n ∷ [])
+    pub laid-is : (f : FetchHint) (n : Counts) (hs : List Hint) (es : List Entry) (l a : ℕ) → Is X.the-row f (fetch-val f ∷ []) → Is N.the-row n (counts-val n ∷ [])
         → Is (Array (E.the-field .row) 512) (map (E.the-field .into) hs) (arrayVal (valsOf E.the-field E′.the-field-laws hs) ∷ [])
         → Is (Array (F.the-field .row) 1024) (map (F.the-field .into) es) (arrayVal (valsOf F.the-field F′.the-field-laws es) ∷ []) → l < 2 ^ 64 → a < 2 ^ 64
         → Is T.the-row (partsIn c f n hs es l a) (with-parts (fetch-val f) (counts-val n) (valsOf E.the-field E′.the-field-laws hs) (valsOf F.the-field F′.the-field-laws es) (vint w64 l) (vint w64 a) ∷ [])
@@ -217,26 +239,16 @@ module _ (c : Core) where
         → Is (Array (F.the-field .row) 1024) (map (F.the-field .into) (set (c .tlb .cache .entries) j e)) (arrayVal (valsOf F.the-field F′.the-field-laws (set (c .tlb .cache .entries) j e)) ∷ [])
     entry-stored j e is = array-set F.the-field F′.the-field-laws 1024 (c .tlb .cache .entries) (arrayVal entries ∷ []) j e is entries-are
 
-    -- with counters, a hint, an entry and the addresses kept stored in place
-    module _ (j : ℕ) (n : Counts) (e : Entry) (isn : Is N.the-row n (counts-val n ∷ [])) (ise : Is F.the-row e (entry-val e ∷ [])) where
-      pub put-last-is : (i : ℕ) (h : Hint) (l a : ℕ) → Is E.the-row h (hint-val h ∷ []) → l < 2 ^ 64 → a < 2 ^ 64
-          → Is T.the-row (partsIn c (c .tlb .cache .fetch) n (set (c .tlb .cache .hints) i h) (set (c .tlb .cache .entries) j e) l a)
-          (with-parts (fetch-val (c .tlb .cache .fetch)) (counts-val n) (set hints i (hint-val h)) (set entries j (entry-val e)) (vint w64 l) (vint w64 a) ∷ [])
-      put-last-is i h l a ish gl ga =
-          rw (vals-set F.the-field F′.the-field-laws (c .tlb .cache .entries) j e, vals-set E.the-field E′.the-field-laws (c .tlb .cache .hints) i h)
-          (laid-is (c .tlb .cache .fetch) n (set (c .tlb .cache .hints) i h) (set (c .tlb .cache .entries) j e) l a fetch-is isn (hint-stored i h ish) (entry-stored j e ise) gl ga)
+    -- with other addresses kept; and with a fetch hint, counters, a hint and an entry stored in place
+    pub kept-is : (l a : ℕ) → l < 2 ^ 64 → a < 2 ^ 64 → Is T.the-row (keptIn c l a) (with-parts vfetch vcounts hints entries (vint w64 l) (vint w64 a) ∷ [])
+    kept-is l a gl ga = laid-is (c .tlb .cache .fetch) (c .tlb .counts) (c .tlb .cache .hints) (c .tlb .cache .entries) l a fetch-is counts-are hints-are entries-are gl ga
 
-      pub put-fetch-is : (f : FetchHint) (a : ℕ) → Is X.the-row f (fetch-val f ∷ []) → a < 2 ^ 64
-          → Is T.the-row (partsIn c f n (c .tlb .cache .hints) (set (c .tlb .cache .entries) j e) (c .«last_pa») a)
-          (with-parts (fetch-val f) (counts-val n) hints (set entries j (entry-val e)) (vint w64 (c .«last_pa»)) (vint w64 a) ∷ [])
-      put-fetch-is f a isf ga =
-          rw (vals-set F.the-field F′.the-field-laws (c .tlb .cache .entries) j e)
-          (laid-is f n (c .tlb .cache .hints) (set (c .tlb .cache .entries) j e) (c .«last_pa») a isf isn hints-are (entry-stored j e ise) last-fits ga)
-
-    pub last-is : (l : ℕ) → l < 2 ^ 64
-        → Is T.the-row (partsIn c (c .tlb .cache .fetch) (c .tlb .counts) (c .tlb .cache .hints) (c .tlb .cache .entries) l (c .«abort_pa»))
-        (with-parts (fetch-val (c .tlb .cache .fetch)) (counts-val (c .tlb .counts)) hints entries (vint w64 l) (vint w64 (c .«abort_pa»)) ∷ [])
-    last-is l gl = laid-is (c .tlb .cache .fetch) (c .tlb .counts) (c .tlb .cache .hints) (c .tlb .cache .entries) l (c .«abort_pa») fetch-is counts-are hints-are entries-are gl abort-fits
+    pub stored-is : (i j : ℕ) (f : FetchHint) (n : Counts) (h : Hint) (e : Entry) → Is X.the-row f (fetch-val f ∷ []) → Is N.the-row n (counts-val n ∷ []) → Is E.the-row h (hint-val h ∷ [])
+        → Is F.the-row e (entry-val e ∷ [])
+        → Is T.the-row (storedIn c i j f n h e) (with-parts (fetch-val f) (counts-val n) (set hints i (hint-val h)) (set entries j (entry-val e)) vlast vabort ∷ [])
+    stored-is i j f n h e isf isn ish ise =
+        rw (vals-set F.the-field F′.the-field-laws (c .tlb .cache .entries) j e, vals-set E.the-field E′.the-field-laws (c .tlb .cache .hints) i h)
+        (laid-is f n (set (c .tlb .cache .hints) i h) (set (c .tlb .cache .entries) j e) (c .«last_pa») (c .«abort_pa») isf isn (hint-stored i h ish) (entry-stored j e ise) last-fits abort-fits)
 
 -- a core's machine value is the one written out
 abbrev pub core-vals : Core → List Val

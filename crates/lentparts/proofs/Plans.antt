@@ -1,31 +1,25 @@
 -- The work on small values put together from its parts, on plain values, for `search`.
 use mathlib.Core.Path.{_≡_, refl}
 use mathlib.Core.Bool.{Bool, true, false, _&&_}
-use Prim.Native.Nat.{ℕ, zero, suc, _+_, _-_, _^_, _≤_, _<_}
-use native.Mathlib.Omega.{arith}
-use borrow.Author.Tests.{lt-ltb, le-ltb}
+use Prim.Native.Nat.{ℕ, zero, suc, _-_}
 use mathlib.Core.List.{List}
 use lib.Dec.{eqb}
 use lib.ListN.{length}
 use Rattle.word.specs.Ram.{wordAt}
+use Rattle.word.specs.declared.ram.Word.{Word}
 use Rattle.fault.specs.declared.Fault.{Fault}
-use Rattle.sysreg.specs.Encoding.{registerAt}
-use Rattle.sysreg.specs.declared.regs.Control.{Control}
-use Rattle.walk.specs.Regime.{bankOf, regimeOf}
-use Rattle.walk.specs.declared.regime.Bank.{Bank}
 use Rattle.tlb.specs.Access.{mayHint}
 use Rattle.tlb.specs.Hint.{hintKey, onPage, fetchFound}
-use Rattle.tlb.specs.Turn.{fetchOf}
 use Rattle.tlb.specs.declared.access.Answer.{Answer}
 use Rattle.tlb.specs.declared.access.Answer.the-variants.{Address, Status}
 use Rattle.tlb.specs.declared.access.Kind.{Kind}
+use Rattle.tlb.specs.declared.access.Kind.the-variants.{Fetch}
+use Rattle.tlb.specs.declared.resolve.Resolved.{Resolved}
 use Rattle.tlb.specs.declared.access.Who.{Who}
 use Rattle.tlb.specs.declared.hint.Hint.{Hint}
 use Rattle.tlb.specs.declared.hint.FetchHint.{FetchHint}
 use Rattle.tlb.specs.declared.hint.Physical.{Physical}
 use Rattle.tlb.specs.declared.hint.Physical.the-variants.{At, Unknown}
-use Rattle.tlb.specs.declared.turn.FetchTurned.{FetchTurned}
-use Rattle.tlb.specs.declared.turn.Turned.{Turned}
 use Rattle.entry.specs.declared.exception.Exception.{Exception}
 use Rattle.entry.specs.declared.exception.Stop.the-variants as Stop
 use Rattle.mmu.specs.Bytes.{insnOf}
@@ -35,16 +29,19 @@ use Rattle.mmu.specs.declared.bytes.Insn.the-variants as Insn
 use Rattle.mmu.specs.declared.ends.FetchAnswer.{FetchAnswer}
 use Rattle.mmu.specs.declared.ends.FetchAnswer.the-variants as Fetched
 use Rattle.mmu.specs.declared.ends.FetchEnd.{FetchEnd}
-use Rattle.mmu.specs.Step.{slotAt}
-use Rattle.cpu.specs.Check.{passes, ramRows, firstOf, missedOf}
+use Rattle.cpu.specs.Check.{ramRows, firstOf}
 use Rattle.cpu.specs.Step.{translation, fetching}
 use Rattle.cpu.specs.declared.call.Reply.{Reply}
 use Rattle.cpu.specs.declared.call.Reply.the-variants.{Refused, Done, Value, Stopped}
-use Rattle.lentparts.specs.Plan.{hintPlace, keyOf, hintServes, quickBy, quickOf}
-use Rattle.lentparts.specs.Fetch.{quickFetchBy, fetchQuick, fetchedOf}
-use Rattle.lentparts.specs.declared.cells.FetchCells.{FetchCells}
-use Rattle.lentparts.specs.declared.insn.FetchTurn.{FetchTurn}
-use Rattle.lentparts.specs.declared.plan.Key.{Key}
+use Rattle.cpu.specs.declared.call.Reply.the-variants as Reply
+use Rattle.lentparts.specs.Plan.{hintServes, quickBy, quickOf}
+use Rattle.lentparts.specs.Fetch.{quickFetchBy, fetchQuick, fetchTurnedOf, fetchedOf}
+use Rattle.lentparts.specs.Change.{missBy, fetchChangeOf, unchanged}
+use Rattle.lentparts.specs.declared.change.Change.{Change}
+use Rattle.lentparts.specs.declared.change.Hinted.{Hinted}
+use Rattle.lentparts.specs.declared.change.Page.{Page}
+use Rattle.lentparts.specs.declared.change.Turn.{Turn}
+use Rattle.lentparts.specs.declared.insn.FetchAccess.{FetchAccess}
 use Rattle.lentparts.specs.declared.plan.Quick.{Quick}
 
 pub reply-at : (va : ℕ) (a : Answer) (pa : ℕ) → a ≡ Address pa → Value pa ≡ translation va a
@@ -52,10 +49,6 @@ reply-at va a pa e = rw e
 
 pub reply-fault : (va : ℕ) (a : Answer) (f : Fault) → a ≡ Status f → Reply.Fault va f ≡ translation va a
 reply-fault va a f e = rw e
-
-pub key-is : (c : Control) (who : Who) (va : ℕ) (kind : Kind) (s : Bank) (i j : ℕ) → s ≡ bankOf c (regimeOf (who .level)) → i ≡ hintPlace va kind
-    → j ≡ slotAt s (who .level) va → _≡_ {A = Key} (record { who = who; bank = s; hint = i; entry = j }) (keyOf c who va kind)
-key-is c who va kind s i j es ei ej = rw (ej, es, ei)
 
 pub served-is : (h : Hint) (who : Who) (va : ℕ) (kind : Kind) (may : Bool) (key : ℕ) → may ≡ mayHint who kind → key ≡ hintKey va (who .level)
     → (may && eqb (h .key) key) ≡ hintServes h who va kind
@@ -110,9 +103,19 @@ insn-value a v e = rw e
 pub insn-aborted : (a : FetchAnswer) (x : Exception) → a ≡ Fetched.Aborted x → Stopped (Stop.Exception x) ≡ fetching a
 insn-aborted a x e = rw e
 
-pub fetched-is : (k : Key) (c : FetchCells) (va base : ℕ) (ram : List ℕ) (t : FetchTurned) (e : FetchEnd) (y : Reply)
-    → t ≡ fetchOf (k .bank) (k .who) (c .present) (c .counts) (c .fetch) (c .entry) va (wordAt base ram 8)
-    → e ≡ fetchEnd (t .answer) (c .«abort_pa») base ram va → y ≡ fetching (e .answer)
-    → _≡_ {A = FetchTurn} (record { counts = t .counts; fetch = t .fetch; entry = t .entry; «abort_pa» = e .«abort_pa»; reply = y }) (fetchedOf k c va base ram)
+module _ (f : FetchHint) (x : Page) (va : ℕ) (memory : ℕ → Word) (p : Physical) (ep : p ≡ fetchFound f (x .lookup .who .level) va) where
+  pub fetch-turned-hit : (pa : ℕ) (c : Change) → p ≡ At pa → c ≡ unchanged (x .lookup) → _≡_ {A = Turn} (record { change = c; answer = Address pa }) (fetchTurnedOf f x va memory)
+  unfolding fetchTurnedOf
+  fetch-turned-hit pa c e ec = rw (← ep, e, ec)
+
+  pub fetch-turned-miss : (t : Resolved) (c : Change) → p ≡ Unknown
+      → t ≡ missBy (x .lookup .asked) (x .lookup .bank) (x .lookup .who) (x .present) (x .entry) va Fetch memory → c ≡ fetchChangeOf (x .lookup) t va
+      → _≡_ {A = Turn} (record { change = c; answer = t .answer }) (fetchTurnedOf f x va memory)
+  unfolding fetchTurnedOf
+  fetch-turned-miss t c e et ec = rw (← ep, e, ← et, ec)
+
+pub fetched-is : (g : Hinted) (x : Page) (va base : ℕ) (ram : List ℕ) (t : Turn) (e : FetchEnd) (y : Reply) → t ≡ fetchTurnedOf (g .fetch) x va (wordAt base ram 8)
+    → e ≡ fetchEnd (t .answer) (g .«abort_pa») base ram va → y ≡ fetching (e .answer)
+    → _≡_ {A = FetchAccess} (record { change = t .change; «last_pa» = g .«last_pa»; «abort_pa» = e .«abort_pa»; reply = y }) (fetchedOf g x va base ram)
 unfolding fetchedOf
-fetched-is k c va base ram t e y et ee ey = rw (← et, ← ee, ey)
+fetched-is g x va base ram t e y et ee ey = rw (← et, ← ee, ey)

@@ -26,12 +26,12 @@ use Rattle.cpu.specs.Check.{sizedRows, firstOf}
 use Rattle.cpu.specs.Step.{storing}
 use Rattle.cpu.specs.declared.call.Reply.{Reply}
 use Rattle.cpu.specs.declared.call.Reply.the-variants.{Refused, Done, Stopped}
-use Rattle.lentparts.specs.Access.{hitIn, bothOf, untouchedOf, afterBoth}
+use Rattle.lentparts.specs.Access.{hitIn, bothOf, untouchedOf, accessOf}
 use Rattle.lentparts.specs.Writes.{storeQuickBy, storeQuick, nowReplyBy, nowReply, nowRamBy, nowRam, sizedRam, storeAfter, storedOf, storedRam}
 use Rattle.lentparts.specs.declared.access.Access.{Access}
 use Rattle.lentparts.specs.declared.access.Both.{Both}
-use Rattle.lentparts.specs.declared.access.Keys.{Keys}
-use Rattle.lentparts.specs.declared.cells.Cells.{Cells}
+use Rattle.lentparts.specs.declared.change.Hinted.{Hinted}
+use Rattle.lentparts.specs.declared.change.Page.{Page}
 use Rattle.lentparts.specs.declared.writes.QuickStore.{QuickStore}
 
 pub store-stopped : (a : StoreAnswer) (s : Stop) → a ≡ Store.Stopped s → Stopped s ≡ storing a
@@ -90,26 +90,26 @@ now-length base ram pa n v ys e = ap length e ∙ store-length base ram (Whole p
 -- A STORE ON THE CELLS TAKEN OUT
 
 pub ended-is : (b : Both) (last abort va n base : ℕ) (ram : List ℕ) (e : StoreEnd) (r : Reply) (a : Access) → e ≡ storeEnd (b .placed) abort base ram va n
-    → r ≡ storing (e .answer) → a ≡ afterBoth b last (e .«abort_pa») r → a ≡ storeAfter b last abort va n base ram
+    → r ≡ storing (e .answer) → a ≡ accessOf b last (e .«abort_pa») r → a ≡ storeAfter b last abort va n base ram
 unfolding storeAfter
 ended-is b last abort va n base ram e r a ee er ea = ea ∙ rw (er, ee)
 
-module _ (k : Keys) (x y : Cells) (va size value base : ℕ) (ram : List ℕ) (s : Sized) (es : s ≡ widthOf size) where
-  pub stored-some : (a : Access) (w : Width) (n : ℕ) (b : Both) → s ≡ Bytes w → n ≡ bytesIn w → b ≡ bothOf k x y va n Write (wordAt base ram 8)
-      → a ≡ storeAfter b (k .«last_pa») (k .«abort_pa») va (bytesIn w) base ram → a ≡ storedOf k x y va size base ram
+module _ (g : Hinted) (x y : Page) (va size value base : ℕ) (ram : List ℕ) (s : Sized) (es : s ≡ widthOf size) where
+  pub stored-some : (a : Access) (w : Width) (n : ℕ) (b : Both) → s ≡ Bytes w → n ≡ bytesIn w → b ≡ bothOf x y va n Write (wordAt base ram 8)
+      → a ≡ storeAfter b (g .«last_pa») (g .«abort_pa») va (bytesIn w) base ram → a ≡ storedOf g x y va size base ram
   unfolding storedOf
   stored-some a w n b ew en eb ea = rw (← es, ew) (ea ∙ rw (eb, en))
 
-  pub stored-some-ram : (w : Width) (n : ℕ) (b : Both) (ys : List ℕ) → s ≡ Bytes w → n ≡ bytesIn w → b ≡ bothOf k x y va n Write (wordAt base ram 8)
-      → ys ≡ storeRamEnd (b .placed) base ram (bytesIn w) value → ys ≡ storedRam k x y va size value base ram
+  pub stored-some-ram : (w : Width) (n : ℕ) (b : Both) (ys : List ℕ) → s ≡ Bytes w → n ≡ bytesIn w → b ≡ bothOf x y va n Write (wordAt base ram 8)
+      → ys ≡ storeRamEnd (b .placed) base ram (bytesIn w) value → ys ≡ storedRam x y va size value base ram
   unfolding storedRam
   stored-some-ram w n b ys ew en eb ey = rw (← es, ew) (ey ∙ rw (eb, en))
 
-  pub stored-none : (a : Access) → s ≡ NoWidth → a ≡ untouchedOf k x y → a ≡ storedOf k x y va size base ram
+  pub stored-none : (a : Access) → s ≡ NoWidth → a ≡ untouchedOf g x y → a ≡ storedOf g x y va size base ram
   unfolding storedOf
   stored-none a ew ea = rw (← es, ew) ea
 
-  pub stored-none-ram : s ≡ NoWidth → ram ≡ storedRam k x y va size value base ram
+  pub stored-none-ram : s ≡ NoWidth → ram ≡ storedRam x y va size value base ram
   unfolding storedRam
   stored-none-ram ew = rw (← es, ew)
 

@@ -2,32 +2,18 @@
 use mathlib.Core.Bool.{Bool, true, false, _&&_}
 use Prim.Native.Nat.{ℕ, zero, suc, _%_}
 use lib.Dec.{eqb}
-use Rattle.sysreg.specs.declared.regs.Control.{Control}
-use Rattle.walk.specs.Regime.{bankOf, regimeOf}
 use Rattle.tlb.specs.Access.{mayHint}
 use Rattle.tlb.specs.Hint.{dataSlot, hintKey, onPage}
 use Rattle.tlb.specs.declared.access.Kind.{Kind}
 use Rattle.tlb.specs.declared.access.Who.{Who}
 use Rattle.tlb.specs.declared.hint.Hint.{Hint}
-use Rattle.mmu.specs.Step.{slotAt}
 use Rattle.cpu.specs.Check.{ramRows, firstOf}
 use Rattle.cpu.specs.declared.call.Reply.the-variants.{Refused, Done, Value}
-use Rattle.lentparts.specs.declared.plan.Key.{Key}
 use Rattle.lentparts.specs.declared.plan.Quick.{Quick}
 
 -- the place of an address's hint; a fetch has none, and reads any
 abbrev pub hintPlace : ℕ → Kind → ℕ
 hintPlace va kind = dataSlot va kind % 512
-
--- who asks, the registers of its regime, and where the cells of an address lie
-abbrev pub keyOf : Control → Who → ℕ → Kind → Key
-keyOf c who va kind =
-    record {
-      who = who;
-      bank = bankOf c (regimeOf (who .level));
-      hint = hintPlace va kind;
-      entry = slotAt (bankOf c (regimeOf (who .level))) (who .level) va;
-    }
 
 -- whether a data hint serves an access
 abbrev pub hintServes : Hint → Who → ℕ → Kind → Bool

@@ -1,4 +1,4 @@
--- The work of a store, on small values.
+-- The work of a store, on small values. Cited by the contracts of this crate alone.
 use mathlib.Core.Bool.{Bool, true, _&&_}
 use mathlib.Core.List.{List}
 use Prim.Native.Nat.{ℕ, zero, suc}
@@ -17,11 +17,11 @@ use Rattle.cpu.specs.Check.{sizedRows, firstOf}
 use Rattle.cpu.specs.Step.{storing}
 use Rattle.cpu.specs.declared.call.Reply.{Reply}
 use Rattle.cpu.specs.declared.call.Reply.the-variants.{Refused, Done}
-use Rattle.lentparts.specs.Access.{hitIn, bothOf, untouchedOf, afterBoth}
+use Rattle.lentparts.specs.Access.{hitIn, bothOf, untouchedOf, accessOf}
 use Rattle.lentparts.specs.declared.access.Access.{Access}
 use Rattle.lentparts.specs.declared.access.Both.{Both}
-use Rattle.lentparts.specs.declared.access.Keys.{Keys}
-use Rattle.lentparts.specs.declared.cells.Cells.{Cells}
+use Rattle.lentparts.specs.declared.change.Hinted.{Hinted}
+use Rattle.lentparts.specs.declared.change.Page.{Page}
 use Rattle.lentparts.specs.declared.writes.QuickStore.{QuickStore}
 
 -- whether a store ends at once: a check that it misses, or the hint that serves in its page, where the bytes lie in RAM
@@ -56,23 +56,23 @@ nowRam q base ram size value = nowRamBy (q .refused) ram (sizedRam (widthOf size
 
 -- a store on the cells taken out, and RAM after it
 abbrev pub afterStoreEnd : Both → ℕ → StoreEnd → Access
-afterStoreEnd b last e = afterBoth b last (e .«abort_pa») (storing (e .answer))
+afterStoreEnd b last e = accessOf b last (e .«abort_pa») (storing (e .answer))
 
 unfoldable pub storeAfter : Both → ℕ → ℕ → ℕ → ℕ → ℕ → List ℕ → Access
 storeAfter b last abort va n base ram = afterStoreEnd b last (storeEnd (b .placed) abort base ram va n)
 
-abbrev pub storedBy : Sized → Keys → Cells → Cells → ℕ → ℕ → List ℕ → Access
-storedBy (Bytes w) k x y va base ram =
-    storeAfter (bothOf k x y va (bytesIn w) Write (wordAt base ram 8)) (k .«last_pa») (k .«abort_pa») va (bytesIn w) base ram
-storedBy NoWidth k x y va base ram = untouchedOf k x y
+abbrev pub storedBy : Sized → Hinted → Page → Page → ℕ → ℕ → List ℕ → Access
+storedBy (Bytes w) g x y va base ram =
+    storeAfter (bothOf x y va (bytesIn w) Write (wordAt base ram 8)) (g .«last_pa») (g .«abort_pa») va (bytesIn w) base ram
+storedBy NoWidth g x y va base ram = untouchedOf g x y
 
-unfoldable pub storedOf : Keys → Cells → Cells → ℕ → ℕ → ℕ → List ℕ → Access
-storedOf k x y va size base ram = storedBy (widthOf size) k x y va base ram
+unfoldable pub storedOf : Hinted → Page → Page → ℕ → ℕ → ℕ → List ℕ → Access
+storedOf g x y va size base ram = storedBy (widthOf size) g x y va base ram
 
-abbrev pub storedRamBy : Sized → Keys → Cells → Cells → ℕ → ℕ → ℕ → List ℕ → List ℕ
-storedRamBy (Bytes w) k x y va value base ram =
-    storeRamEnd (bothOf k x y va (bytesIn w) Write (wordAt base ram 8) .placed) base ram (bytesIn w) value
-storedRamBy NoWidth k x y va value base ram = ram
+abbrev pub storedRamBy : Sized → Page → Page → ℕ → ℕ → ℕ → List ℕ → List ℕ
+storedRamBy (Bytes w) x y va value base ram =
+    storeRamEnd (bothOf x y va (bytesIn w) Write (wordAt base ram 8) .placed) base ram (bytesIn w) value
+storedRamBy NoWidth x y va value base ram = ram
 
-unfoldable pub storedRam : Keys → Cells → Cells → ℕ → ℕ → ℕ → ℕ → List ℕ → List ℕ
-storedRam k x y va size value base ram = storedRamBy (widthOf size) k x y va value base ram
+unfoldable pub storedRam : Page → Page → ℕ → ℕ → ℕ → ℕ → List ℕ → List ℕ
+storedRam x y va size value base ram = storedRamBy (widthOf size) x y va value base ram

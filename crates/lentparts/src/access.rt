@@ -1,10 +1,14 @@
-// The work of a load and of a store, on small values: the cells of one page or two are taken out, and put back.
+// The work of a load and of a store, on small values.
 ghost use mathlib.Core.Path.{_≡_};
 ghost use Rattle.word.specs.Ram.{wordAt};
 ghost use Rattle.cpu.specs.Step.{loading};
-ghost use Rattle.lentparts.specs.Access.{keysOf, another, oneTurn, twoTurns, secondsOf, bothAfter, bothOf};
-ghost use Rattle.lentparts.specs.Access.{untouchedOf, afterBoth, loadedOf, readQuick, loadQuick};
-use crate::cells::Cells;
+ghost use Rattle.lentparts.specs.Access.{secondIn, twoTurns, oneTurn, bothOf, untouchedOf, accessOf, loadedOf};
+ghost use Rattle.lentparts.specs.Access.{readQuick, loadQuick};
+use crate::change;
+use crate::change::Change;
+use crate::change::Hinted;
+use crate::change::Page;
+use crate::change::Turn;
 use crate::plan;
 use cpu::call::Reply;
 use cpu::check;
@@ -15,57 +19,22 @@ use mmu::ends::LoadAnswer;
 use mmu::place;
 use mmu::place::Place;
 use mmu::place::Placed;
-use mmu::step;
-use sysreg::regs::Control;
 use tlb::access::Kind;
-use tlb::access::Who;
-use tlb::count::Counts;
-use tlb::entry::Entry;
-use tlb::entry::Present;
 use tlb::hint;
-use tlb::hint::Hint;
-use tlb::turn;
-use tlb::turn::Turned;
-use walk::regime::Bank;
 use word::ram;
 use word::ram::Sized;
 
-// Who asks, the registers of its regime, where the cells of its pages lie, and the addresses kept. An access in one
-// page has the same cells twice.
-pub struct Keys {
-    pub who: Who,
-    pub bank: Bank,
-    pub hint: usize,
-    pub entry: usize,
-    pub hint2: usize,
-    pub entry2: usize,
-    pub last_pa: u64,
-    pub abort_pa: u64,
-}
-
-// The cells of the second page.
-pub struct Seconds {
-    pub hint: Hint,
-    pub entry: Entry,
-}
-
-// What the translations of an access leave, and what they found.
+// What the translations of an access change, and what they found. A page that is not translated changes nothing.
 pub struct Both {
-    pub counts: Counts,
-    pub hint: Hint,
-    pub entry: Entry,
-    pub hint2: Hint,
-    pub entry2: Entry,
+    pub first: Change,
+    pub second: Change,
     pub placed: Placed,
 }
 
-// What an access leaves, and its reply.
+// What an access changes, the addresses that it keeps, and its reply.
 pub struct Access {
-    pub counts: Counts,
-    pub hint: Hint,
-    pub entry: Entry,
-    pub hint2: Hint,
-    pub entry2: Entry,
+    pub first: Change,
+    pub second: Change,
     pub last_pa: u64,
     pub abort_pa: u64,
     pub reply: Reply,
@@ -78,178 +47,64 @@ pub struct QuickLoad {
     pub reply: Reply,
 }
 
-// Where the cells of an access lie.
-pub fn keys_of(
-    control: Control,
-    who: Who,
-    last: u64,
-    abort: u64,
-    va: u64,
-    size: u64,
-    kind: Kind,
-) -> Keys
-    ensures { λ r. ⌜ r ≡ keysOf control who last abort va size kind ⌝ }
+// The address of the second page, the access's own where it takes one.
+pub fn second_of(x: Page, va: u64, size: u64) -> u64
+    ensures { λ r. ⌜ r ≡ secondIn x va size ⌝ }
 {
-    let bank = step::bank_at(control, who.level);
-    let hint = plan::hint_place(va, kind);
-    let entry = step::slot_at(bank, who.level, va);
-    let next = plan::second_of(bank, who.level, va, size);
-    let hint2 = plan::hint_place(next, kind);
-    let entry2 = step::slot_at(bank, who.level, next);
-    Keys {
-        who,
-        bank,
-        hint,
-        entry,
-        hint2,
-        entry2,
-        last_pa: last,
-        abort_pa: abort,
-    }
-}
-
-// The second hint, as the first translation leaves it.
-fn hint_after(same: bool, first: Hint, second: Hint) -> Hint
-    ensures { λ r. ⌜ r ≡ another same first second ⌝ }
-{
-    if same { first } else { second }
-}
-
-// The second entry, as the first translation leaves it.
-fn entry_after(same: bool, first: Entry, second: Entry) -> Entry
-    ensures { λ r. ⌜ r ≡ another same first second ⌝ }
-{
-    if same { first } else { second }
+    let k = x.lookup;
+    let bank = k.bank;
+    plan::second_of(bank, k.who.level, va, size)
 }
 
 // The second page's translation, after the first one's.
-fn two(
-    k: Keys,
-    present: Present,
-    first: Turned,
-    hint2: Hint,
-    entry2: Entry,
-    va: u64,
-    kind: Kind,
-    base: u64,
-    ram: &[u8],
-) -> Both
-    ensures { λ r. ⌜ r ≡ twoTurns k present first hint2 entry2 va kind (wordAt base (now (ram .entry)) 8) ⌝ }
+fn two(f: Turn, y: Page, va: u64, kind: Kind, base: u64, ram: &[u8]) -> Both
+    ensures { λ r. ⌜ r ≡ twoTurns f y va kind (wordAt base (now (ram .entry)) 8) ⌝ }
 {
-    let bank = k.bank;
-    let who = k.who;
-    let counts = first.counts;
-    let hint = first.hint;
-    let entry = first.entry;
-    let at = first.answer;
+    let first = f.change;
+    let at = f.answer;
     let next = place::next_page(va);
-    let t = turn::turn(
-        bank,
-        who,
-        present,
-        counts,
-        hint2,
-        entry2,
-        next,
-        kind,
-        base,
-        ram,
-    );
+    let z = change::after(first, y);
+    let t = change::turned(z, next, kind, base, ram);
     let answer = t.answer;
     let placed = place::both(va, at, answer);
-    let counted = t.counts;
-    let hinted = t.hint;
-    let made = t.entry;
+    let second = t.change;
     Both {
-        counts: counted,
-        hint,
-        entry,
-        hint2: hinted,
-        entry2: made,
+        first,
+        second,
         placed,
     }
 }
 
 // One page's translation alone.
-fn one(first: Turned, hint2: Hint, entry2: Entry, va: u64) -> Both
-    ensures { λ r. ⌜ r ≡ oneTurn first hint2 entry2 va ⌝ }
+fn one(f: Turn, y: Page, va: u64) -> Both
+    ensures { λ r. ⌜ r ≡ oneTurn f y va ⌝ }
 {
-    let counts = first.counts;
-    let hint = first.hint;
-    let entry = first.entry;
-    let answer = first.answer;
+    let first = f.change;
+    let answer = f.answer;
+    let k = y.lookup;
+    let second = change::unchanged(k);
     let placed = place::one(va, answer);
     Both {
-        counts,
-        hint,
-        entry,
-        hint2,
-        entry2,
+        first,
+        second,
         placed,
     }
 }
 
-// The translations after the first one, with the second cells as it left them.
-fn turns_after(
-    k: Keys,
-    present: Present,
-    first: Turned,
-    s: Seconds,
-    va: u64,
-    n: u64,
-    kind: Kind,
-    base: u64,
-    ram: &[u8],
-) -> Both
-    ensures { λ r. ⌜ r ≡ bothAfter k present first s va n kind (wordAt base (now (ram .entry)) 8) ⌝ }
+// The translations of an access of n bytes, on the cells taken out.
+pub fn turns(x: Page, y: Page, va: u64, n: u64, kind: Kind, base: u64, ram: &[u8]) -> Both
+    ensures { λ r. ⌜ r ≡ bothOf x y va n kind (wordAt base (now (ram .entry)) 8) ⌝ }
 {
+    let k = x.lookup;
     let bank = k.bank;
-    let hint2 = s.hint;
-    let entry2 = s.entry;
-    let answer = first.answer;
+    let f = change::turned(x, va, kind, base, ram);
+    let answer = f.answer;
     let more = plan::goes_on(bank, k.who.level, answer, va, n);
     if more {
-        two(k, present, first, hint2, entry2, va, kind, base, ram)
+        two(f, y, va, kind, base, ram)
     } else {
-        one(first, hint2, entry2, va)
+        one(f, y, va)
     }
-}
-
-// The second cells, as the first translation leaves them.
-fn left(k: Keys, first: Turned, y: Cells) -> Seconds
-    ensures { λ r. ⌜ r ≡ secondsOf k first y ⌝ }
-{
-    let hinted = first.hint;
-    let made = first.entry;
-    let other = y.hint;
-    let stood = y.entry;
-    let hint = hint_after(k.hint2 == k.hint, hinted, other);
-    let entry = entry_after(k.entry2 == k.entry, made, stood);
-    Seconds { hint, entry }
-}
-
-// The translations of an access of n bytes, on the cells taken out.
-pub fn turns(
-    k: Keys,
-    x: Cells,
-    y: Cells,
-    va: u64,
-    n: u64,
-    kind: Kind,
-    base: u64,
-    ram: &[u8],
-) -> Both
-    ensures { λ r. ⌜ r ≡ bothOf k x y va n kind (wordAt base (now (ram .entry)) 8) ⌝ }
-{
-    let bank = k.bank;
-    let who = k.who;
-    let present = x.present;
-    let counts = x.counts;
-    let hint = x.hint;
-    let entry = x.entry;
-    let t = turn::turn(bank, who, present, counts, hint, entry, va, kind, base, ram);
-    let s = left(k, t, y);
-    turns_after(k, present, t, s, va, n, kind, base, ram)
 }
 
 fn load_reply(answer: LoadAnswer) -> Reply
@@ -261,42 +116,32 @@ fn load_reply(answer: LoadAnswer) -> Reply
     }
 }
 
-// What a size that is none leaves: all as it was.
-pub fn untouched(k: Keys, x: Cells, y: Cells) -> Access
-    ensures { λ r. ⌜ r ≡ untouchedOf k x y ⌝ }
+// What a size that is none changes: nothing.
+pub fn untouched(g: Hinted, x: Page, y: Page) -> Access
+    ensures { λ r. ⌜ r ≡ untouchedOf g x y ⌝ }
 {
-    let counts = x.counts;
-    let hint = x.hint;
-    let entry = x.entry;
-    let hint2 = y.hint;
-    let entry2 = y.entry;
+    let k = x.lookup;
+    let l = y.lookup;
+    let first = change::unchanged(k);
+    let second = change::unchanged(l);
     Access {
-        counts,
-        hint,
-        entry,
-        hint2,
-        entry2,
-        last_pa: k.last_pa,
-        abort_pa: k.abort_pa,
+        first,
+        second,
+        last_pa: g.last_pa,
+        abort_pa: g.abort_pa,
         reply: Reply::Refused(3),
     }
 }
 
-// What an access leaves after its translations and its end.
-pub fn after(b: Both, last: u64, abort: u64, reply: Reply) -> Access
-    ensures { λ r. ⌜ r ≡ afterBoth b last abort reply ⌝ }
+// What an access changes, after its translations and its end.
+pub fn access_of(b: Both, last: u64, abort: u64, reply: Reply) -> Access
+    ensures { λ r. ⌜ r ≡ accessOf b last abort reply ⌝ }
 {
-    let counts = b.counts;
-    let hint = b.hint;
-    let entry = b.entry;
-    let hint2 = b.hint2;
-    let entry2 = b.entry2;
+    let first = b.first;
+    let second = b.second;
     Access {
-        counts,
-        hint,
-        entry,
-        hint2,
-        entry2,
+        first,
+        second,
         last_pa: last,
         abort_pa: abort,
         reply,
@@ -304,20 +149,20 @@ pub fn after(b: Both, last: u64, abort: u64, reply: Reply) -> Access
 }
 
 // A load on the cells taken out.
-pub fn loaded(k: Keys, x: Cells, y: Cells, va: u64, size: u64, base: u64, ram: &[u8]) -> Access
-    ensures { λ r. ⌜ r ≡ loadedOf k x y va size base (now (ram .entry)) ⌝ }
+pub fn loaded(g: Hinted, x: Page, y: Page, va: u64, size: u64, base: u64, ram: &[u8]) -> Access
+    ensures { λ r. ⌜ r ≡ loadedOf g x y va size base (now (ram .entry)) ⌝ }
 {
     match ram::width_of(size) {
         Sized::Bytes(width) => {
             let n = ram::bytes_in(width);
-            let b = turns(k, x, y, va, n, Kind::Read, base, ram);
+            let b = turns(x, y, va, n, Kind::Read, base, ram);
             let placed = b.placed;
-            let e = ends::load_end(placed, k.last_pa, k.abort_pa, base, ram, va, width);
+            let e = ends::load_end(placed, g.last_pa, g.abort_pa, base, ram, va, width);
             let answer = e.answer;
             let reply = load_reply(answer);
-            after(b, e.last_pa, e.abort_pa, reply)
+            access_of(b, e.last_pa, e.abort_pa, reply)
         }
-        Sized::Refused => untouched(k, x, y),
+        Sized::Refused => untouched(g, x, y),
     }
 }
 
@@ -347,17 +192,12 @@ fn read_at(base: u64, ram: &[u8], pa: u64, size: u64, last: u64) -> QuickLoad
 }
 
 // The checks, and then the bytes where the hint serves and they lie in one page and in RAM.
-pub fn load_at_once(
-    who: Who,
-    h: Hint,
-    last: u64,
-    base: u64,
-    ram: &[u8],
-    va: u64,
-    size: u64,
-) -> QuickLoad
-    ensures { λ r. ⌜ r ≡ loadQuick who h last base (now (ram .entry)) va size ⌝ }
+pub fn load_at_once(g: Hinted, base: u64, ram: &[u8], va: u64, size: u64) -> QuickLoad
+    ensures { λ r. ⌜ r ≡ loadQuick (g .who) (g .hint) (g .«last_pa») base (now (ram .entry)) va size ⌝ }
 {
+    let who = g.who;
+    let h = g.hint;
+    let last = g.last_pa;
     let n = check::sized(who.level, base, ram.len() as u64, size);
     if n != 0 {
         return QuickLoad {

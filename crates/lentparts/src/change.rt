@@ -1,8 +1,11 @@
-// A translation that no hint serves, as what it changes; and the cells of the page that it is made of.
+// A translation as what it changes, and the cells of the page that it is made of.
 ghost use mathlib.Core.Path.{_≡_};
 ghost use Rattle.word.specs.Ram.{wordAt};
 ghost use Rattle.lentparts.specs.Change.{entryPlace, lookupOf, effectOf, allowed, addressOf, missBy, changeOf};
-ghost use Rattle.lentparts.specs.Change.{translatedOf};
+ghost use Rattle.lentparts.specs.Change.{translatedOf, unchanged, fetchChangeOf, turnedOf};
+ghost use Rattle.lentparts.specs.Change.{hintLeft, entryLeft, pageAfter};
+ghost use Rattle.tlb.specs.Hint.{onPage};
+ghost use Rattle.tlb.specs.declared.access.Answer.the-variants.{Address};
 use crate::plan;
 use cpu::call::Reply;
 use mmu::step;
@@ -14,6 +17,7 @@ use tlb::access::Who;
 use tlb::entry::Entry;
 use tlb::entry::Present;
 use tlb::hint;
+use tlb::hint::FetchHint;
 use tlb::hint::Hint;
 use tlb::resolve;
 use tlb::resolve::Asked;
@@ -30,10 +34,13 @@ pub struct Lookup {
     pub entry: usize,
 }
 
-// What the hint is asked with.
+// What is read first: who asks, the hints that may serve it, and the addresses kept.
 pub struct Hinted {
     pub who: Who,
     pub hint: Hint,
+    pub fetch: FetchHint,
+    pub last_pa: u64,
+    pub abort_pa: u64,
 }
 
 // What a page's translation reads of the core.
@@ -45,14 +52,22 @@ pub struct Page {
 }
 
 // What a translation changes. By effect 1 a hit is counted, by 2 a walk, by 3 a walk whose entry is stored; the hint is
-// stored where hints says so.
+// stored where hints says so, the fetch hint where fetches does.
 pub struct Change {
     pub hint_at: usize,
     pub entry_at: usize,
     pub effect: u8,
     pub hints: bool,
+    pub fetches: bool,
     pub hint: Hint,
+    pub fetch: FetchHint,
     pub made: Entry,
+}
+
+// What a translation changes, and its answer.
+pub struct Turn {
+    pub change: Change,
+    pub answer: Answer,
 }
 
 // What a translation changes, and its reply.
@@ -121,7 +136,15 @@ fn address_of(answer: Answer) -> u64
 }
 
 // A translation that no hint serves.
-fn miss(k: Lookup, at: Present, e: Entry, va: u64, kind: Kind, base: u64, ram: &[u8]) -> Resolved
+pub fn miss(
+    k: Lookup,
+    at: Present,
+    e: Entry,
+    va: u64,
+    kind: Kind,
+    base: u64,
+    ram: &[u8],
+) -> Resolved
     ensures { λ r. ⌜ r ≡ missBy (k .asked) (k .bank) (k .who) at e va kind (wordAt base (now (ram .entry)) 8) ⌝ }
 {
     let bank = k.bank;
@@ -140,6 +163,25 @@ fn miss(k: Lookup, at: Present, e: Entry, va: u64, kind: Kind, base: u64, ram: &
     }
 }
 
+// Nothing changes.
+pub fn unchanged(k: Lookup) -> Change
+    ensures { λ r. ⌜ r ≡ unchanged k ⌝ }
+{
+    let hint = hint::no_hint();
+    let fetch = hint::no_fetch();
+    let made = tlb::entry::blank();
+    Change {
+        hint_at: k.hint,
+        entry_at: k.entry,
+        effect: 0,
+        hints: false,
+        fetches: false,
+        hint,
+        fetch,
+        made,
+    }
+}
+
 // What a translation's answer changes.
 fn change_of(k: Lookup, t: Resolved, va: u64, kind: Kind) -> Change
     ensures { λ r. ⌜ r ≡ changeOf k t va kind ⌝ }
@@ -153,12 +195,39 @@ fn change_of(k: Lookup, t: Resolved, va: u64, kind: Kind) -> Change
     let pa = address_of(answer);
     let hint = hint::hint_for(va, who.level, pa);
     let effect = effect_of(source);
+    let fetch = hint::no_fetch();
     Change {
         hint_at: k.hint,
         entry_at: k.entry,
         effect,
         hints: may & is,
+        fetches: false,
         hint,
+        fetch,
+        made,
+    }
+}
+
+// What a fetch's answer changes.
+pub fn fetch_change_of(k: Lookup, t: Resolved, va: u64) -> Change
+    ensures { λ r. ⌜ r ≡ fetchChangeOf k t va ⌝ }
+{
+    let answer = t.answer;
+    let source = t.source;
+    let made = t.made;
+    let is = is_address(answer);
+    let pa = address_of(answer);
+    let effect = effect_of(source);
+    let hint = hint::no_hint();
+    let fetch = hint::fetch_for(va, k.who.level, pa);
+    Change {
+        hint_at: k.hint,
+        entry_at: k.entry,
+        effect,
+        hints: false,
+        fetches: is,
+        hint,
+        fetch,
         made,
     }
 }
@@ -175,4 +244,69 @@ pub fn translate(x: Page, va: u64, kind: Kind, base: u64, ram: &[u8]) -> Transla
     let answer = t.answer;
     let reply = plan::reply_of(va, answer);
     Translated { change, reply }
+}
+
+// A translation by the hint, where it serves.
+fn by_hint(k: Lookup, h: Hint, va: u64) -> Turn
+    ensures { λ r. ⌜ r ≡ record { change = unchanged k; answer = Address (onPage (h .pa) va) } ⌝ }
+{
+    let change = unchanged(k);
+    let pa = hint::on_page(h.pa, va);
+    Turn {
+        change,
+        answer: Answer::Address(pa),
+    }
+}
+
+// A translation on the cells taken out: the hint first, where it may serve.
+pub fn turned(x: Page, va: u64, kind: Kind, base: u64, ram: &[u8]) -> Turn
+    ensures { λ r. ⌜ r ≡ turnedOf x va kind (wordAt base (now (ram .entry)) 8) ⌝ }
+{
+    let k = x.lookup;
+    let at = x.present;
+    let h = x.hint;
+    let e = x.entry;
+    let hit = plan::served(h, k.who, va, kind);
+    if hit {
+        by_hint(k, h, va)
+    } else {
+        let t = miss(k, at, e, va, kind, base, ram);
+        let change = change_of(k, t, va, kind);
+        let answer = t.answer;
+        Turn { change, answer }
+    }
+}
+
+// The hint of a page, as an earlier change leaves it.
+fn hint_after(f: Change, k: Lookup, h: Hint) -> Hint
+    ensures { λ r. ⌜ r ≡ hintLeft f k h ⌝ }
+{
+    let same = f.hints & (k.hint == f.hint_at);
+    if same { f.hint } else { h }
+}
+
+// The entry of a page, as an earlier change leaves it.
+fn entry_after(f: Change, k: Lookup, e: Entry) -> Entry
+    ensures { λ r. ⌜ r ≡ entryLeft f k e ⌝ }
+{
+    let same = (f.effect == 3) & (k.entry == f.entry_at);
+    if same { f.made } else { e }
+}
+
+// A page, as an earlier change leaves it.
+pub fn after(f: Change, y: Page) -> Page
+    ensures { λ r. ⌜ r ≡ pageAfter f y ⌝ }
+{
+    let k = y.lookup;
+    let present = y.present;
+    let h = y.hint;
+    let e = y.entry;
+    let hint = hint_after(f, k, h);
+    let entry = entry_after(f, k, e);
+    Page {
+        lookup: k,
+        present,
+        hint,
+        entry,
+    }
 }

@@ -3,12 +3,12 @@ ghost use mathlib.Core.Path.{_≡_};
 ghost use lib.ListN.{length};
 ghost use Rattle.cpu.specs.Step.{translation};
 ghost use Rattle.lentparts.specs.Access.{bytesOf, secondOf, moreOf, hitIn};
-ghost use Rattle.lentparts.specs.Plan.{hintPlace, keyOf, hintServes, quickOf};
+ghost use Rattle.lentparts.specs.Plan.{hintPlace, hintServes, quickOf};
+use crate::change::Hinted;
 use cpu::call::Reply;
 use cpu::check;
 use mmu::place;
 use mmu::step;
-use sysreg::regs::Control;
 use tlb::access;
 use tlb::access::Answer;
 use tlb::access::Kind;
@@ -18,14 +18,6 @@ use tlb::hint::Hint;
 use walk::regime::Bank;
 use word::ram;
 use word::ram::Sized;
-
-// Who asks, the registers of its regime, and where the cells of an address lie.
-pub struct Key {
-    pub who: Who,
-    pub bank: Bank,
-    pub hint: usize,
-    pub entry: usize,
-}
 
 // What the hint and the checks say: an answer at once, or none.
 pub struct Quick {
@@ -41,21 +33,6 @@ pub fn hint_place(va: u64, kind: Kind) -> usize
     place % 512
 }
 
-// Where the cells of an address lie.
-pub fn key_of(control: Control, who: Who, va: u64, kind: Kind) -> Key
-    ensures { λ r. ⌜ r ≡ keyOf control who va kind ⌝ }
-{
-    let bank = step::bank_at(control, who.level);
-    let hint = hint_place(va, kind);
-    let entry = step::slot_at(bank, who.level, va);
-    Key {
-        who,
-        bank,
-        hint,
-        entry,
-    }
-}
-
 // Whether the hint serves.
 pub fn served(h: Hint, who: Who, va: u64, kind: Kind) -> bool
     ensures { λ r. ⌜ r ≡ hintServes h who va kind ⌝ }
@@ -66,9 +43,11 @@ pub fn served(h: Hint, who: Who, va: u64, kind: Kind) -> bool
 }
 
 // The checks, and then the hint.
-pub fn at_once(who: Who, h: Hint, base: u64, ram: &[u8], va: u64, kind: Kind) -> Quick
-    ensures { λ r. ⌜ r ≡ quickOf who h base (length (now (ram .entry))) va kind ⌝ }
+pub fn at_once(g: Hinted, base: u64, ram: &[u8], va: u64, kind: Kind) -> Quick
+    ensures { λ r. ⌜ r ≡ quickOf (g .who) (g .hint) base (length (now (ram .entry))) va kind ⌝ }
 {
+    let who = g.who;
+    let h = g.hint;
     let n = check::with_ram(who.level, base, ram.len() as u64);
     if n != 0 {
         return Quick {

@@ -7,8 +7,8 @@ ghost use Rattle.lentparts.specs.Writes.{storeQuick, nowReply, nowRam, s
 use crate::access;
 use crate::access::Access;
 use crate::access::Both;
-use crate::access::Keys;
-use crate::cells::Cells;
+use crate::change::Hinted;
+use crate::change::Page;
 use crate::plan;
 use cpu::call::Reply;
 use cpu::check;
@@ -17,9 +17,7 @@ use mmu::ends;
 use mmu::ends::StoreAnswer;
 use mmu::place::Place;
 use tlb::access::Kind;
-use tlb::access::Who;
 use tlb::hint;
-use tlb::hint::Hint;
 use word::ram;
 use word::ram::Sized;
 use word::ram::Width;
@@ -33,9 +31,11 @@ pub struct QuickStore {
 }
 
 // The checks, and then the hint, where the bytes lie in one page and in RAM.
-pub fn at_once(who: Who, h: Hint, base: u64, len: u64, va: u64, size: u64) -> QuickStore
-    ensures { λ r. ⌜ r ≡ storeQuick who h base len va size ⌝ }
+pub fn at_once(g: Hinted, base: u64, len: u64, va: u64, size: u64) -> QuickStore
+    ensures { λ r. ⌜ r ≡ storeQuick (g .who) (g .hint) base len va size ⌝ }
 {
+    let who = g.who;
+    let h = g.hint;
     let n = check::sized(who.level, base, len, size);
     if n != 0 {
         return QuickStore {
@@ -98,29 +98,29 @@ fn ended(
     let e = ends::store_end(placed, abort, base, ram, va, width, value);
     let answer = e.answer;
     let reply = reply_of(answer);
-    access::after(b, last, e.abort_pa, reply)
+    access::access_of(b, last, e.abort_pa, reply)
 }
 
 // A store on the cells taken out.
 pub fn stored(
-    k: Keys,
-    x: Cells,
-    y: Cells,
+    g: Hinted,
+    x: Page,
+    y: Page,
     va: u64,
     size: u64,
     value: u64,
     base: u64,
     ram: &mut [u8],
 ) -> Access
-    ensures { λ r. ⌜ (r ≡ storedOf k x y va size base (now (ram .entry)))
-        × (now (ram .exit) ≡ storedRam k x y va size value base (now (ram .entry))) ⌝ }
+    ensures { λ r. ⌜ (r ≡ storedOf g x y va size base (now (ram .entry)))
+        × (now (ram .exit) ≡ storedRam x y va size value base (now (ram .entry))) ⌝ }
 {
     match ram::width_of(size) {
         Sized::Bytes(width) => {
             let n = ram::bytes_in(width);
-            let b = access::turns(k, x, y, va, n, Kind::Write, base, ram);
-            ended(b, k.last_pa, k.abort_pa, va, width, value, base, ram)
+            let b = access::turns(x, y, va, n, Kind::Write, base, ram);
+            ended(b, g.last_pa, g.abort_pa, va, width, value, base, ram)
         }
-        Sized::Refused => access::untouched(k, x, y),
+        Sized::Refused => access::untouched(g, x, y),
     }
 }

@@ -22,8 +22,8 @@ load-end-requires c κs = search needs
 load-reply-requires : tie.Need-load-reply-requires
 load-reply-requires c κs = search needs
 
-after-requires : tie.Need-after-requires
-after-requires c κs = search needs
+access-of-requires : tie.Need-access-of-requires
+access-of-requires c κs = search needs
 
 enum-told : tie.Need-enum-told
 enum-told c = search needs
@@ -47,7 +47,7 @@ loaded-spec =
     turns-requires
     load-end-requires
     load-reply-requires
-    after-requires
+    access-of-requires
     enum-told
     untouched-requires
     returns

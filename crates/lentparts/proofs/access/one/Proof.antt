@@ -4,6 +4,9 @@ use Rattle.lentparts.proofs.access.one.Statement.{statement}
 use Rattle.lentparts.proofs.access.one.Tie as tie
 use Rattle.lentparts.proofs.Accesses.{one-is}
 
+unchanged-requires : tie.Need-unchanged-requires
+unchanged-requires c κs = search needs
+
 one-requires : tie.Need-one-requires
 one-requires c κs = search needs
 
@@ -11,4 +14,4 @@ returns : tie.Need-returns
 returns c = search (one-is, needs)
 
 pub one-spec : {M : Type 1} → statement M
-one-spec = tie.close (tie.spec one-requires returns)
+one-spec = tie.close (tie.spec unchanged-requires one-requires returns)

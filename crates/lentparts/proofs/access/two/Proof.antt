@@ -7,8 +7,11 @@ use Rattle.lentparts.proofs.Accesses.{two-is}
 next-page-requires : tie.Need-next-page-requires
 next-page-requires c κs = search needs
 
-turn-requires : tie.Need-turn-requires
-turn-requires c κs = search needs
+after-requires : tie.Need-after-requires
+after-requires c κs = search needs
+
+turned-requires : tie.Need-turned-requires
+turned-requires c κs = search needs
 
 both-requires : tie.Need-both-requires
 both-requires c κs = search needs
@@ -17,4 +20,5 @@ returns : tie.Need-returns
 returns c = search (two-is, needs)
 
 pub two-spec : {M : Type 1} → statement M
-two-spec = tie.close (tie.spec next-page-requires turn-requires both-requires returns)
+two-spec =
+    tie.close (tie.spec next-page-requires after-requires turned-requires both-requires returns)

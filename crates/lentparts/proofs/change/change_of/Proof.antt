@@ -19,6 +19,9 @@ hint-for-requires c κs = search needs
 effect-of-requires : tie.Need-effect-of-requires
 effect-of-requires c κs = search needs
 
+no-fetch-requires : tie.Need-no-fetch-requires
+no-fetch-requires c κs = search needs
+
 returns : tie.Need-returns
 returns c = search (change-is, needs)
 
@@ -31,4 +34,5 @@ change-of-spec =
     address-of-requires
     hint-for-requires
     effect-of-requires
+    no-fetch-requires
     returns)

@@ -22,8 +22,8 @@ insn-at-requires c κs = search needs
 enum-known-v : tie.Need-enum-known-v
 enum-known-v c = search needs
 
-cast-t17 : tie.Need-cast-t17
-cast-t17 c = search needs
+cast-t18 : tie.Need-cast-t18
+cast-t18 c = search needs
 
 enum-told : tie.Need-enum-told
 enum-told c = search needs
@@ -50,7 +50,7 @@ at-once-spec =
     enum-known-pa
     insn-at-requires
     enum-known-v
-    cast-t17
+    cast-t18
     enum-told
     enum-told-2
     returns-2

@@ -4,8 +4,8 @@ use Rattle.lentparts.proofs.insn.fetched.Statement.{statement}
 use Rattle.lentparts.proofs.insn.fetched.Tie as tie
 use Rattle.lentparts.proofs.Plans.{fetched-is}
 
-turn-fetch-requires : tie.Need-turn-fetch-requires
-turn-fetch-requires c κs = search needs
+turned-requires : tie.Need-turned-requires
+turned-requires c κs = search needs
 
 fetch-end-requires : tie.Need-fetch-end-requires
 fetch-end-requires c κs = search needs
@@ -17,5 +17,4 @@ returns : tie.Need-returns
 returns c = search (fetched-is, needs)
 
 pub fetched-spec : {M : Type 1} → statement M
-fetched-spec =
-    tie.close (tie.spec turn-fetch-requires fetch-end-requires reply-of-requires returns)
+fetched-spec = tie.close (tie.spec turned-requires fetch-end-requires reply-of-requires returns)

@@ -10,8 +10,8 @@ store-end-requires c κs = search needs
 reply-of-requires : tie.Need-reply-of-requires
 reply-of-requires c κs = search needs
 
-after-requires : tie.Need-after-requires
-after-requires c κs = search needs
+access-of-requires : tie.Need-access-of-requires
+access-of-requires c κs = search needs
 
 same-length : tie.Need-same-length
 same-length c = search (end-length, needs)
@@ -21,4 +21,5 @@ returns c = (search (ended-is, needs), search needs)
 
 pub ended-spec : {M : Type 1} → statement M
 ended-spec =
-    tie.close (tie.spec store-end-requires reply-of-requires after-requires same-length returns)
+    tie.close
+    (tie.spec store-end-requires reply-of-requires access-of-requires same-length returns)
