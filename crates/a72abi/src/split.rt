@@ -1,5 +1,5 @@
 // Loads and stores over two pages whose hints both serve at a glance and whose bytes lie in RAM. All others are left
-// to the book.
+// to the slow path.
 ghost use mathlib.Core.Path.{_≡_};
 ghost use mathlib.Core.Bool.{true};
 ghost use Rattle.tlb.specs.declared.access.Kind.the-variants.{Read, Write};

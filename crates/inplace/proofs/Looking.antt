@@ -40,7 +40,7 @@ use Rattle.mmu.specs.declared.ops.Translated.{Translated}
 use Rattle.words.specs.Held.{held}
 use Rattle.words.specs.Parts.{withCache, withCounts, withEntry, withHint, withFetchHint}
 use Rattle.words.specs.Moved.{Moved, stays, moved-as, moved-on}
-use Rattle.inplace.specs.Found.{codeOf, valueOf, answering, hintFound, noted, toldTo, sourced, committed, committing, lookedTo, foundTo, pagedBy, pagedTo, answerOf}
+use Rattle.inplace.specs.Found.{codeOf, valueOf, answering, hintFound, fetchHint, noted, toldTo, sourced, committed, committing, lookedTo, foundTo, pagedBy, pagedTo, answerOf}
 use Rattle.inplace.specs.FoundLaws.{unchanged, hint-serves, hint-misses}
 use Rattle.inplace.specs.FetchLaws.{fetchTo, fetch-serves, fetch-misses}
 
@@ -241,16 +241,17 @@ module _ (ws : List ℕ) (memory : ℕ → Word) (va code : ℕ) (ec : code ≡ 
 
 -- the fetch hint
 pub fetch-hint : (ws : List ℕ) (va : ℕ) (who : Who) (f : FetchHint) (p : Physical) → who ≡ held ws .who → f ≡ held ws .tlb .cache .fetch → p ≡ fetchFound f (who .level) va
-    → p ≡ fetchFound (held ws .tlb .cache .fetch) (held ws .who .level) va
+    → p ≡ fetchHint (held ws) va
+unfolding fetchHint
 fetch-hint ws va who f p ew ef ep = ep ∙ λ i. fetchFound (ef i) (ew i .level) va
 
 -- the translation that a fetch begins with
-module _ (ws : List ℕ) (memory : ℕ → Word) (va : ℕ) (p : Physical) (ep : p ≡ fetchFound (held ws .tlb .cache .fetch) (held ws .who .level) va) where
+module _ (ws : List ℕ) (memory : ℕ → Word) (va : ℕ) (p : Physical) (ep : p ≡ fetchHint (held ws) va) where
   abbrev fetched : Translated
   fetched = answering (withTlb (held ws) (fetchSteppedNow (held ws) memory va .tlb)) (fetchSteppedNow (held ws) memory va .answer)
 
   serves-it : (pa : ℕ) → p ≡ At pa → fetched ≡ answering (held ws) (Address pa)
-  unfolding fetchTo
+  unfolding fetchTo fetchHint
   serves-it pa e = fetch-serves (held ws) memory va pa (sym ep ∙ e)
 
   pub fetch-hint-code : (pa : ℕ) → p ≡ At pa → 0 ≡ codeOf (fetchSteppedNow (held ws) memory va .answer)
@@ -266,7 +267,7 @@ module _ (ws : List ℕ) (memory : ℕ → Word) (va : ℕ) (p : Physical) (ep :
   found-page = foundTo (held ws) memory va Fetch
 
   misses-it : p ≡ Unknown → fetched ≡ answering (pagedTo (held ws .who .level) va found-page) (found-page .answer)
-  unfolding fetchTo
+  unfolding fetchTo fetchHint
   misses-it e = fetch-misses (held ws) memory va (sym ep ∙ e)
 
   pub fetch-page-code : (n : ℕ) → p ≡ Unknown → n ≡ codeOf (found-page .answer) → n ≡ codeOf (fetchSteppedNow (held ws) memory va .answer)

@@ -3,12 +3,11 @@
 ghost use mathlib.Core.Path.{_≡_};
 ghost use Prim.Native.Nat.{_≤_};
 ghost use Rattle.word.specs.Ram.{wordAt};
-ghost use Rattle.tlb.specs.Hint.{fetchFound};
 ghost use Rattle.tlb.specs.declared.access.Kind.the-variants.{Fetch};
 ghost use Rattle.mmu.specs.Ops.{translateOf, fetchSteppedNow, withTlb};
 ghost use Rattle.words.specs.Held.{held};
 ghost use Rattle.words.specs.Moved.{Moved};
-ghost use Rattle.inplace.specs.Found.{codeOf, valueOf, hintFound, noted, toldTo, sourced, committed, lookedAt};
+ghost use Rattle.inplace.specs.Found.{codeOf, valueOf, hintFound, fetchHint, noted, toldTo, sourced, committed, lookedAt};
 ghost use Rattle.inplace.specs.Found.{foundAt, pagedTo, answerOf};
 use tlb::access;
 use tlb::access::Answer;
@@ -227,8 +226,7 @@ pub fn address(state: &mut State, va: u64, kind: Kind, pa: &mut u64, base: u64, 
 
 // What the fetch hint says of va.
 pub fn fetch_by_hint(state: &State, va: u64) -> Physical
-    ensures { λ r. ⌜ r ≡ fetchFound (held (now (state .entry)) .tlb .cache .fetch)
-        (held (now (state .entry)) .who .level) va ⌝ }
+    ensures { λ r. ⌜ r ≡ fetchHint (held (now (state .entry))) va ⌝ }
 {
     let who = state::who_at(state);
     let f = cells::fetch_at(state);

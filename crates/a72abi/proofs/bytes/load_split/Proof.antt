@@ -1,6 +1,5 @@
 -- `a72abi::bytes::load_split` meets its contract.
-use Rattle.a72abi.proofs.Splitting.{split-code, split-value, split-core}
-use Rattle.a72abi.specs.Kept.{keeping}
+use Rattle.a72abi.proofs.Splitting.{split-load}
 use borrow.Author.Needs.{needs}
 use Rattle.a72abi.proofs.bytes.load_split.Statement.{statement}
 use Rattle.a72abi.proofs.bytes.load_split.Tie as tie
@@ -17,11 +16,11 @@ put-last-requires c κs = search needs
 enum-told : tie.Need-enum-told
 enum-told c = search needs
 
-load-book-requires : tie.Need-load-book-requires
-load-book-requires c κs = search needs
+load-requires-2 : tie.Need-load-requires-2
+load-requires-2 c κs = search needs
 
 returns : tie.Need-returns
-returns c = record { code = search (split-code, needs); value = search (split-value, needs); words = search (split-core, needs); kept = search (keeping, needs) }
+returns c = search (split-load, needs)
 
 returns-2 : tie.Need-returns-2
 returns-2 c = search needs
@@ -34,6 +33,6 @@ load-split-spec =
     enum-known-pa
     put-last-requires
     enum-told
-    load-book-requires
+    load-requires-2
     returns
     returns-2)
