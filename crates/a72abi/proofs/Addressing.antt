@@ -163,12 +163,6 @@ kind-4 n e = sym (rw e)
 pub kind-none : (n : ℕ) → (n ≡ 1 → ⊥) → (n ≡ 2 → ⊥) → (n ≡ 4 → ⊥) → NoKind ≡ kindOf n
 kind-none n a b c = sym (rw (ne-eqb n 1 a, ne-eqb n 2 b, ne-eqb n 4 c))
 
-pub low-kind : (n : ℕ) → n < 2 → (n ≡ 1 → ⊥) → NoKind ≡ kindOf n
-low-kind n h ne = sym (rw (ne-eqb n 1 ne, ne-eqb n 2 (λ e. omega arith), ne-eqb n 4 (λ e. omega arith)))
-
-pub high-kind : (n : ℕ) → 2 ≤ n → (n ≡ 2 → ⊥) → (n ≡ 4 → ⊥) → NoKind ≡ kindOf n
-high-kind n h a b = sym (rw (ne-eqb n 1 (λ e. omega arith), ne-eqb n 2 a, ne-eqb n 4 b))
-
 pub kind-gives : (base : ℕ) (ram ws : List ℕ) (va : ℕ) (p : Kinds) (k : Kind) (n old v : ℕ) (xs : List ℕ) → Known k ≡ p → Gives (Calls.Known (Call.Translate k va)) base ram ws n old v xs
     → Gives (translateCall p va) base ram ws n old v xs
 unfolding translateCall

@@ -205,4 +205,3 @@ unmade-ram base ram size pa v made ys e f y = y ∙ go (widthOf size) refl
     go : (s : Sized) → widthOf size ≡ s → ramIn (widthOf size) base ram pa v ≡ ram
     go (Bytes w) q = rw q (unstored base ram (bytesIn w) pa v (sym (ap (λ (s : Sized). madeIn s base ram pa) q) ∙ sym e ∙ f))
     go NoWidth q = rw q
-

@@ -382,7 +382,7 @@ module _ (ws : List ℕ) (base : ℕ) (ram : List ℕ) (va size k pa : ℕ) (p :
             let h = near-width ws base ram va size (widthOf size) refl y es k ek near in (
               sized-store ws base ram va size (widthOf size) refl y es x 0 old old ws (hint-store ws base ram va y h p pa q x 0 old old ws ep (at-done ws base ram va (bytesIn y) pa old made lies t)),
               ap (λ (s : Sized). ramIn s base ram pa x) es
-              ∙ sized-store-ram ws base ram va size (widthOf size) refl y es x _ (hint-store-ram ws base ram va y h p pa q x _ ep refl),
+                  ∙ sized-store-ram ws base ram va size (widthOf size) refl y es x _ (hint-store-ram ws base ram va y h p pa q x _ ep refl),
             )
         go NoWidth es = absurd (false-true (sym (em ∙ ap (λ (s : Sized). madeIn s base ram pa) es) ∙ t))
 

@@ -4,36 +4,30 @@ use mathlib.Core.Bool.{Bool, true, false}
 use mathlib.Core.List.{List}
 use Prim.Native.Nat.{ℕ, _<_}
 use native.Mathlib.Omega.{arith}
-use Rattle.word.specs.Ram.{wordAt}
 use Rattle.entry.specs.declared.exception.Exception.{Exception}
 use Rattle.entry.specs.declared.exception.Exception.the-variants as Exception
 use Rattle.entry.specs.declared.exception.Stop.{Stop}
 use Rattle.entry.specs.declared.exception.Stop.the-variants as Stop
 use Rattle.sysreg.specs.declared.write.WriteAnswer.{WriteAnswer}
 use Rattle.sysreg.specs.declared.write.WriteAnswer.the-variants as Written
-use Rattle.tlb.specs.declared.access.Kind.the-variants as Kind
 use Rattle.tlb.specs.declared.access.Answer.{Answer}
 use Rattle.tlb.specs.declared.access.Answer.the-variants.{Address, Status}
 use Rattle.mmu.specs.Bytes.{loadOf, insnOf}
-use Rattle.mmu.specs.Ends.{loadedFrom, loadEnd, storeEnd, fetchedFrom, fetchEnd}
-use Rattle.mmu.specs.declared.core.Core.{Core}
+use Rattle.mmu.specs.Ends.{loadedFrom, loadEnd, fetchedFrom, fetchEnd}
 use Rattle.mmu.specs.declared.place.Placed.{Placed}
 use Rattle.mmu.specs.declared.place.Placed.the-variants.{At, Fault as NotPlaced}
 use Rattle.mmu.specs.declared.bytes.Got.{Got}
 use Rattle.mmu.specs.declared.bytes.Got.the-variants as Got
 use Rattle.mmu.specs.declared.bytes.Insn.{Insn}
 use Rattle.mmu.specs.declared.bytes.Insn.the-variants as Insn
-use Rattle.mmu.specs.declared.ends.LoadAnswer.{LoadAnswer}
 use Rattle.mmu.specs.declared.ends.StoreAnswer.{StoreAnswer}
 use Rattle.mmu.specs.declared.ends.StoreAnswer.the-variants as Store
-use Rattle.mmu.specs.declared.ends.FetchAnswer.{FetchAnswer}
 use Rattle.mmu.specs.declared.ends.Reached.{Reached}
 use Rattle.mmu.specs.declared.ends.Reached.the-variants as Reach
 use Rattle.cpu.specs.Step.{translation, reaching, loading, storing, fetching, registering}
 use Rattle.cpu.specs.declared.call.Reply.{Reply}
 use Rattle.cpu.specs.declared.call.Reply.the-variants.{Refused, Done, Value, Faults, Fault, Stopped}
-use Rattle.inplace.specs.Found.{codeOf}
-use Rattle.insys.specs.Early.{early, earlyStop, never, end-late, store-late}
+use Rattle.insys.specs.Early.{early, earlyStop, never}
 use Rattle.a72abi.specs.Replies.{codeBy, valueBy}
 
 -- a refusal, Undefined, Unimplemented
@@ -154,23 +148,4 @@ module _ (ws xs : List ℕ) where
   pub kept-late : (r : Reply) (n : ℕ) → n ≡ codeBy r → unmoved r ≡ false → Kept n ws xs
   kept-late r n e q = kept-told r n e (record { still = λ t. never (sym q ∙ t) })
 
-  -- a translation
-  pub kept-found : (a : Answer) (n : ℕ) → n ≡ codeOf a → Kept n ws xs
-  kept-found a n e = kept-late (translation 0 a) n (e ∙ sym (code a)) (translation-late 0 a)
-    where
-      code : (x : Answer) → codeBy (translation 0 x) ≡ codeOf x
-      code (Address pa) = refl
-      code (Status fsc) = refl
-
-  -- the bytes of a load or store
-  pub kept-load : (x : Placed) (last abort base : ℕ) (ram : List ℕ) (va k n : ℕ)
-      → n ≡ codeBy (loading (loadEnd x last abort base ram va k .answer)) → Kept n ws xs
-  kept-load x last abort base ram va k n e = kept-late (loading (loadEnd x last abort base ram va k .answer)) n e (load-late x last abort base ram va k)
-
-  pub kept-store : (x : Placed) (abort base : ℕ) (ram : List ℕ) (va k n : ℕ)
-      → n ≡ codeBy (storing (storeEnd x abort base ram va k .answer)) → Kept n ws xs
-  kept-store x abort base ram va k n e =
-      kept-late (storing (storeEnd x abort base ram va k .answer)) n e
-      (storing-late (storeEnd x abort base ram va k .answer) ∙ end-late x abort base ram va k)
-
-pub ruleset keeping = (kept-same, kept-done, kept-told, kept-found, kept-load, kept-store)
+pub ruleset keeping = (kept-same, kept-done, kept-told)

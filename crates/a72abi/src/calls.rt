@@ -139,7 +139,8 @@ fn abort(state: &mut State, e: Exception) -> Reply
 // Each memory operation by its number and value, as four words.
 
 fn translation(state: &mut State, base: u64, ram: &[u8], kind: Kind, va: u64) -> [u64; 4]
-    ensures { λ r. ⌜ Steps (Call.Translate kind va) base (now (ram .entry)) (now (state .entry)) r (now (state .exit)) ⌝ }
+    ensures { λ r. ⌜ Steps (Call.Translate kind va) base (now (ram .entry)) (now (state .entry)) r
+        (now (state .exit)) ⌝ }
 {
     let mut v: u64 = 0;
     let n = slow::translation(state, va, kind, &mut v, base, ram);
@@ -147,7 +148,8 @@ fn translation(state: &mut State, base: u64, ram: &[u8], kind: Kind, va: u64) ->
 }
 
 fn data_pa(state: &mut State, base: u64, ram: &[u8], va: u64) -> [u64; 4]
-    ensures { λ r. ⌜ Steps (Call.DataPa va) base (now (ram .entry)) (now (state .entry)) r (now (state .exit)) ⌝ }
+    ensures { λ r. ⌜ Steps (Call.DataPa va) base (now (ram .entry)) (now (state .entry)) r
+        (now (state .exit)) ⌝ }
 {
     let mut v: u64 = 0;
     let n = slow::data_pa(state, va, &mut v, base, ram);
@@ -155,7 +157,8 @@ fn data_pa(state: &mut State, base: u64, ram: &[u8], va: u64) -> [u64; 4]
 }
 
 fn fetch_pa(state: &mut State, base: u64, ram: &[u8], va: u64) -> [u64; 4]
-    ensures { λ r. ⌜ Steps (Call.FetchPa va) base (now (ram .entry)) (now (state .entry)) r (now (state .exit)) ⌝ }
+    ensures { λ r. ⌜ Steps (Call.FetchPa va) base (now (ram .entry)) (now (state .entry)) r
+        (now (state .exit)) ⌝ }
 {
     let mut v: u64 = 0;
     let n = slow::fetch_pa(state, va, &mut v, base, ram);
@@ -163,7 +166,8 @@ fn fetch_pa(state: &mut State, base: u64, ram: &[u8], va: u64) -> [u64; 4]
 }
 
 fn load(state: &mut State, base: u64, ram: &[u8], va: u64, size: u64) -> [u64; 4]
-    ensures { λ r. ⌜ Steps (Call.Load va size) base (now (ram .entry)) (now (state .entry)) r (now (state .exit)) ⌝ }
+    ensures { λ r. ⌜ Steps (Call.Load va size) base (now (ram .entry)) (now (state .entry)) r
+        (now (state .exit)) ⌝ }
 {
     let mut v: u64 = 0;
     let n = slow::load(state, va, size, &mut v, base, ram);
@@ -171,7 +175,8 @@ fn load(state: &mut State, base: u64, ram: &[u8], va: u64, size: u64) -> [u64; 4
 }
 
 fn fetch(state: &mut State, base: u64, ram: &[u8], va: u64) -> [u64; 4]
-    ensures { λ r. ⌜ Steps (Call.Fetch va) base (now (ram .entry)) (now (state .entry)) r (now (state .exit)) ⌝ }
+    ensures { λ r. ⌜ Steps (Call.Fetch va) base (now (ram .entry)) (now (state .entry)) r
+        (now (state .exit)) ⌝ }
 {
     let mut v: u64 = 0;
     let n = slow::fetch(state, va, &mut v, base, ram);
@@ -179,7 +184,8 @@ fn fetch(state: &mut State, base: u64, ram: &[u8], va: u64) -> [u64; 4]
 }
 
 fn store(state: &mut State, base: u64, ram: &mut [u8], va: u64, size: u64, value: u64) -> [u64; 4]
-    ensures { λ r. ⌜ Steps (Call.Store va size value) base (now (ram .entry)) (now (state .entry)) r (now (state .exit)) ⌝ }
+    ensures { λ r. ⌜ Steps (Call.Store va size value) base (now (ram .entry)) (now (state .entry)) r
+        (now (state .exit)) ⌝ }
     ensures { λ r. ⌜ now (ram .exit) ≡ ramAfter (held (now (state .entry))) base (now (ram .entry))
         (Call.Store va size value) ⌝ }
 {

@@ -132,13 +132,7 @@ pub extern "C" fn a72_fetch_pa(
 
 // The instruction at va.
 #[no_mangle]
-pub extern "C" fn a72_fetch(
-    state: &mut State,
-    va: u64,
-    ans: &mut u64,
-    base: u64,
-    ram: &[u8],
-) -> u64
+pub extern "C" fn a72_fetch(state: &mut State, va: u64, ans: &mut u64, base: u64, ram: &[u8]) -> u64
     ensures { λ r. ⌜ Promise (Calls.Known (Call.Fetch va)) base (now (ram .entry)) (now (state .entry)) r
         (now (ans .entry)) (now (ans .exit)) (now (ram .entry)) (now (state .exit)) ⌝ }
 {

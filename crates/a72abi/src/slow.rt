@@ -51,7 +51,14 @@ fn missed_sized(state: &State, base: u64, len: u64, size: u64) -> u8
     check::sized(who.level, base, len, size)
 }
 
-pub(crate) fn translation(state: &mut State, va: u64, kind: Kind, ans: &mut u64, base: u64, ram: &[u8]) -> u64
+pub(crate) fn translation(
+    state: &mut State,
+    va: u64,
+    kind: Kind,
+    ans: &mut u64,
+    base: u64,
+    ram: &[u8],
+) -> u64
     ensures { λ r. ⌜ Gives (Calls.Known (Call.Translate kind va)) base (now (ram .entry)) (now (state .entry)) r
         (now (ans .entry)) (now (ans .exit)) (now (state .exit)) ⌝ }
 {
@@ -71,8 +78,9 @@ fn untold(code: u64) -> u64
 
 // Where a data read goes, past the checks.
 pub(crate) fn data_to(state: &mut State, va: u64, ans: &mut u64, base: u64, ram: &[u8]) -> u64
-    ensures { λ r. ⌜ Tells (runOf (held (now (state .entry))) base (now (ram .entry)) (Call.DataPa va)) (now (state .entry)) r
-        (now (ans .entry)) (now (ans .exit)) (now (state .exit)) ⌝ }
+    ensures { λ r. ⌜ Tells
+        (runOf (held (now (state .entry))) base (now (ram .entry)) (Call.DataPa va))
+        (now (state .entry)) r (now (ans .entry)) (now (ans .exit)) (now (state .exit)) ⌝ }
 {
     let code = translate::address(state, va, Kind::Read, ans, base, ram);
     untold(code)
@@ -91,8 +99,9 @@ pub(crate) fn data_pa(state: &mut State, va: u64, ans: &mut u64, base: u64, ram:
 
 // Where a fetch goes, past the checks.
 pub(crate) fn fetch_to(state: &mut State, va: u64, ans: &mut u64, base: u64, ram: &[u8]) -> u64
-    ensures { λ r. ⌜ Tells (runOf (held (now (state .entry))) base (now (ram .entry)) (Call.FetchPa va)) (now (state .entry)) r
-        (now (ans .entry)) (now (ans .exit)) (now (state .exit)) ⌝ }
+    ensures { λ r. ⌜ Tells
+        (runOf (held (now (state .entry))) base (now (ram .entry)) (Call.FetchPa va))
+        (now (state .entry)) r (now (ans .entry)) (now (ans .exit)) (now (state .exit)) ⌝ }
 {
     let code = translate::fetch_address(state, va, ans, base, ram);
     untold(code)
@@ -129,8 +138,9 @@ fn fetch_at(state: &mut State, pa: u64, ans: &mut u64, base: u64, ram: &[u8]) ->
 // A fetch that no hint serves.
 fn fetch_page(state: &mut State, va: u64, ans: &mut u64, base: u64, ram: &[u8]) -> u64
     requires { ⌜ fetchHint (held (now state)) va ≡ Unknown ⌝ }
-    ensures { λ r. ⌜ Tells (runOf (held (now (state .entry))) base (now (ram .entry)) (Call.Fetch va)) (now (state .entry)) r
-        (now (ans .entry)) (now (ans .exit)) (now (state .exit)) ⌝ }
+    ensures { λ r. ⌜ Tells
+        (runOf (held (now (state .entry))) base (now (ram .entry)) (Call.Fetch va))
+        (now (state .entry)) r (now (ans .entry)) (now (ans .exit)) (now (state .exit)) ⌝ }
 {
     let mut pa: u64 = 0;
     let code = translate::fetch_find(state, va, &mut pa, base, ram);
@@ -164,8 +174,9 @@ fn load_at(
     base: u64,
     ram: &[u8],
 ) -> u64
-    ensures { λ r. ⌜ Tells (loadEnds (held (now (state .entry))) (At (Whole pa)) base (now (ram .entry)) va (bytesIn width)) (now (state .entry)) r
-        (now (ans .entry)) (now (ans .exit)) (now (state .exit)) ⌝ }
+    ensures { λ r. ⌜ Tells
+        (loadEnds (held (now (state .entry))) (At (Whole pa)) base (now (ram .entry)) va (bytesIn width))
+        (now (state .entry)) r (now (ans .entry)) (now (ans .exit)) (now (state .exit)) ⌝ }
 {
     state::put_last(state, pa);
     match ram::read(base, ram, width, pa) {
@@ -185,8 +196,9 @@ fn load_at(
 fn load_one(state: &mut State, va: u64, width: Width, ans: &mut u64, base: u64, ram: &[u8]) -> u64
     requires { ⌜ bytesIn width ≤ inPage va ⌝ }
     requires { ⌜ hintFound (held (now state)) va Read ≡ Unknown ⌝ }
-    ensures { λ r. ⌜ Tells (runOf (held (now (state .entry))) base (now (ram .entry)) (Call.Load va (bytesIn width))) (now (state .entry)) r
-        (now (ans .entry)) (now (ans .exit)) (now (state .exit)) ⌝ }
+    ensures { λ r. ⌜ Tells
+        (runOf (held (now (state .entry))) base (now (ram .entry)) (Call.Load va (bytesIn width)))
+        (now (state .entry)) r (now (ans .entry)) (now (ans .exit)) (now (state .exit)) ⌝ }
 {
     let mut pa: u64 = 0;
     let code = translate::find(state, va, Kind::Read, &mut pa, base, ram);
@@ -198,11 +210,19 @@ fn load_one(state: &mut State, va: u64, width: Width, ans: &mut u64, base: u64, 
 }
 
 // The same of a size.
-pub(crate) fn load_page(state: &mut State, va: u64, size: u64, ans: &mut u64, base: u64, ram: &[u8]) -> u64
+pub(crate) fn load_page(
+    state: &mut State,
+    va: u64,
+    size: u64,
+    ans: &mut u64,
+    base: u64,
+    ram: &[u8],
+) -> u64
     requires { ⌜ size ≤ inPage va ⌝ }
     requires { ⌜ hintFound (held (now state)) va Read ≡ Unknown ⌝ }
-    ensures { λ r. ⌜ Tells (runOf (held (now (state .entry))) base (now (ram .entry)) (Call.Load va size)) (now (state .entry)) r
-        (now (ans .entry)) (now (ans .exit)) (now (state .exit)) ⌝ }
+    ensures { λ r. ⌜ Tells
+        (runOf (held (now (state .entry))) base (now (ram .entry)) (Call.Load va size))
+        (now (state .entry)) r (now (ans .entry)) (now (ans .exit)) (now (state .exit)) ⌝ }
 {
     match size {
         8 => load_one(state, va, Width::Double, ans, base, ram),
@@ -215,14 +235,22 @@ pub(crate) fn load_page(state: &mut State, va: u64, size: u64, ans: &mut u64, ba
 
 // A load that may take two pages.
 fn load_two(state: &mut State, va: u64, width: Width, ans: &mut u64, base: u64, ram: &[u8]) -> u64
-    ensures { λ r. ⌜ Tells (runOf (held (now (state .entry))) base (now (ram .entry)) (Call.Load va (bytesIn width))) (now (state .entry)) r
-        (now (ans .entry)) (now (ans .exit)) (now (state .exit)) ⌝ }
+    ensures { λ r. ⌜ Tells
+        (runOf (held (now (state .entry))) base (now (ram .entry)) (Call.Load va (bytesIn width)))
+        (now (state .entry)) r (now (ans .entry)) (now (ans .exit)) (now (state .exit)) ⌝ }
 {
     let answer = access::load(state, va, width, base, ram);
     reply::loaded(answer, ans)
 }
 
-pub(crate) fn load(state: &mut State, va: u64, size: u64, ans: &mut u64, base: u64, ram: &[u8]) -> u64
+pub(crate) fn load(
+    state: &mut State,
+    va: u64,
+    size: u64,
+    ans: &mut u64,
+    base: u64,
+    ram: &[u8],
+) -> u64
     ensures { λ r. ⌜ Gives (Calls.Known (Call.Load va size)) base (now (ram .entry)) (now (state .entry)) r
         (now (ans .entry)) (now (ans .exit)) (now (state .exit)) ⌝ }
 {
@@ -255,8 +283,9 @@ fn store_at(
     base: u64,
     ram: &mut [u8],
 ) -> u64
-    ensures { λ r. ⌜ Tells (storeEnds (held (now (state .entry))) (At (Whole pa)) base (now (ram .entry)) va (bytesIn width)) (now (state .entry)) r
-        (now (ans .entry)) (now (ans .exit)) (now (state .exit)) ⌝ }
+    ensures { λ r. ⌜ Tells
+        (storeEnds (held (now (state .entry))) (At (Whole pa)) base (now (ram .entry)) va (bytesIn width))
+        (now (state .entry)) r (now (ans .entry)) (now (ans .exit)) (now (state .exit)) ⌝ }
     ensures { λ _. ⌜ now (ram .exit) ≡ stored base (now (ram .entry)) (bytesIn width) pa value ⌝ }
 {
     let made = ram::write(base, ram, width, pa, value);
@@ -281,8 +310,9 @@ fn store_one(
 ) -> u64
     requires { ⌜ bytesIn width ≤ inPage va ⌝ }
     requires { ⌜ hintFound (held (now state)) va Write ≡ Unknown ⌝ }
-    ensures { λ r. ⌜ Tells (runOf (held (now (state .entry))) base (now (ram .entry)) (Call.Store va (bytesIn width) value)) (now (state .entry)) r
-        (now (ans .entry)) (now (ans .exit)) (now (state .exit)) ⌝ }
+    ensures { λ r. ⌜ Tells
+        (runOf (held (now (state .entry))) base (now (ram .entry)) (Call.Store va (bytesIn width) value))
+        (now (state .entry)) r (now (ans .entry)) (now (ans .exit)) (now (state .exit)) ⌝ }
     ensures { λ r. ⌜ now (ram .exit) ≡ ramOf (held (now (state .entry))) base (now (ram .entry))
         (Call.Store va (bytesIn width) value) ⌝ }
 {
@@ -307,8 +337,9 @@ pub(crate) fn store_page(
 ) -> u64
     requires { ⌜ size ≤ inPage va ⌝ }
     requires { ⌜ hintFound (held (now state)) va Write ≡ Unknown ⌝ }
-    ensures { λ r. ⌜ Tells (runOf (held (now (state .entry))) base (now (ram .entry)) (Call.Store va size value)) (now (state .entry)) r
-        (now (ans .entry)) (now (ans .exit)) (now (state .exit)) ⌝ }
+    ensures { λ r. ⌜ Tells
+        (runOf (held (now (state .entry))) base (now (ram .entry)) (Call.Store va size value))
+        (now (state .entry)) r (now (ans .entry)) (now (ans .exit)) (now (state .exit)) ⌝ }
     ensures { λ r. ⌜ now (ram .exit) ≡ ramOf (held (now (state .entry))) base (now (ram .entry))
         (Call.Store va size value) ⌝ }
 {
@@ -331,8 +362,9 @@ fn store_two(
     base: u64,
     ram: &mut [u8],
 ) -> u64
-    ensures { λ r. ⌜ Tells (runOf (held (now (state .entry))) base (now (ram .entry)) (Call.Store va (bytesIn width) value)) (now (state .entry)) r
-        (now (ans .entry)) (now (ans .exit)) (now (state .exit)) ⌝ }
+    ensures { λ r. ⌜ Tells
+        (runOf (held (now (state .entry))) base (now (ram .entry)) (Call.Store va (bytesIn width) value))
+        (now (state .entry)) r (now (ans .entry)) (now (ans .exit)) (now (state .exit)) ⌝ }
     ensures { λ r. ⌜ now (ram .exit) ≡ ramOf (held (now (state .entry))) base (now (ram .entry))
         (Call.Store va (bytesIn width) value) ⌝ }
 {

@@ -188,7 +188,7 @@ module _ (ws : List ℕ) (memory : ℕ → Word) (va : ℕ) (kind : Kind) (p : P
       → Moved ws xs (translateOf (held ws) memory va kind .core)
   by-find-core xs e m = moved-as m (sym (ap (λ (x : Translated). x .core) (hint-misses (held ws) memory va kind (sym ep ∙ e))))
 
--- by number
+  -- by number
   pub by-hint-code : (pa : ℕ) → p ≡ At pa → 0 ≡ codeOf (translateOf (held ws) memory va kind .answer)
   by-hint-code pa e = ap codeOf (by-hint-answer pa e)
 
