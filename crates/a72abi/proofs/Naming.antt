@@ -10,6 +10,11 @@ use lib.ListN.{getD}
 use Rattle.word.specs.Bits.{pick}
 use Rattle.tlb.specs.declared.access.Kind.{Kind}
 use Rattle.tlb.specs.declared.access.Kind.the-variants.{Read, Write, Fetch}
+use Rattle.fault.specs.First.{first}
+use Rattle.fault.specs.declared.Fault.{Fault}
+use Rattle.entry.specs.Abort.{dataAbortAt, insnAbortAt}
+use Rattle.entry.specs.declared.exception.DataAbort.{DataAbort as DataAborted}
+use Rattle.entry.specs.declared.exception.InsnAbort.{InsnAbort as InsnAborted}
 use Rattle.entry.specs.declared.exception.Exception.{Exception}
 use Rattle.entry.specs.declared.exception.Exception.the-variants.{Undefined, Svc, Hvc, Smc, Brk, DataAbort, InsnAbort, PcAlignment}
 use Rattle.cpu.specs.declared.call.Call.the-variants as Call
@@ -111,13 +116,13 @@ module _ (n : ℕ) where
   abort-unknown a b c p e q = ap abortCall (sym q ∙ e)
 
 module _ (addr write fsc : ℕ) where
-  pub data-read : fsc < 2 ^ 8 → write ≡ 0 → Exceptions.Known (DataAbort addr false fsc) ≡ dataAbortOf addr write fsc
+  pub data-read : (f : Fault) → fsc < 2 ^ 8 → f ≡ first fsc → write ≡ 0 → Exceptions.Known (dataAbortAt addr false f) ≡ dataAbortOf addr write fsc
   unfolding dataAbortOf
-  data-read h e = sym (rw (e, lt-ltb fsc (2 ^ 8) h))
+  data-read f h ef e = rw (e, ef, lt-ltb fsc (2 ^ 8) h)
 
-  pub data-write : fsc < 2 ^ 8 → write ≡ 1 → Exceptions.Known (DataAbort addr true fsc) ≡ dataAbortOf addr write fsc
+  pub data-write : (f : Fault) → fsc < 2 ^ 8 → f ≡ first fsc → write ≡ 1 → Exceptions.Known (dataAbortAt addr true f) ≡ dataAbortOf addr write fsc
   unfolding dataAbortOf
-  data-write h e = sym (rw (e, lt-ltb fsc (2 ^ 8) h))
+  data-write f h ef e = rw (e, ef, lt-ltb fsc (2 ^ 8) h)
 
   pub data-other : (write ≡ 0 → ⊥) → (write ≡ 1 → ⊥) → Exceptions.Unknown ≡ dataAbortOf addr write fsc
   unfolding dataAbortOf
@@ -132,8 +137,8 @@ module _ (addr write fsc : ℕ) where
       go false true = refl
       go false false = refl
 
-  pub insn-fits : fsc < 2 ^ 8 → Exceptions.Known (InsnAbort addr fsc) ≡ insnAbortOf addr fsc
-  insn-fits h = sym (rw (lt-ltb fsc (2 ^ 8) h))
+  pub insn-fits : (f : Fault) → fsc < 2 ^ 8 → f ≡ first fsc → Exceptions.Known (insnAbortAt addr f) ≡ insnAbortOf addr fsc
+  insn-fits f h ef = rw (ef, lt-ltb fsc (2 ^ 8) h)
 
   pub insn-wide : 2 ^ 8 ≤ fsc → Exceptions.Unknown ≡ insnAbortOf addr fsc
   insn-wide h = sym (rw (le-ltb fsc (2 ^ 8) h))
@@ -166,18 +171,18 @@ module _ (e : Exception) where
   unfolding exceptionOf callExceptionOf
   words-brk imm h q = rw (q, lt-ltb imm (2 ^ 16) h)
 
-  module _ (addr fsc : ℕ) (h : fsc < 2 ^ 8) where
-    pub words-write : (w : Bool) → w ≡ true → e ≡ DataAbort addr w fsc → exceptionOf 5 addr 1 fsc ≡ Exceptions.Known e
+  module _ (a : DataAborted) (h : a .fault .fsc < 2 ^ 8) (q : e ≡ DataAbort a) where
+    pub words-write : a .write ≡ true → exceptionOf 5 (a .addr) 1 (a .fault .fsc) ≡ Exceptions.Known e
     unfolding exceptionOf dataAbortOf
-    words-write w t q = rw (q, t, lt-ltb fsc (2 ^ 8) h)
+    words-write t = rw (q, ← t, lt-ltb (a .fault .fsc) (2 ^ 8) h)
 
-    pub words-read : (w : Bool) → w ≡ false → e ≡ DataAbort addr w fsc → exceptionOf 5 addr 0 fsc ≡ Exceptions.Known e
+    pub words-read : a .write ≡ false → exceptionOf 5 (a .addr) 0 (a .fault .fsc) ≡ Exceptions.Known e
     unfolding exceptionOf dataAbortOf
-    words-read w t q = rw (q, t, lt-ltb fsc (2 ^ 8) h)
+    words-read t = rw (q, ← t, lt-ltb (a .fault .fsc) (2 ^ 8) h)
 
-    pub words-insn : e ≡ InsnAbort addr fsc → exceptionOf 6 addr fsc 0 ≡ Exceptions.Known e
-    unfolding exceptionOf
-    words-insn q = rw (q, lt-ltb fsc (2 ^ 8) h)
+  pub words-insn : (a : InsnAborted) → a .fault .fsc < 2 ^ 8 → e ≡ InsnAbort a → exceptionOf 6 (a .addr) (a .fault .fsc) 0 ≡ Exceptions.Known e
+  unfolding exceptionOf
+  words-insn a h q = rw (q, lt-ltb (a .fault .fsc) (2 ^ 8) h)
 
   pub words-alignment : e ≡ PcAlignment → exceptionOf 7 0 0 0 ≡ Exceptions.Known e
   unfolding exceptionOf

@@ -4,12 +4,15 @@ use mathlib.Core.Bool.{Bool}
 use mathlib.Core.List.{List, [], _∷_}
 use Prim.Native.Nat.{ℕ, _+_}
 use Rattle.word.specs.Bits.{flag}
+use Rattle.fault.specs.declared.Fault.{Fault}
+use Rattle.entry.specs.declared.exception.DataAbort.{DataAbort as DataAborted}
+use Rattle.entry.specs.declared.exception.InsnAbort.{InsnAbort as InsnAborted}
 use Rattle.entry.specs.declared.exception.Exception.{Exception}
 use Rattle.entry.specs.declared.exception.Exception.the-variants.{Undefined, Svc, Hvc, Smc, Brk, DataAbort, InsnAbort, PcAlignment}
 use Rattle.entry.specs.declared.exception.Stop.{Stop}
 use Rattle.entry.specs.declared.exception.Stop.the-variants as Stop
 use Rattle.cpu.specs.declared.call.Reply.{Reply}
-use Rattle.cpu.specs.declared.call.Reply.the-variants.{Refused, Done, Value, Faults, Fault, Stopped}
+use Rattle.cpu.specs.declared.call.Reply.the-variants.{Refused, Done, Value, Faults, Stopped}
 use Rattle.mmu.specs.declared.ends.LoadAnswer.{LoadAnswer}
 use Rattle.mmu.specs.declared.ends.LoadAnswer.the-variants as Load
 use Rattle.mmu.specs.declared.ends.StoreAnswer.{StoreAnswer}
@@ -18,23 +21,23 @@ use Rattle.cpu.specs.Step.{loading, storing}
 use Rattle.a72abi.specs.Replies.{exceptionCode, stopCode, codeBy, exceptionValue, stopValue, valueBy, four, exceptionWords, stopWords, wordsBy}
 
 module _ (e : Exception) where
-  pub data-code : (addr : ℕ) (w : Bool) (fsc : ℕ) → e ≡ DataAbort addr w fsc → 256 + fsc ≡ exceptionCode e
-  data-code addr w fsc q = sym (rw q)
+  pub data-code : (a : DataAborted) → e ≡ DataAbort a → 256 + a .fault .fsc ≡ exceptionCode e
+  data-code a q = sym (rw q)
 
-  pub insn-code : (addr fsc : ℕ) → e ≡ InsnAbort addr fsc → 256 + fsc ≡ exceptionCode e
-  insn-code addr fsc q = sym (rw q)
+  pub insn-code : (a : InsnAborted) → e ≡ InsnAbort a → 256 + a .fault .fsc ≡ exceptionCode e
+  insn-code a q = sym (rw q)
 
-  pub data-value : (addr : ℕ) (w : Bool) (fsc old : ℕ) → e ≡ DataAbort addr w fsc → addr ≡ exceptionValue e old
-  data-value addr w fsc old q = sym (rw q)
+  pub data-value : (a : DataAborted) (old : ℕ) → e ≡ DataAbort a → a .addr ≡ exceptionValue e old
+  data-value a old q = sym (rw q)
 
-  pub insn-value : (addr fsc old : ℕ) → e ≡ InsnAbort addr fsc → old ≡ exceptionValue e old
-  insn-value addr fsc old q = sym (rw q)
+  pub insn-value : (a : InsnAborted) (old : ℕ) → e ≡ InsnAbort a → old ≡ exceptionValue e old
+  insn-value a old q = sym (rw q)
 
-  pub data-words : (addr : ℕ) (w : Bool) (fsc v : ℕ) → e ≡ DataAbort addr w fsc → v ≡ flag w 1 → four 9 addr fsc v ≡ exceptionWords e
-  data-words addr w fsc v q p = ap (four 9 addr fsc) p ∙ sym (rw q)
+  pub data-words : (a : DataAborted) (v : ℕ) → e ≡ DataAbort a → v ≡ flag (a .write) 1 → four 9 (a .addr) (a .fault .fsc) v ≡ exceptionWords e
+  data-words a v q p = ap (four 9 (a .addr) (a .fault .fsc)) p ∙ sym (rw q)
 
-  pub insn-words : (addr fsc : ℕ) → e ≡ InsnAbort addr fsc → four 10 addr fsc 0 ≡ exceptionWords e
-  insn-words addr fsc q = sym (rw q)
+  pub insn-words : (a : InsnAborted) → e ≡ InsnAbort a → four 10 (a .addr) (a .fault .fsc) 0 ≡ exceptionWords e
+  insn-words a q = sym (rw q)
 
   pub undefined-code : e ≡ Undefined → 65 ≡ exceptionCode e
   undefined-code q = sym (rw q)
@@ -134,11 +137,11 @@ module _ (p : Reply) where
   pub faults-value : (old : ℕ) → p ≡ Faults → old ≡ valueBy p old
   faults-value old q = sym (rw q)
 
-  pub fault-code : (addr fsc : ℕ) → p ≡ Fault addr fsc → 256 + fsc ≡ codeBy p
-  fault-code addr fsc q = sym (rw q)
+  pub fault-code : (addr : ℕ) (f : Fault) → p ≡ Reply.Fault addr f → 256 + f .fsc ≡ codeBy p
+  fault-code addr f q = sym (rw q)
 
-  pub fault-value : (old : ℕ) → (addr fsc : ℕ) → p ≡ Fault addr fsc → old ≡ valueBy p old
-  fault-value old addr fsc q = sym (rw q)
+  pub fault-value : (old : ℕ) → (addr : ℕ) (f : Fault) → p ≡ Reply.Fault addr f → old ≡ valueBy p old
+  fault-value old addr f q = sym (rw q)
 
   pub value-code : (v : ℕ) → p ≡ Value v → 0 ≡ codeBy p
   value-code v q = sym (rw q)
@@ -162,9 +165,9 @@ module _ (p : Reply) where
   unfolding wordsBy
   faults-words q = sym (rw q)
 
-  pub fault-words : (addr fsc : ℕ) → p ≡ Fault addr fsc → four 8 addr fsc 0 ≡ wordsBy p
+  pub fault-words : (addr : ℕ) (f : Fault) → p ≡ Reply.Fault addr f → four 8 addr (f .fsc) 0 ≡ wordsBy p
   unfolding wordsBy
-  fault-words addr fsc q = sym (rw q)
+  fault-words addr f q = sym (rw q)
 
   pub stopped-words : (s : Stop) (l : List ℕ) → p ≡ Stopped s → l ≡ stopWords s → l ≡ wordsBy p
   unfolding wordsBy

@@ -36,7 +36,7 @@ unmoved (Refused n) = true
 unmoved Done = false
 unmoved (Value v) = false
 unmoved Faults = false
-unmoved (Fault addr fsc) = false
+unmoved (Fault addr f) = false
 unmoved (Stopped s) = early s
 
 -- the words xs that a call made of ws, by its reply
@@ -53,10 +53,10 @@ number-unmoved (Refused n) l h = refl
 number-unmoved Done l h = absurd (omega arith)
 number-unmoved (Value v) l h = absurd (omega arith)
 number-unmoved Faults l h = absurd (omega arith)
-number-unmoved (Fault addr fsc) l h = absurd (omega arith)
+number-unmoved (Fault addr f) l h = absurd (omega arith)
 number-unmoved (Stopped Stop.Unimplemented) l h = refl
-number-unmoved (Stopped (Stop.Exception (Exception.DataAbort addr write fsc))) l h = absurd (omega arith)
-number-unmoved (Stopped (Stop.Exception (Exception.InsnAbort addr fsc))) l h = absurd (omega arith)
+number-unmoved (Stopped (Stop.Exception (Exception.DataAbort a))) l h = absurd (omega arith)
+number-unmoved (Stopped (Stop.Exception (Exception.InsnAbort a))) l h = absurd (omega arith)
 number-unmoved (Stopped (Stop.Exception Exception.Undefined)) l h = refl
 number-unmoved (Stopped (Stop.Exception (Exception.Svc imm))) l h = refl
 number-unmoved (Stopped (Stop.Exception (Exception.Hvc imm))) l h = refl
@@ -69,10 +69,10 @@ unmoved-value (Refused n) old e = refl
 unmoved-value Done old e = refl
 unmoved-value (Value v) old e = never e
 unmoved-value Faults old e = refl
-unmoved-value (Fault addr fsc) old e = refl
+unmoved-value (Fault addr f) old e = refl
 unmoved-value (Stopped Stop.Unimplemented) old e = refl
-unmoved-value (Stopped (Stop.Exception (Exception.DataAbort addr write fsc))) old e = never e
-unmoved-value (Stopped (Stop.Exception (Exception.InsnAbort addr fsc))) old e = refl
+unmoved-value (Stopped (Stop.Exception (Exception.DataAbort a))) old e = never e
+unmoved-value (Stopped (Stop.Exception (Exception.InsnAbort a))) old e = refl
 unmoved-value (Stopped (Stop.Exception Exception.Undefined)) old e = refl
 unmoved-value (Stopped (Stop.Exception (Exception.Svc imm))) old e = refl
 unmoved-value (Stopped (Stop.Exception (Exception.Hvc imm))) old e = refl
@@ -84,7 +84,7 @@ unmoved-value (Stopped (Stop.Exception Exception.PcAlignment)) old e = refl
 
 pub translation-late : (va : ℕ) (a : Answer) → unmoved (translation va a) ≡ false
 translation-late va (Address pa) = refl
-translation-late va (Status fsc) = refl
+translation-late va (Status f) = refl
 
 pub reach-late : (a : Reached) → unmoved (reaching a) ≡ false
 reach-late (Reach.At pa) = refl
@@ -93,7 +93,7 @@ reach-late Reach.Faults = refl
 pub load-late : (x : Placed) (last abort base : ℕ) (ram : List ℕ) (va n : ℕ)
     → unmoved (loading (loadEnd x last abort base ram va n .answer)) ≡ false
 unfolding loadEnd
-load-late (NotPlaced addr fsc) last abort base ram va n = refl
+load-late (NotPlaced addr f) last abort base ram va n = refl
 load-late (At place) last abort base ram va n = go (loadOf base ram place n)
   where
     go : (g : Got) → unmoved (loading (loadedFrom place g abort va .answer)) ≡ false

@@ -4,9 +4,11 @@ use Prim.Native.Nat.{ℕ, _^_}
 use lib.Dec.{eqb, ltb}
 use lib.ListN.{getD}
 use Rattle.word.specs.Bits.{pick}
+use Rattle.fault.specs.First.{first}
 use Rattle.tlb.specs.declared.access.Kind.the-variants.{Read, Write, Fetch}
+use Rattle.entry.specs.Abort.{dataAbortAt, insnAbortAt}
 use Rattle.entry.specs.declared.exception.Exception.{Exception}
-use Rattle.entry.specs.declared.exception.Exception.the-variants.{Undefined, Svc, Hvc, Smc, Brk, DataAbort, InsnAbort, PcAlignment}
+use Rattle.entry.specs.declared.exception.Exception.the-variants.{Undefined, Svc, Hvc, Smc, Brk, PcAlignment}
 use Rattle.cpu.specs.declared.call.Call.{Call}
 use Rattle.cpu.specs.declared.call.Call.the-variants as Call
 use Rattle.cpu.specs.declared.call.Encoding.{Encoding}
@@ -29,11 +31,11 @@ inRange ok e = pick ok (Exceptions.Known e) Exceptions.Unknown
 -- write is 0 or 1, and a status has 8 bits
 unfoldable pub dataAbortOf : ℕ → ℕ → ℕ → Exceptions
 dataAbortOf addr write fsc =
-    pick (eqb write 0) (inRange (ltb fsc (2 ^ 8)) (DataAbort addr false fsc))
-    (pick (eqb write 1) (inRange (ltb fsc (2 ^ 8)) (DataAbort addr true fsc)) Exceptions.Unknown)
+    pick (eqb write 0) (inRange (ltb fsc (2 ^ 8)) (dataAbortAt addr false (first fsc)))
+    (pick (eqb write 1) (inRange (ltb fsc (2 ^ 8)) (dataAbortAt addr true (first fsc))) Exceptions.Unknown)
 
 abbrev pub insnAbortOf : ℕ → ℕ → Exceptions
-insnAbortOf addr fsc = inRange (ltb fsc (2 ^ 8)) (InsnAbort addr fsc)
+insnAbortOf addr fsc = inRange (ltb fsc (2 ^ 8)) (insnAbortAt addr (first fsc))
 
 -- 1 SVC, 2 HVC, 3 SMC, 4 BRK; the immediate has 16 bits
 unfoldable pub callExceptionOf : ℕ → ℕ → Exceptions

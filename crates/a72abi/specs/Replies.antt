@@ -12,8 +12,8 @@ use Rattle.cpu.specs.declared.call.Reply.the-variants.{Refused, Done, Value, Fa
 
 -- 256 plus the status of an abort; 65 for every other exception, which is Undefined where an operation stops
 abbrev pub exceptionCode : Exception → ℕ
-exceptionCode (DataAbort addr write fsc) = 256 + fsc
-exceptionCode (InsnAbort addr fsc) = 256 + fsc
+exceptionCode (DataAbort a) = 256 + a .fault .fsc
+exceptionCode (InsnAbort a) = 256 + a .fault .fsc
 exceptionCode Undefined = 65
 exceptionCode (Svc imm) = 65
 exceptionCode (Hvc imm) = 65
@@ -31,13 +31,13 @@ codeBy (Refused n) = n
 codeBy Done = 0
 codeBy (Value v) = 0
 codeBy Faults = 256
-codeBy (Fault addr fsc) = 256 + fsc
+codeBy (Fault addr f) = 256 + f .fsc
 codeBy (Stopped s) = stopCode s
 
 -- the value, or the address of a data abort; else the word stays
 abbrev pub exceptionValue : Exception → ℕ → ℕ
-exceptionValue (DataAbort addr write fsc) old = addr
-exceptionValue (InsnAbort addr fsc) old = old
+exceptionValue (DataAbort a) old = a .addr
+exceptionValue (InsnAbort a) old = old
 exceptionValue Undefined old = old
 exceptionValue (Svc imm) old = old
 exceptionValue (Hvc imm) old = old
@@ -54,7 +54,7 @@ valueBy (Refused n) old = old
 valueBy Done old = old
 valueBy (Value v) old = v
 valueBy Faults old = old
-valueBy (Fault addr fsc) old = old
+valueBy (Fault addr f) old = old
 valueBy (Stopped s) old = stopValue s old
 
 -- four words: what it is, then what it holds
@@ -62,8 +62,8 @@ abbrev pub four : ℕ → ℕ → ℕ → ℕ → List ℕ
 four a b c d = a ∷ b ∷ c ∷ d ∷ []
 
 abbrev pub exceptionWords : Exception → List ℕ
-exceptionWords (DataAbort addr write fsc) = four 9 addr fsc (flag write 1)
-exceptionWords (InsnAbort addr fsc) = four 10 addr fsc 0
+exceptionWords (DataAbort a) = four 9 (a .addr) (a .fault .fsc) (flag (a .write) 1)
+exceptionWords (InsnAbort a) = four 10 (a .addr) (a .fault .fsc) 0
 exceptionWords Undefined = four 6 0 0 0
 exceptionWords (Svc imm) = four 6 0 0 0
 exceptionWords (Hvc imm) = four 6 0 0 0
@@ -80,5 +80,5 @@ wordsBy (Refused n) = four 5 n 0 0
 wordsBy Done = four 0 0 0 0
 wordsBy (Value v) = four 1 v 0 0
 wordsBy Faults = four 2 0 0 0
-wordsBy (Fault addr fsc) = four 8 addr fsc 0
+wordsBy (Fault addr f) = four 8 addr (f .fsc) 0
 wordsBy (Stopped s) = stopWords s

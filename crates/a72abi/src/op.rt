@@ -5,7 +5,9 @@ ghost use Rattle.a72abi.specs.Ops.{kindOf, inRange, dataAbortOf, insnAbo
 ghost use Rattle.a72abi.specs.Ops.{keyOf, translateCall, abortCall, markCall, callOf};
 use cpu::call::Call;
 use cpu::call::Encoding;
+use entry::exception::DataAbort;
 use entry::exception::Exception;
+use entry::exception::InsnAbort;
 use tlb::access::Kind;
 
 // What a word names, or nothing.
@@ -39,18 +41,18 @@ fn data_abort_of(addr: u64, write: u64, fsc: u64) -> Exceptions
     ensures { λ r. ⌜ r ≡ dataAbortOf addr write fsc ⌝ }
 {
     if fsc < 256 {
-        let fsc = fsc as u8;
+        let fault = fault::first(fsc as u8);
         match write {
-            0 => Exceptions::Known(Exception::DataAbort {
+            0 => Exceptions::Known(Exception::DataAbort(DataAbort {
                 addr,
                 write: false,
-                fsc,
-            }),
-            1 => Exceptions::Known(Exception::DataAbort {
+                fault,
+            })),
+            1 => Exceptions::Known(Exception::DataAbort(DataAbort {
                 addr,
                 write: true,
-                fsc,
-            }),
+                fault,
+            })),
             _ => Exceptions::Unknown,
         }
     } else {
@@ -62,8 +64,8 @@ fn insn_abort_of(addr: u64, fsc: u64) -> Exceptions
     ensures { λ r. ⌜ r ≡ insnAbortOf addr fsc ⌝ }
 {
     if fsc < 256 {
-        let fsc = fsc as u8;
-        Exceptions::Known(Exception::InsnAbort { addr, fsc })
+        let fault = fault::first(fsc as u8);
+        Exceptions::Known(Exception::InsnAbort(InsnAbort { addr, fault }))
     } else {
         Exceptions::Unknown
     }
@@ -110,14 +112,14 @@ pub fn words_of(e: Exception) -> [u64; 4]
         Exception::Hvc(imm) => [2, imm as u64, 0, 0],
         Exception::Smc(imm) => [3, imm as u64, 0, 0],
         Exception::Brk(imm) => [4, imm as u64, 0, 0],
-        Exception::DataAbort { addr, write, fsc } => {
-            if write {
-                [5, addr, 1, fsc as u64]
+        Exception::DataAbort(a) => {
+            if a.write {
+                [5, a.addr, 1, a.fault.fsc as u64]
             } else {
-                [5, addr, 0, fsc as u64]
+                [5, a.addr, 0, a.fault.fsc as u64]
             }
         }
-        Exception::InsnAbort { addr, fsc } => [6, addr, fsc as u64, 0],
+        Exception::InsnAbort(a) => [6, a.addr, a.fault.fsc as u64, 0],
         Exception::PcAlignment => [7, 0, 0, 0],
     }
 }

@@ -17,15 +17,11 @@ fn told(e: Exception, ans: &mut u64) -> u64
     ensures { λ _. ⌜ now (ans .exit) ≡ exceptionValue e (now (ans .entry)) ⌝ }
 {
     match e {
-        Exception::DataAbort {
-            addr,
-            write: _,
-            fsc,
-        } => {
-            *ans = addr;
-            256 + fsc as u64
+        Exception::DataAbort(a) => {
+            *ans = a.addr;
+            256 + a.fault.fsc as u64
         }
-        Exception::InsnAbort { addr: _, fsc } => 256 + fsc as u64,
+        Exception::InsnAbort(a) => 256 + a.fault.fsc as u64,
         Exception::Undefined => 65,
         Exception::Svc(_) => 65,
         Exception::Hvc(_) => 65,
@@ -96,7 +92,7 @@ pub fn answer(reply: Reply, ans: &mut u64) -> u64
             0
         }
         Reply::Faults => 256,
-        Reply::Fault { addr: _, fsc } => 256 + fsc as u64,
+        Reply::Fault { addr: _, fault } => 256 + fault.fsc as u64,
         Reply::Stopped(stop) => stopped(stop, ans),
     }
 }
@@ -113,11 +109,11 @@ fn exception_words(e: Exception) -> [u64; 4]
     ensures { λ r. ⌜ r ≡ exceptionWords e ⌝ }
 {
     match e {
-        Exception::DataAbort { addr, write, fsc } => {
-            let w = bits::flag_word(write);
-            [9, addr, fsc as u64, w]
+        Exception::DataAbort(a) => {
+            let w = bits::flag_word(a.write);
+            [9, a.addr, a.fault.fsc as u64, w]
         }
-        Exception::InsnAbort { addr, fsc } => [10, addr, fsc as u64, 0],
+        Exception::InsnAbort(a) => [10, a.addr, a.fault.fsc as u64, 0],
         Exception::Undefined => [6, 0, 0, 0],
         Exception::Svc(_) => [6, 0, 0, 0],
         Exception::Hvc(_) => [6, 0, 0, 0],
@@ -145,7 +141,7 @@ pub fn words(reply: Reply) -> [u64; 4]
         Reply::Done => [0, 0, 0, 0],
         Reply::Value(v) => [1, v, 0, 0],
         Reply::Faults => [2, 0, 0, 0],
-        Reply::Fault { addr, fsc } => [8, addr, fsc as u64, 0],
+        Reply::Fault { addr, fault } => [8, addr, fault.fsc as u64, 0],
         Reply::Stopped(stop) => stop_words(stop),
     }
 }

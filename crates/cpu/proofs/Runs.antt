@@ -11,6 +11,7 @@ use Rattle.word.specs.declared.ram.Sized.{Sized}
 use Rattle.word.specs.declared.ram.Sized.the-variants.{Bytes, Refused as NoWidth}
 use Rattle.sysreg.specs.declared.write.WriteAnswer.{WriteAnswer}
 use Rattle.sysreg.specs.declared.write.WriteAnswer.the-variants as Written
+use Rattle.fault.specs.declared.Fault.{Fault}
 use Rattle.tlb.specs.declared.access.Answer.{Answer}
 use Rattle.tlb.specs.declared.access.Answer.the-variants.{Address, Status}
 use Rattle.entry.specs.declared.exception.Exception.{Exception}
@@ -37,15 +38,15 @@ use Rattle.cpu.specs.Check.{missedOf}
 use Rattle.cpu.specs.Step.{ends, translation, reaching, loading, storing, fetching, registering, afterTranslation, afterAddress, afterStore, afterFetch, afterWrite, loadBy, storeBy, storeRamBy, runOf, ramOf, stepOf, ramAfter}
 use Rattle.cpu.specs.declared.call.Call.{Call}
 use Rattle.cpu.specs.declared.call.Reply.{Reply}
-use Rattle.cpu.specs.declared.call.Reply.the-variants.{Refused, Done, Value, Fault, Stopped}
+use Rattle.cpu.specs.declared.call.Reply.the-variants.{Refused, Done, Value, Stopped}
 use Rattle.cpu.specs.declared.call.Stepped.{Stepped}
 
 -- each answer as a reply
 pub is-address : (va : ℕ) (a : Answer) (pa : ℕ) → a ≡ Address pa → Value pa ≡ translation va a
 is-address va a pa e = rw e
 
-pub is-status : (va : ℕ) (a : Answer) (fsc : ℕ) → a ≡ Status fsc → Fault va fsc ≡ translation va a
-is-status va a fsc e = rw e
+pub is-status : (va : ℕ) (a : Answer) (f : Fault) → a ≡ Status f → Reply.Fault va f ≡ translation va a
+is-status va a f e = rw e
 
 pub is-reached : (a : Reached) (pa : ℕ) → a ≡ Reach.At pa → Value pa ≡ reaching a
 is-reached a pa e = rw e

@@ -5,6 +5,7 @@ use mathlib.Core.List.{List, [], _∷_}
 use Prim.Native.Nat.{ℕ, _^_}
 use lib.ListN.{getD, replicate}
 use Rattle.word.specs.Ram.{wordAt, littleEndian, bytesOf}
+use Rattle.fault.specs.First.{first}
 use Rattle.sysreg.specs.Encoding.{registerAt}
 use Rattle.sysreg.specs.Regs.{levels, freshSys}
 use Rattle.walk.specs.Tag.{untagged}
@@ -24,7 +25,7 @@ use Rattle.entry.specs.Entry.{enteredSys, takeException, takeSync}
 use Rattle.entry.specs.Pstate.{freshFlags, spsrOf}
 use Rattle.entry.specs.Route.{routedTo}
 use Rattle.entry.specs.Syndrome.{syndromeOf}
-use Rattle.entry.specs.declared.exception.Exception.the-variants.{DataAbort}
+use Rattle.entry.specs.Abort.{dataAbortAt}
 use Rattle.mmu.specs.Core.{regOf, movedTo}
 use Rattle.mmu.specs.Step.{translateIn as turnOf}
 use Rattle.mmu.specs.Ops.{steppedNow, translateOf}
@@ -86,7 +87,7 @@ par op2 = Value (called (at 1 0x1000) 0x1008 0x80000401 (System (record { op1 = 
 -- ESR_EL1 after abort entry from EL0
 pub esr : Reply
 unfolding at called
-esr = Value (getD (called (at 0 0x1000) 0x1008 0x80000401 (Abort (DataAbort 0x40001234 true 0x0D)) .core .sys .esr) 1 0)
+esr = Value (getD (called (at 0 0x1000) 0x1008 0x80000401 (Abort (dataAbortAt 0x40001234 true (first 0x0D))) .core .sys .esr) 1 0)
 
 pub cases :
     (row 1 0x80000401 Read
@@ -105,14 +106,14 @@ pub cases :
     ∷ elsewhere 0x1000 0x1FF8 0x7FFFFFFFFF
     ∷ [])
     ≡ (Value 0x80001234
-    ∷ Fault 0x40001234 0x0D
+    ∷ Fault 0x40001234 (first 0x0D)
     ∷ Value 0x80001234
-    ∷ Fault 0x40001234 0x09
-    ∷ Fault 0x40001234 0x05
-    ∷ Fault 0x40001234 0x01
-    ∷ Fault 0x8000000000 0x04
-    ∷ Fault 0x40001234 0x00
-    ∷ Fault 0x40001234 0x15
+    ∷ Fault 0x40001234 (first 0x09)
+    ∷ Fault 0x40001234 (first 0x05)
+    ∷ Fault 0x40001234 (first 0x01)
+    ∷ Fault 0x8000000000 (first 0x04)
+    ∷ Fault 0x40001234 (first 0x00)
+    ∷ Fault 0x40001234 (first 0x15)
     ∷ Value 0x80001800
     ∷ Value 0x81B
     ∷ Value 0xFFFFFFFFFFFFF000

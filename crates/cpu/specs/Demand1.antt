@@ -65,7 +65,7 @@ outcomeOf (Refused n) = number n
 outcomeOf Done = says done
 outcomeOf (Value v) = says (value v)
 outcomeOf Faults = says faults
-outcomeOf (Fault va fsc) = says (fault va fsc)
+outcomeOf (Fault va f) = says (fault va (f .fsc))
 outcomeOf (Stopped s) = says (stopSays s)
 
 -- A REFUSED CALL
@@ -170,7 +170,7 @@ store-wrote c base ram va n v =
     memory (Outside i pa) = faulted _ _ _ same
 
     go : (x : Placed) → Wrote ram (ramAfterWrite c base ram va n v) (accessSays x (λ p. judged base (length ram) p n) va (λ p. done))
-    go (Placed.Fault a f) = faulted _ a f same
+    go (Placed.Fault a f) = faulted _ a (f .fsc) same
     go (Placed.At p) = memory (judged base (length ram) p n)
 
 wrote-later : (ram mid after : List ℕ) (s : Said) → length mid ≡ length ram → Wrote mid after s → Wrote ram after s
@@ -222,7 +222,7 @@ named-write k s level v (FoundAt r) h = go (eqb level 0) r
 module _ (c : Core) (base : ℕ) (ram : List ℕ) where
   translated : (d : Core) (va : ℕ) (a : Answer) → Ran c ram d ram (outcomeOf (translation va a))
   translated d va (Address pa) = valued d pa
-  translated d va (Status fsc) = stopped d va fsc
+  translated d va (Status f) = stopped d va (f .fsc)
 
   addressed : (d : Core) (a : Reached) → Ran c ram d ram (outcomeOf (reaching a))
   addressed d (Reach.At pa) = valued d pa
@@ -239,7 +239,7 @@ module _ (c : Core) (base : ℕ) (ram : List ℕ) where
 
       go : (x : Placed)
           → Ran c ram (readOf c base ram va n .core) ram (says (accessSays x (λ p. judged base (length ram) p n) va (λ p. value (valueAt base ram p n))))
-      go (Placed.Fault a f) = stopped _ a f
+      go (Placed.Fault a f) = stopped _ a (f .fsc)
       go (Placed.At p) = memory (judged base (length ram) p n) _
 
   stored : (d : Core) (a : StoreAnswer) (after : List ℕ) → Wrote ram after (storeSays a) → Ran c ram d after (outcomeOf (storing a))
@@ -255,7 +255,7 @@ module _ (c : Core) (base : ℕ) (ram : List ℕ) where
       memory false v = stopped _ va 0x10
 
       go : (a : Answer) → Ran c ram (fetchOf c base ram va .core) ram (says (insnSays base ram va a))
-      go (Status f) = stopped _ va f
+      go (Status f) = stopped _ va (f .fsc)
       go (Address pa) = memory (within base (length ram) 4 pa) _
 
   -- a system operation, by what its encoding names

@@ -45,7 +45,7 @@ ends c r = record { core = c; reply = r }
 -- each operation's answer as a reply
 abbrev pub translation : ℕ → Answer → Reply
 translation va (Address pa) = Value pa
-translation va (Status fsc) = Fault va fsc
+translation va (Status f) = Fault va f
 
 abbrev pub loading : LoadAnswer → Reply
 loading (Load.Value v) = Value v

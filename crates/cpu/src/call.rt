@@ -1,6 +1,7 @@
 // Calls and replies.
 use entry::exception::Exception;
 use entry::exception::Stop;
+use fault::Fault;
 use mmu::core::Core;
 use tlb::access::Kind;
 
@@ -39,8 +40,8 @@ pub enum Reply {
     Value(u64),
     // data_pa and fetch_pa say no more of a fault
     Faults,
-    // a translation's fault: the address translated and the status
-    Fault { addr: u64, fsc: u8 },
+    // a translation's fault, and the address translated
+    Fault { addr: u64, fault: Fault },
     Stopped(Stop),
 }
 

@@ -16,7 +16,7 @@ pub fn translated(va: u64, answer: Answer) -> Reply
 {
     match answer {
         Answer::Address(pa) => Reply::Value(pa),
-        Answer::Status(fsc) => Reply::Fault { addr: va, fsc },
+        Answer::Status(fault) => Reply::Fault { addr: va, fault },
     }
 }
 

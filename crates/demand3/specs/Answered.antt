@@ -61,7 +61,7 @@ use Rattle.demand3.specs.Bridge.{stored-bare, stored-tlb}
 load-end : (x : Placed) (last abort base : ℕ) (ram : List ℕ) (va n : ℕ)
     → loadEnd x last abort base ram va n .answer ≡ loadEnd x 0 0 base ram va n .answer
 unfolding loadEnd
-load-end (Fault addr fsc) last abort base ram va n = refl
+load-end (Fault addr f) last abort base ram va n = refl
 load-end (At place) last abort base ram va n = go (loadOf base ram place n)
   where
     go : (g : Got) → loadedFrom place g abort va .answer ≡ loadedFrom place g 0 va .answer
@@ -70,7 +70,7 @@ load-end (At place) last abort base ram va n = go (loadOf base ram place n)
 
 store-end : (x : Placed) (abort base : ℕ) (ram : List ℕ) (va n : ℕ) → storeEnd x abort base ram va n .answer ≡ storeEnd x 0 base ram va n .answer
 unfolding storeEnd
-store-end (Fault addr fsc) abort base ram va n = refl
+store-end (Fault addr f) abort base ram va n = refl
 store-end (At place) abort base ram va n = go (verdictOf base (length ram) place n)
   where
     go : (d : Verdict) → storeEndBy d abort va .answer ≡ storeEndBy d 0 va .answer
@@ -79,7 +79,7 @@ store-end (At place) abort base ram va n = go (verdictOf base (length ram) place
 
 pub fetch-end : (a : Answer) (abort base : ℕ) (ram : List ℕ) (va : ℕ) → fetchEnd a abort base ram va .answer ≡ fetchEnd a 0 base ram va .answer
 unfolding fetchEnd
-fetch-end (Status fsc) abort base ram va = refl
+fetch-end (Status f) abort base ram va = refl
 fetch-end (Address pa) abort base ram va = go (insnOf base ram pa)
   where
     go : (i : Insn) → fetchedFrom pa i abort va .answer ≡ fetchedFrom pa i 0 va .answer

@@ -142,12 +142,12 @@ module _ (list : List (Fed real machine)) (seen : Shown real machine freshCore l
           ∷ onward x (second ∷ onward {A = List Given} (second .answer) [] []) [])
           ≡ placedBoth va x (uncachedAt kind (nextPage va))
       go (Address pa) = refl
-      go (Status fsc) = refl
+      go (Status f) = refl
   placed-plain false va kind = go (uncachedAt kind va)
     where
       go : (x : Answer) → placedBy va (record { ask = translates kind va; answer = x } ∷ onward {A = List Given} x [] []) ≡ placedOne va x
       go (Address pa) = refl
-      go (Status fsc) = refl
+      go (Status f) = refl
 
   -- where an access lies
   given-placed : (va n : ℕ) (kind : Kind) → SettledOver va n kind

@@ -4,6 +4,7 @@ use mathlib.Core.Path.{_≡_, refl, ap₂, subst}
 use mathlib.Core.List.{List, [], _∷_, _++_}
 use Prim.Native.Nat.{ℕ, _+_}
 use native.Mathlib.Omega.{arith}
+use Rattle.fault.specs.declared.Fault.{Fault}
 use Rattle.tlb.specs.Lists.{Each, done, more}
 use Rattle.tlb.specs.Asks.{Given}
 use Rattle.tlb.specs.declared.access.Answer.the-variants.{Status}
@@ -51,12 +52,12 @@ module _ (list : List (Fed real machine)) (seen : Shown real machine freshCore l
 
   -- a fault that a translation meets is a row of the table
   abbrev pub RowGiven : Given → Type 0
-  RowGiven g = (code : ℕ) → g .answer ≡ Status code → Row code
+  RowGiven g = (f : Fault) → g .answer ≡ Status f → Row (f .fsc)
 
   each-row : (past : List (Event real)) (m : Ram) (l : List Given) → Each (λ g. Judged past m (g .ask) (g .answer)) l → Each RowGiven l
   each-row past m [] done = done
   each-row past m (g ∷ l) (more j js) =
-      more (λ code e. status-row past m (g .ask) code (subst (Judged past m (g .ask)) e j)) (each-row past m l js)
+      more (λ f e. status-row past m (g .ask) f (subst (Judged past m (g .ask)) e j)) (each-row past m l js)
 
   rows-from : (before es : List (Event real)) → Each RowGiven (answersRun real (plainRun real p before) es (tlbRun real p before t))
   rows-from before [] = done

@@ -110,7 +110,7 @@ onDone Done more end = more
 onDone (Refused n) more end = end
 onDone (Value v) more end = end
 onDone Faults more end = end
-onDone (Faulted addr fsc) more end = end
+onDone (Faulted addr f) more end = end
 onDone (Stopped s) more end = end
 
 -- A zeroing: the store at va and n further ones, each on RAM as its own last one left it, up to the first that stops.

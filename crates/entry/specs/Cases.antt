@@ -4,17 +4,19 @@ use mathlib.Core.Path.{_≡_, refl}
 use mathlib.Core.Bool.{Bool, true, false}
 use mathlib.Core.List.{List, [], _∷_}
 use Prim.Native.Nat.{ℕ}
+use Rattle.fault.specs.First.{first}
 use Rattle.sysreg.specs.Regs.{levels, sysAt}
 use Rattle.sysreg.specs.declared.regs.El.{El}
 use Rattle.sysreg.specs.declared.regs.El.the-variants.{El1, El2, El3}
 use Rattle.sysreg.specs.declared.regs.SysReg.the-variants.{Elr, Spsr, Esr, Far}
 use Rattle.sysreg.specs.declared.regs.SysRegs.{SysRegs}
 use Rattle.entry.specs.declared.exception.Exception.{Exception}
-use Rattle.entry.specs.declared.exception.Exception.the-variants.{Svc, Hvc, Smc, Brk, DataAbort, InsnAbort, PcAlignment}
+use Rattle.entry.specs.declared.exception.Exception.the-variants.{Svc, Hvc, Smc, Brk, PcAlignment}
 use Rattle.entry.specs.declared.flags.Flags.{Flags}
 use Rattle.entry.specs.declared.take.Entered.{Entered}
 use Rattle.entry.specs.declared.take.Update.the-variants.{Keep}
 use Rattle.entry.specs.Pstate.{spsrOf}
+use Rattle.entry.specs.Abort.{dataAbortAt, insnAbortAt}
 use Rattle.entry.specs.Syndrome.{syndromeOf}
 use Rattle.entry.specs.Route.{routedTo}
 use Rattle.entry.specs.Entry.{enteredSys, takeException, enterOf, takeSync}
@@ -51,18 +53,18 @@ unfolding registers seen
 entry level f scr hcr e el = seen el (takeSync level f 0x8000 scr hcr registers e)
 
 -- case 13: EL0 store, status 0x0D, to EL1
-pub case13 : syndromeOf (DataAbort 0x40001234 true 0x0D) 0 1 0x8000 .esr ≡ 0x9200004D
+pub case13 : syndromeOf (dataAbortAt 0x40001234 true (first 0x0D)) 0 1 0x8000 .esr ≡ 0x9200004D
 unfolding syndromeOf
 case13 = refl
 
 -- case 13 again; SVC; SVC and TGE; an instruction abort from Secure EL0, which TGE leaves; an abort from EL1 to itself; HVC, with HCE clear, at
 -- Secure EL1; SMC, with TSC, with SMD at EL2; BRK; PC alignment at EL3 with SP_EL0
 pub entries :
-    (entry 0 user 0 0 (DataAbort 0x40001234 true 0x0D) El1
+    (entry 0 user 0 0 (dataAbortAt 0x40001234 true (first 0x0D)) El1
     ∷ entry 0 user 0 0 (Svc 0x1234) El1
     ∷ entry 0 user 1 0x8000000 (Svc 0x1234) El2
-    ∷ entry 0 user 0 0x8000000 (InsnAbort 0x5000 0x0F) El1
-    ∷ entry 1 (masked true) 1 0 (DataAbort 0x6000 false 0x05) El1
+    ∷ entry 0 user 0 0x8000000 (insnAbortAt 0x5000 (first 0x0F)) El1
+    ∷ entry 1 (masked true) 1 0 (dataAbortAt 0x6000 false (first 0x05)) El1
     ∷ entry 1 (masked true) 0x101 0 (Hvc 1) El2
     ∷ entry 1 (masked true) 1 0 (Hvc 1) El1
     ∷ entry 1 (masked true) 0x100 0 (Hvc 1) El1
@@ -95,9 +97,9 @@ pub departures :
     ∷ entry 0 (masked true) 0 0 (Svc 0) El1
     ∷ entry 0 (masked true) 0x101 0 (Hvc 1) El2
     ∷ entry 0 (masked true) 0x101 0 (Smc 1) El3
-    ∷ entry 1 (masked true) 8 0 (DataAbort 0x80000000 false 0x10) El1
+    ∷ entry 1 (masked true) 8 0 (dataAbortAt 0x80000000 false (first 0x10)) El1
     ∷ entry 1 (masked true) 0 0 (Smc 1) El3
-    ∷ entry 1 (masked true) 0 0 (DataAbort 0 false 0x40) El1
+    ∷ entry 1 (masked true) 0 0 (dataAbortAt 0 false (first 0x40)) El1
     ∷ [])
     ≡ ((1 ∷ 0x10200 ∷ 0x2000000 ∷ 0xF1 ∷ 0x8000 ∷ 0x3C5 ∷ [])
     ∷ (1 ∷ 0x10400 ∷ 0x56000000 ∷ 0xF1 ∷ 0x8004 ∷ 0x3C1 ∷ [])

@@ -133,8 +133,8 @@ module _ (scr hcr pc : ℕ) where
   target-up level h (Hvc imm) = call-up level h
   target-up level h (Smc imm) = smc-up level h
   target-up level h (Brk imm) = default-up level h
-  target-up level h (DataAbort addr write fsc) = default-up level h
-  target-up level h (InsnAbort addr fsc) = default-up level h
+  target-up level h (DataAbort a) = default-up level h
+  target-up level h (InsnAbort a) = default-up level h
   target-up level h PcAlignment = default-up level h
 
 level-bounds : (el : El) → (1 ≤ levelOf el) × (levelOf el ≤ 3)

@@ -1,5 +1,6 @@
 -- What the contracts of `entry` cite, and the laws that crates above cite.
 pub mod Pstate
+pub mod Abort
 pub mod Syndrome
 pub mod Route
 pub mod Entry

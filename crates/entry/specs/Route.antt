@@ -67,8 +67,8 @@ generated o (Smc imm) = pick (smcUndefined o) Undefined (Smc imm)
 generated o Undefined = Undefined
 generated o (Svc imm) = Svc imm
 generated o (Brk imm) = Brk imm
-generated o (DataAbort addr write fsc) = DataAbort addr write fsc
-generated o (InsnAbort addr fsc) = InsnAbort addr fsc
+generated o (DataAbort a) = DataAbort a
+generated o (InsnAbort a) = InsnAbort a
 generated o PcAlignment = PcAlignment
 
 -- target_el
@@ -78,8 +78,8 @@ targetEl o (Smc imm) = pick (smcTrapped o) El2 El3
 targetEl o Undefined = defaultTarget o
 targetEl o (Svc imm) = defaultTarget o
 targetEl o (Brk imm) = defaultTarget o
-targetEl o (DataAbort addr write fsc) = defaultTarget o
-targetEl o (InsnAbort addr fsc) = defaultTarget o
+targetEl o (DataAbort a) = defaultTarget o
+targetEl o (InsnAbort a) = defaultTarget o
 targetEl o PcAlignment = defaultTarget o
 
 -- ThisInstrAddr() and NextInstrAddr()
@@ -96,8 +96,8 @@ returnAddress o (Hvc imm) = nextInstr o
 returnAddress o (Smc imm) = pick (smcTrapped o) (thisInstr o) (nextInstr o)
 returnAddress o Undefined = thisInstr o
 returnAddress o (Brk imm) = thisInstr o
-returnAddress o (DataAbort addr write fsc) = thisInstr o
-returnAddress o (InsnAbort addr fsc) = thisInstr o
+returnAddress o (DataAbort a) = thisInstr o
+returnAddress o (InsnAbort a) = thisInstr o
 returnAddress o PcAlignment = thisInstr o
 
 abbrev pub routed : Origin → Exception → Routed

@@ -23,9 +23,9 @@ classOf lower Undefined = 0x00
 classOf lower (Svc imm) = 0x15
 classOf lower (Hvc imm) = 0x16
 classOf lower (Smc imm) = 0x17
-classOf lower (InsnAbort addr fsc) = abortClass lower 0x20
+classOf lower (InsnAbort a) = abortClass lower 0x20
 classOf lower PcAlignment = 0x22
-classOf lower (DataAbort addr write fsc) = abortClass lower 0x24
+classOf lower (DataAbort a) = abortClass lower 0x24
 classOf lower (Brk imm) = 0x3C
 
 -- ISS of a data abort: WnR is <6>, DFSC <5:0>; M3: S1PTW <7> is 0, without stage 2; ISV, CM and the rest are 0. O6: EA <9> is 0. M16: the bits of
@@ -39,9 +39,9 @@ issOf Undefined = 0
 issOf (Svc imm) = imm
 issOf (Hvc imm) = imm
 issOf (Smc imm) = imm
-issOf (InsnAbort addr fsc) = fsc
+issOf (InsnAbort a) = a .fault .fsc
 issOf PcAlignment = 0
-issOf (DataAbort addr write fsc) = dataStatus write fsc
+issOf (DataAbort a) = dataStatus (a .write) (a .fault .fsc)
 issOf (Brk imm) = imm
 
 -- FAR_ELx is written for aborts and PC alignment. O12: for the others, where the manual leaves it UNKNOWN, it is kept.
@@ -50,9 +50,9 @@ farWritten Undefined = false
 farWritten (Svc imm) = false
 farWritten (Hvc imm) = false
 farWritten (Smc imm) = false
-farWritten (InsnAbort addr fsc) = true
+farWritten (InsnAbort a) = true
 farWritten PcAlignment = true
-farWritten (DataAbort addr write fsc) = true
+farWritten (DataAbort a) = true
 farWritten (Brk imm) = false
 
 -- its value: the address of the access, or the PC
@@ -61,9 +61,9 @@ farOf pc Undefined = 0
 farOf pc (Svc imm) = 0
 farOf pc (Hvc imm) = 0
 farOf pc (Smc imm) = 0
-farOf pc (InsnAbort addr fsc) = addr
+farOf pc (InsnAbort a) = a .addr
 farOf pc PcAlignment = pc
-farOf pc (DataAbort addr write fsc) = addr
+farOf pc (DataAbort a) = a .addr
 farOf pc (Brk imm) = 0
 
 -- the report of an exception at the PC, taken from one level to another

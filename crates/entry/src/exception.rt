@@ -1,4 +1,18 @@
 // The synchronous exceptions, each raised by the instruction at the PC, and what stops an operation.
+use fault::Fault;
+
+// The virtual address of an access, whether it was a write, and its fault.
+pub struct DataAbort {
+    pub addr: u64,
+    pub write: bool,
+    pub fault: Fault,
+}
+
+// The same of a fetch.
+pub struct InsnAbort {
+    pub addr: u64,
+    pub fault: Fault,
+}
 
 pub enum Exception {
     Undefined,
@@ -7,9 +21,8 @@ pub enum Exception {
     Hvc(u16),
     Smc(u16),
     Brk(u16),
-    // The virtual address of the access, and its fault status code.
-    DataAbort { addr: u64, write: bool, fsc: u8 },
-    InsnAbort { addr: u64, fsc: u8 },
+    DataAbort(DataAbort),
+    InsnAbort(InsnAbort),
     PcAlignment,
 }
 

@@ -90,13 +90,13 @@ pub fn syndrome(e: Exception, from: u8, to: u8, pc: u64) -> Report
         Exception::Hvc(imm) => no_far(EC_HVC64, imm),
         Exception::Smc(imm) => no_far(EC_SMC64, imm),
         Exception::Brk(imm) => no_far(EC_BRK64, imm),
-        Exception::InsnAbort { addr, fsc } => {
+        Exception::InsnAbort(a) => {
             let ec = abort_class(lower, EC_INSN_ABORT_LOWER, EC_INSN_ABORT_SAME);
-            with_far(ec, fsc as u16, addr)
+            with_far(ec, a.fault.fsc as u16, a.addr)
         }
-        Exception::DataAbort { addr, write, fsc } => {
+        Exception::DataAbort(a) => {
             let ec = abort_class(lower, EC_DATA_ABORT_LOWER, EC_DATA_ABORT_SAME);
-            with_far(ec, data_status(write, fsc), addr)
+            with_far(ec, data_status(a.write, a.fault.fsc), a.addr)
         }
         Exception::PcAlignment => with_far(EC_PC_ALIGNMENT, 0, pc),
     }

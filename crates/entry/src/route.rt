@@ -118,12 +118,8 @@ pub fn route(o: Origin, e: Exception) -> Routed
         Exception::Hvc(imm) => route_hvc(o, imm),
         Exception::Smc(imm) => route_smc(o, imm),
         Exception::Brk(imm) => usual(o, Exception::Brk(imm), o.pc),
-        Exception::DataAbort { addr, write, fsc } => usual(
-            o,
-            Exception::DataAbort { addr, write, fsc },
-            o.pc,
-        ),
-        Exception::InsnAbort { addr, fsc } => usual(o, Exception::InsnAbort { addr, fsc }, o.pc),
+        Exception::DataAbort(a) => usual(o, Exception::DataAbort(a), o.pc),
+        Exception::InsnAbort(a) => usual(o, Exception::InsnAbort(a), o.pc),
         Exception::PcAlignment => usual(o, Exception::PcAlignment, o.pc),
     }
 }

@@ -12,6 +12,7 @@ use Rattle.word.specs.Bits.{pick, wrap}
 use Rattle.word.specs.Ram.{within, wordAt, stored}
 use Rattle.word.specs.RamLaws.{written-byte}
 use Rattle.tlb.specs.declared.access.Kind.the-variants.{Write}
+use Rattle.fault.specs.declared.Fault.{Fault}
 use Rattle.tlb.specs.declared.access.Answer.{Answer}
 use Rattle.tlb.specs.declared.access.Answer.the-variants.{Address, Status}
 use Rattle.entry.specs.declared.exception.Stop.{Stop}
@@ -26,7 +27,7 @@ use Rattle.mmu.specs.OpLaws.{onNow}
 use Rattle.mmu.specs.declared.core.Core.{Core}
 use Rattle.mmu.specs.declared.place.Place.the-variants.{Whole}
 use Rattle.mmu.specs.declared.place.Placed.{Placed}
-use Rattle.mmu.specs.declared.place.Placed.the-variants.{At, Fault}
+use Rattle.mmu.specs.declared.place.Placed.the-variants.{At}
 use Rattle.mmu.specs.declared.ends.StoreAnswer.{StoreAnswer}
 use Rattle.mmu.specs.declared.ends.StoreAnswer.the-variants.{Done, Stopped}
 use Rattle.mmu.specs.declared.step.Located.{Located}
@@ -59,7 +60,7 @@ module _ (c : Core) (base : ℕ) (ram : List ℕ) (a : ℕ) (even : a % 8 ≡ 0)
     where
       go : (x : Answer) (y z : Located) → pick (goesOn x false) y z ≡ z
       go (Address pa) y z = refl
-      go (Status fsc) y z = refl
+      go (Status fault) y z = refl
 
   one-placed : locatedNow c (wordAt base ram 8) a 8 Write .placed ≡ placedOne a answerFor
   unfolding translateOf steppedNow
@@ -74,9 +75,9 @@ module _ (c : Core) (base : ℕ) (ram : List ℕ) (a : ℕ) (even : a % 8 ≡ 0)
   unfolding ramAfterWrite storeRamEnd storeRam
   one-ram pa e = rw (one-placed, e)
 
-  pub none-ram : (fsc : ℕ) → answerFor ≡ Status fsc → ramAfterWrite c base ram a 8 0 ≡ ram
+  pub none-ram : (f : Fault) → answerFor ≡ Status f → ramAfterWrite c base ram a 8 0 ≡ ram
   unfolding ramAfterWrite storeRamEnd
-  none-ram fsc e = rw (one-placed, e)
+  none-ram f e = rw (one-placed, e)
 
   -- a store that is done has an address, of eight bytes of RAM
   pub one-done : writeOf c base ram a 8 .answer ≡ Done → (pa : ℕ) × ((answerFor ≡ Address pa) × (within base (length ram) 8 pa ≡ true))
@@ -85,8 +86,8 @@ module _ (c : Core) (base : ℕ) (ram : List ℕ) (a : ℕ) (even : a % 8 ≡ 0)
     where
       go : (x : Placed) → x ≡ placedOne a answerFor → (y : Answer) → answerFor ≡ y → storeEnd x (c .«abort_pa») base ram a 8 .answer ≡ Done
           → (pa : ℕ) × ((answerFor ≡ Address pa) × (within base (length ram) 8 pa ≡ true))
-      go x p (Status fsc) e q =
-          let f : storeEnd (Fault a fsc) (c .«abort_pa») base ram a 8 .answer ≡ Done
+      go x p (Status fault) e q =
+          let f : storeEnd (Placed.Fault a fault) (c .«abort_pa») base ram a 8 .answer ≡ Done
           = ap (λ (w : Placed). storeEnd w (c .«abort_pa») base ram a 8 .answer) (sym (p ∙ ap (placedOne a) e)) ∙ q in
           let z : _≡_ {A = ℕ} 0 1 = cc in
           absurd (omega arith)

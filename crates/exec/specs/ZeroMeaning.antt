@@ -143,7 +143,7 @@ module _ (c : Core) (base : ℕ) (ram : List ℕ) (va : ℕ) (even : va % 8 ≡ 
       store (Address pa) e =
           ap (λ (m : List ℕ). getD m k 0) (one-ram (coreAt n) base (ramAt n) (va + 8 * n) (even-here n room) pa e)
           ∙ stored-leaves base (ramAt n) 8 pa 0 k (λ i h. none n pa i (omega arith) h e)
-      store (Status fsc) e = ap (λ (m : List ℕ). getD m k 0) (none-ram (coreAt n) base (ramAt n) (va + 8 * n) (even-here n room) fsc e)
+      store (Status fault) e = ap (λ (m : List ℕ). getD m k 0) (none-ram (coreAt n) base (ramAt n) (va + 8 * n) (even-here n room) fault e)
 
       go : (x : StoreAnswer) → zeroOf n c base ram va .answer ≡ x → getD (ramAt (suc n)) k 0 ≡ getD (ramAt n) k 0
       go Done e = ap (λ (m : List ℕ). getD m k 0) (ram-then n room e) ∙ store _ refl

@@ -87,7 +87,7 @@ module _ (w : World) (laws : Laws w) where
             → _≡_ {A = List Given} (record { ask = a; answer = x } ∷ onward x rest [])
             (record { ask = a; answer = u } ∷ onward u (plainAnswers w c m l) [])
         go (Address pa) e gs k = rw (← e) (ap {B = List Given} (λ (n : List Given). record { ask = a; answer = Address pa } ∷ n) (k gs))
-        go (Status code) e gs k = rw (← e)
+        go (Status f) e gs k = rw (← e)
 
     pub all-settled : (past : List (Event w)) (m : w .Ram) (s : Step w) → Each (SettledFor w c₀ past m) (s .asks)
         → answers w (plainRun w c₀ past) m (s .asks) (tlbRun w c₀ past fresh) ≡ plainAnswers w (plainRun w c₀ past) m (s .asks)

@@ -7,8 +7,10 @@ use mathlib.Core.Logic.{_⊎_, inl, inr}
 use Prim.Native.Nat.{ℕ, _+_, _*_, _/_, _%_, _^_, _≤_}
 use native.Mathlib.Omega.{arith}
 use Rattle.word.specs.Bits.{pick}
+use Rattle.fault.specs.First.{first}
+use Rattle.fault.specs.declared.Fault.{Fault}
 use Rattle.walk.specs.Regime.{singlePriv, wxnOf, bankOf}
-use Rattle.walk.specs.Table.{Fault, addressSize, translation, accessFlag, externalAbort, statusOf, Translation, Result, mapped, faults, tableWalk}
+use Rattle.walk.specs.Table.{Fault as WalkFault, addressSize, translation, accessFlag, externalAbort, statusOf, Translation, Result, mapped, faults, tableWalk}
 use Rattle.walk.specs.Permission.{Access, reading, writing, fetching, allowed}
 use Rattle.walk.specs.PermissionLaws.{kindBit, firstBit, permission-bit}
 use Rattle.walk.specs.Walk.{leafOf, walkedOf, walkOf}
@@ -49,7 +51,7 @@ userNow c k = asUser (regimeNow real c) (c .who .level) (c .who .mark) k
 abbrev pub checked : Bank → Regime → Bool → Kind → Translation → ℕ → Answer
 checked s r user k t va =
     pick (allowed (singlePriv r) (not user) (wxnOf s) (t .perms) (accessFor k))
-    (Address (t .address / 4096 * 4096 + va % 4096)) (Status (12 + t .level))
+    (Address (t .address / 4096 * 4096 + va % 4096)) (Status (first (12 + t .level)))
 
 module _ (past : List (Event real)) (m : Ram) where
   -- registers, level and mark after the history
@@ -65,9 +67,9 @@ module _ (past : List (Event real)) (m : Ram) where
   -- access of now is checked on what t found.
   pub data Judged (a : Ask) (x : Answer) : Type 0 where
     itself : onNow real now ≡ false → x ≡ Address (addressOf a) → Judged a x
-    faulted : (f : Fault) → onNow real now ≡ true
+    faulted : (f : WalkFault) → onNow real now ≡ true
         → tableWalk (bankOf (now .regs) regime) regime (untagNow real now (addressOf a)) (memoryOf m) ≡ faults f
-        → x ≡ Status (statusOf f) → Judged a x
+        → x ≡ Status (first (statusOf f)) → Judged a x
     allowing : (R : Control) (m′ : Ram) (vs : List Inval) → StateIn real freshPlain past m R m′ vs → (t : Translation)
         → real .on R regime ≡ true
         → tableWalk (bankOf R regime) regime (pageNow real now (addressOf a) * 4096) (memoryOf m′) ≡ mapped t
@@ -85,7 +87,7 @@ walked-leaf singlepriv wxn (mapped t) ℓ e = (t, refl, cc)
 walked-leaf singlepriv wxn (faults f) ℓ e = let z : _≡_ {A = ℕ} 0 1 = cc in absurd (omega arith)
 
 walked-fault : (singlepriv wxn : Bool) (r : Result) (code : ℕ) → walkedOf singlepriv wxn r ≡ Faulted code
-    → (f : Fault) × (r ≡ faults f) × (code ≡ statusOf f)
+    → (f : WalkFault) × (r ≡ faults f) × (code ≡ statusOf f)
 walked-fault singlepriv wxn (mapped t) code e = let z : _≡_ {A = ℕ} 0 1 = cc in absurd (omega arith)
 walked-fault singlepriv wxn (faults f) code e = (f, refl, cc)
 
@@ -95,7 +97,7 @@ unfolding walkOf
 manual-leaf s r va memory ℓ e = walked-leaf (singlePriv r) (wxnOf s) (tableWalk s r va memory) ℓ e
 
 pub manual-fault : (s : Bank) (r : Regime) (va : ℕ) (memory : ℕ → Word) (code : ℕ) → walkOf s r va memory ≡ Faulted code
-    → (f : Fault) × (tableWalk s r va memory ≡ faults f) × (code ≡ statusOf f)
+    → (f : WalkFault) × (tableWalk s r va memory ≡ faults f) × (code ≡ statusOf f)
 unfolding walkOf
 manual-fault s r va memory code e = walked-fault (singlePriv r) (wxnOf s) (tableWalk s r va memory) code e
 
@@ -113,7 +115,7 @@ pub leaf-checked : (s : Bank) (r : Regime) (t : Translation) (k : Kind) (user : 
 unfolding leafAnswer
 leaf-checked s r t k user va =
     rw (need-bit k user)
-    (ap (λ (b : Bool). pick b (Address (t .address / 4096 * 4096 + va % 4096)) (Status (12 + t .level)))
+    (ap (λ (b : Bool). pick b (Address (t .address / 4096 * 4096 + va % 4096)) (Status (first (12 + t .level))))
     (permission-bit (singlePriv r) (wxnOf s) (t .perms) (not user) (accessFor k)))
 
 -- EVERY TRANSLATION
@@ -130,7 +132,7 @@ module _ (past : List (Event real)) (m : Ram) (a : Ask) where
 
   judged-from : (x : Answer) → From real freshPlain past m a x → Judged past m a x
   judged-from x (flat o e) = itself o e
-  judged-from x (fails code o f e) = let (g, h, q) = manual-fault _ _ _ _ code f in faulted g o h (e ∙ ap Status q)
+  judged-from x (fails code o f e) = let (g, h, q) = manual-fault _ _ _ _ code f in faulted g o h (e ∙ ap (λ (n : ℕ). Status (first n)) q)
   judged-from x (walks R m′ vs at ℓ o leaf d us e) =
       let (t, h, q) = manual-leaf _ _ _ _ ℓ leaf in
       allowing R m′ vs at t o h
@@ -159,20 +161,20 @@ pub data Row (code : ℕ) : Type 0 where
   permission : 13 ≤ code → code ≤ 15 → Row code
   descriptor-read : 20 ≤ code → code ≤ 23 → Row code
 
-walk-row : (f : Fault) → Levelled f → Row (statusOf f)
+walk-row : (f : WalkFault) → Levelled f → Row (statusOf f)
 walk-row (addressSize n) l = size-or-translation (omega arith)
 walk-row (translation n) l = size-or-translation (omega arith)
 walk-row (accessFlag n) l = access-flag (omega arith) (omega arith)
 walk-row (externalAbort n) l = descriptor-read (omega arith) (omega arith)
 
-status-injective : {x y : ℕ} → Status x ≡ Status y → x ≡ y
-status-injective e = cc
+same-code : {x y : Fault} → Status x ≡ Status y → x .fsc ≡ y .fsc
+same-code {x} {y} e = let q : x ≡ y = cc in ap (λ (f : Fault). f .fsc) q
 
-pub status-row : (past : List (Event real)) (m : Ram) (a : Ask) (code : ℕ) → Judged past m a (Status code) → Row code
-status-row past m a code (itself o e) = let z : _≡_ {A = ℕ} 0 1 = cc in absurd (omega arith)
-status-row past m a code (faulted f o h e) =
-    rw (status-injective e) (walk-row f (subst (Sound _) h (table-walk-sound _ _ _ (memoryOf m))))
-status-row past m a code (allowing R m′ vs at t o h d us e) =
+pub status-row : (past : List (Event real)) (m : Ram) (a : Ask) (x : Fault) → Judged past m a (Status x) → Row (x .fsc)
+status-row past m a x (itself o e) = let z : _≡_ {A = ℕ} 0 1 = cc in absurd (omega arith)
+status-row past m a x (faulted f o h e) =
+    rw (same-code e) (walk-row f (subst (Sound _) h (table-walk-sound _ _ _ (memoryOf m))))
+status-row past m a x (allowing R m′ vs at t o h d us e) =
     go (allowed (singlePriv r) (not (userNow (now past m) (kindOf a))) (wxnOf (bankOf R r)) (t .perms) (accessFor (kindOf a))) e
   where
     r : Regime
@@ -181,9 +183,9 @@ status-row past m a code (allowing R m′ vs at t o h d us e) =
     found : Found (pageNow real (now past m) (addressOf a) * 4096) t
     found = subst (Sound _) h (table-walk-sound _ _ _ (memoryOf m′))
 
-    go : (b : Bool) → Status code ≡ pick b (Address (t .address / 4096 * 4096 + addressOf a % 4096)) (Status (12 + t .level)) → Row code
+    go : (b : Bool) → Status x ≡ pick b (Address (t .address / 4096 * 4096 + addressOf a % 4096)) (Status (first (12 + t .level))) → Row (x .fsc)
     go true q = let z : _≡_ {A = ℕ} 0 1 = cc in absurd (omega arith)
-    go false q = rw (status-injective q) (permission (omega (arith, found .level-low)) (omega (arith, found .level-high)))
+    go false q = rw (same-code q) (permission (omega (arith, found .level-low)) (omega (arith, found .level-high)))
 
 -- THE CORE WITHOUT A CACHE is judged by the walk of now
 

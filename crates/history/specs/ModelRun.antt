@@ -110,13 +110,13 @@ module _ (w : World) (laws : Laws w) where
         where
           well : (x : Answer) → WellFormed (onward x (tlbAsks w c m l (tlbAsk w c m a t)) (tlbAsk w c m a t))
           well (Address pa) = rest .well
-          well (Status code) = f .well
+          well (Status fault) = f .well
 
           go : (x : Answer)
               → live (onward x (tlbAsks w c m l (tlbAsk w c m a t)) (tlbAsk w c m a t))
               ≡ onward x (modelAsks w c m l (modelAsk w c m a (live t) .after)) (modelAsk w c m a (live t) .after)
           go (Address pa) = rest .is ∙ ap (modelAsks w c m l) (f .after)
-          go (Status code) = f .after
+          go (Status fault) = f .after
 
       more-answers : answers w c m l (tlbAsk w c m a t) ≡ modelAnswers w c m l (live (tlbAsk w c m a t))
           → answers w c m (a ∷ l) t ≡ modelAnswers w c m (a ∷ l) (live t)
@@ -128,7 +128,7 @@ module _ (w : World) (laws : Laws w) where
               → onward {A = List Given} x (answers w c m l (tlbAsk w c m a t)) []
               ≡ onward x (modelAnswers w c m l (modelAsk w c m a (live t) .after)) []
           go (Address pa) = rest ∙ ap (modelAnswers w c m l) (f .after)
-          go (Status code) = refl
+          go (Status fault) = refl
 
     asks-stand : (l : List Ask) (t : Tlb) → WellFormed t → StandsFor (tlbAsks w c m l t) (modelAsks w c m l (live t))
     asks-stand [] t s = record { well = s; is = refl }

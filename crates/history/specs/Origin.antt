@@ -5,6 +5,7 @@ use mathlib.Core.Bool.{true, false}
 use mathlib.Core.List.{List, [], _∷_, _++_}
 use mathlib.Core.Logic.{_⊎_, inl, inr}
 use Prim.Native.Nat.{ℕ, _≤_}
+use Rattle.fault.specs.First.{first}
 use Rattle.walk.specs.declared.level.Leaf.{Leaf}
 use Rattle.walk.specs.declared.level.Walked.the-variants.{Mapped, Fault}
 use Rattle.tlb.specs.Lists.{Each, done, more}
@@ -39,7 +40,7 @@ module _ (w : World) (c₀ : Plain w) where
       flat : onNow w here ≡ false → x ≡ Address (addressOf a) → From a x
       fails : (code : ℕ) → onNow w here ≡ true
           → w .walk (here .regs) m (regimeNow w here) (untagNow w here (addressOf a)) ≡ Fault code
-          → x ≡ Status code → From a x
+          → x ≡ Status (first code) → From a x
       walks : (R : w .Regs) (m′ : w .Ram) (vs : List Inval) → StateIn past m R m′ vs → (ℓ : Leaf)
           → w .on R (regimeNow w here) ≡ true
           → pageWalk w R m′ (regimeNow w here) (pageNow w here (addressOf a)) ≡ Mapped ℓ
@@ -84,7 +85,7 @@ module _ (w : World) (laws : Laws w) (c₀ : Plain w) (zero-asid : w .asid (c₀
         go : (x : Answer) → Each (λ g. From w c₀ past m (g .ask) (g .answer)) (modelAnswers w c m l (modelAsk w c m a u .after))
             → Each (λ g. From w c₀ past m (g .ask) (g .answer)) (onward x (modelAnswers w c m l (modelAsk w c m a u .after)) [])
         go (Address pa) rest = rest
-        go (Status code) rest = done
+        go (Status f) rest = done
 
   -- After every history, whatever the RAM, each answer comes from there.
   pub origin : (past : List (Event w)) (m : w .Ram) (s : Step w)

@@ -8,6 +8,7 @@ use native.Mathlib.Omega.{arith}
 use lib.Dec.{eqb}
 use borrow.Author.Tests.{eqb-true, lt-ltb, le-ltb}
 use Rattle.word.specs.Bits.{pick}
+use Rattle.fault.specs.First.{first}
 use Rattle.walk.specs.declared.regime.Regime.{Regime}
 use Rattle.walk.specs.declared.regime.Regime.the-variants.{El1, El2, El3}
 use Rattle.walk.specs.declared.level.Leaf.{Leaf}
@@ -87,7 +88,7 @@ module _ (w : World) where
       itself : onNow w c ≡ false → x ≡ Address va → Answered x
       by : (ℓ : Leaf) (a : ℕ) → onNow w c ≡ true → Seen w h (regimeNow w c) (pageNow w c va) ℓ a → Today w (c .regs) ℓ a
           → x ≡ leafAnswer ℓ (needNow w c k) va → Answered x
-      failed : (code : ℕ) → onNow w c ≡ true → w .walk (c .regs) m (regimeNow w c) (untagNow w c va) ≡ Fault code → x ≡ Status code
+      failed : (code : ℕ) → onNow w c ≡ true → w .walk (c .regs) m (regimeNow w c) (untagNow w c va) ≡ Fault code → x ≡ Status (first code)
           → Answered x
 
     pub answered-right : {x : Answer} → Agreed h (c .regs) m (regimeNow w c) (pageNow w c va) → Answered x → x ≡ uncached w c m k va
@@ -111,7 +112,7 @@ module _ (w : World) where
     answered-hint pa u (itself o e) = let q : pa ≡ va = cc in flat o (ap (λ (n : ℕ). n / 4096) q)
     answered-hint pa u (by ℓ a o seen d e) = go (allows w ℓ (needNow w c k)) refl e
       where
-        go : (b : Bool) → allows w ℓ (needNow w c k) ≡ b → Address pa ≡ pick b (Address (ℓ .oa / 4096 * 4096 + va % 4096)) (Status (12 + ℓ .level))
+        go : (b : Bool) → allows w ℓ (needNow w c k) ≡ b → Address pa ≡ pick b (Address (ℓ .oa / 4096 * 4096 + va % 4096)) (Status (first (12 + ℓ .level)))
             → HintFrom w h (c .regs) k (va / 4096) (c .who .level) (pa / 4096)
         go true al q =
             let n : pa ≡ ℓ .oa / 4096 * 4096 + va % 4096 = cc in
@@ -166,26 +167,26 @@ module _ (w : World) where
           line : Line
           line = lineOfLeaf leaf a (t .asid)
 
-          first : (ℓ′ : Leaf) × (pageWalk w (c .regs) m (regimeNow w c) (pageNow w c va) ≡ Mapped ℓ′) × LeavesEqual leaf ℓ′ × (leaf .global ≡ ℓ′ .global)
-          first = laws .walk-page (c .regs) m (regimeNow w c) (untagNow w c va) (pageNow w c va * 4096) (omega arith) leaf e
+          own : (ℓ′ : Leaf) × (pageWalk w (c .regs) m (regimeNow w c) (pageNow w c va) ≡ Mapped ℓ′) × LeavesEqual leaf ℓ′ × (leaf .global ≡ ℓ′ .global)
+          own = laws .walk-page (c .regs) m (regimeNow w c) (untagNow w c va) (pageNow w c va * 4096) (omega arith) leaf e
 
-          seen : Seen w h (regimeNow w c) (pageNow w c va) (first .0) (t .asid)
-          seen = inl (record { is-on = o; leaf = first .1; under = s .asid-is })
+          seen : Seen w h (regimeNow w c) (pageNow w c va) (own .0) (t .asid)
+          seen = inl (record { is-on = o; leaf = own .1; under = s .asid-is })
 
           kept-walk : LineFrom w h line
           kept-walk =
               record {
-                leaf = first .0;
+                leaf = own .0;
                 under = t .asid;
                 seen = seen;
-                frame = first .2 .pages;
-                perms = first .2 .perms;
-                level = first .2 .levels;
-                reach = ap (λ (g : Bool). reachOf g (t .asid)) (first .3);
+                frame = own .2 .pages;
+                perms = own .2 .perms;
+                level = own .2 .levels;
+                reach = ap (λ (g : Bool). reachOf g (t .asid)) (own .3);
               }
 
           answer : Answered laws h c m k va (judgeLine line a)
-          answer = by (first .0) (t .asid) o seen (inr (s .asid-is)) (line-judged laws h c m k va line kept-walk)
+          answer = by (own .0) (t .asid) o seen (inr (s .asid-is)) (line-judged laws h c m k va line kept-walk)
 
       -- a line that serves keeps a walk that was seen, global or under today's ASID
       line-done : onNow w c ≡ true → (l : Line) → LineFrom w h l → ofPage l ≡ true → ofRegime l ≡ true → reaches (l .reach) (t .asid) ≡ true
@@ -229,7 +230,7 @@ module _ (w : World) where
       hint-done b o d = record { traced = go (o .answer) refl; answered = d .answered }
         where
           go : (x : Answer) → o .answer ≡ x → Traced w h (c .regs) (noting x a (o .after))
-          go (Status code) e = d .traced
+          go (Status f) e = d .traced
           go (Address pa) e =
               traced-hint w (hintPlace k va) (knownOf a pa)
               (rw (kind-at k (c .who .mark) va b)
@@ -271,7 +272,7 @@ module _ (w : World) where
           d = unhinted-done
 
           put : (y : Answer) → unhinted (onNow w c) a t .answer ≡ y → Traced w h (c .regs) (notingFetch y a (unhinted (onNow w c) a t .after))
-          put (Status code) e = d .traced
+          put (Status f) e = d .traced
           put (Address pa) e =
               traced-fetch-hint w (knownOf a pa) (rw f at (answered-hint laws h c m k va pa (inl f) (rw e at (d .answered)))) (d .traced)
 

@@ -58,7 +58,7 @@ module _ (w : World) (laws : Laws w) where
       go : (x : Answer) → Traced w (at (c .regs) m ∷ h) (c .regs) (modelAsks w c m l (modelAsk w c m a u .after))
           → Traced w (at (c .regs) m ∷ h) (c .regs) (onward x (modelAsks w c m l (modelAsk w c m a u .after)) (modelAsk w c m a u .after))
       go (Address pa) rest = rest
-      go (Status code) rest = ask-done h c m u s a .traced
+      go (Status f) rest = ask-done h c m u s a .traced
 
   -- what is left pending for others is no part of what a translation reads
   broadcast-traced : {h : List (Moment w)} {R : w .Regs} {u : Model} (v : Inval) → Traced w h R u → Traced w h R (broadcast v u)
@@ -194,7 +194,7 @@ module _ (w : World) (laws : Laws w) where
       go : (x : Answer) → Each (FaithfulAnswer w c₀ past m) (modelAnswers w c m l (modelAsk w c m a u .after))
           → Each (FaithfulAnswer w c₀ past m) (onward x (modelAnswers w c m l (modelAsk w c m a u .after)) [])
       go (Address pa) rest = rest
-      go (Status code) rest = done
+      go (Status f) rest = done
 
   -- A fresh core: its ASID is 0, its level at most 3, its cache new.
   module _ (c₀ : Plain w) (zero-asid : w .asid (c₀ .regs) ≡ 0) (low : c₀ .who .level ≤ 3) where

@@ -5,6 +5,7 @@ use mathlib.Core.Bool.{Bool, true, not, _&&_}
 use Prim.Native.Nat.{ℕ, _+_, _*_, _/_, _%_, _^_, _≤_}
 use lib.Dec.{eqb}
 use Rattle.word.specs.Bits.{pick}
+use Rattle.fault.specs.First.{first}
 use Rattle.walk.specs.Regime.{regimeOf}
 use Rattle.walk.specs.declared.regime.Regime.{Regime}
 use Rattle.walk.specs.declared.level.Leaf.{Leaf}
@@ -59,11 +60,11 @@ covers (Asid b) p ℓ a = not (ℓ .global) && eqb a b
 -- the address's low twelve bits."
 unfoldable pub leafAnswer : Leaf → ℕ → ℕ → Answer
 leafAnswer ℓ bit va =
-    pick (eqb (ℓ .perms / bit % 2) 1) (Address (ℓ .oa / 4096 * 4096 + va % 4096)) (Status (12 + ℓ .level))
+    pick (eqb (ℓ .perms / bit % 2) 1) (Address (ℓ .oa / 4096 * 4096 + va % 4096)) (Status (first (12 + ℓ .level)))
 
 -- "A walk fault is the answer."
 unfoldable pub walkAnswer : Walked → ℕ → ℕ → Answer
-walkAnswer (Fault code) bit va = Status code
+walkAnswer (Fault code) bit va = Status (first code)
 walkAnswer (Mapped ℓ) bit va = leafAnswer ℓ bit va
 
 module _ (w : World) where

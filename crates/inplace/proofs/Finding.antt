@@ -3,6 +3,7 @@ use mathlib.Core.Path.{_≡_, refl, sym, _∙_}
 use mathlib.Core.Bool.{Bool, true, false}
 use mathlib.Core.List.{List}
 use Prim.Native.Nat.{ℕ, _+_}
+use Rattle.fault.specs.declared.Fault.{Fault}
 use Rattle.tlb.specs.Access.{mayHint}
 use Rattle.tlb.specs.Cache.{entryAt}
 use Rattle.tlb.specs.Count.{hitCounted, walkCounted}
@@ -47,14 +48,14 @@ module _ (a : Answer) where
       → Moved ws xs (toldTo (held ws) who kind va a)
   address-core ws xs who kind va pa e m = rw e m
 
-  pub status-code : (fsc : ℕ) → a ≡ Status fsc → 256 + fsc ≡ codeOf a
-  status-code fsc e = rw e
+  pub status-code : (f : Fault) → a ≡ Status f → 256 + f .fsc ≡ codeOf a
+  status-code f e = rw e
 
-  pub status-value : (fsc old : ℕ) → a ≡ Status fsc → old ≡ valueOf a old
-  status-value fsc old e = rw e
+  pub status-value : (f : Fault) (old : ℕ) → a ≡ Status f → old ≡ valueOf a old
+  status-value f old e = rw e
 
-  pub status-core : (ws : List ℕ) (who : Who) (kind : Kind) (va fsc : ℕ) → a ≡ Status fsc → Moved ws ws (toldTo (held ws) who kind va a)
-  status-core ws who kind va fsc e = rw e stays
+  pub status-core : (ws : List ℕ) (who : Who) (kind : Kind) (va : ℕ) (f : Fault) → a ≡ Status f → Moved ws ws (toldTo (held ws) who kind va a)
+  status-core ws who kind va f e = rw e stays
 
 -- what a source changes
 module _ (ws : List ℕ) (slot : ℕ) (source : Source) (made : Entry) where

@@ -8,6 +8,8 @@ use borrow.Author.Tests.{eq-eqb, ne-eqb}
 use lib.Dec.{eqb}
 use Rattle.word.specs.Bits.{pick}
 use Rattle.word.specs.declared.ram.Word.{Word}
+use Rattle.fault.specs.First.{first}
+use Rattle.fault.specs.declared.Fault.{Fault}
 use Rattle.walk.specs.Regime.{bankOf, regimeOf}
 use Rattle.walk.specs.declared.regime.Regime.{Regime}
 use Rattle.walk.specs.declared.regime.Bank.{Bank}
@@ -159,13 +161,13 @@ module _ (ws : List ℕ) (va : ℕ) (kind : Kind) (who : Who) (b : Bool) (key i 
 pub answer-zero : (code pa : ℕ) → code ≡ 0 → Address pa ≡ answerOf code pa
 answer-zero code pa e = sym (rw (eq-eqb code 0 e))
 
-pub answer-other : (code pa : ℕ) → (code ≡ 0 → ⊥) → Status (code % 2 ^ 8) ≡ answerOf code pa
-answer-other code pa e = sym (rw (ne-eqb code 0 e))
+pub answer-other : (code pa : ℕ) (f : Fault) → (code ≡ 0 → ⊥) → f ≡ first (code % 2 ^ 8) → Status f ≡ answerOf code pa
+answer-other code pa f e ef = rw (ne-eqb code 0 e, ef)
 
 -- and back: a number up to 511 has a status of eight bits
 code-back : (a : Answer) (old : ℕ) → codeOf a ≤ 511 → answerOf (codeOf a) (valueOf a old) ≡ a
 code-back (Address pa) old h = refl
-code-back (Status fsc) old h = rw (ne-eqb (256 + fsc) 0 (λ e. omega arith)) (ap Status (low fsc (omega arith)))
+code-back (Status f) old h = rw (ne-eqb (256 + f .fsc) 0 (λ e. omega arith)) (ap (λ (n : ℕ). Status (first n)) (low (f .fsc) (omega arith)))
   where
     low : (n : ℕ) → n < 256 → (256 + n) % 256 ≡ n
     low n g = omega arith

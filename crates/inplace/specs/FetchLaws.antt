@@ -2,6 +2,7 @@
 use mathlib.Core.Path.{_≡_, refl, _∙_}
 use Prim.Native.Nat.{ℕ}
 use Rattle.word.specs.declared.ram.Word.{Word}
+use Rattle.fault.specs.First.{first}
 use Rattle.walk.specs.Regime.{regimeOf}
 use Rattle.tlb.specs.Hint.{fetchFound}
 use Rattle.tlb.specs.Cache.{entryAt, setEntry, setFetch}
@@ -44,7 +45,7 @@ module _ (c : Core) (memory : ℕ → Word) (va : ℕ) where
       ≡ pagedBy level va (toldTo (withEntry (withCounts c k) slot e) (c .who) Fetch va a) a
   unfolding noted withFetchHint withEntry withCounts withCache movedTo
   fetch-back e k (Address pa) = refl
-  fetch-back e k (Status fsc) = refl
+  fetch-back e k (Status f) = refl
 
   pub fetch-serves : (pa : ℕ) → fetchFound (c .tlb .cache .fetch) level va ≡ At pa → fetchTo ≡ answering c (Address pa)
   unfolding fetchTo fetchSteppedNow translateFetchIn fetchWith fetchEnd
@@ -53,7 +54,7 @@ module _ (c : Core) (memory : ℕ → Word) (va : ℕ) where
     where
       kept-back : withTlb c (moved (c .tlb) (setFetch (setEntry (c .tlb .cache) slot entry) (c .tlb .cache .fetch)) (c .tlb .counts))
           ≡ withEntry (withCounts c (c .tlb .counts)) slot entry
-      kept-back = fetch-back entry (c .tlb .counts) (Status 0)
+      kept-back = fetch-back entry (c .tlb .counts) (Status (first 0))
 
   abbrev t : Resolved
   t =

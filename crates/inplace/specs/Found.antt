@@ -6,6 +6,7 @@ use lib.Dec.{eqb}
 use Rattle.word.specs.Bits.{pick}
 use Rattle.word.specs.Ram.{wordAt}
 use Rattle.word.specs.declared.ram.Word.{Word}
+use Rattle.fault.specs.First.{first}
 use Rattle.walk.specs.Regime.{bankOf}
 use Rattle.tlb.specs.Access.{mayHint}
 use Rattle.tlb.specs.Entry.{slotOf}
@@ -33,11 +34,11 @@ use Rattle.words.specs.Parts.{withCounts, withEntry, withHint, withFetchHint}
 -- an answer as a number: 0, or 256 plus the status; and the address where there is one
 abbrev pub codeOf : Answer → ℕ
 codeOf (Address pa) = 0
-codeOf (Status fsc) = 256 + fsc
+codeOf (Status f) = 256 + f .fsc
 
 abbrev pub valueOf : Answer → ℕ → ℕ
 valueOf (Address pa) old = pa
-valueOf (Status fsc) old = old
+valueOf (Status f) old = old
 
 abbrev pub answering : Core → Answer → Translated
 answering c a = record { core = c; answer = a }
@@ -59,7 +60,7 @@ noted c who kind va pa = pick (mayHint who kind) (withHint c (dataSlot va kind) 
 
 abbrev pub toldTo : Core → Who → Kind → ℕ → Answer → Core
 toldTo c who kind va (Address pa) = noted c who kind va pa
-toldTo c who kind va (Status fsc) = c
+toldTo c who kind va (Status f) = c
 
 -- the counters and the entry of the slot, by an answer's source
 unfoldable pub sourced : Core → ℕ → Source → Entry → Core
@@ -96,10 +97,10 @@ module _ (ws : List ℕ) (base : ℕ) (ram : List ℕ) where
 -- the page of a fetch that was allowed becomes the fetch hint
 abbrev pub pagedBy : ℕ → ℕ → Core → Answer → Core
 pagedBy level va c (Address pa) = withFetchHint c (fetchFor va level pa)
-pagedBy level va c (Status fsc) = c
+pagedBy level va c (Status f) = c
 
 abbrev pub pagedTo : ℕ → ℕ → Translated → Core
 pagedTo level va t = pagedBy level va (t .core) (t .answer)
 
 abbrev pub answerOf : ℕ → ℕ → Answer
-answerOf code pa = pick (eqb code 0) (Address pa) (Status (code % 2 ^ 8))
+answerOf code pa = pick (eqb code 0) (Address pa) (Status (first (code % 2 ^ 8)))

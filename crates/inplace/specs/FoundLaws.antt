@@ -91,9 +91,9 @@ module _ (c : Core) where
         ≡ toldTo (withEntry (withCounts c k) slot e) (c .who) kind va a
     unfolding noted withHint withEntry withCounts withCache movedTo
     told-with true q (Address pa) = rw q
-    told-with true q (Status fsc) = rw q (hint-back slot (dataSlot va kind) e k)
+    told-with true q (Status f) = rw q (hint-back slot (dataSlot va kind) e k)
     told-with false q (Address pa) = rw q (hint-back slot (dataSlot va kind) e k)
-    told-with false q (Status fsc) = rw q (hint-back slot (dataSlot va kind) e k)
+    told-with false q (Status f) = rw q (hint-back slot (dataSlot va kind) e k)
 
     told-back : (a : Answer)
         → back slot (dataSlot va kind) e (hintAfter (mayHint (c .who) kind) (c .who .level) va a (hintAt (c .tlb .cache) (dataSlot va kind))) k

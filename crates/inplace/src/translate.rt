@@ -56,7 +56,7 @@ fn told(state: &mut State, who: Who, kind: Kind, va: u64, answer: Answer, pa: &m
             note(state, who, kind, va, at);
             0
         }
-        Answer::Status(fsc) => 256 + fsc as u64,
+        Answer::Status(fault) => 256 + fault.fsc as u64,
     }
 }
 
@@ -178,7 +178,8 @@ fn answer_of(code: u64, pa: u64) -> Answer
     if code == 0 {
         Answer::Address(pa)
     } else {
-        Answer::Status((code % 256) as u8)
+        let fault = fault::first((code % 256) as u8);
+        Answer::Status(fault)
     }
 }
 

@@ -27,8 +27,8 @@ use Rattle.exec.specs.Sys.{onStored, zeroOf}
 -- Undefined, Unimplemented, and the exceptions that stop no operation
 abbrev pub early : Stop → Bool
 early Stop.Unimplemented = true
-early (Stop.Exception (DataAbort addr write fsc)) = false
-early (Stop.Exception (InsnAbort addr fsc)) = false
+early (Stop.Exception (DataAbort a)) = false
+early (Stop.Exception (InsnAbort a)) = false
 early (Stop.Exception Undefined) = true
 early (Stop.Exception (Svc imm)) = true
 early (Stop.Exception (Hvc imm)) = true
@@ -46,7 +46,7 @@ never e = absurd (let z : _≡_ {A = ℕ} 0 1 = ap (λ (b : Bool). pick b 1 0) e
 -- a store stops by an abort, and so does a zeroing
 pub end-late : (x : Placed) (abort base : ℕ) (ram : List ℕ) (va n : ℕ) → earlyStop (storeEnd x abort base ram va n .answer) ≡ false
 unfolding storeEnd
-end-late (Fault addr fsc) abort base ram va n = refl
+end-late (Fault addr f) abort base ram va n = refl
 end-late (At place) abort base ram va n = inside (judged base (length ram) place n)
   where
     inside : (d : Verdict) → earlyStop (storeEndBy d abort va .answer) ≡ false

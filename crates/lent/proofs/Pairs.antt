@@ -52,8 +52,8 @@ put-same t i j =
 
 split-of : (a : Answer) (split : Bool) → goesOn a split ≡ true → split ≡ true
 split-of (Address pa) split e = e
-split-of (Status fsc) true e = refl
-split-of (Status fsc) false e = e
+split-of (Status f) true e = refl
+split-of (Status f) false e = e
 
 -- a translation of an access whose hint has the place i
 pub step-at : (s : Bank) (who : Who) (memory : ℕ → Word) (kind : Kind) (t : Tlb) (a i : ℕ) → i ≡ dataSlot a kind

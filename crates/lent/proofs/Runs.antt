@@ -199,9 +199,9 @@ kept-as NoLeaf old made = refl
 
 hint-as : (may : Bool) (level va : ℕ) (a : Answer) (h : Hint) → pick (may && allowed a) (hintFor va level (addressOf a)) h ≡ hintAfter may level va a h
 hint-as true level va (Address pa) h = refl
-hint-as true level va (Status code) h = refl
+hint-as true level va (Status f) h = refl
 hint-as false level va (Address pa) h = refl
-hint-as false level va (Status code) h = refl
+hint-as false level va (Status f) h = refl
 
 module _ (c : Core) (memory : ℕ → Word) (va : ℕ) (kind : Kind) where
   abbrev bank : Bank

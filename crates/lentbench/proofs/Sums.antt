@@ -5,6 +5,7 @@ use native.Mathlib.Nat.{add-suc, add-zero}
 use native.Mathlib.Omega.{arith}
 use mathlib.Core.List.{List}
 use borrow.Author.Tests.{eq-eqb, ne-eqb}
+use Rattle.fault.specs.declared.Fault.{Fault}
 use Rattle.tlb.specs.declared.access.Kind.{Kind}
 use Rattle.tlb.specs.declared.access.Kind.the-variants.{Read, Write, Fetch}
 use Rattle.mmu.specs.declared.core.Core.{Core}
@@ -12,7 +13,6 @@ use Rattle.cpu.specs.Step.{stepOf}
 use Rattle.cpu.specs.declared.call.Call.the-variants as Call
 use Rattle.cpu.specs.declared.call.Stepped.{Stepped}
 use Rattle.cpu.specs.declared.call.Reply.{Reply}
-use Rattle.cpu.specs.declared.call.Reply.the-variants.{Fault}
 use Rattle.lentbench.specs.Many.{partOf, summedOf, vaOf, kindOf, coreAfter, sumAfter}
 
 pub kind-read : (n : ℕ) → n ≡ 1 → Read ≡ kindOf n
@@ -24,8 +24,8 @@ kind-write n h = rw h
 pub kind-fetch : (n : ℕ) → (n ≡ 1 → ⊥) → (n ≡ 2 → ⊥) → Fetch ≡ kindOf n
 kind-fetch n h1 h2 = sym (rw (ne-eqb n 1 h1, ne-eqb n 2 h2))
 
-pub part-fault : (r : Reply) (addr fsc : ℕ) → r ≡ Fault addr fsc → fsc * 0x4_0000_0000_0000 ≡ partOf r
-part-fault r addr fsc e = rw e
+pub part-fault : (r : Reply) (addr : ℕ) (f : Fault) → r ≡ Reply.Fault addr f → f .fsc * 0x4_0000_0000_0000 ≡ partOf r
+part-fault r addr f e = rw e
 
 pub va-even : (i even odd : ℕ) → i % 2 ≡ 0 → even ≡ vaOf i even odd
 va-even i even odd h = sym (rw (eq-eqb (i % 2) 0 h))

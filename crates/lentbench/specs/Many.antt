@@ -19,7 +19,7 @@ use Rattle.cpu.specs.declared.call.Reply.the-variants.{Refused, Done, Value, Fa
 -- an answer's part of the sum: the address, or a fault's status from bit 50 on
 abbrev pub partOf : Reply → ℕ
 partOf (Value pa) = pa
-partOf (Fault addr fsc) = fsc * 2 ^ 50
+partOf (Fault addr f) = f .fsc * 2 ^ 50
 partOf (Refused n) = 0
 partOf Done = 0
 partOf Faults = 0

@@ -10,7 +10,7 @@ fn part_of(reply: Reply) -> u64
 {
     match reply {
         Reply::Value(pa) => pa,
-        Reply::Fault { addr, fsc } => fsc as u64 * 0x4_0000_0000_0000,
+        Reply::Fault { addr, fault } => fault.fsc as u64 * 0x4_0000_0000_0000,
         Reply::Refused(n) => 0,
         Reply::Done => 0,
         Reply::Faults => 0,

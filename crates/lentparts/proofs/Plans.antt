@@ -8,6 +8,7 @@ use mathlib.Core.List.{List}
 use lib.Dec.{eqb}
 use lib.ListN.{length}
 use Rattle.word.specs.Ram.{wordAt}
+use Rattle.fault.specs.declared.Fault.{Fault}
 use Rattle.sysreg.specs.Encoding.{registerAt}
 use Rattle.sysreg.specs.declared.regs.Control.{Control}
 use Rattle.walk.specs.Regime.{bankOf, regimeOf}
@@ -38,7 +39,7 @@ use Rattle.mmu.specs.Step.{slotAt}
 use Rattle.cpu.specs.Check.{passes, ramRows, firstOf, missedOf}
 use Rattle.cpu.specs.Step.{translation, fetching}
 use Rattle.cpu.specs.declared.call.Reply.{Reply}
-use Rattle.cpu.specs.declared.call.Reply.the-variants.{Refused, Done, Value, Fault, Stopped}
+use Rattle.cpu.specs.declared.call.Reply.the-variants.{Refused, Done, Value, Stopped}
 use Rattle.lentparts.specs.Plan.{hintPlace, keyOf, hintServes, quickBy, quickOf}
 use Rattle.lentparts.specs.Fetch.{quickFetchBy, fetchQuick, fetchedOf}
 use Rattle.lentparts.specs.declared.cells.FetchCells.{FetchCells}
@@ -49,8 +50,8 @@ use Rattle.lentparts.specs.declared.plan.Quick.{Quick}
 pub reply-at : (va : ℕ) (a : Answer) (pa : ℕ) → a ≡ Address pa → Value pa ≡ translation va a
 reply-at va a pa e = rw e
 
-pub reply-fault : (va : ℕ) (a : Answer) (fsc : ℕ) → a ≡ Status fsc → Fault va fsc ≡ translation va a
-reply-fault va a fsc e = rw e
+pub reply-fault : (va : ℕ) (a : Answer) (f : Fault) → a ≡ Status f → Reply.Fault va f ≡ translation va a
+reply-fault va a f e = rw e
 
 pub key-is : (c : Control) (who : Who) (va : ℕ) (kind : Kind) (s : Bank) (i j : ℕ) → s ≡ bankOf c (regimeOf (who .level)) → i ≡ hintPlace va kind
     → j ≡ slotAt s (who .level) va → _≡_ {A = Key} (record { who = who; bank = s; hint = i; entry = j }) (keyOf c who va kind)

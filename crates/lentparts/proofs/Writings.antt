@@ -116,4 +116,4 @@ module _ (k : Keys) (x y : Cells) (va size value base : ℕ) (ram : List ℕ) (s
 pub end-length : (x : Placed) (base : ℕ) (ram : List ℕ) (n v : ℕ) (ys : List ℕ) → ys ≡ storeRamEnd x base ram n v → length ys ≡ length ram
 unfolding storeRamEnd
 end-length (At place) base ram n v ys e = ap length e ∙ store-length base ram place n v
-end-length (Fault addr fsc) base ram n v ys e = ap length e
+end-length (Fault addr f) base ram n v ys e = ap length e

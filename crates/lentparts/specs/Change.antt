@@ -94,11 +94,11 @@ keptAs (suc (suc (suc (suc n)))) old made = old
 
 abbrev pub allowed : Answer → Bool
 allowed (Address pa) = true
-allowed (Status code) = false
+allowed (Status f) = false
 
 abbrev pub addressOf : Answer → ℕ
 addressOf (Address pa) = pa
-addressOf (Status code) = 0
+addressOf (Status f) = 0
 
 -- the changes of what is asked
 unfoldable pub missBy : Asked → Bank → Who → Present → Entry → ℕ → Kind → (ℕ → Word) → Resolved

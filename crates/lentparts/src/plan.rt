@@ -97,7 +97,7 @@ pub fn reply_of(va: u64, answer: Answer) -> Reply
 {
     match answer {
         Answer::Address(pa) => Reply::Value(pa),
-        Answer::Status(fsc) => Reply::Fault { addr: va, fsc },
+        Answer::Status(fault) => Reply::Fault { addr: va, fault },
     }
 }
 

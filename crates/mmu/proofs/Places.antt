@@ -10,13 +10,15 @@ use lib.Dec.{ltb}
 use lib.ListN.{getD, set}
 use Rattle.word.specs.Bits.{pick, wrap}
 use Rattle.word.specs.Ram.{within}
+use Rattle.fault.specs.declared.Fault.{Fault}
 use Rattle.tlb.specs.declared.access.Answer.{Answer}
 use Rattle.tlb.specs.declared.access.Answer.the-variants.{Address, Status}
 use Rattle.mmu.specs.Core.{regIn, regSet}
 use Rattle.mmu.specs.Place.{inPage, nextPage, crosses, placedOne, placedBoth, byteAt, firstOutside}
 use Rattle.mmu.specs.declared.place.Pages.{Pages}
 use Rattle.mmu.specs.declared.place.Place.the-variants.{Whole, Split}
-use Rattle.mmu.specs.declared.place.Placed.the-variants.{At, Fault}
+use Rattle.mmu.specs.declared.place.Placed.{Placed}
+use Rattle.mmu.specs.declared.place.Placed.the-variants.{At}
 use Rattle.mmu.specs.declared.place.Verdict.{Verdict}
 use Rattle.mmu.specs.declared.place.Verdict.the-variants.{Inside, Outside}
 
@@ -41,19 +43,19 @@ module _ (va : ℕ) (a : Answer) where
   pub one-at : (pa : ℕ) → a ≡ Address pa → At (Whole pa) ≡ placedOne va a
   one-at pa e = rw e
 
-  pub one-fault : (fsc : ℕ) → a ≡ Status fsc → Fault va fsc ≡ placedOne va a
-  one-fault fsc e = rw e
+  pub one-fault : (f : Fault) → a ≡ Status f → Placed.Fault va f ≡ placedOne va a
+  one-fault f e = rw e
 
   pub both-at : (b : Answer) (pa pa2 n : ℕ) → a ≡ Address pa → b ≡ Address pa2 → n ≡ inPage va
       → At (Split (record { «in_page» = n; pa = pa; pa2 = pa2 })) ≡ placedBoth va a b
   both-at b pa pa2 n ea eb en = rw (ea, eb, en)
 
-  pub both-next : (b : Answer) (pa fsc next : ℕ) → a ≡ Address pa → b ≡ Status fsc → next ≡ nextPage va
-      → Fault next fsc ≡ placedBoth va a b
-  both-next b pa fsc next ea eb en = rw (ea, eb, en)
+  pub both-next : (b : Answer) (pa next : ℕ) (f : Fault) → a ≡ Address pa → b ≡ Status f → next ≡ nextPage va
+      → Placed.Fault next f ≡ placedBoth va a b
+  both-next b pa next f ea eb en = rw (ea, eb, en)
 
-  pub both-first : (b : Answer) (fsc : ℕ) → a ≡ Status fsc → Fault va fsc ≡ placedBoth va a b
-  both-first b fsc ea = rw ea
+  pub both-first : (b : Answer) (f : Fault) → a ≡ Status f → Placed.Fault va f ≡ placedBoth va a b
+  both-first b f ea = rw ea
 
 module _ (p : Pages) (i : ℕ) where
   pub byte-low : (r : ℕ) → i < p .«in_page» → r ≡ wrap (p .pa + i) → r ≡ byteAt p i

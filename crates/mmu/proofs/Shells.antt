@@ -149,4 +149,4 @@ module _ (base : ℕ) (ram : List ℕ) (n v : ℕ) (ys : List ℕ) where
   pub end-kept : (x : Placed) → ys ≡ storeRamEnd x base ram n v → length ys ≡ length ram
   unfolding storeRamEnd
   end-kept (At place) e = ap length e ∙ store-length base ram place n v
-  end-kept (Fault addr fsc) e = ap length e
+  end-kept (Fault addr f) e = ap length e

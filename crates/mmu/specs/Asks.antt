@@ -6,6 +6,7 @@ use mathlib.Core.List.{List, [], _∷_}
 use Prim.Native.Nat.{ℕ}
 use Rattle.word.specs.Bits.{pick}
 use Rattle.word.specs.declared.ram.Word.{Word}
+use Rattle.fault.specs.First.{first}
 use Rattle.walk.specs.Regime.{stage1On, regimeOf}
 use Rattle.walk.specs.declared.regime.Bank.{Bank}
 use Rattle.tlb.specs.Model.{Access}
@@ -34,12 +35,12 @@ accessAsks on va n kind = asksBy (crosses on va n) va kind
 
 -- the answer of a call of one translation
 abbrev pub firstOf : List Given → Answer
-firstOf [] = Status 0
+firstOf [] = Status (first 0)
 firstOf (g ∷ l) = g .answer
 
 -- what the answers of an access say of its place: it has one, or two where it is split and the first is an address
 abbrev pub placedBy : ℕ → List Given → Placed
-placedBy va [] = Fault va 0
+placedBy va [] = Fault va (first 0)
 placedBy va (g ∷ []) = placedOne va (g .answer)
 placedBy va (g ∷ h ∷ l) = placedBoth va (g .answer) (h .answer)
 
@@ -51,7 +52,7 @@ module _ (va : ℕ) (a b : Ask) (f g : Stepped) where
   one-page : (x : Answer) → f .answer ≡ x
       → onePage va f ≡ record { tlb = onward (f .answer) (f .tlb) (f .tlb); placed = placedBy va (gives a f ∷ onward (f .answer) [] []) }
   one-page (Address pa) e = rw e
-  one-page (Status fsc) e = rw e
+  one-page (Status fault) e = rw e
 
   both-pages : (x y : Answer) → f .answer ≡ x → g .answer ≡ y
       → pick (goesOn (f .answer) true) (bothPages va (f .answer) g) (onePage va f)
@@ -59,9 +60,9 @@ module _ (va : ℕ) (a b : Ask) (f g : Stepped) where
         tlb = onward (f .answer) (onward (g .answer) (g .tlb) (g .tlb)) (f .tlb);
         placed = placedBy va (gives a f ∷ onward (f .answer) (gives b g ∷ onward (g .answer) [] []) []);
       }
-  both-pages (Status fsc) y e d = rw e
+  both-pages (Status fault) y e d = rw e
   both-pages (Address pa) (Address pa2) e d = rw (e, d)
-  both-pages (Address pa) (Status fsc) e d = rw (e, d)
+  both-pages (Address pa) (Status fault) e d = rw (e, d)
 
 module _ (s : Bank) (who : Who) (memory : ℕ → Word) where
   -- the access of a kind at an address
@@ -72,11 +73,11 @@ module _ (s : Bank) (who : Who) (memory : ℕ → Word) where
     abbrev onIt : Bool
     onIt = stage1On s (regimeOf (who .level))
 
-    abbrev first : Stepped
-    first = translateIn s who memory va kind t
+    abbrev own : Stepped
+    own = translateIn s who memory va kind t
 
-    abbrev second : Stepped
-    second = translateIn s who memory (nextPage va) kind (first .tlb)
+    abbrev next : Stepped
+    next = translateIn s who memory (nextPage va) kind (own .tlb)
 
     pub located-asks : locatedOf s who memory va n kind t
         ≡ record {
@@ -88,10 +89,10 @@ module _ (s : Bank) (who : Who) (memory : ℕ → Word) where
       where
         neither : (x : Answer) → goesOn x false ≡ false
         neither (Address pa) = refl
-        neither (Status fsc) = refl
+        neither (Status fault) = refl
 
         go : (b : Bool)
-            → pick (goesOn (first .answer) b) (bothPages va (first .answer) second) (onePage va first)
+            → pick (goesOn (own .answer) b) (bothPages va (own .answer) next) (onePage va own)
             ≡ record { tlb = tlbAsks accessAt (asksBy b va kind) t; placed = placedBy va (answers accessAt (asksBy b va kind) t) }
-        go true = both-pages va (translates kind va) (translates kind (nextPage va)) first second _ _ refl refl
-        go false = rw (neither (first .answer)) (one-page va (translates kind va) (translates kind va) first first _ refl)
+        go true = both-pages va (translates kind va) (translates kind (nextPage va)) own next _ _ refl refl
+        go false = rw (neither (own .answer)) (one-page va (translates kind va) (translates kind va) own own _ refl)

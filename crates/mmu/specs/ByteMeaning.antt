@@ -213,7 +213,7 @@ module _ (c : Core) (base : ℕ) (ram : List ℕ) (va n : ℕ) where
       value-is x q = cc
 
       go : (x : Placed) → placedFor Read ≡ x → loadEnd x (c .«last_pa») (c .«abort_pa») base ram va n .answer ≡ Load.Value v → Loaded v
-      go (Fault addr fsc) e q = let z : _≡_ {A = ℕ} 0 1 = cc in absurd (omega arith)
+      go (Fault addr fault) e q = let z : _≡_ {A = ℕ} 0 1 = cc in absurd (omega arith)
       go (At place) e q = verdict (verdictOf base (length ram) place n) refl
         where
           verdict : (d : Verdict) → verdictOf base (length ram) place n ≡ d → Loaded v
@@ -230,7 +230,7 @@ module _ (c : Core) (base : ℕ) (ram : List ℕ) (va n : ℕ) where
   done = go (placedFor Write) refl
     where
       go : (x : Placed) → placedFor Write ≡ x → storeEnd x (c .«abort_pa») base ram va n .answer ≡ Store.Done → Done
-      go (Fault addr fsc) e q = let z : _≡_ {A = ℕ} 0 1 = cc in absurd (omega arith)
+      go (Fault addr fault) e q = let z : _≡_ {A = ℕ} 0 1 = cc in absurd (omega arith)
       go (At place) e q = verdict (verdictOf base (length ram) place n) refl
         where
           verdict : (d : Verdict) → verdictOf base (length ram) place n ≡ d → Done

@@ -6,16 +6,18 @@ use mathlib.Core.List.{List}
 use Prim.Native.Nat.{ℕ, _+_}
 use lib.ListN.{length}
 use Rattle.word.specs.Bits.{wrap}
+use Rattle.fault.specs.First.{first}
+use Rattle.fault.specs.declared.Fault.{Fault}
 use Rattle.tlb.specs.declared.access.Answer.{Answer}
 use Rattle.tlb.specs.declared.access.Answer.the-variants.{Address, Status}
 use Rattle.entry.specs.declared.exception.Stop.{Stop}
 use Rattle.entry.specs.declared.exception.Stop.the-variants as Stop
-use Rattle.entry.specs.declared.exception.Exception.the-variants.{DataAbort, InsnAbort}
+use Rattle.entry.specs.Abort.{dataAbortAt, insnAbortAt}
 use Rattle.mmu.specs.Place.{firstPa, verdictOf}
 use Rattle.mmu.specs.Bytes.{loadOf, storeRam, insnOf}
 use Rattle.mmu.specs.declared.place.Place.{Place}
 use Rattle.mmu.specs.declared.place.Placed.{Placed}
-use Rattle.mmu.specs.declared.place.Placed.the-variants.{At, Fault}
+use Rattle.mmu.specs.declared.place.Placed.the-variants.{At}
 use Rattle.mmu.specs.declared.place.Verdict.{Verdict}
 use Rattle.mmu.specs.declared.place.Verdict.the-variants.{Inside, Outside}
 use Rattle.mmu.specs.declared.bytes.Got.{Got}
@@ -32,11 +34,11 @@ use Rattle.mmu.specs.declared.ends.StoreEnd.{StoreEnd}
 use Rattle.mmu.specs.declared.ends.FetchEnd.{FetchEnd}
 
 -- the status of an external abort
-abbrev pub external : ℕ
-external = 0x10
+abbrev pub external : Fault
+external = first 0x10
 
-abbrev pub dataAbort : ℕ → Bool → ℕ → Stop
-dataAbort addr write fsc = Stop.Exception (DataAbort addr write fsc)
+abbrev pub dataAbort : ℕ → Bool → Fault → Stop
+dataAbort addr write f = Stop.Exception (dataAbortAt addr write f)
 
 -- it reports the virtual address of the lowest failing byte, which wraps
 abbrev pub externalAbort : ℕ → ℕ → Bool → Stop
@@ -51,8 +53,8 @@ loadedFrom place (Abort i pa) abort va =
     record { «last_pa» = firstPa place; «abort_pa» = pa; answer = Load.Stopped (externalAbort va i false) }
 
 unfoldable pub loadEnd : Placed → ℕ → ℕ → ℕ → List ℕ → ℕ → ℕ → LoadEnd
-loadEnd (Fault addr fsc) last abort base ram va n =
-    record { «last_pa» = last; «abort_pa» = abort; answer = Load.Stopped (dataAbort addr false fsc) }
+loadEnd (Placed.Fault addr f) last abort base ram va n =
+    record { «last_pa» = last; «abort_pa» = abort; answer = Load.Stopped (dataAbort addr false f) }
 loadEnd (At place) last abort base ram va n = loadedFrom place (loadOf base ram place n) abort va
 
 -- STORES
@@ -62,27 +64,27 @@ storeEndBy Inside abort va = record { «abort_pa» = abort; answer = Store.Done 
 storeEndBy (Outside i pa) abort va = record { «abort_pa» = pa; answer = Store.Stopped (externalAbort va i true) }
 
 unfoldable pub storeEnd : Placed → ℕ → ℕ → List ℕ → ℕ → ℕ → StoreEnd
-storeEnd (Fault addr fsc) abort base ram va n =
-    record { «abort_pa» = abort; answer = Store.Stopped (dataAbort addr true fsc) }
+storeEnd (Placed.Fault addr f) abort base ram va n =
+    record { «abort_pa» = abort; answer = Store.Stopped (dataAbort addr true f) }
 storeEnd (At place) abort base ram va n = storeEndBy (verdictOf base (length ram) place n) abort va
 
 -- a store that faults moves no byte
 unfoldable pub storeRamEnd : Placed → ℕ → List ℕ → ℕ → ℕ → List ℕ
-storeRamEnd (Fault addr fsc) base ram n v = ram
+storeRamEnd (Placed.Fault addr f) base ram n v = ram
 storeRamEnd (At place) base ram n v = storeRam base ram place n v
 
 -- FETCHES
 
 abbrev pub fetchedFrom : ℕ → Insn → ℕ → ℕ → FetchEnd
 fetchedFrom pa (Insn.Value v) abort va = record { «abort_pa» = abort; answer = Fetch.Value v }
-fetchedFrom pa Insn.Outside abort va = record { «abort_pa» = pa; answer = Fetch.Aborted (InsnAbort va external) }
+fetchedFrom pa Insn.Outside abort va = record { «abort_pa» = pa; answer = Fetch.Aborted (insnAbortAt va external) }
 
 unfoldable pub fetchEnd : Answer → ℕ → ℕ → List ℕ → ℕ → FetchEnd
-fetchEnd (Status fsc) abort base ram va = record { «abort_pa» = abort; answer = Fetch.Aborted (InsnAbort va fsc) }
+fetchEnd (Status f) abort base ram va = record { «abort_pa» = abort; answer = Fetch.Aborted (insnAbortAt va f) }
 fetchEnd (Address pa) abort base ram va = fetchedFrom pa (insnOf base ram pa) abort va
 
 -- WHERE AN ACCESS WOULD GO
 
 abbrev pub reachedBy : Answer → Reached
 reachedBy (Address pa) = Reached.At pa
-reachedBy (Status fsc) = Reached.Faults
+reachedBy (Status f) = Reached.Faults

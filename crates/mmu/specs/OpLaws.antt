@@ -128,7 +128,7 @@ ram-length c base ram (store va n v) = go (locatedNow c (wordAt base ram 8) va n
   where
     go : (x : Placed) → length (storeRamEnd x base ram n v) ≡ length ram
     go (At place) = store-length base ram place n v
-    go (Fault addr fsc) = refl
+    go (Fault addr fault) = refl
 ram-length c base ram (translate va kind) = refl
 ram-length c base ram (access va n kind) = refl
 ram-length c base ram (load va n) = refl
@@ -147,4 +147,4 @@ write-leaves c base ram va n v k none = go (locatedNow c (wordAt base ram 8) va 
     go : (x : Placed) → ((place : Place) → x ≡ At place → (i : ℕ) → i < n → base + k ≡ addressIn place i → ⊥)
         → getD (storeRamEnd x base ram n v) k 0 ≡ getD ram k 0
     go (At place) free = store-leaves base ram place n v k (free place refl)
-    go (Fault addr fsc) free = refl
+    go (Fault addr fault) free = refl

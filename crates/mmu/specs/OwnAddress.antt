@@ -182,15 +182,15 @@ module _ (c : Core) (base : ℕ) (ram : List ℕ) (va n : ℕ) (kind : Kind) (re
         go : (x : Answer) → first .answer ≡ x → (b : Bool) → crosses (onNow c) va n ≡ b → (y : Answer) → second .answer ≡ y
             → pick (goesOn (first .answer) (crosses (onNow c) va n)) (bothPages va (first .answer) second) (onePage va first) .placed ≡ At place
             → Own c memory va kind i place
-        go (Status fsc) e b q y d p =
-            let z : Fault va fsc ≡ At place = rw e at p in
+        go (Status fault) e b q y d p =
+            let z : Fault va fault ≡ At place = rw e at p in
             let w : _≡_ {A = ℕ} 0 1 = cc in
             absurd (omega arith)
         go (Address pa) e false q y d p =
             let z : At (Whole pa) ≡ At place = rw (e, q) at p in
             subst (Own c memory va kind i) (placed-is _ _ z) (whole-own pa e q)
-        go (Address pa) e true q (Status fsc) d p =
-            let z : Fault (nextPage va) fsc ≡ At place = rw (e, q, d) at p in
+        go (Address pa) e true q (Status fault) d p =
+            let z : Fault (nextPage va) fault ≡ At place = rw (e, q, d) at p in
             let w : _≡_ {A = ℕ} 0 1 = cc in
             absurd (omega arith)
         go (Address pa) e true q (Address pa2) d p =

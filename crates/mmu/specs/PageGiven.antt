@@ -11,6 +11,7 @@ use lib.ListN.{set, length}
 use lib.Seq.{set-getD, getD-set-same}
 use Rattle.word.specs.Bits.{pick}
 use Rattle.word.specs.declared.ram.Word.{Word}
+use Rattle.fault.specs.First.{first}
 use Rattle.walk.specs.Regime.{stage1On, regimeOf}
 use Rattle.walk.specs.Tag.{untagged}
 use Rattle.walk.specs.TagLaws.{untagged-page}
@@ -117,7 +118,7 @@ judged-right : (e : Entry) (user : Bool) (kind : Kind) (va pa : ℕ) → judged 
 unfolding judged
 judged-right e user kind va pa = go (hasRight (e .perms) (rightOf kind user))
   where
-    go : (x : Bool) → pick x (Address (onPage (e .pa) va)) (Status (bitOr 12 (e .level))) ≡ Address pa → (x ≡ true) × (onPage (e .pa) va ≡ pa)
+    go : (x : Bool) → pick x (Address (onPage (e .pa) va)) (Status (first (bitOr 12 (e .level)))) ≡ Address pa → (x ≡ true) × (onPage (e .pa) va ≡ pa)
     go true q = (refl, cc)
     go false q = let z : _≡_ {A = ℕ} 0 1 = cc in absurd (omega arith)
 
@@ -299,7 +300,7 @@ module _ (s : Bank) (who : Who) (kind : Kind) where
           made-entry : serves itsEntry (t .cache .present) (tagIn s who a) ≡ false → (w : Walked) → itsWalk ≡ w → Gives s who kind a pa (step .tlb .cache)
           unfolding translateIn byWalk
           made-entry q (Fault code) x =
-              let z : Status code ≡ Address pa
+              let z : Status (first code) ≡ Address pa
               = sym (ap (λ (y : Walked). byWalk y (queryOf (regimeOf (who .level)) (pageIn s who a)) who (t .cache .present) a kind .answer) x)
               ∙ sym (walk-answer o q) ∙ sym (miss-answer (no-hit m)) ∙ turned-to in
               let n : _≡_ {A = ℕ} 0 1 = cc in

@@ -7,6 +7,7 @@ use lib.Bits.{bitOr}
 use lib.Dec.{eqb}
 use Rattle.word.specs.Bits.{pick}
 use Rattle.word.specs.declared.ram.Word.{Word}
+use Rattle.fault.specs.First.{first}
 use Rattle.walk.specs.Regime.{stage1On, regimeOf}
 use Rattle.walk.specs.Tag.{untagged}
 use Rattle.walk.specs.TagLaws.{untagged-page}
@@ -42,7 +43,7 @@ use Rattle.mmu.specs.Step.{slotAt, translateIn}
 -- an answer as another address of its page gets it
 abbrev pub answerAt : Answer → ℕ → Answer
 answerAt (Address pa) b = Address (pa / 4096 * 4096 + b % 4096)
-answerAt (Status fsc) b = Status fsc
+answerAt (Status f) b = Status f
 
 -- THE ANSWER OF A TURN, by its tests
 
@@ -87,8 +88,8 @@ module _ (a b : ℕ) where
   judged-page e user kind q = go (hasRight (e .perms) (rightOf kind user))
     where
       go : (x : Bool)
-          → pick x (Address (onPage (e .pa) b)) (Status (bitOr 12 (e .level)))
-          ≡ answerAt (pick x (Address (onPage (e .pa) a)) (Status (bitOr 12 (e .level)))) b
+          → pick x (Address (onPage (e .pa) b)) (Status (first (bitOr 12 (e .level))))
+          ≡ answerAt (pick x (Address (onPage (e .pa) a)) (Status (first (bitOr 12 (e .level))))) b
       go true = ap Address (on-page (e .pa) q)
       go false = refl
 

@@ -30,18 +30,18 @@ crosses on va n = on && ltb (inPage va) n
 -- the second page is translated where the first was allowed
 abbrev pub goesOn : Answer → Bool → Bool
 goesOn (Address pa) split = split
-goesOn (Status fsc) split = false
+goesOn (Status f) split = false
 
 -- what one translation found
 abbrev pub placedOne : ℕ → Answer → Placed
 placedOne va (Address pa) = At (Whole pa)
-placedOne va (Status fsc) = Fault va fsc
+placedOne va (Status f) = Fault va f
 
 -- what two found: a fault of the second is at the next page's first address
 abbrev pub placedBoth : ℕ → Answer → Answer → Placed
 placedBoth va (Address pa) (Address pa2) = At (Split (record { «in_page» = inPage va; pa = pa; pa2 = pa2 }))
-placedBoth va (Address pa) (Status fsc) = Fault (nextPage va) fsc
-placedBoth va (Status fsc) b = Fault va fsc
+placedBoth va (Address pa) (Status f) = Fault (nextPage va) f
+placedBoth va (Status f) b = Fault va f
 
 abbrev pub firstPa : Place → ℕ
 firstPa (Whole pa) = pa

@@ -46,19 +46,19 @@ pub data Said : Type 0 where
 
 abbrev pub answerSays : ℕ → Answer → Said
 answerSays va (Address pa) = value pa
-answerSays va (Status fsc) = fault va fsc
+answerSays va (Status f) = fault va (f .fsc)
 
 abbrev pub placedSays : Placed → Said
 placedSays (At place) = lies place
-placedSays (Fault addr fsc) = fault addr fsc
+placedSays (Fault addr f) = fault addr (f .fsc)
 
 abbrev pub reachedSays : Reached → Said
 reachedSays (Reached.At pa) = value pa
 reachedSays Reached.Faults = faults
 
 abbrev pub exceptionSays : Exception → Said
-exceptionSays (DataAbort addr write fsc) = fault addr fsc
-exceptionSays (InsnAbort addr fsc) = fault addr fsc
+exceptionSays (DataAbort a) = fault (a .addr) (a .fault .fsc)
+exceptionSays (InsnAbort a) = fault (a .addr) (a .fault .fsc)
 exceptionSays Undefined = undefined
 exceptionSays (Svc imm) = call imm
 exceptionSays (Hvc imm) = call imm
@@ -91,7 +91,7 @@ memorySays (Outside i pa) va said = fault (wrap (va + i)) 0x10
 
 -- an access: the fault of its translations, or else what memory says
 abbrev pub accessSays : Placed → (Place → Verdict) → ℕ → (Place → Said) → Said
-accessSays (Fault addr fsc) judge va said = fault addr fsc
+accessSays (Fault addr f) judge va said = fault addr (f .fsc)
 accessSays (At place) judge va said = memorySays (judge place) va (said place)
 
 -- whether its n bytes lie in RAM
@@ -102,7 +102,7 @@ module _ (c : Core) (base : ℕ) (ram : List ℕ) (va n : ℕ) where
   load-ends : (x : Placed) (last abort : ℕ)
       → loadSays (loadEnd x last abort base ram va n .answer) ≡ accessSays x (verdictIn base ram n) va (λ p. value (valueAt base ram p n))
   unfolding loadEnd loadOf
-  load-ends (Fault addr fsc) last abort = refl
+  load-ends (Fault addr f) last abort = refl
   load-ends (At place) last abort = go (verdictIn base ram n place) refl
     where
       go : (d : Verdict) → verdictIn base ram n place ≡ d
@@ -113,7 +113,7 @@ module _ (c : Core) (base : ℕ) (ram : List ℕ) (va n : ℕ) where
   store-ends : (x : Placed) (abort : ℕ)
       → storeSays (storeEnd x abort base ram va n .answer) ≡ accessSays x (verdictIn base ram n) va (λ p. done)
   unfolding storeEnd
-  store-ends (Fault addr fsc) abort = refl
+  store-ends (Fault addr f) abort = refl
   store-ends (At place) abort = go (verdictIn base ram n place) refl
     where
       go : (d : Verdict) → verdictIn base ram n place ≡ d
@@ -135,7 +135,7 @@ module _ (c : Core) (base : ℕ) (ram : List ℕ) (va n : ℕ) where
 
 -- a fetch reads four bytes: the fault of its translation, or 0x10, at its own address
 abbrev pub insnSays : ℕ → List ℕ → ℕ → Answer → Said
-insnSays base ram va (Status fsc) = fault va fsc
+insnSays base ram va (Status f) = fault va (f .fsc)
 insnSays base ram va (Address pa) =
     pick (within base (length ram) 4 pa) (value (littleEndian ram 4 (pa - base))) (fault va 0x10)
 
@@ -145,7 +145,7 @@ unfolding fetchOf fetchEnd insnOf
 fetch-says c base ram va = ends (fetchSteppedNow c (wordAt base ram 8) va .answer) _
   where
     ends : (a : Answer) (abort : ℕ) → fetchSays (fetchEnd a abort base ram va .answer) ≡ insnSays base ram va a
-    ends (Status fsc) abort = refl
+    ends (Status f) abort = refl
     ends (Address pa) abort = go (within base (length ram) 4 pa) refl
       where
         go : (b : Bool) → within base (length ram) 4 pa ≡ b

@@ -8,8 +8,11 @@ use crate::bytes::Insn;
 use crate::place;
 use crate::place::Placed;
 use crate::place::Verdict;
+use entry::exception::DataAbort;
 use entry::exception::Exception;
+use entry::exception::InsnAbort;
 use entry::exception::Stop;
+use fault::Fault;
 use tlb::access::Answer;
 use word::ram::Width;
 
@@ -53,10 +56,10 @@ pub struct FetchEnd {
 // The status of an external abort.
 const EXTERNAL: u8 = 0x10;
 
-fn data_abort(addr: u64, write: bool, fsc: u8) -> Stop
-    ensures { λ r. ⌜ r ≡ dataAbort addr write fsc ⌝ }
+fn data_abort(addr: u64, write: bool, fault: Fault) -> Stop
+    ensures { λ r. ⌜ r ≡ dataAbort addr write fault ⌝ }
 {
-    Stop::Exception(Exception::DataAbort { addr, write, fsc })
+    Stop::Exception(Exception::DataAbort(DataAbort { addr, write, fault }))
 }
 
 // The external abort of byte index of an access to va.
@@ -64,7 +67,8 @@ fn external_abort(va: u64, index: u64, write: bool) -> Stop
     ensures { λ r. ⌜ r ≡ externalAbort va index write ⌝ }
 {
     let addr = std::num::wrapping_add_u64(va, index);
-    data_abort(addr, write, EXTERNAL)
+    let fault = fault::first(EXTERNAL);
+    data_abort(addr, write, fault)
 }
 
 // A load keeps the first byte's physical address once it has translated, also where it then aborts.
@@ -80,8 +84,8 @@ pub fn load_end(
     ensures { λ r. ⌜ r ≡ loadEnd placed last abort base (now (ram .entry)) va (bytesIn width) ⌝ }
 {
     match placed {
-        Placed::Fault { addr, fsc } => {
-            let stop = data_abort(addr, false, fsc);
+        Placed::Fault { addr, fault } => {
+            let stop = data_abort(addr, false, fault);
             LoadEnd {
                 last_pa: last,
                 abort_pa: abort,
@@ -122,8 +126,8 @@ pub fn store_end(
         × (now (ram .exit) ≡ storeRamEnd placed base (now (ram .entry)) (bytesIn width) value) ⌝ }
 {
     match placed {
-        Placed::Fault { addr, fsc } => {
-            let stop = data_abort(addr, true, fsc);
+        Placed::Fault { addr, fault } => {
+            let stop = data_abort(addr, true, fault);
             StoreEnd {
                 abort_pa: abort,
                 answer: StoreAnswer::Stopped(stop),
@@ -150,22 +154,25 @@ pub fn fetch_end(at: Answer, abort: u64, base: u64, ram: &[u8], va: u64) -> Fetc
     ensures { λ r. ⌜ r ≡ fetchEnd at abort base (now (ram .entry)) va ⌝ }
 {
     match at {
-        Answer::Status(fsc) => FetchEnd {
+        Answer::Status(fault) => FetchEnd {
             abort_pa: abort,
-            answer: FetchAnswer::Aborted(Exception::InsnAbort { addr: va, fsc }),
+            answer: FetchAnswer::Aborted(Exception::InsnAbort(InsnAbort { addr: va, fault })),
         },
         Answer::Address(pa) => match bytes::insn_at(base, ram, pa) {
             Insn::Value(v) => FetchEnd {
                 abort_pa: abort,
                 answer: FetchAnswer::Value(v),
             },
-            Insn::Outside => FetchEnd {
-                abort_pa: pa,
-                answer: FetchAnswer::Aborted(Exception::InsnAbort {
-                    addr: va,
-                    fsc: EXTERNAL,
-                }),
-            },
+            Insn::Outside => {
+                let fault = fault::first(EXTERNAL);
+                FetchEnd {
+                    abort_pa: pa,
+                    answer: FetchAnswer::Aborted(Exception::InsnAbort(InsnAbort {
+                        addr: va,
+                        fault,
+                    })),
+                }
+            }
         },
     }
 }

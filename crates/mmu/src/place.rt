@@ -4,6 +4,7 @@ ghost use Prim.Native.Nat.{_≤_};
 ghost use Rattle.mmu.specs.Place.{inPage, nextPage, crosses as crossesOf, goesOn, placedOne, placedBoth};
 ghost use Rattle.mmu.specs.Place.{firstPa, byteAt, firstOutside, bytesBefore};
 ghost use Rattle.mmu.specs.AtOnce.{bothInside};
+use fault::Fault;
 use tlb::access::Answer;
 use word::ram;
 
@@ -19,10 +20,10 @@ pub enum Place {
     Split(Pages),
 }
 
-// What the translations of an access found: its place, or a fault's address and status.
+// What the translations of an access found: its place, or a fault and its address.
 pub enum Placed {
     At(Place),
-    Fault { addr: u64, fsc: u8 },
+    Fault { addr: u64, fault: Fault },
 }
 
 // Whether all bytes lie in RAM, or else the lowest that does not, by its index, and its physical address.
@@ -71,7 +72,7 @@ pub fn one(va: u64, first: Answer) -> Placed
 {
     match first {
         Answer::Address(pa) => Placed::At(Place::Whole(pa)),
-        Answer::Status(fsc) => Placed::Fault { addr: va, fsc },
+        Answer::Status(fault) => Placed::Fault { addr: va, fault },
     }
 }
 
@@ -84,9 +85,9 @@ pub fn both(va: u64, first: Answer, second: Answer) -> Placed
     match first {
         Answer::Address(pa) => match second {
             Answer::Address(pa2) => Placed::At(Place::Split(Pages { in_page, pa, pa2 })),
-            Answer::Status(fsc) => Placed::Fault { addr: next, fsc },
+            Answer::Status(fault) => Placed::Fault { addr: next, fault },
         },
-        Answer::Status(fsc) => Placed::Fault { addr: va, fsc },
+        Answer::Status(fault) => Placed::Fault { addr: va, fault },
     }
 }
 

@@ -30,9 +30,9 @@ pub fn kind_word(kind: Kind) -> u64 {
 fn in_words(a: Answer) -> Told {
     match a {
         Answer::Address(pa) => Told { code: 1, value: pa },
-        Answer::Status(fsc) => Told {
+        Answer::Status(fault) => Told {
             code: 8,
-            value: fsc as u64,
+            value: fault.fsc as u64,
         },
     }
 }

@@ -6,6 +6,8 @@ use Prim.Native.Nat.{ℕ}
 use lib.Dec.{eqb}
 use lib.Bits.{bitOr}
 use Rattle.word.specs.declared.ram.Word.{Word}
+use Rattle.fault.specs.First.{first}
+use Rattle.fault.specs.declared.Fault.{Fault}
 use Rattle.walk.specs.Regime.{stage1On, regimeOf}
 use Rattle.walk.specs.Tag.{untagged}
 use Rattle.walk.specs.Walk.{walkOf}
@@ -14,7 +16,7 @@ use Rattle.walk.specs.declared.regime.Regime.the-variants.{El1}
 use Rattle.walk.specs.declared.regime.Bank.{Bank}
 use Rattle.walk.specs.declared.level.Leaf.{Leaf}
 use Rattle.walk.specs.declared.level.Walked.{Walked}
-use Rattle.walk.specs.declared.level.Walked.the-variants.{Mapped, Fault}
+use Rattle.walk.specs.declared.level.Walked.the-variants.{Mapped}
 use Rattle.tlb.specs.Entry.{blank, serves}
 use Rattle.tlb.specs.Hint.{onPage, hintKey, hintFor, fetchFor, fetchFound}
 use Rattle.tlb.specs.Count.{hitCounted, walkCounted}
@@ -57,9 +59,9 @@ module _ (e : Entry) (user : Bool) (kind : Kind) (va right : ℕ) (er : right �
   unfolding judged
   allowed b = rw (← er, b)
 
-  pub refused : hasRight (e .perms) right ≡ false → Status (bitOr 12 (e .level)) ≡ judged e user kind va
+  pub refused : (f : Fault) → hasRight (e .perms) right ≡ false → f ≡ first (bitOr 12 (e .level)) → Status f ≡ judged e user kind va
   unfolding judged
-  refused b = rw (← er, b)
+  refused f b ef = rw (← er, b, ef)
 
 -- what is asked, and the changes
 module _ (s : Bank) (who : Who) (va : ℕ) (r : Regime) (on : Bool) (er : r ≡ regimeOf (who .level)) (eo : on ≡ stage1On s r) where
@@ -78,9 +80,10 @@ module _ (w : Walked) (q : Query) (who : Who) (at : Present) (kind : Kind) (va :
   unfolding byWalk
   leaf-made leaf u a ew em eu ea = rw (ew, ea, em, eu)
 
-  pub none-made : (code : ℕ) → w ≡ Fault code → m ≡ blank → record { answer = Status code; source = NoLeaf; made = m } ≡ byWalk w q who at va kind
+  pub none-made : (code : ℕ) (f : Fault) → w ≡ Walked.Fault code → f ≡ first code → m ≡ blank
+      → record { answer = Status f; source = NoLeaf; made = m } ≡ byWalk w q who at va kind
   unfolding byWalk
-  none-made code ew em = rw (ew, em)
+  none-made code f ew ef em = rw (ew, ef, em)
 
 pub walk-made : (w v : Walked) (q : Query) (who : Who) (at : Present) (kind : Kind) (va : ℕ) (t : Resolved) → w ≡ v
     → t ≡ byWalk w q who at va kind → t ≡ byWalk v q who at va kind
@@ -110,8 +113,8 @@ module _ (hinted : Bool) (level va : ℕ) (a : Answer) (old : Hint) where
   pub unhinted : hinted ≡ false → old ≡ hintAfter hinted level va a old
   unhinted eh = rw eh
 
-  pub faulted : (code : ℕ) → a ≡ Status code → old ≡ hintAfter hinted level va a old
-  faulted code ea = go hinted
+  pub faulted : (f : Fault) → a ≡ Status f → old ≡ hintAfter hinted level va a old
+  faulted f ea = go hinted
     where
       go : (b : Bool) → old ≡ hintAfter b level va a old
       go true = rw ea
@@ -121,8 +124,8 @@ module _ (level va : ℕ) (a : Answer) (old : FetchHint) where
   pub fetch-noted : (pa : ℕ) (f : FetchHint) → a ≡ Address pa → f ≡ fetchFor va level pa → f ≡ fetchAfter level va a old
   fetch-noted pa f ea ef = ef ∙ rw ea
 
-  pub fetch-faulted : (code : ℕ) → a ≡ Status code → old ≡ fetchAfter level va a old
-  fetch-faulted code ea = rw ea
+  pub fetch-faulted : (f : Fault) → a ≡ Status f → old ≡ fetchAfter level va a old
+  fetch-faulted f ea = rw ea
 
 -- a translation that no hint serves
 module _ (s : Bank) (who : Who) (at : Present) (e : Entry) (va : ℕ) (kind : Kind) (memory : ℕ → Word) (a : Asked) (ea : a ≡ askOf s who va) where

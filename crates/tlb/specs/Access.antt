@@ -4,6 +4,7 @@ use Prim.Native.Nat.{ℕ, _+_, _*_, _/_, _%_, _^_}
 use lib.Dec.{eqb}
 use lib.Bits.{bitOr}
 use Rattle.word.specs.Bits.{pick}
+use Rattle.fault.specs.First.{first}
 use Rattle.walk.specs.declared.regime.Regime.{Regime}
 use Rattle.walk.specs.declared.regime.Regime.the-variants.{El1, El2, El3}
 use Rattle.tlb.specs.Hint.{onPage}
@@ -63,4 +64,4 @@ hasRight perms right = eqb (perms / 2 ^ right % 2) 1
 
 -- the entry's page with the low bits of the address, or a permission fault of its level
 unfoldable pub judged : Entry → Bool → Kind → ℕ → Answer
-judged e user kind va = pick (hasRight (e .perms) (rightOf kind user)) (Address (onPage (e .pa) va)) (Status (bitOr 12 (e .level)))
+judged e user kind va = pick (hasRight (e .perms) (rightOf kind user)) (Address (onPage (e .pa) va)) (Status (first (bitOr 12 (e .level))))

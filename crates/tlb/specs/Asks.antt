@@ -33,11 +33,11 @@ pub record Given : Type 0 where
 -- on after an address, not after a fault
 abbrev pub onward {ℓ} : {A : Type ℓ} → Answer → A → A → A
 onward (Address pa) x y = x
-onward (Status code) x y = y
+onward (Status f) x y = y
 
 pub onward-same : {A : Type 0} (a : Answer) (x : A) → onward a x x ≡ x
 onward-same (Address pa) x = refl
-onward-same (Status code) x = refl
+onward-same (Status f) x = refl
 
 -- In a cache, by the accesses that registers, level and tables make of kinds and addresses: the answer to one
 -- translation and the cache after it; the answers to a step's, and the cache after them.

@@ -8,6 +8,7 @@ use borrow.Author.Tests.{eq-eqb, ne-eqb, eqb-true, eqb-false, leb-false, le-leb}
 use lib.Dec.{eqb, leb, eqb·suc-zero}
 use lib.Bits.{bitOr, or-shifted}
 use Rattle.word.specs.Bits.{pick}
+use Rattle.fault.specs.First.{first}
 use Rattle.walk.specs.declared.regime.Regime.{Regime}
 use Rattle.walk.specs.declared.regime.Regime.the-variants.{El1, El2, El3}
 use Rattle.tlb.specs.Entry.{serves, untagged, spanOf, pageDropped, asidDropped}
@@ -158,7 +159,7 @@ judged-is g r e a m =
     let has : hasRight (e .perms) (rightOf (a .kind) (userOf (a .regime) (a .who) (a .kind))) ≡ eqb (e .perms / needIn a % 2) 1 =
     ap (λ (u : Bool). hasRight (e .perms) (rightOf (a .kind) u)) (user-is (a .regime) (a .who .level) (a .who .mark) (a .kind))
     ∙ right-is (a .kind) _ (e .perms) in
-    λ i. pick (has i) (Address (on-aligned (e .pa) (a .va) (m .aligned) i)) (Status (or-level (e .level) (m .level) i))
+    λ i. pick (has i) (Address (on-aligned (e .pa) (a .va) (m .aligned) i)) (Status (first (or-level (e .level) (m .level) i)))
 
 -- DROPS
 

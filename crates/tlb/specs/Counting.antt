@@ -63,11 +63,11 @@ module _ (a : Access) (m : Model) where
 
   note-counts : (x : Answer) (n : Model) → noting x a n .counts ≡ n .counts
   note-counts (Address pa) n = refl
-  note-counts (Status code) n = refl
+  note-counts (Status f) n = refl
 
   note-fetch-counts : (x : Answer) (n : Model) → notingFetch x a n .counts ≡ n .counts
   note-fetch-counts (Address pa) n = refl
-  note-fetch-counts (Status code) n = refl
+  note-fetch-counts (Status f) n = refl
 
   try-counts : (h : Slot ℕ) → tried h a m .after .counts ≡ countedBy (howTried h (howUnhinted a m)) (m .counts)
   unfolding tried noted

@@ -1,11 +1,12 @@
 -- The cache as the requirement tells it: slots that hold at most one line, places that hold at most one hint, the counters, and what is
 -- pending. No generations, no tags, no keys. It shares no function with the code's definitions that it judges: only the types of what goes in
--- and out.
+-- and out, and how a fault is made.
 use mathlib.Core.Bool.{Bool, true, false, not, _&&_}
 use Prim.Native.Nat.{ℕ, zero, suc, _+_, _-_, _*_, _/_, _%_, _^_}
 use lib.Dec.{eqb}
 use lib.Bits.{bitXor}
 use Rattle.word.specs.Bits.{pick}
+use Rattle.fault.specs.First.{first}
 use Rattle.walk.specs.declared.regime.Regime.{Regime}
 use Rattle.walk.specs.declared.regime.Regime.the-variants.{El1, El2, El3}
 use Rattle.walk.specs.declared.level.Leaf.{Leaf}
@@ -302,7 +303,7 @@ needIn a = need (a .kind) (asUser (a .regime) (a .who .level) (a .who .mark) (a 
 
 -- 0x0C plus the level, where the line lacks that bit
 unfoldable pub judge : Line → Access → Answer
-judge l a = pick (eqb (l .perms / needIn a % 2) 1) (addressIn (l .frame) (a .va)) (Status (12 + l .level))
+judge l a = pick (eqb (l .perms / needIn a % 2) 1) (addressIn (l .frame) (a .va)) (Status (first (12 + l .level)))
 
 abbrev pub reachOf : Bool → ℕ → Reach
 reachOf true a = everyone
@@ -321,7 +322,7 @@ lineOfLeaf leaf a asid =
 
 -- a walk counts one; a leaf is kept and judged; a fault is the answer and leaves no line
 unfoldable pub walked : Walked → Access → Model → Outcome
-walked (Fault code) a m = record { answer = Status code; after = counting oneWalk m }
+walked (Fault code) a m = record { answer = Status (first code); after = counting oneWalk m }
 walked (Mapped leaf) a m =
     record { answer = judge (lineOfLeaf leaf a (m .asid)) a; after = keep (lineOfLeaf leaf a (m .asid)) (counting oneWalk m) }
 
@@ -341,7 +342,7 @@ knownOf a pa = record { page = a .va / 4096; level = a .who .level; frame = pa /
 
 abbrev pub noting : Answer → Access → Model → Model
 noting (Address pa) a m = keepHint (hintPlace (a .kind) (a .va)) (knownOf a pa) m
-noting (Status code) a m = m
+noting (Status f) a m = m
 
 unfoldable pub noted : Access → Outcome → Outcome
 noted a o = record { answer = o .answer; after = noting (o .answer) a (o .after) }
@@ -367,7 +368,7 @@ translate a m = hinted (hintable (a .kind) (a .who .mark)) a m
 -- a fetch asks the fetch hint first, whatever the mark, and leaves one
 abbrev pub notingFetch : Answer → Access → Model → Model
 notingFetch (Address pa) a m = keepFetch (knownOf a pa) m
-notingFetch (Status code) a m = m
+notingFetch (Status f) a m = m
 
 unfoldable pub notedFetch : Access → Outcome → Outcome
 notedFetch a o = record { answer = o .answer; after = notingFetch (o .answer) a (o .after) }

@@ -4,6 +4,7 @@ use mathlib.Core.Bool.{Bool, true, false}
 use Prim.Native.Nat.{ℕ}
 use Rattle.word.specs.Bits.{pick}
 use Rattle.word.specs.declared.ram.Word.{Word}
+use Rattle.fault.specs.First.{first}
 use Rattle.walk.specs.Regime.{stage1On, regimeOf}
 use Rattle.walk.specs.Tag.{untagged}
 use Rattle.walk.specs.Walk.{walkOf}
@@ -73,7 +74,7 @@ byWalk (Mapped leaf) q who at va kind =
       source = FromWalk;
       made = entryFor leaf at (q .tag);
     }
-byWalk (Fault code) q who at va kind = record { answer = Status code; source = NoLeaf; made = blank }
+byWalk (Fault code) q who at va kind = record { answer = Status (first code); source = NoLeaf; made = blank }
 
 -- by the entry, where it answers for the tag; else by the walk
 unfoldable pub resolveWith : Walked → Query → Who → Present → Entry → ℕ → Kind → Resolved
@@ -107,10 +108,10 @@ keptBy NoLeaf old made = old
 -- an address that was allowed becomes a hint, where hints may serve
 abbrev pub hintAfter : Bool → ℕ → ℕ → Answer → Hint → Hint
 hintAfter true level va (Address pa) old = hintFor va level pa
-hintAfter true level va (Status code) old = old
+hintAfter true level va (Status f) old = old
 hintAfter false level va a old = old
 
 -- an address that a fetch was allowed becomes the fetch hint
 abbrev pub fetchAfter : ℕ → ℕ → Answer → FetchHint → FetchHint
 fetchAfter level va (Address pa) old = fetchFor va level pa
-fetchAfter level va (Status code) old = old
+fetchAfter level va (Status f) old = old

@@ -137,8 +137,8 @@ module _ (a : Access) (t : Tlb) (x : Answer) (e : Entry) (k : Counts) (o : Outco
               after = hint-kept pa ∙ ap (keepHint (placeFor a) (knownOf a pa)) (f .after);
               well = set-hint-sound _ _ _ (f .well) (omega arith);
             })
-        go (Status code) e =
-            let oe : o .answer ≡ Status code = sym (f .answer) ∙ e in
+        go (Status fault) e =
+            let oe : o .answer ≡ Status fault = sym (f .answer) ∙ e in
             rw (e, oe) (record { answer = refl; after = unnoted .after; well = unnoted .well })
 
 -- TRANSLATIONS
@@ -249,8 +249,8 @@ module _ (a : Access) (t : Tlb) (s : WellFormed t) (fits : LeafLevel (a .walk)) 
         after = fetch-kept pa ∙ ap (keepFetch (knownOf a pa)) (fetch-miss .after);
         well = set-fetch-sound _ _ (fetch-miss .well) (omega arith) (omega arith);
       })
-  fetch-noted (Status code) e =
-      let oe : unhinted (a .on) a (live t) .answer ≡ Status code = sym (fetch-miss .answer) ∙ e in
+  fetch-noted (Status fault) e =
+      let oe : unhinted (a .on) a (live t) .answer ≡ Status fault = sym (fetch-miss .answer) ∙ e in
       rw (e, oe) (record { answer = refl; after = fetch-miss .after; well = fetch-miss .well })
 
   by-fetch : (b : Bool) → fetchServes now (a .who .level) (a .va) ≡ b

@@ -37,7 +37,7 @@ access k w =
 abbrev answered : Slot Answer → ℕ
 answered empty = 0
 answered (holds (Address pa)) = pa
-answered (holds (Status code)) = code
+answered (holds (Status f)) = f .fsc
 
 abbrev row : Seen → List ℕ
 row s = answered (s .answer) ∷ s .counts .hits ∷ s .counts .walks ∷ s .counts .flushes ∷ s .counts .drops ∷ s .counts .epoch ∷ []

@@ -4,6 +4,7 @@ ghost use Prim.Native.Nat.{_≤_};
 ghost use Rattle.tlb.specs.Access.{isFetch, mayHint, regimeNumber, tagOf, asUser, userOf, ownRights};
 ghost use Rattle.tlb.specs.Access.{rightPlace, rightOf, judged};
 use crate::entry::Entry;
+use fault::Fault;
 use walk::regime::Regime;
 
 pub enum Kind {
@@ -18,10 +19,10 @@ pub struct Who {
     pub mark: bool,
 }
 
-// The address that an access goes to, or the fault status code.
+// The address that an access goes to, or its fault.
 pub enum Answer {
     Address(u64),
-    Status(u8),
+    Status(Fault),
 }
 
 fn is_fetch(kind: Kind) -> bool
@@ -123,6 +124,7 @@ pub fn judge(e: Entry, user: bool, kind: Kind, va: u64) -> Answer
     if allowed {
         Answer::Address(e.pa | (va % 4096))
     } else {
-        Answer::Status(12 | e.level)
+        let status = fault::first(12 | e.level);
+        Answer::Status(status)
     }
 }

@@ -93,9 +93,10 @@ fn ends(w: Walked, q: Query, who: Who, at: Present, kind: Kind, va: u64) -> Reso
             }
         }
         Walked::Fault(code) => {
+            let status = fault::first(code);
             let made = entry::blank();
             Resolved {
-                answer: Answer::Status(code),
+                answer: Answer::Status(status),
                 source: Source::NoLeaf,
                 made,
             }

@@ -4,8 +4,11 @@ use borrow.Author.Needs.{needs}
 use Rattle.a72abi.proofs.op.data_abort_of.Statement.{statement}
 use Rattle.a72abi.proofs.op.data_abort_of.Tie as tie
 
-cast-fsc : tie.Need-cast-fsc
-cast-fsc c = search needs
+cast-first : tie.Need-cast-first
+cast-first c = search needs
+
+first-requires : tie.Need-first-requires
+first-requires c κs = search needs
 
 returns : tie.Need-returns
 returns c = search (data-aborts, needs)
@@ -20,4 +23,4 @@ returns-4 : tie.Need-returns-4
 returns-4 c = search (data-aborts, needs)
 
 pub data-abort-of-spec : {M : Type 1} → statement M
-data-abort-of-spec = tie.close (tie.spec cast-fsc returns returns-2 returns-3 returns-4)
+data-abort-of-spec = tie.close (tie.spec cast-first first-requires returns returns-2 returns-3 returns-4)

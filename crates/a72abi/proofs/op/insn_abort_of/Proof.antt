@@ -4,8 +4,11 @@ use borrow.Author.Needs.{needs}
 use Rattle.a72abi.proofs.op.insn_abort_of.Statement.{statement}
 use Rattle.a72abi.proofs.op.insn_abort_of.Tie as tie
 
-cast-fsc : tie.Need-cast-fsc
-cast-fsc c = search needs
+cast-first : tie.Need-cast-first
+cast-first c = search needs
+
+first-requires : tie.Need-first-requires
+first-requires c κs = search needs
 
 returns : tie.Need-returns
 returns c = search (insn-fits, insn-wide, needs)
@@ -14,4 +17,4 @@ returns-2 : tie.Need-returns-2
 returns-2 c = search (insn-fits, insn-wide, needs)
 
 pub insn-abort-of-spec : {M : Type 1} → statement M
-insn-abort-of-spec = tie.close (tie.spec cast-fsc returns returns-2)
+insn-abort-of-spec = tie.close (tie.spec cast-first first-requires returns returns-2)

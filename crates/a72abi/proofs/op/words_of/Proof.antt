@@ -10,41 +10,41 @@ enum-told c = search needs
 enum-known-e : tie.Need-enum-known-e
 enum-known-e c = search needs
 
-cast-t12 : tie.Need-cast-t12
-cast-t12 c = search needs
+cast-t9 : tie.Need-cast-t9
+cast-t9 c = search needs
 
 enum-known-e-2 : tie.Need-enum-known-e-2
 enum-known-e-2 c = search needs
 
-cast-t13 : tie.Need-cast-t13
-cast-t13 c = search needs
+cast-t10 : tie.Need-cast-t10
+cast-t10 c = search needs
 
 enum-known-e-3 : tie.Need-enum-known-e-3
 enum-known-e-3 c = search needs
 
-cast-t14 : tie.Need-cast-t14
-cast-t14 c = search needs
+cast-t11 : tie.Need-cast-t11
+cast-t11 c = search needs
 
 enum-known-e-4 : tie.Need-enum-known-e-4
 enum-known-e-4 c = search needs
 
-cast-t15 : tie.Need-cast-t15
-cast-t15 c = search needs
+cast-t12 : tie.Need-cast-t12
+cast-t12 c = search needs
 
 enum-known-e-5 : tie.Need-enum-known-e-5
 enum-known-e-5 c = search needs
 
-cast-t18 : tie.Need-cast-t18
-cast-t18 c = search needs
+cast-t15 : tie.Need-cast-t15
+cast-t15 c = search needs
 
-cast-t19 : tie.Need-cast-t19
-cast-t19 c = search needs
+cast-t16 : tie.Need-cast-t16
+cast-t16 c = search needs
 
 enum-known-e-6 : tie.Need-enum-known-e-6
 enum-known-e-6 c = search needs
 
-cast-t20 : tie.Need-cast-t20
-cast-t20 c = search needs
+cast-t17 : tie.Need-cast-t17
+cast-t17 c = search needs
 
 enum-told-2 : tie.Need-enum-told-2
 enum-told-2 c = search needs
@@ -82,18 +82,18 @@ words-of-spec =
     (tie.spec
     enum-told
     enum-known-e
-    cast-t12
+    cast-t9
     enum-known-e-2
-    cast-t13
+    cast-t10
     enum-known-e-3
-    cast-t14
+    cast-t11
     enum-known-e-4
-    cast-t15
+    cast-t12
     enum-known-e-5
-    cast-t18
-    cast-t19
+    cast-t15
+    cast-t16
     enum-known-e-6
-    cast-t20
+    cast-t17
     enum-told-2
     returns
     returns-2

@@ -10,14 +10,14 @@ enum-known-e c = search needs
 flag-word-requires : tie.Need-flag-word-requires
 flag-word-requires c κs = search needs
 
-cast-t9 : tie.Need-cast-t9
-cast-t9 c = search needs
+cast-t6 : tie.Need-cast-t6
+cast-t6 c = search needs
 
 enum-known-e-2 : tie.Need-enum-known-e-2
 enum-known-e-2 c = search needs
 
-cast-t10 : tie.Need-cast-t10
-cast-t10 c = search needs
+cast-t7 : tie.Need-cast-t7
+cast-t7 c = search needs
 
 enum-told : tie.Need-enum-told
 enum-told c = search needs
@@ -67,9 +67,9 @@ exception-words-spec =
     (tie.spec
     enum-known-e
     flag-word-requires
-    cast-t9
+    cast-t6
     enum-known-e-2
-    cast-t10
+    cast-t7
     enum-told
     enum-told-2
     enum-told-3

@@ -4,8 +4,11 @@ use borrow.Author.Needs.{needs}
 use Rattle.inplace.proofs.translate.answer_of.Statement.{statement}
 use Rattle.inplace.proofs.translate.answer_of.Tie as tie
 
-cast-t6 : tie.Need-cast-t6
-cast-t6 c = search needs
+cast-first : tie.Need-cast-first
+cast-first c = search needs
+
+first-requires : tie.Need-first-requires
+first-requires c κs = search needs
 
 returns : tie.Need-returns
 returns c = search (answer-zero, needs)
@@ -14,4 +17,4 @@ returns-2 : tie.Need-returns-2
 returns-2 c = search (answer-other, needs)
 
 pub answer-of-spec : {M : Type 1} → statement M
-answer-of-spec = tie.close (tie.spec cast-t6 returns returns-2)
+answer-of-spec = tie.close (tie.spec cast-first first-requires returns returns-2)

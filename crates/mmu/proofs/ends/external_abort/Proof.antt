@@ -7,6 +7,9 @@ use Rattle.mmu.proofs.Answers.{external-is}
 wrapping-add-u64-requires : tie.Need-wrapping-add-u64-requires
 wrapping-add-u64-requires c κs = search needs
 
+first-requires : tie.Need-first-requires
+first-requires c κs = search needs
+
 data-abort-requires : tie.Need-data-abort-requires
 data-abort-requires c κs = search needs
 
@@ -14,4 +17,4 @@ returns : tie.Need-returns
 returns c = search (external-is, needs)
 
 pub external-abort-spec : {M : Type 1} → statement M
-external-abort-spec = tie.close (tie.spec wrapping-add-u64-requires data-abort-requires returns)
+external-abort-spec = tie.close (tie.spec wrapping-add-u64-requires first-requires data-abort-requires returns)

@@ -19,6 +19,9 @@ enum-known-v c = search needs
 enum-told : tie.Need-enum-told
 enum-told c = search needs
 
+first-requires : tie.Need-first-requires
+first-requires c κs = search needs
+
 returns : tie.Need-returns
 returns c = search (fetch-fault, needs)
 
@@ -37,6 +40,7 @@ fetch-end-spec =
     insn-at-requires
     enum-known-v
     enum-told
+    first-requires
     returns
     returns-2
     returns-3)

@@ -10,6 +10,9 @@ right-of-requires c κs = search needs
 shr-allowed : tie.Need-shr-allowed
 shr-allowed c = search needs
 
+first-requires : tie.Need-first-requires
+first-requires c κs = search needs
+
 returns : tie.Need-returns
 returns c = search (allowed, needs)
 
@@ -17,4 +20,4 @@ returns-2 : tie.Need-returns-2
 returns-2 c = search (refused, needs)
 
 pub judge-spec : {M : Type 1} → statement M
-judge-spec = tie.close (tie.spec right-of-requires shr-allowed returns returns-2)
+judge-spec = tie.close (tie.spec right-of-requires shr-allowed first-requires returns returns-2)

@@ -19,6 +19,9 @@ judge-requires c κs = search needs
 enum-known-w-2 : tie.Need-enum-known-w-2
 enum-known-w-2 c = search needs
 
+first-requires : tie.Need-first-requires
+first-requires c κs = search needs
+
 blank-requires : tie.Need-blank-requires
 blank-requires c κs = search needs
 
@@ -37,6 +40,7 @@ ends-spec =
     entry-for-requires
     judge-requires
     enum-known-w-2
+    first-requires
     blank-requires
     returns
     returns-2)

@@ -1,0 +1,2 @@
+-- What the contracts of `fault` cite.
+pub mod First
