@@ -69,7 +69,7 @@ untold-other n h = sym (rw (ne-eqb n 0 h))
 
 untold-code : (a : Answer) (n r : ℕ) → n ≡ codeOf a → r ≡ pick (eqb n 0) 0 256 → r ≡ codeBy (reaching (reachedBy a))
 untold-code (Address pa) n r e q = q ∙ ap (λ (k : ℕ). pick (eqb k 0) 0 256) e
-untold-code (Status fsc) n r e q = q ∙ rw (e, ne-eqb (256 + fsc) 0 (λ z. omega arith))
+untold-code (Status f) n r e q = q ∙ rw (e, ne-eqb (256 + f .fsc) 0 (λ z. omega arith))
 
 untold-value : (a : Answer) (old : ℕ) → valueOf a old ≡ valueBy (reaching (reachedBy a)) old
 untold-value (Address pa) old = refl

@@ -20,6 +20,7 @@ use Rattle.walk.specs.Regime.{regimeOf, stage1On}
 use Rattle.tlb.specs.declared.access.Kind.{Kind}
 use Rattle.tlb.specs.declared.access.Kind.the-variants.{Read, Write}
 use Rattle.tlb.specs.declared.access.Answer.{Answer}
+use Rattle.fault.specs.declared.Fault.{Fault as Status1}
 use Rattle.tlb.specs.declared.access.Answer.the-variants.{Address, Status}
 use Rattle.tlb.specs.declared.access.Who.{Who}
 use Rattle.tlb.specs.declared.hint.Physical.{Physical}
@@ -175,17 +176,17 @@ module _ (ws : List ℕ) (base : ℕ) (ram : List ℕ) (va : ℕ) (w : Width) (n
   hint-store-ram x ys ep q = q ∙ ram-at base ram (bytesIn w) pa x ∙ hint-store-run x ep .1
 
 -- by its translation
-load-fault : (d : Core) (base : ℕ) (ram : List ℕ) (va n fsc old : ℕ) (ws xs : List ℕ) → Moved ws xs d → Tells (loadEnds d (Fault va fsc) base ram va n) ws (256 + fsc) old va xs
+load-fault : (d : Core) (base : ℕ) (ram : List ℕ) (va n : ℕ) (f : Status1) (old : ℕ) (ws xs : List ℕ) → Moved ws xs d → Tells (loadEnds d (Fault va f) base ram va n) ws (256 + f .fsc) old va xs
 unfolding loadEnds loadEnd keptLast withLast withAbort movedTo
-load-fault d base ram va n fsc old ws xs m = record { code = refl; value = refl; words = m; kept = record { same = λ l h. absurd (omega arith) } }
+load-fault d base ram va n f old ws xs m = record { code = refl; value = refl; words = m; kept = record { same = λ l h. absurd (omega arith) } }
 
-store-fault : (d : Core) (base : ℕ) (ram : List ℕ) (va n fsc old : ℕ) (ws xs : List ℕ) → Moved ws xs d → Tells (storeEnds d (Fault va fsc) base ram va n) ws (256 + fsc) old va xs
+store-fault : (d : Core) (base : ℕ) (ram : List ℕ) (va n : ℕ) (f : Status1) (old : ℕ) (ws xs : List ℕ) → Moved ws xs d → Tells (storeEnds d (Fault va f) base ram va n) ws (256 + f .fsc) old va xs
 unfolding storeEnds storeEnd keptAbort withAbort movedTo
-store-fault d base ram va n fsc old ws xs m = record { code = refl; value = refl; words = m; kept = record { same = λ l h. absurd (omega arith) } }
+store-fault d base ram va n f old ws xs m = record { code = refl; value = refl; words = m; kept = record { same = λ l h. absurd (omega arith) } }
 
-ram-fault : (base : ℕ) (ram : List ℕ) (va n fsc v : ℕ) → storeRamEnd (Fault va fsc) base ram n v ≡ ram
+ram-fault : (base : ℕ) (ram : List ℕ) (va n : ℕ) (f : Status1) (v : ℕ) → storeRamEnd (Fault va f) base ram n v ≡ ram
 unfolding storeRamEnd
-ram-fault base ram va n fsc v = refl
+ram-fault base ram va n f v = refl
 
 module _ (ws xs : List ℕ) (base : ℕ) (ram : List ℕ) (va : ℕ) (w : Width) (near : bytesIn w ≤ inPage va) (code : ℕ) where
   module _ (kind : Kind) (miss : hintFound (held ws) va kind ≡ Unknown) (a : Answer) (ea : foundTo (held ws) (wordAt base ram 8) va kind .answer ≡ a)

@@ -15,6 +15,8 @@ use Rattle.word.specs.declared.ram.Sized.the-variants.{Bytes, Refused as NoWidt
 use Rattle.tlb.specs.declared.access.Kind.{Kind}
 use Rattle.tlb.specs.declared.access.Kind.the-variants.{Read, Write}
 use Rattle.tlb.specs.declared.access.Answer.{Answer}
+use Rattle.fault.specs.declared.Fault.{Fault as Status1}
+use Rattle.entry.specs.Abort.{dataAbortAt, insnAbortAt}
 use Rattle.tlb.specs.declared.access.Answer.the-variants.{Address, Status}
 use Rattle.entry.specs.declared.exception.Exception.{Exception}
 use Rattle.entry.specs.declared.exception.Exception.the-variants as Exception
@@ -84,24 +86,24 @@ module _ (fault : ℕ) (b : ℕ → ℕ) (flag : ℕ) where
   shaped-done = record { from = λ n v en ev. rw en; small = λ t. never t }
 
 module _ (tag : ℕ) (a : ℕ → ℕ) where
-  shaped-fault : (va fsc : ℕ) → Shaped (Fault va fsc) tag a 8 (λ v. va) 0
+  shaped-fault : (va : ℕ) (f : Status1) → Shaped (Fault va f) tag a 8 (λ v. va) 0
   unfolding wordsBy
-  shaped-fault va fsc =
-      record { from = λ n v en ev. rw (en, ne-eqb (256 + fsc) 0 (λ e. omega arith), le-ltb (256 + fsc) 256 (omega arith), past-all fsc); small = λ t. never t }
+  shaped-fault va f =
+      record { from = λ n v en ev. rw (en, ne-eqb (256 + f .fsc) 0 (λ e. omega arith), le-ltb (256 + f .fsc) 256 (omega arith), past-all (f .fsc)); small = λ t. never t }
 
   shaped-faults : Shaped Faults tag a 2 (λ v. 0) 0
   unfolding wordsBy
   shaped-faults = record { from = λ n v en ev. rw en; small = λ t. never t }
 
-  shaped-data : (addr : ℕ) (write : Bool) (fsc : ℕ) → Shaped (Stopped (Stop.Exception (Exception.DataAbort addr write fsc))) tag a 9 same (flag write 1)
+  shaped-data : (addr : ℕ) (write : Bool) (f : Status1) → Shaped (Stopped (Stop.Exception (dataAbortAt addr write f))) tag a 9 same (flag write 1)
   unfolding wordsBy same
-  shaped-data addr write fsc =
-      record { from = λ n v en ev. rw (en, ev, ne-eqb (256 + fsc) 0 (λ e. omega arith), le-ltb (256 + fsc) 256 (omega arith), past-all fsc); small = λ t. never t }
+  shaped-data addr write f =
+      record { from = λ n v en ev. rw (en, ev, ne-eqb (256 + f .fsc) 0 (λ e. omega arith), le-ltb (256 + f .fsc) 256 (omega arith), past-all (f .fsc)); small = λ t. never t }
 
-  shaped-insn : (va fsc : ℕ) → Shaped (Stopped (Stop.Exception (Exception.InsnAbort va fsc))) tag a 10 (λ v. va) 0
+  shaped-insn : (va : ℕ) (f : Status1) → Shaped (Stopped (Stop.Exception (insnAbortAt va f))) tag a 10 (λ v. va) 0
   unfolding wordsBy
-  shaped-insn va fsc =
-      record { from = λ n v en ev. rw (en, ne-eqb (256 + fsc) 0 (λ e. omega arith), le-ltb (256 + fsc) 256 (omega arith), past-all fsc); small = λ t. never t }
+  shaped-insn va f =
+      record { from = λ n v en ev. rw (en, ne-eqb (256 + f .fsc) 0 (λ e. omega arith), le-ltb (256 + f .fsc) 256 (omega arith), past-all (f .fsc)); small = λ t. never t }
 
 -- each operation's
 translation-shaped : (va : ℕ) (x : Answer) → Shaped (translation va x) 1 same 8 (λ v. va) 0
