@@ -163,6 +163,12 @@ kind-4 n e = sym (rw e)
 pub kind-none : (n : ℕ) → (n ≡ 1 → ⊥) → (n ≡ 2 → ⊥) → (n ≡ 4 → ⊥) → NoKind ≡ kindOf n
 kind-none n a b c = sym (rw (ne-eqb n 1 a, ne-eqb n 2 b, ne-eqb n 4 c))
 
+pub kind-low : (n : ℕ) → n < 2 → (n ≡ 1 → ⊥) → NoKind ≡ kindOf n
+kind-low n h a = kind-none n a (λ e. omega arith) (λ e. omega arith)
+
+pub kind-high : (n : ℕ) → 2 ≤ n → (n ≡ 2 → ⊥) → (n ≡ 4 → ⊥) → NoKind ≡ kindOf n
+kind-high n h b c = kind-none n (λ e. omega arith) b c
+
 pub kind-gives : (base : ℕ) (ram ws : List ℕ) (va : ℕ) (p : Kinds) (k : Kind) (n old v : ℕ) (xs : List ℕ) → Known k ≡ p → Gives (Calls.Known (Call.Translate k va)) base ram ws n old v xs
     → Gives (translateCall p va) base ram ws n old v xs
 unfolding translateCall

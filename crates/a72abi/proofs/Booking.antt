@@ -1,4 +1,4 @@
--- Each call by the book: refused, or its operation, on plain values, for `search`.
+-- Calls that a check refuses, and calls that pass, by their replies, on plain values, for `search`.
 use mathlib.Core.Path.{_≡_, refl, sym, ap, _∙_}
 use mathlib.Core.Bool.{not, _||_}
 use mathlib.Core.List.{List, [], _∷_}

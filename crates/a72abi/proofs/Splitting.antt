@@ -93,7 +93,7 @@ module _ (ws : List ℕ) (base len : ℕ) (who : Who) (ew : who ≡ held ws .who
 abbrev twoPages : Core → ℕ → ℕ → Bool
 twoPages c va n = crosses (stage1On (bankNow c) (regimeOf (c .who .level))) va n
 
--- two pages, or not at a glance
+-- two pages, and level and window at once
 module _ (c : Core) (base len va n : ℕ) (b : Bool) (eb : b ≡ clearOf c base len) where
   pub apart-not : b ≡ false → false ≡ apartOf c base len va n
   unfolding apartOf

@@ -69,13 +69,14 @@ fn load_split(state: &mut State, va: u64, size: u64, ans: &mut u64, base: u64, r
     ensures { λ r. ⌜ Gives (Calls.Known (Call.Load va size)) base (now (ram .entry)) (now (state .entry)) r
         (now (ans .entry)) (now (ans .exit)) (now (state .exit)) ⌝ }
 {
+    let n = ram.len();
     match split::load(state, va, size, base, ram) {
         Split::Value { pa, v } => {
             state::put_last(state, pa);
             *ans = v;
             0
         }
-        Split::Unknown => slow::load(state, va, size, ans, base, ram),
+        Split::Unknown => slow::load(state, va, size, ans, base, &ram[0..n]),
     }
 }
 

@@ -68,11 +68,18 @@ pub extern "C" fn a72_translate(
         if u64::MAX - len < base {
             translate_checked(state, va, kind, ans, base, ram)
         } else {
-            match kind {
-                1 => translate::address(state, va, Kind::Read, ans, base, ram),
-                2 => translate::address(state, va, Kind::Write, ans, base, ram),
-                4 => translate::address(state, va, Kind::Fetch, ans, base, ram),
-                _ => 64,
+            if kind < 2 {
+                if kind == 1 {
+                    translate::address(state, va, Kind::Read, ans, base, ram)
+                } else {
+                    64
+                }
+            } else {
+                match kind {
+                    2 => translate::address(state, va, Kind::Write, ans, base, ram),
+                    4 => translate::address(state, va, Kind::Fetch, ans, base, ram),
+                    _ => 64,
+                }
             }
         }
     } else {

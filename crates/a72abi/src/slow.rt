@@ -201,7 +201,8 @@ fn load_one(state: &mut State, va: u64, width: Width, ans: &mut u64, base: u64, 
         (now (state .entry)) r (now (ans .entry)) (now (ans .exit)) (now (state .exit)) ⌝ }
 {
     let mut pa: u64 = 0;
-    let code = translate::find(state, va, Kind::Read, &mut pa, base, ram);
+    let n = ram.len();
+    let code = translate::find(state, va, Kind::Read, &mut pa, base, &ram[0..n]);
     if code != 0 {
         *ans = va;
         return code;

@@ -1,6 +1,6 @@
 -- `a72abi::memory::a72_translate` meets its contract.
 use Rattle.a72abi.proofs.Passing.{clear-here, ram-clear}
-use Rattle.a72abi.proofs.Addressing.{translation-tells, kind-gives, no-kind-gives, kind-1, kind-2, kind-4, kind-none}
+use Rattle.a72abi.proofs.Addressing.{translation-tells, kind-gives, no-kind-gives, kind-1, kind-2, kind-4, kind-low, kind-high}
 use Rattle.a72abi.specs.PromiseLaws.{promise-translate}
 use Rattle.cpu.specs.Check.{missedOf}
 use borrow.Author.Needs.{needs}
@@ -36,18 +36,21 @@ unfolding missedOf
 returns-2 c = promise-translate _ _ _ _ _ _ _ _ _ (search (kind-gives, kind-1, ram-clear, clear-here, translation-tells, needs))
 
 returns-3 : tie.Need-returns-3
-unfolding missedOf
-returns-3 c = promise-translate _ _ _ _ _ _ _ _ _ (search (kind-gives, kind-2, ram-clear, clear-here, translation-tells, needs))
+returns-3 c = promise-translate _ _ _ _ _ _ _ _ _ (search (no-kind-gives, kind-low, needs))
 
 returns-4 : tie.Need-returns-4
 unfolding missedOf
-returns-4 c = promise-translate _ _ _ _ _ _ _ _ _ (search (kind-gives, kind-4, ram-clear, clear-here, translation-tells, needs))
+returns-4 c = promise-translate _ _ _ _ _ _ _ _ _ (search (kind-gives, kind-2, ram-clear, clear-here, translation-tells, needs))
 
 returns-5 : tie.Need-returns-5
-returns-5 c = promise-translate _ _ _ _ _ _ _ _ _ (search (no-kind-gives, kind-none, needs))
+unfolding missedOf
+returns-5 c = promise-translate _ _ _ _ _ _ _ _ _ (search (kind-gives, kind-4, ram-clear, clear-here, translation-tells, needs))
 
 returns-6 : tie.Need-returns-6
-returns-6 c = promise-translate _ _ _ _ _ _ _ _ _ (search needs)
+returns-6 c = promise-translate _ _ _ _ _ _ _ _ _ (search (no-kind-gives, kind-high, needs))
+
+returns-7 : tie.Need-returns-7
+returns-7 c = promise-translate _ _ _ _ _ _ _ _ _ (search needs)
 
 pub a72-translate-spec : {M : Type 1} → statement M
 a72-translate-spec =
@@ -65,4 +68,5 @@ a72-translate-spec =
     returns-3
     returns-4
     returns-5
-    returns-6)
+    returns-6
+    returns-7)
