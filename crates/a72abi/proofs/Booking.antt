@@ -1,4 +1,4 @@
--- Each call by the book: refused, or its operation, on plain values, for `search`.
+-- Calls that a check refuses, and calls that pass, by their replies, on plain values, for `search`.
 use mathlib.Core.Path.{_≡_, refl, sym, ap, _∙_}
 use mathlib.Core.Bool.{not, _||_}
 use mathlib.Core.List.{List, [], _∷_}
@@ -69,11 +69,11 @@ module _ (ws : List ℕ) (base : ℕ) (ram : List ℕ) (call : Call) (n : ℕ) (
       go zero e = absurd (h e)
       go (suc k) e = rw (← en, e)
 
-  runs : n ≡ 0 → stepOf (held ws) base ram call ≡ runOf (held ws) base ram call
+  pub runs : n ≡ 0 → stepOf (held ws) base ram call ≡ runOf (held ws) base ram call
   unfolding stepOf
   runs e = rw (← en, e)
 
-  runs-ram : n ≡ 0 → ramAfter (held ws) base ram call ≡ ramOf (held ws) base ram call
+  pub runs-ram : n ≡ 0 → ramAfter (held ws) base ram call ≡ ramOf (held ws) base ram call
   unfolding ramAfter
   runs-ram e = rw (← en, e)
 
@@ -97,21 +97,12 @@ module _ (ws : List ℕ) (base : ℕ) (ram : List ℕ) (call : Call) (n : ℕ) (
     pub run-ram : (ys zs : List ℕ) → ys ≡ zs → zs ≡ ramOf (held ws) base ram call → ys ≡ ramAfter (held ws) base ram call
     run-ram ys zs e q = e ∙ q ∙ sym (runs-ram z)
 
+    pub passed-ram-is : (ys : List ℕ) → ys ≡ ramOf (held ws) base ram call → ys ≡ ramAfter (held ws) base ram call
+    passed-ram-is ys q = q ∙ sym (runs-ram z)
+
     by-answer : {A : Type 0} (to : A → Reply) (a b : A) (r : Reply) → r ≡ to a → a ≡ b → to b ≡ runOf (held ws) base ram call .reply
         → r ≡ stepOf (held ws) base ram call .reply
     by-answer to a b r er e q = run-reply r (er ∙ ap to e ∙ q)
-
-    pub translated-reply : (va : ℕ) (a b : Answer) (r : Reply) → r ≡ translation va a → a ≡ b → translation va b ≡ runOf (held ws) base ram call .reply
-        → r ≡ stepOf (held ws) base ram call .reply
-    translated-reply va = by-answer (translation va)
-
-    pub reached-reply : (a b : Reached) (r : Reply) → r ≡ reaching a → a ≡ b → reaching b ≡ runOf (held ws) base ram call .reply
-        → r ≡ stepOf (held ws) base ram call .reply
-    reached-reply = by-answer reaching
-
-    pub fetched-reply : (a b : FetchAnswer) (r : Reply) → r ≡ fetching a → a ≡ b → fetching b ≡ runOf (held ws) base ram call .reply
-        → r ≡ stepOf (held ws) base ram call .reply
-    fetched-reply = by-answer fetching
 
     pub stored-reply : (a b : StoreAnswer) (r : Reply) → r ≡ storing a → a ≡ b → storing b ≡ runOf (held ws) base ram call .reply
         → r ≡ stepOf (held ws) base ram call .reply
@@ -120,70 +111,3 @@ module _ (ws : List ℕ) (base : ℕ) (ram : List ℕ) (call : Call) (n : ℕ) (
     pub written-reply : (a b : WriteAnswer) (r : Reply) → r ≡ registering a → a ≡ b → registering b ≡ runOf (held ws) base ram call .reply
         → r ≡ stepOf (held ws) base ram call .reply
     written-reply = by-answer registering
-
-module _ (ws : List ℕ) (base : ℕ) (ram : List ℕ) (va size : ℕ)
-    (n : ℕ) (en : n ≡ missedOf (held ws .who .level) base (length ram) (Call.Load va size)) (z : n ≡ 0) where
-  abbrev load-step : Stepped
-  load-step = stepOf (held ws) base ram (Call.Load va size)
-
-  load-width : (p : Sized) (w : Width) → p ≡ widthOf size → p ≡ Bytes w → runOf (held ws) base ram (Call.Load va size) ≡ loadBy (Bytes w) (held ws) base ram va
-  unfolding runOf
-  load-width p w e q = ap (λ (x : Sized). loadBy x (held ws) base ram va) (sym e ∙ q)
-
-  load-none : (p : Sized) → p ≡ widthOf size → p ≡ NoWidth → runOf (held ws) base ram (Call.Load va size) ≡ ends (held ws) (Refused 3)
-  unfolding runOf
-  load-none p e q = ap (λ (x : Sized). loadBy x (held ws) base ram va) (sym e ∙ q)
-
-  pub load-reply : (p : Sized) (w : Width) (a : LoadAnswer) (r : Reply) → p ≡ widthOf size → p ≡ Bytes w
-      → a ≡ readOf (held ws) base ram va (bytesIn w) .answer → r ≡ loading a → r ≡ load-step .reply
-  load-reply p w a r e q ea er =
-      run-reply ws base ram (Call.Load va size) n en z _ (er ∙ ap loading ea ∙ sym (ap (λ (s : Stepped). s .reply) (load-width p w e q)))
-
-  pub load-core : (p : Sized) (w : Width) (xs : List ℕ) → p ≡ widthOf size → p ≡ Bytes w
-      → Moved ws xs (readOf (held ws) base ram va (bytesIn w) .core) → Moved ws xs (load-step .core)
-  load-core p w xs e q m = run-core ws base ram (Call.Load va size) n en z xs _ m (sym (ap (λ (s : Stepped). s .core) (load-width p w e q)))
-
-  pub load-size : (p : Sized) → p ≡ widthOf size → p ≡ NoWidth → Refused 3 ≡ load-step .reply
-  load-size p e q = run-reply ws base ram (Call.Load va size) n en z _ (sym (ap (λ (s : Stepped). s .reply) (load-none p e q)))
-
-  pub load-size-core : (p : Sized) → p ≡ widthOf size → p ≡ NoWidth → Moved ws ws (load-step .core)
-  load-size-core p e q = run-core ws base ram (Call.Load va size) n en z ws _ stays (sym (ap (λ (s : Stepped). s .core) (load-none p e q)))
-
-module _ (ws : List ℕ) (base : ℕ) (ram : List ℕ) (va size value : ℕ)
-    (n : ℕ) (en : n ≡ missedOf (held ws .who .level) base (length ram) (Call.Store va size value)) (z : n ≡ 0) where
-  abbrev store-step : Stepped
-  store-step = stepOf (held ws) base ram (Call.Store va size value)
-
-  store-width : (p : Sized) (w : Width) → p ≡ widthOf size → p ≡ Bytes w
-      → runOf (held ws) base ram (Call.Store va size value) ≡ storeBy (Bytes w) (held ws) base ram va
-  unfolding runOf
-  store-width p w e q = ap (λ (x : Sized). storeBy x (held ws) base ram va) (sym e ∙ q)
-
-  store-none : (p : Sized) → p ≡ widthOf size → p ≡ NoWidth → runOf (held ws) base ram (Call.Store va size value) ≡ ends (held ws) (Refused 3)
-  unfolding runOf
-  store-none p e q = ap (λ (x : Sized). storeBy x (held ws) base ram va) (sym e ∙ q)
-
-  pub store-reply : (p : Sized) (w : Width) (a : StoreAnswer) (r : Reply) → p ≡ widthOf size → p ≡ Bytes w
-      → a ≡ writeOf (held ws) base ram va (bytesIn w) .answer → r ≡ storing a → r ≡ store-step .reply
-  store-reply p w a r e q ea er =
-      run-reply ws base ram (Call.Store va size value) n en z _ (er ∙ ap storing ea ∙ sym (ap (λ (s : Stepped). s .reply) (store-width p w e q)))
-
-  pub store-core : (p : Sized) (w : Width) (xs : List ℕ) → p ≡ widthOf size → p ≡ Bytes w
-      → Moved ws xs (writeOf (held ws) base ram va (bytesIn w) .core) → Moved ws xs (store-step .core)
-  store-core p w xs e q m = run-core ws base ram (Call.Store va size value) n en z xs _ m (sym (ap (λ (s : Stepped). s .core) (store-width p w e q)))
-
-  pub store-ram : (p : Sized) (w : Width) (ys : List ℕ) → p ≡ widthOf size → p ≡ Bytes w
-      → ys ≡ ramAfterWrite (held ws) base ram va (bytesIn w) value → ys ≡ ramAfter (held ws) base ram (Call.Store va size value)
-  unfolding ramOf
-  store-ram p w ys e q r =
-      r ∙ ap (λ (x : Sized). storeRamBy x (held ws) base ram va value) (sym q ∙ e) ∙ sym (runs-ram ws base ram (Call.Store va size value) n en z)
-
-  pub store-size : (p : Sized) → p ≡ widthOf size → p ≡ NoWidth → Refused 3 ≡ store-step .reply
-  store-size p e q = run-reply ws base ram (Call.Store va size value) n en z _ (sym (ap (λ (s : Stepped). s .reply) (store-none p e q)))
-
-  pub store-size-core : (p : Sized) → p ≡ widthOf size → p ≡ NoWidth → Moved ws ws (store-step .core)
-  store-size-core p e q = run-core ws base ram (Call.Store va size value) n en z ws _ stays (sym (ap (λ (s : Stepped). s .core) (store-none p e q)))
-
-  pub store-size-ram : (p : Sized) → p ≡ widthOf size → p ≡ NoWidth → ram ≡ ramAfter (held ws) base ram (Call.Store va size value)
-  unfolding ramOf
-  store-size-ram p e q = ap (λ (x : Sized). storeRamBy x (held ws) base ram va value) (sym q ∙ e) ∙ sym (runs-ram ws base ram (Call.Store va size value) n en z)

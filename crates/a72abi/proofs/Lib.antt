@@ -2,8 +2,9 @@ pub mod Ends
 pub mod Naming
 pub mod Replying
 pub mod Booking
-pub mod Glancing
+pub mod Passing
+pub mod Addressing
 pub mod Bytewise
+pub mod OnePage
 pub mod Splitting
-pub mod Founding
 pub mod Stepping

@@ -13,6 +13,11 @@ use Rattle.entry.specs.declared.exception.Stop.{Stop}
 use Rattle.entry.specs.declared.exception.Stop.the-variants as Stop
 use Rattle.cpu.specs.declared.call.Reply.{Reply}
 use Rattle.cpu.specs.declared.call.Reply.the-variants.{Refused, Done, Value, Faults, Stopped}
+use Rattle.mmu.specs.declared.ends.LoadAnswer.{LoadAnswer}
+use Rattle.mmu.specs.declared.ends.LoadAnswer.the-variants as Load
+use Rattle.mmu.specs.declared.ends.StoreAnswer.{StoreAnswer}
+use Rattle.mmu.specs.declared.ends.StoreAnswer.the-variants as Store
+use Rattle.cpu.specs.Step.{loading, storing}
 use Rattle.a72abi.specs.Replies.{exceptionCode, stopCode, codeBy, exceptionValue, stopValue, valueBy, four, exceptionWords, stopWords, wordsBy}
 
 module _ (e : Exception) where
@@ -167,6 +172,19 @@ module _ (p : Reply) where
   pub stopped-words : (s : Stop) (l : List ℕ) → p ≡ Stopped s → l ≡ stopWords s → l ≡ wordsBy p
   unfolding wordsBy
   stopped-words s l q e = e ∙ sym (rw q)
+
+-- the answers of loads and stores
+pub load-stop-code : (a : LoadAnswer) (s : Stop) (n : ℕ) → a ≡ Load.Stopped s → n ≡ stopCode s → n ≡ codeBy (loading a)
+load-stop-code a s n e q = rw e q
+
+pub load-stop-value : (a : LoadAnswer) (s : Stop) (v old : ℕ) → a ≡ Load.Stopped s → v ≡ stopValue s old → v ≡ valueBy (loading a) old
+load-stop-value a s v old e q = rw e q
+
+pub store-stop-code : (a : StoreAnswer) (s : Stop) (n : ℕ) → a ≡ Store.Stopped s → n ≡ stopCode s → n ≡ codeBy (storing a)
+store-stop-code a s n e q = rw e q
+
+pub store-stop-value : (a : StoreAnswer) (s : Stop) (v old : ℕ) → a ≡ Store.Stopped s → v ≡ stopValue s old → v ≡ valueBy (storing a) old
+store-stop-value a s v old e q = rw e q
 
 pub ruleset codes-told = (data-code, insn-code, undefined-code, svc-code, hvc-code, smc-code, brk-code, pc-alignment-code, stop-code, none-code, stopped-code, refused-code, done-code, faults-code, fault-code, value-code)
 

@@ -1,4 +1,4 @@
--- Loads and stores over two pages whose hints serve are what the book says, on plain values, for `search`.
+-- Loads and stores over two pages whose hints serve are what the call says, on plain values, for `search`.
 use mathlib.Core.Path.{_≡_, refl, sym, ap, subst, _∙_}
 use mathlib.Core.Bool.{Bool, true, false, _&&_}
 use mathlib.Core.List.{List}
@@ -56,7 +56,11 @@ use Rattle.a72abi.specs.Quick.{Clear, clearOf}
 use Rattle.a72abi.specs.Splits.{apartOf, pagesAt, valueFrom, loadBoth, madeBoth, ramBoth, splitLoad, splitMade, splitRam}
 use Rattle.a72abi.specs.declared.split.Split.{Split}
 use Rattle.a72abi.specs.declared.split.Split.the-variants as Split
-use Rattle.a72abi.proofs.Bytewise.{size-is, false-true, kept-last, kept-abort, load-runs, store-runs, again-code, again-value, again-ram, again-core}
+use Rattle.a72abi.proofs.Bytewise.{size-is, false-true, kept-last, kept-abort, load-runs, store-runs}
+use Rattle.a72abi.proofs.OnePage.{same-gives, same-ram}
+use Rattle.a72abi.specs.Kept.{kept-done}
+use Rattle.a72abi.specs.Promise.{Gives}
+use Rattle.a72abi.specs.declared.op.Calls.the-variants.{Known}
 
 -- THE TESTS OF THE CODE
 
@@ -89,7 +93,7 @@ module _ (ws : List ℕ) (base len : ℕ) (who : Who) (ew : who ≡ held ws .who
 abbrev twoPages : Core → ℕ → ℕ → Bool
 twoPages c va n = crosses (stage1On (bankNow c) (regimeOf (c .who .level))) va n
 
--- two pages, or not at a glance
+-- two pages, and level and window at once
 module _ (c : Core) (base len va n : ℕ) (b : Bool) (eb : b ≡ clearOf c base len) where
   pub apart-not : b ≡ false → false ≡ apartOf c base len va n
   unfolding apartOf
@@ -190,7 +194,7 @@ module _ (c : Core) (base : ℕ) (ram : List ℕ) (va n : ℕ) (b : Bool) (eb : 
       unfolding splitRam
       ram-on pa v ys e q = q ∙ sym (rw (apart-here ∙ t, sym ep ∙ e))
 
--- WHAT THE GLANCE SAYS
+-- WHAT THE HINTS SAY
 
 record Says (c : Core) (base len va n pa : ℕ) (kind : Kind) : Type 0 where
   clear : Clear c base len
@@ -271,7 +275,7 @@ module _ (c : Core) (base : ℕ) (ram : List ℕ) (va n : ℕ) where
       go true (At a) Unknown e = refl
       go true (At a) (At d) e = rw e
 
--- AND WHAT THE BOOK SAYS
+-- AND WHAT THE CALL SAYS
 
 module _ (c : Core) (base : ℕ) (ram : List ℕ) (va n pa : ℕ) (kind : Kind) (s : Says c base (length ram) va n pa kind) where
   found-first : translateOf c (wordAt base ram 8) va kind ≡ answering c (Address pa)
@@ -362,72 +366,49 @@ module _ (c : Core) (base : ℕ) (ram : List ℕ) (va size : ℕ) (h : length ra
 
 -- as the code says it
 module _ (ws : List ℕ) (base : ℕ) (ram : List ℕ) (va size : ℕ) (h : length ram < 2 ^ 64) (k : known size ≡ true) where
-  module _ (s : Split) (pa v : ℕ) (es : s ≡ splitLoad (held ws) base ram va size) (e : s ≡ Split.Value pa v) where
-    load-is : stepOf (held ws) base ram (Call.Load va size) ≡ ends (withLast (held ws) pa) (Value v)
-    load-is = load-apart (held ws) base ram va size h k pa v (sym es ∙ e)
-
-    pub split-code : 0 ≡ codeBy (stepOf (held ws) base ram (Call.Load va size) .reply)
-    split-code = sym (ap (λ (x : Stepped). codeBy (x .reply)) load-is)
-
-    pub split-value : (old : ℕ) → v ≡ valueBy (stepOf (held ws) base ram (Call.Load va size) .reply) old
-    split-value old = sym (ap (λ (x : Stepped). valueBy (x .reply) old) load-is)
-
-    pub split-core : (xs : List ℕ) → Moved ws xs (withLast (held ws) pa) → Moved ws xs (stepOf (held ws) base ram (Call.Load va size) .core)
-    split-core xs m = moved-as m (sym (ap (λ (x : Stepped). x .core) load-is))
+  pub split-load : (s : Split) (pa v old : ℕ) (xs : List ℕ) → s ≡ splitLoad (held ws) base ram va size → s ≡ Split.Value pa v → Moved ws xs (withLast (held ws) pa)
+      → Gives (Known (Call.Load va size)) base ram ws 0 old v xs
+  split-load s pa v old xs es e m =
+      let t = load-apart (held ws) base ram va size h k pa v (sym es ∙ e) in
+      record {
+        code = sym (ap (λ (x : Stepped). codeBy (x .reply)) t);
+        value = sym (ap (λ (x : Stepped). valueBy (x .reply) old) t);
+        words = moved-as m (sym (ap (λ (x : Stepped). x .core) t));
+        kept = kept-done ws xs;
+      }
 
   module _ (made : Bool) (value : ℕ) (ys : List ℕ) (em : made ≡ splitMade (held ws) base ram va size) (ey : ys ≡ splitRam (held ws) base ram va size value) where
-    module _ (t : made ≡ true) where
-      store-is : (stepOf (held ws) base ram (Call.Store va size value) ≡ ends (held ws) Done) × (ramAfter (held ws) base ram (Call.Store va size value) ≡ splitRam (held ws) base ram va size value)
-      store-is = store-apart (held ws) base ram va size h k value (sym em ∙ t)
+    pub split-store : (old : ℕ) → made ≡ true → Gives (Known (Call.Store va size value)) base ram ws 0 old old ws
+    split-store old t =
+        let s = store-apart (held ws) base ram va size h k value (sym em ∙ t) .0 in
+        record {
+          code = sym (ap (λ (x : Stepped). codeBy (x .reply)) s);
+          value = sym (ap (λ (x : Stepped). valueBy (x .reply) old) s);
+          words = moved-as stays (sym (ap (λ (x : Stepped). x .core) s));
+          kept = kept-done ws ws;
+        }
 
-      pub put-code : 0 ≡ codeBy (stepOf (held ws) base ram (Call.Store va size value) .reply)
-      put-code = sym (ap (λ (x : Stepped). codeBy (x .reply)) (store-is .0))
-
-      pub put-value : (old : ℕ) → old ≡ valueBy (stepOf (held ws) base ram (Call.Store va size value) .reply) old
-      put-value old = sym (ap (λ (x : Stepped). valueBy (x .reply) old) (store-is .0))
-
-      pub put-ram : ys ≡ ramAfter (held ws) base ram (Call.Store va size value)
-      put-ram = ey ∙ sym (store-is .1)
-
-      pub put-core : Moved ws ws (stepOf (held ws) base ram (Call.Store va size value) .core)
-      put-core = moved-as stays (sym (ap (λ (x : Stepped). x .core) (store-is .0)))
+    pub split-ram : made ≡ true → ys ≡ ramAfter (held ws) base ram (Call.Store va size value)
+    split-ram t = ey ∙ sym (store-apart (held ws) base ram va size h k value (sym em ∙ t) .1)
 
     module _ (f : made ≡ false) where
       unsplit : ys ≡ ram
       unsplit = ey ∙ split-kept (held ws) base ram va size value (sym em ∙ f)
 
-      pub unput-code : (n : ℕ) → n ≡ codeBy (stepOf (held ws) base ys (Call.Store va size value) .reply) → n ≡ codeBy (stepOf (held ws) base ram (Call.Store va size value) .reply)
-      unput-code = again-code ws base ram va size value ys unsplit
+      pub unsplit-gives : (n old v : ℕ) (xs : List ℕ) → Gives (Known (Call.Store va size value)) base ys ws n old v xs → Gives (Known (Call.Store va size value)) base ram ws n old v xs
+      unsplit-gives n old v xs = same-gives ws base ram va size value n old v ys xs unsplit
 
-      pub unput-value : (v old : ℕ) → v ≡ valueBy (stepOf (held ws) base ys (Call.Store va size value) .reply) old → v ≡ valueBy (stepOf (held ws) base ram (Call.Store va size value) .reply) old
-      unput-value = again-value ws base ram va size value ys unsplit
-
-      pub unput-ram : (zs : List ℕ) → zs ≡ ramAfter (held ws) base ys (Call.Store va size value) → zs ≡ ramAfter (held ws) base ram (Call.Store va size value)
-      unput-ram = again-ram ws base ram va size value ys unsplit
-
-      pub unput-core : (xs : List ℕ) → Moved ws xs (stepOf (held ws) base ys (Call.Store va size value) .core) → Moved ws xs (stepOf (held ws) base ram (Call.Store va size value) .core)
-      unput-core = again-core ws base ram va size value ys unsplit
+      pub unsplit-ram : (zs : List ℕ) → zs ≡ ramAfter (held ws) base ys (Call.Store va size value) → zs ≡ ramAfter (held ws) base ram (Call.Store va size value)
+      unsplit-ram = same-ram ws base ram va size value 0 0 0 ys ws unsplit
 
 -- a size by its number
-module _ (ws : List ℕ) (base : ℕ) (ram : List ℕ) (va size n : ℕ) (e : size ≡ n) where
-  pub same-load-code : (r : ℕ) → r ≡ codeBy (stepOf (held ws) base ram (Call.Load va n) .reply) → r ≡ codeBy (stepOf (held ws) base ram (Call.Load va size) .reply)
-  same-load-code r q = rw e q
+module _ (ws : List ℕ) (base : ℕ) (ram : List ℕ) (va size n : ℕ) (e : size ≡ n) (k old v : ℕ) (xs : List ℕ) where
+  pub same-load : Gives (Known (Call.Load va n)) base ram ws k old v xs → Gives (Known (Call.Load va size)) base ram ws k old v xs
+  same-load g = rw e g
 
-  pub same-load-value : (v old : ℕ) → v ≡ valueBy (stepOf (held ws) base ram (Call.Load va n) .reply) old → v ≡ valueBy (stepOf (held ws) base ram (Call.Load va size) .reply) old
-  same-load-value v old q = rw e q
+  pub same-store : (value : ℕ) → Gives (Known (Call.Store va n value)) base ram ws k old v xs → Gives (Known (Call.Store va size value)) base ram ws k old v xs
+  same-store value g = rw e g
 
-  pub same-load-core : (xs : List ℕ) → Moved ws xs (stepOf (held ws) base ram (Call.Load va n) .core) → Moved ws xs (stepOf (held ws) base ram (Call.Load va size) .core)
-  same-load-core xs m = rw e m
-
-  module _ (value : ℕ) where
-    pub same-store-code : (r : ℕ) → r ≡ codeBy (stepOf (held ws) base ram (Call.Store va n value) .reply) → r ≡ codeBy (stepOf (held ws) base ram (Call.Store va size value) .reply)
-    same-store-code r q = rw e q
-
-    pub same-store-value : (v old : ℕ) → v ≡ valueBy (stepOf (held ws) base ram (Call.Store va n value) .reply) old → v ≡ valueBy (stepOf (held ws) base ram (Call.Store va size value) .reply) old
-    same-store-value v old q = rw e q
-
-    pub same-store-ram : (ys : List ℕ) → ys ≡ ramAfter (held ws) base ram (Call.Store va n value) → ys ≡ ramAfter (held ws) base ram (Call.Store va size value)
-    same-store-ram ys q = rw e q
-
-    pub same-store-core : (xs : List ℕ) → Moved ws xs (stepOf (held ws) base ram (Call.Store va n value) .core) → Moved ws xs (stepOf (held ws) base ram (Call.Store va size value) .core)
-    same-store-core xs m = rw e m
+pub same-store-ram : (ws : List ℕ) (base : ℕ) (ram : List ℕ) (va size n value : ℕ) (ys : List ℕ) → size ≡ n → ys ≡ ramAfter (held ws) base ram (Call.Store va n value)
+    → ys ≡ ramAfter (held ws) base ram (Call.Store va size value)
+same-store-ram ws base ram va size n value ys e q = rw e q

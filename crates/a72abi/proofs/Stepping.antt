@@ -1,208 +1,307 @@
 -- Every call by its words, on plain values, for `search`.
 use mathlib.Core.Path.{_≡_, refl, sym, ap, subst, _∙_}
-use mathlib.Core.Bool.{Bool, true, false}
+use mathlib.Core.Bool.{Bool, true, false, not}
 use mathlib.Core.List.{List, []}
-use Prim.Native.Nat.{ℕ, zero, suc, _%_, _<_, _≤_}
+use Prim.Native.Nat.{ℕ, zero, suc, _+_, _-_, _%_, _<_, _≤_}
 use native.Mathlib.Nat.{mod-eq-of-lt, pos-of-ne-zero}
 use native.Mathlib.Omega.{arith}
-use borrow.Author.Tests.{ne-eqb}
+use borrow.Author.Tests.{ne-eqb, lt-ltb, le-ltb}
 use lib.Dec.{ltb}
-use Rattle.word.specs.Bits.{pick}
+use lib.ListN.{length}
+use Rattle.word.specs.Bits.{pick, wrap, flag}
+use Rattle.word.specs.Ram.{wordAt, widthOf, bytesIn}
+use Rattle.word.specs.declared.ram.Sized.{Sized}
+use Rattle.word.specs.declared.ram.Sized.the-variants.{Bytes, Refused as NoWidth}
 use Rattle.tlb.specs.declared.access.Kind.{Kind}
+use Rattle.tlb.specs.declared.access.Kind.the-variants.{Read, Write}
+use Rattle.tlb.specs.declared.access.Answer.{Answer}
+use Rattle.fault.specs.declared.Fault.{Fault as Status1}
+use Rattle.entry.specs.Abort.{dataAbortAt, insnAbortAt}
+use Rattle.tlb.specs.declared.access.Answer.the-variants.{Address, Status}
 use Rattle.entry.specs.declared.exception.Exception.{Exception}
+use Rattle.entry.specs.declared.exception.Exception.the-variants as Exception
+use Rattle.entry.specs.declared.exception.Stop.the-variants as Stop
+use Rattle.mmu.specs.Place.{verdictOf}
+use Rattle.mmu.specs.Bytes.{loadOf, insnOf}
+use Rattle.mmu.specs.Ends.{external, loadedFrom, loadEnd, storeEndBy, storeEnd, fetchedFrom, fetchEnd}
+use Rattle.mmu.specs.Ops.{locatedNow, fetchSteppedNow, translateOf, dataPaOf, fetchPaOf, readOf, writeOf, fetchOf}
 use Rattle.mmu.specs.declared.core.Core.{Core}
-use Rattle.cpu.specs.Check.{missedOf}
-use Rattle.cpu.specs.Step.{refusedOr, missedBy, runOf, ramOf, stepOf, ramAfter}
+use Rattle.mmu.specs.declared.place.Placed.{Placed}
+use Rattle.mmu.specs.declared.place.Placed.the-variants.{At, Fault as NotPlaced}
+use Rattle.mmu.specs.declared.place.Verdict.{Verdict}
+use Rattle.mmu.specs.declared.place.Verdict.the-variants as Verdict
+use Rattle.mmu.specs.declared.bytes.Got.{Got}
+use Rattle.mmu.specs.declared.bytes.Got.the-variants as Got
+use Rattle.mmu.specs.declared.bytes.Insn.{Insn}
+use Rattle.mmu.specs.declared.bytes.Insn.the-variants as Insn
+use Rattle.mmu.specs.declared.ends.Reached.{Reached}
+use Rattle.mmu.specs.declared.ends.Reached.the-variants as Reach
+use Rattle.cpu.specs.Check.{missedOf, passes, known}
+use Rattle.cpu.specs.Step.{translation, reaching, loading, storing, fetching, loadBy, storeBy, refusedOr, missedBy, runOf, stepOf, ramAfter, ends}
+use Rattle.cpu.specs.Demand1.{writes, quiet}
 use Rattle.cpu.specs.declared.call.Call.{Call}
 use Rattle.cpu.specs.declared.call.Call.the-variants as Call
-use Rattle.cpu.specs.declared.call.Encoding.{Encoding}
 use Rattle.cpu.specs.declared.call.Reply.{Reply}
-use Rattle.cpu.specs.declared.call.Reply.the-variants.{Refused, Done}
+use Rattle.cpu.specs.declared.call.Reply.the-variants.{Refused, Done, Value, Faults, Fault, Stopped}
 use Rattle.cpu.specs.declared.call.Stepped.{Stepped}
 use Rattle.words.specs.Held.{held}
 use Rattle.words.specs.Moved.{Moved, moved-as}
 use Rattle.insys.specs.Early.{never}
 use Rattle.a72abi.specs.Ops.{abortCall, markCall}
-use Rattle.a72abi.specs.Promise.{Promise, Setting, Runs}
-use Rattle.a72abi.specs.Replies.{codeBy}
+use Rattle.a72abi.specs.Kept.{unmoved}
+use Rattle.a72abi.specs.Inside.{Steps, wordsFrom}
+use Rattle.a72abi.specs.Promise.{Promise, Setting, Runs, Gives}
+use Rattle.a72abi.specs.PromiseLaws.{tag-unmoved}
+use Rattle.a72abi.specs.Replies.{codeBy, valueBy, wordsBy, four}
 use Rattle.a72abi.proofs.Booking.{refused-reply, run-reply}
 use Rattle.a72abi.specs.declared.op.Calls.{Calls}
 use Rattle.a72abi.specs.declared.op.Calls.the-variants as Calls
 use Rattle.a72abi.specs.declared.op.Exceptions.{Exceptions}
 use Rattle.a72abi.specs.declared.op.Exceptions.the-variants as Exceptions
 
-either-way : (n : ℕ) (ram : List ℕ) → refusedOr n (λ m. ram) ram ≡ ram
-either-way zero ram = refl
-either-way (suc n) ram = refl
+-- A CALL'S WORDS FROM ITS NUMBER AND VALUE
 
-translate-ram : (c : Core) (base : ℕ) (ram : List ℕ) (kind : Kind) (va : ℕ) → ram ≡ ramAfter c base ram (Call.Translate kind va)
-unfolding ramAfter ramOf
-translate-ram c base ram kind va = sym (either-way (missedBy c base ram (Call.Translate kind va)) ram)
+record Shaped (r : Reply) (tag : ℕ) (a : ℕ → ℕ) (fault : ℕ) (b : ℕ → ℕ) (flag : ℕ) : Type 0 where
+  from : (n v : ℕ) → n ≡ codeBy r → v ≡ valueBy r 0 → wordsFrom n tag (a v) fault (b v) flag ≡ wordsBy r
+  small : unmoved r ≡ true → (0 < codeBy r) × (codeBy r < 256)
 
-data-ram : (c : Core) (base : ℕ) (ram : List ℕ) (va : ℕ) → ram ≡ ramAfter c base ram (Call.DataPa va)
-unfolding ramAfter ramOf
-data-ram c base ram va = sym (either-way (missedBy c base ram (Call.DataPa va)) ram)
+same : ℕ → ℕ
+same v = v
 
-fetch-pa-ram : (c : Core) (base : ℕ) (ram : List ℕ) (va : ℕ) → ram ≡ ramAfter c base ram (Call.FetchPa va)
-unfolding ramAfter ramOf
-fetch-pa-ram c base ram va = sym (either-way (missedBy c base ram (Call.FetchPa va)) ram)
+past-all : (fsc : ℕ) → (256 + fsc) - 256 ≡ fsc
+past-all fsc = omega arith
 
-load-ram : (c : Core) (base : ℕ) (ram : List ℕ) (va size : ℕ) → ram ≡ ramAfter c base ram (Call.Load va size)
-unfolding ramAfter ramOf
-load-ram c base ram va size = sym (either-way (missedBy c base ram (Call.Load va size)) ram)
+module _ (tag : ℕ) (a : ℕ → ℕ) (fault : ℕ) (b : ℕ → ℕ) (flag : ℕ) where
+  shaped-refused : (k : ℕ) → 0 < k → k < 256 → Shaped (Refused k) tag a fault b flag
+  unfolding wordsBy
+  shaped-refused k p l = record { from = λ n v en ev. rw (en, ne-eqb k 0 (λ e. omega arith), lt-ltb k 256 l); small = λ t. (p, l) }
 
-fetch-ram : (c : Core) (base : ℕ) (ram : List ℕ) (va : ℕ) → ram ≡ ramAfter c base ram (Call.Fetch va)
-unfolding ramAfter ramOf
-fetch-ram c base ram va = sym (either-way (missedBy c base ram (Call.Fetch va)) ram)
+module _ (fault : ℕ) (b : ℕ → ℕ) (flag : ℕ) where
+  shaped-value : (x : ℕ) → Shaped (Value x) 1 same fault b flag
+  unfolding wordsBy same
+  shaped-value x = record { from = λ n v en ev. rw (en, ev); small = λ t. never t }
 
-register-bare : (c : Core) (base : ℕ) (ram : List ℕ) (key value : ℕ) → stepOf c 0 [] (Call.Register key value) ≡ stepOf c base ram (Call.Register key value)
+  shaped-done : Shaped Done 0 (λ v. 0) fault b flag
+  unfolding wordsBy
+  shaped-done = record { from = λ n v en ev. rw en; small = λ t. never t }
+
+module _ (tag : ℕ) (a : ℕ → ℕ) where
+  shaped-fault : (va : ℕ) (f : Status1) → Shaped (Fault va f) tag a 8 (λ v. va) 0
+  unfolding wordsBy
+  shaped-fault va f =
+      record { from = λ n v en ev. rw (en, ne-eqb (256 + f .fsc) 0 (λ e. omega arith), le-ltb (256 + f .fsc) 256 (omega arith), past-all (f .fsc)); small = λ t. never t }
+
+  shaped-faults : Shaped Faults tag a 2 (λ v. 0) 0
+  unfolding wordsBy
+  shaped-faults = record { from = λ n v en ev. rw en; small = λ t. never t }
+
+  shaped-data : (addr : ℕ) (write : Bool) (f : Status1) → Shaped (Stopped (Stop.Exception (dataAbortAt addr write f))) tag a 9 same (flag write 1)
+  unfolding wordsBy same
+  shaped-data addr write f =
+      record { from = λ n v en ev. rw (en, ev, ne-eqb (256 + f .fsc) 0 (λ e. omega arith), le-ltb (256 + f .fsc) 256 (omega arith), past-all (f .fsc)); small = λ t. never t }
+
+  shaped-insn : (va : ℕ) (f : Status1) → Shaped (Stopped (Stop.Exception (insnAbortAt va f))) tag a 10 (λ v. va) 0
+  unfolding wordsBy
+  shaped-insn va f =
+      record { from = λ n v en ev. rw (en, ne-eqb (256 + f .fsc) 0 (λ e. omega arith), le-ltb (256 + f .fsc) 256 (omega arith), past-all (f .fsc)); small = λ t. never t }
+
+-- each operation's
+translation-shaped : (va : ℕ) (x : Answer) → Shaped (translation va x) 1 same 8 (λ v. va) 0
+translation-shaped va (Address pa) = shaped-value 8 (λ v. va) 0 pa
+translation-shaped va (Status fsc) = shaped-fault 1 same va fsc
+
+reach-shaped : (x : Reached) → Shaped (reaching x) 1 same 2 (λ v. 0) 0
+reach-shaped (Reach.At pa) = shaped-value 2 (λ v. 0) 0 pa
+reach-shaped Reach.Faults = shaped-faults 1 same
+
+load-shaped : (x : Placed) (last abort base : ℕ) (ram : List ℕ) (va n : ℕ) → Shaped (loading (loadEnd x last abort base ram va n .answer)) 1 same 9 same 0
+unfolding loadEnd
+load-shaped (NotPlaced addr fsc) last abort base ram va n = shaped-data 1 same addr false fsc
+load-shaped (At place) last abort base ram va n = go (loadOf base ram place n)
+  where
+    go : (g : Got) → Shaped (loading (loadedFrom place g abort va .answer)) 1 same 9 same 0
+    go (Got.Value v) = shaped-value 9 same 0 v
+    go (Got.Abort i pa) = shaped-data 1 same (wrap (va + i)) false external
+
+store-shaped : (x : Placed) (abort base : ℕ) (ram : List ℕ) (va n : ℕ) → Shaped (storing (storeEnd x abort base ram va n .answer)) 0 (λ v. 0) 9 same 1
+unfolding storeEnd
+store-shaped (NotPlaced addr fsc) abort base ram va n = shaped-data 0 (λ v. 0) addr true fsc
+store-shaped (At place) abort base ram va n = go (verdictOf base (length ram) place n)
+  where
+    go : (g : Verdict) → Shaped (storing (storeEndBy g abort va .answer)) 0 (λ v. 0) 9 same 1
+    go Verdict.Inside = shaped-done 9 same 1
+    go (Verdict.Outside i pa) = shaped-data 0 (λ v. 0) (wrap (va + i)) true external
+
+fetch-shaped : (x : Answer) (abort base : ℕ) (ram : List ℕ) (va : ℕ) → Shaped (fetching (fetchEnd x abort base ram va .answer)) 1 same 10 (λ v. va) 0
+unfolding fetchEnd
+fetch-shaped (Status fsc) abort base ram va = shaped-insn 1 same va fsc
+fetch-shaped (Address pa) abort base ram va = go (insnOf base ram pa)
+  where
+    go : (i : Insn) → Shaped (fetching (fetchedFrom pa i abort va .answer)) 1 same 10 (λ v. va) 0
+    go (Insn.Value v) = shaped-value 10 (λ v. va) 0 v
+    go Insn.Outside = shaped-insn 1 same va external
+
+-- with its checks: their numbers are up to 3
+step-shaped : (c : Core) (base : ℕ) (ram : List ℕ) (x : Call) (tag : ℕ) (a : ℕ → ℕ) (fault : ℕ) (b : ℕ → ℕ) (flag : ℕ) → missedBy c base ram x ≤ 3
+    → Shaped (runOf c base ram x .reply) tag a fault b flag → Shaped (stepOf c base ram x .reply) tag a fault b flag
+unfolding stepOf
+step-shaped c base ram x tag a fault b flag few s = go (missedBy c base ram x) few
+  where
+    go : (n : ℕ) → n ≤ 3 → Shaped (refusedOr n (λ k. ends c (Refused k)) (runOf c base ram x) .reply) tag a fault b flag
+    go zero h = s
+    go (suc n) h = shaped-refused tag a fault b flag (suc n) (omega arith) (omega arith)
+
+ram-few : (p q : Bool) → pick p 1 (pick q 2 0) ≤ 3
+ram-few true q = omega arith
+ram-few false true = omega arith
+ram-few false false = omega arith
+
+sized-few : (p q r : Bool) → pick p 1 (pick q 2 (pick r 3 0)) ≤ 3
+sized-few true q r = omega arith
+sized-few false true r = omega arith
+sized-few false false true = omega arith
+sized-few false false false = omega arith
+
+module _ (ws : List ℕ) (base : ℕ) (ram : List ℕ) (n v : ℕ) (w xs : List ℕ) where
+  by-shape : (x : Call) (tag : ℕ) (a : ℕ → ℕ) (fault : ℕ) (b : ℕ → ℕ) (flag : ℕ) → Shaped (stepOf (held ws) base ram x .reply) tag a fault b flag
+      → Gives (Calls.Known x) base ram ws n 0 v xs → w ≡ wordsFrom n tag (a v) fault (b v) flag → Steps x base ram ws w xs
+  by-shape x tag a fault b flag s g e =
+      let said : w ≡ wordsBy (stepOf (held ws) base ram x .reply) = e ∙ s .from n v (g .code) (g .value) in
+      record {
+        answer = said;
+        words = g .words;
+        still = λ l h.
+            let k = s .small (tag-unmoved (stepOf (held ws) base ram x .reply) (rw said at l) (rw said at h)) in
+            g .kept .same (rw (g .code) (k .0)) (rw (g .code) (k .1));
+      }
+
+  pub translation-steps : (kind : Kind) (va : ℕ) → Gives (Calls.Known (Call.Translate kind va)) base ram ws n 0 v xs → w ≡ wordsFrom n 1 v 8 va 0 → Steps (Call.Translate kind va) base ram ws w xs
+  unfolding runOf missedOf same
+  translation-steps kind va g e =
+      by-shape (Call.Translate kind va) 1 same 8 (λ x. va) 0
+      (step-shaped (held ws) base ram (Call.Translate kind va) 1 same 8 (λ x. va) 0 (ram-few (ltb 3 (held ws .who .level)) (passes base (length ram)))
+      (translation-shaped va (translateOf (held ws) (wordAt base ram 8) va kind .answer)))
+      g e
+
+  pub data-steps : (va : ℕ) → Gives (Calls.Known (Call.DataPa va)) base ram ws n 0 v xs → w ≡ wordsFrom n 1 v 2 0 0 → Steps (Call.DataPa va) base ram ws w xs
+  unfolding runOf missedOf same
+  data-steps va g e =
+      by-shape (Call.DataPa va) 1 same 2 (λ x. 0) 0
+      (step-shaped (held ws) base ram (Call.DataPa va) 1 same 2 (λ x. 0) 0 (ram-few (ltb 3 (held ws .who .level)) (passes base (length ram)))
+      (reach-shaped (dataPaOf (held ws) (wordAt base ram 8) va .answer)))
+      g e
+
+  pub fetch-pa-steps : (va : ℕ) → Gives (Calls.Known (Call.FetchPa va)) base ram ws n 0 v xs → w ≡ wordsFrom n 1 v 2 0 0 → Steps (Call.FetchPa va) base ram ws w xs
+  unfolding runOf missedOf same
+  fetch-pa-steps va g e =
+      by-shape (Call.FetchPa va) 1 same 2 (λ x. 0) 0
+      (step-shaped (held ws) base ram (Call.FetchPa va) 1 same 2 (λ x. 0) 0 (ram-few (ltb 3 (held ws .who .level)) (passes base (length ram)))
+      (reach-shaped (fetchPaOf (held ws) (wordAt base ram 8) va .answer)))
+      g e
+
+  pub fetch-steps : (va : ℕ) → Gives (Calls.Known (Call.Fetch va)) base ram ws n 0 v xs → w ≡ wordsFrom n 1 v 10 va 0 → Steps (Call.Fetch va) base ram ws w xs
+  unfolding runOf missedOf same fetchOf
+  fetch-steps va g e =
+      by-shape (Call.Fetch va) 1 same 10 (λ x. va) 0
+      (step-shaped (held ws) base ram (Call.Fetch va) 1 same 10 (λ x. va) 0 (ram-few (ltb 3 (held ws .who .level)) (passes base (length ram)))
+      (fetch-shaped (fetchSteppedNow (held ws) (wordAt base ram 8) va .answer) (held ws .«abort_pa») base ram va))
+      g e
+
+  pub load-steps : (va size : ℕ) → Gives (Calls.Known (Call.Load va size)) base ram ws n 0 v xs → w ≡ wordsFrom n 1 v 9 v 0 → Steps (Call.Load va size) base ram ws w xs
+  unfolding runOf missedOf same readOf
+  load-steps va size g e =
+      by-shape (Call.Load va size) 1 same 9 same 0
+      (step-shaped (held ws) base ram (Call.Load va size) 1 same 9 same 0 (sized-few (ltb 3 (held ws .who .level)) (passes base (length ram)) (not (known size)))
+      (go (widthOf size)))
+      g e
+    where
+      go : (s : Sized) → Shaped (loadBy s (held ws) base ram va .reply) 1 same 9 same 0
+      go (Bytes x) = load-shaped (locatedNow (held ws) (wordAt base ram 8) va (bytesIn x) Read .placed) (held ws .«last_pa») (held ws .«abort_pa») base ram va (bytesIn x)
+      go NoWidth = shaped-refused 1 same 9 same 0 3 (omega arith) (omega arith)
+
+  pub store-steps : (va size x : ℕ) → Gives (Calls.Known (Call.Store va size x)) base ram ws n 0 v xs → w ≡ wordsFrom n 0 0 9 v 1 → Steps (Call.Store va size x) base ram ws w xs
+  unfolding runOf missedOf same writeOf
+  store-steps va size x g e =
+      by-shape (Call.Store va size x) 0 (λ y. 0) 9 same 1
+      (step-shaped (held ws) base ram (Call.Store va size x) 0 (λ y. 0) 9 same 1 (sized-few (ltb 3 (held ws .who .level)) (passes base (length ram)) (not (known size)))
+      (go (widthOf size)))
+      g e
+    where
+      go : (s : Sized) → Shaped (storeBy s (held ws) base ram va .reply) 0 (λ y. 0) 9 same 1
+      go (Bytes y) = store-shaped (locatedNow (held ws) (wordAt base ram 8) va (bytesIn y) Write .placed) (held ws .«abort_pa») base ram va (bytesIn y)
+      go NoWidth = shaped-refused 0 (λ y. 0) 9 same 1 3 (omega arith) (omega arith)
+
+-- the words of a number, as the code tests it
+module _ (n tag a fault b flag : ℕ) where
+  pub words-zero : n ≡ 0 → four tag a 0 0 ≡ wordsFrom n tag a fault b flag
+  words-zero e = sym (rw e)
+
+  pub words-refused : (n ≡ 0 → ⊥) → n < 256 → four 5 n 0 0 ≡ wordsFrom n tag a fault b flag
+  words-refused e l = sym (rw (ne-eqb n 0 e, lt-ltb n 256 l))
+
+  pub words-fault : (m : ℕ) → (n ≡ 0 → ⊥) → 256 ≤ n → m ≡ n - 256 → four fault b m flag ≡ wordsFrom n tag a fault b flag
+  words-fault m e l q = ap (λ (k : ℕ). four fault b k flag) q ∙ sym (rw (ne-eqb n 0 e, le-ltb n 256 l))
+
+-- EVERY CALL
+
+-- one that is handed no RAM
+abbrev bareCall : Call → Bool
+bareCall (Call.Translate kind va) = false
+bareCall (Call.DataPa va) = false
+bareCall (Call.FetchPa va) = false
+bareCall (Call.Load va size) = false
+bareCall (Call.Store va size x) = false
+bareCall (Call.Fetch va) = false
+bareCall (Call.System e) = false
+bareCall (Call.Register key x) = true
+bareCall (Call.Level level) = true
+bareCall (Call.Mark mark) = true
+bareCall (Call.General i x) = true
+bareCall (Call.Abort e) = true
+
+bare : (c : Core) (base : ℕ) (ram : List ℕ) (x : Call) → bareCall x ≡ true → stepOf c 0 [] x ≡ stepOf c base ram x
 unfolding stepOf runOf missedOf
-register-bare c base ram key value = refl
+bare c base ram (Call.Translate kind va) e = never e
+bare c base ram (Call.DataPa va) e = never e
+bare c base ram (Call.FetchPa va) e = never e
+bare c base ram (Call.Load va size) e = never e
+bare c base ram (Call.Store va size x) e = never e
+bare c base ram (Call.Fetch va) e = never e
+bare c base ram (Call.System x) e = never e
+bare c base ram (Call.Register key x) e = refl
+bare c base ram (Call.Level level) e = refl
+bare c base ram (Call.Mark mark) e = refl
+bare c base ram (Call.General i x) e = refl
+bare c base ram (Call.Abort x) e = refl
 
-register-ram : (c : Core) (base : ℕ) (ram : List ℕ) (key value : ℕ) → ram ≡ ramAfter c base ram (Call.Register key value)
-unfolding ramAfter ramOf
-register-ram c base ram key value = sym (either-way (missedBy c base ram (Call.Register key value)) ram)
+module _ (ws : List ℕ) (base : ℕ) (ram : List ℕ) (call x : Call) (e : call ≡ x) where
+  pub call-steps : (w xs : List ℕ) → Steps x base ram ws w xs → Steps call base ram ws w xs
+  call-steps w xs s = rw e s
 
-level-bare : (c : Core) (base : ℕ) (ram : List ℕ) (level : ℕ) → stepOf c 0 [] (Call.Level level) ≡ stepOf c base ram (Call.Level level)
-unfolding stepOf runOf missedOf
-level-bare c base ram level = refl
+  pub call-ram : (ys : List ℕ) → ys ≡ ramAfter (held ws) base ram x → ys ≡ ramAfter (held ws) base ram call
+  call-ram ys q = rw e q
 
-level-ram : (c : Core) (base : ℕ) (ram : List ℕ) (level : ℕ) → ram ≡ ramAfter c base ram (Call.Level level)
-unfolding ramAfter ramOf
-level-ram c base ram level = sym (either-way (missedBy c base ram (Call.Level level)) ram)
+  pub call-quiet : writes (held ws) x ≡ false → ram ≡ ramAfter (held ws) base ram call
+  call-quiet q = rw e (sym (quiet (held ws) base ram x q))
 
-mark-bare : (c : Core) (base : ℕ) (ram : List ℕ) (mark : Bool) → stepOf c 0 [] (Call.Mark mark) ≡ stepOf c base ram (Call.Mark mark)
-unfolding stepOf runOf missedOf
-mark-bare c base ram mark = refl
+  module _ (r : Reply) (w xs : List ℕ) (ew : w ≡ wordsBy r) where
+    pub run-steps : Runs x base ram ws r xs → Steps call base ram ws w xs
+    run-steps g =
+        rw e
+        (record {
+          answer = ew ∙ ap wordsBy (g .reply);
+          words = g .words;
+          still = λ l h. g .stays .still (tag-unmoved r (rw ew at l) (rw ew at h));
+        })
 
-mark-ram : (c : Core) (base : ℕ) (ram : List ℕ) (mark : Bool) → ram ≡ ramAfter c base ram (Call.Mark mark)
-unfolding ramAfter ramOf
-mark-ram c base ram mark = sym (either-way (missedBy c base ram (Call.Mark mark)) ram)
-
-general-bare : (c : Core) (base : ℕ) (ram : List ℕ) (number value : ℕ) → stepOf c 0 [] (Call.General number value) ≡ stepOf c base ram (Call.General number value)
-unfolding stepOf runOf missedOf
-general-bare c base ram number value = refl
-
-general-ram : (c : Core) (base : ℕ) (ram : List ℕ) (number value : ℕ) → ram ≡ ramAfter c base ram (Call.General number value)
-unfolding ramAfter ramOf
-general-ram c base ram number value = sym (either-way (missedBy c base ram (Call.General number value)) ram)
-
-abort-bare : (c : Core) (base : ℕ) (ram : List ℕ) (x : Exception) → stepOf c 0 [] (Call.Abort x) ≡ stepOf c base ram (Call.Abort x)
-unfolding stepOf runOf missedOf
-abort-bare c base ram x = refl
-
-abort-ram : (c : Core) (base : ℕ) (ram : List ℕ) (x : Exception) → ram ≡ ramAfter c base ram (Call.Abort x)
-unfolding ramAfter ramOf
-abort-ram c base ram x = sym (either-way (missedBy c base ram (Call.Abort x)) ram)
-
-module _ (ws : List ℕ) (base : ℕ) (ram : List ℕ) (call : Call) where
-  pub translate-told : (kind : Kind) (va : ℕ) (p : Reply) → call ≡ Call.Translate kind va → p ≡ stepOf (held ws) base ram (Call.Translate kind va) .reply → p ≡ stepOf (held ws) base ram call .reply
-  translate-told kind va p e q = q ∙ ap (λ (s : Stepped). s .reply) (ap (stepOf (held ws) base ram) (sym e))
-
-  pub translate-left : (kind : Kind) (va : ℕ) (xs : List ℕ) → call ≡ Call.Translate kind va → Moved ws xs (stepOf (held ws) base ram (Call.Translate kind va) .core) → Moved ws xs (stepOf (held ws) base ram call .core)
-  translate-left kind va xs e m = moved-as m (ap (λ (s : Stepped). s .core) (ap (stepOf (held ws) base ram) (sym e)))
-
-  pub translate-written : (kind : Kind) (va : ℕ) → call ≡ Call.Translate kind va → ram ≡ ramAfter (held ws) base ram call
-  translate-written kind va e = translate-ram (held ws) base ram kind va ∙ ap (ramAfter (held ws) base ram) (sym e)
-
-  pub data-told : (va : ℕ) (p : Reply) → call ≡ Call.DataPa va → p ≡ stepOf (held ws) base ram (Call.DataPa va) .reply → p ≡ stepOf (held ws) base ram call .reply
-  data-told va p e q = q ∙ ap (λ (s : Stepped). s .reply) (ap (stepOf (held ws) base ram) (sym e))
-
-  pub data-left : (va : ℕ) (xs : List ℕ) → call ≡ Call.DataPa va → Moved ws xs (stepOf (held ws) base ram (Call.DataPa va) .core) → Moved ws xs (stepOf (held ws) base ram call .core)
-  data-left va xs e m = moved-as m (ap (λ (s : Stepped). s .core) (ap (stepOf (held ws) base ram) (sym e)))
-
-  pub data-written : (va : ℕ) → call ≡ Call.DataPa va → ram ≡ ramAfter (held ws) base ram call
-  data-written va e = data-ram (held ws) base ram va ∙ ap (ramAfter (held ws) base ram) (sym e)
-
-  pub fetch-pa-told : (va : ℕ) (p : Reply) → call ≡ Call.FetchPa va → p ≡ stepOf (held ws) base ram (Call.FetchPa va) .reply → p ≡ stepOf (held ws) base ram call .reply
-  fetch-pa-told va p e q = q ∙ ap (λ (s : Stepped). s .reply) (ap (stepOf (held ws) base ram) (sym e))
-
-  pub fetch-pa-left : (va : ℕ) (xs : List ℕ) → call ≡ Call.FetchPa va → Moved ws xs (stepOf (held ws) base ram (Call.FetchPa va) .core) → Moved ws xs (stepOf (held ws) base ram call .core)
-  fetch-pa-left va xs e m = moved-as m (ap (λ (s : Stepped). s .core) (ap (stepOf (held ws) base ram) (sym e)))
-
-  pub fetch-pa-written : (va : ℕ) → call ≡ Call.FetchPa va → ram ≡ ramAfter (held ws) base ram call
-  fetch-pa-written va e = fetch-pa-ram (held ws) base ram va ∙ ap (ramAfter (held ws) base ram) (sym e)
-
-  pub load-told : (va size : ℕ) (p : Reply) → call ≡ Call.Load va size → p ≡ stepOf (held ws) base ram (Call.Load va size) .reply → p ≡ stepOf (held ws) base ram call .reply
-  load-told va size p e q = q ∙ ap (λ (s : Stepped). s .reply) (ap (stepOf (held ws) base ram) (sym e))
-
-  pub load-left : (va size : ℕ) (xs : List ℕ) → call ≡ Call.Load va size → Moved ws xs (stepOf (held ws) base ram (Call.Load va size) .core) → Moved ws xs (stepOf (held ws) base ram call .core)
-  load-left va size xs e m = moved-as m (ap (λ (s : Stepped). s .core) (ap (stepOf (held ws) base ram) (sym e)))
-
-  pub load-written : (va size : ℕ) → call ≡ Call.Load va size → ram ≡ ramAfter (held ws) base ram call
-  load-written va size e = load-ram (held ws) base ram va size ∙ ap (ramAfter (held ws) base ram) (sym e)
-
-  pub store-told : (va size value : ℕ) (p : Reply) → call ≡ Call.Store va size value → p ≡ stepOf (held ws) base ram (Call.Store va size value) .reply → p ≡ stepOf (held ws) base ram call .reply
-  store-told va size value p e q = q ∙ ap (λ (s : Stepped). s .reply) (ap (stepOf (held ws) base ram) (sym e))
-
-  pub store-left : (va size value : ℕ) (xs : List ℕ) → call ≡ Call.Store va size value → Moved ws xs (stepOf (held ws) base ram (Call.Store va size value) .core) → Moved ws xs (stepOf (held ws) base ram call .core)
-  store-left va size value xs e m = moved-as m (ap (λ (s : Stepped). s .core) (ap (stepOf (held ws) base ram) (sym e)))
-
-  pub store-written : (va size value : ℕ) (ys : List ℕ) → call ≡ Call.Store va size value → ys ≡ ramAfter (held ws) base ram (Call.Store va size value) → ys ≡ ramAfter (held ws) base ram call
-  store-written va size value ys e q = q ∙ ap (ramAfter (held ws) base ram) (sym e)
-
-  pub fetch-told : (va : ℕ) (p : Reply) → call ≡ Call.Fetch va → p ≡ stepOf (held ws) base ram (Call.Fetch va) .reply → p ≡ stepOf (held ws) base ram call .reply
-  fetch-told va p e q = q ∙ ap (λ (s : Stepped). s .reply) (ap (stepOf (held ws) base ram) (sym e))
-
-  pub fetch-left : (va : ℕ) (xs : List ℕ) → call ≡ Call.Fetch va → Moved ws xs (stepOf (held ws) base ram (Call.Fetch va) .core) → Moved ws xs (stepOf (held ws) base ram call .core)
-  fetch-left va xs e m = moved-as m (ap (λ (s : Stepped). s .core) (ap (stepOf (held ws) base ram) (sym e)))
-
-  pub fetch-written : (va : ℕ) → call ≡ Call.Fetch va → ram ≡ ramAfter (held ws) base ram call
-  fetch-written va e = fetch-ram (held ws) base ram va ∙ ap (ramAfter (held ws) base ram) (sym e)
-
-  pub system-told : (x : Encoding) (p : Reply) → call ≡ Call.System x → p ≡ stepOf (held ws) base ram (Call.System x) .reply → p ≡ stepOf (held ws) base ram call .reply
-  system-told x p e q = q ∙ ap (λ (s : Stepped). s .reply) (ap (stepOf (held ws) base ram) (sym e))
-
-  pub system-left : (x : Encoding) (xs : List ℕ) → call ≡ Call.System x → Moved ws xs (stepOf (held ws) base ram (Call.System x) .core) → Moved ws xs (stepOf (held ws) base ram call .core)
-  system-left x xs e m = moved-as m (ap (λ (s : Stepped). s .core) (ap (stepOf (held ws) base ram) (sym e)))
-
-  pub system-written : (x : Encoding) (ys : List ℕ) → call ≡ Call.System x → ys ≡ ramAfter (held ws) base ram (Call.System x) → ys ≡ ramAfter (held ws) base ram call
-  system-written x ys e q = q ∙ ap (ramAfter (held ws) base ram) (sym e)
-
-  pub register-told : (key value : ℕ) (p : Reply) → call ≡ Call.Register key value → p ≡ stepOf (held ws) 0 [] (Call.Register key value) .reply → p ≡ stepOf (held ws) base ram call .reply
-  register-told key value p e q = q ∙ ap (λ (s : Stepped). s .reply) (register-bare (held ws) base ram key value ∙ ap (stepOf (held ws) base ram) (sym e))
-
-  pub register-left : (key value : ℕ) (xs : List ℕ) → call ≡ Call.Register key value → Moved ws xs (stepOf (held ws) 0 [] (Call.Register key value) .core) → Moved ws xs (stepOf (held ws) base ram call .core)
-  register-left key value xs e m = moved-as m (ap (λ (s : Stepped). s .core) (register-bare (held ws) base ram key value ∙ ap (stepOf (held ws) base ram) (sym e)))
-
-  pub register-written : (key value : ℕ) → call ≡ Call.Register key value → ram ≡ ramAfter (held ws) base ram call
-  register-written key value e = register-ram (held ws) base ram key value ∙ ap (ramAfter (held ws) base ram) (sym e)
-
-  pub level-told : (level : ℕ) (p : Reply) → call ≡ Call.Level level → p ≡ stepOf (held ws) 0 [] (Call.Level level) .reply → p ≡ stepOf (held ws) base ram call .reply
-  level-told level p e q = q ∙ ap (λ (s : Stepped). s .reply) (level-bare (held ws) base ram level ∙ ap (stepOf (held ws) base ram) (sym e))
-
-  pub level-left : (level : ℕ) (xs : List ℕ) → call ≡ Call.Level level → Moved ws xs (stepOf (held ws) 0 [] (Call.Level level) .core) → Moved ws xs (stepOf (held ws) base ram call .core)
-  level-left level xs e m = moved-as m (ap (λ (s : Stepped). s .core) (level-bare (held ws) base ram level ∙ ap (stepOf (held ws) base ram) (sym e)))
-
-  pub level-written : (level : ℕ) → call ≡ Call.Level level → ram ≡ ramAfter (held ws) base ram call
-  level-written level e = level-ram (held ws) base ram level ∙ ap (ramAfter (held ws) base ram) (sym e)
-
-  pub mark-told : (mark : Bool) (p : Reply) → call ≡ Call.Mark mark → p ≡ stepOf (held ws) 0 [] (Call.Mark mark) .reply → p ≡ stepOf (held ws) base ram call .reply
-  mark-told mark p e q = q ∙ ap (λ (s : Stepped). s .reply) (mark-bare (held ws) base ram mark ∙ ap (stepOf (held ws) base ram) (sym e))
-
-  pub mark-left : (mark : Bool) (xs : List ℕ) → call ≡ Call.Mark mark → Moved ws xs (stepOf (held ws) 0 [] (Call.Mark mark) .core) → Moved ws xs (stepOf (held ws) base ram call .core)
-  mark-left mark xs e m = moved-as m (ap (λ (s : Stepped). s .core) (mark-bare (held ws) base ram mark ∙ ap (stepOf (held ws) base ram) (sym e)))
-
-  pub mark-written : (mark : Bool) → call ≡ Call.Mark mark → ram ≡ ramAfter (held ws) base ram call
-  mark-written mark e = mark-ram (held ws) base ram mark ∙ ap (ramAfter (held ws) base ram) (sym e)
-
-  pub general-told : (number value : ℕ) (p : Reply) → call ≡ Call.General number value → p ≡ stepOf (held ws) 0 [] (Call.General number value) .reply → p ≡ stepOf (held ws) base ram call .reply
-  general-told number value p e q = q ∙ ap (λ (s : Stepped). s .reply) (general-bare (held ws) base ram number value ∙ ap (stepOf (held ws) base ram) (sym e))
-
-  pub general-left : (number value : ℕ) (xs : List ℕ) → call ≡ Call.General number value → Moved ws xs (stepOf (held ws) 0 [] (Call.General number value) .core) → Moved ws xs (stepOf (held ws) base ram call .core)
-  general-left number value xs e m = moved-as m (ap (λ (s : Stepped). s .core) (general-bare (held ws) base ram number value ∙ ap (stepOf (held ws) base ram) (sym e)))
-
-  pub general-written : (number value : ℕ) → call ≡ Call.General number value → ram ≡ ramAfter (held ws) base ram call
-  general-written number value e = general-ram (held ws) base ram number value ∙ ap (ramAfter (held ws) base ram) (sym e)
-
-  pub abort-told : (x : Exception) (p : Reply) → call ≡ Call.Abort x → p ≡ stepOf (held ws) 0 [] (Call.Abort x) .reply → p ≡ stepOf (held ws) base ram call .reply
-  abort-told x p e q = q ∙ ap (λ (s : Stepped). s .reply) (abort-bare (held ws) base ram x ∙ ap (stepOf (held ws) base ram) (sym e))
-
-  pub abort-left : (x : Exception) (xs : List ℕ) → call ≡ Call.Abort x → Moved ws xs (stepOf (held ws) 0 [] (Call.Abort x) .core) → Moved ws xs (stepOf (held ws) base ram call .core)
-  abort-left x xs e m = moved-as m (ap (λ (s : Stepped). s .core) (abort-bare (held ws) base ram x ∙ ap (stepOf (held ws) base ram) (sym e)))
-
-  pub abort-written : (x : Exception) → call ≡ Call.Abort x → ram ≡ ramAfter (held ws) base ram call
-  abort-written x e = abort-ram (held ws) base ram x ∙ ap (ramAfter (held ws) base ram) (sym e)
+    pub bare-steps : bareCall x ≡ true → Runs x 0 [] ws r xs → Steps call base ram ws w xs
+    bare-steps b g =
+        run-steps
+        (record {
+          reply = g .reply ∙ ap (λ (s : Stepped). s .reply) (bare (held ws) base ram x b);
+          words = moved-as (g .words) (ap (λ (s : Stepped). s .core) (bare (held ws) base ram x b));
+          stays = g .stays;
+        })
 
 pub mark-0 : (n : ℕ) → n ≡ 0 → Calls.Known (Call.Mark false) ≡ markCall n
 mark-0 n e = sym (rw e)
@@ -278,9 +377,3 @@ module _ (ws xs : List ℕ) (x : Exception) (n : ℕ) (p : Exceptions) (q : p �
       refuses : (m : ℕ) → (m ≡ 0 → ⊥) → refusedOr m Refused Done ≡ Refused m
       refuses zero z = absurd (z refl)
       refuses (suc m) z = refl
-
-pub ruleset replies = (translate-told, data-told, fetch-pa-told, load-told, store-told, fetch-told, system-told, register-told, level-told, mark-told, general-told, abort-told)
-
-pub ruleset rams = (translate-written, data-written, fetch-pa-written, load-written, store-written, fetch-written, system-written, register-written, level-written, mark-written, general-written, abort-written)
-
-pub ruleset cores = (translate-left, data-left, fetch-pa-left, load-left, store-left, fetch-left, system-left, register-left, level-left, mark-left, general-left, abort-left)

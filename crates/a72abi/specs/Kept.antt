@@ -4,37 +4,30 @@ use mathlib.Core.Bool.{Bool, true, false}
 use mathlib.Core.List.{List}
 use Prim.Native.Nat.{ℕ, _<_}
 use native.Mathlib.Omega.{arith}
-use Rattle.word.specs.Ram.{wordAt}
 use Rattle.entry.specs.declared.exception.Exception.{Exception}
 use Rattle.entry.specs.declared.exception.Exception.the-variants as Exception
 use Rattle.entry.specs.declared.exception.Stop.{Stop}
 use Rattle.entry.specs.declared.exception.Stop.the-variants as Stop
 use Rattle.sysreg.specs.declared.write.WriteAnswer.{WriteAnswer}
 use Rattle.sysreg.specs.declared.write.WriteAnswer.the-variants as Written
-use Rattle.tlb.specs.declared.access.Kind.the-variants as Kind
 use Rattle.tlb.specs.declared.access.Answer.{Answer}
 use Rattle.tlb.specs.declared.access.Answer.the-variants.{Address, Status}
 use Rattle.mmu.specs.Bytes.{loadOf, insnOf}
-use Rattle.mmu.specs.Ends.{loadedFrom, loadEnd, storeEnd, fetchedFrom, fetchEnd}
-use Rattle.mmu.specs.Ops.{locatedNow, fetchSteppedNow, readOf, writeOf, fetchOf}
-use Rattle.mmu.specs.declared.core.Core.{Core}
+use Rattle.mmu.specs.Ends.{loadedFrom, loadEnd, fetchedFrom, fetchEnd}
 use Rattle.mmu.specs.declared.place.Placed.{Placed}
 use Rattle.mmu.specs.declared.place.Placed.the-variants.{At, Fault as NotPlaced}
 use Rattle.mmu.specs.declared.bytes.Got.{Got}
 use Rattle.mmu.specs.declared.bytes.Got.the-variants as Got
 use Rattle.mmu.specs.declared.bytes.Insn.{Insn}
 use Rattle.mmu.specs.declared.bytes.Insn.the-variants as Insn
-use Rattle.mmu.specs.declared.ends.LoadAnswer.{LoadAnswer}
 use Rattle.mmu.specs.declared.ends.StoreAnswer.{StoreAnswer}
 use Rattle.mmu.specs.declared.ends.StoreAnswer.the-variants as Store
-use Rattle.mmu.specs.declared.ends.FetchAnswer.{FetchAnswer}
 use Rattle.mmu.specs.declared.ends.Reached.{Reached}
 use Rattle.mmu.specs.declared.ends.Reached.the-variants as Reach
 use Rattle.cpu.specs.Step.{translation, reaching, loading, storing, fetching, registering}
 use Rattle.cpu.specs.declared.call.Reply.{Reply}
 use Rattle.cpu.specs.declared.call.Reply.the-variants.{Refused, Done, Value, Faults, Fault, Stopped}
-use Rattle.inplace.specs.Found.{codeOf}
-use Rattle.insys.specs.Early.{early, earlyStop, never, end-late, store-late}
+use Rattle.insys.specs.Early.{early, earlyStop, never}
 use Rattle.a72abi.specs.Replies.{codeBy, valueBy}
 
 -- a refusal, Undefined, Unimplemented
@@ -89,15 +82,15 @@ unmoved-value (Stopped (Stop.Exception Exception.PcAlignment)) old e = refl
 
 -- WHAT STOPS BY AN ABORT
 
-translation-late : (va : ℕ) (a : Answer) → unmoved (translation va a) ≡ false
+pub translation-late : (va : ℕ) (a : Answer) → unmoved (translation va a) ≡ false
 translation-late va (Address pa) = refl
 translation-late va (Status f) = refl
 
-reach-late : (a : Reached) → unmoved (reaching a) ≡ false
+pub reach-late : (a : Reached) → unmoved (reaching a) ≡ false
 reach-late (Reach.At pa) = refl
 reach-late Reach.Faults = refl
 
-load-late : (x : Placed) (last abort base : ℕ) (ram : List ℕ) (va n : ℕ)
+pub load-late : (x : Placed) (last abort base : ℕ) (ram : List ℕ) (va n : ℕ)
     → unmoved (loading (loadEnd x last abort base ram va n .answer)) ≡ false
 unfolding loadEnd
 load-late (NotPlaced addr f) last abort base ram va n = refl
@@ -107,25 +100,18 @@ load-late (At place) last abort base ram va n = go (loadOf base ram place n)
     go (Got.Value v) = refl
     go (Got.Abort i pa) = refl
 
-read-late : (c : Core) (base : ℕ) (ram : List ℕ) (va n : ℕ) → unmoved (loading (readOf c base ram va n .answer)) ≡ false
-unfolding readOf
-read-late c base ram va n = load-late (locatedNow c (wordAt base ram 8) va n Kind.Read .placed) _ _ base ram va n
-
 pub storing-late : (a : StoreAnswer) → unmoved (storing a) ≡ earlyStop a
 storing-late Store.Done = refl
 storing-late (Store.Stopped s) = refl
 
-fetch-late : (c : Core) (base : ℕ) (ram : List ℕ) (va : ℕ) → unmoved (fetching (fetchOf c base ram va .answer)) ≡ false
-unfolding fetchOf fetchEnd
-fetch-late c base ram va = answered (fetchSteppedNow c (wordAt base ram 8) va .answer)
+pub fetch-end : (a : Answer) (abort base : ℕ) (ram : List ℕ) (va : ℕ) → unmoved (fetching (fetchEnd a abort base ram va .answer)) ≡ false
+unfolding fetchEnd
+fetch-end (Status fsc) abort base ram va = refl
+fetch-end (Address pa) abort base ram va = inside (insnOf base ram pa)
   where
-    inside : (pa : ℕ) (i : Insn) → unmoved (fetching (fetchedFrom pa i (c .«abort_pa») va .answer)) ≡ false
-    inside pa (Insn.Value v) = refl
-    inside pa Insn.Outside = refl
-
-    answered : (a : Answer) → unmoved (fetching (fetchEnd a (c .«abort_pa») base ram va .answer)) ≡ false
-    answered (Status f) = refl
-    answered (Address pa) = inside pa (insnOf base ram pa)
+    inside : (i : Insn) → unmoved (fetching (fetchedFrom pa i abort va .answer)) ≡ false
+    inside (Insn.Value v) = refl
+    inside Insn.Outside = refl
 
 -- BY THE REPLY
 
@@ -136,24 +122,6 @@ module _ (ws xs : List ℕ) where
   pub done-moves : Stays Done ws xs
   done-moves = by-late Done refl
 
-  pub translation-moves : (va : ℕ) (a : Answer) (r : Reply) → r ≡ translation va a → Stays r ws xs
-  translation-moves va a r er = by-late r (ap unmoved er ∙ translation-late va a)
-
-  pub reach-moves : (a : Reached) (r : Reply) → r ≡ reaching a → Stays r ws xs
-  reach-moves a r er = by-late r (ap unmoved er ∙ reach-late a)
-
-  pub load-moves : (c : Core) (base : ℕ) (ram : List ℕ) (va n : ℕ) (a : LoadAnswer) (r : Reply)
-      → a ≡ readOf c base ram va n .answer → r ≡ loading a → Stays r ws xs
-  load-moves c base ram va n a r ea er = by-late r (ap unmoved (er ∙ ap loading ea) ∙ read-late c base ram va n)
-
-  pub store-moves : (c : Core) (base : ℕ) (ram : List ℕ) (va n : ℕ) (a : StoreAnswer) (r : Reply)
-      → a ≡ writeOf c base ram va n .answer → r ≡ storing a → Stays r ws xs
-  store-moves c base ram va n a r ea er = by-late r (ap unmoved er ∙ storing-late a ∙ ap earlyStop ea ∙ store-late c base ram va n)
-
-  pub fetch-moves : (c : Core) (base : ℕ) (ram : List ℕ) (va : ℕ) (a : FetchAnswer) (r : Reply)
-      → a ≡ fetchOf c base ram va .answer → r ≡ fetching a → Stays r ws xs
-  fetch-moves c base ram va a r ea er = by-late r (ap unmoved (er ∙ ap fetching ea) ∙ fetch-late c base ram va)
-
   pub system-stays : (a : StoreAnswer) (r : Reply) → r ≡ storing a → (earlyStop a ≡ true → xs ≡ ws) → Stays r ws xs
   system-stays a r er h = record { still = λ t. h (sym (ap unmoved er ∙ storing-late a) ∙ t) }
 
@@ -163,7 +131,7 @@ module _ (ws xs : List ℕ) where
 pub stays-same : (r : Reply) (ws : List ℕ) → Stays r ws ws
 stays-same r ws = record { still = λ t. refl }
 
-pub ruleset staying = (stays-same, done-moves, translation-moves, reach-moves, load-moves, store-moves, fetch-moves, system-stays, register-stays)
+pub ruleset staying = (stays-same, done-moves, system-stays, register-stays)
 
 -- BY THE NUMBER
 
@@ -177,26 +145,7 @@ module _ (ws xs : List ℕ) where
   pub kept-told : (r : Reply) (n : ℕ) → n ≡ codeBy r → Stays r ws xs → Kept n ws xs
   kept-told r n e s = record { same = λ l h. s .still (number-unmoved r (rw e at l) (rw e at h)) }
 
-  by-code : (r : Reply) (n : ℕ) → n ≡ codeBy r → unmoved r ≡ false → Kept n ws xs
-  by-code r n e q = kept-told r n e (record { still = λ t. never (sym q ∙ t) })
+  pub kept-late : (r : Reply) (n : ℕ) → n ≡ codeBy r → unmoved r ≡ false → Kept n ws xs
+  kept-late r n e q = kept-told r n e (record { still = λ t. never (sym q ∙ t) })
 
-  -- a translation
-  pub kept-found : (a : Answer) (n : ℕ) → n ≡ codeOf a → Kept n ws xs
-  kept-found a n e = by-code (translation 0 a) n (e ∙ sym (code a)) (translation-late 0 a)
-    where
-      code : (x : Answer) → codeBy (translation 0 x) ≡ codeOf x
-      code (Address pa) = refl
-      code (Status f) = refl
-
-  -- the bytes of a load or store
-  pub kept-load : (x : Placed) (last abort base : ℕ) (ram : List ℕ) (va k n : ℕ)
-      → n ≡ codeBy (loading (loadEnd x last abort base ram va k .answer)) → Kept n ws xs
-  kept-load x last abort base ram va k n e = by-code (loading (loadEnd x last abort base ram va k .answer)) n e (load-late x last abort base ram va k)
-
-  pub kept-store : (x : Placed) (abort base : ℕ) (ram : List ℕ) (va k n : ℕ)
-      → n ≡ codeBy (storing (storeEnd x abort base ram va k .answer)) → Kept n ws xs
-  kept-store x abort base ram va k n e =
-      by-code (storing (storeEnd x abort base ram va k .answer)) n e
-      (storing-late (storeEnd x abort base ram va k .answer) ∙ end-late x abort base ram va k)
-
-pub ruleset keeping = (kept-same, kept-done, kept-told, kept-found, kept-load, kept-store)
+pub ruleset keeping = (kept-same, kept-done, kept-told)

@@ -38,6 +38,7 @@ use Rattle.a72abi.specs.Ops.{keyOf, translateCall}
 use Rattle.a72abi.specs.Steps.{callRam}
 use Rattle.insys.specs.Early.{never, earlyStop, store-late, zero-late}
 use Rattle.a72abi.specs.Kept.{unmoved, number-unmoved, unmoved-value, storing-late, kept-same, kept-told}
+use Rattle.a72abi.specs.Inside.{Steps}
 use Rattle.a72abi.specs.Promise.{Promise, Setting, StepPromise, Runs, Gives}
 use Rattle.a72abi.specs.declared.op.Kinds.{Kinds}
 use Rattle.a72abi.specs.declared.op.Kinds.the-variants as Kinds
@@ -197,7 +198,7 @@ set-unnamed ws p q = rw (← q) (record { on = λ base ram old. promise Unknown 
 
 -- EVERY CALL BY EIGHT WORDS
 
-tag-unmoved : (r : Reply) → 4 < getD (wordsBy r) 0 0 → getD (wordsBy r) 0 0 < 8 → unmoved r ≡ true
+pub tag-unmoved : (r : Reply) → 4 < getD (wordsBy r) 0 0 → getD (wordsBy r) 0 0 < 8 → unmoved r ≡ true
 unfolding wordsBy
 tag-unmoved (Refused n) l h = refl
 tag-unmoved Done l h = absurd (omega arith)
@@ -215,30 +216,27 @@ tag-unmoved (Stopped (Stop.Exception (Exception.Brk imm))) l h = refl
 tag-unmoved (Stopped (Stop.Exception Exception.PcAlignment)) l h = refl
 
 module _ (base : ℕ) (ram ws : List ℕ) (p o : Calls) (eo : o ≡ p) (old : List ℕ) where
-  step-of : (x : Call) (r : Reply) (v ys xs : List ℕ) → Runs x base ram ws r xs → ys ≡ ramAfter (held ws) base ram x → v ≡ wordsBy r
-      → StepPromise (Known x) base ram ws 0 old v ys xs
+  step-of : (x : Call) (v ys xs : List ℕ) → Steps x base ram ws v xs → ys ≡ ramAfter (held ws) base ram x → StepPromise (Known x) base ram ws 0 old v ys xs
   unfolding FaithfulCall
-  step-of x r v ys xs g b e =
+  step-of x v ys xs s b =
       record {
         code = refl;
-        answer = e ∙ ap wordsBy (g .reply);
+        answer = s .answer;
         bytes = b;
-        words = g .words;
+        words = s .words;
         unnamed = λ l. absurd (omega arith);
         unchanged = λ l h.
-            let t : unmoved r ≡ true = tag-unmoved r (rw e at l) (rw e at h) in
-            (g .stays .still t, b ∙ ram-still (held ws) base ram x (rw (g .reply) at t));
+            (s .still l h, b ∙ ram-still (held ws) base ram x (tag-unmoved (stepOf (held ws) base ram x .reply) (rw (s .answer) at l) (rw (s .answer) at h)));
         demand-3 = λ list q.
             record {
               reply = stepOf (held ws) base ram x .reply;
-              words-are = e ∙ ap wordsBy (g .reply);
+              words-are = s .answer;
               faithful = faithful-step (held ws) base ram x (stepOf (held ws) base ram x) ys refl b list q;
             };
       }
 
-  pub step-known : (x : Call) (r : Reply) (v ys xs : List ℕ) → o ≡ Known x → Runs x base ram ws r xs → ys ≡ ramAfter (held ws) base ram x → v ≡ wordsBy r
-      → StepPromise p base ram ws 0 old v ys xs
-  step-known x r v ys xs q g b e = rw (← eo, q) (step-of x r v ys xs g b e)
+  pub step-known : (x : Call) (v ys xs : List ℕ) → o ≡ Known x → Steps x base ram ws v xs → ys ≡ ramAfter (held ws) base ram x → StepPromise p base ram ws 0 old v ys xs
+  step-known x v ys xs q s b = rw (← eo, q) (step-of x v ys xs s b)
 
   none-of : StepPromise Unknown base ram ws 64 old old ram ws
   none-of =

@@ -1,4 +1,4 @@
--- What is answered at a glance, and sizes in bytes.
+-- What only private contracts cite: level and window that pass at once, and sizes in bytes.
 use mathlib.Core.Path.{_≡_}
 use mathlib.Core.Bool.{Bool, true, false}
 use mathlib.Core.List.{List}
@@ -11,12 +11,7 @@ use Rattle.word.specs.declared.ram.Sized.{Sized}
 use Rattle.word.specs.declared.ram.Sized.the-variants.{Bytes, Refused as NoWidth}
 use Rattle.word.specs.declared.ram.Word.{Word}
 use Rattle.word.specs.declared.ram.Word.the-variants.{Outside}
-use Rattle.tlb.specs.Hint.{fetchFound}
-use Rattle.tlb.specs.declared.access.Kind.{Kind}
-use Rattle.tlb.specs.declared.hint.Physical.{Physical}
-use Rattle.tlb.specs.declared.hint.Physical.the-variants.{Unknown}
 use Rattle.mmu.specs.declared.core.Core.{Core}
-use Rattle.inplace.specs.Found.{hintFound}
 
 -- a level up to 3, and a window that ends below the last address
 unfoldable pub clearOf : Core → ℕ → ℕ → Bool
@@ -25,20 +20,6 @@ clearOf c base len = pick (ltb 3 (c .who .level)) false (pick (ltb (2 ^ 64 - 1 -
 pub record Clear (c : Core) (base len : ℕ) : Type 0 where
   pub low : ltb 3 (c .who .level) ≡ false
   pub short : ltb (2 ^ 64 - 1 - len) base ≡ false
-
--- what a hint says, at a level up to 3 and over a window that ends below the last address
-abbrev pub atGlance : Core → ℕ → ℕ → Physical → Physical
-atGlance c base len p = pick (ltb 3 (c .who .level)) Unknown (pick (ltb (2 ^ 64 - 1 - len) base) Unknown p)
-
-unfoldable pub quickOf : Core → ℕ → ℕ → ℕ → Kind → Physical
-quickOf c base len va kind = atGlance c base len (hintFound c va kind)
-
-unfoldable pub quickFetchOf : Core → ℕ → ℕ → ℕ → Physical
-quickFetchOf c base len va = atGlance c base len (fetchFound (c .tlb .cache .fetch) (c .who .level) va)
-
--- no hint serves, where that is asked at all
-pub record Unhinted (c : Core) (base len va : ℕ) (kind : Kind) : Type 0 where
-  pub none : Clear c base len → hintFound c va kind ≡ Unknown
 
 -- a size's bytes at an address; a size that is none has none there
 abbrev pub sizedIn : Sized → ℕ → List ℕ → ℕ → Word

@@ -1,4 +1,4 @@
--- Accesses over two pages at a glance: where both hints serve and all bytes lie in RAM.
+-- What only private contracts cite: accesses over two pages whose hints both serve and whose bytes lie in RAM.
 use mathlib.Core.Bool.{Bool, true, false}
 use mathlib.Core.List.{List}
 use Prim.Native.Nat.{ℕ}

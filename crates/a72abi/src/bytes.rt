@@ -1,22 +1,14 @@
-// Loads and stores on lent words, in place: where hints answer and the bytes lie in RAM, at a glance; in one page by
-// its translation; all else by the book.
+// Loads and stores on lent words: the fast path, where hints answer and the bytes lie in RAM, and else the slow one.
 ghost use mathlib.Core.Path.{_≡_};
 ghost use mathlib.Core.Bool.{true};
-ghost use Prim.Native.Nat.{_≤_};
-ghost use lib.ListN.{length};
 ghost use Rattle.cpu.specs.Check.{known};
 ghost use Rattle.cpu.specs.Step.{ramAfter};
 ghost use Rattle.cpu.specs.declared.call.Call.the-variants as Call;
 ghost use Rattle.words.specs.Held.{held};
 ghost use Rattle.a72abi.specs.declared.op.Calls.the-variants as Calls;
 ghost use Rattle.a72abi.specs.Promise.{Promise, Gives};
-ghost use Rattle.tlb.specs.declared.access.Kind.the-variants.{Read, Write};
-ghost use Rattle.mmu.specs.Place.{inPage};
-ghost use Rattle.a72abi.specs.Quick.{Unhinted, sizedAt, sizedMade, sizedRam};
-use crate::book;
-use crate::found;
-use crate::memory;
-use crate::reply;
+ghost use Rattle.a72abi.specs.Quick.{sizedAt, sizedMade, sizedRam};
+use crate::slow;
 use crate::split;
 use crate::split::Split;
 use inplace::translate;
@@ -24,7 +16,6 @@ use mmu::place;
 use tlb::access::Kind;
 use tlb::hint::Physical;
 use word::ram;
-use word::ram::Sized;
 use word::ram::Width;
 use word::ram::Word;
 use words::place::State;
@@ -72,45 +63,20 @@ fn write_sized(base: u64, ram: &mut [u8], size: u64, pa: u64, value: u64) -> boo
     }
 }
 
-fn load_book(state: &mut State, va: u64, size: u64, ans: &mut u64, base: u64, ram: &[u8]) -> u64
-    ensures { λ r. ⌜ Gives (Calls.Known (Call.Load va size)) base (now (ram .entry)) (now (state .entry)) r
-        (now (ans .entry)) (now (ans .exit)) (now (state .exit)) ⌝ }
-{
-    let r = book::load(state, base, ram, va, size);
-    reply::answer(r, ans)
-}
-
-// A load in one page that no hint serves, or not at a glance.
-fn load_rest(state: &mut State, va: u64, size: u64, ans: &mut u64, base: u64, ram: &[u8]) -> u64
-    requires { ⌜ size ≤ inPage va ⌝ }
-    requires { ⌜ Unhinted (held (now state)) base (length (now ram)) va Read ⌝ }
-    ensures { λ r. ⌜ Gives (Calls.Known (Call.Load va size)) base (now (ram .entry)) (now (state .entry)) r
-        (now (ans .entry)) (now (ans .exit)) (now (state .exit)) ⌝ }
-{
-    let clear = memory::clear(state, base, ram.len() as u64);
-    if clear {
-        match ram::width_of(size) {
-            Sized::Bytes(width) => found::load(state, va, width, ans, base, ram),
-            Sized::Refused => load_book(state, va, size, ans, base, ram),
-        }
-    } else {
-        load_book(state, va, size, ans, base, ram)
-    }
-}
-
-// A load over two pages: their hints, or by the book.
+// A load over two pages: by their hints, or the slow path.
 fn load_split(state: &mut State, va: u64, size: u64, ans: &mut u64, base: u64, ram: &[u8]) -> u64
     requires { ⌜ known size ≡ true ⌝ }
     ensures { λ r. ⌜ Gives (Calls.Known (Call.Load va size)) base (now (ram .entry)) (now (state .entry)) r
         (now (ans .entry)) (now (ans .exit)) (now (state .exit)) ⌝ }
 {
+    let n = ram.len();
     match split::load(state, va, size, base, ram) {
         Split::Value { pa, v } => {
             state::put_last(state, pa);
             *ans = v;
             0
         }
-        Split::Unknown => load_book(state, va, size, ans, base, ram),
+        Split::Unknown => slow::load(state, va, size, ans, base, &ram[0..n]),
     }
 }
 
@@ -122,7 +88,7 @@ fn load_across(state: &mut State, va: u64, size: u64, ans: &mut u64, base: u64, 
         8 => load_split(state, va, 8, ans, base, ram),
         4 => load_split(state, va, 4, ans, base, ram),
         2 => load_split(state, va, 2, ans, base, ram),
-        _ => load_book(state, va, size, ans, base, ram),
+        _ => slow::load(state, va, size, ans, base, ram),
     }
 }
 
@@ -142,74 +108,30 @@ pub extern "C" fn a72_load(
     if place::in_page(va) < size {
         return load_across(state, va, size, ans, base, ram);
     }
-    let who = state::who_at(state);
+    let known = state::level_known(state);
     let len = ram.len() as u64;
-    if 3 < who.level {
-        return load_rest(state, va, size, ans, base, ram);
-    }
-    if u64::MAX - len < base {
-        return load_rest(state, va, size, ans, base, ram);
-    }
-    match translate::by_hint(state, va, Kind::Read) {
-        Physical::At(pa) => match read_sized(base, ram, size, pa) {
-            Word::Value(v) => {
-                state::put_last(state, pa);
-                *ans = v;
-                0
+    if known {
+        if u64::MAX - len < base {
+            slow::load(state, va, size, ans, base, ram)
+        } else {
+            match translate::by_hint(state, va, Kind::Read) {
+                Physical::At(pa) => match read_sized(base, ram, size, pa) {
+                    Word::Value(v) => {
+                        state::put_last(state, pa);
+                        *ans = v;
+                        0
+                    }
+                    Word::Outside => slow::load(state, va, size, ans, base, ram),
+                },
+                Physical::Unknown => slow::load_page(state, va, size, ans, base, ram),
             }
-            Word::Outside => load_book(state, va, size, ans, base, ram),
-        },
-        Physical::Unknown => load_rest(state, va, size, ans, base, ram),
-    }
-}
-
-fn store_book(
-    state: &mut State,
-    va: u64,
-    size: u64,
-    value: u64,
-    ans: &mut u64,
-    base: u64,
-    ram: &mut [u8],
-) -> u64
-    ensures { λ r. ⌜ Gives (Calls.Known (Call.Store va size value)) base (now (ram .entry)) (now (state .entry)) r
-        (now (ans .entry)) (now (ans .exit)) (now (state .exit)) ⌝ }
-    ensures { λ r. ⌜ now (ram .exit) ≡ ramAfter (held (now (state .entry))) base (now (ram .entry))
-        (Call.Store va size value) ⌝ }
-{
-    let r = book::store(state, base, ram, va, size, value);
-    reply::answer(r, ans)
-}
-
-// A store in one page that no hint serves, or not at a glance.
-fn store_rest(
-    state: &mut State,
-    va: u64,
-    size: u64,
-    value: u64,
-    ans: &mut u64,
-    base: u64,
-    ram: &mut [u8],
-) -> u64
-    requires { ⌜ size ≤ inPage va ⌝ }
-    requires { ⌜ Unhinted (held (now state)) base (length (now ram)) va Write ⌝ }
-    ensures { λ r. ⌜ Gives (Calls.Known (Call.Store va size value)) base (now (ram .entry)) (now (state .entry)) r
-        (now (ans .entry)) (now (ans .exit)) (now (state .exit)) ⌝ }
-    ensures { λ r. ⌜ now (ram .exit) ≡ ramAfter (held (now (state .entry))) base (now (ram .entry))
-        (Call.Store va size value) ⌝ }
-{
-    let clear = memory::clear(state, base, ram.len() as u64);
-    if clear {
-        match ram::width_of(size) {
-            Sized::Bytes(width) => found::store(state, va, width, value, ans, base, ram),
-            Sized::Refused => store_book(state, va, size, value, ans, base, ram),
         }
     } else {
-        store_book(state, va, size, value, ans, base, ram)
+        1
     }
 }
 
-// A store over two pages: their hints, or by the book.
+// A store over two pages: by their hints, or the slow path.
 fn store_split(
     state: &mut State,
     va: u64,
@@ -229,7 +151,7 @@ fn store_split(
     if made {
         0
     } else {
-        store_book(state, va, size, value, ans, base, ram)
+        slow::store(state, va, size, value, ans, base, ram)
     }
 }
 
@@ -251,7 +173,7 @@ fn store_across(
         8 => store_split(state, va, 8, value, ans, base, ram),
         4 => store_split(state, va, 4, value, ans, base, ram),
         2 => store_split(state, va, 2, value, ans, base, ram),
-        _ => store_book(state, va, size, value, ans, base, ram),
+        _ => slow::store(state, va, size, value, ans, base, ram),
     }
 }
 
@@ -272,23 +194,25 @@ pub extern "C" fn a72_store(
     if place::in_page(va) < size {
         return store_across(state, va, size, value, ans, base, ram);
     }
-    let who = state::who_at(state);
+    let known = state::level_known(state);
     let len = ram.len() as u64;
-    if 3 < who.level {
-        return store_rest(state, va, size, value, ans, base, ram);
-    }
-    if u64::MAX - len < base {
-        return store_rest(state, va, size, value, ans, base, ram);
-    }
-    match translate::by_hint(state, va, Kind::Write) {
-        Physical::At(pa) => {
-            let made = write_sized(base, ram, size, pa, value);
-            if made {
-                0
-            } else {
-                store_book(state, va, size, value, ans, base, ram)
+    if known {
+        if u64::MAX - len < base {
+            slow::store(state, va, size, value, ans, base, ram)
+        } else {
+            match translate::by_hint(state, va, Kind::Write) {
+                Physical::At(pa) => {
+                    let made = write_sized(base, ram, size, pa, value);
+                    if made {
+                        0
+                    } else {
+                        slow::store(state, va, size, value, ans, base, ram)
+                    }
+                }
+                Physical::Unknown => slow::store_page(state, va, size, value, ans, base, ram),
             }
         }
-        Physical::Unknown => store_rest(state, va, size, value, ans, base, ram),
+    } else {
+        1
     }
 }

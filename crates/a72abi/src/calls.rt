@@ -7,16 +7,19 @@ ghost use Rattle.mmu.specs.Core.{freshCore};
 ghost use Rattle.words.specs.Held.{held};
 ghost use Rattle.a72abi.specs.declared.op.Calls.the-variants as Calls;
 ghost use Rattle.a72abi.specs.Ops.{keyOf, encodingOf, exceptionOf, exceptionAt, abortCall, markCall, callOf};
+ghost use Rattle.a72abi.specs.Inside.{Steps};
 ghost use Rattle.a72abi.specs.Promise.{Promise, Setting, StepPromise, Runs};
-use crate::book;
+use crate::checked;
 use crate::op;
 use crate::op::Calls;
 use crate::op::Exceptions;
 use crate::reply;
+use crate::slow;
 use cpu::call::Call;
 use cpu::call::Encoding;
 use cpu::call::Reply;
 use entry::exception::Exception;
+use tlb::access::Kind;
 use words::place::State;
 
 // Every word written: the core after reset.
@@ -50,7 +53,7 @@ pub extern "C" fn a72_system(
         op2,
         rt,
     };
-    let r = book::system(state, base, ram, e);
+    let r = checked::system(state, base, ram, e);
     reply::answer(r, ans)
 }
 
@@ -61,7 +64,7 @@ pub extern "C" fn a72_register(state: &mut State, key: u64, value: u64) -> u64
         (now (state .exit)) ⌝ }
 {
     let k = op::key_of(key);
-    let r = book::register(state, k, value);
+    let r = checked::register(state, k, value);
     reply::number(r)
 }
 
@@ -69,7 +72,7 @@ pub extern "C" fn a72_register(state: &mut State, key: u64, value: u64) -> u64
 pub extern "C" fn a72_level(state: &mut State, level: u64) -> u64
     ensures { λ r. ⌜ Setting (Calls.Known (Call.Level level)) (now (state .entry)) r (now (state .exit)) ⌝ }
 {
-    let r = book::level(state, level);
+    let r = checked::level(state, level);
     reply::number(r)
 }
 
@@ -77,7 +80,7 @@ pub extern "C" fn a72_level(state: &mut State, level: u64) -> u64
 pub extern "C" fn a72_general(state: &mut State, number: u64, value: u64) -> u64
     ensures { λ r. ⌜ Setting (Calls.Known (Call.General number value)) (now (state .entry)) r (now (state .exit)) ⌝ }
 {
-    let r = book::general(state, number, value);
+    let r = checked::general(state, number, value);
     reply::number(r)
 }
 
@@ -88,11 +91,11 @@ pub extern "C" fn a72_mark(state: &mut State, mark: u64) -> u64
 {
     match mark {
         0 => {
-            let r = book::mark(state, false);
+            let r = checked::mark(state, false);
             reply::number(r)
         }
         1 => {
-            let r = book::mark(state, true);
+            let r = checked::mark(state, true);
             reply::number(r)
         }
         _ => 64,
@@ -105,7 +108,7 @@ fn abort_named(state: &mut State, code: u64, a: u64, b: u64, c: u64) -> u64
 {
     match op::exception_of(code, a, b, c) {
         Exceptions::Known(x) => {
-            let r = book::abort(state, x);
+            let r = checked::abort(state, x);
             reply::number(r)
         }
         Exceptions::Unknown => 64,
@@ -133,24 +136,100 @@ fn abort(state: &mut State, e: Exception) -> Reply
     }
 }
 
+// Each memory operation by its number and value, as four words.
+
+fn translation(state: &mut State, base: u64, ram: &[u8], kind: Kind, va: u64) -> [u64; 4]
+    ensures { λ r. ⌜ Steps (Call.Translate kind va) base (now (ram .entry)) (now (state .entry)) r
+        (now (state .exit)) ⌝ }
+{
+    let mut v: u64 = 0;
+    let n = slow::translation(state, va, kind, &mut v, base, ram);
+    reply::words_by(n, 1, v, 8, va, 0)
+}
+
+fn data_pa(state: &mut State, base: u64, ram: &[u8], va: u64) -> [u64; 4]
+    ensures { λ r. ⌜ Steps (Call.DataPa va) base (now (ram .entry)) (now (state .entry)) r
+        (now (state .exit)) ⌝ }
+{
+    let mut v: u64 = 0;
+    let n = slow::data_pa(state, va, &mut v, base, ram);
+    reply::words_by(n, 1, v, 2, 0, 0)
+}
+
+fn fetch_pa(state: &mut State, base: u64, ram: &[u8], va: u64) -> [u64; 4]
+    ensures { λ r. ⌜ Steps (Call.FetchPa va) base (now (ram .entry)) (now (state .entry)) r
+        (now (state .exit)) ⌝ }
+{
+    let mut v: u64 = 0;
+    let n = slow::fetch_pa(state, va, &mut v, base, ram);
+    reply::words_by(n, 1, v, 2, 0, 0)
+}
+
+fn load(state: &mut State, base: u64, ram: &[u8], va: u64, size: u64) -> [u64; 4]
+    ensures { λ r. ⌜ Steps (Call.Load va size) base (now (ram .entry)) (now (state .entry)) r
+        (now (state .exit)) ⌝ }
+{
+    let mut v: u64 = 0;
+    let n = slow::load(state, va, size, &mut v, base, ram);
+    reply::words_by(n, 1, v, 9, v, 0)
+}
+
+fn fetch(state: &mut State, base: u64, ram: &[u8], va: u64) -> [u64; 4]
+    ensures { λ r. ⌜ Steps (Call.Fetch va) base (now (ram .entry)) (now (state .entry)) r
+        (now (state .exit)) ⌝ }
+{
+    let mut v: u64 = 0;
+    let n = slow::fetch(state, va, &mut v, base, ram);
+    reply::words_by(n, 1, v, 10, va, 0)
+}
+
+fn store(state: &mut State, base: u64, ram: &mut [u8], va: u64, size: u64, value: u64) -> [u64; 4]
+    ensures { λ r. ⌜ Steps (Call.Store va size value) base (now (ram .entry)) (now (state .entry)) r
+        (now (state .exit)) ⌝ }
+    ensures { λ r. ⌜ now (ram .exit) ≡ ramAfter (held (now (state .entry))) base (now (ram .entry))
+        (Call.Store va size value) ⌝ }
+{
+    let mut v: u64 = 0;
+    let n = slow::store(state, va, size, value, &mut v, base, ram);
+    reply::words_by(n, 0, 0, 9, v, 1)
+}
+
 // The operation that a call is.
-fn step(state: &mut State, base: u64, ram: &mut [u8], call: Call) -> Reply
-    ensures { λ r. ⌜ Runs call base (now (ram .entry)) (now (state .entry)) r (now (state .exit)) ⌝ }
+fn step(state: &mut State, base: u64, ram: &mut [u8], call: Call) -> [u64; 4]
+    ensures { λ r. ⌜ Steps call base (now (ram .entry)) (now (state .entry)) r (now (state .exit)) ⌝ }
     ensures { λ r. ⌜ now (ram .exit) ≡ ramAfter (held (now (state .entry))) base (now (ram .entry)) call ⌝ }
 {
     match call {
-        Call::Translate(kind, va) => book::translation(state, base, ram, kind, va),
-        Call::DataPa(va) => book::data_pa(state, base, ram, va),
-        Call::FetchPa(va) => book::fetch_pa(state, base, ram, va),
-        Call::Load(va, size) => book::load(state, base, ram, va, size),
-        Call::Store(va, size, value) => book::store(state, base, ram, va, size, value),
-        Call::Fetch(va) => book::fetch(state, base, ram, va),
-        Call::System(e) => book::system(state, base, ram, e),
-        Call::Register(key, value) => book::register(state, key, value),
-        Call::Level(level) => book::level(state, level),
-        Call::Mark(mark) => book::mark(state, mark),
-        Call::General(number, value) => book::general(state, number, value),
-        Call::Abort(e) => abort(state, e),
+        Call::Translate(kind, va) => translation(state, base, ram, kind, va),
+        Call::DataPa(va) => data_pa(state, base, ram, va),
+        Call::FetchPa(va) => fetch_pa(state, base, ram, va),
+        Call::Load(va, size) => load(state, base, ram, va, size),
+        Call::Store(va, size, value) => store(state, base, ram, va, size, value),
+        Call::Fetch(va) => fetch(state, base, ram, va),
+        Call::System(e) => {
+            let r = checked::system(state, base, ram, e);
+            reply::words(r)
+        }
+        Call::Register(key, value) => {
+            let r = checked::register(state, key, value);
+            reply::words(r)
+        }
+        Call::Level(level) => {
+            let r = checked::level(state, level);
+            reply::words(r)
+        }
+        Call::Mark(mark) => {
+            let r = checked::mark(state, mark);
+            reply::words(r)
+        }
+        Call::General(number, value) => {
+            let r = checked::general(state, number, value);
+            reply::words(r)
+        }
+        Call::Abort(e) => {
+            let r = abort(state, e);
+            reply::words(r)
+        }
     }
 }
 
@@ -168,8 +247,7 @@ pub extern "C" fn a72_step(
 {
     match op::call_of(op) {
         Calls::Known(call) => {
-            let r = step(state, base, ram, call);
-            let words = reply::words(r);
+            let words = step(state, base, ram, call);
             *ans = words;
             0
         }

@@ -2,9 +2,13 @@
 ghost use mathlib.Core.Path.{_≡_};
 ghost use Rattle.a72abi.specs.Replies.{exceptionCode, stopCode, codeBy, exceptionValue, stopValue, valueBy};
 ghost use Rattle.a72abi.specs.Replies.{exceptionWords, stopWords, wordsBy};
+ghost use Rattle.cpu.specs.Step.{loading, storing};
+ghost use Rattle.a72abi.specs.Inside.{wordsFrom};
 use cpu::call::Reply;
 use entry::exception::Exception;
 use entry::exception::Stop;
+use mmu::ends::LoadAnswer;
+use mmu::ends::StoreAnswer;
 use word::bits;
 
 // The number of an exception that stops an operation, and the address of a data abort.
@@ -34,6 +38,44 @@ fn stopped(stop: Stop, ans: &mut u64) -> u64
     match stop {
         Stop::Exception(e) => told(e, ans),
         Stop::Unimplemented => 66,
+    }
+}
+
+// The number of a load's or a store's answer, and in ans its value or the address of its data abort.
+pub(crate) fn loaded(answer: LoadAnswer, ans: &mut u64) -> u64
+    ensures { λ r. ⌜ r ≡ codeBy (loading answer) ⌝ }
+    ensures { λ _. ⌜ now (ans .exit) ≡ valueBy (loading answer) (now (ans .entry)) ⌝ }
+{
+    match answer {
+        LoadAnswer::Value(v) => {
+            *ans = v;
+            0
+        }
+        LoadAnswer::Stopped(stop) => stopped(stop, ans),
+    }
+}
+
+pub(crate) fn stored(answer: StoreAnswer, ans: &mut u64) -> u64
+    ensures { λ r. ⌜ r ≡ codeBy (storing answer) ⌝ }
+    ensures { λ _. ⌜ now (ans .exit) ≡ valueBy (storing answer) (now (ans .entry)) ⌝ }
+{
+    match answer {
+        StoreAnswer::Done => 0,
+        StoreAnswer::Stopped(stop) => stopped(stop, ans),
+    }
+}
+
+// The four words of a number: of what it did by its first two, of a fault by its first two and its last.
+pub(crate) fn words_by(n: u64, tag: u64, a: u64, fault: u64, b: u64, flag: u64) -> [u64; 4]
+    ensures { λ r. ⌜ r ≡ wordsFrom n tag a fault b flag ⌝ }
+{
+    if n == 0 {
+        return [tag, a, 0, 0];
+    }
+    if n < 256 {
+        [5, n, 0, 0]
+    } else {
+        [fault, b, n - 256, flag]
     }
 }
 

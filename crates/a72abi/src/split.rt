@@ -1,5 +1,5 @@
-// Loads and stores over two pages whose hints both serve at a glance and whose bytes lie in RAM. All others are left
-// to the book.
+// Loads and stores over two pages whose hints both serve and whose bytes lie in RAM. All others are left
+// to the slow path.
 ghost use mathlib.Core.Path.{_≡_};
 ghost use mathlib.Core.Bool.{true};
 ghost use Rattle.tlb.specs.declared.access.Kind.the-variants.{Read, Write};
@@ -25,7 +25,7 @@ pub enum Split {
     Unknown,
 }
 
-// Whether the access takes two pages, at a level and over a window that pass at a glance.
+// Whether the access takes two pages, at a level and over a window that pass at once.
 fn apart(state: &State, va: u64, n: u64, base: u64, len: u64) -> bool
     ensures { λ r. ⌜ r ≡ apartOf (held (now (state .entry))) base len va n ⌝ }
 {

@@ -1,4 +1,4 @@
--- Loads, stores and fetches in place put together from their parts, on plain values, for `search`.
+-- Loads and stores in place put together from their parts, on plain values, for `search`.
 use mathlib.Core.Path.{_≡_, refl, sym, ap, _∙_}
 use mathlib.Core.Bool.{Bool, true, false}
 use mathlib.Core.List.{List}
@@ -16,16 +16,14 @@ use Rattle.tlb.specs.declared.Tlb.{Tlb}
 use Rattle.mmu.specs.Core.{movedTo, bankNow}
 use Rattle.mmu.specs.Place.{nextPage, crosses, goesOn, placedOne, placedBoth}
 use Rattle.mmu.specs.Step.{translateIn, locatedOf}
-use Rattle.mmu.specs.Ends.{loadEnd, storeEnd, storeRamEnd, fetchEnd, reachedBy}
-use Rattle.mmu.specs.Ops.{withTlb, steppedNow, fetchSteppedNow, locatedNow, translateOf, translateAccessOf, readOf, writeOf, ramAfterWrite, fetchOf, fetchPaOf, dataPaOf}
+use Rattle.mmu.specs.Ends.{loadEnd, storeEnd, storeRamEnd}
+use Rattle.mmu.specs.Ops.{withTlb, steppedNow, locatedNow, translateOf, translateAccessOf, readOf, writeOf, ramAfterWrite}
 use Rattle.mmu.specs.declared.core.Core.{Core}
 use Rattle.mmu.specs.declared.place.Placed.{Placed}
 use Rattle.mmu.specs.declared.ends.LoadEnd.{LoadEnd}
 use Rattle.mmu.specs.declared.ends.StoreEnd.{StoreEnd}
-use Rattle.mmu.specs.declared.ends.FetchEnd.{FetchEnd}
 use Rattle.mmu.specs.declared.ends.LoadAnswer.{LoadAnswer}
 use Rattle.mmu.specs.declared.ends.StoreAnswer.{StoreAnswer}
-use Rattle.mmu.specs.declared.ends.Reached.{Reached}
 use Rattle.mmu.specs.declared.ops.Accessed.{Accessed}
 use Rattle.mmu.specs.declared.ops.Translated.{Translated}
 use Rattle.words.specs.Held.{held}
@@ -191,51 +189,3 @@ module _ (ws xs : List ℕ) (base : ℕ) (ram : List ℕ) (va n k v : ℕ) (p : 
   pub write-core : (ys : List ℕ) → Moved xs ys (keptAbort (held xs) (storeEndOf (held xs) p base ram va n .«abort_pa»))
       → Moved ws ys (writeOf (held ws) base ram va n .core)
   write-core ys q = record { long = q .long ∙ m .long; holds = q .holds ∙ store-halves .1 .1 }
-
--- FETCHES
-
-fetch-parts : (c : Core) (base : ℕ) (ram : List ℕ) (va : ℕ) (a : Answer) (d : Core) → a ≡ fetchSteppedNow c (wordAt base ram 8) va .answer
-    → d ≡ withTlb c (fetchSteppedNow c (wordAt base ram 8) va .tlb)
-    → (fetchEnd a (d .«abort_pa») base ram va .answer ≡ fetchOf c base ram va .answer)
-    × (withAbort d (fetchEnd a (d .«abort_pa») base ram va .«abort_pa») ≡ fetchOf c base ram va .core)
-unfolding fetchOf withAbort movedTo
-fetch-parts c base ram va a d ea ed = rw (ea, ed) (refl, refl)
-
-module _ (ws xs : List ℕ) (base : ℕ) (ram : List ℕ) (va : ℕ) (a : Answer) (abort : ℕ) (e : FetchEnd)
-    (ea : a ≡ fetchSteppedNow (held ws) (wordAt base ram 8) va .answer)
-    (m : Moved ws xs (withTlb (held ws) (fetchSteppedNow (held ws) (wordAt base ram 8) va .tlb))) (eb : abort ≡ held xs .«abort_pa»)
-    (ee : e ≡ fetchEnd a abort base ram va) where
-  fetched-is : e ≡ fetchEnd a (held xs .«abort_pa») base ram va
-  fetched-is = ee ∙ ap (λ (x : ℕ). fetchEnd a x base ram va) eb
-
-  pub fetch-answer : e .answer ≡ fetchOf (held ws) base ram va .answer
-  fetch-answer = ap (λ (x : FetchEnd). x .answer) fetched-is ∙ fetch-parts (held ws) base ram va a (held xs) ea (m .holds) .0
-
-  pub fetch-core : (ys : List ℕ) → Moved xs ys (withAbort (held xs) (e .«abort_pa»)) → Moved ws ys (fetchOf (held ws) base ram va .core)
-  fetch-core ys q =
-      record {
-        long = q .long ∙ m .long;
-        holds = q .holds ∙ ap (λ (x : FetchEnd). withAbort (held xs) (x .«abort_pa»)) fetched-is
-            ∙ fetch-parts (held ws) base ram va a (held xs) ea (m .holds) .1;
-      }
-
--- ADDRESSES
-
-module _ (ws xs : List ℕ) (memory : ℕ → Word) (va : ℕ) (a : Answer) (r : Reached) (er : r ≡ reachedBy a) where
-  pub data-answer : a ≡ translateOf (held ws) memory va Read .answer → r ≡ dataPaOf (held ws) memory va .answer
-  unfolding dataPaOf translateOf
-  data-answer e = er ∙ ap reachedBy e
-
-  pub fetch-pa-answer : a ≡ fetchSteppedNow (held ws) memory va .answer → r ≡ fetchPaOf (held ws) memory va .answer
-  unfolding fetchPaOf
-  fetch-pa-answer e = er ∙ ap reachedBy e
-
-pub data-core : (ws xs : List ℕ) (memory : ℕ → Word) (va : ℕ) → Moved ws xs (translateOf (held ws) memory va Read .core)
-    → Moved ws xs (dataPaOf (held ws) memory va .core)
-unfolding dataPaOf translateOf
-data-core ws xs memory va m = m
-
-pub fetch-pa-core : (ws xs : List ℕ) (memory : ℕ → Word) (va : ℕ) → Moved ws xs (withTlb (held ws) (fetchSteppedNow (held ws) memory va .tlb))
-    → Moved ws xs (fetchPaOf (held ws) memory va .core)
-unfolding fetchPaOf
-fetch-pa-core ws xs memory va m = m

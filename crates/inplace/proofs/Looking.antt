@@ -6,6 +6,7 @@ use Prim.Native.Nat.{ℕ, _+_, _%_, _^_, _<_, _≤_}
 use native.Mathlib.Omega.{arith}
 use borrow.Author.Tests.{eq-eqb, ne-eqb}
 use lib.Dec.{eqb}
+use Rattle.word.specs.Bits.{pick}
 use Rattle.word.specs.declared.ram.Word.{Word}
 use Rattle.fault.specs.First.{first}
 use Rattle.fault.specs.declared.Fault.{Fault}
@@ -33,15 +34,15 @@ use Rattle.tlb.specs.declared.resolve.Query.{Query}
 use Rattle.tlb.specs.declared.resolve.Asked.{Asked}
 use Rattle.tlb.specs.declared.resolve.Asked.the-variants.{Flat, Of}
 use Rattle.tlb.specs.declared.resolve.Resolved.{Resolved}
-use Rattle.mmu.specs.Core.{bankNow}
+use Rattle.mmu.specs.Core.{movedTo, bankNow}
 use Rattle.mmu.specs.Step.{slotAt}
 use Rattle.mmu.specs.Ops.{withTlb, fetchSteppedNow, translateOf}
 use Rattle.mmu.specs.declared.core.Core.{Core}
 use Rattle.mmu.specs.declared.ops.Translated.{Translated}
 use Rattle.words.specs.Held.{held}
-use Rattle.words.specs.Parts.{withFetchHint}
+use Rattle.words.specs.Parts.{withCache, withCounts, withEntry, withHint, withFetchHint}
 use Rattle.words.specs.Moved.{Moved, stays, moved-as, moved-on}
-use Rattle.inplace.specs.Found.{codeOf, valueOf, answering, hintFound, noted, sourced, committed, committing, lookedTo, foundTo, pagedBy, pagedTo, answerOf}
+use Rattle.inplace.specs.Found.{codeOf, valueOf, answering, hintFound, fetchHint, noted, toldTo, sourced, committed, committing, lookedTo, foundTo, pagedBy, pagedTo, answerOf}
 use Rattle.inplace.specs.FoundLaws.{unchanged, hint-serves, hint-misses}
 use Rattle.inplace.specs.FetchLaws.{fetchTo, fetch-serves, fetch-misses}
 
@@ -189,38 +190,77 @@ module _ (ws : List ℕ) (memory : ℕ → Word) (va : ℕ) (kind : Kind) (p : P
       → Moved ws xs (translateOf (held ws) memory va kind .core)
   by-find-core xs e m = moved-as m (sym (ap (λ (x : Translated). x .core) (hint-misses (held ws) memory va kind (sym ep ∙ e))))
 
+  -- by number
+  pub by-hint-code : (pa : ℕ) → p ≡ At pa → 0 ≡ codeOf (translateOf (held ws) memory va kind .answer)
+  by-hint-code pa e = ap codeOf (by-hint-answer pa e)
+
+  pub by-hint-value : (pa old : ℕ) → p ≡ At pa → pa ≡ valueOf (translateOf (held ws) memory va kind .answer) old
+  by-hint-value pa old e = ap (λ (a : Answer). valueOf a old) (by-hint-answer pa e)
+
+  pub by-find-code : (n : ℕ) → p ≡ Unknown → n ≡ codeOf (foundTo (held ws) memory va kind .answer) → n ≡ codeOf (translateOf (held ws) memory va kind .answer)
+  by-find-code n e q = q ∙ ap codeOf (by-find-answer _ e refl)
+
+  pub by-find-value : (v old : ℕ) → p ≡ Unknown → v ≡ valueOf (foundTo (held ws) memory va kind .answer) old → v ≡ valueOf (translateOf (held ws) memory va kind .answer) old
+  by-find-value v old e q = q ∙ ap (λ (a : Answer). valueOf a old) (by-find-answer _ e refl)
+
+-- the number says which answer it was
+pub code-at : (a : Answer) (code pa old : ℕ) → code ≡ codeOf a → code ≡ 0 → pa ≡ valueOf a old → a ≡ Address pa
+code-at (Address x) code pa old e z q = ap Address (sym q)
+code-at (Status fsc) code pa old e z q = absurd (omega (arith, e, z))
+
+-- a translation leaves the level as it is
+found-who : (c : Core) (memory : ℕ → Word) (va : ℕ) (kind : Kind) → foundTo c memory va kind .core .who ≡ c .who
+unfolding foundTo sourced noted withHint withEntry withCounts withCache movedTo
+found-who c memory va kind = by (c-made .answer) (mayHint (c .who) kind) refl
+  where
+    c-made : Resolved
+    c-made = missOf (bankNow c) (c .who) (c .tlb .cache .present) (entryAt (c .tlb .cache) (slotAt (bankNow c) (c .who .level) va)) va kind memory
+
+    by : (a : Answer) (b : Bool) → mayHint (c .who) kind ≡ b
+        → toldTo (sourced c (slotAt (bankNow c) (c .who .level) va) (c-made .source) (c-made .made)) (c .who) kind va a .who ≡ c .who
+    by (Address pa) true e = rw e
+    by (Address pa) false e = rw e
+    by (Status fsc) b e = refl
+
 -- a fetch's page
-module _ (ws : List ℕ) (level va : ℕ) (f : Translated) (a : Answer) (ea : a ≡ f .answer) where
-  pub page-answer : (pa : ℕ) → a ≡ Address pa → Address pa ≡ f .answer
-  page-answer pa e = sym e ∙ ea
+module _ (ws : List ℕ) (memory : ℕ → Word) (va code : ℕ) (ec : code ≡ codeOf (foundTo (held ws) memory va Fetch .answer)) where
+  abbrev its-page : Translated
+  its-page = foundTo (held ws) memory va Fetch
 
-  pub fault-answer : (x : Fault) → a ≡ Status x → Status x ≡ f .answer
-  fault-answer x e = sym e ∙ ea
-
-  pub page-core : (pa : ℕ) (xs ys : List ℕ) (h : FetchHint) → a ≡ Address pa → Moved ws xs (f .core) → h ≡ fetchFor va level pa
-      → Moved xs ys (withFetchHint (held xs) h) → Moved ws ys (pagedTo level va f)
-  page-core pa xs ys h e m eh n =
+  pub page-core : (pa old : ℕ) (who : Who) (xs ys : List ℕ) (h : FetchHint) → code ≡ 0 → pa ≡ valueOf (its-page .answer) old → Moved ws xs (its-page .core) → who ≡ held xs .who
+      → h ≡ fetchFor va (who .level) pa → Moved xs ys (withFetchHint (held xs) h) → Moved ws ys (pagedTo (held ws .who .level) va its-page)
+  page-core pa old who xs ys h z ep m ew eh n =
       moved-on (λ c. withFetchHint c h) m n
-      (ap (withFetchHint (f .core)) eh ∙ ap (pagedBy level va (f .core)) (sym e ∙ ea))
+      (ap (withFetchHint (its-page .core)) (eh ∙ ap (λ (w : Who). fetchFor va (w .level) pa) (ew ∙ ap (λ (c : Core). c .who) (m .holds) ∙ found-who (held ws) memory va Fetch))
+      ∙ ap (pagedBy (held ws .who .level) va (its-page .core)) (sym (code-at (its-page .answer) code pa old ec z ep)))
 
-  pub paged-fault : (x : Fault) (xs : List ℕ) → a ≡ Status x → Moved ws xs (f .core) → Moved ws xs (pagedTo level va f)
-  paged-fault x xs e m = moved-as m (ap (pagedBy level va (f .core)) (sym e ∙ ea))
+  pub page-fault : (xs : List ℕ) → (code ≡ 0 → ⊥) → Moved ws xs (its-page .core) → Moved ws xs (pagedTo (held ws .who .level) va its-page)
+  page-fault xs n m = moved-as m (sym (go (its-page .answer) refl))
+    where
+      go : (a : Answer) → its-page .answer ≡ a → pagedBy (held ws .who .level) va (its-page .core) (its-page .answer) ≡ its-page .core
+      go (Address pa) e = absurd (n (ec ∙ ap codeOf e))
+      go (Status fsc) e = rw e
+
+-- the fetch hint
+pub fetch-hint : (ws : List ℕ) (va : ℕ) (who : Who) (f : FetchHint) (p : Physical) → who ≡ held ws .who → f ≡ held ws .tlb .cache .fetch → p ≡ fetchFound f (who .level) va
+    → p ≡ fetchHint (held ws) va
+unfolding fetchHint
+fetch-hint ws va who f p ew ef ep = ep ∙ λ i. fetchFound (ef i) (ew i .level) va
 
 -- the translation that a fetch begins with
-module _ (ws : List ℕ) (memory : ℕ → Word) (va : ℕ) (who : Who) (f : FetchHint) (p : Physical) (ew : who ≡ held ws .who)
-    (ef : f ≡ held ws .tlb .cache .fetch) (ep : p ≡ fetchFound f (who .level) va) where
-  own-found : fetchFound (held ws .tlb .cache .fetch) (held ws .who .level) va ≡ p
-  own-found = sym (ep ∙ λ i. fetchFound (ef i) (ew i .level) va)
-
+module _ (ws : List ℕ) (memory : ℕ → Word) (va : ℕ) (p : Physical) (ep : p ≡ fetchHint (held ws) va) where
   abbrev fetched : Translated
   fetched = answering (withTlb (held ws) (fetchSteppedNow (held ws) memory va .tlb)) (fetchSteppedNow (held ws) memory va .answer)
 
   serves-it : (pa : ℕ) → p ≡ At pa → fetched ≡ answering (held ws) (Address pa)
-  unfolding fetchTo
-  serves-it pa e = fetch-serves (held ws) memory va pa (own-found ∙ e)
+  unfolding fetchTo fetchHint
+  serves-it pa e = fetch-serves (held ws) memory va pa (sym ep ∙ e)
 
-  pub fetch-hint-answer : (pa : ℕ) → p ≡ At pa → Address pa ≡ fetchSteppedNow (held ws) memory va .answer
-  fetch-hint-answer pa e = sym (ap (λ (x : Translated). x .answer) (serves-it pa e))
+  pub fetch-hint-code : (pa : ℕ) → p ≡ At pa → 0 ≡ codeOf (fetchSteppedNow (held ws) memory va .answer)
+  fetch-hint-code pa e = sym (ap (λ (x : Translated). codeOf (x .answer)) (serves-it pa e))
+
+  pub fetch-hint-value : (pa old : ℕ) → p ≡ At pa → pa ≡ valueOf (fetchSteppedNow (held ws) memory va .answer) old
+  fetch-hint-value pa old e = sym (ap (λ (x : Translated). valueOf (x .answer) old) (serves-it pa e))
 
   pub fetch-hint-core : (pa : ℕ) → p ≡ At pa → Moved ws ws (withTlb (held ws) (fetchSteppedNow (held ws) memory va .tlb))
   fetch-hint-core pa e = moved-as stays (sym (ap (λ (x : Translated). x .core) (serves-it pa e)))
@@ -229,13 +269,15 @@ module _ (ws : List ℕ) (memory : ℕ → Word) (va : ℕ) (who : Who) (f : Fet
   found-page = foundTo (held ws) memory va Fetch
 
   misses-it : p ≡ Unknown → fetched ≡ answering (pagedTo (held ws .who .level) va found-page) (found-page .answer)
-  unfolding fetchTo
-  misses-it e = fetch-misses (held ws) memory va (own-found ∙ e)
+  unfolding fetchTo fetchHint
+  misses-it e = fetch-misses (held ws) memory va (sym ep ∙ e)
 
-  pub fetch-page-answer : (a : Answer) → p ≡ Unknown → a ≡ found-page .answer → a ≡ fetchSteppedNow (held ws) memory va .answer
-  fetch-page-answer a e q = q ∙ sym (ap (λ (x : Translated). x .answer) (misses-it e))
+  pub fetch-page-code : (n : ℕ) → p ≡ Unknown → n ≡ codeOf (found-page .answer) → n ≡ codeOf (fetchSteppedNow (held ws) memory va .answer)
+  fetch-page-code n e q = q ∙ sym (ap (λ (x : Translated). codeOf (x .answer)) (misses-it e))
 
-  pub fetch-page-core : (xs : List ℕ) → p ≡ Unknown → Moved ws xs (pagedTo (who .level) va found-page)
+  pub fetch-page-value : (v old : ℕ) → p ≡ Unknown → v ≡ valueOf (found-page .answer) old → v ≡ valueOf (fetchSteppedNow (held ws) memory va .answer) old
+  fetch-page-value v old e q = q ∙ sym (ap (λ (x : Translated). valueOf (x .answer) old) (misses-it e))
+
+  pub fetch-page-core : (xs : List ℕ) → p ≡ Unknown → Moved ws xs (pagedTo (held ws .who .level) va found-page)
       → Moved ws xs (withTlb (held ws) (fetchSteppedNow (held ws) memory va .tlb))
-  fetch-page-core xs e m =
-      moved-as m (ap (λ (x : Who). pagedTo (x .level) va found-page) ew ∙ sym (ap (λ (x : Translated). x .core) (misses-it e)))
+  fetch-page-core xs e m = moved-as m (sym (ap (λ (x : Translated). x .core) (misses-it e)))

@@ -10,7 +10,7 @@ use Rattle.fault.specs.First.{first}
 use Rattle.walk.specs.Regime.{bankOf}
 use Rattle.tlb.specs.Access.{mayHint}
 use Rattle.tlb.specs.Entry.{slotOf}
-use Rattle.tlb.specs.Hint.{dataSlot, hintKey, hintFor, onPage, fetchFor}
+use Rattle.tlb.specs.Hint.{dataSlot, hintKey, hintFor, onPage, fetchFor, fetchFound}
 use Rattle.tlb.specs.Cache.{entryAt, hintAt}
 use Rattle.tlb.specs.Resolve.{resolveOf, countedBy, keptBy}
 use Rattle.tlb.specs.Turn.{missOf}
@@ -49,6 +49,10 @@ hintFound c va kind =
     pick (mayHint (c .who) kind && eqb (hintAt (c .tlb .cache) (dataSlot va kind) .key) (hintKey va (c .who .level)))
     (At (onPage (hintAt (c .tlb .cache) (dataSlot va kind) .pa) va))
     Unknown
+
+-- what the fetch hint says
+unfoldable pub fetchHint : Core → ℕ → Physical
+fetchHint c va = fetchFound (c .tlb .cache .fetch) (c .who .level) va
 
 -- an allowed address becomes a hint, where hints may serve
 unfoldable pub noted : Core → Who → Kind → ℕ → ℕ → Core

@@ -1,18 +1,16 @@
-// Loads, stores and fetches in place, by the book.
+// Loads and stores in place.
 ghost use mathlib.Core.Path.{_≡_};
 ghost use Rattle.word.specs.Ram.{wordAt, bytesIn};
 ghost use Rattle.walk.specs.Regime.{regimeOf, stage1On};
 ghost use Rattle.mmu.specs.Core.{bankNow};
 ghost use Rattle.mmu.specs.Ends.{storeRamEnd};
-ghost use Rattle.mmu.specs.Ops.{translateAccessOf, readOf, writeOf, ramAfterWrite, fetchOf, fetchPaOf, dataPaOf};
+ghost use Rattle.mmu.specs.Ops.{translateAccessOf, readOf, writeOf, ramAfterWrite};
 ghost use Rattle.words.specs.Held.{held};
 ghost use Rattle.words.specs.Moved.{Moved};
 ghost use Rattle.inplace.specs.Accessed.{loadEndOf, storeEndOf, keptLast, keptAbort};
 use crate::translate;
 use mmu::ends;
-use mmu::ends::FetchAnswer;
 use mmu::ends::LoadAnswer;
-use mmu::ends::Reached;
 use mmu::ends::StoreAnswer;
 use mmu::place;
 use mmu::place::Placed;
@@ -130,38 +128,4 @@ pub fn store(
     let n = ram::bytes_in(width);
     let placed = locate(state, va, n, Kind::Write, base, ram);
     store_placed(state, placed, va, width, value, base, ram)
-}
-
-// An instruction, by the fetch hint first.
-pub fn fetch(state: &mut State, va: u64, base: u64, ram: &[u8]) -> FetchAnswer
-    ensures { λ r. ⌜ r ≡ fetchOf (held (now (state .entry))) base (now (ram .entry)) va .answer ⌝ }
-    ensures { λ _. ⌜ Moved (now (state .entry)) (now (state .exit))
-        (fetchOf (held (now (state .entry))) base (now (ram .entry)) va .core) ⌝ }
-{
-    let at = translate::fetch_translate(state, va, base, ram);
-    let abort = state::abort_at(state);
-    let end = ends::fetch_end(at, abort, base, ram, va);
-    let answer = end.answer;
-    state::put_abort(state, end.abort_pa);
-    answer
-}
-
-// Where a data read of va goes.
-pub fn data_pa(state: &mut State, va: u64, base: u64, ram: &[u8]) -> Reached
-    ensures { λ r. ⌜ r ≡ dataPaOf (held (now (state .entry))) (wordAt base (now (ram .entry)) 8) va .answer ⌝ }
-    ensures { λ _. ⌜ Moved (now (state .entry)) (now (state .exit))
-        (dataPaOf (held (now (state .entry))) (wordAt base (now (ram .entry)) 8) va .core) ⌝ }
-{
-    let at = translate::translate(state, va, Kind::Read, base, ram);
-    ends::reach(at)
-}
-
-// Where a fetch of va goes, by the same hint.
-pub fn fetch_pa(state: &mut State, va: u64, base: u64, ram: &[u8]) -> Reached
-    ensures { λ r. ⌜ r ≡ fetchPaOf (held (now (state .entry))) (wordAt base (now (ram .entry)) 8) va .answer ⌝ }
-    ensures { λ _. ⌜ Moved (now (state .entry)) (now (state .exit))
-        (fetchPaOf (held (now (state .entry))) (wordAt base (now (ram .entry)) 8) va .core) ⌝ }
-{
-    let at = translate::fetch_translate(state, va, base, ram);
-    ends::reach(at)
 }

@@ -7,7 +7,8 @@ ghost use Rattle.tlb.specs.declared.access.Kind.the-variants.{Fetch};
 ghost use Rattle.mmu.specs.Ops.{translateOf, fetchSteppedNow, withTlb};
 ghost use Rattle.words.specs.Held.{held};
 ghost use Rattle.words.specs.Moved.{Moved};
-ghost use Rattle.inplace.specs.Found.{codeOf, valueOf, hintFound, noted, toldTo, sourced, committed, lookedAt};
+ghost use Rattle.inplace.specs.Found.{codeOf, valueOf, hintFound, fetchHint, noted, toldTo, sourced};
+ghost use Rattle.inplace.specs.Found.{committed, lookedAt};
 ghost use Rattle.inplace.specs.Found.{foundAt, pagedTo, answerOf};
 use tlb::access;
 use tlb::access::Answer;
@@ -205,32 +206,69 @@ pub fn translate(state: &mut State, va: u64, kind: Kind, base: u64, ram: &[u8]) 
     }
 }
 
-// A fetch from a page that the fetch hint does not name.
-fn fetch_page(state: &mut State, level: u8, va: u64, base: u64, ram: &[u8]) -> Answer
-    ensures { λ r. ⌜ r ≡ foundAt (now (state .entry)) base (now (ram .entry)) va Fetch .answer ⌝ }
+// The translation of va by number: the hint first.
+pub fn address(state: &mut State, va: u64, kind: Kind, pa: &mut u64, base: u64, ram: &[u8]) -> u64
+    ensures { λ r. ⌜ r ≤ 511 ⌝ }
+    ensures { λ r. ⌜ r
+        ≡ codeOf (translateOf (held (now (state .entry))) (wordAt base (now (ram .entry)) 8) va kind .answer) ⌝ }
+    ensures { λ r. ⌜ now (pa .exit) ≡ valueOf
+        (translateOf (held (now (state .entry))) (wordAt base (now (ram .entry)) 8) va kind .answer)
+        (now (pa .entry)) ⌝ }
     ensures { λ _. ⌜ Moved (now (state .entry)) (now (state .exit))
-        (pagedTo level va (foundAt (now (state .entry)) base (now (ram .entry)) va Fetch)) ⌝ }
+        (translateOf (held (now (state .entry))) (wordAt base (now (ram .entry)) 8) va kind .core) ⌝ }
 {
-    match slow(state, va, Kind::Fetch, base, ram) {
-        Answer::Address(pa) => {
-            let f = hint::fetch_for(va, level, pa);
-            cells::put_fetch(state, f);
-            Answer::Address(pa)
+    match by_hint(state, va, kind) {
+        Physical::At(at) => {
+            *pa = at;
+            0
         }
-        Answer::Status(fault) => Answer::Status(fault),
+        Physical::Unknown => find(state, va, kind, pa, base, ram),
     }
 }
 
-// The translation that a fetch begins with: the fetch hint first.
-pub fn fetch_translate(state: &mut State, va: u64, base: u64, ram: &[u8]) -> Answer
-    ensures { λ r. ⌜ r ≡ fetchSteppedNow (held (now (state .entry))) (wordAt base (now (ram .entry)) 8) va .answer ⌝ }
-    ensures { λ _. ⌜ Moved (now (state .entry)) (now (state .exit)) (withTlb (held (now (state .entry)))
-        (fetchSteppedNow (held (now (state .entry))) (wordAt base (now (ram .entry)) 8) va .tlb)) ⌝ }
+// What the fetch hint says of va.
+pub fn fetch_by_hint(state: &State, va: u64) -> Physical
+    ensures { λ r. ⌜ r ≡ fetchHint (held (now (state .entry))) va ⌝ }
 {
     let who = state::who_at(state);
     let f = cells::fetch_at(state);
-    match hint::fetch_found(f, who.level, va) {
-        Physical::At(pa) => Answer::Address(pa),
-        Physical::Unknown => fetch_page(state, who.level, va, base, ram),
+    hint::fetch_found(f, who.level, va)
+}
+
+// A fetch from a page that the fetch hint does not name. Where it is allowed, its page becomes the hint.
+pub fn fetch_find(state: &mut State, va: u64, pa: &mut u64, base: u64, ram: &[u8]) -> u64
+    ensures { λ r. ⌜ r ≤ 511 ⌝ }
+    ensures { λ r. ⌜ r ≡ codeOf (foundAt (now (state .entry)) base (now (ram .entry)) va Fetch .answer) ⌝ }
+    ensures { λ r. ⌜ now (pa .exit)
+        ≡ valueOf (foundAt (now (state .entry)) base (now (ram .entry)) va Fetch .answer) (now (pa .entry)) ⌝ }
+    ensures { λ _. ⌜ Moved (now (state .entry)) (now (state .exit)) (pagedTo (held (now (state .entry)) .who .level) va
+        (foundAt (now (state .entry)) base (now (ram .entry)) va Fetch)) ⌝ }
+{
+    let code = find(state, va, Kind::Fetch, pa, base, ram);
+    if code == 0 {
+        let who = state::who_at(state);
+        let f = hint::fetch_for(va, who.level, *pa);
+        cells::put_fetch(state, f);
+    }
+    code
+}
+
+// The translation that a fetch begins with, by number: the fetch hint first.
+pub fn fetch_address(state: &mut State, va: u64, pa: &mut u64, base: u64, ram: &[u8]) -> u64
+    ensures { λ r. ⌜ r ≤ 511 ⌝ }
+    ensures { λ r. ⌜ r
+        ≡ codeOf (fetchSteppedNow (held (now (state .entry))) (wordAt base (now (ram .entry)) 8) va .answer) ⌝ }
+    ensures { λ r. ⌜ now (pa .exit) ≡ valueOf
+        (fetchSteppedNow (held (now (state .entry))) (wordAt base (now (ram .entry)) 8) va .answer)
+        (now (pa .entry)) ⌝ }
+    ensures { λ _. ⌜ Moved (now (state .entry)) (now (state .exit)) (withTlb (held (now (state .entry)))
+        (fetchSteppedNow (held (now (state .entry))) (wordAt base (now (ram .entry)) 8) va .tlb)) ⌝ }
+{
+    match fetch_by_hint(state, va) {
+        Physical::At(at) => {
+            *pa = at;
+            0
+        }
+        Physical::Unknown => fetch_find(state, va, pa, base, ram),
     }
 }

@@ -3,7 +3,8 @@ use mathlib.Core.Path.{_≡_, refl, sym, ap, _∙_}
 use mathlib.Core.Bool.{Bool, true, false}
 use mathlib.Core.List.{List}
 use Prim.Native.Nat.{ℕ, _+_, _*_, _%_, _^_, _≤_, _<_}
-use borrow.Author.Tests.{lt-ltb, le-ltb, eq-eqb, ne-eqb}
+use native.Mathlib.Omega.{arith}
+use borrow.Author.Tests.{lt-ltb, le-ltb, ltb-false, eq-eqb, ne-eqb}
 use lib.Dec.{eqb, ltb}
 use lib.ListN.{getD, length}
 use Rattle.word.specs.Bits.{pick}
@@ -40,6 +41,18 @@ whoBy level mark = record { level = level; mark = mark }
 pub who-read : (ws : List ℕ) (l : ℕ) → l ≡ levelIn (word ws LEVEL) → whoBy l (eqb (word ws UNPRIVILEGED) 1) ≡ held ws .who
 unfolding held heldBy heldOn
 who-read ws l e = ap (λ (n : ℕ). whoBy n (eqb (word ws UNPRIVILEGED) 1)) e
+
+-- a level that no byte holds is none of the four either
+pub level-read : (ws : List ℕ) → ltb (word ws LEVEL) 4 ≡ ltb (held ws .who .level) 4
+unfolding held heldBy heldOn
+level-read ws = go (word ws LEVEL)
+  where
+    inside : (n : ℕ) (b : Bool) → ltb n 256 ≡ b → ltb n 4 ≡ ltb (pick b n 255) 4
+    inside n true e = refl
+    inside n false e = le-ltb n 4 (omega (arith, ltb-false n 256 e))
+
+    go : (n : ℕ) → ltb n 4 ≡ ltb (levelIn n) 4
+    go n = inside n (ltb n 256) refl
 
 -- general registers
 pub general-read : (ws : List ℕ) (n : ℕ) → n < 31 → word ws (GENERAL + n) ≡ regOf (held ws) n

@@ -1,5 +1,6 @@
 // The level and the mark, PSTATE, the PC, the general registers, and the physical addresses kept.
 ghost use mathlib.Core.Path.{_≡_};
+ghost use lib.Dec.{ltb};
 ghost use lib.ListN.{length};
 ghost use Rattle.entry.specs.Entry.{entryFlags};
 ghost use Rattle.mmu.specs.Core.{regOf, setReg};
@@ -35,6 +36,13 @@ pub fn who_at(state: &State) -> Who
         level,
         mark: state[place::UNPRIVILEGED] == 1,
     }
+}
+
+// Whether the level is one of the four.
+pub fn level_known(state: &State) -> bool
+    ensures { λ r. ⌜ r ≡ ltb (held (now (state .entry)) .who .level) 4 ⌝ }
+{
+    state[place::LEVEL] < 4
 }
 
 pub fn put_level(state: &mut State, level: u8)

@@ -1,6 +1,5 @@
 -- `a72abi::bytes::load_across` meets its contract.
-use Rattle.a72abi.proofs.Splitting.{same-load-code, same-load-value, same-load-core}
-use Rattle.a72abi.specs.Kept.{keeping}
+use Rattle.a72abi.proofs.Splitting.{same-load}
 use borrow.Author.Needs.{needs}
 use Rattle.a72abi.proofs.bytes.load_across.Statement.{statement}
 use Rattle.a72abi.proofs.bytes.load_across.Tie as tie
@@ -14,17 +13,17 @@ load-split-requires-2 c κs = search needs
 load-split-requires-3 : tie.Need-load-split-requires-3
 load-split-requires-3 c κs = search needs
 
-load-book-requires : tie.Need-load-book-requires
-load-book-requires c κs = search needs
+load-requires : tie.Need-load-requires
+load-requires c κs = search needs
 
 returns : tie.Need-returns
-returns c = record { code = search (same-load-code, needs); value = search (same-load-value, needs); words = search (same-load-core, needs); kept = search (keeping, needs) }
+returns c = search (same-load, needs)
 
 returns-2 : tie.Need-returns-2
-returns-2 c = record { code = search (same-load-code, needs); value = search (same-load-value, needs); words = search (same-load-core, needs); kept = search (keeping, needs) }
+returns-2 c = search (same-load, needs)
 
 returns-3 : tie.Need-returns-3
-returns-3 c = record { code = search (same-load-code, needs); value = search (same-load-value, needs); words = search (same-load-core, needs); kept = search (keeping, needs) }
+returns-3 c = search (same-load, needs)
 
 returns-4 : tie.Need-returns-4
 returns-4 c = search needs
@@ -36,7 +35,7 @@ load-across-spec =
     load-split-requires
     load-split-requires-2
     load-split-requires-3
-    load-book-requires
+    load-requires
     returns
     returns-2
     returns-3

@@ -1,6 +1,6 @@
 -- `a72abi::bytes::load_split` meets its contract.
-use Rattle.a72abi.proofs.Splitting.{split-code, split-value, split-core}
-use Rattle.a72abi.specs.Kept.{keeping}
+use Rattle.a72abi.proofs.Splitting.{split-load}
+use Rattle.a72abi.proofs.OnePage.{part-gives, whole-part}
 use borrow.Author.Needs.{needs}
 use Rattle.a72abi.proofs.bytes.load_split.Statement.{statement}
 use Rattle.a72abi.proofs.bytes.load_split.Tie as tie
@@ -17,14 +17,23 @@ put-last-requires c κs = search needs
 enum-told : tie.Need-enum-told
 enum-told c = search needs
 
-load-book-requires : tie.Need-load-book-requires
-load-book-requires c κs = search needs
+sub-load : tie.Need-sub-load
+sub-load c = search needs
+
+part-load-start : tie.Need-part-load-start
+part-load-start c = search needs
+
+part-load-end : tie.Need-part-load-end
+part-load-end c = search needs
+
+load-requires-2 : tie.Need-load-requires-2
+load-requires-2 c κs = search needs
 
 returns : tie.Need-returns
-returns c = record { code = search (split-code, needs); value = search (split-value, needs); words = search (split-core, needs); kept = search (keeping, needs) }
+returns c = search (split-load, needs)
 
 returns-2 : tie.Need-returns-2
-returns-2 c = search needs
+returns-2 c = search (part-gives, whole-part, needs)
 
 pub load-split-spec : {M : Type 1} → statement M
 load-split-spec =
@@ -34,6 +43,9 @@ load-split-spec =
     enum-known-pa
     put-last-requires
     enum-told
-    load-book-requires
+    sub-load
+    part-load-start
+    part-load-end
+    load-requires-2
     returns
     returns-2)

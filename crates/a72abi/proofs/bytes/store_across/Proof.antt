@@ -1,6 +1,5 @@
 -- `a72abi::bytes::store_across` meets its contract.
-use Rattle.a72abi.proofs.Splitting.{same-store-code, same-store-value, same-store-ram, same-store-core}
-use Rattle.a72abi.specs.Kept.{keeping}
+use Rattle.a72abi.proofs.Splitting.{same-store, same-store-ram}
 use borrow.Author.Needs.{needs}
 use Rattle.a72abi.proofs.bytes.store_across.Statement.{statement}
 use Rattle.a72abi.proofs.bytes.store_across.Tie as tie
@@ -14,26 +13,26 @@ store-split-requires-2 c κs = search needs
 store-split-requires-3 : tie.Need-store-split-requires-3
 store-split-requires-3 c κs = search needs
 
-store-book-requires : tie.Need-store-book-requires
-store-book-requires c κs = search needs
+store-requires : tie.Need-store-requires
+store-requires c κs = search needs
 
 same-length : tie.Need-same-length
 same-length c = search needs
 
 returns : tie.Need-returns
-returns c = (record { code = search (same-store-code, needs); value = search (same-store-value, needs); words = search (same-store-core, needs); kept = search (keeping, needs) }, search (same-store-ram, needs))
+returns c = (search (same-store, needs), search (same-store-ram, needs))
 
 same-length-2 : tie.Need-same-length-2
 same-length-2 c = search needs
 
 returns-2 : tie.Need-returns-2
-returns-2 c = (record { code = search (same-store-code, needs); value = search (same-store-value, needs); words = search (same-store-core, needs); kept = search (keeping, needs) }, search (same-store-ram, needs))
+returns-2 c = (search (same-store, needs), search (same-store-ram, needs))
 
 same-length-3 : tie.Need-same-length-3
 same-length-3 c = search needs
 
 returns-3 : tie.Need-returns-3
-returns-3 c = (record { code = search (same-store-code, needs); value = search (same-store-value, needs); words = search (same-store-core, needs); kept = search (keeping, needs) }, search (same-store-ram, needs))
+returns-3 c = (search (same-store, needs), search (same-store-ram, needs))
 
 same-length-4 : tie.Need-same-length-4
 same-length-4 c = search needs
@@ -48,7 +47,7 @@ store-across-spec =
     store-split-requires
     store-split-requires-2
     store-split-requires-3
-    store-book-requires
+    store-requires
     same-length
     returns
     same-length-2

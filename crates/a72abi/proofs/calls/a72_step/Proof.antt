@@ -13,9 +13,6 @@ enum-known-call c = search needs
 step-requires : tie.Need-step-requires
 step-requires c κs = search needs
 
-words-requires : tie.Need-words-requires
-words-requires c κs = search needs
-
 enum-told : tie.Need-enum-told
 enum-told c = search needs
 
@@ -35,7 +32,6 @@ a72-step-spec =
     call-of-requires
     enum-known-call
     step-requires
-    words-requires
     enum-told
     same-length
     returns

@@ -1,5 +1,5 @@
 -- `a72abi::calls::a72_system` meets its contract.
-use Rattle.a72abi.proofs.Glancing.{told-code, told-value}
+use Rattle.a72abi.proofs.Passing.{told-code, told-value}
 use Rattle.a72abi.specs.PromiseLaws.{promise}
 use Rattle.a72abi.specs.Kept.{keeping}
 use borrow.Author.Needs.{needs}

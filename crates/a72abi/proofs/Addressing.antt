@@ -1,0 +1,186 @@
+-- Translations and fetches by number, on plain values, for `search`.
+use mathlib.Core.Path.{_≡_, refl, sym, ap, _∙_}
+use mathlib.Core.Bool.{Bool, true, false}
+use mathlib.Core.List.{List}
+use Prim.Native.Nat.{ℕ, _+_, _≤_, _<_}
+use native.Mathlib.Omega.{arith}
+use borrow.Author.Tests.{ne-eqb}
+use lib.Dec.{eqb}
+use Rattle.word.specs.Bits.{pick}
+use Rattle.word.specs.Ram.{wordAt}
+use Rattle.tlb.specs.declared.access.Kind.{Kind}
+use Rattle.tlb.specs.declared.access.Kind.the-variants.{Read, Write, Fetch}
+use Rattle.tlb.specs.declared.access.Answer.{Answer}
+use Rattle.tlb.specs.declared.access.Answer.the-variants.{Address, Status}
+use Rattle.tlb.specs.declared.hint.Physical.{Physical}
+use Rattle.tlb.specs.declared.hint.Physical.the-variants.{At, Unknown}
+use Rattle.mmu.specs.Core.{movedTo}
+use Rattle.mmu.specs.Ends.{fetchEnd, reachedBy}
+use Rattle.mmu.specs.Bytes.{insnOf}
+use Rattle.mmu.specs.Ops.{withTlb, fetchSteppedNow, translateOf, dataPaOf, fetchPaOf, fetchOf}
+use Rattle.mmu.specs.declared.core.Core.{Core}
+use Rattle.mmu.specs.declared.bytes.Insn.{Insn}
+use Rattle.mmu.specs.declared.bytes.Insn.the-variants as Insn
+use Rattle.mmu.specs.declared.ops.Translated.{Translated}
+use Rattle.cpu.specs.Step.{translation, reaching, runOf, stepOf}
+use Rattle.cpu.specs.declared.call.Call.the-variants as Call
+use Rattle.cpu.specs.declared.call.Stepped.{Stepped}
+use Rattle.words.specs.Held.{held}
+use Rattle.words.specs.Parts.{withAbort}
+use Rattle.words.specs.Moved.{Moved, stays, moved-as}
+use Rattle.inplace.specs.Found.{codeOf, valueOf, answering, fetchHint, foundTo, pagedTo}
+use Rattle.inplace.specs.FetchLaws.{fetchTo, fetch-serves, fetch-misses}
+use Rattle.inplace.proofs.Looking.{code-at}
+use Rattle.a72abi.specs.Replies.{codeBy, valueBy}
+use Rattle.a72abi.specs.Ops.{kindOf, translateCall}
+use Rattle.a72abi.specs.Kept.{Kept, kept-late, kept-same, kept-done, translation-late, reach-late, fetch-end, unmoved}
+use Rattle.a72abi.specs.Inside.{Tells, FetchTells, fetchEnds}
+use Rattle.a72abi.specs.Promise.{Gives}
+use Rattle.a72abi.specs.declared.op.Calls.the-variants as Calls
+use Rattle.a72abi.specs.declared.op.Kinds.{Kinds}
+use Rattle.a72abi.specs.declared.op.Kinds.the-variants.{Known, Unknown as NoKind}
+use Rattle.a72abi.proofs.Passing.{tells-as, tells-after}
+
+-- TRANSLATIONS
+
+translation-code : (va : ℕ) (a : Answer) → codeOf a ≡ codeBy (translation va a)
+translation-code va (Address pa) = refl
+translation-code va (Status fsc) = refl
+
+translation-value : (va old : ℕ) (a : Answer) → valueOf a old ≡ valueBy (translation va a) old
+translation-value va old (Address pa) = refl
+translation-value va old (Status fsc) = refl
+
+pub translation-tells : (ws : List ℕ) (base : ℕ) (ram : List ℕ) (va : ℕ) (kind : Kind) (n old v : ℕ) (xs : List ℕ)
+    → n ≡ codeOf (translateOf (held ws) (wordAt base ram 8) va kind .answer) → v ≡ valueOf (translateOf (held ws) (wordAt base ram 8) va kind .answer) old
+    → Moved ws xs (translateOf (held ws) (wordAt base ram 8) va kind .core) → Tells (runOf (held ws) base ram (Call.Translate kind va)) ws n old v xs
+unfolding runOf
+translation-tells ws base ram va kind n old v xs en ev m =
+    let a = translateOf (held ws) (wordAt base ram 8) va kind .answer in
+    let c : n ≡ codeBy (translation va a) = en ∙ translation-code va a in
+    record { code = c; value = ev ∙ translation-value va old a; words = m; kept = kept-late ws xs (translation va a) n c (translation-late va a) }
+
+-- a status that is not told
+pub untold-zero : (n : ℕ) → n ≡ 0 → _≡_ {A = ℕ} 0 (pick (eqb n 0) 0 256)
+untold-zero n e = sym (rw e)
+
+pub untold-other : (n : ℕ) → (n ≡ 0 → ⊥) → _≡_ {A = ℕ} 256 (pick (eqb n 0) 0 256)
+untold-other n h = sym (rw (ne-eqb n 0 h))
+
+untold-code : (a : Answer) (n r : ℕ) → n ≡ codeOf a → r ≡ pick (eqb n 0) 0 256 → r ≡ codeBy (reaching (reachedBy a))
+untold-code (Address pa) n r e q = q ∙ ap (λ (k : ℕ). pick (eqb k 0) 0 256) e
+untold-code (Status f) n r e q = q ∙ rw (e, ne-eqb (256 + f .fsc) 0 (λ z. omega arith))
+
+untold-value : (a : Answer) (old : ℕ) → valueOf a old ≡ valueBy (reaching (reachedBy a)) old
+untold-value (Address pa) old = refl
+untold-value (Status fsc) old = refl
+
+module _ (ws : List ℕ) (base : ℕ) (ram : List ℕ) (va n r old v : ℕ) (xs : List ℕ) (er : r ≡ pick (eqb n 0) 0 256) where
+  pub data-tells : n ≡ codeOf (translateOf (held ws) (wordAt base ram 8) va Read .answer) → v ≡ valueOf (translateOf (held ws) (wordAt base ram 8) va Read .answer) old
+      → Moved ws xs (translateOf (held ws) (wordAt base ram 8) va Read .core) → Tells (runOf (held ws) base ram (Call.DataPa va)) ws r old v xs
+  unfolding runOf dataPaOf translateOf
+  data-tells en ev m =
+      let a = translateOf (held ws) (wordAt base ram 8) va Read .answer in
+      let c = untold-code a n r en er in
+      record { code = c; value = ev ∙ untold-value a old; words = m; kept = kept-late ws xs (reaching (reachedBy a)) r c (reach-late (reachedBy a)) }
+
+  pub fetch-pa-tells : n ≡ codeOf (fetchSteppedNow (held ws) (wordAt base ram 8) va .answer) → v ≡ valueOf (fetchSteppedNow (held ws) (wordAt base ram 8) va .answer) old
+      → Moved ws xs (withTlb (held ws) (fetchSteppedNow (held ws) (wordAt base ram 8) va .tlb)) → Tells (runOf (held ws) base ram (Call.FetchPa va)) ws r old v xs
+  unfolding runOf fetchPaOf
+  fetch-pa-tells en ev m =
+      let a = fetchSteppedNow (held ws) (wordAt base ram 8) va .answer in
+      let c = untold-code a n r en er in
+      record { code = c; value = ev ∙ untold-value a old; words = m; kept = kept-late ws xs (reaching (reachedBy a)) r c (reach-late (reachedBy a)) }
+
+-- FETCHES
+
+fetch-ends-late : (c : Core) (a : Answer) (base : ℕ) (ram : List ℕ) (va : ℕ) → unmoved (fetchEnds c a base ram va .reply) ≡ false
+unfolding fetchEnds
+fetch-ends-late c a base ram va = fetch-end a (c .«abort_pa») base ram va
+
+fetch-run : (c : Core) (base : ℕ) (ram : List ℕ) (va : ℕ) (a : Answer) (d : Core) → fetchTo c (wordAt base ram 8) va ≡ answering d a
+    → fetchEnds d a base ram va ≡ runOf c base ram (Call.Fetch va)
+unfolding fetchEnds runOf fetchOf fetchTo withAbort movedTo
+fetch-run c base ram va a d e = λ i. fetchEnds (sym e i .core) (sym e i .answer) base ram va
+
+module _ (ws : List ℕ) (base : ℕ) (ram : List ℕ) (pa : ℕ) (i : Insn) (ei : i ≡ insnOf base ram pa) (old : ℕ) where
+  pub insn-value : (v : ℕ) → i ≡ Insn.Value v → FetchTells pa base ram ws 0 old v ws
+  unfolding fetchEnds fetchEnd withAbort movedTo
+  insn-value v e = record { by = λ va. rw (← ei, e) (record { code = refl; value = refl; words = stays; kept = kept-same 0 ws }) }
+
+  pub insn-outside : (xs : List ℕ) → i ≡ Insn.Outside → Moved ws xs (withAbort (held ws) pa) → FetchTells pa base ram ws (256 + 0x10) old old xs
+  unfolding fetchEnds fetchEnd
+  insn-outside xs e m =
+      record { by = λ va. rw (← ei, e) (record { code = refl; value = refl; words = m; kept = record { same = λ l h. absurd (omega arith) } }) }
+
+module _ (ws : List ℕ) (base : ℕ) (ram : List ℕ) (va : ℕ) (p : Physical) (ep : p ≡ fetchHint (held ws) va) where
+  pub fetch-hint-tells : (pa n old v : ℕ) (xs : List ℕ) → p ≡ At pa → FetchTells pa base ram ws n old v xs → Tells (runOf (held ws) base ram (Call.Fetch va)) ws n old v xs
+  unfolding fetchHint
+  fetch-hint-tells pa n old v xs e t =
+      tells-as (fetch-run (held ws) base ram va (Address pa) (held ws) (fetch-serves (held ws) (wordAt base ram 8) va pa (sym ep ∙ e))) (t .by va)
+
+pub fetch-unknown : (ws : List ℕ) (va : ℕ) (p : Physical) → p ≡ fetchHint (held ws) va → p ≡ Unknown
+    → fetchHint (held ws) va ≡ Unknown
+fetch-unknown ws va p ep e = sym ep ∙ e
+
+module _ (ws xs : List ℕ) (base : ℕ) (ram : List ℕ) (va code : ℕ) (miss : fetchHint (held ws) va ≡ Unknown)
+    (ec : code ≡ codeOf (foundTo (held ws) (wordAt base ram 8) va Fetch .answer))
+    (m : Moved ws xs (pagedTo (held ws .who .level) va (foundTo (held ws) (wordAt base ram 8) va Fetch))) where
+  page-run : (a : Answer) → foundTo (held ws) (wordAt base ram 8) va Fetch .answer ≡ a → fetchEnds (held xs) a base ram va ≡ runOf (held ws) base ram (Call.Fetch va)
+  unfolding fetchHint
+  page-run a e =
+      fetch-run (held ws) base ram va a (held xs)
+      (fetch-misses (held ws) (wordAt base ram 8) va miss ∙ λ i. answering (sym (m .holds) i) (e i))
+
+  pub fetch-fault-tells : (old : ℕ) → (code ≡ 0 → ⊥) → Tells (runOf (held ws) base ram (Call.Fetch va)) ws code old old xs
+  unfolding fetchEnds fetchEnd withAbort movedTo
+  fetch-fault-tells old n = go (foundTo (held ws) (wordAt base ram 8) va Fetch .answer) refl
+    where
+      go : (a : Answer) → foundTo (held ws) (wordAt base ram 8) va Fetch .answer ≡ a → Tells (runOf (held ws) base ram (Call.Fetch va)) ws code old old xs
+      go (Address pa) e = absurd (n (ec ∙ ap codeOf e))
+      go (Status fsc) e =
+          tells-as (page-run (Status fsc) e)
+          (record { code = ec ∙ ap codeOf e; value = refl; words = record { long = m .long; holds = refl }; kept = record { same = λ l h. absurd (omega (arith, ec, ap codeOf e)) } })
+
+  pub fetch-page-tells : (pa before n old v : ℕ) (ys : List ℕ) → code ≡ 0 → pa ≡ valueOf (foundTo (held ws) (wordAt base ram 8) va Fetch .answer) before
+      → FetchTells pa base ram xs n old v ys → Tells (runOf (held ws) base ram (Call.Fetch va)) ws n old v ys
+  fetch-page-tells pa before n old v ys z ep t =
+      let a = code-at (foundTo (held ws) (wordAt base ram 8) va Fetch .answer) code pa before ec z ep in
+      tells-as (page-run (Address pa) a)
+      (tells-after m (t .by va) (kept-late ws ys (fetchEnds (held xs) (Address pa) base ram va .reply) n (t .by va .code) (fetch-ends-late (held xs) (Address pa) base ram va)))
+
+-- A TRANSLATION BY THE NUMBER OF ITS KIND
+
+pub kind-1 : (n : ℕ) → n ≡ 1 → Known Read ≡ kindOf n
+kind-1 n e = sym (rw e)
+
+pub kind-2 : (n : ℕ) → n ≡ 2 → Known Write ≡ kindOf n
+kind-2 n e = sym (rw e)
+
+pub kind-4 : (n : ℕ) → n ≡ 4 → Known Fetch ≡ kindOf n
+kind-4 n e = sym (rw e)
+
+pub kind-none : (n : ℕ) → (n ≡ 1 → ⊥) → (n ≡ 2 → ⊥) → (n ≡ 4 → ⊥) → NoKind ≡ kindOf n
+kind-none n a b c = sym (rw (ne-eqb n 1 a, ne-eqb n 2 b, ne-eqb n 4 c))
+
+pub kind-low : (n : ℕ) → n < 2 → (n ≡ 1 → ⊥) → NoKind ≡ kindOf n
+kind-low n h a = kind-none n a (λ e. omega arith) (λ e. omega arith)
+
+pub kind-high : (n : ℕ) → 2 ≤ n → (n ≡ 2 → ⊥) → (n ≡ 4 → ⊥) → NoKind ≡ kindOf n
+kind-high n h b c = kind-none n (λ e. omega arith) b c
+
+pub kind-gives : (base : ℕ) (ram ws : List ℕ) (va : ℕ) (p : Kinds) (k : Kind) (n old v : ℕ) (xs : List ℕ) → Known k ≡ p → Gives (Calls.Known (Call.Translate k va)) base ram ws n old v xs
+    → Gives (translateCall p va) base ram ws n old v xs
+unfolding translateCall
+kind-gives base ram ws va p k n old v xs e g = rw (← e) g
+
+pub no-kind-gives : (base : ℕ) (ram ws : List ℕ) (va : ℕ) (p : Kinds) (old : ℕ) → NoKind ≡ p → Gives (translateCall p va) base ram ws 64 old old ws
+unfolding translateCall
+no-kind-gives base ram ws va p old e = rw (← e) (record { code = refl; value = refl; words = stays; kept = kept-same 64 ws })
+
+-- AT ONCE
+
+module _ (ws : List ℕ) (base : ℕ) (ram : List ℕ) (va old : ℕ) where
+  pub quick-fetch : (p : Physical) (pa : ℕ) (i : Insn) (v : ℕ) → p ≡ fetchHint (held ws) va → p ≡ At pa → i ≡ insnOf base ram pa
+      → i ≡ Insn.Value v → Tells (runOf (held ws) base ram (Call.Fetch va)) ws 0 old v ws
+  quick-fetch p pa i v ep e ei q = fetch-hint-tells ws base ram va p ep pa 0 old v ws e (insn-value ws base ram pa i ei old v q)

@@ -1,0 +1,17 @@
+-- `a72abi::checked::missed_system` meets its contract.
+use Rattle.a72abi.proofs.Booking.{system-missed}
+use borrow.Author.Needs.{needs}
+use Rattle.a72abi.proofs.checked.missed_system.Statement.{statement}
+use Rattle.a72abi.proofs.checked.missed_system.Tie as tie
+
+who-at-requires : tie.Need-who-at-requires
+who-at-requires c κs = search needs
+
+system-requires : tie.Need-system-requires
+system-requires c κs = search needs
+
+returns : tie.Need-returns
+returns c = search (system-missed, needs)
+
+pub missed-system-spec : {M : Type 1} → statement M
+missed-system-spec = tie.close (tie.spec who-at-requires system-requires returns)

@@ -1,0 +1,29 @@
+-- `a72abi::checked::register` meets its contract.
+use Rattle.a72abi.proofs.Booking.{refused-reply, refused-core, written-reply, run-core}
+use Rattle.cpu.specs.Step.{runOf}
+use Rattle.a72abi.specs.Kept.{staying}
+use Rattle.cpu.specs.Check.{missedOf}
+use borrow.Author.Needs.{needs}
+use Rattle.a72abi.proofs.checked.register.Statement.{statement}
+use Rattle.a72abi.proofs.checked.register.Tie as tie
+
+missed-register-requires : tie.Need-missed-register-requires
+missed-register-requires c κs = search needs
+
+returns : tie.Need-returns
+unfolding missedOf
+returns c = record { reply = search (refused-reply, needs); words = search (refused-core, needs); stays = search (staying, needs) }
+
+write-register-requires : tie.Need-write-register-requires
+write-register-requires c κs = search needs
+
+written-requires : tie.Need-written-requires
+written-requires c κs = search needs
+
+returns-2 : tie.Need-returns-2
+unfolding missedOf runOf
+returns-2 c = record { reply = search (written-reply, needs); words = search (run-core, needs); stays = search (staying, needs) }
+
+pub register-spec : {M : Type 1} → statement M
+register-spec =
+    tie.close (tie.spec missed-register-requires returns write-register-requires written-requires returns-2)

@@ -1,0 +1,53 @@
+-- What only private contracts cite: an operation past its checks by its number and value, and the ends of an access.
+use mathlib.Core.Path.{_≡_}
+use mathlib.Core.List.{List}
+use Prim.Native.Nat.{ℕ, _-_, _<_}
+use lib.Dec.{eqb, ltb}
+use lib.ListN.{getD}
+use Rattle.word.specs.Bits.{pick}
+use Rattle.tlb.specs.declared.access.Answer.{Answer}
+use Rattle.tlb.specs.declared.access.Answer.the-variants.{Address}
+use Rattle.mmu.specs.Ends.{fetchEnd}
+use Rattle.mmu.specs.declared.core.Core.{Core}
+use Rattle.mmu.specs.declared.place.Placed.{Placed}
+use Rattle.cpu.specs.Step.{ends, loading, storing, fetching, stepOf}
+use Rattle.cpu.specs.declared.call.Call.{Call}
+use Rattle.cpu.specs.declared.call.Stepped.{Stepped}
+use Rattle.words.specs.Held.{held}
+use Rattle.words.specs.Moved.{Moved}
+use Rattle.words.specs.Parts.{withAbort}
+use Rattle.inplace.specs.Accessed.{loadEndOf, storeEndOf, keptLast, keptAbort}
+use Rattle.a72abi.specs.Replies.{codeBy, valueBy, wordsBy, four}
+use Rattle.a72abi.specs.Kept.{Kept}
+
+-- a step by its number and value, which was old
+pub record Tells (s : Stepped) (ws : List ℕ) (n old v : ℕ) (xs : List ℕ) : Type 0 where
+  pub code : n ≡ codeBy (s .reply)
+  pub value : v ≡ valueBy (s .reply) old
+  pub words : Moved ws xs (s .core)
+  pub kept : Kept n ws xs
+
+-- how an access ends on a core
+unfoldable pub loadEnds : Core → Placed → ℕ → List ℕ → ℕ → ℕ → Stepped
+loadEnds c p base ram va n = ends (keptLast c (loadEndOf c p base ram va n)) (loading (loadEndOf c p base ram va n .answer))
+
+unfoldable pub storeEnds : Core → Placed → ℕ → List ℕ → ℕ → ℕ → Stepped
+storeEnds c p base ram va n = ends (keptAbort c (storeEndOf c p base ram va n .«abort_pa»)) (storing (storeEndOf c p base ram va n .answer))
+
+unfoldable pub fetchEnds : Core → Answer → ℕ → List ℕ → ℕ → Stepped
+fetchEnds c a base ram va =
+    ends (withAbort c (fetchEnd a (c .«abort_pa») base ram va .«abort_pa»)) (fetching (fetchEnd a (c .«abort_pa») base ram va .answer))
+
+-- the instruction at pa, whatever address it was fetched by
+pub record FetchTells (pa base : ℕ) (ram ws : List ℕ) (n old v : ℕ) (xs : List ℕ) : Type 0 where
+  pub by : (va : ℕ) → Tells (fetchEnds (held ws) (Address pa) base ram va) ws n old v xs
+
+-- A call by its four words, and where those say that nothing was written.
+pub record Steps (call : Call) (base : ℕ) (ram ws : List ℕ) (w xs : List ℕ) : Type 0 where
+  pub answer : w ≡ wordsBy (stepOf (held ws) base ram call .reply)
+  pub words : Moved ws xs (stepOf (held ws) base ram call .core)
+  pub still : 4 < getD w 0 0 → getD w 0 0 < 8 → xs ≡ ws
+
+-- the words of a number: the answer's first two, a refusal's, or a fault's first two and its last
+abbrev pub wordsFrom : ℕ → ℕ → ℕ → ℕ → ℕ → ℕ → List ℕ
+wordsFrom n tag a fault b flag = pick (eqb n 0) (four tag a 0 0) (pick (ltb n 256) (four 5 n 0 0) (four fault b (n - 256) flag))
