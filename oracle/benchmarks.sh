@@ -1,6 +1,6 @@
 #!/bin/sh
 # Writes ../docs/BENCHMARKS.md: builds `bench` with the library lib$A72_NAME.a of the folder $A72_LIB, counts instructions, times all
-# cases and reads the frames; about two minutes. FEATURE=harness/lent where the folder has liblentbench.a too; NOTE is a sentence
+# cases and reads the frames; about two minutes. FEATURE=harness/lent where the folder has liblent_bench.a too; NOTE is a sentence
 # about the run.
 #   A72_LIB=/absolute/path/target/staticlib A72_NAME=a72abi ./benchmarks.sh
 set -eu
@@ -50,7 +50,7 @@ end. One argument of each call alternates between two values, so that a case sta
 | translation fault | the last table is empty, so no entry is ever made |
 | split | eight bytes cut in the middle and after seven, two bytes cut in the middle; both pages' hints serve |
 | TLBI | 1,024 live entries at the start |
-| lent | with FEATURE=harness/lent: a loop in `liblentbench.a` over `lent::translate` on a core that is a local there, from a fresh one in each run; answers alone are compared |
+| lent | with FEATURE=harness/lent: a loop in `liblent_bench.a` over `lent::translate` on a core that is a local there, from a fresh one in each run; answers alone are compared |
 | register write | TCR_EL1 between two values; TTBR0_EL1 between two ASIDs; VBAR_EL1; SCTLR_EL1 to what it is |
 
 The bars: hint hits 1.05, on `fetch_pa` 1.5; entry hits of translate, data_pa and fetch_pa 1.1, of load, store and fetch 1.15; walks and faults of translations 1.05; split accesses,
@@ -59,7 +59,7 @@ had 0.95 (translations) and 1.0 (loads and stores), entry hits of translations 1
 
 ## How it was run
 
-    rt staticlib a72abi && rt staticlib lentbench
+    rt staticlib a72abi && rt staticlib lent_bench
     cd oracle
     FEATURE=harness/lent A72_LIB=$PWD/../target/staticlib A72_NAME=a72abi ./benchmarks.sh
 

@@ -1,5 +1,5 @@
 //! With the feature `rattle` or `walk`: link the static library that A72_LIB (folder) and A72_NAME (name) give; with `lent`, the
-//! folder's `liblentbench.a` too.
+//! folder's `liblent_bench.a` too.
 use std::env;
 
 fn main() {
@@ -16,7 +16,7 @@ fn main() {
     println!("cargo:rustc-link-lib=static={name}");
     println!("cargo:rerun-if-changed={dir}/lib{name}.a");
     if env::var_os("CARGO_FEATURE_LENT").is_some() {
-        println!("cargo:rustc-link-lib=static=lentbench");
-        println!("cargo:rerun-if-changed={dir}/liblentbench.a");
+        println!("cargo:rustc-link-lib=static=lent_bench");
+        println!("cargo:rerun-if-changed={dir}/liblent_bench.a");
     }
 }

@@ -1,9 +1,9 @@
 // The tool: traces on the proved core, one translation step by step, and the chord.
 mod translation;
 
-use lines::report;
-use lines::run;
-use trace::form;
+use trace_file::report;
+use trace_file::run;
+use trace_text::form;
 
 fn help(fd: i32) {
     io::write_all(fd, b"usage: a72 run TRACE\n");
@@ -76,7 +76,7 @@ fn chord_command() {
         wrong(b"chord wants nothing more");
         return;
     }
-    let mut ram = machine::memory::zeros();
+    let mut ram = trace_core::memory::zeros();
     chord::story::tell(&mut ram);
 }
 

@@ -1,20 +1,20 @@
 // `a72 walk TRACE ADDRESS [read|write|fetch] [LEVEL]`: a trace in silence, then one translation step by step.
 use a72abi::calls;
-use lines::report;
-use lines::run;
-use lines::run::Mode;
-use machine::line::Machine;
-use machine::memory;
-use steps::explain;
 use tlb::access::Kind;
-use trace::form;
-use trace::lex;
-use trace::lex::Number;
+use trace_core::line::Machine;
+use trace_core::memory;
+use trace_file::report;
+use trace_file::run;
+use trace_file::run::Mode;
+use trace_text::form;
+use trace_text::lex;
+use trace_text::lex::Number;
+use walk_report::explain;
 use words::place::State;
 use words::place::WORDS;
 
 // A kind of access, or none.
-enum Kinds {
+enum DecodedKind {
     Known(Kind),
     Unknown,
 }
@@ -49,21 +49,21 @@ fn letters_arg(i: usize) -> u64 {
 }
 
 // The kind that the fourth argument names; a read where it is not there.
-fn kind_arg() -> Kinds {
+fn kind_arg() -> DecodedKind {
     if os::arg_count() < 5 {
-        return Kinds::Known(Kind::Read);
+        return DecodedKind::Known(Kind::Read);
     }
     let word = letters_arg(4);
     if word == form::letters(b"read") {
-        return Kinds::Known(Kind::Read);
+        return DecodedKind::Known(Kind::Read);
     }
     if word == form::letters(b"write") {
-        return Kinds::Known(Kind::Write);
+        return DecodedKind::Known(Kind::Write);
     }
     if word == form::letters(b"fetch") {
-        return Kinds::Known(Kind::Fetch);
+        return DecodedKind::Known(Kind::Fetch);
     }
-    Kinds::Unknown
+    DecodedKind::Unknown
 }
 
 // The level that the fifth argument names; 4 where it is not there, 5 where it is no level.
@@ -140,7 +140,7 @@ pub fn walk(path: &[u8]) {
         return;
     }
     match kind_arg() {
-        Kinds::Known(kind) => asked(path, q, kind),
-        Kinds::Unknown => report::text(b"a72: the kind of access is read, write or fetch\n"),
+        DecodedKind::Known(kind) => asked(path, q, kind),
+        DecodedKind::Unknown => report::text(b"a72: the kind of access is read, write or fetch\n"),
     }
 }

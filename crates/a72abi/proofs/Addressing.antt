@@ -12,33 +12,34 @@ use Rattle.tlb.specs.declared.access.Kind.{Kind}
 use Rattle.tlb.specs.declared.access.Kind.the-variants.{Read, Write, Fetch}
 use Rattle.tlb.specs.declared.access.Answer.{Answer}
 use Rattle.tlb.specs.declared.access.Answer.the-variants.{Address, Status}
-use Rattle.tlb.specs.declared.hint.Physical.{Physical}
-use Rattle.tlb.specs.declared.hint.Physical.the-variants.{At, Unknown}
-use Rattle.mmu.specs.Core.{movedTo}
-use Rattle.mmu.specs.Ends.{fetchEnd, reachedBy}
-use Rattle.mmu.specs.Bytes.{insnOf}
+use Rattle.tlb.specs.declared.hint.HintAnswer.{HintAnswer}
+use Rattle.tlb.specs.declared.hint.HintAnswer.the-variants.{At, Unknown}
+use Rattle.mmu.specs.Core.{afterAccess}
+use Rattle.operations.specs.Ends.{fetchEnd, reachedBy}
+use Rattle.operations.specs.Bytes.{insnOf}
 use Rattle.mmu.specs.Ops.{withTlb, fetchSteppedNow, translateOf, dataPaOf, fetchPaOf, fetchOf}
 use Rattle.mmu.specs.declared.core.Core.{Core}
-use Rattle.mmu.specs.declared.bytes.Insn.{Insn}
-use Rattle.mmu.specs.declared.bytes.Insn.the-variants as Insn
+use Rattle.operations.specs.declared.bytes.Insn.{Insn}
+use Rattle.operations.specs.declared.bytes.Insn.the-variants as Insn
 use Rattle.mmu.specs.declared.ops.Translated.{Translated}
-use Rattle.cpu.specs.Step.{translation, reaching, runOf, stepOf}
-use Rattle.cpu.specs.declared.call.Call.the-variants as Call
-use Rattle.cpu.specs.declared.call.Stepped.{Stepped}
-use Rattle.words.specs.Held.{held}
+use Rattle.operations.specs.Replies.{translation, reaching}
+use Rattle.cpu.specs.Step.{runOf, stepOf}
+use Rattle.operations.specs.declared.call.Call.the-variants as Call
+use Rattle.cpu.specs.declared.run.Stepped.{Stepped}
+use Rattle.words.specs.CoreOf.{coreOf}
 use Rattle.words.specs.Parts.{withAbort}
-use Rattle.words.specs.Moved.{Moved, stays, moved-as}
-use Rattle.inplace.specs.Found.{codeOf, valueOf, answering, fetchHint, foundTo, pagedTo}
-use Rattle.inplace.specs.FetchLaws.{fetchTo, fetch-serves, fetch-misses}
-use Rattle.inplace.proofs.Looking.{code-at}
+use Rattle.words.specs.NowHolds.{NowHolds, stays, holds-as}
+use Rattle.words_memory.specs.Found.{codeOf, valueOf, answering, fetchHint, foundTo, pagedTo}
+use Rattle.words_memory.specs.FetchLaws.{fetchTo, fetch-serves, fetch-misses}
+use Rattle.words_memory.proofs.Looking.{code-at}
 use Rattle.a72abi.specs.Replies.{codeBy, valueBy}
 use Rattle.a72abi.specs.Ops.{kindOf, translateCall}
 use Rattle.a72abi.specs.Kept.{Kept, kept-late, kept-same, kept-done, translation-late, reach-late, fetch-end, unmoved}
 use Rattle.a72abi.specs.Inside.{Tells, FetchTells, fetchEnds}
 use Rattle.a72abi.specs.Promise.{Gives}
-use Rattle.a72abi.specs.declared.op.Calls.the-variants as Calls
-use Rattle.a72abi.specs.declared.op.Kinds.{Kinds}
-use Rattle.a72abi.specs.declared.op.Kinds.the-variants.{Known, Unknown as NoKind}
+use Rattle.a72abi.specs.declared.op.DecodedCall.the-variants as DecodedCall
+use Rattle.a72abi.specs.declared.op.DecodedKind.{DecodedKind}
+use Rattle.a72abi.specs.declared.op.DecodedKind.the-variants.{Known, Unknown as NoKind}
 use Rattle.a72abi.proofs.Passing.{tells-as, tells-after}
 
 -- TRANSLATIONS
@@ -52,11 +53,11 @@ translation-value va old (Address pa) = refl
 translation-value va old (Status fsc) = refl
 
 pub translation-tells : (ws : List ℕ) (base : ℕ) (ram : List ℕ) (va : ℕ) (kind : Kind) (n old v : ℕ) (xs : List ℕ)
-    → n ≡ codeOf (translateOf (held ws) (wordAt base ram 8) va kind .answer) → v ≡ valueOf (translateOf (held ws) (wordAt base ram 8) va kind .answer) old
-    → Moved ws xs (translateOf (held ws) (wordAt base ram 8) va kind .core) → Tells (runOf (held ws) base ram (Call.Translate kind va)) ws n old v xs
+    → n ≡ codeOf (translateOf (coreOf ws) (wordAt base ram 8) va kind .answer) → v ≡ valueOf (translateOf (coreOf ws) (wordAt base ram 8) va kind .answer) old
+    → NowHolds ws xs (translateOf (coreOf ws) (wordAt base ram 8) va kind .core) → Tells (runOf (coreOf ws) base ram (Call.Translate kind va)) ws n old v xs
 unfolding runOf
 translation-tells ws base ram va kind n old v xs en ev m =
-    let a = translateOf (held ws) (wordAt base ram 8) va kind .answer in
+    let a = translateOf (coreOf ws) (wordAt base ram 8) va kind .answer in
     let c : n ≡ codeBy (translation va a) = en ∙ translation-code va a in
     record { code = c; value = ev ∙ translation-value va old a; words = m; kept = kept-late ws xs (translation va a) n c (translation-late va a) }
 
@@ -76,19 +77,19 @@ untold-value (Address pa) old = refl
 untold-value (Status fsc) old = refl
 
 module _ (ws : List ℕ) (base : ℕ) (ram : List ℕ) (va n r old v : ℕ) (xs : List ℕ) (er : r ≡ pick (eqb n 0) 0 256) where
-  pub data-tells : n ≡ codeOf (translateOf (held ws) (wordAt base ram 8) va Read .answer) → v ≡ valueOf (translateOf (held ws) (wordAt base ram 8) va Read .answer) old
-      → Moved ws xs (translateOf (held ws) (wordAt base ram 8) va Read .core) → Tells (runOf (held ws) base ram (Call.DataPa va)) ws r old v xs
+  pub data-tells : n ≡ codeOf (translateOf (coreOf ws) (wordAt base ram 8) va Read .answer) → v ≡ valueOf (translateOf (coreOf ws) (wordAt base ram 8) va Read .answer) old
+      → NowHolds ws xs (translateOf (coreOf ws) (wordAt base ram 8) va Read .core) → Tells (runOf (coreOf ws) base ram (Call.DataPa va)) ws r old v xs
   unfolding runOf dataPaOf translateOf
   data-tells en ev m =
-      let a = translateOf (held ws) (wordAt base ram 8) va Read .answer in
+      let a = translateOf (coreOf ws) (wordAt base ram 8) va Read .answer in
       let c = untold-code a n r en er in
       record { code = c; value = ev ∙ untold-value a old; words = m; kept = kept-late ws xs (reaching (reachedBy a)) r c (reach-late (reachedBy a)) }
 
-  pub fetch-pa-tells : n ≡ codeOf (fetchSteppedNow (held ws) (wordAt base ram 8) va .answer) → v ≡ valueOf (fetchSteppedNow (held ws) (wordAt base ram 8) va .answer) old
-      → Moved ws xs (withTlb (held ws) (fetchSteppedNow (held ws) (wordAt base ram 8) va .tlb)) → Tells (runOf (held ws) base ram (Call.FetchPa va)) ws r old v xs
+  pub fetch-pa-tells : n ≡ codeOf (fetchSteppedNow (coreOf ws) (wordAt base ram 8) va .answer) → v ≡ valueOf (fetchSteppedNow (coreOf ws) (wordAt base ram 8) va .answer) old
+      → NowHolds ws xs (withTlb (coreOf ws) (fetchSteppedNow (coreOf ws) (wordAt base ram 8) va .tlb)) → Tells (runOf (coreOf ws) base ram (Call.FetchPa va)) ws r old v xs
   unfolding runOf fetchPaOf
   fetch-pa-tells en ev m =
-      let a = fetchSteppedNow (held ws) (wordAt base ram 8) va .answer in
+      let a = fetchSteppedNow (coreOf ws) (wordAt base ram 8) va .answer in
       let c = untold-code a n r en er in
       record { code = c; value = ev ∙ untold-value a old; words = m; kept = kept-late ws xs (reaching (reachedBy a)) r c (reach-late (reachedBy a)) }
 
@@ -100,54 +101,54 @@ fetch-ends-late c a base ram va = fetch-end a (c .«abort_pa») base ram va
 
 fetch-run : (c : Core) (base : ℕ) (ram : List ℕ) (va : ℕ) (a : Answer) (d : Core) → fetchTo c (wordAt base ram 8) va ≡ answering d a
     → fetchEnds d a base ram va ≡ runOf c base ram (Call.Fetch va)
-unfolding fetchEnds runOf fetchOf fetchTo withAbort movedTo
+unfolding fetchEnds runOf fetchOf fetchTo withAbort afterAccess
 fetch-run c base ram va a d e = λ i. fetchEnds (sym e i .core) (sym e i .answer) base ram va
 
 module _ (ws : List ℕ) (base : ℕ) (ram : List ℕ) (pa : ℕ) (i : Insn) (ei : i ≡ insnOf base ram pa) (old : ℕ) where
   pub insn-value : (v : ℕ) → i ≡ Insn.Value v → FetchTells pa base ram ws 0 old v ws
-  unfolding fetchEnds fetchEnd withAbort movedTo
+  unfolding fetchEnds fetchEnd withAbort afterAccess
   insn-value v e = record { by = λ va. rw (← ei, e) (record { code = refl; value = refl; words = stays; kept = kept-same 0 ws }) }
 
-  pub insn-outside : (xs : List ℕ) → i ≡ Insn.Outside → Moved ws xs (withAbort (held ws) pa) → FetchTells pa base ram ws (256 + 0x10) old old xs
+  pub insn-outside : (xs : List ℕ) → i ≡ Insn.Outside → NowHolds ws xs (withAbort (coreOf ws) pa) → FetchTells pa base ram ws (256 + 0x10) old old xs
   unfolding fetchEnds fetchEnd
   insn-outside xs e m =
       record { by = λ va. rw (← ei, e) (record { code = refl; value = refl; words = m; kept = record { same = λ l h. absurd (omega arith) } }) }
 
-module _ (ws : List ℕ) (base : ℕ) (ram : List ℕ) (va : ℕ) (p : Physical) (ep : p ≡ fetchHint (held ws) va) where
-  pub fetch-hint-tells : (pa n old v : ℕ) (xs : List ℕ) → p ≡ At pa → FetchTells pa base ram ws n old v xs → Tells (runOf (held ws) base ram (Call.Fetch va)) ws n old v xs
+module _ (ws : List ℕ) (base : ℕ) (ram : List ℕ) (va : ℕ) (p : HintAnswer) (ep : p ≡ fetchHint (coreOf ws) va) where
+  pub fetch-hint-tells : (pa n old v : ℕ) (xs : List ℕ) → p ≡ At pa → FetchTells pa base ram ws n old v xs → Tells (runOf (coreOf ws) base ram (Call.Fetch va)) ws n old v xs
   unfolding fetchHint
   fetch-hint-tells pa n old v xs e t =
-      tells-as (fetch-run (held ws) base ram va (Address pa) (held ws) (fetch-serves (held ws) (wordAt base ram 8) va pa (sym ep ∙ e))) (t .by va)
+      tells-as (fetch-run (coreOf ws) base ram va (Address pa) (coreOf ws) (fetch-serves (coreOf ws) (wordAt base ram 8) va pa (sym ep ∙ e))) (t .by va)
 
-pub fetch-unknown : (ws : List ℕ) (va : ℕ) (p : Physical) → p ≡ fetchHint (held ws) va → p ≡ Unknown
-    → fetchHint (held ws) va ≡ Unknown
+pub fetch-unknown : (ws : List ℕ) (va : ℕ) (p : HintAnswer) → p ≡ fetchHint (coreOf ws) va → p ≡ Unknown
+    → fetchHint (coreOf ws) va ≡ Unknown
 fetch-unknown ws va p ep e = sym ep ∙ e
 
-module _ (ws xs : List ℕ) (base : ℕ) (ram : List ℕ) (va code : ℕ) (miss : fetchHint (held ws) va ≡ Unknown)
-    (ec : code ≡ codeOf (foundTo (held ws) (wordAt base ram 8) va Fetch .answer))
-    (m : Moved ws xs (pagedTo (held ws .who .level) va (foundTo (held ws) (wordAt base ram 8) va Fetch))) where
-  page-run : (a : Answer) → foundTo (held ws) (wordAt base ram 8) va Fetch .answer ≡ a → fetchEnds (held xs) a base ram va ≡ runOf (held ws) base ram (Call.Fetch va)
+module _ (ws xs : List ℕ) (base : ℕ) (ram : List ℕ) (va code : ℕ) (miss : fetchHint (coreOf ws) va ≡ Unknown)
+    (ec : code ≡ codeOf (foundTo (coreOf ws) (wordAt base ram 8) va Fetch .answer))
+    (m : NowHolds ws xs (pagedTo (coreOf ws .privilege .level) va (foundTo (coreOf ws) (wordAt base ram 8) va Fetch))) where
+  page-run : (a : Answer) → foundTo (coreOf ws) (wordAt base ram 8) va Fetch .answer ≡ a → fetchEnds (coreOf xs) a base ram va ≡ runOf (coreOf ws) base ram (Call.Fetch va)
   unfolding fetchHint
   page-run a e =
-      fetch-run (held ws) base ram va a (held xs)
-      (fetch-misses (held ws) (wordAt base ram 8) va miss ∙ λ i. answering (sym (m .holds) i) (e i))
+      fetch-run (coreOf ws) base ram va a (coreOf xs)
+      (fetch-misses (coreOf ws) (wordAt base ram 8) va miss ∙ λ i. answering (sym (m .holds) i) (e i))
 
-  pub fetch-fault-tells : (old : ℕ) → (code ≡ 0 → ⊥) → Tells (runOf (held ws) base ram (Call.Fetch va)) ws code old old xs
-  unfolding fetchEnds fetchEnd withAbort movedTo
-  fetch-fault-tells old n = go (foundTo (held ws) (wordAt base ram 8) va Fetch .answer) refl
+  pub fetch-fault-tells : (old : ℕ) → (code ≡ 0 → ⊥) → Tells (runOf (coreOf ws) base ram (Call.Fetch va)) ws code old old xs
+  unfolding fetchEnds fetchEnd withAbort afterAccess
+  fetch-fault-tells old n = go (foundTo (coreOf ws) (wordAt base ram 8) va Fetch .answer) refl
     where
-      go : (a : Answer) → foundTo (held ws) (wordAt base ram 8) va Fetch .answer ≡ a → Tells (runOf (held ws) base ram (Call.Fetch va)) ws code old old xs
+      go : (a : Answer) → foundTo (coreOf ws) (wordAt base ram 8) va Fetch .answer ≡ a → Tells (runOf (coreOf ws) base ram (Call.Fetch va)) ws code old old xs
       go (Address pa) e = absurd (n (ec ∙ ap codeOf e))
       go (Status fsc) e =
           tells-as (page-run (Status fsc) e)
           (record { code = ec ∙ ap codeOf e; value = refl; words = record { long = m .long; holds = refl }; kept = record { same = λ l h. absurd (omega (arith, ec, ap codeOf e)) } })
 
-  pub fetch-page-tells : (pa before n old v : ℕ) (ys : List ℕ) → code ≡ 0 → pa ≡ valueOf (foundTo (held ws) (wordAt base ram 8) va Fetch .answer) before
-      → FetchTells pa base ram xs n old v ys → Tells (runOf (held ws) base ram (Call.Fetch va)) ws n old v ys
+  pub fetch-page-tells : (pa before n old v : ℕ) (ys : List ℕ) → code ≡ 0 → pa ≡ valueOf (foundTo (coreOf ws) (wordAt base ram 8) va Fetch .answer) before
+      → FetchTells pa base ram xs n old v ys → Tells (runOf (coreOf ws) base ram (Call.Fetch va)) ws n old v ys
   fetch-page-tells pa before n old v ys z ep t =
-      let a = code-at (foundTo (held ws) (wordAt base ram 8) va Fetch .answer) code pa before ec z ep in
+      let a = code-at (foundTo (coreOf ws) (wordAt base ram 8) va Fetch .answer) code pa before ec z ep in
       tells-as (page-run (Address pa) a)
-      (tells-after m (t .by va) (kept-late ws ys (fetchEnds (held xs) (Address pa) base ram va .reply) n (t .by va .code) (fetch-ends-late (held xs) (Address pa) base ram va)))
+      (tells-after m (t .by va) (kept-late ws ys (fetchEnds (coreOf xs) (Address pa) base ram va .reply) n (t .by va .code) (fetch-ends-late (coreOf xs) (Address pa) base ram va)))
 
 -- A TRANSLATION BY THE NUMBER OF ITS KIND
 
@@ -169,18 +170,18 @@ kind-low n h a = kind-none n a (λ e. omega arith) (λ e. omega arith)
 pub kind-high : (n : ℕ) → 2 ≤ n → (n ≡ 2 → ⊥) → (n ≡ 4 → ⊥) → NoKind ≡ kindOf n
 kind-high n h b c = kind-none n (λ e. omega arith) b c
 
-pub kind-gives : (base : ℕ) (ram ws : List ℕ) (va : ℕ) (p : Kinds) (k : Kind) (n old v : ℕ) (xs : List ℕ) → Known k ≡ p → Gives (Calls.Known (Call.Translate k va)) base ram ws n old v xs
+pub kind-gives : (base : ℕ) (ram ws : List ℕ) (va : ℕ) (p : DecodedKind) (k : Kind) (n old v : ℕ) (xs : List ℕ) → Known k ≡ p → Gives (DecodedCall.Known (Call.Translate k va)) base ram ws n old v xs
     → Gives (translateCall p va) base ram ws n old v xs
 unfolding translateCall
 kind-gives base ram ws va p k n old v xs e g = rw (← e) g
 
-pub no-kind-gives : (base : ℕ) (ram ws : List ℕ) (va : ℕ) (p : Kinds) (old : ℕ) → NoKind ≡ p → Gives (translateCall p va) base ram ws 64 old old ws
+pub no-kind-gives : (base : ℕ) (ram ws : List ℕ) (va : ℕ) (p : DecodedKind) (old : ℕ) → NoKind ≡ p → Gives (translateCall p va) base ram ws 64 old old ws
 unfolding translateCall
 no-kind-gives base ram ws va p old e = rw (← e) (record { code = refl; value = refl; words = stays; kept = kept-same 64 ws })
 
 -- AT ONCE
 
 module _ (ws : List ℕ) (base : ℕ) (ram : List ℕ) (va old : ℕ) where
-  pub quick-fetch : (p : Physical) (pa : ℕ) (i : Insn) (v : ℕ) → p ≡ fetchHint (held ws) va → p ≡ At pa → i ≡ insnOf base ram pa
-      → i ≡ Insn.Value v → Tells (runOf (held ws) base ram (Call.Fetch va)) ws 0 old v ws
+  pub quick-fetch : (p : HintAnswer) (pa : ℕ) (i : Insn) (v : ℕ) → p ≡ fetchHint (coreOf ws) va → p ≡ At pa → i ≡ insnOf base ram pa
+      → i ≡ Insn.Value v → Tells (runOf (coreOf ws) base ram (Call.Fetch va)) ws 0 old v ws
   quick-fetch p pa i v ep e ei q = fetch-hint-tells ws base ram va p ep pa 0 old v ws e (insn-value ws base ram pa i ei old v q)

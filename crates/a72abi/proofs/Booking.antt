@@ -1,4 +1,4 @@
--- Calls that a check refuses, and calls that pass, by their replies, on plain values, for `search`.
+-- DecodedCall that a check refuses, and calls that pass, by their replies, on plain values, for `search`.
 use mathlib.Core.Path.{_≡_, refl, sym, ap, _∙_}
 use mathlib.Core.Bool.{not, _||_}
 use mathlib.Core.List.{List, [], _∷_}
@@ -10,104 +10,105 @@ use Rattle.word.specs.declared.ram.Width.{Width}
 use Rattle.word.specs.declared.ram.Sized.{Sized}
 use Rattle.word.specs.declared.ram.Sized.the-variants.{Bytes, Refused as NoWidth}
 use Rattle.sysreg.specs.declared.write.WriteAnswer.{WriteAnswer}
-use Rattle.tlb.specs.declared.access.Who.{Who}
+use Rattle.tlb.specs.declared.access.Privilege.{Privilege}
 use Rattle.tlb.specs.declared.access.Answer.{Answer}
 use Rattle.mmu.specs.Ops.{readOf, writeOf, ramAfterWrite}
 use Rattle.mmu.specs.declared.core.Core.{Core}
-use Rattle.mmu.specs.declared.ends.LoadAnswer.{LoadAnswer}
-use Rattle.mmu.specs.declared.ends.StoreAnswer.{StoreAnswer}
-use Rattle.mmu.specs.declared.ends.FetchAnswer.{FetchAnswer}
-use Rattle.mmu.specs.declared.ends.Reached.{Reached}
-use Rattle.cpu.specs.Check.{kept, ramRows, sizedRows, firstOf, missedOf}
-use Rattle.cpu.specs.Step.{translation, reaching, loading, storing, fetching, registering, loadBy, storeBy, storeRamBy, runOf, ramOf, stepOf, ramAfter, ends}
-use Rattle.cpu.specs.declared.call.Encoding.{Encoding}
-use Rattle.cpu.specs.declared.call.Call.{Call}
-use Rattle.cpu.specs.declared.call.Call.the-variants as Call
-use Rattle.cpu.specs.declared.call.Reply.{Reply}
-use Rattle.cpu.specs.declared.call.Reply.the-variants.{Refused}
-use Rattle.cpu.specs.declared.call.Stepped.{Stepped}
-use Rattle.words.specs.Held.{held}
-use Rattle.words.specs.Moved.{Moved, stays, moved-as}
+use Rattle.operations.specs.declared.ends.LoadAnswer.{LoadAnswer}
+use Rattle.operations.specs.declared.ends.StoreAnswer.{StoreAnswer}
+use Rattle.operations.specs.declared.ends.FetchAnswer.{FetchAnswer}
+use Rattle.operations.specs.declared.ends.Reached.{Reached}
+use Rattle.operations.specs.Check.{kept, ramRows, sizedRows, firstOf, missedOf}
+use Rattle.operations.specs.Replies.{translation, reaching, loading, storing, fetching, registering}
+use Rattle.cpu.specs.Step.{loadBy, storeBy, storeRamBy, runOf, ramOf, stepOf, ramAfter, ends}
+use Rattle.operations.specs.declared.call.Encoding.{Encoding}
+use Rattle.operations.specs.declared.call.Call.{Call}
+use Rattle.operations.specs.declared.call.Call.the-variants as Call
+use Rattle.operations.specs.declared.call.Reply.{Reply}
+use Rattle.operations.specs.declared.call.Reply.the-variants.{Refused}
+use Rattle.cpu.specs.declared.run.Stepped.{Stepped}
+use Rattle.words.specs.CoreOf.{coreOf}
+use Rattle.words.specs.NowHolds.{NowHolds, stays, holds-as}
 
 -- the checks
-module _ (c : Core) (who : Who) (n : ℕ) (e : who ≡ c .who) where
-  pub ram-missed : (base len : ℕ) → n ≡ firstOf (ramRows (who .level) base len) → n ≡ firstOf (ramRows (c .who .level) base len)
-  ram-missed base len q = q ∙ ap (λ (w : Who). firstOf (ramRows (w .level) base len)) e
+module _ (c : Core) (privilege : Privilege) (n : ℕ) (e : privilege ≡ c .privilege) where
+  pub ram-missed : (base len : ℕ) → n ≡ firstOf (ramRows (privilege .level) base len) → n ≡ firstOf (ramRows (c .privilege .level) base len)
+  ram-missed base len q = q ∙ ap (λ (w : Privilege). firstOf (ramRows (w .level) base len)) e
 
-  pub sized-missed : (base len size : ℕ) → n ≡ firstOf (sizedRows (who .level) base len size) → n ≡ firstOf (sizedRows (c .who .level) base len size)
-  sized-missed base len size q = q ∙ ap (λ (w : Who). firstOf (sizedRows (w .level) base len size)) e
+  pub sized-missed : (base len size : ℕ) → n ≡ firstOf (sizedRows (privilege .level) base len size) → n ≡ firstOf (sizedRows (c .privilege .level) base len size)
+  sized-missed base len size q = q ∙ ap (λ (w : Privilege). firstOf (sizedRows (w .level) base len size)) e
 
-  pub system-missed : (base len : ℕ) (x : Encoding) → n ≡ missedOf (who .level) base len (Call.System x) → n ≡ missedOf (c .who .level) base len (Call.System x)
-  system-missed base len x q = q ∙ ap (λ (w : Who). missedOf (w .level) base len (Call.System x)) e
+  pub system-missed : (base len : ℕ) (x : Encoding) → n ≡ missedOf (privilege .level) base len (Call.System x) → n ≡ missedOf (c .privilege .level) base len (Call.System x)
+  system-missed base len x q = q ∙ ap (λ (w : Privilege). missedOf (w .level) base len (Call.System x)) e
 
-  pub register-missed : (key : ℕ) → n ≡ firstOf ((ltb 3 (who .level), 1) ∷ (not (kept key), 6) ∷ []) → n ≡ firstOf ((ltb 3 (c .who .level), 1) ∷ (not (kept key), 6) ∷ [])
-  register-missed key q = q ∙ ap (λ (w : Who). firstOf ((ltb 3 (w .level), 1) ∷ (not (kept key), 6) ∷ [])) e
+  pub register-missed : (key : ℕ) → n ≡ firstOf ((ltb 3 (privilege .level), 1) ∷ (not (kept key), 6) ∷ []) → n ≡ firstOf ((ltb 3 (c .privilege .level), 1) ∷ (not (kept key), 6) ∷ [])
+  register-missed key q = q ∙ ap (λ (w : Privilege). firstOf ((ltb 3 (w .level), 1) ∷ (not (kept key), 6) ∷ [])) e
 
-  pub level-missed : (requested : ℕ) → n ≡ firstOf ((ltb 3 (who .level) || ltb 3 requested, 1) ∷ []) → n ≡ firstOf ((ltb 3 (c .who .level) || ltb 3 requested, 1) ∷ [])
-  level-missed requested q = q ∙ ap (λ (w : Who). firstOf ((ltb 3 (w .level) || ltb 3 requested, 1) ∷ [])) e
+  pub level-missed : (requested : ℕ) → n ≡ firstOf ((ltb 3 (privilege .level) || ltb 3 requested, 1) ∷ []) → n ≡ firstOf ((ltb 3 (c .privilege .level) || ltb 3 requested, 1) ∷ [])
+  level-missed requested q = q ∙ ap (λ (w : Privilege). firstOf ((ltb 3 (w .level) || ltb 3 requested, 1) ∷ [])) e
 
-  pub any-missed : n ≡ firstOf ((ltb 3 (who .level), 1) ∷ []) → n ≡ firstOf ((ltb 3 (c .who .level), 1) ∷ [])
-  any-missed q = q ∙ ap (λ (w : Who). firstOf ((ltb 3 (w .level), 1) ∷ [])) e
+  pub any-missed : n ≡ firstOf ((ltb 3 (privilege .level), 1) ∷ []) → n ≡ firstOf ((ltb 3 (c .privilege .level), 1) ∷ [])
+  any-missed q = q ∙ ap (λ (w : Privilege). firstOf ((ltb 3 (w .level), 1) ∷ [])) e
 
-  pub general-missed : (number : ℕ) → n ≡ firstOf ((ltb 3 (who .level), 1) ∷ (ltb 31 number, 5) ∷ []) → n ≡ firstOf ((ltb 3 (c .who .level), 1) ∷ (ltb 31 number, 5) ∷ [])
-  general-missed number q = q ∙ ap (λ (w : Who). firstOf ((ltb 3 (w .level), 1) ∷ (ltb 31 number, 5) ∷ [])) e
+  pub general-missed : (number : ℕ) → n ≡ firstOf ((ltb 3 (privilege .level), 1) ∷ (ltb 31 number, 5) ∷ []) → n ≡ firstOf ((ltb 3 (c .privilege .level), 1) ∷ (ltb 31 number, 5) ∷ [])
+  general-missed number q = q ∙ ap (λ (w : Privilege). firstOf ((ltb 3 (w .level), 1) ∷ (ltb 31 number, 5) ∷ [])) e
 
-module _ (ws : List ℕ) (base : ℕ) (ram : List ℕ) (call : Call) (n : ℕ) (en : n ≡ missedOf (held ws .who .level) base (length ram) call) where
-  refuses : (n ≡ 0 → ⊥) → stepOf (held ws) base ram call ≡ ends (held ws) (Refused n)
+module _ (ws : List ℕ) (base : ℕ) (ram : List ℕ) (call : Call) (n : ℕ) (en : n ≡ missedOf (coreOf ws .privilege .level) base (length ram) call) where
+  refuses : (n ≡ 0 → ⊥) → stepOf (coreOf ws) base ram call ≡ ends (coreOf ws) (Refused n)
   unfolding stepOf
   refuses h = go n refl
     where
-      go : (k : ℕ) → n ≡ k → stepOf (held ws) base ram call ≡ ends (held ws) (Refused n)
+      go : (k : ℕ) → n ≡ k → stepOf (coreOf ws) base ram call ≡ ends (coreOf ws) (Refused n)
       go zero e = absurd (h e)
       go (suc k) e = rw (← en, e)
 
-  keeps-ram : (n ≡ 0 → ⊥) → ramAfter (held ws) base ram call ≡ ram
+  keeps-ram : (n ≡ 0 → ⊥) → ramAfter (coreOf ws) base ram call ≡ ram
   unfolding ramAfter
   keeps-ram h = go n refl
     where
-      go : (k : ℕ) → n ≡ k → ramAfter (held ws) base ram call ≡ ram
+      go : (k : ℕ) → n ≡ k → ramAfter (coreOf ws) base ram call ≡ ram
       go zero e = absurd (h e)
       go (suc k) e = rw (← en, e)
 
-  pub runs : n ≡ 0 → stepOf (held ws) base ram call ≡ runOf (held ws) base ram call
+  pub runs : n ≡ 0 → stepOf (coreOf ws) base ram call ≡ runOf (coreOf ws) base ram call
   unfolding stepOf
   runs e = rw (← en, e)
 
-  pub runs-ram : n ≡ 0 → ramAfter (held ws) base ram call ≡ ramOf (held ws) base ram call
+  pub runs-ram : n ≡ 0 → ramAfter (coreOf ws) base ram call ≡ ramOf (coreOf ws) base ram call
   unfolding ramAfter
   runs-ram e = rw (← en, e)
 
-  pub refused-reply : (n ≡ 0 → ⊥) → Refused n ≡ stepOf (held ws) base ram call .reply
+  pub refused-reply : (n ≡ 0 → ⊥) → Refused n ≡ stepOf (coreOf ws) base ram call .reply
   refused-reply h = sym (ap (λ (s : Stepped). s .reply) (refuses h))
 
-  pub refused-core : (n ≡ 0 → ⊥) → Moved ws ws (stepOf (held ws) base ram call .core)
-  refused-core h = moved-as stays (sym (ap (λ (s : Stepped). s .core) (refuses h)))
+  pub refused-core : (n ≡ 0 → ⊥) → NowHolds ws ws (stepOf (coreOf ws) base ram call .core)
+  refused-core h = holds-as stays (sym (ap (λ (s : Stepped). s .core) (refuses h)))
 
-  pub refused-ram : (n ≡ 0 → ⊥) → ram ≡ ramAfter (held ws) base ram call
+  pub refused-ram : (n ≡ 0 → ⊥) → ram ≡ ramAfter (coreOf ws) base ram call
   refused-ram h = sym (keeps-ram h)
 
   -- where none is missed: the operation's reply, by its answer, its core and RAM
   module _ (z : n ≡ 0) where
-    pub run-reply : (r : Reply) → r ≡ runOf (held ws) base ram call .reply → r ≡ stepOf (held ws) base ram call .reply
+    pub run-reply : (r : Reply) → r ≡ runOf (coreOf ws) base ram call .reply → r ≡ stepOf (coreOf ws) base ram call .reply
     run-reply r q = q ∙ sym (ap (λ (s : Stepped). s .reply) (runs z))
 
-    pub run-core : (xs : List ℕ) (d : Core) → Moved ws xs d → d ≡ runOf (held ws) base ram call .core → Moved ws xs (stepOf (held ws) base ram call .core)
-    run-core xs d m e = moved-as m (e ∙ sym (ap (λ (s : Stepped). s .core) (runs z)))
+    pub run-core : (xs : List ℕ) (d : Core) → NowHolds ws xs d → d ≡ runOf (coreOf ws) base ram call .core → NowHolds ws xs (stepOf (coreOf ws) base ram call .core)
+    run-core xs d m e = holds-as m (e ∙ sym (ap (λ (s : Stepped). s .core) (runs z)))
 
-    pub run-ram : (ys zs : List ℕ) → ys ≡ zs → zs ≡ ramOf (held ws) base ram call → ys ≡ ramAfter (held ws) base ram call
+    pub run-ram : (ys zs : List ℕ) → ys ≡ zs → zs ≡ ramOf (coreOf ws) base ram call → ys ≡ ramAfter (coreOf ws) base ram call
     run-ram ys zs e q = e ∙ q ∙ sym (runs-ram z)
 
-    pub passed-ram-is : (ys : List ℕ) → ys ≡ ramOf (held ws) base ram call → ys ≡ ramAfter (held ws) base ram call
+    pub passed-ram-is : (ys : List ℕ) → ys ≡ ramOf (coreOf ws) base ram call → ys ≡ ramAfter (coreOf ws) base ram call
     passed-ram-is ys q = q ∙ sym (runs-ram z)
 
-    by-answer : {A : Type 0} (to : A → Reply) (a b : A) (r : Reply) → r ≡ to a → a ≡ b → to b ≡ runOf (held ws) base ram call .reply
-        → r ≡ stepOf (held ws) base ram call .reply
+    by-answer : {A : Type 0} (to : A → Reply) (a b : A) (r : Reply) → r ≡ to a → a ≡ b → to b ≡ runOf (coreOf ws) base ram call .reply
+        → r ≡ stepOf (coreOf ws) base ram call .reply
     by-answer to a b r er e q = run-reply r (er ∙ ap to e ∙ q)
 
-    pub stored-reply : (a b : StoreAnswer) (r : Reply) → r ≡ storing a → a ≡ b → storing b ≡ runOf (held ws) base ram call .reply
-        → r ≡ stepOf (held ws) base ram call .reply
+    pub stored-reply : (a b : StoreAnswer) (r : Reply) → r ≡ storing a → a ≡ b → storing b ≡ runOf (coreOf ws) base ram call .reply
+        → r ≡ stepOf (coreOf ws) base ram call .reply
     stored-reply = by-answer storing
 
-    pub written-reply : (a b : WriteAnswer) (r : Reply) → r ≡ registering a → a ≡ b → registering b ≡ runOf (held ws) base ram call .reply
-        → r ≡ stepOf (held ws) base ram call .reply
+    pub written-reply : (a b : WriteAnswer) (r : Reply) → r ≡ registering a → a ≡ b → registering b ≡ runOf (coreOf ws) base ram call .reply
+        → r ≡ stepOf (coreOf ws) base ram call .reply
     written-reply = by-answer registering

@@ -19,41 +19,42 @@ use Rattle.walk.specs.Regime.{regimeOf, stage1On}
 use Rattle.tlb.specs.declared.access.Kind.{Kind}
 use Rattle.tlb.specs.declared.access.Kind.the-variants.{Read, Write}
 use Rattle.tlb.specs.declared.access.Answer.the-variants.{Address}
-use Rattle.tlb.specs.declared.access.Who.{Who}
-use Rattle.tlb.specs.declared.hint.Physical.{Physical}
-use Rattle.tlb.specs.declared.hint.Physical.the-variants.{At, Unknown}
-use Rattle.mmu.specs.Core.{movedTo, bankNow}
-use Rattle.mmu.specs.Place.{inPage, goesOn, crosses, verdictOf as judged, placedOne}
-use Rattle.mmu.specs.Bytes.{loadOf, storeRam}
-use Rattle.mmu.specs.Ends.{loadEnd, storeEnd, storeRamEnd}
+use Rattle.tlb.specs.declared.access.Privilege.{Privilege}
+use Rattle.tlb.specs.declared.hint.HintAnswer.{HintAnswer}
+use Rattle.tlb.specs.declared.hint.HintAnswer.the-variants.{At, Unknown}
+use Rattle.mmu.specs.Core.{afterAccess, bankNow}
+use Rattle.operations.specs.Place.{inPage, goesOn, crosses, verdictOf as judged, placedOne}
+use Rattle.operations.specs.Bytes.{loadOf, storeRam}
+use Rattle.operations.specs.Ends.{loadEnd, storeEnd, storeRamEnd}
 use Rattle.mmu.specs.Ops.{translateOf, translateAccessOf, readOf, writeOf, ramAfterWrite}
-use Rattle.mmu.proofs.Moves.{whole-value, whole-inside, whole-written}
+use Rattle.operations.proofs.Moves.{whole-value, whole-inside, whole-written}
 use Rattle.mmu.specs.declared.core.Core.{Core}
-use Rattle.mmu.specs.declared.place.Place.the-variants.{Whole}
-use Rattle.mmu.specs.declared.place.Placed.the-variants as Placed
-use Rattle.mmu.specs.declared.place.Verdict.{Verdict}
-use Rattle.mmu.specs.declared.place.Verdict.the-variants.{Inside}
-use Rattle.mmu.specs.declared.bytes.Got.{Got}
-use Rattle.mmu.specs.declared.bytes.Got.the-variants as Got
-use Rattle.mmu.specs.declared.ends.LoadEnd.{LoadEnd}
-use Rattle.mmu.specs.declared.ends.StoreEnd.{StoreEnd}
-use Rattle.mmu.specs.declared.ends.LoadAnswer.the-variants as Load
-use Rattle.mmu.specs.declared.ends.StoreAnswer.the-variants as Store
+use Rattle.operations.specs.declared.place.Place.the-variants.{Whole}
+use Rattle.operations.specs.declared.place.Placed.the-variants as Placed
+use Rattle.operations.specs.declared.place.Verdict.{Verdict}
+use Rattle.operations.specs.declared.place.Verdict.the-variants.{Inside}
+use Rattle.operations.specs.declared.bytes.Got.{Got}
+use Rattle.operations.specs.declared.bytes.Got.the-variants as Got
+use Rattle.operations.specs.declared.ends.LoadEnd.{LoadEnd}
+use Rattle.operations.specs.declared.ends.StoreEnd.{StoreEnd}
+use Rattle.operations.specs.declared.ends.LoadAnswer.the-variants as Load
+use Rattle.operations.specs.declared.ends.StoreAnswer.the-variants as Store
 use Rattle.mmu.specs.declared.ops.Accessed.{Accessed}
 use Rattle.mmu.specs.declared.ops.Translated.{Translated}
-use Rattle.cpu.specs.Check.{missedOf, isWidth, known}
-use Rattle.cpu.specs.Step.{loading, storing, loadBy, storeBy, storeRamBy, runOf, ramOf, stepOf, ramAfter, ends}
-use Rattle.cpu.specs.declared.call.Call.the-variants as Call
-use Rattle.cpu.specs.declared.call.Reply.{Reply}
-use Rattle.cpu.specs.declared.call.Reply.the-variants.{Done, Value}
-use Rattle.cpu.specs.declared.call.Stepped.{Stepped}
-use Rattle.words.specs.Held.{held}
+use Rattle.operations.specs.Check.{missedOf, isWidth, known}
+use Rattle.operations.specs.Replies.{loading, storing}
+use Rattle.cpu.specs.Step.{loadBy, storeBy, storeRamBy, runOf, ramOf, stepOf, ramAfter, ends}
+use Rattle.operations.specs.declared.call.Call.the-variants as Call
+use Rattle.operations.specs.declared.call.Reply.{Reply}
+use Rattle.operations.specs.declared.call.Reply.the-variants.{Done, Value}
+use Rattle.cpu.specs.declared.run.Stepped.{Stepped}
+use Rattle.words.specs.CoreOf.{coreOf}
 use Rattle.words.specs.Parts.{withLast, withAbort}
-use Rattle.words.specs.Moved.{Moved, stays, moved-as}
-use Rattle.inplace.specs.Accessed.{keptLast, keptAbort}
-use Rattle.inplace.specs.Found.{answering, hintFound}
-use Rattle.inplace.specs.FoundLaws.{hint-serves}
-use Rattle.inplace.proofs.Accessing.{one-is, load-parts, store-parts}
+use Rattle.words.specs.NowHolds.{NowHolds, stays, holds-as}
+use Rattle.words_memory.specs.Accessed.{keptLast, keptAbort}
+use Rattle.words_memory.specs.Found.{answering, hintFound}
+use Rattle.words_memory.specs.FoundLaws.{hint-serves}
+use Rattle.words_memory.proofs.Accessing.{one-is, load-parts, store-parts}
 use Rattle.a72abi.specs.Replies.{codeBy, valueBy}
 use Rattle.a72abi.specs.Quick.{Clear, sizedIn, sizedAt, madeIn, sizedMade, ramIn, sizedRam}
 use Rattle.a72abi.proofs.Passing.{clear-sized, passed, passed-ram}
@@ -171,11 +172,11 @@ outside-bits v e = subst is-outside e tt
     is-outside Outside = Unit {0}
 
 pub kept-last : (c : Core) (pa v : ℕ) → keptLast c (record { «last_pa» = pa; «abort_pa» = c .«abort_pa»; answer = Load.Value v }) ≡ withLast c pa
-unfolding keptLast withLast withAbort movedTo
+unfolding keptLast withLast withAbort afterAccess
 kept-last c pa v = refl
 
 pub kept-abort : (c : Core) → keptAbort c (c .«abort_pa») ≡ c
-unfolding keptAbort withAbort movedTo
+unfolding keptAbort withAbort afterAccess
 kept-abort c = refl
 
 pub unstored : (base : ℕ) (ram : List ℕ) (n pa v : ℕ) → within base (length ram) n pa ≡ false → stored base ram n pa v ≡ ram

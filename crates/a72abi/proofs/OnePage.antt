@@ -23,45 +23,46 @@ use Rattle.tlb.specs.declared.access.Kind.the-variants.{Read, Write}
 use Rattle.tlb.specs.declared.access.Answer.{Answer}
 use Rattle.fault.specs.declared.Fault.{Fault as Status1}
 use Rattle.tlb.specs.declared.access.Answer.the-variants.{Address, Status}
-use Rattle.tlb.specs.declared.access.Who.{Who}
-use Rattle.tlb.specs.declared.hint.Physical.{Physical}
-use Rattle.tlb.specs.declared.hint.Physical.the-variants.{At as Hinted, Unknown}
-use Rattle.mmu.specs.Core.{movedTo, bankNow}
-use Rattle.mmu.specs.Place.{inPage, crosses, goesOn, placedOne, verdictOf as judged}
-use Rattle.mmu.specs.Bytes.{loadOf, storeRam}
-use Rattle.mmu.specs.Ends.{loadEnd, storeEnd, storeRamEnd, externalAbort}
+use Rattle.tlb.specs.declared.access.Privilege.{Privilege}
+use Rattle.tlb.specs.declared.hint.HintAnswer.{HintAnswer}
+use Rattle.tlb.specs.declared.hint.HintAnswer.the-variants.{At as Hinted, Unknown}
+use Rattle.mmu.specs.Core.{afterAccess, bankNow}
+use Rattle.operations.specs.Place.{inPage, crosses, goesOn, placedOne, verdictOf as judged}
+use Rattle.operations.specs.Bytes.{loadOf, storeRam}
+use Rattle.operations.specs.Ends.{loadEnd, storeEnd, storeRamEnd, externalAbort}
 use Rattle.mmu.specs.Ops.{locatedNow, translateOf, translateAccessOf, readOf, writeOf, ramAfterWrite}
-use Rattle.mmu.proofs.Moves.{whole-value, whole-abort, whole-inside, whole-outside}
+use Rattle.operations.proofs.Moves.{whole-value, whole-abort, whole-inside, whole-outside}
 use Rattle.mmu.specs.declared.core.Core.{Core}
-use Rattle.mmu.specs.declared.place.Place.the-variants.{Whole}
-use Rattle.mmu.specs.declared.place.Placed.{Placed}
-use Rattle.mmu.specs.declared.place.Placed.the-variants.{At, Fault}
-use Rattle.mmu.specs.declared.place.Verdict.the-variants.{Inside, Outside}
-use Rattle.mmu.specs.declared.bytes.Got.the-variants as Got
-use Rattle.mmu.specs.declared.ends.LoadEnd.{LoadEnd}
-use Rattle.mmu.specs.declared.ends.StoreEnd.{StoreEnd}
-use Rattle.mmu.specs.declared.ends.LoadAnswer.the-variants as Load
-use Rattle.mmu.specs.declared.ends.StoreAnswer.the-variants as Store
+use Rattle.operations.specs.declared.place.Place.the-variants.{Whole}
+use Rattle.operations.specs.declared.place.Placed.{Placed}
+use Rattle.operations.specs.declared.place.Placed.the-variants.{At, Fault}
+use Rattle.operations.specs.declared.place.Verdict.the-variants.{Inside, Outside}
+use Rattle.operations.specs.declared.bytes.Got.the-variants as Got
+use Rattle.operations.specs.declared.ends.LoadEnd.{LoadEnd}
+use Rattle.operations.specs.declared.ends.StoreEnd.{StoreEnd}
+use Rattle.operations.specs.declared.ends.LoadAnswer.the-variants as Load
+use Rattle.operations.specs.declared.ends.StoreAnswer.the-variants as Store
 use Rattle.mmu.specs.declared.ops.Accessed.{Accessed}
 use Rattle.mmu.specs.declared.ops.Translated.{Translated}
-use Rattle.cpu.specs.Step.{loading, storing, loadBy, storeBy, storeRamBy, runOf, ramOf, ramAfter, ends}
-use Rattle.cpu.specs.declared.call.Call.the-variants as Call
-use Rattle.cpu.specs.declared.call.Reply.{Reply}
-use Rattle.cpu.specs.declared.call.Reply.the-variants.{Refused}
-use Rattle.cpu.specs.declared.call.Stepped.{Stepped}
-use Rattle.insys.specs.Early.{end-late, store-late}
-use Rattle.mmu.specs.declared.ends.LoadAnswer.{LoadAnswer}
-use Rattle.mmu.specs.declared.ends.StoreAnswer.{StoreAnswer}
+use Rattle.operations.specs.Replies.{loading, storing}
+use Rattle.cpu.specs.Step.{loadBy, storeBy, storeRamBy, runOf, ramOf, ramAfter, ends}
+use Rattle.operations.specs.declared.call.Call.the-variants as Call
+use Rattle.operations.specs.declared.call.Reply.{Reply}
+use Rattle.operations.specs.declared.call.Reply.the-variants.{Refused}
+use Rattle.cpu.specs.declared.run.Stepped.{Stepped}
+use Rattle.words_sys.specs.Early.{end-late, store-late}
+use Rattle.operations.specs.declared.ends.LoadAnswer.{LoadAnswer}
+use Rattle.operations.specs.declared.ends.StoreAnswer.{StoreAnswer}
 use Rattle.a72abi.specs.Promise.{Gives}
-use Rattle.a72abi.specs.declared.op.Calls.the-variants.{Known}
-use Rattle.words.specs.Held.{held}
+use Rattle.a72abi.specs.declared.op.DecodedCall.the-variants.{Known}
+use Rattle.words.specs.CoreOf.{coreOf}
 use Rattle.words.specs.Parts.{withLast, withAbort}
-use Rattle.words.specs.Moved.{Moved, stays, moved-as, moved-on}
-use Rattle.inplace.specs.Accessed.{loadEndOf, storeEndOf, keptLast, keptAbort}
-use Rattle.inplace.specs.Found.{codeOf, valueOf, answering, hintFound, foundTo}
-use Rattle.inplace.specs.FoundLaws.{hint-serves, hint-misses}
-use Rattle.inplace.proofs.Accessing.{one-is, load-parts, store-parts}
-use Rattle.inplace.proofs.Looking.{code-at}
+use Rattle.words.specs.NowHolds.{NowHolds, stays, holds-as, holds-on}
+use Rattle.words_memory.specs.Accessed.{loadEndOf, storeEndOf, keptLast, keptAbort}
+use Rattle.words_memory.specs.Found.{codeOf, valueOf, answering, hintFound, foundTo}
+use Rattle.words_memory.specs.FoundLaws.{hint-serves, hint-misses}
+use Rattle.words_memory.proofs.Accessing.{one-is, load-parts, store-parts}
+use Rattle.words_memory.proofs.Looking.{code-at}
 use Rattle.a72abi.specs.Replies.{codeBy, valueBy}
 use Rattle.a72abi.specs.Kept.{Kept, unmoved, kept-late, kept-same, load-late, storing-late}
 use Rattle.a72abi.specs.Inside.{Tells, loadEnds, storeEnds}
@@ -84,25 +85,25 @@ first-byte va h = let z : va + 0 ≡ va = omega arith in sym (ap wrap z ∙ mod-
 
 module _ (ws : List ℕ) (base : ℕ) (ram : List ℕ) (va n pa old : ℕ) where
   module _ (w : Word) (ew : w ≡ wordAt base ram n pa) where
-    pub at-value : (v : ℕ) (xs : List ℕ) → w ≡ Word.Value v → Moved ws xs (withLast (held ws) pa) → Tells (loadEnds (held ws) (At (Whole pa)) base ram va n) ws 0 old v xs
-    unfolding loadEnds loadEnd keptLast withLast withAbort movedTo
+    pub at-value : (v : ℕ) (xs : List ℕ) → w ≡ Word.Value v → NowHolds ws xs (withLast (coreOf ws) pa) → Tells (loadEnds (coreOf ws) (At (Whole pa)) base ram va n) ws 0 old v xs
+    unfolding loadEnds loadEnd keptLast withLast withAbort afterAccess
     at-value v xs e m =
         rw (sym (whole-value base ram pa n w v ew e)) (record { code = refl; value = refl; words = m; kept = record { same = λ l h. absurd (omega arith) } })
 
-    pub at-outside : (xs ys : List ℕ) → w ≡ Word.Outside → va < 2 ^ 64 → Moved ws xs (withLast (held ws) pa) → Moved xs ys (withAbort (held xs) pa)
-        → Tells (loadEnds (held ws) (At (Whole pa)) base ram va n) ws (256 + 0x10) old va ys
+    pub at-outside : (xs ys : List ℕ) → w ≡ Word.Outside → va < 2 ^ 64 → NowHolds ws xs (withLast (coreOf ws) pa) → NowHolds xs ys (withAbort (coreOf xs) pa)
+        → Tells (loadEnds (coreOf ws) (At (Whole pa)) base ram va n) ws (256 + 0x10) old va ys
     unfolding loadEnds loadEnd keptLast
     at-outside xs ys e h m q =
         rw (sym (whole-abort base ram pa n w ew e))
-        (record { code = refl; value = first-byte va h; words = moved-on (λ c. withAbort c pa) m q refl; kept = record { same = λ l k. absurd (omega arith) } })
+        (record { code = refl; value = first-byte va h; words = holds-on (λ c. withAbort c pa) m q refl; kept = record { same = λ l k. absurd (omega arith) } })
 
   module _ (made : Bool) (em : made ≡ within base (length ram) n pa) where
-    pub at-done : made ≡ true → Tells (storeEnds (held ws) (At (Whole pa)) base ram va n) ws 0 old old ws
-    unfolding storeEnds storeEnd keptAbort withAbort movedTo
+    pub at-done : made ≡ true → Tells (storeEnds (coreOf ws) (At (Whole pa)) base ram va n) ws 0 old old ws
+    unfolding storeEnds storeEnd keptAbort withAbort afterAccess
     at-done t = rw (sym (whole-inside base ram pa n made t em)) (record { code = refl; value = refl; words = stays; kept = kept-same 0 ws })
 
-    pub at-undone : (xs : List ℕ) → made ≡ false → va < 2 ^ 64 → Moved ws xs (withAbort (held ws) pa)
-        → Tells (storeEnds (held ws) (At (Whole pa)) base ram va n) ws (256 + 0x10) old va xs
+    pub at-undone : (xs : List ℕ) → made ≡ false → va < 2 ^ 64 → NowHolds ws xs (withAbort (coreOf ws) pa)
+        → Tells (storeEnds (coreOf ws) (At (Whole pa)) base ram va n) ws (256 + 0x10) old va xs
     unfolding storeEnds storeEnd keptAbort
     at-undone xs f h m =
         rw (sym (whole-outside base ram pa n made f em)) (record { code = refl; value = first-byte va h; words = m; kept = record { same = λ l k. absurd (omega arith) } })
@@ -122,10 +123,10 @@ width-of Double = refl
 -- the answer of its one translation, and the core that it leaves
 module _ (c : Core) (base : ℕ) (ram : List ℕ) (va : ℕ) (w : Width) (near : bytesIn w ≤ inPage va) (d : Core) (a : Answer) where
   module _ (kind : Kind) (et : translateOf c (wordAt base ram 8) va kind ≡ answering d a) where
-    one-page : goesOn (translateOf c (wordAt base ram 8) va kind .answer) (crosses (stage1On (bankNow c) (regimeOf (c .who .level))) va (bytesIn w)) ≡ false
+    one-page : goesOn (translateOf c (wordAt base ram 8) va kind .answer) (crosses (stage1On (bankNow c) (regimeOf (c .privilege .level))) va (bytesIn w)) ≡ false
     one-page =
-        ap (λ (b : Bool). goesOn (translateOf c (wordAt base ram 8) va kind .answer) (stage1On (bankNow c) (regimeOf (c .who .level)) && b)) (le-ltb (inPage va) (bytesIn w) near)
-        ∙ ap (goesOn (translateOf c (wordAt base ram 8) va kind .answer)) (and-false (stage1On (bankNow c) (regimeOf (c .who .level))))
+        ap (λ (b : Bool). goesOn (translateOf c (wordAt base ram 8) va kind .answer) (stage1On (bankNow c) (regimeOf (c .privilege .level)) && b)) (le-ltb (inPage va) (bytesIn w) near)
+        ∙ ap (goesOn (translateOf c (wordAt base ram 8) va kind .answer)) (and-false (stage1On (bankNow c) (regimeOf (c .privilege .level))))
         ∙ goes-not (translateOf c (wordAt base ram 8) va kind .answer)
 
     abbrev here : Accessed
@@ -159,30 +160,30 @@ unfolding storeRamEnd storeRam
 ram-at base ram n pa v = refl
 
 -- by its hint
-module _ (ws : List ℕ) (base : ℕ) (ram : List ℕ) (va : ℕ) (w : Width) (near : bytesIn w ≤ inPage va) (p : Physical) (pa : ℕ) (e : p ≡ Hinted pa) where
-  pub hint-load : (n old v : ℕ) (xs : List ℕ) → p ≡ hintFound (held ws) va Read → Tells (loadEnds (held ws) (At (Whole pa)) base ram va (bytesIn w)) ws n old v xs
-      → Tells (runOf (held ws) base ram (Call.Load va (bytesIn w))) ws n old v xs
-  hint-load n old v xs ep t = tells-as (load-run (held ws) base ram va w near (held ws) (Address pa) (hint-serves (held ws) (wordAt base ram 8) va Read pa (sym ep ∙ e))) t
+module _ (ws : List ℕ) (base : ℕ) (ram : List ℕ) (va : ℕ) (w : Width) (near : bytesIn w ≤ inPage va) (p : HintAnswer) (pa : ℕ) (e : p ≡ Hinted pa) where
+  pub hint-load : (n old v : ℕ) (xs : List ℕ) → p ≡ hintFound (coreOf ws) va Read → Tells (loadEnds (coreOf ws) (At (Whole pa)) base ram va (bytesIn w)) ws n old v xs
+      → Tells (runOf (coreOf ws) base ram (Call.Load va (bytesIn w))) ws n old v xs
+  hint-load n old v xs ep t = tells-as (load-run (coreOf ws) base ram va w near (coreOf ws) (Address pa) (hint-serves (coreOf ws) (wordAt base ram 8) va Read pa (sym ep ∙ e))) t
 
-  hint-store-run : (x : ℕ) → p ≡ hintFound (held ws) va Write
-      → (storeEnds (held ws) (At (Whole pa)) base ram va (bytesIn w) ≡ runOf (held ws) base ram (Call.Store va (bytesIn w) x))
-      × (storeRamEnd (At (Whole pa)) base ram (bytesIn w) x ≡ ramOf (held ws) base ram (Call.Store va (bytesIn w) x))
-  hint-store-run x ep = store-run (held ws) base ram va w near (held ws) (Address pa) x (hint-serves (held ws) (wordAt base ram 8) va Write pa (sym ep ∙ e))
+  hint-store-run : (x : ℕ) → p ≡ hintFound (coreOf ws) va Write
+      → (storeEnds (coreOf ws) (At (Whole pa)) base ram va (bytesIn w) ≡ runOf (coreOf ws) base ram (Call.Store va (bytesIn w) x))
+      × (storeRamEnd (At (Whole pa)) base ram (bytesIn w) x ≡ ramOf (coreOf ws) base ram (Call.Store va (bytesIn w) x))
+  hint-store-run x ep = store-run (coreOf ws) base ram va w near (coreOf ws) (Address pa) x (hint-serves (coreOf ws) (wordAt base ram 8) va Write pa (sym ep ∙ e))
 
-  pub hint-store : (x n old v : ℕ) (xs : List ℕ) → p ≡ hintFound (held ws) va Write → Tells (storeEnds (held ws) (At (Whole pa)) base ram va (bytesIn w)) ws n old v xs
-      → Tells (runOf (held ws) base ram (Call.Store va (bytesIn w) x)) ws n old v xs
+  pub hint-store : (x n old v : ℕ) (xs : List ℕ) → p ≡ hintFound (coreOf ws) va Write → Tells (storeEnds (coreOf ws) (At (Whole pa)) base ram va (bytesIn w)) ws n old v xs
+      → Tells (runOf (coreOf ws) base ram (Call.Store va (bytesIn w) x)) ws n old v xs
   hint-store x n old v xs ep t = tells-as (hint-store-run x ep .0) t
 
-  pub hint-store-ram : (x : ℕ) (ys : List ℕ) → p ≡ hintFound (held ws) va Write → ys ≡ stored base ram (bytesIn w) pa x → ys ≡ ramOf (held ws) base ram (Call.Store va (bytesIn w) x)
+  pub hint-store-ram : (x : ℕ) (ys : List ℕ) → p ≡ hintFound (coreOf ws) va Write → ys ≡ stored base ram (bytesIn w) pa x → ys ≡ ramOf (coreOf ws) base ram (Call.Store va (bytesIn w) x)
   hint-store-ram x ys ep q = q ∙ ram-at base ram (bytesIn w) pa x ∙ hint-store-run x ep .1
 
 -- by its translation
-load-fault : (d : Core) (base : ℕ) (ram : List ℕ) (va n : ℕ) (f : Status1) (old : ℕ) (ws xs : List ℕ) → Moved ws xs d → Tells (loadEnds d (Fault va f) base ram va n) ws (256 + f .fsc) old va xs
-unfolding loadEnds loadEnd keptLast withLast withAbort movedTo
+load-fault : (d : Core) (base : ℕ) (ram : List ℕ) (va n : ℕ) (f : Status1) (old : ℕ) (ws xs : List ℕ) → NowHolds ws xs d → Tells (loadEnds d (Fault va f) base ram va n) ws (256 + f .fsc) old va xs
+unfolding loadEnds loadEnd keptLast withLast withAbort afterAccess
 load-fault d base ram va n f old ws xs m = record { code = refl; value = refl; words = m; kept = record { same = λ l h. absurd (omega arith) } }
 
-store-fault : (d : Core) (base : ℕ) (ram : List ℕ) (va n : ℕ) (f : Status1) (old : ℕ) (ws xs : List ℕ) → Moved ws xs d → Tells (storeEnds d (Fault va f) base ram va n) ws (256 + f .fsc) old va xs
-unfolding storeEnds storeEnd keptAbort withAbort movedTo
+store-fault : (d : Core) (base : ℕ) (ram : List ℕ) (va n : ℕ) (f : Status1) (old : ℕ) (ws xs : List ℕ) → NowHolds ws xs d → Tells (storeEnds d (Fault va f) base ram va n) ws (256 + f .fsc) old va xs
+unfolding storeEnds storeEnd keptAbort withAbort afterAccess
 store-fault d base ram va n f old ws xs m = record { code = refl; value = refl; words = m; kept = record { same = λ l h. absurd (omega arith) } }
 
 ram-fault : (base : ℕ) (ram : List ℕ) (va n : ℕ) (f : Status1) (v : ℕ) → storeRamEnd (Fault va f) base ram n v ≡ ram
@@ -190,63 +191,63 @@ unfolding storeRamEnd
 ram-fault base ram va n f v = refl
 
 module _ (ws xs : List ℕ) (base : ℕ) (ram : List ℕ) (va : ℕ) (w : Width) (near : bytesIn w ≤ inPage va) (code : ℕ) where
-  module _ (kind : Kind) (miss : hintFound (held ws) va kind ≡ Unknown) (a : Answer) (ea : foundTo (held ws) (wordAt base ram 8) va kind .answer ≡ a)
-      (m : Moved ws xs (foundTo (held ws) (wordAt base ram 8) va kind .core)) where
-    found-is : translateOf (held ws) (wordAt base ram 8) va kind ≡ answering (held xs) a
-    found-is = hint-misses (held ws) (wordAt base ram 8) va kind miss ∙ λ i. answering (sym (m .holds) i) (ea i)
+  module _ (kind : Kind) (miss : hintFound (coreOf ws) va kind ≡ Unknown) (a : Answer) (ea : foundTo (coreOf ws) (wordAt base ram 8) va kind .answer ≡ a)
+      (m : NowHolds ws xs (foundTo (coreOf ws) (wordAt base ram 8) va kind .core)) where
+    found-is : translateOf (coreOf ws) (wordAt base ram 8) va kind ≡ answering (coreOf xs) a
+    found-is = hint-misses (coreOf ws) (wordAt base ram 8) va kind miss ∙ λ i. answering (sym (m .holds) i) (ea i)
 
-  module _ (miss : hintFound (held ws) va Read ≡ Unknown) (ec : code ≡ codeOf (foundTo (held ws) (wordAt base ram 8) va Read .answer))
-      (m : Moved ws xs (foundTo (held ws) (wordAt base ram 8) va Read .core)) where
-    pub load-fault-tells : (old : ℕ) → (code ≡ 0 → ⊥) → Tells (runOf (held ws) base ram (Call.Load va (bytesIn w))) ws code old va xs
-    load-fault-tells old n = go (foundTo (held ws) (wordAt base ram 8) va Read .answer) refl
+  module _ (miss : hintFound (coreOf ws) va Read ≡ Unknown) (ec : code ≡ codeOf (foundTo (coreOf ws) (wordAt base ram 8) va Read .answer))
+      (m : NowHolds ws xs (foundTo (coreOf ws) (wordAt base ram 8) va Read .core)) where
+    pub load-fault-tells : (old : ℕ) → (code ≡ 0 → ⊥) → Tells (runOf (coreOf ws) base ram (Call.Load va (bytesIn w))) ws code old va xs
+    load-fault-tells old n = go (foundTo (coreOf ws) (wordAt base ram 8) va Read .answer) refl
       where
-        go : (a : Answer) → foundTo (held ws) (wordAt base ram 8) va Read .answer ≡ a → Tells (runOf (held ws) base ram (Call.Load va (bytesIn w))) ws code old va xs
+        go : (a : Answer) → foundTo (coreOf ws) (wordAt base ram 8) va Read .answer ≡ a → Tells (runOf (coreOf ws) base ram (Call.Load va (bytesIn w))) ws code old va xs
         go (Address pa) e = absurd (n (ec ∙ ap codeOf e))
         go (Status fsc) e =
-            tells-as (load-run (held ws) base ram va w near (held xs) (Status fsc) (found-is Read miss (Status fsc) e m))
-            (rw (ec ∙ ap codeOf e) (load-fault (held xs) base ram va (bytesIn w) fsc old ws xs (record { long = m .long; holds = refl })))
+            tells-as (load-run (coreOf ws) base ram va w near (coreOf xs) (Status fsc) (found-is Read miss (Status fsc) e m))
+            (rw (ec ∙ ap codeOf e) (load-fault (coreOf xs) base ram va (bytesIn w) fsc old ws xs (record { long = m .long; holds = refl })))
 
-    pub load-page-tells : (pa before n old v : ℕ) (ys : List ℕ) → code ≡ 0 → pa ≡ valueOf (foundTo (held ws) (wordAt base ram 8) va Read .answer) before
-        → Tells (loadEnds (held xs) (At (Whole pa)) base ram va (bytesIn w)) xs n old v ys → Tells (runOf (held ws) base ram (Call.Load va (bytesIn w))) ws n old v ys
+    pub load-page-tells : (pa before n old v : ℕ) (ys : List ℕ) → code ≡ 0 → pa ≡ valueOf (foundTo (coreOf ws) (wordAt base ram 8) va Read .answer) before
+        → Tells (loadEnds (coreOf xs) (At (Whole pa)) base ram va (bytesIn w)) xs n old v ys → Tells (runOf (coreOf ws) base ram (Call.Load va (bytesIn w))) ws n old v ys
     load-page-tells pa before n old v ys z ep t =
-        let e = code-at (foundTo (held ws) (wordAt base ram 8) va Read .answer) code pa before ec z ep in
-        tells-as (load-run (held ws) base ram va w near (held xs) (Address pa) (found-is Read miss (Address pa) e m))
-        (tells-after m t (kept-late ws ys (loadEnds (held xs) (At (Whole pa)) base ram va (bytesIn w) .reply) n (t .code) (load-ends-late (held xs) (At (Whole pa)) base ram va (bytesIn w))))
+        let e = code-at (foundTo (coreOf ws) (wordAt base ram 8) va Read .answer) code pa before ec z ep in
+        tells-as (load-run (coreOf ws) base ram va w near (coreOf xs) (Address pa) (found-is Read miss (Address pa) e m))
+        (tells-after m t (kept-late ws ys (loadEnds (coreOf xs) (At (Whole pa)) base ram va (bytesIn w) .reply) n (t .code) (load-ends-late (coreOf xs) (At (Whole pa)) base ram va (bytesIn w))))
 
-  module _ (x : ℕ) (miss : hintFound (held ws) va Write ≡ Unknown) (ec : code ≡ codeOf (foundTo (held ws) (wordAt base ram 8) va Write .answer))
-      (m : Moved ws xs (foundTo (held ws) (wordAt base ram 8) va Write .core)) where
+  module _ (x : ℕ) (miss : hintFound (coreOf ws) va Write ≡ Unknown) (ec : code ≡ codeOf (foundTo (coreOf ws) (wordAt base ram 8) va Write .answer))
+      (m : NowHolds ws xs (foundTo (coreOf ws) (wordAt base ram 8) va Write .core)) where
     abbrev call : Stepped
-    call = runOf (held ws) base ram (Call.Store va (bytesIn w) x)
+    call = runOf (coreOf ws) base ram (Call.Store va (bytesIn w) x)
 
-    faults : (code ≡ 0 → ⊥) → (old : ℕ) → Tells call ws code old va xs × (ram ≡ ramOf (held ws) base ram (Call.Store va (bytesIn w) x))
-    faults n old = go (foundTo (held ws) (wordAt base ram 8) va Write .answer) refl
+    faults : (code ≡ 0 → ⊥) → (old : ℕ) → Tells call ws code old va xs × (ram ≡ ramOf (coreOf ws) base ram (Call.Store va (bytesIn w) x))
+    faults n old = go (foundTo (coreOf ws) (wordAt base ram 8) va Write .answer) refl
       where
-        go : (a : Answer) → foundTo (held ws) (wordAt base ram 8) va Write .answer ≡ a → Tells call ws code old va xs × (ram ≡ ramOf (held ws) base ram (Call.Store va (bytesIn w) x))
+        go : (a : Answer) → foundTo (coreOf ws) (wordAt base ram 8) va Write .answer ≡ a → Tells call ws code old va xs × (ram ≡ ramOf (coreOf ws) base ram (Call.Store va (bytesIn w) x))
         go (Address pa) e = absurd (n (ec ∙ ap codeOf e))
         go (Status fsc) e =
-            let r = store-run (held ws) base ram va w near (held xs) (Status fsc) x (found-is Write miss (Status fsc) e m) in (
-              tells-as (r .0) (rw (ec ∙ ap codeOf e) (store-fault (held xs) base ram va (bytesIn w) fsc old ws xs (record { long = m .long; holds = refl }))),
+            let r = store-run (coreOf ws) base ram va w near (coreOf xs) (Status fsc) x (found-is Write miss (Status fsc) e m) in (
+              tells-as (r .0) (rw (ec ∙ ap codeOf e) (store-fault (coreOf xs) base ram va (bytesIn w) fsc old ws xs (record { long = m .long; holds = refl }))),
               sym (ram-fault base ram va (bytesIn w) fsc x) ∙ r .1,
             )
 
     pub store-fault-tells : (old : ℕ) → (code ≡ 0 → ⊥) → Tells call ws code old va xs
     store-fault-tells old n = faults n old .0
 
-    pub store-fault-ram : (code ≡ 0 → ⊥) → ram ≡ ramOf (held ws) base ram (Call.Store va (bytesIn w) x)
+    pub store-fault-ram : (code ≡ 0 → ⊥) → ram ≡ ramOf (coreOf ws) base ram (Call.Store va (bytesIn w) x)
     store-fault-ram n = faults n 0 .1
 
-    module _ (pa before : ℕ) (z : code ≡ 0) (ep : pa ≡ valueOf (foundTo (held ws) (wordAt base ram 8) va Write .answer) before) where
-      made : (storeEnds (held xs) (At (Whole pa)) base ram va (bytesIn w) ≡ call) × (storeRamEnd (At (Whole pa)) base ram (bytesIn w) x ≡ ramOf (held ws) base ram (Call.Store va (bytesIn w) x))
+    module _ (pa before : ℕ) (z : code ≡ 0) (ep : pa ≡ valueOf (foundTo (coreOf ws) (wordAt base ram 8) va Write .answer) before) where
+      made : (storeEnds (coreOf xs) (At (Whole pa)) base ram va (bytesIn w) ≡ call) × (storeRamEnd (At (Whole pa)) base ram (bytesIn w) x ≡ ramOf (coreOf ws) base ram (Call.Store va (bytesIn w) x))
       made =
-          store-run (held ws) base ram va w near (held xs) (Address pa) x
-          (found-is Write miss (Address pa) (code-at (foundTo (held ws) (wordAt base ram 8) va Write .answer) code pa before ec z ep) m)
+          store-run (coreOf ws) base ram va w near (coreOf xs) (Address pa) x
+          (found-is Write miss (Address pa) (code-at (foundTo (coreOf ws) (wordAt base ram 8) va Write .answer) code pa before ec z ep) m)
 
-      pub store-page-tells : (n old v : ℕ) (ys : List ℕ) → Tells (storeEnds (held xs) (At (Whole pa)) base ram va (bytesIn w)) xs n old v ys → Tells call ws n old v ys
+      pub store-page-tells : (n old v : ℕ) (ys : List ℕ) → Tells (storeEnds (coreOf xs) (At (Whole pa)) base ram va (bytesIn w)) xs n old v ys → Tells call ws n old v ys
       store-page-tells n old v ys t =
           tells-as (made .0)
-          (tells-after m t (kept-late ws ys (storeEnds (held xs) (At (Whole pa)) base ram va (bytesIn w) .reply) n (t .code) (store-ends-late (held xs) (At (Whole pa)) base ram va (bytesIn w))))
+          (tells-after m t (kept-late ws ys (storeEnds (coreOf xs) (At (Whole pa)) base ram va (bytesIn w) .reply) n (t .code) (store-ends-late (coreOf xs) (At (Whole pa)) base ram va (bytesIn w))))
 
-      pub store-page-ram : (ys : List ℕ) → ys ≡ stored base ram (bytesIn w) pa x → ys ≡ ramOf (held ws) base ram (Call.Store va (bytesIn w) x)
+      pub store-page-ram : (ys : List ℕ) → ys ≡ stored base ram (bytesIn w) pa x → ys ≡ ramOf (coreOf ws) base ram (Call.Store va (bytesIn w) x)
       store-page-ram ys q = q ∙ ram-at base ram (bytesIn w) pa x ∙ made .1
 
 -- RAM lent on as a part that is the whole
@@ -254,13 +255,13 @@ pub whole-part : (xs : List ℕ) → take (length xs - 0) (drop 0 xs) ≡ xs
 whole-part xs = let s : length xs - 0 ≡ length xs = omega arith in rw s (take-length xs)
 
 module _ (ws xs : List ℕ) (base : ℕ) (ram part : List ℕ) (va : ℕ) (w : Width) (code old : ℕ) (e : part ≡ ram) (near : bytesIn w ≤ inPage va)
-    (miss : hintFound (held ws) va Read ≡ Unknown) (ec : code ≡ codeOf (foundTo (held ws) (wordAt base part 8) va Read .answer))
-    (m : Moved ws xs (foundTo (held ws) (wordAt base part 8) va Read .core)) where
-  pub part-fault-tells : (code ≡ 0 → ⊥) → Tells (runOf (held ws) base ram (Call.Load va (bytesIn w))) ws code old va xs
+    (miss : hintFound (coreOf ws) va Read ≡ Unknown) (ec : code ≡ codeOf (foundTo (coreOf ws) (wordAt base part 8) va Read .answer))
+    (m : NowHolds ws xs (foundTo (coreOf ws) (wordAt base part 8) va Read .core)) where
+  pub part-fault-tells : (code ≡ 0 → ⊥) → Tells (runOf (coreOf ws) base ram (Call.Load va (bytesIn w))) ws code old va xs
   part-fault-tells n = load-fault-tells ws xs base ram va w near code miss (rw e at ec) (rw e at m) old n
 
-  pub part-page-tells : (pa before n v : ℕ) (ys : List ℕ) → code ≡ 0 → pa ≡ valueOf (foundTo (held ws) (wordAt base part 8) va Read .answer) before
-      → Tells (loadEnds (held xs) (At (Whole pa)) base ram va (bytesIn w)) xs n old v ys → Tells (runOf (held ws) base ram (Call.Load va (bytesIn w))) ws n old v ys
+  pub part-page-tells : (pa before n v : ℕ) (ys : List ℕ) → code ≡ 0 → pa ≡ valueOf (foundTo (coreOf ws) (wordAt base part 8) va Read .answer) before
+      → Tells (loadEnds (coreOf xs) (At (Whole pa)) base ram va (bytesIn w)) xs n old v ys → Tells (runOf (coreOf ws) base ram (Call.Load va (bytesIn w))) ws n old v ys
   part-page-tells pa before n v ys z ep t = load-page-tells ws xs base ram va w near code miss (rw e at ec) (rw e at m) pa before n old v ys z (rw e at ep) t
 
 pub part-gives : (ws : List ℕ) (base : ℕ) (ram part : List ℕ) (va size n old v : ℕ) (xs : List ℕ) → part ≡ ram → Gives (Known (Call.Load va size)) base part ws n old v xs
@@ -270,66 +271,66 @@ part-gives ws base ram part va size n old v xs e g = rw e at g
 -- THAT MAY TAKE TWO
 
 module _ (ws xs : List ℕ) (base : ℕ) (ram : List ℕ) (va : ℕ) (w : Width) (n old v : ℕ) where
-  read-late : unmoved (loading (readOf (held ws) base ram va (bytesIn w) .answer)) ≡ false
+  read-late : unmoved (loading (readOf (coreOf ws) base ram va (bytesIn w) .answer)) ≡ false
   unfolding readOf
-  read-late = load-late (locatedNow (held ws) (wordAt base ram 8) va (bytesIn w) Read .placed) (held ws .«last_pa») (held ws .«abort_pa») base ram va (bytesIn w)
+  read-late = load-late (locatedNow (coreOf ws) (wordAt base ram 8) va (bytesIn w) Read .placed) (coreOf ws .«last_pa») (coreOf ws .«abort_pa») base ram va (bytesIn w)
 
-  pub read-tells : (a : LoadAnswer) → a ≡ readOf (held ws) base ram va (bytesIn w) .answer → n ≡ codeBy (loading a) → v ≡ valueBy (loading a) old
-      → Moved ws xs (readOf (held ws) base ram va (bytesIn w) .core) → Tells (runOf (held ws) base ram (Call.Load va (bytesIn w))) ws n old v xs
+  pub read-tells : (a : LoadAnswer) → a ≡ readOf (coreOf ws) base ram va (bytesIn w) .answer → n ≡ codeBy (loading a) → v ≡ valueBy (loading a) old
+      → NowHolds ws xs (readOf (coreOf ws) base ram va (bytesIn w) .core) → Tells (runOf (coreOf ws) base ram (Call.Load va (bytesIn w))) ws n old v xs
   unfolding runOf
   read-tells a ea en ev m =
-      let c : n ≡ codeBy (loading (readOf (held ws) base ram va (bytesIn w) .answer)) = en ∙ ap (λ (x : LoadAnswer). codeBy (loading x)) ea in
+      let c : n ≡ codeBy (loading (readOf (coreOf ws) base ram va (bytesIn w) .answer)) = en ∙ ap (λ (x : LoadAnswer). codeBy (loading x)) ea in
       rw (width-of w)
       (record {
         code = c;
         value = ev ∙ ap (λ (x : LoadAnswer). valueBy (loading x) old) ea;
         words = m;
-        kept = kept-late ws xs (loading (readOf (held ws) base ram va (bytesIn w) .answer)) n c read-late;
+        kept = kept-late ws xs (loading (readOf (coreOf ws) base ram va (bytesIn w) .answer)) n c read-late;
       })
 
-  pub write-tells : (x : ℕ) (a : StoreAnswer) → a ≡ writeOf (held ws) base ram va (bytesIn w) .answer → n ≡ codeBy (storing a) → v ≡ valueBy (storing a) old
-      → Moved ws xs (writeOf (held ws) base ram va (bytesIn w) .core) → Tells (runOf (held ws) base ram (Call.Store va (bytesIn w) x)) ws n old v xs
+  pub write-tells : (x : ℕ) (a : StoreAnswer) → a ≡ writeOf (coreOf ws) base ram va (bytesIn w) .answer → n ≡ codeBy (storing a) → v ≡ valueBy (storing a) old
+      → NowHolds ws xs (writeOf (coreOf ws) base ram va (bytesIn w) .core) → Tells (runOf (coreOf ws) base ram (Call.Store va (bytesIn w) x)) ws n old v xs
   unfolding runOf
   write-tells x a ea en ev m =
-      let c : n ≡ codeBy (storing (writeOf (held ws) base ram va (bytesIn w) .answer)) = en ∙ ap (λ (y : StoreAnswer). codeBy (storing y)) ea in
+      let c : n ≡ codeBy (storing (writeOf (coreOf ws) base ram va (bytesIn w) .answer)) = en ∙ ap (λ (y : StoreAnswer). codeBy (storing y)) ea in
       rw (width-of w)
       (record {
         code = c;
         value = ev ∙ ap (λ (y : StoreAnswer). valueBy (storing y) old) ea;
         words = m;
         kept =
-            kept-late ws xs (storing (writeOf (held ws) base ram va (bytesIn w) .answer)) n c
-            (storing-late (writeOf (held ws) base ram va (bytesIn w) .answer) ∙ store-late (held ws) base ram va (bytesIn w));
+            kept-late ws xs (storing (writeOf (coreOf ws) base ram va (bytesIn w) .answer)) n c
+            (storing-late (writeOf (coreOf ws) base ram va (bytesIn w) .answer) ∙ store-late (coreOf ws) base ram va (bytesIn w));
       })
 
-pub write-ram : (ws : List ℕ) (base : ℕ) (ram : List ℕ) (va : ℕ) (w : Width) (x : ℕ) (ys : List ℕ) → ys ≡ ramAfterWrite (held ws) base ram va (bytesIn w) x
-    → ys ≡ ramOf (held ws) base ram (Call.Store va (bytesIn w) x)
+pub write-ram : (ws : List ℕ) (base : ℕ) (ram : List ℕ) (va : ℕ) (w : Width) (x : ℕ) (ys : List ℕ) → ys ≡ ramAfterWrite (coreOf ws) base ram va (bytesIn w) x
+    → ys ≡ ramOf (coreOf ws) base ram (Call.Store va (bytesIn w) x)
 unfolding ramOf
-write-ram ws base ram va w x ys e = e ∙ sym (ap (λ (s : Sized). storeRamBy s (held ws) base ram va x) (width-of w))
+write-ram ws base ram va w x ys e = e ∙ sym (ap (λ (s : Sized). storeRamBy s (coreOf ws) base ram va x) (width-of w))
 
 -- A SIZE IN BYTES
 
 module _ (ws : List ℕ) (base : ℕ) (ram : List ℕ) (va size : ℕ) where
   module _ (n : ℕ) (e : size ≡ n) where
-    pub size-load : (k old v : ℕ) (xs : List ℕ) → Tells (runOf (held ws) base ram (Call.Load va n)) ws k old v xs → Tells (runOf (held ws) base ram (Call.Load va size)) ws k old v xs
+    pub size-load : (k old v : ℕ) (xs : List ℕ) → Tells (runOf (coreOf ws) base ram (Call.Load va n)) ws k old v xs → Tells (runOf (coreOf ws) base ram (Call.Load va size)) ws k old v xs
     size-load k old v xs t = rw e t
 
-    pub size-store : (x k old v : ℕ) (xs : List ℕ) → Tells (runOf (held ws) base ram (Call.Store va n x)) ws k old v xs → Tells (runOf (held ws) base ram (Call.Store va size x)) ws k old v xs
+    pub size-store : (x k old v : ℕ) (xs : List ℕ) → Tells (runOf (coreOf ws) base ram (Call.Store va n x)) ws k old v xs → Tells (runOf (coreOf ws) base ram (Call.Store va size x)) ws k old v xs
     size-store x k old v xs t = rw e t
 
-    pub size-store-ram : (x : ℕ) (ys : List ℕ) → ys ≡ ramOf (held ws) base ram (Call.Store va n x) → ys ≡ ramOf (held ws) base ram (Call.Store va size x)
+    pub size-store-ram : (x : ℕ) (ys : List ℕ) → ys ≡ ramOf (coreOf ws) base ram (Call.Store va n x) → ys ≡ ramOf (coreOf ws) base ram (Call.Store va size x)
     size-store-ram x ys q = rw e q
 
   module _ (e : widthOf size ≡ NoWidth) where
-    none-load : (old : ℕ) → Tells (runOf (held ws) base ram (Call.Load va size)) ws 3 old old ws
+    none-load : (old : ℕ) → Tells (runOf (coreOf ws) base ram (Call.Load va size)) ws 3 old old ws
     unfolding runOf
     none-load old = rw e (record { code = refl; value = refl; words = stays; kept = kept-same 3 ws })
 
-    none-store : (x old : ℕ) → Tells (runOf (held ws) base ram (Call.Store va size x)) ws 3 old old ws
+    none-store : (x old : ℕ) → Tells (runOf (coreOf ws) base ram (Call.Store va size x)) ws 3 old old ws
     unfolding runOf
     none-store x old = rw e (record { code = refl; value = refl; words = stays; kept = kept-same 3 ws })
 
-    none-ram : (x : ℕ) → ram ≡ ramOf (held ws) base ram (Call.Store va size x)
+    none-ram : (x : ℕ) → ram ≡ ramOf (coreOf ws) base ram (Call.Store va size x)
     unfolding ramOf
     none-ram x = rw e
 
@@ -337,36 +338,36 @@ module _ (ws : List ℕ) (base : ℕ) (ram : List ℕ) (va size : ℕ) where
     other : widthOf size ≡ NoWidth
     other = no-size base ram 0 size d c b a
 
-    pub other-load : (old : ℕ) → Tells (runOf (held ws) base ram (Call.Load va size)) ws 3 old old ws
+    pub other-load : (old : ℕ) → Tells (runOf (coreOf ws) base ram (Call.Load va size)) ws 3 old old ws
     other-load = none-load other
 
-    pub other-store : (x old : ℕ) → Tells (runOf (held ws) base ram (Call.Store va size x)) ws 3 old old ws
+    pub other-store : (x old : ℕ) → Tells (runOf (coreOf ws) base ram (Call.Store va size x)) ws 3 old old ws
     other-store = none-store other
 
-    pub other-ram : (x : ℕ) → ram ≡ ramOf (held ws) base ram (Call.Store va size x)
+    pub other-ram : (x : ℕ) → ram ≡ ramOf (coreOf ws) base ram (Call.Store va size x)
     other-ram = none-ram other
 
   module _ (s : Sized) (es : s ≡ widthOf size) where
-    pub sized-none : (old : ℕ) → s ≡ NoWidth → Tells (runOf (held ws) base ram (Call.Load va size)) ws 3 old old ws
+    pub sized-none : (old : ℕ) → s ≡ NoWidth → Tells (runOf (coreOf ws) base ram (Call.Load va size)) ws 3 old old ws
     sized-none old e = none-load (sym es ∙ e) old
 
-    pub sized-none-store : (x old : ℕ) → s ≡ NoWidth → Tells (runOf (held ws) base ram (Call.Store va size x)) ws 3 old old ws
+    pub sized-none-store : (x old : ℕ) → s ≡ NoWidth → Tells (runOf (coreOf ws) base ram (Call.Store va size x)) ws 3 old old ws
     sized-none-store x old e = none-store (sym es ∙ e) x old
 
-    pub sized-none-ram : (x : ℕ) → s ≡ NoWidth → ram ≡ ramOf (held ws) base ram (Call.Store va size x)
+    pub sized-none-ram : (x : ℕ) → s ≡ NoWidth → ram ≡ ramOf (coreOf ws) base ram (Call.Store va size x)
     sized-none-ram x e = none-ram (sym es ∙ e) x
 
     module _ (w : Width) (e : s ≡ Bytes w) where
       counts : size ≡ bytesIn w
       counts = sym (size-is size w (sym es ∙ e))
 
-      pub sized-load : (k old v : ℕ) (xs : List ℕ) → Tells (runOf (held ws) base ram (Call.Load va (bytesIn w))) ws k old v xs → Tells (runOf (held ws) base ram (Call.Load va size)) ws k old v xs
+      pub sized-load : (k old v : ℕ) (xs : List ℕ) → Tells (runOf (coreOf ws) base ram (Call.Load va (bytesIn w))) ws k old v xs → Tells (runOf (coreOf ws) base ram (Call.Load va size)) ws k old v xs
       sized-load = size-load (bytesIn w) counts
 
-      pub sized-store : (x k old v : ℕ) (xs : List ℕ) → Tells (runOf (held ws) base ram (Call.Store va (bytesIn w) x)) ws k old v xs → Tells (runOf (held ws) base ram (Call.Store va size x)) ws k old v xs
+      pub sized-store : (x k old v : ℕ) (xs : List ℕ) → Tells (runOf (coreOf ws) base ram (Call.Store va (bytesIn w) x)) ws k old v xs → Tells (runOf (coreOf ws) base ram (Call.Store va size x)) ws k old v xs
       sized-store = size-store (bytesIn w) counts
 
-      pub sized-store-ram : (x : ℕ) (ys : List ℕ) → ys ≡ ramOf (held ws) base ram (Call.Store va (bytesIn w) x) → ys ≡ ramOf (held ws) base ram (Call.Store va size x)
+      pub sized-store-ram : (x : ℕ) (ys : List ℕ) → ys ≡ ramOf (coreOf ws) base ram (Call.Store va (bytesIn w) x) → ys ≡ ramOf (coreOf ws) base ram (Call.Store va size x)
       sized-store-ram = size-store-ram (bytesIn w) counts
 
       pub near-width : (k : ℕ) → k ≡ inPage va → size ≤ k → bytesIn w ≤ inPage va
@@ -375,28 +376,28 @@ module _ (ws : List ℕ) (base : ℕ) (ram : List ℕ) (va size : ℕ) where
 pub near-page : (va size k : ℕ) → k ≡ inPage va → size ≤ k → size ≤ inPage va
 near-page va size k e h = rw (← e) h
 
-pub hint-none : (c : Core) (va : ℕ) (kind : Kind) (p : Physical) → p ≡ hintFound c va kind → p ≡ Unknown → hintFound c va kind ≡ Unknown
+pub hint-none : (c : Core) (va : ℕ) (kind : Kind) (p : HintAnswer) → p ≡ hintFound c va kind → p ≡ Unknown → hintFound c va kind ≡ Unknown
 hint-none c va kind p e q = sym e ∙ q
 
 -- BY THE HINT AND A SIZE
 
-module _ (ws : List ℕ) (base : ℕ) (ram : List ℕ) (va size k pa : ℕ) (p : Physical) (ek : k ≡ inPage va) (near : size ≤ k) (q : p ≡ Hinted pa) where
-  pub quick-load : (w : Word) (v old : ℕ) (xs : List ℕ) → p ≡ hintFound (held ws) va Read → w ≡ sizedAt base ram size pa → w ≡ Word.Value v
-      → Moved ws xs (withLast (held ws) pa) → Tells (runOf (held ws) base ram (Call.Load va size)) ws 0 old v xs
+module _ (ws : List ℕ) (base : ℕ) (ram : List ℕ) (va size k pa : ℕ) (p : HintAnswer) (ek : k ≡ inPage va) (near : size ≤ k) (q : p ≡ Hinted pa) where
+  pub quick-load : (w : Word) (v old : ℕ) (xs : List ℕ) → p ≡ hintFound (coreOf ws) va Read → w ≡ sizedAt base ram size pa → w ≡ Word.Value v
+      → NowHolds ws xs (withLast (coreOf ws) pa) → Tells (runOf (coreOf ws) base ram (Call.Load va size)) ws 0 old v xs
   quick-load w v old xs ep ew e m = go (widthOf size) refl
     where
-      go : (s : Sized) → widthOf size ≡ s → Tells (runOf (held ws) base ram (Call.Load va size)) ws 0 old v xs
+      go : (s : Sized) → widthOf size ≡ s → Tells (runOf (coreOf ws) base ram (Call.Load va size)) ws 0 old v xs
       go (Bytes x) es =
           let lies : w ≡ wordAt base ram (bytesIn x) pa = ew ∙ ap (λ (s : Sized). sizedIn s base ram pa) es in
           sized-load ws base ram va size (widthOf size) refl x es 0 old v xs
           (hint-load ws base ram va x (near-width ws base ram va size (widthOf size) refl x es k ek near) p pa q 0 old v xs ep (at-value ws base ram va (bytesIn x) pa old w lies v xs e m))
       go NoWidth es = absurd (outside-bits v (sym (ew ∙ ap (λ (s : Sized). sizedIn s base ram pa) es) ∙ e))
 
-  module _ (made : Bool) (x : ℕ) (ep : p ≡ hintFound (held ws) va Write) (em : made ≡ sizedMade base ram size pa) (t : made ≡ true) where
-    quick-both : (old : ℕ) → Tells (runOf (held ws) base ram (Call.Store va size x)) ws 0 old old ws × (sizedRam base ram size pa x ≡ ramOf (held ws) base ram (Call.Store va size x))
+  module _ (made : Bool) (x : ℕ) (ep : p ≡ hintFound (coreOf ws) va Write) (em : made ≡ sizedMade base ram size pa) (t : made ≡ true) where
+    quick-both : (old : ℕ) → Tells (runOf (coreOf ws) base ram (Call.Store va size x)) ws 0 old old ws × (sizedRam base ram size pa x ≡ ramOf (coreOf ws) base ram (Call.Store va size x))
     quick-both old = go (widthOf size) refl
       where
-        go : (s : Sized) → widthOf size ≡ s → Tells (runOf (held ws) base ram (Call.Store va size x)) ws 0 old old ws × (sizedRam base ram size pa x ≡ ramOf (held ws) base ram (Call.Store va size x))
+        go : (s : Sized) → widthOf size ≡ s → Tells (runOf (coreOf ws) base ram (Call.Store va size x)) ws 0 old old ws × (sizedRam base ram size pa x ≡ ramOf (coreOf ws) base ram (Call.Store va size x))
         go (Bytes y) es =
             let lies : made ≡ within base (length ram) (bytesIn y) pa = em ∙ ap (λ (s : Sized). madeIn s base ram pa) es in
             let h = near-width ws base ram va size (widthOf size) refl y es k ek near in (
@@ -406,10 +407,10 @@ module _ (ws : List ℕ) (base : ℕ) (ram : List ℕ) (va size k pa : ℕ) (p :
             )
         go NoWidth es = absurd (false-true (sym (em ∙ ap (λ (s : Sized). madeIn s base ram pa) es) ∙ t))
 
-    pub quick-store : (old : ℕ) → Tells (runOf (held ws) base ram (Call.Store va size x)) ws 0 old old ws
+    pub quick-store : (old : ℕ) → Tells (runOf (coreOf ws) base ram (Call.Store va size x)) ws 0 old old ws
     quick-store old = quick-both old .0
 
-    pub quick-store-ram : (ys : List ℕ) → ys ≡ sizedRam base ram size pa x → ys ≡ ramOf (held ws) base ram (Call.Store va size x)
+    pub quick-store-ram : (ys : List ℕ) → ys ≡ sizedRam base ram size pa x → ys ≡ ramOf (coreOf ws) base ram (Call.Store va size x)
     quick-store-ram ys e = e ∙ quick-both 0 .1
 
 -- A CALL AFTER A STORE THAT WAS NOT MADE: the same RAM
@@ -418,7 +419,7 @@ module _ (ws : List ℕ) (base : ℕ) (ram : List ℕ) (va size x n old v : ℕ)
   pub same-gives : Gives (Known (Call.Store va size x)) base ys ws n old v xs → Gives (Known (Call.Store va size x)) base ram ws n old v xs
   same-gives g = rw ey at g
 
-  pub same-ram : (zs : List ℕ) → zs ≡ ramAfter (held ws) base ys (Call.Store va size x) → zs ≡ ramAfter (held ws) base ram (Call.Store va size x)
+  pub same-ram : (zs : List ℕ) → zs ≡ ramAfter (coreOf ws) base ys (Call.Store va size x) → zs ≡ ramAfter (coreOf ws) base ram (Call.Store va size x)
   same-ram zs e = rw ey at e
 
 module _ (ws : List ℕ) (base : ℕ) (ram : List ℕ) (va size pa x n old v : ℕ) (made : Bool) (ys xs : List ℕ) (em : made ≡ sizedMade base ram size pa) (ef : made ≡ false)
@@ -426,5 +427,5 @@ module _ (ws : List ℕ) (base : ℕ) (ram : List ℕ) (va size pa x n old v : �
   pub unmade-gives : Gives (Known (Call.Store va size x)) base ys ws n old v xs → Gives (Known (Call.Store va size x)) base ram ws n old v xs
   unmade-gives = same-gives ws base ram va size x n old v ys xs (unmade-ram base ram size pa x made ys em ef ey)
 
-  pub unmade-after : (zs : List ℕ) → zs ≡ ramAfter (held ws) base ys (Call.Store va size x) → zs ≡ ramAfter (held ws) base ram (Call.Store va size x)
+  pub unmade-after : (zs : List ℕ) → zs ≡ ramAfter (coreOf ws) base ys (Call.Store va size x) → zs ≡ ramAfter (coreOf ws) base ram (Call.Store va size x)
   unmade-after = same-ram ws base ram va size x n old v ys xs (unmade-ram base ram size pa x made ys em ef ey)

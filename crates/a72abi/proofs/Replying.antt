@@ -5,19 +5,19 @@ use mathlib.Core.List.{List, [], _∷_}
 use Prim.Native.Nat.{ℕ, _+_}
 use Rattle.word.specs.Bits.{flag}
 use Rattle.fault.specs.declared.Fault.{Fault}
-use Rattle.entry.specs.declared.exception.DataAbort.{DataAbort as DataAborted}
-use Rattle.entry.specs.declared.exception.InsnAbort.{InsnAbort as InsnAborted}
-use Rattle.entry.specs.declared.exception.Exception.{Exception}
-use Rattle.entry.specs.declared.exception.Exception.the-variants.{Undefined, Svc, Hvc, Smc, Brk, DataAbort, InsnAbort, PcAlignment}
-use Rattle.entry.specs.declared.exception.Stop.{Stop}
-use Rattle.entry.specs.declared.exception.Stop.the-variants as Stop
-use Rattle.cpu.specs.declared.call.Reply.{Reply}
-use Rattle.cpu.specs.declared.call.Reply.the-variants.{Refused, Done, Value, Faults, Stopped}
-use Rattle.mmu.specs.declared.ends.LoadAnswer.{LoadAnswer}
-use Rattle.mmu.specs.declared.ends.LoadAnswer.the-variants as Load
-use Rattle.mmu.specs.declared.ends.StoreAnswer.{StoreAnswer}
-use Rattle.mmu.specs.declared.ends.StoreAnswer.the-variants as Store
-use Rattle.cpu.specs.Step.{loading, storing}
+use Rattle.exception.specs.declared.kind.DataAbort.{DataAbort as DataAborted}
+use Rattle.exception.specs.declared.kind.InsnAbort.{InsnAbort as InsnAborted}
+use Rattle.exception.specs.declared.kind.Exception.{Exception}
+use Rattle.exception.specs.declared.kind.Exception.the-variants.{Undefined, Svc, Hvc, Smc, Brk, DataAbort, InsnAbort, PcAlignment}
+use Rattle.exception.specs.declared.kind.Stop.{Stop}
+use Rattle.exception.specs.declared.kind.Stop.the-variants as Stop
+use Rattle.operations.specs.declared.call.Reply.{Reply}
+use Rattle.operations.specs.declared.call.Reply.the-variants.{Refused, Done, Value, Faults, Stopped}
+use Rattle.operations.specs.declared.ends.LoadAnswer.{LoadAnswer}
+use Rattle.operations.specs.declared.ends.LoadAnswer.the-variants as Load
+use Rattle.operations.specs.declared.ends.StoreAnswer.{StoreAnswer}
+use Rattle.operations.specs.declared.ends.StoreAnswer.the-variants as Store
+use Rattle.operations.specs.Replies.{loading, storing}
 use Rattle.a72abi.specs.Replies.{exceptionCode, stopCode, codeBy, exceptionValue, stopValue, valueBy, four, exceptionWords, stopWords, wordsBy}
 
 module _ (e : Exception) where

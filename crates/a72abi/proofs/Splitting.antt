@@ -17,40 +17,41 @@ use Rattle.walk.specs.Regime.{regimeOf, stage1On}
 use Rattle.tlb.specs.declared.access.Kind.{Kind}
 use Rattle.tlb.specs.declared.access.Kind.the-variants.{Read, Write}
 use Rattle.tlb.specs.declared.access.Answer.the-variants.{Address}
-use Rattle.tlb.specs.declared.access.Who.{Who}
-use Rattle.tlb.specs.declared.hint.Physical.{Physical}
-use Rattle.tlb.specs.declared.hint.Physical.the-variants.{At, Unknown}
+use Rattle.tlb.specs.declared.access.Privilege.{Privilege}
+use Rattle.tlb.specs.declared.hint.HintAnswer.{HintAnswer}
+use Rattle.tlb.specs.declared.hint.HintAnswer.the-variants.{At, Unknown}
 use Rattle.mmu.specs.Core.{bankNow}
-use Rattle.mmu.specs.Place.{inPage, nextPage, crosses, goesOn, placedBoth, firstPa, verdictOf as judged}
-use Rattle.mmu.specs.Bytes.{loadOf, storeRam}
-use Rattle.mmu.specs.AtOnce.{bothInside, bothAt, bothStored}
-use Rattle.mmu.specs.Ends.{loadEnd, storeEnd, storeRamEnd}
+use Rattle.operations.specs.Place.{inPage, nextPage, crosses, goesOn, placedBoth, firstPa, verdictOf as judged}
+use Rattle.operations.specs.Bytes.{loadOf, storeRam}
+use Rattle.operations.specs.AtOnce.{bothInside, bothAt, bothStored}
+use Rattle.operations.specs.Ends.{loadEnd, storeEnd, storeRamEnd}
 use Rattle.mmu.specs.Ops.{translateOf, translateAccessOf, readOf, writeOf, ramAfterWrite}
-use Rattle.mmu.proofs.Both.{both-loads, both-judged, both-stores}
+use Rattle.operations.proofs.Both.{both-loads, both-judged, both-stores}
 use Rattle.mmu.specs.declared.core.Core.{Core}
-use Rattle.mmu.specs.declared.place.Place.{Place}
-use Rattle.mmu.specs.declared.place.Place.the-variants.{Split as Parts}
-use Rattle.mmu.specs.declared.place.Placed.the-variants as Placed
-use Rattle.mmu.specs.declared.place.Verdict.the-variants.{Inside}
-use Rattle.mmu.specs.declared.bytes.Got.the-variants as Got
-use Rattle.mmu.specs.declared.ends.LoadEnd.{LoadEnd}
-use Rattle.mmu.specs.declared.ends.StoreEnd.{StoreEnd}
-use Rattle.mmu.specs.declared.ends.LoadAnswer.the-variants as Load
-use Rattle.mmu.specs.declared.ends.StoreAnswer.the-variants as Store
+use Rattle.operations.specs.declared.place.Place.{Place}
+use Rattle.operations.specs.declared.place.Place.the-variants.{Split as Parts}
+use Rattle.operations.specs.declared.place.Placed.the-variants as Placed
+use Rattle.operations.specs.declared.place.Verdict.the-variants.{Inside}
+use Rattle.operations.specs.declared.bytes.Got.the-variants as Got
+use Rattle.operations.specs.declared.ends.LoadEnd.{LoadEnd}
+use Rattle.operations.specs.declared.ends.StoreEnd.{StoreEnd}
+use Rattle.operations.specs.declared.ends.LoadAnswer.the-variants as Load
+use Rattle.operations.specs.declared.ends.StoreAnswer.the-variants as Store
 use Rattle.mmu.specs.declared.ops.Accessed.{Accessed}
 use Rattle.mmu.specs.declared.ops.Translated.{Translated}
-use Rattle.cpu.specs.Check.{isWidth, known}
-use Rattle.cpu.specs.Step.{loading, storing, stepOf, ramAfter, ends}
-use Rattle.cpu.specs.declared.call.Call.the-variants as Call
-use Rattle.cpu.specs.declared.call.Reply.the-variants.{Done, Value}
-use Rattle.cpu.specs.declared.call.Stepped.{Stepped}
-use Rattle.words.specs.Held.{held}
+use Rattle.operations.specs.Check.{isWidth, known}
+use Rattle.operations.specs.Replies.{loading, storing}
+use Rattle.cpu.specs.Step.{stepOf, ramAfter, ends}
+use Rattle.operations.specs.declared.call.Call.the-variants as Call
+use Rattle.operations.specs.declared.call.Reply.the-variants.{Done, Value}
+use Rattle.cpu.specs.declared.run.Stepped.{Stepped}
+use Rattle.words.specs.CoreOf.{coreOf}
 use Rattle.words.specs.Parts.{withLast}
-use Rattle.words.specs.Moved.{Moved, stays, moved-as}
-use Rattle.inplace.specs.Accessed.{keptLast, keptAbort}
-use Rattle.inplace.specs.Found.{answering, hintFound}
-use Rattle.inplace.specs.FoundLaws.{hint-serves}
-use Rattle.inplace.proofs.Accessing.{both-is, load-parts, store-parts}
+use Rattle.words.specs.NowHolds.{NowHolds, stays, holds-as}
+use Rattle.words_memory.specs.Accessed.{keptLast, keptAbort}
+use Rattle.words_memory.specs.Found.{answering, hintFound}
+use Rattle.words_memory.specs.FoundLaws.{hint-serves}
+use Rattle.words_memory.proofs.Accessing.{both-is, load-parts, store-parts}
 use Rattle.a72abi.specs.Replies.{codeBy, valueBy}
 use Rattle.a72abi.specs.Quick.{Clear, clearOf}
 use Rattle.a72abi.specs.Splits.{apartOf, pagesAt, valueFrom, loadBoth, madeBoth, ramBoth, splitLoad, splitMade, splitRam}
@@ -60,38 +61,38 @@ use Rattle.a72abi.proofs.Bytewise.{size-is, false-true, kept-last, kept
 use Rattle.a72abi.proofs.OnePage.{same-gives, same-ram}
 use Rattle.a72abi.specs.Kept.{kept-done}
 use Rattle.a72abi.specs.Promise.{Gives}
-use Rattle.a72abi.specs.declared.op.Calls.the-variants.{Known}
+use Rattle.a72abi.specs.declared.op.DecodedCall.the-variants.{Known}
 
 -- THE TESTS OF THE CODE
 
 pub clear-is : (c : Core) (base len : ℕ) → clearOf c base len ≡ true → Clear c base len
 unfolding clearOf
-clear-is c base len = go (ltb 3 (c .who .level)) refl (ltb (2 ^ 64 - 1 - len) base) refl
+clear-is c base len = go (ltb 3 (c .privilege .level)) refl (ltb (2 ^ 64 - 1 - len) base) refl
   where
-    go : (x : Bool) → ltb 3 (c .who .level) ≡ x → (y : Bool) → ltb (2 ^ 64 - 1 - len) base ≡ y → pick x false (pick y false true) ≡ true → Clear c base len
+    go : (x : Bool) → ltb 3 (c .privilege .level) ≡ x → (y : Bool) → ltb (2 ^ 64 - 1 - len) base ≡ y → pick x false (pick y false true) ≡ true → Clear c base len
     go true ex y ey e = absurd (false-true e)
     go false ex true ey e = absurd (false-true e)
     go false ex false ey e = record { low = ex; short = ey }
 
-module _ (ws : List ℕ) (base len : ℕ) (who : Who) (ew : who ≡ held ws .who) where
-  pub clear-high : 3 < who .level → false ≡ clearOf (held ws) base len
+module _ (ws : List ℕ) (base len : ℕ) (privilege : Privilege) (ew : privilege ≡ coreOf ws .privilege) where
+  pub clear-high : 3 < privilege .level → false ≡ clearOf (coreOf ws) base len
   unfolding clearOf
-  clear-high h = sym (rw (ap (λ (w : Who). ltb 3 (w .level)) (sym ew) ∙ lt-ltb 3 (who .level) h))
+  clear-high h = sym (rw (ap (λ (w : Privilege). ltb 3 (w .level)) (sym ew) ∙ lt-ltb 3 (privilege .level) h))
 
-  module _ (lo : who .level ≤ 3) where
-    clear-low : ltb 3 (held ws .who .level) ≡ false
-    clear-low = ap (λ (w : Who). ltb 3 (w .level)) (sym ew) ∙ le-ltb 3 (who .level) lo
+  module _ (lo : privilege .level ≤ 3) where
+    clear-low : ltb 3 (coreOf ws .privilege .level) ≡ false
+    clear-low = ap (λ (w : Privilege). ltb 3 (w .level)) (sym ew) ∙ le-ltb 3 (privilege .level) lo
 
-    pub clear-past : 2 ^ 64 - 1 - len < base → false ≡ clearOf (held ws) base len
+    pub clear-past : 2 ^ 64 - 1 - len < base → false ≡ clearOf (coreOf ws) base len
     unfolding clearOf
     clear-past h = sym (rw (clear-low, lt-ltb (2 ^ 64 - 1 - len) base h))
 
-    pub clear-both : base ≤ 2 ^ 64 - 1 - len → true ≡ clearOf (held ws) base len
+    pub clear-both : base ≤ 2 ^ 64 - 1 - len → true ≡ clearOf (coreOf ws) base len
     unfolding clearOf
     clear-both h = sym (rw (clear-low, le-ltb (2 ^ 64 - 1 - len) base h))
 
 abbrev twoPages : Core → ℕ → ℕ → Bool
-twoPages c va n = crosses (stage1On (bankNow c) (regimeOf (c .who .level))) va n
+twoPages c va n = crosses (stage1On (bankNow c) (regimeOf (c .privilege .level))) va n
 
 -- two pages, and level and window at once
 module _ (c : Core) (base len va n : ℕ) (b : Bool) (eb : b ≡ clearOf c base len) where
@@ -99,12 +100,12 @@ module _ (c : Core) (base len va n : ℕ) (b : Bool) (eb : b ≡ clearOf c base 
   unfolding apartOf
   apart-not f = sym (rw (← eb, f))
 
-  pub apart-is : (on r : Bool) → b ≡ true → on ≡ stage1On (bankNow c) (regimeOf (c .who .level)) → r ≡ crosses on va n → r ≡ apartOf c base len va n
+  pub apart-is : (on r : Bool) → b ≡ true → on ≡ stage1On (bankNow c) (regimeOf (c .privilege .level)) → r ≡ crosses on va n → r ≡ apartOf c base len va n
   unfolding apartOf
   apart-is on r t eo er = er ∙ ap (λ (x : Bool). crosses x va n) eo ∙ sym (rw (← eb, t))
 
 -- the second page's hint
-module _ (c : Core) (base : ℕ) (ram : List ℕ) (va n pa next : ℕ) (p : Physical) (en : next ≡ nextPage va) where
+module _ (c : Core) (base : ℕ) (ram : List ℕ) (va n pa next : ℕ) (p : HintAnswer) (en : next ≡ nextPage va) where
   module _ (ep : p ≡ hintFound c next Read) where
     next-read : hintFound c (nextPage va) Read ≡ p
     next-read = sym (ep ∙ ap (λ (x : ℕ). hintFound c x Read) en)
@@ -167,7 +168,7 @@ module _ (c : Core) (base : ℕ) (ram : List ℕ) (va n : ℕ) (b : Bool) (eb : 
   unfolding splitRam ramBoth
   ram-together v f = sym (rw (apart-here ∙ f))
 
-  module _ (t : b ≡ true) (p : Physical) where
+  module _ (t : b ≡ true) (p : HintAnswer) where
     module _ (ep : p ≡ hintFound c va Read) where
       pub load-unknown : p ≡ Unknown → Split.Unknown ≡ splitLoad c base ram va n
       unfolding splitLoad loadBoth
@@ -236,7 +237,7 @@ module _ (c : Core) (base : ℕ) (ram : List ℕ) (va n : ℕ) where
   unfolding splitLoad loadBoth
   load-says pa v = go (apartOf c base (length ram) va n) refl (hintFound c va Read) refl (hintFound c (nextPage va) Read) refl
     where
-      go : (b : Bool) → apartOf c base (length ram) va n ≡ b → (x : Physical) → hintFound c va Read ≡ x → (y : Physical) → hintFound c (nextPage va) Read ≡ y
+      go : (b : Bool) → apartOf c base (length ram) va n ≡ b → (x : HintAnswer) → hintFound c va Read ≡ x → (y : HintAnswer) → hintFound c (nextPage va) Read ≡ y
           → loadBoth b x y va base ram n ≡ Split.Value pa v → (s : Says c base (length ram) va n pa Read) × (bothAt base ram (pagesAt va pa (s .pa2)) n ≡ Word.Value v)
       go false eb x ex y ey e = absurd (unknown-value pa v e)
       go true eb Unknown ex y ey e = absurd (unknown-value pa v e)
@@ -252,7 +253,7 @@ module _ (c : Core) (base : ℕ) (ram : List ℕ) (va n : ℕ) where
   unfolding splitMade madeBoth splitRam ramBoth
   store-says v = go (apartOf c base (length ram) va n) refl (hintFound c va Write) refl (hintFound c (nextPage va) Write) refl
     where
-      go : (b : Bool) → apartOf c base (length ram) va n ≡ b → (x : Physical) → hintFound c va Write ≡ x → (y : Physical) → hintFound c (nextPage va) Write ≡ y
+      go : (b : Bool) → apartOf c base (length ram) va n ≡ b → (x : HintAnswer) → hintFound c va Write ≡ x → (y : HintAnswer) → hintFound c (nextPage va) Write ≡ y
           → madeBoth b x y va base ram n ≡ true
           → (pa : ℕ) × ((s : Says c base (length ram) va n pa Write)
           × ((bothInside base (length ram) (pagesAt va pa (s .pa2)) n ≡ true)
@@ -269,7 +270,7 @@ module _ (c : Core) (base : ℕ) (ram : List ℕ) (va n : ℕ) where
   unfolding splitMade madeBoth splitRam ramBoth bothStored
   split-kept v = go (apartOf c base (length ram) va n) (hintFound c va Write) (hintFound c (nextPage va) Write)
     where
-      go : (b : Bool) (x y : Physical) → madeBoth b x y va base ram n ≡ false → ramBoth b x y va base ram n v ≡ ram
+      go : (b : Bool) (x y : HintAnswer) → madeBoth b x y va base ram n ≡ false → ramBoth b x y va base ram n v ≡ ram
       go false x y e = refl
       go true Unknown y e = refl
       go true (At a) Unknown e = refl
@@ -366,39 +367,39 @@ module _ (c : Core) (base : ℕ) (ram : List ℕ) (va size : ℕ) (h : length ra
 
 -- as the code says it
 module _ (ws : List ℕ) (base : ℕ) (ram : List ℕ) (va size : ℕ) (h : length ram < 2 ^ 64) (k : known size ≡ true) where
-  pub split-load : (s : Split) (pa v old : ℕ) (xs : List ℕ) → s ≡ splitLoad (held ws) base ram va size → s ≡ Split.Value pa v → Moved ws xs (withLast (held ws) pa)
+  pub split-load : (s : Split) (pa v old : ℕ) (xs : List ℕ) → s ≡ splitLoad (coreOf ws) base ram va size → s ≡ Split.Value pa v → NowHolds ws xs (withLast (coreOf ws) pa)
       → Gives (Known (Call.Load va size)) base ram ws 0 old v xs
   split-load s pa v old xs es e m =
-      let t = load-apart (held ws) base ram va size h k pa v (sym es ∙ e) in
+      let t = load-apart (coreOf ws) base ram va size h k pa v (sym es ∙ e) in
       record {
         code = sym (ap (λ (x : Stepped). codeBy (x .reply)) t);
         value = sym (ap (λ (x : Stepped). valueBy (x .reply) old) t);
-        words = moved-as m (sym (ap (λ (x : Stepped). x .core) t));
+        words = holds-as m (sym (ap (λ (x : Stepped). x .core) t));
         kept = kept-done ws xs;
       }
 
-  module _ (made : Bool) (value : ℕ) (ys : List ℕ) (em : made ≡ splitMade (held ws) base ram va size) (ey : ys ≡ splitRam (held ws) base ram va size value) where
+  module _ (made : Bool) (value : ℕ) (ys : List ℕ) (em : made ≡ splitMade (coreOf ws) base ram va size) (ey : ys ≡ splitRam (coreOf ws) base ram va size value) where
     pub split-store : (old : ℕ) → made ≡ true → Gives (Known (Call.Store va size value)) base ram ws 0 old old ws
     split-store old t =
-        let s = store-apart (held ws) base ram va size h k value (sym em ∙ t) .0 in
+        let s = store-apart (coreOf ws) base ram va size h k value (sym em ∙ t) .0 in
         record {
           code = sym (ap (λ (x : Stepped). codeBy (x .reply)) s);
           value = sym (ap (λ (x : Stepped). valueBy (x .reply) old) s);
-          words = moved-as stays (sym (ap (λ (x : Stepped). x .core) s));
+          words = holds-as stays (sym (ap (λ (x : Stepped). x .core) s));
           kept = kept-done ws ws;
         }
 
-    pub split-ram : made ≡ true → ys ≡ ramAfter (held ws) base ram (Call.Store va size value)
-    split-ram t = ey ∙ sym (store-apart (held ws) base ram va size h k value (sym em ∙ t) .1)
+    pub split-ram : made ≡ true → ys ≡ ramAfter (coreOf ws) base ram (Call.Store va size value)
+    split-ram t = ey ∙ sym (store-apart (coreOf ws) base ram va size h k value (sym em ∙ t) .1)
 
     module _ (f : made ≡ false) where
       unsplit : ys ≡ ram
-      unsplit = ey ∙ split-kept (held ws) base ram va size value (sym em ∙ f)
+      unsplit = ey ∙ split-kept (coreOf ws) base ram va size value (sym em ∙ f)
 
       pub unsplit-gives : (n old v : ℕ) (xs : List ℕ) → Gives (Known (Call.Store va size value)) base ys ws n old v xs → Gives (Known (Call.Store va size value)) base ram ws n old v xs
       unsplit-gives n old v xs = same-gives ws base ram va size value n old v ys xs unsplit
 
-      pub unsplit-ram : (zs : List ℕ) → zs ≡ ramAfter (held ws) base ys (Call.Store va size value) → zs ≡ ramAfter (held ws) base ram (Call.Store va size value)
+      pub unsplit-ram : (zs : List ℕ) → zs ≡ ramAfter (coreOf ws) base ys (Call.Store va size value) → zs ≡ ramAfter (coreOf ws) base ram (Call.Store va size value)
       unsplit-ram = same-ram ws base ram va size value 0 0 0 ys ws unsplit
 
 -- a size by its number
@@ -409,6 +410,6 @@ module _ (ws : List ℕ) (base : ℕ) (ram : List ℕ) (va size n : ℕ) (e : si
   pub same-store : (value : ℕ) → Gives (Known (Call.Store va n value)) base ram ws k old v xs → Gives (Known (Call.Store va size value)) base ram ws k old v xs
   same-store value g = rw e g
 
-pub same-store-ram : (ws : List ℕ) (base : ℕ) (ram : List ℕ) (va size n value : ℕ) (ys : List ℕ) → size ≡ n → ys ≡ ramAfter (held ws) base ram (Call.Store va n value)
-    → ys ≡ ramAfter (held ws) base ram (Call.Store va size value)
+pub same-store-ram : (ws : List ℕ) (base : ℕ) (ram : List ℕ) (va size n value : ℕ) (ys : List ℕ) → size ≡ n → ys ≡ ramAfter (coreOf ws) base ram (Call.Store va n value)
+    → ys ≡ ramAfter (coreOf ws) base ram (Call.Store va size value)
 same-store-ram ws base ram va size n value ys e q = rw e q

@@ -16,37 +16,38 @@ use Rattle.tlb.specs.declared.access.Kind.{Kind}
 use Rattle.tlb.specs.declared.access.Kind.the-variants.{Read, Write}
 use Rattle.tlb.specs.declared.access.Answer.{Answer}
 use Rattle.fault.specs.declared.Fault.{Fault as Status1}
-use Rattle.entry.specs.Abort.{dataAbortAt, insnAbortAt}
+use Rattle.exception.specs.Abort.{dataAbortAt, insnAbortAt}
 use Rattle.tlb.specs.declared.access.Answer.the-variants.{Address, Status}
-use Rattle.entry.specs.declared.exception.Exception.{Exception}
-use Rattle.entry.specs.declared.exception.Exception.the-variants as Exception
-use Rattle.entry.specs.declared.exception.Stop.the-variants as Stop
-use Rattle.mmu.specs.Place.{verdictOf}
-use Rattle.mmu.specs.Bytes.{loadOf, insnOf}
-use Rattle.mmu.specs.Ends.{external, loadedFrom, loadEnd, storeEndBy, storeEnd, fetchedFrom, fetchEnd}
+use Rattle.exception.specs.declared.kind.Exception.{Exception}
+use Rattle.exception.specs.declared.kind.Exception.the-variants as Exception
+use Rattle.exception.specs.declared.kind.Stop.the-variants as Stop
+use Rattle.operations.specs.Place.{verdictOf}
+use Rattle.operations.specs.Bytes.{loadOf, insnOf}
+use Rattle.operations.specs.Ends.{external, loadedFrom, loadEnd, storeEndBy, storeEnd, fetchedFrom, fetchEnd}
 use Rattle.mmu.specs.Ops.{locatedNow, fetchSteppedNow, translateOf, dataPaOf, fetchPaOf, readOf, writeOf, fetchOf}
 use Rattle.mmu.specs.declared.core.Core.{Core}
-use Rattle.mmu.specs.declared.place.Placed.{Placed}
-use Rattle.mmu.specs.declared.place.Placed.the-variants.{At, Fault as NotPlaced}
-use Rattle.mmu.specs.declared.place.Verdict.{Verdict}
-use Rattle.mmu.specs.declared.place.Verdict.the-variants as Verdict
-use Rattle.mmu.specs.declared.bytes.Got.{Got}
-use Rattle.mmu.specs.declared.bytes.Got.the-variants as Got
-use Rattle.mmu.specs.declared.bytes.Insn.{Insn}
-use Rattle.mmu.specs.declared.bytes.Insn.the-variants as Insn
-use Rattle.mmu.specs.declared.ends.Reached.{Reached}
-use Rattle.mmu.specs.declared.ends.Reached.the-variants as Reach
-use Rattle.cpu.specs.Check.{missedOf, passes, known}
-use Rattle.cpu.specs.Step.{translation, reaching, loading, storing, fetching, loadBy, storeBy, refusedOr, missedBy, runOf, stepOf, ramAfter, ends}
+use Rattle.operations.specs.declared.place.Placed.{Placed}
+use Rattle.operations.specs.declared.place.Placed.the-variants.{At, Fault as NotPlaced}
+use Rattle.operations.specs.declared.place.Verdict.{Verdict}
+use Rattle.operations.specs.declared.place.Verdict.the-variants as Verdict
+use Rattle.operations.specs.declared.bytes.Got.{Got}
+use Rattle.operations.specs.declared.bytes.Got.the-variants as Got
+use Rattle.operations.specs.declared.bytes.Insn.{Insn}
+use Rattle.operations.specs.declared.bytes.Insn.the-variants as Insn
+use Rattle.operations.specs.declared.ends.Reached.{Reached}
+use Rattle.operations.specs.declared.ends.Reached.the-variants as Reach
+use Rattle.operations.specs.Check.{missedOf, passes, known}
+use Rattle.operations.specs.Replies.{translation, reaching, loading, storing, fetching}
+use Rattle.cpu.specs.Step.{loadBy, storeBy, refusedOr, missedBy, runOf, stepOf, ramAfter, ends}
 use Rattle.cpu.specs.Demand1.{writes, quiet}
-use Rattle.cpu.specs.declared.call.Call.{Call}
-use Rattle.cpu.specs.declared.call.Call.the-variants as Call
-use Rattle.cpu.specs.declared.call.Reply.{Reply}
-use Rattle.cpu.specs.declared.call.Reply.the-variants.{Refused, Done, Value, Faults, Fault, Stopped}
-use Rattle.cpu.specs.declared.call.Stepped.{Stepped}
-use Rattle.words.specs.Held.{held}
-use Rattle.words.specs.Moved.{Moved, moved-as}
-use Rattle.insys.specs.Early.{never}
+use Rattle.operations.specs.declared.call.Call.{Call}
+use Rattle.operations.specs.declared.call.Call.the-variants as Call
+use Rattle.operations.specs.declared.call.Reply.{Reply}
+use Rattle.operations.specs.declared.call.Reply.the-variants.{Refused, Done, Value, Faults, Fault, Stopped}
+use Rattle.cpu.specs.declared.run.Stepped.{Stepped}
+use Rattle.words.specs.CoreOf.{coreOf}
+use Rattle.words.specs.NowHolds.{NowHolds, holds-as}
+use Rattle.words_sys.specs.Early.{never}
 use Rattle.a72abi.specs.Ops.{abortCall, markCall}
 use Rattle.a72abi.specs.Kept.{unmoved}
 use Rattle.a72abi.specs.Inside.{Steps, wordsFrom}
@@ -54,10 +55,10 @@ use Rattle.a72abi.specs.Promise.{Promise, Setting, Runs, Gives}
 use Rattle.a72abi.specs.PromiseLaws.{tag-unmoved}
 use Rattle.a72abi.specs.Replies.{codeBy, valueBy, wordsBy, four}
 use Rattle.a72abi.proofs.Booking.{refused-reply, run-reply}
-use Rattle.a72abi.specs.declared.op.Calls.{Calls}
-use Rattle.a72abi.specs.declared.op.Calls.the-variants as Calls
-use Rattle.a72abi.specs.declared.op.Exceptions.{Exceptions}
-use Rattle.a72abi.specs.declared.op.Exceptions.the-variants as Exceptions
+use Rattle.a72abi.specs.declared.op.DecodedCall.{DecodedCall}
+use Rattle.a72abi.specs.declared.op.DecodedCall.the-variants as DecodedCall
+use Rattle.a72abi.specs.declared.op.DecodedException.{DecodedException}
+use Rattle.a72abi.specs.declared.op.DecodedException.the-variants as DecodedException
 
 -- A CALL'S WORDS FROM ITS NUMBER AND VALUE
 
@@ -163,72 +164,72 @@ sized-few false false true = omega arith
 sized-few false false false = omega arith
 
 module _ (ws : List ℕ) (base : ℕ) (ram : List ℕ) (n v : ℕ) (w xs : List ℕ) where
-  by-shape : (x : Call) (tag : ℕ) (a : ℕ → ℕ) (fault : ℕ) (b : ℕ → ℕ) (flag : ℕ) → Shaped (stepOf (held ws) base ram x .reply) tag a fault b flag
-      → Gives (Calls.Known x) base ram ws n 0 v xs → w ≡ wordsFrom n tag (a v) fault (b v) flag → Steps x base ram ws w xs
+  by-shape : (x : Call) (tag : ℕ) (a : ℕ → ℕ) (fault : ℕ) (b : ℕ → ℕ) (flag : ℕ) → Shaped (stepOf (coreOf ws) base ram x .reply) tag a fault b flag
+      → Gives (DecodedCall.Known x) base ram ws n 0 v xs → w ≡ wordsFrom n tag (a v) fault (b v) flag → Steps x base ram ws w xs
   by-shape x tag a fault b flag s g e =
-      let said : w ≡ wordsBy (stepOf (held ws) base ram x .reply) = e ∙ s .from n v (g .code) (g .value) in
+      let said : w ≡ wordsBy (stepOf (coreOf ws) base ram x .reply) = e ∙ s .from n v (g .code) (g .value) in
       record {
         answer = said;
         words = g .words;
         still = λ l h.
-            let k = s .small (tag-unmoved (stepOf (held ws) base ram x .reply) (rw said at l) (rw said at h)) in
+            let k = s .small (tag-unmoved (stepOf (coreOf ws) base ram x .reply) (rw said at l) (rw said at h)) in
             g .kept .same (rw (g .code) (k .0)) (rw (g .code) (k .1));
       }
 
-  pub translation-steps : (kind : Kind) (va : ℕ) → Gives (Calls.Known (Call.Translate kind va)) base ram ws n 0 v xs → w ≡ wordsFrom n 1 v 8 va 0 → Steps (Call.Translate kind va) base ram ws w xs
+  pub translation-steps : (kind : Kind) (va : ℕ) → Gives (DecodedCall.Known (Call.Translate kind va)) base ram ws n 0 v xs → w ≡ wordsFrom n 1 v 8 va 0 → Steps (Call.Translate kind va) base ram ws w xs
   unfolding runOf missedOf same
   translation-steps kind va g e =
       by-shape (Call.Translate kind va) 1 same 8 (λ x. va) 0
-      (step-shaped (held ws) base ram (Call.Translate kind va) 1 same 8 (λ x. va) 0 (ram-few (ltb 3 (held ws .who .level)) (passes base (length ram)))
-      (translation-shaped va (translateOf (held ws) (wordAt base ram 8) va kind .answer)))
+      (step-shaped (coreOf ws) base ram (Call.Translate kind va) 1 same 8 (λ x. va) 0 (ram-few (ltb 3 (coreOf ws .privilege .level)) (passes base (length ram)))
+      (translation-shaped va (translateOf (coreOf ws) (wordAt base ram 8) va kind .answer)))
       g e
 
-  pub data-steps : (va : ℕ) → Gives (Calls.Known (Call.DataPa va)) base ram ws n 0 v xs → w ≡ wordsFrom n 1 v 2 0 0 → Steps (Call.DataPa va) base ram ws w xs
+  pub data-steps : (va : ℕ) → Gives (DecodedCall.Known (Call.DataPa va)) base ram ws n 0 v xs → w ≡ wordsFrom n 1 v 2 0 0 → Steps (Call.DataPa va) base ram ws w xs
   unfolding runOf missedOf same
   data-steps va g e =
       by-shape (Call.DataPa va) 1 same 2 (λ x. 0) 0
-      (step-shaped (held ws) base ram (Call.DataPa va) 1 same 2 (λ x. 0) 0 (ram-few (ltb 3 (held ws .who .level)) (passes base (length ram)))
-      (reach-shaped (dataPaOf (held ws) (wordAt base ram 8) va .answer)))
+      (step-shaped (coreOf ws) base ram (Call.DataPa va) 1 same 2 (λ x. 0) 0 (ram-few (ltb 3 (coreOf ws .privilege .level)) (passes base (length ram)))
+      (reach-shaped (dataPaOf (coreOf ws) (wordAt base ram 8) va .answer)))
       g e
 
-  pub fetch-pa-steps : (va : ℕ) → Gives (Calls.Known (Call.FetchPa va)) base ram ws n 0 v xs → w ≡ wordsFrom n 1 v 2 0 0 → Steps (Call.FetchPa va) base ram ws w xs
+  pub fetch-pa-steps : (va : ℕ) → Gives (DecodedCall.Known (Call.FetchPa va)) base ram ws n 0 v xs → w ≡ wordsFrom n 1 v 2 0 0 → Steps (Call.FetchPa va) base ram ws w xs
   unfolding runOf missedOf same
   fetch-pa-steps va g e =
       by-shape (Call.FetchPa va) 1 same 2 (λ x. 0) 0
-      (step-shaped (held ws) base ram (Call.FetchPa va) 1 same 2 (λ x. 0) 0 (ram-few (ltb 3 (held ws .who .level)) (passes base (length ram)))
-      (reach-shaped (fetchPaOf (held ws) (wordAt base ram 8) va .answer)))
+      (step-shaped (coreOf ws) base ram (Call.FetchPa va) 1 same 2 (λ x. 0) 0 (ram-few (ltb 3 (coreOf ws .privilege .level)) (passes base (length ram)))
+      (reach-shaped (fetchPaOf (coreOf ws) (wordAt base ram 8) va .answer)))
       g e
 
-  pub fetch-steps : (va : ℕ) → Gives (Calls.Known (Call.Fetch va)) base ram ws n 0 v xs → w ≡ wordsFrom n 1 v 10 va 0 → Steps (Call.Fetch va) base ram ws w xs
+  pub fetch-steps : (va : ℕ) → Gives (DecodedCall.Known (Call.Fetch va)) base ram ws n 0 v xs → w ≡ wordsFrom n 1 v 10 va 0 → Steps (Call.Fetch va) base ram ws w xs
   unfolding runOf missedOf same fetchOf
   fetch-steps va g e =
       by-shape (Call.Fetch va) 1 same 10 (λ x. va) 0
-      (step-shaped (held ws) base ram (Call.Fetch va) 1 same 10 (λ x. va) 0 (ram-few (ltb 3 (held ws .who .level)) (passes base (length ram)))
-      (fetch-shaped (fetchSteppedNow (held ws) (wordAt base ram 8) va .answer) (held ws .«abort_pa») base ram va))
+      (step-shaped (coreOf ws) base ram (Call.Fetch va) 1 same 10 (λ x. va) 0 (ram-few (ltb 3 (coreOf ws .privilege .level)) (passes base (length ram)))
+      (fetch-shaped (fetchSteppedNow (coreOf ws) (wordAt base ram 8) va .answer) (coreOf ws .«abort_pa») base ram va))
       g e
 
-  pub load-steps : (va size : ℕ) → Gives (Calls.Known (Call.Load va size)) base ram ws n 0 v xs → w ≡ wordsFrom n 1 v 9 v 0 → Steps (Call.Load va size) base ram ws w xs
+  pub load-steps : (va size : ℕ) → Gives (DecodedCall.Known (Call.Load va size)) base ram ws n 0 v xs → w ≡ wordsFrom n 1 v 9 v 0 → Steps (Call.Load va size) base ram ws w xs
   unfolding runOf missedOf same readOf
   load-steps va size g e =
       by-shape (Call.Load va size) 1 same 9 same 0
-      (step-shaped (held ws) base ram (Call.Load va size) 1 same 9 same 0 (sized-few (ltb 3 (held ws .who .level)) (passes base (length ram)) (not (known size)))
+      (step-shaped (coreOf ws) base ram (Call.Load va size) 1 same 9 same 0 (sized-few (ltb 3 (coreOf ws .privilege .level)) (passes base (length ram)) (not (known size)))
       (go (widthOf size)))
       g e
     where
-      go : (s : Sized) → Shaped (loadBy s (held ws) base ram va .reply) 1 same 9 same 0
-      go (Bytes x) = load-shaped (locatedNow (held ws) (wordAt base ram 8) va (bytesIn x) Read .placed) (held ws .«last_pa») (held ws .«abort_pa») base ram va (bytesIn x)
+      go : (s : Sized) → Shaped (loadBy s (coreOf ws) base ram va .reply) 1 same 9 same 0
+      go (Bytes x) = load-shaped (locatedNow (coreOf ws) (wordAt base ram 8) va (bytesIn x) Read .placed) (coreOf ws .«last_pa») (coreOf ws .«abort_pa») base ram va (bytesIn x)
       go NoWidth = shaped-refused 1 same 9 same 0 3 (omega arith) (omega arith)
 
-  pub store-steps : (va size x : ℕ) → Gives (Calls.Known (Call.Store va size x)) base ram ws n 0 v xs → w ≡ wordsFrom n 0 0 9 v 1 → Steps (Call.Store va size x) base ram ws w xs
+  pub store-steps : (va size x : ℕ) → Gives (DecodedCall.Known (Call.Store va size x)) base ram ws n 0 v xs → w ≡ wordsFrom n 0 0 9 v 1 → Steps (Call.Store va size x) base ram ws w xs
   unfolding runOf missedOf same writeOf
   store-steps va size x g e =
       by-shape (Call.Store va size x) 0 (λ y. 0) 9 same 1
-      (step-shaped (held ws) base ram (Call.Store va size x) 0 (λ y. 0) 9 same 1 (sized-few (ltb 3 (held ws .who .level)) (passes base (length ram)) (not (known size)))
+      (step-shaped (coreOf ws) base ram (Call.Store va size x) 0 (λ y. 0) 9 same 1 (sized-few (ltb 3 (coreOf ws .privilege .level)) (passes base (length ram)) (not (known size)))
       (go (widthOf size)))
       g e
     where
-      go : (s : Sized) → Shaped (storeBy s (held ws) base ram va .reply) 0 (λ y. 0) 9 same 1
-      go (Bytes y) = store-shaped (locatedNow (held ws) (wordAt base ram 8) va (bytesIn y) Write .placed) (held ws .«abort_pa») base ram va (bytesIn y)
+      go : (s : Sized) → Shaped (storeBy s (coreOf ws) base ram va .reply) 0 (λ y. 0) 9 same 1
+      go (Bytes y) = store-shaped (locatedNow (coreOf ws) (wordAt base ram 8) va (bytesIn y) Write .placed) (coreOf ws .«abort_pa») base ram va (bytesIn y)
       go NoWidth = shaped-refused 0 (λ y. 0) 9 same 1 3 (omega arith) (omega arith)
 
 -- the words of a number, as the code tests it
@@ -278,11 +279,11 @@ module _ (ws : List ℕ) (base : ℕ) (ram : List ℕ) (call x : Call) (e : call
   pub call-steps : (w xs : List ℕ) → Steps x base ram ws w xs → Steps call base ram ws w xs
   call-steps w xs s = rw e s
 
-  pub call-ram : (ys : List ℕ) → ys ≡ ramAfter (held ws) base ram x → ys ≡ ramAfter (held ws) base ram call
+  pub call-ram : (ys : List ℕ) → ys ≡ ramAfter (coreOf ws) base ram x → ys ≡ ramAfter (coreOf ws) base ram call
   call-ram ys q = rw e q
 
-  pub call-quiet : writes (held ws) x ≡ false → ram ≡ ramAfter (held ws) base ram call
-  call-quiet q = rw e (sym (quiet (held ws) base ram x q))
+  pub call-quiet : writes (coreOf ws) x ≡ false → ram ≡ ramAfter (coreOf ws) base ram call
+  call-quiet q = rw e (sym (quiet (coreOf ws) base ram x q))
 
   module _ (r : Reply) (w xs : List ℕ) (ew : w ≡ wordsBy r) where
     pub run-steps : Runs x base ram ws r xs → Steps call base ram ws w xs
@@ -298,25 +299,25 @@ module _ (ws : List ℕ) (base : ℕ) (ram : List ℕ) (call x : Call) (e : call
     bare-steps b g =
         run-steps
         (record {
-          reply = g .reply ∙ ap (λ (s : Stepped). s .reply) (bare (held ws) base ram x b);
-          words = moved-as (g .words) (ap (λ (s : Stepped). s .core) (bare (held ws) base ram x b));
+          reply = g .reply ∙ ap (λ (s : Stepped). s .reply) (bare (coreOf ws) base ram x b);
+          words = holds-as (g .words) (ap (λ (s : Stepped). s .core) (bare (coreOf ws) base ram x b));
           stays = g .stays;
         })
 
-pub mark-0 : (n : ℕ) → n ≡ 0 → Calls.Known (Call.Mark false) ≡ markCall n
+pub mark-0 : (n : ℕ) → n ≡ 0 → DecodedCall.Known (Call.Mark false) ≡ markCall n
 mark-0 n e = sym (rw e)
 
-pub mark-1 : (n : ℕ) → n ≡ 1 → Calls.Known (Call.Mark true) ≡ markCall n
+pub mark-1 : (n : ℕ) → n ≡ 1 → DecodedCall.Known (Call.Mark true) ≡ markCall n
 mark-1 n e = sym (rw e)
 
-pub mark-none : (n : ℕ) → (n ≡ 0 → ⊥) → (n ≡ 1 → ⊥) → Calls.Unknown ≡ markCall n
+pub mark-none : (n : ℕ) → (n ≡ 0 → ⊥) → (n ≡ 1 → ⊥) → DecodedCall.Unknown ≡ markCall n
 mark-none n a b = sym (rw (ne-eqb n 0 a, ne-eqb n 1 b))
 
 -- abort entry by numbers
-pub abort-known : (o : Exceptions) (p : Exceptions) (x : Exception) → o ≡ p → o ≡ Exceptions.Known x → Calls.Known (Call.Abort x) ≡ abortCall p
+pub abort-known : (o : DecodedException) (p : DecodedException) (x : Exception) → o ≡ p → o ≡ DecodedException.Known x → DecodedCall.Known (Call.Abort x) ≡ abortCall p
 abort-known o p x e q = ap abortCall (sym q ∙ e)
 
-pub abort-none : (o p : Exceptions) → o ≡ p → o ≡ Exceptions.Unknown → Calls.Unknown ≡ abortCall p
+pub abort-none : (o p : DecodedException) → o ≡ p → o ≡ DecodedException.Unknown → DecodedCall.Unknown ≡ abortCall p
 abort-none o p e q = ap abortCall (sym q ∙ e)
 
 -- and of an exception by the numbers that name it: its reply from its number
@@ -328,24 +329,24 @@ missed-small level base len x = go (ltb 3 level)
     go true = omega arith
     go false = omega arith
 
-module _ (ws xs : List ℕ) (x : Exception) (n : ℕ) (p : Exceptions) (q : p ≡ Exceptions.Known x) (s : Setting (abortCall p) ws n xs) where
+module _ (ws xs : List ℕ) (x : Exception) (n : ℕ) (p : DecodedException) (q : p ≡ DecodedException.Known x) (s : Setting (abortCall p) ws n xs) where
   abbrev said : Reply
-  said = stepOf (held ws) 0 [] (Call.Abort x) .reply
+  said = stepOf (coreOf ws) 0 [] (Call.Abort x) .reply
 
-  named : Promise (Calls.Known (Call.Abort x)) 0 [] ws n 0 0 [] xs
-  named = subst (λ (o : Exceptions). Setting (abortCall o) ws n xs) q s .on 0 [] 0
+  named : Promise (DecodedCall.Known (Call.Abort x)) 0 [] ws n 0 0 [] xs
+  named = subst (λ (o : DecodedException). Setting (abortCall o) ws n xs) q s .on 0 [] 0
 
   -- Done where no check is missed, and else the number of the check
-  by-number : (m : ℕ) → m ≡ missedOf (held ws .who .level) 0 0 (Call.Abort x) → m ≤ 6 → said ≡ refusedOr m Refused Done
+  by-number : (m : ℕ) → m ≡ missedOf (coreOf ws .privilege .level) 0 0 (Call.Abort x) → m ≤ 6 → said ≡ refusedOr m Refused Done
   unfolding runOf
   by-number zero e h = sym (run-reply ws 0 [] (Call.Abort x) 0 e refl Done refl)
   by-number (suc m) e h = sym (refused-reply ws 0 [] (Call.Abort x) (suc m) e (λ z. omega arith))
 
   abbrev number : ℕ
-  number = missedOf (held ws .who .level) 0 0 (Call.Abort x)
+  number = missedOf (coreOf ws .privilege .level) 0 0 (Call.Abort x)
 
   replied : said ≡ refusedOr number Refused Done
-  replied = by-number number refl (missed-small (held ws .who .level) 0 0 x)
+  replied = by-number number refl (missed-small (coreOf ws .privilege .level) 0 0 x)
 
   its-code : (m : ℕ) → codeBy (refusedOr m Refused Done) ≡ m
   its-code zero = refl
@@ -364,7 +365,7 @@ module _ (ws xs : List ℕ) (x : Exception) (n : ℕ) (p : Exceptions) (q : p �
 
   pub again-refused : (n ≡ 0 → ⊥) → Runs (Call.Abort x) 0 [] ws (Refused (n % 256)) xs
   again-refused h =
-      let few = missed-small (held ws .who .level) 0 0 x in
+      let few = missed-small (coreOf ws .privilege .level) 0 0 x in
       let k : n ≡ number = is-number in
       let low : n % 256 ≡ n = mod-eq-of-lt (omega arith) in
       let some : 0 < n = pos-of-ne-zero h in

@@ -7,16 +7,17 @@ use lib.ListN.{getD}
 use Rattle.word.specs.Bits.{pick}
 use Rattle.tlb.specs.declared.access.Answer.{Answer}
 use Rattle.tlb.specs.declared.access.Answer.the-variants.{Address}
-use Rattle.mmu.specs.Ends.{fetchEnd}
+use Rattle.operations.specs.Ends.{fetchEnd}
 use Rattle.mmu.specs.declared.core.Core.{Core}
-use Rattle.mmu.specs.declared.place.Placed.{Placed}
-use Rattle.cpu.specs.Step.{ends, loading, storing, fetching, stepOf}
-use Rattle.cpu.specs.declared.call.Call.{Call}
-use Rattle.cpu.specs.declared.call.Stepped.{Stepped}
-use Rattle.words.specs.Held.{held}
-use Rattle.words.specs.Moved.{Moved}
+use Rattle.operations.specs.declared.place.Placed.{Placed}
+use Rattle.operations.specs.Replies.{loading, storing, fetching}
+use Rattle.cpu.specs.Step.{ends, stepOf}
+use Rattle.operations.specs.declared.call.Call.{Call}
+use Rattle.cpu.specs.declared.run.Stepped.{Stepped}
+use Rattle.words.specs.CoreOf.{coreOf}
+use Rattle.words.specs.NowHolds.{NowHolds}
 use Rattle.words.specs.Parts.{withAbort}
-use Rattle.inplace.specs.Accessed.{loadEndOf, storeEndOf, keptLast, keptAbort}
+use Rattle.words_memory.specs.Accessed.{loadEndOf, storeEndOf, keptLast, keptAbort}
 use Rattle.a72abi.specs.Replies.{codeBy, valueBy, wordsBy, four}
 use Rattle.a72abi.specs.Kept.{Kept}
 
@@ -24,7 +25,7 @@ use Rattle.a72abi.specs.Kept.{Kept}
 pub record Tells (s : Stepped) (ws : List ℕ) (n old v : ℕ) (xs : List ℕ) : Type 0 where
   pub code : n ≡ codeBy (s .reply)
   pub value : v ≡ valueBy (s .reply) old
-  pub words : Moved ws xs (s .core)
+  pub words : NowHolds ws xs (s .core)
   pub kept : Kept n ws xs
 
 -- how an access ends on a core
@@ -40,12 +41,12 @@ fetchEnds c a base ram va =
 
 -- the instruction at pa, whatever address it was fetched by
 pub record FetchTells (pa base : ℕ) (ram ws : List ℕ) (n old v : ℕ) (xs : List ℕ) : Type 0 where
-  pub by : (va : ℕ) → Tells (fetchEnds (held ws) (Address pa) base ram va) ws n old v xs
+  pub by : (va : ℕ) → Tells (fetchEnds (coreOf ws) (Address pa) base ram va) ws n old v xs
 
 -- A call by its four words, and where those say that nothing was written.
 pub record Steps (call : Call) (base : ℕ) (ram ws : List ℕ) (w xs : List ℕ) : Type 0 where
-  pub answer : w ≡ wordsBy (stepOf (held ws) base ram call .reply)
-  pub words : Moved ws xs (stepOf (held ws) base ram call .core)
+  pub answer : w ≡ wordsBy (stepOf (coreOf ws) base ram call .reply)
+  pub words : NowHolds ws xs (stepOf (coreOf ws) base ram call .core)
   pub still : 4 < getD w 0 0 → getD w 0 0 < 8 → xs ≡ ws
 
 -- the words of a number: the answer's first two, a refusal's, or a fault's first two and its last

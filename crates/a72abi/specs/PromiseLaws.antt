@@ -7,9 +7,9 @@ use native.Mathlib.Omega.{arith}
 use lib.ListN.{getD}
 use Rattle.sysreg.specs.declared.write.WriteAnswer.{WriteAnswer}
 use Rattle.sysreg.specs.declared.write.WriteAnswer.the-variants as Written
-use Rattle.entry.specs.declared.exception.Exception.{Exception}
-use Rattle.entry.specs.declared.exception.Exception.the-variants as Exception
-use Rattle.entry.specs.declared.exception.Stop.the-variants as Stop
+use Rattle.exception.specs.declared.kind.Exception.{Exception}
+use Rattle.exception.specs.declared.kind.Exception.the-variants as Exception
+use Rattle.exception.specs.declared.kind.Stop.the-variants as Stop
 use Rattle.word.specs.Bits.{alignDown}
 use Rattle.word.specs.Ram.{bytesIn, widthOf}
 use Rattle.word.specs.declared.ram.Sized.{Sized}
@@ -19,31 +19,32 @@ use Rattle.sysop.specs.declared.op.SysOp.the-variants as SysOp
 use Rattle.mmu.specs.Core.{regOf}
 use Rattle.mmu.specs.Ops.{writeOf}
 use Rattle.mmu.specs.declared.core.Core.{Core}
-use Rattle.mmu.specs.declared.ends.StoreAnswer.{StoreAnswer}
+use Rattle.operations.specs.declared.ends.StoreAnswer.{StoreAnswer}
 use Rattle.exec.specs.Ops.{writeRegister}
 use Rattle.exec.specs.Sys.{zeroOf, sysBy, sysRamBy, opOf, sysOf, sysRam}
-use Rattle.cpu.specs.Check.{missedOf}
-use Rattle.cpu.specs.Step.{storing, registering, storeBy, storeRamBy, runOf, ramOf as ramRun, refusedOr, missedBy, stepOf, ramAfter, ends}
+use Rattle.operations.specs.Check.{missedOf}
+use Rattle.operations.specs.Replies.{storing, registering}
+use Rattle.cpu.specs.Step.{storeBy, storeRamBy, runOf, ramOf as ramRun, refusedOr, missedBy, stepOf, ramAfter, ends}
 use Rattle.cpu.specs.Demand1.{writes, quiet}
-use Rattle.cpu.specs.declared.call.Call.{Call}
-use Rattle.cpu.specs.declared.call.Call.the-variants as Call
-use Rattle.cpu.specs.declared.call.Reply.{Reply}
-use Rattle.cpu.specs.declared.call.Reply.the-variants.{Refused, Done, Value, Faults, Fault, Stopped}
-use Rattle.cpu.specs.declared.call.Stepped.{Stepped}
-use Rattle.demand3.specs.Faithful.{FaithfulCall, faithful-step}
-use Rattle.words.specs.Held.{held}
-use Rattle.words.specs.Moved.{stays, moved-as}
+use Rattle.operations.specs.declared.call.Call.{Call}
+use Rattle.operations.specs.declared.call.Call.the-variants as Call
+use Rattle.operations.specs.declared.call.Reply.{Reply}
+use Rattle.operations.specs.declared.call.Reply.the-variants.{Refused, Done, Value, Faults, Fault, Stopped}
+use Rattle.cpu.specs.declared.run.Stepped.{Stepped}
+use Rattle.transparency.specs.Faithful.{FaithfulCall, faithful-step}
+use Rattle.words.specs.CoreOf.{coreOf}
+use Rattle.words.specs.NowHolds.{stays, holds-as}
 use Rattle.a72abi.specs.Replies.{codeBy, valueBy, wordsBy}
 use Rattle.a72abi.specs.Ops.{keyOf, translateCall}
 use Rattle.a72abi.specs.Steps.{callRam}
-use Rattle.insys.specs.Early.{never, earlyStop, store-late, zero-late}
+use Rattle.words_sys.specs.Early.{never, earlyStop, store-late, zero-late}
 use Rattle.a72abi.specs.Kept.{unmoved, number-unmoved, unmoved-value, storing-late, kept-same, kept-told}
 use Rattle.a72abi.specs.Inside.{Steps}
 use Rattle.a72abi.specs.Promise.{Promise, Setting, StepPromise, Runs, Gives}
-use Rattle.a72abi.specs.declared.op.Kinds.{Kinds}
-use Rattle.a72abi.specs.declared.op.Kinds.the-variants as Kinds
-use Rattle.a72abi.specs.declared.op.Calls.{Calls}
-use Rattle.a72abi.specs.declared.op.Calls.the-variants.{Known, Unknown}
+use Rattle.a72abi.specs.declared.op.DecodedKind.{DecodedKind}
+use Rattle.a72abi.specs.declared.op.DecodedKind.the-variants as DecodedKind
+use Rattle.a72abi.specs.declared.op.DecodedCall.{DecodedCall}
+use Rattle.a72abi.specs.declared.op.DecodedCall.the-variants.{Known, Unknown}
 
 -- A REFUSAL, UNDEFINED AND UNIMPLEMENTED CHANGE NO BYTE
 
@@ -88,8 +89,8 @@ module _ (c : Core) (base : ℕ) (ram : List ℕ) where
 
 -- A NUMBER AND A VALUE
 
-pub promise : (call : Calls) (base : ℕ) (ram ws : List ℕ) (n old v : ℕ) (ys xs : List ℕ)
-    → Gives call base ram ws n old v xs → ys ≡ callRam call (held ws) base ram → Promise call base ram ws n old v ys xs
+pub promise : (call : DecodedCall) (base : ℕ) (ram ws : List ℕ) (n old v : ℕ) (ys xs : List ℕ)
+    → Gives call base ram ws n old v xs → ys ≡ callRam call (coreOf ws) base ram → Promise call base ram ws n old v ys xs
 unfolding FaithfulCall
 promise Unknown base ram ws n old v ys xs g b =
     record {
@@ -107,36 +108,36 @@ promise (Known x) base ram ws n old v ys xs g b =
       bytes = b;
       words = g .words;
       unchanged = λ l h.
-          let t : unmoved (stepOf (held ws) base ram x .reply) ≡ true = number-unmoved (stepOf (held ws) base ram x .reply) (rw (g .code) at l) (rw (g .code) at h) in
-          (g .kept .same l h, (b ∙ ram-still (held ws) base ram x t, g .value ∙ unmoved-value (stepOf (held ws) base ram x .reply) old t));
+          let t : unmoved (stepOf (coreOf ws) base ram x .reply) ≡ true = number-unmoved (stepOf (coreOf ws) base ram x .reply) (rw (g .code) at l) (rw (g .code) at h) in
+          (g .kept .same l h, (b ∙ ram-still (coreOf ws) base ram x t, g .value ∙ unmoved-value (stepOf (coreOf ws) base ram x .reply) old t));
       demand-3 = λ list e.
           record {
-            reply = stepOf (held ws) base ram x .reply;
+            reply = stepOf (coreOf ws) base ram x .reply;
             number-is = g .code;
             value-is = g .value;
-            faithful = faithful-step (held ws) base ram x (stepOf (held ws) base ram x) ys refl b list e;
+            faithful = faithful-step (coreOf ws) base ram x (stepOf (coreOf ws) base ram x) ys refl b list e;
           };
     }
 
 -- a call that writes no byte
 pub promise-quiet : (x : Call) (base : ℕ) (ram ws : List ℕ) (n old v : ℕ) (xs : List ℕ)
-    → writes (held ws) x ≡ false → Gives (Known x) base ram ws n old v xs → Promise (Known x) base ram ws n old v ram xs
-promise-quiet x base ram ws n old v xs q g = promise (Known x) base ram ws n old v ram xs g (sym (quiet (held ws) base ram x q))
+    → writes (coreOf ws) x ≡ false → Gives (Known x) base ram ws n old v xs → Promise (Known x) base ram ws n old v ram xs
+promise-quiet x base ram ws n old v xs q g = promise (Known x) base ram ws n old v ram xs g (sym (quiet (coreOf ws) base ram x q))
 
-translate-quiet : (c : Core) (base : ℕ) (ram : List ℕ) (va : ℕ) (k : Kinds) → callRam (translateCall k va) c base ram ≡ ram
+translate-quiet : (c : Core) (base : ℕ) (ram : List ℕ) (va : ℕ) (k : DecodedKind) → callRam (translateCall k va) c base ram ≡ ram
 unfolding translateCall
-translate-quiet c base ram va (Kinds.Known k) = quiet c base ram (Call.Translate k va) refl
-translate-quiet c base ram va Kinds.Unknown = refl
+translate-quiet c base ram va (DecodedKind.Known k) = quiet c base ram (Call.Translate k va) refl
+translate-quiet c base ram va DecodedKind.Unknown = refl
 
-pub promise-translate : (k : Kinds) (va base : ℕ) (ram ws : List ℕ) (n old v : ℕ) (xs : List ℕ)
+pub promise-translate : (k : DecodedKind) (va base : ℕ) (ram ws : List ℕ) (n old v : ℕ) (xs : List ℕ)
     → Gives (translateCall k va) base ram ws n old v xs → Promise (translateCall k va) base ram ws n old v ram xs
-promise-translate k va base ram ws n old v xs g = promise (translateCall k va) base ram ws n old v ram xs g (sym (translate-quiet (held ws) base ram va k))
+promise-translate k va base ram ws n old v xs g = promise (translateCall k va) base ram ws n old v ram xs g (sym (translate-quiet (coreOf ws) base ram va k))
 
 -- A CALL THAT IS HANDED NO RAM
 
 module _ (x : Call) (ws : List ℕ) (r : Reply) (n : ℕ) (xs : List ℕ)
-    (anywhere : (base : ℕ) (ram : List ℕ) → stepOf (held ws) 0 [] x ≡ stepOf (held ws) base ram x) (quietly : writes (held ws) x ≡ false)
-    (valueless : (old : ℕ) → valueBy (stepOf (held ws) 0 [] x .reply) old ≡ old) where
+    (anywhere : (base : ℕ) (ram : List ℕ) → stepOf (coreOf ws) 0 [] x ≡ stepOf (coreOf ws) base ram x) (quietly : writes (coreOf ws) x ≡ false)
+    (valueless : (old : ℕ) → valueBy (stepOf (coreOf ws) 0 [] x .reply) old ≡ old) where
   set : Runs x 0 [] ws r xs → n ≡ codeBy r → Setting (Known x) ws n xs
   set g e = record { on = on }
     where
@@ -146,7 +147,7 @@ module _ (x : Call) (ws : List ℕ) (r : Reply) (n : ℕ) (xs : List ℕ)
           (record {
             code = e ∙ ap codeBy (g .reply) ∙ ap (λ (s : Stepped). codeBy (s .reply)) (anywhere base ram);
             value = sym (valueless old) ∙ ap (λ (s : Stepped). valueBy (s .reply) old) (anywhere base ram);
-            words = moved-as (g .words) (ap (λ (s : Stepped). s .core) (anywhere base ram));
+            words = holds-as (g .words) (ap (λ (s : Stepped). s .core) (anywhere base ram));
             kept = kept-told ws xs r n e (g .stays);
           })
 
@@ -163,37 +164,37 @@ register-value Written.NoRegister old = refl
 module _ (ws : List ℕ) (r : Reply) (n : ℕ) (xs : List ℕ) where
   pub set-level : (level : ℕ) → Runs (Call.Level level) 0 [] ws r xs → n ≡ codeBy r → Setting (Known (Call.Level level)) ws n xs
   unfolding stepOf runOf missedOf
-  set-level level g e = set (Call.Level level) ws r n xs (λ base ram. refl) refl (λ old. no-value (missedBy (held ws) 0 [] (Call.Level level)) (held ws) (runOf (held ws) 0 [] (Call.Level level)) old refl) g e
+  set-level level g e = set (Call.Level level) ws r n xs (λ base ram. refl) refl (λ old. no-value (missedBy (coreOf ws) 0 [] (Call.Level level)) (coreOf ws) (runOf (coreOf ws) 0 [] (Call.Level level)) old refl) g e
 
   pub set-general : (i v : ℕ) → Runs (Call.General i v) 0 [] ws r xs → n ≡ codeBy r → Setting (Known (Call.General i v)) ws n xs
   unfolding stepOf runOf missedOf
-  set-general i v g e = set (Call.General i v) ws r n xs (λ base ram. refl) refl (λ old. no-value (missedBy (held ws) 0 [] (Call.General i v)) (held ws) (runOf (held ws) 0 [] (Call.General i v)) old refl) g e
+  set-general i v g e = set (Call.General i v) ws r n xs (λ base ram. refl) refl (λ old. no-value (missedBy (coreOf ws) 0 [] (Call.General i v)) (coreOf ws) (runOf (coreOf ws) 0 [] (Call.General i v)) old refl) g e
 
   bare-register : (key v : ℕ) → Runs (Call.Register key v) 0 [] ws r xs → n ≡ codeBy r → Setting (Known (Call.Register key v)) ws n xs
   unfolding stepOf runOf missedOf
   bare-register key v g e =
       set (Call.Register key v) ws r n xs (λ base ram. refl) refl
-      (λ old. no-value (missedBy (held ws) 0 [] (Call.Register key v)) (held ws) (runOf (held ws) 0 [] (Call.Register key v)) old (register-value (writeRegister (held ws) key v .answer) old)) g e
+      (λ old. no-value (missedBy (coreOf ws) 0 [] (Call.Register key v)) (coreOf ws) (runOf (coreOf ws) 0 [] (Call.Register key v)) old (register-value (writeRegister (coreOf ws) key v .answer) old)) g e
 
   bare-mark : (mark : Bool) → Runs (Call.Mark mark) 0 [] ws r xs → n ≡ codeBy r → Setting (Known (Call.Mark mark)) ws n xs
   unfolding stepOf runOf missedOf
-  bare-mark mark g e = set (Call.Mark mark) ws r n xs (λ base ram. refl) refl (λ old. no-value (missedBy (held ws) 0 [] (Call.Mark mark)) (held ws) (runOf (held ws) 0 [] (Call.Mark mark)) old refl) g e
+  bare-mark mark g e = set (Call.Mark mark) ws r n xs (λ base ram. refl) refl (λ old. no-value (missedBy (coreOf ws) 0 [] (Call.Mark mark)) (coreOf ws) (runOf (coreOf ws) 0 [] (Call.Mark mark)) old refl) g e
 
   bare-abort : (x : Exception) → Runs (Call.Abort x) 0 [] ws r xs → n ≡ codeBy r → Setting (Known (Call.Abort x)) ws n xs
   unfolding stepOf runOf missedOf
-  bare-abort x g e = set (Call.Abort x) ws r n xs (λ base ram. refl) refl (λ old. no-value (missedBy (held ws) 0 [] (Call.Abort x)) (held ws) (runOf (held ws) 0 [] (Call.Abort x)) old refl) g e
+  bare-abort x g e = set (Call.Abort x) ws r n xs (λ base ram. refl) refl (λ old. no-value (missedBy (coreOf ws) 0 [] (Call.Abort x)) (coreOf ws) (runOf (coreOf ws) 0 [] (Call.Abort x)) old refl) g e
 
   -- by its words
   pub set-register : (key v k : ℕ) → k ≡ keyOf key → Runs (Call.Register k v) 0 [] ws r xs → n ≡ codeBy r → Setting (Known (Call.Register (keyOf key) v)) ws n xs
   set-register key v k q g e = rw q at (bare-register k v g e)
 
-  pub set-mark : (mark : Bool) (p : Calls) → Known (Call.Mark mark) ≡ p → Runs (Call.Mark mark) 0 [] ws r xs → n ≡ codeBy r → Setting p ws n xs
+  pub set-mark : (mark : Bool) (p : DecodedCall) → Known (Call.Mark mark) ≡ p → Runs (Call.Mark mark) 0 [] ws r xs → n ≡ codeBy r → Setting p ws n xs
   set-mark mark p q g e = rw q at (bare-mark mark g e)
 
-  pub set-abort : (x : Exception) (p : Calls) → Known (Call.Abort x) ≡ p → Runs (Call.Abort x) 0 [] ws r xs → n ≡ codeBy r → Setting p ws n xs
+  pub set-abort : (x : Exception) (p : DecodedCall) → Known (Call.Abort x) ≡ p → Runs (Call.Abort x) 0 [] ws r xs → n ≡ codeBy r → Setting p ws n xs
   set-abort x p q g e = rw q at (bare-abort x g e)
 
-pub set-unnamed : (ws : List ℕ) (p : Calls) → Unknown ≡ p → Setting p ws 64 ws
+pub set-unnamed : (ws : List ℕ) (p : DecodedCall) → Unknown ≡ p → Setting p ws 64 ws
 set-unnamed ws p q = rw (← q) (record { on = λ base ram old. promise Unknown base ram ws 64 old old ram ws (record { code = refl; value = refl; words = stays; kept = kept-same 64 ws }) refl })
 
 -- EVERY CALL BY EIGHT WORDS
@@ -215,8 +216,8 @@ tag-unmoved (Stopped (Stop.Exception (Exception.Smc imm))) l h = refl
 tag-unmoved (Stopped (Stop.Exception (Exception.Brk imm))) l h = refl
 tag-unmoved (Stopped (Stop.Exception Exception.PcAlignment)) l h = refl
 
-module _ (base : ℕ) (ram ws : List ℕ) (p o : Calls) (eo : o ≡ p) (old : List ℕ) where
-  step-of : (x : Call) (v ys xs : List ℕ) → Steps x base ram ws v xs → ys ≡ ramAfter (held ws) base ram x → StepPromise (Known x) base ram ws 0 old v ys xs
+module _ (base : ℕ) (ram ws : List ℕ) (p o : DecodedCall) (eo : o ≡ p) (old : List ℕ) where
+  step-of : (x : Call) (v ys xs : List ℕ) → Steps x base ram ws v xs → ys ≡ ramAfter (coreOf ws) base ram x → StepPromise (Known x) base ram ws 0 old v ys xs
   unfolding FaithfulCall
   step-of x v ys xs s b =
       record {
@@ -226,16 +227,16 @@ module _ (base : ℕ) (ram ws : List ℕ) (p o : Calls) (eo : o ≡ p) (old : Li
         words = s .words;
         unnamed = λ l. absurd (omega arith);
         unchanged = λ l h.
-            (s .still l h, b ∙ ram-still (held ws) base ram x (tag-unmoved (stepOf (held ws) base ram x .reply) (rw (s .answer) at l) (rw (s .answer) at h)));
+            (s .still l h, b ∙ ram-still (coreOf ws) base ram x (tag-unmoved (stepOf (coreOf ws) base ram x .reply) (rw (s .answer) at l) (rw (s .answer) at h)));
         demand-3 = λ list q.
             record {
-              reply = stepOf (held ws) base ram x .reply;
+              reply = stepOf (coreOf ws) base ram x .reply;
               words-are = s .answer;
-              faithful = faithful-step (held ws) base ram x (stepOf (held ws) base ram x) ys refl b list q;
+              faithful = faithful-step (coreOf ws) base ram x (stepOf (coreOf ws) base ram x) ys refl b list q;
             };
       }
 
-  pub step-known : (x : Call) (v ys xs : List ℕ) → o ≡ Known x → Steps x base ram ws v xs → ys ≡ ramAfter (held ws) base ram x → StepPromise p base ram ws 0 old v ys xs
+  pub step-known : (x : Call) (v ys xs : List ℕ) → o ≡ Known x → Steps x base ram ws v xs → ys ≡ ramAfter (coreOf ws) base ram x → StepPromise p base ram ws 0 old v ys xs
   step-known x v ys xs q s b = rw (← eo, q) (step-of x v ys xs s b)
 
   none-of : StepPromise Unknown base ram ws 64 old old ram ws

@@ -15,10 +15,10 @@ use Rattle.mmu.specs.declared.core.Core.{Core}
 
 -- a level up to 3, and a window that ends below the last address
 unfoldable pub clearOf : Core → ℕ → ℕ → Bool
-clearOf c base len = pick (ltb 3 (c .who .level)) false (pick (ltb (2 ^ 64 - 1 - len) base) false true)
+clearOf c base len = pick (ltb 3 (c .privilege .level)) false (pick (ltb (2 ^ 64 - 1 - len) base) false true)
 
 pub record Clear (c : Core) (base len : ℕ) : Type 0 where
-  pub low : ltb 3 (c .who .level) ≡ false
+  pub low : ltb 3 (c .privilege .level) ≡ false
   pub short : ltb (2 ^ 64 - 1 - len) base ≡ false
 
 -- a size's bytes at an address; a size that is none has none there

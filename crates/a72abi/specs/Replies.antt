@@ -3,12 +3,12 @@ use mathlib.Core.Bool.{Bool}
 use mathlib.Core.List.{List, [], _∷_}
 use Prim.Native.Nat.{ℕ, _+_}
 use Rattle.word.specs.Bits.{flag}
-use Rattle.entry.specs.declared.exception.Exception.{Exception}
-use Rattle.entry.specs.declared.exception.Exception.the-variants.{Undefined, Svc, Hvc, Smc, Brk, DataAbort, InsnAbort, PcAlignment}
-use Rattle.entry.specs.declared.exception.Stop.{Stop}
-use Rattle.entry.specs.declared.exception.Stop.the-variants as Stop
-use Rattle.cpu.specs.declared.call.Reply.{Reply}
-use Rattle.cpu.specs.declared.call.Reply.the-variants.{Refused, Done, Value, Faults, Fault, Stopped}
+use Rattle.exception.specs.declared.kind.Exception.{Exception}
+use Rattle.exception.specs.declared.kind.Exception.the-variants.{Undefined, Svc, Hvc, Smc, Brk, DataAbort, InsnAbort, PcAlignment}
+use Rattle.exception.specs.declared.kind.Stop.{Stop}
+use Rattle.exception.specs.declared.kind.Stop.the-variants as Stop
+use Rattle.operations.specs.declared.call.Reply.{Reply}
+use Rattle.operations.specs.declared.call.Reply.the-variants.{Refused, Done, Value, Faults, Fault, Stopped}
 
 -- 256 plus the status of an abort; 65 for every other exception, which is Undefined where an operation stops
 abbrev pub exceptionCode : Exception → ℕ

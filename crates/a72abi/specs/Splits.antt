@@ -8,21 +8,21 @@ use Rattle.word.specs.declared.ram.Word.{Word}
 use Rattle.word.specs.declared.ram.Word.the-variants as Word
 use Rattle.walk.specs.Regime.{regimeOf, stage1On}
 use Rattle.tlb.specs.declared.access.Kind.the-variants.{Read, Write}
-use Rattle.tlb.specs.declared.hint.Physical.{Physical}
-use Rattle.tlb.specs.declared.hint.Physical.the-variants.{At, Unknown}
+use Rattle.tlb.specs.declared.hint.HintAnswer.{HintAnswer}
+use Rattle.tlb.specs.declared.hint.HintAnswer.the-variants.{At, Unknown}
 use Rattle.mmu.specs.Core.{bankNow}
-use Rattle.mmu.specs.Place.{inPage, nextPage, crosses}
-use Rattle.mmu.specs.AtOnce.{bothInside, bothAt, bothStored}
+use Rattle.operations.specs.Place.{inPage, nextPage, crosses}
+use Rattle.operations.specs.AtOnce.{bothInside, bothAt, bothStored}
 use Rattle.mmu.specs.declared.core.Core.{Core}
-use Rattle.mmu.specs.declared.place.Pages.{Pages}
-use Rattle.inplace.specs.Found.{hintFound}
+use Rattle.operations.specs.declared.place.Pages.{Pages}
+use Rattle.words_memory.specs.Found.{hintFound}
 use Rattle.a72abi.specs.Quick.{clearOf}
 use Rattle.a72abi.specs.declared.split.Split.{Split}
 use Rattle.a72abi.specs.declared.split.Split.the-variants as Split
 
 -- two pages are taken, and level and window pass
 unfoldable pub apartOf : Core → ℕ → ℕ → ℕ → ℕ → Bool
-apartOf c base len va n = pick (clearOf c base len) (crosses (stage1On (bankNow c) (regimeOf (c .who .level))) va n) false
+apartOf c base len va n = pick (clearOf c base len) (crosses (stage1On (bankNow c) (regimeOf (c .privilege .level))) va n) false
 
 abbrev pub pagesAt : ℕ → ℕ → ℕ → Pages
 pagesAt va pa pa2 = record { «in_page» = inPage va; pa = pa; pa2 = pa2 }
@@ -32,19 +32,19 @@ valueFrom pa (Word.Value v) = Split.Value pa v
 valueFrom pa Word.Outside = Split.Unknown
 
 -- what the two hints say, where the access is apart
-unfoldable pub loadBoth : Bool → Physical → Physical → ℕ → ℕ → List ℕ → ℕ → Split
+unfoldable pub loadBoth : Bool → HintAnswer → HintAnswer → ℕ → ℕ → List ℕ → ℕ → Split
 loadBoth false p q va base ram n = Split.Unknown
 loadBoth true Unknown q va base ram n = Split.Unknown
 loadBoth true (At pa) Unknown va base ram n = Split.Unknown
 loadBoth true (At pa) (At pa2) va base ram n = valueFrom pa (bothAt base ram (pagesAt va pa pa2) n)
 
-unfoldable pub madeBoth : Bool → Physical → Physical → ℕ → ℕ → List ℕ → ℕ → Bool
+unfoldable pub madeBoth : Bool → HintAnswer → HintAnswer → ℕ → ℕ → List ℕ → ℕ → Bool
 madeBoth false p q va base ram n = false
 madeBoth true Unknown q va base ram n = false
 madeBoth true (At pa) Unknown va base ram n = false
 madeBoth true (At pa) (At pa2) va base ram n = bothInside base (length ram) (pagesAt va pa pa2) n
 
-unfoldable pub ramBoth : Bool → Physical → Physical → ℕ → ℕ → List ℕ → ℕ → ℕ → List ℕ
+unfoldable pub ramBoth : Bool → HintAnswer → HintAnswer → ℕ → ℕ → List ℕ → ℕ → ℕ → List ℕ
 ramBoth false p q va base ram n v = ram
 ramBoth true Unknown q va base ram n v = ram
 ramBoth true (At pa) Unknown va base ram n v = ram

@@ -13,7 +13,7 @@ use Rattle.walk.specs.declared.regime.Bank.{Bank}
 use Rattle.walk.specs.declared.level.Leaf.{Leaf}
 use Rattle.walk.specs.declared.level.Walked.{Walked}
 use Rattle.walk.specs.declared.level.Walked.the-variants.{Mapped, Fault}
-use Rattle.cpu.specs.Check.{passes}
+use Rattle.operations.specs.Check.{passes}
 use Rattle.a72abi.specs.declared.tables.Named.{Named}
 use Rattle.a72abi.specs.declared.tables.Named.the-variants.{Known, Unknown}
 

@@ -1,25 +1,25 @@
 // Loads and stores on lent words: the fast path, where hints answer and the bytes lie in RAM, and else the slow one.
 ghost use mathlib.Core.Path.{_≡_};
 ghost use mathlib.Core.Bool.{true};
-ghost use Rattle.cpu.specs.Check.{known};
+ghost use Rattle.operations.specs.Check.{known};
 ghost use Rattle.cpu.specs.Step.{ramAfter};
-ghost use Rattle.cpu.specs.declared.call.Call.the-variants as Call;
-ghost use Rattle.words.specs.Held.{held};
-ghost use Rattle.a72abi.specs.declared.op.Calls.the-variants as Calls;
+ghost use Rattle.operations.specs.declared.call.Call.the-variants as Call;
+ghost use Rattle.words.specs.CoreOf.{coreOf};
+ghost use Rattle.a72abi.specs.declared.op.DecodedCall.the-variants as DecodedCall;
 ghost use Rattle.a72abi.specs.Promise.{Promise, Gives};
 ghost use Rattle.a72abi.specs.Quick.{sizedAt, sizedMade, sizedRam};
 use crate::slow;
 use crate::split;
 use crate::split::Split;
-use inplace::translate;
-use mmu::place;
+use operations::place;
 use tlb::access::Kind;
-use tlb::hint::Physical;
+use tlb::hint::HintAnswer;
 use word::ram;
 use word::ram::Width;
 use word::ram::Word;
 use words::place::State;
 use words::state;
+use words_memory::translate;
 
 // The value of a size's bytes at pa; nothing where the size is none. The tests come in this order for the sake of
 // the commonest size.
@@ -66,7 +66,7 @@ fn write_sized(base: u64, ram: &mut [u8], size: u64, pa: u64, value: u64) -> boo
 // A load over two pages: by their hints, or the slow path.
 fn load_split(state: &mut State, va: u64, size: u64, ans: &mut u64, base: u64, ram: &[u8]) -> u64
     requires { ⌜ known size ≡ true ⌝ }
-    ensures { λ r. ⌜ Gives (Calls.Known (Call.Load va size)) base (now (ram .entry)) (now (state .entry)) r
+    ensures { λ r. ⌜ Gives (DecodedCall.Known (Call.Load va size)) base (now (ram .entry)) (now (state .entry)) r
         (now (ans .entry)) (now (ans .exit)) (now (state .exit)) ⌝ }
 {
     let n = ram.len();
@@ -81,7 +81,7 @@ fn load_split(state: &mut State, va: u64, size: u64, ans: &mut u64, base: u64, r
 }
 
 fn load_across(state: &mut State, va: u64, size: u64, ans: &mut u64, base: u64, ram: &[u8]) -> u64
-    ensures { λ r. ⌜ Gives (Calls.Known (Call.Load va size)) base (now (ram .entry)) (now (state .entry)) r
+    ensures { λ r. ⌜ Gives (DecodedCall.Known (Call.Load va size)) base (now (ram .entry)) (now (state .entry)) r
         (now (ans .entry)) (now (ans .exit)) (now (state .exit)) ⌝ }
 {
     match size {
@@ -102,7 +102,7 @@ pub extern "C" fn a72_load(
     base: u64,
     ram: &[u8],
 ) -> u64
-    ensures { λ r. ⌜ Promise (Calls.Known (Call.Load va size)) base (now (ram .entry)) (now (state .entry)) r
+    ensures { λ r. ⌜ Promise (DecodedCall.Known (Call.Load va size)) base (now (ram .entry)) (now (state .entry)) r
         (now (ans .entry)) (now (ans .exit)) (now (ram .entry)) (now (state .exit)) ⌝ }
 {
     if place::in_page(va) < size {
@@ -115,7 +115,7 @@ pub extern "C" fn a72_load(
             slow::load(state, va, size, ans, base, ram)
         } else {
             match translate::by_hint(state, va, Kind::Read) {
-                Physical::At(pa) => match read_sized(base, ram, size, pa) {
+                HintAnswer::At(pa) => match read_sized(base, ram, size, pa) {
                     Word::Value(v) => {
                         state::put_last(state, pa);
                         *ans = v;
@@ -123,7 +123,7 @@ pub extern "C" fn a72_load(
                     }
                     Word::Outside => slow::load(state, va, size, ans, base, ram),
                 },
-                Physical::Unknown => slow::load_page(state, va, size, ans, base, ram),
+                HintAnswer::Unknown => slow::load_page(state, va, size, ans, base, ram),
             }
         }
     } else {
@@ -142,9 +142,9 @@ fn store_split(
     ram: &mut [u8],
 ) -> u64
     requires { ⌜ known size ≡ true ⌝ }
-    ensures { λ r. ⌜ Gives (Calls.Known (Call.Store va size value)) base (now (ram .entry)) (now (state .entry)) r
+    ensures { λ r. ⌜ Gives (DecodedCall.Known (Call.Store va size value)) base (now (ram .entry)) (now (state .entry)) r
         (now (ans .entry)) (now (ans .exit)) (now (state .exit)) ⌝ }
-    ensures { λ r. ⌜ now (ram .exit) ≡ ramAfter (held (now (state .entry))) base (now (ram .entry))
+    ensures { λ r. ⌜ now (ram .exit) ≡ ramAfter (coreOf (now (state .entry))) base (now (ram .entry))
         (Call.Store va size value) ⌝ }
 {
     let made = split::store(state, va, size, value, base, ram);
@@ -164,9 +164,9 @@ fn store_across(
     base: u64,
     ram: &mut [u8],
 ) -> u64
-    ensures { λ r. ⌜ Gives (Calls.Known (Call.Store va size value)) base (now (ram .entry)) (now (state .entry)) r
+    ensures { λ r. ⌜ Gives (DecodedCall.Known (Call.Store va size value)) base (now (ram .entry)) (now (state .entry)) r
         (now (ans .entry)) (now (ans .exit)) (now (state .exit)) ⌝ }
-    ensures { λ r. ⌜ now (ram .exit) ≡ ramAfter (held (now (state .entry))) base (now (ram .entry))
+    ensures { λ r. ⌜ now (ram .exit) ≡ ramAfter (coreOf (now (state .entry))) base (now (ram .entry))
         (Call.Store va size value) ⌝ }
 {
     match size {
@@ -188,7 +188,8 @@ pub extern "C" fn a72_store(
     base: u64,
     ram: &mut [u8],
 ) -> u64
-    ensures { λ r. ⌜ Promise (Calls.Known (Call.Store va size value)) base (now (ram .entry)) (now (state .entry)) r
+    ensures { λ r. ⌜ Promise (DecodedCall.Known (Call.Store va size value)) base (now (ram .entry))
+        (now (state .entry)) r
         (now (ans .entry)) (now (ans .exit)) (now (ram .exit)) (now (state .exit)) ⌝ }
 {
     if place::in_page(va) < size {
@@ -201,7 +202,7 @@ pub extern "C" fn a72_store(
             slow::store(state, va, size, value, ans, base, ram)
         } else {
             match translate::by_hint(state, va, Kind::Write) {
-                Physical::At(pa) => {
+                HintAnswer::At(pa) => {
                     let made = write_sized(base, ram, size, pa, value);
                     if made {
                         0
@@ -209,7 +210,7 @@ pub extern "C" fn a72_store(
                         slow::store(state, va, size, value, ans, base, ram)
                     }
                 }
-                Physical::Unknown => slow::store_page(state, va, size, value, ans, base, ram),
+                HintAnswer::Unknown => slow::store_page(state, va, size, value, ans, base, ram),
             }
         }
     } else {

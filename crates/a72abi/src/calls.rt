@@ -2,30 +2,30 @@
 ghost use mathlib.Core.Path.{_≡_};
 ghost use mathlib.Core.List.{[]};
 ghost use Rattle.cpu.specs.Step.{ramAfter};
-ghost use Rattle.cpu.specs.declared.call.Call.the-variants as Call;
+ghost use Rattle.operations.specs.declared.call.Call.the-variants as Call;
 ghost use Rattle.mmu.specs.Core.{freshCore};
-ghost use Rattle.words.specs.Held.{held};
-ghost use Rattle.a72abi.specs.declared.op.Calls.the-variants as Calls;
+ghost use Rattle.words.specs.CoreOf.{coreOf};
+ghost use Rattle.a72abi.specs.declared.op.DecodedCall.the-variants as DecodedCall;
 ghost use Rattle.a72abi.specs.Ops.{keyOf, encodingOf, exceptionOf, exceptionAt, abortCall, markCall, callOf};
 ghost use Rattle.a72abi.specs.Inside.{Steps};
 ghost use Rattle.a72abi.specs.Promise.{Promise, Setting, StepPromise, Runs};
 use crate::checked;
 use crate::op;
-use crate::op::Calls;
-use crate::op::Exceptions;
+use crate::op::DecodedCall;
+use crate::op::DecodedException;
 use crate::reply;
 use crate::slow;
-use cpu::call::Call;
-use cpu::call::Encoding;
-use cpu::call::Reply;
-use entry::exception::Exception;
+use exception::kind::Exception;
+use operations::call::Call;
+use operations::call::Encoding;
+use operations::call::Reply;
 use tlb::access::Kind;
 use words::place::State;
 
 // Every word written: the core after reset.
 #[no_mangle]
 pub extern "C" fn a72_fresh(state: &mut State)
-    ensures { λ _. ⌜ held (now (state .exit)) ≡ freshCore ⌝ }
+    ensures { λ _. ⌜ coreOf (now (state .exit)) ≡ freshCore ⌝ }
 {
     words::fresh::fresh(state);
 }
@@ -43,7 +43,7 @@ pub extern "C" fn a72_system(
     base: u64,
     ram: &mut [u8],
 ) -> u64
-    ensures { λ r. ⌜ Promise (Calls.Known (Call.System (encodingOf op1 crn crm op2 rt))) base (now (ram .entry))
+    ensures { λ r. ⌜ Promise (DecodedCall.Known (Call.System (encodingOf op1 crn crm op2 rt))) base (now (ram .entry))
         (now (state .entry)) r (now (ans .entry)) (now (ans .exit)) (now (ram .exit)) (now (state .exit)) ⌝ }
 {
     let e = Encoding {
@@ -60,7 +60,7 @@ pub extern "C" fn a72_system(
 // A register write.
 #[no_mangle]
 pub extern "C" fn a72_register(state: &mut State, key: u64, value: u64) -> u64
-    ensures { λ r. ⌜ Setting (Calls.Known (Call.Register (keyOf key) value)) (now (state .entry)) r
+    ensures { λ r. ⌜ Setting (DecodedCall.Known (Call.Register (keyOf key) value)) (now (state .entry)) r
         (now (state .exit)) ⌝ }
 {
     let k = op::key_of(key);
@@ -70,7 +70,7 @@ pub extern "C" fn a72_register(state: &mut State, key: u64, value: u64) -> u64
 
 #[no_mangle]
 pub extern "C" fn a72_level(state: &mut State, level: u64) -> u64
-    ensures { λ r. ⌜ Setting (Calls.Known (Call.Level level)) (now (state .entry)) r (now (state .exit)) ⌝ }
+    ensures { λ r. ⌜ Setting (DecodedCall.Known (Call.Level level)) (now (state .entry)) r (now (state .exit)) ⌝ }
 {
     let r = checked::level(state, level);
     reply::number(r)
@@ -78,7 +78,8 @@ pub extern "C" fn a72_level(state: &mut State, level: u64) -> u64
 
 #[no_mangle]
 pub extern "C" fn a72_general(state: &mut State, number: u64, value: u64) -> u64
-    ensures { λ r. ⌜ Setting (Calls.Known (Call.General number value)) (now (state .entry)) r (now (state .exit)) ⌝ }
+    ensures { λ r. ⌜ Setting (DecodedCall.Known (Call.General number value)) (now (state .entry)) r
+        (now (state .exit)) ⌝ }
 {
     let r = checked::general(state, number, value);
     reply::number(r)
@@ -107,11 +108,11 @@ fn abort_named(state: &mut State, code: u64, a: u64, b: u64, c: u64) -> u64
     ensures { λ r. ⌜ Setting (abortCall (exceptionOf code a b c)) (now (state .entry)) r (now (state .exit)) ⌝ }
 {
     match op::exception_of(code, a, b, c) {
-        Exceptions::Known(x) => {
+        DecodedException::Known(x) => {
             let r = checked::abort(state, x);
             reply::number(r)
         }
-        Exceptions::Unknown => 64,
+        DecodedException::Unknown => 64,
     }
 }
 
@@ -186,7 +187,7 @@ fn fetch(state: &mut State, base: u64, ram: &[u8], va: u64) -> [u64; 4]
 fn store(state: &mut State, base: u64, ram: &mut [u8], va: u64, size: u64, value: u64) -> [u64; 4]
     ensures { λ r. ⌜ Steps (Call.Store va size value) base (now (ram .entry)) (now (state .entry)) r
         (now (state .exit)) ⌝ }
-    ensures { λ r. ⌜ now (ram .exit) ≡ ramAfter (held (now (state .entry))) base (now (ram .entry))
+    ensures { λ r. ⌜ now (ram .exit) ≡ ramAfter (coreOf (now (state .entry))) base (now (ram .entry))
         (Call.Store va size value) ⌝ }
 {
     let mut v: u64 = 0;
@@ -197,7 +198,7 @@ fn store(state: &mut State, base: u64, ram: &mut [u8], va: u64, size: u64, value
 // The operation that a call is.
 fn step(state: &mut State, base: u64, ram: &mut [u8], call: Call) -> [u64; 4]
     ensures { λ r. ⌜ Steps call base (now (ram .entry)) (now (state .entry)) r (now (state .exit)) ⌝ }
-    ensures { λ r. ⌜ now (ram .exit) ≡ ramAfter (held (now (state .entry))) base (now (ram .entry)) call ⌝ }
+    ensures { λ r. ⌜ now (ram .exit) ≡ ramAfter (coreOf (now (state .entry))) base (now (ram .entry)) call ⌝ }
 {
     match call {
         Call::Translate(kind, va) => translation(state, base, ram, kind, va),
@@ -246,11 +247,11 @@ pub extern "C" fn a72_step(
         (now (ans .entry)) (now (ans .exit)) (now (ram .exit)) (now (state .exit)) ⌝ }
 {
     match op::call_of(op) {
-        Calls::Known(call) => {
+        DecodedCall::Known(call) => {
             let words = step(state, base, ram, call);
             *ans = words;
             0
         }
-        Calls::Unknown => 64,
+        DecodedCall::Unknown => 64,
     }
 }

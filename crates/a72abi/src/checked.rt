@@ -3,16 +3,16 @@ ghost use mathlib.Core.Path.{_≡_};
 ghost use mathlib.Core.Bool.{not, _||_};
 ghost use mathlib.Core.List.{[], _∷_};
 ghost use lib.Dec.{ltb};
-ghost use Rattle.cpu.specs.Check.{kept, firstOf, missedOf};
+ghost use Rattle.operations.specs.Check.{kept, firstOf, missedOf};
 ghost use Rattle.cpu.specs.Step.{ramAfter};
-ghost use Rattle.cpu.specs.declared.call.Call.the-variants as Call;
-ghost use Rattle.words.specs.Held.{held};
+ghost use Rattle.operations.specs.declared.call.Call.the-variants as Call;
+ghost use Rattle.words.specs.CoreOf.{coreOf};
 ghost use Rattle.a72abi.specs.Promise.{Runs};
-use cpu::call::Encoding;
-use cpu::call::Reply;
-use cpu::check;
-use cpu::reply;
-use entry::exception::Exception;
+use exception::kind::Exception;
+use operations::call::Encoding;
+use operations::call::Reply;
+use operations::check;
+use operations::reply;
 use words::place::State;
 use words::state;
 
@@ -20,49 +20,52 @@ use words::state;
 // in memory it would take longer than the checks.
 
 fn missed_system(state: &State, base: u64, len: u64, e: Encoding) -> u8
-    ensures { λ r. ⌜ r ≡ missedOf (held (now (state .entry)) .who .level) base len (Call.System e) ⌝ }
+    ensures { λ r. ⌜ r ≡ missedOf (coreOf (now (state .entry)) .privilege .level) base len (Call.System e) ⌝ }
 {
-    let who = state::who_at(state);
-    check::system(who.level, base, len, e)
+    let privilege = state::privilege_at(state);
+    check::system(privilege.level, base, len, e)
 }
 
 fn missed_register(state: &State, key: u32) -> u8
-    ensures { λ r. ⌜ r ≡ firstOf ((ltb 3 (held (now (state .entry)) .who .level), 1) ∷ (not (kept key), 6) ∷ []) ⌝ }
+    ensures { λ r. ⌜ r ≡ firstOf ((ltb 3 (coreOf (now (state .entry)) .privilege .level), 1) ∷
+        (not (kept key), 6) ∷ []) ⌝ }
 {
-    let who = state::who_at(state);
-    check::register(who.level, key)
+    let privilege = state::privilege_at(state);
+    check::register(privilege.level, key)
 }
 
 fn missed_level(state: &State, requested: u64) -> u8
-    ensures { λ r. ⌜ r ≡ firstOf ((ltb 3 (held (now (state .entry)) .who .level) || ltb 3 requested, 1) ∷ []) ⌝ }
+    ensures { λ r. ⌜ r ≡ firstOf ((ltb 3 (coreOf (now (state .entry)) .privilege .level) || ltb 3 requested, 1) ∷ []) ⌝ }
 {
-    let who = state::who_at(state);
-    check::levels(who.level, requested)
+    let privilege = state::privilege_at(state);
+    check::levels(privilege.level, requested)
 }
 
 fn missed_any(state: &State) -> u8
-    ensures { λ r. ⌜ r ≡ firstOf ((ltb 3 (held (now (state .entry)) .who .level), 1) ∷ []) ⌝ }
+    ensures { λ r. ⌜ r ≡ firstOf ((ltb 3 (coreOf (now (state .entry)) .privilege .level), 1) ∷ []) ⌝ }
 {
-    let who = state::who_at(state);
-    check::any(who.level)
+    let privilege = state::privilege_at(state);
+    check::any(privilege.level)
 }
 
 fn missed_general(state: &State, number: u64) -> u8
-    ensures { λ r. ⌜ r ≡ firstOf ((ltb 3 (held (now (state .entry)) .who .level), 1) ∷ (ltb 31 number, 5) ∷ []) ⌝ }
+    ensures { λ r. ⌜ r ≡ firstOf ((ltb 3 (coreOf (now (state .entry)) .privilege .level), 1) ∷
+        (ltb 31 number, 5) ∷ []) ⌝ }
 {
-    let who = state::who_at(state);
-    check::general(who.level, number)
+    let privilege = state::privilege_at(state);
+    check::general(privilege.level, number)
 }
 
 pub fn system(state: &mut State, base: u64, ram: &mut [u8], e: Encoding) -> Reply
     ensures { λ r. ⌜ Runs (Call.System e) base (now (ram .entry)) (now (state .entry)) r (now (state .exit)) ⌝ }
-    ensures { λ r. ⌜ now (ram .exit) ≡ ramAfter (held (now (state .entry))) base (now (ram .entry)) (Call.System e) ⌝ }
+    ensures { λ r. ⌜ now (ram .exit) ≡ ramAfter (coreOf (now (state .entry))) base (now (ram .entry))
+        (Call.System e) ⌝ }
 {
     let n = missed_system(state, base, ram.len() as u64, e);
     if n != 0 {
         return Reply::Refused(n);
     }
-    let answer = insys::zero::system(state, base, ram, e.op1, e.crn, e.crm, e.op2, e.rt);
+    let answer = words_sys::zero::system(state, base, ram, e.op1, e.crn, e.crm, e.op2, e.rt);
     reply::stored(answer)
 }
 
@@ -73,7 +76,7 @@ pub fn register(state: &mut State, key: u32, value: u64) -> Reply
     if n != 0 {
         return Reply::Refused(n);
     }
-    let answer = insys::register::write_register(state, key, value);
+    let answer = words_sys::register::write_register(state, key, value);
     reply::written(answer)
 }
 
@@ -117,6 +120,6 @@ pub fn abort(state: &mut State, e: Exception) -> Reply
     if n != 0 {
         return Reply::Refused(n);
     }
-    insys::abort::abort(state, e);
+    words_sys::abort::abort(state, e);
     Reply::Done
 }

@@ -1,27 +1,27 @@
 // Translations and fetches on lent words: the fast path, where level and window pass at once, and else the slow one.
 // Each gives a number, and in ans the address or value, or the address of a data abort.
 ghost use mathlib.Core.Path.{_≡_};
-ghost use Rattle.cpu.specs.declared.call.Call.the-variants as Call;
-ghost use Rattle.words.specs.Held.{held};
-ghost use Rattle.a72abi.specs.declared.op.Calls.the-variants as Calls;
+ghost use Rattle.operations.specs.declared.call.Call.the-variants as Call;
+ghost use Rattle.words.specs.CoreOf.{coreOf};
+ghost use Rattle.a72abi.specs.declared.op.DecodedCall.the-variants as DecodedCall;
 ghost use Rattle.a72abi.specs.Ops.{kindOf, translateCall};
 ghost use Rattle.a72abi.specs.Quick.{clearOf};
 ghost use Rattle.a72abi.specs.Promise.{Promise, Gives};
 use crate::slow;
-use inplace::translate;
-use mmu::bytes;
-use mmu::bytes::Insn;
+use operations::bytes;
+use operations::bytes::Insn;
 use tlb::access::Kind;
-use tlb::hint::Physical;
+use tlb::hint::HintAnswer;
 use words::place::State;
 use words::state;
+use words_memory::translate;
 
 // Whether level and window pass at once. A window that ends at the last address is left to the checks.
 pub(crate) fn clear(state: &State, base: u64, len: u64) -> bool
-    ensures { λ r. ⌜ r ≡ clearOf (held (now (state .entry))) base len ⌝ }
+    ensures { λ r. ⌜ r ≡ clearOf (coreOf (now (state .entry))) base len ⌝ }
 {
-    let who = state::who_at(state);
-    if 3 < who.level {
+    let privilege = state::privilege_at(state);
+    if 3 < privilege.level {
         return false;
     }
     if u64::MAX - len < base {
@@ -96,7 +96,7 @@ pub extern "C" fn a72_data_pa(
     base: u64,
     ram: &[u8],
 ) -> u64
-    ensures { λ r. ⌜ Promise (Calls.Known (Call.DataPa va)) base (now (ram .entry)) (now (state .entry)) r
+    ensures { λ r. ⌜ Promise (DecodedCall.Known (Call.DataPa va)) base (now (ram .entry)) (now (state .entry)) r
         (now (ans .entry)) (now (ans .exit)) (now (ram .entry)) (now (state .exit)) ⌝ }
 {
     let known = state::level_known(state);
@@ -121,7 +121,7 @@ pub extern "C" fn a72_fetch_pa(
     base: u64,
     ram: &[u8],
 ) -> u64
-    ensures { λ r. ⌜ Promise (Calls.Known (Call.FetchPa va)) base (now (ram .entry)) (now (state .entry)) r
+    ensures { λ r. ⌜ Promise (DecodedCall.Known (Call.FetchPa va)) base (now (ram .entry)) (now (state .entry)) r
         (now (ans .entry)) (now (ans .exit)) (now (ram .entry)) (now (state .exit)) ⌝ }
 {
     let known = state::level_known(state);
@@ -140,7 +140,7 @@ pub extern "C" fn a72_fetch_pa(
 // The instruction at va.
 #[no_mangle]
 pub extern "C" fn a72_fetch(state: &mut State, va: u64, ans: &mut u64, base: u64, ram: &[u8]) -> u64
-    ensures { λ r. ⌜ Promise (Calls.Known (Call.Fetch va)) base (now (ram .entry)) (now (state .entry)) r
+    ensures { λ r. ⌜ Promise (DecodedCall.Known (Call.Fetch va)) base (now (ram .entry)) (now (state .entry)) r
         (now (ans .entry)) (now (ans .exit)) (now (ram .entry)) (now (state .exit)) ⌝ }
 {
     let known = state::level_known(state);
@@ -150,14 +150,14 @@ pub extern "C" fn a72_fetch(state: &mut State, va: u64, ans: &mut u64, base: u64
             slow::fetch(state, va, ans, base, ram)
         } else {
             match translate::fetch_by_hint(state, va) {
-                Physical::At(pa) => match bytes::insn_at(base, ram, pa) {
+                HintAnswer::At(pa) => match bytes::insn_at(base, ram, pa) {
                     Insn::Value(v) => {
                         *ans = v as u64;
                         0
                     }
                     Insn::Outside => slow::fetch(state, va, ans, base, ram),
                 },
-                Physical::Unknown => slow::fetch(state, va, ans, base, ram),
+                HintAnswer::Unknown => slow::fetch(state, va, ans, base, ram),
             }
         }
     } else {

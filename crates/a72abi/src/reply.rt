@@ -2,13 +2,13 @@
 ghost use mathlib.Core.Path.{_≡_};
 ghost use Rattle.a72abi.specs.Replies.{exceptionCode, stopCode, codeBy, exceptionValue, stopValue, valueBy};
 ghost use Rattle.a72abi.specs.Replies.{exceptionWords, stopWords, wordsBy};
-ghost use Rattle.cpu.specs.Step.{loading, storing};
+ghost use Rattle.operations.specs.Replies.{loading, storing};
 ghost use Rattle.a72abi.specs.Inside.{wordsFrom};
-use cpu::call::Reply;
-use entry::exception::Exception;
-use entry::exception::Stop;
-use mmu::ends::LoadAnswer;
-use mmu::ends::StoreAnswer;
+use exception::kind::Exception;
+use exception::kind::Stop;
+use operations::call::Reply;
+use operations::ends::LoadAnswer;
+use operations::ends::StoreAnswer;
 use word::bits;
 
 // The number of an exception that stops an operation, and the address of a data abort.

@@ -6,49 +6,49 @@ ghost use lib.Dec.{eqb};
 ghost use Rattle.word.specs.Bits.{pick};
 ghost use Rattle.word.specs.Ram.{bytesIn, stored};
 ghost use Rattle.tlb.specs.declared.access.Kind.the-variants.{Read, Write};
-ghost use Rattle.tlb.specs.declared.hint.Physical.the-variants.{Unknown};
-ghost use Rattle.mmu.specs.Place.{inPage};
+ghost use Rattle.tlb.specs.declared.hint.HintAnswer.the-variants.{Unknown};
+ghost use Rattle.operations.specs.Place.{inPage};
 ghost use Rattle.mmu.specs.Ops.{ramAfterWrite};
-ghost use Rattle.mmu.specs.declared.place.Place.the-variants.{Whole};
-ghost use Rattle.mmu.specs.declared.place.Placed.the-variants.{At};
-ghost use Rattle.cpu.specs.Check.{ramRows, sizedRows, firstOf};
+ghost use Rattle.operations.specs.declared.place.Place.the-variants.{Whole};
+ghost use Rattle.operations.specs.declared.place.Placed.the-variants.{At};
+ghost use Rattle.operations.specs.Check.{ramRows, sizedRows, firstOf};
 ghost use Rattle.cpu.specs.Step.{runOf, ramOf, ramAfter};
-ghost use Rattle.cpu.specs.declared.call.Call.the-variants as Call;
-ghost use Rattle.words.specs.Held.{held};
-ghost use Rattle.inplace.specs.Found.{hintFound, fetchHint};
+ghost use Rattle.operations.specs.declared.call.Call.the-variants as Call;
+ghost use Rattle.words.specs.CoreOf.{coreOf};
+ghost use Rattle.words_memory.specs.Found.{hintFound, fetchHint};
 ghost use Rattle.a72abi.specs.Inside.{Tells, FetchTells, loadEnds, storeEnds};
-ghost use Rattle.a72abi.specs.declared.op.Calls.the-variants as Calls;
+ghost use Rattle.a72abi.specs.declared.op.DecodedCall.the-variants as DecodedCall;
 ghost use Rattle.a72abi.specs.Promise.{Gives};
 use crate::reply;
-use cpu::check;
-use inplace::access;
-use inplace::translate;
-use mmu::bytes;
-use mmu::bytes::Insn;
-use mmu::place;
+use operations::bytes;
+use operations::bytes::Insn;
+use operations::check;
+use operations::place;
 use tlb::access::Kind;
-use tlb::hint::Physical;
+use tlb::hint::HintAnswer;
 use word::ram;
 use word::ram::Sized;
 use word::ram::Width;
 use word::ram::Word;
 use words::place::State;
 use words::state;
+use words_memory::access;
+use words_memory::translate;
 
 // Each gives the number of the first check that its calls miss, or 0.
 
 fn missed_with_ram(state: &State, base: u64, len: u64) -> u8
-    ensures { λ r. ⌜ r ≡ firstOf (ramRows (held (now (state .entry)) .who .level) base len) ⌝ }
+    ensures { λ r. ⌜ r ≡ firstOf (ramRows (coreOf (now (state .entry)) .privilege .level) base len) ⌝ }
 {
-    let who = state::who_at(state);
-    check::with_ram(who.level, base, len)
+    let privilege = state::privilege_at(state);
+    check::with_ram(privilege.level, base, len)
 }
 
 fn missed_sized(state: &State, base: u64, len: u64, size: u64) -> u8
-    ensures { λ r. ⌜ r ≡ firstOf (sizedRows (held (now (state .entry)) .who .level) base len size) ⌝ }
+    ensures { λ r. ⌜ r ≡ firstOf (sizedRows (coreOf (now (state .entry)) .privilege .level) base len size) ⌝ }
 {
-    let who = state::who_at(state);
-    check::sized(who.level, base, len, size)
+    let privilege = state::privilege_at(state);
+    check::sized(privilege.level, base, len, size)
 }
 
 pub(crate) fn translation(
@@ -59,7 +59,7 @@ pub(crate) fn translation(
     base: u64,
     ram: &[u8],
 ) -> u64
-    ensures { λ r. ⌜ Gives (Calls.Known (Call.Translate kind va)) base (now (ram .entry)) (now (state .entry)) r
+    ensures { λ r. ⌜ Gives (DecodedCall.Known (Call.Translate kind va)) base (now (ram .entry)) (now (state .entry)) r
         (now (ans .entry)) (now (ans .exit)) (now (state .exit)) ⌝ }
 {
     let n = missed_with_ram(state, base, ram.len() as u64);
@@ -79,7 +79,7 @@ fn untold(code: u64) -> u64
 // Where a data read goes, past the checks.
 pub(crate) fn data_to(state: &mut State, va: u64, ans: &mut u64, base: u64, ram: &[u8]) -> u64
     ensures { λ r. ⌜ Tells
-        (runOf (held (now (state .entry))) base (now (ram .entry)) (Call.DataPa va))
+        (runOf (coreOf (now (state .entry))) base (now (ram .entry)) (Call.DataPa va))
         (now (state .entry)) r (now (ans .entry)) (now (ans .exit)) (now (state .exit)) ⌝ }
 {
     let code = translate::address(state, va, Kind::Read, ans, base, ram);
@@ -87,7 +87,7 @@ pub(crate) fn data_to(state: &mut State, va: u64, ans: &mut u64, base: u64, ram:
 }
 
 pub(crate) fn data_pa(state: &mut State, va: u64, ans: &mut u64, base: u64, ram: &[u8]) -> u64
-    ensures { λ r. ⌜ Gives (Calls.Known (Call.DataPa va)) base (now (ram .entry)) (now (state .entry)) r
+    ensures { λ r. ⌜ Gives (DecodedCall.Known (Call.DataPa va)) base (now (ram .entry)) (now (state .entry)) r
         (now (ans .entry)) (now (ans .exit)) (now (state .exit)) ⌝ }
 {
     let n = missed_with_ram(state, base, ram.len() as u64);
@@ -100,7 +100,7 @@ pub(crate) fn data_pa(state: &mut State, va: u64, ans: &mut u64, base: u64, ram:
 // Where a fetch goes, past the checks.
 pub(crate) fn fetch_to(state: &mut State, va: u64, ans: &mut u64, base: u64, ram: &[u8]) -> u64
     ensures { λ r. ⌜ Tells
-        (runOf (held (now (state .entry))) base (now (ram .entry)) (Call.FetchPa va))
+        (runOf (coreOf (now (state .entry))) base (now (ram .entry)) (Call.FetchPa va))
         (now (state .entry)) r (now (ans .entry)) (now (ans .exit)) (now (state .exit)) ⌝ }
 {
     let code = translate::fetch_address(state, va, ans, base, ram);
@@ -108,7 +108,7 @@ pub(crate) fn fetch_to(state: &mut State, va: u64, ans: &mut u64, base: u64, ram
 }
 
 pub(crate) fn fetch_pa(state: &mut State, va: u64, ans: &mut u64, base: u64, ram: &[u8]) -> u64
-    ensures { λ r. ⌜ Gives (Calls.Known (Call.FetchPa va)) base (now (ram .entry)) (now (state .entry)) r
+    ensures { λ r. ⌜ Gives (DecodedCall.Known (Call.FetchPa va)) base (now (ram .entry)) (now (state .entry)) r
         (now (ans .entry)) (now (ans .exit)) (now (state .exit)) ⌝ }
 {
     let n = missed_with_ram(state, base, ram.len() as u64);
@@ -137,9 +137,9 @@ fn fetch_at(state: &mut State, pa: u64, ans: &mut u64, base: u64, ram: &[u8]) ->
 
 // A fetch that no hint serves.
 fn fetch_page(state: &mut State, va: u64, ans: &mut u64, base: u64, ram: &[u8]) -> u64
-    requires { ⌜ fetchHint (held (now state)) va ≡ Unknown ⌝ }
+    requires { ⌜ fetchHint (coreOf (now state)) va ≡ Unknown ⌝ }
     ensures { λ r. ⌜ Tells
-        (runOf (held (now (state .entry))) base (now (ram .entry)) (Call.Fetch va))
+        (runOf (coreOf (now (state .entry))) base (now (ram .entry)) (Call.Fetch va))
         (now (state .entry)) r (now (ans .entry)) (now (ans .exit)) (now (state .exit)) ⌝ }
 {
     let mut pa: u64 = 0;
@@ -151,7 +151,7 @@ fn fetch_page(state: &mut State, va: u64, ans: &mut u64, base: u64, ram: &[u8]) 
 }
 
 pub(crate) fn fetch(state: &mut State, va: u64, ans: &mut u64, base: u64, ram: &[u8]) -> u64
-    ensures { λ r. ⌜ Gives (Calls.Known (Call.Fetch va)) base (now (ram .entry)) (now (state .entry)) r
+    ensures { λ r. ⌜ Gives (DecodedCall.Known (Call.Fetch va)) base (now (ram .entry)) (now (state .entry)) r
         (now (ans .entry)) (now (ans .exit)) (now (state .exit)) ⌝ }
 {
     let n = missed_with_ram(state, base, ram.len() as u64);
@@ -159,8 +159,8 @@ pub(crate) fn fetch(state: &mut State, va: u64, ans: &mut u64, base: u64, ram: &
         return n as u64;
     }
     match translate::fetch_by_hint(state, va) {
-        Physical::At(pa) => fetch_at(state, pa, ans, base, ram),
-        Physical::Unknown => fetch_page(state, va, ans, base, ram),
+        HintAnswer::At(pa) => fetch_at(state, pa, ans, base, ram),
+        HintAnswer::Unknown => fetch_page(state, va, ans, base, ram),
     }
 }
 
@@ -175,7 +175,7 @@ fn load_at(
     ram: &[u8],
 ) -> u64
     ensures { λ r. ⌜ Tells
-        (loadEnds (held (now (state .entry))) (At (Whole pa)) base (now (ram .entry)) va (bytesIn width))
+        (loadEnds (coreOf (now (state .entry))) (At (Whole pa)) base (now (ram .entry)) va (bytesIn width))
         (now (state .entry)) r (now (ans .entry)) (now (ans .exit)) (now (state .exit)) ⌝ }
 {
     state::put_last(state, pa);
@@ -195,9 +195,9 @@ fn load_at(
 // A load in one page that no hint serves.
 fn load_one(state: &mut State, va: u64, width: Width, ans: &mut u64, base: u64, ram: &[u8]) -> u64
     requires { ⌜ bytesIn width ≤ inPage va ⌝ }
-    requires { ⌜ hintFound (held (now state)) va Read ≡ Unknown ⌝ }
+    requires { ⌜ hintFound (coreOf (now state)) va Read ≡ Unknown ⌝ }
     ensures { λ r. ⌜ Tells
-        (runOf (held (now (state .entry))) base (now (ram .entry)) (Call.Load va (bytesIn width)))
+        (runOf (coreOf (now (state .entry))) base (now (ram .entry)) (Call.Load va (bytesIn width)))
         (now (state .entry)) r (now (ans .entry)) (now (ans .exit)) (now (state .exit)) ⌝ }
 {
     let mut pa: u64 = 0;
@@ -220,9 +220,9 @@ pub(crate) fn load_page(
     ram: &[u8],
 ) -> u64
     requires { ⌜ size ≤ inPage va ⌝ }
-    requires { ⌜ hintFound (held (now state)) va Read ≡ Unknown ⌝ }
+    requires { ⌜ hintFound (coreOf (now state)) va Read ≡ Unknown ⌝ }
     ensures { λ r. ⌜ Tells
-        (runOf (held (now (state .entry))) base (now (ram .entry)) (Call.Load va size))
+        (runOf (coreOf (now (state .entry))) base (now (ram .entry)) (Call.Load va size))
         (now (state .entry)) r (now (ans .entry)) (now (ans .exit)) (now (state .exit)) ⌝ }
 {
     match size {
@@ -237,7 +237,7 @@ pub(crate) fn load_page(
 // A load that may take two pages.
 fn load_two(state: &mut State, va: u64, width: Width, ans: &mut u64, base: u64, ram: &[u8]) -> u64
     ensures { λ r. ⌜ Tells
-        (runOf (held (now (state .entry))) base (now (ram .entry)) (Call.Load va (bytesIn width)))
+        (runOf (coreOf (now (state .entry))) base (now (ram .entry)) (Call.Load va (bytesIn width)))
         (now (state .entry)) r (now (ans .entry)) (now (ans .exit)) (now (state .exit)) ⌝ }
 {
     let answer = access::load(state, va, width, base, ram);
@@ -252,7 +252,7 @@ pub(crate) fn load(
     base: u64,
     ram: &[u8],
 ) -> u64
-    ensures { λ r. ⌜ Gives (Calls.Known (Call.Load va size)) base (now (ram .entry)) (now (state .entry)) r
+    ensures { λ r. ⌜ Gives (DecodedCall.Known (Call.Load va size)) base (now (ram .entry)) (now (state .entry)) r
         (now (ans .entry)) (now (ans .exit)) (now (state .exit)) ⌝ }
 {
     let n = missed_sized(state, base, ram.len() as u64, size);
@@ -265,8 +265,8 @@ pub(crate) fn load(
                 return load_two(state, va, width, ans, base, ram);
             }
             match translate::by_hint(state, va, Kind::Read) {
-                Physical::At(pa) => load_at(state, va, width, pa, ans, base, ram),
-                Physical::Unknown => load_page(state, va, size, ans, base, ram),
+                HintAnswer::At(pa) => load_at(state, va, width, pa, ans, base, ram),
+                HintAnswer::Unknown => load_page(state, va, size, ans, base, ram),
             }
         }
         Sized::Refused => 3,
@@ -285,7 +285,7 @@ fn store_at(
     ram: &mut [u8],
 ) -> u64
     ensures { λ r. ⌜ Tells
-        (storeEnds (held (now (state .entry))) (At (Whole pa)) base (now (ram .entry)) va (bytesIn width))
+        (storeEnds (coreOf (now (state .entry))) (At (Whole pa)) base (now (ram .entry)) va (bytesIn width))
         (now (state .entry)) r (now (ans .entry)) (now (ans .exit)) (now (state .exit)) ⌝ }
     ensures { λ _. ⌜ now (ram .exit) ≡ stored base (now (ram .entry)) (bytesIn width) pa value ⌝ }
 {
@@ -310,11 +310,11 @@ fn store_one(
     ram: &mut [u8],
 ) -> u64
     requires { ⌜ bytesIn width ≤ inPage va ⌝ }
-    requires { ⌜ hintFound (held (now state)) va Write ≡ Unknown ⌝ }
+    requires { ⌜ hintFound (coreOf (now state)) va Write ≡ Unknown ⌝ }
     ensures { λ r. ⌜ Tells
-        (runOf (held (now (state .entry))) base (now (ram .entry)) (Call.Store va (bytesIn width) value))
+        (runOf (coreOf (now (state .entry))) base (now (ram .entry)) (Call.Store va (bytesIn width) value))
         (now (state .entry)) r (now (ans .entry)) (now (ans .exit)) (now (state .exit)) ⌝ }
-    ensures { λ r. ⌜ now (ram .exit) ≡ ramOf (held (now (state .entry))) base (now (ram .entry))
+    ensures { λ r. ⌜ now (ram .exit) ≡ ramOf (coreOf (now (state .entry))) base (now (ram .entry))
         (Call.Store va (bytesIn width) value) ⌝ }
 {
     let mut pa: u64 = 0;
@@ -337,11 +337,11 @@ pub(crate) fn store_page(
     ram: &mut [u8],
 ) -> u64
     requires { ⌜ size ≤ inPage va ⌝ }
-    requires { ⌜ hintFound (held (now state)) va Write ≡ Unknown ⌝ }
+    requires { ⌜ hintFound (coreOf (now state)) va Write ≡ Unknown ⌝ }
     ensures { λ r. ⌜ Tells
-        (runOf (held (now (state .entry))) base (now (ram .entry)) (Call.Store va size value))
+        (runOf (coreOf (now (state .entry))) base (now (ram .entry)) (Call.Store va size value))
         (now (state .entry)) r (now (ans .entry)) (now (ans .exit)) (now (state .exit)) ⌝ }
-    ensures { λ r. ⌜ now (ram .exit) ≡ ramOf (held (now (state .entry))) base (now (ram .entry))
+    ensures { λ r. ⌜ now (ram .exit) ≡ ramOf (coreOf (now (state .entry))) base (now (ram .entry))
         (Call.Store va size value) ⌝ }
 {
     match size {
@@ -364,9 +364,9 @@ fn store_two(
     ram: &mut [u8],
 ) -> u64
     ensures { λ r. ⌜ Tells
-        (runOf (held (now (state .entry))) base (now (ram .entry)) (Call.Store va (bytesIn width) value))
+        (runOf (coreOf (now (state .entry))) base (now (ram .entry)) (Call.Store va (bytesIn width) value))
         (now (state .entry)) r (now (ans .entry)) (now (ans .exit)) (now (state .exit)) ⌝ }
-    ensures { λ r. ⌜ now (ram .exit) ≡ ramOf (held (now (state .entry))) base (now (ram .entry))
+    ensures { λ r. ⌜ now (ram .exit) ≡ ramOf (coreOf (now (state .entry))) base (now (ram .entry))
         (Call.Store va (bytesIn width) value) ⌝ }
 {
     let answer = access::store(state, va, width, value, base, ram);
@@ -382,9 +382,9 @@ pub(crate) fn store(
     base: u64,
     ram: &mut [u8],
 ) -> u64
-    ensures { λ r. ⌜ Gives (Calls.Known (Call.Store va size value)) base (now (ram .entry)) (now (state .entry)) r
+    ensures { λ r. ⌜ Gives (DecodedCall.Known (Call.Store va size value)) base (now (ram .entry)) (now (state .entry)) r
         (now (ans .entry)) (now (ans .exit)) (now (state .exit)) ⌝ }
-    ensures { λ r. ⌜ now (ram .exit) ≡ ramAfter (held (now (state .entry))) base (now (ram .entry))
+    ensures { λ r. ⌜ now (ram .exit) ≡ ramAfter (coreOf (now (state .entry))) base (now (ram .entry))
         (Call.Store va size value) ⌝ }
 {
     let n = missed_sized(state, base, ram.len() as u64, size);
@@ -397,8 +397,8 @@ pub(crate) fn store(
                 return store_two(state, va, width, value, ans, base, ram);
             }
             match translate::by_hint(state, va, Kind::Write) {
-                Physical::At(pa) => store_at(state, va, width, value, pa, ans, base, ram),
-                Physical::Unknown => store_page(state, va, size, value, ans, base, ram),
+                HintAnswer::At(pa) => store_at(state, va, width, value, pa, ans, base, ram),
+                HintAnswer::Unknown => store_page(state, va, size, value, ans, base, ram),
             }
         }
         Sized::Refused => 3,

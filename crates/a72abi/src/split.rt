@@ -3,21 +3,21 @@
 ghost use mathlib.Core.Path.{_≡_};
 ghost use mathlib.Core.Bool.{true};
 ghost use Rattle.tlb.specs.declared.access.Kind.the-variants.{Read, Write};
-ghost use Rattle.tlb.specs.declared.hint.Physical.the-variants.{At};
-ghost use Rattle.mmu.specs.Place.{nextPage};
-ghost use Rattle.words.specs.Held.{held};
-ghost use Rattle.inplace.specs.Found.{hintFound};
+ghost use Rattle.tlb.specs.declared.hint.HintAnswer.the-variants.{At};
+ghost use Rattle.operations.specs.Place.{nextPage};
+ghost use Rattle.words.specs.CoreOf.{coreOf};
+ghost use Rattle.words_memory.specs.Found.{hintFound};
 ghost use Rattle.a72abi.specs.Splits.{apartOf, loadBoth, madeBoth, ramBoth, splitLoad, splitMade, splitRam};
 use crate::memory;
-use inplace::access;
-use inplace::translate;
-use mmu::bytes;
-use mmu::place;
-use mmu::place::Pages;
+use operations::bytes;
+use operations::place;
+use operations::place::Pages;
 use tlb::access::Kind;
-use tlb::hint::Physical;
+use tlb::hint::HintAnswer;
 use word::ram::Word;
 use words::place::State;
+use words_memory::access;
+use words_memory::translate;
 
 // The value of a load, and the physical address of its first byte.
 pub enum Split {
@@ -27,7 +27,7 @@ pub enum Split {
 
 // Whether the access takes two pages, at a level and over a window that pass at once.
 fn apart(state: &State, va: u64, n: u64, base: u64, len: u64) -> bool
-    ensures { λ r. ⌜ r ≡ apartOf (held (now (state .entry))) base len va n ⌝ }
+    ensures { λ r. ⌜ r ≡ apartOf (coreOf (now (state .entry))) base len va n ⌝ }
 {
     let clear = memory::clear(state, base, len);
     if clear {
@@ -40,30 +40,30 @@ fn apart(state: &State, va: u64, n: u64, base: u64, len: u64) -> bool
 
 // A load whose first page lies at pa.
 fn load_on(state: &State, va: u64, n: u64, pa: u64, base: u64, ram: &[u8]) -> Split
-    ensures { λ r. ⌜ r ≡ loadBoth true (At pa) (hintFound (held (now (state .entry))) (nextPage va) Read) va base
+    ensures { λ r. ⌜ r ≡ loadBoth true (At pa) (hintFound (coreOf (now (state .entry))) (nextPage va) Read) va base
         (now (ram .entry)) n ⌝ }
 {
     let next = place::next_page(va);
     match translate::by_hint(state, next, Kind::Read) {
-        Physical::At(pa2) => {
+        HintAnswer::At(pa2) => {
             let in_page = place::in_page(va);
             match bytes::read_both(base, ram, Pages { in_page, pa, pa2 }, n) {
                 Word::Value(v) => Split::Value { pa, v },
                 Word::Outside => Split::Unknown,
             }
         }
-        Physical::Unknown => Split::Unknown,
+        HintAnswer::Unknown => Split::Unknown,
     }
 }
 
 pub(crate) fn load(state: &State, va: u64, n: u64, base: u64, ram: &[u8]) -> Split
-    ensures { λ r. ⌜ r ≡ splitLoad (held (now (state .entry))) base (now (ram .entry)) va n ⌝ }
+    ensures { λ r. ⌜ r ≡ splitLoad (coreOf (now (state .entry))) base (now (ram .entry)) va n ⌝ }
 {
     let apart = apart(state, va, n, base, ram.len() as u64);
     if apart {
         match translate::by_hint(state, va, Kind::Read) {
-            Physical::At(pa) => load_on(state, va, n, pa, base, ram),
-            Physical::Unknown => Split::Unknown,
+            HintAnswer::At(pa) => load_on(state, va, n, pa, base, ram),
+            HintAnswer::Unknown => Split::Unknown,
         }
     } else {
         Split::Unknown
@@ -72,30 +72,30 @@ pub(crate) fn load(state: &State, va: u64, n: u64, base: u64, ram: &[u8]) -> Spl
 
 // A store whose first page lies at pa, and whether it was made.
 fn store_on(state: &State, va: u64, n: u64, value: u64, pa: u64, base: u64, ram: &mut [u8]) -> bool
-    ensures { λ r. ⌜ r ≡ madeBoth true (At pa) (hintFound (held (now (state .entry))) (nextPage va) Write) va base
+    ensures { λ r. ⌜ r ≡ madeBoth true (At pa) (hintFound (coreOf (now (state .entry))) (nextPage va) Write) va base
         (now (ram .entry)) n ⌝ }
     ensures { λ _. ⌜ now (ram .exit) ≡ ramBoth true (At pa)
-        (hintFound (held (now (state .entry))) (nextPage va) Write) va base (now (ram .entry)) n value ⌝ }
+        (hintFound (coreOf (now (state .entry))) (nextPage va) Write) va base (now (ram .entry)) n value ⌝ }
 {
     let next = place::next_page(va);
     match translate::by_hint(state, next, Kind::Write) {
-        Physical::At(pa2) => {
+        HintAnswer::At(pa2) => {
             let in_page = place::in_page(va);
             bytes::write_both(base, ram, Pages { in_page, pa, pa2 }, n, value)
         }
-        Physical::Unknown => false,
+        HintAnswer::Unknown => false,
     }
 }
 
 pub(crate) fn store(state: &State, va: u64, n: u64, value: u64, base: u64, ram: &mut [u8]) -> bool
-    ensures { λ r. ⌜ r ≡ splitMade (held (now (state .entry))) base (now (ram .entry)) va n ⌝ }
-    ensures { λ _. ⌜ now (ram .exit) ≡ splitRam (held (now (state .entry))) base (now (ram .entry)) va n value ⌝ }
+    ensures { λ r. ⌜ r ≡ splitMade (coreOf (now (state .entry))) base (now (ram .entry)) va n ⌝ }
+    ensures { λ _. ⌜ now (ram .exit) ≡ splitRam (coreOf (now (state .entry))) base (now (ram .entry)) va n value ⌝ }
 {
     let apart = apart(state, va, n, base, ram.len() as u64);
     if apart {
         match translate::by_hint(state, va, Kind::Write) {
-            Physical::At(pa) => store_on(state, va, n, value, pa, base, ram),
-            Physical::Unknown => false,
+            HintAnswer::At(pa) => store_on(state, va, n, value, pa, base, ram),
+            HintAnswer::Unknown => false,
         }
     } else {
         false

@@ -2,7 +2,7 @@
 ghost use mathlib.Core.Path.{_≡_};
 ghost use Prim.Native.Nat.{_+_};
 ghost use Rattle.a72abi.specs.Walk.{bankAt, regimeAt, leafAfter, walkCode, walkWords};
-use cpu::check;
+use operations::check;
 use walk::level::Leaf;
 use walk::level::Walked;
 use walk::regime::Bank;

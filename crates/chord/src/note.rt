@@ -1,6 +1,6 @@
 // The names of notes on standard output.
-use trace::say::spaces;
-use trace::say::text;
+use trace_text::say::spaces;
+use trace_text::say::text;
 
 fn pitch(n: u64) {
     match n % 12 {

@@ -7,7 +7,7 @@ use crate::hold;
 use crate::hold::Desk;
 use crate::hold::Heard;
 use crate::note;
-use trace::say;
+use trace_text::say;
 use words::place::State;
 
 // Numbers of ten such digits.

@@ -6,7 +6,7 @@ use crate::hold;
 use crate::hold::Desk;
 use crate::hold::Heard;
 use crate::note;
-use trace::say;
+use trace_text::say;
 use words::place::State;
 
 // The first sixteen partials of a low C, as numbers of notes.

@@ -5,7 +5,7 @@ use crate::hold::Heard;
 use crate::orders;
 use crate::orders::Tally;
 use crate::sixteen;
-use trace::say;
+use trace_text::say;
 use words::place::State;
 use words::place::WORDS;
 

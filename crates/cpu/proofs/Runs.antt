@@ -9,67 +9,21 @@ use Rattle.word.specs.Ram.{widthOf, bytesIn}
 use Rattle.word.specs.declared.ram.Width.{Width}
 use Rattle.word.specs.declared.ram.Sized.{Sized}
 use Rattle.word.specs.declared.ram.Sized.the-variants.{Bytes, Refused as NoWidth}
-use Rattle.sysreg.specs.declared.write.WriteAnswer.{WriteAnswer}
-use Rattle.sysreg.specs.declared.write.WriteAnswer.the-variants as Written
-use Rattle.fault.specs.declared.Fault.{Fault}
-use Rattle.tlb.specs.declared.access.Answer.{Answer}
-use Rattle.tlb.specs.declared.access.Answer.the-variants.{Address, Status}
-use Rattle.entry.specs.declared.exception.Exception.{Exception}
-use Rattle.entry.specs.declared.exception.Exception.the-variants as Exceptions
-use Rattle.entry.specs.declared.exception.Stop.{Stop}
-use Rattle.entry.specs.declared.exception.Stop.the-variants as Stops
 use Rattle.mmu.specs.Ops.{readOf, writeOf, ramAfterWrite}
 use Rattle.mmu.specs.declared.core.Core.{Core}
-use Rattle.mmu.specs.declared.ends.LoadAnswer.{LoadAnswer}
-use Rattle.mmu.specs.declared.ends.LoadAnswer.the-variants as Load
-use Rattle.mmu.specs.declared.ends.FetchAnswer.{FetchAnswer}
-use Rattle.mmu.specs.declared.ends.FetchAnswer.the-variants as Fetches
-use Rattle.mmu.specs.declared.ends.Reached.{Reached}
-use Rattle.mmu.specs.declared.ends.Reached.the-variants as Reach
-use Rattle.mmu.specs.declared.ends.StoreAnswer.{StoreAnswer}
-use Rattle.mmu.specs.declared.ends.StoreAnswer.the-variants as Store
 use Rattle.mmu.specs.declared.ops.Translated.{Translated}
 use Rattle.mmu.specs.declared.ops.Loaded.{Loaded}
 use Rattle.mmu.specs.declared.ops.Stored.{Stored}
 use Rattle.mmu.specs.declared.ops.Fetched.{Fetched}
 use Rattle.mmu.specs.declared.ops.Addressed.{Addressed}
 use Rattle.exec.specs.declared.ops.Registered.{Registered}
-use Rattle.cpu.specs.Check.{missedOf}
-use Rattle.cpu.specs.Step.{ends, translation, reaching, loading, storing, fetching, registering, afterTranslation, afterAddress, afterStore, afterFetch, afterWrite, loadBy, storeBy, storeRamBy, runOf, ramOf, stepOf, ramAfter}
-use Rattle.cpu.specs.declared.call.Call.{Call}
-use Rattle.cpu.specs.declared.call.Reply.{Reply}
-use Rattle.cpu.specs.declared.call.Reply.the-variants.{Refused, Done, Value, Stopped}
-use Rattle.cpu.specs.declared.call.Stepped.{Stepped}
-
--- each answer as a reply
-pub is-address : (va : ℕ) (a : Answer) (pa : ℕ) → a ≡ Address pa → Value pa ≡ translation va a
-is-address va a pa e = rw e
-
-pub is-status : (va : ℕ) (a : Answer) (f : Fault) → a ≡ Status f → Reply.Fault va f ≡ translation va a
-is-status va a f e = rw e
-
-pub is-reached : (a : Reached) (pa : ℕ) → a ≡ Reach.At pa → Value pa ≡ reaching a
-is-reached a pa e = rw e
-
-pub is-loaded : (a : LoadAnswer) (v : ℕ) → a ≡ Load.Value v → Value v ≡ loading a
-is-loaded a v e = rw e
-
-pub load-stops : (a : LoadAnswer) (s : Stop) → a ≡ Load.Stopped s → Stopped s ≡ loading a
-load-stops a s e = rw e
-
-pub store-stops : (a : StoreAnswer) (s : Stop) → a ≡ Store.Stopped s → Stopped s ≡ storing a
-store-stops a s e = rw e
-
-pub is-fetched : (a : FetchAnswer) (v : ℕ) → a ≡ Fetches.Value v → Value v ≡ fetching a
-is-fetched a v e = rw e
-
-pub fetch-stops : (a : FetchAnswer) (x : Exception) → a ≡ Fetches.Aborted x → Stopped (Stops.Exception x) ≡ fetching a
-fetch-stops a x e = rw e
-
-pub write-stops : (a : WriteAnswer) → a ≡ Written.Undefined → Stopped (Stops.Exception Exceptions.Undefined) ≡ registering a
-write-stops a e = rw e
-
-pub ruleset replies = (is-address, is-status, is-reached, is-loaded, load-stops, store-stops, is-fetched, fetch-stops, write-stops)
+use Rattle.operations.specs.Check.{missedOf}
+use Rattle.operations.specs.Replies.{translation, reaching, loading, storing, fetching, registering}
+use Rattle.cpu.specs.Step.{ends, afterTranslation, afterAddress, afterStore, afterFetch, afterWrite, loadBy, storeBy, storeRamBy, runOf, ramOf, stepOf, ramAfter}
+use Rattle.operations.specs.declared.call.Call.{Call}
+use Rattle.operations.specs.declared.call.Reply.{Reply}
+use Rattle.operations.specs.declared.call.Reply.the-variants.{Refused, Done}
+use Rattle.cpu.specs.declared.run.Stepped.{Stepped}
 
 -- the core and the reply after each operation
 pub translated-is : (t u : Translated) (va : ℕ) (r : Reply) → t ≡ u → r ≡ translation va (t .answer) → ends (t .core) r ≡ afterTranslation va u
@@ -125,7 +79,7 @@ module _ (c : Core) (base : ℕ) (ram : List ℕ) (call x : Call) (e : call ≡ 
   ram-kept = ram-as ram ram refl
 
 -- a call that misses a check, and one that misses none
-module _ (c : Core) (base : ℕ) (ram : List ℕ) (call : Call) (n : ℕ) (en : n ≡ missedOf (c .who .level) base (length ram) call) where
+module _ (c : Core) (base : ℕ) (ram : List ℕ) (call : Call) (n : ℕ) (en : n ≡ missedOf (c .privilege .level) base (length ram) call) where
   pub step-runs : (r : Stepped) → n ≡ 0 → r ≡ runOf c base ram call → r ≡ stepOf c base ram call
   unfolding stepOf
   step-runs r z e = rw (← en, z) e

@@ -18,35 +18,35 @@ use Rattle.tlb.specs.Cache.{blanks, noHints}
 use Rattle.tlb.specs.Hint.{placeOf}
 use Rattle.tlb.specs.Tlb.{fresh}
 use Rattle.tlb.specs.Resolve.{byWalk, resolveWith}
-use Rattle.tlb.specs.Turn.{missWith, applied, turnWith, fetchApplied, fetchEnd, fetchWith}
+use Rattle.tlb.specs.Translate.{missWith, applied, translationWith, fetchApplied, fetchEnd, fetchWith}
 use Rattle.tlb.specs.declared.access.Kind.{Kind}
 use Rattle.tlb.specs.declared.access.Kind.the-variants.{Read, Fetch}
-use Rattle.entry.specs.Entry.{enteredSys, takeException, takeSync}
-use Rattle.entry.specs.Pstate.{freshFlags, spsrOf}
-use Rattle.entry.specs.Route.{routedTo}
-use Rattle.entry.specs.Syndrome.{syndromeOf}
-use Rattle.entry.specs.Abort.{dataAbortAt}
-use Rattle.mmu.specs.Core.{regOf, movedTo}
-use Rattle.mmu.specs.Step.{translateIn as turnOf}
+use Rattle.exception.specs.Entry.{enteredSys, takeException, takeSync}
+use Rattle.exception.specs.Pstate.{freshFlags, spsrOf}
+use Rattle.exception.specs.Route.{routedTo}
+use Rattle.exception.specs.Syndrome.{syndromeOf}
+use Rattle.exception.specs.Abort.{dataAbortAt}
+use Rattle.mmu.specs.Core.{regOf, afterAccess}
+use Rattle.mmu.specs.Step.{translateIn as translationOf}
 use Rattle.mmu.specs.Ops.{steppedNow, translateOf}
 use Rattle.mmu.specs.declared.core.Core.{Core}
 use Rattle.sysop.specs.Op.{named, decodeOf}
 use Rattle.sysop.specs.Par.{success, abort, leafPar, parIn, atPar}
 use Rattle.exec.specs.Ops.{abortOf}
 use Rattle.exec.specs.Sys.{withPar, atOf, sysOf}
-use Rattle.cpu.specs.Check.{missedOf}
+use Rattle.operations.specs.Check.{missedOf}
 use Rattle.cpu.specs.Step.{runOf, stepOf}
-use Rattle.cpu.specs.declared.call.Call.{Call}
-use Rattle.cpu.specs.declared.call.Call.the-variants.{Translate, System, Abort}
-use Rattle.cpu.specs.declared.call.Reply.{Reply}
-use Rattle.cpu.specs.declared.call.Reply.the-variants.{Value, Fault}
-use Rattle.cpu.specs.declared.call.Stepped.{Stepped}
+use Rattle.operations.specs.declared.call.Call.{Call}
+use Rattle.operations.specs.declared.call.Call.the-variants.{Translate, System, Abort}
+use Rattle.operations.specs.declared.call.Reply.{Reply}
+use Rattle.operations.specs.declared.call.Reply.the-variants.{Value, Fault}
+use Rattle.cpu.specs.declared.run.Stepped.{Stepped}
 
 -- a core at a level with SCTLR_EL1.M set, TCR_EL1 = 25 and TTBR0_EL1 as given, other registers zero, the address in X0, and an empty cache
 pub at : ℕ → ℕ → Core
 at level ttbr0 =
     record {
-      who = record { level = level; mark = false };
+      privilege = record { level = level; unprivileged = false };
       flags = freshFlags;
       pc = 0;
       x = 0x40001234 ∷ replicate 30 0;
@@ -120,5 +120,5 @@ pub cases :
     ∷ Value 0x9200004D
     ∷ Value 0xBFFFFFFF
     ∷ [])
-unfolding row elsewhere par esr at called stepOf runOf missedOf translateOf steppedNow turnOf registerAt freshSys regOf movedTo sysOf atOf withPar abortOf takeSync takeException enteredSys spsrOf routedTo syndromeOf named decodeOf success abort leafPar parIn atPar judged blanks noHints placeOf byWalk resolveWith missWith applied turnWith fetchApplied fetchEnd fetchWith walkOf tableWalk walkRange walkFrom lookupNext levelNext leafResult leafTranslation leafPermissions tableNext descaddr rangeOf paramsOf paSize untagged wordAt littleEndian bytesOf
+unfolding row elsewhere par esr at called stepOf runOf missedOf translateOf steppedNow translationOf registerAt freshSys regOf afterAccess sysOf atOf withPar abortOf takeSync takeException enteredSys spsrOf routedTo syndromeOf named decodeOf success abort leafPar parIn atPar judged blanks noHints placeOf byWalk resolveWith missWith applied translationWith fetchApplied fetchEnd fetchWith walkOf tableWalk walkRange walkFrom lookupNext levelNext leafResult leafTranslation leafPermissions tableNext descaddr rangeOf paramsOf paSize untagged wordAt littleEndian bytesOf
 cases = refl

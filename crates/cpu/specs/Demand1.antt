@@ -27,33 +27,34 @@ use Rattle.tlb.specs.declared.access.Kind.the-variants as Kind
 use Rattle.sysop.specs.declared.op.SysOp.{SysOp}
 use Rattle.sysop.specs.declared.op.SysOp.the-variants as SysOp
 use Rattle.mmu.specs.Core.{regOf}
-use Rattle.mmu.specs.Place.{verdictOf as judged}
-use Rattle.mmu.specs.Bytes.{valueAt}
+use Rattle.operations.specs.Place.{verdictOf as judged}
+use Rattle.operations.specs.Bytes.{valueAt}
 use Rattle.mmu.specs.Says.{Said, value, done, fault, faults, undefined, unimplemented, stopSays, loadSays, storeSays, fetchSays, memorySays, accessSays, insnSays, load-says, store-says, fetch-says}
 use Rattle.mmu.specs.Ops.{translateOf, readOf, writeOf, ramAfterWrite, fetchOf, fetchPaOf, dataPaOf, locatedNow, fetchSteppedNow}
 use Rattle.mmu.specs.OpLaws.{ram-length, store}
 use Rattle.mmu.specs.declared.core.Core.{Core}
-use Rattle.mmu.specs.declared.place.Placed.{Placed}
-use Rattle.mmu.specs.declared.place.Placed.the-variants as Placed
-use Rattle.mmu.specs.declared.place.Verdict.{Verdict}
-use Rattle.mmu.specs.declared.place.Verdict.the-variants.{Inside, Outside}
-use Rattle.mmu.specs.declared.ends.LoadAnswer.{LoadAnswer}
-use Rattle.mmu.specs.declared.ends.LoadAnswer.the-variants as Load
-use Rattle.mmu.specs.declared.ends.StoreAnswer.{StoreAnswer}
-use Rattle.mmu.specs.declared.ends.StoreAnswer.the-variants as Store
-use Rattle.mmu.specs.declared.ends.FetchAnswer.{FetchAnswer}
-use Rattle.mmu.specs.declared.ends.FetchAnswer.the-variants as Fetched
-use Rattle.mmu.specs.declared.ends.Reached.{Reached}
-use Rattle.mmu.specs.declared.ends.Reached.the-variants as Reach
+use Rattle.operations.specs.declared.place.Placed.{Placed}
+use Rattle.operations.specs.declared.place.Placed.the-variants as Placed
+use Rattle.operations.specs.declared.place.Verdict.{Verdict}
+use Rattle.operations.specs.declared.place.Verdict.the-variants.{Inside, Outside}
+use Rattle.operations.specs.declared.ends.LoadAnswer.{LoadAnswer}
+use Rattle.operations.specs.declared.ends.LoadAnswer.the-variants as Load
+use Rattle.operations.specs.declared.ends.StoreAnswer.{StoreAnswer}
+use Rattle.operations.specs.declared.ends.StoreAnswer.the-variants as Store
+use Rattle.operations.specs.declared.ends.FetchAnswer.{FetchAnswer}
+use Rattle.operations.specs.declared.ends.FetchAnswer.the-variants as Fetched
+use Rattle.operations.specs.declared.ends.Reached.{Reached}
+use Rattle.operations.specs.declared.ends.Reached.the-variants as Reach
 use Rattle.mmu.specs.declared.ops.Stored.{Stored}
 use Rattle.exec.specs.Ops.{registered, written, writeRegister}
 use Rattle.exec.specs.Sys.{onStored, zeroOf, zeroRam, sysBy, sysRamBy, opOf, sysOf, sysRam}
-use Rattle.cpu.specs.Check.{Row, checksOf, firstOf, missedOf, isWidth, known, kept}
-use Rattle.cpu.specs.Step.{ends, translation, loading, storing, fetching, reaching, registering, loadBy, storeBy, storeRamBy, refusedOr, missedBy, runOf, ramOf, stepOf, ramAfter}
-use Rattle.cpu.specs.declared.call.Call.{Call}
-use Rattle.cpu.specs.declared.call.Call.the-variants.{Translate, DataPa, FetchPa, Load as LoadCall, Store as StoreCall, Fetch, System, Register as RegisterCall, Level, Mark, General, Abort}
-use Rattle.cpu.specs.declared.call.Reply.{Reply}
-use Rattle.cpu.specs.declared.call.Reply.the-variants.{Refused, Done, Value, Faults, Fault, Stopped}
+use Rattle.operations.specs.Check.{Row, checksOf, firstOf, missedOf, isWidth, known, kept}
+use Rattle.operations.specs.Replies.{translation, loading, storing, fetching, reaching, registering}
+use Rattle.cpu.specs.Step.{ends, loadBy, storeBy, storeRamBy, refusedOr, missedBy, runOf, ramOf, stepOf, ramAfter}
+use Rattle.operations.specs.declared.call.Call.{Call}
+use Rattle.operations.specs.declared.call.Call.the-variants.{Translate, DataPa, FetchPa, Load as LoadCall, Store as StoreCall, Fetch, System, Register as RegisterCall, Level, Mark, General, Abort}
+use Rattle.operations.specs.declared.call.Reply.{Reply}
+use Rattle.operations.specs.declared.call.Reply.the-variants.{Refused, Done, Value, Faults, Fault, Stopped}
 
 -- a reply as document 01's number, or what it says: a value, a fault's address and status, done, Undefined, Unimplemented
 pub data Outcome : Type 0 where
@@ -107,7 +108,7 @@ first-le (row ∷ rows) h =
 -- and a call with one is the identity on core and RAM
 pub number-le : (c : Core) (base : ℕ) (ram : List ℕ) (call : Call) → missedBy c base ram call ≤ 6
 unfolding missedOf
-number-le c base ram call = first-le (checksOf (c .who .level) base (length ram) call) (checks-numbered (c .who .level) base (length ram) call)
+number-le c base ram call = first-le (checksOf (c .privilege .level) base (length ram) call) (checks-numbered (c .privilege .level) base (length ram) call)
 
 module _ (c : Core) (base : ℕ) (ram : List ℕ) (call : Call) (n : ℕ) (e : missedBy c base ram call ≡ suc n) where
   pub refused : stepOf c base ram call ≡ ends c (Refused (suc n))
@@ -279,7 +280,7 @@ module _ (c : Core) (base : ℕ) (ram : List ℕ) where
       go Written.Done e = only-done c _ ram
       go Written.Undefined e = is-undefined
       go Written.NoRegister e =
-          absurd (let z : _≡_ {A = ℕ} 1 0 = ap code (sym e) ∙ named-write (c .control) (c .sys) (c .who .level) v (registerAt key) named in omega arith)
+          absurd (let z : _≡_ {A = ℕ} 1 0 = ap code (sym e) ∙ named-write (c .control) (c .sys) (c .privilege .level) v (registerAt key) named in omega arith)
 
   loads : (s : Sized) (va : ℕ) → isWidth s ≡ true → Ran c ram (loadBy s c base ram va .core) ram (outcomeOf (loadBy s c base ram va .reply))
   loads (Bytes w) va h = loaded va (bytesIn w)
@@ -297,11 +298,11 @@ module _ (c : Core) (base : ℕ) (ram : List ℕ) where
   ran (Translate kind va) e = translated (translateOf c (wordAt base ram 8) va kind .core) va (translateOf c (wordAt base ram 8) va kind .answer)
   ran (DataPa va) e = addressed (dataPaOf c (wordAt base ram 8) va .core) (dataPaOf c (wordAt base ram 8) va .answer)
   ran (FetchPa va) e = addressed (fetchPaOf c (wordAt base ram 8) va .core) (fetchPaOf c (wordAt base ram 8) va .answer)
-  ran (LoadCall va size) e = loads (widthOf size) va (not-false (known size) (all-passed (c .who .level) base (length ram) (LoadCall va size) e .1 .1 .0))
-  ran (StoreCall va size v) e = stores (widthOf size) va v (not-false (known size) (all-passed (c .who .level) base (length ram) (StoreCall va size v) e .1 .1 .0))
+  ran (LoadCall va size) e = loads (widthOf size) va (not-false (known size) (all-passed (c .privilege .level) base (length ram) (LoadCall va size) e .1 .1 .0))
+  ran (StoreCall va size v) e = stores (widthOf size) va v (not-false (known size) (all-passed (c .privilege .level) base (length ram) (StoreCall va size v) e .1 .1 .0))
   ran (Fetch va) e = fetched va
   ran (System f) e = system (opOf c (f .op1) (f .crn) (f .crm) (f .op2)) (f .op1) (f .crm) (f .op2) (regOf c (f .rt))
-  ran (RegisterCall key v) e = registers key v (not-false (kept key) (all-passed (c .who .level) base (length ram) (RegisterCall key v) e .1 .0))
+  ran (RegisterCall key v) e = registers key v (not-false (kept key) (all-passed (c .privilege .level) base (length ram) (RegisterCall key v) e .1 .0))
   ran (Level level) e = only-done c _ ram
   ran (Mark mark) e = only-done c _ ram
   ran (General n v) e = only-done c _ ram

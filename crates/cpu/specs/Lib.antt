@@ -1,5 +1,4 @@
 -- Document 01's table of answers: the checks, then the operations.
-pub mod Check
 pub mod Step
 pub mod Cases
 pub mod Demand1

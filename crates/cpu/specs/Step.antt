@@ -1,29 +1,13 @@
 -- One call on the core: a number where a check is missed, and else the operation.
-use mathlib.Core.Bool.{Bool, true, false}
 use mathlib.Core.List.{List}
 use Prim.Native.Nat.{ℕ, zero, suc, _%_}
 use lib.ListN.{length}
 use Rattle.word.specs.Ram.{wordAt, widthOf, bytesIn}
-use Rattle.word.specs.declared.ram.Width.{Width}
 use Rattle.word.specs.declared.ram.Sized.{Sized}
 use Rattle.word.specs.declared.ram.Sized.the-variants.{Bytes, Refused as NoWidth}
-use Rattle.sysreg.specs.declared.write.WriteAnswer.{WriteAnswer}
-use Rattle.sysreg.specs.declared.write.WriteAnswer.the-variants as Written
-use Rattle.tlb.specs.declared.access.Answer.{Answer}
-use Rattle.tlb.specs.declared.access.Answer.the-variants.{Address, Status}
-use Rattle.entry.specs.declared.exception.Exception.the-variants as Exception
-use Rattle.entry.specs.declared.exception.Stop.the-variants as Stop
 use Rattle.mmu.specs.Core.{setReg}
 use Rattle.mmu.specs.Ops.{translateOf, readOf, writeOf, ramAfterWrite, fetchOf, fetchPaOf, dataPaOf}
 use Rattle.mmu.specs.declared.core.Core.{Core}
-use Rattle.mmu.specs.declared.ends.LoadAnswer.{LoadAnswer}
-use Rattle.mmu.specs.declared.ends.LoadAnswer.the-variants as Load
-use Rattle.mmu.specs.declared.ends.StoreAnswer.{StoreAnswer}
-use Rattle.mmu.specs.declared.ends.StoreAnswer.the-variants as Store
-use Rattle.mmu.specs.declared.ends.FetchAnswer.{FetchAnswer}
-use Rattle.mmu.specs.declared.ends.FetchAnswer.the-variants as Fetched
-use Rattle.mmu.specs.declared.ends.Reached.{Reached}
-use Rattle.mmu.specs.declared.ends.Reached.the-variants as Reach
 use Rattle.mmu.specs.declared.ops.Translated.{Translated}
 use Rattle.mmu.specs.declared.ops.Loaded.{Loaded}
 use Rattle.mmu.specs.declared.ops.Stored.{Stored}
@@ -32,41 +16,16 @@ use Rattle.mmu.specs.declared.ops.Addressed.{Addressed}
 use Rattle.exec.specs.Ops.{writeRegister, setLevel, setMark, abortOf}
 use Rattle.exec.specs.Sys.{sysOf, sysRam}
 use Rattle.exec.specs.declared.ops.Registered.{Registered}
-use Rattle.cpu.specs.Check.{missedOf}
-use Rattle.cpu.specs.declared.call.Call.{Call}
-use Rattle.cpu.specs.declared.call.Call.the-variants.{Translate, DataPa, FetchPa, Load as LoadCall, Store as StoreCall, Fetch, System, Register, Level, Mark, General, Abort}
-use Rattle.cpu.specs.declared.call.Reply.{Reply}
-use Rattle.cpu.specs.declared.call.Reply.the-variants.{Refused, Done, Value, Faults, Fault, Stopped}
-use Rattle.cpu.specs.declared.call.Stepped.{Stepped}
+use Rattle.operations.specs.Check.{missedOf}
+use Rattle.operations.specs.declared.call.Call.{Call}
+use Rattle.operations.specs.declared.call.Call.the-variants.{Translate, DataPa, FetchPa, Load as LoadCall, Store as StoreCall, Fetch, System, Register, Level, Mark, General, Abort}
+use Rattle.operations.specs.declared.call.Reply.{Reply}
+use Rattle.operations.specs.declared.call.Reply.the-variants.{Refused, Done}
+use Rattle.cpu.specs.declared.run.Stepped.{Stepped}
+use Rattle.operations.specs.Replies.{translation, loading, storing, fetching, reaching, registering}
 
 abbrev pub ends : Core → Reply → Stepped
 ends c r = record { core = c; reply = r }
-
--- each operation's answer as a reply
-abbrev pub translation : ℕ → Answer → Reply
-translation va (Address pa) = Value pa
-translation va (Status f) = Fault va f
-
-abbrev pub loading : LoadAnswer → Reply
-loading (Load.Value v) = Value v
-loading (Load.Stopped s) = Stopped s
-
-abbrev pub storing : StoreAnswer → Reply
-storing Store.Done = Done
-storing (Store.Stopped s) = Stopped s
-
-abbrev pub fetching : FetchAnswer → Reply
-fetching (Fetched.Value v) = Value v
-fetching (Fetched.Aborted e) = Stopped (Stop.Exception e)
-
-abbrev pub reaching : Reached → Reply
-reaching (Reach.At pa) = Value pa
-reaching Reach.Faults = Faults
-
-abbrev pub registering : WriteAnswer → Reply
-registering Written.Done = Done
-registering Written.Undefined = Stopped (Stop.Exception Exception.Undefined)
-registering Written.NoRegister = Refused 6
 
 abbrev pub afterTranslation : ℕ → Translated → Stepped
 afterTranslation va t = ends (t .core) (translation va (t .answer))
@@ -135,7 +94,7 @@ refusedOr zero refused done = done
 refusedOr (suc n) refused done = refused (suc n)
 
 abbrev pub missedBy : Core → ℕ → List ℕ → Call → ℕ
-missedBy c base ram call = missedOf (c .who .level) base (length ram) call
+missedBy c base ram call = missedOf (c .privilege .level) base (length ram) call
 
 unfoldable pub stepOf : Core → ℕ → List ℕ → Call → Stepped
 stepOf c base ram call = refusedOr (missedBy c base ram call) (λ n. ends c (Refused n)) (runOf c base ram call)

@@ -1,6 +1,3 @@
 // The core as one machine: every operation is a call, checked in document 01's order and then done.
-pub mod call;
-pub mod check;
-pub mod reply;
 pub mod run;
 pub mod step;

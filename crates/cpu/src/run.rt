@@ -6,18 +6,23 @@ ghost use Rattle.exec.specs.Ops.{writeRegister};
 ghost use Rattle.exec.specs.Sys.{sysOf, sysRam};
 ghost use Rattle.cpu.specs.Step.{ends, afterTranslation, afterAddress, afterFetch, afterStore, afterWrite};
 ghost use Rattle.cpu.specs.Step.{loadBy, storeBy, storeRamBy, runOf, ramOf};
-use crate::call::Call;
-use crate::call::Encoding;
-use crate::call::Reply;
-use crate::call::Stepped;
-use crate::reply;
 use mmu::core;
 use mmu::core::Core;
 use mmu::ops;
 use mmu::ops::Addressed;
+use operations::call::Call;
+use operations::call::Encoding;
+use operations::call::Reply;
+use operations::reply;
 use tlb::access::Kind;
 use word::ram;
 use word::ram::Sized;
+
+// The core after a call, and its reply.
+pub struct Stepped {
+    pub core: Core,
+    pub reply: Reply,
+}
 
 fn translation(core: Core, base: u64, ram: &[u8], kind: Kind, va: u64) -> Stepped
     ensures { λ r. ⌜ r ≡ afterTranslation va (translateOf core (wordAt base (now (ram .entry)) 8) va kind) ⌝ }

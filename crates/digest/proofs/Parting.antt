@@ -8,7 +8,7 @@ use Rattle.word.specs.Bits.{pick}
 use Rattle.tlb.specs.Cache.{entryAt, hintAt}
 use Rattle.tlb.specs.declared.cache.Cache.{Cache}
 use Rattle.tlb.specs.declared.entry.Entry.{Entry}
-use Rattle.tlb.specs.declared.entry.Present.{Present}
+use Rattle.tlb.specs.declared.entry.Current.{Current}
 use Rattle.tlb.specs.declared.hint.Hint.{Hint}
 use Rattle.tlb.specs.declared.hint.FetchHint.{FetchHint}
 use Rattle.digest.specs.Fold.{digestFrom, digestOf, gathered}
@@ -42,16 +42,16 @@ hint-set x c i h d k e s p q =
     ∙ ap (λ (y : Hint). digestFrom h (pick (eqb (y .key) (2 ^ 64 - 1)) [] (i ∷ y .key ∷ y .pa ∷ []))) e
 
 -- an entry by what was read of it and of the present
-read : (x : Entry) (p : Present) (c : Cache) (j h : ℕ) → x ≡ entryAt c j → p ≡ c .present → digestFrom h (pick (live x p) (recordWords j x) []) ≡ digestFrom h (entryWords c j)
+read : (x : Entry) (p : Current) (c : Cache) (j h : ℕ) → x ≡ entryAt c j → p ≡ c .current → digestFrom h (pick (live x p) (recordWords j x) []) ≡ digestFrom h (entryWords c j)
 unfolding entryWords
 read x p c j h e q =
     ap (λ (y : Entry). digestFrom h (pick (live y p) (recordWords j y) [])) e
-    ∙ ap (λ (y : Present). digestFrom h (pick (live (entryAt c j) y) (recordWords j (entryAt c j)) [])) q
+    ∙ ap (λ (y : Current). digestFrom h (pick (live (entryAt c j) y) (recordWords j (entryAt c j)) [])) q
 
-pub entry-live : (x : Entry) (p : Present) (c : Cache) (j h d k : ℕ) → x ≡ entryAt c j → p ≡ c .present → live x p ≡ true → d ≡ digestFrom h (recordWords j x) → k ≡ d → k ≡ digestFrom h (entryWords c j)
+pub entry-live : (x : Entry) (p : Current) (c : Cache) (j h d k : ℕ) → x ≡ entryAt c j → p ≡ c .current → live x p ≡ true → d ≡ digestFrom h (recordWords j x) → k ≡ d → k ≡ digestFrom h (entryWords c j)
 entry-live x p c j h d k e q s r t = picked h d k (live x p) true (recordWords j x) [] s r t ∙ read x p c j h e q
 
-pub entry-dead : (x : Entry) (p : Present) (c : Cache) (j h : ℕ) → x ≡ entryAt c j → p ≡ c .present → live x p ≡ false → h ≡ digestFrom h (entryWords c j)
+pub entry-dead : (x : Entry) (p : Current) (c : Cache) (j h : ℕ) → x ≡ entryAt c j → p ≡ c .current → live x p ≡ false → h ≡ digestFrom h (entryWords c j)
 unfolding digestFrom
 entry-dead x p c j h e q s = picked h h h (live x p) false (recordWords j x) [] s refl refl ∙ read x p c j h e q
 

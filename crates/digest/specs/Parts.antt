@@ -8,10 +8,11 @@ use Rattle.word.specs.Bits.{flag, pick}
 use Rattle.tlb.specs.Cache.{entryAt, hintAt}
 use Rattle.tlb.specs.declared.cache.Cache.{Cache}
 use Rattle.tlb.specs.declared.entry.Entry.{Entry}
-use Rattle.tlb.specs.declared.entry.Present.{Present}
+use Rattle.tlb.specs.declared.entry.Current.{Current}
 use Rattle.tlb.specs.declared.hint.Hint.{Hint}
 use Rattle.tlb.specs.declared.hint.FetchHint.{FetchHint}
 use Rattle.digest.specs.Fold.{gathered}
+use Rattle.words.specs.Places.{LEVEL}
 
 -- a word of a state by its place
 abbrev pub wordAlone : List ℕ → ℕ → List ℕ
@@ -19,10 +20,10 @@ wordAlone ws i = getD ws i 0 ∷ []
 
 -- the registers, the flags and the general registers
 abbrev pub registerWords : List ℕ → List ℕ
-registerWords ws = gathered (wordAlone ws) 68 0
+registerWords ws = gathered (wordAlone ws) LEVEL 0
 
 -- an entry answers where it has a tag and is of the present generation
-abbrev pub live : Entry → Present → Bool
+abbrev pub live : Entry → Current → Bool
 live e p = not (eqb (e .tag) 0) && eqb (e .generation) (p .generation)
 
 -- the slot of an entry, and the entry
@@ -30,7 +31,7 @@ abbrev pub recordWords : ℕ → Entry → List ℕ
 recordWords j e = j ∷ e .tag ∷ e .perms ∷ e .level ∷ flag (e .global) 1 ∷ e .asid ∷ e .pa ∷ []
 
 unfoldable pub entryWords : Cache → ℕ → List ℕ
-entryWords c j = pick (live (entryAt c j) (c .present)) (recordWords j (entryAt c j)) []
+entryWords c j = pick (live (entryAt c j) (c .current)) (recordWords j (entryAt c j)) []
 
 -- the live entries by rising slot
 abbrev pub entriesWords : Cache → List ℕ

@@ -1,7 +1,7 @@
 // The digests of a core's words.
 ghost use mathlib.Core.Path.{_≡_};
 ghost use mathlib.Core.List.{[], _∷_};
-ghost use Rattle.words.specs.Held.{held};
+ghost use Rattle.words.specs.CoreOf.{coreOf};
 ghost use Rattle.digest.specs.Fold.{digestFrom, digestOf, gathered};
 ghost use Rattle.digest.specs.Parts.{registerWords, recordWords, entryWords, entriesWords, hintWords};
 ghost use Rattle.digest.specs.Parts.{fetchWords, hintsWords};
@@ -10,6 +10,7 @@ use tlb::entry::Entry;
 use word::bits;
 use words::cells;
 use words::counts;
+use words::place;
 use words::place::State;
 
 // How many there are, and their digest.
@@ -45,13 +46,13 @@ fn counted(s: Sum, digest: u64) -> Sum
     }
 }
 
-// The registers, the flags and the general registers: the first 68 words.
+// The registers, the flags and the general registers: the words before the level.
 pub fn registers(state: &State) -> u64
     ensures { λ r. ⌜ r ≡ digestOf (registerWords (now (state .entry))) ⌝ }
 {
     let mut h = fold::START;
     let mut i: usize = 0;
-    while i < 68 {
+    while i < place::LEVEL {
         h = fold::join(h, state[i]);
         i += 1;
     }
@@ -70,10 +71,10 @@ fn with_entry(digest: u64, slot: u64, e: Entry) -> u64
 
 // An entry is live where it has a tag and is of the present generation.
 fn with_live(s: Sum, state: &State, j: usize) -> Sum
-    ensures { λ r. ⌜ r .digest ≡ digestFrom (s .digest) (entryWords (held (now (state .entry)) .tlb .cache) j) ⌝ }
+    ensures { λ r. ⌜ r .digest ≡ digestFrom (s .digest) (entryWords (coreOf (now (state .entry)) .tlb .cache) j) ⌝ }
 {
     let e = cells::entry_at(state, j);
-    let now = counts::present_at(state);
+    let now = counts::current_at(state);
     let live = (e.tag != 0) & (e.generation == now.generation);
     if live {
         let d = with_entry(s.digest, j as u64, e);
@@ -85,7 +86,7 @@ fn with_live(s: Sum, state: &State, j: usize) -> Sum
 
 // The live entries by rising slot.
 pub fn entries(state: &State) -> Sum
-    ensures { λ r. ⌜ r .digest ≡ digestOf (entriesWords (held (now (state .entry)) .tlb .cache)) ⌝ }
+    ensures { λ r. ⌜ r .digest ≡ digestOf (entriesWords (coreOf (now (state .entry)) .tlb .cache)) ⌝ }
 {
     let mut s = start();
     let mut j: usize = 0;
@@ -97,7 +98,7 @@ pub fn entries(state: &State) -> Sum
 }
 
 fn with_hint(s: Sum, state: &State, i: usize) -> Sum
-    ensures { λ r. ⌜ r .digest ≡ digestFrom (s .digest) (hintWords (held (now (state .entry)) .tlb .cache) i) ⌝ }
+    ensures { λ r. ⌜ r .digest ≡ digestFrom (s .digest) (hintWords (coreOf (now (state .entry)) .tlb .cache) i) ⌝ }
 {
     let h = cells::hint_at(state, i);
     let unset = h.key == 0xFFFF_FFFF_FFFF_FFFF;
@@ -110,7 +111,8 @@ fn with_hint(s: Sum, state: &State, i: usize) -> Sum
 }
 
 fn with_fetch(s: Sum, state: &State) -> Sum
-    ensures { λ r. ⌜ r .digest ≡ digestFrom (s .digest) (fetchWords (held (now (state .entry)) .tlb .cache .fetch)) ⌝ }
+    ensures { λ r. ⌜ r .digest ≡ digestFrom (s .digest) (fetchWords
+        (coreOf (now (state .entry)) .tlb .cache .fetch)) ⌝ }
 {
     let f = cells::fetch_at(state);
     if f.some {
@@ -122,7 +124,7 @@ fn with_fetch(s: Sum, state: &State) -> Sum
 }
 
 fn data_hints(state: &State) -> Sum
-    ensures { λ r. ⌜ r .digest ≡ digestOf (gathered (hintWords (held (now (state .entry)) .tlb .cache)) 512 0) ⌝ }
+    ensures { λ r. ⌜ r .digest ≡ digestOf (gathered (hintWords (coreOf (now (state .entry)) .tlb .cache)) 512 0) ⌝ }
 {
     let mut s = start();
     let mut i: usize = 0;
@@ -135,7 +137,7 @@ fn data_hints(state: &State) -> Sum
 
 // The data hints that are set, by rising slot, then the fetch hint.
 pub fn hints(state: &State) -> Sum
-    ensures { λ r. ⌜ r .digest ≡ digestOf (hintsWords (held (now (state .entry)) .tlb .cache)) ⌝ }
+    ensures { λ r. ⌜ r .digest ≡ digestOf (hintsWords (coreOf (now (state .entry)) .tlb .cache)) ⌝ }
 {
     let s = data_hints(state);
     with_fetch(s, state)

@@ -15,9 +15,9 @@ use Rattle.sysreg.specs.declared.write.Written.{Written}
 use Rattle.tlb.specs.Tlb.{invalidateOf, broadcastOf}
 use Rattle.tlb.specs.declared.Tlb.{Tlb}
 use Rattle.tlb.specs.declared.Inval.{Inval}
-use Rattle.entry.specs.declared.exception.Exception.the-variants as Exception
-use Rattle.entry.specs.declared.exception.Stop.{Stop}
-use Rattle.entry.specs.declared.exception.Stop.the-variants as Stop
+use Rattle.exception.specs.declared.kind.Exception.the-variants as Exception
+use Rattle.exception.specs.declared.kind.Stop.{Stop}
+use Rattle.exception.specs.declared.kind.Stop.the-variants as Stop
 use Rattle.sysop.specs.Op.{decodeOf}
 use Rattle.sysop.specs.Tlbi.{tlbiOf, reachesOthers}
 use Rattle.sysop.specs.Par.{atPar}
@@ -27,8 +27,8 @@ use Rattle.sysop.specs.declared.op.SysOp.the-variants as SysOp
 use Rattle.mmu.specs.Core.{regOf}
 use Rattle.mmu.specs.Ops.{withTlb, writeOf, ramAfterWrite}
 use Rattle.mmu.specs.declared.core.Core.{Core}
-use Rattle.mmu.specs.declared.ends.StoreAnswer.{StoreAnswer}
-use Rattle.mmu.specs.declared.ends.StoreAnswer.the-variants.{Done, Stopped}
+use Rattle.operations.specs.declared.ends.StoreAnswer.{StoreAnswer}
+use Rattle.operations.specs.declared.ends.StoreAnswer.the-variants.{Done, Stopped}
 use Rattle.mmu.specs.declared.ops.Stored.{Stored}
 use Rattle.exec.specs.Fit.{refitOf}
 use Rattle.exec.specs.Ops.{withRegs, appliedOf, registered, written, writeRegister}

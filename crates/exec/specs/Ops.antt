@@ -7,9 +7,9 @@ use Rattle.sysreg.specs.declared.regs.SysRegs.{SysRegs}
 use Rattle.sysreg.specs.declared.write.WriteAnswer.{WriteAnswer}
 use Rattle.sysreg.specs.declared.write.WriteAnswer.the-variants.{Done, Undefined, NoRegister}
 use Rattle.sysreg.specs.declared.write.Written.{Written}
-use Rattle.entry.specs.Entry.{takeSync}
-use Rattle.entry.specs.declared.exception.Exception.{Exception}
-use Rattle.entry.specs.declared.take.Entered.{Entered}
+use Rattle.exception.specs.Entry.{takeSync}
+use Rattle.exception.specs.declared.kind.Exception.{Exception}
+use Rattle.exception.specs.declared.take.Entered.{Entered}
 use Rattle.mmu.specs.Bare as Bare
 use Rattle.mmu.specs.Bare.{withEntered, bareOf, inCore}
 use Rattle.mmu.specs.Ops.{withTlb}
@@ -31,20 +31,20 @@ registered c w Undefined = record { core = c; answer = Undefined }
 registered c w NoRegister = record { core = c; answer = NoRegister }
 
 abbrev pub written : Core → ℕ → ℕ → Written
-written c key value = writeReg (c .control) (c .sys) (c .who .level) key value
+written c key value = writeReg (c .control) (c .sys) (c .privilege .level) key value
 
 unfoldable pub writeRegister : Core → ℕ → ℕ → Registered
 writeRegister c key value = registered c (written c key value) (written c key value .answer)
 
 -- a setting stores its value
-abbrev pub withWho : Core → ℕ → Bool → Core
-withWho c level mark = inCore c (Bare.withWho (bareOf c) level mark)
+abbrev pub withPrivilege : Core → ℕ → Bool → Core
+withPrivilege c level mark = inCore c (Bare.withPrivilege (bareOf c) level mark)
 
 unfoldable pub setLevel : Core → ℕ → Core
-setLevel c level = withWho c level (c .who .mark)
+setLevel c level = withPrivilege c level (c .privilege .unprivileged)
 
 unfoldable pub setMark : Core → Bool → Core
-setMark c mark = withWho c (c .who .level) mark
+setMark c mark = withPrivilege c (c .privilege .level) mark
 
 -- level, flags, PC and registers after an exception; all else stays
 abbrev pub entering : Core → Entered → Core
@@ -53,4 +53,4 @@ entering c e = inCore c (withEntered (bareOf c) e)
 unfoldable pub abortOf : Core → Exception → Core
 abortOf c e =
     entering c
-    (takeSync (c .who .level) (c .flags) (c .pc) (c .control .«scr_el3») (c .control .«hcr_el2») (c .sys) e)
+    (takeSync (c .privilege .level) (c .flags) (c .pc) (c .control .«scr_el3») (c .control .«hcr_el2») (c .sys) e)

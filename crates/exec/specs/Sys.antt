@@ -10,8 +10,8 @@ use Rattle.sysreg.specs.declared.regs.SysReg.the-variants.{Mair}
 use Rattle.walk.specs.Regime.{levelOf}
 use Rattle.walk.specs.declared.regime.Regime.{Regime}
 unfoldable pub use Rattle.tlb.specs.Maintenance.{invalidatedOf}
-use Rattle.entry.specs.declared.exception.Exception.the-variants as Exception
-use Rattle.entry.specs.declared.exception.Stop.the-variants as Stop
+use Rattle.exception.specs.declared.kind.Exception.the-variants as Exception
+use Rattle.exception.specs.declared.kind.Stop.the-variants as Stop
 use Rattle.sysop.specs.Op.{decodeOf}
 use Rattle.sysop.specs.Tlbi.{tlbiOf, reachesOthers}
 use Rattle.sysop.specs.Par.{atPar}
@@ -23,8 +23,8 @@ use Rattle.mmu.specs.Bare.{bareOf, inCore}
 use Rattle.mmu.specs.Core.{regOf}
 use Rattle.mmu.specs.Ops.{withTlb, writeOf, ramAfterWrite}
 use Rattle.mmu.specs.declared.core.Core.{Core}
-use Rattle.mmu.specs.declared.ends.StoreAnswer.{StoreAnswer}
-use Rattle.mmu.specs.declared.ends.StoreAnswer.the-variants.{Done, Stopped}
+use Rattle.operations.specs.declared.ends.StoreAnswer.{StoreAnswer}
+use Rattle.operations.specs.declared.ends.StoreAnswer.the-variants.{Done, Stopped}
 use Rattle.mmu.specs.declared.ops.Stored.{Stored}
 
 -- MAIR of a regime
@@ -83,7 +83,7 @@ sysRamBy Undefined c base ram x = ram
 sysRamBy Unimplemented c base ram x = ram
 
 abbrev pub opOf : Core → ℕ → ℕ → ℕ → ℕ → SysOp
-opOf c op1 crn crm op2 = decodeOf (c .who .level) op1 crn crm op2
+opOf c op1 crn crm op2 = decodeOf (c .privilege .level) op1 crn crm op2
 
 unfoldable pub sysOf : Core → ℕ → List ℕ → ℕ → ℕ → ℕ → ℕ → ℕ → Stored
 sysOf c base ram op1 crn crm op2 rt = sysBy (opOf c op1 crn crm op2) c base ram op1 crm op2 (regOf c rt)

@@ -15,21 +15,21 @@ use Rattle.tlb.specs.declared.access.Kind.the-variants.{Write}
 use Rattle.fault.specs.declared.Fault.{Fault}
 use Rattle.tlb.specs.declared.access.Answer.{Answer}
 use Rattle.tlb.specs.declared.access.Answer.the-variants.{Address, Status}
-use Rattle.entry.specs.declared.exception.Stop.{Stop}
-use Rattle.mmu.specs.Core.{movedTo, bankNow}
-use Rattle.mmu.specs.Place.{inPage, crosses, goesOn, placedOne, verdictOf}
-use Rattle.mmu.specs.Bytes.{storeRam}
-use Rattle.mmu.specs.BytesLaws.{stored-leaves}
+use Rattle.exception.specs.declared.kind.Stop.{Stop}
+use Rattle.mmu.specs.Core.{afterAccess, bankNow}
+use Rattle.operations.specs.Place.{inPage, crosses, goesOn, placedOne, verdictOf}
+use Rattle.operations.specs.Bytes.{storeRam}
+use Rattle.operations.specs.BytesLaws.{stored-leaves}
 use Rattle.mmu.specs.Step.{onePage, translateIn, locatedOf}
-use Rattle.mmu.specs.Ends.{storeEnd, storeRamEnd}
+use Rattle.operations.specs.Ends.{storeEnd, storeRamEnd}
 use Rattle.mmu.specs.Ops.{steppedNow, locatedNow, translateOf, writeOf, ramAfterWrite}
 use Rattle.mmu.specs.OpLaws.{onNow}
 use Rattle.mmu.specs.declared.core.Core.{Core}
-use Rattle.mmu.specs.declared.place.Place.the-variants.{Whole}
-use Rattle.mmu.specs.declared.place.Placed.{Placed}
-use Rattle.mmu.specs.declared.place.Placed.the-variants.{At}
-use Rattle.mmu.specs.declared.ends.StoreAnswer.{StoreAnswer}
-use Rattle.mmu.specs.declared.ends.StoreAnswer.the-variants.{Done, Stopped}
+use Rattle.operations.specs.declared.place.Place.the-variants.{Whole}
+use Rattle.operations.specs.declared.place.Placed.{Placed}
+use Rattle.operations.specs.declared.place.Placed.the-variants.{At}
+use Rattle.operations.specs.declared.ends.StoreAnswer.{StoreAnswer}
+use Rattle.operations.specs.declared.ends.StoreAnswer.the-variants.{Done, Stopped}
 use Rattle.mmu.specs.declared.step.Located.{Located}
 use Rattle.mmu.specs.declared.ops.Stored.{Stored}
 use Rattle.exec.specs.Sys.{doneWith, onStored, zeroOf, zeroRam}
@@ -54,9 +54,9 @@ module _ (c : Core) (base : ℕ) (ram : List ℕ) (a : ℕ) (even : a % 8 ≡ 0)
       go false = refl
 
   -- it takes one translation
-  pub one-located : locatedNow c (wordAt base ram 8) a 8 Write ≡ onePage a (translateIn (bankNow c) (c .who) (wordAt base ram 8) a Write (c .tlb))
+  pub one-located : locatedNow c (wordAt base ram 8) a 8 Write ≡ onePage a (translateIn (bankNow c) (c .privilege) (wordAt base ram 8) a Write (c .tlb))
   unfolding locatedNow locatedOf
-  one-located = rw (one-page-only (onNow c)) (go (translateIn (bankNow c) (c .who) (wordAt base ram 8) a Write (c .tlb) .answer) _ _)
+  one-located = rw (one-page-only (onNow c)) (go (translateIn (bankNow c) (c .privilege) (wordAt base ram 8) a Write (c .tlb) .answer) _ _)
     where
       go : (x : Answer) (y z : Located) → pick (goesOn x false) y z ≡ z
       go (Address pa) y z = refl
@@ -66,8 +66,8 @@ module _ (c : Core) (base : ℕ) (ram : List ℕ) (a : ℕ) (even : a % 8 ≡ 0)
   unfolding translateOf steppedNow
   one-placed = ap (λ (l : Located). l .placed) one-located
 
-  pub one-tlb : writeOf c base ram a 8 .core .tlb ≡ translateIn (bankNow c) (c .who) (wordAt base ram 8) a Write (c .tlb) .tlb
-  unfolding writeOf movedTo
+  pub one-tlb : writeOf c base ram a 8 .core .tlb ≡ translateIn (bankNow c) (c .privilege) (wordAt base ram 8) a Write (c .tlb) .tlb
+  unfolding writeOf afterAccess
   one-tlb = ap (λ (l : Located). l .tlb) one-located
 
   -- what it does to RAM, by its translation's answer

@@ -15,16 +15,16 @@ use Rattle.tlb.specs.declared.access.Kind.the-variants.{Write}
 use Rattle.tlb.specs.declared.access.Answer.{Answer}
 use Rattle.tlb.specs.declared.access.Answer.the-variants.{Address}
 use Rattle.tlb.specs.declared.Tlb.{Tlb}
-use Rattle.mmu.specs.Core.{movedTo, bankNow}
-use Rattle.mmu.specs.Place.{placedOne, verdictOf}
-use Rattle.mmu.specs.Ends.{storeEnd}
+use Rattle.mmu.specs.Core.{afterAccess, bankNow}
+use Rattle.operations.specs.Place.{placedOne, verdictOf}
+use Rattle.operations.specs.Ends.{storeEnd}
 use Rattle.mmu.specs.Step.{translateIn}
 use Rattle.mmu.specs.Ops.{steppedNow, translateOf, storedBy, writeAfter, writeOf, ramAfterWrite}
-use Rattle.mmu.specs.BytesLaws.{stored-length}
+use Rattle.operations.specs.BytesLaws.{stored-length}
 use Rattle.mmu.specs.declared.core.Core.{Core}
 use Rattle.mmu.specs.declared.step.Located.{Located}
 use Rattle.mmu.specs.declared.step.Stepped.{Stepped}
-use Rattle.mmu.specs.declared.ends.StoreAnswer.{StoreAnswer}
+use Rattle.operations.specs.declared.ends.StoreAnswer.{StoreAnswer}
 use Rattle.mmu.specs.declared.ops.Stored.{Stored}
 use Rattle.mmu.specs.declared.ops.Translated.{Translated}
 use Rattle.exec.specs.Sys.{doneWith, onStored, zeroOf, zeroRam}
@@ -46,18 +46,18 @@ module _ (base : ℕ) (ram : List ℕ) (n pa : ℕ) (low : base ≤ pa) (high : 
 module _ (c : Core) (base : ℕ) (ram : List ℕ) (a pa : ℕ) (even : a % 8 ≡ 0) (t : translateOf c (wordAt base ram 8) a Write ≡ addressed c pa)
     (w : within base (length ram) 8 pa ≡ true) where
   abbrev step : Stepped
-  step = translateIn (bankNow c) (c .who) (wordAt base ram 8) a Write (c .tlb)
+  step = translateIn (bankNow c) (c .privilege) (wordAt base ram 8) a Write (c .tlb)
 
   its-answer : step .answer ≡ Address pa
   unfolding translateOf steppedNow
   its-answer = ap (λ (x : Translated). x .answer) t
 
   its-tlb : step .tlb ≡ c .tlb
-  unfolding translateOf steppedNow movedTo
+  unfolding translateOf steppedNow afterAccess
   its-tlb = ap (λ (x : Translated). x .core .tlb) t
 
   put : storedBy c (c .tlb) (storeEnd (placedOne a (Address pa)) (c .«abort_pa») base ram a 8) ≡ doneWith c
-  unfolding storeEnd verdictOf movedTo
+  unfolding storeEnd verdictOf afterAccess
   put = rw w
 
   pub write-steady : writeOf c base ram a 8 ≡ doneWith c

@@ -19,7 +19,7 @@ use Rattle.tlb.specs.declared.access.Answer.{Answer}
 use Rattle.tlb.specs.declared.access.Answer.the-variants.{Address, Status}
 use Rattle.tlb.specs.declared.Tlb.{Tlb}
 use Rattle.mmu.specs.Core.{bankNow, regOf}
-use Rattle.mmu.specs.BytesLaws.{stored-leaves}
+use Rattle.operations.specs.BytesLaws.{stored-leaves}
 use Rattle.mmu.specs.PageLaws.{step-offset}
 use Rattle.mmu.specs.PageGiven.{Gives, gives-page, given, step-gives}
 use Rattle.mmu.specs.Step.{translateIn}
@@ -27,8 +27,8 @@ use Rattle.mmu.specs.Ops.{steppedNow, translateOf, writeOf, ramAfterWrite}
 use Rattle.mmu.specs.Bare.{Bare, bareOf}
 use Rattle.mmu.specs.OpLaws.{store as storing, kept, ram-length}
 use Rattle.mmu.specs.declared.core.Core.{Core}
-use Rattle.mmu.specs.declared.ends.StoreAnswer.{StoreAnswer}
-use Rattle.mmu.specs.declared.ends.StoreAnswer.the-variants.{Done, Stopped}
+use Rattle.operations.specs.declared.ends.StoreAnswer.{StoreAnswer}
+use Rattle.operations.specs.declared.ends.StoreAnswer.the-variants.{Done, Stopped}
 use Rattle.mmu.specs.declared.ops.Stored.{Stored}
 use Rattle.exec.specs.Sys.{onStored, zeroOf, zeroRam, opOf, sysOf, sysRam}
 use Rattle.exec.specs.ZeroLaws.{one-ram, none-ram, one-done, one-tlb, within-low, within-high, zeros-there, zeros-stay, storeVa, store-va, zero-last, zero-ram-last, zero-done}
@@ -177,13 +177,13 @@ module _ (c : Core) (base : ℕ) (ram : List ℕ) (va : ℕ) where
       go false q earlier = let k : suc n ≤ m = ltb-false m (suc n) q in let z : m ≡ suc n = omega arith in rw z e
 
 -- a store to a page whose frame the cache gives
-module _ (c d : Core) (base : ℕ) (ram : List ℕ) (va pa a : ℕ) (ew : d .who ≡ c .who) (ec : d .control ≡ c .control)
-    (g : Gives (bankNow c) (c .who) Write va pa (d .tlb .cache)) (same : va / 4096 ≡ a / 4096) (even : a % 8 ≡ 0) where
+module _ (c d : Core) (base : ℕ) (ram : List ℕ) (va pa a : ℕ) (ew : d .privilege ≡ c .privilege) (ec : d .control ≡ c .control)
+    (g : Gives (bankNow c) (c .privilege) Write va pa (d .tlb .cache)) (same : va / 4096 ≡ a / 4096) (even : a % 8 ≡ 0) where
   again : (translateOf d (wordAt base ram 8) a Write .answer ≡ Address (pa / 4096 * 4096 + a % 4096))
       × (writeOf d base ram a 8 .core .tlb .cache ≡ d .tlb .cache)
   unfolding translateOf steppedNow
   again =
-      let q = given (bankNow c) (c .who) Write (wordAt base ram 8) (d .tlb) a pa (gives-page (bankNow c) (c .who) Write a same g) in (
+      let q = given (bankNow c) (c .privilege) Write (wordAt base ram 8) (d .tlb) a pa (gives-page (bankNow c) (c .privilege) Write a same g) in (
         (λ i. translateIn (bankOf (ec i) (regimeOf (ew i .level))) (ew i) (wordAt base ram 8) a Write (d .tlb) .answer) ∙ q .0,
         ap (λ (t : Tlb). t .cache) (one-tlb d base ram a even)
             ∙ (λ i. translateIn (bankOf (ec i) (regimeOf (ew i .level))) (ew i) (wordAt base ram 8) a Write (d .tlb) .tlb .cache)
@@ -194,15 +194,15 @@ module _ (c : Core) (base : ℕ) (ram : List ℕ) (va pa : ℕ) (well : WellForm
     (first : translateOf c (wordAt base ram 8) va Write .answer ≡ Address pa) where
   offset : pa % 4096 ≡ va % 4096
   unfolding translateOf steppedNow
-  offset = step-offset (bankNow c) (c .who) (wordAt base ram 8) Write (c .tlb) well va pa first
+  offset = step-offset (bankNow c) (c .privilege) (wordAt base ram 8) Write (c .tlb) well va pa first
 
-  begins : Gives (bankNow c) (c .who) Write va pa (writeOf c base ram va 8 .core .tlb .cache)
+  begins : Gives (bankNow c) (c .privilege) Write va pa (writeOf c base ram va 8 .core .tlb .cache)
   unfolding translateOf steppedNow
-  begins = rw (one-tlb c base ram va (omega arith)) (step-gives (bankNow c) (c .who) Write (wordAt base ram 8) (c .tlb) va well pa first)
+  begins = rw (one-tlb c base ram va (omega arith)) (step-gives (bankNow c) (c .privilege) Write (wordAt base ram 8) (c .tlb) va well pa first)
 
   record Agrees (n : ℕ) : Type 0 where
     answer : storeAnswer c base ram va n ≡ Address (pa + 8 * n)
-    gives : Gives (bankNow c) (c .who) Write va pa (zeroOf (suc n) c base ram va .core .tlb .cache)
+    gives : Gives (bankNow c) (c .privilege) Write va pa (zeroOf (suc n) c base ram va .core .tlb .cache)
 
   -- the core after one store more
   core-then : (n : ℕ) → n < 8 → zeroOf n c base ram va .answer ≡ Done
@@ -219,17 +219,17 @@ module _ (c : Core) (base : ℕ) (ram : List ℕ) (va pa : ℕ) (well : WellForm
       let p : pa + 8 * 0 ≡ pa = omega arith in
       record {
         answer = first-answer c base ram va ∙ first ∙ ap Address (sym p);
-        gives = subst (λ (d : Core). Gives (bankNow c) (c .who) Write va pa (d .tlb .cache)) (sym (core-then 0 h e)) (rw z begins);
+        gives = subst (λ (d : Core). Gives (bankNow c) (c .privilege) Write va pa (d .tlb .cache)) (sym (core-then 0 h e)) (rw z begins);
       }
   agree (suc n) h e =
       let before = agree n (omega arith) (zero-fewer c base ram va (suc n) n (omega arith) e) in
       let o = offset in
       let q = again c (zeroOf (suc n) c base ram va .core) base (zeroRam (suc n) c base ram va) va pa (va + 8 * suc n)
-      (ap (λ (b : Bare). b .who) (bare-kept c base ram va (suc n)))
+      (ap (λ (b : Bare). b .privilege) (bare-kept c base ram va (suc n)))
       (ap (λ (b : Bare). b .control) (bare-kept c base ram va (suc n))) (before .gives) (omega arith) (omega arith) in
       record {
         answer = q .0 ∙ ap Address (omega arith);
-        gives = subst (Gives (bankNow c) (c .who) Write va pa) (sym (ap (λ (d : Core). d .tlb .cache) (core-then (suc n) h e) ∙ q .1)) (before .gives);
+        gives = subst (Gives (bankNow c) (c .privilege) Write va pa) (sym (ap (λ (d : Core). d .tlb .cache) (core-then (suc n) h e) ∙ q .1)) (before .gives);
       }
 
 -- DC ZVA

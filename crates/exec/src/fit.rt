@@ -14,7 +14,7 @@ fn reshaped(t: Tlb, same: bool) -> Tlb
 fn retagged(t: Tlb, asid: u16) -> Tlb
     ensures { λ r. ⌜ r ≡ retaggedOf t asid ⌝ }
 {
-    let now = t.cache.present.asid;
+    let now = t.cache.current.asid;
     if now == asid { t } else { tlb::retag(t, asid) }
 }
 

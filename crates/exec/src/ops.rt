@@ -3,8 +3,8 @@ ghost use mathlib.Core.Path.{_≡_};
 ghost use Rattle.mmu.specs.Ops.{withTlb};
 ghost use Rattle.exec.specs.Ops.{withRegs, appliedOf, writeRegister, setLevel, setMark, abortOf};
 use crate::fit;
-use entry::exception::Exception;
-use entry::take;
+use exception::kind::Exception;
+use exception::take;
 use mmu::core;
 use mmu::core::Core;
 use sysreg::regs::Control;
@@ -13,7 +13,7 @@ use sysreg::write;
 use sysreg::write::WriteAnswer;
 use sysreg::write::Written;
 use tlb::Tlb;
-use tlb::access::Who;
+use tlb::access::Privilege;
 
 // The core after a register write, and its answer.
 pub struct Registered {
@@ -35,7 +35,7 @@ fn with_regs(core: Core, control: Control, sys: SysRegs) -> Core
 pub fn with_tlb(core: Core, t: Tlb) -> Core
     ensures { λ r. ⌜ r ≡ withTlb core t ⌝ }
 {
-    core::moved(core, t, core.last_pa, core.abort_pa)
+    core::after_access(core, t, core.last_pa, core.abort_pa)
 }
 
 // A register write that is done: the register, then the cache.
@@ -57,7 +57,7 @@ pub fn write_register(core: Core, key: u32, value: u64) -> Registered
 {
     let control = core.control;
     let sys = core.sys;
-    let w = write::write_reg(control, sys, core.who.level, key, value);
+    let w = write::write_reg(control, sys, core.privilege.level, key, value);
     let answer = w.answer;
     match answer {
         WriteAnswer::Done => {
@@ -73,10 +73,13 @@ pub fn write_register(core: Core, key: u32, value: u64) -> Registered
 pub fn set_level(core: Core, level: u8) -> Core
     ensures { λ r. ⌜ r ≡ setLevel core level ⌝ }
 {
-    let mark = core.who.mark;
-    let who = Who { level, mark };
+    let mark = core.privilege.unprivileged;
+    let privilege = Privilege {
+        level,
+        unprivileged: mark,
+    };
     let mut c = core;
-    c.who = who;
+    c.privilege = privilege;
     c
 }
 
@@ -84,10 +87,13 @@ pub fn set_level(core: Core, level: u8) -> Core
 pub fn set_mark(core: Core, mark: bool) -> Core
     ensures { λ r. ⌜ r ≡ setMark core mark ⌝ }
 {
-    let level = core.who.level;
-    let who = Who { level, mark };
+    let level = core.privilege.level;
+    let privilege = Privilege {
+        level,
+        unprivileged: mark,
+    };
     let mut c = core;
-    c.who = who;
+    c.privilege = privilege;
     c
 }
 
@@ -97,9 +103,9 @@ pub fn abort(core: Core, e: Exception) -> Core
 {
     let flags = core.flags;
     let sys = core.sys;
-    let mark = core.who.mark;
+    let mark = core.privilege.unprivileged;
     let r = take::take_sync(
-        core.who.level,
+        core.privilege.level,
         flags,
         core.pc,
         core.control.scr_el3,
@@ -109,12 +115,12 @@ pub fn abort(core: Core, e: Exception) -> Core
     );
     let after = r.sys;
     let entered = r.flags;
-    let who = Who {
+    let privilege = Privilege {
         level: r.level,
-        mark,
+        unprivileged: mark,
     };
     let mut c = core;
-    c.who = who;
+    c.privilege = privilege;
     c.flags = entered;
     c.pc = r.pc;
     c.sys = after;

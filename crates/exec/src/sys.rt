@@ -5,13 +5,13 @@ ghost use Rattle.word.specs.Ram.{wordAt};
 ghost use Rattle.exec.specs.Sys.{mairOf, withPar, atOf, invalidatedOf, tlbiCore};
 ghost use Rattle.exec.specs.Sys.{zeroOf, zeroRam, sysOf, sysRam};
 use crate::ops as cores;
-use entry::exception::Exception;
-use entry::exception::Stop;
+use exception::kind::Exception;
+use exception::kind::Stop;
 use mmu::core;
 use mmu::core::Core;
-use mmu::ends::StoreAnswer;
 use mmu::ops;
 use mmu::ops::Stored;
+use operations::ends::StoreAnswer;
 use sysop::op;
 use sysop::op::AtForm;
 use sysop::op::SysOp;
@@ -121,7 +121,7 @@ pub fn sys(
     ensures { λ _. ⌜ now (ram .exit) ≡ sysRam core base (now (ram .entry)) op1 crn crm op2 rt ⌝ }
 {
     let x = core::reg(core, rt);
-    match op::decode(core.who.level, op1, crn, crm, op2) {
+    match op::decode(core.privilege.level, op1, crn, crm, op2) {
         SysOp::At(form) => {
             let c = at(core, base, ram, form, x);
             Stored {

@@ -29,7 +29,7 @@ module _ (w : World) (laws : Laws w) where
     unfolding covers
     effect-on nothing c us = refl
     effect-on (carries v shared) c us = refl
-    effect-on (sets who low) c us = refl
+    effect-on (sets privilege low) c us = refl
     effect-on (writes R) c us = go (w .same-shape (c .regs) R) refl us
       where
         go : (b : Bool) → w .same-shape (c .regs) R ≡ b → Each (λ v. covers v p ℓ a ≡ false) (pick b [] (All ∷ [])) → w .on R r ≡ w .on (c .regs) r
@@ -60,7 +60,7 @@ module _ (w : World) (laws : Laws w) where
 
   -- A FRESH CORE
 
-  module _ (c₀ : Plain w) (zero-asid : w .asid (c₀ .regs) ≡ 0) (low : c₀ .who .level ≤ 3) where
+  module _ (c₀ : Plain w) (zero-asid : w .asid (c₀ .regs) ≡ 0) (low : c₀ .privilege .level ≤ 3) where
     -- one translation after a history
     pub one-settled : (past : List (Event w)) (m : w .Ram) (a : Ask) → SettledFor w c₀ past m a
         → answerOf w (plainRun w c₀ past) m a (tlbRun w c₀ past fresh) ≡ uncached w (plainRun w c₀ past) m (kindOf a) (addressOf a)

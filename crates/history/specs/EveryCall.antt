@@ -85,7 +85,7 @@ module _ (w : World) (M : Machine w) (B : Bridge w M) where
 
   -- A fresh core: a new cache, the ASID 0, a level of 3 at most.
   module _ (laws : Laws w) (c₀ : M .Core) (new : M .tlb c₀ ≡ fresh) (zero-asid : w .asid (plainOf w M c₀ .regs) ≡ 0)
-      (low : plainOf w M c₀ .who .level ≤ 3) where
+      (low : plainOf w M c₀ .privilege .level ≤ 3) where
     -- the cache after a list is that of the list's steps on a new one
     pub fresh-run : (list : List (Fed w M)) → Shown w M c₀ list
         → M .tlb (run w M c₀ (lentOf w M list)) ≡ tlbRun w (plainOf w M c₀) (eventsRun w M (M .bare c₀) list) fresh

@@ -47,7 +47,7 @@ module _ (w : World) (M : Machine w) where
   shown-one c (y ∷ l) x s sx = (s .0, shown-one (M .step c (y .lent .ram) (y .lent .call)) l x (s .1) sx)
 
 module _ (w : World) (M : Machine w) (B : Bridge w M) (laws : Laws w) (c₀ : M .Core) (new : M .tlb c₀ ≡ fresh)
-    (zero-asid : w .asid (plainOf w M c₀ .regs) ≡ 0) (low : plainOf w M c₀ .who .level ≤ 3) where
+    (zero-asid : w .asid (plainOf w M c₀ .regs) ≡ 0) (low : plainOf w M c₀ .privilege .level ≤ 3) where
   pub same-replies : (A : Replies w M) → SameReplies w M A c₀
   same-replies A list s x sx tidy =
       A .same c m y given ∙ ap (λ (b : M .Bare). A .bareReply b m y) (run-bare w M B c₀ (lentOf w M list))

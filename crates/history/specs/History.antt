@@ -14,7 +14,7 @@ use Rattle.tlb.specs.Tlb.{fresh, invalidateOf}
 use Rattle.tlb.specs.Asks as Asks
 use Rattle.tlb.specs.Asks.{Ask, kindOf, addressOf, Given}
 use Rattle.tlb.specs.Maintenance.{invalidatedOf, refitBy}
-use Rattle.tlb.specs.declared.access.Who.{Who}
+use Rattle.tlb.specs.declared.access.Privilege.{Privilege}
 use Rattle.tlb.specs.declared.access.Answer.{Answer}
 use Rattle.tlb.specs.declared.Inval.{Inval}
 use Rattle.tlb.specs.declared.Inval.the-variants.{All}
@@ -33,7 +33,7 @@ module _ (w : World) where
     nothing : Effect
     carries : Inval → Bool → Effect
     writes : w .Regs → Effect
-    sets : (who : Who) → who .level ≤ 3 → Effect
+    sets : (privilege : Privilege) → privilege .level ≤ 3 → Effect
 
   -- A step: its translations, in order until one faults, on the registers and RAM at its start; then its effect. A load
   -- or a store has one translation, or two where it is split; each store of a zeroing is a step of its own.
@@ -52,8 +52,8 @@ module _ (w : World) where
   abbrev pub after : Effect → Plain w → Plain w
   after nothing c = c
   after (carries v shared) c = c
-  after (writes R) c = record { regs = R; who = c .who }
-  after (sets who low) c = record { regs = c .regs; who = who }
+  after (writes R) c = record { regs = R; privilege = c .privilege }
+  after (sets privilege low) c = record { regs = c .regs; privilege = privilege }
 
   abbrev pub afterEvent : Event → Plain w → Plain w
   afterEvent (steps m s) c = after (s .effect) c
@@ -70,7 +70,7 @@ module _ (w : World) where
   drops nothing c = []
   drops (carries v shared) c = v ∷ []
   drops (writes R) c = pick (w .same-shape (c .regs) R) [] (All ∷ [])
-  drops (sets who low) c = []
+  drops (sets privilege low) c = []
 
   abbrev pub dropsEvent : Event → Plain w → List Inval
   dropsEvent (steps m s) c = drops (s .effect) c
@@ -98,7 +98,7 @@ module _ (w : World) where
   tlbAfter nothing c t = t
   tlbAfter (carries v shared) c t = invalidatedOf t v shared
   tlbAfter (writes R) c t = refitBy t (w .same-shape (c .regs) R) (w .asid R)
-  tlbAfter (sets who low) c t = t
+  tlbAfter (sets privilege low) c t = t
 
   abbrev pub tlbEvent : Event → Plain w → Tlb → Tlb
   tlbEvent (steps m s) c t = tlbAfter (s .effect) c (tlbAsks c m (s .asks) t)

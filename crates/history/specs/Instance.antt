@@ -51,7 +51,7 @@ real =
 
 -- A translation's access is the one that the contracts of `tlb` make of the regime's registers.
 pub access-is : (c : Plain real) (m : Ram) (k : Kind) (va : ℕ) →
-    accessOf real c m k va ≡ Step.accessOf (bankOf (c .regs) (regimeOf (c .who .level))) (c .who) va k (memoryOf m)
+    accessOf real c m k va ≡ Step.accessOf (bankOf (c .regs) (regimeOf (c .privilege .level))) (c .privilege) va k (memoryOf m)
 access-is c m k va = refl
 
 -- LAWS
@@ -81,7 +81,7 @@ real-laws =
 
 -- The fresh core that `Cpu::new` gives: EL3, the mark clear.
 abbrev pub freshPlain : Plain real
-freshPlain = record { regs = freshControl; who = record { level = 3; mark = false } }
+freshPlain = record { regs = freshControl; privilege = record { level = 3; unprivileged = false } }
 
 pub fresh-asid : asidOf freshControl ≡ 0
 unfolding asidOf asidBase freshControl

@@ -44,7 +44,7 @@ accessFor Fetch = fetching
 
 -- an access at the level and under the mark is one of EL0's
 abbrev pub userNow : Plain real → Kind → Bool
-userNow c k = asUser (regimeNow real c) (c .who .level) (c .who .mark) k
+userNow c k = asUser (regimeNow real c) (c .privilege .level) (c .privilege .unprivileged) k
 
 -- AArch64.CheckPermission on what a walk in the bank's registers found: the physical page with the address's low twelve
 -- bits, or 0x0C plus the level

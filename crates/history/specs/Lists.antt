@@ -27,17 +27,17 @@ module _ {A : Type 0} where
 
 module _ (w : World) where
   -- every level stays at 3 or below
-  effect-low : (e : Effect w) (c : Plain w) → c .who .level ≤ 3 → after w e c .who .level ≤ 3
+  effect-low : (e : Effect w) (c : Plain w) → c .privilege .level ≤ 3 → after w e c .privilege .level ≤ 3
   effect-low nothing c low = low
   effect-low (carries v shared) c low = low
   effect-low (writes R) c low = low
-  effect-low (sets who small) c low = small
+  effect-low (sets privilege small) c low = small
 
-  pub event-low : (x : Event w) (c : Plain w) → c .who .level ≤ 3 → afterEvent w x c .who .level ≤ 3
+  pub event-low : (x : Event w) (c : Plain w) → c .privilege .level ≤ 3 → afterEvent w x c .privilege .level ≤ 3
   event-low (steps m s) c low = effect-low (s .effect) c low
   event-low (receives v) c low = low
 
-  pub run-low : (past : List (Event w)) (c : Plain w) → c .who .level ≤ 3 → plainRun w c past .who .level ≤ 3
+  pub run-low : (past : List (Event w)) (c : Plain w) → c .privilege .level ≤ 3 → plainRun w c past .privilege .level ≤ 3
   run-low [] c low = low
   run-low (x ∷ xs) c low = run-low xs (afterEvent w x c) (event-low x c low)
 

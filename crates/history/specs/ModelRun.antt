@@ -11,7 +11,7 @@ use Rattle.tlb.specs.Maintenance.{invalidatedOf, reshapedOf, retaggedOf}
 use Rattle.tlb.specs.Model.{Model, emptyModel, Outcome, invalidate, retag, broadcast, translate, fetch}
 use Rattle.tlb.specs.Live.{live, WellFormed, LeafLevel, Follows}
 use Rattle.tlb.specs.Refines.{fresh-live, fresh-sound, flush-live, flush-sound, invalidate-live, invalidate-sound, retag-live, retag-sound, broadcast-live, broadcast-sound}
-use Rattle.tlb.specs.Translations.{turn-follows, fetch-follows}
+use Rattle.tlb.specs.Translations.{translation-follows, fetch-follows}
 use Rattle.tlb.specs.Asks.{Ask, translates, fetches, Given, onward}
 use Rattle.tlb.specs.declared.access.Kind.{Kind}
 use Rattle.tlb.specs.declared.access.Kind.the-variants.{Fetch}
@@ -56,7 +56,7 @@ module _ (w : World) where
   modelAfter (carries v false) c u = invalidate v u
   modelAfter (carries v true) c u = broadcast v (invalidate v u)
   modelAfter (writes R) c u = modelRetagged (w .asid R) (modelFlushed (c .regs) R u)
-  modelAfter (sets who low) c u = u
+  modelAfter (sets privilege low) c u = u
 
   -- what is received from another core is carried out, and not passed on
   abbrev pub modelEvent : Event w → Plain w → Model → Model
@@ -88,12 +88,12 @@ pub record StandsFor (t : Tlb) (u : Model) : Type 0 where
 module _ (w : World) (laws : Laws w) where
   -- TRANSLATIONS
 
-  module _ (c : Plain w) (m : w .Ram) (low : c .who .level ≤ 3) where
+  module _ (c : Plain w) (m : w .Ram) (low : c .privilege .level ≤ 3) where
     leaf-fits : (k : Kind) (va : ℕ) → LeafLevel (accessOf w c m k va .walk)
     leaf-fits k va leaf e = laws .leaf-level (c .regs) m (regimeNow w c) (untagNow w c va) leaf e
 
     ask-follows : (a : Ask) (t : Tlb) → WellFormed t → Follows (answerOf w c m a t) (tlbAsk w c m a t) (modelAsk w c m a (live t))
-    ask-follows (translates k va) t s = turn-follows (accessOf w c m k va) t s (leaf-fits k va) low
+    ask-follows (translates k va) t s = translation-follows (accessOf w c m k va) t s (leaf-fits k va) low
     ask-follows (fetches va) t s = fetch-follows (accessOf w c m Fetch va) t s (leaf-fits Fetch va) refl
 
     -- the first translation, and the rest of them where it does not fault
@@ -156,8 +156,8 @@ module _ (w : World) (laws : Laws w) where
   retagged-stands : (a : ℕ) {t : Tlb} {u : Model} → StandsFor t u → StandsFor (retaggedOf t a) (modelRetagged w a u)
   unfolding retaggedOf modelRetagged
   retagged-stands a {t} r =
-      subst (λ (u : Model). StandsFor (pick (eqb (t .cache .present .asid) a) t (retagOf t a)) (pick (eqb (u .asid) a) u (retag a u))) (r .is)
-      (go (eqb (t .cache .present .asid) a))
+      subst (λ (u : Model). StandsFor (pick (eqb (t .cache .current .asid) a) t (retagOf t a)) (pick (eqb (u .asid) a) u (retag a u))) (r .is)
+      (go (eqb (t .cache .current .asid) a))
     where
       go : (b : Bool) → StandsFor (pick b t (retagOf t a)) (pick b (live t) (retag a (live t)))
       go true = record { well = r .well; is = refl }
@@ -173,11 +173,11 @@ module _ (w : World) (laws : Laws w) where
         is = broadcast-live (invalidateOf t v) v ∙ ap (broadcast v) (invalidate-live t s v);
       }
   effect-stands (writes R) c t s = retagged-stands (w .asid R) (flushed-stands (c .regs) R t s)
-  effect-stands (sets who low) c t s = record { well = s; is = refl }
+  effect-stands (sets privilege low) c t s = record { well = s; is = refl }
 
   -- EVENTS
 
-  event-stands : (x : Event w) (c : Plain w) {t : Tlb} {u : Model} → c .who .level ≤ 3 → StandsFor t u
+  event-stands : (x : Event w) (c : Plain w) {t : Tlb} {u : Model} → c .privilege .level ≤ 3 → StandsFor t u
       → StandsFor (tlbEvent w x c t) (modelEvent w x c u)
   event-stands x c {t} low r = subst (λ (u : Model). StandsFor (tlbEvent w x c t) (modelEvent w x c u)) (r .is) (go x)
     where
@@ -190,18 +190,18 @@ module _ (w : World) (laws : Laws w) where
 
   -- HISTORIES
 
-  pub run-stands : (past : List (Event w)) (c : Plain w) {t : Tlb} {u : Model} → c .who .level ≤ 3 → StandsFor t u
+  pub run-stands : (past : List (Event w)) (c : Plain w) {t : Tlb} {u : Model} → c .privilege .level ≤ 3 → StandsFor t u
       → StandsFor (tlbRun w c past t) (modelRun w c past u)
   run-stands [] c low r = r
   run-stands (x ∷ xs) c low r = run-stands xs (afterEvent w x c) (event-low w x c low) (event-stands x c low r)
 
   -- Over every history the cache does to the plain model what the model's own functions do.
-  pub run-live : (past : List (Event w)) (c : Plain w) (t : Tlb) → c .who .level ≤ 3 → WellFormed t
+  pub run-live : (past : List (Event w)) (c : Plain w) (t : Tlb) → c .privilege .level ≤ 3 → WellFormed t
       → live (tlbRun w c past t) ≡ modelRun w c past (live t)
   run-live past c t low s = run-stands past c low (record { well = s; is = refl }) .is
 
   -- and each answer is the model's
-  pub answers-run-live : (past : List (Event w)) (c : Plain w) {t : Tlb} {u : Model} → c .who .level ≤ 3 → StandsFor t u
+  pub answers-run-live : (past : List (Event w)) (c : Plain w) {t : Tlb} {u : Model} → c .privilege .level ≤ 3 → StandsFor t u
       → answersRun w c past t ≡ modelAnswersRun w c past u
   answers-run-live [] c low r = refl
   answers-run-live (steps m s ∷ xs) c {t} low r =
@@ -215,7 +215,7 @@ module _ (w : World) (laws : Laws w) where
 
   -- After every history from a core with a new cache: the plain model, and the model's answers to each translation of
   -- the next step.
-  module _ (c₀ : Plain w) (low : c₀ .who .level ≤ 3) (past : List (Event w)) where
+  module _ (c₀ : Plain w) (low : c₀ .privilege .level ≤ 3) (past : List (Event w)) where
     pub history-model : live (tlbRun w c₀ past fresh) ≡ modelRun w c₀ past emptyModel
     history-model = run-stands past c₀ low fresh-stands .is
 

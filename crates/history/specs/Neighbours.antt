@@ -89,7 +89,7 @@ module _ (w : World) where
           absurd (true≢false (sym y ∙ own .elsewhere before m′ s later split ℓ o x (λ e. eqb-false _ _ b e)))
 
   -- Two histories that come to the same registers, level and mark, with RAMs now under which the address has one walk.
-  module _ (laws : Laws w) (c₀ : Plain w) (zero-asid : w .asid (c₀ .regs) ≡ 0) (low : c₀ .who .level ≤ 3) (one two : List (Event w)) (m n : w .Ram)
+  module _ (laws : Laws w) (c₀ : Plain w) (zero-asid : w .asid (c₀ .regs) ≡ 0) (low : c₀ .privilege .level ≤ 3) (one two : List (Event w)) (m n : w .Ram)
       (a : Ask) where
     pub neighbours : plainRun w c₀ one ≡ plainRun w c₀ two
         → w .walk (plainRun w c₀ one .regs) m (regimeNow w (plainRun w c₀ one)) (untagNow w (plainRun w c₀ one) (addressOf a))

@@ -48,7 +48,7 @@ module _ (w : World) (c₀ : Plain w) where
           → Each (λ v. covers v (pageNow w here (addressOf a)) ℓ (w .asid R) ≡ false) vs
           → x ≡ leafAnswer ℓ (needNow w here (kindOf a)) (addressOf a) → From a x
 
-module _ (w : World) (laws : Laws w) (c₀ : Plain w) (zero-asid : w .asid (c₀ .regs) ≡ 0) (low : c₀ .who .level ≤ 3) where
+module _ (w : World) (laws : Laws w) (c₀ : Plain w) (zero-asid : w .asid (c₀ .regs) ≡ 0) (low : c₀ .privilege .level ≤ 3) where
   module _ (past : List (Event w)) (m : w .Ram) where
     abbrev c : Plain w
     c = plainRun w c₀ past

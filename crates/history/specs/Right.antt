@@ -104,16 +104,16 @@ module _ (w : World) where
     untag-first : untagNow w c va / 4096 ≡ w .untag (c .regs) (regimeNow w c) (va / 4096 * 4096) / 4096
     untag-first = laws .untag-page (c .regs) (regimeNow w c) va (va / 4096 * 4096) (omega arith)
 
-    same-need : Unmarked (c .who .mark) k → needNow w c k ≡ need k (asUser (regimeNow w c) (c .who .level) false k)
-    same-need u = ap (need k) (unmarked (regimeNow w c) (c .who .level) (c .who .mark) k u)
+    same-need : Unmarked (c .privilege .unprivileged) k → needNow w c k ≡ need k (asUser (regimeNow w c) (c .privilege .level) false k)
+    same-need u = ap (need k) (unmarked (regimeNow w c) (c .privilege .level) (c .privilege .unprivileged) k u)
 
-    answered-hint : (pa : ℕ) → Unmarked (c .who .mark) k → Answered (Address pa) → HintFrom w h (c .regs) k (va / 4096) (c .who .level) (pa / 4096)
+    answered-hint : (pa : ℕ) → Unmarked (c .privilege .unprivileged) k → Answered (Address pa) → HintFrom w h (c .regs) k (va / 4096) (c .privilege .level) (pa / 4096)
     unfolding leafAnswer
     answered-hint pa u (itself o e) = let q : pa ≡ va = cc in flat o (ap (λ (n : ℕ). n / 4096) q)
     answered-hint pa u (by ℓ a o seen d e) = go (allows w ℓ (needNow w c k)) refl e
       where
         go : (b : Bool) → allows w ℓ (needNow w c k) ≡ b → Address pa ≡ pick b (Address (ℓ .oa / 4096 * 4096 + va % 4096)) (Status (first (12 + ℓ .level)))
-            → HintFrom w h (c .regs) k (va / 4096) (c .who .level) (pa / 4096)
+            → HintFrom w h (c .regs) k (va / 4096) (c .privilege .level) (pa / 4096)
         go true al q =
             let n : pa ≡ ℓ .oa / 4096 * 4096 + va % 4096 = cc in
             kept ℓ a o (subst (λ (p : ℕ). Seen w h (regimeNow w c) p ℓ a) untag-first seen) d
@@ -121,7 +121,7 @@ module _ (w : World) where
         go false al q = let z : _≡_ {A = ℕ} 0 1 = cc in absurd (omega arith)
     answered-hint pa u (failed code o f e) = let z : _≡_ {A = ℕ} 0 1 = cc in absurd (omega arith)
 
-    hint-answered : (q : ℕ) → Unmarked (c .who .mark) k → HintFrom w h (c .regs) k (va / 4096) (c .who .level) q → Answered (addressIn q va)
+    hint-answered : (q : ℕ) → Unmarked (c .privilege .unprivileged) k → HintFrom w h (c .regs) k (va / 4096) (c .privilege .level) q → Answered (addressIn q va)
     unfolding leafAnswer
     hint-answered q u (flat o e) = let x : q * 4096 + va % 4096 ≡ va = omega arith in itself o (ap Address x)
     hint-answered q u (kept ℓ a o seen d al e) =
@@ -156,7 +156,7 @@ module _ (w : World) where
     ofRegime l = sameRegime (l .regime) (regimeNow w c)
 
     abbrev hits : Known → Bool
-    hits n = eqb (n .page) (va / 4096) && eqb (n .level) (c .who .level)
+    hits n = eqb (n .page) (va / 4096) && eqb (n .level) (c .privilege .level)
 
     module _ (t : Model) (s : Traced w h (c .regs) t) where
       walk-done : onNow w c ≡ true → (x : Walked) → w .walk (c .regs) m (regimeNow w c) (untagNow w c va) ≡ x → Fine (walked x a t)
@@ -225,7 +225,7 @@ module _ (w : World) where
           go true o = look-done o (t .lines (pageNow w c va % 1024)) (s .lines-ok (pageNow w c va % 1024))
 
       -- a data translation that came out sets a hint that holds
-      hint-done : hintable k (c .who .mark) ≡ true → (o : Outcome) → Fine o → Fine (noted a o)
+      hint-done : hintable k (c .privilege .unprivileged) ≡ true → (o : Outcome) → Fine o → Fine (noted a o)
       unfolding noted
       hint-done b o d = record { traced = go (o .answer) refl; answered = d .answered }
         where
@@ -233,38 +233,38 @@ module _ (w : World) where
           go (Status f) e = d .traced
           go (Address pa) e =
               traced-hint w (hintPlace k va) (knownOf a pa)
-              (rw (kind-at k (c .who .mark) va b)
-              (answered-hint laws h c m k va pa (inr (hint-unmarked k (c .who .mark) b)) (rw e at (d .answered))))
+              (rw (kind-at k (c .privilege .unprivileged) va b)
+              (answered-hint laws h c m k va pa (inr (hint-unmarked k (c .privilege .unprivileged) b)) (rw e at (d .answered))))
               (d .traced)
 
       -- a hint answers what it says
-      hit-done : Unmarked (c .who .mark) k → (n : Known) → HintFrom w h (c .regs) k (n .page) (n .level) (n .frame)
+      hit-done : Unmarked (c .privilege .unprivileged) k → (n : Known) → HintFrom w h (c .regs) k (n .page) (n .level) (n .frame)
           → hits n ≡ true → Answered laws h c m k va (addressIn (n .frame) va)
       hit-done u n o e =
           let p : n .page ≡ va / 4096 = eqb-true _ _ (and-left _ _ e) in
-          let l : n .level ≡ c .who .level = eqb-true _ _ (and-right (eqb (n .page) (va / 4096)) _ e) in
+          let l : n .level ≡ c .privilege .level = eqb-true _ _ (and-right (eqb (n .page) (va / 4096)) _ e) in
           hint-answered laws h c m k va (n .frame) u (rw (p, l) at o)
 
-      tried-done : hintable k (c .who .mark) ≡ true → (x : Slot Known) → HintOk w h (c .regs) k x → Fine (tried (knowing (va / 4096) (c .who .level) x) a t)
+      tried-done : hintable k (c .privilege .unprivileged) ≡ true → (x : Slot Known) → HintOk w h (c .regs) k x → Fine (tried (knowing (va / 4096) (c .privilege .level) x) a t)
       unfolding tried
       tried-done b empty ok = hint-done b _ unhinted-done
       tried-done b (holds n) ok = go (hits n) refl
         where
           go : (d : Bool) → hits n ≡ d → Fine (tried (pick d (holds (n .frame)) empty) a t)
-          go true e = record { traced = s; answered = hit-done (inr (hint-unmarked k (c .who .mark) b)) n ok e }
+          go true e = record { traced = s; answered = hit-done (inr (hint-unmarked k (c .privilege .unprivileged) b)) n ok e }
           go false e = hint-done b _ unhinted-done
 
       pub translate-done : Fine (translate a t)
       unfolding translate hinted
-      translate-done = go (hintable k (c .who .mark)) refl
+      translate-done = go (hintable k (c .privilege .unprivileged)) refl
         where
-          go : (b : Bool) → hintable k (c .who .mark) ≡ b → Fine (hinted b a t)
+          go : (b : Bool) → hintable k (c .privilege .unprivileged) ≡ b → Fine (hinted b a t)
           go false b = unhinted-done
           go true b =
               tried-done b (t .hints (hintPlace k va))
-              (rw (kind-at k (c .who .mark) va b) at (s .hints-ok (hintPlace k va)))
+              (rw (kind-at k (c .privilege .unprivileged) va b) at (s .hints-ok (hintPlace k va)))
 
-      fetch-tried : k ≡ Fetch → (x : Slot Known) → HintOk w h (c .regs) k x → Fine (fetched (knowing (va / 4096) (c .who .level) x) a t)
+      fetch-tried : k ≡ Fetch → (x : Slot Known) → HintOk w h (c .regs) k x → Fine (fetched (knowing (va / 4096) (c .privilege .level) x) a t)
       unfolding fetched notedFetch
       fetch-tried f x ok = go x ok
         where
@@ -279,7 +279,7 @@ module _ (w : World) where
           miss : Fine (notedFetch a (unhinted (onNow w c) a t))
           miss = record { traced = put _ refl; answered = d .answered }
 
-          go : (y : Slot Known) → HintOk w h (c .regs) k y → Fine (fetched (knowing (va / 4096) (c .who .level) y) a t)
+          go : (y : Slot Known) → HintOk w h (c .regs) k y → Fine (fetched (knowing (va / 4096) (c .privilege .level) y) a t)
           go empty o = miss
           go (holds n) o = hit (hits n) refl
             where

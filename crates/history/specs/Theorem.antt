@@ -90,7 +90,7 @@ module _ (w : World) (laws : Laws w) where
   effect-traced h c nothing u s = s
   effect-traced h c (carries v true) u s = broadcast-traced v (traced-invalidate w v (c .regs) (s .asid-is) s)
   effect-traced h c (carries v false) u s = traced-invalidate w v (c .regs) (s .asid-is) s
-  effect-traced h c (sets who low) u s = s
+  effect-traced h c (sets privilege low) u s = s
   effect-traced h c (writes R) u s = write-traced R s
 
   event-traced : (x : Event w) (c : Plain w) (u : Model) (h : List (Moment w)) → Traced w h (c .regs) u
@@ -197,7 +197,7 @@ module _ (w : World) (laws : Laws w) where
       go (Status f) rest = done
 
   -- A fresh core: its ASID is 0, its level at most 3, its cache new.
-  module _ (c₀ : Plain w) (zero-asid : w .asid (c₀ .regs) ≡ 0) (low : c₀ .who .level ≤ 3) where
+  module _ (c₀ : Plain w) (zero-asid : w .asid (c₀ .regs) ≡ 0) (low : c₀ .privilege .level ≤ 3) where
     pub history-traced : (past : List (Event w)) → Traced w (moments c₀ past []) (plainRun w c₀ past .regs) (modelRun w c₀ past emptyModel)
     history-traced past = run-traced past c₀ emptyModel [] (traced-empty w (c₀ .regs) zero-asid)
 
@@ -207,7 +207,7 @@ module _ (w : World) (laws : Laws w) where
         (answers-right c₀ past m (s .asks) (modelRun w c₀ past emptyModel) (traced-at w m (history-traced past)))
 
     -- beside it: after every history the cache's ASID is that of the registers, and the cache is well-formed
-    pub history-asid : (past : List (Event w)) → tlbRun w c₀ past fresh .cache .present .asid ≡ w .asid (plainRun w c₀ past .regs)
+    pub history-asid : (past : List (Event w)) → tlbRun w c₀ past fresh .cache .current .asid ≡ w .asid (plainRun w c₀ past .regs)
     history-asid past = ap (λ (u : Model). u .asid) (history-model w laws c₀ low past) ∙ history-traced past .asid-is
 
     pub history-well : (past : List (Event w)) → WellFormed (tlbRun w c₀ past fresh)

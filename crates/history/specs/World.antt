@@ -13,7 +13,7 @@ use Rattle.walk.specs.declared.level.Walked.{Walked}
 use Rattle.walk.specs.declared.level.Walked.the-variants.{Mapped, Fault}
 use Rattle.tlb.specs.Model.{Access, asUser, need, spanBits}
 use Rattle.tlb.specs.declared.access.Kind.{Kind}
-use Rattle.tlb.specs.declared.access.Who.{Who}
+use Rattle.tlb.specs.declared.access.Privilege.{Privilege}
 use Rattle.tlb.specs.declared.access.Answer.{Answer}
 use Rattle.tlb.specs.declared.access.Answer.the-variants.{Address, Status}
 use Rattle.tlb.specs.declared.Inval.{Inval}
@@ -75,10 +75,10 @@ module _ (w : World) where
   -- What a translation reads besides RAM and the cache: the registers, the level and the mark.
   pub record Plain : Type 0 where
     pub regs : w .Regs
-    pub who : Who
+    pub privilege : Privilege
 
   abbrev pub regimeNow : Plain → Regime
-  regimeNow c = regimeOf (c .who .level)
+  regimeNow c = regimeOf (c .privilege .level)
 
   abbrev pub onNow : Plain → Bool
   onNow c = w .on (c .regs) (regimeNow c)
@@ -91,7 +91,7 @@ module _ (w : World) where
 
   -- the permission bit that the access needs
   abbrev pub needNow : Plain → Kind → ℕ
-  needNow c k = need k (asUser (regimeNow c) (c .who .level) (c .who .mark) k)
+  needNow c k = need k (asUser (regimeNow c) (c .privilege .level) (c .privilege .unprivileged) k)
 
   -- Its answer to a translation that isn't refused: "with stage 1 off, the address itself. Else it untags the address
   -- and walks, by the walk's definition, on its own registers and the step's RAM." A fault is its status and the
@@ -104,7 +104,7 @@ module _ (w : World) where
   abbrev pub accessOf : Plain → w .Ram → Kind → ℕ → Access
   accessOf c m k va =
       record {
-        who = c .who;
+        privilege = c .privilege;
         kind = k;
         va = va;
         on = onNow c;

@@ -17,19 +17,19 @@ use Rattle.tlb.specs.Hint.{onPage}
 use Rattle.tlb.specs.declared.access.Answer.the-variants.{Address}
 use Rattle.tlb.specs.declared.access.Kind.{Kind}
 use Rattle.tlb.specs.declared.hint.Hint.{Hint}
-use Rattle.mmu.specs.Core.{bankNow, movedTo}
+use Rattle.mmu.specs.Core.{bankNow, afterAccess}
 use Rattle.mmu.specs.Ops.{steppedNow, locatedNow, translateOf}
-use Rattle.mmu.specs.Place.{inPage, nextPage, crosses}
+use Rattle.operations.specs.Place.{inPage, nextPage, crosses}
 use Rattle.mmu.specs.Step.{translateIn, locatedOf}
 use Rattle.mmu.specs.declared.core.Core.{Core}
-use Rattle.mmu.specs.declared.place.Place.the-variants.{Whole}
-use Rattle.mmu.specs.declared.place.Placed.the-variants.{At}
-use Rattle.lentparts.specs.Access.{bytesOf, secondOf, secondIn, bothOf}
-use Rattle.lentparts.specs.Change.{pageIn, keptIn, commitIn}
-use Rattle.lentparts.specs.Plan.{hintPlace, hintServes}
-use Rattle.lentparts.specs.declared.access.Both.{Both}
+use Rattle.operations.specs.declared.place.Place.the-variants.{Whole}
+use Rattle.operations.specs.declared.place.Placed.the-variants.{At}
+use Rattle.operations.specs.Loads.{bytesOf, secondOf, secondIn, bothOf}
+use Rattle.lent_parts.specs.Parts.{pageIn, keptIn, commitIn}
+use Rattle.operations.specs.Hinted.{hintPlace, hintServes}
+use Rattle.operations.specs.declared.loads.Both.{Both}
 use Rattle.lent.proofs.Pairs.{pair-is}
-use Rattle.lent.proofs.Turns.{hint-turn}
+use Rattle.lent.proofs.Translations.{hint-turn}
 
 -- a size's bytes are its number
 abbrev Fits : Sized → ℕ → Type 0
@@ -57,22 +57,22 @@ and-false false = refl
 
 module _ (c : Core) (memory : ℕ → Word) (va : ℕ) (kind : Kind) where
   -- a hint that serves
-  pub hint-located : (h : Hint) → h ≡ hintAt (c .tlb .cache) (hintPlace va kind) → hintServes h (c .who) va kind ≡ true → (n : ℕ) → leb n (inPage va) ≡ true
+  pub hint-located : (h : Hint) → h ≡ hintAt (c .tlb .cache) (hintPlace va kind) → hintServes h (c .privilege) va kind ≡ true → (n : ℕ) → leb n (inPage va) ≡ true
       → locatedNow c memory va n kind ≡ record { tlb = c .tlb; placed = At (Whole (onPage (h .pa) va)) }
-  unfolding locatedNow locatedOf translateOf steppedNow movedTo
+  unfolding locatedNow locatedOf translateOf steppedNow afterAccess
   hint-located h eh served n fits =
       let turn = hint-turn c memory va kind (rw eh at served) in
-      let step : translateIn (bankNow c) (c .who) memory va kind (c .tlb) ≡ record { tlb = c .tlb; answer = Address (onPage (hintAt (c .tlb .cache) (hintPlace va kind) .pa) va) }
+      let step : translateIn (bankNow c) (c .privilege) memory va kind (c .tlb) ≡ record { tlb = c .tlb; answer = Address (onPage (hintAt (c .tlb .cache) (hintPlace va kind) .pa) va) }
       = λ i. record { tlb = sym (turn .1) i .tlb; answer = sym (turn .0) i } in
       let here = le-ltb (inPage va) n (leb-true n (inPage va) fits) in
-      rw (step, here, and-false (stage1On (bankNow c) (regimeOf (c .who .level))), eh)
+      rw (step, here, and-false (stage1On (bankNow c) (regimeOf (c .privilege .level))), eh)
 
   -- the pages of an access of a size
   module _ (size n : ℕ) (bytes : bytesOf size ≡ n) (hs : length (c .tlb .cache .hints) ≡ 512) (es : length (c .tlb .cache .entries) ≡ 1024) where
     abbrev next : ℕ
     next = secondIn (pageIn c va kind) va size
 
-    next-is : crosses (stage1On (bankNow c) (regimeOf (c .who .level))) va n ≡ true → next ≡ nextPage va
+    next-is : crosses (stage1On (bankNow c) (regimeOf (c .privilege .level))) va n ≡ true → next ≡ nextPage va
     unfolding secondOf
     next-is e = rw (bytes, e)
 
@@ -80,5 +80,5 @@ module _ (c : Core) (memory : ℕ → Word) (va : ℕ) (kind : Kind) where
     work = bothOf (pageIn c va kind) (pageIn c next kind) va n kind memory
 
     pub sized-is : (last abort : ℕ) → (work .placed ≡ locatedNow c memory va n kind .placed)
-        × (keptIn (commitIn (commitIn c (work .first)) (work .second)) last abort ≡ movedTo c (locatedNow c memory va n kind .tlb) last abort)
+        × (keptIn (commitIn (commitIn c (work .first)) (work .second)) last abort ≡ afterAccess c (locatedNow c memory va n kind .tlb) last abort)
     sized-is = pair-is c kind hs es memory va n next next-is

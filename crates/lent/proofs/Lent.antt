@@ -32,22 +32,22 @@ use Rattle.tlb.specs.declared.access.Kind.{Kind}
 use Rattle.mmu.proofs.core.Core as T
 use Rattle.tlb.proofs.access.Kind as KI
 use Rattle.tlb.proofs.access.Kind.Laws as KI′
-use Rattle.lentparts.specs.Change.{hintedIn, pageIn, commitIn, keptIn}
-use Rattle.lentparts.specs.declared.change.Change.{Change}
-use Rattle.lentparts.specs.declared.change.Hinted.{Hinted}
-use Rattle.lentparts.specs.declared.change.Page.{Page}
-use Rattle.lentparts.proofs.Calling.{Gives, made}
-use Rattle.lentparts.proofs.Walking.{Asked, yields, lends}
-use Rattle.lentparts.proofs.change.Change as CH
-use Rattle.lentparts.proofs.change.Change.Laws as CH′
-use Rattle.lentparts.proofs.change.Hinted as HI
-use Rattle.lentparts.proofs.change.Hinted.Laws as HI′
-use Rattle.lentparts.proofs.change.Page as PA
-use Rattle.lentparts.proofs.change.Page.Laws as PA′
-use Rattle.lentparts.proofs.take_hint as take-hint
-use Rattle.lentparts.proofs.take_page as take-page
-use Rattle.lentparts.proofs.commit as commit
-use Rattle.lentparts.proofs.keep as keep
+use Rattle.lent_parts.specs.Parts.{hintedIn, pageIn, commitIn, keptIn}
+use Rattle.operations.specs.declared.change.Change.{Change}
+use Rattle.operations.specs.declared.change.Hinted.{Hinted}
+use Rattle.operations.specs.declared.change.Page.{Page}
+use Rattle.lent_parts.proofs.Calling.{Gives, made}
+use Rattle.lent_parts.proofs.Walking.{Asked, yields, lends}
+use Rattle.operations.proofs.change.Change as CH
+use Rattle.operations.proofs.change.Change.Laws as CH′
+use Rattle.operations.proofs.change.Hinted as HI
+use Rattle.operations.proofs.change.Hinted.Laws as HI′
+use Rattle.operations.proofs.change.Page as PA
+use Rattle.operations.proofs.change.Page.Laws as PA′
+use Rattle.lent_parts.proofs.take_hint as take-hint
+use Rattle.lent_parts.proofs.take_page as take-page
+use Rattle.lent_parts.proofs.commit as commit
+use Rattle.lent_parts.proofs.keep as keep
 
 -- their contracts
 module _ {M : Type 1} (𝓤 : URA M) (H : Heap 𝓤) (A : Atoms 𝓤) (at-mem : Memory → SProp 𝓤) (run : Routine → Fun 𝓤) where

@@ -1,7 +1,7 @@
 pub mod Promised
 pub mod Lent
 pub mod Moves
-pub mod Turns
+pub mod Translations
 pub mod Runs
 pub mod Fetches
 pub mod Pairs

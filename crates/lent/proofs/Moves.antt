@@ -21,7 +21,7 @@ use denote.Triple.Call.{calls-at}
 use denote.Triple.Entry.{alive, onEntry}
 use denote.Triple.Clauses.{Ended, Clauses, Lasts, lasts, atExit, closing}
 use denote.Triple.Spec.{tripleOf}
-use Rattle.lentparts.proofs.Calling.{Gives, Givess, owned-all, returned, at-val}
+use Rattle.lent_parts.proofs.Calling.{Gives, Givess, owned-all, returned, at-val}
 
 -- the parameters, of which P is the one at k and the others are made
 module _ {M : Type 1} (𝓤 : URA M) (H : Heap 𝓤) (A : Atoms 𝓤) where

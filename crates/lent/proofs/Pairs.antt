@@ -22,20 +22,21 @@ use Rattle.tlb.specs.declared.entry.Entry.{Entry}
 use Rattle.tlb.specs.declared.resolve.Asked.{Asked}
 use Rattle.tlb.specs.declared.resolve.Asked.the-variants.{Flat, Of}
 use Rattle.tlb.specs.declared.Tlb.{Tlb}
-use Rattle.mmu.specs.Core.{bankNow, movedTo}
+use Rattle.mmu.specs.Core.{bankNow, afterAccess}
 use Rattle.mmu.specs.Ops.{steppedNow, locatedNow, translateOf}
-use Rattle.mmu.specs.Place.{nextPage, crosses, goesOn, placedBoth}
+use Rattle.operations.specs.Place.{nextPage, crosses, goesOn, placedBoth}
 use Rattle.mmu.specs.Step.{translateIn, locatedOf, onePage, bothPages}
 use Rattle.mmu.specs.declared.core.Core.{Core}
 use Rattle.mmu.specs.declared.step.Located.{Located}
 use Rattle.mmu.specs.declared.step.Stepped.{Stepped}
-use Rattle.lentparts.specs.Access.{moreOf, oneTurn, twoTurns, bothOf}
-use Rattle.lentparts.specs.Change.{keptAs, entryPlace, lookupIn, pageIn, turnedOf, unchanged, hintLeft, entryLeft, pageAfter, missBy, turnBy, coreWith, keptIn, commitIn}
-use Rattle.lentparts.specs.Plan.{hintPlace, hintServes}
-use Rattle.lentparts.specs.declared.access.Both.{Both}
-use Rattle.lentparts.specs.declared.change.Change.{Change}
-use Rattle.lentparts.specs.declared.change.Turn.{Turn}
-use Rattle.lent.proofs.Turns.{none-changed, turn-right}
+use Rattle.operations.specs.Loads.{moreOf, oneTranslation, twoTranslations, bothOf}
+use Rattle.operations.specs.Change.{keptAs, entryPlace, answeredOf, unchanged, hintLeft, entryLeft, pageAfter, missBy, turnBy}
+use Rattle.lent_parts.specs.Parts.{lookupIn, pageIn, coreWith, keptIn, commitIn}
+use Rattle.operations.specs.Hinted.{hintPlace, hintServes}
+use Rattle.operations.specs.declared.loads.Both.{Both}
+use Rattle.operations.specs.declared.change.Change.{Change}
+use Rattle.operations.specs.declared.change.Answered.{Answered}
+use Rattle.lent.proofs.Translations.{none-changed, turn-right}
 
 -- an element of a list with another set
 get-set : {A : Type 0} (xs : List A) (i j : ℕ) (x d : A) → i < length xs → getD (set xs i x) j d ≡ pick (eqb j i) x (getD xs j d)
@@ -65,7 +66,7 @@ entry-small (Of q) = omega arith
 abbrev At : Change → ℕ → ℕ → Type 0
 At t i j = (t .«hint_at» ≡ i) × (t .«entry_at» ≡ j)
 
-picked : (b : Bool) (x y : Turn) (i j : ℕ) → At (x .change) i j → At (y .change) i j → At (pick b x y .change) i j
+picked : (b : Bool) (x y : Answered) (i j : ℕ) → At (x .change) i j → At (y .change) i j → At (pick b x y .change) i j
 picked true x y i j p q = p
 picked false x y i j p q = q
 
@@ -85,25 +86,25 @@ module _ (c : Core) (kind : Kind) (hs : length (c .tlb .cache .hints) ≡ 512) (
       = rw ei (set-if (t .hints) (c .tlb .cache .hints) (t .«hint_at») (hintPlace a kind) (t .hint) noHint (rw hs li)) in
       let entry : entryAt (commitIn c t .tlb .cache) (lookupIn c a kind .entry) ≡ entryLeft t (lookupIn c a kind) (entryAt (c .tlb .cache) (lookupIn c a kind .entry))
       = rw (ej, kept-pick (t .effect) old (t .made)) (set-if (eqb (t .effect) 3) (c .tlb .cache .entries) (t .«entry_at») (lookupIn c a kind .entry) (t .made) blank (rw es lj)) in
-      λ n. record { lookup = lookupIn c a kind; present = c .tlb .cache .present; hint = hint n; entry = entry n }
+      λ n. record { lookup = lookupIn c a kind; current = c .tlb .cache .current; hint = hint n; entry = entry n }
 
-  module _ (memory : ℕ → Word) (va n next : ℕ) (en : crosses (stage1On (bankNow c) (regimeOf (c .who .level))) va n ≡ true → next ≡ nextPage va) where
+  module _ (memory : ℕ → Word) (va n next : ℕ) (en : crosses (stage1On (bankNow c) (regimeOf (c .privilege .level))) va n ≡ true → next ≡ nextPage va) where
     -- the first page's translation, and the core that it leaves
-    abbrev first : Turn
-    first = turnedOf (pageIn c va kind) va kind memory
+    abbrev first : Answered
+    first = answeredOf (pageIn c va kind) va kind memory
 
     abbrev c₁ : Core
     c₁ = commitIn c (first .change)
 
     abbrev step : Stepped
-    step = translateIn (bankNow c) (c .who) memory va kind (c .tlb)
+    step = translateIn (bankNow c) (c .privilege) memory va kind (c .tlb)
 
-    first-at : At (first .change) (hintPlace va kind) (entryPlace (askOf (bankNow c) (c .who) va))
-    unfolding turnedOf
-    first-at = picked (hintServes (hintAt (c .tlb .cache) (hintPlace va kind)) (c .who) va kind)
+    first-at : At (first .change) (hintPlace va kind) (entryPlace (askOf (bankNow c) (c .privilege) va))
+    unfolding answeredOf
+    first-at = picked (hintServes (hintAt (c .tlb .cache) (hintPlace va kind)) (c .privilege) va kind)
         (record { change = unchanged (lookupIn c va kind); answer = Address (onPage (hintAt (c .tlb .cache) (hintPlace va kind) .pa) va) })
-        (turnBy (lookupIn c va kind) (missBy (lookupIn c va kind .asked) (bankNow c) (c .who) (c .tlb .cache .present) (pageIn c va kind .entry) va kind memory) va kind)
-        (hintPlace va kind) (entryPlace (askOf (bankNow c) (c .who) va)) (refl, refl) (refl, refl)
+        (turnBy (lookupIn c va kind) (missBy (lookupIn c va kind .asked) (bankNow c) (c .privilege) (c .tlb .cache .current) (pageIn c va kind .entry) va kind memory) va kind)
+        (hintPlace va kind) (entryPlace (askOf (bankNow c) (c .privilege) va)) (refl, refl) (refl, refl)
 
     -- what it leaves is what the operation's first translation leaves
     answer-is : first .answer ≡ step .answer
@@ -111,26 +112,26 @@ module _ (c : Core) (kind : Kind) (hs : length (c .tlb .cache .hints) ≡ 512) (
     answer-is = turn-right c memory va kind .0
 
     tlb-is : c₁ .tlb ≡ step .tlb
-    unfolding translateOf steppedNow movedTo
+    unfolding translateOf steppedNow afterAccess
     tlb-is = ap (λ (d : Core). d .tlb) (turn-right c memory va kind .1)
 
     -- the second page's
-    abbrev second : Turn
-    second = turnedOf (pageIn c₁ (nextPage va) kind) (nextPage va) kind memory
+    abbrev second : Answered
+    second = answeredOf (pageIn c₁ (nextPage va) kind) (nextPage va) kind memory
 
     abbrev step₂ : Tlb → Stepped
-    step₂ t = translateIn (bankNow c) (c .who) memory (nextPage va) kind t
+    step₂ t = translateIn (bankNow c) (c .privilege) memory (nextPage va) kind t
 
     answer-two : second .answer ≡ step₂ (step .tlb) .answer
     unfolding translateOf steppedNow
     answer-two = turn-right c₁ memory (nextPage va) kind .0 ∙ ap (λ (t : Tlb). step₂ t .answer) tlb-is
 
     tlb-two : commitIn c₁ (second .change) .tlb ≡ step₂ (step .tlb) .tlb
-    unfolding translateOf steppedNow movedTo
+    unfolding translateOf steppedNow afterAccess
     tlb-two = ap (λ (d : Core). d .tlb) (turn-right c₁ memory (nextPage va) kind .1) ∙ ap (λ (t : Tlb). step₂ t .tlb) tlb-is
 
     abbrev more : Bool
-    more = moreOf (bankNow c) (c .who .level) (first .answer) va n
+    more = moreOf (bankNow c) (c .privilege .level) (first .answer) va n
 
     abbrev work : Both
     work = bothOf (pageIn c va kind) (pageIn c next kind) va n kind memory
@@ -145,28 +146,28 @@ module _ (c : Core) (kind : Kind) (hs : length (c .tlb .cache .hints) ≡ 512) (
     unfolding locatedNow locatedOf
     located-is m e = rw (← answer-is, e)
 
-    one-page : more ≡ false → Right (oneTurn first (pageIn c next kind) va)
+    one-page : more ≡ false → Right (oneTranslation first (pageIn c next kind) va)
     one-page m = rw (located-is false m, ← answer-is) (refl, ap (λ (d : Core). d .tlb) (none-changed c₁ (lookupIn c next kind)) ∙ tlb-is)
 
     -- the page that was read before is the page after the first change
     page-is : next ≡ nextPage va → pageAfter (first .change) (pageIn c next kind) ≡ pageIn c₁ (nextPage va) kind
     page-is e =
-        let small : (first .change .«hint_at» < 512) × (first .change .«entry_at» < 1024) = rw (first-at .0, first-at .1) (omega arith, entry-small (askOf (bankNow c) (c .who) va)) in
+        let small : (first .change .«hint_at» < 512) × (first .change .«entry_at» < 1024) = rw (first-at .0, first-at .1) (omega arith, entry-small (askOf (bankNow c) (c .privilege) va)) in
         ap (λ (a : ℕ). pageAfter (first .change) (pageIn c a kind)) e ∙ sym (page-after (first .change) (nextPage va) (small .0) (small .1))
 
-    two-pages : more ≡ true → Right (twoTurns first (pageIn c next kind) va kind memory)
-    unfolding twoTurns
+    two-pages : more ≡ true → Right (twoTranslations first (pageIn c next kind) va kind memory)
+    unfolding twoTranslations
     two-pages m = rw (located-is true m, page-is (en (split-of (first .answer) _ m))) ((λ x. placedBoth va (answer-is x) (answer-two x)), tlb-two)
 
     right : Right work
     unfolding bothOf
     right = go more refl
       where
-        go : (m : Bool) → more ≡ m → Right (pick m (twoTurns first (pageIn c next kind) va kind memory) (oneTurn first (pageIn c next kind) va))
+        go : (m : Bool) → more ≡ m → Right (pick m (twoTranslations first (pageIn c next kind) va kind memory) (oneTranslation first (pageIn c next kind) va))
         go true m = two-pages m
         go false m = one-page m
 
     -- with any addresses kept
-    pub pair-is : (last abort : ℕ) → (work .placed ≡ located .placed) × (keptIn (commitIn (commitIn c (work .first)) (work .second)) last abort ≡ movedTo c (located .tlb) last abort)
-    unfolding movedTo
+    pub pair-is : (last abort : ℕ) → (work .placed ≡ located .placed) × (keptIn (commitIn (commitIn c (work .first)) (work .second)) last abort ≡ afterAccess c (located .tlb) last abort)
+    unfolding afterAccess
     pair-is last abort = (right .0, ap (λ (t : Tlb). coreWith c t last abort) (right .1))

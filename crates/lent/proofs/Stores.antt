@@ -15,28 +15,28 @@ use Rattle.tlb.specs.Cache.{hintAt}
 use Rattle.tlb.specs.Hint.{onPage}
 use Rattle.tlb.specs.declared.access.Kind.the-variants.{Write}
 use Rattle.tlb.specs.declared.hint.Hint.{Hint}
-use Rattle.mmu.specs.Bytes.{storeRam}
-use Rattle.mmu.specs.Core.{movedTo}
-use Rattle.mmu.specs.Ends.{storeEnd, storeRamEnd}
+use Rattle.operations.specs.Bytes.{storeRam}
+use Rattle.mmu.specs.Core.{afterAccess}
+use Rattle.operations.specs.Ends.{storeEnd, storeRamEnd}
 use Rattle.mmu.specs.Ops.{locatedNow, writeOf, ramAfterWrite}
-use Rattle.mmu.specs.Place.{inPage, verdictOf as judged}
+use Rattle.operations.specs.Place.{inPage, verdictOf as judged}
 use Rattle.mmu.specs.declared.core.Core.{Core}
-use Rattle.mmu.specs.declared.place.Place.the-variants.{Whole}
-use Rattle.cpu.specs.Check.{isWidth, known, passes, sizedRows, firstOf, missedOf}
+use Rattle.operations.specs.declared.place.Place.the-variants.{Whole}
+use Rattle.operations.specs.Check.{isWidth, known, passes, sizedRows, firstOf, missedOf}
 use Rattle.cpu.specs.Step.{runOf, ramOf, stepOf, ramAfter, storeBy, storeRamBy, ends, refusedOr}
-use Rattle.cpu.specs.declared.call.Call.{Call}
-use Rattle.cpu.specs.declared.call.Call.the-variants as Call
-use Rattle.cpu.specs.declared.call.Reply.{Reply}
-use Rattle.cpu.specs.declared.call.Reply.the-variants.{Refused, Done}
-use Rattle.cpu.specs.declared.call.Stepped.{Stepped}
-use Rattle.lentparts.specs.Access.{bytesBy, secondIn, hitIn}
-use Rattle.lentparts.specs.Change.{hintedIn, lookupIn, pageIn, commitIn, keptIn}
-use Rattle.lentparts.specs.Plan.{hintPlace, hintServes}
-use Rattle.lentparts.specs.Writes.{storeQuickBy, storeQuick, nowReplyBy, nowReply, nowRamBy, nowRam, sizedRam, storeAfter, storedBy, storedOf, storedRamBy, storedRam}
-use Rattle.lentparts.specs.declared.access.Access.{Access}
-use Rattle.lentparts.specs.declared.change.Hinted.{Hinted}
-use Rattle.lentparts.specs.declared.change.Page.{Page}
-use Rattle.lentparts.specs.declared.writes.QuickStore.{QuickStore}
+use Rattle.operations.specs.declared.call.Call.{Call}
+use Rattle.operations.specs.declared.call.Call.the-variants as Call
+use Rattle.operations.specs.declared.call.Reply.{Reply}
+use Rattle.operations.specs.declared.call.Reply.the-variants.{Refused, Done}
+use Rattle.cpu.specs.declared.run.Stepped.{Stepped}
+use Rattle.operations.specs.Loads.{bytesBy, secondIn, hitIn}
+use Rattle.lent_parts.specs.Parts.{hintedIn, lookupIn, pageIn, commitIn, keptIn}
+use Rattle.operations.specs.Hinted.{hintPlace, hintServes}
+use Rattle.operations.specs.Stores.{fastStoreBy, fastStore, nowReplyBy, nowReply, nowRamBy, nowRam, sizedRam, storeAfter, storedBy, storedOf, storedRamBy, storedRam}
+use Rattle.operations.specs.declared.loads.Access.{Access}
+use Rattle.operations.specs.declared.change.Hinted.{Hinted}
+use Rattle.operations.specs.declared.change.Page.{Page}
+use Rattle.operations.specs.declared.stores.FastStore.{FastStore}
 use Rattle.lent.proofs.Hits.{size-is, hint-located, sized-is}
 use Rattle.lent.proofs.Loads.{left, none-left}
 
@@ -101,67 +101,67 @@ module _ (c : Core) (base : ℕ) (ram : List ℕ) (va size value : ℕ) where
   run = runOf c base ram call
 
   -- a hint that serves in its page, the bytes in RAM
-  by-hint : (h : Hint) (w : Width) → h ≡ hintAt (c .tlb .cache) (hintPlace va Write) → hintServes h (c .who) va Write ≡ true → leb size (inPage va) ≡ true
+  by-hint : (h : Hint) (w : Width) → h ≡ hintAt (c .tlb .cache) (hintPlace va Write) → hintServes h (c .privilege) va Write ≡ true → leb size (inPage va) ≡ true
       → within base (length ram) size (onPage (h .pa) va) ≡ true → widthOf size ≡ Bytes w
       → (Done ≡ run .reply) × (c ≡ run .core) × (storeRam base ram (Whole (onPage (h .pa) va)) (bytesIn w) value ≡ ramOf c base ram call)
-  unfolding runOf ramOf writeOf ramAfterWrite storeEnd storeRamEnd judged movedTo
+  unfolding runOf ramOf writeOf ramAfterWrite storeEnd storeRamEnd judged afterAccess
   by-hint h w eh served here inside ew =
       let at : locatedNow c (wordAt base ram 8) va (bytesIn w) Write ≡ _ = hint-located c (wordAt base ram 8) va Write h eh served (bytesIn w) (rw (size-is size w ew) here) in
       let fits : within base (length ram) (bytesIn w) (onPage (h .pa) va) ≡ true = rw (size-is size w ew) inside in
       rw (ew, at, fits) (refl, refl, refl)
 
-  sized-ends : (h : Hint) → h ≡ hintAt (c .tlb .cache) (hintPlace va Write) → (hitIn h (c .who) va size Write && within base (length ram) size (onPage (h .pa) va)) ≡ true
+  sized-ends : (h : Hint) → h ≡ hintAt (c .tlb .cache) (hintPlace va Write) → (hitIn h (c .privilege) va size Write && within base (length ram) size (onPage (h .pa) va)) ≡ true
       → (z : Sized) → widthOf size ≡ z → isWidth z ≡ true
       → (Done ≡ run .reply) × (c ≡ run .core) × (sizedRam z (onPage (h .pa) va) base ram value ≡ ramOf c base ram call)
   sized-ends h eh e NoWidth ez k = absurd (subst Holds (sym k) tt)
   sized-ends h eh e (Bytes w) ez k =
-      let one = and-both (hitIn h (c .who) va size Write) (within base (length ram) size (onPage (h .pa) va)) e in
-      let two = and-both (hintServes h (c .who) va Write) (leb size (inPage va)) (one .0) in
+      let one = and-both (hitIn h (c .privilege) va size Write) (within base (length ram) size (onPage (h .pa) va)) e in
+      let two = and-both (hintServes h (c .privilege) va Write) (leb size (inPage va)) (one .0) in
       by-hint h w eh (two .0) (two .1) (one .1) ez
 
   -- the checks and the hint, by the number of the first check missed
-  ends-by : (n : ℕ) (fits : Bool) (h : Hint) → h ≡ hintAt (c .tlb .cache) (hintPlace va Write) → firstOf (sizedRows (c .who .level) base (length ram) size) ≡ n
-      → (hitIn h (c .who) va size Write && within base (length ram) size (onPage (h .pa) va)) ≡ fits → Holds (storeQuickBy n fits (onPage (h .pa) va) .ends)
-      → (nowReplyBy (storeQuickBy n fits (onPage (h .pa) va) .refused) ≡ refusedOr n (λ k. ends c (Refused k)) run .reply)
+  ends-by : (n : ℕ) (fits : Bool) (h : Hint) → h ≡ hintAt (c .tlb .cache) (hintPlace va Write) → firstOf (sizedRows (c .privilege .level) base (length ram) size) ≡ n
+      → (hitIn h (c .privilege) va size Write && within base (length ram) size (onPage (h .pa) va)) ≡ fits → Holds (fastStoreBy n fits (onPage (h .pa) va) .ends)
+      → (nowReplyBy (fastStoreBy n fits (onPage (h .pa) va) .refused) ≡ refusedOr n (λ k. ends c (Refused k)) run .reply)
       × (c ≡ refusedOr n (λ k. ends c (Refused k)) run .core)
-      × (nowRamBy (storeQuickBy n fits (onPage (h .pa) va) .refused) ram (sizedRam (widthOf size) (storeQuickBy n fits (onPage (h .pa) va) .pa) base ram value)
+      × (nowRamBy (fastStoreBy n fits (onPage (h .pa) va) .refused) ram (sizedRam (widthOf size) (fastStoreBy n fits (onPage (h .pa) va) .pa) base ram value)
       ≡ refusedOr n (λ k. ram) (ramOf c base ram call))
-  ends-by zero fits h eh en ef t = sized-ends h eh (ef ∙ holds-true fits t) (widthOf size) refl (known-of (c .who .level) base (length ram) size en)
+  ends-by zero fits h eh en ef t = sized-ends h eh (ef ∙ holds-true fits t) (widthOf size) refl (known-of (c .privilege .level) base (length ram) size en)
   ends-by (suc n) fits h eh en ef t = (refl, refl, refl)
 
-  goes-by : (n : ℕ) (fits : Bool) (pa : ℕ) → Holds (not (storeQuickBy n fits pa .ends))
+  goes-by : (n : ℕ) (fits : Bool) (pa : ℕ) → Holds (not (fastStoreBy n fits pa .ends))
       → (run ≡ refusedOr n (λ k. ends c (Refused k)) run) × (ramOf c base ram call ≡ refusedOr n (λ k. ram) (ramOf c base ram call))
   goes-by zero fits pa t = (refl, refl)
   goes-by (suc n) fits pa t = absurd t
 
-  abbrev quick : QuickStore
-  quick = storeQuick (c .who) (hintAt (c .tlb .cache) (hintPlace va Write)) base (length ram) va size
+  abbrev quick : FastStore
+  quick = fastStore (c .privilege) (hintAt (c .tlb .cache) (hintPlace va Write)) base (length ram) va size
 
   abbrev Step : Reply → Core → List ℕ → Type 0
   Step r d ys = (r ≡ stepOf c base ram call .reply) × (d ≡ stepOf c base ram call .core) × (ys ≡ ramAfter c base ram call)
 
-  pub store-ended-is : (g : Hinted) (c₁ : Core) (q : QuickStore) (r : Reply) (ys : List ℕ) → (g ≡ hintedIn c va Write) × (c₁ ≡ c) → q ≡ storeQuick (g .who) (g .hint) base (length ram) va size
+  pub store-ended-is : (g : Hinted) (c₁ : Core) (q : FastStore) (r : Reply) (ys : List ℕ) → (g ≡ hintedIn c va Write) × (c₁ ≡ c) → q ≡ fastStore (g .privilege) (g .hint) base (length ram) va size
       → Holds (q .ends) → (r ≡ nowReply q) × (ys ≡ nowRam q base ram size value) → Step r c₁ ys
-  unfolding storeQuick stepOf ramAfter missedOf nowRam
+  unfolding fastStore stepOf ramAfter missedOf nowRam
   store-ended-is g c₁ q r ys eg eq t (er, ey) =
       let is : q ≡ quick = eq ∙ rw (eg .0) in
       let h = hintAt (c .tlb .cache) (hintPlace va Write) in
-      let right = ends-by (firstOf (sizedRows (c .who .level) base (length ram) size)) (hitIn h (c .who) va size Write && within base (length ram) size (onPage (h .pa) va)) h
-      refl refl refl (subst (λ (x : QuickStore). Holds (x .ends)) is t) in
-      (er ∙ ap (λ (x : QuickStore). nowReply x) is ∙ right .0, eg .1 ∙ right .1, ey ∙ ap (λ (x : QuickStore). nowRam x base ram size value) is ∙ right .2)
+      let right = ends-by (firstOf (sizedRows (c .privilege .level) base (length ram) size)) (hitIn h (c .privilege) va size Write && within base (length ram) size (onPage (h .pa) va)) h
+      refl refl refl (subst (λ (x : FastStore). Holds (x .ends)) is t) in
+      (er ∙ ap (λ (x : FastStore). nowReply x) is ∙ right .0, eg .1 ∙ right .1, ey ∙ ap (λ (x : FastStore). nowRam x base ram size value) is ∙ right .2)
 
-  pub store-committed-is : (g : Hinted) (c₁ : Core) (q : QuickStore) (x : Page) (c₂ : Core) (next : ℕ) (y : Page) (c₃ : Core) (s : Access) (ys : List ℕ) (c₄ c₅ c₆ : Core) → (g ≡ hintedIn c va Write) × (c₁ ≡ c)
-      → q ≡ storeQuick (g .who) (g .hint) base (length ram) va size → Holds (not (q .ends))
+  pub store-committed-is : (g : Hinted) (c₁ : Core) (q : FastStore) (x : Page) (c₂ : Core) (next : ℕ) (y : Page) (c₃ : Core) (s : Access) (ys : List ℕ) (c₄ c₅ c₆ : Core) → (g ≡ hintedIn c va Write) × (c₁ ≡ c)
+      → q ≡ fastStore (g .privilege) (g .hint) base (length ram) va size → Holds (not (q .ends))
       → (x ≡ pageIn c₁ va Write) × (c₂ ≡ c₁) × (length (c₁ .tlb .cache .hints) ≡ 512) × (length (c₁ .tlb .cache .entries) ≡ 1024) → next ≡ secondIn x va size
       → (y ≡ pageIn c₂ next Write) × (c₃ ≡ c₂) × (length (c₂ .tlb .cache .hints) ≡ 512) × (length (c₂ .tlb .cache .entries) ≡ 1024)
       → (s ≡ storedOf g x y va size base ram) × (ys ≡ storedRam x y va size value base ram)
       → c₄ ≡ commitIn c₃ (s .first) → c₅ ≡ commitIn c₄ (s .second) → c₆ ≡ keptIn c₅ (s .«last_pa») (s .«abort_pa») → Step (s .reply) c₆ ys
-  unfolding storeQuick stepOf ramAfter missedOf
+  unfolding fastStore stepOf ramAfter missedOf
   store-committed-is g c₁ q x c₂ next y c₃ s ys c₄ c₅ c₆ eg eq t ex en ey es e₄ e₅ e₆ =
       let is : q ≡ quick = eq ∙ rw (eg .0) in
       let h = hintAt (c .tlb .cache) (hintPlace va Write) in
-      let same = goes-by (firstOf (sizedRows (c .who .level) base (length ram) size)) (hitIn h (c .who) va size Write && within base (length ram) size (onPage (h .pa) va)) (onPage (h .pa) va)
-      (subst (λ (x : QuickStore). Holds (not (x .ends))) is t) in
+      let same = goes-by (firstOf (sizedRows (c .privilege .level) base (length ram) size)) (hitIn h (c .privilege) va size Write && within base (length ram) size (onPage (h .pa) va)) (onPage (h .pa) va)
+      (subst (λ (x : FastStore). Holds (not (x .ends))) is t) in
       let hs : length (c .tlb .cache .hints) ≡ 512 = rw (eg .1) at (ex .2) in
       let ls : length (c .tlb .cache .entries) ≡ 1024 = rw (eg .1) at (ex .3) in
       let work : s ≡ storedOf (hintedIn c va Write) x₀ y₀ va size base ram = es .0 ∙ rw (ey .0, en, ex .0, ex .1, eg .1, eg .0) in (

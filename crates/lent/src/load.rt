@@ -1,11 +1,11 @@
 // A load on a lent core.
 ghost use mathlib.Core.Path.{_≡_};
 ghost use Rattle.cpu.specs.Step.{stepOf, ends};
-ghost use Rattle.cpu.specs.declared.call.Call.the-variants as Call;
-ghost use Rattle.demand3.specs.Faithful.{FaithfulCall};
-use cpu::call::Reply;
-use lentparts::access;
+ghost use Rattle.operations.specs.declared.call.Call.the-variants as Call;
+ghost use Rattle.transparency.specs.Faithful.{FaithfulCall};
 use mmu::core::Core;
+use operations::call::Reply;
+use operations::loads;
 use tlb::access::Kind;
 
 // The checks and the hint first, which change the address kept alone; else the load.
@@ -15,18 +15,18 @@ pub fn load(core: &mut Core, base: u64, ram: &[u8], va: u64, size: u64) -> Reply
         × FaithfulCall (now (core .entry)) base (now (ram .entry)) (Call.Load va size)
         (ends (now (core .exit)) r) (now (ram .entry)) ⌝ }
 {
-    let g = lentparts::take_hint(core, va, Kind::Read);
-    let q = access::load_at_once(g, base, ram, va, size);
+    let g = lent_parts::take_hint(core, va, Kind::Read);
+    let q = loads::load_at_once(g, base, ram, va, size);
     if q.ends {
-        lentparts::keep(core, q.last_pa, g.abort_pa);
+        lent_parts::keep(core, q.last_pa, g.abort_pa);
         return q.reply;
     }
-    let x = lentparts::take_page(core, va, Kind::Read);
-    let next = access::second_of(x, va, size);
-    let y = lentparts::take_page(core, next, Kind::Read);
-    let t = access::loaded(g, x, y, va, size, base, ram);
-    lentparts::commit(core, t.first);
-    lentparts::commit(core, t.second);
-    lentparts::keep(core, t.last_pa, t.abort_pa);
+    let x = lent_parts::take_page(core, va, Kind::Read);
+    let next = loads::second_of(x, va, size);
+    let y = lent_parts::take_page(core, next, Kind::Read);
+    let t = loads::loaded(g, x, y, va, size, base, ram);
+    lent_parts::commit(core, t.first);
+    lent_parts::commit(core, t.second);
+    lent_parts::keep(core, t.last_pa, t.abort_pa);
     t.reply
 }

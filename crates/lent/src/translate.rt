@@ -1,12 +1,12 @@
 // A translation on a lent core.
 ghost use mathlib.Core.Path.{_≡_};
 ghost use Rattle.cpu.specs.Step.{stepOf, ends};
-ghost use Rattle.cpu.specs.declared.call.Call.the-variants as Call;
-ghost use Rattle.demand3.specs.Faithful.{FaithfulCall};
-use cpu::call::Reply;
-use lentparts::change;
-use lentparts::plan;
+ghost use Rattle.operations.specs.declared.call.Call.the-variants as Call;
+ghost use Rattle.transparency.specs.Faithful.{FaithfulCall};
 use mmu::core::Core;
+use operations::call::Reply;
+use operations::change;
+use operations::hinted;
 use tlb::access::Kind;
 
 // The checks and the hint first, which change nothing; else the translation.
@@ -16,13 +16,13 @@ pub fn translate(core: &mut Core, base: u64, ram: &[u8], va: u64, kind: Kind) ->
         × FaithfulCall (now (core .entry)) base (now (ram .entry)) (Call.Translate kind va)
         (ends (now (core .exit)) r) (now (ram .entry)) ⌝ }
 {
-    let g = lentparts::take_hint(core, va, kind);
-    let q = plan::at_once(g, base, ram, va, kind);
+    let g = lent_parts::take_hint(core, va, kind);
+    let q = hinted::at_once(g, base, ram, va, kind);
     if q.ends {
         return q.reply;
     }
-    let x = lentparts::take_page(core, va, kind);
+    let x = lent_parts::take_page(core, va, kind);
     let t = change::translate(x, va, kind, base, ram);
-    lentparts::commit(core, t.change);
+    lent_parts::commit(core, t.change);
     t.reply
 }

@@ -1,6 +1,3 @@
-pub mod Places
-pub mod Moves
-pub mod Answers
 pub mod Steps
 pub mod Shells
-pub mod Both
+pub mod Regs

@@ -14,22 +14,22 @@ use Rattle.tlb.specs.Tlb.{fresh}
 use Rattle.tlb.specs.declared.access.Kind.{Kind}
 use Rattle.tlb.specs.declared.access.Kind.the-variants.{Read, Write}
 use Rattle.tlb.specs.declared.Tlb.{Tlb}
-use Rattle.entry.specs.Pstate.{freshFlags}
-use Rattle.entry.specs.declared.flags.Flags.{Flags}
-use Rattle.mmu.specs.Core.{zeros, freshCore, regSet, setReg, movedTo, bankNow}
-use Rattle.mmu.specs.BytesLaws.{store-length}
-use Rattle.mmu.specs.Ends.{loadEnd, storeEnd, storeRamEnd, fetchEnd, reachedBy}
+use Rattle.exception.specs.Pstate.{freshFlags}
+use Rattle.exception.specs.declared.flags.Flags.{Flags}
+use Rattle.mmu.specs.Core.{zeros, freshCore, regSet, setReg, afterAccess, bankNow}
+use Rattle.operations.specs.BytesLaws.{store-length}
+use Rattle.operations.specs.Ends.{loadEnd, storeEnd, storeRamEnd, fetchEnd, reachedBy}
 use Rattle.mmu.specs.Step.{translateIn, translateFetchIn, locatedOf}
 use Rattle.mmu.specs.Ops.{steppedNow, fetchSteppedNow, locatedNow, translateOf, translateAccessOf, readOf, writeOf, ramAfterWrite, fetchOf, fetchPaOf, dataPaOf}
 use Rattle.mmu.specs.declared.core.Core.{Core}
-use Rattle.mmu.specs.declared.place.Placed.{Placed}
-use Rattle.mmu.specs.declared.place.Placed.the-variants.{At, Fault}
+use Rattle.operations.specs.declared.place.Placed.{Placed}
+use Rattle.operations.specs.declared.place.Placed.the-variants.{At, Fault}
 use Rattle.mmu.specs.declared.step.Stepped.{Stepped}
 use Rattle.mmu.specs.declared.step.Located.{Located}
-use Rattle.mmu.specs.declared.ends.Reached.{Reached}
-use Rattle.mmu.specs.declared.ends.LoadEnd.{LoadEnd}
-use Rattle.mmu.specs.declared.ends.StoreEnd.{StoreEnd}
-use Rattle.mmu.specs.declared.ends.FetchEnd.{FetchEnd}
+use Rattle.operations.specs.declared.ends.Reached.{Reached}
+use Rattle.operations.specs.declared.ends.LoadEnd.{LoadEnd}
+use Rattle.operations.specs.declared.ends.StoreEnd.{StoreEnd}
+use Rattle.operations.specs.declared.ends.FetchEnd.{FetchEnd}
 use Rattle.mmu.specs.declared.ops.Translated.{Translated}
 use Rattle.mmu.specs.declared.ops.Accessed.{Accessed}
 use Rattle.mmu.specs.declared.ops.Loaded.{Loaded}
@@ -41,7 +41,7 @@ pub fresh-is : (f : Flags) (x : List ℕ) (k : Control) (s : SysRegs) (t : Tlb) 
     → t ≡ fresh
     → _≡_ {A = Core}
     (record {
-      who = record { level = 3; mark = false };
+      privilege = record { level = 3; unprivileged = false };
       flags = f;
       pc = 0;
       x = x;
@@ -56,7 +56,7 @@ unfolding freshCore
 fresh-is f x k s t a b c d e =
     λ i.
     record {
-      who = record { level = 3; mark = false };
+      privilege = record { level = 3; unprivileged = false };
       flags = a i;
       pc = 0;
       x = b i;
@@ -70,7 +70,7 @@ fresh-is f x k s t a b c d e =
 pub set-is : (c : Core) (n v : ℕ) (x : List ℕ) → x ≡ regSet (c .x) n v
     → _≡_ {A = Core}
     (record {
-      who = c .who;
+      privilege = c .privilege;
       flags = c .flags;
       pc = c .pc;
       x = x;
@@ -85,20 +85,20 @@ unfolding setReg
 set-is c n v x e = rw e
 
 module _ (c : Core) (memory : ℕ → Word) (va : ℕ) (s : Bank) (es : s ≡ bankNow c) where
-  pub stepped-is : (kind : Kind) (r : Stepped) → r ≡ translateIn s (c .who) memory va kind (c .tlb) → r ≡ steppedNow c memory va kind
+  pub stepped-is : (kind : Kind) (r : Stepped) → r ≡ translateIn s (c .privilege) memory va kind (c .tlb) → r ≡ steppedNow c memory va kind
   unfolding steppedNow
-  stepped-is kind r er = er ∙ ap (λ (b : Bank). translateIn b (c .who) memory va kind (c .tlb)) es
+  stepped-is kind r er = er ∙ ap (λ (b : Bank). translateIn b (c .privilege) memory va kind (c .tlb)) es
 
-  pub fetch-stepped-is : (r : Stepped) → r ≡ translateFetchIn s (c .who) memory va (c .tlb) → r ≡ fetchSteppedNow c memory va
+  pub fetch-stepped-is : (r : Stepped) → r ≡ translateFetchIn s (c .privilege) memory va (c .tlb) → r ≡ fetchSteppedNow c memory va
   unfolding fetchSteppedNow
-  fetch-stepped-is r er = er ∙ ap (λ (b : Bank). translateFetchIn b (c .who) memory va (c .tlb)) es
+  fetch-stepped-is r er = er ∙ ap (λ (b : Bank). translateFetchIn b (c .privilege) memory va (c .tlb)) es
 
-  pub located-is : (n : ℕ) (kind : Kind) (r : Located) → r ≡ locatedOf s (c .who) memory va n kind (c .tlb) → r ≡ locatedNow c memory va n kind
+  pub located-is : (n : ℕ) (kind : Kind) (r : Located) → r ≡ locatedOf s (c .privilege) memory va n kind (c .tlb) → r ≡ locatedNow c memory va n kind
   unfolding locatedNow
-  located-is n kind r er = er ∙ ap (λ (b : Bank). locatedOf b (c .who) memory va n kind (c .tlb)) es
+  located-is n kind r er = er ∙ ap (λ (b : Bank). locatedOf b (c .privilege) memory va n kind (c .tlb)) es
 
 module _ (c : Core) (memory : ℕ → Word) (va : ℕ) (d : Core) where
-  module _ (a : Stepped) (ed : d ≡ movedTo c (a .tlb) (c .«last_pa») (c .«abort_pa»)) where
+  module _ (a : Stepped) (ed : d ≡ afterAccess c (a .tlb) (c .«last_pa») (c .«abort_pa»)) where
     pub translate-is : (kind : Kind) → a ≡ steppedNow c memory va kind
         → _≡_ {A = Translated} (record { core = d; answer = a .answer }) (translateOf c memory va kind)
     unfolding translateOf
@@ -115,7 +115,7 @@ module _ (c : Core) (memory : ℕ → Word) (va : ℕ) (d : Core) where
     data-pa-is r ea er = rw (← ea, ← ed, ← er)
 
   pub access-is : (n : ℕ) (kind : Kind) (a : Located) → a ≡ locatedNow c memory va n kind
-      → d ≡ movedTo c (a .tlb) (c .«last_pa») (c .«abort_pa»)
+      → d ≡ afterAccess c (a .tlb) (c .«last_pa») (c .«abort_pa»)
       → _≡_ {A = Accessed} (record { core = d; placed = a .placed }) (translateAccessOf c memory va n kind)
   unfolding translateAccessOf
   access-is n kind a ea ed = rw (← ea, ← ed)
@@ -123,19 +123,19 @@ module _ (c : Core) (memory : ℕ → Word) (va : ℕ) (d : Core) where
 module _ (c : Core) (base : ℕ) (ram : List ℕ) (va : ℕ) (d : Core) where
   pub read-is : (n : ℕ) (a : Located) (e : LoadEnd) → a ≡ locatedNow c (wordAt base ram 8) va n Read
       → e ≡ loadEnd (a .placed) (c .«last_pa») (c .«abort_pa») base ram va n
-      → d ≡ movedTo c (a .tlb) (e .«last_pa») (e .«abort_pa»)
+      → d ≡ afterAccess c (a .tlb) (e .«last_pa») (e .«abort_pa»)
       → _≡_ {A = Loaded} (record { core = d; answer = e .answer }) (readOf c base ram va n)
   unfolding readOf
   read-is n a e ea ee ed = rw (← ea, ← ee, ← ed)
 
   pub write-is : (n : ℕ) (a : Located) (e : StoreEnd) → a ≡ locatedNow c (wordAt base ram 8) va n Write
-      → e ≡ storeEnd (a .placed) (c .«abort_pa») base ram va n → d ≡ movedTo c (a .tlb) (c .«last_pa») (e .«abort_pa»)
+      → e ≡ storeEnd (a .placed) (c .«abort_pa») base ram va n → d ≡ afterAccess c (a .tlb) (c .«last_pa») (e .«abort_pa»)
       → _≡_ {A = Stored} (record { core = d; answer = e .answer }) (writeOf c base ram va n)
   unfolding writeOf
   write-is n a e ea ee ed = rw (← ea, ← ee, ← ed)
 
   pub fetch-is : (a : Stepped) (e : FetchEnd) → a ≡ fetchSteppedNow c (wordAt base ram 8) va
-      → e ≡ fetchEnd (a .answer) (c .«abort_pa») base ram va → d ≡ movedTo c (a .tlb) (c .«last_pa») (e .«abort_pa»)
+      → e ≡ fetchEnd (a .answer) (c .«abort_pa») base ram va → d ≡ afterAccess c (a .tlb) (c .«last_pa») (e .«abort_pa»)
       → _≡_ {A = Fetched} (record { core = d; answer = e .answer }) (fetchOf c base ram va)
   unfolding fetchOf
   fetch-is a e ea ee ed = rw (← ea, ← ee, ← ed)

@@ -13,14 +13,14 @@ use Rattle.tlb.specs.Model.{Access}
 use Rattle.tlb.specs.Step.{accessOf}
 use Rattle.tlb.specs.Asks.{Ask, translates, Given, onward, answers, tlbAsks}
 use Rattle.tlb.specs.declared.access.Kind.{Kind}
-use Rattle.tlb.specs.declared.access.Who.{Who}
+use Rattle.tlb.specs.declared.access.Privilege.{Privilege}
 use Rattle.tlb.specs.declared.access.Answer.{Answer}
 use Rattle.tlb.specs.declared.access.Answer.the-variants.{Address, Status}
 use Rattle.tlb.specs.declared.Tlb.{Tlb}
-use Rattle.mmu.specs.Place.{nextPage, crosses, goesOn, placedOne, placedBoth}
+use Rattle.operations.specs.Place.{nextPage, crosses, goesOn, placedOne, placedBoth}
 use Rattle.mmu.specs.Step.{onePage, bothPages, translateIn, locatedOf}
-use Rattle.mmu.specs.declared.place.Placed.{Placed}
-use Rattle.mmu.specs.declared.place.Placed.the-variants.{Fault}
+use Rattle.operations.specs.declared.place.Placed.{Placed}
+use Rattle.operations.specs.declared.place.Placed.the-variants.{Fault}
 use Rattle.mmu.specs.declared.step.Stepped.{Stepped}
 
 -- An access of n bytes: its own address, and where it crosses a page with stage 1 on the next page's first. The second
@@ -64,22 +64,22 @@ module _ (va : ℕ) (a b : Ask) (f g : Stepped) where
   both-pages (Address pa) (Address pa2) e d = rw (e, d)
   both-pages (Address pa) (Status fault) e d = rw (e, d)
 
-module _ (s : Bank) (who : Who) (memory : ℕ → Word) where
+module _ (s : Bank) (privilege : Privilege) (memory : ℕ → Word) where
   -- the access of a kind at an address
   abbrev pub accessAt : Kind → ℕ → Access
-  accessAt kind va = accessOf s who va kind memory
+  accessAt kind va = accessOf s privilege va kind memory
 
   module _ (va n : ℕ) (kind : Kind) (t : Tlb) where
     abbrev onIt : Bool
-    onIt = stage1On s (regimeOf (who .level))
+    onIt = stage1On s (regimeOf (privilege .level))
 
     abbrev own : Stepped
-    own = translateIn s who memory va kind t
+    own = translateIn s privilege memory va kind t
 
     abbrev next : Stepped
-    next = translateIn s who memory (nextPage va) kind (own .tlb)
+    next = translateIn s privilege memory (nextPage va) kind (own .tlb)
 
-    pub located-asks : locatedOf s who memory va n kind t
+    pub located-asks : locatedOf s privilege memory va n kind t
         ≡ record {
           tlb = tlbAsks accessAt (accessAsks onIt va n kind) t;
           placed = placedBy va (answers accessAt (accessAsks onIt va n kind) t);

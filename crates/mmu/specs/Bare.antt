@@ -10,15 +10,15 @@ use Rattle.word.specs.Bits.{pick}
 use Rattle.sysreg.specs.Regs.{freshControl, freshSys}
 use Rattle.sysreg.specs.declared.regs.Control.{Control}
 use Rattle.sysreg.specs.declared.regs.SysRegs.{SysRegs}
-use Rattle.tlb.specs.declared.access.Who.{Who}
+use Rattle.tlb.specs.declared.access.Privilege.{Privilege}
 use Rattle.tlb.specs.declared.Tlb.{Tlb}
-use Rattle.entry.specs.Pstate.{freshFlags}
-use Rattle.entry.specs.declared.flags.Flags.{Flags}
-use Rattle.entry.specs.declared.take.Entered.{Entered}
+use Rattle.exception.specs.Pstate.{freshFlags}
+use Rattle.exception.specs.declared.flags.Flags.{Flags}
+use Rattle.exception.specs.declared.take.Entered.{Entered}
 use Rattle.mmu.specs.declared.core.Core.{Core}
 
 pub record Bare : Type 0 where
-  pub who : Who
+  pub privilege : Privilege
   pub flags : Flags
   pub pc : ℕ
   pub x : List ℕ
@@ -32,7 +32,7 @@ zeros = replicate 31 0
 abbrev pub freshBare : Bare
 freshBare =
     record {
-      who = record { level = 3; mark = false };
+      privilege = record { level = 3; unprivileged = false };
       flags = freshFlags;
       pc = 0;
       x = zeros;
@@ -43,10 +43,10 @@ freshBare =
 -- UPDATES
 
 -- the level and the mark
-abbrev pub withWho : Bare → ℕ → Bool → Bare
-withWho b level mark =
+abbrev pub withPrivilege : Bare → ℕ → Bool → Bare
+withPrivilege b level mark =
     record {
-      who = record { level = level; mark = mark };
+      privilege = record { level = level; unprivileged = mark };
       flags = b .flags;
       pc = b .pc;
       x = b .x;
@@ -63,11 +63,11 @@ regSet x n v = pick (ltb n 31) (set x n v) x
 
 abbrev pub withGeneral : Bare → ℕ → ℕ → Bare
 withGeneral b n v =
-    record { who = b .who; flags = b .flags; pc = b .pc; x = regSet (b .x) n v; control = b .control; sys = b .sys }
+    record { privilege = b .privilege; flags = b .flags; pc = b .pc; x = regSet (b .x) n v; control = b .control; sys = b .sys }
 
 -- other registers
 abbrev pub withRegs : Bare → Control → SysRegs → Bare
-withRegs b k s = record { who = b .who; flags = b .flags; pc = b .pc; x = b .x; control = k; sys = s }
+withRegs b k s = record { privilege = b .privilege; flags = b .flags; pc = b .pc; x = b .x; control = k; sys = s }
 
 -- PAR_EL1 alone
 abbrev pub withPar : Bare → ℕ → Bare
@@ -89,7 +89,7 @@ withPar b par =
 abbrev pub withEntered : Bare → Entered → Bare
 withEntered b e =
     record {
-      who = record { level = e .level; mark = b .who .mark };
+      privilege = record { level = e .level; unprivileged = b .privilege .unprivileged };
       flags = e .flags;
       pc = e .pc;
       x = b .x;
@@ -100,10 +100,10 @@ withEntered b e =
 -- THE CORE, of its architectural state, the cache, and the physical addresses of the last load and of the last external
 -- abort
 
-abbrev pub coreOf : Bare → Tlb → ℕ → ℕ → Core
-coreOf b t last abort =
+abbrev pub coreFrom : Bare → Tlb → ℕ → ℕ → Core
+coreFrom b t last abort =
     record {
-      who = b .who;
+      privilege = b .privilege;
       flags = b .flags;
       pc = b .pc;
       x = b .x;
@@ -115,8 +115,8 @@ coreOf b t last abort =
     }
 
 abbrev pub bareOf : Core → Bare
-bareOf c = record { who = c .who; flags = c .flags; pc = c .pc; x = c .x; control = c .control; sys = c .sys }
+bareOf c = record { privilege = c .privilege; flags = c .flags; pc = c .pc; x = c .x; control = c .control; sys = c .sys }
 
 -- the core with another architectural state
 abbrev pub inCore : Core → Bare → Core
-inCore c b = coreOf b (c .tlb) (c .«last_pa») (c .«abort_pa»)
+inCore c b = coreFrom b (c .tlb) (c .«last_pa») (c .«abort_pa»)

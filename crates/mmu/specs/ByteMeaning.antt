@@ -15,25 +15,25 @@ use Rattle.word.specs.RamLaws.{digit-next, byte-of, written-byte}
 use Rattle.tlb.specs.declared.access.Kind.{Kind}
 use Rattle.tlb.specs.declared.access.Kind.the-variants.{Read, Write}
 use Rattle.tlb.specs.declared.access.Answer.the-variants.{Address}
-use Rattle.mmu.specs.Place.{byteAt, verdictOf, bytesBefore}
-use Rattle.mmu.specs.PlaceLaws.{all-inside}
-use Rattle.mmu.specs.Bytes.{byteIn, splitValue, splitStored, valueAt, loadOf, storeRam}
-use Rattle.mmu.specs.BytesLaws.{addressIn, stored-length, split-length, split-leaves}
-use Rattle.mmu.specs.Ends.{loadEnd, storeEnd, storeRamEnd}
+use Rattle.operations.specs.Place.{byteAt, verdictOf, bytesBefore}
+use Rattle.operations.specs.PlaceLaws.{all-inside}
+use Rattle.operations.specs.Bytes.{byteIn, splitValue, splitStored, valueAt, loadOf, storeRam}
+use Rattle.operations.specs.BytesLaws.{addressIn, stored-length, split-length, split-leaves}
+use Rattle.operations.specs.Ends.{loadEnd, storeEnd, storeRamEnd}
 use Rattle.mmu.specs.Ops.{locatedNow, readOf, writeOf, ramAfterWrite}
 use Rattle.mmu.specs.OpLaws.{write-leaves}
 use Rattle.mmu.specs.declared.core.Core.{Core}
-use Rattle.mmu.specs.declared.place.Pages.{Pages}
-use Rattle.mmu.specs.declared.place.Place.{Place}
-use Rattle.mmu.specs.declared.place.Place.the-variants.{Whole, Split}
-use Rattle.mmu.specs.declared.place.Placed.{Placed}
-use Rattle.mmu.specs.declared.place.Placed.the-variants.{At, Fault}
-use Rattle.mmu.specs.declared.place.Verdict.{Verdict}
-use Rattle.mmu.specs.declared.place.Verdict.the-variants.{Inside, Outside}
-use Rattle.mmu.specs.declared.ends.LoadAnswer.the-variants as Load
-use Rattle.mmu.specs.declared.ends.StoreAnswer.the-variants as Store
+use Rattle.operations.specs.declared.place.Pages.{Pages}
+use Rattle.operations.specs.declared.place.Place.{Place}
+use Rattle.operations.specs.declared.place.Place.the-variants.{Whole, Split}
+use Rattle.operations.specs.declared.place.Placed.{Placed}
+use Rattle.operations.specs.declared.place.Placed.the-variants.{At, Fault}
+use Rattle.operations.specs.declared.place.Verdict.{Verdict}
+use Rattle.operations.specs.declared.place.Verdict.the-variants.{Inside, Outside}
+use Rattle.operations.specs.declared.ends.LoadAnswer.the-variants as Load
+use Rattle.operations.specs.declared.ends.StoreAnswer.the-variants as Store
 use Rattle.mmu.specs.OwnAddress.{ownAnswer, Ready, Own, lies-own}
-use Rattle.mmu.specs.declared.bytes.Got.the-variants.{Value}
+use Rattle.operations.specs.declared.bytes.Got.the-variants.{Value}
 
 -- EACH BYTE OF A VALUE
 

@@ -11,16 +11,16 @@ use Rattle.tlb.specs.Asks.{Ask, translates, fetches, onward-same, answerOf, tlb
 use Rattle.tlb.specs.declared.access.Kind.{Kind}
 use Rattle.tlb.specs.declared.access.Kind.the-variants.{Read, Write}
 use Rattle.mmu.specs.Bare.{bareOf}
-use Rattle.mmu.specs.Core.{movedTo, bankNow}
-use Rattle.mmu.specs.BytesLaws.{addressIn, store-length, store-leaves}
-use Rattle.mmu.specs.Ends.{storeRamEnd}
+use Rattle.mmu.specs.Core.{afterAccess, bankNow}
+use Rattle.operations.specs.BytesLaws.{addressIn, store-length, store-leaves}
+use Rattle.operations.specs.Ends.{storeRamEnd}
 use Rattle.mmu.specs.Ops.{steppedNow, fetchSteppedNow, locatedNow, translateOf, translateAccessOf, readOf, writeOf, ramAfterWrite, fetchOf, fetchPaOf, dataPaOf}
 use Rattle.mmu.specs.Step.{translateIn, translateFetchIn}
 use Rattle.mmu.specs.Asks.{accessAsks, accessAt, placedBy, located-asks}
 use Rattle.mmu.specs.declared.core.Core.{Core}
-use Rattle.mmu.specs.declared.place.Place.{Place}
-use Rattle.mmu.specs.declared.place.Placed.{Placed}
-use Rattle.mmu.specs.declared.place.Placed.the-variants.{At, Fault}
+use Rattle.operations.specs.declared.place.Place.{Place}
+use Rattle.operations.specs.declared.place.Placed.{Placed}
+use Rattle.operations.specs.declared.place.Placed.the-variants.{At, Fault}
 use Rattle.mmu.specs.declared.step.Located.{Located}
 
 -- the operations; n is a number of bytes
@@ -63,13 +63,13 @@ asksOf on (fetchPa va) = fetches va ∷ []
 asksOf on (dataPa va) = translates Read va ∷ []
 
 abbrev pub onNow : Core → Bool
-onNow c = stage1On (bankNow c) (regimeOf (c .who .level))
+onNow c = stage1On (bankNow c) (regimeOf (c .privilege .level))
 
 -- THE CORE
 
 -- no operation changes the level, the mark, flags, PC or a register
 pub kept : (c : Core) (base : ℕ) (ram : List ℕ) (o : Operation) → bareOf (operationCore c base ram o) ≡ bareOf c
-unfolding translateOf translateAccessOf readOf writeOf fetchOf fetchPaOf dataPaOf movedTo
+unfolding translateOf translateAccessOf readOf writeOf fetchOf fetchPaOf dataPaOf afterAccess
 kept c base ram (translate va kind) = refl
 kept c base ram (access va n kind) = refl
 kept c base ram (load va n) = refl
@@ -81,7 +81,7 @@ kept c base ram (dataPa va) = refl
 module _ (c : Core) (base : ℕ) (ram : List ℕ) where
   -- the access of a kind at an address
   abbrev pub accessNow : Kind → ℕ → Access
-  accessNow kind va = accessAt (bankNow c) (c .who) (wordAt base ram 8) kind va
+  accessNow kind va = accessAt (bankNow c) (c .privilege) (wordAt base ram 8) kind va
 
   -- one translation
   one-asked : (a : Ask) → tlbAsk accessNow a (c .tlb) ≡ tlbAsks accessNow (a ∷ []) (c .tlb)
@@ -93,11 +93,11 @@ module _ (c : Core) (base : ℕ) (ram : List ℕ) where
         placed = placedBy va (answers accessNow (accessAsks (onNow c) va n kind) (c .tlb));
       }
   unfolding locatedNow
-  accessed va n kind = located-asks (bankNow c) (c .who) (wordAt base ram 8) va n kind (c .tlb)
+  accessed va n kind = located-asks (bankNow c) (c .privilege) (wordAt base ram 8) va n kind (c .tlb)
 
   -- the cache is the one that its translations leave
   pub tlb-after : (o : Operation) → operationCore c base ram o .tlb ≡ tlbAsks accessNow (asksOf (onNow c) o) (c .tlb)
-  unfolding translateOf translateAccessOf readOf writeOf fetchOf fetchPaOf dataPaOf steppedNow fetchSteppedNow translateIn translateFetchIn movedTo
+  unfolding translateOf translateAccessOf readOf writeOf fetchOf fetchPaOf dataPaOf steppedNow fetchSteppedNow translateIn translateFetchIn afterAccess
   tlb-after (translate va kind) = one-asked (translates kind va)
   tlb-after (access va n kind) = ap (λ (r : Located). r .tlb) (accessed va n kind)
   tlb-after (load va n) = ap (λ (r : Located). r .tlb) (accessed va n Read)
@@ -113,11 +113,11 @@ module _ (c : Core) (base : ℕ) (ram : List ℕ) where
 
 -- only a load sets `last_pa`
 pub store-last : (c : Core) (base : ℕ) (ram : List ℕ) (va n : ℕ) → writeOf c base ram va n .core .«last_pa» ≡ c .«last_pa»
-unfolding writeOf movedTo
+unfolding writeOf afterAccess
 store-last c base ram va n = refl
 
 pub fetch-last : (c : Core) (base : ℕ) (ram : List ℕ) (va : ℕ) → fetchOf c base ram va .core .«last_pa» ≡ c .«last_pa»
-unfolding fetchOf movedTo
+unfolding fetchOf afterAccess
 fetch-last c base ram va = refl
 
 -- RAM

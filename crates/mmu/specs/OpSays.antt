@@ -5,15 +5,15 @@ use Prim.Native.Nat.{ℕ}
 use Rattle.word.specs.Ram.{wordAt}
 use Rattle.tlb.specs.Asks.{Given, answers}
 use Rattle.tlb.specs.declared.access.Kind.the-variants.{Read, Write}
-use Rattle.mmu.specs.Bytes.{valueAt}
-use Rattle.mmu.specs.Ends.{reachedBy, storeRamEnd}
+use Rattle.operations.specs.Bytes.{valueAt}
+use Rattle.operations.specs.Ends.{reachedBy, storeRamEnd}
 use Rattle.mmu.specs.Ops.{steppedNow, fetchSteppedNow, translateOf, translateAccessOf, readOf, writeOf, ramAfterWrite, fetchOf, fetchPaOf, dataPaOf}
 use Rattle.mmu.specs.Says.{Said, value, done, answerSays, placedSays, reachedSays, loadSays, storeSays, fetchSays, accessSays, verdictIn, insnSays, load-says, store-says, fetch-says}
 use Rattle.mmu.specs.Step.{translateIn, translateFetchIn}
 use Rattle.mmu.specs.Asks.{firstOf, placedBy}
 use Rattle.mmu.specs.OpLaws.{Operation, translate, access, load, store, fetch, fetchPa, dataPa, operationRam, asksOf, onNow, accessNow, placed-by}
 use Rattle.mmu.specs.declared.core.Core.{Core}
-use Rattle.mmu.specs.declared.place.Placed.{Placed}
+use Rattle.operations.specs.declared.place.Placed.{Placed}
 
 abbrev pub says : Core → ℕ → List ℕ → Operation → Said
 says c base ram (translate va kind) = answerSays va (translateOf c (wordAt base ram 8) va kind .answer)

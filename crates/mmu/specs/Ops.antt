@@ -7,15 +7,15 @@ use Rattle.word.specs.declared.ram.Word.{Word}
 use Rattle.tlb.specs.declared.access.Kind.{Kind}
 use Rattle.tlb.specs.declared.access.Kind.the-variants.{Read, Write}
 use Rattle.tlb.specs.declared.Tlb.{Tlb}
-use Rattle.mmu.specs.Core.{movedTo, bankNow}
-use Rattle.mmu.specs.Ends.{loadEnd, storeEnd, storeRamEnd, fetchEnd, reachedBy}
+use Rattle.mmu.specs.Core.{afterAccess, bankNow}
+use Rattle.operations.specs.Ends.{loadEnd, storeEnd, storeRamEnd, fetchEnd, reachedBy}
 use Rattle.mmu.specs.Step.{translateIn, translateFetchIn, locatedOf}
 use Rattle.mmu.specs.declared.core.Core.{Core}
 use Rattle.mmu.specs.declared.step.Stepped.{Stepped}
 use Rattle.mmu.specs.declared.step.Located.{Located}
-use Rattle.mmu.specs.declared.ends.LoadEnd.{LoadEnd}
-use Rattle.mmu.specs.declared.ends.StoreEnd.{StoreEnd}
-use Rattle.mmu.specs.declared.ends.FetchEnd.{FetchEnd}
+use Rattle.operations.specs.declared.ends.LoadEnd.{LoadEnd}
+use Rattle.operations.specs.declared.ends.StoreEnd.{StoreEnd}
+use Rattle.operations.specs.declared.ends.FetchEnd.{FetchEnd}
 use Rattle.mmu.specs.declared.ops.Translated.{Translated}
 use Rattle.mmu.specs.declared.ops.Accessed.{Accessed}
 use Rattle.mmu.specs.declared.ops.Loaded.{Loaded}
@@ -25,18 +25,18 @@ use Rattle.mmu.specs.declared.ops.Addressed.{Addressed}
 
 -- its translations: on its own registers, level and cache
 unfoldable pub steppedNow : Core → (ℕ → Word) → ℕ → Kind → Stepped
-steppedNow c memory va kind = translateIn (bankNow c) (c .who) memory va kind (c .tlb)
+steppedNow c memory va kind = translateIn (bankNow c) (c .privilege) memory va kind (c .tlb)
 
 unfoldable pub fetchSteppedNow : Core → (ℕ → Word) → ℕ → Stepped
-fetchSteppedNow c memory va = translateFetchIn (bankNow c) (c .who) memory va (c .tlb)
+fetchSteppedNow c memory va = translateFetchIn (bankNow c) (c .privilege) memory va (c .tlb)
 
 unfoldable pub locatedNow : Core → (ℕ → Word) → ℕ → ℕ → Kind → Located
-locatedNow c memory va n kind = locatedOf (bankNow c) (c .who) memory va n kind (c .tlb)
+locatedNow c memory va n kind = locatedOf (bankNow c) (c .privilege) memory va n kind (c .tlb)
 
 -- TRANSLATIONS change the cache only
 
 abbrev pub withTlb : Core → Tlb → Core
-withTlb c t = movedTo c t (c .«last_pa») (c .«abort_pa»)
+withTlb c t = afterAccess c t (c .«last_pa») (c .«abort_pa»)
 
 abbrev pub translatedBy : Core → Stepped → Translated
 translatedBy c a = record { core = withTlb c (a .tlb); answer = a .answer }
@@ -65,7 +65,7 @@ dataPaOf c memory va = addressedBy c (steppedNow c memory va Read)
 -- and the memory's type. M5: bytes are little-endian, whatever SCTLR_ELx.EE and E0E.
 
 abbrev pub loadedBy : Core → Tlb → LoadEnd → Loaded
-loadedBy c t e = record { core = movedTo c t (e .«last_pa») (e .«abort_pa»); answer = e .answer }
+loadedBy c t e = record { core = afterAccess c t (e .«last_pa») (e .«abort_pa»); answer = e .answer }
 
 abbrev pub readAfter : Core → Located → ℕ → List ℕ → ℕ → ℕ → Loaded
 readAfter c a base ram va n = loadedBy c (a .tlb) (loadEnd (a .placed) (c .«last_pa») (c .«abort_pa») base ram va n)
@@ -74,7 +74,7 @@ unfoldable pub readOf : Core → ℕ → List ℕ → ℕ → ℕ → Loaded
 readOf c base ram va n = readAfter c (locatedNow c (wordAt base ram 8) va n Read) base ram va n
 
 abbrev pub storedBy : Core → Tlb → StoreEnd → Stored
-storedBy c t e = record { core = movedTo c t (c .«last_pa») (e .«abort_pa»); answer = e .answer }
+storedBy c t e = record { core = afterAccess c t (c .«last_pa») (e .«abort_pa»); answer = e .answer }
 
 abbrev pub writeAfter : Core → Located → ℕ → List ℕ → ℕ → ℕ → Stored
 writeAfter c a base ram va n = storedBy c (a .tlb) (storeEnd (a .placed) (c .«abort_pa») base ram va n)
@@ -89,7 +89,7 @@ ramAfterWrite c base ram va n v = storeRamEnd (locatedNow c (wordAt base ram 8) 
 -- FETCHES. M14: from an address that is no multiple of four too. O7: from Device memory too.
 
 abbrev pub fetchedBy : Core → Tlb → FetchEnd → Fetched
-fetchedBy c t e = record { core = movedTo c t (c .«last_pa») (e .«abort_pa»); answer = e .answer }
+fetchedBy c t e = record { core = afterAccess c t (c .«last_pa») (e .«abort_pa»); answer = e .answer }
 
 abbrev pub fetchAfter : Core → Stepped → ℕ → List ℕ → ℕ → Fetched
 fetchAfter c a base ram va = fetchedBy c (a .tlb) (fetchEnd (a .answer) (c .«abort_pa») base ram va)

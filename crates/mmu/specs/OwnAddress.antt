@@ -15,24 +15,24 @@ use Rattle.word.specs.declared.ram.Word.{Word}
 use Rattle.walk.specs.Regime.{regimeOf}
 use Rattle.walk.specs.WalkBounds.{SoundWalked, walk-sound}
 use Rattle.tlb.specs.Live.{WellFormed}
-use Rattle.tlb.specs.Translations.{turn-follows}
+use Rattle.tlb.specs.Translations.{translation-follows}
 use Rattle.tlb.specs.Step.{accessOf}
 use Rattle.tlb.specs.declared.access.Kind.{Kind}
 use Rattle.tlb.specs.declared.access.Answer.{Answer}
 use Rattle.tlb.specs.declared.access.Answer.the-variants.{Address, Status}
 use Rattle.tlb.specs.declared.Tlb.{Tlb}
-use Rattle.mmu.specs.Core.{movedTo, bankNow}
-use Rattle.mmu.specs.Place.{inPage, nextPage, crosses, goesOn}
-use Rattle.mmu.specs.PlaceLaws.{same-page, same-offset, next-first}
-use Rattle.mmu.specs.BytesLaws.{addressIn}
+use Rattle.mmu.specs.Core.{afterAccess, bankNow}
+use Rattle.operations.specs.Place.{inPage, nextPage, crosses, goesOn}
+use Rattle.operations.specs.PlaceLaws.{same-page, same-offset, next-first}
+use Rattle.operations.specs.BytesLaws.{addressIn}
 use Rattle.mmu.specs.PageLaws.{answerAt, step-page, step-offset}
 use Rattle.mmu.specs.Step.{onePage, bothPages, translateIn, locatedOf}
 use Rattle.mmu.specs.Ops.{steppedNow, locatedNow, translateOf}
 use Rattle.mmu.specs.OpLaws.{onNow}
 use Rattle.mmu.specs.declared.core.Core.{Core}
-use Rattle.mmu.specs.declared.place.Place.{Place}
-use Rattle.mmu.specs.declared.place.Place.the-variants.{Whole, Split}
-use Rattle.mmu.specs.declared.place.Placed.the-variants.{At, Fault}
+use Rattle.operations.specs.declared.place.Place.{Place}
+use Rattle.operations.specs.declared.place.Place.the-variants.{Whole, Split}
+use Rattle.operations.specs.declared.place.Placed.the-variants.{At, Fault}
 use Rattle.mmu.specs.declared.step.Stepped.{Stepped}
 
 -- the virtual address of byte i
@@ -50,7 +50,7 @@ ownAnswer c memory va kind i =
 -- is not split: there each address is its own translation.
 pub record Ready (c : Core) (base : ℕ) (ram : List ℕ) (va n : ℕ) (kind : Kind) : Type 0 where
   pub well : WellFormed (c .tlb)
-  pub level : c .who .level ≤ 3
+  pub level : c .privilege .level ≤ 3
   pub address : va < 2 ^ 64
   pub bytes : n ≤ 8
   pub window : base + length ram ≤ 2 ^ 64
@@ -71,7 +71,7 @@ module _ (c : Core) (base : ℕ) (ram : List ℕ) (va n : ℕ) (kind : Kind) (re
   memory = wordAt base ram 8
 
   abbrev stepIn : ℕ → Tlb → Stepped
-  stepIn a t = translateIn (bankNow c) (c .who) memory a kind t
+  stepIn a t = translateIn (bankNow c) (c .privilege) memory a kind t
 
   abbrev first : Stepped
   first = stepIn va (c .tlb)
@@ -82,8 +82,8 @@ module _ (c : Core) (base : ℕ) (ram : List ℕ) (va n : ℕ) (kind : Kind) (re
   first-well : WellFormed (first .tlb)
   unfolding translateIn
   first-well =
-      turn-follows (accessOf (bankNow c) (c .who) va kind memory) (c .tlb) (ready .well)
-      (λ leaf e. subst (SoundWalked _) e (walk-sound (bankNow c) (regimeOf (c .who .level)) _ memory) .0 .level-high) (ready .level)
+      translation-follows (accessOf (bankNow c) (c .privilege) va kind memory) (c .tlb) (ready .well)
+      (λ leaf e. subst (SoundWalked _) e (walk-sound (bankNow c) (regimeOf (c .privilege .level)) _ memory) .0 .level-high) (ready .level)
       .well
 
   own-first : (i : ℕ) → byteVa va i / 4096 ≡ va / 4096 → ownAnswer c memory va kind i ≡ stepIn (byteVa va i) (c .tlb) .answer
@@ -91,7 +91,7 @@ module _ (c : Core) (base : ℕ) (ram : List ℕ) (va n : ℕ) (kind : Kind) (re
   own-first i q = rw (eq-eqb _ _ q)
 
   own-next : (i : ℕ) → (byteVa va i / 4096 ≡ va / 4096 → ⊥) → ownAnswer c memory va kind i ≡ stepIn (byteVa va i) (first .tlb) .answer
-  unfolding translateOf steppedNow movedTo
+  unfolding translateOf steppedNow afterAccess
   own-next i q = rw (ne-eqb _ _ q)
 
   -- on its own page
@@ -100,9 +100,9 @@ module _ (c : Core) (base : ℕ) (ram : List ℕ) (va n : ℕ) (kind : Kind) (re
       let w : va < 2 ^ 64 = ready .address in
       let page : byteVa va i / 4096 ≡ va / 4096 = same-page va i w h in
       let low : byteVa va i % 4096 ≡ va % 4096 + i = same-offset va i w h in
-      let off : pa % 4096 ≡ va % 4096 = step-offset (bankNow c) (c .who) memory kind (c .tlb) (ready .well) va pa e in
+      let off : pa % 4096 ≡ va % 4096 = step-offset (bankNow c) (c .privilege) memory kind (c .tlb) (ready .well) va pa e in
       own-first i page
-      ∙ step-page (bankNow c) (c .who) memory kind (c .tlb) (ready .well) va (byteVa va i) (sym page)
+      ∙ step-page (bankNow c) (c .privilege) memory kind (c .tlb) (ready .well) va (byteVa va i) (sym page)
       ∙ ap (λ (x : Answer). answerAt x (byteVa va i)) e
       ∙ ap Address (omega arith)
 
@@ -121,15 +121,15 @@ module _ (c : Core) (base : ℕ) (ram : List ℕ) (va n : ℕ) (kind : Kind) (re
       let w : va < 2 ^ 64 = ready .address in
       let low = next-offset i h k in
       let aligned : nextPage va % 4096 ≡ 0 = next-first va w in
-      let off : pa % 4096 ≡ nextPage va % 4096 = step-offset (bankNow c) (c .who) memory kind (first .tlb) first-well (nextPage va) pa e in
+      let off : pa % 4096 ≡ nextPage va % 4096 = step-offset (bankNow c) (c .privilege) memory kind (first .tlb) first-well (nextPage va) pa e in
       own-next i (next-differs i h k)
-      ∙ step-page (bankNow c) (c .who) memory kind (first .tlb) first-well (nextPage va) (byteVa va i) (next-page i h k)
+      ∙ step-page (bankNow c) (c .privilege) memory kind (first .tlb) first-well (nextPage va) (byteVa va i) (next-page i h k)
       ∙ ap (λ (x : Answer). answerAt x (byteVa va i)) e
       ∙ ap Address (omega arith)
 
   -- with stage 1 off, past the end of its page
   own-flat : (i pa : ℕ) → first .answer ≡ Address pa → onNow c ≡ false → inPage va ≤ i → i < n → Own c memory va kind i (Whole pa)
-  unfolding translateOf steppedNow movedTo
+  unfolding translateOf steppedNow afterAccess
   own-flat i pa e o h k =
       let few : n ≤ 8 = ready .bytes in
       let f = ready .flat o (omega arith) in

@@ -25,18 +25,18 @@ use Rattle.tlb.specs.Lists.{each-getD, each-imp}
 use Rattle.tlb.specs.Live.{Made, Aligned, WellFormed}
 use Rattle.tlb.specs.Cells.{or-page}
 use Rattle.tlb.specs.Resolve.{queryOf, entryFor, byWalk, resolveWith}
-use Rattle.tlb.specs.Turn.{missWith, applied, turnWith, walkNow}
+use Rattle.tlb.specs.Translate.{missWith, applied, translationWith, walkNow}
 use Rattle.tlb.specs.declared.access.Kind.{Kind}
-use Rattle.tlb.specs.declared.access.Who.{Who}
+use Rattle.tlb.specs.declared.access.Privilege.{Privilege}
 use Rattle.tlb.specs.declared.access.Answer.{Answer}
 use Rattle.tlb.specs.declared.access.Answer.the-variants.{Address, Status}
 use Rattle.tlb.specs.declared.count.Counts.{Counts}
 use Rattle.tlb.specs.declared.entry.Entry.{Entry}
-use Rattle.tlb.specs.declared.entry.Present.{Present}
+use Rattle.tlb.specs.declared.entry.Current.{Current}
 use Rattle.tlb.specs.declared.hint.Hint.{Hint}
 use Rattle.tlb.specs.declared.resolve.Query.{Query}
 use Rattle.tlb.specs.declared.resolve.Resolved.{Resolved}
-use Rattle.tlb.specs.declared.turn.Turned.{Turned}
+use Rattle.tlb.specs.declared.cells.Translation.{Translation}
 use Rattle.tlb.specs.declared.Tlb.{Tlb}
 use Rattle.mmu.specs.Step.{slotAt, translateIn}
 
@@ -47,33 +47,33 @@ answerAt (Status f) b = Status f
 
 -- THE ANSWER OF A TURN, by its tests
 
-module _ (on : Bool) (page : ℕ) (w : Walked) (r : Regime) (who : Who) (at : Present) (k : Counts) (h : Hint) (e : Entry) (va : ℕ) (kind : Kind) where
-  abbrev pub turn : Turned
-  turn = turnWith on page w r who at k h e va kind
+module _ (on : Bool) (page : ℕ) (w : Walked) (r : Regime) (privilege : Privilege) (at : Current) (k : Counts) (h : Hint) (e : Entry) (va : ℕ) (kind : Kind) where
+  abbrev pub turn : Translation
+  turn = translationWith on page w r privilege at k h e va kind
 
   abbrev pub miss : Resolved
-  miss = missWith on page w r who at e va kind
+  miss = missWith on page w r privilege at e va kind
 
   abbrev pub hits : Bool
-  hits = mayHint who kind && eqb (h .key) (hintKey va (who .level))
+  hits = mayHint privilege kind && eqb (h .key) (hintKey va (privilege .level))
 
   pub by-hint : hits ≡ true → turn .answer ≡ Address (onPage (h .pa) va)
-  unfolding turnWith
+  unfolding translationWith
   by-hint q = rw q
 
   pub by-miss : hits ≡ false → turn .answer ≡ miss .answer
-  unfolding turnWith applied
+  unfolding translationWith applied
   by-miss q = rw q
 
   pub by-flat : on ≡ false → miss .answer ≡ Address va
   unfolding missWith
   by-flat q = rw q
 
-  pub by-entry : on ≡ true → serves e at (tagOf r page) ≡ true → miss .answer ≡ judged e (userOf r who kind) kind va
+  pub by-entry : on ≡ true → serves e at (tagOf r page) ≡ true → miss .answer ≡ judged e (userOf r privilege kind) kind va
   unfolding missWith resolveWith
   by-entry q p = rw (q, p)
 
-  pub by-walk : on ≡ true → serves e at (tagOf r page) ≡ false → miss .answer ≡ byWalk w (queryOf r page) who at va kind .answer
+  pub by-walk : on ≡ true → serves e at (tagOf r page) ≡ false → miss .answer ≡ byWalk w (queryOf r page) privilege at va kind .answer
   unfolding missWith resolveWith
   by-walk q p = rw (q, p)
 
@@ -94,90 +94,90 @@ module _ (a b : ℕ) where
       go false = refl
 
   -- an entry is made of a leaf's page
-  abbrev entryOf : Present → ℕ → Leaf → Entry
+  abbrev entryOf : Current → ℕ → Leaf → Entry
   entryOf at tag leaf =
       record { tag = tag; generation = at .generation; perms = leaf .perms; level = leaf .level; global = leaf .global; asid = at .asid; pa = leaf .oa }
 
-  walk-page : (v w : Walked) (p q : Query) (who : Who) (at : Present) (kind : Kind) → paged v ≡ paged w → p .regime ≡ q .regime → p .tag ≡ q .tag
-      → byWalk w q who at b kind .answer ≡ answerAt (byWalk v p who at a kind .answer) b
+  walk-page : (v w : Walked) (p q : Query) (privilege : Privilege) (at : Current) (kind : Kind) → paged v ≡ paged w → p .regime ≡ q .regime → p .tag ≡ q .tag
+      → byWalk w q privilege at b kind .answer ≡ answerAt (byWalk v p privilege at a kind .answer) b
   unfolding byWalk
-  walk-page (Mapped x) (Mapped y) p q who at kind e er et =
+  walk-page (Mapped x) (Mapped y) p q privilege at kind e er et =
       let leaf : pagedLeaf x ≡ pagedLeaf y = cc in
       let same : entryFor x at (p .tag) ≡ entryFor y at (q .tag) = λ i. entryOf at (et i) (leaf i) in
-      (λ i. judged (sym same i) (userOf (sym er i) who kind) kind b) ∙ judged-page (entryFor x at (p .tag)) (userOf (p .regime) who kind) kind (omega arith)
-  walk-page (Fault n) (Fault m) p q who at kind e er et = let x : n ≡ m = cc in rw x
-  walk-page (Mapped x) (Fault m) p q who at kind e er et = let z : _≡_ {A = ℕ} 0 1 = cc in absurd (omega arith)
-  walk-page (Fault n) (Mapped y) p q who at kind e er et = let z : _≡_ {A = ℕ} 0 1 = cc in absurd (omega arith)
+      (λ i. judged (sym same i) (userOf (sym er i) privilege kind) kind b) ∙ judged-page (entryFor x at (p .tag)) (userOf (p .regime) privilege kind) kind (omega arith)
+  walk-page (Fault n) (Fault m) p q privilege at kind e er et = let x : n ≡ m = cc in rw x
+  walk-page (Mapped x) (Fault m) p q privilege at kind e er et = let z : _≡_ {A = ℕ} 0 1 = cc in absurd (omega arith)
+  walk-page (Fault n) (Mapped y) p q privilege at kind e er et = let z : _≡_ {A = ℕ} 0 1 = cc in absurd (omega arith)
 
 module _ (a b pa pb : ℕ) (v w : Walked) (same : a / 4096 ≡ b / 4096) (same-tag : pa / 4096 ≡ pb / 4096) (walks : paged v ≡ paged w)
-    (on : Bool) (r : Regime) (who : Who) (at : Present) (k : Counts) (h : Hint) (e : Entry) (kind : Kind)
+    (on : Bool) (r : Regime) (privilege : Privilege) (at : Current) (k : Counts) (h : Hint) (e : Entry) (kind : Kind)
     (ah : h .pa % 4096 ≡ 0) (ae : e .pa % 4096 ≡ 0) where
   abbrev atA : Answer
-  atA = turnWith on pa v r who at k h e a kind .answer
+  atA = translationWith on pa v r privilege at k h e a kind .answer
 
   abbrev atB : Answer
-  atB = turnWith on pb w r who at k h e b kind .answer
+  atB = translationWith on pb w r privilege at k h e b kind .answer
 
-  turn-page : atB ≡ answerAt atA b
-  turn-page = hint (hits on pb w r who at k h e b kind) refl
+  translation-page : atB ≡ answerAt atA b
+  translation-page = hint (hits on pb w r privilege at k h e b kind) refl
     where
-      key : hits on pa v r who at k h e a kind ≡ hits on pb w r who at k h e b kind
+      key : hits on pa v r privilege at k h e a kind ≡ hits on pb w r privilege at k h e b kind
       key = rw same
 
       tags : serves e at (tagOf r pa) ≡ serves e at (tagOf r pb)
       tags = rw same-tag
 
-      missed : (x : Bool) → on ≡ x → missWith on pb w r who at e b kind .answer ≡ answerAt (missWith on pa v r who at e a kind .answer) b
+      missed : (x : Bool) → on ≡ x → missWith on pb w r privilege at e b kind .answer ≡ answerAt (missWith on pa v r privilege at e a kind .answer) b
       missed false q =
-          rw (by-flat on pb w r who at k h e b kind q, by-flat on pa v r who at k h e a kind q) (ap Address (omega arith))
+          rw (by-flat on pb w r privilege at k h e b kind q, by-flat on pa v r privilege at k h e a kind q) (ap Address (omega arith))
       missed true q = go (serves e at (tagOf r pb)) refl
         where
           go : (y : Bool) → serves e at (tagOf r pb) ≡ y
-              → missWith on pb w r who at e b kind .answer ≡ answerAt (missWith on pa v r who at e a kind .answer) b
+              → missWith on pb w r privilege at e b kind .answer ≡ answerAt (missWith on pa v r privilege at e a kind .answer) b
           go true z =
-              rw (by-entry on pb w r who at k h e b kind q z, by-entry on pa v r who at k h e a kind q (tags ∙ z))
-              (judged-page a b e (userOf r who kind) kind ae)
+              rw (by-entry on pb w r privilege at k h e b kind q z, by-entry on pa v r privilege at k h e a kind q (tags ∙ z))
+              (judged-page a b e (userOf r privilege kind) kind ae)
           go false z =
-              rw (by-walk on pb w r who at k h e b kind q z, by-walk on pa v r who at k h e a kind q (tags ∙ z))
-              (walk-page a b v w (queryOf r pa) (queryOf r pb) who at kind walks refl (rw same-tag))
+              rw (by-walk on pb w r privilege at k h e b kind q z, by-walk on pa v r privilege at k h e a kind q (tags ∙ z))
+              (walk-page a b v w (queryOf r pa) (queryOf r pb) privilege at kind walks refl (rw same-tag))
 
-      hint : (x : Bool) → hits on pb w r who at k h e b kind ≡ x → atB ≡ answerAt atA b
+      hint : (x : Bool) → hits on pb w r privilege at k h e b kind ≡ x → atB ≡ answerAt atA b
       hint true q =
-          rw (by-hint on pb w r who at k h e b kind q, by-hint on pa v r who at k h e a kind (key ∙ q)) (ap Address (on-page a b (h .pa) ah))
+          rw (by-hint on pb w r privilege at k h e b kind q, by-hint on pa v r privilege at k h e a kind (key ∙ q)) (ap Address (on-page a b (h .pa) ah))
       hint false q =
-          rw (by-miss on pb w r who at k h e b kind q, by-miss on pa v r who at k h e a kind (key ∙ q)) (missed on refl)
+          rw (by-miss on pb w r privilege at k h e b kind q, by-miss on pa v r privilege at k h e a kind (key ∙ q)) (missed on refl)
 
-module _ (s : Bank) (who : Who) (memory : ℕ → Word) (kind : Kind) (t : Tlb) (f : WellFormed t) where
+module _ (s : Bank) (privilege : Privilege) (memory : ℕ → Word) (kind : Kind) (t : Tlb) (f : WellFormed t) where
   pub hint-aligned : (i : ℕ) → hintAt (t .cache) i .pa % 4096 ≡ 0
   hint-aligned i = each-getD {P = Aligned} noHint refl (f .hints) i
 
   pub entry-aligned : (i : ℕ) → entryAt (t .cache) i .pa % 4096 ≡ 0
   entry-aligned i =
       each-getD {P = λ (e : Entry). e .pa % 4096 ≡ 0} blank refl
-      (each-imp {P = Made (t .cache .present .generation)} (λ e m. m .aligned) (f .entries)) i
+      (each-imp {P = Made (t .cache .current .generation)} (λ e m. m .aligned) (f .entries)) i
 
   -- addresses of one page get one answer, each with its own offset
-  pub step-page : (a b : ℕ) → a / 4096 ≡ b / 4096 → translateIn s who memory b kind t .answer ≡ answerAt (translateIn s who memory a kind t .answer) b
+  pub step-page : (a b : ℕ) → a / 4096 ≡ b / 4096 → translateIn s privilege memory b kind t .answer ≡ answerAt (translateIn s privilege memory a kind t .answer) b
   unfolding translateIn
   step-page a b same =
-      let r = regimeOf (who .level) in
+      let r = regimeOf (privilege .level) in
       let tags : untagged (s .tcr) r a / 4096 ≡ untagged (s .tcr) r b / 4096 = untagged-page (s .tcr) r a b same in
       let places : dataSlot b kind ≡ dataSlot a kind = rw same in
-      let slots : slotAt s (who .level) b ≡ slotAt s (who .level) a = rw tags in
+      let slots : slotAt s (privilege .level) b ≡ slotAt s (privilege .level) a = rw tags in
       let answers : ℕ → ℕ → Answer = λ i j.
-      turnWith (stage1On s r) (untagged (s .tcr) r b) (walkNow s (who .level) b memory) r who (t .cache .present) (t .counts) (hintAt (t .cache) i)
+      translationWith (stage1On s r) (untagged (s .tcr) r b) (walkNow s (privilege .level) b memory) r privilege (t .cache .current) (t .counts) (hintAt (t .cache) i)
       (entryAt (t .cache) j) b kind .answer in
-      ap (λ (i : ℕ). answers i (slotAt s (who .level) b)) places
+      ap (λ (i : ℕ). answers i (slotAt s (privilege .level) b)) places
       ∙ ap (answers (dataSlot a kind)) slots
-      ∙ turn-page a b (untagged (s .tcr) r a) (untagged (s .tcr) r b) (walkNow s (who .level) a memory) (walkNow s (who .level) b memory) same tags
-      (walk-of-page (untagged (s .tcr) r a) (untagged (s .tcr) r b) tags s r memory) (stage1On s r) r who (t .cache .present) (t .counts)
-      (hintAt (t .cache) (dataSlot a kind)) (entryAt (t .cache) (slotAt s (who .level) a)) kind (hint-aligned (dataSlot a kind))
-      (entry-aligned (slotAt s (who .level) a))
+      ∙ translation-page a b (untagged (s .tcr) r a) (untagged (s .tcr) r b) (walkNow s (privilege .level) a memory) (walkNow s (privilege .level) b memory) same tags
+      (walk-of-page (untagged (s .tcr) r a) (untagged (s .tcr) r b) tags s r memory) (stage1On s r) r privilege (t .cache .current) (t .counts)
+      (hintAt (t .cache) (dataSlot a kind)) (entryAt (t .cache) (slotAt s (privilege .level) a)) kind (hint-aligned (dataSlot a kind))
+      (entry-aligned (slotAt s (privilege .level) a))
 
   -- so an address that is answered has the offset of the one that was asked for
-  pub step-offset : (a pa : ℕ) → translateIn s who memory a kind t .answer ≡ Address pa → pa % 4096 ≡ a % 4096
+  pub step-offset : (a pa : ℕ) → translateIn s privilege memory a kind t .answer ≡ Address pa → pa % 4096 ≡ a % 4096
   step-offset a pa e =
-      let q : translateIn s who memory a kind t .answer ≡ answerAt (translateIn s who memory a kind t .answer) a = step-page a a refl in
+      let q : translateIn s privilege memory a kind t .answer ≡ answerAt (translateIn s privilege memory a kind t .answer) a = step-page a a refl in
       let p : Address pa ≡ Address (pa / 4096 * 4096 + a % 4096) = rw e at q in
       let n : pa ≡ pa / 4096 * 4096 + a % 4096 = cc in
       omega arith

@@ -1,14 +1,14 @@
 // The core by value.
 ghost use mathlib.Core.Path.{_≡_};
-ghost use Rattle.mmu.specs.Core.{zeros as zerosOf, freshCore, regIn, regSet, regOf, setReg, movedTo};
-use entry::flags::Flags;
+ghost use Rattle.mmu.specs.Core.{zeros as zerosOf, freshCore, regIn, regSet, regOf, setReg, afterAccess};
+use exception::flags::Flags;
 use sysreg::regs::Control;
 use sysreg::regs::SysRegs;
 use tlb::Tlb;
-use tlb::access::Who;
+use tlb::access::Privilege;
 
 pub struct Core {
-    pub who: Who,
+    pub privilege: Privilege,
     pub flags: Flags,
     pub pc: u64,
     pub x: [u64; 31],
@@ -38,9 +38,9 @@ impl Core {
         let sys = SysRegs::new();
         let tlb = tlb::new();
         Core {
-            who: Who {
+            privilege: Privilege {
                 level: 3,
-                mark: false,
+                unprivileged: false,
             },
             flags,
             pc: 0,
@@ -98,8 +98,8 @@ pub fn set_reg(core: Core, n: u64, value: u64) -> Core
 }
 
 // The core with what a memory operation may change: the cache, and the physical addresses kept.
-pub fn moved(core: Core, t: Tlb, last: u64, abort: u64) -> Core
-    ensures { λ r. ⌜ r ≡ movedTo core t last abort ⌝ }
+pub fn after_access(core: Core, t: Tlb, last: u64, abort: u64) -> Core
+    ensures { λ r. ⌜ r ≡ afterAccess core t last abort ⌝ }
 {
     let mut c = core;
     c.tlb = t;

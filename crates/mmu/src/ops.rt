@@ -6,15 +6,16 @@ ghost use Rattle.mmu.specs.Ops.{steppedNow, fetchSteppedNow, locatedNow,
 ghost use Rattle.mmu.specs.Ops.{readOf, writeOf, ramAfterWrite, fetchOf, fetchPaOf, dataPaOf};
 use crate::core;
 use crate::core::Core;
-use crate::ends;
-use crate::ends::FetchAnswer;
-use crate::ends::LoadAnswer;
-use crate::ends::Reached;
-use crate::ends::StoreAnswer;
-use crate::place::Placed;
 use crate::step;
 use crate::step::Located;
 use crate::step::Stepped;
+use operations::ends;
+use operations::ends::FetchAnswer;
+use operations::ends::LoadAnswer;
+use operations::ends::Reached;
+use operations::ends::StoreAnswer;
+use operations::lookup;
+use operations::place::Placed;
 use tlb::access::Answer;
 use tlb::access::Kind;
 use word::ram::Width;
@@ -53,31 +54,31 @@ pub struct Addressed {
 fn stepped(core: Core, base: u64, ram: &[u8], va: u64, kind: Kind) -> Stepped
     ensures { λ r. ⌜ r ≡ steppedNow core (wordAt base (now (ram .entry)) 8) va kind ⌝ }
 {
-    let who = core.who;
+    let privilege = core.privilege;
     let control = core.control;
     let t = core.tlb;
-    let s = step::bank_at(control, who.level);
-    step::step(t, s, who, base, ram, va, kind)
+    let s = lookup::bank_at(control, privilege.level);
+    step::step(t, s, privilege, base, ram, va, kind)
 }
 
 fn fetch_stepped(core: Core, base: u64, ram: &[u8], va: u64) -> Stepped
     ensures { λ r. ⌜ r ≡ fetchSteppedNow core (wordAt base (now (ram .entry)) 8) va ⌝ }
 {
-    let who = core.who;
+    let privilege = core.privilege;
     let control = core.control;
     let t = core.tlb;
-    let s = step::bank_at(control, who.level);
-    step::fetch_step(t, s, who, base, ram, va)
+    let s = lookup::bank_at(control, privilege.level);
+    step::fetch_step(t, s, privilege, base, ram, va)
 }
 
 fn located(core: Core, base: u64, ram: &[u8], va: u64, width: Width, kind: Kind) -> Located
     ensures { λ r. ⌜ r ≡ locatedNow core (wordAt base (now (ram .entry)) 8) va (bytesIn width) kind ⌝ }
 {
-    let who = core.who;
+    let privilege = core.privilege;
     let control = core.control;
     let t = core.tlb;
-    let s = step::bank_at(control, who.level);
-    step::locate(t, s, who, base, ram, va, width, kind)
+    let s = lookup::bank_at(control, privilege.level);
+    step::locate(t, s, privilege, base, ram, va, width, kind)
 }
 
 // Where an access of the kind to va goes. The fetch hint is neither used nor set.
@@ -87,7 +88,7 @@ pub fn translate(core: Core, base: u64, ram: &[u8], va: u64, kind: Kind) -> Tran
     let a = stepped(core, base, ram, va, kind);
     let t = a.tlb;
     let answer = a.answer;
-    let after = core::moved(core, t, core.last_pa, core.abort_pa);
+    let after = core::after_access(core, t, core.last_pa, core.abort_pa);
     Translated {
         core: after,
         answer,
@@ -108,7 +109,7 @@ pub fn translate_access(
     let a = located(core, base, ram, va, width, kind);
     let t = a.tlb;
     let placed = a.placed;
-    let after = core::moved(core, t, core.last_pa, core.abort_pa);
+    let after = core::after_access(core, t, core.last_pa, core.abort_pa);
     Accessed {
         core: after,
         placed,
@@ -124,7 +125,7 @@ pub fn read(core: Core, base: u64, ram: &[u8], va: u64, width: Width) -> Loaded
     let placed = a.placed;
     let end = ends::load_end(placed, core.last_pa, core.abort_pa, base, ram, va, width);
     let answer = end.answer;
-    let after = core::moved(core, t, end.last_pa, end.abort_pa);
+    let after = core::after_access(core, t, end.last_pa, end.abort_pa);
     Loaded {
         core: after,
         answer,
@@ -141,7 +142,7 @@ pub fn write(core: Core, base: u64, ram: &mut [u8], va: u64, width: Width, value
     let placed = a.placed;
     let end = ends::store_end(placed, core.abort_pa, base, ram, va, width, value);
     let answer = end.answer;
-    let after = core::moved(core, t, core.last_pa, end.abort_pa);
+    let after = core::after_access(core, t, core.last_pa, end.abort_pa);
     Stored {
         core: after,
         answer,
@@ -157,7 +158,7 @@ pub fn fetch(core: Core, base: u64, ram: &[u8], va: u64) -> Fetched
     let at = a.answer;
     let end = ends::fetch_end(at, core.abort_pa, base, ram, va);
     let answer = end.answer;
-    let after = core::moved(core, u, core.last_pa, end.abort_pa);
+    let after = core::after_access(core, u, core.last_pa, end.abort_pa);
     Fetched {
         core: after,
         answer,
@@ -172,7 +173,7 @@ pub fn fetch_pa(core: Core, base: u64, ram: &[u8], va: u64) -> Addressed
     let t = a.tlb;
     let at = a.answer;
     let answer = ends::reach(at);
-    let after = core::moved(core, t, core.last_pa, core.abort_pa);
+    let after = core::after_access(core, t, core.last_pa, core.abort_pa);
     Addressed {
         core: after,
         answer,
@@ -187,7 +188,7 @@ pub fn data_pa(core: Core, base: u64, ram: &[u8], va: u64) -> Addressed
     let t = a.tlb;
     let at = a.answer;
     let answer = ends::reach(at);
-    let after = core::moved(core, t, core.last_pa, core.abort_pa);
+    let after = core::after_access(core, t, core.last_pa, core.abort_pa);
     Addressed {
         core: after,
         answer,

@@ -1,19 +1,18 @@
 // Translations as steps of a cache: the cells taken out, the turn, the cells put back.
 ghost use mathlib.Core.Path.{_≡_};
 ghost use Rattle.word.specs.Ram.{wordAt, bytesIn};
-ghost use Rattle.walk.specs.Regime.{bankOf, regimeOf, stage1On};
 ghost use Rattle.mmu.specs.Step.{slotAt, translateIn, translateFetchIn, locatedOf};
-use crate::place;
-use crate::place::Placed;
-use sysreg::regs::Control;
+use operations::lookup;
+use operations::place;
+use operations::place::Placed;
 use tlb::Tlb;
 use tlb::access;
 use tlb::access::Answer;
 use tlb::access::Kind;
-use tlb::access::Who;
+use tlb::access::Privilege;
 use tlb::cache;
+use tlb::cells;
 use tlb::hint;
-use tlb::turn;
 use walk::regime;
 use walk::regime::Bank;
 use word::ram;
@@ -31,22 +30,6 @@ pub struct Located {
     pub placed: Placed,
 }
 
-// The registers of a level's regime.
-pub fn bank_at(control: Control, level: u8) -> Bank
-    ensures { λ r. ⌜ r ≡ bankOf control (regimeOf level) ⌝ }
-{
-    let r = regime::regime_of(level);
-    regime::bank_of(control, r)
-}
-
-// Whether stage 1 is on at a level.
-pub fn on_at(s: Bank, level: u8) -> bool
-    ensures { λ r. ⌜ r ≡ stage1On s (regimeOf level) ⌝ }
-{
-    let r = regime::regime_of(level);
-    regime::stage1_on(s, r)
-}
-
 // The slot of the entry that may serve va.
 pub fn slot_at(s: Bank, level: u8, va: u64) -> usize
     ensures { λ r. ⌜ r ≡ slotAt s level va ⌝ }
@@ -57,33 +40,41 @@ pub fn slot_at(s: Bank, level: u8, va: u64) -> usize
     tlb::entry::slot(tag)
 }
 
-pub fn step(t: Tlb, s: Bank, who: Who, base: u64, ram: &[u8], va: u64, kind: Kind) -> Stepped
-    ensures { λ r. ⌜ r ≡ translateIn s who (wordAt base (now (ram .entry)) 8) va kind t ⌝ }
+pub fn step(
+    t: Tlb,
+    s: Bank,
+    privilege: Privilege,
+    base: u64,
+    ram: &[u8],
+    va: u64,
+    kind: Kind,
+) -> Stepped
+    ensures { λ r. ⌜ r ≡ translateIn s privilege (wordAt base (now (ram .entry)) 8) va kind t ⌝ }
 {
-    let slot = slot_at(s, who.level, va);
+    let slot = slot_at(s, privilege.level, va);
     let place = hint::data_slot(va, kind);
     let c = t.cache;
     let h = cache::hint_at(c, place);
     let e = cache::entry_at(c, slot);
-    let present = c.present;
+    let current = c.current;
     let counts = t.counts;
-    let r = turn::turn(s, who, present, counts, h, e, va, kind, base, ram);
+    let r = cells::translate(s, privilege, current, counts, h, e, va, kind, base, ram);
     let answer = r.answer;
-    let u = tlb::with_turn(t, place, slot, r);
+    let u = tlb::with_translation(t, place, slot, r);
     Stepped { tlb: u, answer }
 }
 
 // The translation that a fetch begins with.
-pub fn fetch_step(t: Tlb, s: Bank, who: Who, base: u64, ram: &[u8], va: u64) -> Stepped
-    ensures { λ r. ⌜ r ≡ translateFetchIn s who (wordAt base (now (ram .entry)) 8) va t ⌝ }
+pub fn fetch_step(t: Tlb, s: Bank, privilege: Privilege, base: u64, ram: &[u8], va: u64) -> Stepped
+    ensures { λ r. ⌜ r ≡ translateFetchIn s privilege (wordAt base (now (ram .entry)) 8) va t ⌝ }
 {
-    let slot = slot_at(s, who.level, va);
+    let slot = slot_at(s, privilege.level, va);
     let c = t.cache;
     let f = c.fetch;
     let e = cache::entry_at(c, slot);
-    let present = c.present;
+    let current = c.current;
     let counts = t.counts;
-    let r = turn::turn_fetch(s, who, present, counts, f, e, va, base, ram);
+    let r = cells::translate_fetch(s, privilege, current, counts, f, e, va, base, ram);
     let answer = r.answer;
     let u = tlb::with_fetch(t, slot, r);
     Stepped { tlb: u, answer }
@@ -94,25 +85,25 @@ pub fn fetch_step(t: Tlb, s: Bank, who: Who, base: u64, ram: &[u8], va: u64) -> 
 pub fn locate(
     t: Tlb,
     s: Bank,
-    who: Who,
+    privilege: Privilege,
     base: u64,
     ram: &[u8],
     va: u64,
     width: Width,
     kind: Kind,
 ) -> Located
-    ensures { λ r. ⌜ r ≡ locatedOf s who (wordAt base (now (ram .entry)) 8) va (bytesIn width) kind t ⌝ }
+    ensures { λ r. ⌜ r ≡ locatedOf s privilege (wordAt base (now (ram .entry)) 8) va (bytesIn width) kind t ⌝ }
 {
-    let on = on_at(s, who.level);
+    let on = lookup::on_at(s, privilege.level);
     let n = ram::bytes_in(width);
     let split = place::crosses(on, va, n);
-    let first = step(t, s, who, base, ram, va, kind);
+    let first = step(t, s, privilege, base, ram, va, kind);
     let t1 = first.tlb;
     let a1 = first.answer;
     let more = place::goes_on(a1, split);
     if more {
         let next = place::next_page(va);
-        let second = step(t1, s, who, base, ram, next, kind);
+        let second = step(t1, s, privilege, base, ram, next, kind);
         let t2 = second.tlb;
         let a2 = second.answer;
         let placed = place::both(va, a1, a2);

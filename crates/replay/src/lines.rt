@@ -5,9 +5,9 @@ use crate::judge;
 use crate::parts;
 use crate::say;
 use crate::short;
-use machine::line;
-use machine::line::Machine;
-use machine::memory;
+use trace_core::line;
+use trace_core::line::Machine;
+use trace_core::memory;
 use word::bits;
 use words::place::State;
 
@@ -121,7 +121,7 @@ fn arrange(m: Replay, op: &[u64; 8], state: &mut State, ram: &mut [u8]) -> Repla
     out
 }
 
-// Calls are below 20, leaves 20 to 28, pokes 40 to 45.
+// DecodedCall are below 20, leaves 20 to 28, pokes 40 to 45.
 fn is_operation(code: u64) -> bool {
     (code < 29) | ((40 <= code) & (code < 46))
 }

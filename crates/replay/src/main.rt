@@ -10,8 +10,8 @@ mod short;
 mod tables;
 mod tally;
 
-use lines::Replay;
 use report::Total;
+use trace_file::Replay;
 use word::bits;
 use words::place::State;
 use words::place::WORDS;
@@ -57,7 +57,7 @@ fn named(
     if fd < 0 {
         return one_wrong(t, b": no such file\n");
     }
-    let m = lines::record(fd, state, ram, counts);
+    let m = trace_file::record(fd, state, ram, counts);
     libc::close(fd);
     report::file(m);
     with_record(t, m)
@@ -96,7 +96,7 @@ fn judged(t: Total) -> Total {
 }
 
 fn main() {
-    let mut ram = machine::memory::zeros();
+    let mut ram = trace_core::memory::zeros();
     let mut state = [0u64; WORDS];
     let mut counts = [0u64; 2048];
     let t = arguments(&mut state, &mut ram, &mut counts);

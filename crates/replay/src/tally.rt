@@ -1,7 +1,7 @@
 // How often each operation gave each answer. A row for each kind of operation, 84 places long.
 use word::bits;
 
-// Kinds, in the order of their names.
+// DecodedKind, in the order of their names.
 fn system_kind(op: &[u64; 8]) -> u64 {
     let zeroing = (op[1] == 3) & (op[2] == 7) & (op[3] == 4) & (op[4] == 1);
     if zeroing {

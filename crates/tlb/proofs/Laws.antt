@@ -10,17 +10,17 @@ use Rattle.tlb.specs.Entry.{slotOf, serves, stamped, untagged, spanOf, p
 use Rattle.tlb.specs.Hint.{hintKey, pageOf, hintFor, onPage, fetchServes, fetchFound}
 use Rattle.tlb.specs.Cache.{blanks, hintless, renewed, entryAt, setEntry, setHint, setFetch, nextGeneration, flushed, withoutAsid, retagged}
 use Rattle.tlb.specs.Tlb.{getOf, putOf, retagOf, dropAsidOf, sameInval, pendingAfter}
-use Rattle.tlb.specs.Step.{withTurn, withFetch}
+use Rattle.tlb.specs.Step.{withTranslation, withFetch}
 use Rattle.tlb.specs.Lists.{getD-any}
 use Rattle.tlb.specs.declared.entry.Entry.{Entry}
-use Rattle.tlb.specs.declared.entry.Present.{Present}
+use Rattle.tlb.specs.declared.entry.Current.{Current}
 use Rattle.tlb.specs.declared.hint.Hint.{Hint}
 use Rattle.tlb.specs.declared.hint.FetchHint.{FetchHint}
-use Rattle.tlb.specs.declared.hint.Physical.the-variants.{At, Unknown}
+use Rattle.tlb.specs.declared.hint.HintAnswer.the-variants.{At, Unknown}
 use Rattle.tlb.specs.declared.cache.Cache.{Cache}
 use Rattle.tlb.specs.declared.count.Counts.{Counts}
-use Rattle.tlb.specs.declared.turn.Turned.{Turned}
-use Rattle.tlb.specs.declared.turn.FetchTurned.{FetchTurned}
+use Rattle.tlb.specs.declared.cells.Translation.{Translation}
+use Rattle.tlb.specs.declared.cells.FetchTranslation.{FetchTranslation}
 use Rattle.tlb.specs.declared.Tlb.{Tlb}
 use Rattle.tlb.specs.declared.Inval.{Inval}
 use Rattle.tlb.specs.declared.Inval.the-variants.{All}
@@ -69,38 +69,38 @@ module _ (f : FetchHint) (level va : ℕ) where
   fetch-unknown b = rw b
 
 -- structs from their parts
-pub cache-is : (p : Present) (f f′ : FetchHint) (hs hs′ : List Hint) (es es′ : List Entry) → f ≡ f′ → hs ≡ hs′ → es ≡ es′
-    → _≡_ {A = Cache} (record { present = p; fetch = f; hints = hs; entries = es })
-    (record { present = p; fetch = f′; hints = hs′; entries = es′ })
-cache-is p f f′ hs hs′ es es′ a b c = λ i. record { present = p; fetch = a i; hints = b i; entries = c i }
+pub cache-is : (p : Current) (f f′ : FetchHint) (hs hs′ : List Hint) (es es′ : List Entry) → f ≡ f′ → hs ≡ hs′ → es ≡ es′
+    → _≡_ {A = Cache} (record { current = p; fetch = f; hints = hs; entries = es })
+    (record { current = p; fetch = f′; hints = hs′; entries = es′ })
+cache-is p f f′ hs hs′ es es′ a b c = λ i. record { current = p; fetch = a i; hints = b i; entries = c i }
 
 pub tlb-is : (c c′ : Cache) (k k′ : Counts) (p p′ : Pending) → c ≡ c′ → k ≡ k′ → p ≡ p′
     → _≡_ {A = Tlb} (record { cache = c; counts = k; broadcast = p }) (record { cache = c′; counts = k′; broadcast = p′ })
 tlb-is c c′ k k′ p p′ a b d = λ i. record { cache = a i; counts = b i; broadcast = d i }
 
 -- a cache renewed from one without hints has none
-pub hintless-is : (c b r : Cache) (p : Present) (es es′ : List Entry) → b ≡ hintless (c .present) (c .entries) → r ≡ renewed b p es
+pub hintless-is : (c b r : Cache) (p : Current) (es es′ : List Entry) → b ≡ hintless (c .current) (c .entries) → r ≡ renewed b p es
     → es ≡ es′ → r ≡ hintless p es′
 hintless-is c b r p es es′ x y z = y ∙ ap (λ (k : Cache). renewed k p es) x ∙ ap (hintless p) z
 
-module _ (c b : Cache) (eb : b ≡ hintless (c .present) (c .entries)) (g : ℕ) (eg : g ≡ nextGeneration (c .present .generation)) (r : Cache)
+module _ (c b : Cache) (eb : b ≡ hintless (c .current) (c .entries)) (g : ℕ) (eg : g ≡ nextGeneration (c .current .generation)) (r : Cache)
   where
-    pub flush-wraps : (es : List Entry) → eqb g 0 ≡ true → es ≡ blanks → r ≡ renewed b (record { generation = 1; asid = c .present .asid }) es
+    pub flush-wraps : (es : List Entry) → eqb g 0 ≡ true → es ≡ blanks → r ≡ renewed b (record { generation = 1; asid = c .current .asid }) es
         → r ≡ flushed c
     unfolding flushed
     flush-wraps es f q e = rw (← eg, f) (hintless-is c b r _ es blanks eb e q)
 
-    pub flush-next : eqb g 0 ≡ false → r ≡ renewed b (record { generation = g; asid = c .present .asid }) (c .entries) → r ≡ flushed c
+    pub flush-next : eqb g 0 ≡ false → r ≡ renewed b (record { generation = g; asid = c .current .asid }) (c .entries) → r ≡ flushed c
     unfolding flushed
     flush-next f e = rw (← eg, f) (hintless-is c b r _ (c .entries) (c .entries) eb e refl)
 
 -- an entry stored
-pub entry-stored : (c r : Cache) (i : ℕ) (e : Entry) (es : List Entry) → es ≡ set (c .entries) i e → r ≡ renewed c (c .present) es
+pub entry-stored : (c r : Cache) (i : ℕ) (e : Entry) (es : List Entry) → es ≡ set (c .entries) i e → r ≡ renewed c (c .current) es
     → r ≡ setEntry c i e
-entry-stored c r i e es p q = q ∙ ap (renewed c (c .present)) p
+entry-stored c r i e es p q = q ∙ ap (renewed c (c .current)) p
 
 module _ (t : Tlb) (tag s : ℕ) (e : Entry) (b : Bool) (q : s ≡ slotOf tag) (p : e ≡ entryAt (t .cache) s)
-    (w : b ≡ serves e (t .cache .present) tag) where
+    (w : b ≡ serves e (t .cache .current) tag) where
   pub got : b ≡ true → Hit e ≡ getOf t tag
   unfolding getOf
   got h = rw (← q, ← p, ← w, h)
@@ -109,22 +109,22 @@ module _ (t : Tlb) (tag s : ℕ) (e : Entry) (b : Bool) (q : s ≡ slotOf tag) (
   unfolding getOf
   missed h = rw (← q, ← p, ← w, h)
 
-pub stored : (t : Tlb) (e m : Entry) (s : ℕ) (c : Cache) → s ≡ slotOf (e .tag) → m ≡ stamped e (t .cache .present .generation)
+pub stored : (t : Tlb) (e m : Entry) (s : ℕ) (c : Cache) → s ≡ slotOf (e .tag) → m ≡ stamped e (t .cache .current .generation)
     → c ≡ setEntry (t .cache) s m → _≡_ {A = Tlb} (record { cache = c; counts = t .counts; broadcast = t .broadcast }) (putOf t e)
 unfolding putOf
 stored t e m s c q p w = tlb-is c _ _ _ _ _ (w ∙ rw (q, p)) refl refl
 
 -- cells put back one after the other
-pub turn-stored : (t : Tlb) (i j : ℕ) (r : Turned) (c d : Cache) → c ≡ setEntry (t .cache) j (r .entry) → d ≡ setHint c i (r .hint)
-    → _≡_ {A = Tlb} (record { cache = d; counts = r .counts; broadcast = t .broadcast }) (withTurn t i j r)
-turn-stored t i j r c d p q = tlb-is d _ _ _ _ _ (q ∙ rw p) refl refl
+pub translation-stored : (t : Tlb) (i j : ℕ) (r : Translation) (c d : Cache) → c ≡ setEntry (t .cache) j (r .entry) → d ≡ setHint c i (r .hint)
+    → _≡_ {A = Tlb} (record { cache = d; counts = r .counts; broadcast = t .broadcast }) (withTranslation t i j r)
+translation-stored t i j r c d p q = tlb-is d _ _ _ _ _ (q ∙ rw p) refl refl
 
-pub fetch-stored : (t : Tlb) (j : ℕ) (r : FetchTurned) (c d : Cache) → c ≡ setEntry (t .cache) j (r .entry) → d ≡ setFetch c (r .fetch)
+pub fetch-stored : (t : Tlb) (j : ℕ) (r : FetchTranslation) (c d : Cache) → c ≡ setEntry (t .cache) j (r .entry) → d ≡ setFetch c (r .fetch)
     → _≡_ {A = Tlb} (record { cache = d; counts = r .counts; broadcast = t .broadcast }) (withFetch t j r)
 fetch-stored t j r c d p q = tlb-is d _ _ _ _ _ (q ∙ rw p) refl refl
 
 pub asid-drops : (t r : Tlb) (n : ℕ) (c : Cache) → c ≡ withoutAsid (t .cache) n
-    → r ≡ retagOf (record { cache = c; counts = t .counts; broadcast = t .broadcast }) (t .cache .present .asid) → r ≡ dropAsidOf t n
+    → r ≡ retagOf (record { cache = c; counts = t .counts; broadcast = t .broadcast }) (t .cache .current .asid) → r ≡ dropAsidOf t n
 unfolding dropAsidOf retagOf retagged withoutAsid
 asid-drops t r n c q e = e ∙ rw q
 

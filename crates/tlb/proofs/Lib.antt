@@ -1,3 +1,3 @@
 -- What the proofs share.
 pub mod Laws
-pub mod Turning
+pub mod Translating

@@ -11,7 +11,7 @@ use Rattle.tlb.specs.Hint.{onPage}
 use Rattle.tlb.specs.declared.entry.Entry.{Entry}
 use Rattle.tlb.specs.declared.access.Kind.{Kind}
 use Rattle.tlb.specs.declared.access.Kind.the-variants.{Read, Write, Fetch}
-use Rattle.tlb.specs.declared.access.Who.{Who}
+use Rattle.tlb.specs.declared.access.Privilege.{Privilege}
 use Rattle.tlb.specs.declared.access.Answer.{Answer}
 use Rattle.tlb.specs.declared.access.Answer.the-variants.{Address, Status}
 
@@ -21,8 +21,8 @@ isFetch Write = false
 isFetch Fetch = true
 
 -- hints serve reads and writes, and not while the mark holds
-abbrev pub mayHint : Who → Kind → Bool
-mayHint who kind = not (isFetch kind) && not (who .mark)
+abbrev pub mayHint : Privilege → Kind → Bool
+mayHint privilege kind = not (isFetch kind) && not (privilege .unprivileged)
 
 abbrev pub regimeNumber : Regime → ℕ
 regimeNumber El1 = 1
@@ -35,12 +35,12 @@ ifTwoRanges El2 b = false
 ifTwoRanges El3 b = false
 
 -- at EL0, or under the mark unless it is a fetch
-abbrev pub asUser : Who → Kind → Bool
-asUser who kind = eqb (who .level) 0 || (who .mark && not (isFetch kind))
+abbrev pub countsAsUser : Privilege → Kind → Bool
+countsAsUser privilege kind = eqb (privilege .level) 0 || (privilege .unprivileged && not (isFetch kind))
 
 -- in regime 1 alone
-abbrev pub userOf : Regime → Who → Kind → Bool
-userOf r who kind = ifTwoRanges r (asUser who kind)
+abbrev pub userOf : Regime → Privilege → Kind → Bool
+userOf r privilege kind = ifTwoRanges r (countsAsUser privilege kind)
 
 -- the untagged page times 4 plus the regime
 abbrev pub tagOf : Regime → ℕ → ℕ

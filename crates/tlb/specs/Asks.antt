@@ -4,7 +4,7 @@ use mathlib.Core.Path.{_≡_, refl}
 use mathlib.Core.List.{List, [], _∷_}
 use Prim.Native.Nat.{ℕ}
 use Rattle.tlb.specs.Model.{Access}
-use Rattle.tlb.specs.Step.{turnIn, turned, fetchIn, fetchedIn}
+use Rattle.tlb.specs.Step.{translationIn, tlbAfter, fetchIn, fetchedIn}
 use Rattle.tlb.specs.declared.access.Kind.{Kind}
 use Rattle.tlb.specs.declared.access.Kind.the-variants.{Fetch}
 use Rattle.tlb.specs.declared.access.Answer.{Answer}
@@ -43,11 +43,11 @@ onward-same (Status f) x = refl
 -- translation and the cache after it; the answers to a step's, and the cache after them.
 module _ (access : Kind → ℕ → Access) where
   abbrev pub answerOf : Ask → Tlb → Answer
-  answerOf (translates k va) t = turnIn (access k va) t .answer
+  answerOf (translates k va) t = translationIn (access k va) t .answer
   answerOf (fetches va) t = fetchIn (access Fetch va) t .answer
 
   abbrev pub tlbAsk : Ask → Tlb → Tlb
-  tlbAsk (translates k va) t = turned (access k va) t
+  tlbAsk (translates k va) t = tlbAfter (access k va) t
   tlbAsk (fetches va) t = fetchedIn (access Fetch va) t
 
   abbrev pub answers : List Ask → Tlb → List Given

@@ -7,7 +7,7 @@ use Rattle.word.specs.Bits.{pick}
 use Rattle.tlb.specs.Entry.{blank, pageDropped, asidDropped}
 use Rattle.tlb.specs.Hint.{noHint, noFetch}
 use Rattle.tlb.specs.declared.entry.Entry.{Entry}
-use Rattle.tlb.specs.declared.entry.Present.{Present}
+use Rattle.tlb.specs.declared.entry.Current.{Current}
 use Rattle.tlb.specs.declared.hint.Hint.{Hint}
 use Rattle.tlb.specs.declared.hint.FetchHint.{FetchHint}
 use Rattle.tlb.specs.declared.cache.Cache.{Cache}
@@ -19,12 +19,12 @@ unfoldable pub noHints : List Hint
 noHints = replicate 512 noHint
 
 -- a cache without hints
-abbrev pub hintless : Present → List Entry → Cache
-hintless p es = record { present = p; fetch = noFetch; hints = noHints; entries = es }
+abbrev pub hintless : Current → List Entry → Cache
+hintless p es = record { current = p; fetch = noFetch; hints = noHints; entries = es }
 
 -- the hints of c with the rest anew
-abbrev pub renewed : Cache → Present → List Entry → Cache
-renewed c p es = record { present = p; fetch = c .fetch; hints = c .hints; entries = es }
+abbrev pub renewed : Cache → Current → List Entry → Cache
+renewed c p es = record { current = p; fetch = c .fetch; hints = c .hints; entries = es }
 
 abbrev pub emptyCache : Cache
 emptyCache = hintless (record { generation = 1; asid = 0 }) blanks
@@ -36,13 +36,13 @@ abbrev pub hintAt : Cache → ℕ → Hint
 hintAt c i = getD (c .hints) i noHint
 
 abbrev pub setEntry : Cache → ℕ → Entry → Cache
-setEntry c i e = renewed c (c .present) (set (c .entries) i e)
+setEntry c i e = renewed c (c .current) (set (c .entries) i e)
 
 abbrev pub setHint : Cache → ℕ → Hint → Cache
-setHint c i h = record { present = c .present; fetch = c .fetch; hints = set (c .hints) i h; entries = c .entries }
+setHint c i h = record { current = c .current; fetch = c .fetch; hints = set (c .hints) i h; entries = c .entries }
 
 abbrev pub setFetch : Cache → FetchHint → Cache
-setFetch c f = record { present = c .present; fetch = f; hints = c .hints; entries = c .entries }
+setFetch c f = record { current = c .current; fetch = f; hints = c .hints; entries = c .entries }
 
 -- the generation wraps at 2^32
 abbrev pub nextGeneration : ℕ → ℕ
@@ -51,15 +51,15 @@ nextGeneration g = (g + 1) % 2 ^ 32
 -- all out: the next generation; where it wraps, the entries are cleared and it is 1
 unfoldable pub flushed : Cache → Cache
 flushed c =
-    pick (eqb (nextGeneration (c .present .generation)) 0)
-    (hintless (record { generation = 1; asid = c .present .asid }) blanks)
-    (hintless (record { generation = nextGeneration (c .present .generation); asid = c .present .asid }) (c .entries))
+    pick (eqb (nextGeneration (c .current .generation)) 0)
+    (hintless (record { generation = 1; asid = c .current .asid }) blanks)
+    (hintless (record { generation = nextGeneration (c .current .generation); asid = c .current .asid }) (c .entries))
 
 unfoldable pub withoutPage : Cache → ℕ → Cache
-withoutPage c page = hintless (c .present) (map (pageDropped (c .present .generation) page) (c .entries))
+withoutPage c page = hintless (c .current) (map (pageDropped (c .current .generation) page) (c .entries))
 
 unfoldable pub withoutAsid : Cache → ℕ → Cache
-withoutAsid c n = hintless (c .present) (map (asidDropped n) (c .entries))
+withoutAsid c n = hintless (c .current) (map (asidDropped n) (c .entries))
 
 unfoldable pub retagged : Cache → ℕ → Cache
-retagged c n = hintless (record { generation = c .present .generation; asid = n }) (c .entries)
+retagged c n = hintless (record { generation = c .current .generation; asid = n }) (c .entries)

@@ -17,12 +17,12 @@ use Rattle.tlb.specs.Access.{isFetch, mayHint, regimeNumber, ifTwoRanges
 use Rattle.tlb.specs.Model.{Slot, empty, holds, Line, reachOf, reaches, belongsTo, spanBits, covers, uncovered, sameRegime, serving, knowing, Access, asUser, need, needIn, judge, hintable}
 use Rattle.tlb.specs.Live.{lineIn, tagged, lineOf, hintOf, fetchHintOf, Made}
 use Rattle.tlb.specs.declared.entry.Entry.{Entry}
-use Rattle.tlb.specs.declared.entry.Present.{Present}
+use Rattle.tlb.specs.declared.entry.Current.{Current}
 use Rattle.tlb.specs.declared.access.Kind.{Kind}
 use Rattle.tlb.specs.declared.access.Kind.the-variants.{Read, Write, Fetch}
 use Rattle.tlb.specs.declared.hint.Hint.{Hint}
 use Rattle.tlb.specs.declared.hint.FetchHint.{FetchHint}
-use Rattle.tlb.specs.declared.access.Who.{Who}
+use Rattle.tlb.specs.declared.access.Privilege.{Privilege}
 use Rattle.tlb.specs.declared.access.Answer.the-variants.{Address, Status}
 use Rattle.tlb.specs.declared.Inval.{Inval}
 use Rattle.tlb.specs.declared.Inval.the-variants.{All, Page, Asid}
@@ -94,7 +94,7 @@ module _ (a p : ℕ) (e : Entry) where
       let none : n ≡ 0 = omega arith in rw none (in-regime r El3 (eqb (e .tag / 4) p))
 
 -- an entry serves a tag just where its line serves the page and the regime
-pub found : (at : Present) (r : Regime) (p : ℕ) (e : Entry)
+pub found : (at : Current) (r : Regime) (p : ℕ) (e : Entry)
     → serving (at .asid) r p (lineOf (at .generation) e)
     ≡ pick (serves e at (p * 4 + regimeNumber r)) (holds (lineIn r e)) empty
 unfolding lineOf
@@ -147,17 +147,17 @@ right-is Read false perms = refl
 right-is Write false perms = refl
 right-is Fetch false perms = refl
 
-pub may-is : (who : Who) (k : Kind) → mayHint who k ≡ hintable k (who .mark)
-may-is who Read = refl
-may-is who Write = refl
-may-is who Fetch = refl
+pub may-is : (privilege : Privilege) (k : Kind) → mayHint privilege k ≡ hintable k (privilege .unprivileged)
+may-is privilege Read = refl
+may-is privilege Write = refl
+may-is privilege Fetch = refl
 
 pub judged-is : (g : ℕ) (r : Regime) (e : Entry) (a : Access) → Made g e
-    → judged e (userOf (a .regime) (a .who) (a .kind)) (a .kind) (a .va) ≡ judge (lineIn r e) a
+    → judged e (userOf (a .regime) (a .privilege) (a .kind)) (a .kind) (a .va) ≡ judge (lineIn r e) a
 unfolding judged judge
 judged-is g r e a m =
-    let has : hasRight (e .perms) (rightOf (a .kind) (userOf (a .regime) (a .who) (a .kind))) ≡ eqb (e .perms / needIn a % 2) 1 =
-    ap (λ (u : Bool). hasRight (e .perms) (rightOf (a .kind) u)) (user-is (a .regime) (a .who .level) (a .who .mark) (a .kind))
+    let has : hasRight (e .perms) (rightOf (a .kind) (userOf (a .regime) (a .privilege) (a .kind))) ≡ eqb (e .perms / needIn a % 2) 1 =
+    ap (λ (u : Bool). hasRight (e .perms) (rightOf (a .kind) u)) (user-is (a .regime) (a .privilege .level) (a .privilege .unprivileged) (a .kind))
     ∙ right-is (a .kind) _ (e .perms) in
     λ i. pick (has i) (Address (on-aligned (e .pa) (a .va) (m .aligned) i)) (Status (first (or-level (e .level) (m .level) i)))
 

@@ -10,39 +10,39 @@ use Rattle.tlb.specs.declared.access.Answer.the-variants.{Address, Statu
 
 -- by a hint, by the address itself where stage 1 is off, by a line, or by a walk, whether it faults or not
 pub data How : Type 0 where
-  byHint : How
-  byItself : How
-  byLine : How
-  byWalk : How
+  hintAnswered : How
+  itself : How
+  lineAnswered : How
+  walkAnswered : How
 
 -- a line is a hit, every walk counts one, a hint and the address itself nothing
-abbrev pub countedBy : How → Counters → Counters
-countedBy byHint k = k
-countedBy byItself k = k
-countedBy byLine k = oneHit k
-countedBy byWalk k = oneWalk k
+abbrev pub howCounted : How → Counters → Counters
+howCounted hintAnswered k = k
+howCounted itself k = k
+howCounted lineAnswered k = oneHit k
+howCounted walkAnswered k = oneWalk k
 
 abbrev pub howLooked : Bool → Slot Line → How
-howLooked false l = byItself
-howLooked true (holds l) = byLine
-howLooked true empty = byWalk
+howLooked false l = itself
+howLooked true (holds l) = lineAnswered
+howLooked true empty = walkAnswered
 
 abbrev pub howUnhinted : Access → Model → How
 howUnhinted a m = howLooked (a .on) (lineFor m (a .regime) (a .untagged / 4096))
 
 abbrev pub howTried : Slot ℕ → How → How
-howTried (holds frame) other = byHint
+howTried (holds frame) other = hintAnswered
 howTried empty other = other
 
 abbrev pub howHinted : Bool → Access → Model → How
-howHinted true a m = howTried (knowing (a .va / 4096) (a .who .level) (m .hints (hintPlace (a .kind) (a .va)))) (howUnhinted a m)
+howHinted true a m = howTried (knowing (a .va / 4096) (a .privilege .level) (m .hints (hintPlace (a .kind) (a .va)))) (howUnhinted a m)
 howHinted false a m = howUnhinted a m
 
 abbrev pub howTranslated : Access → Model → How
-howTranslated a m = howHinted (hintable (a .kind) (a .who .mark)) a m
+howTranslated a m = howHinted (hintable (a .kind) (a .privilege .unprivileged)) a m
 
 abbrev pub howFetched : Access → Model → How
-howFetched a m = howTried (knowing (a .va / 4096) (a .who .level) (m .fetch)) (howUnhinted a m)
+howFetched a m = howTried (knowing (a .va / 4096) (a .privilege .level) (m .fetch)) (howUnhinted a m)
 
 module _ (a : Access) (m : Model) where
   walk-counts : (w : Walked) → walked w a m .after .counts ≡ oneWalk (m .counts)
@@ -50,13 +50,13 @@ module _ (a : Access) (m : Model) where
   walk-counts (Mapped leaf) = refl
   walk-counts (Fault code) = refl
 
-  look-counts : (l : Slot Line) → looked l a m .after .counts ≡ countedBy (howLooked true l) (m .counts)
+  look-counts : (l : Slot Line) → looked l a m .after .counts ≡ howCounted (howLooked true l) (m .counts)
   unfolding looked
   look-counts (holds l) = refl
   look-counts empty = walk-counts (a .walk)
 
   miss-counts : (on : Bool)
-      → unhinted on a m .after .counts ≡ countedBy (howLooked on (lineFor m (a .regime) (a .untagged / 4096))) (m .counts)
+      → unhinted on a m .after .counts ≡ howCounted (howLooked on (lineFor m (a .regime) (a .untagged / 4096))) (m .counts)
   unfolding unhinted
   miss-counts true = look-counts (lineFor m (a .regime) (a .untagged / 4096))
   miss-counts false = refl
@@ -69,24 +69,24 @@ module _ (a : Access) (m : Model) where
   note-fetch-counts (Address pa) n = refl
   note-fetch-counts (Status f) n = refl
 
-  try-counts : (h : Slot ℕ) → tried h a m .after .counts ≡ countedBy (howTried h (howUnhinted a m)) (m .counts)
+  try-counts : (h : Slot ℕ) → tried h a m .after .counts ≡ howCounted (howTried h (howUnhinted a m)) (m .counts)
   unfolding tried noted
   try-counts (holds frame) = refl
   try-counts empty = note-counts (unhinted (a .on) a m .answer) (unhinted (a .on) a m .after) ∙ miss-counts (a .on)
 
-  try-fetch-counts : (h : Slot ℕ) → fetched h a m .after .counts ≡ countedBy (howTried h (howUnhinted a m)) (m .counts)
+  try-fetch-counts : (h : Slot ℕ) → fetched h a m .after .counts ≡ howCounted (howTried h (howUnhinted a m)) (m .counts)
   unfolding fetched notedFetch
   try-fetch-counts (holds frame) = refl
   try-fetch-counts empty = note-fetch-counts (unhinted (a .on) a m .answer) (unhinted (a .on) a m .after) ∙ miss-counts (a .on)
 
-  pub translate-counts : translate a m .after .counts ≡ countedBy (howTranslated a m) (m .counts)
+  pub translate-counts : translate a m .after .counts ≡ howCounted (howTranslated a m) (m .counts)
   unfolding translate hinted
-  translate-counts = go (hintable (a .kind) (a .who .mark))
+  translate-counts = go (hintable (a .kind) (a .privilege .unprivileged))
     where
-      go : (b : Bool) → hinted b a m .after .counts ≡ countedBy (howHinted b a m) (m .counts)
-      go true = try-counts (knowing (a .va / 4096) (a .who .level) (m .hints (hintPlace (a .kind) (a .va))))
+      go : (b : Bool) → hinted b a m .after .counts ≡ howCounted (howHinted b a m) (m .counts)
+      go true = try-counts (knowing (a .va / 4096) (a .privilege .level) (m .hints (hintPlace (a .kind) (a .va))))
       go false = miss-counts (a .on)
 
-  pub fetch-counts : fetch a m .after .counts ≡ countedBy (howFetched a m) (m .counts)
+  pub fetch-counts : fetch a m .after .counts ≡ howCounted (howFetched a m) (m .counts)
   unfolding fetch
-  fetch-counts = try-fetch-counts (knowing (a .va / 4096) (a .who .level) (m .fetch))
+  fetch-counts = try-fetch-counts (knowing (a .va / 4096) (a .privilege .level) (m .fetch))

@@ -4,7 +4,7 @@ use Prim.Native.Nat.{ℕ, _/_, _%_, _^_}
 use lib.Dec.{eqb}
 use Rattle.word.specs.Bits.{pick}
 use Rattle.tlb.specs.declared.entry.Entry.{Entry}
-use Rattle.tlb.specs.declared.entry.Present.{Present}
+use Rattle.tlb.specs.declared.entry.Current.{Current}
 
 -- an entry that answers for no tag
 abbrev pub blank : Entry
@@ -15,7 +15,7 @@ abbrev pub slotOf : ℕ → ℕ
 slotOf tag = tag / 4 % 1024
 
 -- it has the tag, is of the present generation, and is global or of the ASID in force
-abbrev pub serves : Entry → Present → ℕ → Bool
+abbrev pub serves : Entry → Current → ℕ → Bool
 serves e at tag = (eqb (e .tag) tag && eqb (e .generation) (at .generation)) && (e .global || eqb (e .asid) (at .asid))
 
 abbrev pub stamped : Entry → ℕ → Entry

@@ -8,8 +8,8 @@ use Rattle.tlb.specs.declared.access.Kind.{Kind}
 use Rattle.tlb.specs.declared.access.Kind.the-variants.{Read, Write, Fetch}
 use Rattle.tlb.specs.declared.hint.Hint.{Hint}
 use Rattle.tlb.specs.declared.hint.FetchHint.{FetchHint}
-use Rattle.tlb.specs.declared.hint.Physical.{Physical}
-use Rattle.tlb.specs.declared.hint.Physical.the-variants.{At, Unknown}
+use Rattle.tlb.specs.declared.hint.HintAnswer.{HintAnswer}
+use Rattle.tlb.specs.declared.hint.HintAnswer.the-variants.{At, Unknown}
 
 -- the hint that matches no key
 abbrev pub noHint : Hint
@@ -51,5 +51,5 @@ fetchFor va level pa = record { some = true; page = pageOf va; level = level; pa
 abbrev pub fetchServes : FetchHint → ℕ → ℕ → Bool
 fetchServes f level va = (f .some && eqb (f .page) (pageOf va)) && eqb (f .level) level
 
-abbrev pub fetchFound : FetchHint → ℕ → ℕ → Physical
+abbrev pub fetchFound : FetchHint → ℕ → ℕ → HintAnswer
 fetchFound f level va = pick (fetchServes f level va) (At (onPage (f .pa) va)) Unknown

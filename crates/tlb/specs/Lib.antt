@@ -7,7 +7,7 @@ pub mod Lists
 pub mod Cache
 pub mod Tlb
 pub mod Resolve
-pub mod Turn
+pub mod Translate
 pub mod Model
 pub mod Live
 pub mod Cells

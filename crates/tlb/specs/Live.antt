@@ -71,8 +71,8 @@ countersOf k = record { hits = k .hits; walks = k .walks; flushes = k .flushes; 
 abbrev pub live : Tlb → Model
 live t =
     record {
-      asid = t .cache .present .asid;
-      lines = linesOf (t .cache .present .generation) (t .cache .entries);
+      asid = t .cache .current .asid;
+      lines = linesOf (t .cache .current .generation) (t .cache .entries);
       hints = hintsOf (t .cache .hints);
       fetch = fetchHintOf (t .cache .fetch);
       counts = countersOf (t .counts);
@@ -89,11 +89,11 @@ abbrev pub Aligned : Hint → Type 0
 Aligned h = h .pa % 4096 ≡ 0
 
 pub record Sound (c : Cache) : Type 0 where
-  pub first : 1 ≤ c .present .generation
-  pub last : c .present .generation < 2 ^ 32
+  pub first : 1 ≤ c .current .generation
+  pub last : c .current .generation < 2 ^ 32
   pub slots : length (c .entries) ≡ 1024
   pub places : length (c .hints) ≡ 512
-  pub entries : Each (Made (c .present .generation)) (c .entries)
+  pub entries : Each (Made (c .current .generation)) (c .entries)
   pub hints : Each Aligned (c .hints)
   pub fetch-page : c .fetch .page % 4096 ≡ 0
   pub fetch-pa : c .fetch .pa % 4096 ≡ 0

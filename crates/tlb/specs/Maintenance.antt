@@ -17,7 +17,7 @@ unfoldable pub reshapedOf : Tlb → Bool → Tlb
 reshapedOf t same = pick same t (flushOf t)
 
 unfoldable pub retaggedOf : Tlb → ℕ → Tlb
-retaggedOf t asid = pick (eqb (t .cache .present .asid) asid) t (retagOf t asid)
+retaggedOf t asid = pick (eqb (t .cache .current .asid) asid) t (retagOf t asid)
 
 abbrev pub refitBy : Tlb → Bool → ℕ → Tlb
 refitBy t same asid = retaggedOf (reshapedOf t same) asid

@@ -12,9 +12,9 @@ use Rattle.tlb.specs.Entry.{blank, serves}
 use Rattle.tlb.specs.Count.{hitCounted, walkCounted}
 use Rattle.tlb.specs.Lists.{each-getD}
 use Rattle.tlb.specs.Cache.{entryAt, setEntry}
-use Rattle.tlb.specs.Tlb.{moved}
+use Rattle.tlb.specs.Tlb.{tlbWith}
 use Rattle.tlb.specs.Resolve.{queryOf, entryFor, byWalk, resolveWith, countedBy, keptBy}
-use Rattle.tlb.specs.Turn.{missWith}
+use Rattle.tlb.specs.Translate.{missWith}
 use Rattle.tlb.specs.Model.{empty, holds, Line, oneWalk, counting, keep, Access, lineOfLeaf, reachOf, judge, walked, looked, unhinted, fetch}
 use Rattle.tlb.specs.Live.{Follows, lineIn, live, Made, Sound, WellFormed, LeafLevel}
 use Rattle.tlb.specs.Cells.{judged-is}
@@ -29,11 +29,11 @@ use Rattle.tlb.specs.declared.Tlb.{Tlb}
 
 -- a cell put back as it was
 same-entry : (c : Cache) (i : ℕ) → setEntry c i (entryAt c i) ≡ c
-same-entry c i = λ n. record { present = c .present; fetch = c .fetch; hints = c .hints; entries = set-getD (c .entries) i blank n }
+same-entry c i = λ n. record { current = c .current; fetch = c .fetch; hints = c .hints; entries = set-getD (c .entries) i blank n }
 
 -- its entry and its counters, put back
 abbrev pub withEntry : Tlb → ℕ → Resolved → Tlb
-withEntry t j r = moved t (setEntry (t .cache) j (keptBy (r .source) (entryAt (t .cache) j) (r .made))) (countedBy (r .source) (t .counts))
+withEntry t j r = tlbWith t (setEntry (t .cache) j (keptBy (r .source) (entryAt (t .cache) j) (r .made))) (countedBy (r .source) (t .counts))
 
 -- WITHOUT A HINT
 
@@ -44,25 +44,25 @@ module _ (a : Access) (t : Tlb) (s : WellFormed t) (fits : LeafLevel (a .walk)) 
   abbrev query : Query
   query = queryOf (a .regime) (a .untagged)
 
-  entry-made : Made (t .cache .present .generation) entry
-  entry-made = each-getD {P = Made (t .cache .present .generation)} blank (blank-made _) (s .entries) (slotFor a)
+  entry-made : Made (t .cache .current .generation) entry
+  entry-made = each-getD {P = Made (t .cache .current .generation)} blank (blank-made _) (s .entries) (slotFor a)
 
   -- counters may move, the entry stays
-  pub unmoved : (k : Counts) → live (moved t (setEntry (t .cache) (slotFor a) entry) k)
-      ≡ live (moved t (t .cache) k)
-  unmoved k = ap (λ (c : Cache). live (moved t c k)) (same-entry (t .cache) (slotFor a))
+  pub unmoved : (k : Counts) → live (tlbWith t (setEntry (t .cache) (slotFor a) entry) k)
+      ≡ live (tlbWith t (t .cache) k)
+  unmoved k = ap (λ (c : Cache). live (tlbWith t c k)) (same-entry (t .cache) (slotFor a))
 
   pub still-sound : Sound (setEntry (t .cache) (slotFor a) entry)
   still-sound = set-sound (t .cache) (slotFor a) entry s entry-made
 
   -- a leaf's entry is made, and is the leaf's line
   abbrev made : Leaf → Entry
-  made leaf = entryFor leaf (t .cache .present) (query .tag)
+  made leaf = entryFor leaf (t .cache .current) (query .tag)
 
-  leaf-made : (leaf : Leaf) → a .walk ≡ Mapped leaf → Made (t .cache .present .generation) (made leaf)
+  leaf-made : (leaf : Leaf) → a .walk ≡ Mapped leaf → Made (t .cache .current .generation) (made leaf)
   leaf-made leaf q = record { early = omega arith; aligned = omega arith; level = fits leaf q }
 
-  leaf-line : (leaf : Leaf) → lineIn (a .regime) (made leaf) ≡ lineOfLeaf leaf a (t .cache .present .asid)
+  leaf-line : (leaf : Leaf) → lineIn (a .regime) (made leaf) ≡ lineOfLeaf leaf a (t .cache .current .asid)
   leaf-line leaf =
       let framed : leaf .oa / 4096 * 4096 / 4096 ≡ leaf .oa / 4096 = omega arith in
       λ n.
@@ -72,17 +72,17 @@ module _ (a : Access) (t : Tlb) (s : WellFormed t) (fits : LeafLevel (a .walk)) 
         frame = framed n;
         perms = leaf .perms;
         level = leaf .level;
-        reach = reachOf (leaf .global) (t .cache .present .asid);
+        reach = reachOf (leaf .global) (t .cache .current .asid);
       }
 
   leaf-kept : (leaf : Leaf)
-      → live (moved t (setEntry (t .cache) (slotFor a) (made leaf)) (walkCounted (t .counts)))
+      → live (tlbWith t (setEntry (t .cache) (slotFor a) (made leaf)) (walkCounted (t .counts)))
       ≡ keep (lineIn (a .regime) (made leaf)) (counting oneWalk (live t))
   unfolding keep
   leaf-kept leaf =
       λ n.
       record {
-        asid = t .cache .present .asid;
+        asid = t .cache .current .asid;
         lines = λ i. kept-lines _ (a .untagged / 4096) (a .regime) (t .cache .entries) (made leaf) (s .slots) refl refl i n;
         hints = live t .hints;
         fetch = live t .fetch;
@@ -91,7 +91,7 @@ module _ (a : Access) (t : Tlb) (s : WellFormed t) (fits : LeafLevel (a .walk)) 
       }
 
   abbrev byWalkOf : Walked → Resolved
-  byWalkOf w = byWalk w query (a .who) (t .cache .present) (a .va) (a .kind)
+  byWalkOf w = byWalk w query (a .privilege) (t .cache .current) (a .va) (a .kind)
 
   walk-follows : (w : Walked) → a .walk ≡ w → Follows (byWalkOf w .answer) (withEntry t (slotFor a) (byWalkOf w)) (walked w a (live t))
   unfolding byWalk walked
@@ -104,21 +104,21 @@ module _ (a : Access) (t : Tlb) (s : WellFormed t) (fits : LeafLevel (a .walk)) 
       }
 
   abbrev resolved : Resolved
-  resolved = resolveWith (a .walk) query (a .who) (t .cache .present) entry (a .va) (a .kind)
+  resolved = resolveWith (a .walk) query (a .privilege) (t .cache .current) entry (a .va) (a .kind)
 
-  look-follows : (b : Bool) → serves entry (t .cache .present) (query .tag) ≡ b
+  look-follows : (b : Bool) → serves entry (t .cache .current) (query .tag) ≡ b
       → Follows (resolved .answer) (withEntry t (slotFor a) resolved) (looked (pick b (holds (lineIn (a .regime) entry)) empty) a (live t))
   unfolding resolveWith looked
   look-follows true q =
       rw q (record {
-        answer = judged-is (t .cache .present .generation) (a .regime) entry a entry-made;
+        answer = judged-is (t .cache .current .generation) (a .regime) entry a entry-made;
         after = unmoved (hitCounted (t .counts));
         well = still-sound;
       })
   look-follows false q = rw q (walk-follows (a .walk) refl)
 
   abbrev pub missed : Bool → Resolved
-  missed on = missWith on (a .untagged) (a .walk) (a .regime) (a .who) (t .cache .present) entry (a .va) (a .kind)
+  missed on = missWith on (a .untagged) (a .walk) (a .regime) (a .privilege) (t .cache .current) entry (a .va) (a .kind)
 
   pub miss-follows : (on : Bool) → Follows (missed on .answer) (withEntry t (slotFor a) (missed on)) (unhinted on a (live t))
   unfolding missWith unhinted

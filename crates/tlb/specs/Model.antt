@@ -14,7 +14,7 @@ use Rattle.walk.specs.declared.level.Walked.{Walked}
 use Rattle.walk.specs.declared.level.Walked.the-variants.{Mapped, Fault}
 use Rattle.tlb.specs.declared.access.Kind.{Kind}
 use Rattle.tlb.specs.declared.access.Kind.the-variants.{Read, Write, Fetch}
-use Rattle.tlb.specs.declared.access.Who.{Who}
+use Rattle.tlb.specs.declared.access.Privilege.{Privilege}
 use Rattle.tlb.specs.declared.access.Answer.{Answer}
 use Rattle.tlb.specs.declared.access.Answer.the-variants.{Address, Status}
 use Rattle.tlb.specs.declared.Inval.{Inval}
@@ -264,7 +264,7 @@ keepFetch h m =
 
 -- who asks for what, and what registers and tables say of the address: whether stage 1 is on, the regime, the untagged address, its walk
 pub record Access : Type 0 where
-  pub who : Who
+  pub privilege : Privilege
   pub kind : Kind
   pub va : ℕ
   pub on : Bool
@@ -299,7 +299,7 @@ need Write false = 16
 need Fetch false = 32
 
 abbrev pub needIn : Access → ℕ
-needIn a = need (a .kind) (asUser (a .regime) (a .who .level) (a .who .mark) (a .kind))
+needIn a = need (a .kind) (asUser (a .regime) (a .privilege .level) (a .privilege .unprivileged) (a .kind))
 
 -- 0x0C plus the level, where the line lacks that bit
 unfoldable pub judge : Line → Access → Answer
@@ -338,7 +338,7 @@ unhinted false a m = record { answer = Address (a .va); after = m }
 
 -- an address becomes a hint, a fault does not
 abbrev pub knownOf : Access → ℕ → Known
-knownOf a pa = record { page = a .va / 4096; level = a .who .level; frame = pa / 4096 }
+knownOf a pa = record { page = a .va / 4096; level = a .privilege .level; frame = pa / 4096 }
 
 abbrev pub noting : Answer → Access → Model → Model
 noting (Address pa) a m = keepHint (hintPlace (a .kind) (a .va)) (knownOf a pa) m
@@ -353,7 +353,7 @@ tried (holds frame) a m = record { answer = addressIn frame (a .va); after = m }
 tried empty a m = noted a (unhinted (a .on) a m)
 
 unfoldable pub hinted : Bool → Access → Model → Outcome
-hinted true a m = tried (knowing (a .va / 4096) (a .who .level) (m .hints (hintPlace (a .kind) (a .va)))) a m
+hinted true a m = tried (knowing (a .va / 4096) (a .privilege .level) (m .hints (hintPlace (a .kind) (a .va)))) a m
 hinted false a m = unhinted (a .on) a m
 
 -- hints serve reads and writes, and not while the mark is set
@@ -363,7 +363,7 @@ hintable Write mark = not mark
 hintable Fetch mark = false
 
 unfoldable pub translate : Access → Model → Outcome
-translate a m = hinted (hintable (a .kind) (a .who .mark)) a m
+translate a m = hinted (hintable (a .kind) (a .privilege .unprivileged)) a m
 
 -- a fetch asks the fetch hint first, whatever the mark, and leaves one
 abbrev pub notingFetch : Answer → Access → Model → Model
@@ -378,4 +378,4 @@ fetched (holds frame) a m = record { answer = addressIn frame (a .va); after = m
 fetched empty a m = notedFetch a (unhinted (a .on) a m)
 
 unfoldable pub fetch : Access → Model → Outcome
-fetch a m = fetched (knowing (a .va / 4096) (a .who .level) (m .fetch)) a m
+fetch a m = fetched (knowing (a .va / 4096) (a .privilege .level) (m .fetch)) a m

@@ -20,7 +20,7 @@ use Rattle.tlb.specs.Model.{Slot, empty, holds, Line, emptyModel, uncove
 use Rattle.tlb.specs.Live.{lineIn, lineOf, hintOf, fetchHintOf, pendingOf, linesOf, hintsOf, countersOf, live, Made, Aligned, Sound, WellFormed}
 use Rattle.tlb.specs.Cells.{same-pick, regime-low, found, line-made, page-drops, asid-drops, all-covered, flush-drops}
 use Rattle.tlb.specs.declared.entry.Entry.{Entry}
-use Rattle.tlb.specs.declared.entry.Present.{Present}
+use Rattle.tlb.specs.declared.entry.Current.{Current}
 use Rattle.tlb.specs.declared.count.Counts.{Counts}
 use Rattle.tlb.specs.declared.cache.Cache.{Cache}
 use Rattle.tlb.specs.declared.Tlb.{Tlb}
@@ -48,7 +48,7 @@ no-fetch = refl
 pub blank-made : (g : ℕ) → Made g blank
 blank-made g = record { early = omega arith; aligned = refl; level = omega arith }
 
-module _ (p : Present) (es : List Entry) where
+module _ (p : Current) (es : List Entry) where
   hintless-sound : 1 ≤ p .generation → p .generation < 2 ^ 32 → length es ≡ 1024 → Each (Made (p .generation)) es → Sound (hintless p es)
   unfolding noHints
   hintless-sound f l n q =
@@ -106,10 +106,10 @@ module _ (what : Inval) (g : ℕ) (f : Entry → Entry) (es : List Entry) where
   unfolding linesOf
   mapped-lines b q i = ap (lineOf g) (rw b at (List·getD-map f es i blank)) ∙ q (getD es i blank)
 
-mapped-sound : (c : Cache) (f : Entry → Entry) → ((e : Entry) → Made (c .present .generation) e → Made (c .present .generation) (f e))
-    → Sound c → Sound (hintless (c .present) (map f (c .entries)))
+mapped-sound : (c : Cache) (f : Entry → Entry) → ((e : Entry) → Made (c .current .generation) e → Made (c .current .generation) (f e))
+    → Sound c → Sound (hintless (c .current) (map f (c .entries)))
 mapped-sound c f q s =
-    hintless-sound (c .present) (map f (c .entries)) (s .first) (s .last) (length-map (c .entries) f ∙ s .slots) (each-map f q (s .entries))
+    hintless-sound (c .current) (map f (c .entries)) (s .first) (s .last) (length-map (c .entries) f ∙ s .slots) (each-map f q (s .entries))
 
 made-still : (g : ℕ) (e : Entry) (b : Bool) → Made g e → Made g (pick b (untagged e) e)
 made-still g e true m = record { early = m .early; aligned = m .aligned; level = m .level }
@@ -135,56 +135,56 @@ older : (g : ℕ) (e : Entry) → Made g e → Made (g + 1) e
 older g e m = record { early = omega arith; aligned = m .aligned; level = m .level }
 
 -- a flush either wraps, and clears the entries, or goes to the next generation, which no entry is of
-flush-wraps : (c : Cache) → eqb (nextGeneration (c .present .generation)) 0 ≡ true
-    → flushed c ≡ hintless (record { generation = 1; asid = c .present .asid }) blanks
+flush-wraps : (c : Cache) → eqb (nextGeneration (c .current .generation)) 0 ≡ true
+    → flushed c ≡ hintless (record { generation = 1; asid = c .current .asid }) blanks
 unfolding flushed
 flush-wraps c f = rw f
 
-flush-next : (c : Cache) → Sound c → eqb (nextGeneration (c .present .generation)) 0 ≡ false
-    → flushed c ≡ hintless (record { generation = c .present .generation + 1; asid = c .present .asid }) (c .entries)
+flush-next : (c : Cache) → Sound c → eqb (nextGeneration (c .current .generation)) 0 ≡ false
+    → flushed c ≡ hintless (record { generation = c .current .generation + 1; asid = c .current .asid }) (c .entries)
 unfolding flushed
 flush-next c s f =
-    let ne : nextGeneration (c .present .generation) ≡ 0 → ⊥ = eqb-false _ _ f in
-    let below : c .present .generation < 2 ^ 32 = s .last in
-    let n : nextGeneration (c .present .generation) ≡ c .present .generation + 1 = omega arith in
+    let ne : nextGeneration (c .current .generation) ≡ 0 → ⊥ = eqb-false _ _ f in
+    let below : c .current .generation < 2 ^ 32 = s .last in
+    let n : nextGeneration (c .current .generation) ≡ c .current .generation + 1 = omega arith in
     rw (f, n)
 
 module _ (t : Tlb) (s : WellFormed t) where
   pub flush-live : live (flushOf t) ≡ invalidate All (live t)
   unfolding flushOf invalidate linesOf
-  flush-live = go (eqb (nextGeneration (t .cache .present .generation)) 0) refl
+  flush-live = go (eqb (nextGeneration (t .cache .current .generation)) 0) refl
     where
-      emptied : (i : ℕ) → linesOf (t .cache .present .generation + 1) (t .cache .entries) i ≡ empty
-      emptied i = flush-drops _ _ (each-getD {P = Made (t .cache .present .generation)} blank (blank-made _) (s .entries) i .early)
+      emptied : (i : ℕ) → linesOf (t .cache .current .generation + 1) (t .cache .entries) i ≡ empty
+      emptied i = flush-drops _ _ (each-getD {P = Made (t .cache .current .generation)} blank (blank-made _) (s .entries) i .early)
 
-      go : (b : Bool) → eqb (nextGeneration (t .cache .present .generation)) 0 ≡ b → live (flushOf t) ≡ invalidate All (live t)
+      go : (b : Bool) → eqb (nextGeneration (t .cache .current .generation)) 0 ≡ b → live (flushOf t) ≡ invalidate All (live t)
       go true f =
           rw (flush-wraps (t .cache) f)
-          (hintless-live (record { generation = 1; asid = t .cache .present .asid }) blanks (flushCounted (t .counts)) (t .broadcast)
+          (hintless-live (record { generation = 1; asid = t .cache .current .asid }) blanks (flushCounted (t .counts)) (t .broadcast)
           (λ i. uncovered All (live t .lines i)) (λ i. blank-lines i ∙ sym (all-covered (live t .lines i))))
       go false f =
           rw (flush-next (t .cache) s f)
-          (hintless-live (record { generation = t .cache .present .generation + 1; asid = t .cache .present .asid }) (t .cache .entries)
+          (hintless-live (record { generation = t .cache .current .generation + 1; asid = t .cache .current .asid }) (t .cache .entries)
           (flushCounted (t .counts)) (t .broadcast) (λ i. uncovered All (live t .lines i))
           (λ i. emptied i ∙ sym (all-covered (live t .lines i))))
 
   pub flush-sound : WellFormed (flushOf t)
   unfolding flushOf
-  flush-sound = go (eqb (nextGeneration (t .cache .present .generation)) 0) refl
+  flush-sound = go (eqb (nextGeneration (t .cache .current .generation)) 0) refl
     where
-      go : (b : Bool) → eqb (nextGeneration (t .cache .present .generation)) 0 ≡ b → Sound (flushed (t .cache))
+      go : (b : Bool) → eqb (nextGeneration (t .cache .current .generation)) 0 ≡ b → Sound (flushed (t .cache))
       go true f = rw (flush-wraps (t .cache) f) (hintless-sound _ blanks (omega arith) (omega arith) blanks-long (blanks-made 1))
       go false f =
-          let ne : nextGeneration (t .cache .present .generation) ≡ 0 → ⊥ = eqb-false _ _ f in
-          let below : t .cache .present .generation < 2 ^ 32 = s .last in
+          let ne : nextGeneration (t .cache .current .generation) ≡ 0 → ⊥ = eqb-false _ _ f in
+          let below : t .cache .current .generation < 2 ^ 32 = s .last in
           rw (flush-next (t .cache) s f)
-          (hintless-sound _ _ (omega arith) (omega arith) (s .slots) (each-imp (older (t .cache .present .generation)) (s .entries)))
+          (hintless-sound _ _ (omega arith) (omega arith) (s .slots) (each-imp (older (t .cache .current .generation)) (s .entries)))
 
   pub page-live : (page : ℕ) → live (dropPageOf t page) ≡ invalidate (Page page) (live t)
   unfolding dropPageOf withoutPage invalidate
   page-live page =
-      hintless-live (t .cache .present) _ _ (t .broadcast) _
-      (mapped-lines (Page page) _ _ (t .cache .entries) (page-blank (t .cache .present .generation) page) (page-drops _ page))
+      hintless-live (t .cache .current) _ _ (t .broadcast) _
+      (mapped-lines (Page page) _ _ (t .cache .entries) (page-blank (t .cache .current .generation) page) (page-drops _ page))
 
   pub page-sound : (page : ℕ) → WellFormed (dropPageOf t page)
   unfolding dropPageOf withoutPage
@@ -193,8 +193,8 @@ module _ (t : Tlb) (s : WellFormed t) where
   pub asid-live : (asid : ℕ) → live (dropAsidOf t asid) ≡ invalidate (Asid asid) (live t)
   unfolding dropAsidOf withoutAsid invalidate
   asid-live asid =
-      hintless-live (t .cache .present) _ _ (t .broadcast) _
-      (mapped-lines (Asid asid) (t .cache .present .generation) _ (t .cache .entries) (asid-blank asid) (asid-drops _ asid))
+      hintless-live (t .cache .current) _ _ (t .broadcast) _
+      (mapped-lines (Asid asid) (t .cache .current .generation) _ (t .cache .entries) (asid-blank asid) (asid-drops _ asid))
 
   pub asid-sound : (asid : ℕ) → WellFormed (dropAsidOf t asid)
   unfolding dropAsidOf withoutAsid
@@ -216,7 +216,7 @@ module _ (t : Tlb) (s : WellFormed t) where
   pub retag-live : (asid : ℕ) → live (retagOf t asid) ≡ retag asid (live t)
   unfolding retagOf retagged retag
   retag-live asid =
-      hintless-live (record { generation = t .cache .present .generation; asid = asid }) (t .cache .entries) _ (t .broadcast) _ (λ i. refl)
+      hintless-live (record { generation = t .cache .current .generation; asid = asid }) (t .cache .entries) _ (t .broadcast) _ (λ i. refl)
 
   pub retag-sound : (asid : ℕ) → WellFormed (retagOf t asid)
   unfolding retagOf retagged
@@ -262,7 +262,7 @@ unfolding broadcastOf broadcast
 broadcast-live t what =
     λ n.
     record {
-      asid = t .cache .present .asid;
+      asid = t .cache .current .asid;
       lines = live t .lines;
       hints = live t .hints;
       fetch = live t .fetch;
@@ -290,19 +290,19 @@ foundIn r Missing = empty
 
 pub line-is : (t : Tlb) (r : Regime) (p : ℕ)
     → lineFor (live t) r p
-    ≡ pick (serves (entryAt (t .cache) (slotOf (p * 4 + regimeNumber r))) (t .cache .present) (p * 4 + regimeNumber r))
+    ≡ pick (serves (entryAt (t .cache) (slotOf (p * 4 + regimeNumber r))) (t .cache .current) (p * 4 + regimeNumber r))
     (holds (lineIn r (entryAt (t .cache) (slotOf (p * 4 + regimeNumber r))))) empty
 unfolding lineFor linesOf
 line-is t r p =
-    ap (λ (i : ℕ). serving (t .cache .present .asid) r p (lineOf (t .cache .present .generation) (getD (t .cache .entries) i blank)))
+    ap (λ (i : ℕ). serving (t .cache .current .asid) r p (lineOf (t .cache .current .generation) (getD (t .cache .entries) i blank)))
     (sym (slot-is r p))
-    ∙ found (t .cache .present) r p (entryAt (t .cache) (slotOf (p * 4 + regimeNumber r)))
+    ∙ found (t .cache .current) r p (entryAt (t .cache) (slotOf (p * 4 + regimeNumber r)))
 
 pub get-live : (t : Tlb) (r : Regime) (p : ℕ) → foundIn r (getOf t (p * 4 + regimeNumber r)) ≡ lineFor (live t) r p
 unfolding getOf
 get-live t r p =
     let e = entryAt (t .cache) (slotOf (p * 4 + regimeNumber r)) in
-    pushed (serves e (t .cache .present) (p * 4 + regimeNumber r)) e ∙ sym (line-is t r p)
+    pushed (serves e (t .cache .current) (p * 4 + regimeNumber r)) e ∙ sym (line-is t r p)
   where
     pushed : (b : Bool) (e : Entry) → foundIn r (pick b (Hit e) Missing) ≡ pick b (holds (lineIn r e)) empty
     pushed true e = refl
@@ -322,7 +322,7 @@ kept-lines g p r es e long q w i =
     pushed true y = refl
     pushed false y = refl
 
-pub set-sound : (c : Cache) (i : ℕ) (e : Entry) → Sound c → Made (c .present .generation) e → Sound (setEntry c i e)
+pub set-sound : (c : Cache) (i : ℕ) (e : Entry) → Sound c → Made (c .current .generation) e → Sound (setEntry c i e)
 set-sound c i e s m =
     record {
       first = s .first;
@@ -341,8 +341,8 @@ module _ (t : Tlb) (s : WellFormed t) (r : Regime) (p : ℕ) (e : Entry) where
   put-live w =
       λ n.
       record {
-        asid = t .cache .present .asid;
-        lines = λ i. kept-lines _ p r (t .cache .entries) (stamped e (t .cache .present .generation)) (s .slots) refl w i n;
+        asid = t .cache .current .asid;
+        lines = λ i. kept-lines _ p r (t .cache .entries) (stamped e (t .cache .current .generation)) (s .slots) refl w i n;
         hints = live t .hints;
         fetch = live t .fetch;
         counts = live t .counts;

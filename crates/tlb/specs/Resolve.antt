@@ -18,9 +18,9 @@ use Rattle.tlb.specs.Entry.{blank, serves}
 use Rattle.tlb.specs.Hint.{pageOf, hintFor, fetchFor}
 use Rattle.tlb.specs.Count.{hitCounted, walkCounted}
 use Rattle.tlb.specs.declared.entry.Entry.{Entry}
-use Rattle.tlb.specs.declared.entry.Present.{Present}
+use Rattle.tlb.specs.declared.entry.Current.{Current}
 use Rattle.tlb.specs.declared.access.Kind.{Kind}
-use Rattle.tlb.specs.declared.access.Who.{Who}
+use Rattle.tlb.specs.declared.access.Privilege.{Privilege}
 use Rattle.tlb.specs.declared.access.Answer.{Answer}
 use Rattle.tlb.specs.declared.access.Answer.the-variants.{Address, Status}
 use Rattle.tlb.specs.declared.count.Counts.{Counts}
@@ -41,12 +41,12 @@ queryOf r page = record { regime = r; page = page; tag = tagOf r page }
 abbrev pub askWith : Bool → Regime → ℕ → Asked
 askWith on r page = pick on (Of (queryOf r page)) Flat
 
-unfoldable pub askOf : Bank → Who → ℕ → Asked
-askOf s who va =
-    askWith (stage1On s (regimeOf (who .level))) (regimeOf (who .level)) (untagged (s .tcr) (regimeOf (who .level)) va)
+unfoldable pub askOf : Bank → Privilege → ℕ → Asked
+askOf s privilege va =
+    askWith (stage1On s (regimeOf (privilege .level))) (regimeOf (privilege .level)) (untagged (s .tcr) (regimeOf (privilege .level)) va)
 
 -- the entry that a leaf becomes
-abbrev pub entryFor : Leaf → Present → ℕ → Entry
+abbrev pub entryFor : Leaf → Current → ℕ → Entry
 entryFor leaf at tag =
     record {
       tag = tag;
@@ -63,31 +63,31 @@ abbrev pub byItself : ℕ → Resolved
 byItself va = record { answer = Address va; source = FromFlat; made = blank }
 
 -- the entry is judged
-abbrev pub byEntry : Query → Who → Entry → ℕ → Kind → Resolved
-byEntry q who e va kind = record { answer = judged e (userOf (q .regime) who kind) kind va; source = FromEntry; made = blank }
+abbrev pub byEntry : Query → Privilege → Entry → ℕ → Kind → Resolved
+byEntry q privilege e va kind = record { answer = judged e (userOf (q .regime) privilege kind) kind va; source = FromEntry; made = blank }
 
 -- a leaf becomes an entry and is judged; a fault makes none
-unfoldable pub byWalk : Walked → Query → Who → Present → ℕ → Kind → Resolved
-byWalk (Mapped leaf) q who at va kind =
+unfoldable pub byWalk : Walked → Query → Privilege → Current → ℕ → Kind → Resolved
+byWalk (Mapped leaf) q privilege at va kind =
     record {
-      answer = judged (entryFor leaf at (q .tag)) (userOf (q .regime) who kind) kind va;
+      answer = judged (entryFor leaf at (q .tag)) (userOf (q .regime) privilege kind) kind va;
       source = FromWalk;
       made = entryFor leaf at (q .tag);
     }
-byWalk (Fault code) q who at va kind = record { answer = Status (first code); source = NoLeaf; made = blank }
+byWalk (Fault code) q privilege at va kind = record { answer = Status (first code); source = NoLeaf; made = blank }
 
 -- by the entry, where it answers for the tag; else by the walk
-unfoldable pub resolveWith : Walked → Query → Who → Present → Entry → ℕ → Kind → Resolved
-resolveWith w q who at e va kind = pick (serves e at (q .tag)) (byEntry q who e va kind) (byWalk w q who at va kind)
+unfoldable pub resolveWith : Walked → Query → Privilege → Current → Entry → ℕ → Kind → Resolved
+resolveWith w q privilege at e va kind = pick (serves e at (q .tag)) (byEntry q privilege e va kind) (byWalk w q privilege at va kind)
 
 -- the same with the registers' own walk
-unfoldable pub resolveOf : Query → Bank → Who → Present → Entry → ℕ → Kind → (ℕ → Word) → Resolved
-resolveOf q s who at e va kind memory = resolveWith (walkOf s (q .regime) (q .page) memory) q who at e va kind
+unfoldable pub resolveOf : Query → Bank → Privilege → Current → Entry → ℕ → Kind → (ℕ → Word) → Resolved
+resolveOf q s privilege at e va kind memory = resolveWith (walkOf s (q .regime) (q .page) memory) q privilege at e va kind
 
 -- with stage 1 off the address itself
-abbrev pub changesOf : Asked → Bank → Who → Present → Entry → ℕ → Kind → (ℕ → Word) → Resolved
-changesOf Flat s who at e va kind memory = byItself va
-changesOf (Of q) s who at e va kind memory = resolveOf q s who at e va kind memory
+abbrev pub changesOf : Asked → Bank → Privilege → Current → Entry → ℕ → Kind → (ℕ → Word) → Resolved
+changesOf Flat s privilege at e va kind memory = byItself va
+changesOf (Of q) s privilege at e va kind memory = resolveOf q s privilege at e va kind memory
 
 -- a hit is counted where an entry answered, a walk where one was made
 abbrev pub countedBy : Source → Counts → Counts

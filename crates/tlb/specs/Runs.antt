@@ -8,8 +8,8 @@ use Rattle.tlb.specs.Tlb.{fresh, invalidateOf, retagOf, broadcastOf}
 use Rattle.tlb.specs.Model.{Slot, empty, holds, Counters, Model, emptyModel, invalidate, retag, broadcast, Access, translate, fetch}
 use Rattle.tlb.specs.Live.{countersOf, pendingOf, live, WellFormed, LeafLevel}
 use Rattle.tlb.specs.Refines.{fresh-live, fresh-sound, invalidate-live, invalidate-sound, retag-live, retag-sound, broadcast-live, broadcast-sound}
-use Rattle.tlb.specs.Step.{turnIn, turned, fetchIn, fetchedIn}
-use Rattle.tlb.specs.Translations.{turn-follows, fetch-follows}
+use Rattle.tlb.specs.Step.{translationIn, tlbAfter, fetchIn, fetchedIn}
+use Rattle.tlb.specs.Translations.{translation-follows, fetch-follows}
 use Rattle.tlb.specs.declared.access.Answer.{Answer}
 use Rattle.tlb.specs.declared.access.Kind.the-variants.{Fetch}
 use Rattle.tlb.specs.declared.Tlb.{Tlb}
@@ -28,7 +28,7 @@ abbrev pub Fair : Op → Type 0
 Fair (invalidates what) = Unit {0}
 Fair (retags asid) = Unit {0}
 Fair (broadcasts what) = Unit {0}
-Fair (translates a) = (a .who .level ≤ 3) × LeafLevel (a .walk)
+Fair (translates a) = (a .privilege .level ≤ 3) × LeafLevel (a .walk)
 Fair (fetches a) = (a .kind ≡ Fetch) × LeafLevel (a .walk)
 
 -- what is seen of an operation: its answer, if it has one, the counters, and what is pending
@@ -42,14 +42,14 @@ abbrev pub afterOp : Op → Tlb → Tlb
 afterOp (invalidates what) t = invalidateOf t what
 afterOp (retags asid) t = retagOf t asid
 afterOp (broadcasts what) t = broadcastOf t what
-afterOp (translates a) t = turned a t
+afterOp (translates a) t = tlbAfter a t
 afterOp (fetches a) t = fetchedIn a t
 
 abbrev pub answerOf : Op → Tlb → Slot Answer
 answerOf (invalidates what) t = empty
 answerOf (retags asid) t = empty
 answerOf (broadcasts what) t = empty
-answerOf (translates a) t = holds (turnIn a t .answer)
+answerOf (translates a) t = holds (translationIn a t .answer)
 answerOf (fetches a) t = holds (fetchIn a t .answer)
 
 abbrev pub seenOf : Op → Tlb → Seen
@@ -86,21 +86,21 @@ step-live : (o : Op) (t : Tlb) → WellFormed t → Fair o → live (afterOp o t
 step-live (invalidates what) t s f = invalidate-live t s what
 step-live (retags asid) t s f = retag-live t s asid
 step-live (broadcasts what) t s f = broadcast-live t what
-step-live (translates a) t s f = turn-follows a t s (f .1) (f .0) .after
+step-live (translates a) t s f = translation-follows a t s (f .1) (f .0) .after
 step-live (fetches a) t s f = fetch-follows a t s (f .1) (f .0) .after
 
 step-sound : (o : Op) (t : Tlb) → WellFormed t → Fair o → WellFormed (afterOp o t)
 step-sound (invalidates what) t s f = invalidate-sound t s what
 step-sound (retags asid) t s f = retag-sound t s asid
 step-sound (broadcasts what) t s f = broadcast-sound t what s
-step-sound (translates a) t s f = turn-follows a t s (f .1) (f .0) .well
+step-sound (translates a) t s f = translation-follows a t s (f .1) (f .0) .well
 step-sound (fetches a) t s f = fetch-follows a t s (f .1) (f .0) .well
 
 step-answer : (o : Op) (t : Tlb) → WellFormed t → Fair o → answerOf o t ≡ modelAnswer o (live t)
 step-answer (invalidates what) t s f = refl
 step-answer (retags asid) t s f = refl
 step-answer (broadcasts what) t s f = refl
-step-answer (translates a) t s f = ap holds (turn-follows a t s (f .1) (f .0) .answer)
+step-answer (translates a) t s f = ap holds (translation-follows a t s (f .1) (f .0) .answer)
 step-answer (fetches a) t s f = ap holds (fetch-follows a t s (f .1) (f .0) .answer)
 
 runs-from : (os : List Op) (t : Tlb) → WellFormed t → Each Fair os → run os t ≡ modelRun os (live t)

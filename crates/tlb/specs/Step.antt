@@ -7,28 +7,28 @@ use Rattle.walk.specs.declared.regime.Bank.{Bank}
 use Rattle.tlb.specs.Entry.{slotOf}
 use Rattle.tlb.specs.Hint.{dataSlot}
 use Rattle.tlb.specs.Cache.{entryAt, hintAt, setEntry, setHint, setFetch}
-use Rattle.tlb.specs.Tlb.{moved}
+use Rattle.tlb.specs.Tlb.{tlbWith}
 use Rattle.tlb.specs.Access.{tagOf}
-use Rattle.tlb.specs.Turn.{onNow, untaggedNow, walkNow, turnWith, fetchWith, turnOf, fetchOf}
+use Rattle.tlb.specs.Translate.{onNow, untaggedNow, walkNow, translationWith, fetchWith, translationOf, fetchOf}
 use Rattle.tlb.specs.Model.{Access}
 use Rattle.tlb.specs.declared.access.Kind.{Kind}
 use Rattle.tlb.specs.declared.access.Kind.the-variants.{Fetch}
-use Rattle.tlb.specs.declared.access.Who.{Who}
-use Rattle.tlb.specs.declared.turn.Turned.{Turned}
-use Rattle.tlb.specs.declared.turn.FetchTurned.{FetchTurned}
+use Rattle.tlb.specs.declared.access.Privilege.{Privilege}
+use Rattle.tlb.specs.declared.cells.Translation.{Translation}
+use Rattle.tlb.specs.declared.cells.FetchTranslation.{FetchTranslation}
 use Rattle.tlb.specs.declared.Tlb.{Tlb}
 
 -- the access that registers and tables make of an address
-abbrev pub accessOf : Bank → Who → ℕ → Kind → (ℕ → Word) → Access
-accessOf s who va kind memory =
+abbrev pub accessOf : Bank → Privilege → ℕ → Kind → (ℕ → Word) → Access
+accessOf s privilege va kind memory =
     record {
-      who = who;
+      privilege = privilege;
       kind = kind;
       va = va;
-      on = onNow s (who .level) va;
-      regime = regimeOf (who .level);
-      untagged = untaggedNow s (who .level) va;
-      walk = walkNow s (who .level) va memory;
+      on = onNow s (privilege .level) va;
+      regime = regimeOf (privilege .level);
+      untagged = untaggedNow s (privilege .level) va;
+      walk = walkNow s (privilege .level) va memory;
     }
 
 -- the place of its hint, and the slot of its entry
@@ -39,39 +39,39 @@ abbrev pub slotFor : Access → ℕ
 slotFor a = slotOf (tagOf (a .regime) (a .untagged))
 
 -- the cells put back
-abbrev pub withTurn : Tlb → ℕ → ℕ → Turned → Tlb
-withTurn t place slot r = moved t (setHint (setEntry (t .cache) slot (r .entry)) place (r .hint)) (r .counts)
+abbrev pub withTranslation : Tlb → ℕ → ℕ → Translation → Tlb
+withTranslation t place slot r = tlbWith t (setHint (setEntry (t .cache) slot (r .entry)) place (r .hint)) (r .counts)
 
-abbrev pub withFetch : Tlb → ℕ → FetchTurned → Tlb
-withFetch t slot r = moved t (setFetch (setEntry (t .cache) slot (r .entry)) (r .fetch)) (r .counts)
+abbrev pub withFetch : Tlb → ℕ → FetchTranslation → Tlb
+withFetch t slot r = tlbWith t (setFetch (setEntry (t .cache) slot (r .entry)) (r .fetch)) (r .counts)
 
 -- the turn that an access takes in a cache, and what it leaves
-abbrev pub turnIn : Access → Tlb → Turned
-turnIn a t =
-    turnWith (a .on) (a .untagged) (a .walk) (a .regime) (a .who) (t .cache .present) (t .counts) (hintAt (t .cache) (placeFor a))
+abbrev pub translationIn : Access → Tlb → Translation
+translationIn a t =
+    translationWith (a .on) (a .untagged) (a .walk) (a .regime) (a .privilege) (t .cache .current) (t .counts) (hintAt (t .cache) (placeFor a))
     (entryAt (t .cache) (slotFor a)) (a .va) (a .kind)
 
-abbrev pub turned : Access → Tlb → Tlb
-turned a t = withTurn t (placeFor a) (slotFor a) (turnIn a t)
+abbrev pub tlbAfter : Access → Tlb → Tlb
+tlbAfter a t = withTranslation t (placeFor a) (slotFor a) (translationIn a t)
 
-abbrev pub fetchIn : Access → Tlb → FetchTurned
+abbrev pub fetchIn : Access → Tlb → FetchTranslation
 fetchIn a t =
-    fetchWith (a .on) (a .untagged) (a .walk) (a .regime) (a .who) (t .cache .present) (t .counts) (t .cache .fetch)
+    fetchWith (a .on) (a .untagged) (a .walk) (a .regime) (a .privilege) (t .cache .current) (t .counts) (t .cache .fetch)
     (entryAt (t .cache) (slotFor a)) (a .va)
 
 abbrev pub fetchedIn : Access → Tlb → Tlb
 fetchedIn a t = withFetch t (slotFor a) (fetchIn a t)
 
 -- the code's turn is that of its access
-pub turn-is : (s : Bank) (who : Who) (va : ℕ) (kind : Kind) (memory : ℕ → Word) (t : Tlb)
-    → turnOf s who (t .cache .present) (t .counts) (hintAt (t .cache) (dataSlot va kind))
-    (entryAt (t .cache) (slotFor (accessOf s who va kind memory))) va kind memory
-    ≡ turnIn (accessOf s who va kind memory) t
-unfolding turnOf
-turn-is s who va kind memory t = refl
+pub translation-is : (s : Bank) (privilege : Privilege) (va : ℕ) (kind : Kind) (memory : ℕ → Word) (t : Tlb)
+    → translationOf s privilege (t .cache .current) (t .counts) (hintAt (t .cache) (dataSlot va kind))
+    (entryAt (t .cache) (slotFor (accessOf s privilege va kind memory))) va kind memory
+    ≡ translationIn (accessOf s privilege va kind memory) t
+unfolding translationOf
+translation-is s privilege va kind memory t = refl
 
-pub fetch-is : (s : Bank) (who : Who) (va : ℕ) (memory : ℕ → Word) (t : Tlb)
-    → fetchOf s who (t .cache .present) (t .counts) (t .cache .fetch) (entryAt (t .cache) (slotFor (accessOf s who va Fetch memory))) va memory
-    ≡ fetchIn (accessOf s who va Fetch memory) t
+pub fetch-is : (s : Bank) (privilege : Privilege) (va : ℕ) (memory : ℕ → Word) (t : Tlb)
+    → fetchOf s privilege (t .cache .current) (t .counts) (t .cache .fetch) (entryAt (t .cache) (slotFor (accessOf s privilege va Fetch memory))) va memory
+    ≡ fetchIn (accessOf s privilege va Fetch memory) t
 unfolding fetchOf
-fetch-is s who va memory t = refl
+fetch-is s privilege va memory t = refl

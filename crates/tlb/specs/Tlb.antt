@@ -23,27 +23,27 @@ fresh = record { cache = emptyCache; counts = noCounts; broadcast = Nothing }
 -- the entry in the slot of the tag, where it answers for it
 unfoldable pub getOf : Tlb → ℕ → Found
 getOf t tag =
-    pick (serves (entryAt (t .cache) (slotOf tag)) (t .cache .present) tag) (Hit (entryAt (t .cache) (slotOf tag))) Missing
+    pick (serves (entryAt (t .cache) (slotOf tag)) (t .cache .current) tag) (Hit (entryAt (t .cache) (slotOf tag))) Missing
 
 -- another cache and other counters; what is pending stays
-abbrev pub moved : Tlb → Cache → Counts → Tlb
-moved t c k = record { cache = c; counts = k; broadcast = t .broadcast }
+abbrev pub tlbWith : Tlb → Cache → Counts → Tlb
+tlbWith t c k = record { cache = c; counts = k; broadcast = t .broadcast }
 
 -- into its slot, in the present generation
 unfoldable pub putOf : Tlb → Entry → Tlb
-putOf t e = moved t (setEntry (t .cache) (slotOf (e .tag)) (stamped e (t .cache .present .generation))) (t .counts)
+putOf t e = tlbWith t (setEntry (t .cache) (slotOf (e .tag)) (stamped e (t .cache .current .generation))) (t .counts)
 
 unfoldable pub flushOf : Tlb → Tlb
-flushOf t = moved t (flushed (t .cache)) (flushCounted (t .counts))
+flushOf t = tlbWith t (flushed (t .cache)) (flushCounted (t .counts))
 
 unfoldable pub dropPageOf : Tlb → ℕ → Tlb
-dropPageOf t page = moved t (withoutPage (t .cache) page) (dropCounted (t .counts))
+dropPageOf t page = tlbWith t (withoutPage (t .cache) page) (dropCounted (t .counts))
 
 unfoldable pub retagOf : Tlb → ℕ → Tlb
-retagOf t n = moved t (retagged (t .cache) n) (epochCounted (t .counts))
+retagOf t n = tlbWith t (retagged (t .cache) n) (epochCounted (t .counts))
 
 unfoldable pub dropAsidOf : Tlb → ℕ → Tlb
-dropAsidOf t n = moved t (withoutAsid (t .cache) n) (epochCounted (t .counts))
+dropAsidOf t n = tlbWith t (withoutAsid (t .cache) n) (epochCounted (t .counts))
 
 unfoldable pub invalidateOf : Tlb → Inval → Tlb
 invalidateOf t All = flushOf t

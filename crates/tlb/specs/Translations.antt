@@ -10,29 +10,29 @@ use Rattle.word.specs.Bits.{pick}
 use Rattle.tlb.specs.Hint.{noHint, placeOf, dataSlot, hintKey, hintFor, fetchServes, fetchFor, onPage}
 use Rattle.tlb.specs.Lists.{each-getD, each-set, getD-set}
 use Rattle.tlb.specs.Cache.{entryAt, hintAt, setEntry, setHint, setFetch}
-use Rattle.tlb.specs.Tlb.{moved}
+use Rattle.tlb.specs.Tlb.{tlbWith}
 use Rattle.tlb.specs.Access.{mayHint}
 use Rattle.tlb.specs.Resolve.{countedBy, keptBy, hintAfter}
-use Rattle.tlb.specs.Turn.{missWith, applied, turnWith, fetchApplied, fetchEnd, fetchWith}
+use Rattle.tlb.specs.Translate.{missWith, applied, translationWith, fetchApplied, fetchEnd, fetchWith}
 use Rattle.tlb.specs.Model.{Slot, empty, holds, Known, folded, hintPlace, keepHint, keepFetch, Access, Outcome, knownOf, unhinted, noted, tried, hinted, translate, notedFetch, fetched, fetch}
 use Rattle.tlb.specs.Live.{Follows, hintOf, hintsOf, countersOf, live, Aligned, Sound, WellFormed, LeafLevel}
 use Rattle.tlb.specs.Cells.{on-aligned, may-is, known-is, hint-made, fetch-known-is, fetch-made}
 use Rattle.tlb.specs.Refines.{falsely}
-use Rattle.tlb.specs.Step.{placeFor, slotFor, withTurn, withFetch, turnIn, turned, fetchIn, fetchedIn}
+use Rattle.tlb.specs.Step.{placeFor, slotFor, withTranslation, withFetch, translationIn, tlbAfter, fetchIn, fetchedIn}
 use Rattle.tlb.specs.declared.access.Kind.{Kind}
 use Rattle.tlb.specs.declared.access.Kind.the-variants.{Read, Write, Fetch}
 use Rattle.tlb.specs.declared.hint.Hint.{Hint}
 use Rattle.tlb.specs.declared.hint.FetchHint.{FetchHint}
 use Rattle.tlb.specs.declared.cache.Cache.{Cache}
-use Rattle.tlb.specs.declared.access.Who.{Who}
+use Rattle.tlb.specs.declared.access.Privilege.{Privilege}
 use Rattle.tlb.specs.declared.access.Answer.{Answer}
 use Rattle.tlb.specs.declared.access.Answer.the-variants.{Address, Status}
 use Rattle.tlb.specs.declared.resolve.Source.the-variants.{FromHint}
 use Rattle.tlb.specs.declared.resolve.Resolved.{Resolved}
 use Rattle.tlb.specs.declared.count.Counts.{Counts}
 use Rattle.tlb.specs.declared.entry.Entry.{Entry}
-use Rattle.tlb.specs.declared.turn.Turned.{Turned}
-use Rattle.tlb.specs.declared.turn.FetchTurned.{FetchTurned}
+use Rattle.tlb.specs.declared.cells.Translation.{Translation}
+use Rattle.tlb.specs.declared.cells.FetchTranslation.{FetchTranslation}
 use Rattle.tlb.specs.declared.Tlb.{Tlb}
 use Rattle.tlb.specs.Misses.{withEntry, entry, missed, unmoved, still-sound, miss-follows}
 
@@ -40,7 +40,7 @@ use Rattle.tlb.specs.Misses.{withEntry, entry, missed, unmoved, still-so
 
 -- a hint put back as it was
 same-hint : (c : Cache) (i : ℕ) → setHint c i (hintAt c i) ≡ c
-same-hint c i = λ n. record { present = c .present; fetch = c .fetch; hints = set-getD (c .hints) i noHint n; entries = c .entries }
+same-hint c i = λ n. record { current = c .current; fetch = c .fetch; hints = set-getD (c .hints) i noHint n; entries = c .entries }
 
 set-hint-sound : (c : Cache) (i : ℕ) (h : Hint) → Sound c → Aligned h → Sound (setHint c i h)
 set-hint-sound c i h s q =
@@ -75,37 +75,37 @@ place-is Read va = refl
 place-is Write va = refl
 place-is Fetch va = refl
 
-place-low : (who : Who) (kind : Kind) (va : ℕ) → mayHint who kind ≡ true → dataSlot va kind < 512
+place-low : (privilege : Privilege) (kind : Kind) (va : ℕ) → mayHint privilege kind ≡ true → dataSlot va kind < 512
 unfolding placeOf
-place-low who Read va q = omega arith
-place-low who Write va q = omega arith
-place-low who Fetch va q = falsely q
+place-low privilege Read va q = omega arith
+place-low privilege Write va q = omega arith
+place-low privilege Fetch va q = falsely q
 
 -- changes of the entry and the counters that a hint follows
 module _ (a : Access) (t : Tlb) (x : Answer) (e : Entry) (k : Counts) (o : Outcome)
-    (f : Follows x (moved t (setEntry (t .cache) (slotFor a) e) k) o) where
+    (f : Follows x (tlbWith t (setEntry (t .cache) (slotFor a) e) k) o) where
   abbrev stored : Cache
   stored = setEntry (t .cache) (slotFor a) e
 
   abbrev put : Hint → Tlb
-  put h = moved t (setHint stored (placeFor a) h) k
+  put h = tlbWith t (setHint stored (placeFor a) h) k
 
   unnoted : Follows x (put (hintAt (t .cache) (placeFor a))) o
   unnoted =
       record {
         answer = f .answer;
-        after = ap (λ (c : Cache). live (moved t c k)) (same-hint stored (placeFor a)) ∙ f .after;
+        after = ap (λ (c : Cache). live (tlbWith t c k)) (same-hint stored (placeFor a)) ∙ f .after;
         well = subst Sound (sym (same-hint stored (placeFor a))) (f .well);
       }
 
-  module _ (s : WellFormed t) (place : placeFor a < 512) (low : a .who .level ≤ 3) where
-    hint-kept : (pa : ℕ) → live (put (hintFor (a .va) (a .who .level) pa)) ≡ keepHint (placeFor a) (knownOf a pa) (live (moved t stored k))
+  module _ (s : WellFormed t) (place : placeFor a < 512) (low : a .privilege .level ≤ 3) where
+    hint-kept : (pa : ℕ) → live (put (hintFor (a .va) (a .privilege .level) pa)) ≡ keepHint (placeFor a) (knownOf a pa) (live (tlbWith t stored k))
     unfolding hintsOf
     hint-kept pa =
         λ n.
         record {
-          asid = t .cache .present .asid;
-          lines = live (moved t stored k) .lines;
+          asid = t .cache .current .asid;
+          lines = live (tlbWith t stored k) .lines;
           hints = λ i. at i n;
           fetch = live t .fetch;
           counts = countersOf k;
@@ -116,20 +116,20 @@ module _ (a : Access) (t : Tlb) (x : Answer) (e : Entry) (k : Counts) (o : Outco
         pushed true x y = refl
         pushed false x y = refl
 
-        at : (i : ℕ) → hintOf (getD (set (t .cache .hints) (placeFor a) (hintFor (a .va) (a .who .level) pa)) i noHint)
+        at : (i : ℕ) → hintOf (getD (set (t .cache .hints) (placeFor a) (hintFor (a .va) (a .privilege .level) pa)) i noHint)
             ≡ pick (eqb i (placeFor a)) (holds (knownOf a pa)) (hintOf (getD (t .cache .hints) i noHint))
         at i =
-            ap hintOf (getD-set (t .cache .hints) (placeFor a) i (hintFor (a .va) (a .who .level) pa) noHint (rw (s .places) place))
+            ap hintOf (getD-set (t .cache .hints) (placeFor a) i (hintFor (a .va) (a .privilege .level) pa) noHint (rw (s .places) place))
             ∙ pushed (eqb i (placeFor a)) _ _
             ∙ ap (λ (l : Slot Known). pick (eqb i (placeFor a)) l (hintOf (getD (t .cache .hints) i noHint)))
-            (hint-made (a .va) (a .who .level) pa low)
+            (hint-made (a .va) (a .privilege .level) pa low)
 
-    noted-follows : Follows x (put (hintAfter true (a .who .level) (a .va) x (hintAt (t .cache) (placeFor a)))) (noted a o)
+    noted-follows : Follows x (put (hintAfter true (a .privilege .level) (a .va) x (hintAt (t .cache) (placeFor a)))) (noted a o)
     unfolding noted
     noted-follows = go x refl
       where
         go : (y : Answer) → x ≡ y
-            → Follows x (put (hintAfter true (a .who .level) (a .va) x (hintAt (t .cache) (placeFor a)))) (noted a o)
+            → Follows x (put (hintAfter true (a .privilege .level) (a .va) x (hintAt (t .cache) (placeFor a)))) (noted a o)
         go (Address pa) e =
             let oe : o .answer ≡ Address pa = sym (f .answer) ∙ e in
             rw (e, oe, place-is (a .kind) (a .va)) (record {
@@ -143,17 +143,17 @@ module _ (a : Access) (t : Tlb) (x : Answer) (e : Entry) (k : Counts) (o : Outco
 
 -- TRANSLATIONS
 
-module _ (a : Access) (t : Tlb) (s : WellFormed t) (fits : LeafLevel (a .walk)) (low : a .who .level ≤ 3) where
+module _ (a : Access) (t : Tlb) (s : WellFormed t) (fits : LeafLevel (a .walk)) (low : a .privilege .level ≤ 3) where
   abbrev hint : Hint
   hint = hintAt (t .cache) (placeFor a)
 
   abbrev miss : Resolved
   miss = missed a t s fits (a .on)
 
-  abbrev afterMiss : Bool → Turned
-  afterMiss m = applied miss m (a .who .level) (t .counts) hint (entry a t s fits) (a .va)
+  abbrev afterMiss : Bool → Translation
+  afterMiss m = applied miss m (a .privilege .level) (t .counts) hint (entry a t s fits) (a .va)
 
-  abbrev afterHint : Turned
+  abbrev afterHint : Translation
   afterHint =
       record {
         counts = t .counts;
@@ -164,7 +164,7 @@ module _ (a : Access) (t : Tlb) (s : WellFormed t) (fits : LeafLevel (a .walk)) 
       }
 
   -- the hint answers
-  fast-follows : Follows (afterHint .answer) (withTurn t (placeFor a) (slotFor a) afterHint) (tried (holds (hint .pa / 4096)) a (live t))
+  fast-follows : Follows (afterHint .answer) (withTranslation t (placeFor a) (slotFor a) afterHint) (tried (holds (hint .pa / 4096)) a (live t))
   unfolding tried
   fast-follows =
       unnoted a t (afterHint .answer) (entry a t s fits) (t .counts) _
@@ -174,29 +174,29 @@ module _ (a : Access) (t : Tlb) (s : WellFormed t) (fits : LeafLevel (a .walk)) 
         well = still-sound a t s fits;
       })
 
-  by-hint : mayHint (a .who) (a .kind) ≡ true → (b : Bool)
-      → Follows (pick b afterHint (afterMiss true) .answer) (withTurn t (placeFor a) (slotFor a) (pick b afterHint (afterMiss true)))
+  by-hint : mayHint (a .privilege) (a .kind) ≡ true → (b : Bool)
+      → Follows (pick b afterHint (afterMiss true) .answer) (withTranslation t (placeFor a) (slotFor a) (pick b afterHint (afterMiss true)))
       (tried (pick b (holds (hint .pa / 4096)) empty) a (live t))
   unfolding tried applied
   by-hint may true = fast-follows
   by-hint may false =
       noted-follows a t (miss .answer) _ _ (unhinted (a .on) a (live t)) (miss-follows a t s fits (a .on)) s
-      (place-low (a .who) (a .kind) (a .va) may) low
+      (place-low (a .privilege) (a .kind) (a .va) may) low
 
-  by-mark : (m : Bool) → mayHint (a .who) (a .kind) ≡ m
-      → Follows (pick (m && eqb (hint .key) (hintKey (a .va) (a .who .level))) afterHint (afterMiss m) .answer)
-      (withTurn t (placeFor a) (slotFor a) (pick (m && eqb (hint .key) (hintKey (a .va) (a .who .level))) afterHint (afterMiss m)))
+  by-mark : (m : Bool) → mayHint (a .privilege) (a .kind) ≡ m
+      → Follows (pick (m && eqb (hint .key) (hintKey (a .va) (a .privilege .level))) afterHint (afterMiss m) .answer)
+      (withTranslation t (placeFor a) (slotFor a) (pick (m && eqb (hint .key) (hintKey (a .va) (a .privilege .level))) afterHint (afterMiss m)))
       (hinted m a (live t))
   unfolding applied hinted hintsOf
-  by-mark true q = rw (place-is (a .kind) (a .va), known-is hint (a .va) (a .who .level) low) (by-hint q (eqb (hint .key) (hintKey (a .va) (a .who .level))))
+  by-mark true q = rw (place-is (a .kind) (a .va), known-is hint (a .va) (a .privilege .level) low) (by-hint q (eqb (hint .key) (hintKey (a .va) (a .privilege .level))))
   by-mark false q = unnoted a t (miss .answer) _ _ _ (miss-follows a t s fits (a .on))
 
   -- a translation follows the plain model
-  pub turn-follows : Follows (turnIn a t .answer) (turned a t) (translate a (live t))
-  unfolding turnWith translate
-  turn-follows =
-      subst (λ (m : Bool). Follows (turnIn a t .answer) (turned a t) (hinted m a (live t))) (may-is (a .who) (a .kind))
-      (by-mark (mayHint (a .who) (a .kind)) refl)
+  pub translation-follows : Follows (translationIn a t .answer) (tlbAfter a t) (translate a (live t))
+  unfolding translationWith translate
+  translation-follows =
+      subst (λ (m : Bool). Follows (translationIn a t .answer) (tlbAfter a t) (hinted m a (live t))) (may-is (a .privilege) (a .kind))
+      (by-mark (mayHint (a .privilege) (a .kind)) refl)
 
 -- FETCHES
 
@@ -206,7 +206,7 @@ module _ (a : Access) (t : Tlb) (s : WellFormed t) (fits : LeafLevel (a .walk)) 
 
   abbrev missBy : Kind → Resolved
   missBy k =
-      missWith (a .on) (a .untagged) (a .walk) (a .regime) (a .who) (t .cache .present) (entryAt (t .cache) (slotFor a)) (a .va) k
+      missWith (a .on) (a .untagged) (a .walk) (a .regime) (a .privilege) (t .cache .current) (entryAt (t .cache) (slotFor a)) (a .va) k
 
   abbrev fetchMiss : Resolved
   fetchMiss = missBy Fetch
@@ -223,21 +223,21 @@ module _ (a : Access) (t : Tlb) (s : WellFormed t) (fits : LeafLevel (a .walk)) 
   missEntry = keptBy (fetchMiss .source) (entryAt (t .cache) (slotFor a)) (fetchMiss .made)
 
   fetch-kept : (pa : ℕ)
-      → live (moved t (setFetch (setEntry (t .cache) (slotFor a) missEntry) (fetchFor (a .va) (a .who .level) pa)) missCounts)
+      → live (tlbWith t (setFetch (setEntry (t .cache) (slotFor a) missEntry) (fetchFor (a .va) (a .privilege .level) pa)) missCounts)
       ≡ keepFetch (knownOf a pa) (live (withEntry t (slotFor a) fetchMiss))
   fetch-kept pa =
       λ n.
       record {
-        asid = t .cache .present .asid;
+        asid = t .cache .current .asid;
         lines = live (withEntry t (slotFor a) fetchMiss) .lines;
         hints = live t .hints;
-        fetch = fetch-made (a .va) (a .who .level) pa n;
+        fetch = fetch-made (a .va) (a .privilege .level) pa n;
         counts = countersOf missCounts;
         pending = live t .pending;
       }
 
-  abbrev fetchMissed : FetchTurned
-  fetchMissed = fetchApplied fetchMiss (a .who .level) (t .counts) now (entryAt (t .cache) (slotFor a)) (a .va)
+  abbrev fetchMissed : FetchTranslation
+  fetchMissed = fetchApplied fetchMiss (a .privilege .level) (t .counts) now (entryAt (t .cache) (slotFor a)) (a .va)
 
   fetch-noted : (x : Answer) → fetchMiss .answer ≡ x
       → Follows (fetchMissed .answer) (withFetch t (slotFor a) fetchMissed) (notedFetch a (unhinted (a .on) a (live t)))
@@ -253,7 +253,7 @@ module _ (a : Access) (t : Tlb) (s : WellFormed t) (fits : LeafLevel (a .walk)) 
       let oe : unhinted (a .on) a (live t) .answer ≡ Status fault = sym (fetch-miss .answer) ∙ e in
       rw (e, oe) (record { answer = refl; after = fetch-miss .after; well = fetch-miss .well })
 
-  by-fetch : (b : Bool) → fetchServes now (a .who .level) (a .va) ≡ b
+  by-fetch : (b : Bool) → fetchServes now (a .privilege .level) (a .va) ≡ b
       → Follows (fetchIn a t .answer) (fetchedIn a t) (fetched (pick b (holds (now .pa / 4096)) empty) a (live t))
   unfolding fetchWith fetchEnd fetched
   by-fetch true q =
@@ -268,4 +268,4 @@ module _ (a : Access) (t : Tlb) (s : WellFormed t) (fits : LeafLevel (a .walk)) 
   pub fetch-follows : Follows (fetchIn a t .answer) (fetchedIn a t) (fetch a (live t))
   unfolding fetch
   fetch-follows =
-      rw (fetch-known-is now (a .va) (a .who .level) (s .fetch-page)) (by-fetch (fetchServes now (a .who .level) (a .va)) refl)
+      rw (fetch-known-is now (a .va) (a .privilege .level) (s .fetch-page)) (by-fetch (fetchServes now (a .privilege .level) (a .va)) refl)

@@ -24,7 +24,7 @@ abbrev access : Kind → Walked → Op
 access k w =
     translates
     (record {
-      who = record { level = 1; mark = false };
+      privilege = record { level = 1; unprivileged = false };
       kind = k;
       va = 0x40003123;
       on = true;

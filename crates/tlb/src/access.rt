@@ -1,7 +1,7 @@
 // An access: what it wants, who makes it, what it needs, and its answer.
 ghost use mathlib.Core.Path.{_≡_};
 ghost use Prim.Native.Nat.{_≤_};
-ghost use Rattle.tlb.specs.Access.{isFetch, mayHint, regimeNumber, tagOf, asUser, userOf, ownRights};
+ghost use Rattle.tlb.specs.Access.{isFetch, mayHint, regimeNumber, tagOf, countsAsUser, userOf, ownRights};
 ghost use Rattle.tlb.specs.Access.{rightPlace, rightOf, judged};
 use crate::entry::Entry;
 use fault::Fault;
@@ -14,9 +14,9 @@ pub enum Kind {
 }
 
 // The exception level, and whether accesses count as EL0's.
-pub struct Who {
+pub struct Privilege {
     pub level: u8,
-    pub mark: bool,
+    pub unprivileged: bool,
 }
 
 // The address that an access goes to, or its fault.
@@ -36,11 +36,11 @@ fn is_fetch(kind: Kind) -> bool
 }
 
 // Whether a data hint may serve the access.
-pub fn may_hint(who: Who, kind: Kind) -> bool
-    ensures { λ r. ⌜ r ≡ mayHint who kind ⌝ }
+pub fn may_hint(privilege: Privilege, kind: Kind) -> bool
+    ensures { λ r. ⌜ r ≡ mayHint privilege kind ⌝ }
 {
     let fetch = is_fetch(kind);
-    !fetch & !who.mark
+    !fetch & !privilege.unprivileged
 }
 
 fn regime_number(regime: Regime) -> u64
@@ -63,23 +63,23 @@ pub fn tag_of(regime: Regime, va: u64) -> u64
 }
 
 // EL0's own accesses, and data accesses that count as its.
-fn as_user(who: Who, kind: Kind) -> bool
-    ensures { λ r. ⌜ r ≡ asUser who kind ⌝ }
+fn as_user(privilege: Privilege, kind: Kind) -> bool
+    ensures { λ r. ⌜ r ≡ countsAsUser privilege kind ⌝ }
 {
-    if who.level == 0 {
+    if privilege.level == 0 {
         true
     } else {
         let fetch = is_fetch(kind);
-        who.mark & !fetch
+        privilege.unprivileged & !fetch
     }
 }
 
 // Whether the access is judged by EL0's rights.
-pub fn user_of(regime: Regime, who: Who, kind: Kind) -> bool
-    ensures { λ r. ⌜ r ≡ userOf regime who kind ⌝ }
+pub fn user_of(regime: Regime, privilege: Privilege, kind: Kind) -> bool
+    ensures { λ r. ⌜ r ≡ userOf regime privilege kind ⌝ }
 {
     match regime {
-        Regime::El1 => as_user(who, kind),
+        Regime::El1 => as_user(privilege, kind),
         Regime::El2 => false,
         Regime::El3 => false,
     }

@@ -8,14 +8,14 @@ ghost use Rattle.tlb.specs.Cache.{blanks, noHints, hintless, renewed as 
 ghost use Rattle.tlb.specs.Cache.{setEntry, setHint, setFetch, flushed as flushedOf, withoutPage, withoutAsid};
 ghost use Rattle.tlb.specs.Cache.{retagged as retaggedOf};
 use crate::entry;
+use crate::entry::Current;
 use crate::entry::Entry;
-use crate::entry::Present;
 use crate::hint;
 use crate::hint::FetchHint;
 use crate::hint::Hint;
 
 pub struct Cache {
-    pub present: Present,
+    pub current: Current,
     pub fetch: FetchHint,
     pub hints: [Hint; 512],
     pub entries: [Entry; 1024],
@@ -37,14 +37,14 @@ fn no_hints() -> [Hint; 512]
 
 // The same cache with every hint gone.
 fn without_hints(c: Cache) -> Cache
-    ensures { λ r. ⌜ r ≡ hintless (c .present) (c .entries) ⌝ }
+    ensures { λ r. ⌜ r ≡ hintless (c .current) (c .entries) ⌝ }
 {
-    let present = c.present;
+    let current = c.current;
     let entries = c.entries;
     let hints = no_hints();
     let fetch = hint::no_fetch();
     Cache {
-        present,
+        current,
         fetch,
         hints,
         entries,
@@ -52,13 +52,13 @@ fn without_hints(c: Cache) -> Cache
 }
 
 // The hints of c with another generation, ASID and entries.
-fn renewed(c: Cache, present: Present, entries: [Entry; 1024]) -> Cache
-    ensures { λ r. ⌜ r ≡ renewedOf c present entries ⌝ }
+fn renewed(c: Cache, current: Current, entries: [Entry; 1024]) -> Cache
+    ensures { λ r. ⌜ r ≡ renewedOf c current entries ⌝ }
 {
     let fetch = c.fetch;
     let hints = c.hints;
     Cache {
-        present,
+        current,
         fetch,
         hints,
         entries,
@@ -72,7 +72,7 @@ pub fn empty() -> Cache
     let hints = no_hints();
     let fetch = hint::no_fetch();
     Cache {
-        present: Present {
+        current: Current {
             generation: 1,
             asid: 0,
         },
@@ -137,10 +137,10 @@ pub fn hint_at(c: Cache, i: usize) -> Hint
 pub fn set_entry(c: Cache, i: usize, e: Entry) -> Cache
     ensures { λ r. ⌜ r ≡ setEntry c i e ⌝ }
 {
-    let present = c.present;
+    let current = c.current;
     let before = c.entries;
     let after = entries_with(before, i, e);
-    renewed(c, present, after)
+    renewed(c, current, after)
 }
 
 pub fn set_hint(c: Cache, i: usize, h: Hint) -> Cache
@@ -148,11 +148,11 @@ pub fn set_hint(c: Cache, i: usize, h: Hint) -> Cache
 {
     let before = c.hints;
     let hints = hints_with(before, i, h);
-    let present = c.present;
+    let current = c.current;
     let fetch = c.fetch;
     let entries = c.entries;
     Cache {
-        present,
+        current,
         fetch,
         hints,
         entries,
@@ -162,11 +162,11 @@ pub fn set_hint(c: Cache, i: usize, h: Hint) -> Cache
 pub fn set_fetch(c: Cache, fetch: FetchHint) -> Cache
     ensures { λ r. ⌜ r ≡ setFetch c fetch ⌝ }
 {
-    let present = c.present;
+    let current = c.current;
     let hints = c.hints;
     let entries = c.entries;
     Cache {
-        present,
+        current,
         fetch,
         hints,
         entries,
@@ -178,19 +178,19 @@ pub fn flushed(c: Cache) -> Cache
     ensures { λ r. ⌜ r ≡ flushedOf c ⌝ }
 {
     let bare = without_hints(c);
-    let asid = c.present.asid;
+    let asid = c.current.asid;
     let before = c.entries;
-    let generation = std::num::wrapping_add_u32(c.present.generation, 1);
+    let generation = std::num::wrapping_add_u32(c.current.generation, 1);
     let wrapped = generation == 0;
     if wrapped {
-        let first = Present {
+        let first = Current {
             generation: 1,
             asid,
         };
         let cleared = blank_entries();
         renewed(bare, first, cleared)
     } else {
-        let next = Present { generation, asid };
+        let next = Current { generation, asid };
         renewed(bare, next, before)
     }
 }
@@ -212,10 +212,10 @@ pub fn without_page(c: Cache, page: u64) -> Cache
     ensures { λ r. ⌜ r ≡ withoutPage c page ⌝ }
 {
     let bare = without_hints(c);
-    let present = c.present;
+    let current = c.current;
     let before = c.entries;
-    let pages = pages_dropped(before, present.generation, page);
-    renewed(bare, present, pages)
+    let pages = pages_dropped(before, current.generation, page);
+    renewed(bare, current, pages)
 }
 
 fn asids_dropped(entries: [Entry; 1024], asid: u16) -> [Entry; 1024]
@@ -235,10 +235,10 @@ pub fn without_asid(c: Cache, asid: u16) -> Cache
     ensures { λ r. ⌜ r ≡ withoutAsid c asid ⌝ }
 {
     let bare = without_hints(c);
-    let present = c.present;
+    let current = c.current;
     let before = c.entries;
     let others = asids_dropped(before, asid);
-    renewed(bare, present, others)
+    renewed(bare, current, others)
 }
 
 // Another ASID: the entries stay, every hint goes.
@@ -246,8 +246,8 @@ pub fn retagged(c: Cache, asid: u16) -> Cache
     ensures { λ r. ⌜ r ≡ retaggedOf c asid ⌝ }
 {
     let bare = without_hints(c);
-    let generation = c.present.generation;
-    let present = Present { generation, asid };
+    let generation = c.current.generation;
+    let current = Current { generation, asid };
     let entries = c.entries;
-    renewed(bare, present, entries)
+    renewed(bare, current, entries)
 }

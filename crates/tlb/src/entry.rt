@@ -18,7 +18,7 @@ pub struct Entry {
 }
 
 // The generation that entries answer in, and the ASID in force.
-pub struct Present {
+pub struct Current {
     pub generation: u32,
     pub asid: u16,
 }
@@ -47,7 +47,7 @@ pub fn slot(tag: u64) -> usize
 }
 
 // Whether an entry answers for a tag.
-pub fn serves(e: Entry, at: Present, tag: u64) -> bool
+pub fn serves(e: Entry, at: Current, tag: u64) -> bool
     ensures { λ r. ⌜ r ≡ servesOf e at tag ⌝ }
 {
     (e.tag == tag) & (e.generation == at.generation) & (e.global | (e.asid == at.asid))

@@ -18,7 +18,7 @@ pub struct FetchHint {
 }
 
 // What the fetch hint says of an address.
-pub enum Physical {
+pub enum HintAnswer {
     At(u64),
     Unknown,
 }
@@ -95,13 +95,13 @@ pub fn fetch_for(va: u64, level: u8, pa: u64) -> FetchHint
 }
 
 // Where a fetch of va goes by the hint.
-pub fn fetch_found(f: FetchHint, level: u8, va: u64) -> Physical
+pub fn fetch_found(f: FetchHint, level: u8, va: u64) -> HintAnswer
     ensures { λ r. ⌜ r ≡ fetchFound f level va ⌝ }
 {
     let found = f.some & (f.page == va / 4096 * 4096) & (f.level == level);
     if found {
-        Physical::At(f.pa | (va % 4096))
+        HintAnswer::At(f.pa | (va % 4096))
     } else {
-        Physical::Unknown
+        HintAnswer::Unknown
     }
 }

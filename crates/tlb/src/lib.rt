@@ -2,20 +2,20 @@
 ghost use mathlib.Core.Path.{_≡_};
 ghost use Rattle.tlb.specs.Tlb.{fresh, getOf, putOf, flushOf, dropPageOf, dropAsidOf, invalidateOf, retagOf};
 ghost use Rattle.tlb.specs.Tlb.{sameInval, pendingAfter, broadcastOf};
-ghost use Rattle.tlb.specs.Step.{withTurn, withFetch};
+ghost use Rattle.tlb.specs.Step.{withTranslation, withFetch};
 use cache::Cache;
+use cells::FetchTranslation;
+use cells::Translation;
 use count::Counts;
 use entry::Entry;
-use turn::FetchTurned;
-use turn::Turned;
 
 pub mod access;
 pub mod cache;
+pub mod cells;
 pub mod count;
 pub mod entry;
 pub mod hint;
 pub mod resolve;
-pub mod turn;
 
 // What a TLBI drops. A page is VA[55:12]; an ASID's entries are those that are not global.
 pub enum Inval {
@@ -59,9 +59,9 @@ pub fn get(t: Tlb, tag: u64) -> Found
     ensures { λ r. ⌜ r ≡ getOf t tag ⌝ }
 {
     let c = t.cache;
-    let present = c.present;
+    let current = c.current;
     let e = cache::entry_at(c, entry::slot(tag));
-    let hit = entry::serves(e, present, tag);
+    let hit = entry::serves(e, current, tag);
     if hit { Found::Hit(e) } else { Found::Missing }
 }
 
@@ -70,7 +70,7 @@ pub fn put(t: Tlb, e: Entry) -> Tlb
     ensures { λ r. ⌜ r ≡ putOf t e ⌝ }
 {
     let c = t.cache;
-    let made = entry::stamped(e, c.present.generation);
+    let made = entry::stamped(e, c.current.generation);
     let cache = cache::set_entry(c, entry::slot(e.tag), made);
     let counts = t.counts;
     let broadcast = t.broadcast;
@@ -142,7 +142,7 @@ pub fn drop_asid(t: Tlb, asid: u16) -> Tlb
         counts,
         broadcast,
     };
-    retag(dropped, c.present.asid)
+    retag(dropped, c.current.asid)
 }
 
 // What a TLBI asks for.
@@ -209,8 +209,8 @@ pub fn broadcast(t: Tlb, what: Inval) -> Tlb
 }
 
 // The cells that a translation took out, put back.
-pub fn with_turn(t: Tlb, place: usize, slot: usize, r: Turned) -> Tlb
-    ensures { λ u. ⌜ u ≡ withTurn t place slot r ⌝ }
+pub fn with_translation(t: Tlb, place: usize, slot: usize, r: Translation) -> Tlb
+    ensures { λ u. ⌜ u ≡ withTranslation t place slot r ⌝ }
 {
     let c = t.cache;
     let e = r.entry;
@@ -227,7 +227,7 @@ pub fn with_turn(t: Tlb, place: usize, slot: usize, r: Turned) -> Tlb
 }
 
 // The same after a fetch's translation.
-pub fn with_fetch(t: Tlb, slot: usize, r: FetchTurned) -> Tlb
+pub fn with_fetch(t: Tlb, slot: usize, r: FetchTranslation) -> Tlb
     ensures { λ u. ⌜ u ≡ withFetch t slot r ⌝ }
 {
     let c = t.cache;

@@ -7,10 +7,10 @@ ghost use Rattle.tlb.specs.Resolve.{askOf, entryFor, byWalk, resolveOf};
 use crate::access;
 use crate::access::Answer;
 use crate::access::Kind;
-use crate::access::Who;
+use crate::access::Privilege;
 use crate::entry;
+use crate::entry::Current;
 use crate::entry::Entry;
-use crate::entry::Present;
 use walk::level::Leaf;
 use walk::level::Walked;
 use walk::regime::Bank;
@@ -47,10 +47,10 @@ pub struct Resolved {
 }
 
 // What is asked of the cache.
-pub fn ask(s: Bank, who: Who, va: u64) -> Asked
-    ensures { λ r. ⌜ r ≡ askOf s who va ⌝ }
+pub fn ask(s: Bank, privilege: Privilege, va: u64) -> Asked
+    ensures { λ r. ⌜ r ≡ askOf s privilege va ⌝ }
 {
-    let regime = walk::regime::regime_of(who.level);
+    let regime = walk::regime::regime_of(privilege.level);
     let on = walk::regime::stage1_on(s, regime);
     if on {
         let page = walk::tag::untag(s.tcr, regime, va);
@@ -62,7 +62,7 @@ pub fn ask(s: Bank, who: Who, va: u64) -> Asked
 }
 
 // The entry that a leaf becomes.
-pub fn entry_for(leaf: Leaf, at: Present, tag: u64) -> Entry
+pub fn entry_for(leaf: Leaf, at: Current, tag: u64) -> Entry
     ensures { λ r. ⌜ r ≡ entryFor leaf at tag ⌝ }
 {
     Entry {
@@ -77,13 +77,13 @@ pub fn entry_for(leaf: Leaf, at: Present, tag: u64) -> Entry
 }
 
 // What the end of a walk does: a leaf becomes an entry and is judged, a fault makes none.
-fn ends(w: Walked, q: Query, who: Who, at: Present, kind: Kind, va: u64) -> Resolved
-    ensures { λ r. ⌜ r ≡ byWalk w q who at va kind ⌝ }
+fn ends(w: Walked, q: Query, privilege: Privilege, at: Current, kind: Kind, va: u64) -> Resolved
+    ensures { λ r. ⌜ r ≡ byWalk w q privilege at va kind ⌝ }
 {
     match w {
         Walked::Mapped(leaf) => {
             let regime = q.regime;
-            let user = access::user_of(regime, who, kind);
+            let user = access::user_of(regime, privilege, kind);
             let made = entry_for(leaf, at, q.tag);
             let answer = access::judge(made, user, kind, va);
             Resolved {
@@ -108,38 +108,39 @@ fn ends(w: Walked, q: Query, who: Who, at: Present, kind: Kind, va: u64) -> Reso
 fn walked(
     q: Query,
     s: Bank,
-    who: Who,
-    at: Present,
+    privilege: Privilege,
+    at: Current,
     va: u64,
     kind: Kind,
     base: u64,
     ram: &[u8],
 ) -> Resolved
-    ensures { λ r. ⌜ r ≡ byWalk (walkOf s (q .regime) (q .page) (wordAt base (now (ram .entry)) 8)) q who at va kind ⌝ }
+    ensures { λ r. ⌜ r ≡ byWalk (walkOf s (q .regime) (q .page)
+        (wordAt base (now (ram .entry)) 8)) q privilege at va kind ⌝ }
 {
     let regime = q.regime;
     let w = walk::table::walk(s, regime, q.page, base, ram);
-    ends(w, q, who, at, kind, va)
+    ends(w, q, privilege, at, kind, va)
 }
 
 // By the entry that the query's tag names, or by a walk.
 pub fn resolve(
     q: Query,
     s: Bank,
-    who: Who,
-    at: Present,
+    privilege: Privilege,
+    at: Current,
     e: Entry,
     va: u64,
     kind: Kind,
     base: u64,
     ram: &[u8],
 ) -> Resolved
-    ensures { λ r. ⌜ r ≡ resolveOf q s who at e va kind (wordAt base (now (ram .entry)) 8) ⌝ }
+    ensures { λ r. ⌜ r ≡ resolveOf q s privilege at e va kind (wordAt base (now (ram .entry)) 8) ⌝ }
 {
     let hit = entry::serves(e, at, q.tag);
     if hit {
         let regime = q.regime;
-        let user = access::user_of(regime, who, kind);
+        let user = access::user_of(regime, privilege, kind);
         let answer = access::judge(e, user, kind, va);
         let made = entry::blank();
         Resolved {
@@ -148,6 +149,6 @@ pub fn resolve(
             made,
         }
     } else {
-        walked(q, s, who, at, va, kind, base, ram)
+        walked(q, s, privilege, at, va, kind, base, ram)
     }
 }

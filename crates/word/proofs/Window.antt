@@ -83,9 +83,9 @@ module _ (base : ℕ) (ram : List ℕ) (n pa : ℕ) where
   store-outside v r t e = rw (← e, t)
 
 -- a turn of the loop that writes the bytes, and its end
-pub bytes-turn : (l : List ℕ) (i v n : ℕ) → i < length l → length l ≡ n → take (i + 1) (set l i (v % 256)) ++ bytesOf (n - (i + 1)) (v / 256) ≡ take i l ++ bytesOf (n - i) v
+pub bytes-translation : (l : List ℕ) (i v n : ℕ) → i < length l → length l ≡ n → take (i + 1) (set l i (v % 256)) ++ bytesOf (n - (i + 1)) (v / 256) ≡ take i l ++ bytesOf (n - i) v
 unfolding bytesOf
-bytes-turn l i v n h e =
+bytes-translation l i v n h e =
     let less : n - i ≡ suc (n - suc i) = omega arith in
     ap (λ (m : ℕ). take m (set l i (v % 256)) ++ bytesOf (n - m) (v / 256)) (add-one i) ∙ ap (λ (xs : List ℕ). xs ++ bytesOf (n - suc i) (v / 256)) (take-suc-set l i (v % 256) h)
     ∙ append-snoc (take i l) (v % 256) (bytesOf (n - suc i) (v / 256)) ∙ ap (λ (m : ℕ). take i l ++ bytesOf m v) (sym less)

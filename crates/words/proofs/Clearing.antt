@@ -14,63 +14,63 @@ use Rattle.tlb.specs.Lists.{swept}
 use Rattle.tlb.specs.declared.entry.Entry.{Entry}
 use Rattle.tlb.specs.declared.hint.Hint.{Hint}
 use Rattle.tlb.specs.declared.hint.FetchHint.{FetchHint}
-use Rattle.mmu.specs.Core.{movedTo}
+use Rattle.mmu.specs.Core.{afterAccess}
 use Rattle.mmu.specs.declared.core.Core.{Core}
-use Rattle.words.specs.Held.{held}
+use Rattle.words.specs.CoreOf.{coreOf}
 use Rattle.words.specs.Parts.{tagged, withCache, withHint, withEntry, withTag, withEntries, withFetchHint, withoutHints}
-use Rattle.words.specs.Moved.{Moved, stays, moved-as, moved-on, moved-then}
-use Rattle.words.specs.Sweeps.{withDataHints, hints, entries, hints-long, entries-long, hints-begin, hints-turn, hints-done, entries-begin, entries-turn, tags-turn, entries-done, blanks-done}
+use Rattle.words.specs.NowHolds.{NowHolds, stays, holds-as, holds-on, holds-then}
+use Rattle.words.specs.Sweeps.{withDataHints, hints, entries, hints-long, entries-long, hints-begin, hints-translation, hints-done, entries-begin, entries-translation, tags-translation, entries-done, blanks-done}
 
 fetch-out : (c : Core) → withFetchHint (withDataHints c noHints) noFetch ≡ withoutHints c
-unfolding withFetchHint withDataHints withoutHints withCache movedTo
+unfolding withFetchHint withDataHints withoutHints withCache afterAccess
 fetch-out c = refl
 
 module _ (ws : List ℕ) where
   -- the first i hints are out
   abbrev pub HintsOut : ℕ → List ℕ → Type 0
-  HintsOut i xs = Moved ws xs (withDataHints (held ws) (swept (λ h. noHint) i (hints (held ws))))
+  HintsOut i xs = NowHolds ws xs (withDataHints (coreOf ws) (swept (λ h. noHint) i (hints (coreOf ws))))
 
   pub hints-start : HintsOut 0 ws
-  hints-start = moved-as stays (hints-begin (held ws))
+  hints-start = holds-as stays (hints-begin (coreOf ws))
 
-  pub hints-again : (xs ys : List ℕ) (i : ℕ) (h : Hint) → i < 512 → h ≡ noHint → HintsOut i xs → Moved xs ys (withHint (held xs) i h) → HintsOut (i + 1) ys
+  pub hints-again : (xs ys : List ℕ) (i : ℕ) (h : Hint) → i < 512 → h ≡ noHint → HintsOut i xs → NowHolds xs ys (withHint (coreOf xs) i h) → HintsOut (i + 1) ys
   hints-again xs ys i h g e m n =
-      moved-on (λ c. withHint c i h) m n
-      (ap (withHint (withDataHints (held ws) (swept (λ h. noHint) i (hints (held ws)))) i) e ∙ hints-turn (held ws) i (rw (hints-long ws) g))
+      holds-on (λ c. withHint c i h) m n
+      (ap (withHint (withDataHints (coreOf ws) (swept (λ h. noHint) i (hints (coreOf ws)))) i) e ∙ hints-translation (coreOf ws) i (rw (hints-long ws) g))
 
-  pub hints-end : (xs : List ℕ) (i : ℕ) → 512 ≤ i → HintsOut i xs → Moved ws xs (withDataHints (held ws) noHints)
-  hints-end xs i g m = moved-as m (hints-done (held ws) i (hints-long ws) g)
+  pub hints-end : (xs : List ℕ) (i : ℕ) → 512 ≤ i → HintsOut i xs → NowHolds ws xs (withDataHints (coreOf ws) noHints)
+  hints-end xs i g m = holds-as m (hints-done (coreOf ws) i (hints-long ws) g)
 
   -- then the fetch hint
-  pub hints-gone : (xs ys : List ℕ) (f : FetchHint) → f ≡ noFetch → Moved ws xs (withDataHints (held ws) noHints) → Moved xs ys (withFetchHint (held xs) f)
-      → Moved ws ys (withoutHints (held ws))
-  hints-gone xs ys f e m n = moved-on (λ c. withFetchHint c f) m n (ap (withFetchHint (withDataHints (held ws) noHints)) e ∙ fetch-out (held ws))
+  pub hints-gone : (xs ys : List ℕ) (f : FetchHint) → f ≡ noFetch → NowHolds ws xs (withDataHints (coreOf ws) noHints) → NowHolds xs ys (withFetchHint (coreOf xs) f)
+      → NowHolds ws ys (withoutHints (coreOf ws))
+  hints-gone xs ys f e m n = holds-on (λ c. withFetchHint c f) m n (ap (withFetchHint (withDataHints (coreOf ws) noHints)) e ∙ fetch-out (coreOf ws))
 
   -- the first i entries are g of what they were
   abbrev pub EntriesBy : (Entry → Entry) → ℕ → List ℕ → Type 0
-  EntriesBy g i xs = Moved ws xs (withEntries (held ws) (swept g i (entries (held ws))))
+  EntriesBy g i xs = NowHolds ws xs (withEntries (coreOf ws) (swept g i (entries (coreOf ws))))
 
   pub entries-start : (g : Entry → Entry) → EntriesBy g 0 ws
-  entries-start g = moved-as stays (entries-begin (held ws) g)
+  entries-start g = holds-as stays (entries-begin (coreOf ws) g)
 
-  pub blanks-again : (xs ys : List ℕ) (i : ℕ) (e : Entry) → i < 1024 → e ≡ blank → EntriesBy (λ x. blank) i xs → Moved xs ys (withEntry (held xs) i e)
+  pub blanks-again : (xs ys : List ℕ) (i : ℕ) (e : Entry) → i < 1024 → e ≡ blank → EntriesBy (λ x. blank) i xs → NowHolds xs ys (withEntry (coreOf xs) i e)
       → EntriesBy (λ x. blank) (i + 1) ys
   blanks-again xs ys i e g q m n =
-      moved-on (λ c. withEntry c i e) m n (entries-turn (held ws) (λ x. blank) i e (rw (entries-long ws) g) q)
+      holds-on (λ c. withEntry c i e) m n (entries-translation (coreOf ws) (λ x. blank) i e (rw (entries-long ws) g) q)
 
-  pub blanks-end : (xs : List ℕ) (i : ℕ) → 1024 ≤ i → EntriesBy (λ x. blank) i xs → Moved ws xs (withEntries (held ws) blanks)
+  pub blanks-end : (xs : List ℕ) (i : ℕ) → 1024 ≤ i → EntriesBy (λ x. blank) i xs → NowHolds ws xs (withEntries (coreOf ws) blanks)
   blanks-end xs i g m =
-      moved-as m (entries-done (held ws) (λ x. blank) i (entries-long ws) g ∙ blanks-done (held ws) (entries-long ws))
+      holds-as m (entries-done (coreOf ws) (λ x. blank) i (entries-long ws) g ∙ blanks-done (coreOf ws) (entries-long ws))
 
   pub tags-again : (g : Entry → Entry) → ((e : Entry) → g e ≡ tagged e (g e .tag)) → (xs ys : List ℕ) (i : ℕ) (e d : Entry) → i < 1024
-      → e ≡ entryAt (held xs .tlb .cache) i → d ≡ g e → EntriesBy g i xs → Moved xs ys (withTag (held xs) i (d .tag)) → EntriesBy g (i + 1) ys
+      → e ≡ entryAt (coreOf xs .tlb .cache) i → d ≡ g e → EntriesBy g i xs → NowHolds xs ys (withTag (coreOf xs) i (d .tag)) → EntriesBy g (i + 1) ys
   tags-again g t xs ys i e d h p q m n =
-      moved-then (λ c. withTag c i (d .tag)) m n
-      (λ k. tags-turn (held ws) g t i (d .tag) (rw (entries-long ws) h)
+      holds-then (λ c. withTag c i (d .tag)) m n
+      (λ k. tags-translation (coreOf ws) g t i (d .tag) (rw (entries-long ws) h)
       (ap (λ (x : Entry). x .tag) q ∙ ap (λ (x : Entry). g x .tag) p ∙ ap (λ (c : Core). g (entryAt (c .tlb .cache) i) .tag) k))
 
-  pub entries-end : (g : Entry → Entry) (xs : List ℕ) (i : ℕ) → 1024 ≤ i → EntriesBy g i xs → Moved ws xs (withEntries (held ws) (map g (entries (held ws))))
-  entries-end g xs i h m = moved-as m (entries-done (held ws) g i (entries-long ws) h)
+  pub entries-end : (g : Entry → Entry) (xs : List ℕ) (i : ℕ) → 1024 ≤ i → EntriesBy g i xs → NowHolds ws xs (withEntries (coreOf ws) (map g (entries (coreOf ws))))
+  entries-end g xs i h m = holds-as m (entries-done (coreOf ws) g i (entries-long ws) h)
 
 -- a dropped entry loses its tag alone
 picked : (b : Bool) (e : Entry) → pick b (untagged e) e ≡ tagged e (pick b (untagged e) e .tag)

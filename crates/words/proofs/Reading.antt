@@ -23,7 +23,7 @@ use Rattle.walk.specs.declared.regime.Bank.{Bank}
 use Rattle.tlb.specs.Cache.{hintAt, entryAt}
 use Rattle.tlb.specs.Hint.{noHint}
 use Rattle.tlb.specs.Entry.{blank}
-use Rattle.tlb.specs.declared.access.Who.{Who}
+use Rattle.tlb.specs.declared.access.Privilege.{Privilege}
 use Rattle.tlb.specs.declared.entry.Entry.{Entry}
 use Rattle.tlb.specs.declared.hint.Hint.{Hint}
 use Rattle.tlb.specs.declared.Inval.the-variants.{All, Page, Asid}
@@ -31,20 +31,20 @@ use Rattle.tlb.specs.declared.Pending.{Pending}
 use Rattle.tlb.specs.declared.Pending.the-variants.{Nothing, Some}
 use Rattle.mmu.specs.Core.{regOf}
 use Rattle.words.specs.Tables.{table, table-at, table-past}
-use Rattle.words.specs.Held.{word, levelIn, pendingOf, hintIn, entryIn, heldOn, heldBy, held}
+use Rattle.words.specs.CoreOf.{word, levelIn, pendingOf, hintIn, entryIn, coreOn, coreBy, coreOf}
 use Rattle.words.specs.RegWrites.{bankIndex, levelIndex, controlPlace, sysPlace}
 use Rattle.words.specs.Places.{TCR, TTBR0, MAIR, VBAR, ELR, SPSR, ESR, FAR, GENERAL, LEVEL, UNPRIVILEGED, PENDING, PENDING-VALUE}
 
-abbrev whoBy : ℕ → Bool → Who
-whoBy level mark = record { level = level; mark = mark }
+abbrev privilegeBy : ℕ → Bool → Privilege
+privilegeBy level mark = record { level = level; unprivileged = mark }
 
-pub who-read : (ws : List ℕ) (l : ℕ) → l ≡ levelIn (word ws LEVEL) → whoBy l (eqb (word ws UNPRIVILEGED) 1) ≡ held ws .who
-unfolding held heldBy heldOn
-who-read ws l e = ap (λ (n : ℕ). whoBy n (eqb (word ws UNPRIVILEGED) 1)) e
+pub privilege-read : (ws : List ℕ) (l : ℕ) → l ≡ levelIn (word ws LEVEL) → privilegeBy l (eqb (word ws UNPRIVILEGED) 1) ≡ coreOf ws .privilege
+unfolding coreOf coreBy coreOn
+privilege-read ws l e = ap (λ (n : ℕ). privilegeBy n (eqb (word ws UNPRIVILEGED) 1)) e
 
 -- a level that no byte holds is none of the four either
-pub level-read : (ws : List ℕ) → ltb (word ws LEVEL) 4 ≡ ltb (held ws .who .level) 4
-unfolding held heldBy heldOn
+pub level-read : (ws : List ℕ) → ltb (word ws LEVEL) 4 ≡ ltb (coreOf ws .privilege .level) 4
+unfolding coreOf coreBy coreOn
 level-read ws = go (word ws LEVEL)
   where
     inside : (n : ℕ) (b : Bool) → ltb n 256 ≡ b → ltb n 4 ≡ ltb (pick b n 255) 4
@@ -55,47 +55,47 @@ level-read ws = go (word ws LEVEL)
     go n = inside n (ltb n 256) refl
 
 -- general registers
-pub general-read : (ws : List ℕ) (n : ℕ) → n < 31 → word ws (GENERAL + n) ≡ regOf (held ws) n
-unfolding held heldBy heldOn regOf
+pub general-read : (ws : List ℕ) (n : ℕ) → n < 31 → word ws (GENERAL + n) ≡ regOf (coreOf ws) n
+unfolding coreOf coreBy coreOn regOf
 general-read ws n h = sym (rw (lt-ltb n 31 h) (table-at 31 (λ k. word ws (GENERAL + k)) n 0 h))
 
-pub general-zero : (ws : List ℕ) (n : ℕ) → 31 ≤ n → 0 ≡ regOf (held ws) n
+pub general-zero : (ws : List ℕ) (n : ℕ) → 31 ≤ n → 0 ≡ regOf (coreOf ws) n
 unfolding regOf
 general-zero ws n h = sym (rw (le-ltb n 31 h))
 
 -- hints and entries
-pub hint-read : (ws : List ℕ) (i : ℕ) → i < 512 → hintIn (word ws) i ≡ hintAt (held ws .tlb .cache) i
-unfolding held heldBy heldOn
+pub hint-read : (ws : List ℕ) (i : ℕ) → i < 512 → hintIn (word ws) i ≡ hintAt (coreOf ws .tlb .cache) i
+unfolding coreOf coreBy coreOn
 hint-read ws i h = sym (table-at 512 (hintIn (word ws)) i noHint h)
 
-pub hint-past : (ws : List ℕ) (i : ℕ) (h : Hint) → h ≡ noHint → 512 ≤ i → h ≡ hintAt (held ws .tlb .cache) i
-unfolding held heldBy heldOn
+pub hint-past : (ws : List ℕ) (i : ℕ) (h : Hint) → h ≡ noHint → 512 ≤ i → h ≡ hintAt (coreOf ws .tlb .cache) i
+unfolding coreOf coreBy coreOn
 hint-past ws i h e g = e ∙ sym (table-past 512 (hintIn (word ws)) i noHint g)
 
-pub entry-read : (ws : List ℕ) (j : ℕ) → j < 1024 → entryIn (word ws) j ≡ entryAt (held ws .tlb .cache) j
-unfolding held heldBy heldOn
+pub entry-read : (ws : List ℕ) (j : ℕ) → j < 1024 → entryIn (word ws) j ≡ entryAt (coreOf ws .tlb .cache) j
+unfolding coreOf coreBy coreOn
 entry-read ws j h = sym (table-at 1024 (entryIn (word ws)) j blank h)
 
-pub entry-past : (ws : List ℕ) (j : ℕ) (e : Entry) → e ≡ blank → 1024 ≤ j → e ≡ entryAt (held ws .tlb .cache) j
-unfolding held heldBy heldOn
+pub entry-past : (ws : List ℕ) (j : ℕ) (e : Entry) → e ≡ blank → 1024 ≤ j → e ≡ entryAt (coreOf ws .tlb .cache) j
+unfolding coreOf coreBy coreOn
 entry-past ws j e q g = q ∙ sym (table-past 1024 (entryIn (word ws)) j blank g)
 
 -- what is pending
 module _ (ws : List ℕ) where
-  pub pending-all : word ws PENDING ≡ 1 → Some All ≡ held ws .tlb .broadcast
-  unfolding held heldBy heldOn
+  pub pending-all : word ws PENDING ≡ 1 → Some All ≡ coreOf ws .tlb .broadcast
+  unfolding coreOf coreBy coreOn
   pending-all e = sym (ap (λ (n : ℕ). pendingOf n (word ws PENDING-VALUE)) e)
 
-  pub pending-page : word ws PENDING ≡ 2 → Some (Page (word ws PENDING-VALUE)) ≡ held ws .tlb .broadcast
-  unfolding held heldBy heldOn
+  pub pending-page : word ws PENDING ≡ 2 → Some (Page (word ws PENDING-VALUE)) ≡ coreOf ws .tlb .broadcast
+  unfolding coreOf coreBy coreOn
   pending-page e = sym (ap (λ (n : ℕ). pendingOf n (word ws PENDING-VALUE)) e)
 
-  pub pending-asid : word ws PENDING ≡ 3 → Some (Asid (word ws PENDING-VALUE % 2 ^ 16)) ≡ held ws .tlb .broadcast
-  unfolding held heldBy heldOn
+  pub pending-asid : word ws PENDING ≡ 3 → Some (Asid (word ws PENDING-VALUE % 2 ^ 16)) ≡ coreOf ws .tlb .broadcast
+  unfolding coreOf coreBy coreOn
   pending-asid e = sym (ap (λ (n : ℕ). pendingOf n (word ws PENDING-VALUE)) e)
 
-  pub pending-none : (word ws PENDING ≡ 1 → ⊥) → (word ws PENDING ≡ 2 → ⊥) → (word ws PENDING ≡ 3 → ⊥) → Nothing ≡ held ws .tlb .broadcast
-  unfolding held heldBy heldOn
+  pub pending-none : (word ws PENDING ≡ 1 → ⊥) → (word ws PENDING ≡ 2 → ⊥) → (word ws PENDING ≡ 3 → ⊥) → Nothing ≡ coreOf ws .tlb .broadcast
+  unfolding coreOf coreBy coreOn
   pending-none a b d = sym (rw (ne-eqb _ 1 a, ne-eqb _ 2 b, ne-eqb _ 3 d))
 
 -- registers
@@ -110,26 +110,26 @@ bankBy w b =
       «hcr_el2» = w 29;
     }
 
-pub bank-read : (ws : List ℕ) (r : Regime) (b : ℕ) → b ≡ bankIndex r → bankBy (word ws) b ≡ bankOf (held ws .control) r
-unfolding held heldBy heldOn
+pub bank-read : (ws : List ℕ) (r : Regime) (b : ℕ) → b ≡ bankIndex r → bankBy (word ws) b ≡ bankOf (coreOf ws .control) r
+unfolding coreOf coreBy coreOn
 bank-read ws Regime.El1 b e = ap (bankBy (word ws)) e
 bank-read ws Regime.El2 b e = ap (bankBy (word ws)) e
 bank-read ws Regime.El3 b e = ap (bankBy (word ws)) e
 
-pub mair-read : (ws : List ℕ) (r : Regime) (b : ℕ) → b ≡ bankIndex r → word ws (MAIR + b) ≡ sysAt (held ws .sys) (Mair (regime.levelOf r))
-unfolding held heldBy heldOn
+pub mair-read : (ws : List ℕ) (r : Regime) (b : ℕ) → b ≡ bankIndex r → word ws (MAIR + b) ≡ sysAt (coreOf ws .sys) (Mair (regime.levelOf r))
+unfolding coreOf coreBy coreOn
 mair-read ws Regime.El1 b e = ap (λ (n : ℕ). word ws (MAIR + n)) e
 mair-read ws Regime.El2 b e = ap (λ (n : ℕ). word ws (MAIR + n)) e
 mair-read ws Regime.El3 b e = ap (λ (n : ℕ). word ws (MAIR + n)) e
 
-pub vbar-read : (ws : List ℕ) (el : El) (i : ℕ) → i ≡ levelIndex el → word ws (VBAR + i) ≡ sysAt (held ws .sys) (Vbar el)
-unfolding held heldBy heldOn
+pub vbar-read : (ws : List ℕ) (el : El) (i : ℕ) → i ≡ levelIndex el → word ws (VBAR + i) ≡ sysAt (coreOf ws .sys) (Vbar el)
+unfolding coreOf coreBy coreOn
 vbar-read ws El1 i e = ap (λ (n : ℕ). word ws (VBAR + n)) e
 vbar-read ws El2 i e = ap (λ (n : ℕ). word ws (VBAR + n)) e
 vbar-read ws El3 i e = ap (λ (n : ℕ). word ws (VBAR + n)) e
 
-control-is : (ws : List ℕ) (r : ControlReg) → word ws (controlPlace r) ≡ controlAt (held ws .control) r
-unfolding held heldBy heldOn
+control-is : (ws : List ℕ) (r : ControlReg) → word ws (controlPlace r) ≡ controlAt (coreOf ws .control) r
+unfolding coreOf coreBy coreOn
 control-is ws (Sctlr El1) = refl
 control-is ws (Sctlr El2) = refl
 control-is ws (Sctlr El3) = refl
@@ -143,7 +143,7 @@ control-is ws Ttbr1 = refl
 control-is ws Scr = refl
 control-is ws Hcr = refl
 
-pub control-read : (ws : List ℕ) (r : ControlReg) (k : ℕ) → k ≡ controlPlace r → word ws k ≡ controlAt (held ws .control) r
+pub control-read : (ws : List ℕ) (r : ControlReg) (k : ℕ) → k ≡ controlPlace r → word ws k ≡ controlAt (coreOf ws .control) r
 control-read ws r k e = ap (word ws) e ∙ control-is ws r
 
 -- places

@@ -8,11 +8,11 @@ use lib.ListN.{set, length, length-set}
 use lib.Seq.{set-out}
 use Rattle.tlb.specs.declared.entry.Entry.{Entry}
 use Rattle.tlb.specs.declared.hint.Hint.{Hint}
-use Rattle.mmu.specs.Core.{setReg, movedTo}
+use Rattle.mmu.specs.Core.{setReg, afterAccess}
 use Rattle.words.specs.Tables.{table, table-set, table-length}
-use Rattle.words.specs.Held.{word, hintIn, entryIn, heldOn, heldBy, held}
+use Rattle.words.specs.CoreOf.{word, hintIn, entryIn, coreOn, coreBy, coreOf}
 use Rattle.words.specs.Parts.{withCache, withHint}
-use Rattle.words.specs.Puts.{put, other, same, word-set, generals, SmallSame, hints-same, entries-same, held-tables, small-same}
+use Rattle.words.specs.Puts.{put, other, same, word-set, generals, SmallSame, hints-same, entries-same, coreOf-tables, small-same}
 use Rattle.words.specs.Places.{GENERAL, HINTS, HINT-PA, WORDS}
 
 -- a place beyond the small parts put anew
@@ -36,15 +36,15 @@ module _ (ws : List ℕ) (L : length ws ≡ WORDS) where
       table-set 31 (λ m. w (GENERAL + m)) (λ m. put w (GENERAL + n) x (GENERAL + m)) n h (λ m k ne. other w (GENERAL + n) x (GENERAL + m) (λ e. ne (omega arith)))
       ∙ ap (λ (y : ℕ). set (generals w) n y) (same w (GENERAL + n) x)
 
-  pub general-held : (n x : ℕ) → n < 31 → held (set ws (GENERAL + n) x) ≡ setReg (held ws) n x
-  unfolding held heldBy setReg heldOn
-  general-held n x h =
+  pub general-coreOf : (n x : ℕ) → n < 31 → coreOf (set ws (GENERAL + n) x) ≡ setReg (coreOf ws) n x
+  unfolding coreOf coreBy setReg coreOn
+  general-coreOf n x h =
       let v : ℕ → ℕ = put w (GENERAL + n) x in
-      ap heldBy (word-set ws (GENERAL + n) x (omega arith))
+      ap coreBy (word-set ws (GENERAL + n) x (omega arith))
       ∙ small-same v w (record { below = λ m a. other w (GENERAL + n) x m (λ e. omega arith); among = λ m a b. other w (GENERAL + n) x m (λ e. omega arith) })
       (generals v) (table 512 (hintIn v)) (table 1024 (entryIn v))
       ∙ (λ i.
-      heldOn w (generals-put n x h i) (hints-same v w (λ m a. other w (GENERAL + n) x m (λ e. omega arith)) i)
+      coreOn w (generals-put n x h i) (hints-same v w (λ m a. other w (GENERAL + n) x m (λ e. omega arith)) i)
       (entries-same v w (λ m a. other w (GENERAL + n) x m (λ e. omega arith)) i))
       ∙ sym (rw (lt-ltb n 31 h))
 
@@ -79,22 +79,22 @@ module _ (ws : List ℕ) (L : length ws ≡ WORDS) where
       word-set (set ws (HINTS + i * 2) (h .key)) (HINT-PA + i * 2) (h .pa) (omega arith)
       ∙ ap (λ (f : ℕ → ℕ). put f (HINT-PA + i * 2) (h .pa)) (word-set ws (HINTS + i * 2) (h .key) (omega arith))
 
-  pub hint-held : (i : ℕ) (h : Hint) → i < 512 → held (set (set ws (HINTS + i * 2) (h .key)) (HINT-PA + i * 2) (h .pa)) ≡ withHint (held ws) i h
-  unfolding held heldBy heldOn withHint withCache movedTo
-  hint-held i h g =
+  pub hint-coreOf : (i : ℕ) (h : Hint) → i < 512 → coreOf (set (set ws (HINTS + i * 2) (h .key)) (HINT-PA + i * 2) (h .pa)) ≡ withHint (coreOf ws) i h
+  unfolding coreOf coreBy coreOn withHint withCache afterAccess
+  hint-coreOf i h g =
       let v : ℕ → ℕ = hintPut i h in
-      ap heldBy (hint-words i h g)
-      ∙ held-tables v w (small-put _ w (HINT-PA + i * 2) (h .pa) (omega arith) (small-put w w (HINTS + i * 2) (h .key) (omega arith) (small-none w)))
+      ap coreBy (hint-words i h g)
+      ∙ coreOf-tables v w (small-put _ w (HINT-PA + i * 2) (h .pa) (omega arith) (small-put w w (HINTS + i * 2) (h .key) (omega arith) (small-none w)))
       (λ m a b. hint-elsewhere i h m (λ e. omega arith) (λ e. omega arith))
-      ∙ (λ n. heldOn w (generals w) (hints-put i h g n) (entries-same v w (λ m a. hint-elsewhere i h m (λ e. omega arith) (λ e. omega arith)) n))
+      ∙ (λ n. coreOn w (generals w) (hints-put i h g n) (entries-same v w (λ m a. hint-elsewhere i h m (λ e. omega arith) (λ e. omega arith)) n))
 
-  pub hint-kept : (i : ℕ) (h : Hint) → 512 ≤ i → held ws ≡ withHint (held ws) i h
-  unfolding held heldBy heldOn withHint withCache movedTo
+  pub hint-kept : (i : ℕ) (h : Hint) → 512 ≤ i → coreOf ws ≡ withHint (coreOf ws) i h
+  unfolding coreOf coreBy coreOn withHint withCache afterAccess
   hint-kept i h g =
-      ap (λ (hs : List Hint). heldOn w (generals w) hs (table 1024 (entryIn w)))
+      ap (λ (hs : List Hint). coreOn w (generals w) hs (table 1024 (entryIn w)))
       (sym (set-out (table 512 (hintIn w)) i h (rw (table-length 512 (hintIn w)) g)))
 
   -- register 31 is none
-  pub general-kept : (n x : ℕ) → 31 ≤ n → held ws ≡ setReg (held ws) n x
+  pub general-kept : (n x : ℕ) → 31 ≤ n → coreOf ws ≡ setReg (coreOf ws) n x
   unfolding setReg
   general-kept n x h = sym (rw (le-ltb n 31 h))

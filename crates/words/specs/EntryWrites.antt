@@ -12,11 +12,11 @@ use Rattle.word.specs.Bits.{flag, bitOn, field}
 use Rattle.tlb.specs.Cache.{entryAt}
 use Rattle.tlb.specs.Entry.{blank}
 use Rattle.tlb.specs.declared.entry.Entry.{Entry}
-use Rattle.mmu.specs.Core.{movedTo}
+use Rattle.mmu.specs.Core.{afterAccess}
 use Rattle.words.specs.Tables.{table, table-at, table-same, table-set, table-length}
-use Rattle.words.specs.Held.{word, hintIn, entryIn, entryOf, heldOn, heldBy, held}
+use Rattle.words.specs.CoreOf.{word, hintIn, entryIn, entryOf, coreOn, coreBy, coreOf}
 use Rattle.words.specs.Parts.{tagged, withCache, withEntry, withTag}
-use Rattle.words.specs.Puts.{put, other, same, word-set, generals, held-tables}
+use Rattle.words.specs.Puts.{put, other, same, word-set, generals, coreOf-tables}
 use Rattle.words.specs.Places.{HINTS, HINT-PA, ENTRIES, ENTRY-GENERATION, ENTRY-ATTRIBUTES, ENTRY-PA, WORDS}
 
 -- THE ATTRIBUTES OF AN ENTRY in one word, and back
@@ -115,18 +115,18 @@ module _ (ws : List ℕ) (L : length ws ≡ WORDS) where
       (o (ENTRY-ATTRIBUTES + n * 4) (λ e. omega arith) (λ e. omega arith) (λ e. ne (omega arith)) (λ e. omega arith) i)
       (o (ENTRY-PA + n * 4) (λ e. omega arith) (λ e. omega arith) (λ e. omega arith) (λ e. ne (omega arith)) i))
 
-  held-entry : (v : ℕ → ℕ) (j : ℕ) → j < 1024
+  coreOf-entry : (v : ℕ → ℕ) (j : ℕ) → j < 1024
       → ((m : ℕ) → (m ≡ ENTRIES + j * 4 → ⊥) → (m ≡ ENTRY-GENERATION + j * 4 → ⊥) → (m ≡ ENTRY-ATTRIBUTES + j * 4 → ⊥) → (m ≡ ENTRY-PA + j * 4 → ⊥) → v m ≡ w m)
-      → heldBy v ≡ withEntry (held ws) j (entryIn v j)
-  unfolding held heldBy heldOn withEntry withCache movedTo
-  held-entry v j h o =
-      held-tables v w
+      → coreBy v ≡ withEntry (coreOf ws) j (entryIn v j)
+  unfolding coreOf coreBy coreOn withEntry withCache afterAccess
+  coreOf-entry v j h o =
+      coreOf-tables v w
       (record {
         below = λ m a. o m (λ e. omega arith) (λ e. omega arith) (λ e. omega arith) (λ e. omega arith);
         among = λ m a b. o m (λ e. omega arith) (λ e. omega arith) (λ e. omega arith) (λ e. omega arith);
       })
       (λ m a b. o m (λ e. omega arith) (λ e. omega arith) (λ e. omega arith) (λ e. omega arith))
-      ∙ (λ i. heldOn w (generals w) (hints-still i) (entries-put v j h o i))
+      ∙ (λ i. coreOn w (generals w) (hints-still i) (entries-put v j h o i))
     where
       hints-still : table 512 (hintIn v) ≡ table 512 (hintIn w)
       hints-still =
@@ -137,14 +137,14 @@ module _ (ws : List ℕ) (L : length ws ≡ WORDS) where
             pa = o (HINT-PA + n * 2) (λ e. omega arith) (λ e. omega arith) (λ e. omega arith) (λ e. omega arith) i;
           })
 
-  pub entry-held : (j : ℕ) (e : Entry) → j < 1024 → e .generation < 2 ^ 32 → e .perms < 2 ^ 8 → e .level < 2 ^ 8 → e .asid < 2 ^ 16
-      → held (set (set (set (set ws (ENTRIES + j * 4) (e .tag)) (ENTRY-GENERATION + j * 4) (e .generation)) (ENTRY-ATTRIBUTES + j * 4) (attributes e)) (ENTRY-PA + j * 4) (e .pa))
-      ≡ withEntry (held ws) j e
-  unfolding held
-  entry-held j e h g p l a =
-      ap heldBy words
-      ∙ held-entry (entryPut j (e .tag) (e .generation) (attributes e) (e .pa)) j h (entry-elsewhere j (e .tag) (e .generation) (attributes e) (e .pa))
-      ∙ ap (λ (x : Entry). withEntry (held ws) j x) (entry-there j (e .tag) (e .generation) (attributes e) (e .pa) ∙ entry-back e p l a g)
+  pub entry-coreOf : (j : ℕ) (e : Entry) → j < 1024 → e .generation < 2 ^ 32 → e .perms < 2 ^ 8 → e .level < 2 ^ 8 → e .asid < 2 ^ 16
+      → coreOf (set (set (set (set ws (ENTRIES + j * 4) (e .tag)) (ENTRY-GENERATION + j * 4) (e .generation)) (ENTRY-ATTRIBUTES + j * 4) (attributes e)) (ENTRY-PA + j * 4) (e .pa))
+      ≡ withEntry (coreOf ws) j e
+  unfolding coreOf
+  entry-coreOf j e h g p l a =
+      ap coreBy words
+      ∙ coreOf-entry (entryPut j (e .tag) (e .generation) (attributes e) (e .pa)) j h (entry-elsewhere j (e .tag) (e .generation) (attributes e) (e .pa))
+      ∙ ap (λ (x : Entry). withEntry (coreOf ws) j x) (entry-there j (e .tag) (e .generation) (attributes e) (e .pa) ∙ entry-back e p l a g)
     where
       words : word (set (set (set (set ws (ENTRIES + j * 4) (e .tag)) (ENTRY-GENERATION + j * 4) (e .generation)) (ENTRY-ATTRIBUTES + j * 4) (attributes e)) (ENTRY-PA + j * 4) (e .pa))
           ≡ entryPut j (e .tag) (e .generation) (attributes e) (e .pa)
@@ -159,25 +159,25 @@ module _ (ws : List ℕ) (L : length ws ≡ WORDS) where
           (word-set (set ws (ENTRIES + j * 4) (e .tag)) (ENTRY-GENERATION + j * 4) (e .generation) (omega arith)
           ∙ ap (λ (f : ℕ → ℕ). put f (ENTRY-GENERATION + j * 4) (e .generation)) (word-set ws (ENTRIES + j * 4) (e .tag) (omega arith))))
 
-  pub entry-kept : (j : ℕ) (e : Entry) → 1024 ≤ j → held ws ≡ withEntry (held ws) j e
-  unfolding held heldBy heldOn withEntry withCache movedTo
+  pub entry-kept : (j : ℕ) (e : Entry) → 1024 ≤ j → coreOf ws ≡ withEntry (coreOf ws) j e
+  unfolding coreOf coreBy coreOn withEntry withCache afterAccess
   entry-kept j e h =
-      ap (λ (es : List Entry). heldOn w (generals w) (table 512 (hintIn w)) es)
+      ap (λ (es : List Entry). coreOn w (generals w) (table 512 (hintIn w)) es)
       (sym (set-out (table 1024 (entryIn w)) j e (rw (table-length 1024 (entryIn w)) h)))
 
-  at-is : (j : ℕ) → j < 1024 → entryAt (held ws .tlb .cache) j ≡ entryIn w j
-  unfolding held heldBy heldOn
+  at-is : (j : ℕ) → j < 1024 → entryAt (coreOf ws .tlb .cache) j ≡ entryIn w j
+  unfolding coreOf coreBy coreOn
   at-is j h = table-at 1024 (entryIn w) j blank h
 
   -- the tag alone
-  pub tag-held : (j t : ℕ) → j < 1024 → held (set ws (ENTRIES + j * 4) t) ≡ withTag (held ws) j t
-  unfolding held withTag
-  tag-held j t h =
-      ap heldBy (word-set ws (ENTRIES + j * 4) t (omega arith))
-      ∙ held-entry (put w (ENTRIES + j * 4) t) j h (λ m x y z u. other w (ENTRIES + j * 4) t m x)
-      ∙ ap (λ (x : Entry). withEntry (held ws) j x) there
+  pub tag-coreOf : (j t : ℕ) → j < 1024 → coreOf (set ws (ENTRIES + j * 4) t) ≡ withTag (coreOf ws) j t
+  unfolding coreOf withTag
+  tag-coreOf j t h =
+      ap coreBy (word-set ws (ENTRIES + j * 4) t (omega arith))
+      ∙ coreOf-entry (put w (ENTRIES + j * 4) t) j h (λ m x y z u. other w (ENTRIES + j * 4) t m x)
+      ∙ ap (λ (x : Entry). withEntry (coreOf ws) j x) there
     where
-      there : entryIn (put w (ENTRIES + j * 4) t) j ≡ tagged (entryAt (held ws .tlb .cache) j) t
+      there : entryIn (put w (ENTRIES + j * 4) t) j ≡ tagged (entryAt (coreOf ws .tlb .cache) j) t
       there =
           (λ i.
           entryOf (same w (ENTRIES + j * 4) t i) (other w (ENTRIES + j * 4) t (ENTRY-GENERATION + j * 4) (λ e. omega arith) i)

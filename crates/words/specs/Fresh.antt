@@ -9,8 +9,8 @@ use Rattle.sysreg.specs.Write.{controlWith, sysWith}
 use Rattle.sysreg.specs.declared.regs.El.the-variants.{El1, El2, El3}
 use Rattle.sysreg.specs.declared.regs.ControlReg.the-variants.{Sctlr}
 use Rattle.sysreg.specs.declared.regs.SysReg.the-variants.{Vpidr, Vmpidr}
-use Rattle.entry.specs.Entry.{entryFlags}
-use Rattle.entry.specs.Pstate.{freshFlags}
+use Rattle.exception.specs.Entry.{entryFlags}
+use Rattle.exception.specs.Pstate.{freshFlags}
 use Rattle.tlb.specs.Entry.{blank}
 use Rattle.tlb.specs.Hint.{noFetch}
 use Rattle.tlb.specs.Cache.{blanks, noHints}
@@ -19,11 +19,11 @@ use Rattle.tlb.specs.Lists.{replicate-at}
 use Rattle.tlb.specs.declared.entry.Entry.{Entry}
 use Rattle.tlb.specs.declared.hint.Hint.{Hint}
 use Rattle.tlb.specs.declared.Pending.the-variants.{Nothing}
-use Rattle.mmu.specs.Core.{zeros, freshCore, movedTo}
+use Rattle.mmu.specs.Core.{zeros, freshCore, afterAccess}
 use Rattle.mmu.specs.declared.core.Core.{Core}
 use Rattle.words.specs.Tables.{table, table-all}
-use Rattle.words.specs.Held.{word, hintIn, entryIn, heldOn, heldBy, held}
-use Rattle.words.specs.Parts.{withCache, withPresent, withWho, withFlags, withControl, withSys, withoutHints}
+use Rattle.words.specs.CoreOf.{word, hintIn, entryIn, coreOn, coreBy, coreOf}
+use Rattle.words.specs.Parts.{withCache, withCurrent, withPrivilege, withFlags, withControl, withSys, withoutHints}
 use Rattle.words.specs.Places.{WORDS}
 
 unfoldable pub zeroWords : List ℕ
@@ -34,13 +34,13 @@ nothing = record { key = 0; pa = 0 }
 
 -- the core that they hold
 unfoldable pub zeroCore : Core
-zeroCore = heldOn (λ k. 0) zeros (replicate 512 nothing) blanks
+zeroCore = coreOn (λ k. 0) zeros (replicate 512 nothing) blanks
 
-pub zero-held : held zeroWords ≡ zeroCore
-unfolding held heldBy zeroWords zeroCore zeros blanks
-zero-held =
-    ap heldBy (λ i k. replicate-at 0 WORDS k i)
-    ∙ λ i. heldOn (λ k. 0) (table-all 31 0 i) (table-all 512 nothing i) (table-all 1024 blank i)
+pub zero-coreOf : coreOf zeroWords ≡ zeroCore
+unfolding coreOf coreBy zeroWords zeroCore zeros blanks
+zero-coreOf =
+    ap coreBy (λ i k. replicate-at 0 WORDS k i)
+    ∙ λ i. coreOn (λ k. 0) (table-all 31 0 i) (table-all 512 nothing i) (table-all 1024 blank i)
 
 -- the registers that reset gives a value
 unfoldable pub withSctlr : Core → Core
@@ -55,11 +55,11 @@ abbrev pub risen : Core → Core
 risen c = withFlags c (entryFlags (c .flags))
 
 abbrev pub atEl3 : Core → Core
-atEl3 c = withWho c (record { level = 3; mark = c .who .mark })
+atEl3 c = withPrivilege c (record { level = 3; unprivileged = c .privilege .unprivileged })
 
 abbrev pub firstGeneration : Core → Core
-firstGeneration c = withPresent c (record { generation = 1; asid = c .tlb .cache .present .asid })
+firstGeneration c = withCurrent c (record { generation = 1; asid = c .tlb .cache .current .asid })
 
 pub fresh-is : withoutHints (firstGeneration (atEl3 (risen (registered zeroCore)))) ≡ freshCore
-unfolding withoutHints withPresent withCache movedTo withWho withFlags registered withSctlr withSys withControl controlWith sysWith zeroCore heldOn freshCore freshControl freshSys
+unfolding withoutHints withCurrent withCache afterAccess withPrivilege withFlags registered withSctlr withSys withControl controlWith sysWith zeroCore coreOn freshCore freshControl freshSys
 fresh-is = refl

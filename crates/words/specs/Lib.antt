@@ -1,8 +1,8 @@
 pub mod Tables
 pub mod Places
-pub mod Held
+pub mod CoreOf
 pub mod Parts
-pub mod Moved
+pub mod NowHolds
 pub mod Sweeps
 pub mod Puts
 pub mod Writes

@@ -3,28 +3,28 @@ use mathlib.Core.List.{List}
 use Prim.Native.Nat.{ℕ}
 use Rattle.sysreg.specs.declared.regs.Control.{Control}
 use Rattle.sysreg.specs.declared.regs.SysRegs.{SysRegs}
-use Rattle.entry.specs.declared.flags.Flags.{Flags}
+use Rattle.exception.specs.declared.flags.Flags.{Flags}
 use Rattle.tlb.specs.Cache.{hintless, renewed, entryAt, setEntry, setHint, setFetch}
-use Rattle.tlb.specs.Tlb.{moved}
-use Rattle.tlb.specs.declared.access.Who.{Who}
+use Rattle.tlb.specs.Tlb.{tlbWith}
+use Rattle.tlb.specs.declared.access.Privilege.{Privilege}
 use Rattle.tlb.specs.declared.cache.Cache.{Cache}
 use Rattle.tlb.specs.declared.count.Counts.{Counts}
 use Rattle.tlb.specs.declared.entry.Entry.{Entry}
-use Rattle.tlb.specs.declared.entry.Present.{Present}
+use Rattle.tlb.specs.declared.entry.Current.{Current}
 use Rattle.tlb.specs.declared.hint.Hint.{Hint}
 use Rattle.tlb.specs.declared.hint.FetchHint.{FetchHint}
 use Rattle.tlb.specs.declared.Pending.{Pending}
-use Rattle.mmu.specs.Core.{movedTo}
+use Rattle.mmu.specs.Core.{afterAccess}
 use Rattle.mmu.specs.Ops.{withTlb}
 use Rattle.mmu.specs.declared.core.Core.{Core}
 
 -- THE CACHE
 
 unfoldable pub withCache : Core → Cache → Core
-withCache c k = withTlb c (moved (c .tlb) k (c .tlb .counts))
+withCache c k = withTlb c (tlbWith (c .tlb) k (c .tlb .counts))
 
 unfoldable pub withCounts : Core → Counts → Core
-withCounts c k = withTlb c (moved (c .tlb) (c .tlb .cache) k)
+withCounts c k = withTlb c (tlbWith (c .tlb) (c .tlb .cache) k)
 
 unfoldable pub withPending : Core → Pending → Core
 withPending c p = withTlb c (record { cache = c .tlb .cache; counts = c .tlb .counts; broadcast = p })
@@ -50,11 +50,11 @@ tagged e tag =
 unfoldable pub withFetchHint : Core → FetchHint → Core
 withFetchHint c f = withCache c (setFetch (c .tlb .cache) f)
 
-unfoldable pub withPresent : Core → Present → Core
-withPresent c p = withCache c (renewed (c .tlb .cache) p (c .tlb .cache .entries))
+unfoldable pub withCurrent : Core → Current → Core
+withCurrent c p = withCache c (renewed (c .tlb .cache) p (c .tlb .cache .entries))
 
 unfoldable pub withEntries : Core → List Entry → Core
-withEntries c es = withCache c (renewed (c .tlb .cache) (c .tlb .cache .present) es)
+withEntries c es = withCache c (renewed (c .tlb .cache) (c .tlb .cache .current) es)
 
 -- the tag of entry j alone
 unfoldable pub withTag : Core → ℕ → ℕ → Core
@@ -62,20 +62,20 @@ withTag c j tag = withEntry c j (tagged (entryAt (c .tlb .cache) j) tag)
 
 -- every hint gone
 unfoldable pub withoutHints : Core → Core
-withoutHints c = withCache c (hintless (c .tlb .cache .present) (c .tlb .cache .entries))
+withoutHints c = withCache c (hintless (c .tlb .cache .current) (c .tlb .cache .entries))
 
 -- THE REST
 
 unfoldable pub withLast : Core → ℕ → Core
-withLast c pa = movedTo c (c .tlb) pa (c .«abort_pa»)
+withLast c pa = afterAccess c (c .tlb) pa (c .«abort_pa»)
 
 unfoldable pub withAbort : Core → ℕ → Core
-withAbort c pa = movedTo c (c .tlb) (c .«last_pa») pa
+withAbort c pa = afterAccess c (c .tlb) (c .«last_pa») pa
 
-unfoldable pub withWho : Core → Who → Core
-withWho c who =
+unfoldable pub withPrivilege : Core → Privilege → Core
+withPrivilege c privilege =
     record {
-      who = who;
+      privilege = privilege;
       flags = c .flags;
       pc = c .pc;
       x = c .x;
@@ -89,7 +89,7 @@ withWho c who =
 unfoldable pub withFlags : Core → Flags → Core
 withFlags c f =
     record {
-      who = c .who;
+      privilege = c .privilege;
       flags = f;
       pc = c .pc;
       x = c .x;
@@ -103,7 +103,7 @@ withFlags c f =
 unfoldable pub withPc : Core → ℕ → Core
 withPc c pc =
     record {
-      who = c .who;
+      privilege = c .privilege;
       flags = c .flags;
       pc = pc;
       x = c .x;
@@ -117,7 +117,7 @@ withPc c pc =
 unfoldable pub withControl : Core → Control → Core
 withControl c k =
     record {
-      who = c .who;
+      privilege = c .privilege;
       flags = c .flags;
       pc = c .pc;
       x = c .x;
@@ -131,7 +131,7 @@ withControl c k =
 unfoldable pub withSys : Core → SysRegs → Core
 withSys c s =
     record {
-      who = c .who;
+      privilege = c .privilege;
       flags = c .flags;
       pc = c .pc;
       x = c .x;

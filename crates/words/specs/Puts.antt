@@ -14,7 +14,7 @@ use Rattle.tlb.specs.declared.entry.Entry.{Entry}
 use Rattle.tlb.specs.declared.hint.Hint.{Hint}
 use Rattle.mmu.specs.declared.core.Core.{Core}
 use Rattle.words.specs.Tables.{table, table-same, table-set}
-use Rattle.words.specs.Held.{word, hintIn, entryIn, heldOn, heldBy, held}
+use Rattle.words.specs.CoreOf.{word, hintIn, entryIn, coreOn, coreBy, coreOf}
 use Rattle.words.specs.Places.{GENERAL, LEVEL, HINTS, HINT-PA, ENTRIES, ENTRY-GENERATION, ENTRY-ATTRIBUTES, ENTRY-PA}
 
 -- v at place k
@@ -35,8 +35,8 @@ same w k v = rw (eq-eqb k k refl)
 abbrev small : (ℕ → ℕ) → ℕ → ℕ
 small w m = pick (ltb m GENERAL) (w m) (pick (ltb m LEVEL) 0 (pick (ltb m HINTS) (w m) 0))
 
-small-only : (w : ℕ → ℕ) (xs : List ℕ) (hs : List Hint) (es : List Entry) → heldOn w xs hs es ≡ heldOn (small w) xs hs es
-unfolding heldOn
+small-only : (w : ℕ → ℕ) (xs : List ℕ) (hs : List Hint) (es : List Entry) → coreOn w xs hs es ≡ coreOn (small w) xs hs es
+unfolding coreOn
 small-only w xs hs es = refl
 
 abbrev pub generals : (ℕ → ℕ) → List ℕ
@@ -62,9 +62,9 @@ module _ (v w : ℕ → ℕ) where
       go false a false p true q = rw (a, p, q, s .among m (ltb-false m LEVEL p) (ltb-true m HINTS q))
       go false a false p false q = rw (a, p, q)
 
-  pub small-same : SmallSame v w → (xs : List ℕ) (hs : List Hint) (es : List Entry) → heldOn v xs hs es ≡ heldOn w xs hs es
+  pub small-same : SmallSame v w → (xs : List ℕ) (hs : List Hint) (es : List Entry) → coreOn v xs hs es ≡ coreOn w xs hs es
   small-same s xs hs es =
-      small-only v xs hs es ∙ ap (λ (f : ℕ → ℕ). heldOn f xs hs es) (λ i m. small-at s m i) ∙ sym (small-only w xs hs es)
+      small-only v xs hs es ∙ ap (λ (f : ℕ → ℕ). coreOn f xs hs es) (λ i m. small-at s m i) ∙ sym (small-only w xs hs es)
 
   pub hints-same : ((m : ℕ) → HINTS ≤ m → v m ≡ w m) → table 512 (hintIn v) ≡ table 512 (hintIn w)
   hints-same h =
@@ -80,14 +80,14 @@ module _ (v w : ℕ → ℕ) where
   generals-same h = table-same 31 (λ n. v (GENERAL + n)) (λ n. w (GENERAL + n)) (λ n k. h (GENERAL + n) (omega arith) (omega arith))
 
   -- small parts put anew
-  pub held-small : RestSame v w → heldBy v ≡ heldOn v (generals w) (table 512 (hintIn w)) (table 1024 (entryIn w))
-  unfolding heldBy
-  held-small r =
-      λ i. heldOn v (generals-same (r .general) i) (hints-same (r .above) i) (entries-same (λ m k. r .above m (omega arith)) i)
+  pub coreOf-small : RestSame v w → coreBy v ≡ coreOn v (generals w) (table 512 (hintIn w)) (table 1024 (entryIn w))
+  unfolding coreBy
+  coreOf-small r =
+      λ i. coreOn v (generals-same (r .general) i) (hints-same (r .above) i) (entries-same (λ m k. r .above m (omega arith)) i)
 
   -- hints or entries put anew
-  pub held-tables : SmallSame v w → ((m : ℕ) → GENERAL ≤ m → m < LEVEL → v m ≡ w m) → heldBy v ≡ heldOn w (generals w) (table 512 (hintIn v)) (table 1024 (entryIn v))
-  unfolding heldBy
-  held-tables s g =
+  pub coreOf-tables : SmallSame v w → ((m : ℕ) → GENERAL ≤ m → m < LEVEL → v m ≡ w m) → coreBy v ≡ coreOn w (generals w) (table 512 (hintIn v)) (table 1024 (entryIn v))
+  unfolding coreBy
+  coreOf-tables s g =
       small-same s (generals v) (table 512 (hintIn v)) (table 1024 (entryIn v))
-      ∙ ap (λ (xs : List ℕ). heldOn w xs (table 512 (hintIn v)) (table 1024 (entryIn v))) (generals-same g)
+      ∙ ap (λ (xs : List ℕ). coreOn w xs (table 512 (hintIn v)) (table 1024 (entryIn v))) (generals-same g)

@@ -16,11 +16,11 @@ use Rattle.sysreg.specs.declared.regs.ControlReg.{ControlReg}
 use Rattle.sysreg.specs.declared.regs.ControlReg.the-variants.{Sctlr, Tcr, Ttbr0, Ttbr1, Scr, Hcr}
 use Rattle.sysreg.specs.declared.regs.SysReg.{SysReg}
 use Rattle.sysreg.specs.declared.regs.SysReg.the-variants.{Mair, Vbar, Elr, Spsr, Esr, Far, Vpidr, Vmpidr, Par}
-use Rattle.entry.specs.Entry.{enteredSys}
-use Rattle.entry.specs.declared.report.Report.{Report}
+use Rattle.exception.specs.Entry.{enteredSys}
+use Rattle.exception.specs.declared.report.Report.{Report}
 use Rattle.walk.specs.declared.regime.Regime.{Regime}
 use Rattle.walk.specs.declared.regime.Regime.the-variants as Regime
-use Rattle.words.specs.Held.{word, heldOn, heldBy, held}
+use Rattle.words.specs.CoreOf.{word, coreOn, coreBy, coreOf}
 use Rattle.words.specs.Parts.{withControl, withSys}
 use Rattle.words.specs.Writes.{Small, set-one, set-three, set-four}
 use Rattle.words.specs.Places.{TCR, TTBR0, TTBR1-EL1, MAIR, VBAR, ELR, SPSR, ESR, FAR, SCR-EL3, HCR-EL2, VPIDR-EL2, VMPIDR-EL2, PAR-EL1, GENERAL, LEVEL, WORDS}
@@ -62,60 +62,60 @@ at-place : (k : ℕ) → ltb k GENERAL ≡ true → Small k
 at-place k e = let h : k < GENERAL = ltb-true k GENERAL e in record { low = omega arith; apart = λ m a b q. omega arith }
 
 module _ (ws : List ℕ) (L : length ws ≡ WORDS) where
-  pub control-held : (r : ControlReg) (v : ℕ) → held (set ws (controlPlace r) v) ≡ withControl (held ws) (controlWith (held ws .control) r v)
-  unfolding held heldBy heldOn withControl controlWith
-  control-held (Sctlr El1) v = set-one ws L 0 v (at-place 0 refl)
-  control-held (Sctlr El2) v = set-one ws L 1 v (at-place 1 refl)
-  control-held (Sctlr El3) v = set-one ws L 2 v (at-place 2 refl)
-  control-held (Tcr El1) v = set-one ws L 3 v (at-place 3 refl)
-  control-held (Tcr El2) v = set-one ws L 4 v (at-place 4 refl)
-  control-held (Tcr El3) v = set-one ws L 5 v (at-place 5 refl)
-  control-held (Ttbr0 El1) v = set-one ws L 6 v (at-place 6 refl)
-  control-held (Ttbr0 El2) v = set-one ws L 7 v (at-place 7 refl)
-  control-held (Ttbr0 El3) v = set-one ws L 8 v (at-place 8 refl)
-  control-held Ttbr1 v = set-one ws L 9 v (at-place 9 refl)
-  control-held Scr v = set-one ws L 28 v (at-place 28 refl)
-  control-held Hcr v = set-one ws L 29 v (at-place 29 refl)
+  pub control-coreOf : (r : ControlReg) (v : ℕ) → coreOf (set ws (controlPlace r) v) ≡ withControl (coreOf ws) (controlWith (coreOf ws .control) r v)
+  unfolding coreOf coreBy coreOn withControl controlWith
+  control-coreOf (Sctlr El1) v = set-one ws L 0 v (at-place 0 refl)
+  control-coreOf (Sctlr El2) v = set-one ws L 1 v (at-place 1 refl)
+  control-coreOf (Sctlr El3) v = set-one ws L 2 v (at-place 2 refl)
+  control-coreOf (Tcr El1) v = set-one ws L 3 v (at-place 3 refl)
+  control-coreOf (Tcr El2) v = set-one ws L 4 v (at-place 4 refl)
+  control-coreOf (Tcr El3) v = set-one ws L 5 v (at-place 5 refl)
+  control-coreOf (Ttbr0 El1) v = set-one ws L 6 v (at-place 6 refl)
+  control-coreOf (Ttbr0 El2) v = set-one ws L 7 v (at-place 7 refl)
+  control-coreOf (Ttbr0 El3) v = set-one ws L 8 v (at-place 8 refl)
+  control-coreOf Ttbr1 v = set-one ws L 9 v (at-place 9 refl)
+  control-coreOf Scr v = set-one ws L 28 v (at-place 28 refl)
+  control-coreOf Hcr v = set-one ws L 29 v (at-place 29 refl)
 
-  pub sys-held : (r : SysReg) (v : ℕ) → held (set ws (sysPlace r) (kept r v)) ≡ withSys (held ws) (sysWith (held ws .sys) r v)
-  unfolding held heldBy heldOn withSys sysWith
-  sys-held (Mair El1) v = set-one ws L 10 (kept (Mair El1) v) (at-place 10 refl)
-  sys-held (Mair El2) v = set-one ws L 11 (kept (Mair El2) v) (at-place 11 refl)
-  sys-held (Mair El3) v = set-one ws L 12 (kept (Mair El3) v) (at-place 12 refl)
-  sys-held (Vbar El1) v = set-one ws L 13 (kept (Vbar El1) v) (at-place 13 refl)
-  sys-held (Vbar El2) v = set-one ws L 14 (kept (Vbar El2) v) (at-place 14 refl)
-  sys-held (Vbar El3) v = set-one ws L 15 (kept (Vbar El3) v) (at-place 15 refl)
-  sys-held (Elr El1) v = set-one ws L 16 (kept (Elr El1) v) (at-place 16 refl)
-  sys-held (Elr El2) v = set-one ws L 17 (kept (Elr El2) v) (at-place 17 refl)
-  sys-held (Elr El3) v = set-one ws L 18 (kept (Elr El3) v) (at-place 18 refl)
-  sys-held (Spsr El1) v = set-one ws L 19 (kept (Spsr El1) v) (at-place 19 refl)
-  sys-held (Spsr El2) v = set-one ws L 20 (kept (Spsr El2) v) (at-place 20 refl)
-  sys-held (Spsr El3) v = set-one ws L 21 (kept (Spsr El3) v) (at-place 21 refl)
-  sys-held (Esr El1) v = set-one ws L 22 (kept (Esr El1) v) (at-place 22 refl)
-  sys-held (Esr El2) v = set-one ws L 23 (kept (Esr El2) v) (at-place 23 refl)
-  sys-held (Esr El3) v = set-one ws L 24 (kept (Esr El3) v) (at-place 24 refl)
-  sys-held (Far El1) v = set-one ws L 25 (kept (Far El1) v) (at-place 25 refl)
-  sys-held (Far El2) v = set-one ws L 26 (kept (Far El2) v) (at-place 26 refl)
-  sys-held (Far El3) v = set-one ws L 27 (kept (Far El3) v) (at-place 27 refl)
-  sys-held Vpidr v = set-one ws L 30 (kept Vpidr v) (at-place 30 refl)
-  sys-held Vmpidr v = set-one ws L 31 (kept Vmpidr v) (at-place 31 refl)
-  sys-held Par v = set-one ws L 32 (kept Par v) (at-place 32 refl)
+  pub sys-coreOf : (r : SysReg) (v : ℕ) → coreOf (set ws (sysPlace r) (kept r v)) ≡ withSys (coreOf ws) (sysWith (coreOf ws .sys) r v)
+  unfolding coreOf coreBy coreOn withSys sysWith
+  sys-coreOf (Mair El1) v = set-one ws L 10 (kept (Mair El1) v) (at-place 10 refl)
+  sys-coreOf (Mair El2) v = set-one ws L 11 (kept (Mair El2) v) (at-place 11 refl)
+  sys-coreOf (Mair El3) v = set-one ws L 12 (kept (Mair El3) v) (at-place 12 refl)
+  sys-coreOf (Vbar El1) v = set-one ws L 13 (kept (Vbar El1) v) (at-place 13 refl)
+  sys-coreOf (Vbar El2) v = set-one ws L 14 (kept (Vbar El2) v) (at-place 14 refl)
+  sys-coreOf (Vbar El3) v = set-one ws L 15 (kept (Vbar El3) v) (at-place 15 refl)
+  sys-coreOf (Elr El1) v = set-one ws L 16 (kept (Elr El1) v) (at-place 16 refl)
+  sys-coreOf (Elr El2) v = set-one ws L 17 (kept (Elr El2) v) (at-place 17 refl)
+  sys-coreOf (Elr El3) v = set-one ws L 18 (kept (Elr El3) v) (at-place 18 refl)
+  sys-coreOf (Spsr El1) v = set-one ws L 19 (kept (Spsr El1) v) (at-place 19 refl)
+  sys-coreOf (Spsr El2) v = set-one ws L 20 (kept (Spsr El2) v) (at-place 20 refl)
+  sys-coreOf (Spsr El3) v = set-one ws L 21 (kept (Spsr El3) v) (at-place 21 refl)
+  sys-coreOf (Esr El1) v = set-one ws L 22 (kept (Esr El1) v) (at-place 22 refl)
+  sys-coreOf (Esr El2) v = set-one ws L 23 (kept (Esr El2) v) (at-place 23 refl)
+  sys-coreOf (Esr El3) v = set-one ws L 24 (kept (Esr El3) v) (at-place 24 refl)
+  sys-coreOf (Far El1) v = set-one ws L 25 (kept (Far El1) v) (at-place 25 refl)
+  sys-coreOf (Far El2) v = set-one ws L 26 (kept (Far El2) v) (at-place 26 refl)
+  sys-coreOf (Far El3) v = set-one ws L 27 (kept (Far El3) v) (at-place 27 refl)
+  sys-coreOf Vpidr v = set-one ws L 30 (kept Vpidr v) (at-place 30 refl)
+  sys-coreOf Vmpidr v = set-one ws L 31 (kept Vmpidr v) (at-place 31 refl)
+  sys-coreOf Par v = set-one ws L 32 (kept Par v) (at-place 32 refl)
 
   -- ELR, SPSR and ESR of a level, and FAR where there is an address
-  pub saved-held : (t : El) (r : Report) (spsr ret : ℕ) → r .valid ≡ false
-      → held (set (set (set ws (ELR + levelIndex t) ret) (SPSR + levelIndex t) spsr) (ESR + levelIndex t) (r .esr)) ≡ withSys (held ws) (enteredSys (held ws .sys) t r spsr ret)
-  unfolding held heldBy heldOn withSys enteredSys
-  saved-held El1 r spsr ret h = set-three ws L 16 ret 19 spsr 22 (r .esr) (at-place 16 refl) (at-place 19 refl) (at-place 22 refl) ∙ sym (rw h)
-  saved-held El2 r spsr ret h = set-three ws L 17 ret 20 spsr 23 (r .esr) (at-place 17 refl) (at-place 20 refl) (at-place 23 refl) ∙ sym (rw h)
-  saved-held El3 r spsr ret h = set-three ws L 18 ret 21 spsr 24 (r .esr) (at-place 18 refl) (at-place 21 refl) (at-place 24 refl) ∙ sym (rw h)
+  pub saved-coreOf : (t : El) (r : Report) (spsr ret : ℕ) → r .valid ≡ false
+      → coreOf (set (set (set ws (ELR + levelIndex t) ret) (SPSR + levelIndex t) spsr) (ESR + levelIndex t) (r .esr)) ≡ withSys (coreOf ws) (enteredSys (coreOf ws .sys) t r spsr ret)
+  unfolding coreOf coreBy coreOn withSys enteredSys
+  saved-coreOf El1 r spsr ret h = set-three ws L 16 ret 19 spsr 22 (r .esr) (at-place 16 refl) (at-place 19 refl) (at-place 22 refl) ∙ sym (rw h)
+  saved-coreOf El2 r spsr ret h = set-three ws L 17 ret 20 spsr 23 (r .esr) (at-place 17 refl) (at-place 20 refl) (at-place 23 refl) ∙ sym (rw h)
+  saved-coreOf El3 r spsr ret h = set-three ws L 18 ret 21 spsr 24 (r .esr) (at-place 18 refl) (at-place 21 refl) (at-place 24 refl) ∙ sym (rw h)
 
-  pub saved-far-held : (t : El) (r : Report) (spsr ret : ℕ) → r .valid ≡ true
-      → held (set (set (set (set ws (ELR + levelIndex t) ret) (SPSR + levelIndex t) spsr) (ESR + levelIndex t) (r .esr)) (FAR + levelIndex t) (r .far))
-      ≡ withSys (held ws) (enteredSys (held ws .sys) t r spsr ret)
-  unfolding held heldBy heldOn withSys enteredSys
-  saved-far-held El1 r spsr ret h =
+  pub saved-far-coreOf : (t : El) (r : Report) (spsr ret : ℕ) → r .valid ≡ true
+      → coreOf (set (set (set (set ws (ELR + levelIndex t) ret) (SPSR + levelIndex t) spsr) (ESR + levelIndex t) (r .esr)) (FAR + levelIndex t) (r .far))
+      ≡ withSys (coreOf ws) (enteredSys (coreOf ws .sys) t r spsr ret)
+  unfolding coreOf coreBy coreOn withSys enteredSys
+  saved-far-coreOf El1 r spsr ret h =
       set-four ws L 16 ret 19 spsr 22 (r .esr) 25 (r .far) (at-place 16 refl) (at-place 19 refl) (at-place 22 refl) (at-place 25 refl) ∙ sym (rw h)
-  saved-far-held El2 r spsr ret h =
+  saved-far-coreOf El2 r spsr ret h =
       set-four ws L 17 ret 20 spsr 23 (r .esr) 26 (r .far) (at-place 17 refl) (at-place 20 refl) (at-place 23 refl) (at-place 26 refl) ∙ sym (rw h)
-  saved-far-held El3 r spsr ret h =
+  saved-far-coreOf El3 r spsr ret h =
       set-four ws L 18 ret 21 spsr 24 (r .esr) 27 (r .far) (at-place 18 refl) (at-place 21 refl) (at-place 24 refl) (at-place 27 refl) ∙ sym (rw h)

@@ -9,10 +9,10 @@ use Rattle.tlb.specs.Cache.{entryAt, blanks, noHints}
 use Rattle.tlb.specs.Lists.{swept, sweep, sweep-end}
 use Rattle.tlb.specs.declared.entry.Entry.{Entry}
 use Rattle.tlb.specs.declared.hint.Hint.{Hint}
-use Rattle.mmu.specs.Core.{movedTo}
+use Rattle.mmu.specs.Core.{afterAccess}
 use Rattle.mmu.specs.declared.core.Core.{Core}
 use Rattle.words.specs.Tables.{table, table-length}
-use Rattle.words.specs.Held.{word, hintIn, entryIn, heldOn, heldBy, held}
+use Rattle.words.specs.CoreOf.{word, hintIn, entryIn, coreOn, coreBy, coreOf}
 use Rattle.words.specs.Parts.{tagged, withCache, withHint, withEntry, withTag, withEntries}
 
 -- other data hints; the fetch hint stays
@@ -20,7 +20,7 @@ unfoldable pub withDataHints : Core → List Hint → Core
 withDataHints c hs =
     withCache c
     (record {
-      present = c .tlb .cache .present;
+      current = c .tlb .cache .current;
       fetch = c .tlb .cache .fetch;
       hints = hs;
       entries = c .tlb .cache .entries;
@@ -32,12 +32,12 @@ hints c = c .tlb .cache .hints
 abbrev pub entries : Core → List Entry
 entries c = c .tlb .cache .entries
 
-pub hints-long : (ws : List ℕ) → length (hints (held ws)) ≡ 512
-unfolding held heldBy heldOn
+pub hints-long : (ws : List ℕ) → length (hints (coreOf ws)) ≡ 512
+unfolding coreOf coreBy coreOn
 hints-long ws = table-length 512 (hintIn (word ws))
 
-pub entries-long : (ws : List ℕ) → length (entries (held ws)) ≡ 1024
-unfolding held heldBy heldOn
+pub entries-long : (ws : List ℕ) → length (entries (coreOf ws)) ≡ 1024
+unfolding coreOf coreBy coreOn
 entries-long ws = table-length 1024 (entryIn (word ws))
 
 -- each element the same: n of it
@@ -48,13 +48,13 @@ map-all b (x ∷ l) = ap (λ r. b ∷ r) (map-all b l)
 module _ (c : Core) where
   -- the data hints, each none
   pub hints-begin : c ≡ withDataHints c (swept (λ h. noHint) 0 (hints c))
-  unfolding withDataHints withCache movedTo
+  unfolding withDataHints withCache afterAccess
   hints-begin = refl
 
-  pub hints-turn : (i : ℕ) → i < length (hints c)
+  pub hints-translation : (i : ℕ) → i < length (hints c)
       → withHint (withDataHints c (swept (λ h. noHint) i (hints c))) i noHint ≡ withDataHints c (swept (λ h. noHint) (i + 1) (hints c))
-  unfolding withDataHints withHint withCache movedTo
-  hints-turn i h =
+  unfolding withDataHints withHint withCache afterAccess
+  hints-translation i h =
       ap (withDataHints c) (sweep (λ h. noHint) (hints c) (swept (λ h. noHint) i (hints c)) i noHint noHint h refl refl)
 
   pub hints-done : (i : ℕ) → length (hints c) ≡ 512 → 512 ≤ i → withDataHints c (swept (λ h. noHint) i (hints c)) ≡ withDataHints c noHints
@@ -67,23 +67,23 @@ module _ (c : Core) where
 
   module _ (g : Entry → Entry) where
     pub entries-begin : c ≡ withEntries c (swept g 0 (entries c))
-    unfolding withEntries withCache movedTo
+    unfolding withEntries withCache afterAccess
     entries-begin = refl
 
-    pub entries-turn : (i : ℕ) (e : Entry) → i < length (entries c) → e ≡ g (getD (swept g i (entries c)) i blank)
+    pub entries-translation : (i : ℕ) (e : Entry) → i < length (entries c) → e ≡ g (getD (swept g i (entries c)) i blank)
         → withEntry (withEntries c (swept g i (entries c))) i e ≡ withEntries c (swept g (i + 1) (entries c))
-    unfolding withEntries withEntry withCache movedTo
-    entries-turn i e h q =
+    unfolding withEntries withEntry withCache afterAccess
+    entries-translation i e h q =
         ap (withEntries c) (sweep g (entries c) (swept g i (entries c)) i blank e h refl q)
 
     -- where g changes the tag alone
-    pub tags-turn : ((e : Entry) → g e ≡ tagged e (g e .tag)) → (i tag : ℕ) → i < length (entries c)
+    pub tags-translation : ((e : Entry) → g e ≡ tagged e (g e .tag)) → (i tag : ℕ) → i < length (entries c)
         → tag ≡ g (entryAt (withEntries c (swept g i (entries c)) .tlb .cache) i) .tag
         → withTag (withEntries c (swept g i (entries c))) i tag ≡ withEntries c (swept g (i + 1) (entries c))
-    unfolding withTag withEntries withCache movedTo
-    tags-turn t i tag h q =
+    unfolding withTag withEntries withCache afterAccess
+    tags-translation t i tag h q =
         ap (λ (n : ℕ). withEntry (withEntries c (swept g i (entries c))) i (tagged (getD (swept g i (entries c)) i blank) n)) q
-        ∙ entries-turn i _ h (sym (t (getD (swept g i (entries c)) i blank)))
+        ∙ entries-translation i _ h (sym (t (getD (swept g i (entries c)) i blank)))
 
     pub entries-done : (i : ℕ) → length (entries c) ≡ 1024 → 1024 ≤ i → withEntries c (swept g i (entries c)) ≡ withEntries c (map g (entries c))
     entries-done i l h = ap (withEntries c) (sweep-end g (entries c) (swept g i (entries c)) 1024 i l h refl)

@@ -2,9 +2,9 @@
 ghost use mathlib.Core.Path.{_≡_};
 ghost use Prim.Native.Nat.{_<_};
 ghost use Rattle.tlb.specs.Cache.{hintAt, entryAt};
-ghost use Rattle.words.specs.Held.{held};
+ghost use Rattle.words.specs.CoreOf.{coreOf};
 ghost use Rattle.words.specs.Parts.{withHint, withEntry, withTag, withFetchHint};
-ghost use Rattle.words.specs.Moved.{Moved};
+ghost use Rattle.words.specs.NowHolds.{NowHolds};
 ghost use Rattle.words.specs.EntryWrites.{attributes};
 use crate::place;
 use crate::place::State;
@@ -17,7 +17,7 @@ use word::bits;
 
 // A data hint, none past the last.
 pub fn hint_at(state: &State, i: usize) -> Hint
-    ensures { λ r. ⌜ r ≡ hintAt (held (now (state .entry)) .tlb .cache) i ⌝ }
+    ensures { λ r. ⌜ r ≡ hintAt (coreOf (now (state .entry)) .tlb .cache) i ⌝ }
 {
     if i < 512 {
         Hint {
@@ -30,7 +30,7 @@ pub fn hint_at(state: &State, i: usize) -> Hint
 }
 
 pub fn put_hint(state: &mut State, i: usize, h: Hint)
-    ensures { λ _. ⌜ Moved (now (state .entry)) (now (state .exit)) (withHint (held (now (state .entry))) i h) ⌝ }
+    ensures { λ _. ⌜ NowHolds (now (state .entry)) (now (state .exit)) (withHint (coreOf (now (state .entry))) i h) ⌝ }
 {
     whole(state);
     if i < 512 {
@@ -40,7 +40,7 @@ pub fn put_hint(state: &mut State, i: usize, h: Hint)
 }
 
 pub fn fetch_at(state: &State) -> FetchHint
-    ensures { λ r. ⌜ r ≡ held (now (state .entry)) .tlb .cache .fetch ⌝ }
+    ensures { λ r. ⌜ r ≡ coreOf (now (state .entry)) .tlb .cache .fetch ⌝ }
 {
     FetchHint {
         some: state[place::FETCH] == 1,
@@ -51,7 +51,8 @@ pub fn fetch_at(state: &State) -> FetchHint
 }
 
 pub fn put_fetch(state: &mut State, f: FetchHint)
-    ensures { λ _. ⌜ Moved (now (state .entry)) (now (state .exit)) (withFetchHint (held (now (state .entry))) f) ⌝ }
+    ensures { λ _. ⌜ NowHolds (now (state .entry)) (now (state .exit))
+        (withFetchHint (coreOf (now (state .entry))) f) ⌝ }
 {
     whole(state);
     let some = bits::flag_word(f.some);
@@ -63,7 +64,7 @@ pub fn put_fetch(state: &mut State, f: FetchHint)
 
 fn entry_in(state: &State, j: usize) -> Entry
     requires { ⌜ j < 1024 ⌝ }
-    ensures { λ r. ⌜ r ≡ entryAt (held (now (state .entry)) .tlb .cache) j ⌝ }
+    ensures { λ r. ⌜ r ≡ entryAt (coreOf (now (state .entry)) .tlb .cache) j ⌝ }
 {
     let w = state[place::ENTRY_ATTRIBUTES + j * 4];
     Entry {
@@ -79,7 +80,7 @@ fn entry_in(state: &State, j: usize) -> Entry
 
 // An entry, blank past the last.
 pub fn entry_at(state: &State, j: usize) -> Entry
-    ensures { λ r. ⌜ r ≡ entryAt (held (now (state .entry)) .tlb .cache) j ⌝ }
+    ensures { λ r. ⌜ r ≡ entryAt (coreOf (now (state .entry)) .tlb .cache) j ⌝ }
 {
     if j < 1024 {
         entry_in(state, j)
@@ -97,7 +98,7 @@ fn attributes_of(e: Entry) -> u64
 }
 
 pub fn put_entry(state: &mut State, j: usize, e: Entry)
-    ensures { λ _. ⌜ Moved (now (state .entry)) (now (state .exit)) (withEntry (held (now (state .entry))) j e) ⌝ }
+    ensures { λ _. ⌜ NowHolds (now (state .entry)) (now (state .exit)) (withEntry (coreOf (now (state .entry))) j e) ⌝ }
 {
     whole(state);
     if j < 1024 {
@@ -112,7 +113,7 @@ pub fn put_entry(state: &mut State, j: usize, e: Entry)
 // The tag of an entry.
 pub(crate) fn put_tag(state: &mut State, j: usize, tag: u64)
     requires { ⌜ j < 1024 ⌝ }
-    ensures { λ _. ⌜ Moved (now (state .entry)) (now (state .exit)) (withTag (held (now (state .entry))) j tag) ⌝ }
+    ensures { λ _. ⌜ NowHolds (now (state .entry)) (now (state .exit)) (withTag (coreOf (now (state .entry))) j tag) ⌝ }
 {
     whole(state);
     state[place::ENTRIES + j * 4] = tag;

@@ -3,16 +3,16 @@ ghost use mathlib.Core.Path.{_≡_};
 ghost use mathlib.Core.List.{map};
 ghost use Rattle.tlb.specs.Entry.{pageDropped, asidDropped};
 ghost use Rattle.tlb.specs.Cache.{blanks, noHints};
-ghost use Rattle.words.specs.Held.{held};
+ghost use Rattle.words.specs.CoreOf.{coreOf};
 ghost use Rattle.words.specs.Parts.{withEntries, withoutHints};
 ghost use Rattle.words.specs.Sweeps.{withDataHints};
-ghost use Rattle.words.specs.Moved.{Moved};
+ghost use Rattle.words.specs.NowHolds.{NowHolds};
 use crate::cells;
 use crate::place::State;
 use tlb::hint;
 
 fn no_data_hints(state: &mut State)
-    ensures { λ _. ⌜ Moved (now (state .entry)) (now (state .exit)) (withDataHints (held (now
+    ensures { λ _. ⌜ NowHolds (now (state .entry)) (now (state .exit)) (withDataHints (coreOf (now
         (state .entry))) noHints) ⌝ }
 {
     let mut i: usize = 0;
@@ -25,7 +25,7 @@ fn no_data_hints(state: &mut State)
 
 // Every hint out.
 pub fn no_hints(state: &mut State)
-    ensures { λ _. ⌜ Moved (now (state .entry)) (now (state .exit)) (withoutHints (held (now (state .entry)))) ⌝ }
+    ensures { λ _. ⌜ NowHolds (now (state .entry)) (now (state .exit)) (withoutHints (coreOf (now (state .entry)))) ⌝ }
 {
     no_data_hints(state);
     let f = hint::no_fetch();
@@ -34,7 +34,8 @@ pub fn no_hints(state: &mut State)
 
 // Every entry out.
 pub fn no_entries(state: &mut State)
-    ensures { λ _. ⌜ Moved (now (state .entry)) (now (state .exit)) (withEntries (held (now (state .entry))) blanks) ⌝ }
+    ensures { λ _. ⌜ NowHolds (now (state .entry)) (now (state .exit))
+        (withEntries (coreOf (now (state .entry))) blanks) ⌝ }
 {
     let mut j: usize = 0;
     while j < 1024 {
@@ -46,8 +47,8 @@ pub fn no_entries(state: &mut State)
 
 // Each entry that a Page names loses its tag.
 pub fn drop_pages(state: &mut State, generation: u32, page: u64)
-    ensures { λ _. ⌜ Moved (now (state .entry)) (now (state .exit)) (withEntries (held (now (state .entry))) (map
-        (pageDropped generation page) (held (now (state .entry)) .tlb .cache .entries))) ⌝ }
+    ensures { λ _. ⌜ NowHolds (now (state .entry)) (now (state .exit)) (withEntries (coreOf (now (state .entry))) (map
+        (pageDropped generation page) (coreOf (now (state .entry)) .tlb .cache .entries))) ⌝ }
 {
     let mut j: usize = 0;
     while j < 1024 {
@@ -60,8 +61,8 @@ pub fn drop_pages(state: &mut State, generation: u32, page: u64)
 
 // Each entry that an Asid names loses its tag.
 pub fn drop_asids(state: &mut State, asid: u16)
-    ensures { λ _. ⌜ Moved (now (state .entry)) (now (state .exit)) (withEntries (held (now (state .entry))) (map
-        (asidDropped asid) (held (now (state .entry)) .tlb .cache .entries))) ⌝ }
+    ensures { λ _. ⌜ NowHolds (now (state .entry)) (now (state .exit)) (withEntries (coreOf (now (state .entry))) (map
+        (asidDropped asid) (coreOf (now (state .entry)) .tlb .cache .entries))) ⌝ }
 {
     let mut j: usize = 0;
     while j < 1024 {

@@ -1,19 +1,19 @@
 // The counters, the generation and the ASID in force, and what is pending.
 ghost use mathlib.Core.Path.{_≡_};
 ghost use Rattle.tlb.specs.Count.{hitCounted, walkCounted, epochCounted, flushCounted, dropCounted};
-ghost use Rattle.words.specs.Held.{held};
-ghost use Rattle.words.specs.Parts.{withCounts, withPresent, withPending};
-ghost use Rattle.words.specs.Moved.{Moved};
+ghost use Rattle.words.specs.CoreOf.{coreOf};
+ghost use Rattle.words.specs.Parts.{withCounts, withCurrent, withPending};
+ghost use Rattle.words.specs.NowHolds.{NowHolds};
 use crate::place;
 use crate::place::State;
 use crate::state::whole;
 use tlb::Inval;
 use tlb::Pending;
-use tlb::entry::Present;
+use tlb::entry::Current;
 
 pub fn count_hit(state: &mut State)
-    ensures { λ _. ⌜ Moved (now (state .entry)) (now (state .exit)) (withCounts (held (now (state .entry)))
-        (hitCounted (held (now (state .entry)) .tlb .counts))) ⌝ }
+    ensures { λ _. ⌜ NowHolds (now (state .entry)) (now (state .exit)) (withCounts (coreOf (now (state .entry)))
+        (hitCounted (coreOf (now (state .entry)) .tlb .counts))) ⌝ }
 {
     whole(state);
     let n = std::num::wrapping_add_u64(state[place::HITS], 1);
@@ -21,8 +21,8 @@ pub fn count_hit(state: &mut State)
 }
 
 pub fn count_walk(state: &mut State)
-    ensures { λ _. ⌜ Moved (now (state .entry)) (now (state .exit)) (withCounts (held (now (state .entry)))
-        (walkCounted (held (now (state .entry)) .tlb .counts))) ⌝ }
+    ensures { λ _. ⌜ NowHolds (now (state .entry)) (now (state .exit)) (withCounts (coreOf (now (state .entry)))
+        (walkCounted (coreOf (now (state .entry)) .tlb .counts))) ⌝ }
 {
     whole(state);
     let n = std::num::wrapping_add_u64(state[place::WALKS], 1);
@@ -30,8 +30,8 @@ pub fn count_walk(state: &mut State)
 }
 
 pub fn count_epoch(state: &mut State)
-    ensures { λ _. ⌜ Moved (now (state .entry)) (now (state .exit)) (withCounts (held (now (state .entry)))
-        (epochCounted (held (now (state .entry)) .tlb .counts))) ⌝ }
+    ensures { λ _. ⌜ NowHolds (now (state .entry)) (now (state .exit)) (withCounts (coreOf (now (state .entry)))
+        (epochCounted (coreOf (now (state .entry)) .tlb .counts))) ⌝ }
 {
     whole(state);
     let n = std::num::wrapping_add_u64(state[place::EPOCH], 1);
@@ -39,8 +39,8 @@ pub fn count_epoch(state: &mut State)
 }
 
 pub fn count_flush(state: &mut State)
-    ensures { λ _. ⌜ Moved (now (state .entry)) (now (state .exit)) (withCounts (held (now (state .entry)))
-        (flushCounted (held (now (state .entry)) .tlb .counts))) ⌝ }
+    ensures { λ _. ⌜ NowHolds (now (state .entry)) (now (state .exit)) (withCounts (coreOf (now (state .entry)))
+        (flushCounted (coreOf (now (state .entry)) .tlb .counts))) ⌝ }
 {
     whole(state);
     let n = std::num::wrapping_add_u64(state[place::FLUSHES], 1);
@@ -50,8 +50,8 @@ pub fn count_flush(state: &mut State)
 }
 
 pub fn count_drop(state: &mut State)
-    ensures { λ _. ⌜ Moved (now (state .entry)) (now (state .exit)) (withCounts (held (now (state .entry)))
-        (dropCounted (held (now (state .entry)) .tlb .counts))) ⌝ }
+    ensures { λ _. ⌜ NowHolds (now (state .entry)) (now (state .exit)) (withCounts (coreOf (now (state .entry)))
+        (dropCounted (coreOf (now (state .entry)) .tlb .counts))) ⌝ }
 {
     whole(state);
     let n = std::num::wrapping_add_u64(state[place::DROPS], 1);
@@ -60,33 +60,33 @@ pub fn count_drop(state: &mut State)
     state[place::EPOCH] = epoch;
 }
 
-pub fn present_at(state: &State) -> Present
-    ensures { λ r. ⌜ r ≡ held (now (state .entry)) .tlb .cache .present ⌝ }
+pub fn current_at(state: &State) -> Current
+    ensures { λ r. ⌜ r ≡ coreOf (now (state .entry)) .tlb .cache .current ⌝ }
 {
-    Present {
+    Current {
         generation: (state[place::GENERATION] % 0x1_0000_0000) as u32,
         asid: (state[place::ASID] % 0x1_0000) as u16,
     }
 }
 
 pub fn put_generation(state: &mut State, generation: u32)
-    ensures { λ _. ⌜ Moved (now (state .entry)) (now (state .exit)) (withPresent (held (now (state .entry)))
-        (record { generation = generation; asid = held (now (state .entry)) .tlb .cache .present .asid })) ⌝ }
+    ensures { λ _. ⌜ NowHolds (now (state .entry)) (now (state .exit)) (withCurrent (coreOf (now (state .entry)))
+        (record { generation = generation; asid = coreOf (now (state .entry)) .tlb .cache .current .asid })) ⌝ }
 {
     whole(state);
     state[place::GENERATION] = generation as u64;
 }
 
 pub fn put_asid(state: &mut State, asid: u16)
-    ensures { λ _. ⌜ Moved (now (state .entry)) (now (state .exit)) (withPresent (held (now (state .entry)))
-        (record { generation = held (now (state .entry)) .tlb .cache .present .generation; asid = asid })) ⌝ }
+    ensures { λ _. ⌜ NowHolds (now (state .entry)) (now (state .exit)) (withCurrent (coreOf (now (state .entry)))
+        (record { generation = coreOf (now (state .entry)) .tlb .cache .current .generation; asid = asid })) ⌝ }
 {
     whole(state);
     state[place::ASID] = asid as u64;
 }
 
 pub fn pending_at(state: &State) -> Pending
-    ensures { λ r. ⌜ r ≡ held (now (state .entry)) .tlb .broadcast ⌝ }
+    ensures { λ r. ⌜ r ≡ coreOf (now (state .entry)) .tlb .broadcast ⌝ }
 {
     let value = state[place::PENDING_VALUE];
     match state[place::PENDING] {
@@ -98,7 +98,7 @@ pub fn pending_at(state: &State) -> Pending
 }
 
 fn put_inval(state: &mut State, what: Inval)
-    ensures { λ _. ⌜ Moved (now (state .entry)) (now (state .exit)) (withPending (held (now (state .entry)))
+    ensures { λ _. ⌜ NowHolds (now (state .entry)) (now (state .exit)) (withPending (coreOf (now (state .entry)))
         (Pending.Some what)) ⌝ }
 {
     whole(state);
@@ -119,7 +119,7 @@ fn put_inval(state: &mut State, what: Inval)
 }
 
 pub fn put_pending(state: &mut State, pending: Pending)
-    ensures { λ _. ⌜ Moved (now (state .entry)) (now (state .exit)) (withPending (held (now
+    ensures { λ _. ⌜ NowHolds (now (state .entry)) (now (state .exit)) (withPending (coreOf (now
         (state .entry))) pending) ⌝ }
 {
     whole(state);

@@ -1,7 +1,7 @@
 // The words of a core after reset.
 ghost use mathlib.Core.Path.{_≡_};
 ghost use Rattle.mmu.specs.Core.{freshCore};
-ghost use Rattle.words.specs.Held.{held};
+ghost use Rattle.words.specs.CoreOf.{coreOf};
 ghost use Rattle.words.specs.Fresh.{zeroWords, zeroCore, registered};
 use crate::clear;
 use crate::counts;
@@ -21,7 +21,7 @@ fn zeros() -> State
 
 // All zero: no register, no hint, no entry.
 fn clear_all(state: &mut State)
-    ensures { λ _. ⌜ held (now (state .exit)) ≡ zeroCore ⌝ }
+    ensures { λ _. ⌜ coreOf (now (state .exit)) ≡ zeroCore ⌝ }
 {
     let z = zeros();
     *state = z;
@@ -29,7 +29,7 @@ fn clear_all(state: &mut State)
 
 // The registers that reset gives a value.
 fn put_registers(state: &mut State)
-    ensures { λ _. ⌜ held (now (state .exit)) ≡ registered (held (now (state .entry))) ⌝ }
+    ensures { λ _. ⌜ coreOf (now (state .exit)) ≡ registered (coreOf (now (state .entry))) ⌝ }
 {
     regs::put_control(state, ControlReg::Sctlr(El::El1), 0x30D0_0800);
     regs::put_control(state, ControlReg::Sctlr(El::El2), 0x30C5_0830);
@@ -40,7 +40,7 @@ fn put_registers(state: &mut State)
 
 // Every word written: the core after reset.
 pub fn fresh(state: &mut State)
-    ensures { λ _. ⌜ held (now (state .exit)) ≡ freshCore ⌝ }
+    ensures { λ _. ⌜ coreOf (now (state .exit)) ≡ freshCore ⌝ }
 {
     clear_all(state);
     put_registers(state);

@@ -4,16 +4,16 @@ ghost use Prim.Native.Nat.{_<_, _≤_};
 ghost use Rattle.sysreg.specs.Regs.{controlAt, sysAt};
 ghost use Rattle.sysreg.specs.Write.{controlWith, sysWith};
 ghost use Rattle.sysreg.specs.declared.regs.SysReg.the-variants.{Mair, Vbar};
-ghost use Rattle.entry.specs.Entry.{enteredSys};
+ghost use Rattle.exception.specs.Entry.{enteredSys};
 ghost use Rattle.walk.specs.Regime.{levelOf, bankOf};
-ghost use Rattle.words.specs.Held.{held};
+ghost use Rattle.words.specs.CoreOf.{coreOf};
 ghost use Rattle.words.specs.Parts.{withControl, withSys};
-ghost use Rattle.words.specs.Moved.{Moved};
+ghost use Rattle.words.specs.NowHolds.{NowHolds};
 ghost use Rattle.words.specs.RegWrites.{bankIndex, levelIndex, controlPlace, sysPlace};
 use crate::place;
 use crate::place::State;
 use crate::state::whole;
-use entry::report::Report;
+use exception::report::Report;
 use sysreg::regs::Control;
 use sysreg::regs::ControlReg;
 use sysreg::regs::El;
@@ -35,7 +35,7 @@ fn bank_index(regime: Regime) -> usize
 
 // The registers that translation in a regime reads.
 pub fn bank_at(state: &State, regime: Regime) -> Bank
-    ensures { λ r. ⌜ r ≡ bankOf (held (now (state .entry)) .control) regime ⌝ }
+    ensures { λ r. ⌜ r ≡ bankOf (coreOf (now (state .entry)) .control) regime ⌝ }
 {
     let b = bank_index(regime);
     Bank {
@@ -49,33 +49,33 @@ pub fn bank_at(state: &State, regime: Regime) -> Bank
 }
 
 pub fn mair_at(state: &State, regime: Regime) -> u64
-    ensures { λ r. ⌜ r ≡ sysAt (held (now (state .entry)) .sys) (Mair (levelOf regime)) ⌝ }
+    ensures { λ r. ⌜ r ≡ sysAt (coreOf (now (state .entry)) .sys) (Mair (levelOf regime)) ⌝ }
 {
     let b = bank_index(regime);
     state[place::MAIR + b]
 }
 
 pub fn scr_at(state: &State) -> u64
-    ensures { λ r. ⌜ r ≡ held (now (state .entry)) .control .«scr_el3» ⌝ }
+    ensures { λ r. ⌜ r ≡ coreOf (now (state .entry)) .control .«scr_el3» ⌝ }
 {
     state[place::SCR_EL3]
 }
 
 pub fn hcr_at(state: &State) -> u64
-    ensures { λ r. ⌜ r ≡ held (now (state .entry)) .control .«hcr_el2» ⌝ }
+    ensures { λ r. ⌜ r ≡ coreOf (now (state .entry)) .control .«hcr_el2» ⌝ }
 {
     state[place::HCR_EL2]
 }
 
 pub fn vbar_at(state: &State, el: El) -> u64
-    ensures { λ r. ⌜ r ≡ sysAt (held (now (state .entry)) .sys) (Vbar el) ⌝ }
+    ensures { λ r. ⌜ r ≡ sysAt (coreOf (now (state .entry)) .sys) (Vbar el) ⌝ }
 {
     let i = level_index(el);
     state[place::VBAR + i]
 }
 
 pub fn control_at(state: &State) -> Control
-    ensures { λ r. ⌜ r ≡ held (now (state .entry)) .control ⌝ }
+    ensures { λ r. ⌜ r ≡ coreOf (now (state .entry)) .control ⌝ }
 {
     Control {
         sctlr: [
@@ -147,15 +147,15 @@ fn sys_place(register: SysReg) -> usize
 }
 
 pub fn control_reg(state: &State, register: ControlReg) -> u64
-    ensures { λ r. ⌜ r ≡ controlAt (held (now (state .entry)) .control) register ⌝ }
+    ensures { λ r. ⌜ r ≡ controlAt (coreOf (now (state .entry)) .control) register ⌝ }
 {
     let k = control_place(register);
     state[k]
 }
 
 pub fn put_control(state: &mut State, register: ControlReg, value: u64)
-    ensures { λ _. ⌜ Moved (now (state .entry)) (now (state .exit)) (withControl (held (now (state .entry)))
-        (controlWith (held (now (state .entry)) .control) register value)) ⌝ }
+    ensures { λ _. ⌜ NowHolds (now (state .entry)) (now (state .exit)) (withControl (coreOf (now (state .entry)))
+        (controlWith (coreOf (now (state .entry)) .control) register value)) ⌝ }
 {
     whole(state);
     let k = control_place(register);
@@ -163,8 +163,8 @@ pub fn put_control(state: &mut State, register: ControlReg, value: u64)
 }
 
 pub fn put_sys(state: &mut State, register: SysReg, value: u64)
-    ensures { λ _. ⌜ Moved (now (state .entry)) (now (state .exit)) (withSys (held (now (state .entry))) (sysWith
-        (held (now (state .entry)) .sys) register value)) ⌝ }
+    ensures { λ _. ⌜ NowHolds (now (state .entry)) (now (state .exit)) (withSys (coreOf (now (state .entry))) (sysWith
+        (coreOf (now (state .entry)) .sys) register value)) ⌝ }
 {
     whole(state);
     let k = sys_place(register);
@@ -174,8 +174,9 @@ pub fn put_sys(state: &mut State, register: SysReg, value: u64)
 
 // ELR, SPSR and ESR of an exception's target, and FAR where it has an address.
 pub fn put_saved(state: &mut State, target: El, report: Report, spsr: u64, ret: u64)
-    ensures { λ _. ⌜ Moved (now (state .entry)) (now (state .exit)) (withSys (held (now (state .entry))) (enteredSys
-        (held (now (state .entry)) .sys) target report spsr ret)) ⌝ }
+    ensures { λ _. ⌜ NowHolds (now (state .entry)) (now (state .exit))
+        (withSys (coreOf (now (state .entry))) (enteredSys
+        (coreOf (now (state .entry)) .sys) target report spsr ret)) ⌝ }
 {
     whole(state);
     let t = level_index(target);

@@ -2,7 +2,7 @@
 use Rattle.a72abi.proofs.Booking.{refused-reply, refused-core, run-reply, run-core}
 use Rattle.cpu.specs.Step.{runOf}
 use Rattle.a72abi.specs.Kept.{staying}
-use Rattle.cpu.specs.Check.{missedOf}
+use Rattle.operations.specs.Check.{missedOf}
 use borrow.Author.Needs.{needs}
 use Rattle.a72abi.proofs.checked.abort.Statement.{statement}
 use Rattle.a72abi.proofs.checked.abort.Tie as tie

@@ -2,9 +2,9 @@
 use Rattle.a72abi.proofs.Booking.{refused-reply, refused-core, run-reply, run-core}
 use Rattle.cpu.specs.Step.{runOf}
 use Rattle.exec.specs.Ops.{setMark}
-use Rattle.words.specs.Parts.{withWho}
+use Rattle.words.specs.Parts.{withPrivilege}
 use Rattle.a72abi.specs.Kept.{staying}
-use Rattle.cpu.specs.Check.{missedOf}
+use Rattle.operations.specs.Check.{missedOf}
 use borrow.Author.Needs.{needs}
 use Rattle.a72abi.proofs.checked.mark.Statement.{statement}
 use Rattle.a72abi.proofs.checked.mark.Tie as tie
@@ -20,7 +20,7 @@ put-mark-requires : tie.Need-put-mark-requires
 put-mark-requires c κs = search needs
 
 returns-2 : tie.Need-returns-2
-unfolding missedOf runOf setMark withWho
+unfolding missedOf runOf setMark withPrivilege
 returns-2 c = record { reply = search (run-reply, needs); words = search (run-core, needs); stays = search (staying, needs) }
 
 pub mark-spec : {M : Type 1} → statement M

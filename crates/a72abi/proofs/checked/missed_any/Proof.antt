@@ -4,8 +4,8 @@ use borrow.Author.Needs.{needs}
 use Rattle.a72abi.proofs.checked.missed_any.Statement.{statement}
 use Rattle.a72abi.proofs.checked.missed_any.Tie as tie
 
-who-at-requires : tie.Need-who-at-requires
-who-at-requires c κs = search needs
+privilege-at-requires : tie.Need-privilege-at-requires
+privilege-at-requires c κs = search needs
 
 any-requires : tie.Need-any-requires
 any-requires c κs = search needs
@@ -14,4 +14,4 @@ returns : tie.Need-returns
 returns c = search (any-missed, needs)
 
 pub missed-any-spec : {M : Type 1} → statement M
-missed-any-spec = tie.close (tie.spec who-at-requires any-requires returns)
+missed-any-spec = tie.close (tie.spec privilege-at-requires any-requires returns)

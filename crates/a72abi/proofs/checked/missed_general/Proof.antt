@@ -4,8 +4,8 @@ use borrow.Author.Needs.{needs}
 use Rattle.a72abi.proofs.checked.missed_general.Statement.{statement}
 use Rattle.a72abi.proofs.checked.missed_general.Tie as tie
 
-who-at-requires : tie.Need-who-at-requires
-who-at-requires c κs = search needs
+privilege-at-requires : tie.Need-privilege-at-requires
+privilege-at-requires c κs = search needs
 
 general-requires : tie.Need-general-requires
 general-requires c κs = search needs
@@ -14,4 +14,4 @@ returns : tie.Need-returns
 returns c = search (general-missed, needs)
 
 pub missed-general-spec : {M : Type 1} → statement M
-missed-general-spec = tie.close (tie.spec who-at-requires general-requires returns)
+missed-general-spec = tie.close (tie.spec privilege-at-requires general-requires returns)

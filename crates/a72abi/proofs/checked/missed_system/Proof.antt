@@ -4,8 +4,8 @@ use borrow.Author.Needs.{needs}
 use Rattle.a72abi.proofs.checked.missed_system.Statement.{statement}
 use Rattle.a72abi.proofs.checked.missed_system.Tie as tie
 
-who-at-requires : tie.Need-who-at-requires
-who-at-requires c κs = search needs
+privilege-at-requires : tie.Need-privilege-at-requires
+privilege-at-requires c κs = search needs
 
 system-requires : tie.Need-system-requires
 system-requires c κs = search needs
@@ -14,4 +14,4 @@ returns : tie.Need-returns
 returns c = search (system-missed, needs)
 
 pub missed-system-spec : {M : Type 1} → statement M
-missed-system-spec = tie.close (tie.spec who-at-requires system-requires returns)
+missed-system-spec = tie.close (tie.spec privilege-at-requires system-requires returns)

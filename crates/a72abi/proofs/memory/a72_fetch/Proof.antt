@@ -2,7 +2,7 @@
 use Rattle.a72abi.proofs.Passing.{level-high, clear-here, ram-high, ram-clear}
 use Rattle.a72abi.proofs.Addressing.{quick-fetch}
 use Rattle.a72abi.specs.PromiseLaws.{promise-quiet}
-use Rattle.cpu.specs.Check.{missedOf}
+use Rattle.operations.specs.Check.{missedOf}
 use mathlib.Core.Path.{refl}
 use borrow.Author.Needs.{needs}
 use Rattle.a72abi.proofs.memory.a72_fetch.Statement.{statement}

@@ -2,7 +2,7 @@
 use Rattle.a72abi.proofs.Passing.{clear-here, ram-clear}
 use Rattle.a72abi.proofs.Addressing.{translation-tells, kind-gives, no-kind-gives, kind-1, kind-2, kind-4, kind-low, kind-high}
 use Rattle.a72abi.specs.PromiseLaws.{promise-translate}
-use Rattle.cpu.specs.Check.{missedOf}
+use Rattle.operations.specs.Check.{missedOf}
 use borrow.Author.Needs.{needs}
 use Rattle.a72abi.proofs.memory.a72_translate.Statement.{statement}
 use Rattle.a72abi.proofs.memory.a72_translate.Tie as tie

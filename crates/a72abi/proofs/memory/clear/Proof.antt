@@ -4,8 +4,8 @@ use borrow.Author.Needs.{needs}
 use Rattle.a72abi.proofs.memory.clear.Statement.{statement}
 use Rattle.a72abi.proofs.memory.clear.Tie as tie
 
-who-at-requires : tie.Need-who-at-requires
-who-at-requires c κs = search needs
+privilege-at-requires : tie.Need-privilege-at-requires
+privilege-at-requires c κs = search needs
 
 returns : tie.Need-returns
 returns c = search (clear-high, needs)
@@ -20,4 +20,4 @@ returns-3 : tie.Need-returns-3
 returns-3 c = search (clear-both, needs)
 
 pub clear-spec : {M : Type 1} → statement M
-clear-spec = tie.close (tie.spec who-at-requires returns sub-if2 returns-2 returns-3)
+clear-spec = tie.close (tie.spec privilege-at-requires returns sub-if2 returns-2 returns-3)

@@ -1,7 +1,7 @@
 -- `a72abi::slow::fetch` meets its contract.
 use Rattle.a72abi.proofs.Passing.{refused-gives, passed-gives}
 use Rattle.a72abi.proofs.Addressing.{fetch-hint-tells, fetch-unknown}
-use Rattle.cpu.specs.Check.{missedOf}
+use Rattle.operations.specs.Check.{missedOf}
 use borrow.Author.Needs.{needs}
 use Rattle.a72abi.proofs.slow.fetch.Statement.{statement}
 use Rattle.a72abi.proofs.slow.fetch.Tie as tie

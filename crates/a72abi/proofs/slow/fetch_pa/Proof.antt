@@ -1,6 +1,6 @@
 -- `a72abi::slow::fetch_pa` meets its contract.
 use Rattle.a72abi.proofs.Passing.{refused-gives, passed-gives}
-use Rattle.cpu.specs.Check.{missedOf}
+use Rattle.operations.specs.Check.{missedOf}
 use borrow.Author.Needs.{needs}
 use Rattle.a72abi.proofs.slow.fetch_pa.Statement.{statement}
 use Rattle.a72abi.proofs.slow.fetch_pa.Tie as tie

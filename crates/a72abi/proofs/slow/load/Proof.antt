@@ -1,7 +1,7 @@
 -- `a72abi::slow::load` meets its contract.
 use Rattle.a72abi.proofs.Passing.{refused-gives, passed-gives}
 use Rattle.a72abi.proofs.OnePage.{sized-load, sized-none, near-width, near-page, hint-none, hint-load}
-use Rattle.cpu.specs.Check.{missedOf}
+use Rattle.operations.specs.Check.{missedOf}
 use borrow.Author.Needs.{needs}
 use Rattle.a72abi.proofs.slow.load.Statement.{statement}
 use Rattle.a72abi.proofs.slow.load.Tie as tie

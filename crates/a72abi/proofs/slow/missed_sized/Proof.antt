@@ -4,8 +4,8 @@ use borrow.Author.Needs.{needs}
 use Rattle.a72abi.proofs.slow.missed_sized.Statement.{statement}
 use Rattle.a72abi.proofs.slow.missed_sized.Tie as tie
 
-who-at-requires : tie.Need-who-at-requires
-who-at-requires c κs = search needs
+privilege-at-requires : tie.Need-privilege-at-requires
+privilege-at-requires c κs = search needs
 
 sized-requires : tie.Need-sized-requires
 sized-requires c κs = search needs
@@ -14,4 +14,4 @@ returns : tie.Need-returns
 returns c = search (sized-missed, needs)
 
 pub missed-sized-spec : {M : Type 1} → statement M
-missed-sized-spec = tie.close (tie.spec who-at-requires sized-requires returns)
+missed-sized-spec = tie.close (tie.spec privilege-at-requires sized-requires returns)

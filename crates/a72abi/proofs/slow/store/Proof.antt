@@ -2,7 +2,7 @@
 use Rattle.a72abi.proofs.Passing.{refused-gives, passed-gives}
 use Rattle.a72abi.proofs.Booking.{refused-ram, passed-ram-is}
 use Rattle.a72abi.proofs.OnePage.{sized-store, sized-store-ram, sized-none-store, sized-none-ram, near-width, near-page, hint-none, hint-store, hint-store-ram}
-use Rattle.cpu.specs.Check.{missedOf}
+use Rattle.operations.specs.Check.{missedOf}
 use borrow.Author.Needs.{needs}
 use Rattle.a72abi.proofs.slow.store.Statement.{statement}
 use Rattle.a72abi.proofs.slow.store.Tie as tie

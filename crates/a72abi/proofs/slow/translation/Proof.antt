@@ -1,7 +1,7 @@
 -- `a72abi::slow::translation` meets its contract.
 use Rattle.a72abi.proofs.Passing.{refused-gives, passed-gives}
 use Rattle.a72abi.proofs.Addressing.{translation-tells}
-use Rattle.cpu.specs.Check.{missedOf}
+use Rattle.operations.specs.Check.{missedOf}
 use borrow.Author.Needs.{needs}
 use Rattle.a72abi.proofs.slow.translation.Statement.{statement}
 use Rattle.a72abi.proofs.slow.translation.Tie as tie

@@ -3,7 +3,7 @@ use mathlib.Core.Path.{_≡_, ap}
 use Prim.Native.Nat.{ℕ, _≤_, _-_}
 use native.Mathlib.Omega.{arith}
 use borrow.Author.Needs.{needs}
-use Rattle.words.specs.Held.{held}
+use Rattle.words.specs.CoreOf.{coreOf}
 use Rattle.digest.specs.Fold.{digestFrom, digestOf, gathered}
 use Rattle.digest.specs.Parts.{hintWords}
 use Rattle.digest.proofs.Folding.{again, ended}
@@ -11,7 +11,7 @@ use Rattle.digest.proofs.parts.data_hints.Statement.{statement}
 use Rattle.digest.proofs.parts.data_hints.Tie as tie
 
 abbrev Inv-loop : tie.InvT-loop
-Inv-loop state s₀ i₀ s i = (i ≤ 512) × (digestFrom (s .digest) (gathered (hintWords (held state .tlb .cache)) (512 - i) i) ≡ digestOf (gathered (hintWords (held state .tlb .cache)) 512 0))
+Inv-loop state s₀ i₀ s i = (i ≤ 512) × (digestFrom (s .digest) (gathered (hintWords (coreOf state .tlb .cache)) (512 - i) i) ≡ digestOf (gathered (hintWords (coreOf state .tlb .cache)) 512 0))
 
 abbrev μ-loop : tie.MeasureT-loop
 μ-loop state s₀ i₀ s i = 512 - i
@@ -20,7 +20,7 @@ start-requires : tie.Need-start-requires Inv-loop μ-loop
 start-requires c κs = search needs
 
 loop-holds : tie.Need-loop-holds Inv-loop μ-loop
-loop-holds c = (omega arith, ap (λ (h : ℕ). digestFrom h (gathered (hintWords (held (c .before .args .state .now) .tlb .cache)) 512 0)) (c .start .ensures .0))
+loop-holds c = (omega arith, ap (λ (h : ℕ). digestFrom h (gathered (hintWords (coreOf (c .before .args .state .now) .tlb .cache)) 512 0)) (c .start .ensures .0))
 
 with-hint-requires : tie.Need-with-hint-requires Inv-loop μ-loop
 with-hint-requires c κs = search needs
@@ -34,12 +34,12 @@ loop-less c = omega arith
 loop-again : tie.Need-loop-again Inv-loop μ-loop
 loop-again c =
     let l = c .before .before .loop in
-    (omega arith, again (hintWords (held (c .before .before .before .before .args .state .now) .tlb .cache)) 512 (l .i) (l .s .digest) _ _ (omega arith) (c .with-hint .ensures) (l .inv .1))
+    (omega arith, again (hintWords (coreOf (c .before .before .before .before .args .state .now) .tlb .cache)) 512 (l .i) (l .s .digest) _ _ (omega arith) (c .with-hint .ensures) (l .inv .1))
 
 returns : tie.Need-returns Inv-loop μ-loop
 returns c =
     let l = c .before .loop in
-    ended (hintWords (held (c .before .before .before .args .state .now) .tlb .cache)) 512 (l .i) (l .s .digest) _ (omega arith) (l .inv .1)
+    ended (hintWords (coreOf (c .before .before .before .args .state .now) .tlb .cache)) 512 (l .i) (l .s .digest) _ (omega arith) (l .inv .1)
 
 pub data-hints-spec : {M : Type 1} → statement M
 data-hints-spec =

@@ -36,44 +36,44 @@ use denote.Triple.Walked.{Stays, walkOf}
 use Rattle.mmu.specs.declared.core.Core.{Core}
 use Rattle.tlb.specs.declared.access.Kind.the-variants as Kind
 use Rattle.cpu.specs.Step.{ramOf, stepOf}
-use Rattle.cpu.specs.declared.call.Call.the-variants as Call
-use Rattle.cpu.specs.declared.call.Reply.{Reply}
+use Rattle.operations.specs.declared.call.Call.the-variants as Call
+use Rattle.operations.specs.declared.call.Reply.{Reply}
 use Rattle.mmu.proofs.core.Core as T
 use Rattle.tlb.proofs.access.Kind as KI
 use Rattle.tlb.proofs.access.Kind.Laws as KI′
-use Rattle.cpu.proofs.call.Reply as Y
-use Rattle.cpu.proofs.call.Reply.Laws as Y′
-use Rattle.lentparts.specs.Fetch.{fetchQuick, fetchedOf}
-use Rattle.lentparts.proofs.InPlace.{after-test}
-use Rattle.lentparts.proofs.Walking.{lent-stays, lent-goes, meets-by, with-locals, var, of-var, reads, room, full, leaves, lent-exits}
-use Rattle.lentparts.proofs.change.Hinted as HI
-use Rattle.lentparts.proofs.change.Hinted.Laws as HI′
-use Rattle.lentparts.proofs.change.Page as PA
-use Rattle.lentparts.proofs.change.Page.Laws as PA′
-use Rattle.lentparts.proofs.insn.FetchAccess as FA
-use Rattle.lentparts.proofs.insn.FetchAccess.Laws as FA′
-use Rattle.lentparts.proofs.plan.Quick as QU
-use Rattle.lentparts.proofs.plan.Quick.Laws as QU′
-use Rattle.lentparts.proofs.take_hint.Symbol as take-hint-def
-use Rattle.lentparts.proofs.take_hint.Symbol.{name as #take-hint}
-use Rattle.lentparts.proofs.take_hint.Met as take-hint-thm
-use Rattle.lentparts.proofs.take_page.Symbol as take-page-def
-use Rattle.lentparts.proofs.take_page.Symbol.{name as #take-page}
-use Rattle.lentparts.proofs.take_page.Met as take-page-thm
-use Rattle.lentparts.proofs.commit.Symbol as commit-def
-use Rattle.lentparts.proofs.commit.Symbol.{name as #commit}
-use Rattle.lentparts.proofs.commit.Met as commit-thm
-use Rattle.lentparts.proofs.keep.Symbol as keep-def
-use Rattle.lentparts.proofs.keep.Symbol.{name as #keep}
-use Rattle.lentparts.proofs.keep.Met as keep-thm
-use Rattle.lentparts.proofs.insn.at_once as at-once
-use Rattle.lentparts.proofs.insn.at_once.Symbol as at-once-def
-use Rattle.lentparts.proofs.insn.at_once.Symbol.{name as #at-once}
-use Rattle.lentparts.proofs.insn.at_once.Met as at-once-thm
-use Rattle.lentparts.proofs.insn.fetched as turned
-use Rattle.lentparts.proofs.insn.fetched.Symbol as turned-def
-use Rattle.lentparts.proofs.insn.fetched.Symbol.{name as #turned}
-use Rattle.lentparts.proofs.insn.fetched.Met as turned-thm
+use Rattle.operations.proofs.call.Reply as Y
+use Rattle.operations.proofs.call.Reply.Laws as Y′
+use Rattle.operations.specs.Fetches.{fastFetch, fetchedOf}
+use Rattle.lent_parts.proofs.InPlace.{after-test}
+use Rattle.lent_parts.proofs.Walking.{lent-stays, lent-goes, meets-by, with-locals, var, of-var, reads, room, full, leaves, lent-exits}
+use Rattle.operations.proofs.change.Hinted as HI
+use Rattle.operations.proofs.change.Hinted.Laws as HI′
+use Rattle.operations.proofs.change.Page as PA
+use Rattle.operations.proofs.change.Page.Laws as PA′
+use Rattle.operations.proofs.fetches.FetchAccess as FA
+use Rattle.operations.proofs.fetches.FetchAccess.Laws as FA′
+use Rattle.operations.proofs.hinted.Fast as QU
+use Rattle.operations.proofs.hinted.Fast.Laws as QU′
+use Rattle.lent_parts.proofs.take_hint.Symbol as take-hint-def
+use Rattle.lent_parts.proofs.take_hint.Symbol.{name as #take-hint}
+use Rattle.lent_parts.proofs.take_hint.Met as take-hint-thm
+use Rattle.lent_parts.proofs.take_page.Symbol as take-page-def
+use Rattle.lent_parts.proofs.take_page.Symbol.{name as #take-page}
+use Rattle.lent_parts.proofs.take_page.Met as take-page-thm
+use Rattle.lent_parts.proofs.commit.Symbol as commit-def
+use Rattle.lent_parts.proofs.commit.Symbol.{name as #commit}
+use Rattle.lent_parts.proofs.commit.Met as commit-thm
+use Rattle.lent_parts.proofs.keep.Symbol as keep-def
+use Rattle.lent_parts.proofs.keep.Symbol.{name as #keep}
+use Rattle.lent_parts.proofs.keep.Met as keep-thm
+use Rattle.operations.proofs.fetches.at_once as at-once
+use Rattle.operations.proofs.fetches.at_once.Symbol as at-once-def
+use Rattle.operations.proofs.fetches.at_once.Symbol.{name as #at-once}
+use Rattle.operations.proofs.fetches.at_once.Met as at-once-thm
+use Rattle.operations.proofs.fetches.fetched as resolve-page
+use Rattle.operations.proofs.fetches.fetched.Symbol as resolve-page-def
+use Rattle.operations.proofs.fetches.fetched.Symbol.{name as #resolve-page}
+use Rattle.operations.proofs.fetches.fetched.Met as resolve-page-thm
 use Rattle.lent.proofs.Lent.{To-take-hint, To-take-page, To-commit, To-keep, Own, takes-hint, takes-page, commits, keeps, num, of-hinted, of-page}
 use Rattle.lent.proofs.Promised.{faithful-kept}
 use Rattle.lent.proofs.Fetches.{fetch-ended-is, fetch-committed-is}
@@ -139,7 +139,7 @@ module _ {M : Type 1} (𝓤 : URA M) (H : Heap 𝓤) (A : Atoms 𝓤) (W : Given
 
   module _ (C : Calls 𝓤 H) (Λ : Loops 𝓤 H) (fm : FmC 𝓤 H (W .laws) C) (known-hint : Triple 𝓤 (C #take-hint) (To-take-hint 𝓤 H A at-mem run)) (known-page : Triple 𝓤 (C #take-page) (To-take-page 𝓤 H A at-mem run))
       (known-commit : Triple 𝓤 (C #commit) (To-commit 𝓤 H A at-mem run)) (known-keep : Triple 𝓤 (C #keep) (To-keep 𝓤 H A at-mem run))
-      (known-once : Triple 𝓤 (C #at-once) (tripleOf 𝓤 H A at-once.signature (at-once.spec 𝓤 H A at-mem run))) (known-turned : Triple 𝓤 (C #turned) (tripleOf 𝓤 H A turned.signature (turned.spec 𝓤 H A at-mem run))) where
+      (known-once : Triple 𝓤 (C #at-once) (tripleOf 𝓤 H A at-once.signature (at-once.spec 𝓤 H A at-mem run))) (known-resolve-page : Triple 𝓤 (C #resolve-page) (tripleOf 𝓤 H A resolve-page.signature (resolve-page.spec 𝓤 H A at-mem run))) where
     walk : Is u64 base (vint w64 base ∷ []) → Is (ShrSlice (named 1) κ₁ u8) m (vram ∷ []) → Is u64 va (vint w64 va ∷ [])
         → ent 𝓤 (onEntry 𝓤 H A f.signature (κ, (κ₁, tt)) (q, (q₁, tt)) (bound .0 .3) (bound .0 .4)) (WpFn 𝓤 H C Λ (with-locals code.function locals) (vptr b o ∷ vint w64 base ∷ vram ∷ vint w64 va ∷ []) Post)
     walk gb gm gv =
@@ -157,7 +157,7 @@ module _ {M : Type 1} (𝓤 : URA M) (H : Heap 𝓤) (A : Atoms 𝓤) (W : Given
         -- the checks, and the fetch hint
         reads ! fm at-once.ended (at-once.clauses 𝓤 H A at-mem run) known-once
         (((κ₁, tt), (q₁, tt), tt, (g, (base, (m, (va, tt)))), ((LL.val HI.the-type HI′.the-laws g ∷ []), ((vint w64 base ∷ []), ((vram ∷ []), ((vint w64 va ∷ []), tt))))), tt)
-        (LL.val QU.the-type QU′.the-laws) (LL.tells QU.the-type QU′.the-laws) (λ r. r ≡ fetchQuick (g .who) (g .fetch) base (m .now) va) (id⊢ 𝓤 _) (λ r ws. id⊢ 𝓤 _) refl (
+        (LL.val QU.the-type QU′.the-laws) (LL.tells QU.the-type QU′.the-laws) (λ r. r ≡ fastFetch (g .privilege) (g .fetch) base (m .now) va) (id⊢ 𝓤 _) (λ r ws. id⊢ 𝓤 _) refl (
           of-hinted 𝓤 H A W Beside g isg,
           (
             num 𝓤 H A W Beside base gb,
@@ -178,7 +178,7 @@ module _ {M : Type 1} (𝓤 : URA M) (H : Heap 𝓤) (A : Atoms 𝓤) (W : Given
         takes-page ! fm at-mem run c₁ known-page va Kind.Fetch gv kind-is (λ ν δ. & ! (var ! 10 refl) (& ! (var ! 26 refl) (& ! (var ! 14 refl) (end !))))
         (λ p c₂ ep isp. land ! (from ! (stop !)) (init ! 20 refl (LL.lawful PA.the-type PA′.the-laws 𝓤 H A W .typed p _ isp .0)) $
         -- the fetch
-        reads ! fm turned.ended (turned.clauses 𝓤 H A at-mem run) known-turned
+        reads ! fm resolve-page.ended (resolve-page.clauses 𝓤 H A at-mem run) known-resolve-page
         (((κ₁, tt), (q₁, tt), tt, (g, (p, (va, (base, (m, tt))))), ((LL.val HI.the-type HI′.the-laws g ∷ []), ((LL.val PA.the-type PA′.the-laws p ∷ []), ((vint w64 va ∷ []), ((vint w64 base ∷ []), ((vram ∷ []), tt)))))), tt)
         (LL.val FA.the-type FA′.the-laws) (LL.tells FA.the-type FA′.the-laws) (λ r. r ≡ fetchedOf g p va base (m .now)) (id⊢ 𝓤 _) (λ r ws. id⊢ 𝓤 _) refl (
           of-hinted 𝓤 H A W Beside g isg,
@@ -215,10 +215,10 @@ fetch-spec 𝓤 H 𝓜 𝓖 𝓡 =
     (λ κs. (mut-tells (named 0) (κs .0) T.the-row, (uint-tells w64, (shr-slice-tells (named 1) (κs .1 .0) u8, (uint-tells w64, tt)))))
     (λ κs qs bounds a g are. walk 𝓤 H (𝓖 .A) (givenOf 𝓤 H 𝓜 𝓖) (𝓜 .mem) (𝓡 .run) (κs .0) (κs .1 .0) (qs .0) (qs .1 .0) (a .0 .ptr .0) (a .0 .ptr .1) (a .0 .name) (a .0 .now) (a .1 .0) (a .1 .1 .0) (a .1 .1 .1 .0) _ _
     (fmOf 𝓤 H (givenOf 𝓤 H 𝓜 𝓖 .laws) (tablesOf 𝓤 H 𝓜 (tables 𝓤 H 𝓜 𝓡 code.env)))
-    (cited 𝓤 H (To-take-hint 𝓤 H (𝓖 .A) (𝓜 .mem) (𝓡 .run)) 𝓜 𝓡 code.env #take-hint take-hint-def.routine code.calls-lentparts·take-hint (take-hint-thm.met 𝓤 H 𝓜 𝓖 𝓡))
-    (cited 𝓤 H (To-take-page 𝓤 H (𝓖 .A) (𝓜 .mem) (𝓡 .run)) 𝓜 𝓡 code.env #take-page take-page-def.routine code.calls-lentparts·take-page (take-page-thm.met 𝓤 H 𝓜 𝓖 𝓡))
-    (cited 𝓤 H (To-commit 𝓤 H (𝓖 .A) (𝓜 .mem) (𝓡 .run)) 𝓜 𝓡 code.env #commit commit-def.routine code.calls-lentparts·commit (commit-thm.met 𝓤 H 𝓜 𝓖 𝓡))
-    (cited 𝓤 H (To-keep 𝓤 H (𝓖 .A) (𝓜 .mem) (𝓡 .run)) 𝓜 𝓡 code.env #keep keep-def.routine code.calls-lentparts·keep (keep-thm.met 𝓤 H 𝓜 𝓖 𝓡))
-    (cited 𝓤 H (tripleOf 𝓤 H (𝓖 .A) at-once.signature (at-once.spec 𝓤 H (𝓖 .A) (𝓜 .mem) (𝓡 .run))) 𝓜 𝓡 code.env #at-once at-once-def.routine code.calls-lentparts·insn·at-once (at-once-thm.met 𝓤 H 𝓜 𝓖 𝓡))
-    (cited 𝓤 H (tripleOf 𝓤 H (𝓖 .A) turned.signature (turned.spec 𝓤 H (𝓖 .A) (𝓜 .mem) (𝓡 .run))) 𝓜 𝓡 code.env #turned turned-def.routine code.calls-lentparts·insn·fetched (turned-thm.met 𝓤 H 𝓜 𝓖 𝓡))
+    (cited 𝓤 H (To-take-hint 𝓤 H (𝓖 .A) (𝓜 .mem) (𝓡 .run)) 𝓜 𝓡 code.env #take-hint take-hint-def.routine code.calls-lent-parts·take-hint (take-hint-thm.met 𝓤 H 𝓜 𝓖 𝓡))
+    (cited 𝓤 H (To-take-page 𝓤 H (𝓖 .A) (𝓜 .mem) (𝓡 .run)) 𝓜 𝓡 code.env #take-page take-page-def.routine code.calls-lent-parts·take-page (take-page-thm.met 𝓤 H 𝓜 𝓖 𝓡))
+    (cited 𝓤 H (To-commit 𝓤 H (𝓖 .A) (𝓜 .mem) (𝓡 .run)) 𝓜 𝓡 code.env #commit commit-def.routine code.calls-lent-parts·commit (commit-thm.met 𝓤 H 𝓜 𝓖 𝓡))
+    (cited 𝓤 H (To-keep 𝓤 H (𝓖 .A) (𝓜 .mem) (𝓡 .run)) 𝓜 𝓡 code.env #keep keep-def.routine code.calls-lent-parts·keep (keep-thm.met 𝓤 H 𝓜 𝓖 𝓡))
+    (cited 𝓤 H (tripleOf 𝓤 H (𝓖 .A) at-once.signature (at-once.spec 𝓤 H (𝓖 .A) (𝓜 .mem) (𝓡 .run))) 𝓜 𝓡 code.env #at-once at-once-def.routine code.calls-operations·fetches·at-once (at-once-thm.met 𝓤 H 𝓜 𝓖 𝓡))
+    (cited 𝓤 H (tripleOf 𝓤 H (𝓖 .A) resolve-page.signature (resolve-page.spec 𝓤 H (𝓖 .A) (𝓜 .mem) (𝓡 .run))) 𝓜 𝓡 code.env #resolve-page resolve-page-def.routine code.calls-operations·fetches·fetched (resolve-page-thm.met 𝓤 H 𝓜 𝓖 𝓡))
     (are .1 .0) (are .1 .1 .0) (are .1 .1 .1 .0)))

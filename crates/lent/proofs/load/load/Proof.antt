@@ -36,48 +36,48 @@ use denote.Triple.Walked.{Stays, walkOf}
 use Rattle.mmu.specs.declared.core.Core.{Core}
 use Rattle.tlb.specs.declared.access.Kind.the-variants as Kind
 use Rattle.cpu.specs.Step.{ramOf, stepOf}
-use Rattle.cpu.specs.declared.call.Call.the-variants as Call
-use Rattle.cpu.specs.declared.call.Reply.{Reply}
+use Rattle.operations.specs.declared.call.Call.the-variants as Call
+use Rattle.operations.specs.declared.call.Reply.{Reply}
 use Rattle.mmu.proofs.core.Core as T
 use Rattle.tlb.proofs.access.Kind as KI
 use Rattle.tlb.proofs.access.Kind.Laws as KI′
-use Rattle.cpu.proofs.call.Reply as Y
-use Rattle.cpu.proofs.call.Reply.Laws as Y′
-use Rattle.lentparts.specs.Access.{secondIn, loadedOf, loadQuick}
-use Rattle.lentparts.proofs.InPlace.{after-test}
-use Rattle.lentparts.proofs.Walking.{lent-stays, lent-goes, meets-by, with-locals, var, of-var, reads, computes, room, full, leaves, lent-exits}
-use Rattle.lentparts.proofs.change.Hinted as HI
-use Rattle.lentparts.proofs.change.Hinted.Laws as HI′
-use Rattle.lentparts.proofs.change.Page as PA
-use Rattle.lentparts.proofs.change.Page.Laws as PA′
-use Rattle.lentparts.proofs.access.Access as AC
-use Rattle.lentparts.proofs.access.Access.Laws as AC′
-use Rattle.lentparts.proofs.access.QuickLoad as QL
-use Rattle.lentparts.proofs.access.QuickLoad.Laws as QL′
-use Rattle.lentparts.proofs.take_hint.Symbol as take-hint-def
-use Rattle.lentparts.proofs.take_hint.Symbol.{name as #take-hint}
-use Rattle.lentparts.proofs.take_hint.Met as take-hint-thm
-use Rattle.lentparts.proofs.take_page.Symbol as take-page-def
-use Rattle.lentparts.proofs.take_page.Symbol.{name as #take-page}
-use Rattle.lentparts.proofs.take_page.Met as take-page-thm
-use Rattle.lentparts.proofs.commit.Symbol as commit-def
-use Rattle.lentparts.proofs.commit.Symbol.{name as #commit}
-use Rattle.lentparts.proofs.commit.Met as commit-thm
-use Rattle.lentparts.proofs.keep.Symbol as keep-def
-use Rattle.lentparts.proofs.keep.Symbol.{name as #keep}
-use Rattle.lentparts.proofs.keep.Met as keep-thm
-use Rattle.lentparts.proofs.access.second_of as second-of
-use Rattle.lentparts.proofs.access.second_of.Symbol as second-of-def
-use Rattle.lentparts.proofs.access.second_of.Symbol.{name as #second-of}
-use Rattle.lentparts.proofs.access.second_of.Met as second-of-thm
-use Rattle.lentparts.proofs.access.load_at_once as at-once
-use Rattle.lentparts.proofs.access.load_at_once.Symbol as at-once-def
-use Rattle.lentparts.proofs.access.load_at_once.Symbol.{name as #at-once}
-use Rattle.lentparts.proofs.access.load_at_once.Met as at-once-thm
-use Rattle.lentparts.proofs.access.loaded as turned
-use Rattle.lentparts.proofs.access.loaded.Symbol as turned-def
-use Rattle.lentparts.proofs.access.loaded.Symbol.{name as #turned}
-use Rattle.lentparts.proofs.access.loaded.Met as turned-thm
+use Rattle.operations.proofs.call.Reply as Y
+use Rattle.operations.proofs.call.Reply.Laws as Y′
+use Rattle.operations.specs.Loads.{secondIn, loadedOf, fastLoad}
+use Rattle.lent_parts.proofs.InPlace.{after-test}
+use Rattle.lent_parts.proofs.Walking.{lent-stays, lent-goes, meets-by, with-locals, var, of-var, reads, computes, room, full, leaves, lent-exits}
+use Rattle.operations.proofs.change.Hinted as HI
+use Rattle.operations.proofs.change.Hinted.Laws as HI′
+use Rattle.operations.proofs.change.Page as PA
+use Rattle.operations.proofs.change.Page.Laws as PA′
+use Rattle.operations.proofs.loads.Access as AC
+use Rattle.operations.proofs.loads.Access.Laws as AC′
+use Rattle.operations.proofs.loads.FastLoad as QL
+use Rattle.operations.proofs.loads.FastLoad.Laws as QL′
+use Rattle.lent_parts.proofs.take_hint.Symbol as take-hint-def
+use Rattle.lent_parts.proofs.take_hint.Symbol.{name as #take-hint}
+use Rattle.lent_parts.proofs.take_hint.Met as take-hint-thm
+use Rattle.lent_parts.proofs.take_page.Symbol as take-page-def
+use Rattle.lent_parts.proofs.take_page.Symbol.{name as #take-page}
+use Rattle.lent_parts.proofs.take_page.Met as take-page-thm
+use Rattle.lent_parts.proofs.commit.Symbol as commit-def
+use Rattle.lent_parts.proofs.commit.Symbol.{name as #commit}
+use Rattle.lent_parts.proofs.commit.Met as commit-thm
+use Rattle.lent_parts.proofs.keep.Symbol as keep-def
+use Rattle.lent_parts.proofs.keep.Symbol.{name as #keep}
+use Rattle.lent_parts.proofs.keep.Met as keep-thm
+use Rattle.operations.proofs.loads.second_of as second-of
+use Rattle.operations.proofs.loads.second_of.Symbol as second-of-def
+use Rattle.operations.proofs.loads.second_of.Symbol.{name as #second-of}
+use Rattle.operations.proofs.loads.second_of.Met as second-of-thm
+use Rattle.operations.proofs.loads.load_at_once as at-once
+use Rattle.operations.proofs.loads.load_at_once.Symbol as at-once-def
+use Rattle.operations.proofs.loads.load_at_once.Symbol.{name as #at-once}
+use Rattle.operations.proofs.loads.load_at_once.Met as at-once-thm
+use Rattle.operations.proofs.loads.loaded as resolve-page
+use Rattle.operations.proofs.loads.loaded.Symbol as resolve-page-def
+use Rattle.operations.proofs.loads.loaded.Symbol.{name as #resolve-page}
+use Rattle.operations.proofs.loads.loaded.Met as resolve-page-thm
 use Rattle.lent.proofs.Lent.{To-take-hint, To-take-page, To-commit, To-keep, Own, takes-hint, takes-page, commits, keeps, num, of-hinted, of-page}
 use Rattle.lent.proofs.Promised.{faithful-kept}
 use Rattle.lent.proofs.Loads.{load-ended-is, load-committed-is}
@@ -145,7 +145,7 @@ module _ {M : Type 1} (𝓤 : URA M) (H : Heap 𝓤) (A : Atoms 𝓤) (W : Given
   module _ (C : Calls 𝓤 H) (Λ : Loops 𝓤 H) (fm : FmC 𝓤 H (W .laws) C) (known-hint : Triple 𝓤 (C #take-hint) (To-take-hint 𝓤 H A at-mem run)) (known-page : Triple 𝓤 (C #take-page) (To-take-page 𝓤 H A at-mem run))
       (known-commit : Triple 𝓤 (C #commit) (To-commit 𝓤 H A at-mem run)) (known-keep : Triple 𝓤 (C #keep) (To-keep 𝓤 H A at-mem run))
       (known-second : Triple 𝓤 (C #second-of) (tripleOf 𝓤 H A second-of.signature (second-of.spec 𝓤 H A at-mem run)))
-      (known-once : Triple 𝓤 (C #at-once) (tripleOf 𝓤 H A at-once.signature (at-once.spec 𝓤 H A at-mem run))) (known-turned : Triple 𝓤 (C #turned) (tripleOf 𝓤 H A turned.signature (turned.spec 𝓤 H A at-mem run))) where
+      (known-once : Triple 𝓤 (C #at-once) (tripleOf 𝓤 H A at-once.signature (at-once.spec 𝓤 H A at-mem run))) (known-resolve-page : Triple 𝓤 (C #resolve-page) (tripleOf 𝓤 H A resolve-page.signature (resolve-page.spec 𝓤 H A at-mem run))) where
     walk : Is u64 base (vint w64 base ∷ []) → Is (ShrSlice (named 1) κ₁ u8) m (vram ∷ []) → Is u64 va (vint w64 va ∷ []) → Is u64 size (vint w64 size ∷ [])
         → ent 𝓤 (onEntry 𝓤 H A f.signature (κ, (κ₁, tt)) (q, (q₁, tt)) (bound .0 .3) (bound .0 .4)) (WpFn 𝓤 H C Λ (with-locals code.function locals) (vptr b o ∷ vint w64 base ∷ vram ∷ vint w64 va ∷ vint w64 size ∷ []) Post)
     walk gb gm gv gs =
@@ -163,7 +163,7 @@ module _ {M : Type 1} (𝓤 : URA M) (H : Heap 𝓤) (A : Atoms 𝓤) (W : Given
         -- the checks, and the hint
         reads ! fm at-once.ended (at-once.clauses 𝓤 H A at-mem run) known-once
         (((κ₁, tt), (q₁, tt), tt, (g, (base, (m, (va, (size, tt))))), ((LL.val HI.the-type HI′.the-laws g ∷ []), ((vint w64 base ∷ []), ((vram ∷ []), ((vint w64 va ∷ []), ((vint w64 size ∷ []), tt)))))), tt)
-        (LL.val QL.the-type QL′.the-laws) (LL.tells QL.the-type QL′.the-laws) (λ r. r ≡ loadQuick (g .who) (g .hint) (g .«last_pa») base (m .now) va size) (id⊢ 𝓤 _) (λ r ws. id⊢ 𝓤 _) refl (
+        (LL.val QL.the-type QL′.the-laws) (LL.tells QL.the-type QL′.the-laws) (λ r. r ≡ fastLoad (g .privilege) (g .hint) (g .«last_pa») base (m .now) va size) (id⊢ 𝓤 _) (λ r ws. id⊢ 𝓤 _) refl (
           of-hinted 𝓤 H A W Beside g isg,
           (
             num 𝓤 H A W Beside base gb,
@@ -198,7 +198,7 @@ module _ {M : Type 1} (𝓤 : URA M) (H : Heap 𝓤) (A : Atoms 𝓤) (W : Given
         takes-page ! fm at-mem run c₂ known-page next Kind.Read isn kind-is (λ ν δ. & ! (var ! 12 refl) (& ! (var ! 30 refl) (& ! (var ! 22 refl) (end !))))
         (λ y c₃ ey isy. land ! (from ! (stop !)) (init ! 28 refl (LL.lawful PA.the-type PA′.the-laws 𝓤 H A W .typed y _ isy .0)) $
         -- the load
-        reads ! fm turned.ended (turned.clauses 𝓤 H A at-mem run) known-turned (
+        reads ! fm resolve-page.ended (resolve-page.clauses 𝓤 H A at-mem run) known-resolve-page (
           (
             (κ₁, tt),
             (q₁, tt),
@@ -263,11 +263,11 @@ load-spec 𝓤 H 𝓜 𝓖 𝓡 =
     (λ κs. (mut-tells (named 0) (κs .0) T.the-row, (uint-tells w64, (shr-slice-tells (named 1) (κs .1 .0) u8, (uint-tells w64, (uint-tells w64, tt))))))
     (λ κs qs bounds a g are. walk 𝓤 H (𝓖 .A) (givenOf 𝓤 H 𝓜 𝓖) (𝓜 .mem) (𝓡 .run) (κs .0) (κs .1 .0) (qs .0) (qs .1 .0) (a .0 .ptr .0) (a .0 .ptr .1) (a .0 .name) (a .0 .now) (a .1 .0) (a .1 .1 .0) (a .1 .1 .1 .0)
     (a .1 .1 .1 .1 .0) _ _ (fmOf 𝓤 H (givenOf 𝓤 H 𝓜 𝓖 .laws) (tablesOf 𝓤 H 𝓜 (tables 𝓤 H 𝓜 𝓡 code.env)))
-    (cited 𝓤 H (To-take-hint 𝓤 H (𝓖 .A) (𝓜 .mem) (𝓡 .run)) 𝓜 𝓡 code.env #take-hint take-hint-def.routine code.calls-lentparts·take-hint (take-hint-thm.met 𝓤 H 𝓜 𝓖 𝓡))
-    (cited 𝓤 H (To-take-page 𝓤 H (𝓖 .A) (𝓜 .mem) (𝓡 .run)) 𝓜 𝓡 code.env #take-page take-page-def.routine code.calls-lentparts·take-page (take-page-thm.met 𝓤 H 𝓜 𝓖 𝓡))
-    (cited 𝓤 H (To-commit 𝓤 H (𝓖 .A) (𝓜 .mem) (𝓡 .run)) 𝓜 𝓡 code.env #commit commit-def.routine code.calls-lentparts·commit (commit-thm.met 𝓤 H 𝓜 𝓖 𝓡))
-    (cited 𝓤 H (To-keep 𝓤 H (𝓖 .A) (𝓜 .mem) (𝓡 .run)) 𝓜 𝓡 code.env #keep keep-def.routine code.calls-lentparts·keep (keep-thm.met 𝓤 H 𝓜 𝓖 𝓡))
-    (cited 𝓤 H (tripleOf 𝓤 H (𝓖 .A) second-of.signature (second-of.spec 𝓤 H (𝓖 .A) (𝓜 .mem) (𝓡 .run))) 𝓜 𝓡 code.env #second-of second-of-def.routine code.calls-lentparts·access·second-of (second-of-thm.met 𝓤 H 𝓜 𝓖 𝓡))
-    (cited 𝓤 H (tripleOf 𝓤 H (𝓖 .A) at-once.signature (at-once.spec 𝓤 H (𝓖 .A) (𝓜 .mem) (𝓡 .run))) 𝓜 𝓡 code.env #at-once at-once-def.routine code.calls-lentparts·access·load-at-once (at-once-thm.met 𝓤 H 𝓜 𝓖 𝓡))
-    (cited 𝓤 H (tripleOf 𝓤 H (𝓖 .A) turned.signature (turned.spec 𝓤 H (𝓖 .A) (𝓜 .mem) (𝓡 .run))) 𝓜 𝓡 code.env #turned turned-def.routine code.calls-lentparts·access·loaded (turned-thm.met 𝓤 H 𝓜 𝓖 𝓡))
+    (cited 𝓤 H (To-take-hint 𝓤 H (𝓖 .A) (𝓜 .mem) (𝓡 .run)) 𝓜 𝓡 code.env #take-hint take-hint-def.routine code.calls-lent-parts·take-hint (take-hint-thm.met 𝓤 H 𝓜 𝓖 𝓡))
+    (cited 𝓤 H (To-take-page 𝓤 H (𝓖 .A) (𝓜 .mem) (𝓡 .run)) 𝓜 𝓡 code.env #take-page take-page-def.routine code.calls-lent-parts·take-page (take-page-thm.met 𝓤 H 𝓜 𝓖 𝓡))
+    (cited 𝓤 H (To-commit 𝓤 H (𝓖 .A) (𝓜 .mem) (𝓡 .run)) 𝓜 𝓡 code.env #commit commit-def.routine code.calls-lent-parts·commit (commit-thm.met 𝓤 H 𝓜 𝓖 𝓡))
+    (cited 𝓤 H (To-keep 𝓤 H (𝓖 .A) (𝓜 .mem) (𝓡 .run)) 𝓜 𝓡 code.env #keep keep-def.routine code.calls-lent-parts·keep (keep-thm.met 𝓤 H 𝓜 𝓖 𝓡))
+    (cited 𝓤 H (tripleOf 𝓤 H (𝓖 .A) second-of.signature (second-of.spec 𝓤 H (𝓖 .A) (𝓜 .mem) (𝓡 .run))) 𝓜 𝓡 code.env #second-of second-of-def.routine code.calls-operations·loads·second-of (second-of-thm.met 𝓤 H 𝓜 𝓖 𝓡))
+    (cited 𝓤 H (tripleOf 𝓤 H (𝓖 .A) at-once.signature (at-once.spec 𝓤 H (𝓖 .A) (𝓜 .mem) (𝓡 .run))) 𝓜 𝓡 code.env #at-once at-once-def.routine code.calls-operations·loads·load-at-once (at-once-thm.met 𝓤 H 𝓜 𝓖 𝓡))
+    (cited 𝓤 H (tripleOf 𝓤 H (𝓖 .A) resolve-page.signature (resolve-page.spec 𝓤 H (𝓖 .A) (𝓜 .mem) (𝓡 .run))) 𝓜 𝓡 code.env #resolve-page resolve-page-def.routine code.calls-operations·loads·loaded (resolve-page-thm.met 𝓤 H 𝓜 𝓖 𝓡))
     (are .1 .0) (are .1 .1 .0) (are .1 .1 .1 .0) (are .1 .1 .1 .1 .0)))

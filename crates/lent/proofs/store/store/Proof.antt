@@ -39,57 +39,57 @@ use denote.Exit.{yes}
 use Rattle.mmu.specs.declared.core.Core.{Core}
 use Rattle.tlb.specs.declared.access.Kind.the-variants as Kind
 use Rattle.cpu.specs.Step.{stepOf, ramAfter}
-use Rattle.cpu.specs.declared.call.Call.the-variants as Call
-use Rattle.cpu.specs.declared.call.Reply.{Reply}
+use Rattle.operations.specs.declared.call.Call.the-variants as Call
+use Rattle.operations.specs.declared.call.Reply.{Reply}
 use Rattle.mmu.proofs.core.Core as T
 use Rattle.tlb.proofs.access.Kind as KI
 use Rattle.tlb.proofs.access.Kind.Laws as KI′
-use Rattle.cpu.proofs.call.Reply as Y
-use Rattle.cpu.proofs.call.Reply.Laws as Y′
-use Rattle.lentparts.specs.Access.{secondIn}
-use Rattle.lentparts.specs.Writes.{storeQuick, nowReply, nowRam, storedOf, storedRam}
-use Rattle.lentparts.specs.declared.change.Hinted.{Hinted}
-use Rattle.lentparts.specs.declared.change.Page.{Page}
-use Rattle.lentparts.specs.declared.writes.QuickStore.{QuickStore}
-use Rattle.lentparts.proofs.InPlace.{after-test}
-use Rattle.lentparts.proofs.Calling.{made}
-use Rattle.lentparts.proofs.Walking.{meets-by, with-locals, var, of-var, computes, room, full, leaves}
-use Rattle.lentparts.proofs.change.Hinted as HI
-use Rattle.lentparts.proofs.change.Hinted.Laws as HI′
-use Rattle.lentparts.proofs.change.Page as PA
-use Rattle.lentparts.proofs.change.Page.Laws as PA′
-use Rattle.lentparts.proofs.access.Access as AC
-use Rattle.lentparts.proofs.access.Access.Laws as AC′
-use Rattle.lentparts.proofs.writes.QuickStore as QS
-use Rattle.lentparts.proofs.writes.QuickStore.Laws as QS′
-use Rattle.lentparts.proofs.take_hint.Symbol as take-hint-def
-use Rattle.lentparts.proofs.take_hint.Symbol.{name as #take-hint}
-use Rattle.lentparts.proofs.take_hint.Met as take-hint-thm
-use Rattle.lentparts.proofs.take_page.Symbol as take-page-def
-use Rattle.lentparts.proofs.take_page.Symbol.{name as #take-page}
-use Rattle.lentparts.proofs.take_page.Met as take-page-thm
-use Rattle.lentparts.proofs.commit.Symbol as commit-def
-use Rattle.lentparts.proofs.commit.Symbol.{name as #commit}
-use Rattle.lentparts.proofs.commit.Met as commit-thm
-use Rattle.lentparts.proofs.keep.Symbol as keep-def
-use Rattle.lentparts.proofs.keep.Symbol.{name as #keep}
-use Rattle.lentparts.proofs.keep.Met as keep-thm
-use Rattle.lentparts.proofs.access.second_of as second-of
-use Rattle.lentparts.proofs.access.second_of.Symbol as second-of-def
-use Rattle.lentparts.proofs.access.second_of.Symbol.{name as #second-of}
-use Rattle.lentparts.proofs.access.second_of.Met as second-of-thm
-use Rattle.lentparts.proofs.writes.store_now as store-now
-use Rattle.lentparts.proofs.writes.store_now.Symbol as store-now-def
-use Rattle.lentparts.proofs.writes.store_now.Symbol.{name as #store-now}
-use Rattle.lentparts.proofs.writes.store_now.Met as store-now-thm
-use Rattle.lentparts.proofs.writes.at_once as at-once
-use Rattle.lentparts.proofs.writes.at_once.Symbol as at-once-def
-use Rattle.lentparts.proofs.writes.at_once.Symbol.{name as #at-once}
-use Rattle.lentparts.proofs.writes.at_once.Met as at-once-thm
-use Rattle.lentparts.proofs.writes.stored as turned
-use Rattle.lentparts.proofs.writes.stored.Symbol as turned-def
-use Rattle.lentparts.proofs.writes.stored.Symbol.{name as #turned}
-use Rattle.lentparts.proofs.writes.stored.Met as turned-thm
+use Rattle.operations.proofs.call.Reply as Y
+use Rattle.operations.proofs.call.Reply.Laws as Y′
+use Rattle.operations.specs.Loads.{secondIn}
+use Rattle.operations.specs.Stores.{fastStore, nowReply, nowRam, storedOf, storedRam}
+use Rattle.operations.specs.declared.change.Hinted.{Hinted}
+use Rattle.operations.specs.declared.change.Page.{Page}
+use Rattle.operations.specs.declared.stores.FastStore.{FastStore}
+use Rattle.lent_parts.proofs.InPlace.{after-test}
+use Rattle.lent_parts.proofs.Calling.{made}
+use Rattle.lent_parts.proofs.Walking.{meets-by, with-locals, var, of-var, computes, room, full, leaves}
+use Rattle.operations.proofs.change.Hinted as HI
+use Rattle.operations.proofs.change.Hinted.Laws as HI′
+use Rattle.operations.proofs.change.Page as PA
+use Rattle.operations.proofs.change.Page.Laws as PA′
+use Rattle.operations.proofs.loads.Access as AC
+use Rattle.operations.proofs.loads.Access.Laws as AC′
+use Rattle.operations.proofs.stores.FastStore as QS
+use Rattle.operations.proofs.stores.FastStore.Laws as QS′
+use Rattle.lent_parts.proofs.take_hint.Symbol as take-hint-def
+use Rattle.lent_parts.proofs.take_hint.Symbol.{name as #take-hint}
+use Rattle.lent_parts.proofs.take_hint.Met as take-hint-thm
+use Rattle.lent_parts.proofs.take_page.Symbol as take-page-def
+use Rattle.lent_parts.proofs.take_page.Symbol.{name as #take-page}
+use Rattle.lent_parts.proofs.take_page.Met as take-page-thm
+use Rattle.lent_parts.proofs.commit.Symbol as commit-def
+use Rattle.lent_parts.proofs.commit.Symbol.{name as #commit}
+use Rattle.lent_parts.proofs.commit.Met as commit-thm
+use Rattle.lent_parts.proofs.keep.Symbol as keep-def
+use Rattle.lent_parts.proofs.keep.Symbol.{name as #keep}
+use Rattle.lent_parts.proofs.keep.Met as keep-thm
+use Rattle.operations.proofs.loads.second_of as second-of
+use Rattle.operations.proofs.loads.second_of.Symbol as second-of-def
+use Rattle.operations.proofs.loads.second_of.Symbol.{name as #second-of}
+use Rattle.operations.proofs.loads.second_of.Met as second-of-thm
+use Rattle.operations.proofs.stores.store_now as store-now
+use Rattle.operations.proofs.stores.store_now.Symbol as store-now-def
+use Rattle.operations.proofs.stores.store_now.Symbol.{name as #store-now}
+use Rattle.operations.proofs.stores.store_now.Met as store-now-thm
+use Rattle.operations.proofs.stores.at_once as at-once
+use Rattle.operations.proofs.stores.at_once.Symbol as at-once-def
+use Rattle.operations.proofs.stores.at_once.Symbol.{name as #at-once}
+use Rattle.operations.proofs.stores.at_once.Met as at-once-thm
+use Rattle.operations.proofs.stores.stored as resolve-page
+use Rattle.operations.proofs.stores.stored.Symbol as resolve-page-def
+use Rattle.operations.proofs.stores.stored.Symbol.{name as #resolve-page}
+use Rattle.operations.proofs.stores.stored.Met as resolve-page-thm
 use Rattle.lent.proofs.Lent.{To-take-hint, To-take-page, To-commit, To-keep, Own, takes-hint, takes-page, commits, keeps, num, of-hinted, of-page}
 use Rattle.lent.proofs.Moves.{moves}
 use Rattle.lent.proofs.Promised.{faithful-after}
@@ -163,12 +163,12 @@ module _ {M : Type 1} (𝓤 : URA M) (H : Heap 𝓤) (A : Atoms 𝓤) (W : Given
       owned ! Y.the-row (Is Y.the-row) (EL.makes Y.the-type Y′.the-plain 𝓤 H A) r (EL.val Y.the-type Y′.the-laws r ∷ []) is $ move ! (1 ∷ 0 ∷ []) $ done !)
 
   -- the calls that memory is handed to
-  abbrev now-args : (r : QuickStore) → tripleOf 𝓤 H A store-now.signature (store-now.spec 𝓤 H A at-mem run) .Ghost
+  abbrev now-args : (r : FastStore) → tripleOf 𝓤 H A store-now.signature (store-now.spec 𝓤 H A at-mem run) .Ghost
   now-args r =
       (((κ₁, tt), (q₁, tt), tt, (r, (base, (m, (size, (value, tt))))), ((LL.val QS.the-type QS′.the-laws r ∷ []), ((vint w64 base ∷ []), ((vram ∷ []), ((vint w64 size ∷ []), ((vint w64 value ∷ []), tt)))))), tt)
 
-  abbrev turned-args : (g : Hinted) (x y : Page) → tripleOf 𝓤 H A turned.signature (turned.spec 𝓤 H A at-mem run) .Ghost
-  turned-args g x y = (
+  abbrev resolve-page-args : (g : Hinted) (x y : Page) → tripleOf 𝓤 H A resolve-page.signature (resolve-page.spec 𝓤 H A at-mem run) .Ghost
+  resolve-page-args g x y = (
     (
       (κ₁, tt),
       (q₁, tt),
@@ -191,7 +191,7 @@ module _ {M : Type 1} (𝓤 : URA M) (H : Heap 𝓤) (A : Atoms 𝓤) (W : Given
   module _ (C : Calls 𝓤 H) (Λ : Loops 𝓤 H) (fm : FmC 𝓤 H (W .laws) C) (known-hint : Triple 𝓤 (C #take-hint) (To-take-hint 𝓤 H A at-mem run)) (known-page : Triple 𝓤 (C #take-page) (To-take-page 𝓤 H A at-mem run))
       (known-commit : Triple 𝓤 (C #commit) (To-commit 𝓤 H A at-mem run)) (known-keep : Triple 𝓤 (C #keep) (To-keep 𝓤 H A at-mem run))
       (known-second : Triple 𝓤 (C #second-of) (tripleOf 𝓤 H A second-of.signature (second-of.spec 𝓤 H A at-mem run))) (known-now : Triple 𝓤 (C #store-now) (tripleOf 𝓤 H A store-now.signature (store-now.spec 𝓤 H A at-mem run)))
-      (known-once : Triple 𝓤 (C #at-once) (tripleOf 𝓤 H A at-once.signature (at-once.spec 𝓤 H A at-mem run))) (known-turned : Triple 𝓤 (C #turned) (tripleOf 𝓤 H A turned.signature (turned.spec 𝓤 H A at-mem run))) where
+      (known-once : Triple 𝓤 (C #at-once) (tripleOf 𝓤 H A at-once.signature (at-once.spec 𝓤 H A at-mem run))) (known-resolve-page : Triple 𝓤 (C #resolve-page) (tripleOf 𝓤 H A resolve-page.signature (resolve-page.spec 𝓤 H A at-mem run))) where
     walk : Is u64 base (vint w64 base ∷ []) → Is (MutSlice (named 1) κ₁ u8) m (vram ∷ []) → Is u64 va (vint w64 va ∷ []) → Is u64 size (vint w64 size ∷ []) → Is u64 value (vint w64 value ∷ [])
         → ent 𝓤 (onEntry 𝓤 H A f.signature (κ, (κ₁, tt)) (q, (q₁, tt)) (bound .0 .3) (bound .0 .4)) (WpFn 𝓤 H C Λ (with-locals code.function locals) (vptr b o ∷ vint w64 base ∷ vram ∷ vint w64 va ∷ vint w64 size ∷ vint w64 value ∷ []) Post)
     walk gb gm gv gs gx =
@@ -211,7 +211,7 @@ module _ {M : Type 1} (𝓤 : URA M) (H : Heap 𝓤) (A : Atoms 𝓤) (W : Given
         assigns ! (of-opd ! (of-var ! 52 refl refl refl)) (from ! (stop !)) (init ! 26 refl (tt, record { fits = gm .0 .1 .0 })) $ assigns ! (of-opd ! (var ! 26 refl)) (from ! (stop !)) (init ! 42 refl (tt, record { fits = gm .0 .1 .0 })) $
         computes ! fm at-once.ended (at-once.clauses 𝓤 H A at-mem run) known-once
         ((tt, tt, tt, (g, (base, (length (m .now), (va, (size, tt))))), ((LL.val HI.the-type HI′.the-laws g ∷ []), ((vint w64 base ∷ []), ((vint w64 (length (m .now)) ∷ []), ((vint w64 va ∷ []), ((vint w64 size ∷ []), tt)))))), tt)
-        (LL.val QS.the-type QS′.the-laws) (LL.tells QS.the-type QS′.the-laws) (λ r. r ≡ storeQuick (g .who) (g .hint) base (length (m .now)) va size) (id⊢ 𝓤 _) (λ r ws. id⊢ 𝓤 _) refl
+        (LL.val QS.the-type QS′.the-laws) (LL.tells QS.the-type QS′.the-laws) (λ r. r ≡ fastStore (g .privilege) (g .hint) base (length (m .now)) va size) (id⊢ 𝓤 _) (λ r ws. id⊢ 𝓤 _) refl
         (of-hinted 𝓤 H A W (emp 𝓤) g isg, (num 𝓤 H A W (emp 𝓤) base gb, (num 𝓤 H A W (emp 𝓤) (length (m .now)) (refl, gm .0 .1 .0), (num 𝓤 H A W (emp 𝓤) va gv, (num 𝓤 H A W (emp 𝓤) size gs, tt)))))
         (& ! (var ! 46 refl) (& ! (var ! 56 refl) (& ! (var ! 44 refl) (& ! (var ! 52 refl) (& ! (var ! 50 refl) (end !))))))
         (λ r er isr. land ! (from ! (stop !)) (init ! 40 refl (LL.lawful QS.the-type QS′.the-laws 𝓤 H A W .typed r _ isr .0)) $
@@ -245,9 +245,9 @@ module _ {M : Type 1} (𝓤 : URA M) (H : Heap 𝓤) (A : Atoms 𝓤) (W : Given
         -- the store
         assigns ! (addr ! (from ! (fld ! refl (hop ! (look-in ! 52 (sub ! 0 refl (whole !))) (stop !))))) (from ! (stop !)) (init ! 14 refl (tt, tt)) $
         assigns ! (agg ! (& ! (var ! 14 refl) (& ! (of-var ! 52 refl refl refl) (end !)))) (from ! (stop !)) (init ! 12 refl (tt, (tt, (record { fits = gm .0 .1 .0 }, tt)))) $
-        moves ! fm turned.ended (turned.clauses 𝓤 H A at-mem run) known-turned (turned-args g x y) (LL.val AC.the-type AC′.the-laws) (LL.tells AC.the-type AC′.the-laws) (List ℕ) (λ ws. ws .1 .1 .1 .1 .1 .1 .1 .0) (λ ys. ‵ (Last ys))
+        moves ! fm resolve-page.ended (resolve-page.clauses 𝓤 H A at-mem run) known-resolve-page (resolve-page-args g x y) (LL.val AC.the-type AC′.the-laws) (LL.tells AC.the-type AC′.the-laws) (List ℕ) (λ ws. ws .1 .1 .1 .1 .1 .1 .1 .0) (λ ys. ‵ (Last ys))
         (λ a ys. (a ≡ storedOf g x y va size base (m .now)) × (ys ≡ storedRam x y va size value base (m .now))) (id⊢ 𝓤 _) (λ a ws. id⊢ 𝓤 _)
-        (λ ws. qed W (‵ (lasts turned.ended (κ₁, tt) (turned-args g x y .0 .3) ws) ∷ []) ∵ fsplit ! $ drop ! $ fsplit ! $ drop ! $ fsplit ! $ drop ! $ fsplit ! $ drop ! $ fsplit ! $ drop ! $ fsplit ! $ drop ! $ fsplit ! $ drop ! $ fsplit ! $ keep ! (0 ∷ []) $ done !)
+        (λ ws. qed W (‵ (lasts resolve-page.ended (κ₁, tt) (resolve-page-args g x y .0 .3) ws) ∷ []) ∵ fsplit ! $ drop ! $ fsplit ! $ drop ! $ fsplit ! $ drop ! $ fsplit ! $ drop ! $ fsplit ! $ drop ! $ fsplit ! $ drop ! $ fsplit ! $ drop ! $ fsplit ! $ keep ! (0 ∷ []) $ done !)
         7 refl (
           of-hinted 𝓤 H A W (emp 𝓤) g isg,
           (
@@ -293,12 +293,12 @@ store-spec 𝓤 H 𝓜 𝓖 𝓡 =
     (λ κs. (mut-tells (named 0) (κs .0) T.the-row, (uint-tells w64, (mut-slice-tells (named 1) (κs .1 .0) u8, (uint-tells w64, (uint-tells w64, (uint-tells w64, tt)))))))
     (λ κs qs bounds a g are. walk 𝓤 H (𝓖 .A) (givenOf 𝓤 H 𝓜 𝓖) (𝓜 .mem) (𝓡 .run) (κs .0) (κs .1 .0) (qs .0) (qs .1 .0) (a .0 .ptr .0) (a .0 .ptr .1) (a .0 .name) (a .0 .now) (a .1 .0) (a .1 .1 .0) (a .1 .1 .1 .0)
     (a .1 .1 .1 .1 .0) (a .1 .1 .1 .1 .1 .0) _ _ (fmOf 𝓤 H (givenOf 𝓤 H 𝓜 𝓖 .laws) (tablesOf 𝓤 H 𝓜 (tables 𝓤 H 𝓜 𝓡 code.env)))
-    (cited 𝓤 H (To-take-hint 𝓤 H (𝓖 .A) (𝓜 .mem) (𝓡 .run)) 𝓜 𝓡 code.env #take-hint take-hint-def.routine code.calls-lentparts·take-hint (take-hint-thm.met 𝓤 H 𝓜 𝓖 𝓡))
-    (cited 𝓤 H (To-take-page 𝓤 H (𝓖 .A) (𝓜 .mem) (𝓡 .run)) 𝓜 𝓡 code.env #take-page take-page-def.routine code.calls-lentparts·take-page (take-page-thm.met 𝓤 H 𝓜 𝓖 𝓡))
-    (cited 𝓤 H (To-commit 𝓤 H (𝓖 .A) (𝓜 .mem) (𝓡 .run)) 𝓜 𝓡 code.env #commit commit-def.routine code.calls-lentparts·commit (commit-thm.met 𝓤 H 𝓜 𝓖 𝓡))
-    (cited 𝓤 H (To-keep 𝓤 H (𝓖 .A) (𝓜 .mem) (𝓡 .run)) 𝓜 𝓡 code.env #keep keep-def.routine code.calls-lentparts·keep (keep-thm.met 𝓤 H 𝓜 𝓖 𝓡))
-    (cited 𝓤 H (tripleOf 𝓤 H (𝓖 .A) second-of.signature (second-of.spec 𝓤 H (𝓖 .A) (𝓜 .mem) (𝓡 .run))) 𝓜 𝓡 code.env #second-of second-of-def.routine code.calls-lentparts·access·second-of (second-of-thm.met 𝓤 H 𝓜 𝓖 𝓡))
-    (cited 𝓤 H (tripleOf 𝓤 H (𝓖 .A) store-now.signature (store-now.spec 𝓤 H (𝓖 .A) (𝓜 .mem) (𝓡 .run))) 𝓜 𝓡 code.env #store-now store-now-def.routine code.calls-lentparts·writes·store-now (store-now-thm.met 𝓤 H 𝓜 𝓖 𝓡))
-    (cited 𝓤 H (tripleOf 𝓤 H (𝓖 .A) at-once.signature (at-once.spec 𝓤 H (𝓖 .A) (𝓜 .mem) (𝓡 .run))) 𝓜 𝓡 code.env #at-once at-once-def.routine code.calls-lentparts·writes·at-once (at-once-thm.met 𝓤 H 𝓜 𝓖 𝓡))
-    (cited 𝓤 H (tripleOf 𝓤 H (𝓖 .A) turned.signature (turned.spec 𝓤 H (𝓖 .A) (𝓜 .mem) (𝓡 .run))) 𝓜 𝓡 code.env #turned turned-def.routine code.calls-lentparts·writes·stored (turned-thm.met 𝓤 H 𝓜 𝓖 𝓡))
+    (cited 𝓤 H (To-take-hint 𝓤 H (𝓖 .A) (𝓜 .mem) (𝓡 .run)) 𝓜 𝓡 code.env #take-hint take-hint-def.routine code.calls-lent-parts·take-hint (take-hint-thm.met 𝓤 H 𝓜 𝓖 𝓡))
+    (cited 𝓤 H (To-take-page 𝓤 H (𝓖 .A) (𝓜 .mem) (𝓡 .run)) 𝓜 𝓡 code.env #take-page take-page-def.routine code.calls-lent-parts·take-page (take-page-thm.met 𝓤 H 𝓜 𝓖 𝓡))
+    (cited 𝓤 H (To-commit 𝓤 H (𝓖 .A) (𝓜 .mem) (𝓡 .run)) 𝓜 𝓡 code.env #commit commit-def.routine code.calls-lent-parts·commit (commit-thm.met 𝓤 H 𝓜 𝓖 𝓡))
+    (cited 𝓤 H (To-keep 𝓤 H (𝓖 .A) (𝓜 .mem) (𝓡 .run)) 𝓜 𝓡 code.env #keep keep-def.routine code.calls-lent-parts·keep (keep-thm.met 𝓤 H 𝓜 𝓖 𝓡))
+    (cited 𝓤 H (tripleOf 𝓤 H (𝓖 .A) second-of.signature (second-of.spec 𝓤 H (𝓖 .A) (𝓜 .mem) (𝓡 .run))) 𝓜 𝓡 code.env #second-of second-of-def.routine code.calls-operations·loads·second-of (second-of-thm.met 𝓤 H 𝓜 𝓖 𝓡))
+    (cited 𝓤 H (tripleOf 𝓤 H (𝓖 .A) store-now.signature (store-now.spec 𝓤 H (𝓖 .A) (𝓜 .mem) (𝓡 .run))) 𝓜 𝓡 code.env #store-now store-now-def.routine code.calls-operations·stores·store-now (store-now-thm.met 𝓤 H 𝓜 𝓖 𝓡))
+    (cited 𝓤 H (tripleOf 𝓤 H (𝓖 .A) at-once.signature (at-once.spec 𝓤 H (𝓖 .A) (𝓜 .mem) (𝓡 .run))) 𝓜 𝓡 code.env #at-once at-once-def.routine code.calls-operations·stores·at-once (at-once-thm.met 𝓤 H 𝓜 𝓖 𝓡))
+    (cited 𝓤 H (tripleOf 𝓤 H (𝓖 .A) resolve-page.signature (resolve-page.spec 𝓤 H (𝓖 .A) (𝓜 .mem) (𝓡 .run))) 𝓜 𝓡 code.env #resolve-page resolve-page-def.routine code.calls-operations·stores·stored (resolve-page-thm.met 𝓤 H 𝓜 𝓖 𝓡))
     (are .1 .0) (are .1 .1 .0) (are .1 .1 .1 .0) (are .1 .1 .1 .1 .0) (are .1 .1 .1 .1 .1 .0)))

@@ -36,42 +36,42 @@ use Rattle.word.specs.Ram.{wordAt}
 use Rattle.mmu.specs.declared.core.Core.{Core}
 use Rattle.tlb.specs.declared.access.Kind.{Kind}
 use Rattle.cpu.specs.Step.{ramOf, stepOf}
-use Rattle.cpu.specs.declared.call.Call.the-variants as Call
-use Rattle.cpu.specs.declared.call.Reply.{Reply}
+use Rattle.operations.specs.declared.call.Call.the-variants as Call
+use Rattle.operations.specs.declared.call.Reply.{Reply}
 use Rattle.mmu.proofs.core.Core as T
 use Rattle.tlb.proofs.access.Kind as KI
 use Rattle.tlb.proofs.access.Kind.Laws as KI′
-use Rattle.cpu.proofs.call.Reply as Y
-use Rattle.cpu.proofs.call.Reply.Laws as Y′
-use Rattle.lentparts.specs.Change.{translatedOf}
-use Rattle.lentparts.specs.Plan.{quickOf}
-use Rattle.lentparts.proofs.InPlace.{after-test}
-use Rattle.lentparts.proofs.Walking.{lent-stays, lent-goes, meets-by, with-locals, var, of-var, reads, room, full, leaves, lent-exits}
-use Rattle.lentparts.proofs.change.Hinted as HI
-use Rattle.lentparts.proofs.change.Hinted.Laws as HI′
-use Rattle.lentparts.proofs.change.Page as PA
-use Rattle.lentparts.proofs.change.Page.Laws as PA′
-use Rattle.lentparts.proofs.change.Translated as TR
-use Rattle.lentparts.proofs.change.Translated.Laws as TR′
-use Rattle.lentparts.proofs.plan.Quick as QU
-use Rattle.lentparts.proofs.plan.Quick.Laws as QU′
-use Rattle.lentparts.proofs.take_hint.Symbol as take-hint-def
-use Rattle.lentparts.proofs.take_hint.Symbol.{name as #take-hint}
-use Rattle.lentparts.proofs.take_hint.Met as take-hint-thm
-use Rattle.lentparts.proofs.take_page.Symbol as take-page-def
-use Rattle.lentparts.proofs.take_page.Symbol.{name as #take-page}
-use Rattle.lentparts.proofs.take_page.Met as take-page-thm
-use Rattle.lentparts.proofs.commit.Symbol as commit-def
-use Rattle.lentparts.proofs.commit.Symbol.{name as #commit}
-use Rattle.lentparts.proofs.commit.Met as commit-thm
-use Rattle.lentparts.proofs.plan.at_once as at-once
-use Rattle.lentparts.proofs.plan.at_once.Symbol as at-once-def
-use Rattle.lentparts.proofs.plan.at_once.Symbol.{name as #at-once}
-use Rattle.lentparts.proofs.plan.at_once.Met as at-once-thm
-use Rattle.lentparts.proofs.change.translate as turned
-use Rattle.lentparts.proofs.change.translate.Symbol as turned-def
-use Rattle.lentparts.proofs.change.translate.Symbol.{name as #turned}
-use Rattle.lentparts.proofs.change.translate.Met as turned-thm
+use Rattle.operations.proofs.call.Reply as Y
+use Rattle.operations.proofs.call.Reply.Laws as Y′
+use Rattle.operations.specs.Change.{translatedOf}
+use Rattle.operations.specs.Hinted.{fastOf}
+use Rattle.lent_parts.proofs.InPlace.{after-test}
+use Rattle.lent_parts.proofs.Walking.{lent-stays, lent-goes, meets-by, with-locals, var, of-var, reads, room, full, leaves, lent-exits}
+use Rattle.operations.proofs.change.Hinted as HI
+use Rattle.operations.proofs.change.Hinted.Laws as HI′
+use Rattle.operations.proofs.change.Page as PA
+use Rattle.operations.proofs.change.Page.Laws as PA′
+use Rattle.operations.proofs.change.Translated as TR
+use Rattle.operations.proofs.change.Translated.Laws as TR′
+use Rattle.operations.proofs.hinted.Fast as QU
+use Rattle.operations.proofs.hinted.Fast.Laws as QU′
+use Rattle.lent_parts.proofs.take_hint.Symbol as take-hint-def
+use Rattle.lent_parts.proofs.take_hint.Symbol.{name as #take-hint}
+use Rattle.lent_parts.proofs.take_hint.Met as take-hint-thm
+use Rattle.lent_parts.proofs.take_page.Symbol as take-page-def
+use Rattle.lent_parts.proofs.take_page.Symbol.{name as #take-page}
+use Rattle.lent_parts.proofs.take_page.Met as take-page-thm
+use Rattle.lent_parts.proofs.commit.Symbol as commit-def
+use Rattle.lent_parts.proofs.commit.Symbol.{name as #commit}
+use Rattle.lent_parts.proofs.commit.Met as commit-thm
+use Rattle.operations.proofs.hinted.at_once as at-once
+use Rattle.operations.proofs.hinted.at_once.Symbol as at-once-def
+use Rattle.operations.proofs.hinted.at_once.Symbol.{name as #at-once}
+use Rattle.operations.proofs.hinted.at_once.Met as at-once-thm
+use Rattle.operations.proofs.change.translate as resolve-page
+use Rattle.operations.proofs.change.translate.Symbol as resolve-page-def
+use Rattle.operations.proofs.change.translate.Symbol.{name as #resolve-page}
+use Rattle.operations.proofs.change.translate.Met as resolve-page-thm
 use Rattle.lent.proofs.Lent.{To-take-hint, To-take-page, To-commit, Own, takes-hint, takes-page, commits, num, of-kind, of-hinted, of-page}
 use Rattle.lent.proofs.Promised.{faithful-kept}
 use Rattle.lent.proofs.Runs.{ended-is, committed-is}
@@ -135,7 +135,7 @@ module _ {M : Type 1} (𝓤 : URA M) (H : Heap 𝓤) (A : Atoms 𝓤) (W : Given
 
   module _ (C : Calls 𝓤 H) (Λ : Loops 𝓤 H) (fm : FmC 𝓤 H (W .laws) C) (known-hint : Triple 𝓤 (C #take-hint) (To-take-hint 𝓤 H A at-mem run)) (known-page : Triple 𝓤 (C #take-page) (To-take-page 𝓤 H A at-mem run))
       (known-commit : Triple 𝓤 (C #commit) (To-commit 𝓤 H A at-mem run)) (known-once : Triple 𝓤 (C #at-once) (tripleOf 𝓤 H A at-once.signature (at-once.spec 𝓤 H A at-mem run)))
-      (known-turned : Triple 𝓤 (C #turned) (tripleOf 𝓤 H A turned.signature (turned.spec 𝓤 H A at-mem run))) where
+      (known-resolve-page : Triple 𝓤 (C #resolve-page) (tripleOf 𝓤 H A resolve-page.signature (resolve-page.spec 𝓤 H A at-mem run))) where
     walk : Is u64 base (vint w64 base ∷ []) → Is (ShrSlice (named 1) κ₁ u8) m (vram ∷ []) → Is u64 va (vint w64 va ∷ []) → Is KI.the-row kind (vkind ∷ [])
         → ent 𝓤 (onEntry 𝓤 H A f.signature (κ, (κ₁, tt)) (q, (q₁, tt)) (bound .0 .3) (bound .0 .4)) (WpFn 𝓤 H C Λ (with-locals code.function locals) (vptr b o ∷ vint w64 base ∷ vram ∷ vint w64 va ∷ vkind ∷ [])
         Post)
@@ -154,7 +154,7 @@ module _ {M : Type 1} (𝓤 : URA M) (H : Heap 𝓤) (A : Atoms 𝓤) (W : Given
         -- the checks, and the hint
         reads ! fm at-once.ended (at-once.clauses 𝓤 H A at-mem run) known-once
         (((κ₁, tt), (q₁, tt), tt, (g, (base, (m, (va, (kind, tt))))), ((LL.val HI.the-type HI′.the-laws g ∷ []), ((vint w64 base ∷ []), ((vram ∷ []), ((vint w64 va ∷ []), ((vkind ∷ []), tt)))))), tt)
-        (LL.val QU.the-type QU′.the-laws) (LL.tells QU.the-type QU′.the-laws) (λ r. r ≡ quickOf (g .who) (g .hint) base (length (m .now)) va kind) (id⊢ 𝓤 _) (λ r ws. id⊢ 𝓤 _) refl (
+        (LL.val QU.the-type QU′.the-laws) (LL.tells QU.the-type QU′.the-laws) (λ r. r ≡ fastOf (g .privilege) (g .hint) base (length (m .now)) va kind) (id⊢ 𝓤 _) (λ r ws. id⊢ 𝓤 _) refl (
           of-hinted 𝓤 H A W Beside g isg,
           (
             num 𝓤 H A W Beside base gb,
@@ -181,7 +181,7 @@ module _ {M : Type 1} (𝓤 : URA M) (H : Heap 𝓤) (A : Atoms 𝓤) (W : Given
         takes-page ! fm at-mem run c₁ known-page va kind gv gk (λ ν δ. & ! (var ! 8 refl) (& ! (var ! 24 refl) (& ! (var ! 22 refl) (end !))))
         (λ p c₂ ep isp. land ! (from ! (stop !)) (init ! 16 refl (LL.lawful PA.the-type PA′.the-laws 𝓤 H A W .typed p _ isp .0)) $
         -- the translation
-        reads ! fm turned.ended (turned.clauses 𝓤 H A at-mem run) known-turned
+        reads ! fm resolve-page.ended (resolve-page.clauses 𝓤 H A at-mem run) known-resolve-page
         (((κ₁, tt), (q₁, tt), tt, (p, (va, (kind, (base, (m, tt))))), ((LL.val PA.the-type PA′.the-laws p ∷ []), ((vint w64 va ∷ []), ((vkind ∷ []), ((vint w64 base ∷ []), ((vram ∷ []), tt)))))), tt)
         (LL.val TR.the-type TR′.the-laws) (LL.tells TR.the-type TR′.the-laws) (λ r. r ≡ translatedOf p va kind (wordAt base (m .now) 8)) (id⊢ 𝓤 _) (λ r ws. id⊢ 𝓤 _) refl (
           of-page 𝓤 H A W Beside p isp,
@@ -218,9 +218,9 @@ translate-spec 𝓤 H 𝓜 𝓖 𝓡 =
     (λ κs. (mut-tells (named 0) (κs .0) T.the-row, (uint-tells w64, (shr-slice-tells (named 1) (κs .1 .0) u8, (uint-tells w64, (EL.tells KI.the-type KI′.the-laws, tt))))))
     (λ κs qs bounds a g are. walk 𝓤 H (𝓖 .A) (givenOf 𝓤 H 𝓜 𝓖) (𝓜 .mem) (𝓡 .run) (κs .0) (κs .1 .0) (qs .0) (qs .1 .0) (a .0 .ptr .0) (a .0 .ptr .1) (a .0 .name) (a .0 .now) (a .1 .0) (a .1 .1 .0) (a .1 .1 .1 .0)
     (a .1 .1 .1 .1 .0) _ _ (fmOf 𝓤 H (givenOf 𝓤 H 𝓜 𝓖 .laws) (tablesOf 𝓤 H 𝓜 (tables 𝓤 H 𝓜 𝓡 code.env)))
-    (cited 𝓤 H (To-take-hint 𝓤 H (𝓖 .A) (𝓜 .mem) (𝓡 .run)) 𝓜 𝓡 code.env #take-hint take-hint-def.routine code.calls-lentparts·take-hint (take-hint-thm.met 𝓤 H 𝓜 𝓖 𝓡))
-    (cited 𝓤 H (To-take-page 𝓤 H (𝓖 .A) (𝓜 .mem) (𝓡 .run)) 𝓜 𝓡 code.env #take-page take-page-def.routine code.calls-lentparts·take-page (take-page-thm.met 𝓤 H 𝓜 𝓖 𝓡))
-    (cited 𝓤 H (To-commit 𝓤 H (𝓖 .A) (𝓜 .mem) (𝓡 .run)) 𝓜 𝓡 code.env #commit commit-def.routine code.calls-lentparts·commit (commit-thm.met 𝓤 H 𝓜 𝓖 𝓡))
-    (cited 𝓤 H (tripleOf 𝓤 H (𝓖 .A) at-once.signature (at-once.spec 𝓤 H (𝓖 .A) (𝓜 .mem) (𝓡 .run))) 𝓜 𝓡 code.env #at-once at-once-def.routine code.calls-lentparts·plan·at-once (at-once-thm.met 𝓤 H 𝓜 𝓖 𝓡))
-    (cited 𝓤 H (tripleOf 𝓤 H (𝓖 .A) turned.signature (turned.spec 𝓤 H (𝓖 .A) (𝓜 .mem) (𝓡 .run))) 𝓜 𝓡 code.env #turned turned-def.routine code.calls-lentparts·change·translate (turned-thm.met 𝓤 H 𝓜 𝓖 𝓡))
+    (cited 𝓤 H (To-take-hint 𝓤 H (𝓖 .A) (𝓜 .mem) (𝓡 .run)) 𝓜 𝓡 code.env #take-hint take-hint-def.routine code.calls-lent-parts·take-hint (take-hint-thm.met 𝓤 H 𝓜 𝓖 𝓡))
+    (cited 𝓤 H (To-take-page 𝓤 H (𝓖 .A) (𝓜 .mem) (𝓡 .run)) 𝓜 𝓡 code.env #take-page take-page-def.routine code.calls-lent-parts·take-page (take-page-thm.met 𝓤 H 𝓜 𝓖 𝓡))
+    (cited 𝓤 H (To-commit 𝓤 H (𝓖 .A) (𝓜 .mem) (𝓡 .run)) 𝓜 𝓡 code.env #commit commit-def.routine code.calls-lent-parts·commit (commit-thm.met 𝓤 H 𝓜 𝓖 𝓡))
+    (cited 𝓤 H (tripleOf 𝓤 H (𝓖 .A) at-once.signature (at-once.spec 𝓤 H (𝓖 .A) (𝓜 .mem) (𝓡 .run))) 𝓜 𝓡 code.env #at-once at-once-def.routine code.calls-operations·hinted·at-once (at-once-thm.met 𝓤 H 𝓜 𝓖 𝓡))
+    (cited 𝓤 H (tripleOf 𝓤 H (𝓖 .A) resolve-page.signature (resolve-page.spec 𝓤 H (𝓖 .A) (𝓜 .mem) (𝓡 .run))) 𝓜 𝓡 code.env #resolve-page resolve-page-def.routine code.calls-operations·change·translate (resolve-page-thm.met 𝓤 H 𝓜 𝓖 𝓡))
     (are .1 .0) (are .1 .1 .0) (are .1 .1 .1 .0) (are .1 .1 .1 .1 .0)))

@@ -2,7 +2,7 @@
 use borrow.Author.Needs.{needs}
 use Rattle.mmu.proofs.core.reg_in.Statement.{statement}
 use Rattle.mmu.proofs.core.reg_in.Tie as tie
-use Rattle.mmu.proofs.Places.{reg-kept, reg-zero}
+use Rattle.mmu.proofs.Regs.{reg-kept, reg-zero}
 
 mul-result : tie.Need-mul-result
 mul-result c = search needs

@@ -2,7 +2,7 @@
 use borrow.Author.Needs.{needs}
 use Rattle.mmu.proofs.core.reg_set.Statement.{statement}
 use Rattle.mmu.proofs.core.reg_set.Tie as tie
-use Rattle.mmu.proofs.Places.{reg-stored, reg-dropped}
+use Rattle.mmu.proofs.Regs.{reg-stored, reg-dropped}
 
 mul-out : tie.Need-mul-out
 mul-out c = search needs

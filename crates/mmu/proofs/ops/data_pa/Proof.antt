@@ -10,11 +10,11 @@ stepped-requires c κs = search needs
 reach-requires : tie.Need-reach-requires
 reach-requires c κs = search needs
 
-moved-requires : tie.Need-moved-requires
-moved-requires c κs = search needs
+after-access-requires : tie.Need-after-access-requires
+after-access-requires c κs = search needs
 
 returns : tie.Need-returns
 returns c = search (data-pa-is, needs)
 
 pub data-pa-spec : {M : Type 1} → statement M
-data-pa-spec = tie.close (tie.spec stepped-requires reach-requires moved-requires returns)
+data-pa-spec = tie.close (tie.spec stepped-requires reach-requires after-access-requires returns)

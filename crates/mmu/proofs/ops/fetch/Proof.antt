@@ -10,11 +10,11 @@ fetch-stepped-requires c κs = search needs
 fetch-end-requires : tie.Need-fetch-end-requires
 fetch-end-requires c κs = search needs
 
-moved-requires : tie.Need-moved-requires
-moved-requires c κs = search needs
+after-access-requires : tie.Need-after-access-requires
+after-access-requires c κs = search needs
 
 returns : tie.Need-returns
 returns c = search (fetch-is, needs)
 
 pub fetch-spec : {M : Type 1} → statement M
-fetch-spec = tie.close (tie.spec fetch-stepped-requires fetch-end-requires moved-requires returns)
+fetch-spec = tie.close (tie.spec fetch-stepped-requires fetch-end-requires after-access-requires returns)

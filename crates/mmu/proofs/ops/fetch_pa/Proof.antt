@@ -10,11 +10,11 @@ fetch-stepped-requires c κs = search needs
 reach-requires : tie.Need-reach-requires
 reach-requires c κs = search needs
 
-moved-requires : tie.Need-moved-requires
-moved-requires c κs = search needs
+after-access-requires : tie.Need-after-access-requires
+after-access-requires c κs = search needs
 
 returns : tie.Need-returns
 returns c = search (fetch-pa-is, needs)
 
 pub fetch-pa-spec : {M : Type 1} → statement M
-fetch-pa-spec = tie.close (tie.spec fetch-stepped-requires reach-requires moved-requires returns)
+fetch-pa-spec = tie.close (tie.spec fetch-stepped-requires reach-requires after-access-requires returns)

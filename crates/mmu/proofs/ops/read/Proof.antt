@@ -10,11 +10,11 @@ located-requires c κs = search needs
 load-end-requires : tie.Need-load-end-requires
 load-end-requires c κs = search needs
 
-moved-requires : tie.Need-moved-requires
-moved-requires c κs = search needs
+after-access-requires : tie.Need-after-access-requires
+after-access-requires c κs = search needs
 
 returns : tie.Need-returns
 returns c = search (read-is, needs)
 
 pub read-spec : {M : Type 1} → statement M
-read-spec = tie.close (tie.spec located-requires load-end-requires moved-requires returns)
+read-spec = tie.close (tie.spec located-requires load-end-requires after-access-requires returns)

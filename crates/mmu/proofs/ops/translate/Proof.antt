@@ -7,11 +7,11 @@ use Rattle.mmu.proofs.Shells.{translate-is}
 stepped-requires : tie.Need-stepped-requires
 stepped-requires c κs = search needs
 
-moved-requires : tie.Need-moved-requires
-moved-requires c κs = search needs
+after-access-requires : tie.Need-after-access-requires
+after-access-requires c κs = search needs
 
 returns : tie.Need-returns
 returns c = search (translate-is, needs)
 
 pub translate-spec : {M : Type 1} → statement M
-translate-spec = tie.close (tie.spec stepped-requires moved-requires returns)
+translate-spec = tie.close (tie.spec stepped-requires after-access-requires returns)

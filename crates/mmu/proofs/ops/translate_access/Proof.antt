@@ -7,11 +7,11 @@ use Rattle.mmu.proofs.Shells.{access-is}
 located-requires : tie.Need-located-requires
 located-requires c κs = search needs
 
-moved-requires : tie.Need-moved-requires
-moved-requires c κs = search needs
+after-access-requires : tie.Need-after-access-requires
+after-access-requires c κs = search needs
 
 returns : tie.Need-returns
 returns c = search (access-is, needs)
 
 pub translate-access-spec : {M : Type 1} → statement M
-translate-access-spec = tie.close (tie.spec located-requires moved-requires returns)
+translate-access-spec = tie.close (tie.spec located-requires after-access-requires returns)

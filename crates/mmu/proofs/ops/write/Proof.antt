@@ -10,8 +10,8 @@ located-requires c κs = search needs
 store-end-requires : tie.Need-store-end-requires
 store-end-requires c κs = search needs
 
-moved-requires : tie.Need-moved-requires
-moved-requires c κs = search needs
+after-access-requires : tie.Need-after-access-requires
+after-access-requires c κs = search needs
 
 same-length : tie.Need-same-length
 same-length c = search (end-kept, needs)
@@ -21,4 +21,4 @@ returns c = (search (write-is, needs), search (ram-is, needs))
 
 pub write-spec : {M : Type 1} → statement M
 write-spec =
-    tie.close (tie.spec located-requires store-end-requires moved-requires same-length returns)
+    tie.close (tie.spec located-requires store-end-requires after-access-requires same-length returns)

@@ -10,8 +10,8 @@ slot-at-requires c κs = search needs
 entry-at-requires : tie.Need-entry-at-requires
 entry-at-requires c κs = search needs
 
-turn-fetch-requires : tie.Need-turn-fetch-requires
-turn-fetch-requires c κs = search needs
+translate-fetch-requires : tie.Need-translate-fetch-requires
+translate-fetch-requires c κs = search needs
 
 with-fetch-requires : tie.Need-with-fetch-requires
 with-fetch-requires c κs = search needs
@@ -22,4 +22,4 @@ returns c = search (fetch-step-is, needs)
 pub fetch-step-spec : {M : Type 1} → statement M
 fetch-step-spec =
     tie.close
-    (tie.spec slot-at-requires entry-at-requires turn-fetch-requires with-fetch-requires returns)
+    (tie.spec slot-at-requires entry-at-requires translate-fetch-requires with-fetch-requires returns)

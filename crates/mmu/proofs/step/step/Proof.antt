@@ -16,11 +16,11 @@ hint-at-requires c κs = search needs
 entry-at-requires : tie.Need-entry-at-requires
 entry-at-requires c κs = search needs
 
-turn-requires : tie.Need-turn-requires
-turn-requires c κs = search needs
+translate-requires : tie.Need-translate-requires
+translate-requires c κs = search needs
 
-with-turn-requires : tie.Need-with-turn-requires
-with-turn-requires c κs = search needs
+with-translation-requires : tie.Need-with-translation-requires
+with-translation-requires c κs = search needs
 
 returns : tie.Need-returns
 returns c = search (step-is, needs)
@@ -33,6 +33,6 @@ step-spec =
     data-slot-requires
     hint-at-requires
     entry-at-requires
-    turn-requires
-    with-turn-requires
+    translate-requires
+    with-translation-requires
     returns)

@@ -1,5 +1,5 @@
 -- `tlb::access::as_user` meets its contract.
-use Rattle.tlb.proofs.Turning.{as-own, as-marked}
+use Rattle.tlb.proofs.Translating.{as-own, as-marked}
 use borrow.Author.Needs.{needs}
 use Rattle.tlb.proofs.access.as_user.Statement.{statement}
 use Rattle.tlb.proofs.access.as_user.Tie as tie

@@ -1,5 +1,5 @@
 -- `tlb::access::judge` meets its contract.
-use Rattle.tlb.proofs.Turning.{allowed, refused}
+use Rattle.tlb.proofs.Translating.{allowed, refused}
 use borrow.Author.Needs.{needs}
 use Rattle.tlb.proofs.access.judge.Statement.{statement}
 use Rattle.tlb.proofs.access.judge.Tie as tie

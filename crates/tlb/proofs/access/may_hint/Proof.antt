@@ -1,5 +1,5 @@
 -- `tlb::access::may_hint` meets its contract.
-use Rattle.tlb.proofs.Turning.{hinting}
+use Rattle.tlb.proofs.Translating.{hinting}
 use borrow.Author.Needs.{needs}
 use Rattle.tlb.proofs.access.may_hint.Statement.{statement}
 use Rattle.tlb.proofs.access.may_hint.Tie as tie

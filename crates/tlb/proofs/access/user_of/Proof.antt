@@ -1,5 +1,5 @@
 -- `tlb::access::user_of` meets its contract.
-use Rattle.tlb.proofs.Turning.{as-user}
+use Rattle.tlb.proofs.Translating.{as-user}
 use borrow.Author.Needs.{needs}
 use Rattle.tlb.proofs.access.user_of.Statement.{statement}
 use Rattle.tlb.proofs.access.user_of.Tie as tie

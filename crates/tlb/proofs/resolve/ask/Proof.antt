@@ -1,5 +1,5 @@
 -- `tlb::resolve::ask` meets its contract.
-use Rattle.tlb.proofs.Turning.{asked, unasked}
+use Rattle.tlb.proofs.Translating.{asked, unasked}
 use borrow.Author.Needs.{needs}
 use Rattle.tlb.proofs.resolve.ask.Statement.{statement}
 use Rattle.tlb.proofs.resolve.ask.Tie as tie

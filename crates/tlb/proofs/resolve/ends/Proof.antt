@@ -1,5 +1,5 @@
 -- `tlb::resolve::ends` meets its contract.
-use Rattle.tlb.proofs.Turning.{leaf-made, none-made}
+use Rattle.tlb.proofs.Translating.{leaf-made, none-made}
 use borrow.Author.Needs.{needs}
 use Rattle.tlb.proofs.resolve.ends.Statement.{statement}
 use Rattle.tlb.proofs.resolve.ends.Tie as tie

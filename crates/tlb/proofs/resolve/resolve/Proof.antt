@@ -1,5 +1,5 @@
 -- `tlb::resolve::resolve` meets its contract.
-use Rattle.tlb.proofs.Turning.{entry-resolves, walk-resolves}
+use Rattle.tlb.proofs.Translating.{entry-resolves, walk-resolves}
 use borrow.Author.Needs.{needs}
 use Rattle.tlb.proofs.resolve.resolve.Statement.{statement}
 use Rattle.tlb.proofs.resolve.resolve.Tie as tie

@@ -1,5 +1,5 @@
 -- `tlb::resolve::walked` meets its contract.
-use Rattle.tlb.proofs.Turning.{walk-made}
+use Rattle.tlb.proofs.Translating.{walk-made}
 use borrow.Author.Needs.{needs}
 use Rattle.tlb.proofs.resolve.walked.Statement.{statement}
 use Rattle.tlb.proofs.resolve.walked.Tie as tie

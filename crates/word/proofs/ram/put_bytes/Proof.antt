@@ -6,7 +6,7 @@ use native.Mathlib.Omega.{arith}
 use mathlib.Core.List.{_++_}
 use lib.ListN.{length, take, length-set}
 use Rattle.word.specs.Ram.{bytesOf}
-use Rattle.word.proofs.Window.{bytes-turn, bytes-end}
+use Rattle.word.proofs.Window.{bytes-translation, bytes-end}
 use Rattle.word.proofs.ram.put_bytes.Statement.{statement}
 use Rattle.word.proofs.ram.put_bytes.Tie as tie
 
@@ -34,7 +34,7 @@ loop-less c = omega arith
 loop-again : tie.Need-loop-again Inv-loop μ-loop
 loop-again c =
     let l = c .before .loop in
-    (omega arith, length-set (l .part) (l .i) (l .v % 256) ∙ l .inv .1, bytes-turn (l .part) (l .i) (l .v) _ (omega arith) (l .inv .1) ∙ l .inv .2)
+    (omega arith, length-set (l .part) (l .i) (l .v % 256) ∙ l .inv .1, bytes-translation (l .part) (l .i) (l .v) _ (omega arith) (l .inv .1) ∙ l .inv .2)
 
 same-length : tie.Need-same-length Inv-loop μ-loop
 same-length c = c .before .loop .inv .1

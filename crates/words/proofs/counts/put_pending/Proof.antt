@@ -1,5 +1,5 @@
 -- `words::counts::put_pending` meets its contract.
-use Rattle.words.specs.Moves.{nothing-put, moved-some}
+use Rattle.words.specs.Moves.{nothing-put, holds-some}
 use borrow.Author.Needs.{needs}
 use Rattle.words.proofs.counts.put_pending.Statement.{statement}
 use Rattle.words.proofs.counts.put_pending.Tie as tie
@@ -26,7 +26,7 @@ returns : tie.Need-returns
 returns c = search (nothing-put, needs)
 
 returns-2 : tie.Need-returns-2
-returns-2 c = search (moved-some, needs)
+returns-2 c = search (holds-some, needs)
 
 pub put-pending-spec : {M : Type 1} → statement M
 put-pending-spec =

@@ -1,5 +1,5 @@
 -- `words::regs::control_at` meets its contract.
-use Rattle.words.specs.Held.{heldOn, heldBy, held}
+use Rattle.words.specs.CoreOf.{coreOn, coreBy, coreOf}
 use borrow.Author.Needs.{needs}
 use Rattle.words.proofs.regs.control_at.Statement.{statement}
 use Rattle.words.proofs.regs.control_at.Tie as tie
@@ -77,7 +77,7 @@ element-copy-out-t52 : tie.Need-element-copy-out-t52
 element-copy-out-t52 c = search needs
 
 returns : tie.Need-returns
-unfolding held heldBy heldOn
+unfolding coreOf coreBy coreOn
 returns c = search needs
 
 pub control-at-spec : {M : Type 1} → statement M

@@ -1,0 +1,13 @@
+-- `exception::report::no_far` meets its contract.
+use borrow.Author.Needs.{needs}
+use Rattle.exception.proofs.report.no_far.Statement.{statement}
+use Rattle.exception.proofs.report.no_far.Tie as tie
+
+esr-requires : tie.Need-esr-requires
+esr-requires c κs = search needs
+
+returns : tie.Need-returns
+returns c = rw (c .esr .ensures)
+
+pub no-far-spec : {M : Type 1} → statement M
+no-far-spec = tie.close (tie.spec esr-requires returns)

@@ -1,8 +1,0 @@
--- What an exception's entry changes, on the core.
-use Rattle.entry.specs.Entry.{takenTo}
-use Rattle.entry.specs.declared.take.Taken.{Taken}
-use Rattle.mmu.specs.declared.core.Core.{Core}
-use Rattle.exec.specs.Ops.{entering}
-
-unfoldable pub takenIn : Core → Taken → Core
-takenIn c t = entering c (takenTo (c .flags) (c .sys) t)

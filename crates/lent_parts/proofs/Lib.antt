@@ -1,0 +1,7 @@
+pub mod Calling
+pub mod Walking
+pub mod InPlace
+pub mod Parts
+pub mod Fields
+pub mod Shape
+pub mod Laid

@@ -1,0 +1,90 @@
+// The parts of a core that is lent, read and stored where they lie.
+ghost use mathlib.Core.Path.{_≡_};
+ghost use lib.ListN.{length};
+ghost use Rattle.lent_parts.specs.Parts.{hintedIn, pageIn, commitIn, keptIn};
+use mmu::core::Core;
+use operations::change;
+use operations::change::Change;
+use operations::change::Hinted;
+use operations::change::Page;
+use operations::hinted;
+use tlb::access::Kind;
+use tlb::count;
+
+// What is read first.
+pub fn take_hint(core: &mut Core, va: u64, kind: Kind) -> Hinted
+    ensures { λ r. ⌜ (r ≡ hintedIn (now (core .entry)) va kind) × (now (core .exit) ≡ now (core .entry)) ⌝ }
+{
+    let privilege = core.privilege;
+    let i = hinted::hint_place(va, kind);
+    let hint = core.tlb.cache.hints[i];
+    let fetch = core.tlb.cache.fetch;
+    let last_pa = core.last_pa;
+    let abort_pa = core.abort_pa;
+    Hinted {
+        privilege,
+        hint,
+        fetch,
+        last_pa,
+        abort_pa,
+    }
+}
+
+// What a page's translation reads.
+pub fn take_page(core: &mut Core, va: u64, kind: Kind) -> Page
+    ensures { λ r. ⌜ (r ≡ pageIn (now (core .entry)) va kind) × (now (core .exit) ≡ now (core .entry))
+        × (length (now (core .entry) .tlb .cache .hints) ≡ 512)
+        × (length (now (core .entry) .tlb .cache .entries) ≡ 1024) ⌝ }
+{
+    let privilege = core.privilege;
+    let control = core.control;
+    let k = change::lookup_of(control, privilege, va, kind);
+    let current = core.tlb.cache.current;
+    let hint = core.tlb.cache.hints[k.hint];
+    let entry = core.tlb.cache.entries[k.entry];
+    Page {
+        lookup: k,
+        current,
+        hint,
+        entry,
+    }
+}
+
+// What a translation changes, stored.
+pub fn commit(core: &mut Core, t: Change)
+    ensures { λ r. ⌜ now (core .exit) ≡ commitIn (now (core .entry)) t ⌝ }
+{
+    match t.effect {
+        1 => {
+            let counts = core.tlb.counts;
+            let n = count::hit(counts);
+            core.tlb.counts = n;
+        }
+        2 => {
+            let counts = core.tlb.counts;
+            let n = count::walk(counts);
+            core.tlb.counts = n;
+        }
+        3 => {
+            let counts = core.tlb.counts;
+            let n = count::walk(counts);
+            core.tlb.counts = n;
+            core.tlb.cache.entries[t.entry_at % 1024] = t.made;
+        }
+        _ => {}
+    }
+    if t.hints {
+        core.tlb.cache.hints[t.hint_at % 512] = t.hint;
+    }
+    if t.fetches {
+        core.tlb.cache.fetch = t.fetch;
+    }
+}
+
+// The addresses kept: the last load's, and the last external abort's.
+pub fn keep(core: &mut Core, last: u64, abort: u64)
+    ensures { λ r. ⌜ now (core .exit) ≡ keptIn (now (core .entry)) last abort ⌝ }
+{
+    core.last_pa = last;
+    core.abort_pa = abort;
+}

@@ -1,0 +1,121 @@
+-- What a translation changes, as the code computes it.
+use mathlib.Core.Path.{_≡_}
+use mathlib.Core.Bool.{Bool, true, false, _&&_}
+use lib.Dec.{eqb}
+use Prim.Native.Nat.{ℕ, _<_}
+use native.Mathlib.Omega.{arith}
+use Rattle.word.specs.declared.ram.Word.{Word}
+use Rattle.sysreg.specs.declared.regs.Control.{Control}
+use Rattle.walk.specs.Regime.{bankOf, regimeOf}
+use Rattle.walk.specs.declared.regime.Bank.{Bank}
+use Rattle.tlb.specs.Access.{mayHint}
+use Rattle.tlb.specs.Entry.{blank, slotOf}
+use Rattle.tlb.specs.Hint.{hintFor, noHint, noFetch, fetchFor, onPage}
+use Rattle.tlb.specs.Resolve.{askOf, resolveOf}
+use Rattle.tlb.specs.declared.access.Answer.the-variants.{Address}
+use Rattle.tlb.specs.declared.access.Kind.{Kind}
+use Rattle.tlb.specs.declared.access.Privilege.{Privilege}
+use Rattle.tlb.specs.declared.entry.Entry.{Entry}
+use Rattle.tlb.specs.declared.entry.Current.{Current}
+use Rattle.tlb.specs.declared.hint.FetchHint.{FetchHint}
+use Rattle.tlb.specs.declared.hint.Hint.{Hint}
+use Rattle.tlb.specs.declared.resolve.Asked.{Asked}
+use Rattle.tlb.specs.declared.resolve.Asked.the-variants.{Flat, Of}
+use Rattle.tlb.specs.declared.resolve.Query.{Query}
+use Rattle.tlb.specs.declared.resolve.Resolved.{Resolved}
+use Rattle.tlb.specs.declared.resolve.Source.the-variants.{FromFlat}
+use Rattle.operations.specs.Replies.{translation}
+use Rattle.operations.specs.declared.call.Reply.{Reply}
+use Rattle.operations.specs.Change.{entryPlace, lookupOf, effectOf, allowed, addressOf, missBy, changeOf, fetchChangeOf, unchanged, translatedOf, answeredOf, hintLeft, entryLeft, pageAfter}
+use Rattle.operations.specs.Hinted.{hintPlace, hintServes}
+use Rattle.operations.specs.declared.change.Change.{Change}
+use Rattle.operations.specs.declared.change.Translated.{Translated}
+use Rattle.operations.specs.declared.change.Lookup.{Lookup}
+use Rattle.operations.specs.declared.change.Page.{Page}
+use Rattle.operations.specs.declared.change.Answered.{Answered}
+
+module _ (a : Asked) where
+  pub place-of : (q : Query) (j : ℕ) → a ≡ Of q → j ≡ slotOf (q .tag) → j ≡ entryPlace a
+  place-of q j e ej = rw (e, ej)
+
+  module _ (s : Bank) (privilege : Privilege) (at : Current) (e : Entry) (va : ℕ) (kind : Kind) (memory : ℕ → Word) where
+    pub miss-flat : (made : Entry) → a ≡ Flat → made ≡ blank
+        → _≡_ {A = Resolved} (record { answer = Address va; source = FromFlat; made = made }) (missBy a s privilege at e va kind memory)
+    unfolding missBy
+    miss-flat made ea em = rw (ea, em)
+
+    pub miss-of : (q : Query) (r : Resolved) → a ≡ Of q → r ≡ resolveOf q s privilege at e va kind memory → r ≡ missBy a s privilege at e va kind memory
+    unfolding missBy
+    miss-of q r ea er = rw (ea, er)
+
+pub lookup-is : (c : Control) (privilege : Privilege) (va : ℕ) (kind : Kind) (s : Bank) (a : Asked) (i j : ℕ) → s ≡ bankOf c (regimeOf (privilege .level))
+    → a ≡ askOf s privilege va → i ≡ hintPlace va kind → j ≡ entryPlace a
+    → _≡_ {A = Lookup} (record { privilege = privilege; bank = s; asked = a; hint = i; entry = j }) (lookupOf c privilege va kind)
+lookup-is c privilege va kind s a i j es ea ei ej = rw (ej, ea, es, ei)
+
+module _ (k : Lookup) (t : Resolved) (va : ℕ) (is : Bool) (pa n : ℕ) (es : is ≡ allowed (t .answer)) (ep : pa ≡ addressOf (t .answer)) (en : n ≡ effectOf (t .source)) where
+  pub change-is : (kind : Kind) (may : Bool) (h : Hint) (f : FetchHint) → may ≡ mayHint (k .privilege) kind → h ≡ hintFor va (k .privilege .level) pa → f ≡ noFetch
+      → _≡_ {A = Change} (record { «hint_at» = k .hint; «entry_at» = k .entry; effect = n; hints = may && is; fetches = false; hint = h; fetch = f; made = t .made })
+      (changeOf k t va kind)
+  change-is kind may h f em eh ef = rw (em, es, eh, ep, en, ef)
+
+  pub fetch-change-is : (h : Hint) (f : FetchHint) → h ≡ noHint → f ≡ fetchFor va (k .privilege .level) pa
+      → _≡_ {A = Change} (record { «hint_at» = k .hint; «entry_at» = k .entry; effect = n; hints = false; fetches = is; hint = h; fetch = f; made = t .made })
+      (fetchChangeOf k t va)
+  fetch-change-is h f eh ef = rw (eh, ef, ep, es, en)
+
+pub unchanged-is : (k : Lookup) (h : Hint) (f : FetchHint) (made : Entry) → h ≡ noHint → f ≡ noFetch → made ≡ blank
+    → _≡_ {A = Change} (record { «hint_at» = k .hint; «entry_at» = k .entry; effect = 0; hints = false; fetches = false; hint = h; fetch = f; made = made }) (unchanged k)
+unchanged-is k h f made eh ef em = rw (eh, ef, em)
+
+-- a translation on the cells taken out
+pub by-hint-is : (k : Lookup) (h : Hint) (va : ℕ) (c : Change) (pa : ℕ) → c ≡ unchanged k → pa ≡ onPage (h .pa) va
+    → _≡_ {A = Answered} (record { change = c; answer = Address pa }) (record { change = unchanged k; answer = Address (onPage (h .pa) va) })
+by-hint-is k h va c pa ec ep = rw (ec, ep)
+
+module _ (x : Page) (va : ℕ) (kind : Kind) (memory : ℕ → Word) (hit : Bool) (eh : hit ≡ hintServes (x .hint) (x .lookup .privilege) va kind) where
+  pub resolve-page-hit : (r : Answered) → hit ≡ true → r ≡ record { change = unchanged (x .lookup); answer = Address (onPage (x .hint .pa) va) } → r ≡ answeredOf x va kind memory
+  unfolding answeredOf
+  resolve-page-hit r e er = rw (← eh, e) er
+
+  pub resolve-page-miss : (t : Resolved) (c : Change) → hit ≡ false
+      → t ≡ missBy (x .lookup .asked) (x .lookup .bank) (x .lookup .privilege) (x .current) (x .entry) va kind memory → c ≡ changeOf (x .lookup) t va kind
+      → _≡_ {A = Answered} (record { change = c; answer = t .answer }) (answeredOf x va kind memory)
+  unfolding answeredOf
+  resolve-page-miss t c e et ec = rw (← eh, e, ← et, ec)
+
+-- a page, as an earlier change leaves it
+module _ (same : Bool) (f : Change) (k : Lookup) where
+  pub hint-taken : (h : Hint) → same ≡ (f .hints && eqb (k .hint) (f .«hint_at»)) → same ≡ true → f .hint ≡ hintLeft f k h
+  hint-taken h e t = rw (← e, t)
+
+  pub hint-kept : (h : Hint) → same ≡ (f .hints && eqb (k .hint) (f .«hint_at»)) → same ≡ false → h ≡ hintLeft f k h
+  hint-kept h e t = rw (← e, t)
+
+  pub entry-taken : (e : Entry) → same ≡ (eqb (f .effect) 3 && eqb (k .entry) (f .«entry_at»)) → same ≡ true → f .made ≡ entryLeft f k e
+  entry-taken e es t = rw (← es, t)
+
+  pub entry-kept : (e : Entry) → same ≡ (eqb (f .effect) 3 && eqb (k .entry) (f .«entry_at»)) → same ≡ false → e ≡ entryLeft f k e
+  entry-kept e es t = rw (← es, t)
+
+pub after-is : (f : Change) (y : Page) (h : Hint) (e : Entry) → h ≡ hintLeft f (y .lookup) (y .hint) → e ≡ entryLeft f (y .lookup) (y .entry)
+    → _≡_ {A = Page} (record { lookup = y .lookup; current = y .current; hint = h; entry = e }) (pageAfter f y)
+after-is f y h e eh ee = λ i. record { lookup = y .lookup; current = y .current; hint = eh i; entry = ee i }
+
+pub translated-is : (x : Page) (va : ℕ) (kind : Kind) (memory : ℕ → Word) (t : Resolved) (c : Change) (y : Reply)
+    → t ≡ missBy (x .lookup .asked) (x .lookup .bank) (x .lookup .privilege) (x .current) (x .entry) va kind memory
+    → c ≡ changeOf (x .lookup) t va kind → y ≡ translation va (t .answer)
+    → _≡_ {A = Translated} (record { change = c; reply = y }) (translatedOf x va kind memory)
+unfolding translatedOf
+translated-is x va kind memory t c y et ec ey = rw (← et, ec, ey)
+
+-- a hint's place lies within its array
+pub hint-within-512 : (va : ℕ) (kind : Kind) (i : ℕ) → i ≡ hintPlace va kind → i < 512
+hint-within-512 va kind i e = rw e (omega arith)
+
+place-small : (a : Asked) → entryPlace a < 1024
+place-small Flat = omega arith
+place-small (Of q) = omega arith
+
+pub lookup-within : (c : Control) (privilege : Privilege) (va : ℕ) (kind : Kind) (k : Lookup) → k ≡ lookupOf c privilege va kind → (k .hint < 512) × (k .entry < 1024)
+lookup-within c privilege va kind k e = rw e (omega arith, place-small (askOf (bankOf c (regimeOf (privilege .level))) privilege va))

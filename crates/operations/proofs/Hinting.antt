@@ -1,0 +1,121 @@
+-- The work on small values put together from its parts, on plain values, for `search`.
+use mathlib.Core.Path.{_≡_, refl}
+use mathlib.Core.Bool.{Bool, true, false, _&&_}
+use Prim.Native.Nat.{ℕ, zero, suc, _-_}
+use mathlib.Core.List.{List}
+use lib.Dec.{eqb}
+use lib.ListN.{length}
+use Rattle.word.specs.Ram.{wordAt}
+use Rattle.word.specs.declared.ram.Word.{Word}
+use Rattle.fault.specs.declared.Fault.{Fault}
+use Rattle.tlb.specs.Access.{mayHint}
+use Rattle.tlb.specs.Hint.{hintKey, onPage, fetchFound}
+use Rattle.tlb.specs.declared.access.Answer.{Answer}
+use Rattle.tlb.specs.declared.access.Answer.the-variants.{Address, Status}
+use Rattle.tlb.specs.declared.access.Kind.{Kind}
+use Rattle.tlb.specs.declared.access.Kind.the-variants.{Fetch}
+use Rattle.tlb.specs.declared.resolve.Resolved.{Resolved}
+use Rattle.tlb.specs.declared.access.Privilege.{Privilege}
+use Rattle.tlb.specs.declared.hint.Hint.{Hint}
+use Rattle.tlb.specs.declared.hint.FetchHint.{FetchHint}
+use Rattle.tlb.specs.declared.hint.HintAnswer.{HintAnswer}
+use Rattle.tlb.specs.declared.hint.HintAnswer.the-variants.{At, Unknown}
+use Rattle.exception.specs.declared.kind.Exception.{Exception}
+use Rattle.exception.specs.declared.kind.Stop.the-variants as Stop
+use Rattle.operations.specs.Bytes.{insnOf}
+use Rattle.operations.specs.Ends.{fetchEnd}
+use Rattle.operations.specs.declared.bytes.Insn.{Insn}
+use Rattle.operations.specs.declared.bytes.Insn.the-variants as Insn
+use Rattle.operations.specs.declared.ends.FetchAnswer.{FetchAnswer}
+use Rattle.operations.specs.declared.ends.FetchAnswer.the-variants as Fetched
+use Rattle.operations.specs.declared.ends.FetchEnd.{FetchEnd}
+use Rattle.operations.specs.Check.{ramRows, firstOf}
+use Rattle.operations.specs.Replies.{translation, fetching}
+use Rattle.operations.specs.declared.call.Reply.{Reply}
+use Rattle.operations.specs.declared.call.Reply.the-variants.{Refused, Done, Value, Stopped}
+use Rattle.operations.specs.declared.call.Reply.the-variants as Reply
+use Rattle.operations.specs.Hinted.{hintServes, fastBy, fastOf}
+use Rattle.operations.specs.Fetches.{fastFetchBy, fastFetch, fetchAnsweredOf, fetchedOf}
+use Rattle.operations.specs.Change.{missBy, fetchChangeOf, unchanged}
+use Rattle.operations.specs.declared.change.Change.{Change}
+use Rattle.operations.specs.declared.change.Hinted.{Hinted}
+use Rattle.operations.specs.declared.change.Page.{Page}
+use Rattle.operations.specs.declared.change.Answered.{Answered}
+use Rattle.operations.specs.declared.fetches.FetchAccess.{FetchAccess}
+use Rattle.operations.specs.declared.hinted.Fast.{Fast}
+
+pub reply-at : (va : ℕ) (a : Answer) (pa : ℕ) → a ≡ Address pa → Value pa ≡ translation va a
+reply-at va a pa e = rw e
+
+pub reply-fault : (va : ℕ) (a : Answer) (f : Fault) → a ≡ Status f → Reply.Fault va f ≡ translation va a
+reply-fault va a f e = rw e
+
+pub served-is : (h : Hint) (privilege : Privilege) (va : ℕ) (kind : Kind) (may : Bool) (key : ℕ) → may ≡ mayHint privilege kind → key ≡ hintKey va (privilege .level)
+    → (may && eqb (h .key) key) ≡ hintServes h privilege va kind
+served-is h privilege va kind may key em ek = rw (em, ek)
+
+module _ (privilege : Privilege) (h : Hint) (base len va : ℕ) (kind : Kind) (n : ℕ) (en : n ≡ firstOf (ramRows (privilege .level) base len)) where
+  pub quick-refused : (n ≡ 0 → ⊥) → _≡_ {A = Fast} (record { ends = true; reply = Refused n }) (fastOf privilege h base len va kind)
+  unfolding fastOf
+  quick-refused ne = rw (← en) (go n ne)
+    where
+      go : (m : ℕ) → (m ≡ 0 → ⊥) → _≡_ {A = Fast} (record { ends = true; reply = Refused m }) (fastBy m (hintServes h privilege va kind) (onPage (h .pa) va))
+      go zero ne = absurd (ne refl)
+      go (suc m) ne = refl
+
+  module _ (z : n ≡ 0) (hit : Bool) (eh : hit ≡ hintServes h privilege va kind) where
+    pub quick-hint : (pa : ℕ) → hit ≡ true → pa ≡ onPage (h .pa) va → _≡_ {A = Fast} (record { ends = true; reply = Value pa }) (fastOf privilege h base len va kind)
+    unfolding fastOf
+    quick-hint pa t ep = rw (← en, z, ← eh, t, ep)
+
+    pub quick-none : hit ≡ false → _≡_ {A = Fast} (record { ends = false; reply = Done }) (fastOf privilege h base len va kind)
+    unfolding fastOf
+    quick-none t = rw (← en, z, ← eh, t)
+
+-- FETCHES
+
+module _ (privilege : Privilege) (f : FetchHint) (base : ℕ) (ram : List ℕ) (va n : ℕ) (en : n ≡ firstOf (ramRows (privilege .level) base (length ram))) where
+  pub fetch-refused : (n ≡ 0 → ⊥) → _≡_ {A = Fast} (record { ends = true; reply = Refused n }) (fastFetch privilege f base ram va)
+  unfolding fastFetch
+  fetch-refused ne = rw (← en) (go n ne)
+    where
+      go : (m : ℕ) → (m ≡ 0 → ⊥) → _≡_ {A = Fast} (record { ends = true; reply = Refused m }) (fastFetchBy m (fetchFound f (privilege .level) va) base ram)
+      go zero ne = absurd (ne refl)
+      go (suc m) ne = refl
+
+  module _ (z : n ≡ 0) (p : HintAnswer) (ep : p ≡ fetchFound f (privilege .level) va) where
+    pub fetch-none : p ≡ Unknown → _≡_ {A = Fast} (record { ends = false; reply = Done }) (fastFetch privilege f base ram va)
+    unfolding fastFetch
+    fetch-none e = rw (← en, z, ← ep, e)
+
+    module _ (pa : ℕ) (e : p ≡ At pa) (g : Insn) (eg : g ≡ insnOf base ram pa) where
+      pub fetch-value : (v : ℕ) → g ≡ Insn.Value v → _≡_ {A = Fast} (record { ends = true; reply = Value v }) (fastFetch privilege f base ram va)
+      unfolding fastFetch
+      fetch-value v ev = rw (← en, z, ← ep, e, ← eg, ev)
+
+      pub fetch-outside : g ≡ Insn.Outside → _≡_ {A = Fast} (record { ends = false; reply = Done }) (fastFetch privilege f base ram va)
+      unfolding fastFetch
+      fetch-outside ev = rw (← en, z, ← ep, e, ← eg, ev)
+
+pub insn-value : (a : FetchAnswer) (v : ℕ) → a ≡ Fetched.Value v → Value v ≡ fetching a
+insn-value a v e = rw e
+
+pub insn-aborted : (a : FetchAnswer) (x : Exception) → a ≡ Fetched.Aborted x → Stopped (Stop.Exception x) ≡ fetching a
+insn-aborted a x e = rw e
+
+module _ (f : FetchHint) (x : Page) (va : ℕ) (memory : ℕ → Word) (p : HintAnswer) (ep : p ≡ fetchFound f (x .lookup .privilege .level) va) where
+  pub fetch-resolve-page-hit : (pa : ℕ) (c : Change) → p ≡ At pa → c ≡ unchanged (x .lookup) → _≡_ {A = Answered} (record { change = c; answer = Address pa }) (fetchAnsweredOf f x va memory)
+  unfolding fetchAnsweredOf
+  fetch-resolve-page-hit pa c e ec = rw (← ep, e, ec)
+
+  pub fetch-resolve-page-miss : (t : Resolved) (c : Change) → p ≡ Unknown
+      → t ≡ missBy (x .lookup .asked) (x .lookup .bank) (x .lookup .privilege) (x .current) (x .entry) va Fetch memory → c ≡ fetchChangeOf (x .lookup) t va
+      → _≡_ {A = Answered} (record { change = c; answer = t .answer }) (fetchAnsweredOf f x va memory)
+  unfolding fetchAnsweredOf
+  fetch-resolve-page-miss t c e et ec = rw (← ep, e, ← et, ec)
+
+pub fetched-is : (g : Hinted) (x : Page) (va base : ℕ) (ram : List ℕ) (t : Answered) (e : FetchEnd) (y : Reply) → t ≡ fetchAnsweredOf (g .fetch) x va (wordAt base ram 8)
+    → e ≡ fetchEnd (t .answer) (g .«abort_pa») base ram va → y ≡ fetching (e .answer)
+    → _≡_ {A = FetchAccess} (record { change = t .change; «last_pa» = g .«last_pa»; «abort_pa» = e .«abort_pa»; reply = y }) (fetchedOf g x va base ram)
+unfolding fetchedOf
+fetched-is g x va base ram t e y et ee ey = rw (← et, ← ee, ey)

@@ -1,0 +1,33 @@
+-- `operations::check::system` meets its contract.
+use borrow.Author.Needs.{needs}
+use Rattle.operations.proofs.check.system.Statement.{statement}
+use Rattle.operations.proofs.check.system.Tie as tie
+use Rattle.operations.proofs.Checks.{rows}
+use Rattle.operations.specs.Check.{missedOf}
+
+returns : tie.Need-returns
+unfolding missedOf
+returns c = search (rows, needs)
+
+past-end-requires : tie.Need-past-end-requires
+past-end-requires c κs = search needs
+
+returns-2 : tie.Need-returns-2
+unfolding missedOf
+returns-2 c = search (rows, needs)
+
+returns-3 : tie.Need-returns-3
+unfolding missedOf
+returns-3 c = search (rows, needs)
+
+returns-4 : tie.Need-returns-4
+unfolding missedOf
+returns-4 c = search (rows, needs)
+
+returns-5 : tie.Need-returns-5
+unfolding missedOf
+returns-5 c = search (rows, needs)
+
+pub system-spec : {M : Type 1} → statement M
+system-spec =
+    tie.close (tie.spec returns past-end-requires returns-2 returns-3 returns-4 returns-5)

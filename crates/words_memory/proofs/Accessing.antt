@@ -1,0 +1,191 @@
+-- Loads and stores in place put together from their parts, on plain values, for `search`.
+use mathlib.Core.Path.{_≡_, refl, sym, ap, _∙_}
+use mathlib.Core.Bool.{Bool, true, false}
+use mathlib.Core.List.{List}
+use Prim.Native.Nat.{ℕ}
+use Rattle.word.specs.Ram.{wordAt}
+use Rattle.word.specs.declared.ram.Word.{Word}
+use Rattle.walk.specs.Regime.{bankOf, regimeOf, stage1On}
+use Rattle.walk.specs.declared.regime.Regime.{Regime}
+use Rattle.walk.specs.declared.regime.Bank.{Bank}
+use Rattle.tlb.specs.declared.access.Kind.{Kind}
+use Rattle.tlb.specs.declared.access.Kind.the-variants.{Read, Write}
+use Rattle.tlb.specs.declared.access.Privilege.{Privilege}
+use Rattle.tlb.specs.declared.access.Answer.{Answer}
+use Rattle.tlb.specs.declared.Tlb.{Tlb}
+use Rattle.mmu.specs.Core.{afterAccess, bankNow}
+use Rattle.operations.specs.Place.{nextPage, crosses, goesOn, placedOne, placedBoth}
+use Rattle.mmu.specs.Step.{translateIn, locatedOf}
+use Rattle.operations.specs.Ends.{loadEnd, storeEnd, storeRamEnd}
+use Rattle.mmu.specs.Ops.{withTlb, steppedNow, locatedNow, translateOf, translateAccessOf, readOf, writeOf, ramAfterWrite}
+use Rattle.mmu.specs.declared.core.Core.{Core}
+use Rattle.operations.specs.declared.place.Placed.{Placed}
+use Rattle.operations.specs.declared.ends.LoadEnd.{LoadEnd}
+use Rattle.operations.specs.declared.ends.StoreEnd.{StoreEnd}
+use Rattle.operations.specs.declared.ends.LoadAnswer.{LoadAnswer}
+use Rattle.operations.specs.declared.ends.StoreAnswer.{StoreAnswer}
+use Rattle.mmu.specs.declared.ops.Accessed.{Accessed}
+use Rattle.mmu.specs.declared.ops.Translated.{Translated}
+use Rattle.words.specs.CoreOf.{coreOf}
+use Rattle.words.specs.Parts.{withLast, withAbort}
+use Rattle.words.specs.NowHolds.{NowHolds, holds-as, holds-on}
+use Rattle.words_memory.specs.Accessed.{loadEndOf, storeEndOf, keptLast, keptAbort}
+
+pub on-now : (c : Core) (privilege : Privilege) (r : Regime) (s : Bank) (b : Bool) → privilege ≡ c .privilege → r ≡ regimeOf (privilege .level) → s ≡ bankOf (c .control) r
+    → b ≡ stage1On s r → b ≡ stage1On (bankNow c) (regimeOf (c .privilege .level))
+on-now c privilege r s b ew er es eb =
+    let own : r ≡ regimeOf (c .privilege .level) = er ∙ ap (λ (x : Privilege). regimeOf (x .level)) ew in
+    eb ∙ λ i. stage1On ((es ∙ ap (bankOf (c .control)) own) i) (own i)
+
+-- TWO PAGES
+
+-- a second translation, by what the first left
+second-is : (c : Core) (t : Tlb) (memory : ℕ → Word) (va : ℕ) (kind : Kind)
+    → steppedNow (withTlb c t) memory va kind ≡ translateIn (bankNow c) (c .privilege) memory va kind t
+unfolding steppedNow afterAccess
+second-is c t memory va kind = refl
+
+module _ (c : Core) (memory : ℕ → Word) (va n : ℕ) (kind : Kind) where
+  abbrev test : Bool
+  test = goesOn (translateOf c memory va kind .answer) (crosses (stage1On (bankNow c) (regimeOf (c .privilege .level))) va n)
+
+  abbrev one : Accessed
+  one = record { core = translateOf c memory va kind .core; placed = placedOne va (translateOf c memory va kind .answer) }
+
+  pub one-is : test ≡ false → translateAccessOf c memory va n kind ≡ one
+  unfolding translateAccessOf locatedNow locatedOf translateOf steppedNow
+  one-is f = rw f
+
+  abbrev after : Core
+  after = translateOf c memory va kind .core
+
+  abbrev both : Accessed
+  both =
+      record {
+        core = translateOf after memory (nextPage va) kind .core;
+        placed = placedBoth va (translateOf c memory va kind .answer) (translateOf after memory (nextPage va) kind .answer);
+      }
+
+  pub both-is : test ≡ true → translateAccessOf c memory va n kind ≡ both
+  unfolding translateAccessOf locatedNow locatedOf translateOf steppedNow afterAccess
+  both-is t = rw t
+
+module _ (ws : List ℕ) (memory : ℕ → Word) (va n : ℕ) (kind : Kind) (on split more : Bool) (a : Answer)
+    (eo : on ≡ stage1On (bankNow (coreOf ws)) (regimeOf (coreOf ws .privilege .level))) (es : split ≡ crosses on va n)
+    (ea : a ≡ translateOf (coreOf ws) memory va kind .answer) (em : more ≡ goesOn a split) where
+  own-test : test (coreOf ws) memory va n kind ≡ more
+  own-test = sym (em ∙ λ i. goesOn (ea i) ((es ∙ ap (λ (b : Bool). crosses b va n) eo) i))
+
+  abbrev accessed : Accessed
+  accessed = translateAccessOf (coreOf ws) memory va n kind
+
+  pub one-placed : (p : Placed) → more ≡ false → p ≡ placedOne va a → p ≡ accessed .placed
+  one-placed p f e =
+      e ∙ ap (placedOne va) ea ∙ sym (ap (λ (x : Accessed). x .placed) (one-is (coreOf ws) memory va n kind (own-test ∙ f)))
+
+  pub one-core : (xs : List ℕ) → more ≡ false → NowHolds ws xs (translateOf (coreOf ws) memory va kind .core) → NowHolds ws xs (accessed .core)
+  one-core xs f m = holds-as m (sym (ap (λ (x : Accessed). x .core) (one-is (coreOf ws) memory va n kind (own-test ∙ f))))
+
+  module _ (xs : List ℕ) (next : ℕ) (t : more ≡ true) (m : NowHolds ws xs (translateOf (coreOf ws) memory va kind .core)) (en : next ≡ nextPage va) where
+    second : translateOf (coreOf xs) memory next kind ≡ translateOf (translateOf (coreOf ws) memory va kind .core) memory (nextPage va) kind
+    second = λ i. translateOf (m .holds i) memory (en i) kind
+
+    pub both-placed : (b : Answer) (p : Placed) → b ≡ translateOf (coreOf xs) memory next kind .answer → p ≡ placedBoth va a b → p ≡ accessed .placed
+    both-placed b p q e =
+        e ∙ (λ i. placedBoth va (ea i) ((q ∙ ap (λ (x : Translated). x .answer) second) i))
+        ∙ sym (ap (λ (x : Accessed). x .placed) (both-is (coreOf ws) memory va n kind (own-test ∙ t)))
+
+    pub both-core : (ys : List ℕ) → NowHolds xs ys (translateOf (coreOf xs) memory next kind .core) → NowHolds ws ys (accessed .core)
+    both-core ys q =
+        holds-on (λ c. translateOf c memory next kind .core) m q
+        (ap (λ (k : ℕ). translateOf (translateOf (coreOf ws) memory va kind .core) memory k kind .core) en
+        ∙ sym (ap (λ (x : Accessed). x .core) (both-is (coreOf ws) memory va n kind (own-test ∙ t))))
+
+-- LOADS
+
+module _ (ws : List ℕ) (placed : Placed) (last abort base : ℕ) (ram : List ℕ) (va n : ℕ) (e : LoadEnd) (el : last ≡ coreOf ws .«last_pa»)
+    (eb : abort ≡ coreOf ws .«abort_pa») (ee : e ≡ loadEnd placed last abort base ram va n) where
+  end-is : e ≡ loadEndOf (coreOf ws) placed base ram va n
+  end-is = ee ∙ λ i. loadEnd placed (el i) (eb i) base ram va n
+
+  pub load-answer : e .answer ≡ loadEndOf (coreOf ws) placed base ram va n .answer
+  load-answer = ap (λ (x : LoadEnd). x .answer) end-is
+
+  pub load-kept : (xs ys : List ℕ) → NowHolds ws xs (withLast (coreOf ws) (e .«last_pa»)) → NowHolds xs ys (withAbort (coreOf xs) (e .«abort_pa»))
+      → NowHolds ws ys (keptLast (coreOf ws) (loadEndOf (coreOf ws) placed base ram va n))
+  unfolding keptLast
+  load-kept xs ys m q = holds-on (λ c. withAbort c (e .«abort_pa»)) m q (ap (keptLast (coreOf ws)) end-is)
+
+pub load-parts : (c : Core) (base : ℕ) (ram : List ℕ) (va n : ℕ) (p : Placed) (d : Core) → p ≡ translateAccessOf c (wordAt base ram 8) va n Read .placed
+    → d ≡ translateAccessOf c (wordAt base ram 8) va n Read .core
+    → (loadEndOf d p base ram va n .answer ≡ readOf c base ram va n .answer)
+    × (keptLast d (loadEndOf d p base ram va n) ≡ readOf c base ram va n .core)
+unfolding readOf translateAccessOf keptLast withLast withAbort afterAccess
+load-parts c base ram va n p d ep ed = rw (ep, ed) (refl, refl)
+
+module _ (ws xs : List ℕ) (base : ℕ) (ram : List ℕ) (va n k : ℕ) (p : Placed) (ek : k ≡ n)
+    (ep : p ≡ translateAccessOf (coreOf ws) (wordAt base ram 8) va k Read .placed)
+    (m : NowHolds ws xs (translateAccessOf (coreOf ws) (wordAt base ram 8) va k Read .core)) where
+  parts : (loadEndOf (coreOf xs) p base ram va n .answer ≡ readOf (coreOf ws) base ram va n .answer)
+      × (keptLast (coreOf xs) (loadEndOf (coreOf xs) p base ram va n) ≡ readOf (coreOf ws) base ram va n .core)
+  parts = load-parts (coreOf ws) base ram va n p (coreOf xs) (ep ∙ same-placed) (m .holds ∙ same-core)
+    where
+      same-placed : translateAccessOf (coreOf ws) (wordAt base ram 8) va k Read .placed ≡ translateAccessOf (coreOf ws) (wordAt base ram 8) va n Read .placed
+      same-placed = ap (λ (j : ℕ). translateAccessOf (coreOf ws) (wordAt base ram 8) va j Read .placed) ek
+
+      same-core : translateAccessOf (coreOf ws) (wordAt base ram 8) va k Read .core ≡ translateAccessOf (coreOf ws) (wordAt base ram 8) va n Read .core
+      same-core = ap (λ (j : ℕ). translateAccessOf (coreOf ws) (wordAt base ram 8) va j Read .core) ek
+
+  pub read-answer : (a : LoadAnswer) → a ≡ loadEndOf (coreOf xs) p base ram va n .answer → a ≡ readOf (coreOf ws) base ram va n .answer
+  read-answer a e = e ∙ parts .0
+
+  pub read-core : (ys : List ℕ) → NowHolds xs ys (keptLast (coreOf xs) (loadEndOf (coreOf xs) p base ram va n))
+      → NowHolds ws ys (readOf (coreOf ws) base ram va n .core)
+  read-core ys q = record { long = q .long ∙ m .long; holds = q .holds ∙ parts .1 }
+
+-- STORES
+
+module _ (ws : List ℕ) (placed : Placed) (abort base : ℕ) (ram : List ℕ) (va n : ℕ) (e : StoreEnd) (eb : abort ≡ coreOf ws .«abort_pa»)
+    (ee : e ≡ storeEnd placed abort base ram va n) where
+  stored-is : e ≡ storeEndOf (coreOf ws) placed base ram va n
+  stored-is = ee ∙ ap (λ (x : ℕ). storeEnd placed x base ram va n) eb
+
+  pub store-answer : e .answer ≡ storeEndOf (coreOf ws) placed base ram va n .answer
+  store-answer = ap (λ (x : StoreEnd). x .answer) stored-is
+
+  pub store-kept : (xs : List ℕ) → NowHolds ws xs (withAbort (coreOf ws) (e .«abort_pa»))
+      → NowHolds ws xs (keptAbort (coreOf ws) (storeEndOf (coreOf ws) placed base ram va n .«abort_pa»))
+  unfolding keptAbort
+  store-kept xs m = holds-as m (ap (λ (x : StoreEnd). withAbort (coreOf ws) (x .«abort_pa»)) stored-is)
+
+pub store-parts : (c : Core) (base : ℕ) (ram : List ℕ) (va n v : ℕ) (p : Placed) (d : Core) → p ≡ translateAccessOf c (wordAt base ram 8) va n Write .placed
+    → d ≡ translateAccessOf c (wordAt base ram 8) va n Write .core
+    → (storeEndOf d p base ram va n .answer ≡ writeOf c base ram va n .answer)
+    × ((storeRamEnd p base ram n v ≡ ramAfterWrite c base ram va n v)
+    × (keptAbort d (storeEndOf d p base ram va n .«abort_pa») ≡ writeOf c base ram va n .core))
+unfolding writeOf ramAfterWrite translateAccessOf keptAbort withAbort afterAccess
+store-parts c base ram va n v p d ep ed = rw (ep, ed) (refl, (refl, refl))
+
+module _ (ws xs : List ℕ) (base : ℕ) (ram : List ℕ) (va n k v : ℕ) (p : Placed) (ek : k ≡ n)
+    (ep : p ≡ translateAccessOf (coreOf ws) (wordAt base ram 8) va k Write .placed)
+    (m : NowHolds ws xs (translateAccessOf (coreOf ws) (wordAt base ram 8) va k Write .core)) where
+  store-halves : (storeEndOf (coreOf xs) p base ram va n .answer ≡ writeOf (coreOf ws) base ram va n .answer)
+      × ((storeRamEnd p base ram n v ≡ ramAfterWrite (coreOf ws) base ram va n v)
+      × (keptAbort (coreOf xs) (storeEndOf (coreOf xs) p base ram va n .«abort_pa») ≡ writeOf (coreOf ws) base ram va n .core))
+  store-halves = store-parts (coreOf ws) base ram va n v p (coreOf xs) (ep ∙ same-placed) (m .holds ∙ same-core)
+    where
+      same-placed : translateAccessOf (coreOf ws) (wordAt base ram 8) va k Write .placed ≡ translateAccessOf (coreOf ws) (wordAt base ram 8) va n Write .placed
+      same-placed = ap (λ (j : ℕ). translateAccessOf (coreOf ws) (wordAt base ram 8) va j Write .placed) ek
+
+      same-core : translateAccessOf (coreOf ws) (wordAt base ram 8) va k Write .core ≡ translateAccessOf (coreOf ws) (wordAt base ram 8) va n Write .core
+      same-core = ap (λ (j : ℕ). translateAccessOf (coreOf ws) (wordAt base ram 8) va j Write .core) ek
+
+  pub write-answer : (a : StoreAnswer) → a ≡ storeEndOf (coreOf xs) p base ram va n .answer → a ≡ writeOf (coreOf ws) base ram va n .answer
+  write-answer a e = e ∙ store-halves .0
+
+  pub write-ram : (r : List ℕ) → r ≡ storeRamEnd p base ram n v → r ≡ ramAfterWrite (coreOf ws) base ram va n v
+  write-ram r e = e ∙ store-halves .1 .0
+
+  pub write-core : (ys : List ℕ) → NowHolds xs ys (keptAbort (coreOf xs) (storeEndOf (coreOf xs) p base ram va n .«abort_pa»))
+      → NowHolds ws ys (writeOf (coreOf ws) base ram va n .core)
+  write-core ys q = record { long = q .long ∙ m .long; holds = q .holds ∙ store-halves .1 .1 }

@@ -1,0 +1,283 @@
+-- The cell, the hint and the whole translation in place, on plain values, for `search`.
+use mathlib.Core.Path.{_≡_, refl, sym, ap, _∙_}
+use mathlib.Core.Bool.{Bool, true, false, _&&_}
+use mathlib.Core.List.{List}
+use Prim.Native.Nat.{ℕ, _+_, _%_, _^_, _<_, _≤_}
+use native.Mathlib.Omega.{arith}
+use borrow.Author.Tests.{eq-eqb, ne-eqb}
+use lib.Dec.{eqb}
+use Rattle.word.specs.Bits.{pick}
+use Rattle.word.specs.declared.ram.Word.{Word}
+use Rattle.fault.specs.First.{first}
+use Rattle.fault.specs.declared.Fault.{Fault}
+use Rattle.walk.specs.Regime.{bankOf, regimeOf}
+use Rattle.walk.specs.declared.regime.Regime.{Regime}
+use Rattle.walk.specs.declared.regime.Bank.{Bank}
+use Rattle.tlb.specs.Access.{mayHint}
+use Rattle.tlb.specs.Entry.{slotOf}
+use Rattle.tlb.specs.Hint.{dataSlot, hintKey, onPage, fetchFor, fetchFound}
+use Rattle.tlb.specs.Cache.{entryAt, hintAt}
+use Rattle.tlb.specs.Resolve.{queryOf, askOf, resolveOf, changesOf}
+use Rattle.tlb.specs.Translate.{untaggedNow, missOf, changes-are, asked-query}
+use Rattle.tlb.specs.declared.access.Kind.{Kind}
+use Rattle.tlb.specs.declared.access.Kind.the-variants.{Fetch}
+use Rattle.tlb.specs.declared.access.Privilege.{Privilege}
+use Rattle.tlb.specs.declared.access.Answer.{Answer}
+use Rattle.tlb.specs.declared.access.Answer.the-variants.{Address, Status}
+use Rattle.tlb.specs.declared.entry.Entry.{Entry}
+use Rattle.tlb.specs.declared.entry.Current.{Current}
+use Rattle.tlb.specs.declared.hint.Hint.{Hint}
+use Rattle.tlb.specs.declared.hint.FetchHint.{FetchHint}
+use Rattle.tlb.specs.declared.hint.HintAnswer.{HintAnswer}
+use Rattle.tlb.specs.declared.hint.HintAnswer.the-variants.{At, Unknown}
+use Rattle.tlb.specs.declared.resolve.Query.{Query}
+use Rattle.tlb.specs.declared.resolve.Asked.{Asked}
+use Rattle.tlb.specs.declared.resolve.Asked.the-variants.{Flat, Of}
+use Rattle.tlb.specs.declared.resolve.Resolved.{Resolved}
+use Rattle.mmu.specs.Core.{afterAccess, bankNow}
+use Rattle.mmu.specs.Step.{slotAt}
+use Rattle.mmu.specs.Ops.{withTlb, fetchSteppedNow, translateOf}
+use Rattle.mmu.specs.declared.core.Core.{Core}
+use Rattle.mmu.specs.declared.ops.Translated.{Translated}
+use Rattle.words.specs.CoreOf.{coreOf}
+use Rattle.words.specs.Parts.{withCache, withCounts, withEntry, withHint, withFetchHint}
+use Rattle.words.specs.NowHolds.{NowHolds, stays, holds-as, holds-on}
+use Rattle.words_memory.specs.Found.{codeOf, valueOf, answering, hintFound, fetchHint, noted, toldTo, sourced, committed, committing, lookedTo, foundTo, pagedBy, pagedTo, answerOf}
+use Rattle.words_memory.specs.FoundLaws.{unchanged, hint-serves, hint-misses}
+use Rattle.words_memory.specs.FetchLaws.{fetchTo, fetch-serves, fetch-misses}
+
+-- the cell that a query names
+module _ (ws : List ℕ) (q : Query) (privilege : Privilege) (kind : Kind) (va : ℕ) (memory : ℕ → Word) (slot : ℕ) (at : Current) (e : Entry) (s : Bank) (t : Resolved)
+    (eo : slot ≡ slotOf (q .tag)) (ea : at ≡ coreOf ws .tlb .cache .current) (ee : e ≡ entryAt (coreOf ws .tlb .cache) slot)
+    (es : s ≡ bankOf (coreOf ws .control) (q .regime)) (et : t ≡ resolveOf q s privilege at e va kind memory) where
+  looked-is : committing (coreOf ws) privilege kind va slot t ≡ lookedTo (coreOf ws) q privilege kind va memory
+  unfolding lookedTo
+  looked-is =
+      λ i.
+      committing (coreOf ws) privilege kind va (eo i)
+      ((et ∙ λ j. resolveOf q (es j) privilege (ea j) ((ee ∙ ap (entryAt (coreOf ws .tlb .cache)) eo) j) va kind memory) i)
+
+  pub look-code : (n : ℕ) → n ≡ codeOf (t .answer) → n ≡ codeOf (lookedTo (coreOf ws) q privilege kind va memory .answer)
+  look-code n p = p ∙ ap (λ (x : Translated). codeOf (x .answer)) looked-is
+
+  pub look-value : (v old : ℕ) → v ≡ valueOf (t .answer) old → v ≡ valueOf (lookedTo (coreOf ws) q privilege kind va memory .answer) old
+  look-value v old p = p ∙ ap (λ (x : Translated). valueOf (x .answer) old) looked-is
+
+  pub look-core : (xs : List ℕ) → NowHolds ws xs (committed (coreOf ws) privilege kind va slot t) → NowHolds ws xs (lookedTo (coreOf ws) q privilege kind va memory .core)
+  look-core xs m = holds-as m (ap (λ (x : Translated). x .core) looked-is)
+
+-- with stage 1 on and off
+module _ (ws : List ℕ) (memory : ℕ → Word) (va : ℕ) (kind : Kind) (privilege : Privilege) (r : Regime) (s : Bank) (a : Asked)
+    (ew : privilege ≡ coreOf ws .privilege) (er : r ≡ regimeOf (privilege .level)) (es : s ≡ bankOf (coreOf ws .control) r) (ea : a ≡ askOf s privilege va) where
+  abbrev c : Core
+  c = coreOf ws
+
+  abbrev found : Translated
+  found = foundTo c memory va kind
+
+  abbrev slot : ℕ
+  slot = slotAt (bankNow c) (c .privilege .level) va
+
+  abbrev own : Entry
+  own = entryAt (c .tlb .cache) slot
+
+  own-asked : askOf (bankNow c) (c .privilege) va ≡ a
+  own-asked =
+      sym (ea ∙ λ i. askOf ((es ∙ ap (bankOf (c .control)) (er ∙ ap (λ (x : Privilege). regimeOf (x .level)) ew)) i) (ew i) va)
+
+  changes-is : changesOf a (bankNow c) (c .privilege) (c .tlb .cache .current) own va kind memory
+      ≡ missOf (bankNow c) (c .privilege) (c .tlb .cache .current) own va kind memory
+  changes-is =
+      ap (λ (x : Asked). changesOf x (bankNow c) (c .privilege) (c .tlb .cache .current) own va kind memory) (sym own-asked)
+      ∙ changes-are (bankNow c) (c .privilege) (c .tlb .cache .current) own va kind memory
+
+  module _ (q : Query) (o : a ≡ Of q) where
+    query-is : q ≡ queryOf (regimeOf (c .privilege .level)) (untaggedNow (bankNow c) (c .privilege .level) va)
+    query-is = asked-query (bankNow c) (c .privilege) va q (own-asked ∙ o)
+
+    abbrev here : Translated
+    here = lookedTo c q privilege kind va memory
+
+    abbrev lookedFor : Regime → ℕ → Privilege → Translated
+    lookedFor regime place by =
+        committing c by kind va place
+        (resolveOf q (bankOf (c .control) regime) by (c .tlb .cache .current) (entryAt (c .tlb .cache) place) va kind memory)
+
+    found-is : here ≡ found
+    unfolding lookedTo foundTo
+    found-is =
+        (λ i. lookedFor (query-is i .regime) (slotOf (query-is i .tag)) (ew i))
+        ∙ ap (committing c (c .privilege) kind va slot)
+        (ap (λ (x : Asked). changesOf x (bankNow c) (c .privilege) (c .tlb .cache .current) own va kind memory) (sym o) ∙ changes-is)
+
+    pub on-code : (n : ℕ) → n ≡ codeOf (here .answer) → n ≡ codeOf (found .answer)
+    on-code n p = p ∙ ap (λ (x : Translated). codeOf (x .answer)) found-is
+
+    pub on-value : (v old : ℕ) → v ≡ valueOf (here .answer) old → v ≡ valueOf (found .answer) old
+    on-value v old p = p ∙ ap (λ (x : Translated). valueOf (x .answer) old) found-is
+
+    pub on-core : (xs : List ℕ) → NowHolds ws xs (here .core) → NowHolds ws xs (found .core)
+    on-core xs m = holds-as m (ap (λ (x : Translated). x .core) found-is)
+
+  module _ (f : a ≡ Flat) where
+    flat-is : answering (noted c privilege kind va va) (Address va) ≡ found
+    unfolding foundTo sourced
+    flat-is =
+        (λ i. answering (noted (sym (unchanged c slot) i) (ew i) kind va va) (Address va))
+        ∙ ap (committing c (c .privilege) kind va slot)
+        (ap (λ (x : Asked). changesOf x (bankNow c) (c .privilege) (c .tlb .cache .current) own va kind memory) (sym f) ∙ changes-is)
+
+    pub off-code : 0 ≡ codeOf (found .answer)
+    off-code = ap (λ (x : Translated). codeOf (x .answer)) flat-is
+
+    pub off-value : (old : ℕ) → va ≡ valueOf (found .answer) old
+    off-value old = ap (λ (x : Translated). valueOf (x .answer) old) flat-is
+
+    pub off-core : (xs : List ℕ) → NowHolds ws xs (noted c privilege kind va va) → NowHolds ws xs (found .core)
+    off-core xs m = holds-as m (ap (λ (x : Translated). x .core) flat-is)
+
+-- the hint
+module _ (ws : List ℕ) (va : ℕ) (kind : Kind) (privilege : Privilege) (b : Bool) (key i : ℕ) (h : Hint) (ew : privilege ≡ coreOf ws .privilege) (eb : b ≡ mayHint privilege kind)
+    (ek : key ≡ hintKey va (privilege .level)) (ei : i ≡ dataSlot va kind) (eh : h ≡ hintAt (coreOf ws .tlb .cache) i) where
+  abbrev own-hint : Hint
+  own-hint = hintAt (coreOf ws .tlb .cache) (dataSlot va kind)
+
+  hint-is : h ≡ own-hint
+  hint-is = eh ∙ ap (hintAt (coreOf ws .tlb .cache)) ei
+
+  hint-test : mayHint (coreOf ws .privilege) kind && eqb (own-hint .key) (hintKey va (coreOf ws .privilege .level)) ≡ b && eqb (h .key) key
+  hint-test =
+      sym ((λ n. eb n && eqb (hint-is n .key) (ek n)) ∙ ap (λ (x : Privilege). mayHint x kind && eqb (own-hint .key) (hintKey va (x .level))) ew)
+
+  pub hint-at : (pa : ℕ) → b && eqb (h .key) key ≡ true → pa ≡ onPage (h .pa) va → At pa ≡ hintFound (coreOf ws) va kind
+  unfolding hintFound
+  hint-at pa t e = ap At (e ∙ ap (λ (x : Hint). onPage (x .pa) va) hint-is) ∙ sym (rw (hint-test, t))
+
+  pub hint-none : b && eqb (h .key) key ≡ false → Unknown ≡ hintFound (coreOf ws) va kind
+  unfolding hintFound
+  hint-none f = sym (rw (hint-test, f))
+
+-- a number as an answer
+pub answer-zero : (code pa : ℕ) → code ≡ 0 → Address pa ≡ answerOf code pa
+answer-zero code pa e = sym (rw (eq-eqb code 0 e))
+
+pub answer-other : (code pa : ℕ) (f : Fault) → (code ≡ 0 → ⊥) → f ≡ first (code % 2 ^ 8) → Status f ≡ answerOf code pa
+answer-other code pa f e ef = rw (ne-eqb code 0 e, ef)
+
+-- and back: a number up to 511 has a status of eight bits
+code-back : (a : Answer) (old : ℕ) → codeOf a ≤ 511 → answerOf (codeOf a) (valueOf a old) ≡ a
+code-back (Address pa) old h = refl
+code-back (Status f) old h = rw (ne-eqb (256 + f .fsc) 0 (λ e. omega arith)) (ap (λ (n : ℕ). Status (first n)) (low (f .fsc) (omega arith)))
+  where
+    low : (n : ℕ) → n < 256 → (256 + n) % 256 ≡ n
+    low n g = omega arith
+
+pub answer-back : (a b : Answer) (code pa old : ℕ) → code ≤ 511 → code ≡ codeOf a → pa ≡ valueOf a old → b ≡ answerOf code pa → b ≡ a
+answer-back a b code pa old h ec ep e = e ∙ (λ i. answerOf (ec i) (ep i)) ∙ code-back a old (rw ec at h)
+
+-- the whole translation
+module _ (ws : List ℕ) (memory : ℕ → Word) (va : ℕ) (kind : Kind) (p : HintAnswer) (ep : p ≡ hintFound (coreOf ws) va kind) where
+  pub by-hint-answer : (pa : ℕ) → p ≡ At pa → Address pa ≡ translateOf (coreOf ws) memory va kind .answer
+  by-hint-answer pa e = sym (ap (λ (x : Translated). x .answer) (hint-serves (coreOf ws) memory va kind pa (sym ep ∙ e)))
+
+  pub by-hint-core : (pa : ℕ) → p ≡ At pa → NowHolds ws ws (translateOf (coreOf ws) memory va kind .core)
+  by-hint-core pa e = holds-as stays (sym (ap (λ (x : Translated). x .core) (hint-serves (coreOf ws) memory va kind pa (sym ep ∙ e))))
+
+  pub by-find-answer : (a : Answer) → p ≡ Unknown → a ≡ foundTo (coreOf ws) memory va kind .answer → a ≡ translateOf (coreOf ws) memory va kind .answer
+  by-find-answer a e q = q ∙ sym (ap (λ (x : Translated). x .answer) (hint-misses (coreOf ws) memory va kind (sym ep ∙ e)))
+
+  pub by-find-core : (xs : List ℕ) → p ≡ Unknown → NowHolds ws xs (foundTo (coreOf ws) memory va kind .core)
+      → NowHolds ws xs (translateOf (coreOf ws) memory va kind .core)
+  by-find-core xs e m = holds-as m (sym (ap (λ (x : Translated). x .core) (hint-misses (coreOf ws) memory va kind (sym ep ∙ e))))
+
+  -- by number
+  pub by-hint-code : (pa : ℕ) → p ≡ At pa → 0 ≡ codeOf (translateOf (coreOf ws) memory va kind .answer)
+  by-hint-code pa e = ap codeOf (by-hint-answer pa e)
+
+  pub by-hint-value : (pa old : ℕ) → p ≡ At pa → pa ≡ valueOf (translateOf (coreOf ws) memory va kind .answer) old
+  by-hint-value pa old e = ap (λ (a : Answer). valueOf a old) (by-hint-answer pa e)
+
+  pub by-find-code : (n : ℕ) → p ≡ Unknown → n ≡ codeOf (foundTo (coreOf ws) memory va kind .answer) → n ≡ codeOf (translateOf (coreOf ws) memory va kind .answer)
+  by-find-code n e q = q ∙ ap codeOf (by-find-answer _ e refl)
+
+  pub by-find-value : (v old : ℕ) → p ≡ Unknown → v ≡ valueOf (foundTo (coreOf ws) memory va kind .answer) old → v ≡ valueOf (translateOf (coreOf ws) memory va kind .answer) old
+  by-find-value v old e q = q ∙ ap (λ (a : Answer). valueOf a old) (by-find-answer _ e refl)
+
+-- the number says which answer it was
+pub code-at : (a : Answer) (code pa old : ℕ) → code ≡ codeOf a → code ≡ 0 → pa ≡ valueOf a old → a ≡ Address pa
+code-at (Address x) code pa old e z q = ap Address (sym q)
+code-at (Status fsc) code pa old e z q = absurd (omega (arith, e, z))
+
+-- a translation leaves the level as it is
+found-privilege : (c : Core) (memory : ℕ → Word) (va : ℕ) (kind : Kind) → foundTo c memory va kind .core .privilege ≡ c .privilege
+unfolding foundTo sourced noted withHint withEntry withCounts withCache afterAccess
+found-privilege c memory va kind = by (c-made .answer) (mayHint (c .privilege) kind) refl
+  where
+    c-made : Resolved
+    c-made = missOf (bankNow c) (c .privilege) (c .tlb .cache .current) (entryAt (c .tlb .cache) (slotAt (bankNow c) (c .privilege .level) va)) va kind memory
+
+    by : (a : Answer) (b : Bool) → mayHint (c .privilege) kind ≡ b
+        → toldTo (sourced c (slotAt (bankNow c) (c .privilege .level) va) (c-made .source) (c-made .made)) (c .privilege) kind va a .privilege ≡ c .privilege
+    by (Address pa) true e = rw e
+    by (Address pa) false e = rw e
+    by (Status fsc) b e = refl
+
+-- a fetch's page
+module _ (ws : List ℕ) (memory : ℕ → Word) (va code : ℕ) (ec : code ≡ codeOf (foundTo (coreOf ws) memory va Fetch .answer)) where
+  abbrev its-page : Translated
+  its-page = foundTo (coreOf ws) memory va Fetch
+
+  pub page-core : (pa old : ℕ) (privilege : Privilege) (xs ys : List ℕ) (h : FetchHint) → code ≡ 0 → pa ≡ valueOf (its-page .answer) old → NowHolds ws xs (its-page .core) → privilege ≡ coreOf xs .privilege
+      → h ≡ fetchFor va (privilege .level) pa → NowHolds xs ys (withFetchHint (coreOf xs) h) → NowHolds ws ys (pagedTo (coreOf ws .privilege .level) va its-page)
+  page-core pa old privilege xs ys h z ep m ew eh n =
+      holds-on (λ c. withFetchHint c h) m n
+      (ap (withFetchHint (its-page .core)) (eh ∙ ap (λ (w : Privilege). fetchFor va (w .level) pa) (ew ∙ ap (λ (c : Core). c .privilege) (m .holds) ∙ found-privilege (coreOf ws) memory va Fetch))
+      ∙ ap (pagedBy (coreOf ws .privilege .level) va (its-page .core)) (sym (code-at (its-page .answer) code pa old ec z ep)))
+
+  pub page-fault : (xs : List ℕ) → (code ≡ 0 → ⊥) → NowHolds ws xs (its-page .core) → NowHolds ws xs (pagedTo (coreOf ws .privilege .level) va its-page)
+  page-fault xs n m = holds-as m (sym (go (its-page .answer) refl))
+    where
+      go : (a : Answer) → its-page .answer ≡ a → pagedBy (coreOf ws .privilege .level) va (its-page .core) (its-page .answer) ≡ its-page .core
+      go (Address pa) e = absurd (n (ec ∙ ap codeOf e))
+      go (Status fsc) e = rw e
+
+-- the fetch hint
+pub fetch-hint : (ws : List ℕ) (va : ℕ) (privilege : Privilege) (f : FetchHint) (p : HintAnswer) → privilege ≡ coreOf ws .privilege → f ≡ coreOf ws .tlb .cache .fetch → p ≡ fetchFound f (privilege .level) va
+    → p ≡ fetchHint (coreOf ws) va
+unfolding fetchHint
+fetch-hint ws va privilege f p ew ef ep = ep ∙ λ i. fetchFound (ef i) (ew i .level) va
+
+-- the translation that a fetch begins with
+module _ (ws : List ℕ) (memory : ℕ → Word) (va : ℕ) (p : HintAnswer) (ep : p ≡ fetchHint (coreOf ws) va) where
+  abbrev fetched : Translated
+  fetched = answering (withTlb (coreOf ws) (fetchSteppedNow (coreOf ws) memory va .tlb)) (fetchSteppedNow (coreOf ws) memory va .answer)
+
+  serves-it : (pa : ℕ) → p ≡ At pa → fetched ≡ answering (coreOf ws) (Address pa)
+  unfolding fetchTo fetchHint
+  serves-it pa e = fetch-serves (coreOf ws) memory va pa (sym ep ∙ e)
+
+  pub fetch-hint-code : (pa : ℕ) → p ≡ At pa → 0 ≡ codeOf (fetchSteppedNow (coreOf ws) memory va .answer)
+  fetch-hint-code pa e = sym (ap (λ (x : Translated). codeOf (x .answer)) (serves-it pa e))
+
+  pub fetch-hint-value : (pa old : ℕ) → p ≡ At pa → pa ≡ valueOf (fetchSteppedNow (coreOf ws) memory va .answer) old
+  fetch-hint-value pa old e = sym (ap (λ (x : Translated). valueOf (x .answer) old) (serves-it pa e))
+
+  pub fetch-hint-core : (pa : ℕ) → p ≡ At pa → NowHolds ws ws (withTlb (coreOf ws) (fetchSteppedNow (coreOf ws) memory va .tlb))
+  fetch-hint-core pa e = holds-as stays (sym (ap (λ (x : Translated). x .core) (serves-it pa e)))
+
+  abbrev found-page : Translated
+  found-page = foundTo (coreOf ws) memory va Fetch
+
+  misses-it : p ≡ Unknown → fetched ≡ answering (pagedTo (coreOf ws .privilege .level) va found-page) (found-page .answer)
+  unfolding fetchTo fetchHint
+  misses-it e = fetch-misses (coreOf ws) memory va (sym ep ∙ e)
+
+  pub fetch-page-code : (n : ℕ) → p ≡ Unknown → n ≡ codeOf (found-page .answer) → n ≡ codeOf (fetchSteppedNow (coreOf ws) memory va .answer)
+  fetch-page-code n e q = q ∙ sym (ap (λ (x : Translated). codeOf (x .answer)) (misses-it e))
+
+  pub fetch-page-value : (v old : ℕ) → p ≡ Unknown → v ≡ valueOf (found-page .answer) old → v ≡ valueOf (fetchSteppedNow (coreOf ws) memory va .answer) old
+  fetch-page-value v old e q = q ∙ sym (ap (λ (x : Translated). valueOf (x .answer) old) (misses-it e))
+
+  pub fetch-page-core : (xs : List ℕ) → p ≡ Unknown → NowHolds ws xs (pagedTo (coreOf ws .privilege .level) va found-page)
+      → NowHolds ws xs (withTlb (coreOf ws) (fetchSteppedNow (coreOf ws) memory va .tlb))
+  fetch-page-core xs e m = holds-as m (sym (ap (λ (x : Translated). x .core) (misses-it e)))

@@ -1,0 +1,284 @@
+// One translation in place: the hint first; else its changes, which are stored. It answers by a number: 0 and the
+// address, or 256 plus the status.
+ghost use mathlib.Core.Path.{_≡_};
+ghost use Prim.Native.Nat.{_≤_};
+ghost use Rattle.word.specs.Ram.{wordAt};
+ghost use Rattle.tlb.specs.declared.access.Kind.the-variants.{Fetch};
+ghost use Rattle.mmu.specs.Ops.{translateOf, fetchSteppedNow, withTlb};
+ghost use Rattle.words.specs.CoreOf.{coreOf};
+ghost use Rattle.words.specs.NowHolds.{NowHolds};
+ghost use Rattle.words_memory.specs.Found.{codeOf, valueOf, hintFound, fetchHint, noted, toldTo, sourced};
+ghost use Rattle.words_memory.specs.Found.{committed, lookedAt};
+ghost use Rattle.words_memory.specs.Found.{foundAt, pagedTo, answerOf};
+use tlb::access;
+use tlb::access::Answer;
+use tlb::access::Kind;
+use tlb::access::Privilege;
+use tlb::entry::Entry;
+use tlb::hint;
+use tlb::hint::HintAnswer;
+use tlb::resolve;
+use tlb::resolve::Asked;
+use tlb::resolve::Query;
+use tlb::resolve::Resolved;
+use tlb::resolve::Source;
+use walk::regime;
+use words::cells;
+use words::counts;
+use words::place::State;
+use words::regs;
+use words::state;
+
+// An allowed address becomes a hint, where hints may serve.
+fn note(state: &mut State, privilege: Privilege, kind: Kind, va: u64, pa: u64)
+    ensures { λ _. ⌜ NowHolds (now (state .entry)) (now (state .exit))
+        (noted (coreOf (now (state .entry))) privilege kind va pa) ⌝ }
+{
+    let hinted = access::may_hint(privilege, kind);
+    if hinted {
+        let i = hint::data_slot(va, kind);
+        let h = hint::hint_for(va, privilege.level, pa);
+        cells::put_hint(state, i, h);
+    }
+}
+
+// An answer's number; its address becomes a hint.
+fn told(
+    state: &mut State,
+    privilege: Privilege,
+    kind: Kind,
+    va: u64,
+    answer: Answer,
+    pa: &mut u64,
+) -> u64
+    ensures { λ r. ⌜ r ≤ 511 ⌝ }
+    ensures { λ r. ⌜ r ≡ codeOf answer ⌝ }
+    ensures { λ r. ⌜ now (pa .exit) ≡ valueOf answer (now (pa .entry)) ⌝ }
+    ensures { λ _. ⌜ NowHolds (now (state .entry)) (now (state .exit))
+        (toldTo (coreOf (now (state .entry))) privilege kind va answer) ⌝ }
+{
+    match answer {
+        Answer::Address(at) => {
+            *pa = at;
+            note(state, privilege, kind, va, at);
+            0
+        }
+        Answer::Status(fault) => 256 + fault.fsc as u64,
+    }
+}
+
+// What an answer's source changes is stored: the counters, and the entry of the slot where a walk made one.
+fn put_changes(state: &mut State, slot: usize, source: Source, made: Entry)
+    ensures { λ _. ⌜ NowHolds (now (state .entry)) (now (state .exit))
+        (sourced (coreOf (now (state .entry))) slot source made) ⌝ }
+{
+    match source {
+        Source::FromHint => {}
+        Source::FromFlat => {}
+        Source::FromEntry => {
+            counts::count_hit(state);
+        }
+        Source::FromWalk => {
+            counts::count_walk(state);
+            cells::put_entry(state, slot, made);
+        }
+        Source::NoLeaf => {
+            counts::count_walk(state);
+        }
+    }
+}
+
+// The changes of a translation are stored, and its answer told.
+fn commit(
+    state: &mut State,
+    privilege: Privilege,
+    kind: Kind,
+    va: u64,
+    slot: usize,
+    t: Resolved,
+    pa: &mut u64,
+) -> u64
+    ensures { λ r. ⌜ r ≤ 511 ⌝ }
+    ensures { λ r. ⌜ r ≡ codeOf (t .answer) ⌝ }
+    ensures { λ r. ⌜ now (pa .exit) ≡ valueOf (t .answer) (now (pa .entry)) ⌝ }
+    ensures { λ _. ⌜ NowHolds (now (state .entry)) (now (state .exit))
+        (committed (coreOf (now (state .entry))) privilege kind va slot t) ⌝ }
+{
+    let answer = t.answer;
+    let source = t.source;
+    let made = t.made;
+    put_changes(state, slot, source, made);
+    told(state, privilege, kind, va, answer, pa)
+}
+
+// With stage 1 on: the cell that is asked, its changes, the commit.
+fn look(
+    state: &mut State,
+    q: Query,
+    privilege: Privilege,
+    kind: Kind,
+    va: u64,
+    pa: &mut u64,
+    base: u64,
+    ram: &[u8],
+) -> u64
+    ensures { λ r. ⌜ r ≤ 511 ⌝ }
+    ensures { λ r. ⌜ r ≡ codeOf (lookedAt (now (state .entry)) base (now (ram .entry)) q privilege kind va .answer) ⌝ }
+    ensures { λ r. ⌜ now (pa .exit)
+        ≡ valueOf (lookedAt (now (state .entry)) base (now (ram .entry)) q privilege kind va .answer)
+        (now (pa .entry)) ⌝ }
+    ensures { λ _. ⌜ NowHolds (now (state .entry)) (now (state .exit))
+        (lookedAt (now (state .entry)) base (now (ram .entry)) q privilege kind va .core) ⌝ }
+{
+    let slot = tlb::entry::slot(q.tag);
+    let at = counts::current_at(state);
+    let e = cells::entry_at(state, slot);
+    let regime = q.regime;
+    let s = regs::bank_at(state, regime);
+    let t = resolve::resolve(q, s, privilege, at, e, va, kind, base, ram);
+    commit(state, privilege, kind, va, slot, t, pa)
+}
+
+// A translation that no hint serves.
+pub fn find(state: &mut State, va: u64, kind: Kind, pa: &mut u64, base: u64, ram: &[u8]) -> u64
+    ensures { λ r. ⌜ r ≤ 511 ⌝ }
+    ensures { λ r. ⌜ r ≡ codeOf (foundAt (now (state .entry)) base (now (ram .entry)) va kind .answer) ⌝ }
+    ensures { λ r. ⌜ now (pa .exit)
+        ≡ valueOf (foundAt (now (state .entry)) base (now (ram .entry)) va kind .answer) (now (pa .entry)) ⌝ }
+    ensures { λ _. ⌜ NowHolds (now (state .entry)) (now (state .exit))
+        (foundAt (now (state .entry)) base (now (ram .entry)) va kind .core) ⌝ }
+{
+    let privilege = state::privilege_at(state);
+    let r = regime::regime_of(privilege.level);
+    let s = regs::bank_at(state, r);
+    match resolve::ask(s, privilege, va) {
+        Asked::Flat => {
+            *pa = va;
+            note(state, privilege, kind, va, va);
+            0
+        }
+        Asked::Of(q) => look(state, q, privilege, kind, va, pa, base, ram),
+    }
+}
+
+// What the hint says of va.
+pub fn by_hint(state: &State, va: u64, kind: Kind) -> HintAnswer
+    ensures { λ r. ⌜ r ≡ hintFound (coreOf (now (state .entry))) va kind ⌝ }
+{
+    let privilege = state::privilege_at(state);
+    let hinted = access::may_hint(privilege, kind);
+    let key = hint::hint_key(va, privilege.level);
+    let i = hint::data_slot(va, kind);
+    let h = cells::hint_at(state, i);
+    let found = hinted & (h.key == key);
+    if found {
+        let pa = hint::on_page(h.pa, va);
+        HintAnswer::At(pa)
+    } else {
+        HintAnswer::Unknown
+    }
+}
+
+// The answer of a number.
+fn answer_of(code: u64, pa: u64) -> Answer
+    ensures { λ r. ⌜ r ≡ answerOf code pa ⌝ }
+{
+    if code == 0 {
+        Answer::Address(pa)
+    } else {
+        let fault = fault::first((code % 256) as u8);
+        Answer::Status(fault)
+    }
+}
+
+// A translation that no hint serves, and its answer.
+fn slow(state: &mut State, va: u64, kind: Kind, base: u64, ram: &[u8]) -> Answer
+    ensures { λ r. ⌜ r ≡ foundAt (now (state .entry)) base (now (ram .entry)) va kind .answer ⌝ }
+    ensures { λ _. ⌜ NowHolds (now (state .entry)) (now (state .exit))
+        (foundAt (now (state .entry)) base (now (ram .entry)) va kind .core) ⌝ }
+{
+    let mut pa: u64 = 0;
+    let code = find(state, va, kind, &mut pa, base, ram);
+    answer_of(code, pa)
+}
+
+// The translation of va: the hint first, where it may serve.
+pub fn translate(state: &mut State, va: u64, kind: Kind, base: u64, ram: &[u8]) -> Answer
+    ensures { λ r. ⌜ r ≡ translateOf (coreOf (now (state .entry)))
+        (wordAt base (now (ram .entry)) 8) va kind .answer ⌝ }
+    ensures { λ _. ⌜ NowHolds (now (state .entry)) (now (state .exit))
+        (translateOf (coreOf (now (state .entry))) (wordAt base (now (ram .entry)) 8) va kind .core) ⌝ }
+{
+    match by_hint(state, va, kind) {
+        HintAnswer::At(pa) => Answer::Address(pa),
+        HintAnswer::Unknown => slow(state, va, kind, base, ram),
+    }
+}
+
+// The translation of va by number: the hint first.
+pub fn address(state: &mut State, va: u64, kind: Kind, pa: &mut u64, base: u64, ram: &[u8]) -> u64
+    ensures { λ r. ⌜ r ≤ 511 ⌝ }
+    ensures { λ r. ⌜ r
+        ≡ codeOf (translateOf (coreOf (now (state .entry))) (wordAt base (now (ram .entry)) 8) va kind .answer) ⌝ }
+    ensures { λ r. ⌜ now (pa .exit) ≡ valueOf
+        (translateOf (coreOf (now (state .entry))) (wordAt base (now (ram .entry)) 8) va kind .answer)
+        (now (pa .entry)) ⌝ }
+    ensures { λ _. ⌜ NowHolds (now (state .entry)) (now (state .exit))
+        (translateOf (coreOf (now (state .entry))) (wordAt base (now (ram .entry)) 8) va kind .core) ⌝ }
+{
+    match by_hint(state, va, kind) {
+        HintAnswer::At(at) => {
+            *pa = at;
+            0
+        }
+        HintAnswer::Unknown => find(state, va, kind, pa, base, ram),
+    }
+}
+
+// What the fetch hint says of va.
+pub fn fetch_by_hint(state: &State, va: u64) -> HintAnswer
+    ensures { λ r. ⌜ r ≡ fetchHint (coreOf (now (state .entry))) va ⌝ }
+{
+    let privilege = state::privilege_at(state);
+    let f = cells::fetch_at(state);
+    hint::fetch_found(f, privilege.level, va)
+}
+
+// A fetch from a page that the fetch hint does not name. Where it is allowed, its page becomes the hint.
+pub fn fetch_find(state: &mut State, va: u64, pa: &mut u64, base: u64, ram: &[u8]) -> u64
+    ensures { λ r. ⌜ r ≤ 511 ⌝ }
+    ensures { λ r. ⌜ r ≡ codeOf (foundAt (now (state .entry)) base (now (ram .entry)) va Fetch .answer) ⌝ }
+    ensures { λ r. ⌜ now (pa .exit)
+        ≡ valueOf (foundAt (now (state .entry)) base (now (ram .entry)) va Fetch .answer) (now (pa .entry)) ⌝ }
+    ensures { λ _. ⌜ NowHolds (now (state .entry)) (now (state .exit))
+        (pagedTo (coreOf (now (state .entry)) .privilege .level) va
+        (foundAt (now (state .entry)) base (now (ram .entry)) va Fetch)) ⌝ }
+{
+    let code = find(state, va, Kind::Fetch, pa, base, ram);
+    if code == 0 {
+        let privilege = state::privilege_at(state);
+        let f = hint::fetch_for(va, privilege.level, *pa);
+        cells::put_fetch(state, f);
+    }
+    code
+}
+
+// The translation that a fetch begins with, by number: the fetch hint first.
+pub fn fetch_address(state: &mut State, va: u64, pa: &mut u64, base: u64, ram: &[u8]) -> u64
+    ensures { λ r. ⌜ r ≤ 511 ⌝ }
+    ensures { λ r. ⌜ r
+        ≡ codeOf (fetchSteppedNow (coreOf (now (state .entry))) (wordAt base (now (ram .entry)) 8) va .answer) ⌝ }
+    ensures { λ r. ⌜ now (pa .exit) ≡ valueOf
+        (fetchSteppedNow (coreOf (now (state .entry))) (wordAt base (now (ram .entry)) 8) va .answer)
+        (now (pa .entry)) ⌝ }
+    ensures { λ _. ⌜ NowHolds (now (state .entry)) (now (state .exit)) (withTlb (coreOf (now (state .entry)))
+        (fetchSteppedNow (coreOf (now (state .entry))) (wordAt base (now (ram .entry)) 8) va .tlb)) ⌝ }
+{
+    match fetch_by_hint(state, va) {
+        HintAnswer::At(at) => {
+            *pa = at;
+            0
+        }
+        HintAnswer::Unknown => fetch_find(state, va, pa, base, ram),
+    }
+}
