@@ -24,14 +24,14 @@ use Rattle.operations.specs.declared.call.Call.the-variants as Call
 use Rattle.operations.specs.declared.call.Reply.the-variants.{Refused, Value}
 use Rattle.cpu.specs.declared.run.Stepped.{Stepped}
 use Rattle.operations.specs.Change.{unchanged}
-use Rattle.lent_parts.specs.Parts.{hintedIn, lookupIn, pageIn, commitIn, keptIn}
+use Rattle.mmu.specs.Parts.{hintedIn, lookupIn, pageIn, commitIn, keptIn}
 use Rattle.operations.specs.Fetches.{quickInsn, fastFetchBy, fastFetch, fetchAnsweredOf, fetchedOf}
 use Rattle.operations.specs.declared.change.Hinted.{Hinted}
 use Rattle.operations.specs.declared.change.Page.{Page}
 use Rattle.operations.specs.declared.change.Answered.{Answered}
 use Rattle.operations.specs.declared.fetches.FetchAccess.{FetchAccess}
 use Rattle.operations.specs.declared.hinted.Fast.{Fast}
-use Rattle.lent.proofs.Translations.{none-changed, fetch-right}
+use Rattle.mmu.specs.Changes.{none-changed, fetch-right}
 
 module _ (c : Core) (base : ℕ) (ram : List ℕ) (va : ℕ) where
   abbrev call : Call

@@ -25,11 +25,11 @@ use Rattle.mmu.specs.declared.core.Core.{Core}
 use Rattle.operations.specs.declared.place.Place.the-variants.{Whole}
 use Rattle.operations.specs.declared.place.Placed.the-variants.{At}
 use Rattle.operations.specs.Loads.{bytesOf, secondOf, secondIn, bothOf}
-use Rattle.lent_parts.specs.Parts.{pageIn, keptIn, commitIn}
+use Rattle.mmu.specs.Parts.{pageIn, keptIn, commitIn}
 use Rattle.operations.specs.Hinted.{hintPlace, hintServes}
 use Rattle.operations.specs.declared.loads.Both.{Both}
-use Rattle.lent.proofs.Pairs.{pair-is}
-use Rattle.lent.proofs.Translations.{hint-turn}
+use Rattle.mmu.specs.Pairs.{pair-is}
+use Rattle.mmu.specs.Changes.{hint-turn}
 
 -- a size's bytes are its number
 abbrev Fits : Sized → ℕ → Type 0

@@ -32,7 +32,7 @@ use Rattle.tlb.specs.declared.access.Kind.{Kind}
 use Rattle.mmu.proofs.core.Core as T
 use Rattle.tlb.proofs.access.Kind as KI
 use Rattle.tlb.proofs.access.Kind.Laws as KI′
-use Rattle.lent_parts.specs.Parts.{hintedIn, pageIn, commitIn, keptIn}
+use Rattle.mmu.specs.Parts.{hintedIn, pageIn, commitIn, keptIn}
 use Rattle.operations.specs.declared.change.Change.{Change}
 use Rattle.operations.specs.declared.change.Hinted.{Hinted}
 use Rattle.operations.specs.declared.change.Page.{Page}

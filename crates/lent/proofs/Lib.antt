@@ -1,10 +1,8 @@
 pub mod Promised
 pub mod Lent
 pub mod Moves
-pub mod Translations
 pub mod Runs
 pub mod Fetches
-pub mod Pairs
 pub mod Hits
 pub mod Loads
 pub mod Stores

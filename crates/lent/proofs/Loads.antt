@@ -30,7 +30,7 @@ use Rattle.operations.specs.declared.call.Reply.the-variants.{Refused, Value}
 use Rattle.cpu.specs.declared.run.Stepped.{Stepped}
 use Rattle.operations.specs.Loads.{bytesBy, secondIn, loadedBy, loadedOf, hitIn, fastGot, readBy, fastRead, fastLoadBy, fastLoad}
 use Rattle.operations.specs.Change.{unchanged}
-use Rattle.lent_parts.specs.Parts.{hintedIn, lookupIn, pageIn, commitIn, keptIn}
+use Rattle.mmu.specs.Parts.{hintedIn, lookupIn, pageIn, commitIn, keptIn}
 use Rattle.operations.specs.Hinted.{hintPlace, hintServes}
 use Rattle.operations.specs.declared.loads.Access.{Access}
 use Rattle.operations.specs.declared.loads.FastLoad.{FastLoad}
@@ -38,7 +38,7 @@ use Rattle.operations.specs.declared.change.Hinted.{Hinted}
 use Rattle.operations.specs.declared.change.Lookup.{Lookup}
 use Rattle.operations.specs.declared.change.Page.{Page}
 use Rattle.lent.proofs.Hits.{size-is, hint-located, sized-is}
-use Rattle.lent.proofs.Translations.{none-changed}
+use Rattle.mmu.specs.Changes.{none-changed}
 
 -- what an access leaves
 abbrev pub left : Core → Access → Core

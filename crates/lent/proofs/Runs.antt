@@ -20,13 +20,13 @@ use Rattle.operations.specs.declared.call.Reply.{Reply}
 use Rattle.operations.specs.declared.call.Reply.the-variants.{Refused, Value}
 use Rattle.cpu.specs.declared.run.Stepped.{Stepped}
 use Rattle.operations.specs.Change.{translatedOf}
-use Rattle.lent_parts.specs.Parts.{hintedIn, pageIn, commitIn}
+use Rattle.mmu.specs.Parts.{hintedIn, pageIn, commitIn}
 use Rattle.operations.specs.Hinted.{hintPlace, hintServes, fastBy, fastOf}
 use Rattle.operations.specs.declared.change.Hinted.{Hinted}
 use Rattle.operations.specs.declared.change.Page.{Page}
 use Rattle.operations.specs.declared.change.Translated.{Translated}
 use Rattle.operations.specs.declared.hinted.Fast.{Fast}
-use Rattle.lent.proofs.Translations.{hint-turn, miss-right}
+use Rattle.mmu.specs.Changes.{hint-turn, miss-right}
 
 module _ (c : Core) (base : ℕ) (ram : List ℕ) (va : ℕ) (kind : Kind) where
   abbrev call : Call

@@ -30,7 +30,7 @@ use Rattle.operations.specs.declared.call.Reply.{Reply}
 use Rattle.operations.specs.declared.call.Reply.the-variants.{Refused, Done}
 use Rattle.cpu.specs.declared.run.Stepped.{Stepped}
 use Rattle.operations.specs.Loads.{bytesBy, secondIn, hitIn}
-use Rattle.lent_parts.specs.Parts.{hintedIn, lookupIn, pageIn, commitIn, keptIn}
+use Rattle.mmu.specs.Parts.{hintedIn, lookupIn, pageIn, commitIn, keptIn}
 use Rattle.operations.specs.Hinted.{hintPlace, hintServes}
 use Rattle.operations.specs.Stores.{fastStoreBy, fastStore, nowReplyBy, nowReply, nowRamBy, nowRam, sizedRam, storeAfter, storedBy, storedOf, storedRamBy, storedRam}
 use Rattle.operations.specs.declared.loads.Access.{Access}

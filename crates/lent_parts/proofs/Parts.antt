@@ -23,7 +23,7 @@ use Rattle.tlb.specs.declared.entry.Entry.{Entry}
 use Rattle.tlb.specs.declared.hint.FetchHint.{FetchHint}
 use Rattle.tlb.specs.declared.hint.Hint.{Hint}
 use Rattle.mmu.specs.declared.core.Core.{Core}
-use Rattle.lent_parts.specs.Parts.{partsIn, storedIn, keptIn}
+use Rattle.mmu.specs.Parts.{partsIn, storedIn, keptIn}
 use Rattle.lent_parts.proofs.InPlace.{vs as valsOf, array-set, array-at, vals-set, vals-length}
 use Rattle.mmu.proofs.core.Core as T
 use Rattle.mmu.proofs.core.Core.Laws as T′

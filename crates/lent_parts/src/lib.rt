@@ -1,7 +1,7 @@
 // The parts of a core that is lent, read and stored where they lie.
 ghost use mathlib.Core.Path.{_≡_};
 ghost use lib.ListN.{length};
-ghost use Rattle.lent_parts.specs.Parts.{hintedIn, pageIn, commitIn, keptIn};
+ghost use Rattle.mmu.specs.Parts.{hintedIn, pageIn, commitIn, keptIn};
 use mmu::core::Core;
 use operations::change;
 use operations::change::Change;

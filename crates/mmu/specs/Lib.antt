@@ -4,6 +4,9 @@ pub mod Core
 pub mod Step
 pub mod Ops
 -- Laws that the crates above cite.
+pub mod Parts
+pub mod Changes
+pub mod Pairs
 pub mod PageLaws
 pub mod PageGiven
 pub mod Says

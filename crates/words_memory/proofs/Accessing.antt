@@ -1,31 +1,23 @@
 -- Loads and stores in place put together from their parts, on plain values, for `search`.
-use mathlib.Core.Path.{_≡_, refl, sym, ap, _∙_}
-use mathlib.Core.Bool.{Bool, true, false}
+use mathlib.Core.Path.{_≡_, refl, ap, _∙_}
+use mathlib.Core.Bool.{Bool}
 use mathlib.Core.List.{List}
 use Prim.Native.Nat.{ℕ}
 use Rattle.word.specs.Ram.{wordAt}
-use Rattle.word.specs.declared.ram.Word.{Word}
 use Rattle.walk.specs.Regime.{bankOf, regimeOf, stage1On}
 use Rattle.walk.specs.declared.regime.Regime.{Regime}
 use Rattle.walk.specs.declared.regime.Bank.{Bank}
-use Rattle.tlb.specs.declared.access.Kind.{Kind}
 use Rattle.tlb.specs.declared.access.Kind.the-variants.{Read, Write}
 use Rattle.tlb.specs.declared.access.Privilege.{Privilege}
-use Rattle.tlb.specs.declared.access.Answer.{Answer}
-use Rattle.tlb.specs.declared.Tlb.{Tlb}
 use Rattle.mmu.specs.Core.{afterAccess, bankNow}
-use Rattle.operations.specs.Place.{nextPage, crosses, goesOn, placedOne, placedBoth}
-use Rattle.mmu.specs.Step.{translateIn, locatedOf}
 use Rattle.operations.specs.Ends.{loadEnd, storeEnd, storeRamEnd}
-use Rattle.mmu.specs.Ops.{withTlb, steppedNow, locatedNow, translateOf, translateAccessOf, readOf, writeOf, ramAfterWrite}
+use Rattle.mmu.specs.Ops.{translateAccessOf, readOf, writeOf, ramAfterWrite}
 use Rattle.mmu.specs.declared.core.Core.{Core}
 use Rattle.operations.specs.declared.place.Placed.{Placed}
 use Rattle.operations.specs.declared.ends.LoadEnd.{LoadEnd}
 use Rattle.operations.specs.declared.ends.StoreEnd.{StoreEnd}
 use Rattle.operations.specs.declared.ends.LoadAnswer.{LoadAnswer}
 use Rattle.operations.specs.declared.ends.StoreAnswer.{StoreAnswer}
-use Rattle.mmu.specs.declared.ops.Accessed.{Accessed}
-use Rattle.mmu.specs.declared.ops.Translated.{Translated}
 use Rattle.words.specs.CoreOf.{coreOf}
 use Rattle.words.specs.Parts.{withLast, withAbort}
 use Rattle.words.specs.NowHolds.{NowHolds, holds-as, holds-on}
@@ -36,70 +28,6 @@ pub on-now : (c : Core) (privilege : Privilege) (r : Regime) (s : Bank) (b : Boo
 on-now c privilege r s b ew er es eb =
     let own : r ≡ regimeOf (c .privilege .level) = er ∙ ap (λ (x : Privilege). regimeOf (x .level)) ew in
     eb ∙ λ i. stage1On ((es ∙ ap (bankOf (c .control)) own) i) (own i)
-
--- TWO PAGES
-
--- a second translation, by what the first left
-second-is : (c : Core) (t : Tlb) (memory : ℕ → Word) (va : ℕ) (kind : Kind)
-    → steppedNow (withTlb c t) memory va kind ≡ translateIn (bankNow c) (c .privilege) memory va kind t
-unfolding steppedNow afterAccess
-second-is c t memory va kind = refl
-
-module _ (c : Core) (memory : ℕ → Word) (va n : ℕ) (kind : Kind) where
-  abbrev test : Bool
-  test = goesOn (translateOf c memory va kind .answer) (crosses (stage1On (bankNow c) (regimeOf (c .privilege .level))) va n)
-
-  abbrev one : Accessed
-  one = record { core = translateOf c memory va kind .core; placed = placedOne va (translateOf c memory va kind .answer) }
-
-  pub one-is : test ≡ false → translateAccessOf c memory va n kind ≡ one
-  unfolding translateAccessOf locatedNow locatedOf translateOf steppedNow
-  one-is f = rw f
-
-  abbrev after : Core
-  after = translateOf c memory va kind .core
-
-  abbrev both : Accessed
-  both =
-      record {
-        core = translateOf after memory (nextPage va) kind .core;
-        placed = placedBoth va (translateOf c memory va kind .answer) (translateOf after memory (nextPage va) kind .answer);
-      }
-
-  pub both-is : test ≡ true → translateAccessOf c memory va n kind ≡ both
-  unfolding translateAccessOf locatedNow locatedOf translateOf steppedNow afterAccess
-  both-is t = rw t
-
-module _ (ws : List ℕ) (memory : ℕ → Word) (va n : ℕ) (kind : Kind) (on split more : Bool) (a : Answer)
-    (eo : on ≡ stage1On (bankNow (coreOf ws)) (regimeOf (coreOf ws .privilege .level))) (es : split ≡ crosses on va n)
-    (ea : a ≡ translateOf (coreOf ws) memory va kind .answer) (em : more ≡ goesOn a split) where
-  own-test : test (coreOf ws) memory va n kind ≡ more
-  own-test = sym (em ∙ λ i. goesOn (ea i) ((es ∙ ap (λ (b : Bool). crosses b va n) eo) i))
-
-  abbrev accessed : Accessed
-  accessed = translateAccessOf (coreOf ws) memory va n kind
-
-  pub one-placed : (p : Placed) → more ≡ false → p ≡ placedOne va a → p ≡ accessed .placed
-  one-placed p f e =
-      e ∙ ap (placedOne va) ea ∙ sym (ap (λ (x : Accessed). x .placed) (one-is (coreOf ws) memory va n kind (own-test ∙ f)))
-
-  pub one-core : (xs : List ℕ) → more ≡ false → NowHolds ws xs (translateOf (coreOf ws) memory va kind .core) → NowHolds ws xs (accessed .core)
-  one-core xs f m = holds-as m (sym (ap (λ (x : Accessed). x .core) (one-is (coreOf ws) memory va n kind (own-test ∙ f))))
-
-  module _ (xs : List ℕ) (next : ℕ) (t : more ≡ true) (m : NowHolds ws xs (translateOf (coreOf ws) memory va kind .core)) (en : next ≡ nextPage va) where
-    second : translateOf (coreOf xs) memory next kind ≡ translateOf (translateOf (coreOf ws) memory va kind .core) memory (nextPage va) kind
-    second = λ i. translateOf (m .holds i) memory (en i) kind
-
-    pub both-placed : (b : Answer) (p : Placed) → b ≡ translateOf (coreOf xs) memory next kind .answer → p ≡ placedBoth va a b → p ≡ accessed .placed
-    both-placed b p q e =
-        e ∙ (λ i. placedBoth va (ea i) ((q ∙ ap (λ (x : Translated). x .answer) second) i))
-        ∙ sym (ap (λ (x : Accessed). x .placed) (both-is (coreOf ws) memory va n kind (own-test ∙ t)))
-
-    pub both-core : (ys : List ℕ) → NowHolds xs ys (translateOf (coreOf xs) memory next kind .core) → NowHolds ws ys (accessed .core)
-    both-core ys q =
-        holds-on (λ c. translateOf c memory next kind .core) m q
-        (ap (λ (k : ℕ). translateOf (translateOf (coreOf ws) memory va kind .core) memory k kind .core) en
-        ∙ sym (ap (λ (x : Accessed). x .core) (both-is (coreOf ws) memory va n kind (own-test ∙ t))))
 
 -- LOADS
 

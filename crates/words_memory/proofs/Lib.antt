@@ -1,3 +1,4 @@
 pub mod Finding
 pub mod Looking
+pub mod Changing
 pub mod Accessing

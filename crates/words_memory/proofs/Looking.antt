@@ -2,14 +2,10 @@
 use mathlib.Core.Path.{_≡_, refl, sym, ap, _∙_}
 use mathlib.Core.Bool.{Bool, true, false, _&&_}
 use mathlib.Core.List.{List}
-use Prim.Native.Nat.{ℕ, _+_, _%_, _^_, _<_, _≤_}
+use Prim.Native.Nat.{ℕ}
 use native.Mathlib.Omega.{arith}
-use borrow.Author.Tests.{eq-eqb, ne-eqb}
 use lib.Dec.{eqb}
-use Rattle.word.specs.Bits.{pick}
 use Rattle.word.specs.declared.ram.Word.{Word}
-use Rattle.fault.specs.First.{first}
-use Rattle.fault.specs.declared.Fault.{Fault}
 use Rattle.walk.specs.Regime.{bankOf, regimeOf}
 use Rattle.walk.specs.declared.regime.Regime.{Regime}
 use Rattle.walk.specs.declared.regime.Bank.{Bank}
@@ -42,7 +38,7 @@ use Rattle.mmu.specs.declared.ops.Translated.{Translated}
 use Rattle.words.specs.CoreOf.{coreOf}
 use Rattle.words.specs.Parts.{withCache, withCounts, withEntry, withHint, withFetchHint}
 use Rattle.words.specs.NowHolds.{NowHolds, stays, holds-as, holds-on}
-use Rattle.words_memory.specs.Found.{codeOf, valueOf, answering, hintFound, fetchHint, noted, toldTo, sourced, committed, committing, lookedTo, foundTo, pagedBy, pagedTo, answerOf}
+use Rattle.words_memory.specs.Found.{codeOf, valueOf, answering, hintFound, fetchHint, noted, toldTo, sourced, committed, committing, lookedTo, foundTo, pagedBy, pagedTo}
 use Rattle.words_memory.specs.FoundLaws.{unchanged, hint-serves, hint-misses}
 use Rattle.words_memory.specs.FetchLaws.{fetchTo, fetch-serves, fetch-misses}
 
@@ -156,24 +152,6 @@ module _ (ws : List ℕ) (va : ℕ) (kind : Kind) (privilege : Privilege) (b : B
   pub hint-none : b && eqb (h .key) key ≡ false → Unknown ≡ hintFound (coreOf ws) va kind
   unfolding hintFound
   hint-none f = sym (rw (hint-test, f))
-
--- a number as an answer
-pub answer-zero : (code pa : ℕ) → code ≡ 0 → Address pa ≡ answerOf code pa
-answer-zero code pa e = sym (rw (eq-eqb code 0 e))
-
-pub answer-other : (code pa : ℕ) (f : Fault) → (code ≡ 0 → ⊥) → f ≡ first (code % 2 ^ 8) → Status f ≡ answerOf code pa
-answer-other code pa f e ef = rw (ne-eqb code 0 e, ef)
-
--- and back: a number up to 511 has a status of eight bits
-code-back : (a : Answer) (old : ℕ) → codeOf a ≤ 511 → answerOf (codeOf a) (valueOf a old) ≡ a
-code-back (Address pa) old h = refl
-code-back (Status f) old h = rw (ne-eqb (256 + f .fsc) 0 (λ e. omega arith)) (ap (λ (n : ℕ). Status (first n)) (low (f .fsc) (omega arith)))
-  where
-    low : (n : ℕ) → n < 256 → (256 + n) % 256 ≡ n
-    low n g = omega arith
-
-pub answer-back : (a b : Answer) (code pa old : ℕ) → code ≤ 511 → code ≡ codeOf a → pa ≡ valueOf a old → b ≡ answerOf code pa → b ≡ a
-answer-back a b code pa old h ec ep e = e ∙ (λ i. answerOf (ec i) (ep i)) ∙ code-back a old (rw ec at h)
 
 -- the whole translation
 module _ (ws : List ℕ) (memory : ℕ → Word) (va : ℕ) (kind : Kind) (p : HintAnswer) (ep : p ≡ hintFound (coreOf ws) va kind) where

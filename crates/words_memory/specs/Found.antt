@@ -1,12 +1,11 @@
 -- One translation on the core as it is made in place: the hint first; else its changes, and the core with them stored.
 use mathlib.Core.Bool.{_&&_}
 use mathlib.Core.List.{List}
-use Prim.Native.Nat.{ℕ, _+_, _%_, _^_}
+use Prim.Native.Nat.{ℕ, _+_}
 use lib.Dec.{eqb}
 use Rattle.word.specs.Bits.{pick}
 use Rattle.word.specs.Ram.{wordAt}
 use Rattle.word.specs.declared.ram.Word.{Word}
-use Rattle.fault.specs.First.{first}
 use Rattle.walk.specs.Regime.{bankOf}
 use Rattle.tlb.specs.Access.{mayHint}
 use Rattle.tlb.specs.Entry.{slotOf}
@@ -101,6 +100,3 @@ pagedBy level va c (Status f) = c
 
 abbrev pub pagedTo : ℕ → ℕ → Translated → Core
 pagedTo level va t = pagedBy level va (t .core) (t .answer)
-
-abbrev pub answerOf : ℕ → ℕ → Answer
-answerOf code pa = pick (eqb code 0) (Address pa) (Status (first (code % 2 ^ 8)))

@@ -1,4 +1,5 @@
 pub mod Found
 pub mod FoundLaws
 pub mod FetchLaws
+pub mod Changed
 pub mod Accessed

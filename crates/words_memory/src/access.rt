@@ -8,10 +8,11 @@ ghost use Rattle.mmu.specs.Ops.{translateAccessOf, readOf, writeOf, ramAfterWri
 ghost use Rattle.words.specs.CoreOf.{coreOf};
 ghost use Rattle.words.specs.NowHolds.{NowHolds};
 ghost use Rattle.words_memory.specs.Accessed.{loadEndOf, storeEndOf, keptLast, keptAbort};
-use crate::translate;
+use crate::pages;
 use operations::ends;
 use operations::ends::LoadAnswer;
 use operations::ends::StoreAnswer;
+use operations::loads;
 use operations::place;
 use operations::place::Placed;
 use tlb::access::Kind;
@@ -33,24 +34,23 @@ pub fn on_at(state: &State) -> bool
     regime::stage1_on(s, r)
 }
 
-// Both pages of an access, before a byte moves. The first one's effects remain where the second faults.
+// Both pages of an access, before a byte moves: their translations first, then what they change is stored. The first
+// one's changes remain where the second faults.
 fn locate(state: &mut State, va: u64, n: u64, kind: Kind, base: u64, ram: &[u8]) -> Placed
     ensures { λ r. ⌜ r ≡ translateAccessOf (coreOf (now (state .entry)))
         (wordAt base (now (ram .entry)) 8) va n kind .placed ⌝ }
     ensures { λ _. ⌜ NowHolds (now (state .entry)) (now (state .exit))
         (translateAccessOf (coreOf (now (state .entry))) (wordAt base (now (ram .entry)) 8) va n kind .core) ⌝ }
 {
-    let on = on_at(state);
-    let split = place::crosses(on, va, n);
-    let first = translate::translate(state, va, kind, base, ram);
-    let more = place::goes_on(first, split);
-    if more {
-        let next = place::next_page(va);
-        let second = translate::translate(state, next, kind, base, ram);
-        place::both(va, first, second)
-    } else {
-        place::one(va, first)
-    }
+    let x = pages::take_page(state, va, kind);
+    let next = place::next_page(va);
+    let y = pages::take_page(state, next, kind);
+    let t = loads::translations(x, y, va, n, kind, base, ram);
+    let first = t.first;
+    let second = t.second;
+    pages::commit(state, first);
+    pages::commit(state, second);
+    t.placed
 }
 
 // The bytes of a load that was placed.

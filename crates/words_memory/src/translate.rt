@@ -9,7 +9,7 @@ ghost use Rattle.words.specs.CoreOf.{coreOf};
 ghost use Rattle.words.specs.NowHolds.{NowHolds};
 ghost use Rattle.words_memory.specs.Found.{codeOf, valueOf, hintFound, fetchHint, noted, toldTo, sourced};
 ghost use Rattle.words_memory.specs.Found.{committed, lookedAt};
-ghost use Rattle.words_memory.specs.Found.{foundAt, pagedTo, answerOf};
+ghost use Rattle.words_memory.specs.Found.{foundAt, pagedTo};
 use tlb::access;
 use tlb::access::Answer;
 use tlb::access::Kind;
@@ -176,42 +176,6 @@ pub fn by_hint(state: &State, va: u64, kind: Kind) -> HintAnswer
         HintAnswer::At(pa)
     } else {
         HintAnswer::Unknown
-    }
-}
-
-// The answer of a number.
-fn answer_of(code: u64, pa: u64) -> Answer
-    ensures { λ r. ⌜ r ≡ answerOf code pa ⌝ }
-{
-    if code == 0 {
-        Answer::Address(pa)
-    } else {
-        let fault = fault::first((code % 256) as u8);
-        Answer::Status(fault)
-    }
-}
-
-// A translation that no hint serves, and its answer.
-fn slow(state: &mut State, va: u64, kind: Kind, base: u64, ram: &[u8]) -> Answer
-    ensures { λ r. ⌜ r ≡ foundAt (now (state .entry)) base (now (ram .entry)) va kind .answer ⌝ }
-    ensures { λ _. ⌜ NowHolds (now (state .entry)) (now (state .exit))
-        (foundAt (now (state .entry)) base (now (ram .entry)) va kind .core) ⌝ }
-{
-    let mut pa: u64 = 0;
-    let code = find(state, va, kind, &mut pa, base, ram);
-    answer_of(code, pa)
-}
-
-// The translation of va: the hint first, where it may serve.
-pub fn translate(state: &mut State, va: u64, kind: Kind, base: u64, ram: &[u8]) -> Answer
-    ensures { λ r. ⌜ r ≡ translateOf (coreOf (now (state .entry)))
-        (wordAt base (now (ram .entry)) 8) va kind .answer ⌝ }
-    ensures { λ _. ⌜ NowHolds (now (state .entry)) (now (state .exit))
-        (translateOf (coreOf (now (state .entry))) (wordAt base (now (ram .entry)) 8) va kind .core) ⌝ }
-{
-    match by_hint(state, va, kind) {
-        HintAnswer::At(pa) => Answer::Address(pa),
-        HintAnswer::Unknown => slow(state, va, kind, base, ram),
     }
 }
 

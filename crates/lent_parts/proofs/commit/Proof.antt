@@ -58,7 +58,7 @@ use Rattle.tlb.proofs.hint.FetchHint.Laws as X′
 use Rattle.tlb.proofs.hint.Hint as E
 use Rattle.tlb.proofs.hint.Hint.Laws as E′
 use Rattle.operations.specs.Change.{countedAs, keptAs}
-use Rattle.lent_parts.specs.Parts.{commitIn}
+use Rattle.mmu.specs.Parts.{commitIn}
 use Rattle.operations.specs.declared.change.Change.{Change}
 use Rattle.operations.proofs.change.Change as CH
 use Rattle.operations.proofs.change.Change.Laws as CH′

@@ -29,7 +29,7 @@ use denote.Triple.Table.{entered}
 use denote.Triple.Walked.{Stays, walkOf}
 use Rattle.mmu.specs.declared.core.Core.{Core}
 use Rattle.mmu.proofs.core.Core as T
-use Rattle.lent_parts.specs.Parts.{keptIn}
+use Rattle.mmu.specs.Parts.{keptIn}
 use Rattle.lent_parts.proofs.Parts.{hints, entries, with-parts, vfetch, vcounts, vlast, vabort, vwho, vcontrol, vpresent, kept-is}
 use Rattle.lent_parts.proofs.Laid.{last-at, abort-at, open-core, close-core}
 use Rattle.lent_parts.proofs.Fields.{core-last, core-abort}

@@ -36,12 +36,12 @@ use Rattle.tlb.specs.declared.resolve.Source.{Source}
 use Rattle.tlb.specs.declared.resolve.Source.the-variants.{FromHint, FromFlat, FromEntry, FromWalk, NoLeaf}
 use Rattle.tlb.specs.declared.cells.FetchTranslation.{FetchTranslation}
 use Rattle.tlb.specs.declared.cells.Translation.{Translation}
 use Rattle.mmu.specs.Core.{bankNow, afterAccess}
 use Rattle.mmu.specs.Ops.{steppedNow, fetchSteppedNow, translateOf}
 use Rattle.mmu.specs.Step.{translateIn, translateFetchIn, slotAt}
 use Rattle.mmu.specs.declared.core.Core.{Core}
 use Rattle.operations.specs.Change.{entryPlace, effectOf, countedAs, keptAs, allowed, addressOf, missBy, changeOf, fetchChangeOf, unchanged, answeredOf, turnBy}
-use Rattle.lent_parts.specs.Parts.{lookupIn, pageIn, partsIn, storedIn, commitAt, commitIn}
+use Rattle.mmu.specs.Parts.{lookupIn, pageIn, partsIn, storedIn, commitAt, commitIn}
 use Rattle.operations.specs.Fetches.{fetchTranslationAt, fetchAnsweredOf, fetchTranslationBy}
 use Rattle.operations.specs.Hinted.{hintPlace, hintServes}
 use Rattle.operations.specs.declared.change.Change.{Change}

@@ -22,21 +22,21 @@ use Rattle.tlb.specs.declared.entry.Entry.{Entry}
 use Rattle.tlb.specs.declared.resolve.Asked.{Asked}
 use Rattle.tlb.specs.declared.resolve.Asked.the-variants.{Flat, Of}
 use Rattle.tlb.specs.declared.Tlb.{Tlb}
 use Rattle.mmu.specs.Core.{bankNow, afterAccess}
-use Rattle.mmu.specs.Ops.{steppedNow, locatedNow, translateOf}
+use Rattle.mmu.specs.Ops.{steppedNow, locatedNow, translateOf, translateAccessOf}
 use Rattle.operations.specs.Place.{nextPage, crosses, goesOn, placedBoth}
 use Rattle.mmu.specs.Step.{translateIn, locatedOf, onePage, bothPages}
 use Rattle.mmu.specs.declared.core.Core.{Core}
 use Rattle.mmu.specs.declared.step.Located.{Located}
 use Rattle.mmu.specs.declared.step.Stepped.{Stepped}
 use Rattle.operations.specs.Loads.{moreOf, oneTranslation, twoTranslations, bothOf}
 use Rattle.operations.specs.Change.{keptAs, entryPlace, answeredOf, unchanged, hintLeft, entryLeft, pageAfter, missBy, turnBy}
-use Rattle.lent_parts.specs.Parts.{lookupIn, pageIn, coreWith, keptIn, commitIn}
+use Rattle.mmu.specs.Parts.{lookupIn, pageIn, coreWith, keptIn, commitIn}
 use Rattle.operations.specs.Hinted.{hintPlace, hintServes}
 use Rattle.operations.specs.declared.loads.Both.{Both}
 use Rattle.operations.specs.declared.change.Change.{Change}
 use Rattle.operations.specs.declared.change.Answered.{Answered}
-use Rattle.lent.proofs.Translations.{none-changed, turn-right}
+use Rattle.mmu.specs.Changes.{none-changed, turn-right}
 
 -- an element of a list with another set
 get-set : {A : Type 0} (xs : List A) (i j : ℕ) (x d : A) → i < length xs → getD (set xs i x) j d ≡ pick (eqb j i) x (getD xs j d)
@@ -171,3 +171,9 @@ module _ (c : Core) (kind : Kind) (hs : length (c .tlb .cache .hints) ≡ 512) (
     pub pair-is : (last abort : ℕ) → (work .placed ≡ located .placed) × (keptIn (commitIn (commitIn c (work .first)) (work .second)) last abort ≡ afterAccess c (located .tlb) last abort)
     unfolding afterAccess
     pair-is last abort = (right .0, ap (λ (t : Tlb). coreWith c t last abort) (right .1))
+
+    -- with the core's own: the translations of an access
+    pub access-is : (work .placed ≡ translateAccessOf c memory va n kind .placed)
+        × (commitIn (commitIn c (work .first)) (work .second) ≡ translateAccessOf c memory va n kind .core)
+    unfolding translateAccessOf
+    access-is = pair-is (c .«last_pa») (c .«abort_pa»)

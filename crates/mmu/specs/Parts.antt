@@ -1,4 +1,4 @@
--- What is taken out of a lent core, and the core with its changes stored.
+-- What a translation reads of a core, and the core with its changes stored. Cited for a lent core and for one on words.
 use mathlib.Core.List.{List}
 use Prim.Native.Nat.{ℕ, _%_}
 use lib.ListN.{set}
@@ -60,7 +60,8 @@ coreWith c t last abort =
 
 abbrev pub partsIn : Core → FetchHint → Counts → List Hint → List Entry → ℕ → ℕ → Core
 partsIn c f k hs es last abort =
-    coreWith c (tlbWith (c .tlb) (record { current = c .tlb .cache .current; fetch = f; hints = hs; entries = es }) k) last abort
+    coreWith c
+    (tlbWith (c .tlb) (record { current = c .tlb .cache .current; fetch = f; hints = hs; entries = es }) k) last abort
 
 -- the core with other addresses kept
 abbrev pub keptIn : Core → ℕ → ℕ → Core

@@ -1,2 +1,0 @@
--- What the work on small values gives, and the core with its cells put back.
-pub mod Parts
