@@ -62,19 +62,19 @@ translation-tells ws base ram va kind n old v xs en ev m =
     record { code = c; value = ev ∙ translation-value va old a; words = m; kept = kept-late ws xs (translation va a) n c (translation-late va a) }
 
 -- a status that is not told
-pub untold-zero : (n : ℕ) → n ≡ 0 → _≡_ {A = ℕ} 0 (pick (eqb n 0) 0 256)
-untold-zero n e = sym (rw e)
+pub without-status-zero : (n : ℕ) → n ≡ 0 → _≡_ {A = ℕ} 0 (pick (eqb n 0) 0 256)
+without-status-zero n e = sym (rw e)
 
-pub untold-other : (n : ℕ) → (n ≡ 0 → ⊥) → _≡_ {A = ℕ} 256 (pick (eqb n 0) 0 256)
-untold-other n h = sym (rw (ne-eqb n 0 h))
+pub without-status-other : (n : ℕ) → (n ≡ 0 → ⊥) → _≡_ {A = ℕ} 256 (pick (eqb n 0) 0 256)
+without-status-other n h = sym (rw (ne-eqb n 0 h))
 
-untold-code : (a : Answer) (n r : ℕ) → n ≡ codeOf a → r ≡ pick (eqb n 0) 0 256 → r ≡ codeBy (reaching (reachedBy a))
-untold-code (Address pa) n r e q = q ∙ ap (λ (k : ℕ). pick (eqb k 0) 0 256) e
-untold-code (Status f) n r e q = q ∙ rw (e, ne-eqb (256 + f .fsc) 0 (λ z. omega arith))
+without-status-code : (a : Answer) (n r : ℕ) → n ≡ codeOf a → r ≡ pick (eqb n 0) 0 256 → r ≡ codeBy (reaching (reachedBy a))
+without-status-code (Address pa) n r e q = q ∙ ap (λ (k : ℕ). pick (eqb k 0) 0 256) e
+without-status-code (Status f) n r e q = q ∙ rw (e, ne-eqb (256 + f .fsc) 0 (λ z. omega arith))
 
-untold-value : (a : Answer) (old : ℕ) → valueOf a old ≡ valueBy (reaching (reachedBy a)) old
-untold-value (Address pa) old = refl
-untold-value (Status fsc) old = refl
+without-status-value : (a : Answer) (old : ℕ) → valueOf a old ≡ valueBy (reaching (reachedBy a)) old
+without-status-value (Address pa) old = refl
+without-status-value (Status fsc) old = refl
 
 module _ (ws : List ℕ) (base : ℕ) (ram : List ℕ) (va n r old v : ℕ) (xs : List ℕ) (er : r ≡ pick (eqb n 0) 0 256) where
   pub data-tells : n ≡ codeOf (translateOf (coreOf ws) (wordAt base ram 8) va Read .answer) → v ≡ valueOf (translateOf (coreOf ws) (wordAt base ram 8) va Read .answer) old
@@ -82,16 +82,16 @@ module _ (ws : List ℕ) (base : ℕ) (ram : List ℕ) (va n r old v : ℕ) (xs 
   unfolding runOf dataPaOf translateOf
   data-tells en ev m =
       let a = translateOf (coreOf ws) (wordAt base ram 8) va Read .answer in
-      let c = untold-code a n r en er in
-      record { code = c; value = ev ∙ untold-value a old; words = m; kept = kept-late ws xs (reaching (reachedBy a)) r c (reach-late (reachedBy a)) }
+      let c = without-status-code a n r en er in
+      record { code = c; value = ev ∙ without-status-value a old; words = m; kept = kept-late ws xs (reaching (reachedBy a)) r c (reach-late (reachedBy a)) }
 
   pub fetch-pa-tells : n ≡ codeOf (fetchSteppedNow (coreOf ws) (wordAt base ram 8) va .answer) → v ≡ valueOf (fetchSteppedNow (coreOf ws) (wordAt base ram 8) va .answer) old
       → NowHolds ws xs (withTlb (coreOf ws) (fetchSteppedNow (coreOf ws) (wordAt base ram 8) va .tlb)) → Tells (runOf (coreOf ws) base ram (Call.FetchPa va)) ws r old v xs
   unfolding runOf fetchPaOf
   fetch-pa-tells en ev m =
       let a = fetchSteppedNow (coreOf ws) (wordAt base ram 8) va .answer in
-      let c = untold-code a n r en er in
-      record { code = c; value = ev ∙ untold-value a old; words = m; kept = kept-late ws xs (reaching (reachedBy a)) r c (reach-late (reachedBy a)) }
+      let c = without-status-code a n r en er in
+      record { code = c; value = ev ∙ without-status-value a old; words = m; kept = kept-late ws xs (reaching (reachedBy a)) r c (reach-late (reachedBy a)) }
 
 -- FETCHES
 

@@ -1,7 +1,7 @@
 pub mod Ends
 pub mod Naming
 pub mod Replying
-pub mod Booking
+pub mod Checking
 pub mod Passing
 pub mod Addressing
 pub mod Bytewise

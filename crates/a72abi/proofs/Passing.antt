@@ -27,7 +27,7 @@ use Rattle.a72abi.specs.Kept.{Kept, kept-same}
 use Rattle.a72abi.specs.Inside.{Tells}
 use Rattle.a72abi.specs.Promise.{Gives}
 use Rattle.a72abi.specs.declared.op.DecodedCall.the-variants.{Known}
-use Rattle.a72abi.proofs.Booking.{refused-reply, refused-core, runs}
+use Rattle.a72abi.proofs.Checking.{refused-reply, refused-core, runs}
 
 -- a step told
 
@@ -52,11 +52,11 @@ module _ (ws : List ℕ) (base : ℕ) (ram : List ℕ) (call : Call) (n : ℕ) (
   passed-gives k old v xs z t = gives call (tells-as (sym (runs ws base ram call n en z)) t)
 
 -- by a reply
-pub told-code : (s : Stepped) (r : Reply) (n : ℕ) → r ≡ s .reply → n ≡ codeBy r → n ≡ codeBy (s .reply)
-told-code s r n e q = q ∙ ap codeBy e
+pub put-answer-code : (s : Stepped) (r : Reply) (n : ℕ) → r ≡ s .reply → n ≡ codeBy r → n ≡ codeBy (s .reply)
+put-answer-code s r n e q = q ∙ ap codeBy e
 
-pub told-value : (s : Stepped) (r : Reply) (v old : ℕ) → r ≡ s .reply → v ≡ valueBy r old → v ≡ valueBy (s .reply) old
-told-value s r v old e q = q ∙ ap (λ (x : Reply). valueBy x old) e
+pub put-answer-value : (s : Stepped) (r : Reply) (v old : ℕ) → r ≡ s .reply → v ≡ valueBy r old → v ≡ valueBy (s .reply) old
+put-answer-value s r v old e q = q ∙ ap (λ (x : Reply). valueBy x old) e
 
 -- LEVEL AND WINDOW AT ONCE
 

@@ -186,8 +186,8 @@ store-stop-code a s n e q = rw e q
 pub store-stop-value : (a : StoreAnswer) (s : Stop) (v old : ℕ) → a ≡ Store.Stopped s → v ≡ stopValue s old → v ≡ valueBy (storing a) old
 store-stop-value a s v old e q = rw e q
 
-pub ruleset codes-told = (data-code, insn-code, undefined-code, svc-code, hvc-code, smc-code, brk-code, pc-alignment-code, stop-code, none-code, stopped-code, refused-code, done-code, faults-code, fault-code, value-code)
+pub ruleset codes-put-answer = (data-code, insn-code, undefined-code, svc-code, hvc-code, smc-code, brk-code, pc-alignment-code, stop-code, none-code, stopped-code, refused-code, done-code, faults-code, fault-code, value-code)
 
-pub ruleset values-told = (data-value, insn-value, undefined-value, svc-value, hvc-value, smc-value, brk-value, pc-alignment-value, stop-value, none-value, stopped-value, refused-value, done-value, faults-value, fault-value, value-value)
+pub ruleset values-put-answer = (data-value, insn-value, undefined-value, svc-value, hvc-value, smc-value, brk-value, pc-alignment-value, stop-value, none-value, stopped-value, refused-value, done-value, faults-value, fault-value, value-value)
 
-pub ruleset wordss-told = (data-words, insn-words, undefined-words, svc-words, hvc-words, smc-words, brk-words, pc-alignment-words, stop-words, none-words, refused-words, done-words, value-words, faults-words, fault-words, stopped-words)
+pub ruleset wordss-put-answer = (data-words, insn-words, undefined-words, svc-words, hvc-words, smc-words, brk-words, pc-alignment-words, stop-words, none-words, refused-words, done-words, value-words, faults-words, fault-words, stopped-words)

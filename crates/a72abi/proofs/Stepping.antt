@@ -54,7 +54,7 @@ use Rattle.a72abi.specs.Inside.{Steps, wordsFrom}
 use Rattle.a72abi.specs.Promise.{Promise, Setting, Runs, Gives}
 use Rattle.a72abi.specs.PromiseLaws.{tag-unmoved}
 use Rattle.a72abi.specs.Replies.{codeBy, valueBy, wordsBy, four}
-use Rattle.a72abi.proofs.Booking.{refused-reply, run-reply}
+use Rattle.a72abi.proofs.Checking.{refused-reply, run-reply}
 use Rattle.a72abi.specs.declared.op.DecodedCall.{DecodedCall}
 use Rattle.a72abi.specs.declared.op.DecodedCall.the-variants as DecodedCall
 use Rattle.a72abi.specs.declared.op.DecodedException.{DecodedException}

@@ -142,10 +142,10 @@ module _ (ws xs : List ℕ) where
   pub kept-done : Kept 0 ws xs
   kept-done = record { same = λ l h. absurd (omega arith) }
 
-  pub kept-told : (r : Reply) (n : ℕ) → n ≡ codeBy r → Stays r ws xs → Kept n ws xs
-  kept-told r n e s = record { same = λ l h. s .still (number-unmoved r (rw e at l) (rw e at h)) }
+  pub kept-put-answer : (r : Reply) (n : ℕ) → n ≡ codeBy r → Stays r ws xs → Kept n ws xs
+  kept-put-answer r n e s = record { same = λ l h. s .still (number-unmoved r (rw e at l) (rw e at h)) }
 
   pub kept-late : (r : Reply) (n : ℕ) → n ≡ codeBy r → unmoved r ≡ false → Kept n ws xs
-  kept-late r n e q = kept-told r n e (record { still = λ t. never (sym q ∙ t) })
+  kept-late r n e q = kept-put-answer r n e (record { still = λ t. never (sym q ∙ t) })
 
-pub ruleset keeping = (kept-same, kept-done, kept-told)
+pub ruleset keeping = (kept-same, kept-done, kept-put-answer)

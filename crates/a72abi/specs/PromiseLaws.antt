@@ -38,7 +38,7 @@ use Rattle.a72abi.specs.Replies.{codeBy, valueBy, wordsBy}
 use Rattle.a72abi.specs.Ops.{keyOf, translateCall}
 use Rattle.a72abi.specs.Steps.{callRam}
 use Rattle.words_sys.specs.Early.{never, earlyStop, store-late, zero-late}
-use Rattle.a72abi.specs.Kept.{unmoved, number-unmoved, unmoved-value, storing-late, kept-same, kept-told}
+use Rattle.a72abi.specs.Kept.{unmoved, number-unmoved, unmoved-value, storing-late, kept-same, kept-put-answer}
 use Rattle.a72abi.specs.Inside.{Steps}
 use Rattle.a72abi.specs.Promise.{Promise, Setting, StepPromise, Runs, Gives}
 use Rattle.a72abi.specs.declared.op.DecodedKind.{DecodedKind}
@@ -148,7 +148,7 @@ module _ (x : Call) (ws : List ℕ) (r : Reply) (n : ℕ) (xs : List ℕ)
             code = e ∙ ap codeBy (g .reply) ∙ ap (λ (s : Stepped). codeBy (s .reply)) (anywhere base ram);
             value = sym (valueless old) ∙ ap (λ (s : Stepped). valueBy (s .reply) old) (anywhere base ram);
             words = holds-as (g .words) (ap (λ (s : Stepped). s .core) (anywhere base ram));
-            kept = kept-told ws xs r n e (g .stays);
+            kept = kept-put-answer ws xs r n e (g .stays);
           })
 
 -- refused, or with no value of its own

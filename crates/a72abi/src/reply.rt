@@ -12,7 +12,7 @@ use operations::ends::StoreAnswer;
 use word::bits;
 
 // The number of an exception that stops an operation, and the address of a data abort.
-fn told(e: Exception, ans: &mut u64) -> u64
+fn put_answer(e: Exception, ans: &mut u64) -> u64
     ensures { λ r. ⌜ r ≡ exceptionCode e ⌝ }
     ensures { λ _. ⌜ now (ans .exit) ≡ exceptionValue e (now (ans .entry)) ⌝ }
 {
@@ -36,7 +36,7 @@ fn stopped(stop: Stop, ans: &mut u64) -> u64
     ensures { λ _. ⌜ now (ans .exit) ≡ stopValue stop (now (ans .entry)) ⌝ }
 {
     match stop {
-        Stop::Exception(e) => told(e, ans),
+        Stop::Exception(e) => put_answer(e, ans),
         Stop::Unimplemented => 66,
     }
 }

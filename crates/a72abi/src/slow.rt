@@ -69,8 +69,8 @@ pub(crate) fn translation(
     translate::address(state, va, kind, ans, base, ram)
 }
 
-// A fault is told without its status.
-fn untold(code: u64) -> u64
+// A fault is given without its status.
+fn without_status(code: u64) -> u64
     ensures { λ r. ⌜ r ≡ pick (eqb code 0) 0 256 ⌝ }
 {
     if code == 0 { 0 } else { 256 }
@@ -83,7 +83,7 @@ pub(crate) fn data_to(state: &mut State, va: u64, ans: &mut u64, base: u64, ram:
         (now (state .entry)) r (now (ans .entry)) (now (ans .exit)) (now (state .exit)) ⌝ }
 {
     let code = translate::address(state, va, Kind::Read, ans, base, ram);
-    untold(code)
+    without_status(code)
 }
 
 pub(crate) fn data_pa(state: &mut State, va: u64, ans: &mut u64, base: u64, ram: &[u8]) -> u64
@@ -104,7 +104,7 @@ pub(crate) fn fetch_to(state: &mut State, va: u64, ans: &mut u64, base: u64, ram
         (now (state .entry)) r (now (ans .entry)) (now (ans .exit)) (now (state .exit)) ⌝ }
 {
     let code = translate::fetch_address(state, va, ans, base, ram);
-    untold(code)
+    without_status(code)
 }
 
 pub(crate) fn fetch_pa(state: &mut State, va: u64, ans: &mut u64, base: u64, ram: &[u8]) -> u64

@@ -22,18 +22,18 @@ use Rattle.mmu.specs.declared.core.Core.{Core}
 use Rattle.words.specs.CoreOf.{coreOf}
 use Rattle.words.specs.Parts.{withCounts, withEntry, withHint}
 use Rattle.words.specs.NowHolds.{NowHolds, stays, holds-as, holds-on}
-use Rattle.words_memory.specs.Found.{codeOf, valueOf, noted, toldTo, sourced, committed}
+use Rattle.words_memory.specs.Found.{codeOf, valueOf, withHintFor, answerPut, sourced, committed}
 use Rattle.words_memory.specs.FoundLaws.{entry-back, unchanged}
 
 -- a hint noted
 module _ (ws : List ℕ) (privilege : Privilege) (kind : Kind) (va pa : ℕ) (b : Bool) (eb : b ≡ mayHint privilege kind) where
   pub hinted : (xs : List ℕ) (i : ℕ) (h : Hint) → b ≡ true → i ≡ dataSlot va kind → h ≡ hintFor va (privilege .level) pa
-      → NowHolds ws xs (withHint (coreOf ws) i h) → NowHolds ws xs (noted (coreOf ws) privilege kind va pa)
-  unfolding noted
+      → NowHolds ws xs (withHint (coreOf ws) i h) → NowHolds ws xs (withHintFor (coreOf ws) privilege kind va pa)
+  unfolding withHintFor
   hinted xs i h t ei eh m = rw (← eb, t, ← ei, ← eh) m
 
-  pub unhinted : b ≡ false → NowHolds ws ws (noted (coreOf ws) privilege kind va pa)
-  unfolding noted
+  pub unhinted : b ≡ false → NowHolds ws ws (withHintFor (coreOf ws) privilege kind va pa)
+  unfolding withHintFor
   unhinted f = rw (← eb, f) stays
 
 -- an answer told
@@ -44,8 +44,8 @@ module _ (a : Answer) where
   pub address-value : (pa old : ℕ) → a ≡ Address pa → pa ≡ valueOf a old
   address-value pa old e = rw e
 
-  pub address-core : (ws xs : List ℕ) (privilege : Privilege) (kind : Kind) (va pa : ℕ) → a ≡ Address pa → NowHolds ws xs (noted (coreOf ws) privilege kind va pa)
-      → NowHolds ws xs (toldTo (coreOf ws) privilege kind va a)
+  pub address-core : (ws xs : List ℕ) (privilege : Privilege) (kind : Kind) (va pa : ℕ) → a ≡ Address pa → NowHolds ws xs (withHintFor (coreOf ws) privilege kind va pa)
+      → NowHolds ws xs (answerPut (coreOf ws) privilege kind va a)
   address-core ws xs privilege kind va pa e m = rw e m
 
   pub status-code : (f : Fault) → a ≡ Status f → 256 + f .fsc ≡ codeOf a
@@ -54,7 +54,7 @@ module _ (a : Answer) where
   pub status-value : (f : Fault) (old : ℕ) → a ≡ Status f → old ≡ valueOf a old
   status-value f old e = rw e
 
-  pub status-core : (ws : List ℕ) (privilege : Privilege) (kind : Kind) (va : ℕ) (f : Fault) → a ≡ Status f → NowHolds ws ws (toldTo (coreOf ws) privilege kind va a)
+  pub status-core : (ws : List ℕ) (privilege : Privilege) (kind : Kind) (va : ℕ) (f : Fault) → a ≡ Status f → NowHolds ws ws (answerPut (coreOf ws) privilege kind va a)
   status-core ws privilege kind va f e = rw e stays
 
 -- what a source changes
@@ -84,5 +84,5 @@ module _ (ws : List ℕ) (slot : ℕ) (source : Source) (made : Entry) where
 
 -- and then the answer told
 pub commits : (ws xs ys : List ℕ) (privilege : Privilege) (kind : Kind) (va slot : ℕ) (t : Resolved) → NowHolds ws xs (sourced (coreOf ws) slot (t .source) (t .made))
-    → NowHolds xs ys (toldTo (coreOf xs) privilege kind va (t .answer)) → NowHolds ws ys (committed (coreOf ws) privilege kind va slot t)
-commits ws xs ys privilege kind va slot t m n = holds-on (λ d. toldTo d privilege kind va (t .answer)) m n refl
+    → NowHolds xs ys (answerPut (coreOf xs) privilege kind va (t .answer)) → NowHolds ws ys (committed (coreOf ws) privilege kind va slot t)
+commits ws xs ys privilege kind va slot t m n = holds-on (λ d. answerPut d privilege kind va (t .answer)) m n refl

@@ -38,7 +38,7 @@ use Rattle.mmu.specs.declared.ops.Translated.{Translated}
 use Rattle.words.specs.CoreOf.{coreOf}
 use Rattle.words.specs.Parts.{withCache, withCounts, withEntry, withHint, withFetchHint}
 use Rattle.words.specs.NowHolds.{NowHolds, stays, holds-as, holds-on}
-use Rattle.words_memory.specs.Found.{codeOf, valueOf, answering, hintFound, fetchHint, noted, toldTo, sourced, committed, committing, lookedTo, foundTo, pagedBy, pagedTo}
+use Rattle.words_memory.specs.Found.{codeOf, valueOf, answering, hintFound, fetchHint, withHintFor, answerPut, sourced, committed, committing, lookedTo, foundTo, pagedBy, pagedTo}
 use Rattle.words_memory.specs.FoundLaws.{unchanged, hint-serves, hint-misses}
 use Rattle.words_memory.specs.FetchLaws.{fetchTo, fetch-serves, fetch-misses}
 
@@ -116,10 +116,10 @@ module _ (ws : List ℕ) (memory : ℕ → Word) (va : ℕ) (kind : Kind) (privi
     on-core xs m = holds-as m (ap (λ (x : Translated). x .core) found-is)
 
   module _ (f : a ≡ Flat) where
-    flat-is : answering (noted c privilege kind va va) (Address va) ≡ found
+    flat-is : answering (withHintFor c privilege kind va va) (Address va) ≡ found
     unfolding foundTo sourced
     flat-is =
-        (λ i. answering (noted (sym (unchanged c slot) i) (ew i) kind va va) (Address va))
+        (λ i. answering (withHintFor (sym (unchanged c slot) i) (ew i) kind va va) (Address va))
         ∙ ap (committing c (c .privilege) kind va slot)
         (ap (λ (x : Asked). changesOf x (bankNow c) (c .privilege) (c .tlb .cache .current) own va kind memory) (sym f) ∙ changes-is)
 
@@ -129,7 +129,7 @@ module _ (ws : List ℕ) (memory : ℕ → Word) (va : ℕ) (kind : Kind) (privi
     pub off-value : (old : ℕ) → va ≡ valueOf (found .answer) old
     off-value old = ap (λ (x : Translated). valueOf (x .answer) old) flat-is
 
-    pub off-core : (xs : List ℕ) → NowHolds ws xs (noted c privilege kind va va) → NowHolds ws xs (found .core)
+    pub off-core : (xs : List ℕ) → NowHolds ws xs (withHintFor c privilege kind va va) → NowHolds ws xs (found .core)
     off-core xs m = holds-as m (ap (λ (x : Translated). x .core) flat-is)
 
 -- the hint
@@ -188,14 +188,14 @@ code-at (Status fsc) code pa old e z q = absurd (omega (arith, e, z))
 
 -- a translation leaves the level as it is
 found-privilege : (c : Core) (memory : ℕ → Word) (va : ℕ) (kind : Kind) → foundTo c memory va kind .core .privilege ≡ c .privilege
-unfolding foundTo sourced noted withHint withEntry withCounts withCache afterAccess
+unfolding foundTo sourced withHintFor withHint withEntry withCounts withCache afterAccess
 found-privilege c memory va kind = by (c-made .answer) (mayHint (c .privilege) kind) refl
   where
     c-made : Resolved
     c-made = missOf (bankNow c) (c .privilege) (c .tlb .cache .current) (entryAt (c .tlb .cache) (slotAt (bankNow c) (c .privilege .level) va)) va kind memory
 
     by : (a : Answer) (b : Bool) → mayHint (c .privilege) kind ≡ b
-        → toldTo (sourced c (slotAt (bankNow c) (c .privilege .level) va) (c-made .source) (c-made .made)) (c .privilege) kind va a .privilege ≡ c .privilege
+        → answerPut (sourced c (slotAt (bankNow c) (c .privilege .level) va) (c-made .source) (c-made .made)) (c .privilege) kind va a .privilege ≡ c .privilege
     by (Address pa) true e = rw e
     by (Address pa) false e = rw e
     by (Status fsc) b e = refl

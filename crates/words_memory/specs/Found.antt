@@ -54,12 +54,12 @@ unfoldable pub fetchHint : Core → ℕ → HintAnswer
 fetchHint c va = fetchFound (c .tlb .cache .fetch) (c .privilege .level) va
 
 -- an allowed address becomes a hint, where hints may serve
-unfoldable pub noted : Core → Privilege → Kind → ℕ → ℕ → Core
-noted c privilege kind va pa = pick (mayHint privilege kind) (withHint c (dataSlot va kind) (hintFor va (privilege .level) pa)) c
+unfoldable pub withHintFor : Core → Privilege → Kind → ℕ → ℕ → Core
+withHintFor c privilege kind va pa = pick (mayHint privilege kind) (withHint c (dataSlot va kind) (hintFor va (privilege .level) pa)) c
 
-abbrev pub toldTo : Core → Privilege → Kind → ℕ → Answer → Core
-toldTo c privilege kind va (Address pa) = noted c privilege kind va pa
-toldTo c privilege kind va (Status f) = c
+abbrev pub answerPut : Core → Privilege → Kind → ℕ → Answer → Core
+answerPut c privilege kind va (Address pa) = withHintFor c privilege kind va pa
+answerPut c privilege kind va (Status f) = c
 
 -- the counters and the entry of the slot, by an answer's source
 unfoldable pub sourced : Core → ℕ → Source → Entry → Core
@@ -68,7 +68,7 @@ sourced c slot source made =
 
 -- the changes of a translation stored: these and the hint
 abbrev pub committed : Core → Privilege → Kind → ℕ → ℕ → Resolved → Core
-committed c privilege kind va slot t = toldTo (sourced c slot (t .source) (t .made)) privilege kind va (t .answer)
+committed c privilege kind va slot t = answerPut (sourced c slot (t .source) (t .made)) privilege kind va (t .answer)
 
 abbrev pub committing : Core → Privilege → Kind → ℕ → ℕ → Resolved → Translated
 committing c privilege kind va slot t = answering (committed c privilege kind va slot t) (t .answer)

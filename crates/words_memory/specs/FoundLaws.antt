@@ -29,7 +29,7 @@ use Rattle.mmu.specs.Ops.{withTlb, steppedNow, translateOf}
 use Rattle.mmu.specs.Step.{slotAt, translateIn}
 use Rattle.mmu.specs.declared.core.Core.{Core}
 use Rattle.words.specs.Parts.{withCache, withCounts, withEntry, withHint}
-use Rattle.words_memory.specs.Found.{answering, hintFound, noted, toldTo, sourced, foundTo}
+use Rattle.words_memory.specs.Found.{answering, hintFound, withHintFor, answerPut, sourced, foundTo}
 
 -- a test that chose
 chose-at : (b : Bool) (x pa : ℕ) → pick b (At x) Unknown ≡ At pa → (b ≡ true) × (x ≡ pa)
@@ -86,19 +86,19 @@ module _ (c : Core) where
       ap (λ (hs : List Hint). celled hs (setEntry (c .tlb .cache) slot e .entries) k) (set-getD (c .tlb .cache .hints) place noHint)
 
   module _ (va : ℕ) (kind : Kind) (slot : ℕ) (e : Entry) (k : Counts) where
-    told-with : (b : Bool) → mayHint (c .privilege) kind ≡ b → (a : Answer)
+    put-answer-with : (b : Bool) → mayHint (c .privilege) kind ≡ b → (a : Answer)
         → back slot (dataSlot va kind) e (hintAfter (mayHint (c .privilege) kind) (c .privilege .level) va a (hintAt (c .tlb .cache) (dataSlot va kind))) k
-        ≡ toldTo (withEntry (withCounts c k) slot e) (c .privilege) kind va a
-    unfolding noted withHint withEntry withCounts withCache afterAccess
-    told-with true q (Address pa) = rw q
-    told-with true q (Status f) = rw q (hint-back slot (dataSlot va kind) e k)
-    told-with false q (Address pa) = rw q (hint-back slot (dataSlot va kind) e k)
-    told-with false q (Status f) = rw q (hint-back slot (dataSlot va kind) e k)
+        ≡ answerPut (withEntry (withCounts c k) slot e) (c .privilege) kind va a
+    unfolding withHintFor withHint withEntry withCounts withCache afterAccess
+    put-answer-with true q (Address pa) = rw q
+    put-answer-with true q (Status f) = rw q (hint-back slot (dataSlot va kind) e k)
+    put-answer-with false q (Address pa) = rw q (hint-back slot (dataSlot va kind) e k)
+    put-answer-with false q (Status f) = rw q (hint-back slot (dataSlot va kind) e k)
 
-    told-back : (a : Answer)
+    put-answer-back : (a : Answer)
         → back slot (dataSlot va kind) e (hintAfter (mayHint (c .privilege) kind) (c .privilege .level) va a (hintAt (c .tlb .cache) (dataSlot va kind))) k
-        ≡ toldTo (withEntry (withCounts c k) slot e) (c .privilege) kind va a
-    told-back a = told-with (mayHint (c .privilege) kind) refl a
+        ≡ answerPut (withEntry (withCounts c k) slot e) (c .privilege) kind va a
+    put-answer-back a = put-answer-with (mayHint (c .privilege) kind) refl a
 
 module _ (c : Core) (memory : ℕ → Word) (va : ℕ) (kind : Kind) where
   abbrev level : ℕ
@@ -130,5 +130,5 @@ module _ (c : Core) (memory : ℕ → Word) (va : ℕ) (kind : Kind) where
       rw (chose-none (mayHint (c .privilege) kind && eqb (hint .key) (hintKey va level)) (onPage (hint .pa) va) h)
       (λ i.
       answering
-      (told-back c va kind slot (keptBy (t .source) (entryAt (c .tlb .cache) slot) (t .made)) (countedBy (t .source) (c .tlb .counts)) (t .answer) i)
+      (put-answer-back c va kind slot (keptBy (t .source) (entryAt (c .tlb .cache) slot) (t .made)) (countedBy (t .source) (c .tlb .counts)) (t .answer) i)
       (t .answer))

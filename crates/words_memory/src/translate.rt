@@ -7,7 +7,8 @@ ghost use Rattle.tlb.specs.declared.access.Kind.the-variants.{Fetch};
 ghost use Rattle.mmu.specs.Ops.{translateOf, fetchSteppedNow, withTlb};
 ghost use Rattle.words.specs.CoreOf.{coreOf};
 ghost use Rattle.words.specs.NowHolds.{NowHolds};
-ghost use Rattle.words_memory.specs.Found.{codeOf, valueOf, hintFound, fetchHint, noted, toldTo, sourced};
+ghost use Rattle.words_memory.specs.Found.{codeOf, valueOf, hintFound, fetchHint, withHintFor, answerPut};
+ghost use Rattle.words_memory.specs.Found.{sourced};
 ghost use Rattle.words_memory.specs.Found.{committed, lookedAt};
 ghost use Rattle.words_memory.specs.Found.{foundAt, pagedTo};
 use tlb::access;
@@ -30,9 +31,9 @@ use words::regs;
 use words::state;
 
 // An allowed address becomes a hint, where hints may serve.
-fn note(state: &mut State, privilege: Privilege, kind: Kind, va: u64, pa: u64)
+fn keep_hint(state: &mut State, privilege: Privilege, kind: Kind, va: u64, pa: u64)
     ensures { λ _. ⌜ NowHolds (now (state .entry)) (now (state .exit))
-        (noted (coreOf (now (state .entry))) privilege kind va pa) ⌝ }
+        (withHintFor (coreOf (now (state .entry))) privilege kind va pa) ⌝ }
 {
     let hinted = access::may_hint(privilege, kind);
     if hinted {
@@ -43,7 +44,7 @@ fn note(state: &mut State, privilege: Privilege, kind: Kind, va: u64, pa: u64)
 }
 
 // An answer's number; its address becomes a hint.
-fn told(
+fn put_answer(
     state: &mut State,
     privilege: Privilege,
     kind: Kind,
@@ -55,12 +56,12 @@ fn told(
     ensures { λ r. ⌜ r ≡ codeOf answer ⌝ }
     ensures { λ r. ⌜ now (pa .exit) ≡ valueOf answer (now (pa .entry)) ⌝ }
     ensures { λ _. ⌜ NowHolds (now (state .entry)) (now (state .exit))
-        (toldTo (coreOf (now (state .entry))) privilege kind va answer) ⌝ }
+        (answerPut (coreOf (now (state .entry))) privilege kind va answer) ⌝ }
 {
     match answer {
         Answer::Address(at) => {
             *pa = at;
-            note(state, privilege, kind, va, at);
+            keep_hint(state, privilege, kind, va, at);
             0
         }
         Answer::Status(fault) => 256 + fault.fsc as u64,
@@ -88,7 +89,7 @@ fn put_changes(state: &mut State, slot: usize, source: Source, made: Entry)
     }
 }
 
-// The changes of a translation are stored, and its answer told.
+// The changes of a translation are stored, and its answer given.
 fn commit(
     state: &mut State,
     privilege: Privilege,
@@ -108,7 +109,7 @@ fn commit(
     let source = t.source;
     let made = t.made;
     put_changes(state, slot, source, made);
-    told(state, privilege, kind, va, answer, pa)
+    put_answer(state, privilege, kind, va, answer, pa)
 }
 
 // With stage 1 on: the cell that is asked, its changes, the commit.
@@ -154,7 +155,7 @@ pub fn find(state: &mut State, va: u64, kind: Kind, pa: &mut u64, base: u64, ram
     match resolve::ask(s, privilege, va) {
         Asked::Flat => {
             *pa = va;
-            note(state, privilege, kind, va, va);
+            keep_hint(state, privilege, kind, va, va);
             0
         }
         Asked::Of(q) => look(state, q, privilege, kind, va, pa, base, ram),

@@ -1,5 +1,5 @@
 -- `a72abi::calls::a72_system` meets its contract.
-use Rattle.a72abi.proofs.Passing.{told-code, told-value}
+use Rattle.a72abi.proofs.Passing.{put-answer-code, put-answer-value}
 use Rattle.a72abi.specs.PromiseLaws.{promise}
 use Rattle.a72abi.specs.Kept.{keeping}
 use borrow.Author.Needs.{needs}
@@ -16,7 +16,7 @@ same-length : tie.Need-same-length
 same-length c = search needs
 
 returns : tie.Need-returns
-returns c = promise _ _ _ _ _ _ _ _ _ (record { code = search (told-code, needs); value = search (told-value, needs); words = search needs; kept = search (keeping, needs) }) (search needs)
+returns c = promise _ _ _ _ _ _ _ _ _ (record { code = search (put-answer-code, needs); value = search (put-answer-value, needs); words = search needs; kept = search (keeping, needs) }) (search needs)
 
 pub a72-system-spec : {M : Type 1} → statement M
 a72-system-spec = tie.close (tie.spec system-requires answer-requires same-length returns)

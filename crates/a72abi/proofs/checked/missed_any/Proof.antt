@@ -1,5 +1,5 @@
 -- `a72abi::checked::missed_any` meets its contract.
-use Rattle.a72abi.proofs.Booking.{any-missed}
+use Rattle.a72abi.proofs.Checking.{any-missed}
 use borrow.Author.Needs.{needs}
 use Rattle.a72abi.proofs.checked.missed_any.Statement.{statement}
 use Rattle.a72abi.proofs.checked.missed_any.Tie as tie

@@ -1,5 +1,5 @@
 -- `a72abi::checked::missed_general` meets its contract.
-use Rattle.a72abi.proofs.Booking.{general-missed}
+use Rattle.a72abi.proofs.Checking.{general-missed}
 use borrow.Author.Needs.{needs}
 use Rattle.a72abi.proofs.checked.missed_general.Statement.{statement}
 use Rattle.a72abi.proofs.checked.missed_general.Tie as tie

@@ -1,5 +1,5 @@
 -- `a72abi::checked::missed_level` meets its contract.
-use Rattle.a72abi.proofs.Booking.{level-missed}
+use Rattle.a72abi.proofs.Checking.{level-missed}
 use borrow.Author.Needs.{needs}
 use Rattle.a72abi.proofs.checked.missed_level.Statement.{statement}
 use Rattle.a72abi.proofs.checked.missed_level.Tie as tie

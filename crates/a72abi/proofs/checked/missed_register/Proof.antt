@@ -1,5 +1,5 @@
 -- `a72abi::checked::missed_register` meets its contract.
-use Rattle.a72abi.proofs.Booking.{register-missed}
+use Rattle.a72abi.proofs.Checking.{register-missed}
 use borrow.Author.Needs.{needs}
 use Rattle.a72abi.proofs.checked.missed_register.Statement.{statement}
 use Rattle.a72abi.proofs.checked.missed_register.Tie as tie

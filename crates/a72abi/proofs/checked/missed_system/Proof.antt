@@ -1,5 +1,5 @@
 -- `a72abi::checked::missed_system` meets its contract.
-use Rattle.a72abi.proofs.Booking.{system-missed}
+use Rattle.a72abi.proofs.Checking.{system-missed}
 use borrow.Author.Needs.{needs}
 use Rattle.a72abi.proofs.checked.missed_system.Statement.{statement}
 use Rattle.a72abi.proofs.checked.missed_system.Tie as tie

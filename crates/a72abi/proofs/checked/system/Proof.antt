@@ -1,5 +1,5 @@
 -- `a72abi::checked::system` meets its contract.
-use Rattle.a72abi.proofs.Booking.{refused-reply, refused-ram, refused-core, stored-reply, run-ram, run-core}
+use Rattle.a72abi.proofs.Checking.{refused-reply, refused-ram, refused-core, stored-reply, run-ram, run-core}
 use Rattle.cpu.specs.Step.{runOf, ramOf}
 use Rattle.a72abi.specs.Kept.{staying}
 use borrow.Author.Needs.{needs}

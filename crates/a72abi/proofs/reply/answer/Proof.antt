@@ -1,5 +1,5 @@
 -- `a72abi::reply::answer` meets its contract.
-use Rattle.a72abi.proofs.Replying.{codes-told, values-told}
+use Rattle.a72abi.proofs.Replying.{codes-put-answer, values-put-answer}
 use borrow.Author.Needs.{needs}
 use Rattle.a72abi.proofs.reply.answer.Statement.{statement}
 use Rattle.a72abi.proofs.reply.answer.Tie as tie
@@ -47,10 +47,10 @@ returns-4 : tie.Need-returns-4
 returns-4 c = search needs
 
 returns-5 : tie.Need-returns-5
-returns-5 c = (search (codes-told, needs), search (values-told, needs))
+returns-5 c = (search (codes-put-answer, needs), search (values-put-answer, needs))
 
 returns-6 : tie.Need-returns-6
-returns-6 c = (search (codes-told, needs), search (values-told, needs))
+returns-6 c = (search (codes-put-answer, needs), search (values-put-answer, needs))
 
 pub answer-spec : {M : Type 1} → statement M
 answer-spec =

@@ -1,5 +1,5 @@
 -- `a72abi::reply::exception_words` meets its contract.
-use Rattle.a72abi.proofs.Replying.{wordss-told}
+use Rattle.a72abi.proofs.Replying.{wordss-put-answer}
 use borrow.Author.Needs.{needs}
 use Rattle.a72abi.proofs.reply.exception_words.Statement.{statement}
 use Rattle.a72abi.proofs.reply.exception_words.Tie as tie
@@ -38,10 +38,10 @@ enum-told-6 : tie.Need-enum-told-6
 enum-told-6 c = search needs
 
 returns : tie.Need-returns
-returns c = search (wordss-told, needs)
+returns c = search (wordss-put-answer, needs)
 
 returns-2 : tie.Need-returns-2
-returns-2 c = search (wordss-told, needs)
+returns-2 c = search (wordss-put-answer, needs)
 
 returns-3 : tie.Need-returns-3
 returns-3 c = search needs

@@ -1,5 +1,5 @@
 -- `a72abi::reply::words` meets its contract.
-use Rattle.a72abi.proofs.Replying.{wordss-told}
+use Rattle.a72abi.proofs.Replying.{wordss-put-answer}
 use borrow.Author.Needs.{needs}
 use Rattle.a72abi.proofs.reply.words.Statement.{statement}
 use Rattle.a72abi.proofs.reply.words.Tie as tie
@@ -32,22 +32,22 @@ stop-words-requires : tie.Need-stop-words-requires
 stop-words-requires c κs = search needs
 
 returns : tie.Need-returns
-returns c = search (wordss-told, needs)
+returns c = search (wordss-put-answer, needs)
 
 returns-2 : tie.Need-returns-2
-returns-2 c = search (wordss-told, needs)
+returns-2 c = search (wordss-put-answer, needs)
 
 returns-3 : tie.Need-returns-3
-returns-3 c = search (wordss-told, needs)
+returns-3 c = search (wordss-put-answer, needs)
 
 returns-4 : tie.Need-returns-4
-returns-4 c = search (wordss-told, needs)
+returns-4 c = search (wordss-put-answer, needs)
 
 returns-5 : tie.Need-returns-5
-returns-5 c = search (wordss-told, needs)
+returns-5 c = search (wordss-put-answer, needs)
 
 returns-6 : tie.Need-returns-6
-returns-6 c = search (wordss-told, needs)
+returns-6 c = search (wordss-put-answer, needs)
 
 pub words-spec : {M : Type 1} → statement M
 words-spec =

@@ -1,5 +1,5 @@
 -- `a72abi::slow::missed_sized` meets its contract.
-use Rattle.a72abi.proofs.Booking.{sized-missed}
+use Rattle.a72abi.proofs.Checking.{sized-missed}
 use borrow.Author.Needs.{needs}
 use Rattle.a72abi.proofs.slow.missed_sized.Statement.{statement}
 use Rattle.a72abi.proofs.slow.missed_sized.Tie as tie

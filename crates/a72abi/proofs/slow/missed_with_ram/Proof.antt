@@ -1,5 +1,5 @@
 -- `a72abi::slow::missed_with_ram` meets its contract.
-use Rattle.a72abi.proofs.Booking.{ram-missed}
+use Rattle.a72abi.proofs.Checking.{ram-missed}
 use borrow.Author.Needs.{needs}
 use Rattle.a72abi.proofs.slow.missed_with_ram.Statement.{statement}
 use Rattle.a72abi.proofs.slow.missed_with_ram.Tie as tie

@@ -1,6 +1,6 @@
 -- `a72abi::slow::store` meets its contract.
 use Rattle.a72abi.proofs.Passing.{refused-gives, passed-gives}
-use Rattle.a72abi.proofs.Booking.{refused-ram, passed-ram-is}
+use Rattle.a72abi.proofs.Checking.{refused-ram, passed-ram-is}
 use Rattle.a72abi.proofs.OnePage.{sized-store, sized-store-ram, sized-none-store, sized-none-ram, near-width, near-page, hint-none, hint-store, hint-store-ram}
 use Rattle.operations.specs.Check.{missedOf}
 use borrow.Author.Needs.{needs}

@@ -7,8 +7,8 @@ use Rattle.words_memory.proofs.translate.commit.Tie as tie
 put-changes-requires : tie.Need-put-changes-requires
 put-changes-requires c κs = search needs
 
-told-requires : tie.Need-told-requires
-told-requires c κs = search needs
+put-answer-requires : tie.Need-put-answer-requires
+put-answer-requires c κs = search needs
 
 returns : tie.Need-returns
 returns c = (search needs, (search needs, (search needs, search (commits, needs))))
@@ -18,5 +18,5 @@ commit-spec =
     tie.close
     (tie.spec
     put-changes-requires
-    told-requires
+    put-answer-requires
     returns)

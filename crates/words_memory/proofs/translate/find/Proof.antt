@@ -19,8 +19,8 @@ ask-requires c κs = search needs
 enum-told : tie.Need-enum-told
 enum-told c = search needs
 
-note-requires : tie.Need-note-requires
-note-requires c κs = search needs
+keep-hint-requires : tie.Need-keep-hint-requires
+keep-hint-requires c κs = search needs
 
 enum-known-q : tie.Need-enum-known-q
 enum-known-q c = search needs
@@ -43,7 +43,7 @@ find-spec =
     bank-at-requires
     ask-requires
     enum-told
-    note-requires
+    keep-hint-requires
     enum-known-q
     look-requires
     returns

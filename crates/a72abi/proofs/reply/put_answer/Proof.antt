@@ -1,8 +1,8 @@
--- `a72abi::reply::told` meets its contract.
-use Rattle.a72abi.proofs.Replying.{codes-told, values-told}
+-- `a72abi::reply::put_answer` meets its contract.
+use Rattle.a72abi.proofs.Replying.{codes-put-answer, values-put-answer}
 use borrow.Author.Needs.{needs}
-use Rattle.a72abi.proofs.reply.told.Statement.{statement}
-use Rattle.a72abi.proofs.reply.told.Tie as tie
+use Rattle.a72abi.proofs.reply.put_answer.Statement.{statement}
+use Rattle.a72abi.proofs.reply.put_answer.Tie as tie
 
 enum-known-e : tie.Need-enum-known-e
 enum-known-e c = search needs
@@ -41,10 +41,10 @@ enum-told-6 : tie.Need-enum-told-6
 enum-told-6 c = search needs
 
 returns : tie.Need-returns
-returns c = (search (codes-told, needs), search (values-told, needs))
+returns c = (search (codes-put-answer, needs), search (values-put-answer, needs))
 
 returns-2 : tie.Need-returns-2
-returns-2 c = (search (codes-told, needs), search (values-told, needs))
+returns-2 c = (search (codes-put-answer, needs), search (values-put-answer, needs))
 
 returns-3 : tie.Need-returns-3
 returns-3 c = search needs
@@ -64,8 +64,8 @@ returns-7 c = search needs
 returns-8 : tie.Need-returns-8
 returns-8 c = search needs
 
-pub told-spec : {M : Type 1} → statement M
-told-spec =
+pub put-answer-spec : {M : Type 1} → statement M
+put-answer-spec =
     tie.close
     (tie.spec
     enum-known-e

@@ -1,8 +1,8 @@
--- `words_memory::translate::note` meets its contract.
+-- `words_memory::translate::keep_hint` meets its contract.
 use Rattle.words_memory.proofs.Finding.{hinted, unhinted}
 use borrow.Author.Needs.{needs}
-use Rattle.words_memory.proofs.translate.note.Statement.{statement}
-use Rattle.words_memory.proofs.translate.note.Tie as tie
+use Rattle.words_memory.proofs.translate.keep_hint.Statement.{statement}
+use Rattle.words_memory.proofs.translate.keep_hint.Tie as tie
 
 may-hint-requires : tie.Need-may-hint-requires
 may-hint-requires c κs = search needs
@@ -22,8 +22,8 @@ returns c = search (hinted, needs)
 returns-2 : tie.Need-returns-2
 returns-2 c = search (unhinted, needs)
 
-pub note-spec : {M : Type 1} → statement M
-note-spec =
+pub keep-hint-spec : {M : Type 1} → statement M
+keep-hint-spec =
     tie.close
     (tie.spec
     may-hint-requires
