@@ -16,7 +16,7 @@ mkdir -p "$here/crates/word/src" "$here/crates/a72/src" "$here/tools" "$here/tes
 cp run check a72 "$here"
 cp tools/said.sh tools/requires.awk "$here/tools"
 echo 'echo the places are one' >"$here/tests/places.sh"
-printf 'word: # total\na72: word io\n' >"$here/crates.txt"
+printf 'word:\na72: word io\n' >"$here/crates.txt"
 echo 'kit of the test' >"$here/kit"
 : >"$here/crates/word/src/lib.rt"
 cat >"$work/bin/rt" <<'RT'
@@ -140,7 +140,7 @@ done
 echo "echo 'rt: a fault in rt' >&2; exit 2" >"$DOES"
 in_out 2 ./check && { has out 'rt: a fault in rt'; last out '0 passed, 1 failed'; }
 printf 'pub fn f()\n    requires { x }\n{\n' >crates/word/src/lib.rt
-in_out 1 ./check && { has err 'check: a requires on a public function of a total crate: crates/word/src/lib.rt:2'; last out '0 passed, 1 failed'; }
+in_out 1 ./check && { has err 'check: a requires on a public function: crates/word/src/lib.rt:2'; last out '0 passed, 1 failed'; }
 : >crates/word/src/lib.rt
 echo 'echo place LEVEL: 68 and 69; exit 1' >tests/places.sh
 in_out 1 ./check && { has err 'check: the places of a state differ: place LEVEL: 68 and 69'; last out '0 passed, 1 failed'; }

@@ -35,7 +35,8 @@ fn missed_register(state: &State, key: u32) -> u8
 }
 
 fn missed_level(state: &State, requested: u64) -> u8
-    ensures { λ r. ⌜ r ≡ firstOf ((ltb 3 (coreOf (now (state .entry)) .privilege .level) || ltb 3 requested, 1) ∷ []) ⌝ }
+    ensures { λ r. ⌜ r
+        ≡ firstOf ((ltb 3 (coreOf (now (state .entry)) .privilege .level) || ltb 3 requested, 1) ∷ []) ⌝ }
 {
     let privilege = state::privilege_at(state);
     check::levels(privilege.level, requested)
