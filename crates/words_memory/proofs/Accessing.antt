@@ -1,23 +1,28 @@
 -- Loads and stores in place put together from their parts, on plain values, for `search`.
 use mathlib.Core.Path.{_≡_, refl, ap, _∙_}
-use mathlib.Core.Bool.{Bool}
+use mathlib.Core.Bool.{Bool, true, false}
 use mathlib.Core.List.{List}
 use Prim.Native.Nat.{ℕ}
 use Rattle.word.specs.Ram.{wordAt}
+use Rattle.word.specs.declared.ram.Word.{Word}
 use Rattle.walk.specs.Regime.{bankOf, regimeOf, stage1On}
 use Rattle.walk.specs.declared.regime.Regime.{Regime}
 use Rattle.walk.specs.declared.regime.Bank.{Bank}
+use Rattle.tlb.specs.declared.access.Kind.{Kind}
 use Rattle.tlb.specs.declared.access.Kind.the-variants.{Read, Write}
 use Rattle.tlb.specs.declared.access.Privilege.{Privilege}
 use Rattle.mmu.specs.Core.{afterAccess, bankNow}
+use Rattle.operations.specs.Place.{nextPage, crosses, goesOn, placedOne, placedBoth}
+use Rattle.mmu.specs.Step.{locatedOf}
 use Rattle.operations.specs.Ends.{loadEnd, storeEnd, storeRamEnd}
-use Rattle.mmu.specs.Ops.{translateAccessOf, readOf, writeOf, ramAfterWrite}
+use Rattle.mmu.specs.Ops.{steppedNow, locatedNow, translateOf, translateAccessOf, readOf, writeOf, ramAfterWrite}
 use Rattle.mmu.specs.declared.core.Core.{Core}
 use Rattle.operations.specs.declared.place.Placed.{Placed}
 use Rattle.operations.specs.declared.ends.LoadEnd.{LoadEnd}
 use Rattle.operations.specs.declared.ends.StoreEnd.{StoreEnd}
 use Rattle.operations.specs.declared.ends.LoadAnswer.{LoadAnswer}
 use Rattle.operations.specs.declared.ends.StoreAnswer.{StoreAnswer}
+use Rattle.mmu.specs.declared.ops.Accessed.{Accessed}
 use Rattle.words.specs.CoreOf.{coreOf}
 use Rattle.words.specs.Parts.{withLast, withAbort}
 use Rattle.words.specs.NowHolds.{NowHolds, holds-as, holds-on}
@@ -28,6 +33,33 @@ pub on-now : (c : Core) (privilege : Privilege) (r : Regime) (s : Bank) (b : Boo
 on-now c privilege r s b ew er es eb =
     let own : r ≡ regimeOf (c .privilege .level) = er ∙ ap (λ (x : Privilege). regimeOf (x .level)) ew in
     eb ∙ λ i. stage1On ((es ∙ ap (bankOf (c .control)) own) i) (own i)
+
+-- THE TRANSLATIONS of an access, by whether it goes on to a second page
+
+module _ (c : Core) (memory : ℕ → Word) (va n : ℕ) (kind : Kind) where
+  abbrev test : Bool
+  test = goesOn (translateOf c memory va kind .answer) (crosses (stage1On (bankNow c) (regimeOf (c .privilege .level))) va n)
+
+  abbrev one : Accessed
+  one = record { core = translateOf c memory va kind .core; placed = placedOne va (translateOf c memory va kind .answer) }
+
+  pub one-is : test ≡ false → translateAccessOf c memory va n kind ≡ one
+  unfolding translateAccessOf locatedNow locatedOf translateOf steppedNow
+  one-is f = rw f
+
+  abbrev after : Core
+  after = translateOf c memory va kind .core
+
+  abbrev both : Accessed
+  both =
+      record {
+        core = translateOf after memory (nextPage va) kind .core;
+        placed = placedBoth va (translateOf c memory va kind .answer) (translateOf after memory (nextPage va) kind .answer);
+      }
+
+  pub both-is : test ≡ true → translateAccessOf c memory va n kind ≡ both
+  unfolding translateAccessOf locatedNow locatedOf translateOf steppedNow afterAccess
+  both-is t = rw t
 
 -- LOADS
 
