@@ -61,7 +61,7 @@ translation-tells ws base ram va kind n old v xs en ev m =
     let c : n ≡ codeBy (translation va a) = en ∙ translation-code va a in
     record { code = c; value = ev ∙ translation-value va old a; words = m; kept = kept-late ws xs (translation va a) n c (translation-late va a) }
 
--- a status that is not told
+-- a fault without its status
 pub without-status-zero : (n : ℕ) → n ≡ 0 → _≡_ {A = ℕ} 0 (pick (eqb n 0) 0 256)
 without-status-zero n e = sym (rw e)
 

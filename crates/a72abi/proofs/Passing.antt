@@ -29,7 +29,7 @@ use Rattle.a72abi.specs.Promise.{Gives}
 use Rattle.a72abi.specs.declared.op.DecodedCall.the-variants.{Known}
 use Rattle.a72abi.proofs.Checking.{refused-reply, refused-core, runs}
 
--- a step told
+-- a step by its number
 
 pub tells-as : {s t : Stepped} {ws : List ℕ} {n old v : ℕ} {xs : List ℕ} → s ≡ t → Tells s ws n old v xs → Tells t ws n old v xs
 tells-as {s} {t} {ws} {n} {old} {v} {xs} e h = subst (λ (x : Stepped). Tells x ws n old v xs) e h

@@ -1,4 +1,4 @@
--- What the contracts of `entry` cite, and the laws that crates above cite.
+-- What the contracts of `exception` cite, and the laws that crates above cite.
 pub mod Pstate
 pub mod Abort
 pub mod Syndrome

@@ -37,7 +37,7 @@ module _ (c : Core) (base : ℕ) (ram : List ℕ) (va : ℕ) where
   abbrev call : Call
   call = Call.Fetch va
 
-  -- the turn on the core's own cells, and what it leaves
+  -- the translation on the core's own cells, and what it leaves
   abbrev turn : Answered
   turn = fetchAnsweredOf (c .tlb .cache .fetch) (pageIn c va Fetch) va (wordAt base ram 8)
 

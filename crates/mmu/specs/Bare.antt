@@ -1,5 +1,5 @@
 -- The architectural state of a core: all of it but the cache and the two physical addresses that it keeps. Each update
--- is said here once: the core's own definitions make it with `inCore`, the core without a cache (demand3) makes it as
+-- is said here once: the core's own definitions make it with `inCore`, the core without a cache (transparency) makes it as
 -- it is.
 use mathlib.Core.Bool.{Bool, false}
 use mathlib.Core.List.{List}

@@ -40,7 +40,7 @@ use Rattle.mmu.specs.Core.{bankNow, afterAccess}
 use Rattle.mmu.specs.Ops.{steppedNow, fetchSteppedNow, translateOf}
 use Rattle.mmu.specs.Step.{translateIn, translateFetchIn, slotAt}
 use Rattle.mmu.specs.declared.core.Core.{Core}
-use Rattle.operations.specs.Change.{entryPlace, effectOf, countedAs, keptAs, allowed, addressOf, missBy, changeOf, fetchChangeOf, unchanged, answeredOf, turnBy}
+use Rattle.operations.specs.Change.{entryPlace, effectOf, countedAs, keptAs, allowed, addressOf, missBy, changeOf, fetchChangeOf, unchanged, answeredOf, answeredBy}
 use Rattle.mmu.specs.Parts.{lookupIn, pageIn, partsIn, storedIn, commitAt, commitIn}
 use Rattle.operations.specs.Fetches.{fetchTranslationAt, fetchAnsweredOf, fetchTranslationBy}
 use Rattle.operations.specs.Hinted.{hintPlace, hintServes}
@@ -99,18 +99,18 @@ same-core c i j =
 pub none-changed : (c : Core) (k : Lookup) → commitIn c (unchanged k) ≡ c
 none-changed c k = same-core c (k .hint % 512) (k .entry % 1024)
 
--- the same turn with another hint in its place
+-- the same translation with another hint in its place
 abbrev hintless : Translation → Hint → Translation
 hintless t h = record { counts = t .counts; hint = h; entry = t .entry; answer = t .answer; source = t .source }
 
--- a fetch's turn leaves the hint that it was handed, and does nothing else with it
+-- a fetch's translation leaves the hint that it was handed, and does nothing else with it
 fetch-translation : (on : Bool) (page : ℕ) (w : Walked) (r : Regime) (privilege : Privilege) (at : Current) (k : Counts) (h g : Hint) (e : Entry) (va : ℕ)
     → translationWith on page w r privilege at k h e va Fetch ≡ hintless (translationWith on page w r privilege at k g e va Fetch) h
 unfolding translationWith applied
 fetch-translation on page w r privilege at k h g e va = refl
 
 module _ (c : Core) (memory : ℕ → Word) (va : ℕ) where
-  -- the slot of the entry, and the turn with the hint of a place
+  -- the slot of the entry, and the translation with the hint of a place
   abbrev slot : ℕ
   slot = slotAt (bankNow c) (c .privilege .level) va
 
@@ -127,7 +127,7 @@ module _ (c : Core) (memory : ℕ → Word) (va : ℕ) where
   unfolding translateOf steppedNow translateIn translationOf afterAccess
   own-place kind = (refl, refl)
 
-  -- a fetch's turn, with whatever hint: the hint that it took goes back
+  -- a fetch's translation, with whatever hint: the hint that it took goes back
   fetch-at : (i : ℕ) → translationAt Fetch i ≡ hintless (translationAt Fetch (dataSlot va Fetch)) (hintAt (c .tlb .cache) i)
   unfolding translationOf
   fetch-at i = fetch-translation _ _ _ _ (c .privilege) (c .tlb .cache .current) (c .tlb .counts) (hintAt (c .tlb .cache) i) (hintAt (c .tlb .cache) (dataSlot va Fetch)) (entryAt (c .tlb .cache) slot) va
@@ -239,8 +239,8 @@ module _ (c : Core) (memory : ℕ → Word) (va : ℕ) where
     Translations t = (t .answer ≡ translateOf c memory va kind .answer) × (commitIn c (t .change) ≡ translateOf c memory va kind .core)
 
     pub miss-right : hintServes (hintAt (c .tlb .cache) i₀) (c .privilege) va kind ≡ false
-        → Translations (turnBy look (missBy (look .asked) (look .bank) (c .privilege) (c .tlb .cache .current) (pageIn c va kind .entry) va kind memory) va kind)
-    miss-right e = subst (λ (t : Resolved). Translations (turnBy look t va kind)) (sym asked-is) (missed e .0, at-places (changeOf look (misses j₀) va kind) ∙ missed e .1)
+        → Translations (answeredBy look (missBy (look .asked) (look .bank) (c .privilege) (c .tlb .cache .current) (pageIn c va kind .entry) va kind memory) va kind)
+    miss-right e = subst (λ (t : Resolved). Translations (answeredBy look t va kind)) (sym asked-is) (missed e .0, at-places (changeOf look (misses j₀) va kind) ∙ missed e .1)
 
     -- a translation on the core's own cells
     pub turn-right : Translations (answeredOf (pageIn c va kind) va kind memory)
@@ -249,7 +249,7 @@ module _ (c : Core) (memory : ℕ → Word) (va : ℕ) where
       where
         go : (b : Bool) → hintServes (hintAt (c .tlb .cache) i₀) (c .privilege) va kind ≡ b
             → Translations (pick b (record { change = unchanged look; answer = Address (onPage (hintAt (c .tlb .cache) i₀ .pa) va) })
-            (turnBy look (missBy (look .asked) (look .bank) (c .privilege) (c .tlb .cache .current) (pageIn c va kind .entry) va kind memory) va kind))
+            (answeredBy look (missBy (look .asked) (look .bank) (c .privilege) (c .tlb .cache .current) (pageIn c va kind .entry) va kind memory) va kind))
         go true e = (hint-turn e .0, none-changed c look ∙ hint-turn e .1)
         go false e = miss-right e
 

@@ -30,7 +30,7 @@ use Rattle.mmu.specs.declared.core.Core.{Core}
 use Rattle.mmu.specs.declared.step.Located.{Located}
 use Rattle.mmu.specs.declared.step.Stepped.{Stepped}
 use Rattle.operations.specs.Loads.{moreOf, oneTranslation, twoTranslations, bothOf}
-use Rattle.operations.specs.Change.{keptAs, entryPlace, answeredOf, unchanged, hintLeft, entryLeft, pageAfter, missBy, turnBy}
+use Rattle.operations.specs.Change.{keptAs, entryPlace, answeredOf, unchanged, hintLeft, entryLeft, pageAfter, missBy, answeredBy}
 use Rattle.mmu.specs.Parts.{lookupIn, pageIn, coreWith, keptIn, commitIn}
 use Rattle.operations.specs.Hinted.{hintPlace, hintServes}
 use Rattle.operations.specs.declared.loads.Both.{Both}
@@ -103,7 +103,7 @@ module _ (c : Core) (kind : Kind) (hs : length (c .tlb .cache .hints) ≡ 512) (
     unfolding answeredOf
     first-at = picked (hintServes (hintAt (c .tlb .cache) (hintPlace va kind)) (c .privilege) va kind)
         (record { change = unchanged (lookupIn c va kind); answer = Address (onPage (hintAt (c .tlb .cache) (hintPlace va kind) .pa) va) })
-        (turnBy (lookupIn c va kind) (missBy (lookupIn c va kind .asked) (bankNow c) (c .privilege) (c .tlb .cache .current) (pageIn c va kind .entry) va kind memory) va kind)
+        (answeredBy (lookupIn c va kind) (missBy (lookupIn c va kind .asked) (bankNow c) (c .privilege) (c .tlb .cache .current) (pageIn c va kind .entry) va kind memory) va kind)
         (hintPlace va kind) (entryPlace (askOf (bankNow c) (c .privilege) va)) (refl, refl) (refl, refl)
 
     -- what it leaves is what the operation's first translation leaves

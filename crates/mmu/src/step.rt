@@ -1,4 +1,4 @@
-// Translations as steps of a cache: the cells taken out, the turn, the cells put back.
+// Translations as steps of a cache: the cells taken out, the translation, the cells put back.
 ghost use mathlib.Core.Path.{_≡_};
 ghost use Rattle.word.specs.Ram.{wordAt, bytesIn};
 ghost use Rattle.mmu.specs.Step.{slotAt, translateIn, translateFetchIn, locatedOf};

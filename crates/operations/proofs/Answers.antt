@@ -95,6 +95,3 @@ module _ (a : Answer) (abort base : ℕ) (ram : List ℕ) (va : ℕ) where
 
 pub reach-at : (a : Answer) (pa : ℕ) → a ≡ Address pa → Reached.At pa ≡ reachedBy a
 reach-at a pa e = rw e
-
-pub reach-faults : (a : Answer) (f : Fault) → a ≡ Status f → Reached.Faults ≡ reachedBy a
-reach-faults a f e = rw e

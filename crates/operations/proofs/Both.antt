@@ -250,7 +250,7 @@ module _ (base : ℕ) (ram : List ℕ) (p : Pages) (n v : ℕ) (h : length ram <
           let q : p .«in_page» + j - p .«in_page» ≡ j = omega arith in
           rw (le-ltb (p .«in_page» + j) (p .«in_page») (omega arith), q) (mod-eq-of-lt s)
 
--- a load and a store at a glance
+-- a load and a store by one test
 module _ (base : ℕ) (ram : List ℕ) (p : Pages) (n : ℕ) (f : Bool) (ef : f ≡ bothInside base (length ram) p n) where
   pub lies : length ram < 2 ^ 64 → f ≡ true → Lie base (length ram) p n
   lies h t = both-lie base (length ram) p n h (sym ef ∙ t)

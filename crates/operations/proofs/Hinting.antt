@@ -7,11 +7,9 @@ use lib.Dec.{eqb}
 use lib.ListN.{length}
 use Rattle.word.specs.Ram.{wordAt}
 use Rattle.word.specs.declared.ram.Word.{Word}
-use Rattle.fault.specs.declared.Fault.{Fault}
 use Rattle.tlb.specs.Access.{mayHint}
 use Rattle.tlb.specs.Hint.{hintKey, onPage, fetchFound}
-use Rattle.tlb.specs.declared.access.Answer.{Answer}
-use Rattle.tlb.specs.declared.access.Answer.the-variants.{Address, Status}
+use Rattle.tlb.specs.declared.access.Answer.the-variants.{Address}
 use Rattle.tlb.specs.declared.access.Kind.{Kind}
 use Rattle.tlb.specs.declared.access.Kind.the-variants.{Fetch}
 use Rattle.tlb.specs.declared.resolve.Resolved.{Resolved}
@@ -20,20 +18,15 @@ use Rattle.tlb.specs.declared.hint.Hint.{Hint}
 use Rattle.tlb.specs.declared.hint.FetchHint.{FetchHint}
 use Rattle.tlb.specs.declared.hint.HintAnswer.{HintAnswer}
 use Rattle.tlb.specs.declared.hint.HintAnswer.the-variants.{At, Unknown}
-use Rattle.exception.specs.declared.kind.Exception.{Exception}
-use Rattle.exception.specs.declared.kind.Stop.the-variants as Stop
 use Rattle.operations.specs.Bytes.{insnOf}
 use Rattle.operations.specs.Ends.{fetchEnd}
 use Rattle.operations.specs.declared.bytes.Insn.{Insn}
 use Rattle.operations.specs.declared.bytes.Insn.the-variants as Insn
-use Rattle.operations.specs.declared.ends.FetchAnswer.{FetchAnswer}
-use Rattle.operations.specs.declared.ends.FetchAnswer.the-variants as Fetched
 use Rattle.operations.specs.declared.ends.FetchEnd.{FetchEnd}
 use Rattle.operations.specs.Check.{ramRows, firstOf}
-use Rattle.operations.specs.Replies.{translation, fetching}
+use Rattle.operations.specs.Replies.{fetching}
 use Rattle.operations.specs.declared.call.Reply.{Reply}
-use Rattle.operations.specs.declared.call.Reply.the-variants.{Refused, Done, Value, Stopped}
-use Rattle.operations.specs.declared.call.Reply.the-variants as Reply
+use Rattle.operations.specs.declared.call.Reply.the-variants.{Refused, Done, Value}
 use Rattle.operations.specs.Hinted.{hintServes, fastBy, fastOf}
 use Rattle.operations.specs.Fetches.{fastFetchBy, fastFetch, fetchAnsweredOf, fetchedOf}
 use Rattle.operations.specs.Change.{missBy, fetchChangeOf, unchanged}
@@ -43,12 +36,6 @@ use Rattle.operations.specs.declared.change.Page.{Page}
 use Rattle.operations.specs.declared.change.Answered.{Answered}
 use Rattle.operations.specs.declared.fetches.FetchAccess.{FetchAccess}
 use Rattle.operations.specs.declared.hinted.Fast.{Fast}
-
-pub reply-at : (va : ℕ) (a : Answer) (pa : ℕ) → a ≡ Address pa → Value pa ≡ translation va a
-reply-at va a pa e = rw e
-
-pub reply-fault : (va : ℕ) (a : Answer) (f : Fault) → a ≡ Status f → Reply.Fault va f ≡ translation va a
-reply-fault va a f e = rw e
 
 pub served-is : (h : Hint) (privilege : Privilege) (va : ℕ) (kind : Kind) (may : Bool) (key : ℕ) → may ≡ mayHint privilege kind → key ≡ hintKey va (privilege .level)
     → (may && eqb (h .key) key) ≡ hintServes h privilege va kind
@@ -96,12 +83,6 @@ module _ (privilege : Privilege) (f : FetchHint) (base : ℕ) (ram : List ℕ) (
       pub fetch-outside : g ≡ Insn.Outside → _≡_ {A = Fast} (record { ends = false; reply = Done }) (fastFetch privilege f base ram va)
       unfolding fastFetch
       fetch-outside ev = rw (← en, z, ← ep, e, ← eg, ev)
-
-pub insn-value : (a : FetchAnswer) (v : ℕ) → a ≡ Fetched.Value v → Value v ≡ fetching a
-insn-value a v e = rw e
-
-pub insn-aborted : (a : FetchAnswer) (x : Exception) → a ≡ Fetched.Aborted x → Stopped (Stop.Exception x) ≡ fetching a
-insn-aborted a x e = rw e
 
 module _ (f : FetchHint) (x : Page) (va : ℕ) (memory : ℕ → Word) (p : HintAnswer) (ep : p ≡ fetchFound f (x .lookup .privilege .level) va) where
   pub fetch-resolve-page-hit : (pa : ℕ) (c : Change) → p ≡ At pa → c ≡ unchanged (x .lookup) → _≡_ {A = Answered} (record { change = c; answer = Address pa }) (fetchAnsweredOf f x va memory)

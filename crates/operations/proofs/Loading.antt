@@ -18,7 +18,6 @@ use Rattle.tlb.specs.declared.access.Kind.{Kind}
 use Rattle.tlb.specs.declared.access.Kind.the-variants.{Read}
 use Rattle.tlb.specs.declared.access.Privilege.{Privilege}
 use Rattle.tlb.specs.declared.hint.Hint.{Hint}
-use Rattle.exception.specs.declared.kind.Stop.{Stop}
 use Rattle.operations.specs.Bytes.{loadOf}
 use Rattle.operations.specs.Ends.{loadEnd}
 use Rattle.operations.specs.Place.{inPage, nextPage, crosses, goesOn, placedOne, placedBoth}
@@ -32,7 +31,7 @@ use Rattle.operations.specs.declared.place.Placed.{Placed}
 use Rattle.operations.specs.Check.{sizedRows, firstOf}
 use Rattle.operations.specs.Replies.{loading}
 use Rattle.operations.specs.declared.call.Reply.{Reply}
-use Rattle.operations.specs.declared.call.Reply.the-variants.{Refused, Done, Value, Stopped}
+use Rattle.operations.specs.declared.call.Reply.the-variants.{Refused, Done, Value}
 use Rattle.operations.specs.Hinted.{hintServes}
 use Rattle.operations.specs.Change.{unchanged, answeredOf, pageAfter}
 use Rattle.operations.specs.declared.change.Change.{Change}
@@ -97,9 +96,6 @@ untouched-is g x y a b ea eb = rw (ea, eb)
 
 pub load-value : (a : LoadAnswer) (v : ℕ) → a ≡ Load.Value v → Value v ≡ loading a
 load-value a v e = rw e
-
-pub load-stopped : (a : LoadAnswer) (s : Stop) → a ≡ Load.Stopped s → Stopped s ≡ loading a
-load-stopped a s e = rw e
 
 module _ (g : Hinted) (x y : Page) (va size base : ℕ) (ram : List ℕ) (s : Sized) (es : s ≡ widthOf size) (a : Access) where
   pub loaded-some : (w : Width) (n : ℕ) (b : Both) (e : LoadEnd) (r : Reply) → s ≡ Bytes w → n ≡ bytesIn w → b ≡ bothOf x y va n Read (wordAt base ram 8)

@@ -12,12 +12,9 @@ use Rattle.tlb.specs.Hint.{onPage}
 use Rattle.tlb.specs.declared.access.Kind.the-variants.{Write}
 use Rattle.tlb.specs.declared.access.Privilege.{Privilege}
 use Rattle.tlb.specs.declared.hint.Hint.{Hint}
-use Rattle.exception.specs.declared.kind.Stop.{Stop}
 use Rattle.operations.specs.Bytes.{storeRam}
 use Rattle.operations.specs.BytesLaws.{store-length}
 use Rattle.operations.specs.Ends.{storeEnd, storeRamEnd}
-use Rattle.operations.specs.declared.ends.StoreAnswer.{StoreAnswer}
-use Rattle.operations.specs.declared.ends.StoreAnswer.the-variants as Store
 use Rattle.operations.specs.declared.ends.StoreEnd.{StoreEnd}
 use Rattle.operations.specs.declared.place.Place.the-variants.{Whole}
 use Rattle.operations.specs.declared.place.Placed.{Placed}
@@ -25,7 +22,7 @@ use Rattle.operations.specs.declared.place.Placed.the-variants.{At, Faul
 use Rattle.operations.specs.Check.{sizedRows, firstOf}
 use Rattle.operations.specs.Replies.{storing}
 use Rattle.operations.specs.declared.call.Reply.{Reply}
-use Rattle.operations.specs.declared.call.Reply.the-variants.{Refused, Done, Stopped}
+use Rattle.operations.specs.declared.call.Reply.the-variants.{Refused, Done}
 use Rattle.operations.specs.Loads.{hitIn, bothOf, untouchedOf, accessOf}
 use Rattle.operations.specs.Stores.{fastStoreBy, fastStore, nowReplyBy, nowReply, nowRamBy, nowRam, sizedRam, storeAfter, storedOf, storedRam}
 use Rattle.operations.specs.declared.loads.Access.{Access}
@@ -33,9 +30,6 @@ use Rattle.operations.specs.declared.loads.Both.{Both}
 use Rattle.operations.specs.declared.change.Hinted.{Hinted}
 use Rattle.operations.specs.declared.change.Page.{Page}
 use Rattle.operations.specs.declared.stores.FastStore.{FastStore}
-
-pub store-stopped : (a : StoreAnswer) (s : Stop) → a ≡ Store.Stopped s → Stopped s ≡ storing a
-store-stopped a s e = rw e
 
 module _ (privilege : Privilege) (h : Hint) (base len va size n : ℕ) (en : n ≡ firstOf (sizedRows (privilege .level) base len size)) where
   pub quick-missed : (n ≡ 0 → ⊥) → _≡_ {A = FastStore} (record { ends = true; refused = n; pa = 0 }) (fastStore privilege h base len va size)

@@ -135,14 +135,14 @@ translatedOf x va kind memory =
     translatedBy (x .lookup) (missBy (x .lookup .asked) (x .lookup .bank) (x .lookup .privilege) (x .current) (x .entry) va kind memory) va kind
 
 -- a translation on the cells taken out: the hint first, where it may serve
-abbrev pub turnBy : Lookup → Resolved → ℕ → Kind → Answered
-turnBy k t va kind = record { change = changeOf k t va kind; answer = t .answer }
+abbrev pub answeredBy : Lookup → Resolved → ℕ → Kind → Answered
+answeredBy k t va kind = record { change = changeOf k t va kind; answer = t .answer }
 
 unfoldable pub answeredOf : Page → ℕ → Kind → (ℕ → Word) → Answered
 answeredOf x va kind memory =
     pick (hintServes (x .hint) (x .lookup .privilege) va kind)
     (record { change = unchanged (x .lookup); answer = Address (onPage (x .hint .pa) va) })
-    (turnBy (x .lookup) (missBy (x .lookup .asked) (x .lookup .bank) (x .lookup .privilege) (x .current) (x .entry) va kind memory) va kind)
+    (answeredBy (x .lookup) (missBy (x .lookup .asked) (x .lookup .bank) (x .lookup .privilege) (x .current) (x .entry) va kind memory) va kind)
 
 -- a page, as an earlier change leaves it
 abbrev pub hintLeft : Change → Lookup → Hint → Hint

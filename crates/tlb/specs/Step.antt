@@ -1,4 +1,4 @@
--- One translation as a step of the whole cache: its cells taken out, its turn, the cells put back.
+-- One translation as a step of the whole cache: its cells taken out, its translation, the cells put back.
 use mathlib.Core.Path.{_≡_, refl}
 use Prim.Native.Nat.{ℕ}
 use Rattle.walk.specs.Regime.{regimeOf}
@@ -45,7 +45,7 @@ withTranslation t place slot r = tlbWith t (setHint (setEntry (t .cache) slot (r
 abbrev pub withFetch : Tlb → ℕ → FetchTranslation → Tlb
 withFetch t slot r = tlbWith t (setFetch (setEntry (t .cache) slot (r .entry)) (r .fetch)) (r .counts)
 
--- the turn that an access takes in a cache, and what it leaves
+-- the translation of an access in a cache, and what it leaves
 abbrev pub translationIn : Access → Tlb → Translation
 translationIn a t =
     translationWith (a .on) (a .untagged) (a .walk) (a .regime) (a .privilege) (t .cache .current) (t .counts) (hintAt (t .cache) (placeFor a))
@@ -62,7 +62,7 @@ fetchIn a t =
 abbrev pub fetchedIn : Access → Tlb → Tlb
 fetchedIn a t = withFetch t (slotFor a) (fetchIn a t)
 
--- the code's turn is that of its access
+-- the code's translation is that of its access
 pub translation-is : (s : Bank) (privilege : Privilege) (va : ℕ) (kind : Kind) (memory : ℕ → Word) (t : Tlb)
     → translationOf s privilege (t .cache .current) (t .counts) (hintAt (t .cache) (dataSlot va kind))
     (entryAt (t .cache) (slotFor (accessOf s privilege va kind memory))) va kind memory

@@ -85,7 +85,7 @@ RepliesFault Reply.Faults addr fault = ⊥
 
 -- Where it comes from, among the answers to the call's translations: from one that met this fault at this address; or,
 -- for an abort, from an access that begins at the address of one that was allowed, with the address of its byte i
--- (which byte: `lowest` of mmu/specs/PlaceLaws.antt, and the first where the access is not split).
+-- (which byte: `lowest` of operations/specs/PlaceLaws.antt, and the first where the access is not split).
 pub data FaultFrom (gs : List Given) (addr : ℕ) (fault : Fault) : Type 0 where
   translating : (g : Given) → List·Memᴰ g gs → addressOf (g .ask) ≡ addr → g .answer ≡ Status fault → FaultFrom gs addr fault
   outside : (g : Given) → List·Memᴰ g gs → (pa : ℕ) → g .answer ≡ Address pa → (i : ℕ) → i < 8 → wrap addr ≡ wrap (addressOf (g .ask) + i) → fault ≡ first 0x10

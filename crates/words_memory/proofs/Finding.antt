@@ -25,7 +25,7 @@ use Rattle.words.specs.NowHolds.{NowHolds, stays, holds-as, holds-on}
 use Rattle.words_memory.specs.Found.{codeOf, valueOf, withHintFor, answerPut, sourced, committed}
 use Rattle.words_memory.specs.FoundLaws.{entry-back, unchanged}
 
--- a hint noted
+-- a hint kept
 module _ (ws : List ℕ) (privilege : Privilege) (kind : Kind) (va pa : ℕ) (b : Bool) (eb : b ≡ mayHint privilege kind) where
   pub hinted : (xs : List ℕ) (i : ℕ) (h : Hint) → b ≡ true → i ≡ dataSlot va kind → h ≡ hintFor va (privilege .level) pa
       → NowHolds ws xs (withHint (coreOf ws) i h) → NowHolds ws xs (withHintFor (coreOf ws) privilege kind va pa)
@@ -36,7 +36,7 @@ module _ (ws : List ℕ) (privilege : Privilege) (kind : Kind) (va pa : ℕ) (b 
   unfolding withHintFor
   unhinted f = rw (← eb, f) stays
 
--- an answer told
+-- an answer given
 module _ (a : Answer) where
   pub address-code : (pa : ℕ) → a ≡ Address pa → 0 ≡ codeOf a
   address-code pa e = rw e
@@ -82,7 +82,7 @@ module _ (ws : List ℕ) (slot : ℕ) (source : Source) (made : Entry) where
       → NowHolds xs ys (withEntry (coreOf xs) slot made) → NowHolds ws ys (sourced (coreOf ws) slot source made)
   from-walk xs ys e m n = holds-on (λ d. withEntry d slot made) m n (sym (stored (coreOf ws) FromWalk e))
 
--- and then the answer told
+-- and then the answer given
 pub commits : (ws xs ys : List ℕ) (privilege : Privilege) (kind : Kind) (va slot : ℕ) (t : Resolved) → NowHolds ws xs (sourced (coreOf ws) slot (t .source) (t .made))
     → NowHolds xs ys (answerPut (coreOf xs) privilege kind va (t .answer)) → NowHolds ws ys (committed (coreOf ws) privilege kind va slot t)
 commits ws xs ys privilege kind va slot t m n = holds-on (λ d. answerPut d privilege kind va (t .answer)) m n refl
