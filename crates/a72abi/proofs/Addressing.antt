@@ -29,9 +29,9 @@ use Rattle.cpu.specs.declared.run.Stepped.{Stepped}
 use Rattle.words.specs.CoreOf.{coreOf}
 use Rattle.words.specs.Parts.{withAbort}
 use Rattle.words.specs.NowHolds.{NowHolds, stays, holds-as}
-use Rattle.words_memory.specs.Found.{codeOf, valueOf, answering, fetchHint, foundTo, pagedTo}
+use Rattle.words_memory.specs.Found.{codeOf, valueOf, answering, hintFound, fetchHint, foundTo, pagedTo}
 use Rattle.words_memory.specs.FetchLaws.{fetchTo, fetch-serves, fetch-misses}
-use Rattle.words_memory.proofs.Looking.{code-at}
+use Rattle.words_memory.proofs.Looking.{by-hint-code, by-hint-value, by-hint-core, by-find-code, by-find-value, by-find-core, code-at}
 use Rattle.a72abi.specs.Replies.{codeBy, valueBy}
 use Rattle.a72abi.specs.Ops.{kindOf, translateCall}
 use Rattle.a72abi.specs.Kept.{Kept, kept-late, kept-same, kept-done, translation-late, reach-late, fetch-end, unmoved}
@@ -52,7 +52,7 @@ translation-value : (va old : ℕ) (a : Answer) → valueOf a old ≡ valueBy (t
 translation-value va old (Address pa) = refl
 translation-value va old (Status fsc) = refl
 
-pub translation-tells : (ws : List ℕ) (base : ℕ) (ram : List ℕ) (va : ℕ) (kind : Kind) (n old v : ℕ) (xs : List ℕ)
+translation-tells : (ws : List ℕ) (base : ℕ) (ram : List ℕ) (va : ℕ) (kind : Kind) (n old v : ℕ) (xs : List ℕ)
     → n ≡ codeOf (translateOf (coreOf ws) (wordAt base ram 8) va kind .answer) → v ≡ valueOf (translateOf (coreOf ws) (wordAt base ram 8) va kind .answer) old
     → NowHolds ws xs (translateOf (coreOf ws) (wordAt base ram 8) va kind .core) → Tells (runOf (coreOf ws) base ram (Call.Translate kind va)) ws n old v xs
 unfolding runOf
@@ -60,6 +60,21 @@ translation-tells ws base ram va kind n old v xs en ev m =
     let a = translateOf (coreOf ws) (wordAt base ram 8) va kind .answer in
     let c : n ≡ codeBy (translation va a) = en ∙ translation-code va a in
     record { code = c; value = ev ∙ translation-value va old a; words = m; kept = kept-late ws xs (translation va a) n c (translation-late va a) }
+
+-- the hint first, and else a translation that is lent RAM as a part
+module _ (ws : List ℕ) (base : ℕ) (ram : List ℕ) (va : ℕ) (kind : Kind) (old : ℕ) (p : HintAnswer) (ep : p ≡ hintFound (coreOf ws) va kind) where
+  pub hint-tells : (pa : ℕ) → p ≡ At pa → Tells (runOf (coreOf ws) base ram (Call.Translate kind va)) ws 0 old pa ws
+  hint-tells pa e =
+      let memory = wordAt base ram 8 in
+      translation-tells ws base ram va kind 0 old pa ws (by-hint-code ws memory va kind p ep pa e) (by-hint-value ws memory va kind p ep pa old e) (by-hint-core ws memory va kind p ep pa e)
+
+  pub find-tells : (part : List ℕ) (n v : ℕ) (xs : List ℕ) → part ≡ ram → p ≡ Unknown → n ≡ codeOf (foundTo (coreOf ws) (wordAt base part 8) va kind .answer)
+      → v ≡ valueOf (foundTo (coreOf ws) (wordAt base part 8) va kind .answer) old → NowHolds ws xs (foundTo (coreOf ws) (wordAt base part 8) va kind .core)
+      → Tells (runOf (coreOf ws) base ram (Call.Translate kind va)) ws n old v xs
+  find-tells part n v xs q e en ev m =
+      let memory = wordAt base part 8 in
+      rw q at
+      (translation-tells ws base part va kind n old v xs (by-find-code ws memory va kind p ep n e en) (by-find-value ws memory va kind p ep v old e ev) (by-find-core ws memory va kind p ep xs e m))
 
 -- a fault without its status
 pub without-status-zero : (n : ℕ) → n ≡ 0 → _≡_ {A = ℕ} 0 (pick (eqb n 0) 0 256)
@@ -77,13 +92,17 @@ without-status-value (Address pa) old = refl
 without-status-value (Status fsc) old = refl
 
 module _ (ws : List ℕ) (base : ℕ) (ram : List ℕ) (va n r old v : ℕ) (xs : List ℕ) (er : r ≡ pick (eqb n 0) 0 256) where
-  pub data-tells : n ≡ codeOf (translateOf (coreOf ws) (wordAt base ram 8) va Read .answer) → v ≡ valueOf (translateOf (coreOf ws) (wordAt base ram 8) va Read .answer) old
-      → NowHolds ws xs (translateOf (coreOf ws) (wordAt base ram 8) va Read .core) → Tells (runOf (coreOf ws) base ram (Call.DataPa va)) ws r old v xs
+  pub data-tells : Tells (runOf (coreOf ws) base ram (Call.Translate Read va)) ws n old v xs → Tells (runOf (coreOf ws) base ram (Call.DataPa va)) ws r old v xs
   unfolding runOf dataPaOf translateOf
-  data-tells en ev m =
+  data-tells t =
       let a = translateOf (coreOf ws) (wordAt base ram 8) va Read .answer in
-      let c = without-status-code a n r en er in
-      record { code = c; value = ev ∙ without-status-value a old; words = m; kept = kept-late ws xs (reaching (reachedBy a)) r c (reach-late (reachedBy a)) }
+      let c = without-status-code a n r (t .code ∙ sym (translation-code va a)) er in
+      record {
+        code = c;
+        value = t .value ∙ sym (translation-value va old a) ∙ without-status-value a old;
+        words = t .words;
+        kept = kept-late ws xs (reaching (reachedBy a)) r c (reach-late (reachedBy a));
+      }
 
   pub fetch-pa-tells : n ≡ codeOf (fetchSteppedNow (coreOf ws) (wordAt base ram 8) va .answer) → v ≡ valueOf (fetchSteppedNow (coreOf ws) (wordAt base ram 8) va .answer) old
       → NowHolds ws xs (withTlb (coreOf ws) (fetchSteppedNow (coreOf ws) (wordAt base ram 8) va .tlb)) → Tells (runOf (coreOf ws) base ram (Call.FetchPa va)) ws r old v xs

@@ -7,8 +7,7 @@ use native.Mathlib.Nat.{mod-eq-of-lt}
 use native.Mathlib.Omega.{arith}
 use borrow.Author.Tests.{le-ltb, lt-ltb}
 use lib.Dec.{ltb}
-use lib.ListN.{length, take, drop}
-use lib.Seq.{take-length}
+use lib.ListN.{length}
 use Rattle.word.specs.Bits.{pick, wrap}
 use Rattle.word.specs.Ram.{wordAt, bytesIn, widthOf, within, stored}
 use Rattle.word.specs.declared.ram.Width.{Width}
@@ -250,10 +249,7 @@ module _ (ws xs : List ℕ) (base : ℕ) (ram : List ℕ) (va : ℕ) (w : Width)
       pub store-page-ram : (ys : List ℕ) → ys ≡ stored base ram (bytesIn w) pa x → ys ≡ ramOf (coreOf ws) base ram (Call.Store va (bytesIn w) x)
       store-page-ram ys q = q ∙ ram-at base ram (bytesIn w) pa x ∙ made .1
 
--- RAM lent on as a part that is the whole
-pub whole-part : (xs : List ℕ) → take (length xs - 0) (drop 0 xs) ≡ xs
-whole-part xs = let s : length xs - 0 ≡ length xs = omega arith in rw s (take-length xs)
-
+-- RAM lent on as a part
 module _ (ws xs : List ℕ) (base : ℕ) (ram part : List ℕ) (va : ℕ) (w : Width) (code old : ℕ) (e : part ≡ ram) (near : bytesIn w ≤ inPage va)
     (miss : hintFound (coreOf ws) va Read ≡ Unknown) (ec : code ≡ codeOf (foundTo (coreOf ws) (wordAt base part 8) va Read .answer))
     (m : NowHolds ws xs (foundTo (coreOf ws) (wordAt base part 8) va Read .core)) where
@@ -263,10 +259,6 @@ module _ (ws xs : List ℕ) (base : ℕ) (ram part : List ℕ) (va : ℕ) (w : W
   pub part-page-tells : (pa before n v : ℕ) (ys : List ℕ) → code ≡ 0 → pa ≡ valueOf (foundTo (coreOf ws) (wordAt base part 8) va Read .answer) before
       → Tells (loadEnds (coreOf xs) (At (Whole pa)) base ram va (bytesIn w)) xs n old v ys → Tells (runOf (coreOf ws) base ram (Call.Load va (bytesIn w))) ws n old v ys
   part-page-tells pa before n v ys z ep t = load-page-tells ws xs base ram va w near code miss (rw e at ec) (rw e at m) pa before n old v ys z (rw e at ep) t
-
-pub part-gives : (ws : List ℕ) (base : ℕ) (ram part : List ℕ) (va size n old v : ℕ) (xs : List ℕ) → part ≡ ram → Gives (Known (Call.Load va size)) base part ws n old v xs
-    → Gives (Known (Call.Load va size)) base ram ws n old v xs
-part-gives ws base ram part va size n old v xs e g = rw e at g
 
 -- THAT MAY TAKE TWO
 

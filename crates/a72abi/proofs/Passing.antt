@@ -6,7 +6,8 @@ use Prim.Native.Nat.{ℕ, _+_, _-_, _^_, _≤_, _<_}
 use native.Mathlib.Omega.{arith}
 use borrow.Author.Tests.{ltb-false, ltb-true, lt-ltb, le-ltb}
 use lib.Dec.{ltb}
-use lib.ListN.{length}
+use lib.ListN.{length, take, drop}
+use lib.Seq.{take-length}
 use Rattle.word.specs.Bits.{pick}
 use Rattle.word.specs.Ram.{widthOf}
 use Rattle.word.specs.declared.ram.Sized.{Sized}
@@ -26,6 +27,7 @@ use Rattle.a72abi.specs.Quick.{Clear}
 use Rattle.a72abi.specs.Kept.{Kept, kept-same}
 use Rattle.a72abi.specs.Inside.{Tells}
 use Rattle.a72abi.specs.Promise.{Gives}
+use Rattle.a72abi.specs.declared.op.DecodedCall.{DecodedCall}
 use Rattle.a72abi.specs.declared.op.DecodedCall.the-variants.{Known}
 use Rattle.a72abi.proofs.Checking.{refused-reply, refused-core, runs}
 
@@ -50,6 +52,14 @@ module _ (ws : List ℕ) (base : ℕ) (ram : List ℕ) (call : Call) (n : ℕ) (
 
   pub passed-gives : (k old v : ℕ) (xs : List ℕ) → n ≡ 0 → Tells (runOf (coreOf ws) base ram call) ws k old v xs → Gives (Known call) base ram ws k old v xs
   passed-gives k old v xs z t = gives call (tells-as (sym (runs ws base ram call n en z)) t)
+
+-- RAM lent on as a part that is the whole
+pub whole-part : (xs : List ℕ) → take (length xs - 0) (drop 0 xs) ≡ xs
+whole-part xs = let s : length xs - 0 ≡ length xs = omega arith in rw s (take-length xs)
+
+pub part-gives : (ws : List ℕ) (base : ℕ) (ram part : List ℕ) (call : DecodedCall) (n old v : ℕ) (xs : List ℕ) → part ≡ ram → Gives call base part ws n old v xs
+    → Gives call base ram ws n old v xs
+part-gives ws base ram part call n old v xs e g = rw e at g
 
 -- by a reply
 pub put-answer-code : (s : Stepped) (r : Reply) (n : ℕ) → r ≡ s .reply → n ≡ codeBy r → n ≡ codeBy (s .reply)

@@ -63,27 +63,28 @@ pub extern "C" fn a72_translate(
         (now (ans .entry)) (now (ans .exit)) (now (ram .entry)) (now (state .exit)) ⌝ }
 {
     let known = state::level_known(state);
-    let len = ram.len() as u64;
+    let n = ram.len();
+    let len = n as u64;
     if known {
         if u64::MAX - len < base {
-            translate_checked(state, va, kind, ans, base, ram)
+            translate_checked(state, va, kind, ans, base, &ram[0..n])
         } else {
             if kind < 2 {
                 if kind == 1 {
-                    translate::address(state, va, Kind::Read, ans, base, ram)
+                    slow::address(state, va, Kind::Read, ans, base, ram)
                 } else {
                     64
                 }
             } else {
                 match kind {
-                    2 => translate::address(state, va, Kind::Write, ans, base, ram),
-                    4 => translate::address(state, va, Kind::Fetch, ans, base, ram),
+                    2 => slow::address(state, va, Kind::Write, ans, base, ram),
+                    4 => slow::address(state, va, Kind::Fetch, ans, base, ram),
                     _ => 64,
                 }
             }
         }
     } else {
-        translate_checked(state, va, kind, ans, base, ram)
+        translate_checked(state, va, kind, ans, base, &ram[0..n])
     }
 }
 
@@ -100,10 +101,11 @@ pub extern "C" fn a72_data_pa(
         (now (ans .entry)) (now (ans .exit)) (now (ram .entry)) (now (state .exit)) ⌝ }
 {
     let known = state::level_known(state);
-    let len = ram.len() as u64;
+    let n = ram.len();
+    let len = n as u64;
     if known {
         if u64::MAX - len < base {
-            slow::data_pa(state, va, ans, base, ram)
+            slow::data_pa(state, va, ans, base, &ram[0..n])
         } else {
             slow::data_to(state, va, ans, base, ram)
         }

@@ -51,6 +51,30 @@ fn missed_sized(state: &State, base: u64, len: u64, size: u64) -> u8
     check::sized(privilege.level, base, len, size)
 }
 
+// The translation of va, past the checks: the hint first. A translation that no hint serves is lent RAM as a part, so
+// that a hit stores nothing.
+pub(crate) fn address(
+    state: &mut State,
+    va: u64,
+    kind: Kind,
+    ans: &mut u64,
+    base: u64,
+    ram: &[u8],
+) -> u64
+    ensures { λ r. ⌜ Tells
+        (runOf (coreOf (now (state .entry))) base (now (ram .entry)) (Call.Translate kind va))
+        (now (state .entry)) r (now (ans .entry)) (now (ans .exit)) (now (state .exit)) ⌝ }
+{
+    let n = ram.len();
+    match translate::by_hint(state, va, kind) {
+        HintAnswer::At(pa) => {
+            *ans = pa;
+            0
+        }
+        HintAnswer::Unknown => translate::find(state, va, kind, ans, base, &ram[0..n]),
+    }
+}
+
 pub(crate) fn translation(
     state: &mut State,
     va: u64,
@@ -66,7 +90,7 @@ pub(crate) fn translation(
     if n != 0 {
         return n as u64;
     }
-    translate::address(state, va, kind, ans, base, ram)
+    address(state, va, kind, ans, base, ram)
 }
 
 // A fault is given without its status.
@@ -82,7 +106,7 @@ pub(crate) fn data_to(state: &mut State, va: u64, ans: &mut u64, base: u64, ram:
         (runOf (coreOf (now (state .entry))) base (now (ram .entry)) (Call.DataPa va))
         (now (state .entry)) r (now (ans .entry)) (now (ans .exit)) (now (state .exit)) ⌝ }
 {
-    let code = translate::address(state, va, Kind::Read, ans, base, ram);
+    let code = address(state, va, Kind::Read, ans, base, ram);
     without_status(code)
 }
 

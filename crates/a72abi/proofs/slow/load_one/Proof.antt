@@ -1,5 +1,6 @@
 -- `a72abi::slow::load_one` meets its contract.
-use Rattle.a72abi.proofs.OnePage.{part-fault-tells, part-page-tells, whole-part}
+use Rattle.a72abi.proofs.OnePage.{part-fault-tells, part-page-tells}
+use Rattle.a72abi.proofs.Passing.{whole-part}
 use borrow.Author.Needs.{needs}
 use Rattle.a72abi.proofs.slow.load_one.Statement.{statement}
 use Rattle.a72abi.proofs.slow.load_one.Tie as tie

@@ -1,6 +1,5 @@
 -- `a72abi::slow::translation` meets its contract.
 use Rattle.a72abi.proofs.Passing.{refused-gives, passed-gives}
-use Rattle.a72abi.proofs.Addressing.{translation-tells}
 use Rattle.operations.specs.Check.{missedOf}
 use borrow.Author.Needs.{needs}
 use Rattle.a72abi.proofs.slow.translation.Statement.{statement}
@@ -21,7 +20,7 @@ address-requires c κs = search needs
 
 returns-2 : tie.Need-returns-2
 unfolding missedOf
-returns-2 c = search (passed-gives, translation-tells, needs)
+returns-2 c = search (passed-gives, needs)
 
 pub translation-spec : {M : Type 1} → statement M
 translation-spec =
