@@ -1,6 +1,6 @@
 -- Translations and fetches by number, on plain values, for `search`.
 use mathlib.Core.Path.{_≡_, refl, sym, ap, _∙_}
-use mathlib.Core.Bool.{Bool, true, false}
+use mathlib.Core.Bool.{false}
 use mathlib.Core.List.{List}
 use Prim.Native.Nat.{ℕ, _+_, _≤_, _<_}
 use native.Mathlib.Omega.{arith}
@@ -21,20 +21,18 @@ use Rattle.mmu.specs.Ops.{withTlb, fetchSteppedNow, translateOf, dataPaOf, fetc
 use Rattle.mmu.specs.declared.core.Core.{Core}
 use Rattle.operations.specs.declared.bytes.Insn.{Insn}
 use Rattle.operations.specs.declared.bytes.Insn.the-variants as Insn
-use Rattle.mmu.specs.declared.ops.Translated.{Translated}
 use Rattle.operations.specs.Replies.{translation, reaching}
-use Rattle.cpu.specs.Step.{runOf, stepOf}
+use Rattle.cpu.specs.Step.{runOf}
 use Rattle.operations.specs.declared.call.Call.the-variants as Call
-use Rattle.cpu.specs.declared.run.Stepped.{Stepped}
 use Rattle.words.specs.CoreOf.{coreOf}
 use Rattle.words.specs.Parts.{withAbort}
-use Rattle.words.specs.NowHolds.{NowHolds, stays, holds-as}
+use Rattle.words.specs.NowHolds.{NowHolds, stays}
 use Rattle.words_memory.specs.Found.{codeOf, valueOf, answering, hintFound, fetchHint, foundTo, pagedTo}
 use Rattle.words_memory.specs.FetchLaws.{fetchTo, fetch-serves, fetch-misses}
 use Rattle.words_memory.proofs.Looking.{by-hint-code, by-hint-value, by-hint-core, by-find-code, by-find-value, by-find-core, code-at}
 use Rattle.a72abi.specs.Replies.{codeBy, valueBy}
 use Rattle.a72abi.specs.Ops.{kindOf, translateCall}
-use Rattle.a72abi.specs.Kept.{Kept, kept-late, kept-same, kept-done, translation-late, reach-late, fetch-end, unmoved}
+use Rattle.a72abi.specs.Kept.{kept-late, kept-same, translation-late, reach-late, fetch-end, unmoved}
 use Rattle.a72abi.specs.Inside.{Tells, FetchTells, fetchEnds}
 use Rattle.a72abi.specs.Promise.{Gives}
 use Rattle.a72abi.specs.declared.op.DecodedCall.the-variants as DecodedCall

@@ -4,58 +4,27 @@ use mathlib.Core.Bool.{Bool, true, false, _&&_}
 use mathlib.Core.List.{List}
 use Prim.Native.Nat.{ℕ, _+_, _-_, _%_, _^_, _≤_, _<_}
 use native.Mathlib.Omega.{arith}
-use borrow.Author.Tests.{ltb-false, le-ltb, eq-eqb, ne-eqb, eqb-true}
-use lib.Dec.{eqb, ltb}
+use borrow.Author.Tests.{ne-eqb, eqb-true}
+use lib.Dec.{eqb}
 use lib.ListN.{length}
-use Rattle.word.specs.Bits.{pick}
 use Rattle.word.specs.Ram.{wordAt, bytesIn, within, stored, widthOf}
 use Rattle.word.specs.declared.ram.Width.{Width}
-use Rattle.word.specs.declared.ram.Width.the-variants.{Byte, Half, Word as Single, Double}
 use Rattle.word.specs.declared.ram.Sized.{Sized}
 use Rattle.word.specs.declared.ram.Sized.the-variants.{Bytes, Refused as NoWidth}
 use Rattle.word.specs.declared.ram.Word.{Word}
 use Rattle.word.specs.declared.ram.Word.the-variants.{Value as Bits, Outside}
-use Rattle.walk.specs.Regime.{regimeOf, stage1On}
-use Rattle.tlb.specs.declared.access.Kind.{Kind}
-use Rattle.tlb.specs.declared.access.Kind.the-variants.{Read, Write}
-use Rattle.tlb.specs.declared.access.Answer.the-variants.{Address}
-use Rattle.tlb.specs.declared.access.Privilege.{Privilege}
-use Rattle.tlb.specs.declared.hint.HintAnswer.{HintAnswer}
-use Rattle.tlb.specs.declared.hint.HintAnswer.the-variants.{At, Unknown}
-use Rattle.mmu.specs.Core.{afterAccess, bankNow}
-use Rattle.operations.specs.Place.{inPage, goesOn, crosses, verdictOf as judged, placedOne}
-use Rattle.operations.specs.Bytes.{loadOf, storeRam}
-use Rattle.operations.specs.Ends.{loadEnd, storeEnd, storeRamEnd}
-use Rattle.mmu.specs.Ops.{translateOf, translateAccessOf, readOf, writeOf, ramAfterWrite}
-use Rattle.operations.proofs.Moves.{whole-value, whole-inside, whole-written}
+use Rattle.mmu.specs.Core.{afterAccess}
+use Rattle.mmu.specs.Ops.{readOf, writeOf, ramAfterWrite}
 use Rattle.mmu.specs.declared.core.Core.{Core}
-use Rattle.operations.specs.declared.place.Place.the-variants.{Whole}
-use Rattle.operations.specs.declared.place.Placed.the-variants as Placed
-use Rattle.operations.specs.declared.place.Verdict.{Verdict}
-use Rattle.operations.specs.declared.place.Verdict.the-variants.{Inside}
-use Rattle.operations.specs.declared.bytes.Got.{Got}
-use Rattle.operations.specs.declared.bytes.Got.the-variants as Got
-use Rattle.operations.specs.declared.ends.LoadEnd.{LoadEnd}
-use Rattle.operations.specs.declared.ends.StoreEnd.{StoreEnd}
 use Rattle.operations.specs.declared.ends.LoadAnswer.the-variants as Load
 use Rattle.operations.specs.declared.ends.StoreAnswer.the-variants as Store
-use Rattle.mmu.specs.declared.ops.Accessed.{Accessed}
-use Rattle.mmu.specs.declared.ops.Translated.{Translated}
-use Rattle.operations.specs.Check.{missedOf, isWidth, known}
+use Rattle.operations.specs.Check.{missedOf, isWidth}
 use Rattle.operations.specs.Replies.{loading, storing}
 use Rattle.cpu.specs.Step.{loadBy, storeBy, storeRamBy, runOf, ramOf, stepOf, ramAfter, ends}
 use Rattle.operations.specs.declared.call.Call.the-variants as Call
-use Rattle.operations.specs.declared.call.Reply.{Reply}
-use Rattle.operations.specs.declared.call.Reply.the-variants.{Done, Value}
-use Rattle.cpu.specs.declared.run.Stepped.{Stepped}
-use Rattle.words.specs.CoreOf.{coreOf}
+use Rattle.operations.specs.declared.call.Reply.the-variants.{Value}
 use Rattle.words.specs.Parts.{withLast, withAbort}
-use Rattle.words.specs.NowHolds.{NowHolds, stays, holds-as}
 use Rattle.words_memory.specs.Accessed.{keptLast, keptAbort}
-use Rattle.words_memory.specs.Found.{answering, hintFound}
-use Rattle.words_memory.specs.FoundLaws.{hint-serves}
-use Rattle.words_memory.proofs.Accessing.{one-is, load-parts, store-parts}
-use Rattle.a72abi.specs.Replies.{codeBy, valueBy}
 use Rattle.a72abi.specs.Quick.{Clear, sizedIn, sizedAt, madeIn, sizedMade, ramIn, sizedRam}
 use Rattle.a72abi.proofs.Passing.{clear-sized, passed, passed-ram}
 

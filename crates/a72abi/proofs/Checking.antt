@@ -5,22 +5,13 @@ use mathlib.Core.List.{List, [], _∷_}
 use Prim.Native.Nat.{ℕ, zero, suc}
 use lib.Dec.{ltb}
 use lib.ListN.{length}
-use Rattle.word.specs.Ram.{bytesIn, widthOf}
-use Rattle.word.specs.declared.ram.Width.{Width}
-use Rattle.word.specs.declared.ram.Sized.{Sized}
-use Rattle.word.specs.declared.ram.Sized.the-variants.{Bytes, Refused as NoWidth}
 use Rattle.sysreg.specs.declared.write.WriteAnswer.{WriteAnswer}
 use Rattle.tlb.specs.declared.access.Privilege.{Privilege}
-use Rattle.tlb.specs.declared.access.Answer.{Answer}
-use Rattle.mmu.specs.Ops.{readOf, writeOf, ramAfterWrite}
 use Rattle.mmu.specs.declared.core.Core.{Core}
-use Rattle.operations.specs.declared.ends.LoadAnswer.{LoadAnswer}
 use Rattle.operations.specs.declared.ends.StoreAnswer.{StoreAnswer}
-use Rattle.operations.specs.declared.ends.FetchAnswer.{FetchAnswer}
-use Rattle.operations.specs.declared.ends.Reached.{Reached}
 use Rattle.operations.specs.Check.{kept, ramRows, sizedRows, firstOf, missedOf}
-use Rattle.operations.specs.Replies.{translation, reaching, loading, storing, fetching, registering}
-use Rattle.cpu.specs.Step.{loadBy, storeBy, storeRamBy, runOf, ramOf, stepOf, ramAfter, ends}
+use Rattle.operations.specs.Replies.{storing, registering}
+use Rattle.cpu.specs.Step.{runOf, ramOf, stepOf, ramAfter, ends}
 use Rattle.operations.specs.declared.call.Encoding.{Encoding}
 use Rattle.operations.specs.declared.call.Call.{Call}
 use Rattle.operations.specs.declared.call.Call.the-variants as Call

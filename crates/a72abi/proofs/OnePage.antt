@@ -5,10 +5,9 @@ use mathlib.Core.List.{List}
 use Prim.Native.Nat.{ℕ, _+_, _-_, _%_, _^_, _≤_, _<_}
 use native.Mathlib.Nat.{mod-eq-of-lt}
 use native.Mathlib.Omega.{arith}
-use borrow.Author.Tests.{le-ltb, lt-ltb}
-use lib.Dec.{ltb}
+use borrow.Author.Tests.{le-ltb}
 use lib.ListN.{length}
-use Rattle.word.specs.Bits.{pick, wrap}
+use Rattle.word.specs.Bits.{wrap}
 use Rattle.word.specs.Ram.{wordAt, bytesIn, widthOf, within, stored}
 use Rattle.word.specs.declared.ram.Width.{Width}
 use Rattle.word.specs.declared.ram.Width.the-variants.{Byte, Half, Word as Single, Double}
@@ -22,23 +21,19 @@ use Rattle.tlb.specs.declared.access.Kind.the-variants.{Read, Write}
 use Rattle.tlb.specs.declared.access.Answer.{Answer}
 use Rattle.fault.specs.declared.Fault.{Fault as Status1}
 use Rattle.tlb.specs.declared.access.Answer.the-variants.{Address, Status}
-use Rattle.tlb.specs.declared.access.Privilege.{Privilege}
 use Rattle.tlb.specs.declared.hint.HintAnswer.{HintAnswer}
 use Rattle.tlb.specs.declared.hint.HintAnswer.the-variants.{At as Hinted, Unknown}
 use Rattle.mmu.specs.Core.{afterAccess, bankNow}
-use Rattle.operations.specs.Place.{inPage, crosses, goesOn, placedOne, verdictOf as judged}
-use Rattle.operations.specs.Bytes.{loadOf, storeRam}
-use Rattle.operations.specs.Ends.{loadEnd, storeEnd, storeRamEnd, externalAbort}
+use Rattle.operations.specs.Place.{inPage, crosses, goesOn, placedOne}
+use Rattle.operations.specs.Bytes.{storeRam}
+use Rattle.operations.specs.Ends.{loadEnd, storeEnd, storeRamEnd}
 use Rattle.mmu.specs.Ops.{locatedNow, translateOf, translateAccessOf, readOf, writeOf, ramAfterWrite}
 use Rattle.operations.proofs.Moves.{whole-value, whole-abort, whole-inside, whole-outside}
 use Rattle.mmu.specs.declared.core.Core.{Core}
 use Rattle.operations.specs.declared.place.Place.the-variants.{Whole}
 use Rattle.operations.specs.declared.place.Placed.{Placed}
 use Rattle.operations.specs.declared.place.Placed.the-variants.{At, Fault}
-use Rattle.operations.specs.declared.place.Verdict.the-variants.{Inside, Outside}
-use Rattle.operations.specs.declared.bytes.Got.the-variants as Got
-use Rattle.operations.specs.declared.ends.LoadEnd.{LoadEnd}
-use Rattle.operations.specs.declared.ends.StoreEnd.{StoreEnd}
+use Rattle.operations.specs.declared.place.Verdict.the-variants.{Outside}
 use Rattle.operations.specs.declared.ends.LoadAnswer.the-variants as Load
 use Rattle.operations.specs.declared.ends.StoreAnswer.the-variants as Store
 use Rattle.mmu.specs.declared.ops.Accessed.{Accessed}
@@ -46,8 +41,6 @@ use Rattle.mmu.specs.declared.ops.Translated.{Translated}
 use Rattle.operations.specs.Replies.{loading, storing}
 use Rattle.cpu.specs.Step.{loadBy, storeBy, storeRamBy, runOf, ramOf, ramAfter, ends}
 use Rattle.operations.specs.declared.call.Call.the-variants as Call
-use Rattle.operations.specs.declared.call.Reply.{Reply}
-use Rattle.operations.specs.declared.call.Reply.the-variants.{Refused}
 use Rattle.cpu.specs.declared.run.Stepped.{Stepped}
 use Rattle.words_sys.specs.Early.{end-late, store-late}
 use Rattle.operations.specs.declared.ends.LoadAnswer.{LoadAnswer}
@@ -56,14 +49,14 @@ use Rattle.a72abi.specs.Promise.{Gives}
 use Rattle.a72abi.specs.declared.op.DecodedCall.the-variants.{Known}
 use Rattle.words.specs.CoreOf.{coreOf}
 use Rattle.words.specs.Parts.{withLast, withAbort}
-use Rattle.words.specs.NowHolds.{NowHolds, stays, holds-as, holds-on}
-use Rattle.words_memory.specs.Accessed.{loadEndOf, storeEndOf, keptLast, keptAbort}
+use Rattle.words.specs.NowHolds.{NowHolds, stays, holds-on}
+use Rattle.words_memory.specs.Accessed.{storeEndOf, keptLast, keptAbort}
 use Rattle.words_memory.specs.Found.{codeOf, valueOf, answering, hintFound, foundTo}
 use Rattle.words_memory.specs.FoundLaws.{hint-serves, hint-misses}
 use Rattle.words_memory.proofs.Accessing.{one-is, load-parts, store-parts}
 use Rattle.words_memory.proofs.Looking.{code-at}
 use Rattle.a72abi.specs.Replies.{codeBy, valueBy}
-use Rattle.a72abi.specs.Kept.{Kept, unmoved, kept-late, kept-same, load-late, storing-late}
+use Rattle.a72abi.specs.Kept.{unmoved, kept-late, kept-same, load-late, storing-late}
 use Rattle.a72abi.specs.Inside.{Tells, loadEnds, storeEnds}
 use Rattle.a72abi.specs.Quick.{sizedIn, sizedAt, madeIn, sizedMade, ramIn, sizedRam}
 use Rattle.a72abi.proofs.Bytewise.{size-is, no-size, and-false, false-true, outside-bits, unmade-ram}

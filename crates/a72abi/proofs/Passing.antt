@@ -1,6 +1,6 @@
 -- DecodedCall whose checks pass, and calls that are refused, by number, on plain values, for `search`.
 use mathlib.Core.Path.{_≡_, refl, sym, ap, subst, _∙_}
-use mathlib.Core.Bool.{Bool, true, false, not}
+use mathlib.Core.Bool.{Bool, true, false}
 use mathlib.Core.List.{List}
 use Prim.Native.Nat.{ℕ, _+_, _-_, _^_, _≤_, _<_}
 use native.Mathlib.Omega.{arith}
@@ -8,20 +8,19 @@ use borrow.Author.Tests.{ltb-false, ltb-true, lt-ltb, le-ltb}
 use lib.Dec.{ltb}
 use lib.ListN.{length, take, drop}
 use lib.Seq.{take-length}
-use Rattle.word.specs.Bits.{pick}
 use Rattle.word.specs.Ram.{widthOf}
 use Rattle.word.specs.declared.ram.Sized.{Sized}
 use Rattle.word.specs.declared.ram.Sized.the-variants.{Bytes, Refused as NoWidth}
 use Rattle.mmu.specs.declared.core.Core.{Core}
 use Rattle.operations.specs.Check.{ramRows, sizedRows, firstOf, missedOf, passes, isWidth, known}
-use Rattle.cpu.specs.Step.{runOf, ramOf, stepOf, ramAfter, ends, loadBy, storeBy}
+use Rattle.cpu.specs.Step.{runOf, ramOf, stepOf, ramAfter, ends, loadBy}
 use Rattle.operations.specs.declared.call.Call.{Call}
 use Rattle.operations.specs.declared.call.Call.the-variants as Call
 use Rattle.operations.specs.declared.call.Reply.{Reply}
 use Rattle.operations.specs.declared.call.Reply.the-variants.{Refused}
 use Rattle.cpu.specs.declared.run.Stepped.{Stepped}
 use Rattle.words.specs.CoreOf.{coreOf}
-use Rattle.words.specs.NowHolds.{NowHolds, stays}
+use Rattle.words.specs.NowHolds.{NowHolds}
 use Rattle.a72abi.specs.Replies.{codeBy, valueBy}
 use Rattle.a72abi.specs.Quick.{Clear}
 use Rattle.a72abi.specs.Kept.{Kept, kept-same}

@@ -8,7 +8,6 @@ use lib.Dec.{ltb}
 use lib.ListN.{length}
 use Rattle.word.specs.Bits.{pick}
 use Rattle.word.specs.Ram.{wordAt, bytesIn, widthOf}
-use Rattle.word.specs.declared.ram.Width.{Width}
 use Rattle.word.specs.declared.ram.Sized.{Sized}
 use Rattle.word.specs.declared.ram.Sized.the-variants.{Bytes, Refused as NoWidth}
 use Rattle.word.specs.declared.ram.Word.{Word}

@@ -46,7 +46,7 @@ use Rattle.operations.specs.declared.call.Reply.{Reply}
 use Rattle.operations.specs.declared.call.Reply.the-variants.{Refused, Done, Value, Faults, Fault, Stopped}
 use Rattle.cpu.specs.declared.run.Stepped.{Stepped}
 use Rattle.words.specs.CoreOf.{coreOf}
-use Rattle.words.specs.NowHolds.{NowHolds, holds-as}
+use Rattle.words.specs.NowHolds.{holds-as}
 use Rattle.words_sys.specs.Early.{never}
 use Rattle.a72abi.specs.Ops.{abortCall, markCall}
 use Rattle.a72abi.specs.Kept.{unmoved}

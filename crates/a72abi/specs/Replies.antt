@@ -1,5 +1,4 @@
 -- A reply as a number and a word, and as four words.
-use mathlib.Core.Bool.{Bool}
 use mathlib.Core.List.{List, [], _∷_}
 use Prim.Native.Nat.{ℕ, _+_}
 use Rattle.word.specs.Bits.{flag}

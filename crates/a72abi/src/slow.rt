@@ -8,7 +8,6 @@ ghost use Rattle.word.specs.Ram.{bytesIn, stored};
 ghost use Rattle.tlb.specs.declared.access.Kind.the-variants.{Read, Write};
 ghost use Rattle.tlb.specs.declared.hint.HintAnswer.the-variants.{Unknown};
 ghost use Rattle.operations.specs.Place.{inPage};
-ghost use Rattle.mmu.specs.Ops.{ramAfterWrite};
 ghost use Rattle.operations.specs.declared.place.Place.the-variants.{Whole};
 ghost use Rattle.operations.specs.declared.place.Placed.the-variants.{At};
 ghost use Rattle.operations.specs.Check.{ramRows, sizedRows, firstOf};
