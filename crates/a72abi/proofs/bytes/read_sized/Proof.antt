@@ -17,22 +17,22 @@ read-requires-4 : tie.Need-read-requires-4
 read-requires-4 c κs = search needs
 
 returns : tie.Need-returns
-returns c = search (read-8, read-4, read-2, read-1, read-high, read-low, needs)
+returns c = search (read-8, needs)
 
 returns-2 : tie.Need-returns-2
-returns-2 c = search (read-8, read-4, read-2, read-1, read-high, read-low, needs)
+returns-2 c = search (read-high, needs)
 
 returns-3 : tie.Need-returns-3
-returns-3 c = search (read-8, read-4, read-2, read-1, read-high, read-low, needs)
+returns-3 c = search (read-4, needs)
 
 returns-4 : tie.Need-returns-4
-returns-4 c = search (read-8, read-4, read-2, read-1, read-high, read-low, needs)
+returns-4 c = search (read-2, needs)
 
 returns-5 : tie.Need-returns-5
-returns-5 c = search (read-8, read-4, read-2, read-1, read-high, read-low, needs)
+returns-5 c = search (read-1, needs)
 
 returns-6 : tie.Need-returns-6
-returns-6 c = search (read-8, read-4, read-2, read-1, read-high, read-low, needs)
+returns-6 c = search (read-low, needs)
 
 pub read-sized-spec : {M : Type 1} → statement M
 read-sized-spec =

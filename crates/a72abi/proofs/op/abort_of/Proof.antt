@@ -14,10 +14,10 @@ enum-told : tie.Need-enum-told
 enum-told c = search needs
 
 returns : tie.Need-returns
-returns c = search (abort-known, abort-unknown, needs)
+returns c = search (abort-known, needs)
 
 returns-2 : tie.Need-returns-2
-returns-2 c = search (abort-known, abort-unknown, needs)
+returns-2 c = search (abort-unknown, needs)
 
 pub abort-of-spec : {M : Type 1} → statement M
 abort-of-spec = tie.close (tie.spec exception-of-requires enum-known-e enum-told returns returns-2)

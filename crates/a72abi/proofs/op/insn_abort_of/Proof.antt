@@ -11,10 +11,10 @@ first-requires : tie.Need-first-requires
 first-requires c κs = search needs
 
 returns : tie.Need-returns
-returns c = search (insn-fits, insn-wide, needs)
+returns c = search (insn-fits, needs)
 
 returns-2 : tie.Need-returns-2
-returns-2 c = search (insn-fits, insn-wide, needs)
+returns-2 c = search (insn-wide, needs)
 
 pub insn-abort-of-spec : {M : Type 1} → statement M
 insn-abort-of-spec = tie.close (tie.spec cast-first first-requires returns returns-2)

@@ -14,10 +14,10 @@ enum-told : tie.Need-enum-told
 enum-told c = search needs
 
 returns : tie.Need-returns
-returns c = search (translate-known, translate-unknown, needs)
+returns c = search (translate-known, needs)
 
 returns-2 : tie.Need-returns-2
-returns-2 c = search (translate-known, translate-unknown, needs)
+returns-2 c = search (translate-unknown, needs)
 
 pub translate-of-spec : {M : Type 1} → statement M
 translate-of-spec = tie.close (tie.spec kind-of-requires enum-known-k enum-told returns returns-2)
