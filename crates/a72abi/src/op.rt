@@ -163,28 +163,33 @@ fn abort_of(code: u64, a: u64, b: u64, c: u64) -> DecodedCall
 pub fn call_of(op: &[u64; 8]) -> DecodedCall
     ensures { λ r. ⌜ r ≡ callOf (now (op .entry)) ⌝ }
 {
+    let a = op[1];
+    let b = op[2];
+    let c = op[3];
+    let d = op[4];
+    let e = op[5];
     match op[0] {
-        1 => translate_of(op[1], op[2]),
-        2 => DecodedCall::Known(Call::DataPa(op[1])),
-        3 => DecodedCall::Known(Call::FetchPa(op[1])),
-        4 => DecodedCall::Known(Call::Load(op[1], op[2])),
-        5 => DecodedCall::Known(Call::Store(op[1], op[2], op[3])),
-        6 => DecodedCall::Known(Call::Fetch(op[1])),
+        1 => translate_of(a, b),
+        2 => DecodedCall::Known(Call::DataPa(a)),
+        3 => DecodedCall::Known(Call::FetchPa(a)),
+        4 => DecodedCall::Known(Call::Load(a, b)),
+        5 => DecodedCall::Known(Call::Store(a, b, c)),
+        6 => DecodedCall::Known(Call::Fetch(a)),
         7 => DecodedCall::Known(Call::System(Encoding {
-            op1: op[1],
-            crn: op[2],
-            crm: op[3],
-            op2: op[4],
-            rt: op[5],
+            op1: a,
+            crn: b,
+            crm: c,
+            op2: d,
+            rt: e,
         })),
         8 => {
-            let key = key_of(op[1]);
-            DecodedCall::Known(Call::Register(key, op[2]))
+            let key = key_of(a);
+            DecodedCall::Known(Call::Register(key, b))
         }
-        9 => DecodedCall::Known(Call::Level(op[1])),
-        10 => mark_of(op[1]),
-        11 => DecodedCall::Known(Call::General(op[1], op[2])),
-        12 => abort_of(op[1], op[2], op[3], op[4]),
+        9 => DecodedCall::Known(Call::Level(a)),
+        10 => mark_of(a),
+        11 => DecodedCall::Known(Call::General(a, b)),
+        12 => abort_of(a, b, c, d),
         _ => DecodedCall::Unknown,
     }
 }

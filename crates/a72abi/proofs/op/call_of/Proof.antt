@@ -4,92 +4,32 @@ use borrow.Author.Needs.{needs}
 use Rattle.a72abi.proofs.op.call_of.Statement.{statement}
 use Rattle.a72abi.proofs.op.call_of.Tie as tie
 
+element-copy-out-a : tie.Need-element-copy-out-a
+element-copy-out-a c = search needs
+
+element-copy-out-b : tie.Need-element-copy-out-b
+element-copy-out-b c = search needs
+
+element-copy-out-c : tie.Need-element-copy-out-c
+element-copy-out-c c = search needs
+
+element-copy-out-d : tie.Need-element-copy-out-d
+element-copy-out-d c = search needs
+
+element-copy-out-e : tie.Need-element-copy-out-e
+element-copy-out-e c = search needs
+
 element-copy-out-match : tie.Need-element-copy-out-match
 element-copy-out-match c = search needs
-
-element-copy-out-translate-of : tie.Need-element-copy-out-translate-of
-element-copy-out-translate-of c = search needs
-
-element-copy-out-translate-of-2 : tie.Need-element-copy-out-translate-of-2
-element-copy-out-translate-of-2 c = search needs
 
 translate-of-requires : tie.Need-translate-of-requires
 translate-of-requires c κs = search needs
 
-element-copy-out-t16 : tie.Need-element-copy-out-t16
-element-copy-out-t16 c = search needs
-
-element-copy-out-t20 : tie.Need-element-copy-out-t20
-element-copy-out-t20 c = search needs
-
-element-copy-out-t24 : tie.Need-element-copy-out-t24
-element-copy-out-t24 c = search needs
-
-element-copy-out-t27 : tie.Need-element-copy-out-t27
-element-copy-out-t27 c = search needs
-
-element-copy-out-t31 : tie.Need-element-copy-out-t31
-element-copy-out-t31 c = search needs
-
-element-copy-out-t34 : tie.Need-element-copy-out-t34
-element-copy-out-t34 c = search needs
-
-element-copy-out-t37 : tie.Need-element-copy-out-t37
-element-copy-out-t37 c = search needs
-
-element-copy-out-t41 : tie.Need-element-copy-out-t41
-element-copy-out-t41 c = search needs
-
-element-copy-out-t45 : tie.Need-element-copy-out-t45
-element-copy-out-t45 c = search needs
-
-element-copy-out-t48 : tie.Need-element-copy-out-t48
-element-copy-out-t48 c = search needs
-
-element-copy-out-t51 : tie.Need-element-copy-out-t51
-element-copy-out-t51 c = search needs
-
-element-copy-out-t54 : tie.Need-element-copy-out-t54
-element-copy-out-t54 c = search needs
-
-element-copy-out-t57 : tie.Need-element-copy-out-t57
-element-copy-out-t57 c = search needs
-
-element-copy-out-key-of : tie.Need-element-copy-out-key-of
-element-copy-out-key-of c = search needs
-
 key-of-requires : tie.Need-key-of-requires
 key-of-requires c κs = search needs
 
-element-copy-out-t62 : tie.Need-element-copy-out-t62
-element-copy-out-t62 c = search needs
-
-element-copy-out-t68 : tie.Need-element-copy-out-t68
-element-copy-out-t68 c = search needs
-
-element-copy-out-mark-of : tie.Need-element-copy-out-mark-of
-element-copy-out-mark-of c = search needs
-
 mark-of-requires : tie.Need-mark-of-requires
 mark-of-requires c κs = search needs
-
-element-copy-out-t75 : tie.Need-element-copy-out-t75
-element-copy-out-t75 c = search needs
-
-element-copy-out-t78 : tie.Need-element-copy-out-t78
-element-copy-out-t78 c = search needs
-
-element-copy-out-abort-of : tie.Need-element-copy-out-abort-of
-element-copy-out-abort-of c = search needs
-
-element-copy-out-abort-of-2 : tie.Need-element-copy-out-abort-of-2
-element-copy-out-abort-of-2 c = search needs
-
-element-copy-out-abort-of-3 : tie.Need-element-copy-out-abort-of-3
-element-copy-out-abort-of-3 c = search needs
-
-element-copy-out-abort-of-4 : tie.Need-element-copy-out-abort-of-4
-element-copy-out-abort-of-4 c = search needs
 
 abort-of-requires : tie.Need-abort-of-requires
 abort-of-requires c κs = search needs
@@ -137,35 +77,15 @@ pub call-of-spec : {M : Type 1} → statement M
 call-of-spec =
     tie.close
     (tie.spec
+    element-copy-out-a
+    element-copy-out-b
+    element-copy-out-c
+    element-copy-out-d
+    element-copy-out-e
     element-copy-out-match
-    element-copy-out-translate-of
-    element-copy-out-translate-of-2
     translate-of-requires
-    element-copy-out-t16
-    element-copy-out-t20
-    element-copy-out-t24
-    element-copy-out-t27
-    element-copy-out-t31
-    element-copy-out-t34
-    element-copy-out-t37
-    element-copy-out-t41
-    element-copy-out-t45
-    element-copy-out-t48
-    element-copy-out-t51
-    element-copy-out-t54
-    element-copy-out-t57
-    element-copy-out-key-of
     key-of-requires
-    element-copy-out-t62
-    element-copy-out-t68
-    element-copy-out-mark-of
     mark-of-requires
-    element-copy-out-t75
-    element-copy-out-t78
-    element-copy-out-abort-of
-    element-copy-out-abort-of-2
-    element-copy-out-abort-of-3
-    element-copy-out-abort-of-4
     abort-of-requires
     returns
     returns-2
