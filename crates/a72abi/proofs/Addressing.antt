@@ -30,14 +30,14 @@ use Rattle.words.specs.NowHolds.{NowHolds, stays}
 use Rattle.words_memory.specs.Found.{codeOf, valueOf, answering, hintFound, fetchHint, foundTo, pagedTo}
 use Rattle.words_memory.specs.FetchLaws.{fetchTo, fetch-serves, fetch-misses}
 use Rattle.words_memory.proofs.Looking.{by-hint-code, by-hint-value, by-hint-core, by-find-code, by-find-value, by-find-core, code-at}
-use Rattle.a72abi.specs.Replies.{codeBy, valueBy}
-use Rattle.a72abi.specs.Ops.{kindOf, translateCall}
+use Rattle.call_words.specs.Replies.{codeBy, valueBy}
+use Rattle.call_words.specs.Ops.{kindOf, translateCall}
 use Rattle.a72abi.specs.Kept.{kept-late, kept-same, translation-late, reach-late, fetch-end, unmoved}
 use Rattle.a72abi.specs.Inside.{Tells, FetchTells, fetchEnds}
 use Rattle.a72abi.specs.Promise.{Gives}
-use Rattle.a72abi.specs.declared.op.DecodedCall.the-variants as DecodedCall
-use Rattle.a72abi.specs.declared.op.DecodedKind.{DecodedKind}
-use Rattle.a72abi.specs.declared.op.DecodedKind.the-variants.{Known, Unknown as NoKind}
+use Rattle.call_words.specs.declared.op.DecodedCall.the-variants as DecodedCall
+use Rattle.call_words.specs.declared.op.DecodedKind.{DecodedKind}
+use Rattle.call_words.specs.declared.op.DecodedKind.the-variants.{Known, Unknown as NoKind}
 use Rattle.a72abi.proofs.Passing.{tells-as, tells-after}
 
 -- TRANSLATIONS

@@ -1,6 +1,4 @@
 pub mod Ends
-pub mod Naming
-pub mod Replying
 pub mod Checking
 pub mod Passing
 pub mod Addressing

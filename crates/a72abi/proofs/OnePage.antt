@@ -46,7 +46,7 @@ use Rattle.words_sys.specs.Early.{end-late, store-late}
 use Rattle.operations.specs.declared.ends.LoadAnswer.{LoadAnswer}
 use Rattle.operations.specs.declared.ends.StoreAnswer.{StoreAnswer}
 use Rattle.a72abi.specs.Promise.{Gives}
-use Rattle.a72abi.specs.declared.op.DecodedCall.the-variants.{Known}
+use Rattle.call_words.specs.declared.op.DecodedCall.the-variants.{Known}
 use Rattle.words.specs.CoreOf.{coreOf}
 use Rattle.words.specs.Parts.{withLast, withAbort}
 use Rattle.words.specs.NowHolds.{NowHolds, stays, holds-on}
@@ -55,7 +55,7 @@ use Rattle.words_memory.specs.Found.{codeOf, valueOf, answering, hintFound, fou
 use Rattle.words_memory.specs.FoundLaws.{hint-serves, hint-misses}
 use Rattle.words_memory.proofs.Accessing.{one-is, load-parts, store-parts}
 use Rattle.words_memory.proofs.Looking.{code-at}
-use Rattle.a72abi.specs.Replies.{codeBy, valueBy}
+use Rattle.call_words.specs.Replies.{codeBy, valueBy}
 use Rattle.a72abi.specs.Kept.{unmoved, kept-late, kept-same, load-late, storing-late}
 use Rattle.a72abi.specs.Inside.{Tells, loadEnds, storeEnds}
 use Rattle.a72abi.specs.Quick.{sizedIn, sizedAt, madeIn, sizedMade, ramIn, sizedRam}

@@ -21,13 +21,13 @@ use Rattle.operations.specs.declared.call.Reply.the-variants.{Refused}
 use Rattle.cpu.specs.declared.run.Stepped.{Stepped}
 use Rattle.words.specs.CoreOf.{coreOf}
 use Rattle.words.specs.NowHolds.{NowHolds}
-use Rattle.a72abi.specs.Replies.{codeBy, valueBy}
+use Rattle.call_words.specs.Replies.{codeBy, valueBy}
 use Rattle.a72abi.specs.Quick.{Clear}
 use Rattle.a72abi.specs.Kept.{Kept, kept-same}
 use Rattle.a72abi.specs.Inside.{Tells}
 use Rattle.a72abi.specs.Promise.{Gives}
-use Rattle.a72abi.specs.declared.op.DecodedCall.{DecodedCall}
-use Rattle.a72abi.specs.declared.op.DecodedCall.the-variants.{Known}
+use Rattle.call_words.specs.declared.op.DecodedCall.{DecodedCall}
+use Rattle.call_words.specs.declared.op.DecodedCall.the-variants.{Known}
 use Rattle.a72abi.proofs.Checking.{refused-reply, refused-core, runs}
 
 -- a step by its number

@@ -51,7 +51,7 @@ use Rattle.words_memory.specs.Accessed.{keptLast, keptAbort}
 use Rattle.words_memory.specs.Found.{answering, hintFound}
 use Rattle.words_memory.specs.FoundLaws.{hint-serves}
 use Rattle.words_memory.proofs.Accessing.{both-is, load-parts, store-parts}
-use Rattle.a72abi.specs.Replies.{codeBy, valueBy}
+use Rattle.call_words.specs.Replies.{codeBy, valueBy}
 use Rattle.a72abi.specs.Quick.{Clear, clearOf}
 use Rattle.a72abi.specs.Splits.{apartOf, pagesAt, valueFrom, loadBoth, madeBoth, ramBoth, splitLoad, splitMade, splitRam}
 use Rattle.a72abi.specs.declared.split.Split.{Split}
@@ -60,7 +60,7 @@ use Rattle.a72abi.proofs.Bytewise.{size-is, false-true, kept-last, kept
 use Rattle.a72abi.proofs.OnePage.{same-gives, same-ram}
 use Rattle.a72abi.specs.Kept.{kept-done}
 use Rattle.a72abi.specs.Promise.{Gives}
-use Rattle.a72abi.specs.declared.op.DecodedCall.the-variants.{Known}
+use Rattle.call_words.specs.declared.op.DecodedCall.the-variants.{Known}
 
 -- THE TESTS OF THE CODE
 

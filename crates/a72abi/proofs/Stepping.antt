@@ -48,17 +48,17 @@ use Rattle.cpu.specs.declared.run.Stepped.{Stepped}
 use Rattle.words.specs.CoreOf.{coreOf}
 use Rattle.words.specs.NowHolds.{holds-as}
 use Rattle.words_sys.specs.Early.{never}
-use Rattle.a72abi.specs.Ops.{abortCall, markCall}
+use Rattle.call_words.specs.Ops.{abortCall, markCall}
 use Rattle.a72abi.specs.Kept.{unmoved}
-use Rattle.a72abi.specs.Inside.{Steps, wordsFrom}
+use Rattle.a72abi.specs.Inside.{Steps}
 use Rattle.a72abi.specs.Promise.{Promise, Setting, Runs, Gives}
 use Rattle.a72abi.specs.PromiseLaws.{tag-unmoved}
-use Rattle.a72abi.specs.Replies.{codeBy, valueBy, wordsBy, four}
+use Rattle.call_words.specs.Replies.{codeBy, valueBy, wordsBy, four, wordsFrom}
 use Rattle.a72abi.proofs.Checking.{refused-reply, run-reply}
-use Rattle.a72abi.specs.declared.op.DecodedCall.{DecodedCall}
-use Rattle.a72abi.specs.declared.op.DecodedCall.the-variants as DecodedCall
-use Rattle.a72abi.specs.declared.op.DecodedException.{DecodedException}
-use Rattle.a72abi.specs.declared.op.DecodedException.the-variants as DecodedException
+use Rattle.call_words.specs.declared.op.DecodedCall.{DecodedCall}
+use Rattle.call_words.specs.declared.op.DecodedCall.the-variants as DecodedCall
+use Rattle.call_words.specs.declared.op.DecodedException.{DecodedException}
+use Rattle.call_words.specs.declared.op.DecodedException.the-variants as DecodedException
 
 -- A CALL'S WORDS FROM ITS NUMBER AND VALUE
 
@@ -231,17 +231,6 @@ module _ (ws : List ℕ) (base : ℕ) (ram : List ℕ) (n v : ℕ) (w xs : List 
       go : (s : Sized) → Shaped (storeBy s (coreOf ws) base ram va .reply) 0 (λ y. 0) 9 same 1
       go (Bytes y) = store-shaped (locatedNow (coreOf ws) (wordAt base ram 8) va (bytesIn y) Write .placed) (coreOf ws .«abort_pa») base ram va (bytesIn y)
       go NoWidth = shaped-refused 0 (λ y. 0) 9 same 1 3 (omega arith) (omega arith)
-
--- the words of a number, as the code tests it
-module _ (n tag a fault b flag : ℕ) where
-  pub words-zero : n ≡ 0 → four tag a 0 0 ≡ wordsFrom n tag a fault b flag
-  words-zero e = sym (rw e)
-
-  pub words-refused : (n ≡ 0 → ⊥) → n < 256 → four 5 n 0 0 ≡ wordsFrom n tag a fault b flag
-  words-refused e l = sym (rw (ne-eqb n 0 e, lt-ltb n 256 l))
-
-  pub words-fault : (m : ℕ) → (n ≡ 0 → ⊥) → 256 ≤ n → m ≡ n - 256 → four fault b m flag ≡ wordsFrom n tag a fault b flag
-  words-fault m e l q = ap (λ (k : ℕ). four fault b k flag) q ∙ sym (rw (ne-eqb n 0 e, le-ltb n 256 l))
 
 -- EVERY CALL
 

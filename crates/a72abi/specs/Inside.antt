@@ -18,7 +18,7 @@ use Rattle.words.specs.CoreOf.{coreOf}
 use Rattle.words.specs.NowHolds.{NowHolds}
 use Rattle.words.specs.Parts.{withAbort}
 use Rattle.words_memory.specs.Accessed.{loadEndOf, storeEndOf, keptLast, keptAbort}
-use Rattle.a72abi.specs.Replies.{codeBy, valueBy, wordsBy, four}
+use Rattle.call_words.specs.Replies.{codeBy, valueBy, wordsBy, four}
 use Rattle.a72abi.specs.Kept.{Kept}
 
 -- a step by its number and value, which was old
@@ -48,7 +48,3 @@ pub record Steps (call : Call) (base : ℕ) (ram ws : List ℕ) (w xs : List ℕ
   pub answer : w ≡ wordsBy (stepOf (coreOf ws) base ram call .reply)
   pub words : NowHolds ws xs (stepOf (coreOf ws) base ram call .core)
   pub still : 4 < getD w 0 0 → getD w 0 0 < 8 → xs ≡ ws
-
--- the words of a number: the answer's first two, a refusal's, or a fault's first two and its last
-abbrev pub wordsFrom : ℕ → ℕ → ℕ → ℕ → ℕ → ℕ → List ℕ
-wordsFrom n tag a fault b flag = pick (eqb n 0) (four tag a 0 0) (pick (ltb n 256) (four 5 n 0 0) (four fault b (n - 256) flag))

@@ -28,7 +28,7 @@ use Rattle.operations.specs.Replies.{translation, reaching, loading, storing, f
 use Rattle.operations.specs.declared.call.Reply.{Reply}
 use Rattle.operations.specs.declared.call.Reply.the-variants.{Refused, Done, Value, Faults, Fault, Stopped}
 use Rattle.words_sys.specs.Early.{early, earlyStop, never}
-use Rattle.a72abi.specs.Replies.{codeBy, valueBy}
+use Rattle.call_words.specs.Replies.{codeBy, valueBy}
 
 -- a refusal, Undefined, Unimplemented
 abbrev pub unmoved : Reply → Bool

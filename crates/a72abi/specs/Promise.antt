@@ -14,11 +14,11 @@ use Rattle.transparency.specs.Beside.{coreAfter}
 use Rattle.transparency.specs.Faithful.{Faithful}
 use Rattle.words.specs.CoreOf.{coreOf}
 use Rattle.words.specs.NowHolds.{NowHolds}
-use Rattle.a72abi.specs.Replies.{codeBy, valueBy, wordsBy}
+use Rattle.call_words.specs.Replies.{codeBy, valueBy, wordsBy}
 use Rattle.a72abi.specs.Steps.{callNumber, callValue, callRam, callCore, callCode, callWords}
 use Rattle.a72abi.specs.Kept.{Stays, Kept}
-use Rattle.a72abi.specs.declared.op.DecodedCall.{DecodedCall}
-use Rattle.a72abi.specs.declared.op.DecodedCall.the-variants.{Known, Unknown}
+use Rattle.call_words.specs.declared.op.DecodedCall.{DecodedCall}
+use Rattle.call_words.specs.declared.op.DecodedCall.the-variants.{Known, Unknown}
 
 -- DEMAND 3
 

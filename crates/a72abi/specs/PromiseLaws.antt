@@ -34,17 +34,17 @@ use Rattle.cpu.specs.declared.run.Stepped.{Stepped}
 use Rattle.transparency.specs.Faithful.{FaithfulCall, faithful-step}
 use Rattle.words.specs.CoreOf.{coreOf}
 use Rattle.words.specs.NowHolds.{stays, holds-as}
-use Rattle.a72abi.specs.Replies.{codeBy, valueBy, wordsBy}
-use Rattle.a72abi.specs.Ops.{keyOf, translateCall}
+use Rattle.call_words.specs.Replies.{codeBy, valueBy, wordsBy}
+use Rattle.call_words.specs.Ops.{keyOf, translateCall}
 use Rattle.a72abi.specs.Steps.{callRam}
 use Rattle.words_sys.specs.Early.{never, earlyStop, store-late, zero-late}
 use Rattle.a72abi.specs.Kept.{unmoved, number-unmoved, unmoved-value, storing-late, kept-same, kept-put-answer}
 use Rattle.a72abi.specs.Inside.{Steps}
 use Rattle.a72abi.specs.Promise.{Promise, Setting, StepPromise, Runs, Gives}
-use Rattle.a72abi.specs.declared.op.DecodedKind.{DecodedKind}
-use Rattle.a72abi.specs.declared.op.DecodedKind.the-variants as DecodedKind
-use Rattle.a72abi.specs.declared.op.DecodedCall.{DecodedCall}
-use Rattle.a72abi.specs.declared.op.DecodedCall.the-variants.{Known, Unknown}
+use Rattle.call_words.specs.declared.op.DecodedKind.{DecodedKind}
+use Rattle.call_words.specs.declared.op.DecodedKind.the-variants as DecodedKind
+use Rattle.call_words.specs.declared.op.DecodedCall.{DecodedCall}
+use Rattle.call_words.specs.declared.op.DecodedCall.the-variants.{Known, Unknown}
 
 -- A REFUSAL, UNDEFINED AND UNIMPLEMENTED CHANGE NO BYTE
 

@@ -3,9 +3,9 @@ use mathlib.Core.List.{List}
 use Prim.Native.Nat.{ℕ}
 use Rattle.mmu.specs.declared.core.Core.{Core}
 use Rattle.cpu.specs.Step.{stepOf, ramAfter}
-use Rattle.a72abi.specs.Replies.{codeBy, valueBy, wordsBy}
-use Rattle.a72abi.specs.declared.op.DecodedCall.{DecodedCall}
-use Rattle.a72abi.specs.declared.op.DecodedCall.the-variants.{Known, Unknown}
+use Rattle.call_words.specs.Replies.{codeBy, valueBy, wordsBy}
+use Rattle.call_words.specs.declared.op.DecodedCall.{DecodedCall}
+use Rattle.call_words.specs.declared.op.DecodedCall.the-variants.{Known, Unknown}
 
 -- the number, the value or else the word as it was, RAM and the core
 abbrev pub callNumber : DecodedCall → Core → ℕ → List ℕ → ℕ

@@ -5,7 +5,7 @@ ghost use Rattle.operations.specs.Check.{known};
 ghost use Rattle.cpu.specs.Step.{ramAfter};
 ghost use Rattle.operations.specs.declared.call.Call.the-variants as Call;
 ghost use Rattle.words.specs.CoreOf.{coreOf};
-ghost use Rattle.a72abi.specs.declared.op.DecodedCall.the-variants as DecodedCall;
+ghost use Rattle.call_words.specs.declared.op.DecodedCall.the-variants as DecodedCall;
 ghost use Rattle.a72abi.specs.Promise.{Promise, Gives};
 ghost use Rattle.a72abi.specs.Quick.{sizedAt, sizedMade, sizedRam};
 use crate::slow;

@@ -5,8 +5,6 @@ pub mod bytes;
 pub mod calls;
 pub mod checked;
 pub mod memory;
-pub mod op;
-pub mod reply;
 pub mod slow;
 pub mod split;
 pub mod tables;

@@ -3,8 +3,8 @@
 ghost use mathlib.Core.Path.{_≡_};
 ghost use Rattle.operations.specs.declared.call.Call.the-variants as Call;
 ghost use Rattle.words.specs.CoreOf.{coreOf};
-ghost use Rattle.a72abi.specs.declared.op.DecodedCall.the-variants as DecodedCall;
-ghost use Rattle.a72abi.specs.Ops.{kindOf, translateCall};
+ghost use Rattle.call_words.specs.declared.op.DecodedCall.the-variants as DecodedCall;
+ghost use Rattle.call_words.specs.Ops.{kindOf, translateCall};
 ghost use Rattle.a72abi.specs.Quick.{clearOf};
 ghost use Rattle.a72abi.specs.Promise.{Promise, Gives};
 use crate::slow;

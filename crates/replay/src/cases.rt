@@ -119,7 +119,7 @@ fn end(m: Replay, counts: &mut [u64; 2048]) -> Replay {
     if !c.wrong {
         say::text(b"\n  a case that agrees, or has no class");
     }
-    trace_file::wrong(out)
+    lines::wrong(out)
 }
 
 pub fn line(m: Replay, op: &[u64; 8], state: &State, counts: &mut [u64; 2048]) -> Replay {
@@ -129,6 +129,6 @@ pub fn line(m: Replay, op: &[u64; 8], state: &State, counts: &mut [u64; 2048]) -
         72 => other(m, state, op[1], op[2]),
         73 => end(m, counts),
         74 => answered(m, op[1], op[2]),
-        _ => trace_file::broken(m, b"no such line"),
+        _ => lines::broken(m, b"no such line"),
     }
 }

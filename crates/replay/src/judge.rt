@@ -43,7 +43,7 @@ fn digest_words(sum: u64, state: &State) -> [u64; 6] {
 
 fn show(m: Replay, place: u64, is: u64, want: u64) -> Replay {
     say::differs(m.lines, place, is, want);
-    trace_file::wrong(m)
+    lines::wrong(m)
 }
 
 // The first of some words that is not as recorded from a place on, or their number.
@@ -101,7 +101,7 @@ pub fn tail(
     let mut want = [0u8; 192];
     let n = io::read_full(fd, &mut want);
     if n < 192 {
-        return trace_file::broken(m, b"the last line is not whole");
+        return lines::broken(m, b"the last line is not whole");
     }
     let ans = m.ans;
     tally::note(op, ans, state[place::PAR_EL1], counts);

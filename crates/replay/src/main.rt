@@ -10,8 +10,8 @@ mod short;
 mod tables;
 mod tally;
 
+use lines::Replay;
 use report::Total;
-use trace_file::Replay;
 use word::bits;
 use words::place::State;
 use words::place::WORDS;
@@ -57,7 +57,7 @@ fn named(
     if fd < 0 {
         return one_wrong(t, b": no such file\n");
     }
-    let m = trace_file::record(fd, state, ram, counts);
+    let m = lines::record(fd, state, ram, counts);
     libc::close(fd);
     report::file(m);
     with_record(t, m)

@@ -1,6 +1,6 @@
 // Leaves: functions of the registers as they stand, which change nothing.
-use a72abi::op;
-use a72abi::op::DecodedException;
+use call_words::op;
+use call_words::op::DecodedException;
 use exception::kind::Exception;
 use exception::report;
 use exception::take;

@@ -4,13 +4,11 @@ ghost use mathlib.Core.Path.{_≡_};
 ghost use Prim.Native.Nat.{_≤_};
 ghost use Rattle.word.specs.Ram.{wordAt};
 ghost use Rattle.tlb.specs.declared.access.Kind.the-variants.{Fetch};
-ghost use Rattle.mmu.specs.Ops.{translateOf, fetchSteppedNow, withTlb};
+ghost use Rattle.mmu.specs.Ops.{fetchSteppedNow, withTlb};
 ghost use Rattle.words.specs.CoreOf.{coreOf};
 ghost use Rattle.words.specs.NowHolds.{NowHolds};
 ghost use Rattle.words_memory.specs.Found.{codeOf, valueOf, hintFound, fetchHint, withHintFor, answerPut};
-ghost use Rattle.words_memory.specs.Found.{sourced};
-ghost use Rattle.words_memory.specs.Found.{committed, lookedAt};
-ghost use Rattle.words_memory.specs.Found.{foundAt, pagedTo};
+ghost use Rattle.words_memory.specs.Found.{sourced, committed, lookedAt, foundAt, pagedTo};
 use tlb::access;
 use tlb::access::Answer;
 use tlb::access::Kind;
@@ -177,26 +175,6 @@ pub fn by_hint(state: &State, va: u64, kind: Kind) -> HintAnswer
         HintAnswer::At(pa)
     } else {
         HintAnswer::Unknown
-    }
-}
-
-// The translation of va by number: the hint first.
-pub fn address(state: &mut State, va: u64, kind: Kind, pa: &mut u64, base: u64, ram: &[u8]) -> u64
-    ensures { λ r. ⌜ r ≤ 511 ⌝ }
-    ensures { λ r. ⌜ r
-        ≡ codeOf (translateOf (coreOf (now (state .entry))) (wordAt base (now (ram .entry)) 8) va kind .answer) ⌝ }
-    ensures { λ r. ⌜ now (pa .exit) ≡ valueOf
-        (translateOf (coreOf (now (state .entry))) (wordAt base (now (ram .entry)) 8) va kind .answer)
-        (now (pa .entry)) ⌝ }
-    ensures { λ _. ⌜ NowHolds (now (state .entry)) (now (state .exit))
-        (translateOf (coreOf (now (state .entry))) (wordAt base (now (ram .entry)) 8) va kind .core) ⌝ }
-{
-    match by_hint(state, va, kind) {
-        HintAnswer::At(at) => {
-            *pa = at;
-            0
-        }
-        HintAnswer::Unknown => find(state, va, kind, pa, base, ram),
     }
 }
 

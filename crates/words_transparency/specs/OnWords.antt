@@ -15,8 +15,8 @@ use Rattle.words.specs.CoreOf.{coreOf}
 use Rattle.words.specs.NowHolds.{NowHolds}
 use Rattle.a72abi.specs.Steps.{callCore}
 use Rattle.a72abi.specs.Promise.{FaithfulNumber, FaithfulWords, Promise, Setting, StepPromise}
-use Rattle.a72abi.specs.declared.op.DecodedCall.{DecodedCall}
-use Rattle.a72abi.specs.declared.op.DecodedCall.the-variants.{Known, Unknown}
+use Rattle.call_words.specs.declared.op.DecodedCall.{DecodedCall}
+use Rattle.call_words.specs.declared.op.DecodedCall.the-variants.{Known, Unknown}
 
 -- a call with the RAM that stands when it begins
 abbrev pub lentOf : ℕ → List ℕ → Call → Lent real machine

@@ -11,11 +11,11 @@ use Rattle.history.specs.Calls.{Lent}
 use Rattle.history.specs.Instance.{windowOf, real}
 use Rattle.transparency.specs.Machine.{machine}
 use Rattle.words.specs.CoreOf.{coreOf}
-use Rattle.a72abi.specs.Ops.{callOf}
+use Rattle.call_words.specs.Ops.{callOf}
 use Rattle.a72abi.specs.Steps.{callCode, callCore, callRam}
 use Rattle.a72abi.specs.Promise.{FaithfulWords, StepPromise}
-use Rattle.a72abi.specs.declared.op.DecodedCall.{DecodedCall}
-use Rattle.a72abi.specs.declared.op.DecodedCall.the-variants.{Known, Unknown}
+use Rattle.call_words.specs.declared.op.DecodedCall.{DecodedCall}
+use Rattle.call_words.specs.declared.op.DecodedCall.the-variants.{Known, Unknown}
 use Rattle.words_transparency.specs.OnWords.{added, Made, fresh, stepped, demand-3-step}
 
 -- the k-th call of words, eight to a call

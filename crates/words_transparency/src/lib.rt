@@ -2,7 +2,7 @@
 ghost use mathlib.Core.Path.{_≡_};
 ghost use Prim.Native.Nat.{_+_, _/_, _≤_};
 ghost use lib.ListN.{length};
-ghost use Rattle.a72abi.specs.Ops.{callOf};
+ghost use Rattle.call_words.specs.Ops.{callOf};
 ghost use Rattle.words_transparency.specs.Run.{eight, reached, RunPromise};
 use a72abi::calls;
 use words::place::State;

@@ -1,0 +1,3 @@
+-- What the contracts of `call_words` cite.
+pub mod Ops
+pub mod Replies
