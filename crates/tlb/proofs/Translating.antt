@@ -21,7 +21,7 @@ use Rattle.tlb.specs.Entry.{blank, serves}
 use Rattle.tlb.specs.Hint.{onPage, hintKey, hintFor, fetchFor, fetchFound}
 use Rattle.tlb.specs.Count.{hitCounted, walkCounted}
 use Rattle.tlb.specs.Access.{isFetch, mayHint, countsAsUser, userOf, tagOf, rightOf, hasRight, judged}
-use Rattle.tlb.specs.Resolve.{askOf, entryFor, byWalk, resolveWith, resolveOf, changesOf, countedBy, keptBy, hintAfter, fetchAfter}
+use Rattle.tlb.specs.Resolve.{askOf, entryFor, byEntry, byWalk, resolveWith, resolveOf, changesOf, countedBy, keptBy, hintAfter, fetchAfter}
 use Rattle.tlb.specs.Translate.{missOf, applied, translationWith, translationOf, fetchApplied, fetchEnd, fetchWith, fetchOf, changes-are}
 use Rattle.tlb.specs.declared.entry.Entry.{Entry}
 use Rattle.tlb.specs.declared.entry.Current.{Current}
@@ -89,12 +89,15 @@ pub walk-made : (w v : Walked) (q : Query) (privilege : Privilege) (at : Current
     → t ≡ byWalk w q privilege at va kind → t ≡ byWalk v q privilege at va kind
 walk-made w v q privilege at kind va t e p = rw e at p
 
+pub entry-judges : (q : Query) (privilege : Privilege) (e : Entry) (va : ℕ) (kind : Kind) (u : Bool) (a : Answer) (m : Entry) → u ≡ userOf (q .regime) privilege kind
+    → a ≡ judged e u kind va → m ≡ blank → record { answer = a; source = FromEntry; made = m } ≡ byEntry q privilege e va kind
+entry-judges q privilege e va kind u a m eu ea em = rw (ea, eu, em)
+
 module _ (q : Query) (s : Bank) (privilege : Privilege) (at : Current) (e : Entry) (va : ℕ) (kind : Kind) (memory : ℕ → Word) (b : Bool)
     (eb : b ≡ serves e at (q .tag)) where
-  pub entry-resolves : (u : Bool) (a : Answer) (m : Entry) → b ≡ true → u ≡ userOf (q .regime) privilege kind → a ≡ judged e u kind va → m ≡ blank
-      → record { answer = a; source = FromEntry; made = m } ≡ resolveOf q s privilege at e va kind memory
+  pub entry-resolves : (t : Resolved) → b ≡ true → t ≡ byEntry q privilege e va kind → t ≡ resolveOf q s privilege at e va kind memory
   unfolding resolveOf resolveWith
-  entry-resolves u a m t eu ea em = rw (← eb, t, ea, eu, em)
+  entry-resolves t y et = rw (← eb, y) et
 
   pub walk-resolves : (t : Resolved) → b ≡ false → t ≡ byWalk (walkOf s (q .regime) (q .page) memory) q privilege at va kind
       → t ≡ resolveOf q s privilege at e va kind memory

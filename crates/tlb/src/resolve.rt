@@ -3,7 +3,7 @@
 ghost use mathlib.Core.Path.{_≡_};
 ghost use Rattle.word.specs.Ram.{wordAt};
 ghost use Rattle.walk.specs.Walk.{walkOf};
-ghost use Rattle.tlb.specs.Resolve.{askOf, entryFor, byWalk, resolveOf};
+ghost use Rattle.tlb.specs.Resolve.{askOf, entryFor, byEntry, byWalk, resolveOf};
 use crate::access;
 use crate::access::Answer;
 use crate::access::Kind;
@@ -105,7 +105,7 @@ fn ends(w: Walked, q: Query, privilege: Privilege, at: Current, kind: Kind, va: 
 }
 
 // By a walk. A function of its own, so that the registers are laid out for the walk in this branch alone.
-fn walked(
+pub fn walked(
     q: Query,
     s: Bank,
     privilege: Privilege,
@@ -121,6 +121,21 @@ fn walked(
     let regime = q.regime;
     let w = walk::table::walk(s, regime, q.page, base, ram);
     ends(w, q, privilege, at, kind, va)
+}
+
+// By the entry, which is judged.
+pub fn by_entry(q: Query, privilege: Privilege, e: Entry, va: u64, kind: Kind) -> Resolved
+    ensures { λ r. ⌜ r ≡ byEntry q privilege e va kind ⌝ }
+{
+    let regime = q.regime;
+    let user = access::user_of(regime, privilege, kind);
+    let answer = access::judge(e, user, kind, va);
+    let made = entry::blank();
+    Resolved {
+        answer,
+        source: Source::FromEntry,
+        made,
+    }
 }
 
 // By the entry that the query's tag names, or by a walk.
@@ -139,15 +154,7 @@ pub fn resolve(
 {
     let hit = entry::serves(e, at, q.tag);
     if hit {
-        let regime = q.regime;
-        let user = access::user_of(regime, privilege, kind);
-        let answer = access::judge(e, user, kind, va);
-        let made = entry::blank();
-        Resolved {
-            answer,
-            source: Source::FromEntry,
-            made,
-        }
+        by_entry(q, privilege, e, va, kind)
     } else {
         walked(q, s, privilege, at, va, kind, base, ram)
     }

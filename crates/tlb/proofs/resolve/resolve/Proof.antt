@@ -7,14 +7,8 @@ use Rattle.tlb.proofs.resolve.resolve.Tie as tie
 serves-requires : tie.Need-serves-requires
 serves-requires c κs = search needs
 
-user-of-requires : tie.Need-user-of-requires
-user-of-requires c κs = search needs
-
-judge-requires : tie.Need-judge-requires
-judge-requires c κs = search needs
-
-blank-requires : tie.Need-blank-requires
-blank-requires c κs = search needs
+by-entry-requires : tie.Need-by-entry-requires
+by-entry-requires c κs = search needs
 
 walked-requires : tie.Need-walked-requires
 walked-requires c κs = search needs
@@ -26,13 +20,4 @@ returns-2 : tie.Need-returns-2
 returns-2 c = search (walk-resolves, needs)
 
 pub resolve-spec : {M : Type 1} → statement M
-resolve-spec =
-    tie.close
-    (tie.spec
-    serves-requires
-    user-of-requires
-    judge-requires
-    blank-requires
-    walked-requires
-    returns
-    returns-2)
+resolve-spec = tie.close (tie.spec serves-requires by-entry-requires walked-requires returns returns-2)
