@@ -136,8 +136,8 @@ fn address_of(answer: Answer) -> u64
     }
 }
 
-// A translation that no hint serves: by the entry or by a walk, as `resolve` has it. The two are called here and there, so
-// that in each the entry is asked in line and the walk is not.
+// A translation that no hint serves: by the entry or by a walk, as `resolve` has it. The two are called here and
+// there, so that in each the entry is asked in line and the walk is not.
 pub fn miss(
     k: Lookup,
     at: Current,
