@@ -57,6 +57,16 @@ size-is size w e = sym (ap countOf e) ∙ go (eqb size 1) refl (eqb size 2) refl
     go false ea false eb false ec true ed = rw (ea, eb, ec, ed) (sym (eqb-true size 8 ed))
     go false ea false eb false ec false ed = absurd (no-width w (sym (none ea eb ec ed) ∙ e))
 
+-- a size that is none
+pub no-size : (size : ℕ) → (size ≡ 1 → ⊥) → (size ≡ 2 → ⊥) → (size ≡ 4 → ⊥) → (size ≡ 8 → ⊥) → widthOf size ≡ NoWidth
+no-size size a b c d = rw (ne-eqb size 1 a, ne-eqb size 2 b, ne-eqb size 4 c, ne-eqb size 8 d)
+
+pub high-size : (size : ℕ) → 4 < size → (size ≡ 8 → ⊥) → widthOf size ≡ NoWidth
+high-size size h n = no-size size (λ e. omega arith) (λ e. omega arith) (λ e. omega arith) n
+
+pub low-size : (size : ℕ) → size ≤ 4 → (size ≡ 4 → ⊥) → (size ≡ 2 → ⊥) → (size ≡ 1 → ⊥) → widthOf size ≡ NoWidth
+low-size size h a b c = no-size size c b a (λ e. omega arith)
+
 module _ (base : ℕ) (ram : List ℕ) (pa : ℕ) where
   -- the tests of the code
   pub read-8 : (size : ℕ) (r : Word) → size ≡ 8 → r ≡ wordAt base ram 8 pa → r ≡ sizedAt base ram size pa
@@ -70,15 +80,6 @@ module _ (base : ℕ) (ram : List ℕ) (pa : ℕ) where
 
   pub read-1 : (size : ℕ) (r : Word) → size ≡ 1 → r ≡ wordAt base ram 1 pa → r ≡ sizedAt base ram size pa
   read-1 size r e q = q ∙ sym (ap (λ (n : ℕ). sizedAt base ram n pa) e)
-
-  pub no-size : (size : ℕ) → (size ≡ 1 → ⊥) → (size ≡ 2 → ⊥) → (size ≡ 4 → ⊥) → (size ≡ 8 → ⊥) → widthOf size ≡ NoWidth
-  no-size size a b c d = rw (ne-eqb size 1 a, ne-eqb size 2 b, ne-eqb size 4 c, ne-eqb size 8 d)
-
-  high-size : (size : ℕ) → 4 < size → (size ≡ 8 → ⊥) → widthOf size ≡ NoWidth
-  high-size size h n = no-size size (λ e. omega arith) (λ e. omega arith) (λ e. omega arith) n
-
-  low-size : (size : ℕ) → size ≤ 4 → (size ≡ 4 → ⊥) → (size ≡ 2 → ⊥) → (size ≡ 1 → ⊥) → widthOf size ≡ NoWidth
-  low-size size h a b c = no-size size c b a (λ e. omega arith)
 
   pub read-high : (size : ℕ) → 4 < size → (size ≡ 8 → ⊥) → Outside ≡ sizedAt base ram size pa
   read-high size h n = sym (ap (λ (s : Sized). sizedIn s base ram pa) (high-size size h n))

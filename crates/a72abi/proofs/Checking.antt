@@ -1,10 +1,13 @@
 -- DecodedCall that a check refuses, and calls that pass, by their replies, on plain values, for `search`.
 use mathlib.Core.Path.{_≡_, refl, sym, ap, _∙_}
-use mathlib.Core.Bool.{not, _||_}
+use mathlib.Core.Bool.{Bool, true, false, not, _||_}
 use mathlib.Core.List.{List, [], _∷_}
-use Prim.Native.Nat.{ℕ, zero, suc}
+use Prim.Native.Nat.{ℕ, zero, suc, _≤_, _<_}
+use native.Mathlib.Omega.{arith}
+use borrow.Author.Tests.{lt-ltb, le-ltb}
 use lib.Dec.{ltb}
 use lib.ListN.{length}
+use Rattle.word.specs.Bits.{pick}
 use Rattle.sysreg.specs.declared.write.WriteAnswer.{WriteAnswer}
 use Rattle.tlb.specs.declared.access.Privilege.{Privilege}
 use Rattle.mmu.specs.declared.core.Core.{Core}
@@ -40,9 +43,6 @@ module _ (c : Core) (privilege : Privilege) (n : ℕ) (e : privilege ≡ c .priv
 
   pub any-missed : n ≡ firstOf ((ltb 3 (privilege .level), 1) ∷ []) → n ≡ firstOf ((ltb 3 (c .privilege .level), 1) ∷ [])
   any-missed q = q ∙ ap (λ (w : Privilege). firstOf ((ltb 3 (w .level), 1) ∷ [])) e
-
-  pub general-missed : (number : ℕ) → n ≡ firstOf ((ltb 3 (privilege .level), 1) ∷ (ltb 31 number, 5) ∷ []) → n ≡ firstOf ((ltb 3 (c .privilege .level), 1) ∷ (ltb 31 number, 5) ∷ [])
-  general-missed number q = q ∙ ap (λ (w : Privilege). firstOf ((ltb 3 (w .level), 1) ∷ (ltb 31 number, 5) ∷ [])) e
 
 module _ (ws : List ℕ) (base : ℕ) (ram : List ℕ) (call : Call) (n : ℕ) (en : n ≡ missedOf (coreOf ws .privilege .level) base (length ram) call) where
   refuses : (n ≡ 0 → ⊥) → stepOf (coreOf ws) base ram call ≡ ends (coreOf ws) (Refused n)
@@ -103,3 +103,58 @@ module _ (ws : List ℕ) (base : ℕ) (ram : List ℕ) (call : Call) (n : ℕ) (
     pub written-reply : (a b : WriteAnswer) (r : Reply) → r ≡ registering a → a ≡ b → registering b ≡ runOf (coreOf ws) base ram call .reply
         → r ≡ stepOf (coreOf ws) base ram call .reply
     written-reply = by-answer registering
+
+-- the level, then the number of a general register
+module _ (ws : List ℕ) (number value n : ℕ) (en : n ≡ firstOf ((ltb 3 (coreOf ws .privilege .level), 1) ∷ [])) where
+  abbrev of-number : ℕ
+  of-number = firstOf ((ltb 31 number, 5) ∷ [])
+
+  abbrev general : Stepped
+  general = stepOf (coreOf ws) 0 [] (Call.General number value)
+
+  abbrev missed : ℕ
+  missed = missedOf (coreOf ws .privilege .level) 0 (length {A = ℕ} []) (Call.General number value)
+
+  module _ (h : n ≡ 0 → ⊥) where
+    by-level : n ≡ missed
+    unfolding missedOf
+    by-level = go (ltb 3 (coreOf ws .privilege .level)) en
+      where
+        go : (a : Bool) → n ≡ pick a 1 0 → n ≡ pick a 1 of-number
+        go true e = e
+        go false e = absurd (h e)
+
+    pub level-reply : Refused n ≡ general .reply
+    level-reply = refused-reply ws 0 [] (Call.General number value) n by-level h
+
+    pub level-core : NowHolds ws ws (general .core)
+    level-core = refused-core ws 0 [] (Call.General number value) n by-level h
+
+  by-number : (k : ℕ) → n ≡ 0 → k ≡ of-number → k ≡ missed
+  unfolding missedOf
+  by-number k z q = go (ltb 3 (coreOf ws .privilege .level)) (sym z ∙ en)
+    where
+      go : (a : Bool) → _≡_ {A = ℕ} 0 (pick a 1 0) → k ≡ pick a 1 of-number
+      go true e = absurd (omega (arith, e))
+      go false e = q
+
+  module _ (z : n ≡ 0) (h : 31 < number) where
+    five : 5 ≡ missed
+    five = by-number 5 z (rw (lt-ltb 31 number h))
+
+    pub number-reply : Refused 5 ≡ general .reply
+    number-reply = refused-reply ws 0 [] (Call.General number value) 5 five (λ e. omega (arith, e))
+
+    pub number-core : NowHolds ws ws (general .core)
+    number-core = refused-core ws 0 [] (Call.General number value) 5 five (λ e. omega (arith, e))
+
+  module _ (z : n ≡ 0) (h : number ≤ 31) where
+    none : 0 ≡ missed
+    none = by-number 0 z (rw (le-ltb 31 number h))
+
+    pub general-reply : (r : Reply) → r ≡ runOf (coreOf ws) 0 [] (Call.General number value) .reply → r ≡ general .reply
+    general-reply = run-reply ws 0 [] (Call.General number value) 0 none refl
+
+    pub general-core : (xs : List ℕ) (d : Core) → NowHolds ws xs d → d ≡ runOf (coreOf ws) 0 [] (Call.General number value) .core
+        → NowHolds ws xs (general .core)
+    general-core = run-core ws 0 [] (Call.General number value) 0 none refl

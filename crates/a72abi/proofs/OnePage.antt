@@ -59,7 +59,7 @@ use Rattle.call_words.specs.Replies.{codeBy, valueBy}
 use Rattle.a72abi.specs.Kept.{unmoved, kept-late, kept-same, load-late, storing-late}
 use Rattle.a72abi.specs.Inside.{Tells, loadEnds, storeEnds}
 use Rattle.a72abi.specs.Quick.{sizedIn, sizedAt, madeIn, sizedMade, ramIn, sizedRam}
-use Rattle.a72abi.proofs.Bytewise.{size-is, no-size, and-false, false-true, outside-bits, unmade-ram}
+use Rattle.a72abi.proofs.Bytewise.{size-is, and-false, false-true, outside-bits, unmade-ram}
 use Rattle.a72abi.proofs.Passing.{tells-as, tells-after}
 
 -- BYTES AT A KNOWN PLACE
@@ -307,30 +307,17 @@ module _ (ws : List ℕ) (base : ℕ) (ram : List ℕ) (va size : ℕ) where
     size-store-ram x ys q = rw e q
 
   module _ (e : widthOf size ≡ NoWidth) where
-    none-load : (old : ℕ) → Tells (runOf (coreOf ws) base ram (Call.Load va size)) ws 3 old old ws
+    pub none-load : (old : ℕ) → Tells (runOf (coreOf ws) base ram (Call.Load va size)) ws 3 old old ws
     unfolding runOf
     none-load old = rw e (record { code = refl; value = refl; words = stays; kept = kept-same 3 ws })
 
-    none-store : (x old : ℕ) → Tells (runOf (coreOf ws) base ram (Call.Store va size x)) ws 3 old old ws
+    pub none-store : (x old : ℕ) → Tells (runOf (coreOf ws) base ram (Call.Store va size x)) ws 3 old old ws
     unfolding runOf
     none-store x old = rw e (record { code = refl; value = refl; words = stays; kept = kept-same 3 ws })
 
-    none-ram : (x : ℕ) → ram ≡ ramOf (coreOf ws) base ram (Call.Store va size x)
+    pub none-ram : (x : ℕ) → ram ≡ ramOf (coreOf ws) base ram (Call.Store va size x)
     unfolding ramOf
     none-ram x = rw e
-
-  module _ (a : size ≡ 8 → ⊥) (b : size ≡ 4 → ⊥) (c : size ≡ 2 → ⊥) (d : size ≡ 1 → ⊥) where
-    other : widthOf size ≡ NoWidth
-    other = no-size base ram 0 size d c b a
-
-    pub other-load : (old : ℕ) → Tells (runOf (coreOf ws) base ram (Call.Load va size)) ws 3 old old ws
-    other-load = none-load other
-
-    pub other-store : (x old : ℕ) → Tells (runOf (coreOf ws) base ram (Call.Store va size x)) ws 3 old old ws
-    other-store = none-store other
-
-    pub other-ram : (x : ℕ) → ram ≡ ramOf (coreOf ws) base ram (Call.Store va size x)
-    other-ram = none-ram other
 
   module _ (s : Sized) (es : s ≡ widthOf size) where
     pub sized-none : (old : ℕ) → s ≡ NoWidth → Tells (runOf (coreOf ws) base ram (Call.Load va size)) ws 3 old old ws

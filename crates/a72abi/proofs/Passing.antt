@@ -6,8 +6,7 @@ use Prim.Native.Nat.{ℕ, _+_, _-_, _^_, _≤_, _<_}
 use native.Mathlib.Omega.{arith}
 use borrow.Author.Tests.{ltb-false, ltb-true, lt-ltb, le-ltb}
 use lib.Dec.{ltb}
-use lib.ListN.{length, take, drop}
-use lib.Seq.{take-length}
+use lib.ListN.{length}
 use Rattle.word.specs.Ram.{widthOf}
 use Rattle.word.specs.declared.ram.Sized.{Sized}
 use Rattle.word.specs.declared.ram.Sized.the-variants.{Bytes, Refused as NoWidth}
@@ -53,9 +52,6 @@ module _ (ws : List ℕ) (base : ℕ) (ram : List ℕ) (call : Call) (n : ℕ) (
   passed-gives k old v xs z t = gives call (tells-as (sym (runs ws base ram call n en z)) t)
 
 -- RAM lent on as a part that is the whole
-pub whole-part : (xs : List ℕ) → take (length xs - 0) (drop 0 xs) ≡ xs
-whole-part xs = let s : length xs - 0 ≡ length xs = omega arith in rw s (take-length xs)
-
 pub part-gives : (ws : List ℕ) (base : ℕ) (ram part : List ℕ) (call : DecodedCall) (n old v : ℕ) (xs : List ℕ) → part ≡ ram → Gives call base part ws n old v xs
     → Gives call base ram ws n old v xs
 part-gives ws base ram part call n old v xs e g = rw e at g

@@ -2,8 +2,10 @@
 use mathlib.Core.Path.{_≡_, refl, sym, ap, subst, _∙_}
 use mathlib.Core.Bool.{Bool, true, false, _&&_}
 use mathlib.Core.List.{List}
-use Prim.Native.Nat.{ℕ, _+_, _-_, _^_, _≤_, _<_}
-use borrow.Author.Tests.{lt-ltb, le-ltb}
+use Prim.Native.Nat.{ℕ, _+_, _-_, _%_, _^_, _≤_, _<_}
+use native.Mathlib.Nat.{mod-lt}
+use native.Mathlib.Omega.{arith}
+use borrow.Author.Tests.{lt-ltb, le-ltb, ltb-true}
 use lib.Dec.{ltb}
 use lib.ListN.{length}
 use Rattle.word.specs.Bits.{pick}
@@ -22,7 +24,7 @@ use Rattle.tlb.specs.declared.hint.HintAnswer.the-variants.{At, Unknown}
 use Rattle.mmu.specs.Core.{bankNow}
 use Rattle.operations.specs.Place.{inPage, nextPage, crosses, goesOn, placedBoth, firstPa, verdictOf as judged}
 use Rattle.operations.specs.Bytes.{loadOf, storeRam}
-use Rattle.operations.specs.AtOnce.{bothInside, bothAt, bothStored}
+use Rattle.operations.specs.AtOnce.{bothInside, bothAt, bothStored, pairAt}
 use Rattle.operations.specs.Ends.{loadEnd, storeEnd, storeRamEnd}
 use Rattle.mmu.specs.Ops.{translateOf, translateAccessOf, readOf, writeOf, ramAfterWrite}
 use Rattle.operations.proofs.Both.{both-loads, both-judged, both-stores}
@@ -150,10 +152,32 @@ module _ (c : Core) (base : ℕ) (ram : List ℕ) (va n pa next : ℕ) (p : Hint
       unfolding ramBoth
       write-ram ys v q = rw (next-write ∙ e) (q ∙ ap (λ (m : ℕ). bothStored base ram (record { «in_page» = m; pa = pa; pa2 = pa2 }) n v) ek)
 
+    -- of two bytes one lies in each page
+    module _ (pa2 : ℕ) (e : p ≡ At pa2) (two : n ≡ 2) (near : inPage va < n) where
+      one : 1 ≡ inPage va
+      one = let h : va % 4096 < 4096 = mod-lt va (omega arith) in omega (arith, two)
+
+      pub pair-made : (b : Bool) → b ≡ bothInside base (length ram) (pairAt pa pa2) 2
+          → b ≡ madeBoth true (At pa) (hintFound c (nextPage va) Write) va base ram n
+      pair-made b q = write-made pa2 1 e one b (q ∙ ap (bothInside base (length ram) (pairAt pa pa2)) (sym two))
+
+      pub pair-ram : (ys : List ℕ) (v : ℕ) → ys ≡ bothStored base ram (pairAt pa pa2) 2 v
+          → ys ≡ ramBoth true (At pa) (hintFound c (nextPage va) Write) va base ram n v
+      pair-ram ys v q = write-ram pa2 1 e one ys v (q ∙ ap (λ (m : ℕ). bothStored base ram (pairAt pa pa2) m v) (sym two))
+
 -- the first page's
 module _ (c : Core) (base : ℕ) (ram : List ℕ) (va n : ℕ) (b : Bool) (eb : b ≡ apartOf c base (length ram) va n) where
   apart-here : apartOf c base (length ram) va n ≡ b
   apart-here = sym eb
+
+  pub apart-near : b ≡ true → inPage va < n
+  unfolding apartOf
+  apart-near t = go (clearOf c base (length ram)) (stage1On (bankNow c) (regimeOf (c .privilege .level))) (apart-here ∙ t)
+    where
+      go : (k on : Bool) → pick k (crosses on va n) false ≡ true → inPage va < n
+      go true true e = ltb-true (inPage va) n e
+      go true false e = absurd (false-true e)
+      go false on e = absurd (false-true e)
 
   pub load-together : b ≡ false → Split.Unknown ≡ splitLoad c base ram va n
   unfolding splitLoad loadBoth

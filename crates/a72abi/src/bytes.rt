@@ -8,7 +8,7 @@ ghost use Rattle.words.specs.CoreOf.{coreOf};
 ghost use Rattle.call_words.specs.declared.op.DecodedCall.the-variants as DecodedCall;
 ghost use Rattle.a72abi.specs.Promise.{Promise, Gives};
 ghost use Rattle.a72abi.specs.Quick.{sizedAt, sizedMade, sizedRam};
-use crate::slow;
+use crate::slow_bytes;
 use crate::split;
 use crate::split::Split;
 use operations::place;
@@ -76,7 +76,7 @@ fn load_split(state: &mut State, va: u64, size: u64, ans: &mut u64, base: u64, r
             *ans = v;
             0
         }
-        Split::Unknown => slow::load(state, va, size, ans, base, &ram[0..n]),
+        Split::Unknown => slow_bytes::load(state, va, size, ans, base, &ram[0..n]),
     }
 }
 
@@ -88,7 +88,7 @@ fn load_across(state: &mut State, va: u64, size: u64, ans: &mut u64, base: u64, 
         8 => load_split(state, va, 8, ans, base, ram),
         4 => load_split(state, va, 4, ans, base, ram),
         2 => load_split(state, va, 2, ans, base, ram),
-        _ => slow::load(state, va, size, ans, base, ram),
+        _ => slow_bytes::load(state, va, size, ans, base, ram),
     }
 }
 
@@ -112,7 +112,7 @@ pub extern "C" fn a72_load(
     let len = ram.len() as u64;
     if known {
         if u64::MAX - len < base {
-            slow::load(state, va, size, ans, base, ram)
+            slow_bytes::load(state, va, size, ans, base, ram)
         } else {
             match translate::by_hint(state, va, Kind::Read) {
                 HintAnswer::At(pa) => match read_sized(base, ram, size, pa) {
@@ -121,9 +121,9 @@ pub extern "C" fn a72_load(
                         *ans = v;
                         0
                     }
-                    Word::Outside => slow::load(state, va, size, ans, base, ram),
+                    Word::Outside => slow_bytes::load(state, va, size, ans, base, ram),
                 },
-                HintAnswer::Unknown => slow::load_page(state, va, size, ans, base, ram),
+                HintAnswer::Unknown => slow_bytes::load_page(state, va, size, ans, base, ram),
             }
         }
     } else {
@@ -151,7 +151,7 @@ fn store_split(
     if made {
         0
     } else {
-        slow::store(state, va, size, value, ans, base, ram)
+        slow_bytes::store(state, va, size, value, ans, base, ram)
     }
 }
 
@@ -173,7 +173,7 @@ fn store_across(
         8 => store_split(state, va, 8, value, ans, base, ram),
         4 => store_split(state, va, 4, value, ans, base, ram),
         2 => store_split(state, va, 2, value, ans, base, ram),
-        _ => slow::store(state, va, size, value, ans, base, ram),
+        _ => slow_bytes::store(state, va, size, value, ans, base, ram),
     }
 }
 
@@ -199,7 +199,7 @@ pub extern "C" fn a72_store(
     let len = ram.len() as u64;
     if known {
         if u64::MAX - len < base {
-            slow::store(state, va, size, value, ans, base, ram)
+            slow_bytes::store(state, va, size, value, ans, base, ram)
         } else {
             match translate::by_hint(state, va, Kind::Write) {
                 HintAnswer::At(pa) => {
@@ -207,10 +207,18 @@ pub extern "C" fn a72_store(
                     if made {
                         0
                     } else {
-                        slow::store(state, va, size, value, ans, base, ram)
+                        slow_bytes::store(state, va, size, value, ans, base, ram)
                     }
                 }
-                HintAnswer::Unknown => slow::store_page(state, va, size, value, ans, base, ram),
+                HintAnswer::Unknown => slow_bytes::store_page(
+                    state,
+                    va,
+                    size,
+                    value,
+                    ans,
+                    base,
+                    ram,
+                ),
             }
         }
     } else {

@@ -11,6 +11,7 @@ ghost use Rattle.a72abi.specs.Inside.{Steps};
 ghost use Rattle.a72abi.specs.Promise.{Promise, Setting, StepPromise, Runs};
 use crate::checked;
 use crate::slow;
+use crate::slow_bytes;
 use call_words::op;
 use call_words::op::DecodedCall;
 use call_words::op::DecodedException;
@@ -171,7 +172,7 @@ fn load(state: &mut State, base: u64, ram: &[u8], va: u64, size: u64) -> [u64; 4
         (now (state .exit)) ⌝ }
 {
     let mut v: u64 = 0;
-    let n = slow::load(state, va, size, &mut v, base, ram);
+    let n = slow_bytes::load(state, va, size, &mut v, base, ram);
     reply::words_by(n, 1, v, 9, v, 0)
 }
 
@@ -191,7 +192,7 @@ fn store(state: &mut State, base: u64, ram: &mut [u8], va: u64, size: u64, value
         (Call.Store va size value) ⌝ }
 {
     let mut v: u64 = 0;
-    let n = slow::store(state, va, size, value, &mut v, base, ram);
+    let n = slow_bytes::store(state, va, size, value, &mut v, base, ram);
     reply::words_by(n, 0, 0, 9, v, 1)
 }
 

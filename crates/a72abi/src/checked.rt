@@ -49,14 +49,6 @@ fn missed_any(state: &State) -> u8
     check::any(privilege.level)
 }
 
-fn missed_general(state: &State, number: u64) -> u8
-    ensures { λ r. ⌜ r ≡ firstOf ((ltb 3 (coreOf (now (state .entry)) .privilege .level), 1) ∷
-        (ltb 31 number, 5) ∷ []) ⌝ }
-{
-    let privilege = state::privilege_at(state);
-    check::general(privilege.level, number)
-}
-
 pub fn system(state: &mut State, base: u64, ram: &mut [u8], e: Encoding) -> Reply
     ensures { λ r. ⌜ Runs (Call.System e) base (now (ram .entry)) (now (state .entry)) r (now (state .exit)) ⌝ }
     ensures { λ r. ⌜ now (ram .exit) ≡ ramAfter (coreOf (now (state .entry))) base (now (ram .entry))
@@ -106,9 +98,12 @@ pub fn mark(state: &mut State, mark: bool) -> Reply
 pub fn general(state: &mut State, number: u64, value: u64) -> Reply
     ensures { λ r. ⌜ Runs (Call.General number value) 0 [] (now (state .entry)) r (now (state .exit)) ⌝ }
 {
-    let n = missed_general(state, number);
+    let n = missed_any(state);
     if n != 0 {
         return Reply::Refused(n);
+    }
+    if 31 < number {
+        return Reply::Refused(5);
     }
     state::put_general(state, number, value);
     Reply::Done

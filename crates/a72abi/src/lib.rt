@@ -6,5 +6,6 @@ pub mod calls;
 pub mod checked;
 pub mod memory;
 pub mod slow;
+pub mod slow_bytes;
 pub mod split;
 pub mod tables;

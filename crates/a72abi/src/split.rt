@@ -4,7 +4,8 @@ ghost use mathlib.Core.Path.{_≡_};
 ghost use mathlib.Core.Bool.{true};
 ghost use Rattle.tlb.specs.declared.access.Kind.the-variants.{Read, Write};
 ghost use Rattle.tlb.specs.declared.hint.HintAnswer.the-variants.{At};
-ghost use Rattle.operations.specs.Place.{nextPage};
+ghost use Prim.Native.Nat.{_<_};
+ghost use Rattle.operations.specs.Place.{inPage, nextPage};
 ghost use Rattle.words.specs.CoreOf.{coreOf};
 ghost use Rattle.words_memory.specs.Found.{hintFound};
 ghost use Rattle.a72abi.specs.Splits.{apartOf, loadBoth, madeBoth, ramBoth, splitLoad, splitMade, splitRam};
@@ -72,6 +73,7 @@ pub(crate) fn load(state: &State, va: u64, n: u64, base: u64, ram: &[u8]) -> Spl
 
 // A store whose first page lies at pa, and whether it was made.
 fn store_on(state: &State, va: u64, n: u64, value: u64, pa: u64, base: u64, ram: &mut [u8]) -> bool
+    requires { ⌜ inPage va < n ⌝ }
     ensures { λ r. ⌜ r ≡ madeBoth true (At pa) (hintFound (coreOf (now (state .entry))) (nextPage va) Write) va base
         (now (ram .entry)) n ⌝ }
     ensures { λ _. ⌜ now (ram .exit) ≡ ramBoth true (At pa)
@@ -80,6 +82,9 @@ fn store_on(state: &State, va: u64, n: u64, value: u64, pa: u64, base: u64, ram:
     let next = place::next_page(va);
     match translate::by_hint(state, next, Kind::Write) {
         HintAnswer::At(pa2) => {
+            if n == 2 {
+                return bytes::write_pair(base, ram, pa, pa2, value);
+            }
             let in_page = place::in_page(va);
             bytes::write_both(base, ram, Pages { in_page, pa, pa2 }, n, value)
         }

@@ -17,7 +17,7 @@ use Rattle.word.specs.RamLaws.{digit-next, written-next}
 use Rattle.operations.specs.Place.{byteAt, firstOutside, verdictOf}
 use Rattle.operations.specs.Bytes.{splitValue, splitStored, loadOf, storeRam}
 use Rattle.operations.specs.BytesLaws.{stored-length}
-use Rattle.operations.specs.AtOnce.{bothInside, Lie, bothAt, bothStored}
+use Rattle.operations.specs.AtOnce.{bothInside, Lie, bothAt, bothStored, pairAt}
 use Rattle.operations.specs.declared.place.Pages.{Pages}
 use Rattle.operations.specs.declared.place.Place.the-variants.{Split}
 use Rattle.operations.specs.declared.place.Verdict.the-variants.{Inside}
@@ -294,6 +294,13 @@ module _ (base : ℕ) (ram : List ℕ) (p : Pages) (n : ℕ) (f : Bool) (ef : f 
   pub both-unwritten : (v : ℕ) → f ≡ false → ram ≡ bothStored base ram p n v
   unfolding bothStored
   both-unwritten v t = rw (← ef, t)
+
+-- two bytes, one in each page
+module _ (base : ℕ) (ram : List ℕ) (pa pa2 : ℕ) (f : Bool) (ef : f ≡ bothInside base (length ram) (pairAt pa pa2) 2) where
+  pub pair-wrote : length ram < 2 ^ 64 → (xs ys : List ℕ) (v : ℕ) → f ≡ true → xs ≡ stored base ram 1 pa v → ys ≡ stored base xs 1 pa2 (v / 256)
+      → ys ≡ bothStored base ram (pairAt pa pa2) 2 v
+  pair-wrote h xs ys v t ex ey =
+      both-wrote base ram (pairAt pa pa2) 2 f ef h xs ys v t ex (ey ∙ ap (stored base xs 1 pa2) (sym (shr-shr v 4 4)))
 
 -- and what it says is what the bytes say
 lie-inside : (base len : ℕ) (p : Pages) (n : ℕ) → Lie base len p n → (m i : ℕ) → i + m ≤ n → firstOutside base len p i m ≡ Inside

@@ -9,10 +9,9 @@ use Rattle.sysreg.specs.declared.regs.Control.{Control}
 use Rattle.walk.specs.Regime.{bankOf, regimeOf}
 use Rattle.walk.specs.declared.regime.Bank.{Bank}
 use Rattle.tlb.specs.Access.{mayHint}
-use Rattle.walk.specs.Walk.{walkOf}
-use Rattle.tlb.specs.Entry.{blank, slotOf, serves}
+use Rattle.tlb.specs.Entry.{blank, slotOf}
 use Rattle.tlb.specs.Hint.{hintFor, noHint, noFetch, fetchFor, onPage}
-use Rattle.tlb.specs.Resolve.{askOf, byEntry, byWalk, resolveWith, resolveOf}
+use Rattle.tlb.specs.Resolve.{askOf, resolveOf}
 use Rattle.tlb.specs.declared.access.Answer.the-variants.{Address}
 use Rattle.tlb.specs.declared.access.Kind.{Kind}
 use Rattle.tlb.specs.declared.access.Privilege.{Privilege}
@@ -45,14 +44,9 @@ module _ (a : Asked) where
     unfolding missBy
     miss-flat made ea em = rw (ea, em)
 
-    pub miss-entry : (q : Query) (r : Resolved) (b : Bool) → a ≡ Of q → b ≡ serves e at (q .tag) → b ≡ true → r ≡ byEntry q privilege e va kind → r ≡ missBy a s privilege at e va kind memory
-    unfolding missBy resolveOf resolveWith
-    miss-entry q r b ea eb y er = rw (ea, ← eb, y) er
-
-    pub miss-walk : (q : Query) (r : Resolved) (b : Bool) → a ≡ Of q → b ≡ serves e at (q .tag) → b ≡ false
-        → r ≡ byWalk (walkOf s (q .regime) (q .page) memory) q privilege at va kind → r ≡ missBy a s privilege at e va kind memory
-    unfolding missBy resolveOf resolveWith
-    miss-walk q r b ea eb n er = rw (ea, ← eb, n) er
+    pub miss-of : (q : Query) (r : Resolved) → a ≡ Of q → r ≡ resolveOf q s privilege at e va kind memory → r ≡ missBy a s privilege at e va kind memory
+    unfolding missBy
+    miss-of q r ea er = rw (ea, er)
 
 pub lookup-is : (c : Control) (privilege : Privilege) (va : ℕ) (kind : Kind) (s : Bank) (a : Asked) (i j : ℕ) → s ≡ bankOf c (regimeOf (privilege .level))
     → a ≡ askOf s privilege va → i ≡ hintPlace va kind → j ≡ entryPlace a

@@ -32,3 +32,7 @@ bothAt base ram p n = pick (bothInside base (length ram) p n) (Word.Value (split
 
 unfoldable pub bothStored : ℕ → List ℕ → Pages → ℕ → ℕ → List ℕ
 bothStored base ram p n v = pick (bothInside base (length ram) p n) (splitStored base p v 0 n ram) ram
+
+-- one byte in each page
+abbrev pub pairAt : ℕ → ℕ → Pages
+pairAt pa pa2 = record { «in_page» = 1; pa = pa; pa2 = pa2 }

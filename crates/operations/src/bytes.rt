@@ -5,7 +5,7 @@ ghost use lib.ListN.{length, getD};
 ghost use Rattle.word.specs.Ram.{bytesIn, littleEndian};
 ghost use Rattle.operations.specs.Place.{verdictOf};
 ghost use Rattle.operations.specs.Bytes.{byteIn, splitValue, splitStored, loadOf, storeRam, insnOf};
-ghost use Rattle.operations.specs.AtOnce.{bothInside, Lie, bothAt, bothStored};
+ghost use Rattle.operations.specs.AtOnce.{bothInside, Lie, bothAt, bothStored, pairAt};
 use crate::place;
 use crate::place::Pages;
 use crate::place::Place;
@@ -193,6 +193,27 @@ pub fn write_both(base: u64, ram: &mut [u8], p: Pages, n: u64, value: u64) -> bo
         let rest = value >> (here * 4) >> (here * 4);
         ram::write_bytes(base, ram, here, p.pa, value);
         ram::write_bytes(base, ram, n - here, p.pa2, rest);
+        true
+    } else {
+        false
+    }
+}
+
+// The two low bytes of a value, one at the end of a page and one at the start of another, by one test, and whether it
+// was made.
+pub fn write_pair(base: u64, ram: &mut [u8], pa: u64, pa2: u64, value: u64) -> bool
+    ensures { λ r. ⌜ (r ≡ bothInside base (length (now (ram .entry))) (pairAt pa pa2) 2)
+        × (now (ram .exit) ≡ bothStored base (now (ram .entry)) (pairAt pa pa2) 2 value) ⌝ }
+{
+    let p = Pages {
+        in_page: 1,
+        pa,
+        pa2,
+    };
+    let fits = place::both_inside(base, ram.len() as u64, p, 2);
+    if fits {
+        ram::write_bytes(base, ram, 1, pa, value);
+        ram::write_bytes(base, ram, 1, pa2, value / 256);
         true
     } else {
         false

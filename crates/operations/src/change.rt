@@ -136,8 +136,7 @@ fn address_of(answer: Answer) -> u64
     }
 }
 
-// A translation that no hint serves: by the entry or by a walk, as `resolve` has it. The two are called here and
-// there, so that in each the entry is asked in line and the walk is not.
+// A translation that no hint serves.
 pub fn miss(
     k: Lookup,
     at: Current,
@@ -161,14 +160,7 @@ pub fn miss(
                 made,
             }
         }
-        Asked::Of(q) => {
-            let hit = tlb::entry::serves(e, at, q.tag);
-            if hit {
-                resolve::by_entry(q, privilege, e, va, kind)
-            } else {
-                resolve::walked(q, bank, privilege, at, va, kind, base, ram)
-            }
-        }
+        Asked::Of(q) => resolve::resolve(q, bank, privilege, at, e, va, kind, base, ram),
     }
 }
 

@@ -1,7 +1,6 @@
 -- The cases of a translation's definition, on plain values, for `search`.
 use mathlib.Core.Path.{_≡_, refl, sym, ap, _∙_}
 use mathlib.Core.Bool.{Bool, true, false, not, _&&_, _||_}
-use borrow.Author.Tests.{ne-eqb}
 use Prim.Native.Nat.{ℕ}
 use lib.Dec.{eqb}
 use lib.Bits.{bitOr}
@@ -45,11 +44,17 @@ use Rattle.tlb.specs.declared.resolve.Resolved.{Resolved}
 pub hinting : (privilege : Privilege) (kind : Kind) (f : Bool) → f ≡ isFetch kind → not f && not (privilege .unprivileged) ≡ mayHint privilege kind
 hinting privilege kind f e = rw e
 
-pub as-own : (privilege : Privilege) (kind : Kind) → privilege .level ≡ 0 → true ≡ countsAsUser privilege kind
-as-own privilege kind e = rw e
+or-false : (b : Bool) → b ≡ (b || false)
+or-false true = refl
+or-false false = refl
 
-pub as-marked : (privilege : Privilege) (kind : Kind) (f : Bool) → (privilege .level ≡ 0 → ⊥) → f ≡ isFetch kind → (privilege .unprivileged && not f) ≡ countsAsUser privilege kind
-as-marked privilege kind f ne e = rw (ne-eqb (privilege .level) 0 ne, e)
+module _ (privilege : Privilege) (kind : Kind) where
+  pub as-marked : (f : Bool) → privilege .unprivileged ≡ true → f ≡ isFetch kind
+      → (eqb (privilege .level) 0 || not f) ≡ countsAsUser privilege kind
+  as-marked f u e = rw (u, e)
+
+  pub as-unmarked : privilege .unprivileged ≡ false → eqb (privilege .level) 0 ≡ countsAsUser privilege kind
+  as-unmarked u = rw u (or-false (eqb (privilege .level) 0))
 
 pub as-user : (r : Regime) (privilege : Privilege) (kind : Kind) (u : Bool) → u ≡ countsAsUser privilege kind → r ≡ El1 → u ≡ userOf r privilege kind
 as-user r privilege kind u e g = rw (g, e)

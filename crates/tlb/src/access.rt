@@ -66,11 +66,12 @@ pub fn tag_of(regime: Regime, va: u64) -> u64
 fn as_user(privilege: Privilege, kind: Kind) -> bool
     ensures { λ r. ⌜ r ≡ countsAsUser privilege kind ⌝ }
 {
-    if privilege.level == 0 {
-        true
-    } else {
+    let el0 = privilege.level == 0;
+    if privilege.unprivileged {
         let fetch = is_fetch(kind);
-        privilege.unprivileged & !fetch
+        el0 | !fetch
+    } else {
+        el0
     }
 }
 

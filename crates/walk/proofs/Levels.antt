@@ -4,8 +4,7 @@ use mathlib.Core.Bool.{Bool, true, false, not, _&&_, _||_}
 use Prim.Native.Nat.{ℕ, zero, suc, _+_, _-_, _*_, _/_, _%_, _^_, _≤_, _<_}
 use native.Mathlib.Nat.{mod-lt, lt-of-lt-of-le, le-of-lt}
 use native.Mathlib.Omega.{arith}
-use borrow.Author.Tests.{eqb-false}
-use lib.Arith.{lt-of-le-ne}
+use borrow.Author.Tests.{eq-eqb, ne-eqb}
 use lib.Bits.{bitOr}
 use lib.Dec.{eqb, ltb}
 use lib.Pow
@@ -154,28 +153,30 @@ parts-fit p w va desc x o st ex eo =
 
 -- what a descriptor says
 module _ (p : Params) (w : WalkState) (va desc : ℕ) where
-  pub level-invalid : (not (valid desc) || (eqb (w .level) 3 && not (tableOrPage desc))) ≡ true
+  pub level-unset : valid desc ≡ false → answers (Fault (4 + w .level)) ≡ meant p (levelNext p va (lookupOf p w) desc)
+  unfolding levelNext
+  level-unset v = rw v
+
+  -- at level 3 no block
+  pub level-last : valid desc ≡ true → tableOrPage desc ≡ false → w .level ≡ 3
       → answers (Fault (4 + w .level)) ≡ meant p (levelNext p va (lookupOf p w) desc)
   unfolding levelNext
-  level-invalid t = rw t
+  level-last v t l = rw (v, t, eq-eqb (w .level) 3 l)
 
-  pub level-leaf : (a : Walked) → (not (valid desc) || (eqb (w .level) 3 && not (tableOrPage desc))) ≡ false
-      → (eqb (w .level) 3 || not (tableOrPage desc)) ≡ true → a ≡ walkedOf (p .singlepriv) (p .wxn) (leafResult p va (lookupOf p w) desc)
+  pub level-block : (a : Walked) → valid desc ≡ true → tableOrPage desc ≡ false → (w .level ≡ 3 → ⊥)
+      → a ≡ walkedOf (p .singlepriv) (p .wxn) (leafResult p va (lookupOf p w) desc)
       → answers a ≡ meant p (levelNext p va (lookupOf p w) desc)
   unfolding levelNext
-  level-leaf a t l e = rw (t, l, e)
+  level-block a v t l e = rw (v, t, ne-eqb (w .level) 3 l, e)
 
-  pub level-table : (s : Step) → (not (valid desc) || (eqb (w .level) 3 && not (tableOrPage desc))) ≡ false
-      → (eqb (w .level) 3 || not (tableOrPage desc)) ≡ false → stepped p s ≡ meant p (tableNext p (lookupOf p w) desc)
+  pub level-page : (a : Walked) → Standing p w → valid desc ≡ true → tableOrPage desc ≡ true → 3 ≤ w .level
+      → a ≡ walkedOf (p .singlepriv) (p .wxn) (leafResult p va (lookupOf p w) desc)
+      → answers a ≡ meant p (levelNext p va (lookupOf p w) desc)
+  unfolding levelNext
+  level-page a st v t l e = rw (v, t, eq-eqb (w .level) 3 (omega (arith, st .level)), e)
+
+  pub level-table : (s : Step) → valid desc ≡ true → tableOrPage desc ≡ true → w .level < 3
+      → stepped p s ≡ meant p (tableNext p (lookupOf p w) desc)
       → stepped p s ≡ meant p (levelNext p va (lookupOf p w) desc)
   unfolding levelNext
-  level-table s t l e = rw (t, l) e
-
-or-left : (a b : Bool) → (a || b) ≡ false → a ≡ false
-or-left true b e = e
-or-left false b e = refl
-
-pub above-last : (p : Params) (w : WalkState) (b : Bool) → Standing p w → (eqb (w .level) 3 || b) ≡ false → w .level < 3
-above-last p w b st e =
-    let n = eqb-false (w .level) 3 (or-left (eqb (w .level) 3) b e) in
-    lt-of-le-ne (st .level) n
+  level-table s v t l e = rw (v, t, ne-eqb (w .level) 3 (λ q. omega (arith, q))) e

@@ -172,16 +172,20 @@ pub(crate) fn level_step(p: Params, w: WalkState, va: u64, desc: u64) -> Step
     ensures { λ r. ⌜ Leads p w r ⌝ }
 {
     let level = w.level;
-    let last = level == 3;
+    let valid = desc % 2 == 1;
     let high = (desc >> 1) % 2 == 1;
-    let invalid = !(desc % 2 == 1) | (last & !high);
-    let leaf = last | !high;
-    if invalid {
-        return Step::Done(Walked::Fault(4 + level));
-    }
-    if leaf {
+    if valid {
+        if high {
+            if level < 3 {
+                return table_step(p, w, desc);
+            }
+        } else {
+            if level == 3 {
+                return Step::Done(Walked::Fault(4 + level));
+            }
+        }
         Step::Done(leaf_step(p, w, va, desc))
     } else {
-        table_step(p, w, desc)
+        Step::Done(Walked::Fault(4 + level))
     }
 }

@@ -5,15 +5,18 @@ use mathlib.Core.List.{List}
 use Prim.Native.Nat.{ℕ}
 use native.Mathlib.Omega.{arith}
 use lib.Dec.{eqb}
+use Rattle.word.specs.Ram.{wordAt}
 use Rattle.word.specs.declared.ram.Word.{Word}
 use Rattle.walk.specs.Regime.{bankOf, regimeOf}
+use Rattle.walk.specs.Tag.{untagged}
+use Rattle.walk.specs.Walk.{walkOf}
 use Rattle.walk.specs.declared.regime.Regime.{Regime}
 use Rattle.walk.specs.declared.regime.Bank.{Bank}
-use Rattle.tlb.specs.Access.{mayHint}
-use Rattle.tlb.specs.Entry.{slotOf}
+use Rattle.tlb.specs.Access.{mayHint, tagOf}
+use Rattle.tlb.specs.Entry.{slotOf, serves}
 use Rattle.tlb.specs.Hint.{dataSlot, hintKey, onPage, fetchFor, fetchFound}
 use Rattle.tlb.specs.Cache.{entryAt, hintAt}
-use Rattle.tlb.specs.Resolve.{queryOf, askOf, resolveOf, changesOf}
+use Rattle.tlb.specs.Resolve.{queryOf, askOf, byEntry, byWalk, resolveWith, resolveOf, changesOf}
 use Rattle.tlb.specs.Translate.{untaggedNow, missOf, changes-are, asked-query}
 use Rattle.tlb.specs.declared.access.Kind.{Kind}
 use Rattle.tlb.specs.declared.access.Kind.the-variants.{Fetch}
@@ -38,35 +41,89 @@ use Rattle.mmu.specs.declared.ops.Translated.{Translated}
 use Rattle.words.specs.CoreOf.{coreOf}
 use Rattle.words.specs.Parts.{withCache, withCounts, withEntry, withHint, withFetchHint}
 use Rattle.words.specs.NowHolds.{NowHolds, stays, holds-as, holds-on}
-use Rattle.words_memory.specs.Found.{codeOf, valueOf, answering, hintFound, fetchHint, withHintFor, answerPut, sourced, committed, committing, lookedTo, foundTo, pagedBy, pagedTo}
+use Rattle.words_memory.specs.Found.{codeOf, valueOf, answering, hintFound, fetchHint, withHintFor, answerPut, sourced, committed, committing, servesNow, fromEntry, fromWalk, foundTo, pagedBy, pagedTo}
 use Rattle.words_memory.specs.FoundLaws.{unchanged, hint-serves, hint-misses}
 use Rattle.words_memory.specs.FetchLaws.{fetchTo, fetch-serves, fetch-misses}
 
--- the cell that a query names
-module _ (ws : List ℕ) (q : Query) (privilege : Privilege) (kind : Kind) (va : ℕ) (memory : ℕ → Word) (slot : ℕ) (at : Current) (e : Entry) (s : Bank) (t : Resolved)
-    (eo : slot ≡ slotOf (q .tag)) (ea : at ≡ coreOf ws .tlb .cache .current) (ee : e ≡ entryAt (coreOf ws .tlb .cache) slot)
-    (es : s ≡ bankOf (coreOf ws .control) (q .regime)) (et : t ≡ resolveOf q s privilege at e va kind memory) where
-  looked-is : committing (coreOf ws) privilege kind va slot t ≡ lookedTo (coreOf ws) q privilege kind va memory
-  unfolding lookedTo
-  looked-is =
+-- by the entry where it serves, else by a walk
+module _ (q : Query) (s : Bank) (privilege : Privilege) (at : Current) (e : Entry) (va : ℕ) (kind : Kind) (memory : ℕ → Word) where
+  resolved-hit : serves e at (q .tag) ≡ true → resolveOf q s privilege at e va kind memory ≡ byEntry q privilege e va kind
+  unfolding resolveOf resolveWith
+  resolved-hit h = rw h
+
+  resolved-walk : serves e at (q .tag) ≡ false
+      → resolveOf q s privilege at e va kind memory ≡ byWalk (walkOf s (q .regime) (q .page) memory) q privilege at va kind
+  unfolding resolveOf resolveWith
+  resolved-walk f = rw f
+
+-- by the entry that a query names
+pub serves-is : (ws : List ℕ) (q : Query) (slot : ℕ) (e : Entry) (at : Current) (b : Bool) → slot ≡ slotOf (q .tag) → e ≡ entryAt (coreOf ws .tlb .cache) slot
+    → at ≡ coreOf ws .tlb .cache .current → b ≡ serves e at (q .tag) → b ≡ servesNow (coreOf ws) q
+serves-is ws q slot e at b eo ee ea eb = eb ∙ λ i. serves ((ee ∙ ap (entryAt (coreOf ws .tlb .cache)) eo) i) (ea i) (q .tag)
+
+module _ (ws : List ℕ) (q : Query) (privilege : Privilege) (kind : Kind) (va : ℕ) (slot : ℕ) (e : Entry) (t : Resolved) (eo : slot ≡ slotOf (q .tag))
+    (ee : e ≡ entryAt (coreOf ws .tlb .cache) slot) (et : t ≡ byEntry q privilege e va kind) where
+  entered-is : committing (coreOf ws) privilege kind va slot t ≡ fromEntry (coreOf ws) q privilege kind va
+  unfolding fromEntry
+  entered-is =
       λ i.
       committing (coreOf ws) privilege kind va (eo i)
-      ((et ∙ λ j. resolveOf q (es j) privilege (ea j) ((ee ∙ ap (entryAt (coreOf ws .tlb .cache)) eo) j) va kind memory) i)
+      ((et ∙ ap (λ (x : Entry). byEntry q privilege x va kind) (ee ∙ ap (entryAt (coreOf ws .tlb .cache)) eo)) i)
 
-  pub look-code : (n : ℕ) → n ≡ codeOf (t .answer) → n ≡ codeOf (lookedTo (coreOf ws) q privilege kind va memory .answer)
-  look-code n p = p ∙ ap (λ (x : Translated). codeOf (x .answer)) looked-is
+  pub entry-code : (n : ℕ) → n ≡ codeOf (t .answer) → n ≡ codeOf (fromEntry (coreOf ws) q privilege kind va .answer)
+  entry-code n p = p ∙ ap (λ (x : Translated). codeOf (x .answer)) entered-is
 
-  pub look-value : (v old : ℕ) → v ≡ valueOf (t .answer) old → v ≡ valueOf (lookedTo (coreOf ws) q privilege kind va memory .answer) old
-  look-value v old p = p ∙ ap (λ (x : Translated). valueOf (x .answer) old) looked-is
+  pub entry-value : (v old : ℕ) → v ≡ valueOf (t .answer) old → v ≡ valueOf (fromEntry (coreOf ws) q privilege kind va .answer) old
+  entry-value v old p = p ∙ ap (λ (x : Translated). valueOf (x .answer) old) entered-is
 
-  pub look-core : (xs : List ℕ) → NowHolds ws xs (committed (coreOf ws) privilege kind va slot t) → NowHolds ws xs (lookedTo (coreOf ws) q privilege kind va memory .core)
-  look-core xs m = holds-as m (ap (λ (x : Translated). x .core) looked-is)
+  pub entry-core : (xs : List ℕ) → NowHolds ws xs (committed (coreOf ws) privilege kind va slot t)
+      → NowHolds ws xs (fromEntry (coreOf ws) q privilege kind va .core)
+  entry-core xs m = holds-as m (ap (λ (x : Translated). x .core) entered-is)
+
+-- by a walk
+module _ (ws : List ℕ) (base : ℕ) (ram part : List ℕ) (va : ℕ) (kind : Kind) (privilege : Privilege) (r : Regime) (s : Bank) (page tag slot : ℕ) (at : Current) (t : Resolved)
+    (ew : privilege ≡ coreOf ws .privilege) (er : r ≡ regimeOf (privilege .level)) (es : s ≡ bankOf (coreOf ws .control) r)
+    (ep : page ≡ untagged (s .tcr) r va) (eg : tag ≡ tagOf r page) (ea : at ≡ coreOf ws .tlb .cache .current) (eo : slot ≡ slotOf tag)
+    (ey : part ≡ ram) (et : t ≡ byWalk (walkOf s r page (wordAt base part 8)) record { regime = r; page = page; tag = tag } privilege at va kind) where
+  abbrev of-walk : Core
+  of-walk = coreOf ws
+
+  abbrev walkedFor : Privilege → Regime → Bank → ℕ → ℕ → Current → List ℕ → Translated
+  walkedFor by regime bank p g now bytes =
+      committing of-walk by kind va (slotOf g) (byWalk (walkOf bank regime p (wordAt base bytes 8)) record { regime = regime; page = p; tag = g } by now va kind)
+
+  regime-now : r ≡ regimeOf (of-walk .privilege .level)
+  regime-now = er ∙ ap (λ (x : Privilege). regimeOf (x .level)) ew
+
+  bank-now : s ≡ bankNow of-walk
+  bank-now = es ∙ ap (bankOf (of-walk .control)) regime-now
+
+  page-now : page ≡ untaggedNow (bankNow of-walk) (of-walk .privilege .level) va
+  page-now = ep ∙ λ i. untagged (bank-now i .tcr) (regime-now i) va
+
+  walked-is : committing of-walk privilege kind va slot t ≡ fromWalk of-walk (wordAt base ram 8) va kind
+  unfolding fromWalk
+  walked-is =
+      (λ i. committing of-walk privilege kind va (eo i) (et i))
+      ∙ λ i. walkedFor (ew i) (regime-now i) (bank-now i) (page-now i) ((eg ∙ λ j. tagOf (regime-now j) (page-now j)) i) (ea i) (ey i)
+
+  pub walk-code : (n : ℕ) → n ≡ codeOf (t .answer) → n ≡ codeOf (fromWalk of-walk (wordAt base ram 8) va kind .answer)
+  walk-code n p = p ∙ ap (λ (x : Translated). codeOf (x .answer)) walked-is
+
+  pub walk-value : (v old : ℕ) → v ≡ valueOf (t .answer) old → v ≡ valueOf (fromWalk of-walk (wordAt base ram 8) va kind .answer) old
+  walk-value v old p = p ∙ ap (λ (x : Translated). valueOf (x .answer) old) walked-is
+
+  pub walk-core : (xs : List ℕ) → NowHolds ws xs (committed of-walk privilege kind va slot t) → NowHolds ws xs (fromWalk of-walk (wordAt base ram 8) va kind .core)
+  walk-core xs m = holds-as m (ap (λ (x : Translated). x .core) walked-is)
 
 -- with stage 1 on and off
-module _ (ws : List ℕ) (memory : ℕ → Word) (va : ℕ) (kind : Kind) (privilege : Privilege) (r : Regime) (s : Bank) (a : Asked)
+module _ (ws : List ℕ) (base : ℕ) (ram : List ℕ) (va : ℕ) (kind : Kind) (privilege : Privilege) (r : Regime) (s : Bank) (a : Asked)
     (ew : privilege ≡ coreOf ws .privilege) (er : r ≡ regimeOf (privilege .level)) (es : s ≡ bankOf (coreOf ws .control) r) (ea : a ≡ askOf s privilege va) where
   abbrev c : Core
   c = coreOf ws
+
+  abbrev memory : ℕ → Word
+  memory = wordAt base ram 8
 
   abbrev found : Translated
   found = foundTo c memory va kind
@@ -91,29 +148,55 @@ module _ (ws : List ℕ) (memory : ℕ → Word) (va : ℕ) (kind : Kind) (privi
     query-is : q ≡ queryOf (regimeOf (c .privilege .level)) (untaggedNow (bankNow c) (c .privilege .level) va)
     query-is = asked-query (bankNow c) (c .privilege) va q (own-asked ∙ o)
 
-    abbrev here : Translated
-    here = lookedTo c q privilege kind va memory
+    -- the changes are those of the query
+    of-query : resolveOf q (bankNow c) (c .privilege) (c .tlb .cache .current) own va kind memory
+        ≡ missOf (bankNow c) (c .privilege) (c .tlb .cache .current) own va kind memory
+    of-query =
+        ap (λ (x : Asked). changesOf x (bankNow c) (c .privilege) (c .tlb .cache .current) own va kind memory) (sym o) ∙ changes-is
 
-    abbrev lookedFor : Regime → ℕ → Privilege → Translated
-    lookedFor regime place by =
-        committing c by kind va place
-        (resolveOf q (bankOf (c .control) regime) by (c .tlb .cache .current) (entryAt (c .tlb .cache) place) va kind memory)
+    serves-own : servesNow c q ≡ serves own (c .tlb .cache .current) (q .tag)
+    serves-own = ap (λ (x : Query). serves (entryAt (c .tlb .cache) (slotOf (x .tag))) (c .tlb .cache .current) (q .tag)) query-is
 
-    found-is : here ≡ found
-    unfolding lookedTo foundTo
-    found-is =
-        (λ i. lookedFor (query-is i .regime) (slotOf (query-is i .tag)) (ew i))
-        ∙ ap (committing c (c .privilege) kind va slot)
-        (ap (λ (x : Asked). changesOf x (bankNow c) (c .privilege) (c .tlb .cache .current) own va kind memory) (sym o) ∙ changes-is)
+    abbrev enteredFor : ℕ → Privilege → Translated
+    enteredFor place by = committing c by kind va place (byEntry q by (entryAt (c .tlb .cache) place) va kind)
 
-    pub on-code : (n : ℕ) → n ≡ codeOf (here .answer) → n ≡ codeOf (found .answer)
-    on-code n p = p ∙ ap (λ (x : Translated). codeOf (x .answer)) found-is
+    module _ (b : Bool) (eb : b ≡ servesNow c q) where
+      hit-is : b ≡ true → fromEntry c q privilege kind va ≡ found
+      unfolding fromEntry foundTo
+      hit-is h =
+          (λ i. enteredFor (slotOf (query-is i .tag)) (ew i))
+          ∙ ap (committing c (c .privilege) kind va slot)
+          (sym (resolved-hit q (bankNow c) (c .privilege) (c .tlb .cache .current) own va kind memory (sym serves-own ∙ sym eb ∙ h)) ∙ of-query)
 
-    pub on-value : (v old : ℕ) → v ≡ valueOf (here .answer) old → v ≡ valueOf (found .answer) old
-    on-value v old p = p ∙ ap (λ (x : Translated). valueOf (x .answer) old) found-is
+      pub hit-code : (n : ℕ) → b ≡ true → n ≡ codeOf (fromEntry c q privilege kind va .answer) → n ≡ codeOf (found .answer)
+      hit-code n h p = p ∙ ap (λ (x : Translated). codeOf (x .answer)) (hit-is h)
 
-    pub on-core : (xs : List ℕ) → NowHolds ws xs (here .core) → NowHolds ws xs (found .core)
-    on-core xs m = holds-as m (ap (λ (x : Translated). x .core) found-is)
+      pub hit-value : (v old : ℕ) → b ≡ true → v ≡ valueOf (fromEntry c q privilege kind va .answer) old → v ≡ valueOf (found .answer) old
+      hit-value v old h p = p ∙ ap (λ (x : Translated). valueOf (x .answer) old) (hit-is h)
+
+      pub hit-core : (xs : List ℕ) → b ≡ true → NowHolds ws xs (fromEntry c q privilege kind va .core) → NowHolds ws xs (found .core)
+      hit-core xs h m = holds-as m (ap (λ (x : Translated). x .core) (hit-is h))
+
+      module _ (part : List ℕ) (ey : part ≡ ram) where
+        abbrev walked : Translated
+        walked = fromWalk c (wordAt base part 8) va kind
+
+        miss-is : b ≡ false → walked ≡ found
+        unfolding fromWalk foundTo
+        miss-is f =
+            ap (λ (x : List ℕ). fromWalk c (wordAt base x 8) va kind) ey
+            ∙ ap (committing c (c .privilege) kind va slot)
+            (ap (λ (x : Query). byWalk (walkOf (bankNow c) (x .regime) (x .page) memory) x (c .privilege) (c .tlb .cache .current) va kind) (sym query-is)
+            ∙ sym (resolved-walk q (bankNow c) (c .privilege) (c .tlb .cache .current) own va kind memory (sym serves-own ∙ sym eb ∙ f)) ∙ of-query)
+
+        pub miss-code : (n : ℕ) → b ≡ false → n ≡ codeOf (walked .answer) → n ≡ codeOf (found .answer)
+        miss-code n f p = p ∙ ap (λ (x : Translated). codeOf (x .answer)) (miss-is f)
+
+        pub miss-value : (v old : ℕ) → b ≡ false → v ≡ valueOf (walked .answer) old → v ≡ valueOf (found .answer) old
+        miss-value v old f p = p ∙ ap (λ (x : Translated). valueOf (x .answer) old) (miss-is f)
+
+        pub miss-core : (xs : List ℕ) → b ≡ false → NowHolds ws xs (walked .core) → NowHolds ws xs (found .core)
+        miss-core xs f m = holds-as m (ap (λ (x : Translated). x .core) (miss-is f))
 
   module _ (f : a ≡ Flat) where
     flat-is : answering (withHintFor c privilege kind va va) (Address va) ≡ found
@@ -226,36 +309,44 @@ unfolding fetchHint
 fetch-hint ws va privilege f p ew ef ep = ep ∙ λ i. fetchFound (ef i) (ew i .level) va
 
 -- the translation that a fetch begins with
-module _ (ws : List ℕ) (memory : ℕ → Word) (va : ℕ) (p : HintAnswer) (ep : p ≡ fetchHint (coreOf ws) va) where
+module _ (ws : List ℕ) (base : ℕ) (ram : List ℕ) (va : ℕ) (p : HintAnswer) (ep : p ≡ fetchHint (coreOf ws) va) where
   abbrev fetched : Translated
-  fetched = answering (withTlb (coreOf ws) (fetchSteppedNow (coreOf ws) memory va .tlb)) (fetchSteppedNow (coreOf ws) memory va .answer)
+  fetched = answering (withTlb (coreOf ws) (fetchSteppedNow (coreOf ws) (wordAt base ram 8) va .tlb)) (fetchSteppedNow (coreOf ws) (wordAt base ram 8) va .answer)
 
   serves-it : (pa : ℕ) → p ≡ At pa → fetched ≡ answering (coreOf ws) (Address pa)
   unfolding fetchTo fetchHint
-  serves-it pa e = fetch-serves (coreOf ws) memory va pa (sym ep ∙ e)
+  serves-it pa e = fetch-serves (coreOf ws) (wordAt base ram 8) va pa (sym ep ∙ e)
 
-  pub fetch-hint-code : (pa : ℕ) → p ≡ At pa → 0 ≡ codeOf (fetchSteppedNow (coreOf ws) memory va .answer)
+  pub fetch-hint-code : (pa : ℕ) → p ≡ At pa → 0 ≡ codeOf (fetchSteppedNow (coreOf ws) (wordAt base ram 8) va .answer)
   fetch-hint-code pa e = sym (ap (λ (x : Translated). codeOf (x .answer)) (serves-it pa e))
 
-  pub fetch-hint-value : (pa old : ℕ) → p ≡ At pa → pa ≡ valueOf (fetchSteppedNow (coreOf ws) memory va .answer) old
+  pub fetch-hint-value : (pa old : ℕ) → p ≡ At pa → pa ≡ valueOf (fetchSteppedNow (coreOf ws) (wordAt base ram 8) va .answer) old
   fetch-hint-value pa old e = sym (ap (λ (x : Translated). valueOf (x .answer) old) (serves-it pa e))
 
-  pub fetch-hint-core : (pa : ℕ) → p ≡ At pa → NowHolds ws ws (withTlb (coreOf ws) (fetchSteppedNow (coreOf ws) memory va .tlb))
+  pub fetch-hint-core : (pa : ℕ) → p ≡ At pa → NowHolds ws ws (withTlb (coreOf ws) (fetchSteppedNow (coreOf ws) (wordAt base ram 8) va .tlb))
   fetch-hint-core pa e = holds-as stays (sym (ap (λ (x : Translated). x .core) (serves-it pa e)))
 
-  abbrev found-page : Translated
-  found-page = foundTo (coreOf ws) memory va Fetch
+  -- RAM is lent on as a part
+  module _ (part : List ℕ) (ey : part ≡ ram) where
+    abbrev found-page : Translated
+    found-page = foundTo (coreOf ws) (wordAt base part 8) va Fetch
 
-  misses-it : p ≡ Unknown → fetched ≡ answering (pagedTo (coreOf ws .privilege .level) va found-page) (found-page .answer)
-  unfolding fetchTo fetchHint
-  misses-it e = fetch-misses (coreOf ws) memory va (sym ep ∙ e)
+    misses-it : p ≡ Unknown → fetched ≡ answering (pagedTo (coreOf ws .privilege .level) va found-page) (found-page .answer)
+    unfolding fetchTo fetchHint
+    misses-it e =
+        fetch-misses (coreOf ws) (wordAt base ram 8) va (sym ep ∙ e)
+        ∙ ap (λ (x : List ℕ). paged-answer (foundTo (coreOf ws) (wordAt base x 8) va Fetch)) (sym ey)
+      where
+        paged-answer : Translated → Translated
+        paged-answer t = answering (pagedTo (coreOf ws .privilege .level) va t) (t .answer)
 
-  pub fetch-page-code : (n : ℕ) → p ≡ Unknown → n ≡ codeOf (found-page .answer) → n ≡ codeOf (fetchSteppedNow (coreOf ws) memory va .answer)
-  fetch-page-code n e q = q ∙ sym (ap (λ (x : Translated). codeOf (x .answer)) (misses-it e))
+    pub fetch-page-code : (n : ℕ) → p ≡ Unknown → n ≡ codeOf (found-page .answer) → n ≡ codeOf (fetchSteppedNow (coreOf ws) (wordAt base ram 8) va .answer)
+    fetch-page-code n e q = q ∙ sym (ap (λ (x : Translated). codeOf (x .answer)) (misses-it e))
 
-  pub fetch-page-value : (v old : ℕ) → p ≡ Unknown → v ≡ valueOf (found-page .answer) old → v ≡ valueOf (fetchSteppedNow (coreOf ws) memory va .answer) old
-  fetch-page-value v old e q = q ∙ sym (ap (λ (x : Translated). valueOf (x .answer) old) (misses-it e))
+    pub fetch-page-value : (v old : ℕ) → p ≡ Unknown → v ≡ valueOf (found-page .answer) old
+        → v ≡ valueOf (fetchSteppedNow (coreOf ws) (wordAt base ram 8) va .answer) old
+    fetch-page-value v old e q = q ∙ sym (ap (λ (x : Translated). valueOf (x .answer) old) (misses-it e))
 
-  pub fetch-page-core : (xs : List ℕ) → p ≡ Unknown → NowHolds ws xs (pagedTo (coreOf ws .privilege .level) va found-page)
-      → NowHolds ws xs (withTlb (coreOf ws) (fetchSteppedNow (coreOf ws) memory va .tlb))
-  fetch-page-core xs e m = holds-as m (sym (ap (λ (x : Translated). x .core) (misses-it e)))
+    pub fetch-page-core : (xs : List ℕ) → p ≡ Unknown → NowHolds ws xs (pagedTo (coreOf ws .privilege .level) va found-page)
+        → NowHolds ws xs (withTlb (coreOf ws) (fetchSteppedNow (coreOf ws) (wordAt base ram 8) va .tlb))
+    fetch-page-core xs e m = holds-as m (sym (ap (λ (x : Translated). x .core) (misses-it e)))

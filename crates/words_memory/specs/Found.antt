@@ -1,18 +1,18 @@
 -- One translation on the core as it is made in place: the hint first; else its changes, and the core with them stored.
-use mathlib.Core.Bool.{_&&_}
+use mathlib.Core.Bool.{Bool, _&&_}
 use mathlib.Core.List.{List}
 use Prim.Native.Nat.{ℕ, _+_}
 use lib.Dec.{eqb}
 use Rattle.word.specs.Bits.{pick}
 use Rattle.word.specs.Ram.{wordAt}
 use Rattle.word.specs.declared.ram.Word.{Word}
-use Rattle.walk.specs.Regime.{bankOf}
+use Rattle.walk.specs.Regime.{regimeOf}
 use Rattle.tlb.specs.Access.{mayHint}
-use Rattle.tlb.specs.Entry.{slotOf}
+use Rattle.tlb.specs.Entry.{slotOf, serves}
 use Rattle.tlb.specs.Hint.{dataSlot, hintKey, hintFor, onPage, fetchFor, fetchFound}
 use Rattle.tlb.specs.Cache.{entryAt, hintAt}
-use Rattle.tlb.specs.Resolve.{resolveOf, countedBy, keptBy}
-use Rattle.tlb.specs.Translate.{missOf}
+use Rattle.tlb.specs.Resolve.{queryOf, byEntry, byWalk, countedBy, keptBy}
+use Rattle.tlb.specs.Translate.{untaggedNow, walkNow, missOf}
 use Rattle.tlb.specs.declared.access.Kind.{Kind}
 use Rattle.tlb.specs.declared.access.Privilege.{Privilege}
 use Rattle.tlb.specs.declared.access.Answer.{Answer}
@@ -73,11 +73,22 @@ committed c privilege kind va slot t = answerPut (sourced c slot (t .source) (t 
 abbrev pub committing : Core → Privilege → Kind → ℕ → ℕ → Resolved → Translated
 committing c privilege kind va slot t = answering (committed c privilege kind va slot t) (t .answer)
 
--- of what a query asks, with its cell
-unfoldable pub lookedTo : Core → Query → Privilege → Kind → ℕ → (ℕ → Word) → Translated
-lookedTo c q privilege kind va memory =
-    committing c privilege kind va (slotOf (q .tag))
-    (resolveOf q (bankOf (c .control) (q .regime)) privilege (c .tlb .cache .current) (entryAt (c .tlb .cache) (slotOf (q .tag))) va kind memory)
+-- whether the entry that a query names serves it
+abbrev pub servesNow : Core → Query → Bool
+servesNow c q = serves (entryAt (c .tlb .cache) (slotOf (q .tag))) (c .tlb .cache .current) (q .tag)
+
+-- by that entry
+unfoldable pub fromEntry : Core → Query → Privilege → Kind → ℕ → Translated
+fromEntry c q privilege kind va =
+    committing c privilege kind va (slotOf (q .tag)) (byEntry q privilege (entryAt (c .tlb .cache) (slotOf (q .tag))) va kind)
+
+-- by a walk, whatever the entry holds
+unfoldable pub fromWalk : Core → (ℕ → Word) → ℕ → Kind → Translated
+fromWalk c memory va kind =
+    committing c (c .privilege) kind va (slotAt (bankNow c) (c .privilege .level) va)
+    (byWalk (walkNow (bankNow c) (c .privilege .level) va memory)
+    (queryOf (regimeOf (c .privilege .level)) (untaggedNow (bankNow c) (c .privilege .level) va))
+    (c .privilege) (c .tlb .cache .current) va kind)
 
 -- of an address that no hint serves
 unfoldable pub foundTo : Core → (ℕ → Word) → ℕ → Kind → Translated
@@ -87,8 +98,8 @@ foundTo c memory va kind =
 
 -- the same of words and of the bytes of RAM
 module _ (ws : List ℕ) (base : ℕ) (ram : List ℕ) where
-  abbrev pub lookedAt : Query → Privilege → Kind → ℕ → Translated
-  lookedAt q privilege kind va = lookedTo (coreOf ws) q privilege kind va (wordAt base ram 8)
+  abbrev pub walkedAt : ℕ → Kind → Translated
+  walkedAt va kind = fromWalk (coreOf ws) (wordAt base ram 8) va kind
 
   abbrev pub foundAt : ℕ → Kind → Translated
   foundAt va kind = foundTo (coreOf ws) (wordAt base ram 8) va kind

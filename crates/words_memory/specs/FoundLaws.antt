@@ -2,9 +2,11 @@
 use mathlib.Core.Path.{_≡_, refl, sym, ap, subst, _∙_}
 use mathlib.Core.Bool.{Bool, true, false, _&&_}
 use mathlib.Core.List.{List}
-use Prim.Native.Nat.{ℕ}
+use Prim.Native.Nat.{ℕ, _-_}
+use native.Mathlib.Omega.{arith}
 use lib.Dec.{eqb}
-use lib.Seq.{set-getD}
+use lib.ListN.{length, take, drop}
+use lib.Seq.{set-getD, take-length}
 use Rattle.word.specs.Bits.{pick}
 use Rattle.word.specs.declared.ram.Word.{Word}
 use Rattle.walk.specs.Regime.{regimeOf}
@@ -132,3 +134,7 @@ module _ (c : Core) (memory : ℕ → Word) (va : ℕ) (kind : Kind) where
       answering
       (put-answer-back c va kind slot (keptBy (t .source) (entryAt (c .tlb .cache) slot) (t .made)) (countedBy (t .source) (c .tlb .counts)) (t .answer) i)
       (t .answer))
+
+-- RAM lent on as a part that is the whole
+pub whole-part : (xs : List ℕ) → take (length xs - 0) (drop 0 xs) ≡ xs
+whole-part xs = let s : length xs - 0 ≡ length xs = omega arith in rw s (take-length xs)

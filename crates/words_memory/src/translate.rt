@@ -8,7 +8,7 @@ ghost use Rattle.mmu.specs.Ops.{fetchSteppedNow, withTlb};
 ghost use Rattle.words.specs.CoreOf.{coreOf};
 ghost use Rattle.words.specs.NowHolds.{NowHolds};
 ghost use Rattle.words_memory.specs.Found.{codeOf, valueOf, hintFound, fetchHint, withHintFor, answerPut};
-ghost use Rattle.words_memory.specs.Found.{sourced, committed, lookedAt, foundAt, pagedTo};
+ghost use Rattle.words_memory.specs.Found.{sourced, committed, servesNow, fromEntry, walkedAt, foundAt, pagedTo};
 use tlb::access;
 use tlb::access::Answer;
 use tlb::access::Kind;
@@ -22,6 +22,7 @@ use tlb::resolve::Query;
 use tlb::resolve::Resolved;
 use tlb::resolve::Source;
 use walk::regime;
+use walk::tag;
 use words::cells;
 use words::counts;
 use words::place::State;
@@ -110,31 +111,57 @@ fn commit(
     put_answer(state, privilege, kind, va, answer, pa)
 }
 
-// With stage 1 on: the cell that is asked, its changes, the commit.
-fn look(
+// Whether the entry that a query names serves it.
+fn entry_serves(state: &State, q: Query) -> bool
+    ensures { λ r. ⌜ r ≡ servesNow (coreOf (now (state .entry))) q ⌝ }
+{
+    let slot = tlb::entry::slot(q.tag);
+    let at = counts::current_at(state);
+    let e = cells::entry_at(state, slot);
+    tlb::entry::serves(e, at, q.tag)
+}
+
+// By the entry that a query names.
+fn from_entry(
     state: &mut State,
     q: Query,
     privilege: Privilege,
     kind: Kind,
     va: u64,
     pa: &mut u64,
-    base: u64,
-    ram: &[u8],
 ) -> u64
     ensures { λ r. ⌜ r ≤ 511 ⌝ }
-    ensures { λ r. ⌜ r ≡ codeOf (lookedAt (now (state .entry)) base (now (ram .entry)) q privilege kind va .answer) ⌝ }
+    ensures { λ r. ⌜ r ≡ codeOf (fromEntry (coreOf (now (state .entry))) q privilege kind va .answer) ⌝ }
     ensures { λ r. ⌜ now (pa .exit)
-        ≡ valueOf (lookedAt (now (state .entry)) base (now (ram .entry)) q privilege kind va .answer)
-        (now (pa .entry)) ⌝ }
+        ≡ valueOf (fromEntry (coreOf (now (state .entry))) q privilege kind va .answer) (now (pa .entry)) ⌝ }
     ensures { λ _. ⌜ NowHolds (now (state .entry)) (now (state .exit))
-        (lookedAt (now (state .entry)) base (now (ram .entry)) q privilege kind va .core) ⌝ }
+        (fromEntry (coreOf (now (state .entry))) q privilege kind va .core) ⌝ }
 {
     let slot = tlb::entry::slot(q.tag);
-    let at = counts::current_at(state);
     let e = cells::entry_at(state, slot);
-    let regime = q.regime;
+    let t = resolve::by_entry(q, privilege, e, va, kind);
+    commit(state, privilege, kind, va, slot, t, pa)
+}
+
+// By a walk. It reads anew what it needs, so that a hit holds nothing for it.
+fn from_walk(state: &mut State, va: u64, kind: Kind, pa: &mut u64, base: u64, ram: &[u8]) -> u64
+    ensures { λ r. ⌜ r ≤ 511 ⌝ }
+    ensures { λ r. ⌜ r ≡ codeOf (walkedAt (now (state .entry)) base (now (ram .entry)) va kind .answer) ⌝ }
+    ensures { λ r. ⌜ now (pa .exit)
+        ≡ valueOf (walkedAt (now (state .entry)) base (now (ram .entry)) va kind .answer) (now (pa .entry)) ⌝ }
+    ensures { λ _. ⌜ NowHolds (now (state .entry)) (now (state .exit))
+        (walkedAt (now (state .entry)) base (now (ram .entry)) va kind .core) ⌝ }
+{
+    let privilege = state::privilege_at(state);
+    let regime = regime::regime_of(privilege.level);
     let s = regs::bank_at(state, regime);
-    let t = resolve::resolve(q, s, privilege, at, e, va, kind, base, ram);
+    let page = tag::untag(s.tcr, regime, va);
+    let tag = access::tag_of(regime, page);
+    let q = Query { regime, page, tag };
+    let n = ram.len();
+    let at = counts::current_at(state);
+    let t = resolve::walked(q, s, privilege, at, va, kind, base, &ram[0..n]);
+    let slot = tlb::entry::slot(tag);
     commit(state, privilege, kind, va, slot, t, pa)
 }
 
@@ -150,13 +177,51 @@ pub fn find(state: &mut State, va: u64, kind: Kind, pa: &mut u64, base: u64, ram
     let privilege = state::privilege_at(state);
     let r = regime::regime_of(privilege.level);
     let s = regs::bank_at(state, r);
+    let n = ram.len();
     match resolve::ask(s, privilege, va) {
         Asked::Flat => {
             *pa = va;
             keep_hint(state, privilege, kind, va, va);
             0
         }
-        Asked::Of(q) => look(state, q, privilege, kind, va, pa, base, ram),
+        Asked::Of(q) => {
+            let hit = entry_serves(state, q);
+            if hit {
+                from_entry(state, q, privilege, kind, va, pa)
+            } else {
+                from_walk(state, va, kind, pa, base, &ram[0..n])
+            }
+        }
+    }
+}
+
+// The same for a fetch. A walk has two callers so, and the compiler does not put it in line with a hit.
+fn find_fetch(state: &mut State, va: u64, pa: &mut u64, base: u64, ram: &[u8]) -> u64
+    ensures { λ r. ⌜ r ≤ 511 ⌝ }
+    ensures { λ r. ⌜ r ≡ codeOf (foundAt (now (state .entry)) base (now (ram .entry)) va Fetch .answer) ⌝ }
+    ensures { λ r. ⌜ now (pa .exit)
+        ≡ valueOf (foundAt (now (state .entry)) base (now (ram .entry)) va Fetch .answer) (now (pa .entry)) ⌝ }
+    ensures { λ _. ⌜ NowHolds (now (state .entry)) (now (state .exit))
+        (foundAt (now (state .entry)) base (now (ram .entry)) va Fetch .core) ⌝ }
+{
+    let privilege = state::privilege_at(state);
+    let r = regime::regime_of(privilege.level);
+    let s = regs::bank_at(state, r);
+    let n = ram.len();
+    match resolve::ask(s, privilege, va) {
+        Asked::Flat => {
+            *pa = va;
+            keep_hint(state, privilege, Kind::Fetch, va, va);
+            0
+        }
+        Asked::Of(q) => {
+            let hit = entry_serves(state, q);
+            if hit {
+                from_entry(state, q, privilege, Kind::Fetch, va, pa)
+            } else {
+                from_walk(state, va, Kind::Fetch, pa, base, &ram[0..n])
+            }
+        }
     }
 }
 
@@ -197,7 +262,7 @@ pub fn fetch_find(state: &mut State, va: u64, pa: &mut u64, base: u64, ram: &[u8
         (pagedTo (coreOf (now (state .entry)) .privilege .level) va
         (foundAt (now (state .entry)) base (now (ram .entry)) va Fetch)) ⌝ }
 {
-    let code = find(state, va, Kind::Fetch, pa, base, ram);
+    let code = find_fetch(state, va, pa, base, ram);
     if code == 0 {
         let privilege = state::privilege_at(state);
         let f = hint::fetch_for(va, privilege.level, *pa);
@@ -217,11 +282,12 @@ pub fn fetch_address(state: &mut State, va: u64, pa: &mut u64, base: u64, ram: &
     ensures { λ _. ⌜ NowHolds (now (state .entry)) (now (state .exit)) (withTlb (coreOf (now (state .entry)))
         (fetchSteppedNow (coreOf (now (state .entry))) (wordAt base (now (ram .entry)) 8) va .tlb)) ⌝ }
 {
+    let n = ram.len();
     match fetch_by_hint(state, va) {
         HintAnswer::At(at) => {
             *pa = at;
             0
         }
-        HintAnswer::Unknown => fetch_find(state, va, pa, base, ram),
+        HintAnswer::Unknown => fetch_find(state, va, pa, base, &ram[0..n]),
     }
 }

@@ -1,6 +1,7 @@
 -- `a72abi::bytes::load_split` meets its contract.
 use Rattle.a72abi.proofs.Splitting.{split-load}
-use Rattle.a72abi.proofs.Passing.{part-gives, whole-part}
+use Rattle.a72abi.proofs.Passing.{part-gives}
+use Rattle.words_memory.specs.FoundLaws.{whole-part}
 use borrow.Author.Needs.{needs}
 use Rattle.a72abi.proofs.bytes.load_split.Statement.{statement}
 use Rattle.a72abi.proofs.bytes.load_split.Tie as tie

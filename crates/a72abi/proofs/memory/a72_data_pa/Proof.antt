@@ -1,5 +1,6 @@
 -- `a72abi::memory::a72_data_pa` meets its contract.
-use Rattle.a72abi.proofs.Passing.{level-high, clear-here, ram-high, ram-clear, part-gives, whole-part}
+use Rattle.a72abi.proofs.Passing.{level-high, clear-here, ram-high, ram-clear, part-gives}
+use Rattle.words_memory.specs.FoundLaws.{whole-part}
 use Rattle.a72abi.specs.PromiseLaws.{promise-quiet}
 use Rattle.operations.specs.Check.{missedOf}
 use mathlib.Core.Path.{refl}

@@ -1,5 +1,6 @@
 -- `a72abi::memory::a72_translate` meets its contract.
-use Rattle.a72abi.proofs.Passing.{clear-here, ram-clear, part-gives, whole-part}
+use Rattle.a72abi.proofs.Passing.{clear-here, ram-clear, part-gives}
+use Rattle.words_memory.specs.FoundLaws.{whole-part}
 use Rattle.a72abi.proofs.Addressing.{kind-gives, no-kind-gives, kind-1, kind-2, kind-4, kind-low, kind-high}
 use Rattle.a72abi.specs.PromiseLaws.{promise-translate}
 use Rattle.operations.specs.Check.{missedOf}

@@ -1,5 +1,5 @@
 -- `a72abi::slow::address` meets its contract.
-use Rattle.a72abi.proofs.Passing.{whole-part}
+use Rattle.words_memory.specs.FoundLaws.{whole-part}
 use Rattle.a72abi.proofs.Addressing.{hint-tells, find-tells}
 use borrow.Author.Needs.{needs}
 use Rattle.a72abi.proofs.slow.address.Statement.{statement}

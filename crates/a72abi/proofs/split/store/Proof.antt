@@ -1,5 +1,5 @@
 -- `a72abi::split::store` meets its contract.
-use Rattle.a72abi.proofs.Splitting.{store-together, ram-together, store-on, ram-on, store-unknown, ram-unknown}
+use Rattle.a72abi.proofs.Splitting.{apart-near, store-together, ram-together, store-on, ram-on, store-unknown, ram-unknown}
 use borrow.Author.Needs.{needs}
 use Rattle.a72abi.proofs.split.store.Statement.{statement}
 use Rattle.a72abi.proofs.split.store.Tie as tie
@@ -14,7 +14,7 @@ enum-known-pa : tie.Need-enum-known-pa
 enum-known-pa c = search needs
 
 store-on-requires : tie.Need-store-on-requires
-store-on-requires c κs = search needs
+store-on-requires c κs = search (apart-near, needs)
 
 enum-told : tie.Need-enum-told
 enum-told c = search needs

@@ -1,5 +1,5 @@
 -- `a72abi::split::store_on` meets its contract.
-use Rattle.a72abi.proofs.Splitting.{write-made, write-ram, write-unknown, write-untouched}
+use Rattle.a72abi.proofs.Splitting.{pair-made, pair-ram, write-made, write-ram, write-unknown, write-untouched}
 use borrow.Author.Needs.{needs}
 use Rattle.a72abi.proofs.split.store_on.Statement.{statement}
 use Rattle.a72abi.proofs.split.store_on.Tie as tie
@@ -13,6 +13,15 @@ by-hint-requires c κs = search needs
 enum-known-pa2 : tie.Need-enum-known-pa2
 enum-known-pa2 c = search needs
 
+write-pair-requires : tie.Need-write-pair-requires
+write-pair-requires c κs = search needs
+
+same-length : tie.Need-same-length
+same-length c = search needs
+
+returns : tie.Need-returns
+returns c = (search (pair-made, needs), search (pair-ram, needs))
+
 in-page-requires : tie.Need-in-page-requires
 in-page-requires c κs = search needs
 
@@ -22,14 +31,14 @@ write-both-requires c κs = search needs
 enum-told : tie.Need-enum-told
 enum-told c = search needs
 
-same-length : tie.Need-same-length
-same-length c = search needs
-
-returns : tie.Need-returns
-returns c = (search (write-made, needs), search (write-ram, needs))
+same-length-2 : tie.Need-same-length-2
+same-length-2 c = search needs
 
 returns-2 : tie.Need-returns-2
-returns-2 c = (search (write-unknown, needs), search (write-untouched, needs))
+returns-2 c = (search (write-made, needs), search (write-ram, needs))
+
+returns-3 : tie.Need-returns-3
+returns-3 c = (search (write-unknown, needs), search (write-untouched, needs))
 
 pub store-on-spec : {M : Type 1} → statement M
 store-on-spec =
@@ -38,9 +47,12 @@ store-on-spec =
     next-page-requires
     by-hint-requires
     enum-known-pa2
+    write-pair-requires
+    same-length
+    returns
     in-page-requires
     write-both-requires
     enum-told
-    same-length
-    returns
-    returns-2)
+    same-length-2
+    returns-2
+    returns-3)

@@ -4,8 +4,8 @@ use borrow.Author.Needs.{needs}
 use Rattle.words_memory.proofs.translate.fetch_find.Statement.{statement}
 use Rattle.words_memory.proofs.translate.fetch_find.Tie as tie
 
-find-requires : tie.Need-find-requires
-find-requires c κs = search needs
+find-fetch-requires : tie.Need-find-fetch-requires
+find-fetch-requires c κs = search needs
 
 privilege-at-requires : tie.Need-privilege-at-requires
 privilege-at-requires c κs = search needs
@@ -26,7 +26,7 @@ pub fetch-find-spec : {M : Type 1} → statement M
 fetch-find-spec =
     tie.close
     (tie.spec
-    find-requires
+    find-fetch-requires
     privilege-at-requires
     fetch-for-requires
     put-fetch-requires
