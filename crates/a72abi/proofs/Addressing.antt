@@ -8,11 +8,9 @@ use borrow.Author.Tests.{ne-eqb}
 use lib.Dec.{eqb}
 use Rattle.word.specs.Bits.{pick}
 use Rattle.word.specs.Ram.{wordAt}
-use Rattle.tlb.specs.declared.access.Kind.{Kind}
+use Rattle.tlb.specs.declared.{access.Kind.Kind, access.Answer.Answer, hint.HintAnswer.HintAnswer}
 use Rattle.tlb.specs.declared.access.Kind.the-variants.{Read, Write, Fetch}
-use Rattle.tlb.specs.declared.access.Answer.{Answer}
 use Rattle.tlb.specs.declared.access.Answer.the-variants.{Address, Status}
-use Rattle.tlb.specs.declared.hint.HintAnswer.{HintAnswer}
 use Rattle.tlb.specs.declared.hint.HintAnswer.the-variants.{At, Unknown}
 use Rattle.mmu.specs.Core.{afterAccess}
 use Rattle.operations.specs.Ends.{fetchEnd, reachedBy}
@@ -64,7 +62,8 @@ module _ (ws : List ℕ) (base : ℕ) (ram : List ℕ) (va : ℕ) (kind : Kind) 
   pub hint-tells : (pa : ℕ) → p ≡ At pa → Tells (runOf (coreOf ws) base ram (Call.Translate kind va)) ws 0 old pa ws
   hint-tells pa e =
       let memory = wordAt base ram 8 in
-      translation-tells ws base ram va kind 0 old pa ws (by-hint-code ws memory va kind p ep pa e) (by-hint-value ws memory va kind p ep pa old e) (by-hint-core ws memory va kind p ep pa e)
+      translation-tells ws base ram va kind 0 old pa ws (by-hint-code ws memory va kind p ep pa e) (by-hint-value ws memory va kind p ep pa old e)
+      (by-hint-core ws memory va kind p ep pa e)
 
   pub find-tells : (part : List ℕ) (n v : ℕ) (xs : List ℕ) → part ≡ ram → p ≡ Unknown → n ≡ codeOf (foundTo (coreOf ws) (wordAt base part 8) va kind .answer)
       → v ≡ valueOf (foundTo (coreOf ws) (wordAt base part 8) va kind .answer) old → NowHolds ws xs (foundTo (coreOf ws) (wordAt base part 8) va kind .core)
@@ -72,7 +71,8 @@ module _ (ws : List ℕ) (base : ℕ) (ram : List ℕ) (va : ℕ) (kind : Kind) 
   find-tells part n v xs q e en ev m =
       let memory = wordAt base part 8 in
       rw q at
-      (translation-tells ws base part va kind n old v xs (by-find-code ws memory va kind p ep n e en) (by-find-value ws memory va kind p ep v old e ev) (by-find-core ws memory va kind p ep xs e m))
+      (translation-tells ws base part va kind n old v xs (by-find-code ws memory va kind p ep n e en) (by-find-value ws memory va kind p ep v old e ev)
+      (by-find-core ws memory va kind p ep xs e m))
 
 -- a fault without its status
 pub without-status-zero : (n : ℕ) → n ≡ 0 → _≡_ {A = ℕ} 0 (pick (eqb n 0) 0 256)
@@ -102,8 +102,10 @@ module _ (ws : List ℕ) (base : ℕ) (ram : List ℕ) (va n r old v : ℕ) (xs 
         kept = kept-late ws xs (reaching (reachedBy a)) r c (reach-late (reachedBy a));
       }
 
-  pub fetch-pa-tells : n ≡ codeOf (fetchSteppedNow (coreOf ws) (wordAt base ram 8) va .answer) → v ≡ valueOf (fetchSteppedNow (coreOf ws) (wordAt base ram 8) va .answer) old
-      → NowHolds ws xs (withTlb (coreOf ws) (fetchSteppedNow (coreOf ws) (wordAt base ram 8) va .tlb)) → Tells (runOf (coreOf ws) base ram (Call.FetchPa va)) ws r old v xs
+  pub fetch-pa-tells : n ≡ codeOf (fetchSteppedNow (coreOf ws) (wordAt base ram 8) va .answer) → v
+      ≡ valueOf (fetchSteppedNow (coreOf ws) (wordAt base ram 8) va .answer) old
+      → NowHolds ws xs (withTlb (coreOf ws) (fetchSteppedNow (coreOf ws) (wordAt base ram 8) va .tlb))
+      → Tells (runOf (coreOf ws) base ram (Call.FetchPa va)) ws r old v xs
   unfolding runOf fetchPaOf
   fetch-pa-tells en ev m =
       let a = fetchSteppedNow (coreOf ws) (wordAt base ram 8) va .answer in
@@ -132,7 +134,8 @@ module _ (ws : List ℕ) (base : ℕ) (ram : List ℕ) (pa : ℕ) (i : Insn) (ei
       record { by = λ va. rw (← ei, e) (record { code = refl; value = refl; words = m; kept = record { same = λ l h. absurd (omega arith) } }) }
 
 module _ (ws : List ℕ) (base : ℕ) (ram : List ℕ) (va : ℕ) (p : HintAnswer) (ep : p ≡ fetchHint (coreOf ws) va) where
-  pub fetch-hint-tells : (pa n old v : ℕ) (xs : List ℕ) → p ≡ At pa → FetchTells pa base ram ws n old v xs → Tells (runOf (coreOf ws) base ram (Call.Fetch va)) ws n old v xs
+  pub fetch-hint-tells : (pa n old v : ℕ) (xs : List ℕ) → p ≡ At pa → FetchTells pa base ram ws n old v xs
+      → Tells (runOf (coreOf ws) base ram (Call.Fetch va)) ws n old v xs
   unfolding fetchHint
   fetch-hint-tells pa n old v xs e t =
       tells-as (fetch-run (coreOf ws) base ram va (Address pa) (coreOf ws) (fetch-serves (coreOf ws) (wordAt base ram 8) va pa (sym ep ∙ e))) (t .by va)
@@ -144,7 +147,8 @@ fetch-unknown ws va p ep e = sym ep ∙ e
 module _ (ws xs : List ℕ) (base : ℕ) (ram : List ℕ) (va code : ℕ) (miss : fetchHint (coreOf ws) va ≡ Unknown)
     (ec : code ≡ codeOf (foundTo (coreOf ws) (wordAt base ram 8) va Fetch .answer))
     (m : NowHolds ws xs (pagedTo (coreOf ws .privilege .level) va (foundTo (coreOf ws) (wordAt base ram 8) va Fetch))) where
-  page-run : (a : Answer) → foundTo (coreOf ws) (wordAt base ram 8) va Fetch .answer ≡ a → fetchEnds (coreOf xs) a base ram va ≡ runOf (coreOf ws) base ram (Call.Fetch va)
+  page-run : (a : Answer) → foundTo (coreOf ws) (wordAt base ram 8) va Fetch .answer ≡ a → fetchEnds (coreOf xs) a base ram va
+      ≡ runOf (coreOf ws) base ram (Call.Fetch va)
   unfolding fetchHint
   page-run a e =
       fetch-run (coreOf ws) base ram va a (coreOf xs)
@@ -158,14 +162,20 @@ module _ (ws xs : List ℕ) (base : ℕ) (ram : List ℕ) (va code : ℕ) (miss 
       go (Address pa) e = absurd (n (ec ∙ ap codeOf e))
       go (Status fsc) e =
           tells-as (page-run (Status fsc) e)
-          (record { code = ec ∙ ap codeOf e; value = refl; words = record { long = m .long; holds = refl }; kept = record { same = λ l h. absurd (omega (arith, ec, ap codeOf e)) } })
+          (record {
+            code = ec ∙ ap codeOf e;
+            value = refl;
+            words = record { long = m .long; holds = refl };
+            kept = record { same = λ l h. absurd (omega (arith, ec, ap codeOf e)) };
+          })
 
   pub fetch-page-tells : (pa before n old v : ℕ) (ys : List ℕ) → code ≡ 0 → pa ≡ valueOf (foundTo (coreOf ws) (wordAt base ram 8) va Fetch .answer) before
       → FetchTells pa base ram xs n old v ys → Tells (runOf (coreOf ws) base ram (Call.Fetch va)) ws n old v ys
   fetch-page-tells pa before n old v ys z ep t =
       let a = code-at (foundTo (coreOf ws) (wordAt base ram 8) va Fetch .answer) code pa before ec z ep in
       tells-as (page-run (Address pa) a)
-      (tells-after m (t .by va) (kept-late ws ys (fetchEnds (coreOf xs) (Address pa) base ram va .reply) n (t .by va .code) (fetch-ends-late (coreOf xs) (Address pa) base ram va)))
+      (tells-after m (t .by va) (kept-late ws ys (fetchEnds (coreOf xs) (Address pa) base ram va .reply) n (t .by va .code)
+      (fetch-ends-late (coreOf xs) (Address pa) base ram va)))
 
 -- A TRANSLATION BY THE NUMBER OF ITS KIND
 
@@ -187,7 +197,8 @@ kind-low n h a = kind-none n a (λ e. omega arith) (λ e. omega arith)
 pub kind-high : (n : ℕ) → 2 ≤ n → (n ≡ 2 → ⊥) → (n ≡ 4 → ⊥) → NoKind ≡ kindOf n
 kind-high n h b c = kind-none n (λ e. omega arith) b c
 
-pub kind-gives : (base : ℕ) (ram ws : List ℕ) (va : ℕ) (p : DecodedKind) (k : Kind) (n old v : ℕ) (xs : List ℕ) → Known k ≡ p → Gives (DecodedCall.Known (Call.Translate k va)) base ram ws n old v xs
+pub kind-gives : (base : ℕ) (ram ws : List ℕ) (va : ℕ) (p : DecodedKind) (k : Kind) (n old v : ℕ) (xs : List ℕ) → Known k ≡ p
+    → Gives (DecodedCall.Known (Call.Translate k va)) base ram ws n old v xs
     → Gives (translateCall p va) base ram ws n old v xs
 unfolding translateCall
 kind-gives base ram ws va p k n old v xs e g = rw (← e) g

@@ -8,10 +8,8 @@ use borrow.Author.Tests.{ne-eqb, eqb-true}
 use lib.Dec.{eqb}
 use lib.ListN.{length}
 use Rattle.word.specs.Ram.{wordAt, bytesIn, within, stored, widthOf}
-use Rattle.word.specs.declared.ram.Width.{Width}
-use Rattle.word.specs.declared.ram.Sized.{Sized}
+use Rattle.word.specs.declared.{ram.Width.Width, ram.Sized.Sized, ram.Word.Word}
 use Rattle.word.specs.declared.ram.Sized.the-variants.{Bytes, Refused as NoWidth}
-use Rattle.word.specs.declared.ram.Word.{Word}
 use Rattle.word.specs.declared.ram.Word.the-variants.{Value as Bits, Outside}
 use Rattle.mmu.specs.Core.{afterAccess}
 use Rattle.mmu.specs.Ops.{readOf, writeOf, ramAfterWrite}
@@ -170,7 +168,8 @@ store-runs c base ram va size v h k w e =
     )
 
 -- a store that was not made wrote nothing
-pub unmade-ram : (base : ℕ) (ram : List ℕ) (size pa v : ℕ) (made : Bool) (ys : List ℕ) → made ≡ sizedMade base ram size pa → made ≡ false → ys ≡ sizedRam base ram size pa v → ys ≡ ram
+pub unmade-ram : (base : ℕ) (ram : List ℕ) (size pa v : ℕ) (made : Bool) (ys : List ℕ) → made ≡ sizedMade base ram size pa → made ≡ false → ys
+    ≡ sizedRam base ram size pa v → ys ≡ ram
 unmade-ram base ram size pa v made ys e f y = y ∙ go (widthOf size) refl
   where
     go : (s : Sized) → widthOf size ≡ s → ramIn (widthOf size) base ram pa v ≡ ram

@@ -11,14 +11,12 @@ use Rattle.word.specs.Bits.{pick}
 use Rattle.sysreg.specs.declared.write.WriteAnswer.{WriteAnswer}
 use Rattle.tlb.specs.declared.access.Privilege.{Privilege}
 use Rattle.mmu.specs.declared.core.Core.{Core}
-use Rattle.operations.specs.declared.ends.StoreAnswer.{StoreAnswer}
+use Rattle.operations.specs.declared.{ends.StoreAnswer.StoreAnswer, call.Encoding.Encoding, call.Call.Call}
+use Rattle.operations.specs.declared.call.Reply.{Reply}
 use Rattle.operations.specs.Check.{kept, ramRows, sizedRows, firstOf, missedOf}
 use Rattle.operations.specs.Replies.{storing, registering}
 use Rattle.cpu.specs.Step.{runOf, ramOf, stepOf, ramAfter, ends}
-use Rattle.operations.specs.declared.call.Encoding.{Encoding}
-use Rattle.operations.specs.declared.call.Call.{Call}
 use Rattle.operations.specs.declared.call.Call.the-variants as Call
-use Rattle.operations.specs.declared.call.Reply.{Reply}
 use Rattle.operations.specs.declared.call.Reply.the-variants.{Refused}
 use Rattle.cpu.specs.declared.run.Stepped.{Stepped}
 use Rattle.words.specs.CoreOf.{coreOf}
@@ -29,16 +27,20 @@ module _ (c : Core) (privilege : Privilege) (n : ℕ) (e : privilege ≡ c .priv
   pub ram-missed : (base len : ℕ) → n ≡ firstOf (ramRows (privilege .level) base len) → n ≡ firstOf (ramRows (c .privilege .level) base len)
   ram-missed base len q = q ∙ ap (λ (w : Privilege). firstOf (ramRows (w .level) base len)) e
 
-  pub sized-missed : (base len size : ℕ) → n ≡ firstOf (sizedRows (privilege .level) base len size) → n ≡ firstOf (sizedRows (c .privilege .level) base len size)
+  pub sized-missed : (base len size : ℕ) → n ≡ firstOf (sizedRows (privilege .level) base len size) → n
+      ≡ firstOf (sizedRows (c .privilege .level) base len size)
   sized-missed base len size q = q ∙ ap (λ (w : Privilege). firstOf (sizedRows (w .level) base len size)) e
 
-  pub system-missed : (base len : ℕ) (x : Encoding) → n ≡ missedOf (privilege .level) base len (Call.System x) → n ≡ missedOf (c .privilege .level) base len (Call.System x)
+  pub system-missed : (base len : ℕ) (x : Encoding) → n ≡ missedOf (privilege .level) base len (Call.System x) → n
+      ≡ missedOf (c .privilege .level) base len (Call.System x)
   system-missed base len x q = q ∙ ap (λ (w : Privilege). missedOf (w .level) base len (Call.System x)) e
 
-  pub register-missed : (key : ℕ) → n ≡ firstOf ((ltb 3 (privilege .level), 1) ∷ (not (kept key), 6) ∷ []) → n ≡ firstOf ((ltb 3 (c .privilege .level), 1) ∷ (not (kept key), 6) ∷ [])
+  pub register-missed : (key : ℕ) → n ≡ firstOf ((ltb 3 (privilege .level), 1) ∷ (not (kept key), 6) ∷ []) → n
+      ≡ firstOf ((ltb 3 (c .privilege .level), 1) ∷ (not (kept key), 6) ∷ [])
   register-missed key q = q ∙ ap (λ (w : Privilege). firstOf ((ltb 3 (w .level), 1) ∷ (not (kept key), 6) ∷ [])) e
 
-  pub level-missed : (requested : ℕ) → n ≡ firstOf ((ltb 3 (privilege .level) || ltb 3 requested, 1) ∷ []) → n ≡ firstOf ((ltb 3 (c .privilege .level) || ltb 3 requested, 1) ∷ [])
+  pub level-missed : (requested : ℕ) → n ≡ firstOf ((ltb 3 (privilege .level) || ltb 3 requested, 1) ∷ []) → n
+      ≡ firstOf ((ltb 3 (c .privilege .level) || ltb 3 requested, 1) ∷ [])
   level-missed requested q = q ∙ ap (λ (w : Privilege). firstOf ((ltb 3 (w .level) || ltb 3 requested, 1) ∷ [])) e
 
   pub any-missed : n ≡ firstOf ((ltb 3 (privilege .level), 1) ∷ []) → n ≡ firstOf ((ltb 3 (c .privilege .level), 1) ∷ [])
@@ -83,7 +85,8 @@ module _ (ws : List ℕ) (base : ℕ) (ram : List ℕ) (call : Call) (n : ℕ) (
     pub run-reply : (r : Reply) → r ≡ runOf (coreOf ws) base ram call .reply → r ≡ stepOf (coreOf ws) base ram call .reply
     run-reply r q = q ∙ sym (ap (λ (s : Stepped). s .reply) (runs z))
 
-    pub run-core : (xs : List ℕ) (d : Core) → NowHolds ws xs d → d ≡ runOf (coreOf ws) base ram call .core → NowHolds ws xs (stepOf (coreOf ws) base ram call .core)
+    pub run-core : (xs : List ℕ) (d : Core) → NowHolds ws xs d → d ≡ runOf (coreOf ws) base ram call .core
+        → NowHolds ws xs (stepOf (coreOf ws) base ram call .core)
     run-core xs d m e = holds-as m (e ∙ sym (ap (λ (s : Stepped). s .core) (runs z)))
 
     pub run-ram : (ys zs : List ℕ) → ys ≡ zs → zs ≡ ramOf (coreOf ws) base ram call → ys ≡ ramAfter (coreOf ws) base ram call

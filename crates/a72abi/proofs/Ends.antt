@@ -6,10 +6,7 @@ use Prim.Native.Nat.{ℕ, _+_, _-_}
 use lib.ListN.{length}
 use Rattle.word.specs.Ram.{wordAt}
 use Rattle.walk.specs.Walk.{walkOf}
-use Rattle.walk.specs.declared.regime.Regime.{Regime}
-use Rattle.walk.specs.declared.regime.Bank.{Bank}
-use Rattle.walk.specs.declared.level.Leaf.{Leaf}
-use Rattle.walk.specs.declared.level.Walked.{Walked}
+use Rattle.walk.specs.declared.{regime.Regime.Regime, regime.Bank.Bank, level.Leaf.Leaf, level.Walked.Walked}
 use Rattle.walk.specs.declared.level.Walked.the-variants.{Mapped, Fault}
 use Rattle.operations.specs.Check.{passes}
 use Rattle.a72abi.specs.Walk.{bankAt, regimeAt, leafAfter, walkCode, walkWords}

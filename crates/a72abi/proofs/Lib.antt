@@ -4,5 +4,6 @@ pub mod Passing
 pub mod Addressing
 pub mod Bytewise
 pub mod OnePage
+pub mod Apart
 pub mod Splitting
 pub mod Stepping

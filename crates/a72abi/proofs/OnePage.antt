@@ -9,19 +9,15 @@ use borrow.Author.Tests.{le-ltb}
 use lib.ListN.{length}
 use Rattle.word.specs.Bits.{wrap}
 use Rattle.word.specs.Ram.{wordAt, bytesIn, widthOf, within, stored}
-use Rattle.word.specs.declared.ram.Width.{Width}
+use Rattle.word.specs.declared.{ram.Width.Width, ram.Sized.Sized, ram.Word.Word}
 use Rattle.word.specs.declared.ram.Width.the-variants.{Byte, Half, Word as Single, Double}
-use Rattle.word.specs.declared.ram.Sized.{Sized}
 use Rattle.word.specs.declared.ram.Sized.the-variants.{Bytes, Refused as NoWidth}
-use Rattle.word.specs.declared.ram.Word.{Word}
 use Rattle.word.specs.declared.ram.Word.the-variants as Word
 use Rattle.walk.specs.Regime.{regimeOf, stage1On}
-use Rattle.tlb.specs.declared.access.Kind.{Kind}
+use Rattle.tlb.specs.declared.{access.Kind.Kind, access.Answer.Answer, hint.HintAnswer.HintAnswer}
 use Rattle.tlb.specs.declared.access.Kind.the-variants.{Read, Write}
-use Rattle.tlb.specs.declared.access.Answer.{Answer}
 use Rattle.fault.specs.declared.Fault.{Fault as Status1}
 use Rattle.tlb.specs.declared.access.Answer.the-variants.{Address, Status}
-use Rattle.tlb.specs.declared.hint.HintAnswer.{HintAnswer}
 use Rattle.tlb.specs.declared.hint.HintAnswer.the-variants.{At as Hinted, Unknown}
 use Rattle.mmu.specs.Core.{afterAccess, bankNow}
 use Rattle.operations.specs.Place.{inPage, crosses, goesOn, placedOne}
@@ -29,22 +25,18 @@ use Rattle.operations.specs.Bytes.{storeRam}
 use Rattle.operations.specs.Ends.{loadEnd, storeEnd, storeRamEnd}
 use Rattle.mmu.specs.Ops.{locatedNow, translateOf, translateAccessOf, readOf, writeOf, ramAfterWrite}
 use Rattle.operations.proofs.Moves.{whole-value, whole-abort, whole-inside, whole-outside}
-use Rattle.mmu.specs.declared.core.Core.{Core}
+use Rattle.mmu.specs.declared.{core.Core.Core, ops.Accessed.Accessed, ops.Translated.Translated}
 use Rattle.operations.specs.declared.place.Place.the-variants.{Whole}
-use Rattle.operations.specs.declared.place.Placed.{Placed}
+use Rattle.operations.specs.declared.{place.Placed.Placed, ends.LoadAnswer.LoadAnswer, ends.StoreAnswer.StoreAnswer}
 use Rattle.operations.specs.declared.place.Placed.the-variants.{At, Fault}
 use Rattle.operations.specs.declared.place.Verdict.the-variants.{Outside}
 use Rattle.operations.specs.declared.ends.LoadAnswer.the-variants as Load
 use Rattle.operations.specs.declared.ends.StoreAnswer.the-variants as Store
-use Rattle.mmu.specs.declared.ops.Accessed.{Accessed}
-use Rattle.mmu.specs.declared.ops.Translated.{Translated}
 use Rattle.operations.specs.Replies.{loading, storing}
 use Rattle.cpu.specs.Step.{loadBy, storeBy, storeRamBy, runOf, ramOf, ramAfter, ends}
 use Rattle.operations.specs.declared.call.Call.the-variants as Call
 use Rattle.cpu.specs.declared.run.Stepped.{Stepped}
 use Rattle.words_sys.specs.Early.{end-late, store-late}
-use Rattle.operations.specs.declared.ends.LoadAnswer.{LoadAnswer}
-use Rattle.operations.specs.declared.ends.StoreAnswer.{StoreAnswer}
 use Rattle.a72abi.specs.Promise.{Gives}
 use Rattle.call_words.specs.declared.op.DecodedCall.the-variants.{Known}
 use Rattle.words.specs.CoreOf.{coreOf}
@@ -77,7 +69,8 @@ first-byte va h = let z : va + 0 ≡ va = omega arith in sym (ap wrap z ∙ mod-
 
 module _ (ws : List ℕ) (base : ℕ) (ram : List ℕ) (va n pa old : ℕ) where
   module _ (w : Word) (ew : w ≡ wordAt base ram n pa) where
-    pub at-value : (v : ℕ) (xs : List ℕ) → w ≡ Word.Value v → NowHolds ws xs (withLast (coreOf ws) pa) → Tells (loadEnds (coreOf ws) (At (Whole pa)) base ram va n) ws 0 old v xs
+    pub at-value : (v : ℕ) (xs : List ℕ) → w ≡ Word.Value v → NowHolds ws xs (withLast (coreOf ws) pa)
+        → Tells (loadEnds (coreOf ws) (At (Whole pa)) base ram va n) ws 0 old v xs
     unfolding loadEnds loadEnd keptLast withLast withAbort afterAccess
     at-value v xs e m =
         rw (sym (whole-value base ram pa n w v ew e)) (record { code = refl; value = refl; words = m; kept = record { same = λ l h. absurd (omega arith) } })
@@ -98,7 +91,12 @@ module _ (ws : List ℕ) (base : ℕ) (ram : List ℕ) (va n pa old : ℕ) where
         → Tells (storeEnds (coreOf ws) (At (Whole pa)) base ram va n) ws (256 + 0x10) old va xs
     unfolding storeEnds storeEnd keptAbort
     at-undone xs f h m =
-        rw (sym (whole-outside base ram pa n made f em)) (record { code = refl; value = first-byte va h; words = m; kept = record { same = λ l k. absurd (omega arith) } })
+        rw (sym (whole-outside base ram pa n made f em)) (record {
+          code = refl;
+          value = first-byte va h;
+          words = m;
+          kept = record { same = λ l k. absurd (omega arith) };
+        })
 
 -- ONE PAGE
 
@@ -115,9 +113,11 @@ width-of Double = refl
 -- the answer of its one translation, and the core that it leaves
 module _ (c : Core) (base : ℕ) (ram : List ℕ) (va : ℕ) (w : Width) (near : bytesIn w ≤ inPage va) (d : Core) (a : Answer) where
   module _ (kind : Kind) (et : translateOf c (wordAt base ram 8) va kind ≡ answering d a) where
-    one-page : goesOn (translateOf c (wordAt base ram 8) va kind .answer) (crosses (stage1On (bankNow c) (regimeOf (c .privilege .level))) va (bytesIn w)) ≡ false
+    one-page : goesOn (translateOf c (wordAt base ram 8) va kind .answer) (crosses (stage1On (bankNow c) (regimeOf (c .privilege .level))) va (bytesIn w))
+        ≡ false
     one-page =
-        ap (λ (b : Bool). goesOn (translateOf c (wordAt base ram 8) va kind .answer) (stage1On (bankNow c) (regimeOf (c .privilege .level)) && b)) (le-ltb (inPage va) (bytesIn w) near)
+        ap (λ (b : Bool). goesOn (translateOf c (wordAt base ram 8) va kind .answer) (stage1On (bankNow c) (regimeOf (c .privilege .level)) && b))
+        (le-ltb (inPage va) (bytesIn w) near)
         ∙ ap (goesOn (translateOf c (wordAt base ram 8) va kind .answer)) (and-false (stage1On (bankNow c) (regimeOf (c .privilege .level))))
         ∙ goes-not (translateOf c (wordAt base ram 8) va kind .answer)
 
@@ -129,7 +129,8 @@ module _ (c : Core) (base : ℕ) (ram : List ℕ) (va : ℕ) (w : Width) (near :
         one-is c (wordAt base ram 8) va (bytesIn w) kind one-page
         ∙ ap (λ (t : Translated). record { core = t .core; placed = placedOne va (t .answer) }) et
 
-  load-run : translateOf c (wordAt base ram 8) va Read ≡ answering d a → loadEnds d (placedOne va a) base ram va (bytesIn w) ≡ runOf c base ram (Call.Load va (bytesIn w))
+  load-run : translateOf c (wordAt base ram 8) va Read ≡ answering d a → loadEnds d (placedOne va a) base ram va (bytesIn w)
+      ≡ runOf c base ram (Call.Load va (bytesIn w))
   unfolding loadEnds runOf
   load-run et =
       let l = placed-is Read et in
@@ -142,7 +143,8 @@ module _ (c : Core) (base : ℕ) (ram : List ℕ) (va : ℕ) (w : Width) (near :
   unfolding storeEnds runOf ramOf
   store-run v et =
       let l = placed-is Write et in
-      let q = store-parts c base ram va (bytesIn w) v (placedOne va a) d (sym (ap (λ (x : Accessed). x .placed) l)) (sym (ap (λ (x : Accessed). x .core) l)) in (
+      let q = store-parts c base ram va (bytesIn w) v (placedOne va a) d (sym (ap (λ (x : Accessed). x .placed) l))
+      (sym (ap (λ (x : Accessed). x .core) l)) in (
         (λ i. ends (q .1 .1 i) (storing (q .0 i))) ∙ sym (ap (λ (s : Sized). storeBy s c base ram va) (width-of w)),
         q .1 .0 ∙ sym (ap (λ (s : Sized). storeRamBy s c base ram va v) (width-of w)),
       )
@@ -153,28 +155,35 @@ ram-at base ram n pa v = refl
 
 -- by its hint
 module _ (ws : List ℕ) (base : ℕ) (ram : List ℕ) (va : ℕ) (w : Width) (near : bytesIn w ≤ inPage va) (p : HintAnswer) (pa : ℕ) (e : p ≡ Hinted pa) where
-  pub hint-load : (n old v : ℕ) (xs : List ℕ) → p ≡ hintFound (coreOf ws) va Read → Tells (loadEnds (coreOf ws) (At (Whole pa)) base ram va (bytesIn w)) ws n old v xs
+  pub hint-load : (n old v : ℕ) (xs : List ℕ) → p ≡ hintFound (coreOf ws) va Read
+      → Tells (loadEnds (coreOf ws) (At (Whole pa)) base ram va (bytesIn w)) ws n old v xs
       → Tells (runOf (coreOf ws) base ram (Call.Load va (bytesIn w))) ws n old v xs
-  hint-load n old v xs ep t = tells-as (load-run (coreOf ws) base ram va w near (coreOf ws) (Address pa) (hint-serves (coreOf ws) (wordAt base ram 8) va Read pa (sym ep ∙ e))) t
+  hint-load n old v xs ep t = tells-as (load-run (coreOf ws) base ram va w near (coreOf ws) (Address pa)
+      (hint-serves (coreOf ws) (wordAt base ram 8) va Read pa (sym ep ∙ e))) t
 
   hint-store-run : (x : ℕ) → p ≡ hintFound (coreOf ws) va Write
       → (storeEnds (coreOf ws) (At (Whole pa)) base ram va (bytesIn w) ≡ runOf (coreOf ws) base ram (Call.Store va (bytesIn w) x))
       × (storeRamEnd (At (Whole pa)) base ram (bytesIn w) x ≡ ramOf (coreOf ws) base ram (Call.Store va (bytesIn w) x))
-  hint-store-run x ep = store-run (coreOf ws) base ram va w near (coreOf ws) (Address pa) x (hint-serves (coreOf ws) (wordAt base ram 8) va Write pa (sym ep ∙ e))
+  hint-store-run x ep = store-run (coreOf ws) base ram va w near (coreOf ws) (Address pa) x
+      (hint-serves (coreOf ws) (wordAt base ram 8) va Write pa (sym ep ∙ e))
 
-  pub hint-store : (x n old v : ℕ) (xs : List ℕ) → p ≡ hintFound (coreOf ws) va Write → Tells (storeEnds (coreOf ws) (At (Whole pa)) base ram va (bytesIn w)) ws n old v xs
+  pub hint-store : (x n old v : ℕ) (xs : List ℕ) → p ≡ hintFound (coreOf ws) va Write
+      → Tells (storeEnds (coreOf ws) (At (Whole pa)) base ram va (bytesIn w)) ws n old v xs
       → Tells (runOf (coreOf ws) base ram (Call.Store va (bytesIn w) x)) ws n old v xs
   hint-store x n old v xs ep t = tells-as (hint-store-run x ep .0) t
 
-  pub hint-store-ram : (x : ℕ) (ys : List ℕ) → p ≡ hintFound (coreOf ws) va Write → ys ≡ stored base ram (bytesIn w) pa x → ys ≡ ramOf (coreOf ws) base ram (Call.Store va (bytesIn w) x)
+  pub hint-store-ram : (x : ℕ) (ys : List ℕ) → p ≡ hintFound (coreOf ws) va Write → ys ≡ stored base ram (bytesIn w) pa x → ys
+      ≡ ramOf (coreOf ws) base ram (Call.Store va (bytesIn w) x)
   hint-store-ram x ys ep q = q ∙ ram-at base ram (bytesIn w) pa x ∙ hint-store-run x ep .1
 
 -- by its translation
-load-fault : (d : Core) (base : ℕ) (ram : List ℕ) (va n : ℕ) (f : Status1) (old : ℕ) (ws xs : List ℕ) → NowHolds ws xs d → Tells (loadEnds d (Fault va f) base ram va n) ws (256 + f .fsc) old va xs
+load-fault : (d : Core) (base : ℕ) (ram : List ℕ) (va n : ℕ) (f : Status1) (old : ℕ) (ws xs : List ℕ) → NowHolds ws xs d
+    → Tells (loadEnds d (Fault va f) base ram va n) ws (256 + f .fsc) old va xs
 unfolding loadEnds loadEnd keptLast withLast withAbort afterAccess
 load-fault d base ram va n f old ws xs m = record { code = refl; value = refl; words = m; kept = record { same = λ l h. absurd (omega arith) } }
 
-store-fault : (d : Core) (base : ℕ) (ram : List ℕ) (va n : ℕ) (f : Status1) (old : ℕ) (ws xs : List ℕ) → NowHolds ws xs d → Tells (storeEnds d (Fault va f) base ram va n) ws (256 + f .fsc) old va xs
+store-fault : (d : Core) (base : ℕ) (ram : List ℕ) (va n : ℕ) (f : Status1) (old : ℕ) (ws xs : List ℕ) → NowHolds ws xs d
+    → Tells (storeEnds d (Fault va f) base ram va n) ws (256 + f .fsc) old va xs
 unfolding storeEnds storeEnd keptAbort withAbort afterAccess
 store-fault d base ram va n f old ws xs m = record { code = refl; value = refl; words = m; kept = record { same = λ l h. absurd (omega arith) } }
 
@@ -193,18 +202,21 @@ module _ (ws xs : List ℕ) (base : ℕ) (ram : List ℕ) (va : ℕ) (w : Width)
     pub load-fault-tells : (old : ℕ) → (code ≡ 0 → ⊥) → Tells (runOf (coreOf ws) base ram (Call.Load va (bytesIn w))) ws code old va xs
     load-fault-tells old n = go (foundTo (coreOf ws) (wordAt base ram 8) va Read .answer) refl
       where
-        go : (a : Answer) → foundTo (coreOf ws) (wordAt base ram 8) va Read .answer ≡ a → Tells (runOf (coreOf ws) base ram (Call.Load va (bytesIn w))) ws code old va xs
+        go : (a : Answer) → foundTo (coreOf ws) (wordAt base ram 8) va Read .answer ≡ a
+            → Tells (runOf (coreOf ws) base ram (Call.Load va (bytesIn w))) ws code old va xs
         go (Address pa) e = absurd (n (ec ∙ ap codeOf e))
         go (Status fsc) e =
             tells-as (load-run (coreOf ws) base ram va w near (coreOf xs) (Status fsc) (found-is Read miss (Status fsc) e m))
             (rw (ec ∙ ap codeOf e) (load-fault (coreOf xs) base ram va (bytesIn w) fsc old ws xs (record { long = m .long; holds = refl })))
 
     pub load-page-tells : (pa before n old v : ℕ) (ys : List ℕ) → code ≡ 0 → pa ≡ valueOf (foundTo (coreOf ws) (wordAt base ram 8) va Read .answer) before
-        → Tells (loadEnds (coreOf xs) (At (Whole pa)) base ram va (bytesIn w)) xs n old v ys → Tells (runOf (coreOf ws) base ram (Call.Load va (bytesIn w))) ws n old v ys
+        → Tells (loadEnds (coreOf xs) (At (Whole pa)) base ram va (bytesIn w)) xs n old v ys
+        → Tells (runOf (coreOf ws) base ram (Call.Load va (bytesIn w))) ws n old v ys
     load-page-tells pa before n old v ys z ep t =
         let e = code-at (foundTo (coreOf ws) (wordAt base ram 8) va Read .answer) code pa before ec z ep in
         tells-as (load-run (coreOf ws) base ram va w near (coreOf xs) (Address pa) (found-is Read miss (Address pa) e m))
-        (tells-after m t (kept-late ws ys (loadEnds (coreOf xs) (At (Whole pa)) base ram va (bytesIn w) .reply) n (t .code) (load-ends-late (coreOf xs) (At (Whole pa)) base ram va (bytesIn w))))
+        (tells-after m t (kept-late ws ys (loadEnds (coreOf xs) (At (Whole pa)) base ram va (bytesIn w) .reply) n (t .code)
+        (load-ends-late (coreOf xs) (At (Whole pa)) base ram va (bytesIn w))))
 
   module _ (x : ℕ) (miss : hintFound (coreOf ws) va Write ≡ Unknown) (ec : code ≡ codeOf (foundTo (coreOf ws) (wordAt base ram 8) va Write .answer))
       (m : NowHolds ws xs (foundTo (coreOf ws) (wordAt base ram 8) va Write .core)) where
@@ -214,7 +226,8 @@ module _ (ws xs : List ℕ) (base : ℕ) (ram : List ℕ) (va : ℕ) (w : Width)
     faults : (code ≡ 0 → ⊥) → (old : ℕ) → Tells call ws code old va xs × (ram ≡ ramOf (coreOf ws) base ram (Call.Store va (bytesIn w) x))
     faults n old = go (foundTo (coreOf ws) (wordAt base ram 8) va Write .answer) refl
       where
-        go : (a : Answer) → foundTo (coreOf ws) (wordAt base ram 8) va Write .answer ≡ a → Tells call ws code old va xs × (ram ≡ ramOf (coreOf ws) base ram (Call.Store va (bytesIn w) x))
+        go : (a : Answer) → foundTo (coreOf ws) (wordAt base ram 8) va Write .answer ≡ a → Tells call ws code old va xs
+            × (ram ≡ ramOf (coreOf ws) base ram (Call.Store va (bytesIn w) x))
         go (Address pa) e = absurd (n (ec ∙ ap codeOf e))
         go (Status fsc) e =
             let r = store-run (coreOf ws) base ram va w near (coreOf xs) (Status fsc) x (found-is Write miss (Status fsc) e m) in (
@@ -229,15 +242,18 @@ module _ (ws xs : List ℕ) (base : ℕ) (ram : List ℕ) (va : ℕ) (w : Width)
     store-fault-ram n = faults n 0 .1
 
     module _ (pa before : ℕ) (z : code ≡ 0) (ep : pa ≡ valueOf (foundTo (coreOf ws) (wordAt base ram 8) va Write .answer) before) where
-      made : (storeEnds (coreOf xs) (At (Whole pa)) base ram va (bytesIn w) ≡ call) × (storeRamEnd (At (Whole pa)) base ram (bytesIn w) x ≡ ramOf (coreOf ws) base ram (Call.Store va (bytesIn w) x))
+      made : (storeEnds (coreOf xs) (At (Whole pa)) base ram va (bytesIn w) ≡ call)
+          × (storeRamEnd (At (Whole pa)) base ram (bytesIn w) x ≡ ramOf (coreOf ws) base ram (Call.Store va (bytesIn w) x))
       made =
           store-run (coreOf ws) base ram va w near (coreOf xs) (Address pa) x
           (found-is Write miss (Address pa) (code-at (foundTo (coreOf ws) (wordAt base ram 8) va Write .answer) code pa before ec z ep) m)
 
-      pub store-page-tells : (n old v : ℕ) (ys : List ℕ) → Tells (storeEnds (coreOf xs) (At (Whole pa)) base ram va (bytesIn w)) xs n old v ys → Tells call ws n old v ys
+      pub store-page-tells : (n old v : ℕ) (ys : List ℕ) → Tells (storeEnds (coreOf xs) (At (Whole pa)) base ram va (bytesIn w)) xs n old v ys
+          → Tells call ws n old v ys
       store-page-tells n old v ys t =
           tells-as (made .0)
-          (tells-after m t (kept-late ws ys (storeEnds (coreOf xs) (At (Whole pa)) base ram va (bytesIn w) .reply) n (t .code) (store-ends-late (coreOf xs) (At (Whole pa)) base ram va (bytesIn w))))
+          (tells-after m t (kept-late ws ys (storeEnds (coreOf xs) (At (Whole pa)) base ram va (bytesIn w) .reply) n (t .code)
+          (store-ends-late (coreOf xs) (At (Whole pa)) base ram va (bytesIn w))))
 
       pub store-page-ram : (ys : List ℕ) → ys ≡ stored base ram (bytesIn w) pa x → ys ≡ ramOf (coreOf ws) base ram (Call.Store va (bytesIn w) x)
       store-page-ram ys q = q ∙ ram-at base ram (bytesIn w) pa x ∙ made .1
@@ -250,7 +266,8 @@ module _ (ws xs : List ℕ) (base : ℕ) (ram part : List ℕ) (va : ℕ) (w : W
   part-fault-tells n = load-fault-tells ws xs base ram va w near code miss (rw e at ec) (rw e at m) old n
 
   pub part-page-tells : (pa before n v : ℕ) (ys : List ℕ) → code ≡ 0 → pa ≡ valueOf (foundTo (coreOf ws) (wordAt base part 8) va Read .answer) before
-      → Tells (loadEnds (coreOf xs) (At (Whole pa)) base ram va (bytesIn w)) xs n old v ys → Tells (runOf (coreOf ws) base ram (Call.Load va (bytesIn w))) ws n old v ys
+      → Tells (loadEnds (coreOf xs) (At (Whole pa)) base ram va (bytesIn w)) xs n old v ys
+      → Tells (runOf (coreOf ws) base ram (Call.Load va (bytesIn w))) ws n old v ys
   part-page-tells pa before n v ys z ep t = load-page-tells ws xs base ram va w near code miss (rw e at ec) (rw e at m) pa before n old v ys z (rw e at ep) t
 
 -- THAT MAY TAKE TWO
@@ -258,7 +275,8 @@ module _ (ws xs : List ℕ) (base : ℕ) (ram part : List ℕ) (va : ℕ) (w : W
 module _ (ws xs : List ℕ) (base : ℕ) (ram : List ℕ) (va : ℕ) (w : Width) (n old v : ℕ) where
   read-late : unmoved (loading (readOf (coreOf ws) base ram va (bytesIn w) .answer)) ≡ false
   unfolding readOf
-  read-late = load-late (locatedNow (coreOf ws) (wordAt base ram 8) va (bytesIn w) Read .placed) (coreOf ws .«last_pa») (coreOf ws .«abort_pa») base ram va (bytesIn w)
+  read-late = load-late (locatedNow (coreOf ws) (wordAt base ram 8) va (bytesIn w) Read .placed) (coreOf ws .«last_pa») (coreOf ws .«abort_pa») base ram va
+      (bytesIn w)
 
   pub read-tells : (a : LoadAnswer) → a ≡ readOf (coreOf ws) base ram va (bytesIn w) .answer → n ≡ codeBy (loading a) → v ≡ valueBy (loading a) old
       → NowHolds ws xs (readOf (coreOf ws) base ram va (bytesIn w) .core) → Tells (runOf (coreOf ws) base ram (Call.Load va (bytesIn w))) ws n old v xs
@@ -297,10 +315,12 @@ write-ram ws base ram va w x ys e = e ∙ sym (ap (λ (s : Sized). storeRamBy s 
 
 module _ (ws : List ℕ) (base : ℕ) (ram : List ℕ) (va size : ℕ) where
   module _ (n : ℕ) (e : size ≡ n) where
-    pub size-load : (k old v : ℕ) (xs : List ℕ) → Tells (runOf (coreOf ws) base ram (Call.Load va n)) ws k old v xs → Tells (runOf (coreOf ws) base ram (Call.Load va size)) ws k old v xs
+    pub size-load : (k old v : ℕ) (xs : List ℕ) → Tells (runOf (coreOf ws) base ram (Call.Load va n)) ws k old v xs
+        → Tells (runOf (coreOf ws) base ram (Call.Load va size)) ws k old v xs
     size-load k old v xs t = rw e t
 
-    pub size-store : (x k old v : ℕ) (xs : List ℕ) → Tells (runOf (coreOf ws) base ram (Call.Store va n x)) ws k old v xs → Tells (runOf (coreOf ws) base ram (Call.Store va size x)) ws k old v xs
+    pub size-store : (x k old v : ℕ) (xs : List ℕ) → Tells (runOf (coreOf ws) base ram (Call.Store va n x)) ws k old v xs
+        → Tells (runOf (coreOf ws) base ram (Call.Store va size x)) ws k old v xs
     size-store x k old v xs t = rw e t
 
     pub size-store-ram : (x : ℕ) (ys : List ℕ) → ys ≡ ramOf (coreOf ws) base ram (Call.Store va n x) → ys ≡ ramOf (coreOf ws) base ram (Call.Store va size x)
@@ -333,13 +353,16 @@ module _ (ws : List ℕ) (base : ℕ) (ram : List ℕ) (va size : ℕ) where
       counts : size ≡ bytesIn w
       counts = sym (size-is size w (sym es ∙ e))
 
-      pub sized-load : (k old v : ℕ) (xs : List ℕ) → Tells (runOf (coreOf ws) base ram (Call.Load va (bytesIn w))) ws k old v xs → Tells (runOf (coreOf ws) base ram (Call.Load va size)) ws k old v xs
+      pub sized-load : (k old v : ℕ) (xs : List ℕ) → Tells (runOf (coreOf ws) base ram (Call.Load va (bytesIn w))) ws k old v xs
+          → Tells (runOf (coreOf ws) base ram (Call.Load va size)) ws k old v xs
       sized-load = size-load (bytesIn w) counts
 
-      pub sized-store : (x k old v : ℕ) (xs : List ℕ) → Tells (runOf (coreOf ws) base ram (Call.Store va (bytesIn w) x)) ws k old v xs → Tells (runOf (coreOf ws) base ram (Call.Store va size x)) ws k old v xs
+      pub sized-store : (x k old v : ℕ) (xs : List ℕ) → Tells (runOf (coreOf ws) base ram (Call.Store va (bytesIn w) x)) ws k old v xs
+          → Tells (runOf (coreOf ws) base ram (Call.Store va size x)) ws k old v xs
       sized-store = size-store (bytesIn w) counts
 
-      pub sized-store-ram : (x : ℕ) (ys : List ℕ) → ys ≡ ramOf (coreOf ws) base ram (Call.Store va (bytesIn w) x) → ys ≡ ramOf (coreOf ws) base ram (Call.Store va size x)
+      pub sized-store-ram : (x : ℕ) (ys : List ℕ) → ys ≡ ramOf (coreOf ws) base ram (Call.Store va (bytesIn w) x) → ys
+          ≡ ramOf (coreOf ws) base ram (Call.Store va size x)
       sized-store-ram = size-store-ram (bytesIn w) counts
 
       pub near-width : (k : ℕ) → k ≡ inPage va → size ≤ k → bytesIn w ≤ inPage va
@@ -362,18 +385,22 @@ module _ (ws : List ℕ) (base : ℕ) (ram : List ℕ) (va size k pa : ℕ) (p :
       go (Bytes x) es =
           let lies : w ≡ wordAt base ram (bytesIn x) pa = ew ∙ ap (λ (s : Sized). sizedIn s base ram pa) es in
           sized-load ws base ram va size (widthOf size) refl x es 0 old v xs
-          (hint-load ws base ram va x (near-width ws base ram va size (widthOf size) refl x es k ek near) p pa q 0 old v xs ep (at-value ws base ram va (bytesIn x) pa old w lies v xs e m))
+          (hint-load ws base ram va x (near-width ws base ram va size (widthOf size) refl x es k ek near) p pa q 0 old v xs ep
+          (at-value ws base ram va (bytesIn x) pa old w lies v xs e m))
       go NoWidth es = absurd (outside-bits v (sym (ew ∙ ap (λ (s : Sized). sizedIn s base ram pa) es) ∙ e))
 
   module _ (made : Bool) (x : ℕ) (ep : p ≡ hintFound (coreOf ws) va Write) (em : made ≡ sizedMade base ram size pa) (t : made ≡ true) where
-    quick-both : (old : ℕ) → Tells (runOf (coreOf ws) base ram (Call.Store va size x)) ws 0 old old ws × (sizedRam base ram size pa x ≡ ramOf (coreOf ws) base ram (Call.Store va size x))
+    quick-both : (old : ℕ) → Tells (runOf (coreOf ws) base ram (Call.Store va size x)) ws 0 old old ws
+        × (sizedRam base ram size pa x ≡ ramOf (coreOf ws) base ram (Call.Store va size x))
     quick-both old = go (widthOf size) refl
       where
-        go : (s : Sized) → widthOf size ≡ s → Tells (runOf (coreOf ws) base ram (Call.Store va size x)) ws 0 old old ws × (sizedRam base ram size pa x ≡ ramOf (coreOf ws) base ram (Call.Store va size x))
+        go : (s : Sized) → widthOf size ≡ s → Tells (runOf (coreOf ws) base ram (Call.Store va size x)) ws 0 old old ws
+            × (sizedRam base ram size pa x ≡ ramOf (coreOf ws) base ram (Call.Store va size x))
         go (Bytes y) es =
             let lies : made ≡ within base (length ram) (bytesIn y) pa = em ∙ ap (λ (s : Sized). madeIn s base ram pa) es in
             let h = near-width ws base ram va size (widthOf size) refl y es k ek near in (
-              sized-store ws base ram va size (widthOf size) refl y es x 0 old old ws (hint-store ws base ram va y h p pa q x 0 old old ws ep (at-done ws base ram va (bytesIn y) pa old made lies t)),
+              sized-store ws base ram va size (widthOf size) refl y es x 0 old old ws
+                  (hint-store ws base ram va y h p pa q x 0 old old ws ep (at-done ws base ram va (bytesIn y) pa old made lies t)),
               ap (λ (s : Sized). ramIn s base ram pa x) es
                   ∙ sized-store-ram ws base ram va size (widthOf size) refl y es x _ (hint-store-ram ws base ram va y h p pa q x _ ep refl),
             )
@@ -394,7 +421,8 @@ module _ (ws : List ℕ) (base : ℕ) (ram : List ℕ) (va size x n old v : ℕ)
   pub same-ram : (zs : List ℕ) → zs ≡ ramAfter (coreOf ws) base ys (Call.Store va size x) → zs ≡ ramAfter (coreOf ws) base ram (Call.Store va size x)
   same-ram zs e = rw ey at e
 
-module _ (ws : List ℕ) (base : ℕ) (ram : List ℕ) (va size pa x n old v : ℕ) (made : Bool) (ys xs : List ℕ) (em : made ≡ sizedMade base ram size pa) (ef : made ≡ false)
+module _ (ws : List ℕ) (base : ℕ) (ram : List ℕ) (va size pa x n old v : ℕ) (made : Bool) (ys xs : List ℕ) (em : made ≡ sizedMade base ram size pa)
+    (ef : made ≡ false)
     (ey : ys ≡ sizedRam base ram size pa x) where
   pub unmade-gives : Gives (Known (Call.Store va size x)) base ys ws n old v xs → Gives (Known (Call.Store va size x)) base ram ws n old v xs
   unmade-gives = same-gives ws base ram va size x n old v ys xs (unmade-ram base ram size pa x made ys em ef ey)

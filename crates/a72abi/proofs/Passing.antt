@@ -13,9 +13,8 @@ use Rattle.word.specs.declared.ram.Sized.the-variants.{Bytes, Refused as NoWidt
 use Rattle.mmu.specs.declared.core.Core.{Core}
 use Rattle.operations.specs.Check.{ramRows, sizedRows, firstOf, missedOf, passes, isWidth, known}
 use Rattle.cpu.specs.Step.{runOf, ramOf, stepOf, ramAfter, ends, loadBy}
-use Rattle.operations.specs.declared.call.Call.{Call}
+use Rattle.operations.specs.declared.{call.Call.Call, call.Reply.Reply}
 use Rattle.operations.specs.declared.call.Call.the-variants as Call
-use Rattle.operations.specs.declared.call.Reply.{Reply}
 use Rattle.operations.specs.declared.call.Reply.the-variants.{Refused}
 use Rattle.cpu.specs.declared.run.Stepped.{Stepped}
 use Rattle.words.specs.CoreOf.{coreOf}
@@ -83,14 +82,17 @@ module _ (ws : List ℕ) (base len : ℕ) (b : Bool) (eb : b ≡ ltb (coreOf ws 
 pub clear-ram : (c : Core) (base len : ℕ) → len < 2 ^ 64 → Clear c base len → firstOf (ramRows (c .privilege .level) base len) ≡ 0
 clear-ram c base len h k = rw (k .low, fits-window base len h (k .short))
 
-pub clear-sized : (c : Core) (base len size : ℕ) → len < 2 ^ 64 → Clear c base len → known size ≡ true → firstOf (sizedRows (c .privilege .level) base len size) ≡ 0
+pub clear-sized : (c : Core) (base len size : ℕ) → len < 2 ^ 64 → Clear c base len → known size ≡ true
+    → firstOf (sizedRows (c .privilege .level) base len size) ≡ 0
 clear-sized c base len size h k s = rw (k .low, fits-window base len h (k .short), s)
 
-pub passed : (c : Core) (base : ℕ) (ram : List ℕ) (call : Call) → missedOf (c .privilege .level) base (length ram) call ≡ 0 → stepOf c base ram call ≡ runOf c base ram call
+pub passed : (c : Core) (base : ℕ) (ram : List ℕ) (call : Call) → missedOf (c .privilege .level) base (length ram) call ≡ 0 → stepOf c base ram call
+    ≡ runOf c base ram call
 unfolding stepOf
 passed c base ram call e = rw e
 
-pub passed-ram : (c : Core) (base : ℕ) (ram : List ℕ) (call : Call) → missedOf (c .privilege .level) base (length ram) call ≡ 0 → ramAfter c base ram call ≡ ramOf c base ram call
+pub passed-ram : (c : Core) (base : ℕ) (ram : List ℕ) (call : Call) → missedOf (c .privilege .level) base (length ram) call ≡ 0 → ramAfter c base ram call
+    ≡ ramOf c base ram call
 unfolding ramAfter
 passed-ram c base ram call e = rw e
 
@@ -100,18 +102,21 @@ module _ (ws : List ℕ) (base : ℕ) (ram : List ℕ) (call : Call)
   pub ram-high : (old : ℕ) → ltb 3 (coreOf ws .privilege .level) ≡ true → Gives (Known call) base ram ws 1 old old ws
   ram-high old h = refused-gives ws base ram call 1 (sym (em ∙ rw h)) old (λ e. omega arith)
 
-  pub ram-clear : (k old v : ℕ) (xs : List ℕ) → length ram < 2 ^ 64 → Clear (coreOf ws) base (length ram) → Tells (runOf (coreOf ws) base ram call) ws k old v xs
+  pub ram-clear : (k old v : ℕ) (xs : List ℕ) → length ram < 2 ^ 64 → Clear (coreOf ws) base (length ram)
+      → Tells (runOf (coreOf ws) base ram call) ws k old v xs
       → Gives (Known call) base ram ws k old v xs
   ram-clear k old v xs h c t = gives call (tells-as (sym (passed (coreOf ws) base ram call (em ∙ clear-ram (coreOf ws) base (length ram) h c))) t)
 
 -- a load or store: a size that is none is refused either way
 module _ (c : Core) (base : ℕ) (ram : List ℕ) (va size : ℕ) (h : length ram < 2 ^ 64) (k : Clear c base (length ram)) where
-  no-size : (call : Call) → missedOf (c .privilege .level) base (length ram) call ≡ firstOf (sizedRows (c .privilege .level) base (length ram) size) → known size ≡ false
+  no-size : (call : Call) → missedOf (c .privilege .level) base (length ram) call ≡ firstOf (sizedRows (c .privilege .level) base (length ram) size)
+      → known size ≡ false
       → stepOf c base ram call ≡ ends c (Refused 3)
   unfolding stepOf
   no-size call e f = rw (e, k .low, fits-window base (length ram) h (k .short), f)
 
-  no-size-ram : (call : Call) → missedOf (c .privilege .level) base (length ram) call ≡ firstOf (sizedRows (c .privilege .level) base (length ram) size) → known size ≡ false
+  no-size-ram : (call : Call) → missedOf (c .privilege .level) base (length ram) call ≡ firstOf (sizedRows (c .privilege .level) base (length ram) size)
+      → known size ≡ false
       → ramAfter c base ram call ≡ ram
   unfolding ramAfter
   no-size-ram call e f = rw (e, k .low, fits-window base (length ram) h (k .short), f)
@@ -124,12 +129,14 @@ module _ (c : Core) (base : ℕ) (ram : List ℕ) (va size : ℕ) (h : length ra
       go (Bytes w) e = passed c base ram (Call.Load va size) (clear-sized c base (length ram) size h k (ap isWidth e))
       go NoWidth e = no-size (Call.Load va size) refl (ap isWidth e) ∙ sym (ap (λ (s : Sized). loadBy s c base ram va) e)
 
-  store-clear : (v : ℕ) → (stepOf c base ram (Call.Store va size v) ≡ runOf c base ram (Call.Store va size v)) × (ramAfter c base ram (Call.Store va size v) ≡ ramOf c base ram (Call.Store va size v))
+  store-clear : (v : ℕ) → (stepOf c base ram (Call.Store va size v) ≡ runOf c base ram (Call.Store va size v))
+      × (ramAfter c base ram (Call.Store va size v) ≡ ramOf c base ram (Call.Store va size v))
   unfolding runOf ramOf missedOf
   store-clear v = go (widthOf size) refl
     where
       go : (s : Sized) → widthOf size ≡ s
-          → (stepOf c base ram (Call.Store va size v) ≡ runOf c base ram (Call.Store va size v)) × (ramAfter c base ram (Call.Store va size v) ≡ ramOf c base ram (Call.Store va size v))
+          → (stepOf c base ram (Call.Store va size v) ≡ runOf c base ram (Call.Store va size v))
+          × (ramAfter c base ram (Call.Store va size v) ≡ ramOf c base ram (Call.Store va size v))
       go (Bytes w) e =
           let z = clear-sized c base (length ram) size h k (ap isWidth e) in
           (passed c base ram (Call.Store va size v) z, passed-ram c base ram (Call.Store va size v) z)
@@ -149,12 +156,14 @@ module _ (ws : List ℕ) (base : ℕ) (ram : List ℕ) (va size : ℕ) where
   store-high-ram v h = sym (rw h)
 
   module _ (h : length ram < 2 ^ 64) (c : Clear (coreOf ws) base (length ram)) where
-    pub load-gives : (k old v : ℕ) (xs : List ℕ) → Tells (runOf (coreOf ws) base ram (Call.Load va size)) ws k old v xs → Gives (Known (Call.Load va size)) base ram ws k old v xs
+    pub load-gives : (k old v : ℕ) (xs : List ℕ) → Tells (runOf (coreOf ws) base ram (Call.Load va size)) ws k old v xs
+        → Gives (Known (Call.Load va size)) base ram ws k old v xs
     load-gives k old v xs t = gives (Call.Load va size) (tells-as (sym (load-clear (coreOf ws) base ram va size h c)) t)
 
     pub store-gives : (x k old v : ℕ) (xs : List ℕ) → Tells (runOf (coreOf ws) base ram (Call.Store va size x)) ws k old v xs
         → Gives (Known (Call.Store va size x)) base ram ws k old v xs
     store-gives x k old v xs t = gives (Call.Store va size x) (tells-as (sym (store-clear (coreOf ws) base ram va size h c x .0)) t)
 
-    pub store-clear-ram : (x : ℕ) (ys : List ℕ) → ys ≡ ramOf (coreOf ws) base ram (Call.Store va size x) → ys ≡ ramAfter (coreOf ws) base ram (Call.Store va size x)
+    pub store-clear-ram : (x : ℕ) (ys : List ℕ) → ys ≡ ramOf (coreOf ws) base ram (Call.Store va size x) → ys
+        ≡ ramAfter (coreOf ws) base ram (Call.Store va size x)
     store-clear-ram x ys e = e ∙ sym (store-clear (coreOf ws) base ram va size h c x .1)

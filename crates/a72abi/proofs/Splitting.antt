@@ -1,45 +1,32 @@
 -- Loads and stores over two pages whose hints serve are what the call says, on plain values, for `search`.
 use mathlib.Core.Path.{_≡_, refl, sym, ap, subst, _∙_}
-use mathlib.Core.Bool.{Bool, true, false, _&&_}
+use mathlib.Core.Bool.{Bool, true, false}
 use mathlib.Core.List.{List}
-use Prim.Native.Nat.{ℕ, _+_, _-_, _%_, _^_, _≤_, _<_}
-use native.Mathlib.Nat.{mod-lt}
-use native.Mathlib.Omega.{arith}
-use borrow.Author.Tests.{lt-ltb, le-ltb, ltb-true}
-use lib.Dec.{ltb}
+use Prim.Native.Nat.{ℕ, _^_, _<_}
 use lib.ListN.{length}
 use Rattle.word.specs.Bits.{pick}
 use Rattle.word.specs.Ram.{wordAt, bytesIn, widthOf}
-use Rattle.word.specs.declared.ram.Sized.{Sized}
+use Rattle.word.specs.declared.{ram.Sized.Sized, ram.Word.Word}
 use Rattle.word.specs.declared.ram.Sized.the-variants.{Bytes, Refused as NoWidth}
-use Rattle.word.specs.declared.ram.Word.{Word}
 use Rattle.word.specs.declared.ram.Word.the-variants as Word
-use Rattle.walk.specs.Regime.{regimeOf, stage1On}
-use Rattle.tlb.specs.declared.access.Kind.{Kind}
+use Rattle.tlb.specs.declared.{access.Kind.Kind, hint.HintAnswer.HintAnswer}
 use Rattle.tlb.specs.declared.access.Kind.the-variants.{Read, Write}
 use Rattle.tlb.specs.declared.access.Answer.the-variants.{Address}
-use Rattle.tlb.specs.declared.access.Privilege.{Privilege}
-use Rattle.tlb.specs.declared.hint.HintAnswer.{HintAnswer}
 use Rattle.tlb.specs.declared.hint.HintAnswer.the-variants.{At, Unknown}
-use Rattle.mmu.specs.Core.{bankNow}
-use Rattle.operations.specs.Place.{inPage, nextPage, crosses, goesOn, placedBoth, firstPa, verdictOf as judged}
+use Rattle.operations.specs.Place.{nextPage, goesOn, placedBoth, firstPa, verdictOf as judged}
 use Rattle.operations.specs.Bytes.{loadOf, storeRam}
-use Rattle.operations.specs.AtOnce.{bothInside, bothAt, bothStored, pairAt}
+use Rattle.operations.specs.AtOnce.{bothInside, bothAt, bothStored}
 use Rattle.operations.specs.Ends.{loadEnd, storeEnd, storeRamEnd}
 use Rattle.mmu.specs.Ops.{translateOf, translateAccessOf, readOf, writeOf, ramAfterWrite}
 use Rattle.operations.proofs.Both.{both-loads, both-judged, both-stores}
-use Rattle.mmu.specs.declared.core.Core.{Core}
-use Rattle.operations.specs.declared.place.Place.{Place}
+use Rattle.mmu.specs.declared.{core.Core.Core, ops.Accessed.Accessed, ops.Translated.Translated}
+use Rattle.operations.specs.declared.{place.Place.Place, ends.LoadEnd.LoadEnd, ends.StoreEnd.StoreEnd}
 use Rattle.operations.specs.declared.place.Place.the-variants.{Split as Parts}
 use Rattle.operations.specs.declared.place.Placed.the-variants as Placed
 use Rattle.operations.specs.declared.place.Verdict.the-variants.{Inside}
 use Rattle.operations.specs.declared.bytes.Got.the-variants as Got
-use Rattle.operations.specs.declared.ends.LoadEnd.{LoadEnd}
-use Rattle.operations.specs.declared.ends.StoreEnd.{StoreEnd}
 use Rattle.operations.specs.declared.ends.LoadAnswer.the-variants as Load
 use Rattle.operations.specs.declared.ends.StoreAnswer.the-variants as Store
-use Rattle.mmu.specs.declared.ops.Accessed.{Accessed}
-use Rattle.mmu.specs.declared.ops.Translated.{Translated}
 use Rattle.operations.specs.Check.{isWidth, known}
 use Rattle.operations.specs.Replies.{loading, storing}
 use Rattle.cpu.specs.Step.{stepOf, ramAfter, ends}
@@ -63,160 +50,7 @@ use Rattle.a72abi.proofs.OnePage.{same-gives, same-ram}
 use Rattle.a72abi.specs.Kept.{kept-done}
 use Rattle.a72abi.specs.Promise.{Gives}
 use Rattle.call_words.specs.declared.op.DecodedCall.the-variants.{Known}
-
--- THE TESTS OF THE CODE
-
-pub clear-is : (c : Core) (base len : ℕ) → clearOf c base len ≡ true → Clear c base len
-unfolding clearOf
-clear-is c base len = go (ltb 3 (c .privilege .level)) refl (ltb (2 ^ 64 - 1 - len) base) refl
-  where
-    go : (x : Bool) → ltb 3 (c .privilege .level) ≡ x → (y : Bool) → ltb (2 ^ 64 - 1 - len) base ≡ y → pick x false (pick y false true) ≡ true → Clear c base len
-    go true ex y ey e = absurd (false-true e)
-    go false ex true ey e = absurd (false-true e)
-    go false ex false ey e = record { low = ex; short = ey }
-
-module _ (ws : List ℕ) (base len : ℕ) (privilege : Privilege) (ew : privilege ≡ coreOf ws .privilege) where
-  pub clear-high : 3 < privilege .level → false ≡ clearOf (coreOf ws) base len
-  unfolding clearOf
-  clear-high h = sym (rw (ap (λ (w : Privilege). ltb 3 (w .level)) (sym ew) ∙ lt-ltb 3 (privilege .level) h))
-
-  module _ (lo : privilege .level ≤ 3) where
-    clear-low : ltb 3 (coreOf ws .privilege .level) ≡ false
-    clear-low = ap (λ (w : Privilege). ltb 3 (w .level)) (sym ew) ∙ le-ltb 3 (privilege .level) lo
-
-    pub clear-past : 2 ^ 64 - 1 - len < base → false ≡ clearOf (coreOf ws) base len
-    unfolding clearOf
-    clear-past h = sym (rw (clear-low, lt-ltb (2 ^ 64 - 1 - len) base h))
-
-    pub clear-both : base ≤ 2 ^ 64 - 1 - len → true ≡ clearOf (coreOf ws) base len
-    unfolding clearOf
-    clear-both h = sym (rw (clear-low, le-ltb (2 ^ 64 - 1 - len) base h))
-
-abbrev twoPages : Core → ℕ → ℕ → Bool
-twoPages c va n = crosses (stage1On (bankNow c) (regimeOf (c .privilege .level))) va n
-
--- two pages, and level and window at once
-module _ (c : Core) (base len va n : ℕ) (b : Bool) (eb : b ≡ clearOf c base len) where
-  pub apart-not : b ≡ false → false ≡ apartOf c base len va n
-  unfolding apartOf
-  apart-not f = sym (rw (← eb, f))
-
-  pub apart-is : (on r : Bool) → b ≡ true → on ≡ stage1On (bankNow c) (regimeOf (c .privilege .level)) → r ≡ crosses on va n → r ≡ apartOf c base len va n
-  unfolding apartOf
-  apart-is on r t eo er = er ∙ ap (λ (x : Bool). crosses x va n) eo ∙ sym (rw (← eb, t))
-
--- the second page's hint
-module _ (c : Core) (base : ℕ) (ram : List ℕ) (va n pa next : ℕ) (p : HintAnswer) (en : next ≡ nextPage va) where
-  module _ (ep : p ≡ hintFound c next Read) where
-    next-read : hintFound c (nextPage va) Read ≡ p
-    next-read = sym (ep ∙ ap (λ (x : ℕ). hintFound c x Read) en)
-
-    pub read-unknown : p ≡ Unknown → Split.Unknown ≡ loadBoth true (At pa) (hintFound c (nextPage va) Read) va base ram n
-    unfolding loadBoth
-    read-unknown e = sym (rw (next-read ∙ e))
-
-    module _ (pa2 k : ℕ) (w : Word) (e : p ≡ At pa2) (ek : k ≡ inPage va) (ew : w ≡ bothAt base ram (record { «in_page» = k; pa = pa; pa2 = pa2 }) n) where
-      both-word : w ≡ bothAt base ram (pagesAt va pa pa2) n
-      both-word = ew ∙ ap (λ (m : ℕ). bothAt base ram (record { «in_page» = m; pa = pa; pa2 = pa2 }) n) ek
-
-      read-is : valueFrom pa w ≡ loadBoth true (At pa) (hintFound c (nextPage va) Read) va base ram n
-      unfolding loadBoth
-      read-is = rw (next-read ∙ e, both-word)
-
-      pub read-value : (v : ℕ) → w ≡ Word.Value v → Split.Value pa v ≡ loadBoth true (At pa) (hintFound c (nextPage va) Read) va base ram n
-      read-value v q = ap (valueFrom pa) (sym q) ∙ read-is
-
-      pub read-outside : w ≡ Word.Outside → Split.Unknown ≡ loadBoth true (At pa) (hintFound c (nextPage va) Read) va base ram n
-      read-outside q = ap (valueFrom pa) (sym q) ∙ read-is
-
-  module _ (ep : p ≡ hintFound c next Write) where
-    next-write : hintFound c (nextPage va) Write ≡ p
-    next-write = sym (ep ∙ ap (λ (x : ℕ). hintFound c x Write) en)
-
-    pub write-unknown : p ≡ Unknown → false ≡ madeBoth true (At pa) (hintFound c (nextPage va) Write) va base ram n
-    unfolding madeBoth
-    write-unknown e = sym (rw (next-write ∙ e))
-
-    pub write-untouched : (v : ℕ) → p ≡ Unknown → ram ≡ ramBoth true (At pa) (hintFound c (nextPage va) Write) va base ram n v
-    unfolding ramBoth
-    write-untouched v e = sym (rw (next-write ∙ e))
-
-    module _ (pa2 k : ℕ) (e : p ≡ At pa2) (ek : k ≡ inPage va) where
-      pub write-made : (b : Bool) → b ≡ bothInside base (length ram) (record { «in_page» = k; pa = pa; pa2 = pa2 }) n
-          → b ≡ madeBoth true (At pa) (hintFound c (nextPage va) Write) va base ram n
-      unfolding madeBoth
-      write-made b q = rw (next-write ∙ e) (q ∙ ap (λ (m : ℕ). bothInside base (length ram) (record { «in_page» = m; pa = pa; pa2 = pa2 }) n) ek)
-
-      pub write-ram : (ys : List ℕ) (v : ℕ) → ys ≡ bothStored base ram (record { «in_page» = k; pa = pa; pa2 = pa2 }) n v
-          → ys ≡ ramBoth true (At pa) (hintFound c (nextPage va) Write) va base ram n v
-      unfolding ramBoth
-      write-ram ys v q = rw (next-write ∙ e) (q ∙ ap (λ (m : ℕ). bothStored base ram (record { «in_page» = m; pa = pa; pa2 = pa2 }) n v) ek)
-
-    -- of two bytes one lies in each page
-    module _ (pa2 : ℕ) (e : p ≡ At pa2) (two : n ≡ 2) (near : inPage va < n) where
-      one : 1 ≡ inPage va
-      one = let h : va % 4096 < 4096 = mod-lt va (omega arith) in omega (arith, two)
-
-      pub pair-made : (b : Bool) → b ≡ bothInside base (length ram) (pairAt pa pa2) 2
-          → b ≡ madeBoth true (At pa) (hintFound c (nextPage va) Write) va base ram n
-      pair-made b q = write-made pa2 1 e one b (q ∙ ap (bothInside base (length ram) (pairAt pa pa2)) (sym two))
-
-      pub pair-ram : (ys : List ℕ) (v : ℕ) → ys ≡ bothStored base ram (pairAt pa pa2) 2 v
-          → ys ≡ ramBoth true (At pa) (hintFound c (nextPage va) Write) va base ram n v
-      pair-ram ys v q = write-ram pa2 1 e one ys v (q ∙ ap (λ (m : ℕ). bothStored base ram (pairAt pa pa2) m v) (sym two))
-
--- the first page's
-module _ (c : Core) (base : ℕ) (ram : List ℕ) (va n : ℕ) (b : Bool) (eb : b ≡ apartOf c base (length ram) va n) where
-  apart-here : apartOf c base (length ram) va n ≡ b
-  apart-here = sym eb
-
-  pub apart-near : b ≡ true → inPage va < n
-  unfolding apartOf
-  apart-near t = go (clearOf c base (length ram)) (stage1On (bankNow c) (regimeOf (c .privilege .level))) (apart-here ∙ t)
-    where
-      go : (k on : Bool) → pick k (crosses on va n) false ≡ true → inPage va < n
-      go true true e = ltb-true (inPage va) n e
-      go true false e = absurd (false-true e)
-      go false on e = absurd (false-true e)
-
-  pub load-together : b ≡ false → Split.Unknown ≡ splitLoad c base ram va n
-  unfolding splitLoad loadBoth
-  load-together f = sym (rw (apart-here ∙ f))
-
-  pub store-together : b ≡ false → false ≡ splitMade c base ram va n
-  unfolding splitMade madeBoth
-  store-together f = sym (rw (apart-here ∙ f))
-
-  pub ram-together : (v : ℕ) → b ≡ false → ram ≡ splitRam c base ram va n v
-  unfolding splitRam ramBoth
-  ram-together v f = sym (rw (apart-here ∙ f))
-
-  module _ (t : b ≡ true) (p : HintAnswer) where
-    module _ (ep : p ≡ hintFound c va Read) where
-      pub load-unknown : p ≡ Unknown → Split.Unknown ≡ splitLoad c base ram va n
-      unfolding splitLoad loadBoth
-      load-unknown e = sym (rw (apart-here ∙ t, sym ep ∙ e))
-
-      pub load-on : (pa : ℕ) (s : Split) → p ≡ At pa → s ≡ loadBoth true (At pa) (hintFound c (nextPage va) Read) va base ram n → s ≡ splitLoad c base ram va n
-      unfolding splitLoad
-      load-on pa s e q = q ∙ sym (rw (apart-here ∙ t, sym ep ∙ e))
-
-    module _ (ep : p ≡ hintFound c va Write) where
-      pub store-unknown : p ≡ Unknown → false ≡ splitMade c base ram va n
-      unfolding splitMade madeBoth
-      store-unknown e = sym (rw (apart-here ∙ t, sym ep ∙ e))
-
-      pub ram-unknown : (v : ℕ) → p ≡ Unknown → ram ≡ splitRam c base ram va n v
-      unfolding splitRam ramBoth
-      ram-unknown v e = sym (rw (apart-here ∙ t, sym ep ∙ e))
-
-      pub store-on : (pa : ℕ) (s : Bool) → p ≡ At pa → s ≡ madeBoth true (At pa) (hintFound c (nextPage va) Write) va base ram n → s ≡ splitMade c base ram va n
-      unfolding splitMade
-      store-on pa s e q = q ∙ sym (rw (apart-here ∙ t, sym ep ∙ e))
-
-      pub ram-on : (pa v : ℕ) (ys : List ℕ) → p ≡ At pa → ys ≡ ramBoth true (At pa) (hintFound c (nextPage va) Write) va base ram n v → ys ≡ splitRam c base ram va n v
-      unfolding splitRam
-      ram-on pa v ys e q = q ∙ sym (rw (apart-here ∙ t, sym ep ∙ e))
+use Rattle.a72abi.proofs.Apart.{clear-is, twoPages}
 
 -- WHAT THE HINTS SAY
 
@@ -260,15 +94,20 @@ module _ (c : Core) (base : ℕ) (ram : List ℕ) (va n : ℕ) where
   unfolding splitLoad loadBoth
   load-says pa v = go (apartOf c base (length ram) va n) refl (hintFound c va Read) refl (hintFound c (nextPage va) Read) refl
     where
-      go : (b : Bool) → apartOf c base (length ram) va n ≡ b → (x : HintAnswer) → hintFound c va Read ≡ x → (y : HintAnswer) → hintFound c (nextPage va) Read ≡ y
-          → loadBoth b x y va base ram n ≡ Split.Value pa v → (s : Says c base (length ram) va n pa Read) × (bothAt base ram (pagesAt va pa (s .pa2)) n ≡ Word.Value v)
+      go : (b : Bool) → apartOf c base (length ram) va n ≡ b → (x : HintAnswer) → hintFound c va Read ≡ x → (y : HintAnswer) → hintFound c (nextPage va) Read
+          ≡ y
+          → loadBoth b x y va base ram n ≡ Split.Value pa v → (s : Says c base (length ram) va n pa Read)
+          × (bothAt base ram (pagesAt va pa (s .pa2)) n ≡ Word.Value v)
       go false eb x ex y ey e = absurd (unknown-value pa v e)
       go true eb Unknown ex y ey e = absurd (unknown-value pa v e)
       go true eb (At a) ex Unknown ey e = absurd (unknown-value pa v e)
       go true eb (At a) ex (At d) ey e =
           let p = apart-says c base (length ram) va n eb in
-          let q = value-says pa a v (bothAt base ram (pagesAt va a d) n) e in
-          (record { clear = p .0; two = p .1; pa2 = d; first = ex ∙ ap At (q .0); second = ey }, ap (λ (m : ℕ). bothAt base ram (pagesAt va m d) n) (sym (q .0)) ∙ q .1)
+          let q = value-says pa a v (bothAt base ram (pagesAt va a d) n) e in (
+            record { clear = p .0; two = p .1; pa2 = d; first = ex ∙ ap At (q .0); second = ey },
+            ap (λ (m : ℕ). bothAt base ram (pagesAt va m d) n)
+                (sym (q .0)) ∙ q .1,
+          )
 
   store-says : (v : ℕ) → splitMade c base ram va n ≡ true
       → (pa : ℕ) × ((s : Says c base (length ram) va n pa Write)
@@ -276,11 +115,13 @@ module _ (c : Core) (base : ℕ) (ram : List ℕ) (va n : ℕ) where
   unfolding splitMade madeBoth splitRam ramBoth
   store-says v = go (apartOf c base (length ram) va n) refl (hintFound c va Write) refl (hintFound c (nextPage va) Write) refl
     where
-      go : (b : Bool) → apartOf c base (length ram) va n ≡ b → (x : HintAnswer) → hintFound c va Write ≡ x → (y : HintAnswer) → hintFound c (nextPage va) Write ≡ y
+      go : (b : Bool) → apartOf c base (length ram) va n ≡ b → (x : HintAnswer) → hintFound c va Write ≡ x → (y : HintAnswer)
+          → hintFound c (nextPage va) Write ≡ y
           → madeBoth b x y va base ram n ≡ true
           → (pa : ℕ) × ((s : Says c base (length ram) va n pa Write)
           × ((bothInside base (length ram) (pagesAt va pa (s .pa2)) n ≡ true)
-          × (ramBoth (apartOf c base (length ram) va n) (hintFound c va Write) (hintFound c (nextPage va) Write) va base ram n v ≡ bothStored base ram (pagesAt va pa (s .pa2)) n v)))
+          × (ramBoth (apartOf c base (length ram) va n) (hintFound c va Write) (hintFound c (nextPage va) Write) va base ram n v
+          ≡ bothStored base ram (pagesAt va pa (s .pa2)) n v)))
       go false eb x ex y ey e = absurd (false-true e)
       go true eb Unknown ex y ey e = absurd (false-true e)
       go true eb (At a) ex Unknown ey e = absurd (false-true e)
@@ -342,8 +183,10 @@ module _ (c : Core) (base : ℕ) (ram : List ℕ) (va n pa : ℕ) (h : length ra
       → (readOf c base ram va n .answer ≡ Load.Value v) × (readOf c base ram va n .core ≡ withLast c pa)
   read-apart v s w =
       let l = lie-apart c base ram va n pa Read s in
-      let p = load-parts c base ram va n (Placed.At (Parts (pagesAt va pa (s .pa2)))) c (sym (ap (λ (x : Accessed). x .placed) l)) (sym (ap (λ (x : Accessed). x .core) l)) in
-      let e = load-ends (c .«last_pa») (c .«abort_pa») base ram va n v (Parts (pagesAt va pa (s .pa2))) (both-loads base ram (pagesAt va pa (s .pa2)) n h v w) in
+      let p = load-parts c base ram va n (Placed.At (Parts (pagesAt va pa (s .pa2)))) c (sym (ap (λ (x : Accessed). x .placed) l))
+      (sym (ap (λ (x : Accessed). x .core) l)) in
+      let e = load-ends (c .«last_pa») (c .«abort_pa») base ram va n v (Parts (pagesAt va pa (s .pa2)))
+      (both-loads base ram (pagesAt va pa (s .pa2)) n h v w) in
       (sym (p .0) ∙ ap (λ (x : LoadEnd). x .answer) e, sym (p .1) ∙ ap (keptLast c) e ∙ kept-last c pa v)
 
   write-apart : (v : ℕ) (s : Says c base (length ram) va n pa Write) → bothInside base (length ram) (pagesAt va pa (s .pa2)) n ≡ true
@@ -351,7 +194,8 @@ module _ (c : Core) (base : ℕ) (ram : List ℕ) (va n pa : ℕ) (h : length ra
       × ((ramAfterWrite c base ram va n v ≡ bothStored base ram (pagesAt va pa (s .pa2)) n v) × (writeOf c base ram va n .core ≡ c))
   write-apart v s w =
       let l = lie-apart c base ram va n pa Write s in
-      let p = store-parts c base ram va n v (Placed.At (Parts (pagesAt va pa (s .pa2)))) c (sym (ap (λ (x : Accessed). x .placed) l)) (sym (ap (λ (x : Accessed). x .core) l)) in
+      let p = store-parts c base ram va n v (Placed.At (Parts (pagesAt va pa (s .pa2)))) c (sym (ap (λ (x : Accessed). x .placed) l))
+      (sym (ap (λ (x : Accessed). x .core) l)) in
       let e = store-ends (c .«abort_pa») base ram va n (Parts (pagesAt va pa (s .pa2))) (both-judged base ram (pagesAt va pa (s .pa2)) n h w) in (
         sym (p .0) ∙ ap (λ (x : StoreEnd). x .answer) e,
         (
@@ -378,7 +222,8 @@ module _ (c : Core) (base : ℕ) (ram : List ℕ) (va size : ℕ) (h : length ra
       → (stepOf c base ram (Call.Store va size v) ≡ ends c Done) × (ramAfter c base ram (Call.Store va size v) ≡ splitRam c base ram va size v)
   store-apart v e = go (widthOf size) refl
     where
-      go : (z : Sized) → widthOf size ≡ z → (stepOf c base ram (Call.Store va size v) ≡ ends c Done) × (ramAfter c base ram (Call.Store va size v) ≡ splitRam c base ram va size v)
+      go : (z : Sized) → widthOf size ≡ z → (stepOf c base ram (Call.Store va size v) ≡ ends c Done)
+          × (ramAfter c base ram (Call.Store va size v) ≡ splitRam c base ram va size v)
       go (Bytes w) ez =
           let l = store-says c base ram va (bytesIn w) v (ap (splitMade c base ram va) (size-is size w ez) ∙ e) in
           let r = write-apart c base ram va (bytesIn w) (l .0) h v (l .1 .0) (l .1 .1 .0) in
@@ -390,7 +235,8 @@ module _ (c : Core) (base : ℕ) (ram : List ℕ) (va size : ℕ) (h : length ra
 
 -- as the code says it
 module _ (ws : List ℕ) (base : ℕ) (ram : List ℕ) (va size : ℕ) (h : length ram < 2 ^ 64) (k : known size ≡ true) where
-  pub split-load : (s : Split) (pa v old : ℕ) (xs : List ℕ) → s ≡ splitLoad (coreOf ws) base ram va size → s ≡ Split.Value pa v → NowHolds ws xs (withLast (coreOf ws) pa)
+  pub split-load : (s : Split) (pa v old : ℕ) (xs : List ℕ) → s ≡ splitLoad (coreOf ws) base ram va size → s ≡ Split.Value pa v
+      → NowHolds ws xs (withLast (coreOf ws) pa)
       → Gives (Known (Call.Load va size)) base ram ws 0 old v xs
   split-load s pa v old xs es e m =
       let t = load-apart (coreOf ws) base ram va size h k pa v (sym es ∙ e) in
@@ -401,7 +247,8 @@ module _ (ws : List ℕ) (base : ℕ) (ram : List ℕ) (va size : ℕ) (h : leng
         kept = kept-done ws xs;
       }
 
-  module _ (made : Bool) (value : ℕ) (ys : List ℕ) (em : made ≡ splitMade (coreOf ws) base ram va size) (ey : ys ≡ splitRam (coreOf ws) base ram va size value) where
+  module _ (made : Bool) (value : ℕ) (ys : List ℕ) (em : made ≡ splitMade (coreOf ws) base ram va size)
+      (ey : ys ≡ splitRam (coreOf ws) base ram va size value) where
     pub split-store : (old : ℕ) → made ≡ true → Gives (Known (Call.Store va size value)) base ram ws 0 old old ws
     split-store old t =
         let s = store-apart (coreOf ws) base ram va size h k value (sym em ∙ t) .0 in
@@ -419,10 +266,12 @@ module _ (ws : List ℕ) (base : ℕ) (ram : List ℕ) (va size : ℕ) (h : leng
       unsplit : ys ≡ ram
       unsplit = ey ∙ split-kept (coreOf ws) base ram va size value (sym em ∙ f)
 
-      pub unsplit-gives : (n old v : ℕ) (xs : List ℕ) → Gives (Known (Call.Store va size value)) base ys ws n old v xs → Gives (Known (Call.Store va size value)) base ram ws n old v xs
+      pub unsplit-gives : (n old v : ℕ) (xs : List ℕ) → Gives (Known (Call.Store va size value)) base ys ws n old v xs
+          → Gives (Known (Call.Store va size value)) base ram ws n old v xs
       unsplit-gives n old v xs = same-gives ws base ram va size value n old v ys xs unsplit
 
-      pub unsplit-ram : (zs : List ℕ) → zs ≡ ramAfter (coreOf ws) base ys (Call.Store va size value) → zs ≡ ramAfter (coreOf ws) base ram (Call.Store va size value)
+      pub unsplit-ram : (zs : List ℕ) → zs ≡ ramAfter (coreOf ws) base ys (Call.Store va size value) → zs
+          ≡ ramAfter (coreOf ws) base ram (Call.Store va size value)
       unsplit-ram = same-ram ws base ram va size value 0 0 0 ys ws unsplit
 
 -- a size by its number
@@ -433,6 +282,7 @@ module _ (ws : List ℕ) (base : ℕ) (ram : List ℕ) (va size n : ℕ) (e : si
   pub same-store : (value : ℕ) → Gives (Known (Call.Store va n value)) base ram ws k old v xs → Gives (Known (Call.Store va size value)) base ram ws k old v xs
   same-store value g = rw e g
 
-pub same-store-ram : (ws : List ℕ) (base : ℕ) (ram : List ℕ) (va size n value : ℕ) (ys : List ℕ) → size ≡ n → ys ≡ ramAfter (coreOf ws) base ram (Call.Store va n value)
+pub same-store-ram : (ws : List ℕ) (base : ℕ) (ram : List ℕ) (va size n value : ℕ) (ys : List ℕ) → size ≡ n → ys
+    ≡ ramAfter (coreOf ws) base ram (Call.Store va n value)
     → ys ≡ ramAfter (coreOf ws) base ram (Call.Store va size value)
 same-store-ram ws base ram va size n value ys e q = rw e q

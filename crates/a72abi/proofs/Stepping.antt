@@ -12,9 +12,8 @@ use Rattle.word.specs.Bits.{pick, wrap, flag}
 use Rattle.word.specs.Ram.{wordAt, widthOf, bytesIn}
 use Rattle.word.specs.declared.ram.Sized.{Sized}
 use Rattle.word.specs.declared.ram.Sized.the-variants.{Bytes, Refused as NoWidth}
-use Rattle.tlb.specs.declared.access.Kind.{Kind}
+use Rattle.tlb.specs.declared.{access.Kind.Kind, access.Answer.Answer}
 use Rattle.tlb.specs.declared.access.Kind.the-variants.{Read, Write}
-use Rattle.tlb.specs.declared.access.Answer.{Answer}
 use Rattle.fault.specs.declared.Fault.{Fault as Status1}
 use Rattle.exception.specs.Abort.{dataAbortAt, insnAbortAt}
 use Rattle.tlb.specs.declared.access.Answer.the-variants.{Address, Status}
@@ -26,23 +25,18 @@ use Rattle.operations.specs.Bytes.{loadOf, insnOf}
 use Rattle.operations.specs.Ends.{external, loadedFrom, loadEnd, storeEndBy, storeEnd, fetchedFrom, fetchEnd}
 use Rattle.mmu.specs.Ops.{locatedNow, fetchSteppedNow, translateOf, dataPaOf, fetchPaOf, readOf, writeOf, fetchOf}
 use Rattle.mmu.specs.declared.core.Core.{Core}
-use Rattle.operations.specs.declared.place.Placed.{Placed}
+use Rattle.operations.specs.declared.{place.Placed.Placed, place.Verdict.Verdict, bytes.Got.Got, bytes.Insn.Insn}
+use Rattle.operations.specs.declared.{ends.Reached.Reached, call.Call.Call, call.Reply.Reply}
 use Rattle.operations.specs.declared.place.Placed.the-variants.{At, Fault as NotPlaced}
-use Rattle.operations.specs.declared.place.Verdict.{Verdict}
 use Rattle.operations.specs.declared.place.Verdict.the-variants as Verdict
-use Rattle.operations.specs.declared.bytes.Got.{Got}
 use Rattle.operations.specs.declared.bytes.Got.the-variants as Got
-use Rattle.operations.specs.declared.bytes.Insn.{Insn}
 use Rattle.operations.specs.declared.bytes.Insn.the-variants as Insn
-use Rattle.operations.specs.declared.ends.Reached.{Reached}
 use Rattle.operations.specs.declared.ends.Reached.the-variants as Reach
 use Rattle.operations.specs.Check.{missedOf, passes, known}
 use Rattle.operations.specs.Replies.{translation, reaching, loading, storing, fetching}
 use Rattle.cpu.specs.Step.{loadBy, storeBy, refusedOr, missedBy, runOf, stepOf, ramAfter, ends}
 use Rattle.cpu.specs.Demand1.{writes, quiet}
-use Rattle.operations.specs.declared.call.Call.{Call}
 use Rattle.operations.specs.declared.call.Call.the-variants as Call
-use Rattle.operations.specs.declared.call.Reply.{Reply}
 use Rattle.operations.specs.declared.call.Reply.the-variants.{Refused, Done, Value, Faults, Fault, Stopped}
 use Rattle.cpu.specs.declared.run.Stepped.{Stepped}
 use Rattle.words.specs.CoreOf.{coreOf}
@@ -55,9 +49,8 @@ use Rattle.a72abi.specs.Promise.{Promise, Setting, Runs, Gives}
 use Rattle.a72abi.specs.PromiseLaws.{tag-unmoved}
 use Rattle.call_words.specs.Replies.{codeBy, valueBy, wordsBy, four, wordsFrom}
 use Rattle.a72abi.proofs.Checking.{refused-reply, run-reply}
-use Rattle.call_words.specs.declared.op.DecodedCall.{DecodedCall}
+use Rattle.call_words.specs.declared.{op.DecodedCall.DecodedCall, op.DecodedException.DecodedException}
 use Rattle.call_words.specs.declared.op.DecodedCall.the-variants as DecodedCall
-use Rattle.call_words.specs.declared.op.DecodedException.{DecodedException}
 use Rattle.call_words.specs.declared.op.DecodedException.the-variants as DecodedException
 
 -- A CALL'S WORDS FROM ITS NUMBER AND VALUE
@@ -90,7 +83,10 @@ module _ (tag : ℕ) (a : ℕ → ℕ) where
   shaped-fault : (va : ℕ) (f : Status1) → Shaped (Fault va f) tag a 8 (λ v. va) 0
   unfolding wordsBy
   shaped-fault va f =
-      record { from = λ n v en ev. rw (en, ne-eqb (256 + f .fsc) 0 (λ e. omega arith), le-ltb (256 + f .fsc) 256 (omega arith), past-all (f .fsc)); small = λ t. never t }
+      record {
+        from = λ n v en ev. rw (en, ne-eqb (256 + f .fsc) 0 (λ e. omega arith), le-ltb (256 + f .fsc) 256 (omega arith), past-all (f .fsc));
+        small = λ t. never t;
+      }
 
   shaped-faults : Shaped Faults tag a 2 (λ v. 0) 0
   unfolding wordsBy
@@ -99,12 +95,18 @@ module _ (tag : ℕ) (a : ℕ → ℕ) where
   shaped-data : (addr : ℕ) (write : Bool) (f : Status1) → Shaped (Stopped (Stop.Exception (dataAbortAt addr write f))) tag a 9 same (flag write 1)
   unfolding wordsBy same
   shaped-data addr write f =
-      record { from = λ n v en ev. rw (en, ev, ne-eqb (256 + f .fsc) 0 (λ e. omega arith), le-ltb (256 + f .fsc) 256 (omega arith), past-all (f .fsc)); small = λ t. never t }
+      record {
+        from = λ n v en ev. rw (en, ev, ne-eqb (256 + f .fsc) 0 (λ e. omega arith), le-ltb (256 + f .fsc) 256 (omega arith), past-all (f .fsc));
+        small = λ t. never t;
+      }
 
   shaped-insn : (va : ℕ) (f : Status1) → Shaped (Stopped (Stop.Exception (insnAbortAt va f))) tag a 10 (λ v. va) 0
   unfolding wordsBy
   shaped-insn va f =
-      record { from = λ n v en ev. rw (en, ne-eqb (256 + f .fsc) 0 (λ e. omega arith), le-ltb (256 + f .fsc) 256 (omega arith), past-all (f .fsc)); small = λ t. never t }
+      record {
+        from = λ n v en ev. rw (en, ne-eqb (256 + f .fsc) 0 (λ e. omega arith), le-ltb (256 + f .fsc) 256 (omega arith), past-all (f .fsc));
+        small = λ t. never t;
+      }
 
 -- each operation's
 translation-shaped : (va : ℕ) (x : Answer) → Shaped (translation va x) 1 same 8 (λ v. va) 0
@@ -176,7 +178,8 @@ module _ (ws : List ℕ) (base : ℕ) (ram : List ℕ) (n v : ℕ) (w xs : List 
             g .kept .same (rw (g .code) (k .0)) (rw (g .code) (k .1));
       }
 
-  pub translation-steps : (kind : Kind) (va : ℕ) → Gives (DecodedCall.Known (Call.Translate kind va)) base ram ws n 0 v xs → w ≡ wordsFrom n 1 v 8 va 0 → Steps (Call.Translate kind va) base ram ws w xs
+  pub translation-steps : (kind : Kind) (va : ℕ) → Gives (DecodedCall.Known (Call.Translate kind va)) base ram ws n 0 v xs → w ≡ wordsFrom n 1 v 8 va 0
+      → Steps (Call.Translate kind va) base ram ws w xs
   unfolding runOf missedOf same
   translation-steps kind va g e =
       by-shape (Call.Translate kind va) 1 same 8 (λ x. va) 0
@@ -184,7 +187,8 @@ module _ (ws : List ℕ) (base : ℕ) (ram : List ℕ) (n v : ℕ) (w xs : List 
       (translation-shaped va (translateOf (coreOf ws) (wordAt base ram 8) va kind .answer)))
       g e
 
-  pub data-steps : (va : ℕ) → Gives (DecodedCall.Known (Call.DataPa va)) base ram ws n 0 v xs → w ≡ wordsFrom n 1 v 2 0 0 → Steps (Call.DataPa va) base ram ws w xs
+  pub data-steps : (va : ℕ) → Gives (DecodedCall.Known (Call.DataPa va)) base ram ws n 0 v xs → w ≡ wordsFrom n 1 v 2 0 0
+      → Steps (Call.DataPa va) base ram ws w xs
   unfolding runOf missedOf same
   data-steps va g e =
       by-shape (Call.DataPa va) 1 same 2 (λ x. 0) 0
@@ -192,7 +196,8 @@ module _ (ws : List ℕ) (base : ℕ) (ram : List ℕ) (n v : ℕ) (w xs : List 
       (reach-shaped (dataPaOf (coreOf ws) (wordAt base ram 8) va .answer)))
       g e
 
-  pub fetch-pa-steps : (va : ℕ) → Gives (DecodedCall.Known (Call.FetchPa va)) base ram ws n 0 v xs → w ≡ wordsFrom n 1 v 2 0 0 → Steps (Call.FetchPa va) base ram ws w xs
+  pub fetch-pa-steps : (va : ℕ) → Gives (DecodedCall.Known (Call.FetchPa va)) base ram ws n 0 v xs → w ≡ wordsFrom n 1 v 2 0 0
+      → Steps (Call.FetchPa va) base ram ws w xs
   unfolding runOf missedOf same
   fetch-pa-steps va g e =
       by-shape (Call.FetchPa va) 1 same 2 (λ x. 0) 0
@@ -200,7 +205,8 @@ module _ (ws : List ℕ) (base : ℕ) (ram : List ℕ) (n v : ℕ) (w xs : List 
       (reach-shaped (fetchPaOf (coreOf ws) (wordAt base ram 8) va .answer)))
       g e
 
-  pub fetch-steps : (va : ℕ) → Gives (DecodedCall.Known (Call.Fetch va)) base ram ws n 0 v xs → w ≡ wordsFrom n 1 v 10 va 0 → Steps (Call.Fetch va) base ram ws w xs
+  pub fetch-steps : (va : ℕ) → Gives (DecodedCall.Known (Call.Fetch va)) base ram ws n 0 v xs → w ≡ wordsFrom n 1 v 10 va 0
+      → Steps (Call.Fetch va) base ram ws w xs
   unfolding runOf missedOf same fetchOf
   fetch-steps va g e =
       by-shape (Call.Fetch va) 1 same 10 (λ x. va) 0
@@ -208,23 +214,28 @@ module _ (ws : List ℕ) (base : ℕ) (ram : List ℕ) (n v : ℕ) (w xs : List 
       (fetch-shaped (fetchSteppedNow (coreOf ws) (wordAt base ram 8) va .answer) (coreOf ws .«abort_pa») base ram va))
       g e
 
-  pub load-steps : (va size : ℕ) → Gives (DecodedCall.Known (Call.Load va size)) base ram ws n 0 v xs → w ≡ wordsFrom n 1 v 9 v 0 → Steps (Call.Load va size) base ram ws w xs
+  pub load-steps : (va size : ℕ) → Gives (DecodedCall.Known (Call.Load va size)) base ram ws n 0 v xs → w ≡ wordsFrom n 1 v 9 v 0
+      → Steps (Call.Load va size) base ram ws w xs
   unfolding runOf missedOf same readOf
   load-steps va size g e =
       by-shape (Call.Load va size) 1 same 9 same 0
-      (step-shaped (coreOf ws) base ram (Call.Load va size) 1 same 9 same 0 (sized-few (ltb 3 (coreOf ws .privilege .level)) (passes base (length ram)) (not (known size)))
+      (step-shaped (coreOf ws) base ram (Call.Load va size) 1 same 9 same 0
+      (sized-few (ltb 3 (coreOf ws .privilege .level)) (passes base (length ram)) (not (known size)))
       (go (widthOf size)))
       g e
     where
       go : (s : Sized) → Shaped (loadBy s (coreOf ws) base ram va .reply) 1 same 9 same 0
-      go (Bytes x) = load-shaped (locatedNow (coreOf ws) (wordAt base ram 8) va (bytesIn x) Read .placed) (coreOf ws .«last_pa») (coreOf ws .«abort_pa») base ram va (bytesIn x)
+      go (Bytes x) = load-shaped (locatedNow (coreOf ws) (wordAt base ram 8) va (bytesIn x) Read .placed) (coreOf ws .«last_pa»)
+          (coreOf ws .«abort_pa») base ram va (bytesIn x)
       go NoWidth = shaped-refused 1 same 9 same 0 3 (omega arith) (omega arith)
 
-  pub store-steps : (va size x : ℕ) → Gives (DecodedCall.Known (Call.Store va size x)) base ram ws n 0 v xs → w ≡ wordsFrom n 0 0 9 v 1 → Steps (Call.Store va size x) base ram ws w xs
+  pub store-steps : (va size x : ℕ) → Gives (DecodedCall.Known (Call.Store va size x)) base ram ws n 0 v xs → w ≡ wordsFrom n 0 0 9 v 1
+      → Steps (Call.Store va size x) base ram ws w xs
   unfolding runOf missedOf same writeOf
   store-steps va size x g e =
       by-shape (Call.Store va size x) 0 (λ y. 0) 9 same 1
-      (step-shaped (coreOf ws) base ram (Call.Store va size x) 0 (λ y. 0) 9 same 1 (sized-few (ltb 3 (coreOf ws .privilege .level)) (passes base (length ram)) (not (known size)))
+      (step-shaped (coreOf ws) base ram (Call.Store va size x) 0 (λ y. 0) 9 same 1
+      (sized-few (ltb 3 (coreOf ws .privilege .level)) (passes base (length ram)) (not (known size)))
       (go (widthOf size)))
       g e
     where
@@ -303,7 +314,8 @@ pub mark-none : (n : ℕ) → (n ≡ 0 → ⊥) → (n ≡ 1 → ⊥) → Decode
 mark-none n a b = sym (rw (ne-eqb n 0 a, ne-eqb n 1 b))
 
 -- abort entry by numbers
-pub abort-known : (o : DecodedException) (p : DecodedException) (x : Exception) → o ≡ p → o ≡ DecodedException.Known x → DecodedCall.Known (Call.Abort x) ≡ abortCall p
+pub abort-known : (o : DecodedException) (p : DecodedException) (x : Exception) → o ≡ p → o ≡ DecodedException.Known x → DecodedCall.Known (Call.Abort x)
+    ≡ abortCall p
 abort-known o p x e q = ap abortCall (sym q ∙ e)
 
 pub abort-none : (o p : DecodedException) → o ≡ p → o ≡ DecodedException.Unknown → DecodedCall.Unknown ≡ abortCall p

@@ -9,10 +9,9 @@ use Rattle.tlb.specs.declared.access.Answer.{Answer}
 use Rattle.tlb.specs.declared.access.Answer.the-variants.{Address}
 use Rattle.operations.specs.Ends.{fetchEnd}
 use Rattle.mmu.specs.declared.core.Core.{Core}
-use Rattle.operations.specs.declared.place.Placed.{Placed}
+use Rattle.operations.specs.declared.{place.Placed.Placed, call.Call.Call}
 use Rattle.operations.specs.Replies.{loading, storing, fetching}
 use Rattle.cpu.specs.Step.{ends, stepOf}
-use Rattle.operations.specs.declared.call.Call.{Call}
 use Rattle.cpu.specs.declared.run.Stepped.{Stepped}
 use Rattle.words.specs.CoreOf.{coreOf}
 use Rattle.words.specs.NowHolds.{NowHolds}

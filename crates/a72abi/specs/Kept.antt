@@ -4,9 +4,8 @@ use mathlib.Core.Bool.{Bool, true, false}
 use mathlib.Core.List.{List}
 use Prim.Native.Nat.{ℕ, _<_}
 use native.Mathlib.Omega.{arith}
-use Rattle.exception.specs.declared.kind.Exception.{Exception}
+use Rattle.exception.specs.declared.{kind.Exception.Exception, kind.Stop.Stop}
 use Rattle.exception.specs.declared.kind.Exception.the-variants as Exception
-use Rattle.exception.specs.declared.kind.Stop.{Stop}
 use Rattle.exception.specs.declared.kind.Stop.the-variants as Stop
 use Rattle.sysreg.specs.declared.write.WriteAnswer.{WriteAnswer}
 use Rattle.sysreg.specs.declared.write.WriteAnswer.the-variants as Written
@@ -14,18 +13,14 @@ use Rattle.tlb.specs.declared.access.Answer.{Answer}
 use Rattle.tlb.specs.declared.access.Answer.the-variants.{Address, Status}
 use Rattle.operations.specs.Bytes.{loadOf, insnOf}
 use Rattle.operations.specs.Ends.{loadedFrom, loadEnd, fetchedFrom, fetchEnd}
-use Rattle.operations.specs.declared.place.Placed.{Placed}
+use Rattle.operations.specs.declared.{place.Placed.Placed, bytes.Got.Got, bytes.Insn.Insn, ends.StoreAnswer.StoreAnswer}
+use Rattle.operations.specs.declared.{ends.Reached.Reached, call.Reply.Reply}
 use Rattle.operations.specs.declared.place.Placed.the-variants.{At, Fault as NotPlaced}
-use Rattle.operations.specs.declared.bytes.Got.{Got}
 use Rattle.operations.specs.declared.bytes.Got.the-variants as Got
-use Rattle.operations.specs.declared.bytes.Insn.{Insn}
 use Rattle.operations.specs.declared.bytes.Insn.the-variants as Insn
-use Rattle.operations.specs.declared.ends.StoreAnswer.{StoreAnswer}
 use Rattle.operations.specs.declared.ends.StoreAnswer.the-variants as Store
-use Rattle.operations.specs.declared.ends.Reached.{Reached}
 use Rattle.operations.specs.declared.ends.Reached.the-variants as Reach
 use Rattle.operations.specs.Replies.{translation, reaching, loading, storing, fetching, registering}
-use Rattle.operations.specs.declared.call.Reply.{Reply}
 use Rattle.operations.specs.declared.call.Reply.the-variants.{Refused, Done, Value, Faults, Fault, Stopped}
 use Rattle.words_sys.specs.Early.{early, earlyStop, never}
 use Rattle.call_words.specs.Replies.{codeBy, valueBy}

@@ -4,8 +4,7 @@ use mathlib.Core.List.{List}
 use Prim.Native.Nat.{ℕ, _<_}
 use lib.ListN.{getD}
 use Rattle.cpu.specs.Step.{stepOf}
-use Rattle.operations.specs.declared.call.Call.{Call}
-use Rattle.operations.specs.declared.call.Reply.{Reply}
+use Rattle.operations.specs.declared.{call.Call.Call, call.Reply.Reply}
 use Rattle.history.specs.Calls.{Lent}
 use Rattle.history.specs.Instance.{Ram, windowOf as ramOf, real}
 use Rattle.transparency.specs.Machine.{machine}

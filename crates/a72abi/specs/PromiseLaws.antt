@@ -19,16 +19,14 @@ use Rattle.sysop.specs.declared.op.SysOp.the-variants as SysOp
 use Rattle.mmu.specs.Core.{regOf}
 use Rattle.mmu.specs.Ops.{writeOf}
 use Rattle.mmu.specs.declared.core.Core.{Core}
-use Rattle.operations.specs.declared.ends.StoreAnswer.{StoreAnswer}
+use Rattle.operations.specs.declared.{ends.StoreAnswer.StoreAnswer, call.Call.Call, call.Reply.Reply}
 use Rattle.exec.specs.Ops.{writeRegister}
 use Rattle.exec.specs.Sys.{zeroOf, sysBy, sysRamBy, opOf, sysOf, sysRam}
 use Rattle.operations.specs.Check.{missedOf}
 use Rattle.operations.specs.Replies.{storing, registering}
 use Rattle.cpu.specs.Step.{storeBy, storeRamBy, runOf, ramOf as ramRun, refusedOr, missedBy, stepOf, ramAfter, ends}
 use Rattle.cpu.specs.Demand1.{writes, quiet}
-use Rattle.operations.specs.declared.call.Call.{Call}
 use Rattle.operations.specs.declared.call.Call.the-variants as Call
-use Rattle.operations.specs.declared.call.Reply.{Reply}
 use Rattle.operations.specs.declared.call.Reply.the-variants.{Refused, Done, Value, Faults, Fault, Stopped}
 use Rattle.cpu.specs.declared.run.Stepped.{Stepped}
 use Rattle.transparency.specs.Faithful.{FaithfulCall, faithful-step}
@@ -41,9 +39,8 @@ use Rattle.words_sys.specs.Early.{never, earlyStop, store-late, zero-late}
 use Rattle.a72abi.specs.Kept.{unmoved, number-unmoved, unmoved-value, storing-late, kept-same, kept-put-answer}
 use Rattle.a72abi.specs.Inside.{Steps}
 use Rattle.a72abi.specs.Promise.{Promise, Setting, StepPromise, Runs, Gives}
-use Rattle.call_words.specs.declared.op.DecodedKind.{DecodedKind}
+use Rattle.call_words.specs.declared.{op.DecodedKind.DecodedKind, op.DecodedCall.DecodedCall}
 use Rattle.call_words.specs.declared.op.DecodedKind.the-variants as DecodedKind
-use Rattle.call_words.specs.declared.op.DecodedCall.{DecodedCall}
 use Rattle.call_words.specs.declared.op.DecodedCall.the-variants.{Known, Unknown}
 
 -- A REFUSAL, UNDEFINED AND UNIMPLEMENTED CHANGE NO BYTE
@@ -108,7 +105,8 @@ promise (Known x) base ram ws n old v ys xs g b =
       bytes = b;
       words = g .words;
       unchanged = λ l h.
-          let t : unmoved (stepOf (coreOf ws) base ram x .reply) ≡ true = number-unmoved (stepOf (coreOf ws) base ram x .reply) (rw (g .code) at l) (rw (g .code) at h) in
+          let t : unmoved (stepOf (coreOf ws) base ram x .reply) ≡ true =
+          number-unmoved (stepOf (coreOf ws) base ram x .reply) (rw (g .code) at l) (rw (g .code) at h) in
           (g .kept .same l h, (b ∙ ram-still (coreOf ws) base ram x t, g .value ∙ unmoved-value (stepOf (coreOf ws) base ram x .reply) old t));
       demand-3 = λ list e.
           record {
@@ -164,28 +162,34 @@ register-value Written.NoRegister old = refl
 module _ (ws : List ℕ) (r : Reply) (n : ℕ) (xs : List ℕ) where
   pub set-level : (level : ℕ) → Runs (Call.Level level) 0 [] ws r xs → n ≡ codeBy r → Setting (Known (Call.Level level)) ws n xs
   unfolding stepOf runOf missedOf
-  set-level level g e = set (Call.Level level) ws r n xs (λ base ram. refl) refl (λ old. no-value (missedBy (coreOf ws) 0 [] (Call.Level level)) (coreOf ws) (runOf (coreOf ws) 0 [] (Call.Level level)) old refl) g e
+  set-level level g e = set (Call.Level level) ws r n xs (λ base ram. refl) refl
+      (λ old. no-value (missedBy (coreOf ws) 0 [] (Call.Level level)) (coreOf ws) (runOf (coreOf ws) 0 [] (Call.Level level)) old refl) g e
 
   pub set-general : (i v : ℕ) → Runs (Call.General i v) 0 [] ws r xs → n ≡ codeBy r → Setting (Known (Call.General i v)) ws n xs
   unfolding stepOf runOf missedOf
-  set-general i v g e = set (Call.General i v) ws r n xs (λ base ram. refl) refl (λ old. no-value (missedBy (coreOf ws) 0 [] (Call.General i v)) (coreOf ws) (runOf (coreOf ws) 0 [] (Call.General i v)) old refl) g e
+  set-general i v g e = set (Call.General i v) ws r n xs (λ base ram. refl) refl
+      (λ old. no-value (missedBy (coreOf ws) 0 [] (Call.General i v)) (coreOf ws) (runOf (coreOf ws) 0 [] (Call.General i v)) old refl) g e
 
   bare-register : (key v : ℕ) → Runs (Call.Register key v) 0 [] ws r xs → n ≡ codeBy r → Setting (Known (Call.Register key v)) ws n xs
   unfolding stepOf runOf missedOf
   bare-register key v g e =
       set (Call.Register key v) ws r n xs (λ base ram. refl) refl
-      (λ old. no-value (missedBy (coreOf ws) 0 [] (Call.Register key v)) (coreOf ws) (runOf (coreOf ws) 0 [] (Call.Register key v)) old (register-value (writeRegister (coreOf ws) key v .answer) old)) g e
+      (λ old. no-value (missedBy (coreOf ws) 0 [] (Call.Register key v)) (coreOf ws) (runOf (coreOf ws) 0 [] (Call.Register key v)) old
+      (register-value (writeRegister (coreOf ws) key v .answer) old)) g e
 
   bare-mark : (mark : Bool) → Runs (Call.Mark mark) 0 [] ws r xs → n ≡ codeBy r → Setting (Known (Call.Mark mark)) ws n xs
   unfolding stepOf runOf missedOf
-  bare-mark mark g e = set (Call.Mark mark) ws r n xs (λ base ram. refl) refl (λ old. no-value (missedBy (coreOf ws) 0 [] (Call.Mark mark)) (coreOf ws) (runOf (coreOf ws) 0 [] (Call.Mark mark)) old refl) g e
+  bare-mark mark g e = set (Call.Mark mark) ws r n xs (λ base ram. refl) refl
+      (λ old. no-value (missedBy (coreOf ws) 0 [] (Call.Mark mark)) (coreOf ws) (runOf (coreOf ws) 0 [] (Call.Mark mark)) old refl) g e
 
   bare-abort : (x : Exception) → Runs (Call.Abort x) 0 [] ws r xs → n ≡ codeBy r → Setting (Known (Call.Abort x)) ws n xs
   unfolding stepOf runOf missedOf
-  bare-abort x g e = set (Call.Abort x) ws r n xs (λ base ram. refl) refl (λ old. no-value (missedBy (coreOf ws) 0 [] (Call.Abort x)) (coreOf ws) (runOf (coreOf ws) 0 [] (Call.Abort x)) old refl) g e
+  bare-abort x g e = set (Call.Abort x) ws r n xs (λ base ram. refl) refl
+      (λ old. no-value (missedBy (coreOf ws) 0 [] (Call.Abort x)) (coreOf ws) (runOf (coreOf ws) 0 [] (Call.Abort x)) old refl) g e
 
   -- by its words
-  pub set-register : (key v k : ℕ) → k ≡ keyOf key → Runs (Call.Register k v) 0 [] ws r xs → n ≡ codeBy r → Setting (Known (Call.Register (keyOf key) v)) ws n xs
+  pub set-register : (key v k : ℕ) → k ≡ keyOf key → Runs (Call.Register k v) 0 [] ws r xs → n ≡ codeBy r
+      → Setting (Known (Call.Register (keyOf key) v)) ws n xs
   set-register key v k q g e = rw q at (bare-register k v g e)
 
   pub set-mark : (mark : Bool) (p : DecodedCall) → Known (Call.Mark mark) ≡ p → Runs (Call.Mark mark) 0 [] ws r xs → n ≡ codeBy r → Setting p ws n xs
@@ -195,7 +199,11 @@ module _ (ws : List ℕ) (r : Reply) (n : ℕ) (xs : List ℕ) where
   set-abort x p q g e = rw q at (bare-abort x g e)
 
 pub set-unnamed : (ws : List ℕ) (p : DecodedCall) → Unknown ≡ p → Setting p ws 64 ws
-set-unnamed ws p q = rw (← q) (record { on = λ base ram old. promise Unknown base ram ws 64 old old ram ws (record { code = refl; value = refl; words = stays; kept = kept-same 64 ws }) refl })
+set-unnamed ws p q = rw (← q)
+    (record {
+      on = λ base ram old. promise Unknown base ram ws 64 old old ram ws
+          (record { code = refl; value = refl; words = stays; kept = kept-same 64 ws }) refl;
+    })
 
 -- EVERY CALL BY EIGHT WORDS
 
@@ -226,8 +234,11 @@ module _ (base : ℕ) (ram ws : List ℕ) (p o : DecodedCall) (eo : o ≡ p) (ol
         bytes = b;
         words = s .words;
         unnamed = λ l. absurd (omega arith);
-        unchanged = λ l h.
-            (s .still l h, b ∙ ram-still (coreOf ws) base ram x (tag-unmoved (stepOf (coreOf ws) base ram x .reply) (rw (s .answer) at l) (rw (s .answer) at h)));
+        unchanged = λ l h. (
+          s .still l h,
+          b ∙ ram-still (coreOf ws) base ram x (tag-unmoved (stepOf (coreOf ws) base ram x .reply) (rw (s .answer) at l)
+              (rw (s .answer) at h)),
+        );
         demand-3 = λ list q.
             record {
               reply = stepOf (coreOf ws) base ram x .reply;
@@ -236,7 +247,8 @@ module _ (base : ℕ) (ram ws : List ℕ) (p o : DecodedCall) (eo : o ≡ p) (ol
             };
       }
 
-  pub step-known : (x : Call) (v ys xs : List ℕ) → o ≡ Known x → Steps x base ram ws v xs → ys ≡ ramAfter (coreOf ws) base ram x → StepPromise p base ram ws 0 old v ys xs
+  pub step-known : (x : Call) (v ys xs : List ℕ) → o ≡ Known x → Steps x base ram ws v xs → ys ≡ ramAfter (coreOf ws) base ram x
+      → StepPromise p base ram ws 0 old v ys xs
   step-known x v ys xs q s b = rw (← eo, q) (step-of x v ys xs s b)
 
   none-of : StepPromise Unknown base ram ws 64 old old ram ws

@@ -7,9 +7,8 @@ use lib.Dec.{ltb}
 use lib.ListN.{length}
 use Rattle.word.specs.Bits.{pick}
 use Rattle.word.specs.Ram.{bytesIn, within, wordAt, stored, widthOf}
-use Rattle.word.specs.declared.ram.Sized.{Sized}
+use Rattle.word.specs.declared.{ram.Sized.Sized, ram.Word.Word}
 use Rattle.word.specs.declared.ram.Sized.the-variants.{Bytes, Refused as NoWidth}
-use Rattle.word.specs.declared.ram.Word.{Word}
 use Rattle.word.specs.declared.ram.Word.the-variants.{Outside}
 use Rattle.mmu.specs.declared.core.Core.{Core}
 

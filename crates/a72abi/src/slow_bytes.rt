@@ -17,7 +17,6 @@ ghost use Rattle.a72abi.specs.Inside.{Tells, loadEnds, storeEnds};
 ghost use Rattle.call_words.specs.declared.op.DecodedCall.the-variants as DecodedCall;
 ghost use Rattle.a72abi.specs.Promise.{Gives};
 use call_words::reply;
-use operations::bytes;
 use operations::check;
 use operations::place;
 use tlb::access::Kind;
@@ -85,7 +84,7 @@ fn load_one(state: &mut State, va: u64, width: Width, ans: &mut u64, base: u64, 
     load_at(state, va, width, pa, ans, base, ram)
 }
 
-// The same of a size.
+// The same of a size; the commonest is tested first.
 pub(crate) fn load_page(
     state: &mut State,
     va: u64,
@@ -208,7 +207,7 @@ fn store_one(
     store_at(state, va, width, value, pa, ans, base, ram)
 }
 
-// The same of a size.
+// The same of a size; the commonest is tested first.
 pub(crate) fn store_page(
     state: &mut State,
     va: u64,

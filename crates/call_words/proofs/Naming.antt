@@ -8,42 +8,23 @@ use borrow.Author.Tests.{ne-eqb, lt-ltb, le-ltb, ltb-true}
 use lib.Dec.{eqb, ltb}
 use lib.ListN.{getD}
 use Rattle.word.specs.Bits.{pick}
-use Rattle.tlb.specs.declared.access.Kind.{Kind}
-use Rattle.tlb.specs.declared.access.Kind.the-variants.{Read, Write, Fetch}
 use Rattle.fault.specs.First.{first}
 use Rattle.fault.specs.declared.Fault.{Fault}
 use Rattle.exception.specs.Abort.{dataAbortAt, insnAbortAt}
 use Rattle.exception.specs.declared.kind.DataAbort.{DataAbort as DataAborted}
 use Rattle.exception.specs.declared.kind.InsnAbort.{InsnAbort as InsnAborted}
 use Rattle.exception.specs.declared.kind.Exception.{Exception}
-use Rattle.exception.specs.declared.kind.Exception.the-variants.{Undefined, Svc, Hvc, Smc, Brk, DataAbort, InsnAbort, PcAlignment}
-use Rattle.operations.specs.declared.call.Call.the-variants as Call
-use Rattle.call_words.specs.Ops.{kindOf, inRange, dataAbortOf, insnAbortOf, callExceptionOf, exceptionOf, keyOf, translateCall, abortCall, markCall, encodingOf, callOf}
-use Rattle.call_words.specs.declared.op.DecodedKind.{DecodedKind}
-use Rattle.call_words.specs.declared.op.DecodedKind.the-variants as DecodedKind
-use Rattle.call_words.specs.declared.op.DecodedException.{DecodedException}
-use Rattle.call_words.specs.declared.op.DecodedException.the-variants as DecodedException
+use Rattle.exception.specs.declared.kind.Exception.the-variants.{Svc, Hvc, Smc, Brk, DataAbort, InsnAbort}
+use Rattle.call_words.specs.Ops.{kindOf, inRange, dataAbortOf, insnAbortOf, callExceptionOf, exceptionOf, keyOf, markCall, callOf}
+use Rattle.call_words.specs.declared.{op.DecodedKind.DecodedKind, op.DecodedException.DecodedException}
 use Rattle.call_words.specs.declared.op.DecodedCall.{DecodedCall}
+use Rattle.call_words.specs.declared.op.DecodedKind.the-variants as DecodedKind
+use Rattle.call_words.specs.declared.op.DecodedException.the-variants as DecodedException
 use Rattle.call_words.specs.declared.op.DecodedCall.the-variants as DecodedCall
 
 module _ (n : ℕ) where
-  pub kind-1 : n ≡ 1 → DecodedKind.Known Read ≡ kindOf n
-  kind-1 e = sym (rw e)
-
-  pub kind-2 : n ≡ 2 → DecodedKind.Known Write ≡ kindOf n
-  kind-2 e = sym (rw e)
-
-  pub kind-4 : n ≡ 4 → DecodedKind.Known Fetch ≡ kindOf n
-  kind-4 e = sym (rw e)
-
   pub kind-none : (n ≡ 1 → ⊥) → (n ≡ 2 → ⊥) → (n ≡ 4 → ⊥) → DecodedKind.Unknown ≡ kindOf n
   kind-none a b d = sym (rw (ne-eqb n 1 a, ne-eqb n 2 b, ne-eqb n 4 d))
-
-  pub mark-0 : n ≡ 0 → DecodedCall.Known (Call.Mark false) ≡ markCall n
-  mark-0 e = sym (rw e)
-
-  pub mark-1 : n ≡ 1 → DecodedCall.Known (Call.Mark true) ≡ markCall n
-  mark-1 e = sym (rw e)
 
   pub mark-none : (n ≡ 0 → ⊥) → (n ≡ 1 → ⊥) → DecodedCall.Unknown ≡ markCall n
   mark-none a b = sym (rw (ne-eqb n 0 a, ne-eqb n 1 b))
@@ -53,22 +34,6 @@ module _ (n : ℕ) where
 
   pub key-high : 2 ^ 32 ≤ n → 0 ≡ keyOf n
   key-high h = sym (rw (le-ltb n (2 ^ 32) h))
-
-  pub exception-0 : (a b c : ℕ) → n ≡ 0 → DecodedException.Known Undefined ≡ exceptionOf n a b c
-  unfolding exceptionOf
-  exception-0 a b c e = sym (rw e)
-
-  pub exception-5 : (a b c : ℕ) (p : DecodedException) → p ≡ dataAbortOf a b c → n ≡ 5 → p ≡ exceptionOf n a b c
-  unfolding exceptionOf
-  exception-5 a b c p q e = q ∙ sym (rw e)
-
-  pub exception-6 : (a b c : ℕ) (p : DecodedException) → p ≡ insnAbortOf a b → n ≡ 6 → p ≡ exceptionOf n a b c
-  unfolding exceptionOf
-  exception-6 a b c p q e = q ∙ sym (rw e)
-
-  pub exception-7 : (a b c : ℕ) → n ≡ 7 → DecodedException.Known PcAlignment ≡ exceptionOf n a b c
-  unfolding exceptionOf
-  exception-7 a b c e = sym (rw e)
 
   pub exception-none : (a b c : ℕ) → (n ≡ 0 → ⊥) → (n ≡ 1 → ⊥) → (n ≡ 2 → ⊥) → (n ≡ 3 → ⊥) → (n ≡ 4 → ⊥) → (n ≡ 5 → ⊥) → (n ≡ 6 → ⊥) → (n ≡ 7 → ⊥)
       → DecodedException.Unknown ≡ exceptionOf n a b c
@@ -101,20 +66,6 @@ module _ (n : ℕ) where
     unfolding exceptionOf callExceptionOf
     exception-4 q e = q ∙ low Brk ∙ sym (rw e)
 
-  pub translate-known : (va : ℕ) (p : DecodedKind) (k : Kind) → p ≡ kindOf n → p ≡ DecodedKind.Known k → DecodedCall.Known (Call.Translate k va) ≡ translateCall (kindOf n) va
-  unfolding translateCall
-  translate-known va p k e q = ap (λ (x : DecodedKind). translateCall x va) (sym q ∙ e)
-
-  pub translate-unknown : (va : ℕ) (p : DecodedKind) → p ≡ kindOf n → p ≡ DecodedKind.Unknown → DecodedCall.Unknown ≡ translateCall (kindOf n) va
-  unfolding translateCall
-  translate-unknown va p e q = ap (λ (x : DecodedKind). translateCall x va) (sym q ∙ e)
-
-  pub abort-known : (a b c : ℕ) (p : DecodedException) (x : Exception) → p ≡ exceptionOf n a b c → p ≡ DecodedException.Known x → DecodedCall.Known (Call.Abort x) ≡ abortCall (exceptionOf n a b c)
-  abort-known a b c p x e q = ap abortCall (sym q ∙ e)
-
-  pub abort-unknown : (a b c : ℕ) (p : DecodedException) → p ≡ exceptionOf n a b c → p ≡ DecodedException.Unknown → DecodedCall.Unknown ≡ abortCall (exceptionOf n a b c)
-  abort-unknown a b c p e q = ap abortCall (sym q ∙ e)
-
 module _ (addr write fsc : ℕ) where
   pub data-read : (f : Fault) → fsc < 2 ^ 8 → f ≡ first fsc → write ≡ 0 → DecodedException.Known (dataAbortAt addr false f) ≡ dataAbortOf addr write fsc
   unfolding dataAbortOf
@@ -143,18 +94,8 @@ module _ (addr write fsc : ℕ) where
   pub insn-wide : 2 ^ 8 ≤ fsc → DecodedException.Unknown ≡ insnAbortOf addr fsc
   insn-wide h = sym (rw (le-ltb fsc (2 ^ 8) h))
 
-pub in-range : (ok : Bool) (e : Exception) → ok ≡ true → DecodedException.Known e ≡ inRange ok e
-in-range ok e t = sym (rw t)
-
-pub out-of-range : (ok : Bool) (e : Exception) → ok ≡ false → DecodedException.Unknown ≡ inRange ok e
-out-of-range ok e t = sym (rw t)
-
 -- the words of an exception name it
 module _ (e : Exception) where
-  pub words-undefined : e ≡ Undefined → exceptionOf 0 0 0 0 ≡ DecodedException.Known e
-  unfolding exceptionOf
-  words-undefined q = rw q
-
   pub words-svc : (imm : ℕ) → imm < 2 ^ 16 → e ≡ Svc imm → exceptionOf 1 imm 0 0 ≡ DecodedException.Known e
   unfolding exceptionOf callExceptionOf
   words-svc imm h q = rw (q, lt-ltb imm (2 ^ 16) h)
@@ -184,71 +125,17 @@ module _ (e : Exception) where
   unfolding exceptionOf
   words-insn a h q = rw (q, lt-ltb (a .fault .fsc) (2 ^ 8) h)
 
-  pub words-alignment : e ≡ PcAlignment → exceptionOf 7 0 0 0 ≡ DecodedException.Known e
-  unfolding exceptionOf
-  words-alignment q = rw q
-
 module _ (op : List ℕ) where
-  pub call-2 : getD op 0 0 ≡ 2 → DecodedCall.Known (Call.DataPa (getD op 1 0)) ≡ callOf op
+  pub call-none : (getD op 0 0 ≡ 1 → ⊥) → (getD op 0 0 ≡ 2 → ⊥) → (getD op 0 0 ≡ 3 → ⊥) → (getD op 0 0 ≡ 4 → ⊥) → (getD op 0 0 ≡ 5 → ⊥)
+      → (getD op 0 0 ≡ 6 → ⊥) → (getD op 0 0 ≡ 7 → ⊥) → (getD op 0 0 ≡ 8 → ⊥) → (getD op 0 0 ≡ 9 → ⊥) → (getD op 0 0 ≡ 10 → ⊥)
+      → (getD op 0 0 ≡ 11 → ⊥) → (getD op 0 0 ≡ 12 → ⊥) → DecodedCall.Unknown ≡ callOf op
   unfolding callOf
-  call-2 e = sym (rw e)
+  call-none h1 h2 h3 h4 h5 h6 h7 h8 h9 h10 h11 h12 =
+      let none = ne-eqb (getD op 0 0) in
+      sym (rw (none 1 h1, none 2 h2, none 3 h3, none 4 h4, none 5 h5, none 6 h6, none 7 h7, none 8 h8, none 9 h9, none 10 h10, none 11 h11, none 12 h12))
 
-  pub call-3 : getD op 0 0 ≡ 3 → DecodedCall.Known (Call.FetchPa (getD op 1 0)) ≡ callOf op
-  unfolding callOf
-  call-3 e = sym (rw e)
+pub ruleset exceptions = (exception-1, exception-2, exception-3, exception-4, exception-none)
 
-  pub call-4 : getD op 0 0 ≡ 4 → DecodedCall.Known (Call.Load (getD op 1 0) (getD op 2 0)) ≡ callOf op
-  unfolding callOf
-  call-4 e = sym (rw e)
-
-  pub call-5 : getD op 0 0 ≡ 5 → DecodedCall.Known (Call.Store (getD op 1 0) (getD op 2 0) (getD op 3 0)) ≡ callOf op
-  unfolding callOf
-  call-5 e = sym (rw e)
-
-  pub call-6 : getD op 0 0 ≡ 6 → DecodedCall.Known (Call.Fetch (getD op 1 0)) ≡ callOf op
-  unfolding callOf
-  call-6 e = sym (rw e)
-
-  pub call-7 : getD op 0 0 ≡ 7 → DecodedCall.Known (Call.System (encodingOf (getD op 1 0) (getD op 2 0) (getD op 3 0) (getD op 4 0) (getD op 5 0))) ≡ callOf op
-  unfolding callOf
-  call-7 e = sym (rw e)
-
-  pub call-9 : getD op 0 0 ≡ 9 → DecodedCall.Known (Call.Level (getD op 1 0)) ≡ callOf op
-  unfolding callOf
-  call-9 e = sym (rw e)
-
-  pub call-11 : getD op 0 0 ≡ 11 → DecodedCall.Known (Call.General (getD op 1 0) (getD op 2 0)) ≡ callOf op
-  unfolding callOf
-  call-11 e = sym (rw e)
-
-  pub call-1 : (p : DecodedCall) → p ≡ translateCall (kindOf (getD op 1 0)) (getD op 2 0) → getD op 0 0 ≡ 1 → p ≡ callOf op
-  unfolding callOf
-  call-1 p q e = q ∙ sym (rw e)
-
-  pub call-10 : (p : DecodedCall) → p ≡ markCall (getD op 1 0) → getD op 0 0 ≡ 10 → p ≡ callOf op
-  unfolding callOf
-  call-10 p q e = q ∙ sym (rw e)
-
-  pub call-12 : (p : DecodedCall) → p ≡ abortCall (exceptionOf (getD op 1 0) (getD op 2 0) (getD op 3 0) (getD op 4 0)) → getD op 0 0 ≡ 12 → p ≡ callOf op
-  unfolding callOf
-  call-12 p q e = q ∙ sym (rw e)
-
-  pub call-8 : (k : ℕ) → k ≡ keyOf (getD op 1 0) → getD op 0 0 ≡ 8 → DecodedCall.Known (Call.Register k (getD op 2 0)) ≡ callOf op
-  unfolding callOf
-  call-8 k q e = ap (λ (x : ℕ). DecodedCall.Known (Call.Register x (getD op 2 0))) q ∙ sym (rw e)
-
-  pub call-none : (getD op 0 0 ≡ 1 → ⊥) → (getD op 0 0 ≡ 2 → ⊥) → (getD op 0 0 ≡ 3 → ⊥) → (getD op 0 0 ≡ 4 → ⊥) → (getD op 0 0 ≡ 5 → ⊥) → (getD op 0 0 ≡ 6 → ⊥) → (getD op 0 0 ≡ 7 → ⊥) → (getD op 0 0 ≡ 8 → ⊥) → (getD op 0 0 ≡ 9 → ⊥) → (getD op 0 0 ≡ 10 → ⊥) → (getD op 0 0 ≡ 11 → ⊥) → (getD op 0 0 ≡ 12 → ⊥) → DecodedCall.Unknown ≡ callOf op
-  unfolding callOf
-  call-none h1 h2 h3 h4 h5 h6 h7 h8 h9 h10 h11 h12 = sym (rw (ne-eqb (getD op 0 0) 1 h1, ne-eqb (getD op 0 0) 2 h2, ne-eqb (getD op 0 0) 3 h3, ne-eqb (getD op 0 0) 4 h4, ne-eqb (getD op 0 0) 5 h5, ne-eqb (getD op 0 0) 6 h6, ne-eqb (getD op 0 0) 7 h7, ne-eqb (getD op 0 0) 8 h8, ne-eqb (getD op 0 0) 9 h9, ne-eqb (getD op 0 0) 10 h10, ne-eqb (getD op 0 0) 11 h11, ne-eqb (getD op 0 0) 12 h12))
-
-pub ruleset kinds = (kind-1, kind-2, kind-4, kind-none)
-
-pub ruleset marks = (mark-0, mark-1, mark-none)
-
-pub ruleset exceptions = (exception-0, exception-1, exception-2, exception-3, exception-4, exception-5, exception-6, exception-7, exception-none)
-
-pub ruleset words = (words-undefined, words-svc, words-hvc, words-smc, words-brk, words-write, words-read, words-insn, words-alignment)
+pub ruleset words = (words-svc, words-hvc, words-smc, words-brk, words-write, words-read, words-insn)
 
 pub ruleset data-aborts = (data-read, data-write, data-other, data-wide)
-
-pub ruleset calls = (call-2, call-3, call-4, call-5, call-6, call-7, call-9, call-11, call-1, call-10, call-12, call-8, call-none)

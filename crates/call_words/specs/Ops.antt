@@ -9,15 +9,13 @@ use Rattle.tlb.specs.declared.access.Kind.the-variants.{Read, Write, Fetch}
 use Rattle.exception.specs.Abort.{dataAbortAt, insnAbortAt}
 use Rattle.exception.specs.declared.kind.Exception.{Exception}
 use Rattle.exception.specs.declared.kind.Exception.the-variants.{Undefined, Svc, Hvc, Smc, Brk, PcAlignment}
-use Rattle.operations.specs.declared.call.Call.{Call}
+use Rattle.operations.specs.declared.{call.Call.Call, call.Encoding.Encoding}
 use Rattle.operations.specs.declared.call.Call.the-variants as Call
-use Rattle.operations.specs.declared.call.Encoding.{Encoding}
 use mathlib.Core.Bool.{Bool, true, false}
-use Rattle.call_words.specs.declared.op.DecodedKind.{DecodedKind}
-use Rattle.call_words.specs.declared.op.DecodedKind.the-variants as DecodedKind
-use Rattle.call_words.specs.declared.op.DecodedException.{DecodedException}
-use Rattle.call_words.specs.declared.op.DecodedException.the-variants as DecodedException
+use Rattle.call_words.specs.declared.{op.DecodedKind.DecodedKind, op.DecodedException.DecodedException}
 use Rattle.call_words.specs.declared.op.DecodedCall.{DecodedCall}
+use Rattle.call_words.specs.declared.op.DecodedKind.the-variants as DecodedKind
+use Rattle.call_words.specs.declared.op.DecodedException.the-variants as DecodedException
 use Rattle.call_words.specs.declared.op.DecodedCall.the-variants as DecodedCall
 
 -- 1 read, 2 write, 4 fetch

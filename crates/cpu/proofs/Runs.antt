@@ -6,22 +6,17 @@ use native.Mathlib.Nat.{pos-of-ne-zero}
 use native.Mathlib.Omega.{arith}
 use lib.ListN.{length}
 use Rattle.word.specs.Ram.{widthOf, bytesIn}
-use Rattle.word.specs.declared.ram.Width.{Width}
-use Rattle.word.specs.declared.ram.Sized.{Sized}
+use Rattle.word.specs.declared.{ram.Width.Width, ram.Sized.Sized}
 use Rattle.word.specs.declared.ram.Sized.the-variants.{Bytes, Refused as NoWidth}
 use Rattle.mmu.specs.Ops.{readOf, writeOf, ramAfterWrite}
-use Rattle.mmu.specs.declared.core.Core.{Core}
-use Rattle.mmu.specs.declared.ops.Translated.{Translated}
-use Rattle.mmu.specs.declared.ops.Loaded.{Loaded}
-use Rattle.mmu.specs.declared.ops.Stored.{Stored}
-use Rattle.mmu.specs.declared.ops.Fetched.{Fetched}
-use Rattle.mmu.specs.declared.ops.Addressed.{Addressed}
+use Rattle.mmu.specs.declared.{core.Core.Core, ops.Translated.Translated, ops.Loaded.Loaded, ops.Stored.Stored}
+use Rattle.mmu.specs.declared.{ops.Fetched.Fetched, ops.Addressed.Addressed}
 use Rattle.exec.specs.declared.ops.Registered.{Registered}
 use Rattle.operations.specs.Check.{missedOf}
 use Rattle.operations.specs.Replies.{translation, reaching, loading, storing, fetching, registering}
-use Rattle.cpu.specs.Step.{ends, afterTranslation, afterAddress, afterStore, afterFetch, afterWrite, loadBy, storeBy, storeRamBy, runOf, ramOf, stepOf, ramAfter}
-use Rattle.operations.specs.declared.call.Call.{Call}
-use Rattle.operations.specs.declared.call.Reply.{Reply}
+use Rattle.cpu.specs.Step.{ends, afterTranslation, afterAddress, afterStore, afterFetch, afterWrite, loadBy, storeBy, storeRamBy, runOf, ramOf, stepOf}
+use Rattle.cpu.specs.Step.{ramAfter}
+use Rattle.operations.specs.declared.{call.Call.Call, call.Reply.Reply}
 use Rattle.operations.specs.declared.call.Reply.the-variants.{Refused, Done}
 use Rattle.cpu.specs.declared.run.Stepped.{Stepped}
 
@@ -52,10 +47,12 @@ module _ (z : Sized) (size : ℕ) (c : Core) (base : ℕ) (ram : List ℕ) (va :
   store-refused-ram value e = rw (← ez, e)
 
   module _ (w : Width) (ew : z ≡ Bytes w) where
-    pub load-done : (t : Loaded) (r : Reply) → t ≡ readOf c base ram va (bytesIn w) → r ≡ loading (t .answer) → ends (t .core) r ≡ loadBy (widthOf size) c base ram va
+    pub load-done : (t : Loaded) (r : Reply) → t ≡ readOf c base ram va (bytesIn w) → r ≡ loading (t .answer) → ends (t .core) r
+        ≡ loadBy (widthOf size) c base ram va
     load-done t r e a = rw (← ez, ew, ← e, a)
 
-    pub store-done : (t : Stored) (r : Reply) → t ≡ writeOf c base ram va (bytesIn w) → r ≡ storing (t .answer) → ends (t .core) r ≡ storeBy (widthOf size) c base ram va
+    pub store-done : (t : Stored) (r : Reply) → t ≡ writeOf c base ram va (bytesIn w) → r ≡ storing (t .answer) → ends (t .core) r
+        ≡ storeBy (widthOf size) c base ram va
     store-done t r e a = rw (← ez, ew, ← e, a)
 
     pub store-done-ram : (ys : List ℕ) (value : ℕ) → ys ≡ ramAfterWrite c base ram va (bytesIn w) value → ys ≡ storeRamBy (widthOf size) c base ram va value

@@ -1,7 +1,7 @@
 -- Document 01's thirteen proved cases and the last address in range, as one computed statement about calls on a core with an empty cache.
 use mathlib.Core.Path.{_≡_, refl}
-use mathlib.Core.Bool.{Bool, true, false}
-use mathlib.Core.List.{List, [], _∷_}
+use mathlib.Core.Bool.{true, false}
+use mathlib.Core.List.{[], _∷_}
 use Prim.Native.Nat.{ℕ, _^_}
 use lib.ListN.{getD, replicate}
 use Rattle.word.specs.Ram.{wordAt, littleEndian, bytesOf}
@@ -10,7 +10,8 @@ use Rattle.sysreg.specs.Encoding.{registerAt}
 use Rattle.sysreg.specs.Regs.{levels, freshSys}
 use Rattle.walk.specs.Tag.{untagged}
 use Rattle.walk.specs.Size.{paSize}
-use Rattle.walk.specs.Table.{rangeOf, paramsOf, tableNext, leafPermissions, leafTranslation, leafResult, levelNext, descaddr, lookupNext, walkFrom, walkRange, tableWalk}
+use Rattle.walk.specs.Table.{rangeOf, paramsOf, tableNext, leafPermissions, leafTranslation, leafResult, levelNext, descaddr, lookupNext, walkFrom, walkRange}
+use Rattle.walk.specs.Table.{tableWalk}
 use Rattle.walk.specs.Walk.{walkOf}
 use Rattle.walk.specs.declared.regime.Regime.the-variants.{El1}
 use Rattle.tlb.specs.Access.{judged}
@@ -36,9 +37,8 @@ use Rattle.exec.specs.Ops.{abortOf}
 use Rattle.exec.specs.Sys.{withPar, atOf, sysOf}
 use Rattle.operations.specs.Check.{missedOf}
 use Rattle.cpu.specs.Step.{runOf, stepOf}
-use Rattle.operations.specs.declared.call.Call.{Call}
+use Rattle.operations.specs.declared.{call.Call.Call, call.Reply.Reply}
 use Rattle.operations.specs.declared.call.Call.the-variants.{Translate, System, Abort}
-use Rattle.operations.specs.declared.call.Reply.{Reply}
 use Rattle.operations.specs.declared.call.Reply.the-variants.{Value, Fault}
 use Rattle.cpu.specs.declared.run.Stepped.{Stepped}
 
@@ -120,5 +120,8 @@ pub cases :
     ∷ Value 0x9200004D
     ∷ Value 0xBFFFFFFF
     ∷ [])
-unfolding row elsewhere par esr at called stepOf runOf missedOf translateOf steppedNow translationOf registerAt freshSys regOf afterAccess sysOf atOf withPar abortOf takeSync takeException enteredSys spsrOf routedTo syndromeOf named decodeOf success abort leafPar parIn atPar judged blanks noHints placeOf byWalk resolveWith missWith applied translationWith fetchApplied fetchEnd fetchWith walkOf tableWalk walkRange walkFrom lookupNext levelNext leafResult leafTranslation leafPermissions tableNext descaddr rangeOf paramsOf paSize untagged wordAt littleEndian bytesOf
+unfolding row elsewhere par esr at called stepOf runOf missedOf translateOf steppedNow translationOf registerAt freshSys regOf afterAccess sysOf atOf withPar
+    abortOf takeSync takeException enteredSys spsrOf routedTo syndromeOf named decodeOf success abort leafPar parIn atPar judged blanks noHints placeOf byWalk
+    resolveWith missWith applied translationWith fetchApplied fetchEnd fetchWith walkOf tableWalk walkRange walkFrom lookupNext levelNext leafResult
+    leafTranslation leafPermissions tableNext descaddr rangeOf paramsOf paSize untagged wordAt littleEndian bytesOf
 cases = refl

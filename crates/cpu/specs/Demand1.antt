@@ -1,6 +1,6 @@
 -- Every call ends: a number and nothing changed, or its value, its fault, Undefined or Unimplemented.
 use mathlib.Core.Path.{_≡_, refl, sym, ap, subst, subst⁻¹, _∙_}
-use mathlib.Core.Bool.{Bool, true, false, not, _&&_}
+use mathlib.Core.Bool.{Bool, true, false, _&&_}
 use mathlib.Core.List.{List, [], _∷_}
 use Prim.Native.Nat.{ℕ, zero, suc, _+_, _≤_}
 use native.Mathlib.Omega.{arith}
@@ -8,18 +8,16 @@ use borrow.Author.Tests.{leb-true, not-false}
 use lib.Dec.{eqb, leb}
 use lib.ListN.{length}
 use Rattle.word.specs.Bits.{pick, wrap, alignDown}
+use Rattle.word.specs.BitLaws.{both}
 use Rattle.word.specs.Ram.{wordAt, widthOf, bytesIn, within}
 use Rattle.word.specs.declared.ram.Sized.{Sized}
 use Rattle.word.specs.declared.ram.Sized.the-variants.{Bytes, Refused as NoWidth}
 use Rattle.sysreg.specs.Encoding.{registerAt}
 use Rattle.sysreg.specs.Write.{names, ended, wrote, writeFound, writeReg}
-use Rattle.sysreg.specs.declared.encoding.Found.{Found}
+use Rattle.sysreg.specs.declared.{encoding.Found.Found, regs.Control.Control, regs.SysRegs.SysRegs}
+use Rattle.sysreg.specs.declared.{regs.Register.Register, write.WriteAnswer.WriteAnswer}
 use Rattle.sysreg.specs.declared.encoding.Found.the-variants.{At as FoundAt, Nothing as NotFound}
-use Rattle.sysreg.specs.declared.regs.Control.{Control}
-use Rattle.sysreg.specs.declared.regs.SysRegs.{SysRegs}
-use Rattle.sysreg.specs.declared.regs.Register.{Register}
 use Rattle.sysreg.specs.declared.regs.Register.the-variants.{InControl, InSys}
-use Rattle.sysreg.specs.declared.write.WriteAnswer.{WriteAnswer}
 use Rattle.sysreg.specs.declared.write.WriteAnswer.the-variants as Written
 use Rattle.tlb.specs.declared.access.Answer.{Answer}
 use Rattle.tlb.specs.declared.access.Answer.the-variants.{Address, Status}
@@ -29,31 +27,27 @@ use Rattle.sysop.specs.declared.op.SysOp.the-variants as SysOp
 use Rattle.mmu.specs.Core.{regOf}
 use Rattle.operations.specs.Place.{verdictOf as judged}
 use Rattle.operations.specs.Bytes.{valueAt}
-use Rattle.mmu.specs.Says.{Said, value, done, fault, faults, undefined, unimplemented, stopSays, loadSays, storeSays, fetchSays, memorySays, accessSays, insnSays, load-says, store-says, fetch-says}
+use Rattle.mmu.specs.Says.{Said, value, done, fault, faults, undefined, unimplemented, stopSays, loadSays, storeSays, fetchSays, memorySays, accessSays}
+use Rattle.mmu.specs.Says.{insnSays, load-says, store-says, fetch-says}
 use Rattle.mmu.specs.Ops.{translateOf, readOf, writeOf, ramAfterWrite, fetchOf, fetchPaOf, dataPaOf, locatedNow, fetchSteppedNow}
 use Rattle.mmu.specs.OpLaws.{ram-length, store}
-use Rattle.mmu.specs.declared.core.Core.{Core}
-use Rattle.operations.specs.declared.place.Placed.{Placed}
+use Rattle.mmu.specs.declared.{core.Core.Core, ops.Stored.Stored}
+use Rattle.operations.specs.declared.{place.Placed.Placed, place.Verdict.Verdict, ends.LoadAnswer.LoadAnswer}
+use Rattle.operations.specs.declared.{ends.StoreAnswer.StoreAnswer, ends.FetchAnswer.FetchAnswer, ends.Reached.Reached}
+use Rattle.operations.specs.declared.{call.Call.Call, call.Reply.Reply}
 use Rattle.operations.specs.declared.place.Placed.the-variants as Placed
-use Rattle.operations.specs.declared.place.Verdict.{Verdict}
 use Rattle.operations.specs.declared.place.Verdict.the-variants.{Inside, Outside}
-use Rattle.operations.specs.declared.ends.LoadAnswer.{LoadAnswer}
 use Rattle.operations.specs.declared.ends.LoadAnswer.the-variants as Load
-use Rattle.operations.specs.declared.ends.StoreAnswer.{StoreAnswer}
 use Rattle.operations.specs.declared.ends.StoreAnswer.the-variants as Store
-use Rattle.operations.specs.declared.ends.FetchAnswer.{FetchAnswer}
 use Rattle.operations.specs.declared.ends.FetchAnswer.the-variants as Fetched
-use Rattle.operations.specs.declared.ends.Reached.{Reached}
 use Rattle.operations.specs.declared.ends.Reached.the-variants as Reach
-use Rattle.mmu.specs.declared.ops.Stored.{Stored}
 use Rattle.exec.specs.Ops.{registered, written, writeRegister}
 use Rattle.exec.specs.Sys.{onStored, zeroOf, zeroRam, sysBy, sysRamBy, opOf, sysOf, sysRam}
 use Rattle.operations.specs.Check.{Row, checksOf, firstOf, missedOf, isWidth, known, kept}
 use Rattle.operations.specs.Replies.{translation, loading, storing, fetching, reaching, registering}
 use Rattle.cpu.specs.Step.{ends, loadBy, storeBy, storeRamBy, refusedOr, missedBy, runOf, ramOf, stepOf, ramAfter}
-use Rattle.operations.specs.declared.call.Call.{Call}
-use Rattle.operations.specs.declared.call.Call.the-variants.{Translate, DataPa, FetchPa, Load as LoadCall, Store as StoreCall, Fetch, System, Register as RegisterCall, Level, Mark, General, Abort}
-use Rattle.operations.specs.declared.call.Reply.{Reply}
+use Rattle.operations.specs.declared.call.Call.the-variants.{Translate, DataPa, FetchPa, Load as LoadCall, Store as StoreCall, Fetch, System}
+use Rattle.operations.specs.declared.call.Call.the-variants.{Register as RegisterCall, Level, Mark, General, Abort}
 use Rattle.operations.specs.declared.call.Reply.the-variants.{Refused, Done, Value, Faults, Fault, Stopped}
 
 -- a reply as document 01's number, or what it says: a value, a fault's address and status, done, Undefined, Unimplemented
@@ -89,11 +83,6 @@ checks-numbered level base len (Level requested) = refl
 checks-numbered level base len (Mark mark) = refl
 checks-numbered level base len (General n v) = refl
 checks-numbered level base len (Abort e) = refl
-
-both : (a b : Bool) → a && b ≡ true → (a ≡ true) × (b ≡ true)
-both true true e = (refl, refl)
-both true false e = (refl, e)
-both false b e = absurd (let z : _≡_ {A = ℕ} 1 0 = ap (λ (x : Bool). pick x 0 1) e in omega arith)
 
 first-le : (rows : List Row) → numbered rows ≡ true → firstOf rows ≤ 6
 first-le [] h = omega arith
@@ -288,7 +277,8 @@ module _ (c : Core) (base : ℕ) (ram : List ℕ) where
 
   stores : (s : Sized) (va v : ℕ) → isWidth s ≡ true
       → Ran c ram (storeBy s c base ram va .core) (storeRamBy s c base ram va v) (outcomeOf (storeBy s c base ram va .reply))
-  stores (Bytes w) va v h = stored (writeOf c base ram va (bytesIn w) .core) (writeOf c base ram va (bytesIn w) .answer) _ (store-wrote c base ram va (bytesIn w) v)
+  stores (Bytes w) va v h = stored (writeOf c base ram va (bytesIn w) .core) (writeOf c base ram va (bytesIn w) .answer) _
+      (store-wrote c base ram va (bytesIn w) v)
   stores NoWidth va v h = absurd (let z : _≡_ {A = ℕ} 0 1 = ap (λ (x : Bool). pick x 1 0) h in omega arith)
 
   -- a call that misses no check ends in a value, a fault, Undefined or Unimplemented, or is done
@@ -299,7 +289,8 @@ module _ (c : Core) (base : ℕ) (ram : List ℕ) where
   ran (DataPa va) e = addressed (dataPaOf c (wordAt base ram 8) va .core) (dataPaOf c (wordAt base ram 8) va .answer)
   ran (FetchPa va) e = addressed (fetchPaOf c (wordAt base ram 8) va .core) (fetchPaOf c (wordAt base ram 8) va .answer)
   ran (LoadCall va size) e = loads (widthOf size) va (not-false (known size) (all-passed (c .privilege .level) base (length ram) (LoadCall va size) e .1 .1 .0))
-  ran (StoreCall va size v) e = stores (widthOf size) va v (not-false (known size) (all-passed (c .privilege .level) base (length ram) (StoreCall va size v) e .1 .1 .0))
+  ran (StoreCall va size v) e = stores (widthOf size) va v (not-false (known size)
+      (all-passed (c .privilege .level) base (length ram) (StoreCall va size v) e .1 .1 .0))
   ran (Fetch va) e = fetched va
   ran (System f) e = system (opOf c (f .op1) (f .crn) (f .crm) (f .op2)) (f .op1) (f .crm) (f .op2) (regOf c (f .rt))
   ran (RegisterCall key v) e = registers key v (not-false (kept key) (all-passed (c .privilege .level) base (length ram) (RegisterCall key v) e .1 .0))

@@ -7,19 +7,15 @@ use Rattle.word.specs.declared.ram.Sized.{Sized}
 use Rattle.word.specs.declared.ram.Sized.the-variants.{Bytes, Refused as NoWidth}
 use Rattle.mmu.specs.Core.{setReg}
 use Rattle.mmu.specs.Ops.{translateOf, readOf, writeOf, ramAfterWrite, fetchOf, fetchPaOf, dataPaOf}
-use Rattle.mmu.specs.declared.core.Core.{Core}
-use Rattle.mmu.specs.declared.ops.Translated.{Translated}
-use Rattle.mmu.specs.declared.ops.Loaded.{Loaded}
-use Rattle.mmu.specs.declared.ops.Stored.{Stored}
-use Rattle.mmu.specs.declared.ops.Fetched.{Fetched}
-use Rattle.mmu.specs.declared.ops.Addressed.{Addressed}
+use Rattle.mmu.specs.declared.{core.Core.Core, ops.Translated.Translated, ops.Loaded.Loaded, ops.Stored.Stored}
+use Rattle.mmu.specs.declared.{ops.Fetched.Fetched, ops.Addressed.Addressed}
 use Rattle.exec.specs.Ops.{writeRegister, setLevel, setMark, abortOf}
 use Rattle.exec.specs.Sys.{sysOf, sysRam}
 use Rattle.exec.specs.declared.ops.Registered.{Registered}
 use Rattle.operations.specs.Check.{missedOf}
-use Rattle.operations.specs.declared.call.Call.{Call}
-use Rattle.operations.specs.declared.call.Call.the-variants.{Translate, DataPa, FetchPa, Load as LoadCall, Store as StoreCall, Fetch, System, Register, Level, Mark, General, Abort}
-use Rattle.operations.specs.declared.call.Reply.{Reply}
+use Rattle.operations.specs.declared.{call.Call.Call, call.Reply.Reply}
+use Rattle.operations.specs.declared.call.Call.the-variants.{Translate, DataPa, FetchPa, Load as LoadCall, Store as StoreCall, Fetch, System, Register, Level}
+use Rattle.operations.specs.declared.call.Call.the-variants.{Mark, General, Abort}
 use Rattle.operations.specs.declared.call.Reply.the-variants.{Refused, Done}
 use Rattle.cpu.specs.declared.run.Stepped.{Stepped}
 use Rattle.operations.specs.Replies.{translation, loading, storing, fetching, reaching, registering}

@@ -1,7 +1,7 @@
 // Each call's operation, by value.
 ghost use mathlib.Core.Path.{_≡_};
 ghost use Rattle.word.specs.Ram.{wordAt, widthOf};
-ghost use Rattle.mmu.specs.Ops.{translateOf, readOf, writeOf, ramAfterWrite, fetchOf, fetchPaOf, dataPaOf};
+ghost use Rattle.mmu.specs.Ops.{translateOf, fetchOf};
 ghost use Rattle.exec.specs.Ops.{writeRegister};
 ghost use Rattle.exec.specs.Sys.{sysOf, sysRam};
 ghost use Rattle.cpu.specs.Step.{ends, afterTranslation, afterAddress, afterFetch, afterStore, afterWrite};

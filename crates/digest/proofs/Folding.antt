@@ -26,7 +26,8 @@ end f n i h p =
     ap (λ (m : ℕ). digestFrom h (gathered f m i)) e
 
 -- a loop's turn: the digest took in thing i
-pub again : (f : ℕ → List ℕ) (n i h k total : ℕ) → i < n → k ≡ digestFrom h (f i) → digestFrom h (gathered f (n - i) i) ≡ total → digestFrom k (gathered f (n - (i + 1)) (i + 1)) ≡ total
+pub again : (f : ℕ → List ℕ) (n i h k total : ℕ) → i < n → k ≡ digestFrom h (f i) → digestFrom h (gathered f (n - i) i) ≡ total
+    → digestFrom k (gathered f (n - (i + 1)) (i + 1)) ≡ total
 again f n i h k total p e q =
     ap (λ (x : ℕ). digestFrom x (gathered f (n - (i + 1)) (i + 1))) e ∙ (sym (turn f n i h p) ∙ q)
 
@@ -45,7 +46,8 @@ unfolding digestFrom
 three h a b c x y z p q r = r ∙ ap (λ (v : ℕ). joined v c) (q ∙ ap (λ (v : ℕ). joined v b) p)
 
 -- three words, three more, of which one is known by another name, and one
-pub seven : (h a b c d e f g u x y z : ℕ) → x ≡ digestFrom h (a ∷ b ∷ c ∷ []) → y ≡ digestFrom x (d ∷ e ∷ f ∷ []) → z ≡ joined y g → e ≡ u → z ≡ digestFrom h (a ∷ b ∷ c ∷ d ∷ u ∷ f ∷ g ∷ [])
+pub seven : (h a b c d e f g u x y z : ℕ) → x ≡ digestFrom h (a ∷ b ∷ c ∷ []) → y ≡ digestFrom x (d ∷ e ∷ f ∷ []) → z ≡ joined y g → e ≡ u → z
+    ≡ digestFrom h (a ∷ b ∷ c ∷ d ∷ u ∷ f ∷ g ∷ [])
 unfolding digestFrom
 seven h a b c d e f g u x y z p q r w =
     r ∙ (ap (λ (v : ℕ). joined v g) (q ∙ ap (λ (v : ℕ). joined (joined (joined v d) e) f) p)

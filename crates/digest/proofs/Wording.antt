@@ -1,5 +1,5 @@
 -- Laws of words made of bytes.
-use mathlib.Core.Path.{_≡_, refl, ap, sym, _∙_}
+use mathlib.Core.Path.{_≡_, ap, sym, _∙_}
 use mathlib.Core.Bool.{Bool, true, false}
 use mathlib.Core.List.{List, [], _∷_, _++_}
 use Prim.Native.Nat.{ℕ, zero, suc, _+_, _*_, _-_, _≤_, _/_}
@@ -60,13 +60,15 @@ last f (suc m) i h =
     ∙ ap (λ (j : ℕ). digestFrom (digestFrom h (f i ++ gathered f m (i + 1))) (f j)) (omega arith)))
 
 -- the bytes are whole words
-pub all-whole : (ram : List ℕ) (n s h : ℕ) → n ≡ length ram / 8 → length ram ≡ n * 8 → h ≡ digestFrom s (gathered (wholeWord ram) (length ram / 8) 0) → h ≡ digestFrom s (gathered (wholeWord ram) ((length ram + 7) / 8) 0)
+pub all-whole : (ram : List ℕ) (n s h : ℕ) → n ≡ length ram / 8 → length ram ≡ n * 8 → h ≡ digestFrom s (gathered (wholeWord ram) (length ram / 8) 0) → h
+    ≡ digestFrom s (gathered (wholeWord ram) ((length ram + 7) / 8) 0)
 all-whole ram n s h p q e =
     let m : length ram / 8 ≡ (length ram + 7) / 8 = omega arith in
     e ∙ ap (λ (k : ℕ). digestFrom s (gathered (wholeWord ram) k 0)) m
 
 -- the bytes are whole words and a part of one
-pub and-part : (ram : List ℕ) (n s h w k : ℕ) → n ≡ length ram / 8 → (length ram ≡ n * 8 → ⊥) → h ≡ digestFrom s (gathered (wholeWord ram) (length ram / 8) 0) → w ≡ littleEndian ram 8 (n * 8) → k ≡ joined h w → k ≡ digestFrom s (gathered (wholeWord ram) ((length ram + 7) / 8) 0)
+pub and-part : (ram : List ℕ) (n s h w k : ℕ) → n ≡ length ram / 8 → (length ram ≡ n * 8 → ⊥) → h ≡ digestFrom s (gathered (wholeWord ram) (length ram / 8) 0)
+    → w ≡ littleEndian ram 8 (n * 8) → k ≡ joined h w → k ≡ digestFrom s (gathered (wholeWord ram) ((length ram + 7) / 8) 0)
 and-part ram n s h w k p q e r t =
     let m : suc (length ram / 8) ≡ (length ram + 7) / 8 = omega arith in
     let i : n ≡ 0 + length ram / 8 = omega arith in
@@ -76,7 +78,8 @@ and-part ram n s h w k p q e r t =
     ∙ (sym (last (wholeWord ram) (length ram / 8) 0 s) ∙ ap (λ (j : ℕ). digestFrom s (gathered (wholeWord ram) j 0)) m)))
 
 -- base, length and words
-pub headed : (base : ℕ) (ram : List ℕ) (x y r : ℕ) → x ≡ joined 0x9E3779B97F4A7C15 base → y ≡ joined x (length ram) → r ≡ digestFrom y (gathered (wholeWord ram) ((length ram + 7) / 8) 0) → r ≡ digestOf (windowWords base ram)
+pub headed : (base : ℕ) (ram : List ℕ) (x y r : ℕ) → x ≡ joined 0x9E3779B97F4A7C15 base → y ≡ joined x (length ram) → r
+    ≡ digestFrom y (gathered (wholeWord ram) ((length ram + 7) / 8) 0) → r ≡ digestOf (windowWords base ram)
 unfolding digestFrom
 headed base ram x y r p q e =
     e ∙ ap (λ (d : ℕ). digestFrom d (gathered (wholeWord ram) ((length ram + 7) / 8) 0)) (q ∙ ap (λ (v : ℕ). joined v (length ram)) p)

@@ -6,11 +6,7 @@ use lib.Dec.{eqb}
 use lib.ListN.{getD}
 use Rattle.word.specs.Bits.{flag, pick}
 use Rattle.tlb.specs.Cache.{entryAt, hintAt}
-use Rattle.tlb.specs.declared.cache.Cache.{Cache}
-use Rattle.tlb.specs.declared.entry.Entry.{Entry}
-use Rattle.tlb.specs.declared.entry.Current.{Current}
-use Rattle.tlb.specs.declared.hint.Hint.{Hint}
-use Rattle.tlb.specs.declared.hint.FetchHint.{FetchHint}
+use Rattle.tlb.specs.declared.{cache.Cache.Cache, entry.Entry.Entry, entry.Current.Current, hint.FetchHint.FetchHint}
 use Rattle.digest.specs.Fold.{gathered}
 use Rattle.words.specs.Places.{LEVEL}
 

@@ -6,24 +6,19 @@ use native.Mathlib.Omega.{arith}
 use lib.ListN.{length, getD, set}
 use Rattle.word.specs.Bits.{wrap}
 use Rattle.sysreg.specs.Regs.{levelOf, sysAt}
-use Rattle.sysreg.specs.declared.regs.El.{El}
+use Rattle.sysreg.specs.declared.{regs.El.El, regs.SysRegs.SysRegs}
 use Rattle.sysreg.specs.declared.regs.El.the-variants.{El1, El2, El3}
 use Rattle.sysreg.specs.declared.regs.SysReg.the-variants.{Vbar}
-use Rattle.sysreg.specs.declared.regs.SysRegs.{SysRegs}
-use Rattle.exception.specs.declared.kind.Exception.{Exception}
-use Rattle.exception.specs.declared.flags.Flags.{Flags}
-use Rattle.exception.specs.declared.report.Report.{Report}
-use Rattle.exception.specs.declared.route.Routed.{Routed}
-use Rattle.exception.specs.declared.take.Entered.{Entered}
-use Rattle.exception.specs.declared.take.Reported.{Reported}
-use Rattle.exception.specs.declared.take.Taken.{Taken}
+use Rattle.exception.specs.declared.{kind.Exception.Exception, flags.Flags.Flags, report.Report.Report}
+use Rattle.exception.specs.declared.{route.Routed.Routed, take.Entered.Entered, take.Reported.Reported}
+use Rattle.exception.specs.declared.{take.Taken.Taken, take.Update.Update}
 use Rattle.exception.specs.Pstate.{spsrOf}
 use Rattle.exception.specs.Syndrome.{syndromeOf}
 use Rattle.exception.specs.Route.{routedTo}
-use Rattle.exception.specs.Entry.{vectOffset, atTarget, updated, updatedSys, entryFlags, enteredWith, enterOf, originOf, takenTo, syncReport, syncChanges, takeSync}
+use Rattle.exception.specs.Entry.{vectOffset, atTarget, updatedSys, entryFlags, enteredWith, enterOf, originOf, takenTo, syncReport, syncChanges}
+use Rattle.exception.specs.Entry.{takeSync}
 use Rattle.exception.specs.EntryLaws.{entered-report, take-changes}
 use Rattle.exception.specs.Parts.{farUpdate}
-use Rattle.exception.specs.declared.take.Update.{Update}
 use Rattle.exception.specs.declared.take.Update.the-variants.{Write}
 
 -- one store into an array of four
@@ -37,27 +32,7 @@ stored (a ∷ b ∷ c ∷ d ∷ []) t v El2 h e = rw e
 stored (a ∷ b ∷ c ∷ d ∷ []) t v El3 h e = rw e
 stored (a ∷ b ∷ c ∷ d ∷ x ∷ l) t v el h e = absurd (omega arith)
 
--- a register of the target level is written
-pub is-written : (l a : List ℕ) (target : El) (u : Update) (v : ℕ) → u ≡ Write v → a ≡ atTarget target v l → a ≡ updated target u l
-is-written l a target u v h e = rw h e
-
 module _ (s : SysRegs) (target : El) (esr far : Update) where
-  -- the four arrays that change
-  pub arrays : (spsr ret : ℕ) (a b c d : List ℕ) → a ≡ atTarget target ret (s .elr) → b ≡ atTarget target spsr (s .spsr)
-      → c ≡ updated target esr (s .esr) → d ≡ updated target far (s .far)
-      → record {
-        mair = s .mair;
-        vbar = s .vbar;
-        elr = a;
-        spsr = b;
-        esr = c;
-        far = d;
-        «vpidr_el2» = s .«vpidr_el2»;
-        «vmpidr_el2» = s .«vmpidr_el2»;
-        «par_el1» = s .«par_el1»;
-      } ≡ updatedSys s target esr far spsr ret
-  arrays spsr ret a b c d ea eb ec ed = rw (ea, eb, ec, ed)
-
   -- the level, PSTATE, the PC and the registers
   pub entered : (t offset pc spsr ret : ℕ) (f h : Flags) (q : SysRegs) → t ≡ levelOf target → h ≡ entryFlags f
       → pc ≡ wrap (getD (s .vbar) t 0 + offset) → q ≡ updatedSys s target esr far spsr ret

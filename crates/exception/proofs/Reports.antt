@@ -5,9 +5,8 @@ use lib.Dec.{ltb}
 use Rattle.word.specs.Bits.{pick}
 use Rattle.exception.specs.declared.kind.DataAbort.{DataAbort as DataAborted}
 use Rattle.exception.specs.declared.kind.InsnAbort.{InsnAbort as InsnAborted}
-use Rattle.exception.specs.declared.kind.Exception.{Exception}
+use Rattle.exception.specs.declared.{kind.Exception.Exception, report.Report.Report}
 use Rattle.exception.specs.declared.kind.Exception.the-variants.{DataAbort, InsnAbort}
-use Rattle.exception.specs.declared.report.Report.{Report}
 use Rattle.exception.specs.Syndrome.{esrOf, dataStatus, syndromeOf}
 use Rattle.exception.specs.Parts.{located}
 

@@ -5,10 +5,8 @@ use Prim.Native.Nat.{ℕ}
 use lib.Dec.{eqb}
 use Rattle.sysreg.specs.declared.regs.El.{El}
 use Rattle.sysreg.specs.declared.regs.El.the-variants.{El2, El3}
-use Rattle.exception.specs.declared.kind.Exception.{Exception}
+use Rattle.exception.specs.declared.{kind.Exception.Exception, route.Origin.Origin, route.Routed.Routed}
 use Rattle.exception.specs.declared.kind.Exception.the-variants.{Undefined, Svc, Hvc, Smc}
-use Rattle.exception.specs.declared.route.Origin.{Origin}
-use Rattle.exception.specs.declared.route.Routed.{Routed}
 use Rattle.exception.specs.Route.{isSecure, hce, smd, tsc, tge, elOf, defaultTarget, callTarget, nextInstr, routedTo}
 use Rattle.exception.specs.Parts.{usually}
 
@@ -44,9 +42,6 @@ module _ (o : Origin) where
   pub smc-off : (imm : ℕ) (r : Routed) → smd o ≡ true → r ≡ usually o Undefined (o .pc) → r ≡ routedTo o (Smc imm)
   unfolding routedTo
   smc-off imm r d e = rw d e
-
-  pub to-default : (t : El) (e : Exception) (ret : ℕ) → t ≡ defaultTarget o → record { exception = e; target = t; ret = ret } ≡ usually o e ret
-  to-default t e ret h = rw h
 
   -- the exception is known
   pub routed-as : (x e : Exception) (r : Routed) → e ≡ x → r ≡ routedTo o x → r ≡ routedTo o e

@@ -6,14 +6,11 @@ use mathlib.Core.List.{List, [], _∷_}
 use Prim.Native.Nat.{ℕ}
 use Rattle.fault.specs.First.{first}
 use Rattle.sysreg.specs.Regs.{levels, sysAt}
-use Rattle.sysreg.specs.declared.regs.El.{El}
+use Rattle.sysreg.specs.declared.{regs.El.El, regs.SysRegs.SysRegs}
 use Rattle.sysreg.specs.declared.regs.El.the-variants.{El1, El2, El3}
 use Rattle.sysreg.specs.declared.regs.SysReg.the-variants.{Elr, Spsr, Esr, Far}
-use Rattle.sysreg.specs.declared.regs.SysRegs.{SysRegs}
-use Rattle.exception.specs.declared.kind.Exception.{Exception}
+use Rattle.exception.specs.declared.{kind.Exception.Exception, flags.Flags.Flags, take.Entered.Entered}
 use Rattle.exception.specs.declared.kind.Exception.the-variants.{Svc, Hvc, Smc, Brk, PcAlignment}
-use Rattle.exception.specs.declared.flags.Flags.{Flags}
-use Rattle.exception.specs.declared.take.Entered.{Entered}
 use Rattle.exception.specs.declared.take.Update.the-variants.{Keep}
 use Rattle.exception.specs.Pstate.{spsrOf}
 use Rattle.exception.specs.Abort.{dataAbortAt, insnAbortAt}

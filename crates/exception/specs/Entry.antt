@@ -7,19 +7,11 @@ use lib.Dec.{eqb}
 use Rattle.word.specs.Bits.{wrap, pick}
 use Rattle.sysreg.specs.Regs.{levelOf, sysAt}
 use Rattle.sysreg.specs.Write.{bank}
-use Rattle.sysreg.specs.declared.regs.El.{El}
-use Rattle.sysreg.specs.declared.regs.SysReg.{SysReg}
+use Rattle.sysreg.specs.declared.{regs.El.El, regs.SysReg.SysReg, regs.SysRegs.SysRegs}
 use Rattle.sysreg.specs.declared.regs.SysReg.the-variants.{Mair, Vbar, Elr, Spsr, Esr, Far, Vpidr, Vmpidr, Par}
-use Rattle.sysreg.specs.declared.regs.SysRegs.{SysRegs}
-use Rattle.exception.specs.declared.kind.Exception.{Exception}
-use Rattle.exception.specs.declared.flags.Flags.{Flags}
-use Rattle.exception.specs.declared.report.Report.{Report}
-use Rattle.exception.specs.declared.route.Origin.{Origin}
-use Rattle.exception.specs.declared.route.Routed.{Routed}
-use Rattle.exception.specs.declared.take.Entered.{Entered}
-use Rattle.exception.specs.declared.take.Reported.{Reported}
-use Rattle.exception.specs.declared.take.Taken.{Taken}
-use Rattle.exception.specs.declared.take.Update.{Update}
+use Rattle.exception.specs.declared.{kind.Exception.Exception, flags.Flags.Flags, report.Report.Report}
+use Rattle.exception.specs.declared.{route.Origin.Origin, route.Routed.Routed, take.Entered.Entered}
+use Rattle.exception.specs.declared.{take.Reported.Reported, take.Taken.Taken, take.Update.Update}
 use Rattle.exception.specs.declared.take.Update.the-variants.{Write, Keep}
 use Rattle.exception.specs.Pstate.{daifAll, spsrOf}
 use Rattle.exception.specs.Syndrome.{syndromeOf}

@@ -8,22 +8,18 @@ use lib.ListN.{getD}
 use Rattle.word.specs.Bits.{pick}
 use Rattle.sysreg.specs.Regs.{levelOf, sysAt}
 use Rattle.sysreg.specs.EncodingLaws.{by-level}
-use Rattle.sysreg.specs.declared.regs.El.{El}
+use Rattle.sysreg.specs.declared.{regs.El.El, regs.SysReg.SysReg, regs.SysRegs.SysRegs}
 use Rattle.sysreg.specs.declared.regs.El.the-variants.{El1, El2, El3}
-use Rattle.sysreg.specs.declared.regs.SysReg.{SysReg}
 use Rattle.sysreg.specs.declared.regs.SysReg.the-variants.{Mair, Vbar, Elr, Spsr, Esr, Far, Vpidr, Vmpidr, Par}
-use Rattle.sysreg.specs.declared.regs.SysRegs.{SysRegs}
-use Rattle.exception.specs.declared.kind.Exception.{Exception}
+use Rattle.exception.specs.declared.{kind.Exception.Exception, flags.Flags.Flags, report.Report.Report}
+use Rattle.exception.specs.declared.{route.Origin.Origin, take.Taken.Taken}
 use Rattle.exception.specs.declared.kind.Exception.the-variants.{Undefined, Svc, Hvc, Smc, Brk, DataAbort, InsnAbort, PcAlignment}
-use Rattle.exception.specs.declared.flags.Flags.{Flags}
-use Rattle.exception.specs.declared.report.Report.{Report}
-use Rattle.exception.specs.declared.route.Origin.{Origin}
 use Rattle.exception.specs.Pstate.{spsrOf}
 use Rattle.exception.specs.Syndrome.{syndromeOf}
 use Rattle.exception.specs.Route.{defaultTarget, smcTrapped, callTarget, targetEl, generated, routedTo}
-use Rattle.exception.specs.Entry.{vectOffset, sameEl, atTarget, enteredSys, registerAfter, ofEntry, updated, changesOf, enteredWith, takenTo, takeException, enterOf, originOf, syncReport, syncChanges, takeSync}
+use Rattle.exception.specs.Entry.{vectOffset, sameEl, atTarget, enteredSys, registerAfter, ofEntry, updated, changesOf, enteredWith, takenTo}
+use Rattle.exception.specs.Entry.{takeException, enterOf, originOf, syncReport, syncChanges, takeSync}
 use Rattle.exception.specs.Parts.{farUpdate}
-use Rattle.exception.specs.declared.take.Taken.{Taken}
 use Rattle.exception.specs.declared.take.Update.the-variants.{Write, Keep}
 
 module _ (s : SysRegs) (target : El) (r : Report) (spsr ret : ℕ) where

@@ -2,11 +2,8 @@
 use mathlib.Core.Bool.{true, false}
 use Prim.Native.Nat.{ℕ}
 use Rattle.word.specs.Bits.{pick}
-use Rattle.exception.specs.declared.kind.Exception.{Exception}
-use Rattle.exception.specs.declared.report.Report.{Report}
-use Rattle.exception.specs.declared.route.Origin.{Origin}
-use Rattle.exception.specs.declared.route.Routed.{Routed}
-use Rattle.exception.specs.declared.take.Update.{Update}
+use Rattle.exception.specs.declared.{kind.Exception.Exception, report.Report.Report, route.Origin.Origin}
+use Rattle.exception.specs.declared.{route.Routed.Routed, take.Update.Update}
 use Rattle.exception.specs.declared.take.Update.the-variants.{Write, Keep}
 use Rattle.exception.specs.Route.{defaultTarget}
 

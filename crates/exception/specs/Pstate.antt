@@ -2,7 +2,7 @@
 -- hand. A15 is a row of docs/DIFFERENCES.md.
 use mathlib.Core.Path.{_≡_}
 use mathlib.Core.Bool.{true}
-use Prim.Native.Nat.{ℕ, _+_, _*_, _/_, _%_, _^_}
+use Prim.Native.Nat.{ℕ, _+_, _*_, _%_, _^_}
 use lib.Bits.{bitOr}
 use Rattle.word.specs.Bits.{field, alignDown, flag}
 use Rattle.exception.specs.declared.flags.Flags.{Flags}

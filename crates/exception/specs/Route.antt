@@ -6,10 +6,8 @@ use lib.Dec.{eqb}
 use Rattle.word.specs.Bits.{bitOn, bit0, wrap, pick}
 use Rattle.sysreg.specs.declared.regs.El.{El}
 use Rattle.sysreg.specs.declared.regs.El.the-variants.{El1, El2, El3}
-use Rattle.exception.specs.declared.kind.Exception.{Exception}
+use Rattle.exception.specs.declared.{kind.Exception.Exception, route.Origin.Origin, route.Routed.Routed}
 use Rattle.exception.specs.declared.kind.Exception.the-variants.{Undefined, Svc, Hvc, Smc, Brk, DataAbort, InsnAbort, PcAlignment}
-use Rattle.exception.specs.declared.route.Origin.{Origin}
-use Rattle.exception.specs.declared.route.Routed.{Routed}
 
 -- SCR_EL3.NS, SMD and HCE; HCR_EL2.TSC and TGE
 abbrev pub ns : Origin → Bool

@@ -5,9 +5,8 @@ use Prim.Native.Nat.{ℕ, _+_, _*_, _/_, _%_, _^_}
 use lib.Bits.{bitOr}
 use lib.Dec.{ltb}
 use Rattle.word.specs.Bits.{flag, pick}
-use Rattle.exception.specs.declared.kind.Exception.{Exception}
+use Rattle.exception.specs.declared.{kind.Exception.Exception, report.Report.Report}
 use Rattle.exception.specs.declared.kind.Exception.the-variants.{Undefined, Svc, Hvc, Smc, Brk, DataAbort, InsnAbort, PcAlignment}
-use Rattle.exception.specs.declared.report.Report.{Report}
 
 -- ESR_ELx: EC is <31:26>, IL <25>, ISS <24:0>. IL is 1: the instruction has 32 bits, or the class has no use for it.
 abbrev pub esrOf : ℕ → ℕ → ℕ

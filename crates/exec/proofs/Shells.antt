@@ -1,40 +1,28 @@
 -- The core's operations put together from their parts, on plain values.
-use mathlib.Core.Path.{_≡_, refl, sym, ap, _∙_}
+use mathlib.Core.Path.{_≡_, sym, ap, _∙_}
 use mathlib.Core.Bool.{Bool, true, false}
 use mathlib.Core.List.{List}
 use Prim.Native.Nat.{ℕ, _+_, _-_, _%_}
 use native.Mathlib.Omega.{arith}
-use Rattle.word.specs.Bits.{alignDown, pick, wrap}
-use Rattle.word.specs.Ram.{wordAt}
+use Rattle.word.specs.Bits.{alignDown, wrap}
 use Rattle.word.specs.declared.ram.Word.{Word}
-use Rattle.sysreg.specs.declared.regs.Control.{Control}
-use Rattle.sysreg.specs.declared.regs.SysRegs.{SysRegs}
-use Rattle.sysreg.specs.declared.write.WriteAnswer.{WriteAnswer}
+use Rattle.sysreg.specs.declared.{write.WriteAnswer.WriteAnswer, write.Written.Written}
 use Rattle.sysreg.specs.declared.write.WriteAnswer.the-variants as WriteAnswer
-use Rattle.sysreg.specs.declared.write.Written.{Written}
 use Rattle.tlb.specs.Tlb.{invalidateOf, broadcastOf}
-use Rattle.tlb.specs.declared.Tlb.{Tlb}
-use Rattle.tlb.specs.declared.Inval.{Inval}
-use Rattle.exception.specs.declared.kind.Exception.the-variants as Exception
+use Rattle.tlb.specs.declared.{Tlb.Tlb, Inval.Inval}
 use Rattle.exception.specs.declared.kind.Stop.{Stop}
-use Rattle.exception.specs.declared.kind.Stop.the-variants as Stop
-use Rattle.sysop.specs.Op.{decodeOf}
 use Rattle.sysop.specs.Tlbi.{tlbiOf, reachesOthers}
 use Rattle.sysop.specs.Par.{atPar}
-use Rattle.sysop.specs.declared.op.AtForm.{AtForm}
-use Rattle.sysop.specs.declared.op.SysOp.{SysOp}
-use Rattle.sysop.specs.declared.op.SysOp.the-variants as SysOp
+use Rattle.sysop.specs.declared.{op.AtForm.AtForm, op.SysOp.SysOp}
 use Rattle.mmu.specs.Core.{regOf}
 use Rattle.mmu.specs.Ops.{withTlb, writeOf, ramAfterWrite}
-use Rattle.mmu.specs.declared.core.Core.{Core}
+use Rattle.mmu.specs.declared.{core.Core.Core, ops.Stored.Stored}
 use Rattle.operations.specs.declared.ends.StoreAnswer.{StoreAnswer}
 use Rattle.operations.specs.declared.ends.StoreAnswer.the-variants.{Done, Stopped}
-use Rattle.mmu.specs.declared.ops.Stored.{Stored}
 use Rattle.exec.specs.Fit.{refitOf}
 use Rattle.exec.specs.Ops.{withRegs, appliedOf, registered, written, writeRegister}
-use Rattle.exec.specs.Sys.{mairOf, withPar, atOf, invalidatedOf, tlbiCore, zeroOf, zeroRam, sysBy, sysRamBy, opOf, sysOf, sysRam}
+use Rattle.exec.specs.Sys.{mairOf, withPar, atOf, invalidatedOf, tlbiCore, doneWith, zeroOf, zeroRam, sysBy, sysRamBy, opOf, sysOf, sysRam}
 use Rattle.exec.specs.ZeroLaws.{zero-none, zero-stops, zero-goes}
-use Rattle.exec.specs.declared.ops.Registered.{Registered}
 
 -- a register write that is done
 pub applied-is : (c : Core) (w : Written) (u : Tlb) (d e : Core) → u ≡ refitOf (c .tlb) (c .control) (w .control) → d ≡ withRegs c (w .control) (w .sys)
@@ -110,55 +98,19 @@ lined x = omega arith
 pub zva-is : (n : ℕ) (c : Core) (base : ℕ) (ram : List ℕ) (x : ℕ) (s : Stored) → s ≡ zeroOf n c base ram (x - x % 64) → s ≡ zeroOf n c base ram (alignDown x 6)
 zva-is n c base ram x s e = rw (← lined x) e
 
-pub zva-ram : (n : ℕ) (c : Core) (base : ℕ) (ram : List ℕ) (x : ℕ) (ys : List ℕ) → ys ≡ zeroRam n c base ram (x - x % 64) → ys ≡ zeroRam n c base ram (alignDown x 6)
+pub zva-ram : (n : ℕ) (c : Core) (base : ℕ) (ram : List ℕ) (x : ℕ) (ys : List ℕ) → ys ≡ zeroRam n c base ram (x - x % 64) → ys
+    ≡ zeroRam n c base ram (alignDown x 6)
 zva-ram n c base ram x ys e = rw (← lined x) e
 
 -- what an encoding names, done
-module _ (c : Core) (base : ℕ) (ram : List ℕ) (op1 crn crm op2 rt x : ℕ) (o : SysOp) (ex : x ≡ regOf c rt) (eo : o ≡ opOf c op1 crn crm op2) where
-  pub sys-at : (form : AtForm) (d : Core) → o ≡ SysOp.At form → d ≡ atOf c (wordAt base ram 8) form x → record { core = d; answer = Done } ≡ sysOf c base ram op1 crn crm op2 rt
+module _ (c : Core) (base : ℕ) (ram : List ℕ) (op1 crn crm op2 rt x : ℕ) (o p : SysOp) (ex : x ≡ regOf c rt) (eo : o ≡ opOf c op1 crn crm op2) (e : o ≡ p) where
+  pub sys-as : (s : Stored) → s ≡ sysBy p c base ram op1 crm op2 x → s ≡ sysOf c base ram op1 crn crm op2 rt
   unfolding sysOf
-  sys-at form d e ed = rw (← eo, e, ed, ex)
+  sys-as s es = rw (← eo, e, ← ex) es
 
-  pub sys-at-ram : (form : AtForm) → o ≡ SysOp.At form → ram ≡ sysRam c base ram op1 crn crm op2 rt
+  pub sys-done : (d k : Core) → d ≡ k → doneWith k ≡ sysBy p c base ram op1 crm op2 x → doneWith d ≡ sysOf c base ram op1 crn crm op2 rt
+  sys-done d k ed ek = sys-as (doneWith d) (ap doneWith ed ∙ ek)
+
+  pub sys-ram-as : (ys : List ℕ) → ys ≡ sysRamBy p c base ram x → ys ≡ sysRam c base ram op1 crn crm op2 rt
   unfolding sysRam
-  sys-at-ram form e = rw (← eo, e)
-
-  pub sys-tlbi : (d : Core) → o ≡ SysOp.Tlbi → d ≡ tlbiCore c op1 crm op2 x → record { core = d; answer = Done } ≡ sysOf c base ram op1 crn crm op2 rt
-  unfolding sysOf
-  sys-tlbi d e ed = rw (← eo, e, ed, ex)
-
-  pub sys-tlbi-ram : o ≡ SysOp.Tlbi → ram ≡ sysRam c base ram op1 crn crm op2 rt
-  unfolding sysRam
-  sys-tlbi-ram e = rw (← eo, e)
-
-  pub sys-zva : (s : Stored) → o ≡ SysOp.Zva → s ≡ sysBy SysOp.Zva c base ram op1 crm op2 x → s ≡ sysOf c base ram op1 crn crm op2 rt
-  unfolding sysOf
-  sys-zva s e es = rw (← eo, e, ← ex) es
-
-  pub sys-zva-ram : (ys : List ℕ) → o ≡ SysOp.Zva → ys ≡ sysRamBy SysOp.Zva c base ram x → ys ≡ sysRam c base ram op1 crn crm op2 rt
-  unfolding sysRam
-  sys-zva-ram ys e es = rw (← eo, e, ← ex) es
-
-  pub sys-nothing : o ≡ SysOp.Nothing → record { core = c; answer = Done } ≡ sysOf c base ram op1 crn crm op2 rt
-  unfolding sysOf
-  sys-nothing e = rw (← eo, e)
-
-  pub sys-nothing-ram : o ≡ SysOp.Nothing → ram ≡ sysRam c base ram op1 crn crm op2 rt
-  unfolding sysRam
-  sys-nothing-ram e = rw (← eo, e)
-
-  pub sys-undefined : o ≡ SysOp.Undefined → record { core = c; answer = Stopped (Stop.Exception Exception.Undefined) } ≡ sysOf c base ram op1 crn crm op2 rt
-  unfolding sysOf
-  sys-undefined e = rw (← eo, e)
-
-  pub sys-undefined-ram : o ≡ SysOp.Undefined → ram ≡ sysRam c base ram op1 crn crm op2 rt
-  unfolding sysRam
-  sys-undefined-ram e = rw (← eo, e)
-
-  pub sys-unimplemented : o ≡ SysOp.Unimplemented → record { core = c; answer = Stopped Stop.Unimplemented } ≡ sysOf c base ram op1 crn crm op2 rt
-  unfolding sysOf
-  sys-unimplemented e = rw (← eo, e)
-
-  pub sys-unimplemented-ram : o ≡ SysOp.Unimplemented → ram ≡ sysRam c base ram op1 crn crm op2 rt
-  unfolding sysRam
-  sys-unimplemented-ram e = rw (← eo, e)
+  sys-ram-as ys es = rw (← eo, e, ← ex) es

@@ -2,14 +2,11 @@
 use mathlib.Core.Bool.{Bool}
 use Prim.Native.Nat.{ℕ}
 use Rattle.sysreg.specs.Write.{writeReg}
-use Rattle.sysreg.specs.declared.regs.Control.{Control}
-use Rattle.sysreg.specs.declared.regs.SysRegs.{SysRegs}
-use Rattle.sysreg.specs.declared.write.WriteAnswer.{WriteAnswer}
-use Rattle.sysreg.specs.declared.write.WriteAnswer.the-variants.{Done, Undefined, NoRegister}
+use Rattle.sysreg.specs.declared.{regs.Control.Control, regs.SysRegs.SysRegs, write.WriteAnswer.WriteAnswer}
 use Rattle.sysreg.specs.declared.write.Written.{Written}
+use Rattle.sysreg.specs.declared.write.WriteAnswer.the-variants.{Done, Undefined, NoRegister}
 use Rattle.exception.specs.Entry.{takeSync}
-use Rattle.exception.specs.declared.kind.Exception.{Exception}
-use Rattle.exception.specs.declared.take.Entered.{Entered}
+use Rattle.exception.specs.declared.{kind.Exception.Exception, take.Entered.Entered}
 use Rattle.mmu.specs.Bare as Bare
 use Rattle.mmu.specs.Bare.{withEntered, bareOf, inCore}
 use Rattle.mmu.specs.Ops.{withTlb}

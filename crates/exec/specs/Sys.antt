@@ -15,17 +15,15 @@ use Rattle.exception.specs.declared.kind.Stop.the-variants as Stop
 use Rattle.sysop.specs.Op.{decodeOf}
 use Rattle.sysop.specs.Tlbi.{tlbiOf, reachesOthers}
 use Rattle.sysop.specs.Par.{atPar}
-use Rattle.sysop.specs.declared.op.AtForm.{AtForm}
-use Rattle.sysop.specs.declared.op.SysOp.{SysOp}
+use Rattle.sysop.specs.declared.{op.AtForm.AtForm, op.SysOp.SysOp}
 use Rattle.sysop.specs.declared.op.SysOp.the-variants.{At, Tlbi, Zva, Nothing, Undefined, Unimplemented}
 use Rattle.mmu.specs.Bare as Bare
 use Rattle.mmu.specs.Bare.{bareOf, inCore}
 use Rattle.mmu.specs.Core.{regOf}
 use Rattle.mmu.specs.Ops.{withTlb, writeOf, ramAfterWrite}
-use Rattle.mmu.specs.declared.core.Core.{Core}
+use Rattle.mmu.specs.declared.{core.Core.Core, ops.Stored.Stored}
 use Rattle.operations.specs.declared.ends.StoreAnswer.{StoreAnswer}
 use Rattle.operations.specs.declared.ends.StoreAnswer.the-variants.{Done, Stopped}
-use Rattle.mmu.specs.declared.ops.Stored.{Stored}
 
 -- MAIR of a regime
 abbrev pub mairOf : SysRegs → Regime → ℕ

@@ -1,6 +1,6 @@
 -- A zeroing store by store: each store's own translation, what the stores before it leave, and what they do to RAM.
 use mathlib.Core.Path.{_≡_, refl, sym, ap, _∙_}
-use mathlib.Core.Bool.{Bool, true, false, _&&_}
+use mathlib.Core.Bool.{Bool, true, false}
 use mathlib.Core.List.{List}
 use Prim.Native.Nat.{ℕ, zero, suc, _+_, _-_, _*_, _/_, _%_, _^_, _≤_, _<_}
 use native.Mathlib.Nat.{mod-eq-of-lt, pos-of-ne-zero, zero-div}
@@ -10,7 +10,7 @@ use lib.Dec.{leb, ltb}
 use lib.ListN.{length, getD}
 use Rattle.word.specs.Bits.{pick, wrap}
 use Rattle.word.specs.Ram.{within, wordAt, stored}
-use Rattle.word.specs.RamLaws.{written-byte}
+use Rattle.word.specs.RamLaws.{within-low, within-high, written-byte}
 use Rattle.tlb.specs.declared.access.Kind.the-variants.{Write}
 use Rattle.fault.specs.declared.Fault.{Fault}
 use Rattle.tlb.specs.declared.access.Answer.{Answer}
@@ -24,14 +24,11 @@ use Rattle.mmu.specs.Step.{onePage, translateIn, locatedOf}
 use Rattle.operations.specs.Ends.{storeEnd, storeRamEnd}
 use Rattle.mmu.specs.Ops.{steppedNow, locatedNow, translateOf, writeOf, ramAfterWrite}
 use Rattle.mmu.specs.OpLaws.{onNow}
-use Rattle.mmu.specs.declared.core.Core.{Core}
+use Rattle.mmu.specs.declared.{core.Core.Core, step.Located.Located, ops.Stored.Stored}
 use Rattle.operations.specs.declared.place.Place.the-variants.{Whole}
-use Rattle.operations.specs.declared.place.Placed.{Placed}
+use Rattle.operations.specs.declared.{place.Placed.Placed, ends.StoreAnswer.StoreAnswer}
 use Rattle.operations.specs.declared.place.Placed.the-variants.{At}
-use Rattle.operations.specs.declared.ends.StoreAnswer.{StoreAnswer}
 use Rattle.operations.specs.declared.ends.StoreAnswer.the-variants.{Done, Stopped}
-use Rattle.mmu.specs.declared.step.Located.{Located}
-use Rattle.mmu.specs.declared.ops.Stored.{Stored}
 use Rattle.exec.specs.Sys.{doneWith, onStored, zeroOf, zeroRam}
 
 -- ONE STORE OF EIGHT ZERO BYTES, at an address of which it is a multiple
@@ -107,28 +104,13 @@ module _ (c : Core) (base : ℕ) (ram : List ℕ) (a : ℕ) (even : a % 8 ≡ 0)
 zero-digit : (i : ℕ) → 0 / 256 ^ i % 256 ≡ 0
 zero-digit i = rw (zero-div (256 ^ i))
 
-and-left : (x y : Bool) → (x && y) ≡ true → x ≡ true
-and-left true y e = refl
-and-left false y e = e
-
-and-right : (x y : Bool) → (x && y) ≡ true → y ≡ true
-and-right true y e = e
-and-right false true e = refl
-and-right false false e = e
-
 module _ (base : ℕ) (ram : List ℕ) (n pa : ℕ) where
   module _ (w : within base (length ram) n pa ≡ true) where
-    pub within-low : base ≤ pa
-    within-low = leb-true base pa (and-left (leb base pa) (leb (pa + n) (base + length ram)) w)
-
-    pub within-high : pa + n ≤ base + length ram
-    within-high = leb-true (pa + n) (base + length ram) (and-right (leb base pa) (leb (pa + n) (base + length ram)) w)
-
     pub zeros-there : (i : ℕ) → i < n → getD (stored base ram n pa 0) (pa + i - base) 0 ≡ 0
     unfolding stored
     zeros-there i h =
-        let l = within-low in
-        let k = within-high in
+        let l = within-low base (length ram) n pa w in
+        let k = within-high base (length ram) n pa w in
         let x : pa + i - base ≡ pa - base + i = omega arith in
         rw (w, x) (written-byte ram (pa - base) n 0 i (omega arith) h ∙ zero-digit i)
 
@@ -145,7 +127,7 @@ module _ (base : ℕ) (ram : List ℕ) (n pa : ℕ) where
       go true w = side (leb pa (base + k)) (ltb (base + k) (pa + n)) refl refl
         where
           l : base ≤ pa
-          l = within-low w
+          l = within-low base (length ram) n pa w
 
           side : (x y : Bool) → leb pa (base + k) ≡ x → ltb (base + k) (pa + n) ≡ y → getD (stored base ram n pa 0) k 0 ≡ 0
           side true true ex ey =

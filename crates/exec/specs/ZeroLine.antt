@@ -1,34 +1,28 @@
 -- A zeroing whose stores are all given their addresses by the cache as it stands, which they leave alone: one store of zeros.
 use mathlib.Core.Path.{_≡_, refl, sym, ap, _∙_}
-use mathlib.Core.Bool.{Bool, true}
-use mathlib.Core.List.{List, _++_}
+use mathlib.Core.Bool.{true}
+use mathlib.Core.List.{List}
 use Prim.Native.Nat.{ℕ, zero, suc, _+_, _-_, _*_, _%_, _^_, _≤_, _<_}
 use native.Mathlib.Nat.{suc-add}
 use native.Mathlib.Omega.{arith}
 use borrow.Author.Tests.{le-leb}
-use lib.ListN.{length, drop, take-append-drop}
+use lib.ListN.{length, take-append-drop}
 use Rattle.word.specs.Bits.{wrap}
 use Rattle.word.specs.Ram.{within, wordAt, written, stored, bytesOf}
-use Rattle.word.specs.RamLaws.{written-next}
+use Rattle.word.specs.RamLaws.{within-low, within-high, written-next}
 use Rattle.word.specs.declared.ram.Word.{Word}
 use Rattle.tlb.specs.declared.access.Kind.the-variants.{Write}
-use Rattle.tlb.specs.declared.access.Answer.{Answer}
+use Rattle.tlb.specs.declared.{access.Answer.Answer, Tlb.Tlb}
 use Rattle.tlb.specs.declared.access.Answer.the-variants.{Address}
-use Rattle.tlb.specs.declared.Tlb.{Tlb}
 use Rattle.mmu.specs.Core.{afterAccess, bankNow}
 use Rattle.operations.specs.Place.{placedOne, verdictOf}
 use Rattle.operations.specs.Ends.{storeEnd}
 use Rattle.mmu.specs.Step.{translateIn}
 use Rattle.mmu.specs.Ops.{steppedNow, translateOf, storedBy, writeAfter, writeOf, ramAfterWrite}
 use Rattle.operations.specs.BytesLaws.{stored-length}
-use Rattle.mmu.specs.declared.core.Core.{Core}
-use Rattle.mmu.specs.declared.step.Located.{Located}
-use Rattle.mmu.specs.declared.step.Stepped.{Stepped}
-use Rattle.operations.specs.declared.ends.StoreAnswer.{StoreAnswer}
-use Rattle.mmu.specs.declared.ops.Stored.{Stored}
-use Rattle.mmu.specs.declared.ops.Translated.{Translated}
+use Rattle.mmu.specs.declared.{core.Core.Core, step.Located.Located, step.Stepped.Stepped, ops.Translated.Translated}
 use Rattle.exec.specs.Sys.{doneWith, onStored, zeroOf, zeroRam}
-use Rattle.exec.specs.ZeroLaws.{one-located, one-ram, within-low, within-high, storeVa, store-va}
+use Rattle.exec.specs.ZeroLaws.{one-located, one-ram, storeVa, store-va}
 
 -- a translation that answers and changes nothing
 abbrev pub addressed : Core → ℕ → Translated
@@ -134,7 +128,7 @@ module _ (base : ℕ) (c : Core) where
       → ((memory : ℕ → Word) (j : ℕ) → j < n → translateOf c memory (va + 8 * j) Write ≡ addressed c (pa + 8 * j))
       → (zeroOf n c base ram va ≡ doneWith c) × (zeroRam n c base ram va ≡ stored base ram (8 * n) pa 0)
   zero-steady n ram va pa even room w t =
-      let low = within-low base ram (8 * n) pa w in
-      let high = within-high base ram (8 * n) pa w in
+      let low = within-low base (length ram) (8 * n) pa w in
+      let high = within-high base (length ram) (8 * n) pa w in
       steady-from n ram va pa (λ j h. ap (λ (x : ℕ). x % 8) (store-va j va (omega arith)) ∙ omega arith) low high
       (λ memory j h. ap (λ (x : ℕ). translateOf c memory x Write) (store-va j va (omega arith)) ∙ t memory j h)

@@ -15,9 +15,8 @@ use Rattle.sysop.specs.declared.op.SysOp.the-variants.{Zva}
 use Rattle.walk.specs.Regime.{bankOf, regimeOf}
 use Rattle.tlb.specs.Live.{WellFormed}
 use Rattle.tlb.specs.declared.access.Kind.the-variants.{Write}
-use Rattle.tlb.specs.declared.access.Answer.{Answer}
+use Rattle.tlb.specs.declared.{access.Answer.Answer, Tlb.Tlb}
 use Rattle.tlb.specs.declared.access.Answer.the-variants.{Address, Status}
-use Rattle.tlb.specs.declared.Tlb.{Tlb}
 use Rattle.mmu.specs.Core.{bankNow, regOf}
 use Rattle.operations.specs.BytesLaws.{stored-leaves}
 use Rattle.mmu.specs.PageLaws.{step-offset}
@@ -26,12 +25,12 @@ use Rattle.mmu.specs.Step.{translateIn}
 use Rattle.mmu.specs.Ops.{steppedNow, translateOf, writeOf, ramAfterWrite}
 use Rattle.mmu.specs.Bare.{Bare, bareOf}
 use Rattle.mmu.specs.OpLaws.{store as storing, kept, ram-length}
-use Rattle.mmu.specs.declared.core.Core.{Core}
+use Rattle.mmu.specs.declared.{core.Core.Core, ops.Stored.Stored}
 use Rattle.operations.specs.declared.ends.StoreAnswer.{StoreAnswer}
 use Rattle.operations.specs.declared.ends.StoreAnswer.the-variants.{Done, Stopped}
-use Rattle.mmu.specs.declared.ops.Stored.{Stored}
 use Rattle.exec.specs.Sys.{onStored, zeroOf, zeroRam, opOf, sysOf, sysRam}
-use Rattle.exec.specs.ZeroLaws.{one-ram, none-ram, one-done, one-tlb, within-low, within-high, zeros-there, zeros-stay, storeVa, store-va, zero-last, zero-ram-last, zero-done}
+use Rattle.word.specs.RamLaws.{within-low, within-high}
+use Rattle.exec.specs.ZeroLaws.{one-ram, none-ram, one-done, one-tlb, zeros-there, zeros-stay, storeVa, store-va, zero-last, zero-ram-last, zero-done}
 
 -- the translation that store j makes: of its own address, in the core and the RAM that the stores before it leave
 abbrev pub storeAnswer : Core → ℕ → List ℕ → ℕ → ℕ → Answer
@@ -209,7 +208,8 @@ module _ (c : Core) (base : ℕ) (ram : List ℕ) (va pa : ℕ) (well : WellForm
       → zeroOf (suc n) c base ram va .core ≡ writeOf (zeroOf n c base ram va .core) base (zeroRam n c base ram va) (va + 8 * n) 8 .core
   core-then n h e =
       ap (λ (r : Stored). r .core) (zero-last base n c ram va)
-      ∙ ap (λ (x : StoreAnswer). onStored x (writeOf (zeroOf n c base ram va .core) base (zeroRam n c base ram va) (storeVa va n) 8) (zeroOf n c base ram va) .core) e
+      ∙ ap (λ (x : StoreAnswer). onStored x (writeOf (zeroOf n c base ram va .core) base (zeroRam n c base ram va) (storeVa va n) 8)
+      (zeroOf n c base ram va) .core) e
       ∙ ap (λ (a : ℕ). writeOf (zeroOf n c base ram va .core) base (zeroRam n c base ram va) a 8 .core) (store-va n va (omega arith))
 
   agree : (n : ℕ) → n < 8 → zeroOf n c base ram va .answer ≡ Done → Agrees n
@@ -262,8 +262,8 @@ module _ (c : Core) (base : ℕ) (ram : List ℕ) (va pa : ℕ) (line : va % 64 
   zero-agreed =
       let first = each 0 (omega arith) .0 in
       let last = each 7 (omega arith) .0 in
-      let low : base ≤ pa + 8 * 0 = within-low base ram 8 (pa + 8 * 0) first in
-      let high : pa + 8 * 7 + 8 ≤ base + length ram = within-high base ram 8 (pa + 8 * 7) last in
+      let low : base ≤ pa + 8 * 0 = within-low base (length ram) 8 (pa + 8 * 0) first in
+      let high : pa + 8 * 7 + 8 ≤ base + length ram = within-high base (length ram) 8 (pa + 8 * 7) last in
       record {
         inside = rw (le-leb base pa (omega arith), le-leb (pa + 64) (base + length ram) (omega arith));
         length-kept = zero-length c base ram va even 8;

@@ -5,18 +5,17 @@ use mathlib.Core.Bool.{Bool, true, false, true≢false}
 use mathlib.Core.List.{List, [], _∷_, _++_, append-nil, append-assoc}
 use Prim.Native.Nat.{ℕ, _≤_}
 use Rattle.word.specs.Bits.{pick}
-use Rattle.walk.specs.declared.regime.Regime.{Regime}
-use Rattle.walk.specs.declared.level.Leaf.{Leaf}
+use Rattle.walk.specs.declared.{regime.Regime.Regime, level.Leaf.Leaf}
 use Rattle.tlb.specs.Lists.{Each, more}
 use Rattle.tlb.specs.Tlb.{fresh}
 use Rattle.tlb.specs.Asks.{Ask, kindOf, addressOf, Given, onward}
-use Rattle.tlb.specs.declared.access.Answer.{Answer}
+use Rattle.tlb.specs.declared.{access.Answer.Answer, Tlb.Tlb}
 use Rattle.tlb.specs.declared.access.Answer.the-variants.{Address, Status}
 use Rattle.tlb.specs.declared.Inval.the-variants.{All}
-use Rattle.tlb.specs.declared.Tlb.{Tlb}
 use Rattle.history.specs.Lists.{each-left, each-right, each-head, plain-append, tlb-append}
 use Rattle.history.specs.World.{World, Laws, covers, Plain, uncached}
-use Rattle.history.specs.History.{Effect, nothing, carries, writes, sets, Step, Event, steps, receives, after, plainRun, drops, dropsRun, answerOf, tlbAsk, answers, tlbRun, Settled, SettledFor, FaithfulAnswer}
+use Rattle.history.specs.History.{Effect, nothing, carries, writes, sets, Step, Event, steps, receives, after, plainRun, drops, dropsRun, answerOf}
+use Rattle.history.specs.History.{tlbAsk, answers, tlbRun, Settled, SettledFor, FaithfulAnswer}
 use Rattle.history.specs.Theorem.{demand-3}
 use Rattle.history.specs.Invisible.{plainAnswers, answersRun, plainAnswersRun, Tidy, Invisible}
 

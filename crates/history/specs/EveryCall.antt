@@ -10,7 +10,8 @@ use Rattle.history.specs.World.{World, Laws, Plain, regimeNow, pageNow, 
 use Rattle.history.specs.Lists.{plain-append, tlb-append}
 use Rattle.history.specs.History.{Step, Event, plainRun, answers, tlbRun, Settled, FaithfulAnswer}
 use Rattle.history.specs.Theorem.{demand-3}
-use Rattle.history.specs.Calls.{Machine, Lent, Fed, run, lentOf, bareRun, eventsFed, eventsRun, ShownIn, Shown, shown, plainOf, eventsOf, Bridge, plainAfter, Demand3Calls}
+use Rattle.history.specs.Calls.{Machine, Lent, Fed, run, lentOf, bareRun, eventsFed, eventsRun, ShownIn, Shown, shown, plainOf, eventsOf, Bridge}
+use Rattle.history.specs.Calls.{plainAfter, Demand3Calls}
 
 module _ (w : World) (M : Machine w) where
   -- every list of calls is shown by its run

@@ -7,7 +7,8 @@ use Rattle.history.specs.World.{World, Laws, Plain}
 use Rattle.history.specs.History.{Event, steps, tlbRun}
 use Rattle.history.specs.Invisible.{answersRun, plainAnswersRun, Tidy}
 use Rattle.history.specs.Corollaries.{rest-invisible}
-use Rattle.history.specs.Calls.{Machine, Fed, run, lentOf, bareRun, eventsFed, eventsRun, ShownIn, Shown, plainOf, eventsOf, Bridge, Replies, SameReplies, replies, bareReplies, InvisibleCalls}
+use Rattle.history.specs.Calls.{Machine, Fed, run, lentOf, bareRun, eventsFed, eventsRun, ShownIn, Shown, plainOf, eventsOf, Bridge, Replies, SameReplies}
+use Rattle.history.specs.Calls.{replies, bareReplies, InvisibleCalls}
 use Rattle.history.specs.EveryCall.{run-bare, fed-events, run-plain, fresh-run}
 
 module _ (w : World) where

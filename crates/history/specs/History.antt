@@ -6,19 +6,15 @@ use mathlib.Core.List.{List, [], _∷_, _++_}
 use mathlib.Core.Logic.{_⊎_}
 use Prim.Native.Nat.{ℕ, _≤_}
 use Rattle.word.specs.Bits.{pick}
-use Rattle.walk.specs.declared.regime.Regime.{Regime}
-use Rattle.walk.specs.declared.level.Leaf.{Leaf}
+use Rattle.walk.specs.declared.{regime.Regime.Regime, level.Leaf.Leaf}
 use Rattle.walk.specs.declared.level.Walked.the-variants.{Mapped}
 use Rattle.tlb.specs.Lists.{Each}
 use Rattle.tlb.specs.Tlb.{fresh, invalidateOf}
 use Rattle.tlb.specs.Asks as Asks
 use Rattle.tlb.specs.Asks.{Ask, kindOf, addressOf, Given}
 use Rattle.tlb.specs.Maintenance.{invalidatedOf, refitBy}
-use Rattle.tlb.specs.declared.access.Privilege.{Privilege}
-use Rattle.tlb.specs.declared.access.Answer.{Answer}
-use Rattle.tlb.specs.declared.Inval.{Inval}
+use Rattle.tlb.specs.declared.{access.Privilege.Privilege, access.Answer.Answer, Inval.Inval, Tlb.Tlb}
 use Rattle.tlb.specs.declared.Inval.the-variants.{All}
-use Rattle.tlb.specs.declared.Tlb.{Tlb}
 use Rattle.history.specs.World.{World, LeavesEqual, covers, Plain, pageWalk, regimeNow, pageNow, uncached, accessOf}
 
 module _ (w : World) where

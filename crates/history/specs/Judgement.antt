@@ -15,9 +15,7 @@ use Rattle.walk.specs.Permission.{Access, reading, writing, fetching, allowed}
 use Rattle.walk.specs.PermissionLaws.{kindBit, firstBit, permission-bit}
 use Rattle.walk.specs.Walk.{leafOf, walkedOf, walkOf}
 use Rattle.walk.specs.WalkBounds.{Levelled, Found, Sound, table-walk-sound}
-use Rattle.walk.specs.declared.regime.Regime.{Regime}
-use Rattle.walk.specs.declared.regime.Bank.{Bank}
-use Rattle.walk.specs.declared.level.Leaf.{Leaf}
+use Rattle.walk.specs.declared.{regime.Regime.Regime, regime.Bank.Bank, level.Leaf.Leaf}
 use Rattle.walk.specs.declared.level.Walked.the-variants.{Mapped, Fault as Faulted}
 use Rattle.word.specs.declared.ram.Word.{Word}
 use Rattle.sysreg.specs.declared.regs.Control.{Control}
@@ -25,11 +23,9 @@ use Rattle.tlb.specs.Lists.{Each, done, more}
 use Rattle.tlb.specs.Tlb.{fresh}
 use Rattle.tlb.specs.Model.{asUser, need}
 use Rattle.tlb.specs.Asks.{Ask, kindOf, addressOf}
-use Rattle.tlb.specs.declared.access.Kind.{Kind}
+use Rattle.tlb.specs.declared.{access.Kind.Kind, access.Answer.Answer, Inval.Inval}
 use Rattle.tlb.specs.declared.access.Kind.the-variants.{Read, Write, Fetch}
-use Rattle.tlb.specs.declared.access.Answer.{Answer}
 use Rattle.tlb.specs.declared.access.Answer.the-variants.{Address, Status}
-use Rattle.tlb.specs.declared.Inval.{Inval}
 use Rattle.history.specs.World.{covers, Plain, leafAnswer, walkAnswer, regimeNow, onNow, untagNow, pageNow, uncached}
 use Rattle.history.specs.History.{Step, Event, plainRun, answers, tlbRun}
 use Rattle.history.specs.Instance.{Ram, memoryOf, real, real-laws, freshPlain, fresh-asid}

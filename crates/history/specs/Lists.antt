@@ -6,7 +6,8 @@ use Rattle.tlb.specs.Lists.{Each, done, more}
 use Rattle.tlb.specs.Asks.{Given}
 use Rattle.tlb.specs.declared.Tlb.{Tlb}
 use Rattle.history.specs.World.{World, Plain}
-use Rattle.history.specs.History.{Effect, nothing, carries, writes, sets, Step, Event, steps, receives, after, afterEvent, plainRun, answers, tlbEvent, tlbRun}
+use Rattle.history.specs.History.{Effect, nothing, carries, writes, sets, Step, Event, steps, receives, after, afterEvent, plainRun, answers, tlbEvent}
+use Rattle.history.specs.History.{tlbRun}
 use Rattle.history.specs.Invisible.{answersRun}
 
 module _ {A : Type 0} where

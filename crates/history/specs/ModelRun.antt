@@ -10,17 +10,17 @@ use Rattle.tlb.specs.Tlb.{fresh, flushOf, retagOf, invalidateOf}
 use Rattle.tlb.specs.Maintenance.{invalidatedOf, reshapedOf, retaggedOf}
 use Rattle.tlb.specs.Model.{Model, emptyModel, Outcome, invalidate, retag, broadcast, translate, fetch}
 use Rattle.tlb.specs.Live.{live, WellFormed, LeafLevel, Follows}
-use Rattle.tlb.specs.Refines.{fresh-live, fresh-sound, flush-live, flush-sound, invalidate-live, invalidate-sound, retag-live, retag-sound, broadcast-live, broadcast-sound}
+use Rattle.tlb.specs.Refines.{fresh-live, fresh-sound, flush-live, flush-sound, invalidate-live, invalidate-sound, retag-live, retag-sound, broadcast-live}
+use Rattle.tlb.specs.Refines.{broadcast-sound}
 use Rattle.tlb.specs.Translations.{translation-follows, fetch-follows}
 use Rattle.tlb.specs.Asks.{Ask, translates, fetches, Given, onward}
-use Rattle.tlb.specs.declared.access.Kind.{Kind}
+use Rattle.tlb.specs.declared.{access.Kind.Kind, access.Answer.Answer, Tlb.Tlb}
 use Rattle.tlb.specs.declared.access.Kind.the-variants.{Fetch}
-use Rattle.tlb.specs.declared.access.Answer.{Answer}
 use Rattle.tlb.specs.declared.access.Answer.the-variants.{Address, Status}
 use Rattle.tlb.specs.declared.Inval.the-variants.{All}
-use Rattle.tlb.specs.declared.Tlb.{Tlb}
 use Rattle.history.specs.World.{World, Laws, Plain, regimeNow, untagNow, accessOf}
-use Rattle.history.specs.History.{Effect, nothing, carries, writes, sets, Event, steps, receives, after, afterEvent, plainRun, answerOf, tlbAsk, answers, tlbAsks, tlbAfter, tlbEvent, tlbRun}
+use Rattle.history.specs.History.{Effect, nothing, carries, writes, sets, Event, steps, receives, after, afterEvent, plainRun, answerOf, tlbAsk, answers}
+use Rattle.history.specs.History.{tlbAsks, tlbAfter, tlbEvent, tlbRun}
 use Rattle.history.specs.Invisible.{answersRun}
 use Rattle.history.specs.Lists.{event-low, run-low}
 

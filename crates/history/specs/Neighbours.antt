@@ -13,8 +13,7 @@ use Rattle.word.specs.Bits.{pick}
 use Rattle.word.specs.Ram.{wordAt}
 use Rattle.walk.specs.Regime.{bankOf}
 use Rattle.walk.specs.Fetches.{fetchesOf, bytes-agree}
-use Rattle.walk.specs.declared.regime.Regime.{Regime}
-use Rattle.walk.specs.declared.level.Leaf.{Leaf}
+use Rattle.walk.specs.declared.{regime.Regime.Regime, level.Leaf.Leaf}
 use Rattle.walk.specs.declared.level.Walked.the-variants.{Mapped}
 use Rattle.tlb.specs.Lists.{Each, done}
 use Rattle.tlb.specs.Tlb.{fresh}

@@ -12,9 +12,8 @@ use Rattle.tlb.specs.Lists.{Each, done, more}
 use Rattle.tlb.specs.Tlb.{fresh}
 use Rattle.tlb.specs.Model.{Model, emptyModel}
 use Rattle.tlb.specs.Asks.{Ask, kindOf, addressOf, Given, onward}
-use Rattle.tlb.specs.declared.access.Answer.{Answer}
+use Rattle.tlb.specs.declared.{access.Answer.Answer, Inval.Inval}
 use Rattle.tlb.specs.declared.access.Answer.the-variants.{Address, Status}
-use Rattle.tlb.specs.declared.Inval.{Inval}
 use Rattle.history.specs.World.{World, Laws, covers, leafAnswer, Plain, pageWalk, regimeNow, onNow, untagNow, pageNow, needNow}
 use Rattle.history.specs.History.{Step, Event, steps, plainRun, dropsRun, answers, tlbRun}
 use Rattle.history.specs.ModelRun.{modelAsk, modelAnswers, modelRun, history-answers}

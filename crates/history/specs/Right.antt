@@ -8,27 +8,21 @@ use native.Mathlib.Omega.{arith}
 use lib.Dec.{eqb}
 use borrow.Author.Tests.{eqb-true, lt-ltb, le-ltb}
 use Rattle.word.specs.Bits.{pick}
+use Rattle.word.specs.BitLaws.{both}
 use Rattle.fault.specs.First.{first}
-use Rattle.walk.specs.declared.regime.Regime.{Regime}
+use Rattle.walk.specs.declared.{regime.Regime.Regime, level.Leaf.Leaf, level.Walked.Walked}
 use Rattle.walk.specs.declared.regime.Regime.the-variants.{El1, El2, El3}
-use Rattle.walk.specs.declared.level.Leaf.{Leaf}
-use Rattle.walk.specs.declared.level.Walked.{Walked}
 use Rattle.walk.specs.declared.level.Walked.the-variants.{Mapped, Fault}
-use Rattle.tlb.specs.Model.{Slot, empty, holds, Line, Known, Model, oneHit, oneWalk, sameRegime, folded, hintPlace, Access, Outcome, asUser, need, reachOf, reaches, serving, lineFor, addressIn, judge as judgeLine, lineOfLeaf, walked, looked, unhinted, knownOf, noting, noted, knowing, tried, hinted, hintable, translate, notingFetch, notedFetch, fetched, fetch}
-use Rattle.tlb.specs.declared.access.Kind.{Kind}
+use Rattle.tlb.specs.Model.{Slot, empty, holds, Line, Known, Model, oneHit, oneWalk, sameRegime, folded, hintPlace, Access, Outcome, asUser, need, reachOf}
+use Rattle.tlb.specs.Model.{reaches, serving, lineFor, addressIn, judge as judgeLine, lineOfLeaf, walked, looked, unhinted, knownOf, noting, noted, knowing}
+use Rattle.tlb.specs.Model.{tried, hinted, hintable, translate, notingFetch, notedFetch, fetched, fetch}
+use Rattle.tlb.specs.declared.{access.Kind.Kind, access.Answer.Answer}
 use Rattle.tlb.specs.declared.access.Kind.the-variants.{Read, Write, Fetch}
-use Rattle.tlb.specs.declared.access.Answer.{Answer}
 use Rattle.tlb.specs.declared.access.Answer.the-variants.{Address, Status}
-use Rattle.history.specs.World.{World, Laws, LeavesEqual, leafAnswer, walkAnswer, pageWalk, Plain, regimeNow, onNow, untagNow, pageNow, needNow, uncached, accessOf}
-use Rattle.history.specs.Traced.{Moment, at, Seen, Today, LineFrom, LineOk, allows, HintFrom, flat, kept, HintOk, kindAt, Traced, traced-counting, traced-keep, traced-hint, traced-fetch-hint}
-
-and-left : (a b : Bool) → (a && b) ≡ true → a ≡ true
-and-left true b e = refl
-and-left false b e = e
-
-and-right : (a b : Bool) → (a && b) ≡ true → b ≡ true
-and-right true b e = e
-and-right false b e = absurd (false≢true e)
+use Rattle.history.specs.World.{World, Laws, LeavesEqual, leafAnswer, walkAnswer, pageWalk, Plain, regimeNow, onNow, untagNow, pageNow, needNow, uncached}
+use Rattle.history.specs.World.{accessOf}
+use Rattle.history.specs.Traced.{Moment, at, Seen, Today, LineFrom, LineOk, allows, HintFrom, flat, kept, HintOk, kindAt, Traced, traced-counting}
+use Rattle.history.specs.Traced.{traced-keep, traced-hint, traced-fetch-hint}
 
 same-regime : (r s : Regime) → sameRegime r s ≡ true → r ≡ s
 same-regime El1 El1 e = refl
@@ -107,7 +101,8 @@ module _ (w : World) where
     same-need : Unmarked (c .privilege .unprivileged) k → needNow w c k ≡ need k (asUser (regimeNow w c) (c .privilege .level) false k)
     same-need u = ap (need k) (unmarked (regimeNow w c) (c .privilege .level) (c .privilege .unprivileged) k u)
 
-    answered-hint : (pa : ℕ) → Unmarked (c .privilege .unprivileged) k → Answered (Address pa) → HintFrom w h (c .regs) k (va / 4096) (c .privilege .level) (pa / 4096)
+    answered-hint : (pa : ℕ) → Unmarked (c .privilege .unprivileged) k → Answered (Address pa)
+        → HintFrom w h (c .regs) k (va / 4096) (c .privilege .level) (pa / 4096)
     unfolding leafAnswer
     answered-hint pa u (itself o e) = let q : pa ≡ va = cc in flat o (ap (λ (n : ℕ). n / 4096) q)
     answered-hint pa u (by ℓ a o seen d e) = go (allows w ℓ (needNow w c k)) refl e
@@ -241,11 +236,12 @@ module _ (w : World) where
       hit-done : Unmarked (c .privilege .unprivileged) k → (n : Known) → HintFrom w h (c .regs) k (n .page) (n .level) (n .frame)
           → hits n ≡ true → Answered laws h c m k va (addressIn (n .frame) va)
       hit-done u n o e =
-          let p : n .page ≡ va / 4096 = eqb-true _ _ (and-left _ _ e) in
-          let l : n .level ≡ c .privilege .level = eqb-true _ _ (and-right (eqb (n .page) (va / 4096)) _ e) in
+          let p : n .page ≡ va / 4096 = eqb-true _ _ (both (eqb (n .page) (va / 4096)) _ e .0) in
+          let l : n .level ≡ c .privilege .level = eqb-true _ _ (both (eqb (n .page) (va / 4096)) _ e .1) in
           hint-answered laws h c m k va (n .frame) u (rw (p, l) at o)
 
-      tried-done : hintable k (c .privilege .unprivileged) ≡ true → (x : Slot Known) → HintOk w h (c .regs) k x → Fine (tried (knowing (va / 4096) (c .privilege .level) x) a t)
+      tried-done : hintable k (c .privilege .unprivileged) ≡ true → (x : Slot Known) → HintOk w h (c .regs) k x
+          → Fine (tried (knowing (va / 4096) (c .privilege .level) x) a t)
       unfolding tried
       tried-done b empty ok = hint-done b _ unhinted-done
       tried-done b (holds n) ok = go (hits n) refl

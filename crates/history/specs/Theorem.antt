@@ -7,8 +7,7 @@ use Prim.Native.Nat.{ℕ, _≤_}
 use lib.Dec.{eqb}
 use borrow.Author.Tests.{eqb-true}
 use Rattle.word.specs.Bits.{pick}
-use Rattle.walk.specs.declared.regime.Regime.{Regime}
-use Rattle.walk.specs.declared.level.Leaf.{Leaf}
+use Rattle.walk.specs.declared.{regime.Regime.Regime, level.Leaf.Leaf}
 use Rattle.walk.specs.declared.level.Walked.the-variants.{Mapped}
 use Rattle.tlb.specs.Lists.{Each, done, more}
 use Rattle.tlb.specs.Tlb.{fresh}
@@ -16,14 +15,15 @@ use Rattle.tlb.specs.Model.{Model, emptyModel, invalidate, retag, broadcast}
 use Rattle.tlb.specs.Live.{WellFormed}
 use Rattle.tlb.specs.Asks.{Ask, translates, fetches, kindOf, addressOf, Given, onward}
 use Rattle.tlb.specs.declared.access.Kind.the-variants.{Fetch}
-use Rattle.tlb.specs.declared.access.Answer.{Answer}
+use Rattle.tlb.specs.declared.{access.Answer.Answer, Inval.Inval}
 use Rattle.tlb.specs.declared.access.Answer.the-variants.{Address, Status}
-use Rattle.tlb.specs.declared.Inval.{Inval}
 use Rattle.tlb.specs.declared.Inval.the-variants.{All}
 use Rattle.history.specs.Lists.{each-append}
 use Rattle.history.specs.World.{World, Laws, LeavesEqual, covers, Plain, pageWalk}
-use Rattle.history.specs.History.{Effect, nothing, carries, writes, sets, Step, Event, steps, receives, after, afterEvent, plainRun, drops, dropsEvent, dropsRun, tlbRun, Settled, FaithfulAnswer, Demand3}
-use Rattle.history.specs.ModelRun.{modelAsk, modelAnswers, modelAsks, modelFlushed, modelRetagged, modelAfter, modelEvent, modelRun, run-stands, fresh-stands, history-model, history-answers}
+use Rattle.history.specs.History.{Effect, nothing, carries, writes, sets, Step, Event, steps, receives, after, afterEvent, plainRun, drops, dropsEvent}
+use Rattle.history.specs.History.{dropsRun, tlbRun, Settled, FaithfulAnswer, Demand3}
+use Rattle.history.specs.ModelRun.{modelAsk, modelAnswers, modelAsks, modelFlushed, modelRetagged, modelAfter, modelEvent, modelRun, run-stands}
+use Rattle.history.specs.ModelRun.{fresh-stands, history-model, history-answers}
 use Rattle.history.specs.Traced.{Moment, at, drop, Walks, Seen, Traced, traced-empty, traced-at, traced-invalidate, traced-retag, traced-kept}
 use Rattle.history.specs.Right.{Agreed, answered-right, Done, translate-done, fetch-done}
 

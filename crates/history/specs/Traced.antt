@@ -9,13 +9,12 @@ use lib.Dec.{eqb, ltb}
 use borrow.Author.Tests.{eqb-true}
 use Rattle.word.specs.Bits.{pick}
 use Rattle.walk.specs.Regime.{regimeOf}
-use Rattle.walk.specs.declared.regime.Regime.{Regime}
-use Rattle.walk.specs.declared.level.Leaf.{Leaf}
+use Rattle.walk.specs.declared.{regime.Regime.Regime, level.Leaf.Leaf}
 use Rattle.walk.specs.declared.level.Walked.the-variants.{Mapped}
-use Rattle.tlb.specs.Model.{Slot, empty, holds, Line, Known, Counters, Model, emptyModel, belongsTo, covers as coversLine, uncovered, invalidate, retag, counting, keep, keepHint, keepFetch, asUser, need, reachOf}
-use Rattle.tlb.specs.declared.access.Kind.{Kind}
+use Rattle.tlb.specs.Model.{Slot, empty, holds, Line, Known, Counters, Model, emptyModel, belongsTo, covers as coversLine, uncovered, invalidate, retag}
+use Rattle.tlb.specs.Model.{counting, keep, keepHint, keepFetch, asUser, need, reachOf}
+use Rattle.tlb.specs.declared.{access.Kind.Kind, Inval.Inval}
 use Rattle.tlb.specs.declared.access.Kind.the-variants.{Read, Write, Fetch}
-use Rattle.tlb.specs.declared.Inval.{Inval}
 use Rattle.tlb.specs.declared.Inval.the-variants.{All, Page, Asid}
 use Rattle.history.specs.World.{World, Laws, covers, pageWalk}
 

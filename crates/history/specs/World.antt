@@ -7,16 +7,11 @@ use lib.Dec.{eqb}
 use Rattle.word.specs.Bits.{pick}
 use Rattle.fault.specs.First.{first}
 use Rattle.walk.specs.Regime.{regimeOf}
-use Rattle.walk.specs.declared.regime.Regime.{Regime}
-use Rattle.walk.specs.declared.level.Leaf.{Leaf}
-use Rattle.walk.specs.declared.level.Walked.{Walked}
+use Rattle.walk.specs.declared.{regime.Regime.Regime, level.Leaf.Leaf, level.Walked.Walked}
 use Rattle.walk.specs.declared.level.Walked.the-variants.{Mapped, Fault}
 use Rattle.tlb.specs.Model.{Access, asUser, need, spanBits}
-use Rattle.tlb.specs.declared.access.Kind.{Kind}
-use Rattle.tlb.specs.declared.access.Privilege.{Privilege}
-use Rattle.tlb.specs.declared.access.Answer.{Answer}
+use Rattle.tlb.specs.declared.{access.Kind.Kind, access.Privilege.Privilege, access.Answer.Answer, Inval.Inval}
 use Rattle.tlb.specs.declared.access.Answer.the-variants.{Address, Status}
-use Rattle.tlb.specs.declared.Inval.{Inval}
 use Rattle.tlb.specs.declared.Inval.the-variants.{All, Page, Asid}
 
 -- The registers that translation reads, RAM, and what they say:

@@ -7,16 +7,13 @@ use lib.Dec.{eqb, eqb→eq, leb, T as Holds}
 use lib.ListN.{length}
 use Rattle.word.specs.Bits.{pick}
 use Rattle.word.specs.Ram.{widthOf, bytesIn}
-use Rattle.word.specs.declared.ram.Sized.{Sized}
+use Rattle.word.specs.declared.{ram.Sized.Sized, ram.Width.Width, ram.Word.Word}
 use Rattle.word.specs.declared.ram.Sized.the-variants.{Bytes, Refused as NoWidth}
-use Rattle.word.specs.declared.ram.Width.{Width}
-use Rattle.word.specs.declared.ram.Word.{Word}
 use Rattle.walk.specs.Regime.{regimeOf, stage1On}
 use Rattle.tlb.specs.Cache.{hintAt}
 use Rattle.tlb.specs.Hint.{onPage}
 use Rattle.tlb.specs.declared.access.Answer.the-variants.{Address}
-use Rattle.tlb.specs.declared.access.Kind.{Kind}
-use Rattle.tlb.specs.declared.hint.Hint.{Hint}
+use Rattle.tlb.specs.declared.{access.Kind.Kind, hint.Hint.Hint}
 use Rattle.mmu.specs.Core.{bankNow, afterAccess}
 use Rattle.mmu.specs.Ops.{steppedNow, locatedNow, translateOf}
 use Rattle.operations.specs.Place.{inPage, nextPage, crosses}
@@ -57,12 +54,14 @@ and-false false = refl
 
 module _ (c : Core) (memory : ℕ → Word) (va : ℕ) (kind : Kind) where
   -- a hint that serves
-  pub hint-located : (h : Hint) → h ≡ hintAt (c .tlb .cache) (hintPlace va kind) → hintServes h (c .privilege) va kind ≡ true → (n : ℕ) → leb n (inPage va) ≡ true
+  pub hint-located : (h : Hint) → h ≡ hintAt (c .tlb .cache) (hintPlace va kind) → hintServes h (c .privilege) va kind ≡ true → (n : ℕ) → leb n (inPage va)
+      ≡ true
       → locatedNow c memory va n kind ≡ record { tlb = c .tlb; placed = At (Whole (onPage (h .pa) va)) }
   unfolding locatedNow locatedOf translateOf steppedNow afterAccess
   hint-located h eh served n fits =
       let turn = hint-turn c memory va kind (rw eh at served) in
-      let step : translateIn (bankNow c) (c .privilege) memory va kind (c .tlb) ≡ record { tlb = c .tlb; answer = Address (onPage (hintAt (c .tlb .cache) (hintPlace va kind) .pa) va) }
+      let step : translateIn (bankNow c) (c .privilege) memory va kind (c .tlb)
+      ≡ record { tlb = c .tlb; answer = Address (onPage (hintAt (c .tlb .cache) (hintPlace va kind) .pa) va) }
       = λ i. record { tlb = sym (turn .1) i .tlb; answer = sym (turn .0) i } in
       let here = le-ltb (inPage va) n (leb-true n (inPage va) fits) in
       rw (step, here, and-false (stage1On (bankNow c) (regimeOf (c .privilege .level))), eh)

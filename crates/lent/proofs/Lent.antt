@@ -33,9 +33,7 @@ use Rattle.mmu.proofs.core.Core as T
 use Rattle.tlb.proofs.access.Kind as KI
 use Rattle.tlb.proofs.access.Kind.Laws as KI′
 use Rattle.mmu.specs.Parts.{hintedIn, pageIn, commitIn, keptIn}
-use Rattle.operations.specs.declared.change.Change.{Change}
-use Rattle.operations.specs.declared.change.Hinted.{Hinted}
-use Rattle.operations.specs.declared.change.Page.{Page}
+use Rattle.operations.specs.declared.{change.Change.Change, change.Hinted.Hinted, change.Page.Page}
 use Rattle.lent_parts.proofs.Calling.{Gives, made}
 use Rattle.lent_parts.proofs.Walking.{Asked, yields, lends}
 use Rattle.operations.proofs.change.Change as CH
@@ -100,42 +98,61 @@ vals-changed x ν = ((LL.val CH.the-type CH′.the-laws x ∷ []), tt)
 abbrev vals-addressed : ℕ → ℕ → ℕ → List Val × (List Val × Unit {0})
 vals-addressed l a ν = ((vint w64 l ∷ []), ((vint w64 a ∷ []), tt))
 
-module _ {M : Type 1} {𝓤 : URA M} {H : Heap 𝓤} {A : Atoms 𝓤} {K : Type 0} {W : Given 𝓤 H A} {Γ : List (Item 𝓤)} {E : Env 𝓤 H} {C : Calls 𝓤 H} {Λ : Loops 𝓤 H} {q : Post 𝓤 H}
-    {f : Name} {xs : List Operand} {d : Place} {rest : Body} (t : K) (fm : FmC 𝓤 H (W .laws) C) (at-mem : Memory → SProp 𝓤) (run : Routine → Fun 𝓤) {κ : Lft} {p : Share} {γ : GName} {b o : ℕ} (c : Core) where
-  pub takes-hint : Triple 𝓤 (C f) (To-take-hint 𝓤 H A at-mem run) → (va : ℕ) (kind : Kind) → Is u64 va (vint w64 va ∷ []) → Is KI.the-row kind (EL.val KI.the-type KI′.the-laws kind ∷ [])
+module _ {M : Type 1} {𝓤 : URA M} {H : Heap 𝓤} {A : Atoms 𝓤} {K : Type 0} {W : Given 𝓤 H A} {Γ : List (Item 𝓤)} {E : Env 𝓤 H} {C : Calls 𝓤 H} {Λ : Loops 𝓤 H}
+    {q : Post 𝓤 H}
+    {f : Name} {xs : List Operand} {d : Place} {rest : Body} (t : K) (fm : FmC 𝓤 H (W .laws) C) (at-mem : Memory → SProp 𝓤)
+    (run : Routine → Fun 𝓤) {κ : Lft} {p : Share} {γ : GName} {b o : ℕ} (c : Core) where
+  pub takes-hint : Triple 𝓤 (C f) (To-take-hint 𝓤 H A at-mem run) → (va : ℕ) (kind : Kind) → Is u64 va (vint w64 va ∷ [])
+      → Is KI.the-row kind (EL.val KI.the-type KI′.the-laws kind ∷ [])
       → ((ν : ℕ) (δ : GName) → Opds K W (raw (Asked 𝓤 H A T.the-row placed (take-hint.ended .kept .1) HI.the-row (take-hint.clauses 𝓤 H A at-mem run)
-      (yields 𝓤 H A T.the-row placed (take-hint.ended .kept .1) HI.the-row (take-hint.clauses 𝓤 H A at-mem run) b o c (λ ν. (va, (kind, tt))) (vals-placed va kind) (λ ν δ. tt) ν δ)) ∷ ‵ (LentAgain T.the-row κ (ν ∷ []) p γ b o δ c) ∷ Γ) E xs (vptr b o ∷ vint w64 va ∷ EL.val KI.the-type KI′.the-laws kind ∷ []))
-      → ((r : Hinted) (w : Core) → (r ≡ hintedIn c va kind) × (w ≡ c) → Is HI.the-row r (LL.val HI.the-type HI′.the-laws r ∷ []) → Seq K W (‵ (Own κ γ b o w) ∷ ‵ (flft κ p) ∷ Γ) (lands C Λ E d (LL.val HI.the-type HI′.the-laws r) rest q))
+      (yields 𝓤 H A T.the-row placed (take-hint.ended .kept .1) HI.the-row (take-hint.clauses 𝓤 H A at-mem run) b o c (λ ν. (va, (kind, tt)))
+      (vals-placed va kind) (λ ν δ. tt) ν δ)) ∷ ‵ (LentAgain T.the-row κ (ν ∷ []) p γ b o δ c) ∷ Γ) E xs
+      (vptr b o ∷ vint w64 va ∷ EL.val KI.the-type KI′.the-laws kind ∷ []))
+      → ((r : Hinted) (w : Core) → (r ≡ hintedIn c va kind) × (w ≡ c) → Is HI.the-row r (LL.val HI.the-type HI′.the-laws r ∷ [])
+      → Seq K W (‵ (Own κ γ b o w) ∷ ‵ (flft κ p) ∷ Γ) (lands C Λ E d (LL.val HI.the-type HI′.the-laws r) rest q))
       → Seq K W (‵ (Own κ γ b o c) ∷ ‵ (flft κ p) ∷ Γ) (runs C Λ E (seq (call f xs d) rest) q)
   takes-hint known va kind gv gk os k =
-      lends t fm T.the-row placed (take-hint.ended .kept .1) HI.the-row (take-hint.clauses 𝓤 H A at-mem run) known (LL.val HI.the-type HI′.the-laws) (LL.tells HI.the-type HI′.the-laws) c (λ ν. (va, (kind, tt))) (vals-placed va kind) (λ ν δ. tt)
+      lends t fm T.the-row placed (take-hint.ended .kept .1) HI.the-row (take-hint.clauses 𝓤 H A at-mem run) known (LL.val HI.the-type HI′.the-laws)
+      (LL.tells HI.the-type HI′.the-laws) c (λ ν. (va, (kind, tt))) (vals-placed va kind) (λ ν δ. tt)
       (λ ν. (num 𝓤 H A W (emp 𝓤) va gv, (of-kind 𝓤 H A W (emp 𝓤) kind gk, tt)))
       (λ ν δ. id⊢ 𝓤 _) (λ r w. (r ≡ hintedIn c va kind) × (w ≡ c)) (λ ν δ r ws. id⊢ 𝓤 _) os k
 
-  pub takes-page : Triple 𝓤 (C f) (To-take-page 𝓤 H A at-mem run) → (va : ℕ) (kind : Kind) → Is u64 va (vint w64 va ∷ []) → Is KI.the-row kind (EL.val KI.the-type KI′.the-laws kind ∷ [])
+  pub takes-page : Triple 𝓤 (C f) (To-take-page 𝓤 H A at-mem run) → (va : ℕ) (kind : Kind) → Is u64 va (vint w64 va ∷ [])
+      → Is KI.the-row kind (EL.val KI.the-type KI′.the-laws kind ∷ [])
       → ((ν : ℕ) (δ : GName) → Opds K W (raw (Asked 𝓤 H A T.the-row placed (take-page.ended .kept .1) PA.the-row (take-page.clauses 𝓤 H A at-mem run)
-      (yields 𝓤 H A T.the-row placed (take-page.ended .kept .1) PA.the-row (take-page.clauses 𝓤 H A at-mem run) b o c (λ ν. (va, (kind, tt))) (vals-placed va kind) (λ ν δ. tt) ν δ)) ∷ ‵ (LentAgain T.the-row κ (ν ∷ []) p γ b o δ c) ∷ Γ) E xs (vptr b o ∷ vint w64 va ∷ EL.val KI.the-type KI′.the-laws kind ∷ []))
-      → ((r : Page) (w : Core) → (r ≡ pageIn c va kind) × (w ≡ c) × (length (c .tlb .cache .hints) ≡ 512) × (length (c .tlb .cache .entries) ≡ 1024) → Is PA.the-row r (LL.val PA.the-type PA′.the-laws r ∷ []) → Seq K W (‵ (Own κ γ b o w) ∷ ‵ (flft κ p) ∷ Γ) (lands C Λ E d (LL.val PA.the-type PA′.the-laws r) rest q))
+      (yields 𝓤 H A T.the-row placed (take-page.ended .kept .1) PA.the-row (take-page.clauses 𝓤 H A at-mem run) b o c (λ ν. (va, (kind, tt)))
+      (vals-placed va kind) (λ ν δ. tt) ν δ)) ∷ ‵ (LentAgain T.the-row κ (ν ∷ []) p γ b o δ c) ∷ Γ) E xs
+      (vptr b o ∷ vint w64 va ∷ EL.val KI.the-type KI′.the-laws kind ∷ []))
+      → ((r : Page) (w : Core) → (r ≡ pageIn c va kind) × (w ≡ c) × (length (c .tlb .cache .hints) ≡ 512) × (length (c .tlb .cache .entries) ≡ 1024)
+      → Is PA.the-row r (LL.val PA.the-type PA′.the-laws r ∷ []) → Seq K W (‵ (Own κ γ b o w) ∷ ‵ (flft κ p) ∷ Γ)
+      (lands C Λ E d (LL.val PA.the-type PA′.the-laws r) rest q))
       → Seq K W (‵ (Own κ γ b o c) ∷ ‵ (flft κ p) ∷ Γ) (runs C Λ E (seq (call f xs d) rest) q)
   takes-page known va kind gv gk os k =
-      lends t fm T.the-row placed (take-page.ended .kept .1) PA.the-row (take-page.clauses 𝓤 H A at-mem run) known (LL.val PA.the-type PA′.the-laws) (LL.tells PA.the-type PA′.the-laws) c (λ ν. (va, (kind, tt))) (vals-placed va kind) (λ ν δ. tt)
+      lends t fm T.the-row placed (take-page.ended .kept .1) PA.the-row (take-page.clauses 𝓤 H A at-mem run) known (LL.val PA.the-type PA′.the-laws)
+      (LL.tells PA.the-type PA′.the-laws) c (λ ν. (va, (kind, tt))) (vals-placed va kind) (λ ν δ. tt)
       (λ ν. (num 𝓤 H A W (emp 𝓤) va gv, (of-kind 𝓤 H A W (emp 𝓤) kind gk, tt)))
-      (λ ν δ. id⊢ 𝓤 _) (λ r w. (r ≡ pageIn c va kind) × (w ≡ c) × (length (c .tlb .cache .hints) ≡ 512) × (length (c .tlb .cache .entries) ≡ 1024)) (λ ν δ r ws. id⊢ 𝓤 _) os k
+      (λ ν δ. id⊢ 𝓤 _) (λ r w. (r ≡ pageIn c va kind) × (w ≡ c) × (length (c .tlb .cache .hints) ≡ 512) × (length (c .tlb .cache .entries) ≡ 1024))
+      (λ ν δ r ws. id⊢ 𝓤 _) os k
 
   pub commits : Triple 𝓤 (C f) (To-commit 𝓤 H A at-mem run) → (x : Change) → Is CH.the-row x (LL.val CH.the-type CH′.the-laws x ∷ [])
       → ((ν : ℕ) (δ : GName) → Opds K W (raw (Asked 𝓤 H A T.the-row changed (commit.ended .kept .1) unit (commit.clauses 𝓤 H A at-mem run)
-      (yields 𝓤 H A T.the-row changed (commit.ended .kept .1) unit (commit.clauses 𝓤 H A at-mem run) b o c (λ ν. (x, tt)) (vals-changed x) (λ ν δ. tt) ν δ)) ∷ ‵ (LentAgain T.the-row κ (ν ∷ []) p γ b o δ c) ∷ Γ) E xs (vptr b o ∷ LL.val CH.the-type CH′.the-laws x ∷ []))
+      (yields 𝓤 H A T.the-row changed (commit.ended .kept .1) unit (commit.clauses 𝓤 H A at-mem run) b o c (λ ν. (x, tt)) (vals-changed x) (λ ν δ. tt) ν δ)) ∷
+      ‵ (LentAgain T.the-row κ (ν ∷ []) p γ b o δ c) ∷ Γ) E xs (vptr b o ∷ LL.val CH.the-type CH′.the-laws x ∷ []))
       → ((r : Unit {0}) (w : Core) → w ≡ commitIn c x → Is unit r (vunit ∷ []) → Seq K W (‵ (Own κ γ b o w) ∷ ‵ (flft κ p) ∷ Γ) (lands C Λ E d (vunit) rest q))
       → Seq K W (‵ (Own κ γ b o c) ∷ ‵ (flft κ p) ∷ Γ) (runs C Λ E (seq (call f xs d) rest) q)
   commits known x gx os k =
-      lends t fm T.the-row changed (commit.ended .kept .1) unit (commit.clauses 𝓤 H A at-mem run) known (λ u. vunit) nothing-tells c (λ ν. (x, tt)) (vals-changed x) (λ ν δ. tt)
-      (λ ν. (made 𝓤 H A (emp 𝓤) CH.the-row (LL.makes CH.the-type CH′.the-plain 𝓤 H A) x _ gx, tt)) (λ ν δ. id⊢ 𝓤 _) (λ r w. w ≡ commitIn c x) (λ ν δ r ws. id⊢ 𝓤 _) os k
+      lends t fm T.the-row changed (commit.ended .kept .1) unit (commit.clauses 𝓤 H A at-mem run) known (λ u. vunit) nothing-tells c (λ ν. (x, tt))
+      (vals-changed x) (λ ν δ. tt)
+      (λ ν. (made 𝓤 H A (emp 𝓤) CH.the-row (LL.makes CH.the-type CH′.the-plain 𝓤 H A) x _ gx, tt)) (λ ν δ. id⊢ 𝓤 _) (λ r w. w ≡ commitIn c x)
+      (λ ν δ r ws. id⊢ 𝓤 _) os k
 
   pub keeps : Triple 𝓤 (C f) (To-keep 𝓤 H A at-mem run) → (l a : ℕ) → Is u64 l (vint w64 l ∷ []) → Is u64 a (vint w64 a ∷ [])
       → ((ν : ℕ) (δ : GName) → Opds K W (raw (Asked 𝓤 H A T.the-row addressed (keep.ended .kept .1) unit (keep.clauses 𝓤 H A at-mem run)
-      (yields 𝓤 H A T.the-row addressed (keep.ended .kept .1) unit (keep.clauses 𝓤 H A at-mem run) b o c (λ ν. (l, (a, tt))) (vals-addressed l a) (λ ν δ. tt) ν δ)) ∷ ‵ (LentAgain T.the-row κ (ν ∷ []) p γ b o δ c) ∷ Γ) E xs (vptr b o ∷ vint w64 l ∷ vint w64 a ∷ []))
+      (yields 𝓤 H A T.the-row addressed (keep.ended .kept .1) unit (keep.clauses 𝓤 H A at-mem run) b o c (λ ν. (l, (a, tt))) (vals-addressed l a)
+      (λ ν δ. tt) ν δ)) ∷ ‵ (LentAgain T.the-row κ (ν ∷ []) p γ b o δ c) ∷ Γ) E xs (vptr b o ∷ vint w64 l ∷ vint w64 a ∷ []))
       → ((r : Unit {0}) (w : Core) → w ≡ keptIn c l a → Is unit r (vunit ∷ []) → Seq K W (‵ (Own κ γ b o w) ∷ ‵ (flft κ p) ∷ Γ) (lands C Λ E d (vunit) rest q))
       → Seq K W (‵ (Own κ γ b o c) ∷ ‵ (flft κ p) ∷ Γ) (runs C Λ E (seq (call f xs d) rest) q)
   keeps known l a gl ga os k =
-      lends t fm T.the-row addressed (keep.ended .kept .1) unit (keep.clauses 𝓤 H A at-mem run) known (λ u. vunit) nothing-tells c (λ ν. (l, (a, tt))) (vals-addressed l a) (λ ν δ. tt)
+      lends t fm T.the-row addressed (keep.ended .kept .1) unit (keep.clauses 𝓤 H A at-mem run) known (λ u. vunit) nothing-tells c (λ ν. (l, (a, tt)))
+      (vals-addressed l a) (λ ν δ. tt)
       (λ ν. (num 𝓤 H A W (emp 𝓤) l gl, (num 𝓤 H A W (emp 𝓤) a ga, tt))) (λ ν δ. id⊢ 𝓤 _) (λ r w. w ≡ keptIn c l a) (λ ν δ r ws. id⊢ 𝓤 _) os k

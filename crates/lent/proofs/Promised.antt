@@ -4,9 +4,8 @@ use mathlib.Core.List.{List}
 use Prim.Native.Nat.{ℕ, zero, suc}
 use Rattle.mmu.specs.declared.core.Core.{Core}
 use Rattle.cpu.specs.Step.{stepOf, ramOf, ramAfter, ends, refusedOr, missedBy}
-use Rattle.operations.specs.declared.call.Call.{Call}
+use Rattle.operations.specs.declared.{call.Call.Call, call.Reply.Reply}
 use Rattle.operations.specs.declared.call.Call.the-variants as Call
-use Rattle.operations.specs.declared.call.Reply.{Reply}
 use Rattle.transparency.specs.Faithful.{FaithfulCall, faithful-step}
 
 module _ (c : Core) (base : ℕ) (ram : List ℕ) (x : Call) (r : Reply) (d : Core) where

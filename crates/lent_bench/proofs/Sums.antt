@@ -33,7 +33,8 @@ va-even i even odd h = sym (rw (eq-eqb (i % 2) 0 h))
 pub va-odd : (i even odd : ℕ) → (i % 2 ≡ 0 → ⊥) → odd ≡ vaOf i even odd
 va-odd i even odd h = sym (rw (ne-eqb (i % 2) 0 h))
 
-pub sum-is : (sum : ℕ) (r : Reply) (part twice turned s : ℕ) → part ≡ partOf r → twice ≡ (sum + sum) % 2 ^ 64 → turned ≡ (twice + sum / 0x8000_0000_0000_0000) % 2 ^ 64 → s ≡ (turned + part) % 2 ^ 64 → s ≡ summedOf sum r
+pub sum-is : (sum : ℕ) (r : Reply) (part twice turned s : ℕ) → part ≡ partOf r → twice ≡ (sum + sum) % 2 ^ 64 → turned
+    ≡ (twice + sum / 0x8000_0000_0000_0000) % 2 ^ 64 → s ≡ (turned + part) % 2 ^ 64 → s ≡ summedOf sum r
 sum-is sum r part twice turned s ep et eu es = es ∙ rw (eu, et, ep)
 
 one-more : (i : ℕ) → i + 1 ≡ suc i
@@ -56,6 +57,8 @@ module _ (c : Core) (base : ℕ) (ram : List ℕ) (even odd : ℕ) (kind : Kind)
   unfolding coreAfter
   core-next i va ea y e = e ∙ ap (λ (x : ℕ). after i x .core) ea ∙ sym (ap (coreAfter c base ram even odd kind) (one-more i))
 
-  pub sum-next : (i va : ℕ) → va ≡ vaOf i even odd → (r : Reply) → r ≡ after i va .reply → (s : ℕ) → s ≡ summedOf (sumAfter c base ram even odd kind i) r → s ≡ sumAfter c base ram even odd kind (i + 1)
+  pub sum-next : (i va : ℕ) → va ≡ vaOf i even odd → (r : Reply) → r ≡ after i va .reply → (s : ℕ) → s ≡ summedOf (sumAfter c base ram even odd kind i) r → s
+      ≡ sumAfter c base ram even odd kind (i + 1)
   unfolding sumAfter
-  sum-next i va ea r er s e = e ∙ ap (summedOf (sumAfter c base ram even odd kind i)) (er ∙ ap (λ (x : ℕ). after i x .reply) ea) ∙ sym (ap (sumAfter c base ram even odd kind) (one-more i))
+  sum-next i va ea r er s e = e ∙ ap (summedOf (sumAfter c base ram even odd kind i)) (er ∙ ap (λ (x : ℕ). after i x .reply) ea)
+      ∙ sym (ap (sumAfter c base ram even odd kind) (one-more i))

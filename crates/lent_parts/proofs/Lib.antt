@@ -1,3 +1,4 @@
+pub mod Logic
 pub mod Calling
 pub mod Walking
 pub mod InPlace

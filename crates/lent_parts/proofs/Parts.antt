@@ -5,10 +5,12 @@ use Prim.Native.Nat.{ℕ, _<_, _^_, _*_}
 use native.Mathlib.Omega.{arith}
 use mathlib.Core.List.{[], _∷_, List, map}
 use lib.ListN.{length, length-map, set, getD}
-use mir.Syntax.{w64}
+use mir.Syntax.{w8, w64}
 use mir.Val.{Val, vunit, vint, vstruct, vnil, vcons, ofList}
 use denote.Laws.{Is, Tells, valss}
 use denote.Array.{Array, arrayVal}
+use denote.Builtin.{u8, u64}
+use denote.Plain.{uint-tells}
 use denote.Struct.Declared.{Declared, fields}
 use denote.Struct.Struct.{AreAll}
 use denote.Struct.Laws as LL
@@ -18,10 +20,7 @@ use denote.Steps.{only}
 use Rattle.tlb.specs.Cache.{hintAt, entryAt}
 use Rattle.tlb.specs.Entry.{blank}
 use Rattle.tlb.specs.Hint.{noHint}
-use Rattle.tlb.specs.declared.count.Counts.{Counts}
-use Rattle.tlb.specs.declared.entry.Entry.{Entry}
-use Rattle.tlb.specs.declared.hint.FetchHint.{FetchHint}
-use Rattle.tlb.specs.declared.hint.Hint.{Hint}
+use Rattle.tlb.specs.declared.{count.Counts.Counts, entry.Entry.Entry, hint.FetchHint.FetchHint, hint.Hint.Hint}
 use Rattle.mmu.specs.declared.core.Core.{Core}
 use Rattle.mmu.specs.Parts.{partsIn, storedIn, keptIn}
 use Rattle.lent_parts.proofs.InPlace.{vs as valsOf, array-set, array-at, vals-set, vals-length}
@@ -69,6 +68,27 @@ entry-val e = LL.val F.the-type F′.the-laws e
 abbrev pub Held : (D : Declared) → LL.Laws D → D .D → Type 0
 Held D L d = AreAll (fields D) (D .to d) (valss (fields D) (LL.spells (D .parts) L) (D .to d))
 
+-- an array of four words, and an element of it
+abbrev pub words : List ℕ → List Val
+words = valsOf u64-field u64-laws
+
+module _ (xs : List ℕ) (are : Is (Array (u64-field .row) 4) (map (u64-field .into) xs) (arrayVal (words xs) ∷ [])) where
+  pub words-long : length (words xs) ≡ 4
+  words-long = vals-length u64-field u64-laws 4 xs (arrayVal (words xs) ∷ []) are
+
+  module _ (i : ℕ) (l : i < 4) where
+    pub word-within : i < length (words xs)
+    word-within = subst (λ (n : ℕ). i < n) (sym words-long) l
+
+    pub word-as : Is u64 (getD xs i 0) (getD (words xs) i vunit ∷ [])
+    word-as = array-at u64-field u64-laws 4 xs (arrayVal (words xs) ∷ []) i 0 vunit word-within are
+
+    pub word-spelt : getD (words xs) i vunit ≡ vint w64 (getD xs i 0)
+    word-spelt = ap only (uint-tells w64 (getD xs i 0) (getD (words xs) i vunit ∷ []) word-as)
+
+    pub word-is : Is u64 (getD xs i 0) (vint w64 (getD xs i 0) ∷ [])
+    word-is = subst (λ (v : Val). Is u64 (getD xs i 0) (v ∷ [])) word-spelt word-as
+
 module _ (c : Core) where
   -- the machine values of the hints and of the entries
   abbrev pub hints : List Val
@@ -105,7 +125,8 @@ module _ (c : Core) where
       vstruct (vcons w (vcons (LL.val G.the-type G′.the-laws (c .flags)) (vcons (vint w64 (c .pc))
       (vcons (arrayVal (valsOf u64-field u64-laws (c .x))) (vcons r (vcons (LL.val S.the-type S′.the-laws (c .sys))
       (vcons (vstruct (vcons (vstruct (vcons p (vcons f
-      (vcons (vstruct (ofList hs)) (vcons (vstruct (ofList es)) vnil))))) (vcons n (vcons (D′.the-field-laws .val (D.the-field .into (c .tlb .broadcast))) vnil))))
+      (vcons (vstruct (ofList hs)) (vcons (vstruct (ofList es)) vnil)))))
+      (vcons n (vcons (D′.the-field-laws .val (D.the-field .into (c .tlb .broadcast))) vnil))))
       (vcons last (vcons abort vnil)))))))))
 
   abbrev pub written : Val
@@ -130,6 +151,13 @@ module _ (c : Core) where
 
     pub control-is : Is R.the-row (c .control) (LL.vals R.the-type R′.the-laws (c .control))
     control-is = all .1 .1 .1 .1 .0
+
+    -- the registers, and the level
+    pub registers-are : Held R.the-type R′.the-laws (c .control)
+    registers-are = LL.owed R.the-type R′.the-laws (c .control) (LL.vals R.the-type R′.the-laws (c .control)) control-is
+
+    pub level-is : Is u8 (c .privilege .level) (vint w8 (c .privilege .level) ∷ [])
+    level-is = LL.owed Q.the-type Q′.the-laws (c .privilege) (LL.vals Q.the-type Q′.the-laws (c .privilege)) privilege-is .0
 
     pub tlb-is : Is B.the-row (c .tlb) (LL.vals B.the-type B′.the-laws (c .tlb))
     tlb-is = all .1 .1 .1 .1 .1 .1 .0
@@ -199,10 +227,12 @@ module _ (c : Core) where
       entry-is = subst (λ (v : Val). Is F.the-row (entryAt (c .tlb .cache) j) (v ∷ [])) entry-spelt entry-as
 
     -- the core with other parts
-    pub laid-is : (f : FetchHint) (n : Counts) (hs : List Hint) (es : List Entry) (l a : ℕ) → Is X.the-row f (fetch-val f ∷ []) → Is N.the-row n (counts-val n ∷ [])
+    pub laid-is : (f : FetchHint) (n : Counts) (hs : List Hint) (es : List Entry) (l a : ℕ) → Is X.the-row f (fetch-val f ∷ [])
+        → Is N.the-row n (counts-val n ∷ [])
         → Is (Array (E.the-field .row) 512) (map (E.the-field .into) hs) (arrayVal (valsOf E.the-field E′.the-field-laws hs) ∷ [])
         → Is (Array (F.the-field .row) 1024) (map (F.the-field .into) es) (arrayVal (valsOf F.the-field F′.the-field-laws es) ∷ []) → l < 2 ^ 64 → a < 2 ^ 64
-        → Is T.the-row (partsIn c f n hs es l a) (with-parts (fetch-val f) (counts-val n) (valsOf E.the-field E′.the-field-laws hs) (valsOf F.the-field F′.the-field-laws es) (vint w64 l) (vint w64 a) ∷ [])
+        → Is T.the-row (partsIn c f n hs es l a) (with-parts (fetch-val f) (counts-val n) (valsOf E.the-field E′.the-field-laws hs)
+        (valsOf F.the-field F′.the-field-laws es) (vint w64 l) (vint w64 a) ∷ [])
     unfolding laid
     laid-is f n hs es l a isf isn ish ise gl ga =
         LL.owes T.the-type T′.the-laws (partsIn c f n hs es l a) (
@@ -232,23 +262,29 @@ module _ (c : Core) where
         )
 
     hint-stored : (i : ℕ) (h : Hint) → Is E.the-row h (hint-val h ∷ [])
-        → Is (Array (E.the-field .row) 512) (map (E.the-field .into) (set (c .tlb .cache .hints) i h)) (arrayVal (valsOf E.the-field E′.the-field-laws (set (c .tlb .cache .hints) i h)) ∷ [])
+        → Is (Array (E.the-field .row) 512) (map (E.the-field .into) (set (c .tlb .cache .hints) i h))
+        (arrayVal (valsOf E.the-field E′.the-field-laws (set (c .tlb .cache .hints) i h)) ∷ [])
     hint-stored i h is = array-set E.the-field E′.the-field-laws 512 (c .tlb .cache .hints) (arrayVal hints ∷ []) i h is hints-are
 
     entry-stored : (j : ℕ) (e : Entry) → Is F.the-row e (entry-val e ∷ [])
-        → Is (Array (F.the-field .row) 1024) (map (F.the-field .into) (set (c .tlb .cache .entries) j e)) (arrayVal (valsOf F.the-field F′.the-field-laws (set (c .tlb .cache .entries) j e)) ∷ [])
+        → Is (Array (F.the-field .row) 1024) (map (F.the-field .into) (set (c .tlb .cache .entries) j e))
+        (arrayVal (valsOf F.the-field F′.the-field-laws (set (c .tlb .cache .entries) j e)) ∷ [])
     entry-stored j e is = array-set F.the-field F′.the-field-laws 1024 (c .tlb .cache .entries) (arrayVal entries ∷ []) j e is entries-are
 
     -- with other addresses kept; and with a fetch hint, counters, a hint and an entry stored in place
     pub kept-is : (l a : ℕ) → l < 2 ^ 64 → a < 2 ^ 64 → Is T.the-row (keptIn c l a) (with-parts vfetch vcounts hints entries (vint w64 l) (vint w64 a) ∷ [])
-    kept-is l a gl ga = laid-is (c .tlb .cache .fetch) (c .tlb .counts) (c .tlb .cache .hints) (c .tlb .cache .entries) l a fetch-is counts-are hints-are entries-are gl ga
+    kept-is l a gl ga = laid-is (c .tlb .cache .fetch) (c .tlb .counts) (c .tlb .cache .hints)
+        (c .tlb .cache .entries) l a fetch-is counts-are hints-are entries-are gl ga
 
-    pub stored-is : (i j : ℕ) (f : FetchHint) (n : Counts) (h : Hint) (e : Entry) → Is X.the-row f (fetch-val f ∷ []) → Is N.the-row n (counts-val n ∷ []) → Is E.the-row h (hint-val h ∷ [])
+    pub stored-is : (i j : ℕ) (f : FetchHint) (n : Counts) (h : Hint) (e : Entry) → Is X.the-row f (fetch-val f ∷ []) → Is N.the-row n (counts-val n ∷ [])
+        → Is E.the-row h (hint-val h ∷ [])
         → Is F.the-row e (entry-val e ∷ [])
-        → Is T.the-row (storedIn c i j f n h e) (with-parts (fetch-val f) (counts-val n) (set hints i (hint-val h)) (set entries j (entry-val e)) vlast vabort ∷ [])
+        → Is T.the-row (storedIn c i j f n h e) (with-parts (fetch-val f) (counts-val n) (set hints i (hint-val h))
+        (set entries j (entry-val e)) vlast vabort ∷ [])
     stored-is i j f n h e isf isn ish ise =
         rw (vals-set F.the-field F′.the-field-laws (c .tlb .cache .entries) j e, vals-set E.the-field E′.the-field-laws (c .tlb .cache .hints) i h)
-        (laid-is f n (set (c .tlb .cache .hints) i h) (set (c .tlb .cache .entries) j e) (c .«last_pa») (c .«abort_pa») isf isn (hint-stored i h ish) (entry-stored j e ise) last-fits abort-fits)
+        (laid-is f n (set (c .tlb .cache .hints) i h) (set (c .tlb .cache .entries) j e) (c .«last_pa») (c .«abort_pa») isf isn (hint-stored i h ish)
+        (entry-stored j e ise) last-fits abort-fits)
 
 -- a core's machine value is the one written out
 abbrev pub core-vals : Core → List Val
@@ -257,6 +293,9 @@ core-vals c = written c ∷ []
 pub core-tells : Tells T.the-row (Is T.the-row) core-vals
 unfolding laid
 core-tells = LL.tells T.the-type T′.the-laws
+
+pub scaled8 : (i : ℕ) → i < 4 → i * 8 < 2 ^ 64
+scaled8 i l = omega arith
 
 pub scaled16 : (i : ℕ) → i < 512 → i * 16 < 2 ^ 64
 scaled16 i l = omega arith

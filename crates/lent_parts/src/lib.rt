@@ -8,8 +8,10 @@ use operations::change::Change;
 use operations::change::Hinted;
 use operations::change::Page;
 use operations::hinted;
+use operations::lookup;
 use tlb::access::Kind;
 use tlb::count;
+use walk::regime::Bank;
 
 // What is read first.
 pub fn take_hint(core: &mut Core, va: u64, kind: Kind) -> Hinted
@@ -37,8 +39,22 @@ pub fn take_page(core: &mut Core, va: u64, kind: Kind) -> Page
         × (length (now (core .entry) .tlb .cache .entries) ≡ 1024) ⌝ }
 {
     let privilege = core.privilege;
-    let control = core.control;
-    let k = change::lookup_of(control, privilege, va, kind);
+    let i = lookup::place_at(privilege.level);
+    let sctlr = core.control.sctlr[i];
+    let tcr = core.control.tcr[i];
+    let ttbr0 = core.control.ttbr0[i];
+    let ttbr1_el1 = core.control.ttbr1_el1;
+    let scr_el3 = core.control.scr_el3;
+    let hcr_el2 = core.control.hcr_el2;
+    let bank = Bank {
+        sctlr,
+        tcr,
+        ttbr0,
+        ttbr1_el1,
+        scr_el3,
+        hcr_el2,
+    };
+    let k = change::lookup_with(bank, privilege, va, kind);
     let current = core.tlb.cache.current;
     let hint = core.tlb.cache.hints[k.hint];
     let entry = core.tlb.cache.entries[k.entry];

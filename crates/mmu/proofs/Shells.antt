@@ -1,88 +1,25 @@
 -- The core's operations put together from their parts, on plain values, for `search`.
 use mathlib.Core.Path.{_≡_, ap, _∙_}
-use mathlib.Core.Bool.{false}
 use mathlib.Core.List.{List}
 use Prim.Native.Nat.{ℕ}
 use lib.ListN.{length}
 use Rattle.word.specs.Ram.{wordAt}
 use Rattle.word.specs.declared.ram.Word.{Word}
-use Rattle.sysreg.specs.Regs.{freshControl, freshSys}
-use Rattle.sysreg.specs.declared.regs.Control.{Control}
-use Rattle.sysreg.specs.declared.regs.SysRegs.{SysRegs}
 use Rattle.walk.specs.declared.regime.Bank.{Bank}
-use Rattle.tlb.specs.Tlb.{fresh}
 use Rattle.tlb.specs.declared.access.Kind.{Kind}
 use Rattle.tlb.specs.declared.access.Kind.the-variants.{Read, Write}
-use Rattle.tlb.specs.declared.Tlb.{Tlb}
-use Rattle.exception.specs.Pstate.{freshFlags}
-use Rattle.exception.specs.declared.flags.Flags.{Flags}
-use Rattle.mmu.specs.Core.{zeros, freshCore, regSet, setReg, afterAccess, bankNow}
+use Rattle.mmu.specs.Core.{afterAccess, bankNow}
 use Rattle.operations.specs.BytesLaws.{store-length}
 use Rattle.operations.specs.Ends.{loadEnd, storeEnd, storeRamEnd, fetchEnd, reachedBy}
 use Rattle.mmu.specs.Step.{translateIn, translateFetchIn, locatedOf}
-use Rattle.mmu.specs.Ops.{steppedNow, fetchSteppedNow, locatedNow, translateOf, translateAccessOf, readOf, writeOf, ramAfterWrite, fetchOf, fetchPaOf, dataPaOf}
-use Rattle.mmu.specs.declared.core.Core.{Core}
-use Rattle.operations.specs.declared.place.Placed.{Placed}
+use Rattle.mmu.specs.Ops.{steppedNow, fetchSteppedNow, locatedNow, translateOf, translateAccessOf, readOf, writeOf, ramAfterWrite, fetchOf, fetchPaOf}
+use Rattle.mmu.specs.Ops.{dataPaOf}
+use Rattle.mmu.specs.declared.{core.Core.Core, step.Stepped.Stepped, step.Located.Located}
+use Rattle.mmu.specs.declared.{ops.Translated.Translated, ops.Accessed.Accessed, ops.Loaded.Loaded}
+use Rattle.mmu.specs.declared.{ops.Stored.Stored, ops.Fetched.Fetched, ops.Addressed.Addressed}
+use Rattle.operations.specs.declared.{place.Placed.Placed, ends.Reached.Reached, ends.LoadEnd.LoadEnd}
+use Rattle.operations.specs.declared.{ends.StoreEnd.StoreEnd, ends.FetchEnd.FetchEnd}
 use Rattle.operations.specs.declared.place.Placed.the-variants.{At, Fault}
-use Rattle.mmu.specs.declared.step.Stepped.{Stepped}
-use Rattle.mmu.specs.declared.step.Located.{Located}
-use Rattle.operations.specs.declared.ends.Reached.{Reached}
-use Rattle.operations.specs.declared.ends.LoadEnd.{LoadEnd}
-use Rattle.operations.specs.declared.ends.StoreEnd.{StoreEnd}
-use Rattle.operations.specs.declared.ends.FetchEnd.{FetchEnd}
-use Rattle.mmu.specs.declared.ops.Translated.{Translated}
-use Rattle.mmu.specs.declared.ops.Accessed.{Accessed}
-use Rattle.mmu.specs.declared.ops.Loaded.{Loaded}
-use Rattle.mmu.specs.declared.ops.Stored.{Stored}
-use Rattle.mmu.specs.declared.ops.Fetched.{Fetched}
-use Rattle.mmu.specs.declared.ops.Addressed.{Addressed}
-
-pub fresh-is : (f : Flags) (x : List ℕ) (k : Control) (s : SysRegs) (t : Tlb) → f ≡ freshFlags → x ≡ zeros → k ≡ freshControl → s ≡ freshSys
-    → t ≡ fresh
-    → _≡_ {A = Core}
-    (record {
-      privilege = record { level = 3; unprivileged = false };
-      flags = f;
-      pc = 0;
-      x = x;
-      control = k;
-      sys = s;
-      tlb = t;
-      «last_pa» = 0;
-      «abort_pa» = 0;
-    })
-    freshCore
-unfolding freshCore
-fresh-is f x k s t a b c d e =
-    λ i.
-    record {
-      privilege = record { level = 3; unprivileged = false };
-      flags = a i;
-      pc = 0;
-      x = b i;
-      control = c i;
-      sys = d i;
-      tlb = e i;
-      «last_pa» = 0;
-      «abort_pa» = 0;
-    }
-
-pub set-is : (c : Core) (n v : ℕ) (x : List ℕ) → x ≡ regSet (c .x) n v
-    → _≡_ {A = Core}
-    (record {
-      privilege = c .privilege;
-      flags = c .flags;
-      pc = c .pc;
-      x = x;
-      control = c .control;
-      sys = c .sys;
-      tlb = c .tlb;
-      «last_pa» = c .«last_pa»;
-      «abort_pa» = c .«abort_pa»;
-    })
-    (setReg c n v)
-unfolding setReg
-set-is c n v x e = rw e
 
 module _ (c : Core) (memory : ℕ → Word) (va : ℕ) (s : Bank) (es : s ≡ bankNow c) where
   pub stepped-is : (kind : Kind) (r : Stepped) → r ≡ translateIn s (c .privilege) memory va kind (c .tlb) → r ≡ steppedNow c memory va kind

@@ -5,27 +5,20 @@ use Prim.Native.Nat.{ℕ}
 use Rattle.word.specs.declared.ram.Word.{Word}
 use Rattle.walk.specs.Regime.{stage1On, regimeOf}
 use Rattle.walk.specs.Tag.{untagged}
-use Rattle.walk.specs.declared.regime.Bank.{Bank}
-use Rattle.walk.specs.declared.regime.Regime.{Regime}
+use Rattle.walk.specs.declared.{regime.Bank.Bank, regime.Regime.Regime}
 use Rattle.tlb.specs.Entry.{slotOf}
 use Rattle.tlb.specs.Hint.{dataSlot}
 use Rattle.tlb.specs.Cache.{hintAt, entryAt}
 use Rattle.tlb.specs.Access.{tagOf}
 use Rattle.tlb.specs.Translate.{translationOf, fetchOf}
 use Rattle.tlb.specs.Step.{accessOf, withTranslation, withFetch, translationIn, tlbAfter, fetchIn, fetchedIn, translation-is, fetch-is}
-use Rattle.tlb.specs.declared.access.Kind.{Kind}
+use Rattle.tlb.specs.declared.{access.Kind.Kind, access.Privilege.Privilege, entry.Entry.Entry, hint.Hint.Hint}
+use Rattle.tlb.specs.declared.{cells.Translation.Translation, cells.FetchTranslation.FetchTranslation, Tlb.Tlb}
 use Rattle.tlb.specs.declared.access.Kind.the-variants.{Fetch}
-use Rattle.tlb.specs.declared.access.Privilege.{Privilege}
-use Rattle.tlb.specs.declared.entry.Entry.{Entry}
-use Rattle.tlb.specs.declared.hint.Hint.{Hint}
-use Rattle.tlb.specs.declared.cells.Translation.{Translation}
-use Rattle.tlb.specs.declared.cells.FetchTranslation.{FetchTranslation}
-use Rattle.tlb.specs.declared.Tlb.{Tlb}
 use Rattle.operations.specs.Place.{nextPage, crosses, goesOn, placedOne, placedBoth}
 use Rattle.mmu.specs.Step.{slotAt, translateIn, translateFetchIn, locatedOf}
 use Rattle.operations.specs.declared.place.Placed.{Placed}
-use Rattle.mmu.specs.declared.step.Stepped.{Stepped}
-use Rattle.mmu.specs.declared.step.Located.{Located}
+use Rattle.mmu.specs.declared.{step.Stepped.Stepped, step.Located.Located}
 
 pub slot-is : (s : Bank) (level va : ℕ) (r : Regime) (page tag j : ℕ) → r ≡ regimeOf level → page ≡ untagged (s .tcr) r va
     → tag ≡ tagOf r page → j ≡ slotOf tag → j ≡ slotAt s level va

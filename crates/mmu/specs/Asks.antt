@@ -12,11 +12,8 @@ use Rattle.walk.specs.declared.regime.Bank.{Bank}
 use Rattle.tlb.specs.Model.{Access}
 use Rattle.tlb.specs.Step.{accessOf}
 use Rattle.tlb.specs.Asks.{Ask, translates, Given, onward, answers, tlbAsks}
-use Rattle.tlb.specs.declared.access.Kind.{Kind}
-use Rattle.tlb.specs.declared.access.Privilege.{Privilege}
-use Rattle.tlb.specs.declared.access.Answer.{Answer}
+use Rattle.tlb.specs.declared.{access.Kind.Kind, access.Privilege.Privilege, access.Answer.Answer, Tlb.Tlb}
 use Rattle.tlb.specs.declared.access.Answer.the-variants.{Address, Status}
-use Rattle.tlb.specs.declared.Tlb.{Tlb}
 use Rattle.operations.specs.Place.{nextPage, crosses, goesOn, placedOne, placedBoth}
 use Rattle.mmu.specs.Step.{onePage, bothPages, translateIn, locatedOf}
 use Rattle.operations.specs.declared.place.Placed.{Placed}

@@ -8,13 +8,10 @@ use lib.Dec.{ltb}
 use lib.ListN.{getD, set, replicate}
 use Rattle.word.specs.Bits.{pick}
 use Rattle.sysreg.specs.Regs.{freshControl, freshSys}
-use Rattle.sysreg.specs.declared.regs.Control.{Control}
-use Rattle.sysreg.specs.declared.regs.SysRegs.{SysRegs}
-use Rattle.tlb.specs.declared.access.Privilege.{Privilege}
-use Rattle.tlb.specs.declared.Tlb.{Tlb}
+use Rattle.sysreg.specs.declared.{regs.Control.Control, regs.SysRegs.SysRegs}
+use Rattle.tlb.specs.declared.{access.Privilege.Privilege, Tlb.Tlb}
 use Rattle.exception.specs.Pstate.{freshFlags}
-use Rattle.exception.specs.declared.flags.Flags.{Flags}
-use Rattle.exception.specs.declared.take.Entered.{Entered}
+use Rattle.exception.specs.declared.{flags.Flags.Flags, take.Entered.Entered}
 use Rattle.mmu.specs.declared.core.Core.{Core}
 
 pub record Bare : Type 0 where

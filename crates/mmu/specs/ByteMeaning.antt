@@ -1,17 +1,17 @@
 -- What a load answers and a store leaves, byte by byte, each byte by its own address: byte i of an access to va stands
 -- at the virtual address wrap (va + i). With this `Pages`, `byteAt`, `inPage` and `nextPage` need not be believed.
 use mathlib.Core.Path.{_≡_, refl, sym, ap, _∙_}
-use mathlib.Core.Bool.{Bool, true, false, _&&_}
+use mathlib.Core.Bool.{Bool, true, false}
 use mathlib.Core.List.{List}
 use Prim.Native.Nat.{ℕ, zero, suc, _+_, _-_, _*_, _/_, _%_, _^_, _≤_, _<_}
 use native.Mathlib.Nat.{mod-eq-of-lt, mod-mod, div-one, zero-add}
 use native.Mathlib.Omega.{arith}
-use borrow.Author.Tests.{leb-true, le-leb}
-use lib.Dec.{leb, ltb}
+use borrow.Author.Tests.{le-leb}
+use lib.Dec.{ltb}
 use lib.ListN.{length, getD}
 use Rattle.word.specs.Bits.{pick, wrap}
 use Rattle.word.specs.Ram.{within, wordAt, written, stored}
-use Rattle.word.specs.RamLaws.{digit-next, byte-of, written-byte}
+use Rattle.word.specs.RamLaws.{within-low, within-high, digit-next, byte-of, written-byte}
 use Rattle.tlb.specs.declared.access.Kind.{Kind}
 use Rattle.tlb.specs.declared.access.Kind.the-variants.{Read, Write}
 use Rattle.tlb.specs.declared.access.Answer.the-variants.{Address}
@@ -23,12 +23,9 @@ use Rattle.operations.specs.Ends.{loadEnd, storeEnd, storeRamEnd}
 use Rattle.mmu.specs.Ops.{locatedNow, readOf, writeOf, ramAfterWrite}
 use Rattle.mmu.specs.OpLaws.{write-leaves}
 use Rattle.mmu.specs.declared.core.Core.{Core}
-use Rattle.operations.specs.declared.place.Pages.{Pages}
-use Rattle.operations.specs.declared.place.Place.{Place}
+use Rattle.operations.specs.declared.{place.Pages.Pages, place.Place.Place, place.Placed.Placed, place.Verdict.Verdict}
 use Rattle.operations.specs.declared.place.Place.the-variants.{Whole, Split}
-use Rattle.operations.specs.declared.place.Placed.{Placed}
 use Rattle.operations.specs.declared.place.Placed.the-variants.{At, Fault}
-use Rattle.operations.specs.declared.place.Verdict.{Verdict}
 use Rattle.operations.specs.declared.place.Verdict.the-variants.{Inside, Outside}
 use Rattle.operations.specs.declared.ends.LoadAnswer.the-variants as Load
 use Rattle.operations.specs.declared.ends.StoreAnswer.the-variants as Store
@@ -49,22 +46,6 @@ small-in base ram pa small = go (within base (length ram) 1 pa)
 there-in : (base : ℕ) (ram : List ℕ) (pa : ℕ) → base ≤ pa → pa < base + length ram → byteIn base ram pa ≡ getD ram (pa - base) 0
 unfolding byteIn
 there-in base ram pa h k = rw (le-leb base pa h, le-leb (pa + 1) (base + length ram) (omega arith))
-
-and-left : (a b : Bool) → (a && b) ≡ true → a ≡ true
-and-left true b e = refl
-and-left false b e = e
-
-and-right : (a b : Bool) → (a && b) ≡ true → b ≡ true
-and-right true b e = e
-and-right false true e = refl
-and-right false false e = e
-
-module _ (base len n pa : ℕ) (e : within base len n pa ≡ true) where
-  fits-low : base ≤ pa
-  fits-low = leb-true base pa (and-left (leb base pa) (leb (pa + n) (base + len)) e)
-
-  fits-high : pa + n ≤ base + len
-  fits-high = leb-true (pa + n) (base + len) (and-right (leb base pa) (leb (pa + n) (base + len)) e)
 
 -- a store of n bytes in RAM
 stored-inside : (base : ℕ) (ram : List ℕ) (n pa v : ℕ) → base ≤ pa → pa + n ≤ base + length ram → stored base ram n pa v ≡ written ram (pa - base) n v
@@ -101,8 +82,8 @@ split-byte base p v s (suc n) zero ram h w last =
     let z : s + 0 ≡ s = omega arith in
     let q = byteAt p s in
     let inside : within base (length ram) 1 q ≡ true = rw z at w in
-    let low : base ≤ q = fits-low base (length ram) 1 q inside in
-    let high : q + 1 ≤ base + length ram = fits-high base (length ram) 1 q inside in
+    let low : base ≤ q = within-low base (length ram) 1 q inside in
+    let high : q + 1 ≤ base + length ram = within-high base (length ram) 1 q inside in
     let zq : q - base + 0 ≡ q - base = omega arith in
     let one : List ℕ = stored base ram 1 q v in
     let long : length one ≡ length ram = stored-length base ram 1 q v in
@@ -143,10 +124,10 @@ split-inside base len n i p e h = all-inside base len p 0 n e i (omega arith) (o
 module _ (base : ℕ) (ram : List ℕ) (n i : ℕ) (window : base + length ram ≤ 2 ^ 64) (h : i < n) where
   module _ (pa : ℕ) (e : verdictOf base (length ram) (Whole pa) n ≡ Inside) where
     whole-low : base ≤ pa
-    whole-low = fits-low base (length ram) n pa (whole-inside base (length ram) n pa e)
+    whole-low = within-low base (length ram) n pa (whole-inside base (length ram) n pa e)
 
     whole-high : pa + n ≤ base + length ram
-    whole-high = fits-high base (length ram) n pa (whole-inside base (length ram) n pa e)
+    whole-high = within-high base (length ram) n pa (whole-inside base (length ram) n pa e)
 
     whole-at : wrap (pa + i) ≡ pa + i
     whole-at = let k = whole-high in mod-eq-of-lt (omega arith)

@@ -14,14 +14,13 @@ use Rattle.mmu.specs.Bare.{bareOf}
 use Rattle.mmu.specs.Core.{afterAccess, bankNow}
 use Rattle.operations.specs.BytesLaws.{addressIn, store-length, store-leaves}
 use Rattle.operations.specs.Ends.{storeRamEnd}
-use Rattle.mmu.specs.Ops.{steppedNow, fetchSteppedNow, locatedNow, translateOf, translateAccessOf, readOf, writeOf, ramAfterWrite, fetchOf, fetchPaOf, dataPaOf}
+use Rattle.mmu.specs.Ops.{steppedNow, fetchSteppedNow, locatedNow, translateOf, translateAccessOf, readOf, writeOf, ramAfterWrite, fetchOf, fetchPaOf}
+use Rattle.mmu.specs.Ops.{dataPaOf}
 use Rattle.mmu.specs.Step.{translateIn, translateFetchIn}
 use Rattle.mmu.specs.Asks.{accessAsks, accessAt, placedBy, located-asks}
-use Rattle.mmu.specs.declared.core.Core.{Core}
-use Rattle.operations.specs.declared.place.Place.{Place}
-use Rattle.operations.specs.declared.place.Placed.{Placed}
+use Rattle.mmu.specs.declared.{core.Core.Core, step.Located.Located}
+use Rattle.operations.specs.declared.{place.Place.Place, place.Placed.Placed}
 use Rattle.operations.specs.declared.place.Placed.the-variants.{At, Fault}
-use Rattle.mmu.specs.declared.step.Located.{Located}
 
 -- the operations; n is a number of bytes
 pub data Operation : Type 0 where

@@ -8,7 +8,8 @@ use Rattle.tlb.specs.declared.access.Kind.the-variants.{Read, Write}
 use Rattle.operations.specs.Bytes.{valueAt}
 use Rattle.operations.specs.Ends.{reachedBy, storeRamEnd}
 use Rattle.mmu.specs.Ops.{steppedNow, fetchSteppedNow, translateOf, translateAccessOf, readOf, writeOf, ramAfterWrite, fetchOf, fetchPaOf, dataPaOf}
-use Rattle.mmu.specs.Says.{Said, value, done, answerSays, placedSays, reachedSays, loadSays, storeSays, fetchSays, accessSays, verdictIn, insnSays, load-says, store-says, fetch-says}
+use Rattle.mmu.specs.Says.{Said, value, done, answerSays, placedSays, reachedSays, loadSays, storeSays, fetchSays, accessSays, verdictIn, insnSays}
+use Rattle.mmu.specs.Says.{load-says, store-says, fetch-says}
 use Rattle.mmu.specs.Step.{translateIn, translateFetchIn}
 use Rattle.mmu.specs.Asks.{firstOf, placedBy}
 use Rattle.mmu.specs.OpLaws.{Operation, translate, access, load, store, fetch, fetchPa, dataPa, operationRam, asksOf, onNow, accessNow, placed-by}

@@ -4,24 +4,15 @@ use mathlib.Core.List.{List}
 use Prim.Native.Nat.{ℕ}
 use Rattle.word.specs.Ram.{wordAt}
 use Rattle.word.specs.declared.ram.Word.{Word}
-use Rattle.tlb.specs.declared.access.Kind.{Kind}
+use Rattle.tlb.specs.declared.{access.Kind.Kind, Tlb.Tlb}
 use Rattle.tlb.specs.declared.access.Kind.the-variants.{Read, Write}
-use Rattle.tlb.specs.declared.Tlb.{Tlb}
 use Rattle.mmu.specs.Core.{afterAccess, bankNow}
 use Rattle.operations.specs.Ends.{loadEnd, storeEnd, storeRamEnd, fetchEnd, reachedBy}
 use Rattle.mmu.specs.Step.{translateIn, translateFetchIn, locatedOf}
-use Rattle.mmu.specs.declared.core.Core.{Core}
-use Rattle.mmu.specs.declared.step.Stepped.{Stepped}
-use Rattle.mmu.specs.declared.step.Located.{Located}
-use Rattle.operations.specs.declared.ends.LoadEnd.{LoadEnd}
-use Rattle.operations.specs.declared.ends.StoreEnd.{StoreEnd}
-use Rattle.operations.specs.declared.ends.FetchEnd.{FetchEnd}
-use Rattle.mmu.specs.declared.ops.Translated.{Translated}
-use Rattle.mmu.specs.declared.ops.Accessed.{Accessed}
-use Rattle.mmu.specs.declared.ops.Loaded.{Loaded}
-use Rattle.mmu.specs.declared.ops.Stored.{Stored}
-use Rattle.mmu.specs.declared.ops.Fetched.{Fetched}
-use Rattle.mmu.specs.declared.ops.Addressed.{Addressed}
+use Rattle.mmu.specs.declared.{core.Core.Core, step.Stepped.Stepped, step.Located.Located}
+use Rattle.mmu.specs.declared.{ops.Translated.Translated, ops.Accessed.Accessed, ops.Loaded.Loaded}
+use Rattle.mmu.specs.declared.{ops.Stored.Stored, ops.Fetched.Fetched, ops.Addressed.Addressed}
+use Rattle.operations.specs.declared.{ends.LoadEnd.LoadEnd, ends.StoreEnd.StoreEnd, ends.FetchEnd.FetchEnd}
 
 -- its translations: on its own registers, level and cache
 unfoldable pub steppedNow : Core → (ℕ → Word) → ℕ → Kind → Stepped

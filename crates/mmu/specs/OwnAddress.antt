@@ -17,10 +17,8 @@ use Rattle.walk.specs.WalkBounds.{SoundWalked, walk-sound}
 use Rattle.tlb.specs.Live.{WellFormed}
 use Rattle.tlb.specs.Translations.{translation-follows}
 use Rattle.tlb.specs.Step.{accessOf}
-use Rattle.tlb.specs.declared.access.Kind.{Kind}
-use Rattle.tlb.specs.declared.access.Answer.{Answer}
+use Rattle.tlb.specs.declared.{access.Kind.Kind, access.Answer.Answer, Tlb.Tlb}
 use Rattle.tlb.specs.declared.access.Answer.the-variants.{Address, Status}
-use Rattle.tlb.specs.declared.Tlb.{Tlb}
 use Rattle.mmu.specs.Core.{afterAccess, bankNow}
 use Rattle.operations.specs.Place.{inPage, nextPage, crosses, goesOn}
 use Rattle.operations.specs.PlaceLaws.{same-page, same-offset, next-first}
@@ -29,11 +27,10 @@ use Rattle.mmu.specs.PageLaws.{answerAt, step-page, step-offset}
 use Rattle.mmu.specs.Step.{onePage, bothPages, translateIn, locatedOf}
 use Rattle.mmu.specs.Ops.{steppedNow, locatedNow, translateOf}
 use Rattle.mmu.specs.OpLaws.{onNow}
-use Rattle.mmu.specs.declared.core.Core.{Core}
+use Rattle.mmu.specs.declared.{core.Core.Core, step.Stepped.Stepped}
 use Rattle.operations.specs.declared.place.Place.{Place}
 use Rattle.operations.specs.declared.place.Place.the-variants.{Whole, Split}
 use Rattle.operations.specs.declared.place.Placed.the-variants.{At, Fault}
-use Rattle.mmu.specs.declared.step.Stepped.{Stepped}
 
 -- the virtual address of byte i
 abbrev pub byteVa : ℕ → ℕ → ℕ

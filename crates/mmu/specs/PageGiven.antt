@@ -10,15 +10,13 @@ use lib.Dec.{eqb}
 use lib.ListN.{set, length}
 use lib.Seq.{set-getD, getD-set-same}
 use Rattle.word.specs.Bits.{pick}
+use Rattle.word.specs.BitLaws.{both}
 use Rattle.word.specs.declared.ram.Word.{Word}
 use Rattle.fault.specs.First.{first}
 use Rattle.walk.specs.Regime.{stage1On, regimeOf}
 use Rattle.walk.specs.Tag.{untagged}
 use Rattle.walk.specs.TagLaws.{untagged-page}
-use Rattle.walk.specs.declared.regime.Regime.{Regime}
-use Rattle.walk.specs.declared.regime.Bank.{Bank}
-use Rattle.walk.specs.declared.level.Leaf.{Leaf}
-use Rattle.walk.specs.declared.level.Walked.{Walked}
+use Rattle.walk.specs.declared.{regime.Regime.Regime, regime.Bank.Bank, level.Leaf.Leaf, level.Walked.Walked}
 use Rattle.walk.specs.declared.level.Walked.the-variants.{Mapped, Fault}
 use Rattle.tlb.specs.Access.{mayHint, tagOf, userOf, rightOf, hasRight, judged}
 use Rattle.tlb.specs.Entry.{blank, serves}
@@ -28,25 +26,19 @@ use Rattle.tlb.specs.Live.{WellFormed}
 use Rattle.tlb.specs.Cells.{or-page}
 use Rattle.tlb.specs.Resolve.{queryOf, entryFor, byWalk, resolveWith}
 use Rattle.tlb.specs.Translate.{missWith, applied, translationWith, walkNow}
-use Rattle.tlb.specs.declared.access.Kind.{Kind}
+use Rattle.tlb.specs.declared.{access.Kind.Kind, access.Privilege.Privilege, access.Answer.Answer, cache.Cache.Cache}
+use Rattle.tlb.specs.declared.{count.Counts.Counts, entry.Entry.Entry, entry.Current.Current, hint.Hint.Hint}
+use Rattle.tlb.specs.declared.{cells.Translation.Translation, Tlb.Tlb}
 use Rattle.tlb.specs.declared.access.Kind.the-variants.{Read, Write, Fetch}
-use Rattle.tlb.specs.declared.access.Privilege.{Privilege}
-use Rattle.tlb.specs.declared.access.Answer.{Answer}
 use Rattle.tlb.specs.declared.access.Answer.the-variants.{Address, Status}
-use Rattle.tlb.specs.declared.cache.Cache.{Cache}
-use Rattle.tlb.specs.declared.count.Counts.{Counts}
-use Rattle.tlb.specs.declared.entry.Entry.{Entry}
-use Rattle.tlb.specs.declared.entry.Current.{Current}
-use Rattle.tlb.specs.declared.hint.Hint.{Hint}
-use Rattle.tlb.specs.declared.cells.Translation.{Translation}
-use Rattle.tlb.specs.declared.Tlb.{Tlb}
 use Rattle.mmu.specs.Step.{slotAt, translateIn}
 use Rattle.mmu.specs.declared.step.Stepped.{Stepped}
 use Rattle.mmu.specs.PageLaws.{by-hint, by-miss, by-flat, by-entry, by-walk, hits, hint-aligned, entry-aligned}
 
 -- WHAT A TRANSLATION LEAVES IN ITS CELLS
 
-module _ (on : Bool) (page : ℕ) (w : Walked) (r : Regime) (privilege : Privilege) (at : Current) (k : Counts) (h : Hint) (e : Entry) (va : ℕ) (kind : Kind) where
+module _ (on : Bool) (page : ℕ) (w : Walked) (r : Regime) (privilege : Privilege) (at : Current) (k : Counts) (h : Hint) (e : Entry) (va : ℕ)
+    (kind : Kind) where
   abbrev done : Translation
   done = translationWith on page w r privilege at k h e va kind
 
@@ -78,11 +70,6 @@ module _ (on : Bool) (page : ℕ) (w : Walked) (r : Regime) (privilege : Privile
 
 address-is : {x y : ℕ} → Address x ≡ Address y → x ≡ y
 address-is e = cc
-
-and-right : (x y : Bool) → (x && y) ≡ true → y ≡ true
-and-right true y q = q
-and-right false true q = refl
-and-right false false q = q
 
 hint-eq : (h : Hint) (key pa : ℕ) → h .key ≡ key → h .pa ≡ pa → h ≡ record { key = key; pa = pa }
 hint-eq h key pa p q = λ i. record { key = p i; pa = q i }
@@ -143,7 +130,8 @@ entryFrom s privilege c a = entryAt c (slotAt s (privilege .level) a)
 pub data Gives (s : Bank) (privilege : Privilege) (kind : Kind) (a pa : ℕ) (c : Cache) : Type 0 where
   by-its-hint : mayHint privilege kind ≡ true → hintAt c (dataSlot a kind) ≡ hintFor a (privilege .level) pa → Gives s privilege kind a pa c
   by-its-entry : mayHint privilege kind ≡ false → isOn s privilege ≡ true → serves (entryFrom s privilege c a) (c .current) (tagIn s privilege a) ≡ true
-      → hasRight (entryFrom s privilege c a .perms) (rightOf kind (userIn privilege kind)) ≡ true → entryFrom s privilege c a .pa ≡ pageOf pa → Gives s privilege kind a pa c
+      → hasRight (entryFrom s privilege c a .perms) (rightOf kind (userIn privilege kind)) ≡ true → entryFrom s privilege c a .pa ≡ pageOf pa
+      → Gives s privilege kind a pa c
   by-itself : mayHint privilege kind ≡ false → isOn s privilege ≡ false → pageOf pa ≡ pageOf a → Gives s privilege kind a pa c
 
 module _ (s : Bank) (privilege : Privilege) (kind : Kind) where
@@ -170,7 +158,8 @@ module _ (s : Bank) (privilege : Privilege) (kind : Kind) where
 
     abbrev its : Translation
     its =
-        translationWith (isOn s privilege) (pageIn s privilege a) itsWalk (regimeOf (privilege .level)) privilege (t .cache .current) (t .counts) itsHint itsEntry a kind
+        translationWith (isOn s privilege) (pageIn s privilege a) itsWalk (regimeOf (privilege .level)) privilege (t .cache .current)
+        (t .counts) itsHint itsEntry a kind
 
     abbrev hit : Bool
     hit = mayHint privilege kind && eqb (itsHint .key) (hintKey a (privilege .level))
@@ -195,7 +184,8 @@ module _ (s : Bank) (privilege : Privilege) (kind : Kind) where
 
     abbrev hint-answer : hit ≡ true → its .answer ≡ Address (onPage (itsHint .pa) a)
     hint-answer =
-        by-hint (isOn s privilege) (pageIn s privilege a) itsWalk (regimeOf (privilege .level)) privilege (t .cache .current) (t .counts) itsHint itsEntry a kind
+        by-hint (isOn s privilege) (pageIn s privilege a) itsWalk (regimeOf (privilege .level)) privilege (t .cache .current)
+        (t .counts) itsHint itsEntry a kind
 
     abbrev missed-answer : Answer
     missed-answer =
@@ -203,33 +193,41 @@ module _ (s : Bank) (privilege : Privilege) (kind : Kind) where
 
     miss-answer : hit ≡ false → its .answer ≡ missed-answer
     miss-answer =
-        by-miss (isOn s privilege) (pageIn s privilege a) itsWalk (regimeOf (privilege .level)) privilege (t .cache .current) (t .counts) itsHint itsEntry a kind
+        by-miss (isOn s privilege) (pageIn s privilege a) itsWalk (regimeOf (privilege .level)) privilege (t .cache .current)
+        (t .counts) itsHint itsEntry a kind
 
     flat-answer : isOn s privilege ≡ false → missed-answer ≡ Address a
     flat-answer =
-        by-flat (isOn s privilege) (pageIn s privilege a) itsWalk (regimeOf (privilege .level)) privilege (t .cache .current) (t .counts) itsHint itsEntry a kind
+        by-flat (isOn s privilege) (pageIn s privilege a) itsWalk (regimeOf (privilege .level)) privilege (t .cache .current)
+        (t .counts) itsHint itsEntry a kind
 
-    entry-answer : isOn s privilege ≡ true → serves itsEntry (t .cache .current) (tagIn s privilege a) ≡ true → missed-answer ≡ judged itsEntry (userIn privilege kind) kind a
+    entry-answer : isOn s privilege ≡ true → serves itsEntry (t .cache .current) (tagIn s privilege a) ≡ true → missed-answer
+        ≡ judged itsEntry (userIn privilege kind) kind a
     entry-answer =
-        by-entry (isOn s privilege) (pageIn s privilege a) itsWalk (regimeOf (privilege .level)) privilege (t .cache .current) (t .counts) itsHint itsEntry a kind
+        by-entry (isOn s privilege) (pageIn s privilege a) itsWalk (regimeOf (privilege .level)) privilege (t .cache .current)
+        (t .counts) itsHint itsEntry a kind
 
     walk-answer : isOn s privilege ≡ true → serves itsEntry (t .cache .current) (tagIn s privilege a) ≡ false
         → missed-answer ≡ byWalk itsWalk (queryOf (regimeOf (privilege .level)) (pageIn s privilege a)) privilege (t .cache .current) a kind .answer
     walk-answer =
-        by-walk (isOn s privilege) (pageIn s privilege a) itsWalk (regimeOf (privilege .level)) privilege (t .cache .current) (t .counts) itsHint itsEntry a kind
+        by-walk (isOn s privilege) (pageIn s privilege a) itsWalk (regimeOf (privilege .level)) privilege (t .cache .current)
+        (t .counts) itsHint itsEntry a kind
 
     hit-cells : hit ≡ true → (its .hint ≡ itsHint) × (its .entry ≡ itsEntry)
     hit-cells =
-        hint-left (isOn s privilege) (pageIn s privilege a) itsWalk (regimeOf (privilege .level)) privilege (t .cache .current) (t .counts) itsHint itsEntry a kind
+        hint-left (isOn s privilege) (pageIn s privilege a) itsWalk (regimeOf (privilege .level)) privilege (t .cache .current)
+        (t .counts) itsHint itsEntry a kind
 
     flat-cells : mayHint privilege kind ≡ false → isOn s privilege ≡ false → (its .hint ≡ itsHint) × (its .entry ≡ itsEntry)
     flat-cells =
-        flat-left (isOn s privilege) (pageIn s privilege a) itsWalk (regimeOf (privilege .level)) privilege (t .cache .current) (t .counts) itsHint itsEntry a kind
+        flat-left (isOn s privilege) (pageIn s privilege a) itsWalk (regimeOf (privilege .level)) privilege (t .cache .current)
+        (t .counts) itsHint itsEntry a kind
 
     entry-cells : mayHint privilege kind ≡ false → isOn s privilege ≡ true → serves itsEntry (t .cache .current) (tagIn s privilege a) ≡ true
         → (its .hint ≡ itsHint) × (its .entry ≡ itsEntry)
     entry-cells =
-        entry-left (isOn s privilege) (pageIn s privilege a) itsWalk (regimeOf (privilege .level)) privilege (t .cache .current) (t .counts) itsHint itsEntry a kind
+        entry-left (isOn s privilege) (pageIn s privilege a) itsWalk (regimeOf (privilege .level)) privilege (t .cache .current)
+        (t .counts) itsHint itsEntry a kind
 
     -- it answers, and the cache stays
     pub given : (pa : ℕ) → Gives s privilege kind a pa (t .cache)
@@ -268,7 +266,8 @@ module _ (s : Bank) (privilege : Privilege) (kind : Kind) where
 
       kept-hint : mayHint privilege kind ≡ true → hit ≡ true → Gives s privilege kind a pa (step .tlb .cache)
       kept-hint m q =
-          let key : itsHint .key ≡ hintKey a (privilege .level) = eqb-true _ _ (and-right (mayHint privilege kind) (eqb (itsHint .key) (hintKey a (privilege .level))) q) in
+          let key : itsHint .key ≡ hintKey a (privilege .level) = eqb-true _ _
+          (both (mayHint privilege kind) (eqb (itsHint .key) (hintKey a (privilege .level))) q .1) in
           let frame : onPage (itsHint .pa) a ≡ pa = address-is (sym (hint-answer q) ∙ goes-to) in
           let low : itsHint .pa % 4096 ≡ 0 = hint-aligned s privilege memory kind t f (dataSlot a kind) in
           let sum = or-page (itsHint .pa) a low in
@@ -280,7 +279,8 @@ module _ (s : Bank) (privilege : Privilege) (kind : Kind) where
       made-hint m q =
           by-its-hint m
           (getD-set-same (t .cache .hints) (dataSlot a kind) (its .hint) noHint (place-in m)
-          ∙ new-hint (isOn s privilege) (pageIn s privilege a) itsWalk (regimeOf (privilege .level)) privilege (t .cache .current) (t .counts) itsHint itsEntry a kind pa m q goes-to)
+          ∙ new-hint (isOn s privilege) (pageIn s privilege a) itsWalk (regimeOf (privilege .level)) privilege (t .cache .current)
+          (t .counts) itsHint itsEntry a kind pa m q goes-to)
 
       module _ (m : mayHint privilege kind ≡ false) where
         flat-gives : isOn s privilege ≡ false → Gives s privilege kind a pa (step .tlb .cache)
@@ -297,17 +297,20 @@ module _ (s : Bank) (privilege : Privilege) (kind : Kind) where
               let frame : onPage (itsEntry .pa) a ≡ pa = j .1 in
               rw (unmoved (entry-cells m o q)) (by-its-entry m o q (j .0) (omega arith))
 
-          made-entry : serves itsEntry (t .cache .current) (tagIn s privilege a) ≡ false → (w : Walked) → itsWalk ≡ w → Gives s privilege kind a pa (step .tlb .cache)
+          made-entry : serves itsEntry (t .cache .current) (tagIn s privilege a) ≡ false → (w : Walked) → itsWalk ≡ w
+              → Gives s privilege kind a pa (step .tlb .cache)
           unfolding translateIn byWalk
           made-entry q (Fault code) x =
               let z : Status (first code) ≡ Address pa
-              = sym (ap (λ (y : Walked). byWalk y (queryOf (regimeOf (privilege .level)) (pageIn s privilege a)) privilege (t .cache .current) a kind .answer) x)
+              = sym (ap (λ (y : Walked). byWalk y (queryOf (regimeOf (privilege .level)) (pageIn s privilege a)) privilege (t .cache .current) a kind .answer)
+              x)
               ∙ sym (walk-answer o q) ∙ sym (miss-answer (no-hit m)) ∙ goes-to in
               let n : _≡_ {A = ℕ} 0 1 = cc in
               absurd (omega arith)
           made-entry q (Mapped leaf) x =
               let new : Entry = entryFor leaf (t .cache .current) (tagIn s privilege a) in
-              let cells = walk-left (isOn s privilege) (pageIn s privilege a) itsWalk (regimeOf (privilege .level)) privilege (t .cache .current) (t .counts) itsHint itsEntry a kind m leaf o q x in
+              let cells = walk-left (isOn s privilege) (pageIn s privilege a) itsWalk (regimeOf (privilege .level)) privilege (t .cache .current)
+              (t .counts) itsHint itsEntry a kind m leaf o q x in
               let j = judged-right new (userIn privilege kind) kind a pa
               (sym (ap (λ (y : Walked). byWalk y (queryOf (regimeOf (privilege .level)) (pageIn s privilege a)) privilege (t .cache .current) a kind .answer) x)
               ∙ sym (walk-answer o q) ∙ sym (miss-answer (no-hit m)) ∙ goes-to) in

@@ -12,10 +12,7 @@ use Rattle.walk.specs.Regime.{stage1On, regimeOf}
 use Rattle.walk.specs.Tag.{untagged}
 use Rattle.walk.specs.TagLaws.{untagged-page}
 use Rattle.walk.specs.PageLaws.{paged, pagedLeaf, walk-of-page}
-use Rattle.walk.specs.declared.regime.Regime.{Regime}
-use Rattle.walk.specs.declared.regime.Bank.{Bank}
-use Rattle.walk.specs.declared.level.Leaf.{Leaf}
-use Rattle.walk.specs.declared.level.Walked.{Walked}
+use Rattle.walk.specs.declared.{regime.Regime.Regime, regime.Bank.Bank, level.Leaf.Leaf, level.Walked.Walked}
 use Rattle.walk.specs.declared.level.Walked.the-variants.{Mapped, Fault}
 use Rattle.tlb.specs.Access.{mayHint, tagOf, userOf, rightOf, hasRight, judged}
 use Rattle.tlb.specs.Entry.{blank, serves}
@@ -26,18 +23,10 @@ use Rattle.tlb.specs.Live.{Made, Aligned, WellFormed}
 use Rattle.tlb.specs.Cells.{or-page}
 use Rattle.tlb.specs.Resolve.{queryOf, entryFor, byWalk, resolveWith}
 use Rattle.tlb.specs.Translate.{missWith, applied, translationWith, walkNow}
-use Rattle.tlb.specs.declared.access.Kind.{Kind}
-use Rattle.tlb.specs.declared.access.Privilege.{Privilege}
-use Rattle.tlb.specs.declared.access.Answer.{Answer}
+use Rattle.tlb.specs.declared.{access.Kind.Kind, access.Privilege.Privilege, access.Answer.Answer, count.Counts.Counts}
+use Rattle.tlb.specs.declared.{entry.Entry.Entry, entry.Current.Current, hint.Hint.Hint, resolve.Query.Query}
+use Rattle.tlb.specs.declared.{resolve.Resolved.Resolved, cells.Translation.Translation, Tlb.Tlb}
 use Rattle.tlb.specs.declared.access.Answer.the-variants.{Address, Status}
-use Rattle.tlb.specs.declared.count.Counts.{Counts}
-use Rattle.tlb.specs.declared.entry.Entry.{Entry}
-use Rattle.tlb.specs.declared.entry.Current.{Current}
-use Rattle.tlb.specs.declared.hint.Hint.{Hint}
-use Rattle.tlb.specs.declared.resolve.Query.{Query}
-use Rattle.tlb.specs.declared.resolve.Resolved.{Resolved}
-use Rattle.tlb.specs.declared.cells.Translation.{Translation}
-use Rattle.tlb.specs.declared.Tlb.{Tlb}
 use Rattle.mmu.specs.Step.{slotAt, translateIn}
 
 -- an answer as another address of its page gets it
@@ -47,7 +36,8 @@ answerAt (Status f) b = Status f
 
 -- THE ANSWER OF A TURN, by its tests
 
-module _ (on : Bool) (page : ℕ) (w : Walked) (r : Regime) (privilege : Privilege) (at : Current) (k : Counts) (h : Hint) (e : Entry) (va : ℕ) (kind : Kind) where
+module _ (on : Bool) (page : ℕ) (w : Walked) (r : Regime) (privilege : Privilege) (at : Current) (k : Counts) (h : Hint) (e : Entry) (va : ℕ)
+    (kind : Kind) where
   abbrev pub turn : Translation
   turn = translationWith on page w r privilege at k h e va kind
 
@@ -104,7 +94,8 @@ module _ (a b : ℕ) where
   walk-page (Mapped x) (Mapped y) p q privilege at kind e er et =
       let leaf : pagedLeaf x ≡ pagedLeaf y = cc in
       let same : entryFor x at (p .tag) ≡ entryFor y at (q .tag) = λ i. entryOf at (et i) (leaf i) in
-      (λ i. judged (sym same i) (userOf (sym er i) privilege kind) kind b) ∙ judged-page (entryFor x at (p .tag)) (userOf (p .regime) privilege kind) kind (omega arith)
+      (λ i. judged (sym same i) (userOf (sym er i) privilege kind) kind b)
+      ∙ judged-page (entryFor x at (p .tag)) (userOf (p .regime) privilege kind) kind (omega arith)
   walk-page (Fault n) (Fault m) p q privilege at kind e er et = let x : n ≡ m = cc in rw x
   walk-page (Mapped x) (Fault m) p q privilege at kind e er et = let z : _≡_ {A = ℕ} 0 1 = cc in absurd (omega arith)
   walk-page (Fault n) (Mapped y) p q privilege at kind e er et = let z : _≡_ {A = ℕ} 0 1 = cc in absurd (omega arith)
@@ -157,7 +148,8 @@ module _ (s : Bank) (privilege : Privilege) (memory : ℕ → Word) (kind : Kind
       (each-imp {P = Made (t .cache .current .generation)} (λ e m. m .aligned) (f .entries)) i
 
   -- addresses of one page get one answer, each with its own offset
-  pub step-page : (a b : ℕ) → a / 4096 ≡ b / 4096 → translateIn s privilege memory b kind t .answer ≡ answerAt (translateIn s privilege memory a kind t .answer) b
+  pub step-page : (a b : ℕ) → a / 4096 ≡ b / 4096 → translateIn s privilege memory b kind t .answer
+      ≡ answerAt (translateIn s privilege memory a kind t .answer) b
   unfolding translateIn
   step-page a b same =
       let r = regimeOf (privilege .level) in
@@ -165,11 +157,13 @@ module _ (s : Bank) (privilege : Privilege) (memory : ℕ → Word) (kind : Kind
       let places : dataSlot b kind ≡ dataSlot a kind = rw same in
       let slots : slotAt s (privilege .level) b ≡ slotAt s (privilege .level) a = rw tags in
       let answers : ℕ → ℕ → Answer = λ i j.
-      translationWith (stage1On s r) (untagged (s .tcr) r b) (walkNow s (privilege .level) b memory) r privilege (t .cache .current) (t .counts) (hintAt (t .cache) i)
+      translationWith (stage1On s r) (untagged (s .tcr) r b) (walkNow s (privilege .level) b memory) r privilege (t .cache .current) (t .counts)
+      (hintAt (t .cache) i)
       (entryAt (t .cache) j) b kind .answer in
       ap (λ (i : ℕ). answers i (slotAt s (privilege .level) b)) places
       ∙ ap (answers (dataSlot a kind)) slots
-      ∙ translation-page a b (untagged (s .tcr) r a) (untagged (s .tcr) r b) (walkNow s (privilege .level) a memory) (walkNow s (privilege .level) b memory) same tags
+      ∙ translation-page a b (untagged (s .tcr) r a) (untagged (s .tcr) r b) (walkNow s (privilege .level) a memory)
+      (walkNow s (privilege .level) b memory) same tags
       (walk-of-page (untagged (s .tcr) r a) (untagged (s .tcr) r b) tags s r memory) (stage1On s r) r privilege (t .cache .current) (t .counts)
       (hintAt (t .cache) (dataSlot a kind)) (entryAt (t .cache) (slotAt s (privilege .level) a)) kind (hint-aligned (dataSlot a kind))
       (entry-aligned (slotAt s (privilege .level) a))

@@ -15,27 +15,19 @@ use Rattle.tlb.specs.Cache.{hintAt, entryAt}
 use Rattle.tlb.specs.Entry.{blank}
 use Rattle.tlb.specs.Hint.{noHint, onPage}
 use Rattle.tlb.specs.Resolve.{askOf}
-use Rattle.tlb.specs.declared.access.Answer.{Answer}
+use Rattle.tlb.specs.declared.{access.Answer.Answer, access.Kind.Kind, entry.Entry.Entry, resolve.Asked.Asked, Tlb.Tlb}
 use Rattle.tlb.specs.declared.access.Answer.the-variants.{Address, Status}
-use Rattle.tlb.specs.declared.access.Kind.{Kind}
-use Rattle.tlb.specs.declared.entry.Entry.{Entry}
-use Rattle.tlb.specs.declared.resolve.Asked.{Asked}
 use Rattle.tlb.specs.declared.resolve.Asked.the-variants.{Flat, Of}
-use Rattle.tlb.specs.declared.Tlb.{Tlb}
 use Rattle.mmu.specs.Core.{bankNow, afterAccess}
 use Rattle.mmu.specs.Ops.{steppedNow, locatedNow, translateOf, translateAccessOf}
 use Rattle.operations.specs.Place.{nextPage, crosses, goesOn, placedBoth}
 use Rattle.mmu.specs.Step.{translateIn, locatedOf, onePage, bothPages}
-use Rattle.mmu.specs.declared.core.Core.{Core}
-use Rattle.mmu.specs.declared.step.Located.{Located}
-use Rattle.mmu.specs.declared.step.Stepped.{Stepped}
+use Rattle.mmu.specs.declared.{core.Core.Core, step.Located.Located, step.Stepped.Stepped}
 use Rattle.operations.specs.Loads.{moreOf, oneTranslation, twoTranslations, bothOf}
 use Rattle.operations.specs.Change.{keptAs, entryPlace, answeredOf, unchanged, hintLeft, entryLeft, pageAfter, missBy, answeredBy}
 use Rattle.mmu.specs.Parts.{lookupIn, pageIn, coreWith, keptIn, commitIn}
 use Rattle.operations.specs.Hinted.{hintPlace, hintServes}
-use Rattle.operations.specs.declared.loads.Both.{Both}
-use Rattle.operations.specs.declared.change.Change.{Change}
-use Rattle.operations.specs.declared.change.Answered.{Answered}
+use Rattle.operations.specs.declared.{loads.Both.Both, change.Change.Change, change.Answered.Answered}
 use Rattle.mmu.specs.Changes.{none-changed, turn-right}
 
 -- an element of a list with another set
@@ -47,7 +39,8 @@ get-set {A} xs i j x d l = go (eqb j i) refl
     go false e = getD-set-other xs i j x d (eqb-false j i e)
 
 -- where it is stored, or its own element goes back
-set-if : {A : Type 0} (b : Bool) (xs : List A) (i j : ℕ) (x d : A) → i < length xs → getD (set xs i (pick b x (getD xs i d))) j d ≡ pick (b && eqb j i) x (getD xs j d)
+set-if : {A : Type 0} (b : Bool) (xs : List A) (i j : ℕ) (x d : A) → i < length xs → getD (set xs i (pick b x (getD xs i d))) j d
+    ≡ pick (b && eqb j i) x (getD xs j d)
 set-if true xs i j x d l = get-set xs i j x d l
 set-if false xs i j x d l = ap (λ ys. getD ys j d) (set-getD xs i d)
 
@@ -84,8 +77,10 @@ module _ (c : Core) (kind : Kind) (hs : length (c .tlb .cache .hints) ≡ 512) (
       let old : Entry = entryAt (c .tlb .cache) (t .«entry_at») in
       let hint : hintAt (commitIn c t .tlb .cache) (hintPlace a kind) ≡ hintLeft t (lookupIn c a kind) (hintAt (c .tlb .cache) (hintPlace a kind))
       = rw ei (set-if (t .hints) (c .tlb .cache .hints) (t .«hint_at») (hintPlace a kind) (t .hint) noHint (rw hs li)) in
-      let entry : entryAt (commitIn c t .tlb .cache) (lookupIn c a kind .entry) ≡ entryLeft t (lookupIn c a kind) (entryAt (c .tlb .cache) (lookupIn c a kind .entry))
-      = rw (ej, kept-pick (t .effect) old (t .made)) (set-if (eqb (t .effect) 3) (c .tlb .cache .entries) (t .«entry_at») (lookupIn c a kind .entry) (t .made) blank (rw es lj)) in
+      let entry : entryAt (commitIn c t .tlb .cache) (lookupIn c a kind .entry)
+      ≡ entryLeft t (lookupIn c a kind) (entryAt (c .tlb .cache) (lookupIn c a kind .entry))
+      = rw (ej, kept-pick (t .effect) old (t .made)) (set-if (eqb (t .effect) 3) (c .tlb .cache .entries) (t .«entry_at») (lookupIn c a kind .entry)
+      (t .made) blank (rw es lj)) in
       λ n. record { lookup = lookupIn c a kind; current = c .tlb .cache .current; hint = hint n; entry = entry n }
 
   module _ (memory : ℕ → Word) (va n next : ℕ) (en : crosses (stage1On (bankNow c) (regimeOf (c .privilege .level))) va n ≡ true → next ≡ nextPage va) where
@@ -103,7 +98,8 @@ module _ (c : Core) (kind : Kind) (hs : length (c .tlb .cache .hints) ≡ 512) (
     unfolding answeredOf
     first-at = picked (hintServes (hintAt (c .tlb .cache) (hintPlace va kind)) (c .privilege) va kind)
         (record { change = unchanged (lookupIn c va kind); answer = Address (onPage (hintAt (c .tlb .cache) (hintPlace va kind) .pa) va) })
-        (answeredBy (lookupIn c va kind) (missBy (lookupIn c va kind .asked) (bankNow c) (c .privilege) (c .tlb .cache .current) (pageIn c va kind .entry) va kind memory) va kind)
+        (answeredBy (lookupIn c va kind) (missBy (lookupIn c va kind .asked) (bankNow c) (c .privilege) (c .tlb .cache .current)
+        (pageIn c va kind .entry) va kind memory) va kind)
         (hintPlace va kind) (entryPlace (askOf (bankNow c) (c .privilege) va)) (refl, refl) (refl, refl)
 
     -- what it leaves is what the operation's first translation leaves
@@ -152,7 +148,8 @@ module _ (c : Core) (kind : Kind) (hs : length (c .tlb .cache .hints) ≡ 512) (
     -- the page that was read before is the page after the first change
     page-is : next ≡ nextPage va → pageAfter (first .change) (pageIn c next kind) ≡ pageIn c₁ (nextPage va) kind
     page-is e =
-        let small : (first .change .«hint_at» < 512) × (first .change .«entry_at» < 1024) = rw (first-at .0, first-at .1) (omega arith, entry-small (askOf (bankNow c) (c .privilege) va)) in
+        let small : (first .change .«hint_at» < 512) × (first .change .«entry_at» < 1024) =
+        rw (first-at .0, first-at .1) (omega arith, entry-small (askOf (bankNow c) (c .privilege) va)) in
         ap (λ (a : ℕ). pageAfter (first .change) (pageIn c a kind)) e ∙ sym (page-after (first .change) (nextPage va) (small .0) (small .1))
 
     two-pages : more ≡ true → Right (twoTranslations first (pageIn c next kind) va kind memory)
@@ -168,7 +165,8 @@ module _ (c : Core) (kind : Kind) (hs : length (c .tlb .cache .hints) ≡ 512) (
         go false m = one-page m
 
     -- with any addresses kept
-    pub pair-is : (last abort : ℕ) → (work .placed ≡ located .placed) × (keptIn (commitIn (commitIn c (work .first)) (work .second)) last abort ≡ afterAccess c (located .tlb) last abort)
+    pub pair-is : (last abort : ℕ) → (work .placed ≡ located .placed) ×
+        (keptIn (commitIn (commitIn c (work .first)) (work .second)) last abort ≡ afterAccess c (located .tlb) last abort)
     unfolding afterAccess
     pair-is last abort = (right .0, ap (λ (t : Tlb). coreWith c t last abort) (right .1))
 

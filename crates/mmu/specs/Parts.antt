@@ -5,17 +5,11 @@ use lib.ListN.{set}
 use Rattle.word.specs.Bits.{pick}
 use Rattle.tlb.specs.Cache.{hintAt, entryAt}
 use Rattle.tlb.specs.Tlb.{tlbWith}
-use Rattle.tlb.specs.declared.access.Kind.{Kind}
-use Rattle.tlb.specs.declared.count.Counts.{Counts}
-use Rattle.tlb.specs.declared.entry.Entry.{Entry}
-use Rattle.tlb.specs.declared.hint.FetchHint.{FetchHint}
-use Rattle.tlb.specs.declared.hint.Hint.{Hint}
-use Rattle.tlb.specs.declared.Tlb.{Tlb}
+use Rattle.tlb.specs.declared.{access.Kind.Kind, count.Counts.Counts, entry.Entry.Entry, hint.FetchHint.FetchHint}
+use Rattle.tlb.specs.declared.{hint.Hint.Hint, Tlb.Tlb}
 use Rattle.mmu.specs.declared.core.Core.{Core}
 use Rattle.operations.specs.Hinted.{hintPlace}
-use Rattle.operations.specs.declared.change.Change.{Change}
-use Rattle.operations.specs.declared.change.Hinted.{Hinted}
-use Rattle.operations.specs.declared.change.Lookup.{Lookup}
+use Rattle.operations.specs.declared.{change.Change.Change, change.Hinted.Hinted, change.Lookup.Lookup}
 use Rattle.operations.specs.declared.change.Page.{Page}
 use Rattle.operations.specs.Change.{entryPlace, lookupOf, countedAs, keptAs}
 

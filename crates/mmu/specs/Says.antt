@@ -9,27 +9,22 @@ use Rattle.word.specs.Ram.{littleEndian, within, wordAt}
 use Rattle.tlb.specs.declared.access.Kind.the-variants.{Read, Write}
 use Rattle.tlb.specs.declared.access.Answer.{Answer}
 use Rattle.tlb.specs.declared.access.Answer.the-variants.{Address, Status}
-use Rattle.exception.specs.declared.kind.Stop.{Stop}
+use Rattle.exception.specs.declared.{kind.Stop.Stop, kind.Exception.Exception}
 use Rattle.exception.specs.declared.kind.Stop.the-variants as Stop
-use Rattle.exception.specs.declared.kind.Exception.{Exception}
 use Rattle.exception.specs.declared.kind.Exception.the-variants.{Undefined, Svc, Hvc, Smc, Brk, DataAbort, InsnAbort, PcAlignment}
 use Rattle.operations.specs.Place.{verdictOf}
 use Rattle.operations.specs.Bytes.{valueAt, loadOf, insnOf}
 use Rattle.operations.specs.Ends.{loadEnd, storeEnd, fetchEnd}
 use Rattle.mmu.specs.Ops.{fetchSteppedNow, locatedNow, readOf, writeOf, fetchOf}
 use Rattle.mmu.specs.declared.core.Core.{Core}
-use Rattle.operations.specs.declared.place.Place.{Place}
-use Rattle.operations.specs.declared.place.Placed.{Placed}
+use Rattle.operations.specs.declared.{place.Place.Place, place.Placed.Placed, place.Verdict.Verdict}
+use Rattle.operations.specs.declared.{ends.LoadAnswer.LoadAnswer, ends.StoreAnswer.StoreAnswer}
+use Rattle.operations.specs.declared.{ends.FetchAnswer.FetchAnswer, ends.Reached.Reached}
 use Rattle.operations.specs.declared.place.Placed.the-variants.{At, Fault}
-use Rattle.operations.specs.declared.place.Verdict.{Verdict}
 use Rattle.operations.specs.declared.place.Verdict.the-variants.{Inside, Outside}
-use Rattle.operations.specs.declared.ends.LoadAnswer.{LoadAnswer}
 use Rattle.operations.specs.declared.ends.LoadAnswer.the-variants as Load
-use Rattle.operations.specs.declared.ends.StoreAnswer.{StoreAnswer}
 use Rattle.operations.specs.declared.ends.StoreAnswer.the-variants as Store
-use Rattle.operations.specs.declared.ends.FetchAnswer.{FetchAnswer}
 use Rattle.operations.specs.declared.ends.FetchAnswer.the-variants as Fetch
-use Rattle.operations.specs.declared.ends.Reached.{Reached}
 use Rattle.operations.specs.declared.ends.Reached.the-variants as Reached
 
 -- value: what was loaded or fetched, or where an access goes. lies: the place of an access. faults: no more is told.

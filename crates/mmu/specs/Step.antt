@@ -10,14 +10,10 @@ use Rattle.walk.specs.declared.regime.Bank.{Bank}
 use Rattle.tlb.specs.Entry.{slotOf}
 use Rattle.tlb.specs.Access.{tagOf}
 use Rattle.tlb.specs.Step.{accessOf, translationIn, tlbAfter, fetchIn, fetchedIn}
-use Rattle.tlb.specs.declared.access.Kind.{Kind}
+use Rattle.tlb.specs.declared.{access.Kind.Kind, access.Privilege.Privilege, access.Answer.Answer, Tlb.Tlb}
 use Rattle.tlb.specs.declared.access.Kind.the-variants.{Fetch}
-use Rattle.tlb.specs.declared.access.Privilege.{Privilege}
-use Rattle.tlb.specs.declared.access.Answer.{Answer}
-use Rattle.tlb.specs.declared.Tlb.{Tlb}
 use Rattle.operations.specs.Place.{nextPage, crosses, goesOn, placedOne, placedBoth}
-use Rattle.mmu.specs.declared.step.Stepped.{Stepped}
-use Rattle.mmu.specs.declared.step.Located.{Located}
+use Rattle.mmu.specs.declared.{step.Stepped.Stepped, step.Located.Located}
 
 -- the slot of the entry that may serve an address
 abbrev pub slotAt : Bank → ℕ → ℕ → ℕ

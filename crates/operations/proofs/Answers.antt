@@ -13,22 +13,17 @@ use Rattle.exception.specs.Abort.{insnAbortAt}
 use Rattle.operations.specs.Place.{firstPa, verdictOf}
 use Rattle.operations.specs.Bytes.{loadOf, storeRam, insnOf}
 use Rattle.operations.specs.Ends.{external, dataAbort, externalAbort, loadEnd, storeEnd, storeRamEnd, fetchEnd, reachedBy}
-use Rattle.operations.specs.declared.place.Place.{Place}
-use Rattle.operations.specs.declared.place.Placed.{Placed}
+use Rattle.operations.specs.declared.{place.Place.Place, place.Placed.Placed, place.Verdict.Verdict}
+use Rattle.operations.specs.declared.{bytes.Got.Got, bytes.Insn.Insn, ends.LoadEnd.LoadEnd}
+use Rattle.operations.specs.declared.{ends.StoreEnd.StoreEnd, ends.FetchEnd.FetchEnd}
 use Rattle.operations.specs.declared.place.Placed.the-variants.{At}
-use Rattle.operations.specs.declared.place.Verdict.{Verdict}
 use Rattle.operations.specs.declared.place.Verdict.the-variants.{Inside, Outside}
-use Rattle.operations.specs.declared.bytes.Got.{Got}
 use Rattle.operations.specs.declared.bytes.Got.the-variants.{Value, Abort}
-use Rattle.operations.specs.declared.bytes.Insn.{Insn}
 use Rattle.operations.specs.declared.bytes.Insn.the-variants as Insn
 use Rattle.operations.specs.declared.ends.LoadAnswer.the-variants as Load
 use Rattle.operations.specs.declared.ends.StoreAnswer.the-variants as Store
 use Rattle.operations.specs.declared.ends.FetchAnswer.the-variants as Fetch
 use Rattle.operations.specs.declared.ends.Reached.the-variants as Reached
-use Rattle.operations.specs.declared.ends.LoadEnd.{LoadEnd}
-use Rattle.operations.specs.declared.ends.StoreEnd.{StoreEnd}
-use Rattle.operations.specs.declared.ends.FetchEnd.{FetchEnd}
 
 pub external-is : (va i addr : ℕ) (write : Bool) (f : Fault) (r : Stop) → addr ≡ wrap (va + i) → f ≡ external → r ≡ dataAbort addr write f
     → r ≡ externalAbort va i write

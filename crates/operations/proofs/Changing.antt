@@ -1,38 +1,31 @@
 -- What a translation changes, as the code computes it.
-use mathlib.Core.Path.{_≡_}
+use mathlib.Core.Path.{_≡_, refl, ap, _∙_}
 use mathlib.Core.Bool.{Bool, true, false, _&&_}
 use lib.Dec.{eqb}
-use Prim.Native.Nat.{ℕ, _<_}
+use Prim.Native.Nat.{ℕ, zero, suc, _<_}
 use native.Mathlib.Omega.{arith}
 use Rattle.word.specs.declared.ram.Word.{Word}
 use Rattle.sysreg.specs.declared.regs.Control.{Control}
-use Rattle.walk.specs.Regime.{bankOf, regimeOf}
-use Rattle.walk.specs.declared.regime.Bank.{Bank}
+use Rattle.walk.specs.Regime.{bankOf, regimeOf, stage1On}
+use Rattle.walk.specs.Tag.{untagged}
+use Rattle.walk.specs.declared.{regime.Regime.Regime, regime.Bank.Bank}
+use Rattle.walk.specs.declared.regime.Regime.the-variants.{El1}
 use Rattle.tlb.specs.Access.{mayHint}
 use Rattle.tlb.specs.Entry.{blank, slotOf}
 use Rattle.tlb.specs.Hint.{hintFor, noHint, noFetch, fetchFor, onPage}
-use Rattle.tlb.specs.Resolve.{askOf, resolveOf}
+use Rattle.tlb.specs.Resolve.{askWith, askOf, resolveOf}
 use Rattle.tlb.specs.declared.access.Answer.the-variants.{Address}
-use Rattle.tlb.specs.declared.access.Kind.{Kind}
-use Rattle.tlb.specs.declared.access.Privilege.{Privilege}
-use Rattle.tlb.specs.declared.entry.Entry.{Entry}
-use Rattle.tlb.specs.declared.entry.Current.{Current}
-use Rattle.tlb.specs.declared.hint.FetchHint.{FetchHint}
-use Rattle.tlb.specs.declared.hint.Hint.{Hint}
-use Rattle.tlb.specs.declared.resolve.Asked.{Asked}
-use Rattle.tlb.specs.declared.resolve.Asked.the-variants.{Flat, Of}
-use Rattle.tlb.specs.declared.resolve.Query.{Query}
+use Rattle.tlb.specs.declared.{access.Kind.Kind, access.Privilege.Privilege, entry.Entry.Entry, entry.Current.Current}
+use Rattle.tlb.specs.declared.{hint.FetchHint.FetchHint, hint.Hint.Hint, resolve.Asked.Asked, resolve.Query.Query}
 use Rattle.tlb.specs.declared.resolve.Resolved.{Resolved}
+use Rattle.tlb.specs.declared.resolve.Asked.the-variants.{Flat, Of}
 use Rattle.tlb.specs.declared.resolve.Source.the-variants.{FromFlat}
 use Rattle.operations.specs.Replies.{translation}
-use Rattle.operations.specs.declared.call.Reply.{Reply}
-use Rattle.operations.specs.Change.{entryPlace, lookupOf, effectOf, allowed, addressOf, missBy, changeOf, fetchChangeOf, unchanged, translatedOf, answeredOf, hintLeft, entryLeft, pageAfter}
+use Rattle.operations.specs.declared.{call.Reply.Reply, change.Change.Change, change.Translated.Translated}
+use Rattle.operations.specs.declared.{change.Lookup.Lookup, change.Page.Page, change.Answered.Answered}
+use Rattle.operations.specs.Change.{entryPlace, lookupWith, lookupOf, effectOf, allowed, addressOf, missBy, changeOf, fetchChangeOf, unchanged}
+use Rattle.operations.specs.Change.{translatedOf, answeredOf, hintLeft, entryLeft, pageAfter}
 use Rattle.operations.specs.Hinted.{hintPlace, hintServes}
-use Rattle.operations.specs.declared.change.Change.{Change}
-use Rattle.operations.specs.declared.change.Translated.{Translated}
-use Rattle.operations.specs.declared.change.Lookup.{Lookup}
-use Rattle.operations.specs.declared.change.Page.{Page}
-use Rattle.operations.specs.declared.change.Answered.{Answered}
 
 module _ (a : Asked) where
   pub place-of : (q : Query) (j : ℕ) → a ≡ Of q → j ≡ slotOf (q .tag) → j ≡ entryPlace a
@@ -48,14 +41,44 @@ module _ (a : Asked) where
     unfolding missBy
     miss-of q r ea er = rw (ea, er)
 
-pub lookup-is : (c : Control) (privilege : Privilege) (va : ℕ) (kind : Kind) (s : Bank) (a : Asked) (i j : ℕ) → s ≡ bankOf c (regimeOf (privilege .level))
-    → a ≡ askOf s privilege va → i ≡ hintPlace va kind → j ≡ entryPlace a
-    → _≡_ {A = Lookup} (record { privilege = privilege; bank = s; asked = a; hint = i; entry = j }) (lookupOf c privilege va kind)
-lookup-is c privilege va kind s a i j es ea ei ej = rw (ej, ea, es, ei)
+-- levels 0 and 1 ask alike
+pub asked-low : (s : Bank) (privilege : Privilege) (va : ℕ) (a : Asked) → privilege .level < 2 → a ≡ askOf s (record { level = 1; unprivileged = false }) va
+    → a ≡ askOf s privilege va
+unfolding askOf
+asked-low s privilege va a l e = e ∙ ap (λ (r : Regime). askWith (stage1On s r) r (untagged (s .tcr) r va)) (low (privilege .level) l)
+  where
+    beyond : (n : ℕ) → suc (suc n) < 2 → ⊥
+    beyond n l = omega arith
 
-module _ (k : Lookup) (t : Resolved) (va : ℕ) (is : Bool) (pa n : ℕ) (es : is ≡ allowed (t .answer)) (ep : pa ≡ addressOf (t .answer)) (en : n ≡ effectOf (t .source)) where
-  pub change-is : (kind : Kind) (may : Bool) (h : Hint) (f : FetchHint) → may ≡ mayHint (k .privilege) kind → h ≡ hintFor va (k .privilege .level) pa → f ≡ noFetch
-      → _≡_ {A = Change} (record { «hint_at» = k .hint; «entry_at» = k .entry; effect = n; hints = may && is; fetches = false; hint = h; fetch = f; made = t .made })
+    low : (n : ℕ) → n < 2 → El1 ≡ regimeOf n
+    low zero l = refl
+    low (suc zero) l = refl
+    low (suc (suc n)) l = absurd (beyond n l)
+
+pub lookup-is : (privilege : Privilege) (va : ℕ) (kind : Kind) (s : Bank) (a : Asked) (i j : ℕ) → a ≡ askOf s privilege va → i ≡ hintPlace va kind → j
+    ≡ entryPlace a
+    → _≡_ {A = Lookup} (record { privilege = privilege; bank = s; asked = a; hint = i; entry = j }) (lookupWith s privilege va kind)
+lookup-is privilege va kind s a i j ea ei ej = rw (ej, ea, ei)
+
+pub lookup-by : (c : Control) (privilege : Privilege) (va : ℕ) (kind : Kind) (s : Bank) (k : Lookup) → s ≡ bankOf c (regimeOf (privilege .level)) → k
+    ≡ lookupWith s privilege va kind
+    → k ≡ lookupOf c privilege va kind
+lookup-by c privilege va kind s k es ek = ek ∙ ap (λ (b : Bank). lookupWith b privilege va kind) es
+
+module _ (k : Lookup) (t : Resolved) (va : ℕ) (is : Bool) (pa n : ℕ) (es : is ≡ allowed (t .answer)) (ep : pa ≡ addressOf (t .answer))
+    (en : n ≡ effectOf (t .source)) where
+  pub change-is : (kind : Kind) (may : Bool) (h : Hint) (f : FetchHint) → may ≡ mayHint (k .privilege) kind → h ≡ hintFor va (k .privilege .level) pa → f
+      ≡ noFetch
+      → _≡_ {A = Change} (record {
+        «hint_at» = k .hint;
+        «entry_at» = k .entry;
+        effect = n;
+        hints = may && is;
+        fetches = false;
+        hint = h;
+        fetch = f;
+        made = t .made;
+      })
       (changeOf k t va kind)
   change-is kind may h f em eh ef = rw (em, es, eh, ep, en, ef)
 
@@ -65,7 +88,8 @@ module _ (k : Lookup) (t : Resolved) (va : ℕ) (is : Bool) (pa n : ℕ) (es : i
   fetch-change-is h f eh ef = rw (eh, ef, ep, es, en)
 
 pub unchanged-is : (k : Lookup) (h : Hint) (f : FetchHint) (made : Entry) → h ≡ noHint → f ≡ noFetch → made ≡ blank
-    → _≡_ {A = Change} (record { «hint_at» = k .hint; «entry_at» = k .entry; effect = 0; hints = false; fetches = false; hint = h; fetch = f; made = made }) (unchanged k)
+    → _≡_ {A = Change} (record { «hint_at» = k .hint; «entry_at» = k .entry; effect = 0; hints = false; fetches = false; hint = h; fetch = f; made = made })
+    (unchanged k)
 unchanged-is k h f made eh ef em = rw (eh, ef, em)
 
 -- a translation on the cells taken out
@@ -74,7 +98,8 @@ pub by-hint-is : (k : Lookup) (h : Hint) (va : ℕ) (c : Change) (pa : ℕ) → 
 by-hint-is k h va c pa ec ep = rw (ec, ep)
 
 module _ (x : Page) (va : ℕ) (kind : Kind) (memory : ℕ → Word) (hit : Bool) (eh : hit ≡ hintServes (x .hint) (x .lookup .privilege) va kind) where
-  pub resolve-page-hit : (r : Answered) → hit ≡ true → r ≡ record { change = unchanged (x .lookup); answer = Address (onPage (x .hint .pa) va) } → r ≡ answeredOf x va kind memory
+  pub resolve-page-hit : (r : Answered) → hit ≡ true → r ≡ record { change = unchanged (x .lookup); answer = Address (onPage (x .hint .pa) va) } → r
+      ≡ answeredOf x va kind memory
   unfolding answeredOf
   resolve-page-hit r e er = rw (← eh, e) er
 
@@ -117,5 +142,6 @@ place-small : (a : Asked) → entryPlace a < 1024
 place-small Flat = omega arith
 place-small (Of q) = omega arith
 
-pub lookup-within : (c : Control) (privilege : Privilege) (va : ℕ) (kind : Kind) (k : Lookup) → k ≡ lookupOf c privilege va kind → (k .hint < 512) × (k .entry < 1024)
+pub lookup-within : (c : Control) (privilege : Privilege) (va : ℕ) (kind : Kind) (k : Lookup) → k ≡ lookupOf c privilege va kind → (k .hint < 512)
+    × (k .entry < 1024)
 lookup-within c privilege va kind k e = rw e (omega arith, place-small (askOf (bankOf c (regimeOf (privilege .level))) privilege va))

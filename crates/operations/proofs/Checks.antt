@@ -7,14 +7,12 @@ use borrow.Author.Tests.{lt-ltb, le-ltb, ltb-true, ltb-false}
 use lib.Dec.{ltb}
 use Rattle.word.specs.Bits.{pick}
 use Rattle.word.specs.Ram.{widthOf}
-use Rattle.word.specs.declared.ram.Width.{Width}
-use Rattle.word.specs.declared.ram.Sized.{Sized}
+use Rattle.word.specs.declared.{ram.Width.Width, ram.Sized.Sized}
 use Rattle.word.specs.declared.ram.Sized.the-variants.{Bytes, Refused}
 use Rattle.sysreg.specs.Encoding.{registerAt}
-use Rattle.sysreg.specs.declared.regs.Register.{Register}
-use Rattle.sysreg.specs.declared.encoding.Found.{Found}
+use Rattle.sysreg.specs.declared.{regs.Register.Register, encoding.Found.Found}
 use Rattle.sysreg.specs.declared.encoding.Found.the-variants.{At, Nothing}
-use Rattle.operations.specs.Check.{passes, known, kept, missedOf}
+use Rattle.operations.specs.Check.{passes, known, kept, ramRows, firstOf, missedOf}
 use Rattle.operations.specs.declared.call.Call.{Call}
 
 -- a window that ends at the last address or before it; another one passes 2^64 where its length is more than what is left
@@ -27,6 +25,13 @@ past-left base len h = go (ltb (2 ^ 64) (base + len)) refl
     go : (t : Bool) → ltb (2 ^ 64) (base + len) ≡ t → ltb ((2 ^ 64 - 1) - base + 1) len ≡ passes base len
     go true e = let k = ltb-true (2 ^ 64) (base + len) e in rw e (lt-ltb ((2 ^ 64 - 1) - base + 1) len (omega arith))
     go false e = let k = ltb-false (2 ^ 64) (base + len) e in rw e (le-ltb ((2 ^ 64 - 1) - base + 1) len (omega arith))
+
+-- the first check missed, of a window that ends at the last address or before it
+pub level-missed : (level base len : ℕ) → 3 < level → 1 ≡ firstOf (ramRows level base len)
+level-missed level base len l = rw (lt-ltb 3 level l)
+
+pub none-missed : (level base len : ℕ) → len < 2 ^ 64 → base ≤ 2 ^ 64 - 1 - len → level ≤ 3 → 0 ≡ firstOf (ramRows level base len)
+none-missed level base len h e l = rw (le-ltb 3 level l, ← never-past base len h e)
 
 pub a-size : (n : ℕ) (s : Sized) (w : Width) → s ≡ widthOf n → s ≡ Bytes w → true ≡ known n
 a-size n s w e b = rw (← e, b)

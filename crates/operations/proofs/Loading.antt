@@ -6,42 +6,30 @@ use Prim.Native.Nat.{ℕ, zero, suc}
 use lib.Dec.{leb}
 use lib.ListN.{length}
 use Rattle.word.specs.Ram.{wordAt, widthOf, bytesIn}
-use Rattle.word.specs.declared.ram.Sized.{Sized}
+use Rattle.word.specs.declared.{ram.Sized.Sized, ram.Width.Width, ram.Word.Word}
 use Rattle.word.specs.declared.ram.Sized.the-variants.{Bytes, Refused as NoWidth}
-use Rattle.word.specs.declared.ram.Width.{Width}
-use Rattle.word.specs.declared.ram.Word.{Word}
 use Rattle.walk.specs.Regime.{regimeOf, stage1On}
 use Rattle.walk.specs.declared.regime.Bank.{Bank}
 use Rattle.tlb.specs.Hint.{onPage}
-use Rattle.tlb.specs.declared.access.Answer.{Answer}
-use Rattle.tlb.specs.declared.access.Kind.{Kind}
+use Rattle.tlb.specs.declared.{access.Answer.Answer, access.Kind.Kind, access.Privilege.Privilege, hint.Hint.Hint}
 use Rattle.tlb.specs.declared.access.Kind.the-variants.{Read}
-use Rattle.tlb.specs.declared.access.Privilege.{Privilege}
-use Rattle.tlb.specs.declared.hint.Hint.{Hint}
 use Rattle.operations.specs.Bytes.{loadOf}
 use Rattle.operations.specs.Ends.{loadEnd}
 use Rattle.operations.specs.Place.{inPage, nextPage, crosses, goesOn, placedOne, placedBoth}
-use Rattle.operations.specs.declared.bytes.Got.{Got}
+use Rattle.operations.specs.declared.{bytes.Got.Got, ends.LoadAnswer.LoadAnswer, ends.LoadEnd.LoadEnd}
+use Rattle.operations.specs.declared.{place.Placed.Placed, call.Reply.Reply, change.Change.Change}
+use Rattle.operations.specs.declared.{change.Hinted.Hinted, change.Page.Page, change.Answered.Answered}
+use Rattle.operations.specs.declared.{loads.Access.Access, loads.Both.Both, loads.FastLoad.FastLoad}
 use Rattle.operations.specs.declared.bytes.Got.the-variants as Got
-use Rattle.operations.specs.declared.ends.LoadAnswer.{LoadAnswer}
 use Rattle.operations.specs.declared.ends.LoadAnswer.the-variants as Load
-use Rattle.operations.specs.declared.ends.LoadEnd.{LoadEnd}
 use Rattle.operations.specs.declared.place.Place.the-variants.{Whole}
-use Rattle.operations.specs.declared.place.Placed.{Placed}
 use Rattle.operations.specs.Check.{sizedRows, firstOf}
 use Rattle.operations.specs.Replies.{loading}
-use Rattle.operations.specs.declared.call.Reply.{Reply}
 use Rattle.operations.specs.declared.call.Reply.the-variants.{Refused, Done, Value}
 use Rattle.operations.specs.Hinted.{hintServes}
 use Rattle.operations.specs.Change.{unchanged, answeredOf, pageAfter}
-use Rattle.operations.specs.declared.change.Change.{Change}
-use Rattle.operations.specs.declared.change.Hinted.{Hinted}
-use Rattle.operations.specs.declared.change.Page.{Page}
-use Rattle.operations.specs.declared.change.Answered.{Answered}
-use Rattle.operations.specs.Loads.{bytesOf, secondOf, moreOf, oneTranslation, twoTranslations, bothOf, untouchedOf, accessOf, loadedOf, hitIn, fastRead, fastLoadBy, fastLoad}
-use Rattle.operations.specs.declared.loads.Access.{Access}
-use Rattle.operations.specs.declared.loads.Both.{Both}
-use Rattle.operations.specs.declared.loads.FastLoad.{FastLoad}
+use Rattle.operations.specs.Loads.{bytesOf, secondOf, moreOf, oneTranslation, twoTranslations, bothOf, untouchedOf, accessOf, loadedOf, hitIn, fastRead}
+use Rattle.operations.specs.Loads.{fastLoadBy, fastLoad}
 
 -- WHERE THE CELLS LIE
 
@@ -110,7 +98,8 @@ module _ (g : Hinted) (x y : Page) (va size base : ℕ) (ram : List ℕ) (s : Si
 
 -- THE CHECKS AND THE HINT
 
-pub hit-is : (h : Hint) (privilege : Privilege) (va size : ℕ) (kind : Kind) (served : Bool) (here : ℕ) → served ≡ hintServes h privilege va kind → here ≡ inPage va
+pub hit-is : (h : Hint) (privilege : Privilege) (va size : ℕ) (kind : Kind) (served : Bool) (here : ℕ) → served ≡ hintServes h privilege va kind → here
+    ≡ inPage va
     → (served && leb size here) ≡ hitIn h privilege va size kind
 hit-is h privilege va size kind served here e p = rw (e, p)
 
@@ -120,7 +109,8 @@ module _ (base : ℕ) (ram : List ℕ) (pa size last : ℕ) (s : Sized) (es : s 
     unfolding fastRead
     read-value v e = rw (← es, ew, ← eg, e)
 
-    pub read-abort : (i at : ℕ) → g ≡ Got.Abort i at → _≡_ {A = FastLoad} (record { ends = false; «last_pa» = last; reply = Done }) (fastRead base ram pa size last)
+    pub read-abort : (i at : ℕ) → g ≡ Got.Abort i at → _≡_ {A = FastLoad} (record { ends = false; «last_pa» = last; reply = Done })
+        (fastRead base ram pa size last)
     unfolding fastRead
     read-abort i at e = rw (← es, ew, ← eg, e)
 
@@ -128,7 +118,8 @@ module _ (base : ℕ) (ram : List ℕ) (pa size last : ℕ) (s : Sized) (es : s 
   unfolding fastRead
   read-none e = rw (← es, e)
 
-module _ (privilege : Privilege) (h : Hint) (last base : ℕ) (ram : List ℕ) (va size n : ℕ) (en : n ≡ firstOf (sizedRows (privilege .level) base (length ram) size)) where
+module _ (privilege : Privilege) (h : Hint) (last base : ℕ) (ram : List ℕ) (va size n : ℕ)
+    (en : n ≡ firstOf (sizedRows (privilege .level) base (length ram) size)) where
   pub load-refused : (n ≡ 0 → ⊥) → _≡_ {A = FastLoad} (record { ends = true; «last_pa» = last; reply = Refused n }) (fastLoad privilege h last base ram va size)
   unfolding fastLoad
   load-refused ne = rw (← en) (go n ne)
@@ -140,7 +131,8 @@ module _ (privilege : Privilege) (h : Hint) (last base : ℕ) (ram : List ℕ) (
       go (suc m) ne = refl
 
   module _ (z : n ≡ 0) (found : Bool) (ef : found ≡ hitIn h privilege va size Read) where
-    pub load-hit : (pa : ℕ) (r : FastLoad) → found ≡ true → pa ≡ onPage (h .pa) va → r ≡ fastRead base ram pa size last → r ≡ fastLoad privilege h last base ram va size
+    pub load-hit : (pa : ℕ) (r : FastLoad) → found ≡ true → pa ≡ onPage (h .pa) va → r ≡ fastRead base ram pa size last → r
+        ≡ fastLoad privilege h last base ram va size
     unfolding fastLoad
     load-hit pa r t ep er = rw (← en, z, ← ef, t, ← ep) er
 

@@ -15,12 +15,9 @@ use Rattle.word.specs.declared.ram.Word.the-variants as Word
 use Rattle.operations.specs.Place.{byteAt, firstOutside, verdictOf, bytesBefore}
 use Rattle.operations.specs.Bytes.{byteIn, splitValue, splitStored, gotBy, loadOf, storeRam, insnOf}
 use Rattle.operations.specs.BytesLaws.{stored-length, split-length, store-length}
-use Rattle.operations.specs.declared.place.Pages.{Pages}
-use Rattle.operations.specs.declared.place.Place.{Place}
+use Rattle.operations.specs.declared.{place.Pages.Pages, place.Place.Place, place.Verdict.Verdict, bytes.Got.Got}
 use Rattle.operations.specs.declared.place.Place.the-variants.{Whole, Split}
-use Rattle.operations.specs.declared.place.Verdict.{Verdict}
 use Rattle.operations.specs.declared.place.Verdict.the-variants.{Inside, Outside}
-use Rattle.operations.specs.declared.bytes.Got.{Got}
 use Rattle.operations.specs.declared.bytes.Got.the-variants.{Value, Abort}
 use Rattle.operations.specs.declared.bytes.Insn.the-variants as Insn
 

@@ -12,11 +12,9 @@ use Rattle.fault.specs.declared.Fault.{Fault}
 use Rattle.tlb.specs.declared.access.Answer.{Answer}
 use Rattle.tlb.specs.declared.access.Answer.the-variants.{Address, Status}
 use Rattle.operations.specs.Place.{inPage, nextPage, crosses, placedOne, placedBoth, byteAt, firstOutside}
-use Rattle.operations.specs.declared.place.Pages.{Pages}
+use Rattle.operations.specs.declared.{place.Pages.Pages, place.Placed.Placed, place.Verdict.Verdict}
 use Rattle.operations.specs.declared.place.Place.the-variants.{Whole, Split}
-use Rattle.operations.specs.declared.place.Placed.{Placed}
 use Rattle.operations.specs.declared.place.Placed.the-variants.{At}
-use Rattle.operations.specs.declared.place.Verdict.{Verdict}
 use Rattle.operations.specs.declared.place.Verdict.the-variants.{Inside, Outside}
 
 pub crossing : (on : Bool) (va n here : ℕ) → here ≡ inPage va → on && ltb here n ≡ crosses on va n

@@ -6,20 +6,16 @@ use Rattle.sysreg.specs.declared.write.WriteAnswer.the-variants as Written
 use Rattle.fault.specs.declared.Fault.{Fault}
 use Rattle.tlb.specs.declared.access.Answer.{Answer}
 use Rattle.tlb.specs.declared.access.Answer.the-variants.{Address, Status}
-use Rattle.exception.specs.declared.kind.Exception.{Exception}
+use Rattle.exception.specs.declared.{kind.Exception.Exception, kind.Stop.Stop}
 use Rattle.exception.specs.declared.kind.Exception.the-variants as Exceptions
-use Rattle.exception.specs.declared.kind.Stop.{Stop}
 use Rattle.exception.specs.declared.kind.Stop.the-variants as Stops
-use Rattle.operations.specs.declared.ends.LoadAnswer.{LoadAnswer}
+use Rattle.operations.specs.declared.{ends.LoadAnswer.LoadAnswer, ends.FetchAnswer.FetchAnswer}
+use Rattle.operations.specs.declared.{ends.Reached.Reached, ends.StoreAnswer.StoreAnswer, call.Reply.Reply}
 use Rattle.operations.specs.declared.ends.LoadAnswer.the-variants as Load
-use Rattle.operations.specs.declared.ends.FetchAnswer.{FetchAnswer}
 use Rattle.operations.specs.declared.ends.FetchAnswer.the-variants as Fetches
-use Rattle.operations.specs.declared.ends.Reached.{Reached}
 use Rattle.operations.specs.declared.ends.Reached.the-variants as Reach
-use Rattle.operations.specs.declared.ends.StoreAnswer.{StoreAnswer}
 use Rattle.operations.specs.declared.ends.StoreAnswer.the-variants as Store
 use Rattle.operations.specs.Replies.{translation, reaching, loading, storing, fetching, registering}
-use Rattle.operations.specs.declared.call.Reply.{Reply}
 use Rattle.operations.specs.declared.call.Reply.the-variants.{Value, Stopped}
 
 pub is-address : (va : ℕ) (a : Answer) (pa : ℕ) → a ≡ Address pa → Value pa ≡ translation va a

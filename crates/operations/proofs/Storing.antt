@@ -5,31 +5,24 @@ use mathlib.Core.List.{List}
 use Prim.Native.Nat.{ℕ, zero, suc}
 use lib.ListN.{length}
 use Rattle.word.specs.Ram.{wordAt, widthOf, bytesIn, within}
-use Rattle.word.specs.declared.ram.Sized.{Sized}
+use Rattle.word.specs.declared.{ram.Sized.Sized, ram.Width.Width}
 use Rattle.word.specs.declared.ram.Sized.the-variants.{Bytes, Refused as NoWidth}
-use Rattle.word.specs.declared.ram.Width.{Width}
 use Rattle.tlb.specs.Hint.{onPage}
 use Rattle.tlb.specs.declared.access.Kind.the-variants.{Write}
-use Rattle.tlb.specs.declared.access.Privilege.{Privilege}
-use Rattle.tlb.specs.declared.hint.Hint.{Hint}
+use Rattle.tlb.specs.declared.{access.Privilege.Privilege, hint.Hint.Hint}
 use Rattle.operations.specs.Bytes.{storeRam}
 use Rattle.operations.specs.BytesLaws.{store-length}
 use Rattle.operations.specs.Ends.{storeEnd, storeRamEnd}
-use Rattle.operations.specs.declared.ends.StoreEnd.{StoreEnd}
+use Rattle.operations.specs.declared.{ends.StoreEnd.StoreEnd, place.Placed.Placed, call.Reply.Reply}
+use Rattle.operations.specs.declared.{loads.Access.Access, loads.Both.Both, change.Hinted.Hinted}
+use Rattle.operations.specs.declared.{change.Page.Page, stores.FastStore.FastStore}
 use Rattle.operations.specs.declared.place.Place.the-variants.{Whole}
-use Rattle.operations.specs.declared.place.Placed.{Placed}
 use Rattle.operations.specs.declared.place.Placed.the-variants.{At, Fault}
 use Rattle.operations.specs.Check.{sizedRows, firstOf}
 use Rattle.operations.specs.Replies.{storing}
-use Rattle.operations.specs.declared.call.Reply.{Reply}
 use Rattle.operations.specs.declared.call.Reply.the-variants.{Refused, Done}
 use Rattle.operations.specs.Loads.{hitIn, bothOf, untouchedOf, accessOf}
 use Rattle.operations.specs.Stores.{fastStoreBy, fastStore, nowReplyBy, nowReply, nowRamBy, nowRam, sizedRam, storeAfter, storedOf, storedRam}
-use Rattle.operations.specs.declared.loads.Access.{Access}
-use Rattle.operations.specs.declared.loads.Both.{Both}
-use Rattle.operations.specs.declared.change.Hinted.{Hinted}
-use Rattle.operations.specs.declared.change.Page.{Page}
-use Rattle.operations.specs.declared.stores.FastStore.{FastStore}
 
 module _ (privilege : Privilege) (h : Hint) (base len va size n : ℕ) (en : n ≡ firstOf (sizedRows (privilege .level) base len size)) where
   pub quick-missed : (n ≡ 0 → ⊥) → _≡_ {A = FastStore} (record { ends = true; refused = n; pa = 0 }) (fastStore privilege h base len va size)
@@ -42,7 +35,8 @@ module _ (privilege : Privilege) (h : Hint) (base len va size n : ℕ) (en : n �
       go zero ne = absurd (ne refl)
       go (suc m) ne = refl
 
-  pub quick-on : (found : Bool) (pa : ℕ) (fits : Bool) → n ≡ 0 → found ≡ hitIn h privilege va size Write → pa ≡ onPage (h .pa) va → fits ≡ within base len size pa
+  pub quick-on : (found : Bool) (pa : ℕ) (fits : Bool) → n ≡ 0 → found ≡ hitIn h privilege va size Write → pa ≡ onPage (h .pa) va → fits
+      ≡ within base len size pa
       → _≡_ {A = FastStore} (record { ends = found && fits; refused = 0; pa = pa }) (fastStore privilege h base len va size)
   unfolding fastStore
   quick-on found pa fits z ef ep ei = rw (← en, z, ← ef, ← ep, ← ei)

@@ -5,14 +5,11 @@ use lib.ListN.{length, getD}
 use Rattle.word.specs.Bits.{pick}
 use Rattle.word.specs.Ram.{within, littleEndian, stored}
 use Rattle.operations.specs.Place.{byteAt, verdictOf, bytesBefore}
-use Rattle.operations.specs.declared.place.Pages.{Pages}
-use Rattle.operations.specs.declared.place.Place.{Place}
-use Rattle.operations.specs.declared.place.Place.the-variants.{Whole, Split}
-use Rattle.operations.specs.declared.place.Verdict.{Verdict}
-use Rattle.operations.specs.declared.place.Verdict.the-variants.{Inside, Outside}
-use Rattle.operations.specs.declared.bytes.Got.{Got}
-use Rattle.operations.specs.declared.bytes.Got.the-variants.{Value, Abort}
+use Rattle.operations.specs.declared.{place.Pages.Pages, place.Place.Place, place.Verdict.Verdict, bytes.Got.Got}
 use Rattle.operations.specs.declared.bytes.Insn.{Insn}
+use Rattle.operations.specs.declared.place.Place.the-variants.{Whole, Split}
+use Rattle.operations.specs.declared.place.Verdict.the-variants.{Inside, Outside}
+use Rattle.operations.specs.declared.bytes.Got.the-variants.{Value, Abort}
 use Rattle.operations.specs.declared.bytes.Insn.the-variants as Insn
 
 -- the byte at a physical address, 0 outside RAM

@@ -15,8 +15,7 @@ use Rattle.word.specs.RamLaws.{length-bytes}
 use Rattle.operations.specs.Place.{byteAt, firstOutside, verdictOf, bytesBefore}
 use Rattle.operations.specs.PlaceLaws.{before-le}
 use Rattle.operations.specs.Bytes.{byteIn, splitValue, splitStored, storeRam}
-use Rattle.operations.specs.declared.place.Pages.{Pages}
-use Rattle.operations.specs.declared.place.Place.{Place}
+use Rattle.operations.specs.declared.{place.Pages.Pages, place.Place.Place}
 use Rattle.operations.specs.declared.place.Place.the-variants.{Whole, Split}
 use Rattle.operations.specs.declared.place.Verdict.the-variants.{Inside, Outside}
 

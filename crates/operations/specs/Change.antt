@@ -12,26 +12,16 @@ use Rattle.tlb.specs.Count.{hitCounted, walkCounted}
 use Rattle.tlb.specs.Entry.{blank, slotOf}
 use Rattle.tlb.specs.Hint.{hintFor, noHint, noFetch, fetchFor, onPage}
 use Rattle.tlb.specs.Resolve.{askOf, changesOf}
-use Rattle.tlb.specs.declared.access.Answer.{Answer}
+use Rattle.tlb.specs.declared.{access.Answer.Answer, access.Kind.Kind, access.Privilege.Privilege, count.Counts.Counts}
+use Rattle.tlb.specs.declared.{entry.Entry.Entry, entry.Current.Current, hint.Hint.Hint, resolve.Asked.Asked}
+use Rattle.tlb.specs.declared.{resolve.Resolved.Resolved, resolve.Source.Source}
 use Rattle.tlb.specs.declared.access.Answer.the-variants.{Address, Status}
-use Rattle.tlb.specs.declared.access.Kind.{Kind}
-use Rattle.tlb.specs.declared.access.Privilege.{Privilege}
-use Rattle.tlb.specs.declared.count.Counts.{Counts}
-use Rattle.tlb.specs.declared.entry.Entry.{Entry}
-use Rattle.tlb.specs.declared.entry.Current.{Current}
-use Rattle.tlb.specs.declared.hint.Hint.{Hint}
-use Rattle.tlb.specs.declared.resolve.Asked.{Asked}
 use Rattle.tlb.specs.declared.resolve.Asked.the-variants.{Flat, Of}
-use Rattle.tlb.specs.declared.resolve.Resolved.{Resolved}
-use Rattle.tlb.specs.declared.resolve.Source.{Source}
 use Rattle.tlb.specs.declared.resolve.Source.the-variants.{FromHint, FromFlat, FromEntry, FromWalk, NoLeaf}
 use Rattle.operations.specs.Replies.{translation}
 use Rattle.operations.specs.Hinted.{hintPlace, hintServes}
-use Rattle.operations.specs.declared.change.Change.{Change}
-use Rattle.operations.specs.declared.change.Translated.{Translated}
-use Rattle.operations.specs.declared.change.Lookup.{Lookup}
-use Rattle.operations.specs.declared.change.Page.{Page}
-use Rattle.operations.specs.declared.change.Answered.{Answered}
+use Rattle.operations.specs.declared.{change.Change.Change, change.Translated.Translated, change.Lookup.Lookup}
+use Rattle.operations.specs.declared.{change.Page.Page, change.Answered.Answered}
 
 -- the place of the entry that is asked, any with stage 1 off
 abbrev pub entryPlace : Asked → ℕ

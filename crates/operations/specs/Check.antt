@@ -9,9 +9,9 @@ use Rattle.word.specs.declared.ram.Sized.{Sized}
 use Rattle.word.specs.declared.ram.Sized.the-variants.{Bytes, Refused}
 use Rattle.sysreg.specs.Encoding.{registerAt}
 use Rattle.sysreg.specs.Write.{names}
-use Rattle.operations.specs.declared.call.Encoding.{Encoding}
-use Rattle.operations.specs.declared.call.Call.{Call}
-use Rattle.operations.specs.declared.call.Call.the-variants.{Translate, DataPa, FetchPa, Load, Store, Fetch, System, Register, Level, Mark, General, Abort}
+use Rattle.operations.specs.declared.{call.Encoding.Encoding, call.Call.Call}
+use Rattle.operations.specs.declared.call.Call.the-variants.{Translate, DataPa, FetchPa, Load, Store, Fetch, System, Register, Level, Mark, General}
+use Rattle.operations.specs.declared.call.Call.the-variants.{Abort}
 
 -- base plus length is above 2^64
 abbrev pub passes : ℕ → ℕ → Bool

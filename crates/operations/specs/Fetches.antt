@@ -8,26 +8,19 @@ use Rattle.word.specs.declared.ram.Word.{Word}
 use Rattle.tlb.specs.Hint.{fetchFound}
 use Rattle.tlb.specs.declared.access.Answer.the-variants.{Address}
 use Rattle.tlb.specs.declared.access.Kind.the-variants.{Fetch}
-use Rattle.tlb.specs.declared.access.Privilege.{Privilege}
-use Rattle.tlb.specs.declared.hint.FetchHint.{FetchHint}
-use Rattle.tlb.specs.declared.hint.HintAnswer.{HintAnswer}
-use Rattle.tlb.specs.declared.hint.HintAnswer.the-variants.{At, Unknown}
+use Rattle.tlb.specs.declared.{access.Privilege.Privilege, hint.FetchHint.FetchHint, hint.HintAnswer.HintAnswer}
 use Rattle.tlb.specs.declared.resolve.Resolved.{Resolved}
+use Rattle.tlb.specs.declared.hint.HintAnswer.the-variants.{At, Unknown}
 use Rattle.operations.specs.Bytes.{insnOf}
 use Rattle.operations.specs.Ends.{fetchEnd}
-use Rattle.operations.specs.declared.bytes.Insn.{Insn}
+use Rattle.operations.specs.declared.{bytes.Insn.Insn, ends.FetchEnd.FetchEnd, change.Hinted.Hinted}
+use Rattle.operations.specs.declared.{change.Lookup.Lookup, change.Page.Page, change.Answered.Answered}
+use Rattle.operations.specs.declared.{fetches.FetchAccess.FetchAccess, hinted.Fast.Fast}
 use Rattle.operations.specs.declared.bytes.Insn.the-variants as Insn
-use Rattle.operations.specs.declared.ends.FetchEnd.{FetchEnd}
 use Rattle.operations.specs.Check.{ramRows, firstOf}
 use Rattle.operations.specs.Replies.{fetching}
 use Rattle.operations.specs.declared.call.Reply.the-variants.{Refused, Done, Value}
 use Rattle.operations.specs.Change.{missBy, fetchChangeOf, unchanged}
-use Rattle.operations.specs.declared.change.Hinted.{Hinted}
-use Rattle.operations.specs.declared.change.Lookup.{Lookup}
-use Rattle.operations.specs.declared.change.Page.{Page}
-use Rattle.operations.specs.declared.change.Answered.{Answered}
-use Rattle.operations.specs.declared.fetches.FetchAccess.{FetchAccess}
-use Rattle.operations.specs.declared.hinted.Fast.{Fast}
 
 -- an answer at once: the number of the first check missed, or the instruction that the fetch hint leads to, if it lies in RAM
 abbrev pub quickInsn : Insn → Fast

@@ -4,9 +4,7 @@ use Prim.Native.Nat.{ℕ, zero, suc, _%_}
 use lib.Dec.{eqb}
 use Rattle.tlb.specs.Access.{mayHint}
 use Rattle.tlb.specs.Hint.{dataSlot, hintKey, onPage}
-use Rattle.tlb.specs.declared.access.Kind.{Kind}
-use Rattle.tlb.specs.declared.access.Privilege.{Privilege}
-use Rattle.tlb.specs.declared.hint.Hint.{Hint}
+use Rattle.tlb.specs.declared.{access.Kind.Kind, access.Privilege.Privilege, hint.Hint.Hint}
 use Rattle.operations.specs.Check.{ramRows, firstOf}
 use Rattle.operations.specs.declared.call.Reply.the-variants.{Refused, Done, Value}
 use Rattle.operations.specs.declared.hinted.Fast.{Fast}

@@ -6,37 +6,26 @@ use lib.Dec.{leb}
 use lib.ListN.{length}
 use Rattle.word.specs.Bits.{pick}
 use Rattle.word.specs.Ram.{wordAt, widthOf, bytesIn}
-use Rattle.word.specs.declared.ram.Sized.{Sized}
+use Rattle.word.specs.declared.{ram.Sized.Sized, ram.Word.Word}
 use Rattle.word.specs.declared.ram.Sized.the-variants.{Bytes, Refused as NoWidth}
-use Rattle.word.specs.declared.ram.Word.{Word}
 use Rattle.walk.specs.Regime.{regimeOf, stage1On}
 use Rattle.walk.specs.declared.regime.Bank.{Bank}
 use Rattle.tlb.specs.Hint.{onPage}
-use Rattle.tlb.specs.declared.access.Answer.{Answer}
-use Rattle.tlb.specs.declared.access.Kind.{Kind}
+use Rattle.tlb.specs.declared.{access.Answer.Answer, access.Kind.Kind, access.Privilege.Privilege, hint.Hint.Hint}
 use Rattle.tlb.specs.declared.access.Kind.the-variants.{Read}
-use Rattle.tlb.specs.declared.access.Privilege.{Privilege}
-use Rattle.tlb.specs.declared.hint.Hint.{Hint}
 use Rattle.operations.specs.Bytes.{loadOf}
 use Rattle.operations.specs.Ends.{loadEnd}
 use Rattle.operations.specs.Place.{inPage, nextPage, crosses, goesOn, placedOne, placedBoth}
-use Rattle.operations.specs.declared.bytes.Got.{Got}
+use Rattle.operations.specs.declared.{bytes.Got.Got, ends.LoadEnd.LoadEnd, call.Reply.Reply, loads.Both.Both}
+use Rattle.operations.specs.declared.{loads.Access.Access, loads.FastLoad.FastLoad, change.Hinted.Hinted}
+use Rattle.operations.specs.declared.{change.Lookup.Lookup, change.Page.Page, change.Answered.Answered}
 use Rattle.operations.specs.declared.bytes.Got.the-variants as Got
 use Rattle.operations.specs.declared.place.Place.the-variants.{Whole}
-use Rattle.operations.specs.declared.ends.LoadEnd.{LoadEnd}
 use Rattle.operations.specs.Check.{sizedRows, firstOf}
 use Rattle.operations.specs.Replies.{loading}
-use Rattle.operations.specs.declared.call.Reply.{Reply}
 use Rattle.operations.specs.declared.call.Reply.the-variants.{Refused, Done, Value}
 use Rattle.operations.specs.Change.{unchanged, answeredOf, pageAfter}
 use Rattle.operations.specs.Hinted.{hintServes}
-use Rattle.operations.specs.declared.loads.Both.{Both}
-use Rattle.operations.specs.declared.loads.Access.{Access}
-use Rattle.operations.specs.declared.loads.FastLoad.{FastLoad}
-use Rattle.operations.specs.declared.change.Hinted.{Hinted}
-use Rattle.operations.specs.declared.change.Lookup.{Lookup}
-use Rattle.operations.specs.declared.change.Page.{Page}
-use Rattle.operations.specs.declared.change.Answered.{Answered}
 
 -- the number of bytes of a size, 0 where it is none
 abbrev pub bytesBy : Sized → ℕ

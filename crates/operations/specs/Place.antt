@@ -7,12 +7,10 @@ use Rattle.word.specs.Bits.{pick, wrap}
 use Rattle.word.specs.Ram.{within}
 use Rattle.tlb.specs.declared.access.Answer.{Answer}
 use Rattle.tlb.specs.declared.access.Answer.the-variants.{Address, Status}
-use Rattle.operations.specs.declared.place.Pages.{Pages}
-use Rattle.operations.specs.declared.place.Place.{Place}
-use Rattle.operations.specs.declared.place.Place.the-variants.{Whole, Split}
-use Rattle.operations.specs.declared.place.Placed.{Placed}
-use Rattle.operations.specs.declared.place.Placed.the-variants.{At, Fault}
+use Rattle.operations.specs.declared.{place.Pages.Pages, place.Place.Place, place.Placed.Placed}
 use Rattle.operations.specs.declared.place.Verdict.{Verdict}
+use Rattle.operations.specs.declared.place.Place.the-variants.{Whole, Split}
+use Rattle.operations.specs.declared.place.Placed.the-variants.{At, Fault}
 use Rattle.operations.specs.declared.place.Verdict.the-variants.{Inside, Outside}
 
 -- the bytes from va to the end of its page

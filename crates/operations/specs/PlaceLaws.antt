@@ -8,8 +8,7 @@ use lib.Dec.{ltb}
 use Rattle.word.specs.Bits.{pick, wrap}
 use Rattle.word.specs.Ram.{within}
 use Rattle.operations.specs.Place.{inPage, nextPage, byteAt, firstOutside, bytesBefore}
-use Rattle.operations.specs.declared.place.Pages.{Pages}
-use Rattle.operations.specs.declared.place.Verdict.{Verdict}
+use Rattle.operations.specs.declared.{place.Pages.Pages, place.Verdict.Verdict}
 use Rattle.operations.specs.declared.place.Verdict.the-variants.{Inside, Outside}
 
 -- the byte i is the lowest from index k on that lies outside, of n

@@ -6,15 +6,12 @@ use Rattle.tlb.specs.declared.access.Answer.{Answer}
 use Rattle.tlb.specs.declared.access.Answer.the-variants.{Address, Status}
 use Rattle.exception.specs.declared.kind.Exception.the-variants as Exception
 use Rattle.exception.specs.declared.kind.Stop.the-variants as Stop
-use Rattle.operations.specs.declared.ends.LoadAnswer.{LoadAnswer}
+use Rattle.operations.specs.declared.{ends.LoadAnswer.LoadAnswer, ends.StoreAnswer.StoreAnswer}
+use Rattle.operations.specs.declared.{ends.FetchAnswer.FetchAnswer, ends.Reached.Reached, call.Reply.Reply}
 use Rattle.operations.specs.declared.ends.LoadAnswer.the-variants as Load
-use Rattle.operations.specs.declared.ends.StoreAnswer.{StoreAnswer}
 use Rattle.operations.specs.declared.ends.StoreAnswer.the-variants as Store
-use Rattle.operations.specs.declared.ends.FetchAnswer.{FetchAnswer}
 use Rattle.operations.specs.declared.ends.FetchAnswer.the-variants as Fetched
-use Rattle.operations.specs.declared.ends.Reached.{Reached}
 use Rattle.operations.specs.declared.ends.Reached.the-variants as Reach
-use Rattle.operations.specs.declared.call.Reply.{Reply}
 use Rattle.operations.specs.declared.call.Reply.the-variants.{Refused, Done, Value, Faults, Fault, Stopped}
 
 abbrev pub translation : ℕ → Answer → Reply

@@ -7,22 +7,17 @@ use Rattle.word.specs.declared.ram.Sized.{Sized}
 use Rattle.word.specs.declared.ram.Sized.the-variants.{Bytes, Refused as NoWidth}
 use Rattle.tlb.specs.Hint.{onPage}
 use Rattle.tlb.specs.declared.access.Kind.the-variants.{Write}
-use Rattle.tlb.specs.declared.access.Privilege.{Privilege}
-use Rattle.tlb.specs.declared.hint.Hint.{Hint}
+use Rattle.tlb.specs.declared.{access.Privilege.Privilege, hint.Hint.Hint}
 use Rattle.operations.specs.Bytes.{storeRam}
 use Rattle.operations.specs.Ends.{storeEnd, storeRamEnd}
-use Rattle.operations.specs.declared.ends.StoreEnd.{StoreEnd}
+use Rattle.operations.specs.declared.{ends.StoreEnd.StoreEnd, call.Reply.Reply, loads.Access.Access}
+use Rattle.operations.specs.declared.{loads.Both.Both, change.Hinted.Hinted, change.Page.Page}
+use Rattle.operations.specs.declared.stores.FastStore.{FastStore}
 use Rattle.operations.specs.declared.place.Place.the-variants.{Whole}
 use Rattle.operations.specs.Check.{sizedRows, firstOf}
 use Rattle.operations.specs.Replies.{storing}
-use Rattle.operations.specs.declared.call.Reply.{Reply}
 use Rattle.operations.specs.declared.call.Reply.the-variants.{Refused, Done}
 use Rattle.operations.specs.Loads.{hitIn, bothOf, untouchedOf, accessOf}
-use Rattle.operations.specs.declared.loads.Access.{Access}
-use Rattle.operations.specs.declared.loads.Both.{Both}
-use Rattle.operations.specs.declared.change.Hinted.{Hinted}
-use Rattle.operations.specs.declared.change.Page.{Page}
-use Rattle.operations.specs.declared.stores.FastStore.{FastStore}
 
 -- whether a store ends at once: a check that it misses, or the hint that serves in its page, where the bytes lie in RAM
 abbrev pub fastStoreBy : ℕ → Bool → ℕ → FastStore

@@ -1,10 +1,11 @@
 // A translation as what it changes, and the cells of the page that it is made of.
 ghost use mathlib.Core.Path.{_≡_};
 ghost use Rattle.word.specs.Ram.{wordAt};
-ghost use Rattle.operations.specs.Change.{entryPlace, lookupOf, effectOf, allowed, addressOf, missBy, changeOf};
-ghost use Rattle.operations.specs.Change.{translatedOf, unchanged, fetchChangeOf, answeredOf};
+ghost use Rattle.operations.specs.Change.{entryPlace, lookupWith, lookupOf, effectOf, allowed, addressOf, missBy};
+ghost use Rattle.operations.specs.Change.{changeOf, translatedOf, unchanged, fetchChangeOf, answeredOf};
 ghost use Rattle.operations.specs.Change.{hintLeft, entryLeft, pageAfter};
 ghost use Rattle.tlb.specs.Hint.{onPage};
+ghost use Rattle.tlb.specs.Resolve.{askOf};
 ghost use Rattle.tlb.specs.declared.access.Answer.the-variants.{Address};
 use crate::call::Reply;
 use crate::hinted;
@@ -87,12 +88,26 @@ fn entry_place(a: Asked) -> usize
     }
 }
 
-// Where the cells of an address lie.
-pub fn lookup_of(control: Control, privilege: Privilege, va: u64, kind: Kind) -> Lookup
-    ensures { λ r. ⌜ r ≡ lookupOf control privilege va kind ⌝ }
+// What is asked of the cache, of which the level says the regime alone: for levels 0 and 1 the compiler then knows it.
+fn asked_of(s: Bank, privilege: Privilege, va: u64) -> Asked
+    ensures { λ r. ⌜ r ≡ askOf s privilege va ⌝ }
 {
-    let bank = lookup::bank_at(control, privilege.level);
-    let asked = resolve::ask(bank, privilege, va);
+    if privilege.level < 2 {
+        let el1 = Privilege {
+            level: 1,
+            unprivileged: false,
+        };
+        resolve::ask(s, el1, va)
+    } else {
+        resolve::ask(s, privilege, va)
+    }
+}
+
+// Where the cells of an address lie, by the registers of its regime.
+pub fn lookup_with(bank: Bank, privilege: Privilege, va: u64, kind: Kind) -> Lookup
+    ensures { λ r. ⌜ r ≡ lookupWith bank privilege va kind ⌝ }
+{
+    let asked = asked_of(bank, privilege, va);
     let hint = hinted::hint_place(va, kind);
     let entry = entry_place(asked);
     Lookup {
@@ -102,6 +117,14 @@ pub fn lookup_of(control: Control, privilege: Privilege, va: u64, kind: Kind) ->
         hint,
         entry,
     }
+}
+
+// The same by all registers that translation reads.
+pub fn lookup_of(control: Control, privilege: Privilege, va: u64, kind: Kind) -> Lookup
+    ensures { λ r. ⌜ r ≡ lookupOf control privilege va kind ⌝ }
+{
+    let bank = lookup::bank_at(control, privilege.level);
+    lookup_with(bank, privilege, va, kind)
 }
 
 // What an answer's source changes.

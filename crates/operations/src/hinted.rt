@@ -1,8 +1,10 @@
 // The work of the entry points, on small values.
 ghost use mathlib.Core.Path.{_≡_};
+ghost use Prim.Native.Nat.{_%_};
 ghost use lib.ListN.{length};
 ghost use Rattle.operations.specs.Loads.{bytesOf, secondOf, moreOf, hitIn};
-ghost use Rattle.operations.specs.Hinted.{hintPlace, hintServes, fastOf};
+ghost use Rattle.operations.specs.Hinted.{hintPlace, hintServes, fastBy, fastOf};
+ghost use Rattle.tlb.specs.Hint.{firstPlace, onPage};
 use crate::call::Reply;
 use crate::change::Hinted;
 use crate::check;
@@ -24,12 +26,24 @@ pub struct Fast {
     pub reply: Reply,
 }
 
+// The first place of a kind's hints. Fetches have none: theirs, past the last, is taken modulo 512.
+fn first_of(kind: Kind) -> usize
+    ensures { λ r. ⌜ r ≡ firstPlace kind % 512 ⌝ }
+{
+    match kind {
+        Kind::Read => 0,
+        Kind::Write => 256,
+        Kind::Fetch => 256,
+    }
+}
+
 // The place of the hint of an address: a fetch has none, and takes any.
 pub fn hint_place(va: u64, kind: Kind) -> usize
     ensures { λ r. ⌜ r ≡ hintPlace va kind ⌝ }
 {
-    let place = hint::data_slot(va, kind);
-    place % 512
+    let place = hint::data_slot(va, Kind::Read);
+    let first = first_of(kind);
+    first + place
 }
 
 // Whether the hint serves.
@@ -41,20 +55,10 @@ pub fn served(h: Hint, privilege: Privilege, va: u64, kind: Kind) -> bool
     may & (h.key == key)
 }
 
-// The checks, and then the hint.
-pub fn at_once(g: Hinted, base: u64, ram: &[u8], va: u64, kind: Kind) -> Fast
-    ensures { λ r. ⌜ r ≡ fastOf (g .privilege) (g .hint) base (length (now (ram .entry))) va kind ⌝ }
+// What the hint says, where no check is missed.
+fn by_hint(hit: bool, h: Hint, va: u64) -> Fast
+    ensures { λ r. ⌜ r ≡ fastBy 0 hit (onPage (h .pa) va) ⌝ }
 {
-    let privilege = g.privilege;
-    let h = g.hint;
-    let n = check::with_ram(privilege.level, base, ram.len() as u64);
-    if n != 0 {
-        return Fast {
-            ends: true,
-            reply: Reply::Refused(n),
-        };
-    }
-    let hit = served(h, privilege, va, kind);
     if hit {
         let pa = hint::on_page(h.pa, va);
         Fast {
@@ -67,6 +71,33 @@ pub fn at_once(g: Hinted, base: u64, ram: &[u8], va: u64, kind: Kind) -> Fast
             reply: Reply::Done,
         }
     }
+}
+
+// The checks, and then the hint. Nearly every window ends before the last address, and then passes check 2.
+pub fn at_once(g: Hinted, base: u64, ram: &[u8], va: u64, kind: Kind) -> Fast
+    ensures { λ r. ⌜ r ≡ fastOf (g .privilege) (g .hint) base (length (now (ram .entry))) va kind ⌝ }
+{
+    let privilege = g.privilege;
+    let h = g.hint;
+    let len = ram.len() as u64;
+    let hit = served(h, privilege, va, kind);
+    if u64::MAX - len < base {
+        let n = check::with_ram(privilege.level, base, len);
+        if n != 0 {
+            return Fast {
+                ends: true,
+                reply: Reply::Refused(n),
+            };
+        }
+        return by_hint(hit, h, va);
+    }
+    if 3 < privilege.level {
+        return Fast {
+            ends: true,
+            reply: Reply::Refused(1),
+        };
+    }
+    by_hint(hit, h, va)
 }
 
 // The number of bytes of a size, 0 where it is none.

@@ -8,12 +8,12 @@ use native.Mathlib.Omega.{arith}
 use lib.Dec.{eqb, ltb}
 use types.Run.{OneOf}
 use borrow.Author.Tests.{eqb-true, eqb-false, ltb-true, ltb-false, ne-eqb, le-leb}
-use Rattle.word.specs.Bits.{bitOn, bit0, pick}
+use Rattle.word.specs.Bits.{bitOn, bit0}
 use Rattle.walk.specs.declared.regime.Regime.{Regime}
 use Rattle.walk.specs.declared.regime.Regime.the-variants.{El1, El2, El3}
 use Rattle.sysop.specs.declared.op.SysOp.{SysOp}
 use Rattle.sysop.specs.declared.op.SysOp.the-variants.{At, Tlbi, Zva, Nothing, Undefined, Unimplemented}
-use Rattle.sysop.specs.Op.{operation, absent, named, refusal, ruled, decodeOf}
+use Rattle.sysop.specs.Op.{operation, absent, named, refusal, decodeOf}
 use Rattle.sysop.specs.OpLaws.{at-level, too-low, absent-refused}
 
 -- a number below or past another is not that one
@@ -150,8 +150,16 @@ module _ (level op1 crn crm op2 : ℕ) (h : low level op1 ≡ false) (z : op1 �
     unfolding named
     el1-rest a d e b =
         not₁
-        (rw
-        (a, ne-eqb crm 8 b, ne-eqb crm 1 (λ q. d (inl q)), ne-eqb crm 5 (λ q. d (inr q)), ne-eqb crm 6 (λ q. e (inl q)), ne-eqb crm 10 (λ q. e (inr (inl q))), ne-eqb crm 14 (λ q. e (inr (inr q)))))
+        (rw (
+          a,
+          ne-eqb crm 8 b,
+          ne-eqb crm 1 (λ q. d (inl q)),
+          ne-eqb crm 5 (λ q. d (inr q)),
+          ne-eqb crm 6 (λ q. e (inl q)),
+          ne-eqb crm 10
+              (λ q. e (inr (inl q))),
+          ne-eqb crm 14 (λ q. e (inr (inr q))),
+        ))
 
     pub el1-none : (crn ≡ 7 → ⊥) → (crn ≡ 8 → ⊥) → Gives o
     unfolding named
@@ -262,15 +270,33 @@ module _ (level op1 crn crm op2 : ℕ) (h : low level op1 ≡ false) (z : op1 �
     unfolding named
     el2-gap a b l k =
         not₂
-        (rw
-        (a, b, past 0 op2 (omega arith), past 1 op2 (omega arith), below 4 op2 (omega arith), below 5 op2 (omega arith), below 6 op2 (omega arith), below 7 op2 (omega arith)))
+        (rw (
+          a,
+          b,
+          past 0 op2 (omega arith),
+          past 1 op2 (omega arith),
+          below 4 op2 (omega arith),
+          below 5 op2 (omega arith),
+          below 6 op2
+              (omega arith),
+          below 7 op2 (omega arith),
+        ))
 
     pub el2-past : crn ≡ 7 → crm ≡ 8 → 8 ≤ op2 → Gives₂ o
     unfolding named
     el2-past a b l =
         not₂
-        (rw
-        (a, b, past 0 op2 (omega arith), past 1 op2 (omega arith), past 4 op2 (omega arith), past 5 op2 (omega arith), past 6 op2 (omega arith), past 7 op2 (omega arith)))
+        (rw (
+          a,
+          b,
+          past 0 op2 (omega arith),
+          past 1 op2 (omega arith),
+          past 4 op2 (omega arith),
+          past 5 op2 (omega arith),
+          past 6 op2 (omega arith),
+          past 7 op2
+              (omega arith),
+        ))
 
     pub el2-rest : crn ≡ 7 → (crm ≡ 8 → ⊥) → Gives₂ o
     unfolding named

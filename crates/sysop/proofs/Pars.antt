@@ -11,10 +11,7 @@ use Rattle.walk.specs.Tag.{untagged}
 use Rattle.walk.specs.Descriptor.{attrIndx, ns, sh}
 use Rattle.walk.specs.Walk.{walkOf}
 use Rattle.walk.specs.WalkBounds.{leaf-bounds}
-use Rattle.walk.specs.declared.regime.Regime.{Regime}
-use Rattle.walk.specs.declared.regime.Bank.{Bank}
-use Rattle.walk.specs.declared.level.Leaf.{Leaf}
-use Rattle.walk.specs.declared.level.Walked.{Walked}
+use Rattle.walk.specs.declared.{regime.Regime.Regime, regime.Bank.Bank, level.Leaf.Leaf, level.Walked.Walked}
 use Rattle.walk.specs.declared.level.Walked.the-variants.{Mapped, Fault}
 use Rattle.tlb.specs.Access.{rightOf, hasRight}
 use Rattle.tlb.specs.declared.access.Kind.{Kind}

@@ -11,12 +11,12 @@ use Rattle.word.specs.Bits.{field, pick}
 use Rattle.sysreg.specs.Tcr.{«as»}
 use Rattle.sysreg.specs.declared.regs.Control.{Control}
 use Rattle.walk.specs.Regime.{bankOf}
-use Rattle.walk.specs.declared.regime.Bank.{Bank}
-use Rattle.walk.specs.declared.regime.Regime.{Regime}
+use Rattle.walk.specs.declared.{regime.Bank.Bank, regime.Regime.Regime}
 use Rattle.walk.specs.declared.regime.Regime.the-variants.{El1, El2, El3}
 use Rattle.tlb.specs.declared.Inval.{Inval}
 use Rattle.tlb.specs.declared.Inval.the-variants.{All, Page, Asid}
-use Rattle.sysop.specs.Tlbi.{Instruction, VMALLE1, ALLE1, ALLE2, VMALLS12E1, IPAS2E1, IPAS2LE1, ALLE3, unallocated, asidForm, ranged, scope, scopeOf, tcrOf, pages4k, whatOf, tlbiOf}
+use Rattle.sysop.specs.Tlbi.{Instruction, VMALLE1, ALLE1, ALLE2, VMALLS12E1, IPAS2E1, IPAS2LE1, ALLE3, unallocated, asidForm, ranged, scope, scopeOf}
+use Rattle.sysop.specs.Tlbi.{tcrOf, pages4k, whatOf, tlbiOf}
 
 module _ (c : Control) (x : ℕ) where
   module _ (r : Regime) (s : Bank) (b : Bool) (q : s ≡ bankOf c r) (e : b ≡ pages4k (s .tcr) r) where
@@ -72,8 +72,14 @@ module _ (c : Control) (x op2 : ℕ) where
   pub el1-all : (OneOf (1 ∷ 3 ∷ 5 ∷ 7 ∷ []) op2 → ⊥) → (op2 ≡ 2 → ⊥) → All ≡ tlbiOf c 0 7 op2 x
   unfolding tlbiOf scopeOf whatOf
   el1-all a b =
-      rw
-      (ne-eqb op2 1 (λ q. a (inl q)), ne-eqb op2 2 b, ne-eqb op2 3 (λ q. a (inr (inl q))), ne-eqb op2 5 (λ q. a (inr (inr (inl q)))), ne-eqb op2 7 (λ q. a (inr (inr (inr q)))))
+      rw (
+        ne-eqb op2 1 (λ q. a (inl q)),
+        ne-eqb op2 2 b,
+        ne-eqb op2 3 (λ q. a (inr (inl q))),
+        ne-eqb op2 5 (λ q. a (inr (inr (inl q)))),
+        ne-eqb op2 7
+            (λ q. a (inr (inr (inr q)))),
+      )
       (passed c x (eqb op2 0) VMALLE1 unallocated refl refl)
 
   pub el2-all : (OneOf (1 ∷ 5 ∷ []) op2 → ⊥) → All ≡ tlbiOf c 4 7 op2 x

@@ -6,22 +6,18 @@ use mathlib.Core.Logic.{_⊎_, inl, inr}
 use Prim.Native.Nat.{ℕ, zero, suc, _/_, _≤_, _<_}
 use native.Mathlib.Omega.{arith}
 use lib.Dec.{eqb, leb}
-use borrow.Author.Tests.{eqb-true, eq-eqb, ne-eqb, le-leb, leb-true, lt-leb}
+use borrow.Author.Tests.{eqb-true, ne-eqb, le-leb, leb-true, lt-leb}
 use Rattle.word.specs.Bits.{pick}
+use Rattle.word.specs.BitLaws.{both}
 use Rattle.walk.specs.declared.regime.Regime.{Regime}
 use Rattle.walk.specs.declared.regime.Regime.the-variants.{El1, El2, El3}
-use Rattle.sysop.specs.declared.op.AtForm.{AtForm}
-use Rattle.sysop.specs.declared.op.SysOp.{SysOp}
+use Rattle.sysop.specs.declared.{op.AtForm.AtForm, op.SysOp.SysOp}
 use Rattle.sysop.specs.declared.op.SysOp.the-variants.{At, Tlbi, Zva, Nothing, Undefined, Unimplemented}
 use Rattle.sysop.specs.Op.{Field, only, any, Row, table, absent, holds, encodes, lookUp, named, operation, refusal, ruled, decodeOf}
 
 abbrev pub every : (Row → Bool) → List Row → Bool
 every p [] = true
 every p (r ∷ rs) = p r && every p rs
-
-both : (a b : Bool) → (a && b) ≡ true → (a ≡ true) × (b ≡ true)
-both true b e = (refl, e)
-both false b e = absurd (false≢true e)
 
 implied : (a b : Bool) → a ≡ true → (not a || b) ≡ true → b ≡ true
 implied true b e h = h
@@ -134,7 +130,8 @@ pub tlbi-fields : (level op1 crn crm op2 : ℕ) → decodeOf level op1 crn crm o
 unfolding decodeOf named isTlbi
 tlbi-fields level op1 crn crm op2 =
     by-rule (λ o. o ≡ Tlbi → TlbiFields op1 crn) level (lookUp table op1 crn crm op2)
-    (found (λ r. operation (r .name) ≡ Tlbi → TlbiFields op1 crn) (λ r. not (isTlbi (operation (r .name))) || fields r) op1 crn crm op2 here (λ e. never e) table refl)
+    (found (λ r. operation (r .name) ≡ Tlbi → TlbiFields op1 crn) (λ r. not (isTlbi (operation (r .name))) || fields r) op1 crn crm op2 here
+    (λ e. never e) table refl)
     (λ e. never (refused (eqb level 0) e))
   where
     never : Unimplemented ≡ Tlbi → TlbiFields op1 crn
@@ -154,7 +151,8 @@ tlbi-fields level op1 crn crm op2 =
 
     here : (r : Row) → op1 ≡ r .op1 → crn ≡ r .crn → (not (isTlbi (operation (r .name))) || fields r) ≡ true → operation (r .name) ≡ Tlbi → TlbiFields op1 crn
     here r a b t e =
-        let k = both (eqb (r .crn) 8) (eqb (r .op1) 0 || (eqb (r .op1) 4 || eqb (r .op1) 6)) (implied (isTlbi (operation (r .name))) (fields r) (ap isTlbi e) t) in
+        let k = both (eqb (r .crn) 8) (eqb (r .op1) 0 || (eqb (r .op1) 4 || eqb (r .op1) 6))
+        (implied (isTlbi (operation (r .name))) (fields r) (ap isTlbi e) t) in
         record {
           crn-8 = b ∙ eqb-true (r .crn) 8 (k .0);
           whose = whose r a (either (eqb (r .op1) 0) (eqb (r .op1) 4 || eqb (r .op1) 6) (k .1));
@@ -201,7 +199,8 @@ unfolding decodeOf named userFits isEl1
 user-el1 level op1 crn crm op2 f e =
     subst UserInEl1 e
     (by-rule UserInEl1 level (lookUp table op1 crn crm op2)
-    (found (λ r. UserInEl1 (operation (r .name))) (λ r. userFits (operation (r .name))) op1 crn crm op2 (λ r a b t. user-fits (operation (r .name)) t) tt table refl) (refused (eqb level 0)))
+    (found (λ r. UserInEl1 (operation (r .name))) (λ r. userFits (operation (r .name))) op1 crn crm op2
+    (λ r a b t. user-fits (operation (r .name)) t) tt table refl) (refused (eqb level 0)))
   where
     refused : (b : Bool) → UserInEl1 (pick b Undefined Unimplemented)
     refused true = tt

@@ -11,11 +11,8 @@ use Rattle.walk.specs.Descriptor.{attrIndx, ns, sh}
 use Rattle.walk.specs.Table.{Translation, Result, mapped, faults, statusOf}
 use Rattle.walk.specs.Permission.{Access, reading, writing, allowed}
 use Rattle.walk.specs.Walk.{walkOf}
-use Rattle.walk.specs.declared.regime.Regime.{Regime}
+use Rattle.walk.specs.declared.{regime.Regime.Regime, regime.Bank.Bank, level.Leaf.Leaf, level.Walked.Walked}
 use Rattle.walk.specs.declared.regime.Regime.the-variants.{El1, El2, El3}
-use Rattle.walk.specs.declared.regime.Bank.{Bank}
-use Rattle.walk.specs.declared.level.Leaf.{Leaf}
-use Rattle.walk.specs.declared.level.Walked.{Walked}
 use Rattle.walk.specs.declared.level.Walked.the-variants.{Mapped, Fault}
 use Rattle.tlb.specs.Access.{rightOf, hasRight}
 use Rattle.tlb.specs.declared.access.Kind.{Kind}

@@ -9,17 +9,17 @@ use Rattle.sysreg.specs.declared.regs.Control.{Control}
 use Rattle.walk.specs.Regime.{bankOf, singlePriv, wxnOf, stage1On}
 use Rattle.walk.specs.Tag.{untagged}
 use Rattle.walk.specs.Descriptor.{attrIndx, ns, sh}
-use Rattle.walk.specs.Table.{Translation, Result, mapped, faults, statusOf, tableWalk}
+use Rattle.walk.specs.Table.{Translation, Result, mapped, faults, tableWalk}
 use Rattle.walk.specs.Permission.{permissionByte}
 use Rattle.walk.specs.PermissionLaws.{kindBit, firstBit, permission-bit}
 use Rattle.walk.specs.Walk.{leafOf, walkedOf, walkOf}
 use Rattle.walk.specs.WalkBounds.{SoundWalked, walk-sound, status-small}
-use Rattle.walk.specs.declared.regime.Bank.{Bank}
-use Rattle.walk.specs.declared.level.Walked.{Walked}
+use Rattle.walk.specs.declared.{regime.Bank.Bank, level.Walked.Walked}
 use Rattle.walk.specs.declared.level.Walked.the-variants.{Mapped, Fault}
 use Rattle.tlb.specs.Access.{rightOf}
 use Rattle.sysop.specs.declared.op.AtForm.{AtForm}
-use Rattle.sysop.specs.Par.{success, abort, mairAttr, fromNonSecure, kindOf, permits, leafFound, leafPar, walkPar, parIn, atPar, accessOf, checked, resultPar}
+use Rattle.sysop.specs.Par.{success, abort, mairAttr, fromNonSecure, kindOf, permits, leafFound, leafPar, walkPar, parIn, atPar, accessOf, checked}
+use Rattle.sysop.specs.Par.{resultPar}
 
 -- the walk that an AT makes
 abbrev pub atWalk : Control → AtForm → ℕ → (ℕ → Word) → Walked

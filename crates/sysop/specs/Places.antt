@@ -8,8 +8,10 @@ use Rattle.sysreg.specs.Regs.{levels}
 use Rattle.sysreg.specs.declared.regs.Control.{Control}
 use Rattle.tlb.specs.declared.Inval.the-variants.{All, Page, Asid}
 use Rattle.sysop.specs.Op as op
-use Rattle.sysop.specs.Op.{AT-S1E1R, AT-S1E1W, AT-S1E0R, AT-S1E0W, AT-S1E2R, AT-S1E2W, AT-S12E1R, AT-S12E1W, AT-S12E0R, AT-S12E0W, AT-S1E3R, AT-S1E3W, DC-ZVA, DC-CVAC, DC-CVAU, DC-CIVAC, IC-IVAU, DC-IVAC, DC-ISW, DC-CSW, DC-CISW, IC-IALLU, IC-IALLUIS}
-use Rattle.sysop.specs.Tlbi.{Instruction, VMALLE1, VAE1, ASIDE1, VAAE1, VALE1, VAALE1, ALLE2, VAE2, ALLE1, VALE2, VMALLS12E1, IPAS2E1, IPAS2LE1, ALLE3, VAE3, VALE3, instructions, instructionAt, scopeOf, whatOf, tlbiOf}
+use Rattle.sysop.specs.Op.{AT-S1E1R, AT-S1E1W, AT-S1E0R, AT-S1E0W, AT-S1E2R, AT-S1E2W, AT-S12E1R, AT-S12E1W, AT-S12E0R, AT-S12E0W, AT-S1E3R, AT-S1E3W}
+use Rattle.sysop.specs.Op.{DC-ZVA, DC-CVAC, DC-CVAU, DC-CIVAC, IC-IVAU, DC-IVAC, DC-ISW, DC-CSW, DC-CISW, IC-IALLU, IC-IALLUIS}
+use Rattle.sysop.specs.Tlbi.{Instruction, VMALLE1, VAE1, ASIDE1, VAAE1, VALE1, VAALE1, ALLE2, VAE2, ALLE1, VALE2, VMALLS12E1, IPAS2E1, IPAS2LE1, ALLE3}
+use Rattle.sysop.specs.Tlbi.{VAE3, VALE3, instructions, instructionAt, scopeOf, whatOf, tlbiOf}
 use Rattle.sysop.specs.Par.{success, abort}
 
 -- SYS op1, CRn, CRm, op2
@@ -69,7 +71,24 @@ pub invalidations :
     × Both VALE3 6 3 7 5
     × Both IPAS2E1 4 0 4 1
     × Both IPAS2LE1 4 0 4 5
-invalidations = ((refl, refl), (refl, refl), (refl, refl), (refl, refl), (refl, refl), (refl, refl), (refl, refl), (refl, refl), (refl, refl), (refl, refl), (refl, refl), (refl, refl), (refl, refl), (refl, refl), (refl, refl), (refl, refl))
+invalidations = (
+  (refl, refl),
+  (refl, refl),
+  (refl, refl),
+  (refl, refl),
+  (refl, refl),
+  (refl, refl),
+  (refl, refl),
+  (refl, refl),
+  (refl, refl),
+  (refl, refl),
+  (refl, refl),
+  (refl, refl),
+  (refl, refl),
+  (refl, refl),
+  (refl, refl),
+  (refl, refl),
+)
 
 -- a core whose TCR_EL1 is given
 abbrev tcrEl1 : ℕ → Control

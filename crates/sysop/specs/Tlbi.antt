@@ -9,7 +9,6 @@ use Rattle.word.specs.Bits.{field, pick}
 use Rattle.sysreg.specs.Regs.{controlAt}
 use Rattle.sysreg.specs.Tcr.{tg0, tg1, «as»}
 use Rattle.sysreg.specs.declared.regs.Control.{Control}
-use Rattle.sysreg.specs.declared.regs.El.the-variants as El
 use Rattle.sysreg.specs.declared.regs.ControlReg.the-variants.{Tcr}
 use Rattle.walk.specs.Regime.{levelOf}
 use Rattle.walk.specs.declared.regime.Regime.{Regime}

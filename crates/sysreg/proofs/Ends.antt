@@ -2,16 +2,12 @@
 use mathlib.Core.Path.{_≡_, refl, sym, ap, _∙_}
 use Prim.Native.Nat.{ℕ}
 use borrow.Author.Tests.{eq-eqb, ne-eqb}
-use Rattle.sysreg.specs.declared.regs.Control.{Control}
-use Rattle.sysreg.specs.declared.regs.SysRegs.{SysRegs}
-use Rattle.sysreg.specs.declared.regs.ControlReg.{ControlReg}
-use Rattle.sysreg.specs.declared.regs.SysReg.{SysReg}
-use Rattle.sysreg.specs.declared.regs.Register.{Register}
+use Rattle.sysreg.specs.declared.{regs.Control.Control, regs.SysRegs.SysRegs, regs.ControlReg.ControlReg}
+use Rattle.sysreg.specs.declared.{regs.SysReg.SysReg, regs.Register.Register, encoding.Found.Found}
+use Rattle.sysreg.specs.declared.write.Written.{Written}
 use Rattle.sysreg.specs.declared.regs.Register.the-variants.{InControl, InSys}
-use Rattle.sysreg.specs.declared.encoding.Found.{Found}
 use Rattle.sysreg.specs.declared.encoding.Found.the-variants.{At, Nothing}
 use Rattle.sysreg.specs.declared.write.WriteAnswer.the-variants.{Done, Undefined, NoRegister}
-use Rattle.sysreg.specs.declared.write.Written.{Written}
 use Rattle.sysreg.specs.Encoding.{registerAt}
 use Rattle.sysreg.specs.Write.{controlWith, sysWith, ended, wrote, writeReg, undefined, refusal, replyOf, replyTo}
 use Rattle.sysreg.specs.WriteLaws.{write-nothing, write-el0, write-done}

@@ -5,9 +5,8 @@ use native.Mathlib.Nat.{add-assoc, mod-eq-of-lt, mod-lt, lt-of-le-of-lt}
 use lib.Bits.{bitAnd, and-mask, and-high, and-shr, and-mod, and-le-r}
 use lib.Pow.{split, shr-mod, pow-pos}
 use Rattle.word.specs.Bits.{alignDown}
-use Rattle.sysreg.specs.declared.regs.El.{El}
-use Rattle.sysreg.specs.declared.regs.SysReg.{SysReg}
-use Rattle.sysreg.specs.declared.regs.SysReg.the-variants.{Mair, Vbar, Elr, Spsr, Esr, Far, Vpidr, Vmpidr, Par}
+use Rattle.sysreg.specs.declared.{regs.El.El, regs.SysReg.SysReg}
+use Rattle.sysreg.specs.declared.regs.SysReg.the-variants.{Vbar, Spsr, Esr, Vpidr}
 use Rattle.sysreg.specs.Write.{kept, inPlace, spsrKept}
 
 -- a mask in two parts, from bit k up and below it
@@ -54,20 +53,4 @@ module _ (r : SysReg) (v x : ℕ) where
   pub keeps-vpidr : r ≡ Vpidr → x ≡ v % 2 ^ 32 → x ≡ kept r v
   keeps-vpidr e q = rw e q
 
-module _ (r : SysReg) (v : ℕ) where
-  pub keeps-mair : (el : El) → r ≡ Mair el → v ≡ kept r v
-  keeps-mair el e = rw e
-
-  pub keeps-elr : (el : El) → r ≡ Elr el → v ≡ kept r v
-  keeps-elr el e = rw e
-
-  pub keeps-far : (el : El) → r ≡ Far el → v ≡ kept r v
-  keeps-far el e = rw e
-
-  pub keeps-vmpidr : r ≡ Vmpidr → v ≡ kept r v
-  keeps-vmpidr e = rw e
-
-  pub keeps-par : r ≡ Par → v ≡ kept r v
-  keeps-par e = rw e
-
-pub ruleset keeps = (keeps-vbar, keeps-spsr, keeps-esr, keeps-vpidr, keeps-mair, keeps-elr, keeps-far, keeps-vmpidr, keeps-par, spsr-mask, vbar-mask, low-mask)
+pub ruleset keeps = (keeps-vbar, keeps-spsr, keeps-esr, keeps-vpidr, spsr-mask, vbar-mask, low-mask)

@@ -4,13 +4,10 @@ use mathlib.Core.List.{List, [], _∷_}
 use Prim.Native.Nat.{ℕ}
 use native.Mathlib.Omega.{arith}
 use lib.ListN.{length, set}
-use Rattle.sysreg.specs.declared.regs.Control.{Control}
-use Rattle.sysreg.specs.declared.regs.SysRegs.{SysRegs}
-use Rattle.sysreg.specs.declared.regs.El.{El}
+use Rattle.sysreg.specs.declared.{regs.Control.Control, regs.SysRegs.SysRegs, regs.El.El}
+use Rattle.sysreg.specs.declared.{regs.ControlReg.ControlReg, regs.SysReg.SysReg}
 use Rattle.sysreg.specs.declared.regs.El.the-variants.{El1, El2, El3}
-use Rattle.sysreg.specs.declared.regs.ControlReg.{ControlReg}
 use Rattle.sysreg.specs.declared.regs.ControlReg.the-variants.{Sctlr, Tcr, Ttbr0, Ttbr1, Scr, Hcr}
-use Rattle.sysreg.specs.declared.regs.SysReg.{SysReg}
 use Rattle.sysreg.specs.declared.regs.SysReg.the-variants.{Mair, Vbar, Elr, Spsr, Esr, Far, Vpidr, Vmpidr, Par}
 use Rattle.sysreg.specs.Regs.{levelOf}
 use Rattle.sysreg.specs.Write.{kept, bank, controlWith, sysWith}
@@ -131,7 +128,8 @@ module _ (s : SysRegs) (h0 : length (s .mair) ≡ 4) (h1 : length (s .vbar) ≡ 
     (h3 : length (s .spsr) ≡ 4) (h4 : length (s .esr) ≡ 4) (h5 : length (s .far) ≡ 4)
     (v : ℕ) (r : SysReg) where
   fullSysRegs : s
-      ≡ system (plain (s .mair)) (plain (s .vbar)) (plain (s .elr)) (plain (s .spsr)) (plain (s .esr)) (plain (s .far)) (s .«vpidr_el2») (s .«vmpidr_el2») (s .«par_el1»)
+      ≡ system (plain (s .mair)) (plain (s .vbar)) (plain (s .elr)) (plain (s .spsr)) (plain (s .esr)) (plain (s .far)) (s .«vpidr_el2») (s .«vmpidr_el2»)
+      (s .«par_el1»)
   fullSysRegs j =
       system (four (s .mair) h0 j) (four (s .vbar) h1 j) (four (s .elr) h2 j) (four (s .spsr) h3 j) (four (s .esr) h4 j) (four (s .far) h5 j)
       (s .«vpidr_el2») (s .«vmpidr_el2») (s .«par_el1»)

@@ -1,19 +1,15 @@
 -- How the manual encodes each register, and the register that an encoding names.
-use mathlib.Core.Bool.{Bool, true, false}
 use mathlib.Core.List.{List, [], _∷_, _++_}
 use Prim.Native.Nat.{ℕ, _+_, _*_, _%_, _^_}
 use lib.Bits.{bitOr}
 use lib.Dec.{eqb}
 use Rattle.word.specs.Bits.{pick}
-use Rattle.sysreg.specs.declared.regs.El.{El}
+use Rattle.sysreg.specs.declared.{regs.El.El, regs.ControlReg.ControlReg, regs.SysReg.SysReg}
+use Rattle.sysreg.specs.declared.{regs.Register.Register, encoding.Found.Found}
 use Rattle.sysreg.specs.declared.regs.El.the-variants.{El1, El2, El3}
-use Rattle.sysreg.specs.declared.regs.ControlReg.{ControlReg}
 use Rattle.sysreg.specs.declared.regs.ControlReg.the-variants.{Sctlr, Tcr, Ttbr0, Ttbr1, Scr, Hcr}
-use Rattle.sysreg.specs.declared.regs.SysReg.{SysReg}
 use Rattle.sysreg.specs.declared.regs.SysReg.the-variants.{Mair, Vbar, Elr, Spsr, Esr, Far, Vpidr, Vmpidr, Par}
-use Rattle.sysreg.specs.declared.regs.Register.{Register}
 use Rattle.sysreg.specs.declared.regs.Register.the-variants.{InControl, InSys}
-use Rattle.sysreg.specs.declared.encoding.Found.{Found}
 use Rattle.sysreg.specs.declared.encoding.Found.the-variants.{At, Nothing}
 
 -- op0:op1:CRn:CRm:op2, fields of 2, 3, 4, 4 and 3 bits

@@ -1,15 +1,11 @@
 -- The registers kept: where each stands, and what it holds after reset.
-use mathlib.Core.Bool.{Bool, true, false}
 use mathlib.Core.List.{List, [], _∷_}
 use Prim.Native.Nat.{ℕ}
 use lib.ListN.{getD}
-use Rattle.sysreg.specs.declared.regs.Control.{Control}
-use Rattle.sysreg.specs.declared.regs.SysRegs.{SysRegs}
-use Rattle.sysreg.specs.declared.regs.El.{El}
+use Rattle.sysreg.specs.declared.{regs.Control.Control, regs.SysRegs.SysRegs, regs.El.El}
+use Rattle.sysreg.specs.declared.{regs.ControlReg.ControlReg, regs.SysReg.SysReg}
 use Rattle.sysreg.specs.declared.regs.El.the-variants.{El1, El2, El3}
-use Rattle.sysreg.specs.declared.regs.ControlReg.{ControlReg}
 use Rattle.sysreg.specs.declared.regs.ControlReg.the-variants.{Sctlr, Tcr, Ttbr0, Ttbr1, Scr, Hcr}
-use Rattle.sysreg.specs.declared.regs.SysReg.{SysReg}
 use Rattle.sysreg.specs.declared.regs.SysReg.the-variants.{Mair, Vbar, Elr, Spsr, Esr, Far, Vpidr, Vmpidr, Par}
 
 abbrev pub levelOf : El → ℕ

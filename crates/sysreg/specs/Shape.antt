@@ -4,12 +4,10 @@ use mathlib.Core.List.{List, [], _∷_}
 use Prim.Native.Nat.{ℕ}
 use lib.Dec.{eqb}
 use Rattle.word.specs.Bits.{field, pick}
-use Rattle.sysreg.specs.declared.regs.Control.{Control}
+use Rattle.sysreg.specs.declared.{regs.Control.Control, regs.ControlReg.ControlReg, encoding.Found.Found}
 use Rattle.sysreg.specs.declared.regs.El.the-variants.{El1, El2, El3}
-use Rattle.sysreg.specs.declared.regs.ControlReg.{ControlReg}
 use Rattle.sysreg.specs.declared.regs.ControlReg.the-variants.{Sctlr, Tcr, Ttbr0, Ttbr1, Scr, Hcr}
 use Rattle.sysreg.specs.declared.regs.Register.the-variants.{InControl, InSys}
-use Rattle.sysreg.specs.declared.encoding.Found.{Found}
 use Rattle.sysreg.specs.declared.encoding.Found.the-variants.{At, Nothing}
 use Rattle.sysreg.specs.Regs.{controlAt}
 use Rattle.sysreg.specs.Encoding.{controlKey}

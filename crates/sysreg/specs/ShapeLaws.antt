@@ -1,21 +1,18 @@
 -- Laws of the shape and of the ASID, for the cache and its history.
 use mathlib.Core.Path.{_≡_, refl, sym}
-use mathlib.Core.Bool.{Bool, true, false, _&&_, _||_, false≢true}
+use mathlib.Core.Bool.{Bool, true, false, _||_, false≢true}
 use mathlib.Core.List.{List, [], _∷_}
 use Prim.Native.Nat.{ℕ, _^_, _<_}
 use native.Mathlib.Omega.{arith}
 use lib.Dec.{eqb}
 use borrow.Author.Tests.{eqb-true, eq-eqb, not-true}
 use Rattle.word.specs.Bits.{field, pick}
-use Rattle.sysreg.specs.declared.regs.Control.{Control}
-use Rattle.sysreg.specs.declared.regs.SysRegs.{SysRegs}
-use Rattle.sysreg.specs.declared.regs.El.{El}
+use Rattle.word.specs.BitLaws.{both}
+use Rattle.sysreg.specs.declared.{regs.Control.Control, regs.SysRegs.SysRegs, regs.El.El}
+use Rattle.sysreg.specs.declared.{regs.ControlReg.ControlReg, regs.Register.Register, encoding.Found.Found}
 use Rattle.sysreg.specs.declared.regs.El.the-variants.{El1, El2, El3}
-use Rattle.sysreg.specs.declared.regs.ControlReg.{ControlReg}
 use Rattle.sysreg.specs.declared.regs.ControlReg.the-variants.{Sctlr, Tcr, Ttbr0, Ttbr1, Scr, Hcr}
-use Rattle.sysreg.specs.declared.regs.Register.{Register}
 use Rattle.sysreg.specs.declared.regs.Register.the-variants.{InControl, InSys}
-use Rattle.sysreg.specs.declared.encoding.Found.{Found}
 use Rattle.sysreg.specs.declared.encoding.Found.the-variants.{At, Nothing}
 use Rattle.sysreg.specs.declared.write.WriteAnswer.the-variants.{Undefined}
 use Rattle.sysreg.specs.Regs.{controlAt}
@@ -34,10 +31,6 @@ pub record SameShape (a b : Control) : Type 0 where
   pub ttbr0-el3 : controlAt a (Ttbr0 El3) ≡ controlAt b (Ttbr0 El3)
   pub hcr : controlAt a Hcr ≡ controlAt b Hcr
   pub scr : controlAt a Scr ≡ controlAt b Scr
-
-both : (x y : Bool) → (x && y) ≡ true → (x ≡ true) × (y ≡ true)
-both true y e = (refl, e)
-both false y e = absurd (false≢true e)
 
 module _ (a b : Control) where
   -- what a list of registers holds in both

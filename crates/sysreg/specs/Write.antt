@@ -5,21 +5,15 @@ use Prim.Native.Nat.{ℕ, _+_, _*_, _%_, _^_}
 use lib.Dec.{eqb}
 use lib.ListN.{getD}
 use Rattle.word.specs.Bits.{field, alignDown, pick}
-use Rattle.sysreg.specs.declared.regs.Control.{Control}
-use Rattle.sysreg.specs.declared.regs.SysRegs.{SysRegs}
-use Rattle.sysreg.specs.declared.regs.El.{El}
+use Rattle.sysreg.specs.declared.{regs.Control.Control, regs.SysRegs.SysRegs, regs.El.El}
+use Rattle.sysreg.specs.declared.{regs.ControlReg.ControlReg, regs.SysReg.SysReg, regs.Register.Register}
+use Rattle.sysreg.specs.declared.{encoding.Found.Found, write.WriteAnswer.WriteAnswer, write.Written.Written}
 use Rattle.sysreg.specs.declared.regs.El.the-variants.{El1, El2, El3}
-use Rattle.sysreg.specs.declared.regs.ControlReg.{ControlReg}
 use Rattle.sysreg.specs.declared.regs.ControlReg.the-variants.{Sctlr, Tcr, Ttbr0, Ttbr1, Scr, Hcr}
-use Rattle.sysreg.specs.declared.regs.SysReg.{SysReg}
 use Rattle.sysreg.specs.declared.regs.SysReg.the-variants.{Mair, Vbar, Elr, Spsr, Esr, Far, Vpidr, Vmpidr, Par}
-use Rattle.sysreg.specs.declared.regs.Register.{Register}
 use Rattle.sysreg.specs.declared.regs.Register.the-variants.{InControl, InSys}
-use Rattle.sysreg.specs.declared.encoding.Found.{Found}
 use Rattle.sysreg.specs.declared.encoding.Found.the-variants.{At, Nothing}
-use Rattle.sysreg.specs.declared.write.WriteAnswer.{WriteAnswer}
 use Rattle.sysreg.specs.declared.write.WriteAnswer.the-variants.{Done, Undefined, NoRegister}
-use Rattle.sysreg.specs.declared.write.Written.{Written}
 use Rattle.sysreg.specs.Encoding.{controlKey, sysKey, registerAt}
 
 -- the n bits of v from bit lo up, at their place

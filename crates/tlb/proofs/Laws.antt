@@ -12,19 +12,11 @@ use Rattle.tlb.specs.Cache.{blanks, hintless, renewed, entryAt, setEntry
 use Rattle.tlb.specs.Tlb.{getOf, putOf, retagOf, dropAsidOf, sameInval, pendingAfter}
 use Rattle.tlb.specs.Step.{withTranslation, withFetch}
 use Rattle.tlb.specs.Lists.{getD-any}
-use Rattle.tlb.specs.declared.entry.Entry.{Entry}
-use Rattle.tlb.specs.declared.entry.Current.{Current}
-use Rattle.tlb.specs.declared.hint.Hint.{Hint}
-use Rattle.tlb.specs.declared.hint.FetchHint.{FetchHint}
+use Rattle.tlb.specs.declared.{entry.Entry.Entry, entry.Current.Current, hint.Hint.Hint, hint.FetchHint.FetchHint}
+use Rattle.tlb.specs.declared.{cache.Cache.Cache, count.Counts.Counts, cells.Translation.Translation}
+use Rattle.tlb.specs.declared.{cells.FetchTranslation.FetchTranslation, Tlb.Tlb, Inval.Inval, Pending.Pending}
 use Rattle.tlb.specs.declared.hint.HintAnswer.the-variants.{At, Unknown}
-use Rattle.tlb.specs.declared.cache.Cache.{Cache}
-use Rattle.tlb.specs.declared.count.Counts.{Counts}
-use Rattle.tlb.specs.declared.cells.Translation.{Translation}
-use Rattle.tlb.specs.declared.cells.FetchTranslation.{FetchTranslation}
-use Rattle.tlb.specs.declared.Tlb.{Tlb}
-use Rattle.tlb.specs.declared.Inval.{Inval}
 use Rattle.tlb.specs.declared.Inval.the-variants.{All}
-use Rattle.tlb.specs.declared.Pending.{Pending}
 use Rattle.tlb.specs.declared.Pending.the-variants.{Nothing, Some}
 use Rattle.tlb.specs.declared.Found.the-variants.{Hit, Missing}
 

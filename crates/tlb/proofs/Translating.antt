@@ -10,36 +10,24 @@ use Rattle.fault.specs.declared.Fault.{Fault}
 use Rattle.walk.specs.Regime.{stage1On, regimeOf}
 use Rattle.walk.specs.Tag.{untagged}
 use Rattle.walk.specs.Walk.{walkOf}
-use Rattle.walk.specs.declared.regime.Regime.{Regime}
+use Rattle.walk.specs.declared.{regime.Regime.Regime, regime.Bank.Bank, level.Leaf.Leaf, level.Walked.Walked}
 use Rattle.walk.specs.declared.regime.Regime.the-variants.{El1}
-use Rattle.walk.specs.declared.regime.Bank.{Bank}
-use Rattle.walk.specs.declared.level.Leaf.{Leaf}
-use Rattle.walk.specs.declared.level.Walked.{Walked}
 use Rattle.walk.specs.declared.level.Walked.the-variants.{Mapped}
 use Rattle.tlb.specs.Entry.{blank, serves}
 use Rattle.tlb.specs.Hint.{onPage, hintKey, hintFor, fetchFor, fetchFound}
 use Rattle.tlb.specs.Count.{hitCounted, walkCounted}
 use Rattle.tlb.specs.Access.{isFetch, mayHint, countsAsUser, userOf, tagOf, rightOf, hasRight, judged}
-use Rattle.tlb.specs.Resolve.{askOf, entryFor, byEntry, byWalk, resolveWith, resolveOf, changesOf, countedBy, keptBy, hintAfter, fetchAfter}
+use Rattle.tlb.specs.Resolve.{queryOf, askOf, entryFor, byEntry, byWalk, resolveWith, resolveOf, changesOf, countedBy, keptBy, hintAfter, fetchAfter}
 use Rattle.tlb.specs.Translate.{missOf, applied, translationWith, translationOf, fetchApplied, fetchEnd, fetchWith, fetchOf, changes-are}
-use Rattle.tlb.specs.declared.entry.Entry.{Entry}
-use Rattle.tlb.specs.declared.entry.Current.{Current}
-use Rattle.tlb.specs.declared.access.Kind.{Kind}
+use Rattle.tlb.specs.declared.{entry.Entry.Entry, entry.Current.Current, access.Kind.Kind, hint.Hint.Hint}
+use Rattle.tlb.specs.declared.{hint.FetchHint.FetchHint, hint.HintAnswer.HintAnswer, count.Counts.Counts}
+use Rattle.tlb.specs.declared.{access.Privilege.Privilege, access.Answer.Answer, resolve.Source.Source}
+use Rattle.tlb.specs.declared.{resolve.Query.Query, resolve.Asked.Asked, resolve.Resolved.Resolved}
 use Rattle.tlb.specs.declared.access.Kind.the-variants.{Fetch}
-use Rattle.tlb.specs.declared.hint.Hint.{Hint}
-use Rattle.tlb.specs.declared.hint.FetchHint.{FetchHint}
-use Rattle.tlb.specs.declared.hint.HintAnswer.{HintAnswer}
 use Rattle.tlb.specs.declared.hint.HintAnswer.the-variants.{At, Unknown}
-use Rattle.tlb.specs.declared.count.Counts.{Counts}
-use Rattle.tlb.specs.declared.access.Privilege.{Privilege}
-use Rattle.tlb.specs.declared.access.Answer.{Answer}
 use Rattle.tlb.specs.declared.access.Answer.the-variants.{Address, Status}
-use Rattle.tlb.specs.declared.resolve.Source.{Source}
 use Rattle.tlb.specs.declared.resolve.Source.the-variants.{FromHint, FromFlat, FromEntry, FromWalk, NoLeaf}
-use Rattle.tlb.specs.declared.resolve.Query.{Query}
-use Rattle.tlb.specs.declared.resolve.Asked.{Asked}
 use Rattle.tlb.specs.declared.resolve.Asked.the-variants.{Flat, Of}
-use Rattle.tlb.specs.declared.resolve.Resolved.{Resolved}
 
 pub hinting : (privilege : Privilege) (kind : Kind) (f : Bool) → f ≡ isFetch kind → not f && not (privilege .unprivileged) ≡ mayHint privilege kind
 hinting privilege kind f e = rw e
@@ -69,11 +57,14 @@ module _ (e : Entry) (user : Bool) (kind : Kind) (va right : ℕ) (er : right �
   refused f b ef = rw (← er, b, ef)
 
 -- what is asked, and the changes
+pub query-is : (s : Bank) (r : Regime) (va page tag : ℕ) → page ≡ untagged (s .tcr) r va → tag ≡ tagOf r page
+    → record { regime = r; page = page; tag = tag } ≡ queryOf r (untagged (s .tcr) r va)
+query-is s r va page tag ep et = rw (et, ep)
+
 module _ (s : Bank) (privilege : Privilege) (va : ℕ) (r : Regime) (on : Bool) (er : r ≡ regimeOf (privilege .level)) (eo : on ≡ stage1On s r) where
-  pub asked : (page tag : ℕ) → on ≡ true → page ≡ untagged (s .tcr) r va → tag ≡ tagOf r page
-      → Of (record { regime = r; page = page; tag = tag }) ≡ askOf s privilege va
+  pub asked : (q : Query) → on ≡ true → q ≡ queryOf r (untagged (s .tcr) r va) → Of q ≡ askOf s privilege va
   unfolding askOf
-  asked page tag o ep et = rw (← er, ← eo, o, ← ep, et)
+  asked q o eq = rw (← er, ← eo, o, eq)
 
   pub unasked : on ≡ false → Flat ≡ askOf s privilege va
   unfolding askOf
@@ -94,7 +85,8 @@ pub walk-made : (w v : Walked) (q : Query) (privilege : Privilege) (at : Current
     → t ≡ byWalk w q privilege at va kind → t ≡ byWalk v q privilege at va kind
 walk-made w v q privilege at kind va t e p = rw e at p
 
-pub entry-judges : (q : Query) (privilege : Privilege) (e : Entry) (va : ℕ) (kind : Kind) (u : Bool) (a : Answer) (m : Entry) → u ≡ userOf (q .regime) privilege kind
+pub entry-judges : (q : Query) (privilege : Privilege) (e : Entry) (va : ℕ) (kind : Kind) (u : Bool) (a : Answer) (m : Entry) → u
+    ≡ userOf (q .regime) privilege kind
     → a ≡ judged e u kind va → m ≡ blank → record { answer = a; source = FromEntry; made = m } ≡ byEntry q privilege e va kind
 entry-judges q privilege e va kind u a m eu ea em = rw (ea, eu, em)
 
@@ -136,7 +128,8 @@ module _ (level va : ℕ) (a : Answer) (old : FetchHint) where
   fetch-faulted f ea = rw ea
 
 -- a translation that no hint serves
-module _ (s : Bank) (privilege : Privilege) (at : Current) (e : Entry) (va : ℕ) (kind : Kind) (memory : ℕ → Word) (a : Asked) (ea : a ≡ askOf s privilege va) where
+module _ (s : Bank) (privilege : Privilege) (at : Current) (e : Entry) (va : ℕ) (kind : Kind) (memory : ℕ → Word) (a : Asked)
+    (ea : a ≡ askOf s privilege va) where
   pub when-off : (m : Entry) → a ≡ Flat → m ≡ blank
       → record { answer = Address va; source = FromFlat; made = m } ≡ missOf s privilege at e va kind memory
   when-off m f em =

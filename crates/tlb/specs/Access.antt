@@ -8,11 +8,9 @@ use Rattle.fault.specs.First.{first}
 use Rattle.walk.specs.declared.regime.Regime.{Regime}
 use Rattle.walk.specs.declared.regime.Regime.the-variants.{El1, El2, El3}
 use Rattle.tlb.specs.Hint.{onPage}
-use Rattle.tlb.specs.declared.entry.Entry.{Entry}
-use Rattle.tlb.specs.declared.access.Kind.{Kind}
-use Rattle.tlb.specs.declared.access.Kind.the-variants.{Read, Write, Fetch}
-use Rattle.tlb.specs.declared.access.Privilege.{Privilege}
+use Rattle.tlb.specs.declared.{entry.Entry.Entry, access.Kind.Kind, access.Privilege.Privilege}
 use Rattle.tlb.specs.declared.access.Answer.{Answer}
+use Rattle.tlb.specs.declared.access.Kind.the-variants.{Read, Write, Fetch}
 use Rattle.tlb.specs.declared.access.Answer.the-variants.{Address, Status}
 
 abbrev pub isFetch : Kind → Bool

@@ -5,11 +5,9 @@ use mathlib.Core.List.{List, [], _∷_}
 use Prim.Native.Nat.{ℕ}
 use Rattle.tlb.specs.Model.{Access}
 use Rattle.tlb.specs.Step.{translationIn, tlbAfter, fetchIn, fetchedIn}
-use Rattle.tlb.specs.declared.access.Kind.{Kind}
+use Rattle.tlb.specs.declared.{access.Kind.Kind, access.Answer.Answer, Tlb.Tlb}
 use Rattle.tlb.specs.declared.access.Kind.the-variants.{Fetch}
-use Rattle.tlb.specs.declared.access.Answer.{Answer}
 use Rattle.tlb.specs.declared.access.Answer.the-variants.{Address, Status}
-use Rattle.tlb.specs.declared.Tlb.{Tlb}
 
 -- One translation: of a kind, alone or in a load, a store or a zeroing; or the one that a fetch begins with, which asks
 -- the fetch hint.

@@ -6,10 +6,7 @@ use lib.ListN.{getD, set, replicate}
 use Rattle.word.specs.Bits.{pick}
 use Rattle.tlb.specs.Entry.{blank, pageDropped, asidDropped}
 use Rattle.tlb.specs.Hint.{noHint, noFetch}
-use Rattle.tlb.specs.declared.entry.Entry.{Entry}
-use Rattle.tlb.specs.declared.entry.Current.{Current}
-use Rattle.tlb.specs.declared.hint.Hint.{Hint}
-use Rattle.tlb.specs.declared.hint.FetchHint.{FetchHint}
+use Rattle.tlb.specs.declared.{entry.Entry.Entry, entry.Current.Current, hint.Hint.Hint, hint.FetchHint.FetchHint}
 use Rattle.tlb.specs.declared.cache.Cache.{Cache}
 
 unfoldable pub blanks : List Entry

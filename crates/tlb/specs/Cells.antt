@@ -14,17 +14,13 @@ use Rattle.walk.specs.declared.regime.Regime.the-variants.{El1, El2, El3}
 use Rattle.tlb.specs.Entry.{serves, untagged, spanOf, pageDropped, asidDropped}
 use Rattle.tlb.specs.Hint.{onPage, hintKey, hintFor, fetchServes, fetchFor}
 use Rattle.tlb.specs.Access.{isFetch, mayHint, regimeNumber, ifTwoRanges, userOf, rightOf, hasRight, judged}
-use Rattle.tlb.specs.Model.{Slot, empty, holds, Line, reachOf, reaches, belongsTo, spanBits, covers, uncovered, sameRegime, serving, knowing, Access, asUser, need, needIn, judge, hintable}
+use Rattle.tlb.specs.Model.{Slot, empty, holds, Line, reachOf, reaches, belongsTo, spanBits, covers, uncovered, sameRegime, serving, knowing, Access}
+use Rattle.tlb.specs.Model.{asUser, need, needIn, judge, hintable}
 use Rattle.tlb.specs.Live.{lineIn, tagged, lineOf, hintOf, fetchHintOf, Made}
-use Rattle.tlb.specs.declared.entry.Entry.{Entry}
-use Rattle.tlb.specs.declared.entry.Current.{Current}
-use Rattle.tlb.specs.declared.access.Kind.{Kind}
+use Rattle.tlb.specs.declared.{entry.Entry.Entry, entry.Current.Current, access.Kind.Kind, hint.Hint.Hint}
+use Rattle.tlb.specs.declared.{hint.FetchHint.FetchHint, access.Privilege.Privilege, Inval.Inval}
 use Rattle.tlb.specs.declared.access.Kind.the-variants.{Read, Write, Fetch}
-use Rattle.tlb.specs.declared.hint.Hint.{Hint}
-use Rattle.tlb.specs.declared.hint.FetchHint.{FetchHint}
-use Rattle.tlb.specs.declared.access.Privilege.{Privilege}
 use Rattle.tlb.specs.declared.access.Answer.the-variants.{Address, Status}
-use Rattle.tlb.specs.declared.Inval.{Inval}
 use Rattle.tlb.specs.declared.Inval.the-variants.{All, Page, Asid}
 
 pub and-false : (x : Bool) → x && false ≡ false

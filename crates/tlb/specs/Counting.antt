@@ -4,7 +4,8 @@ use mathlib.Core.Bool.{Bool, true, false}
 use Prim.Native.Nat.{ℕ, _/_}
 use Rattle.walk.specs.declared.level.Walked.{Walked}
 use Rattle.walk.specs.declared.level.Walked.the-variants.{Mapped, Fault}
-use Rattle.tlb.specs.Model.{Slot, empty, holds, Line, Counters, Model, oneHit, oneWalk, lineFor, keep, hintPlace, knowing, Access, Outcome, walked, looked, unhinted, noting, noted, tried, hinted, hintable, translate, notingFetch, notedFetch, fetched, fetch}
+use Rattle.tlb.specs.Model.{Slot, empty, holds, Line, Counters, Model, oneHit, oneWalk, lineFor, keep, hintPlace, knowing, Access, Outcome, walked}
+use Rattle.tlb.specs.Model.{looked, unhinted, noting, noted, tried, hinted, hintable, translate, notingFetch, notedFetch, fetched, fetch}
 use Rattle.tlb.specs.declared.access.Answer.{Answer}
 use Rattle.tlb.specs.declared.access.Answer.the-variants.{Address, Status}
 

@@ -3,8 +3,7 @@ use mathlib.Core.Bool.{Bool, true, false, not, _&&_, _||_}
 use Prim.Native.Nat.{ℕ, _/_, _%_, _^_}
 use lib.Dec.{eqb}
 use Rattle.word.specs.Bits.{pick}
-use Rattle.tlb.specs.declared.entry.Entry.{Entry}
-use Rattle.tlb.specs.declared.entry.Current.{Current}
+use Rattle.tlb.specs.declared.{entry.Entry.Entry, entry.Current.Current}
 
 -- an entry that answers for no tag
 abbrev pub blank : Entry

@@ -4,11 +4,9 @@ use Prim.Native.Nat.{ℕ, _+_, _-_, _*_, _/_, _%_, _^_}
 use lib.Dec.{eqb}
 use lib.Bits.{bitOr, bitXor}
 use Rattle.word.specs.Bits.{pick}
-use Rattle.tlb.specs.declared.access.Kind.{Kind}
-use Rattle.tlb.specs.declared.access.Kind.the-variants.{Read, Write, Fetch}
-use Rattle.tlb.specs.declared.hint.Hint.{Hint}
-use Rattle.tlb.specs.declared.hint.FetchHint.{FetchHint}
+use Rattle.tlb.specs.declared.{access.Kind.Kind, hint.Hint.Hint, hint.FetchHint.FetchHint}
 use Rattle.tlb.specs.declared.hint.HintAnswer.{HintAnswer}
+use Rattle.tlb.specs.declared.access.Kind.the-variants.{Read, Write, Fetch}
 use Rattle.tlb.specs.declared.hint.HintAnswer.the-variants.{At, Unknown}
 
 -- the hint that matches no key

@@ -5,24 +5,15 @@ use Prim.Native.Nat.{ℕ, zero, suc, _/_, _%_, _^_, _≤_, _<_}
 use lib.Dec.{eqb, leb}
 use lib.ListN.{getD, length}
 use Rattle.word.specs.Bits.{pick}
-use Rattle.walk.specs.declared.regime.Regime.{Regime}
+use Rattle.walk.specs.declared.{regime.Regime.Regime, level.Leaf.Leaf, level.Walked.Walked}
 use Rattle.walk.specs.declared.regime.Regime.the-variants.{El1, El2, El3}
-use Rattle.walk.specs.declared.level.Leaf.{Leaf}
-use Rattle.walk.specs.declared.level.Walked.{Walked}
 use Rattle.walk.specs.declared.level.Walked.the-variants.{Mapped}
 use Rattle.tlb.specs.Entry.{blank}
 use Rattle.tlb.specs.Hint.{noHint}
 use Rattle.tlb.specs.Lists.{Each}
 use Rattle.tlb.specs.Model.{Slot, empty, holds, Line, Known, Counters, Model, Outcome, reachOf}
-use Rattle.tlb.specs.declared.entry.Entry.{Entry}
-use Rattle.tlb.specs.declared.access.Answer.{Answer}
-use Rattle.tlb.specs.declared.hint.Hint.{Hint}
-use Rattle.tlb.specs.declared.hint.FetchHint.{FetchHint}
-use Rattle.tlb.specs.declared.count.Counts.{Counts}
-use Rattle.tlb.specs.declared.cache.Cache.{Cache}
-use Rattle.tlb.specs.declared.Tlb.{Tlb}
-use Rattle.tlb.specs.declared.Inval.{Inval}
-use Rattle.tlb.specs.declared.Pending.{Pending}
+use Rattle.tlb.specs.declared.{entry.Entry.Entry, access.Answer.Answer, hint.Hint.Hint, hint.FetchHint.FetchHint}
+use Rattle.tlb.specs.declared.{count.Counts.Counts, cache.Cache.Cache, Tlb.Tlb, Inval.Inval, Pending.Pending}
 use Rattle.tlb.specs.declared.Pending.the-variants.{Nothing, Some}
 
 -- what an entry says of its page, in the regime r

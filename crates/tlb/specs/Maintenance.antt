@@ -4,8 +4,7 @@ use Prim.Native.Nat.{ℕ}
 use lib.Dec.{eqb}
 use Rattle.word.specs.Bits.{pick}
 use Rattle.tlb.specs.Tlb.{flushOf, retagOf, invalidateOf, broadcastOf}
-use Rattle.tlb.specs.declared.Inval.{Inval}
-use Rattle.tlb.specs.declared.Tlb.{Tlb}
+use Rattle.tlb.specs.declared.{Inval.Inval, Tlb.Tlb}
 
 -- a TLBI is carried out, and where it reaches other cores it is left pending
 unfoldable pub invalidatedOf : Tlb → Inval → Bool → Tlb

@@ -5,8 +5,7 @@ use Prim.Native.Nat.{ℕ, _*_, _/_}
 use native.Mathlib.Omega.{arith}
 use lib.Seq.{set-getD}
 use Rattle.word.specs.Bits.{pick}
-use Rattle.walk.specs.declared.level.Leaf.{Leaf}
-use Rattle.walk.specs.declared.level.Walked.{Walked}
+use Rattle.walk.specs.declared.{level.Leaf.Leaf, level.Walked.Walked}
 use Rattle.walk.specs.declared.level.Walked.the-variants.{Mapped, Fault}
 use Rattle.tlb.specs.Entry.{blank, serves}
 use Rattle.tlb.specs.Count.{hitCounted, walkCounted}
@@ -20,12 +19,8 @@ use Rattle.tlb.specs.Live.{Follows, lineIn, live, Made, Sound, WellForme
 use Rattle.tlb.specs.Cells.{judged-is}
 use Rattle.tlb.specs.Refines.{blank-made, page-is, line-is, kept-lines, set-sound}
 use Rattle.tlb.specs.Step.{slotFor}
-use Rattle.tlb.specs.declared.entry.Entry.{Entry}
-use Rattle.tlb.specs.declared.count.Counts.{Counts}
-use Rattle.tlb.specs.declared.cache.Cache.{Cache}
-use Rattle.tlb.specs.declared.resolve.Query.{Query}
-use Rattle.tlb.specs.declared.resolve.Resolved.{Resolved}
-use Rattle.tlb.specs.declared.Tlb.{Tlb}
+use Rattle.tlb.specs.declared.{entry.Entry.Entry, count.Counts.Counts, cache.Cache.Cache, resolve.Query.Query}
+use Rattle.tlb.specs.declared.{resolve.Resolved.Resolved, Tlb.Tlb}
 
 -- a cell put back as it was
 same-entry : (c : Cache) (i : ℕ) → setEntry c i (entryAt c i) ≡ c

@@ -19,16 +19,10 @@ use Rattle.tlb.specs.Access.{regimeNumber}
 use Rattle.tlb.specs.Model.{Slot, empty, holds, Line, emptyModel, uncovered, invalidate, retag, equal, joined, broadcast, serving, lineFor, keep}
 use Rattle.tlb.specs.Live.{lineIn, lineOf, hintOf, fetchHintOf, pendingOf, linesOf, hintsOf, countersOf, live, Made, Aligned, Sound, WellFormed}
 use Rattle.tlb.specs.Cells.{same-pick, regime-low, found, line-made, page-drops, asid-drops, all-covered, flush-drops}
-use Rattle.tlb.specs.declared.entry.Entry.{Entry}
-use Rattle.tlb.specs.declared.entry.Current.{Current}
-use Rattle.tlb.specs.declared.count.Counts.{Counts}
-use Rattle.tlb.specs.declared.cache.Cache.{Cache}
-use Rattle.tlb.specs.declared.Tlb.{Tlb}
-use Rattle.tlb.specs.declared.Inval.{Inval}
+use Rattle.tlb.specs.declared.{entry.Entry.Entry, entry.Current.Current, count.Counts.Counts, cache.Cache.Cache}
+use Rattle.tlb.specs.declared.{Tlb.Tlb, Inval.Inval, Pending.Pending, Found.Found}
 use Rattle.tlb.specs.declared.Inval.the-variants.{All, Page, Asid}
-use Rattle.tlb.specs.declared.Pending.{Pending}
 use Rattle.tlb.specs.declared.Pending.the-variants.{Nothing, Some}
-use Rattle.tlb.specs.declared.Found.{Found}
 use Rattle.tlb.specs.declared.Found.the-variants.{Hit, Missing}
 
 -- WITHOUT HINTS

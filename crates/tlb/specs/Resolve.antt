@@ -8,30 +8,19 @@ use Rattle.fault.specs.First.{first}
 use Rattle.walk.specs.Regime.{stage1On, regimeOf}
 use Rattle.walk.specs.Tag.{untagged}
 use Rattle.walk.specs.Walk.{walkOf}
-use Rattle.walk.specs.declared.regime.Regime.{Regime}
-use Rattle.walk.specs.declared.regime.Bank.{Bank}
-use Rattle.walk.specs.declared.level.Leaf.{Leaf}
-use Rattle.walk.specs.declared.level.Walked.{Walked}
+use Rattle.walk.specs.declared.{regime.Regime.Regime, regime.Bank.Bank, level.Leaf.Leaf, level.Walked.Walked}
 use Rattle.walk.specs.declared.level.Walked.the-variants.{Mapped, Fault}
 use Rattle.tlb.specs.Access.{tagOf, userOf, judged}
 use Rattle.tlb.specs.Entry.{blank, serves}
 use Rattle.tlb.specs.Hint.{pageOf, hintFor, fetchFor}
 use Rattle.tlb.specs.Count.{hitCounted, walkCounted}
-use Rattle.tlb.specs.declared.entry.Entry.{Entry}
-use Rattle.tlb.specs.declared.entry.Current.{Current}
-use Rattle.tlb.specs.declared.access.Kind.{Kind}
-use Rattle.tlb.specs.declared.access.Privilege.{Privilege}
-use Rattle.tlb.specs.declared.access.Answer.{Answer}
+use Rattle.tlb.specs.declared.{entry.Entry.Entry, entry.Current.Current, access.Kind.Kind}
+use Rattle.tlb.specs.declared.{access.Privilege.Privilege, access.Answer.Answer, count.Counts.Counts}
+use Rattle.tlb.specs.declared.{hint.Hint.Hint, hint.FetchHint.FetchHint, resolve.Source.Source}
+use Rattle.tlb.specs.declared.{resolve.Query.Query, resolve.Asked.Asked, resolve.Resolved.Resolved}
 use Rattle.tlb.specs.declared.access.Answer.the-variants.{Address, Status}
-use Rattle.tlb.specs.declared.count.Counts.{Counts}
-use Rattle.tlb.specs.declared.hint.Hint.{Hint}
-use Rattle.tlb.specs.declared.hint.FetchHint.{FetchHint}
-use Rattle.tlb.specs.declared.resolve.Source.{Source}
 use Rattle.tlb.specs.declared.resolve.Source.the-variants.{FromHint, FromFlat, FromEntry, FromWalk, NoLeaf}
-use Rattle.tlb.specs.declared.resolve.Query.{Query}
-use Rattle.tlb.specs.declared.resolve.Asked.{Asked}
 use Rattle.tlb.specs.declared.resolve.Asked.the-variants.{Flat, Of}
-use Rattle.tlb.specs.declared.resolve.Resolved.{Resolved}
 
 -- an untagged address, in its regime, and the tag of its page
 abbrev pub queryOf : Regime → ℕ → Query

@@ -10,10 +10,8 @@ use Rattle.tlb.specs.Live.{countersOf, pendingOf, live, WellFormed, Leaf
 use Rattle.tlb.specs.Refines.{fresh-live, fresh-sound, invalidate-live, invalidate-sound, retag-live, retag-sound, broadcast-live, broadcast-sound}
 use Rattle.tlb.specs.Step.{translationIn, tlbAfter, fetchIn, fetchedIn}
 use Rattle.tlb.specs.Translations.{translation-follows, fetch-follows}
-use Rattle.tlb.specs.declared.access.Answer.{Answer}
+use Rattle.tlb.specs.declared.{access.Answer.Answer, Tlb.Tlb, Inval.Inval}
 use Rattle.tlb.specs.declared.access.Kind.the-variants.{Fetch}
-use Rattle.tlb.specs.declared.Tlb.{Tlb}
-use Rattle.tlb.specs.declared.Inval.{Inval}
 
 -- what can be asked of a cache; a flush is an All
 pub data Op : Type 0 where

@@ -11,12 +11,9 @@ use Rattle.tlb.specs.Tlb.{tlbWith}
 use Rattle.tlb.specs.Access.{tagOf}
 use Rattle.tlb.specs.Translate.{onNow, untaggedNow, walkNow, translationWith, fetchWith, translationOf, fetchOf}
 use Rattle.tlb.specs.Model.{Access}
-use Rattle.tlb.specs.declared.access.Kind.{Kind}
+use Rattle.tlb.specs.declared.{access.Kind.Kind, access.Privilege.Privilege, cells.Translation.Translation}
+use Rattle.tlb.specs.declared.{cells.FetchTranslation.FetchTranslation, Tlb.Tlb}
 use Rattle.tlb.specs.declared.access.Kind.the-variants.{Fetch}
-use Rattle.tlb.specs.declared.access.Privilege.{Privilege}
-use Rattle.tlb.specs.declared.cells.Translation.{Translation}
-use Rattle.tlb.specs.declared.cells.FetchTranslation.{FetchTranslation}
-use Rattle.tlb.specs.declared.Tlb.{Tlb}
 
 -- the access that registers and tables make of an address
 abbrev pub accessOf : Bank → Privilege → ℕ → Kind → (ℕ → Word) → Access

@@ -6,15 +6,10 @@ use Rattle.word.specs.Bits.{pick}
 use Rattle.tlb.specs.Entry.{slotOf, serves, stamped}
 use Rattle.tlb.specs.Count.{noCounts, epochCounted, flushCounted, dropCounted}
 use Rattle.tlb.specs.Cache.{emptyCache, entryAt, setEntry, flushed, withoutPage, withoutAsid, retagged}
-use Rattle.tlb.specs.declared.entry.Entry.{Entry}
-use Rattle.tlb.specs.declared.cache.Cache.{Cache}
-use Rattle.tlb.specs.declared.count.Counts.{Counts}
-use Rattle.tlb.specs.declared.Tlb.{Tlb}
-use Rattle.tlb.specs.declared.Inval.{Inval}
+use Rattle.tlb.specs.declared.{entry.Entry.Entry, cache.Cache.Cache, count.Counts.Counts, Tlb.Tlb, Inval.Inval}
+use Rattle.tlb.specs.declared.{Pending.Pending, Found.Found}
 use Rattle.tlb.specs.declared.Inval.the-variants.{All, Page, Asid}
-use Rattle.tlb.specs.declared.Pending.{Pending}
 use Rattle.tlb.specs.declared.Pending.the-variants.{Nothing, Some}
-use Rattle.tlb.specs.declared.Found.{Found}
 use Rattle.tlb.specs.declared.Found.the-variants.{Hit, Missing}
 
 abbrev pub fresh : Tlb

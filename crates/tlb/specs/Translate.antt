@@ -8,30 +8,20 @@ use Rattle.walk.specs.Regime.{stage1On, regimeOf}
 use Rattle.walk.specs.Tag.{untagged}
 use Rattle.walk.specs.Walk.{walkOf}
 use Rattle.word.specs.declared.ram.Word.{Word}
-use Rattle.walk.specs.declared.regime.Regime.{Regime}
-use Rattle.walk.specs.declared.regime.Bank.{Bank}
-use Rattle.walk.specs.declared.level.Walked.{Walked}
+use Rattle.walk.specs.declared.{regime.Regime.Regime, regime.Bank.Bank, level.Walked.Walked}
 use Rattle.tlb.specs.Access.{mayHint}
 use Rattle.tlb.specs.Hint.{onPage, hintKey, fetchFound}
 use Rattle.tlb.specs.Resolve.{queryOf, askWith, askOf, byItself, resolveWith, resolveOf, changesOf, countedBy, keptBy, hintAfter, fetchAfter}
-use Rattle.tlb.specs.declared.entry.Entry.{Entry}
-use Rattle.tlb.specs.declared.entry.Current.{Current}
-use Rattle.tlb.specs.declared.access.Kind.{Kind}
+use Rattle.tlb.specs.declared.{entry.Entry.Entry, entry.Current.Current, access.Kind.Kind, hint.Hint.Hint}
+use Rattle.tlb.specs.declared.{hint.FetchHint.FetchHint, hint.HintAnswer.HintAnswer, count.Counts.Counts}
+use Rattle.tlb.specs.declared.{access.Privilege.Privilege, resolve.Query.Query, resolve.Asked.Asked}
+use Rattle.tlb.specs.declared.{resolve.Resolved.Resolved, cells.Translation.Translation}
+use Rattle.tlb.specs.declared.cells.FetchTranslation.{FetchTranslation}
 use Rattle.tlb.specs.declared.access.Kind.the-variants.{Fetch}
-use Rattle.tlb.specs.declared.hint.Hint.{Hint}
-use Rattle.tlb.specs.declared.hint.FetchHint.{FetchHint}
-use Rattle.tlb.specs.declared.hint.HintAnswer.{HintAnswer}
 use Rattle.tlb.specs.declared.hint.HintAnswer.the-variants.{At, Unknown}
-use Rattle.tlb.specs.declared.count.Counts.{Counts}
-use Rattle.tlb.specs.declared.access.Privilege.{Privilege}
 use Rattle.tlb.specs.declared.access.Answer.the-variants.{Address}
 use Rattle.tlb.specs.declared.resolve.Source.the-variants.{FromHint}
-use Rattle.tlb.specs.declared.resolve.Query.{Query}
-use Rattle.tlb.specs.declared.resolve.Asked.{Asked}
 use Rattle.tlb.specs.declared.resolve.Asked.the-variants.{Flat, Of}
-use Rattle.tlb.specs.declared.resolve.Resolved.{Resolved}
-use Rattle.tlb.specs.declared.cells.Translation.{Translation}
-use Rattle.tlb.specs.declared.cells.FetchTranslation.{FetchTranslation}
 
 -- without a hint: with stage 1 off the address itself
 unfoldable pub missWith : Bool → ℕ → Walked → Regime → Privilege → Current → Entry → ℕ → Kind → Resolved

@@ -7,11 +7,11 @@ use Prim.Native.Nat.{ℕ}
 use Rattle.walk.specs.declared.regime.Regime.the-variants.{El1}
 use Rattle.walk.specs.declared.level.Walked.{Walked}
 use Rattle.walk.specs.declared.level.Walked.the-variants.{Mapped, Fault}
-use Rattle.tlb.specs.Model.{Slot, empty, holds, emptyModel, folded, keep, lineFor, judge, walked, looked, unhinted, noted, tried, hinted, translate, invalidate}
+use Rattle.tlb.specs.Model.{Slot, empty, holds, emptyModel, folded, keep, lineFor, judge, walked, looked, unhinted, noted, tried, hinted, translate}
+use Rattle.tlb.specs.Model.{invalidate}
 use Rattle.tlb.specs.Runs.{Op, invalidates, translates, Seen, modelRun}
-use Rattle.tlb.specs.declared.access.Kind.{Kind}
+use Rattle.tlb.specs.declared.{access.Kind.Kind, access.Answer.Answer}
 use Rattle.tlb.specs.declared.access.Kind.the-variants.{Read, Write}
-use Rattle.tlb.specs.declared.access.Answer.{Answer}
 use Rattle.tlb.specs.declared.access.Answer.the-variants.{Address, Status}
 use Rattle.tlb.specs.declared.Inval.the-variants.{All, Page, Asid}
 

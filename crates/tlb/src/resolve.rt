@@ -2,8 +2,9 @@
 // the cell so named.
 ghost use mathlib.Core.Path.{_≡_};
 ghost use Rattle.word.specs.Ram.{wordAt};
+ghost use Rattle.walk.specs.Tag.{untagged};
 ghost use Rattle.walk.specs.Walk.{walkOf};
-ghost use Rattle.tlb.specs.Resolve.{askOf, entryFor, byEntry, byWalk, resolveOf};
+ghost use Rattle.tlb.specs.Resolve.{queryOf, askOf, entryFor, byEntry, byWalk, resolveOf};
 use crate::access;
 use crate::access::Answer;
 use crate::access::Kind;
@@ -46,6 +47,15 @@ pub struct Resolved {
     pub made: Entry,
 }
 
+// What an address asks in a regime: itself untagged, and the tag of its page.
+pub fn query_of(s: Bank, regime: Regime, va: u64) -> Query
+    ensures { λ r. ⌜ r ≡ queryOf regime (untagged (s .tcr) regime va) ⌝ }
+{
+    let page = walk::tag::untag(s.tcr, regime, va);
+    let tag = access::tag_of(regime, page);
+    Query { regime, page, tag }
+}
+
 // What is asked of the cache.
 pub fn ask(s: Bank, privilege: Privilege, va: u64) -> Asked
     ensures { λ r. ⌜ r ≡ askOf s privilege va ⌝ }
@@ -53,9 +63,8 @@ pub fn ask(s: Bank, privilege: Privilege, va: u64) -> Asked
     let regime = walk::regime::regime_of(privilege.level);
     let on = walk::regime::stage1_on(s, regime);
     if on {
-        let page = walk::tag::untag(s.tcr, regime, va);
-        let tag = access::tag_of(regime, page);
-        Asked::Of(Query { regime, page, tag })
+        let q = query_of(s, regime, va);
+        Asked::Of(q)
     } else {
         Asked::Flat
     }

@@ -12,12 +12,10 @@ use Rattle.sysop.specs.declared.op.SysOp.{SysOp}
 use Rattle.sysop.specs.declared.op.SysOp.the-variants as Op
 use Rattle.mmu.specs.Bare.{Bare, bareOf}
 use Rattle.mmu.specs.declared.core.Core.{Core}
-use Rattle.operations.specs.declared.ends.StoreAnswer.{StoreAnswer}
+use Rattle.operations.specs.declared.{ends.StoreAnswer.StoreAnswer, call.Encoding.Encoding, call.Call.Call}
 use Rattle.operations.specs.declared.ends.StoreAnswer.the-variants as Store
 use Rattle.exec.specs.Sys.{zeroOf, zeroRam}
 use Rattle.operations.specs.Replies.{storing}
-use Rattle.operations.specs.declared.call.Encoding.{Encoding}
-use Rattle.operations.specs.declared.call.Call.{Call}
 use Rattle.operations.specs.declared.call.Call.the-variants.{Translate, DataPa, FetchPa, Load, Store, Fetch, System, Register, Level, Mark, General, Abort}
 use Rattle.history.specs.World.{onNow, uncached}
 use Rattle.history.specs.History.{Event, steps}
@@ -26,9 +24,11 @@ use Rattle.history.specs.Instance.{Ram, real}
 use Rattle.transparency.specs.Bare.{plainIn, opIn, operandIn, Ruling, allowed, number, undefined, unimplemented, rulingIn, refusalOf, ifAllowed}
 use Rattle.transparency.specs.Events.{idle, accessIn, sizedIn, zeroSteps, sysSteps, stepsIn, eventsIn}
 use Rattle.transparency.specs.Starts.{ramWith, ramZeroed, zeroLater, sysLater, laterOf, laterIn}
-use Rattle.transparency.specs.Replies.{Outcome, outcome, outcomeOf, storeSays, loadSized, storeSized, sysSays, callSays, bareAnswers, bareZeroOne, onDone, bareZero, bareSys, bareCall, bareReply}
+use Rattle.transparency.specs.Replies.{Outcome, outcome, outcomeOf, storeSays, loadSized, storeSized, sysSays, callSays, bareAnswers, bareZeroOne, onDone}
+use Rattle.transparency.specs.Replies.{bareZero, bareSys, bareCall, bareReply}
 use Rattle.transparency.specs.Bridge.{stored-bare, stored-tlb}
-use Rattle.transparency.specs.Answered.{one-page, next-aligned, start-aligned, accessGiven, store-answered, zeroOutcome, zeroGiven, storeEnds, coreThen, tlbThen, storeGiven, one-given, one-outcome, zero-said, reply-is}
+use Rattle.transparency.specs.Answered.{one-page, next-aligned, start-aligned, accessGiven, store-answered, zeroOutcome, zeroGiven, storeEnds, coreThen}
+use Rattle.transparency.specs.Answered.{tlbThen, storeGiven, one-given, one-outcome, zero-said, reply-is}
 
 cons-head : {g h : Given} {l k : List Given} → _≡_ {A = List Given} (g ∷ l) (h ∷ k) → g ≡ h
 cons-head e = cc

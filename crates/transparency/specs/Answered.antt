@@ -10,14 +10,12 @@ use Rattle.word.specs.Bits.{alignDown, wrap}
 use Rattle.word.specs.Ram.{widthOf, bytesIn}
 use Rattle.word.specs.declared.ram.Sized.{Sized}
 use Rattle.word.specs.declared.ram.Sized.the-variants as Sized
-use Rattle.sysreg.specs.declared.write.WriteAnswer.{WriteAnswer}
+use Rattle.sysreg.specs.declared.{write.WriteAnswer.WriteAnswer, write.Written.Written}
 use Rattle.sysreg.specs.declared.write.WriteAnswer.the-variants as Written
-use Rattle.sysreg.specs.declared.write.Written.{Written}
 use Rattle.tlb.specs.Asks.{translates, Given, onward-same}
 use Rattle.tlb.specs.declared.access.Kind.the-variants as Kind
-use Rattle.tlb.specs.declared.access.Answer.{Answer}
+use Rattle.tlb.specs.declared.{access.Answer.Answer, Tlb.Tlb}
 use Rattle.tlb.specs.declared.access.Answer.the-variants.{Address, Status}
-use Rattle.tlb.specs.declared.Tlb.{Tlb}
 use Rattle.sysop.specs.declared.op.SysOp.{SysOp}
 use Rattle.sysop.specs.declared.op.SysOp.the-variants as Op
 use Rattle.mmu.specs.Bare.{Bare, bareOf}
@@ -29,22 +27,17 @@ use Rattle.mmu.specs.Step.{translateIn, translateFetchIn}
 use Rattle.mmu.specs.Ops.{steppedNow, fetchSteppedNow, translateOf, readOf, writeOf, ramAfterWrite, fetchOf, fetchPaOf, dataPaOf}
 use Rattle.mmu.specs.OpLaws.{placed-by}
 use Rattle.mmu.specs.declared.core.Core.{Core}
-use Rattle.operations.specs.declared.place.Placed.{Placed}
+use Rattle.operations.specs.declared.{place.Placed.Placed, place.Verdict.Verdict, bytes.Got.Got, bytes.Insn.Insn}
+use Rattle.operations.specs.declared.{ends.StoreAnswer.StoreAnswer, call.Encoding.Encoding, call.Call.Call}
 use Rattle.operations.specs.declared.place.Placed.the-variants.{At, Fault}
-use Rattle.operations.specs.declared.place.Verdict.{Verdict}
 use Rattle.operations.specs.declared.place.Verdict.the-variants.{Inside, Outside}
-use Rattle.operations.specs.declared.bytes.Got.{Got}
 use Rattle.operations.specs.declared.bytes.Got.the-variants as Got
-use Rattle.operations.specs.declared.bytes.Insn.{Insn}
 use Rattle.operations.specs.declared.bytes.Insn.the-variants as Insn
-use Rattle.operations.specs.declared.ends.StoreAnswer.{StoreAnswer}
 use Rattle.operations.specs.declared.ends.StoreAnswer.the-variants as Store
 use Rattle.exec.specs.Ops.{registered, writeRegister}
 use Rattle.exec.specs.Sys.{onStored, doneWith, zeroOf, zeroRam, sysBy, sysRamBy, sysOf, sysRam}
 use Rattle.operations.specs.Replies.{loading, storing, fetching}
 use Rattle.cpu.specs.Step.{ends, afterStore, afterWrite, loadBy, storeBy, storeRamBy, runOf, ramOf, refusedOr, stepOf, ramAfter}
-use Rattle.operations.specs.declared.call.Encoding.{Encoding}
-use Rattle.operations.specs.declared.call.Call.{Call}
 use Rattle.operations.specs.declared.call.Call.the-variants.{Translate, DataPa, FetchPa, Load, Store, Fetch, System, Register, Level, Mark, General, Abort}
 use Rattle.operations.specs.declared.call.Reply.the-variants.{Refused, Done}
 use Rattle.history.specs.World.{onNow}

@@ -2,27 +2,22 @@
 use Prim.Native.Nat.{ℕ}
 use lib.ListN.{length}
 use Rattle.sysreg.specs.Write.{writeReg}
-use Rattle.sysreg.specs.declared.write.WriteAnswer.{WriteAnswer}
+use Rattle.sysreg.specs.declared.{write.WriteAnswer.WriteAnswer, write.Written.Written}
 use Rattle.sysreg.specs.declared.write.WriteAnswer.the-variants as Written
-use Rattle.sysreg.specs.declared.write.Written.{Written}
 use Rattle.exception.specs.Entry.{takeSync}
-use Rattle.exception.specs.declared.kind.Exception.{Exception}
+use Rattle.exception.specs.declared.{kind.Exception.Exception, take.Entered.Entered}
 use Rattle.exception.specs.declared.kind.Exception.the-variants as Exception
 use Rattle.exception.specs.declared.kind.Stop.the-variants as Stop
-use Rattle.exception.specs.declared.take.Entered.{Entered}
 use Rattle.sysop.specs.Op.{decodeOf}
 use Rattle.sysop.specs.Par.{atPar}
-use Rattle.sysop.specs.declared.op.AtForm.{AtForm}
-use Rattle.sysop.specs.declared.op.SysOp.{SysOp}
+use Rattle.sysop.specs.declared.{op.AtForm.AtForm, op.SysOp.SysOp}
 use Rattle.sysop.specs.declared.op.SysOp.the-variants as Op
 use Rattle.mmu.specs.Bare.{Bare, regIn, withPrivilege, withGeneral, withRegs, withPar, withEntered}
 use Rattle.exec.specs.Sys.{mairOf}
 use Rattle.operations.specs.Check.{missedOf}
 use Rattle.cpu.specs.Step.{refusedOr}
-use Rattle.operations.specs.declared.call.Encoding.{Encoding}
-use Rattle.operations.specs.declared.call.Call.{Call}
+use Rattle.operations.specs.declared.{call.Encoding.Encoding, call.Call.Call, call.Reply.Reply}
 use Rattle.operations.specs.declared.call.Call.the-variants.{Translate, DataPa, FetchPa, Load, Store, Fetch, System, Register, Level, Mark, General, Abort}
-use Rattle.operations.specs.declared.call.Reply.{Reply}
 use Rattle.operations.specs.declared.call.Reply.the-variants.{Refused, Done, Stopped}
 use Rattle.history.specs.World.{Plain}
 use Rattle.history.specs.Instance.{Ram, memoryOf, real}

@@ -3,11 +3,9 @@ use mathlib.Core.Path.{_≡_, refl, ap, subst, _∙_}
 use mathlib.Core.Bool.{Bool}
 use mathlib.Core.List.{List}
 use Prim.Native.Nat.{ℕ, zero, suc}
-use Rattle.sysreg.specs.declared.write.WriteAnswer.{WriteAnswer}
+use Rattle.sysreg.specs.declared.{write.WriteAnswer.WriteAnswer, write.Written.Written}
 use Rattle.sysreg.specs.declared.write.WriteAnswer.the-variants as Written
-use Rattle.sysreg.specs.declared.write.Written.{Written}
-use Rattle.sysop.specs.declared.op.AtForm.{AtForm}
-use Rattle.sysop.specs.declared.op.SysOp.{SysOp}
+use Rattle.sysop.specs.declared.{op.AtForm.AtForm, op.SysOp.SysOp}
 use Rattle.sysop.specs.declared.op.SysOp.the-variants as Op
 use Rattle.exception.specs.declared.kind.Exception.{Exception}
 use Rattle.mmu.specs.Bare.{Bare, freshBare, withPar, bareOf}
@@ -16,15 +14,15 @@ use Rattle.mmu.specs.declared.core.Core.{Core}
 use Rattle.exec.specs.Ops.{registered, writeRegister}
 use Rattle.exec.specs.Sys.{sysBy, sysRamBy, sysOf, sysRam}
 use Rattle.cpu.specs.Step.{ends, afterStore, afterWrite, runOf, ramOf, refusedOr, stepOf, ramAfter}
-use Rattle.operations.specs.declared.call.Encoding.{Encoding}
-use Rattle.operations.specs.declared.call.Call.{Call}
+use Rattle.operations.specs.declared.{call.Encoding.Encoding, call.Call.Call}
 use Rattle.operations.specs.declared.call.Call.the-variants.{Translate, DataPa, FetchPa, Load, Store, Fetch, System, Register, Level, Mark, General, Abort}
 use Rattle.operations.specs.declared.call.Reply.the-variants.{Refused}
 use Rattle.cpu.specs.declared.run.Stepped.{Stepped}
 use Rattle.history.specs.Calls.{Lent, run, bareRun}
 use Rattle.history.specs.EveryCall.{run-bare as runs-agree}
 use Rattle.history.specs.Instance.{Ram, real}
-use Rattle.transparency.specs.Bare.{Ruling, allowed, number, undefined, unimplemented, missedIn, opIn, operandIn, writtenIn, bySys, byWrite, ruledIn, rulingIn, refusalOf, ifAllowed, parAt, bareDoes, bareStep}
+use Rattle.transparency.specs.Bare.{Ruling, allowed, number, undefined, unimplemented, missedIn, opIn, operandIn, writtenIn, bySys, byWrite, ruledIn}
+use Rattle.transparency.specs.Bare.{rulingIn, refusalOf, ifAllowed, parAt, bareDoes, bareStep}
 use Rattle.transparency.specs.Machine.{machine}
 use Rattle.transparency.specs.Bridge.{bridge, fits}
 

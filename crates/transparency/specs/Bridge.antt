@@ -12,9 +12,8 @@ use Rattle.word.specs.Bits.{alignDown, pick, wrap}
 use Rattle.word.specs.Ram.{widthOf, bytesIn}
 use Rattle.word.specs.declared.ram.Sized.{Sized}
 use Rattle.word.specs.declared.ram.Sized.the-variants as Sized
-use Rattle.sysreg.specs.declared.write.WriteAnswer.{WriteAnswer}
+use Rattle.sysreg.specs.declared.{write.WriteAnswer.WriteAnswer, write.Written.Written}
 use Rattle.sysreg.specs.declared.write.WriteAnswer.the-variants as Written
-use Rattle.sysreg.specs.declared.write.Written.{Written}
 use Rattle.tlb.specs.declared.access.Kind.{Kind}
 use Rattle.tlb.specs.declared.access.Kind.the-variants as Kind
 use Rattle.sysop.specs.declared.op.SysOp.{SysOp}
@@ -23,25 +22,23 @@ use Rattle.mmu.specs.Bare.{Bare, withPrivilege, bareOf, withRegs}
 use Rattle.mmu.specs.Core.{regOf, setReg, afterAccess}
 use Rattle.mmu.specs.Ops.{writeOf}
 use Rattle.mmu.specs.OpLaws as Laws
-use Rattle.mmu.specs.declared.core.Core.{Core}
-use Rattle.operations.specs.declared.ends.StoreAnswer.{StoreAnswer}
+use Rattle.mmu.specs.declared.{core.Core.Core, ops.Stored.Stored}
+use Rattle.operations.specs.declared.{ends.StoreAnswer.StoreAnswer, call.Encoding.Encoding, call.Call.Call}
 use Rattle.operations.specs.declared.ends.StoreAnswer.the-variants.{Done, Stopped}
-use Rattle.mmu.specs.declared.ops.Stored.{Stored}
 use Rattle.exec.specs.Fit.{refitOf}
 use Rattle.exec.specs.Ops.{withRegs as coreRegs, appliedOf, registered, writeRegister, withPrivilege as coreWho, setLevel, setMark, abortOf}
 use Rattle.exec.specs.Sys.{withPar as corePar, atOf, invalidatedOf, tlbiCore, onStored, doneWith, zeroOf, sysBy, sysOf}
 use Rattle.operations.specs.Check.{missedOf}
 use Rattle.cpu.specs.Demand1.{all-passed}
 use Rattle.cpu.specs.Step.{ends, loadBy, storeBy, runOf, refusedOr, stepOf}
-use Rattle.operations.specs.declared.call.Encoding.{Encoding}
-use Rattle.operations.specs.declared.call.Call.{Call}
 use Rattle.operations.specs.declared.call.Call.the-variants.{Translate, DataPa, FetchPa, Load, Store, Fetch, System, Register, Level, Mark, General, Abort}
 use Rattle.operations.specs.declared.call.Reply.the-variants.{Refused}
 use Rattle.history.specs.World.{Plain}
 use Rattle.history.specs.History.{writes, Event, steps, plainRun, tlbAsks, tlbRun}
 use Rattle.history.specs.Calls.{Bridge}
 use Rattle.history.specs.Instance.{Ram, real}
-use Rattle.transparency.specs.Bare.{plainIn, missedIn, opIn, operandIn, writtenIn, number, bySys, byWrite, ruledIn, ifAllowed, sysDoes, bareDoes, bareStep}
+use Rattle.transparency.specs.Bare.{plainIn, missedIn, opIn, operandIn, writtenIn, number, bySys, byWrite, ruledIn, ifAllowed, sysDoes, bareDoes}
+use Rattle.transparency.specs.Bare.{bareStep}
 use Rattle.transparency.specs.Events.{does, asking, idle, accessIn, sizedIn, setBy, setting, zeroSteps, sysSteps, stepsIn, eventsIn}
 use Rattle.transparency.specs.Starts.{ramZeroed, zeroLater, sysLater, laterOf, laterIn}
 use Rattle.transparency.specs.Machine.{machine}
@@ -181,7 +178,8 @@ mark-low : (level base len : ℕ) (mark : Bool) → missedOf level base len (Mar
 mark-low level base len mark e = ltb-false 3 level (all-passed level base len (Mark mark) e .0)
 
 level-fits : (c : Core) (m : Ram) (level : ℕ) → level ≤ 3
-    → Fits c (setLevel c (level % 4)) (withPrivilege (bareOf c) level (c .privilege .unprivileged)) (steps m (setting (record { level = level; unprivileged = c .privilege .unprivileged })) ∷ [])
+    → Fits c (setLevel c (level % 4)) (withPrivilege (bareOf c) level (c .privilege .unprivileged))
+    (steps m (setting (record { level = level; unprivileged = c .privilege .unprivileged })) ∷ [])
 unfolding setLevel
 level-fits c m level low =
     let q : level % 4 ≡ level = mod-eq-of-lt (omega arith) in

@@ -13,16 +13,12 @@ use Rattle.tlb.specs.Model.{Slot, Counters, Model, oneFlush, oneEpoch, invalCou
 use Rattle.tlb.specs.Counting.{How, howCounted, howTranslated, howFetched, translate-counts, fetch-counts}
 use Rattle.tlb.specs.Live.{countersOf, pendingOf, live}
 use Rattle.tlb.specs.Asks.{Ask, translates, fetches, onward-same}
-use Rattle.tlb.specs.declared.access.Kind.{Kind}
+use Rattle.tlb.specs.declared.{access.Kind.Kind, count.Counts.Counts, Inval.Inval, Tlb.Tlb}
 use Rattle.tlb.specs.declared.access.Kind.the-variants as Kind
-use Rattle.tlb.specs.declared.count.Counts.{Counts}
-use Rattle.tlb.specs.declared.Inval.{Inval}
 use Rattle.tlb.specs.declared.Inval.the-variants.{All, Page, Asid}
-use Rattle.tlb.specs.declared.Tlb.{Tlb}
 use Rattle.sysop.specs.declared.op.SysOp.the-variants as Op
 use Rattle.mmu.specs.Bare.{Bare}
-use Rattle.operations.specs.declared.call.Encoding.{Encoding}
-use Rattle.operations.specs.declared.call.Call.{Call}
+use Rattle.operations.specs.declared.{call.Encoding.Encoding, call.Call.Call}
 use Rattle.operations.specs.declared.call.Call.the-variants.{Translate, DataPa, FetchPa, Fetch, System, Register}
 use Rattle.history.specs.World.{accessOf}
 use Rattle.history.specs.History.{carries, writes, Event, steps}

@@ -12,11 +12,9 @@ use Rattle.word.specs.declared.ram.Width.{Width}
 use Rattle.tlb.specs.Lists.{Each, done, more}
 use Rattle.tlb.specs.Tlb.{fresh}
 use Rattle.tlb.specs.Asks.{Ask, translates, fetches, kindOf, addressOf, Given, onward}
-use Rattle.tlb.specs.declared.access.Kind.{Kind}
+use Rattle.tlb.specs.declared.{access.Kind.Kind, access.Answer.Answer, Tlb.Tlb}
 use Rattle.tlb.specs.declared.access.Kind.the-variants as Kind
-use Rattle.tlb.specs.declared.access.Answer.{Answer}
 use Rattle.tlb.specs.declared.access.Answer.the-variants.{Address, Status}
-use Rattle.tlb.specs.declared.Tlb.{Tlb}
 use Rattle.mmu.specs.Bare.{Bare, freshBare, bareOf}
 use Rattle.mmu.specs.Core.{freshCore}
 use Rattle.operations.specs.Place.{nextPage, crosses, placedOne, placedBoth}
@@ -26,11 +24,10 @@ use Rattle.operations.specs.Ends.{reachedBy, loadEnd, storeEnd, storeRamEnd, fe
 use Rattle.mmu.specs.Ops.{steppedNow, fetchSteppedNow, locatedNow, translateOf, fetchPaOf, dataPaOf, fetchOf}
 use Rattle.mmu.specs.OpLaws.{placed-by}
 use Rattle.mmu.specs.declared.core.Core.{Core}
-use Rattle.operations.specs.declared.place.Placed.{Placed}
+use Rattle.operations.specs.declared.{place.Placed.Placed, call.Encoding.Encoding}
 use Rattle.sysop.specs.declared.op.SysOp.the-variants as Op
 use Rattle.operations.specs.Replies.{translation, reaching, loading, storing, fetching}
 use Rattle.cpu.specs.Step.{runOf, ramOf, stepOf, ramAfter}
-use Rattle.operations.specs.declared.call.Encoding.{Encoding}
 use Rattle.operations.specs.declared.call.Call.the-variants.{Translate, DataPa, FetchPa, Load, Store, Fetch, System}
 use Rattle.history.specs.World.{Plain, regimeNow, pageNow, onNow, uncached}
 use Rattle.history.specs.History.{nothing, Event, plainRun, tlbRun, answerOf, answers, Settled}

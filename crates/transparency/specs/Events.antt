@@ -16,10 +16,8 @@ use Rattle.word.specs.Ram.{widthOf, bytesIn}
 use Rattle.word.specs.declared.ram.Sized.{Sized}
 use Rattle.word.specs.declared.ram.Sized.the-variants as Sized
 use Rattle.tlb.specs.Asks.{Ask, translates, fetches}
-use Rattle.tlb.specs.declared.access.Kind.{Kind}
+use Rattle.tlb.specs.declared.{access.Kind.Kind, access.Privilege.Privilege, Inval.Inval}
 use Rattle.tlb.specs.declared.access.Kind.the-variants as Kind
-use Rattle.tlb.specs.declared.access.Privilege.{Privilege}
-use Rattle.tlb.specs.declared.Inval.{Inval}
 use Rattle.exception.specs.EntryLaws.{take-level}
 use Rattle.exception.specs.declared.kind.Exception.{Exception}
 use Rattle.sysop.specs.Tlbi.{tlbiOf, reachesOthers}
@@ -27,8 +25,7 @@ use Rattle.sysop.specs.declared.op.SysOp.{SysOp}
 use Rattle.sysop.specs.declared.op.SysOp.the-variants as Op
 use Rattle.mmu.specs.Bare.{Bare}
 use Rattle.mmu.specs.Asks.{accessAsks}
-use Rattle.operations.specs.declared.call.Encoding.{Encoding}
-use Rattle.operations.specs.declared.call.Call.{Call}
+use Rattle.operations.specs.declared.{call.Encoding.Encoding, call.Call.Call}
 use Rattle.operations.specs.declared.call.Call.the-variants.{Translate, DataPa, FetchPa, Load, Store, Fetch, System, Register, Level, Mark, General, Abort}
 use Rattle.history.specs.World.{onNow}
 use Rattle.history.specs.History.{Effect, nothing, carries, writes, sets, Step, Event, steps}

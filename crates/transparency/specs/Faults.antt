@@ -10,19 +10,16 @@ use native.Mathlib.Nat.{mod-mod, add-zero}
 use lib.ListN.{length}
 use Rattle.word.specs.Bits.{alignDown, pick, wrap}
 use Rattle.word.specs.Ram.{widthOf, bytesIn, within}
-use Rattle.word.specs.declared.ram.Sized.{Sized}
+use Rattle.word.specs.declared.{ram.Sized.Sized, ram.Width.Width}
 use Rattle.word.specs.declared.ram.Sized.the-variants as Sized
-use Rattle.word.specs.declared.ram.Width.{Width}
 use Rattle.word.specs.declared.ram.Width.the-variants as Width
 use Rattle.fault.specs.First.{first}
 use Rattle.fault.specs.declared.Fault.{Fault}
 use Rattle.tlb.specs.Lists.{Each, more}
 use Rattle.tlb.specs.Asks.{Ask, translates, fetches, addressOf, Given, onward, onward-same}
-use Rattle.tlb.specs.declared.access.Kind.{Kind}
+use Rattle.tlb.specs.declared.{access.Kind.Kind, access.Answer.Answer, Tlb.Tlb}
 use Rattle.tlb.specs.declared.access.Kind.the-variants as Kind
-use Rattle.tlb.specs.declared.access.Answer.{Answer}
 use Rattle.tlb.specs.declared.access.Answer.the-variants.{Address, Status}
-use Rattle.tlb.specs.declared.Tlb.{Tlb}
 use Rattle.exception.specs.declared.kind.Exception.the-variants as Exception
 use Rattle.exception.specs.declared.kind.Stop.the-variants as Stop
 use Rattle.mmu.specs.Bare.{Bare}
@@ -31,22 +28,17 @@ use Rattle.operations.specs.Place.{nextPage, crosses, byteAt, firstOutside, ver
 use Rattle.operations.specs.Bytes.{gotBy, valueAt, loadOf, insnOf}
 use Rattle.mmu.specs.Asks.{asksBy, placedBy}
 use Rattle.operations.specs.Ends.{reachedBy, loadedFrom, loadEnd, storeEndBy, storeEnd, fetchedFrom, fetchEnd}
-use Rattle.operations.specs.declared.place.Pages.{Pages}
-use Rattle.operations.specs.declared.place.Place.{Place}
+use Rattle.operations.specs.declared.{place.Pages.Pages, place.Place.Place, place.Placed.Placed, place.Verdict.Verdict}
+use Rattle.operations.specs.declared.{bytes.Insn.Insn, call.Call.Call, call.Reply.Reply}
 use Rattle.operations.specs.declared.place.Place.the-variants.{Whole, Split}
-use Rattle.operations.specs.declared.place.Placed.{Placed}
 use Rattle.operations.specs.declared.place.Placed.the-variants as Placed
-use Rattle.operations.specs.declared.place.Verdict.{Verdict}
 use Rattle.operations.specs.declared.place.Verdict.the-variants.{Inside, Outside}
-use Rattle.operations.specs.declared.bytes.Insn.{Insn}
 use Rattle.operations.specs.declared.bytes.Insn.the-variants as Insn
 use Rattle.sysop.specs.declared.op.SysOp.{SysOp}
 use Rattle.sysop.specs.declared.op.SysOp.the-variants as Op
 use Rattle.operations.specs.Replies.{translation, loading, storing, fetching, reaching}
 use Rattle.cpu.specs.Step.{stepOf}
-use Rattle.operations.specs.declared.call.Call.{Call}
 use Rattle.operations.specs.declared.call.Call.the-variants.{Translate, DataPa, FetchPa, Load, Store, Fetch, System, Register, Level, Mark, General, Abort}
-use Rattle.operations.specs.declared.call.Reply.{Reply}
 use Rattle.operations.specs.declared.call.Reply.the-variants as Reply
 use Rattle.history.specs.World.{Plain, onNow}
 use Rattle.history.specs.History.{steps, answerOf, tlbAsk, answers, tlbAsks}

@@ -2,7 +2,6 @@
 -- and each fault that it meets is a row of document 01's table.
 use mathlib.Core.Path.{_≡_, refl, ap₂, subst}
 use mathlib.Core.List.{List, [], _∷_, _++_}
-use Prim.Native.Nat.{ℕ, _+_}
 use native.Mathlib.Omega.{arith}
 use Rattle.fault.specs.declared.Fault.{Fault}
 use Rattle.tlb.specs.Lists.{Each, done, more}

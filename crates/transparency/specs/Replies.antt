@@ -17,9 +17,8 @@ use Rattle.operations.specs.Ends.{loadEnd, storeEnd, storeRamEnd, fetchEnd, rea
 use Rattle.mmu.specs.declared.core.Core.{Core}
 use Rattle.operations.specs.Replies.{translation, loading, storing, fetching, reaching}
 use Rattle.cpu.specs.Step.{stepOf, ramAfter}
-use Rattle.operations.specs.declared.call.Call.{Call}
+use Rattle.operations.specs.declared.{call.Call.Call, call.Reply.Reply}
 use Rattle.operations.specs.declared.call.Call.the-variants.{Translate, DataPa, FetchPa, Load, Store, Fetch, System, Register, Level, Mark, General, Abort}
-use Rattle.operations.specs.declared.call.Reply.{Reply}
 use Rattle.operations.specs.declared.call.Reply.the-variants.{Refused, Done, Value, Faults, Fault as Faulted, Stopped}
 use Rattle.history.specs.World.{uncached}
 use Rattle.history.specs.Invisible.{plainAnswers}

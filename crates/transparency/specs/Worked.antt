@@ -15,7 +15,8 @@ use Rattle.sysreg.specs.declared.regs.ControlReg.the-variants as Control
 use Rattle.sysreg.specs.declared.regs.El.the-variants as El
 use Rattle.walk.specs.Tag.{untagged}
 use Rattle.walk.specs.Size.{paSize}
-use Rattle.walk.specs.Table.{rangeOf, paramsOf, tableNext, leafPermissions, leafTranslation, leafResult, levelNext, descaddr, lookupNext, walkFrom, walkRange, tableWalk}
+use Rattle.walk.specs.Table.{rangeOf, paramsOf, tableNext, leafPermissions, leafTranslation, leafResult, levelNext, descaddr, lookupNext, walkFrom, walkRange}
+use Rattle.walk.specs.Table.{tableWalk}
 use Rattle.walk.specs.Walk.{walkOf}
 use Rattle.walk.specs.declared.regime.Regime.the-variants.{El1}
 use Rattle.walk.specs.declared.level.Leaf.{Leaf}
@@ -138,7 +139,8 @@ walks :
     (pageWalk real registers none El1 0x40001 ≡ Fault 5)
     × (pageWalk real registers old El1 0x40001 ≡ Mapped (block 0x80001000 0x80000401))
     × (pageWalk real registers new El1 0x40001 ≡ Mapped (block 0xC0001000 0xC0000401))
-unfolding freshControl controlWith walkOf tableWalk walkRange walkFrom lookupNext levelNext leafResult leafTranslation leafPermissions tableNext descaddr rangeOf paramsOf paSize wordAt littleEndian bytesOf
+unfolding freshControl controlWith walkOf tableWalk walkRange walkFrom lookupNext levelNext leafResult leafTranslation leafPermissions tableNext descaddr
+    rangeOf paramsOf paSize wordAt littleEndian bytesOf
 walks = (refl, refl, refl)
 
 mapped-inj : {x y : Leaf} → Mapped x ≡ Mapped y → x ≡ y
@@ -186,14 +188,19 @@ step-by-step = (
 -- WITH THE TLBI the page is settled, and the cache answers from a hint, as the core without a cache does.
 
 pub settled : SettledAt (fedBy tidied) (shown-shown real machine freshCore tidied) new 0x40001234
-unfolding bytesOf setReg freshCore zeros freshControl freshSys bankedAt registerAt controlWith sysWith writeReg missedOf named decodeOf scopeOf whatOf tlbiOf untagged
+unfolding bytesOf setReg freshCore zeros freshControl freshSys bankedAt registerAt controlWith sysWith writeReg missedOf named decodeOf scopeOf whatOf tlbiOf
+    untagged
 settled = steps-settled real (plainIn freshBare) events new El1 0x40001 step-by-step
 
 pub by-cache :
     (translationIn (accessOf real (plainIn (bareAfter tidied)) new Read 0x40001234) (coreAfter tidied .tlb) .source ≡ FromHint)
     × (stepOf (coreAfter tidied) (new .base) (new .bytes) read .reply ≡ Value 0xC0001234)
     × (uncached real (plainIn (bareAfter tidied)) new Read 0x40001234 ≡ Address 0xC0001234)
-unfolding stepOf runOf translateOf steppedNow translateIn afterAccess regOf setReg writeRegister appliedOf withRegs refitOf retaggedOf reshapedOf setLevel sysOf tlbiCore invalidatedOf uncached walkAnswer leafAnswer sameShape asidOf asidBase freshCore zeros freshControl freshSys bankedAt registerAt controlWith sysWith writeReg missedOf named decodeOf scopeOf whatOf tlbiOf flushOf flushed invalidateOf dropPageOf withoutPage pageDropped translationWith missWith resolveWith byWalk applied judged walkOf tableWalk walkRange walkFrom lookupNext levelNext leafResult leafTranslation leafPermissions tableNext descaddr rangeOf paramsOf paSize untagged wordAt littleEndian bytesOf placeOf blanks noHints
+unfolding stepOf runOf translateOf steppedNow translateIn afterAccess regOf setReg writeRegister appliedOf withRegs refitOf retaggedOf reshapedOf setLevel
+    sysOf tlbiCore invalidatedOf uncached walkAnswer leafAnswer sameShape asidOf asidBase freshCore zeros freshControl freshSys bankedAt registerAt
+    controlWith sysWith writeReg missedOf named decodeOf scopeOf whatOf tlbiOf flushOf flushed invalidateOf dropPageOf withoutPage pageDropped translationWith
+    missWith resolveWith byWalk applied judged walkOf tableWalk walkRange walkFrom lookupNext levelNext leafResult leafTranslation leafPermissions tableNext
+    descaddr rangeOf paramsOf paSize untagged wordAt littleEndian bytesOf placeOf blanks noHints
 by-cache = (refl, refl, refl)
 
 -- WITHOUT IT the cache answers by the old table, so the page is not settled.
@@ -202,7 +209,10 @@ pub stale :
     (stepOf (coreAfter start) (new .base) (new .bytes) read .reply ≡ Value 0x80001234)
     × (uncached real (plainIn (bareAfter start)) new Read 0x40001234 ≡ Address 0xC0001234)
     × (missedIn (bareOf (coreAfter start)) new read ≡ 0)
-unfolding stepOf runOf translateOf steppedNow translateIn afterAccess regOf setReg writeRegister appliedOf withRegs refitOf retaggedOf reshapedOf setLevel uncached walkAnswer leafAnswer sameShape asidOf asidBase freshCore zeros freshControl freshSys bankedAt registerAt controlWith sysWith writeReg missedOf flushOf flushed translationWith missWith resolveWith byWalk applied judged walkOf tableWalk walkRange walkFrom lookupNext levelNext leafResult leafTranslation leafPermissions tableNext descaddr rangeOf paramsOf paSize untagged wordAt littleEndian bytesOf placeOf blanks noHints
+unfolding stepOf runOf translateOf steppedNow translateIn afterAccess regOf setReg writeRegister appliedOf withRegs refitOf retaggedOf reshapedOf setLevel
+    uncached walkAnswer leafAnswer sameShape asidOf asidBase freshCore zeros freshControl freshSys bankedAt registerAt controlWith sysWith writeReg missedOf
+    flushOf flushed translationWith missWith resolveWith byWalk applied judged walkOf tableWalk walkRange walkFrom lookupNext levelNext leafResult
+    leafTranslation leafPermissions tableNext descaddr rangeOf paramsOf paSize untagged wordAt littleEndian bytesOf placeOf blanks noHints
 stale = (refl, refl, refl)
 
 pub unsettled : SettledAt (fedBy start) (shown-shown real machine freshCore start) new 0x40001234 → ⊥

@@ -10,19 +10,15 @@ use Rattle.word.specs.BitLaws.{place}
 use Rattle.walk.specs.Regime.{regimeOf, singlePriv, stage1On, wxnOf}
 use Rattle.walk.specs.Tag.{tbi, tagDropped, untagged}
 use Rattle.walk.specs.Size.{paSize}
-use Rattle.walk.specs.Table.{lowerRange, upperRange, onlyRange, rangeOf, paramsOf, inputsize, inRange, startlevelOf, addrselectbottom, startlevel, baselowerbound, beyond}
+use Rattle.walk.specs.Table.{lowerRange, upperRange, onlyRange, rangeOf, paramsOf, inputsize, inRange, startlevelOf, addrselectbottom, startlevel}
+use Rattle.walk.specs.Table.{baselowerbound, beyond}
 use Rattle.walk.specs.Permission.{permissionByte, accessBits}
 use Rattle.walk.specs.PermissionLaws.{privileged-rights, user-rights, only-rights}
 use Rattle.walk.specs.State.{startOf, beginOf}
-use Rattle.walk.specs.declared.regime.Regime.{Regime}
+use Rattle.walk.specs.declared.{regime.Regime.Regime, regime.Bank.Bank, rights.Permissions.Permissions}
+use Rattle.walk.specs.declared.{range.Range.Range, range.Start.Start, range.Begin.Begin, level.Params.Params}
 use Rattle.walk.specs.declared.regime.Regime.the-variants.{El1, El2, El3}
-use Rattle.walk.specs.declared.regime.Bank.{Bank}
-use Rattle.walk.specs.declared.rights.Permissions.{Permissions}
-use Rattle.walk.specs.declared.range.Range.{Range}
-use Rattle.walk.specs.declared.range.Start.{Start}
-use Rattle.walk.specs.declared.range.Begin.{Begin}
 use Rattle.walk.specs.declared.range.Begin.the-variants.{At, Refused}
-use Rattle.walk.specs.declared.level.Params.{Params}
 
 -- TBI0 or TBI1, by one shift
 pub tbi-shift : (tcr va : ℕ) → eqb (tcr / 2 ^ (37 + va / 2 ^ 55 % 2) % 2) 1 ≡ tbi tcr El1 va

@@ -12,17 +12,14 @@ use lib.Pow.{shl-shr, shr-shr, mod-pow-add, high, pow-pos, pow-mono}
 use Rattle.word.specs.Bits.{bitOn, field, pick, alignDown}
 use Rattle.word.specs.BitLaws.{place, cut-field, or-bit, align-le}
 use Rattle.walk.specs.Descriptor.{valid, tableOrPage, af, nG, apTable0, apTable1, uxnTable, pxnTable}
-use Rattle.walk.specs.Table.{grainsize, stride, firstblocklevel, addrselectbottom, beyond, descaddr, outputaddress, tableNext, leafPermissions, leafTranslation, leafResult, levelNext}
+use Rattle.walk.specs.Table.{grainsize, stride, firstblocklevel, addrselectbottom, beyond, descaddr, outputaddress, tableNext, leafPermissions}
+use Rattle.walk.specs.Table.{leafTranslation, leafResult, levelNext}
 use Rattle.walk.specs.Permission.{permissionByte}
 use Rattle.walk.specs.Walk.{walkedOf}
 use Rattle.walk.specs.State.{lookupOf, Outcome, onward, answers, stepped, meant, Standing, Onwards, Leads, next, stop}
-use Rattle.walk.specs.declared.rights.Permissions.{Permissions}
-use Rattle.walk.specs.declared.level.Params.{Params}
-use Rattle.walk.specs.declared.level.WalkState.{WalkState}
-use Rattle.walk.specs.declared.level.Leaf.{Leaf}
-use Rattle.walk.specs.declared.level.Walked.{Walked}
+use Rattle.walk.specs.declared.{rights.Permissions.Permissions, level.Params.Params, level.WalkState.WalkState}
+use Rattle.walk.specs.declared.{level.Leaf.Leaf, level.Walked.Walked, level.Step.Step}
 use Rattle.walk.specs.declared.level.Walked.the-variants.{Mapped, Fault}
-use Rattle.walk.specs.declared.level.Step.{Step}
 use Rattle.walk.specs.declared.level.Step.the-variants.{Next, Done}
 
 -- bits top-1 to lsb, by a shift up and a shift down
@@ -53,7 +50,8 @@ module _ (p : Params) (w : WalkState) (va : ℕ) (st : Standing p w) where
 
   address-parts : (va * 2 ^ (64 - w .top)) % 2 ^ 64 / 2 ^ (64 - w .top + w .lsb) < 2 ^ 48
   address-parts =
-      rw (index-is va (w .top) (w .lsb) (le-of-lt (st .below-top)) (omega (arith, st .top))) (index-small va (w .top) (w .lsb) (le-of-lt (st .below-top)) (st .top))
+      rw (index-is va (w .top) (w .lsb) (le-of-lt (st .below-top)) (omega (arith, st .top)))
+      (index-small va (w .top) (w .lsb) (le-of-lt (st .below-top)) (st .top))
 
   pub index-fits : (va * 2 ^ (64 - w .top)) % 2 ^ 64 / 2 ^ (64 - w .top + w .lsb) * 8 < 2 ^ 64
   index-fits = omega (arith, address-parts)
@@ -110,7 +108,8 @@ table-down p w desc g s x o st h es ex =
           };
     }
 
-pub table-leads : (p : Params) (w : WalkState) (desc g s x o : ℕ) → Standing p w → w .level < 3 → s ≡ stride (p .largegrain) → x ≡ alignDown (desc % 2 ^ 48) (g % 64)
+pub table-leads : (p : Params) (w : WalkState) (desc g s x o : ℕ) → Standing p w → w .level < 3 → s ≡ stride (p .largegrain) → x
+    ≡ alignDown (desc % 2 ^ 48) (g % 64)
     → Leads p w (Next record { tables = o; table = x; top = w .lsb; lsb = w .lsb - s; level = w .level + 1 })
 table-leads p w desc g s x o st h es ex = next (table-down p w desc g s x o st h es ex)
 

@@ -8,19 +8,16 @@ use Rattle.word.specs.declared.ram.Word.the-variants.{Value, Outside}
 use Rattle.word.specs.Bits.{alignDown}
 use Rattle.word.specs.BitLaws.{align-le}
 use Rattle.walk.specs.Regime.{singlePriv, wxnOf}
-use Rattle.walk.specs.Table.{Lookup, Result, Next, deeper, ends, faults, addressSize, translation, externalAbort, descaddr, levelNext, lookupNext, onNext, walkFrom, walkRange, tableWalk, rangeOf, paramsOf, firstLookup, startlevel, inputsize, inRange, beyond, addrselectbottom, startlevelOf, baselowerbound}
+use Rattle.walk.specs.Table.{Lookup, Result, Next, deeper, ends, faults, addressSize, translation, externalAbort, descaddr, levelNext, lookupNext, onNext}
+use Rattle.walk.specs.Table.{walkFrom, walkRange, tableWalk, rangeOf, paramsOf, firstLookup, startlevel, inputsize, inRange, beyond, addrselectbottom}
+use Rattle.walk.specs.Table.{startlevelOf, baselowerbound}
 use Rattle.walk.specs.Walk.{walkedOf, walkOf}
 use Rattle.walk.specs.State.{lookupOf, Outcome, onward, answers, stepped, meant, Standing, Onwards, Leads, next, stop, beginOf}
-use Rattle.walk.specs.declared.regime.Regime.{Regime}
-use Rattle.walk.specs.declared.regime.Bank.{Bank}
-use Rattle.walk.specs.declared.range.Range.{Range}
-use Rattle.walk.specs.declared.range.Begin.{Begin}
-use Rattle.walk.specs.declared.range.Begin.the-variants.{At, Refused}
-use Rattle.walk.specs.declared.level.Params.{Params}
-use Rattle.walk.specs.declared.level.WalkState.{WalkState}
-use Rattle.walk.specs.declared.level.Walked.{Walked}
-use Rattle.walk.specs.declared.level.Walked.the-variants.{Mapped, Fault}
+use Rattle.walk.specs.declared.{regime.Regime.Regime, regime.Bank.Bank, range.Range.Range, range.Begin.Begin}
+use Rattle.walk.specs.declared.{level.Params.Params, level.WalkState.WalkState, level.Walked.Walked}
 use Rattle.walk.specs.declared.level.Step.{Step}
+use Rattle.walk.specs.declared.range.Begin.the-variants.{At, Refused}
+use Rattle.walk.specs.declared.level.Walked.the-variants.{Mapped, Fault}
 use Rattle.walk.specs.declared.level.Step.the-variants.{Next as Onward, Done}
 
 -- the two outcomes are apart

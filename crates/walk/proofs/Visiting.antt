@@ -10,17 +10,11 @@ use Rattle.word.specs.declared.ram.Word.{Word}
 use Rattle.walk.specs.Table.{Lookup, Next, deeper, ends, descaddr, lookupNext, rangeOf, paramsOf, firstLookup, inRange, beyond}
 use Rattle.walk.specs.State.{lookupOf, stepped, meant, beginOf}
 use Rattle.walk.specs.Visits.{Seen, seen, past, visitFrom, visitOf, seenAs}
-use Rattle.walk.specs.declared.regime.Regime.{Regime}
-use Rattle.walk.specs.declared.regime.Bank.{Bank}
-use Rattle.walk.specs.declared.range.Range.{Range}
-use Rattle.walk.specs.declared.range.Begin.{Begin}
+use Rattle.walk.specs.declared.{regime.Regime.Regime, regime.Bank.Bank, range.Range.Range, range.Begin.Begin}
+use Rattle.walk.specs.declared.{level.Params.Params, level.WalkState.WalkState, level.Walked.Walked}
+use Rattle.walk.specs.declared.{level.Step.Step, table.Visited.Visited}
 use Rattle.walk.specs.declared.range.Begin.the-variants.{At, Refused}
-use Rattle.walk.specs.declared.level.Params.{Params}
-use Rattle.walk.specs.declared.level.WalkState.{WalkState}
-use Rattle.walk.specs.declared.level.Walked.{Walked}
-use Rattle.walk.specs.declared.level.Step.{Step}
 use Rattle.walk.specs.declared.level.Step.the-variants.{Next as Onward, Done}
-use Rattle.walk.specs.declared.table.Visited.{Visited}
 use Rattle.walk.proofs.Loop.{apart, is-deeper, at-inj, refused-at, at-refused, first, first-is}
 
 some-left : (n : ℕ) → eqb n 0 ≡ false → n ≡ suc (n - 1)

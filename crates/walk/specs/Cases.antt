@@ -7,12 +7,12 @@ use Rattle.word.specs.Bits.{bitOn, alignDown, pick}
 use Rattle.word.specs.Ram.{wordAt, littleEndian, bytesOf}
 use Rattle.walk.specs.Tag.{untagged}
 use Rattle.walk.specs.Size.{paSize}
-use Rattle.walk.specs.Table.{rangeOf, paramsOf, tableNext, leafPermissions, leafTranslation, leafResult, levelNext, descaddr, lookupNext, walkFrom, walkRange, tableWalk}
+use Rattle.walk.specs.Table.{rangeOf, paramsOf, tableNext, leafPermissions, leafTranslation, leafResult, levelNext, descaddr, lookupNext, walkFrom}
+use Rattle.walk.specs.Table.{walkRange, tableWalk}
 use Rattle.walk.specs.Permission.{Access, reading, writing, fetching, kindBit, firstBit}
 use Rattle.walk.specs.Walk.{walkOf}
 use Rattle.walk.specs.declared.regime.Regime.the-variants.{El1}
-use Rattle.walk.specs.declared.regime.Bank.{Bank}
-use Rattle.walk.specs.declared.level.Walked.{Walked}
+use Rattle.walk.specs.declared.{regime.Bank.Bank, level.Walked.Walked}
 use Rattle.walk.specs.declared.level.Walked.the-variants.{Mapped, Fault}
 
 -- a translation's answer: an address, or a fault status code
@@ -66,5 +66,6 @@ pub cases :
     ∷ address 0xBFFFFFFF
     ∷ address 0xFFFFFFFFFFFFF000
     ∷ [])
-unfolding row translated judged registers walkOf tableWalk walkRange walkFrom lookupNext levelNext leafResult leafTranslation leafPermissions tableNext descaddr rangeOf paramsOf paSize untagged wordAt littleEndian bytesOf
+unfolding row translated judged registers walkOf tableWalk walkRange walkFrom lookupNext levelNext leafResult leafTranslation leafPermissions tableNext
+    descaddr rangeOf paramsOf paSize untagged wordAt littleEndian bytesOf
 cases = refl

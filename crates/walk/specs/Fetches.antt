@@ -9,13 +9,11 @@ use Rattle.word.specs.Bits.{pick}
 use Rattle.word.specs.Ram.{wordAt}
 use Rattle.word.specs.RamLaws.{word-agree}
 use Rattle.word.specs.declared.ram.Word.{Word}
-use Rattle.walk.specs.Table.{Result, faults, addressSize, translation, inRange, beyond, startlevel, levelsOf, entered, Lookup, Next, deeper, ends, firstLookup, rangeOf, paramsOf, descaddr, lookupNext, onNext, walkFrom, walkRange, tableWalk}
+use Rattle.walk.specs.Table.{Result, faults, addressSize, translation, inRange, beyond, startlevel, levelsOf, entered, Lookup, Next, deeper, ends}
+use Rattle.walk.specs.Table.{firstLookup, rangeOf, paramsOf, descaddr, lookupNext, onNext, walkFrom, walkRange, tableWalk}
 use Rattle.walk.specs.Walk.{walkOf}
 use Rattle.walk.specs.SizeLaws.{level-count}
-use Rattle.walk.specs.declared.regime.Regime.{Regime}
-use Rattle.walk.specs.declared.regime.Bank.{Bank}
-use Rattle.walk.specs.declared.range.Range.{Range}
-use Rattle.walk.specs.declared.level.Params.{Params}
+use Rattle.walk.specs.declared.{regime.Regime.Regime, regime.Bank.Bank, range.Range.Range, level.Params.Params}
 
 abbrev pub afterNext : Next → (Lookup → List ℕ) → List ℕ
 afterNext (deeper l) k = k l

@@ -14,14 +14,14 @@ use Rattle.word.specs.declared.ram.Word.{Word}
 use Rattle.word.specs.declared.ram.Word.the-variants.{Value, Outside}
 use Rattle.walk.specs.Regime.{singlePriv, wxnOf}
 use Rattle.walk.specs.Descriptor.{valid, tableOrPage, af}
-use Rattle.walk.specs.Table.{Result, mapped, faults, addressSize, translation, accessFlag, externalAbort, firstblocklevel, inRange, beyond, Lookup, Next, deeper, ends, firstLookup, rangeOf, paramsOf, tableNext, leafTranslation, leafResult, levelNext, descaddr, lookupNext, walkFrom, walkRange, tableWalk}
+use Rattle.walk.specs.Table.{Result, mapped, faults, addressSize, translation, accessFlag, externalAbort, firstblocklevel, inRange, beyond, Lookup, Next}
+use Rattle.walk.specs.Table.{deeper, ends, firstLookup, rangeOf, paramsOf, tableNext, leafTranslation, leafResult, levelNext, descaddr, lookupNext}
+use Rattle.walk.specs.Table.{walkFrom, walkRange, tableWalk}
 use Rattle.walk.specs.Walk.{leafOf, walkedOf, walkOf}
 use Rattle.walk.specs.SizeLaws.{pa-size-low, pa-size-high, start-level}
 use Rattle.walk.specs.WalkBounds.{next-level}
 use Rattle.walk.specs.Fetches.{fetchesRange, fetchesOf}
-use Rattle.walk.specs.declared.regime.Regime.{Regime}
-use Rattle.walk.specs.declared.regime.Bank.{Bank}
-use Rattle.walk.specs.declared.level.Params.{Params}
+use Rattle.walk.specs.declared.{regime.Regime.Regime, regime.Bank.Bank, level.Params.Params}
 use Rattle.walk.specs.declared.level.Walked.the-variants.{Mapped, Fault as Faulted}
 
 -- what a descriptor is at a level: a table, a page or block, or a leaf where there can be none
@@ -121,7 +121,8 @@ module _ (p : Params) (va : ℕ) (l : Lookup) (desc : ℕ) where
       n : eqb (l .level) 3 ≡ false
       n = not-last (l .level) (early-not-last (p .largegrain) (l .level) h)
 
-      go : (v : Bool) → pick (not v || (eqb (l .level) 3 && not (tableOrPage desc))) (ends (faults (translation (l .level)))) (pick (eqb (l .level) 3 || not (tableOrPage desc)) (ends (leafResult p va l desc)) (tableNext p l desc)) ≡ ends (faults (translation (l .level)))
+      go : (v : Bool) → pick (not v || (eqb (l .level) 3 && not (tableOrPage desc))) (ends (faults (translation (l .level))))
+          (pick (eqb (l .level) 3 || not (tableOrPage desc)) (ends (leafResult p va l desc)) (tableNext p l desc)) ≡ ends (faults (translation (l .level)))
       go true = rw (t, n, lt-ltb (l .level) (firstblocklevel (p .largegrain)) h)
       go false = refl
 

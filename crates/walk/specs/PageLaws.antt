@@ -11,18 +11,16 @@ use Rattle.word.specs.declared.ram.Word.{Word}
 use Rattle.word.specs.declared.ram.Word.the-variants.{Value, Outside}
 use Rattle.walk.specs.Regime.{singlePriv, wxnOf}
 use Rattle.walk.specs.Descriptor.{valid, tableOrPage, af}
-use Rattle.walk.specs.Table.{Translation, Result, mapped, faults, addressSize, translation, accessFlag, externalAbort, firstblocklevel, inputsize, inRange, startlevel, addrselectbottom, beyond, outputaddress, Lookup, Next, deeper, ends, firstLookup, rangeOf, paramsOf, tableNext, leafTranslation, leafResult, levelNext, descaddr, onWord, lookupNext, onNext, walkFrom, walkRange, tableWalk}
+use Rattle.walk.specs.Table.{Translation, Result, mapped, faults, addressSize, translation, accessFlag, externalAbort, firstblocklevel, inputsize}
+use Rattle.walk.specs.Table.{inRange, startlevel, addrselectbottom, beyond, outputaddress, Lookup, Next, deeper, ends, firstLookup, rangeOf, paramsOf}
+use Rattle.walk.specs.Table.{tableNext, leafTranslation, leafResult, levelNext, descaddr, onWord, lookupNext, onNext, walkFrom, walkRange, tableWalk}
 use Rattle.walk.specs.Walk.{walkedOf, walkOf}
 use Rattle.walk.specs.SizeLaws.{input-low, index-above-page}
 use Rattle.walk.specs.WalkBounds.{SoundWalked, walk-sound}
 use Rattle.walk.specs.Fetches.{afterNext, fetchesFrom, fetchesRange, fetchesOf}
-use Rattle.walk.specs.declared.regime.Regime.{Regime}
+use Rattle.walk.specs.declared.{regime.Regime.Regime, regime.Bank.Bank, range.Range.Range, level.Params.Params}
+use Rattle.walk.specs.declared.{level.Leaf.Leaf, level.Walked.Walked}
 use Rattle.walk.specs.declared.regime.Regime.the-variants.{El1, El2, El3}
-use Rattle.walk.specs.declared.regime.Bank.{Bank}
-use Rattle.walk.specs.declared.range.Range.{Range}
-use Rattle.walk.specs.declared.level.Params.{Params}
-use Rattle.walk.specs.declared.level.Leaf.{Leaf}
-use Rattle.walk.specs.declared.level.Walked.{Walked}
 use Rattle.walk.specs.declared.level.Walked.the-variants.{Mapped, Fault as Faulted}
 
 -- a leaf with another output address

@@ -7,11 +7,11 @@ use native.Mathlib.Omega.{arith}
 use lib.Dec.{eqb}
 use Rattle.word.specs.Bits.{bitOn, flag, pick}
 use Rattle.walk.specs.Descriptor.{ap1, ap2, pxn, uxn}
-use Rattle.walk.specs.Permission.{Access, reading, writing, fetching, dataAccess, dataAccessOnly, executeEl1, executeEl0, executeOnly, underApTable, underXnTable, Rights, rights, grants, rightsOf, allowed, accessBits, permissionByte}
+use Rattle.walk.specs.Permission.{Access, reading, writing, fetching, dataAccess, dataAccessOnly, executeEl1, executeEl0, executeOnly, underApTable}
+use Rattle.walk.specs.Permission.{underXnTable, Rights, rights, grants, rightsOf, allowed, accessBits, permissionByte}
 use Rattle.walk.specs.Table.{Lookup, leafPermissions, permissionsOne, permissionsTwo}
 pub use Rattle.walk.specs.Permission.{kindBit, firstBit}
-use Rattle.walk.specs.declared.level.Params.{Params}
-use Rattle.walk.specs.declared.rights.Permissions.{Permissions}
+use Rattle.walk.specs.declared.{level.Params.Params, rights.Permissions.Permissions}
 
 -- AArch64.CheckPermission: r, w, and xn negated
 abbrev made : Bool → Bool → Bool → Rights

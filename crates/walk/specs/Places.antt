@@ -8,8 +8,7 @@ use Rattle.walk.specs.Descriptor.{valid, tableOrPage, attrIndx, ns, ap1,
 use Rattle.walk.specs.Regime.{mmuOn, wxnOf, nonSecure, tge, dc}
 use Rattle.walk.specs.Size.{paSize}
 use Rattle.walk.specs.Table.{lowerRange, upperRange, onlyRange, inputsize, startlevelOf, firstblocklevel, beyond, outputaddress}
-use Rattle.walk.specs.declared.regime.Bank.{Bank}
-use Rattle.walk.specs.declared.range.Range.{Range}
+use Rattle.walk.specs.declared.{regime.Bank.Bank, range.Range.Range}
 
 -- descriptors: lower attributes
 

@@ -6,13 +6,11 @@ use Prim.Native.Nat.{ℕ}
 use lib.Dec.{eqb}
 use Rattle.word.specs.Bits.{bitOn, bit0, pick}
 use Rattle.sysreg.specs.Regs.{controlAt}
-use Rattle.sysreg.specs.declared.regs.Control.{Control}
-use Rattle.sysreg.specs.declared.regs.El.{El}
+use Rattle.sysreg.specs.declared.{regs.Control.Control, regs.El.El}
 use Rattle.sysreg.specs.declared.regs.El.the-variants as El
 use Rattle.sysreg.specs.declared.regs.ControlReg.the-variants.{Sctlr, Tcr, Ttbr0, Ttbr1, Scr, Hcr}
-use Rattle.walk.specs.declared.regime.Regime.{Regime}
+use Rattle.walk.specs.declared.{regime.Regime.Regime, regime.Bank.Bank}
 use Rattle.walk.specs.declared.regime.Regime.the-variants.{El1, El2, El3}
-use Rattle.walk.specs.declared.regime.Bank.{Bank}
 
 -- the regime of an exception level: EL0 shares that of EL1. M15: v8.0 has no EL2 in Secure state, and so no such regime there. M12: SCR_EL3.RW and
 -- HCR_EL2.RW would make it AArch32's

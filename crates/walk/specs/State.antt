@@ -7,14 +7,9 @@ use Rattle.word.specs.Bits.{alignDown}
 use Rattle.walk.specs.Descriptor.{apTable0, apTable1, uxnTable, pxnTable}
 use Rattle.walk.specs.Table.{statusOf, entered, Lookup, Result, Next, deeper, ends, inputsize, startlevel, startlevelOf, addrselectbottom, baselowerbound}
 use Rattle.walk.specs.Walk.{walkedOf}
-use Rattle.walk.specs.declared.range.Range.{Range}
-use Rattle.walk.specs.declared.range.Start.{Start}
-use Rattle.walk.specs.declared.range.Begin.{Begin}
+use Rattle.walk.specs.declared.{range.Range.Range, range.Start.Start, range.Begin.Begin, level.Params.Params}
+use Rattle.walk.specs.declared.{level.WalkState.WalkState, level.Walked.Walked, level.Step.Step}
 use Rattle.walk.specs.declared.range.Begin.the-variants.{At, Refused}
-use Rattle.walk.specs.declared.level.Params.{Params}
-use Rattle.walk.specs.declared.level.WalkState.{WalkState}
-use Rattle.walk.specs.declared.level.Walked.{Walked}
-use Rattle.walk.specs.declared.level.Step.{Step}
 use Rattle.walk.specs.declared.level.Step.the-variants.{Next as Onward, Done}
 
 -- the manual's state that a state of the code stands for. Of `tables` bits 62 to 59 alone count; the others are free

@@ -14,12 +14,9 @@ use Rattle.walk.specs.Descriptor.{valid, tableOrPage, ap1, ap2, af, nG, 
 use Rattle.walk.specs.Permission.{underApTable, underXnTable}
 use Rattle.walk.specs.Regime.{singlePriv, wxnOf}
 use Rattle.walk.specs.Size.{paSize}
-use Rattle.walk.specs.declared.regime.Regime.{Regime}
+use Rattle.walk.specs.declared.{regime.Regime.Regime, regime.Bank.Bank, range.Range.Range}
+use Rattle.walk.specs.declared.{rights.Permissions.Permissions, level.Params.Params}
 use Rattle.walk.specs.declared.regime.Regime.the-variants.{El1, El2, El3}
-use Rattle.walk.specs.declared.regime.Bank.{Bank}
-use Rattle.walk.specs.declared.range.Range.{Range}
-use Rattle.walk.specs.declared.rights.Permissions.{Permissions}
-use Rattle.walk.specs.declared.level.Params.{Params}
 
 -- how a walk ends short of a leaf, with the level
 pub data Fault : Type 0 where

@@ -3,9 +3,7 @@ use Prim.Native.Nat.{ℕ, zero, suc}
 use Rattle.word.specs.declared.ram.Word.{Word}
 use Rattle.walk.specs.Table.{Lookup, Next, deeper, ends, firstLookup, entered, rangeOf, paramsOf, descaddr, lookupNext}
 use Rattle.walk.specs.State.{Outcome, lookupOf, stepped, meant}
-use Rattle.walk.specs.declared.regime.Regime.{Regime}
-use Rattle.walk.specs.declared.regime.Bank.{Bank}
-use Rattle.walk.specs.declared.level.Params.{Params}
+use Rattle.walk.specs.declared.{regime.Regime.Regime, regime.Bank.Bank, level.Params.Params}
 use Rattle.walk.specs.declared.table.Visited.{Visited}
 use Rattle.walk.specs.declared.table.Visited.the-variants.{At, Beyond}
 

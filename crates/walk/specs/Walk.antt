@@ -5,10 +5,7 @@ use Rattle.word.specs.declared.ram.Word.{Word}
 use Rattle.walk.specs.Regime.{singlePriv, wxnOf}
 use Rattle.walk.specs.Table.{Translation, Result, mapped, faults, statusOf, tableWalk}
 use Rattle.walk.specs.Permission.{permissionByte}
-use Rattle.walk.specs.declared.regime.Regime.{Regime}
-use Rattle.walk.specs.declared.regime.Bank.{Bank}
-use Rattle.walk.specs.declared.level.Leaf.{Leaf}
-use Rattle.walk.specs.declared.level.Walked.{Walked}
+use Rattle.walk.specs.declared.{regime.Regime.Regime, regime.Bank.Bank, level.Leaf.Leaf, level.Walked.Walked}
 use Rattle.walk.specs.declared.level.Walked.the-variants.{Mapped, Fault}
 
 -- a leaf keeps the output address, the permission byte, the level, whether it holds for every ASID, and its descriptor. M1 (docs/DIFFERENCES.md): in

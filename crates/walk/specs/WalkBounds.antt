@@ -15,16 +15,14 @@ use Rattle.word.specs.declared.ram.Word.{Word}
 use Rattle.word.specs.declared.ram.Word.the-variants.{Value, Outside}
 use Rattle.walk.specs.Regime.{singlePriv, wxnOf}
 use Rattle.walk.specs.Descriptor.{valid, tableOrPage, af}
-use Rattle.walk.specs.Table.{Fault, addressSize, translation, accessFlag, externalAbort, statusOf, Translation, Result, mapped, faults, firstblocklevel, startlevel, addrselectbottom, inRange, beyond, outputaddress, Lookup, Next, deeper, ends, firstLookup, rangeOf, paramsOf, tableNext, leafTranslation, leafResult, levelNext, descaddr, onWord, lookupNext, onNext, walkFrom, walkRange, tableWalk}
+use Rattle.walk.specs.Table.{Fault, addressSize, translation, accessFlag, externalAbort, statusOf, Translation, Result, mapped, faults, firstblocklevel}
+use Rattle.walk.specs.Table.{startlevel, addrselectbottom, inRange, beyond, outputaddress, Lookup, Next, deeper, ends, firstLookup, rangeOf, paramsOf}
+use Rattle.walk.specs.Table.{tableNext, leafTranslation, leafResult, levelNext, descaddr, onWord, lookupNext, onNext, walkFrom, walkRange, tableWalk}
 use Rattle.walk.specs.Permission.{Rights, accessBits, permissionByte, rightsOf}
 use Rattle.walk.specs.Walk.{walkedOf, walkOf}
 use Rattle.walk.specs.SizeLaws.{pa-size-low, pa-size-high, start-level, block-level, block-size, index-above-page}
-use Rattle.walk.specs.declared.regime.Regime.{Regime}
-use Rattle.walk.specs.declared.regime.Bank.{Bank}
-use Rattle.walk.specs.declared.range.Range.{Range}
-use Rattle.walk.specs.declared.rights.Permissions.{Permissions}
-use Rattle.walk.specs.declared.level.Params.{Params}
-use Rattle.walk.specs.declared.level.Leaf.{Leaf}
+use Rattle.walk.specs.declared.{regime.Regime.Regime, regime.Bank.Bank, range.Range.Range}
+use Rattle.walk.specs.declared.{rights.Permissions.Permissions, level.Params.Params, level.Leaf.Leaf}
 use Rattle.walk.specs.declared.level.Walked.{Walked}
 use Rattle.walk.specs.declared.level.Walked.the-variants.{Mapped, Fault as Faulted}
 
@@ -104,7 +102,8 @@ module _ (p : Params) (low : 32 ≤ p .outputsize) (high : p .outputsize ≤ 44)
   unfolding tableNext
   table-sound l desc h = go (beyond (p .outputsize) desc) _ (refl, omega arith)
     where
-      go : (b : Bool) (m : Lookup) → (m .level ≡ l .level + 1) × (m .level ≤ 3) → SoundNext va (l .level) (pick b (ends (faults (addressSize (l .level)))) (deeper m))
+      go : (b : Bool) (m : Lookup) → (m .level ≡ l .level + 1) × (m .level ≤ 3)
+          → SoundNext va (l .level) (pick b (ends (faults (addressSize (l .level)))) (deeper m))
       go true m k = omega arith
       go false m k = k
 
@@ -139,7 +138,8 @@ module _ (p : Params) (low : 32 ≤ p .outputsize) (high : p .outputsize ≤ 44)
   from-sound zero memory l h = omega arith
   from-sound (suc n) memory l h = go (lookupNext memory p va l) (lookup-sound memory l h) (λ k. from-sound n memory k)
     where
-      go : (x : Next) → SoundNext va (l .level) x → ((k : Lookup) → k .level ≤ 3 → Sound va (walkFrom n memory p va k)) → Sound va (onNext x (walkFrom n memory p va))
+      go : (x : Next) → SoundNext va (l .level) x → ((k : Lookup) → k .level ≤ 3 → Sound va (walkFrom n memory p va k))
+          → Sound va (onNext x (walkFrom n memory p va))
       go (deeper k) hk ih = ih k (hk .1)
       go (ends r) hr ih = hr
 

@@ -1,6 +1,6 @@
 -- What the window's test says of the numbers, and how a part that was lent comes back.
 use mathlib.Core.Path.{_≡_, refl, sym, ap, _∙_}
-use mathlib.Core.Bool.{Bool, true, false, _&&_}
+use mathlib.Core.Bool.{Bool, true, false}
 use mathlib.Core.List.{List, _++_, append-nil}
 use Prim.Native.Nat.{ℕ, zero, suc, _+_, _-_, _*_, _/_, _%_, _<_, _≤_}
 use native.Mathlib.Numerals.{add-one}
@@ -10,7 +10,7 @@ use lib.Dec.{leb}
 use lib.ListN.{take, drop, length, getD, set, length-drop}
 use lib.Seq.{take-suc-set, append-snoc, take-all, length-take-le}
 use Rattle.word.specs.Ram.{littleEndian, bytesOf, within, wordAt, written, stored}
-use Rattle.word.specs.RamLaws.{le-join}
+use Rattle.word.specs.RamLaws.{within-low, within-high, le-join}
 use Rattle.word.specs.declared.ram.Word.the-variants.{Value, Outside}
 
 -- two tests that ask the same
@@ -33,22 +33,13 @@ module _ (base len n pa : ℕ) where
   test-below h = rw (lt-leb base pa h)
 
 -- an access that fits begins in the window and ends in it
-and-left : (a b : Bool) → (a && b) ≡ true → a ≡ true
-and-left true b e = refl
-and-left false b e = e
-
-and-right : (a b : Bool) → (a && b) ≡ true → b ≡ true
-and-right true b e = e
-and-right false true e = refl
-and-right false false e = e
-
 pub fits-base : (base len n pa : ℕ) (r : Bool) → r ≡ true → r ≡ within base len n pa → base ≤ pa
-fits-base base len n pa r t e = leb-true base pa (and-left (leb base pa) (leb (pa + n) (base + len)) (sym e ∙ t))
+fits-base base len n pa r t e = within-low base len n pa (sym e ∙ t)
 
 pub fits-end : (base len n pa : ℕ) (r : Bool) → r ≡ true → r ≡ within base len n pa → pa - base + n ≤ len
 fits-end base len n pa r t e =
     let h = fits-base base len n pa r t e in
-    let k = leb-true (pa + n) (base + len) (and-right (leb base pa) (leb (pa + n) (base + len)) (sym e ∙ t)) in
+    let k = within-high base len n pa (sym e ∙ t) in
     omega arith
 
 pub part-end : (base len n m pa : ℕ) (r : Bool) → r ≡ true → r ≡ within base len n pa → n ≡ m → pa - base + m ≤ len
@@ -66,7 +57,8 @@ store-width base ram ys n m pa v w e = rw w at e
 
 -- a read, by its test
 module _ (base : ℕ) (ram : List ℕ) (n pa : ℕ) where
-  pub read-inside : (v k : ℕ) (r : Bool) → r ≡ true → r ≡ within base (length ram) k pa → k ≡ n → v ≡ littleEndian ram n (pa - base) → Value v ≡ wordAt base ram n pa
+  pub read-inside : (v k : ℕ) (r : Bool) → r ≡ true → r ≡ within base (length ram) k pa → k ≡ n → v ≡ littleEndian ram n (pa - base) → Value v
+      ≡ wordAt base ram n pa
   unfolding wordAt
   read-inside v k r t e w l = rw (← w, ← e, t, l, w)
 
@@ -74,7 +66,8 @@ module _ (base : ℕ) (ram : List ℕ) (n pa : ℕ) where
   unfolding wordAt
   read-outside k r t e w = rw (← w, ← e, t)
 
-  pub store-inside : (ys : List ℕ) (v : ℕ) (r : Bool) → r ≡ true → r ≡ within base (length ram) n pa → ys ≡ written ram (pa - base) n v → ys ≡ stored base ram n pa v
+  pub store-inside : (ys : List ℕ) (v : ℕ) (r : Bool) → r ≡ true → r ≡ within base (length ram) n pa → ys ≡ written ram (pa - base) n v → ys
+      ≡ stored base ram n pa v
   unfolding stored
   store-inside ys v r t e l = rw (← e, t) l
 
@@ -83,11 +76,13 @@ module _ (base : ℕ) (ram : List ℕ) (n pa : ℕ) where
   store-outside v r t e = rw (← e, t)
 
 -- a turn of the loop that writes the bytes, and its end
-pub bytes-translation : (l : List ℕ) (i v n : ℕ) → i < length l → length l ≡ n → take (i + 1) (set l i (v % 256)) ++ bytesOf (n - (i + 1)) (v / 256) ≡ take i l ++ bytesOf (n - i) v
+pub bytes-translation : (l : List ℕ) (i v n : ℕ) → i < length l → length l ≡ n → take (i + 1) (set l i (v % 256)) ++ bytesOf (n - (i + 1)) (v / 256)
+    ≡ take i l ++ bytesOf (n - i) v
 unfolding bytesOf
 bytes-translation l i v n h e =
     let less : n - i ≡ suc (n - suc i) = omega arith in
-    ap (λ (m : ℕ). take m (set l i (v % 256)) ++ bytesOf (n - m) (v / 256)) (add-one i) ∙ ap (λ (xs : List ℕ). xs ++ bytesOf (n - suc i) (v / 256)) (take-suc-set l i (v % 256) h)
+    ap (λ (m : ℕ). take m (set l i (v % 256)) ++ bytesOf (n - m) (v / 256)) (add-one i)
+    ∙ ap (λ (xs : List ℕ). xs ++ bytesOf (n - suc i) (v / 256)) (take-suc-set l i (v % 256) h)
     ∙ append-snoc (take i l) (v % 256) (bytesOf (n - suc i) (v / 256)) ∙ ap (λ (m : ℕ). take i l ++ bytesOf m v) (sym less)
 
 pub bytes-end : (l : List ℕ) (i v n : ℕ) → length l ≡ n → n ≤ i → take i l ++ bytesOf (n - i) v ≡ l
@@ -97,7 +92,8 @@ bytes-end l i v n e h =
     ap (λ (m : ℕ). take i l ++ bytesOf m v) none ∙ append-nil (take i l) ∙ take-all i l (omega arith)
 
 -- the part that was lent comes back with the bytes in it
-pub put-part : (xs ys : List ℕ) (at n v : ℕ) → at + n ≤ length xs → ys ≡ bytesOf (length (take (at + n - at) (drop at xs))) v → take at xs ++ (ys ++ drop (at + n - at) (drop at xs)) ≡ written xs at n v
+pub put-part : (xs ys : List ℕ) (at n v : ℕ) → at + n ≤ length xs → ys ≡ bytesOf (length (take (at + n - at) (drop at xs))) v
+    → take at xs ++ (ys ++ drop (at + n - at) (drop at xs)) ≡ written xs at n v
 put-part xs ys at n v h e =
     let m : at + n - at ≡ n = omega arith in
     let dropped : length (drop at xs) ≡ length xs - at = length-drop at xs in

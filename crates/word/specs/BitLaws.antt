@@ -1,6 +1,6 @@
 -- Laws of bit fields, each over the width: what proofs above cite in place of the arithmetic.
 use mathlib.Core.Path.{_≡_, refl, sym, ap, _∙_}
-use mathlib.Core.Bool.{Bool, true, false, _&&_, _||_}
+use mathlib.Core.Bool.{Bool, true, false, _&&_, _||_, false≢true}
 use Prim.Native.Nat.{ℕ, zero, suc, _+_, _-_, _*_, _/_, _%_, _^_, _≤_, _<_, max}
 use native.Mathlib.Nat.{mod-eq-of-lt, mod-lt, add-sub-of-le, max-le, mul-assoc, mul-add-div-right, mul-add-mod-self-right}
 use native.Mathlib.Omega.{arith}
@@ -8,12 +8,17 @@ use lib.Arith.{digits-lt}
 use lib.Bits.{bitOr, or-shr, or-step}
 use lib.Dec.{eqb}
 use lib.Pow
-use lib.Pow.{split, shl-shr, shr-shr, shr-lt, pow-pos, pow-add}
+use lib.Pow.{split, shr-shr, shr-lt, pow-pos, pow-add}
 use Rattle.word.specs.Bits.{bitOn, field, alignDown}
 
 -- a place below 64 is the place that the machine takes
 pub place : {n : ℕ} → n < 64 → n % 64 ≡ n
 place h = mod-eq-of-lt h
+
+-- a test of two parts that passes
+pub both : (a b : Bool) → (a && b) ≡ true → (a ≡ true) × (b ≡ true)
+both true b e = (refl, e)
+both false b e = absurd (false≢true e)
 
 -- aligning goes down
 pub align-le : (x n : ℕ) → alignDown x n ≤ x
@@ -22,17 +27,6 @@ align-le x n = omega (arith, split x n)
 -- and what it drops is the remainder
 pub align-low : (x n : ℕ) → x - alignDown x n ≡ x % 2 ^ n
 align-low x n = omega (arith, split x n)
-
--- aligned numbers have no bits below
-pub align-mod : (x n : ℕ) → alignDown x n % 2 ^ n ≡ 0
-align-mod x n = let h = split (alignDown x n) n in let e = shl-shr (x / 2 ^ n) n in omega (arith, rw e at h)
-
--- aligning by n leaves every higher bit as it is
-pub align-div : (x : ℕ) {n m : ℕ} → n ≤ m → alignDown x n / 2 ^ m ≡ x / 2 ^ m
-align-div x {n} {m} h =
-    let e : n + (m - n) ≡ m = add-sub-of-le h in
-    ap (λ (k : ℕ). alignDown x n / 2 ^ k) (sym e) ∙ sym (shr-shr (alignDown x n) n (m - n)) ∙ ap (λ (k : ℕ). k / 2 ^ (m - n)) (shl-shr (x / 2 ^ n) n)
-    ∙ shr-shr x n (m - n) ∙ ap (λ (k : ℕ). x / 2 ^ k) e
 
 -- the bits lo to hi of a number cut at hi are those of the number
 pub cut-field : (x : ℕ) {lo hi : ℕ} → lo ≤ hi → x % 2 ^ hi / 2 ^ lo ≡ field x lo (hi - lo)

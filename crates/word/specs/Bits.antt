@@ -1,6 +1,6 @@
 -- Bit fields of a number in the manual's terms, by division and remainder.
 use mathlib.Core.Bool.{Bool, true, false}
-use Prim.Native.Nat.{ℕ, _+_, _-_, _*_, _/_, _%_, _^_}
+use Prim.Native.Nat.{ℕ, _*_, _/_, _%_, _^_}
 use lib.Dec.{eqb}
 
 -- x<i> == '1'

@@ -5,11 +5,9 @@ use Prim.Native.Nat.{ℕ, zero, suc, _+_, _-_, _*_, _/_, _%_}
 use lib.Dec.{leb, eqb}
 use lib.ListN.{length, getD, take, drop}
 use Rattle.word.specs.Bits.{pick}
-use Rattle.word.specs.declared.ram.Width.{Width}
+use Rattle.word.specs.declared.{ram.Width.Width, ram.Word.Word, ram.Sized.Sized}
 use Rattle.word.specs.declared.ram.Width.the-variants.{Byte, Half, Word as Single, Double}
-use Rattle.word.specs.declared.ram.Word.{Word}
 use Rattle.word.specs.declared.ram.Word.the-variants.{Value, Outside}
-use Rattle.word.specs.declared.ram.Sized.{Sized}
 use Rattle.word.specs.declared.ram.Sized.the-variants.{Bytes, Refused}
 
 abbrev pub bytesIn : Width → ℕ

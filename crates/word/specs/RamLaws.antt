@@ -11,8 +11,17 @@ use lib.Dec.{leb}
 use lib.ListN.{length, getD, take, drop, List·getD-append}
 use lib.Seq.{length-take-le, getD-append-add}
 use Rattle.word.specs.Bits.{pick}
-use Rattle.word.specs.Ram.{littleEndian, bytesOf, wordAt, written}
+use Rattle.word.specs.BitLaws.{both}
+use Rattle.word.specs.Ram.{littleEndian, bytesOf, within, wordAt, written}
 use Rattle.word.specs.declared.ram.Word.the-variants.{Value, Outside}
+
+-- an access inside the window begins in it and ends in it
+module _ (base len n pa : ℕ) (w : within base len n pa ≡ true) where
+  pub within-low : base ≤ pa
+  within-low = leb-true base pa (both (leb base pa) (leb (pa + n) (base + len)) w .0)
+
+  pub within-high : pa + n ≤ base + len
+  within-high = leb-true (pa + n) (base + len) (both (leb base pa) (leb (pa + n) (base + len)) w .1)
 
 -- the value of m + n bytes is that of the first m, and above it that of the rest
 pub le-join : (ram : List ℕ) (m n at : ℕ) → littleEndian ram (m + n) at ≡ littleEndian ram m at + littleEndian ram n (at + m) * 256 ^ m

@@ -2,7 +2,7 @@
 // all of its bytes in the
 // window or moves none.
 ghost use mathlib.Core.Path.{_≡_};
-ghost use Prim.Native.Nat.{ℕ, _+_, _≤_};
+ghost use Prim.Native.Nat.{_+_, _≤_};
 ghost use lib.ListN.{length};
 ghost use Rattle.word.specs.Ram.{littleEndian, bytesOf, bytesIn, within, wordAt, written, stored, widthOf};
 use crate::bits;

@@ -1,25 +1,21 @@
 -- The loops over all hints and all entries: the start, a turn and the end of each.
-use mathlib.Core.Path.{_≡_, refl, sym, ap, _∙_}
+use mathlib.Core.Path.{_≡_, refl, ap, _∙_}
 use mathlib.Core.Bool.{Bool, true, false}
 use mathlib.Core.List.{List, map}
 use Prim.Native.Nat.{ℕ, _+_, _≤_, _<_}
-use native.Mathlib.Omega.{arith}
-use lib.Dec.{eqb}
-use lib.ListN.{length}
 use Rattle.word.specs.Bits.{pick}
 use Rattle.tlb.specs.Entry.{blank, untagged, named, walkedFor, pageDropped, asidDropped}
 use Rattle.tlb.specs.Hint.{noHint, noFetch}
 use Rattle.tlb.specs.Cache.{entryAt, blanks, noHints}
 use Rattle.tlb.specs.Lists.{swept}
-use Rattle.tlb.specs.declared.entry.Entry.{Entry}
-use Rattle.tlb.specs.declared.hint.Hint.{Hint}
-use Rattle.tlb.specs.declared.hint.FetchHint.{FetchHint}
+use Rattle.tlb.specs.declared.{entry.Entry.Entry, hint.Hint.Hint, hint.FetchHint.FetchHint}
 use Rattle.mmu.specs.Core.{afterAccess}
 use Rattle.mmu.specs.declared.core.Core.{Core}
 use Rattle.words.specs.CoreOf.{coreOf}
 use Rattle.words.specs.Parts.{tagged, withCache, withHint, withEntry, withTag, withEntries, withFetchHint, withoutHints}
 use Rattle.words.specs.NowHolds.{NowHolds, stays, holds-as, holds-on, holds-then}
-use Rattle.words.specs.Sweeps.{withDataHints, hints, entries, hints-long, entries-long, hints-begin, hints-translation, hints-done, entries-begin, entries-translation, tags-translation, entries-done, blanks-done}
+use Rattle.words.specs.Sweeps.{withDataHints, hints, entries, hints-long, entries-long, hints-begin, hints-translation, hints-done, entries-begin}
+use Rattle.words.specs.Sweeps.{entries-translation, tags-translation, entries-done, blanks-done}
 
 fetch-out : (c : Core) → withFetchHint (withDataHints c noHints) noFetch ≡ withoutHints c
 unfolding withFetchHint withDataHints withoutHints withCache afterAccess
@@ -42,7 +38,8 @@ module _ (ws : List ℕ) where
   hints-end xs i g m = holds-as m (hints-done (coreOf ws) i (hints-long ws) g)
 
   -- then the fetch hint
-  pub hints-gone : (xs ys : List ℕ) (f : FetchHint) → f ≡ noFetch → NowHolds ws xs (withDataHints (coreOf ws) noHints) → NowHolds xs ys (withFetchHint (coreOf xs) f)
+  pub hints-gone : (xs ys : List ℕ) (f : FetchHint) → f ≡ noFetch → NowHolds ws xs (withDataHints (coreOf ws) noHints)
+      → NowHolds xs ys (withFetchHint (coreOf xs) f)
       → NowHolds ws ys (withoutHints (coreOf ws))
   hints-gone xs ys f e m n = holds-on (λ c. withFetchHint c f) m n (ap (withFetchHint (withDataHints (coreOf ws) noHints)) e ∙ fetch-out (coreOf ws))
 
@@ -69,7 +66,8 @@ module _ (ws : List ℕ) where
       (λ k. tags-translation (coreOf ws) g t i (d .tag) (rw (entries-long ws) h)
       (ap (λ (x : Entry). x .tag) q ∙ ap (λ (x : Entry). g x .tag) p ∙ ap (λ (c : Core). g (entryAt (c .tlb .cache) i) .tag) k))
 
-  pub entries-end : (g : Entry → Entry) (xs : List ℕ) (i : ℕ) → 1024 ≤ i → EntriesBy g i xs → NowHolds ws xs (withEntries (coreOf ws) (map g (entries (coreOf ws))))
+  pub entries-end : (g : Entry → Entry) (xs : List ℕ) (i : ℕ) → 1024 ≤ i → EntriesBy g i xs
+      → NowHolds ws xs (withEntries (coreOf ws) (map g (entries (coreOf ws))))
   entries-end g xs i h m = holds-as m (entries-done (coreOf ws) g i (entries-long ws) h)
 
 -- a dropped entry loses its tag alone

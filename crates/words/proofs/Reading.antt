@@ -2,38 +2,30 @@
 use mathlib.Core.Path.{_≡_, refl, sym, ap, _∙_}
 use mathlib.Core.Bool.{Bool, true, false}
 use mathlib.Core.List.{List}
-use Prim.Native.Nat.{ℕ, _+_, _*_, _%_, _^_, _≤_, _<_}
+use Prim.Native.Nat.{ℕ, _+_, _≤_, _<_}
 use native.Mathlib.Omega.{arith}
-use borrow.Author.Tests.{lt-ltb, le-ltb, ltb-false, eq-eqb, ne-eqb}
+use borrow.Author.Tests.{lt-ltb, le-ltb, ltb-false, ne-eqb}
 use lib.Dec.{eqb, ltb}
-use lib.ListN.{getD, length}
 use Rattle.word.specs.Bits.{pick}
 use Rattle.sysreg.specs.Regs.{controlAt, sysAt}
-use Rattle.sysreg.specs.declared.regs.El.{El}
+use Rattle.sysreg.specs.declared.{regs.El.El, regs.ControlReg.ControlReg}
 use Rattle.sysreg.specs.declared.regs.El.the-variants.{El1, El2, El3}
-use Rattle.sysreg.specs.declared.regs.ControlReg.{ControlReg}
 use Rattle.sysreg.specs.declared.regs.ControlReg.the-variants.{Sctlr, Tcr, Ttbr0, Ttbr1, Scr, Hcr}
-use Rattle.sysreg.specs.declared.regs.SysReg.{SysReg}
-use Rattle.sysreg.specs.declared.regs.SysReg.the-variants.{Mair, Vbar, Elr, Spsr, Esr, Far, Vpidr, Vmpidr, Par}
+use Rattle.sysreg.specs.declared.regs.SysReg.the-variants.{Mair, Vbar}
 use Rattle.walk.specs.Regime as regime
 use Rattle.walk.specs.Regime.{bankOf}
-use Rattle.walk.specs.declared.regime.Regime.{Regime}
+use Rattle.walk.specs.declared.{regime.Regime.Regime, regime.Bank.Bank}
 use Rattle.walk.specs.declared.regime.Regime.the-variants as Regime
-use Rattle.walk.specs.declared.regime.Bank.{Bank}
 use Rattle.tlb.specs.Cache.{hintAt, entryAt}
 use Rattle.tlb.specs.Hint.{noHint}
 use Rattle.tlb.specs.Entry.{blank}
-use Rattle.tlb.specs.declared.access.Privilege.{Privilege}
-use Rattle.tlb.specs.declared.entry.Entry.{Entry}
-use Rattle.tlb.specs.declared.hint.Hint.{Hint}
-use Rattle.tlb.specs.declared.Inval.the-variants.{All, Page, Asid}
-use Rattle.tlb.specs.declared.Pending.{Pending}
-use Rattle.tlb.specs.declared.Pending.the-variants.{Nothing, Some}
+use Rattle.tlb.specs.declared.{access.Privilege.Privilege, entry.Entry.Entry, hint.Hint.Hint}
+use Rattle.tlb.specs.declared.Pending.the-variants.{Nothing}
 use Rattle.mmu.specs.Core.{regOf}
-use Rattle.words.specs.Tables.{table, table-at, table-past}
-use Rattle.words.specs.CoreOf.{word, levelIn, pendingOf, hintIn, entryIn, coreOn, coreBy, coreOf}
-use Rattle.words.specs.RegWrites.{bankIndex, levelIndex, controlPlace, sysPlace}
-use Rattle.words.specs.Places.{TCR, TTBR0, MAIR, VBAR, ELR, SPSR, ESR, FAR, GENERAL, LEVEL, UNPRIVILEGED, PENDING, PENDING-VALUE}
+use Rattle.words.specs.Tables.{table-at, table-past}
+use Rattle.words.specs.CoreOf.{word, levelIn, hintIn, entryIn, coreOn, coreBy, coreOf}
+use Rattle.words.specs.RegWrites.{bankIndex, levelIndex, controlPlace}
+use Rattle.words.specs.Places.{MAIR, VBAR, GENERAL, LEVEL, UNPRIVILEGED, PENDING}
 
 abbrev privilegeBy : ℕ → Bool → Privilege
 privilegeBy level mark = record { level = level; unprivileged = mark }
@@ -82,18 +74,6 @@ entry-past ws j e q g = q ∙ sym (table-past 1024 (entryIn (word ws)) j blank g
 
 -- what is pending
 module _ (ws : List ℕ) where
-  pub pending-all : word ws PENDING ≡ 1 → Some All ≡ coreOf ws .tlb .broadcast
-  unfolding coreOf coreBy coreOn
-  pending-all e = sym (ap (λ (n : ℕ). pendingOf n (word ws PENDING-VALUE)) e)
-
-  pub pending-page : word ws PENDING ≡ 2 → Some (Page (word ws PENDING-VALUE)) ≡ coreOf ws .tlb .broadcast
-  unfolding coreOf coreBy coreOn
-  pending-page e = sym (ap (λ (n : ℕ). pendingOf n (word ws PENDING-VALUE)) e)
-
-  pub pending-asid : word ws PENDING ≡ 3 → Some (Asid (word ws PENDING-VALUE % 2 ^ 16)) ≡ coreOf ws .tlb .broadcast
-  unfolding coreOf coreBy coreOn
-  pending-asid e = sym (ap (λ (n : ℕ). pendingOf n (word ws PENDING-VALUE)) e)
-
   pub pending-none : (word ws PENDING ≡ 1 → ⊥) → (word ws PENDING ≡ 2 → ⊥) → (word ws PENDING ≡ 3 → ⊥) → Nothing ≡ coreOf ws .tlb .broadcast
   unfolding coreOf coreBy coreOn
   pending-none a b d = sym (rw (ne-eqb _ 1 a, ne-eqb _ 2 b, ne-eqb _ 3 d))
@@ -145,41 +125,3 @@ control-is ws Hcr = refl
 
 pub control-read : (ws : List ℕ) (r : ControlReg) (k : ℕ) → k ≡ controlPlace r → word ws k ≡ controlAt (coreOf ws .control) r
 control-read ws r k e = ap (word ws) e ∙ control-is ws r
-
--- places
-pub level-1 : (el : El) → el ≡ El1 → 0 ≡ levelIndex el
-level-1 el e = rw e
-
-pub level-2 : (el : El) → el ≡ El2 → 1 ≡ levelIndex el
-level-2 el e = rw e
-
-pub level-3 : (el : El) → el ≡ El3 → 2 ≡ levelIndex el
-level-3 el e = rw e
-
-pub sctlr-at : (r : ControlReg) (k : ℕ) (el : El) → r ≡ Sctlr el → k ≡ levelIndex el → k ≡ controlPlace r
-sctlr-at r k el e p = rw e p
-
-pub tcr-at : (r : ControlReg) (i : ℕ) (el : El) → r ≡ Tcr el → i ≡ levelIndex el → TCR + i ≡ controlPlace r
-tcr-at r i el e p = rw (e, p)
-
-pub ttbr0-at : (r : ControlReg) (i : ℕ) (el : El) → r ≡ Ttbr0 el → i ≡ levelIndex el → TTBR0 + i ≡ controlPlace r
-ttbr0-at r i el e p = rw (e, p)
-
-module _ (r : SysReg) (i : ℕ) (el : El) where
-  pub mair-at : r ≡ Mair el → i ≡ levelIndex el → MAIR + i ≡ sysPlace r
-  mair-at e p = rw (e, p)
-
-  pub vbar-at : r ≡ Vbar el → i ≡ levelIndex el → VBAR + i ≡ sysPlace r
-  vbar-at e p = rw (e, p)
-
-  pub elr-at : r ≡ Elr el → i ≡ levelIndex el → ELR + i ≡ sysPlace r
-  elr-at e p = rw (e, p)
-
-  pub spsr-at : r ≡ Spsr el → i ≡ levelIndex el → SPSR + i ≡ sysPlace r
-  spsr-at e p = rw (e, p)
-
-  pub esr-at : r ≡ Esr el → i ≡ levelIndex el → ESR + i ≡ sysPlace r
-  esr-at e p = rw (e, p)
-
-  pub far-at : r ≡ Far el → i ≡ levelIndex el → FAR + i ≡ sysPlace r
-  far-at e p = rw (e, p)

@@ -1,10 +1,9 @@
 -- A reset in place put together from its writers, on plain values, for `search`.
-use mathlib.Core.Path.{_≡_, refl, sym, ap, _∙_}
+use mathlib.Core.Path.{_≡_, refl, ap, _∙_}
 use mathlib.Core.List.{List}
 use Prim.Native.Nat.{ℕ}
 use Rattle.sysreg.specs.Write.{controlWith, sysWith}
-use Rattle.sysreg.specs.declared.regs.El.{El}
-use Rattle.sysreg.specs.declared.regs.SysReg.{SysReg}
+use Rattle.sysreg.specs.declared.{regs.El.El, regs.SysReg.SysReg}
 use Rattle.sysreg.specs.declared.regs.El.the-variants.{El1, El2, El3}
 use Rattle.sysreg.specs.declared.regs.ControlReg.the-variants.{Sctlr}
 use Rattle.sysreg.specs.declared.regs.SysReg.the-variants.{Vpidr, Vmpidr}
@@ -24,15 +23,19 @@ control c el v = withControl c (controlWith (c .control) (Sctlr el) v)
 abbrev system : Core → SysReg → ℕ → Core
 system c r v = withSys c (sysWith (c .sys) r v)
 
-registers-are : (c : Core) → system (system (control (control (control c El1 0x30D0_0800) El2 0x30C5_0830) El3 0x30C5_0830) Vpidr 0x410F_D083) Vmpidr 0x8000_0000 ≡ registered c
+registers-are : (c : Core) → system (system (control (control (control c El1 0x30D0_0800) El2 0x30C5_0830) El3 0x30C5_0830) Vpidr 0x410F_D083) Vmpidr
+    0x8000_0000 ≡ registered c
 unfolding registered withSctlr withControl withSys
 registers-are c = refl
 
 pub registers-put : (a b c d e f : List ℕ) → NowHolds a b (control (coreOf a) El1 0x30D0_0800) → NowHolds b c (control (coreOf b) El2 0x30C5_0830)
-    → NowHolds c d (control (coreOf c) El3 0x30C5_0830) → NowHolds d e (system (coreOf d) Vpidr 0x410F_D083) → NowHolds e f (system (coreOf e) Vmpidr 0x8000_0000)
+    → NowHolds c d (control (coreOf c) El3 0x30C5_0830) → NowHolds d e (system (coreOf d) Vpidr 0x410F_D083)
+    → NowHolds e f (system (coreOf e) Vmpidr 0x8000_0000)
     → coreOf f ≡ registered (coreOf a)
 registers-put a b c d e f p q r s t =
-    t .holds ∙ ap (λ (x : Core). system x Vmpidr 0x8000_0000) (s .holds ∙ ap (λ (x : Core). system x Vpidr 0x410F_D083) (r .holds ∙ ap (λ (x : Core). control x El3 0x30C5_0830) (q .holds ∙ ap (λ (x : Core). control x El2 0x30C5_0830) (p .holds))))
+    t .holds ∙ ap (λ (x : Core). system x Vmpidr 0x8000_0000) (s .holds
+    ∙ ap (λ (x : Core). system x Vpidr 0x410F_D083) (r .holds ∙ ap (λ (x : Core). control x El3 0x30C5_0830)
+    (q .holds ∙ ap (λ (x : Core). control x El2 0x30C5_0830) (p .holds))))
     ∙ registers-are (coreOf a)
 
 pub reset : (b c d e f g : List ℕ) → coreOf b ≡ zeroCore → coreOf c ≡ registered (coreOf b) → NowHolds c d (risen (coreOf c)) → NowHolds d e (atEl3 (coreOf d))

@@ -5,21 +5,18 @@ use lib.Dec.{eqb, ltb}
 use lib.ListN.{getD}
 use Rattle.word.specs.Bits.{bitOn, field, pick}
 use Rattle.sysreg.specs.Regs.{levels}
-use Rattle.sysreg.specs.declared.regs.Control.{Control}
-use Rattle.sysreg.specs.declared.regs.SysRegs.{SysRegs}
+use Rattle.sysreg.specs.declared.{regs.Control.Control, regs.SysRegs.SysRegs}
 use Rattle.exception.specs.declared.flags.Flags.{Flags}
-use Rattle.tlb.specs.declared.access.Privilege.{Privilege}
-use Rattle.tlb.specs.declared.count.Counts.{Counts}
-use Rattle.tlb.specs.declared.entry.Entry.{Entry}
-use Rattle.tlb.specs.declared.entry.Current.{Current}
-use Rattle.tlb.specs.declared.hint.Hint.{Hint}
-use Rattle.tlb.specs.declared.hint.FetchHint.{FetchHint}
+use Rattle.tlb.specs.declared.{access.Privilege.Privilege, count.Counts.Counts, entry.Entry.Entry}
+use Rattle.tlb.specs.declared.{entry.Current.Current, hint.Hint.Hint, hint.FetchHint.FetchHint, Pending.Pending}
 use Rattle.tlb.specs.declared.Inval.the-variants.{All, Page, Asid}
-use Rattle.tlb.specs.declared.Pending.{Pending}
 use Rattle.tlb.specs.declared.Pending.the-variants.{Nothing, Some}
 use Rattle.mmu.specs.declared.core.Core.{Core}
 use Rattle.words.specs.Tables.{table}
-use Rattle.words.specs.Places.{SCTLR, TCR, TTBR0, TTBR1-EL1, MAIR, VBAR, ELR, SPSR, ESR, FAR, SCR-EL3, HCR-EL2, VPIDR-EL2, VMPIDR-EL2, PAR-EL1, PC, NZCV, DAIF, SPSEL, GENERAL, LEVEL, UNPRIVILEGED, HITS, WALKS, FLUSHES, DROPS, EPOCH, PENDING, PENDING-VALUE, LAST-PA, ABORT-PA, GENERATION, ASID, FETCH, FETCH-PAGE, FETCH-LEVEL, FETCH-PA, HINTS, HINT-PA, ENTRIES, ENTRY-GENERATION, ENTRY-ATTRIBUTES, ENTRY-PA}
+use Rattle.words.specs.Places.{SCTLR, TCR, TTBR0, TTBR1-EL1, MAIR, VBAR, ELR, SPSR, ESR, FAR, SCR-EL3, HCR-EL2, VPIDR-EL2, VMPIDR-EL2, PAR-EL1, PC, NZCV}
+use Rattle.words.specs.Places.{DAIF, SPSEL, GENERAL, LEVEL, UNPRIVILEGED, HITS, WALKS, FLUSHES, DROPS, EPOCH, PENDING, PENDING-VALUE, LAST-PA, ABORT-PA}
+use Rattle.words.specs.Places.{GENERATION, ASID, FETCH, FETCH-PAGE, FETCH-LEVEL, FETCH-PA, HINTS, HINT-PA, ENTRIES, ENTRY-GENERATION, ENTRY-ATTRIBUTES}
+use Rattle.words.specs.Places.{ENTRY-PA}
 
 -- word k
 abbrev pub word : List ℕ → ℕ → ℕ

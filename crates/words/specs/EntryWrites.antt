@@ -1,7 +1,7 @@
 -- What the words hold after an entry is written.
-use mathlib.Core.Path.{_≡_, refl, sym, ap, _∙_}
+use mathlib.Core.Path.{_≡_, sym, ap, _∙_}
 use mathlib.Core.Bool.{Bool, true, false}
-use mathlib.Core.List.{List}
+use mathlib.Core.List.{List, [], _∷_}
 use Prim.Native.Nat.{ℕ, _+_, _*_, _/_, _%_, _^_, _≤_, _<_}
 use native.Mathlib.Nat.{mod-eq-of-lt}
 use native.Mathlib.Omega.{arith}
@@ -16,7 +16,9 @@ use Rattle.mmu.specs.Core.{afterAccess}
 use Rattle.words.specs.Tables.{table, table-at, table-same, table-set, table-length}
 use Rattle.words.specs.CoreOf.{word, hintIn, entryIn, entryOf, coreOn, coreBy, coreOf}
 use Rattle.words.specs.Parts.{tagged, withCache, withEntry, withTag}
+use Rattle.words.specs.NowHolds.{NowHolds, stays, holds-as}
 use Rattle.words.specs.Puts.{put, other, same, word-set, generals, coreOf-tables}
+use Rattle.words.specs.Writes.{puts, sets-long, word-sets, puts-other, puts-here, flag-is}
 use Rattle.words.specs.Places.{HINTS, HINT-PA, ENTRIES, ENTRY-GENERATION, ENTRY-ATTRIBUTES, ENTRY-PA, WORDS}
 
 -- THE ATTRIBUTES OF AN ENTRY in one word, and back
@@ -28,10 +30,6 @@ module _ (e : Entry) (p : e .perms < 2 ^ 8) (l : e .level < 2 ^ 8) (a : e .asid 
   one-bit : (b : Bool) → flag b 1 ≤ 1
   one-bit true = omega arith
   one-bit false = omega arith
-
-  one-is : (b : Bool) → eqb (flag b 1) 1 ≡ b
-  one-is true = refl
-  one-is false = refl
 
   perms-back : attributes e % 2 ^ 8 ≡ e .perms
   unfolding attributes
@@ -46,7 +44,7 @@ module _ (e : Entry) (p : e .perms < 2 ^ 8) (l : e .level < 2 ^ 8) (a : e .asid 
   global-word = let g : flag (e .global) 1 ≤ 1 = one-bit (e .global) in omega arith
 
   global-back : bitOn (attributes e) 16 ≡ e .global
-  global-back = ap (λ (n : ℕ). eqb n 1) global-word ∙ one-is (e .global)
+  global-back = ap (λ (n : ℕ). eqb n 1) global-word ∙ flag-is (e .global)
 
   asid-back : field (attributes e) 32 16 ≡ e .asid
   unfolding attributes
@@ -69,113 +67,96 @@ module _ (ws : List ℕ) (L : length ws ≡ WORDS) where
   abbrev w : ℕ → ℕ
   w = word ws
 
-  -- four words of an entry
-  abbrev entryPut : ℕ → ℕ → ℕ → ℕ → ℕ → ℕ → ℕ
-  entryPut j t g b p = put (put (put (put w (ENTRIES + j * 4) t) (ENTRY-GENERATION + j * 4) g) (ENTRY-ATTRIBUTES + j * 4) b) (ENTRY-PA + j * 4) p
-
-  module _ (j t g b p : ℕ) where
-    entry-elsewhere : (m : ℕ) → (m ≡ ENTRIES + j * 4 → ⊥) → (m ≡ ENTRY-GENERATION + j * 4 → ⊥) → (m ≡ ENTRY-ATTRIBUTES + j * 4 → ⊥) → (m ≡ ENTRY-PA + j * 4 → ⊥) → entryPut j t g b p m ≡ w m
-    entry-elsewhere m x y z u =
-        other (put (put (put w (ENTRIES + j * 4) t) (ENTRY-GENERATION + j * 4) g) (ENTRY-ATTRIBUTES + j * 4) b) (ENTRY-PA + j * 4) p m u
-        ∙ other (put (put w (ENTRIES + j * 4) t) (ENTRY-GENERATION + j * 4) g) (ENTRY-ATTRIBUTES + j * 4) b m z
-        ∙ other (put w (ENTRIES + j * 4) t) (ENTRY-GENERATION + j * 4) g m y
-        ∙ other w (ENTRIES + j * 4) t m x
-
-    entry-there : entryIn (entryPut j t g b p) j ≡ entryOf t g b p
-    entry-there =
-        λ i. entryOf (tag-there i) (generation-there i) (bits-there i) (same (put (put (put w (ENTRIES + j * 4) t) (ENTRY-GENERATION + j * 4) g) (ENTRY-ATTRIBUTES + j * 4) b) (ENTRY-PA + j * 4) p i)
-      where
-        bits-there : entryPut j t g b p (ENTRY-ATTRIBUTES + j * 4) ≡ b
-        bits-there =
-            other (put (put (put w (ENTRIES + j * 4) t) (ENTRY-GENERATION + j * 4) g) (ENTRY-ATTRIBUTES + j * 4) b) (ENTRY-PA + j * 4) p (ENTRY-ATTRIBUTES + j * 4) (λ e. omega arith)
-            ∙ same (put (put w (ENTRIES + j * 4) t) (ENTRY-GENERATION + j * 4) g) (ENTRY-ATTRIBUTES + j * 4) b
-
-        generation-there : entryPut j t g b p (ENTRY-GENERATION + j * 4) ≡ g
-        generation-there =
-            other (put (put (put w (ENTRIES + j * 4) t) (ENTRY-GENERATION + j * 4) g) (ENTRY-ATTRIBUTES + j * 4) b) (ENTRY-PA + j * 4) p (ENTRY-GENERATION + j * 4) (λ e. omega arith)
-            ∙ other (put (put w (ENTRIES + j * 4) t) (ENTRY-GENERATION + j * 4) g) (ENTRY-ATTRIBUTES + j * 4) b (ENTRY-GENERATION + j * 4) (λ e. omega arith)
-            ∙ same (put w (ENTRIES + j * 4) t) (ENTRY-GENERATION + j * 4) g
-
-        tag-there : entryPut j t g b p (ENTRIES + j * 4) ≡ t
-        tag-there =
-            other (put (put (put w (ENTRIES + j * 4) t) (ENTRY-GENERATION + j * 4) g) (ENTRY-ATTRIBUTES + j * 4) b) (ENTRY-PA + j * 4) p (ENTRIES + j * 4) (λ e. omega arith)
-            ∙ other (put (put w (ENTRIES + j * 4) t) (ENTRY-GENERATION + j * 4) g) (ENTRY-ATTRIBUTES + j * 4) b (ENTRIES + j * 4) (λ e. omega arith)
-            ∙ other (put w (ENTRIES + j * 4) t) (ENTRY-GENERATION + j * 4) g (ENTRIES + j * 4) (λ e. omega arith)
-            ∙ same w (ENTRIES + j * 4) t
+  -- m is no word of entry j
+  abbrev Elsewhere : ℕ → ℕ → Type 0
+  Elsewhere j m = (i : ℕ) → i < 4 → m ≡ ENTRIES + j * 4 + i → ⊥
 
   -- words that are those of ws but for entry j
-  entries-put : (v : ℕ → ℕ) (j : ℕ) → j < 1024
-      → ((m : ℕ) → (m ≡ ENTRIES + j * 4 → ⊥) → (m ≡ ENTRY-GENERATION + j * 4 → ⊥) → (m ≡ ENTRY-ATTRIBUTES + j * 4 → ⊥) → (m ≡ ENTRY-PA + j * 4 → ⊥) → v m ≡ w m)
-      → table 1024 (entryIn v) ≡ set (table 1024 (entryIn w)) j (entryIn v j)
-  entries-put v j h o =
-      table-set 1024 (entryIn w) (entryIn v) j h
-      (λ n k ne i.
-      entryOf (o (ENTRIES + n * 4) (λ e. ne (omega arith)) (λ e. omega arith) (λ e. omega arith) (λ e. omega arith) i)
-      (o (ENTRY-GENERATION + n * 4) (λ e. omega arith) (λ e. ne (omega arith)) (λ e. omega arith) (λ e. omega arith) i)
-      (o (ENTRY-ATTRIBUTES + n * 4) (λ e. omega arith) (λ e. omega arith) (λ e. ne (omega arith)) (λ e. omega arith) i)
-      (o (ENTRY-PA + n * 4) (λ e. omega arith) (λ e. omega arith) (λ e. omega arith) (λ e. ne (omega arith)) i))
+  module _ (v : ℕ → ℕ) (j : ℕ) (h : j < 1024) (o : (m : ℕ) → Elsewhere j m → v m ≡ w m) where
+    entries-put : table 1024 (entryIn v) ≡ set (table 1024 (entryIn w)) j (entryIn v j)
+    entries-put =
+        table-set 1024 (entryIn w) (entryIn v) j h
+        (λ n k ne i.
+        entryOf (o (ENTRIES + n * 4) (λ x y e. ne (omega arith)) i) (o (ENTRY-GENERATION + n * 4) (λ x y e. ne (omega arith)) i)
+        (o (ENTRY-ATTRIBUTES + n * 4) (λ x y e. ne (omega arith)) i) (o (ENTRY-PA + n * 4) (λ x y e. ne (omega arith)) i))
 
-  coreOf-entry : (v : ℕ → ℕ) (j : ℕ) → j < 1024
-      → ((m : ℕ) → (m ≡ ENTRIES + j * 4 → ⊥) → (m ≡ ENTRY-GENERATION + j * 4 → ⊥) → (m ≡ ENTRY-ATTRIBUTES + j * 4 → ⊥) → (m ≡ ENTRY-PA + j * 4 → ⊥) → v m ≡ w m)
-      → coreBy v ≡ withEntry (coreOf ws) j (entryIn v j)
-  unfolding coreOf coreBy coreOn withEntry withCache afterAccess
-  coreOf-entry v j h o =
-      coreOf-tables v w
-      (record {
-        below = λ m a. o m (λ e. omega arith) (λ e. omega arith) (λ e. omega arith) (λ e. omega arith);
-        among = λ m a b. o m (λ e. omega arith) (λ e. omega arith) (λ e. omega arith) (λ e. omega arith);
-      })
-      (λ m a b. o m (λ e. omega arith) (λ e. omega arith) (λ e. omega arith) (λ e. omega arith))
-      ∙ (λ i. coreOn w (generals w) (hints-still i) (entries-put v j h o i))
-    where
-      hints-still : table 512 (hintIn v) ≡ table 512 (hintIn w)
-      hints-still =
-          table-same 512 (hintIn v) (hintIn w)
-          (λ n k i.
-          record {
-            key = o (HINTS + n * 2) (λ e. omega arith) (λ e. omega arith) (λ e. omega arith) (λ e. omega arith) i;
-            pa = o (HINT-PA + n * 2) (λ e. omega arith) (λ e. omega arith) (λ e. omega arith) (λ e. omega arith) i;
-          })
+    hints-still : table 512 (hintIn v) ≡ table 512 (hintIn w)
+    hints-still =
+        table-same 512 (hintIn v) (hintIn w)
+        (λ n k i. record { key = o (HINTS + n * 2) (λ x y e. omega arith) i; pa = o (HINT-PA + n * 2) (λ x y e. omega arith) i })
 
-  pub entry-coreOf : (j : ℕ) (e : Entry) → j < 1024 → e .generation < 2 ^ 32 → e .perms < 2 ^ 8 → e .level < 2 ^ 8 → e .asid < 2 ^ 16
-      → coreOf (set (set (set (set ws (ENTRIES + j * 4) (e .tag)) (ENTRY-GENERATION + j * 4) (e .generation)) (ENTRY-ATTRIBUTES + j * 4) (attributes e)) (ENTRY-PA + j * 4) (e .pa))
-      ≡ withEntry (coreOf ws) j e
+    coreOf-entry : coreBy v ≡ withEntry (coreOf ws) j (entryIn v j)
+    unfolding coreOf coreBy coreOn withEntry withCache afterAccess
+    coreOf-entry =
+        coreOf-tables v w (record { below = λ m a. o m (λ i k e. omega arith); among = λ m a b. o m (λ i k e. omega arith) })
+        (λ m a b. o m (λ i k e. omega arith))
+        ∙ (λ i. coreOn w (generals w) (hints-still i) (entries-put i))
+
+  -- the four words of an entry
+  abbrev entryWords : ℕ → Entry → List (ℕ × ℕ)
+  entryWords j e = (ENTRIES + j * 4, e .tag) ∷ (ENTRY-GENERATION + j * 4, e .generation) ∷ (ENTRY-ATTRIBUTES + j * 4, attributes e) ∷
+      (ENTRY-PA + j * 4, e .pa) ∷ []
+
+  entry-there : (j : ℕ) (e : Entry) → entryIn (puts w (entryWords j e)) j ≡ entryOf (e .tag) (e .generation) (attributes e) (e .pa)
+  entry-there j e =
+      let b : ℕ × ℕ = (ENTRY-ATTRIBUTES + j * 4, attributes e) in
+      let p : ℕ × ℕ = (ENTRY-PA + j * 4, e .pa) in
+      let one : ℕ → ℕ = put w (ENTRIES + j * 4) (e .tag) in
+      let two : ℕ → ℕ = put one (ENTRY-GENERATION + j * 4) (e .generation) in
+      λ i.
+      entryOf
+      (puts-here w (ENTRIES + j * 4) (e .tag) ((ENTRY-GENERATION + j * 4, e .generation) ∷ b ∷ p ∷ [])
+      ((λ q. omega arith), ((λ q. omega arith), ((λ q. omega arith), tt))) i)
+      (puts-here one (ENTRY-GENERATION + j * 4) (e .generation) (b ∷ p ∷ []) ((λ q. omega arith), ((λ q. omega arith), tt)) i)
+      (puts-here two (ENTRY-ATTRIBUTES + j * 4) (attributes e) (p ∷ []) ((λ q. omega arith), tt) i)
+      (same (put two (ENTRY-ATTRIBUTES + j * 4) (attributes e)) (ENTRY-PA + j * 4) (e .pa) i)
+
+  pub entry-put : (j : ℕ) (e : Entry) (v : ℕ) → v ≡ attributes e → j < 1024
+      → e .generation < 2 ^ 32 → e .perms < 2 ^ 8 → e .level < 2 ^ 8 → e .asid < 2 ^ 16
+      → NowHolds ws
+      (set (set (set (set ws (ENTRIES + j * 4) (e .tag)) (ENTRY-GENERATION + j * 4) (e .generation)) (ENTRY-ATTRIBUTES + j * 4) v) (ENTRY-PA + j * 4) (e .pa))
+      (withEntry (coreOf ws) j e)
   unfolding coreOf
-  entry-coreOf j e h g p l a =
-      ap coreBy words
-      ∙ coreOf-entry (entryPut j (e .tag) (e .generation) (attributes e) (e .pa)) j h (entry-elsewhere j (e .tag) (e .generation) (attributes e) (e .pa))
-      ∙ ap (λ (x : Entry). withEntry (coreOf ws) j x) (entry-there j (e .tag) (e .generation) (attributes e) (e .pa) ∙ entry-back e p l a g)
-    where
-      words : word (set (set (set (set ws (ENTRIES + j * 4) (e .tag)) (ENTRY-GENERATION + j * 4) (e .generation)) (ENTRY-ATTRIBUTES + j * 4) (attributes e)) (ENTRY-PA + j * 4) (e .pa))
-          ≡ entryPut j (e .tag) (e .generation) (attributes e) (e .pa)
-      words =
-          let l1 : length (set ws (ENTRIES + j * 4) (e .tag)) ≡ WORDS = length-set ws (ENTRIES + j * 4) (e .tag) ∙ L in
-          let l2 : length (set (set ws (ENTRIES + j * 4) (e .tag)) (ENTRY-GENERATION + j * 4) (e .generation)) ≡ WORDS = length-set (set ws (ENTRIES + j * 4) (e .tag)) (ENTRY-GENERATION + j * 4) (e .generation) ∙ l1 in
-          let l3 : length (set (set (set ws (ENTRIES + j * 4) (e .tag)) (ENTRY-GENERATION + j * 4) (e .generation)) (ENTRY-ATTRIBUTES + j * 4) (attributes e)) ≡ WORDS = length-set (set (set ws (ENTRIES + j * 4) (e .tag)) (ENTRY-GENERATION + j * 4) (e .generation)) (ENTRY-ATTRIBUTES + j * 4) (attributes e) ∙ l2 in
-          word-set (set (set (set ws (ENTRIES + j * 4) (e .tag)) (ENTRY-GENERATION + j * 4) (e .generation)) (ENTRY-ATTRIBUTES + j * 4) (attributes e)) (ENTRY-PA + j * 4) (e .pa) (omega arith)
-          ∙ ap (λ (f : ℕ → ℕ). put f (ENTRY-PA + j * 4) (e .pa))
-          (word-set (set (set ws (ENTRIES + j * 4) (e .tag)) (ENTRY-GENERATION + j * 4) (e .generation)) (ENTRY-ATTRIBUTES + j * 4) (attributes e) (omega arith)
-          ∙ ap (λ (f : ℕ → ℕ). put f (ENTRY-ATTRIBUTES + j * 4) (attributes e))
-          (word-set (set ws (ENTRIES + j * 4) (e .tag)) (ENTRY-GENERATION + j * 4) (e .generation) (omega arith)
-          ∙ ap (λ (f : ℕ → ℕ). put f (ENTRY-GENERATION + j * 4) (e .generation)) (word-set ws (ENTRIES + j * 4) (e .tag) (omega arith))))
+  entry-put j e v q h g p l a =
+      rw q
+      (record {
+        long = sets-long ws (entryWords j e);
+        holds =
+            ap coreBy (word-sets ws (entryWords j e) L (omega arith, (omega arith, (omega arith, (omega arith, tt)))))
+            ∙ coreOf-entry (puts w (entryWords j e)) j h
+            (λ m o.
+            puts-other w (entryWords j e) m (
+              (λ x. o 0 (omega arith) (omega arith)),
+              (
+                (λ x. o 1 (omega arith) (omega arith)),
+                ((λ x. o 2 (omega arith) (omega arith)), ((λ x. o 3 (omega arith) (omega arith)), tt)),
+              ),
+            ))
+            ∙ ap (λ (x : Entry). withEntry (coreOf ws) j x) (entry-there j e ∙ entry-back e p l a g);
+      })
 
-  pub entry-kept : (j : ℕ) (e : Entry) → 1024 ≤ j → coreOf ws ≡ withEntry (coreOf ws) j e
+  pub entry-none : (j : ℕ) (e : Entry) → 1024 ≤ j → NowHolds ws ws (withEntry (coreOf ws) j e)
   unfolding coreOf coreBy coreOn withEntry withCache afterAccess
-  entry-kept j e h =
-      ap (λ (es : List Entry). coreOn w (generals w) (table 512 (hintIn w)) es)
-      (sym (set-out (table 1024 (entryIn w)) j e (rw (table-length 1024 (entryIn w)) h)))
+  entry-none j e h =
+      holds-as stays
+      (ap (λ (es : List Entry). coreOn w (generals w) (table 512 (hintIn w)) es)
+      (sym (set-out (table 1024 (entryIn w)) j e (rw (table-length 1024 (entryIn w)) h))))
 
   at-is : (j : ℕ) → j < 1024 → entryAt (coreOf ws .tlb .cache) j ≡ entryIn w j
   unfolding coreOf coreBy coreOn
   at-is j h = table-at 1024 (entryIn w) j blank h
 
   -- the tag alone
-  pub tag-coreOf : (j t : ℕ) → j < 1024 → coreOf (set ws (ENTRIES + j * 4) t) ≡ withTag (coreOf ws) j t
+  pub tag-put : (j t : ℕ) → j < 1024 → NowHolds ws (set ws (ENTRIES + j * 4) t) (withTag (coreOf ws) j t)
   unfolding coreOf withTag
-  tag-coreOf j t h =
-      ap coreBy (word-set ws (ENTRIES + j * 4) t (omega arith))
-      ∙ coreOf-entry (put w (ENTRIES + j * 4) t) j h (λ m x y z u. other w (ENTRIES + j * 4) t m x)
-      ∙ ap (λ (x : Entry). withEntry (coreOf ws) j x) there
+  tag-put j t h =
+      record {
+        long = length-set ws (ENTRIES + j * 4) t;
+        holds =
+            ap coreBy (word-set ws (ENTRIES + j * 4) t (omega arith))
+            ∙ coreOf-entry (put w (ENTRIES + j * 4) t) j h (λ m o. other w (ENTRIES + j * 4) t m (λ x. o 0 (omega arith) (omega arith)))
+            ∙ ap (λ (x : Entry). withEntry (coreOf ws) j x) there;
+      }
     where
       there : entryIn (put w (ENTRIES + j * 4) t) j ≡ tagged (entryAt (coreOf ws .tlb .cache) j) t
       there =

@@ -1,28 +1,22 @@
 -- The words of a core after reset: all zero, then what reset gives a value.
-use mathlib.Core.Path.{_≡_, refl, sym, ap, _∙_}
-use mathlib.Core.Bool.{false}
+use mathlib.Core.Path.{_≡_, refl, ap, _∙_}
 use mathlib.Core.List.{List}
 use Prim.Native.Nat.{ℕ}
-use lib.ListN.{getD, replicate}
-use Rattle.sysreg.specs.Regs.{levels, freshControl, freshSys}
+use lib.ListN.{replicate}
+use Rattle.sysreg.specs.Regs.{freshControl, freshSys}
 use Rattle.sysreg.specs.Write.{controlWith, sysWith}
 use Rattle.sysreg.specs.declared.regs.El.the-variants.{El1, El2, El3}
 use Rattle.sysreg.specs.declared.regs.ControlReg.the-variants.{Sctlr}
 use Rattle.sysreg.specs.declared.regs.SysReg.the-variants.{Vpidr, Vmpidr}
 use Rattle.exception.specs.Entry.{entryFlags}
-use Rattle.exception.specs.Pstate.{freshFlags}
 use Rattle.tlb.specs.Entry.{blank}
-use Rattle.tlb.specs.Hint.{noFetch}
-use Rattle.tlb.specs.Cache.{blanks, noHints}
-use Rattle.tlb.specs.Count.{noCounts}
+use Rattle.tlb.specs.Cache.{blanks}
 use Rattle.tlb.specs.Lists.{replicate-at}
-use Rattle.tlb.specs.declared.entry.Entry.{Entry}
 use Rattle.tlb.specs.declared.hint.Hint.{Hint}
-use Rattle.tlb.specs.declared.Pending.the-variants.{Nothing}
 use Rattle.mmu.specs.Core.{zeros, freshCore, afterAccess}
 use Rattle.mmu.specs.declared.core.Core.{Core}
-use Rattle.words.specs.Tables.{table, table-all}
-use Rattle.words.specs.CoreOf.{word, hintIn, entryIn, coreOn, coreBy, coreOf}
+use Rattle.words.specs.Tables.{table-all}
+use Rattle.words.specs.CoreOf.{coreOn, coreBy, coreOf}
 use Rattle.words.specs.Parts.{withCache, withCurrent, withPrivilege, withFlags, withControl, withSys, withoutHints}
 use Rattle.words.specs.Places.{WORDS}
 
@@ -61,5 +55,6 @@ abbrev pub firstGeneration : Core → Core
 firstGeneration c = withCurrent c (record { generation = 1; asid = c .tlb .cache .current .asid })
 
 pub fresh-is : withoutHints (firstGeneration (atEl3 (risen (registered zeroCore)))) ≡ freshCore
-unfolding withoutHints withCurrent withCache afterAccess withPrivilege withFlags registered withSctlr withSys withControl controlWith sysWith zeroCore coreOn freshCore freshControl freshSys
+unfolding withoutHints withCurrent withCache afterAccess withPrivilege withFlags registered withSctlr withSys withControl controlWith sysWith zeroCore coreOn
+    freshCore freshControl freshSys
 fresh-is = refl

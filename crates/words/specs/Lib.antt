@@ -9,5 +9,4 @@ pub mod Writes
 pub mod CellWrites
 pub mod EntryWrites
 pub mod RegWrites
-pub mod Moves
 pub mod Fresh

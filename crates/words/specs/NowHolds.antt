@@ -23,5 +23,6 @@ module _ {ws : List ℕ} where
   holds-on f m n e = record { long = n .long ∙ m .long; holds = n .holds ∙ ap f (m .holds) ∙ e }
 
   -- the same, where what the first left tells what the second makes
-  pub holds-then : {xs ys : List ℕ} {c d : Core} (f : Core → Core) → NowHolds ws xs c → NowHolds xs ys (f (coreOf xs)) → (coreOf xs ≡ c → f c ≡ d) → NowHolds ws ys d
+  pub holds-then : {xs ys : List ℕ} {c d : Core} (f : Core → Core) → NowHolds ws xs c → NowHolds xs ys (f (coreOf xs)) → (coreOf xs ≡ c → f c ≡ d)
+      → NowHolds ws ys d
   holds-then f m n e = holds-on f m n (e (m .holds))

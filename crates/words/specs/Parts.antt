@@ -1,19 +1,12 @@
 -- The core with one part put anew.
 use mathlib.Core.List.{List}
 use Prim.Native.Nat.{ℕ}
-use Rattle.sysreg.specs.declared.regs.Control.{Control}
-use Rattle.sysreg.specs.declared.regs.SysRegs.{SysRegs}
+use Rattle.sysreg.specs.declared.{regs.Control.Control, regs.SysRegs.SysRegs}
 use Rattle.exception.specs.declared.flags.Flags.{Flags}
 use Rattle.tlb.specs.Cache.{hintless, renewed, entryAt, setEntry, setHint, setFetch}
 use Rattle.tlb.specs.Tlb.{tlbWith}
-use Rattle.tlb.specs.declared.access.Privilege.{Privilege}
-use Rattle.tlb.specs.declared.cache.Cache.{Cache}
-use Rattle.tlb.specs.declared.count.Counts.{Counts}
-use Rattle.tlb.specs.declared.entry.Entry.{Entry}
-use Rattle.tlb.specs.declared.entry.Current.{Current}
-use Rattle.tlb.specs.declared.hint.Hint.{Hint}
-use Rattle.tlb.specs.declared.hint.FetchHint.{FetchHint}
-use Rattle.tlb.specs.declared.Pending.{Pending}
+use Rattle.tlb.specs.declared.{access.Privilege.Privilege, cache.Cache.Cache, count.Counts.Counts, entry.Entry.Entry}
+use Rattle.tlb.specs.declared.{entry.Current.Current, hint.Hint.Hint, hint.FetchHint.FetchHint, Pending.Pending}
 use Rattle.mmu.specs.Core.{afterAccess}
 use Rattle.mmu.specs.Ops.{withTlb}
 use Rattle.mmu.specs.declared.core.Core.{Core}

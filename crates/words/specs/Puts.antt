@@ -6,15 +6,12 @@ use Prim.Native.Nat.{ℕ, _+_, _*_, _≤_, _<_}
 use native.Mathlib.Omega.{arith}
 use borrow.Author.Tests.{eq-eqb, ne-eqb, ltb-true, ltb-false}
 use lib.Dec.{eqb, ltb}
-use lib.ListN.{getD, set, length, length-set}
-use lib.Seq.{getD-set-same, getD-set-other}
+use lib.ListN.{set, length}
 use Rattle.word.specs.Bits.{pick}
 use Rattle.tlb.specs.Lists.{getD-set}
-use Rattle.tlb.specs.declared.entry.Entry.{Entry}
-use Rattle.tlb.specs.declared.hint.Hint.{Hint}
-use Rattle.mmu.specs.declared.core.Core.{Core}
-use Rattle.words.specs.Tables.{table, table-same, table-set}
-use Rattle.words.specs.CoreOf.{word, hintIn, entryIn, coreOn, coreBy, coreOf}
+use Rattle.tlb.specs.declared.{entry.Entry.Entry, hint.Hint.Hint}
+use Rattle.words.specs.Tables.{table, table-same}
+use Rattle.words.specs.CoreOf.{word, hintIn, entryIn, coreOn, coreBy}
 use Rattle.words.specs.Places.{GENERAL, LEVEL, HINTS, HINT-PA, ENTRIES, ENTRY-GENERATION, ENTRY-ATTRIBUTES, ENTRY-PA}
 
 -- v at place k
@@ -74,7 +71,13 @@ module _ (v w : ℕ → ℕ) where
   pub entries-same : ((m : ℕ) → ENTRIES ≤ m → v m ≡ w m) → table 1024 (entryIn v) ≡ table 1024 (entryIn w)
   entries-same h =
       table-same 1024 (entryIn v) (entryIn w)
-      (λ j k. rw (h (ENTRIES + j * 4) (omega arith), h (ENTRY-GENERATION + j * 4) (omega arith), h (ENTRY-ATTRIBUTES + j * 4) (omega arith), h (ENTRY-PA + j * 4) (omega arith)))
+      (λ j k. rw (
+        h (ENTRIES + j * 4) (omega arith),
+        h (ENTRY-GENERATION + j * 4) (omega arith),
+        h (ENTRY-ATTRIBUTES + j * 4) (omega arith),
+        h
+            (ENTRY-PA + j * 4) (omega arith),
+      ))
 
   pub generals-same : ((m : ℕ) → GENERAL ≤ m → m < LEVEL → v m ≡ w m) → generals v ≡ generals w
   generals-same h = table-same 31 (λ n. v (GENERAL + n)) (λ n. w (GENERAL + n)) (λ n k. h (GENERAL + n) (omega arith) (omega arith))
@@ -86,7 +89,8 @@ module _ (v w : ℕ → ℕ) where
       λ i. coreOn v (generals-same (r .general) i) (hints-same (r .above) i) (entries-same (λ m k. r .above m (omega arith)) i)
 
   -- hints or entries put anew
-  pub coreOf-tables : SmallSame v w → ((m : ℕ) → GENERAL ≤ m → m < LEVEL → v m ≡ w m) → coreBy v ≡ coreOn w (generals w) (table 512 (hintIn v)) (table 1024 (entryIn v))
+  pub coreOf-tables : SmallSame v w → ((m : ℕ) → GENERAL ≤ m → m < LEVEL → v m ≡ w m) → coreBy v
+      ≡ coreOn w (generals w) (table 512 (hintIn v)) (table 1024 (entryIn v))
   unfolding coreBy
   coreOf-tables s g =
       small-same s (generals v) (table 512 (hintIn v)) (table 1024 (entryIn v))

@@ -1,29 +1,23 @@
 -- What the words hold after a system register is written, and what they say of one.
-use mathlib.Core.Path.{_≡_, refl, sym, ap, _∙_}
-use mathlib.Core.Bool.{Bool, true, false}
-use mathlib.Core.List.{List}
-use Prim.Native.Nat.{ℕ, _+_, _≤_, _<_}
-use native.Mathlib.Omega.{arith}
-use borrow.Author.Tests.{ltb-true}
-use lib.Dec.{ltb}
-use lib.ListN.{set, length, length-set}
-use Rattle.word.specs.Bits.{pick}
-use Rattle.sysreg.specs.Regs.{controlAt, sysAt}
+use mathlib.Core.Path.{_≡_, refl, sym}
+use mathlib.Core.Bool.{true, false}
+use mathlib.Core.List.{List, [], _∷_}
+use Prim.Native.Nat.{ℕ, _+_}
+use lib.ListN.{set, length}
 use Rattle.sysreg.specs.Write.{kept, controlWith, sysWith}
-use Rattle.sysreg.specs.declared.regs.El.{El}
+use Rattle.sysreg.specs.declared.{regs.El.El, regs.ControlReg.ControlReg, regs.SysReg.SysReg}
 use Rattle.sysreg.specs.declared.regs.El.the-variants.{El1, El2, El3}
-use Rattle.sysreg.specs.declared.regs.ControlReg.{ControlReg}
 use Rattle.sysreg.specs.declared.regs.ControlReg.the-variants.{Sctlr, Tcr, Ttbr0, Ttbr1, Scr, Hcr}
-use Rattle.sysreg.specs.declared.regs.SysReg.{SysReg}
 use Rattle.sysreg.specs.declared.regs.SysReg.the-variants.{Mair, Vbar, Elr, Spsr, Esr, Far, Vpidr, Vmpidr, Par}
 use Rattle.exception.specs.Entry.{enteredSys}
 use Rattle.exception.specs.declared.report.Report.{Report}
 use Rattle.walk.specs.declared.regime.Regime.{Regime}
 use Rattle.walk.specs.declared.regime.Regime.the-variants as Regime
-use Rattle.words.specs.CoreOf.{word, coreOn, coreBy, coreOf}
+use Rattle.words.specs.CoreOf.{coreOn, coreBy, coreOf}
 use Rattle.words.specs.Parts.{withControl, withSys}
-use Rattle.words.specs.Writes.{Small, set-one, set-three, set-four}
-use Rattle.words.specs.Places.{TCR, TTBR0, TTBR1-EL1, MAIR, VBAR, ELR, SPSR, ESR, FAR, SCR-EL3, HCR-EL2, VPIDR-EL2, VMPIDR-EL2, PAR-EL1, GENERAL, LEVEL, WORDS}
+use Rattle.words.specs.NowHolds.{NowHolds, holds-as}
+use Rattle.words.specs.Writes.{sets-hold}
+use Rattle.words.specs.Places.{TCR, TTBR0, TTBR1-EL1, MAIR, VBAR, ELR, SPSR, ESR, FAR, SCR-EL3, HCR-EL2, VPIDR-EL2, VMPIDR-EL2, PAR-EL1, WORDS}
 
 -- a regime's place among its level's registers
 abbrev pub bankIndex : Regime → ℕ
@@ -57,65 +51,63 @@ sysPlace Vpidr = VPIDR-EL2
 sysPlace Vmpidr = VMPIDR-EL2
 sysPlace Par = PAR-EL1
 
--- at a literal place
-at-place : (k : ℕ) → ltb k GENERAL ≡ true → Small k
-at-place k e = let h : k < GENERAL = ltb-true k GENERAL e in record { low = omega arith; apart = λ m a b q. omega arith }
-
 module _ (ws : List ℕ) (L : length ws ≡ WORDS) where
-  pub control-coreOf : (r : ControlReg) (v : ℕ) → coreOf (set ws (controlPlace r) v) ≡ withControl (coreOf ws) (controlWith (coreOf ws .control) r v)
+  pub control-put : (r : ControlReg) (k v : ℕ) → k ≡ controlPlace r
+      → NowHolds ws (set ws k v) (withControl (coreOf ws) (controlWith (coreOf ws .control) r v))
   unfolding coreOf coreBy coreOn withControl controlWith
-  control-coreOf (Sctlr El1) v = set-one ws L 0 v (at-place 0 refl)
-  control-coreOf (Sctlr El2) v = set-one ws L 1 v (at-place 1 refl)
-  control-coreOf (Sctlr El3) v = set-one ws L 2 v (at-place 2 refl)
-  control-coreOf (Tcr El1) v = set-one ws L 3 v (at-place 3 refl)
-  control-coreOf (Tcr El2) v = set-one ws L 4 v (at-place 4 refl)
-  control-coreOf (Tcr El3) v = set-one ws L 5 v (at-place 5 refl)
-  control-coreOf (Ttbr0 El1) v = set-one ws L 6 v (at-place 6 refl)
-  control-coreOf (Ttbr0 El2) v = set-one ws L 7 v (at-place 7 refl)
-  control-coreOf (Ttbr0 El3) v = set-one ws L 8 v (at-place 8 refl)
-  control-coreOf Ttbr1 v = set-one ws L 9 v (at-place 9 refl)
-  control-coreOf Scr v = set-one ws L 28 v (at-place 28 refl)
-  control-coreOf Hcr v = set-one ws L 29 v (at-place 29 refl)
+  control-put (Sctlr El1) k v e = rw e (sets-hold ws L ((0, v) ∷ []) refl)
+  control-put (Sctlr El2) k v e = rw e (sets-hold ws L ((1, v) ∷ []) refl)
+  control-put (Sctlr El3) k v e = rw e (sets-hold ws L ((2, v) ∷ []) refl)
+  control-put (Tcr El1) k v e = rw e (sets-hold ws L ((3, v) ∷ []) refl)
+  control-put (Tcr El2) k v e = rw e (sets-hold ws L ((4, v) ∷ []) refl)
+  control-put (Tcr El3) k v e = rw e (sets-hold ws L ((5, v) ∷ []) refl)
+  control-put (Ttbr0 El1) k v e = rw e (sets-hold ws L ((6, v) ∷ []) refl)
+  control-put (Ttbr0 El2) k v e = rw e (sets-hold ws L ((7, v) ∷ []) refl)
+  control-put (Ttbr0 El3) k v e = rw e (sets-hold ws L ((8, v) ∷ []) refl)
+  control-put Ttbr1 k v e = rw e (sets-hold ws L ((9, v) ∷ []) refl)
+  control-put Scr k v e = rw e (sets-hold ws L ((28, v) ∷ []) refl)
+  control-put Hcr k v e = rw e (sets-hold ws L ((29, v) ∷ []) refl)
 
-  pub sys-coreOf : (r : SysReg) (v : ℕ) → coreOf (set ws (sysPlace r) (kept r v)) ≡ withSys (coreOf ws) (sysWith (coreOf ws .sys) r v)
+  pub sys-put : (r : SysReg) (k v u : ℕ) → k ≡ sysPlace r → u ≡ kept r v
+      → NowHolds ws (set ws k u) (withSys (coreOf ws) (sysWith (coreOf ws .sys) r v))
   unfolding coreOf coreBy coreOn withSys sysWith
-  sys-coreOf (Mair El1) v = set-one ws L 10 (kept (Mair El1) v) (at-place 10 refl)
-  sys-coreOf (Mair El2) v = set-one ws L 11 (kept (Mair El2) v) (at-place 11 refl)
-  sys-coreOf (Mair El3) v = set-one ws L 12 (kept (Mair El3) v) (at-place 12 refl)
-  sys-coreOf (Vbar El1) v = set-one ws L 13 (kept (Vbar El1) v) (at-place 13 refl)
-  sys-coreOf (Vbar El2) v = set-one ws L 14 (kept (Vbar El2) v) (at-place 14 refl)
-  sys-coreOf (Vbar El3) v = set-one ws L 15 (kept (Vbar El3) v) (at-place 15 refl)
-  sys-coreOf (Elr El1) v = set-one ws L 16 (kept (Elr El1) v) (at-place 16 refl)
-  sys-coreOf (Elr El2) v = set-one ws L 17 (kept (Elr El2) v) (at-place 17 refl)
-  sys-coreOf (Elr El3) v = set-one ws L 18 (kept (Elr El3) v) (at-place 18 refl)
-  sys-coreOf (Spsr El1) v = set-one ws L 19 (kept (Spsr El1) v) (at-place 19 refl)
-  sys-coreOf (Spsr El2) v = set-one ws L 20 (kept (Spsr El2) v) (at-place 20 refl)
-  sys-coreOf (Spsr El3) v = set-one ws L 21 (kept (Spsr El3) v) (at-place 21 refl)
-  sys-coreOf (Esr El1) v = set-one ws L 22 (kept (Esr El1) v) (at-place 22 refl)
-  sys-coreOf (Esr El2) v = set-one ws L 23 (kept (Esr El2) v) (at-place 23 refl)
-  sys-coreOf (Esr El3) v = set-one ws L 24 (kept (Esr El3) v) (at-place 24 refl)
-  sys-coreOf (Far El1) v = set-one ws L 25 (kept (Far El1) v) (at-place 25 refl)
-  sys-coreOf (Far El2) v = set-one ws L 26 (kept (Far El2) v) (at-place 26 refl)
-  sys-coreOf (Far El3) v = set-one ws L 27 (kept (Far El3) v) (at-place 27 refl)
-  sys-coreOf Vpidr v = set-one ws L 30 (kept Vpidr v) (at-place 30 refl)
-  sys-coreOf Vmpidr v = set-one ws L 31 (kept Vmpidr v) (at-place 31 refl)
-  sys-coreOf Par v = set-one ws L 32 (kept Par v) (at-place 32 refl)
+  sys-put (Mair El1) k v u e q = rw (e, q) (sets-hold ws L ((10, kept (Mair El1) v) ∷ []) refl)
+  sys-put (Mair El2) k v u e q = rw (e, q) (sets-hold ws L ((11, kept (Mair El2) v) ∷ []) refl)
+  sys-put (Mair El3) k v u e q = rw (e, q) (sets-hold ws L ((12, kept (Mair El3) v) ∷ []) refl)
+  sys-put (Vbar El1) k v u e q = rw (e, q) (sets-hold ws L ((13, kept (Vbar El1) v) ∷ []) refl)
+  sys-put (Vbar El2) k v u e q = rw (e, q) (sets-hold ws L ((14, kept (Vbar El2) v) ∷ []) refl)
+  sys-put (Vbar El3) k v u e q = rw (e, q) (sets-hold ws L ((15, kept (Vbar El3) v) ∷ []) refl)
+  sys-put (Elr El1) k v u e q = rw (e, q) (sets-hold ws L ((16, kept (Elr El1) v) ∷ []) refl)
+  sys-put (Elr El2) k v u e q = rw (e, q) (sets-hold ws L ((17, kept (Elr El2) v) ∷ []) refl)
+  sys-put (Elr El3) k v u e q = rw (e, q) (sets-hold ws L ((18, kept (Elr El3) v) ∷ []) refl)
+  sys-put (Spsr El1) k v u e q = rw (e, q) (sets-hold ws L ((19, kept (Spsr El1) v) ∷ []) refl)
+  sys-put (Spsr El2) k v u e q = rw (e, q) (sets-hold ws L ((20, kept (Spsr El2) v) ∷ []) refl)
+  sys-put (Spsr El3) k v u e q = rw (e, q) (sets-hold ws L ((21, kept (Spsr El3) v) ∷ []) refl)
+  sys-put (Esr El1) k v u e q = rw (e, q) (sets-hold ws L ((22, kept (Esr El1) v) ∷ []) refl)
+  sys-put (Esr El2) k v u e q = rw (e, q) (sets-hold ws L ((23, kept (Esr El2) v) ∷ []) refl)
+  sys-put (Esr El3) k v u e q = rw (e, q) (sets-hold ws L ((24, kept (Esr El3) v) ∷ []) refl)
+  sys-put (Far El1) k v u e q = rw (e, q) (sets-hold ws L ((25, kept (Far El1) v) ∷ []) refl)
+  sys-put (Far El2) k v u e q = rw (e, q) (sets-hold ws L ((26, kept (Far El2) v) ∷ []) refl)
+  sys-put (Far El3) k v u e q = rw (e, q) (sets-hold ws L ((27, kept (Far El3) v) ∷ []) refl)
+  sys-put Vpidr k v u e q = rw (e, q) (sets-hold ws L ((30, kept Vpidr v) ∷ []) refl)
+  sys-put Vmpidr k v u e q = rw (e, q) (sets-hold ws L ((31, kept Vmpidr v) ∷ []) refl)
+  sys-put Par k v u e q = rw (e, q) (sets-hold ws L ((32, kept Par v) ∷ []) refl)
 
   -- ELR, SPSR and ESR of a level, and FAR where there is an address
-  pub saved-coreOf : (t : El) (r : Report) (spsr ret : ℕ) → r .valid ≡ false
-      → coreOf (set (set (set ws (ELR + levelIndex t) ret) (SPSR + levelIndex t) spsr) (ESR + levelIndex t) (r .esr)) ≡ withSys (coreOf ws) (enteredSys (coreOf ws .sys) t r spsr ret)
+  pub saved-put : (t : El) (i : ℕ) (r : Report) (spsr ret : ℕ) → i ≡ levelIndex t → r .valid ≡ false
+      → NowHolds ws (set (set (set ws (ELR + i) ret) (SPSR + i) spsr) (ESR + i) (r .esr)) (withSys (coreOf ws) (enteredSys (coreOf ws .sys) t r spsr ret))
   unfolding coreOf coreBy coreOn withSys enteredSys
-  saved-coreOf El1 r spsr ret h = set-three ws L 16 ret 19 spsr 22 (r .esr) (at-place 16 refl) (at-place 19 refl) (at-place 22 refl) ∙ sym (rw h)
-  saved-coreOf El2 r spsr ret h = set-three ws L 17 ret 20 spsr 23 (r .esr) (at-place 17 refl) (at-place 20 refl) (at-place 23 refl) ∙ sym (rw h)
-  saved-coreOf El3 r spsr ret h = set-three ws L 18 ret 21 spsr 24 (r .esr) (at-place 18 refl) (at-place 21 refl) (at-place 24 refl) ∙ sym (rw h)
+  saved-put El1 i r spsr ret e h = rw e (holds-as (sets-hold ws L ((16, ret) ∷ (19, spsr) ∷ (22, r .esr) ∷ []) refl) (sym (rw h)))
+  saved-put El2 i r spsr ret e h = rw e (holds-as (sets-hold ws L ((17, ret) ∷ (20, spsr) ∷ (23, r .esr) ∷ []) refl) (sym (rw h)))
+  saved-put El3 i r spsr ret e h = rw e (holds-as (sets-hold ws L ((18, ret) ∷ (21, spsr) ∷ (24, r .esr) ∷ []) refl) (sym (rw h)))
 
-  pub saved-far-coreOf : (t : El) (r : Report) (spsr ret : ℕ) → r .valid ≡ true
-      → coreOf (set (set (set (set ws (ELR + levelIndex t) ret) (SPSR + levelIndex t) spsr) (ESR + levelIndex t) (r .esr)) (FAR + levelIndex t) (r .far))
-      ≡ withSys (coreOf ws) (enteredSys (coreOf ws .sys) t r spsr ret)
+  pub saved-far-put : (t : El) (i : ℕ) (r : Report) (spsr ret : ℕ) → i ≡ levelIndex t → r .valid ≡ true
+      → NowHolds ws (set (set (set (set ws (ELR + i) ret) (SPSR + i) spsr) (ESR + i) (r .esr)) (FAR + i) (r .far))
+      (withSys (coreOf ws) (enteredSys (coreOf ws .sys) t r spsr ret))
   unfolding coreOf coreBy coreOn withSys enteredSys
-  saved-far-coreOf El1 r spsr ret h =
-      set-four ws L 16 ret 19 spsr 22 (r .esr) 25 (r .far) (at-place 16 refl) (at-place 19 refl) (at-place 22 refl) (at-place 25 refl) ∙ sym (rw h)
-  saved-far-coreOf El2 r spsr ret h =
-      set-four ws L 17 ret 20 spsr 23 (r .esr) 26 (r .far) (at-place 17 refl) (at-place 20 refl) (at-place 23 refl) (at-place 26 refl) ∙ sym (rw h)
-  saved-far-coreOf El3 r spsr ret h =
-      set-four ws L 18 ret 21 spsr 24 (r .esr) 27 (r .far) (at-place 18 refl) (at-place 21 refl) (at-place 24 refl) (at-place 27 refl) ∙ sym (rw h)
+  saved-far-put El1 i r spsr ret e h =
+      rw e (holds-as (sets-hold ws L ((16, ret) ∷ (19, spsr) ∷ (22, r .esr) ∷ (25, r .far) ∷ []) refl) (sym (rw h)))
+  saved-far-put El2 i r spsr ret e h =
+      rw e (holds-as (sets-hold ws L ((17, ret) ∷ (20, spsr) ∷ (23, r .esr) ∷ (26, r .far) ∷ []) refl) (sym (rw h)))
+  saved-far-put El3 i r spsr ret e h =
+      rw e (holds-as (sets-hold ws L ((18, ret) ∷ (21, spsr) ∷ (24, r .esr) ∷ (27, r .far) ∷ []) refl) (sym (rw h)))

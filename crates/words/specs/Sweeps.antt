@@ -1,17 +1,16 @@
 -- Loops over all hints and all entries.
 use mathlib.Core.Path.{_≡_, refl, sym, ap, _∙_}
 use mathlib.Core.List.{List, [], _∷_, map}
-use Prim.Native.Nat.{ℕ, zero, suc, _+_, _≤_, _<_}
-use lib.ListN.{getD, set, replicate, length}
+use Prim.Native.Nat.{ℕ, _+_, _≤_, _<_}
+use lib.ListN.{getD, replicate, length}
 use Rattle.tlb.specs.Entry.{blank}
 use Rattle.tlb.specs.Hint.{noHint}
 use Rattle.tlb.specs.Cache.{entryAt, blanks, noHints}
 use Rattle.tlb.specs.Lists.{swept, sweep, sweep-end}
-use Rattle.tlb.specs.declared.entry.Entry.{Entry}
-use Rattle.tlb.specs.declared.hint.Hint.{Hint}
+use Rattle.tlb.specs.declared.{entry.Entry.Entry, hint.Hint.Hint}
 use Rattle.mmu.specs.Core.{afterAccess}
 use Rattle.mmu.specs.declared.core.Core.{Core}
-use Rattle.words.specs.Tables.{table, table-length}
+use Rattle.words.specs.Tables.{table-length}
 use Rattle.words.specs.CoreOf.{word, hintIn, entryIn, coreOn, coreBy, coreOf}
 use Rattle.words.specs.Parts.{tagged, withCache, withHint, withEntry, withTag, withEntries}
 

@@ -1,194 +1,237 @@
--- What the words hold after each part is written.
-use mathlib.Core.Path.{_≡_, refl, sym, ap, _∙_}
-use mathlib.Core.Bool.{Bool, true, false}
-use mathlib.Core.List.{List}
-use Prim.Native.Nat.{ℕ, _+_, _*_, _/_, _%_, _^_, _≤_, _<_}
+-- What the words hold after stores, and after each small part is written.
+use mathlib.Core.Path.{_≡_, refl, ap, _∙_}
+use mathlib.Core.Bool.{Bool, true, false, _&&_, _||_, false≢true}
+use mathlib.Core.List.{List, [], _∷_}
+use Prim.Native.Nat.{ℕ, _^_, _≤_, _<_}
 use native.Mathlib.Nat.{mod-eq-of-lt}
 use native.Mathlib.Omega.{arith}
-use borrow.Author.Tests.{lt-ltb}
-use lib.Dec.{eqb, ltb}
-use lib.ListN.{getD, set, length, length-set}
+use borrow.Author.Tests.{lt-ltb, ltb-true, leb-true}
+use lib.Dec.{eqb, leb, ltb}
+use lib.ListN.{set, length, length-set}
 use Rattle.word.specs.Bits.{flag}
-use Rattle.tlb.specs.declared.entry.Current.{Current}
-use Rattle.tlb.specs.declared.hint.FetchHint.{FetchHint}
-use Rattle.tlb.specs.declared.count.Counts.{Counts}
-use Rattle.tlb.specs.declared.access.Privilege.{Privilege}
-use Rattle.exception.specs.declared.flags.Flags.{Flags}
+use Rattle.word.specs.BitLaws.{both}
 use Rattle.mmu.specs.Core.{afterAccess}
+use Rattle.mmu.specs.declared.core.Core.{Core}
 use Rattle.exception.specs.Entry.{entryFlags}
 use Rattle.tlb.specs.Count.{hitCounted, walkCounted, flushCounted, dropCounted, epochCounted, more}
-use Rattle.tlb.specs.declared.Inval.{Inval}
+use Rattle.tlb.specs.declared.{hint.FetchHint.FetchHint, Inval.Inval, Pending.Pending}
 use Rattle.tlb.specs.declared.Inval.the-variants.{All, Page, Asid}
-use Rattle.tlb.specs.declared.Pending.{Pending}
 use Rattle.tlb.specs.declared.Pending.the-variants.{Nothing, Some}
-use Rattle.mmu.specs.declared.core.Core.{Core}
 use Rattle.words.specs.Tables.{table}
-use Rattle.words.specs.CoreOf.{word, levelIn, pendingOf, hintIn, entryIn, coreOn, coreBy, coreOf}
+use Rattle.words.specs.CoreOf.{word, levelIn, hintIn, entryIn, coreOn, coreBy, coreOf}
 use Rattle.words.specs.Parts.{withCache, withCounts, withPending, withFetchHint, withCurrent, withLast, withAbort, withPrivilege, withFlags, withPc}
-use Rattle.words.specs.Puts.{put, other, word-set, generals, RestSame, coreOf-small}
-use Rattle.words.specs.Places.{PC, DAIF, SPSEL, GENERAL, LEVEL, UNPRIVILEGED, HITS, WALKS, FLUSHES, DROPS, EPOCH, PENDING, PENDING-VALUE, LAST-PA, ABORT-PA, GENERATION, ASID, FETCH, FETCH-PAGE, FETCH-LEVEL, FETCH-PA, HINTS, WORDS}
+use Rattle.words.specs.NowHolds.{NowHolds, holds-as}
+use Rattle.words.specs.Puts.{put, other, same, word-set, generals, RestSame, coreOf-small}
+use Rattle.words.specs.Places.{PC, DAIF, SPSEL, GENERAL, LEVEL, UNPRIVILEGED, HITS, WALKS, FLUSHES, DROPS, EPOCH, PENDING, PENDING-VALUE, LAST-PA}
+use Rattle.words.specs.Places.{ABORT-PA, GENERATION, ASID, FETCH, FETCH-PAGE, FETCH-LEVEL, FETCH-PA, HINTS, WORDS}
 
-rest-none : (w : ℕ → ℕ) → RestSame w w
-rest-none w = record { general = λ m a b. refl; above = λ m a. refl }
+-- STORES, one after another: each a place and a word
 
--- the place of a small part
-pub record Small (k : ℕ) : Type 0 where
-  pub low : k < HINTS
-  pub apart : (m : ℕ) → GENERAL ≤ m → m < LEVEL → m ≡ k → ⊥
+abbrev pub sets : List ℕ → List (ℕ × ℕ) → List ℕ
+sets ws [] = ws
+sets ws (p ∷ ps) = sets (set ws (p .0) (p .1)) ps
 
--- a word of a small part put anew
-rest-put : (v w : ℕ → ℕ) (k x : ℕ) → Small k → RestSame v w → RestSame (put v k x) w
-rest-put v w k x s r =
-    let h : k < HINTS = s .low in
-    record {
-      general = λ m a b. other v k x m (s .apart m a b) ∙ r .general m a b;
-      above = λ m a. other v k x m (λ e. omega arith) ∙ r .above m a;
-    }
+abbrev pub puts : (ℕ → ℕ) → List (ℕ × ℕ) → ℕ → ℕ
+puts w [] = w
+puts w (p ∷ ps) = puts (put w (p .0) (p .1)) ps
+
+-- each is among the words
+abbrev pub Inside : List (ℕ × ℕ) → Type 0
+Inside [] = Unit {0}
+Inside (p ∷ ps) = (p .0 < WORDS) × Inside ps
+
+-- none is at m
+abbrev pub Apart : ℕ → List (ℕ × ℕ) → Type 0
+Apart m [] = Unit {0}
+Apart m (p ∷ ps) = (m ≡ p .0 → ⊥) × Apart m ps
+
+pub sets-long : (ws : List ℕ) (ps : List (ℕ × ℕ)) → length (sets ws ps) ≡ length ws
+sets-long ws [] = refl
+sets-long ws (p ∷ ps) = sets-long (set ws (p .0) (p .1)) ps ∙ length-set ws (p .0) (p .1)
+
+pub word-sets : (ws : List ℕ) (ps : List (ℕ × ℕ)) → length ws ≡ WORDS → Inside ps → word (sets ws ps) ≡ puts (word ws) ps
+word-sets ws [] L h = refl
+word-sets ws (p ∷ ps) L h =
+    let k : p .0 < WORDS = h .0 in
+    word-sets (set ws (p .0) (p .1)) ps (length-set ws (p .0) (p .1) ∙ L) (h .1)
+    ∙ ap (λ (f : ℕ → ℕ). puts f ps) (word-set ws (p .0) (p .1) (omega arith))
+
+pub puts-other : (v : ℕ → ℕ) (ps : List (ℕ × ℕ)) (m : ℕ) → Apart m ps → puts v ps m ≡ v m
+puts-other v [] m h = refl
+puts-other v (p ∷ ps) m h = puts-other (put v (p .0) (p .1)) ps m (h .1) ∙ other v (p .0) (p .1) m (h .0)
+
+-- what is put at k, and then nothing more there
+pub puts-here : (v : ℕ → ℕ) (k x : ℕ) (ps : List (ℕ × ℕ)) → Apart k ps → puts (put v k x) ps k ≡ x
+puts-here v k x ps h = puts-other (put v k x) ps k h ∙ same v k x
+
+-- STORES TO SMALL PARTS
+
+abbrev pub isSmall : ℕ → Bool
+isSmall k = ltb k GENERAL || (leb LEVEL k && ltb k HINTS)
+
+abbrev pub allSmall : List (ℕ × ℕ) → Bool
+allSmall [] = true
+allSmall (p ∷ ps) = isSmall (p .0) && allSmall ps
+
+record Small (k : ℕ) : Type 0 where
+  low : k < HINTS
+  apart : (m : ℕ) → GENERAL ≤ m → m < LEVEL → m ≡ k → ⊥
+
+small-place : (k : ℕ) → isSmall k ≡ true → Small k
+small-place k = go (ltb k GENERAL) refl (leb LEVEL k) refl (ltb k HINTS) refl
+  where
+    go : (a : Bool) → ltb k GENERAL ≡ a → (b : Bool) → leb LEVEL k ≡ b → (c : Bool) → ltb k HINTS ≡ c → (a || (b && c)) ≡ true → Small k
+    go true x b y c z e = let h = ltb-true k GENERAL x in record { low = omega arith; apart = λ m p q r. omega arith }
+    go false x true y true z e = let h = leb-true LEVEL k y in record { low = ltb-true k HINTS z; apart = λ m p q r. omega arith }
+    go false x true y false z e = absurd (false≢true e)
+    go false x false y c z e = absurd (false≢true e)
+
+small-inside : (ps : List (ℕ × ℕ)) → allSmall ps ≡ true → Inside ps
+small-inside [] e = tt
+small-inside (p ∷ ps) e =
+    let b = both (isSmall (p .0)) (allSmall ps) e in
+    let h : p .0 < HINTS = small-place (p .0) (b .0) .low in
+    (omega arith, small-inside ps (b .1))
+
+small-rest : (v w : ℕ → ℕ) (ps : List (ℕ × ℕ)) → allSmall ps ≡ true → RestSame v w → RestSame (puts v ps) w
+small-rest v w [] e r = r
+small-rest v w (p ∷ ps) e r =
+    let b = both (isSmall (p .0)) (allSmall ps) e in
+    let s = small-place (p .0) (b .0) in
+    let h : p .0 < HINTS = s .low in
+    small-rest (put v (p .0) (p .1)) w ps (b .1)
+    (record {
+      general = λ m a c. other v (p .0) (p .1) m (s .apart m a c) ∙ r .general m a c;
+      above = λ m a. other v (p .0) (p .1) m (λ q. omega arith) ∙ r .above m a;
+    })
+
+-- a flag's word
+pub flag-is : (b : Bool) → eqb (flag b 1) 1 ≡ b
+flag-is true = refl
+flag-is false = refl
 
 module _ (ws : List ℕ) (L : length ws ≡ WORDS) where
   -- the core whose small parts v gives, and whose tables are those of ws
   abbrev small : (ℕ → ℕ) → Core
   small v = coreOn v (generals (word ws)) (table 512 (hintIn (word ws))) (table 1024 (entryIn (word ws)))
 
-  pub set-one : (k x : ℕ) → Small k → coreOf (set ws k x) ≡ small (put (word ws) k x)
+  pub sets-hold : (ps : List (ℕ × ℕ)) → allSmall ps ≡ true → NowHolds ws (sets ws ps) (small (puts (word ws) ps))
   unfolding coreOf
-  set-one k x s =
-      let h : k < HINTS = s .low in
-      ap coreBy (word-set ws k x (omega arith))
-      ∙ coreOf-small (put (word ws) k x) (word ws) (rest-put (word ws) (word ws) k x s (rest-none (word ws)))
+  sets-hold ps e =
+      record {
+        long = sets-long ws ps;
+        holds = ap coreBy (word-sets ws ps L (small-inside ps e))
+            ∙ coreOf-small (puts (word ws) ps) (word ws)
+            (small-rest (word ws) (word ws) ps e (record { general = λ m a b. refl; above = λ m a. refl }));
+      }
 
-  word-two : (k x l y : ℕ) → k < HINTS → l < HINTS → word (set (set ws k x) l y) ≡ put (put (word ws) k x) l y
-  word-two k x l y h g =
-      let long : length (set ws k x) ≡ WORDS = length-set ws k x ∙ L in
-      word-set (set ws k x) l y (omega arith) ∙ ap (λ (f : ℕ → ℕ). put f l y) (word-set ws k x (omega arith))
-
-  word-three : (k x l y m z : ℕ) → k < HINTS → l < HINTS → m < HINTS → word (set (set (set ws k x) l y) m z) ≡ put (put (put (word ws) k x) l y) m z
-  word-three k x l y m z h g f =
-      let long : length (set (set ws k x) l y) ≡ WORDS = length-set (set ws k x) l y ∙ length-set ws k x ∙ L in
-      word-set (set (set ws k x) l y) m z (omega arith) ∙ ap (λ (v : ℕ → ℕ). put v m z) (word-two k x l y h g)
-
-  pub set-two : (k x l y : ℕ) → Small k → Small l → coreOf (set (set ws k x) l y) ≡ small (put (put (word ws) k x) l y)
-  unfolding coreOf
-  set-two k x l y a b =
-      ap coreBy (word-two k x l y (a .low) (b .low))
-      ∙ coreOf-small (put (put (word ws) k x) l y) (word ws) (rest-put _ (word ws) l y b (rest-put _ (word ws) k x a (rest-none (word ws))))
-
-  -- three and four words
-  pub set-three : (k x l y m z : ℕ) → Small k → Small l → Small m
-      → coreOf (set (set (set ws k x) l y) m z) ≡ small (put (put (put (word ws) k x) l y) m z)
-  unfolding coreOf
-  set-three k x l y m z a b c =
-      ap coreBy (word-three k x l y m z (a .low) (b .low) (c .low))
-      ∙ coreOf-small (put (put (put (word ws) k x) l y) m z) (word ws)
-      (rest-put _ (word ws) m z c (rest-put _ (word ws) l y b (rest-put _ (word ws) k x a (rest-none (word ws)))))
-
-  pub set-four : (k x l y m z n u : ℕ) → Small k → Small l → Small m → Small n
-      → coreOf (set (set (set (set ws k x) l y) m z) n u) ≡ small (put (put (put (put (word ws) k x) l y) m z) n u)
-  unfolding coreOf
-  set-four k x l y m z n u a b c d =
-      let long : length (set (set (set ws k x) l y) m z) ≡ WORDS = length-set (set (set ws k x) l y) m z ∙ length-set (set ws k x) l y ∙ length-set ws k x ∙ L in
-      let h : n < HINTS = d .low in
-      ap coreBy
-      (word-set (set (set (set ws k x) l y) m z) n u (omega arith)
-      ∙ ap (λ (f : ℕ → ℕ). put f n u) (word-three k x l y m z (a .low) (b .low) (c .low)))
-      ∙ coreOf-small (put (put (put (put (word ws) k x) l y) m z) n u) (word ws)
-      (rest-put _ (word ws) n u d
-      (rest-put _ (word ws) m z c (rest-put _ (word ws) l y b (rest-put _ (word ws) k x a (rest-none (word ws))))))
-
-  -- LEVEL AND MARK, (record { low = omega arith; apart = λ m a b e. omega arith })STATE, (record { low = omega arith; apart = λ m a b e. omega arith })C
+  -- LEVEL AND MARK, PSTATE, PC
 
   level-fits : (v : ℕ) → v < 2 ^ 8 → levelIn v ≡ v
   level-fits v h = rw (lt-ltb v 256 (omega arith))
 
-  pub level-coreOf : (v : ℕ) → v < 2 ^ 8 → coreOf (set ws LEVEL v) ≡ withPrivilege (coreOf ws) (record { level = v; unprivileged = coreOf ws .privilege .unprivileged })
+  pub level-put : (v : ℕ) → v < 2 ^ 8
+      → NowHolds ws (set ws LEVEL v) (withPrivilege (coreOf ws) (record { level = v; unprivileged = coreOf ws .privilege .unprivileged }))
   unfolding coreOf coreBy coreOn withPrivilege
-  level-coreOf v h =
-      set-one LEVEL v (record { low = omega arith; apart = λ m a b e. omega arith })
-      ∙ ap (λ (n : ℕ). withPrivilege (coreOf ws) (record { level = n; unprivileged = coreOf ws .privilege .unprivileged })) (level-fits v h)
+  level-put v h =
+      holds-as (sets-hold ((LEVEL, v) ∷ []) refl)
+      (ap (λ (n : ℕ). withPrivilege (coreOf ws) (record { level = n; unprivileged = coreOf ws .privilege .unprivileged })) (level-fits v h))
 
-  pub mark-coreOf : (b : Bool) → coreOf (set ws UNPRIVILEGED (flag b 1)) ≡ withPrivilege (coreOf ws) (record { level = coreOf ws .privilege .level; unprivileged = b })
+  pub mark-put : (b : Bool) (v : ℕ) → v ≡ flag b 1
+      → NowHolds ws (set ws UNPRIVILEGED v) (withPrivilege (coreOf ws) (record { level = coreOf ws .privilege .level; unprivileged = b }))
   unfolding coreOf coreBy coreOn withPrivilege
-  mark-coreOf true = set-one UNPRIVILEGED 1 (record { low = omega arith; apart = λ m a b e. omega arith })
-  mark-coreOf false = set-one UNPRIVILEGED 0 (record { low = omega arith; apart = λ m a b e. omega arith })
+  mark-put b v e =
+      rw e
+      (holds-as (sets-hold ((UNPRIVILEGED, flag b 1) ∷ []) refl)
+      (ap (λ (x : Bool). withPrivilege (coreOf ws) (record { level = coreOf ws .privilege .level; unprivileged = x })) (flag-is b)))
 
-  pub flags-coreOf : coreOf (set (set ws DAIF 0x3C0) SPSEL 1) ≡ withFlags (coreOf ws) (entryFlags (coreOf ws .flags))
+  pub flags-put : NowHolds ws (set (set ws DAIF 0x3C0) SPSEL 1) (withFlags (coreOf ws) (entryFlags (coreOf ws .flags)))
   unfolding coreOf coreBy coreOn withFlags
-  flags-coreOf = set-two DAIF 0x3C0 SPSEL 1 (record { low = omega arith; apart = λ m a b e. omega arith }) (record { low = omega arith; apart = λ m a b e. omega arith })
+  flags-put = sets-hold ((DAIF, 0x3C0) ∷ (SPSEL, 1) ∷ []) refl
 
-  pub pc-coreOf : (v : ℕ) → coreOf (set ws PC v) ≡ withPc (coreOf ws) v
+  pub pc-put : (v : ℕ) → NowHolds ws (set ws PC v) (withPc (coreOf ws) v)
   unfolding coreOf coreBy coreOn withPc
-  pc-coreOf v = set-one PC v (record { low = omega arith; apart = λ m a b e. omega arith })
+  pc-put v = sets-hold ((PC, v) ∷ []) refl
 
-  pub last-coreOf : (v : ℕ) → coreOf (set ws LAST-PA v) ≡ withLast (coreOf ws) v
+  pub last-put : (v : ℕ) → NowHolds ws (set ws LAST-PA v) (withLast (coreOf ws) v)
   unfolding coreOf coreBy coreOn withLast afterAccess
-  last-coreOf v = set-one LAST-PA v (record { low = omega arith; apart = λ m a b e. omega arith })
+  last-put v = sets-hold ((LAST-PA, v) ∷ []) refl
 
-  pub abort-coreOf : (v : ℕ) → coreOf (set ws ABORT-PA v) ≡ withAbort (coreOf ws) v
+  pub abort-put : (v : ℕ) → NowHolds ws (set ws ABORT-PA v) (withAbort (coreOf ws) v)
   unfolding coreOf coreBy coreOn withAbort afterAccess
-  abort-coreOf v = set-one ABORT-PA v (record { low = omega arith; apart = λ m a b e. omega arith })
+  abort-put v = sets-hold ((ABORT-PA, v) ∷ []) refl
 
-  -- COUNTERS, GENERATION AND ASID, WHAT IS (record { low = omega arith; apart = λ m a b e. omega arith })ENDING
+  -- COUNTERS, GENERATION AND ASID, WHAT IS PENDING
 
-  pub hit-coreOf : coreOf (set ws HITS (more (word ws HITS))) ≡ withCounts (coreOf ws) (hitCounted (coreOf ws .tlb .counts))
+  pub hit-put : (v : ℕ) → v ≡ more (word ws HITS) → NowHolds ws (set ws HITS v) (withCounts (coreOf ws) (hitCounted (coreOf ws .tlb .counts)))
   unfolding coreOf coreBy coreOn withCounts afterAccess
-  hit-coreOf = set-one HITS (more (word ws HITS)) (record { low = omega arith; apart = λ m a b e. omega arith })
+  hit-put v e = rw e (sets-hold ((HITS, more (word ws HITS)) ∷ []) refl)
 
-  pub walk-coreOf : coreOf (set ws WALKS (more (word ws WALKS))) ≡ withCounts (coreOf ws) (walkCounted (coreOf ws .tlb .counts))
+  pub walk-put : (v : ℕ) → v ≡ more (word ws WALKS) → NowHolds ws (set ws WALKS v) (withCounts (coreOf ws) (walkCounted (coreOf ws .tlb .counts)))
   unfolding coreOf coreBy coreOn withCounts afterAccess
-  walk-coreOf = set-one WALKS (more (word ws WALKS)) (record { low = omega arith; apart = λ m a b e. omega arith })
+  walk-put v e = rw e (sets-hold ((WALKS, more (word ws WALKS)) ∷ []) refl)
 
-  pub epoch-coreOf : coreOf (set ws EPOCH (more (word ws EPOCH))) ≡ withCounts (coreOf ws) (epochCounted (coreOf ws .tlb .counts))
+  pub epoch-put : (v : ℕ) → v ≡ more (word ws EPOCH) → NowHolds ws (set ws EPOCH v) (withCounts (coreOf ws) (epochCounted (coreOf ws .tlb .counts)))
   unfolding coreOf coreBy coreOn withCounts afterAccess
-  epoch-coreOf = set-one EPOCH (more (word ws EPOCH)) (record { low = omega arith; apart = λ m a b e. omega arith })
+  epoch-put v e = rw e (sets-hold ((EPOCH, more (word ws EPOCH)) ∷ []) refl)
 
   -- the second counter as it stands before the first is stored
-  pub flush-coreOf : coreOf (set (set ws FLUSHES (more (word ws FLUSHES))) EPOCH (more (word ws EPOCH))) ≡ withCounts (coreOf ws) (flushCounted (coreOf ws .tlb .counts))
+  pub flush-put : (v u : ℕ) → v ≡ more (word ws FLUSHES) → u ≡ more (word ws EPOCH)
+      → NowHolds ws (set (set ws FLUSHES v) EPOCH u) (withCounts (coreOf ws) (flushCounted (coreOf ws .tlb .counts)))
   unfolding coreOf coreBy coreOn withCounts afterAccess
-  flush-coreOf = set-two FLUSHES (more (word ws FLUSHES)) EPOCH (more (word ws EPOCH)) (record { low = omega arith; apart = λ m a b e. omega arith }) (record { low = omega arith; apart = λ m a b e. omega arith })
+  flush-put v u e q = rw (e, q) (sets-hold ((FLUSHES, more (word ws FLUSHES)) ∷ (EPOCH, more (word ws EPOCH)) ∷ []) refl)
 
-  pub drop-coreOf : coreOf (set (set ws DROPS (more (word ws DROPS))) EPOCH (more (word ws EPOCH))) ≡ withCounts (coreOf ws) (dropCounted (coreOf ws .tlb .counts))
+  pub drop-put : (v u : ℕ) → v ≡ more (word ws DROPS) → u ≡ more (word ws EPOCH)
+      → NowHolds ws (set (set ws DROPS v) EPOCH u) (withCounts (coreOf ws) (dropCounted (coreOf ws .tlb .counts)))
   unfolding coreOf coreBy coreOn withCounts afterAccess
-  drop-coreOf = set-two DROPS (more (word ws DROPS)) EPOCH (more (word ws EPOCH)) (record { low = omega arith; apart = λ m a b e. omega arith }) (record { low = omega arith; apart = λ m a b e. omega arith })
+  drop-put v u e q = rw (e, q) (sets-hold ((DROPS, more (word ws DROPS)) ∷ (EPOCH, more (word ws EPOCH)) ∷ []) refl)
 
-  pub generation-coreOf : (v : ℕ) → v < 2 ^ 32 → coreOf (set ws GENERATION v) ≡ withCurrent (coreOf ws) (record { generation = v; asid = coreOf ws .tlb .cache .current .asid })
+  pub generation-put : (v : ℕ) → v < 2 ^ 32
+      → NowHolds ws (set ws GENERATION v) (withCurrent (coreOf ws) (record { generation = v; asid = coreOf ws .tlb .cache .current .asid }))
   unfolding coreOf coreBy coreOn withCurrent withCache afterAccess
-  generation-coreOf v h =
-      set-one GENERATION v (record { low = omega arith; apart = λ m a b e. omega arith })
-      ∙ ap (λ (n : ℕ). withCurrent (coreOf ws) (record { generation = n; asid = coreOf ws .tlb .cache .current .asid })) (mod-eq-of-lt h)
+  generation-put v h =
+      holds-as (sets-hold ((GENERATION, v) ∷ []) refl)
+      (ap (λ (n : ℕ). withCurrent (coreOf ws) (record { generation = n; asid = coreOf ws .tlb .cache .current .asid })) (mod-eq-of-lt h))
 
-  pub asid-coreOf : (v : ℕ) → v < 2 ^ 16 → coreOf (set ws ASID v) ≡ withCurrent (coreOf ws) (record { generation = coreOf ws .tlb .cache .current .generation; asid = v })
+  pub asid-put : (v : ℕ) → v < 2 ^ 16
+      → NowHolds ws (set ws ASID v) (withCurrent (coreOf ws) (record { generation = coreOf ws .tlb .cache .current .generation; asid = v }))
   unfolding coreOf coreBy coreOn withCurrent withCache afterAccess
-  asid-coreOf v h =
-      set-one ASID v (record { low = omega arith; apart = λ m a b e. omega arith })
-      ∙ ap (λ (n : ℕ). withCurrent (coreOf ws) (record { generation = coreOf ws .tlb .cache .current .generation; asid = n })) (mod-eq-of-lt h)
+  asid-put v h =
+      holds-as (sets-hold ((ASID, v) ∷ []) refl)
+      (ap (λ (n : ℕ). withCurrent (coreOf ws) (record { generation = coreOf ws .tlb .cache .current .generation; asid = n })) (mod-eq-of-lt h))
 
-  pub nothing-coreOf : coreOf (set (set ws PENDING 0) PENDING-VALUE 0) ≡ withPending (coreOf ws) Nothing
+  pub nothing-put : (p : Pending) → p ≡ Nothing → NowHolds ws (set (set ws PENDING 0) PENDING-VALUE 0) (withPending (coreOf ws) p)
   unfolding coreOf coreBy coreOn withPending afterAccess
-  nothing-coreOf = set-two PENDING 0 PENDING-VALUE 0 (record { low = omega arith; apart = λ m a b e. omega arith }) (record { low = omega arith; apart = λ m a b e. omega arith })
+  nothing-put p e = rw e (sets-hold ((PENDING, 0) ∷ (PENDING-VALUE, 0) ∷ []) refl)
 
-  pub all-coreOf : coreOf (set (set ws PENDING 1) PENDING-VALUE 0) ≡ withPending (coreOf ws) (Some All)
+  pub all-put : (what : Inval) → what ≡ All → NowHolds ws (set (set ws PENDING 1) PENDING-VALUE 0) (withPending (coreOf ws) (Some what))
   unfolding coreOf coreBy coreOn withPending afterAccess
-  all-coreOf = set-two PENDING 1 PENDING-VALUE 0 (record { low = omega arith; apart = λ m a b e. omega arith }) (record { low = omega arith; apart = λ m a b e. omega arith })
+  all-put what e = rw e (sets-hold ((PENDING, 1) ∷ (PENDING-VALUE, 0) ∷ []) refl)
 
-  pub page-coreOf : (v : ℕ) → coreOf (set (set ws PENDING 2) PENDING-VALUE v) ≡ withPending (coreOf ws) (Some (Page v))
+  pub page-put : (what : Inval) (v : ℕ) → what ≡ Page v
+      → NowHolds ws (set (set ws PENDING 2) PENDING-VALUE v) (withPending (coreOf ws) (Some what))
   unfolding coreOf coreBy coreOn withPending afterAccess
-  page-coreOf v = set-two PENDING 2 PENDING-VALUE v (record { low = omega arith; apart = λ m a b e. omega arith }) (record { low = omega arith; apart = λ m a b e. omega arith })
+  page-put what v e = rw e (sets-hold ((PENDING, 2) ∷ (PENDING-VALUE, v) ∷ []) refl)
 
-  pub asid-pending-coreOf : (v : ℕ) → v < 2 ^ 16 → coreOf (set (set ws PENDING 3) PENDING-VALUE v) ≡ withPending (coreOf ws) (Some (Asid v))
+  pub asid-pending-put : (what : Inval) (v : ℕ) → what ≡ Asid v → v < 2 ^ 16
+      → NowHolds ws (set (set ws PENDING 3) PENDING-VALUE v) (withPending (coreOf ws) (Some what))
   unfolding coreOf coreBy coreOn withPending afterAccess
-  asid-pending-coreOf v h =
-      set-two PENDING 3 PENDING-VALUE v (record { low = omega arith; apart = λ m a b e. omega arith }) (record { low = omega arith; apart = λ m a b e. omega arith })
-      ∙ ap (λ (n : ℕ). withPending (coreOf ws) (Some (Asid n))) (mod-eq-of-lt h)
+  asid-pending-put what v e h =
+      rw e
+      (holds-as (sets-hold ((PENDING, 3) ∷ (PENDING-VALUE, v) ∷ []) refl)
+      (ap (λ (n : ℕ). withPending (coreOf ws) (Some (Asid n))) (mod-eq-of-lt h)))
 
   -- THE FETCH HINT
 
-  pub fetch-coreOf : (f : FetchHint) → f .level < 2 ^ 8
-      → coreOf (set (set (set (set ws FETCH (flag (f .some) 1)) FETCH-PAGE (f .page)) FETCH-LEVEL (f .level)) FETCH-PA (f .pa)) ≡ withFetchHint (coreOf ws) f
+  pub fetch-put : (f : FetchHint) (v : ℕ) → v ≡ flag (f .some) 1 → f .level < 2 ^ 8
+      → NowHolds ws (set (set (set (set ws FETCH v) FETCH-PAGE (f .page)) FETCH-LEVEL (f .level)) FETCH-PA (f .pa)) (withFetchHint (coreOf ws) f)
   unfolding coreOf coreBy coreOn withFetchHint withCache afterAccess
-  fetch-coreOf f h =
-      set-four FETCH (flag (f .some) 1) FETCH-PAGE (f .page) FETCH-LEVEL (f .level) FETCH-PA (f .pa) (record { low = omega arith; apart = λ m a b e. omega arith }) (record { low = omega arith; apart = λ m a b e. omega arith }) (record { low = omega arith; apart = λ m a b e. omega arith }) (record { low = omega arith; apart = λ m a b e. omega arith })
-      ∙ λ i. withFetchHint (coreOf ws) (record { some = some-is (f .some) i; page = f .page; level = mod-eq-of-lt h i; pa = f .pa })
-    where
-      some-is : (b : Bool) → eqb (flag b 1) 1 ≡ b
-      some-is true = refl
-      some-is false = refl
+  fetch-put f v e h =
+      rw e
+      (holds-as (sets-hold ((FETCH, flag (f .some) 1) ∷ (FETCH-PAGE, f .page) ∷ (FETCH-LEVEL, f .level) ∷ (FETCH-PA, f .pa) ∷ []) refl)
+      (λ i. withFetchHint (coreOf ws) (record { some = flag-is (f .some) i; page = f .page; level = mod-eq-of-lt h i; pa = f .pa })))
+
+-- what is pending, by what it is
+pub holds-some : (ws xs : List ℕ) (p : Pending) (what : Inval) → p ≡ Some what
+    → NowHolds ws xs (withPending (coreOf ws) (Some what)) → NowHolds ws xs (withPending (coreOf ws) p)
+holds-some ws xs p what e m = rw e m

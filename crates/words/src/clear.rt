@@ -1,5 +1,4 @@
 // Hints emptied, entries cleared or dropped: each place by itself.
-ghost use mathlib.Core.Path.{_≡_};
 ghost use mathlib.Core.List.{map};
 ghost use Rattle.tlb.specs.Entry.{pageDropped, asidDropped};
 ghost use Rattle.tlb.specs.Cache.{blanks, noHints};

@@ -6,29 +6,24 @@ use Prim.Native.Nat.{ℕ}
 use Rattle.word.specs.Ram.{wordAt}
 use Rattle.word.specs.declared.ram.Word.{Word}
 use Rattle.walk.specs.Regime.{bankOf, regimeOf, stage1On}
-use Rattle.walk.specs.declared.regime.Regime.{Regime}
-use Rattle.walk.specs.declared.regime.Bank.{Bank}
-use Rattle.tlb.specs.declared.access.Kind.{Kind}
+use Rattle.walk.specs.declared.{regime.Regime.Regime, regime.Bank.Bank}
+use Rattle.tlb.specs.declared.{access.Kind.Kind, access.Privilege.Privilege}
 use Rattle.tlb.specs.declared.access.Kind.the-variants.{Read, Write}
-use Rattle.tlb.specs.declared.access.Privilege.{Privilege}
 use Rattle.mmu.specs.Core.{afterAccess, bankNow}
 use Rattle.operations.specs.Place.{nextPage, crosses, goesOn, placedOne, placedBoth}
 use Rattle.mmu.specs.Step.{locatedOf}
 use Rattle.operations.specs.Ends.{loadEnd, storeEnd, storeRamEnd}
 use Rattle.mmu.specs.Ops.{steppedNow, locatedNow, translateOf, translateAccessOf, readOf, writeOf, ramAfterWrite}
-use Rattle.mmu.specs.declared.core.Core.{Core}
-use Rattle.operations.specs.declared.place.Placed.{Placed}
-use Rattle.operations.specs.declared.ends.LoadEnd.{LoadEnd}
-use Rattle.operations.specs.declared.ends.StoreEnd.{StoreEnd}
-use Rattle.operations.specs.declared.ends.LoadAnswer.{LoadAnswer}
-use Rattle.operations.specs.declared.ends.StoreAnswer.{StoreAnswer}
-use Rattle.mmu.specs.declared.ops.Accessed.{Accessed}
+use Rattle.mmu.specs.declared.{core.Core.Core, ops.Accessed.Accessed}
+use Rattle.operations.specs.declared.{place.Placed.Placed, ends.LoadEnd.LoadEnd, ends.StoreEnd.StoreEnd}
+use Rattle.operations.specs.declared.{ends.LoadAnswer.LoadAnswer, ends.StoreAnswer.StoreAnswer}
 use Rattle.words.specs.CoreOf.{coreOf}
 use Rattle.words.specs.Parts.{withLast, withAbort}
 use Rattle.words.specs.NowHolds.{NowHolds, holds-as, holds-on}
 use Rattle.words_memory.specs.Accessed.{loadEndOf, storeEndOf, keptLast, keptAbort}
 
-pub on-now : (c : Core) (privilege : Privilege) (r : Regime) (s : Bank) (b : Bool) → privilege ≡ c .privilege → r ≡ regimeOf (privilege .level) → s ≡ bankOf (c .control) r
+pub on-now : (c : Core) (privilege : Privilege) (r : Regime) (s : Bank) (b : Bool) → privilege ≡ c .privilege → r ≡ regimeOf (privilege .level) → s
+    ≡ bankOf (c .control) r
     → b ≡ stage1On s r → b ≡ stage1On (bankNow c) (regimeOf (c .privilege .level))
 on-now c privilege r s b ew er es eb =
     let own : r ≡ regimeOf (c .privilege .level) = er ∙ ap (λ (x : Privilege). regimeOf (x .level)) ew in

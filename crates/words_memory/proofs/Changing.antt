@@ -9,21 +9,12 @@ use Rattle.sysreg.specs.declared.regs.Control.{Control}
 use Rattle.tlb.specs.Cache.{entryAt, hintAt}
 use Rattle.tlb.specs.Count.{hitCounted, walkCounted}
 use Rattle.tlb.specs.Hint.{noHint}
-use Rattle.tlb.specs.declared.access.Kind.{Kind}
-use Rattle.tlb.specs.declared.access.Privilege.{Privilege}
-use Rattle.tlb.specs.declared.cache.Cache.{Cache}
-use Rattle.tlb.specs.declared.count.Counts.{Counts}
-use Rattle.tlb.specs.declared.entry.Current.{Current}
-use Rattle.tlb.specs.declared.entry.Entry.{Entry}
-use Rattle.tlb.specs.declared.hint.FetchHint.{FetchHint}
-use Rattle.tlb.specs.declared.hint.Hint.{Hint}
+use Rattle.tlb.specs.declared.{access.Kind.Kind, access.Privilege.Privilege, cache.Cache.Cache, count.Counts.Counts}
+use Rattle.tlb.specs.declared.{entry.Current.Current, entry.Entry.Entry, hint.FetchHint.FetchHint, hint.Hint.Hint}
 use Rattle.operations.specs.Change.{lookupOf, countedAs, keptAs}
 use Rattle.operations.specs.Loads.{bothOf}
 use Rattle.operations.specs.Place.{nextPage}
-use Rattle.operations.specs.declared.change.Change.{Change}
-use Rattle.operations.specs.declared.change.Lookup.{Lookup}
-use Rattle.operations.specs.declared.change.Page.{Page}
-use Rattle.operations.specs.declared.loads.Both.{Both}
+use Rattle.operations.specs.declared.{change.Change.Change, change.Lookup.Lookup, change.Page.Page, loads.Both.Both}
 use Rattle.mmu.specs.Core.{afterAccess}
 use Rattle.mmu.specs.Ops.{translateAccessOf}
 use Rattle.mmu.specs.Pairs.{access-is}

@@ -9,15 +9,10 @@ use Rattle.tlb.specs.Cache.{entryAt}
 use Rattle.tlb.specs.Count.{hitCounted, walkCounted}
 use Rattle.tlb.specs.Hint.{dataSlot, hintFor}
 use Rattle.tlb.specs.Resolve.{countedBy, keptBy}
-use Rattle.tlb.specs.declared.access.Kind.{Kind}
-use Rattle.tlb.specs.declared.access.Privilege.{Privilege}
-use Rattle.tlb.specs.declared.access.Answer.{Answer}
+use Rattle.tlb.specs.declared.{access.Kind.Kind, access.Privilege.Privilege, access.Answer.Answer, entry.Entry.Entry}
+use Rattle.tlb.specs.declared.{hint.Hint.Hint, resolve.Source.Source, resolve.Resolved.Resolved}
 use Rattle.tlb.specs.declared.access.Answer.the-variants.{Address, Status}
-use Rattle.tlb.specs.declared.entry.Entry.{Entry}
-use Rattle.tlb.specs.declared.hint.Hint.{Hint}
-use Rattle.tlb.specs.declared.resolve.Source.{Source}
 use Rattle.tlb.specs.declared.resolve.Source.the-variants.{FromHint, FromFlat, FromEntry, FromWalk, NoLeaf}
-use Rattle.tlb.specs.declared.resolve.Resolved.{Resolved}
 use Rattle.mmu.specs.declared.core.Core.{Core}
 use Rattle.words.specs.CoreOf.{coreOf}
 use Rattle.words.specs.Parts.{withCounts, withEntry, withHint}
@@ -44,7 +39,8 @@ module _ (a : Answer) where
   pub address-value : (pa old : ℕ) → a ≡ Address pa → pa ≡ valueOf a old
   address-value pa old e = rw e
 
-  pub address-core : (ws xs : List ℕ) (privilege : Privilege) (kind : Kind) (va pa : ℕ) → a ≡ Address pa → NowHolds ws xs (withHintFor (coreOf ws) privilege kind va pa)
+  pub address-core : (ws xs : List ℕ) (privilege : Privilege) (kind : Kind) (va pa : ℕ) → a ≡ Address pa
+      → NowHolds ws xs (withHintFor (coreOf ws) privilege kind va pa)
       → NowHolds ws xs (answerPut (coreOf ws) privilege kind va a)
   address-core ws xs privilege kind va pa e m = rw e m
 
@@ -54,7 +50,8 @@ module _ (a : Answer) where
   pub status-value : (f : Fault) (old : ℕ) → a ≡ Status f → old ≡ valueOf a old
   status-value f old e = rw e
 
-  pub status-core : (ws : List ℕ) (privilege : Privilege) (kind : Kind) (va : ℕ) (f : Fault) → a ≡ Status f → NowHolds ws ws (answerPut (coreOf ws) privilege kind va a)
+  pub status-core : (ws : List ℕ) (privilege : Privilege) (kind : Kind) (va : ℕ) (f : Fault) → a ≡ Status f
+      → NowHolds ws ws (answerPut (coreOf ws) privilege kind va a)
   status-core ws privilege kind va f e = rw e stays
 
 -- what a source changes
@@ -83,6 +80,7 @@ module _ (ws : List ℕ) (slot : ℕ) (source : Source) (made : Entry) where
   from-walk xs ys e m n = holds-on (λ d. withEntry d slot made) m n (sym (stored (coreOf ws) FromWalk e))
 
 -- and then the answer given
-pub commits : (ws xs ys : List ℕ) (privilege : Privilege) (kind : Kind) (va slot : ℕ) (t : Resolved) → NowHolds ws xs (sourced (coreOf ws) slot (t .source) (t .made))
+pub commits : (ws xs ys : List ℕ) (privilege : Privilege) (kind : Kind) (va slot : ℕ) (t : Resolved)
+    → NowHolds ws xs (sourced (coreOf ws) slot (t .source) (t .made))
     → NowHolds xs ys (answerPut (coreOf xs) privilege kind va (t .answer)) → NowHolds ws ys (committed (coreOf ws) privilege kind va slot t)
 commits ws xs ys privilege kind va slot t m n = holds-on (λ d. answerPut d privilege kind va (t .answer)) m n refl

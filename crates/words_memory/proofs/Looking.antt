@@ -10,38 +10,30 @@ use Rattle.word.specs.declared.ram.Word.{Word}
 use Rattle.walk.specs.Regime.{bankOf, regimeOf}
 use Rattle.walk.specs.Tag.{untagged}
 use Rattle.walk.specs.Walk.{walkOf}
-use Rattle.walk.specs.declared.regime.Regime.{Regime}
-use Rattle.walk.specs.declared.regime.Bank.{Bank}
-use Rattle.tlb.specs.Access.{mayHint, tagOf}
+use Rattle.walk.specs.declared.{regime.Regime.Regime, regime.Bank.Bank}
+use Rattle.tlb.specs.Access.{mayHint}
 use Rattle.tlb.specs.Entry.{slotOf, serves}
 use Rattle.tlb.specs.Hint.{dataSlot, hintKey, onPage, fetchFor, fetchFound}
 use Rattle.tlb.specs.Cache.{entryAt, hintAt}
 use Rattle.tlb.specs.Resolve.{queryOf, askOf, byEntry, byWalk, resolveWith, resolveOf, changesOf}
 use Rattle.tlb.specs.Translate.{untaggedNow, missOf, changes-are, asked-query}
-use Rattle.tlb.specs.declared.access.Kind.{Kind}
-use Rattle.tlb.specs.declared.access.Kind.the-variants.{Fetch}
-use Rattle.tlb.specs.declared.access.Privilege.{Privilege}
-use Rattle.tlb.specs.declared.access.Answer.{Answer}
-use Rattle.tlb.specs.declared.access.Answer.the-variants.{Address, Status}
-use Rattle.tlb.specs.declared.entry.Entry.{Entry}
-use Rattle.tlb.specs.declared.entry.Current.{Current}
-use Rattle.tlb.specs.declared.hint.Hint.{Hint}
-use Rattle.tlb.specs.declared.hint.FetchHint.{FetchHint}
-use Rattle.tlb.specs.declared.hint.HintAnswer.{HintAnswer}
-use Rattle.tlb.specs.declared.hint.HintAnswer.the-variants.{At, Unknown}
-use Rattle.tlb.specs.declared.resolve.Query.{Query}
-use Rattle.tlb.specs.declared.resolve.Asked.{Asked}
-use Rattle.tlb.specs.declared.resolve.Asked.the-variants.{Flat, Of}
+use Rattle.tlb.specs.declared.{access.Kind.Kind, access.Privilege.Privilege, access.Answer.Answer, entry.Entry.Entry}
+use Rattle.tlb.specs.declared.{entry.Current.Current, hint.Hint.Hint, hint.FetchHint.FetchHint}
+use Rattle.tlb.specs.declared.{hint.HintAnswer.HintAnswer, resolve.Query.Query, resolve.Asked.Asked}
 use Rattle.tlb.specs.declared.resolve.Resolved.{Resolved}
+use Rattle.tlb.specs.declared.access.Kind.the-variants.{Fetch}
+use Rattle.tlb.specs.declared.access.Answer.the-variants.{Address, Status}
+use Rattle.tlb.specs.declared.hint.HintAnswer.the-variants.{At, Unknown}
+use Rattle.tlb.specs.declared.resolve.Asked.the-variants.{Flat, Of}
 use Rattle.mmu.specs.Core.{afterAccess, bankNow}
 use Rattle.mmu.specs.Step.{slotAt}
 use Rattle.mmu.specs.Ops.{withTlb, fetchSteppedNow, translateOf}
-use Rattle.mmu.specs.declared.core.Core.{Core}
-use Rattle.mmu.specs.declared.ops.Translated.{Translated}
+use Rattle.mmu.specs.declared.{core.Core.Core, ops.Translated.Translated}
 use Rattle.words.specs.CoreOf.{coreOf}
 use Rattle.words.specs.Parts.{withCache, withCounts, withEntry, withHint, withFetchHint}
 use Rattle.words.specs.NowHolds.{NowHolds, stays, holds-as, holds-on}
-use Rattle.words_memory.specs.Found.{codeOf, valueOf, answering, hintFound, fetchHint, withHintFor, answerPut, sourced, committed, committing, servesNow, fromEntry, fromWalk, foundTo, pagedBy, pagedTo}
+use Rattle.words_memory.specs.Found.{codeOf, valueOf, answering, hintFound, fetchHint, withHintFor, answerPut, sourced, committed, committing, servesNow}
+use Rattle.words_memory.specs.Found.{fromEntry, fromWalk, foundTo, pagedBy, pagedTo}
 use Rattle.words_memory.specs.FoundLaws.{unchanged, hint-serves, hint-misses}
 use Rattle.words_memory.specs.FetchLaws.{fetchTo, fetch-serves, fetch-misses}
 
@@ -81,16 +73,17 @@ module _ (ws : List ℕ) (q : Query) (privilege : Privilege) (kind : Kind) (va :
   entry-core xs m = holds-as m (ap (λ (x : Translated). x .core) entered-is)
 
 -- by a walk
-module _ (ws : List ℕ) (base : ℕ) (ram part : List ℕ) (va : ℕ) (kind : Kind) (privilege : Privilege) (r : Regime) (s : Bank) (page tag slot : ℕ) (at : Current) (t : Resolved)
-    (ew : privilege ≡ coreOf ws .privilege) (er : r ≡ regimeOf (privilege .level)) (es : s ≡ bankOf (coreOf ws .control) r)
-    (ep : page ≡ untagged (s .tcr) r va) (eg : tag ≡ tagOf r page) (ea : at ≡ coreOf ws .tlb .cache .current) (eo : slot ≡ slotOf tag)
-    (ey : part ≡ ram) (et : t ≡ byWalk (walkOf s r page (wordAt base part 8)) record { regime = r; page = page; tag = tag } privilege at va kind) where
+module _ (ws : List ℕ) (base : ℕ) (ram part : List ℕ) (va : ℕ) (kind : Kind) (privilege : Privilege) (r : Regime) (s : Bank) (q : Query)
+    (slot : ℕ) (at : Current) (t : Resolved) (ew : privilege ≡ coreOf ws .privilege) (er : r ≡ regimeOf (privilege .level))
+    (es : s ≡ bankOf (coreOf ws .control) r) (eq : q ≡ queryOf r (untagged (s .tcr) r va)) (ea : at ≡ coreOf ws .tlb .cache .current)
+    (eo : slot ≡ slotOf (q .tag)) (ey : part ≡ ram)
+    (et : t ≡ byWalk (walkOf s (q .regime) (q .page) (wordAt base part 8)) q privilege at va kind) where
   abbrev of-walk : Core
   of-walk = coreOf ws
 
-  abbrev walkedFor : Privilege → Regime → Bank → ℕ → ℕ → Current → List ℕ → Translated
-  walkedFor by regime bank p g now bytes =
-      committing of-walk by kind va (slotOf g) (byWalk (walkOf bank regime p (wordAt base bytes 8)) record { regime = regime; page = p; tag = g } by now va kind)
+  abbrev walkedFor : Privilege → Bank → Query → Current → List ℕ → Translated
+  walkedFor by bank x now bytes =
+      committing of-walk by kind va (slotOf (x .tag)) (byWalk (walkOf bank (x .regime) (x .page) (wordAt base bytes 8)) x by now va kind)
 
   regime-now : r ≡ regimeOf (of-walk .privilege .level)
   regime-now = er ∙ ap (λ (x : Privilege). regimeOf (x .level)) ew
@@ -98,14 +91,13 @@ module _ (ws : List ℕ) (base : ℕ) (ram part : List ℕ) (va : ℕ) (kind : K
   bank-now : s ≡ bankNow of-walk
   bank-now = es ∙ ap (bankOf (of-walk .control)) regime-now
 
-  page-now : page ≡ untaggedNow (bankNow of-walk) (of-walk .privilege .level) va
-  page-now = ep ∙ λ i. untagged (bank-now i .tcr) (regime-now i) va
+  query-now : q ≡ queryOf (regimeOf (of-walk .privilege .level)) (untaggedNow (bankNow of-walk) (of-walk .privilege .level) va)
+  query-now = eq ∙ λ i. queryOf (regime-now i) (untagged (bank-now i .tcr) (regime-now i) va)
 
   walked-is : committing of-walk privilege kind va slot t ≡ fromWalk of-walk (wordAt base ram 8) va kind
   unfolding fromWalk
   walked-is =
-      (λ i. committing of-walk privilege kind va (eo i) (et i))
-      ∙ λ i. walkedFor (ew i) (regime-now i) (bank-now i) (page-now i) ((eg ∙ λ j. tagOf (regime-now j) (page-now j)) i) (ea i) (ey i)
+      (λ i. committing of-walk privilege kind va (eo i) (et i)) ∙ λ i. walkedFor (ew i) (bank-now i) (query-now i) (ea i) (ey i)
 
   pub walk-code : (n : ℕ) → n ≡ codeOf (t .answer) → n ≡ codeOf (fromWalk of-walk (wordAt base ram 8) va kind .answer)
   walk-code n p = p ∙ ap (λ (x : Translated). codeOf (x .answer)) walked-is
@@ -113,12 +105,14 @@ module _ (ws : List ℕ) (base : ℕ) (ram part : List ℕ) (va : ℕ) (kind : K
   pub walk-value : (v old : ℕ) → v ≡ valueOf (t .answer) old → v ≡ valueOf (fromWalk of-walk (wordAt base ram 8) va kind .answer) old
   walk-value v old p = p ∙ ap (λ (x : Translated). valueOf (x .answer) old) walked-is
 
-  pub walk-core : (xs : List ℕ) → NowHolds ws xs (committed of-walk privilege kind va slot t) → NowHolds ws xs (fromWalk of-walk (wordAt base ram 8) va kind .core)
+  pub walk-core : (xs : List ℕ) → NowHolds ws xs (committed of-walk privilege kind va slot t)
+      → NowHolds ws xs (fromWalk of-walk (wordAt base ram 8) va kind .core)
   walk-core xs m = holds-as m (ap (λ (x : Translated). x .core) walked-is)
 
 -- with stage 1 on and off
 module _ (ws : List ℕ) (base : ℕ) (ram : List ℕ) (va : ℕ) (kind : Kind) (privilege : Privilege) (r : Regime) (s : Bank) (a : Asked)
-    (ew : privilege ≡ coreOf ws .privilege) (er : r ≡ regimeOf (privilege .level)) (es : s ≡ bankOf (coreOf ws .control) r) (ea : a ≡ askOf s privilege va) where
+    (ew : privilege ≡ coreOf ws .privilege) (er : r ≡ regimeOf (privilege .level)) (es : s ≡ bankOf (coreOf ws .control) r)
+    (ea : a ≡ askOf s privilege va) where
   abbrev c : Core
   c = coreOf ws
 
@@ -216,7 +210,8 @@ module _ (ws : List ℕ) (base : ℕ) (ram : List ℕ) (va : ℕ) (kind : Kind) 
     off-core xs m = holds-as m (ap (λ (x : Translated). x .core) flat-is)
 
 -- the hint
-module _ (ws : List ℕ) (va : ℕ) (kind : Kind) (privilege : Privilege) (b : Bool) (key i : ℕ) (h : Hint) (ew : privilege ≡ coreOf ws .privilege) (eb : b ≡ mayHint privilege kind)
+module _ (ws : List ℕ) (va : ℕ) (kind : Kind) (privilege : Privilege) (b : Bool) (key i : ℕ) (h : Hint) (ew : privilege ≡ coreOf ws .privilege)
+    (eb : b ≡ mayHint privilege kind)
     (ek : key ≡ hintKey va (privilege .level)) (ei : i ≡ dataSlot va kind) (eh : h ≡ hintAt (coreOf ws .tlb .cache) i) where
   abbrev own-hint : Hint
   own-hint = hintAt (coreOf ws .tlb .cache) (dataSlot va kind)
@@ -258,10 +253,12 @@ module _ (ws : List ℕ) (memory : ℕ → Word) (va : ℕ) (kind : Kind) (p : H
   pub by-hint-value : (pa old : ℕ) → p ≡ At pa → pa ≡ valueOf (translateOf (coreOf ws) memory va kind .answer) old
   by-hint-value pa old e = ap (λ (a : Answer). valueOf a old) (by-hint-answer pa e)
 
-  pub by-find-code : (n : ℕ) → p ≡ Unknown → n ≡ codeOf (foundTo (coreOf ws) memory va kind .answer) → n ≡ codeOf (translateOf (coreOf ws) memory va kind .answer)
+  pub by-find-code : (n : ℕ) → p ≡ Unknown → n ≡ codeOf (foundTo (coreOf ws) memory va kind .answer) → n
+      ≡ codeOf (translateOf (coreOf ws) memory va kind .answer)
   by-find-code n e q = q ∙ ap codeOf (by-find-answer _ e refl)
 
-  pub by-find-value : (v old : ℕ) → p ≡ Unknown → v ≡ valueOf (foundTo (coreOf ws) memory va kind .answer) old → v ≡ valueOf (translateOf (coreOf ws) memory va kind .answer) old
+  pub by-find-value : (v old : ℕ) → p ≡ Unknown → v ≡ valueOf (foundTo (coreOf ws) memory va kind .answer) old → v
+      ≡ valueOf (translateOf (coreOf ws) memory va kind .answer) old
   by-find-value v old e q = q ∙ ap (λ (a : Answer). valueOf a old) (by-find-answer _ e refl)
 
 -- the number says which answer it was
@@ -288,11 +285,14 @@ module _ (ws : List ℕ) (memory : ℕ → Word) (va code : ℕ) (ec : code ≡ 
   abbrev its-page : Translated
   its-page = foundTo (coreOf ws) memory va Fetch
 
-  pub page-core : (pa old : ℕ) (privilege : Privilege) (xs ys : List ℕ) (h : FetchHint) → code ≡ 0 → pa ≡ valueOf (its-page .answer) old → NowHolds ws xs (its-page .core) → privilege ≡ coreOf xs .privilege
-      → h ≡ fetchFor va (privilege .level) pa → NowHolds xs ys (withFetchHint (coreOf xs) h) → NowHolds ws ys (pagedTo (coreOf ws .privilege .level) va its-page)
+  pub page-core : (pa old : ℕ) (privilege : Privilege) (xs ys : List ℕ) (h : FetchHint) → code ≡ 0 → pa ≡ valueOf (its-page .answer) old
+      → NowHolds ws xs (its-page .core) → privilege ≡ coreOf xs .privilege
+      → h ≡ fetchFor va (privilege .level) pa → NowHolds xs ys (withFetchHint (coreOf xs) h)
+      → NowHolds ws ys (pagedTo (coreOf ws .privilege .level) va its-page)
   page-core pa old privilege xs ys h z ep m ew eh n =
       holds-on (λ c. withFetchHint c h) m n
-      (ap (withFetchHint (its-page .core)) (eh ∙ ap (λ (w : Privilege). fetchFor va (w .level) pa) (ew ∙ ap (λ (c : Core). c .privilege) (m .holds) ∙ found-privilege (coreOf ws) memory va Fetch))
+      (ap (withFetchHint (its-page .core)) (eh ∙ ap (λ (w : Privilege). fetchFor va (w .level) pa)
+      (ew ∙ ap (λ (c : Core). c .privilege) (m .holds) ∙ found-privilege (coreOf ws) memory va Fetch))
       ∙ ap (pagedBy (coreOf ws .privilege .level) va (its-page .core)) (sym (code-at (its-page .answer) code pa old ec z ep)))
 
   pub page-fault : (xs : List ℕ) → (code ≡ 0 → ⊥) → NowHolds ws xs (its-page .core) → NowHolds ws xs (pagedTo (coreOf ws .privilege .level) va its-page)
@@ -303,7 +303,8 @@ module _ (ws : List ℕ) (memory : ℕ → Word) (va code : ℕ) (ec : code ≡ 
       go (Status fsc) e = rw e
 
 -- the fetch hint
-pub fetch-hint : (ws : List ℕ) (va : ℕ) (privilege : Privilege) (f : FetchHint) (p : HintAnswer) → privilege ≡ coreOf ws .privilege → f ≡ coreOf ws .tlb .cache .fetch → p ≡ fetchFound f (privilege .level) va
+pub fetch-hint : (ws : List ℕ) (va : ℕ) (privilege : Privilege) (f : FetchHint) (p : HintAnswer) → privilege ≡ coreOf ws .privilege → f
+    ≡ coreOf ws .tlb .cache .fetch → p ≡ fetchFound f (privilege .level) va
     → p ≡ fetchHint (coreOf ws) va
 unfolding fetchHint
 fetch-hint ws va privilege f p ew ef ep = ep ∙ λ i. fetchFound (ef i) (ew i .level) va
@@ -311,7 +312,8 @@ fetch-hint ws va privilege f p ew ef ep = ep ∙ λ i. fetchFound (ef i) (ew i .
 -- the translation that a fetch begins with
 module _ (ws : List ℕ) (base : ℕ) (ram : List ℕ) (va : ℕ) (p : HintAnswer) (ep : p ≡ fetchHint (coreOf ws) va) where
   abbrev fetched : Translated
-  fetched = answering (withTlb (coreOf ws) (fetchSteppedNow (coreOf ws) (wordAt base ram 8) va .tlb)) (fetchSteppedNow (coreOf ws) (wordAt base ram 8) va .answer)
+  fetched = answering (withTlb (coreOf ws) (fetchSteppedNow (coreOf ws) (wordAt base ram 8) va .tlb))
+      (fetchSteppedNow (coreOf ws) (wordAt base ram 8) va .answer)
 
   serves-it : (pa : ℕ) → p ≡ At pa → fetched ≡ answering (coreOf ws) (Address pa)
   unfolding fetchTo fetchHint

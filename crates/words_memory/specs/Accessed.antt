@@ -3,9 +3,7 @@ use mathlib.Core.List.{List}
 use Prim.Native.Nat.{ℕ}
 use Rattle.operations.specs.Ends.{loadEnd, storeEnd}
 use Rattle.mmu.specs.declared.core.Core.{Core}
-use Rattle.operations.specs.declared.place.Placed.{Placed}
-use Rattle.operations.specs.declared.ends.LoadEnd.{LoadEnd}
-use Rattle.operations.specs.declared.ends.StoreEnd.{StoreEnd}
+use Rattle.operations.specs.declared.{place.Placed.Placed, ends.LoadEnd.LoadEnd, ends.StoreEnd.StoreEnd}
 use Rattle.words.specs.Parts.{withLast, withAbort}
 
 -- the ends with the addresses that the core keeps

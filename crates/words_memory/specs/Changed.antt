@@ -3,9 +3,7 @@ use mathlib.Core.Bool.{Bool}
 use Prim.Native.Nat.{ℕ}
 use Rattle.word.specs.Bits.{pick}
 use Rattle.tlb.specs.Cache.{entryAt, hintAt}
-use Rattle.tlb.specs.declared.entry.Entry.{Entry}
-use Rattle.tlb.specs.declared.hint.FetchHint.{FetchHint}
-use Rattle.tlb.specs.declared.hint.Hint.{Hint}
+use Rattle.tlb.specs.declared.{entry.Entry.Entry, hint.FetchHint.FetchHint, hint.Hint.Hint}
 use Rattle.operations.specs.Change.{countedAs, keptAs}
 use Rattle.mmu.specs.declared.core.Core.{Core}
 use Rattle.words.specs.Parts.{withCounts, withEntry, withHint, withFetchHint}

@@ -10,17 +10,13 @@ use Rattle.tlb.specs.Tlb.{tlbWith}
 use Rattle.tlb.specs.Resolve.{countedBy, keptBy, fetchAfter}
 use Rattle.tlb.specs.Translate.{onNow, untaggedNow, walkNow, missWith, missOf, fetchApplied, fetchEnd, fetchWith}
 use Rattle.tlb.specs.declared.access.Kind.the-variants.{Fetch}
-use Rattle.tlb.specs.declared.access.Answer.{Answer}
+use Rattle.tlb.specs.declared.{access.Answer.Answer, count.Counts.Counts, entry.Entry.Entry, resolve.Resolved.Resolved}
 use Rattle.tlb.specs.declared.access.Answer.the-variants.{Address, Status}
-use Rattle.tlb.specs.declared.count.Counts.{Counts}
-use Rattle.tlb.specs.declared.entry.Entry.{Entry}
 use Rattle.tlb.specs.declared.hint.HintAnswer.the-variants.{At, Unknown}
-use Rattle.tlb.specs.declared.resolve.Resolved.{Resolved}
 use Rattle.mmu.specs.Core.{afterAccess, bankNow}
 use Rattle.mmu.specs.Ops.{withTlb, fetchSteppedNow}
 use Rattle.mmu.specs.Step.{slotAt, translateFetchIn}
-use Rattle.mmu.specs.declared.core.Core.{Core}
-use Rattle.mmu.specs.declared.ops.Translated.{Translated}
+use Rattle.mmu.specs.declared.{core.Core.Core, ops.Translated.Translated}
 use Rattle.words.specs.Parts.{withCache, withCounts, withEntry, withFetchHint}
 use Rattle.words_memory.specs.Found.{answering, withHintFor, answerPut, sourced, foundTo, pagedBy}
 use Rattle.words_memory.specs.FoundLaws.{unchanged}

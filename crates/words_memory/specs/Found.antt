@@ -13,20 +13,14 @@ use Rattle.tlb.specs.Hint.{dataSlot, hintKey, hintFor, onPage, fetchFor, fetchF
 use Rattle.tlb.specs.Cache.{entryAt, hintAt}
 use Rattle.tlb.specs.Resolve.{queryOf, byEntry, byWalk, countedBy, keptBy}
 use Rattle.tlb.specs.Translate.{untaggedNow, walkNow, missOf}
-use Rattle.tlb.specs.declared.access.Kind.{Kind}
-use Rattle.tlb.specs.declared.access.Privilege.{Privilege}
-use Rattle.tlb.specs.declared.access.Answer.{Answer}
-use Rattle.tlb.specs.declared.access.Answer.the-variants.{Address, Status}
-use Rattle.tlb.specs.declared.entry.Entry.{Entry}
-use Rattle.tlb.specs.declared.hint.HintAnswer.{HintAnswer}
-use Rattle.tlb.specs.declared.hint.HintAnswer.the-variants.{At, Unknown}
-use Rattle.tlb.specs.declared.resolve.Source.{Source}
-use Rattle.tlb.specs.declared.resolve.Query.{Query}
+use Rattle.tlb.specs.declared.{access.Kind.Kind, access.Privilege.Privilege, access.Answer.Answer, entry.Entry.Entry}
+use Rattle.tlb.specs.declared.{hint.HintAnswer.HintAnswer, resolve.Source.Source, resolve.Query.Query}
 use Rattle.tlb.specs.declared.resolve.Resolved.{Resolved}
+use Rattle.tlb.specs.declared.access.Answer.the-variants.{Address, Status}
+use Rattle.tlb.specs.declared.hint.HintAnswer.the-variants.{At, Unknown}
 use Rattle.mmu.specs.Core.{bankNow}
 use Rattle.mmu.specs.Step.{slotAt}
-use Rattle.mmu.specs.declared.core.Core.{Core}
-use Rattle.mmu.specs.declared.ops.Translated.{Translated}
+use Rattle.mmu.specs.declared.{core.Core.Core, ops.Translated.Translated}
 use Rattle.words.specs.CoreOf.{coreOf}
 use Rattle.words.specs.Parts.{withCounts, withEntry, withHint, withFetchHint}
 

@@ -17,15 +17,10 @@ use Rattle.tlb.specs.Cache.{entryAt, hintAt, setEntry, setHint}
 use Rattle.tlb.specs.Tlb.{tlbWith}
 use Rattle.tlb.specs.Resolve.{countedBy, keptBy, hintAfter}
 use Rattle.tlb.specs.Translate.{onNow, untaggedNow, walkNow, missWith, missOf, applied, translationWith}
-use Rattle.tlb.specs.declared.access.Kind.{Kind}
-use Rattle.tlb.specs.declared.access.Answer.{Answer}
+use Rattle.tlb.specs.declared.{access.Kind.Kind, access.Answer.Answer, count.Counts.Counts, entry.Entry.Entry}
+use Rattle.tlb.specs.declared.{hint.Hint.Hint, hint.HintAnswer.HintAnswer, resolve.Resolved.Resolved}
 use Rattle.tlb.specs.declared.access.Answer.the-variants.{Address, Status}
-use Rattle.tlb.specs.declared.count.Counts.{Counts}
-use Rattle.tlb.specs.declared.entry.Entry.{Entry}
-use Rattle.tlb.specs.declared.hint.Hint.{Hint}
-use Rattle.tlb.specs.declared.hint.HintAnswer.{HintAnswer}
 use Rattle.tlb.specs.declared.hint.HintAnswer.the-variants.{At, Unknown}
-use Rattle.tlb.specs.declared.resolve.Resolved.{Resolved}
 use Rattle.mmu.specs.Core.{afterAccess, bankNow}
 use Rattle.mmu.specs.Ops.{withTlb, steppedNow, translateOf}
 use Rattle.mmu.specs.Step.{slotAt, translateIn}

@@ -22,7 +22,6 @@ use tlb::resolve::Query;
 use tlb::resolve::Resolved;
 use tlb::resolve::Source;
 use walk::regime;
-use walk::tag;
 use words::cells;
 use words::counts;
 use words::place::State;
@@ -155,13 +154,11 @@ fn from_walk(state: &mut State, va: u64, kind: Kind, pa: &mut u64, base: u64, ra
     let privilege = state::privilege_at(state);
     let regime = regime::regime_of(privilege.level);
     let s = regs::bank_at(state, regime);
-    let page = tag::untag(s.tcr, regime, va);
-    let tag = access::tag_of(regime, page);
-    let q = Query { regime, page, tag };
+    let q = resolve::query_of(s, regime, va);
     let n = ram.len();
     let at = counts::current_at(state);
     let t = resolve::walked(q, s, privilege, at, va, kind, base, &ram[0..n]);
-    let slot = tlb::entry::slot(tag);
+    let slot = tlb::entry::slot(q.tag);
     commit(state, privilege, kind, va, slot, t, pa)
 }
 

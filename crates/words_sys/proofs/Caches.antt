@@ -9,8 +9,7 @@ use Rattle.tlb.specs.Entry.{pageDropped, asidDropped}
 use Rattle.tlb.specs.Count.{epochCounted, flushCounted, dropCounted}
 use Rattle.tlb.specs.Cache.{blanks, nextGeneration, flushed, retagged, withoutPage, withoutAsid}
 use Rattle.tlb.specs.Tlb.{flushOf, retagOf, dropPageOf, dropAsidOf, invalidateOf}
-use Rattle.tlb.specs.declared.entry.Current.{Current}
-use Rattle.tlb.specs.declared.Inval.{Inval}
+use Rattle.tlb.specs.declared.{entry.Current.Current, Inval.Inval}
 use Rattle.tlb.specs.declared.Inval.the-variants.{All, Page, Asid}
 use Rattle.mmu.specs.Core.{afterAccess}
 use Rattle.mmu.specs.Ops.{withTlb}
@@ -52,7 +51,8 @@ module _ (c : Core) where
   unfolding withoutHints withCounts withCurrent withCache afterAccess retagOf retagged
   retags n = refl
 
-  pages-out : (page : ℕ) → drops (withoutHints (withEntries c (map (pageDropped (generation c) page) (c .tlb .cache .entries)))) ≡ withTlb c (dropPageOf (c .tlb) page)
+  pages-out : (page : ℕ) → drops (withoutHints (withEntries c (map (pageDropped (generation c) page) (c .tlb .cache .entries))))
+      ≡ withTlb c (dropPageOf (c .tlb) page)
   unfolding withoutHints withCounts withEntries withCache afterAccess dropPageOf withoutPage
   pages-out page = refl
 
@@ -107,7 +107,8 @@ module _ (ws : List ℕ) where
 
   -- by what is invalidated
   module _ (xs : List ℕ) (what : Inval) where
-    pub all-out : what ≡ All → NowHolds ws xs (withTlb (coreOf ws) (flushOf (coreOf ws .tlb))) → NowHolds ws xs (withTlb (coreOf ws) (invalidateOf (coreOf ws .tlb) what))
+    pub all-out : what ≡ All → NowHolds ws xs (withTlb (coreOf ws) (flushOf (coreOf ws .tlb)))
+        → NowHolds ws xs (withTlb (coreOf ws) (invalidateOf (coreOf ws .tlb) what))
     unfolding invalidateOf
     all-out e m = rw e m
 

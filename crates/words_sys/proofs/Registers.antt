@@ -12,20 +12,15 @@ use Rattle.sysreg.specs.Shape.{shape, member, sameShape, asidOf}
 use Rattle.sysreg.specs.ShapeLaws.{SameShape, shape-agrees, agrees-shape, shape-self, shape-kept}
 use Rattle.sysreg.specs.Write.{controlWith, sysWith, wrote}
 use Rattle.sysreg.specs.WriteLaws.{control-after, control-written, write-nothing, write-el0, write-done}
-use Rattle.sysreg.specs.declared.regs.Control.{Control}
-use Rattle.sysreg.specs.declared.regs.El.{El}
+use Rattle.sysreg.specs.declared.{regs.Control.Control, regs.El.El, regs.ControlReg.ControlReg, regs.SysReg.SysReg}
+use Rattle.sysreg.specs.declared.{regs.Register.Register, encoding.Found.Found}
 use Rattle.sysreg.specs.declared.regs.El.the-variants.{El1, El2, El3}
-use Rattle.sysreg.specs.declared.regs.ControlReg.{ControlReg}
 use Rattle.sysreg.specs.declared.regs.ControlReg.the-variants.{Sctlr, Tcr, Ttbr0, Ttbr1, Scr, Hcr}
-use Rattle.sysreg.specs.declared.regs.SysReg.{SysReg}
-use Rattle.sysreg.specs.declared.regs.Register.{Register}
 use Rattle.sysreg.specs.declared.regs.Register.the-variants.{InControl, InSys}
-use Rattle.sysreg.specs.declared.encoding.Found.{Found}
 use Rattle.sysreg.specs.declared.encoding.Found.the-variants.{At, Nothing}
 use Rattle.sysreg.specs.declared.write.WriteAnswer.the-variants.{Done, Undefined, NoRegister}
 use Rattle.tlb.specs.Tlb.{flushOf, retagOf}
-use Rattle.tlb.specs.declared.access.Privilege.{Privilege}
-use Rattle.tlb.specs.declared.entry.Current.{Current}
+use Rattle.tlb.specs.declared.{access.Privilege.Privilege, entry.Current.Current}
 use Rattle.mmu.specs.Core.{afterAccess}
 use Rattle.mmu.specs.Ops.{withTlb}
 use Rattle.mmu.specs.declared.core.Core.{Core}
@@ -64,15 +59,6 @@ module _ (r : ControlReg) where
 
   pub shapes-ttbr0-3 : (el : El) → r ≡ Ttbr0 el → el ≡ El3 → true ≡ member shape r
   shapes-ttbr0-3 el e q = rw (e, q)
-
-  pub shapes-ttbr1 : r ≡ Ttbr1 → false ≡ member shape r
-  shapes-ttbr1 e = rw e
-
-  pub shapes-scr : r ≡ Scr → true ≡ member shape r
-  shapes-scr e = rw e
-
-  pub shapes-hcr : r ≡ Hcr → true ≡ member shape r
-  shapes-hcr e = rw e
 
 -- WHETHER A WRITE CHANGES THE SHAPE
 

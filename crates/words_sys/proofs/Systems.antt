@@ -11,8 +11,7 @@ use Rattle.sysreg.specs.declared.regs.SysReg.the-variants.{Mair, Par}
 use Rattle.walk.specs.Regime.{levelOf, bankOf}
 use Rattle.walk.specs.declared.regime.Bank.{Bank}
 use Rattle.tlb.specs.Tlb.{invalidateOf, pendingAfter, broadcastOf}
-use Rattle.tlb.specs.declared.Inval.{Inval}
-use Rattle.tlb.specs.declared.Pending.{Pending}
+use Rattle.tlb.specs.declared.{Inval.Inval, Pending.Pending}
 use Rattle.sysop.specs.Par.{parIn, atPar}
 use Rattle.sysop.specs.Tlbi.{tlbiOf, reachesOthers}
 use Rattle.sysop.specs.declared.op.AtForm.{AtForm}
@@ -61,7 +60,8 @@ module _ (ws : List ℕ) where
         holds-as mx
         (ap (λ (i : Inval). withTlb (coreOf ws) (invalidateOf (coreOf ws .tlb) i)) found ∙ alone (coreOf ws) op1 crm op2 x (sym eb ∙ f))
 
-    pub tlbi-sent : (ys : List ℕ) → b ≡ true → NowHolds xs ys (withTlb (coreOf xs) (broadcastOf (coreOf xs .tlb) what)) → NowHolds ws ys (tlbiCore (coreOf ws) op1 crm op2 x)
+    pub tlbi-sent : (ys : List ℕ) → b ≡ true → NowHolds xs ys (withTlb (coreOf xs) (broadcastOf (coreOf xs .tlb) what))
+        → NowHolds ws ys (tlbiCore (coreOf ws) op1 crm op2 x)
     tlbi-sent ys t m =
         holds-on (λ c. withTlb c (broadcastOf (c .tlb) what)) mx m
         (ap

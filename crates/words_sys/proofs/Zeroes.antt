@@ -8,24 +8,19 @@ use native.Mathlib.Omega.{arith}
 use borrow.Author.Tests.{ne-eqb}
 use lib.ListN.{length}
 use Rattle.word.specs.Bits.{alignDown, wrap}
-use Rattle.word.specs.Ram.{within, wordAt, stored}
-use Rattle.exception.specs.declared.kind.Exception.the-variants as Exception
+use Rattle.word.specs.Ram.{within, stored}
 use Rattle.exception.specs.declared.kind.Stop.{Stop}
-use Rattle.exception.specs.declared.kind.Stop.the-variants as Stop
 use Rattle.tlb.specs.declared.access.Kind.the-variants.{Write}
-use Rattle.tlb.specs.declared.access.Privilege.{Privilege}
-use Rattle.tlb.specs.declared.hint.HintAnswer.{HintAnswer}
+use Rattle.tlb.specs.declared.{access.Privilege.Privilege, hint.HintAnswer.HintAnswer}
 use Rattle.tlb.specs.declared.hint.HintAnswer.the-variants.{At, Unknown}
 use Rattle.sysop.specs.Op.{decodeOf}
-use Rattle.sysop.specs.declared.op.AtForm.{AtForm}
 use Rattle.sysop.specs.declared.op.SysOp.{SysOp}
-use Rattle.sysop.specs.declared.op.SysOp.the-variants as SysOp
 use Rattle.mmu.specs.Core.{regOf}
 use Rattle.mmu.specs.Ops.{writeOf, ramAfterWrite}
 use Rattle.operations.specs.declared.ends.StoreAnswer.{StoreAnswer}
 use Rattle.operations.specs.declared.ends.StoreAnswer.the-variants.{Done, Stopped}
 use Rattle.mmu.specs.declared.ops.Stored.{Stored}
-use Rattle.exec.specs.Sys.{atOf, tlbiCore, zeroOf, zeroRam, opOf, sysOf, sysRam}
+use Rattle.exec.specs.Sys.{zeroOf, zeroRam, sysBy, sysRamBy, opOf, sysOf, sysRam}
 use Rattle.exec.specs.ZeroLaws.{zero-none, zero-stops, zero-goes}
 use Rattle.words.specs.CoreOf.{coreOf}
 use Rattle.words.specs.NowHolds.{NowHolds, stays, holds-as}
@@ -153,91 +148,24 @@ module _ (ws : List ℕ) (base : ℕ) (ram ys : List ℕ) (x : ℕ) (b : Bool) (
 
 -- BY WHAT THE ENCODING NAMES
 
-module _ (ws : List ℕ) (base : ℕ) (ram : List ℕ) (op1 crn crm op2 rt : ℕ) (w : Privilege) (o : SysOp) (ew : w ≡ coreOf ws .privilege)
-    (eo : o ≡ decodeOf (w .level) op1 crn crm op2) where
-  abbrev Ends : Stored
-  Ends = sysOf (coreOf ws) base ram op1 crn crm op2 rt
+module _ (ws : List ℕ) (base : ℕ) (ram : List ℕ) (op1 crn crm op2 rt x : ℕ) (w : Privilege) (o p : SysOp) (ew : w ≡ coreOf ws .privilege)
+    (eo : o ≡ decodeOf (w .level) op1 crn crm op2) (ex : x ≡ regOf (coreOf ws) rt) (e : o ≡ p) where
+  op : opOf (coreOf ws) op1 crn crm op2 ≡ p
+  op = ap (λ (q : Privilege). decodeOf (q .level) op1 crn crm op2) (sym ew) ∙ sym eo ∙ e
 
-  abbrev Leaves : List ℕ
-  Leaves = sysRam (coreOf ws) base ram op1 crn crm op2 rt
-
-  op : o ≡ opOf (coreOf ws) op1 crn crm op2
-  op = eo ∙ ap (λ (q : Privilege). decodeOf (q .level) op1 crn crm op2) ew
-
-  pub at-answer : (form : AtForm) → o ≡ SysOp.At form → Done ≡ Ends .answer
+  pub sys-answer : (a : StoreAnswer) → a ≡ sysBy p (coreOf ws) base ram op1 crm op2 x .answer → a ≡ sysOf (coreOf ws) base ram op1 crn crm op2 rt .answer
   unfolding sysOf
-  at-answer form e = rw (← op, e)
+  sys-answer a q = rw (op, ← ex) q
 
-  pub at-core : (form : AtForm) (x : ℕ) (xs : List ℕ) → o ≡ SysOp.At form → x ≡ regOf (coreOf ws) rt
-      → NowHolds ws xs (atOf (coreOf ws) (wordAt base ram 8) form x) → NowHolds ws xs (Ends .core)
+  pub sys-core : (xs : List ℕ) → NowHolds ws xs (sysBy p (coreOf ws) base ram op1 crm op2 x .core)
+      → NowHolds ws xs (sysOf (coreOf ws) base ram op1 crn crm op2 rt .core)
   unfolding sysOf
-  at-core form x xs e ex m = rw (← op, e, ← ex) m
+  sys-core xs m = rw (op, ← ex) m
 
-  pub at-ram : (form : AtForm) → o ≡ SysOp.At form → ram ≡ Leaves
+  pub sys-ram : (ys : List ℕ) → ys ≡ sysRamBy p (coreOf ws) base ram x → ys ≡ sysRam (coreOf ws) base ram op1 crn crm op2 rt
   unfolding sysRam
-  at-ram form e = rw (← op, e)
+  sys-ram ys q = rw (op, ← ex) q
 
-  pub tlbi-answer : o ≡ SysOp.Tlbi → Done ≡ Ends .answer
-  unfolding sysOf
-  tlbi-answer e = rw (← op, e)
-
-  pub tlbi-core : (x : ℕ) (xs : List ℕ) → o ≡ SysOp.Tlbi → x ≡ regOf (coreOf ws) rt → NowHolds ws xs (tlbiCore (coreOf ws) op1 crm op2 x) → NowHolds ws xs (Ends .core)
-  unfolding sysOf
-  tlbi-core x xs e ex m = rw (← op, e, ← ex) m
-
-  pub tlbi-ram : o ≡ SysOp.Tlbi → ram ≡ Leaves
-  unfolding sysRam
-  tlbi-ram e = rw (← op, e)
-
-  module _ (x : ℕ) (a : StoreAnswer) (xs ys : List ℕ) (e : o ≡ SysOp.Zva) (ex : x ≡ regOf (coreOf ws) rt)
-      (z : Zeroes 8 ws base ram (alignDown x 6) a xs ys) where
-    pub zva-answer : a ≡ Ends .answer
-    unfolding sysOf
-    zva-answer = rw (← op, e, ← ex) (z .answer)
-
-    pub zva-core : NowHolds ws xs (Ends .core)
-    unfolding sysOf
-    zva-core = rw (← op, e, ← ex) (z .words)
-
-    pub zva-ram : ys ≡ Leaves
-    unfolding sysRam
-    zva-ram = rw (← op, e, ← ex) (z .bytes)
-
-    pub zva-late : earlyStop a ≡ true → xs ≡ ws
-    zva-late t = late-zero ws xs 8 (coreOf ws) base ram (alignDown x 6) a (z .answer) t
-
-  pub nothing-answer : o ≡ SysOp.Nothing → Done ≡ Ends .answer
-  unfolding sysOf
-  nothing-answer e = rw (← op, e)
-
-  pub nothing-core : o ≡ SysOp.Nothing → NowHolds ws ws (Ends .core)
-  unfolding sysOf
-  nothing-core e = rw (← op, e) stays
-
-  pub nothing-ram : o ≡ SysOp.Nothing → ram ≡ Leaves
-  unfolding sysRam
-  nothing-ram e = rw (← op, e)
-
-  pub undefined-answer : o ≡ SysOp.Undefined → Stopped (Stop.Exception Exception.Undefined) ≡ Ends .answer
-  unfolding sysOf
-  undefined-answer e = rw (← op, e)
-
-  pub undefined-core : o ≡ SysOp.Undefined → NowHolds ws ws (Ends .core)
-  unfolding sysOf
-  undefined-core e = rw (← op, e) stays
-
-  pub undefined-ram : o ≡ SysOp.Undefined → ram ≡ Leaves
-  unfolding sysRam
-  undefined-ram e = rw (← op, e)
-
-  pub unimplemented-answer : o ≡ SysOp.Unimplemented → Stopped Stop.Unimplemented ≡ Ends .answer
-  unfolding sysOf
-  unimplemented-answer e = rw (← op, e)
-
-  pub unimplemented-core : o ≡ SysOp.Unimplemented → NowHolds ws ws (Ends .core)
-  unfolding sysOf
-  unimplemented-core e = rw (← op, e) stays
-
-  pub unimplemented-ram : o ≡ SysOp.Unimplemented → ram ≡ Leaves
-  unfolding sysRam
-  unimplemented-ram e = rw (← op, e)
+pub zva-late : (ws : List ℕ) (base : ℕ) (ram : List ℕ) (x : ℕ) (a : StoreAnswer) (xs ys : List ℕ) → Zeroes 8 ws base ram (alignDown x 6) a xs ys
+    → earlyStop a ≡ true → xs ≡ ws
+zva-late ws base ram x a xs ys z t = late-zero ws xs 8 (coreOf ws) base ram (alignDown x 6) a (z .answer) t

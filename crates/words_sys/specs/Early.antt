@@ -14,14 +14,11 @@ use Rattle.exception.specs.declared.kind.Stop.the-variants as Stop
 use Rattle.operations.specs.Place.{verdictOf as judged}
 use Rattle.operations.specs.Ends.{storeEnd, storeEndBy}
 use Rattle.mmu.specs.Ops.{locatedNow, writeOf, ramAfterWrite}
-use Rattle.mmu.specs.declared.core.Core.{Core}
-use Rattle.operations.specs.declared.place.Placed.{Placed}
+use Rattle.mmu.specs.declared.{core.Core.Core, ops.Stored.Stored}
+use Rattle.operations.specs.declared.{place.Placed.Placed, place.Verdict.Verdict, ends.StoreAnswer.StoreAnswer}
 use Rattle.operations.specs.declared.place.Placed.the-variants.{At, Fault}
-use Rattle.operations.specs.declared.place.Verdict.{Verdict}
 use Rattle.operations.specs.declared.place.Verdict.the-variants.{Inside, Outside}
-use Rattle.operations.specs.declared.ends.StoreAnswer.{StoreAnswer}
 use Rattle.operations.specs.declared.ends.StoreAnswer.the-variants.{Done, Stopped}
-use Rattle.mmu.specs.declared.ops.Stored.{Stored}
 use Rattle.exec.specs.Sys.{onStored, zeroOf}
 
 -- Undefined, Unimplemented, and the exceptions that stop no operation

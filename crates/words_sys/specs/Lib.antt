@@ -1,6 +1,5 @@
 pub mod Abort
 pub mod Register
-pub mod Settings
 pub mod Zero
 pub mod Line
 pub mod Early

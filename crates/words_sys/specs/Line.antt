@@ -9,18 +9,17 @@ use lib.Bits.{bitOr, or-mod, or-block, or-zero-l, or-zero-r}
 use lib.Dec.{eqb}
 use lib.ListN.{length}
 use Rattle.word.specs.Bits.{pick}
+use Rattle.word.specs.BitLaws.{both}
 use Rattle.word.specs.Ram.{within, stored}
-use Rattle.word.specs.declared.ram.Word.{Word}
 use Rattle.tlb.specs.Access.{mayHint}
 use Rattle.tlb.specs.Cache.{hintAt}
 use Rattle.tlb.specs.Hint.{onPage, dataSlot, hintKey}
 use Rattle.tlb.specs.declared.access.Kind.the-variants.{Write}
 use Rattle.tlb.specs.declared.hint.HintAnswer.{HintAnswer}
 use Rattle.tlb.specs.declared.hint.HintAnswer.the-variants.{At, Unknown}
-use Rattle.mmu.specs.Ops.{translateOf}
 use Rattle.mmu.specs.declared.core.Core.{Core}
 use Rattle.exec.specs.Sys.{doneWith, zeroOf, zeroRam}
-use Rattle.exec.specs.ZeroLine.{addressed, zero-steady}
+use Rattle.exec.specs.ZeroLine.{zero-steady}
 use Rattle.words_memory.specs.Found.{hintFound}
 use Rattle.words_memory.specs.FoundLaws.{hint-serves}
 
@@ -88,15 +87,6 @@ module _ (c : Core) (va pa : ℕ) (line : va % 64 ≡ 0) (found : hintFound c va
       (ap (λ (n : ℕ). hintFound c n Write) (sym a) ∙ found-at (k + j) (omega arith) ∙ ap At p)) in
       (z .0, z .1 ∙ ap (λ (n : ℕ). stored base ram n (pa + 8 * k) 0) (sym d))
 
-and-both : (x y : Bool) → (x && y) ≡ true → (x ≡ true) × (y ≡ true)
-and-both true true e = (refl, refl)
-and-both true false e = (refl, e)
-and-both false y e = (e, absurd (subst is-false e tt))
-  where
-    is-false : Bool → Type 0
-    is-false true = ⊥
-    is-false false = Unit {0}
-
 -- what was cleared is zeroed by the stores from number k on
 pub clears-line : (c : Core) (base : ℕ) (ram : List ℕ) (va k : ℕ) → k < 8 → va % 64 ≡ 0 → va + 64 ≤ 2 ^ 64
     → clears (hintFound c va Write) (8 * k) base (length ram) ≡ true
@@ -106,7 +96,7 @@ clears-line c base ram va k h line room = go (hintFound c va Write) refl
     go : (p : HintAnswer) → hintFound c va Write ≡ p → clears p (8 * k) base (length ram) ≡ true
         → (zeroOf (8 - k) c base ram (va + 8 * k) ≡ doneWith c) × (zeroRam (8 - k) c base ram (va + 8 * k) ≡ cleared p (8 * k) base ram)
     go (At pa) e t =
-        let b = and-both (eqb (pa % 64) 0) (within base (length ram) (64 - 8 * k) (pa + 8 * k)) t in
+        let b = both (eqb (pa % 64) 0) (within base (length ram) (64 - 8 * k) (pa + 8 * k)) t in
         let z = line-zeroes c va pa line e (eqb-true (pa % 64) 0 (b .0)) k base ram h room (b .1) in
         (z .0, rw (b .0) (z .1))
     go Unknown e t = absurd (subst is-false t tt)

@@ -2,8 +2,7 @@
 use Prim.Native.Nat.{ℕ}
 use Rattle.sysreg.specs.Shape.{sameShape, asidOf}
 use Rattle.sysreg.specs.Write.{controlWith, wrote}
-use Rattle.sysreg.specs.declared.regs.ControlReg.{ControlReg}
-use Rattle.sysreg.specs.declared.regs.Register.{Register}
+use Rattle.sysreg.specs.declared.{regs.ControlReg.ControlReg, regs.Register.Register}
 use Rattle.tlb.specs.Tlb.{flushOf, retagOf, dropPageOf, dropAsidOf, invalidateOf, broadcastOf}
 use Rattle.tlb.specs.declared.Inval.{Inval}
 use Rattle.mmu.specs.Ops.{withTlb}

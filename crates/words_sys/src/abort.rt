@@ -1,5 +1,4 @@
 // Abort entry in place.
-ghost use mathlib.Core.Path.{_≡_};
 ghost use Rattle.exec.specs.Ops.{abortOf};
 ghost use Rattle.words.specs.CoreOf.{coreOf};
 ghost use Rattle.words.specs.NowHolds.{NowHolds};

@@ -13,30 +13,6 @@ Inv-loop state₀ ram₀ counts₀ n t₀ i₀ state ram counts t i = length ram
 abbrev μ-loop : tie.MeasureT-loop
 μ-loop state₀ ram₀ counts₀ n t₀ i₀ state ram counts t i = n - i
 
-arg-count-requires : tie.Need-arg-count-requires Inv-loop μ-loop
-arg-count-requires c κs = search needs
-
-nothing-requires : tie.Need-nothing-requires Inv-loop μ-loop
-nothing-requires c κs = search needs
-
-loop-holds : tie.Need-loop-holds Inv-loop μ-loop
-loop-holds c = omega arith
-
-argument-requires : tie.Need-argument-requires Inv-loop μ-loop
-argument-requires c κs = search needs
-
-add-i : tie.Need-add-i Inv-loop μ-loop
-add-i c = omega arith
-
-loop-less : tie.Need-loop-less Inv-loop μ-loop
-loop-less c = omega arith
-
-loop-again : tie.Need-loop-again Inv-loop μ-loop
-loop-again c = omega arith
-
-same-length : tie.Need-same-length Inv-loop μ-loop
-same-length c = omega arith
-
 returns : tie.Need-returns Inv-loop μ-loop
 returns c = tt
 
@@ -44,14 +20,6 @@ pub arguments-spec : {M : Type 1} → statement M
 arguments-spec =
     tie.close
     (tie.spec
-    Inv-loop
-    μ-loop
-    arg-count-requires
-    nothing-requires
-    loop-holds
-    argument-requires
-    add-i
-    loop-less
-    loop-again
-    same-length
-    returns)
+    Inv-loop μ-loop (λ arg-count-requires κs. search needs) (λ nothing-requires κs. search needs)
+    (λ loop-holds. omega arith) (λ argument-requires κs. search needs) (λ add-i. omega arith)
+    (λ loop-less. omega arith) (λ loop-again. omega arith) (λ same-length. omega arith) returns)

@@ -4,14 +4,9 @@ use borrow.Author.Needs.{needs}
 use Rattle.tlb.proofs.new.Statement.{statement}
 use Rattle.tlb.proofs.new.Tie as tie
 
-empty-requires : tie.Need-empty-requires
-empty-requires c κs = search needs
-
-none-requires : tie.Need-none-requires
-none-requires c κs = search needs
-
-returns : tie.Need-returns
-returns c = search (tlb-is, needs)
-
 pub new-spec : {M : Type 1} → statement M
-new-spec = tie.close (tie.spec empty-requires none-requires returns)
+new-spec =
+    tie.close
+    (tie.spec
+    (λ empty-requires κs. search needs) (λ none-requires κs. search needs)
+    (λ returns. search (tlb-is, needs)))

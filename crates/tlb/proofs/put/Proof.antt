@@ -4,17 +4,9 @@ use borrow.Author.Needs.{needs}
 use Rattle.tlb.proofs.put.Statement.{statement}
 use Rattle.tlb.proofs.put.Tie as tie
 
-stamped-requires : tie.Need-stamped-requires
-stamped-requires c κs = search needs
-
-slot-requires : tie.Need-slot-requires
-slot-requires c κs = search needs
-
-set-entry-requires : tie.Need-set-entry-requires
-set-entry-requires c κs = search needs
-
-returns : tie.Need-returns
-returns c = search (stored, needs)
-
 pub put-spec : {M : Type 1} → statement M
-put-spec = tie.close (tie.spec stamped-requires slot-requires set-entry-requires returns)
+put-spec =
+    tie.close
+    (tie.spec
+    (λ stamped-requires κs. search needs) (λ slot-requires κs. search needs) (λ set-entry-requires κs. search needs)
+    (λ returns. search (stored, needs)))

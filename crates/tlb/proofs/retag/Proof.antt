@@ -5,15 +5,9 @@ use borrow.Author.Needs.{needs}
 use Rattle.tlb.proofs.retag.Statement.{statement}
 use Rattle.tlb.proofs.retag.Tie as tie
 
-retagged-requires : tie.Need-retagged-requires
-retagged-requires c κs = search needs
-
-epoch-requires : tie.Need-epoch-requires
-epoch-requires c κs = search needs
-
 returns : tie.Need-returns
 unfolding retagOf
 returns c = search (tlb-is, needs)
 
 pub retag-spec : {M : Type 1} → statement M
-retag-spec = tie.close (tie.spec retagged-requires epoch-requires returns)
+retag-spec = tie.close (tie.spec (λ retagged-requires κs. search needs) (λ epoch-requires κs. search needs) returns)

@@ -4,14 +4,9 @@ use borrow.Author.Needs.{needs}
 use Rattle.tlb.proofs.with_fetch.Statement.{statement}
 use Rattle.tlb.proofs.with_fetch.Tie as tie
 
-set-entry-requires : tie.Need-set-entry-requires
-set-entry-requires c κs = search needs
-
-set-fetch-requires : tie.Need-set-fetch-requires
-set-fetch-requires c κs = search needs
-
-returns : tie.Need-returns
-returns c = search (fetch-stored, needs)
-
 pub with-fetch-spec : {M : Type 1} → statement M
-with-fetch-spec = tie.close (tie.spec set-entry-requires set-fetch-requires returns)
+with-fetch-spec =
+    tie.close
+    (tie.spec
+    (λ set-entry-requires κs. search needs) (λ set-fetch-requires κs. search needs)
+    (λ returns. search (fetch-stored, needs)))

@@ -6,17 +6,16 @@ use borrow.Author.Needs.{needs}
 use Rattle.a72abi.proofs.calls.a72_system.Statement.{statement}
 use Rattle.a72abi.proofs.calls.a72_system.Tie as tie
 
-system-requires : tie.Need-system-requires
-system-requires c κs = search needs
-
-answer-requires : tie.Need-answer-requires
-answer-requires c κs = search needs
-
-same-length : tie.Need-same-length
-same-length c = search needs
-
 returns : tie.Need-returns
-returns c = promise _ _ _ _ _ _ _ _ _ (record { code = search (put-answer-code, needs); value = search (put-answer-value, needs); words = search needs; kept = search (keeping, needs) }) (search needs)
+returns c = promise _ _ _ _ _ _ _ _ _ (record {
+  code = search (put-answer-code, needs);
+  value = search (put-answer-value, needs);
+  words = search needs;
+  kept = search (keeping, needs);
+}) (search needs)
 
 pub a72-system-spec : {M : Type 1} → statement M
-a72-system-spec = tie.close (tie.spec system-requires answer-requires same-length returns)
+a72-system-spec =
+    tie.close
+    (tie.spec
+    (λ system-requires κs. search needs) (λ answer-requires κs. search needs) (λ same-length. search needs) returns)

@@ -4,14 +4,9 @@ use borrow.Author.Needs.{needs}
 use Rattle.a72abi.proofs.calls.fetch.Statement.{statement}
 use Rattle.a72abi.proofs.calls.fetch.Tie as tie
 
-fetch-requires : tie.Need-fetch-requires
-fetch-requires c κs = search needs
-
-words-by-requires : tie.Need-words-by-requires
-words-by-requires c κs = search needs
-
-returns : tie.Need-returns
-returns c = search (fetch-steps, needs)
-
 pub fetch-spec : {M : Type 1} → statement M
-fetch-spec = tie.close (tie.spec fetch-requires words-by-requires returns)
+fetch-spec =
+    tie.close
+    (tie.spec
+    (λ fetch-requires κs. search needs) (λ words-by-requires κs. search needs)
+    (λ returns. search (fetch-steps, needs)))

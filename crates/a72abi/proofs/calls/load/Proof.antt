@@ -4,14 +4,9 @@ use borrow.Author.Needs.{needs}
 use Rattle.a72abi.proofs.calls.load.Statement.{statement}
 use Rattle.a72abi.proofs.calls.load.Tie as tie
 
-load-requires : tie.Need-load-requires
-load-requires c κs = search needs
-
-words-by-requires : tie.Need-words-by-requires
-words-by-requires c κs = search needs
-
-returns : tie.Need-returns
-returns c = search (load-steps, needs)
-
 pub load-spec : {M : Type 1} → statement M
-load-spec = tie.close (tie.spec load-requires words-by-requires returns)
+load-spec =
+    tie.close
+    (tie.spec
+    (λ load-requires κs. search needs) (λ words-by-requires κs. search needs)
+    (λ returns. search (load-steps, needs)))

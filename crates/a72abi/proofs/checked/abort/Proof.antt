@@ -7,19 +7,14 @@ use borrow.Author.Needs.{needs}
 use Rattle.a72abi.proofs.checked.abort.Statement.{statement}
 use Rattle.a72abi.proofs.checked.abort.Tie as tie
 
-missed-any-requires : tie.Need-missed-any-requires
-missed-any-requires c κs = search needs
-
 returns : tie.Need-returns
 unfolding missedOf
 returns c = record { reply = search (refused-reply, needs); words = search (refused-core, needs); stays = search (staying, needs) }
-
-abort-requires : tie.Need-abort-requires
-abort-requires c κs = search needs
 
 returns-2 : tie.Need-returns-2
 unfolding missedOf runOf
 returns-2 c = record { reply = search (run-reply, needs); words = search (run-core, needs); stays = search (staying, needs) }
 
 pub abort-spec : {M : Type 1} → statement M
-abort-spec = tie.close (tie.spec missed-any-requires returns abort-requires returns-2)
+abort-spec =
+    tie.close (tie.spec (λ missed-any-requires κs. search needs) returns (λ abort-requires κs. search needs) returns-2)

@@ -6,9 +6,6 @@ use borrow.Author.Needs.{needs}
 use Rattle.a72abi.proofs.checked.general.Statement.{statement}
 use Rattle.a72abi.proofs.checked.general.Tie as tie
 
-missed-any-requires : tie.Need-missed-any-requires
-missed-any-requires c κs = search needs
-
 returns : tie.Need-returns
 returns c =
     record {
@@ -25,9 +22,6 @@ returns-2 c =
       stays = search (staying, needs);
     }
 
-put-general-requires : tie.Need-put-general-requires
-put-general-requires c κs = search needs
-
 returns-3 : tie.Need-returns-3
 unfolding runOf
 returns-3 c =
@@ -38,4 +32,7 @@ returns-3 c =
     }
 
 pub general-spec : {M : Type 1} → statement M
-general-spec = tie.close (tie.spec missed-any-requires returns returns-2 put-general-requires returns-3)
+general-spec =
+    tie.close
+    (tie.spec
+    (λ missed-any-requires κs. search needs) returns returns-2 (λ put-general-requires κs. search needs) returns-3)

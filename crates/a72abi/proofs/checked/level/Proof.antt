@@ -9,18 +9,9 @@ use borrow.Author.Needs.{needs}
 use Rattle.a72abi.proofs.checked.level.Statement.{statement}
 use Rattle.a72abi.proofs.checked.level.Tie as tie
 
-missed-level-requires : tie.Need-missed-level-requires
-missed-level-requires c κs = search needs
-
 returns : tie.Need-returns
 unfolding missedOf
 returns c = record { reply = search (refused-reply, needs); words = search (refused-core, needs); stays = search (staying, needs) }
-
-cast-put-level : tie.Need-cast-put-level
-cast-put-level c = search needs
-
-put-level-requires : tie.Need-put-level-requires
-put-level-requires c κs = search needs
 
 returns-2 : tie.Need-returns-2
 unfolding missedOf runOf setLevel withPrivilege
@@ -28,4 +19,7 @@ returns-2 c = record { reply = search (run-reply, needs); words = search (run-co
 
 pub level-spec : {M : Type 1} → statement M
 level-spec =
-    tie.close (tie.spec missed-level-requires returns cast-put-level put-level-requires returns-2)
+    tie.close
+    (tie.spec
+    (λ missed-level-requires κs. search needs) returns (λ cast-put-level. search needs)
+    (λ put-level-requires κs. search needs) returns-2)

@@ -9,19 +9,16 @@ use borrow.Author.Needs.{needs}
 use Rattle.a72abi.proofs.checked.mark.Statement.{statement}
 use Rattle.a72abi.proofs.checked.mark.Tie as tie
 
-missed-any-requires : tie.Need-missed-any-requires
-missed-any-requires c κs = search needs
-
 returns : tie.Need-returns
 unfolding missedOf
 returns c = record { reply = search (refused-reply, needs); words = search (refused-core, needs); stays = search (staying, needs) }
-
-put-mark-requires : tie.Need-put-mark-requires
-put-mark-requires c κs = search needs
 
 returns-2 : tie.Need-returns-2
 unfolding missedOf runOf setMark withPrivilege
 returns-2 c = record { reply = search (run-reply, needs); words = search (run-core, needs); stays = search (staying, needs) }
 
 pub mark-spec : {M : Type 1} → statement M
-mark-spec = tie.close (tie.spec missed-any-requires returns put-mark-requires returns-2)
+mark-spec =
+    tie.close
+    (tie.spec
+    (λ missed-any-requires κs. search needs) returns (λ put-mark-requires κs. search needs) returns-2)

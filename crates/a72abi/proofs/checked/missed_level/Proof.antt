@@ -4,14 +4,9 @@ use borrow.Author.Needs.{needs}
 use Rattle.a72abi.proofs.checked.missed_level.Statement.{statement}
 use Rattle.a72abi.proofs.checked.missed_level.Tie as tie
 
-privilege-at-requires : tie.Need-privilege-at-requires
-privilege-at-requires c κs = search needs
-
-levels-requires : tie.Need-levels-requires
-levels-requires c κs = search needs
-
-returns : tie.Need-returns
-returns c = search (level-missed, needs)
-
 pub missed-level-spec : {M : Type 1} → statement M
-missed-level-spec = tie.close (tie.spec privilege-at-requires levels-requires returns)
+missed-level-spec =
+    tie.close
+    (tie.spec
+    (λ privilege-at-requires κs. search needs) (λ levels-requires κs. search needs)
+    (λ returns. search (level-missed, needs)))

@@ -4,14 +4,9 @@ use borrow.Author.Needs.{needs}
 use Rattle.a72abi.proofs.checked.missed_register.Statement.{statement}
 use Rattle.a72abi.proofs.checked.missed_register.Tie as tie
 
-privilege-at-requires : tie.Need-privilege-at-requires
-privilege-at-requires c κs = search needs
-
-register-requires : tie.Need-register-requires
-register-requires c κs = search needs
-
-returns : tie.Need-returns
-returns c = search (register-missed, needs)
-
 pub missed-register-spec : {M : Type 1} → statement M
-missed-register-spec = tie.close (tie.spec privilege-at-requires register-requires returns)
+missed-register-spec =
+    tie.close
+    (tie.spec
+    (λ privilege-at-requires κs. search needs) (λ register-requires κs. search needs)
+    (λ returns. search (register-missed, needs)))

@@ -7,18 +7,9 @@ use borrow.Author.Needs.{needs}
 use Rattle.a72abi.proofs.checked.register.Statement.{statement}
 use Rattle.a72abi.proofs.checked.register.Tie as tie
 
-missed-register-requires : tie.Need-missed-register-requires
-missed-register-requires c κs = search needs
-
 returns : tie.Need-returns
 unfolding missedOf
 returns c = record { reply = search (refused-reply, needs); words = search (refused-core, needs); stays = search (staying, needs) }
-
-write-register-requires : tie.Need-write-register-requires
-write-register-requires c κs = search needs
-
-written-requires : tie.Need-written-requires
-written-requires c κs = search needs
 
 returns-2 : tie.Need-returns-2
 unfolding missedOf runOf
@@ -26,4 +17,7 @@ returns-2 c = record { reply = search (written-reply, needs); words = search (ru
 
 pub register-spec : {M : Type 1} → statement M
 register-spec =
-    tie.close (tie.spec missed-register-requires returns write-register-requires written-requires returns-2)
+    tie.close
+    (tie.spec
+    (λ missed-register-requires κs. search needs) returns (λ write-register-requires κs. search needs)
+    (λ written-requires κs. search needs) returns-2)

@@ -6,20 +6,12 @@ use borrow.Author.Needs.{needs}
 use Rattle.a72abi.proofs.checked.system.Statement.{statement}
 use Rattle.a72abi.proofs.checked.system.Tie as tie
 
-missed-system-requires : tie.Need-missed-system-requires
-missed-system-requires c κs = search needs
-
 returns : tie.Need-returns
-returns c = (record { reply = search (refused-reply, needs); words = search (refused-core, needs); stays = search (staying, needs) }, search (refused-ram, needs))
-
-system-requires : tie.Need-system-requires
-system-requires c κs = search needs
-
-stored-requires : tie.Need-stored-requires
-stored-requires c κs = search needs
-
-same-length : tie.Need-same-length
-same-length c = search needs
+returns c = (
+  record { reply = search (refused-reply, needs); words = search (refused-core, needs); stays = search (staying, needs) },
+  search
+      (refused-ram, needs),
+)
 
 returns-2 : tie.Need-returns-2
 unfolding runOf ramOf
@@ -28,4 +20,6 @@ returns-2 c = (record { reply = search (stored-reply, needs); words = search (ru
 pub system-spec : {M : Type 1} → statement M
 system-spec =
     tie.close
-    (tie.spec missed-system-requires returns system-requires stored-requires same-length returns-2)
+    (tie.spec
+    (λ missed-system-requires κs. search needs) returns (λ system-requires κs. search needs)
+    (λ stored-requires κs. search needs) (λ same-length. search needs) returns-2)

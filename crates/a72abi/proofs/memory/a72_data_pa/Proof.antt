@@ -8,27 +8,6 @@ use borrow.Author.Needs.{needs}
 use Rattle.a72abi.proofs.memory.a72_data_pa.Statement.{statement}
 use Rattle.a72abi.proofs.memory.a72_data_pa.Tie as tie
 
-level-known-requires : tie.Need-level-known-requires
-level-known-requires c κs = search needs
-
-sub-if2 : tie.Need-sub-if2
-sub-if2 c = search needs
-
-sub-data-pa : tie.Need-sub-data-pa
-sub-data-pa c = search needs
-
-part-data-pa-start : tie.Need-part-data-pa-start
-part-data-pa-start c = search needs
-
-part-data-pa-end : tie.Need-part-data-pa-end
-part-data-pa-end c = search needs
-
-data-pa-requires : tie.Need-data-pa-requires
-data-pa-requires c κs = search needs
-
-data-to-requires : tie.Need-data-to-requires
-data-to-requires c κs = search needs
-
 returns : tie.Need-returns
 returns c = promise-quiet _ _ _ _ _ _ _ _ refl (search (part-gives, whole-part, needs))
 
@@ -44,13 +23,6 @@ pub a72-data-pa-spec : {M : Type 1} → statement M
 a72-data-pa-spec =
     tie.close
     (tie.spec
-    level-known-requires
-    sub-if2
-    sub-data-pa
-    part-data-pa-start
-    part-data-pa-end
-    data-pa-requires
-    data-to-requires
-    returns
-    returns-2
-    returns-3)
+    (λ level-known-requires κs. search needs) (λ sub-if2. search needs) (λ sub-data-pa. search needs)
+    (λ part-data-pa-start. search needs) (λ part-data-pa-end. search needs) (λ data-pa-requires κs. search needs)
+    (λ data-to-requires κs. search needs) returns returns-2 returns-3)

@@ -8,42 +8,6 @@ use borrow.Author.Needs.{needs}
 use Rattle.a72abi.proofs.memory.a72_fetch.Statement.{statement}
 use Rattle.a72abi.proofs.memory.a72_fetch.Tie as tie
 
-level-known-requires : tie.Need-level-known-requires
-level-known-requires c κs = search needs
-
-sub-if2 : tie.Need-sub-if2
-sub-if2 c = search needs
-
-fetch-requires : tie.Need-fetch-requires
-fetch-requires c κs = search needs
-
-fetch-by-hint-requires : tie.Need-fetch-by-hint-requires
-fetch-by-hint-requires c κs = search needs
-
-enum-known-pa : tie.Need-enum-known-pa
-enum-known-pa c = search needs
-
-insn-at-requires : tie.Need-insn-at-requires
-insn-at-requires c κs = search needs
-
-enum-known-v : tie.Need-enum-known-v
-enum-known-v c = search needs
-
-cast-ans : tie.Need-cast-ans
-cast-ans c = search needs
-
-enum-told : tie.Need-enum-told
-enum-told c = search needs
-
-fetch-requires-2 : tie.Need-fetch-requires-2
-fetch-requires-2 c κs = search needs
-
-enum-told-2 : tie.Need-enum-told-2
-enum-told-2 c = search needs
-
-fetch-requires-3 : tie.Need-fetch-requires-3
-fetch-requires-3 c κs = search needs
-
 returns : tie.Need-returns
 returns c = promise-quiet _ _ _ _ _ _ _ _ refl (search needs)
 
@@ -65,20 +29,8 @@ pub a72-fetch-spec : {M : Type 1} → statement M
 a72-fetch-spec =
     tie.close
     (tie.spec
-    level-known-requires
-    sub-if2
-    fetch-requires
-    fetch-by-hint-requires
-    enum-known-pa
-    insn-at-requires
-    enum-known-v
-    cast-ans
-    enum-told
-    fetch-requires-2
-    enum-told-2
-    fetch-requires-3
-    returns
-    returns-2
-    returns-3
-    returns-4
-    returns-5)
+    (λ level-known-requires κs. search needs) (λ sub-if2. search needs) (λ fetch-requires κs. search needs)
+    (λ fetch-by-hint-requires κs. search needs) (λ enum-known-pa. search needs) (λ insn-at-requires κs. search needs)
+    (λ enum-known-v. search needs) (λ cast-ans. search needs) (λ enum-told. search needs)
+    (λ fetch-requires-2 κs. search needs) (λ enum-told-2. search needs) (λ fetch-requires-3 κs. search needs) returns
+    returns-2 returns-3 returns-4 returns-5)

@@ -7,18 +7,6 @@ use borrow.Author.Needs.{needs}
 use Rattle.a72abi.proofs.memory.a72_fetch_pa.Statement.{statement}
 use Rattle.a72abi.proofs.memory.a72_fetch_pa.Tie as tie
 
-level-known-requires : tie.Need-level-known-requires
-level-known-requires c κs = search needs
-
-sub-if2 : tie.Need-sub-if2
-sub-if2 c = search needs
-
-fetch-pa-requires : tie.Need-fetch-pa-requires
-fetch-pa-requires c κs = search needs
-
-fetch-to-requires : tie.Need-fetch-to-requires
-fetch-to-requires c κs = search needs
-
 returns : tie.Need-returns
 returns c = promise-quiet _ _ _ _ _ _ _ _ refl (search needs)
 
@@ -34,10 +22,5 @@ pub a72-fetch-pa-spec : {M : Type 1} → statement M
 a72-fetch-pa-spec =
     tie.close
     (tie.spec
-    level-known-requires
-    sub-if2
-    fetch-pa-requires
-    fetch-to-requires
-    returns
-    returns-2
-    returns-3)
+    (λ level-known-requires κs. search needs) (λ sub-if2. search needs) (λ fetch-pa-requires κs. search needs)
+    (λ fetch-to-requires κs. search needs) returns returns-2 returns-3)

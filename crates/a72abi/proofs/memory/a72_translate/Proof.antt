@@ -8,45 +8,6 @@ use borrow.Author.Needs.{needs}
 use Rattle.a72abi.proofs.memory.a72_translate.Statement.{statement}
 use Rattle.a72abi.proofs.memory.a72_translate.Tie as tie
 
-level-known-requires : tie.Need-level-known-requires
-level-known-requires c κs = search needs
-
-sub-if2 : tie.Need-sub-if2
-sub-if2 c = search needs
-
-sub-translate-checked : tie.Need-sub-translate-checked
-sub-translate-checked c = search needs
-
-part-translate-checked-start : tie.Need-part-translate-checked-start
-part-translate-checked-start c = search needs
-
-part-translate-checked-end : tie.Need-part-translate-checked-end
-part-translate-checked-end c = search needs
-
-translate-checked-requires : tie.Need-translate-checked-requires
-translate-checked-requires c κs = search needs
-
-address-requires : tie.Need-address-requires
-address-requires c κs = search needs
-
-address-requires-2 : tie.Need-address-requires-2
-address-requires-2 c κs = search needs
-
-address-requires-3 : tie.Need-address-requires-3
-address-requires-3 c κs = search needs
-
-sub-translate-checked-2 : tie.Need-sub-translate-checked-2
-sub-translate-checked-2 c = search needs
-
-part-translate-checked-start-2 : tie.Need-part-translate-checked-start-2
-part-translate-checked-start-2 c = search needs
-
-part-translate-checked-end-2 : tie.Need-part-translate-checked-end-2
-part-translate-checked-end-2 c = search needs
-
-translate-checked-requires-2 : tie.Need-translate-checked-requires-2
-translate-checked-requires-2 c κs = search needs
-
 returns : tie.Need-returns
 returns c = promise-translate _ _ _ _ _ _ _ _ _ (search (part-gives, whole-part, needs))
 
@@ -75,23 +36,10 @@ pub a72-translate-spec : {M : Type 1} → statement M
 a72-translate-spec =
     tie.close
     (tie.spec
-    level-known-requires
-    sub-if2
-    sub-translate-checked
-    part-translate-checked-start
-    part-translate-checked-end
-    translate-checked-requires
-    address-requires
-    address-requires-2
-    address-requires-3
-    sub-translate-checked-2
-    part-translate-checked-start-2
-    part-translate-checked-end-2
-    translate-checked-requires-2
-    returns
-    returns-2
-    returns-3
-    returns-4
-    returns-5
-    returns-6
-    returns-7)
+    (λ level-known-requires κs. search needs) (λ sub-if2. search needs) (λ sub-translate-checked. search needs)
+    (λ part-translate-checked-start. search needs) (λ part-translate-checked-end. search needs)
+    (λ translate-checked-requires κs. search needs) (λ address-requires κs. search needs)
+    (λ address-requires-2 κs. search needs) (λ address-requires-3 κs. search needs)
+    (λ sub-translate-checked-2. search needs) (λ part-translate-checked-start-2. search needs)
+    (λ part-translate-checked-end-2. search needs) (λ translate-checked-requires-2 κs. search needs) returns returns-2
+    returns-3 returns-4 returns-5 returns-6 returns-7)

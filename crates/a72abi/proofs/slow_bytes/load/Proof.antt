@@ -6,49 +6,13 @@ use borrow.Author.Needs.{needs}
 use Rattle.a72abi.proofs.slow_bytes.load.Statement.{statement}
 use Rattle.a72abi.proofs.slow_bytes.load.Tie as tie
 
-missed-sized-requires : tie.Need-missed-sized-requires
-missed-sized-requires c κs = search needs
-
-cast-result : tie.Need-cast-result
-cast-result c = search needs
-
 returns : tie.Need-returns
 unfolding missedOf
 returns c = search (refused-gives, needs)
 
-width-of-requires : tie.Need-width-of-requires
-width-of-requires c κs = search needs
-
-enum-known-width : tie.Need-enum-known-width
-enum-known-width c = search needs
-
-in-page-requires : tie.Need-in-page-requires
-in-page-requires c κs = search needs
-
-load-two-requires : tie.Need-load-two-requires
-load-two-requires c κs = search needs
-
 returns-2 : tie.Need-returns-2
 unfolding missedOf
 returns-2 c = search (passed-gives, sized-load, needs)
-
-by-hint-requires : tie.Need-by-hint-requires
-by-hint-requires c κs = search needs
-
-enum-known-pa : tie.Need-enum-known-pa
-enum-known-pa c = search needs
-
-load-at-requires : tie.Need-load-at-requires
-load-at-requires c κs = search needs
-
-enum-told : tie.Need-enum-told
-enum-told c = search needs
-
-load-page-requires : tie.Need-load-page-requires
-load-page-requires c κs = (search (near-page, needs), search (hint-none, needs))
-
-enum-told-2 : tie.Need-enum-told-2
-enum-told-2 c = search needs
 
 returns-3 : tie.Need-returns-3
 unfolding missedOf
@@ -66,20 +30,9 @@ pub load-spec : {M : Type 1} → statement M
 load-spec =
     tie.close
     (tie.spec
-    missed-sized-requires
-    cast-result
-    returns
-    width-of-requires
-    enum-known-width
-    in-page-requires
-    load-two-requires
-    returns-2
-    by-hint-requires
-    enum-known-pa
-    load-at-requires
-    enum-told
-    load-page-requires
-    enum-told-2
-    returns-3
-    returns-4
-    returns-5)
+    (λ missed-sized-requires κs. search needs) (λ cast-result. search needs) returns
+    (λ width-of-requires κs. search needs) (λ enum-known-width. search needs) (λ in-page-requires κs. search needs)
+    (λ load-two-requires κs. search needs) returns-2 (λ by-hint-requires κs. search needs)
+    (λ enum-known-pa. search needs) (λ load-at-requires κs. search needs) (λ enum-told. search needs)
+    (λ load-page-requires κs. (search (near-page, needs), search (hint-none, needs)))
+    (λ enum-told-2. search needs) returns-3 returns-4 returns-5)

@@ -4,17 +4,9 @@ use borrow.Author.Needs.{needs}
 use Rattle.a72abi.proofs.slow_bytes.store_two.Statement.{statement}
 use Rattle.a72abi.proofs.slow_bytes.store_two.Tie as tie
 
-store-requires : tie.Need-store-requires
-store-requires c κs = search needs
-
-stored-requires : tie.Need-stored-requires
-stored-requires c κs = search needs
-
-same-length : tie.Need-same-length
-same-length c = search needs
-
-returns : tie.Need-returns
-returns c = (search (write-tells, needs), search (write-ram, needs))
-
 pub store-two-spec : {M : Type 1} → statement M
-store-two-spec = tie.close (tie.spec store-requires stored-requires same-length returns)
+store-two-spec =
+    tie.close
+    (tie.spec
+    (λ store-requires κs. search needs) (λ stored-requires κs. search needs) (λ same-length. search needs)
+    (λ returns. (search (write-tells, needs), search (write-ram, needs))))

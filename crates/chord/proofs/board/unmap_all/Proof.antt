@@ -12,41 +12,10 @@ Inv-loop ram₀ v₀ ram v = length ram ≡ length ram₀
 abbrev μ-loop : tie.MeasureT-loop
 μ-loop ram₀ v₀ ram v = 16 - v
 
-loop-holds : tie.Need-loop-holds Inv-loop μ-loop
-loop-holds c = search needs
-
-descriptor-at-requires : tie.Need-descriptor-at-requires Inv-loop μ-loop
-descriptor-at-requires c κs = search needs
-
-put-requires : tie.Need-put-requires Inv-loop μ-loop
-put-requires c κs = search needs
-
-add-v : tie.Need-add-v Inv-loop μ-loop
-add-v c = search needs
-
-loop-less : tie.Need-loop-less Inv-loop μ-loop
-loop-less c = search needs
-
-loop-again : tie.Need-loop-again Inv-loop μ-loop
-loop-again c = search needs
-
-same-length : tie.Need-same-length Inv-loop μ-loop
-same-length c = search needs
-
-returns : tie.Need-returns Inv-loop μ-loop
-returns c = search needs
-
 pub unmap-all-spec : {M : Type 1} → statement M
 unmap-all-spec =
     tie.close
     (tie.spec
-    Inv-loop
-    μ-loop
-    loop-holds
-    descriptor-at-requires
-    put-requires
-    add-v
-    loop-less
-    loop-again
-    same-length
-    returns)
+    Inv-loop μ-loop (λ loop-holds. search needs) (λ descriptor-at-requires κs. search needs)
+    (λ put-requires κs. search needs) (λ add-v. search needs) (λ loop-less. search needs) (λ loop-again. search needs)
+    (λ same-length. search needs) (λ returns. search needs))

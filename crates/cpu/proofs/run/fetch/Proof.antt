@@ -4,14 +4,9 @@ use Rattle.cpu.proofs.run.fetch.Statement.{statement}
 use Rattle.cpu.proofs.run.fetch.Tie as tie
 use Rattle.cpu.proofs.Runs.{fetched-is}
 
-fetch-requires : tie.Need-fetch-requires
-fetch-requires c κs = search needs
-
-fetched-requires : tie.Need-fetched-requires
-fetched-requires c κs = search needs
-
-returns : tie.Need-returns
-returns c = search (fetched-is, needs)
-
 pub fetch-spec : {M : Type 1} → statement M
-fetch-spec = tie.close (tie.spec fetch-requires fetched-requires returns)
+fetch-spec =
+    tie.close
+    (tie.spec
+    (λ fetch-requires κs. search needs) (λ fetched-requires κs. search needs)
+    (λ returns. search (fetched-is, needs)))

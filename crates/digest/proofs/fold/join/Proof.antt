@@ -11,18 +11,13 @@ use Rattle.digest.proofs.fold.join.Tie as tie
 thrice : (h w a b s : ℕ) → a ≡ (h + h) % 2 ^ 64 → b ≡ (a + h) % 2 ^ 64 → s ≡ (b + w) % 2 ^ 64 → s ≡ (3 * h + w) % 2 ^ 64
 thrice h w a b s p q r = omega arith
 
-wrapping-add-u64-requires : tie.Need-wrapping-add-u64-requires
-wrapping-add-u64-requires c κs = search needs
-
-wrapping-add-u64-requires-2 : tie.Need-wrapping-add-u64-requires-2
-wrapping-add-u64-requires-2 c κs = search needs
-
-wrapping-add-u64-requires-3 : tie.Need-wrapping-add-u64-requires-3
-wrapping-add-u64-requires-3 c κs = search needs
-
 returns : tie.Need-returns
 unfolding joined
 returns c = ap mixed (thrice _ _ _ _ _ (c .before .before .wrapping-add-u64 .ensures) (c .before .wrapping-add-u642 .ensures) (c .wrapping-add-u643 .ensures))
 
 pub join-spec : {M : Type 1} → statement M
-join-spec = tie.close (tie.spec wrapping-add-u64-requires wrapping-add-u64-requires-2 wrapping-add-u64-requires-3 returns)
+join-spec =
+    tie.close
+    (tie.spec
+    (λ wrapping-add-u64-requires κs. search needs) (λ wrapping-add-u64-requires-2 κs. search needs)
+    (λ wrapping-add-u64-requires-3 κs. search needs) returns)

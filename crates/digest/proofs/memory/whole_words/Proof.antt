@@ -1,6 +1,6 @@
 -- `digest::memory::whole_words` meets its contract.
 use mathlib.Core.Path.{_≡_, refl, ap}
-use Prim.Native.Nat.{ℕ, _≤_, _-_, _/_, _*_}
+use Prim.Native.Nat.{ℕ, _≤_, _-_, _/_}
 use native.Mathlib.Nat.{sub-zero}
 use native.Mathlib.Omega.{arith}
 use borrow.Author.Needs.{needs}
@@ -14,34 +14,29 @@ use Rattle.digest.proofs.memory.whole_words.Tie as tie
 
 abbrev Inv-loop : tie.InvT-loop
 Inv-loop ram start n h₀ i₀ h i =
-    (n ≡ length ram / 8) × (i ≤ n) × (digestFrom h (gathered (wholeWord ram) (length ram / 8 - i) i) ≡ digestFrom start (gathered (wholeWord ram) (length ram / 8) 0))
+    (n ≡ length ram / 8) × (i ≤ n) × (digestFrom h (gathered (wholeWord ram) (length ram / 8 - i) i)
+    ≡ digestFrom start (gathered (wholeWord ram) (length ram / 8) 0))
 
 abbrev μ-loop : tie.MeasureT-loop
 μ-loop ram start n h₀ i₀ h i = n - i
 
 loop-holds : tie.Need-loop-holds Inv-loop μ-loop
-loop-holds c = (refl, omega arith, ap (λ (m : ℕ). digestFrom (c .before .args .start) (gathered (wholeWord (c .before .args .ram .now)) m 0)) (sub-zero (length (c .before .args .ram .now) / 8)))
-
-mul-word-at : tie.Need-mul-word-at Inv-loop μ-loop
-mul-word-at c = omega arith
-
-word-at-requires : tie.Need-word-at-requires Inv-loop μ-loop
-word-at-requires c κs = search needs
-
-join-requires : tie.Need-join-requires Inv-loop μ-loop
-join-requires c κs = search needs
-
-add-i : tie.Need-add-i Inv-loop μ-loop
-add-i c = omega arith
-
-loop-less : tie.Need-loop-less Inv-loop μ-loop
-loop-less c = omega arith
+loop-holds c = (
+  refl,
+  omega arith,
+  ap (λ (m : ℕ). digestFrom (c .before .args .start) (gathered (wholeWord (c .before .args .ram .now)) m 0))
+      (sub-zero (length (c .before .args .ram .now) / 8)),
+)
 
 loop-again : tie.Need-loop-again Inv-loop μ-loop
 loop-again c =
     let l = c .before .before .before .loop in
-    let ram = c .before .before .before .before .before .args .ram .now in
-    (l .inv .0, omega arith, again (wholeWord ram) (length ram / 8) (l .i) (l .h) _ _ (omega arith) (taken _ _ _ _ (c .join .ensures) (c .before .word-at .ensures)) (l .inv .2))
+    let ram = c .before .before .before .before .before .args .ram .now in (
+      l .inv .0,
+      omega arith,
+      again (wholeWord ram) (length ram / 8) (l .i) (l .h) _ _ (omega arith)
+          (taken _ _ _ _ (c .join .ensures) (c .before .word-at .ensures)) (l .inv .2),
+    )
 
 returns : tie.Need-returns Inv-loop μ-loop
 returns c =
@@ -53,13 +48,5 @@ pub whole-words-spec : {M : Type 1} → statement M
 whole-words-spec =
     tie.close
     (tie.spec
-    Inv-loop
-    μ-loop
-    loop-holds
-    mul-word-at
-    word-at-requires
-    join-requires
-    add-i
-    loop-less
-    loop-again
-    returns)
+    Inv-loop μ-loop loop-holds (λ mul-word-at. omega arith) (λ word-at-requires κs. search needs)
+    (λ join-requires κs. search needs) (λ add-i. omega arith) (λ loop-less. omega arith) loop-again returns)

@@ -11,30 +11,26 @@ use Rattle.digest.proofs.parts.data_hints.Statement.{statement}
 use Rattle.digest.proofs.parts.data_hints.Tie as tie
 
 abbrev Inv-loop : tie.InvT-loop
-Inv-loop state s₀ i₀ s i = (i ≤ 512) × (digestFrom (s .digest) (gathered (hintWords (coreOf state .tlb .cache)) (512 - i) i) ≡ digestOf (gathered (hintWords (coreOf state .tlb .cache)) 512 0))
+Inv-loop state s₀ i₀ s i = (i ≤ 512) × (digestFrom (s .digest) (gathered (hintWords (coreOf state .tlb .cache)) (512 - i) i)
+    ≡ digestOf (gathered (hintWords (coreOf state .tlb .cache)) 512 0))
 
 abbrev μ-loop : tie.MeasureT-loop
 μ-loop state s₀ i₀ s i = 512 - i
 
-start-requires : tie.Need-start-requires Inv-loop μ-loop
-start-requires c κs = search needs
-
 loop-holds : tie.Need-loop-holds Inv-loop μ-loop
-loop-holds c = (omega arith, ap (λ (h : ℕ). digestFrom h (gathered (hintWords (coreOf (c .before .args .state .now) .tlb .cache)) 512 0)) (c .start .ensures .0))
-
-with-hint-requires : tie.Need-with-hint-requires Inv-loop μ-loop
-with-hint-requires c κs = search needs
-
-add-i : tie.Need-add-i Inv-loop μ-loop
-add-i c = omega arith
-
-loop-less : tie.Need-loop-less Inv-loop μ-loop
-loop-less c = omega arith
+loop-holds c = (
+  omega arith,
+  ap (λ (h : ℕ). digestFrom h (gathered (hintWords (coreOf (c .before .args .state .now) .tlb .cache)) 512 0))
+      (c .start .ensures .0),
+)
 
 loop-again : tie.Need-loop-again Inv-loop μ-loop
 loop-again c =
-    let l = c .before .before .loop in
-    (omega arith, again (hintWords (coreOf (c .before .before .before .before .args .state .now) .tlb .cache)) 512 (l .i) (l .s .digest) _ _ (omega arith) (c .with-hint .ensures) (l .inv .1))
+    let l = c .before .before .loop in (
+      omega arith,
+      again (hintWords (coreOf (c .before .before .before .before .args .state .now) .tlb .cache)) 512 (l .i) (l .s .digest) _ _ (omega arith)
+          (c .with-hint .ensures) (l .inv .1),
+    )
 
 returns : tie.Need-returns Inv-loop μ-loop
 returns c =
@@ -45,12 +41,5 @@ pub data-hints-spec : {M : Type 1} → statement M
 data-hints-spec =
     tie.close
     (tie.spec
-    Inv-loop
-    μ-loop
-    start-requires
-    loop-holds
-    with-hint-requires
-    add-i
-    loop-less
-    loop-again
-    returns)
+    Inv-loop μ-loop (λ start-requires κs. search needs) loop-holds (λ with-hint-requires κs. search needs)
+    (λ add-i. omega arith) (λ loop-less. omega arith) loop-again returns)

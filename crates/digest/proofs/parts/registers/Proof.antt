@@ -1,6 +1,6 @@
 -- `digest::parts::registers` meets its contract.
 use mathlib.Core.Path.{_≡_, refl}
-use Prim.Native.Nat.{ℕ, _≤_, _-_, _+_}
+use Prim.Native.Nat.{_≤_, _-_}
 use native.Mathlib.Omega.{arith}
 use borrow.Author.Needs.{needs}
 use Rattle.digest.specs.Fold.{digestFrom, digestOf, gathered}
@@ -15,28 +15,13 @@ Inv-loop state h₀ i₀ h i = (i ≤ 68) × (digestFrom h (gathered (wordAlone 
 abbrev μ-loop : tie.MeasureT-loop
 μ-loop state h₀ i₀ h i = 68 - i
 
-loop-holds : tie.Need-loop-holds Inv-loop μ-loop
-loop-holds c = (omega arith, refl)
-
-mul-join : tie.Need-mul-join Inv-loop μ-loop
-mul-join c = omega arith
-
-element-copy-out-join : tie.Need-element-copy-out-join Inv-loop μ-loop
-element-copy-out-join c = omega arith
-
-join-requires : tie.Need-join-requires Inv-loop μ-loop
-join-requires c κs = search needs
-
-add-i : tie.Need-add-i Inv-loop μ-loop
-add-i c = omega arith
-
-loop-less : tie.Need-loop-less Inv-loop μ-loop
-loop-less c = omega arith
-
 loop-again : tie.Need-loop-again Inv-loop μ-loop
 loop-again c =
-    let l = c .before .before .before .loop in
-    (omega arith, again (wordAlone (c .before .before .before .before .args .state .now)) 68 (l .i) (l .h) _ _ (omega arith) (one _ _ _ (c .join .ensures)) (l .inv .1))
+    let l = c .before .before .before .loop in (
+      omega arith,
+      again (wordAlone (c .before .before .before .before .args .state .now)) 68 (l .i) (l .h) _ _ (omega arith) (one _ _ _ (c .join .ensures))
+          (l .inv .1),
+    )
 
 returns : tie.Need-returns Inv-loop μ-loop
 returns c =
@@ -46,4 +31,8 @@ returns c =
 pub registers-spec : {M : Type 1} → statement M
 registers-spec =
     tie.close
-    (tie.spec Inv-loop μ-loop loop-holds mul-join element-copy-out-join join-requires add-i loop-less loop-again returns)
+    (tie.spec
+    Inv-loop μ-loop
+    (λ loop-holds. (omega arith, refl))
+    (λ mul-join. omega arith) (λ element-copy-out-join. omega arith) (λ join-requires κs. search needs)
+    (λ add-i. omega arith) (λ loop-less. omega arith) loop-again returns)

@@ -3,11 +3,8 @@ use borrow.Author.Needs.{needs}
 use Rattle.exception.proofs.report.no_far.Statement.{statement}
 use Rattle.exception.proofs.report.no_far.Tie as tie
 
-esr-requires : tie.Need-esr-requires
-esr-requires c κs = search needs
-
 returns : tie.Need-returns
 returns c = rw (c .esr .ensures)
 
 pub no-far-spec : {M : Type 1} → statement M
-no-far-spec = tie.close (tie.spec esr-requires returns)
+no-far-spec = tie.close (tie.spec (λ esr-requires κs. search needs) returns)

@@ -3,11 +3,8 @@ use borrow.Author.Needs.{needs}
 use Rattle.exception.proofs.report.with_far.Statement.{statement}
 use Rattle.exception.proofs.report.with_far.Tie as tie
 
-esr-requires : tie.Need-esr-requires
-esr-requires c κs = search needs
-
 returns : tie.Need-returns
 returns c = rw (c .esr .ensures)
 
 pub with-far-spec : {M : Type 1} → statement M
-with-far-spec = tie.close (tie.spec esr-requires returns)
+with-far-spec = tie.close (tie.spec (λ esr-requires κs. search needs) returns)

@@ -4,11 +4,5 @@ use Rattle.exception.proofs.route.hypervisor_target.Tie as tie
 use Rattle.exception.proofs.Picks.{picks}
 use borrow.Author.Needs.{needs}
 
-returns : tie.Need-returns
-returns c = search (picks, needs)
-
-returns-2 : tie.Need-returns-2
-returns-2 c = search (picks, needs)
-
 pub hypervisor-target-spec : {M : Type 1} → statement M
-hypervisor-target-spec = tie.close (tie.spec returns returns-2)
+hypervisor-target-spec = tie.close (tie.spec (λ returns. search (picks, needs)) (λ returns-2. search (picks, needs)))

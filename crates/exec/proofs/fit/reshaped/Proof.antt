@@ -4,9 +4,6 @@ use Rattle.exec.proofs.fit.reshaped.Statement.{statement}
 use Rattle.exec.proofs.fit.reshaped.Tie as tie
 use Rattle.exec.specs.Fit.{reshapedOf}
 
-flush-requires : tie.Need-flush-requires
-flush-requires c κs = search needs
-
 returns : tie.Need-returns
 unfolding reshapedOf
 returns c = rw (c .if1 .taken)
@@ -16,4 +13,4 @@ unfolding reshapedOf
 returns-2 c = rw (c .before .if1 .left) (c .flush .ensures)
 
 pub reshaped-spec : {M : Type 1} → statement M
-reshaped-spec = tie.close (tie.spec flush-requires returns returns-2)
+reshaped-spec = tie.close (tie.spec (λ flush-requires κs. search needs) returns returns-2)

@@ -5,9 +5,6 @@ use Rattle.exec.proofs.fit.retagged.Tie as tie
 use borrow.Author.Tests.{eq-eqb, ne-eqb}
 use Rattle.exec.specs.Fit.{retaggedOf}
 
-retag-requires : tie.Need-retag-requires
-retag-requires c κs = search needs
-
 returns : tie.Need-returns
 unfolding retaggedOf
 returns c = simp (eq-eqb _ _ (c .if1 .taken))
@@ -17,4 +14,4 @@ unfolding retaggedOf
 returns-2 c = simp (ne-eqb _ _ (c .before .if1 .left)) (c .retag .ensures)
 
 pub retagged-spec : {M : Type 1} → statement M
-retagged-spec = tie.close (tie.spec retag-requires returns returns-2)
+retagged-spec = tie.close (tie.spec (λ retag-requires κs. search needs) returns returns-2)

@@ -4,22 +4,10 @@ use Rattle.exec.proofs.sys.tlbi.Statement.{statement}
 use Rattle.exec.proofs.sys.tlbi.Tie as tie
 use Rattle.exec.proofs.Shells.{tlbi-is}
 
-tlbi-requires : tie.Need-tlbi-requires
-tlbi-requires c κs = search needs
-
-broadcasts-requires : tie.Need-broadcasts-requires
-broadcasts-requires c κs = search needs
-
-invalidated-requires : tie.Need-invalidated-requires
-invalidated-requires c κs = search needs
-
-with-tlb-requires : tie.Need-with-tlb-requires
-with-tlb-requires c κs = search needs
-
-returns : tie.Need-returns
-returns c = search (tlbi-is, needs)
-
 pub tlbi-spec : {M : Type 1} → statement M
 tlbi-spec =
     tie.close
-    (tie.spec tlbi-requires broadcasts-requires invalidated-requires with-tlb-requires returns)
+    (tie.spec
+    (λ tlbi-requires κs. search needs) (λ broadcasts-requires κs. search needs)
+    (λ invalidated-requires κs. search needs) (λ with-tlb-requires κs. search needs)
+    (λ returns. search (tlbi-is, needs)))

@@ -4,12 +4,9 @@ use Rattle.mmu.proofs.core.reg.Statement.{statement}
 use Rattle.mmu.proofs.core.reg.Tie as tie
 use Rattle.mmu.specs.Core.{regOf}
 
-reg-in-requires : tie.Need-reg-in-requires
-reg-in-requires c κs = search needs
-
 returns : tie.Need-returns
 unfolding regOf
 returns c = search needs
 
 pub reg-spec : {M : Type 1} → statement M
-reg-spec = tie.close (tie.spec reg-in-requires returns)
+reg-spec = tie.close (tie.spec (λ reg-in-requires κs. search needs) returns)

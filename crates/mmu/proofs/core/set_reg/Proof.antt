@@ -2,13 +2,8 @@
 use borrow.Author.Needs.{needs}
 use Rattle.mmu.proofs.core.set_reg.Statement.{statement}
 use Rattle.mmu.proofs.core.set_reg.Tie as tie
-use Rattle.mmu.proofs.Shells.{set-is}
-
-reg-set-requires : tie.Need-reg-set-requires
-reg-set-requires c κs = search needs
-
-returns : tie.Need-returns
-returns c = search (set-is, needs)
+use Rattle.mmu.specs.Core.{setReg}
 
 pub set-reg-spec : {M : Type 1} → statement M
-set-reg-spec = tie.close (tie.spec reg-set-requires returns)
+unfolding setReg
+set-reg-spec = tie.close (tie.spec (λ reg-set-requires κs. search needs) (λ returns. cc))

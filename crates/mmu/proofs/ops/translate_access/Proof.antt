@@ -4,14 +4,9 @@ use Rattle.mmu.proofs.ops.translate_access.Statement.{statement}
 use Rattle.mmu.proofs.ops.translate_access.Tie as tie
 use Rattle.mmu.proofs.Shells.{access-is}
 
-located-requires : tie.Need-located-requires
-located-requires c κs = search needs
-
-after-access-requires : tie.Need-after-access-requires
-after-access-requires c κs = search needs
-
-returns : tie.Need-returns
-returns c = search (access-is, needs)
-
 pub translate-access-spec : {M : Type 1} → statement M
-translate-access-spec = tie.close (tie.spec located-requires after-access-requires returns)
+translate-access-spec =
+    tie.close
+    (tie.spec
+    (λ located-requires κs. search needs) (λ after-access-requires κs. search needs)
+    (λ returns. search (access-is, needs)))

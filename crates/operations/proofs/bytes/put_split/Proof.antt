@@ -15,41 +15,14 @@ Inv-loop base ram₀ p n value v₀ i₀ ram v i = (i ≤ n) × ((length ram ≡
 abbrev μ-loop : tie.MeasureT-loop
 μ-loop base ram₀ p n value v₀ i₀ ram v i = n - i
 
-loop-holds : tie.Need-loop-holds Inv-loop μ-loop
-loop-holds c = (search needs, (search needs, search (put-starts, needs)))
-
-byte-at-requires : tie.Need-byte-at-requires Inv-loop μ-loop
-byte-at-requires c κs = search needs
-
-write-requires : tie.Need-write-requires Inv-loop μ-loop
-write-requires c κs = search needs
-
-add-i : tie.Need-add-i Inv-loop μ-loop
-add-i c = search needs
-
-loop-less : tie.Need-loop-less Inv-loop μ-loop
-loop-less c = omega arith
-
-loop-again : tie.Need-loop-again Inv-loop μ-loop
-loop-again c = (search needs, (search (put-length, needs), search (put-on, needs)))
-
-same-length : tie.Need-same-length Inv-loop μ-loop
-same-length c = search needs
-
-returns : tie.Need-returns Inv-loop μ-loop
-returns c = search (put-end, needs)
-
 pub put-split-spec : {M : Type 1} → statement M
 put-split-spec =
     tie.close
     (tie.spec
-    Inv-loop
-    μ-loop
-    loop-holds
-    byte-at-requires
-    write-requires
-    add-i
-    loop-less
-    loop-again
-    same-length
-    returns)
+    Inv-loop μ-loop
+    (λ loop-holds. (search needs, (search needs, search (put-starts, needs))))
+    (λ byte-at-requires κs. search needs) (λ write-requires κs. search needs) (λ add-i. search needs)
+    (λ loop-less. omega arith)
+    (λ loop-again. (search needs, (search (put-length, needs), search (put-on, needs))))
+    (λ same-length. search needs)
+    (λ returns. search (put-end, needs)))

@@ -14,45 +14,15 @@ Inv-loop base ram p n v₀ i₀ v i = (i ≤ n) × ((v ≡ splitValue base ram p
 abbrev μ-loop : tie.MeasureT-loop
 μ-loop base ram p n v₀ i₀ v i = i
 
-loop-holds : tie.Need-loop-holds Inv-loop μ-loop
-loop-holds c = (search needs, (search (sum-starts, needs), search (sum-none, needs)))
-
-sub-i : tie.Need-sub-i Inv-loop μ-loop
-sub-i c = search needs
-
-byte-at-requires : tie.Need-byte-at-requires Inv-loop μ-loop
-byte-at-requires c κs = search needs
-
-byte-in-requires : tie.Need-byte-in-requires Inv-loop μ-loop
-byte-in-requires c κs = search needs
-
-mul-v : tie.Need-mul-v Inv-loop μ-loop
-mul-v c = search (sum-mul, needs)
-
-add-v : tie.Need-add-v Inv-loop μ-loop
-add-v c = search (sum-add, needs)
-
-loop-less : tie.Need-loop-less Inv-loop μ-loop
-loop-less c = omega arith
-
-loop-again : tie.Need-loop-again Inv-loop μ-loop
-loop-again c = (search needs, (search (sum-on, needs), search (sum-next, needs)))
-
-returns : tie.Need-returns Inv-loop μ-loop
-returns c = search (sum-end, needs)
-
 pub split-value-spec : {M : Type 1} → statement M
 split-value-spec =
     tie.close
     (tie.spec
-    Inv-loop
-    μ-loop
-    loop-holds
-    sub-i
-    byte-at-requires
-    byte-in-requires
-    mul-v
-    add-v
-    loop-less
-    loop-again
-    returns)
+    Inv-loop μ-loop
+    (λ loop-holds. (search needs, (search (sum-starts, needs), search (sum-none, needs))))
+    (λ sub-i. search needs) (λ byte-at-requires κs. search needs) (λ byte-in-requires κs. search needs)
+    (λ mul-v. search (sum-mul, needs))
+    (λ add-v. search (sum-add, needs))
+    (λ loop-less. omega arith)
+    (λ loop-again. (search needs, (search (sum-on, needs), search (sum-next, needs))))
+    (λ returns. search (sum-end, needs)))

@@ -4,20 +4,12 @@ use Rattle.operations.proofs.bytes.store_whole.Statement.{statement}
 use Rattle.operations.proofs.bytes.store_whole.Tie as tie
 use Rattle.operations.proofs.Moves.{whole-inside, whole-outside, whole-written, whole-kept}
 
-write-requires : tie.Need-write-requires
-write-requires c κs = search needs
-
-same-length : tie.Need-same-length
-same-length c = search (whole-kept, needs)
-
-returns : tie.Need-returns
-returns c = (search (whole-inside, needs), search (whole-written, needs))
-
-same-length-2 : tie.Need-same-length-2
-same-length-2 c = search (whole-kept, needs)
-
-returns-2 : tie.Need-returns-2
-returns-2 c = (search (whole-outside, needs), search (whole-written, needs))
-
 pub store-whole-spec : {M : Type 1} → statement M
-store-whole-spec = tie.close (tie.spec write-requires same-length returns same-length-2 returns-2)
+store-whole-spec =
+    tie.close
+    (tie.spec
+    (λ write-requires κs. search needs)
+    (λ same-length. search (whole-kept, needs))
+    (λ returns. (search (whole-inside, needs), search (whole-written, needs)))
+    (λ same-length-2. search (whole-kept, needs))
+    (λ returns-2. (search (whole-outside, needs), search (whole-written, needs))))

@@ -4,11 +4,6 @@ use Rattle.operations.proofs.change.entry_after.Statement.{statement}
 use Rattle.operations.proofs.change.entry_after.Tie as tie
 use Rattle.operations.proofs.Changing.{entry-kept, entry-taken}
 
-returns : tie.Need-returns
-returns c = search (entry-taken, needs)
-
-returns-2 : tie.Need-returns-2
-returns-2 c = search (entry-kept, needs)
-
 pub entry-after-spec : {M : Type 1} → statement M
-entry-after-spec = tie.close (tie.spec returns returns-2)
+entry-after-spec =
+    tie.close (tie.spec (λ returns. search (entry-taken, needs)) (λ returns-2. search (entry-kept, needs)))

@@ -4,11 +4,5 @@ use Rattle.operations.proofs.check.any.Statement.{statement}
 use Rattle.operations.proofs.check.any.Tie as tie
 use Rattle.operations.proofs.Checks.{rows}
 
-returns : tie.Need-returns
-returns c = search (rows, needs)
-
-returns-2 : tie.Need-returns-2
-returns-2 c = search (rows, needs)
-
 pub any-spec : {M : Type 1} → statement M
-any-spec = tie.close (tie.spec returns returns-2)
+any-spec = tie.close (tie.spec (λ returns. search (rows, needs)) (λ returns-2. search (rows, needs)))

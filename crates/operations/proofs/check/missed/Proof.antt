@@ -5,78 +5,6 @@ use Rattle.operations.proofs.check.missed.Tie as tie
 use Rattle.operations.proofs.Checks.{checks-as}
 use Rattle.operations.specs.Check.{missedOf}
 
-enum-told : tie.Need-enum-told
-enum-told c = search needs
-
-with-ram-requires : tie.Need-with-ram-requires
-with-ram-requires c κs = search needs
-
-enum-told-2 : tie.Need-enum-told-2
-enum-told-2 c = search needs
-
-with-ram-requires-2 : tie.Need-with-ram-requires-2
-with-ram-requires-2 c κs = search needs
-
-enum-told-3 : tie.Need-enum-told-3
-enum-told-3 c = search needs
-
-with-ram-requires-3 : tie.Need-with-ram-requires-3
-with-ram-requires-3 c κs = search needs
-
-enum-known-call : tie.Need-enum-known-call
-enum-known-call c = search needs
-
-sized-requires : tie.Need-sized-requires
-sized-requires c κs = search needs
-
-enum-known-call-2 : tie.Need-enum-known-call-2
-enum-known-call-2 c = search needs
-
-sized-requires-2 : tie.Need-sized-requires-2
-sized-requires-2 c κs = search needs
-
-enum-told-4 : tie.Need-enum-told-4
-enum-told-4 c = search needs
-
-with-ram-requires-4 : tie.Need-with-ram-requires-4
-with-ram-requires-4 c κs = search needs
-
-enum-known-call-3 : tie.Need-enum-known-call-3
-enum-known-call-3 c = search needs
-
-system-requires : tie.Need-system-requires
-system-requires c κs = search needs
-
-enum-known-call-4 : tie.Need-enum-known-call-4
-enum-known-call-4 c = search needs
-
-register-requires : tie.Need-register-requires
-register-requires c κs = search needs
-
-enum-known-call-5 : tie.Need-enum-known-call-5
-enum-known-call-5 c = search needs
-
-levels-requires : tie.Need-levels-requires
-levels-requires c κs = search needs
-
-enum-told-5 : tie.Need-enum-told-5
-enum-told-5 c = search needs
-
-any-requires : tie.Need-any-requires
-any-requires c κs = search needs
-
-enum-known-call-6 : tie.Need-enum-known-call-6
-enum-known-call-6 c = search needs
-
-general-requires : tie.Need-general-requires
-general-requires c κs = search needs
-
-enum-told-6 : tie.Need-enum-told-6
-enum-told-6 c = search needs
-
-any-requires-2 : tie.Need-any-requires-2
-any-requires-2 c κs = search needs
-
 returns : tie.Need-returns
 unfolding missedOf
 returns c = search (checks-as, needs)
@@ -129,39 +57,12 @@ pub missed-spec : {M : Type 1} → statement M
 missed-spec =
     tie.close
     (tie.spec
-    enum-told
-    with-ram-requires
-    enum-told-2
-    with-ram-requires-2
-    enum-told-3
-    with-ram-requires-3
-    enum-known-call
-    sized-requires
-    enum-known-call-2
-    sized-requires-2
-    enum-told-4
-    with-ram-requires-4
-    enum-known-call-3
-    system-requires
-    enum-known-call-4
-    register-requires
-    enum-known-call-5
-    levels-requires
-    enum-told-5
-    any-requires
-    enum-known-call-6
-    general-requires
-    enum-told-6
-    any-requires-2
-    returns
-    returns-2
-    returns-3
-    returns-4
-    returns-5
-    returns-6
-    returns-7
-    returns-8
-    returns-9
-    returns-10
-    returns-11
-    returns-12)
+    (λ enum-told. search needs) (λ with-ram-requires κs. search needs) (λ enum-told-2. search needs)
+    (λ with-ram-requires-2 κs. search needs) (λ enum-told-3. search needs) (λ with-ram-requires-3 κs. search needs)
+    (λ enum-known-call. search needs) (λ sized-requires κs. search needs) (λ enum-known-call-2. search needs)
+    (λ sized-requires-2 κs. search needs) (λ enum-told-4. search needs) (λ with-ram-requires-4 κs. search needs)
+    (λ enum-known-call-3. search needs) (λ system-requires κs. search needs) (λ enum-known-call-4. search needs)
+    (λ register-requires κs. search needs) (λ enum-known-call-5. search needs) (λ levels-requires κs. search needs)
+    (λ enum-told-5. search needs) (λ any-requires κs. search needs) (λ enum-known-call-6. search needs)
+    (λ general-requires κs. search needs) (λ enum-told-6. search needs) (λ any-requires-2 κs. search needs) returns
+    returns-2 returns-3 returns-4 returns-5 returns-6 returns-7 returns-8 returns-9 returns-10 returns-11 returns-12)

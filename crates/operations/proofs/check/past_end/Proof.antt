@@ -4,15 +4,6 @@ use Rattle.operations.proofs.check.past_end.Statement.{statement}
 use Rattle.operations.proofs.check.past_end.Tie as tie
 use Rattle.operations.proofs.Checks.{never-past, past-left}
 
-sub-if1 : tie.Need-sub-if1
-sub-if1 c = search needs
-
-sub-result : tie.Need-sub-result
-sub-result c = search needs
-
-add-result : tie.Need-add-result
-add-result c = search needs
-
 returns : tie.Need-returns
 returns c = never-past (c .before .args .base) (c .before .args .len) (c .before .fits .len .fits) (c .if1 .taken)
 
@@ -20,4 +11,7 @@ returns-2 : tie.Need-returns-2
 returns-2 c = past-left (c .before .args .base) (c .before .args .len) (c .before .fits .base .fits)
 
 pub past-end-spec : {M : Type 1} → statement M
-past-end-spec = tie.close (tie.spec sub-if1 sub-result add-result returns returns-2)
+past-end-spec =
+    tie.close
+    (tie.spec
+    (λ sub-if1. search needs) (λ sub-result. search needs) (λ add-result. search needs) returns returns-2)

@@ -4,17 +4,11 @@ use Rattle.operations.proofs.check.register.Statement.{statement}
 use Rattle.operations.proofs.check.register.Tie as tie
 use Rattle.operations.proofs.Checks.{rows}
 
-returns : tie.Need-returns
-returns c = search (rows, needs)
-
-is-key-requires : tie.Need-is-key-requires
-is-key-requires c κs = search needs
-
-returns-2 : tie.Need-returns-2
-returns-2 c = search (rows, needs)
-
-returns-3 : tie.Need-returns-3
-returns-3 c = search (rows, needs)
-
 pub register-spec : {M : Type 1} → statement M
-register-spec = tie.close (tie.spec returns is-key-requires returns-2 returns-3)
+register-spec =
+    tie.close
+    (tie.spec
+    (λ returns. search (rows, needs))
+    (λ is-key-requires κs. search needs)
+    (λ returns-2. search (rows, needs))
+    (λ returns-3. search (rows, needs)))

@@ -9,9 +9,6 @@ returns : tie.Need-returns
 unfolding missedOf
 returns c = search (rows, needs)
 
-past-end-requires : tie.Need-past-end-requires
-past-end-requires c κs = search needs
-
 returns-2 : tie.Need-returns-2
 unfolding missedOf
 returns-2 c = search (rows, needs)
@@ -30,4 +27,4 @@ returns-5 c = search (rows, needs)
 
 pub system-spec : {M : Type 1} → statement M
 system-spec =
-    tie.close (tie.spec returns past-end-requires returns-2 returns-3 returns-4 returns-5)
+    tie.close (tie.spec returns (λ past-end-requires κs. search needs) returns-2 returns-3 returns-4 returns-5)

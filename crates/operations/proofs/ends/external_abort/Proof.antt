@@ -4,17 +4,10 @@ use Rattle.operations.proofs.ends.external_abort.Statement.{statement}
 use Rattle.operations.proofs.ends.external_abort.Tie as tie
 use Rattle.operations.proofs.Answers.{external-is}
 
-wrapping-add-u64-requires : tie.Need-wrapping-add-u64-requires
-wrapping-add-u64-requires c κs = search needs
-
-first-requires : tie.Need-first-requires
-first-requires c κs = search needs
-
-data-abort-requires : tie.Need-data-abort-requires
-data-abort-requires c κs = search needs
-
-returns : tie.Need-returns
-returns c = search (external-is, needs)
-
 pub external-abort-spec : {M : Type 1} → statement M
-external-abort-spec = tie.close (tie.spec wrapping-add-u64-requires first-requires data-abort-requires returns)
+external-abort-spec =
+    tie.close
+    (tie.spec
+    (λ wrapping-add-u64-requires κs. search needs) (λ first-requires κs. search needs)
+    (λ data-abort-requires κs. search needs)
+    (λ returns. search (external-is, needs)))

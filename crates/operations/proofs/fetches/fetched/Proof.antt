@@ -4,17 +4,10 @@ use Rattle.operations.proofs.fetches.fetched.Statement.{statement}
 use Rattle.operations.proofs.fetches.fetched.Tie as tie
 use Rattle.operations.proofs.Hinting.{fetched-is}
 
-resolve-page-requires : tie.Need-resolve-page-requires
-resolve-page-requires c κs = search needs
-
-fetch-end-requires : tie.Need-fetch-end-requires
-fetch-end-requires c κs = search needs
-
-fetched-requires : tie.Need-fetched-requires
-fetched-requires c κs = search needs
-
-returns : tie.Need-returns
-returns c = search (fetched-is, needs)
-
 pub fetched-spec : {M : Type 1} → statement M
-fetched-spec = tie.close (tie.spec resolve-page-requires fetch-end-requires fetched-requires returns)
+fetched-spec =
+    tie.close
+    (tie.spec
+    (λ resolve-page-requires κs. search needs) (λ fetch-end-requires κs. search needs)
+    (λ fetched-requires κs. search needs)
+    (λ returns. search (fetched-is, needs)))

@@ -4,14 +4,9 @@ use Rattle.operations.proofs.loads.one.Statement.{statement}
 use Rattle.operations.proofs.loads.one.Tie as tie
 use Rattle.operations.proofs.Loading.{one-is}
 
-unchanged-requires : tie.Need-unchanged-requires
-unchanged-requires c κs = search needs
-
-one-requires : tie.Need-one-requires
-one-requires c κs = search needs
-
-returns : tie.Need-returns
-returns c = search (one-is, needs)
-
 pub one-spec : {M : Type 1} → statement M
-one-spec = tie.close (tie.spec unchanged-requires one-requires returns)
+one-spec =
+    tie.close
+    (tie.spec
+    (λ unchanged-requires κs. search needs) (λ one-requires κs. search needs)
+    (λ returns. search (one-is, needs)))

@@ -4,21 +4,10 @@ use Rattle.operations.proofs.loads.two.Statement.{statement}
 use Rattle.operations.proofs.loads.two.Tie as tie
 use Rattle.operations.proofs.Loading.{two-is}
 
-next-page-requires : tie.Need-next-page-requires
-next-page-requires c κs = search needs
-
-after-requires : tie.Need-after-requires
-after-requires c κs = search needs
-
-resolve-page-requires : tie.Need-resolve-page-requires
-resolve-page-requires c κs = search needs
-
-both-requires : tie.Need-both-requires
-both-requires c κs = search needs
-
-returns : tie.Need-returns
-returns c = search (two-is, needs)
-
 pub two-spec : {M : Type 1} → statement M
 two-spec =
-    tie.close (tie.spec next-page-requires after-requires resolve-page-requires both-requires returns)
+    tie.close
+    (tie.spec
+    (λ next-page-requires κs. search needs) (λ after-requires κs. search needs)
+    (λ resolve-page-requires κs. search needs) (λ both-requires κs. search needs)
+    (λ returns. search (two-is, needs)))

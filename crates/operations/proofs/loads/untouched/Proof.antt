@@ -4,14 +4,9 @@ use Rattle.operations.proofs.loads.untouched.Statement.{statement}
 use Rattle.operations.proofs.loads.untouched.Tie as tie
 use Rattle.operations.proofs.Loading.{untouched-is}
 
-unchanged-requires : tie.Need-unchanged-requires
-unchanged-requires c κs = search needs
-
-unchanged-requires-2 : tie.Need-unchanged-requires-2
-unchanged-requires-2 c κs = search needs
-
-returns : tie.Need-returns
-returns c = search (untouched-is, needs)
-
 pub untouched-spec : {M : Type 1} → statement M
-untouched-spec = tie.close (tie.spec unchanged-requires unchanged-requires-2 returns)
+untouched-spec =
+    tie.close
+    (tie.spec
+    (λ unchanged-requires κs. search needs) (λ unchanged-requires-2 κs. search needs)
+    (λ returns. search (untouched-is, needs)))

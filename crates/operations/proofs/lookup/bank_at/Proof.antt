@@ -4,14 +4,9 @@ use Rattle.operations.proofs.lookup.bank_at.Statement.{statement}
 use Rattle.operations.proofs.lookup.bank_at.Tie as tie
 use Rattle.operations.proofs.Lookups.{bank-is}
 
-regime-of-requires : tie.Need-regime-of-requires
-regime-of-requires c κs = search needs
-
-bank-of-requires : tie.Need-bank-of-requires
-bank-of-requires c κs = search needs
-
-returns : tie.Need-returns
-returns c = search (bank-is, needs)
-
 pub bank-at-spec : {M : Type 1} → statement M
-bank-at-spec = tie.close (tie.spec regime-of-requires bank-of-requires returns)
+bank-at-spec =
+    tie.close
+    (tie.spec
+    (λ regime-of-requires κs. search needs) (λ bank-of-requires κs. search needs)
+    (λ returns. search (bank-is, needs)))

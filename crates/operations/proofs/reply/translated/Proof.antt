@@ -4,17 +4,10 @@ use Rattle.operations.proofs.reply.translated.Statement.{statement}
 use Rattle.operations.proofs.reply.translated.Tie as tie
 use Rattle.operations.proofs.Replying.{replies}
 
-enum-known-answer : tie.Need-enum-known-answer
-enum-known-answer c = search needs
-
-enum-known-answer-2 : tie.Need-enum-known-answer-2
-enum-known-answer-2 c = search needs
-
-returns : tie.Need-returns
-returns c = search (replies, needs)
-
-returns-2 : tie.Need-returns-2
-returns-2 c = search (replies, needs)
-
 pub translated-spec : {M : Type 1} → statement M
-translated-spec = tie.close (tie.spec enum-known-answer enum-known-answer-2 returns returns-2)
+translated-spec =
+    tie.close
+    (tie.spec
+    (λ enum-known-answer. search needs) (λ enum-known-answer-2. search needs)
+    (λ returns. search (replies, needs))
+    (λ returns-2. search (replies, needs)))

@@ -3,24 +3,11 @@ use borrow.Author.Needs.{needs}
 use Rattle.sysop.proofs.par.from_non_secure.Statement.{statement}
 use Rattle.sysop.proofs.par.from_non_secure.Tie as tie
 
-enum-told : tie.Need-enum-told
-enum-told c = search needs
-
-enum-told-2 : tie.Need-enum-told-2
-enum-told-2 c = search needs
-
-enum-told-3 : tie.Need-enum-told-3
-enum-told-3 c = search needs
-
-returns : tie.Need-returns
-returns c = rw (c .enum-told .given .1)
-
-returns-2 : tie.Need-returns-2
-returns-2 c = rw (c .enum-told2 .given .1)
-
-returns-3 : tie.Need-returns-3
-returns-3 c = search needs
-
 pub from-non-secure-spec : {M : Type 1} → statement M
 from-non-secure-spec =
-    tie.close (tie.spec enum-told enum-told-2 enum-told-3 returns returns-2 returns-3)
+    tie.close
+    (tie.spec
+    (λ enum-told. search needs) (λ enum-told-2. search needs) (λ enum-told-3. search needs)
+    (λ c. rw (c .enum-told .given .1))
+    (λ c. rw (c .enum-told2 .given .1))
+    (λ returns-3. search needs))

@@ -14,48 +14,9 @@ use borrow.Author.Needs.{needs}
 use Rattle.sysreg.proofs.encoding.at_level.Statement.{statement}
 use Rattle.sysreg.proofs.encoding.at_level.Tie as tie
 
-single-requires : tie.Need-single-requires
-single-requires c κs = search needs
-
 -- CRn, CRm and op2 of a register with an instance at each level
 abbrev offsets : ℕ → Bool
 offsets n = among (0x080 ∷ 0x100 ∷ 0x102 ∷ 0x200 ∷ 0x201 ∷ 0x290 ∷ 0x300 ∷ 0x510 ∷ 0x600 ∷ []) (n % 2 ^ 11)
-
-returns : tie.Need-returns
-unfolding bankedAt
-returns c = at-level (λ el. InControl (Sctlr el)) (c .before .args .el) _ _ refl refl refl (c .before .pre) (c .match .keys1)
-
-returns-2 : tie.Need-returns-2
-unfolding bankedAt
-returns-2 c = at-level (λ el. InControl (Ttbr0 el)) (c .before .args .el) _ _ refl refl refl (c .before .pre) (c .match .keys2)
-
-returns-3 : tie.Need-returns-3
-unfolding bankedAt
-returns-3 c = at-level (λ el. InControl (Tcr el)) (c .before .args .el) _ _ refl refl refl (c .before .pre) (c .match .keys3)
-
-returns-4 : tie.Need-returns-4
-unfolding bankedAt
-returns-4 c = at-level (λ el. InSys (Spsr el)) (c .before .args .el) _ _ refl refl refl (c .before .pre) (c .match .keys4)
-
-returns-5 : tie.Need-returns-5
-unfolding bankedAt
-returns-5 c = at-level (λ el. InSys (Elr el)) (c .before .args .el) _ _ refl refl refl (c .before .pre) (c .match .keys5)
-
-returns-6 : tie.Need-returns-6
-unfolding bankedAt
-returns-6 c = at-level (λ el. InSys (Esr el)) (c .before .args .el) _ _ refl refl refl (c .before .pre) (c .match .keys6)
-
-returns-7 : tie.Need-returns-7
-unfolding bankedAt
-returns-7 c = at-level (λ el. InSys (Far el)) (c .before .args .el) _ _ refl refl refl (c .before .pre) (c .match .keys7)
-
-returns-8 : tie.Need-returns-8
-unfolding bankedAt
-returns-8 c = at-level (λ el. InSys (Mair el)) (c .before .args .el) _ _ refl refl refl (c .before .pre) (c .match .keys8)
-
-returns-9 : tie.Need-returns-9
-unfolding bankedAt
-returns-9 c = at-level (λ el. InSys (Vbar el)) (c .before .args .el) _ _ refl refl refl (c .before .pre) (c .match .keys9)
 
 returns-10 : tie.Need-returns-10
 unfolding bankedAt singleAt
@@ -63,17 +24,18 @@ returns-10 c =
     c .single .ensures ∙ sym (skip offsets eachLevel oneLevel (c .before .before .args .k) refl (search (denied, needs)))
 
 pub at-level-spec : {M : Type 1} → statement M
+unfolding bankedAt
 at-level-spec =
     tie.close
     (tie.spec
-    single-requires
-    returns
-    returns-2
-    returns-3
-    returns-4
-    returns-5
-    returns-6
-    returns-7
-    returns-8
-    returns-9
+    (λ single-requires κs. search needs)
+    (λ c. at-level (λ el. InControl (Sctlr el)) (c .before .args .el) _ _ refl refl refl (c .before .pre) (c .match .keys1))
+    (λ c. at-level (λ el. InControl (Ttbr0 el)) (c .before .args .el) _ _ refl refl refl (c .before .pre) (c .match .keys2))
+    (λ c. at-level (λ el. InControl (Tcr el)) (c .before .args .el) _ _ refl refl refl (c .before .pre) (c .match .keys3))
+    (λ c. at-level (λ el. InSys (Spsr el)) (c .before .args .el) _ _ refl refl refl (c .before .pre) (c .match .keys4))
+    (λ c. at-level (λ el. InSys (Elr el)) (c .before .args .el) _ _ refl refl refl (c .before .pre) (c .match .keys5))
+    (λ c. at-level (λ el. InSys (Esr el)) (c .before .args .el) _ _ refl refl refl (c .before .pre) (c .match .keys6))
+    (λ c. at-level (λ el. InSys (Far el)) (c .before .args .el) _ _ refl refl refl (c .before .pre) (c .match .keys7))
+    (λ c. at-level (λ el. InSys (Mair el)) (c .before .args .el) _ _ refl refl refl (c .before .pre) (c .match .keys8))
+    (λ c. at-level (λ el. InSys (Vbar el)) (c .before .args .el) _ _ refl refl refl (c .before .pre) (c .match .keys9))
     returns-10)

@@ -5,9 +5,6 @@ use borrow.Author.Needs.{needs}
 use Rattle.sysreg.proofs.encoding.named.Statement.{statement}
 use Rattle.sysreg.proofs.encoding.named.Tie as tie
 
-banked-requires : tie.Need-banked-requires
-banked-requires c κs = search needs
-
 returns : tie.Need-returns
 unfolding registerAt
 returns c = simp (eq-eqb _ _ (c .if1 .taken))
@@ -17,4 +14,4 @@ unfolding registerAt
 returns-2 c = simp (ne-eqb _ _ (c .before .if1 .left)) (c .banked .ensures)
 
 pub named-spec : {M : Type 1} → statement M
-named-spec = tie.close (tie.spec banked-requires returns returns-2)
+named-spec = tie.close (tie.spec (λ banked-requires κs. search needs) returns returns-2)

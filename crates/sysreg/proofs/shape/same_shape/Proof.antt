@@ -3,9 +3,8 @@ use mathlib.Core.Path.{_≡_}
 use mathlib.Core.Bool.{Bool, true, _&&_, and-assoc, and-true}
 use lib.Dec.{eqb}
 use lib.ListN.{getD}
-use Rattle.sysreg.specs.declared.regs.Control.{Control}
+use Rattle.sysreg.specs.declared.{regs.Control.Control, regs.ControlReg.ControlReg}
 use Rattle.sysreg.specs.declared.regs.El.the-variants.{El1, El2, El3}
-use Rattle.sysreg.specs.declared.regs.ControlReg.{ControlReg}
 use Rattle.sysreg.specs.declared.regs.ControlReg.the-variants.{Sctlr, Tcr, Ttbr0, Scr, Hcr}
 use Rattle.sysreg.specs.Regs.{controlAt}
 use Rattle.sysreg.specs.Parts.{sameLevels}
@@ -13,24 +12,6 @@ use Rattle.sysreg.specs.Shape.{sameShape}
 use borrow.Author.Needs.{needs}
 use Rattle.sysreg.proofs.shape.same_shape.Statement.{statement}
 use Rattle.sysreg.proofs.shape.same_shape.Tie as tie
-
-same-levels-requires : tie.Need-same-levels-requires
-same-levels-requires c κs = search needs
-
-same-levels-requires-2 : tie.Need-same-levels-requires-2
-same-levels-requires-2 c κs = search needs
-
-element-copy-out-ttbr0 : tie.Need-element-copy-out-ttbr0
-element-copy-out-ttbr0 c = search needs
-
-element-copy-out-ttbr0-2 : tie.Need-element-copy-out-ttbr0-2
-element-copy-out-ttbr0-2 c = search needs
-
-element-copy-out-ttbr0-3 : tie.Need-element-copy-out-ttbr0-3
-element-copy-out-ttbr0-3 c = search needs
-
-element-copy-out-ttbr0-4 : tie.Need-element-copy-out-ttbr0-4
-element-copy-out-ttbr0-4 c = search needs
 
 regrouped : (a b c d e f g h i j : Bool) →
     (a && b && c && (d && e && f) && (g && h) && i && j) ≡ (a && (b && (c && (d && (e && (f && (g && (h && (i && (j && true))))))))))
@@ -48,17 +29,11 @@ in-order a b s t p q = rw (p, q)
     like : ControlReg → Bool
     like r = eqb (controlAt a r) (controlAt b r)
 
-returns : tie.Need-returns
-returns c = search (in-order, needs)
-
 pub same-shape-spec : {M : Type 1} → statement M
 same-shape-spec =
     tie.close
     (tie.spec
-    same-levels-requires
-    same-levels-requires-2
-    element-copy-out-ttbr0
-    element-copy-out-ttbr0-2
-    element-copy-out-ttbr0-3
-    element-copy-out-ttbr0-4
-    returns)
+    (λ same-levels-requires κs. search needs) (λ same-levels-requires-2 κs. search needs)
+    (λ element-copy-out-ttbr0. search needs) (λ element-copy-out-ttbr0-2. search needs)
+    (λ element-copy-out-ttbr0-3. search needs) (λ element-copy-out-ttbr0-4. search needs)
+    (λ returns. search (in-order, needs)))

@@ -4,11 +4,5 @@ use borrow.Author.Needs.{needs}
 use Rattle.tlb.proofs.access.may_hint.Statement.{statement}
 use Rattle.tlb.proofs.access.may_hint.Tie as tie
 
-is-fetch-requires : tie.Need-is-fetch-requires
-is-fetch-requires c κs = search needs
-
-returns : tie.Need-returns
-returns c = search (hinting, needs)
-
 pub may-hint-spec : {M : Type 1} → statement M
-may-hint-spec = tie.close (tie.spec is-fetch-requires returns)
+may-hint-spec = tie.close (tie.spec (λ is-fetch-requires κs. search needs) (λ returns. search (hinting, needs)))

@@ -15,30 +15,6 @@ Inv-loop asid out₀ i₀ out i = (i ≤ 1024) × (out ≡ swept (asidDropped as
 abbrev μ-loop : tie.MeasureT-loop
 μ-loop asid out₀ i₀ out i = 1024 - i
 
-loop-holds : tie.Need-loop-holds Inv-loop μ-loop
-loop-holds c = (omega arith, refl)
-
-mul-e : tie.Need-mul-e Inv-loop μ-loop
-mul-e c = omega arith
-
-array-copy-out-e : tie.Need-array-copy-out-e Inv-loop μ-loop
-array-copy-out-e c = omega arith
-
-asid-dropped-requires : tie.Need-asid-dropped-requires Inv-loop μ-loop
-asid-dropped-requires c κs = search needs
-
-mul-out : tie.Need-mul-out Inv-loop μ-loop
-mul-out c = omega arith
-
-array-set-from-out : tie.Need-array-set-from-out Inv-loop μ-loop
-array-set-from-out c = omega arith
-
-add-i : tie.Need-add-i Inv-loop μ-loop
-add-i c = omega arith
-
-loop-less : tie.Need-loop-less Inv-loop μ-loop
-loop-less c = omega arith
-
 loop-again : tie.Need-loop-again Inv-loop μ-loop
 loop-again c =
     let long : length (c .before .before .before .before .args .entries) ≡ 1024 = search needs in
@@ -53,15 +29,8 @@ pub asids-dropped-spec : {M : Type 1} → statement M
 asids-dropped-spec =
     tie.close
     (tie.spec
-    Inv-loop
-    μ-loop
-    loop-holds
-    mul-e
-    array-copy-out-e
-    asid-dropped-requires
-    mul-out
-    array-set-from-out
-    add-i
-    loop-less
-    loop-again
-    returns)
+    Inv-loop μ-loop
+    (λ loop-holds. (omega arith, refl))
+    (λ mul-e. omega arith) (λ array-copy-out-e. omega arith) (λ asid-dropped-requires κs. search needs)
+    (λ mul-out. omega arith) (λ array-set-from-out. omega arith) (λ add-i. omega arith) (λ loop-less. omega arith)
+    loop-again returns)

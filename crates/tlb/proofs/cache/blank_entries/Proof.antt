@@ -6,12 +6,9 @@ use borrow.Author.Needs.{needs}
 use Rattle.tlb.proofs.cache.blank_entries.Statement.{statement}
 use Rattle.tlb.proofs.cache.blank_entries.Tie as tie
 
-blank-requires : tie.Need-blank-requires
-blank-requires c κs = search needs
-
 returns : tie.Need-returns
 unfolding blanks
 returns c = ap (replicate 1024) (c .blank .ensures)
 
 pub blank-entries-spec : {M : Type 1} → statement M
-blank-entries-spec = tie.close (tie.spec blank-requires returns)
+blank-entries-spec = tie.close (tie.spec (λ blank-requires κs. search needs) returns)

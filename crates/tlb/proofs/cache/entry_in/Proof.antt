@@ -4,21 +4,10 @@ use borrow.Author.Needs.{needs}
 use Rattle.tlb.proofs.cache.entry_in.Statement.{statement}
 use Rattle.tlb.proofs.cache.entry_in.Tie as tie
 
-mul-result : tie.Need-mul-result
-mul-result c = search needs
-
-array-copy-out-result : tie.Need-array-copy-out-result
-array-copy-out-result c = search needs
-
-blank-requires : tie.Need-blank-requires
-blank-requires c κs = search needs
-
-returns : tie.Need-returns
-returns c = search needs
-
-returns-2 : tie.Need-returns-2
-returns-2 c = search (outside, needs)
-
 pub entry-in-spec : {M : Type 1} → statement M
 entry-in-spec =
-    tie.close (tie.spec mul-result array-copy-out-result blank-requires returns returns-2)
+    tie.close
+    (tie.spec
+    (λ mul-result. search needs) (λ array-copy-out-result. search needs) (λ blank-requires κs. search needs)
+    (λ returns. search needs)
+    (λ returns-2. search (outside, needs)))

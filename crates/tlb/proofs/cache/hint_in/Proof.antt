@@ -4,21 +4,10 @@ use borrow.Author.Needs.{needs}
 use Rattle.tlb.proofs.cache.hint_in.Statement.{statement}
 use Rattle.tlb.proofs.cache.hint_in.Tie as tie
 
-mul-result : tie.Need-mul-result
-mul-result c = search needs
-
-array-copy-out-result : tie.Need-array-copy-out-result
-array-copy-out-result c = search needs
-
-no-hint-requires : tie.Need-no-hint-requires
-no-hint-requires c κs = search needs
-
-returns : tie.Need-returns
-returns c = search (inside, needs)
-
-returns-2 : tie.Need-returns-2
-returns-2 c = search (outside, needs)
-
 pub hint-in-spec : {M : Type 1} → statement M
 hint-in-spec =
-    tie.close (tie.spec mul-result array-copy-out-result no-hint-requires returns returns-2)
+    tie.close
+    (tie.spec
+    (λ mul-result. search needs) (λ array-copy-out-result. search needs) (λ no-hint-requires κs. search needs)
+    (λ returns. search (inside, needs))
+    (λ returns-2. search (outside, needs)))

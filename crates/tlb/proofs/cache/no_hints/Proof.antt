@@ -6,12 +6,9 @@ use borrow.Author.Needs.{needs}
 use Rattle.tlb.proofs.cache.no_hints.Statement.{statement}
 use Rattle.tlb.proofs.cache.no_hints.Tie as tie
 
-no-hint-requires : tie.Need-no-hint-requires
-no-hint-requires c κs = search needs
-
 returns : tie.Need-returns
 unfolding noHints
 returns c = ap (replicate 512) (c .no-hint .ensures)
 
 pub no-hints-spec : {M : Type 1} → statement M
-no-hints-spec = tie.close (tie.spec no-hint-requires returns)
+no-hints-spec = tie.close (tie.spec (λ no-hint-requires κs. search needs) returns)

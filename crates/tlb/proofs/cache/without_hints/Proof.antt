@@ -4,14 +4,9 @@ use borrow.Author.Needs.{needs}
 use Rattle.tlb.proofs.cache.without_hints.Statement.{statement}
 use Rattle.tlb.proofs.cache.without_hints.Tie as tie
 
-no-hints-requires : tie.Need-no-hints-requires
-no-hints-requires c κs = search needs
-
-no-fetch-requires : tie.Need-no-fetch-requires
-no-fetch-requires c κs = search needs
-
-returns : tie.Need-returns
-returns c = search (cache-is, needs)
-
 pub without-hints-spec : {M : Type 1} → statement M
-without-hints-spec = tie.close (tie.spec no-hints-requires no-fetch-requires returns)
+without-hints-spec =
+    tie.close
+    (tie.spec
+    (λ no-hints-requires κs. search needs) (λ no-fetch-requires κs. search needs)
+    (λ returns. search (cache-is, needs)))

@@ -5,19 +5,13 @@ use borrow.Author.Needs.{needs}
 use Rattle.tlb.proofs.cache.without_page.Statement.{statement}
 use Rattle.tlb.proofs.cache.without_page.Tie as tie
 
-without-hints-requires : tie.Need-without-hints-requires
-without-hints-requires c κs = search needs
-
-pages-dropped-requires : tie.Need-pages-dropped-requires
-pages-dropped-requires c κs = search needs
-
-renewed-requires : tie.Need-renewed-requires
-renewed-requires c κs = search needs
-
 returns : tie.Need-returns
 unfolding withoutPage
 returns c = search (hintless-is, needs)
 
 pub without-page-spec : {M : Type 1} → statement M
 without-page-spec =
-    tie.close (tie.spec without-hints-requires pages-dropped-requires renewed-requires returns)
+    tie.close
+    (tie.spec
+    (λ without-hints-requires κs. search needs) (λ pages-dropped-requires κs. search needs)
+    (λ renewed-requires κs. search needs) returns)

@@ -4,31 +4,11 @@ use borrow.Author.Needs.{needs}
 use Rattle.tlb.proofs.cells.hint_after.Statement.{statement}
 use Rattle.tlb.proofs.cells.hint_after.Tie as tie
 
-enum-known-answer : tie.Need-enum-known-answer
-enum-known-answer c = search needs
-
-hint-for-requires : tie.Need-hint-for-requires
-hint-for-requires c κs = search needs
-
-enum-told : tie.Need-enum-told
-enum-told c = search needs
-
-returns : tie.Need-returns
-returns c = search (noted, needs)
-
-returns-2 : tie.Need-returns-2
-returns-2 c = search (unhinted, needs)
-
-returns-3 : tie.Need-returns-3
-returns-3 c = search (faulted, needs)
-
 pub hint-after-spec : {M : Type 1} → statement M
 hint-after-spec =
     tie.close
     (tie.spec
-    enum-known-answer
-    hint-for-requires
-    enum-told
-    returns
-    returns-2
-    returns-3)
+    (λ enum-known-answer. search needs) (λ hint-for-requires κs. search needs) (λ enum-told. search needs)
+    (λ returns. search (noted, needs))
+    (λ returns-2. search (unhinted, needs))
+    (λ returns-3. search (faulted, needs)))

@@ -3,14 +3,11 @@ use borrow.Author.Needs.{needs}
 use Rattle.tlb.proofs.count.drop.Statement.{statement}
 use Rattle.tlb.proofs.count.drop.Tie as tie
 
-wrapping-add-u64-requires : tie.Need-wrapping-add-u64-requires
-wrapping-add-u64-requires c κs = search needs
-
-wrapping-add-u64-requires-2 : tie.Need-wrapping-add-u64-requires-2
-wrapping-add-u64-requires-2 c κs = search needs
-
 returns : tie.Need-returns
 returns c = cc
 
 pub drop-spec : {M : Type 1} → statement M
-drop-spec = tie.close (tie.spec wrapping-add-u64-requires wrapping-add-u64-requires-2 returns)
+drop-spec =
+    tie.close
+    (tie.spec
+    (λ wrapping-add-u64-requires κs. search needs) (λ wrapping-add-u64-requires-2 κs. search needs) returns)

@@ -6,9 +6,6 @@ use Rattle.tlb.specs.declared.count.Counts.{Counts}
 use Rattle.tlb.proofs.count.hit.Statement.{statement}
 use Rattle.tlb.proofs.count.hit.Tie as tie
 
-wrapping-add-u64-requires : tie.Need-wrapping-add-u64-requires
-wrapping-add-u64-requires c κs = search needs
-
 -- the counters with other hits
 abbrev with-hits : Counts → ℕ → Counts
 with-hits k n = record { hits = n; walks = k .walks; flushes = k .flushes; drops = k .drops; epoch = k .epoch }
@@ -17,4 +14,4 @@ returns : tie.Need-returns
 returns c = ap (with-hits (c .before .args .k)) (c .wrapping-add-u64 .ensures)
 
 pub hit-spec : {M : Type 1} → statement M
-hit-spec = tie.close (tie.spec wrapping-add-u64-requires returns)
+hit-spec = tie.close (tie.spec (λ wrapping-add-u64-requires κs. search needs) returns)

@@ -3,11 +3,8 @@ use borrow.Author.Needs.{needs}
 use Rattle.tlb.proofs.count.walk.Statement.{statement}
 use Rattle.tlb.proofs.count.walk.Tie as tie
 
-wrapping-add-u64-requires : tie.Need-wrapping-add-u64-requires
-wrapping-add-u64-requires c κs = search needs
-
 returns : tie.Need-returns
 returns c = cc
 
 pub walk-spec : {M : Type 1} → statement M
-walk-spec = tie.close (tie.spec wrapping-add-u64-requires returns)
+walk-spec = tie.close (tie.spec (λ wrapping-add-u64-requires κs. search needs) returns)

@@ -4,14 +4,10 @@ use borrow.Author.Needs.{needs}
 use Rattle.tlb.proofs.entry.asid_dropped.Statement.{statement}
 use Rattle.tlb.proofs.entry.asid_dropped.Tie as tie
 
-untagged-requires : tie.Need-untagged-requires
-untagged-requires c κs = search needs
-
-returns : tie.Need-returns
-returns c = search (asid-out, needs)
-
-returns-2 : tie.Need-returns-2
-returns-2 c = search (asid-stays, needs)
-
 pub asid-dropped-spec : {M : Type 1} → statement M
-asid-dropped-spec = tie.close (tie.spec untagged-requires returns returns-2)
+asid-dropped-spec =
+    tie.close
+    (tie.spec
+    (λ untagged-requires κs. search needs)
+    (λ returns. search (asid-out, needs))
+    (λ returns-2. search (asid-stays, needs)))

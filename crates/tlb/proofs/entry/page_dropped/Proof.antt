@@ -4,24 +4,11 @@ use borrow.Author.Needs.{needs}
 use Rattle.tlb.proofs.entry.page_dropped.Statement.{statement}
 use Rattle.tlb.proofs.entry.page_dropped.Tie as tie
 
-span-requires : tie.Need-span-requires
-span-requires c κs = search needs
-
-shr-out : tie.Need-shr-out
-shr-out c = search needs
-
-shr-out-2 : tie.Need-shr-out-2
-shr-out-2 c = search needs
-
-untagged-requires : tie.Need-untagged-requires
-untagged-requires c κs = search needs
-
-returns : tie.Need-returns
-returns c = search (page-out, needs)
-
-returns-2 : tie.Need-returns-2
-returns-2 c = search (page-stays, needs)
-
 pub page-dropped-spec : {M : Type 1} → statement M
 page-dropped-spec =
-    tie.close (tie.spec span-requires shr-out shr-out-2 untagged-requires returns returns-2)
+    tie.close
+    (tie.spec
+    (λ span-requires κs. search needs) (λ shr-out. search needs) (λ shr-out-2. search needs)
+    (λ untagged-requires κs. search needs)
+    (λ returns. search (page-out, needs))
+    (λ returns-2. search (page-stays, needs)))

@@ -8,18 +8,6 @@ use Rattle.tlb.proofs.hint.data_slot.Tie as tie
 enum-told : tie.Need-enum-told
 enum-told c = search needs
 
-enum-told-2 : tie.Need-enum-told-2
-enum-told-2 c = search needs
-
-add-result : tie.Need-add-result
-add-result c = search needs
-
-enum-told-3 : tie.Need-enum-told-3
-enum-told-3 c = search needs
-
-add-result-2 : tie.Need-add-result-2
-add-result-2 c = search needs
-
 returns : tie.Need-returns
 unfolding placeOf
 returns c = rw (c .enum-told .given .1, zero-add)
@@ -36,11 +24,5 @@ pub data-slot-spec : {M : Type 1} → statement M
 data-slot-spec =
     tie.close
     (tie.spec
-    enum-told
-    enum-told-2
-    add-result
-    enum-told-3
-    add-result-2
-    returns
-    returns-2
-    returns-3)
+    enum-told (λ enum-told-2. search needs) (λ add-result. search needs) (λ enum-told-3. search needs)
+    (λ add-result-2. search needs) returns returns-2 returns-3)

@@ -4,14 +4,9 @@ use borrow.Author.Needs.{needs}
 use Rattle.tlb.proofs.hint.hint_for.Statement.{statement}
 use Rattle.tlb.proofs.hint.hint_for.Tie as tie
 
-hint-key-requires : tie.Need-hint-key-requires
-hint-key-requires c κs = search needs
-
-mul-t6 : tie.Need-mul-t6
-mul-t6 c = search needs
-
-returns : tie.Need-returns
-returns c = search (hint-made, needs)
-
 pub hint-for-spec : {M : Type 1} → statement M
-hint-for-spec = tie.close (tie.spec hint-key-requires mul-t6 returns)
+hint-for-spec =
+    tie.close
+    (tie.spec
+    (λ hint-key-requires κs. search needs) (λ mul-t6. search needs)
+    (λ returns. search (hint-made, needs)))

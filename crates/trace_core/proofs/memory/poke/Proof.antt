@@ -12,37 +12,9 @@ Inv-loop base ram₀ addr value i₀ ram i = length ram ≡ length ram₀
 abbrev μ-loop : tie.MeasureT-loop
 μ-loop base ram₀ addr value i₀ ram i = 8 - i
 
-loop-holds : tie.Need-loop-holds Inv-loop μ-loop
-loop-holds c = search needs
-
-poke-byte-requires : tie.Need-poke-byte-requires Inv-loop μ-loop
-poke-byte-requires c κs = search needs
-
-add-i : tie.Need-add-i Inv-loop μ-loop
-add-i c = search needs
-
-loop-less : tie.Need-loop-less Inv-loop μ-loop
-loop-less c = search needs
-
-loop-again : tie.Need-loop-again Inv-loop μ-loop
-loop-again c = search needs
-
-same-length : tie.Need-same-length Inv-loop μ-loop
-same-length c = search needs
-
-returns : tie.Need-returns Inv-loop μ-loop
-returns c = search needs
-
 pub poke-spec : {M : Type 1} → statement M
 poke-spec =
     tie.close
     (tie.spec
-    Inv-loop
-    μ-loop
-    loop-holds
-    poke-byte-requires
-    add-i
-    loop-less
-    loop-again
-    same-length
-    returns)
+    Inv-loop μ-loop (λ loop-holds. search needs) (λ poke-byte-requires κs. search needs) (λ add-i. search needs)
+    (λ loop-less. search needs) (λ loop-again. search needs) (λ same-length. search needs) (λ returns. search needs))

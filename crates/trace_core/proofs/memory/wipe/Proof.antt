@@ -12,37 +12,9 @@ Inv-loop ram₀ n i₀ ram i = (n ≡ length ram₀) × (length ram ≡ length r
 abbrev μ-loop : tie.MeasureT-loop
 μ-loop ram₀ n i₀ ram i = n - i
 
-loop-holds : tie.Need-loop-holds Inv-loop μ-loop
-loop-holds c = search needs
-
-slice-write-ram : tie.Need-slice-write-ram Inv-loop μ-loop
-slice-write-ram c = search needs
-
-add-i : tie.Need-add-i Inv-loop μ-loop
-add-i c = search needs
-
-loop-less : tie.Need-loop-less Inv-loop μ-loop
-loop-less c = search needs
-
-loop-again : tie.Need-loop-again Inv-loop μ-loop
-loop-again c = search needs
-
-same-length : tie.Need-same-length Inv-loop μ-loop
-same-length c = search needs
-
-returns : tie.Need-returns Inv-loop μ-loop
-returns c = search needs
-
 pub wipe-spec : {M : Type 1} → statement M
 wipe-spec =
     tie.close
     (tie.spec
-    Inv-loop
-    μ-loop
-    loop-holds
-    slice-write-ram
-    add-i
-    loop-less
-    loop-again
-    same-length
-    returns)
+    Inv-loop μ-loop (λ loop-holds. search needs) (λ slice-write-ram. search needs) (λ add-i. search needs)
+    (λ loop-less. search needs) (λ loop-again. search needs) (λ same-length. search needs) (λ returns. search needs))

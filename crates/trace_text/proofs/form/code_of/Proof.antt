@@ -10,37 +10,9 @@ Inv-loop name from to code₀ code = Unit {0}
 abbrev μ-loop : tie.MeasureT-loop
 μ-loop name from to code₀ code = to - code
 
-loop-holds : tie.Need-loop-holds Inv-loop μ-loop
-loop-holds c = search needs
-
-form-of-requires : tie.Need-form-of-requires Inv-loop μ-loop
-form-of-requires c κs = search needs
-
-returns : tie.Need-returns Inv-loop μ-loop
-returns c = search needs
-
-add-code : tie.Need-add-code Inv-loop μ-loop
-add-code c = search needs
-
-loop-less : tie.Need-loop-less Inv-loop μ-loop
-loop-less c = search needs
-
-loop-again : tie.Need-loop-again Inv-loop μ-loop
-loop-again c = search needs
-
-returns-2 : tie.Need-returns-2 Inv-loop μ-loop
-returns-2 c = search needs
-
 pub code-of-spec : {M : Type 1} → statement M
 code-of-spec =
     tie.close
     (tie.spec
-    Inv-loop
-    μ-loop
-    loop-holds
-    form-of-requires
-    returns
-    add-code
-    loop-less
-    loop-again
-    returns-2)
+    Inv-loop μ-loop (λ loop-holds. search needs) (λ form-of-requires κs. search needs) (λ returns. search needs)
+    (λ add-code. search needs) (λ loop-less. search needs) (λ loop-again. search needs) (λ returns-2. search needs))

@@ -11,41 +11,10 @@ Inv-loop s n₀ i₀ n i = Unit {0}
 abbrev μ-loop : tie.MeasureT-loop
 μ-loop s n₀ i₀ n i = length s - i
 
-loop-holds : tie.Need-loop-holds Inv-loop μ-loop
-loop-holds c = search needs
-
-shared-slice-read-lettered : tie.Need-shared-slice-read-lettered Inv-loop μ-loop
-shared-slice-read-lettered c = search needs
-
-lettered-requires : tie.Need-lettered-requires Inv-loop μ-loop
-lettered-requires c κs = search needs
-
-add-i : tie.Need-add-i Inv-loop μ-loop
-add-i c = search needs
-
-loop-less : tie.Need-loop-less Inv-loop μ-loop
-loop-less c = search needs
-
-loop-again : tie.Need-loop-again Inv-loop μ-loop
-loop-again c = search needs
-
-returns : tie.Need-returns Inv-loop μ-loop
-returns c = search needs
-
-returns-2 : tie.Need-returns-2 Inv-loop μ-loop
-returns-2 c = search needs
-
 pub letters-spec : {M : Type 1} → statement M
 letters-spec =
     tie.close
     (tie.spec
-    Inv-loop
-    μ-loop
-    loop-holds
-    shared-slice-read-lettered
-    lettered-requires
-    add-i
-    loop-less
-    loop-again
-    returns
-    returns-2)
+    Inv-loop μ-loop (λ loop-holds. search needs) (λ shared-slice-read-lettered. search needs)
+    (λ lettered-requires κs. search needs) (λ add-i. search needs) (λ loop-less. search needs)
+    (λ loop-again. search needs) (λ returns. search needs) (λ returns-2. search needs))

@@ -11,45 +11,10 @@ Inv-loop word n₀ i₀ n i = Unit {0}
 abbrev μ-loop : tie.MeasureT-loop
 μ-loop word n₀ i₀ n i = length word - i
 
-no-digits-requires : tie.Need-no-digits-requires Inv-loop μ-loop
-no-digits-requires c κs = search needs
-
-loop-holds : tie.Need-loop-holds Inv-loop μ-loop
-loop-holds c = search needs
-
-shared-slice-read-digit : tie.Need-shared-slice-read-digit Inv-loop μ-loop
-shared-slice-read-digit c = search needs
-
-digit-requires : tie.Need-digit-requires Inv-loop μ-loop
-digit-requires c κs = search needs
-
-grown-requires : tie.Need-grown-requires Inv-loop μ-loop
-grown-requires c κs = search needs
-
-add-i : tie.Need-add-i Inv-loop μ-loop
-add-i c = search needs
-
-loop-less : tie.Need-loop-less Inv-loop μ-loop
-loop-less c = search needs
-
-loop-again : tie.Need-loop-again Inv-loop μ-loop
-loop-again c = search needs
-
-returns : tie.Need-returns Inv-loop μ-loop
-returns c = search needs
-
 pub value-of-spec : {M : Type 1} → statement M
 value-of-spec =
     tie.close
     (tie.spec
-    Inv-loop
-    μ-loop
-    no-digits-requires
-    loop-holds
-    shared-slice-read-digit
-    digit-requires
-    grown-requires
-    add-i
-    loop-less
-    loop-again
-    returns)
+    Inv-loop μ-loop (λ no-digits-requires κs. search needs) (λ loop-holds. search needs)
+    (λ shared-slice-read-digit. search needs) (λ digit-requires κs. search needs) (λ grown-requires κs. search needs)
+    (λ add-i. search needs) (λ loop-less. search needs) (λ loop-again. search needs) (λ returns. search needs))

@@ -11,11 +11,8 @@ use Prim.Native.Nat.{ℕ}
 use lib.Dec.{eqb}
 use Rattle.word.specs.BitLaws.{cut-field}
 
-shr-result : tie.Need-shr-result
-shr-result c = search needs
-
 returns : tie.Need-returns
 returns c = ap (λ (k : ℕ). not (eqb k 0)) (cut-field (c .args .x) {lo = c .args .n} {hi = 48} (omega arith))
 
 pub too-large-spec : {M : Type 1} → statement M
-too-large-spec = tie.close (tie.spec shr-result returns)
+too-large-spec = tie.close (tie.spec (λ shr-result. search needs) returns)

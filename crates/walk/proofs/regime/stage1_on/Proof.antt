@@ -6,12 +6,6 @@ use Rattle.walk.proofs.regime.stage1_on.Tie as tie
 enum-told : tie.Need-enum-told
 enum-told c = search needs
 
-enum-told-2 : tie.Need-enum-told-2
-enum-told-2 c = search needs
-
-enum-told-3 : tie.Need-enum-told-3
-enum-told-3 c = search needs
-
 returns : tie.Need-returns
 returns c = rw (c .before .before .before .enum-told .given .1)
 
@@ -22,4 +16,7 @@ returns-3 : tie.Need-returns-3
 returns-3 c = rw (c .enum-told3 .given .1)
 
 pub stage1-on-spec : {M : Type 1} → statement M
-stage1-on-spec = tie.close (tie.spec enum-told enum-told-2 enum-told-3 returns returns-2 returns-3)
+stage1-on-spec =
+    tie.close
+    (tie.spec
+    enum-told (λ enum-told-2. search needs) (λ enum-told-3. search needs) returns returns-2 returns-3)

@@ -16,49 +16,15 @@ Inv-loop p va base ram n w₀ left₀ w left =
 abbrev μ-loop : tie.MeasureT-loop
 μ-loop p va base ram n w₀ left₀ w left = left
 
-loop-holds : tie.Need-loop-holds Inv-loop μ-loop
-loop-holds c = search needs
-
-lookup-requires : tie.Need-lookup-requires Inv-loop μ-loop
-lookup-requires c κs = search needs
-
-descriptor-address-requires : tie.Need-descriptor-address-requires Inv-loop μ-loop
-descriptor-address-requires c κs = search needs
-
-enum-known-step : tie.Need-enum-known-step Inv-loop μ-loop
-enum-known-step c = search needs
-
-sub-left : tie.Need-sub-left Inv-loop μ-loop
-sub-left c = search (one-left, needs)
-
-loop-less : tie.Need-loop-less Inv-loop μ-loop
-loop-less c = search (one-fewer, needs)
-
-loop-again : tie.Need-loop-again Inv-loop μ-loop
-loop-again c = (search (stands, needs), search (visit-on, needs))
-
-enum-told : tie.Need-enum-told Inv-loop μ-loop
-enum-told c = search needs
-
-returns : tie.Need-returns Inv-loop μ-loop
-returns c = search (visit-here, needs)
-
-returns-2 : tie.Need-returns-2 Inv-loop μ-loop
-returns-2 c = search (visit-past, needs)
-
 pub visit-from-spec : {M : Type 1} → statement M
 visit-from-spec =
     tie.close
     (tie.spec
-    Inv-loop
-    μ-loop
-    loop-holds
-    lookup-requires
-    descriptor-address-requires
-    enum-known-step
-    sub-left
-    loop-less
-    loop-again
-    enum-told
-    returns
-    returns-2)
+    Inv-loop μ-loop (λ loop-holds. search needs) (λ lookup-requires κs. search needs)
+    (λ descriptor-address-requires κs. search needs) (λ enum-known-step. search needs)
+    (λ sub-left. search (one-left, needs))
+    (λ loop-less. search (one-fewer, needs))
+    (λ loop-again. (search (stands, needs), search (visit-on, needs)))
+    (λ enum-told. search needs)
+    (λ returns. search (visit-here, needs))
+    (λ returns-2. search (visit-past, needs)))

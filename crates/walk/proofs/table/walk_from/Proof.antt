@@ -16,37 +16,12 @@ Inv-loop p va base ram w₀ w =
 abbrev μ-loop : tie.MeasureT-loop
 μ-loop p va base ram w₀ w = 4 - w .level
 
-loop-holds : tie.Need-loop-holds Inv-loop μ-loop
-loop-holds c = search needs
-
-lookup-requires : tie.Need-lookup-requires Inv-loop μ-loop
-lookup-requires c κs = search needs
-
-enum-known-next : tie.Need-enum-known-next Inv-loop μ-loop
-enum-known-next c = search needs
-
-loop-less : tie.Need-loop-less Inv-loop μ-loop
-loop-less c = search (falls, needs)
-
-loop-again : tie.Need-loop-again Inv-loop μ-loop
-loop-again c = (search (stands, needs), search (goes-on, needs))
-
-enum-known-answer : tie.Need-enum-known-answer Inv-loop μ-loop
-enum-known-answer c = search needs
-
-returns : tie.Need-returns Inv-loop μ-loop
-returns c = search (done-right, needs)
-
 pub walk-from-spec : {M : Type 1} → statement M
 walk-from-spec =
     tie.close
     (tie.spec
-    Inv-loop
-    μ-loop
-    loop-holds
-    lookup-requires
-    enum-known-next
-    loop-less
-    loop-again
-    enum-known-answer
-    returns)
+    Inv-loop μ-loop (λ loop-holds. search needs) (λ lookup-requires κs. search needs) (λ enum-known-next. search needs)
+    (λ loop-less. search (falls, needs))
+    (λ loop-again. (search (stands, needs), search (goes-on, needs)))
+    (λ enum-known-answer. search needs)
+    (λ returns. search (done-right, needs)))

@@ -6,15 +6,6 @@ use Rattle.walk.proofs.tag.drop_tag.Tie as tie
 enum-told : tie.Need-enum-told
 enum-told c = search needs
 
-sign-extend56-requires : tie.Need-sign-extend56-requires
-sign-extend56-requires c κs = search needs
-
-enum-told-2 : tie.Need-enum-told-2
-enum-told-2 c = search needs
-
-enum-told-3 : tie.Need-enum-told-3
-enum-told-3 c = search needs
-
 returns : tie.Need-returns
 returns c = rw (c .before .enum-told .given .1) (c .sign-extend56 .ensures)
 
@@ -27,4 +18,6 @@ returns-3 c = rw (c .enum-told3 .given .1)
 pub drop-tag-spec : {M : Type 1} → statement M
 drop-tag-spec =
     tie.close
-    (tie.spec enum-told sign-extend56-requires enum-told-2 enum-told-3 returns returns-2 returns-3)
+    (tie.spec
+    enum-told (λ sign-extend56-requires κs. search needs) (λ enum-told-2. search needs) (λ enum-told-3. search needs)
+    returns returns-2 returns-3)

@@ -7,18 +7,6 @@ use Rattle.walk.proofs.Leaves.{tbi-shift}
 enum-told : tie.Need-enum-told
 enum-told c = search needs
 
-add-result : tie.Need-add-result
-add-result c = search needs
-
-shr-result : tie.Need-shr-result
-shr-result c = search needs
-
-enum-told-2 : tie.Need-enum-told-2
-enum-told-2 c = search needs
-
-enum-told-3 : tie.Need-enum-told-3
-enum-told-3 c = search needs
-
 returns : tie.Need-returns
 returns c = rw (c .enum-told .given .1) (tbi-shift (c .before .before .args .tcr) (c .before .before .args .va))
 
@@ -31,4 +19,6 @@ returns-3 c = rw (c .enum-told3 .given .1)
 pub ignores-tag-spec : {M : Type 1} → statement M
 ignores-tag-spec =
     tie.close
-    (tie.spec enum-told add-result shr-result enum-told-2 enum-told-3 returns returns-2 returns-3)
+    (tie.spec
+    enum-told (λ add-result. search needs) (λ shr-result. search needs) (λ enum-told-2. search needs)
+    (λ enum-told-3. search needs) returns returns-2 returns-3)

@@ -31,12 +31,6 @@ read-back b r z f e q =
     record { sfits = lt-of-le-of-lt (mag-shr (toZ w64 b) (2 ^ 8)) (sfits-toZ f .sfits) } in
     q ∙ rw (e, ofZ-toZ f) (ofZ-toZ (fits-ofZ f′))
 
-as-i64-requires : tie.Need-as-i64-requires
-as-i64-requires c κs = search needs
-
-as-u64-requires : tie.Need-as-u64-requires
-as-u64-requires c κs = search needs
-
 returns : tie.Need-returns
 returns c =
     let x = c .before .before .args .va in
@@ -45,4 +39,5 @@ returns c =
     ∙ by-sign x b (ltb b (2 ^ 63)) (c .before .before .fits .va .fits) refl refl
 
 pub sign-extend56-spec : {M : Type 1} → statement M
-sign-extend56-spec = tie.close (tie.spec as-i64-requires as-u64-requires returns)
+sign-extend56-spec =
+    tie.close (tie.spec (λ as-i64-requires κs. search needs) (λ as-u64-requires κs. search needs) returns)

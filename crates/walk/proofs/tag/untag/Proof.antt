@@ -4,17 +4,10 @@ use Rattle.walk.proofs.tag.untag.Statement.{statement}
 use Rattle.walk.proofs.tag.untag.Tie as tie
 use Rattle.walk.proofs.Leaves.{tag-dropped, tag-kept}
 
-ignores-tag-requires : tie.Need-ignores-tag-requires
-ignores-tag-requires c κs = search needs
-
-drop-tag-requires : tie.Need-drop-tag-requires
-drop-tag-requires c κs = search needs
-
-returns : tie.Need-returns
-returns c = search (tag-dropped, needs)
-
-returns-2 : tie.Need-returns-2
-returns-2 c = search (tag-kept, needs)
-
 pub untag-spec : {M : Type 1} → statement M
-untag-spec = tie.close (tie.spec ignores-tag-requires drop-tag-requires returns returns-2)
+untag-spec =
+    tie.close
+    (tie.spec
+    (λ ignores-tag-requires κs. search needs) (λ drop-tag-requires κs. search needs)
+    (λ returns. search (tag-dropped, needs))
+    (λ returns-2. search (tag-kept, needs)))

@@ -10,57 +10,11 @@ Inv-loop s regime va base ram answer n₀ n = n ≤ 4
 abbrev μ-loop : tie.MeasureT-loop
 μ-loop s regime va base ram answer n₀ n = 4 - n
 
-loop-holds : tie.Need-loop-holds Inv-loop μ-loop
-loop-holds c = search needs
-
-visit-nth-requires : tie.Need-visit-nth-requires Inv-loop μ-loop
-visit-nth-requires c κs = search needs
-
-enum-known-v : tie.Need-enum-known-v Inv-loop μ-loop
-enum-known-v c = search needs
-
-show-level-requires : tie.Need-show-level-requires Inv-loop μ-loop
-show-level-requires c κs = search needs
-
-enum-told : tie.Need-enum-told Inv-loop μ-loop
-enum-told c = search needs
-
-show-refused-requires : tie.Need-show-refused-requires Inv-loop μ-loop
-show-refused-requires c κs = search needs
-
-returns : tie.Need-returns Inv-loop μ-loop
-returns c = search needs
-
-returns-2 : tie.Need-returns-2 Inv-loop μ-loop
-returns-2 c = search needs
-
-add-n : tie.Need-add-n Inv-loop μ-loop
-add-n c = search needs
-
-loop-less : tie.Need-loop-less Inv-loop μ-loop
-loop-less c = search needs
-
-loop-again : tie.Need-loop-again Inv-loop μ-loop
-loop-again c = search needs
-
-returns-3 : tie.Need-returns-3 Inv-loop μ-loop
-returns-3 c = search needs
-
 pub show-levels-spec : {M : Type 1} → statement M
 show-levels-spec =
     tie.close
     (tie.spec
-    Inv-loop
-    μ-loop
-    loop-holds
-    visit-nth-requires
-    enum-known-v
-    show-level-requires
-    enum-told
-    show-refused-requires
-    returns
-    returns-2
-    add-n
-    loop-less
-    loop-again
-    returns-3)
+    Inv-loop μ-loop (λ loop-holds. search needs) (λ visit-nth-requires κs. search needs) (λ enum-known-v. search needs)
+    (λ show-level-requires κs. search needs) (λ enum-told. search needs) (λ show-refused-requires κs. search needs)
+    (λ returns. search needs) (λ returns-2. search needs) (λ add-n. search needs) (λ loop-less. search needs)
+    (λ loop-again. search needs) (λ returns-3. search needs))

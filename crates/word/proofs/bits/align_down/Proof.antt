@@ -6,14 +6,8 @@ use borrow.Author.Needs.{needs}
 use Rattle.word.proofs.bits.align_down.Statement.{statement}
 use Rattle.word.proofs.bits.align_down.Tie as tie
 
-shr-result : tie.Need-shr-result
-shr-result c = search needs
-
-shl-result : tie.Need-shl-result
-shl-result c = search needs
-
 returns : tie.Need-returns
 returns c = mod-eq-of-lt (lt-of-le-of-lt (align-le (c .args .x) (c .args .n % 64)) (c .fits .x .fits))
 
 pub align-down-spec : {M : Type 1} → statement M
-align-down-spec = tie.close (tie.spec shr-result shl-result returns)
+align-down-spec = tie.close (tie.spec (λ shr-result. search needs) (λ shl-result. search needs) returns)

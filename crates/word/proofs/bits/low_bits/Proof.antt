@@ -6,9 +6,6 @@ use borrow.Author.Needs.{needs}
 use Rattle.word.proofs.bits.low_bits.Statement.{statement}
 use Rattle.word.proofs.bits.low_bits.Tie as tie
 
-align-down-requires : tie.Need-align-down-requires
-align-down-requires c κs = search needs
-
 sub-result : tie.Need-sub-result
 sub-result c = omega (arith, align-le (c .before .args .x) (c .before .args .n % 64))
 
@@ -16,4 +13,4 @@ returns : tie.Need-returns
 returns c = omega (arith, align-low (c .before .args .x) (c .before .args .n % 64))
 
 pub low-bits-spec : {M : Type 1} → statement M
-low-bits-spec = tie.close (tie.spec align-down-requires sub-result returns)
+low-bits-spec = tie.close (tie.spec (λ align-down-requires κs. search needs) sub-result returns)

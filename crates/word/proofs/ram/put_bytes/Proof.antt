@@ -11,25 +11,14 @@ use Rattle.word.proofs.ram.put_bytes.Statement.{statement}
 use Rattle.word.proofs.ram.put_bytes.Tie as tie
 
 abbrev Inv-loop : tie.InvT-loop
-Inv-loop part₀ value v₀ i₀ part v i = (i ≤ length part₀) × (length part ≡ length part₀) × (take i part ++ bytesOf (length part₀ - i) v ≡ bytesOf (length part₀) value)
+Inv-loop part₀ value v₀ i₀ part v i = (i ≤ length part₀) × (length part ≡ length part₀)
+    × (take i part ++ bytesOf (length part₀ - i) v ≡ bytesOf (length part₀) value)
 
 abbrev μ-loop : tie.MeasureT-loop
 μ-loop part₀ value v₀ i₀ part v i = length part₀ - i
 
 loop-holds : tie.Need-loop-holds Inv-loop μ-loop
 loop-holds c = (omega arith, refl, ap (λ (m : ℕ). bytesOf m (c .args .value)) (sub-zero (length (c .args .part .now))))
-
-cast-part : tie.Need-cast-part Inv-loop μ-loop
-cast-part c = omega arith
-
-slice-write-part : tie.Need-slice-write-part Inv-loop μ-loop
-slice-write-part c = omega arith
-
-add-i : tie.Need-add-i Inv-loop μ-loop
-add-i c = omega arith
-
-loop-less : tie.Need-loop-less Inv-loop μ-loop
-loop-less c = omega arith
 
 loop-again : tie.Need-loop-again Inv-loop μ-loop
 loop-again c =
@@ -48,13 +37,9 @@ pub put-bytes-spec : {M : Type 1} → statement M
 put-bytes-spec =
     tie.close
     (tie.spec
-    Inv-loop
-    μ-loop
-    loop-holds
-    cast-part
-    slice-write-part
-    add-i
-    loop-less
-    loop-again
-    same-length
-    returns)
+    Inv-loop μ-loop loop-holds
+    (λ cast-part. omega arith)
+    (λ slice-write-part. omega arith)
+    (λ add-i. omega arith)
+    (λ loop-less. omega arith)
+    loop-again same-length returns)

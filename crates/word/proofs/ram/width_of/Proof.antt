@@ -3,20 +3,21 @@ use Rattle.word.proofs.ram.width_of.Statement.{statement}
 use Rattle.word.proofs.ram.width_of.Tie as tie
 use borrow.Author.Tests.{ne-eqb}
 
-returns : tie.Need-returns
-returns c = rw (c .match .keys1)
-
-returns-2 : tie.Need-returns-2
-returns-2 c = rw (c .match .keys2)
-
-returns-3 : tie.Need-returns-3
-returns-3 c = rw (c .match .keys3)
-
-returns-4 : tie.Need-returns-4
-returns-4 c = rw (c .match .keys4)
-
 returns-5 : tie.Need-returns-5
-returns-5 c = simp (ne-eqb _ 1 (c .match .rest .0 .0 .0 .1), ne-eqb _ 2 (c .match .rest .0 .0 .1), ne-eqb _ 4 (c .match .rest .0 .1), ne-eqb _ 8 (c .match .rest .1))
+returns-5 c = simp (
+  ne-eqb _ 1 (c .match .rest .0 .0 .0 .1),
+  ne-eqb _ 2 (c .match .rest .0 .0 .1),
+  ne-eqb _ 4 (c .match .rest .0 .1),
+  ne-eqb _ 8
+      (c .match .rest .1),
+)
 
 pub width-of-spec : {M : Type 1} → statement M
-width-of-spec = tie.close (tie.spec returns returns-2 returns-3 returns-4 returns-5)
+width-of-spec =
+    tie.close
+    (tie.spec
+    (λ c. rw (c .match .keys1))
+    (λ c. rw (c .match .keys2))
+    (λ c. rw (c .match .keys3))
+    (λ c. rw (c .match .keys4))
+    returns-5)

@@ -13,37 +13,13 @@ Inv-loop state₀ j₀ state j = (j ≤ 1024) × EntriesBy state₀ (λ x. blank
 abbrev μ-loop : tie.MeasureT-loop
 μ-loop state₀ j₀ state j = 1024 - j
 
-loop-holds : tie.Need-loop-holds Inv-loop μ-loop
-loop-holds c = (search needs, search (entries-start, needs))
-
-blank-requires : tie.Need-blank-requires Inv-loop μ-loop
-blank-requires c κs = search needs
-
-put-entry-requires : tie.Need-put-entry-requires Inv-loop μ-loop
-put-entry-requires c κs = search needs
-
-add-j : tie.Need-add-j Inv-loop μ-loop
-add-j c = omega arith
-
-loop-less : tie.Need-loop-less Inv-loop μ-loop
-loop-less c = omega arith
-
-loop-again : tie.Need-loop-again Inv-loop μ-loop
-loop-again c = (omega arith, search (blanks-again, needs))
-
-returns : tie.Need-returns Inv-loop μ-loop
-returns c = search (blanks-end, needs)
-
 pub no-entries-spec : {M : Type 1} → statement M
 no-entries-spec =
     tie.close
     (tie.spec
-    Inv-loop
-    μ-loop
-    loop-holds
-    blank-requires
-    put-entry-requires
-    add-j
-    loop-less
-    loop-again
-    returns)
+    Inv-loop μ-loop
+    (λ loop-holds. (search needs, search (entries-start, needs)))
+    (λ blank-requires κs. search needs) (λ put-entry-requires κs. search needs) (λ add-j. omega arith)
+    (λ loop-less. omega arith)
+    (λ loop-again. (omega arith, search (blanks-again, needs)))
+    (λ returns. search (blanks-end, needs)))

@@ -1,17 +1,12 @@
 -- `words::counts::put_asid` meets its contract.
-use Rattle.words.specs.Moves.{asid-put}
+use Rattle.words.specs.Writes.{asid-put}
 use borrow.Author.Needs.{needs}
 use Rattle.words.proofs.counts.put_asid.Statement.{statement}
 use Rattle.words.proofs.counts.put_asid.Tie as tie
 
-whole-requires : tie.Need-whole-requires
-whole-requires c κs = search needs
-
-element-write-state : tie.Need-element-write-state
-element-write-state c = search needs
-
-returns : tie.Need-returns
-returns c = search (asid-put, needs)
-
 pub put-asid-spec : {M : Type 1} → statement M
-put-asid-spec = tie.close (tie.spec whole-requires element-write-state returns)
+put-asid-spec =
+    tie.close
+    (tie.spec
+    (λ whole-requires κs. search needs) (λ element-write-state. search needs)
+    (λ returns. search (asid-put, needs)))

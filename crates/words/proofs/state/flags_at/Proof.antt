@@ -4,21 +4,6 @@ use borrow.Author.Needs.{needs}
 use Rattle.words.proofs.state.flags_at.Statement.{statement}
 use Rattle.words.proofs.state.flags_at.Tie as tie
 
-element-copy-out-t4 : tie.Need-element-copy-out-t4
-element-copy-out-t4 c = search needs
-
-cast-t6 : tie.Need-cast-t6
-cast-t6 c = search needs
-
-element-copy-out-t9 : tie.Need-element-copy-out-t9
-element-copy-out-t9 c = search needs
-
-cast-t11 : tie.Need-cast-t11
-cast-t11 c = search needs
-
-element-copy-out-t14 : tie.Need-element-copy-out-t14
-element-copy-out-t14 c = search needs
-
 returns : tie.Need-returns
 unfolding coreOf coreBy coreOn
 returns c = search needs
@@ -27,9 +12,5 @@ pub flags-at-spec : {M : Type 1} → statement M
 flags-at-spec =
     tie.close
     (tie.spec
-    element-copy-out-t4
-    cast-t6
-    element-copy-out-t9
-    cast-t11
-    element-copy-out-t14
-    returns)
+    (λ element-copy-out-t4. search needs) (λ cast-t6. search needs) (λ element-copy-out-t9. search needs)
+    (λ cast-t11. search needs) (λ element-copy-out-t14. search needs) returns)

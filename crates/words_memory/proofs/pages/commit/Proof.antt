@@ -4,17 +4,10 @@ use borrow.Author.Needs.{needs}
 use Rattle.words_memory.proofs.pages.commit.Statement.{statement}
 use Rattle.words_memory.proofs.pages.commit.Tie as tie
 
-put-effect-requires : tie.Need-put-effect-requires
-put-effect-requires c κs = search needs
-
-put-hint-requires : tie.Need-put-hint-requires
-put-hint-requires c κs = search needs
-
-put-fetch-requires : tie.Need-put-fetch-requires
-put-fetch-requires c κs = search needs
-
-returns : tie.Need-returns
-returns c = search (commits-all, needs)
-
 pub commit-spec : {M : Type 1} → statement M
-commit-spec = tie.close (tie.spec put-effect-requires put-hint-requires put-fetch-requires returns)
+commit-spec =
+    tie.close
+    (tie.spec
+    (λ put-effect-requires κs. search needs) (λ put-hint-requires κs. search needs)
+    (λ put-fetch-requires κs. search needs)
+    (λ returns. search (commits-all, needs)))

@@ -4,14 +4,10 @@ use borrow.Author.Needs.{needs}
 use Rattle.words_memory.proofs.pages.put_hint.Statement.{statement}
 use Rattle.words_memory.proofs.pages.put_hint.Tie as tie
 
-put-hint-requires : tie.Need-put-hint-requires
-put-hint-requires c κs = search needs
-
-returns : tie.Need-returns
-returns c = search (hint-stored, needs)
-
-returns-2 : tie.Need-returns-2
-returns-2 c = search (hint-left, needs)
-
 pub put-hint-spec : {M : Type 1} → statement M
-put-hint-spec = tie.close (tie.spec put-hint-requires returns returns-2)
+put-hint-spec =
+    tie.close
+    (tie.spec
+    (λ put-hint-requires κs. search needs)
+    (λ returns. search (hint-stored, needs))
+    (λ returns-2. search (hint-left, needs)))

@@ -4,35 +4,11 @@ use borrow.Author.Needs.{needs}
 use Rattle.words_memory.proofs.pages.take_page.Statement.{statement}
 use Rattle.words_memory.proofs.pages.take_page.Tie as tie
 
-privilege-at-requires : tie.Need-privilege-at-requires
-privilege-at-requires c κs = search needs
-
-control-at-requires : tie.Need-control-at-requires
-control-at-requires c κs = search needs
-
-lookup-of-requires : tie.Need-lookup-of-requires
-lookup-of-requires c κs = search needs
-
-current-at-requires : tie.Need-current-at-requires
-current-at-requires c κs = search needs
-
-hint-at-requires : tie.Need-hint-at-requires
-hint-at-requires c κs = search needs
-
-entry-at-requires : tie.Need-entry-at-requires
-entry-at-requires c κs = search needs
-
-returns : tie.Need-returns
-returns c = search (page-is, needs)
-
 pub take-page-spec : {M : Type 1} → statement M
 take-page-spec =
     tie.close
     (tie.spec
-    privilege-at-requires
-    control-at-requires
-    lookup-of-requires
-    current-at-requires
-    hint-at-requires
-    entry-at-requires
-    returns)
+    (λ privilege-at-requires κs. search needs) (λ control-at-requires κs. search needs)
+    (λ lookup-of-requires κs. search needs) (λ current-at-requires κs. search needs)
+    (λ hint-at-requires κs. search needs) (λ entry-at-requires κs. search needs)
+    (λ returns. search (page-is, needs)))

@@ -4,19 +4,9 @@ use borrow.Author.Needs.{needs}
 use Rattle.words_memory.proofs.translate.commit.Statement.{statement}
 use Rattle.words_memory.proofs.translate.commit.Tie as tie
 
-put-changes-requires : tie.Need-put-changes-requires
-put-changes-requires c κs = search needs
-
-put-answer-requires : tie.Need-put-answer-requires
-put-answer-requires c κs = search needs
-
-returns : tie.Need-returns
-returns c = (search needs, (search needs, (search needs, search (commits, needs))))
-
 pub commit-spec : {M : Type 1} → statement M
 commit-spec =
     tie.close
     (tie.spec
-    put-changes-requires
-    put-answer-requires
-    returns)
+    (λ put-changes-requires κs. search needs) (λ put-answer-requires κs. search needs)
+    (λ returns. (search needs, (search needs, (search needs, search (commits, needs))))))

@@ -5,27 +5,6 @@ use borrow.Author.Needs.{needs}
 use Rattle.words_memory.proofs.translate.fetch_address.Statement.{statement}
 use Rattle.words_memory.proofs.translate.fetch_address.Tie as tie
 
-fetch-by-hint-requires : tie.Need-fetch-by-hint-requires
-fetch-by-hint-requires c κs = search needs
-
-enum-known-at : tie.Need-enum-known-at
-enum-known-at c = search needs
-
-enum-told : tie.Need-enum-told
-enum-told c = search needs
-
-sub-fetch-find : tie.Need-sub-fetch-find
-sub-fetch-find c = search needs
-
-part-fetch-find-start : tie.Need-part-fetch-find-start
-part-fetch-find-start c = search needs
-
-part-fetch-find-end : tie.Need-part-fetch-find-end
-part-fetch-find-end c = search needs
-
-fetch-find-requires : tie.Need-fetch-find-requires
-fetch-find-requires c κs = search needs
-
 returns : tie.Need-returns
 returns c = (search needs, (search (fetch-hint-code, needs), (search (fetch-hint-value, needs), search (fetch-hint-core, needs))))
 
@@ -42,12 +21,6 @@ pub fetch-address-spec : {M : Type 1} → statement M
 fetch-address-spec =
     tie.close
     (tie.spec
-    fetch-by-hint-requires
-    enum-known-at
-    enum-told
-    sub-fetch-find
-    part-fetch-find-start
-    part-fetch-find-end
-    fetch-find-requires
-    returns
-    returns-2)
+    (λ fetch-by-hint-requires κs. search needs) (λ enum-known-at. search needs) (λ enum-told. search needs)
+    (λ sub-fetch-find. search needs) (λ part-fetch-find-start. search needs) (λ part-fetch-find-end. search needs)
+    (λ fetch-find-requires κs. search needs) returns returns-2)

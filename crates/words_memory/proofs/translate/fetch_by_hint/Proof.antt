@@ -4,18 +4,10 @@ use borrow.Author.Needs.{needs}
 use Rattle.words_memory.proofs.translate.fetch_by_hint.Statement.{statement}
 use Rattle.words_memory.proofs.translate.fetch_by_hint.Tie as tie
 
-privilege-at-requires : tie.Need-privilege-at-requires
-privilege-at-requires c κs = search needs
-
-fetch-at-requires : tie.Need-fetch-at-requires
-fetch-at-requires c κs = search needs
-
-fetch-found-requires : tie.Need-fetch-found-requires
-fetch-found-requires c κs = search needs
-
-returns : tie.Need-returns
-returns c = search (fetch-hint, needs)
-
 pub fetch-by-hint-spec : {M : Type 1} → statement M
 fetch-by-hint-spec =
-    tie.close (tie.spec privilege-at-requires fetch-at-requires fetch-found-requires returns)
+    tie.close
+    (tie.spec
+    (λ privilege-at-requires κs. search needs) (λ fetch-at-requires κs. search needs)
+    (λ fetch-found-requires κs. search needs)
+    (λ returns. search (fetch-hint, needs)))

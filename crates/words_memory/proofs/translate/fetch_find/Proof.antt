@@ -4,31 +4,11 @@ use borrow.Author.Needs.{needs}
 use Rattle.words_memory.proofs.translate.fetch_find.Statement.{statement}
 use Rattle.words_memory.proofs.translate.fetch_find.Tie as tie
 
-find-fetch-requires : tie.Need-find-fetch-requires
-find-fetch-requires c κs = search needs
-
-privilege-at-requires : tie.Need-privilege-at-requires
-privilege-at-requires c κs = search needs
-
-fetch-for-requires : tie.Need-fetch-for-requires
-fetch-for-requires c κs = search needs
-
-put-fetch-requires : tie.Need-put-fetch-requires
-put-fetch-requires c κs = search needs
-
-returns : tie.Need-returns
-returns c = (search needs, (search needs, (search needs, search (page-core, needs))))
-
-returns-2 : tie.Need-returns-2
-returns-2 c = (search needs, (search needs, (search needs, search (page-fault, needs))))
-
 pub fetch-find-spec : {M : Type 1} → statement M
 fetch-find-spec =
     tie.close
     (tie.spec
-    find-fetch-requires
-    privilege-at-requires
-    fetch-for-requires
-    put-fetch-requires
-    returns
-    returns-2)
+    (λ find-fetch-requires κs. search needs) (λ privilege-at-requires κs. search needs)
+    (λ fetch-for-requires κs. search needs) (λ put-fetch-requires κs. search needs)
+    (λ returns. (search needs, (search needs, (search needs, search (page-core, needs)))))
+    (λ returns-2. (search needs, (search needs, (search needs, search (page-fault, needs))))))

@@ -5,21 +5,6 @@ use borrow.Author.Needs.{needs}
 use Rattle.words_memory.proofs.translate.put_answer.Statement.{statement}
 use Rattle.words_memory.proofs.translate.put_answer.Tie as tie
 
-enum-known-answer : tie.Need-enum-known-answer
-enum-known-answer c = search needs
-
-keep-hint-requires : tie.Need-keep-hint-requires
-keep-hint-requires c κs = search needs
-
-enum-known-answer-2 : tie.Need-enum-known-answer-2
-enum-known-answer-2 c = search needs
-
-cast-result : tie.Need-cast-result
-cast-result c = search needs
-
-add-result : tie.Need-add-result
-add-result c = search needs
-
 returns : tie.Need-returns
 returns c = (search needs, (search (address-code, needs), (search (address-value, needs), search (address-core, needs))))
 
@@ -30,10 +15,5 @@ pub put-answer-spec : {M : Type 1} → statement M
 put-answer-spec =
     tie.close
     (tie.spec
-    enum-known-answer
-    keep-hint-requires
-    enum-known-answer-2
-    cast-result
-    add-result
-    returns
-    returns-2)
+    (λ enum-known-answer. search needs) (λ keep-hint-requires κs. search needs) (λ enum-known-answer-2. search needs)
+    (λ cast-result. search needs) (λ add-result. search needs) returns returns-2)

@@ -4,35 +4,12 @@ use borrow.Author.Needs.{needs}
 use Rattle.words_sys.proofs.register.reshape.Statement.{statement}
 use Rattle.words_sys.proofs.register.reshape.Tie as tie
 
-shapes-requires : tie.Need-shapes-requires
-shapes-requires c κs = search needs
-
-control-reg-requires : tie.Need-control-reg-requires
-control-reg-requires c κs = search needs
-
-put-control-requires : tie.Need-put-control-requires
-put-control-requires c κs = search needs
-
-flush-requires : tie.Need-flush-requires
-flush-requires c κs = search needs
-
-returns : tie.Need-returns
-returns c = search (reshape-flush, needs)
-
-returns-2 : tie.Need-returns-2
-returns-2 c = search (reshape-value, needs)
-
-returns-3 : tie.Need-returns-3
-returns-3 c = search (reshape-outside, needs)
-
 pub reshape-spec : {M : Type 1} → statement M
 reshape-spec =
     tie.close
     (tie.spec
-    shapes-requires
-    control-reg-requires
-    put-control-requires
-    flush-requires
-    returns
-    returns-2
-    returns-3)
+    (λ shapes-requires κs. search needs) (λ control-reg-requires κs. search needs)
+    (λ put-control-requires κs. search needs) (λ flush-requires κs. search needs)
+    (λ returns. search (reshape-flush, needs))
+    (λ returns-2. search (reshape-value, needs))
+    (λ returns-3. search (reshape-outside, needs)))

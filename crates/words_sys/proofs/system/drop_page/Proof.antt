@@ -4,27 +4,10 @@ use borrow.Author.Needs.{needs}
 use Rattle.words_sys.proofs.system.drop_page.Statement.{statement}
 use Rattle.words_sys.proofs.system.drop_page.Tie as tie
 
-current-at-requires : tie.Need-current-at-requires
-current-at-requires c κs = search needs
-
-drop-pages-requires : tie.Need-drop-pages-requires
-drop-pages-requires c κs = search needs
-
-no-hints-requires : tie.Need-no-hints-requires
-no-hints-requires c κs = search needs
-
-count-drop-requires : tie.Need-count-drop-requires
-count-drop-requires c κs = search needs
-
-returns : tie.Need-returns
-returns c = search (page-is, needs)
-
 pub drop-page-spec : {M : Type 1} → statement M
 drop-page-spec =
     tie.close
     (tie.spec
-    current-at-requires
-    drop-pages-requires
-    no-hints-requires
-    count-drop-requires
-    returns)
+    (λ current-at-requires κs. search needs) (λ drop-pages-requires κs. search needs)
+    (λ no-hints-requires κs. search needs) (λ count-drop-requires κs. search needs)
+    (λ returns. search (page-is, needs)))

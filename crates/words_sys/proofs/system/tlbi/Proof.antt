@@ -4,35 +4,12 @@ use borrow.Author.Needs.{needs}
 use Rattle.words_sys.proofs.system.tlbi.Statement.{statement}
 use Rattle.words_sys.proofs.system.tlbi.Tie as tie
 
-control-at-requires : tie.Need-control-at-requires
-control-at-requires c κs = search needs
-
-tlbi-requires : tie.Need-tlbi-requires
-tlbi-requires c κs = search needs
-
-broadcasts-requires : tie.Need-broadcasts-requires
-broadcasts-requires c κs = search needs
-
-invalidate-requires : tie.Need-invalidate-requires
-invalidate-requires c κs = search needs
-
-broadcast-requires : tie.Need-broadcast-requires
-broadcast-requires c κs = search needs
-
-returns : tie.Need-returns
-returns c = search (tlbi-sent, needs)
-
-returns-2 : tie.Need-returns-2
-returns-2 c = search (tlbi-here, needs)
-
 pub tlbi-spec : {M : Type 1} → statement M
 tlbi-spec =
     tie.close
     (tie.spec
-    control-at-requires
-    tlbi-requires
-    broadcasts-requires
-    invalidate-requires
-    broadcast-requires
-    returns
-    returns-2)
+    (λ control-at-requires κs. search needs) (λ tlbi-requires κs. search needs)
+    (λ broadcasts-requires κs. search needs) (λ invalidate-requires κs. search needs)
+    (λ broadcast-requires κs. search needs)
+    (λ returns. search (tlbi-sent, needs))
+    (λ returns-2. search (tlbi-here, needs)))

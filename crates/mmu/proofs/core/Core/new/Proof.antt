@@ -2,27 +2,13 @@
 use borrow.Author.Needs.{needs}
 use Rattle.mmu.proofs.core.Core.new.Statement.{statement}
 use Rattle.mmu.proofs.core.Core.new.Tie as tie
-use Rattle.mmu.proofs.Shells.{fresh-is}
-
-new-requires : tie.Need-new-requires
-new-requires c κs = search needs
-
-zeros-requires : tie.Need-zeros-requires
-zeros-requires c κs = search needs
-
-new-requires-2 : tie.Need-new-requires-2
-new-requires-2 c κs = search needs
-
-new-requires-3 : tie.Need-new-requires-3
-new-requires-3 c κs = search needs
-
-new-requires-4 : tie.Need-new-requires-4
-new-requires-4 c κs = search needs
-
-returns : tie.Need-returns
-returns c = search (fresh-is, needs)
+use Rattle.mmu.specs.Core.{freshCore}
 
 pub new-spec : {M : Type 1} → statement M
+unfolding freshCore
 new-spec =
     tie.close
-    (tie.spec new-requires zeros-requires new-requires-2 new-requires-3 new-requires-4 returns)
+    (tie.spec
+    (λ new-requires κs. search needs) (λ zeros-requires κs. search needs) (λ new-requires-2 κs. search needs)
+    (λ new-requires-3 κs. search needs) (λ new-requires-4 κs. search needs)
+    (λ returns. cc))
