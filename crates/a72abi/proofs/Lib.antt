@@ -4,6 +4,7 @@ pub mod Passing
 pub mod Addressing
 pub mod Bytewise
 pub mod OnePage
+pub mod Sizes
 pub mod Apart
 pub mod Splitting
 pub mod Stepping

@@ -46,7 +46,7 @@ use Rattle.a72abi.specs.Splits.{apartOf, pagesAt, valueFrom, loadBoth, m
 use Rattle.a72abi.specs.declared.split.Split.{Split}
 use Rattle.a72abi.specs.declared.split.Split.the-variants as Split
 use Rattle.a72abi.proofs.Bytewise.{size-is, false-true, kept-last, kept-abort, load-runs, store-runs}
-use Rattle.a72abi.proofs.OnePage.{same-gives, same-ram}
+use Rattle.a72abi.proofs.Sizes.{same-gives, same-ram}
 use Rattle.a72abi.specs.Kept.{kept-done}
 use Rattle.a72abi.specs.Promise.{Gives}
 use Rattle.call_words.specs.declared.op.DecodedCall.the-variants.{Known}

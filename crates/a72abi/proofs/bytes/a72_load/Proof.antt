@@ -1,6 +1,6 @@
 -- `a72abi::bytes::a72_load` meets its contract.
 use Rattle.a72abi.proofs.Passing.{level-high, clear-here, load-high, load-gives}
-use Rattle.a72abi.proofs.OnePage.{quick-load, near-page, hint-none}
+use Rattle.a72abi.proofs.Sizes.{quick-load, near-page, hint-none}
 use Rattle.a72abi.specs.PromiseLaws.{promise-quiet}
 use mathlib.Core.Path.{refl}
 use borrow.Author.Needs.{needs}

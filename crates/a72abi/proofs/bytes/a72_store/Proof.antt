@@ -1,6 +1,6 @@
 -- `a72abi::bytes::a72_store` meets its contract.
 use Rattle.a72abi.proofs.Passing.{level-high, clear-here, store-high, store-high-ram, store-gives, store-clear-ram}
-use Rattle.a72abi.proofs.OnePage.{quick-store, quick-store-ram, near-page, hint-none, unmade-gives, unmade-after}
+use Rattle.a72abi.proofs.Sizes.{quick-store, quick-store-ram, near-page, hint-none, unmade-gives, unmade-after}
 use Rattle.a72abi.specs.PromiseLaws.{promise}
 use borrow.Author.Needs.{needs}
 use Rattle.a72abi.proofs.bytes.a72_store.Statement.{statement}

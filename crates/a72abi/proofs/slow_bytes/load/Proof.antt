@@ -1,6 +1,7 @@
 -- `a72abi::slow_bytes::load` meets its contract.
 use Rattle.a72abi.proofs.Passing.{refused-gives, passed-gives}
-use Rattle.a72abi.proofs.OnePage.{sized-load, sized-none, near-width, near-page, hint-none, hint-load}
+use Rattle.a72abi.proofs.OnePage.{hint-load}
+use Rattle.a72abi.proofs.Sizes.{sized-load, sized-none, near-width, near-page, hint-none}
 use Rattle.operations.specs.Check.{missedOf}
 use borrow.Author.Needs.{needs}
 use Rattle.a72abi.proofs.slow_bytes.load.Statement.{statement}

@@ -1,5 +1,5 @@
 -- `a72abi::slow_bytes::load_page` meets its contract.
-use Rattle.a72abi.proofs.OnePage.{size-load, none-load}
+use Rattle.a72abi.proofs.Sizes.{size-load, none-load}
 use Rattle.a72abi.proofs.Bytewise.{high-size, low-size}
 use borrow.Author.Needs.{needs}
 use Rattle.a72abi.proofs.slow_bytes.load_page.Statement.{statement}

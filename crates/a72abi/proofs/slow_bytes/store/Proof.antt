@@ -1,7 +1,8 @@
 -- `a72abi::slow_bytes::store` meets its contract.
 use Rattle.a72abi.proofs.Passing.{refused-gives, passed-gives}
 use Rattle.a72abi.proofs.Checking.{refused-ram, passed-ram-is}
-use Rattle.a72abi.proofs.OnePage.{sized-store, sized-store-ram, sized-none-store, sized-none-ram, near-width, near-page, hint-none, hint-store}
+use Rattle.a72abi.proofs.OnePage.{hint-store}
+use Rattle.a72abi.proofs.Sizes.{sized-store, sized-store-ram, sized-none-store, sized-none-ram, near-width, near-page, hint-none}
 use Rattle.a72abi.proofs.OnePage.{hint-store-ram}
 use Rattle.operations.specs.Check.{missedOf}
 use borrow.Author.Needs.{needs}

@@ -1,5 +1,5 @@
 -- `a72abi::slow_bytes::store_page` meets its contract.
-use Rattle.a72abi.proofs.OnePage.{size-store, size-store-ram, none-store, none-ram}
+use Rattle.a72abi.proofs.Sizes.{size-store, size-store-ram, none-store, none-ram}
 use Rattle.a72abi.proofs.Bytewise.{high-size, low-size}
 use borrow.Author.Needs.{needs}
 use Rattle.a72abi.proofs.slow_bytes.store_page.Statement.{statement}
