@@ -16,6 +16,7 @@ use Rattle.operations.specs.declared.call.Reply.{Reply}
 use Rattle.operations.specs.Check.{kept, ramRows, sizedRows, firstOf, missedOf}
 use Rattle.operations.specs.Replies.{storing, registering}
 use Rattle.cpu.specs.Step.{runOf, ramOf, stepOf, ramAfter, ends}
+use Rattle.cpu.specs.Inspect.{census-core}
 use Rattle.operations.specs.declared.call.Call.the-variants as Call
 use Rattle.operations.specs.declared.call.Reply.the-variants.{Refused}
 use Rattle.cpu.specs.declared.run.Stepped.{Stepped}
@@ -106,6 +107,10 @@ module _ (ws : List ℕ) (base : ℕ) (ram : List ℕ) (call : Call) (n : ℕ) (
     pub written-reply : (a b : WriteAnswer) (r : Reply) → r ≡ registering a → a ≡ b → registering b ≡ runOf (coreOf ws) base ram call .reply
         → r ≡ stepOf (coreOf ws) base ram call .reply
     written-reply = by-answer registering
+
+-- a census leaves the words as they were
+pub census-holds : (ws : List ℕ) (base : ℕ) (ram : List ℕ) (first pages : ℕ) → NowHolds ws ws (stepOf (coreOf ws) base ram (Call.Census first pages) .core)
+census-holds ws base ram first pages = holds-as stays (sym (census-core (coreOf ws) base ram first pages))
 
 -- the level, then the number of a general register
 module _ (ws : List ℕ) (number value n : ℕ) (en : n ≡ firstOf ((ltb 3 (coreOf ws .privilege .level), 1) ∷ [])) where

@@ -259,6 +259,7 @@ bareCall (Call.Level level) = true
 bareCall (Call.Mark mark) = true
 bareCall (Call.General i x) = true
 bareCall (Call.Abort e) = true
+bareCall (Call.Census first pages) = false
 
 bare : (c : Core) (base : ℕ) (ram : List ℕ) (x : Call) → bareCall x ≡ true → stepOf c 0 [] x ≡ stepOf c base ram x
 unfolding stepOf runOf missedOf
@@ -274,6 +275,7 @@ bare c base ram (Call.Level level) e = refl
 bare c base ram (Call.Mark mark) e = refl
 bare c base ram (Call.General i x) e = refl
 bare c base ram (Call.Abort x) e = refl
+bare c base ram (Call.Census first pages) e = never e
 
 module _ (ws : List ℕ) (base : ℕ) (ram : List ℕ) (call x : Call) (e : call ≡ x) where
   pub call-steps : (w xs : List ℕ) → Steps x base ram ws w xs → Steps call base ram ws w xs

@@ -75,6 +75,7 @@ module _ (c : Core) (base : ℕ) (ram : List ℕ) where
   run-still (Call.Mark mark) t = refl
   run-still (Call.General n v) t = refl
   run-still (Call.Abort x) t = refl
+  run-still (Call.Census first pages) t = refl
 
   pub ram-still : (x : Call) → unmoved (stepOf c base ram x .reply) ≡ true → ramAfter c base ram x ≡ ram
   unfolding stepOf ramAfter

@@ -232,6 +232,10 @@ fn step(state: &mut State, base: u64, ram: &mut [u8], call: Call) -> [u64; 4]
             let r = abort(state, e);
             reply::words(r)
         }
+        Call::Census(first, pages) => {
+            let r = checked::census(state, base, ram, first, pages);
+            reply::words(r)
+        }
     }
 }
 

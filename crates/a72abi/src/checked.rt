@@ -1,4 +1,5 @@
-// System operations and settings on lent words: the number of the first check that a call misses, or its operation.
+// System operations, settings and the census on lent words: the number of the first check that a call misses, or its
+// operation.
 ghost use mathlib.Core.Path.{_≡_};
 ghost use mathlib.Core.Bool.{not, _||_};
 ghost use mathlib.Core.List.{[], _∷_};
@@ -106,6 +107,18 @@ pub fn general(state: &mut State, number: u64, value: u64) -> Reply
         return Reply::Refused(5);
     }
     state::put_general(state, number, value);
+    Reply::Done
+}
+
+// A census changes nothing: its counts are `a72_census`'s.
+pub fn census(state: &State, base: u64, ram: &[u8], first: u64, pages: u64) -> Reply
+    ensures { λ r. ⌜ Runs (Call.Census first pages) base (now (ram .entry)) (now (state .entry)) r
+        (now (state .entry)) ⌝ }
+{
+    let n = words_census::missed(state, base, ram.len() as u64, first, pages);
+    if n != 0 {
+        return Reply::Refused(n);
+    }
     Reply::Done
 }
 

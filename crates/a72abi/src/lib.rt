@@ -4,6 +4,7 @@
 pub mod bytes;
 pub mod calls;
 pub mod checked;
+pub mod inspect;
 pub mod memory;
 pub mod slow;
 pub mod slow_bytes;

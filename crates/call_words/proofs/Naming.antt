@@ -128,11 +128,25 @@ module _ (e : Exception) where
 module _ (op : List ℕ) where
   pub call-none : (getD op 0 0 ≡ 1 → ⊥) → (getD op 0 0 ≡ 2 → ⊥) → (getD op 0 0 ≡ 3 → ⊥) → (getD op 0 0 ≡ 4 → ⊥) → (getD op 0 0 ≡ 5 → ⊥)
       → (getD op 0 0 ≡ 6 → ⊥) → (getD op 0 0 ≡ 7 → ⊥) → (getD op 0 0 ≡ 8 → ⊥) → (getD op 0 0 ≡ 9 → ⊥) → (getD op 0 0 ≡ 10 → ⊥)
-      → (getD op 0 0 ≡ 11 → ⊥) → (getD op 0 0 ≡ 12 → ⊥) → DecodedCall.Unknown ≡ callOf op
+      → (getD op 0 0 ≡ 11 → ⊥) → (getD op 0 0 ≡ 12 → ⊥) → (getD op 0 0 ≡ 13 → ⊥) → DecodedCall.Unknown ≡ callOf op
   unfolding callOf
-  call-none h1 h2 h3 h4 h5 h6 h7 h8 h9 h10 h11 h12 =
+  call-none h1 h2 h3 h4 h5 h6 h7 h8 h9 h10 h11 h12 h13 =
       let none = ne-eqb (getD op 0 0) in
-      sym (rw (none 1 h1, none 2 h2, none 3 h3, none 4 h4, none 5 h5, none 6 h6, none 7 h7, none 8 h8, none 9 h9, none 10 h10, none 11 h11, none 12 h12))
+      sym (rw (
+        none 1 h1,
+        none 2 h2,
+        none 3 h3,
+        none 4 h4,
+        none 5 h5,
+        none 6 h6,
+        none 7 h7,
+        none 8 h8,
+        none 9 h9,
+        none 10 h10,
+        none 11 h11,
+        none 12 h12,
+        none 13 h13,
+      ))
 
 pub ruleset exceptions = (exception-1, exception-2, exception-3, exception-4, exception-none)
 

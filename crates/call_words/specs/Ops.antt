@@ -88,4 +88,5 @@ callOf op =
     (pick (eqb (getD op 0 0) 9) (DecodedCall.Known (Call.Level (getD op 1 0)))
     (pick (eqb (getD op 0 0) 10) (markCall (getD op 1 0))
     (pick (eqb (getD op 0 0) 11) (DecodedCall.Known (Call.General (getD op 1 0) (getD op 2 0)))
-    (pick (eqb (getD op 0 0) 12) (abortCall (exceptionOf (getD op 1 0) (getD op 2 0) (getD op 3 0) (getD op 4 0))) DecodedCall.Unknown)))))))))))
+    (pick (eqb (getD op 0 0) 12) (abortCall (exceptionOf (getD op 1 0) (getD op 2 0) (getD op 3 0) (getD op 4 0)))
+    (pick (eqb (getD op 0 0) 13) (DecodedCall.Known (Call.Census (getD op 1 0) (getD op 2 0))) DecodedCall.Unknown))))))))))))

@@ -190,6 +190,7 @@ pub fn call_of(op: &[u64; 8]) -> DecodedCall
         10 => mark_of(a),
         11 => DecodedCall::Known(Call::General(a, b)),
         12 => abort_of(a, b, c, d),
+        13 => DecodedCall::Known(Call::Census(a, b)),
         _ => DecodedCall::Unknown,
     }
 }

@@ -32,6 +32,7 @@ use Rattle.mmu.specs.Step.{translateIn as translationOf}
 use Rattle.mmu.specs.Ops.{steppedNow, translateOf}
 use Rattle.mmu.specs.declared.core.Core.{Core}
 use Rattle.sysop.specs.Op.{named, decodeOf}
+use Rattle.walk.specs.Fresh.{freshOf}
 use Rattle.sysop.specs.Par.{success, abort, leafPar, parIn, atPar}
 use Rattle.exec.specs.Ops.{abortOf}
 use Rattle.exec.specs.Sys.{withPar, atOf, sysOf}
@@ -121,7 +122,8 @@ pub cases :
     ∷ Value 0xBFFFFFFF
     ∷ [])
 unfolding row elsewhere par esr at called stepOf runOf missedOf translateOf steppedNow translationOf registerAt freshSys regOf afterAccess sysOf atOf withPar
-    abortOf takeSync takeException enteredSys spsrOf routedTo syndromeOf named decodeOf success abort leafPar parIn atPar judged blanks noHints placeOf byWalk
+    abortOf takeSync takeException enteredSys spsrOf routedTo syndromeOf named decodeOf success abort leafPar parIn freshOf atPar judged blanks
+    noHints placeOf byWalk
     resolveWith missWith applied translationWith fetchApplied fetchEnd fetchWith walkOf tableWalk walkRange walkFrom lookupNext levelNext leafResult
     leafTranslation leafPermissions tableNext descaddr rangeOf paramsOf paSize untagged wordAt littleEndian bytesOf
 cases = refl

@@ -47,7 +47,7 @@ use Rattle.operations.specs.Check.{Row, checksOf, firstOf, missedOf, isWidth, k
 use Rattle.operations.specs.Replies.{translation, loading, storing, fetching, reaching, registering}
 use Rattle.cpu.specs.Step.{ends, loadBy, storeBy, storeRamBy, refusedOr, missedBy, runOf, ramOf, stepOf, ramAfter}
 use Rattle.operations.specs.declared.call.Call.the-variants.{Translate, DataPa, FetchPa, Load as LoadCall, Store as StoreCall, Fetch, System}
-use Rattle.operations.specs.declared.call.Call.the-variants.{Register as RegisterCall, Level, Mark, General, Abort}
+use Rattle.operations.specs.declared.call.Call.the-variants.{Register as RegisterCall, Level, Mark, General, Abort, Census}
 use Rattle.operations.specs.declared.call.Reply.the-variants.{Refused, Done, Value, Faults, Fault, Stopped}
 
 -- a reply as document 01's number, or what it says: a value, a fault's address and status, done, Undefined, Unimplemented
@@ -65,10 +65,10 @@ outcomeOf (Stopped s) = says (stopSays s)
 
 -- A REFUSED CALL
 
--- the numbers of the rows are 1 to 6
+-- the numbers of the rows are 1 to 7
 abbrev numbered : List Row → Bool
 numbered [] = true
-numbered (row ∷ rows) = (leb 1 (row .1) && leb (row .1) 6) && numbered rows
+numbered (row ∷ rows) = (leb 1 (row .1) && leb (row .1) 7) && numbered rows
 
 checks-numbered : (level base len : ℕ) (call : Call) → numbered (checksOf level base len call) ≡ true
 checks-numbered level base len (Translate kind va) = refl
@@ -83,19 +83,20 @@ checks-numbered level base len (Level requested) = refl
 checks-numbered level base len (Mark mark) = refl
 checks-numbered level base len (General n v) = refl
 checks-numbered level base len (Abort e) = refl
+checks-numbered level base len (Census first pages) = refl
 
-first-le : (rows : List Row) → numbered rows ≡ true → firstOf rows ≤ 6
+first-le : (rows : List Row) → numbered rows ≡ true → firstOf rows ≤ 7
 first-le [] h = omega arith
 first-le (row ∷ rows) h =
-    let (here, later) = both (leb 1 (row .1) && leb (row .1) 6) (numbered rows) h in
-    go (row .0) (leb-true (row .1) 6 (both (leb 1 (row .1)) (leb (row .1) 6) here .1)) (first-le rows later)
+    let (here, later) = both (leb 1 (row .1) && leb (row .1) 7) (numbered rows) h in
+    go (row .0) (leb-true (row .1) 7 (both (leb 1 (row .1)) (leb (row .1) 7) here .1)) (first-le rows later)
   where
-    go : (b : Bool) → row .1 ≤ 6 → firstOf rows ≤ 6 → pick b (row .1) (firstOf rows) ≤ 6
+    go : (b : Bool) → row .1 ≤ 7 → firstOf rows ≤ 7 → pick b (row .1) (firstOf rows) ≤ 7
     go true here later = here
     go false here later = later
 
 -- and a call with one is the identity on core and RAM
-pub number-le : (c : Core) (base : ℕ) (ram : List ℕ) (call : Call) → missedBy c base ram call ≤ 6
+pub number-le : (c : Core) (base : ℕ) (ram : List ℕ) (call : Call) → missedBy c base ram call ≤ 7
 unfolding missedOf
 number-le c base ram call = first-le (checksOf (c .privilege .level) base (length ram) call) (checks-numbered (c .privilege .level) base (length ram) call)
 
@@ -118,8 +119,8 @@ Passed (row ∷ rows) = (row .0 ≡ false) × Passed rows
 none-first : (rows : List Row) → numbered rows ≡ true → firstOf rows ≡ 0 → Passed rows
 none-first [] h e = tt
 none-first (row ∷ rows) h e =
-    let (here, later) = both (leb 1 (row .1) && leb (row .1) 6) (numbered rows) h in
-    go (row .0) (leb-true 1 (row .1) (both (leb 1 (row .1)) (leb (row .1) 6) here .0)) e (none-first rows later)
+    let (here, later) = both (leb 1 (row .1) && leb (row .1) 7) (numbered rows) h in
+    go (row .0) (leb-true 1 (row .1) (both (leb 1 (row .1)) (leb (row .1) 7) here .0)) e (none-first rows later)
   where
     go : (b : Bool) → 1 ≤ row .1 → pick b (row .1) (firstOf rows) ≡ 0 → (firstOf rows ≡ 0 → Passed rows) → (b ≡ false) × Passed rows
     go true above z later = absurd (omega arith)
@@ -298,12 +299,13 @@ module _ (c : Core) (base : ℕ) (ram : List ℕ) where
   ran (Mark mark) e = only-done c _ ram
   ran (General n v) e = only-done c _ ram
   ran (Abort x) e = only-done c _ ram
+  ran (Census first pages) e = only-done c _ ram
 
 -- THE DEMAND
 
 -- each call ends as one of them, by the number of the first check that it misses; 0 where it misses none
 pub data Ended (c : Core) (ram : List ℕ) : ℕ → Core → List ℕ → Outcome → Type 0 where
-  is-refused : (n : ℕ) → suc n ≤ 6 → Ended c ram (suc n) c ram (number (suc n))
+  is-refused : (n : ℕ) → suc n ≤ 7 → Ended c ram (suc n) c ram (number (suc n))
   has-run : (d : Core) (after : List ℕ) (o : Outcome) → Ran c ram d after o → Ended c ram 0 d after o
 
 pub demand-1 : (c : Core) (base : ℕ) (ram : List ℕ) (call : Call)
@@ -311,14 +313,14 @@ pub demand-1 : (c : Core) (base : ℕ) (ram : List ℕ) (call : Call)
 unfolding stepOf ramAfter
 demand-1 c base ram call = go (missedBy c base ram call) (number-le c base ram call) (λ e. ran c base ram call e)
   where
-    go : (n : ℕ) → n ≤ 6
+    go : (n : ℕ) → n ≤ 7
         → (n ≡ 0 → Ran c ram (runOf c base ram call .core) (ramOf c base ram call) (outcomeOf (runOf c base ram call .reply)))
         → Ended c ram n (refusedOr n (λ k. ends c (Refused k)) (runOf c base ram call) .core) (refusedOr n (λ k. ram) (ramOf c base ram call))
         (outcomeOf (refusedOr n (λ k. ends c (Refused k)) (runOf c base ram call) .reply))
     go zero h r = has-run _ _ _ (r refl)
     go (suc n) h r = is-refused n h
 
--- stores and zeroing may write; translations, loads, fetches, AT, TLBI, register writes, settings and abort entry change no byte
+-- stores and zeroing may write; translations, loads, fetches, AT, TLBI, register writes, settings, abort entry and the census change no byte
 abbrev pub zeroes : SysOp → Bool
 zeroes SysOp.Zva = true
 zeroes (SysOp.At form) = false
@@ -340,6 +342,7 @@ writes c (Level level) = false
 writes c (Mark mark) = false
 writes c (General n v) = false
 writes c (Abort x) = false
+writes c (Census first pages) = false
 
 module _ (c : Core) (base : ℕ) (ram : List ℕ) where
   system-quiet : (o : SysOp) (x : ℕ) → zeroes o ≡ false → sysRamBy o c base ram x ≡ ram
@@ -364,6 +367,7 @@ module _ (c : Core) (base : ℕ) (ram : List ℕ) where
   run-quiet (Mark mark) h = refl
   run-quiet (General n v) h = refl
   run-quiet (Abort x) h = refl
+  run-quiet (Census first pages) h = refl
 
   pub quiet : (call : Call) → writes c call ≡ false → ramAfter c base ram call ≡ ram
   unfolding ramAfter

@@ -15,7 +15,7 @@ use Rattle.exec.specs.declared.ops.Registered.{Registered}
 use Rattle.operations.specs.Check.{missedOf}
 use Rattle.operations.specs.declared.{call.Call.Call, call.Reply.Reply}
 use Rattle.operations.specs.declared.call.Call.the-variants.{Translate, DataPa, FetchPa, Load as LoadCall, Store as StoreCall, Fetch, System, Register, Level}
-use Rattle.operations.specs.declared.call.Call.the-variants.{Mark, General, Abort}
+use Rattle.operations.specs.declared.call.Call.the-variants.{Mark, General, Abort, Census}
 use Rattle.operations.specs.declared.call.Reply.the-variants.{Refused, Done}
 use Rattle.cpu.specs.declared.run.Stepped.{Stepped}
 use Rattle.operations.specs.Replies.{translation, loading, storing, fetching, reaching, registering}
@@ -68,6 +68,7 @@ runOf c base ram (Level level) = ends (setLevel c (level % 4)) Done
 runOf c base ram (Mark mark) = ends (setMark c mark) Done
 runOf c base ram (General number value) = ends (setReg c number value) Done
 runOf c base ram (Abort e) = ends (abortOf c e) Done
+runOf c base ram (Census first pages) = ends c Done
 
 -- RAM after it: stores and zeroing write, nothing else does
 unfoldable pub ramOf : Core → ℕ → List ℕ → Call → List ℕ
@@ -83,6 +84,7 @@ ramOf c base ram (Level level) = ram
 ramOf c base ram (Mark mark) = ram
 ramOf c base ram (General number value) = ram
 ramOf c base ram (Abort e) = ram
+ramOf c base ram (Census first pages) = ram
 
 -- a number changes nothing
 abbrev pub refusedOr : {A : Type 0} → ℕ → (ℕ → A) → A → A

@@ -139,5 +139,6 @@ pub fn run(core: Core, base: u64, ram: &mut [u8], call: Call) -> Stepped
         Call::Mark(mark) => done(exec::ops::set_mark(core, mark)),
         Call::General(number, value) => done(core::set_reg(core, number, value)),
         Call::Abort(e) => done(exec::ops::abort(core, e)),
+        Call::Census(_, _) => done(core),
     }
 }

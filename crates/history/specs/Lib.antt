@@ -7,6 +7,7 @@ pub mod Calls
 pub mod ModelRun
 -- The real registers and walk.
 pub mod Instance
+pub mod Fresh
 -- What follows from it, and how to show the premise.
 pub mod Corollaries
 pub mod Origin

@@ -1,18 +1,18 @@
 -- Each check's end, on plain values.
 use mathlib.Core.Path.{_≡_, refl, sym, ap, _∙_}
-use mathlib.Core.Bool.{Bool, true, false, not}
-use Prim.Native.Nat.{ℕ, _+_, _-_, _^_, _≤_, _<_}
+use mathlib.Core.Bool.{Bool, true, false, not, _||_}
+use Prim.Native.Nat.{ℕ, _+_, _-_, _*_, _/_, _^_, _≤_, _<_}
 use native.Mathlib.Omega.{arith}
 use borrow.Author.Tests.{lt-ltb, le-ltb, ltb-true, ltb-false}
 use lib.Dec.{ltb}
-use Rattle.word.specs.Bits.{pick}
+use Rattle.word.specs.Bits.{alignDown, pick}
 use Rattle.word.specs.Ram.{widthOf}
 use Rattle.word.specs.declared.{ram.Width.Width, ram.Sized.Sized}
 use Rattle.word.specs.declared.ram.Sized.the-variants.{Bytes, Refused}
 use Rattle.sysreg.specs.Encoding.{registerAt}
 use Rattle.sysreg.specs.declared.{regs.Register.Register, encoding.Found.Found}
 use Rattle.sysreg.specs.declared.encoding.Found.the-variants.{At, Nothing}
-use Rattle.operations.specs.Check.{passes, known, kept, ramRows, firstOf, missedOf}
+use Rattle.operations.specs.Check.{passes, known, kept, overlong, ramRows, firstOf, missedOf}
 use Rattle.operations.specs.declared.call.Call.{Call}
 
 -- a window that ends at the last address or before it; another one passes 2^64 where its length is more than what is left
@@ -25,6 +25,18 @@ past-left base len h = go (ltb (2 ^ 64) (base + len)) refl
     go : (t : Bool) → ltb (2 ^ 64) (base + len) ≡ t → ltb ((2 ^ 64 - 1) - base + 1) len ≡ passes base len
     go true e = let k = ltb-true (2 ^ 64) (base + len) e in rw e (lt-ltb ((2 ^ 64 - 1) - base + 1) len (omega arith))
     go false e = let k = ltb-false (2 ^ 64) (base + len) e in rw e (le-ltb ((2 ^ 64 - 1) - base + 1) len (omega arith))
+
+-- more than 65,536 pages; else more pages than are left
+pub too-many : (first pages : ℕ) → 65536 < pages → true ≡ overlong first pages
+too-many first pages h = rw (lt-ltb 65536 pages h)
+
+pub pages-left : (first pages : ℕ) → first < 2 ^ 64 → pages ≤ 65536 → ltb (2 ^ 52 - first / 4096) pages ≡ overlong first pages
+pages-left first pages small h = rw (le-ltb 65536 pages h) (go (ltb (2 ^ 64) (alignDown first 12 + pages * 4096)) refl)
+  where
+    go : (t : Bool) → ltb (2 ^ 64) (alignDown first 12 + pages * 4096) ≡ t
+        → ltb (2 ^ 52 - first / 4096) pages ≡ ltb (2 ^ 64) (alignDown first 12 + pages * 4096)
+    go true e = let k = ltb-true (2 ^ 64) (alignDown first 12 + pages * 4096) e in rw e (lt-ltb (2 ^ 52 - first / 4096) pages (omega arith))
+    go false e = let k = ltb-false (2 ^ 64) (alignDown first 12 + pages * 4096) e in rw e (le-ltb (2 ^ 52 - first / 4096) pages (omega arith))
 
 -- the first check missed, of a window that ends at the last address or before it
 pub level-missed : (level base len : ℕ) → 3 < level → 1 ≡ firstOf (ramRows level base len)

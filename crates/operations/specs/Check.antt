@@ -1,9 +1,9 @@
--- Document 01's numbers 1 to 6.
+-- Document 01's numbers 1 to 6, and document 02's.
 use mathlib.Core.Bool.{Bool, true, false, not, _||_}
 use mathlib.Core.List.{List, [], _∷_}
-use Prim.Native.Nat.{ℕ, _+_, _^_}
+use Prim.Native.Nat.{ℕ, _+_, _*_, _^_}
 use lib.Dec.{ltb}
-use Rattle.word.specs.Bits.{pick}
+use Rattle.word.specs.Bits.{alignDown, pick}
 use Rattle.word.specs.Ram.{widthOf}
 use Rattle.word.specs.declared.ram.Sized.{Sized}
 use Rattle.word.specs.declared.ram.Sized.the-variants.{Bytes, Refused}
@@ -11,7 +11,7 @@ use Rattle.sysreg.specs.Encoding.{registerAt}
 use Rattle.sysreg.specs.Write.{names}
 use Rattle.operations.specs.declared.{call.Encoding.Encoding, call.Call.Call}
 use Rattle.operations.specs.declared.call.Call.the-variants.{Translate, DataPa, FetchPa, Load, Store, Fetch, System, Register, Level, Mark, General}
-use Rattle.operations.specs.declared.call.Call.the-variants.{Abort}
+use Rattle.operations.specs.declared.call.Call.the-variants.{Abort, Census}
 
 -- base plus length is above 2^64
 abbrev pub passes : ℕ → ℕ → Bool
@@ -33,6 +33,10 @@ unencoded e = (ltb 7 (e .op1) || ltb 7 (e .op2)) || (ltb 15 (e .crn) || ltb 15 (
 abbrev pub kept : ℕ → Bool
 kept key = names (registerAt key)
 
+-- "more than 65,536 pages or a range that passes 2^64"; a range that ends there does not pass it
+abbrev pub overlong : ℕ → ℕ → Bool
+overlong first pages = ltb 65536 pages || ltb (2 ^ 64) (alignDown first 12 + pages * 4096)
+
 -- a row of the table: its condition and its number
 abbrev pub Row : Type 0
 Row = Bool × ℕ
@@ -45,7 +49,7 @@ abbrev pub sizedRows : ℕ → ℕ → ℕ → ℕ → List Row
 sizedRows level base len size = (ltb 3 level, 1) ∷ (passes base len, 2) ∷ (not (known size), 3) ∷ []
 
 -- each call's rows of the table, from top to bottom, by the present level and the window;
--- translations, load, store, fetch and every system operation are handed RAM
+-- translations, load, store, fetch, every system operation and the census are handed RAM
 abbrev pub checksOf : ℕ → ℕ → ℕ → Call → List Row
 checksOf level base len (Translate kind va) = ramRows level base len
 checksOf level base len (DataPa va) = ramRows level base len
@@ -60,6 +64,7 @@ checksOf level base len (Level requested) = (ltb 3 level || ltb 3 requested, 1) 
 checksOf level base len (Mark mark) = (ltb 3 level, 1) ∷ []
 checksOf level base len (General number value) = (ltb 3 level, 1) ∷ (ltb 31 number, 5) ∷ []
 checksOf level base len (Abort e) = (ltb 3 level, 1) ∷ []
+checksOf level base len (Census first pages) = (ltb 3 level, 1) ∷ (passes base len, 2) ∷ (overlong first pages, 7) ∷ []
 
 -- the number of the first row whose condition holds, or 0
 abbrev pub firstOf : List Row → ℕ

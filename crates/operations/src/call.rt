@@ -30,6 +30,8 @@ pub enum Call {
     // number and value
     General(u64, u64),
     Abort(Exception),
+    // the first address and the number of pages; what is counted stands beside the reply
+    Census(u64, u64),
 }
 
 pub enum Reply {

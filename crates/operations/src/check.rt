@@ -1,9 +1,9 @@
-// Document 01's checks 1 to 6, each call's from top to bottom.
+// Document 01's checks 1 to 6 and document 02's, each call's from top to bottom.
 ghost use mathlib.Core.Path.{_≡_};
 ghost use mathlib.Core.Bool.{not, _||_};
 ghost use mathlib.Core.List.{[], _∷_};
 ghost use lib.Dec.{ltb};
-ghost use Rattle.operations.specs.Check.{passes, known, kept, ramRows, sizedRows, firstOf, missedOf};
+ghost use Rattle.operations.specs.Check.{passes, known, kept, overlong, ramRows, sizedRows, firstOf, missedOf};
 ghost use Rattle.operations.specs.declared.call.Call.the-variants as Call;
 use crate::call::Call;
 use crate::call::Encoding;
@@ -40,6 +40,17 @@ fn is_key(key: u32) -> bool
     match encoding::named(key) {
         Found::At(_) => true,
         Found::Nothing => false,
+    }
+}
+
+// Whether a census has more than 65,536 pages, or its range passes 2^64.
+fn is_overlong(first: u64, pages: u64) -> bool
+    ensures { λ r. ⌜ r ≡ overlong first pages ⌝ }
+{
+    if 65536 < pages {
+        true
+    } else {
+        0x10_0000_0000_0000 - first / 4096 < pages
     }
 }
 
@@ -120,6 +131,19 @@ pub fn general(level: u8, number: u64) -> u8
     if 31 < number { 5 } else { 0 }
 }
 
+// Census.
+pub fn census(level: u8, base: u64, len: u64, first: u64, pages: u64) -> u8
+    ensures { λ r. ⌜ r ≡ missedOf level base len (Call.Census first pages) ⌝ }
+{
+    if 3 < level {
+        return 1;
+    }
+    if past_end(base, len) {
+        return 2;
+    }
+    if is_overlong(first, pages) { 7 } else { 0 }
+}
+
 // Any call.
 pub fn missed(level: u8, base: u64, len: u64, call: Call) -> u8
     ensures { λ r. ⌜ r ≡ missedOf level base len call ⌝ }
@@ -137,5 +161,6 @@ pub fn missed(level: u8, base: u64, len: u64, call: Call) -> u8
         Call::Mark(_) => any(level),
         Call::General(number, _) => general(level, number),
         Call::Abort(_) => any(level),
+        Call::Census(first, pages) => census(level, base, len, first, pages),
     }
 }

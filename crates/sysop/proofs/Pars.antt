@@ -6,13 +6,13 @@ use native.Mathlib.Omega.{arith}
 use Rattle.word.specs.Bits.{field, flag}
 use Rattle.word.specs.declared.ram.Word.{Word}
 use Rattle.sysreg.specs.declared.regs.Control.{Control}
-use Rattle.walk.specs.Regime.{bankOf, stage1On}
-use Rattle.walk.specs.Tag.{untagged}
+use Rattle.walk.specs.Regime.{bankOf}
 use Rattle.walk.specs.Descriptor.{attrIndx, ns, sh}
-use Rattle.walk.specs.Walk.{walkOf}
-use Rattle.walk.specs.WalkBounds.{leaf-bounds}
-use Rattle.walk.specs.declared.{regime.Regime.Regime, regime.Bank.Bank, level.Leaf.Leaf, level.Walked.Walked}
+use Rattle.walk.specs.Fresh.{freshOf}
+use Rattle.walk.specs.FreshLaws.{fresh-leaf}
+use Rattle.walk.specs.declared.{regime.Bank.Bank, level.Leaf.Leaf, level.Walked.Walked, fresh.Fresh.Fresh}
 use Rattle.walk.specs.declared.level.Walked.the-variants.{Mapped, Fault}
+use Rattle.walk.specs.declared.fresh.Fresh.the-variants.{Flat, Ended}
 use Rattle.tlb.specs.Access.{rightOf, hasRight}
 use Rattle.tlb.specs.declared.access.Kind.{Kind}
 use Rattle.sysop.specs.declared.op.AtForm.{AtForm}
@@ -39,25 +39,25 @@ module _ (mair : ℕ) (nonsecure : Bool) (f : AtForm) (leaf : Leaf) (kind : Kind
   unfolding leafPar
   denied o h eo = rw (← ek, ← er, h) eo
 
--- a leaf's level
-pub low-leaf : (s : Bank) (r : Regime) (va : ℕ) (memory : ℕ → Word) (w : Walked) (leaf : Leaf) → w ≡ walkOf s r va memory
-    → w ≡ Mapped leaf → leaf .level ≤ 3
-low-leaf s r va memory w leaf e m = leaf-bounds s r va memory leaf (sym e ∙ m) .level-high
+-- by the fresh answer
+module _ (s : Bank) (mair : ℕ) (f : AtForm) (va : ℕ) (memory : ℕ → Word) (x : Fresh) (ex : x ≡ freshOf s (f .regime) va memory) where
+  -- a leaf's level
+  pub low-leaf : (w : Walked) (leaf : Leaf) → x ≡ Ended w → w ≡ Mapped leaf → leaf .level ≤ 3
+  low-leaf w leaf ew m = fresh-leaf s (f .regime) va memory x w leaf ex ew m .level-high
 
-module _ (s : Bank) (mair : ℕ) (f : AtForm) (va : ℕ) (memory : ℕ → Word) (nonsecure on : Bool) (en : nonsecure ≡ fromNonSecure s (f .regime))
-    (eo : on ≡ stage1On s (f .regime)) where
-  module _ (u : ℕ) (w : Walked) (h : on ≡ true) (eu : u ≡ untagged (s .tcr) (f .regime) va) (ew : w ≡ walkOf s (f .regime) u memory) where
-    pub mapped : (leaf : Leaf) (o : ℕ) → w ≡ Mapped leaf → o ≡ leafPar mair nonsecure f leaf → o ≡ parIn s mair f va memory
+  module _ (nonsecure : Bool) (en : nonsecure ≡ fromNonSecure s (f .regime)) where
+    pub mapped : (w : Walked) (leaf : Leaf) (o : ℕ) → x ≡ Ended w → w ≡ Mapped leaf → o ≡ leafPar mair nonsecure f leaf
+        → o ≡ parIn s mair f va memory
     unfolding parIn
-    mapped leaf o m e = rw (← eo, h, ← en, ← eu, ← ew, m) e
+    mapped w leaf o ew m e = rw (← ex, ew, m, ← en) e
 
-    pub unmapped : (status o : ℕ) → w ≡ Fault status → o ≡ abort status → o ≡ parIn s mair f va memory
+    pub unmapped : (w : Walked) (status o : ℕ) → x ≡ Ended w → w ≡ Fault status → o ≡ abort status → o ≡ parIn s mair f va memory
     unfolding parIn
-    unmapped status o m e = rw (← eo, h, ← en, ← eu, ← ew, m) e
+    unmapped w status o ew m e = rw (← ex, ew, m) e
 
-  pub flat : (o : ℕ) → on ≡ false → o ≡ success 0 va nonsecure 0 → o ≡ parIn s mair f va memory
-  unfolding parIn
-  flat o h e = rw (← eo, h, ← en) e
+    pub flat : (pa o : ℕ) → x ≡ Flat pa → o ≡ success 0 pa nonsecure 0 → o ≡ parIn s mair f va memory
+    unfolding parIn
+    flat pa o ew e = rw (← ex, ew, ← en) e
 
 pub by-bank : (c : Control) (mair : ℕ) (f : AtForm) (va : ℕ) (memory : ℕ → Word) (s : Bank) (o : ℕ) → s ≡ bankOf c (f .regime)
     → o ≡ parIn s mair f va memory → o ≡ atPar c mair f va memory

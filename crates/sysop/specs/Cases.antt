@@ -9,6 +9,7 @@ use Rattle.walk.specs.Tag.{untagged}
 use Rattle.walk.specs.Size.{paSize}
 use Rattle.walk.specs.Table.{rangeOf, paramsOf, tableNext, leafPermissions, leafTranslation, leafResult, levelNext, descaddr, lookupNext, walkFrom, walkRange}
 use Rattle.walk.specs.Table.{tableWalk}
+use Rattle.walk.specs.Fresh.{freshOf}
 use Rattle.walk.specs.Walk.{walkOf}
 use Rattle.sysop.specs.declared.op.SysOp.{SysOp}
 use Rattle.sysop.specs.declared.op.SysOp.the-variants.{At, Tlbi, Zva, Nothing, Undefined, Unimplemented}
@@ -39,6 +40,6 @@ parAfter Unimplemented = 0
 
 -- AT S1E1R and AT S1E0R
 pub cases : (parAfter (decodeOf 1 0 7 8 0) ∷ parAfter (decodeOf 1 0 7 8 2) ∷ []) ≡ (0x80001800 ∷ 0x81B ∷ [])
-unfolding parAfter registers decodeOf named atPar parIn leafPar success abort walkOf tableWalk walkRange walkFrom lookupNext levelNext leafResult
+unfolding parAfter registers decodeOf named atPar parIn freshOf leafPar success abort walkOf tableWalk walkRange walkFrom lookupNext levelNext leafResult
     leafTranslation leafPermissions tableNext descaddr rangeOf paramsOf paSize untagged wordAt littleEndian bytesOf
 cases = refl

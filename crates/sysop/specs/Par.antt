@@ -5,15 +5,15 @@ use Prim.Native.Nat.{ℕ, _+_, _*_, _^_}
 use Rattle.word.specs.Bits.{field, flag, pick}
 use Rattle.word.specs.declared.ram.Word.{Word}
 use Rattle.sysreg.specs.declared.regs.Control.{Control}
-use Rattle.walk.specs.Regime.{bankOf, nonSecure, singlePriv, wxnOf, stage1On}
-use Rattle.walk.specs.Tag.{untagged}
+use Rattle.walk.specs.Regime.{bankOf, nonSecure, singlePriv, wxnOf}
 use Rattle.walk.specs.Descriptor.{attrIndx, ns, sh}
 use Rattle.walk.specs.Table.{Translation, Result, mapped, faults, statusOf}
 use Rattle.walk.specs.Permission.{Access, reading, writing, allowed}
-use Rattle.walk.specs.Walk.{walkOf}
-use Rattle.walk.specs.declared.{regime.Regime.Regime, regime.Bank.Bank, level.Leaf.Leaf, level.Walked.Walked}
+use Rattle.walk.specs.Fresh.{freshOf}
+use Rattle.walk.specs.declared.{regime.Regime.Regime, regime.Bank.Bank, level.Leaf.Leaf, level.Walked.Walked, fresh.Fresh.Fresh}
 use Rattle.walk.specs.declared.regime.Regime.the-variants.{El1, El2, El3}
 use Rattle.walk.specs.declared.level.Walked.the-variants.{Mapped, Fault}
+use Rattle.walk.specs.declared.fresh.Fresh.the-variants.{Flat, Ended}
 use Rattle.tlb.specs.Access.{rightOf, hasRight}
 use Rattle.tlb.specs.declared.access.Kind.{Kind}
 use Rattle.tlb.specs.declared.access.Kind.the-variants.{Read, Write}
@@ -80,13 +80,14 @@ abbrev pub walkPar : ℕ → Bool → AtForm → Walked → ℕ
 walkPar mair nonsecure f (Mapped leaf) = leafPar mair nonsecure f leaf
 walkPar mair nonsecure f (Fault status) = abort status
 
--- With stage 1 off PA is the address. A3, A4: its size and its tag are not looked at. D1: SH is 0, and not 0b10. A5:
--- ATTR is 0 under HCR_EL2.DC too.
+-- With stage 1 off PA is the address. D1: SH is 0, and not 0b10. A5: ATTR is 0 under HCR_EL2.DC too.
+abbrev pub freshPar : ℕ → Bool → AtForm → Fresh → ℕ
+freshPar mair nonsecure f (Ended w) = walkPar mair nonsecure f w
+freshPar mair nonsecure f (Flat pa) = success 0 pa nonsecure 0
+
+-- by the fresh answer of the form's regime
 unfoldable pub parIn : Bank → ℕ → AtForm → ℕ → (ℕ → Word) → ℕ
-parIn s mair f va memory =
-    pick (stage1On s (f .regime))
-    (walkPar mair (fromNonSecure s (f .regime)) f (walkOf s (f .regime) (untagged (s .tcr) (f .regime) va) memory))
-    (success 0 va (fromNonSecure s (f .regime)) 0)
+parIn s mair f va memory = freshPar mair (fromNonSecure s (f .regime)) f (freshOf s (f .regime) va memory)
 
 -- the registers of the form's regime
 unfoldable pub atPar : Control → ℕ → AtForm → ℕ → (ℕ → Word) → ℕ

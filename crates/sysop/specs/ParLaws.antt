@@ -13,13 +13,15 @@ use Rattle.walk.specs.Table.{Translation, Result, mapped, faults, tableWalk}
 use Rattle.walk.specs.Permission.{permissionByte}
 use Rattle.walk.specs.PermissionLaws.{kindBit, firstBit, permission-bit}
 use Rattle.walk.specs.Walk.{leafOf, walkedOf, walkOf}
+use Rattle.walk.specs.Fresh.{freshOf}
 use Rattle.walk.specs.WalkBounds.{SoundWalked, walk-sound, status-small}
 use Rattle.walk.specs.declared.{regime.Bank.Bank, level.Walked.Walked}
 use Rattle.walk.specs.declared.level.Walked.the-variants.{Mapped, Fault}
+use Rattle.walk.specs.declared.fresh.Fresh.the-variants.{Flat, Ended}
 use Rattle.tlb.specs.Access.{rightOf}
 use Rattle.sysop.specs.declared.op.AtForm.{AtForm}
-use Rattle.sysop.specs.Par.{success, abort, mairAttr, fromNonSecure, kindOf, permits, leafFound, leafPar, walkPar, parIn, atPar, accessOf, checked}
-use Rattle.sysop.specs.Par.{resultPar}
+use Rattle.sysop.specs.Par.{success, abort, mairAttr, fromNonSecure, kindOf, permits, leafFound, leafPar, walkPar, freshPar}
+use Rattle.sysop.specs.Par.{parIn, atPar, accessOf, checked, resultPar}
 
 -- the walk that an AT makes
 abbrev pub atWalk : Control → AtForm → ℕ → (ℕ → Word) → Walked
@@ -56,13 +58,13 @@ walk-f mair n f (Mapped leaf) = go (permits f leaf)
 by-stage : (P : Bool → ℕ → Type 0) (c : Control) (mair : ℕ) (f : AtForm) (va : ℕ) (memory : ℕ → Word)
     → ((n : Bool) → P true (walkPar mair n f (atWalk c f va memory))) → ((n : Bool) → P false (success 0 va n 0))
     → P (stage1On (bankOf c (f .regime)) (f .regime)) (atPar c mair f va memory)
-unfolding atPar parIn
+unfolding atPar parIn freshOf
 by-stage P c mair f va memory on off = go (stage1On (bankOf c (f .regime)) (f .regime))
   where
     nonsecure : Bool
     nonsecure = fromNonSecure (bankOf c (f .regime)) (f .regime)
 
-    go : (b : Bool) → P b (pick b (walkPar mair nonsecure f (atWalk c f va memory)) (success 0 va nonsecure 0))
+    go : (b : Bool) → P b (freshPar mair nonsecure f (pick b (Ended (atWalk c f va memory)) (Flat va)))
     go true = on nonsecure
     go false = off nonsecure
 
@@ -133,7 +135,7 @@ par-small c mair f va memory =
 -- an AT reads RAM by its walk alone
 pub by-walk : (c : Control) (mair : ℕ) (f : AtForm) (va : ℕ) (m n : ℕ → Word) → atWalk c f va m ≡ atWalk c f va n
     → atPar c mair f va m ≡ atPar c mair f va n
-unfolding atPar parIn
+unfolding atPar parIn freshOf
 by-walk c mair f va m n e = rw e
 
 -- PAR_EL1 by the manual's own walk and permission check

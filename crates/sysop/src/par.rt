@@ -8,13 +8,13 @@ use crate::op::AtForm;
 use sysreg::regs::Control;
 use tlb::access;
 use tlb::access::Kind;
+use walk::fresh;
+use walk::fresh::Fresh;
 use walk::level::Leaf;
 use walk::level::Walked;
 use walk::regime;
 use walk::regime::Bank;
 use walk::regime::Regime;
-use walk::table;
-use walk::tag;
 
 fn kind_of(write: bool) -> Kind
     ensures { λ r. ⌜ r ≡ kindOf write ⌝ }
@@ -92,15 +92,12 @@ pub fn par_in(s: Bank, mair: u64, form: AtForm, va: u64, base: u64, ram: &[u8]) 
 {
     let regime = form.regime;
     let ns = from_non_secure(s, regime);
-    let on = regime::stage1_on(s, regime);
-    if on {
-        let untagged = tag::untag(s.tcr, regime, va);
-        match table::walk(s, regime, untagged, base, ram) {
+    match fresh::fresh_of(s, regime, va, base, ram) {
+        Fresh::Ended(end) => match end {
             Walked::Mapped(leaf) => leaf_par(mair, ns, form, leaf),
             Walked::Fault(status) => fault_par(status),
-        }
-    } else {
-        success_par(0, va, ns, 0)
+        },
+        Fresh::Flat(pa) => success_par(0, pa, ns, 0),
     }
 }
 

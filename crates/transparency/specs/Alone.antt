@@ -16,7 +16,8 @@ use Rattle.operations.specs.declared.{ends.StoreAnswer.StoreAnswer, call.Encodi
 use Rattle.operations.specs.declared.ends.StoreAnswer.the-variants as Store
 use Rattle.exec.specs.Sys.{zeroOf, zeroRam}
 use Rattle.operations.specs.Replies.{storing}
-use Rattle.operations.specs.declared.call.Call.the-variants.{Translate, DataPa, FetchPa, Load, Store, Fetch, System, Register, Level, Mark, General, Abort}
+use Rattle.operations.specs.declared.call.Call.the-variants.{Translate, DataPa, FetchPa, Load, Store, Fetch, System, Register, Level, Mark, General}
+use Rattle.operations.specs.declared.call.Call.the-variants.{Abort, Census}
 use Rattle.history.specs.World.{onNow, uncached}
 use Rattle.history.specs.History.{Event, steps}
 use Rattle.history.specs.Invisible.{answersRun, plainAnswersRun}
@@ -154,6 +155,7 @@ module _ (c : Core) (m : Ram) where
   call-alone (Mark mark) h = refl
   call-alone (General n value) h = refl
   call-alone (Abort e) h = refl
+  call-alone (Census first pages) h = refl
 
   pub alone-same : (x : Call) → with-cache (eventsIn b m (laterIn c m x) x) ≡ without (eventsIn b m (laterIn c m x) x) → outcomeOf c m x ≡ bareReply b m x
   alone-same x h = reply-is c m x ∙ go (rulingIn b m x) h

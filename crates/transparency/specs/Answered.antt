@@ -38,7 +38,8 @@ use Rattle.exec.specs.Ops.{registered, writeRegister}
 use Rattle.exec.specs.Sys.{onStored, doneWith, zeroOf, zeroRam, sysBy, sysRamBy, sysOf, sysRam}
 use Rattle.operations.specs.Replies.{loading, storing, fetching}
 use Rattle.cpu.specs.Step.{ends, afterStore, afterWrite, loadBy, storeBy, storeRamBy, runOf, ramOf, refusedOr, stepOf, ramAfter}
-use Rattle.operations.specs.declared.call.Call.the-variants.{Translate, DataPa, FetchPa, Load, Store, Fetch, System, Register, Level, Mark, General, Abort}
+use Rattle.operations.specs.declared.call.Call.the-variants.{Translate, DataPa, FetchPa, Load, Store, Fetch, System, Register, Level, Mark, General}
+use Rattle.operations.specs.declared.call.Call.the-variants.{Abort, Census}
 use Rattle.operations.specs.declared.call.Reply.the-variants.{Refused, Done}
 use Rattle.history.specs.World.{onNow}
 use Rattle.history.specs.History.{steps, answerOf, answers, tlbAsks}
@@ -256,6 +257,7 @@ run-said c m (Level level) = refl
 run-said c m (Mark mark) = refl
 run-said c m (General n value) = refl
 run-said c m (Abort e) = refl
+run-said c m (Census first pages) = refl
 
 pub reply-is : (c : Core) (m : Ram) (x : Call)
     → outcomeOf c m x

@@ -17,7 +17,8 @@ use Rattle.exec.specs.Sys.{mairOf}
 use Rattle.operations.specs.Check.{missedOf}
 use Rattle.cpu.specs.Step.{refusedOr}
 use Rattle.operations.specs.declared.{call.Encoding.Encoding, call.Call.Call, call.Reply.Reply}
-use Rattle.operations.specs.declared.call.Call.the-variants.{Translate, DataPa, FetchPa, Load, Store, Fetch, System, Register, Level, Mark, General, Abort}
+use Rattle.operations.specs.declared.call.Call.the-variants.{Translate, DataPa, FetchPa, Load, Store, Fetch, System, Register, Level, Mark, General}
+use Rattle.operations.specs.declared.call.Call.the-variants.{Abort, Census}
 use Rattle.operations.specs.declared.call.Reply.the-variants.{Refused, Done, Stopped}
 use Rattle.history.specs.World.{Plain}
 use Rattle.history.specs.Instance.{Ram, memoryOf, real}
@@ -38,7 +39,7 @@ pub data Ruling : Type 0 where
   undefined : Ruling
   unimplemented : Ruling
 
--- numbers 1 to 6: the first check that the call misses, 0 where it misses none
+-- numbers 1 to 7: the first check that the call misses, 0 where it misses none
 abbrev pub missedIn : Bare → Ram → Call → ℕ
 missedIn b m x = missedOf (b .privilege .level) (m .base) (length (m .bytes)) x
 
@@ -80,6 +81,7 @@ ruledIn b (Level level) = allowed
 ruledIn b (Mark mark) = allowed
 ruledIn b (General n value) = allowed
 ruledIn b (Abort e) = allowed
+ruledIn b (Census first pages) = allowed
 
 -- the table, from top to bottom
 abbrev pub rulingIn : Bare → Ram → Call → Ruling
@@ -130,6 +132,7 @@ bareDoes b m (FetchPa va) = b
 bareDoes b m (Load va size) = b
 bareDoes b m (Store va size value) = b
 bareDoes b m (Fetch va) = b
+bareDoes b m (Census first pages) = b
 
 -- "Where the table below or a request refuses the call (a number, Undefined or Unimplemented), it gives that refusal
 -- and changes nothing."

@@ -15,7 +15,8 @@ use Rattle.exec.specs.Ops.{registered, writeRegister}
 use Rattle.exec.specs.Sys.{sysBy, sysRamBy, sysOf, sysRam}
 use Rattle.cpu.specs.Step.{ends, afterStore, afterWrite, runOf, ramOf, refusedOr, stepOf, ramAfter}
 use Rattle.operations.specs.declared.{call.Encoding.Encoding, call.Call.Call}
-use Rattle.operations.specs.declared.call.Call.the-variants.{Translate, DataPa, FetchPa, Load, Store, Fetch, System, Register, Level, Mark, General, Abort}
+use Rattle.operations.specs.declared.call.Call.the-variants.{Translate, DataPa, FetchPa, Load, Store, Fetch, System, Register, Level, Mark, General}
+use Rattle.operations.specs.declared.call.Call.the-variants.{Abort, Census}
 use Rattle.operations.specs.declared.call.Reply.the-variants.{Refused}
 use Rattle.cpu.specs.declared.run.Stepped.{Stepped}
 use Rattle.history.specs.Calls.{Lent, run, bareRun}
@@ -138,6 +139,7 @@ run-refused c m (Level level) refuses = absurd (refuses refl)
 run-refused c m (Mark mark) refuses = absurd (refuses refl)
 run-refused c m (General n value) refuses = absurd (refuses refl)
 run-refused c m (Abort e) refuses = absurd (refuses refl)
+run-refused c m (Census first pages) refuses = absurd (refuses refl)
 
 -- A refused call leaves core, cache, counters and RAM as they are, and its reply is that refusal, by the state without
 -- a cache.

@@ -31,7 +31,8 @@ use Rattle.exec.specs.Sys.{withPar as corePar, atOf, invalidatedOf, tlbiCore, o
 use Rattle.operations.specs.Check.{missedOf}
 use Rattle.cpu.specs.Demand1.{all-passed}
 use Rattle.cpu.specs.Step.{ends, loadBy, storeBy, runOf, refusedOr, stepOf}
-use Rattle.operations.specs.declared.call.Call.the-variants.{Translate, DataPa, FetchPa, Load, Store, Fetch, System, Register, Level, Mark, General, Abort}
+use Rattle.operations.specs.declared.call.Call.the-variants.{Translate, DataPa, FetchPa, Load, Store, Fetch, System, Register, Level, Mark, General}
+use Rattle.operations.specs.declared.call.Call.the-variants.{Abort, Census}
 use Rattle.operations.specs.declared.call.Reply.the-variants.{Refused}
 use Rattle.history.specs.World.{Plain}
 use Rattle.history.specs.History.{writes, Event, steps, plainRun, tlbAsks, tlbRun}
@@ -206,6 +207,7 @@ run-fits c m (Level level) p = level-fits c m level (level-low (c .privilege .le
 run-fits c m (Mark mark) p = setting-fits c m (c .privilege .level) mark (mark-low (c .privilege .level) (m .base) (length (m .bytes)) mark p)
 run-fits c m (General n value) p = record { bare = refl; plain = refl; tlb = refl }
 run-fits c m (Abort e) p = record { bare = refl; plain = refl; tlb = refl }
+run-fits c m (Census first pages) p = record { bare = refl; plain = refl; tlb = refl }
 
 pub fits : (c : Core) (m : Ram) (x : Call)
     → Fits c (stepOf c (m .base) (m .bytes) x .core) (bareStep (bareOf c) m x) (eventsIn (bareOf c) m (laterIn c m x) x)

@@ -26,7 +26,8 @@ use Rattle.sysop.specs.declared.op.SysOp.the-variants as Op
 use Rattle.mmu.specs.Bare.{Bare}
 use Rattle.mmu.specs.Asks.{accessAsks}
 use Rattle.operations.specs.declared.{call.Encoding.Encoding, call.Call.Call}
-use Rattle.operations.specs.declared.call.Call.the-variants.{Translate, DataPa, FetchPa, Load, Store, Fetch, System, Register, Level, Mark, General, Abort}
+use Rattle.operations.specs.declared.call.Call.the-variants.{Translate, DataPa, FetchPa, Load, Store, Fetch, System, Register, Level, Mark, General}
+use Rattle.operations.specs.declared.call.Call.the-variants.{Abort, Census}
 use Rattle.history.specs.World.{onNow}
 use Rattle.history.specs.History.{Effect, nothing, carries, writes, sets, Step, Event, steps}
 use Rattle.history.specs.Instance.{Ram, real}
@@ -106,6 +107,7 @@ stepsIn b m ms (Level level) = steps m (setting (record { level = level; unprivi
 stepsIn b m ms (Mark mark) = steps m (setting (record { level = b .privilege .level; unprivileged = mark })) ∷ []
 stepsIn b m ms (General n value) = steps m idle ∷ []
 stepsIn b m ms (Abort e) = steps m (abortStep b e) ∷ []
+stepsIn b m ms (Census first pages) = steps m idle ∷ []
 
 -- a refused call is a step that does nothing
 abbrev pub eventsIn : Bare → Ram → List Ram → Call → List (Event real)

@@ -38,7 +38,8 @@ use Rattle.sysop.specs.declared.op.SysOp.{SysOp}
 use Rattle.sysop.specs.declared.op.SysOp.the-variants as Op
 use Rattle.operations.specs.Replies.{translation, loading, storing, fetching, reaching}
 use Rattle.cpu.specs.Step.{stepOf}
-use Rattle.operations.specs.declared.call.Call.the-variants.{Translate, DataPa, FetchPa, Load, Store, Fetch, System, Register, Level, Mark, General, Abort}
+use Rattle.operations.specs.declared.call.Call.the-variants.{Translate, DataPa, FetchPa, Load, Store, Fetch, System, Register, Level, Mark, General}
+use Rattle.operations.specs.declared.call.Call.the-variants.{Abort, Census}
 use Rattle.operations.specs.declared.call.Reply.the-variants as Reply
 use Rattle.history.specs.World.{Plain, onNow}
 use Rattle.history.specs.History.{steps, answerOf, tlbAsk, answers, tlbAsks}
@@ -302,6 +303,7 @@ module _ (b : Bare) (m : Ram) (t : Tlb) (addr : ℕ) (fault : Fault) where
   call-from ms (Mark mark) w = absurd w
   call-from ms (General n value) w = absurd w
   call-from ms (Abort e) w = absurd w
+  call-from ms (Census first pages) w = absurd w
 
   said-from : (ms : List Ram) (x : Call) → RepliesFault (saysIn b m ms x (answersRun real (plainIn b) (eventsIn b m ms x) t) .reply) addr fault
       → FaultFrom (answersRun real (plainIn b) (eventsIn b m ms x) t) addr fault

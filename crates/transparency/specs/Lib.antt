@@ -7,6 +7,7 @@ pub mod Machine
 -- Its theorem, and what stands beside it.
 pub mod Instance
 pub mod Beside
+pub mod Census
 pub mod Direct
 pub mod Faithful
 pub mod Judged

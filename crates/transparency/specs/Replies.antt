@@ -18,7 +18,8 @@ use Rattle.mmu.specs.declared.core.Core.{Core}
 use Rattle.operations.specs.Replies.{translation, loading, storing, fetching, reaching}
 use Rattle.cpu.specs.Step.{stepOf, ramAfter}
 use Rattle.operations.specs.declared.{call.Call.Call, call.Reply.Reply}
-use Rattle.operations.specs.declared.call.Call.the-variants.{Translate, DataPa, FetchPa, Load, Store, Fetch, System, Register, Level, Mark, General, Abort}
+use Rattle.operations.specs.declared.call.Call.the-variants.{Translate, DataPa, FetchPa, Load, Store, Fetch, System, Register, Level, Mark, General}
+use Rattle.operations.specs.declared.call.Call.the-variants.{Abort, Census}
 use Rattle.operations.specs.declared.call.Reply.the-variants.{Refused, Done, Value, Faults, Fault as Faulted, Stopped}
 use Rattle.history.specs.World.{uncached}
 use Rattle.history.specs.Invisible.{plainAnswers}
@@ -90,6 +91,7 @@ callSays b m ms (Level level) gs = outcome Done (m .bytes)
 callSays b m ms (Mark mark) gs = outcome Done (m .bytes)
 callSays b m ms (General n value) gs = outcome Done (m .bytes)
 callSays b m ms (Abort e) gs = outcome Done (m .bytes)
+callSays b m ms (Census first pages) gs = outcome Done (m .bytes)
 
 -- "Where the table refuses the call, it gives that refusal."
 abbrev pub saysIn : Bare → Ram → List Ram → Call → List Given → Outcome
@@ -143,6 +145,7 @@ bareCall b m (Level level) = outcome Done (m .bytes)
 bareCall b m (Mark mark) = outcome Done (m .bytes)
 bareCall b m (General n value) = outcome Done (m .bytes)
 bareCall b m (Abort e) = outcome Done (m .bytes)
+bareCall b m (Census first pages) = outcome Done (m .bytes)
 
 -- its reply to a call, and RAM after it
 abbrev pub bareReply : Bare → Ram → Call → Outcome

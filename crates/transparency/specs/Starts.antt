@@ -13,7 +13,8 @@ use Rattle.mmu.specs.Ops.{writeOf, ramAfterWrite}
 use Rattle.mmu.specs.declared.core.Core.{Core}
 use Rattle.exec.specs.Sys.{onStored}
 use Rattle.operations.specs.declared.call.Call.{Call}
-use Rattle.operations.specs.declared.call.Call.the-variants.{Translate, DataPa, FetchPa, Load, Store, Fetch, System, Register, Level, Mark, General, Abort}
+use Rattle.operations.specs.declared.call.Call.the-variants.{Translate, DataPa, FetchPa, Load, Store, Fetch, System, Register, Level, Mark, General}
+use Rattle.operations.specs.declared.call.Call.the-variants.{Abort, Census}
 use Rattle.history.specs.Instance.{Ram, windowOf}
 use Rattle.transparency.specs.Bare.{opIn, operandIn, rulingIn, ifAllowed}
 
@@ -53,6 +54,7 @@ laterOf c m (Level level) = []
 laterOf c m (Mark mark) = []
 laterOf c m (General n value) = []
 laterOf c m (Abort e) = []
+laterOf c m (Census first pages) = []
 
 -- a refused call has one step
 abbrev pub laterIn : Core → Ram → Call → List Ram

@@ -6,6 +6,7 @@ pub mod Descriptor
 pub mod Permission
 pub mod Table
 pub mod Walk
+pub mod Fresh
 -- Computed places and worked cases.
 pub mod Places
 pub mod Cases
@@ -14,6 +15,7 @@ pub mod TagLaws
 pub mod SizeLaws
 pub mod PermissionLaws
 pub mod WalkBounds
+pub mod FreshLaws
 pub mod Fetches
 pub mod PageLaws
 pub mod Order

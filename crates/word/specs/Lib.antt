@@ -2,3 +2,4 @@ pub mod Bits
 pub mod Ram
 pub mod BitLaws
 pub mod RamLaws
+pub mod Tables

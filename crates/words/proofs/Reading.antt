@@ -22,7 +22,7 @@ use Rattle.tlb.specs.Entry.{blank}
 use Rattle.tlb.specs.declared.{access.Privilege.Privilege, entry.Entry.Entry, hint.Hint.Hint}
 use Rattle.tlb.specs.declared.Pending.the-variants.{Nothing}
 use Rattle.mmu.specs.Core.{regOf}
-use Rattle.words.specs.Tables.{table-at, table-past}
+use Rattle.word.specs.Tables.{table-at, table-past}
 use Rattle.words.specs.CoreOf.{word, levelIn, hintIn, entryIn, coreOn, coreBy, coreOf}
 use Rattle.words.specs.RegWrites.{bankIndex, levelIndex, controlPlace}
 use Rattle.words.specs.Places.{MAIR, VBAR, GENERAL, LEVEL, UNPRIVILEGED, PENDING}

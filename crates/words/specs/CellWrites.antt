@@ -8,7 +8,7 @@ use lib.ListN.{set, length, length-set}
 use lib.Seq.{set-out}
 use Rattle.tlb.specs.declared.hint.Hint.{Hint}
 use Rattle.mmu.specs.Core.{setReg, afterAccess}
-use Rattle.words.specs.Tables.{table, table-set, table-length}
+use Rattle.word.specs.Tables.{table, table-set, table-length}
 use Rattle.words.specs.CoreOf.{word, hintIn, entryIn, coreOn, coreBy, coreOf}
 use Rattle.words.specs.Parts.{withCache, withHint}
 use Rattle.words.specs.NowHolds.{NowHolds, stays, holds-as}

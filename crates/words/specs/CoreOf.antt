@@ -12,7 +12,7 @@ use Rattle.tlb.specs.declared.{entry.Current.Current, hint.Hint.Hint, hint.Fetc
 use Rattle.tlb.specs.declared.Inval.the-variants.{All, Page, Asid}
 use Rattle.tlb.specs.declared.Pending.the-variants.{Nothing, Some}
 use Rattle.mmu.specs.declared.core.Core.{Core}
-use Rattle.words.specs.Tables.{table}
+use Rattle.word.specs.Tables.{table}
 use Rattle.words.specs.Places.{SCTLR, TCR, TTBR0, TTBR1-EL1, MAIR, VBAR, ELR, SPSR, ESR, FAR, SCR-EL3, HCR-EL2, VPIDR-EL2, VMPIDR-EL2, PAR-EL1, PC, NZCV}
 use Rattle.words.specs.Places.{DAIF, SPSEL, GENERAL, LEVEL, UNPRIVILEGED, HITS, WALKS, FLUSHES, DROPS, EPOCH, PENDING, PENDING-VALUE, LAST-PA, ABORT-PA}
 use Rattle.words.specs.Places.{GENERATION, ASID, FETCH, FETCH-PAGE, FETCH-LEVEL, FETCH-PA, HINTS, HINT-PA, ENTRIES, ENTRY-GENERATION, ENTRY-ATTRIBUTES}

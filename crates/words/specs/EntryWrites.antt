@@ -13,7 +13,7 @@ use Rattle.tlb.specs.Cache.{entryAt}
 use Rattle.tlb.specs.Entry.{blank}
 use Rattle.tlb.specs.declared.entry.Entry.{Entry}
 use Rattle.mmu.specs.Core.{afterAccess}
-use Rattle.words.specs.Tables.{table, table-at, table-same, table-set, table-length}
+use Rattle.word.specs.Tables.{table, table-at, table-same, table-set, table-length}
 use Rattle.words.specs.CoreOf.{word, hintIn, entryIn, entryOf, coreOn, coreBy, coreOf}
 use Rattle.words.specs.Parts.{tagged, withCache, withEntry, withTag}
 use Rattle.words.specs.NowHolds.{NowHolds, stays, holds-as}

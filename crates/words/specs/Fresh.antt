@@ -15,7 +15,7 @@ use Rattle.tlb.specs.Lists.{replicate-at}
 use Rattle.tlb.specs.declared.hint.Hint.{Hint}
 use Rattle.mmu.specs.Core.{zeros, freshCore, afterAccess}
 use Rattle.mmu.specs.declared.core.Core.{Core}
-use Rattle.words.specs.Tables.{table-all}
+use Rattle.word.specs.Tables.{table-all}
 use Rattle.words.specs.CoreOf.{coreOn, coreBy, coreOf}
 use Rattle.words.specs.Parts.{withCache, withCurrent, withPrivilege, withFlags, withControl, withSys, withoutHints}
 use Rattle.words.specs.Places.{WORDS}

@@ -1,4 +1,3 @@
-pub mod Tables
 pub mod Places
 pub mod CoreOf
 pub mod Parts

@@ -10,7 +10,7 @@ use lib.ListN.{set, length}
 use Rattle.word.specs.Bits.{pick}
 use Rattle.tlb.specs.Lists.{getD-set}
 use Rattle.tlb.specs.declared.{entry.Entry.Entry, hint.Hint.Hint}
-use Rattle.words.specs.Tables.{table, table-same}
+use Rattle.word.specs.Tables.{table, table-same}
 use Rattle.words.specs.CoreOf.{word, hintIn, entryIn, coreOn, coreBy}
 use Rattle.words.specs.Places.{GENERAL, LEVEL, HINTS, HINT-PA, ENTRIES, ENTRY-GENERATION, ENTRY-ATTRIBUTES, ENTRY-PA}
 

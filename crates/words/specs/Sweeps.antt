@@ -10,7 +10,7 @@ use Rattle.tlb.specs.Lists.{swept, sweep, sweep-end}
 use Rattle.tlb.specs.declared.{entry.Entry.Entry, hint.Hint.Hint}
 use Rattle.mmu.specs.Core.{afterAccess}
 use Rattle.mmu.specs.declared.core.Core.{Core}
-use Rattle.words.specs.Tables.{table-length}
+use Rattle.word.specs.Tables.{table-length}
 use Rattle.words.specs.CoreOf.{word, hintIn, entryIn, coreOn, coreBy, coreOf}
 use Rattle.words.specs.Parts.{tagged, withCache, withHint, withEntry, withTag, withEntries}
 

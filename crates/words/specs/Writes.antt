@@ -17,7 +17,7 @@ use Rattle.tlb.specs.Count.{hitCounted, walkCounted, flushCounted, dropCounted,
 use Rattle.tlb.specs.declared.{hint.FetchHint.FetchHint, Inval.Inval, Pending.Pending}
 use Rattle.tlb.specs.declared.Inval.the-variants.{All, Page, Asid}
 use Rattle.tlb.specs.declared.Pending.the-variants.{Nothing, Some}
-use Rattle.words.specs.Tables.{table}
+use Rattle.word.specs.Tables.{table}
 use Rattle.words.specs.CoreOf.{word, levelIn, hintIn, entryIn, coreOn, coreBy, coreOf}
 use Rattle.words.specs.Parts.{withCache, withCounts, withPending, withFetchHint, withCurrent, withLast, withAbort, withPrivilege, withFlags, withPc}
 use Rattle.words.specs.NowHolds.{NowHolds, holds-as}

@@ -26,4 +26,5 @@ call-of-spec =
     (λ c. rw (c .before .match .keys10) (c .mark-of .ensures))
     (λ c. rw (c .match .keys11))
     (λ c. rw (c .before .match .keys12) (c .abort-of .ensures))
-    (λ returns-13. search (call-none, needs)))
+    (λ c. rw (c .match .keys13))
+    (λ returns-14. search (call-none, needs)))

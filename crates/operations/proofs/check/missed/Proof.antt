@@ -53,6 +53,10 @@ returns-12 : tie.Need-returns-12
 unfolding missedOf
 returns-12 c = search (checks-as, needs)
 
+returns-13 : tie.Need-returns-13
+unfolding missedOf
+returns-13 c = search (checks-as, needs)
+
 pub missed-spec : {M : Type 1} → statement M
 missed-spec =
     tie.close
@@ -64,5 +68,6 @@ missed-spec =
     (λ enum-known-call-3. search needs) (λ system-requires κs. search needs) (λ enum-known-call-4. search needs)
     (λ register-requires κs. search needs) (λ enum-known-call-5. search needs) (λ levels-requires κs. search needs)
     (λ enum-told-5. search needs) (λ any-requires κs. search needs) (λ enum-known-call-6. search needs)
-    (λ general-requires κs. search needs) (λ enum-told-6. search needs) (λ any-requires-2 κs. search needs) returns
-    returns-2 returns-3 returns-4 returns-5 returns-6 returns-7 returns-8 returns-9 returns-10 returns-11 returns-12)
+    (λ general-requires κs. search needs) (λ enum-told-6. search needs) (λ any-requires-2 κs. search needs)
+    (λ enum-known-call-7. search needs) (λ census-requires κs. search needs)
+    returns returns-2 returns-3 returns-4 returns-5 returns-6 returns-7 returns-8 returns-9 returns-10 returns-11 returns-12 returns-13)

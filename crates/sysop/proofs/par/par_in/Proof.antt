@@ -8,10 +8,11 @@ pub par-in-spec : {M : Type 1} → statement M
 par-in-spec =
     tie.close
     (tie.spec
-    (λ from-non-secure-requires κs. search needs) (λ stage1-on-requires κs. search needs)
-    (λ untag-requires κs. search needs) (λ walk-requires κs. search needs) (λ enum-known-leaf. search needs)
+    (λ from-non-secure-requires κs. search needs) (λ fresh-of-requires κs. search needs) (λ enum-known-end. search needs)
+    (λ enum-known-leaf. search needs)
     (λ leaf-par-requires κs. search (low-leaf, needs))
     (λ enum-known-status. search needs) (λ fault-par-requires κs. search needs)
+    (λ enum-known-pa. search needs)
     (λ success-par-requires κs. search needs)
     (λ returns. search (pars, needs))
     (λ returns-2. search (pars, needs))

@@ -1,0 +1,13 @@
+-- `census::count::place_at` meets its contract.
+use borrow.Author.Needs.{needs}
+use Rattle.census.proofs.count.place_at.Statement.{statement}
+use Rattle.census.proofs.count.place_at.Tie as tie
+use Rattle.census.proofs.Places.{sound, at-place}
+
+pub place-at-spec : {M : Type 1} → statement M
+place-at-spec =
+    tie.close
+    (tie.spec
+    (λ fresh-of-requires κs. search needs)
+    (λ place-of-requires κs. search (sound, needs))
+    (λ returns. search (at-place, needs)))

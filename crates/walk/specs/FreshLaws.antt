@@ -1,0 +1,52 @@
+-- What holds of every fresh answer, for those who know it by its definition alone.
+use mathlib.Core.Path.{_≡_, refl, subst}
+use mathlib.Core.Bool.{Bool, true, false}
+use Prim.Native.Nat.{ℕ}
+use Rattle.word.specs.Bits.{pick}
+use Rattle.word.specs.declared.ram.Word.{Word}
+use Rattle.walk.specs.Regime.{stage1On}
+use Rattle.walk.specs.Tag.{untagged}
+use Rattle.walk.specs.Walk.{walkOf}
+use Rattle.walk.specs.Fresh.{freshOf}
+use Rattle.walk.specs.WalkBounds.{Status, LeafBounds, SoundWalked, walk-sound}
+use Rattle.walk.specs.declared.{regime.Regime.Regime, regime.Bank.Bank, level.Leaf.Leaf, level.Walked.Walked, fresh.Fresh.Fresh}
+use Rattle.walk.specs.declared.level.Walked.the-variants.{Mapped, Fault}
+use Rattle.walk.specs.declared.fresh.Fresh.the-variants.{Flat, Ended}
+
+abbrev pub SoundEnd : Walked → Type 0
+SoundEnd (Mapped leaf) = LeafBounds leaf
+SoundEnd (Fault n) = Status n
+
+-- a leaf within its bounds, a status of the table of answers, or flat
+abbrev pub SoundFresh : Fresh → Type 0
+SoundFresh (Ended w) = SoundEnd w
+SoundFresh (Flat pa) = Unit {0}
+
+end-sound : (va : ℕ) (w : Walked) → SoundWalked va w → SoundEnd w
+end-sound va (Mapped leaf) h = h .0
+end-sound va (Fault n) h = h
+
+module _ (s : Bank) (r : Regime) (va : ℕ) (memory : ℕ → Word) where
+  pub fresh-sound : SoundFresh (freshOf s r va memory)
+  unfolding freshOf
+  fresh-sound = go (stage1On s r)
+    where
+      go : (b : Bool) → SoundFresh (pick b (Ended (walkOf s r (untagged (s .tcr) r va) memory)) (Flat va))
+      go true = end-sound _ (walkOf s r (untagged (s .tcr) r va) memory) (walk-sound s r (untagged (s .tcr) r va) memory)
+      go false = tt
+
+  -- stage 1 on: the walk of the untagged address; off: the address
+  pub fresh-on : stage1On s r ≡ true → freshOf s r va memory ≡ Ended (walkOf s r (untagged (s .tcr) r va) memory)
+  unfolding freshOf
+  fresh-on e = rw e
+
+  pub fresh-off : stage1On s r ≡ false → freshOf s r va memory ≡ Flat va
+  unfolding freshOf
+  fresh-off e = rw e
+
+  -- a leaf that it ends in
+  pub fresh-leaf : (x : Fresh) (w : Walked) (leaf : Leaf) → x ≡ freshOf s r va memory → x ≡ Ended w → w ≡ Mapped leaf → LeafBounds leaf
+  fresh-leaf x w leaf e x-is w-is = subst SoundEnd w-is (subst SoundFresh x-is (subst SoundFresh e⁻¹ fresh-sound))
+    where
+      e⁻¹ : freshOf s r va memory ≡ x
+      e⁻¹ = cc
