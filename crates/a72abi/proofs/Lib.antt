@@ -1,4 +1,3 @@
-pub mod Ends
 pub mod Checking
 pub mod Passing
 pub mod Addressing

@@ -1,4 +1,3 @@
-pub mod Walk
 pub mod Quick
 pub mod Splits
 pub mod Steps

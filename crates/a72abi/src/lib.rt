@@ -9,4 +9,3 @@ pub mod memory;
 pub mod slow;
 pub mod slow_bytes;
 pub mod split;
-pub mod tables;

@@ -1,3 +1,4 @@
 -- What the proofs share.
 pub mod Naming
 pub mod Replying
+pub mod Walks

@@ -1,3 +1,4 @@
-// The words of the boundary: the call that words name, and the number and words of a reply.
+// The words of the boundary: the call that words name, the number and words of a reply, and one walk.
 pub mod op;
 pub mod reply;
+pub mod tables;

@@ -1,7 +1,7 @@
 // One walk of the tables, of registers and RAM that the caller lends. A number other than 0 writes no word of the leaf.
 ghost use mathlib.Core.Path.{_≡_};
 ghost use Prim.Native.Nat.{_+_};
-ghost use Rattle.a72abi.specs.Walk.{bankAt, regimeAt, leafAfter, walkCode, walkWords};
+ghost use Rattle.call_words.specs.Walk.{bankAt, regimeAt, leafAfter, walkCode, walkWords};
 use operations::check;
 use walk::level::Leaf;
 use walk::level::Walked;
@@ -10,7 +10,7 @@ use walk::regime::Regime;
 use word::bits;
 
 // A regime by its number, or none.
-enum Named {
+pub enum Named {
     Known(Regime),
     Unknown,
 }
@@ -56,8 +56,7 @@ fn put_leaf(out: &mut [u64; 5], leaf: Leaf)
 
 // One walk of an untagged address: 0 and the leaf, or 256 plus the fault's status; 64 for no regime, 2 for a window
 // that passes 2^64.
-#[no_mangle]
-pub extern "C" fn a72_walk(
+pub fn walk_words(
     words: &[u64; 6],
     number: u64,
     va: u64,

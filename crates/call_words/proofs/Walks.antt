@@ -9,9 +9,9 @@ use Rattle.walk.specs.Walk.{walkOf}
 use Rattle.walk.specs.declared.{regime.Regime.Regime, regime.Bank.Bank, level.Leaf.Leaf, level.Walked.Walked}
 use Rattle.walk.specs.declared.level.Walked.the-variants.{Mapped, Fault}
 use Rattle.operations.specs.Check.{passes}
-use Rattle.a72abi.specs.Walk.{bankAt, regimeAt, leafAfter, walkCode, walkWords}
-use Rattle.a72abi.specs.declared.tables.Named.{Named}
-use Rattle.a72abi.specs.declared.tables.Named.the-variants.{Known, Unknown}
+use Rattle.call_words.specs.Walk.{bankAt, regimeAt, leafAfter, walkCode, walkWords}
+use Rattle.call_words.specs.declared.tables.Named.{Named}
+use Rattle.call_words.specs.declared.tables.Named.the-variants.{Known, Unknown}
 
 module _ (ws : List ℕ) (n va base : ℕ) (ram : List ℕ) (x : Named) (ex : x ≡ regimeAt n) where
   pub no-regime-code : x ≡ Unknown → 64 ≡ walkCode ws n va base ram

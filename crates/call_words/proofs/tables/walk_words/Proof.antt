@@ -1,11 +1,11 @@
--- `a72abi::tables::a72_walk` meets its contract.
+-- `call_words::tables::walk_words` meets its contract.
 use borrow.Author.Needs.{needs}
-use Rattle.a72abi.proofs.tables.a72_walk.Statement.{statement}
-use Rattle.a72abi.proofs.tables.a72_walk.Tie as tie
-use Rattle.a72abi.proofs.Ends.{no-regime-code, no-regime-words, past-code, past-words, mapped-code, mapped-words, fault-code, fault-words}
+use Rattle.call_words.proofs.tables.walk_words.Statement.{statement}
+use Rattle.call_words.proofs.tables.walk_words.Tie as tie
+use Rattle.call_words.proofs.Walks.{no-regime-code, no-regime-words, past-code, past-words, mapped-code, mapped-words, fault-code, fault-words}
 
-pub a72-walk-spec : {M : Type 1} → statement M
-a72-walk-spec =
+pub walk-words-spec : {M : Type 1} → statement M
+walk-words-spec =
     tie.close
     (tie.spec
     (λ regime-at-requires κs. search needs) (λ enum-known-named. search needs) (λ past-end-requires κs. search needs)

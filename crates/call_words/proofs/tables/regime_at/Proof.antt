@@ -1,6 +1,6 @@
--- `a72abi::tables::regime_at` meets its contract.
-use Rattle.a72abi.proofs.tables.regime_at.Statement.{statement}
-use Rattle.a72abi.proofs.tables.regime_at.Tie as tie
+-- `call_words::tables::regime_at` meets its contract.
+use Rattle.call_words.proofs.tables.regime_at.Statement.{statement}
+use Rattle.call_words.proofs.tables.regime_at.Tie as tie
 use borrow.Author.Tests.{ne-eqb}
 
 returns : tie.Need-returns

@@ -11,8 +11,8 @@ use Rattle.walk.specs.declared.{regime.Regime.Regime, regime.Bank.Bank, level.L
 use Rattle.walk.specs.declared.regime.Regime.the-variants.{El1, El2, El3}
 use Rattle.walk.specs.declared.level.Walked.the-variants.{Mapped, Fault}
 use Rattle.operations.specs.Check.{passes}
-use Rattle.a72abi.specs.declared.tables.Named.{Named}
-use Rattle.a72abi.specs.declared.tables.Named.the-variants.{Known, Unknown}
+use Rattle.call_words.specs.declared.tables.Named.{Named}
+use Rattle.call_words.specs.declared.tables.Named.the-variants.{Known, Unknown}
 
 -- regimes by number
 abbrev pub regimeAt : ℕ → Named
