@@ -1,11 +1,11 @@
 -- One page more, on plain values.
-use mathlib.Core.Path.{_≡_, refl, sym, ap, _∙_}
+use mathlib.Core.Path.{_≡_, ap, _∙_}
 use mathlib.Core.List.{List}
-use Prim.Native.Nat.{ℕ, suc, _+_, _-_, _*_, _/_, _%_, _^_, _≤_, _<_}
+use Prim.Native.Nat.{ℕ, _+_, _-_, _%_, _^_, _≤_, _<_}
 use native.Mathlib.Numerals.{add-one}
 use native.Mathlib.Omega.{arith}
 use lib.ListN.{getD, set}
-use Rattle.word.specs.Bits.{wrap, alignDown}
+use Rattle.word.specs.Bits.{wrap}
 use Rattle.word.specs.declared.ram.Word.{Word}
 use Rattle.walk.specs.declared.{regime.Regime.Regime, regime.Bank.Bank}
 use Rattle.census.specs.Tally.{at-most, one-more}

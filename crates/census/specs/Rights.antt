@@ -1,5 +1,4 @@
--- Which permission bytes a leaf can have: privileged code reads whatever is mapped, what EL0 may write privileged code does not execute, and a regime of
--- one privilege level gives EL0 nothing. So of the 64 places of permission bytes all but fourteen stay 0.
+-- Which permission bytes a leaf can have: fourteen, by the manual's tables of every attribute. So of the 64 places of permission bytes all others stay 0.
 use mathlib.Core.Path.{_≡_, refl, sym, ap, _∙_}
 use mathlib.Core.Bool.{Bool, true, false, _&&_, _||_}
 use mathlib.Core.List.{List, [], _∷_}

@@ -3,13 +3,13 @@ use mathlib.Core.Path.{_≡_, refl, sym, ap, ap₂, _∙_}
 use mathlib.Core.Bool.{Bool, true, false}
 use mathlib.Core.List.{List, [], _∷_}
 use Prim.Native.Nat.{ℕ, zero, suc, _+_, _<_, _≤_}
-use native.Mathlib.Nat.{not-suc-le-zero, le-of-suc-le-suc, zero-lt-suc}
+use native.Mathlib.Nat.{not-suc-le-zero, le-of-suc-le-suc}
 use native.Mathlib.Omega.{arith}
 use borrow.Author.Tests.{eqb-true, eqb-false, eq-eqb, ne-eqb}
 use lib.Dec.{eqb}
-use lib.ListN.{getD, set, replicate, length}
+use lib.ListN.{getD, set}
 use Rattle.word.specs.Bits.{flag}
-use Rattle.word.specs.Tables.{table, table-at, table-same, table-set, table-all}
+use Rattle.word.specs.Tables.{table, table-at, table-same, table-set}
 
 -- the number of i below n of which p holds
 unfoldable pub howMany : (ℕ → Bool) → ℕ → ℕ
@@ -31,6 +31,12 @@ tally m place n = table m (named place n)
 
 -- LAWS
 
+plus-one : (k : ℕ) → k + 1 ≡ suc k
+plus-one k = omega arith
+
+plus-zero : (k : ℕ) → k + 0 ≡ k
+plus-zero k = omega arith
+
 flag-one : (b : Bool) → flag b 1 ≤ 1
 flag-one true = omega arith
 flag-one false = omega arith
@@ -40,7 +46,7 @@ unfolding howMany
 many-le p zero = omega arith
 many-le p (suc n) = let h = many-le p n in let k = flag-one (p n) in omega arith
 
--- alike below n
+-- alike at every number
 pub many-same : (p q : ℕ → Bool) (n : ℕ) → ((i : ℕ) → p i ≡ q i) → howMany p n ≡ howMany q n
 unfolding howMany
 many-same p q zero h = refl
@@ -54,18 +60,12 @@ many-none p (suc n) h = ap₂ (λ (a : ℕ) (b : Bool). a + flag b 1) (many-none
 pub many-all : (p : ℕ → Bool) (n : ℕ) → ((i : ℕ) → p i ≡ true) → howMany p n ≡ n
 unfolding howMany
 many-all p zero h = refl
-many-all p (suc n) h = ap₂ (λ (a : ℕ) (b : Bool). a + flag b 1) (many-all p n h) (h n) ∙ one n
-  where
-    one : (k : ℕ) → k + 1 ≡ suc k
-    one k = omega arith
+many-all p (suc n) h = ap₂ (λ (a : ℕ) (b : Bool). a + flag b 1) (many-all p n h) (h n) ∙ plus-one n
 
 -- those below n, and those of the next m
 pub many-joins : (p : ℕ → Bool) (n m : ℕ) → howMany p (n + m) ≡ howMany p n + howMany (λ i. p (n + i)) m
 unfolding howMany
 many-joins p n zero = rw (plus-zero n) (sym (plus-zero (howMany p n)))
-  where
-    plus-zero : (k : ℕ) → k + 0 ≡ k
-    plus-zero k = omega arith
 many-joins p n (suc m) =
     ap (howMany p) (plus-suc n m) ∙ ap (λ (k : ℕ). k + flag (p (n + m)) 1) (many-joins p n m)
     ∙ assoc (howMany p n) (howMany (λ i. p (n + i)) m) (flag (p (n + m)) 1)
@@ -96,19 +96,19 @@ unfolding total table
 total-none zero = refl
 total-none (suc m) = plus-none (total (table m (λ j. 0))) ∙ total-none m
 
-suc-eqb : (a b : ℕ) → eqb (suc a) (suc b) ≡ eqb a b
-suc-eqb a b = go (eqb a b) refl
+-- a test of two numbers is that of both moved up alike
+pub shift-eqb : (k a b : ℕ) → eqb (k + a) (k + b) ≡ eqb a b
+shift-eqb k a b = go (eqb a b) refl
   where
-    go : (x : Bool) → eqb a b ≡ x → eqb (suc a) (suc b) ≡ x
-    go true e = eq-eqb (suc a) (suc b) (ap suc (eqb-true a b e))
-    go false e = other (eqb (suc a) (suc b)) refl
-      where
-        other : (y : Bool) → eqb (suc a) (suc b) ≡ y → y ≡ false
-        other true t = absurd (eqb-false a b e (le-same (eqb-true (suc a) (suc b) t)))
-          where
-            le-same : suc a ≡ suc b → a ≡ b
-            le-same s = omega arith
-        other false t = refl
+    go : (x : Bool) → eqb a b ≡ x → eqb (k + a) (k + b) ≡ x
+    go true e = eq-eqb (k + a) (k + b) (ap (λ (n : ℕ). k + n) (eqb-true a b e))
+    go false e = ne-eqb (k + a) (k + b) (λ q. eqb-false a b e (omega arith))
+
+suc-eqb : (a b : ℕ) → eqb (suc a) (suc b) ≡ eqb a b
+suc-eqb a b = ap₂ (λ (m n : ℕ). eqb m n) (one-plus a) (one-plus b) ∙ shift-eqb 1 a b
+  where
+    one-plus : (n : ℕ) → suc n ≡ 1 + n
+    one-plus n = omega arith
 
 total-one : (m k : ℕ) → k < m → total (table m (λ j. flag (eqb k j) 1)) ≡ 1
 unfolding total table
@@ -128,18 +128,11 @@ unfolding howMany
 adds-up m place zero h = total-none m
 adds-up m place (suc n) h =
     total-join m (named place n) (λ j. flag (eqb (place n) j) 1)
-    ∙ ap₂ (λ (a b : ℕ). a + b) (adds-up m place n h) (total-one m (place n) (h n)) ∙ one n
-  where
-    one : (k : ℕ) → k + 1 ≡ suc k
-    one k = omega arith
+    ∙ ap₂ (λ (a b : ℕ). a + b) (adds-up m place n h) (total-one m (place n) (h n)) ∙ plus-one n
 
 -- ONE MORE
 
 module _ (m : ℕ) (place : ℕ → ℕ) where
-  pub none-yet : tally m place 0 ≡ replicate m 0
-  unfolding howMany
-  none-yet = table-all m 0
-
   pub at-place : (n j : ℕ) → j < m → getD (tally m place n) j 0 ≡ named place n j
   at-place n j h = table-at m (named place n) j 0 h
 
@@ -161,7 +154,4 @@ module _ (m : ℕ) (place : ℕ → ℕ) where
         where
           go : (b : Bool) → eqb (place n) j ≡ b → named place n j + flag b 1 ≡ named place n j
           go true e = absurd (ne (sym (eqb-true (place n) j e)))
-          go false e = plus (named place n j)
-            where
-              plus : (k : ℕ) → k + 0 ≡ k
-              plus k = omega arith
+          go false e = plus-zero (named place n j)

@@ -1,7 +1,6 @@
 // The counts of a range, from the fresh answer of each page.
 ghost use mathlib.Core.Path.{_≡_};
 ghost use Prim.Native.Nat.{_<_};
-ghost use lib.ListN.{getD, set};
 ghost use Rattle.word.specs.Ram.{wordAt};
 ghost use Rattle.walk.specs.FreshLaws.{SoundFresh};
 ghost use Rattle.census.specs.Count.{placeOf, placeAt, censusOf};

@@ -1,12 +1,11 @@
 -- What a census of the core finds, beside its reply; core and RAM stay.
 use mathlib.Core.Path.{_≡_, refl}
-use mathlib.Core.List.{List, [], _∷_}
-use Prim.Native.Nat.{ℕ, zero, suc, _^_}
+use mathlib.Core.List.{List}
+use Prim.Native.Nat.{ℕ, zero, suc}
 use lib.ListN.{replicate}
 use Rattle.word.specs.Ram.{wordAt}
 use Rattle.census.specs.Count.{censusAt}
 use Rattle.mmu.specs.declared.core.Core.{Core}
-use Rattle.operations.specs.Check.{missedOf}
 use Rattle.operations.specs.declared.call.Call.the-variants.{Census}
 use Rattle.operations.specs.declared.call.Reply.the-variants.{Refused}
 use Rattle.cpu.specs.declared.inspect.Censused.{Censused}
@@ -41,20 +40,3 @@ module _ (c : Core) (base : ℕ) (ram : List ℕ) (first pages : ℕ) where
       go : (n : ℕ) → refusedOr n (λ k. ram) (ramOf c base ram (Census first pages)) ≡ ram
       go zero = refl
       go (suc n) = refl
-
--- the numbers, by level, base and length of the window, first address and pages: 1 before 2 before 7; 65,536 pages and one more; a range that ends at
--- 2^64, by an address within its page, and one that passes it; no page at the last address
-pub numbers :
-    (missedOf 4 (2 ^ 64) 1 (Census 0 65537)
-    ∷ missedOf 3 (2 ^ 64) 1 (Census 0 65537)
-    ∷ missedOf 3 (2 ^ 64) 0 (Census 0 65537)
-    ∷ missedOf 0 0 0 (Census 0 65536)
-    ∷ missedOf 1 0 0 (Census 0xFFFFFFFFFFFFFFFF 1)
-    ∷ missedOf 2 0 0 (Census 0xFFFFFFFFFFFFFFFF 2)
-    ∷ missedOf 2 0 0 (Census 0xFFFFFFFFF0000000 65536)
-    ∷ missedOf 2 0 0 (Census 0xFFFFFFFFF0001000 65536)
-    ∷ missedOf 3 0 0 (Census 0xFFFFFFFFFFFFFFFF 0)
-    ∷ [])
-    ≡ (1 ∷ 2 ∷ 7 ∷ 0 ∷ 0 ∷ 7 ∷ 0 ∷ 7 ∷ 0 ∷ [])
-unfolding missedOf
-numbers = refl

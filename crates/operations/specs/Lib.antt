@@ -1,5 +1,6 @@
 -- What the contracts of `operations` cite: document 01's checks; where the bytes of an access lie; how it ends; the replies.
 pub mod Check
+pub mod CheckCases
 pub mod Place
 pub mod Bytes
 pub mod AtOnce

@@ -1,5 +1,5 @@
--- How an address ends with nothing cached, from the registers of its regime and RAM: AArch64.FirstStageTranslate without a TLB, from knowledge of
--- ARMv8.0. AT, the page census and the core without a cache answer by it.
+-- How an address ends with nothing cached, from the registers of its regime and RAM: AArch64.FirstStageTranslate without a TLB and without its
+-- permission check, from knowledge of ARMv8.0. AT, the page census and the core without a cache answer by it.
 use Prim.Native.Nat.{ℕ}
 use Rattle.word.specs.Bits.{pick}
 use Rattle.word.specs.declared.ram.Word.{Word}

@@ -1,5 +1,5 @@
 -- What holds of every fresh answer, for those who know it by its definition alone.
-use mathlib.Core.Path.{_≡_, refl, subst}
+use mathlib.Core.Path.{_≡_, subst}
 use mathlib.Core.Bool.{Bool, true, false}
 use Prim.Native.Nat.{ℕ}
 use Rattle.word.specs.Bits.{pick}
@@ -22,17 +22,17 @@ abbrev pub SoundFresh : Fresh → Type 0
 SoundFresh (Ended w) = SoundEnd w
 SoundFresh (Flat pa) = Unit {0}
 
-end-sound : (va : ℕ) (w : Walked) → SoundWalked va w → SoundEnd w
-end-sound va (Mapped leaf) h = h .0
-end-sound va (Fault n) h = h
+walk-end : (va : ℕ) (w : Walked) → SoundWalked va w → SoundEnd w
+walk-end va (Mapped leaf) h = h .0
+walk-end va (Fault n) h = h
 
 module _ (s : Bank) (r : Regime) (va : ℕ) (memory : ℕ → Word) where
-  pub fresh-sound : SoundFresh (freshOf s r va memory)
+  pub answer-sound : SoundFresh (freshOf s r va memory)
   unfolding freshOf
-  fresh-sound = go (stage1On s r)
+  answer-sound = go (stage1On s r)
     where
       go : (b : Bool) → SoundFresh (pick b (Ended (walkOf s r (untagged (s .tcr) r va) memory)) (Flat va))
-      go true = end-sound _ (walkOf s r (untagged (s .tcr) r va) memory) (walk-sound s r (untagged (s .tcr) r va) memory)
+      go true = walk-end _ (walkOf s r (untagged (s .tcr) r va) memory) (walk-sound s r (untagged (s .tcr) r va) memory)
       go false = tt
 
   -- stage 1 on: the walk of the untagged address; off: the address
@@ -44,9 +44,9 @@ module _ (s : Bank) (r : Regime) (va : ℕ) (memory : ℕ → Word) where
   unfolding freshOf
   fresh-off e = rw e
 
+  pub is-sound : (x : Fresh) → x ≡ freshOf s r va memory → SoundFresh x
+  is-sound x e = rw e answer-sound
+
   -- a leaf that it ends in
   pub fresh-leaf : (x : Fresh) (w : Walked) (leaf : Leaf) → x ≡ freshOf s r va memory → x ≡ Ended w → w ≡ Mapped leaf → LeafBounds leaf
-  fresh-leaf x w leaf e x-is w-is = subst SoundEnd w-is (subst SoundFresh x-is (subst SoundFresh e⁻¹ fresh-sound))
-    where
-      e⁻¹ : freshOf s r va memory ≡ x
-      e⁻¹ = cc
+  fresh-leaf x w leaf e x-is w-is = subst SoundEnd w-is (subst SoundFresh x-is (is-sound x e))

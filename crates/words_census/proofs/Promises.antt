@@ -1,7 +1,7 @@
 -- The promise of a census, refused or done, on plain values.
 use mathlib.Core.Path.{_≡_, refl, sym, ap, _∙_}
 use mathlib.Core.List.{List}
-use Prim.Native.Nat.{ℕ, zero, suc, _<_}
+use Prim.Native.Nat.{ℕ, zero, suc}
 use native.Mathlib.Omega.{arith}
 use lib.ListN.{length}
 use Rattle.word.specs.Ram.{wordAt}
@@ -10,7 +10,6 @@ use Rattle.walk.specs.declared.{regime.Regime.Regime, regime.Bank.Bank}
 use Rattle.census.specs.Count.{censusOf}
 use Rattle.operations.specs.Check.{missedOf}
 use Rattle.operations.specs.declared.call.Call.the-variants.{Census}
-use Rattle.operations.specs.declared.call.Reply.{Reply}
 use Rattle.operations.specs.declared.call.Reply.the-variants.{Refused}
 use Rattle.mmu.specs.declared.core.Core.{Core}
 use Rattle.tlb.specs.declared.access.Privilege.{Privilege}
@@ -20,7 +19,8 @@ use Rattle.history.specs.Calls.{Lent}
 use Rattle.history.specs.Instance.{windowOf, real}
 use Rattle.transparency.specs.Machine.{machine}
 use Rattle.transparency.specs.Beside.{coreAfter, bareAfter}
-use Rattle.transparency.specs.Census.{bareCounts, census-after}
+use Rattle.transparency.specs.Replies.{bareReply}
+use Rattle.transparency.specs.Census.{bareCounts, census-after, census-reply}
 use Rattle.words.specs.CoreOf.{coreOf}
 use Rattle.call_words.specs.Replies.{codeBy}
 use Rattle.words_census.specs.Promise.{CensusPromise}
@@ -42,16 +42,21 @@ module _ (first pages base : ℕ) (ram ws old : List ℕ) where
       go zero = refl
       go (suc n) = refl
 
-  after : (counts : List ℕ) → counts ≡ countsAfter (coreOf ws) base ram first pages old → (list : List (Lent real machine)) → coreOf ws ≡ coreAfter list
-      → counts ≡ bareCounts (bareAfter list) (windowOf base ram) first pages old
-  after counts e list made =
-      e ∙ ap (λ (c : Core). countsAfter c base ram first pages old) made ∙ census-after list (windowOf base ram) first pages old
+  after : (n : ℕ) (counts : List ℕ) → n ≡ codeBy (stepOf (coreOf ws) base ram (Census first pages) .reply)
+      → counts ≡ countsAfter (coreOf ws) base ram first pages old → (list : List (Lent real machine)) → coreOf ws ≡ coreAfter list
+      → (counts ≡ bareCounts (bareAfter list) (windowOf base ram) first pages old)
+      × (n ≡ codeBy (bareReply (bareAfter list) (windowOf base ram) (Census first pages) .reply))
+  after n counts en ec list made = (
+    ec ∙ ap (λ (c : Core). countsAfter c base ram first pages old) made ∙ census-after list (windowOf base ram) first pages old,
+    en ∙ ap (λ (c : Core). codeBy (stepOf c base ram (Census first pages) .reply)) made
+        ∙ ap codeBy (census-reply list (windowOf base ram) first pages),
+  )
 
   pub promise-refused : (n : ℕ) → n ≡ missedOf (coreOf ws .privilege .level) base (length ram) (Census first pages) → (n ≡ 0 → ⊥)
       → CensusPromise first pages base ram ws n old old
   unfolding missed countsAfter
   promise-refused n e some =
-      record { code = e ∙ code-is; counted = stays; unchanged = λ h. refl; demand-3 = after old stays }
+      record { code = e ∙ code-is; counted = stays; unchanged = λ h. refl; demand-3 = after n old (e ∙ code-is) stays }
     where
       stays : old ≡ countsAfter (coreOf ws) base ram first pages old
       stays = go (missedBy (coreOf ws) base ram (Census first pages)) (λ z. some (e ∙ z))
@@ -66,7 +71,7 @@ module _ (first pages base : ℕ) (ram ws old : List ℕ) where
       → CensusPromise first pages base ram ws 0 old counts
   unfolding missed countsAfter
   promise-done n e none privilege ep r er s es counts ec =
-      record { code = sym none ∙ e ∙ code-is; counted = done; unchanged = λ h. absurd (omega arith); demand-3 = after counts done }
+      record { code = sym none ∙ e ∙ code-is; counted = done; unchanged = λ h. absurd (omega arith); demand-3 = after 0 counts (sym none ∙ e ∙ code-is) done }
     where
       done : counts ≡ countsAfter (coreOf ws) base ram first pages old
       done = rw (sym e ∙ none) (ec ∙ rw (es, er, ep))

@@ -2,7 +2,7 @@
 use borrow.Author.Needs.{needs}
 use Rattle.census.proofs.count.place_of.Statement.{statement}
 use Rattle.census.proofs.count.place_of.Tie as tie
-use Rattle.census.proofs.Places.{by-status, by-rights, status-in, rights-in}
+use Rattle.census.proofs.Places.{fault-place, leaf-place, status-in, rights-in}
 
 pub place-of-spec : {M : Type 1} → statement M
 place-of-spec =
@@ -10,6 +10,6 @@ place-of-spec =
     (tie.spec
     (λ enum-known-end. search needs) (λ enum-known-w. search needs) (λ cast-result. search needs)
     (λ enum-known-w-2. search needs) (λ cast-result-2. search needs) (λ add-result. search needs) (λ enum-told. search needs)
-    (λ returns. (search (by-status, needs), search (status-in, needs)))
-    (λ returns-2. (search (by-rights, needs), search (rights-in, needs)))
+    (λ returns. (search (fault-place, needs), search (status-in, needs)))
+    (λ returns-2. (search (leaf-place, needs), search (rights-in, needs)))
     (λ returns-3. search needs))
