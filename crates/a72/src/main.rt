@@ -1,4 +1,6 @@
-// The tool: traces on the proved core, one translation step by step, and the chord.
+// The tool: traces on the proved core, one translation step by step, a census of pages, and the chord.
+mod arguments;
+mod pages;
 mod translation;
 
 use trace_file::report;
@@ -11,6 +13,7 @@ fn help(fd: i32) {
         fd,
         b"       a72 walk TRACE ADDRESS [read|write|fetch] [LEVEL]\n",
     );
+    io::write_all(fd, b"       a72 census TRACE FIRST PAGES [LEVEL] [--svg]\n");
     io::write_all(fd, b"       a72 chord\n");
     io::write_all(fd, b"       a72 help\n");
 }
@@ -27,11 +30,15 @@ fn details() {
     );
     io::write_all(
         1,
+        b"census carries out a trace, then shows how the PAGES pages of 4 KiB from FIRST (both hexadecimal) end in a\n       fresh walk at the core's level, or as named: a table, and a map; --svg: the map as a picture.\n",
+    );
+    io::write_all(
+        1,
         b"chord  sixteen voices, a page each, and every order of a small chord: no tone is lost; against a stale\n       cache, which loses one.\n\n",
     );
     io::write_all(
         1,
-        b"TRACE is a file of lines: tr, dpa, fpa, ld, st, if, sys, reg, level, mark, x, abort; fresh, window, zero,\npoke; leaves l-..; pokes p-..; parts w-.. Numbers are hexadecimal without 0x; # starts a comment. A file with a\nbad line gets a message `a72: FILE:LINE:COLUMN: reason` on standard error, and nothing else happens.\n",
+        b"TRACE is a file of lines: tr, dpa, fpa, ld, st, if, sys, reg, level, mark, x, abort, census; fresh, window, zero,\npoke; leaves l-..; pokes p-..; parts w-.. Numbers are hexadecimal without 0x; # starts a comment. A file with a\nbad line gets a message `a72: FILE:LINE:COLUMN: reason` on standard error, and nothing else happens.\n",
     );
 }
 
@@ -71,6 +78,23 @@ fn walk_command() {
     translation::walk(&path[..n]);
 }
 
+fn census_command() {
+    let count = pages::count();
+    if count < 5 || 6 < count {
+        wrong(
+            b"census wants a TRACE, a FIRST address and a number of PAGES, then a level and --svg if you like",
+        );
+        return;
+    }
+    let mut path = io::buffer();
+    let n = os::arg(2, &mut path);
+    if os::errno() != 0 {
+        report::system(b"TRACE");
+        return;
+    }
+    pages::census(&path[..n]);
+}
+
 fn chord_command() {
     if os::arg_count() != 2 {
         wrong(b"chord wants nothing more");
@@ -87,6 +111,10 @@ fn command(word: u64) {
     }
     if word == form::letters(b"walk") {
         walk_command();
+        return;
+    }
+    if word == form::letters(b"census") {
+        census_command();
         return;
     }
     if word == form::letters(b"chord") {

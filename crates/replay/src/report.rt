@@ -75,7 +75,7 @@ fn row(kind: u64, counts: &[u64; 2048]) {
 
 fn rows(counts: &[u64; 2048]) {
     let mut kind = 0u64;
-    while kind < 20 {
+    while kind < 21 {
         row(kind, counts);
         kind += 1;
     }

@@ -22,7 +22,7 @@ fn nth(names: &[u8], k: u64) {
 
 pub fn kind_name(kind: u64) {
     nth(
-        b"abort\ndpa\nfpa\nif\nl-walk\nld\nleaf\nlevel\nmark\npoke\nreg\nst\nsys AT\nsys DC ZVA\nsys TLBI\nsys other\ntr fetch\ntr read\ntr write\nx\n",
+        b"abort\ncensus\ndpa\nfpa\nif\nl-walk\nld\nleaf\nlevel\nmark\npoke\nreg\nst\nsys AT\nsys DC ZVA\nsys TLBI\nsys other\ntr fetch\ntr read\ntr write\nx\n",
         kind,
     );
 }
@@ -30,9 +30,9 @@ pub fn kind_name(kind: u64) {
 // What a status is called: PAR's of an AT, a fault's of a translation or a walk, an abort's of an access.
 fn status_word(kind: u64) {
     match kind {
-        3 => say::text(b"insn "),
-        5 | 11 | 13 => say::text(b"data "),
-        12 => say::text(b"PAR "),
+        4 => say::text(b"insn "),
+        6 | 12 | 14 => say::text(b"data "),
+        13 => say::text(b"PAR "),
         _ => say::text(b"fault "),
     }
 }
@@ -51,9 +51,9 @@ fn far_name(kind: u64, class: u64) {
 }
 
 pub fn answer_name(kind: u64, class: u64) {
-    if class < 7 {
+    if class < 8 {
         nth(
-            b"ok\nval\nnone\npair\nundefined\nunimplemented\nPAR ok\n",
+            b"ok\nval\nnone\npair\nundefined\nunimplemented\nPAR ok\ncounts\n",
             class,
         );
     } else {

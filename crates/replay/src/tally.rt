@@ -5,50 +5,51 @@ use word::bits;
 fn system_kind(op: &[u64; 8]) -> u64 {
     let zeroing = (op[1] == 3) & (op[2] == 7) & (op[3] == 4) & (op[4] == 1);
     if zeroing {
-        13
-    } else if (op[2] == 7) & (op[3] == 8) {
-        12
-    } else if op[2] == 8 {
         14
-    } else {
+    } else if (op[2] == 7) & (op[3] == 8) {
+        13
+    } else if op[2] == 8 {
         15
+    } else {
+        16
     }
 }
 
 fn translation_kind(kind: u64) -> u64 {
     match kind {
-        1 => 17,
-        2 => 18,
-        _ => 16,
+        1 => 18,
+        2 => 19,
+        _ => 17,
     }
 }
 
 fn other_kind(code: u64) -> u64 {
-    if code < 40 { 6 } else { 9 }
+    if code < 40 { 7 } else { 10 }
 }
 
 fn kind_of(op: &[u64; 8]) -> u64 {
     match op[0] {
         1 => translation_kind(op[1]),
-        2 => 1,
-        3 => 2,
-        4 => 5,
-        5 => 11,
-        6 => 3,
+        2 => 2,
+        3 => 3,
+        4 => 6,
+        5 => 12,
+        6 => 4,
         7 => system_kind(op),
-        8 => 10,
-        9 => 7,
-        10 => 8,
-        11 => 19,
+        8 => 11,
+        9 => 8,
+        10 => 9,
+        11 => 20,
         12 => 0,
-        23 => 4,
+        13 => 1,
+        23 => 5,
         _ => other_kind(op[0]),
     }
 }
 
 // An AT that was carried out answers as PAR does.
 fn done_class(kind: u64, par: u64) -> u64 {
-    if kind != 12 {
+    if kind != 13 {
         0
     } else if par % 2 == 1 {
         16 + par / 2 % 64
@@ -57,9 +58,8 @@ fn done_class(kind: u64, par: u64) -> u64 {
     }
 }
 
-// The place of an answer in its row: ok 0, val 1, none 2, pair 3, undefined 4, unimplemented 5, PAR ok 6, numbers
-// from 8, statuses from
-// 16, leaves by level from 80.
+// The place of an answer in its row: ok 0, val 1, none 2, pair 3, undefined 4, unimplemented 5, PAR ok 6, counts 7,
+// numbers from 8, statuses from 16, leaves by level from 80.
 fn class_of(kind: u64, ans: [u64; 4], par: u64) -> u64 {
     match ans[0] {
         0 => done_class(kind, par),
@@ -70,6 +70,7 @@ fn class_of(kind: u64, ans: [u64; 4], par: u64) -> u64 {
         5 => 8 + ans[1] % 8,
         6 => 4,
         7 => 5,
+        11 => 7,
         _ => 16 + ans[2] % 64,
     }
 }

@@ -3,6 +3,8 @@ use crate::edits;
 use crate::leaves;
 use crate::memory;
 use a72abi::calls;
+use a72abi::inspect;
+use digest::counts;
 use words::place::State;
 
 // The window: its base, and how many of RAM's bytes are in it.
@@ -17,8 +19,26 @@ pub fn start(state: &mut State) -> Machine {
     Machine { base: 0, len: 0 }
 }
 
-// An operation of code 1 to 12, 20 to 28 or 40 to 45: its answer.
+// The code of a census.
+const CENSUS: u64 = 13;
+
+// A census: how many of its counts are not 0, and their digest; or the number of the check that it misses.
+fn census(state: &State, base: u64, ram: &[u8], first: u64, pages: u64) -> [u64; 4] {
+    let mut found = [0u64; 129];
+    let number = inspect::a72_census(state, first, pages, &mut found, base, ram);
+    if number == 0 {
+        let s = counts::counts(&found);
+        [11, s.count, s.digest, 0]
+    } else {
+        [5, number, 0, 0]
+    }
+}
+
+// An operation of code 1 to 13, 20 to 28 or 40 to 45: its answer.
 fn operate(state: &mut State, base: u64, ram: &mut [u8], op: &[u64; 8]) -> [u64; 4] {
+    if op[0] == CENSUS {
+        return census(state, base, ram, op[1], op[2]);
+    }
     if op[0] < 20 {
         let mut ans = [99; 4];
         calls::a72_step(op, state, base, ram, &mut ans);

@@ -218,3 +218,31 @@ pub fn run(path: &[u8]) {
     run_open(fd, path, &mut state, &mut ram);
     libc::close(fd);
 }
+
+// The window after a whole trace, or that the trace was refused.
+pub enum Ran {
+    Whole(Machine),
+    Refused,
+}
+
+fn silently_open(fd: i32, path: &[u8], state: &mut State, ram: &mut [u8]) -> Ran {
+    let good = is_trace(fd, path, state, ram);
+    if !good {
+        return Ran::Refused;
+    }
+    let t = pass(Mode::Silent, fd, path, state, ram);
+    let m = t.machine;
+    if t.bad { Ran::Refused } else { Ran::Whole(m) }
+}
+
+// A trace carried out with nothing said but what is wrong with it.
+pub fn silently(path: &[u8], state: &mut State, ram: &mut [u8]) -> Ran {
+    let fd = os::open_read(path);
+    if fd < 0 {
+        report::system(path);
+        return Ran::Refused;
+    }
+    let ran = silently_open(fd, path, state, ram);
+    libc::close(fd);
+    ran
+}

@@ -1,6 +1,7 @@
 // A line of output for an operation: its number in the trace, the operation, the answer, and the core after it.
 use digest::parts;
 use trace_text::out;
+use trace_text::say;
 use trace_text::write;
 use words::place;
 use words::place::State;
@@ -53,19 +54,6 @@ fn digests(line: &mut [u8; 1024], n: usize, state: &State, ram: u64) -> usize {
     digest(line, e, b" M=", ram)
 }
 
-fn write_first(line: &[u8], n: usize) -> bool {
-    if n <= line.len() {
-        io::write_all(1, &line[0..n])
-    } else {
-        false
-    }
-}
-
-// The line's first n bytes go to standard output.
-fn flush(line: &[u8; 1024], n: usize) -> bool {
-    write_first(line, n)
-}
-
 // Whether the line was written.
 pub fn operation(number: u64, op: &[u64; 8], ans: &[u64; 4], state: &State, ram: u64) -> bool {
     let mut line = [0u8; 1024];
@@ -78,5 +66,5 @@ pub fn operation(number: u64, op: &[u64; 8], ans: &[u64; 4], state: &State, ram:
     let g = place(&mut line, f, state);
     let h = digests(&mut line, g, state, ram);
     let n = out::byte(&mut line, h, b'\n');
-    flush(&line, n)
+    say::line(&line, n)
 }

@@ -41,7 +41,7 @@ fn no_form() -> Form {
     Form { name: 0, args: 0 }
 }
 
-// Document 01's list.
+// Document 01's list, and the census.
 fn listed(code: u64) -> Form {
     match code {
         // tr kn
@@ -68,6 +68,8 @@ fn listed(code: u64) -> Form {
         11 => row(0x78, 0x776E),
         // abort e
         12 => row(0x61_626F_7274, 0x65),
+        // census nn
+        13 => row(0x6365_6E73_7573, 0x6E6E),
         _ => no_form(),
     }
 }

@@ -3,6 +3,19 @@ pub fn text(s: &[u8]) {
     io::write_all(1, s);
 }
 
+fn first(line: &[u8], n: usize) -> bool {
+    if n <= line.len() {
+        io::write_all(1, &line[0..n])
+    } else {
+        false
+    }
+}
+
+// The first n bytes of a line. Whether they were written.
+pub fn line(line: &[u8; 1024], n: usize) -> bool {
+    first(line, n)
+}
+
 pub fn hex(n: u64, width: usize) {
     io::print_hex(1, n, width);
 }

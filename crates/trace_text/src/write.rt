@@ -103,6 +103,13 @@ fn faulted(line: &mut [u8; 1024], n: usize, word: &[u8], ans: &[u64; 4]) -> usiz
     status(line, a, ans[2])
 }
 
+// A census: how many of its counts are not 0, and the digest of all.
+fn counts(line: &mut [u8; 1024], n: usize, ans: &[u64; 4]) -> usize {
+    let a = said(line, n, b"counts", ans[1]);
+    let b = out::byte(line, a, b':');
+    out::hex(line, b, ans[2], 16)
+}
+
 // An answer of four words.
 pub fn answer(line: &mut [u8; 1024], n: usize, ans: &[u64; 4]) -> usize {
     match ans[0] {
@@ -123,6 +130,7 @@ pub fn answer(line: &mut [u8; 1024], n: usize, ans: &[u64; 4]) -> usize {
         8 => faulted(line, n, b"fault", ans),
         9 => data(line, n, ans),
         10 => faulted(line, n, b"insn", ans),
+        11 => counts(line, n, ans),
         _ => out::text(line, n, b"panic"),
     }
 }

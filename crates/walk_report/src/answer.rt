@@ -6,6 +6,7 @@ use tlb::access::Answer;
 use tlb::access::Kind;
 use tlb::access::Privilege;
 use tlb::resolve;
+use trace_text::out;
 use trace_text::say;
 use walk::level::Leaf;
 use walk::level::Walked;
@@ -38,17 +39,10 @@ fn in_words(a: Answer) -> Told {
 }
 
 fn show_rights(regime: Regime, leaf: Leaf) {
-    say::text(b"rights     ");
-    match regime {
-        Regime::El1 => {
-            say::text(b"EL0 ");
-            fields::rights(leaf.perms, 0);
-            say::text(b"  EL1 ");
-        }
-        Regime::El2 => say::text(b"EL2 "),
-        Regime::El3 => say::text(b"EL3 "),
-    }
-    fields::rights(leaf.perms, 3);
+    let mut line = [0u8; 1024];
+    let a = out::text(&mut line, 0, b"rights     ");
+    let n = fields::rights(&mut line, a, regime, leaf.perms);
+    say::line(&line, n);
     if leaf.global {
         say::text(b"  for every ASID\n");
     } else {
@@ -107,7 +101,7 @@ pub fn show(t: Told) {
             say::text(b"fault 0x");
             say::hex(t.value, 2);
             say::text(b", ");
-            fields::status(t.value);
+            fields::show_status(t.value);
         }
     }
 }

@@ -23,7 +23,7 @@ fn kind_name(kind: Kind) {
     }
 }
 
-fn regime_name(r: Regime) {
+pub fn regime_name(r: Regime) {
     match r {
         Regime::El1 => say::text(b"EL1&0"),
         Regime::El2 => say::text(b"EL2"),

@@ -1,5 +1,7 @@
 // The fields of descriptors, in words and numbers.
+use trace_text::out;
 use trace_text::say;
+use walk::regime::Regime;
 
 fn bit(x: u64, n: u64) -> u64 {
     (x >> (n % 64)) % 2
@@ -27,32 +29,54 @@ pub fn leaf(desc: u64) {
     say::field(b" UXN=", bit(desc, 54));
 }
 
-fn letter(perms: u8, n: u8, name: &[u8]) {
-    if (perms >> (n % 8)) % 2 == 1 {
-        say::text(name);
+fn letter(line: &mut [u8; 1024], n: usize, perms: u8, bit: u8, name: u8) -> usize {
+    if (perms >> (bit % 8)) % 2 == 1 {
+        out::byte(line, n, name)
     } else {
-        say::text(b"-");
+        out::byte(line, n, b'-')
     }
 }
 
-// Rights as three letters, from a bit on.
-pub fn rights(perms: u8, from: u8) {
-    let n = from % 4;
-    letter(perms, n, b"r");
-    letter(perms, n + 1, b"w");
-    letter(perms, n + 2, b"x");
+// A level's rights as three letters, from a bit on.
+fn three(line: &mut [u8; 1024], n: usize, perms: u8, from: u8) -> usize {
+    let bit = from % 4;
+    let a = letter(line, n, perms, bit, b'r');
+    let b = letter(line, a, perms, bit + 1, b'w');
+    letter(line, b, perms, bit + 2, b'x')
 }
 
-// What a fault status means, and its level.
-pub fn status(code: u64) {
-    match code / 4 % 16 {
-        0 => say::text(b"address size fault"),
-        1 => say::text(b"translation fault"),
-        2 => say::text(b"access flag fault"),
-        3 => say::text(b"permission fault"),
-        4 => say::text(b"external abort"),
-        5 => say::text(b"external abort on a table walk"),
-        _ => say::text(b"another fault"),
-    }
-    say::field(b", level ", code % 4);
+// The rights of each level of a regime, into a line.
+pub fn rights(line: &mut [u8; 1024], n: usize, regime: Regime, perms: u8) -> usize {
+    let k = match regime {
+        Regime::El1 => {
+            let a = out::text(line, n, b"EL0 ");
+            let b = three(line, a, perms, 0);
+            out::text(line, b, b"  EL1 ")
+        }
+        Regime::El2 => out::text(line, n, b"EL2 "),
+        Regime::El3 => out::text(line, n, b"EL3 "),
+    };
+    three(line, k, perms, 3)
+}
+
+// What a fault status means, and its level, into a line.
+pub fn status(line: &mut [u8; 1024], n: usize, code: u64) -> usize {
+    let a = match code / 4 % 16 {
+        0 => out::text(line, n, b"address size fault"),
+        1 => out::text(line, n, b"translation fault"),
+        2 => out::text(line, n, b"access flag fault"),
+        3 => out::text(line, n, b"permission fault"),
+        4 => out::text(line, n, b"external abort"),
+        5 => out::text(line, n, b"external abort on a table walk"),
+        _ => out::text(line, n, b"another fault"),
+    };
+    let b = out::text(line, a, b", level ");
+    out::decimal(line, b, code % 4)
+}
+
+// The same on standard output.
+pub fn show_status(code: u64) {
+    let mut line = [0u8; 1024];
+    let n = status(&mut line, 0, code);
+    say::line(&line, n);
 }

@@ -42,7 +42,7 @@ fn show_leaf(w: WalkState, leaf: Leaf) {
 fn show_end(w: WalkState, end: Walked) {
     match end {
         Walked::Mapped(leaf) => show_leaf(w, leaf),
-        Walked::Fault(code) => fields::status(code as u64),
+        Walked::Fault(code) => fields::show_status(code as u64),
     }
 }
 
@@ -112,7 +112,7 @@ fn show_refused(answer: Walked) {
     match answer {
         Walked::Mapped(_) => {}
         Walked::Fault(code) => {
-            fields::status(code as u64);
+            fields::show_status(code as u64);
             if code == 4 {
                 say::text(b": the address is out of range, or walks are disabled\n");
             } else {

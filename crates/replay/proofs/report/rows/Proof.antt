@@ -6,10 +6,10 @@ use Rattle.replay.proofs.report.rows.Statement.{statement}
 use Rattle.replay.proofs.report.rows.Tie as tie
 
 abbrev Inv-loop : tie.InvT-loop
-Inv-loop counts kind₀ kind = kind ≤ 20
+Inv-loop counts kind₀ kind = kind ≤ 21
 
 abbrev μ-loop : tie.MeasureT-loop
-μ-loop counts kind₀ kind = 20 - kind
+μ-loop counts kind₀ kind = 21 - kind
 
 returns : tie.Need-returns Inv-loop μ-loop
 returns c = tt
