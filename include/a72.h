@@ -16,7 +16,7 @@
  *
  * Numbers. Each function gives a number: A72_DONE, that of a check that the call misses, A72_NAMES_NOTHING,
  * A72_UNDEFINED, A72_UNIMPLEMENTED, or A72_FAULT plus the status of a fault. From 1 to 66 nothing is written: not the
- * state, not RAM, not the answer's word. A fault has been taken by nobody: a72_abort takes it.
+ * state, not RAM, not the answer's word or counts. A fault has been taken by nobody: a72_abort takes it.
  */
 #ifndef A72_H
 #define A72_H
@@ -97,7 +97,8 @@ typedef uint64_t a72_state[A72_WORDS];
 #define A72_CHECK_FIELD 4  /* a field of a system operation does not fit its bits */
 #define A72_CHECK_NUMBER 5 /* the number of a general register is above 31 */
 #define A72_CHECK_KEY 6    /* the key is that of no register kept */
-#define A72_LAST_CHECK 63  /* 7 to 63 are kept for checks to come */
+#define A72_CHECK_RANGE 7  /* a census of more than A72_MOST_PAGES pages, or of a range that passes 2^64 */
+#define A72_LAST_CHECK 63  /* 8 to 63 are kept for checks to come */
 #define A72_NAMES_NOTHING 64 /* a kind of access, a mark, a regime, an exception or an operation's code is none */
 #define A72_UNDEFINED 65
 #define A72_UNIMPLEMENTED 66
@@ -114,6 +115,14 @@ static inline uint8_t a72_status(uint64_t number) { return (uint8_t)(number - A7
 #define A72_READ 1
 #define A72_WRITE 2
 #define A72_FETCH 4
+
+/* The counts of a census: where each stands. */
+#define A72_COUNTS 129
+#define A72_COUNT_STATUS 0  /* by status, 64 of them */
+#define A72_COUNT_RIGHTS 64 /* by permissions, 64 of them */
+#define A72_COUNT_FLAT 128
+
+#define A72_MOST_PAGES 65536
 
 /* An exception, four words: its code and what is said beside it; all else is 0. */
 #define A72_EXCEPTION_UNDEFINED 0
@@ -212,6 +221,14 @@ uint64_t a72_general(uint64_t state[A72_WORDS], uint64_t number, uint64_t value)
  * level and the PC are the vector's. */
 uint64_t a72_abort(uint64_t state[A72_WORDS], const uint64_t exception[4]);
 
+/* How pages are mapped now: `pages` pages of 4 KiB, at most A72_MOST_PAGES, from that in which `first` lies; the last
+ * may end at 2^64. Each is walked afresh by its own address in the regime of the present level, and counted at one
+ * place: A72_COUNT_FLAT where stage 1 is off, A72_COUNT_STATUS plus the status of a fault, or A72_COUNT_RIGHTS plus the
+ * permissions of the page (as in an entry). So the counts add up to `pages`. With A72_DONE all are written, otherwise
+ * none. Neither core nor RAM changes, and the cache is not asked. */
+uint64_t a72_census(const uint64_t state[A72_WORDS], uint64_t first, uint64_t pages, uint64_t counts[A72_COUNTS],
+                    uint64_t base, const uint8_t *ram, size_t len);
+
 /* One walk of the tables without a core, for those who keep a cache of their own. `registers`: SCTLR, TCR and TTBR0 of
  * the regime, TTBR1_EL1, SCR_EL3, HCR_EL2. `regime`: 1 EL1 and EL0, 2 EL2, 3 EL3. `va` has no tag. `leaf`: output
  * address, descriptor, permissions (as in an entry), level, and 1 where it holds for every ASID. */
@@ -236,6 +253,7 @@ uint64_t a72_step(const uint64_t op[8], uint64_t state[A72_WORDS], uint64_t base
 #define A72_OP_MARK 10     /* 0 or 1 */
 #define A72_OP_GENERAL 11  /* number, value */
 #define A72_OP_ABORT 12    /* the four words of an exception */
+#define A72_OP_CENSUS 13   /* first address, pages: whether it is done; the counts are a72_census's */
 
 /* The four words of an answer: its code and what is said beside it; all else is 0. */
 #define A72_ANSWER_DONE 0

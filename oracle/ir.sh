@@ -1,14 +1,12 @@
 #!/bin/sh
 # Instructions a call of each case of `bench`, on the Rust and on the library: callgrind counts two runs of different
-# length, and their difference is divided by the calls between them. Writes lines `NUMBER RUST LIBRARY` to the file
+# length (a census walks 65,536 pages a call: few), and their difference is divided by the calls between them. Writes lines `NUMBER RUST LIBRARY` to the file
 # given, which `bench time --counts FILE` takes.
 #   ir.sh BENCH FILE [NUMBER..]
 set -eu
 bench=$1
 file=$2
 shift 2
-few=200
-many=1200
 command -v valgrind >/dev/null || { echo "ir.sh: valgrind is missing" >&2; exit 2; }
 work=$(mktemp -d)
 trap 'rm -r "$work"' EXIT
@@ -22,13 +20,19 @@ whole() {
 
 # Instructions a call.
 each() {
+    case $3 in
+        census*) few=1 many=3 ;;
+        *) few=200 many=1200 ;;
+    esac
     a=$(whole "$1" "$2" $few)
     b=$(whole "$1" "$2" $many)
     awk -v a="$a" -v b="$b" -v n=$((many - few)) 'BEGIN { printf "%.1f", (b - a) / n }'
 }
 
-[ $# -gt 0 ] || set -- $("$bench" list | sed 's/ .*//')
+"$bench" list >"$work/cases"
+[ $# -gt 0 ] || set -- $(sed 's/ .*//' "$work/cases")
 : >"$file"
 for number; do
-    echo "$number $(each "$number" rust) $(each "$number" ours)" | tee -a "$file"
+    name=$(sed -n "s/^$number //p" "$work/cases")
+    echo "$number $(each "$number" rust "$name") $(each "$number" ours "$name")" | tee -a "$file"
 done

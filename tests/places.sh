@@ -1,6 +1,6 @@
 #!/bin/sh
-# The C interface is one wherever it is written: the places of a state's words, the numbers that the functions give, the keys of the registers,
-# and each function's parameters. Compares the library (crates/), include/a72.h and bindings/rust/src, line by line. Wants nothing.
+# The C interface is one wherever it is written: the places of a state's words, the numbers that the functions give, the counts of a census, the keys of
+# the registers, and each function's parameters. Compares the library (crates/), include/a72.h and bindings/rust/src, line by line. Wants nothing.
 # Its last line is 'N lines are one in all tables'; where two differ it names both and the place, and ends with 1.
 set -eu
 cd "$(dirname "$0")/.."
@@ -58,6 +58,12 @@ awk '/^pub enum Check / { on = 1 } on && /^    [A-Z][a-z]+( = 1)?,$/ { sub(",", 
 awk '/^#define A72_CHECK_/ { sub("A72_", "", $2); print $2, $3 }' $header | table $header
 one number bindings/rust/src/answer.rs $header
 
+# The counts of a census: NAME NUMBER.
+awk "$constants" bindings/rust/src/count.rs | table bindings/rust/src/count.rs
+awk '/^#define A72_(COUNTS|COUNT_[A-Z]+|MOST_PAGES) [0-9]+/ { sub(/^A72_(COUNT_)?/, "", $2); print $2, $3 }' $header | table $header
+one count bindings/rust/src/count.rs $header
+counts=$(sed -n 's/^COUNTS //p' "$work/$header")
+
 # Keys of registers: NAME OP0 OP1 CRN CRM OP2.
 awk '/^    [A-Z0-9_]+ [0-9]+ [0-9]+ [0-9]+ [0-9]+, place::/ { sub(",", "", $5); print $1, 3, $2, $3, $4, $5 }' bindings/rust/src/registers.rs |
     table bindings/rust/src/registers.rs
@@ -66,7 +72,7 @@ one key bindings/rust/src/registers.rs $header
 
 # Functions, sorted: NAME, then each parameter as a C type without its name; `-` where nothing is given back.
 awk -f tools/functions.awk crates/a72abi/src/*.rt | sort | table crates/a72abi/src
-awk -f tools/functions.awk $header | sort | table $header
+sed "s/A72_COUNTS]/$counts]/" $header | awk -f tools/functions.awk | sort | table $header
 awk -f tools/functions.awk bindings/rust/src/library.rs | sort | table bindings/rust/src/library.rs
 for other in $header bindings/rust/src/library.rs; do one function crates/a72abi/src "$other"; done
 

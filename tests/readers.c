@@ -129,6 +129,27 @@ static void walk(void) {
     MUST(a72_walk(registers, 4, VA, leaf, BASE, ram, LEN) == A72_NAMES_NOTHING);
 }
 
+/* The counts of a census, the core as it was; and of one that is refused none. */
+static void census(void) {
+    a72_state before;
+    uint64_t counts[A72_COUNTS], all = 0;
+    memcpy(before, core, sizeof before);
+    memset(counts, 0x55, sizeof counts);
+    MUST(a72_census(core, VA, A72_MOST_PAGES + 1, counts, BASE, ram, LEN) == A72_CHECK_RANGE);
+    MUST(a72_census(core, UINT64_MAX, 2, counts, BASE, ram, LEN) == A72_CHECK_RANGE);
+    MUST(a72_census(core, VA, 1, counts, UINT64_MAX, ram, LEN) == A72_CHECK_WINDOW);
+    MUST(counts[0] == UINT64_C(0x5555555555555555) && counts[A72_COUNT_FLAT] == counts[0]);
+    MUST(a72_census(core, BASE - 1, A72_MOST_PAGES, counts, BASE, ram, LEN) == A72_DONE);
+    MUST(counts[A72_COUNT_RIGHTS + 0x3C] == LEN >> 12 && counts[A72_COUNT_FLAT] == 0);
+    MUST(counts[A72_COUNT_STATUS + 5] == 1 && counts[A72_COUNT_STATUS + 7] == 512 - (LEN >> 12));
+    for (size_t i = 0; i < A72_COUNTS; i++)
+        all += counts[i];
+    MUST(all == A72_MOST_PAGES && memcmp(before, core, sizeof before) == 0);
+    a72_level(core, 3);
+    MUST(a72_census(core, UINT64_MAX, 1, counts, BASE, ram, LEN) == A72_DONE && counts[A72_COUNT_FLAT] == 1);
+    a72_level(core, 1);
+}
+
 /* One operation by its words: whether the answer has this code and this word after it. */
 static int answers(const uint64_t op[8], uint64_t code, uint64_t word) {
     uint64_t ans[4];
@@ -143,13 +164,16 @@ static void steps(void) {
     const uint64_t fetch_pa[8] = {A72_OP_FETCH_PA, UNMAPPED, 0, 0, 0, 0, 0, 0};
     const uint64_t tlbi_alle2[8] = {A72_OP_SYSTEM, 4, 8, 7, 0, 0, 0, 0};
     const uint64_t down[8] = {A72_OP_LEVEL, 0, 0, 0, 0, 0, 0, 0};
+    const uint64_t counts[8] = {A72_OP_CENSUS, VA, 1, 0, 0, 0, 0, 0};
+    const uint64_t past[8] = {A72_OP_CENSUS, UINT64_MAX, 2, 0, 0, 0, 0, 0};
     const uint64_t svc[8] = {A72_OP_ABORT, A72_EXCEPTION_SVC, 5, 0, 0, 0, 0, 0};
-    const uint64_t none[8] = {A72_OP_ABORT + 1, 0, 0, 0, 0, 0, 0, 0};
+    const uint64_t none[8] = {A72_OP_CENSUS + 1, 0, 0, 0, 0, 0, 0, 0};
     uint64_t ans[4];
     MUST(answers(load, A72_ANSWER_VALUE, 5) && answers(odd, A72_ANSWER_CHECK, A72_CHECK_SIZE));
     MUST(answers(store, A72_ANSWER_DATA_ABORT, UNMAPPED) && answers(fetch, A72_ANSWER_INSN_ABORT, UNMAPPED));
     MUST(answers(translate, A72_ANSWER_FAULT, UNMAPPED) && answers(fetch_pa, A72_ANSWER_NONE, 0));
     MUST(answers(tlbi_alle2, A72_ANSWER_UNIMPLEMENTED, 0));
+    MUST(answers(counts, A72_ANSWER_DONE, 0) && answers(past, A72_ANSWER_CHECK, A72_CHECK_RANGE));
     MUST(answers(down, A72_ANSWER_DONE, 0) && answers(tlbi_alle2, A72_ANSWER_UNDEFINED, 0));
     a72_set_pc(core, 0x1000);
     MUST(answers(svc, A72_ANSWER_DONE, 0) && a72_get_elr(core, 1) == 0x1004 && a72_get_pc(core) == 0x400);
@@ -163,6 +187,7 @@ int main(void) {
     accesses();
     invalidation();
     walk();
+    census();
     steps();
     printf("%d readings as they must be, %d otherwise\n", tried - failed, failed);
     return failed != 0;

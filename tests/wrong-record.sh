@@ -28,6 +28,11 @@ while [ "$(od -An -tu8 -j "$first" -N 8 crates/replay/data/cases.rec | tr -d ' '
 notice cases.rec $((first + 64)) "an answer"
 notice cases.rec $((first + 8 * 28)) "the digest of the registers"
 notice cases.rec $((first + 8 * 31)) "the digest of RAM"
+# census.rec: the first census, whose answer has the digest in word 10 of its line.
+code() { od -An -tu8 -j "$1" -N 8 crates/replay/data/census.rec | tr -d ' '; }
+first=$((8 * 8))
+while [ "$(code "$first")" != 13 ]; do first=$((first + ($(code "$first") < 60 ? 256 : 64))); done
+notice census.rec $((first + 8 * 10)) "the digest of a census's counts"
 notice tlbi.rec $(($(wc -c <crates/replay/data/tlbi.rec) - 16)) "the last digest of hints"
 notice outside-perm.rec $(($(wc -c <crates/replay/data/outside-perm.rec) - 16)) "the last outside answer"
 notice rules.rec 24 "the number of operations"

@@ -1,4 +1,5 @@
-/* A core in C: tables that map pages to themselves, a load, a store, a fault that the guest takes, and a TLBI. */
+/* A core in C: tables that map pages to themselves, a load, a store, a fault that the guest takes, a TLBI, and a census
+ * of the pages. */
 #include "a72.h"
 
 #include <inttypes.h>
@@ -75,6 +76,21 @@ static void move(uint64_t va) {
     load("moved, after it", va, 4);
 }
 
+/* How the pages from `first` on are mapped. */
+static void census(uint64_t first, uint64_t pages) {
+    uint64_t counts[A72_COUNTS];
+    if (a72_census(core, first, pages, counts, BASE, ram, LEN) != A72_DONE)
+        return;
+    printf("%" PRIu64 " pages from 0x%" PRIx64 ":", pages, first);
+    for (unsigned i = 0; i < 64; i++)
+        if (counts[A72_COUNT_STATUS + i] != 0)
+            printf(" status 0x%02x %" PRIu64 ",", i, counts[A72_COUNT_STATUS + i]);
+    for (unsigned i = 0; i < 64; i++)
+        if (counts[A72_COUNT_RIGHTS + i] != 0)
+            printf(" permissions 0x%02x %" PRIu64 ",", i, counts[A72_COUNT_RIGHTS + i]);
+    printf(" flat %" PRIu64 "\n", counts[A72_COUNT_FLAT]);
+}
+
 /* The cache, and the entry of a page. */
 static void show(uint64_t va) {
     struct a72_counters c = a72_get_counters(core);
@@ -104,6 +120,7 @@ int main(void) {
     load("load where nothing is", 0x1000, 4);
     store("store to a page to be read", BASE + 0xFF000, 4, 1);
     move(va);
+    census(BASE - 0x1000, 0x200);
     show(va);
     return 0;
 }

@@ -1,5 +1,6 @@
 //! pimu's own core and this one, side by side on one short trace: each answer, and at the end all that both hold.
 use a72::{Access, Core, Exception, Ram, Status, Stop, SystemOperation};
+use harness::census::{COUNTS, FLAT, RIGHTS, STATUS};
 use harness::ffi::{exception, state_of};
 use harness::rust::RustCore;
 use harness::{feed, Ans, Core as _, Line, Op};
@@ -32,6 +33,8 @@ const TRACE: &str = "
     sys 3 7 4 1 0            # DC ZVA
     sys 0 7 8 0 0            # AT S1E1R
     sys 4 8 7 0 1f           # TLBI ALLE2, not from EL1
+    census 0 10              # how the first sixteen pages are mapped
+    census ffffffffffffffff 2 # past 2^64
     reg 0 0                  # no register
     level 0
     ld 1000 8
@@ -66,6 +69,19 @@ fn translate(core: &mut Core, ram: &Ram, kind: u8, va: u64) -> Ans {
     }
 }
 
+fn census(core: &Core, ram: &Ram, first: u64, pages: u64) -> Ans {
+    match core.census(ram, first, pages) {
+        Ok(census) => {
+            let mut counts = Box::new([0; COUNTS]);
+            counts[STATUS..STATUS + 64].copy_from_slice(&census.statuses);
+            counts[RIGHTS..RIGHTS + 64].copy_from_slice(&census.rights);
+            counts[FLAT] = census.flat;
+            Ans::Counts(counts)
+        }
+        Err(stop) => answer(Err(stop)),
+    }
+}
+
 /// The operation on this crate's core; `None` for one that the trace above does not have.
 fn step(core: &mut Core, ram: &mut Ram, op: &Op) -> Option<Ans> {
     let done = |outcome: Result<(), Stop>| answer(outcome.map(|()| None));
@@ -78,6 +94,7 @@ fn step(core: &mut Core, ram: &mut Ram, op: &Op) -> Option<Ans> {
             let [op1, crn, crm, op2, rt] = [op1, crn, crm, op2, rt].map(u64::from);
             done(core.system(ram, SystemOperation::new(op1, crn, crm, op2, rt)))
         }
+        Op::Census(first, pages) => census(core, ram, first, pages),
         Op::Reg(key, v) => done(core.write_register(key.into(), v)),
         Op::Level(level) => done(core.set_level(level.into())),
         Op::SetX(number, v) => done(core.set_general(number.into(), v)),

@@ -18,17 +18,19 @@ pub enum Check {
     Number,
     /// 6: the key is that of no register kept.
     Key,
+    /// 7: a census of more than [`crate::MOST_PAGES`] pages, or of a range that passes 2^64.
+    Range,
 }
 
 impl Check {
-    /// Its number in document 01, 1 to 6.
+    /// Its number in the documents, 1 to 7.
     pub fn number(self) -> u64 {
         self as u64
     }
 
     fn of(number: u64) -> Option<Check> {
         use Check::*;
-        [Level, Window, Size, Field, Number, Key]
+        [Level, Window, Size, Field, Number, Key, Range]
             .into_iter()
             .find(|check| check.number() == number)
     }

@@ -1,5 +1,6 @@
 //! The core: its state, and every operation as a method.
 use crate::answer::Stop;
+use crate::census::Census;
 use crate::number::{DONE, FAULT};
 use crate::operation::{Access, Exception, SystemOperation, Width};
 use crate::place::{State, WORDS};
@@ -129,6 +130,16 @@ impl Core {
         match raw::system(&mut self.words, operation.fields(), ram.base, ram.bytes) {
             (DONE, _) => Ok(()),
             (n, address) => Err(Stop::of(n, Access::Write, address)),
+        }
+    }
+
+    /// How `pages` pages of 4 KiB from that of `first` on are mapped in the regime of the present level, by registers
+    /// and RAM as they are: the cache is not asked, and nothing changes. More than [`crate::MOST_PAGES`] pages are
+    /// refused, and a range that passes 2^64; it may end there.
+    pub fn census(&self, ram: &Ram, first: u64, pages: u64) -> Result<Census, Stop> {
+        match raw::census(&self.words, first, pages, ram.base, ram.bytes) {
+            (DONE, counts) => Ok(Census::of(&counts)),
+            (n, _) => Err(Stop::of(n, Access::Read, first)),
         }
     }
 

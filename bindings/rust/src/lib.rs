@@ -1,6 +1,7 @@
 //! Stage 1 address translation of the Cortex-A72: the VMSAv8-64 table walk, its cache (TLB), TLBI, AT, loads, stores
-//! and fetches over one or two pages, and exception entry, as pimu does them. The work is done by a static library
-//! written in Rattle, in which every function is proved to meet its contract; this crate gives it types.
+//! and fetches over one or two pages, exception entry, as pimu does them, and a census of how pages are mapped. The
+//! work is done by a static library written in Rattle, in which every function is proved to meet its contract; this
+//! crate gives it types.
 //!
 //! A [`Core`] owns its state. It owns no memory: each call is lent a window of RAM, a base address and bytes ([`Ram`]).
 //! An answer is a [`Result`] whose error is a [`Stop`]: the call was refused, or the operation is undefined or
@@ -11,7 +12,7 @@
 //! Two pages are mapped by three levels of tables; the second may only be read.
 //!
 //! ```
-//! use a72::{registers, Access, Core, Ram, Stop, Width};
+//! use a72::{registers, Access, Core, Ram, Rights, Stop, Width};
 //!
 //! // RAM of 1 MiB at 0x4000_0000, with tables in its first pages.
 //! let mut bytes = vec![0; 0x10_0000];
@@ -41,6 +42,11 @@
 //! };
 //! assert_eq!((fault.address, fault.status.0), (0x2000, 0x0F));
 //!
+//! // How the first sixteen pages are mapped: two are, one of them for EL1 to write.
+//! let census = core.census(&ram, 0, 16)?;
+//! assert_eq!((census.total(), census.mapped(), census.faults()), (16, 2, 14));
+//! assert_eq!(census.allowing(Rights::PRIVILEGED_WRITE), 1);
+//!
 //! // The guest takes it: the syndrome is in ESR_EL1, the address in FAR_EL1.
 //! core.take(&fault.exception())?;
 //! assert_eq!(core.register(registers::FAR_EL1), Some(0x2000));
@@ -50,8 +56,10 @@
 #![deny(unsafe_code)]
 #![warn(missing_docs)]
 mod answer;
+mod census;
 mod core;
-// `library`, `number` and `place` are the oracle's too, and it uses all of them.
+mod count;
+// `count`, `library`, `number` and `place` are the oracle's too, and it uses all of them.
 #[allow(dead_code)]
 mod library;
 #[allow(dead_code)]
@@ -64,7 +72,9 @@ pub mod registers;
 mod view;
 
 pub use answer::{Check, Fault, Stop};
+pub use census::{Census, Rights};
 pub use core::Core;
+pub use count::MOST_PAGES;
 pub use operation::{Access, Exception, Status, SystemOperation, Width};
 pub use place::WORDS;
 pub use ram::Ram;

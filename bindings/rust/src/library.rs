@@ -67,6 +67,15 @@ extern "C" {
     pub fn a72_mark(state: *mut State, mark: u64) -> u64;
     pub fn a72_general(state: *mut State, number: u64, value: u64) -> u64;
     pub fn a72_abort(state: *mut State, exception: *const [u64; 4]) -> u64;
+    pub fn a72_census(
+        state: *const State,
+        first: u64,
+        pages: u64,
+        counts: *mut [u64; 129],
+        base: u64,
+        ram: *const u8,
+        len: usize,
+    ) -> u64;
     pub fn a72_walk(
         registers: *const [u64; 6],
         regime: u64,

@@ -2,7 +2,7 @@
 
 /// The operation is done.
 pub const DONE: u64 = 0;
-/// The last number of a check; the first is 1, and 1 to 6 are there.
+/// The last number of a check; the first is 1, and 1 to 7 are there.
 pub const LAST_CHECK: u64 = 63;
 /// A word names nothing: an operation's code, a kind of access, a mark, an exception or a part of one.
 pub const NAMES_NOTHING: u64 = 64;

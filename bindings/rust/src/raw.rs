@@ -2,13 +2,14 @@
 //! one, and gives a number; the second number of a pair is what then stands in the answer's word.
 #![allow(unsafe_code)]
 
+use crate::count::{Counts, COUNTS};
 use crate::library;
 use crate::place::State;
 
 // Why each call below is sound: the library reads and writes the array `state` points to, the bytes of `ram` up to the
-// length beside it, and the one word `ans`, and keeps no pointer. All three come from references that live through the
-// call; what it writes is borrowed exclusively, so nothing overlaps. It asks nothing of the values: whatever the
-// words hold, it stays inside and ends, which is proved.
+// length beside it, and the one word `ans` or the array `counts`, and keeps no pointer. All three come from references
+// that live through the call; what it writes is borrowed exclusively, so nothing overlaps. It asks nothing of the
+// values: whatever the words hold, it stays inside and ends, which is proved.
 
 pub fn fresh(state: &mut State) {
     // Sound: one array, borrowed exclusively.
@@ -71,6 +72,13 @@ pub fn system(state: &mut State, fields: [u64; 5], base: u64, ram: &mut [u8]) ->
     // Sound: a state, a slice borrowed exclusively with its own length, and a local word.
     let n = unsafe { library::a72_system(state, op1, crn, crm, op2, rt, &mut ans, base, at, len) };
     (n, ans)
+}
+
+pub fn census(state: &State, first: u64, pages: u64, base: u64, ram: &[u8]) -> (u64, Counts) {
+    let mut counts = [0; COUNTS];
+    // Sound: a state and a slice with its own length, which are only read, and a local array.
+    let n = unsafe { library::a72_census(state, first, pages, &mut counts, base, ram.as_ptr(), ram.len()) };
+    (n, counts)
 }
 
 #[inline]

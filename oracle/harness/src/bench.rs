@@ -1,8 +1,8 @@
 //! pimu's Rust and the library's functions on words, side by side in one process: the same cases, the same inputs.
 //!
 //! On the Rust's side the operation itself is called, behind one call that is not inlined, with RAM at its quickest;
-//! document 01's checks 1 to 6 are not made there. On the library's side its exported function is called. Translations,
-//! loads and stores have a third side: the Rust behind the library's signatures, with the checks.
+//! the documents' checks are not made there. On the library's side its exported function is called. Translations,
+//! loads, stores and censuses have a third side: the Rust behind the library's signatures, with the checks.
 mod cases;
 mod checked;
 #[cfg(feature = "lent")]
@@ -15,6 +15,7 @@ mod time;
 pub use cases::cases;
 pub use time::{time, Times};
 
+use crate::census::Counts;
 use crate::ffi::{boxed, Words};
 use crate::rust::RustCore;
 use crate::{Core, Ram};
@@ -44,6 +45,8 @@ pub enum Work {
     DataAbort,
     /// The argument is the immediate.
     Svc,
+    /// The number of pages; the argument is the first address.
+    Census(u64),
     /// Kind; translations of a core by reference inside the library, many in a row.
     #[cfg(feature = "lent")]
     Lent(u8),
@@ -57,6 +60,25 @@ pub struct Case {
     work: Work,
     args: [u64; 2],
     scene: Scene,
+}
+
+impl Case {
+    /// What its times are of: one call, or one page of a census, whose calls take milliseconds.
+    pub fn parts(&self) -> u64 {
+        match self.work {
+            Work::Census(pages) => pages,
+            _ => 1,
+        }
+    }
+
+    /// How many calls are enough where `many` of short ones would be: a long one is compared in all its counts.
+    pub fn calls(&self, many: usize) -> usize {
+        if self.parts() == 1 {
+            many
+        } else {
+            2
+        }
+    }
 }
 
 /// The value that every store writes.
@@ -132,6 +154,12 @@ fn repeat(n: usize, args: [u64; 2], mut call: impl FnMut(u64) -> u64) -> u64 {
         sum = sum.rotate_left(1).wrapping_add(call(args[i & 1]));
     }
     sum
+}
+
+/// The counts of a census, in the sum.
+fn told(counts: &Counts) -> u64 {
+    let add = |sum: u64, n: &u64| sum.wrapping_mul(3).wrapping_add(*n);
+    counts.iter().fold(0, add)
 }
 
 /// An answer without a value, and a fault's status, in the sum.

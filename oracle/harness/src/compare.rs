@@ -6,7 +6,7 @@ use crate::{feed, Core, Ram, State};
 /// An operation that the Rust has just carried out.
 pub struct Step<'a> {
     pub op: &'a Op,
-    pub answer: Ans,
+    pub answer: &'a Ans,
     /// Before the operation: hits and walks, to see where its answer came from.
     pub before: (u64, u64),
     pub rust: &'a RustCore,
@@ -36,8 +36,13 @@ impl Side {
     }
 
     fn line(&self) -> String {
-        let answer = self.answer.map_or("-".into(), |a| a.to_string());
+        let answer = self.answer.as_ref().map_or("-".into(), |a| a.to_string());
         format!("{answer} | {}", self.state.line(self.ram.digest()))
+    }
+
+    fn full(&self) -> String {
+        let answer = self.answer.as_ref().map_or(String::new(), Ans::full);
+        self.state.full() + &answer
     }
 }
 
@@ -46,8 +51,8 @@ fn report(line: &Line, rust: &Side, other: &Side) -> String {
         "{line}\n rust  {}\n other {}\nrust {}other {}",
         rust.line(),
         other.line(),
-        rust.state.full(),
-        other.state.full()
+        rust.full(),
+        other.full()
     )
 }
 
@@ -66,7 +71,7 @@ pub fn compare(lines: &[Line], other: &mut dyn Core, mut watch: impl FnMut(Step)
         let writes = ram.writes;
         let x = feed(line, &mut rust, &mut ram);
         let y = feed(line, other, &mut other_ram);
-        let (Line::Op(op), Some(answer)) = (line, x) else {
+        let (Line::Op(op), Some(answer)) = (line, &x) else {
             continue;
         };
         watch(Step {

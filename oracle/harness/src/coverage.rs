@@ -1,4 +1,5 @@
 //! What a trace shows beyond operations and their answers: the places where ports go wrong, by name.
+use crate::census::ends;
 use crate::op::{Ans, Op};
 use crate::rust::RustCore;
 use crate::{Core, Ram, State};
@@ -8,7 +9,7 @@ use pimu::aarch64::Exception;
 /// One operation with the states around it.
 pub struct Event<'a> {
     pub op: &'a Op,
-    pub answer: Ans,
+    pub answer: &'a Ans,
     pub before: &'a State,
     pub after: &'a RustCore,
     pub ram: &'a Ram,
@@ -48,7 +49,8 @@ impl Event<'_> {
     fn by_operation(&self) -> Vec<(String, String)> {
         let (from, to) = (self.before.level, self.after.cpu.el);
         match self.op {
-            _ if self.answer != Ans::Ok => Vec::new(),
+            Op::Census(..) => self.by_counts(),
+            _ if *self.answer != Ans::Ok => Vec::new(),
             Op::Sys(op1, 8, crm, op2, _) => vec![(format!("TLBI op1 {op1} CRm {crm}"), format!("op2 {op2}"))],
             Op::Sys(op1, 7, 8, op2, _) => vec![(format!("AT op1 {op1}"), format!("op2 {op2}"))],
             Op::Abort(e) => vec![(
@@ -57,6 +59,16 @@ impl Event<'_> {
             )],
             _ => Vec::new(),
         }
+    }
+
+    /// How the pages of a census end.
+    fn by_counts(&self) -> Vec<(String, String)> {
+        let Ans::Counts(counts) = self.answer else {
+            return Vec::new();
+        };
+        ends(counts)
+            .map(|(end, _)| ("pages of a census".into(), end.to_string()))
+            .collect()
     }
 
     /// The address and size of an access or a translation.
@@ -95,7 +107,7 @@ impl Event<'_> {
             "split store"
         };
         let next = (va & !0xFFF).wrapping_add(0x1000);
-        let end = match self.answer {
+        let end = match *self.answer {
             Ans::Data(a, _, s) if s != 0x10 && a == next => "fault on the second page",
             Ans::Data(_, _, s) if s != 0x10 => "fault on the first page",
             Ans::Data(a, ..) if a >= next || va.checked_add(size - 1).is_none() && a < va => {
@@ -151,7 +163,7 @@ impl Event<'_> {
     }
 
     fn is_write(&self) -> bool {
-        matches!(self.op, Op::Reg(..)) && self.answer == Ans::Ok
+        matches!(self.op, Op::Reg(..)) && *self.answer == Ans::Ok
     }
 
     fn wraps(&self, t: &State) -> bool {

@@ -2,7 +2,8 @@
 //! cache. For each translation (each half of a split access and each store of DC ZVA too): unless some earlier walk
 //! of that page that the core really made, that no later invalidation covers, and that is global or of the ASID in
 //! force now, differs from the walk now, the two answers are equal. (Document 01 lets every walk the page would have
-//! had excuse a difference, so it asks less.) After each step [`invariant`] is checked too.
+//! had excuse a difference, so it asks less.) A census is a step that does nothing, and its counts are those of the
+//! core without a cache. After each step [`invariant`] is checked too.
 mod invariant;
 mod past;
 
@@ -20,6 +21,7 @@ pub struct Seen {
     pub cached: u64,
     pub stale_excused: u64,
     pub equal_though_excused: u64,
+    pub censuses: u64,
 }
 
 /// One list of operations under test.
@@ -163,9 +165,24 @@ impl Trial<'_> {
         }
     }
 
+    /// A census on both cores.
+    fn census(&mut self, op: &Op, core: &mut dyn Core, ram: &mut Ram) -> Result<(), String> {
+        let before = core.state();
+        let (want, got) = (self.bare.step(op, ram), core.step(op, ram));
+        self.seen.censuses += 1;
+        if got != want {
+            return Err(format!("gives {got}, without a cache {want}"));
+        }
+        if core.state() != before {
+            return Err("a census moved something".into());
+        }
+        Ok(())
+    }
+
     /// The line on both cores. RAM moves with the core under test.
-    fn feed(&mut self, line: &Line, core: &mut dyn Core, ram: &mut Ram) {
+    fn feed(&mut self, line: &Line, core: &mut dyn Core, ram: &mut Ram) -> Result<(), String> {
         match line {
+            Line::Op(op @ Op::Census(..)) => return self.census(op, core, ram),
             Line::Op(op) if op.may_write_ram() => {
                 self.bare.step(op, &mut ram.clone());
             }
@@ -177,6 +194,7 @@ impl Trial<'_> {
             }
         }
         feed(line, core, ram);
+        Ok(())
     }
 
     fn step(&mut self, line: &Line, core: &mut dyn Core, ram: &mut Ram) -> Result<(), String> {
@@ -191,7 +209,7 @@ impl Trial<'_> {
                 }
             }
         }
-        self.feed(line, core, ram);
+        self.feed(line, core, ram)?;
         let state = core.state();
         if state.regs != self.bare.state().regs {
             return Err("the registers are not those of the core without a cache".into());

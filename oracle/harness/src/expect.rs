@@ -53,7 +53,7 @@ pub fn hold(text: &str, core: &mut dyn Core) -> Result<Outcome, String> {
         let line = Line::parse(l).map_err(at)?;
         let answer = line.and_then(|line| feed(&line, core, &mut ram));
         let expects = wanted(l).is_some();
-        if let (Some(Line::Op(_)), None) = (line, answer) {
+        if let (Some(Line::Op(_)), None) = (line, &answer) {
             outcome.left_out += expects as usize;
             continue;
         }

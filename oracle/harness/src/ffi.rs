@@ -3,11 +3,12 @@
 //! # The functions
 //!
 //! A core is a static library that exports the functions of `include/a72.h`, which says what each does, which number it
-//! gives ([`crate::number`]) and where a state's words hold what ([`crate::place`]). What an operation means is document
-//! 01's: the Rust function of that name. `a72_fresh` makes the state that `Cpu::new` makes.
+//! gives ([`crate::number`]) and where a state's words hold what ([`crate::place`]). What an operation means is
+//! document 01's: the Rust function of that name. `a72_fresh` makes the state that `Cpu::new` makes.
 //!
 //! [`CCore`] runs by `a72_fresh` and `a72_step`, or, with the feature `rattle`, by the function for each operation
-//! (`ffi/each.rs`). Without the feature the model stands behind these two functions.
+//! (`ffi/each.rs`); the counts of a census are `a72_census`'s in both. Without the feature the model stands behind
+//! these three functions.
 //!
 //! # An operation: 8 words
 //!
@@ -29,6 +30,7 @@
 //! | 10 | `mark` | 0 or 1 |
 //! | 11 | `x` general register | number, value |
 //! | 12 | `abort` abort entry | E |
+//! | 13 | `census` page census | first address, number of pages |
 //! | 20 | `l-asid` | |
 //! | 21 | `l-on` stage1_on | regime (1 to 3) |
 //! | 22, 23 | `l-untag`, `l-walk` | regime, address |
@@ -42,14 +44,14 @@
 //! | 44 | `p-cnt`: hits, walks, flushes, drops, epoch become this | value |
 //! | 45 | `p-bc`: the pending broadcast is taken (none) | |
 //!
-//! Codes 1 to 12 are document 01's list, and only they reach `a72_step`. 20 to 28 are leaves, which change nothing: the
-//! core behind the boundary has none, so they are left out for it and counted ([`Core::has`]). 40 to 45 are pokes,
-//! which only the comparer uses: the harness edits the state's words itself. The lines of a trace around the
-//! operations have codes in files: 60 `fresh`; 61 `window` base, length; 62 `zero`; 63 `poke` address, value; 64
-//! `w-word` place, value; 65 `w-hint` slot, key, page; 66 `w-entry` slot, four words; 67 `w-fetch` page, level,
-//! physical page.
+//! Codes 1 to 13 are the list, document 01's and what document 02 adds to it, and only they reach `a72_step`. 20 to 28
+//! are leaves, which change nothing: the core behind the boundary has none, so they are left out for it and counted
+//! ([`Core::has`]). 40 to 45 are pokes, which only the comparer uses: the harness edits the state's words itself. The
+//! lines of a trace around the operations have codes in files: 60 `fresh`; 61 `window` base, length; 62 `zero`; 63
+//! `poke` address, value; 64 `w-word` place, value; 65 `w-hint` slot, key, page; 66 `w-entry` slot, four words; 67
+//! `w-fetch` page, level, physical page.
 //!
-//! Levels, sizes, fields, register numbers and keys are 32-bit numbers and may be any of them: the checks 1 to 6
+//! Levels, sizes, fields, register numbers and keys are 32-bit numbers and may be any of them: the checks 1 to 7
 //! are the core's. A translation's kind and a leaf's regime are always one of those named.
 //!
 //! # An answer: 4 words
@@ -61,15 +63,17 @@
 //! | 2 | none: `dpa`, `fpa` would fault; `l-bank` knows no such key | |
 //! | 3 | a walk's leaf | address; permissions + level << 8; attribute index + shareability << 8 + NS << 16 + global << 24 |
 //! | 4 | pair: `l-bank` register and level; `l-syn` ESR and FAR | first, second |
-//! | 5 | document 01's number | 1 to 6 |
+//! | 5 | document 01's number, or the census's 7 | 1 to 7 |
 //! | 6, 7 | Undefined, Unimplemented | |
 //! | 8 | fault of a translation (also `l-walk`) | address, status |
 //! | 9 | data abort | address, status, write |
 //! | 10 | instruction abort | address, status |
+//! | 11 | the counts of a census | how many are not 0, the digest of all 129 |
 //!
 //! `tr`, `dpa`, `fpa`, `ld`, `if` give a value; `st`, `sys`, `reg`, `level`, `mark`, `x`, `abort` and the pokes give
-//! ok. `l-bank` numbers the registers SCTLR 0, TCR, TTBR0, TTBR1, MAIR, VBAR, ELR, SPSR, ESR, FAR, SCR, HCR, VPIDR,
-//! VMPIDR 13. `l-syn` without a FAR gives a value, the ESR.
+//! ok. `census` gives ok by `a72_step`; its counts are `a72_census`'s, and code 11 stands in records alone. `l-bank`
+//! numbers the registers SCTLR 0, TCR, TTBR0, TTBR1, MAIR, VBAR, ELR, SPSR, ESR, FAR, SCR, HCR, VPIDR, VMPIDR 13.
+//! `l-syn` without a FAR gives a value, the ESR.
 //!
 //! # A state
 //!
@@ -87,6 +91,7 @@ mod words;
 #[cfg(not(feature = "rattle"))]
 mod stand_in;
 
+use crate::census::{Counts, COUNTS};
 use crate::number;
 use crate::op::{Ans, Line, Op};
 use crate::place::{self, WORDS};
@@ -96,9 +101,9 @@ pub use state::{state_of, words_of, ENTRY_WORDS, HINT_WORDS};
 pub use words::{decode, decode_answer, encode, encode_answer, exception};
 
 #[cfg(feature = "rattle")]
-use crate::library::{a72_fresh, a72_step};
+use crate::library::{a72_census, a72_fresh, a72_step};
 #[cfg(not(feature = "rattle"))]
-use stand_in::{a72_fresh, a72_step};
+use stand_in::{a72_census, a72_fresh, a72_step};
 
 /// What stands where the library has to write: no answer and no part of a fresh state.
 const UNWRITTEN: u64 = 0xA5A5_A5A5_A5A5_A5A5;
@@ -119,18 +124,56 @@ pub fn fresh() -> Words {
     words
 }
 
-/// One operation of document 01's list on a state's words.
+/// One operation of the list on a state's words.
 type Step = fn(&mut Words, &Op, &mut Ram) -> Ans;
 
 /// By `a72_step`.
 fn step(words: &mut Words, op: &Op, ram: &mut Ram) -> Ans {
     let (at, len) = (ram.bytes.lent(op.may_write_ram()), ram.bytes.len());
-    let op = encode(&Line::Op(*op));
-    let mut ans = [UNWRITTEN; 4];
+    let (line, mut ans) = (encode(&Line::Op(*op)), [UNWRITTEN; 4]);
     // Sound: each pointer is that of an array or a vector, with its own length, and no two overlap.
-    let code = unsafe { a72_step(&op, &mut **words, ram.base, at, len, &mut ans) };
-    match code {
+    let code = unsafe { a72_step(&line, &mut **words, ram.base, at, len, &mut ans) };
+    let said = match code {
         number::DONE => decode_answer(&ans),
+        _ => Ans::Panic,
+    };
+    match *op {
+        Op::Census(first, pages) => counted(said, census(words, first, pages, ram)),
+        _ => said,
+    }
+}
+
+/// `a72_census`: its number.
+#[inline(always)]
+pub fn count(
+    words: &place::State,
+    first: u64,
+    pages: u64,
+    counts: &mut Counts,
+    base: u64,
+    ram: &[u8],
+) -> u64 {
+    // Sound: each pointer is that of an array or a slice, with its own length; the counts are borrowed exclusively.
+    unsafe { a72_census(words, first, pages, counts, base, ram.as_ptr(), ram.len()) }
+}
+
+/// By `a72_census`. Where it is refused no count may be written.
+fn census(words: &Words, first: u64, pages: u64, ram: &mut Ram) -> Ans {
+    let mut counts = Box::new([UNWRITTEN; COUNTS]);
+    // Sound: the window's bytes, which `ram` lends to be read.
+    let bytes = unsafe { std::slice::from_raw_parts(ram.bytes.lent(false), ram.bytes.len()) };
+    match count(words, first, pages, &mut counts, ram.base, bytes) {
+        number::DONE => Ans::Counts(counts),
+        n @ 1..=number::LAST_CHECK if *counts == [UNWRITTEN; COUNTS] => Ans::Number(n as u8),
+        _ => Ans::Panic,
+    }
+}
+
+/// The answer by `a72_census`, where `a72_step` said the same of it.
+fn counted(said: Ans, answer: Ans) -> Ans {
+    match (said, answer) {
+        (Ans::Ok, answer @ Ans::Counts(_)) => answer,
+        (Ans::Number(n), Ans::Number(m)) if n == m => Ans::Number(n),
         _ => Ans::Panic,
     }
 }
@@ -156,6 +199,17 @@ impl CCore {
             step: each::step,
         }
     }
+
+    /// An operation that moves no word of the state, dead records included.
+    fn inspect(&mut self, op: &Op, ram: &mut Ram) -> Ans {
+        let before = self.words.clone();
+        let answer = (self.step)(&mut self.words, op, ram);
+        if self.words == before {
+            answer
+        } else {
+            Ans::Panic
+        }
+    }
 }
 
 impl Default for CCore {
@@ -174,10 +228,10 @@ impl Core for CCore {
     }
 
     fn step(&mut self, op: &Op, ram: &mut Ram) -> Ans {
-        if op.is_poke() {
-            poke::poke(&mut self.words, op)
-        } else {
-            (self.step)(&mut self.words, op, ram)
+        match op {
+            Op::Census(..) => self.inspect(op, ram),
+            _ if op.is_poke() => poke::poke(&mut self.words, op),
+            _ => (self.step)(&mut self.words, op, ram),
         }
     }
 
@@ -211,7 +265,7 @@ mod tests {
         let before = fresh();
         for words in [
             &[0][..],
-            &[13],
+            &[14],
             &[20],
             &[1, 3],
             &[10, 2],

@@ -1,6 +1,7 @@
 //! Random traces with structure: page tables that mostly work, and operations around their edges.
 mod actions;
 mod address;
+mod census;
 pub mod keys;
 mod registers;
 mod rng;
@@ -18,9 +19,9 @@ use tables::{Spot, Tree};
 /// What a trace may hold.
 #[derive(Clone, Copy, PartialEq, Eq, Debug)]
 pub enum Style {
-    /// Document 01's list, leaves and pokes.
+    /// Document 01's list, censuses, leaves and pokes.
     Full,
-    /// Only document 01's list.
+    /// Only document 01's list, and censuses.
     Strict,
     /// As full, and the core's state is overwritten with odd values.
     Wild,
@@ -28,6 +29,8 @@ pub enum Style {
 
 pub struct Generator {
     r: Rng,
+    /// For censuses.
+    aside: Rng,
     lines: Vec<Line>,
     style: Style,
     /// The descriptors written, by address.
@@ -49,7 +52,7 @@ pub struct Generator {
     wrap: bool,
 }
 
-/// A trace of about `n` operations.
+/// A trace of about `n` operations, censuses not counted.
 pub fn trace(seed: u64, n: usize, style: Style) -> Vec<Line> {
     let mut g = Generator::new(seed, style);
     let mut ops = 0;
@@ -60,10 +63,8 @@ pub fn trace(seed: u64, n: usize, style: Style) -> Vec<Line> {
         while ops < until {
             let before = g.lines.len();
             g.action();
-            ops += g.lines[before..]
-                .iter()
-                .filter(|l| matches!(l, Line::Op(_)))
-                .count();
+            let counts = |l: &&Line| matches!(l, Line::Op(op) if !matches!(op, Op::Census(..)));
+            ops += g.lines[before..].iter().filter(counts).count();
         }
     }
     g.lines
@@ -73,6 +74,7 @@ impl Generator {
     fn new(seed: u64, style: Style) -> Generator {
         Generator {
             r: Rng::new(seed),
+            aside: Rng::new(!seed),
             lines: Vec::new(),
             style,
             mem: BTreeMap::new(),

@@ -12,7 +12,7 @@ use std::collections::BTreeMap;
 pub enum Ask {
     /// By the leaf operation `l-walk`.
     Leaf,
-    /// By document 01's list alone: a translation and an AT, and the states compared after them.
+    /// By the list alone: a translation, an AT and two censuses, and the states compared after them.
     List,
 }
 
@@ -38,6 +38,16 @@ impl Cell {
 
     fn input(&self) -> u32 {
         64 - self.size.clamp(16, 39) as u32
+    }
+
+    /// The end of the range, or its start where it is the upper one.
+    fn end(&self) -> u64 {
+        let size = 1u64 << self.input();
+        if self.upper {
+            size.wrapping_neg()
+        } else {
+            size
+        }
     }
 
     fn start(&self) -> u32 {
@@ -147,6 +157,8 @@ impl Walk {
                 Op::SetX(0, self.va),
                 Op::Sys(op1, 7, 8, 0, 0),
                 Op::Level(cell.regime),
+                Op::Census(self.va.wrapping_sub(0x1000), 3),
+                Op::Census(cell.end().wrapping_sub(0x1000), 2),
                 Op::Translate(1, self.va),
             ]),
         }

@@ -1,6 +1,7 @@
 //! An oracle for stage 1 of the A72: document 01's operations on pimu's own Rust, and traces of them.
 #[cfg(feature = "rattle")]
 pub mod bench;
+pub mod census;
 pub mod cli;
 pub mod compare;
 pub mod coverage;
@@ -24,7 +25,10 @@ pub mod text;
 pub mod walk;
 pub mod wild;
 
-// The C boundary as the Rust crate declares it: the functions, the numbers that they give, the places of a state's words.
+// The C boundary as the Rust crate declares it: the functions, the numbers that they give, the places of a state's
+// words and of a census's counts.
+#[path = "../../../bindings/rust/src/count.rs"]
+pub mod count;
 #[cfg(any(feature = "rattle", feature = "walk"))]
 #[allow(dead_code)]
 #[path = "../../../bindings/rust/src/library.rs"]

@@ -1,4 +1,5 @@
 //! A trace's lines: operations on a core, and what happens around them; and the answers of operations.
+use crate::census::Counts;
 use crate::wild::Part;
 use pimu::aarch64::Exception;
 
@@ -22,6 +23,8 @@ pub enum Op {
     Mark(bool),
     SetX(u32, u64),
     Abort(Exception),
+    /// The first address and the number of pages.
+    Census(u64, u64),
     // Leaves, on the registers as they stand. They change nothing.
     LeafAsid,
     LeafOn(u8),
@@ -44,7 +47,7 @@ pub enum Op {
 }
 
 impl Op {
-    /// Whether it is an operation of document 01's list (and no leaf or poke).
+    /// Whether it is an operation of document 01's list, or one that a request added to it (and no leaf or poke).
     pub fn is_step(&self) -> bool {
         use Op::*;
         self.takes_ram() || matches!(self, Reg(..) | Level(_) | Mark(_) | SetX(..) | Abort(_))
@@ -69,7 +72,7 @@ impl Op {
         use Op::*;
         matches!(
             self,
-            Translate(..) | DataPa(_) | FetchPa(_) | Load(..) | Store(..) | Fetch(_) | Sys(..)
+            Translate(..) | DataPa(_) | FetchPa(_) | Load(..) | Store(..) | Fetch(_) | Sys(..) | Census(..)
         )
     }
 
@@ -79,7 +82,7 @@ impl Op {
     }
 }
 
-#[derive(Clone, Copy, Debug, PartialEq, Eq)]
+#[derive(Clone, Debug, PartialEq, Eq)]
 pub enum Ans {
     Ok,
     Val(u64),
@@ -87,7 +90,9 @@ pub enum Ans {
     /// A walk's leaf: physical address, permissions, level, attribute index, shareability, NS, global.
     Leaf(u64, u8, u8, u8, u8, bool, bool),
     Pair(u64, u64),
-    /// Document 01's numbers 1 to 6.
+    /// Those of a census.
+    Counts(Box<Counts>),
+    /// Document 01's numbers 1 to 6, and the census's 7.
     Number(u8),
     Undefined,
     Unimplemented,

@@ -2,6 +2,7 @@
 //! `recorded/README.md` has the format and the definitions of the digests.
 mod aborts;
 pub mod files;
+mod ranges;
 pub mod replay;
 mod short;
 mod splits;
@@ -76,10 +77,10 @@ impl Recorder<'_> {
         self.operations += 1;
         self.words.extend(encode_answer(&answer));
         self.words.extend(summary(&self.rust.state(), self.ram.digest()));
-        self.show(op, answer, &before);
+        self.show(op, &answer, &before);
     }
 
-    fn show(&mut self, op: &crate::Op, answer: Ans, before: &State) {
+    fn show(&mut self, op: &crate::Op, answer: &Ans, before: &State) {
         let (rust, ram) = (&self.rust, &self.ram);
         self.shown.tally.note(&Step {
             op,

@@ -1,6 +1,13 @@
-//! Document 01's refusals 1 to 6.
+//! Document 01's refusals 1 to 6, and document 02's 7.
+use crate::count::MOST_PAGES;
 use crate::op::Op;
 use crate::Ram;
+
+/// Whether the range has too many pages or passes 2^64; one that ends there does not pass it.
+pub fn over(first: u64, pages: u64) -> bool {
+    let start = u128::from(first & !0xFFF);
+    pages > MOST_PAGES || start + 4096 * u128::from(pages) > 1 << 64
+}
 
 /// The number of the first check that the operation misses, top to bottom. `level` is the present level, `kept`
 /// says which keys a register write takes. Leaves and pokes stand outside the list and are never refused.
@@ -20,6 +27,7 @@ pub fn refusal(op: &Op, level: u32, ram: &Ram, kept: impl Fn(u32) -> bool) -> Op
         Sys(op1, crn, crm, op2, _) if op1 > 7 || op2 > 7 || crn > 15 || crm > 15 => Some(4),
         Sys(_, _, _, _, r) | SetX(r, _) if r > 31 => Some(5),
         Reg(k, _) if !kept(k) => Some(6),
+        Census(first, pages) if over(first, pages) => Some(7),
         _ => None,
     }
 }

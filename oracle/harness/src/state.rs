@@ -118,25 +118,28 @@ impl State {
         ]
     }
 
+    /// Digests of the rest, as names and values.
+    fn digests(&self) -> [(&'static str, String); 3] {
+        let (entries, hints) = (self.entries.len(), self.hint_count());
+        [
+            ("R", format!("{:016x}", self.reg_digest())),
+            ("T", format!("{entries}:{:016x}", self.entry_digest())),
+            ("H", format!("{hints}:{:016x}", self.hint_digest())),
+        ]
+    }
+
     /// One value by its name in [`Self::line`] or [`REGS`].
     pub fn value(&self, name: &str) -> Option<String> {
-        let named = self.named().into_iter().find(|(n, _)| *n == name).map(|(_, v)| v);
+        let mut all = self.named().into_iter().chain(self.digests());
+        let named = all.find(|(n, _)| *n == name).map(|(_, v)| v);
         named.or_else(|| Some(format!("{:x}", self.regs[REGS.iter().position(|r| *r == name)?])))
     }
 
     /// The state in one line: what document 01 compares, then digests of the rest. `ram`: its digest.
     pub fn line(&self, ram: u64) -> String {
-        let mut s: String = self.named().iter().map(|(n, v)| format!("{n}={v} ")).collect();
-        let _ = write!(
-            s,
-            "R={:016x} T={}:{:016x} H={}:{:016x} M={ram:016x}",
-            self.reg_digest(),
-            self.entries.len(),
-            self.entry_digest(),
-            self.hint_count(),
-            self.hint_digest(),
-        );
-        s
+        let all = self.named().into_iter().chain(self.digests());
+        let s: String = all.map(|(n, v)| format!("{n}={v} ")).collect();
+        s + &format!("M={ram:016x}")
     }
 
     /// All of it, for reading.

@@ -4,8 +4,9 @@ use crate::op::{Ans, Op};
 use std::fmt::{self, Display, Formatter};
 
 /// The kinds of operations, in the order of their names.
-const KINDS: [&str; 21] = [
+const KINDS: [&str; 22] = [
     "abort",
+    "census",
     "dpa",
     "fpa",
     "if",
@@ -29,7 +30,7 @@ const KINDS: [&str; 21] = [
 ];
 
 /// The kinds of answers: those without a number, then numbers, levels of leaves, and four times 256 statuses.
-const PLAIN: [&str; 8] = [
+const PLAIN: [&str; 9] = [
     "ok",
     "val",
     "none",
@@ -38,6 +39,7 @@ const PLAIN: [&str; 8] = [
     "unimplemented",
     "panic",
     "PAR ok",
+    "counts",
 ];
 const NUMBERS: usize = PLAIN.len();
 const LEAVES: usize = NUMBERS + 8;
@@ -69,30 +71,31 @@ impl Default for Tally {
 fn kind(op: &Op) -> usize {
     match op {
         Op::Abort(_) => 0,
-        Op::DataPa(_) => 1,
-        Op::FetchPa(_) => 2,
-        Op::Fetch(_) => 3,
-        Op::LeafWalk(..) => 4,
-        Op::Load(..) => 5,
-        Op::Level(_) => 7,
-        Op::Mark(_) => 8,
-        Op::Reg(..) => 11,
-        Op::Store(..) => 12,
-        Op::Sys(3, 7, 4, 1, _) => 14,
+        Op::Census(..) => 1,
+        Op::DataPa(_) => 2,
+        Op::FetchPa(_) => 3,
+        Op::Fetch(_) => 4,
+        Op::LeafWalk(..) => 5,
+        Op::Load(..) => 6,
+        Op::Level(_) => 8,
+        Op::Mark(_) => 9,
+        Op::Reg(..) => 12,
+        Op::Store(..) => 13,
+        Op::Sys(3, 7, 4, 1, _) => 15,
         Op::Sys(_, 7, 8, _, _) => AT,
-        Op::Sys(_, 8, _, _, _) => 15,
-        Op::Sys(..) => 16,
-        Op::Translate(1, _) => 18,
-        Op::Translate(2, _) => 19,
-        Op::Translate(..) => 17,
-        Op::SetX(..) => 20,
-        op if op.is_step() => 9,
-        op if op.is_poke() => 10,
-        _ => 6,
+        Op::Sys(_, 8, _, _, _) => 16,
+        Op::Sys(..) => 17,
+        Op::Translate(1, _) => 19,
+        Op::Translate(2, _) => 20,
+        Op::Translate(..) => 18,
+        Op::SetX(..) => 21,
+        op if op.is_step() => 10,
+        op if op.is_poke() => 11,
+        _ => 7,
     }
 }
 
-const AT: usize = 13;
+const AT: usize = 14;
 
 fn status(which: usize, s: u8) -> usize {
     STATUSES + 256 * which + usize::from(s)
@@ -100,7 +103,7 @@ fn status(which: usize, s: u8) -> usize {
 
 /// The place of the answer's kind, with its status; of an AT that was carried out, PAR's.
 fn class(step: &Step) -> usize {
-    match step.answer {
+    match *step.answer {
         Ans::Ok if kind(step.op) == AT => match step.rust.par() {
             p if p & 1 != 0 => status(3, (p >> 1 & 0x3F) as u8),
             _ => 7,
@@ -112,6 +115,7 @@ fn class(step: &Step) -> usize {
         Ans::Undefined => 4,
         Ans::Unimplemented => 5,
         Ans::Panic => 6,
+        Ans::Counts(_) => 8,
         Ans::Number(n) => NUMBERS + usize::from(n % 8),
         Ans::Leaf(_, _, l, ..) => LEAVES + usize::from(l % 4),
         Ans::Fault(_, s) => status(0, s),

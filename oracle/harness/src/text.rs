@@ -1,4 +1,5 @@
 //! The one-line text forms of lines and answers: all numbers hexadecimal, no prefix; `#` starts a comment.
+use crate::census;
 use crate::op::{Ans, Line, Op};
 use crate::wild::Part;
 use pimu::aarch64::Exception;
@@ -14,6 +15,10 @@ impl Display for Ans {
                 write!(f, "leaf {oa:x} {p:x} {l} {a} {s} {} {}", n as u8, g as u8)
             }
             Ans::Pair(a, b) => write!(f, "pair {a:x} {b:x}"),
+            Ans::Counts(ref counts) => {
+                let (n, digest) = census::summary(counts);
+                write!(f, "counts {n:x}:{digest:016x}")
+            }
             Ans::Number(n) => write!(f, "no {n}"),
             Ans::Undefined => write!(f, "undefined"),
             Ans::Unimplemented => write!(f, "unimplemented"),
@@ -22,6 +27,18 @@ impl Display for Ans {
             Ans::Insn(a, s) => write!(f, "insn {a:x} {s:02x}"),
             Ans::Panic => write!(f, "panic"),
         }
+    }
+}
+
+impl Ans {
+    /// What its line only sums up, for reading: a line for each end that pages of a census have.
+    pub fn full(&self) -> String {
+        let Ans::Counts(counts) = self else {
+            return String::new();
+        };
+        census::ends(counts)
+            .map(|(end, n)| format!("  {end}: {n}\n"))
+            .collect()
     }
 }
 
@@ -57,6 +74,7 @@ impl Display for Op {
             Mark(m) => write!(f, "mark {:x}", m as u8),
             SetX(r, v) => write!(f, "x {r:x} {v:x}"),
             Abort(e) => write!(f, "abort {}", exception(&e)),
+            Census(first, pages) => write!(f, "census {first:x} {pages:x}"),
             LeafAsid => write!(f, "l-asid"),
             LeafOn(r) => write!(f, "l-on {r:x}"),
             LeafUntag(r, va) => write!(f, "l-untag {r:x} {va:x}"),
@@ -166,6 +184,7 @@ impl Words<'_> {
             "mark" => Mark(self.flag(0)?),
             "x" => SetX(self.fit(0)?, self.num(1)?),
             "abort" => Abort(self.exception(0)?),
+            "census" => Census(self.num(0)?, self.num(1)?),
             "l-asid" => LeafAsid,
             "l-on" => LeafOn(self.regime(0)?),
             "l-untag" => LeafUntag(self.regime(0)?, self.num(1)?),

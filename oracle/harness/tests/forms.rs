@@ -1,4 +1,5 @@
 //! Text and words: what is written is read back.
+use harness::census::COUNTS;
 use harness::ffi::{decode, decode_answer, encode, encode_answer, state_of, words_of};
 use harness::generate::{trace, Style};
 use harness::place::WORDS;
@@ -42,6 +43,7 @@ fn operations() -> Vec<Op> {
         Level(n),
         Mark(true),
         SetX(n, v),
+        Census(v, !v),
         LeafAsid,
         LeafOn(3),
         LeafUntag(2, v),
@@ -100,6 +102,21 @@ fn answers_come_back() {
     }
 }
 
+/// In text and in words counts are summed up.
+#[test]
+fn counts_are_summed_up() {
+    let mut counts = Box::new([0; COUNTS]);
+    let none = encode_answer(&Ans::Counts(counts.clone()));
+    assert_eq!((none[0], none[1], none[3]), (11, 0, 0));
+    (counts[5], counts[COUNTS - 1]) = (0x10000, 1);
+    let some = encode_answer(&Ans::Counts(counts.clone()));
+    assert_eq!((some[0], some[1]), (11, 2));
+    assert_ne!(some[2], none[2]);
+    let answer = Ans::Counts(counts);
+    assert_eq!(answer.to_string(), format!("counts 2:{:016x}", some[2]));
+    assert_eq!(answer.full(), "  status 05: 65536\n  flat: 1\n");
+}
+
 #[test]
 fn states_come_back_as_words_and_in_the_rust() {
     let (mut core, mut ram) = (RustCore::new(), Ram::default());
@@ -123,6 +140,7 @@ fn what_is_no_line_is_refused() {
         "ld 0 100000000",
         "l-walk 0 0",
         "abort",
+        "census 0",
         "abort data 0 1",
         "nonsense",
         "x g 0",

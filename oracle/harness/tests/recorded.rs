@@ -40,7 +40,8 @@ fn expectations_hold() {
     held("cases.trace", 14);
     held("rules.trace", 108);
     held("leaves.trace", 81);
-    held("pokes.trace", 26);
+    held("pokes.trace", 30);
+    held("census.trace", 119);
 }
 
 #[test]

@@ -1,6 +1,7 @@
 //! The cases, in the order of the table.
 use super::scene::{same_entry, same_hint, Scene, LOCAL, NOTHING, PAGE};
 use super::{Case, Work};
+use crate::count::MOST_PAGES;
 use pimu::aarch64::sysreg::key;
 
 const HINT: f64 = 1.05;
@@ -12,6 +13,7 @@ const UPKEEP: f64 = 1.2;
 const FETCH_PA: f64 = 1.5;
 const ZEROING: f64 = 1.0;
 const EXCEPTION: f64 = 1.6;
+const CENSUS: f64 = 0.95;
 const LENT_HINT: f64 = 1.3;
 const LENT_ENTRY: f64 = 1.2;
 const LENT_WALK: f64 = 0.95;
@@ -71,6 +73,7 @@ pub fn cases() -> Vec<Case> {
         fetches(),
         upkeep(),
         settings(),
+        censuses(),
         lent(),
     ]
     .into_iter()
@@ -232,5 +235,22 @@ fn settings() -> Vec<Case> {
         case("level", UPKEEP, Work::Level, [0, 1], scene()),
         case("mark", UPKEEP, Work::Mark, [0, 1], scene()),
         case("general register", UPKEEP, Work::General(7), addresses, scene()),
+    ]
+}
+
+/// Of 65,536 pages; a time is that of one.
+fn censuses() -> Vec<Case> {
+    let census = |name, scene| {
+        let starts = [page(PAGE), page(PAGE) | 8];
+        case(name, CENSUS, Work::Census(MOST_PAGES), starts, scene)
+    };
+    let unmapped = Scene {
+        leaf: NOTHING,
+        ..scene()
+    };
+    vec![
+        census("census, a page: 4 KiB pages, 3 levels", scene()),
+        census("census, a page: 2 MiB blocks, 2 levels", walk(2)),
+        census("census, a page: not mapped, 3 levels", unmapped),
     ]
 }

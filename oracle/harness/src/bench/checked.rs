@@ -1,9 +1,10 @@
-//! The Rust behind the library's own signatures: numbers in and out, lent words of RAM, and document 01's checks 1 to 3
-//! before pimu's function. So both sides do the same work.
+//! The Rust behind the library's own signatures: numbers in and out, lent words of RAM, and the documents' checks 1 to
+//! 3 and 7 before pimu's function. So both sides do the same work.
 use super::rust::Quick;
-use super::{ours::summed, repeat, Work, DONE, STORED};
+use super::{ours::summed, repeat, told, Work, DONE, STORED};
+use crate::census::{Counts, COUNTS};
 use crate::number::{FAULT, NAMES_NOTHING, UNDEFINED, UNIMPLEMENTED};
-use crate::Ram;
+use crate::{refusal, rust, Ram};
 use pimu::aarch64::access::{self, Halt};
 use pimu::aarch64::{Cpu, Exception};
 use std::hint::black_box;
@@ -84,6 +85,20 @@ fn store(c: &mut Cpu, va: u64, size: u64, v: u64, ans: &mut u64, base: u64, ram:
     }
 }
 
+#[inline(never)]
+fn census(c: &Cpu, first: u64, pages: u64, counts: &mut Counts, base: u64, ram: &mut [u8]) -> u64 {
+    let n = missed(c, base, ram.len());
+    if n != 0 {
+        return n;
+    }
+    if refusal::over(first, pages) {
+        return 7;
+    }
+    counts.fill(0);
+    rust::census(c, &mut Quick { base, bytes: ram }, first, pages, counts);
+    0
+}
+
 /// The kind of a translation, of words or of a core by reference.
 fn kind_of(work: Work) -> Option<u64> {
     match work {
@@ -96,7 +111,7 @@ fn kind_of(work: Work) -> Option<u64> {
 
 /// Whether a case has this side.
 pub fn has(work: Work) -> bool {
-    kind_of(work).is_some() || matches!(work, Work::Load(_) | Work::Store(_))
+    kind_of(work).is_some() || matches!(work, Work::Load(_) | Work::Store(_) | Work::Census(_))
 }
 
 pub fn run(work: Work, args: [u64; 2], c: &mut Cpu, ram: &mut Ram, n: usize) -> u64 {
@@ -118,6 +133,13 @@ pub fn run(work: Work, args: [u64; 2], c: &mut Cpu, ram: &mut Ram, n: usize) -> 
             let v = black_box(STORED);
             repeat(n, args, |va| {
                 summed(store(c, va, size.into(), v, a, base, bytes), DONE, *a)
+            })
+        }
+        Work::Census(pages) => {
+            let counts = &mut [0; COUNTS];
+            repeat(n, args, |first| {
+                let n = census(c, first, pages, counts, base, bytes);
+                summed(n, told(counts), 0)
             })
         }
         _ => unreachable!("no such side"),

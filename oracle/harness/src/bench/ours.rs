@@ -1,7 +1,8 @@
 //! The library's side: its function for each operation, on a state's words.
-use super::{fault, repeat, Work, DONE, STORED};
+use super::{fault, repeat, told, Work, DONE, STORED};
+use crate::census::COUNTS;
 use crate::ffi::each::Lent;
-use crate::ffi::Words;
+use crate::ffi::{count, Words};
 use crate::number::FAULT;
 use crate::Ram;
 use std::hint::black_box;
@@ -64,6 +65,13 @@ pub fn run(work: Work, args: [u64; 2], words: &mut Words, ram: &mut Ram, n: usiz
             repeat(n, args, |v| summed(lent.general(r, v), DONE, 0))
         }
         Work::DataAbort => repeat(n, args, |addr| summed(lent.abort(&[5, addr, 1, 7]), DONE, 0)),
+        Work::Census(pages) => {
+            let counts = &mut [0; COUNTS];
+            repeat(n, args, |first| {
+                let n = count(lent.words, first, pages, counts, lent.base, lent.ram);
+                summed(n, told(counts), 0)
+            })
+        }
         #[cfg(feature = "lent")]
         Work::Lent(_) => unreachable!("another function's"),
         Work::Svc => repeat(n, args, |i| summed(lent.abort(&[1, i, 0, 0]), DONE, 0)),

@@ -2,7 +2,7 @@
 use super::{Case, Pair, Side};
 use std::time::Instant;
 
-/// Nanoseconds a call: the least of all runs.
+/// Nanoseconds a call, or a page of a census: the least of all runs.
 pub struct Times {
     pub rust: f64,
     pub ours: f64,
@@ -80,7 +80,7 @@ fn checked(pair: &mut Pair, runs: usize, n: usize) -> Option<f64> {
 pub fn time(case: &Case, runs: usize) -> Result<Times, String> {
     let mut pair = Pair::new(case);
     let differ = |what| Err(format!("{}: {what} differ", case.name));
-    for n in 1..64 {
+    for n in 1..case.calls(64) {
         if pair.run(Side::Rust, n) != pair.run(Side::Ours, n) {
             return differ("answers");
         }
@@ -88,9 +88,16 @@ pub fn time(case: &Case, runs: usize) -> Result<Times, String> {
             return differ("states or RAM");
         }
     }
-    let (some, _) = run(&mut pair, Side::Rust, 64);
-    let n = ((64.0 * RUN / some) as usize).clamp(16, 4000) & !1;
-    pair.run(Side::Ours, 64);
+    let few = case.calls(64);
+    let (some, _) = run(&mut pair, Side::Rust, few);
+    let n = ((few as f64 * RUN / some) as usize).clamp(case.calls(16), 4000) & !1;
+    pair.run(Side::Ours, few);
+    let runs = if case.parts() == 1 {
+        runs
+    } else {
+        runs.div_ceil(10)
+    };
+    let parts = case.parts() as f64;
     let (mut rust, mut ours) = (Least::new(), Least::new());
     for _ in 0..runs {
         if rust.add(&mut pair, Side::Rust, n) != ours.add(&mut pair, Side::Ours, n) {
@@ -101,8 +108,8 @@ pub fn time(case: &Case, runs: usize) -> Result<Times, String> {
         return differ("states or RAM");
     }
     Ok(Times {
-        rust: rust.a_call(n),
-        ours: ours.a_call(n),
-        checked: checked(&mut pair, runs, n),
+        rust: rust.a_call(n) / parts,
+        ours: ours.a_call(n) / parts,
+        checked: checked(&mut pair, runs, n).map(|time| time / parts),
     })
 }

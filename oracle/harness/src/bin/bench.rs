@@ -6,9 +6,9 @@ use std::collections::BTreeMap;
 const USAGE: &str = "bench time [RUNS] [--only TEXT] [--counts FILE]
        bench list
        bench one CASE rust|checked|ours N
-  time: a table of all cases (--only: of those whose name holds TEXT): nanoseconds a call on the Rust and on the
-  library, the least of RUNS runs (600), the ratio and its bar, then the Rust with document 01's checks behind the
-  library's signatures and the ratio to that; --counts: with the instructions a call that
+  time: a table of all cases (--only: of those whose name holds TEXT): nanoseconds a call, of a census a page, on the
+  Rust and on the library, the least of RUNS runs (600), the ratio and its bar, then the Rust with the documents'
+  checks behind the library's signatures and the ratio to that; --counts: with the instructions a call that
   `ir.sh` wrote. Status 1 where the two sides differ in an answer or a state. list: the cases' numbers and names.
   one: N calls of one case on one side, to count instructions.";
 
@@ -38,8 +38,9 @@ fn row(number: usize, case: &Case, times: &Times, counts: &Option<Counts>) -> St
     let (name, ratio) = (case.name, times.ratio());
     let (rust, ours) = (times.rust, times.ours);
     let bar = verdict(case, times);
+    let parts = case.parts() as f64;
     let counted = counts.as_ref().map(|counts| match counts.get(&number) {
-        Some((x, y)) => format!(" {x:.1} | {y:.1} | {:.2} |", y / x),
+        Some((x, y)) => format!(" {:.1} | {:.1} | {:.2} |", x / parts, y / parts, y / x),
         None => " | | |".into(),
     });
     let counted = counted.unwrap_or_default();

@@ -7,7 +7,8 @@ use harness::Core;
 
 const USAGE: &str = "demand3 FROM TO N [--c | --each | --mistake M | --rule pimu|noflush|noretag]
   Strict traces of the seeds FROM to TO - 1 with about N operations each, on the Rust (--c: on the core behind the C
-  boundary, --each by its functions; --mistake: on the model with that mistake; --rule: on the Rust with another rule of a register write).
+  boundary, --each by its functions; --mistake: on the model with that mistake; --rule: on the Rust with another rule
+  of a register write).
   Status 1 where it is broken, or no translation was answered by the cache.";
 
 fn core(args: &Args) -> Box<dyn Core> {
@@ -40,13 +41,15 @@ fn main() {
     // A list on which the cache answered nothing shows nothing of it.
     let (said, good) = verdict(seen.cached, held, ["demand 3 held", "DEMAND 3 BROKEN"]);
     println!(
-        "translations {} (flat {}, walked {}, from the cache {}); stale but excused {}; excused and yet equal {}; {said}",
+        "translations {} (flat {}, walked {}, from the cache {}); stale but excused {}; excused and yet equal {}; \
+         censuses {}; {said}",
         seen.translations,
         seen.flat,
         seen.walked,
         seen.cached,
         seen.stale_excused,
         seen.equal_though_excused,
+        seen.censuses,
     );
     finish(good)
 }

@@ -4,7 +4,7 @@ use harness::generate::trace;
 use std::io::Write;
 
 const USAGE: &str = "generate SEED N [--strict | --wild]
-  A trace of about N operations on standard output. --strict: only document 01's list, no leaves and no pokes;
+  A trace of about N operations on standard output. --strict: only the list, no leaves and no pokes;
   --wild: the core's state is also overwritten with odd values.";
 
 fn main() -> std::io::Result<()> {

@@ -6,7 +6,8 @@ use harness::Op;
 const USAGE: &str = "grid ROUNDS [--c | --each | --walk | --mistake M] [--list]
   In each round 8,192 walks, one for each combination, on the Rust and the model (--c: the core behind the C boundary,
   --each by its functions; --walk: the walk behind `a72_walk`, feature `walk`; --mistake: the model with that mistake).
-  --list: by document 01's list alone (translation and AT, states compared); --c and --each want it.";
+  --list: by the list alone (translation, AT, censuses of the page and of the range's end, states compared); --c and
+  --each want it.";
 
 #[cfg(feature = "walk")]
 fn other_core(args: &Args) -> Box<dyn harness::Core> {
@@ -31,7 +32,7 @@ fn main() {
     let mut other = other_core(&args);
     let ask = if args.flag("--list") { Ask::List } else { Ask::Leaf };
     if ask == Ask::Leaf && !other.has(&Op::LeafWalk(1, 0)) {
-        args.fail("the core has no leaves: --list asks for walks by document 01's list");
+        args.fail("the core has no leaves: --list asks for walks by the list");
     }
     let mut grid = Grid::new(other.as_mut(), ask);
     let rounds: u64 = args.number(0);

@@ -5,8 +5,8 @@ use std::io::Write;
 
 const USAGE: &str = "run TRACE [--full] [--model | --c | --each]
   A line for each operation: its line number, the operation, the answer, the state after it. --full: the whole state
-  too. On the Rust; --model: on the model; --c: on the core behind the C boundary (--each:
-  by its function for each operation).";
+  too, and every count of a census that is not 0. On the Rust; --model: on the model; --c: on the core behind the C
+  boundary (--each: by its function for each operation).";
 
 /// Whether a line may change RAM: its digest is the dear part.
 fn moves_ram(line: &Line) -> bool {
@@ -37,7 +37,7 @@ fn main() -> std::io::Result<()> {
         let state = core.state();
         writeln!(out, "{n} {line} => {answer} | {}", state.line(digest))?;
         if args.flag("--full") {
-            write!(out, "{}", state.full())?;
+            write!(out, "{}{}", answer.full(), state.full())?;
         }
     }
     out.flush()

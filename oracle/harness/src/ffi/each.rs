@@ -1,8 +1,8 @@
 //! The library's function for each operation, with the feature `rattle`.
 //!
-//! Each gives one of the numbers in [`crate::number`]. `ans` takes the value, or the address of a data abort; where there is
-//! neither it stays as it was.
-use super::{exception, Words, UNWRITTEN};
+//! Each gives one of the numbers in [`crate::number`]. `ans` takes the value, or the address of a data abort; where
+//! there is neither it stays as it was.
+use super::{census, exception, Words, UNWRITTEN};
 use crate::library::*;
 use crate::number::{status, DONE, LAST_CHECK, UNDEFINED, UNIMPLEMENTED};
 use crate::op::{Ans, Op};
@@ -117,7 +117,7 @@ fn other(n: u64) -> Ans {
     }
 }
 
-/// One operation of document 01's list, by its function.
+/// One operation of the list, by its function.
 pub(super) fn step(words: &mut Words, op: &Op, ram: &mut Ram) -> Ans {
     use Op::*;
     let (at, len) = (ram.bytes.lent(op.may_write_ram()), ram.bytes.len());
@@ -146,6 +146,7 @@ pub(super) fn step(words: &mut Words, op: &Op, ram: &mut Ram) -> Ans {
         Mark(m) => quiet(lent.mark(m.into())),
         SetX(r, v) => quiet(lent.general(r.into(), v)),
         Abort(e) => quiet(lent.abort(&exception(&e))),
+        Census(first, pages) => census(words, first, pages, ram),
         _ => unreachable!("{op} is none of the list"),
     }
 }

@@ -1,10 +1,18 @@
-//! Without the feature `rattle` the model stands behind the two functions, so that the boundary itself is tested.
+//! Without the feature `rattle` the model stands behind the three functions, so that the boundary itself is tested.
 use super::{boxed, decode, encode_answer, state_of};
+use crate::census::Counts;
 use crate::model::DocCore;
 use crate::number::{DONE, NAMES_NOTHING};
-use crate::op::Line;
+use crate::op::{Ans, Line, Op};
 use crate::{place, Core, Ram};
-use std::slice::from_raw_parts_mut;
+use std::slice::{from_raw_parts, from_raw_parts_mut};
+
+/// The model with what a state's words hold.
+fn held(state: &place::State) -> DocCore {
+    let mut core = DocCore::new();
+    core.load(&state_of(state));
+    core
+}
 
 /// # Safety
 /// `state` is an array that nobody else uses.
@@ -28,14 +36,39 @@ pub unsafe fn a72_step(
         Some(Line::Op(op)) if op.is_step() => op,
         _ => return NAMES_NOTHING,
     };
-    let mut core = DocCore::new();
-    core.load(&state_of(state));
+    let mut core = held(state);
     let mut window = Ram::of(base, bytes.to_vec());
     let answer = core.step(&op, &mut window);
     if window.writes != 0 {
         bytes.copy_from_slice(&window.bytes);
     }
     *state = *boxed(&core.state());
-    *ans = encode_answer(&answer);
+    // The counts of a census are the other function's.
+    *ans = encode_answer(match &answer {
+        Ans::Counts(_) => &Ans::Ok,
+        other => other,
+    });
     DONE
+}
+
+/// # Safety
+/// As above.
+pub unsafe fn a72_census(
+    state: *const place::State,
+    first: u64,
+    pages: u64,
+    counts: *mut Counts,
+    base: u64,
+    ram: *const u8,
+    ram_bytes: usize,
+) -> u64 {
+    let mut window = Ram::of(base, from_raw_parts(ram, ram_bytes).to_vec());
+    match held(&*state).step(&Op::Census(first, pages), &mut window) {
+        Ans::Counts(all) => {
+            *counts = *all;
+            DONE
+        }
+        Ans::Number(n) => n.into(),
+        other => unreachable!("a census gives no {other}"),
+    }
 }

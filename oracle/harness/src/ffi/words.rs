@@ -1,4 +1,5 @@
 //! Lines as eight words and answers as four; the codes stand in [`super`].
+use crate::census;
 use crate::op::{Ans, Line, Op};
 use crate::wild::Part;
 use pimu::aarch64::Exception;
@@ -75,6 +76,7 @@ fn operation(op: &Op) -> Vec<u64> {
         Mark(m) => vec![10, m.into()],
         SetX(r, v) => vec![11, r.into(), v],
         Abort(e) => [&[12][..], &exception(&e)].concat(),
+        Census(first, pages) => vec![13, first, pages],
         LeafAsid => vec![20],
         LeafOn(r) => vec![21, r.into()],
         LeafUntag(r, va) => vec![22, r.into(), va],
@@ -126,6 +128,7 @@ fn operation_of(w: &[u64; 8]) -> Option<Op> {
         10 => Mark(flag(w[1])?),
         11 => SetX(u(1), w[2]),
         12 => Abort(exception_of(&w[1..])?),
+        13 => Census(w[1], w[2]),
         20 => LeafAsid,
         21 => LeafOn(regime()?),
         22 => LeafUntag(regime()?, w[2]),
@@ -162,11 +165,15 @@ pub fn encode_answer(a: &Ans) -> [u64; 4] {
         Ans::Fault(x, s) => [8, x, s.into(), 0],
         Ans::Data(x, w, s) => [9, x, s.into(), w.into()],
         Ans::Insn(x, s) => [10, x, s.into(), 0],
-        Ans::Panic => [11, 0, 0, 0],
+        Ans::Counts(ref counts) => {
+            let (n, digest) = census::summary(counts);
+            [11, n, digest, 0]
+        }
+        Ans::Panic => [u64::MAX, 0, 0, 0],
     }
 }
 
-/// Any other code is [`Ans::Panic`], which equals no answer of the Rust.
+/// Any other code is [`Ans::Panic`], which equals no answer of the Rust. The counts of a census do not come back.
 pub fn decode_answer(w: &[u64; 4]) -> Ans {
     match w[0] {
         0 => Ans::Ok,

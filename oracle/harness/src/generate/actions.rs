@@ -232,7 +232,7 @@ impl Generator {
         self.op(op);
     }
 
-    /// A present level above 3 for one operation.
+    /// A present level above 3 for one operation, and now and then for a census.
     fn high_level(&mut self) {
         let l = self.r.of(&[4, 7, 0xFFFF_FFFF]);
         self.op(Op::PokeLevel(l));
@@ -244,6 +244,10 @@ impl Generator {
             _ => Op::Load(0, 3),
         };
         self.op(op);
+        if self.aside.percent(25) {
+            let pages = self.aside.below(2) << 63;
+            self.op(Op::Census(u64::MAX, pages));
+        }
         self.op(Op::PokeLevel(self.level));
     }
 }

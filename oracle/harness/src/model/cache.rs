@@ -133,7 +133,7 @@ impl DocCore {
         Ok(e.pa | (va % 4096))
     }
 
-    fn find(&self, regime: u32, page: u64) -> Option<Entry> {
+    pub(super) fn find(&self, regime: u32, page: u64) -> Option<Entry> {
         let (generation, e) = self.entries.get(&((page % 1024) as u16))?;
         let global = e.global && !self.makes(Mistake::GlobalByAsid);
         let ours = global || e.asid == self.asid || self.makes(Mistake::EveryAsidMatches);

@@ -32,12 +32,22 @@ pub enum Mistake {
     EveryAsidMatches,
     HintSlotOneFold,
     NeverInvalidates,
+    CensusUntagsOnce,
+    CensusRightsOneLow,
+    CensusStopsEarly,
+    CensusCountsWalks,
+    CensusFromCache,
+    CensusByMark,
+    CensusEndFromFirst,
+    CensusNotToTop,
+    CensusFlatIsStatus0,
+    CensusAlwaysEl1,
 }
 
 use Mistake::*;
 
 /// Each mistake with what it does, by number from 1.
-pub const MISTAKES: [(Mistake, &str); 30] = [
+pub const MISTAKES: [(Mistake, &str); 40] = [
     (FlagBeforeSize, "access flag judged before the output size"),
     (
         PageDropsOnePage,
@@ -86,4 +96,17 @@ pub const MISTAKES: [(Mistake, &str); 30] = [
     (EveryAsidMatches, "entries of every ASID match"),
     (HintSlotOneFold, "hint slot without the second fold"),
     (NeverInvalidates, "never invalidates"),
+    (CensusUntagsOnce, "census untags its first page alone"),
+    (CensusRightsOneLow, "census counts permissions one place too low"),
+    (CensusStopsEarly, "census stops a page early"),
+    (CensusCountsWalks, "census moves the counter of walks"),
+    (CensusFromCache, "census takes permissions from live entries"),
+    (CensusByMark, "census while unprivileged is EL1&0's"),
+    (
+        CensusEndFromFirst,
+        "census reckons its end without dropping the low bits",
+    ),
+    (CensusNotToTop, "census that ends at 2^64 refused"),
+    (CensusFlatIsStatus0, "census counts flat pages under status 0"),
+    (CensusAlwaysEl1, "census is EL1&0's at every level"),
 ];

@@ -1,5 +1,5 @@
 //! The recorded files: which there are, and whether they are what this program makes now.
-use super::{aborts, record, splits, statuses, tlbi, Shown};
+use super::{aborts, ranges, record, splits, statuses, tlbi, Shown};
 use crate::generate::{trace, Style};
 use crate::op::Line;
 use std::fmt::Write;
@@ -56,6 +56,11 @@ fn made() -> Vec<(String, String)> {
             "aborts.trace",
             "every abort entry, from every level, under every routing",
             aborts::lines(),
+        ),
+        (
+            "ranges.trace",
+            "censuses of 65,536 pages: by pages, by blocks, not mapped",
+            ranges::lines(),
         ),
         (
             "splits.trace",
