@@ -5,6 +5,7 @@ pub mod Invisible
 pub mod Calls
 -- The plain model of the cache over a history.
 pub mod ModelRun
+pub mod Tallies
 -- The real registers and walk.
 pub mod Instance
 pub mod Fresh

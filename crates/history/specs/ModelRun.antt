@@ -94,7 +94,7 @@ module _ (w : World) (laws : Laws w) where
 
     ask-follows : (a : Ask) (t : Tlb) → WellFormed t → Follows (answerOf w c m a t) (tlbAsk w c m a t) (modelAsk w c m a (live t))
     ask-follows (translates k va) t s = translation-follows (accessOf w c m k va) t s (leaf-fits k va) low
-    ask-follows (fetches va) t s = fetch-follows (accessOf w c m Fetch va) t s (leaf-fits Fetch va) refl
+    ask-follows (fetches va) t s = fetch-follows (accessOf w c m Fetch va) t s (leaf-fits Fetch va) low refl
 
     -- the first translation, and the rest of them where it does not fault
     module _ (a : Ask) (l : List Ask) (t : Tlb) (f : Follows (answerOf w c m a t) (tlbAsk w c m a t) (modelAsk w c m a (live t))) where

@@ -156,8 +156,8 @@ module _ (w : World) where
     module _ (t : Model) (s : Traced w h (c .regs) t) where
       walk-done : onNow w c ≡ true → (x : Walked) → w .walk (c .regs) m (regimeNow w c) (untagNow w c va) ≡ x → Fine (walked x a t)
       unfolding walked
-      walk-done o (Fault code) e = record { traced = traced-counting w oneWalk s; answered = failed code o e refl }
-      walk-done o (Mapped leaf) e = record { traced = traced-keep w line kept-walk (traced-counting w oneWalk s); answered = answer }
+      walk-done o (Fault code) e = record { traced = traced-counting w (oneWalk (c .privilege .level)) s; answered = failed code o e refl }
+      walk-done o (Mapped leaf) e = record { traced = traced-keep w line kept-walk (traced-counting w (oneWalk (c .privilege .level)) s); answered = answer }
         where
           line : Line
           line = lineOfLeaf leaf a (t .asid)
@@ -189,7 +189,7 @@ module _ (w : World) where
       unfolding looked
       line-done o l b p r q =
           record {
-            traced = traced-counting w oneHit s;
+            traced = traced-counting w (oneHit (c .privilege .level)) s;
             answered =
                 by (b .leaf) (b .under) o (rw (same-regime (l .regime) (regimeNow w c) r, eqb-true (l .page) (pageNow w c va) p) at (b .seen))
                 (today (b .leaf .global) refl (rw (b .reach) at q)) (line-judged laws h c m k va l b);

@@ -10,6 +10,7 @@ use Rattle.tlb.proofs.access.Privilege.Laws as Q′
 use Rattle.tlb.proofs.Tlb.Laws as B′
 use Rattle.tlb.proofs.cache.Cache.Laws as K′
 use Rattle.tlb.proofs.count.Counts.Laws as N′
+use Rattle.tlb.proofs.count.Tally.Laws as L′
 use Rattle.tlb.proofs.entry.Current.Laws as P′
 use Rattle.tlb.proofs.entry.Entry.Laws as F′
 use Rattle.tlb.proofs.hint.Hint.Laws as E′
@@ -38,10 +39,10 @@ abbrev pub at-tlb : ℕ
 at-tlb = 608
 
 abbrev pub at-last : ℕ
-at-last = 41672
+at-last = 41720
 
 abbrev pub at-abort : ℕ
-at-abort = 41680
+at-abort = 41728
 
 abbrev pub at-counts : ℕ
 at-counts = 41000
@@ -55,7 +56,10 @@ at-hints = 40
 abbrev pub at-entries : ℕ
 at-entries = 8232
 
--- where the hints and the entries of a core at o begin
+-- where the pairs of counters, the hints and the entries of a core at o begin
+abbrev pub tallies-from : ℕ → ℕ
+tallies-from o = o + at-tlb + at-counts + 0
+
 abbrev pub hints-from : ℕ → ℕ
 hints-from o = o + at-tlb + 0 + at-hints
 
@@ -100,6 +104,9 @@ tlb-cache = refl
 
 pub tlb-counts : fieldOf B′.mir 1 ≡ some (N′.mir, at-counts)
 tlb-counts = refl
+
+pub counts-levels : fieldOf N′.mir 0 ≡ some (tyArray L′.mir 4, 0)
+counts-levels = refl
 
 pub cache-current : fieldOf K′.mir 0 ≡ some (P′.mir, 0)
 cache-current = refl

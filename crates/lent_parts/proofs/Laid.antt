@@ -39,15 +39,18 @@ use Rattle.tlb.proofs.access.Privilege.Laws as Q′
 use Rattle.tlb.proofs.Pending as D
 use Rattle.tlb.proofs.Pending.Laws as D′
 use Rattle.tlb.proofs.count.Counts.Laws as N′
+use Rattle.tlb.proofs.count.Tally.Laws as L′
 use Rattle.tlb.proofs.entry.Current.Laws as P′
 use Rattle.tlb.proofs.entry.Entry.Laws as F′
 use Rattle.tlb.proofs.hint.Hint.Laws as E′
 use Rattle.tlb.proofs.hint.FetchHint.Laws as X′
-use Rattle.lent_parts.proofs.InPlace.{vs as valsOf}
+use Rattle.lent_parts.proofs.InPlace.{vs as valsOf, elem}
 use Rattle.lent_parts.proofs.Shape.{field0, field4, field7, field8, field61, field600, field601, element602, element603}
-use Rattle.lent_parts.proofs.Parts.{Was, laid, written, words, vwho, vpresent, vfetch, vcounts, hints, entries, vlast, vabort, core-vals, core-tells}
+use Rattle.lent_parts.proofs.Parts.{Was, laid, written, with-parts, words, vwho, vcontrol, vpresent, vfetch, vcounts, counts-with, tallies, hints}
+use Rattle.lent_parts.proofs.Parts.{entries, vlast, vabort, core-vals, core-tells}
 use Rattle.lent_parts.proofs.Fields.{at-control, at-tlb, at-counts, at-fetch, at-last, at-abort, hints-from, entries-from, core-privilege, core-control}
-use Rattle.lent_parts.proofs.Fields.{core-tlb, core-last, core-abort, tlb-cache, tlb-counts, cache-current, cache-fetch, cache-hints, cache-entries}
+use Rattle.lent_parts.proofs.Fields.{core-tlb, core-last, core-abort, tlb-cache, tlb-counts, counts-levels, tallies-from, cache-current, cache-fetch}
+use Rattle.lent_parts.proofs.Fields.{cache-hints, cache-entries}
 
 module _ (c : Core) where
   -- the values of the fields that stay
@@ -135,6 +138,15 @@ module _ (c : Core) where
       (λ u. ‵ (fat fullShare T′.mir b o (laid c (vwho c) (vstruct (setV registers k u)) (vpresent c) (vfetch c) (vcounts c) (hints c) (entries c) (vlast c)
       (vabort c))))
   register-at t k e = sub t k e (control-at c (vwho c) (vstruct registers) (vpresent c) (vfetch c) (vcounts c) (hints c) (entries c) (vlast c) (vabort c) t)
+
+  -- and the counters of a level, with any entries
+  pub tally-at : {M : Type 1} {𝓤 : URA M} {H : Heap 𝓤} {A : Atoms 𝓤} {K : Type 0} {W : Given 𝓤 H A} {b o : ℕ} → K → (es : List Val) (i : ℕ)
+      → i < length (tallies c) → length (tallies c) ≡ 4
+      → Part K W (‵ (fat fullShare T′.mir b o (with-parts c (vfetch c) (vcounts c) (hints c) es (vlast c) (vabort c)))) fullShare L′.mir b
+      (place 16 (tallies-from o) i) (getD (tallies c) i vunit)
+      (λ u. ‵ (fat fullShare T′.mir b o (with-parts c (vfetch c) (counts-with (c .tlb .counts) (set (tallies c) i u)) (hints c) es (vlast c) (vabort c))))
+  tally-at t es i lt len = elem t (tallies c) i vunit lt len (sub t 0 counts-levels (counts-at c (vwho c) (vcontrol c) (vpresent c) (vfetch c)
+      (counts-with (c .tlb .counts) (tallies c)) (hints c) es (vlast c) (vabort c) t))
 
 -- THE BORROW OF A CORE, opened and closed
 

@@ -1,7 +1,7 @@
 -- A core in memory: its machine value with the counters, the hints and the entries set apart, and what whoever holds it knows of its parts.
 -- Assumes nothing.
 use mathlib.Core.Path.{_≡_, refl, sym, subst, ap, _∙_}
-use Prim.Native.Nat.{ℕ, _<_, _^_, _*_}
+use Prim.Native.Nat.{ℕ, zero, suc, _<_, _^_, _*_}
 use native.Mathlib.Omega.{arith}
 use mathlib.Core.List.{[], _∷_, List, map}
 use lib.ListN.{length, length-map, set, getD}
@@ -18,9 +18,11 @@ use denote.Struct.Laws.{u64-laws}
 use denote.Struct.Field.{u64-field}
 use denote.Steps.{only}
 use Rattle.tlb.specs.Cache.{hintAt, entryAt}
+use Rattle.tlb.specs.Count.{more, noTally, hitTaken, walkTaken, levelPlace, tallyAt, withTally}
 use Rattle.tlb.specs.Entry.{blank}
 use Rattle.tlb.specs.Hint.{noHint}
-use Rattle.tlb.specs.declared.{count.Counts.Counts, entry.Entry.Entry, hint.FetchHint.FetchHint, hint.Hint.Hint}
+use Rattle.tlb.specs.declared.{count.Counts.Counts, count.Tally.Tally, entry.Entry.Entry, hint.FetchHint.FetchHint, hint.Hint.Hint}
+use Rattle.operations.specs.Change.{takenAs, countedAs, taken-counted}
 use Rattle.mmu.specs.declared.core.Core.{Core}
 use Rattle.mmu.specs.Parts.{partsIn, storedIn, keptIn}
 use Rattle.lent_parts.proofs.InPlace.{vs as valsOf, array-set, array-at, vals-set, vals-length}
@@ -42,6 +44,8 @@ use Rattle.tlb.proofs.cache.Cache as K
 use Rattle.tlb.proofs.cache.Cache.Laws as K′
 use Rattle.tlb.proofs.count.Counts as N
 use Rattle.tlb.proofs.count.Counts.Laws as N′
+use Rattle.tlb.proofs.count.Tally as L
+use Rattle.tlb.proofs.count.Tally.Laws as L′
 use Rattle.tlb.proofs.entry.Current as P
 use Rattle.tlb.proofs.entry.Current.Laws as P′
 use Rattle.tlb.proofs.entry.Entry as F
@@ -55,6 +59,9 @@ use Rattle.tlb.proofs.hint.FetchHint.Laws as X′
 abbrev pub counts-val : Counts → Val
 counts-val n = LL.val N.the-type N′.the-laws n
 
+abbrev pub tally-val : Tally → Val
+tally-val t = LL.val L.the-type L′.the-laws t
+
 abbrev pub fetch-val : FetchHint → Val
 fetch-val f = LL.val X.the-type X′.the-laws f
 
@@ -63,6 +70,17 @@ hint-val h = LL.val E.the-type E′.the-laws h
 
 abbrev pub entry-val : Entry → Val
 entry-val e = LL.val F.the-type F′.the-laws e
+
+-- the counters of a level are words after an effect too
+more-is : (n : ℕ) → Is u64 (more n) (vint w64 (more n) ∷ [])
+more-is n = (refl, omega arith)
+
+taken-is : (n : ℕ) (k : Tally) → Is L.the-row k (tally-val k ∷ []) → Is L.the-row (takenAs n k) (tally-val (takenAs n k) ∷ [])
+taken-is zero k is = is
+taken-is (suc zero) k is = LL.owes L.the-type L′.the-laws (hitTaken k) (more-is (k .hits), LL.owed L.the-type L′.the-laws k _ is .1)
+taken-is (suc (suc zero)) k is = LL.owes L.the-type L′.the-laws (walkTaken k) (LL.owed L.the-type L′.the-laws k _ is .0, (more-is (k .walks), tt))
+taken-is (suc (suc (suc zero))) k is = LL.owes L.the-type L′.the-laws (walkTaken k) (LL.owed L.the-type L′.the-laws k _ is .0, (more-is (k .walks), tt))
+taken-is (suc (suc (suc (suc n)))) k is = is
 
 -- what whoever holds a struct knows of its fields
 abbrev pub Held : (D : Declared) → LL.Laws D → D .D → Type 0
@@ -89,8 +107,15 @@ module _ (xs : List ℕ) (are : Is (Array (u64-field .row) 4) (map (u64-field .i
     pub word-is : Is u64 (getD xs i 0) (vint w64 (getD xs i 0) ∷ [])
     word-is = subst (λ (v : Val). Is u64 (getD xs i 0) (v ∷ [])) word-spelt word-as
 
+-- the counters with other pairs of the levels
+abbrev pub counts-with : Counts → List Val → Val
+counts-with k ts = vstruct (vcons (arrayVal ts) (vcons (vint w64 (k .flushes)) (vcons (vint w64 (k .drops)) (vcons (vint w64 (k .epoch)) vnil))))
+
 module _ (c : Core) where
-  -- the machine values of the hints and of the entries
+  -- the machine values of the levels' counters, of the hints and of the entries
+  abbrev pub tallies : List Val
+  tallies = valsOf L.the-field L′.the-field-laws (c .tlb .counts .levels)
+
   abbrev pub hints : List Val
   hints = valsOf E.the-field E′.the-field-laws (c .tlb .cache .hints)
 
@@ -198,6 +223,39 @@ module _ (c : Core) where
 
     pub entries-count : length (c .tlb .cache .entries) ≡ 1024
     entries-count = sym (length-map (c .tlb .cache .entries) (F.the-field .into)) ∙ entries-are .1 .0 .1
+
+    -- the counters of a level
+    levels-are : Is (Array (L.the-field .row) 4) (map (L.the-field .into) (c .tlb .counts .levels)) (arrayVal tallies ∷ [])
+    levels-are = LL.owed N.the-type N′.the-laws (c .tlb .counts) (counts-val (c .tlb .counts) ∷ []) counts-are .0
+
+    pub tallies-long : length tallies ≡ 4
+    tallies-long = vals-length L.the-field L′.the-field-laws 4 (c .tlb .counts .levels) (arrayVal tallies ∷ []) levels-are
+
+    module _ (i : ℕ) (l : i < 4) where
+      pub tally-within : i < length tallies
+      tally-within = subst (λ (n : ℕ). i < n) (sym tallies-long) l
+
+      pub tally-as : Is L.the-row (tallyAt (c .tlb .counts) i) (getD tallies i vunit ∷ [])
+      tally-as = array-at L.the-field L′.the-field-laws 4 (c .tlb .counts .levels) (arrayVal tallies ∷ []) i noTally vunit tally-within levels-are
+
+      pub tally-spelt : getD tallies i vunit ≡ tally-val (tallyAt (c .tlb .counts) i)
+      tally-spelt = ap only (LL.tells L.the-type L′.the-laws (tallyAt (c .tlb .counts) i) (getD tallies i vunit ∷ []) tally-as)
+
+      pub tally-is : Is L.the-row (tallyAt (c .tlb .counts) i) (tally-val (tallyAt (c .tlb .counts) i) ∷ [])
+      tally-is = subst (λ (v : Val). Is L.the-row (tallyAt (c .tlb .counts) i) (v ∷ [])) tally-spelt tally-as
+
+    counts-stored : (i : ℕ) (t : Tally) → Is L.the-row t (tally-val t ∷ [])
+        → Is N.the-row (withTally (c .tlb .counts) i t) (counts-val (withTally (c .tlb .counts) i t) ∷ [])
+    counts-stored i t is = LL.owes N.the-type N′.the-laws (withTally (c .tlb .counts) i t) (
+      array-set L.the-field L′.the-field-laws 4 (c .tlb .counts .levels) (arrayVal tallies ∷ []) i t is levels-are,
+      LL.owed N.the-type N′.the-laws (c .tlb .counts) (counts-val (c .tlb .counts) ∷ []) counts-are .1,
+    )
+
+    pub counted-is : (n level : ℕ) → Is N.the-row (countedAs n level (c .tlb .counts)) (counts-val (countedAs n level (c .tlb .counts)) ∷ [])
+    counted-is n level =
+        subst (λ (k : Counts). Is N.the-row k (counts-val k ∷ [])) (taken-counted n level (c .tlb .counts))
+        (counts-stored (levelPlace level) (takenAs n (tallyAt (c .tlb .counts) (levelPlace level)))
+        (taken-is n (tallyAt (c .tlb .counts) (levelPlace level)) (tally-is (levelPlace level) (omega arith))))
 
     -- the hint of a place, and the entry of a slot
     module _ (i : ℕ) (l : i < 512) where

@@ -56,12 +56,12 @@ hint-mod : (va : ℕ) (kind : Kind) → hintPlace va kind % 512 ≡ hintPlace va
 hint-mod va kind = omega arith
 
 -- the law that ties a change's effect to the source of its answer
-counted-as : (s : Source) (k : Counts) → countedAs (effectOf s) k ≡ countedBy s k
-counted-as FromHint k = refl
-counted-as FromFlat k = refl
-counted-as FromEntry k = refl
-counted-as FromWalk k = refl
-counted-as NoLeaf k = refl
+counted-as : (s : Source) (level : ℕ) (k : Counts) → countedAs (effectOf s) level k ≡ countedBy s level k
+counted-as FromHint level k = refl
+counted-as FromFlat level k = refl
+counted-as FromEntry level k = refl
+counted-as FromWalk level k = refl
+counted-as NoLeaf level k = refl
 
 kept-as : (s : Source) (old made : Entry) → keptAs (effectOf s) old made ≡ keptBy s old made
 kept-as FromHint old made = refl
@@ -155,7 +155,7 @@ module _ (c : Core) (memory : ℕ → Word) (va : ℕ) where
 
     module _ (f : Answer → FetchHint) (h : Answer → Hint) where
       abbrev kept : ℕ → Resolved → Core
-      kept j t = storedIn c i₀ j (f (t .answer)) (countedBy (t .source) (c .tlb .counts)) (h (t .answer))
+      kept j t = storedIn c i₀ j (f (t .answer)) (countedBy (t .source) (c .privilege .level) (c .tlb .counts)) (h (t .answer))
           (keptBy (t .source) (entryAt (c .tlb .cache) j) (t .made))
 
       abbrev Same : ℕ → Type 0
@@ -204,7 +204,7 @@ module _ (c : Core) (memory : ℕ → Word) (va : ℕ) where
 
     stored-is : (t : Resolved) → commitAt c i₀ j₀ (changeOf look t va kind) ≡ kept (λ a. c .tlb .cache .fetch) hint₀ j₀ t
     stored-is t =
-        λ n. storedIn c i₀ j₀ (c .tlb .cache .fetch) (counted-as (t .source) (c .tlb .counts) n)
+        λ n. storedIn c i₀ j₀ (c .tlb .cache .fetch) (counted-as (t .source) (c .privilege .level) (c .tlb .counts) n)
         (hint-as (mayHint (c .privilege) kind) (c .privilege .level) va (t .answer) (hintAt (c .tlb .cache) i₀) n)
         (kept-as (t .source) (entryAt (c .tlb .cache) j₀) (t .made) n)
 
@@ -278,7 +278,7 @@ module _ (c : Core) (memory : ℕ → Word) (va : ℕ) where
   fetch-stored : (t : Resolved) → commitAt c (i₀ Fetch) (j₀ Fetch) (fetchChangeOf (look Fetch) t va) ≡ kept Fetch fetch₀ old-hint (j₀ Fetch) t
   fetch-stored t =
       λ n. storedIn c (i₀ Fetch) (j₀ Fetch) (fetch-as (c .privilege .level) va (t .answer) (c .tlb .cache .fetch) n)
-      (counted-as (t .source) (c .tlb .counts) n) (hintAt (c .tlb .cache) (i₀ Fetch))
+      (counted-as (t .source) (c .privilege .level) (c .tlb .counts) n) (hintAt (c .tlb .cache) (i₀ Fetch))
       (kept-as (t .source) (entryAt (c .tlb .cache) (j₀ Fetch)) (t .made) n)
 
   -- the hint that was taken goes back

@@ -259,10 +259,10 @@ module _ (s : Bank) (privilege : Privilege) (kind : Kind) where
       goes-to = e
 
       place-in : mayHint privilege kind ≡ true → dataSlot a kind < length (t .cache .hints)
-      place-in m = rw (f .places) (place-low privilege kind a m)
+      place-in m = rw (f .cache .places) (place-low privilege kind a m)
 
       slot-in : slotAt s (privilege .level) a < length (t .cache .entries)
-      slot-in = rw (f .slots) (mod-lt (tagIn s privilege a / 4) (omega arith))
+      slot-in = rw (f .cache .slots) (mod-lt (tagIn s privilege a / 4) (omega arith))
 
       kept-hint : mayHint privilege kind ≡ true → hit ≡ true → Gives s privilege kind a pa (step .tlb .cache)
       kept-hint m q =

@@ -140,12 +140,12 @@ module _ (a b pa pb : ℕ) (v w : Walked) (same : a / 4096 ≡ b / 4096) (same-t
 
 module _ (s : Bank) (privilege : Privilege) (memory : ℕ → Word) (kind : Kind) (t : Tlb) (f : WellFormed t) where
   pub hint-aligned : (i : ℕ) → hintAt (t .cache) i .pa % 4096 ≡ 0
-  hint-aligned i = each-getD {P = Aligned} noHint refl (f .hints) i
+  hint-aligned i = each-getD {P = Aligned} noHint refl (f .cache .hints) i
 
   pub entry-aligned : (i : ℕ) → entryAt (t .cache) i .pa % 4096 ≡ 0
   entry-aligned i =
       each-getD {P = λ (e : Entry). e .pa % 4096 ≡ 0} blank refl
-      (each-imp {P = Made (t .cache .current .generation)} (λ e m. m .aligned) (f .entries)) i
+      (each-imp {P = Made (t .cache .current .generation)} (λ e m. m .aligned) (f .cache .entries)) i
 
   -- addresses of one page get one answer, each with its own offset
   pub step-page : (a b : ℕ) → a / 4096 ≡ b / 4096 → translateIn s privilege memory b kind t .answer

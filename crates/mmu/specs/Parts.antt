@@ -68,7 +68,7 @@ storedIn c i j f k h e =
 
 abbrev pub commitAt : Core → ℕ → ℕ → Change → Core
 commitAt c i j t =
-    storedIn c i j (pick (t .fetches) (t .fetch) (c .tlb .cache .fetch)) (countedAs (t .effect) (c .tlb .counts))
+    storedIn c i j (pick (t .fetches) (t .fetch) (c .tlb .cache .fetch)) (countedAs (t .effect) (c .privilege .level) (c .tlb .counts))
     (pick (t .hints) (t .hint) (hintAt (c .tlb .cache) i)) (keptAs (t .effect) (entryAt (c .tlb .cache) j) (t .made))
 
 abbrev pub commitIn : Core → Change → Core

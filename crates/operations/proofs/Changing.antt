@@ -16,7 +16,7 @@ use Rattle.tlb.specs.Hint.{hintFor, noHint, noFetch, fetchFor, onPage}
 use Rattle.tlb.specs.Resolve.{askWith, askOf, resolveOf}
 use Rattle.tlb.specs.declared.access.Answer.the-variants.{Address}
 use Rattle.tlb.specs.declared.{access.Kind.Kind, access.Privilege.Privilege, entry.Entry.Entry, entry.Current.Current}
-use Rattle.tlb.specs.declared.{hint.FetchHint.FetchHint, hint.Hint.Hint, resolve.Asked.Asked, resolve.Query.Query}
+use Rattle.tlb.specs.declared.{count.Tally.Tally, hint.FetchHint.FetchHint, hint.Hint.Hint, resolve.Asked.Asked, resolve.Query.Query}
 use Rattle.tlb.specs.declared.resolve.Resolved.{Resolved}
 use Rattle.tlb.specs.declared.resolve.Asked.the-variants.{Flat, Of}
 use Rattle.tlb.specs.declared.resolve.Source.the-variants.{FromFlat}
@@ -24,8 +24,16 @@ use Rattle.operations.specs.Replies.{translation}
 use Rattle.operations.specs.declared.{call.Reply.Reply, change.Change.Change, change.Translated.Translated}
 use Rattle.operations.specs.declared.{change.Lookup.Lookup, change.Page.Page, change.Answered.Answered}
 use Rattle.operations.specs.Change.{entryPlace, lookupWith, lookupOf, effectOf, allowed, addressOf, missBy, changeOf, fetchChangeOf, unchanged}
-use Rattle.operations.specs.Change.{translatedOf, answeredOf, hintLeft, entryLeft, pageAfter}
+use Rattle.operations.specs.Change.{translatedOf, answeredOf, hintLeft, entryLeft, pageAfter, takenAs}
 use Rattle.operations.specs.Hinted.{hintPlace, hintServes}
+
+-- an effect that counts nothing
+pub taken-none : (n : ℕ) (t : Tally) → (n ≡ 1 → ⊥) → (n ≡ 2 → ⊥) → (n ≡ 3 → ⊥) → t ≡ takenAs n t
+taken-none zero t a b d = refl
+taken-none (suc zero) t a b d = absurd (a refl)
+taken-none (suc (suc zero)) t a b d = absurd (b refl)
+taken-none (suc (suc (suc zero))) t a b d = absurd (d refl)
+taken-none (suc (suc (suc (suc n)))) t a b d = refl
 
 module _ (a : Asked) where
   pub place-of : (q : Query) (j : ℕ) → a ≡ Of q → j ≡ slotOf (q .tag) → j ≡ entryPlace a

@@ -1,18 +1,20 @@
 -- A translation as what it changes, and the core with that stored. Cited by the contracts of this crate alone.
+use mathlib.Core.Path.{_≡_, refl}
 use mathlib.Core.Bool.{Bool, true, false, _&&_}
 use Prim.Native.Nat.{ℕ, zero, suc}
 use lib.Dec.{eqb}
+use lib.Seq.{set-getD}
 use Rattle.word.specs.Bits.{pick}
 use Rattle.word.specs.declared.ram.Word.{Word}
 use Rattle.sysreg.specs.declared.regs.Control.{Control}
 use Rattle.walk.specs.Regime.{bankOf, regimeOf}
 use Rattle.walk.specs.declared.regime.Bank.{Bank}
 use Rattle.tlb.specs.Access.{mayHint}
-use Rattle.tlb.specs.Count.{hitCounted, walkCounted}
+use Rattle.tlb.specs.Count.{noTally, hitTaken, walkTaken, levelPlace, tallyAt, withTally, hitCounted, walkCounted}
 use Rattle.tlb.specs.Entry.{blank, slotOf}
 use Rattle.tlb.specs.Hint.{hintFor, noHint, noFetch, fetchFor, onPage}
 use Rattle.tlb.specs.Resolve.{askOf, changesOf}
-use Rattle.tlb.specs.declared.{access.Answer.Answer, access.Kind.Kind, access.Privilege.Privilege, count.Counts.Counts}
+use Rattle.tlb.specs.declared.{access.Answer.Answer, access.Kind.Kind, access.Privilege.Privilege, count.Counts.Counts, count.Tally.Tally}
 use Rattle.tlb.specs.declared.{entry.Entry.Entry, entry.Current.Current, hint.Hint.Hint, resolve.Asked.Asked}
 use Rattle.tlb.specs.declared.{resolve.Resolved.Resolved, resolve.Source.Source}
 use Rattle.tlb.specs.declared.access.Answer.the-variants.{Address, Status}
@@ -50,12 +52,33 @@ effectOf FromEntry = 1
 effectOf FromWalk = 3
 effectOf NoLeaf = 2
 
-abbrev pub countedAs : ℕ → Counts → Counts
-countedAs zero k = k
-countedAs (suc zero) k = hitCounted k
-countedAs (suc (suc zero)) k = walkCounted k
-countedAs (suc (suc (suc zero))) k = walkCounted k
-countedAs (suc (suc (suc (suc n)))) k = k
+-- the pair of a level put back as it was
+own-back : (level : ℕ) (k : Counts) → withTally k (levelPlace level) (tallyAt k (levelPlace level)) ≡ k
+own-back level k = λ i. record { levels = set-getD (k .levels) (levelPlace level) noTally i; flushes = k .flushes; drops = k .drops; epoch = k .epoch }
+
+-- the counters after an effect at a level
+abbrev pub countedAs : ℕ → ℕ → Counts → Counts
+countedAs zero level k = k
+countedAs (suc zero) level k = hitCounted level k
+countedAs (suc (suc zero)) level k = walkCounted level k
+countedAs (suc (suc (suc zero))) level k = walkCounted level k
+countedAs (suc (suc (suc (suc n)))) level k = k
+
+-- those of the level alone
+abbrev pub takenAs : ℕ → Tally → Tally
+takenAs zero t = t
+takenAs (suc zero) t = hitTaken t
+takenAs (suc (suc zero)) t = walkTaken t
+takenAs (suc (suc (suc zero))) t = walkTaken t
+takenAs (suc (suc (suc (suc n)))) t = t
+
+pub taken-counted : (n level : ℕ) (k : Counts)
+    → withTally k (levelPlace level) (takenAs n (tallyAt k (levelPlace level))) ≡ countedAs n level k
+taken-counted zero level k = own-back level k
+taken-counted (suc zero) level k = refl
+taken-counted (suc (suc zero)) level k = refl
+taken-counted (suc (suc (suc zero))) level k = refl
+taken-counted (suc (suc (suc (suc n)))) level k = own-back level k
 
 abbrev pub keptAs : ℕ → Entry → Entry → Entry
 keptAs zero old made = old

@@ -3,7 +3,7 @@ ghost use mathlib.Core.Path.{_≡_};
 ghost use Rattle.word.specs.Ram.{wordAt};
 ghost use Rattle.operations.specs.Change.{entryPlace, lookupWith, lookupOf, effectOf, allowed, addressOf, missBy};
 ghost use Rattle.operations.specs.Change.{changeOf, translatedOf, unchanged, fetchChangeOf, answeredOf};
-ghost use Rattle.operations.specs.Change.{hintLeft, entryLeft, pageAfter};
+ghost use Rattle.operations.specs.Change.{hintLeft, entryLeft, pageAfter, takenAs};
 ghost use Rattle.tlb.specs.Hint.{onPage};
 ghost use Rattle.tlb.specs.Resolve.{askOf};
 ghost use Rattle.tlb.specs.declared.access.Answer.the-variants.{Address};
@@ -16,6 +16,8 @@ use tlb::access;
 use tlb::access::Answer;
 use tlb::access::Kind;
 use tlb::access::Privilege;
+use tlb::count;
+use tlb::count::Tally;
 use tlb::entry::Current;
 use tlb::entry::Entry;
 use tlb::hint;
@@ -137,6 +139,18 @@ fn effect_of(source: Source) -> u8
         Source::FromEntry => 1,
         Source::FromWalk => 3,
         Source::NoLeaf => 2,
+    }
+}
+
+// The counters of a level after an effect.
+pub fn taken(effect: u8, t: Tally) -> Tally
+    ensures { λ r. ⌜ r ≡ takenAs effect t ⌝ }
+{
+    match effect {
+        1 => count::taken_hit(t),
+        2 => count::taken_walk(t),
+        3 => count::taken_walk(t),
+        _ => t,
     }
 }
 

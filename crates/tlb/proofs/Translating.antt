@@ -102,8 +102,8 @@ module _ (q : Query) (s : Bank) (privilege : Privilege) (at : Current) (e : Entr
   walk-resolves t f et = rw (← eb, f) et
 
 -- what becomes of the counters
-pub counted-as : (s from : Source) (k n : Counts) → s ≡ from → n ≡ countedBy from k → n ≡ countedBy s k
-counted-as s from k n e p = p ∙ ap (λ (x : Source). countedBy x k) (sym e)
+pub counted-as : (s from : Source) (level : ℕ) (k n : Counts) → s ≡ from → n ≡ countedBy from level k → n ≡ countedBy s level k
+counted-as s from level k n e p = p ∙ ap (λ (x : Source). countedBy x level k) (sym e)
 
 -- and of the hints
 module _ (hinted : Bool) (level va : ℕ) (a : Answer) (old : Hint) where
@@ -149,7 +149,7 @@ module _ (s : Bank) (privilege : Privilege) (at : Current) (k : Counts) (h : Hin
   served pa f ep = rw (← eh, ← ek, f, ep)
 
   pub missed : (t : Resolved) (n : Counts) (x : Entry) (g : Hint) → hinted && eqb (h .key) key ≡ false
-      → t ≡ missOf s privilege at e va kind memory → n ≡ countedBy (t .source) k → x ≡ keptBy (t .source) e (t .made)
+      → t ≡ missOf s privilege at e va kind memory → n ≡ countedBy (t .source) (privilege .level) k → x ≡ keptBy (t .source) e (t .made)
       → g ≡ hintAfter hinted (privilege .level) va (t .answer) h
       → record { counts = n; hint = g; entry = x; answer = t .answer; source = t .source } ≡ translationOf s privilege at k h e va kind memory
   unfolding translationOf translationWith missOf applied
@@ -163,7 +163,7 @@ module _ (s : Bank) (privilege : Privilege) (at : Current) (k : Counts) (f : Fet
   fetch-served pa ep = rw (← q, ep)
 
   pub fetch-missed : (t : Resolved) (n : Counts) (x : Entry) (g : FetchHint) → p ≡ Unknown → t ≡ missOf s privilege at e va Fetch memory
-      → n ≡ countedBy (t .source) k → x ≡ keptBy (t .source) e (t .made) → g ≡ fetchAfter (privilege .level) va (t .answer) f
+      → n ≡ countedBy (t .source) (privilege .level) k → x ≡ keptBy (t .source) e (t .made) → g ≡ fetchAfter (privilege .level) va (t .answer) f
       → record { counts = n; fetch = g; entry = x; answer = t .answer; source = t .source } ≡ fetchOf s privilege at k f e va memory
   unfolding fetchOf fetchWith fetchEnd fetchApplied missOf
   fetch-missed t n x g ep et en ex eg = rw (← q, ep, ← et, en, ex, eg)

@@ -10,6 +10,7 @@ pub mod Resolve
 pub mod Translate
 pub mod Model
 pub mod Live
+pub mod Levels
 pub mod Cells
 pub mod Refines
 pub mod Step

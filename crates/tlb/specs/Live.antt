@@ -10,6 +10,7 @@ use Rattle.walk.specs.declared.regime.Regime.the-variants.{El1, El2, El3}
 use Rattle.walk.specs.declared.level.Walked.the-variants.{Mapped}
 use Rattle.tlb.specs.Entry.{blank}
 use Rattle.tlb.specs.Hint.{noHint}
+use Rattle.tlb.specs.Count.{tallyAt}
 use Rattle.tlb.specs.Lists.{Each}
 use Rattle.tlb.specs.Model.{Slot, empty, holds, Line, Known, Counters, Model, Outcome, reachOf}
 use Rattle.tlb.specs.declared.{entry.Entry.Entry, access.Answer.Answer, hint.Hint.Hint, hint.FetchHint.FetchHint}
@@ -57,7 +58,14 @@ unfoldable pub hintsOf : List Hint → ℕ → Slot Known
 hintsOf hs i = hintOf (getD hs i noHint)
 
 abbrev pub countersOf : Counts → Counters
-countersOf k = record { hits = k .hits; walks = k .walks; flushes = k .flushes; drops = k .drops; epoch = k .epoch }
+countersOf k =
+    record {
+      hits = λ l. tallyAt k l .hits;
+      walks = λ l. tallyAt k l .walks;
+      flushes = k .flushes;
+      drops = k .drops;
+      epoch = k .epoch;
+    }
 
 abbrev pub live : Tlb → Model
 live t =
@@ -89,8 +97,10 @@ pub record Sound (c : Cache) : Type 0 where
   pub fetch-page : c .fetch .page % 4096 ≡ 0
   pub fetch-pa : c .fetch .pa % 4096 ≡ 0
 
-abbrev pub WellFormed : Tlb → Type 0
-WellFormed t = Sound (t .cache)
+-- and counters of four levels
+pub record WellFormed (t : Tlb) : Type 0 where
+  pub cache : Sound (t .cache)
+  pub levels : length (t .counts .levels) ≡ 4
 
 -- a leaf that the walk ends in is of level 3 at most
 abbrev pub LeafLevel : Walked → Type 0

@@ -40,10 +40,10 @@ pub record Known : Type 0 where
   pub level : ℕ
   pub frame : ℕ
 
--- answers from a line, walks, flushes, Pages, and how often all hints went
+-- answers from a line and walks, by exception level, 0 to 3; flushes, Pages, and how often all hints went
 pub record Counters : Type 0 where
-  pub hits : ℕ
-  pub walks : ℕ
+  pub hits : ℕ → ℕ
+  pub walks : ℕ → ℕ
   pub flushes : ℕ
   pub drops : ℕ
   pub epoch : ℕ
@@ -64,7 +64,7 @@ emptyModel =
       lines = λ i. empty;
       hints = λ i. empty;
       fetch = empty;
-      counts = record { hits = 0; walks = 0; flushes = 0; drops = 0; epoch = 0 };
+      counts = record { hits = λ l. 0; walks = λ l. 0; flushes = 0; drops = 0; epoch = 0 };
       pending = empty;
     }
 
@@ -73,11 +73,15 @@ emptyModel =
 abbrev pub up : ℕ → ℕ
 up n = (n + 1) % 2 ^ 64
 
-abbrev pub oneHit : Counters → Counters
-oneHit k = record { hits = up (k .hits); walks = k .walks; flushes = k .flushes; drops = k .drops; epoch = k .epoch }
+-- of one level
+abbrev pub upAt : ℕ → (ℕ → ℕ) → ℕ → ℕ
+upAt level f l = pick (eqb l level) (up (f l)) (f l)
 
-abbrev pub oneWalk : Counters → Counters
-oneWalk k = record { hits = k .hits; walks = up (k .walks); flushes = k .flushes; drops = k .drops; epoch = k .epoch }
+abbrev pub oneHit : ℕ → Counters → Counters
+oneHit level k = record { hits = upAt level (k .hits); walks = k .walks; flushes = k .flushes; drops = k .drops; epoch = k .epoch }
+
+abbrev pub oneWalk : ℕ → Counters → Counters
+oneWalk level k = record { hits = k .hits; walks = upAt level (k .walks); flushes = k .flushes; drops = k .drops; epoch = k .epoch }
 
 abbrev pub oneFlush : Counters → Counters
 oneFlush k = record { hits = k .hits; walks = k .walks; flushes = up (k .flushes); drops = k .drops; epoch = k .epoch }
@@ -315,15 +319,19 @@ lineOfLeaf leaf a asid =
       reach = reachOf (leaf .global) asid;
     }
 
--- a walk counts one; a leaf is kept and judged; a fault is the answer and leaves no line
+-- a walk counts one at the level of the access, which the mark does not lower; a leaf is kept and judged; a fault is the answer and leaves no
+-- line
 unfoldable pub walked : Walked → Access → Model → Outcome
-walked (Fault code) a m = record { answer = Status (first code); after = counting oneWalk m }
+walked (Fault code) a m = record { answer = Status (first code); after = counting (oneWalk (a .privilege .level)) m }
 walked (Mapped leaf) a m =
-    record { answer = judge (lineOfLeaf leaf a (m .asid)) a; after = keep (lineOfLeaf leaf a (m .asid)) (counting oneWalk m) }
+    record {
+      answer = judge (lineOfLeaf leaf a (m .asid)) a;
+      after = keep (lineOfLeaf leaf a (m .asid)) (counting (oneWalk (a .privilege .level)) m);
+    }
 
--- a line that serves is a hit; where none does, the page is walked
+-- a line that serves is a hit at that level; where none does, the page is walked
 unfoldable pub looked : Slot Line → Access → Model → Outcome
-looked (holds l) a m = record { answer = judge l a; after = counting oneHit m }
+looked (holds l) a m = record { answer = judge l a; after = counting (oneHit (a .privilege .level)) m }
 looked empty a m = walked (a .walk) a m
 
 -- with stage 1 off the answer is the address itself

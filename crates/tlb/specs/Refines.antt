@@ -12,7 +12,7 @@ use Rattle.walk.specs.declared.regime.Regime.{Regime}
 use Rattle.tlb.specs.Entry.{blank, slotOf, serves, stamped, untagged, named, pageDropped, walkedFor, asidDropped}
 use Rattle.tlb.specs.Hint.{noHint, noFetch}
 use Rattle.tlb.specs.Lists.{Each, each-map, each-imp, each-set, each-getD, each-replicate, replicate-at, getD-set}
-use Rattle.tlb.specs.Count.{flushCounted}
+use Rattle.tlb.specs.Count.{noTally, noTallies, noCounts, flushCounted, dropCounted, epochCounted}
 use Rattle.tlb.specs.Cache.{blanks, noHints, hintless, entryAt, setEntry, nextGeneration, flushed, withoutPage, withoutAsid, retagged}
 use Rattle.tlb.specs.Tlb.{fresh, getOf, putOf, flushOf, dropPageOf, dropAsidOf, retagOf, invalidateOf, sameInval, pendingAfter, broadcastOf}
 use Rattle.tlb.specs.Access.{regimeNumber}
@@ -85,11 +85,30 @@ blanks-made g = each-replicate (Made g) blank (blank-made g) 1024
 
 -- NEW
 
+no-counts : countersOf noCounts ≡ emptyModel .counts
+unfolding noTallies
+no-counts =
+    λ n.
+    record {
+      hits = λ l. replicate-at noTally 4 l n .hits;
+      walks = λ l. replicate-at noTally 4 l n .walks;
+      flushes = 0;
+      drops = 0;
+      epoch = 0;
+    }
+
 pub fresh-live : live fresh ≡ emptyModel
-fresh-live = hintless-live (record { generation = 1; asid = 0 }) blanks _ Nothing (λ i. empty) blank-lines
+fresh-live =
+    hintless-live (record { generation = 1; asid = 0 }) blanks noCounts Nothing (λ i. empty) blank-lines
+    ∙ λ n. record { asid = 0; lines = λ i. empty; hints = λ i. empty; fetch = empty; counts = no-counts n; pending = empty }
 
 pub fresh-sound : WellFormed fresh
-fresh-sound = hintless-sound _ blanks (omega arith) (omega arith) blanks-long (blanks-made 1)
+unfolding noTallies
+fresh-sound =
+    record {
+      cache = hintless-sound _ blanks (omega arith) (omega arith) blanks-long (blanks-made 1);
+      levels = length-replicate 4 noTally;
+    }
 
 -- INVALIDATIONS
 
@@ -149,7 +168,7 @@ module _ (t : Tlb) (s : WellFormed t) where
   flush-live = go (eqb (nextGeneration (t .cache .current .generation)) 0) refl
     where
       emptied : (i : ℕ) → linesOf (t .cache .current .generation + 1) (t .cache .entries) i ≡ empty
-      emptied i = flush-drops _ _ (each-getD {P = Made (t .cache .current .generation)} blank (blank-made _) (s .entries) i .early)
+      emptied i = flush-drops _ _ (each-getD {P = Made (t .cache .current .generation)} blank (blank-made _) (s .cache .entries) i .early)
 
       go : (b : Bool) → eqb (nextGeneration (t .cache .current .generation)) 0 ≡ b → live (flushOf t) ≡ invalidate All (live t)
       go true f =
@@ -157,42 +176,42 @@ module _ (t : Tlb) (s : WellFormed t) where
           (hintless-live (record { generation = 1; asid = t .cache .current .asid }) blanks (flushCounted (t .counts)) (t .broadcast)
           (λ i. uncovered All (live t .lines i)) (λ i. blank-lines i ∙ sym (all-covered (live t .lines i))))
       go false f =
-          rw (flush-next (t .cache) s f)
+          rw (flush-next (t .cache) (s .cache) f)
           (hintless-live (record { generation = t .cache .current .generation + 1; asid = t .cache .current .asid }) (t .cache .entries)
           (flushCounted (t .counts)) (t .broadcast) (λ i. uncovered All (live t .lines i))
           (λ i. emptied i ∙ sym (all-covered (live t .lines i))))
 
   pub flush-sound : WellFormed (flushOf t)
   unfolding flushOf
-  flush-sound = go (eqb (nextGeneration (t .cache .current .generation)) 0) refl
+  flush-sound = record { cache = go (eqb (nextGeneration (t .cache .current .generation)) 0) refl; levels = s .levels }
     where
       go : (b : Bool) → eqb (nextGeneration (t .cache .current .generation)) 0 ≡ b → Sound (flushed (t .cache))
       go true f = rw (flush-wraps (t .cache) f) (hintless-sound _ blanks (omega arith) (omega arith) blanks-long (blanks-made 1))
       go false f =
           let ne : nextGeneration (t .cache .current .generation) ≡ 0 → ⊥ = eqb-false _ _ f in
-          let below : t .cache .current .generation < 2 ^ 32 = s .last in
-          rw (flush-next (t .cache) s f)
-          (hintless-sound _ _ (omega arith) (omega arith) (s .slots) (each-imp (older (t .cache .current .generation)) (s .entries)))
+          let below : t .cache .current .generation < 2 ^ 32 = s .cache .last in
+          rw (flush-next (t .cache) (s .cache) f)
+          (hintless-sound _ _ (omega arith) (omega arith) (s .cache .slots) (each-imp (older (t .cache .current .generation)) (s .cache .entries)))
 
   pub page-live : (page : ℕ) → live (dropPageOf t page) ≡ invalidate (Page page) (live t)
   unfolding dropPageOf withoutPage invalidate
   page-live page =
-      hintless-live (t .cache .current) _ _ (t .broadcast) _
+      hintless-live (t .cache .current) _ (dropCounted (t .counts)) (t .broadcast) _
       (mapped-lines (Page page) _ _ (t .cache .entries) (page-blank (t .cache .current .generation) page) (page-drops _ page))
 
   pub page-sound : (page : ℕ) → WellFormed (dropPageOf t page)
   unfolding dropPageOf withoutPage
-  page-sound page = mapped-sound (t .cache) _ (page-made _ _ page) s
+  page-sound page = record { cache = mapped-sound (t .cache) _ (page-made _ _ page) (s .cache); levels = s .levels }
 
   pub asid-live : (asid : ℕ) → live (dropAsidOf t asid) ≡ invalidate (Asid asid) (live t)
   unfolding dropAsidOf withoutAsid invalidate
   asid-live asid =
-      hintless-live (t .cache .current) _ _ (t .broadcast) _
+      hintless-live (t .cache .current) _ (epochCounted (t .counts)) (t .broadcast) _
       (mapped-lines (Asid asid) (t .cache .current .generation) _ (t .cache .entries) (asid-blank asid) (asid-drops _ asid))
 
   pub asid-sound : (asid : ℕ) → WellFormed (dropAsidOf t asid)
   unfolding dropAsidOf withoutAsid
-  asid-sound asid = mapped-sound (t .cache) _ (asid-made _ asid) s
+  asid-sound asid = record { cache = mapped-sound (t .cache) _ (asid-made _ asid) (s .cache); levels = s .levels }
 
   -- every TLBI
   pub invalidate-live : (what : Inval) → live (invalidateOf t what) ≡ invalidate what (live t)
@@ -210,11 +229,13 @@ module _ (t : Tlb) (s : WellFormed t) where
   pub retag-live : (asid : ℕ) → live (retagOf t asid) ≡ retag asid (live t)
   unfolding retagOf retagged retag
   retag-live asid =
-      hintless-live (record { generation = t .cache .current .generation; asid = asid }) (t .cache .entries) _ (t .broadcast) _ (λ i. refl)
+      hintless-live (record { generation = t .cache .current .generation; asid = asid }) (t .cache .entries) (epochCounted (t .counts)) (t .broadcast) _
+      (λ i. refl)
 
   pub retag-sound : (asid : ℕ) → WellFormed (retagOf t asid)
   unfolding retagOf retagged
-  retag-sound asid = hintless-sound _ _ (s .first) (s .last) (s .slots) (s .entries)
+  retag-sound asid =
+      record { cache = hintless-sound _ _ (s .cache .first) (s .cache .last) (s .cache .slots) (s .cache .entries); levels = s .levels }
 
 -- BROADCAST
 
@@ -266,7 +287,7 @@ broadcast-live t what =
 
 pub broadcast-sound : (t : Tlb) (what : Inval) → WellFormed t → WellFormed (broadcastOf t what)
 unfolding broadcastOf
-broadcast-sound t what s = s
+broadcast-sound t what s = record { cache = s .cache; levels = s .levels }
 
 -- LINES
 
@@ -336,7 +357,7 @@ module _ (t : Tlb) (s : WellFormed t) (r : Regime) (p : ℕ) (e : Entry) where
       λ n.
       record {
         asid = t .cache .current .asid;
-        lines = λ i. kept-lines _ p r (t .cache .entries) (stamped e (t .cache .current .generation)) (s .slots) refl w i n;
+        lines = λ i. kept-lines _ p r (t .cache .entries) (stamped e (t .cache .current .generation)) (s .cache .slots) refl w i n;
         hints = live t .hints;
         fetch = live t .fetch;
         counts = live t .counts;
@@ -345,4 +366,4 @@ module _ (t : Tlb) (s : WellFormed t) (r : Regime) (p : ℕ) (e : Entry) where
 
   pub put-sound : e .pa % 4096 ≡ 0 → e .level ≤ 3 → WellFormed (putOf t e)
   unfolding putOf
-  put-sound a l = set-sound (t .cache) _ _ s (record { early = omega arith; aligned = a; level = l })
+  put-sound a l = record { cache = set-sound (t .cache) _ _ (s .cache) (record { early = omega arith; aligned = a; level = l }); levels = s .levels }

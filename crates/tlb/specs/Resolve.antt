@@ -78,13 +78,13 @@ abbrev pub changesOf : Asked → Bank → Privilege → Current → Entry → �
 changesOf Flat s privilege at e va kind memory = byItself va
 changesOf (Of q) s privilege at e va kind memory = resolveOf q s privilege at e va kind memory
 
--- a hit is counted where an entry answered, a walk where one was made
-abbrev pub countedBy : Source → Counts → Counts
-countedBy FromHint k = k
-countedBy FromFlat k = k
-countedBy FromEntry k = hitCounted k
-countedBy FromWalk k = walkCounted k
-countedBy NoLeaf k = walkCounted k
+-- a hit is counted where an entry answered, a walk where one was made, each at the level of the access: the mark does not lower it
+abbrev pub countedBy : Source → ℕ → Counts → Counts
+countedBy FromHint level k = k
+countedBy FromFlat level k = k
+countedBy FromEntry level k = hitCounted level k
+countedBy FromWalk level k = walkCounted level k
+countedBy NoLeaf level k = walkCounted level k
 
 -- an entry is stored where a walk found a leaf
 abbrev pub keptBy : Source → Entry → Entry → Entry

@@ -31,7 +31,7 @@ missWith on page w r privilege at e va kind = pick on (resolveWith w (queryOf r 
 unfoldable pub applied : Resolved → Bool → ℕ → Counts → Hint → Entry → ℕ → Translation
 applied t hinted level k h e va =
     record {
-      counts = countedBy (t .source) k;
+      counts = countedBy (t .source) level k;
       hint = hintAfter hinted level va (t .answer) h;
       entry = keptBy (t .source) e (t .made);
       answer = t .answer;
@@ -50,7 +50,7 @@ translationWith on page w r privilege at k h e va kind =
 unfoldable pub fetchApplied : Resolved → ℕ → Counts → FetchHint → Entry → ℕ → FetchTranslation
 fetchApplied t level k f e va =
     record {
-      counts = countedBy (t .source) k;
+      counts = countedBy (t .source) level k;
       fetch = fetchAfter level va (t .answer) f;
       entry = keptBy (t .source) e (t .made);
       answer = t .answer;

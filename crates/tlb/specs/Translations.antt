@@ -27,7 +27,7 @@ use Rattle.tlb.specs.declared.{cells.FetchTranslation.FetchTranslation, 
 use Rattle.tlb.specs.declared.access.Kind.the-variants.{Read, Write, Fetch}
 use Rattle.tlb.specs.declared.access.Answer.the-variants.{Address, Status}
 use Rattle.tlb.specs.declared.resolve.Source.the-variants.{FromHint}
-use Rattle.tlb.specs.Misses.{withEntry, entry, missed, unmoved, still-sound, miss-follows}
+use Rattle.tlb.specs.Misses.{withEntry, entry, missed, unmoved, still-well, miss-follows}
 
 -- HINTS
 
@@ -88,7 +88,7 @@ module _ (a : Access) (t : Tlb) (x : Answer) (e : Entry) (k : Counts) (o : Outco
       record {
         answer = f .answer;
         after = ap (λ (c : Cache). live (tlbWith t c k)) (same-hint stored (placeFor a)) ∙ f .after;
-        well = subst Sound (sym (same-hint stored (placeFor a))) (f .well);
+        well = record { cache = subst Sound (sym (same-hint stored (placeFor a))) (f .well .cache); levels = f .well .levels };
       }
 
   module _ (s : WellFormed t) (place : placeFor a < 512) (low : a .privilege .level ≤ 3) where
@@ -112,7 +112,7 @@ module _ (a : Access) (t : Tlb) (x : Answer) (e : Entry) (k : Counts) (o : Outco
         at : (i : ℕ) → hintOf (getD (set (t .cache .hints) (placeFor a) (hintFor (a .va) (a .privilege .level) pa)) i noHint)
             ≡ pick (eqb i (placeFor a)) (holds (knownOf a pa)) (hintOf (getD (t .cache .hints) i noHint))
         at i =
-            ap hintOf (getD-set (t .cache .hints) (placeFor a) i (hintFor (a .va) (a .privilege .level) pa) noHint (rw (s .places) place))
+            ap hintOf (getD-set (t .cache .hints) (placeFor a) i (hintFor (a .va) (a .privilege .level) pa) noHint (rw (s .cache .places) place))
             ∙ pushed (eqb i (placeFor a)) _ _
             ∙ ap (λ (l : Slot Known). pick (eqb i (placeFor a)) l (hintOf (getD (t .cache .hints) i noHint)))
             (hint-made (a .va) (a .privilege .level) pa low)
@@ -128,7 +128,7 @@ module _ (a : Access) (t : Tlb) (x : Answer) (e : Entry) (k : Counts) (o : Outco
             rw (e, oe, place-is (a .kind) (a .va)) (record {
               answer = refl;
               after = hint-kept pa ∙ ap (keepHint (placeFor a) (knownOf a pa)) (f .after);
-              well = set-hint-sound _ _ _ (f .well) (omega arith);
+              well = record { cache = set-hint-sound _ _ _ (f .well .cache) (omega arith); levels = f .well .levels };
             })
         go (Status fault) e =
             let oe : o .answer ≡ Status fault = sym (f .answer) ∙ e in
@@ -141,17 +141,17 @@ module _ (a : Access) (t : Tlb) (s : WellFormed t) (fits : LeafLevel (a .walk)) 
   hint = hintAt (t .cache) (placeFor a)
 
   abbrev miss : Resolved
-  miss = missed a t s fits (a .on)
+  miss = missed a t s fits low (a .on)
 
   abbrev afterMiss : Bool → Translation
-  afterMiss m = applied miss m (a .privilege .level) (t .counts) hint (entry a t s fits) (a .va)
+  afterMiss m = applied miss m (a .privilege .level) (t .counts) hint (entry a t s fits low) (a .va)
 
   abbrev afterHint : Translation
   afterHint =
       record {
         counts = t .counts;
         hint = hint;
-        entry = entry a t s fits;
+        entry = entry a t s fits low;
         answer = Address (onPage (hint .pa) (a .va));
         source = FromHint;
       }
@@ -160,11 +160,11 @@ module _ (a : Access) (t : Tlb) (s : WellFormed t) (fits : LeafLevel (a .walk)) 
   fast-follows : Follows (afterHint .answer) (withTranslation t (placeFor a) (slotFor a) afterHint) (tried (holds (hint .pa / 4096)) a (live t))
   unfolding tried
   fast-follows =
-      unnoted a t (afterHint .answer) (entry a t s fits) (t .counts) _
+      unnoted a t (afterHint .answer) (entry a t s fits low) (t .counts) _
       (record {
-        answer = ap Address (on-aligned (hint .pa) (a .va) (each-getD {P = Aligned} noHint refl (s .hints) (placeFor a)));
-        after = unmoved a t s fits (t .counts);
-        well = still-sound a t s fits;
+        answer = ap Address (on-aligned (hint .pa) (a .va) (each-getD {P = Aligned} noHint refl (s .cache .hints) (placeFor a)));
+        after = unmoved a t s fits low (t .counts);
+        well = still-well a t s fits low;
       })
 
   by-hint : mayHint (a .privilege) (a .kind) ≡ true → (b : Bool)
@@ -173,7 +173,7 @@ module _ (a : Access) (t : Tlb) (s : WellFormed t) (fits : LeafLevel (a .walk)) 
   unfolding tried applied
   by-hint may true = fast-follows
   by-hint may false =
-      noted-follows a t (miss .answer) _ _ (unhinted (a .on) a (live t)) (miss-follows a t s fits (a .on)) s
+      noted-follows a t (miss .answer) _ _ (unhinted (a .on) a (live t)) (miss-follows a t s fits low (a .on)) s
       (place-low (a .privilege) (a .kind) (a .va) may) low
 
   by-mark : (m : Bool) → mayHint (a .privilege) (a .kind) ≡ m
@@ -183,7 +183,7 @@ module _ (a : Access) (t : Tlb) (s : WellFormed t) (fits : LeafLevel (a .walk)) 
   unfolding applied hinted hintsOf
   by-mark true q = rw (place-is (a .kind) (a .va), known-is hint (a .va) (a .privilege .level) low)
       (by-hint q (eqb (hint .key) (hintKey (a .va) (a .privilege .level))))
-  by-mark false q = unnoted a t (miss .answer) _ _ _ (miss-follows a t s fits (a .on))
+  by-mark false q = unnoted a t (miss .answer) _ _ _ (miss-follows a t s fits low (a .on))
 
   -- a translation follows the plain model
   pub translation-follows : Follows (translationIn a t .answer) (tlbAfter a t) (translate a (live t))
@@ -194,7 +194,7 @@ module _ (a : Access) (t : Tlb) (s : WellFormed t) (fits : LeafLevel (a .walk)) 
 
 -- FETCHES
 
-module _ (a : Access) (t : Tlb) (s : WellFormed t) (fits : LeafLevel (a .walk)) (kind : a .kind ≡ Fetch) where
+module _ (a : Access) (t : Tlb) (s : WellFormed t) (fits : LeafLevel (a .walk)) (low : a .privilege .level ≤ 3) (kind : a .kind ≡ Fetch) where
   abbrev now : FetchHint
   now = t .cache .fetch
 
@@ -205,25 +205,25 @@ module _ (a : Access) (t : Tlb) (s : WellFormed t) (fits : LeafLevel (a .walk)) 
   abbrev fetchMiss : Resolved
   fetchMiss = missBy Fetch
 
-  fetch-miss : Follows (fetchMiss .answer) (withEntry t (slotFor a) fetchMiss) (unhinted (a .on) a (live t))
+  fetch-miss : Follows (fetchMiss .answer) (withEntry t (a .privilege .level) (slotFor a) fetchMiss) (unhinted (a .on) a (live t))
   fetch-miss =
-      subst (λ (k : Kind). Follows (missBy k .answer) (withEntry t (slotFor a) (missBy k)) (unhinted (a .on) a (live t))) kind
-      (miss-follows a t s fits (a .on))
+      subst (λ (k : Kind). Follows (missBy k .answer) (withEntry t (a .privilege .level) (slotFor a) (missBy k)) (unhinted (a .on) a (live t))) kind
+      (miss-follows a t s fits low (a .on))
 
   abbrev missCounts : Counts
-  missCounts = countedBy (fetchMiss .source) (t .counts)
+  missCounts = countedBy (fetchMiss .source) (a .privilege .level) (t .counts)
 
   abbrev missEntry : Entry
   missEntry = keptBy (fetchMiss .source) (entryAt (t .cache) (slotFor a)) (fetchMiss .made)
 
   fetch-kept : (pa : ℕ)
       → live (tlbWith t (setFetch (setEntry (t .cache) (slotFor a) missEntry) (fetchFor (a .va) (a .privilege .level) pa)) missCounts)
-      ≡ keepFetch (knownOf a pa) (live (withEntry t (slotFor a) fetchMiss))
+      ≡ keepFetch (knownOf a pa) (live (withEntry t (a .privilege .level) (slotFor a) fetchMiss))
   fetch-kept pa =
       λ n.
       record {
         asid = t .cache .current .asid;
-        lines = live (withEntry t (slotFor a) fetchMiss) .lines;
+        lines = live (withEntry t (a .privilege .level) (slotFor a) fetchMiss) .lines;
         hints = live t .hints;
         fetch = fetch-made (a .va) (a .privilege .level) pa n;
         counts = countersOf missCounts;
@@ -241,7 +241,7 @@ module _ (a : Access) (t : Tlb) (s : WellFormed t) (fits : LeafLevel (a .walk)) 
       rw (e, oe) (record {
         answer = refl;
         after = fetch-kept pa ∙ ap (keepFetch (knownOf a pa)) (fetch-miss .after);
-        well = set-fetch-sound _ _ (fetch-miss .well) (omega arith) (omega arith);
+        well = record { cache = set-fetch-sound _ _ (fetch-miss .well .cache) (omega arith) (omega arith); levels = fetch-miss .well .levels };
       })
   fetch-noted (Status fault) e =
       let oe : unhinted (a .on) a (live t) .answer ≡ Status fault = sym (fetch-miss .answer) ∙ e in
@@ -252,9 +252,9 @@ module _ (a : Access) (t : Tlb) (s : WellFormed t) (fits : LeafLevel (a .walk)) 
   unfolding fetchWith fetchEnd fetched
   by-fetch true q =
       rw q (record {
-        answer = ap Address (on-aligned (now .pa) (a .va) (s .fetch-pa));
-        after = unmoved a t s fits (t .counts);
-        well = still-sound a t s fits;
+        answer = ap Address (on-aligned (now .pa) (a .va) (s .cache .fetch-pa));
+        after = unmoved a t s fits low (t .counts);
+        well = still-well a t s fits low;
       })
   by-fetch false q = rw q (fetch-noted _ refl)
 
@@ -262,4 +262,4 @@ module _ (a : Access) (t : Tlb) (s : WellFormed t) (fits : LeafLevel (a .walk)) 
   pub fetch-follows : Follows (fetchIn a t .answer) (fetchedIn a t) (fetch a (live t))
   unfolding fetch
   fetch-follows =
-      rw (fetch-known-is now (a .va) (a .privilege .level) (s .fetch-page)) (by-fetch (fetchServes now (a .privilege .level) (a .va)) refl)
+      rw (fetch-known-is now (a .va) (a .privilege .level) (s .cache .fetch-page)) (by-fetch (fetchServes now (a .privilege .level) (a .va)) refl)

@@ -1,7 +1,7 @@
 -- A worked run of the plain model, by computation: a 2 MiB block is walked, hinted, dropped by a Page of another of its pages, walked again,
 -- found after an Asid that is not its own, and gone after an All.
 use mathlib.Core.Path.{_≡_, refl}
-use mathlib.Core.Bool.{true, false}
+use mathlib.Core.Bool.{Bool, true, false}
 use mathlib.Core.List.{List, [], _∷_, map}
 use Prim.Native.Nat.{ℕ}
 use Rattle.walk.specs.declared.regime.Regime.the-variants.{El1}
@@ -11,7 +11,7 @@ use Rattle.tlb.specs.Model.{Slot, empty, holds, emptyModel, folded, keep
 use Rattle.tlb.specs.Model.{invalidate}
 use Rattle.tlb.specs.Runs.{Op, invalidates, translates, Seen, modelRun}
 use Rattle.tlb.specs.declared.{access.Kind.Kind, access.Answer.Answer}
-use Rattle.tlb.specs.declared.access.Kind.the-variants.{Read, Write}
+use Rattle.tlb.specs.declared.access.Kind.the-variants.{Read, Write, Fetch}
 use Rattle.tlb.specs.declared.access.Answer.the-variants.{Address, Status}
 use Rattle.tlb.specs.declared.Inval.the-variants.{All, Page, Asid}
 
@@ -33,14 +33,14 @@ access k w =
       walk = w;
     })
 
--- the answer as a number, hits, walks, flushes, drops, epoch
+-- the answer as a number, hits and walks of EL1, flushes, drops, epoch
 abbrev answered : Slot Answer → ℕ
 answered empty = 0
 answered (holds (Address pa)) = pa
 answered (holds (Status f)) = f .fsc
 
 abbrev row : Seen → List ℕ
-row s = answered (s .answer) ∷ s .counts .hits ∷ s .counts .walks ∷ s .counts .flushes ∷ s .counts .drops ∷ s .counts .epoch ∷ []
+row s = answered (s .answer) ∷ s .counts .hits 1 ∷ s .counts .walks 1 ∷ s .counts .flushes ∷ s .counts .drops ∷ s .counts .epoch ∷ []
 
 pub worked :
     map row
@@ -72,3 +72,49 @@ pub worked :
     ∷ []
 unfolding modelRun translate hinted tried noted unhinted looked walked judge keep lineFor invalidate folded
 worked = refl
+
+-- Levels and the mark: each access is counted at its own level, and under the mark EL1's at EL1.
+abbrev open-page : Walked
+open-page = Mapped (record { oa = 0x90005000; desc = 0; perms = 63; level = 3; global = true })
+
+abbrev from : ℕ → Bool → Kind → ℕ → Op
+from level mark k va =
+    translates
+    (record {
+      privilege = record { level = level; unprivileged = mark };
+      kind = k;
+      va = va;
+      on = true;
+      regime = El1;
+      untagged = va;
+      walk = open-page;
+    })
+
+-- hits and walks of EL0 to EL3
+abbrev levels : Seen → List ℕ
+levels s =
+    s .counts .hits 0 ∷ s .counts .walks 0 ∷ s .counts .hits 1 ∷ s .counts .walks 1 ∷ s .counts .hits 2 ∷ s .counts .walks 2 ∷ s .counts .hits 3
+    ∷ s .counts .walks 3 ∷ []
+
+pub worked-levels :
+    map levels
+    (modelRun
+    (from 0 false Read 0x5000
+    ∷ from 1 false Read 0x5000
+    ∷ from 1 true Read 0x5000
+    ∷ from 1 true Write 0x6000
+    ∷ from 0 false Write 0x6000
+    ∷ from 0 false Write 0x6008
+    ∷ from 1 true Fetch 0x7000
+    ∷ [])
+    emptyModel)
+    ≡ (0 ∷ 1 ∷ 0 ∷ 0 ∷ 0 ∷ 0 ∷ 0 ∷ 0 ∷ [])
+    ∷ (0 ∷ 1 ∷ 1 ∷ 0 ∷ 0 ∷ 0 ∷ 0 ∷ 0 ∷ [])
+    ∷ (0 ∷ 1 ∷ 2 ∷ 0 ∷ 0 ∷ 0 ∷ 0 ∷ 0 ∷ [])
+    ∷ (0 ∷ 1 ∷ 2 ∷ 1 ∷ 0 ∷ 0 ∷ 0 ∷ 0 ∷ [])
+    ∷ (1 ∷ 1 ∷ 2 ∷ 1 ∷ 0 ∷ 0 ∷ 0 ∷ 0 ∷ [])
+    ∷ (1 ∷ 1 ∷ 2 ∷ 1 ∷ 0 ∷ 0 ∷ 0 ∷ 0 ∷ [])
+    ∷ (1 ∷ 1 ∷ 2 ∷ 2 ∷ 0 ∷ 0 ∷ 0 ∷ 0 ∷ [])
+    ∷ []
+unfolding modelRun translate hinted tried noted unhinted looked walked judge keep lineFor invalidate folded
+worked-levels = refl

@@ -1,4 +1,5 @@
-// One translation over small values: the registers, who asks, the counters, one hint, one entry. No array stands here.
+// One translation over small values: the registers, who asks, the counters, one hint, one entry. No other array stands
+// here than the counters of the four levels.
 ghost use mathlib.Core.Path.{_≡_};
 ghost use Rattle.word.specs.Ram.{wordAt};
 ghost use Rattle.tlb.specs.Resolve.{countedBy, keptBy, hintAfter, fetchAfter};
@@ -40,16 +41,16 @@ pub struct FetchTranslation {
     pub source: Source,
 }
 
-// The counters after an answer from a source.
-fn counted(source: Source, counts: Counts) -> Counts
-    ensures { λ r. ⌜ r ≡ countedBy source counts ⌝ }
+// The counters after an answer from a source, to an access at a level.
+fn counted(source: Source, level: u8, counts: Counts) -> Counts
+    ensures { λ r. ⌜ r ≡ countedBy source level counts ⌝ }
 {
     match source {
         Source::FromHint => counts,
         Source::FromFlat => counts,
-        Source::FromEntry => count::hit(counts),
-        Source::FromWalk => count::walk(counts),
-        Source::NoLeaf => count::walk(counts),
+        Source::FromEntry => count::hit(counts, level),
+        Source::FromWalk => count::walk(counts, level),
+        Source::NoLeaf => count::walk(counts, level),
     }
 }
 
@@ -150,7 +151,7 @@ pub fn translate(
         let answer = t.answer;
         let source = t.source;
         let made = t.made;
-        let after = counted(source, counts);
+        let after = counted(source, privilege.level, counts);
         let stored = kept(source, entry, made);
         let noted = hint_after(hint, hinted, privilege.level, va, answer);
         Translation {
@@ -190,7 +191,7 @@ pub fn translate_fetch(
             let answer = t.answer;
             let source = t.source;
             let made = t.made;
-            let after = counted(source, counts);
+            let after = counted(source, privilege.level, counts);
             let stored = kept(source, entry, made);
             let noted = fetch_after(fetch, privilege.level, va, answer);
             FetchTranslation {

@@ -12,8 +12,9 @@ use Rattle.sysreg.specs.declared.write.WriteAnswer.the-variants as Written
 use Rattle.tlb.specs.Model.{Slot, Counters, Model, oneFlush, oneEpoch, invalCounted, invalidate, retag, joined, broadcast}
 use Rattle.tlb.specs.Counting.{How, howCounted, howTranslated, howFetched, translate-counts, fetch-counts}
 use Rattle.tlb.specs.Live.{countersOf, pendingOf, live}
+use Rattle.tlb.specs.Levels.{counters-tell}
 use Rattle.tlb.specs.Asks.{Ask, translates, fetches, onward-same}
-use Rattle.tlb.specs.declared.{access.Kind.Kind, count.Counts.Counts, Inval.Inval, Tlb.Tlb}
+use Rattle.tlb.specs.declared.{access.Kind.Kind, Inval.Inval, Tlb.Tlb}
 use Rattle.tlb.specs.declared.access.Kind.the-variants as Kind
 use Rattle.tlb.specs.declared.Inval.the-variants.{All, Page, Asid}
 use Rattle.sysop.specs.declared.op.SysOp.the-variants as Op
@@ -31,11 +32,7 @@ use Rattle.transparency.specs.Starts.{laterIn}
 use Rattle.transparency.specs.Machine.{machine}
 use Rattle.transparency.specs.Beside.{coreAfter, bareAfter, two-cores}
 use Rattle.transparency.specs.Faithful.{eventsAfter}
-use Rattle.transparency.specs.ModelCalls.{modelAfterList, tlbAfterCall, every-core-well, every-call-model}
-
--- the model's counters as the core's
-abbrev countsOf : Counters → Counts
-countsOf k = record { hits = k .hits; walks = k .walks; flushes = k .flushes; drops = k .drops; epoch = k .epoch }
+use Rattle.transparency.specs.ModelCalls.{modelAfterList, tlbAfterCall, every-core-well, every-call-model, levels-now, levels-after}
 
 module _ (list : List (Lent real machine)) (m : Ram) where
   abbrev now : Tlb
@@ -43,6 +40,10 @@ module _ (list : List (Lent real machine)) (m : Ram) where
 
   abbrev model : Model
   model = modelAfterList list
+
+  -- the level of the next call
+  abbrev level : ℕ
+  level = bareAfter list .privilege .level
 
   -- the model after a call of one step
   one-step : (x : Call) (es : List (Event real)) → eventsAfter list m x ≡ es
@@ -63,33 +64,33 @@ module _ (list : List (Lent real machine)) (m : Ram) where
   howAnswered (translates kind va) = howTranslated (accessOf real (plainIn (bareAfter list)) m kind va) model
   howAnswered (fetches va) = howFetched (accessOf real (plainIn (bareAfter list)) m Kind.Fetch va) model
 
-  translation-counts : (a : Ask) → modelAsk real (plainIn (bareAfter list)) m a model .after .counts ≡ howCounted (howAnswered a) (model .counts)
+  translation-counts : (a : Ask) → modelAsk real (plainIn (bareAfter list)) m a model .after .counts ≡ howCounted (howAnswered a) level (model .counts)
   translation-counts (translates kind va) = translate-counts (accessOf real (plainIn (bareAfter list)) m kind va) model
   translation-counts (fetches va) = fetch-counts (accessOf real (plainIn (bareAfter list)) m Kind.Fetch va) model
 
   one-counted : (x : Call) (a : Ask) → eventsAfter list m x ≡ steps m (asking (a ∷ [])) ∷ []
-      → countersOf (tlbAfterCall list m x .counts) ≡ howCounted (howAnswered a) (countersOf (now .counts))
+      → countersOf (tlbAfterCall list m x .counts) ≡ howCounted (howAnswered a) level (countersOf (now .counts))
   one-counted x a e =
       ap (λ (u : Model). u .counts) (one-step x (steps m (asking (a ∷ [])) ∷ []) e ∙ onward-same (modelAsk real (plainIn (bareAfter list)) m a model .answer) _)
       ∙ translation-counts a
-      ∙ ap (howCounted (howAnswered a)) model-counts
+      ∙ ap (howCounted (howAnswered a) level) model-counts
 
-  -- One that a line of the model answers counts one in `hits`, one that is walked one in `walks`, whether it faults or
-  -- not; a hint, and the address itself with stage 1 off, count nothing.
+  -- One that a line of the model answers counts one in `hits` of the core's level, one that is walked one in `walks` of
+  -- it, whether it faults or not; a hint, and the address itself with stage 1 off, count nothing.
   pub translate-counted : (kind : Kind) (va : ℕ) → missedIn (bareAfter list) m (Translate kind va) ≡ 0
-      → countersOf (tlbAfterCall list m (Translate kind va) .counts) ≡ howCounted (howAnswered (translates kind va)) (countersOf (now .counts))
+      → countersOf (tlbAfterCall list m (Translate kind va) .counts) ≡ howCounted (howAnswered (translates kind va)) level (countersOf (now .counts))
   translate-counted kind va passed = one-counted (Translate kind va) (translates kind va) (rw passed)
 
   pub data-pa-counted : (va : ℕ) → missedIn (bareAfter list) m (DataPa va) ≡ 0
-      → countersOf (tlbAfterCall list m (DataPa va) .counts) ≡ howCounted (howAnswered (translates Kind.Read va)) (countersOf (now .counts))
+      → countersOf (tlbAfterCall list m (DataPa va) .counts) ≡ howCounted (howAnswered (translates Kind.Read va)) level (countersOf (now .counts))
   data-pa-counted va passed = one-counted (DataPa va) (translates Kind.Read va) (rw passed)
 
   pub fetch-pa-counted : (va : ℕ) → missedIn (bareAfter list) m (FetchPa va) ≡ 0
-      → countersOf (tlbAfterCall list m (FetchPa va) .counts) ≡ howCounted (howAnswered (fetches va)) (countersOf (now .counts))
+      → countersOf (tlbAfterCall list m (FetchPa va) .counts) ≡ howCounted (howAnswered (fetches va)) level (countersOf (now .counts))
   fetch-pa-counted va passed = one-counted (FetchPa va) (fetches va) (rw passed)
 
   pub fetch-counted : (va : ℕ) → missedIn (bareAfter list) m (Fetch va) ≡ 0
-      → countersOf (tlbAfterCall list m (Fetch va) .counts) ≡ howCounted (howAnswered (fetches va)) (countersOf (now .counts))
+      → countersOf (tlbAfterCall list m (Fetch va) .counts) ≡ howCounted (howAnswered (fetches va)) level (countersOf (now .counts))
   fetch-counted va passed = one-counted (Fetch va) (fetches va) (rw passed)
 
   -- TLBI, not refused
@@ -122,37 +123,37 @@ module _ (list : List (Lent real machine)) (m : Ram) where
     pub page-counted : (n : ℕ) → what ≡ Page n
         → then .counts
         ≡ record {
-          hits = now .counts .hits;
-          walks = now .counts .walks;
+          levels = now .counts .levels;
           flushes = now .counts .flushes;
           drops = (now .counts .drops + 1) % 2 ^ 64;
           epoch = (now .counts .epoch + 1) % 2 ^ 64;
         }
-    page-counted n q = ap countsOf (tlbi-counted ∙ ap (λ (v : Inval). invalCounted v (countersOf (now .counts))) q)
+    page-counted n q = counters-tell _ _ (levels-after list m (System e)) (levels-now list)
+        (tlbi-counted ∙ ap (λ (v : Inval). invalCounted v (countersOf (now .counts))) q)
 
     -- an All one to `flushes` and one to `epoch`
     pub all-counted : what ≡ All
         → then .counts
         ≡ record {
-          hits = now .counts .hits;
-          walks = now .counts .walks;
+          levels = now .counts .levels;
           flushes = (now .counts .flushes + 1) % 2 ^ 64;
           drops = now .counts .drops;
           epoch = (now .counts .epoch + 1) % 2 ^ 64;
         }
-    all-counted q = ap countsOf (tlbi-counted ∙ ap (λ (v : Inval). invalCounted v (countersOf (now .counts))) q)
+    all-counted q = counters-tell _ _ (levels-after list m (System e)) (levels-now list)
+        (tlbi-counted ∙ ap (λ (v : Inval). invalCounted v (countersOf (now .counts))) q)
 
     -- an Asid one to `epoch` alone
     pub asid-counted : (a : ℕ) → what ≡ Asid a
         → then .counts
         ≡ record {
-          hits = now .counts .hits;
-          walks = now .counts .walks;
+          levels = now .counts .levels;
           flushes = now .counts .flushes;
           drops = now .counts .drops;
           epoch = (now .counts .epoch + 1) % 2 ^ 64;
         }
-    asid-counted a q = ap countsOf (tlbi-counted ∙ ap (λ (v : Inval). invalCounted v (countersOf (now .counts))) q)
+    asid-counted a q = counters-tell _ _ (levels-after list m (System e)) (levels-now list)
+        (tlbi-counted ∙ ap (λ (v : Inval). invalCounted v (countersOf (now .counts))) q)
 
     -- "A second broadcast that differs from the pending one becomes All; an equal one stays": of an Inner Shareable
     -- form, whose CRm is 3

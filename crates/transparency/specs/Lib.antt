@@ -17,6 +17,7 @@ pub mod Worked
 -- The plain model of the cache, call by call.
 pub mod ModelCalls
 pub mod Counted
+pub mod LevelCounts
 -- The bytes.
 pub mod Bytes
 -- The proof.

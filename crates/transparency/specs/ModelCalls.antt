@@ -7,6 +7,7 @@ use mathlib.Core.Path.{_≡_, refl, sym, ap, subst, _∙_}
 use mathlib.Core.List.{List}
 use Prim.Native.Nat.{_≤_}
 use native.Mathlib.Omega.{arith}
+use lib.ListN.{length}
 use Rattle.sysreg.specs.Shape.{asidOf}
 use Rattle.tlb.specs.Tlb.{fresh}
 use Rattle.tlb.specs.Model.{Model, emptyModel}
@@ -70,7 +71,7 @@ module _ (list : List (Lent real machine)) where
   fresh-low : plainIn freshBare .privilege .level ≤ 3
   fresh-low = omega arith
 
-  stands : StandsFor (coreAfter list .tlb) (modelAfterList list)
+  pub stands : StandsFor (coreAfter list .tlb) (modelAfterList list)
   stands =
       subst (λ (t : Tlb). StandsFor t (modelAfterList list)) (sym tlb-run)
       (run-stands real real-laws (eventsBy list) (plainIn freshBare) fresh-low (fresh-stands real real-laws))
@@ -99,7 +100,7 @@ every-core-well list =
 --   answers   each answer to each translation of the call is the model's
 --   reply     the reply and RAM are made from those answers
 --   after     the cache after the call stands for the model after it
---   counts    the five counters are the model's
+--   counts    the counters, those of each level included, are the model's
 --   pending   what is pending for other cores is the model's
 pub record Modelled (list : List (Lent real machine)) (m : Ram) (x : Call) : Type 0 where
   pub before : live (coreAfter list .tlb) ≡ modelAfterList list
@@ -110,7 +111,7 @@ pub record Modelled (list : List (Lent real machine)) (m : Ram) (x : Call) : Typ
   pub pending : pendingOf (tlbAfterCall list m x .broadcast) ≡ modelAfterCall list m x .pending
 
 module _ (list : List (Lent real machine)) (m : Ram) (x : Call) where
-  low-now : plainIn (bareAfter list) .privilege .level ≤ 3
+  pub low-now : plainIn (bareAfter list) .privilege .level ≤ 3
   low-now = subst (λ (b : Bare). b .privilege .level ≤ 3) (two-cores list) (every-core-well list .level)
 
   tlb-then : tlbAfterCall list m x ≡ tlbRun real (plainIn (bareAfter list)) (eventsAfter list m x) (coreAfter list .tlb)
@@ -119,8 +120,13 @@ module _ (list : List (Lent real machine)) (m : Ram) (x : Call) where
       (λ (b : Bare). tlbAfterCall list m x ≡ tlbRun real (plainIn b) (eventsIn b m (laterIn (coreAfter list) m x) x) (coreAfter list .tlb))
       (two-cores list) (fits (coreAfter list) m x .tlb)
 
+  stands-then : StandsFor (tlbAfterCall list m x) (modelAfterCall list m x)
+  stands-then =
+      subst (λ (t : Tlb). StandsFor t (modelAfterCall list m x)) (sym tlb-then)
+      (run-stands real real-laws (eventsAfter list m x) (plainIn (bareAfter list)) low-now (stands list))
+
   model-then : live (tlbAfterCall list m x) ≡ modelAfterCall list m x
-  model-then = ap live tlb-then ∙ run-stands real real-laws (eventsAfter list m x) (plainIn (bareAfter list)) low-now (stands list) .is
+  model-then = stands-then .is
 
   answers-then : answersAfter list m x ≡ modelAnswersAfter list m x
   answers-then = answers-run-live real real-laws (eventsAfter list m x) (plainIn (bareAfter list)) low-now (stands list)
@@ -139,3 +145,10 @@ module _ (list : List (Lent real machine)) (m : Ram) (x : Call) where
         counts = ap (λ (u : Model). u .counts) model-then;
         pending = ap (λ (u : Model). u .pending) model-then;
       }
+
+  -- the counters are of four levels
+  pub levels-after : length (tlbAfterCall list m x .counts .levels) ≡ 4
+  levels-after = stands-then .well .levels
+
+pub levels-now : (list : List (Lent real machine)) → length (coreAfter list .tlb .counts .levels) ≡ 4
+levels-now list = every-core-well list .cache .levels

@@ -26,10 +26,11 @@ use Rattle.tlb.specs.Lists.{Each}
 use Rattle.tlb.specs.Entry.{pageDropped}
 use Rattle.tlb.specs.Hint.{placeOf}
 use Rattle.tlb.specs.Cache.{blanks, noHints, flushed, withoutPage}
+use Rattle.tlb.specs.Count.{noTallies}
 use Rattle.tlb.specs.Tlb.{flushOf, dropPageOf, invalidateOf}
 use Rattle.tlb.specs.Access.{judged}
 use Rattle.tlb.specs.Resolve.{byWalk, resolveWith}
-use Rattle.tlb.specs.Translate.{missWith, applied, translationWith}
+use Rattle.tlb.specs.Translate.{missWith, applied, translationWith, fetchApplied, fetchEnd, fetchWith}
 use Rattle.tlb.specs.Step.{translationIn}
 use Rattle.tlb.specs.Asks.{translates}
 use Rattle.tlb.specs.declared.access.Kind.the-variants.{Read}
@@ -38,18 +39,18 @@ use Rattle.tlb.specs.declared.resolve.Source.the-variants.{FromHint}
 use Rattle.tlb.specs.declared.Inval.the-variants.{Page}
 use Rattle.mmu.specs.Bare.{freshBare, bareOf}
 use Rattle.mmu.specs.Core.{zeros, freshCore, regOf, setReg, afterAccess}
-use Rattle.mmu.specs.Step.{translateIn}
-use Rattle.mmu.specs.Ops.{steppedNow, translateOf}
+use Rattle.mmu.specs.Step.{translateIn, translateFetchIn}
+use Rattle.mmu.specs.Ops.{steppedNow, translateOf, fetchSteppedNow, fetchPaOf}
 use Rattle.sysop.specs.Op.{named, decodeOf}
 use Rattle.sysop.specs.Tlbi.{scopeOf, whatOf, tlbiOf}
 use Rattle.exec.specs.Fit.{refitOf}
-use Rattle.exec.specs.Ops.{withRegs, appliedOf, writeRegister, setLevel}
+use Rattle.exec.specs.Ops.{withRegs, appliedOf, writeRegister, setLevel, setMark}
 use Rattle.exec.specs.Sys.{tlbiCore, sysOf}
 use Rattle.operations.specs.Check.{missedOf}
 use Rattle.operations.specs.Replies.{translation}
 use Rattle.cpu.specs.Step.{runOf, stepOf}
 use Rattle.operations.specs.declared.call.Call.{Call}
-use Rattle.operations.specs.declared.call.Call.the-variants.{Translate, Register, Level, General, System}
+use Rattle.operations.specs.declared.call.Call.the-variants.{Translate, FetchPa, Register, Level, Mark, General, System}
 use Rattle.operations.specs.declared.call.Reply.the-variants.{Value}
 use Rattle.history.specs.World.{LeavesEqual, covers, leafAnswer, walkAnswer, pageWalk, uncached, accessOf}
 use Rattle.history.specs.Lists.{each-head}
@@ -226,3 +227,18 @@ unsettled st =
   where
     same : {x y : ℕ} → Value x ≡ Value y → x ≡ y
     same e = cc
+
+-- THE COUNTERS BY LEVEL. EL1's first read was walked. Under the mark EL1 reads again: judged as EL0's it is refused by the entry, and that is a
+-- hit of EL1, not of EL0; a fetch under the mark, which is judged as EL1's, is another. Then EL0 fetches from the page, whose fetch hint is of EL1:
+-- a hit of EL0.
+abbrev pub counted : List (Lent real machine)
+counted = start ++ lent old (Mark true) ∷ lent old read ∷ lent old (FetchPa 0x40001234) ∷ lent old (Level 0) ∷ lent old (FetchPa 0x40001234) ∷ []
+
+pub by-level : coreAfter counted .tlb .counts .levels
+    ≡ record { hits = 1; walks = 0 } ∷ record { hits = 2; walks = 1 } ∷ record { hits = 0; walks = 0 } ∷ record { hits = 0; walks = 0 } ∷ []
+unfolding stepOf runOf translateOf steppedNow fetchPaOf fetchSteppedNow translateFetchIn fetchWith fetchEnd fetchApplied translateIn afterAccess
+    writeRegister appliedOf withRegs refitOf retaggedOf reshapedOf setLevel setMark
+    sameShape asidOf asidBase freshCore freshControl freshSys bankedAt registerAt controlWith sysWith writeReg missedOf
+    flushOf flushed translationWith missWith resolveWith byWalk applied judged walkOf tableWalk walkRange walkFrom lookupNext levelNext leafResult
+    leafTranslation leafPermissions tableNext descaddr rangeOf paramsOf paSize untagged wordAt littleEndian bytesOf placeOf blanks noHints noTallies
+by-level = refl

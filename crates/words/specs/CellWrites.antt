@@ -40,11 +40,15 @@ module _ (ws : List ℕ) (L : length ws ≡ WORDS) where
       held : coreOf (set ws (GENERAL + n) x) ≡ setReg (coreOf ws) n x
       held =
           ap coreBy (word-set ws (GENERAL + n) x (omega arith))
-          ∙ small-same v w (record { below = λ m a. else m (λ e. omega arith); among = λ m a b. else m (λ e. omega arith) })
+          ∙ small-same v w (record {
+            below = λ m a. else m (λ e. omega arith);
+            among = λ m a b. else m (λ e. omega arith);
+            beyond = λ m a. else m (λ e. omega arith);
+          })
           (generals v) (table 512 (hintIn v)) (table 1024 (entryIn v))
           ∙ (λ i.
-          coreOn w (generals-put n x h i) (hints-same v w (λ m a. else m (λ e. omega arith)) i)
-          (entries-same v w (λ m a. else m (λ e. omega arith)) i))
+          coreOn w (generals-put n x h i) (hints-same v w (λ m a b. else m (λ e. omega arith)) i)
+          (entries-same v w (λ m a b. else m (λ e. omega arith)) i))
           ∙ sym (rw (lt-ltb n 31 h))
 
   -- register 31 is none
@@ -90,10 +94,14 @@ module _ (ws : List ℕ) (L : length ws ≡ WORDS) where
 
       held : coreBy (puts w (hintWords i h)) ≡ withHint (coreOf ws) i h
       held =
-          coreOf-tables (puts w (hintWords i h)) w (record { below = λ m a. low m (omega arith); among = λ m a b. low m b }) (λ m a b. low m (omega arith))
+          coreOf-tables (puts w (hintWords i h)) w (record {
+            below = λ m a. low m (omega arith);
+            among = λ m a b. low m b;
+            beyond = λ m a. hint-elsewhere i h m (λ e. omega arith) (λ e. omega arith);
+          }) (λ m a b. low m (omega arith))
           ∙ (λ n.
           coreOn w (generals w) (hints-put i h g n)
-          (entries-same (puts w (hintWords i h)) w (λ m a. hint-elsewhere i h m (λ e. omega arith) (λ e. omega arith)) n))
+          (entries-same (puts w (hintWords i h)) w (λ m a b. hint-elsewhere i h m (λ e. omega arith) (λ e. omega arith)) n))
 
   pub hint-none : (i : ℕ) (h : Hint) → 512 ≤ i → NowHolds ws ws (withHint (coreOf ws) i h)
   unfolding coreOf coreBy coreOn withHint withCache afterAccess

@@ -1,5 +1,5 @@
--- The core that 5,205 words hold. Every list of words holds one: of a word that is too large for its part, only some bits count.
-use mathlib.Core.List.{List}
+-- The core that 5,213 words hold. Every list of words holds one: of a word that is too large for its part, only some bits count.
+use mathlib.Core.List.{List, [], _∷_}
 use Prim.Native.Nat.{ℕ, _+_, _*_, _%_, _^_}
 use lib.Dec.{eqb, ltb}
 use lib.ListN.{getD}
@@ -7,16 +7,16 @@ use Rattle.word.specs.Bits.{bitOn, field, pick}
 use Rattle.sysreg.specs.Regs.{levels}
 use Rattle.sysreg.specs.declared.{regs.Control.Control, regs.SysRegs.SysRegs}
 use Rattle.exception.specs.declared.flags.Flags.{Flags}
-use Rattle.tlb.specs.declared.{access.Privilege.Privilege, count.Counts.Counts, entry.Entry.Entry}
+use Rattle.tlb.specs.declared.{access.Privilege.Privilege, count.Counts.Counts, count.Tally.Tally, entry.Entry.Entry}
 use Rattle.tlb.specs.declared.{entry.Current.Current, hint.Hint.Hint, hint.FetchHint.FetchHint, Pending.Pending}
 use Rattle.tlb.specs.declared.Inval.the-variants.{All, Page, Asid}
 use Rattle.tlb.specs.declared.Pending.the-variants.{Nothing, Some}
 use Rattle.mmu.specs.declared.core.Core.{Core}
 use Rattle.word.specs.Tables.{table}
 use Rattle.words.specs.Places.{SCTLR, TCR, TTBR0, TTBR1-EL1, MAIR, VBAR, ELR, SPSR, ESR, FAR, SCR-EL3, HCR-EL2, VPIDR-EL2, VMPIDR-EL2, PAR-EL1, PC, NZCV}
-use Rattle.words.specs.Places.{DAIF, SPSEL, GENERAL, LEVEL, UNPRIVILEGED, HITS, WALKS, FLUSHES, DROPS, EPOCH, PENDING, PENDING-VALUE, LAST-PA, ABORT-PA}
+use Rattle.words.specs.Places.{DAIF, SPSEL, GENERAL, LEVEL, UNPRIVILEGED, FLUSHES, DROPS, EPOCH, PENDING, PENDING-VALUE, LAST-PA, ABORT-PA}
 use Rattle.words.specs.Places.{GENERATION, ASID, FETCH, FETCH-PAGE, FETCH-LEVEL, FETCH-PA, HINTS, HINT-PA, ENTRIES, ENTRY-GENERATION, ENTRY-ATTRIBUTES}
-use Rattle.words.specs.Places.{ENTRY-PA}
+use Rattle.words.specs.Places.{ENTRY-PA, LEVEL-HITS, LEVEL-WALKS}
 
 -- word k
 abbrev pub word : List ℕ → ℕ → ℕ
@@ -63,9 +63,19 @@ flagsIn w = record { nzcv = w NZCV % 2 ^ 32; daif = w DAIF % 2 ^ 32; spsel = eqb
 abbrev pub privilegeIn : (ℕ → ℕ) → Privilege
 privilegeIn w = record { level = levelIn (w LEVEL); unprivileged = eqb (w UNPRIVILEGED) 1 }
 
--- words 70 to 74
+-- words 5205 to 5208 and 5209 to 5212 by level, EL0 to EL3
+abbrev pub tallyIn : (ℕ → ℕ) → ℕ → Tally
+tallyIn w l = record { hits = w (LEVEL-HITS + l); walks = w (LEVEL-WALKS + l) }
+
+-- those, and words 72 to 74
 abbrev pub countsIn : (ℕ → ℕ) → Counts
-countsIn w = record { hits = w HITS; walks = w WALKS; flushes = w FLUSHES; drops = w DROPS; epoch = w EPOCH }
+countsIn w =
+    record {
+      levels = tallyIn w 0 ∷ tallyIn w 1 ∷ tallyIn w 2 ∷ tallyIn w 3 ∷ [];
+      flushes = w FLUSHES;
+      drops = w DROPS;
+      epoch = w EPOCH;
+    }
 
 -- words 75 and 76
 abbrev pub pendingOf : ℕ → ℕ → Pending

@@ -88,7 +88,11 @@ module _ (ws : List ℕ) (L : length ws ≡ WORDS) where
     coreOf-entry : coreBy v ≡ withEntry (coreOf ws) j (entryIn v j)
     unfolding coreOf coreBy coreOn withEntry withCache afterAccess
     coreOf-entry =
-        coreOf-tables v w (record { below = λ m a. o m (λ i k e. omega arith); among = λ m a b. o m (λ i k e. omega arith) })
+        coreOf-tables v w (record {
+          below = λ m a. o m (λ i k e. omega arith);
+          among = λ m a b. o m (λ i k e. omega arith);
+          beyond = λ m a. o m (λ i k e. omega arith);
+        })
         (λ m a b. o m (λ i k e. omega arith))
         ∙ (λ i. coreOn w (generals w) (hints-still i) (entries-put i))
 

@@ -11,6 +11,7 @@ use Rattle.sysreg.specs.declared.regs.SysReg.the-variants.{Vpidr, Vmpidr}
 use Rattle.exception.specs.Entry.{entryFlags}
 use Rattle.tlb.specs.Entry.{blank}
 use Rattle.tlb.specs.Cache.{blanks}
+use Rattle.tlb.specs.Count.{noTallies}
 use Rattle.tlb.specs.Lists.{replicate-at}
 use Rattle.tlb.specs.declared.hint.Hint.{Hint}
 use Rattle.mmu.specs.Core.{zeros, freshCore, afterAccess}
@@ -56,5 +57,5 @@ firstGeneration c = withCurrent c (record { generation = 1; asid = c .tlb .cache
 
 pub fresh-is : withoutHints (firstGeneration (atEl3 (risen (registered zeroCore)))) ≡ freshCore
 unfolding withoutHints withCurrent withCache afterAccess withPrivilege withFlags registered withSctlr withSys withControl controlWith sysWith zeroCore coreOn
-    freshCore freshControl freshSys
+    freshCore freshControl freshSys noTallies
 fresh-is = refl

@@ -3,7 +3,7 @@ use Prim.Native.Nat.{ℕ}
 
 -- how many words a state has
 abbrev pub WORDS : ℕ
-WORDS = 5205
+WORDS = 5213
 
 abbrev pub SCTLR : ℕ
 SCTLR = 0
@@ -71,12 +71,7 @@ LEVEL = 68
 abbrev pub UNPRIVILEGED : ℕ
 UNPRIVILEGED = 69
 
-abbrev pub HITS : ℕ
-HITS = 70
-
-abbrev pub WALKS : ℕ
-WALKS = 71
-
+-- words 70 and 71 hold nothing
 abbrev pub FLUSHES : ℕ
 FLUSHES = 72
 
@@ -133,3 +128,10 @@ ENTRY-ATTRIBUTES = 1111
 
 abbrev pub ENTRY-PA : ℕ
 ENTRY-PA = 1112
+
+-- hits by level, EL0 to EL3; then walks
+abbrev pub LEVEL-HITS : ℕ
+LEVEL-HITS = 5205
+
+abbrev pub LEVEL-WALKS : ℕ
+LEVEL-WALKS = 5209

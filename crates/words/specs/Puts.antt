@@ -12,7 +12,7 @@ use Rattle.tlb.specs.Lists.{getD-set}
 use Rattle.tlb.specs.declared.{entry.Entry.Entry, hint.Hint.Hint}
 use Rattle.word.specs.Tables.{table, table-same}
 use Rattle.words.specs.CoreOf.{word, hintIn, entryIn, coreOn, coreBy}
-use Rattle.words.specs.Places.{GENERAL, LEVEL, HINTS, HINT-PA, ENTRIES, ENTRY-GENERATION, ENTRY-ATTRIBUTES, ENTRY-PA}
+use Rattle.words.specs.Places.{GENERAL, LEVEL, HINTS, HINT-PA, ENTRIES, ENTRY-GENERATION, ENTRY-ATTRIBUTES, ENTRY-PA, LEVEL-HITS}
 
 -- v at place k
 abbrev pub put : (ℕ → ℕ) → ℕ → ℕ → ℕ → ℕ
@@ -30,7 +30,8 @@ same w k v = rw (eq-eqb k k refl)
 
 -- the places of the small parts
 abbrev small : (ℕ → ℕ) → ℕ → ℕ
-small w m = pick (ltb m GENERAL) (w m) (pick (ltb m LEVEL) 0 (pick (ltb m HINTS) (w m) 0))
+small w m =
+    pick (ltb m GENERAL) (w m) (pick (ltb m LEVEL) 0 (pick (ltb m HINTS) (w m) (pick (ltb m LEVEL-HITS) 0 (w m))))
 
 small-only : (w : ℕ → ℕ) (xs : List ℕ) (hs : List Hint) (es : List Entry) → coreOn w xs hs es ≡ coreOn (small w) xs hs es
 unfolding coreOn
@@ -43,40 +44,42 @@ generals w = table 31 (λ n. w (GENERAL + n))
 pub record SmallSame (v w : ℕ → ℕ) : Type 0 where
   pub below : (m : ℕ) → m < GENERAL → v m ≡ w m
   pub among : (m : ℕ) → LEVEL ≤ m → m < HINTS → v m ≡ w m
+  pub beyond : (m : ℕ) → LEVEL-HITS ≤ m → v m ≡ w m
 
 -- and on the others
 pub record RestSame (v w : ℕ → ℕ) : Type 0 where
   pub general : (m : ℕ) → GENERAL ≤ m → m < LEVEL → v m ≡ w m
-  pub above : (m : ℕ) → HINTS ≤ m → v m ≡ w m
+  pub above : (m : ℕ) → HINTS ≤ m → m < LEVEL-HITS → v m ≡ w m
 
 module _ (v w : ℕ → ℕ) where
   small-at : SmallSame v w → (m : ℕ) → small v m ≡ small w m
-  small-at s m = go (ltb m GENERAL) refl (ltb m LEVEL) refl (ltb m HINTS) refl
+  small-at s m = go (ltb m GENERAL) refl (ltb m LEVEL) refl (ltb m HINTS) refl (ltb m LEVEL-HITS) refl
     where
-      go : (a : Bool) → ltb m GENERAL ≡ a → (b : Bool) → ltb m LEVEL ≡ b → (c : Bool) → ltb m HINTS ≡ c → small v m ≡ small w m
-      go true a b p c q = rw (a, s .below m (ltb-true m GENERAL a))
-      go false a true p c q = rw (a, p)
-      go false a false p true q = rw (a, p, q, s .among m (ltb-false m LEVEL p) (ltb-true m HINTS q))
-      go false a false p false q = rw (a, p, q)
+      go : (a : Bool) → ltb m GENERAL ≡ a → (b : Bool) → ltb m LEVEL ≡ b → (c : Bool) → ltb m HINTS ≡ c → (d : Bool) → ltb m LEVEL-HITS ≡ d
+          → small v m ≡ small w m
+      go true a b p c q d r = rw (a, s .below m (ltb-true m GENERAL a))
+      go false a true p c q d r = rw (a, p)
+      go false a false p true q d r = rw (a, p, q, s .among m (ltb-false m LEVEL p) (ltb-true m HINTS q))
+      go false a false p false q true r = rw (a, p, q, r)
+      go false a false p false q false r = rw (a, p, q, r, s .beyond m (ltb-false m LEVEL-HITS r))
 
   pub small-same : SmallSame v w → (xs : List ℕ) (hs : List Hint) (es : List Entry) → coreOn v xs hs es ≡ coreOn w xs hs es
   small-same s xs hs es =
       small-only v xs hs es ∙ ap (λ (f : ℕ → ℕ). coreOn f xs hs es) (λ i m. small-at s m i) ∙ sym (small-only w xs hs es)
 
-  pub hints-same : ((m : ℕ) → HINTS ≤ m → v m ≡ w m) → table 512 (hintIn v) ≡ table 512 (hintIn w)
+  pub hints-same : ((m : ℕ) → HINTS ≤ m → m < ENTRIES → v m ≡ w m) → table 512 (hintIn v) ≡ table 512 (hintIn w)
   hints-same h =
       table-same 512 (hintIn v) (hintIn w)
-      (λ i k. rw (h (HINTS + i * 2) (omega arith), h (HINT-PA + i * 2) (omega arith)))
+      (λ i k. rw (h (HINTS + i * 2) (omega arith) (omega arith), h (HINT-PA + i * 2) (omega arith) (omega arith)))
 
-  pub entries-same : ((m : ℕ) → ENTRIES ≤ m → v m ≡ w m) → table 1024 (entryIn v) ≡ table 1024 (entryIn w)
+  pub entries-same : ((m : ℕ) → ENTRIES ≤ m → m < LEVEL-HITS → v m ≡ w m) → table 1024 (entryIn v) ≡ table 1024 (entryIn w)
   entries-same h =
       table-same 1024 (entryIn v) (entryIn w)
       (λ j k. rw (
-        h (ENTRIES + j * 4) (omega arith),
-        h (ENTRY-GENERATION + j * 4) (omega arith),
-        h (ENTRY-ATTRIBUTES + j * 4) (omega arith),
-        h
-            (ENTRY-PA + j * 4) (omega arith),
+        h (ENTRIES + j * 4) (omega arith) (omega arith),
+        h (ENTRY-GENERATION + j * 4) (omega arith) (omega arith),
+        h (ENTRY-ATTRIBUTES + j * 4) (omega arith) (omega arith),
+        h (ENTRY-PA + j * 4) (omega arith) (omega arith),
       ))
 
   pub generals-same : ((m : ℕ) → GENERAL ≤ m → m < LEVEL → v m ≡ w m) → generals v ≡ generals w
@@ -86,7 +89,8 @@ module _ (v w : ℕ → ℕ) where
   pub coreOf-small : RestSame v w → coreBy v ≡ coreOn v (generals w) (table 512 (hintIn w)) (table 1024 (entryIn w))
   unfolding coreBy
   coreOf-small r =
-      λ i. coreOn v (generals-same (r .general) i) (hints-same (r .above) i) (entries-same (λ m k. r .above m (omega arith)) i)
+      λ i. coreOn v (generals-same (r .general) i) (hints-same (λ m a b. r .above m a (omega arith)) i)
+      (entries-same (λ m a b. r .above m (omega arith) b) i)
 
   -- hints or entries put anew
   pub coreOf-tables : SmallSame v w → ((m : ℕ) → GENERAL ≤ m → m < LEVEL → v m ≡ w m) → coreBy v

@@ -2,7 +2,7 @@
 use mathlib.Core.Path.{_≡_, refl, ap, _∙_}
 use mathlib.Core.Bool.{Bool, true, false, _&&_, _||_, false≢true}
 use mathlib.Core.List.{List, [], _∷_}
-use Prim.Native.Nat.{ℕ, _^_, _≤_, _<_}
+use Prim.Native.Nat.{ℕ, zero, suc, _+_, _*_, _%_, _^_, _≤_, _<_}
 use native.Mathlib.Nat.{mod-eq-of-lt}
 use native.Mathlib.Omega.{arith}
 use borrow.Author.Tests.{lt-ltb, ltb-true, leb-true}
@@ -13,7 +13,7 @@ use Rattle.word.specs.BitLaws.{both}
 use Rattle.mmu.specs.Core.{afterAccess}
 use Rattle.mmu.specs.declared.core.Core.{Core}
 use Rattle.exception.specs.Entry.{entryFlags}
-use Rattle.tlb.specs.Count.{hitCounted, walkCounted, flushCounted, dropCounted, epochCounted, more}
+use Rattle.tlb.specs.Count.{hitTaken, walkTaken, levelPlace, tallyAt, withTally, hitCounted, walkCounted, flushCounted, dropCounted, epochCounted, more}
 use Rattle.tlb.specs.declared.{hint.FetchHint.FetchHint, Inval.Inval, Pending.Pending}
 use Rattle.tlb.specs.declared.Inval.the-variants.{All, Page, Asid}
 use Rattle.tlb.specs.declared.Pending.the-variants.{Nothing, Some}
@@ -22,7 +22,8 @@ use Rattle.words.specs.CoreOf.{word, levelIn, hintIn, entryIn, coreOn, c
 use Rattle.words.specs.Parts.{withCache, withCounts, withPending, withFetchHint, withCurrent, withLast, withAbort, withPrivilege, withFlags, withPc}
 use Rattle.words.specs.NowHolds.{NowHolds, holds-as}
 use Rattle.words.specs.Puts.{put, other, same, word-set, generals, RestSame, coreOf-small}
-use Rattle.words.specs.Places.{PC, DAIF, SPSEL, GENERAL, LEVEL, UNPRIVILEGED, HITS, WALKS, FLUSHES, DROPS, EPOCH, PENDING, PENDING-VALUE, LAST-PA}
+use Rattle.words.specs.Places.{PC, DAIF, SPSEL, GENERAL, LEVEL, UNPRIVILEGED, FLUSHES, DROPS, EPOCH, PENDING, PENDING-VALUE, LAST-PA}
+use Rattle.words.specs.Places.{LEVEL-HITS, LEVEL-WALKS}
 use Rattle.words.specs.Places.{ABORT-PA, GENERATION, ASID, FETCH, FETCH-PAGE, FETCH-LEVEL, FETCH-PA, HINTS, WORDS}
 
 -- STORES, one after another: each a place and a word
@@ -67,42 +68,48 @@ puts-here v k x ps h = puts-other (put v k x) ps k h ∙ same v k x
 -- STORES TO SMALL PARTS
 
 abbrev pub isSmall : ℕ → Bool
-isSmall k = ltb k GENERAL || (leb LEVEL k && ltb k HINTS)
+isSmall k = ltb k GENERAL || ((leb LEVEL k && ltb k HINTS) || (leb LEVEL-HITS k && ltb k WORDS))
 
 abbrev pub allSmall : List (ℕ × ℕ) → Bool
 allSmall [] = true
 allSmall (p ∷ ps) = isSmall (p .0) && allSmall ps
 
 record Small (k : ℕ) : Type 0 where
-  low : k < HINTS
+  inside : k < WORDS
   apart : (m : ℕ) → GENERAL ≤ m → m < LEVEL → m ≡ k → ⊥
+  off : (m : ℕ) → HINTS ≤ m → m < LEVEL-HITS → m ≡ k → ⊥
 
 small-place : (k : ℕ) → isSmall k ≡ true → Small k
-small-place k = go (ltb k GENERAL) refl (leb LEVEL k) refl (ltb k HINTS) refl
+small-place k = go (ltb k GENERAL) refl (leb LEVEL k && ltb k HINTS) refl (leb LEVEL-HITS k && ltb k WORDS) refl
   where
-    go : (a : Bool) → ltb k GENERAL ≡ a → (b : Bool) → leb LEVEL k ≡ b → (c : Bool) → ltb k HINTS ≡ c → (a || (b && c)) ≡ true → Small k
-    go true x b y c z e = let h = ltb-true k GENERAL x in record { low = omega arith; apart = λ m p q r. omega arith }
-    go false x true y true z e = let h = leb-true LEVEL k y in record { low = ltb-true k HINTS z; apart = λ m p q r. omega arith }
-    go false x true y false z e = absurd (false≢true e)
-    go false x false y c z e = absurd (false≢true e)
+    go : (a : Bool) → ltb k GENERAL ≡ a → (b : Bool) → (leb LEVEL k && ltb k HINTS) ≡ b → (c : Bool) → (leb LEVEL-HITS k && ltb k WORDS) ≡ c
+        → (a || (b || c)) ≡ true → Small k
+    go true x b y c z e =
+        let h = ltb-true k GENERAL x in record { inside = omega arith; apart = λ m p q r. omega arith; off = λ m p q r. omega arith }
+    go false x true y c z e =
+        let t = both (leb LEVEL k) (ltb k HINTS) y in
+        let h = leb-true LEVEL k (t .0) in
+        let i = ltb-true k HINTS (t .1) in
+        record { inside = omega arith; apart = λ m p q r. omega arith; off = λ m p q r. omega arith }
+    go false x false y true z e =
+        let t = both (leb LEVEL-HITS k) (ltb k WORDS) z in
+        let h = leb-true LEVEL-HITS k (t .0) in
+        record { inside = ltb-true k WORDS (t .1); apart = λ m p q r. omega arith; off = λ m p q r. omega arith }
+    go false x false y false z e = absurd (false≢true e)
 
 small-inside : (ps : List (ℕ × ℕ)) → allSmall ps ≡ true → Inside ps
 small-inside [] e = tt
-small-inside (p ∷ ps) e =
-    let b = both (isSmall (p .0)) (allSmall ps) e in
-    let h : p .0 < HINTS = small-place (p .0) (b .0) .low in
-    (omega arith, small-inside ps (b .1))
+small-inside (p ∷ ps) e = let b = both (isSmall (p .0)) (allSmall ps) e in (small-place (p .0) (b .0) .inside, small-inside ps (b .1))
 
 small-rest : (v w : ℕ → ℕ) (ps : List (ℕ × ℕ)) → allSmall ps ≡ true → RestSame v w → RestSame (puts v ps) w
 small-rest v w [] e r = r
 small-rest v w (p ∷ ps) e r =
     let b = both (isSmall (p .0)) (allSmall ps) e in
     let s = small-place (p .0) (b .0) in
-    let h : p .0 < HINTS = s .low in
     small-rest (put v (p .0) (p .1)) w ps (b .1)
     (record {
       general = λ m a c. other v (p .0) (p .1) m (s .apart m a c) ∙ r .general m a c;
-      above = λ m a. other v (p .0) (p .1) m (λ q. omega arith) ∙ r .above m a;
+      above = λ m a c. other v (p .0) (p .1) m (s .off m a c) ∙ r .above m a c;
     })
 
 -- a flag's word
@@ -122,7 +129,7 @@ module _ (ws : List ℕ) (L : length ws ≡ WORDS) where
         long = sets-long ws ps;
         holds = ap coreBy (word-sets ws ps L (small-inside ps e))
             ∙ coreOf-small (puts (word ws) ps) (word ws)
-            (small-rest (word ws) (word ws) ps e (record { general = λ m a b. refl; above = λ m a. refl }));
+            (small-rest (word ws) (word ws) ps e (record { general = λ m a b. refl; above = λ m a b. refl }));
       }
 
   -- LEVEL AND MARK, PSTATE, PC
@@ -163,13 +170,37 @@ module _ (ws : List ℕ) (L : length ws ≡ WORDS) where
 
   -- COUNTERS, GENERATION AND ASID, WHAT IS PENDING
 
-  pub hit-put : (v : ℕ) → v ≡ more (word ws HITS) → NowHolds ws (set ws HITS v) (withCounts (coreOf ws) (hitCounted (coreOf ws .tlb .counts)))
-  unfolding coreOf coreBy coreOn withCounts afterAccess
-  hit-put v e = rw e (sets-hold ((HITS, more (word ws HITS)) ∷ []) refl)
+  past : (l : ℕ) → suc (suc (suc (suc l))) < 4 → ⊥
+  past l h = omega arith
 
-  pub walk-put : (v : ℕ) → v ≡ more (word ws WALKS) → NowHolds ws (set ws WALKS v) (withCounts (coreOf ws) (walkCounted (coreOf ws .tlb .counts)))
+  -- of a level, which its number names: hits, walks
+  hits-put : (l : ℕ) → l < 4
+      → NowHolds ws (set ws (LEVEL-HITS + l) (more (word ws (LEVEL-HITS + l))))
+      (withCounts (coreOf ws) (withTally (coreOf ws .tlb .counts) l (hitTaken (tallyAt (coreOf ws .tlb .counts) l))))
   unfolding coreOf coreBy coreOn withCounts afterAccess
-  walk-put v e = rw e (sets-hold ((WALKS, more (word ws WALKS)) ∷ []) refl)
+  hits-put zero e = sets-hold ((LEVEL-HITS, more (word ws LEVEL-HITS)) ∷ []) refl
+  hits-put (suc zero) e = sets-hold ((LEVEL-HITS + 1, more (word ws (LEVEL-HITS + 1))) ∷ []) refl
+  hits-put (suc (suc zero)) e = sets-hold ((LEVEL-HITS + 2, more (word ws (LEVEL-HITS + 2))) ∷ []) refl
+  hits-put (suc (suc (suc zero))) e = sets-hold ((LEVEL-HITS + 3, more (word ws (LEVEL-HITS + 3))) ∷ []) refl
+  hits-put (suc (suc (suc (suc l)))) e = absurd (past l e)
+
+  walks-put : (l : ℕ) → l < 4
+      → NowHolds ws (set ws (LEVEL-WALKS + l) (more (word ws (LEVEL-WALKS + l))))
+      (withCounts (coreOf ws) (withTally (coreOf ws .tlb .counts) l (walkTaken (tallyAt (coreOf ws .tlb .counts) l))))
+  unfolding coreOf coreBy coreOn withCounts afterAccess
+  walks-put zero e = sets-hold ((LEVEL-WALKS, more (word ws LEVEL-WALKS)) ∷ []) refl
+  walks-put (suc zero) e = sets-hold ((LEVEL-WALKS + 1, more (word ws (LEVEL-WALKS + 1))) ∷ []) refl
+  walks-put (suc (suc zero)) e = sets-hold ((LEVEL-WALKS + 2, more (word ws (LEVEL-WALKS + 2))) ∷ []) refl
+  walks-put (suc (suc (suc zero))) e = sets-hold ((LEVEL-WALKS + 3, more (word ws (LEVEL-WALKS + 3))) ∷ []) refl
+  walks-put (suc (suc (suc (suc l)))) e = absurd (past l e)
+
+  pub hit-put : (level i v : ℕ) → i ≡ levelPlace level → v ≡ more (word ws (LEVEL-HITS + i))
+      → NowHolds ws (set ws (LEVEL-HITS + i) v) (withCounts (coreOf ws) (hitCounted level (coreOf ws .tlb .counts)))
+  hit-put level i v ei ev = rw (ev, ei) (hits-put (levelPlace level) (omega arith))
+
+  pub walk-put : (level i v : ℕ) → i ≡ levelPlace level → v ≡ more (word ws (LEVEL-WALKS + i))
+      → NowHolds ws (set ws (LEVEL-WALKS + i) v) (withCounts (coreOf ws) (walkCounted level (coreOf ws .tlb .counts)))
+  walk-put level i v ei ev = rw (ev, ei) (walks-put (levelPlace level) (omega arith))
 
   pub epoch-put : (v : ℕ) → v ≡ more (word ws EPOCH) → NowHolds ws (set ws EPOCH v) (withCounts (coreOf ws) (epochCounted (coreOf ws .tlb .counts)))
   unfolding coreOf coreBy coreOn withCounts afterAccess

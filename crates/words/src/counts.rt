@@ -9,24 +9,28 @@ use crate::place::State;
 use crate::state::whole;
 use tlb::Inval;
 use tlb::Pending;
+use tlb::count;
 use tlb::entry::Current;
 
-pub fn count_hit(state: &mut State)
+// A hit, a walk at a level.
+pub fn count_hit(state: &mut State, level: u8)
     ensures { λ _. ⌜ NowHolds (now (state .entry)) (now (state .exit)) (withCounts (coreOf (now (state .entry)))
-        (hitCounted (coreOf (now (state .entry)) .tlb .counts))) ⌝ }
+        (hitCounted level (coreOf (now (state .entry)) .tlb .counts))) ⌝ }
 {
     whole(state);
-    let n = std::num::wrapping_add_u64(state[place::HITS], 1);
-    state[place::HITS] = n;
+    let l = count::level_place(level);
+    let n = std::num::wrapping_add_u64(state[place::LEVEL_HITS + l], 1);
+    state[place::LEVEL_HITS + l] = n;
 }
 
-pub fn count_walk(state: &mut State)
+pub fn count_walk(state: &mut State, level: u8)
     ensures { λ _. ⌜ NowHolds (now (state .entry)) (now (state .exit)) (withCounts (coreOf (now (state .entry)))
-        (walkCounted (coreOf (now (state .entry)) .tlb .counts))) ⌝ }
+        (walkCounted level (coreOf (now (state .entry)) .tlb .counts))) ⌝ }
 {
     whole(state);
-    let n = std::num::wrapping_add_u64(state[place::WALKS], 1);
-    state[place::WALKS] = n;
+    let l = count::level_place(level);
+    let n = std::num::wrapping_add_u64(state[place::LEVEL_WALKS + l], 1);
+    state[place::LEVEL_WALKS + l] = n;
 }
 
 pub fn count_epoch(state: &mut State)

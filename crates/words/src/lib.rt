@@ -1,4 +1,4 @@
-// The core as 5,205 words that a caller lends: where each part stands, read and written in place.
+// The core as 5,213 words that a caller lends: where each part stands, read and written in place.
 pub mod cells;
 pub mod clear;
 pub mod counts;

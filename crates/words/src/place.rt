@@ -1,5 +1,5 @@
 // Where each part of a core stands among the words of a state. A place never moves: new words are appended.
-pub const WORDS: usize = 5205;
+pub const WORDS: usize = 5213;
 
 pub type State = [u64; WORDS];
 
@@ -48,10 +48,7 @@ pub const LEVEL: usize = 68;
 
 pub const UNPRIVILEGED: usize = 69;
 
-pub const HITS: usize = 70;
-
-pub const WALKS: usize = 71;
-
+// Words 70 and 71 hold nothing.
 pub const FLUSHES: usize = 72;
 
 pub const DROPS: usize = 73;
@@ -89,3 +86,7 @@ pub const ENTRY_GENERATION: usize = 1110;
 pub const ENTRY_ATTRIBUTES: usize = 1111;
 
 pub const ENTRY_PA: usize = 1112;
+// Hits by level, EL0 to EL3; then walks.
+pub const LEVEL_HITS: usize = 5205;
+
+pub const LEVEL_WALKS: usize = 5209;

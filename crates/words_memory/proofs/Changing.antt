@@ -42,12 +42,12 @@ page-is ws va kind privilege control k at h e ep ec ek ea eh ee =
     }
 
 -- the counter and the entry, by an effect
-none-counted : (n : ℕ) (k : Counts) → (n ≡ 1 → ⊥) → (n ≡ 2 → ⊥) → (n ≡ 3 → ⊥) → countedAs n k ≡ k
-none-counted zero k a b d = refl
-none-counted (suc zero) k a b d = absurd (a refl)
-none-counted (suc (suc zero)) k a b d = absurd (b refl)
-none-counted (suc (suc (suc zero))) k a b d = absurd (d refl)
-none-counted (suc (suc (suc (suc n)))) k a b d = refl
+none-counted : (n level : ℕ) (k : Counts) → (n ≡ 1 → ⊥) → (n ≡ 2 → ⊥) → (n ≡ 3 → ⊥) → countedAs n level k ≡ k
+none-counted zero level k a b d = refl
+none-counted (suc zero) level k a b d = absurd (a refl)
+none-counted (suc (suc zero)) level k a b d = absurd (b refl)
+none-counted (suc (suc (suc zero))) level k a b d = absurd (d refl)
+none-counted (suc (suc (suc (suc n)))) level k a b d = refl
 
 none-kept : (n : ℕ) (old made : Entry) → (n ≡ 3 → ⊥) → keptAs n old made ≡ old
 none-kept zero old made d = refl
@@ -56,30 +56,32 @@ none-kept (suc (suc zero)) old made d = refl
 none-kept (suc (suc (suc zero))) old made d = absurd (d refl)
 none-kept (suc (suc (suc (suc n)))) old made d = refl
 
-module _ (ws : List ℕ) (slot effect : ℕ) (made : Entry) where
+module _ (ws : List ℕ) (level slot effect : ℕ) (made : Entry) where
   abbrev c : Core
   c = coreOf ws
 
   own-effect : (n : ℕ) → effect ≡ n
-      → withEntry (withCounts c (countedAs n (c .tlb .counts))) slot (keptAs n (entryAt (c .tlb .cache) slot) made) ≡ effected c slot effect made
+      → withEntry (withCounts c (countedAs n level (c .tlb .counts))) slot (keptAs n (entryAt (c .tlb .cache) slot) made) ≡ effected c level slot effect made
   unfolding effected
   own-effect n e = rw e
 
-  pub effect-hit : (xs : List ℕ) → effect ≡ 1 → NowHolds ws xs (withCounts c (hitCounted (c .tlb .counts))) → NowHolds ws xs (effected c slot effect made)
-  effect-hit xs e m = holds-as m (sym (entry-back c slot (hitCounted (c .tlb .counts))) ∙ own-effect 1 e)
+  pub effect-hit : (xs : List ℕ) → effect ≡ 1 → NowHolds ws xs (withCounts c (hitCounted level (c .tlb .counts)))
+      → NowHolds ws xs (effected c level slot effect made)
+  effect-hit xs e m = holds-as m (sym (entry-back c slot (hitCounted level (c .tlb .counts))) ∙ own-effect 1 e)
 
-  pub effect-walk : (xs : List ℕ) → effect ≡ 2 → NowHolds ws xs (withCounts c (walkCounted (c .tlb .counts))) → NowHolds ws xs (effected c slot effect made)
-  effect-walk xs e m = holds-as m (sym (entry-back c slot (walkCounted (c .tlb .counts))) ∙ own-effect 2 e)
+  pub effect-walk : (xs : List ℕ) → effect ≡ 2 → NowHolds ws xs (withCounts c (walkCounted level (c .tlb .counts)))
+      → NowHolds ws xs (effected c level slot effect made)
+  effect-walk xs e m = holds-as m (sym (entry-back c slot (walkCounted level (c .tlb .counts))) ∙ own-effect 2 e)
 
-  pub effect-entry : (xs ys : List ℕ) → effect ≡ 3 → NowHolds ws xs (withCounts c (walkCounted (c .tlb .counts)))
-      → NowHolds xs ys (withEntry (coreOf xs) slot made) → NowHolds ws ys (effected c slot effect made)
+  pub effect-entry : (xs ys : List ℕ) → effect ≡ 3 → NowHolds ws xs (withCounts c (walkCounted level (c .tlb .counts)))
+      → NowHolds xs ys (withEntry (coreOf xs) slot made) → NowHolds ws ys (effected c level slot effect made)
   effect-entry xs ys e m n = holds-on (λ d. withEntry d slot made) m n (own-effect 3 e)
 
-  pub effect-none : (effect ≡ 1 → ⊥) → (effect ≡ 2 → ⊥) → (effect ≡ 3 → ⊥) → NowHolds ws ws (effected c slot effect made)
+  pub effect-none : (effect ≡ 1 → ⊥) → (effect ≡ 2 → ⊥) → (effect ≡ 3 → ⊥) → NowHolds ws ws (effected c level slot effect made)
   unfolding effected
   effect-none a b d =
       holds-as stays
-      (sym (rw (none-counted effect (c .tlb .counts) a b d, none-kept effect (entryAt (c .tlb .cache) slot) made d) (unchanged c slot)))
+      (sym (rw (none-counted effect level (c .tlb .counts) a b d, none-kept effect (entryAt (c .tlb .cache) slot) made d) (unchanged c slot)))
 
 -- the hints
 module _ (ws : List ℕ) (some : Bool) where
@@ -113,17 +115,19 @@ module _ (ws : List ℕ) (some : Bool) where
 
 -- a whole change
 commit-is : (c : Core) (t : Change)
-    → fetchedIf (hintedIf (effected c (t .«entry_at» % 1024) (t .effect) (t .made)) (t .«hint_at» % 512) (t .hints) (t .hint)) (t .fetches) (t .fetch)
+    → fetchedIf (hintedIf (effected c (c .privilege .level) (t .«entry_at» % 1024) (t .effect) (t .made)) (t .«hint_at» % 512) (t .hints) (t .hint))
+    (t .fetches) (t .fetch)
     ≡ commitIn c t
 unfolding effected hintedIf fetchedIf withEntry withCounts withHint withFetchHint withCache afterAccess
 commit-is c t = refl
 
-pub commits-all : (ws xs ys zs : List ℕ) (t : Change) → NowHolds ws xs (effected (coreOf ws) (t .«entry_at» % 1024) (t .effect) (t .made))
+pub commits-all : (ws xs ys zs : List ℕ) (t : Change) (p : Privilege) → p ≡ coreOf ws .privilege
+    → NowHolds ws xs (effected (coreOf ws) (p .level) (t .«entry_at» % 1024) (t .effect) (t .made))
     → NowHolds xs ys (hintedIf (coreOf xs) (t .«hint_at» % 512) (t .hints) (t .hint)) → NowHolds ys zs (fetchedIf (coreOf ys) (t .fetches) (t .fetch))
     → NowHolds ws zs (commitIn (coreOf ws) t)
-commits-all ws xs ys zs t m n o =
+commits-all ws xs ys zs t p e m n o =
     holds-on (λ d. fetchedIf d (t .fetches) (t .fetch))
-    (holds-on (λ d. hintedIf d (t .«hint_at» % 512) (t .hints) (t .hint)) m n refl) o (commit-is (coreOf ws) t)
+    (holds-on (λ d. hintedIf d (t .«hint_at» % 512) (t .hints) (t .hint)) (rw e at m) n refl) o (commit-is (coreOf ws) t)
 
 -- TWO PAGES
 module _ (ws : List ℕ) (memory : ℕ → Word) (va n : ℕ) (kind : Kind) (x y : Page) (next : ℕ) (b : Both)

@@ -55,32 +55,32 @@ module _ (a : Answer) where
   status-core ws privilege kind va f e = rw e stays
 
 -- what a source changes
-module _ (ws : List ℕ) (slot : ℕ) (source : Source) (made : Entry) where
+module _ (ws : List ℕ) (level slot : ℕ) (source : Source) (made : Entry) where
   stored : (c : Core) (s : Source) → source ≡ s
-      → sourced c slot source made ≡ withEntry (withCounts c (countedBy s (c .tlb .counts))) slot (keptBy s (entryAt (c .tlb .cache) slot) made)
+      → sourced c level slot source made ≡ withEntry (withCounts c (countedBy s level (c .tlb .counts))) slot (keptBy s (entryAt (c .tlb .cache) slot) made)
   unfolding sourced
   stored c s e = rw e
 
-  pub from-hint : source ≡ FromHint → NowHolds ws ws (sourced (coreOf ws) slot source made)
+  pub from-hint : source ≡ FromHint → NowHolds ws ws (sourced (coreOf ws) level slot source made)
   from-hint e = holds-as stays (sym (stored (coreOf ws) FromHint e ∙ unchanged (coreOf ws) slot))
 
-  pub from-flat : source ≡ FromFlat → NowHolds ws ws (sourced (coreOf ws) slot source made)
+  pub from-flat : source ≡ FromFlat → NowHolds ws ws (sourced (coreOf ws) level slot source made)
   from-flat e = holds-as stays (sym (stored (coreOf ws) FromFlat e ∙ unchanged (coreOf ws) slot))
 
-  pub from-entry : (xs : List ℕ) → source ≡ FromEntry → NowHolds ws xs (withCounts (coreOf ws) (hitCounted (coreOf ws .tlb .counts)))
-      → NowHolds ws xs (sourced (coreOf ws) slot source made)
-  from-entry xs e m = holds-as m (sym (stored (coreOf ws) FromEntry e ∙ entry-back (coreOf ws) slot (hitCounted (coreOf ws .tlb .counts))))
+  pub from-entry : (xs : List ℕ) → source ≡ FromEntry → NowHolds ws xs (withCounts (coreOf ws) (hitCounted level (coreOf ws .tlb .counts)))
+      → NowHolds ws xs (sourced (coreOf ws) level slot source made)
+  from-entry xs e m = holds-as m (sym (stored (coreOf ws) FromEntry e ∙ entry-back (coreOf ws) slot (hitCounted level (coreOf ws .tlb .counts))))
 
-  pub from-no-leaf : (xs : List ℕ) → source ≡ NoLeaf → NowHolds ws xs (withCounts (coreOf ws) (walkCounted (coreOf ws .tlb .counts)))
-      → NowHolds ws xs (sourced (coreOf ws) slot source made)
-  from-no-leaf xs e m = holds-as m (sym (stored (coreOf ws) NoLeaf e ∙ entry-back (coreOf ws) slot (walkCounted (coreOf ws .tlb .counts))))
+  pub from-no-leaf : (xs : List ℕ) → source ≡ NoLeaf → NowHolds ws xs (withCounts (coreOf ws) (walkCounted level (coreOf ws .tlb .counts)))
+      → NowHolds ws xs (sourced (coreOf ws) level slot source made)
+  from-no-leaf xs e m = holds-as m (sym (stored (coreOf ws) NoLeaf e ∙ entry-back (coreOf ws) slot (walkCounted level (coreOf ws .tlb .counts))))
 
-  pub from-walk : (xs ys : List ℕ) → source ≡ FromWalk → NowHolds ws xs (withCounts (coreOf ws) (walkCounted (coreOf ws .tlb .counts)))
-      → NowHolds xs ys (withEntry (coreOf xs) slot made) → NowHolds ws ys (sourced (coreOf ws) slot source made)
+  pub from-walk : (xs ys : List ℕ) → source ≡ FromWalk → NowHolds ws xs (withCounts (coreOf ws) (walkCounted level (coreOf ws .tlb .counts)))
+      → NowHolds xs ys (withEntry (coreOf xs) slot made) → NowHolds ws ys (sourced (coreOf ws) level slot source made)
   from-walk xs ys e m n = holds-on (λ d. withEntry d slot made) m n (sym (stored (coreOf ws) FromWalk e))
 
 -- and then the answer given
 pub commits : (ws xs ys : List ℕ) (privilege : Privilege) (kind : Kind) (va slot : ℕ) (t : Resolved)
-    → NowHolds ws xs (sourced (coreOf ws) slot (t .source) (t .made))
+    → NowHolds ws xs (sourced (coreOf ws) (privilege .level) slot (t .source) (t .made))
     → NowHolds xs ys (answerPut (coreOf xs) privilege kind va (t .answer)) → NowHolds ws ys (committed (coreOf ws) privilege kind va slot t)
 commits ws xs ys privilege kind va slot t m n = holds-on (λ d. answerPut d privilege kind va (t .answer)) m n refl

@@ -8,9 +8,9 @@ use Rattle.operations.specs.Change.{countedAs, keptAs}
 use Rattle.mmu.specs.declared.core.Core.{Core}
 use Rattle.words.specs.Parts.{withCounts, withEntry, withHint, withFetchHint}
 
-unfoldable pub effected : Core → ℕ → ℕ → Entry → Core
-effected c slot effect made =
-    withEntry (withCounts c (countedAs effect (c .tlb .counts))) slot
+unfoldable pub effected : Core → ℕ → ℕ → ℕ → Entry → Core
+effected c level slot effect made =
+    withEntry (withCounts c (countedAs effect level (c .tlb .counts))) slot
     (keptAs effect (entryAt (c .tlb .cache) slot) made)
 
 unfoldable pub hintedIf : Core → ℕ → Bool → Hint → Core

@@ -62,4 +62,5 @@ module _ (c : Core) (memory : ℕ → Word) (va : ℕ) where
   unfolding fetchTo fetchSteppedNow translateFetchIn fetchWith fetchEnd fetchApplied missOf foundTo sourced
   fetch-misses h =
       rw h
-      (λ i. answering (fetch-back (keptBy (t .source) entry (t .made)) (countedBy (t .source) (c .tlb .counts)) (t .answer) i) (t .answer))
+      (λ i.
+      answering (fetch-back (keptBy (t .source) entry (t .made)) (countedBy (t .source) (c .privilege .level) (c .tlb .counts)) (t .answer) i) (t .answer))

@@ -55,14 +55,14 @@ abbrev pub answerPut : Core → Privilege → Kind → ℕ → Answer → Core
 answerPut c privilege kind va (Address pa) = withHintFor c privilege kind va pa
 answerPut c privilege kind va (Status f) = c
 
--- the counters and the entry of the slot, by an answer's source
-unfoldable pub sourced : Core → ℕ → Source → Entry → Core
-sourced c slot source made =
-    withEntry (withCounts c (countedBy source (c .tlb .counts))) slot (keptBy source (entryAt (c .tlb .cache) slot) made)
+-- the counters of a level and the entry of the slot, by an answer's source
+unfoldable pub sourced : Core → ℕ → ℕ → Source → Entry → Core
+sourced c level slot source made =
+    withEntry (withCounts c (countedBy source level (c .tlb .counts))) slot (keptBy source (entryAt (c .tlb .cache) slot) made)
 
 -- the changes of a translation stored: these and the hint
 abbrev pub committed : Core → Privilege → Kind → ℕ → ℕ → Resolved → Core
-committed c privilege kind va slot t = answerPut (sourced c slot (t .source) (t .made)) privilege kind va (t .answer)
+committed c privilege kind va slot t = answerPut (sourced c (privilege .level) slot (t .source) (t .made)) privilege kind va (t .answer)
 
 abbrev pub committing : Core → Privilege → Kind → ℕ → ℕ → Resolved → Translated
 committing c privilege kind va slot t = answering (committed c privilege kind va slot t) (t .answer)

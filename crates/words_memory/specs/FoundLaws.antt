@@ -127,7 +127,8 @@ module _ (c : Core) (memory : ℕ → Word) (va : ℕ) (kind : Kind) where
       rw (chose-none (mayHint (c .privilege) kind && eqb (hint .key) (hintKey va level)) (onPage (hint .pa) va) h)
       (λ i.
       answering
-      (put-answer-back c va kind slot (keptBy (t .source) (entryAt (c .tlb .cache) slot) (t .made)) (countedBy (t .source) (c .tlb .counts)) (t .answer) i)
+      (put-answer-back c va kind slot (keptBy (t .source) (entryAt (c .tlb .cache) slot) (t .made)) (countedBy (t .source) level (c .tlb .counts))
+      (t .answer) i)
       (t .answer))
 
 -- RAM lent on as a part that is the whole

@@ -35,20 +35,20 @@ pub fn take_page(state: &State, va: u64, kind: Kind) -> Page
     }
 }
 
-// The counter and the entry of a change stored, by its effect.
-fn put_effect(state: &mut State, slot: usize, effect: u8, made: Entry)
+// The counter of a level and the entry of a change stored, by its effect.
+fn put_effect(state: &mut State, level: u8, slot: usize, effect: u8, made: Entry)
     ensures { λ _. ⌜ NowHolds (now (state .entry)) (now (state .exit))
-        (effected (coreOf (now (state .entry))) slot effect made) ⌝ }
+        (effected (coreOf (now (state .entry))) level slot effect made) ⌝ }
 {
     match effect {
         1 => {
-            counts::count_hit(state);
+            counts::count_hit(state, level);
         }
         2 => {
-            counts::count_walk(state);
+            counts::count_walk(state, level);
         }
         3 => {
-            counts::count_walk(state);
+            counts::count_walk(state, level);
             cells::put_entry(state, slot, made);
         }
         _ => {}
@@ -82,7 +82,8 @@ pub fn commit(state: &mut State, t: Change)
     let made = t.made;
     let hint = t.hint;
     let fetch = t.fetch;
-    put_effect(state, t.entry_at % 1024, t.effect, made);
+    let privilege = state::privilege_at(state);
+    put_effect(state, privilege.level, t.entry_at % 1024, t.effect, made);
     put_hint(state, t.hint_at % 512, t.hints, hint);
     put_fetch(state, t.fetches, fetch);
 }

@@ -66,23 +66,23 @@ fn put_answer(
     }
 }
 
-// What an answer's source changes is stored: the counters, and the entry of the slot where a walk made one.
-fn put_changes(state: &mut State, slot: usize, source: Source, made: Entry)
+// What an answer's source changes is stored: the level's counters, and the entry of the slot where a walk made one.
+fn put_changes(state: &mut State, level: u8, slot: usize, source: Source, made: Entry)
     ensures { λ _. ⌜ NowHolds (now (state .entry)) (now (state .exit))
-        (sourced (coreOf (now (state .entry))) slot source made) ⌝ }
+        (sourced (coreOf (now (state .entry))) level slot source made) ⌝ }
 {
     match source {
         Source::FromHint => {}
         Source::FromFlat => {}
         Source::FromEntry => {
-            counts::count_hit(state);
+            counts::count_hit(state, level);
         }
         Source::FromWalk => {
-            counts::count_walk(state);
+            counts::count_walk(state, level);
             cells::put_entry(state, slot, made);
         }
         Source::NoLeaf => {
-            counts::count_walk(state);
+            counts::count_walk(state, level);
         }
     }
 }
@@ -106,7 +106,7 @@ fn commit(
     let answer = t.answer;
     let source = t.source;
     let made = t.made;
-    put_changes(state, slot, source, made);
+    put_changes(state, privilege.level, slot, source, made);
     put_answer(state, privilege, kind, va, answer, pa)
 }
 
@@ -139,7 +139,9 @@ fn from_entry(
     let slot = tlb::entry::slot(q.tag);
     let e = cells::entry_at(state, slot);
     let t = resolve::by_entry(q, privilege, e, va, kind);
-    commit(state, privilege, kind, va, slot, t, pa)
+    let answer = t.answer;
+    counts::count_hit(state, privilege.level);
+    put_answer(state, privilege, kind, va, answer, pa)
 }
 
 // By a walk. It reads anew what it needs, so that a hit holds nothing for it.

@@ -7,4 +7,7 @@ returns : tie.Need-returns
 returns c = cc
 
 pub walk-spec : {M : Type 1} → statement M
-walk-spec = tie.close (tie.spec (λ wrapping-add-u64-requires κs. search needs) returns)
+walk-spec =
+    tie.close
+    (tie.spec
+    (λ tally-at-requires κs. search needs) (λ taken-walk-requires κs. search needs) (λ with-tally-requires κs. search needs) returns)

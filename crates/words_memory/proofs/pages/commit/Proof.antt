@@ -8,6 +8,6 @@ pub commit-spec : {M : Type 1} → statement M
 commit-spec =
     tie.close
     (tie.spec
-    (λ put-effect-requires κs. search needs) (λ put-hint-requires κs. search needs)
+    (λ privilege-at-requires κs. search needs) (λ put-effect-requires κs. search needs) (λ put-hint-requires κs. search needs)
     (λ put-fetch-requires κs. search needs)
     (λ returns. search (commits-all, needs)))

@@ -12,4 +12,4 @@ from-entry-spec =
     tie.close
     (tie.spec
     (λ slot-requires κs. search needs) (λ entry-at-requires κs. search needs) (λ by-entry-requires κs. search needs)
-    (λ commit-requires κs. search needs) returns)
+    (λ count-hit-requires κs. search needs) (λ put-answer-requires κs. search needs) returns)
