@@ -5,7 +5,8 @@
  * The state. A core is an array of A72_WORDS words of 64 bits (a72_state), aligned as uint64_t is and owned by the
  * caller; a copy of the words is a copy of the core. a72_fresh writes every word. Any words are a core: whatever they
  * hold, each function ends and stays inside. A place (A72_PLACE_..) never moves: new words are appended, and A72_WORDS
- * grows. The functions a72_get_.. below read the parts of a core.
+ * grows. Words 70 and 71, once the counters of all hits and walks, hold nothing: a72_fresh makes them 0, and no other
+ * function reads or writes them. The functions a72_get_.. below read the parts of a core.
  *
  * RAM. A function that needs memory is lent a window of it: `base`, the physical address of its first byte, then `ram`
  * and `len`, its bytes and their number. What lies outside the window is an external abort (status 0x10; on a table
@@ -30,7 +31,7 @@ extern "C" {
 
 /* ---- Places: where each part of a core stands among its words ---- */
 
-#define A72_WORDS 5205
+#define A72_WORDS 5213
 
 /* Registers of EL1, EL2 and EL3, three words each. */
 #define A72_PLACE_SCTLR 0
@@ -55,9 +56,7 @@ extern "C" {
 #define A72_PLACE_GENERAL 37 /* X0 to X30 */
 #define A72_PLACE_LEVEL 68
 #define A72_PLACE_UNPRIVILEGED 69
-/* The counters. */
-#define A72_PLACE_HITS 70
-#define A72_PLACE_WALKS 71
+/* The counters; those of hits and walks stand at the end. */
 #define A72_PLACE_FLUSHES 72
 #define A72_PLACE_DROPS 73
 #define A72_PLACE_EPOCH 74
@@ -82,6 +81,9 @@ extern "C" {
 #define A72_PLACE_ENTRY_GENERATION 1110
 #define A72_PLACE_ENTRY_ATTRIBUTES 1111
 #define A72_PLACE_ENTRY_PA 1112
+/* Hits by level, EL0 to EL3, and walks by level. The totals are their sums, wrapped at 2^64. */
+#define A72_PLACE_LEVEL_HITS 5205
+#define A72_PLACE_LEVEL_WALKS 5209
 
 #define A72_HINTS 512
 #define A72_ENTRIES 1024
@@ -336,22 +338,32 @@ static inline uint64_t a72_get_last_pa(const uint64_t state[A72_WORDS]) { return
 /* The physical address of the last external abort: of a load or store with status 0x10, a device's address. */
 static inline uint64_t a72_get_abort_pa(const uint64_t state[A72_WORDS]) { return state[A72_PLACE_ABORT_PA]; }
 
+/* The cache's counters; each wraps at 2^64. level_hits and level_walks are by the exception level of the access, 0 to 3, which the
+ * mark (a72_mark) does not lower. */
 struct a72_counters {
-    uint64_t hits;    /* translations that an entry of the cache answered */
-    uint64_t walks;
-    uint64_t flushes; /* of the whole cache */
-    uint64_t drops;   /* invalidations of a page */
-    uint64_t epoch;   /* moves whenever a translation that was looked up may no longer hold */
+    uint64_t level_hits[4];  /* translations that an entry of the cache answered, with a permission fault too */
+    uint64_t level_walks[4]; /* however they ended */
+    uint64_t flushes;  /* of the whole cache */
+    uint64_t drops;    /* invalidations of a page */
+    uint64_t epoch;    /* moves whenever a translation that was looked up may no longer hold */
 };
 
 static inline struct a72_counters a72_get_counters(const uint64_t state[A72_WORDS]) {
     struct a72_counters c;
-    c.hits = state[A72_PLACE_HITS];
-    c.walks = state[A72_PLACE_WALKS];
+    for (size_t level = 0; level < 4; level++) {
+        c.level_hits[level] = state[A72_PLACE_LEVEL_HITS + level];
+        c.level_walks[level] = state[A72_PLACE_LEVEL_WALKS + level];
+    }
     c.flushes = state[A72_PLACE_FLUSHES];
     c.drops = state[A72_PLACE_DROPS];
     c.epoch = state[A72_PLACE_EPOCH];
     return c;
+}
+
+/* The hits of all levels, and the walks: their sums, wrapped at 2^64. */
+static inline uint64_t a72_total_hits(struct a72_counters c) { return c.level_hits[0] + c.level_hits[1] + c.level_hits[2] + c.level_hits[3]; }
+static inline uint64_t a72_total_walks(struct a72_counters c) {
+    return c.level_walks[0] + c.level_walks[1] + c.level_walks[2] + c.level_walks[3];
 }
 
 /* What a TLBI of the Inner Shareable forms asks of the other cores. */

@@ -201,6 +201,7 @@ done
 # The tool's script: by a link, before it is built, and with a program that is killed.
 ln -s "$here/a72" "$work/bin/tool"
 in_out 0 tool run x && has out 'played run x'
+in_out 0 tool counters x && has out 'played counters x'
 printf '#!/bin/sh\nkill -KILL $$\n' >target/bin/a72
 in_out 137 ./a72 chord
 rm target/bin/a72

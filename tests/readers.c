@@ -30,7 +30,7 @@ static void set_up(void) {
         put(BASE + 0x3000 + 8 * page, BASE + (page << 12) + 0x403);
     put(BASE + 0x3000 + 8 * 9, 0x80000403);
     a72_fresh(core);
-    MUST(a72_get_level(core) == 3 && a72_get_pc(core) == 0 && a72_get_counters(core).walks == 0);
+    MUST(a72_get_level(core) == 3 && a72_get_pc(core) == 0 && a72_total_walks(a72_get_counters(core)) == 0);
     MUST(a72_register(core, A72_TCR_EL1, 25 | UINT64_C(2) << 30) == A72_DONE);
     MUST(a72_register(core, A72_TTBR0_EL1, BASE + 0x1000) == A72_DONE);
     MUST(a72_register(core, A72_SCTLR_EL1, 1) == A72_DONE);
@@ -116,7 +116,34 @@ static void invalidation(void) {
     struct a72_pending p = a72_take_pending(core);
     MUST(p.kind == A72_PENDING_PAGE && p.value == x && a72_get_pending(core).kind == A72_PENDING_NONE);
     MUST(a72_load(core, VA, 4, &ans, BASE, ram, LEN) == A72_DONE);
-    MUST(a72_get_counters(core).walks == after.walks + 1 && a72_get_counters(core).hits == after.hits);
+    MUST(a72_get_counters(core).level_walks[1] == after.level_walks[1] + 1 && a72_get_counters(core).level_hits[1] == after.level_hits[1]);
+}
+
+/* Hits and walks are those of the level of the access, which the mark does not lower; the totals wrap. */
+static void levels(void) {
+    uint64_t ans = 0;
+    MUST(a72_system(core, 0, 8, 7, 0, 0, &ans, BASE, ram, LEN) == A72_DONE);
+    struct a72_counters before = a72_get_counters(core);
+    a72_level(core, 0);
+    MUST(a72_translate(core, VA, A72_READ, &ans, BASE, ram, LEN) == A72_FAULT + 0x0F); /* a walk */
+    a72_level(core, 1);
+    MUST(a72_load(core, VA, 4, &ans, BASE, ram, LEN) == A72_DONE); /* its entry */
+    a72_mark(core, 1);
+    MUST(a72_load(core, VA, 4, &ans, BASE, ram, LEN) == A72_FAULT + 0x0F); /* its entry, as EL0 would */
+    a72_mark(core, 0);
+    struct a72_counters after = a72_get_counters(core);
+    MUST(after.level_hits[0] == before.level_hits[0] && after.level_walks[0] == before.level_walks[0] + 1);
+    MUST(after.level_hits[1] == before.level_hits[1] + 2 && after.level_walks[1] == before.level_walks[1]);
+    for (int level = 2; level < 4; level++)
+        MUST(after.level_hits[level] == before.level_hits[level] && after.level_walks[level] == before.level_walks[level]);
+    MUST(a72_total_hits(after) == a72_total_hits(before) + 2 && a72_total_walks(after) == a72_total_walks(before) + 1);
+    a72_state c;
+    memcpy(c, core, sizeof c);
+    c[A72_PLACE_LEVEL_HITS + 3] = UINT64_MAX - after.level_hits[1];
+    c[A72_PLACE_LEVEL_WALKS + 2] = UINT64_MAX;
+    MUST(a72_get_counters(c).level_hits[3] == UINT64_MAX - after.level_hits[1] && a72_get_counters(c).level_walks[2] == UINT64_MAX);
+    MUST(a72_total_hits(a72_get_counters(c)) == UINT64_MAX + after.level_hits[0]);
+    MUST(a72_total_walks(a72_get_counters(c)) == a72_total_walks(after) - 1);
 }
 
 static void walk(void) {
@@ -186,6 +213,7 @@ int main(void) {
     refusals();
     accesses();
     invalidation();
+    levels();
     walk();
     census();
     steps();

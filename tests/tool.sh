@@ -1,5 +1,6 @@
 #!/bin/sh
-# The tool beside the Rust: `a72 run` against the oracle's `run` on every recorded trace and on generated ones, then the census, bad files and arguments.
+# The tool beside the Rust: `a72 run` against the oracle's `run` on every recorded trace and on generated ones, then the counters by level, the census, bad
+# files and arguments.
 # Wants target/bin/a72 (rt check a72) and oracle/target/release (cargo build --offline --release in oracle/). Usage: tests/tool.sh [SEEDS]
 set -u
 cd "$(dirname "$0")/.."
@@ -35,8 +36,68 @@ for seed in $(seq 1 "$seeds"); do
     done
 done
 
-# The census: its rows add up to the pages, and the cells of its map are as many as it says.
+# counted_as TRACE: the rows of `a72 counters` are the levels' own and the sums of the last line of `a72 run`.
+counted_as() {
+    "$tool" counters "$1" >"$work/out" 2>"$work/err"
+    shown=$(awk '/^  (EL[0-3]|all) / { printf " %s %s", $2, $3 }' "$work/out")
+    run=$("$tool" run "$1" | tail -n 1 | sed 's/.* | h=\([^ ]*\) w=\([^ ]*\) \(l0=.*\) fl=.*/\3 \1 \2/; s/l[0-3]=//g; y/:/ /')
+    told=''
+    for n in $run; do told="$told $(printf %u "0x$n")"; done
+    if [ ! -s "$work/err" ] && [ "$shown" = "$told" ]; then pass; else fail "counters $1:$shown, not$told"; fi
+}
+
+# says TEXT TRACE: a line of the counters is the text.
+says() {
+    printf '%s\n' "$2" >"$work/trace"
+    "$tool" counters "$work/trace" >"$work/out" 2>"$work/err"
+    if [ ! -s "$work/err" ] && grep -qxF -- "$1" "$work/out"; then pass; else fail "counters, no line '$1'"; fi
+}
+
 layout=tests/instrument.trace
+for t in recorded/*.trace "$layout"; do counted_as "$t"; done
+"$tool" counters "$layout" >"$work/out" 2>&1
+cmp -s "$work/out" - <<'COUNTERS' && pass || fail 'the counters of the sample'
+cache counters by exception level: answers by entries (.) and walks (#)
+           entries        walks   share of walks
+  EL0            5           15    75.0%  ##############################..........
+  EL1            3            3    50.0%  ####################....................
+  EL2            0            0        -
+  EL3            0            0        -
+  all            8           18    69.2%  ############################............
+flushes 2, pages dropped 0, epoch 2
+counted at the level of the access, which the unprivileged mark does not lower;
+not counted: answers by a hint, and answers with stage 1 off
+EL0 walks most: 15 of 18 walks
+COUNTERS
+says 'nothing was walked' ''
+says '  all            0            0        -' ''
+says 'EL0 walks most: 5 of 5 walks' 'p-cnt 5'
+says 'flushes 5, pages dropped 5, epoch 5' 'p-cnt 5'
+says 'EL1 and EL3 walk most: each 2 of 5 walks' "$(printf 'w-word 1459 1\nw-word 145a 2\nw-word 145c 2')"
+says '  EL2         1999            1    <0.1%  #.......................................' "$(printf 'w-word 1457 7cf\nw-word 145b 1')"
+says '  EL2          998            2     0.2%  #.......................................' "$(printf 'w-word 1457 3e6\nw-word 145b 2')"
+most=ffffffffffffffff
+large=$(printf "w-word 1455 $most\nw-word 1459 $most\nw-word 1458 1\nw-word 145c 1")
+says '  EL0  18446744073709551615  18446744073709551615    50.0%  ####################....................' "$large"
+says '  all                     0                     0  modulo 2^64' "$large"
+says 'EL0 walks most: 18446744073709551615 walks' "$large"
+
+# from SOURCE ARGUMENTS..: where `a72 walk` says that the core's answer came from, by the counters of the level.
+from() {
+    source=$1
+    shift
+    "$tool" walk "$layout" "$@" >"$work/out" 2>"$work/err"
+    if [ ! -s "$work/err" ] && grep -q "^the core .*, $source\$" "$work/out"; then pass; else fail "walk $*: not $source"; fi
+}
+
+from 'by a walk' 104000 read 0
+from 'by a walk' 104000 fetch
+from 'by an entry of the cache' 1100000 read 1
+from 'by an entry of the cache' 80000 read 0
+from 'by a hint' 100000 write 0
+from 'with stage 1 off' 100000 read 3
+
+# The census: its rows add up to the pages, and the cells of its map are as many as it says.
 { cat "$layout"; printf 'census 0 10000\ncensus 123 0\nlevel 0\ncensus 0 400\nlevel 3\ncensus 0 400\ncensus 0 10001\n'; } >"$work/trace"
 same "$work/trace" 'a census of the sample'
 
@@ -128,6 +189,14 @@ head -c 5000 /dev/urandom >"$work/bad"
 refused 1 "$work/bad:" run "$work/bad"
 refused 1 'No such file' run "$work/none"
 refused 1 'Is a directory' run "$work"
+printf 'fresh\ncount 1\n' >"$work/bad"
+refused 1 "$work/bad:2:1: no line of a trace has this name" counters "$work/bad"
+refused 1 'No such file' counters "$work/none"
+refused 1 'Is a directory' counters "$work"
+refused 1 'TRACE: File name too long' counters "$(head -c 5000 /dev/zero | tr '\0' x)"
+refused 2 'usage:' counters
+refused 2 'counters wants one TRACE' counters "$layout" 1
+refused 2 'usage:' counterses "$layout"
 refused 1 'not a hexadecimal number' walk recorded/cases.trace here
 refused 1 'LEVEL: 0, 1, 2 or 3' walk recorded/cases.trace 0 read 4
 refused 1 'read, write or fetch' walk recorded/cases.trace 0 execute

@@ -22,18 +22,28 @@ notice() {
     cp "crates/replay/data/$1" "$room/$1"
 }
 
-# cases.rec: 8 words of header, then a window (8 words) and an operation, whose answer is its word 8.
-first=$((8 * 8))
-while [ "$(od -An -tu8 -j "$first" -N 8 crates/replay/data/cases.rec | tr -d ' ')" -ge 60 ]; do first=$((first + 64)); done
-notice cases.rec $((first + 64)) "an answer"
-notice cases.rec $((first + 8 * 28)) "the digest of the registers"
-notice cases.rec $((first + 8 * 31)) "the digest of RAM"
-# census.rec: the first census, whose answer has the digest in word 10 of its line.
-code() { od -An -tu8 -j "$1" -N 8 crates/replay/data/census.rec | tr -d ' '; }
-first=$((8 * 8))
-while [ "$(code "$first")" != 13 ]; do first=$((first + ($(code "$first") < 60 ? 256 : 64))); done
-notice census.rec $((first + 8 * 10)) "the digest of a census's counts"
+# at FILE CODE: where the first line with this code, or with any below 60 for '-', begins. After a header of 8 words a line has 8, an operation 38.
+code() { od -An -tu8 -j "$2" -N 8 "crates/replay/data/$1" | tr -d ' '; }
+at() {
+    line=$((8 * 8))
+    while :; do
+        c=$(code "$1" "$line")
+        case $2 in "$c") break ;; -) [ "$c" -ge 60 ] || break ;; esac
+        line=$((line + ($c < 60 ? 8 * 38 : 8 * 8)))
+    done
+    echo "$line"
+}
+first=$(at cases.rec -)
+notice cases.rec $((first + 8 * 8)) "an answer"
+notice cases.rec $((first + 8 * 34)) "the digest of the registers"
+notice cases.rec $((first + 8 * 37)) "the digest of RAM"
+first=$(at levels.rec -)
+notice levels.rec $((first + 8 * 12)) "the hits of EL0"
+notice levels.rec $((first + 8 * 15)) "the walks of EL1"
+notice levels.rec $((first + 8 * 19)) "the walks of EL3"
+notice census.rec $(($(at census.rec 13) + 8 * 10)) "the digest of a census's counts"
 notice tlbi.rec $(($(wc -c <crates/replay/data/tlbi.rec) - 16)) "the last digest of hints"
 notice outside-perm.rec $(($(wc -c <crates/replay/data/outside-perm.rec) - 16)) "the last outside answer"
 notice rules.rec 24 "the number of operations"
+notice rules.rec 48 "the words of an operation's line"
 echo "wrong records: all noticed"

@@ -1,5 +1,5 @@
-/* A core in C: tables that map pages to themselves, a load, a store, a fault that the guest takes, a TLBI, and a census
- * of the pages. */
+/* A core in C: tables that map pages to themselves, a load, a store, a fault that the guest takes, a TLBI, a census of the
+ * pages, and what the cache counted at each level. */
 #include "a72.h"
 
 #include <inttypes.h>
@@ -95,8 +95,11 @@ static void census(uint64_t first, uint64_t pages) {
 static void show(uint64_t va) {
     struct a72_counters c = a72_get_counters(core);
     struct a72_entry e = a72_get_entry(core, va >> 12 & (A72_ENTRIES - 1));
-    printf("hits %" PRIu64 ", walks %" PRIu64 ", flushes %" PRIu64, c.hits, c.walks, c.flushes);
-    printf(", drops %" PRIu64 ", last load at 0x%" PRIx64 "\n", c.drops, a72_get_last_pa(core));
+    for (int level = 0; level < 4; level++)
+        printf("EL%d: hits %" PRIu64 ", walks %" PRIu64 "\n", level, c.level_hits[level], c.level_walks[level]);
+    printf("in all: hits %" PRIu64 ", walks %" PRIu64, a72_total_hits(c), a72_total_walks(c));
+    printf(", flushes %" PRIu64 ", drops %" PRIu64, c.flushes, c.drops);
+    printf(", last load at 0x%" PRIx64 "\n", a72_get_last_pa(core));
     printf("page 0x%" PRIx64 ": physical 0x%" PRIx64 ", level %u", e.tag >> 2, e.pa, e.level);
     printf(", permissions 0x%02x, %s\n", e.permissions, a72_is_live(core, e) ? "live" : "dead");
 }
@@ -120,6 +123,9 @@ int main(void) {
     load("load where nothing is", 0x1000, 4);
     store("store to a page to be read", BASE + 0xFF000, 4, 1);
     move(va);
+    a72_level(core, 0);
+    load("load at EL0", va, 4); /* the entry says no: a hit of EL0 */
+    a72_level(core, 1);
     census(BASE - 0x1000, 0x200);
     show(va);
     return 0;

@@ -13,8 +13,9 @@ from vec2trace import access_and_entry, at_lines, due, fields
 
 FILES = ("at", "access", "entry", "departures", "perm")
 NUMBER = {name: i for i, name in enumerate(CLASSES, 1)}
-MAGIC = struct.unpack("<Q", b"A72REC01")[0]
-ANSWER, VALUE, LEVEL, PAR, PC = 5205, 5206, 68, 32, 33
+MAGIC = struct.unpack("<Q", b"A72REC02")[0]
+ANSWER, VALUE, LEVEL, PAR, PC = 0x10000, 0x10001, 68, 32, 33
+OPERATION_WORDS = 38        # of an operation's line that is not short
 PLACES = {"par": PAR, "el": LEVEL, "pc": PC}
 PLACES.update({"%s%d" % (name, level): at + level for name, at in (("ELR", 15), ("SPSR", 18), ("ESR", 21), ("FAR", 24)) for level in (1, 2, 3)})
 EXCEPTION = {"und": 0, "svc": 1, "hvc": 2, "smc": 3, "brk": 4, "data": 5, "insn": 6, "pca": 7}
@@ -162,7 +163,7 @@ class Recorder:
         return lines
 
     def file(self):
-        head = [MAGIC, 8 + len(self.words), self.lines, self.operations, WINDOW_LEN, self.cases, 0, 0]
+        head = [MAGIC, 8 + len(self.words), self.lines, self.operations, WINDOW_LEN, self.cases, OPERATION_WORDS, 0]
         return struct.pack("<%dQ" % (8 + len(self.words)), *head, *self.words)
 
 

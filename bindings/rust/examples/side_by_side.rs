@@ -36,8 +36,11 @@ const TRACE: &str = "
     census 0 10              # how the first sixteen pages are mapped
     census ffffffffffffffff 2 # past 2^64
     reg 0 0                  # no register
+    mark 1
+    ld 1000 8                # judged as EL0's, counted at EL1
+    mark 0
     level 0
-    ld 1000 8
+    ld 1000 8                # counted at EL0
     abort data 1000 0 f
     level 4
 ";
@@ -97,6 +100,7 @@ fn step(core: &mut Core, ram: &mut Ram, op: &Op) -> Option<Ans> {
         Op::Census(first, pages) => census(core, ram, first, pages),
         Op::Reg(key, v) => done(core.write_register(key.into(), v)),
         Op::Level(level) => done(core.set_level(level.into())),
+        Op::Mark(on) => done(core.set_unprivileged(on)),
         Op::SetX(number, v) => done(core.set_general(number.into(), v)),
         Op::Abort(e) => match exception(&e) {
             [5, address, write, status] => done(core.take(&Exception::DataAbort {

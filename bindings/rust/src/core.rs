@@ -7,7 +7,7 @@ use crate::place::{State, WORDS};
 use crate::ram::Ram;
 use crate::raw;
 
-/// One core: its registers, its cache of translations and their counters, in 5,205 words.
+/// One core: its registers, its cache of translations and their counters, in 5,213 words.
 #[derive(Clone, PartialEq, Eq)]
 pub struct Core {
     pub(crate) words: Box<State>,

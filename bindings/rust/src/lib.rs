@@ -47,6 +47,10 @@
 //! assert_eq!((census.total(), census.mapped(), census.faults()), (16, 2, 14));
 //! assert_eq!(census.allowing(Rights::PRIVILEGED_WRITE), 1);
 //!
+//! // The cache's counters, by the level of the access.
+//! let el1 = core.counters().levels[1];
+//! assert_eq!((el1.walks, el1.hits), (2, 2));
+//!
 //! // The guest takes it: the syndrome is in ESR_EL1, the address in FAR_EL1.
 //! core.take(&fault.exception())?;
 //! assert_eq!(core.register(registers::FAR_EL1), Some(0x2000));
@@ -78,4 +82,4 @@ pub use count::MOST_PAGES;
 pub use operation::{Access, Exception, Status, SystemOperation, Width};
 pub use place::WORDS;
 pub use ram::Ram;
-pub use view::{Broadcast, Counters};
+pub use view::{Broadcast, Counters, LevelCounters};

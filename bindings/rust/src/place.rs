@@ -1,8 +1,9 @@
 //! Where each part of a core stands among its words. A place never moves: new words are appended. `include/a72.h` has
-//! the same table, and `tests/places.sh` compares the two with the library's own.
+//! the same table, and `tests/places.sh` compares the two with the library's own. Words 70 and 71, once the counters of
+//! all hits and walks, hold nothing: no operation reads or writes them. The totals are the sums over the levels.
 
 /// How many words a state has.
-pub const WORDS: usize = 5205;
+pub const WORDS: usize = 5213;
 
 /// A core's words.
 pub type State = [u64; WORDS];
@@ -51,10 +52,6 @@ pub const GENERAL: usize = 37;
 pub const LEVEL: usize = 68;
 /// 1 where accesses are marked unprivileged.
 pub const UNPRIVILEGED: usize = 69;
-/// How many translations an entry answered.
-pub const HITS: usize = 70;
-/// How many walks there were.
-pub const WALKS: usize = 71;
 /// How many flushes of the whole cache there were.
 pub const FLUSHES: usize = 72;
 /// How many invalidations of a page there were.
@@ -94,3 +91,7 @@ pub const ENTRY_GENERATION: usize = 1110;
 pub const ENTRY_ATTRIBUTES: usize = 1111;
 /// An entry's physical page address.
 pub const ENTRY_PA: usize = 1112;
+/// How many translations at EL0 an entry answered; those at level L stand at LEVEL_HITS + L.
+pub const LEVEL_HITS: usize = 5205;
+/// How many walks there were at EL0; those at level L stand at LEVEL_WALKS + L.
+pub const LEVEL_WALKS: usize = 5209;

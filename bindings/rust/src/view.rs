@@ -3,19 +3,42 @@ use crate::core::Core;
 use crate::place;
 use crate::registers;
 
-/// The cache's counters.
+/// What the cache counted at one exception level.
+#[derive(Clone, Copy, Debug, Default, PartialEq, Eq)]
+pub struct LevelCounters {
+    /// Translations that an entry of the cache answered, with a permission fault too.
+    pub hits: u64,
+    /// Walks, however they ended.
+    pub walks: u64,
+}
+
+/// The cache's counters. Each wraps at 2^64.
 #[derive(Clone, Copy, Debug, PartialEq, Eq)]
 pub struct Counters {
-    /// Translations that an entry of the cache answered.
-    pub hits: u64,
-    /// Walks.
-    pub walks: u64,
+    /// By the exception level of the access, which the mark [`Core::set_unprivileged`] does not lower.
+    pub levels: [LevelCounters; 4],
     /// Flushes of the whole cache.
     pub flushes: u64,
     /// Invalidations of a page.
     pub drops: u64,
     /// Moves whenever a translation that was looked up may no longer hold.
     pub epoch: u64,
+}
+
+impl Counters {
+    /// The hits of all levels: their sum, wrapped at 2^64.
+    pub fn hits(&self) -> u64 {
+        self.sum(|level| level.hits)
+    }
+
+    /// The walks of all levels: their sum, wrapped at 2^64.
+    pub fn walks(&self) -> u64 {
+        self.sum(|level| level.walks)
+    }
+
+    fn sum(&self, of: fn(&LevelCounters) -> u64) -> u64 {
+        self.levels.iter().map(of).fold(0, u64::wrapping_add)
+    }
 }
 
 /// What a TLBI of the Inner Shareable forms asks of the other cores.
@@ -66,8 +89,10 @@ impl Core {
     /// The cache's counters.
     pub fn counters(&self) -> Counters {
         Counters {
-            hits: self.words[place::HITS],
-            walks: self.words[place::WALKS],
+            levels: std::array::from_fn(|level| LevelCounters {
+                hits: self.words[place::LEVEL_HITS + level],
+                walks: self.words[place::LEVEL_WALKS + level],
+            }),
             flushes: self.words[place::FLUSHES],
             drops: self.words[place::DROPS],
             epoch: self.words[place::EPOCH],

@@ -24,7 +24,7 @@ fn fresh() {
     assert_eq!(core.register(registers::SCTLR_EL1), Some(0x30D0_0800));
     assert_eq!(core.register(registers::VPIDR_EL2), Some(0x410F_D083));
     assert_eq!(core.register(registers::key(3, 0, 0, 0, 0)), None);
-    assert_eq!(core.counters().walks, 0);
+    assert_eq!((core.counters().walks(), core.counters().hits()), (0, 0));
     assert_eq!(core.take_broadcast(), None);
     assert!((0..32).all(|n| core.general(n) == 0));
 }
@@ -45,11 +45,11 @@ fn translations_and_their_counters() {
     let ram = Ram::new(BASE, &mut bytes);
     let mut core = core();
     assert_eq!(core.translate(&ram, 0x1234, Access::Read), Ok(BASE + 0x8234));
-    assert_eq!((core.counters().walks, core.counters().hits), (1, 0));
+    assert_eq!((core.counters().walks(), core.counters().hits()), (1, 0));
     // By the hint, then by the entry.
     assert_eq!(core.translate(&ram, 0x1FFF, Access::Read), Ok(BASE + 0x8FFF));
     assert_eq!(core.translate(&ram, 0x1000, Access::Write), Ok(BASE + 0x8000));
-    assert_eq!((core.counters().walks, core.counters().hits), (1, 1));
+    assert_eq!((core.counters().walks(), core.counters().hits()), (1, 1));
     assert_eq!(core.fetch_pa(&ram, 0x1008), Ok(Some(BASE + 0x8008)));
     assert_eq!(core.data_pa(&ram, 0x3000), Ok(None));
 }

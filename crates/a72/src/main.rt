@@ -1,5 +1,7 @@
-// The tool: traces on the proved core, one translation step by step, a census of pages, and the chord.
+// The tool: traces on the proved core, its cache's counters by level, one translation step by step, a census of pages,
+// and the chord.
 mod arguments;
+mod counters;
 mod pages;
 mod translation;
 
@@ -9,6 +11,7 @@ use trace_text::form;
 
 fn help(fd: i32) {
     io::write_all(fd, b"usage: a72 run TRACE\n");
+    io::write_all(fd, b"       a72 counters TRACE\n");
     io::write_all(
         fd,
         b"       a72 walk TRACE ADDRESS [read|write|fetch] [LEVEL]\n",
@@ -22,19 +25,23 @@ fn help(fd: i32) {
 fn details() {
     io::write_all(
         1,
-        b"\nrun    carries out a trace on the proved core and prints a line for each operation: its line number,\n       the operation, the answer, counters, registers kept and digests, as the Rust's run does.\n",
+        b"\nrun      carries out a trace on the proved core and prints a line for each operation: its line number,\n         the operation, the answer, counters, registers kept and digests, as the Rust's run does.\n",
     );
     io::write_all(
         1,
-        b"walk   carries out a trace, then shows one translation of ADDRESS (hexadecimal) step by step: registers,\n       range, each descriptor, the end, and what the core answers. A read at the core's level, or as named.\n",
+        b"counters carries out a trace, then shows what the cache counted at each exception level: translations that an\n         entry answered, walks, the share of walks with a bar, the sums, and which level walks most.\n",
     );
     io::write_all(
         1,
-        b"census carries out a trace, then shows how the PAGES pages of 4 KiB from FIRST (both hexadecimal) end in a\n       fresh walk at the core's level, or as named: a table, and a map; --svg: the map as a picture.\n",
+        b"walk     carries out a trace, then shows one translation of ADDRESS (hexadecimal) step by step: registers,\n         range, each descriptor, the end, and what the core answers. A read at the core's level, or as named.\n",
     );
     io::write_all(
         1,
-        b"chord  sixteen voices, a page each, and every order of a small chord: no tone is lost; against a stale\n       cache, which loses one.\n\n",
+        b"census   carries out a trace, then shows how the PAGES pages of 4 KiB from FIRST (both hexadecimal) end in a\n         fresh walk at the core's level, or as named: a table, and a map; --svg: the map as a picture.\n",
+    );
+    io::write_all(
+        1,
+        b"chord    sixteen voices, a page each, and every order of a small chord: no tone is lost; against a stale\n         cache, which loses one.\n\n",
     );
     io::write_all(
         1,
@@ -61,6 +68,20 @@ fn run_command() {
         return;
     }
     run::run(&path[..n]);
+}
+
+fn counters_command() {
+    if os::arg_count() != 3 {
+        wrong(b"counters wants one TRACE");
+        return;
+    }
+    let mut path = io::buffer();
+    let n = os::arg(2, &mut path);
+    if os::errno() != 0 {
+        report::system(b"TRACE");
+        return;
+    }
+    counters::show(&path[..n]);
 }
 
 fn walk_command() {
@@ -107,6 +128,10 @@ fn chord_command() {
 fn command(word: u64) {
     if word == form::letters(b"run") {
         run_command();
+        return;
+    }
+    if word == form::letters(b"counters") {
+        counters_command();
         return;
     }
     if word == form::letters(b"walk") {

@@ -3,8 +3,8 @@
 use crate::lines;
 use crate::lines::Replay;
 use crate::parts;
-use crate::say;
-use crate::tally;
+use record_report::say;
+use record_report::tally;
 use word::bits;
 use words::place::State;
 
@@ -31,7 +31,7 @@ fn begun(class: u64) -> Case {
 }
 
 // In a record the places from here on are the words of the last answer.
-const ANSWER: u64 = 5205;
+const ANSWER: u64 = 0x1_0000;
 
 // A word of the state or of the last answer.
 fn found(m: Replay, state: &State, place: u64) -> u64 {

@@ -1,56 +1,67 @@
-// The 24 words after an operation, held against what the core answered and holds.
+// The words after an operation, held against what the core answered and holds.
 use crate::lines;
 use crate::lines::Replay;
 use crate::parts;
-use crate::say;
-use crate::tally;
+use crate::rows;
+use crate::rows::Words;
+use record_report::say;
+use record_report::tally;
 use trace_core::line;
 use words::place;
 use words::place::State;
 
-// Counters, what is pending, the addresses kept, level and mark, generation and ASID, PAR_EL1.
-fn plain_words(m: Replay, state: &State) -> [u64; 18] {
-    let a = m.ans;
-    [
-        a[0],
-        a[1],
-        a[2],
-        a[3],
-        state[place::HITS],
-        state[place::WALKS],
-        state[place::FLUSHES],
-        state[place::DROPS],
-        state[place::EPOCH],
-        state[place::PENDING],
-        state[place::PENDING_VALUE],
-        state[place::LAST_PA],
-        state[place::ABORT_PA],
-        state[place::LEVEL],
-        state[place::UNPRIVILEGED],
-        state[place::GENERATION],
-        state[place::ASID],
-        state[place::PAR_EL1],
-    ]
+// The words of the state, by the table.
+fn put_state(state: &State, is: &mut Words) {
+    let mut i: usize = 0;
+    while i < rows::STATE {
+        is[rows::ANSWER + i] = parts::get(state, rows::place_of(i) as u64);
+        i += 1;
+    }
 }
 
 // The numbers of entries and hints, and the digests of registers, entries, hints and RAM.
-fn digest_words(sum: u64, state: &State) -> [u64; 6] {
+fn put_digests(sum: u64, state: &State, is: &mut Words) {
     let e = digest::parts::entries(state);
     let h = digest::parts::hints(state);
     let r = digest::parts::registers(state);
-    [e.count, h.count, r, e.digest, h.digest, sum]
+    let at = rows::ANSWER + rows::STATE;
+    is[at] = e.count;
+    is[at + 1] = h.count;
+    is[at + 2] = r;
+    is[at + 3] = e.digest;
+    is[at + 4] = h.digest;
+    is[at + 5] = sum;
 }
 
-fn show(m: Replay, place: u64, is: u64, want: u64) -> Replay {
-    say::differs(m.lines, place, is, want);
+// As the core has them.
+fn words_after(m: Replay, state: &State) -> Words {
+    let a = m.ans;
+    let mut is = [0u64; rows::AFTER];
+    is[0] = a[0];
+    is[1] = a[1];
+    is[2] = a[2];
+    is[3] = a[3];
+    put_state(state, &mut is);
+    put_digests(m.sum, state, &mut is);
+    is
+}
+
+// A word that differs, by its place in the line and its name.
+fn show(m: Replay, i: u64, is: u64, want: u64) -> Replay {
+    say::at_line(m.lines);
+    say::place(8 + i % 64);
+    say::text(b" (");
+    rows::name(i);
+    say::text(b")");
+    say::values(is, want);
     lines::wrong(m)
 }
 
-// The first of some words that is not as recorded from a place on, or their number.
-fn first_wrong(is: &[u64], want: &[u8], from: u64) -> usize {
+// The first of some words that is not as recorded, or their number.
+fn first_wrong(is: &[u64], want: &[u8]) -> usize {
     let mut i: usize = 0;
     while i < is.len() {
-        if is[i] != parts::word_of(want, from % 64 + i as u64 % 64) {
+        if is[i] != parts::word_of(want, i as u64 % 64) {
             break;
         }
         i += 1;
@@ -59,20 +70,10 @@ fn first_wrong(is: &[u64], want: &[u8], from: u64) -> usize {
 }
 
 fn judge(m: Replay, state: &State, want: &[u8]) -> Replay {
-    let plain = plain_words(m, state);
-    let i = first_wrong(&plain, want, 0);
-    if i < 18 {
-        return show(m, 8 + i as u64, plain[i], parts::word_of(want, i as u64));
-    }
-    let digests = digest_words(m.sum, state);
-    let j = first_wrong(&digests, want, 18);
-    if j < 6 {
-        show(
-            m,
-            26 + j as u64,
-            digests[j],
-            parts::word_of(want, 18 + j as u64),
-        )
+    let is = words_after(m, state);
+    let i = first_wrong(&is, want);
+    if i < rows::AFTER {
+        show(m, i as u64, is[i], parts::word_of(want, i as u64))
     } else {
         m
     }
@@ -98,9 +99,9 @@ pub fn tail(
     ram: &[u8],
     counts: &mut [u64; 2048],
 ) -> Replay {
-    let mut want = [0u8; 192];
+    let mut want = [0u8; rows::BYTES];
     let n = io::read_full(fd, &mut want);
-    if n < 192 {
+    if n < rows::BYTES {
         return lines::broken(m, b"the last line is not whole");
     }
     let ans = m.ans;

@@ -3,8 +3,9 @@ use crate::cases;
 use crate::cases::Case;
 use crate::judge;
 use crate::parts;
-use crate::say;
-use crate::short;
+use crate::rows;
+use record_report::say;
+use record_report::short;
 use trace_core::line;
 use trace_core::line::Machine;
 use trace_core::memory;
@@ -86,7 +87,7 @@ fn counted(m: Replay, op: &[u64; 8], ans: &[u64; 4]) -> Replay {
     out
 }
 
-// An operation: where the line is a whole one, the 24 words after it are held against the core.
+// An operation: where the line is a whole one, the words after it are held against the core.
 fn operate(
     m: Replay,
     fd: i32,
@@ -234,8 +235,7 @@ fn lines(fd: i32, state: &mut State, ram: &mut [u8], counts: &mut [u64; 2048]) -
 // The header's numbers of lines, operations and cases are those that were there, and there was an operation.
 fn as_headed(m: Replay, head: &[u8]) -> Replay {
     let told = parts::word_of(head, 3);
-    let right = (parts::word_of(head, 0) == 0x3130_4345_5232_3741)
-        & (parts::word_of(head, 2) == m.lines)
+    let right = (parts::word_of(head, 2) == m.lines)
         & (told == m.done)
         & (parts::word_of(head, 5) == m.cases);
     let mut out = m;
@@ -251,10 +251,22 @@ fn as_headed(m: Replay, head: &[u8]) -> Replay {
     }
 }
 
+// The bytes `A72REC02`, and as many words to an operation as are read here.
+fn is_record(head: &[u8]) -> bool {
+    (parts::word_of(head, 0) == 0x3230_4345_5232_3741) & (parts::word_of(head, 6) == rows::LINE)
+}
+
 // A whole record.
 pub fn record(fd: i32, state: &mut State, ram: &mut [u8], counts: &mut [u64; 2048]) -> Replay {
     let mut head = [0u8; 64];
     let n = io::read_full(fd, &mut head);
+    let known = is_record(&head[..n]);
+    if !known {
+        return broken(
+            start(state),
+            b"no record of the form A72REC02 with 38 words to an operation",
+        );
+    }
     let m = lines(fd, state, ram, counts);
     as_headed(m, &head[..n])
 }

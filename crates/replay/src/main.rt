@@ -4,14 +4,12 @@ mod cases;
 mod judge;
 mod lines;
 mod parts;
-mod report;
-mod say;
-mod short;
-mod tables;
-mod tally;
+mod rows;
 
 use lines::Replay;
-use report::Total;
+use record_report::report;
+use record_report::report::Total;
+use record_report::say;
 use word::bits;
 use words::place::State;
 use words::place::WORDS;
@@ -59,7 +57,7 @@ fn named(
     }
     let m = lines::record(fd, state, ram, counts);
     libc::close(fd);
-    report::file(m);
+    report::file(m.done, m.left, m.cases, m.wrong);
     with_record(t, m)
 }
 

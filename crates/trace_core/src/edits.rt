@@ -40,9 +40,19 @@ fn move_generation(words: &mut State, to: u32, later: bool) {
     counts::put_generation(words, to);
 }
 
+// The hits and walks of a level.
+fn put_pair(words: &mut State, level: usize, hits: u64, walks: u64) {
+    let l = level % 4;
+    put(words, place::LEVEL_HITS + l, hits);
+    put(words, place::LEVEL_WALKS + l, walks);
+}
+
+// EL0's, and those that are not kept by level; EL1 to EL3 counted nothing, so that the sums are the value too.
 fn put_counters(words: &mut State, value: u64) {
-    put(words, place::HITS, value);
-    put(words, place::WALKS, value);
+    put_pair(words, 0, value, value);
+    put_pair(words, 1, 0, 0);
+    put_pair(words, 2, 0, 0);
+    put_pair(words, 3, 0, 0);
     put(words, place::FLUSHES, value);
     put(words, place::DROPS, value);
     put(words, place::EPOCH, value);
@@ -76,14 +86,14 @@ fn fit_broadcast(words: &mut State) {
     put(words, place::PENDING_VALUE, value);
 }
 
-// A word before the fetch hint.
+// A word before the fetch hint, or a counter of a level.
 fn put_word(words: &mut State, i: usize, v: u64) {
     let value = fitting(i, v);
     if i == place::GENERATION {
         move_generation(words, (value % 0x1_0000_0000) as u32, true);
         return;
     }
-    if i < place::FETCH {
+    if i < place::FETCH || place::LEVEL_HITS <= i {
         put(words, i, value);
         fit_broadcast(words);
     }

@@ -1,16 +1,12 @@
 // A line of output for an operation: its number in the trace, the operation, the answer, and the core after it.
+use counters_report::line as levels;
 use digest::parts;
+use trace_core::counters;
 use trace_text::out;
 use trace_text::say;
 use trace_text::write;
 use words::place;
 use words::place::State;
-
-// A name and a number.
-fn field(line: &mut [u8; 1024], n: usize, name: &[u8], value: u64) -> usize {
-    let k = out::text(line, n, name);
-    out::hex(line, k, value, 1)
-}
 
 fn small(line: &mut [u8; 1024], n: usize, name: &[u8], value: u64) -> usize {
     let k = out::text(line, n, name);
@@ -22,25 +18,25 @@ fn digest(line: &mut [u8; 1024], n: usize, name: &[u8], value: u64) -> usize {
     out::hex(line, k, value, 16)
 }
 
-fn counters(line: &mut [u8; 1024], n: usize, state: &State) -> usize {
-    let a = field(line, n, b" | h=", state[place::HITS]);
-    let b = field(line, a, b" w=", state[place::WALKS]);
-    let c = field(line, b, b" fl=", state[place::FLUSHES]);
-    let d = field(line, c, b" dr=", state[place::DROPS]);
-    let e = field(line, d, b" ep=", state[place::EPOCH]);
+fn counts(line: &mut [u8; 1024], n: usize, state: &State) -> usize {
+    let by_level = counters::by_level(state);
+    let b = levels::show(line, n, &by_level);
+    let c = out::field(line, b, b" fl=", state[place::FLUSHES]);
+    let d = out::field(line, c, b" dr=", state[place::DROPS]);
+    let e = out::field(line, d, b" ep=", state[place::EPOCH]);
     let f = small(line, e, b" bc=", state[place::PENDING]);
-    field(line, f, b":", state[place::PENDING_VALUE])
+    out::field(line, f, b":", state[place::PENDING_VALUE])
 }
 
 fn place(line: &mut [u8; 1024], n: usize, state: &State) -> usize {
-    let a = field(line, n, b" lp=", state[place::LAST_PA]);
-    let b = field(line, a, b" ap=", state[place::ABORT_PA]);
+    let a = out::field(line, n, b" lp=", state[place::LAST_PA]);
+    let b = out::field(line, a, b" ap=", state[place::ABORT_PA]);
     let c = small(line, b, b" el=", state[place::LEVEL]);
     let d = small(line, c, b" um=", state[place::UNPRIVILEGED]);
-    let e = field(line, d, b" as=", state[place::ASID]);
-    let f = field(line, e, b" gen=", state[place::GENERATION]);
-    let g = field(line, f, b" par=", state[place::PAR_EL1]);
-    field(line, g, b" pc=", state[place::PC])
+    let e = out::field(line, d, b" as=", state[place::ASID]);
+    let f = out::field(line, e, b" gen=", state[place::GENERATION]);
+    let g = out::field(line, f, b" par=", state[place::PAR_EL1]);
+    out::field(line, g, b" pc=", state[place::PC])
 }
 
 fn digests(line: &mut [u8; 1024], n: usize, state: &State, ram: u64) -> usize {
@@ -62,7 +58,7 @@ pub fn operation(number: u64, op: &[u64; 8], ans: &[u64; 4], state: &State, ram:
     let c = write::operation(&mut line, b, op);
     let d = out::text(&mut line, c, b" => ");
     let e = write::answer(&mut line, d, ans);
-    let f = counters(&mut line, e, state);
+    let f = counts(&mut line, e, state);
     let g = place(&mut line, f, state);
     let h = digests(&mut line, g, state, ram);
     let n = out::byte(&mut line, h, b'\n');

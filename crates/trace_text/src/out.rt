@@ -30,3 +30,9 @@ pub fn decimal(out: &mut [u8; 1024], n: usize, value: u64) -> usize {
     let k = io::decimal(value, &mut digits);
     text(out, n, &digits[..k])
 }
+
+// A name, and a number in hexadecimal.
+pub fn field(out: &mut [u8; 1024], n: usize, name: &[u8], value: u64) -> usize {
+    let k = text(out, n, name);
+    hex(out, k, value, 1)
+}

@@ -5,6 +5,7 @@ use crate::levels;
 use crate::registers;
 use tlb::access::Kind;
 use tlb::access::Privilege;
+use tlb::count::Tally;
 use trace_text::say;
 use walk::regime;
 use walk::regime::Bank;
@@ -92,6 +93,16 @@ fn now(words: &State, base: u64, ram: &[u8], kind: Kind, va: u64) -> Told {
     }
 }
 
+// The counters of the core's own level. A core whose level is above 3 counts nothing.
+fn counters(words: &State) -> Tally {
+    let privilege = state::privilege_at(words);
+    let l = (privilege.level % 4) as usize;
+    Tally {
+        hits: words[place::LEVEL_HITS + l],
+        walks: words[place::LEVEL_WALKS + l],
+    }
+}
+
 // Where the core's answer came from: the counters tell a walk and an entry.
 fn source(on: bool, walks: bool, hits: bool) {
     if !on {
@@ -130,11 +141,11 @@ pub fn explain(words: &mut State, base: u64, ram: &mut [u8], kind: Kind, va: u64
     answer::show(by_walk);
     say::text(b"\n");
     let on = is_on(words);
-    let walks = words[place::WALKS];
-    let hits = words[place::HITS];
+    let before = counters(words);
     let by_core = answer::of_core(words, base, ram, kind, va);
     say::text(b"the core   ");
     answer::show(by_core);
-    source(on, words[place::WALKS] != walks, words[place::HITS] != hits);
+    let after = counters(words);
+    source(on, after.walks != before.walks, after.hits != before.hits);
     verdict(by_walk, by_core);
 }

@@ -116,11 +116,14 @@ impl Pair {
         }
     }
 
-    /// `n` calls; a sum over their answers.
+    /// `n` calls; a sum over their answers. Those that count stay at one level.
     pub fn run(&mut self, side: Side, n: usize) -> u64 {
+        let (work, args, ram) = (self.work, self.args, &mut self.rust_ram);
         match side {
-            Side::Rust => rust::run(self.work, self.args, &mut self.rust.cpu, &mut self.rust_ram, n),
-            Side::Checked => checked::run(self.work, self.args, &mut self.rust.cpu, &mut self.rust_ram, n),
+            Side::Rust => self.rust.counting(|c| rust::run(work, args, &mut c.cpu, ram, n)),
+            Side::Checked => self
+                .rust
+                .counting(|c| checked::run(work, args, &mut c.cpu, ram, n)),
             #[cfg(feature = "lent")]
             Side::Ours if matches!(self.work, Work::Lent(_)) => {
                 lent::run(self.work, self.args, &self.words, &self.ram, n)

@@ -28,6 +28,12 @@ fn exception(e: &Exception) -> &'static str {
     }
 }
 
+/// All counters, those of each level first.
+fn counters(s: &State) -> Vec<u64> {
+    let levels = s.levels.iter().flat_map(|l| [l.hits, l.walks]);
+    levels.chain([s.flushes, s.drops, s.epoch]).collect()
+}
+
 impl Event<'_> {
     /// What this operation shows: a subject and a case of it.
     pub fn names(&self) -> Vec<(String, String)> {
@@ -38,6 +44,7 @@ impl Event<'_> {
         if let Some((va, size)) = self.reach() {
             names.extend(self.by_address(va, size));
         }
+        names.extend(self.by_level());
         names.extend(
             self.by_state()
                 .into_iter()
@@ -59,6 +66,28 @@ impl Event<'_> {
             )],
             _ => Vec::new(),
         }
+    }
+
+    /// At which level hits and walks were counted.
+    fn by_level(&self) -> Vec<(String, String)> {
+        let (s, t) = (self.before, self.after.state());
+        if !self.op.is_step() {
+            return Vec::new();
+        }
+        let marked = if s.mark && s.level == 1 {
+            " while unprivileged"
+        } else {
+            ""
+        };
+        let mut names = Vec::new();
+        for (level, (was, is)) in s.levels.iter().zip(t.levels).enumerate() {
+            for (what, moved) in [("hits", is.hits != was.hits), ("walks", is.walks != was.walks)] {
+                if moved {
+                    names.push((format!("counted at EL{level}"), format!("{what}{marked}")));
+                }
+            }
+        }
+        names
     }
 
     /// How the pages of a census end.
@@ -150,6 +179,7 @@ impl Event<'_> {
                 ("wrap", "of the generation"),
             ),
             (self.wraps(&t), ("wrap", "of a counter")),
+            (self.sum_wraps(&t), ("wrap", "of a sum over the levels")),
             (
                 s.mark && s.level == 1 && self.reach().is_some(),
                 ("access", "while unprivileged"),
@@ -167,8 +197,12 @@ impl Event<'_> {
     }
 
     fn wraps(&self, t: &State) -> bool {
-        let counters = |s: &State| [s.hits, s.walks, s.flushes, s.drops, s.epoch];
         let mut pairs = counters(self.before).into_iter().zip(counters(t));
         self.op.is_step() && pairs.any(|(was, is)| is < was)
+    }
+
+    fn sum_wraps(&self, t: &State) -> bool {
+        let s = self.before;
+        self.op.is_step() && (t.hits() < s.hits() || t.walks() < s.walks())
     }
 }

@@ -75,7 +75,7 @@ impl Trial<'_> {
         way: Way,
         va: u64,
     ) -> Result<Result<u64, u8>, String> {
-        let walks = core.state().walks;
+        let walks = core.state().walks();
         let got = translate(core, ram, way, va)?;
         let r = &self.bare.regs;
         let kind = way.kind();
@@ -90,7 +90,7 @@ impl Trial<'_> {
         let page = r.untag(regime, va) >> 12;
         let now = r.walk(ram, regime, page << 12 | va & 0xFFF);
         let excused = self.past.excuses(regime, page, r.asid(), &now);
-        let walked = core.state().walks != walks;
+        let walked = core.state().walks() != walks;
         let count = if walked {
             &mut self.seen.walked
         } else {

@@ -41,7 +41,7 @@
 //! | 28 | `l-syn` syndrome | from, to, PC, E |
 //! | 40 to 42 | `p-level`, `p-pc`, `p-spsel`: set it | value |
 //! | 43 | `p-gen`: this is the generation; live entries stay live, all others are cleared | generation |
-//! | 44 | `p-cnt`: hits, walks, flushes, drops, epoch become this | value |
+//! | 44 | `p-cnt`: hits and walks of EL0, flushes, drops, epoch become this, hits and walks of EL1 to EL3 0 | value |
 //! | 45 | `p-bc`: the pending broadcast is taken (none) | |
 //!
 //! Codes 1 to 13 are the list, document 01's and what document 02 adds to it, and only they reach `a72_step`. 20 to 28
@@ -77,7 +77,8 @@
 //!
 //! # A state
 //!
-//! [`crate::place`] has its words, and `include/a72.h` the slots, tags and keys of entries and hints.
+//! [`crate::place`] has its words, and `include/a72.h` the slots, tags and keys of entries and hints. Words 70 and 71 hold
+//! nothing: a fresh state has 0 there, a wild one anything, and an operation that moves one of them is a difference.
 //!
 //! An entry is live where its tag is not 0 and its generation is the present one. One of a later generation, which only
 //! a wild core has, is compared too: it would be live once that generation comes. What stands in other entries and
@@ -96,8 +97,9 @@ use crate::number;
 use crate::op::{Ans, Line, Op};
 use crate::place::{self, WORDS};
 use crate::rust::RustCore;
+use crate::wild::Part;
 use crate::{Core, Ram, State};
-pub use state::{state_of, words_of, ENTRY_WORDS, HINT_WORDS};
+pub use state::{levels_of, state_of, words_of, ENTRY_WORDS, HINT_WORDS, LEVEL_WORDS, RETIRED};
 pub use words::{decode, decode_answer, encode, encode_answer, exception};
 
 #[cfg(feature = "rattle")]
@@ -121,6 +123,10 @@ pub fn fresh() -> Words {
     let mut words: Words = vec![UNWRITTEN; WORDS].try_into().expect("as many words");
     // Sound: the pointer is that of an array of this length, which nobody else uses.
     unsafe { a72_fresh(&mut *words) };
+    assert_eq!(
+        words[RETIRED], [0; 2],
+        "of a fresh state's words that hold nothing"
+    );
     words
 }
 
@@ -200,6 +206,10 @@ impl CCore {
         }
     }
 
+    fn retired(&self) -> [u64; 2] {
+        [self.words[RETIRED.start], self.words[RETIRED.start + 1]]
+    }
+
     /// An operation that moves no word of the state, dead records included.
     fn inspect(&mut self, op: &Op, ram: &mut Ram) -> Ans {
         let before = self.words.clone();
@@ -228,10 +238,16 @@ impl Core for CCore {
     }
 
     fn step(&mut self, op: &Op, ram: &mut Ram) -> Ans {
-        match op {
+        let retired = self.retired();
+        let answer = match op {
             Op::Census(..) => self.inspect(op, ram),
             _ if op.is_poke() => poke::poke(&mut self.words, op),
             _ => (self.step)(&mut self.words, op, ram),
+        };
+        if self.retired() == retired {
+            answer
+        } else {
+            Ans::Panic
         }
     }
 
@@ -251,6 +267,20 @@ impl Core for CCore {
         self.words = boxed(state);
     }
 
+    /// What is put into the words that hold nothing stays there.
+    fn put(&mut self, part: &Part) {
+        let retired = self.retired();
+        let mut state = self.state();
+        state.put(part);
+        self.load(&state);
+        self.words[RETIRED].copy_from_slice(&retired);
+        if let Part::Word(at, v) = *part {
+            if RETIRED.contains(&at.into()) {
+                self.words[usize::from(at)] = v;
+            }
+        }
+    }
+
     fn copy(&self) -> Box<dyn Core> {
         Box::new(self.clone())
     }
@@ -259,6 +289,21 @@ impl Core for CCore {
 #[cfg(test)]
 mod tests {
     use super::*;
+
+    /// A core that writes a word which holds nothing.
+    #[test]
+    fn retired_words_stay() {
+        fn moves(words: &mut Words, _: &Op, _: &mut Ram) -> Ans {
+            words[RETIRED.start + 1] += 1;
+            Ans::Ok
+        }
+        let (mut ram, op) = (Ram::default(), Op::Level(1));
+        let mut core = CCore::new();
+        core.put(&Part::Word(70, 7));
+        assert_eq!((core.step(&op, &mut ram), core.retired()), (Ans::Ok, [7, 0]));
+        core.step = moves;
+        assert_eq!(core.step(&op, &mut ram), Ans::Panic);
+    }
 
     #[test]
     fn words_that_name_nothing() {

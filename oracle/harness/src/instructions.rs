@@ -24,7 +24,8 @@ fn execute(core: &RustCore, ram: &Ram, op: &Op) -> Option<(Ans, State, Ram)> {
     if let Op::Reg(_, v) = *op {
         c.cpu.x[7] = v;
     }
-    let answer = match c.cpu.step_fetched(encoding(op)?, &mut m) {
+    let word = encoding(op)?;
+    let answer = match c.counting(|c| c.cpu.step_fetched(word, &mut m)) {
         Step::Retired => Ans::Ok,
         Step::Exception(Exception::Undefined) => Ans::Undefined,
         Step::Exception(Exception::DataAbort { addr, write, fsc }) => Ans::Data(addr, write, fsc),

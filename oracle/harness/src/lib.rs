@@ -66,6 +66,12 @@ pub trait Core {
     }
     /// Hold this from now on.
     fn load(&mut self, state: &State);
+    /// Hold this part from now on, and all else as before.
+    fn put(&mut self, part: &wild::Part) {
+        let mut state = self.state();
+        state.put(part);
+        self.load(&state);
+    }
     fn copy(&self) -> Box<dyn Core>;
 }
 
@@ -79,11 +85,7 @@ pub fn feed(line: &Line, core: &mut dyn Core, ram: &mut Ram) -> Option<Ans> {
         }
         Line::Zero => ram.bytes.fill(0),
         Line::Poke(addr, v) => ram.poke(*addr, *v),
-        Line::Put(part) => {
-            let mut state = core.state();
-            state.put(part);
-            core.load(&state);
-        }
+        Line::Put(part) => core.put(part),
         Line::Op(op) if core.has(op) => return Some(core.step(op, ram)),
         Line::Op(_) => {}
     }

@@ -40,7 +40,7 @@ pub enum Op {
     PokePc(u64),
     PokeSpsel(bool),
     PokeGeneration(u32),
-    /// hits, walks, flushes, drops, epoch: each set to this.
+    /// EL0's hits and walks, flushes, drops, epoch: each set to this; the hits and walks of EL1 to EL3 to 0.
     PokeCounters(u64),
     /// Another core took the pending broadcast.
     TakeBroadcast,

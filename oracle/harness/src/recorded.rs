@@ -19,8 +19,13 @@ use crate::tally::Tally;
 use crate::{feed, Core, Ram, State};
 use std::collections::BTreeMap;
 
-/// The first word of a file: the bytes "A72REC01".
-pub const MAGIC: u64 = u64::from_le_bytes(*b"A72REC01");
+/// The first word of a file: the bytes "A72REC02".
+pub const MAGIC: u64 = u64::from_le_bytes(*b"A72REC02");
+
+/// The words of an operation's line: eight of the operation, four of the answer, the rest about the state after it.
+const LINE: usize = 38;
+const AFTER: usize = LINE - 8;
+const STATE: usize = AFTER - 4;
 
 /// What recorded traces show.
 #[derive(Default)]
@@ -30,11 +35,18 @@ pub struct Shown {
     pub names: BTreeMap<String, BTreeMap<String, u64>>,
 }
 
-/// The twenty words about the state after an operation.
-fn summary(s: &State, ram: u64) -> [u64; 20] {
+/// The words about the state after an operation.
+fn summary(s: &State, ram: u64) -> [u64; STATE] {
+    let [l0, l1, l2, l3] = s.levels;
     [
-        s.hits,
-        s.walks,
+        l0.hits,
+        l0.walks,
+        l1.hits,
+        l1.walks,
+        l2.hits,
+        l2.walks,
+        l3.hits,
+        l3.walks,
         s.flushes,
         s.drops,
         s.epoch,
@@ -85,7 +97,7 @@ impl Recorder<'_> {
         self.shown.tally.note(&Step {
             op,
             answer,
-            before: (before.hits, before.walks),
+            before: (before.hits(), before.walks()),
             rust,
             left_out: false,
         });
@@ -121,7 +133,8 @@ pub fn record(lines: &[Line], shown: &mut Shown) -> Vec<u8> {
     };
     lines.iter().for_each(|l| r.line(l));
     let all = 8 + r.words.len() as u64;
-    let header = [MAGIC, all, lines.len() as u64, r.operations, r.longest, 0, 0, 0];
+    let (lines, line) = (lines.len() as u64, LINE as u64);
+    let header = [MAGIC, all, lines, r.operations, r.longest, 0, line, 0];
     header
         .into_iter()
         .chain(r.words)

@@ -35,6 +35,19 @@ pub struct Entry {
     pub pa: u64,
 }
 
+/// What the cache counted at one exception level.
+#[derive(Clone, Copy, Debug, Default, PartialEq, Eq)]
+pub struct LevelCounters {
+    pub hits: u64,
+    pub walks: u64,
+}
+
+/// The sums over the levels, hits and walks, wrapped at 2^64: what pimu's two counters are matched with.
+pub fn totals(levels: &[LevelCounters; 4]) -> (u64, u64) {
+    let sum = |of: fn(&LevelCounters) -> u64| levels.iter().map(of).fold(0, u64::wrapping_add);
+    (sum(|l| l.hits), sum(|l| l.walks))
+}
+
 /// The registers in the order of a state's words.
 pub const REGS: [&str; 34] = [
     "SCTLR1", "SCTLR2", "SCTLR3", "TCR1", "TCR2", "TCR3", "TTBR0_1", "TTBR0_2", "TTBR0_3", "TTBR1", "MAIR1",
@@ -54,8 +67,8 @@ pub struct State {
     pub x: [u64; 31],
     pub level: u32,
     pub mark: bool,
-    pub hits: u64,
-    pub walks: u64,
+    /// By exception level.
+    pub levels: [LevelCounters; 4],
     pub flushes: u64,
     pub drops: u64,
     pub epoch: u64,
@@ -97,12 +110,27 @@ impl State {
         self.hints.len() + self.fetch.is_some() as usize
     }
 
-    /// What document 01 compares, as names and values.
-    fn named(&self) -> [(&'static str, String); 14] {
+    /// The hits of all levels, wrapped at 2^64.
+    pub fn hits(&self) -> u64 {
+        totals(&self.levels).0
+    }
+
+    /// The walks of all levels, wrapped at 2^64.
+    pub fn walks(&self) -> u64 {
+        totals(&self.levels).1
+    }
+
+    /// What the documents compare, as names and values.
+    fn named(&self) -> [(&'static str, String); 18] {
         let x = |v: u64| format!("{v:x}");
+        let pair = |l: usize| format!("{:x}:{:x}", self.levels[l].hits, self.levels[l].walks);
         [
-            ("h", x(self.hits)),
-            ("w", x(self.walks)),
+            ("h", x(self.hits())),
+            ("w", x(self.walks())),
+            ("l0", pair(0)),
+            ("l1", pair(1)),
+            ("l2", pair(2)),
+            ("l3", pair(3)),
             ("fl", x(self.flushes)),
             ("dr", x(self.drops)),
             ("ep", x(self.epoch)),
@@ -135,7 +163,7 @@ impl State {
         named.or_else(|| Some(format!("{:x}", self.regs[REGS.iter().position(|r| *r == name)?])))
     }
 
-    /// The state in one line: what document 01 compares, then digests of the rest. `ram`: its digest.
+    /// The state in one line: what the documents compare, then digests of the rest. `ram`: its digest.
     pub fn line(&self, ram: u64) -> String {
         let all = self.named().into_iter().chain(self.digests());
         let s: String = all.map(|(n, v)| format!("{n}={v} ")).collect();

@@ -1,6 +1,7 @@
 //! How often each operation gave each kind of answer.
 use crate::compare::Step;
 use crate::op::{Ans, Op};
+use pimu::aarch64::access::cpu::unprivileged;
 use std::fmt::{self, Display, Formatter};
 
 /// The kinds of operations, in the order of their names.
@@ -51,6 +52,9 @@ pub struct Tally {
     counts: Vec<[u64; CLASSES]>,
     /// Translations answered by a walk, an entry, a hint, or flat.
     via: [u64; 4],
+    /// Operations that counted hits and those that counted walks, by level; last those at EL1 while unprivileged, which
+    /// are in no other pair.
+    by_level: [[u64; 2]; 5],
     pub operations: u64,
     /// Operations that the other core has not; they are in no other number.
     pub left_out: u64,
@@ -61,6 +65,7 @@ impl Default for Tally {
         Tally {
             counts: vec![[0; CLASSES]; KINDS.len()],
             via: [0; 4],
+            by_level: [[0; 2]; 5],
             operations: 0,
             left_out: 0,
         }
@@ -141,6 +146,7 @@ impl Tally {
         }
         self.operations += 1;
         self.counts[kind(step.op)][class(step)] += 1;
+        self.note_level(step);
         if let (Op::Translate(..), Ans::Val(_)) = (step.op, step.answer) {
             let t = &step.rust.cpu.tlb;
             let source = match step.before {
@@ -153,12 +159,31 @@ impl Tally {
         }
     }
 
+    fn note_level(&mut self, step: &Step) {
+        let (c, (hits, walks)) = (&step.rust.cpu, step.before);
+        let moved = [c.tlb.hits != hits, c.tlb.walks != walks];
+        if !step.op.is_step() || moved == [false; 2] {
+            return;
+        }
+        let place = match c.el {
+            1 if unprivileged(c) => 4,
+            level => level as usize,
+        };
+        for (n, moved) in self.by_level[place].iter_mut().zip(moved) {
+            *n += u64::from(moved);
+        }
+    }
+
     /// Another tally's numbers, too.
     pub fn add(&mut self, other: &Tally) {
         for (mine, theirs) in self.counts.iter_mut().zip(&other.counts) {
             mine.iter_mut().zip(theirs).for_each(|(a, b)| *a += b);
         }
         self.via.iter_mut().zip(other.via).for_each(|(a, b)| *a += b);
+        let levels = self.by_level.iter_mut().flatten();
+        levels
+            .zip(other.by_level.iter().flatten())
+            .for_each(|(a, b)| *a += b);
         self.operations += other.operations;
         self.left_out += other.left_out;
     }
@@ -181,12 +206,25 @@ impl Tally {
     }
 }
 
+impl Tally {
+    /// How many operations counted hits and walks at each level.
+    pub fn levels(&self) -> String {
+        let names = ["EL0", "EL1", "EL2", "EL3", "EL1 while unprivileged"];
+        let pairs = names.iter().zip(self.by_level);
+        let parts: Vec<String> = pairs
+            .map(|(name, [hits, walks])| format!("{name} {hits} and {walks}"))
+            .collect();
+        format!("operations that counted hits and walks: {}", parts.join(", "))
+    }
+}
+
 impl Display for Tally {
     fn fmt(&self, f: &mut Formatter) -> fmt::Result {
         for (kind, n, answers) in self.rows() {
             writeln!(f, "{kind:10} {n:8}  {answers}")?;
         }
         writeln!(f, "{}", self.sources())?;
+        writeln!(f, "{}", self.levels())?;
         if self.left_out != 0 {
             writeln!(
                 f,

@@ -1,13 +1,13 @@
 //! Wild cores: parts of a core's state overwritten from outside, with values that no list of operations need
 //! ever reach. The same parts go into both cores of a comparison.
-use crate::ffi::{state_of, words_of};
+use crate::ffi::{state_of, words_of, LEVEL_WORDS};
 use crate::place;
 use crate::state::State;
 
 /// A part of a state. Written whole, so that what a core leaves in dead records cannot show.
 #[derive(Clone, Copy, Debug, PartialEq, Eq)]
 pub enum Part {
-    /// A word before the fetch hint, by its place ([`crate::place`]).
+    /// A word before the fetch hint, or one of the levels' counters, by its place ([`crate::place`]).
     Word(u16, u64),
     /// Slot, key, physical page.
     Hint(u16, u64, u64),
@@ -55,7 +55,7 @@ impl State {
 
     /// Live entries stay live where the generation is overwritten.
     fn put_word(&mut self, at: usize, v: u64) {
-        if at >= place::FETCH {
+        if at >= place::FETCH && !LEVEL_WORDS.contains(&at) {
             return;
         }
         let mut words = words_of(self);

@@ -47,7 +47,8 @@ fn words_are_judged_as_states_are() {
         words[at] ^= 1 << r.below(64);
         // A word that is too large for its place is the largest there is in a state; in place it is a difference.
         let (is, by_state) = (rust.is_held_by(&words), rust.state() == state_of(&words[..]));
-        assert!(is == by_state || !is && words[at] > u64::from(u32::MAX), "{at}");
+        let largest = if at == place::ASID { 0xFFFF } else { 0xFFFF_FFFF };
+        assert!(is == by_state || !is && words[at] > largest, "{at}");
     }
 }
 

@@ -4,6 +4,7 @@ use harness::ffi::{decode, decode_answer, encode, encode_answer, state_of, words
 use harness::generate::{trace, Style};
 use harness::place::WORDS;
 use harness::rust::RustCore;
+use harness::state::LevelCounters;
 use harness::{feed, Ans, Core, Line, Op, Ram};
 use pimu::aarch64::Exception;
 
@@ -130,6 +131,27 @@ fn states_come_back_as_words_and_in_the_rust() {
         copy.load(&state);
         assert!(copy.state() == state, "{line}");
     }
+}
+
+/// A line of a state has the sums, then each level's own pair.
+#[test]
+fn the_sums_wrap() {
+    let mut state = RustCore::new().state();
+    state.levels[0] = LevelCounters {
+        hits: u64::MAX,
+        walks: 5,
+    };
+    state.levels[3] = LevelCounters { hits: 2, walks: 0x10 };
+    assert_eq!((state.hits(), state.walks()), (1, 0x15));
+    let line = state.line(0);
+    let shown = "h=1 w=15 l0=ffffffffffffffff:5 l1=0:0 l2=0:0 l3=2:10 fl=0 dr=0 ep=0 ";
+    assert!(line.starts_with(shown), "{line}");
+    assert_eq!(state.value("l3"), Some("2:10".into()));
+    // pimu's two counters are the sums.
+    let mut rust = RustCore::new();
+    rust.load(&state);
+    assert_eq!((rust.cpu.tlb.hits, rust.cpu.tlb.walks), (1, 0x15));
+    assert!(rust.state() == state);
 }
 
 #[test]

@@ -42,6 +42,7 @@ fn expectations_hold() {
     held("leaves.trace", 81);
     held("pokes.trace", 30);
     held("census.trace", 119);
+    held("levels.trace", 94);
 }
 
 #[test]

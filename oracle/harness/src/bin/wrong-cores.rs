@@ -10,9 +10,9 @@ const USAGE: &str = "wrong-cores SEED N
   and says after how many operations the state told them apart, and when the answers, counters, registers or RAM
   alone did. Status 1 where one is not caught by the latter.";
 
-/// What document 01 compares: no hints and no entries.
+/// What the documents compare: no hints and no entries.
 fn shown(s: &State) -> impl PartialEq {
-    let counters = [s.hits, s.walks, s.flushes, s.drops, s.epoch];
+    let counters = (s.levels, s.flushes, s.drops, s.epoch);
     (
         s.regs,
         s.x,
@@ -43,7 +43,7 @@ impl Pair {
         [feed(line, &mut self.rust, a), feed(line, &mut self.wrong, b)]
     }
 
-    /// Whether the whole state differs, and whether something that document 01 compares does.
+    /// Whether the whole state differs, and whether something that the documents compare does.
     fn differs(&self, answers: [Option<Ans>; 2]) -> (bool, bool) {
         let (s, t) = (self.rust.state(), self.wrong.state());
         let open = answers[0] != answers[1] || self.rams[0] != self.rams[1];

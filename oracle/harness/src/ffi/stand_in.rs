@@ -1,5 +1,5 @@
 //! Without the feature `rattle` the model stands behind the three functions, so that the boundary itself is tested.
-use super::{boxed, decode, encode_answer, state_of};
+use super::{boxed, decode, encode_answer, state_of, RETIRED};
 use crate::census::Counts;
 use crate::model::DocCore;
 use crate::number::{DONE, NAMES_NOTHING};
@@ -12,6 +12,13 @@ fn held(state: &place::State) -> DocCore {
     let mut core = DocCore::new();
     core.load(&state_of(state));
     core
+}
+
+/// What the model holds, into a state's words; those that hold nothing stay.
+fn hold(state: &mut place::State, core: &DocCore) {
+    let retired = state[RETIRED].to_vec();
+    *state = *boxed(&core.state());
+    state[RETIRED].copy_from_slice(&retired);
 }
 
 /// # Safety
@@ -42,7 +49,7 @@ pub unsafe fn a72_step(
     if window.writes != 0 {
         bytes.copy_from_slice(&window.bytes);
     }
-    *state = *boxed(&core.state());
+    hold(state, &core);
     // The counts of a census are the other function's.
     *ans = encode_answer(match &answer {
         Ans::Counts(_) => &Ans::Ok,

@@ -1,11 +1,24 @@
 //! A state as words; [`crate::place`] has the layout.
 use crate::place;
-use crate::state::{Entry, State};
+use crate::state::{Entry, LevelCounters, State};
 use std::ops::Range;
 
 /// The words of the data hints, two each, and of the entries, four each.
 pub const HINT_WORDS: Range<usize> = place::HINTS..place::HINTS + 2 * 512;
 pub const ENTRY_WORDS: Range<usize> = place::ENTRIES..place::ENTRIES + 4 * 1024;
+/// Those of the levels' counters: four of hits, four of walks.
+pub const LEVEL_WORDS: Range<usize> = place::LEVEL_HITS..place::LEVEL_WALKS + 4;
+
+/// The words that hold nothing: no part of a [`State`].
+pub const RETIRED: Range<usize> = 70..72;
+
+/// Hits and walks of each exception level.
+pub fn levels_of(w: &[u64]) -> [LevelCounters; 4] {
+    std::array::from_fn(|level| LevelCounters {
+        hits: w[place::LEVEL_HITS + level],
+        walks: w[place::LEVEL_WALKS + level],
+    })
+}
 
 fn entry_of(slot: usize, w: &[u64]) -> Entry {
     Entry {
@@ -47,8 +60,7 @@ pub fn state_of(w: &[u64]) -> State {
         x: w[place::GENERAL..place::LEVEL].try_into().unwrap(),
         level: fit(w[place::LEVEL], u32::MAX),
         mark: w[place::UNPRIVILEGED] == 1,
-        hits: w[place::HITS],
-        walks: w[place::WALKS],
+        levels: levels_of(w),
         flushes: w[place::FLUSHES],
         drops: w[place::DROPS],
         epoch: w[place::EPOCH],
@@ -82,8 +94,6 @@ pub fn words_of(s: &State) -> Vec<u64> {
     for (at, v) in [
         (place::LEVEL, s.level.into()),
         (place::UNPRIVILEGED, s.mark.into()),
-        (place::HITS, s.hits),
-        (place::WALKS, s.walks),
         (place::FLUSHES, s.flushes),
         (place::DROPS, s.drops),
         (place::EPOCH, s.epoch),
@@ -99,6 +109,10 @@ pub fn words_of(s: &State) -> Vec<u64> {
         (place::FETCH_PA, pa),
     ] {
         w[at] = v;
+    }
+    for (level, counters) in s.levels.iter().enumerate() {
+        w[place::LEVEL_HITS + level] = counters.hits;
+        w[place::LEVEL_WALKS + level] = counters.walks;
     }
     for hint in w[HINT_WORDS].chunks_mut(2) {
         hint[0] = u64::MAX;

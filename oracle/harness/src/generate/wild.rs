@@ -1,6 +1,7 @@
 //! Odd values in every part of the core's state: hints and entries of the mapped pages that no walk made,
 //! entries of other generations, wild counters.
 use super::{Generator, Rng};
+use crate::ffi::{LEVEL_WORDS, RETIRED};
 use crate::op::Line;
 use crate::place;
 use crate::wild::Part;
@@ -21,7 +22,8 @@ impl Generator {
 
     /// At the start of a scenario: any part of the state.
     pub(super) fn wild_core(&mut self) {
-        for at in place::HITS..=place::ABORT_PA {
+        self.wild_counters();
+        for at in place::PENDING..=place::ABORT_PA {
             if self.r.percent(50) {
                 let v = if at == place::PENDING {
                     self.r.below(4)
@@ -42,6 +44,19 @@ impl Generator {
             self.put(Part::Word(place::ASID as u16, asid));
         }
         self.wild_cache(10 + self.level as usize * 10);
+    }
+
+    /// Any counters, those of the levels often about to wrap; and anything in the words that hold nothing.
+    fn wild_counters(&mut self) {
+        for at in RETIRED.chain(place::FLUSHES..=place::EPOCH).chain(LEVEL_WORDS) {
+            if self.r.percent(50) {
+                let v = match self.r.below(3) {
+                    0 => u64::MAX - self.r.below(4),
+                    _ => self.r.wild(),
+                };
+                self.put(Part::Word(at as u16, v));
+            }
+        }
     }
 
     /// Entries and hints of pages of every regime, as many as `n` of each.

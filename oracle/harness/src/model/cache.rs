@@ -101,7 +101,10 @@ impl DocCore {
         let slot = self.hint_slot(kind, page);
         let key = page * 4096 + u64::from(self.regs.level);
         if hinted {
-            if let Some((_, pa)) = self.hints.get(&slot).filter(|h| h.0 == key) {
+            if let Some((_, pa)) = self.hints.get(&slot).copied().filter(|h| h.0 == key) {
+                if self.makes(Mistake::HintCountsHit) {
+                    self.count_hit(kind);
+                }
                 return Ok(pa | (va % 4096));
             }
         }
@@ -122,10 +125,15 @@ impl DocCore {
         let need = needed(kind, self.regs.user(kind));
         let e = match self.find(regime, bare >> 12) {
             Some(e) => {
-                up(&mut self.hits);
+                if e.perms & need != 0 || !self.makes(Mistake::EntryFaultNotCounted) {
+                    self.count_hit_of(kind, &e);
+                }
                 e
             }
-            None => self.walk_into_cache(ram, regime, bare, need)?,
+            None => {
+                self.count_walk(kind);
+                self.walk_into_cache(ram, regime, bare, need)?
+            }
         };
         if e.perms & need == 0 {
             return Err(0x0C | e.level);
@@ -142,7 +150,6 @@ impl DocCore {
     }
 
     fn walk_into_cache(&mut self, ram: &Ram, regime: u32, bare: u64, need: u8) -> Result<Entry, u8> {
-        up(&mut self.walks);
         let leaf = self.regs.walk(ram, regime, bare)?;
         let page = bare >> 12;
         let e = Entry {
@@ -156,6 +163,7 @@ impl DocCore {
         };
         if leaf.perms & need != 0 || !self.makes(Mistake::PermissionFaultNotCached) {
             self.entries.insert(e.slot, (self.generation, e));
+            self.walked_at.insert(e.slot, self.regs.level as usize);
         }
         Ok(e)
     }

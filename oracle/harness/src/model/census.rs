@@ -1,5 +1,4 @@
 //! Document 02's page census.
-use super::cache::up;
 use super::{DocCore, Mistake};
 use crate::op::Ans;
 use crate::Ram;
@@ -56,7 +55,7 @@ impl DocCore {
             return rights + usize::from(e.perms);
         }
         if self.makes(Mistake::CensusCountsWalks) {
-            up(&mut self.walks);
+            self.count_walk(1);
         }
         match self.regs.walk(ram, regime, bare) {
             Ok(leaf) => rights + usize::from(leaf.perms),

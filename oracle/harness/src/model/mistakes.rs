@@ -42,12 +42,22 @@ pub enum Mistake {
     CensusNotToTop,
     CensusFlatIsStatus0,
     CensusAlwaysEl1,
+    CountedByMark,
+    FetchCountedByMark,
+    CountedAtRegime,
+    SecondPageCountedAtRegime,
+    ZeroCountedAtRegime,
+    El3CountedAtEl2,
+    HitCountedAtWalk,
+    CountedAtEl0,
+    HintCountsHit,
+    EntryFaultNotCounted,
 }
 
 use Mistake::*;
 
 /// Each mistake with what it does, by number from 1.
-pub const MISTAKES: [(Mistake, &str); 40] = [
+pub const MISTAKES: [(Mistake, &str); 50] = [
     (FlagBeforeSize, "access flag judged before the output size"),
     (
         PageDropsOnePage,
@@ -109,4 +119,23 @@ pub const MISTAKES: [(Mistake, &str); 40] = [
     (CensusNotToTop, "census that ends at 2^64 refused"),
     (CensusFlatIsStatus0, "census counts flat pages under status 0"),
     (CensusAlwaysEl1, "census is EL1&0's at every level"),
+    (CountedByMark, "counted at EL0 while unprivileged"),
+    (FetchCountedByMark, "a fetch while unprivileged counted at EL0"),
+    (CountedAtRegime, "counted at the regime's level"),
+    (
+        SecondPageCountedAtRegime,
+        "second page of a split access counted at the regime's level",
+    ),
+    (ZeroCountedAtRegime, "DC ZVA counted at the regime's level"),
+    (El3CountedAtEl2, "EL3's hits and walks counted at EL2"),
+    (HitCountedAtWalk, "a hit counted at the level of the entry's walk"),
+    (
+        CountedAtEl0,
+        "all hits and walks counted at EL0: the sums are right",
+    ),
+    (HintCountsHit, "an answer from a hint counts a hit"),
+    (
+        EntryFaultNotCounted,
+        "a permission fault from an entry counts no hit",
+    ),
 ];

@@ -56,8 +56,7 @@ pub fn of(c: &DocCore) -> State {
         x: r.x,
         level: r.level,
         mark: r.mark,
-        hits: c.hits,
-        walks: c.walks,
+        levels: c.levels,
         flushes: c.flushes,
         drops: c.drops,
         epoch: c.epoch,
@@ -83,7 +82,8 @@ pub fn load(c: &mut DocCore, s: &State) {
     set_registers(r, &s.regs);
     (r.nzcv, r.daif, r.spsel) = (s.flags[0], s.flags[1], s.flags[2] != 0);
     (r.x, r.level, r.mark) = (s.x, s.level, s.mark);
-    (c.hits, c.walks, c.flushes, c.drops, c.epoch) = (s.hits, s.walks, s.flushes, s.drops, s.epoch);
+    c.levels = s.levels;
+    (c.flushes, c.drops, c.epoch) = (s.flushes, s.drops, s.epoch);
     c.broadcast = match s.broadcast {
         (0, _) => None,
         (1, _) => Some(Inval::All),

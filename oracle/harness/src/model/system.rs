@@ -1,6 +1,5 @@
 //! System operations: DC ZVA, cache maintenance, TLBI, AT.
 use super::bits::{bit, bits};
-use super::cache::up;
 use super::{needed, Bank, DocCore, Inval, Mistake, Regs};
 use crate::op::Ans;
 use crate::Ram;
@@ -12,7 +11,7 @@ impl DocCore {
         let [op1, crn, crm, op2] = fields;
         let allowed = op1 / 2 <= level;
         match (op1, crn, crm, op2) {
-            (3, 7, 4, 1) => self.zero(ram, rt),
+            (3, 7, 4, 1) => self.at_regime(Mistake::ZeroCountedAtRegime, |c| c.zero(ram, rt)),
             (3, 7, 5 | 10 | 11 | 14, 1) => Ans::Ok,
             _ if level == 0 => Ans::Undefined,
             (0, 7, 6 | 10 | 14, 1 | 2) | (0, 7, 1 | 5, 0) => Ans::Ok,
@@ -26,7 +25,7 @@ impl DocCore {
             }
             (0, 7, 8, 0..=3) | (4, 7, 8, 0 | 1 | 4..=7) | (6, 7, 8, 0 | 1) if allowed => {
                 if self.makes(Mistake::AtCountsWalk) {
-                    up(&mut self.walks);
+                    self.count_walk(1);
                 }
                 let regime = match (op1, op2) {
                     (6, _) => 3,

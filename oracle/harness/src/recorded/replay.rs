@@ -1,6 +1,6 @@
 //! Hold a core to a recorded file.
 use super::short::{expand, Case};
-use super::{summary, MAGIC};
+use super::{summary, AFTER, LINE, MAGIC};
 use crate::ffi::{decode, encode_answer};
 use crate::op::Line;
 use crate::{feed, Core, Ram};
@@ -10,8 +10,9 @@ fn words(bytes: &[u8]) -> Result<Vec<u64>, String> {
         .chunks_exact(8)
         .map(|c| u64::from_le_bytes(c.try_into().unwrap()))
         .collect();
-    match words.get(..2) {
-        Some(&[MAGIC, n]) if n as usize == words.len() && 8 * words.len() == bytes.len() => Ok(words),
+    let whole = |n: u64| n as usize == words.len() && 8 * words.len() == bytes.len();
+    match words.get(..8) {
+        Some(&[MAGIC, n, .., line, 0]) if whole(n) && line == LINE as u64 => Ok(words),
         _ => Err("no recorded file, or not a whole one".into()),
     }
 }
@@ -81,16 +82,16 @@ impl Replay<'_> {
         }
     }
 
-    fn tail(&mut self) -> Option<[u64; 24]> {
-        let want = *self.rest.first_chunk::<24>()?;
-        self.rest = &self.rest[24..];
-        Some(want)
+    fn tail(&mut self) -> Option<[u64; AFTER]> {
+        let (want, rest) = self.rest.split_first_chunk::<AFTER>()?;
+        self.rest = rest;
+        Some(*want)
     }
 
-    fn judge(&self, want: [u64; 24]) -> Result<(), String> {
+    fn judge(&self, want: [u64; AFTER]) -> Result<(), String> {
         let after = summary(&self.core.state(), self.ram.digest());
         let is = [self.answer.as_slice(), &after].concat();
-        match (0..24).find(|&i| is[i] != want[i]) {
+        match (0..AFTER).find(|&i| is[i] != want[i]) {
             Some(i) => Err(format!("word {} is {:x}, not {:x}", 8 + i, is[i], want[i])),
             None => Ok(()),
         }

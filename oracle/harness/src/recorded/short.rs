@@ -3,9 +3,18 @@ use crate::place;
 use crate::state::State;
 
 /// In a record the places from here on are the words of the last answer. A number of the format: it stays where a state
-/// grows, and then the format needs another.
-const ANSWER: u64 = 5205;
+/// grows.
+const ANSWER: u64 = 0x10000;
 const _: () = assert!(place::WORDS as u64 <= ANSWER);
+
+/// The word at a place of a case: of the last answer, or of the state.
+fn word_at(place: u64, state: &State, answer: &[u64; 4]) -> Result<u64, String> {
+    let word = match place.checked_sub(ANSWER) {
+        Some(i) => answer.get(i as usize).copied(),
+        None => crate::ffi::words_of(state).get(place as usize).copied(),
+    };
+    word.ok_or_else(|| format!("{place} is no place"))
+}
 
 /// A line's eight words from its first and those that follow: how many of these it took, too.
 pub fn expand(first: u64, rest: &[u64]) -> Option<([u64; 8], usize)> {
@@ -43,10 +52,7 @@ impl Case {
 
     /// A line of a case; at its end what was wrong, if anything.
     pub fn line(&mut self, w: &[u64; 8], state: &State, answer: &[u64; 4]) -> Result<(), String> {
-        let found = |place: u64| match place.checked_sub(ANSWER) {
-            Some(i) => answer.get(i as usize).copied().unwrap_or(0),
-            None => crate::ffi::words_of(state)[place as usize],
-        };
+        let found = |place: u64| word_at(place, state, answer);
         match w[0] {
             70 => {
                 *self = Case {
@@ -54,10 +60,10 @@ impl Case {
                     ..Case::default()
                 }
             }
-            71 => self.due(w[1], found(w[1]), w[2]),
+            71 => self.due(w[1], found(w[1])?, w[2]),
             72 => {
                 self.told += 1;
-                self.same += (found(w[1]) == w[2]) as u64;
+                self.same += (found(w[1])? == w[2]) as u64;
             }
             73 => return self.end(),
             74 => {

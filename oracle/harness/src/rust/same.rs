@@ -1,8 +1,9 @@
 //! Whether pimu's core holds what a state's words hold: the same judgement as comparing the two [`crate::State`]s,
 //! made in place. What is free in the words (dead entries, what stands behind 'none') is free here too.
 use super::{state, RustCore};
-use crate::ffi::{ENTRY_WORDS, HINT_WORDS};
+use crate::ffi::{levels_of, ENTRY_WORDS, HINT_WORDS};
 use crate::place;
+use crate::state::totals;
 use pimu::aarch64::access::{cpu, mmu, Tlb};
 use pimu::aarch64::Cpu;
 
@@ -21,8 +22,6 @@ fn counts(c: &Cpu, w: &place::State) -> bool {
     let (kind, value) = state::pending(t);
     let mark = w[place::UNPRIVILEGED] == 1;
     let is = [
-        t.hits,
-        t.walks,
         t.flushes,
         t.drops,
         t.epoch,
@@ -34,8 +33,14 @@ fn counts(c: &Cpu, w: &place::State) -> bool {
     let present: [u64; 2] = [mmu::generation(t).into(), mmu::cache_asid(t).into()];
     w[place::LEVEL] == c.el.into()
         && mark == cpu::unprivileged(c)
-        && is == w[place::HITS..=place::ABORT_PA]
+        && is == w[place::FLUSHES..=place::ABORT_PA]
         && present == w[place::GENERATION..=place::ASID]
+}
+
+/// Each level's pair, and the sums: pimu's own two counters.
+fn levels(core: &RustCore, w: &place::State) -> bool {
+    let (t, theirs) = (&core.cpu.tlb, levels_of(w));
+    core.levels == theirs && totals(&theirs) == (t.hits, t.walks)
 }
 
 fn fetch_hint(t: &Tlb, w: &place::State) -> bool {
@@ -87,6 +92,7 @@ impl RustCore {
     pub fn is_held_by(&self, w: &place::State) -> bool {
         let c = &self.cpu;
         let t = &c.tlb;
-        registers(c, w) && counts(c, w) && fetch_hint(t, w) && data_hints(t, w) && entries(t, w)
+        let same = registers(c, w) && counts(c, w) && levels(self, w);
+        same && fetch_hint(t, w) && data_hints(t, w) && entries(t, w)
     }
 }

@@ -1,7 +1,7 @@
 //! pimu's core as a [`State`], and back.
 use super::PAR;
 use crate::place;
-use crate::state::{Entry, State};
+use crate::state::{totals, Entry, LevelCounters, State};
 use pimu::aarch64::access::mmu::{self, Record};
 use pimu::aarch64::access::{cpu, Inval, Tlb};
 use pimu::aarch64::sysreg::SysRegs;
@@ -119,8 +119,10 @@ fn set_pending(t: &mut Tlb, (kind, v): (u8, u64)) {
     };
 }
 
-pub fn of(c: &Cpu) -> State {
+/// `levels`: what pimu's two counters counted at each level.
+pub fn of(c: &Cpu, levels: &[LevelCounters; 4]) -> State {
     let t = &c.tlb;
+    assert_eq!(totals(levels), (t.hits, t.walks));
     debug_assert!(!mmu::host_or_code_used(t));
     let generation = mmu::generation(t);
     let (mut entries, mut ahead) = (Vec::new(), Vec::new());
@@ -140,8 +142,7 @@ pub fn of(c: &Cpu) -> State {
         x: c.x,
         level: c.el,
         mark: cpu::unprivileged(c),
-        hits: t.hits,
-        walks: t.walks,
+        levels: *levels,
         flushes: t.flushes,
         drops: t.drops,
         epoch: t.epoch,
@@ -171,7 +172,8 @@ pub fn load(c: &mut Cpu, s: &State) {
     cpu::set_last_pa(c, s.last_pa);
     c.abort_pa = s.abort_pa;
     let t = &mut c.tlb;
-    (t.hits, t.walks, t.flushes, t.drops, t.epoch) = (s.hits, s.walks, s.flushes, s.drops, s.epoch);
+    (t.hits, t.walks) = totals(&s.levels);
+    (t.flushes, t.drops, t.epoch) = (s.flushes, s.drops, s.epoch);
     set_pending(t, s.broadcast);
     mmu::set_generation(t, s.generation);
     mmu::set_cache_asid(t, s.cache_asid);

@@ -7,10 +7,10 @@ use Rattle.replay.proofs.judge.first_wrong.Statement.{statement}
 use Rattle.replay.proofs.judge.first_wrong.Tie as tie
 
 abbrev Inv-loop : tie.InvT-loop
-Inv-loop is want from i₀ i = i ≤ length is
+Inv-loop is want i₀ i = i ≤ length is
 
 abbrev μ-loop : tie.MeasureT-loop
-μ-loop is want from i₀ i = length is - i
+μ-loop is want i₀ i = length is - i
 
 returns : tie.Need-returns Inv-loop μ-loop
 returns c = tt
@@ -23,5 +23,4 @@ first-wrong-spec =
     tie.close
     (tie.spec
     Inv-loop μ-loop (λ loop-holds. omega arith) (λ mul-if1. omega arith) (λ shared-slice-read-if1. omega arith)
-    (λ add-word-of. omega arith) (λ word-of-requires κs. search needs) (λ add-i. omega arith)
-    (λ loop-less. omega arith) (λ loop-again. omega arith) returns returns-2)
+    (λ word-of-requires κs. search needs) (λ add-i. omega arith) (λ loop-less. omega arith) (λ loop-again. omega arith) returns returns-2)

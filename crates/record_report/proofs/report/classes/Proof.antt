@@ -1,9 +1,9 @@
--- `replay::report::classes` is safe and ends.
+-- `record_report::report::classes` is safe and ends.
 use native.Mathlib.Omega.{arith}
 use Prim.Native.Nat.{ℕ, _≤_, _-_}
 use borrow.Author.Needs.{needs}
-use Rattle.replay.proofs.report.classes.Statement.{statement}
-use Rattle.replay.proofs.report.classes.Tie as tie
+use Rattle.record_report.proofs.report.classes.Statement.{statement}
+use Rattle.record_report.proofs.report.classes.Tie as tie
 
 abbrev Inv-loop : tie.InvT-loop
 Inv-loop counts class₀ class = class ≤ 32

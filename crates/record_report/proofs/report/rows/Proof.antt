@@ -1,9 +1,9 @@
--- `replay::report::rows` is safe and ends.
+-- `record_report::report::rows` is safe and ends.
 use native.Mathlib.Omega.{arith}
 use Prim.Native.Nat.{ℕ, _≤_, _-_}
 use borrow.Author.Needs.{needs}
-use Rattle.replay.proofs.report.rows.Statement.{statement}
-use Rattle.replay.proofs.report.rows.Tie as tie
+use Rattle.record_report.proofs.report.rows.Statement.{statement}
+use Rattle.record_report.proofs.report.rows.Tie as tie
 
 abbrev Inv-loop : tie.InvT-loop
 Inv-loop counts kind₀ kind = kind ≤ 21

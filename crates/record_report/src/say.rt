@@ -22,14 +22,26 @@ pub fn part(n: u64, word: &[u8], first: bool) {
     text(word);
 }
 
-// A difference: the line, the word by its place, what it is and what it should be.
-pub fn differs(line: u64, place: u64, is: u64, want: u64) {
+// A difference: the line, a word by its place, what it is and what it should be.
+pub fn at_line(line: u64) {
     text(b"\n  line ");
     decimal(line);
+}
+
+pub fn place(n: u64) {
     text(b": word ");
-    decimal(place);
+    decimal(n);
+}
+
+pub fn values(is: u64, want: u64) {
     text(b" is ");
     hex(is, 1);
     text(b", not ");
     hex(want, 1);
+}
+
+pub fn differs(line: u64, at: u64, is: u64, want: u64) {
+    at_line(line);
+    place(at);
+    values(is, want);
 }

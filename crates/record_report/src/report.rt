@@ -1,5 +1,4 @@
 // The summary: each record, operations by kind and answer, cases by class.
-use crate::lines::Replay;
 use crate::say;
 use crate::tables;
 use crate::tally;
@@ -13,21 +12,21 @@ pub struct Total {
     pub wrong: u64,
 }
 
-// A record's line.
-pub fn file(m: Replay) {
-    if m.wrong == 0 {
+// A record's line: operations replayed and left out, cases, differences.
+pub fn file(done: u64, left: u64, cases: u64, wrong: u64) {
+    if wrong == 0 {
         say::text(b": ");
     } else {
         say::text(b"\n  ");
     }
-    say::part(m.done, b"operations", true);
-    if m.left != 0 {
-        say::part(m.left, b"left out", false);
+    say::part(done, b"operations", true);
+    if left != 0 {
+        say::part(left, b"left out", false);
     }
-    if m.cases != 0 {
-        say::part(m.cases, b"cases", false);
+    if cases != 0 {
+        say::part(cases, b"cases", false);
     }
-    say::part(m.wrong, b"differences\n", false);
+    say::part(wrong, b"differences\n", false);
 }
 
 fn answer(kind: u64, class: u64, n: u64, first: bool) {

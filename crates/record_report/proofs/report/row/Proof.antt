@@ -1,9 +1,9 @@
--- `replay::report::row` is safe and ends.
+-- `record_report::report::row` is safe and ends.
 use native.Mathlib.Omega.{arith}
 use Prim.Native.Nat.{ℕ, _≤_, _-_}
 use borrow.Author.Needs.{needs}
-use Rattle.replay.proofs.report.row.Statement.{statement}
-use Rattle.replay.proofs.report.row.Tie as tie
+use Rattle.record_report.proofs.report.row.Statement.{statement}
+use Rattle.record_report.proofs.report.row.Tie as tie
 
 abbrev Inv-loop : tie.InvT-loop
 Inv-loop kind counts sum first₀ class₀ t8 first class = class ≤ 84

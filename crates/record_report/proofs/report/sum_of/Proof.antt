@@ -1,9 +1,9 @@
--- `replay::report::sum_of` is safe and ends.
+-- `record_report::report::sum_of` is safe and ends.
 use native.Mathlib.Omega.{arith}
 use Prim.Native.Nat.{ℕ, _≤_, _-_}
 use borrow.Author.Needs.{needs}
-use Rattle.replay.proofs.report.sum_of.Statement.{statement}
-use Rattle.replay.proofs.report.sum_of.Tie as tie
+use Rattle.record_report.proofs.report.sum_of.Statement.{statement}
+use Rattle.record_report.proofs.report.sum_of.Tie as tie
 
 abbrev Inv-loop : tie.InvT-loop
 Inv-loop kind counts sum₀ class₀ sum class = class ≤ 84

@@ -2,7 +2,7 @@
 use crate::say;
 
 // Name k of some, each with a newline after it, or "?" past the last.
-fn nth(names: &[u8], k: u64) {
+pub fn nth(names: &[u8], k: u64) {
     let mut left = k;
     let mut start = 0usize;
     let mut i = 0usize;

@@ -1,11 +1,11 @@
--- `replay::tables::nth` is safe and ends.
+-- `record_report::tables::nth` is safe and ends.
 use native.Mathlib.Omega.{arith}
 use Prim.Native.Nat.{ℕ, _≤_, _-_}
 use borrow.Author.Needs.{needs}
 use lib.ListN.{length}
 use mathlib.Core.Logic.{⊎-elim}
-use Rattle.replay.proofs.tables.nth.Statement.{statement}
-use Rattle.replay.proofs.tables.nth.Tie as tie
+use Rattle.record_report.proofs.tables.nth.Statement.{statement}
+use Rattle.record_report.proofs.tables.nth.Tie as tie
 
 abbrev Inv-loop : tie.InvT-loop
 Inv-loop names k left₀ start₀ i₀ t6 left start i = (start ≤ i) × (i ≤ length names)
