@@ -85,7 +85,8 @@ pub fn show(levels: &[u64; 8], flushes: u64, drops: u64, epoch: u64) {
     say::field(b", pages dropped ", drops);
     say::field(b", epoch ", epoch);
     say::text(
-        b"\ncounted at the level of the access, which the unprivileged mark does not lower;\nnot counted: answers by a hint, and answers with stage 1 off\n",
+        b"\ncounted at the level of the access, which the unprivileged mark does not lower;\n",
     );
+    say::text(b"not counted: answers by a hint, and answers with stage 1 off\n");
     most::show(levels, whole);
 }
