@@ -3,6 +3,7 @@ use Rattle.std.proofs.Common.{◌≡◌, ℕ, ◌+◌, ◌-◌, ◌%◌, ◌^◌
 use Rattle.word.specs.Bits.{wrap}
 use Rattle.word.specs.declared.ram.Word.{Word}
 use Rattle.walk.specs.declared.{regime.Regime.Regime, regime.Bank.Bank}
+use Rattle.walk.specs.FreshLaws.{is-sound}
 use Rattle.census.specs.Tally.{at_most, one_more}
 use Rattle.census.specs.Count.{pageAt, placeAt, censusOf}
 
@@ -35,3 +36,8 @@ all-pages s r memory first i pages counts e h k = e ∙ ap (censusOf s r memory 
   where
     same : i ≤ pages → pages ≤ i → i ≡ pages
     same a b = omega arith
+
+pub ruleset pages = (next-page, one-fits, page-more, all-pages)
+
+-- what the place of a fresh answer asks
+pub ruleset sound = (is-sound)

@@ -38,19 +38,9 @@ abbrev pub isFlat : Fresh → Bool
 isFlat (Ended w) = false
 isFlat (Flat pa) = true
 
-by-status : (status : ℕ) → status < 64 → (x : Fresh) → SoundFresh x → (place_of x == status) ≡ faultsWith status x
-by-status status h (Ended (Fault n)) k = refl
-by-status status h (Ended (Mapped leaf)) k = ne_eqb (64 + leaf.perms) status (λ e. omega arith)
-by-status status h (Flat pa) k = ne_eqb 128 status (λ e. omega arith)
-
-by-rights : (perms : ℕ) → perms < 64 → (x : Fresh) → SoundFresh x → (place_of x == 64 + perms) ≡ hasRights perms x
-by-rights perms h (Ended (Fault n)) k = let small = status-small n k in ne_eqb n (64 + perms) (λ e. omega arith)
-by-rights perms h (Ended (Mapped leaf)) k = shift-eqb 64 leaf.perms perms
-by-rights perms h (Flat pa) k = ne_eqb 128 (64 + perms) (λ e. omega arith)
-
 by-flat : (x : Fresh) → SoundFresh x → (place_of x == 128) ≡ isFlat x
 by-flat (Ended (Fault n)) k = let small = status-small n k in ne_eqb n 128 (λ e. omega arith)
-by-flat (Ended (Mapped leaf)) k = let small = k.perms in ne_eqb (64 + leaf.perms) 128 (λ e. omega arith)
+by-flat (Ended (Mapped leaf)) k = let small = k.perms in ne_eqb _ 128 (λ e. omega arith)
 by-flat (Flat pa) k = refl
 
 -- NEVER
@@ -67,11 +57,6 @@ walks-none n never h = go h.fault h.level h.code
     go (translation k) l e = ⊎_elim (λ a. omega arith) (⊎_elim (λ a. omega arith) (λ a. omega arith)) never
     go (accessFlag k) l e = ⊎_elim (λ a. omega arith) (⊎_elim (λ a. omega arith) (λ a. omega arith)) never
     go (externalAbort k) l e = ⊎_elim (λ a. omega arith) (⊎_elim (λ a. omega arith) (λ a. omega arith)) never
-
-not-status : (n : ℕ) → NoStatus n → n < 64 → (x : Fresh) → SoundFresh x → (place_of x == n) ≡ false
-not-status n never h (Ended (Fault k)) sound = ne_eqb k n (λ e. walks-none n never (subst Status e sound))
-not-status n never h (Ended (Mapped leaf)) sound = ne_eqb (64 + leaf.perms) n (λ e. omega arith)
-not-status n never h (Flat pa) sound = ne_eqb 128 n (λ e. omega arith)
 
 -- A CENSUS
 
@@ -92,10 +77,20 @@ module _ (s : Bank) (r : Regime) (memory : ℕ → Word) (first : ℕ) where
 
   -- each place is the number of pages that a fresh walk ends so
   pub status-count : (pages status : ℕ) → status < 64 → countAt pages status ≡ howMany (λ i. faultsWith status (end_at i)) pages
-  status-count pages status h = count_at pages status (omega arith) ∙ many-same _ _ pages (λ i. by-status status h (end_at i) (sound-at i))
+  status-count pages status h = count_at pages status (omega arith) ∙ many-same _ _ pages (λ i. here (end_at i) (sound-at i))
+    where
+      here : (x : Fresh) → SoundFresh x → (place_of x == status) ≡ faultsWith status x
+      here (Ended (Fault n)) k = refl
+      here (Ended (Mapped leaf)) k = ne_eqb _ status (λ e. omega arith)
+      here (Flat pa) k = ne_eqb 128 status (λ e. omega arith)
 
   pub rights-count : (pages perms : ℕ) → perms < 64 → countAt pages (64 + perms) ≡ howMany (λ i. hasRights perms (end_at i)) pages
-  rights-count pages perms h = count_at pages (64 + perms) (omega arith) ∙ many-same _ _ pages (λ i. by-rights perms h (end_at i) (sound-at i))
+  rights-count pages perms h = count_at pages (64 + perms) (omega arith) ∙ many-same _ _ pages (λ i. here (end_at i) (sound-at i))
+    where
+      here : (x : Fresh) → SoundFresh x → (place_of x == 64 + perms) ≡ hasRights perms x
+      here (Ended (Fault n)) k = let small = status-small n k in ne_eqb n (64 + perms) (λ e. omega arith)
+      here (Ended (Mapped leaf)) k = shift-eqb 64 leaf.perms perms
+      here (Flat pa) k = ne_eqb 128 (64 + perms) (λ e. omega arith)
 
   pub flat-count : (pages : ℕ) → countAt pages 128 ≡ howMany (λ i. isFlat (end_at i)) pages
   flat-count pages = count_at pages 128 (omega arith) ∙ many-same _ _ pages (λ i. by-flat (end_at i) (sound-at i))
@@ -108,7 +103,12 @@ module _ (s : Bank) (r : Regime) (memory : ℕ → Word) (first : ℕ) where
   -- which places stay 0
   pub no-other-status : (pages status : ℕ) → status < 64 → NoStatus status → countAt pages status ≡ 0
   no-other-status pages status h never =
-      count_at pages status (omega arith) ∙ many-none _ pages (λ i. not-status status never h (end_at i) (sound-at i))
+      count_at pages status (omega arith) ∙ many-none _ pages (λ i. here (end_at i) (sound-at i))
+    where
+      here : (x : Fresh) → SoundFresh x → (place_of x == status) ≡ false
+      here (Ended (Fault k)) sound = ne_eqb k status (λ e. walks-none status never (subst Status e sound))
+      here (Ended (Mapped leaf)) sound = ne_eqb _ status (λ e. omega arith)
+      here (Flat pa) sound = ne_eqb 128 status (λ e. omega arith)
 
   -- stage 1 off: every page is flat; on: none is
   pub off-flat : (pages : ℕ) → stage1On s r ≡ false → countAt pages 128 ≡ pages

@@ -13,9 +13,12 @@ use Rattle.walk.specs.Fresh.{fresh_of}
 use Rattle.walk.specs.declared.{regime.Regime.Regime, regime.Bank.Bank, rights.Permissions.Permissions, level.Walked.Walked}
 use Rattle.walk.specs.declared.level.Walked.TheVariants.{Mapped, Fault}
 use Rattle.walk.specs.declared.fresh.Fresh.TheVariants.{Flat, Ended}
-use Rattle.census.specs.Tally.{many-none}
-use Rattle.census.specs.Count.{pageAt}
-use Rattle.census.specs.Laws.{hasRights, countAt, rights-count}
+use Rattle.walk.specs.FreshLaws.{SoundFresh}
+use Rattle.walk.specs.WalkBounds.{status-small}
+use Rattle.walk.specs.declared.fresh.Fresh.{Fresh}
+use Rattle.census.specs.Tally.{many-none, shift-eqb}
+use Rattle.census.specs.Count.{place_of, pageAt}
+use Rattle.census.specs.Laws.{countAt, count_at, end_at, sound-at}
 
 abbrev pub among : ℕ → List ℕ → Bool
 among n [] = false
@@ -74,20 +77,26 @@ among_same p n h k = ne_eqb p n (λ e. differ (sym h ∙ ap (λ (x : ℕ). among
     differ : true ≡ false → ⊥
     differ q = let z : ◌≡◌ {A = ℕ} 1 0 = ap (λ (b : Bool). flag b 1) q in omega arith
 
-fresh-none : (s : Bank) (r : Regime) (va : ℕ) (memory : ℕ → Word) (perms : ℕ) → among perms possible ≡ false
-    → hasRights perms (fresh_of s r va memory) ≡ false
-unfolding fresh_of
-fresh-none s r va memory perms h = go (stage1On s r)
-  where
-    ended : (w : Walked) → Possible w → hasRights perms (Ended w) ≡ false
-    ended (Mapped leaf) k = among_same leaf.perms perms k h
-    ended (Fault n) k = refl
+abbrev PossibleFresh : Fresh → Type 0
+PossibleFresh (Ended w) = Possible w
+PossibleFresh (Flat pa) = Unit {0}
 
-    go : (b : Bool) → hasRights perms (pick b (Ended (walk_of s r (untagged s.tcr r va) memory)) (Flat va)) ≡ false
-    go true = ended (walk_of s r (untagged s.tcr r va) memory) (walk-possible s r (untagged s.tcr r va) memory)
-    go false = refl
+fresh-possible : (s : Bank) (r : Regime) (va : ℕ) (memory : ℕ → Word) → PossibleFresh (fresh_of s r va memory)
+unfolding fresh_of
+fresh-possible s r va memory = go (stage1On s r)
+  where
+    go : (b : Bool) → PossibleFresh (pick b (Ended (walk_of s r (untagged s.tcr r va) memory)) (Flat va))
+    go true = walk-possible s r (untagged s.tcr r va) memory
+    go false = tt
 
 pub no-other-rights : (s : Bank) (r : Regime) (memory : ℕ → Word) (first pages perms : ℕ) → perms < 64 → among perms possible ≡ false
     → countAt s r memory first pages (64 + perms) ≡ 0
 no-other-rights s r memory first pages perms small h =
-    rights-count s r memory first pages perms small ∙ many-none _ pages (λ i. fresh-none s r (pageAt first i) memory perms h)
+    count_at s r memory first pages (64 + perms) (omega arith)
+    ∙ many-none _ pages
+    (λ i. none (end_at s r memory first i) (sound-at s r memory first i) (fresh-possible s r (pageAt first i) memory))
+  where
+    none : (x : Fresh) → SoundFresh x → PossibleFresh x → (place_of x == 64 + perms) ≡ false
+    none (Ended (Fault n)) k q = let less = status-small n k in ne_eqb n (64 + perms) (λ e. omega arith)
+    none (Ended (Mapped leaf)) k q = shift-eqb 64 leaf.perms perms ∙ among_same leaf.perms perms q h
+    none (Flat pa) k q = ne_eqb 128 (64 + perms) (λ e. omega arith)

@@ -1,9 +1,10 @@
+#![tactic(auto)]
 // The status of a fault, as the walk, the permission check or memory gives it. A second stage will add to it.
 ghost use Rattle.std.specs.Prelude.{◌≡◌};
 ghost use Rattle.fault.specs.First.{first};
 
 // The fault status code is that of DFSC and IFSC.
-#[derive(Drop)]
+#[derive(Clone, Copy)]
 pub struct Fault {
     pub fsc: u8,
 }

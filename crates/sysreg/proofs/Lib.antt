@@ -2,4 +2,3 @@
 pub mod Finds
 pub mod Masks
 pub mod Stores
-pub mod Ends

@@ -5,9 +5,7 @@ use native.Mathlib.Nat.{add_assoc, mod-eq_of_lt, mod-lt, lt_of_le_of_lt}
 use lib.Bits.{bit_and, and_mask, and_high, and_shr, and_mod, and_le_r}
 use lib.Pow.{split, shr_mod, pow_pos}
 use Rattle.word.specs.Bits.{alignDown}
-use Rattle.sysreg.specs.declared.{regs.El.El, regs.SysReg.SysReg}
-use Rattle.sysreg.specs.declared.regs.SysReg.TheVariants.{Vbar, Spsr, Esr, Vpidr}
-use Rattle.sysreg.specs.Write.{kept, inPlace, spsrKept}
+use Rattle.sysreg.specs.Write.{inPlace, spsrKept}
 
 -- a mask in two parts, from bit k up and below it
 cut : (v m k : ℕ) → bit_and v m ≡ bit_and (v / 2 ^ k) (m / 2 ^ k) * 2 ^ k + bit_and (v % 2 ^ k) (m % 2 ^ k)
@@ -27,30 +25,16 @@ run v m lo n e =
     cut v m lo
     ∙ ap₂ (λ (a b : ℕ). a * 2 ^ lo + b) (ap (bit_and (v / 2 ^ lo)) e ∙ and_mask (v / 2 ^ lo) n) (below v m lo)
 
-pub spsr-mask : (v : ℕ) → bit_and v 0xF03F_03DF ≡ spsrKept v
+pub spsr_mask : (v : ℕ) → bit_and v 0xF03F_03DF ≡ spsrKept v
 unfolding spsrKept
-spsr-mask v =
+spsr_mask v =
     rw (run v 0xF03F_03DF 28 4 refl, run v 0x3F_03DF 21 1 refl, run v 0x1F_03DF 20 1 refl, run v 0xF_03DF 16 4 refl, run v 0x3DF 6 4 refl, and_mask v 5)
     (simp add_assoc)
 
-pub vbar-mask : (v : ℕ) → v < 2 ^ 64 → bit_and v 0xFFFF_FFFF_FFFF_F800 ≡ alignDown v 11
-vbar-mask v h = and_high v 53 11 ∙ ap (λ (n : ℕ). n * 2 ^ 11) (shr_mod 53 11 h)
+pub vbar_mask : (v : ℕ) → v < 2 ^ 64 → bit_and v 0xFFFF_FFFF_FFFF_F800 ≡ alignDown v 11
+vbar_mask v h = and_high v 53 11 ∙ ap (λ (n : ℕ). n * 2 ^ 11) (shr_mod 53 11 h)
 
 pub low_mask : (v : ℕ) → bit_and v 0xFFFF_FFFF ≡ v % 2 ^ 32
 low_mask v = and_mask v 32
 
--- what a register keeps, by the register
-module _ (r : SysReg) (v x : ℕ) where
-  pub keeps-vbar : (el : El) → r ≡ Vbar el → x ≡ alignDown v 11 → x ≡ kept r v
-  keeps-vbar el e q = rw e q
-
-  pub keeps-spsr : (el : El) → r ≡ Spsr el → x ≡ spsrKept v → x ≡ kept r v
-  keeps-spsr el e q = rw e q
-
-  pub keeps-esr : (el : El) → r ≡ Esr el → x ≡ v % 2 ^ 32 → x ≡ kept r v
-  keeps-esr el e q = rw e q
-
-  pub keeps-vpidr : r ≡ Vpidr → x ≡ v % 2 ^ 32 → x ≡ kept r v
-  keeps-vpidr e q = rw e q
-
-pub ruleset keeps = (keeps-vbar, keeps-spsr, keeps-esr, keeps-vpidr, spsr-mask, vbar-mask, low_mask)
+pub ruleset masks = (spsr_mask, vbar_mask, low_mask)

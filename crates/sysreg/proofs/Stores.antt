@@ -182,6 +182,6 @@ module _ (s : SysRegs) (h0 : length s.mair ≡ 4) (h1 : length s.vbar ≡ 4) (h2
   unfolding sysWith
   put-par x q e = rw (q, e) (ap (λ (m : SysRegs). setPar m (kept Par v)) fullSysRegs)
 
-pub ruleset control-stores = (put-sctlr, put-tcr, put-ttbr0, put-ttbr1, put-scr, put-hcr)
+pub ruleset control_stores = (put-sctlr, put-tcr, put-ttbr0, put-ttbr1, put-scr, put-hcr)
 
-pub ruleset sys-stores = (put-mair, put-vbar, put-elr, put-spsr, put-esr, put-far, put-vpidr, put-vmpidr, put-par)
+pub ruleset sys_stores = (put-mair, put-vbar, put-elr, put-spsr, put-esr, put-far, put-vpidr, put-vmpidr, put-par)

@@ -9,7 +9,7 @@ use crate::regs::{ControlReg, El, Register, SysReg};
 pub const PAR_EL1: u32 = 0xC3A0;
 
 // What a key names.
-#[derive(Drop)]
+#[derive(Clone, Copy)]
 pub enum Found {
     At(Register),
     Nothing,
@@ -23,6 +23,7 @@ pub fn key(op0: u32, op1: u32, crn: u32, crm: u32, op2: u32) -> u32
 }
 
 // A register that one level alone has, by its whole encoding.
+#[tactic(auto, unfolding(crate::specs::Parts::singleAt))]
 fn single(k: u32) -> Found
     ensures { result ≡ singleAt k }
 {
@@ -68,6 +69,7 @@ pub fn banked(k: u32) -> Found
 }
 
 // The register kept that an encoding names: PAR_EL1 or a banked one.
+#[tactic(auto, unfolding(crate::specs::Encoding::registerAt))]
 pub fn named(k: u32) -> Found
     ensures { result ≡ registerAt k }
 {

@@ -1,3 +1,4 @@
+#![tactic(auto)]
 // The system registers that are kept: how they are named, how they are written, and what of them shapes a translation.
 pub mod encoding;
 pub mod regs;

@@ -4,7 +4,7 @@ ghost use Rattle.std.specs.Prelude.{◌≡◌, ◌<◌};
 ghost use Rattle.sysreg.specs.Regs.{levelOf, freshControl, freshSys};
 
 // All that translation reads.
-#[derive(Drop)]
+#[derive(Clone, Copy)]
 pub struct Control {
     pub sctlr: [u64; 4],
     pub tcr: [u64; 4],
@@ -15,7 +15,7 @@ pub struct Control {
 }
 
 // The other registers kept.
-#[derive(Drop)]
+#[derive(Clone, Copy)]
 pub struct SysRegs {
     pub mair: [u64; 4],
     pub vbar: [u64; 4],
@@ -29,7 +29,7 @@ pub struct SysRegs {
 }
 
 // The exception level whose instance of a register is meant.
-#[derive(Drop)]
+#[derive(Clone, Copy)]
 pub enum El {
     El1,
     El2,
@@ -37,7 +37,7 @@ pub enum El {
 }
 
 // A register of Control.
-#[derive(Drop)]
+#[derive(Clone, Copy)]
 pub enum ControlReg {
     Sctlr(El),
     Tcr(El),
@@ -48,7 +48,7 @@ pub enum ControlReg {
 }
 
 // A register of SysRegs.
-#[derive(Drop)]
+#[derive(Clone, Copy)]
 pub enum SysReg {
     Mair(El),
     Vbar(El),
@@ -62,7 +62,7 @@ pub enum SysReg {
 }
 
 // A register, by the struct that holds it.
-#[derive(Drop)]
+#[derive(Clone, Copy)]
 pub enum Register {
     InControl(ControlReg),
     InSys(SysReg),
@@ -82,6 +82,7 @@ pub fn index(el: El) -> usize
 
 impl Control {
     // SCTLR_ELx have their RES1 bits, and what reset leaves unknown is 0.
+    #[tactic(auto, unfolding(crate::specs::Regs::freshControl))]
     pub fn new() -> Self
         ensures { result ≡ freshControl }
     {
@@ -98,6 +99,7 @@ impl Control {
 
 impl SysRegs {
     // VPIDR_EL2 and VMPIDR_EL2 start as the identity of core 0, so that EL1 sees it where EL2 sets nothing.
+    #[tactic(auto, unfolding(crate::specs::Regs::freshSys))]
     pub fn new() -> Self
         ensures { result ≡ freshSys }
     {

@@ -12,8 +12,8 @@ fn same_levels(a: [u64; 4], b: [u64; 4]) -> bool
 }
 
 // Whether two settings shape translations alike: in all but the TTBRs of the EL1&0 regime, which the ASID tells
-// apart. Index 0 of an array
-// is never written.
+// apart. Index 0 of an array is never written.
+#[tactic(auto, unfolding(crate::specs::Shape::same_shape))]
 pub fn same_shape(a: Control, b: Control) -> bool
     ensures { result ≡ same_shape a b }
 {
@@ -24,6 +24,7 @@ pub fn same_shape(a: Control, b: Control) -> bool
 }
 
 // The base register that holds the ASID: TTBR1_EL1 or TTBR0_EL1, by TCR_EL1.A1.
+#[tactic(auto, unfolding(crate::specs::Shape::asidBase))]
 fn asid_base(control: Control) -> u64
     ensures { result ≡ asidBase control }
 {
@@ -36,6 +37,7 @@ fn asid_base(control: Control) -> u64
 }
 
 // Its 16 or 8 bits, by TCR_EL1.AS.
+#[tactic(auto, unfolding(crate::specs::Shape::asidOf))]
 pub fn asid(control: Control) -> u16
     ensures { result ≡ asidOf control }
 {

@@ -6,7 +6,7 @@ use crate::encoding::{Found, named};
 use crate::regs::{Control, ControlReg, Register, SysReg, SysRegs, index};
 
 // How a register write ends.
-#[derive(Drop)]
+#[derive(Clone, Copy)]
 pub enum WriteAnswer {
     Done,
     // The level may not write it.
@@ -16,13 +16,14 @@ pub enum WriteAnswer {
 }
 
 // The registers after a write, and its answer.
-#[derive(Drop)]
+#[derive(Clone, Copy)]
 pub struct Written {
     pub control: Control,
     pub sys: SysRegs,
     pub answer: WriteAnswer,
 }
 
+#[tactic(auto, using(crate::proofs::Stores::control_stores))]
 fn put_control(control: Control, register: ControlReg, value: u64) -> Control
     ensures { result ≡ controlWith control register value }
 {
@@ -48,6 +49,7 @@ fn put_control(control: Control, register: ControlReg, value: u64) -> Control
 }
 
 // VBAR, SPSR, ESR and VPIDR_EL2 keep only the bits that are not RES0.
+#[tactic(auto, using(crate::proofs::Masks::masks))]
 pub fn kept_bits(register: SysReg, value: u64) -> u64
     ensures { result ≡ keptOf register value }
 {
@@ -64,6 +66,7 @@ pub fn kept_bits(register: SysReg, value: u64) -> u64
     }
 }
 
+#[tactic(auto, using(crate::proofs::Stores::sys_stores))]
 fn put_sys(sys: SysRegs, register: SysReg, value: u64) -> SysRegs
     ensures { result ≡ sysWith sys register value }
 {
@@ -119,6 +122,7 @@ fn store(control: Control, sys: SysRegs, register: Register, value: u64) -> Writ
 }
 
 // A key that names no register kept is refused; else EL0 may write none; else the register is written.
+#[tactic(auto, unfolding(crate::specs::Write::writeReg))]
 pub fn write_reg(control: Control, sys: SysRegs, level: u8, k: u32, value: u64) -> Written
     ensures value { result ≡ writeReg control sys level k value }
     ensures answer_value { replyOf result.answer ≡ replyTo level k }

@@ -1,24 +1,22 @@
 -- One level of the walk case by case, on plain values.
 use mathlib.Core.Path.{◌≡◌, refl, sym, ap, ◌∙◌}
 use mathlib.Core.Bool.{Bool, true, false, not, ◌&&◌, ◌||◌}
-use Prim.Native.Nat.{ℕ, zero, suc, ◌+◌, ◌-◌, ◌*◌, ◌/◌, ◌%◌, ◌^◌, ◌≤◌, ◌<◌}
+use Prim.Native.Nat.{ℕ, ◌+◌, ◌-◌, ◌*◌, ◌/◌, ◌%◌, ◌^◌, ◌≤◌, ◌<◌}
 use native.Mathlib.Nat.{mod-lt, lt_of_lt_of_le, le_of_lt}
 use native.Mathlib.Omega.{arith}
-use borrow.Author.Tests.{eq-eqb, ne_eqb}
 use lib.Bits.{bit_or}
-use lib.Dec.{eqb, ltb}
-use lib.Pow
+use lib.Dec.{ltb}
 use lib.Pow.{shl-shr, shr-shr, mod-pow-add, high, pow_pos, pow_mono}
-use Rattle.word.specs.Bits.{bitOn, field, pick, alignDown}
+use Rattle.word.specs.Bits.{field, alignDown}
 use Rattle.word.specs.BitLaws.{place, cut_field, or-bit, align-le}
-use Rattle.walk.specs.Descriptor.{valid, tableOrPage, af, nG, apTable0, apTable1, uxnTable, pxnTable}
-use Rattle.walk.specs.Table.{grainsize, stride, firstblocklevel, addrselectbottom, beyond, descaddr, outputaddress, tableNext, leafPermissions}
-use Rattle.walk.specs.Table.{leafTranslation, leafResult, levelNext}
+use Rattle.walk.specs.Descriptor.{af, nG}
+use Rattle.walk.specs.Table.{grainsize, stride, firstblocklevel, addrselectbottom, beyond, descaddr, tableNext, leafPermissions}
+use Rattle.walk.specs.Table.{leafTranslation, leafResult}
 use Rattle.walk.specs.Permission.{permissionByte}
 use Rattle.walk.specs.Walk.{walkedOf}
-use Rattle.walk.specs.State.{lookupOf, Outcome, onward, answers, stepped, meant, Standing, Onwards, Leads, next, stop}
+use Rattle.walk.specs.State.{lookupOf, answers, stepped, meant, Standing, Onwards, Leads, next, stop}
 use Rattle.walk.specs.declared.{rights.Permissions.Permissions, level.Params.Params, level.WalkState.WalkState}
-use Rattle.walk.specs.declared.{level.Leaf.Leaf, level.Walked.Walked, level.Step.Step}
+use Rattle.walk.specs.declared.{level.Walked.Walked}
 use Rattle.walk.specs.declared.level.Walked.TheVariants.{Mapped, Fault}
 use Rattle.walk.specs.declared.level.Step.TheVariants.{Next, Done}
 
@@ -150,32 +148,8 @@ parts-fit p w va desc x o st ex eo =
     let b : va % 2 ^ (w.lsb % 64) < 2 ^ 63 = lt_of_lt_of_le (mod-lt va (pow_pos (w.lsb % 64))) (pow_mono {i = w.lsb % 64} {j = 63} (omega arith)) in
     rw (ex, eo) (omega arith)
 
--- what a descriptor says
-module _ (p : Params) (w : WalkState) (va desc : ℕ) where
-  pub level-unset : valid desc ≡ false → answers (Fault (4 + w.level)) ≡ meant p (levelNext p va (lookupOf p w) desc)
-  unfolding levelNext
-  level-unset v = rw v
+pub ruleset addresses = (skip-fits, skip-more, index-fits, address-fits, address_is)
 
-  -- at level 3 no block
-  pub level-last : valid desc ≡ true → tableOrPage desc ≡ false → w.level ≡ 3
-      → answers (Fault (4 + w.level)) ≡ meant p (levelNext p va (lookupOf p w) desc)
-  unfolding levelNext
-  level-last v t l = rw (v, t, eq-eqb w.level 3 l)
+pub ruleset tables = (table-beyond, table-onward, stops, table-leads)
 
-  pub level-block : (a : Walked) → valid desc ≡ true → tableOrPage desc ≡ false → (w.level ≡ 3 → ⊥)
-      → a ≡ walkedOf p.singlepriv p.wxn (leafResult p va (lookupOf p w) desc)
-      → answers a ≡ meant p (levelNext p va (lookupOf p w) desc)
-  unfolding levelNext
-  level-block a v t l e = rw (v, t, ne_eqb w.level 3 l, e)
-
-  pub level-page : (a : Walked) → Standing p w → valid desc ≡ true → tableOrPage desc ≡ true → 3 ≤ w.level
-      → a ≡ walkedOf p.singlepriv p.wxn (leafResult p va (lookupOf p w) desc)
-      → answers a ≡ meant p (levelNext p va (lookupOf p w) desc)
-  unfolding levelNext
-  level-page a st v t l e = rw (v, t, eq-eqb w.level 3 (omega (arith, st.level)), e)
-
-  pub level-table : (s : Step) → valid desc ≡ true → tableOrPage desc ≡ true → w.level < 3
-      → stepped p s ≡ meant p (tableNext p (lookupOf p w) desc)
-      → stepped p s ≡ meant p (levelNext p va (lookupOf p w) desc)
-  unfolding levelNext
-  level-table s v t l e = rw (v, t, ne_eqb w.level 3 (λ q. omega (arith, q))) e
+pub ruleset leaf_ends = (leaf-early, leaf-beyond, leaf-mapped, leaf-unused, parts-fit)

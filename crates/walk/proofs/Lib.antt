@@ -2,4 +2,3 @@ pub mod Leaves
 pub mod Levels
 pub mod Loop
 pub mod Visiting
-pub mod Freshes

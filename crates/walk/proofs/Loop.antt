@@ -1,23 +1,22 @@
 -- The loop over the levels: a step that leads on stands one level lower and ends as before; a step that is done has the walk's answer.
-use mathlib.Core.Path.{◌≡◌, refl, sym, ap, ◌∙◌, subst}
+use mathlib.Core.Path.{◌≡◌, refl, sym, ap, ◌∙◌}
 use mathlib.Core.Bool.{Bool, true, false, not, ◌&&◌, ◌||◌}
-use Prim.Native.Nat.{ℕ, zero, suc, ◌+◌, ◌-◌, ◌*◌, ◌≤◌, ◌<◌, ◌%◌, ◌^◌}
+use Prim.Native.Nat.{ℕ, suc, ◌-◌, ◌≤◌, ◌<◌, ◌%◌, ◌^◌}
 use native.Mathlib.Omega.{arith}
 use Rattle.word.specs.declared.ram.Word.{Word}
-use Rattle.word.specs.declared.ram.Word.TheVariants.{Value, Outside}
+use Rattle.word.specs.declared.ram.Word.TheVariants.{Outside}
 use Rattle.word.specs.Bits.{alignDown}
 use Rattle.word.specs.BitLaws.{align-le}
-use Rattle.walk.specs.Regime.{singlePriv, wxnOf}
-use Rattle.walk.specs.Table.{Lookup, Result, Next, deeper, ends, faults, addressSize, translation, externalAbort, descaddr, levelNext, lookupNext, onNext}
+use Rattle.walk.specs.Table.{Lookup, Result, Next, deeper, ends, lookupNext}
 use Rattle.walk.specs.Table.{walkFrom, walkRange, tableWalk, range_of, params_of, firstLookup, startlevel, inputsize, in_range, beyond, addrselectbottom}
 use Rattle.walk.specs.Table.{startlevelOf, baselowerbound}
 use Rattle.walk.specs.Walk.{walkedOf, walk_of}
-use Rattle.walk.specs.State.{lookupOf, Outcome, onward, answers, stepped, meant, Standing, Onwards, Leads, next, stop, beginOf}
+use Rattle.walk.specs.State.{lookupOf, onward, answers, stepped, meant, Standing, Onwards, Leads, next, stop, beginOf}
 use Rattle.walk.specs.declared.{regime.Regime.Regime, regime.Bank.Bank, range.Range.Range, range.Begin.Begin}
 use Rattle.walk.specs.declared.{level.Params.Params, level.WalkState.WalkState, level.Walked.Walked}
 use Rattle.walk.specs.declared.level.Step.{Step}
 use Rattle.walk.specs.declared.range.Begin.TheVariants.{At, Refused}
-use Rattle.walk.specs.declared.level.Walked.TheVariants.{Mapped, Fault}
+use Rattle.walk.specs.declared.level.Walked.TheVariants.{Fault}
 use Rattle.walk.specs.declared.level.Step.TheVariants.{Next as Onward, Done}
 
 -- the two outcomes are apart
@@ -44,17 +43,6 @@ leads-on p w v (Done a) stop e = absurd (steps_apart v a e)
 pub is-deeper : (p : Params) (l : Lookup) (n : Next) → onward l ≡ meant p n → n ≡ deeper l
 is-deeper p l (deeper k) e = ap deeper (sym (onward-inj l k e))
 is-deeper p l (ends r) e = absurd (apart l _ e)
-
--- what a fetched word, or its absence, says
-module _ (memory : ℕ → Word) (p : Params) (w : WalkState) (va a : ℕ) (x : Word) (ea : a ≡ descaddr p va (lookupOf p w)) (ex : x ≡ memory a) where
-  pub fetched : (desc : ℕ) (s : Step) → x ≡ Value desc → stepped p s ≡ meant p (levelNext p va (lookupOf p w) desc)
-      → stepped p s ≡ meant p (lookupNext memory p va (lookupOf p w))
-  unfolding lookupNext
-  fetched desc s e h = rw (← ea, ← ex, e) h
-
-  pub unfetched : x ≡ Outside → answers (Fault (20 + w.level)) ≡ meant p (lookupNext memory p va (lookupOf p w))
-  unfolding lookupNext
-  unfetched e = rw (← ea, ← ex, e)
 
 module _ (memory : ℕ → Word) (p : Params) (w : WalkState) (va : ℕ) (s : Step) (es : stepped p s ≡ meant p (lookupNext memory p va (lookupOf p w)))
     (ld : Leads p w s) where
@@ -177,3 +165,7 @@ module _ (s : Bank) (r : Regime) (va : ℕ) (memory : ℕ → Word) (g : Range) 
 pub begins-standing : (s : Bank) (r : Regime) (va : ℕ) (g : Range) (p : Params) (x : Begin) (w : WalkState) → g ≡ range_of s r va
     → p ≡ params_of s r g → x ≡ beginOf g p.outputsize va → x ≡ At w → Standing p w
 begins-standing s r va g p x w eg ep ex n = standing s r va (λ _. Outside) g p x eg ep ex w n
+
+pub ruleset walk_steps = (falls, stands, goes_on, done-right)
+
+pub ruleset walk_ends = (begins-standing, walks_from, walk_refused)

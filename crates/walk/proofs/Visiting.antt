@@ -15,7 +15,7 @@ use Rattle.walk.specs.declared.{level.Params.Params, level.WalkState.WalkState, 
 use Rattle.walk.specs.declared.{level.Step.Step, table.Visited.Visited}
 use Rattle.walk.specs.declared.range.Begin.TheVariants.{At, Refused}
 use Rattle.walk.specs.declared.level.Step.TheVariants.{Next as Onward, Done}
-use Rattle.walk.proofs.Loop.{apart, is-deeper, at-inj, refused-at, at-refused, first, first-is}
+use Rattle.walk.proofs.Loop.{apart, is-deeper, at-inj, refused-at, at-refused, first, first-is, stands, begins-standing}
 
 some_left : (n : ℕ) → eqb n 0 ≡ false → n ≡ suc (n - 1)
 some_left zero e = absurd (false≢true (sym e))
@@ -83,3 +83,7 @@ module _ (s : Bank) (r : Regime) (va n : ℕ) (memory : ℕ → Word) (g : Range
 
   pub visits-none : (m : ℕ) → x ≡ Refused m → past ≡ visitOf s r va memory n
   visits-none m e = refused m _ _ refl refl (sym ex ∙ e) ∙ sym as-whole
+
+pub ruleset visit_steps = (one_left, one_fewer, stands, visit-on, visit-here, visit-past)
+
+pub ruleset visit_ends = (begins-standing, visits-from, visits-none)

@@ -1,12 +1,12 @@
 -- Document 01's proved cases that are translations with an empty cache, and the untagging: rows 1 to 9 and 12, as one computed statement.
-use Rattle.std.specs.Prelude.{◌≡◌, refl, Bool, true, false, List, [], ◌∷◌, ℕ, ◌+◌, ◌%◌, ◌^◌}
+use Rattle.std.specs.Prelude.{◌≡◌, refl, Bool, true, false, [], ◌∷◌, ℕ, ◌+◌, ◌%◌, ◌^◌}
 use Rattle.word.specs.Bits.{bitOn, alignDown, pick}
 use Rattle.word.specs.Ram.{word_at, littleEndian, bytes_of}
 use Rattle.walk.specs.Tag.{untagged}
 use Rattle.walk.specs.Size.{paSize}
 use Rattle.walk.specs.Table.{range_of, params_of, tableNext, leafPermissions, leafTranslation, leafResult, levelNext, descaddr, lookupNext, walkFrom}
 use Rattle.walk.specs.Table.{walkRange, tableWalk}
-use Rattle.walk.specs.Permission.{Access, reading, writing, fetching, kindBit, firstBit}
+use Rattle.walk.specs.Permission.{Access, reading, fetching, kindBit, firstBit}
 use Rattle.walk.specs.Walk.{walk_of}
 use Rattle.walk.specs.declared.regime.Regime.TheVariants.{El1}
 use Rattle.walk.specs.declared.{regime.Bank.Bank, level.Walked.Walked}

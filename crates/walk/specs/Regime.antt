@@ -5,7 +5,6 @@ use Rattle.std.specs.Prelude.{Bool, true, false, not, ◌&&◌, ◌||◌, ℕ, e
 use Rattle.word.specs.Bits.{bitOn, bit0, pick}
 use Rattle.sysreg.specs.Regs.{controlAt}
 use Rattle.sysreg.specs.declared.{regs.Control.Control, regs.El.El}
-use Rattle.sysreg.specs.declared.regs.El.TheVariants as El
 use Rattle.sysreg.specs.declared.regs.ControlReg.TheVariants.{Sctlr, Tcr, Ttbr0, Ttbr1, Scr, Hcr}
 use Rattle.walk.specs.declared.{regime.Regime.Regime, regime.Bank.Bank}
 use Rattle.walk.specs.declared.regime.Regime.TheVariants.{El1, El2, El3}

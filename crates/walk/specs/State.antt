@@ -1,9 +1,9 @@
 -- How the code keeps the manual's variables: the bits of all table descriptors passed in one word, and the bit at which an index begins. These
 -- are the code's own states, for the contracts of its parts; no definition of the walk reads this file.
-use Rattle.std.specs.Prelude.{◌≡◌, Bool, not, ◌&&◌, ℕ, ◌+◌, ◌-◌, ◌%◌, ◌^◌, ◌≤◌, ◌<◌}
+use Rattle.std.specs.Prelude.{◌≡◌, Bool, not, ◌&&◌, ℕ, ◌+◌, ◌%◌, ◌^◌, ◌≤◌, ◌<◌}
 use Rattle.word.specs.Bits.{alignDown}
 use Rattle.walk.specs.Descriptor.{apTable0, apTable1, uxnTable, pxnTable}
-use Rattle.walk.specs.Table.{statusOf, entered, Lookup, Result, Next, deeper, ends, inputsize, startlevel, startlevelOf, addrselectbottom, baselowerbound}
+use Rattle.walk.specs.Table.{statusOf, entered, Lookup, Next, deeper, ends, inputsize, startlevel, startlevelOf, addrselectbottom, baselowerbound}
 use Rattle.walk.specs.Walk.{walkedOf}
 use Rattle.walk.specs.declared.{range.Range.Range, range.Start.Start, range.Begin.Begin, level.Params.Params}
 use Rattle.walk.specs.declared.{level.WalkState.WalkState, level.Walked.Walked, level.Step.Step}

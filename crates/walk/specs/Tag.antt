@@ -1,7 +1,7 @@
 -- Tagged addresses, top byte ignore: DDI 0487, AddrTop of ARMv8.0. Written from knowledge of it; the document itself was not at hand.
 -- AddrTop is 55 for an address whose tag is ignored, and 63 for another, and the walk reads nothing above it. Here the tag is replaced by what
 -- keeps the address in its range, so the walk may read up to bit 63.
-use Rattle.std.specs.Prelude.{Bool, true, false, ℕ, ◌+◌, ◌-◌, ◌*◌, ◌/◌, ◌%◌, ◌^◌}
+use Rattle.std.specs.Prelude.{Bool, ℕ, ◌+◌, ◌-◌, ◌*◌, ◌/◌, ◌%◌, ◌^◌}
 use Rattle.word.specs.Bits.{bitOn, pick}
 use Rattle.sysreg.specs.Tcr as fields
 use Rattle.sysreg.specs.Tcr.{tbi0, tbi1}

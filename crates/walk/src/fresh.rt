@@ -8,13 +8,14 @@ use crate::regime::{Bank, Regime};
 use crate::{regime, table, tag};
 
 // With stage 1 off a physical address; with it on, as the walk ends.
-#[derive(Drop)]
+#[derive(Clone, Copy)]
 pub enum Fresh {
     Flat(u64),
     Ended(Walked),
 }
 
 // The fresh answer of va, tag and all, in the regime, over the RAM that starts at base.
+#[tactic(auto, unfolding(crate::specs::Fresh::fresh_of))]
 pub fn fresh_of(s: Bank, regime: Regime, va: u64, base: u64, ram: &[u8]) -> Fresh
     ensures { result ≡ fresh_of s regime va (word_at base ram.now 8) }
 {

@@ -10,7 +10,7 @@ use crate::rights::Permissions;
 use word::bits;
 
 // What the registers say of every level.
-#[derive(Drop)]
+#[derive(Clone, Copy)]
 pub struct Params {
     pub largegrain: bool,
     // how many bits an output address may have
@@ -22,7 +22,7 @@ pub struct Params {
 
 // Where a walk stands: the bits of the table descriptors passed, the table, the bit above those that index it, and
 // the lowest of those.
-#[derive(Drop)]
+#[derive(Clone, Copy)]
 pub struct WalkState {
     pub tables: u64,
     pub table: u64,
@@ -32,7 +32,7 @@ pub struct WalkState {
 }
 
 // A block or page descriptor, with the attributes of the tables above it.
-#[derive(Drop)]
+#[derive(Clone, Copy)]
 pub struct Leaf {
     pub oa: u64,
     pub desc: u64,
@@ -43,14 +43,14 @@ pub struct Leaf {
 }
 
 // What a walk ends in: a leaf, or a fault status code.
-#[derive(Drop)]
+#[derive(Clone, Copy)]
 pub enum Walked {
     Mapped(Leaf),
     Fault(u8),
 }
 
 // What a level's descriptor leads to.
-#[derive(Drop)]
+#[derive(Clone, Copy)]
 pub enum Step {
     Next(WalkState),
     Done(Walked),
@@ -87,6 +87,7 @@ pub(crate) fn too_large(x: u64, n: u64) -> bool
 }
 
 // The address of the descriptor that va selects.
+#[tactic(auto, using(crate::proofs::Levels::addresses))]
 pub(crate) fn descriptor_address(p: Params, w: WalkState, va: u64) -> u64
     requires { Standing p w }
     ensures { result ≡ descaddr p va (lookupOf p w) }
@@ -97,6 +98,7 @@ pub(crate) fn descriptor_address(p: Params, w: WalkState, va: u64) -> u64
 }
 
 // A table descriptor: the next level, unless the table lies beyond the output size.
+#[tactic(auto, using(crate::proofs::Levels::tables))]
 fn table_step(p: Params, w: WalkState, desc: u64) -> Step
     requires standing { Standing p w }
     requires level_bound { (w.level < 3) × (p.outputsize ≤ 44) }
@@ -135,8 +137,8 @@ fn permissions(p: Params, w: WalkState, desc: u64) -> Permissions
 }
 
 // A block or page descriptor: the leaf, unless blocks are not allowed there, its output lies beyond the output size,
-// or its access flag
-// is clear.
+// or its access flag is clear.
+#[tactic(auto, using(crate::proofs::Levels::leaf_ends))]
 fn leaf_step(p: Params, w: WalkState, va: u64, desc: u64) -> Walked
     requires standing { Standing p w }
     requires outputsize_bound { p.outputsize ≤ 44 }
@@ -170,6 +172,7 @@ fn leaf_step(p: Params, w: WalkState, va: u64, desc: u64) -> Walked
 }
 
 // What a descriptor of the level says.
+#[tactic(auto, using(crate::proofs::Levels::stops), unfolding(crate::specs::Table::levelNext))]
 pub(crate) fn level_step(p: Params, w: WalkState, va: u64, desc: u64) -> Step
     requires standing { Standing p w }
     requires outputsize_bound { p.outputsize ≤ 44 }

@@ -1,3 +1,4 @@
+#![tactic(auto)]
 // Stage 1 of VMSAv8-64: the address leaves and the translation table walk. Nothing here keeps state.
 pub mod fresh;
 pub mod level;

@@ -9,7 +9,7 @@ use crate::{level, regime, size};
 use word::bits;
 
 // The fields of TCR and TTBR for the range that an address lies in.
-#[derive(Drop)]
+#[derive(Clone, Copy)]
 pub struct Range {
     // a granule of 64 KiB, and not of 4 KiB
     pub largegrain: bool,
@@ -24,14 +24,14 @@ pub struct Range {
 }
 
 // The first level, and the lowest address bit that indexes its table.
-#[derive(Drop)]
+#[derive(Clone, Copy)]
 pub struct Start {
     pub level: u8,
     pub lsb: u64,
 }
 
 // Where a walk begins, or the status of the fault that keeps it from beginning.
-#[derive(Drop)]
+#[derive(Clone, Copy)]
 pub enum Begin {
     At(WalkState),
     Refused(u8),
@@ -80,6 +80,7 @@ fn only_range(s: Bank) -> Range
 }
 
 // The range that va lies in.
+#[tactic(auto, unfolding(crate::specs::Table::range_of))]
 pub fn range_of(s: Bank, regime: Regime, va: u64) -> Range
     ensures { result ≡ range_of s regime va }
 {
@@ -98,6 +99,7 @@ pub fn range_of(s: Bank, regime: Regime, va: u64) -> Range
 }
 
 // What holds at every level of a walk.
+#[tactic(auto, unfolding(crate::specs::Table::params_of))]
 pub fn params_of(s: Bank, regime: Regime, g: Range) -> Params
     ensures value { result ≡ params_of s regime g }
     ensures outputsize_bound { result.outputsize ≤ 44 }
@@ -124,6 +126,7 @@ fn input_size(g: Range) -> u64
     }
 }
 
+#[tactic(auto, using(crate::proofs::Leaves::ones_shifted))]
 fn in_range(g: Range, va: u64) -> bool
     ensures { result ≡ in_range g va }
 {
@@ -166,6 +169,7 @@ fn start_of(largegrain: bool, n: u64) -> Start
 }
 
 // The first table, unless the address is out of range or walks are disabled, or the table lies beyond the output size.
+#[tactic(auto, using(crate::proofs::Leaves::begin_ends))]
 pub(crate) fn begin_walk(g: Range, outputsize: u64, va: u64) -> Begin
     requires { outputsize ≤ 44 }
     ensures { result ≡ beginOf g outputsize va }

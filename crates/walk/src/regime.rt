@@ -5,7 +5,7 @@ ghost use Rattle.walk.specs.Regime.{bankOf, regimeOf, singlePriv, stage1On};
 use sysreg::regs::Control;
 
 // EL1&0, EL2 and EL3.
-#[derive(Drop)]
+#[derive(Clone, Copy)]
 pub enum Regime {
     El1,
     El2,
@@ -13,7 +13,7 @@ pub enum Regime {
 }
 
 // The registers that translation in one regime reads: its own SCTLR, TCR and TTBR0, and TTBR1_EL1, SCR_EL3 and HCR_EL2.
-#[derive(Drop)]
+#[derive(Clone, Copy)]
 pub struct Bank {
     pub sctlr: u64,
     pub tcr: u64,

@@ -4,7 +4,7 @@ ghost use Rattle.word.specs.Bits.{flag};
 ghost use Rattle.walk.specs.Permission.{permissionByte};
 
 // The attributes of a leaf that decide permission, as the tables above it leave them: AP<2>, AP<1>, UXN (XN) and PXN.
-#[derive(Drop)]
+#[derive(Clone, Copy)]
 pub struct Permissions {
     pub ap2: bool,
     pub ap1: bool,

@@ -3,6 +3,7 @@ ghost use Rattle.std.specs.Prelude.{◌≡◌, ◌%◌, ◌≤◌};
 ghost use Rattle.walk.specs.Size.{paSize};
 
 // TCR.{I}PS to a number of bits, capped at what the A72 implements.
+#[tactic(auto, unfolding(crate::specs::Size::paSize))]
 pub fn pa_bits(ps: u64) -> u64
     ensures value { result ≡ paSize (ps % 8) }
     ensures lower_bound { (32 ≤ result) × (result ≤ 44) }

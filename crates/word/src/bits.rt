@@ -1,6 +1,5 @@
 // Bit fields whose place is a variable; a field at a fixed place is written out, as (x >> 14) % 4. A place is taken
-// modulo 64, as the
-// machine's shifts take it, so that each function is total.
+// modulo 64, as the machine's shifts take it, so that each function is total.
 ghost use Rattle.std.specs.Prelude.{◌≡◌, ◌+◌, ◌%◌, ◌^◌, ◌≤◌};
 ghost use Rattle.word.specs.Bits.{bitOn, alignDown, wrap, flag};
 

@@ -1,13 +1,12 @@
 // RAM as a lent window: its first address, and its bytes. An access is 1, 2, 4 or 8 bytes, little-endian, and has
-// all of its bytes in the
-// window or moves none.
+// all of its bytes in the window or moves none.
 ghost use Rattle.std.specs.Prelude.{◌≡◌, ◌+◌, ◌≤◌, length};
 ghost use Rattle.word.specs.Ram.{littleEndian, bytes_of, bytesIn, within, word_at, written, stored, width_of};
 
 use crate::bits;
 
 // How many bytes an access moves.
-#[derive(Drop)]
+#[derive(Clone, Copy)]
 pub enum Width {
     Byte,
     Half,
@@ -16,14 +15,14 @@ pub enum Width {
 }
 
 // The value that lies at an address, or nothing where a byte of it lies outside the window.
-#[derive(Drop)]
+#[derive(Clone, Copy)]
 pub enum Word {
     Value(u64),
     Outside,
 }
 
 // What a size in bytes names.
-#[derive(Drop)]
+#[derive(Clone, Copy)]
 pub enum Sized {
     Bytes(Width),
     Refused,
@@ -56,6 +55,7 @@ pub fn bytes_in(width: Width) -> u64
 
 // The value of one, two, four and eight bytes from at, the lowest first: each joins two of the last, and the whole
 // becomes one load.
+#[tactic(auto, using(crate::proofs::Window::one_byte))]
 pub(crate) fn le1(ram: &[u8], at: usize) -> u64
     requires { at + 1 ≤ length ram.now }
     ensures value { result ≡ littleEndian ram.now 1 at }
@@ -64,6 +64,7 @@ pub(crate) fn le1(ram: &[u8], at: usize) -> u64
     bits::wide(ram[at])
 }
 
+#[tactic(auto, using(crate::proofs::Window::join1))]
 pub(crate) fn le2(ram: &[u8], at: usize) -> u64
     requires { at + 2 ≤ length ram.now }
     ensures value { result ≡ littleEndian ram.now 2 at }
@@ -72,6 +73,7 @@ pub(crate) fn le2(ram: &[u8], at: usize) -> u64
     le1(ram, at) + le1(ram, at + 1) * 0x100
 }
 
+#[tactic(auto, using(crate::proofs::Window::join2))]
 pub(crate) fn le4(ram: &[u8], at: usize) -> u64
     requires { at + 4 ≤ length ram.now }
     ensures value { result ≡ littleEndian ram.now 4 at }
@@ -80,6 +82,7 @@ pub(crate) fn le4(ram: &[u8], at: usize) -> u64
     le2(ram, at) + le2(ram, at + 2) * 0x1_0000
 }
 
+#[tactic(auto, using(crate::proofs::Window::join4))]
 pub(crate) fn le8(ram: &[u8], at: usize) -> u64
     requires { at + 8 ≤ length ram.now }
     ensures { result ≡ littleEndian ram.now 8 at }
@@ -115,6 +118,7 @@ pub(crate) fn value_at(ram: &[u8], width: Width, at: usize) -> u64
 }
 
 // The value at the physical address pa.
+#[tactic(auto, unfolding(crate::specs::Ram::word_at))]
 pub fn read(base: u64, ram: &[u8], width: Width, pa: u64) -> Word
     ensures { result ≡ word_at base ram.now (bytesIn width) pa }
 {
@@ -129,6 +133,7 @@ pub fn read(base: u64, ram: &[u8], width: Width, pa: u64) -> Word
 }
 
 // The byte writer: the whole of what it is lent, the lowest byte first.
+#[tactic(auto, using(crate::proofs::Window::bytes_end))]
 fn put_bytes(part: &mut [u8], value: u64)
     ensures { part.new ≡ bytes_of (length part.old) value }
 {
@@ -142,6 +147,7 @@ fn put_bytes(part: &mut [u8], value: u64)
 }
 
 // The part that a store may write, n bytes from at, is lent to the byte writer.
+#[tactic(auto, using(crate::proofs::Window::put_part))]
 fn put_part(ram: &mut [u8], at: usize, n: usize, value: u64)
     requires { at + n ≤ length ram.old }
     ensures { ram.new ≡ written ram.old at n value }
@@ -151,6 +157,7 @@ fn put_part(ram: &mut [u8], at: usize, n: usize, value: u64)
 
 // A store of the n low bytes of a value: the part from the address minus the base, of the store's size, or nothing.
 // Whether it was made.
+#[tactic(auto, unfolding(crate::specs::Ram::stored))]
 pub fn write_bytes(base: u64, ram: &mut [u8], n: u64, pa: u64, value: u64) -> bool
     ensures { (result ≡ within base (length ram.old) n pa)
         × (ram.new ≡ stored base ram.old n pa value) }
