@@ -1,6 +1,6 @@
 -- The plain model over a history: what each event does to it and what it answers, by the model's own functions; and
 -- that the cache of History.antt does the same, answers, counters and what is pending included.
-use Rattle.std.specs.Prelude.{◌≡◌, Bool, List, [], ◌∷◌, ◌++◌, ℕ, ◌≤◌, eqb}
+use Rattle.std.specs.Prelude.{◌≡◌, Bool, List, [], ◌∷◌, ◌++◌, ℕ, ◌≤◌, ◌==◌}
 use Rattle.std.proofs.Math.Path.{refl, ap, subst}
 use Rattle.std.proofs.Common.{ap₂, ◌∙◌}
 use Rattle.std.proofs.Math.Bool.{true, false}
@@ -47,7 +47,7 @@ module _ (w : World) where
   modelFlushed R S u = pick (w.same-shape R S) u (invalidate All u)
 
   unfoldable pub modelRetagged : ℕ → Model → Model
-  modelRetagged a u = pick (eqb u.asid a) u (retag a u)
+  modelRetagged a u = pick (u.asid == a) u (retag a u)
 
   -- A TLBI is carried out; one of an Inner Shareable form is left pending for other cores too.
   abbrev pub modelAfter : Effect w → Plain w → Model → Model
@@ -155,8 +155,8 @@ module _ (w : World) (laws : Laws w) where
   retagged-stands : (a : ℕ) {t : Tlb} {u : Model} → StandsFor t u → StandsFor (retaggedOf t a) (modelRetagged w a u)
   unfolding retaggedOf modelRetagged
   retagged-stands a {t} r =
-      subst (λ (u : Model). StandsFor (pick (eqb t.cache.current.asid a) t (retagOf t a)) (pick (eqb u.asid a) u (retag a u))) r.is
-      (go (eqb t.cache.current.asid a))
+      subst (λ (u : Model). StandsFor (pick (t.cache.current.asid == a) t (retagOf t a)) (pick (u.asid == a) u (retag a u))) r.is
+      (go (t.cache.current.asid == a))
     where
       go : (b : Bool) → StandsFor (pick b t (retagOf t a)) (pick b (live t) (retag a (live t)))
       go true = record { well = r.well; is = refl }

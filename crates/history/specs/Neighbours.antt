@@ -1,6 +1,6 @@
 -- What runs under other ASIDs does not bend a page's translation: two histories that leave the page to one ASID give
 -- one answer.
-use Rattle.std.specs.Prelude.{◌≡◌, refl, Bool, true, false, ◌⊎◌, ℕ, ◌+◌, ◌-◌, ◌≤◌, ◌<◌, eqb, length, get_or}
+use Rattle.std.specs.Prelude.{◌≡◌, refl, Bool, true, false, ◌⊎◌, ℕ, ◌+◌, ◌-◌, ◌≤◌, ◌<◌, ◌==◌, length, get_or}
 use Rattle.std.proofs.Math.Path.{sym}
 use Rattle.std.proofs.Common.{ap, ◌∙◌, true≢false, inl, inr, arith, eqb-true}
 use mathlib.Core.List.{List, [], ◌∷◌, ◌++◌, Memᴰ}
@@ -25,7 +25,7 @@ module _ (w : World) where
   -- the invalidations of a history that are made under the ASID a
   abbrev pub dropsUnder : ℕ → Plain w → List (Event w) → List Inval
   dropsUnder a c [] = []
-  dropsUnder a c (x ∷ xs) = pick (eqb (w.asid c.regs) a) (dropsEvent w x c) [] ++ dropsUnder a (afterEvent w x c) xs
+  dropsUnder a c (x ∷ xs) = pick (w.asid c.regs == a) (dropsEvent w x c) [] ++ dropsUnder a (afterEvent w x c) xs
 
   -- The history leaves the page to the ASID of now: elsewhere it had no successful global walk, and each successful
   -- walk that it had there, covered by no invalidation made there, equals its walk now.
@@ -54,7 +54,7 @@ module _ (w : World) where
   under : {P : Inval → Type 0} (a : ℕ) (c : Plain w) (l : List (Event w)) → Each P (dropsRun w c l) → Each P (dropsUnder a c l)
   under a c [] ps = done
   under {P} a c (x ∷ l) ps =
-      each_append (some (eqb (w.asid c.regs) a) (each_left (dropsEvent w x c) (dropsRun w (afterEvent w x c) l) ps))
+      each_append (some (w.asid c.regs == a) (each_left (dropsEvent w x c) (dropsRun w (afterEvent w x c) l) ps))
       (under a (afterEvent w x c) l (each_right (dropsEvent w x c) (dropsRun w (afterEvent w x c) l) ps))
     where
       some : (b : Bool) → Each P (dropsEvent w x c) → Each P (pick b (dropsEvent w x c) [])
@@ -65,7 +65,7 @@ module _ (w : World) where
   own-settled c₀ past m r p own =
       record {
         holds = λ before m' s later split ℓ o x today us.
-            go before m' s later split ℓ o x today us (eqb (w.asid (plainRun w c₀ before).regs) A) refl;
+            go before m' s later split ℓ o x today us (w.asid (plainRun w c₀ before).regs == A) refl;
       }
     where
       A : ℕ
@@ -75,7 +75,7 @@ module _ (w : World) where
           → w.on (plainRun w c₀ before).regs r ≡ true → pageWalk w (plainRun w c₀ before).regs m' r p ≡ Mapped ℓ
           → (ℓ.global ≡ true) ⊎ (w.asid (plainRun w c₀ before).regs ≡ A)
           → Each (λ v. covers v p ℓ (w.asid (plainRun w c₀ before).regs) ≡ false) (dropsRun w (plainRun w c₀ before) (steps m' s ∷ later))
-          → (b : Bool) → eqb (w.asid (plainRun w c₀ before).regs) A ≡ b
+          → (b : Bool) → (w.asid (plainRun w c₀ before).regs == A) ≡ b
           → (ℓ' : Leaf) × (pageWalk w (plainRun w c₀ past).regs m r p ≡ Mapped ℓ') × LeavesEqual ℓ ℓ'
       go before m' s later split ℓ o x today us true b =
           own.there before m' s later split ℓ o x (eqb-true _ _ b) (under A (plainRun w c₀ before) (steps m' s ∷ later) us)

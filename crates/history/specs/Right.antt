@@ -1,7 +1,7 @@
 -- What a translation in a traced model answers, and that it leaves the model traced.
 use Rattle.std.proofs.Math.Path.{◌≡◌, refl}
 use Rattle.std.proofs.Common.{sym, ap, subst, ◌∙◌}
-use Rattle.std.specs.Prelude.{Bool, ◌&&◌, List, ◌∷◌, ◌⊎◌, ℕ, zero, suc, ◌+◌, ◌*◌, ◌/◌, ◌%◌, ◌<◌, eqb}
+use Rattle.std.specs.Prelude.{Bool, ◌&&◌, List, ◌∷◌, ◌⊎◌, ℕ, zero, suc, ◌+◌, ◌*◌, ◌/◌, ◌%◌, ◌<◌, ◌==◌}
 use Rattle.std.proofs.Math.Bool.{true, false}
 use Rattle.std.proofs.lemmas.Bool.{false≢true}
 use Rattle.std.proofs.Math.Logic.{inl, inr}
@@ -145,13 +145,13 @@ module _ (w : World) where
 
     -- the tests of a line and of a hint
     abbrev ofPage : Line → Bool
-    ofPage l = eqb l.page (pageNow w c va)
+    ofPage l = l.page == pageNow w c va
 
     abbrev ofRegime : Line → Bool
     ofRegime l = sameRegime l.regime (regimeNow w c)
 
     abbrev hits : Known → Bool
-    hits n = eqb n.page (va / 4096) && eqb n.level c.privilege.level
+    hits n = n.page == va / 4096 && n.level == c.privilege.level
 
     module _ (t : Model) (s : Traced w h c.regs t) where
       walk-done : onNow w c ≡ true → (x : Walked) → w.walk c.regs m (regimeNow w c) (untagNow w c va) ≡ x → Fine (walked x a t)
@@ -236,8 +236,8 @@ module _ (w : World) where
       hit-done : Unmarked c.privilege.unprivileged k → (n : Known) → HintFrom w h c.regs k n.page n.level n.frame
           → hits n ≡ true → Answered laws h c m k va (addressIn n.frame va)
       hit-done u n o e =
-          let p : n.page ≡ va / 4096 = eqb-true _ _ (both (eqb n.page (va / 4096)) _ e).0 in
-          let l : n.level ≡ c.privilege.level = eqb-true _ _ (both (eqb n.page (va / 4096)) _ e).1 in
+          let p : n.page ≡ va / 4096 = eqb-true _ _ (both (n.page == va / 4096) _ e).0 in
+          let l : n.level ≡ c.privilege.level = eqb-true _ _ (both (n.page == va / 4096) _ e).1 in
           hint-answered laws h c m k va n.frame u (rw (p, l) at o)
 
       tried-done : hintable k c.privilege.unprivileged ≡ true → (x : Slot Known) → HintOk w h c.regs k x

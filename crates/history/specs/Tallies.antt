@@ -1,7 +1,7 @@
 -- The counters of each level over a history: from the plain model alone, every translation made, at which level and how it was answered. What
 -- stands in the counters of a level is the number of those made at it that a line answered, that were walked; and the sums of the four levels
 -- move as the Rust's two counters.
-use Rattle.std.specs.Prelude.{◌≡◌, Bool, ◌&&◌, List, [], ◌∷◌, ◌++◌, map, ℕ, zero, suc, ◌+◌, ◌%◌, ◌^◌, ◌≤◌, ◌<◌, eqb}
+use Rattle.std.specs.Prelude.{◌≡◌, Bool, ◌&&◌, List, [], ◌∷◌, ◌++◌, map, ℕ, zero, suc, ◌+◌, ◌%◌, ◌^◌, ◌≤◌, ◌<◌, ◌==◌}
 use Rattle.std.proofs.Math.Path.{refl}
 use Rattle.std.proofs.Common.{sym, ap, ◌∙◌, arith}
 use Rattle.std.proofs.Math.Bool.{true, false}
@@ -47,7 +47,7 @@ howMany p (x ∷ xs) = pick (p x) 1 0 + howMany p xs
 
 -- made at the level l, and answered so
 abbrev pub at : ℕ → (How → Bool) → Made → Bool
-at l so x = eqb l x.level && so x.how
+at l so x = l == x.level && so x.how
 
 -- the Rust's two counters after them
 abbrev pub rustAfter : List Made → Totals → Totals
@@ -100,7 +100,8 @@ counted-alike walkAnswered level a = record { hits = a.hits; walks = ap (upAt le
 
 all_alike : {k n : Counters} (xs : List Made) → Alike k n → Alike (countedAll xs k) (countedAll xs n)
 all_alike [] a = a
-all_alike (x ∷ xs) a = all_alike xs (counted-alike x.how x.level a)
+all_alike {k = k} {n = n} (x ∷ xs) a =
+    all_alike {k = howCounted x.how x.level k} {n = howCounted x.how x.level n} xs (counted-alike x.how x.level a)
 
 module _ (w : World) where
   asked-counts : (c : Plain w) (m : w.Ram) (a : Ask) (u : Model)
@@ -144,7 +145,7 @@ module _ (w : World) where
   effect-alike (carries v true) c u = record { hits = (inval-alike v u).hits; walks = (inval-alike v u).walks }
   effect-alike (writes R) c u =
       let flushed = modelFlushed w c.regs R u in
-      then-alike (retag-alike (eqb flushed.asid (w.asid R)) (w.asid R) flushed) (flush-alike (w.same-shape c.regs R) u)
+      then-alike (retag-alike (flushed.asid == w.asid R) (w.asid R) flushed) (flush-alike (w.same-shape c.regs R) u)
   effect-alike (sets privilege low) c u = same_alike
 
   run-alike : (past : List (Event w)) (c : Plain w) (u : Model) → Alike (modelRun w c past u).counts (countedAll (madeRun w c past u) u.counts)
@@ -181,18 +182,18 @@ abbrev Moves : ℕ → ℕ → Bool → Type 0
 Moves n before b = (n ≡ (before + pick b 1 0) % 2 ^ 64) × (n < 2 ^ 64)
 
 one_hit : (how : How) (level : ℕ) (k : Counters) (l : ℕ) → k.hits l < 2 ^ 64
-    → Moves ((howCounted how level k).hits l) (k.hits l) (eqb l level && byLine how)
-one_hit hintAnswered level k l h = still (eqb l level) (k.hits l) h
-one_hit itself level k l h = still (eqb l level) (k.hits l) h
-one_hit lineAnswered level k l h = rw (and-true (eqb l level)) (raised (eqb l level) (k.hits l) h)
-one_hit walkAnswered level k l h = still (eqb l level) (k.hits l) h
+    → Moves ((howCounted how level k).hits l) (k.hits l) (l == level && byLine how)
+one_hit hintAnswered level k l h = still (l == level) (k.hits l) h
+one_hit itself level k l h = still (l == level) (k.hits l) h
+one_hit lineAnswered level k l h = rw (and-true (l == level)) (raised (l == level) (k.hits l) h)
+one_hit walkAnswered level k l h = still (l == level) (k.hits l) h
 
 one-walk : (how : How) (level : ℕ) (k : Counters) (l : ℕ) → k.walks l < 2 ^ 64
-    → Moves ((howCounted how level k).walks l) (k.walks l) (eqb l level && byWalk how)
-one-walk hintAnswered level k l h = still (eqb l level) (k.walks l) h
-one-walk itself level k l h = still (eqb l level) (k.walks l) h
-one-walk lineAnswered level k l h = still (eqb l level) (k.walks l) h
-one-walk walkAnswered level k l h = rw (and-true (eqb l level)) (raised (eqb l level) (k.walks l) h)
+    → Moves ((howCounted how level k).walks l) (k.walks l) (l == level && byWalk how)
+one-walk hintAnswered level k l h = still (l == level) (k.walks l) h
+one-walk itself level k l h = still (l == level) (k.walks l) h
+one-walk lineAnswered level k l h = still (l == level) (k.walks l) h
+one-walk walkAnswered level k l h = rw (and-true (l == level)) (raised (l == level) (k.walks l) h)
 
 joined : (n before b rest : ℕ) → n ≡ (before + b) % 2 ^ 64 → (n + rest) % 2 ^ 64 ≡ (before + (b + rest)) % 2 ^ 64
 joined n before b rest e = omega arith

@@ -1,9 +1,8 @@
 -- Demand 3, proved for every registers and walk that keep `Laws`.
-use Rattle.std.specs.Prelude.{◌≡◌, Bool, List, [], ◌∷◌, ◌++◌, ◌⊎◌, ℕ, ◌≤◌}
+use Rattle.std.specs.Prelude.{◌≡◌, Bool, List, [], ◌∷◌, ◌++◌, ◌⊎◌, ℕ, ◌≤◌, ◌==◌}
 use Rattle.std.proofs.Math.Path.{refl}
 use Rattle.std.proofs.Common.{sym, ap, subst, ◌∙◌, inl, inr}
 use Rattle.std.proofs.Math.Bool.{true, false}
-use Rattle.std.proofs.Math.Dec.{eqb}
 use borrow.Author.Tests.{eqb-true}
 use Rattle.word.specs.Bits.{pick}
 use Rattle.walk.specs.declared.{regime.Regime.Regime, level.Leaf.Leaf}
@@ -69,18 +68,18 @@ module _ (w : World) (laws : Laws w) where
   unfolding modelRetagged modelFlushed invalidate
   write-traced {h} {R} {u} S s = shape (w.same-shape R S) refl
     where
-      same : (d : Bool) → w.same-shape R S ≡ true → eqb u.asid (w.asid S) ≡ d → Traced w h S (pick d u (retag (w.asid S) u))
+      same : (d : Bool) → w.same-shape R S ≡ true → (u.asid == w.asid S) ≡ d → Traced w h S (pick d u (retag (w.asid S) u))
       same false x y = traced-retag w S s
       same true x y = traced-kept w laws R S x (sym s.asid-is ∙ eqb-true _ _ y) s
 
-      other : (d : Bool) → eqb u.asid (w.asid S) ≡ d
+      other : (d : Bool) → (u.asid == w.asid S) ≡ d
           → Traced w (drop All ∷ h) S (pick d (invalidate All u) (retag (w.asid S) (invalidate All u)))
       other false y = traced-retag w S (traced-invalidate w All R s.asid-is s)
       other true y = traced-invalidate w All S (eqb-true _ _ y) s
 
       shape : (b : Bool) → w.same-shape R S ≡ b
           → Traced w (pushed (pick b [] (All ∷ [])) h) S
-          (pick (eqb (pick b u (invalidate All u)).asid (w.asid S)) (pick b u (invalidate All u)) (retag (w.asid S) (pick b u (invalidate All u))))
+          (pick ((pick b u (invalidate All u)).asid == w.asid S) (pick b u (invalidate All u)) (retag (w.asid S) (pick b u (invalidate All u))))
       shape true x = same _ x refl
       shape false x = other _ refl
 

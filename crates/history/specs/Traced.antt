@@ -1,6 +1,6 @@
 -- What the cache's plain model has to do with the walks of the past: behind each line stands a walk that no
 -- invalidation since covers, and behind each hint such a walk or stage 1 off (`Traced`). Each operation keeps that.
-use Rattle.std.specs.Prelude.{◌≡◌, Bool, true, false, not, ◌&&◌, List, [], ◌∷◌, ◌⊎◌, ℕ, ◌*◌, ◌/◌, ◌%◌, eqb, ltb}
+use Rattle.std.specs.Prelude.{◌≡◌, Bool, true, false, not, ◌&&◌, List, [], ◌∷◌, ◌⊎◌, ℕ, ◌*◌, ◌/◌, ◌%◌, ◌==◌, ltb}
 use Rattle.std.proofs.Math.Path.{refl}
 use Rattle.std.proofs.Common.{sym, subst, ◌∙◌, inl, inr, eqb-true}
 use Rattle.word.specs.Bits.{pick}
@@ -52,7 +52,7 @@ module _ (w : World) where
   LineOk h (holds l) = LineFrom h l
 
   abbrev pub allows : Leaf → ℕ → Bool
-  allows ℓ bit = eqb (ℓ.perms / bit % 2) 1
+  allows ℓ bit = ℓ.perms / bit % 2 == 1
 
   -- What a hint for the raw page v at the level el says to an access of the kind, without the mark: the physical
   -- page q.
@@ -113,7 +113,7 @@ module _ (w : World) where
 
   -- INVALIDATION: what it spares, it does not cover
 
-  belongs : (g : Bool) (a b : ℕ) → belongsTo (reachOf g a) b ≡ (not g && eqb a b)
+  belongs : (g : Bool) (a b : ℕ) → belongsTo (reachOf g a) b ≡ (not g && a == b)
   belongs true a b = refl
   belongs false a b = refl
 
@@ -193,7 +193,7 @@ module _ (w : World) where
   traced-keep {h} {t} l o s =
       record {
         asid-is = s.asid-is;
-        lines_ok = λ i. line-put h (eqb i (l.page % 1024)) l (t.lines i) o (s.lines_ok i);
+        lines_ok = λ i. line-put h (i == l.page % 1024) l (t.lines i) o (s.lines_ok i);
         hints-ok = s.hints-ok;
         fetch-ok = s.fetch-ok;
       }
@@ -204,11 +204,11 @@ module _ (w : World) where
       record {
         asid-is = s.asid-is;
         lines_ok = s.lines_ok;
-        hints-ok = λ i. put i (eqb i place) refl;
+        hints-ok = λ i. put i (i == place) refl;
         fetch-ok = s.fetch-ok;
       }
     where
-      put : (i : ℕ) (b : Bool) → eqb i place ≡ b → HintOk h R (kind_at i) (pick b (holds n) (t.hints i))
+      put : (i : ℕ) (b : Bool) → (i == place) ≡ b → HintOk h R (kind_at i) (pick b (holds n) (t.hints i))
       put i true e = subst (λ (j : ℕ). HintFrom h R (kind_at j) n.page n.level n.frame) (sym (eqb-true i place e)) o
       put i false e = s.hints-ok i
 

@@ -1,6 +1,6 @@
 -- What the theory of histories takes from registers and walk, and document 01's terms on it: equal walks, covering, the
 -- core without a cache. `spanBits`, `asUser` and `need` are the plain model's: tlb/specs/Model.antt.
-use Rattle.std.specs.Prelude.{◌≡◌, Bool, true, not, ◌&&◌, ℕ, ◌+◌, ◌*◌, ◌/◌, ◌%◌, ◌^◌, ◌≤◌, eqb}
+use Rattle.std.specs.Prelude.{◌≡◌, Bool, true, not, ◌&&◌, ℕ, ◌+◌, ◌*◌, ◌/◌, ◌%◌, ◌^◌, ◌≤◌, ◌==◌}
 use Rattle.word.specs.Bits.{pick}
 use Rattle.fault.specs.First.{first}
 use Rattle.walk.specs.Regime.{regimeOf}
@@ -43,8 +43,8 @@ pub record LeavesEqual (ℓ ℓ' : Leaf) : Type 0 where
 -- tlb/specs/Cache.antt, and `same-cover` (Traced.antt) and tlb/specs/Refines.antt show that they agree.
 unfoldable pub covers : Inval → ℕ → Leaf → ℕ → Bool
 covers All p ℓ a = true
-covers (Page n) p ℓ a = eqb (p % 2 ^ 44 / 2 ^ spanBits ℓ.level) (n % 2 ^ 44 / 2 ^ spanBits ℓ.level)
-covers (Asid b) p ℓ a = not ℓ.global && eqb a b
+covers (Page n) p ℓ a = p % 2 ^ 44 / 2 ^ spanBits ℓ.level == n % 2 ^ 44 / 2 ^ spanBits ℓ.level
+covers (Asid b) p ℓ a = not ℓ.global && a == b
 
 -- CORE WITHOUT A CACHE
 
@@ -52,7 +52,7 @@ covers (Asid b) p ℓ a = not ℓ.global && eqb a b
 -- the address's low twelve bits."
 unfoldable pub leafAnswer : Leaf → ℕ → ℕ → Answer
 leafAnswer ℓ bit va =
-    pick (eqb (ℓ.perms / bit % 2) 1) (Address (ℓ.oa / 4096 * 4096 + va % 4096)) (Status (first (12 + ℓ.level)))
+    pick (ℓ.perms / bit % 2 == 1) (Address (ℓ.oa / 4096 * 4096 + va % 4096)) (Status (first (12 + ℓ.level)))
 
 -- "A walk fault is the answer."
 unfoldable pub walkAnswer : Walked → ℕ → ℕ → Answer

@@ -1,3 +1,1 @@
-pub mod Ops
-pub mod Tlbis
 pub mod Pars

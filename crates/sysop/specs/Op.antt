@@ -1,7 +1,7 @@
 -- System operations by the manual's names: the SYS encodings of an A72 and who may use each (DDI 0487, C5.3 to C5.5,
 -- from knowledge of ARMv8.0: the document itself was not at hand). A1, M6 and the like are rows of docs/DIFFERENCES.md,
 -- each at the line where the manual has something else.
-use Rattle.std.specs.Prelude.{Bool, true, false, ◌&&◌, List, [], ◌∷◌, ◌++◌, ℕ, eqb, leb}
+use Rattle.std.specs.Prelude.{Bool, true, false, ◌&&◌, List, [], ◌∷◌, ◌++◌, ℕ, ◌==◌, leb}
 use Rattle.word.specs.Bits.{pick}
 use Rattle.walk.specs.declared.regime.Regime.{Regime}
 use Rattle.walk.specs.declared.regime.Regime.TheVariants.{El1, El2, El3}
@@ -135,11 +135,11 @@ abbrev pub absent : Row
 absent = block unallocated 0 0 1
 
 abbrev pub holds : Field → ℕ → Bool
-holds (only n) x = eqb x n
+holds (only n) x = x == n
 holds any x = true
 
 abbrev pub encodes : Row → ℕ → ℕ → ℕ → ℕ → Bool
-encodes r op1 crn crm op2 = eqb op1 r.op1 && (eqb crn r.crn && (holds r.crm crm && holds r.op2 op2))
+encodes r op1 crn crm op2 = op1 == r.op1 && (crn == r.crn && (holds r.crm crm && holds r.op2 op2))
 
 abbrev pub lookUp : List Row → ℕ → ℕ → ℕ → ℕ → Row
 lookUp [] op1 crn crm op2 = absent
@@ -151,7 +151,7 @@ named op1 crn crm op2 = lookUp table op1 crn crm op2
 
 -- what a level lacks: UNDEFINED at EL0. A9: at a higher level too in the manual, and Unimplemented here.
 abbrev pub refusal : ℕ → SysOp
-refusal level = pick (eqb level 0) Undefined Unimplemented
+refusal level = pick (level == 0) Undefined Unimplemented
 
 abbrev pub ruled : ℕ → Row → SysOp
 ruled level r = pick (leb r.lowest level) (operation r.name) (refusal level)

@@ -1,9 +1,9 @@
 -- Laws of the table, and of what is decoded by it.
-use Rattle.std.specs.Prelude.{◌≡◌, Bool, true, false, not, ◌&&◌, ◌||◌, List, [], ◌∷◌, ◌⊎◌, ℕ, zero, suc, ◌/◌, ◌≤◌, ◌<◌}
+use Rattle.std.specs.Prelude.{◌≡◌, Bool, true, false, not, ◌&&◌, ◌||◌, List, [], ◌∷◌, ◌⊎◌, ℕ, zero, suc, ◌/◌, ◌≤◌, ◌<◌, ◌==◌}
 use Rattle.std.proofs.Math.Path.{refl}
 use Rattle.std.proofs.Common.{sym, ap, subst, ◌∙◌, inl, inr, arith, eqb-true, ne_eqb, le-leb, leb-true}
 use Rattle.std.proofs.lemmas.Bool.{false≢true, lt-leb}
-use Rattle.std.proofs.Math.Dec.{eqb, leb}
+use Rattle.std.proofs.Math.Dec.{leb}
 use Rattle.word.specs.Bits.{pick}
 use Rattle.word.specs.BitLaws.{both}
 use Rattle.walk.specs.declared.regime.Regime.{Regime}
@@ -34,8 +34,8 @@ module _ (P : Row → Type 0) (p : Row → Bool) (op1 crn crm op2 : ℕ) (good :
       go : (b : Bool) → encodes r op1 crn crm op2 ≡ b → p r ≡ true → P (lookUp rs op1 crn crm op2) → P (pick b r (lookUp rs op1 crn crm op2))
       go false n x y = y
       go true n x y =
-          let k = both (eqb op1 r.op1) (eqb crn r.crn && (holds r.crm crm && holds r.op2 op2)) n in
-          let l = both (eqb crn r.crn) (holds r.crm crm && holds r.op2 op2) k.1 in
+          let k = both (op1 == r.op1) (crn == r.crn && (holds r.crm crm && holds r.op2 op2)) n in
+          let l = both (crn == r.crn) (holds r.crm crm && holds r.op2 op2) k.1 in
           good r (eqb-true op1 r.op1 k.0) (eqb-true crn r.crn l.0) x
 
 -- an encoding that names nothing is refused at every level
@@ -62,8 +62,8 @@ module _ (level op1 crn crm op2 : ℕ) where
   pub too-low : (op1 ≡ 3 → ⊥) → (level < 1) ⊎ (level < op1 / 2) → decodeOf level op1 crn crm op2 ≡ refusal level
   unfolding decodeOf named
   too-low n h =
-      found (λ r. ruled level r ≡ refusal level) (λ r. eqb r.op1 3 || (leb 1 r.lowest && leb (r.op1 / 2) r.lowest)) op1 crn crm op2
-      (λ r a b t. here r a (either (eqb r.op1 3) (leb 1 r.lowest && leb (r.op1 / 2) r.lowest) t)) (sym (absent-refused level)) table refl
+      found (λ r. ruled level r ≡ refusal level) (λ r. (r.op1 == 3) || (leb 1 r.lowest && leb (r.op1 / 2) r.lowest)) op1 crn crm op2
+      (λ r a b t. here r a (either (r.op1 == 3) (leb 1 r.lowest && leb (r.op1 / 2) r.lowest) t)) (sym (absent-refused level)) table refl
     where
       known : (r : Row) → level < r.lowest → ruled level r ≡ refusal level
       known r k = rw (lt-leb r.lowest level k)
@@ -72,7 +72,7 @@ module _ (level op1 crn crm op2 : ℕ) where
       above r a x y (inl z) = known r (omega arith)
       above r a x y (inr z) = let k : level < r.op1 / 2 = rw a at z in known r (omega arith)
 
-      here : (r : Row) → op1 ≡ r.op1 → (eqb r.op1 3 ≡ true) ⊎ ((leb 1 r.lowest && leb (r.op1 / 2) r.lowest) ≡ true)
+      here : (r : Row) → op1 ≡ r.op1 → ((r.op1 == 3) ≡ true) ⊎ ((leb 1 r.lowest && leb (r.op1 / 2) r.lowest) ≡ true)
           → ruled level r ≡ refusal level
       here r a (inl e) = absurd (n (a ∙ eqb-true r.op1 3 e))
       here r a (inr e) =
@@ -121,7 +121,7 @@ isTlbi Undefined = false
 isTlbi Unimplemented = false
 
 abbrev fields : Row → Bool
-fields r = eqb r.crn 8 && (eqb r.op1 0 || (eqb r.op1 4 || eqb r.op1 6))
+fields r = r.crn == 8 && (r.op1 == 0 || (r.op1 == 4 || r.op1 == 6))
 
 pub tlbi-fields : (level op1 crn crm op2 : ℕ) → decodeOf level op1 crn crm op2 ≡ Tlbi → TlbiFields op1 crn
 unfolding decodeOf named isTlbi
@@ -129,7 +129,7 @@ tlbi-fields level op1 crn crm op2 =
     by-rule (λ o. o ≡ Tlbi → TlbiFields op1 crn) level (lookUp table op1 crn crm op2)
     (found (λ r. operation r.name ≡ Tlbi → TlbiFields op1 crn) (λ r. not (isTlbi (operation r.name)) || fields r) op1 crn crm op2 here
     (λ e. never e) table refl)
-    (λ e. never (refused (eqb level 0) e))
+    (λ e. never (refused (level == 0) e))
   where
     never : Unimplemented ≡ Tlbi → TlbiFields op1 crn
     never e = absurd (false≢true (ap isTlbi e))
@@ -138,21 +138,21 @@ tlbi-fields level op1 crn crm op2 =
     refused true e = absurd (false≢true (ap isTlbi e))
     refused false e = e
 
-    whose : (r : Row) → op1 ≡ r.op1 → (eqb r.op1 0 ≡ true) ⊎ (eqb r.op1 4 || eqb r.op1 6 ≡ true) → (op1 ≡ 0) ⊎ ((op1 ≡ 4) ⊎ (op1 ≡ 6))
+    whose : (r : Row) → op1 ≡ r.op1 → ((r.op1 == 0) ≡ true) ⊎ (r.op1 == 4 || (r.op1 == 6) ≡ true) → (op1 ≡ 0) ⊎ ((op1 ≡ 4) ⊎ (op1 ≡ 6))
     whose r a (inl e) = inl (a ∙ eqb-true r.op1 0 e)
-    whose r a (inr e) = inr (last (either (eqb r.op1 4) (eqb r.op1 6) e))
+    whose r a (inr e) = inr (last (either (r.op1 == 4) (r.op1 == 6) e))
       where
-        last : (eqb r.op1 4 ≡ true) ⊎ (eqb r.op1 6 ≡ true) → (op1 ≡ 4) ⊎ (op1 ≡ 6)
+        last : ((r.op1 == 4) ≡ true) ⊎ ((r.op1 == 6) ≡ true) → (op1 ≡ 4) ⊎ (op1 ≡ 6)
         last (inl x) = inl (a ∙ eqb-true r.op1 4 x)
         last (inr x) = inr (a ∙ eqb-true r.op1 6 x)
 
     here : (r : Row) → op1 ≡ r.op1 → crn ≡ r.crn → (not (isTlbi (operation r.name)) || fields r) ≡ true → operation r.name ≡ Tlbi → TlbiFields op1 crn
     here r a b t e =
-        let k = both (eqb r.crn 8) (eqb r.op1 0 || (eqb r.op1 4 || eqb r.op1 6))
+        let k = both (r.crn == 8) (r.op1 == 0 || (r.op1 == 4 || r.op1 == 6))
         (implied (isTlbi (operation r.name)) (fields r) (ap isTlbi e) t) in
         record {
           crn-8 = b ∙ eqb-true r.crn 8 k.0;
-          whose = whose r a (either (eqb r.op1 0) (eqb r.op1 4 || eqb r.op1 6) k.1);
+          whose = whose r a (either (r.op1 == 0) (r.op1 == 4 || r.op1 == 6) k.1);
         }
 
 -- EL0's rights are asked for in the EL1&0 regime alone
@@ -197,7 +197,7 @@ user-el1 level op1 crn crm op2 f e =
     subst UserInEl1 e
     (by-rule UserInEl1 level (lookUp table op1 crn crm op2)
     (found (λ r. UserInEl1 (operation r.name)) (λ r. userFits (operation r.name)) op1 crn crm op2
-    (λ r a b t. user-fits (operation r.name) t) tt table refl) (refused (eqb level 0)))
+    (λ r a b t. user-fits (operation r.name) t) tt table refl) (refused (level == 0)))
   where
     refused : (b : Bool) → UserInEl1 (pick b Undefined Unimplemented)
     refused true = tt

@@ -1,7 +1,7 @@
 -- What each TLBI invalidates, by the manual's names: the TLB maintenance instructions of an A72 (DDI 0487, C5.5, from
 -- knowledge of ARMv8.0: the document itself was not at hand). CRn is 8. M3, M20 and the like are rows of
 -- docs/DIFFERENCES.md.
-use Rattle.std.specs.Prelude.{Bool, true, false, ◌&&◌, List, [], ◌∷◌, ◌++◌, ℕ, eqb}
+use Rattle.std.specs.Prelude.{Bool, true, false, ◌&&◌, List, [], ◌∷◌, ◌++◌, ℕ, ◌==◌}
 use Rattle.word.specs.Bits.{field, pick}
 use Rattle.sysreg.specs.Regs.{controlAt}
 use Rattle.sysreg.specs.Tcr.{tg0, tg1, «as»}
@@ -91,7 +91,7 @@ instructions = stage1 ++ byIpa
 abbrev pub instructionAt : List Encoding → ℕ → ℕ → ℕ → Instruction
 instructionAt [] op1 crm op2 = unallocated
 instructionAt (r ∷ rs) op1 crm op2 =
-    pick (eqb op1 r.op1 && (eqb crm r.crm && eqb op2 r.op2)) r.name (instructionAt rs op1 crm op2)
+    pick (op1 == r.op1 && (crm == r.crm && op2 == r.op2)) r.name (instructionAt rs op1 crm op2)
 
 unfoldable pub scope_of : ℕ → ℕ → ℕ → Scope
 scope_of op1 crm op2 = scope (instructionAt instructions op1 crm op2)
@@ -101,9 +101,9 @@ tcrOf c r = controlAt c (Tcr (levelOf r))
 
 -- pages of 4 KiB: TCR_ELx.TG0 is '00', and in the EL1&0 regime TCR_EL1.TG1 is '10'
 abbrev pub pages4k : ℕ → Regime → Bool
-pages4k tcr El1 = eqb (tg0 tcr) 0b00 && eqb (tg1 tcr) 0b10
-pages4k tcr El2 = eqb (tg0 tcr) 0b00
-pages4k tcr El3 = eqb (tg0 tcr) 0b00
+pages4k tcr El1 = tg0 tcr == 0b00 && tg1 tcr == 0b10
+pages4k tcr El2 = tg0 tcr == 0b00
+pages4k tcr El3 = tg0 tcr == 0b00
 
 -- TCR_EL1.AS: an ASID has 16 bits, and not 8
 abbrev pub asidBits : Control → ℕ
@@ -122,4 +122,4 @@ tlbiOf c op1 crm op2 x = whatOf c x (scope_of op1 crm op2)
 -- CRm 3 reaches the other cores. M8: HCR_EL2.FB makes no other form do so. M20: nor do IPAS2E1IS and IPAS2LE1IS, which
 -- have CRm 0.
 abbrev pub reachesOthers : ℕ → Bool
-reachesOthers crm = eqb crm 3
+reachesOthers crm = crm == 3

@@ -1,18 +1,18 @@
 // The system operation that a SYS encoding names.
 ghost use Rattle.std.specs.Prelude.{◌≡◌};
-ghost use Rattle.sysop.specs.Op.{decodeOf};
+ghost use Rattle.sysop.specs.Op.{decodeOf, refusal as refusalOf};
 
 use walk::regime::Regime;
 
 // An address translation: its regime, whether EL0's rights are asked for, and whether for a write.
-#[derive(Drop)]
+#[derive(Clone, Copy)]
 pub struct AtForm {
     pub regime: Regime,
     pub user: bool,
     pub write: bool,
 }
 
-#[derive(Drop)]
+#[derive(Clone, Copy)]
 pub enum SysOp {
     At(AtForm),
     Tlbi,
@@ -24,22 +24,26 @@ pub enum SysOp {
     Unimplemented,
 }
 
-// What SYS op1, CRn, CRm, op2 is at a level.
-pub fn decode(level: u8, op1: u64, crn: u64, crm: u64, op2: u64) -> SysOp
-    ensures { result ≡ decodeOf level op1 crn crm op2 }
+// What a level lacks.
+fn refusal(level: u8) -> SysOp
+    ensures { result ≡ refusalOf level }
 {
-    let op1 = op1;
-    let crn = crn;
-    let crm = crm;
-    let op2 = op2;
-    // AT: bit 0 of op2 is set for a write, bit 1 for EL0's rights.
-    let write = op2 % 2 == 1;
-    let user = (op2 >> 1) % 2 == 1;
-    let refused = if level == 0 {
+    if level == 0 {
         SysOp::Undefined
     } else {
         SysOp::Unimplemented
-    };
+    }
+}
+
+// What SYS op1, CRn, CRm, op2 is at a level.
+#[tactic(auto, unfolding(crate::specs::Op::decodeOf, crate::specs::Op::named))]
+pub fn decode(level: u8, op1: u64, crn: u64, crm: u64, op2: u64) -> SysOp
+    ensures { result ≡ decodeOf level op1 crn crm op2 }
+{
+    // AT: bit 0 of op2 is set for a write, bit 1 for EL0's rights.
+    let write = op2 % 2 == 1;
+    let user = (op2 >> 1) % 2 == 1;
+    let refused = refusal(level);
     // EL0 has op1 3 alone; op1 0 is of EL1 and above, 4 of EL2 and above, 6 of EL3.
     let low = (level == 0) | ((level as u64) < op1 / 2);
     if low & (op1 != 3) {

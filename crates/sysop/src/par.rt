@@ -49,6 +49,7 @@ fn mair_attr(mair: u64, index: u64) -> u64
 }
 
 // The format of a translation that succeeds.
+#[tactic(auto, unfolding(crate::specs::Par::success))]
 fn success_par(attr: u64, pa: u64, ns: bool, sh: u64) -> u64
     requires { (attr < 256) × (sh < 4) }
     ensures { result ≡ success attr pa ns sh }
@@ -59,6 +60,7 @@ fn success_par(attr: u64, pa: u64, ns: bool, sh: u64) -> u64
 }
 
 // The format of one that faults.
+#[tactic(auto, unfolding(crate::specs::Par::abort))]
 fn fault_par(status: u8) -> u64
     ensures { result ≡ abort status }
 {
@@ -66,6 +68,7 @@ fn fault_par(status: u8) -> u64
 }
 
 // A leaf: its page and attributes, or a permission fault of its level.
+#[tactic(auto, unfolding(crate::specs::Par::leafPar))]
 fn leaf_par(mair: u64, ns: bool, form: AtForm, leaf: Leaf) -> u64
     requires { leaf.level ≤ 3 }
     ensures { result ≡ leafPar mair ns form leaf }
@@ -84,6 +87,7 @@ fn leaf_par(mair: u64, ns: bool, form: AtForm, leaf: Leaf) -> u64
 }
 
 // PAR by the registers of the form's regime.
+#[tactic(auto, unfolding(crate::specs::Par::parIn), using(crate::proofs::Pars::low_leaf))]
 pub fn par_in(s: Bank, mair: u64, form: AtForm, va: u64, base: u64, ram: &[u8]) -> u64
     ensures { result ≡ parIn s mair form va (word_at base ram.now 8) }
 {
@@ -99,6 +103,7 @@ pub fn par_in(s: Bank, mair: u64, form: AtForm, va: u64, base: u64, ram: &[u8]) 
 }
 
 // PAR_EL1 after an AT of the form at va; mair is the MAIR of the form's regime.
+#[tactic(auto, unfolding(crate::specs::Par::atPar))]
 pub fn at_par(control: Control, mair: u64, form: AtForm, va: u64, base: u64, ram: &[u8]) -> u64
     ensures { result ≡ atPar control mair form va (word_at base ram.now 8) }
 {

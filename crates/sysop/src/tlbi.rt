@@ -20,6 +20,7 @@ fn pages_4k(tcr: u64, regime: Regime) -> bool
 }
 
 // By address: a page where pages are 4 KiB, and all where they are not.
+#[tactic(auto, unfolding(crate::specs::Tlbi::whatOf))]
 fn page(control: Control, regime: Regime, x: u64) -> Inval
     ensures { result ≡ whatOf control x (ranged regime) }
 {
@@ -29,6 +30,7 @@ fn page(control: Control, regime: Regime, x: u64) -> Inval
 }
 
 // By ASID: 16 or 8 bits, by TCR_EL1.AS.
+#[tactic(auto, unfolding(crate::specs::Tlbi::whatOf))]
 fn asid(control: Control, x: u64) -> Inval
     ensures { result ≡ whatOf control x asidForm }
 {
@@ -41,6 +43,7 @@ fn asid(control: Control, x: u64) -> Inval
 }
 
 // op1 0, CRm 3 or 7.
+#[tactic(auto, unfolding(crate::specs::Tlbi::tlbiOf, crate::specs::Tlbi::scope_of, crate::specs::Tlbi::whatOf))]
 fn el1_entries(control: Control, op2: u64, x: u64) -> Inval
     ensures { result ≡ tlbiOf control 0 7 op2 x }
 {
@@ -52,6 +55,7 @@ fn el1_entries(control: Control, op2: u64, x: u64) -> Inval
 }
 
 // op1 4, CRm 3 or 7.
+#[tactic(auto, unfolding(crate::specs::Tlbi::tlbiOf, crate::specs::Tlbi::scope_of, crate::specs::Tlbi::whatOf))]
 fn el2_entries(control: Control, op2: u64, x: u64) -> Inval
     ensures { result ≡ tlbiOf control 4 7 op2 x }
 {
@@ -62,6 +66,7 @@ fn el2_entries(control: Control, op2: u64, x: u64) -> Inval
 }
 
 // op1 6, CRm 3 or 7.
+#[tactic(auto, unfolding(crate::specs::Tlbi::tlbiOf, crate::specs::Tlbi::scope_of, crate::specs::Tlbi::whatOf))]
 fn el3_entries(control: Control, op2: u64, x: u64) -> Inval
     ensures { result ≡ tlbiOf control 6 7 op2 x }
 {
@@ -72,6 +77,7 @@ fn el3_entries(control: Control, op2: u64, x: u64) -> Inval
 }
 
 // What TLBI op1, CRm, op2 with the operand x invalidates.
+#[tactic(auto, unfolding(crate::specs::Tlbi::tlbiOf, crate::specs::Tlbi::scope_of, crate::specs::Tlbi::whatOf))]
 pub fn tlbi(control: Control, op1: u64, crm: u64, op2: u64, x: u64) -> Inval
     ensures { result ≡ tlbiOf control op1 crm op2 x }
 {

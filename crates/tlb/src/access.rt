@@ -7,7 +7,7 @@ use crate::entry::Entry;
 use fault::Fault;
 use walk::regime::Regime;
 
-#[derive(Drop)]
+#[derive(Clone, Copy)]
 pub enum Kind {
     Read,
     Write,
@@ -15,14 +15,14 @@ pub enum Kind {
 }
 
 // The exception level, and whether accesses count as EL0's.
-#[derive(Drop)]
+#[derive(Clone, Copy)]
 pub struct Privilege {
     pub level: u8,
     pub unprivileged: bool,
 }
 
 // The address that an access goes to, or its fault.
-#[derive(Drop)]
+#[derive(Clone, Copy)]
 pub enum Answer {
     Address(u64),
     Status(Fault),
@@ -120,6 +120,7 @@ pub fn right_of(kind: Kind, user: bool) -> u8
 }
 
 // The entry's page, if it has the right that the access needs.
+#[tactic(auto, unfolding(crate::specs::Access::judged))]
 pub fn judge(e: Entry, user: bool, kind: Kind, va: u64) -> Answer
     ensures { result ≡ judged e user kind va }
 {

@@ -10,7 +10,7 @@ use crate::entry::{Current, Entry};
 use crate::hint::{FetchHint, Hint};
 use crate::{entry, hint};
 
-#[derive(Drop)]
+#[derive(Clone, Copy)]
 pub struct Cache {
     pub current: Current,
     pub fetch: FetchHint,
@@ -18,6 +18,7 @@ pub struct Cache {
     pub entries: [Entry; 1024],
 }
 
+#[tactic(auto, unfolding(crate::specs::Cache::blanks))]
 fn blank_entries() -> [Entry; 1024]
     ensures { result ≡ blanks }
 {
@@ -25,6 +26,7 @@ fn blank_entries() -> [Entry; 1024]
     [e; 1024]
 }
 
+#[tactic(auto, unfolding(crate::specs::Cache::noHints))]
 fn no_hints() -> [Hint; 512]
     ensures { result ≡ noHints }
 {
@@ -171,6 +173,7 @@ pub fn set_fetch(c: Cache, fetch: FetchHint) -> Cache
 }
 
 // All out: the next generation. Where that count wraps, the entries are cleared and it is 1.
+#[tactic(auto, unfolding(crate::specs::Cache::flushed))]
 pub fn flushed(c: Cache) -> Cache
     ensures { result ≡ flushedOf c }
 {
@@ -192,19 +195,18 @@ pub fn flushed(c: Cache) -> Cache
     }
 }
 
+#[tactic(auto, using(crate::specs::Lists::sweep))]
 fn pages_dropped(entries: [Entry; 1024], generation: u32, page: u64) -> [Entry; 1024]
     ensures { result ≡ map (pageDropped generation page) entries }
 {
     let mut out = entries;
-    let mut i: usize = 0;
-    while i < 1024 {
-        let e = out[i];
-        out[i] = entry::page_dropped(e, generation, page);
-        i += 1;
+    for e in out.iter_mut() {
+        *e = entry::page_dropped(*e, generation, page);
     }
     out
 }
 
+#[tactic(auto, unfolding(crate::specs::Cache::withoutPage))]
 pub fn without_page(c: Cache, page: u64) -> Cache
     ensures { result ≡ withoutPage c page }
 {
@@ -215,19 +217,18 @@ pub fn without_page(c: Cache, page: u64) -> Cache
     renewed(bare, current, pages)
 }
 
+#[tactic(auto, using(crate::specs::Lists::sweep))]
 fn asids_dropped(entries: [Entry; 1024], asid: u16) -> [Entry; 1024]
     ensures { result ≡ map (asidDropped asid) entries }
 {
     let mut out = entries;
-    let mut i: usize = 0;
-    while i < 1024 {
-        let e = out[i];
-        out[i] = entry::asid_dropped(e, asid);
-        i += 1;
+    for e in out.iter_mut() {
+        *e = entry::asid_dropped(*e, asid);
     }
     out
 }
 
+#[tactic(auto, unfolding(crate::specs::Cache::withoutAsid))]
 pub fn without_asid(c: Cache, asid: u16) -> Cache
     ensures { result ≡ withoutAsid c asid }
 {
@@ -239,6 +240,7 @@ pub fn without_asid(c: Cache, asid: u16) -> Cache
 }
 
 // Another ASID: the entries stay, every hint goes.
+#[tactic(auto, unfolding(crate::specs::Cache::retagged))]
 pub fn retagged(c: Cache, asid: u16) -> Cache
     ensures { result ≡ retaggedOf c asid }
 {

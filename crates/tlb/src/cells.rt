@@ -14,7 +14,7 @@ use crate::{access, count, entry, hint, resolve};
 use walk::regime::Bank;
 
 // What a translation leaves, and its answer.
-#[derive(Drop)]
+#[derive(Clone, Copy)]
 pub struct Translation {
     pub counts: Counts,
     pub hint: Hint,
@@ -24,7 +24,7 @@ pub struct Translation {
 }
 
 // The same of a fetch's translation.
-#[derive(Drop)]
+#[derive(Clone, Copy)]
 pub struct FetchTranslation {
     pub counts: Counts,
     pub fetch: FetchHint,

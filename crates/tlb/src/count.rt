@@ -4,14 +4,14 @@ ghost use Rattle.tlb.specs.Count.{noTally, hitTaken, walkTaken, levelPlace, tall
 ghost use Rattle.tlb.specs.Count.{noCounts, hitCounted, walkCounted, flushCounted, dropCounted, epochCounted};
 
 // The counters of one exception level: answers from entries, and walks.
-#[derive(Drop)]
+#[derive(Clone, Copy)]
 pub struct Tally {
     pub hits: u64,
     pub walks: u64,
 }
 
 // Those of EL0 to EL3; whole flushes, pages that a TLBI named, and how often all hints were emptied.
-#[derive(Drop)]
+#[derive(Clone, Copy)]
 pub struct Counts {
     pub levels: [Tally; 4],
     pub flushes: u64,
@@ -25,6 +25,7 @@ fn no_tally() -> Tally
     Tally { hits: 0, walks: 0 }
 }
 
+#[tactic(auto, unfolding(crate::specs::Count::noTallies))]
 pub fn none() -> Counts
     ensures { result ≡ noCounts }
 {

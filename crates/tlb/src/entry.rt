@@ -3,7 +3,7 @@ ghost use Rattle.std.specs.Prelude.{◌≡◌, ◌<◌, ◌≤◌};
 ghost use Rattle.tlb.specs.Entry.{blank as blankOf, slot_of, serves as servesOf, stamped as stampedOf};
 ghost use Rattle.tlb.specs.Entry.{untagged as untaggedOf, span_of, pageDropped, asidDropped};
 
-#[derive(Drop)]
+#[derive(Clone, Copy)]
 pub struct Entry {
     // the untagged page times 4, plus the regime
     pub tag: u64,
@@ -18,7 +18,7 @@ pub struct Entry {
 }
 
 // The generation that entries answer in, and the ASID in force.
-#[derive(Drop)]
+#[derive(Clone, Copy)]
 pub struct Current {
     pub generation: u32,
     pub asid: u16,
@@ -83,6 +83,7 @@ fn span(level: u8) -> u64
 }
 
 // An entry after a Page: out if it is of the generation and translates the page.
+#[tactic(auto, unfolding(crate::specs::Entry::pageDropped))]
 pub fn page_dropped(e: Entry, generation: u32, page: u64) -> Entry
     ensures { result ≡ pageDropped generation page e }
 {
@@ -94,6 +95,7 @@ pub fn page_dropped(e: Entry, generation: u32, page: u64) -> Entry
 }
 
 // An entry after an Asid: out if it was walked for the ASID and is not global.
+#[tactic(auto, unfolding(crate::specs::Entry::asidDropped))]
 pub fn asid_dropped(e: Entry, asid: u16) -> Entry
     ensures { result ≡ asidDropped asid e }
 {

@@ -4,14 +4,14 @@ ghost use Rattle.tlb.specs.Hint.{noHint, noFetch, onPage, dataSlot, hintKey, hin
 
 use crate::access::Kind;
 
-#[derive(Drop)]
+#[derive(Clone, Copy)]
 pub struct Hint {
     // the raw page's address, plus the level
     pub key: u64,
     pub pa: u64,
 }
 
-#[derive(Drop)]
+#[derive(Clone, Copy)]
 pub struct FetchHint {
     pub some: bool,
     // the raw page's address
@@ -21,7 +21,7 @@ pub struct FetchHint {
 }
 
 // What the fetch hint says of an address.
-#[derive(Drop)]
+#[derive(Clone, Copy)]
 pub enum HintAnswer {
     At(u64),
     Unknown,
@@ -57,6 +57,7 @@ pub fn on_page(pa: u64, va: u64) -> u64
 
 // A data hint's place: by page, with higher bits folded in; reads in the first 256, writes in the next. A fetch has
 // none below 512.
+#[tactic(auto, unfolding(crate::specs::Hint::place_of))]
 pub fn data_slot(va: u64, kind: Kind) -> usize
     ensures { result ≡ dataSlot va kind }
 {

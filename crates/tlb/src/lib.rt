@@ -1,3 +1,4 @@
+#![tactic(auto)]
 // The cache of stage 1: what walks found, the hints of recent accesses, the counters, and what other cores are to drop.
 ghost use Rattle.std.specs.Prelude.{◌≡◌};
 ghost use Rattle.tlb.specs.Tlb.{fresh, getOf, put_of, flushOf, dropPageOf, dropAsidOf, invalidateOf, retagOf};
@@ -18,7 +19,7 @@ pub mod hint;
 pub mod resolve;
 
 // What a TLBI drops. A page is VA[55:12]; an ASID's entries are those that are not global.
-#[derive(Drop)]
+#[derive(Clone, Copy)]
 pub enum Inval {
     All,
     Page(u64),
@@ -26,13 +27,13 @@ pub enum Inval {
 }
 
 // What the other cores are to drop.
-#[derive(Drop)]
+#[derive(Clone, Copy)]
 pub enum Pending {
     Nothing,
     Some(Inval),
 }
 
-#[derive(Drop)]
+#[derive(Clone, Copy)]
 pub struct Tlb {
     pub cache: Cache,
     pub counts: Counts,
@@ -40,7 +41,7 @@ pub struct Tlb {
 }
 
 // What stands in a slot for a tag.
-#[derive(Drop)]
+#[derive(Clone, Copy)]
 pub enum Found {
     Hit(Entry),
     Missing,
@@ -59,6 +60,7 @@ pub fn new() -> Tlb
 }
 
 // The entry that answers for a tag.
+#[tactic(auto, unfolding(crate::specs::Tlb::getOf))]
 pub fn get(t: Tlb, tag: u64) -> Found
     ensures { result ≡ getOf t tag }
 {
@@ -70,6 +72,7 @@ pub fn get(t: Tlb, tag: u64) -> Found
 }
 
 // An entry goes to its slot, in the present generation.
+#[tactic(auto, unfolding(crate::specs::Tlb::put_of))]
 pub fn put(t: Tlb, e: Entry) -> Tlb
     ensures { result ≡ put_of t e }
 {
@@ -86,6 +89,7 @@ pub fn put(t: Tlb, e: Entry) -> Tlb
 }
 
 // Every entry and every hint out.
+#[tactic(auto, unfolding(crate::specs::Tlb::flushOf))]
 pub fn flush(t: Tlb) -> Tlb
     ensures { result ≡ flushOf t }
 {
@@ -102,6 +106,7 @@ pub fn flush(t: Tlb) -> Tlb
 }
 
 // What translates the page out, blocks that cover it included, and every hint.
+#[tactic(auto, unfolding(crate::specs::Tlb::dropPageOf))]
 pub fn drop_page(t: Tlb, page: u64) -> Tlb
     ensures { result ≡ dropPageOf t page }
 {
@@ -118,6 +123,7 @@ pub fn drop_page(t: Tlb, page: u64) -> Tlb
 }
 
 // The ASID in force is now asid: the entries stay, every hint goes.
+#[tactic(auto, unfolding(crate::specs::Tlb::retagOf))]
 pub fn retag(t: Tlb, asid: u16) -> Tlb
     ensures { result ≡ retagOf t asid }
 {
@@ -150,6 +156,7 @@ pub fn drop_asid(t: Tlb, asid: u16) -> Tlb
 }
 
 // What a TLBI asks for.
+#[tactic(auto, unfolding(crate::specs::Tlb::invalidateOf))]
 pub fn invalidate(t: Tlb, what: Inval) -> Tlb
     ensures { result ≡ invalidateOf t what }
 {
@@ -198,6 +205,7 @@ pub fn pending_after(pending: Pending, what: Inval) -> Pending
 }
 
 // The other cores are to drop what too.
+#[tactic(auto, unfolding(crate::specs::Tlb::broadcastOf))]
 pub fn broadcast(t: Tlb, what: Inval) -> Tlb
     ensures { result ≡ broadcastOf t what }
 {

@@ -13,7 +13,7 @@ use walk::level::{Leaf, Walked};
 use walk::regime::{Bank, Regime};
 
 // Where an answer came from. NoLeaf: a walk that ended in a fault.
-#[derive(Drop)]
+#[derive(Clone, Copy)]
 pub enum Source {
     FromHint,
     FromFlat,
@@ -23,7 +23,7 @@ pub enum Source {
 }
 
 // What a translation asks of the cache, with stage 1 on: the untagged address, in its regime, and the tag of its page.
-#[derive(Drop)]
+#[derive(Clone, Copy)]
 pub struct Query {
     pub regime: Regime,
     pub page: u64,
@@ -31,7 +31,7 @@ pub struct Query {
 }
 
 // With stage 1 off nothing is asked.
-#[derive(Drop)]
+#[derive(Clone, Copy)]
 pub enum Asked {
     Flat,
     Of(Query),
@@ -39,7 +39,7 @@ pub enum Asked {
 
 // The changes of a translation: its answer, where that came from, and the entry to store where a walk found a leaf
 // (else blank).
-#[derive(Drop)]
+#[derive(Clone, Copy)]
 pub struct Resolved {
     pub answer: Answer,
     pub source: Source,
@@ -56,6 +56,7 @@ pub fn query_of(s: Bank, regime: Regime, va: u64) -> Query
 }
 
 // What is asked of the cache.
+#[tactic(auto, unfolding(crate::specs::Resolve::askOf))]
 pub fn ask(s: Bank, privilege: Privilege, va: u64) -> Asked
     ensures { result ≡ askOf s privilege va }
 {
@@ -85,6 +86,7 @@ pub fn entry_for(leaf: Leaf, at: Current, tag: u64) -> Entry
 }
 
 // What the end of a walk does: a leaf becomes an entry and is judged, a fault makes none.
+#[tactic(auto, unfolding(crate::specs::Resolve::byWalk))]
 fn ends(w: Walked, q: Query, privilege: Privilege, at: Current, kind: Kind, va: u64) -> Resolved
     ensures { result ≡ byWalk w q privilege at va kind }
 {
@@ -147,6 +149,7 @@ pub fn by_entry(q: Query, privilege: Privilege, e: Entry, va: u64, kind: Kind) -
 }
 
 // By the entry that the query's tag names, or by a walk.
+#[tactic(auto, unfolding(crate::specs::Resolve::resolveOf, crate::specs::Resolve::resolveWith))]
 pub fn resolve(
     q: Query,
     s: Bank,
