@@ -9,19 +9,19 @@ use operations::call::{Call, Encoding};
 use tlb::access::Kind;
 
 // What a word names, or nothing.
-#[derive(Drop)]
+#[derive(Clone, Copy)]
 pub enum DecodedKind {
     Known(Kind),
     Unknown,
 }
 
-#[derive(Drop)]
+#[derive(Clone, Copy)]
 pub enum DecodedException {
     Known(Exception),
     Unknown,
 }
 
-#[derive(Drop)]
+#[derive(Clone, Copy)]
 pub enum DecodedCall {
     Known(Call),
     Unknown,
@@ -38,6 +38,7 @@ pub fn kind_of(word: u64) -> DecodedKind
     }
 }
 
+#[tactic(auto, unfolding(crate::specs::Ops::dataAbortOf))]
 fn data_abort_of(addr: u64, write: u64, fsc: u64) -> DecodedException
     ensures { result ≡ dataAbortOf addr write fsc }
 {
@@ -85,6 +86,7 @@ fn in_range(ok: bool, e: Exception) -> DecodedException
 
 // 0 Undefined; 1 SVC, 2 HVC, 3 SMC, 4 BRK, each with its immediate, of 16 bits; 5 data abort with address, write and
 // status; 6 instruction abort with address and status; 7 PC alignment. Words out of range name nothing.
+#[tactic(auto, unfolding(crate::specs::Ops::exceptionOf, crate::specs::Ops::callExceptionOf))]
 pub fn exception_of(code: u64, a: u64, b: u64, c: u64) -> DecodedException
     ensures { result ≡ exceptionOf code a b c }
 {
@@ -104,6 +106,7 @@ pub fn exception_of(code: u64, a: u64, b: u64, c: u64) -> DecodedException
 }
 
 // The four words that name an exception.
+#[tactic(auto, unfolding(crate::specs::Ops::exceptionOf, crate::specs::Ops::callExceptionOf))]
 pub fn words_of(e: Exception) -> [u64; 4]
     ensures { exceptionAt result ≡ DecodedException.Known e }
 {
@@ -125,6 +128,7 @@ pub fn words_of(e: Exception) -> [u64; 4]
     }
 }
 
+#[tactic(auto, unfolding(crate::specs::Ops::translateCall))]
 fn translate_of(kind: u64, va: u64) -> DecodedCall
     ensures { result ≡ translateCall (kind_of kind) va }
 {
@@ -161,6 +165,7 @@ fn abort_of(code: u64, a: u64, b: u64, c: u64) -> DecodedCall
 }
 
 // The call that eight words name.
+#[tactic(auto, unfolding(crate::specs::Ops::call_of))]
 pub fn call_of(op: &[u64; 8]) -> DecodedCall
     ensures { result ≡ call_of op.now }
 {

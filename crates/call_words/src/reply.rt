@@ -131,6 +131,7 @@ fn stop_words(stop: Stop) -> [u64; 4]
 }
 
 // The four words of a reply.
+#[tactic(auto, unfolding(crate::specs::Replies::wordsBy))]
 pub fn words(reply: Reply) -> [u64; 4]
     ensures { result ≡ wordsBy reply }
 {

@@ -8,7 +8,7 @@ use walk::regime::{Bank, Regime};
 use word::bits;
 
 // A regime by its number, or none.
-#[derive(Drop)]
+#[derive(Clone, Copy)]
 pub enum Named {
     Known(Regime),
     Unknown,
@@ -55,6 +55,7 @@ fn put_leaf(out: &mut [u64; 5], leaf: Leaf)
 
 // One walk of an untagged address: 0 and the leaf, or 256 plus the fault's status; 64 for no regime, 2 for a window
 // that passes 2^64.
+#[tactic(auto, unfolding(crate::specs::Walk::walkCode, crate::specs::Walk::walkWords))]
 pub fn walk_words(
     words: &[u64; 6],
     number: u64,

@@ -1,5 +1,5 @@
 -- Split accesses whose two parts lie in RAM, on plain values, for `search`.
-use Rattle.std.proofs.Common.{◌≡◌, ℕ, zero, suc, ◌+◌, ◌-◌, ◌*◌, ◌/◌, ◌%◌, ◌^◌, ◌<◌, ◌≤◌, Bool, true, false, ◌&&◌, ltb, List, length, get_or, sym, refl, ap, ◌∙◌, subst, mod-eq_of_lt, suc-add, pow-suc, zero-add, div-one, arith, take-append-drop, pow-add, shr-shr, ltb-false, ltb-true, le-ltb, lt-ltb, le-leb}
+use Rattle.std.proofs.Common.{◌≡◌, ℕ, zero, suc, ◌+◌, ◌-◌, ◌*◌, ◌/◌, ◌%◌, ◌^◌, ◌<◌, ◌≤◌, Bool, true, false, ◌&&◌, ltb, List, length, get_or, sym, refl, ap, ◌∙◌, mod-eq_of_lt, suc-add, pow-suc, zero-add, div-one, arith, take-append-drop, pow-add, shr-shr, ltb-false, ltb-true, le-ltb, lt-ltb, le-leb}
 use native.Mathlib.Nat.{pow-zero}
 use Rattle.word.specs.Bits.{pick, wrap}
 use Rattle.word.specs.Ram.{within, written, stored, bytes_of}
@@ -14,32 +14,7 @@ use Rattle.operations.specs.declared.place.Pages.{Pages}
 use Rattle.operations.specs.declared.place.Place.TheVariants.{Split}
 use Rattle.operations.specs.declared.place.Verdict.TheVariants.{Inside}
 use Rattle.operations.specs.declared.bytes.Got.TheVariants as Got
-use Rattle.operations.proofs.Moves.{fits-base, fits-end, fits-at, byte-there, sum-on, split-value}
-
--- the tests of the code
-module _ (base len : ℕ) (p : Pages) (n : ℕ) where
-  pub glance-past : 2 ^ 64 - 1 - len < base → false ≡ bothInside base len p n
-  unfolding bothInside
-  glance-past h = sym (rw (lt-ltb _ _ h))
-
-  module _ (h : base ≤ 2 ^ 64 - 1 - len) where
-    pub glance-short : n < p.in_page → false ≡ bothInside base len p n
-    unfolding bothInside
-    glance-short k = sym (rw (le-ltb _ _ h, lt-ltb _ _ k))
-
-    module _ (k : p.in_page ≤ n) where
-      pub glance-long : 8 < n → false ≡ bothInside base len p n
-      unfolding bothInside
-      glance-long l = sym (rw (le-ltb _ _ h, le-ltb _ _ k, lt-ltb _ _ l))
-
-      module _ (l : n ≤ 8) (f s : Bool) (ef : f ≡ within base len p.in_page p.pa) (es : s ≡ within base len (n - p.in_page) p.pa2) where
-        pub glance-both : f ≡ true → s ≡ bothInside base len p n
-        unfolding bothInside
-        glance-both t = sym (rw (le-ltb _ _ h, le-ltb _ _ k, le-ltb _ _ l, ← ef, ← es, t))
-
-        pub glance-first : f ≡ false → false ≡ bothInside base len p n
-        unfolding bothInside
-        glance-first t = sym (rw (le-ltb _ _ h, le-ltb _ _ k, le-ltb _ _ l, ← ef, t))
+use Rattle.operations.proofs.Moves.{fits-base, fits-end, byte-there, sum-on, split-value}
 
 -- n bytes from pa lie in RAM, so each of them does
 one-within : (base len n pa i : ℕ) → base + len < 2 ^ 64 → within base len n pa ≡ true → i < n → within base len 1 (wrap (pa + i)) ≡ true
@@ -50,25 +25,13 @@ one-within base len n pa i h e k =
     rw (m, le-leb base (pa + i) (omega arith), le-leb (pa + i + 1) (base + len) (omega arith))
 
 false-true : false ≡ true → ⊥
-false-true e = subst is_false e tt
-  where
-    is_false : Bool → Type 0
-    is_false true = ⊥
-    is_false false = Unit {0}
+false-true e = cc
 
 outside-value : (v : ℕ) → Word.Outside ≡ Word.Value v → ⊥
-outside-value v e = subst is-outside e tt
-  where
-    is-outside : Word → Type 0
-    is-outside (Word.Value x) = ⊥
-    is-outside Word.Outside = Unit {0}
+outside-value v e = cc
 
 value-is : (a b : ℕ) → Word.Value a ≡ Word.Value b → a ≡ b
-value-is a b e = ap held-value e
-  where
-    held-value : Word → ℕ
-    held-value (Word.Value x) = x
-    held-value Word.Outside = 0
+value-is a b e = cc
 
 and_both : (a b : Bool) → a && b ≡ true → (a ≡ true) × (b ≡ true)
 and_both true b e = (refl, e)
@@ -114,19 +77,6 @@ module _ (base len : ℕ) (p : Pages) (n : ℕ) where
 module _ (base len : ℕ) (p : Pages) (n i pa : ℕ) (l : Lie base len p n) (h : i < n) (ep : pa ≡ byte_at p i) where
   next-within : true ≡ within base len 1 pa
   next-within = sym (ap (within base len 1) ep ∙ l.each i h)
-
-  pub next-base : base ≤ pa
-  next-base = fits-base base len 1 pa true refl next-within
-
-  pub next-at : pa - base < len
-  next-at = fits-at base len pa true refl next-within
-
-module _ (base len : ℕ) (p : Pages) (n i pa : ℕ) (l : Lie base len p n) (h : 0 < i) (k : i ≤ n) (ep : pa ≡ byte_at p (i - 1)) where
-  pub last-base : base ≤ pa
-  last-base = next-base base len p n (i - 1) pa l (omega arith) ep
-
-  pub last-at : pa - base < len
-  last-at = next-at base len p n (i - 1) pa l (omega arith) ep
 
 pub joined-on : (base : ℕ) (ram : List ℕ) (p : Pages) (n i v pa b : ℕ) → Lie base (length ram) p n → 0 < i → i ≤ n → v ≡ splitValue base ram p i (n - i)
     → pa ≡ byte_at p (i - 1) → b ≡ get_or ram (pa - base) 0 → v * 256 + b ≡ splitValue base ram p (i - 1) (n - (i - 1))
@@ -249,14 +199,6 @@ module _ (base : ℕ) (ram : List ℕ) (p : Pages) (n : ℕ) (f : Bool) (ef : f 
 
   pub few : f ≡ true → n ≤ 8
   few t = (unfold-both base (length ram) p n (sym ef ∙ t)).few
-
-  pub both_read : (v : ℕ) → f ≡ true → v ≡ splitValue base ram p 0 n → Word.Value v ≡ bothAt base ram p n
-  unfolding bothAt
-  both_read v t e = rw (← ef, t, e)
-
-  pub both-unread : f ≡ false → Word.Outside ≡ bothAt base ram p n
-  unfolding bothAt
-  both-unread t = rw (← ef, t)
 
   pub made : f ≡ true → true ≡ bothInside base (length ram) p n
   made t = sym t ∙ ef

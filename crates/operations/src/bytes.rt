@@ -11,14 +11,14 @@ use word::ram::{Width, Word};
 use word::{bits, ram};
 
 // The value of a load, or its lowest byte outside RAM.
-#[derive(Drop)]
+#[derive(Clone, Copy)]
 pub enum Got {
     Value(u64),
     Abort { index: u64, pa: u64 },
 }
 
 // An instruction, or nothing where a byte of it lies outside RAM.
-#[derive(Drop)]
+#[derive(Clone, Copy)]
 pub enum Insn {
     Value(u32),
     Outside,
@@ -33,6 +33,7 @@ fn byte(ram: &[u8], at: usize) -> u64
 }
 
 // The byte at pa, 0 outside RAM.
+#[tactic(auto, unfolding(crate::specs::Bytes::byteIn))]
 fn byte_in(base: u64, ram: &[u8], pa: u64) -> u64
     ensures value { result ≡ byteIn base ram.now pa }
     ensures upper_bound { result ≤ 255 }
@@ -62,6 +63,7 @@ fn split_value(base: u64, ram: &[u8], p: Pages, n: u64) -> u64
     v
 }
 
+#[tactic(auto, unfolding(crate::specs::Bytes::load_of, crate::specs::Place::verdictOf))]
 fn load_split(base: u64, ram: &[u8], p: Pages, n: u64) -> Got
     requires { n ≤ 8 }
     ensures { result ≡ load_of base ram.now (Place.Split p) n }
@@ -75,6 +77,7 @@ fn load_split(base: u64, ram: &[u8], p: Pages, n: u64) -> Got
     }
 }
 
+#[tactic(auto, unfolding(crate::specs::Bytes::load_of, crate::specs::Place::verdictOf, word::specs::Ram::word_at))]
 fn load_whole(base: u64, ram: &[u8], pa: u64, width: Width) -> Got
     ensures { result ≡ load_of base ram.now (Place.Whole pa) (bytesIn width) }
 {
@@ -112,6 +115,7 @@ fn put_split(base: u64, ram: &mut [u8], p: Pages, n: u64, value: u64)
 }
 
 // The bytes before the first outside are written.
+#[tactic(auto, unfolding(crate::specs::Place::verdictOf, crate::specs::Bytes::storeRam))]
 fn store_split(base: u64, ram: &mut [u8], p: Pages, n: u64, value: u64) -> Verdict
     ensures { (result ≡ verdictOf base (length ram.old) (Place.Split p) n)
         × (ram.new ≡ storeRam base ram.old (Place.Split p) n value) }
@@ -122,6 +126,7 @@ fn store_split(base: u64, ram: &mut [u8], p: Pages, n: u64, value: u64) -> Verdi
     v
 }
 
+#[tactic(auto, unfolding(crate::specs::Place::verdictOf, crate::specs::Bytes::storeRam))]
 fn store_whole(base: u64, ram: &mut [u8], pa: u64, width: Width, value: u64) -> Verdict
     ensures { (result ≡ verdictOf base (length ram.old) (Place.Whole pa) (bytesIn width))
         × (ram.new ≡ storeRam base ram.old (Place.Whole pa) (bytesIn width) value) }
@@ -165,6 +170,7 @@ fn joined(base: u64, ram: &[u8], p: Pages, n: u64) -> u64
 }
 
 // The value of a split access, where both parts lie in RAM by one test.
+#[tactic(auto, unfolding(crate::specs::AtOnce::bothAt))]
 pub fn read_both(base: u64, ram: &[u8], p: Pages, n: u64) -> Word
     ensures { result ≡ bothAt base ram.now p n }
 {
@@ -178,8 +184,7 @@ pub fn read_both(base: u64, ram: &[u8], p: Pages, n: u64) -> Word
 }
 
 // A split store, where both parts lie in RAM by one test, and whether it was made. The byte writer is lent each part
-// by itself: the first
-// page's bytes, and then the others, which are those of the value above them.
+// by itself: the first page's bytes, and then the others, which are those of the value above them.
 pub fn write_both(base: u64, ram: &mut [u8], p: Pages, n: u64, value: u64) -> bool
     ensures { (result ≡ bothInside base (length ram.old) p n)
         × (ram.new ≡ bothStored base ram.old p n value) }
@@ -218,6 +223,7 @@ pub fn write_pair(base: u64, ram: &mut [u8], pa: u64, pa2: u64, value: u64) -> b
 }
 
 // Four bytes in one sum.
+#[tactic(auto, unfolding(word::specs::Ram::littleEndian))]
 fn word32(ram: &[u8], at: usize) -> u32
     requires { at + 4 ≤ length ram.now }
     ensures { result ≡ littleEndian ram.now 4 at }
@@ -230,6 +236,7 @@ fn word32(ram: &[u8], at: usize) -> u32
 }
 
 // The instruction at pa.
+#[tactic(auto, unfolding(crate::specs::Bytes::insnOf))]
 pub fn insn_at(base: u64, ram: &[u8], pa: u64) -> Insn
     ensures { result ≡ insnOf base ram.now pa }
 {

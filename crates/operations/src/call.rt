@@ -4,7 +4,7 @@ use fault::Fault;
 use tlb::access::Kind;
 
 // SYS op1, CRn, CRm, op2 with a general register.
-#[derive(Drop)]
+#[derive(Clone, Copy)]
 pub struct Encoding {
     pub op1: u64,
     pub crn: u64,
@@ -13,7 +13,7 @@ pub struct Encoding {
     pub rt: u64,
 }
 
-#[derive(Drop)]
+#[derive(Clone, Copy)]
 pub enum Call {
     Translate(Kind, u64),
     DataPa(u64),
@@ -35,7 +35,7 @@ pub enum Call {
     Census(u64, u64),
 }
 
-#[derive(Drop)]
+#[derive(Clone, Copy)]
 pub enum Reply {
     // the number of the first check that the call misses
     Refused(u8),

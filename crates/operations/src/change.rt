@@ -20,7 +20,7 @@ use tlb::{access, count, hint, resolve};
 use walk::regime::Bank;
 
 // Who asks, the registers of its regime, what is asked of the cache, and where the cells of the page lie.
-#[derive(Drop)]
+#[derive(Clone, Copy)]
 pub struct Lookup {
     pub privilege: Privilege,
     pub bank: Bank,
@@ -30,7 +30,7 @@ pub struct Lookup {
 }
 
 // What is read first: who asks, the hints that may serve it, and the addresses kept.
-#[derive(Drop)]
+#[derive(Clone, Copy)]
 pub struct Hinted {
     pub privilege: Privilege,
     pub hint: Hint,
@@ -40,7 +40,7 @@ pub struct Hinted {
 }
 
 // What a page's translation reads of the core.
-#[derive(Drop)]
+#[derive(Clone, Copy)]
 pub struct Page {
     pub lookup: Lookup,
     pub current: Current,
@@ -50,7 +50,7 @@ pub struct Page {
 
 // What a translation changes. By effect 1 a hit is counted, by 2 a walk, by 3 a walk whose entry is stored; the hint is
 // stored where hints says so, the fetch hint where fetches does.
-#[derive(Drop)]
+#[derive(Clone, Copy)]
 pub struct Change {
     pub hint_at: usize,
     pub entry_at: usize,
@@ -63,14 +63,14 @@ pub struct Change {
 }
 
 // What a translation changes, and its answer.
-#[derive(Drop)]
+#[derive(Clone, Copy)]
 pub struct Answered {
     pub change: Change,
     pub answer: Answer,
 }
 
 // What a translation changes, and its reply.
-#[derive(Drop)]
+#[derive(Clone, Copy)]
 pub struct Translated {
     pub change: Change,
     pub reply: Reply,
@@ -87,6 +87,7 @@ fn entry_place(a: Asked) -> usize
 }
 
 // What is asked of the cache, of which the level says the regime alone: for levels 0 and 1 the compiler then knows it.
+#[tactic(auto, unfolding(tlb::specs::Resolve::askOf))]
 fn asked_of(s: Bank, privilege: Privilege, va: u64) -> Asked
     ensures { result ≡ askOf s privilege va }
 {
@@ -170,6 +171,7 @@ fn address_of(answer: Answer) -> u64
 }
 
 // A translation that no hint serves.
+#[tactic(auto, unfolding(crate::specs::Change::missBy))]
 pub fn miss(
     k: Lookup,
     at: Current,
@@ -267,6 +269,7 @@ pub fn fetch_change_of(k: Lookup, t: Resolved, va: u64) -> Change
 }
 
 // A translation that no hint serves, on the cells taken out.
+#[tactic(auto, unfolding(crate::specs::Change::translatedOf))]
 pub fn translate(x: Page, va: u64, kind: Kind, base: u64, ram: &[u8]) -> Translated
     ensures { result ≡ translatedOf x va kind (word_at base ram.now 8) }
 {
@@ -293,6 +296,7 @@ fn by_hint(k: Lookup, h: Hint, va: u64) -> Answered
 }
 
 // A translation on the cells taken out: the hint first, where it may serve.
+#[tactic(auto, unfolding(crate::specs::Change::answeredOf))]
 pub fn resolve_page(x: Page, va: u64, kind: Kind, base: u64, ram: &[u8]) -> Answered
     ensures { result ≡ answeredOf x va kind (word_at base ram.now 8) }
 {

@@ -84,13 +84,15 @@ pub fn sized(level: u8, base: u64, len: u64, size: u64) -> u8
     if 3 < level {
         return 1;
     }
-    if past_end(base, len) {
+    let past = past_end(base, len);
+    if past {
         return 2;
     }
     if is_size(size) { 0 } else { 3 }
 }
 
 // System operation.
+#[tactic(auto, unfolding(crate::specs::Check::missedOf))]
 pub fn system(level: u8, base: u64, len: u64, e: Encoding) -> u8
     ensures { result ≡ missedOf level base len (Call.System e) }
 {
@@ -127,6 +129,7 @@ pub fn general(level: u8, number: u64) -> u8
 }
 
 // Census.
+#[tactic(auto, unfolding(crate::specs::Check::missedOf))]
 pub fn census(level: u8, base: u64, len: u64, first: u64, pages: u64) -> u8
     ensures { result ≡ missedOf level base len (Call.Census first pages) }
 {
@@ -140,6 +143,7 @@ pub fn census(level: u8, base: u64, len: u64, first: u64, pages: u64) -> u8
 }
 
 // Any call.
+#[tactic(auto, unfolding(crate::specs::Check::missedOf))]
 pub fn missed(level: u8, base: u64, len: u64, call: Call) -> u8
     ensures { result ≡ missedOf level base len call }
 {

@@ -12,45 +12,45 @@ use fault::Fault;
 use tlb::access::Answer;
 use word::ram::Width;
 
-#[derive(Drop)]
+#[derive(Clone, Copy)]
 pub enum LoadAnswer {
     Value(u64),
     Stopped(Stop),
 }
 
-#[derive(Drop)]
+#[derive(Clone, Copy)]
 pub enum StoreAnswer {
     Done,
     Stopped(Stop),
 }
 
-#[derive(Drop)]
+#[derive(Clone, Copy)]
 pub enum FetchAnswer {
     Value(u32),
     Aborted(Exception),
 }
 
 // Where an access would go, or no more than that it faults.
-#[derive(Drop)]
+#[derive(Clone, Copy)]
 pub enum Reached {
     At(u64),
     Faults,
 }
 
-#[derive(Drop)]
+#[derive(Clone, Copy)]
 pub struct LoadEnd {
     pub last_pa: u64,
     pub abort_pa: u64,
     pub answer: LoadAnswer,
 }
 
-#[derive(Drop)]
+#[derive(Clone, Copy)]
 pub struct StoreEnd {
     pub abort_pa: u64,
     pub answer: StoreAnswer,
 }
 
-#[derive(Drop)]
+#[derive(Clone, Copy)]
 pub struct FetchEnd {
     pub abort_pa: u64,
     pub answer: FetchAnswer,
@@ -75,6 +75,7 @@ fn external_abort(va: u64, index: u64, write: bool) -> Stop
 }
 
 // A load keeps the first byte's physical address once it has translated, also where it then aborts.
+#[tactic(auto, unfolding(crate::specs::Ends::loadEnd))]
 pub fn load_end(
     placed: Placed,
     last: u64,
@@ -116,6 +117,7 @@ pub fn load_end(
     }
 }
 
+#[tactic(auto, unfolding(crate::specs::Ends::storeEnd, crate::specs::Ends::storeRamEnd))]
 pub fn store_end(
     placed: Placed,
     abort: u64,
@@ -153,6 +155,7 @@ pub fn store_end(
 }
 
 // A fetch reads four bytes and is never split.
+#[tactic(auto, unfolding(crate::specs::Ends::fetchEnd))]
 pub fn fetch_end(at: Answer, abort: u64, base: u64, ram: &[u8], va: u64) -> FetchEnd
     ensures { result ≡ fetchEnd at abort base ram.now va }
 {

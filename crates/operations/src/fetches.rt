@@ -13,7 +13,7 @@ use tlb::hint;
 use tlb::hint::{FetchHint, HintAnswer};
 
 // What a fetch changes, the addresses that it keeps, and its reply.
-#[derive(Drop)]
+#[derive(Clone, Copy)]
 pub struct FetchAccess {
     pub change: Change,
     pub last_pa: u64,
@@ -22,7 +22,7 @@ pub struct FetchAccess {
 }
 
 // Whether the fetch hint serves; then how the fetch ends.
-#[derive(Drop)]
+#[derive(Clone, Copy)]
 pub struct HintEnd {
     pub ends: bool,
     pub abort_pa: u64,
@@ -30,6 +30,7 @@ pub struct HintEnd {
 }
 
 // The checks, and then the instruction where the fetch hint serves and it lies in RAM.
+#[tactic(auto, unfolding(crate::specs::Fetches::fastFetch))]
 pub fn at_once(g: Hinted, base: u64, ram: &[u8], va: u64) -> Fast
     ensures { result ≡ fastFetch g.privilege g.fetch base ram.now va }
 {
@@ -61,6 +62,7 @@ pub fn at_once(g: Hinted, base: u64, ram: &[u8], va: u64) -> Fast
 }
 
 // How a fetch ends that the fetch hint serves, in RAM or outside.
+#[tactic(auto, unfolding(crate::specs::Fetches::hintEndOf))]
 pub fn by_hint(g: Hinted, base: u64, ram: &[u8], va: u64) -> HintEnd
     ensures { result ≡ hintEndOf g base ram.now va }
 {
@@ -85,6 +87,7 @@ pub fn by_hint(g: Hinted, base: u64, ram: &[u8], va: u64) -> HintEnd
 }
 
 // The translation of a fetch on the cells taken out: the fetch hint first.
+#[tactic(auto, unfolding(crate::specs::Fetches::fetchAnsweredOf))]
 fn resolve_page(f: FetchHint, x: Page, va: u64, base: u64, ram: &[u8]) -> Answered
     ensures { result ≡ fetchAnsweredOf f x va (word_at base ram.now 8) }
 {
@@ -109,6 +112,7 @@ fn resolve_page(f: FetchHint, x: Page, va: u64, base: u64, ram: &[u8]) -> Answer
 }
 
 // A fetch on the cells taken out.
+#[tactic(auto, unfolding(crate::specs::Fetches::fetchedOf))]
 pub fn fetched(g: Hinted, x: Page, va: u64, base: u64, ram: &[u8]) -> FetchAccess
     ensures { result ≡ fetchedOf g x va base ram.now }
 {

@@ -15,7 +15,7 @@ use word::ram;
 use word::ram::Sized;
 
 // What the hint and the checks say: an answer at once, or none.
-#[derive(Drop)]
+#[derive(Clone, Copy)]
 pub struct Fast {
     pub ends: bool,
     pub reply: Reply,
@@ -33,6 +33,7 @@ fn first_of(kind: Kind) -> usize
 }
 
 // The place of the hint of an address: a fetch has none, and takes any.
+#[tactic(auto, unfolding(tlb::specs::Hint::place_of))]
 pub fn hint_place(va: u64, kind: Kind) -> usize
     ensures { result ≡ hintPlace va kind }
 {
@@ -69,6 +70,7 @@ fn by_hint(hit: bool, h: Hint, va: u64) -> Fast
 }
 
 // The checks, and then the hint. Nearly every window ends before the last address, and then passes check 2.
+#[tactic(auto, unfolding(crate::specs::Hinted::fastOf))]
 pub fn at_once(g: Hinted, base: u64, ram: &[u8], va: u64, kind: Kind) -> Fast
     ensures { result ≡ fastOf g.privilege g.hint base (length ram.now) va kind }
 {
@@ -106,6 +108,7 @@ fn bytes_of(size: u64) -> u64
 }
 
 // The address that the second cells are for: the next page's where the access takes two, else its own.
+#[tactic(auto, unfolding(crate::specs::Loads::second_of))]
 pub fn second_of(bank: Bank, level: u8, va: u64, size: u64) -> u64
     ensures { result ≡ second_of bank level va size }
 {

@@ -16,7 +16,7 @@ use word::ram;
 use word::ram::Sized;
 
 // What the translations of an access change, and what they found. A page that is not translated changes nothing.
-#[derive(Drop)]
+#[derive(Clone, Copy)]
 pub struct Both {
     pub first: Change,
     pub second: Change,
@@ -24,7 +24,7 @@ pub struct Both {
 }
 
 // What an access changes, the addresses that it keeps, and its reply.
-#[derive(Drop)]
+#[derive(Clone, Copy)]
 pub struct Access {
     pub first: Change,
     pub second: Change,
@@ -34,7 +34,7 @@ pub struct Access {
 }
 
 // What the checks and the hint say: an answer at once with the address kept, or none.
-#[derive(Drop)]
+#[derive(Clone, Copy)]
 pub struct FastLoad {
     pub ends: bool,
     pub last_pa: u64,
@@ -51,6 +51,7 @@ pub fn second_of(x: Page, va: u64, size: u64) -> u64
 }
 
 // The second page's translation, after the first one's.
+#[tactic(auto, unfolding(crate::specs::Loads::twoTranslations))]
 fn two(f: Answered, y: Page, va: u64, kind: Kind, base: u64, ram: &[u8]) -> Both
     ensures { result ≡ twoTranslations f y va kind (word_at base ram.now 8) }
 {
@@ -86,6 +87,7 @@ fn one(f: Answered, y: Page, va: u64) -> Both
 }
 
 // The translations of an access of n bytes, on the cells taken out.
+#[tactic(auto, unfolding(crate::specs::Loads::bothOf))]
 pub fn translations(x: Page, y: Page, va: u64, n: u64, kind: Kind, base: u64, ram: &[u8]) -> Both
     ensures { result ≡ bothOf x y va n kind (word_at base ram.now 8) }
 {
@@ -134,6 +136,7 @@ pub fn access_of(b: Both, last: u64, abort: u64, reply: Reply) -> Access
 }
 
 // A load on the cells taken out.
+#[tactic(auto, unfolding(crate::specs::Loads::loadedOf))]
 pub fn loaded(g: Hinted, x: Page, y: Page, va: u64, size: u64, base: u64, ram: &[u8]) -> Access
     ensures { result ≡ loadedOf g x y va size base ram.now }
 {
@@ -152,6 +155,7 @@ pub fn loaded(g: Hinted, x: Page, y: Page, va: u64, size: u64, base: u64, ram: &
 }
 
 // The bytes at pa, or no answer where one lies outside RAM.
+#[tactic(auto, unfolding(crate::specs::Loads::fastRead))]
 fn read_at(base: u64, ram: &[u8], pa: u64, size: u64, last: u64) -> FastLoad
     ensures { result ≡ fastRead base ram.now pa size last }
 {
@@ -177,6 +181,7 @@ fn read_at(base: u64, ram: &[u8], pa: u64, size: u64, last: u64) -> FastLoad
 }
 
 // The checks, and then the bytes where the hint serves and they lie in one page and in RAM.
+#[tactic(auto, unfolding(crate::specs::Loads::fastLoad))]
 pub fn load_at_once(g: Hinted, base: u64, ram: &[u8], va: u64, size: u64) -> FastLoad
     ensures { result ≡ fastLoad g.privilege g.hint g.last_pa base ram.now va size }
 {

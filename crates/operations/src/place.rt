@@ -9,28 +9,28 @@ use tlb::access::Answer;
 use word::ram;
 
 // The first in_page bytes lie from pa on, the others from pa2 on.
-#[derive(Drop)]
+#[derive(Clone, Copy)]
 pub struct Pages {
     pub in_page: u64,
     pub pa: u64,
     pub pa2: u64,
 }
 
-#[derive(Drop)]
+#[derive(Clone, Copy)]
 pub enum Place {
     Whole(u64),
     Split(Pages),
 }
 
 // What the translations of an access found: its place, or a fault and its address.
-#[derive(Drop)]
+#[derive(Clone, Copy)]
 pub enum Placed {
     At(Place),
     Fault { addr: u64, fault: Fault },
 }
 
 // Whether all bytes lie in RAM, or else the lowest that does not, by its index, and its physical address.
-#[derive(Drop)]
+#[derive(Clone, Copy)]
 pub enum Verdict {
     Inside,
     Outside { index: u64, pa: u64 },
@@ -144,8 +144,8 @@ pub fn bytes_before(v: Verdict, n: u64) -> u64
 }
 
 // Whether both parts of a split access of up to eight bytes lie in RAM, by one test: a window that ends at the last
-// address is left to the
-// bytes.
+// address is left to the bytes.
+#[tactic(auto, unfolding(crate::specs::AtOnce::bothInside))]
 pub fn both_inside(base: u64, len: u64, p: Pages, n: u64) -> bool
     ensures { result ≡ bothInside base len p n }
 {

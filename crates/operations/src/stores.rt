@@ -16,7 +16,7 @@ use word::ram::{Sized, Width};
 
 // What the checks and the hint say: whether the store ends at once, the number of the first check missed, or else
 // where the bytes go.
-#[derive(Drop)]
+#[derive(Clone, Copy)]
 pub struct FastStore {
     pub ends: bool,
     pub refused: u8,
@@ -24,6 +24,7 @@ pub struct FastStore {
 }
 
 // The checks, and then the hint, where the bytes lie in one page and in RAM.
+#[tactic(auto, unfolding(crate::specs::Stores::fastStore))]
 pub fn at_once(g: Hinted, base: u64, len: u64, va: u64, size: u64) -> FastStore
     ensures { result ≡ fastStore g.privilege g.hint base len va size }
 {
@@ -48,6 +49,7 @@ pub fn at_once(g: Hinted, base: u64, len: u64, va: u64, size: u64) -> FastStore
 }
 
 // A store that ends at once.
+#[tactic(auto, unfolding(crate::specs::Stores::nowRam))]
 pub fn store_now(q: FastStore, base: u64, ram: &mut [u8], size: u64, value: u64) -> Reply
     ensures { (result ≡ nowReply q) × (ram.new ≡ nowRam q base ram.old size value) }
 {
@@ -65,6 +67,7 @@ pub fn store_now(q: FastStore, base: u64, ram: &mut [u8], size: u64, value: u64)
 }
 
 // The end of a store, after its translations.
+#[tactic(auto, unfolding(crate::specs::Stores::storeAfter))]
 fn ended(
     b: Both,
     last: u64,
@@ -86,6 +89,7 @@ fn ended(
 }
 
 // A store on the cells taken out.
+#[tactic(auto, unfolding(crate::specs::Stores::storedOf, crate::specs::Stores::storedRam))]
 pub fn stored(
     g: Hinted,
     x: Page,

@@ -1,4 +1,0 @@
--- What the proofs share.
-pub mod Naming
-pub mod Replying
-pub mod Walks
