@@ -1,5 +1,5 @@
 -- Document 01's thirteen proved cases and the last address in range, as one computed statement about calls on a core with an empty cache.
-use Rattle.core.specs.Prelude.{◌≡◌, ℕ, ◌^◌, true, false, [], ◌∷◌, replicate, slice_index}
+use Rattle.std.specs.Prelude.{◌≡◌, ℕ, ◌^◌, true, false, [], ◌∷◌, replicate, slice_index}
 use Rattle.std.specs.Prelude.{refl}
 use Rattle.word.specs.Ram.{word_at, littleEndian, bytes_of}
 use Rattle.fault.specs.First.{first}
@@ -27,7 +27,7 @@ use Rattle.exception.specs.Abort.{dataAbortAt}
 use Rattle.mmu.specs.Core.{reg_of, afterAccess}
 use Rattle.mmu.specs.Step.{translateIn as translationOf}
 use Rattle.mmu.specs.Ops.{steppedNow, translateOf}
-use Rattle.mmu.specs.declared.core.Core.{Core}
+use Rattle.mmu.specs.declared.core_state.Core.{Core}
 use Rattle.sysop.specs.Op.{named, decodeOf}
 use Rattle.walk.specs.Fresh.{fresh_of}
 use Rattle.sysop.specs.Par.{success, abort, leafPar, parIn, atPar}

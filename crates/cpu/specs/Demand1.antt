@@ -1,5 +1,5 @@
 -- Every call ends: a number and nothing changed, or its value, its fault, Undefined or Unimplemented.
-use Rattle.core.specs.Prelude.{◌≡◌, ℕ, zero, suc, ◌+◌, ◌≤◌, Bool, true, false, ◌&&◌, List, [], ◌∷◌, length, ◌==◌, nat_le}
+use Rattle.std.specs.Prelude.{◌≡◌, ℕ, zero, suc, ◌+◌, ◌≤◌, Bool, true, false, ◌&&◌, List, [], ◌∷◌, length, ◌==◌, nat_le}
 use Rattle.std.proofs.Math.Path.{refl, ap, subst⁻¹}
 use Rattle.std.proofs.Common.{sym, subst, ◌∙◌, arith, leb-true}
 use Rattle.std.proofs.lemmas.Bool.{not-false}
@@ -27,7 +27,7 @@ use Rattle.mmu.specs.Says.{Said, value, done, fault, faults, undefined, unimplem
 use Rattle.mmu.specs.Says.{insnSays, load-says, store-says, fetch-says}
 use Rattle.mmu.specs.Ops.{translateOf, read_of, writeOf, ramAfterWrite, fetchOf, fetchPaOf, dataPaOf, locatedNow, fetchSteppedNow}
 use Rattle.mmu.specs.OpLaws.{ram-length, store}
-use Rattle.mmu.specs.declared.{core.Core.Core, ops.Stored.Stored}
+use Rattle.mmu.specs.declared.{core_state.Core.Core, ops.Stored.Stored}
 use Rattle.operations.specs.declared.{place.Placed.Placed, place.Verdict.Verdict, ends.LoadAnswer.LoadAnswer}
 use Rattle.operations.specs.declared.{ends.StoreAnswer.StoreAnswer, ends.FetchAnswer.FetchAnswer, ends.Reached.Reached}
 use Rattle.operations.specs.declared.{call.Call.Call, call.Reply.Reply}

@@ -1,9 +1,9 @@
 -- What a census of the core finds, beside its reply; core and RAM stay.
-use Rattle.core.specs.Prelude.{◌≡◌, ℕ, zero, suc, List, replicate}
+use Rattle.std.specs.Prelude.{◌≡◌, ℕ, zero, suc, List, replicate}
 use Rattle.std.proofs.Math.Path.{refl}
 use Rattle.word.specs.Ram.{word_at}
 use Rattle.census.specs.Count.{censusAt}
-use Rattle.mmu.specs.declared.core.Core.{Core}
+use Rattle.mmu.specs.declared.core_state.Core.{Core}
 use Rattle.operations.specs.declared.call.Call.TheVariants.{Census}
 use Rattle.operations.specs.declared.call.Reply.TheVariants.{Refused}
 use Rattle.cpu.specs.declared.inspect.Censused.{Censused}

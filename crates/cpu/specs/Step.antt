@@ -1,11 +1,11 @@
 -- One call on the core: a number where a check is missed, and else the operation.
-use Rattle.core.specs.Prelude.{ℕ, zero, suc, ◌%◌, List, length}
+use Rattle.std.specs.Prelude.{ℕ, zero, suc, ◌%◌, List, length}
 use Rattle.word.specs.Ram.{word_at, width_of, bytesIn}
 use Rattle.word.specs.declared.ram.Sized.{Sized}
 use Rattle.word.specs.declared.ram.Sized.TheVariants.{Bytes, Refused as NoWidth}
 use Rattle.mmu.specs.Core.{setReg}
 use Rattle.mmu.specs.Ops.{translateOf, read_of, writeOf, ramAfterWrite, fetchOf, fetchPaOf, dataPaOf}
-use Rattle.mmu.specs.declared.{core.Core.Core, ops.Translated.Translated, ops.Loaded.Loaded, ops.Stored.Stored}
+use Rattle.mmu.specs.declared.{core_state.Core.Core, ops.Translated.Translated, ops.Loaded.Loaded, ops.Stored.Stored}
 use Rattle.mmu.specs.declared.{ops.Fetched.Fetched, ops.Addressed.Addressed}
 use Rattle.exec.specs.Ops.{writeRegister, setLevel, setMark, abortOf}
 use Rattle.exec.specs.Sys.{sysOf, sysRam}

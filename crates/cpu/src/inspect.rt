@@ -1,21 +1,22 @@
 // Operations that look at registers and RAM and change neither: what they find, beside the call's reply.
-ghost use Rattle.core.specs.Prelude.{◌≡◌};
+ghost use Rattle.std.specs.Prelude.{◌≡◌};
 ghost use Rattle.cpu.specs.Inspect.{censusBy};
 
 use census::count;
-use mmu::core::Core;
+use mmu::core_state::Core;
 use operations::call::Reply;
 use operations::check;
 use walk::regime;
 
 // The 129 counts of a census, all 0 where it is refused, and its reply.
-#[derive(Drop)]
+#[derive(Clone, Copy)]
 pub struct Censused {
     pub counts: [u64; 129],
     pub reply: Reply,
 }
 
 // The census of so many pages from the page of first, at the core's level.
+#[tactic(auto, unfolding(crate::specs::Inspect::censusBy, crate::specs::Inspect::countsAfter, crate::specs::Step::step_of, crate::specs::Step::run_of))]
 pub fn census(core: Core, base: u64, ram: &[u8], first: u64, pages: u64) -> Censused
     ensures { result ≡ censusBy core base ram.now first pages }
 {

@@ -1,5 +1,5 @@
 // Each call's operation, by value.
-ghost use Rattle.core.specs.Prelude.{◌≡◌};
+ghost use Rattle.std.specs.Prelude.{◌≡◌};
 ghost use Rattle.word.specs.Ram.{word_at, width_of};
 ghost use Rattle.mmu.specs.Ops.{translateOf, fetchOf};
 ghost use Rattle.exec.specs.Ops.{writeRegister};
@@ -7,9 +7,9 @@ ghost use Rattle.exec.specs.Sys.{sysOf, sysRam};
 ghost use Rattle.cpu.specs.Step.{ends, afterTranslation, afterAddress, afterFetch, afterStore, afterWrite};
 ghost use Rattle.cpu.specs.Step.{loadBy, storeBy, storeRamBy, run_of, ramOf};
 
-use mmu::core::Core;
+use mmu::core_state::Core;
 use mmu::ops::Addressed;
-use mmu::{core, ops};
+use mmu::{core_state, ops};
 use operations::call::{Call, Encoding, Reply};
 use operations::reply;
 use tlb::access::Kind;
@@ -17,7 +17,7 @@ use word::ram;
 use word::ram::Sized;
 
 // The core after a call, and its reply.
-#[derive(Drop)]
+#[derive(Clone, Copy)]
 pub struct Stepped {
     pub core: Core,
     pub reply: Reply,
@@ -121,6 +121,7 @@ fn done(core: Core) -> Stepped
 }
 
 // The operation that a call is.
+#[tactic(auto, unfolding(crate::specs::Step::run_of, crate::specs::Step::ramOf))]
 pub fn run(core: Core, base: u64, ram: &mut [u8], call: Call) -> Stepped
     ensures { (result ≡ run_of core base ram.old call)
         × (ram.new ≡ ramOf core base ram.old call) }
@@ -136,7 +137,7 @@ pub fn run(core: Core, base: u64, ram: &mut [u8], call: Call) -> Stepped
         Call::Register(key, value) => register(core, key, value),
         Call::Level(level) => done(exec::ops::set_level(core, (level % 4) as u8)),
         Call::Mark(mark) => done(exec::ops::set_mark(core, mark)),
-        Call::General(number, value) => done(core::set_reg(core, number, value)),
+        Call::General(number, value) => done(core_state::set_reg(core, number, value)),
         Call::Abort(e) => done(exec::ops::abort(core, e)),
         Call::Census(_, _) => done(core),
     }

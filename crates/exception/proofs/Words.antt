@@ -18,6 +18,8 @@ status-joined s write e =
 pub status-alone : (s : ℕ) (write : Bool) → write ≡ false → s ≡ dataStatus write s
 status-alone s write e = rw (e, or_zero_r (s / 2 ^ 6)) (sym (split s 6))
 
+pub ruleset status_words = (status-joined, status-alone)
+
 -- OR is associative
 low : (a b : ℕ) → bit_or a b % 2 ≡ max (a % 2) (b % 2)
 low a b = let h : max (a % 2) (b % 2) ≤ 1 = max-le (omega arith) (omega arith) in omega (arith, or_step a b)
@@ -108,3 +110,5 @@ module _ (level : ℕ) (f : Flags) (hn : f.nzcv < 2 ^ 32) (hd : f.daif < 2 ^ 32)
   pub psr-el0 : f.spsel ≡ false → bit_or (bit_or f.nzcv f.daif) (level % 4 * 4) ≡ spsrOf level f
   unfolding spsrOf
   psr-el0 e = sym (or_zero_r (bit_or (bit_or f.nzcv f.daif) (level % 4 * 4))) ∙ joined 0 (omega arith) ∙ simp e
+
+pub ruleset psr_words = (psr-elx, psr-el0)

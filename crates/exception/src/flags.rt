@@ -2,7 +2,7 @@
 ghost use Rattle.std.specs.Prelude.{◌≡◌};
 ghost use Rattle.exception.specs.Pstate.{freshFlags, spsrOf};
 
-#[derive(Drop)]
+#[derive(Clone, Copy)]
 pub struct Flags {
     pub nzcv: u32,
     pub daif: u32,
@@ -26,6 +26,7 @@ impl Flags {
 }
 
 // PSTATE as SPSR_ELx holds it. Of the level two bits count.
+#[tactic(auto, using(crate::proofs::Words::psr_words))]
 pub fn pstate(level: u8, flags: Flags) -> u64
     ensures { result ≡ spsrOf level flags }
 {

@@ -2,7 +2,7 @@
 use fault::Fault;
 
 // The virtual address of an access, whether it was a write, and its fault.
-#[derive(Drop)]
+#[derive(Clone, Copy)]
 pub struct DataAbort {
     pub addr: u64,
     pub write: bool,
@@ -10,13 +10,13 @@ pub struct DataAbort {
 }
 
 // The same of a fetch.
-#[derive(Drop)]
+#[derive(Clone, Copy)]
 pub struct InsnAbort {
     pub addr: u64,
     pub fault: Fault,
 }
 
-#[derive(Drop)]
+#[derive(Clone, Copy)]
 pub enum Exception {
     Undefined,
     // SVC, HVC, SMC and BRK carry their immediate.
@@ -29,7 +29,7 @@ pub enum Exception {
     PcAlignment,
 }
 
-#[derive(Drop)]
+#[derive(Clone, Copy)]
 pub enum Stop {
     Exception(Exception),
     // Defined by the architecture, and not done here.

@@ -1,3 +1,4 @@
+#![tactic(auto)]
 // Exception entry: the syndrome of a synchronous exception, its routing, and the state that it leaves.
 pub mod flags;
 pub mod kind;

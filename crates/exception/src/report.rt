@@ -7,7 +7,7 @@ ghost use Rattle.exception.specs.Parts.{bare, located};
 use crate::kind::Exception;
 
 // ESR_ELx, whether FAR_ELx is written, and its value.
-#[derive(Drop)]
+#[derive(Clone, Copy)]
 pub struct Report {
     pub esr: u64,
     pub valid: bool,
@@ -74,6 +74,7 @@ fn abort_class(lower: bool, below: u8, same: u8) -> u8
     if lower { below } else { same }
 }
 
+#[tactic(auto, using(crate::proofs::Words::status_words))]
 fn data_status(write: bool, fsc: u8) -> u16
     ensures { result ≡ dataStatus write fsc }
 {
@@ -82,6 +83,7 @@ fn data_status(write: bool, fsc: u8) -> u16
 }
 
 // ESR_ELx and FAR_ELx of an exception at the PC, taken from one level to another.
+#[tactic(auto, unfolding(crate::specs::Syndrome::syndromeOf))]
 pub fn syndrome(e: Exception, from: u8, to: u8, pc: u64) -> Report
     ensures { result ≡ syndromeOf e from to pc }
 {

@@ -7,7 +7,7 @@ ghost use Rattle.exception.specs.Parts.{usually};
 use crate::kind::Exception;
 use sysreg::regs::El;
 
-#[derive(Drop)]
+#[derive(Clone, Copy)]
 pub struct Routed {
     pub exception: Exception,
     pub target: El,
@@ -15,7 +15,7 @@ pub struct Routed {
 }
 
 // What routing reads.
-#[derive(Drop)]
+#[derive(Clone, Copy)]
 pub struct Origin {
     pub level: u8,
     pub scr_el3: u64,
@@ -72,6 +72,7 @@ fn hypervisor_target(level: u8) -> El
 }
 
 // UNDEFINED where SCR_EL3.HCE is clear, and at Secure EL1.
+#[tactic(auto, unfolding(crate::specs::Route::routedTo))]
 fn route_hvc(o: Origin, imm: u16) -> Routed
     ensures { result ≡ routedTo o (Hvc imm) }
 {
@@ -88,6 +89,7 @@ fn route_hvc(o: Origin, imm: u16) -> Routed
 }
 
 // UNDEFINED where SCR_EL3.SMD is set; else HCR_EL2.TSC traps it at Non-secure EL1.
+#[tactic(auto, unfolding(crate::specs::Route::routedTo))]
 fn route_smc(o: Origin, imm: u16) -> Routed
     ensures { result ≡ routedTo o (Smc imm) }
 {
@@ -112,6 +114,7 @@ fn route_smc(o: Origin, imm: u16) -> Routed
 }
 
 // An exception is taken as it is, or as UNDEFINED. A call returns past itself, the others to their instruction.
+#[tactic(auto, unfolding(crate::specs::Route::routedTo))]
 pub fn route(o: Origin, e: Exception) -> Routed
     ensures { result ≡ routedTo o e }
 {

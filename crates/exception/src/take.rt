@@ -14,14 +14,14 @@ use sysreg::regs::{El, SysRegs, index};
 pub const VECTOR_SYNC: u64 = 0x000;
 
 // What an entry makes of a register of its target level.
-#[derive(Drop)]
+#[derive(Clone, Copy)]
 pub enum Update {
     Write(u64),
     Keep,
 }
 
 // Where a synchronous exception goes, the address that it returns to, and what it reports.
-#[derive(Drop)]
+#[derive(Clone, Copy)]
 pub struct Reported {
     pub target: El,
     pub ret: u64,
@@ -29,7 +29,7 @@ pub struct Reported {
 }
 
 // What its entry changes: at the target the group of vectors, SPSR, ELR, and ESR with FAR.
-#[derive(Drop)]
+#[derive(Clone, Copy)]
 pub struct Taken {
     pub target: El,
     pub group: u64,
@@ -39,7 +39,7 @@ pub struct Taken {
 }
 
 // What an entry leaves: the level, PSTATE, the PC and the registers.
-#[derive(Drop)]
+#[derive(Clone, Copy)]
 pub struct Entered {
     pub level: u8,
     pub flags: Flags,
@@ -132,6 +132,7 @@ fn enter_with(
 }
 
 // Exception entry to a level: the kind is the vector's place in its group, and ret the address that it returns to.
+#[tactic(auto, unfolding(crate::specs::Entry::enterOf))]
 pub fn enter(
     level: u8,
     flags: Flags,
@@ -163,6 +164,7 @@ fn far_update(report: Report) -> Update
 }
 
 // A synchronous exception at the PC is routed and reported.
+#[tactic(auto, unfolding(crate::specs::Entry::syncReport))]
 pub fn report_sync(level: u8, pc: u64, scr_el3: u64, hcr_el2: u64, e: Exception) -> Reported
     ensures { result ≡ syncReport level pc scr_el3 hcr_el2 e }
 {
@@ -186,6 +188,7 @@ pub fn report_sync(level: u8, pc: u64, scr_el3: u64, hcr_el2: u64, e: Exception)
 }
 
 // What its entry changes.
+#[tactic(auto, unfolding(crate::specs::Entry::syncChanges))]
 pub fn sync_changes(level: u8, flags: Flags, r: Reported) -> Taken
     ensures { result ≡ syncChanges level flags r }
 {
@@ -202,6 +205,7 @@ pub fn sync_changes(level: u8, flags: Flags, r: Reported) -> Taken
 }
 
 // It is routed, reported and taken.
+#[tactic(auto, using(crate::proofs::Entries::taken))]
 pub fn take_sync(
     level: u8,
     flags: Flags,

@@ -1,1 +1,1 @@
-pub mod Shells
+pub mod Zeroing

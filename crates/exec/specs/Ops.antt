@@ -9,7 +9,7 @@ use Rattle.exception.specs.declared.{kind.Exception.Exception, take.Entered.Ente
 use Rattle.mmu.specs.Bare as Bare
 use Rattle.mmu.specs.Bare.{withEntered, bareOf, inCore}
 use Rattle.mmu.specs.Ops.{withTlb}
-use Rattle.mmu.specs.declared.core.Core.{Core}
+use Rattle.mmu.specs.declared.core_state.Core.{Core}
 use Rattle.exec.specs.Fit.{refitOf}
 use Rattle.exec.specs.declared.ops.Registered.{Registered}
 

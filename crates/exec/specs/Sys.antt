@@ -20,7 +20,7 @@ use Rattle.mmu.specs.Bare as Bare
 use Rattle.mmu.specs.Bare.{bareOf, inCore}
 use Rattle.mmu.specs.Core.{reg_of}
 use Rattle.mmu.specs.Ops.{withTlb, writeOf, ramAfterWrite}
-use Rattle.mmu.specs.declared.{core.Core.Core, ops.Stored.Stored}
+use Rattle.mmu.specs.declared.{core_state.Core.Core, ops.Stored.Stored}
 use Rattle.operations.specs.declared.ends.StoreAnswer.{StoreAnswer}
 use Rattle.operations.specs.declared.ends.StoreAnswer.TheVariants.{Done, Stopped}
 

@@ -20,7 +20,7 @@ use Rattle.mmu.specs.Step.{onePage, translateIn, locatedOf}
 use Rattle.operations.specs.Ends.{storeEnd, storeRamEnd}
 use Rattle.mmu.specs.Ops.{steppedNow, locatedNow, translateOf, writeOf, ramAfterWrite}
 use Rattle.mmu.specs.OpLaws.{onNow}
-use Rattle.mmu.specs.declared.{core.Core.Core, step.Located.Located, ops.Stored.Stored}
+use Rattle.mmu.specs.declared.{core_state.Core.Core, step.Located.Located, ops.Stored.Stored}
 use Rattle.operations.specs.declared.place.Place.TheVariants.{Whole}
 use Rattle.operations.specs.declared.{place.Placed.Placed, ends.StoreAnswer.StoreAnswer}
 use Rattle.operations.specs.declared.place.Placed.TheVariants.{At}

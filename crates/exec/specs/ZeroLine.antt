@@ -16,7 +16,7 @@ use Rattle.operations.specs.Ends.{storeEnd}
 use Rattle.mmu.specs.Step.{translateIn}
 use Rattle.mmu.specs.Ops.{steppedNow, translateOf, storedBy, writeAfter, writeOf, ramAfterWrite}
 use Rattle.operations.specs.BytesLaws.{stored-length}
-use Rattle.mmu.specs.declared.{core.Core.Core, step.Located.Located, step.Stepped.Stepped, ops.Translated.Translated}
+use Rattle.mmu.specs.declared.{core_state.Core.Core, step.Located.Located, step.Stepped.Stepped, ops.Translated.Translated}
 use Rattle.exec.specs.Sys.{doneWith, onStored, zero_of, zeroRam}
 use Rattle.exec.specs.ZeroLaws.{one-located, one-ram, storeVa, store-va}
 

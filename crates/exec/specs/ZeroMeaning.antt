@@ -22,7 +22,7 @@ use Rattle.mmu.specs.Step.{translateIn}
 use Rattle.mmu.specs.Ops.{steppedNow, translateOf, writeOf, ramAfterWrite}
 use Rattle.mmu.specs.Bare.{Bare, bareOf}
 use Rattle.mmu.specs.OpLaws.{store as storing, kept, ram-length}
-use Rattle.mmu.specs.declared.{core.Core.Core, ops.Stored.Stored}
+use Rattle.mmu.specs.declared.{core_state.Core.Core, ops.Stored.Stored}
 use Rattle.operations.specs.declared.ends.StoreAnswer.{StoreAnswer}
 use Rattle.operations.specs.declared.ends.StoreAnswer.TheVariants.{Done, Stopped}
 use Rattle.exec.specs.Sys.{onStored, zero_of, zeroRam, op_of, sysOf, sysRam}

@@ -6,12 +6,14 @@ use sysreg::regs::Control;
 use sysreg::shape;
 use tlb::Tlb;
 
+#[tactic(auto, unfolding(tlb::specs::Maintenance::reshapedOf))]
 fn reshaped(t: Tlb, same: bool) -> Tlb
     ensures { result ≡ reshapedOf t same }
 {
     if same { t } else { tlb::flush(t) }
 }
 
+#[tactic(auto, unfolding(tlb::specs::Maintenance::retaggedOf))]
 fn retagged(t: Tlb, asid: u16) -> Tlb
     ensures { result ≡ retaggedOf t asid }
 {
@@ -20,6 +22,7 @@ fn retagged(t: Tlb, asid: u16) -> Tlb
 }
 
 // Where the shape changed, a flush; then, where the ASID differs from the cache's, a retag.
+#[tactic(auto, unfolding(crate::specs::Fit::refitOf))]
 pub fn refit(t: Tlb, before: Control, after: Control) -> Tlb
     ensures { result ≡ refitOf t before after }
 {

@@ -6,8 +6,8 @@ ghost use Rattle.exec.specs.Ops.{with_regs, appliedOf, writeRegister, setLevel, 
 use crate::fit;
 use exception::kind::Exception;
 use exception::take;
-use mmu::core;
-use mmu::core::Core;
+use mmu::core_state;
+use mmu::core_state::Core;
 use sysreg::regs::{Control, SysRegs};
 use sysreg::write;
 use sysreg::write::{WriteAnswer, Written};
@@ -15,13 +15,14 @@ use tlb::Tlb;
 use tlb::access::Privilege;
 
 // The core after a register write, and its answer.
-#[derive(Drop)]
+#[derive(Clone, Copy)]
 pub struct Registered {
     pub core: Core,
     pub answer: WriteAnswer,
 }
 
 // The same core with other registers.
+#[tactic(auto, unfolding(crate::specs::Ops::with_regs))]
 fn with_regs(core: Core, control: Control, sys: SysRegs) -> Core
     ensures { result ≡ with_regs core control sys }
 {
@@ -35,10 +36,11 @@ fn with_regs(core: Core, control: Control, sys: SysRegs) -> Core
 pub fn with_tlb(core: Core, t: Tlb) -> Core
     ensures { result ≡ withTlb core t }
 {
-    core::after_access(core, t, core.last_pa, core.abort_pa)
+    core_state::after_access(core, t, core.last_pa, core.abort_pa)
 }
 
 // A register write that is done: the register, then the cache.
+#[tactic(auto, unfolding(crate::specs::Ops::appliedOf))]
 fn applied(core: Core, w: Written) -> Core
     ensures { result ≡ appliedOf core w }
 {
@@ -52,6 +54,7 @@ fn applied(core: Core, w: Written) -> Core
 }
 
 // A register write. One that is not done changes nothing.
+#[tactic(auto, unfolding(crate::specs::Ops::writeRegister))]
 pub fn write_register(core: Core, key: u32, value: u64) -> Registered
     ensures { result ≡ writeRegister core key value }
 {
@@ -70,6 +73,7 @@ pub fn write_register(core: Core, key: u32, value: u64) -> Registered
 }
 
 // The level is set.
+#[tactic(auto, unfolding(crate::specs::Ops::setLevel))]
 pub fn set_level(core: Core, level: u8) -> Core
     ensures { result ≡ setLevel core level }
 {
@@ -84,6 +88,7 @@ pub fn set_level(core: Core, level: u8) -> Core
 }
 
 // The mark is set or cleared.
+#[tactic(auto, unfolding(crate::specs::Ops::setMark))]
 pub fn set_mark(core: Core, mark: bool) -> Core
     ensures { result ≡ setMark core mark }
 {
@@ -98,6 +103,7 @@ pub fn set_mark(core: Core, mark: bool) -> Core
 }
 
 // A synchronous exception is taken.
+#[tactic(auto, unfolding(crate::specs::Ops::abortOf))]
 pub fn abort(core: Core, e: Exception) -> Core
     ensures { result ≡ abortOf core e }
 {

@@ -7,9 +7,9 @@ ghost use Rattle.exec.specs.Sys.{zero_of, zeroRam, sysOf, sysRam};
 
 use crate::ops as cores;
 use exception::kind::{Exception, Stop};
-use mmu::core::Core;
+use mmu::core_state::Core;
 use mmu::ops::Stored;
-use mmu::{core, ops};
+use mmu::{core_state, ops};
 use operations::ends::StoreAnswer;
 use sysop::op::{AtForm, SysOp};
 use sysop::{op, par, tlbi};
@@ -30,6 +30,7 @@ fn mair_of(sys: SysRegs, regime: Regime) -> u64
 }
 
 // The same core with another PAR_EL1.
+#[tactic(auto, unfolding(crate::specs::Sys::withPar))]
 fn with_par(core: Core, par: u64) -> Core
     ensures { result ≡ withPar core par }
 {
@@ -42,6 +43,7 @@ fn with_par(core: Core, par: u64) -> Core
 }
 
 // AT: a fresh walk into PAR_EL1.
+#[tactic(auto, unfolding(crate::specs::Sys::at_of))]
 pub fn at(core: Core, base: u64, ram: &[u8], form: AtForm, va: u64) -> Core
     ensures { result ≡ at_of core (word_at base ram.now 8) form va }
 {
@@ -53,6 +55,7 @@ pub fn at(core: Core, base: u64, ram: &[u8], form: AtForm, va: u64) -> Core
     with_par(core, par)
 }
 
+#[tactic(auto, unfolding(tlb::specs::Maintenance::invalidatedOf))]
 fn invalidated(t: Tlb, what: tlb::Inval, shared: bool) -> Tlb
     ensures { result ≡ invalidatedOf t what shared }
 {
@@ -61,6 +64,7 @@ fn invalidated(t: Tlb, what: tlb::Inval, shared: bool) -> Tlb
 }
 
 // TLBI; the Inner Shareable forms are left pending for the other cores.
+#[tactic(auto, unfolding(crate::specs::Sys::tlbiCore))]
 pub fn tlbi(core: Core, op1: u64, crm: u64, op2: u64, x: u64) -> Core
     ensures { result ≡ tlbiCore core op1 crm op2 x }
 {
@@ -73,6 +77,7 @@ pub fn tlbi(core: Core, op1: u64, crm: u64, op2: u64, x: u64) -> Core
 }
 
 // The n stores of a zeroing from va on, up to the first that stops.
+#[tactic(auto, using(crate::proofs::Zeroing::zero_steps))]
 fn zero_from(core: Core, base: u64, ram: &mut [u8], va: u64, n: u64) -> Stored
     ensures value { result ≡ zero_of n core base ram.old va }
     ensures ram_after { ram.new ≡ zeroRam n core base ram.old va }
@@ -103,6 +108,7 @@ pub fn zva(core: Core, base: u64, ram: &mut [u8], x: u64) -> Stored
 }
 
 // A system operation of register rt.
+#[tactic(auto, unfolding(crate::specs::Sys::sysOf, crate::specs::Sys::sysRam))]
 pub fn sys(
     core: Core,
     base: u64,
@@ -116,7 +122,7 @@ pub fn sys(
     ensures value { result ≡ sysOf core base ram.old op1 crn crm op2 rt }
     ensures ram_after { ram.new ≡ sysRam core base ram.old op1 crn crm op2 rt }
 {
-    let x = core::reg(core, rt);
+    let x = core_state::reg(core, rt);
     match op::decode(core.privilege.level, op1, crn, crm, op2) {
         SysOp::At(form) => {
             let c = at(core, base, ram, form, x);

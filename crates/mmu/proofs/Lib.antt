@@ -1,3 +1,2 @@
 pub mod Steps
-pub mod Shells
-pub mod Regs
+pub mod Ram

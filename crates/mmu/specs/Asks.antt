@@ -1,6 +1,6 @@
 -- The translations that an access makes, from its call and the registers; what their answers say of its place; and that
 -- they are those of the exact definitions.
-use Rattle.core.specs.Prelude.{◌≡◌, ℕ, Bool, true, false, List, [], ◌∷◌}
+use Rattle.std.specs.Prelude.{◌≡◌, ℕ, Bool, true, false, List, [], ◌∷◌}
 use Rattle.std.proofs.Math.Path.{refl}
 use Rattle.word.specs.Bits.{pick}
 use Rattle.word.specs.declared.ram.Word.{Word}

@@ -1,14 +1,14 @@
 -- The architectural state of a core: all of it but the cache and the two physical addresses that it keeps. Each update
 -- is said here once: the core's own definitions make it with `inCore`, the core without a cache (transparency) makes it as
 -- it is.
-use Rattle.core.specs.Prelude.{ℕ, Bool, false, List, replicate, nat_lt, slice_index, slice_set}
+use Rattle.std.specs.Prelude.{ℕ, Bool, false, List, replicate, nat_lt, slice_index, slice_set}
 use Rattle.word.specs.Bits.{pick}
 use Rattle.sysreg.specs.Regs.{freshControl, freshSys}
 use Rattle.sysreg.specs.declared.{regs.Control.Control, regs.SysRegs.SysRegs}
 use Rattle.tlb.specs.declared.{access.Privilege.Privilege, Tlb.Tlb}
 use Rattle.exception.specs.Pstate.{freshFlags}
 use Rattle.exception.specs.declared.{flags.Flags.Flags, take.Entered.Entered}
-use Rattle.mmu.specs.declared.core.Core.{Core}
+use Rattle.mmu.specs.declared.core_state.Core.{Core}
 
 pub record Bare : Type 0 where
   pub privilege : Privilege

@@ -1,6 +1,6 @@
 -- What a load answers and a store leaves, byte by byte, each byte by its own address: byte i of an access to va stands
 -- at the virtual address wrap (va + i). With this `Pages`, `byte_at`, `inPage` and `nextPage` need not be believed.
-use Rattle.core.specs.Prelude.{◌≡◌, ℕ, zero, suc, ◌+◌, ◌-◌, ◌*◌, ◌/◌, ◌%◌, ◌^◌, ◌<◌, ◌≤◌, Bool, true, false, List, length, ◌≢◌, nat_lt, slice_index}
+use Rattle.std.specs.Prelude.{◌≡◌, ℕ, zero, suc, ◌+◌, ◌-◌, ◌*◌, ◌/◌, ◌%◌, ◌^◌, ◌<◌, ◌≤◌, Bool, true, false, List, length, ◌≢◌, nat_lt, slice_index}
 use Rattle.std.proofs.Math.Path.{refl, ap}
 use Rattle.std.proofs.Common.{sym, ◌∙◌, mod-eq_of_lt, div-one, le-leb}
 use Rattle.std.proofs.Math.Nat.{mod-mod, zero-add}
@@ -18,7 +18,7 @@ use Rattle.operations.specs.BytesLaws.{addressIn, stored-length, split-length, s
 use Rattle.operations.specs.Ends.{loadEnd, storeEnd, storeRamEnd}
 use Rattle.mmu.specs.Ops.{locatedNow, read_of, writeOf, ramAfterWrite}
 use Rattle.mmu.specs.OpLaws.{write-leaves}
-use Rattle.mmu.specs.declared.core.Core.{Core}
+use Rattle.mmu.specs.declared.core_state.Core.{Core}
 use Rattle.operations.specs.declared.{place.Pages.Pages, place.Place.Place, place.Placed.Placed, place.Verdict.Verdict}
 use Rattle.operations.specs.declared.place.Place.TheVariants.{Whole, Split}
 use Rattle.operations.specs.declared.place.Placed.TheVariants.{At, Fault}

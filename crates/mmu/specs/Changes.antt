@@ -1,5 +1,5 @@
 -- A translation as its changes: what they store is what the operation's translation leaves, on plain values.
-use Rattle.core.specs.Prelude.{◌≡◌, ℕ, ◌/◌, ◌%◌, ◌<◌, Bool, true, false, ◌&&◌, List, slice_set}
+use Rattle.std.specs.Prelude.{◌≡◌, ℕ, ◌/◌, ◌%◌, ◌<◌, Bool, true, false, ◌&&◌, List, slice_set}
 use Rattle.std.proofs.Math.Path.{refl, sym, subst, ap}
 use Rattle.std.proofs.Common.{◌∙◌, arith}
 use Rattle.std.proofs.lemmas.List.{set-get_or}
@@ -26,7 +26,7 @@ use Rattle.tlb.specs.declared.resolve.Source.TheVariants.{FromHint, FromFlat, Fr
 use Rattle.mmu.specs.Core.{bankNow, afterAccess}
 use Rattle.mmu.specs.Ops.{steppedNow, fetchSteppedNow, translateOf}
 use Rattle.mmu.specs.Step.{translateIn, translateFetchIn, slot_at}
-use Rattle.mmu.specs.declared.core.Core.{Core}
+use Rattle.mmu.specs.declared.core_state.Core.{Core}
 use Rattle.operations.specs.Change.{entryPlace, effect_of, countedAs, keptAs, allowed, address_of, missBy, changeOf, fetchChangeOf, unchanged, answeredOf}
 use Rattle.operations.specs.Change.{answeredBy}
 use Rattle.mmu.specs.Parts.{lookupIn, pageIn, parts_in, storedIn, commitAt, commitIn}

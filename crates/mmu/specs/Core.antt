@@ -1,12 +1,12 @@
 -- The core: how it starts, its general registers, and its parts put back.
-use Rattle.core.specs.Prelude.{ℕ}
+use Rattle.std.specs.Prelude.{ℕ}
 use Rattle.walk.specs.Regime.{bankOf, regimeOf}
 use Rattle.walk.specs.declared.regime.Bank.{Bank}
 use Rattle.tlb.specs.Tlb.{fresh}
 use Rattle.tlb.specs.declared.Tlb.{Tlb}
 unfoldable pub use Rattle.mmu.specs.Bare.{zeros, regIn, regSet}
 use Rattle.mmu.specs.Bare.{freshBare, withGeneral, coreFrom, bareOf, inCore}
-use Rattle.mmu.specs.declared.core.Core.{Core}
+use Rattle.mmu.specs.declared.core_state.Core.{Core}
 
 -- the registers and the cache as after reset
 unfoldable pub freshCore : Core

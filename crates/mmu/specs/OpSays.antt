@@ -1,5 +1,5 @@
 -- What an operation answers, and RAM after it, from its call, RAM before it and the answers that its translations got.
-use Rattle.core.specs.Prelude.{◌≡◌, ℕ, List}
+use Rattle.std.specs.Prelude.{◌≡◌, ℕ, List}
 use Rattle.std.specs.Prelude.{refl}
 use Rattle.std.proofs.Common.{ap, ◌∙◌}
 use Rattle.word.specs.Ram.{word_at}
@@ -13,7 +13,7 @@ use Rattle.mmu.specs.Says.{load-says, store-says, fetch-says}
 use Rattle.mmu.specs.Step.{translateIn, translateFetchIn}
 use Rattle.mmu.specs.Asks.{first_of, placedBy}
 use Rattle.mmu.specs.OpLaws.{Operation, translate, access, load, store, fetch, fetchPa, dataPa, operationRam, asksOf, onNow, accessNow, placed_by}
-use Rattle.mmu.specs.declared.core.Core.{Core}
+use Rattle.mmu.specs.declared.core_state.Core.{Core}
 use Rattle.operations.specs.declared.place.Placed.{Placed}
 
 abbrev pub says : Core → ℕ → List ℕ → Operation → Said

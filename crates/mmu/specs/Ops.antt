@@ -1,6 +1,6 @@
 -- The core's operations on memory: answer, core and RAM of each. Exact definitions, on the code's own types. What they
 -- mean: `OpSays`, the answers; `OpLaws`, what stays as it was; `ByteMeaning`, each byte that moves.
-use Rattle.core.specs.Prelude.{ℕ, List}
+use Rattle.std.specs.Prelude.{ℕ, List}
 use Rattle.word.specs.Ram.{word_at}
 use Rattle.word.specs.declared.ram.Word.{Word}
 use Rattle.tlb.specs.declared.{access.Kind.Kind, Tlb.Tlb}
@@ -8,7 +8,7 @@ use Rattle.tlb.specs.declared.access.Kind.TheVariants.{Read, Write}
 use Rattle.mmu.specs.Core.{afterAccess, bankNow}
 use Rattle.operations.specs.Ends.{loadEnd, storeEnd, storeRamEnd, fetchEnd, reachedBy}
 use Rattle.mmu.specs.Step.{translateIn, translateFetchIn, locatedOf}
-use Rattle.mmu.specs.declared.{core.Core.Core, step.Stepped.Stepped, step.Located.Located}
+use Rattle.mmu.specs.declared.{core_state.Core.Core, step.Stepped.Stepped, step.Located.Located}
 use Rattle.mmu.specs.declared.{ops.Translated.Translated, ops.Accessed.Accessed, ops.Loaded.Loaded}
 use Rattle.mmu.specs.declared.{ops.Stored.Stored, ops.Fetched.Fetched, ops.Addressed.Addressed}
 use Rattle.operations.specs.declared.{ends.LoadEnd.LoadEnd, ends.StoreEnd.StoreEnd, ends.FetchEnd.FetchEnd}

@@ -1,5 +1,5 @@
 -- Once a page was given an address, the cache gives it again to the same level, mark and kind, whatever the tables then hold.
-use Rattle.core.specs.Prelude.{◌≡◌, ℕ, ◌+◌, ◌*◌, ◌/◌, ◌%◌, ◌<◌, Bool, true, false, ◌&&◌, ◌||◌, length, ◌==◌, bit_or, slice_set}
+use Rattle.std.specs.Prelude.{◌≡◌, ℕ, ◌+◌, ◌*◌, ◌/◌, ◌%◌, ◌<◌, Bool, true, false, ◌&&◌, ◌||◌, length, ◌==◌, bit_or, slice_set}
 use Rattle.std.specs.Prelude.{refl}
 use Rattle.std.proofs.Math.Path.{sym, ap}
 use Rattle.std.proofs.Common.{◌∙◌, mod-lt, arith}

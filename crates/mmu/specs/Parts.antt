@@ -1,11 +1,11 @@
 -- What a translation reads of a core, and the core with its changes stored. Cited for a lent core and for one on words.
-use Rattle.core.specs.Prelude.{ℕ, ◌%◌, List, slice_set}
+use Rattle.std.specs.Prelude.{ℕ, ◌%◌, List, slice_set}
 use Rattle.word.specs.Bits.{pick}
 use Rattle.tlb.specs.Cache.{hintAt, entry_at}
 use Rattle.tlb.specs.Tlb.{tlbWith}
 use Rattle.tlb.specs.declared.{access.Kind.Kind, count.Counts.Counts, entry.Entry.Entry, hint.FetchHint.FetchHint}
 use Rattle.tlb.specs.declared.{hint.Hint.Hint, Tlb.Tlb}
-use Rattle.mmu.specs.declared.core.Core.{Core}
+use Rattle.mmu.specs.declared.core_state.Core.{Core}
 use Rattle.operations.specs.Hinted.{hintPlace}
 use Rattle.operations.specs.declared.{change.Change.Change, change.Hinted.Hinted, change.Lookup.Lookup}
 use Rattle.operations.specs.declared.change.Page.{Page}

@@ -1,5 +1,5 @@
 -- Each answer as the requirement's value, or its fault's address and status; and what the operations answer, so told.
-use Rattle.core.specs.Prelude.{◌≡◌, ℕ, ◌+◌, ◌-◌, Bool, true, false, List, length}
+use Rattle.std.specs.Prelude.{◌≡◌, ℕ, ◌+◌, ◌-◌, Bool, true, false, List, length}
 use Rattle.std.proofs.Math.Path.{refl}
 use Rattle.word.specs.Bits.{pick, wrap}
 use Rattle.word.specs.Ram.{littleEndian, within, word_at}
@@ -13,7 +13,7 @@ use Rattle.operations.specs.Place.{verdictOf}
 use Rattle.operations.specs.Bytes.{value_at, load_of, insnOf}
 use Rattle.operations.specs.Ends.{loadEnd, storeEnd, fetchEnd}
 use Rattle.mmu.specs.Ops.{fetchSteppedNow, locatedNow, read_of, writeOf, fetchOf}
-use Rattle.mmu.specs.declared.core.Core.{Core}
+use Rattle.mmu.specs.declared.core_state.Core.{Core}
 use Rattle.operations.specs.declared.{place.Place.Place, place.Placed.Placed, place.Verdict.Verdict}
 use Rattle.operations.specs.declared.{ends.LoadAnswer.LoadAnswer, ends.StoreAnswer.StoreAnswer}
 use Rattle.operations.specs.declared.{ends.FetchAnswer.FetchAnswer, ends.Reached.Reached}

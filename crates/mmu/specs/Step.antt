@@ -1,7 +1,7 @@
 -- Translations as steps of a cache, on the registers, the level and the RAM of the moment. Exact definitions, on the
 -- code's own types. What they mean: `Asks`, which translations an access makes; `PageLaws`, that they go by pages;
 -- `OwnAddress`, where each byte then lies.
-use Rattle.core.specs.Prelude.{ℕ}
+use Rattle.std.specs.Prelude.{ℕ}
 use Rattle.word.specs.Bits.{pick}
 use Rattle.word.specs.declared.ram.Word.{Word}
 use Rattle.walk.specs.Regime.{stage1On, regimeOf}

@@ -1,5 +1,5 @@
 // Translations as steps of a cache: the cells taken out, the translation, the cells put back.
-ghost use Rattle.core.specs.Prelude.{◌≡◌};
+ghost use Rattle.std.specs.Prelude.{◌≡◌};
 ghost use Rattle.word.specs.Ram.{word_at, bytesIn};
 ghost use Rattle.mmu.specs.Step.{slot_at, translateIn, translateFetchIn, locatedOf};
 
@@ -13,14 +13,14 @@ use word::ram;
 use word::ram::Width;
 
 // The cache that a translation leaves, and its answer.
-#[derive(Drop)]
+#[derive(Clone, Copy)]
 pub struct Stepped {
     pub tlb: Tlb,
     pub answer: Answer,
 }
 
 // The cache that an access's translations leave, and what they found.
-#[derive(Drop)]
+#[derive(Clone, Copy)]
 pub struct Located {
     pub tlb: Tlb,
     pub placed: Placed,
@@ -36,6 +36,7 @@ pub fn slot_at(s: Bank, level: u8, va: u64) -> usize
     tlb::entry::slot(tag)
 }
 
+#[tactic(auto, using(crate::proofs::Steps::step_is))]
 pub fn step(
     t: Tlb,
     s: Bank,
@@ -61,6 +62,7 @@ pub fn step(
 }
 
 // The translation that a fetch begins with.
+#[tactic(auto, using(crate::proofs::Steps::fetch_step_is))]
 pub fn fetch_step(t: Tlb, s: Bank, privilege: Privilege, base: u64, ram: &[u8], va: u64) -> Stepped
     ensures { result ≡ translateFetchIn s privilege (word_at base ram.now 8) va t }
 {
@@ -78,6 +80,7 @@ pub fn fetch_step(t: Tlb, s: Bank, privilege: Privilege, base: u64, ram: &[u8], 
 
 // The translations of an access: one, or two where it crosses a page. The first one's effects remain where the
 // second faults.
+#[tactic(auto, unfolding(crate::specs::Step::locatedOf))]
 pub fn locate(
     t: Tlb,
     s: Bank,

@@ -1,5 +1,5 @@
 // The core by value.
-ghost use Rattle.core.specs.Prelude.{◌≡◌};
+ghost use Rattle.std.specs.Prelude.{◌≡◌};
 ghost use Rattle.mmu.specs.Core.{zeros as zerosOf, freshCore, regIn, regSet, reg_of, setReg, afterAccess};
 
 use exception::flags::Flags;
@@ -7,7 +7,7 @@ use sysreg::regs::{Control, SysRegs};
 use tlb::Tlb;
 use tlb::access::Privilege;
 
-#[derive(Drop)]
+#[derive(Clone, Copy)]
 pub struct Core {
     pub privilege: Privilege,
     pub flags: Flags,
@@ -22,6 +22,7 @@ pub struct Core {
     pub abort_pa: u64,
 }
 
+#[tactic(auto, unfolding(crate::specs::Bare::zeros))]
 fn zeros() -> [u64; 31]
     ensures { result ≡ zerosOf }
 {
@@ -30,6 +31,7 @@ fn zeros() -> [u64; 31]
 
 impl Core {
     // After reset.
+    #[tactic(auto, unfolding(crate::specs::Core::freshCore))]
     pub fn new() -> Self
         ensures { result ≡ freshCore }
     {
@@ -80,6 +82,7 @@ fn reg_set(x: [u64; 31], n: u64, value: u64) -> [u64; 31]
 }
 
 // A general register. Register 31 reads as zero.
+#[tactic(auto, unfolding(crate::specs::Core::reg_of))]
 pub fn reg(core: Core, n: u64) -> u64
     ensures { result ≡ reg_of core n }
 {
@@ -88,6 +91,7 @@ pub fn reg(core: Core, n: u64) -> u64
 }
 
 // Register 31 drops what is written.
+#[tactic(auto, unfolding(crate::specs::Core::setReg))]
 pub fn set_reg(core: Core, n: u64, value: u64) -> Core
     ensures { result ≡ setReg core n value }
 {
@@ -99,6 +103,7 @@ pub fn set_reg(core: Core, n: u64, value: u64) -> Core
 }
 
 // The core with what a memory operation may change: the cache, and the physical addresses kept.
+#[tactic(auto, unfolding(crate::specs::Core::afterAccess))]
 pub fn after_access(core: Core, t: Tlb, last: u64, abort: u64) -> Core
     ensures { result ≡ afterAccess core t last abort }
 {
