@@ -8,7 +8,7 @@ use Rattle.sysop.specs.declared.op.SysOp.TheVariants as Op
 use Rattle.exception.specs.declared.kind.Exception.{Exception}
 use Rattle.mmu.specs.Bare.{Bare, freshBare, withPar, bareOf}
 use Rattle.mmu.specs.Core.{freshCore, reg_of}
-use Rattle.mmu.specs.declared.core.Core.{Core}
+use Rattle.mmu.specs.declared.core_state.Core.{Core}
 use Rattle.exec.specs.Ops.{registered, writeRegister}
 use Rattle.exec.specs.Sys.{sysBy, sysRamBy, sysOf, sysRam}
 use Rattle.cpu.specs.Step.{ends, afterStore, afterWrite, run_of, ramOf, refusedOr, step_of, ramAfter}

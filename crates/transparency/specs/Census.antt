@@ -17,7 +17,7 @@ use Rattle.tlb.specs.declared.access.Answer.{Answer}
 use Rattle.tlb.specs.declared.access.Answer.TheVariants.{Address, Status}
 use Rattle.mmu.specs.Bare.{Bare, freshBare, bareOf}
 use Rattle.mmu.specs.Core.{freshCore}
-use Rattle.mmu.specs.declared.core.Core.{Core}
+use Rattle.mmu.specs.declared.core_state.Core.{Core}
 use Rattle.operations.specs.declared.call.Call.TheVariants.{Census}
 use Rattle.operations.specs.declared.call.Reply.TheVariants.{Refused, Done}
 use Rattle.cpu.specs.Step.{ends, run_of, refusedOr, step_of}

@@ -21,7 +21,7 @@ use Rattle.mmu.specs.Asks.{asksBy, first_of, placedBy}
 use Rattle.operations.specs.Ends.{reachedBy, loadEnd, storeEnd, storeRamEnd, fetchEnd}
 use Rattle.mmu.specs.Ops.{steppedNow, fetchSteppedNow, locatedNow, translateOf, fetchPaOf, dataPaOf, fetchOf}
 use Rattle.mmu.specs.OpLaws.{placed_by}
-use Rattle.mmu.specs.declared.core.Core.{Core}
+use Rattle.mmu.specs.declared.core_state.Core.{Core}
 use Rattle.operations.specs.declared.{place.Placed.Placed, call.Encoding.Encoding}
 use Rattle.sysop.specs.declared.op.SysOp.TheVariants as Op
 use Rattle.operations.specs.Replies.{translation, reaching, loading, storing, fetching}

@@ -7,7 +7,7 @@ use Rattle.tlb.specs.Lists.{Each}
 use Rattle.tlb.specs.Asks.{Given}
 use Rattle.mmu.specs.Bare.{Bare, freshBare}
 use Rattle.mmu.specs.Core.{freshCore}
-use Rattle.mmu.specs.declared.core.Core.{Core}
+use Rattle.mmu.specs.declared.core_state.Core.{Core}
 use Rattle.cpu.specs.Step.{step_of, ramAfter}
 use Rattle.operations.specs.declared.call.Call.{Call}
 use Rattle.cpu.specs.declared.run.Stepped.{Stepped}

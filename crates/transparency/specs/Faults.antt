@@ -12,7 +12,7 @@ use Rattle.word.specs.declared.ram.Sized.TheVariants as Sized
 use Rattle.word.specs.declared.ram.Width.TheVariants as Width
 use Rattle.fault.specs.First.{first}
 use Rattle.fault.specs.declared.Fault.{Fault}
-use Rattle.tlb.specs.Lists.{Each, more}
+use Rattle.tlb.specs.Lists.{Each, done, more}
 use Rattle.tlb.specs.Asks.{Ask, translates, fetches, address_of, Given, onward, onward-same}
 use Rattle.tlb.specs.declared.{access.Kind.Kind, access.Answer.Answer, Tlb.Tlb}
 use Rattle.tlb.specs.declared.access.Kind.TheVariants as Kind
@@ -318,7 +318,8 @@ module _ (b : Bare) (m : Ram) (t : Tlb) (addr : ℕ) (fault : Fault) where
 -- OF EVERY CORE THAT CALLS REACH
 
 each_at : {A : Type 0} {P : A → Type 0} {a : A} {l : List A} → Each P l → Memᴰ a l → P a
-each_at {P} (more p ps) (Memᴰ.head e) = subst⁻¹ P e p
+each_at done m = elim m [ ]
+each_at {P = P} (more p ps) (Memᴰ.head e) = subst⁻¹ P e p
 each_at (more p ps) (Memᴰ.tail m) = each_at ps m
 
 -- Whatever the call and RAM: where a call after the list replies a fault, its status is a row of the table, a

@@ -15,7 +15,7 @@ use Rattle.tlb.specs.Asks.{Given}
 use Rattle.tlb.specs.declared.Tlb.{Tlb}
 use Rattle.mmu.specs.Bare.{Bare, freshBare, bareOf}
 use Rattle.mmu.specs.Core.{freshCore}
-use Rattle.mmu.specs.declared.core.Core.{Core}
+use Rattle.mmu.specs.declared.core_state.Core.{Core}
 use Rattle.cpu.specs.Step.{step_of}
 use Rattle.operations.specs.declared.call.Call.{Call}
 use Rattle.history.specs.World.{Plain}

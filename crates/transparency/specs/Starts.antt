@@ -9,7 +9,7 @@ use Rattle.sysop.specs.declared.op.SysOp.{SysOp}
 use Rattle.sysop.specs.declared.op.SysOp.TheVariants as Op
 use Rattle.mmu.specs.Bare.{bareOf}
 use Rattle.mmu.specs.Ops.{writeOf, ramAfterWrite}
-use Rattle.mmu.specs.declared.core.Core.{Core}
+use Rattle.mmu.specs.declared.core_state.Core.{Core}
 use Rattle.exec.specs.Sys.{onStored}
 use Rattle.operations.specs.declared.call.Call.{Call}
 use Rattle.operations.specs.declared.call.Call.TheVariants.{Translate, DataPa, FetchPa, Load, Store, Fetch, System, Register, Level, Mark, General}

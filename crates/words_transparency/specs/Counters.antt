@@ -4,7 +4,7 @@ use Rattle.std.specs.Prelude.{◌≡◌, refl, List, ℕ, zero, suc, ◌+◌, �
 use Rattle.std.proofs.Common.{ap, ◌∙◌, arith}
 use Rattle.tlb.specs.Count.{tallyAt}
 use Rattle.tlb.specs.Counting.{Totals}
-use Rattle.mmu.specs.declared.core.Core.{Core}
+use Rattle.mmu.specs.declared.core_state.Core.{Core}
 use Rattle.history.specs.Calls.{Lent}
 use Rattle.history.specs.Instance.{real}
 use Rattle.history.specs.Tallies.{byLine, byWalk, howMany, at, rustAfter}

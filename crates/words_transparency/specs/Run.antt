@@ -3,7 +3,7 @@ use Rattle.std.specs.Prelude.{◌≡◌, List, [], ◌∷◌, ◌++◌, ℕ, zer
 use Rattle.std.proofs.Math.Path.{refl}
 use Rattle.std.proofs.Common.{add-one, arith}
 use Rattle.mmu.specs.Core.{freshCore}
-use Rattle.mmu.specs.declared.core.Core.{Core}
+use Rattle.mmu.specs.declared.core_state.Core.{Core}
 use Rattle.history.specs.Calls.{Lent}
 use Rattle.history.specs.Instance.{windowOf, real}
 use Rattle.transparency.specs.Machine.{machine}

@@ -1,3 +1,4 @@
+#![tactic(auto)]
 // A run of exported calls on lent words, with demand 3 of the whole list in its contract.
 ghost use Rattle.std.specs.Prelude.{◌≡◌, ◌+◌, ◌/◌, ◌≤◌, length};
 ghost use Rattle.call_words.specs.Ops.{call_of};
