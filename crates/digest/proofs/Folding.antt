@@ -36,16 +36,3 @@ ended f n i h total p q = sym (end f n i h p) ∙ q
 pub one : (h w k : ℕ) → k ≡ joined h w → k ≡ digestFrom h (w ∷ [])
 unfolding digestFrom
 one h w k e = e
-
--- three words
-pub three : (h a b c x y z : ℕ) → x ≡ joined h a → y ≡ joined x b → z ≡ joined y c → z ≡ digestFrom h (a ∷ b ∷ c ∷ [])
-unfolding digestFrom
-three h a b c x y z p q r = r ∙ ap (λ (v : ℕ). joined v c) (q ∙ ap (λ (v : ℕ). joined v b) p)
-
--- three words, three more, of which one is known by another name, and one
-pub seven : (h a b c d e f g u x y z : ℕ) → x ≡ digestFrom h (a ∷ b ∷ c ∷ []) → y ≡ digestFrom x (d ∷ e ∷ f ∷ []) → z ≡ joined y g → e ≡ u → z
-    ≡ digestFrom h (a ∷ b ∷ c ∷ d ∷ u ∷ f ∷ g ∷ [])
-unfolding digestFrom
-seven h a b c d e f g u x y z p q r w =
-    r ∙ (ap (λ (v : ℕ). joined v g) (q ∙ ap (λ (v : ℕ). joined (joined (joined v d) e) f) p)
-    ∙ ap (λ (v : ℕ). digestFrom h (a ∷ b ∷ c ∷ d ∷ v ∷ f ∷ g ∷ [])) w)

@@ -1,7 +1,6 @@
 -- Laws of words made of bytes.
 use Rattle.std.proofs.Common.{◌≡◌, ℕ, zero, suc, ◌+◌, ◌-◌, ◌*◌, ◌/◌, ◌≤◌, Bool, true, false, List, [], ◌∷◌, ◌++◌, length, get_or, sym, ap, ◌∙◌, arith}
 use native.Mathlib.Nat.{sub-zero}
-use lib.ListN.{get_or-eq_default}
 use Rattle.word.specs.Bits.{pick}
 use Rattle.word.specs.Ram.{littleEndian, word_at, within}
 use Rattle.word.specs.RamLaws.{le_join}
@@ -10,10 +9,6 @@ use Rattle.word.specs.declared.ram.Word.TheVariants.{Value, Outside}
 use Rattle.digest.specs.Fold.{joined, digestFrom, digestOf, gathered}
 use Rattle.digest.specs.Window.{wholeWord, windowWords}
 use Rattle.digest.proofs.Folding.{digest-append}
-
--- a byte past the last
-pub past : (ram : List ℕ) (at : ℕ) → length ram ≤ at → 0 ≡ get_or ram at 0
-past ram at h = sym (get_or-eq_default ram 0 h)
 
 -- a word of one byte
 pub byte_word : (ram : List ℕ) (at : ℕ) → littleEndian ram 1 at ≡ get_or ram at 0

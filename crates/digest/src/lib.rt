@@ -1,3 +1,4 @@
+#![tactic(auto)]
 // Digests: one number for a core's registers, its live entries, its hints, a window of RAM, and the counts of a census.
 // A record of answers holds them.
 pub mod counts;

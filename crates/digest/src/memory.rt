@@ -22,6 +22,7 @@ fn byte_at(ram: &[u8], at: usize) -> u64
 }
 
 // Two, four and eight bytes, the lowest first: each joins two of the last.
+#[tactic(auto, using(crate::proofs::Wording::join2))]
 fn two_at(ram: &[u8], at: usize) -> u64
     requires { at ≤ length ram.now + 6 }
     ensures value { result ≡ littleEndian ram.now 2 at }
@@ -30,6 +31,7 @@ fn two_at(ram: &[u8], at: usize) -> u64
     byte_at(ram, at) + byte_at(ram, at + 1) * 0x100
 }
 
+#[tactic(auto, using(crate::proofs::Wording::join4))]
 fn four_at(ram: &[u8], at: usize) -> u64
     requires { at ≤ length ram.now + 4 }
     ensures value { result ≡ littleEndian ram.now 4 at }
@@ -39,6 +41,7 @@ fn four_at(ram: &[u8], at: usize) -> u64
 }
 
 // The last word, which is not whole.
+#[tactic(auto, using(crate::proofs::Wording::join8))]
 fn rest(ram: &[u8], at: usize) -> u64
     requires { at ≤ length ram.now }
     ensures { result ≡ littleEndian ram.now 8 at }
@@ -73,6 +76,7 @@ fn whole_words(ram: &[u8], start: u64) -> u64
 }
 
 // Its bytes as words.
+#[tactic(auto, using(crate::proofs::Wording::all_whole))]
 fn all_words(ram: &[u8], start: u64) -> u64
     ensures { result ≡ digestFrom start (gathered (wholeWord ram.now) ((length ram.now + 7) / 8) 0) }
 {
@@ -87,6 +91,7 @@ fn all_words(ram: &[u8], start: u64) -> u64
 }
 
 // The digest of a window.
+#[tactic(auto, using(crate::proofs::Wording::headed))]
 pub fn window(base: u64, ram: &[u8]) -> u64
     ensures { result ≡ digestOf (windowWords base ram.now) }
 {

@@ -12,7 +12,7 @@ use words::place::State;
 use words::{cells, counts, place};
 
 // How many there are, and their digest.
-#[derive(Drop)]
+#[derive(Clone, Copy)]
 pub struct Sum {
     pub count: u64,
     pub digest: u64,
@@ -28,6 +28,7 @@ fn start() -> Sum
     }
 }
 
+#[tactic(auto, unfolding(crate::specs::Fold::digestFrom))]
 fn joined_three(h: u64, a: u64, b: u64, c: u64) -> u64
     ensures { result ≡ digestFrom h (a ∷ b ∷ c ∷ []) }
 {
@@ -59,6 +60,7 @@ pub fn registers(state: &State) -> u64
 }
 
 // A digest with the slot of an entry, and the entry.
+#[tactic(auto, unfolding(crate::specs::Fold::digestFrom))]
 fn with_entry(digest: u64, slot: u64, e: Entry) -> u64
     ensures { result ≡ digestFrom digest (recordWords slot e) }
 {
@@ -69,6 +71,7 @@ fn with_entry(digest: u64, slot: u64, e: Entry) -> u64
 }
 
 // An entry is live where it has a tag and is of the present generation.
+#[tactic(auto, unfolding(crate::specs::Fold::digestFrom, crate::specs::Parts::entryWords))]
 fn with_live(s: Sum, state: &State, j: usize) -> Sum
     ensures { result.digest ≡ digestFrom s.digest (entryWords (core_of state.now).tlb.cache j) }
 {
@@ -96,6 +99,7 @@ pub fn entries(state: &State) -> Sum
     s
 }
 
+#[tactic(auto, unfolding(crate::specs::Fold::digestFrom, crate::specs::Parts::hintWords))]
 fn with_hint(s: Sum, state: &State, i: usize) -> Sum
     ensures { result.digest ≡ digestFrom s.digest (hintWords (core_of state.now).tlb.cache i) }
 {
@@ -109,6 +113,7 @@ fn with_hint(s: Sum, state: &State, i: usize) -> Sum
     }
 }
 
+#[tactic(auto, unfolding(crate::specs::Fold::digestFrom, crate::specs::Parts::fetchWords))]
 fn with_fetch(s: Sum, state: &State) -> Sum
     ensures { result.digest ≡ digestFrom s.digest (fetchWords
         (core_of state.now).tlb.cache.fetch) }

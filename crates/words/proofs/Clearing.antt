@@ -7,7 +7,7 @@ use Rattle.tlb.specs.Cache.{entry_at, blanks, noHints}
 use Rattle.tlb.specs.Lists.{swept}
 use Rattle.tlb.specs.declared.{entry.Entry.Entry, hint.Hint.Hint, hint.FetchHint.FetchHint}
 use Rattle.mmu.specs.Core.{afterAccess}
-use Rattle.mmu.specs.declared.core.Core.{Core}
+use Rattle.mmu.specs.declared.core_state.Core.{Core}
 use Rattle.words.specs.CoreOf.{core_of}
 use Rattle.words.specs.Parts.{tagged, withCache, withHint, withEntry, with_tag, withEntries, withFetchHint, withoutHints}
 use Rattle.words.specs.NowHolds.{NowHolds, stays, holds_as, holds_on, holds_then}
@@ -23,59 +23,59 @@ module _ (ws : List ℕ) where
   abbrev pub HintsOut : ℕ → List ℕ → Type 0
   HintsOut i xs = NowHolds ws xs (withDataHints (core_of ws) (swept (λ h. noHint) i (hints (core_of ws))))
 
-  pub hints-start : HintsOut 0 ws
-  hints-start = holds_as stays (hints-begin (core_of ws))
+  pub hints_start : HintsOut 0 ws
+  hints_start = holds_as stays (hints-begin (core_of ws))
 
-  pub hints-again : (xs ys : List ℕ) (i : ℕ) (h : Hint) → i < 512 → h ≡ noHint → HintsOut i xs → NowHolds xs ys (withHint (core_of xs) i h) → HintsOut (i + 1) ys
-  hints-again xs ys i h g e m n =
+  pub hints_again : (xs ys : List ℕ) (i : ℕ) (h : Hint) → i < 512 → h ≡ noHint → HintsOut i xs → NowHolds xs ys (withHint (core_of xs) i h) → HintsOut (i + 1) ys
+  hints_again xs ys i h g e m n =
       holds_on (λ c. withHint c i h) m n
       (ap (withHint (withDataHints (core_of ws) (swept (λ h. noHint) i (hints (core_of ws)))) i) e ∙ hints-translation (core_of ws) i (rw (hints-long ws) g))
 
-  pub hints-end : (xs : List ℕ) (i : ℕ) → 512 ≤ i → HintsOut i xs → NowHolds ws xs (withDataHints (core_of ws) noHints)
-  hints-end xs i g m = holds_as m (hints-done (core_of ws) i (hints-long ws) g)
+  pub hints_end : (xs : List ℕ) (i : ℕ) → 512 ≤ i → HintsOut i xs → NowHolds ws xs (withDataHints (core_of ws) noHints)
+  hints_end xs i g m = holds_as m (hints-done (core_of ws) i (hints-long ws) g)
 
   -- then the fetch hint
-  pub hints-gone : (xs ys : List ℕ) (f : FetchHint) → f ≡ noFetch → NowHolds ws xs (withDataHints (core_of ws) noHints)
+  pub hints_gone : (xs ys : List ℕ) (f : FetchHint) → f ≡ noFetch → NowHolds ws xs (withDataHints (core_of ws) noHints)
       → NowHolds xs ys (withFetchHint (core_of xs) f)
       → NowHolds ws ys (withoutHints (core_of ws))
-  hints-gone xs ys f e m n = holds_on (λ c. withFetchHint c f) m n (ap (withFetchHint (withDataHints (core_of ws) noHints)) e ∙ fetch-out (core_of ws))
+  hints_gone xs ys f e m n = holds_on (λ c. withFetchHint c f) m n (ap (withFetchHint (withDataHints (core_of ws) noHints)) e ∙ fetch-out (core_of ws))
 
   -- the first i entries are g of what they were
   abbrev pub EntriesBy : (Entry → Entry) → ℕ → List ℕ → Type 0
   EntriesBy g i xs = NowHolds ws xs (withEntries (core_of ws) (swept g i (entries (core_of ws))))
 
-  pub entries-start : (g : Entry → Entry) → EntriesBy g 0 ws
-  entries-start g = holds_as stays (entries-begin (core_of ws) g)
+  pub entries_start : (g : Entry → Entry) → EntriesBy g 0 ws
+  entries_start g = holds_as stays (entries-begin (core_of ws) g)
 
-  pub blanks-again : (xs ys : List ℕ) (i : ℕ) (e : Entry) → i < 1024 → e ≡ blank → EntriesBy (λ x. blank) i xs → NowHolds xs ys (withEntry (core_of xs) i e)
+  pub blanks_again : (xs ys : List ℕ) (i : ℕ) (e : Entry) → i < 1024 → e ≡ blank → EntriesBy (λ x. blank) i xs → NowHolds xs ys (withEntry (core_of xs) i e)
       → EntriesBy (λ x. blank) (i + 1) ys
-  blanks-again xs ys i e g q m n =
+  blanks_again xs ys i e g q m n =
       holds_on (λ c. withEntry c i e) m n (entries-translation (core_of ws) (λ x. blank) i e (rw (entries-long ws) g) q)
 
-  pub blanks-end : (xs : List ℕ) (i : ℕ) → 1024 ≤ i → EntriesBy (λ x. blank) i xs → NowHolds ws xs (withEntries (core_of ws) blanks)
-  blanks-end xs i g m =
+  pub blanks_end : (xs : List ℕ) (i : ℕ) → 1024 ≤ i → EntriesBy (λ x. blank) i xs → NowHolds ws xs (withEntries (core_of ws) blanks)
+  blanks_end xs i g m =
       holds_as m (entries-done (core_of ws) (λ x. blank) i (entries-long ws) g ∙ blanks-done (core_of ws) (entries-long ws))
 
-  pub tags-again : (g : Entry → Entry) → ((e : Entry) → g e ≡ tagged e (g e).tag) → (xs ys : List ℕ) (i : ℕ) (e d : Entry) → i < 1024
+  pub tags_again : (g : Entry → Entry) → ((e : Entry) → g e ≡ tagged e (g e).tag) → (xs ys : List ℕ) (i : ℕ) (e d : Entry) → i < 1024
       → e ≡ entry_at (core_of xs).tlb.cache i → d ≡ g e → EntriesBy g i xs → NowHolds xs ys (with_tag (core_of xs) i d.tag) → EntriesBy g (i + 1) ys
-  tags-again g t xs ys i e d h p q m n =
+  tags_again g t xs ys i e d h p q m n =
       holds_then (λ c. with_tag c i d.tag) m n
       (λ k. tags-translation (core_of ws) g t i d.tag (rw (entries-long ws) h)
       (ap (λ (x : Entry). x.tag) q ∙ ap (λ (x : Entry). (g x).tag) p ∙ ap (λ (c : Core). (g (entry_at c.tlb.cache i)).tag) k))
 
-  pub entries-end : (g : Entry → Entry) (xs : List ℕ) (i : ℕ) → 1024 ≤ i → EntriesBy g i xs
+  pub entries_end : (g : Entry → Entry) (xs : List ℕ) (i : ℕ) → 1024 ≤ i → EntriesBy g i xs
       → NowHolds ws xs (withEntries (core_of ws) (map g (entries (core_of ws))))
-  entries-end g xs i h m = holds_as m (entries-done (core_of ws) g i (entries-long ws) h)
+  entries_end g xs i h m = holds_as m (entries-done (core_of ws) g i (entries-long ws) h)
 
 -- a dropped entry loses its tag alone
 picked : (b : Bool) (e : Entry) → pick b (untagged e) e ≡ tagged e (pick b (untagged e) e).tag
 picked true e = refl
 picked false e = refl
 
-pub page-tag : (g p : ℕ) (e : Entry) → pageDropped g p e ≡ tagged e (pageDropped g p e).tag
+pub page_tag : (g p : ℕ) (e : Entry) → pageDropped g p e ≡ tagged e (pageDropped g p e).tag
 unfolding pageDropped
-page-tag g p e = picked (named g p e) e
+page_tag g p e = picked (named g p e) e
 
-pub asid-tag : (n : ℕ) (e : Entry) → asidDropped n e ≡ tagged e (asidDropped n e).tag
+pub asid_tag : (n : ℕ) (e : Entry) → asidDropped n e ≡ tagged e (asidDropped n e).tag
 unfolding asidDropped
-asid-tag n e = picked (walkedFor n e) e
+asid_tag n e = picked (walkedFor n e) e

@@ -1,5 +1,5 @@
 -- What is read of the words, as the parts of the core that they hold.
-use Rattle.std.proofs.Common.{◌≡◌, ℕ, ◌+◌, ◌<◌, ◌≤◌, Bool, true, false, eqb, ltb, List, sym, refl, ap, ◌∙◌, arith, ltb-false, le-ltb, lt-ltb, ne_eqb}
+use Rattle.std.proofs.Common.{◌≡◌, ℕ, ◌+◌, ◌<◌, ◌≤◌, Bool, true, false, ltb, List, sym, refl, ap, ◌∙◌, arith, ltb-false, le-ltb, lt-ltb}
 use Rattle.word.specs.Bits.{pick}
 use Rattle.sysreg.specs.Regs.{controlAt, sysAt}
 use Rattle.sysreg.specs.declared.{regs.El.El, regs.ControlReg.ControlReg}
@@ -13,25 +13,17 @@ use Rattle.walk.specs.declared.regime.Regime.TheVariants as Regime
 use Rattle.tlb.specs.Cache.{hintAt, entry_at}
 use Rattle.tlb.specs.Hint.{noHint}
 use Rattle.tlb.specs.Entry.{blank}
-use Rattle.tlb.specs.declared.{access.Privilege.Privilege, entry.Entry.Entry, hint.Hint.Hint}
-use Rattle.tlb.specs.declared.Pending.TheVariants.{Nothing}
+use Rattle.tlb.specs.declared.{entry.Entry.Entry, hint.Hint.Hint}
 use Rattle.mmu.specs.Core.{reg_of}
 use Rattle.word.specs.Tables.{table_at, table-past}
 use Rattle.words.specs.CoreOf.{word, levelIn, hintIn, entryIn, coreOn, coreBy, core_of}
 use Rattle.words.specs.RegWrites.{bankIndex, levelIndex, controlPlace}
-use Rattle.words.specs.Places.{MAIR, VBAR, GENERAL, LEVEL, UNPRIVILEGED, PENDING}
-
-abbrev privilegeBy : ℕ → Bool → Privilege
-privilegeBy level mark = record { level = level; unprivileged = mark }
-
-pub privilege-read : (ws : List ℕ) (l : ℕ) → l ≡ levelIn (word ws LEVEL) → privilegeBy l (eqb (word ws UNPRIVILEGED) 1) ≡ (core_of ws).privilege
-unfolding core_of coreBy coreOn
-privilege-read ws l e = ap (λ (n : ℕ). privilegeBy n (eqb (word ws UNPRIVILEGED) 1)) e
+use Rattle.words.specs.Places.{MAIR, VBAR, GENERAL, LEVEL}
 
 -- a level that no byte holds is none of the four either
-pub level-read : (ws : List ℕ) → ltb (word ws LEVEL) 4 ≡ ltb (core_of ws).privilege.level 4
+pub level_read : (ws : List ℕ) → ltb (word ws LEVEL) 4 ≡ ltb (core_of ws).privilege.level 4
 unfolding core_of coreBy coreOn
-level-read ws = go (word ws LEVEL)
+level_read ws = go (word ws LEVEL)
   where
     inside : (n : ℕ) (b : Bool) → ltb n 256 ≡ b → ltb n 4 ≡ ltb (pick b n 255) 4
     inside n true e = refl
@@ -41,22 +33,22 @@ level-read ws = go (word ws LEVEL)
     go n = inside n (ltb n 256) refl
 
 -- general registers
-pub general-read : (ws : List ℕ) (n : ℕ) → n < 31 → word ws (GENERAL + n) ≡ reg_of (core_of ws) n
+pub general_read : (ws : List ℕ) (n : ℕ) → n < 31 → word ws (GENERAL + n) ≡ reg_of (core_of ws) n
 unfolding core_of coreBy coreOn reg_of
-general-read ws n h = sym (rw (lt-ltb n 31 h) (table_at 31 (λ k. word ws (GENERAL + k)) n 0 h))
+general_read ws n h = sym (rw (lt-ltb n 31 h) (table_at 31 (λ k. word ws (GENERAL + k)) n 0 h))
 
-pub general-zero : (ws : List ℕ) (n : ℕ) → 31 ≤ n → 0 ≡ reg_of (core_of ws) n
+pub general_zero : (ws : List ℕ) (n : ℕ) → 31 ≤ n → 0 ≡ reg_of (core_of ws) n
 unfolding reg_of
-general-zero ws n h = sym (rw (le-ltb n 31 h))
+general_zero ws n h = sym (rw (le-ltb n 31 h))
 
 -- hints and entries
-pub hint-read : (ws : List ℕ) (i : ℕ) → i < 512 → hintIn (word ws) i ≡ hintAt (core_of ws).tlb.cache i
+pub hint_read : (ws : List ℕ) (i : ℕ) → i < 512 → hintIn (word ws) i ≡ hintAt (core_of ws).tlb.cache i
 unfolding core_of coreBy coreOn
-hint-read ws i h = sym (table_at 512 (hintIn (word ws)) i noHint h)
+hint_read ws i h = sym (table_at 512 (hintIn (word ws)) i noHint h)
 
-pub hint-past : (ws : List ℕ) (i : ℕ) (h : Hint) → h ≡ noHint → 512 ≤ i → h ≡ hintAt (core_of ws).tlb.cache i
+pub hint_past : (ws : List ℕ) (i : ℕ) (h : Hint) → h ≡ noHint → 512 ≤ i → h ≡ hintAt (core_of ws).tlb.cache i
 unfolding core_of coreBy coreOn
-hint-past ws i h e g = e ∙ sym (table-past 512 (hintIn (word ws)) i noHint g)
+hint_past ws i h e g = e ∙ sym (table-past 512 (hintIn (word ws)) i noHint g)
 
 pub entry_read : (ws : List ℕ) (j : ℕ) → j < 1024 → entryIn (word ws) j ≡ entry_at (core_of ws).tlb.cache j
 unfolding core_of coreBy coreOn
@@ -65,12 +57,6 @@ entry_read ws j h = sym (table_at 1024 (entryIn (word ws)) j blank h)
 pub entry_past : (ws : List ℕ) (j : ℕ) (e : Entry) → e ≡ blank → 1024 ≤ j → e ≡ entry_at (core_of ws).tlb.cache j
 unfolding core_of coreBy coreOn
 entry_past ws j e q g = q ∙ sym (table-past 1024 (entryIn (word ws)) j blank g)
-
--- what is pending
-module _ (ws : List ℕ) where
-  pub pending-none : (word ws PENDING ≡ 1 → ⊥) → (word ws PENDING ≡ 2 → ⊥) → (word ws PENDING ≡ 3 → ⊥) → Nothing ≡ (core_of ws).tlb.broadcast
-  unfolding core_of coreBy coreOn
-  pending-none a b d = sym (rw (ne_eqb _ 1 a, ne_eqb _ 2 b, ne_eqb _ 3 d))
 
 -- registers
 abbrev bankBy : (ℕ → ℕ) → ℕ → Bank
@@ -84,23 +70,23 @@ bankBy w b =
       hcr_el2 = w 29;
     }
 
-pub bank-read : (ws : List ℕ) (r : Regime) (b : ℕ) → b ≡ bankIndex r → bankBy (word ws) b ≡ bankOf (core_of ws).control r
+pub bank_read : (ws : List ℕ) (r : Regime) (b : ℕ) → b ≡ bankIndex r → bankBy (word ws) b ≡ bankOf (core_of ws).control r
 unfolding core_of coreBy coreOn
-bank-read ws Regime.El1 b e = ap (bankBy (word ws)) e
-bank-read ws Regime.El2 b e = ap (bankBy (word ws)) e
-bank-read ws Regime.El3 b e = ap (bankBy (word ws)) e
+bank_read ws Regime.El1 b e = ap (bankBy (word ws)) e
+bank_read ws Regime.El2 b e = ap (bankBy (word ws)) e
+bank_read ws Regime.El3 b e = ap (bankBy (word ws)) e
 
-pub mair-read : (ws : List ℕ) (r : Regime) (b : ℕ) → b ≡ bankIndex r → word ws (MAIR + b) ≡ sysAt (core_of ws).sys (Mair (regime.levelOf r))
+pub mair_read : (ws : List ℕ) (r : Regime) (b : ℕ) → b ≡ bankIndex r → word ws (MAIR + b) ≡ sysAt (core_of ws).sys (Mair (regime.levelOf r))
 unfolding core_of coreBy coreOn
-mair-read ws Regime.El1 b e = ap (λ (n : ℕ). word ws (MAIR + n)) e
-mair-read ws Regime.El2 b e = ap (λ (n : ℕ). word ws (MAIR + n)) e
-mair-read ws Regime.El3 b e = ap (λ (n : ℕ). word ws (MAIR + n)) e
+mair_read ws Regime.El1 b e = ap (λ (n : ℕ). word ws (MAIR + n)) e
+mair_read ws Regime.El2 b e = ap (λ (n : ℕ). word ws (MAIR + n)) e
+mair_read ws Regime.El3 b e = ap (λ (n : ℕ). word ws (MAIR + n)) e
 
-pub vbar-read : (ws : List ℕ) (el : El) (i : ℕ) → i ≡ levelIndex el → word ws (VBAR + i) ≡ sysAt (core_of ws).sys (Vbar el)
+pub vbar_read : (ws : List ℕ) (el : El) (i : ℕ) → i ≡ levelIndex el → word ws (VBAR + i) ≡ sysAt (core_of ws).sys (Vbar el)
 unfolding core_of coreBy coreOn
-vbar-read ws El1 i e = ap (λ (n : ℕ). word ws (VBAR + n)) e
-vbar-read ws El2 i e = ap (λ (n : ℕ). word ws (VBAR + n)) e
-vbar-read ws El3 i e = ap (λ (n : ℕ). word ws (VBAR + n)) e
+vbar_read ws El1 i e = ap (λ (n : ℕ). word ws (VBAR + n)) e
+vbar_read ws El2 i e = ap (λ (n : ℕ). word ws (VBAR + n)) e
+vbar_read ws El3 i e = ap (λ (n : ℕ). word ws (VBAR + n)) e
 
 control-is : (ws : List ℕ) (r : ControlReg) → word ws (controlPlace r) ≡ controlAt (core_of ws).control r
 unfolding core_of coreBy coreOn
@@ -117,5 +103,5 @@ control-is ws Ttbr1 = refl
 control-is ws Scr = refl
 control-is ws Hcr = refl
 
-pub control-read : (ws : List ℕ) (r : ControlReg) (k : ℕ) → k ≡ controlPlace r → word ws k ≡ controlAt (core_of ws).control r
-control-read ws r k e = ap (word ws) e ∙ control-is ws r
+pub control_read : (ws : List ℕ) (r : ControlReg) (k : ℕ) → k ≡ controlPlace r → word ws k ≡ controlAt (core_of ws).control r
+control_read ws r k e = ap (word ws) e ∙ control-is ws r

@@ -6,7 +6,7 @@ use Rattle.sysreg.specs.declared.regs.El.TheVariants.{El1, El2, El3}
 use Rattle.sysreg.specs.declared.regs.ControlReg.TheVariants.{Sctlr}
 use Rattle.sysreg.specs.declared.regs.SysReg.TheVariants.{Vpidr, Vmpidr}
 use Rattle.mmu.specs.Core.{freshCore}
-use Rattle.mmu.specs.declared.core.Core.{Core}
+use Rattle.mmu.specs.declared.core_state.Core.{Core}
 use Rattle.words.specs.CoreOf.{core_of}
 use Rattle.words.specs.Parts.{withControl, withSys, withoutHints}
 use Rattle.words.specs.NowHolds.{NowHolds}
@@ -26,11 +26,11 @@ registers-are : (c : Core) → system (system (control (control (control c El1 0
 unfolding registered withSctlr withControl withSys
 registers-are c = refl
 
-pub registers-put : (a b c d e f : List ℕ) → NowHolds a b (control (core_of a) El1 0x30D0_0800) → NowHolds b c (control (core_of b) El2 0x30C5_0830)
+pub registers_put : (a b c d e f : List ℕ) → NowHolds a b (control (core_of a) El1 0x30D0_0800) → NowHolds b c (control (core_of b) El2 0x30C5_0830)
     → NowHolds c d (control (core_of c) El3 0x30C5_0830) → NowHolds d e (system (core_of d) Vpidr 0x410F_D083)
     → NowHolds e f (system (core_of e) Vmpidr 0x8000_0000)
     → core_of f ≡ registered (core_of a)
-registers-put a b c d e f p q r s t =
+registers_put a b c d e f p q r s t =
     t.holds ∙ ap (λ (x : Core). system x Vmpidr 0x8000_0000) (s.holds
     ∙ ap (λ (x : Core). system x Vpidr 0x410F_D083) (r.holds ∙ ap (λ (x : Core). control x El3 0x30C5_0830)
     (q.holds ∙ ap (λ (x : Core). control x El2 0x30C5_0830) p.holds)))

@@ -13,7 +13,7 @@ use Rattle.tlb.specs.Count.{noTallies}
 use Rattle.tlb.specs.Lists.{replicate-at}
 use Rattle.tlb.specs.declared.hint.Hint.{Hint}
 use Rattle.mmu.specs.Core.{zeros, freshCore, afterAccess}
-use Rattle.mmu.specs.declared.core.Core.{Core}
+use Rattle.mmu.specs.declared.core_state.Core.{Core}
 use Rattle.word.specs.Tables.{table-all}
 use Rattle.words.specs.CoreOf.{coreOn, coreBy, core_of}
 use Rattle.words.specs.Parts.{withCache, withCurrent, withPrivilege, with_flags, withControl, withSys, withoutHints}

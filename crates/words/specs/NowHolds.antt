@@ -1,7 +1,7 @@
 -- What a call on words promises of them.
 use Rattle.std.specs.Prelude.{◌≡◌, ℕ, List, length, refl}
 use Rattle.std.proofs.Common.{ap, ◌∙◌}
-use Rattle.mmu.specs.declared.core.Core.{Core}
+use Rattle.mmu.specs.declared.core_state.Core.{Core}
 use Rattle.words.specs.CoreOf.{core_of}
 
 -- the words xs, which ws became, are as many, and they hold the core c

@@ -8,7 +8,7 @@ use Rattle.tlb.specs.declared.{access.Privilege.Privilege, cache.Cache.Cache, co
 use Rattle.tlb.specs.declared.{entry.Current.Current, hint.Hint.Hint, hint.FetchHint.FetchHint, Pending.Pending}
 use Rattle.mmu.specs.Core.{afterAccess}
 use Rattle.mmu.specs.Ops.{withTlb}
-use Rattle.mmu.specs.declared.core.Core.{Core}
+use Rattle.mmu.specs.declared.core_state.Core.{Core}
 
 -- THE CACHE
 

@@ -8,7 +8,7 @@ use Rattle.tlb.specs.Cache.{entry_at, blanks, noHints}
 use Rattle.tlb.specs.Lists.{swept, sweep, sweep-end}
 use Rattle.tlb.specs.declared.{entry.Entry.Entry, hint.Hint.Hint}
 use Rattle.mmu.specs.Core.{afterAccess}
-use Rattle.mmu.specs.declared.core.Core.{Core}
+use Rattle.mmu.specs.declared.core_state.Core.{Core}
 use Rattle.word.specs.Tables.{table-length}
 use Rattle.words.specs.CoreOf.{word, hintIn, entryIn, coreOn, coreBy, core_of}
 use Rattle.words.specs.Parts.{tagged, withCache, withHint, withEntry, with_tag, withEntries}

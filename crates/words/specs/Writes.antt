@@ -7,7 +7,7 @@ use Rattle.std.proofs.Math.Nat.{mod-eq_of_lt}
 use Rattle.word.specs.Bits.{flag}
 use Rattle.word.specs.BitLaws.{both}
 use Rattle.mmu.specs.Core.{afterAccess}
-use Rattle.mmu.specs.declared.core.Core.{Core}
+use Rattle.mmu.specs.declared.core_state.Core.{Core}
 use Rattle.exception.specs.Entry.{entryFlags}
 use Rattle.tlb.specs.Count.{hitTaken, walkTaken, levelPlace, tallyAt, withTally, hitCounted, walkCounted, flushCounted, dropCounted, epochCounted, more}
 use Rattle.tlb.specs.declared.{hint.FetchHint.FetchHint, Inval.Inval, Pending.Pending}

@@ -15,6 +15,7 @@ use tlb::hint::{FetchHint, Hint};
 use word::bits;
 
 // A data hint, none past the last.
+#[tactic(auto, using(crate::proofs::Reading::hint_read, crate::proofs::Reading::hint_past))]
 pub fn hint_at(state: &State, i: usize) -> Hint
     ensures { result ≡ hintAt (core_of state.now).tlb.cache i }
 {
@@ -38,6 +39,7 @@ pub fn put_hint(state: &mut State, i: usize, h: Hint)
     }
 }
 
+#[tactic(auto, unfolding(crate::specs::CoreOf::core_of, crate::specs::CoreOf::coreBy, crate::specs::CoreOf::coreOn))]
 pub fn fetch_at(state: &State) -> FetchHint
     ensures { result ≡ (core_of state.now).tlb.cache.fetch }
 {
@@ -61,6 +63,7 @@ pub fn put_fetch(state: &mut State, f: FetchHint)
     state[place::FETCH_PA] = f.pa;
 }
 
+#[tactic(auto, using(crate::proofs::Reading::entry_read))]
 fn entry_in(state: &State, j: usize) -> Entry
     requires { j < 1024 }
     ensures { result ≡ entry_at (core_of state.now).tlb.cache j }
@@ -78,6 +81,7 @@ fn entry_in(state: &State, j: usize) -> Entry
 }
 
 // An entry, blank past the last.
+#[tactic(auto, using(crate::proofs::Reading::entry_past))]
 pub fn entry_at(state: &State, j: usize) -> Entry
     ensures { result ≡ entry_at (core_of state.now).tlb.cache j }
 {
@@ -89,6 +93,7 @@ pub fn entry_at(state: &State, j: usize) -> Entry
 }
 
 // Rights, level, whether it is for every ASID, and its ASID, in one word.
+#[tactic(auto, unfolding(crate::specs::EntryWrites::attributes))]
 fn attributes_of(e: Entry) -> u64
     ensures { result ≡ attributes e }
 {

@@ -63,6 +63,7 @@ pub fn count_drop(state: &mut State)
     state[place::EPOCH] = epoch;
 }
 
+#[tactic(auto, unfolding(crate::specs::CoreOf::core_of, crate::specs::CoreOf::coreBy, crate::specs::CoreOf::coreOn))]
 pub fn current_at(state: &State) -> Current
     ensures { result ≡ (core_of state.now).tlb.cache.current }
 {
@@ -88,6 +89,7 @@ pub fn put_asid(state: &mut State, asid: u16)
     state[place::ASID] = asid as u64;
 }
 
+#[tactic(auto, unfolding(crate::specs::CoreOf::core_of, crate::specs::CoreOf::coreBy, crate::specs::CoreOf::coreOn))]
 pub fn pending_at(state: &State) -> Pending
     ensures { result ≡ (core_of state.now).tlb.broadcast }
 {

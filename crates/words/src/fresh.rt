@@ -8,6 +8,7 @@ use crate::place::{State, WORDS};
 use crate::{clear, counts, regs, state};
 use sysreg::regs::{ControlReg, El, SysReg};
 
+#[tactic(auto, unfolding(crate::specs::Fresh::zeroWords))]
 fn zeros() -> State
     ensures { result ≡ zeroWords }
 {
@@ -15,6 +16,7 @@ fn zeros() -> State
 }
 
 // All zero: no register, no hint, no entry.
+#[tactic(auto, using(crate::proofs::Resets::zeroed))]
 fn clear_all(state: &mut State)
     ensures { core_of state.new ≡ zeroCore }
 {

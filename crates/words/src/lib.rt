@@ -1,3 +1,4 @@
+#![tactic(auto)]
 // The core as 5,213 words that a caller lends: where each part stands, read and written in place.
 pub mod cells;
 pub mod clear;

@@ -30,6 +30,7 @@ fn bank_index(regime: Regime) -> usize
 }
 
 // The registers that translation in a regime reads.
+#[tactic(auto, using(crate::proofs::Reading::bank_read))]
 pub fn bank_at(state: &State, regime: Regime) -> Bank
     ensures { result ≡ bankOf (core_of state.now).control regime }
 {
@@ -44,6 +45,7 @@ pub fn bank_at(state: &State, regime: Regime) -> Bank
     }
 }
 
+#[tactic(auto, using(crate::proofs::Reading::mair_read))]
 pub fn mair_at(state: &State, regime: Regime) -> u64
     ensures { result ≡ sysAt (core_of state.now).sys (Mair (levelOf regime)) }
 {
@@ -51,18 +53,21 @@ pub fn mair_at(state: &State, regime: Regime) -> u64
     state[place::MAIR + b]
 }
 
+#[tactic(auto, unfolding(crate::specs::CoreOf::core_of, crate::specs::CoreOf::coreBy, crate::specs::CoreOf::coreOn))]
 pub fn scr_at(state: &State) -> u64
     ensures { result ≡ (core_of state.now).control.scr_el3 }
 {
     state[place::SCR_EL3]
 }
 
+#[tactic(auto, unfolding(crate::specs::CoreOf::core_of, crate::specs::CoreOf::coreBy, crate::specs::CoreOf::coreOn))]
 pub fn hcr_at(state: &State) -> u64
     ensures { result ≡ (core_of state.now).control.hcr_el2 }
 {
     state[place::HCR_EL2]
 }
 
+#[tactic(auto, using(crate::proofs::Reading::vbar_read))]
 pub fn vbar_at(state: &State, el: El) -> u64
     ensures { result ≡ sysAt (core_of state.now).sys (Vbar el) }
 {
@@ -70,6 +75,7 @@ pub fn vbar_at(state: &State, el: El) -> u64
     state[place::VBAR + i]
 }
 
+#[tactic(auto, unfolding(crate::specs::CoreOf::core_of, crate::specs::CoreOf::coreBy, crate::specs::CoreOf::coreOn))]
 pub fn control_at(state: &State) -> Control
     ensures { result ≡ (core_of state.now).control }
 {
@@ -142,6 +148,7 @@ fn sys_place(register: SysReg) -> usize
     }
 }
 
+#[tactic(auto, using(crate::proofs::Reading::control_read))]
 pub fn control_reg(state: &State, register: ControlReg) -> u64
     ensures { result ≡ controlAt (core_of state.now).control register }
 {

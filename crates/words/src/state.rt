@@ -26,6 +26,7 @@ fn level_of(word: u64) -> u8
     if word < 256 { word as u8 } else { 255 }
 }
 
+#[tactic(auto, unfolding(crate::specs::CoreOf::core_of, crate::specs::CoreOf::coreBy, crate::specs::CoreOf::coreOn))]
 pub fn privilege_at(state: &State) -> Privilege
     ensures { result ≡ (core_of state.now).privilege }
 {
@@ -37,6 +38,7 @@ pub fn privilege_at(state: &State) -> Privilege
 }
 
 // Whether the level is one of the four.
+#[tactic(auto, using(crate::proofs::Reading::level_read))]
 pub fn level_known(state: &State) -> bool
     ensures { result ≡ nat_lt (core_of state.now).privilege.level 4 }
 {
@@ -60,6 +62,7 @@ pub fn put_mark(state: &mut State, mark: bool)
     state[place::UNPRIVILEGED] = word;
 }
 
+#[tactic(auto, unfolding(crate::specs::CoreOf::core_of, crate::specs::CoreOf::coreBy, crate::specs::CoreOf::coreOn))]
 pub fn flags_at(state: &State) -> Flags
     ensures { result ≡ (core_of state.now).flags }
 {
@@ -80,6 +83,7 @@ pub fn put_masked(state: &mut State)
     state[place::SPSEL] = 1;
 }
 
+#[tactic(auto, unfolding(crate::specs::CoreOf::core_of, crate::specs::CoreOf::coreBy, crate::specs::CoreOf::coreOn))]
 pub fn pc_at(state: &State) -> u64
     ensures { result ≡ (core_of state.now).pc }
 {
@@ -94,6 +98,7 @@ pub fn put_pc(state: &mut State, pc: u64)
 }
 
 // Register 31 reads as zero.
+#[tactic(auto, using(crate::proofs::Reading::general_read, crate::proofs::Reading::general_zero))]
 pub fn general_at(state: &State, n: u64) -> u64
     ensures { result ≡ reg_of (core_of state.now) n }
 {
@@ -117,6 +122,7 @@ pub fn put_general(state: &mut State, n: u64, value: u64)
     }
 }
 
+#[tactic(auto, unfolding(crate::specs::CoreOf::core_of, crate::specs::CoreOf::coreBy, crate::specs::CoreOf::coreOn))]
 pub fn last_at(state: &State) -> u64
     ensures { result ≡ (core_of state.now).last_pa }
 {
@@ -130,6 +136,7 @@ pub fn put_last(state: &mut State, pa: u64)
     state[place::LAST_PA] = pa;
 }
 
+#[tactic(auto, unfolding(crate::specs::CoreOf::core_of, crate::specs::CoreOf::coreBy, crate::specs::CoreOf::coreOn))]
 pub fn abort_at(state: &State) -> u64
     ensures { result ≡ (core_of state.now).abort_pa }
 {

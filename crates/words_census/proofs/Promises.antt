@@ -1,9 +1,7 @@
 -- The promise of a census, refused or done, on plain values.
-use mathlib.Core.Path.{◌≡◌, refl, sym, ap, ◌∙◌}
-use mathlib.Core.List.{List}
-use Prim.Native.Nat.{ℕ, zero, suc}
-use native.Mathlib.Omega.{arith}
-use lib.ListN.{length}
+use Rattle.std.specs.Prelude.{List, ℕ, zero, suc, length}
+use Rattle.std.proofs.Common.{◌≡◌, refl, sym, ap, ◌∙◌}
+use Rattle.std.proofs.Common.{arith}
 use Rattle.word.specs.Ram.{word_at}
 use Rattle.walk.specs.Regime.{bankOf, regimeOf}
 use Rattle.walk.specs.declared.{regime.Regime.Regime, regime.Bank.Bank}
@@ -11,7 +9,7 @@ use Rattle.census.specs.Count.{censusOf}
 use Rattle.operations.specs.Check.{missedOf}
 use Rattle.operations.specs.declared.call.Call.TheVariants.{Census}
 use Rattle.operations.specs.declared.call.Reply.TheVariants.{Refused}
-use Rattle.mmu.specs.declared.core.Core.{Core}
+use Rattle.mmu.specs.declared.core_state.Core.{Core}
 use Rattle.tlb.specs.declared.access.Privilege.{Privilege}
 use Rattle.cpu.specs.Step.{ends, refusedOr, missedBy, run_of, step_of}
 use Rattle.cpu.specs.Inspect.{countsOf, countsAfter}
@@ -24,11 +22,6 @@ use Rattle.transparency.specs.Census.{bareCounts, census-after, census-reply}
 use Rattle.words.specs.CoreOf.{core_of}
 use Rattle.call_words.specs.Replies.{codeBy}
 use Rattle.words_census.specs.Promise.{CensusPromise}
-
--- the number, by the level that the words hold
-pub missed-at : (c : Core) (privilege : Privilege) (base len first pages n : ℕ) → privilege ≡ c.privilege
-    → n ≡ missedOf privilege.level base len (Census first pages) → n ≡ missedOf c.privilege.level base len (Census first pages)
-missed-at c privilege base len first pages n e q = q ∙ ap (λ (w : Privilege). missedOf w.level base len (Census first pages)) e
 
 module _ (first pages base : ℕ) (ram ws old : List ℕ) where
   missed : ℕ

@@ -1,3 +1,4 @@
+#![tactic(auto)]
 // The page census on lent words, through a shared reference to the state: no word of it can be written.
 ghost use Rattle.std.specs.Prelude.{◌≡◌};
 ghost use Rattle.operations.specs.Check.{missedOf};

@@ -1,33 +1,23 @@
 -- Loads and stores in place put together from their parts, on plain values, for `search`.
-use mathlib.Core.Path.{◌≡◌, refl, ap, ◌∙◌}
-use mathlib.Core.Bool.{Bool, true, false}
-use mathlib.Core.List.{List}
-use Prim.Native.Nat.{ℕ}
+use Rattle.std.specs.Prelude.{Bool, true, false, List, ℕ}
+use Rattle.std.proofs.Common.{◌≡◌, refl, ap, ◌∙◌}
 use Rattle.word.specs.Ram.{word_at}
 use Rattle.word.specs.declared.ram.Word.{Word}
-use Rattle.walk.specs.Regime.{bankOf, regimeOf, stage1On}
-use Rattle.walk.specs.declared.{regime.Regime.Regime, regime.Bank.Bank}
-use Rattle.tlb.specs.declared.{access.Kind.Kind, access.Privilege.Privilege}
+use Rattle.walk.specs.Regime.{regimeOf, stage1On}
+use Rattle.tlb.specs.declared.{access.Kind.Kind}
 use Rattle.tlb.specs.declared.access.Kind.TheVariants.{Read, Write}
 use Rattle.mmu.specs.Core.{afterAccess, bankNow}
 use Rattle.operations.specs.Place.{nextPage, crosses, goesOn, placedOne, placedBoth}
 use Rattle.mmu.specs.Step.{locatedOf}
 use Rattle.operations.specs.Ends.{loadEnd, storeEnd, storeRamEnd}
 use Rattle.mmu.specs.Ops.{steppedNow, locatedNow, translateOf, translateAccessOf, read_of, writeOf, ramAfterWrite}
-use Rattle.mmu.specs.declared.{core.Core.Core, ops.Accessed.Accessed}
+use Rattle.mmu.specs.declared.{core_state.Core.Core, ops.Accessed.Accessed}
 use Rattle.operations.specs.declared.{place.Placed.Placed, ends.LoadEnd.LoadEnd, ends.StoreEnd.StoreEnd}
 use Rattle.operations.specs.declared.{ends.LoadAnswer.LoadAnswer, ends.StoreAnswer.StoreAnswer}
 use Rattle.words.specs.CoreOf.{core_of}
 use Rattle.words.specs.Parts.{with_last, withAbort}
 use Rattle.words.specs.NowHolds.{NowHolds, holds_as, holds_on}
 use Rattle.words_memory.specs.Accessed.{loadEndOf, storeEndOf, keptLast, keptAbort}
-
-pub on-now : (c : Core) (privilege : Privilege) (r : Regime) (s : Bank) (b : Bool) → privilege ≡ c.privilege → r ≡ regimeOf privilege.level → s
-    ≡ bankOf c.control r
-    → b ≡ stage1On s r → b ≡ stage1On (bankNow c) (regimeOf c.privilege.level)
-on-now c privilege r s b ew er es eb =
-    let own : r ≡ regimeOf c.privilege.level = er ∙ ap (λ (x : Privilege). regimeOf x.level) ew in
-    eb ∙ λ i. stage1On ((es ∙ ap (bankOf c.control) own) i) (own i)
 
 -- THE TRANSLATIONS of an access, by whether it goes on to a second page
 
@@ -62,9 +52,6 @@ module _ (ws : List ℕ) (placed : Placed) (last abort base : ℕ) (ram : List �
     (eb : abort ≡ (core_of ws).abort_pa) (ee : e ≡ loadEnd placed last abort base ram va n) where
   end_is : e ≡ loadEndOf (core_of ws) placed base ram va n
   end_is = ee ∙ λ i. loadEnd placed (el i) (eb i) base ram va n
-
-  pub load-answer : e.answer ≡ (loadEndOf (core_of ws) placed base ram va n).answer
-  load-answer = ap (λ (x : LoadEnd). x.answer) end_is
 
   pub load_kept : (xs ys : List ℕ) → NowHolds ws xs (with_last (core_of ws) e.last_pa) → NowHolds xs ys (withAbort (core_of xs) e.abort_pa)
       → NowHolds ws ys (keptLast (core_of ws) (loadEndOf (core_of ws) placed base ram va n))
@@ -104,9 +91,6 @@ module _ (ws : List ℕ) (placed : Placed) (abort base : ℕ) (ram : List ℕ) (
     (ee : e ≡ storeEnd placed abort base ram va n) where
   stored_is : e ≡ storeEndOf (core_of ws) placed base ram va n
   stored_is = ee ∙ ap (λ (x : ℕ). storeEnd placed x base ram va n) eb
-
-  pub store-answer : e.answer ≡ (storeEndOf (core_of ws) placed base ram va n).answer
-  store-answer = ap (λ (x : StoreEnd). x.answer) stored_is
 
   pub store_kept : (xs : List ℕ) → NowHolds ws xs (withAbort (core_of ws) e.abort_pa)
       → NowHolds ws xs (keptAbort (core_of ws) (storeEndOf (core_of ws) placed base ram va n).abort_pa)

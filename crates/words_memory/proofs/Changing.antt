@@ -1,45 +1,28 @@
 -- The cells of a page taken out of words, and a change stored there, on plain values, for `search`.
-use mathlib.Core.Path.{◌≡◌, refl, sym, ap, ◌∙◌}
-use mathlib.Core.Bool.{Bool, true, false}
-use mathlib.Core.List.{List}
-use Prim.Native.Nat.{ℕ, zero, suc, ◌%◌}
-use lib.Seq.{set-get_or}
+use Rattle.std.specs.Prelude.{Bool, true, false, List, ℕ, zero, suc, ◌%◌}
+use Rattle.std.proofs.Common.{◌≡◌, refl, sym, ap, ◌∙◌}
+use Rattle.std.proofs.lemmas.List.{set-get_or}
 use Rattle.word.specs.declared.ram.Word.{Word}
-use Rattle.sysreg.specs.declared.regs.Control.{Control}
-use Rattle.tlb.specs.Cache.{entry_at, hintAt}
+use Rattle.tlb.specs.Cache.{entry_at}
 use Rattle.tlb.specs.Count.{hitCounted, walkCounted}
 use Rattle.tlb.specs.Hint.{noHint}
 use Rattle.tlb.specs.declared.{access.Kind.Kind, access.Privilege.Privilege, cache.Cache.Cache, count.Counts.Counts}
-use Rattle.tlb.specs.declared.{entry.Current.Current, entry.Entry.Entry, hint.FetchHint.FetchHint, hint.Hint.Hint}
-use Rattle.operations.specs.Change.{lookupOf, countedAs, keptAs}
+use Rattle.tlb.specs.declared.{entry.Entry.Entry, hint.FetchHint.FetchHint, hint.Hint.Hint}
+use Rattle.operations.specs.Change.{countedAs, keptAs}
 use Rattle.operations.specs.Loads.{bothOf}
 use Rattle.operations.specs.Place.{nextPage}
-use Rattle.operations.specs.declared.{change.Change.Change, change.Lookup.Lookup, change.Page.Page, loads.Both.Both}
+use Rattle.operations.specs.declared.{change.Change.Change, change.Page.Page, loads.Both.Both}
 use Rattle.mmu.specs.Core.{afterAccess}
 use Rattle.mmu.specs.Ops.{translateAccessOf}
 use Rattle.mmu.specs.Pairs.{access-is}
 use Rattle.mmu.specs.Parts.{pageIn, commitIn}
-use Rattle.mmu.specs.declared.core.Core.{Core}
+use Rattle.mmu.specs.declared.core_state.Core.{Core}
 use Rattle.words.specs.CoreOf.{core_of}
 use Rattle.words.specs.NowHolds.{NowHolds, stays, holds_as, holds_on}
 use Rattle.words.specs.Parts.{withCache, withCounts, withEntry, withHint, withFetchHint}
 use Rattle.words.specs.Sweeps.{hints-long, entries-long}
 use Rattle.words_memory.specs.Changed.{effected, hintedIf, fetchedIf}
 use Rattle.words_memory.specs.FoundLaws.{entry-back, unchanged}
-
-pub page-is : (ws : List ℕ) (va : ℕ) (kind : Kind) (privilege : Privilege) (control : Control) (k : Lookup) (at : Current) (h : Hint) (e : Entry)
-    → privilege ≡ (core_of ws).privilege → control ≡ (core_of ws).control → k ≡ lookupOf control privilege va kind → at ≡ (core_of ws).tlb.cache.current
-    → h ≡ hintAt (core_of ws).tlb.cache k.hint → e ≡ entry_at (core_of ws).tlb.cache k.entry
-    → record { lookup = k; current = at; hint = h; entry = e } ≡ pageIn (core_of ws) va kind
-page-is ws va kind privilege control k at h e ep ec ek ea eh ee =
-    let own : k ≡ lookupOf (core_of ws).control (core_of ws).privilege va kind = ek ∙ λ i. lookupOf (ec i) (ep i) va kind in
-    λ i.
-    record {
-      lookup = own i;
-      current = ea i;
-      hint = (eh ∙ ap (λ (x : Lookup). hintAt (core_of ws).tlb.cache x.hint) own) i;
-      entry = (ee ∙ ap (λ (x : Lookup). entry_at (core_of ws).tlb.cache x.entry) own) i;
-    }
 
 -- the counter and the entry, by an effect
 none-counted : (n level : ℕ) (k : Counts) → (n ≡ 1 → ⊥) → (n ≡ 2 → ⊥) → (n ≡ 3 → ⊥) → countedAs n level k ≡ k

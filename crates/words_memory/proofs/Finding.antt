@@ -1,23 +1,19 @@
 -- The changes of a translation stored in place, on plain values, for `search`.
-use mathlib.Core.Path.{◌≡◌, refl, sym, ◌∙◌}
-use mathlib.Core.Bool.{Bool, true, false}
-use mathlib.Core.List.{List}
-use Prim.Native.Nat.{ℕ, ◌+◌}
-use Rattle.fault.specs.declared.Fault.{Fault}
+use Rattle.std.specs.Prelude.{Bool, true, false, List, ℕ}
+use Rattle.std.proofs.Common.{◌≡◌, refl, sym, ◌∙◌}
 use Rattle.tlb.specs.Access.{mayHint}
 use Rattle.tlb.specs.Cache.{entry_at}
 use Rattle.tlb.specs.Count.{hitCounted, walkCounted}
 use Rattle.tlb.specs.Hint.{dataSlot, hintFor}
 use Rattle.tlb.specs.Resolve.{countedBy, keptBy}
-use Rattle.tlb.specs.declared.{access.Kind.Kind, access.Privilege.Privilege, access.Answer.Answer, entry.Entry.Entry}
+use Rattle.tlb.specs.declared.{access.Kind.Kind, access.Privilege.Privilege, entry.Entry.Entry}
 use Rattle.tlb.specs.declared.{hint.Hint.Hint, resolve.Source.Source, resolve.Resolved.Resolved}
-use Rattle.tlb.specs.declared.access.Answer.TheVariants.{Address, Status}
 use Rattle.tlb.specs.declared.resolve.Source.TheVariants.{FromHint, FromFlat, FromEntry, FromWalk, NoLeaf}
-use Rattle.mmu.specs.declared.core.Core.{Core}
+use Rattle.mmu.specs.declared.core_state.Core.{Core}
 use Rattle.words.specs.CoreOf.{core_of}
 use Rattle.words.specs.Parts.{withCounts, withEntry, withHint}
 use Rattle.words.specs.NowHolds.{NowHolds, stays, holds_as, holds_on}
-use Rattle.words_memory.specs.Found.{code_of, value_of, withHintFor, answerPut, sourced, committed}
+use Rattle.words_memory.specs.Found.{withHintFor, answerPut, sourced, committed}
 use Rattle.words_memory.specs.FoundLaws.{entry-back, unchanged}
 
 -- a hint kept
@@ -30,29 +26,6 @@ module _ (ws : List ℕ) (privilege : Privilege) (kind : Kind) (va pa : ℕ) (b 
   pub unhinted : b ≡ false → NowHolds ws ws (withHintFor (core_of ws) privilege kind va pa)
   unfolding withHintFor
   unhinted f = rw (← eb, f) stays
-
--- an answer given
-module _ (a : Answer) where
-  pub address-code : (pa : ℕ) → a ≡ Address pa → 0 ≡ code_of a
-  address-code pa e = rw e
-
-  pub address-value : (pa old : ℕ) → a ≡ Address pa → pa ≡ value_of a old
-  address-value pa old e = rw e
-
-  pub address-core : (ws xs : List ℕ) (privilege : Privilege) (kind : Kind) (va pa : ℕ) → a ≡ Address pa
-      → NowHolds ws xs (withHintFor (core_of ws) privilege kind va pa)
-      → NowHolds ws xs (answerPut (core_of ws) privilege kind va a)
-  address-core ws xs privilege kind va pa e m = rw e m
-
-  pub status-code : (f : Fault) → a ≡ Status f → 256 + f.fsc ≡ code_of a
-  status-code f e = rw e
-
-  pub status-value : (f : Fault) (old : ℕ) → a ≡ Status f → old ≡ value_of a old
-  status-value f old e = rw e
-
-  pub status-core : (ws : List ℕ) (privilege : Privilege) (kind : Kind) (va : ℕ) (f : Fault) → a ≡ Status f
-      → NowHolds ws ws (answerPut (core_of ws) privilege kind va a)
-  status-core ws privilege kind va f e = rw e stays
 
 -- what a source changes
 module _ (ws : List ℕ) (level slot : ℕ) (source : Source) (made : Entry) where

@@ -1,10 +1,8 @@
 -- The cell, the hint and the whole translation in place, on plain values, for `search`.
-use mathlib.Core.Path.{◌≡◌, refl, sym, ap, ◌∙◌}
-use mathlib.Core.Bool.{Bool, true, false, ◌&&◌}
-use mathlib.Core.List.{List}
-use Prim.Native.Nat.{ℕ}
-use native.Mathlib.Omega.{arith}
-use lib.Dec.{eqb}
+use Rattle.std.specs.Prelude.{Bool, true, false, ◌&&◌, List, ℕ}
+use Rattle.std.proofs.Common.{◌≡◌, refl, sym, ap, ◌∙◌}
+use Rattle.std.proofs.Common.{arith}
+use Rattle.std.proofs.Math.Dec.{eqb}
 use Rattle.word.specs.Ram.{word_at}
 use Rattle.word.specs.declared.ram.Word.{Word}
 use Rattle.walk.specs.Regime.{bankOf, regimeOf}
@@ -29,7 +27,7 @@ use Rattle.tlb.specs.declared.resolve.Asked.TheVariants.{Flat, Of}
 use Rattle.mmu.specs.Core.{afterAccess, bankNow}
 use Rattle.mmu.specs.Step.{slot_at}
 use Rattle.mmu.specs.Ops.{withTlb, fetchSteppedNow, translateOf}
-use Rattle.mmu.specs.declared.{core.Core.Core, ops.Translated.Translated}
+use Rattle.mmu.specs.declared.{core_state.Core.Core, ops.Translated.Translated}
 use Rattle.words.specs.CoreOf.{core_of}
 use Rattle.words.specs.Parts.{withCache, withCounts, withEntry, withHint, withFetchHint}
 use Rattle.words.specs.NowHolds.{NowHolds, stays, holds_as, holds_on}
@@ -51,10 +49,6 @@ module _ (q : Query) (s : Bank) (privilege : Privilege) (at : Current) (e : Entr
   resolved-walk f = rw f
 
 -- by the entry that a query names
-pub serves-is : (ws : List ℕ) (q : Query) (slot : ℕ) (e : Entry) (at : Current) (b : Bool) → slot ≡ slot_of q.tag → e ≡ entry_at (core_of ws).tlb.cache slot
-    → at ≡ (core_of ws).tlb.cache.current → b ≡ serves e at q.tag → b ≡ servesNow (core_of ws) q
-serves-is ws q slot e at b eo ee ea eb = eb ∙ λ i. serves ((ee ∙ ap (entry_at (core_of ws).tlb.cache) eo) i) (ea i) q.tag
-
 module _ (ws : List ℕ) (q : Query) (privilege : Privilege) (kind : Kind) (va : ℕ) (slot : ℕ) (e : Entry) (t : Resolved) (eo : slot ≡ slot_of q.tag)
     (ee : e ≡ entry_at (core_of ws).tlb.cache slot) (et : t ≡ byEntry q privilege e va kind) where
   entered-is : committing (core_of ws) privilege kind va slot t ≡ fromEntry (core_of ws) q privilege kind va
@@ -301,13 +295,6 @@ module _ (ws : List ℕ) (memory : ℕ → Word) (va code : ℕ) (ec : code ≡ 
       (ap (withFetchHint its-page.core) (eh ∙ ap (λ (w : Privilege). fetchFor va w.level pa)
       (ew ∙ ap (λ (c : Core). c.privilege) m.holds ∙ found-privilege (core_of ws) memory va Fetch))
       ∙ ap (pagedBy (core_of ws).privilege.level va its-page.core) (sym (code_at its-page.answer code pa old ec z ep)))
-
-  pub page-fault : (xs : List ℕ) → (code ≡ 0 → ⊥) → NowHolds ws xs its-page.core → NowHolds ws xs (pagedTo (core_of ws).privilege.level va its-page)
-  page-fault xs n m = holds_as m (sym (go its-page.answer refl))
-    where
-      go : (a : Answer) → its-page.answer ≡ a → pagedBy (core_of ws).privilege.level va its-page.core its-page.answer ≡ its-page.core
-      go (Address pa) e = absurd (n (ec ∙ ap code_of e))
-      go (Status fsc) e = rw e
 
 -- the fetch hint
 pub fetch-hint : (ws : List ℕ) (va : ℕ) (privilege : Privilege) (f : FetchHint) (p : HintAnswer) → privilege ≡ (core_of ws).privilege → f

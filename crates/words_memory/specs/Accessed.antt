@@ -1,7 +1,7 @@
 -- The addresses that an access keeps.
 use Rattle.std.specs.Prelude.{List, ℕ}
 use Rattle.operations.specs.Ends.{loadEnd, storeEnd}
-use Rattle.mmu.specs.declared.core.Core.{Core}
+use Rattle.mmu.specs.declared.core_state.Core.{Core}
 use Rattle.operations.specs.declared.{place.Placed.Placed, ends.LoadEnd.LoadEnd, ends.StoreEnd.StoreEnd}
 use Rattle.words.specs.Parts.{with_last, withAbort}
 

@@ -4,7 +4,7 @@ use Rattle.word.specs.Bits.{pick}
 use Rattle.tlb.specs.Cache.{entry_at, hintAt}
 use Rattle.tlb.specs.declared.{entry.Entry.Entry, hint.FetchHint.FetchHint, hint.Hint.Hint}
 use Rattle.operations.specs.Change.{countedAs, keptAs}
-use Rattle.mmu.specs.declared.core.Core.{Core}
+use Rattle.mmu.specs.declared.core_state.Core.{Core}
 use Rattle.words.specs.Parts.{withCounts, withEntry, withHint, withFetchHint}
 
 unfoldable pub effected : Core → ℕ → ℕ → ℕ → Entry → Core

@@ -17,7 +17,7 @@ use Rattle.tlb.specs.declared.hint.HintAnswer.TheVariants.{At, Unknown}
 use Rattle.mmu.specs.Core.{afterAccess, bankNow}
 use Rattle.mmu.specs.Ops.{withTlb, fetchSteppedNow}
 use Rattle.mmu.specs.Step.{slot_at, translateFetchIn}
-use Rattle.mmu.specs.declared.{core.Core.Core, ops.Translated.Translated}
+use Rattle.mmu.specs.declared.{core_state.Core.Core, ops.Translated.Translated}
 use Rattle.words.specs.Parts.{withCache, withCounts, withEntry, withFetchHint}
 use Rattle.words_memory.specs.Found.{answering, withHintFor, answerPut, sourced, foundTo, pagedBy}
 use Rattle.words_memory.specs.FoundLaws.{unchanged}

@@ -17,7 +17,7 @@ use Rattle.tlb.specs.declared.access.Answer.TheVariants.{Address, Status}
 use Rattle.tlb.specs.declared.hint.HintAnswer.TheVariants.{At, Unknown}
 use Rattle.mmu.specs.Core.{bankNow}
 use Rattle.mmu.specs.Step.{slot_at}
-use Rattle.mmu.specs.declared.{core.Core.Core, ops.Translated.Translated}
+use Rattle.mmu.specs.declared.{core_state.Core.Core, ops.Translated.Translated}
 use Rattle.words.specs.CoreOf.{core_of}
 use Rattle.words.specs.Parts.{withCounts, withEntry, withHint, withFetchHint}
 

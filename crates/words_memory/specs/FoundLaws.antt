@@ -24,7 +24,7 @@ use Rattle.tlb.specs.declared.hint.HintAnswer.TheVariants.{At, Unknown}
 use Rattle.mmu.specs.Core.{afterAccess, bankNow}
 use Rattle.mmu.specs.Ops.{withTlb, steppedNow, translateOf}
 use Rattle.mmu.specs.Step.{slot_at, translateIn}
-use Rattle.mmu.specs.declared.core.Core.{Core}
+use Rattle.mmu.specs.declared.core_state.Core.{Core}
 use Rattle.words.specs.Parts.{withCache, withCounts, withEntry, withHint}
 use Rattle.words_memory.specs.Found.{answering, hintFound, withHintFor, answerPut, sourced, foundTo}
 

@@ -1,3 +1,4 @@
+#![tactic(auto)]
 // The core's operations on memory, in place on words.
 pub mod access;
 pub mod pages;

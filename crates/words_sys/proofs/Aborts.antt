@@ -8,7 +8,7 @@ use Rattle.exception.specs.Entry.{enteredSys, entryFlags, syncReport, syncChange
 use Rattle.exception.specs.EntryLaws.{take-changes}
 use Rattle.exception.specs.declared.{kind.Exception.Exception, flags.Flags.Flags, take.Entered.Entered}
 use Rattle.exception.specs.declared.{take.Reported.Reported, take.Taken.Taken}
-use Rattle.mmu.specs.declared.core.Core.{Core}
+use Rattle.mmu.specs.declared.core_state.Core.{Core}
 use Rattle.exec.specs.Ops.{entering, abortOf}
 use Rattle.words.specs.CoreOf.{core_of}
 use Rattle.words.specs.Parts.{withPrivilege, with_flags, withPc, withSys}

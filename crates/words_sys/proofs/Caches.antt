@@ -8,7 +8,7 @@ use Rattle.tlb.specs.declared.{entry.Current.Current, Inval.Inval}
 use Rattle.tlb.specs.declared.Inval.TheVariants.{All, Page, Asid}
 use Rattle.mmu.specs.Core.{afterAccess}
 use Rattle.mmu.specs.Ops.{withTlb}
-use Rattle.mmu.specs.declared.core.Core.{Core}
+use Rattle.mmu.specs.declared.core_state.Core.{Core}
 use Rattle.words.specs.CoreOf.{core_of}
 use Rattle.words.specs.Parts.{withCache, withCounts, withEntries, withCurrent, withoutHints}
 use Rattle.words.specs.NowHolds.{NowHolds, holds_on}

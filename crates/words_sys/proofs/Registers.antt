@@ -1,6 +1,5 @@
 -- A register write, step by step.
 use Rattle.std.proofs.Common.{◌≡◌, ℕ, Bool, true, false, eqb, List, sym, refl, ap, ◌∙◌, eq-eqb, ne_eqb, eqb-true}
-use mathlib.Core.Bool.{false≢true}
 use Rattle.sysreg.specs.Regs.{controlAt}
 use Rattle.sysreg.specs.Encoding.{controlKey, registerAt}
 use Rattle.sysreg.specs.EncodingLaws.{key_one}
@@ -8,7 +7,7 @@ use Rattle.sysreg.specs.Shape.{shape, member, same_shape, asidOf}
 use Rattle.sysreg.specs.ShapeLaws.{SameShape, shape-agrees, agrees-shape, shape-self, shape-kept}
 use Rattle.sysreg.specs.Write.{controlWith, sysWith, wrote}
 use Rattle.sysreg.specs.WriteLaws.{control-after, control-written, write-nothing, write-el0, write_done}
-use Rattle.sysreg.specs.declared.{regs.Control.Control, regs.El.El, regs.ControlReg.ControlReg, regs.SysReg.SysReg}
+use Rattle.sysreg.specs.declared.{regs.Control.Control, regs.ControlReg.ControlReg, regs.SysReg.SysReg}
 use Rattle.sysreg.specs.declared.{regs.Register.Register, encoding.Found.Found}
 use Rattle.sysreg.specs.declared.regs.El.TheVariants.{El1, El2, El3}
 use Rattle.sysreg.specs.declared.regs.ControlReg.TheVariants.{Sctlr, Tcr, Ttbr0, Ttbr1, Scr, Hcr}
@@ -19,7 +18,7 @@ use Rattle.tlb.specs.Tlb.{flushOf, retagOf}
 use Rattle.tlb.specs.declared.{access.Privilege.Privilege, entry.Current.Current}
 use Rattle.mmu.specs.Core.{afterAccess}
 use Rattle.mmu.specs.Ops.{withTlb}
-use Rattle.mmu.specs.declared.core.Core.{Core}
+use Rattle.mmu.specs.declared.core_state.Core.{Core}
 use Rattle.exec.specs.Fit.{reshapedOf, retaggedOf, refitOf}
 use Rattle.exec.specs.Ops.{with_regs, appliedOf, writeRegister}
 use Rattle.exec.specs.declared.ops.Registered.{Registered}
@@ -27,34 +26,6 @@ use Rattle.words.specs.CoreOf.{core_of}
 use Rattle.words.specs.Parts.{withControl, withSys}
 use Rattle.words.specs.NowHolds.{NowHolds, stays, holds_as, holds_on}
 use Rattle.words_sys.specs.Register.{reshaped}
-
--- WHETHER A REGISTER SHAPES TRANSLATION
-
-sctlr-shapes : (el : El) → true ≡ member shape (Sctlr el)
-sctlr-shapes El1 = refl
-sctlr-shapes El2 = refl
-sctlr-shapes El3 = refl
-
-tcr-shapes : (el : El) → true ≡ member shape (Tcr el)
-tcr-shapes El1 = refl
-tcr-shapes El2 = refl
-tcr-shapes El3 = refl
-
-module _ (r : ControlReg) where
-  pub shapes-sctlr : (el : El) → r ≡ Sctlr el → true ≡ member shape r
-  shapes-sctlr el e = rw e (sctlr-shapes el)
-
-  pub shapes-tcr : (el : El) → r ≡ Tcr el → true ≡ member shape r
-  shapes-tcr el e = rw e (tcr-shapes el)
-
-  pub shapes-ttbr0-1 : (el : El) → r ≡ Ttbr0 el → el ≡ El1 → false ≡ member shape r
-  shapes-ttbr0-1 el e q = rw (e, q)
-
-  pub shapes-ttbr0-2 : (el : El) → r ≡ Ttbr0 el → el ≡ El2 → true ≡ member shape r
-  shapes-ttbr0-2 el e q = rw (e, q)
-
-  pub shapes-ttbr0-3 : (el : El) → r ≡ Ttbr0 el → el ≡ El3 → true ≡ member shape r
-  shapes-ttbr0-3 el e q = rw (e, q)
 
 -- WHETHER A WRITE CHANGES THE SHAPE
 
@@ -81,10 +52,10 @@ module _ (c : Control) (r : ControlReg) (v : ℕ) where
 coreOf-value : (c : Control) (r : ControlReg) (v : ℕ) → member shape r ≡ true → SameShape c (controlWith c r v) → controlAt c r ≡ v
 coreOf-value c (Sctlr el) v m s = s.sctlr el ∙ control-written c (Sctlr el) v
 coreOf-value c (Tcr el) v m s = s.tcr el ∙ control-written c (Tcr el) v
-coreOf-value c (Ttbr0 El1) v m s = absurd (false≢true m)
+coreOf-value c (Ttbr0 El1) v m s = cc
 coreOf-value c (Ttbr0 El2) v m s = s.ttbr0-el2 ∙ control-written c (Ttbr0 El2) v
 coreOf-value c (Ttbr0 El3) v m s = s.ttbr0-el3 ∙ control-written c (Ttbr0 El3) v
-coreOf-value c Ttbr1 v m s = absurd (false≢true m)
+coreOf-value c Ttbr1 v m s = cc
 coreOf-value c Scr v m s = s.scr ∙ control-written c Scr v
 coreOf-value c Hcr v m s = s.hcr ∙ control-written c Hcr v
 

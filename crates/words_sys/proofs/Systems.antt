@@ -14,7 +14,7 @@ use Rattle.sysop.specs.Tlbi.{tlbiOf, reachesOthers}
 use Rattle.sysop.specs.declared.op.AtForm.{AtForm}
 use Rattle.mmu.specs.Core.{afterAccess}
 use Rattle.mmu.specs.Ops.{withTlb}
-use Rattle.mmu.specs.declared.core.Core.{Core}
+use Rattle.mmu.specs.declared.core_state.Core.{Core}
 use Rattle.exec.specs.Sys.{withPar, at_of, invalidatedOf, tlbiCore}
 use Rattle.words.specs.CoreOf.{coreOn, coreBy, core_of}
 use Rattle.words.specs.Parts.{withPending, withSys}

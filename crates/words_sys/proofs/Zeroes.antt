@@ -1,11 +1,9 @@
 -- A zeroing, store by store or by a hint, and the system operations by what their encoding names.
-use Rattle.std.proofs.Common.{◌≡◌, ℕ, ◌+◌, ◌-◌, ◌*◌, ◌%◌, ◌^◌, ◌<◌, ◌≤◌, Bool, true, false, List, length, sym, ap, ◌∙◌, subst, mod-eq_of_lt, arith, ne_eqb}
+use Rattle.std.proofs.Common.{◌≡◌, ℕ, ◌+◌, ◌-◌, ◌*◌, ◌%◌, ◌^◌, ◌<◌, Bool, true, false, List, length, sym, ap, ◌∙◌, subst, mod-eq_of_lt, arith}
 use Rattle.word.specs.Bits.{alignDown, wrap}
-use Rattle.word.specs.Ram.{within, stored}
 use Rattle.exception.specs.declared.kind.Stop.{Stop}
 use Rattle.tlb.specs.declared.access.Kind.TheVariants.{Write}
-use Rattle.tlb.specs.declared.{access.Privilege.Privilege, hint.HintAnswer.HintAnswer}
-use Rattle.tlb.specs.declared.hint.HintAnswer.TheVariants.{At, Unknown}
+use Rattle.tlb.specs.declared.{access.Privilege.Privilege}
 use Rattle.sysop.specs.Op.{decodeOf}
 use Rattle.sysop.specs.declared.op.SysOp.{SysOp}
 use Rattle.mmu.specs.Core.{reg_of}
@@ -55,34 +53,6 @@ module _ (ws : List ℕ) (base : ℕ) (ram : List ℕ) (n va : ℕ) where
         }
 
 -- THE LINE
-
--- the store where the hint points
-module _ (h p : HintAnswer) (from base : ℕ) (ram : List ℕ) (eh : p ≡ h) where
-  pub no-hint : p ≡ Unknown → false ≡ clears h from base (length ram)
-  no-hint e = rw (← eh, e)
-
-  pub no-hint-ram : p ≡ Unknown → ram ≡ cleared h from base ram
-  no-hint-ram e = rw (← eh, e)
-
-  module _ (pa : ℕ) (e : p ≡ At pa) where
-    pub no_line : (pa % 64 ≡ 0 → ⊥) → false ≡ clears h from base (length ram)
-    no_line z = rw (← eh, e, ne_eqb (pa % 64) 0 z)
-
-    pub no-line-ram : (pa % 64 ≡ 0 → ⊥) → ram ≡ cleared h from base ram
-    no-line-ram z = rw (← eh, e, ne_eqb (pa % 64) 0 z)
-
-    pub line : (b : Bool) → pa % 64 ≡ 0 → b ≡ within base (length ram) (64 - from) (pa + from) → b ≡ clears h from base (length ram)
-    line b z q = rw (← eh, e, z) q
-
-    pub line-ram : (ys : List ℕ) → pa % 64 ≡ 0 → ys ≡ stored base ram (64 - from) (pa + from) 0 → ys ≡ cleared h from base ram
-    line-ram ys z q = rw (← eh, e, z) q
-
--- the address is one of 64 bits
-pub line-end : (pa from : ℕ) → pa < 2 ^ 64 → pa % 64 ≡ 0 → from ≤ 8 → pa + from < 2 ^ 64
-line-end pa from h z k = omega arith
-
-pub line-next : (va : ℕ) → va < 2 ^ 64 → va % 64 ≡ 0 → va + 8 < 2 ^ 64
-line-next va h z = omega arith
 
 pub line-start : (x : ℕ) → (x - x % 64) % 64 ≡ 0
 line-start x = omega arith

@@ -14,7 +14,7 @@ use Rattle.tlb.specs.Hint.{onPage, dataSlot, hintKey}
 use Rattle.tlb.specs.declared.access.Kind.TheVariants.{Write}
 use Rattle.tlb.specs.declared.hint.HintAnswer.{HintAnswer}
 use Rattle.tlb.specs.declared.hint.HintAnswer.TheVariants.{At, Unknown}
-use Rattle.mmu.specs.declared.core.Core.{Core}
+use Rattle.mmu.specs.declared.core_state.Core.{Core}
 use Rattle.exec.specs.Sys.{doneWith, zero_of, zeroRam}
 use Rattle.exec.specs.ZeroLine.{zero-steady}
 use Rattle.words_memory.specs.Found.{hintFound}

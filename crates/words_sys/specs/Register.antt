@@ -6,7 +6,7 @@ use Rattle.sysreg.specs.declared.{regs.ControlReg.ControlReg, regs.Register.Regi
 use Rattle.tlb.specs.Tlb.{flushOf, retagOf, dropPageOf, dropAsidOf, invalidateOf, broadcastOf}
 use Rattle.tlb.specs.declared.Inval.{Inval}
 use Rattle.mmu.specs.Ops.{withTlb}
-use Rattle.mmu.specs.declared.core.Core.{Core}
+use Rattle.mmu.specs.declared.core_state.Core.{Core}
 use Rattle.exec.specs.Fit.{reshapedOf, retaggedOf}
 use Rattle.exec.specs.Ops.{appliedOf}
 use Rattle.words.specs.Parts.{withControl}

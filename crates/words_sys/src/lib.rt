@@ -1,3 +1,4 @@
+#![tactic(auto)]
 // The core's operations beside memory, in place on words.
 pub mod abort;
 pub mod register;

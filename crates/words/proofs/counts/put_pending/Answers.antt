@@ -1,0 +1,6 @@
+use Rattle.std.proofs.Common.{rules}
+use Rattle.words.specs.Writes.{nothing_put}
+use Rattle.words.proofs.counts.put_pending.Goals as goal
+
+pub returns-in-Nothing : goal.returns-in-Nothing
+returns-in-Nothing c = search (nothing_put, rules)
