@@ -1,6 +1,6 @@
 -- A fetch's call: what the checks and the fetch hint say, and what its changes leave, are the call's reply and core, on plain values.
-use Rattle.core.specs.Prelude.{◌≡◌, ℕ, zero, suc, not, T as Holds, List, length}
-use mathlib.Core.Path.{refl, sym, subst, ap, ◌∙◌}
+use Rattle.std.specs.Prelude.{◌≡◌, ℕ, zero, suc, true, false, List, length}
+use Rattle.std.proofs.Common.{refl, sym, subst, ap, ◌∙◌}
 use Rattle.word.specs.Ram.{word_at}
 use Rattle.tlb.specs.Hint.{fetchFound}
 use Rattle.tlb.specs.declared.access.Answer.TheVariants.{Address}
@@ -13,9 +13,9 @@ use Rattle.operations.specs.Ends.{fetchEnd as end_of}
 use Rattle.operations.specs.Replies.{fetching}
 use Rattle.mmu.specs.Ops.{fetchSteppedNow, fetchOf as fetchNow}
 use Rattle.operations.specs.declared.{bytes.Insn.Insn, call.Call.Call, change.Hinted.Hinted, change.Page.Page}
-use Rattle.operations.specs.declared.{change.Answered.Answered, fetches.FetchAccess.FetchAccess, fetches.HintEnd.HintEnd, hinted.Fast.Fast}
+use Rattle.operations.specs.declared.{fetches.FetchAccess.FetchAccess, fetches.HintEnd.HintEnd, hinted.Fast.Fast}
 use Rattle.operations.specs.declared.bytes.Insn.TheVariants as Insn
-use Rattle.mmu.specs.declared.core.Core.{Core}
+use Rattle.mmu.specs.declared.core_state.Core.{Core}
 use Rattle.operations.specs.Check.{ramRows, first_of, missedOf}
 use Rattle.cpu.specs.Step.{run_of, step_of, ends, refusedOr}
 use Rattle.operations.specs.declared.call.Call.TheVariants as Call
@@ -30,10 +30,7 @@ module _ (c : Core) (base : ℕ) (ram : List ℕ) (va : ℕ) where
   abbrev call : Call
   call = Call.Fetch va
 
-  -- the translation on the core's own cells, and what it leaves
-  abbrev turn : Answered
-  turn = fetchAnsweredOf c.tlb.cache.fetch (pageIn c va Fetch) va (word_at base ram 8)
-
+  -- what a fetch leaves
   abbrev left : FetchAccess → Core
   left t = keptIn (commitIn c t.change) t.last_pa t.abort_pa
 
@@ -58,11 +55,11 @@ module _ (c : Core) (base : ℕ) (ram : List ℕ) (va : ℕ) where
       )
 
   -- a fetch hint that serves changes the address of the last abort at most
-  served : (p : HintAnswer) → p ≡ fetchFound c.tlb.cache.fetch c.privilege.level va → Holds (hintEndBy p c.abort_pa base ram va).ends
+  served : (p : HintAnswer) → p ≡ fetchFound c.tlb.cache.fetch c.privilege.level va → (hintEndBy p c.abort_pa base ram va).ends ≡ true
       → ((hintEndBy p c.abort_pa base ram va).reply ≡ (run_of c base ram call).reply)
       × (keptIn c c.last_pa (hintEndBy p c.abort_pa base ram va).abort_pa ≡ (run_of c base ram call).core)
   unfolding fetchedOf fetchAnsweredOf
-  served Unknown ep t = absurd t
+  served Unknown ep t = cc
   served (At pa) ep t =
       let end = end_of (Address pa) c.abort_pa base ram va in
       let is : fetchedOf (hintedIn c va Fetch) (pageIn c va Fetch) va base ram
@@ -73,53 +70,53 @@ module _ (c : Core) (base : ℕ) (ram : List ℕ) (va : ℕ) where
       )
 
   -- the checks and the fetch hint, by the number of the first check missed
-  ends_by : (n : ℕ) (p : HintAnswer) → p ≡ fetchFound c.tlb.cache.fetch c.privilege.level va → Holds (fastFetchBy n p base ram).ends
+  ends_by : (n : ℕ) (p : HintAnswer) → p ≡ fetchFound c.tlb.cache.fetch c.privilege.level va → (fastFetchBy n p base ram).ends ≡ true
       → ((fastFetchBy n p base ram).reply ≡ (refusedOr n (λ k. ends c (Refused k)) (run_of c base ram call)).reply)
       × (c ≡ (refusedOr n (λ k. ends c (Refused k)) (run_of c base ram call)).core)
-  ends_by zero Unknown ep t = absurd t
+  ends_by zero Unknown ep t = cc
   ends_by zero (At pa) ep t = go (insnOf base ram pa) refl t
     where
-      go : (g : Insn) → g ≡ insnOf base ram pa → Holds (quickInsn g).ends → ((quickInsn g).reply ≡ (run_of c base ram call).reply)
+      go : (g : Insn) → g ≡ insnOf base ram pa → (quickInsn g).ends ≡ true → ((quickInsn g).reply ≡ (run_of c base ram call).reply)
           × (c ≡ (run_of c base ram call).core)
       go (Insn.Value v) eg t = by-hint (At pa) (Insn.Value v) pa v ep refl eg refl
-      go Insn.Outside eg t = absurd t
+      go Insn.Outside eg t = cc
   ends_by (suc n) p ep t = (refl, refl)
 
-  goes_by : (n : ℕ) (p : HintAnswer) → Holds (not (fastFetchBy n p base ram).ends) → run_of c base ram call
+  goes_by : (n : ℕ) (p : HintAnswer) → (fastFetchBy n p base ram).ends ≡ false → run_of c base ram call
       ≡ refusedOr n (λ k. ends c (Refused k)) (run_of c base ram call)
   goes_by zero p t = refl
-  goes_by (suc n) p t = absurd t
+  goes_by (suc n) p t = cc
 
   abbrev quick : Fast
   quick = fastFetch c.privilege c.tlb.cache.fetch base ram va
 
   pub fetch-ended-is : (g : Hinted) (c₁ : Core) (q : Fast) → (g ≡ hintedIn c va Fetch) × (c₁ ≡ c) → q ≡ fastFetch g.privilege g.fetch base ram va
-      → Holds q.ends
+      → q.ends ≡ true
       → (q.reply ≡ (step_of c base ram call).reply) × (c₁ ≡ (step_of c base ram call).core)
   unfolding fastFetch step_of missedOf
   fetch-ended-is g c₁ q eg eq t =
       let is : q ≡ quick = eq ∙ rw eg.0 in
       let h = ends_by (first_of (ramRows c.privilege.level base (length ram))) (fetchFound c.tlb.cache.fetch c.privilege.level va) refl
-      (subst (λ (x : Fast). Holds x.ends) is t) in
+      (subst (λ (x : Fast). x.ends ≡ true) is t) in
       (ap (λ (x : Fast). x.reply) is ∙ h.0, eg.1 ∙ h.1)
 
   -- past the checks and what they answer at once
   module _ (g : Hinted) (c₁ : Core) (q : Fast) (eg : (g ≡ hintedIn c va Fetch) × (c₁ ≡ c)) (eq : q ≡ fastFetch g.privilege g.fetch base ram va)
-      (t : Holds (not q.ends)) where
+      (t : q.ends ≡ false) where
     went_on : run_of c base ram call ≡ step_of c base ram call
     unfolding fastFetch step_of missedOf
     went_on =
         let is : q ≡ quick = eq ∙ rw eg.0 in
         goes_by (first_of (ramRows c.privilege.level base (length ram))) (fetchFound c.tlb.cache.fetch c.privilege.level va)
-        (subst (λ (x : Fast). Holds (not x.ends)) is t)
+        (subst (λ (x : Fast). x.ends ≡ false) is t)
 
     -- the fetch hint serves
-    pub fetch-hinted-is : (w : HintEnd) (c₂ : Core) → w ≡ hintEndOf g base ram va → Holds w.ends → c₂ ≡ keptIn c₁ g.last_pa w.abort_pa
+    pub fetch-hinted-is : (w : HintEnd) (c₂ : Core) → w ≡ hintEndOf g base ram va → w.ends ≡ true → c₂ ≡ keptIn c₁ g.last_pa w.abort_pa
         → (w.reply ≡ (step_of c base ram call).reply) × (c₂ ≡ (step_of c base ram call).core)
     unfolding hintEndOf
     fetch-hinted-is w c₂ ew z ek =
         let is : w ≡ hintEndBy (fetchFound c.tlb.cache.fetch c.privilege.level va) c.abort_pa base ram va = ew ∙ rw eg.0 in
-        let h = served (fetchFound c.tlb.cache.fetch c.privilege.level va) refl (subst (λ (x : HintEnd). Holds x.ends) is z) in (
+        let h = served (fetchFound c.tlb.cache.fetch c.privilege.level va) refl (subst (λ (x : HintEnd). x.ends ≡ true) is z) in (
           ap (λ (x : HintEnd). x.reply) is ∙ h.0 ∙ ap (λ (x : Stepped). x.reply) went_on,
           ek ∙ rw (eg.0, eg.1, is) h.1 ∙ ap (λ (x : Stepped). x.core) went_on,
         )

@@ -1,8 +1,8 @@
 -- An access that a hint serves in its page takes one translation, which leaves the cache as it was; and the translations of an access of a size.
-use Rattle.core.specs.Prelude.{◌≡◌, ℕ, Bool, true, false, ◌&&◌, T as Holds, eqb, leb, length}
-use mathlib.Core.Path.{refl, sym, subst}
-use borrow.Author.Tests.{leb-true, le-ltb}
-use lib.Dec.{eqb→eq}
+use Rattle.std.specs.Prelude.{◌≡◌, ℕ, Bool, true, false, ◌&&◌, nat_eq, nat_le, length}
+use Rattle.std.proofs.Common.{refl, sym, subst}
+use Rattle.std.proofs.lemmas.Bool.{leb-true, le-ltb}
+use Rattle.std.proofs.lemmas.Bool.{eqb-true}
 use Rattle.word.specs.Bits.{pick}
 use Rattle.word.specs.Ram.{width_of, bytesIn}
 use Rattle.word.specs.declared.{ram.Sized.Sized, ram.Width.Width, ram.Word.Word}
@@ -16,7 +16,7 @@ use Rattle.mmu.specs.Core.{bankNow, afterAccess}
 use Rattle.mmu.specs.Ops.{steppedNow, locatedNow, translateOf}
 use Rattle.operations.specs.Place.{inPage, nextPage, crosses}
 use Rattle.mmu.specs.Step.{translateIn, locatedOf}
-use Rattle.mmu.specs.declared.core.Core.{Core}
+use Rattle.mmu.specs.declared.core_state.Core.{Core}
 use Rattle.operations.specs.declared.place.Place.TheVariants.{Whole}
 use Rattle.operations.specs.declared.place.Placed.TheVariants.{At}
 use Rattle.operations.specs.Loads.{bytes_of, second_of, secondIn, bothOf}
@@ -35,16 +35,20 @@ pick-fits : (b : Bool) (n : ℕ) (x y : Sized) → (b ≡ true → Fits x n) →
 pick-fits true n x y fx fy = fx refl
 pick-fits false n x y fx fy = fy
 
-same_number : (n m : ℕ) → eqb n m ≡ true → m ≡ n
-same_number n m e = sym (eqb→eq n m (subst Holds (sym e) tt))
+same_number : (n m : ℕ) → nat_eq n m ≡ true → m ≡ n
+same_number n m e = sym (eqb-true n m e)
 
 width_fits : (n : ℕ) → Fits (width_of n) n
 width_fits n =
-    pick-fits (eqb n 1) n _ _ (same_number n 1)
-    (pick-fits (eqb n 2) n _ _ (same_number n 2) (pick-fits (eqb n 4) n _ _ (same_number n 4) (pick-fits (eqb n 8) n _ _ (same_number n 8) tt)))
+    pick-fits (nat_eq n 1) n _ _ (same_number n 1)
+    (pick-fits (nat_eq n 2) n _ _ (same_number n 2) (pick-fits (nat_eq n 4) n _ _ (same_number n 4) (pick-fits (nat_eq n 8) n _ _ (same_number n 8) tt)))
 
 pub size_is : (size : ℕ) (w : Width) → width_of size ≡ Bytes w → bytesIn w ≡ size
 size_is size w e = subst (λ (z : Sized). Fits z size) e (width_fits size)
+
+pub and_both : (a b : Bool) → (a && b) ≡ true → (a ≡ true) × (b ≡ true)
+and_both true b e = (refl, e)
+and_both false b e = cc
 
 and-false : (b : Bool) → (b && false) ≡ false
 and-false true = refl
@@ -52,7 +56,7 @@ and-false false = refl
 
 module _ (c : Core) (memory : ℕ → Word) (va : ℕ) (kind : Kind) where
   -- a hint that serves
-  pub hint-located : (h : Hint) → h ≡ hintAt c.tlb.cache (hintPlace va kind) → hintServes h c.privilege va kind ≡ true → (n : ℕ) → leb n (inPage va)
+  pub hint-located : (h : Hint) → h ≡ hintAt c.tlb.cache (hintPlace va kind) → hintServes h c.privilege va kind ≡ true → (n : ℕ) → nat_le n (inPage va)
       ≡ true
       → locatedNow c memory va n kind ≡ record { tlb = c.tlb; placed = At (Whole (onPage h.pa va)) }
   unfolding locatedNow locatedOf translateOf steppedNow afterAccess

@@ -1,6 +1,4 @@
 pub mod Promised
-pub mod Lent
-pub mod Moves
 pub mod Runs
 pub mod Fetches
 pub mod Hits

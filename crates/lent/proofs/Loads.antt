@@ -1,6 +1,6 @@
 -- A load's call: what the checks and the hint say, and what its changes leave, are the call's reply and core, on plain values.
-use Rattle.core.specs.Prelude.{◌≡◌, ℕ, zero, suc, Bool, true, false, not, ◌&&◌, T as Holds, leb, List, length}
-use mathlib.Core.Path.{refl, sym, subst, ap, ◌∙◌}
+use Rattle.std.specs.Prelude.{◌≡◌, ℕ, zero, suc, Bool, true, false, nat_le, List, length}
+use Rattle.std.proofs.Common.{refl, sym, subst, ap, ◌∙◌}
 use Rattle.word.specs.Ram.{word_at, width_of, bytesIn}
 use Rattle.word.specs.declared.{ram.Sized.Sized, ram.Width.Width}
 use Rattle.word.specs.declared.ram.Sized.TheVariants.{Bytes, Refused as NoWidth}
@@ -16,7 +16,7 @@ use Rattle.operations.specs.Place.{inPage}
 use Rattle.operations.specs.declared.{bytes.Got.Got, call.Call.Call, loads.Access.Access, loads.FastLoad.FastLoad}
 use Rattle.operations.specs.declared.{change.Hinted.Hinted, change.Lookup.Lookup, change.Page.Page}
 use Rattle.operations.specs.declared.bytes.Got.TheVariants as Got
-use Rattle.mmu.specs.declared.core.Core.{Core}
+use Rattle.mmu.specs.declared.core_state.Core.{Core}
 use Rattle.operations.specs.declared.place.Place.TheVariants.{Whole}
 use Rattle.operations.specs.Check.{sizedRows, first_of, missedOf}
 use Rattle.cpu.specs.Step.{run_of, step_of, loadBy, ends, refusedOr}
@@ -27,7 +27,7 @@ use Rattle.operations.specs.Loads.{bytesBy, secondIn, loadedBy, loadedOf, hitIn,
 use Rattle.operations.specs.Change.{unchanged}
 use Rattle.mmu.specs.Parts.{hintedIn, lookupIn, pageIn, commitIn, keptIn}
 use Rattle.operations.specs.Hinted.{hintPlace, hintServes}
-use Rattle.lent.proofs.Hits.{size_is, hint-located, sized-is}
+use Rattle.lent.proofs.Hits.{size_is, and_both, hint-located, sized-is}
 use Rattle.mmu.specs.Changes.{none-changed}
 
 -- what an access leaves
@@ -70,7 +70,7 @@ module _ (c : Core) (base : ℕ) (ram : List ℕ) (va size : ℕ) where
 
   -- a hint that serves in its page: the bytes
   by-hint : (h : Hint) (w : Width) (v : ℕ) → h ≡ hintAt c.tlb.cache (hintPlace va Read) → hintServes h c.privilege va Read ≡ true
-      → leb size (inPage va) ≡ true
+      → nat_le size (inPage va) ≡ true
       → width_of size ≡ Bytes w → load_of base ram (Whole (onPage h.pa va)) (bytesIn w) ≡ Got.Value v
       → (Value v ≡ (run_of c base ram call).reply) × (keptIn c (onPage h.pa va) c.abort_pa ≡ (run_of c base ram call).core)
   unfolding run_of read_of loadEnd afterAccess
@@ -82,65 +82,57 @@ module _ (c : Core) (base : ℕ) (ram : List ℕ) (va size : ℕ) where
   abbrev kept : ℕ → Core
   kept last = keptIn c last c.abort_pa
 
-  and_both : (a b : Bool) → (a && b) ≡ true → (a ≡ true) × (b ≡ true)
-  and_both true true e = (refl, refl)
-  and_both true false e = (refl, e)
-  and_both false b e = (e, absurd (no e))
-    where
-      no : false ≡ true → ⊥
-      no p = subst Holds (sym p) tt
-
   abbrev run : Stepped
   run = run_of c base ram call
 
   read-ends : (h : Hint) → h ≡ hintAt c.tlb.cache (hintPlace va Read) → hitIn h c.privilege va size Read ≡ true → (z : Sized) → width_of size ≡ z
       → (last : ℕ)
-      → Holds (read_by z base ram (onPage h.pa va) last).ends
+      → (read_by z base ram (onPage h.pa va) last).ends ≡ true
       → ((read_by z base ram (onPage h.pa va) last).reply ≡ run.reply) × (kept (read_by z base ram (onPage h.pa va) last).last_pa ≡ run.core)
-  read-ends h eh hit NoWidth ez last t = absurd t
+  read-ends h eh hit NoWidth ez last t = cc
   read-ends h eh hit (Bytes w) ez last t = go (load_of base ram (Whole (onPage h.pa va)) (bytesIn w)) refl t
     where
-      both : (hintServes h c.privilege va Read ≡ true) × (leb size (inPage va) ≡ true)
-      both = and_both (hintServes h c.privilege va Read) (leb size (inPage va)) hit
+      both : (hintServes h c.privilege va Read ≡ true) × (nat_le size (inPage va) ≡ true)
+      both = and_both (hintServes h c.privilege va Read) (nat_le size (inPage va)) hit
 
-      go : (g : Got) → load_of base ram (Whole (onPage h.pa va)) (bytesIn w) ≡ g → Holds (fastGot g (onPage h.pa va) last).ends
+      go : (g : Got) → load_of base ram (Whole (onPage h.pa va)) (bytesIn w) ≡ g → (fastGot g (onPage h.pa va) last).ends ≡ true
           → ((fastGot g (onPage h.pa va) last).reply ≡ run.reply) × (kept (fastGot g (onPage h.pa va) last).last_pa ≡ run.core)
       go (Got.Value v) eg t = by-hint h w v eh both.0 both.1 ez eg
-      go (Got.Abort i at) eg t = absurd t
+      go (Got.Abort i at) eg t = cc
 
   -- the checks and the hint, by the number of the first check missed
   ends_by : (n : ℕ) (hit : Bool) (h : Hint) → h ≡ hintAt c.tlb.cache (hintPlace va Read) → hitIn h c.privilege va size Read ≡ hit
-      → Holds (fastLoadBy n hit (fastRead base ram (onPage h.pa va) size c.last_pa) c.last_pa).ends
+      → (fastLoadBy n hit (fastRead base ram (onPage h.pa va) size c.last_pa) c.last_pa).ends ≡ true
       → ((fastLoadBy n hit (fastRead base ram (onPage h.pa va) size c.last_pa) c.last_pa).reply ≡ (refusedOr n (λ k. ends c (Refused k)) run).reply)
       × (kept (fastLoadBy n hit (fastRead base ram (onPage h.pa va) size c.last_pa) c.last_pa).last_pa
       ≡ (refusedOr n (λ k. ends c (Refused k)) run).core)
   unfolding fastRead
   ends_by zero true h eh e t = read-ends h eh e (width_of size) refl c.last_pa t
-  ends_by zero false h eh e t = absurd t
+  ends_by zero false h eh e t = cc
   ends_by (suc n) hit h eh e t = (refl, refl)
 
-  goes_by : (n : ℕ) (hit : Bool) (found : FastLoad) (last : ℕ) → Holds (not (fastLoadBy n hit found last).ends) → run
+  goes_by : (n : ℕ) (hit : Bool) (found : FastLoad) (last : ℕ) → (fastLoadBy n hit found last).ends ≡ false → run
       ≡ refusedOr n (λ k. ends c (Refused k)) run
   goes_by zero hit found last t = refl
-  goes_by (suc n) hit found last t = absurd t
+  goes_by (suc n) hit found last t = cc
 
   abbrev quick : FastLoad
   quick = fastLoad c.privilege (hintAt c.tlb.cache (hintPlace va Read)) c.last_pa base ram va size
 
   pub load-ended-is : (g : Hinted) (c₁ : Core) (q : FastLoad) (c₂ : Core) → (g ≡ hintedIn c va Read) × (c₁ ≡ c) → q
       ≡ fastLoad g.privilege g.hint g.last_pa base ram va size
-      → Holds q.ends → c₂ ≡ keptIn c₁ q.last_pa g.abort_pa → (q.reply ≡ (step_of c base ram call).reply) × (c₂ ≡ (step_of c base ram call).core)
+      → q.ends ≡ true → c₂ ≡ keptIn c₁ q.last_pa g.abort_pa → (q.reply ≡ (step_of c base ram call).reply) × (c₂ ≡ (step_of c base ram call).core)
   unfolding fastLoad step_of missedOf
   load-ended-is g c₁ q c₂ eg eq t ec =
       let is : q ≡ quick = eq ∙ rw eg.0 in
       let h = ends_by (first_of (sizedRows c.privilege.level base (length ram) size))
       (hitIn (hintAt c.tlb.cache (hintPlace va Read)) c.privilege va size Read) (hintAt c.tlb.cache (hintPlace va Read)) refl refl
-      (subst (λ (x : FastLoad). Holds x.ends) is t) in
+      (subst (λ (x : FastLoad). x.ends ≡ true) is t) in
       (ap (λ (x : FastLoad). x.reply) is ∙ h.0, ec ∙ rw (eg.0, eg.1, is) h.1)
 
   pub load-committed-is : (g : Hinted) (c₁ : Core) (q : FastLoad) (x : Page) (c₂ : Core) (next : ℕ) (y : Page) (c₃ : Core) (s : Access) (c₄ c₅ c₆ : Core)
       → (g ≡ hintedIn c va Read) × (c₁ ≡ c)
-      → q ≡ fastLoad g.privilege g.hint g.last_pa base ram va size → Holds (not q.ends)
+      → q ≡ fastLoad g.privilege g.hint g.last_pa base ram va size → q.ends ≡ false
       → (x ≡ pageIn c₁ va Read) × (c₂ ≡ c₁) × (length c₁.tlb.cache.hints ≡ 512) × (length c₁.tlb.cache.entries ≡ 1024) → next ≡ secondIn x va size
       → (y ≡ pageIn c₂ next Read) × (c₃ ≡ c₂) × (length c₂.tlb.cache.hints ≡ 512) × (length c₂.tlb.cache.entries ≡ 1024) → s
       ≡ loadedOf g x y va size base ram
@@ -152,7 +144,7 @@ module _ (c : Core) (base : ℕ) (ram : List ℕ) (va size : ℕ) where
       let same = goes_by (first_of (sizedRows c.privilege.level base (length ram) size))
       (hitIn (hintAt c.tlb.cache (hintPlace va Read)) c.privilege va size Read)
       (fastRead base ram (onPage (hintAt c.tlb.cache (hintPlace va Read)).pa va) size c.last_pa) c.last_pa
-      (subst (λ (x : FastLoad). Holds (not x.ends)) is t) in
+      (subst (λ (x : FastLoad). x.ends ≡ false) is t) in
       let hs : length c.tlb.cache.hints ≡ 512 = rw eg.1 at ex.2 in
       let ls : length c.tlb.cache.entries ≡ 1024 = rw eg.1 at ex.3 in
       let work : s ≡ loadedOf (hintedIn c va Read) x₀ y₀ va size base ram = es ∙ rw (ey.0, en, ex.0, ex.1, eg.1, eg.0) in (

@@ -1,7 +1,7 @@
 -- Demand 3 follows from an entry point's exact definition.
-use Rattle.core.specs.Prelude.{◌≡◌, ℕ, zero, suc, List}
-use mathlib.Core.Path.{refl, sym}
-use Rattle.mmu.specs.declared.core.Core.{Core}
+use Rattle.std.specs.Prelude.{◌≡◌, ℕ, zero, suc, List}
+use Rattle.std.proofs.Common.{refl, sym}
+use Rattle.mmu.specs.declared.core_state.Core.{Core}
 use Rattle.cpu.specs.Step.{step_of, ramOf, ramAfter, ends, refusedOr, missedBy}
 use Rattle.operations.specs.declared.{call.Call.Call, call.Reply.Reply}
 use Rattle.operations.specs.declared.call.Call.TheVariants as Call
@@ -17,7 +17,14 @@ module _ (c : Core) (base : ℕ) (ram : List ℕ) (x : Call) (r : Reply) (d : Co
   kept_by zero e = sym e
   kept_by (suc n) e = refl
 
-  -- of a call that leaves RAM as it was
-  pub faithful-kept : ramOf c base ram x ≡ ram → (r ≡ (step_of c base ram x).reply) × (d ≡ (step_of c base ram x).core) → FaithfulCall c base ram x (ends d r) ram
+  -- what a call promises that leaves RAM as it was
+  pub promised : ramOf c base ram x ≡ ram → (r ≡ (step_of c base ram x).reply) × (d ≡ (step_of c base ram x).core)
+      → (r ≡ (step_of c base ram x).reply) × (d ≡ (step_of c base ram x).core) × FaithfulCall c base ram x (ends d r) ram
   unfolding ramAfter
-  faithful-kept kept (er, ed) = faithful-after ram (er, ed, kept_by (missedBy c base ram x) kept)
+  promised kept (er, ed) = (er, ed, faithful-after ram (er, ed, kept_by (missedBy c base ram x) kept))
+
+  -- and of a store
+  pub stored : (after : List ℕ) → (r ≡ (step_of c base ram x).reply) × (d ≡ (step_of c base ram x).core) × (after ≡ ramAfter c base ram x)
+      → (r ≡ (step_of c base ram x).reply) × (d ≡ (step_of c base ram x).core) × (after ≡ ramAfter c base ram x)
+      × FaithfulCall c base ram x (ends d r) after
+  stored after e = (e.0, e.1, e.2, faithful-after after e)

@@ -1,7 +1,7 @@
 -- A store's call: what the checks and the hint say, and what its changes leave, are the call's reply, core and RAM, on plain values.
-use Rattle.core.specs.Prelude.{◌≡◌, ℕ, zero, suc, Bool, true, false, not, ◌&&◌, T as Holds, ltb, leb, List, length}
-use mathlib.Core.Path.{refl, sym, subst, ap, ◌∙◌}
-use native.Mathlib.Omega.{arith}
+use Rattle.std.specs.Prelude.{◌≡◌, ℕ, zero, suc, Bool, true, false, ◌&&◌, not, nat_lt, nat_le, List, length}
+use Rattle.std.proofs.Common.{refl, sym, subst, ap, ◌∙◌}
+use Rattle.std.proofs.Common.{arith}
 use Rattle.word.specs.Bits.{pick}
 use Rattle.word.specs.Ram.{word_at, width_of, bytesIn, within}
 use Rattle.word.specs.declared.{ram.Sized.Sized, ram.Width.Width}
@@ -15,7 +15,7 @@ use Rattle.mmu.specs.Core.{afterAccess}
 use Rattle.operations.specs.Ends.{storeEnd, storeRamEnd}
 use Rattle.mmu.specs.Ops.{locatedNow, writeOf, ramAfterWrite}
 use Rattle.operations.specs.Place.{inPage, verdictOf as judged}
-use Rattle.mmu.specs.declared.core.Core.{Core}
+use Rattle.mmu.specs.declared.core_state.Core.{Core}
 use Rattle.operations.specs.declared.place.Place.TheVariants.{Whole}
 use Rattle.operations.specs.Check.{isWidth, known, passes, sizedRows, first_of, missedOf}
 use Rattle.cpu.specs.Step.{run_of, ramOf, step_of, ramAfter, storeBy, storeRamBy, ends, refusedOr}
@@ -29,35 +29,18 @@ use Rattle.mmu.specs.Parts.{hintedIn, lookupIn, pageIn, commitIn, keptIn}
 use Rattle.operations.specs.Hinted.{hintPlace, hintServes}
 use Rattle.operations.specs.Stores.{fastStoreBy, fastStore, nowReplyBy, nowReply, nowRamBy, nowRam, sizedRam, storeAfter, storedBy, storedOf, storedRamBy}
 use Rattle.operations.specs.Stores.{storedRam}
-use Rattle.lent.proofs.Hits.{size_is, hint-located, sized-is}
+use Rattle.lent.proofs.Hits.{size_is, and_both, hint-located, sized-is}
 use Rattle.lent.proofs.Loads.{left, none_left}
 
 -- a store that passes its checks has a size
-three-zero : ◌≡◌ {A = ℕ} 3 0 → ⊥
-three-zero e = omega (arith, e)
-
-two-zero : ◌≡◌ {A = ℕ} 2 0 → ⊥
-two-zero e = omega (arith, e)
-
-one-zero : ◌≡◌ {A = ℕ} 1 0 → ⊥
-one-zero e = omega (arith, e)
-
 known_by : (h w k : Bool) → ◌≡◌ {A = ℕ} (pick h 1 (pick w 2 (pick (not k) 3 0))) 0 → k ≡ true
-known_by true w k e = absurd (one-zero e)
-known_by false true k e = absurd (two-zero e)
+known_by true w k e = absurd (omega arith)
+known_by false true k e = absurd (omega arith)
 known_by false false true e = refl
-known_by false false false e = absurd (three-zero e)
+known_by false false false e = absurd (omega arith)
 
 known_of : (level base len size : ℕ) → first_of (sizedRows level base len size) ≡ 0 → known size ≡ true
-known_of level base len size e = known_by (ltb 3 level) (passes base len) (known size) e
-
-and_both : (a b : Bool) → (a && b) ≡ true → (a ≡ true) × (b ≡ true)
-and_both true b e = (refl, e)
-and_both false b e = absurd (subst Holds (sym e) tt)
-
-holds-true : (b : Bool) → Holds b → b ≡ true
-holds-true true t = refl
-holds-true false t = absurd t
+known_of level base len size e = known_by (nat_lt 3 level) (passes base len) (known size) e
 
 module _ (c : Core) (base : ℕ) (ram : List ℕ) (va size value : ℕ) where
   abbrev call : Call
@@ -95,7 +78,7 @@ module _ (c : Core) (base : ℕ) (ram : List ℕ) (va size value : ℕ) where
   run = run_of c base ram call
 
   -- a hint that serves in its page, the bytes in RAM
-  by-hint : (h : Hint) (w : Width) → h ≡ hintAt c.tlb.cache (hintPlace va Write) → hintServes h c.privilege va Write ≡ true → leb size (inPage va) ≡ true
+  by-hint : (h : Hint) (w : Width) → h ≡ hintAt c.tlb.cache (hintPlace va Write) → hintServes h c.privilege va Write ≡ true → nat_le size (inPage va) ≡ true
       → within base (length ram) size (onPage h.pa va) ≡ true → width_of size ≡ Bytes w
       → (Done ≡ run.reply) × (c ≡ run.core) × (storeRam base ram (Whole (onPage h.pa va)) (bytesIn w) value ≡ ramOf c base ram call)
   unfolding run_of ramOf writeOf ramAfterWrite storeEnd storeRamEnd judged afterAccess
@@ -109,28 +92,28 @@ module _ (c : Core) (base : ℕ) (ram : List ℕ) (va size value : ℕ) where
       → (hitIn h c.privilege va size Write && within base (length ram) size (onPage h.pa va)) ≡ true
       → (z : Sized) → width_of size ≡ z → isWidth z ≡ true
       → (Done ≡ run.reply) × (c ≡ run.core) × (sizedRam z (onPage h.pa va) base ram value ≡ ramOf c base ram call)
-  sized-ends h eh e NoWidth ez k = absurd (subst Holds (sym k) tt)
+  sized-ends h eh e NoWidth ez k = cc
   sized-ends h eh e (Bytes w) ez k =
       let one = and_both (hitIn h c.privilege va size Write) (within base (length ram) size (onPage h.pa va)) e in
-      let two = and_both (hintServes h c.privilege va Write) (leb size (inPage va)) one.0 in
+      let two = and_both (hintServes h c.privilege va Write) (nat_le size (inPage va)) one.0 in
       by-hint h w eh two.0 two.1 one.1 ez
 
   -- the checks and the hint, by the number of the first check missed
   ends_by : (n : ℕ) (fits : Bool) (h : Hint) → h ≡ hintAt c.tlb.cache (hintPlace va Write)
       → first_of (sizedRows c.privilege.level base (length ram) size) ≡ n
       → (hitIn h c.privilege va size Write && within base (length ram) size (onPage h.pa va)) ≡ fits
-      → Holds (fastStoreBy n fits (onPage h.pa va)).ends
+      → (fastStoreBy n fits (onPage h.pa va)).ends ≡ true
       → (nowReplyBy (fastStoreBy n fits (onPage h.pa va)).refused ≡ (refusedOr n (λ k. ends c (Refused k)) run).reply)
       × (c ≡ (refusedOr n (λ k. ends c (Refused k)) run).core)
       × (nowRamBy (fastStoreBy n fits (onPage h.pa va)).refused ram (sizedRam (width_of size) (fastStoreBy n fits (onPage h.pa va)).pa base ram value)
       ≡ refusedOr n (λ k. ram) (ramOf c base ram call))
-  ends_by zero fits h eh en ef t = sized-ends h eh (ef ∙ holds-true fits t) (width_of size) refl (known_of c.privilege.level base (length ram) size en)
+  ends_by zero fits h eh en ef t = sized-ends h eh (ef ∙ t) (width_of size) refl (known_of c.privilege.level base (length ram) size en)
   ends_by (suc n) fits h eh en ef t = (refl, refl, refl)
 
-  goes_by : (n : ℕ) (fits : Bool) (pa : ℕ) → Holds (not (fastStoreBy n fits pa).ends)
+  goes_by : (n : ℕ) (fits : Bool) (pa : ℕ) → (fastStoreBy n fits pa).ends ≡ false
       → (run ≡ refusedOr n (λ k. ends c (Refused k)) run) × (ramOf c base ram call ≡ refusedOr n (λ k. ram) (ramOf c base ram call))
   goes_by zero fits pa t = (refl, refl)
-  goes_by (suc n) fits pa t = absurd t
+  goes_by (suc n) fits pa t = cc
 
   abbrev quick : FastStore
   quick = fastStore c.privilege (hintAt c.tlb.cache (hintPlace va Write)) base (length ram) va size
@@ -140,19 +123,19 @@ module _ (c : Core) (base : ℕ) (ram : List ℕ) (va size value : ℕ) where
 
   pub store-ended-is : (g : Hinted) (c₁ : Core) (q : FastStore) (r : Reply) (ys : List ℕ) → (g ≡ hintedIn c va Write) × (c₁ ≡ c) → q
       ≡ fastStore g.privilege g.hint base (length ram) va size
-      → Holds q.ends → (r ≡ nowReply q) × (ys ≡ nowRam q base ram size value) → Step r c₁ ys
+      → q.ends ≡ true → (r ≡ nowReply q) × (ys ≡ nowRam q base ram size value) → Step r c₁ ys
   unfolding fastStore step_of ramAfter missedOf nowRam
   store-ended-is g c₁ q r ys eg eq t (er, ey) =
       let is : q ≡ quick = eq ∙ rw eg.0 in
       let h = hintAt c.tlb.cache (hintPlace va Write) in
       let right = ends_by (first_of (sizedRows c.privilege.level base (length ram) size))
       (hitIn h c.privilege va size Write && within base (length ram) size (onPage h.pa va)) h
-      refl refl refl (subst (λ (x : FastStore). Holds x.ends) is t) in
+      refl refl refl (subst (λ (x : FastStore). x.ends ≡ true) is t) in
       (er ∙ ap (λ (x : FastStore). nowReply x) is ∙ right.0, eg.1 ∙ right.1, ey ∙ ap (λ (x : FastStore). nowRam x base ram size value) is ∙ right.2)
 
   pub store-committed-is : (g : Hinted) (c₁ : Core) (q : FastStore) (x : Page) (c₂ : Core) (next : ℕ) (y : Page) (c₃ : Core) (s : Access) (ys : List ℕ)
       (c₄ c₅ c₆ : Core) → (g ≡ hintedIn c va Write) × (c₁ ≡ c)
-      → q ≡ fastStore g.privilege g.hint base (length ram) va size → Holds (not q.ends)
+      → q ≡ fastStore g.privilege g.hint base (length ram) va size → q.ends ≡ false
       → (x ≡ pageIn c₁ va Write) × (c₂ ≡ c₁) × (length c₁.tlb.cache.hints ≡ 512) × (length c₁.tlb.cache.entries ≡ 1024) → next ≡ secondIn x va size
       → (y ≡ pageIn c₂ next Write) × (c₃ ≡ c₂) × (length c₂.tlb.cache.hints ≡ 512) × (length c₂.tlb.cache.entries ≡ 1024)
       → (s ≡ storedOf g x y va size base ram) × (ys ≡ storedRam x y va size value base ram)
@@ -163,7 +146,7 @@ module _ (c : Core) (base : ℕ) (ram : List ℕ) (va size value : ℕ) where
       let h = hintAt c.tlb.cache (hintPlace va Write) in
       let same = goes_by (first_of (sizedRows c.privilege.level base (length ram) size))
       (hitIn h c.privilege va size Write && within base (length ram) size (onPage h.pa va)) (onPage h.pa va)
-      (subst (λ (x : FastStore). Holds (not x.ends)) is t) in
+      (subst (λ (x : FastStore). x.ends ≡ false) is t) in
       let hs : length c.tlb.cache.hints ≡ 512 = rw eg.1 at ex.2 in
       let ls : length c.tlb.cache.entries ≡ 1024 = rw eg.1 at ex.3 in
       let work : s ≡ storedOf (hintedIn c va Write) x₀ y₀ va size base ram = es.0 ∙ rw (ey.0, en, ex.0, ex.1, eg.1, eg.0) in (

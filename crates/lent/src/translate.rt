@@ -1,10 +1,10 @@
 // A translation on a lent core.
-ghost use Rattle.core.specs.Prelude.{◌≡◌};
+ghost use Rattle.std.specs.Prelude.{◌≡◌};
 ghost use Rattle.cpu.specs.Step.{step_of, ends};
 ghost use Rattle.operations.specs.declared.call.Call.TheVariants as Call;
 ghost use Rattle.transparency.specs.Faithful.{FaithfulCall};
 
-use mmu::core::Core;
+use mmu::core_state::Core;
 use operations::call::Reply;
 use operations::{change, hinted};
 use tlb::access::Kind;

@@ -1,3 +1,4 @@
+#![tactic(auto)]
 // A loop that lends one core to `translate` n times, to time it beside the Rust. Nothing else uses it.
 ghost use Rattle.std.specs.Prelude.{◌≡◌};
 ghost use Rattle.lent_bench.specs.Many.{measured};
@@ -8,8 +9,7 @@ pub mod setup;
 pub mod sum;
 
 // A fresh core with these SCTLR_EL1, TCR_EL1, TTBR0_EL1 and level translates the first address, and then the two in
-// turn, n times: the sum
-// over the answers of these.
+// turn, n times: the sum over the answers of these.
 #[unsafe(no_mangle)]
 pub extern "C" fn a72_lent_translate(
     n: u64,

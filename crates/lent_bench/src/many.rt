@@ -4,14 +4,15 @@ ghost use Rattle.lent_bench.specs.Many.{coreAfter, sumAfter, warmed};
 
 use crate::sum;
 use lent::translate;
-use mmu::core::Core;
+use mmu::core_state::Core;
 use tlb::access::Kind;
 
 // The first address once, so that the loop goes on from there; then two addresses in turn, n times: the sum over the
-// answers. With two
-// places that call it, `translate` stays a function of its own, as the Rust's is where the two are timed.
+// answers. With two places that call it, `translate` stays a function of its own, as the Rust's is where the two are
+// timed.
 pub fn many(core: &mut Core, base: u64, ram: &[u8], n: u64, even: u64, odd: u64, kind: Kind) -> u64
-    ensures { (result ≡ sumAfter (warmed core.old base ram.now even kind) base ram.now even odd kind n) × (core.new ≡ coreAfter (warmed core.old base ram.now even kind) base ram.now even odd kind n) }
+    ensures { (result ≡ sumAfter (warmed core.old base ram.now even kind) base ram.now even odd kind n)
+        × (core.new ≡ coreAfter (warmed core.old base ram.now even kind) base ram.now even odd kind n) }
 {
     let first = translate::translate(core, base, ram, even, kind);
     let mut i = 0;

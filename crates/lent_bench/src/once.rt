@@ -3,7 +3,7 @@ ghost use Rattle.std.specs.Prelude.{◌≡◌};
 ghost use Rattle.lent_bench.specs.Many.{sumAfter, warmed};
 
 use crate::many;
-use mmu::core::Core;
+use mmu::core_state::Core;
 use tlb::access::Kind;
 
 pub fn once(c: Core, base: u64, ram: &[u8], n: u64, even: u64, odd: u64, kind: Kind) -> u64

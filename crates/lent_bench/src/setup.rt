@@ -2,7 +2,7 @@
 ghost use Rattle.std.specs.Prelude.{◌≡◌};
 ghost use Rattle.lent_bench.specs.Many.{kind_of, setUp};
 
-use mmu::core::Core;
+use mmu::core_state::Core;
 use sysreg::regs::Control;
 use tlb::access::{Kind, Privilege};
 

@@ -1,8 +1,9 @@
+#![tactic(auto)]
 // The parts of a core that is lent, read and stored where they lie.
-ghost use Rattle.core.specs.Prelude.{◌≡◌, length};
+ghost use Rattle.std.specs.Prelude.{◌≡◌, length};
 ghost use Rattle.mmu.specs.Parts.{hintedIn, pageIn, commitIn, keptIn};
 
-use mmu::core::Core;
+use mmu::core_state::Core;
 use operations::change::{Change, Hinted, Page};
 use operations::{change, hinted, lookup};
 use tlb::access::Kind;
