@@ -16,7 +16,7 @@ use Rattle.mmu.specs.Core.{afterAccess}
 use Rattle.operations.specs.Ends.{fetchEnd, reachedBy}
 use Rattle.operations.specs.Bytes.{insnOf}
 use Rattle.mmu.specs.Ops.{withTlb, fetchSteppedNow, translateOf, dataPaOf, fetchPaOf, fetchOf}
-use Rattle.mmu.specs.declared.core.Core.{Core}
+use Rattle.mmu.specs.declared.core_state.Core.{Core}
 use Rattle.operations.specs.declared.bytes.Insn.{Insn}
 use Rattle.operations.specs.declared.bytes.Insn.TheVariants as Insn
 use Rattle.operations.specs.Replies.{translation, reaching}
@@ -74,13 +74,6 @@ module _ (ws : List ℕ) (base : ℕ) (ram : List ℕ) (va : ℕ) (kind : Kind) 
       (translation-tells ws base part va kind n old v xs (by-find-code ws memory va kind p ep n e en) (by-find-value ws memory va kind p ep v old e ev)
       (by-find-core ws memory va kind p ep xs e m))
 
--- a fault without its status
-pub without-status-zero : (n : ℕ) → n ≡ 0 → ◌≡◌ {A = ℕ} 0 (pick (eqb n 0) 0 256)
-without-status-zero n e = sym (rw e)
-
-pub without-status-other : (n : ℕ) → (n ≡ 0 → ⊥) → ◌≡◌ {A = ℕ} 256 (pick (eqb n 0) 0 256)
-without-status-other n h = sym (rw (ne_eqb n 0 h))
-
 without-status-code : (a : Answer) (n r : ℕ) → n ≡ code_of a → r ≡ pick (eqb n 0) 0 256 → r ≡ codeBy (reaching (reachedBy a))
 without-status-code (Address pa) n r e q = q ∙ ap (λ (k : ℕ). pick (eqb k 0) 0 256) e
 without-status-code (Status f) n r e q = q ∙ rw (e, ne_eqb (256 + f.fsc) 0 (λ z. omega arith))
@@ -127,11 +120,6 @@ module _ (ws : List ℕ) (base : ℕ) (ram : List ℕ) (pa : ℕ) (i : Insn) (ei
   pub insn-value : (v : ℕ) → i ≡ Insn.Value v → FetchTells pa base ram ws 0 old v ws
   unfolding fetchEnds fetchEnd withAbort afterAccess
   insn-value v e = record { by = λ va. rw (← ei, e) (record { code = refl; value = refl; words = stays; kept = kept_same 0 ws }) }
-
-  pub insn-outside : (xs : List ℕ) → i ≡ Insn.Outside → NowHolds ws xs (withAbort (core_of ws) pa) → FetchTells pa base ram ws (256 + 0x10) old old xs
-  unfolding fetchEnds fetchEnd
-  insn-outside xs e m =
-      record { by = λ va. rw (← ei, e) (record { code = refl; value = refl; words = m; kept = record { same = λ l h. absurd (omega arith) } }) }
 
 module _ (ws : List ℕ) (base : ℕ) (ram : List ℕ) (va : ℕ) (p : HintAnswer) (ep : p ≡ fetchHint (core_of ws) va) where
   pub fetch-hint-tells : (pa n old v : ℕ) (xs : List ℕ) → p ≡ At pa → FetchTells pa base ram ws n old v xs

@@ -7,13 +7,13 @@ use native.Mathlib.Omega.{arith}
 use borrow.Author.Tests.{ne_eqb, eqb-true}
 use lib.Dec.{eqb}
 use lib.ListN.{length}
-use Rattle.word.specs.Ram.{word_at, bytesIn, within, stored, width_of}
+use Rattle.word.specs.Ram.{bytesIn, within, stored, width_of}
 use Rattle.word.specs.declared.{ram.Width.Width, ram.Sized.Sized, ram.Word.Word}
 use Rattle.word.specs.declared.ram.Sized.TheVariants.{Bytes, Refused as NoWidth}
 use Rattle.word.specs.declared.ram.Word.TheVariants.{Value as Bits, Outside}
 use Rattle.mmu.specs.Core.{afterAccess}
 use Rattle.mmu.specs.Ops.{read_of, writeOf, ramAfterWrite}
-use Rattle.mmu.specs.declared.core.Core.{Core}
+use Rattle.mmu.specs.declared.core_state.Core.{Core}
 use Rattle.operations.specs.declared.ends.LoadAnswer.TheVariants as Load
 use Rattle.operations.specs.declared.ends.StoreAnswer.TheVariants as Store
 use Rattle.operations.specs.Check.{missedOf, isWidth}
@@ -23,7 +23,7 @@ use Rattle.operations.specs.declared.call.Call.TheVariants as Call
 use Rattle.operations.specs.declared.call.Reply.TheVariants.{Value}
 use Rattle.words.specs.Parts.{with_last, withAbort}
 use Rattle.words_memory.specs.Accessed.{keptLast, keptAbort}
-use Rattle.a72abi.specs.Quick.{Clear, sizedIn, sizedAt, madeIn, sizedMade, ramIn, sizedRam}
+use Rattle.a72abi.specs.Quick.{Clear, madeIn, sizedMade, ramIn, sizedRam}
 use Rattle.a72abi.proofs.Passing.{clear-sized, passed, passed-ram}
 
 -- SIZES
@@ -62,64 +62,9 @@ no_size size a b c d = rw (ne_eqb size 1 a, ne_eqb size 2 b, ne_eqb size 4 c, ne
 pub high-size : (size : ℕ) → 4 < size → (size ≡ 8 → ⊥) → width_of size ≡ NoWidth
 high-size size h n = no_size size (λ e. omega arith) (λ e. omega arith) (λ e. omega arith) n
 
-pub low-size : (size : ℕ) → size ≤ 4 → (size ≡ 4 → ⊥) → (size ≡ 2 → ⊥) → (size ≡ 1 → ⊥) → width_of size ≡ NoWidth
-low-size size h a b c = no_size size c b a (λ e. omega arith)
-
 module _ (base : ℕ) (ram : List ℕ) (pa : ℕ) where
-  -- the tests of the code
-  pub read-8 : (size : ℕ) (r : Word) → size ≡ 8 → r ≡ word_at base ram 8 pa → r ≡ sizedAt base ram size pa
-  read-8 size r e q = q ∙ sym (ap (λ (n : ℕ). sizedAt base ram n pa) e)
-
-  pub read-4 : (size : ℕ) (r : Word) → size ≡ 4 → r ≡ word_at base ram 4 pa → r ≡ sizedAt base ram size pa
-  read-4 size r e q = q ∙ sym (ap (λ (n : ℕ). sizedAt base ram n pa) e)
-
-  pub read-2 : (size : ℕ) (r : Word) → size ≡ 2 → r ≡ word_at base ram 2 pa → r ≡ sizedAt base ram size pa
-  read-2 size r e q = q ∙ sym (ap (λ (n : ℕ). sizedAt base ram n pa) e)
-
-  pub read-1 : (size : ℕ) (r : Word) → size ≡ 1 → r ≡ word_at base ram 1 pa → r ≡ sizedAt base ram size pa
-  read-1 size r e q = q ∙ sym (ap (λ (n : ℕ). sizedAt base ram n pa) e)
-
-  pub read-high : (size : ℕ) → 4 < size → (size ≡ 8 → ⊥) → Outside ≡ sizedAt base ram size pa
-  read-high size h n = sym (ap (λ (s : Sized). sizedIn s base ram pa) (high-size size h n))
-
-  pub read_low : (size : ℕ) → size ≤ 4 → (size ≡ 4 → ⊥) → (size ≡ 2 → ⊥) → (size ≡ 1 → ⊥) → Outside ≡ sizedAt base ram size pa
-  read_low size h a b c = sym (ap (λ (s : Sized). sizedIn s base ram pa) (low-size size h a b c))
-
-  pub made-8 : (size : ℕ) (r : Bool) → size ≡ 8 → r ≡ within base (length ram) 8 pa → r ≡ sizedMade base ram size pa
-  made-8 size r e q = q ∙ sym (ap (λ (n : ℕ). sizedMade base ram n pa) e)
-
-  pub ram-8 : (size v : ℕ) (ys : List ℕ) → size ≡ 8 → ys ≡ stored base ram 8 pa v → ys ≡ sizedRam base ram size pa v
-  ram-8 size v ys e y = y ∙ sym (ap (λ (n : ℕ). sizedRam base ram n pa v) e)
-
-  pub made-4 : (size : ℕ) (r : Bool) → size ≡ 4 → r ≡ within base (length ram) 4 pa → r ≡ sizedMade base ram size pa
-  made-4 size r e q = q ∙ sym (ap (λ (n : ℕ). sizedMade base ram n pa) e)
-
-  pub ram-4 : (size v : ℕ) (ys : List ℕ) → size ≡ 4 → ys ≡ stored base ram 4 pa v → ys ≡ sizedRam base ram size pa v
-  ram-4 size v ys e y = y ∙ sym (ap (λ (n : ℕ). sizedRam base ram n pa v) e)
-
-  pub made-2 : (size : ℕ) (r : Bool) → size ≡ 2 → r ≡ within base (length ram) 2 pa → r ≡ sizedMade base ram size pa
-  made-2 size r e q = q ∙ sym (ap (λ (n : ℕ). sizedMade base ram n pa) e)
-
-  pub ram-2 : (size v : ℕ) (ys : List ℕ) → size ≡ 2 → ys ≡ stored base ram 2 pa v → ys ≡ sizedRam base ram size pa v
-  ram-2 size v ys e y = y ∙ sym (ap (λ (n : ℕ). sizedRam base ram n pa v) e)
-
-  pub made-1 : (size : ℕ) (r : Bool) → size ≡ 1 → r ≡ within base (length ram) 1 pa → r ≡ sizedMade base ram size pa
-  made-1 size r e q = q ∙ sym (ap (λ (n : ℕ). sizedMade base ram n pa) e)
-
-  pub ram-1 : (size v : ℕ) (ys : List ℕ) → size ≡ 1 → ys ≡ stored base ram 1 pa v → ys ≡ sizedRam base ram size pa v
-  ram-1 size v ys e y = y ∙ sym (ap (λ (n : ℕ). sizedRam base ram n pa v) e)
-
-  pub made-high : (size : ℕ) → 4 < size → (size ≡ 8 → ⊥) → false ≡ sizedMade base ram size pa
-  made-high size h n = sym (ap (λ (s : Sized). madeIn s base ram pa) (high-size size h n))
-
   pub ram-high : (size v : ℕ) → 4 < size → (size ≡ 8 → ⊥) → ram ≡ sizedRam base ram size pa v
   ram-high size v h n = sym (ap (λ (s : Sized). ramIn s base ram pa v) (high-size size h n))
-
-  pub made-low : (size : ℕ) → size ≤ 4 → (size ≡ 4 → ⊥) → (size ≡ 2 → ⊥) → (size ≡ 1 → ⊥) → false ≡ sizedMade base ram size pa
-  made-low size h a b c = sym (ap (λ (s : Sized). madeIn s base ram pa) (low-size size h a b c))
-
-  pub ram-low : (size v : ℕ) → size ≤ 4 → (size ≡ 4 → ⊥) → (size ≡ 2 → ⊥) → (size ≡ 1 → ⊥) → ram ≡ sizedRam base ram size pa v
-  ram-low size v h a b c = sym (ap (λ (s : Sized). ramIn s base ram pa v) (low-size size h a b c))
 
 pub and-false : (x : Bool) → x && false ≡ false
 and-false true = refl

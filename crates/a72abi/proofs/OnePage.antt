@@ -25,7 +25,7 @@ use Rattle.operations.specs.Bytes.{storeRam}
 use Rattle.operations.specs.Ends.{loadEnd, storeEnd, storeRamEnd}
 use Rattle.mmu.specs.Ops.{locatedNow, translateOf, translateAccessOf, read_of, writeOf, ramAfterWrite}
 use Rattle.operations.proofs.Moves.{whole-value, whole-abort, whole-inside, whole-outside}
-use Rattle.mmu.specs.declared.{core.Core.Core, ops.Accessed.Accessed, ops.Translated.Translated}
+use Rattle.mmu.specs.declared.{core_state.Core.Core, ops.Accessed.Accessed, ops.Translated.Translated}
 use Rattle.operations.specs.declared.place.Place.TheVariants.{Whole}
 use Rattle.operations.specs.declared.{place.Placed.Placed, ends.LoadAnswer.LoadAnswer, ends.StoreAnswer.StoreAnswer}
 use Rattle.operations.specs.declared.place.Placed.TheVariants.{At, Fault}

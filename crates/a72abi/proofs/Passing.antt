@@ -10,7 +10,7 @@ use lib.ListN.{length}
 use Rattle.word.specs.Ram.{width_of}
 use Rattle.word.specs.declared.ram.Sized.{Sized}
 use Rattle.word.specs.declared.ram.Sized.TheVariants.{Bytes, Refused as NoWidth}
-use Rattle.mmu.specs.declared.core.Core.{Core}
+use Rattle.mmu.specs.declared.core_state.Core.{Core}
 use Rattle.operations.specs.Check.{ramRows, sizedRows, first_of, missedOf, passes, isWidth, known}
 use Rattle.cpu.specs.Step.{run_of, ramOf, step_of, ramAfter, ends, loadBy}
 use Rattle.operations.specs.declared.{call.Call.Call, call.Reply.Reply}

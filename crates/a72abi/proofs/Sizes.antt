@@ -8,11 +8,10 @@ use Rattle.word.specs.Ram.{word_at, bytesIn, width_of, within}
 use Rattle.word.specs.declared.{ram.Width.Width, ram.Sized.Sized, ram.Word.Word}
 use Rattle.word.specs.declared.ram.Sized.TheVariants.{Bytes, Refused as NoWidth}
 use Rattle.word.specs.declared.ram.Word.TheVariants as Word
-use Rattle.tlb.specs.declared.{access.Kind.Kind, hint.HintAnswer.HintAnswer}
+use Rattle.tlb.specs.declared.{hint.HintAnswer.HintAnswer}
 use Rattle.tlb.specs.declared.access.Kind.TheVariants.{Read, Write}
-use Rattle.tlb.specs.declared.hint.HintAnswer.TheVariants.{At as Hinted, Unknown}
+use Rattle.tlb.specs.declared.hint.HintAnswer.TheVariants.{At as Hinted}
 use Rattle.operations.specs.Place.{inPage}
-use Rattle.mmu.specs.declared.{core.Core.Core}
 use Rattle.cpu.specs.Step.{run_of, ramOf, ramAfter}
 use Rattle.operations.specs.declared.call.Call.TheVariants as Call
 use Rattle.a72abi.specs.Promise.{Gives}
@@ -83,12 +82,6 @@ module _ (ws : List ℕ) (base : ℕ) (ram : List ℕ) (va size : ℕ) where
 
       pub near-width : (k : ℕ) → k ≡ inPage va → size ≤ k → bytesIn w ≤ inPage va
       near-width k ek h = rw (← counts, ← ek) h
-
-pub near-page : (va size k : ℕ) → k ≡ inPage va → size ≤ k → size ≤ inPage va
-near-page va size k e h = rw (← e) h
-
-pub hint-none : (c : Core) (va : ℕ) (kind : Kind) (p : HintAnswer) → p ≡ hintFound c va kind → p ≡ Unknown → hintFound c va kind ≡ Unknown
-hint-none c va kind p e q = sym e ∙ q
 
 -- BY THE HINT AND A SIZE
 

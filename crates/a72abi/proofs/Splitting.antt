@@ -19,7 +19,7 @@ use Rattle.operations.specs.AtOnce.{bothInside, bothAt, bothStored}
 use Rattle.operations.specs.Ends.{loadEnd, storeEnd, storeRamEnd}
 use Rattle.mmu.specs.Ops.{translateOf, translateAccessOf, read_of, writeOf, ramAfterWrite}
 use Rattle.operations.proofs.Both.{both-loads, both-judged, both-stores}
-use Rattle.mmu.specs.declared.{core.Core.Core, ops.Accessed.Accessed, ops.Translated.Translated}
+use Rattle.mmu.specs.declared.{core_state.Core.Core, ops.Accessed.Accessed, ops.Translated.Translated}
 use Rattle.operations.specs.declared.{place.Place.Place, ends.LoadEnd.LoadEnd, ends.StoreEnd.StoreEnd}
 use Rattle.operations.specs.declared.place.Place.TheVariants.{Split as Parts}
 use Rattle.operations.specs.declared.place.Placed.TheVariants as Placed
@@ -273,16 +273,3 @@ module _ (ws : List ℕ) (base : ℕ) (ram : List ℕ) (va size : ℕ) (h : leng
       pub unsplit-ram : (zs : List ℕ) → zs ≡ ramAfter (core_of ws) base ys (Call.Store va size value) → zs
           ≡ ramAfter (core_of ws) base ram (Call.Store va size value)
       unsplit-ram = same-ram ws base ram va size value 0 0 0 ys ws unsplit
-
--- a size by its number
-module _ (ws : List ℕ) (base : ℕ) (ram : List ℕ) (va size n : ℕ) (e : size ≡ n) (k old v : ℕ) (xs : List ℕ) where
-  pub same_load : Gives (Known (Call.Load va n)) base ram ws k old v xs → Gives (Known (Call.Load va size)) base ram ws k old v xs
-  same_load g = rw e g
-
-  pub same_store : (value : ℕ) → Gives (Known (Call.Store va n value)) base ram ws k old v xs → Gives (Known (Call.Store va size value)) base ram ws k old v xs
-  same_store value g = rw e g
-
-pub same-store-ram : (ws : List ℕ) (base : ℕ) (ram : List ℕ) (va size n value : ℕ) (ys : List ℕ) → size ≡ n → ys
-    ≡ ramAfter (core_of ws) base ram (Call.Store va n value)
-    → ys ≡ ramAfter (core_of ws) base ram (Call.Store va size value)
-same-store-ram ws base ram va size n value ys e q = rw e q

@@ -24,7 +24,7 @@ use Rattle.operations.specs.Place.{verdictOf}
 use Rattle.operations.specs.Bytes.{load_of, insnOf}
 use Rattle.operations.specs.Ends.{external, loadedFrom, loadEnd, storeEndBy, storeEnd, fetchedFrom, fetchEnd}
 use Rattle.mmu.specs.Ops.{locatedNow, fetchSteppedNow, translateOf, dataPaOf, fetchPaOf, read_of, writeOf, fetchOf}
-use Rattle.mmu.specs.declared.core.Core.{Core}
+use Rattle.mmu.specs.declared.core_state.Core.{Core}
 use Rattle.operations.specs.declared.{place.Placed.Placed, place.Verdict.Verdict, bytes.Got.Got, bytes.Insn.Insn}
 use Rattle.operations.specs.declared.{ends.Reached.Reached, call.Call.Call, call.Reply.Reply}
 use Rattle.operations.specs.declared.place.Placed.TheVariants.{At, Fault as NotPlaced}
@@ -34,8 +34,7 @@ use Rattle.operations.specs.declared.bytes.Insn.TheVariants as Insn
 use Rattle.operations.specs.declared.ends.Reached.TheVariants as Reach
 use Rattle.operations.specs.Check.{missedOf, passes, known}
 use Rattle.operations.specs.Replies.{translation, reaching, loading, storing, fetching}
-use Rattle.cpu.specs.Step.{loadBy, storeBy, refusedOr, missedBy, run_of, step_of, ramAfter, ends}
-use Rattle.cpu.specs.Demand1.{writes, quiet}
+use Rattle.cpu.specs.Step.{loadBy, storeBy, refusedOr, missedBy, run_of, step_of, ends}
 use Rattle.operations.specs.declared.call.Call.TheVariants as Call
 use Rattle.operations.specs.declared.call.Reply.TheVariants.{Refused, Done, Value, Faults, Fault, Stopped}
 use Rattle.cpu.specs.declared.run.Stepped.{Stepped}
@@ -47,7 +46,7 @@ use Rattle.a72abi.specs.Kept.{unmoved}
 use Rattle.a72abi.specs.Inside.{Steps}
 use Rattle.a72abi.specs.Promise.{Promise, Setting, Runs, Gives}
 use Rattle.a72abi.specs.PromiseLaws.{tag-unmoved}
-use Rattle.call_words.specs.Replies.{codeBy, valueBy, wordsBy, four, wordsFrom}
+use Rattle.call_words.specs.Replies.{codeBy, valueBy, wordsBy, wordsFrom}
 use Rattle.a72abi.proofs.Checking.{refused-reply, run-reply}
 use Rattle.call_words.specs.declared.{op.DecodedCall.DecodedCall, op.DecodedException.DecodedException}
 use Rattle.call_words.specs.declared.op.DecodedCall.TheVariants as DecodedCall
@@ -278,15 +277,6 @@ bare c base ram (Call.Abort x) e = refl
 bare c base ram (Call.Census first pages) e = never e
 
 module _ (ws : List ℕ) (base : ℕ) (ram : List ℕ) (call x : Call) (e : call ≡ x) where
-  pub call-steps : (w xs : List ℕ) → Steps x base ram ws w xs → Steps call base ram ws w xs
-  call-steps w xs s = rw e s
-
-  pub call-ram : (ys : List ℕ) → ys ≡ ramAfter (core_of ws) base ram x → ys ≡ ramAfter (core_of ws) base ram call
-  call-ram ys q = rw e q
-
-  pub call-quiet : writes (core_of ws) x ≡ false → ram ≡ ramAfter (core_of ws) base ram call
-  call-quiet q = rw e (sym (quiet (core_of ws) base ram x q))
-
   module _ (r : Reply) (w xs : List ℕ) (ew : w ≡ wordsBy r) where
     pub run-steps : Runs x base ram ws r xs → Steps call base ram ws w xs
     run-steps g =

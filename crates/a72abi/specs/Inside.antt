@@ -4,7 +4,7 @@ use Rattle.word.specs.Bits.{pick}
 use Rattle.tlb.specs.declared.access.Answer.{Answer}
 use Rattle.tlb.specs.declared.access.Answer.TheVariants.{Address}
 use Rattle.operations.specs.Ends.{fetchEnd}
-use Rattle.mmu.specs.declared.core.Core.{Core}
+use Rattle.mmu.specs.declared.core_state.Core.{Core}
 use Rattle.operations.specs.declared.{place.Placed.Placed, call.Call.Call}
 use Rattle.operations.specs.Replies.{loading, storing, fetching}
 use Rattle.cpu.specs.Step.{ends, step_of}

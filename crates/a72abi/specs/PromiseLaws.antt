@@ -18,7 +18,7 @@ use Rattle.sysop.specs.declared.op.SysOp.{SysOp}
 use Rattle.sysop.specs.declared.op.SysOp.TheVariants as SysOp
 use Rattle.mmu.specs.Core.{reg_of}
 use Rattle.mmu.specs.Ops.{writeOf}
-use Rattle.mmu.specs.declared.core.Core.{Core}
+use Rattle.mmu.specs.declared.core_state.Core.{Core}
 use Rattle.operations.specs.declared.{ends.StoreAnswer.StoreAnswer, call.Call.Call, call.Reply.Reply}
 use Rattle.exec.specs.Ops.{writeRegister}
 use Rattle.exec.specs.Sys.{zero_of, sysBy, sysRamBy, op_of, sysOf, sysRam}

@@ -5,7 +5,7 @@ use Rattle.word.specs.Ram.{bytesIn, within, word_at, stored, width_of}
 use Rattle.word.specs.declared.{ram.Sized.Sized, ram.Word.Word}
 use Rattle.word.specs.declared.ram.Sized.TheVariants.{Bytes, Refused as NoWidth}
 use Rattle.word.specs.declared.ram.Word.TheVariants.{Outside}
-use Rattle.mmu.specs.declared.core.Core.{Core}
+use Rattle.mmu.specs.declared.core_state.Core.{Core}
 
 -- a level up to 3, and a window that ends below the last address
 unfoldable pub clearOf : Core → ℕ → ℕ → Bool

@@ -10,7 +10,7 @@ use Rattle.tlb.specs.declared.hint.HintAnswer.TheVariants.{At, Unknown}
 use Rattle.mmu.specs.Core.{bankNow}
 use Rattle.operations.specs.Place.{inPage, nextPage, crosses}
 use Rattle.operations.specs.AtOnce.{bothInside, bothAt, bothStored}
-use Rattle.mmu.specs.declared.core.Core.{Core}
+use Rattle.mmu.specs.declared.core_state.Core.{Core}
 use Rattle.operations.specs.declared.place.Pages.{Pages}
 use Rattle.words_memory.specs.Found.{hintFound}
 use Rattle.a72abi.specs.Quick.{clearOf}

@@ -1,6 +1,6 @@
 -- A call by its words: what is given where they name one; else 64, and nothing changes.
 use Rattle.std.specs.Prelude.{List, ℕ}
-use Rattle.mmu.specs.declared.core.Core.{Core}
+use Rattle.mmu.specs.declared.core_state.Core.{Core}
 use Rattle.cpu.specs.Step.{step_of, ramAfter}
 use Rattle.call_words.specs.Replies.{codeBy, valueBy, wordsBy}
 use Rattle.call_words.specs.declared.op.DecodedCall.{DecodedCall}

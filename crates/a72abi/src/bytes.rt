@@ -91,15 +91,7 @@ fn load_across(state: &mut State, va: u64, size: u64, ans: &mut u64, base: u64, 
 }
 
 // A load of 1, 2, 4 or 8 bytes.
-#[unsafe(no_mangle)]
-pub extern "C" fn a72_load(
-    state: &mut State,
-    va: u64,
-    size: u64,
-    ans: &mut u64,
-    base: u64,
-    ram: &[u8],
-) -> u64
+pub fn a72_load(state: &mut State, va: u64, size: u64, ans: &mut u64, base: u64, ram: &[u8]) -> u64
     ensures { Promise (DecodedCall.Known (Call.Load va size)) base ram.now state.old result
         ans.old ans.new ram.now state.new }
 {
@@ -176,8 +168,7 @@ fn store_across(
 }
 
 // A store of the low 1, 2, 4 or 8 bytes of a value.
-#[unsafe(no_mangle)]
-pub extern "C" fn a72_store(
+pub fn a72_store(
     state: &mut State,
     va: u64,
     size: u64,

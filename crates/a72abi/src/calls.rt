@@ -18,16 +18,14 @@ use tlb::access::Kind;
 use words::place::State;
 
 // Every word written: the core after reset.
-#[unsafe(no_mangle)]
-pub extern "C" fn a72_fresh(state: &mut State)
+pub fn a72_fresh(state: &mut State)
     ensures { core_of state.new ≡ freshCore }
 {
     words::fresh::fresh(state);
 }
 
 // A system operation: SYS op1, CRn, CRm, op2 with the register rt.
-#[unsafe(no_mangle)]
-pub extern "C" fn a72_system(
+pub fn a72_system(
     state: &mut State,
     op1: u64,
     crn: u64,
@@ -53,8 +51,7 @@ pub extern "C" fn a72_system(
 }
 
 // A register write.
-#[unsafe(no_mangle)]
-pub extern "C" fn a72_register(state: &mut State, key: u64, value: u64) -> u64
+pub fn a72_register(state: &mut State, key: u64, value: u64) -> u64
     ensures { Setting (DecodedCall.Known (Call.Register (key_of key) value)) state.old result
         state.new }
 {
@@ -63,16 +60,14 @@ pub extern "C" fn a72_register(state: &mut State, key: u64, value: u64) -> u64
     reply::number(r)
 }
 
-#[unsafe(no_mangle)]
-pub extern "C" fn a72_level(state: &mut State, level: u64) -> u64
+pub fn a72_level(state: &mut State, level: u64) -> u64
     ensures { Setting (DecodedCall.Known (Call.Level level)) state.old result state.new }
 {
     let r = checked::level(state, level);
     reply::number(r)
 }
 
-#[unsafe(no_mangle)]
-pub extern "C" fn a72_general(state: &mut State, number: u64, value: u64) -> u64
+pub fn a72_general(state: &mut State, number: u64, value: u64) -> u64
     ensures { Setting (DecodedCall.Known (Call.General number value)) state.old result
         state.new }
 {
@@ -81,8 +76,7 @@ pub extern "C" fn a72_general(state: &mut State, number: u64, value: u64) -> u64
 }
 
 // The mark, 0 or 1.
-#[unsafe(no_mangle)]
-pub extern "C" fn a72_mark(state: &mut State, mark: u64) -> u64
+pub fn a72_mark(state: &mut State, mark: u64) -> u64
     ensures { Setting (markCall mark) state.old result state.new }
 {
     match mark {
@@ -112,8 +106,7 @@ fn abort_named(state: &mut State, code: u64, a: u64, b: u64, c: u64) -> u64
 }
 
 // Abort entry, of an exception in four words.
-#[unsafe(no_mangle)]
-pub extern "C" fn a72_abort(state: &mut State, e: &[u64; 4]) -> u64
+pub fn a72_abort(state: &mut State, e: &[u64; 4]) -> u64
     ensures { Setting (abortCall (exceptionAt e.now)) state.old result state.new }
 {
     abort_named(state, e[0], e[1], e[2], e[3])
@@ -191,6 +184,7 @@ fn store(state: &mut State, base: u64, ram: &mut [u8], va: u64, size: u64, value
 }
 
 // The operation that a call is.
+#[tactic(auto, unfolding(cpu::specs::Step::ramAfter, cpu::specs::Step::ramOf))]
 fn step(state: &mut State, base: u64, ram: &mut [u8], call: Call) -> [u64; 4]
     ensures steps { Steps call base ram.old state.old result state.new }
     ensures ram_after { ram.new ≡ ramAfter (core_of state.old) base ram.old call }
@@ -234,8 +228,7 @@ fn step(state: &mut State, base: u64, ram: &mut [u8], call: Call) -> [u64; 4]
 }
 
 // The call that eight words name: 0, and its answer in four words; 64 where they name none.
-#[unsafe(no_mangle)]
-pub extern "C" fn a72_step(
+pub fn a72_step(
     op: &[u64; 8],
     state: &mut State,
     base: u64,

@@ -46,6 +46,7 @@ fn missed_any(state: &State) -> u8
     check::any(privilege.level)
 }
 
+#[tactic(auto, unfolding(operations::specs::Check::missedOf, cpu::specs::Step::run_of, cpu::specs::Step::ramOf, cpu::specs::Step::step_of, cpu::specs::Step::ramAfter))]
 pub fn system(state: &mut State, base: u64, ram: &mut [u8], e: Encoding) -> Reply
     ensures runs { Runs (Call.System e) base ram.old state.old result state.new }
     ensures ram_after { ram.new ≡ ramAfter (core_of state.old) base ram.old
@@ -59,6 +60,7 @@ pub fn system(state: &mut State, base: u64, ram: &mut [u8], e: Encoding) -> Repl
     reply::stored(answer)
 }
 
+#[tactic(auto, unfolding(operations::specs::Check::missedOf, cpu::specs::Step::run_of, cpu::specs::Step::step_of))]
 pub fn register(state: &mut State, key: u32, value: u64) -> Reply
     ensures { Runs (Call.Register key value) 0 [] state.old result state.new }
 {
@@ -70,6 +72,7 @@ pub fn register(state: &mut State, key: u32, value: u64) -> Reply
     reply::written(answer)
 }
 
+#[tactic(auto, unfolding(operations::specs::Check::missedOf, cpu::specs::Step::run_of, cpu::specs::Step::step_of, exec::specs::Ops::setLevel, words::specs::Parts::withPrivilege))]
 pub fn level(state: &mut State, level: u64) -> Reply
     ensures { Runs (Call.Level level) 0 [] state.old result state.new }
 {
@@ -81,6 +84,7 @@ pub fn level(state: &mut State, level: u64) -> Reply
     Reply::Done
 }
 
+#[tactic(auto, unfolding(operations::specs::Check::missedOf, cpu::specs::Step::run_of, cpu::specs::Step::step_of, exec::specs::Ops::setMark, words::specs::Parts::withPrivilege))]
 pub fn mark(state: &mut State, mark: bool) -> Reply
     ensures { Runs (Call.Mark mark) 0 [] state.old result state.new }
 {
@@ -92,6 +96,7 @@ pub fn mark(state: &mut State, mark: bool) -> Reply
     Reply::Done
 }
 
+#[tactic(auto, unfolding(operations::specs::Check::missedOf, cpu::specs::Step::run_of, cpu::specs::Step::step_of))]
 pub fn general(state: &mut State, number: u64, value: u64) -> Reply
     ensures { Runs (Call.General number value) 0 [] state.old result state.new }
 {
@@ -107,6 +112,7 @@ pub fn general(state: &mut State, number: u64, value: u64) -> Reply
 }
 
 // A census changes nothing: its counts are `a72_census`'s.
+#[tactic(auto, unfolding(operations::specs::Check::missedOf, cpu::specs::Step::run_of, cpu::specs::Step::step_of))]
 pub fn census(state: &State, base: u64, ram: &[u8], first: u64, pages: u64) -> Reply
     ensures { Runs (Call.Census first pages) base ram.now state.now result
         state.now }
@@ -118,6 +124,7 @@ pub fn census(state: &State, base: u64, ram: &[u8], first: u64, pages: u64) -> R
     Reply::Done
 }
 
+#[tactic(auto, unfolding(operations::specs::Check::missedOf, cpu::specs::Step::run_of, cpu::specs::Step::step_of))]
 pub fn abort(state: &mut State, e: Exception) -> Reply
     ensures { Runs (Call.Abort e) 0 [] state.old result state.new }
 {

@@ -8,8 +8,7 @@ use call_words::tables;
 use words::place::State;
 
 // How many of so many 4 KiB pages, from the page of first on, end at each status, at each permission byte, and flat.
-#[unsafe(no_mangle)]
-pub extern "C" fn a72_census(
+pub fn a72_census(
     state: &State,
     first: u64,
     pages: u64,
@@ -25,8 +24,7 @@ pub extern "C" fn a72_census(
 
 // One walk of an untagged address: 0 and the leaf, or 256 plus the fault's status; 64 for no regime, 2 for a window
 // that passes 2^64.
-#[unsafe(no_mangle)]
-pub extern "C" fn a72_walk(
+pub fn a72_walk(
     words: &[u64; 6],
     number: u64,
     va: u64,

@@ -18,6 +18,7 @@ use words::state;
 use words_memory::translate;
 
 // Whether level and window pass at once. A window that ends at the last address is left to the checks.
+#[tactic(auto, unfolding(crate::specs::Quick::clearOf))]
 pub(crate) fn clear(state: &State, base: u64, len: u64) -> bool
     ensures { result ≡ clearOf (core_of state.now) base len }
 {
@@ -31,6 +32,7 @@ pub(crate) fn clear(state: &State, base: u64, len: u64) -> bool
     true
 }
 
+#[tactic(auto, unfolding(call_words::specs::Ops::translateCall, call_words::specs::Ops::kind_of))]
 fn translate_checked(
     state: &mut State,
     va: u64,
@@ -51,8 +53,7 @@ fn translate_checked(
 }
 
 // The translation of va for an access of a kind: 1 read, 2 write, 4 fetch.
-#[unsafe(no_mangle)]
-pub extern "C" fn a72_translate(
+pub fn a72_translate(
     state: &mut State,
     va: u64,
     kind: u64,
@@ -90,14 +91,7 @@ pub extern "C" fn a72_translate(
 }
 
 // Where a data read of va goes.
-#[unsafe(no_mangle)]
-pub extern "C" fn a72_data_pa(
-    state: &mut State,
-    va: u64,
-    ans: &mut u64,
-    base: u64,
-    ram: &[u8],
-) -> u64
+pub fn a72_data_pa(state: &mut State, va: u64, ans: &mut u64, base: u64, ram: &[u8]) -> u64
     ensures { Promise (DecodedCall.Known (Call.DataPa va)) base ram.now state.old result
         ans.old ans.new ram.now state.new }
 {
@@ -116,14 +110,7 @@ pub extern "C" fn a72_data_pa(
 }
 
 // Where a fetch of va goes.
-#[unsafe(no_mangle)]
-pub extern "C" fn a72_fetch_pa(
-    state: &mut State,
-    va: u64,
-    ans: &mut u64,
-    base: u64,
-    ram: &[u8],
-) -> u64
+pub fn a72_fetch_pa(state: &mut State, va: u64, ans: &mut u64, base: u64, ram: &[u8]) -> u64
     ensures { Promise (DecodedCall.Known (Call.FetchPa va)) base ram.now state.old result
         ans.old ans.new ram.now state.new }
 {
@@ -141,8 +128,7 @@ pub extern "C" fn a72_fetch_pa(
 }
 
 // The instruction at va.
-#[unsafe(no_mangle)]
-pub extern "C" fn a72_fetch(state: &mut State, va: u64, ans: &mut u64, base: u64, ram: &[u8]) -> u64
+pub fn a72_fetch(state: &mut State, va: u64, ans: &mut u64, base: u64, ram: &[u8]) -> u64
     ensures { Promise (DecodedCall.Known (Call.Fetch va)) base ram.now state.old result
         ans.old ans.new ram.now state.new }
 {

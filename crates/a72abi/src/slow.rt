@@ -55,6 +55,7 @@ pub(crate) fn address(
     }
 }
 
+#[tactic(auto, unfolding(operations::specs::Check::missedOf, cpu::specs::Step::step_of))]
 pub(crate) fn translation(
     state: &mut State,
     va: u64,
@@ -90,6 +91,7 @@ pub(crate) fn data_to(state: &mut State, va: u64, ans: &mut u64, base: u64, ram:
     without_status(code)
 }
 
+#[tactic(auto, unfolding(operations::specs::Check::missedOf, cpu::specs::Step::step_of))]
 pub(crate) fn data_pa(state: &mut State, va: u64, ans: &mut u64, base: u64, ram: &[u8]) -> u64
     ensures { Gives (DecodedCall.Known (Call.DataPa va)) base ram.now state.old result
         ans.old ans.new state.new }
@@ -111,6 +113,7 @@ pub(crate) fn fetch_to(state: &mut State, va: u64, ans: &mut u64, base: u64, ram
     without_status(code)
 }
 
+#[tactic(auto, unfolding(operations::specs::Check::missedOf, cpu::specs::Step::step_of))]
 pub(crate) fn fetch_pa(state: &mut State, va: u64, ans: &mut u64, base: u64, ram: &[u8]) -> u64
     ensures { Gives (DecodedCall.Known (Call.FetchPa va)) base ram.now state.old result
         ans.old ans.new state.new }
@@ -123,6 +126,7 @@ pub(crate) fn fetch_pa(state: &mut State, va: u64, ans: &mut u64, base: u64, ram
 }
 
 // The instruction that lies at pa.
+#[tactic(auto, unfolding(crate::specs::Inside::fetchEnds, operations::specs::Ends::fetchEnd, words::specs::Parts::withAbort, mmu::specs::Core::afterAccess))]
 fn fetch_at(state: &mut State, pa: u64, ans: &mut u64, base: u64, ram: &[u8]) -> u64
     ensures { FetchTells pa base ram.now state.old result ans.old ans.new
         state.new }
@@ -154,6 +158,7 @@ fn fetch_page(state: &mut State, va: u64, ans: &mut u64, base: u64, ram: &[u8]) 
     fetch_at(state, pa, ans, base, ram)
 }
 
+#[tactic(auto, unfolding(operations::specs::Check::missedOf, cpu::specs::Step::step_of))]
 pub(crate) fn fetch(state: &mut State, va: u64, ans: &mut u64, base: u64, ram: &[u8]) -> u64
     ensures { Gives (DecodedCall.Known (Call.Fetch va)) base ram.now state.old result
         ans.old ans.new state.new }

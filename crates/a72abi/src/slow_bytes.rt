@@ -81,6 +81,7 @@ fn load_one(state: &mut State, va: u64, width: Width, ans: &mut u64, base: u64, 
 }
 
 // The same of a size; the commonest is tested first.
+#[tactic(auto, unfolding(cpu::specs::Step::run_of))]
 pub(crate) fn load_page(
     state: &mut State,
     va: u64,
@@ -121,6 +122,7 @@ fn load_two(state: &mut State, va: u64, width: Width, ans: &mut u64, base: u64, 
     reply::loaded(answer, ans)
 }
 
+#[tactic(auto, unfolding(operations::specs::Check::missedOf, cpu::specs::Step::step_of))]
 pub(crate) fn load(
     state: &mut State,
     va: u64,
@@ -204,6 +206,7 @@ fn store_one(
 }
 
 // The same of a size; the commonest is tested first.
+#[tactic(auto, unfolding(cpu::specs::Step::run_of, cpu::specs::Step::ramOf))]
 pub(crate) fn store_page(
     state: &mut State,
     va: u64,
@@ -257,6 +260,7 @@ fn store_two(
     reply::stored(answer, ans)
 }
 
+#[tactic(auto, unfolding(operations::specs::Check::missedOf, cpu::specs::Step::step_of, cpu::specs::Step::ramAfter))]
 pub(crate) fn store(
     state: &mut State,
     va: u64,

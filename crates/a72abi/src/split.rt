@@ -18,13 +18,14 @@ use words::place::State;
 use words_memory::{access, translate};
 
 // The value of a load, and the physical address of its first byte.
-#[derive(Drop)]
+#[derive(Clone, Copy)]
 pub enum Split {
     Value { pa: u64, v: u64 },
     Unknown,
 }
 
 // Whether the access takes two pages, at a level and over a window that pass at once.
+#[tactic(auto, unfolding(crate::specs::Splits::apartOf, crate::specs::Quick::clearOf))]
 fn apart(state: &State, va: u64, n: u64, base: u64, len: u64) -> bool
     ensures { result ≡ apartOf (core_of state.now) base len va n }
 {
@@ -38,6 +39,7 @@ fn apart(state: &State, va: u64, n: u64, base: u64, len: u64) -> bool
 }
 
 // A load whose first page lies at pa.
+#[tactic(auto, unfolding(crate::specs::Splits::loadBoth))]
 fn load_on(state: &State, va: u64, n: u64, pa: u64, base: u64, ram: &[u8]) -> Split
     ensures { result ≡ loadBoth true (At pa) (hintFound (core_of state.now) (nextPage va) Read) va base
         ram.now n }
@@ -55,6 +57,7 @@ fn load_on(state: &State, va: u64, n: u64, pa: u64, base: u64, ram: &[u8]) -> Sp
     }
 }
 
+#[tactic(auto, unfolding(crate::specs::Splits::splitLoad, crate::specs::Splits::loadBoth))]
 pub(crate) fn load(state: &State, va: u64, n: u64, base: u64, ram: &[u8]) -> Split
     ensures { result ≡ splitLoad (core_of state.now) base ram.now va n }
 {
@@ -70,6 +73,7 @@ pub(crate) fn load(state: &State, va: u64, n: u64, base: u64, ram: &[u8]) -> Spl
 }
 
 // A store whose first page lies at pa, and whether it was made.
+#[tactic(auto, unfolding(crate::specs::Splits::madeBoth, crate::specs::Splits::ramBoth))]
 fn store_on(state: &State, va: u64, n: u64, value: u64, pa: u64, base: u64, ram: &mut [u8]) -> bool
     requires { inPage va < n }
     ensures value { result ≡ madeBoth true (At pa) (hintFound (core_of state.now) (nextPage va) Write) va base
@@ -90,6 +94,7 @@ fn store_on(state: &State, va: u64, n: u64, value: u64, pa: u64, base: u64, ram:
     }
 }
 
+#[tactic(auto, unfolding(crate::specs::Splits::splitMade, crate::specs::Splits::splitRam, crate::specs::Splits::madeBoth, crate::specs::Splits::ramBoth))]
 pub(crate) fn store(state: &State, va: u64, n: u64, value: u64, base: u64, ram: &mut [u8]) -> bool
     ensures value { result ≡ splitMade (core_of state.now) base ram.old va n }
     ensures ram_after { ram.new ≡ splitRam (core_of state.now) base ram.old va n value }

@@ -1,0 +1,24 @@
+use Rattle.a72abi.proofs.Passing.{level-high, clear-here, load-high, load_gives}
+use Rattle.a72abi.proofs.Sizes.{quick-load}
+use Rattle.a72abi.specs.PromiseLaws.{promise-quiet}
+use mathlib.Core.Path.{refl}
+use borrow.Author.Rules.{rules}
+use Rattle.a72abi.proofs.bytes.a72_load.Goals as goal
+
+pub returns-then-in_page-size : goal.returns-then-in_page-size
+returns-then-in_page-size c = promise-quiet _ _ _ _ _ _ _ _ refl (search rules)
+
+pub returns-then-len-base : goal.returns-then-len-base
+returns-then-len-base c = promise-quiet _ _ _ _ _ _ _ _ refl (search rules)
+
+pub returns-in-Value : goal.returns-in-Value
+returns-in-Value c = promise-quiet _ _ _ _ _ _ _ _ refl (search (load_gives, clear-here, quick-load, rules))
+
+pub returns-in-Outside : goal.returns-in-Outside
+returns-in-Outside c = promise-quiet _ _ _ _ _ _ _ _ refl (search rules)
+
+pub returns-in-Unknown : goal.returns-in-Unknown
+returns-in-Unknown c = promise-quiet _ _ _ _ _ _ _ _ refl (search (load_gives, clear-here, rules))
+
+pub returns-else-known : goal.returns-else-known
+returns-else-known c = promise-quiet _ _ _ _ _ _ _ _ refl (search (load-high, level-high, rules))

@@ -1,0 +1,24 @@
+use Rattle.a72abi.proofs.Passing.{level-high, clear-here, ram-high, ram-clear}
+use Rattle.a72abi.proofs.Addressing.{quick-fetch}
+use Rattle.a72abi.specs.PromiseLaws.{promise-quiet}
+use Rattle.operations.specs.Check.{missedOf}
+use mathlib.Core.Path.{refl}
+use borrow.Author.Rules.{rules}
+use Rattle.a72abi.proofs.memory.a72_fetch.Goals as goal
+
+pub returns-then-len-base : goal.returns-then-len-base
+returns-then-len-base c = promise-quiet _ _ _ _ _ _ _ _ refl (search rules)
+
+pub returns-in-Value : goal.returns-in-Value
+unfolding missedOf
+returns-in-Value c = promise-quiet _ _ _ _ _ _ _ _ refl (search (ram-clear, clear-here, quick-fetch, rules))
+
+pub returns-in-Outside : goal.returns-in-Outside
+returns-in-Outside c = promise-quiet _ _ _ _ _ _ _ _ refl (search rules)
+
+pub returns-in-Unknown : goal.returns-in-Unknown
+returns-in-Unknown c = promise-quiet _ _ _ _ _ _ _ _ refl (search rules)
+
+pub returns-else-known : goal.returns-else-known
+unfolding missedOf
+returns-else-known c = promise-quiet _ _ _ _ _ _ _ _ refl (search (ram-high, level-high, rules))

@@ -1,0 +1,12 @@
+use Rattle.a72abi.proofs.Passing.{passed-gives}
+use Rattle.a72abi.proofs.Addressing.{fetch-hint-tells, fetch-unknown}
+use Rattle.operations.specs.Check.{missedOf}
+use borrow.Author.Rules.{rules}
+use Rattle.a72abi.proofs.slow.fetch.Goals as goal
+
+pub returns-in-At : goal.returns-in-At
+unfolding missedOf
+returns-in-At c = search (passed-gives, fetch-hint-tells, rules)
+
+pub fetch_page-requires : goal.fetch_page-requires
+fetch_page-requires c = search (fetch-unknown, rules)

@@ -1,0 +1,18 @@
+use Rattle.a72abi.proofs.Passing.{passed-gives}
+use Rattle.a72abi.proofs.OnePage.{hint-load}
+use Rattle.a72abi.proofs.Sizes.{sized-load, sized-none, near-width}
+use Rattle.operations.specs.Check.{missedOf}
+use borrow.Author.Rules.{rules}
+use Rattle.a72abi.proofs.slow_bytes.load.Goals as goal
+
+pub returns-then-in_page-size : goal.returns-then-in_page-size
+unfolding missedOf
+returns-then-in_page-size c = search (passed-gives, sized-load, rules)
+
+pub returns-in-At : goal.returns-in-At
+unfolding missedOf
+returns-in-At c = search (passed-gives, sized-load, hint-load, near-width, rules)
+
+pub returns-in-Refused : goal.returns-in-Refused
+unfolding missedOf
+returns-in-Refused c = search (passed-gives, sized-none, rules)
