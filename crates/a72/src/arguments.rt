@@ -1,50 +1,60 @@
-// Arguments of a command: numbers, words and levels.
-use trace_file::report;
-use trace_text::lex::Number;
-use trace_text::{form, lex};
+// Arguments of a command: numbers, levels, a trace's path.
+use crate::stop::{Stop, Wrong};
+use std::env;
+use std::io::ErrorKind;
+use std::rt::Env;
+use trace_text::lex;
+use trace_text::lex::NumberError;
 
-// In place of a level: the core's own, or that the argument is none.
-pub const OWN: u64 = 4;
+// An argument has no more bytes, as a number and as a path.
+const NUMBER: usize = 32;
 
-pub const NO_LEVEL: u64 = 5;
+const PATH: usize = 4096;
 
-// An argument as a number; 0x may stand before it.
-fn number_in(s: &[u8]) -> Number {
-    if 2 < s.len() {
-        if s[0] == b'0' && s[1] == b'x' {
-            return lex::value_of(&s[2..]);
-        }
+// A number; 0x may stand before it.
+pub fn number(word: &str) -> Result<u64, NumberError> {
+    if NUMBER < word.len() {
+        return Err(NumberError::NotNumber);
     }
-    lex::value_of(s)
-}
-
-pub fn number(i: usize) -> Number {
-    let mut word = [0u8; 32];
-    let n = os::arg(i, &mut word);
-    number_in(&word[..n])
-}
-
-pub fn letters(i: usize) -> u64 {
-    let mut word = [0u8; 8];
-    let n = os::arg(i, &mut word);
-    form::letters(&word[..n])
-}
-
-pub fn no_number(name: &[u8]) {
-    report::text(b"a72: ");
-    report::text(name);
-    report::text(b": not a hexadecimal number of 64 bits\n");
-}
-
-// The level that argument i names, OWN where there are not so many.
-pub fn level(i: usize, count: usize) -> u64 {
-    if count <= i {
-        return OWN;
+    let bytes = word.as_bytes();
+    match bytes.strip_prefix(b"0x") {
+        Some(digits) => lex::value_of(digits),
+        None => lex::value_of(bytes),
     }
-    let n = number(i);
-    if n.fault == lex::NUMBER && n.value < OWN {
-        return n.value;
+}
+
+// A number by its name in the usage.
+pub fn named_number(word: &str, name: &'static str) -> Result<u64, Stop> {
+    match number(word) {
+        Ok(value) => Ok(value),
+        Err(_) => Err(Stop::Argument(Wrong::Number(name))),
     }
-    report::text(b"a72: LEVEL: 0, 1, 2 or 3\n");
-    NO_LEVEL
+}
+
+// The level that an argument names; none where it is not there.
+pub fn level(word: Option<&String>) -> Result<Option<u64>, Stop> {
+    let Some(word) = word else {
+        return Ok(None);
+    };
+    match number(word.as_str()) {
+        Ok(level) if level < 4 => Ok(Some(level)),
+        _ => Err(Stop::Argument(Wrong::Level)),
+    }
+}
+
+// The words after the program's name.
+pub fn words<R: Env + AllocGlobal>(rt: &R) -> Result<Vec<String>, Stop> {
+    match env::args(rt) {
+        Ok(all) => Ok(all.skip(1).collect(rt.alloc())?),
+        Err(error) if error.kind() == ErrorKind::OutOfMemory => Err(Stop::Memory),
+        Err(_) => Err(Stop::Argument(Wrong::NotText)),
+    }
+}
+
+// The path of a trace.
+pub fn path(word: &str) -> Result<&str, Stop> {
+    if PATH < word.len() {
+        return Err(Stop::Argument(Wrong::LongPath));
+    }
+    Ok(word)
 }

@@ -1,164 +1,179 @@
+#![tactic(auto)]
 // The tool: traces on the proved core, its cache's counters by level, one translation step by step, a census of pages,
 // and the chord.
 mod arguments;
 mod counters;
 mod pages;
+mod stop;
 mod translation;
 
-use trace_file::{report, run};
-use trace_text::form;
-
-fn help(fd: i32) {
-    io::write_all(fd, b"usage: a72 run TRACE\n");
-    io::write_all(fd, b"       a72 counters TRACE\n");
-    io::write_all(
-        fd,
-        b"       a72 walk TRACE ADDRESS [read|write|fetch] [LEVEL]\n",
-    );
-    io::write_all(fd, b"       a72 census TRACE FIRST PAGES [LEVEL] [--svg]\n");
-    io::write_all(fd, b"       a72 chord\n");
-    io::write_all(fd, b"       a72 help\n");
-}
+use census_report::report::Form;
+use std::alloc::Global;
+use std::io;
+use std::io::{BufWriter, IsTerminal, Write};
+use std::rt::Files;
+use stop::Stop;
+use trace_core::memory;
+use trace_file::run;
+use words::place::WORDS;
 
 // What each command does.
-fn details() {
-    io::write_all(
-        1,
-        b"\nrun      carries out a trace on the proved core and prints a line for each operation: its line number,\n         the operation, the answer, counters, registers kept and digests, as the Rust's run does.\n",
-    );
-    io::write_all(
-        1,
-        b"counters carries out a trace, then shows what the cache counted at each exception level: translations that an\n         entry answered, walks, the share of walks with a bar, the sums, and which level walks most.\n",
-    );
-    io::write_all(
-        1,
-        b"walk     carries out a trace, then shows one translation of ADDRESS (hexadecimal) step by step: registers,\n         range, each descriptor, the end, and what the core answers. A read at the core's level, or as named.\n",
-    );
-    io::write_all(
-        1,
-        b"census   carries out a trace, then shows how the PAGES pages of 4 KiB from FIRST (both hexadecimal) end in a\n         fresh walk at the core's level, or as named: a table, and a map; --svg: the map as a picture.\n",
-    );
-    io::write_all(
-        1,
-        b"chord    sixteen voices, a page each, and every order of a small chord: no tone is lost; against a stale\n         cache, which loses one.\n\n",
-    );
-    io::write_all(
-        1,
-        b"TRACE is a file of lines: tr, dpa, fpa, ld, st, if, sys, reg, level, mark, x, abort, census; fresh, window, zero,\npoke; leaves l-..; pokes p-..; parts w-.. Numbers are hexadecimal without 0x; # starts a comment. A file with a\nbad line gets a message `a72: FILE:LINE:COLUMN: reason` on standard error, and nothing else happens.\n",
-    );
+fn details<W: Write>(out: &mut W) -> io::Result<()> {
+    write!(
+        out,
+        "
+run      carries out a trace on the proved core and prints a line for each operation: its line number,
+         the operation, the answer, counters, registers kept and digests, as the Rust's run does.
+counters carries out a trace, then shows what the cache counted at each exception level: translations that an
+         entry answered, walks, the share of walks with a bar, the sums, and which level walks most.
+"
+    )?;
+    write!(
+        out,
+        "walk     carries out a trace, then shows one translation of ADDRESS (hexadecimal) step by step: registers,
+         range, each descriptor, the end, and what the core answers. A read at the core's level, or as named.
+census   carries out a trace, then shows how the PAGES pages of 4 KiB from FIRST (both hexadecimal) end in a
+         fresh walk at the core's level, or as named: a table, and a map; --svg: the map as a picture.
+chord    sixteen voices, a page each, and every order of a small chord: no tone is lost; against a stale
+         cache, which loses one.
+
+"
+    )?;
+    write!(
+        out,
+        "TRACE is a file of lines: tr, dpa, fpa, ld, st, if, sys, reg, level, mark, x, abort, census; fresh, window, zero,
+poke; leaves l-..; pokes p-..; parts w-.. Numbers are hexadecimal without 0x; # starts a comment. A file with a
+bad line gets a message `a72: FILE:LINE:COLUMN: reason` on standard error, and nothing else happens.
+"
+    )
 }
 
-fn wrong(why: &[u8]) {
-    report::text(b"a72: ");
-    report::text(why);
-    report::text(b"\n");
-    help(2);
+fn run_command<R: Files + AllocGlobal, W: Write>(
+    rt: &R,
+    out: &mut W,
+    words: &[String],
+) -> Result<(), Stop> {
+    match words {
+        [path] => {
+            let path = arguments::path(path.as_str())?;
+            let mut state = [0u64; WORDS];
+            let mut ram = memory::zeros(rt.alloc())?;
+            run::run(rt, out, path, &mut state, ram.as_mut_slice())?;
+            Ok(())
+        }
+        _ => Err(Stop::Usage(Some("run wants one TRACE"))),
+    }
 }
 
-fn run_command() {
-    if os::arg_count() != 3 {
-        wrong(b"run wants one TRACE");
-        return;
+fn counters_command<R: Files + AllocGlobal, W: Write>(
+    rt: &R,
+    out: &mut W,
+    words: &[String],
+) -> Result<(), Stop> {
+    match words {
+        [path] => counters::show(rt, out, arguments::path(path.as_str())?),
+        _ => Err(Stop::Usage(Some("counters wants one TRACE"))),
     }
-    let mut path = io::buffer();
-    let n = os::arg(2, &mut path);
-    if os::errno() != 0 {
-        report::system(b"TRACE");
-        return;
-    }
-    run::run(&path[..n]);
 }
 
-fn counters_command() {
-    if os::arg_count() != 3 {
-        wrong(b"counters wants one TRACE");
-        return;
+fn walk_command<R: Files + AllocGlobal, W: Write>(
+    rt: &R,
+    out: &mut W,
+    words: &[String],
+) -> Result<(), Stop> {
+    match words {
+        [path, rest @ ..] if 1 <= rest.len() && rest.len() <= 3 => {
+            translation::walk(rt, out, arguments::path(path.as_str())?, rest)
+        }
+        _ => Err(Stop::Usage(Some(
+            "walk wants a TRACE and an ADDRESS, then a kind of access and a level if you like",
+        ))),
     }
-    let mut path = io::buffer();
-    let n = os::arg(2, &mut path);
-    if os::errno() != 0 {
-        report::system(b"TRACE");
-        return;
-    }
-    counters::show(&path[..n]);
 }
 
-fn walk_command() {
-    let count = os::arg_count();
-    if count < 4 || 6 < count {
-        wrong(b"walk wants a TRACE and an ADDRESS, then a kind of access and a level if you like");
-        return;
+// The words without `--svg` at their end, which stands after two more than the path at least.
+fn without_picture(words: &[String]) -> (&[String], bool) {
+    match words {
+        [rest @ .., last] if 3 <= rest.len() && last.as_str() == "--svg" => (rest, true),
+        _ => (words, false),
     }
-    let mut path = io::buffer();
-    let n = os::arg(2, &mut path);
-    if os::errno() != 0 {
-        report::system(b"TRACE");
-        return;
-    }
-    translation::walk(&path[..n]);
 }
 
-fn census_command() {
-    let count = pages::count();
-    if count < 5 || 6 < count {
-        wrong(
-            b"census wants a TRACE, a FIRST address and a number of PAGES, then a level and --svg if you like",
-        );
-        return;
+fn census_command<R: Files + AllocGlobal, W: Write>(
+    rt: &R,
+    out: &mut W,
+    words: &[String],
+    terminal: bool,
+) -> Result<(), Stop> {
+    let (words, picture) = without_picture(words);
+    let form = if picture {
+        Form::Picture
+    } else if terminal {
+        Form::Coloured
+    } else {
+        Form::Plain
+    };
+    match words {
+        [path, rest @ ..] if 2 <= rest.len() && rest.len() <= 3 => {
+            pages::census(rt, out, arguments::path(path.as_str())?, rest, form)
+        }
+        _ => Err(Stop::Usage(Some(
+            "census wants a TRACE, a FIRST address and a number of PAGES, then a level and --svg if you like",
+        ))),
     }
-    let mut path = io::buffer();
-    let n = os::arg(2, &mut path);
-    if os::errno() != 0 {
-        report::system(b"TRACE");
-        return;
-    }
-    pages::census(&path[..n]);
 }
 
-fn chord_command() {
-    if os::arg_count() != 2 {
-        wrong(b"chord wants nothing more");
-        return;
+fn chord_command<W: Write>(alloc: Global, out: &mut W, words: &[String]) -> Result<(), Stop> {
+    if !words.is_empty() {
+        return Err(Stop::Usage(Some("chord wants nothing more")));
     }
-    let mut ram = trace_core::memory::zeros();
-    chord::story::tell(&mut ram);
+    let mut ram = memory::zeros(alloc)?;
+    chord::story::tell(out, ram.as_mut_slice())?;
+    Ok(())
 }
 
-fn command(word: u64) {
-    if word == form::letters(b"run") {
-        run_command();
-        return;
-    }
-    if word == form::letters(b"counters") {
-        counters_command();
-        return;
-    }
-    if word == form::letters(b"walk") {
-        walk_command();
-        return;
-    }
-    if word == form::letters(b"census") {
-        census_command();
-        return;
-    }
-    if word == form::letters(b"chord") {
-        chord_command();
-        return;
-    }
-    if word == form::letters(b"help") || word == form::letters(b"--help") {
-        help(1);
-        details();
-        return;
-    }
-    wrong(b"no such command");
+fn help<W: Write>(out: &mut W) -> Result<(), Stop> {
+    stop::usage(out)?;
+    details(out)?;
+    Ok(())
 }
 
-fn main() {
-    if os::arg_count() < 2 {
-        help(2);
-        return;
+// A command by its name, and the words after it.
+fn command<R: Files + AllocGlobal, W: Write>(
+    rt: &R,
+    out: &mut W,
+    words: &[String],
+    terminal: bool,
+) -> Result<(), Stop> {
+    let Some((name, rest)) = words.split_first() else {
+        return Err(Stop::Usage(None));
+    };
+    match name.as_str() {
+        "run" => run_command(rt, out, rest)?,
+        "counters" => counters_command(rt, out, rest)?,
+        "walk" => walk_command(rt, out, rest)?,
+        "census" => census_command(rt, out, rest, terminal)?,
+        "chord" => chord_command(rt.alloc(), out, rest)?,
+        "help" | "--help" => help(out)?,
+        _ => return Err(Stop::Usage(Some("no such command"))),
     }
-    let mut word = [0u8; 8];
-    let n = os::arg(1, &mut word);
-    command(form::letters(&word[..n]));
+    out.flush()?;
+    Ok(())
+}
+
+fn main(rt: HostRuntime) -> io::Result<()> {
+    let alloc = rt.alloc();
+    let words = match arguments::words(&rt) {
+        Ok(words) => words,
+        Err(stop) => return stop::show(&mut rt.stderr(), alloc, "", stop),
+    };
+    let mut out = BufWriter::new(alloc, io::writer(&rt))?;
+    let terminal = rt.stdout().is_terminal();
+    match command(&rt, &mut out, words.as_slice(), terminal) {
+        Ok(()) => Ok(()),
+        Err(stop) => {
+            let path = words.get(1).map_or("", |word| word.as_str());
+            stop::show(&mut rt.stderr(), alloc, path, stop)
+        }
+    }
 }

@@ -1,93 +1,63 @@
 // `a72 walk TRACE ADDRESS [read|write|fetch] [LEVEL]`: a trace in silence, then one translation step by step.
 use crate::arguments;
+use crate::stop::{Stop, Wrong};
 use a72abi::calls;
+use std::io::Write;
+use std::rt::Files;
 use tlb::access::Kind;
-use trace_core::line::Machine;
 use trace_core::memory;
-use trace_file::run::Ran;
-use trace_file::{report, run};
-use trace_text::{form, lex};
+use trace_file::run;
 use walk_report::explain;
-use words::place::{State, WORDS};
+use words::place::WORDS;
 
-// A kind of access, or none.
-#[derive(Drop)]
-enum DecodedKind {
-    Known(Kind),
-    Unknown,
-}
-
-// What is asked: the address, the kind, and a level from 0 to 3, or 4 for the core's own.
-#[derive(Drop)]
+// What is asked: the address, the kind, and a level where it is not the core's own.
+#[derive(Clone, Copy)]
 struct Question {
     va: u64,
-    level: u64,
-    good: bool,
+    level: Option<u64>,
+    kind: Kind,
 }
 
-// The kind that the fourth argument names; a read where it is not there.
-fn kind_arg() -> DecodedKind {
-    if os::arg_count() < 5 {
-        return DecodedKind::Known(Kind::Read);
-    }
-    let word = arguments::letters(4);
-    if word == form::letters(b"read") {
-        return DecodedKind::Known(Kind::Read);
-    }
-    if word == form::letters(b"write") {
-        return DecodedKind::Known(Kind::Write);
-    }
-    if word == form::letters(b"fetch") {
-        return DecodedKind::Known(Kind::Fetch);
-    }
-    DecodedKind::Unknown
-}
-
-fn ask() -> Question {
-    let n = arguments::number(3);
-    if n.fault != lex::NUMBER {
-        arguments::no_number(b"ADDRESS");
-        return Question {
-            va: 0,
-            level: 0,
-            good: false,
-        };
-    }
-    let level = arguments::level(5, os::arg_count());
-    Question {
-        va: n.value,
-        level,
-        good: level != arguments::NO_LEVEL,
+// The kind that an argument names; a read where it is not there.
+fn kind_of(word: Option<&String>) -> Result<Kind, Stop> {
+    let Some(word) = word else {
+        return Ok(Kind::Read);
+    };
+    match word.as_str() {
+        "read" => Ok(Kind::Read),
+        "write" => Ok(Kind::Write),
+        "fetch" => Ok(Kind::Fetch),
+        _ => Err(Stop::Argument(Wrong::Kind)),
     }
 }
 
-fn explained(m: Machine, state: &mut State, ram: &mut [u8], q: Question, kind: Kind) {
-    if q.level < arguments::OWN {
-        calls::a72_level(state, q.level);
-    }
-    let k = m.len;
-    if k <= ram.len() {
-        explain::explain(state, m.base, &mut ram[0..k], kind, q.va);
-    }
+// The arguments after the trace's path.
+fn asked(words: &[String]) -> Result<Question, Stop> {
+    let va = match words.first() {
+        Some(word) => arguments::named_number(word.as_str(), "ADDRESS")?,
+        None => 0,
+    };
+    let level = arguments::level(words.get(2))?;
+    let kind = kind_of(words.get(1))?;
+    Ok(Question { va, level, kind })
 }
 
-fn asked(path: &[u8], q: Question, kind: Kind) {
+pub fn walk<R: Files + AllocGlobal, W: Write>(
+    rt: &R,
+    out: &mut W,
+    path: &str,
+    words: &[String],
+) -> Result<(), Stop> {
+    let q = asked(words)?;
     let mut state = [0u64; WORDS];
-    let mut ram = memory::zeros();
-    match run::silently(path, &mut state, &mut ram) {
-        Ran::Whole(m) => explained(m, &mut state, &mut ram, q, kind),
-        Ran::Refused => {}
+    let mut bytes = memory::zeros(rt.alloc())?;
+    let ram = bytes.as_mut_slice();
+    let m = run::silently(rt, path, &mut state, ram)?;
+    if let Some(level) = q.level {
+        calls::a72_level(&mut state, level);
     }
-}
-
-// The trace's path is the second argument; the others are read here.
-pub fn walk(path: &[u8]) {
-    let q = ask();
-    if !q.good {
-        return;
+    if m.len <= ram.len() {
+        explain::explain(out, &mut state, m.base, &mut ram[..m.len], q.kind, q.va)?;
     }
-    match kind_arg() {
-        DecodedKind::Known(kind) => asked(path, q, kind),
-        DecodedKind::Unknown => report::text(b"a72: the kind of access is read, write or fetch\n"),
-    }
+    Ok(())
 }

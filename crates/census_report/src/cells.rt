@@ -1,6 +1,5 @@
 // The cells of a map, by row and column.
 use crate::letter;
-use word::bits;
 
 // Cell i of a row; NONE past the last.
 pub fn at(cells: &[u8], row: u64, i: u64) -> u8 {
@@ -25,14 +24,7 @@ pub fn repeats(cells: &[u8], row: u64) -> bool {
     if row == 0 {
         return false;
     }
-    let mut i = 0u64;
-    while i < 64 {
-        if at(cells, row, i) != at(cells, row - 1, i) {
-            return false;
-        }
-        i += 1;
-    }
-    true
+    (0..64u64).all(|i| at(cells, row, i) == at(cells, row - 1, i))
 }
 
 // The rows of so many cells.
@@ -42,13 +34,5 @@ pub fn rows(count: u64) -> u64 {
 
 // How many cells have a letter.
 pub fn count(cells: &[u8], letter: u8) -> u64 {
-    let mut n = 0u64;
-    let mut i: usize = 0;
-    while i < cells.len() {
-        if cells[i] == letter {
-            n = bits::more(n);
-        }
-        i += 1;
-    }
-    n
+    cells.iter().filter(|c| **c == letter).count() as u64
 }

@@ -1,7 +1,9 @@
 // The map as a picture, in SVG: a rectangle for each run of equal cells, and beside it a legend with counts.
 use crate::grid::Grid;
-use crate::{cells, grid, head, letter, template};
-use trace_text::say;
+use crate::head::{Scale, Title};
+use crate::{cells, grid, letter};
+use std::io::Write;
+use std::{fmt, io};
 
 // A letter's colour: red, green and blue.
 const COLOURS: [u64; 15] = [
@@ -19,50 +21,64 @@ const ROW: u64 = 14;
 const LEGEND: u64 = 808;
 
 // A rectangle in a letter's colour.
-fn rectangle(x: u64, y: u64, width: u64, letter: u8) {
-    let k = letter::number_of(letter) % 15;
-    let values = [x, y, width, COLOURS[k], 0];
-    template::show(
-        b"<rect x='$' y='$' width='$' height='13' fill='#^'/>\n",
-        &values,
-    );
+#[derive(Clone, Copy)]
+struct Rectangle {
+    x: u64,
+    y: u64,
+    width: u64,
+    letter: u8,
+}
+
+impl fmt::Display for Rectangle {
+    fn fmt<W: fmt::Write>(&self, f: &mut fmt::Formatter<W>) -> fmt::Result {
+        let colour = COLOURS[letter::number_of(self.letter) % 15];
+        write!(f, "<rect x='{}' y='{}'", self.x, self.y)?;
+        write!(
+            f,
+            " width='{}' height='13' fill='#{colour:06x}'/>",
+            self.width
+        )
+    }
 }
 
 // The cells from one to another, of which the second is the last.
-fn run(letters: &[u8], row: u64, from: u64, last: u64) {
+fn run<W: Write>(out: &mut W, letters: &[u8], row: u64, from: u64, last: u64) -> io::Result<()> {
     let letter = cells::at(letters, row, last);
-    let count = std::num::wrapping_sub_u64(last % 64 + 1, from) % 65;
-    if letter != letter::NONE {
-        let y = TOP + row % 64 * ROW;
-        rectangle(LEFT + from % 64 * 10, y, count * 10, letter);
+    if letter == letter::NONE {
+        return Ok(());
     }
+    let count = (last % 64 + 1).wrapping_sub(from) % 65;
+    let cells = Rectangle {
+        x: LEFT + from % 64 * 10,
+        y: TOP + row % 64 * ROW,
+        width: count * 10,
+        letter,
+    };
+    writeln!(out, "{cells}")
 }
 
 // A row's address and its runs.
-fn row(letters: &[u8], row: u64, address: u64) {
+fn row<W: Write>(out: &mut W, letters: &[u8], row: u64, address: u64) -> io::Result<()> {
     let y = TOP + 11 + row % 64 * ROW;
-    let values = [y, address, 0, 0, 0];
-    template::show(b"<text x='12' y='$'>@</text>\n", &values);
+    writeln!(out, "<text x='12' y='{y}'>{address:016x}</text>")?;
     let mut from = 0u64;
-    let mut i = 0u64;
-    while i < 64 {
+    for i in 0..64u64 {
         if cells::ends(letters, row, i) {
-            run(letters, row, from, i);
+            run(out, letters, row, from, i)?;
             from = i + 1;
         }
-        i += 1;
     }
+    Ok(())
 }
 
-fn rows(letters: &[u8], g: Grid, count: u64) {
+fn rows<W: Write>(out: &mut W, letters: &[u8], g: Grid, count: u64) -> io::Result<()> {
     let bytes = grid::row_bytes(g);
     let mut address = g.start;
-    let mut r = 0u64;
-    while r < count {
-        row(letters, r, address);
-        address = std::num::wrapping_add_u64(address, bytes);
-        r += 1;
+    for r in 0..count {
+        row(out, letters, r, address)?;
+        address = address.wrapping_add(bytes);
     }
+    Ok(())
 }
 
 // How many pages have a letter; of the cells of several kinds, how many there are.
@@ -75,62 +91,63 @@ fn amount(counts: &[u64; 129], letters: &[u8], letter: u8) -> u64 {
 }
 
 // What a letter means, and its pages or cells.
-fn entry(letter: u8, amount: u64, y: u64) {
-    rectangle(LEGEND, y, 20, letter);
-    let place = [
-        LEGEND + 28,
-        std::num::wrapping_add_u64(y, 11),
-        letter as u64,
-        0,
-        0,
-    ];
-    template::show(b"<text x='$' y='$'>* ", &place);
-    letter::meaning(letter);
-    let values = [amount, 0, 0, 0, 0];
-    if letter == letter::SEVERAL {
-        template::show(b", cells: $</text>\n", &values);
+fn entry<W: Write>(out: &mut W, letter: u8, amount: u64, y: u64) -> io::Result<()> {
+    let mark = Rectangle {
+        x: LEGEND,
+        y,
+        width: 20,
+        letter,
+    };
+    let x = LEGEND + 28;
+    let below = y.wrapping_add(11);
+    let name = char::from(letter);
+    let meaning = letter::meaning(letter);
+    let unit = if letter == letter::SEVERAL {
+        "cells"
     } else {
-        template::show(b", pages: $</text>\n", &values);
-    }
+        "pages"
+    };
+    writeln!(out, "{mark}")?;
+    write!(out, "<text x='{x}' y='{below}'>{name} {meaning}")?;
+    writeln!(out, ", {unit}: {amount}</text>")
 }
 
 // The letters that occur.
-fn legend(counts: &[u64; 129], letters: &[u8]) {
+fn legend<W: Write>(out: &mut W, counts: &[u64; 129], letters: &[u8]) -> io::Result<()> {
     let mut y = TOP;
-    let mut k: usize = 0;
-    while k < 15 {
-        let letter = letter::LETTERS[k];
+    for letter in letter::LETTERS {
         let n = amount(counts, letters, letter);
         if n != 0 {
-            entry(letter, n, y);
-            y = std::num::wrapping_add_u64(y, 18);
+            entry(out, letter, n, y)?;
+            y = y.wrapping_add(18);
         }
-        k += 1;
     }
+    Ok(())
 }
 
 // The picture's beginning, its background and its titles. A legend of every letter has room.
-fn begin(g: Grid, level: u64, rows: u64) {
-    let high = if rows < 20 { 20 } else { rows };
-    let height = TOP + high % 65 * ROW + 12;
-    let values = [height, height, 0, 0, 0];
-    template::show(
-        b"<svg xmlns='http://www.w3.org/2000/svg' width='1200' height='$' viewBox='0 0 1200 $'",
-        &values,
-    );
-    say::text(b" font-family='monospace' font-size='12'>\n<title>");
-    head::census(g, level);
-    say::text(b"</title>\n<rect width='100%' height='100%' fill='white'/>\n<text x='12' y='24'>");
-    head::census(g, level);
-    say::text(b"</text>\n<text x='12' y='44'>");
-    head::cells(g.per);
-    say::text(b"</text>\n");
+fn begin<W: Write>(out: &mut W, g: Grid, level: u8, rows: u64) -> io::Result<()> {
+    let height = TOP + rows.max(20) % 65 * ROW + 12;
+    let title = Title { grid: g, level };
+    write!(out, "<svg xmlns='http://www.w3.org/2000/svg' width='1200'")?;
+    write!(out, " height='{height}' viewBox='0 0 1200 {height}'")?;
+    writeln!(out, " font-family='monospace' font-size='12'>")?;
+    writeln!(out, "<title>{title}</title>")?;
+    writeln!(out, "<rect width='100%' height='100%' fill='white'/>")?;
+    writeln!(out, "<text x='12' y='24'>{title}</text>")?;
+    writeln!(out, "<text x='12' y='44'>{}</text>", Scale(g.per))
 }
 
-pub fn show(counts: &[u64; 129], letters: &[u8; 4096], g: Grid, level: u64) {
+pub fn show<W: Write>(
+    out: &mut W,
+    counts: &[u64; 129],
+    letters: &[u8; 4096],
+    g: Grid,
+    level: u8,
+) -> io::Result<()> {
     let count = cells::rows(g.cells);
-    begin(g, level, count);
-    rows(letters, g, count);
-    legend(counts, letters);
-    say::text(b"</svg>\n");
+    begin(out, g, level, count)?;
+    rows(out, letters, g, count)?;
+    legend(out, counts, letters)?;
+    writeln!(out, "</svg>")
 }

@@ -6,7 +6,7 @@ use a72abi::inspect;
 use words::place::State;
 
 // Where the range starts, its pages, the pages of a cell and the number of cells.
-#[derive(Drop)]
+#[derive(Clone, Copy)]
 pub struct Grid {
     pub start: u64,
     pub pages: u64,

@@ -1,5 +1,4 @@
 // The letter of pages in the map: how they end. A cell whose pages have several letters has a plus.
-use trace_text::say;
 use word::bits;
 
 // Faults: translation, address size, access flag, external abort, another; flat; no right; readable, executable and
@@ -68,12 +67,10 @@ fn joined(letter: u8, other: u8) -> u8 {
 // What the pages of a census have in common.
 pub fn of_counts(counts: &[u64; 129]) -> u8 {
     let mut letter = NONE;
-    let mut j: usize = 0;
-    while j < 129 {
+    for j in 0..129usize {
         if counts[j] != 0 {
             letter = joined(letter, of_place(j as u64));
         }
-        j += 1;
     }
     letter
 }
@@ -81,45 +78,36 @@ pub fn of_counts(counts: &[u64; 129]) -> u8 {
 // How many pages of a census have a letter.
 pub fn pages_of(counts: &[u64; 129], letter: u8) -> u64 {
     let mut sum = 0u64;
-    let mut j: usize = 0;
-    while j < 129 {
+    for j in 0..129usize {
         if of_place(j as u64) == letter {
-            sum = std::num::wrapping_add_u64(sum, counts[j]);
+            sum = sum.wrapping_add(counts[j]);
         }
-        j += 1;
     }
     sum
 }
 
 // The number of a letter among all of them; that of the last for any other byte.
 pub fn number_of(letter: u8) -> usize {
-    let mut k: usize = 0;
-    while k < 14 {
-        if LETTERS[k] == letter {
-            return k;
-        }
-        k += 1;
-    }
-    14
+    LETTERS.iter().position(|l| *l == letter).unwrap_or(14)
 }
 
 // What a letter means.
-pub fn meaning(letter: u8) {
+pub fn meaning(letter: u8) -> &'static str {
     match letter {
-        b'.' => say::text(b"translation fault"),
-        b's' => say::text(b"address size fault"),
-        b'a' => say::text(b"access flag fault"),
-        b'!' => say::text(b"external abort on a table walk"),
-        b'?' => say::text(b"another fault"),
-        b'=' => say::text(b"flat, stage 1 is off"),
-        b'-' => say::text(b"no right"),
-        b'r' => say::text(b"read only"),
-        b'R' => say::text(b"read only, by EL0 too"),
-        b'x' => say::text(b"executable"),
-        b'X' => say::text(b"executable by EL0"),
-        b'w' => say::text(b"writable"),
-        b'W' => say::text(b"writable by EL0 too"),
-        b'#' => say::text(b"WRITABLE AND EXECUTABLE"),
-        _ => say::text(b"several of these"),
+        b'.' => "translation fault",
+        b's' => "address size fault",
+        b'a' => "access flag fault",
+        b'!' => "external abort on a table walk",
+        b'?' => "another fault",
+        b'=' => "flat, stage 1 is off",
+        b'-' => "no right",
+        b'r' => "read only",
+        b'R' => "read only, by EL0 too",
+        b'x' => "executable",
+        b'X' => "executable by EL0",
+        b'w' => "writable",
+        b'W' => "writable by EL0 too",
+        b'#' => "WRITABLE AND EXECUTABLE",
+        _ => "several of these",
     }
 }

@@ -1,3 +1,4 @@
+#![tactic(auto)]
 // A census shown: a table of how pages end, and a map of the range, as text or as a picture.
 pub mod cells;
 pub mod draw;
@@ -7,4 +8,3 @@ pub mod letter;
 pub mod map;
 pub mod report;
 pub mod table;
-pub mod template;

@@ -1,45 +1,111 @@
 // A census of a core and its window, shown as a table and a map, or as a picture.
 use crate::grid::Grid;
-use crate::{draw, grid, head, letter, map, table};
+use crate::head::Title;
+use crate::{draw, grid, letter, map, table};
 use a72abi::inspect;
-use trace_text::say;
+use std::alloc::Global;
+use std::io::Write;
+use std::{fmt, io};
 use walk::regime;
 use walk_report::explain;
 use words::place::State;
 use words::state;
 
-// The first line of the text.
-fn begin(g: Grid, level: u8) {
-    head::census(g, level as u64);
-    say::text(b": the regime is ");
-    explain::regime_name(regime::regime_of(level));
-    say::text(b"\n");
+// Why there is no census.
+#[derive(Clone, Copy)]
+pub enum Refused {
+    Level,
+    Window,
+    Pages,
+    Range,
 }
 
-fn text(counts: &[u64; 129], letters: &[u8; 4096], g: Grid, level: u8) {
-    begin(g, level);
-    table::show(counts, g, regime::regime_of(level));
-    if g.cells != 0 {
-        map::show(letters, g, libc::isatty(1) == 1);
+impl fmt::Display for Refused {
+    fn fmt<W: fmt::Write>(&self, f: &mut fmt::Formatter<W>) -> fmt::Result {
+        f.write_str(match self {
+            Refused::Level => "the core's level is above 3",
+            Refused::Window => "the window passes 2^64",
+            Refused::Pages => "PAGES: more than 65536 pages (10000 hexadecimal)",
+            Refused::Range => "PAGES: the range passes 2^64",
+        })
     }
 }
 
-// The census at the core's level: 0, or the number of the check that it misses, and then nothing is said.
-pub fn show(state: &State, base: u64, ram: &[u8], first: u64, pages: u64, picture: bool) -> u64 {
+// How a census is shown; colour is for a terminal.
+#[derive(Clone, Copy)]
+pub enum Form {
+    Plain,
+    Coloured,
+    Picture,
+}
+
+// The counts of a range, the letters of its map's cells, and the level that it was made at.
+#[derive(Clone, Copy)]
+pub struct Found {
+    counts: [u64; 129],
+    letters: [u8; 4096],
+    grid: Grid,
+    level: u8,
+}
+
+// What the number of the check that is missed says.
+fn why_not(number: u64, pages: u64) -> Refused {
+    match number {
+        1 => Refused::Level,
+        2 => Refused::Window,
+        _ => {
+            if 0x1_0000 < pages {
+                Refused::Pages
+            } else {
+                Refused::Range
+            }
+        }
+    }
+}
+
+// The census of so many pages at the core's level.
+pub fn census(
+    state: &State,
+    base: u64,
+    ram: &[u8],
+    first: u64,
+    pages: u64,
+) -> Result<Found, Refused> {
     let mut counts = [0u64; 129];
     let number = inspect::a72_census(state, first, pages, &mut counts, base, ram);
     if number != 0 {
-        return number;
+        return Err(why_not(number, pages));
     }
-    let g = grid::of_range(first, pages);
+    let grid = grid::of_range(first, pages);
     let mut letters = [letter::NONE; 4096];
-    grid::fill(state, base, ram, g, &mut letters);
+    grid::fill(state, base, ram, grid, &mut letters);
     let privilege = state::privilege_at(state);
-    let level = privilege.level;
-    if picture {
-        draw::show(&counts, &letters, g, level as u64);
-    } else {
-        text(&counts, &letters, g, level);
+    Ok(Found {
+        counts,
+        letters,
+        grid,
+        level: privilege.level,
+    })
+}
+
+fn text<W: Write>(out: &mut W, alloc: Global, found: &Found, colour: bool) -> io::Result<()> {
+    let grid = found.grid;
+    let level = found.level;
+    let regime = regime::regime_of(level);
+    let title = Title { grid, level };
+    let name = explain::regime_name(regime);
+    writeln!(out, "{title}: the regime is {name}")?;
+    table::show(out, alloc, &found.counts, grid, regime)?;
+    if grid.cells != 0 {
+        map::show(out, &found.letters, grid, colour)?;
     }
-    0
+    Ok(())
+}
+
+pub fn show<W: Write>(out: &mut W, alloc: Global, found: &Found, form: Form) -> io::Result<()> {
+    match form {
+        Form::Plain => text(out, alloc, found, false),
+        Form::Coloured => text(out, alloc, found, true),
+        Form::Picture => draw::show(out, &found.counts, &found.letters, found.grid, found.level),
+    }
 }

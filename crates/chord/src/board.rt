@@ -27,7 +27,7 @@ const TCR: u64 = 0x8080_0019;
 pub const SILENCE: u64 = 0;
 
 // What happens at note-off.
-#[derive(Drop)]
+#[derive(Clone, Copy)]
 pub enum Off {
     // the firmware invalidates the page, and the core does it
     Invalidated,
@@ -73,10 +73,8 @@ fn tables(ram: &mut [u8]) {
 }
 
 fn unmap_all(ram: &mut [u8]) {
-    let mut v = 0u64;
-    while v < 16 {
+    for v in 0..16u64 {
         put(ram, descriptor_at(v), 0);
-        v += 1;
     }
 }
 

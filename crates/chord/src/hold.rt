@@ -3,7 +3,7 @@ use crate::board;
 use crate::board::Off;
 use words::place::State;
 
-#[derive(Drop)]
+#[derive(Clone, Copy)]
 pub struct Desk {
     // a bit for each frame in use
     pub used: u64,
@@ -12,7 +12,7 @@ pub struct Desk {
     pub tones: [u64; 16],
 }
 
-#[derive(Drop)]
+#[derive(Clone, Copy)]
 pub struct Heard {
     pub reads: u64,
     pub lost: u64,
@@ -32,8 +32,8 @@ pub fn nothing() -> Heard {
 
 pub fn sum(a: Heard, b: Heard) -> Heard {
     Heard {
-        reads: std::num::wrapping_add_u64(a.reads, b.reads),
-        lost: std::num::wrapping_add_u64(a.lost, b.lost),
+        reads: a.reads.wrapping_add(b.reads),
+        lost: a.lost.wrapping_add(b.lost),
     }
 }
 
@@ -90,10 +90,8 @@ fn listen(d: Desk, state: &mut State, ram: &[u8], voice: u64) -> Heard {
 // Every voice that is held.
 pub fn listen_all(d: Desk, state: &mut State, ram: &[u8]) -> Heard {
     let mut h = nothing();
-    let mut v = 0u64;
-    while v < 16 {
+    for v in 0..16u64 {
         h = sum(h, listen(d, state, ram, v));
-        v += 1;
     }
     h
 }

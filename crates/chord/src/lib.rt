@@ -1,3 +1,4 @@
+#![tactic(auto)]
 // The chord: sixteen voices, a page each, on the core. A voice's page is mapped to the frame that holds its tone,
 // and read through the core.
 pub mod board;

@@ -1,38 +1,23 @@
-// The names of notes on standard output.
-use trace_text::say::{spaces, text};
+// The names of notes.
+use std::fmt;
 
-fn pitch(n: u64) {
-    match n % 12 {
-        0 => text(b"C"),
-        1 => text(b"C#"),
-        2 => text(b"D"),
-        3 => text(b"Eb"),
-        4 => text(b"E"),
-        5 => text(b"F"),
-        6 => text(b"F#"),
-        7 => text(b"G"),
-        8 => text(b"G#"),
-        9 => text(b"A"),
-        10 => text(b"Bb"),
-        _ => text(b"B"),
-    }
-}
+const PITCHES: [&str; 12] = [
+    "C", "C#", "D", "Eb", "E", "F", "F#", "G", "G#", "A", "Bb", "B",
+];
 
-// How many letters a note's name has: its pitch, with a sharp or a flat or none, and its octave.
-fn letters(n: u64) -> u64 {
-    match n % 12 {
-        1 | 3 | 6 | 8 | 10 => 3,
-        _ => 2,
-    }
-}
+// A tone, by its name in four columns, as C4 of the number 60; a dash for no tone of the sixteen voices.
+#[derive(Clone, Copy)]
+pub struct Note(pub u64);
 
-// A tone's name, as C4 of the number 60, in four columns; a dash for no tone of the sixteen voices.
-pub fn show(n: u64) {
-    if n < 24 || 119 < n {
-        text(b"-   ");
-        return;
+impl fmt::Display for Note {
+    fn fmt<W: fmt::Write>(&self, f: &mut fmt::Formatter<W>) -> fmt::Result {
+        let n = self.0;
+        if n < 24 || 119 < n {
+            return f.write_str("-   ");
+        }
+        let pitch = PITCHES[(n % 12) as usize];
+        let octave = n / 12 - 1;
+        let end = if pitch.len() == 1 { "  " } else { " " };
+        write!(f, "{pitch}{octave}{end}")
     }
-    pitch(n);
-    io::print_decimal(1, n / 12 - 1);
-    spaces(4 - letters(n) % 4);
 }

@@ -1,17 +1,18 @@
 // Every order of a small chord: four keys, of which two are pressed twice, so ten events. An order is a number of
-// ten digits to the base
-// four, a key each; the first time a key comes it is pressed, then let go, then pressed again.
+// ten digits to the base four, a key each; the first time a key comes it is pressed, then let go, then pressed again.
 use crate::board::Off;
 use crate::hold::{Desk, Heard};
-use crate::{board, hold, note};
-use trace_text::say;
+use crate::note::Note;
+use crate::{board, hold};
+use std::io::Write;
+use std::{fmt, io};
 use words::place::State;
 
 // Numbers of ten such digits.
 const ALL: u64 = 0x10_0000;
 
 // What was heard in every order.
-#[derive(Drop)]
+#[derive(Clone, Copy)]
 pub struct Tally {
     pub orders: u64,
     pub heard: Heard,
@@ -43,11 +44,9 @@ fn tone(key: u64) -> u64 {
 // How often each key comes, sixteen times as much for the next key.
 fn counts(order: u64) -> u64 {
     let mut n = 0u64;
-    let mut i = 0u64;
-    while i < 10 {
+    for i in 0..10u64 {
         let k = key(order, i);
-        n = std::num::wrapping_add_u64(n, 1 << (k % 4 * 4));
-        i += 1;
+        n = n.wrapping_add(1 << (k % 4 * 4));
     }
     n
 }
@@ -72,11 +71,9 @@ fn play(state: &mut State, ram: &mut [u8], order: u64, off: Off) -> Heard {
     board::start(state, ram);
     let mut d = hold::silent();
     let mut h = hold::nothing();
-    let mut i = 0u64;
-    while i < 10 {
+    for i in 0..10u64 {
         d = event(d, state, ram, key(order, i), off);
         h = hold::sum(h, hold::listen_all(d, state, ram));
-        i += 1;
     }
     h
 }
@@ -95,9 +92,9 @@ fn counted(t: Tally, order: u64, h: Heard) -> Tally {
     let heard = hold::sum(before, h);
     let wrong = h.lost != 0;
     Tally {
-        orders: std::num::wrapping_add_u64(t.orders, 1),
+        orders: t.orders.wrapping_add(1),
         heard,
-        wrong: std::num::wrapping_add_u64(t.wrong, wrong as u64),
+        wrong: t.wrong.wrapping_add(wrong as u64),
         first: if wrong && t.wrong == 0 {
             order
         } else {
@@ -119,59 +116,78 @@ fn tried(t: Tally, state: &mut State, ram: &mut [u8], order: u64, off: Off) -> T
 // All orders.
 pub fn all(state: &mut State, ram: &mut [u8], off: Off) -> Tally {
     let mut t = none();
-    let mut order = 0u64;
-    while order < ALL {
+    for order in 0..ALL {
         t = tried(t, state, ram, order, off);
-        order += 1;
     }
     t
 }
 
-// What a key that is held gives.
-fn show_key(d: Desk, state: &mut State, ram: &[u8], k: u64) {
-    let v = voice(k);
-    let expected = hold::tone_of(d, v);
-    if expected == 0 {
-        say::text(b"   .              ");
-        return;
-    }
-    let heard = board::hear(state, ram, v);
-    say::text(b"   ");
-    note::show(expected);
-    say::text(b"-> ");
-    note::show(heard);
-    if heard != expected {
-        say::text(b"LOST");
-    } else {
-        say::text(b"    ");
+// What a key gives, where it is held, and what it should.
+#[derive(Clone, Copy)]
+struct Gives {
+    expected: u64,
+    heard: u64,
+}
+
+impl fmt::Display for Gives {
+    fn fmt<W: fmt::Write>(&self, f: &mut fmt::Formatter<W>) -> fmt::Result {
+        if self.expected == 0 {
+            return f.write_str("   .              ");
+        }
+        let end = if self.heard == self.expected {
+            "    "
+        } else {
+            "LOST"
+        };
+        let expected = Note(self.expected);
+        let heard = Note(self.heard);
+        write!(f, "   {expected}-> {heard}{end}")
     }
 }
 
-fn show_event(d: Desk, state: &mut State, ram: &[u8], k: u64) {
-    let down = hold::tone_of(d, voice(k)) != 0;
-    say::text(b"     ");
-    note::show(tone(k));
-    if down {
-        say::text(b"on ");
+// What a key gives; one that is not held is not read.
+fn given(d: Desk, state: &mut State, ram: &[u8], k: u64) -> Gives {
+    let v = voice(k);
+    let expected = hold::tone_of(d, v);
+    let heard = if expected == 0 {
+        board::SILENCE
     } else {
-        say::text(b"off");
+        board::hear(state, ram, v)
+    };
+    Gives { expected, heard }
+}
+
+fn show_event<W: Write>(
+    out: &mut W,
+    d: Desk,
+    state: &mut State,
+    ram: &[u8],
+    k: u64,
+) -> io::Result<()> {
+    let down = hold::tone_of(d, voice(k)) != 0;
+    let end = if down { "on " } else { "off" };
+    write!(out, "     {}", Note(tone(k)))?;
+    write!(out, "{end}")?;
+    for other in 0..4u64 {
+        write!(out, "{}", given(d, state, ram, other))?;
     }
-    show_key(d, state, ram, 0);
-    show_key(d, state, ram, 1);
-    show_key(d, state, ram, 2);
-    show_key(d, state, ram, 3);
-    say::text(b"\n");
+    writeln!(out)
 }
 
 // One order, event by event.
-pub fn show(state: &mut State, ram: &mut [u8], order: u64, off: Off) {
+pub fn show<W: Write>(
+    out: &mut W,
+    state: &mut State,
+    ram: &mut [u8],
+    order: u64,
+    off: Off,
+) -> io::Result<()> {
     board::start(state, ram);
     let mut d = hold::silent();
-    let mut i = 0u64;
-    while i < 10 {
+    for i in 0..10u64 {
         let k = key(order, i);
         d = event(d, state, ram, k, off);
-        show_event(d, state, ram, k);
-        i += 1;
+        show_event(out, d, state, ram, k)?;
     }
+    Ok(())
 }

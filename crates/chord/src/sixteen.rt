@@ -2,8 +2,10 @@
 // another had.
 use crate::board::Off;
 use crate::hold::{Desk, Heard};
-use crate::{board, hold, note};
-use trace_text::say;
+use crate::note::Note;
+use crate::{board, hold};
+use std::io;
+use std::io::Write;
 use words::place::State;
 
 // The first sixteen partials of a low C, as numbers of notes.
@@ -35,50 +37,43 @@ fn sharp(voice: u64) -> u64 {
 
 pub fn press_all(ram: &mut [u8]) -> Desk {
     let mut d = hold::silent();
-    let mut v = 0u64;
-    while v < 16 {
+    for v in 0..16u64 {
         d = hold::press(d, ram, v, partial(v));
-        v += 1;
     }
     d
 }
 
 // A row: the voice, its note, its page, the slot of its entry, its frame, and what is heard.
-fn row(d: Desk, state: &mut State, ram: &[u8], voice: u64) {
-    let heard = board::hear(state, ram, voice);
-    say::number(voice % 16 + 1, 8);
-    say::text(b"   ");
-    note::show(hold::tone_of(d, voice));
-    say::text(b"  ");
-    say::hex(board::address(voice), 6);
-    say::text(b"    ");
-    say::hex(board::page(voice) % 1024, 3);
-    say::text(b"   ");
-    say::hex(board::frame(hold::frame_of(d, voice)), 8);
-    say::text(b"   ");
-    note::show(heard);
-    say::text(b"\n");
-}
-
-fn rows(d: Desk, state: &mut State, ram: &[u8]) {
-    let mut v = 0u64;
-    while v < 16 {
-        row(d, state, ram, v);
-        v += 1;
-    }
+fn row<W: Write>(
+    out: &mut W,
+    d: Desk,
+    state: &mut State,
+    ram: &[u8],
+    voice: u64,
+) -> io::Result<()> {
+    let heard = Note(board::hear(state, ram, voice));
+    let note = Note(hold::tone_of(d, voice));
+    let address = board::address(voice);
+    let slot = board::page(voice) % 1024;
+    let frame = board::frame(hold::frame_of(d, voice));
+    let number = voice % 16 + 1;
+    write!(out, "{number:>8}   {note}  {address:06x}")?;
+    writeln!(out, "    {slot:03x}   {frame:08x}   {heard}")
 }
 
 // All sixteen are held, and shown.
-pub fn table(state: &mut State, ram: &mut [u8]) -> Heard {
+pub fn table<W: Write>(out: &mut W, state: &mut State, ram: &mut [u8]) -> io::Result<Heard> {
     board::start(state, ram);
     let d = press_all(ram);
-    say::text(b"   voice   note  page      slot  frame      heard\n");
-    rows(d, state, ram);
-    hold::listen_all(d, state, ram)
+    writeln!(out, "   voice   note  page      slot  frame      heard")?;
+    for v in 0..16u64 {
+        row(out, d, state, ram, v)?;
+    }
+    Ok(hold::listen_all(d, state, ram))
 }
 
 // The voices as they are held, and what was heard so far.
-#[derive(Drop)]
+#[derive(Clone, Copy)]
 pub struct Round {
     pub desk: Desk,
     pub heard: Heard,
@@ -126,10 +121,8 @@ pub fn changes(state: &mut State, ram: &mut [u8], off: Off) -> Heard {
         desk: d,
         heard: hold::listen_all(d, state, ram),
     };
-    let mut v = 0u64;
-    while v < 16 {
-        r = swap(r, state, ram, v, off);
-        v += 2;
+    for pair in 0..8u64 {
+        r = swap(r, state, ram, 2 * pair, off);
     }
     r.heard
 }

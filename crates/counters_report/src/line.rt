@@ -1,17 +1,21 @@
 // The counters in a line of `a72 run`: the sums of the hits and of the walks, then each level's own.
 use crate::total;
-use trace_text::out;
+use std::fmt;
 
-fn pair(line: &mut [u8; 1024], n: usize, name: &[u8], hits: u64, walks: u64) -> usize {
-    let a = out::field(line, n, name, hits);
-    out::field(line, a, b":", walks)
-}
+#[derive(Clone, Copy)]
+pub struct Levels<'a>(pub &'a [u64; 8]);
 
-pub fn show(line: &mut [u8; 1024], n: usize, levels: &[u64; 8]) -> usize {
-    let a = out::field(line, n, b" | h=", total::hits(levels));
-    let b = out::field(line, a, b" w=", total::walks(levels));
-    let c = pair(line, b, b" l0=", levels[0], levels[1]);
-    let d = pair(line, c, b" l1=", levels[2], levels[3]);
-    let e = pair(line, d, b" l2=", levels[4], levels[5]);
-    pair(line, e, b" l3=", levels[6], levels[7])
+impl fmt::Display for Levels<'_> {
+    fn fmt<W: fmt::Write>(&self, f: &mut fmt::Formatter<W>) -> fmt::Result {
+        let levels = self.0;
+        let [hits0, walks0, hits1, walks1, hits2, walks2, hits3, walks3] = *levels;
+        write!(
+            f,
+            "h={:x} w={:x}",
+            total::hits(levels),
+            total::walks(levels)
+        )?;
+        write!(f, " l0={hits0:x}:{walks0:x} l1={hits1:x}:{walks1:x}")?;
+        write!(f, " l2={hits2:x}:{walks2:x} l3={hits3:x}:{walks3:x}")
+    }
 }

@@ -1,40 +1,29 @@
 // Who walks most, in a sentence.
 use crate::total;
-use trace_text::say;
-
-// A level's name where it is one of those that walk most, after so many names; how many are said then.
-fn name(level: u64, walks: u64, most: u64, said: u64) -> u64 {
-    if walks != most {
-        return said;
-    }
-    if said != 0 {
-        say::text(b" and ");
-    }
-    say::field(b"EL", level);
-    said % 4 + 1
-}
-
-fn larger(a: u64, b: u64) -> u64 {
-    if a < b { b } else { a }
-}
+use std::io;
+use std::io::Write;
 
 // The sum is named where it did not wrap.
-pub fn show(levels: &[u64; 8], whole: bool) {
-    let most = larger(larger(levels[1], levels[3]), larger(levels[5], levels[7]));
+pub fn show<W: Write>(out: &mut W, levels: &[u64; 8], whole: bool) -> io::Result<()> {
+    let walks = [levels[1], levels[3], levels[5], levels[7]];
+    let most = walks[0].max(walks[1]).max(walks[2].max(walks[3]));
     if most == 0 {
-        say::text(b"nothing was walked\n");
-        return;
+        return writeln!(out, "nothing was walked");
     }
-    let a = name(0, levels[1], most, 0);
-    let b = name(1, levels[3], most, a);
-    let c = name(2, levels[5], most, b);
-    if name(3, levels[7], most, c) == 1 {
-        say::field(b" walks most: ", most);
+    let mut before = "";
+    for level in 0..4usize {
+        if walks[level] == most {
+            write!(out, "{before}EL{level}")?;
+            before = " and ";
+        }
+    }
+    if walks.iter().filter(|w| **w == most).count() == 1 {
+        write!(out, " walks most: {most}")?;
     } else {
-        say::field(b" walk most: each ", most);
+        write!(out, " walk most: each {most}")?;
     }
     if whole {
-        say::field(b" of ", total::walks(levels));
+        write!(out, " of {}", total::walks(levels))?;
     }
-    say::text(b" walks\n");
+    writeln!(out, " walks")
 }

@@ -4,9 +4,7 @@ ghost use Rattle.std.specs.Prelude.{◌≡◌, ◌+◌, ◌%◌, ◌^◌, slice_
 fn of_four(a: u64, b: u64, c: u64, d: u64) -> u64
     ensures { result ≡ (a + b + c + d) % 2 ^ 64 }
 {
-    let low = std::num::wrapping_add_u64(a, b);
-    let more = std::num::wrapping_add_u64(low, c);
-    std::num::wrapping_add_u64(more, d)
+    a.wrapping_add(b).wrapping_add(c).wrapping_add(d)
 }
 
 // The hits of all levels, wrapped at 2^64 as the counters are.

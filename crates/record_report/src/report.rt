@@ -1,8 +1,11 @@
 // The summary: each record, operations by kind and answer, cases by class.
-use crate::{say, tables, tally};
+use crate::tables::Answer;
+use crate::{tables, tally};
+use std::io;
+use std::io::Write;
 
 // What all records came to.
-#[derive(Drop)]
+#[derive(Clone, Copy)]
 pub struct Total {
     pub files: u64,
     pub done: u64,
@@ -12,103 +15,66 @@ pub struct Total {
 }
 
 // A record's line: operations replayed and left out, cases, differences.
-pub fn file(done: u64, left: u64, cases: u64, wrong: u64) {
-    if wrong == 0 {
-        say::text(b": ");
-    } else {
-        say::text(b"\n  ");
-    }
-    say::part(done, b"operations", true);
+pub fn file<W: Write>(out: &mut W, done: u64, left: u64, cases: u64, wrong: u64) -> io::Result<()> {
+    let start = if wrong == 0 { ": " } else { "\n  " };
+    write!(out, "{start}{done} operations")?;
     if left != 0 {
-        say::part(left, b"left out", false);
+        write!(out, ", {left} left out")?;
     }
     if cases != 0 {
-        say::part(cases, b"cases", false);
+        write!(out, ", {cases} cases")?;
     }
-    say::part(wrong, b"differences\n", false);
-}
-
-fn answer(kind: u64, class: u64, n: u64, first: bool) {
-    if first {
-        say::text(b"  ");
-    } else {
-        say::text(b", ");
-    }
-    tables::answer_name(kind, class);
-    say::text(b" ");
-    say::decimal(n);
+    writeln!(out, ", {wrong} differences")
 }
 
 // How often a kind gave any answer.
 fn sum_of(kind: u64, counts: &[u64; 2048]) -> u64 {
     let mut sum = 0u64;
-    let mut class = 0u64;
-    while class < 84 {
-        sum = std::num::wrapping_add_u64(sum, tally::at(kind, class, counts));
-        class += 1;
+    for class in 0..tally::CLASSES {
+        sum = sum.wrapping_add(tally::at(kind, class, counts));
     }
     sum
 }
 
-fn row(kind: u64, counts: &[u64; 2048]) {
+// A kind, how often it was asked for, and how often it gave each answer.
+fn row<W: Write>(out: &mut W, kind: u64, counts: &[u64; 2048]) -> io::Result<()> {
     let sum = sum_of(kind, counts);
     if sum == 0 {
-        return;
+        return Ok(());
     }
-    tables::kind_name(kind);
-    say::text(b" ");
-    say::decimal(sum);
-    let mut first = true;
-    let mut class = 0u64;
-    while class < 84 {
+    write!(out, "{} {sum}", tables::kind_name(kind))?;
+    let mut before = "  ";
+    for class in 0..tally::CLASSES {
         let n = tally::at(kind, class, counts);
         if n != 0 {
-            answer(kind, class, n, first);
-            first = false;
+            write!(out, "{before}{} {n}", Answer { kind, class })?;
+            before = ", ";
         }
-        class += 1;
     }
-    say::text(b"\n");
+    writeln!(out)
 }
 
-fn rows(counts: &[u64; 2048]) {
-    let mut kind = 0u64;
-    while kind < 21 {
-        row(kind, counts);
-        kind += 1;
-    }
-}
-
-fn class_row(class: u64, counts: &[u64; 2048]) {
+fn class_row<W: Write>(out: &mut W, class: u64, counts: &[u64; 2048]) -> io::Result<()> {
     let n = tally::cases_at(class, counts);
     if n != 0 {
-        tables::class_name(class);
-        say::text(b" ");
-        say::decimal(n);
-        say::text(b"\n");
+        writeln!(out, "{} {n}", tables::class_name(class))?;
     }
-}
-
-fn classes(counts: &[u64; 2048]) {
-    let mut class = 0u64;
-    while class < 32 {
-        class_row(class, counts);
-        class += 1;
-    }
+    Ok(())
 }
 
 // The whole summary.
-pub fn all(t: Total, counts: &[u64; 2048]) {
-    say::text(b"\nRecorded answers, by operation:\n");
-    rows(counts);
-    say::text(b"\nOutside vectors, by class of difference:\n");
-    classes(counts);
-    say::text(b"\n");
-    say::part(t.files, b"records", true);
-    say::part(t.done, b"operations", false);
-    say::part(t.left, b"left out", false);
-    say::part(t.cases, b"outside cases", false);
-    say::text(b"; differences ");
-    say::decimal(t.wrong);
-    say::text(b"\n");
+pub fn all<W: Write>(out: &mut W, t: Total, counts: &[u64; 2048]) -> io::Result<()> {
+    writeln!(out, "\nRecorded answers, by operation:")?;
+    for kind in 0..tally::KINDS {
+        row(out, kind, counts)?;
+    }
+    writeln!(out, "\nOutside vectors, by class of difference:")?;
+    for class in 0..tally::CASE_CLASSES {
+        class_row(out, class, counts)?;
+    }
+    writeln!(
+        out,
+        "\n{} records, {} operations, {} left out, {} outside cases; differences {}",
+        t.files, t.done, t.left, t.cases, t.wrong
+    )
 }

@@ -1,6 +1,13 @@
 // How often each operation gave each answer. A row for each kind of operation, 84 places long.
 use word::bits;
 
+// How many kinds have a name, places has a kind's row, and classes of difference there are.
+pub const KINDS: u64 = 21;
+
+pub const CLASSES: u64 = 84;
+
+pub const CASE_CLASSES: u64 = 32;
+
 // DecodedKind, in the order of their names.
 fn system_kind(op: &[u64; 8]) -> u64 {
     let zeroing = (op[1] == 3) & (op[2] == 7) & (op[3] == 4) & (op[4] == 1);

@@ -1,12 +1,16 @@
 // Cases that another implementation answered: what the core must come to, and for a class of difference what it must
 // not.
 use crate::lines::Replay;
-use crate::{lines, parts};
-use record_report::{say, tally};
+use crate::parts;
+use crate::stop::{Fault, Stop};
+use record_report::difference::Difference;
+use record_report::tally;
+use std::io;
+use std::io::Write;
 use word::bits;
 use words::place::State;
 
-#[derive(Drop)]
+#[derive(Clone, Copy)]
 pub struct Case {
     // up to two classes, a byte each; 0 where both answer alike
     pub class: u64,
@@ -16,11 +20,7 @@ pub struct Case {
     pub same: u64,
 }
 
-pub fn none() -> Case {
-    begun(0)
-}
-
-fn begun(class: u64) -> Case {
+pub fn begun(class: u64) -> Case {
     Case {
         class,
         wrong: false,
@@ -33,60 +33,51 @@ fn begun(class: u64) -> Case {
 const ANSWER: u64 = 0x1_0000;
 
 // A word of the state or of the last answer.
-fn found(m: Replay, state: &State, place: u64) -> u64 {
-    let a = m.ans;
+fn found(m: &Replay, state: &State, place: u64) -> u64 {
     if place < ANSWER {
         return parts::get(state, place);
     }
     match place - ANSWER {
-        0 => a[0],
-        1 => a[1],
-        2 => a[2],
-        3 => a[3],
+        0 => m.ans[0],
+        1 => m.ans[1],
+        2 => m.ans[2],
+        3 => m.ans[3],
         _ => 0,
     }
 }
 
-fn begin(m: Replay, class: u64) -> Replay {
-    let mut out = m;
-    let c = begun(class);
-    out.case = c;
-    out
-}
-
 // What the core must have come to.
-fn due(m: Replay, place: u64, is: u64, want: u64) -> Replay {
+fn due<W: Write>(m: &mut Replay, out: &mut W, place: u64, is: u64, want: u64) -> io::Result<()> {
     if is == want {
-        return m;
+        return Ok(());
     }
-    say::differs(m.lines, place, is, want);
-    let mut c = m.case;
-    c.wrong = true;
-    let mut out = m;
-    out.case = c;
-    out
+    m.case.wrong = true;
+    let difference = Difference {
+        line: m.lines,
+        word: place,
+        name: None,
+        is,
+        want,
+    };
+    write!(out, "{difference}")
 }
 
 // The answer that is due: its code, third and fourth word in one, and its second word.
-fn answered(m: Replay, small: u64, value: u64) -> Replay {
+fn answered<W: Write>(m: &mut Replay, out: &mut W, small: u64, value: u64) -> io::Result<()> {
     let a = m.ans;
-    let code = due(m, ANSWER, a[0], small % 256);
-    let second = due(code, ANSWER + 1, a[1], value);
-    let third = due(second, ANSWER + 2, a[2], small / 256 % 256);
-    due(third, ANSWER + 3, a[3], small / 65536 % 256)
+    due(m, out, ANSWER, a[0], small % 256)?;
+    due(m, out, ANSWER + 1, a[1], value)?;
+    due(m, out, ANSWER + 2, a[2], small / 256 % 256)?;
+    due(m, out, ANSWER + 3, a[3], small / 65536 % 256)
 }
 
 // A part of the other answer.
-fn other(m: Replay, state: &State, place: u64, told: u64) -> Replay {
+fn other(m: &mut Replay, state: &State, place: u64, told: u64) {
     let is = found(m, state, place);
-    let mut c = m.case;
-    c.told = bits::more(c.told);
+    m.case.told = bits::more(m.case.told);
     if is == told {
-        c.same = bits::more(c.same);
+        m.case.same = bits::more(m.case.same);
     }
-    let mut out = m;
-    out.case = c;
-    out
 }
 
 // A case is right where all that is due was found; and where a class is named, some part of the other answer was not.
@@ -107,27 +98,35 @@ fn note(c: Case, counts: &mut [u64; 2048]) {
     }
 }
 
-fn end(m: Replay, counts: &mut [u64; 2048]) -> Replay {
+fn end<W: Write>(m: &mut Replay, out: &mut W, counts: &mut [u64; 2048]) -> io::Result<()> {
     let c = m.case;
-    let mut out = m;
-    out.cases = bits::more(m.cases);
+    m.cases = bits::more(m.cases);
     if right(c) {
         note(c, counts);
-        return out;
+        return Ok(());
     }
-    if !c.wrong {
-        say::text(b"\n  a case that agrees, or has no class");
+    m.wrong = bits::more(m.wrong);
+    if c.wrong {
+        Ok(())
+    } else {
+        write!(out, "\n  a case that agrees, or has no class")
     }
-    lines::wrong(out)
 }
 
-pub fn line(m: Replay, op: &[u64; 8], state: &State, counts: &mut [u64; 2048]) -> Replay {
+pub fn line<W: Write>(
+    m: &mut Replay,
+    out: &mut W,
+    op: &[u64; 8],
+    state: &State,
+    counts: &mut [u64; 2048],
+) -> Result<(), Stop> {
     match op[0] {
-        70 => begin(m, op[1]),
-        71 => due(m, op[1], parts::get(state, op[1]), op[2]),
+        70 => m.case = begun(op[1]),
+        71 => due(m, out, op[1], parts::get(state, op[1]), op[2])?,
         72 => other(m, state, op[1], op[2]),
-        73 => end(m, counts),
-        74 => answered(m, op[1], op[2]),
-        _ => lines::broken(m, b"no such line"),
+        73 => end(m, out, counts)?,
+        74 => answered(m, out, op[1], op[2])?,
+        _ => return Err(Stop::Broken(Fault::NoSuchLine)),
     }
+    Ok(())
 }

@@ -1,18 +1,21 @@
 // The words after an operation, held against what the core answered and holds.
 use crate::lines::Replay;
 use crate::rows::Words;
-use crate::{lines, parts, rows};
-use record_report::{say, tally};
+use crate::stop::{Fault, Stop};
+use crate::{parts, rows};
+use record_report::difference::Difference;
+use record_report::tally;
+use std::io;
+use std::io::Write;
 use trace_core::line;
+use word::bits;
 use words::place;
 use words::place::State;
 
 // The words of the state, by the table.
 fn put_state(state: &State, is: &mut Words) {
-    let mut i: usize = 0;
-    while i < rows::STATE {
-        is[rows::ANSWER + i] = parts::get(state, rows::place_of(i) as u64);
-        i += 1;
+    for i in 0..rows::STATE {
+        is[rows::ANSWER + i] = parts::get(state, rows::PLACES[i] as u64);
     }
 }
 
@@ -31,78 +34,67 @@ fn put_digests(sum: u64, state: &State, is: &mut Words) {
 }
 
 // As the core has them.
-fn words_after(m: Replay, state: &State) -> Words {
-    let a = m.ans;
+fn words_after(ans: [u64; 4], sum: u64, state: &State) -> Words {
     let mut is = [0u64; rows::AFTER];
-    is[0] = a[0];
-    is[1] = a[1];
-    is[2] = a[2];
-    is[3] = a[3];
+    is[0] = ans[0];
+    is[1] = ans[1];
+    is[2] = ans[2];
+    is[3] = ans[3];
     put_state(state, &mut is);
-    put_digests(m.sum, state, &mut is);
+    put_digests(sum, state, &mut is);
     is
 }
 
-// A word that differs, by its place in the line and its name.
-fn show(m: Replay, i: u64, is: u64, want: u64) -> Replay {
-    say::at_line(m.lines);
-    say::place(8 + i % 64);
-    say::text(b" (");
-    rows::name(i);
-    say::text(b")");
-    say::values(is, want);
-    lines::wrong(m)
-}
-
-// The first of some words that is not as recorded, or their number.
-fn first_wrong(is: &[u64], want: &[u8]) -> usize {
-    let mut i: usize = 0;
-    while i < is.len() {
-        if is[i] != parts::word_of(want, i as u64 % 64) {
-            break;
+// The first of some words that is not as recorded.
+fn first_wrong(is: &Words, want: &[u8]) -> Option<usize> {
+    for i in 0..rows::AFTER {
+        if is[i] != parts::word_of(want, i as u64) {
+            return Some(i);
         }
-        i += 1;
     }
-    i
+    None
 }
 
-fn judge(m: Replay, state: &State, want: &[u8]) -> Replay {
-    let is = words_after(m, state);
-    let i = first_wrong(&is, want);
-    if i < rows::AFTER {
-        show(m, i as u64, is[i], parts::word_of(want, i as u64))
-    } else {
-        m
-    }
+// A word that differs is shown by its place in the line and its name.
+fn judge<W: Write>(m: &mut Replay, out: &mut W, state: &State, want: &[u8]) -> io::Result<()> {
+    let is = words_after(m.ans, m.sum, state);
+    let Some(i) = first_wrong(&is, want) else {
+        return Ok(());
+    };
+    m.wrong = bits::more(m.wrong);
+    let difference = Difference {
+        line: m.lines,
+        word: 8 + i as u64 % 64,
+        name: Some(rows::name(i as u64)),
+        is: if i < rows::AFTER { is[i] } else { 0 },
+        want: parts::word_of(want, i as u64),
+    };
+    write!(out, "{difference}")
 }
 
 // The digest of RAM, taken anew where RAM may have changed.
-fn summed(m: Replay, ram: &[u8]) -> Replay {
-    let mut out = m;
+fn sum_up(m: &mut Replay, ram: &[u8]) {
     if m.stale {
-        let window = m.window;
-        out.sum = line::window_digest(window, ram);
-        out.stale = false;
+        m.sum = line::window_digest(m.window, ram);
+        m.stale = false;
     }
-    out
 }
 
 // The words after an operation.
-pub fn tail(
-    m: Replay,
-    fd: i32,
+pub fn tail<W: Write>(
+    m: &mut Replay,
+    out: &mut W,
+    want: &[u8],
     op: &[u64; 8],
     state: &State,
     ram: &[u8],
     counts: &mut [u64; 2048],
-) -> Replay {
-    let mut want = [0u8; rows::BYTES];
-    let n = io::read_full(fd, &mut want);
-    if n < rows::BYTES {
-        return lines::broken(m, b"the last line is not whole");
+) -> Result<(), Stop> {
+    if want.len() < rows::BYTES {
+        return Err(Stop::Broken(Fault::ShortLine));
     }
-    let ans = m.ans;
-    tally::note(op, ans, state[place::PAR_EL1], counts);
-    let now = summed(m, ram);
-    judge(now, state, &want[..n])
+    tally::note(op, m.ans, state[place::PAR_EL1], counts);
+    sum_up(m, ram);
+    judge(m, out, state, want)?;
+    Ok(())
 }

@@ -1,7 +1,11 @@
 // A record's lines, one after another, on the core's words and a window of RAM.
 use crate::cases::Case;
+use crate::parts::Bytes;
+use crate::stop::{Fault, Stop};
 use crate::{cases, judge, parts, rows};
-use record_report::{say, short};
+use record_report::short;
+use std::io;
+use std::io::Write;
 use trace_core::line::Machine;
 use trace_core::{line, memory};
 use word::bits;
@@ -10,14 +14,16 @@ use words::place::State;
 // The first word of machine's answer where words name no operation.
 const NO_ANSWER: u64 = 99;
 
+// No record has more lines.
+const LINES: u64 = 100_000_000;
+
 // What stands while a record is replayed, beside the core's words and RAM.
-#[derive(Drop)]
+#[derive(Clone, Copy)]
 pub struct Replay {
     pub window: Machine,
     // the digest of RAM, and whether RAM may have changed since it was taken
     pub sum: u64,
     pub stale: bool,
-    pub more: bool,
     pub lines: u64,
     pub done: u64,
     // operations that the header has and that were not replayed
@@ -31,91 +37,67 @@ pub struct Replay {
 
 // A fresh core, and a window without bytes.
 fn start(state: &mut State) -> Replay {
-    let window = line::start(state);
-    let case = cases::none();
     Replay {
-        window,
+        window: line::start(state),
         sum: 0,
         stale: true,
-        more: true,
         lines: 0,
         done: 0,
         left: 0,
         wrong: 0,
-        case,
+        case: cases::begun(0),
         cases: 0,
         ans: [0; 4],
     }
 }
 
-// One difference more; the lines after it are not replayed.
-pub fn broken(m: Replay, why: &[u8]) -> Replay {
-    let mut out = wrong(m);
-    out.more = false;
-    say::text(b"\n  ");
-    say::text(why);
-    out
-}
-
-// One difference more.
-pub fn wrong(m: Replay) -> Replay {
-    let mut out = m;
-    out.wrong = bits::more(m.wrong);
-    out
+// One difference more: a fault of the record.
+fn faulty<W: Write>(m: &mut Replay, out: &mut W, fault: Fault) -> io::Result<()> {
+    m.wrong = bits::more(m.wrong);
+    write!(out, "\n  {fault}")
 }
 
 // RAM's digest is stale after a line that may have changed RAM.
-fn moved(m: Replay, op: &[u64; 8]) -> Replay {
-    let mut out = m;
-    let changes = line::moves_ram(op);
-    if changes {
-        out.stale = true;
+fn move_on(m: &mut Replay, op: &[u64; 8]) {
+    if line::moves_ram(op) {
+        m.stale = true;
     }
-    out
-}
-
-// An operation counted, with its answer.
-fn counted(m: Replay, op: &[u64; 8], ans: &[u64; 4]) -> Replay {
-    let mut out = moved(m, op);
-    let last = *ans;
-    out.ans = last;
-    out.done = bits::more(m.done);
-    out
 }
 
 // An operation: where the line is a whole one, the words after it are held against the core.
-fn operate(
-    m: Replay,
-    fd: i32,
+fn operate<W: Write>(
+    m: &mut Replay,
+    out: &mut W,
+    bytes: &mut Bytes<'_>,
     op: &[u64; 8],
     whole: bool,
     state: &mut State,
     ram: &mut [u8],
     counts: &mut [u64; 2048],
-) -> Replay {
-    let window = m.window;
-    let ans = line::perform(window, state, ram, op);
+) -> Result<(), Stop> {
+    let ans = line::perform(m.window, state, ram, op);
     if ans[0] == NO_ANSWER {
-        return broken(m, b"no such operation");
+        return Err(Stop::Broken(Fault::NoSuchOperation));
     }
-    let out = counted(m, op, &ans);
+    move_on(m, op);
+    m.ans = ans;
+    m.done = bits::more(m.done);
     if whole {
-        judge::tail(out, fd, op, state, ram, counts)
+        judge::tail(m, out, bytes.next(rows::BYTES), op, state, ram, counts)
     } else {
-        out
+        Ok(())
     }
 }
 
 // A line of code 60 to 63.
-fn arrange(m: Replay, op: &[u64; 8], state: &mut State, ram: &mut [u8]) -> Replay {
+fn arrange(m: &mut Replay, op: &[u64; 8], state: &mut State, ram: &mut [u8]) -> Result<(), Stop> {
     if (op[0] == 61) & (memory::LONGEST < op[2]) {
-        return broken(m, b"the window is too large");
+        return Err(Stop::Broken(Fault::LargeWindow));
     }
-    let window = m.window;
-    let after = line::arrange(window, state, ram, op);
-    let mut out = moved(m, op);
-    out.window = after;
-    out
+    let after = line::arrange(m.window, state, ram, op);
+    move_on(m, op);
+    m.window = after;
+    Ok(())
 }
 
 // DecodedCall are below 20, leaves 20 to 28, pokes 40 to 45.
@@ -123,127 +105,109 @@ fn is_operation(code: u64) -> bool {
     (code < 29) | ((40 <= code) & (code < 46))
 }
 
-fn act(
-    m: Replay,
-    fd: i32,
+fn act<W: Write>(
+    m: &mut Replay,
+    out: &mut W,
+    bytes: &mut Bytes<'_>,
     op: &[u64; 8],
     whole: bool,
     state: &mut State,
     ram: &mut [u8],
     counts: &mut [u64; 2048],
-) -> Replay {
+) -> Result<(), Stop> {
     let code = op[0];
     if is_operation(code) {
-        operate(m, fd, op, whole, state, ram, counts)
+        operate(m, out, bytes, op, whole, state, ram, counts)
     } else if (60 <= code) & (code < 64) {
         arrange(m, op, state, ram)
     } else {
-        cases::line(m, op, state, counts)
+        cases::line(m, out, op, state, counts)
     }
-}
-
-// A line of eight words, of which the first is read.
-fn full(
-    m: Replay,
-    fd: i32,
-    first: u64,
-    state: &mut State,
-    ram: &mut [u8],
-    counts: &mut [u64; 2048],
-) -> Replay {
-    let mut rest = [0u8; 56];
-    let n = io::read_full(fd, &mut rest);
-    if n < 56 {
-        return broken(m, b"the last line is not whole");
-    }
-    let op = parts::after(first, &rest[..n]);
-    act(m, fd, &op, true, state, ram, counts)
 }
 
 // A word that follows, where there is one.
-fn next(fd: i32, some: bool) -> u64 {
-    let mut word = [0u8; 8];
+fn following(bytes: &mut Bytes<'_>, some: bool) -> u64 {
     if some {
-        let n = io::read_full(fd, &mut word);
-        parts::word_of(&word[..n], 0)
+        parts::word_of(bytes.next(8), 0)
     } else {
         0
     }
 }
 
+// A line of eight words, of which the first is read.
+fn full(bytes: &mut Bytes<'_>, first: u64) -> Result<[u64; 8], Stop> {
+    let rest = bytes.next(56);
+    if rest.len() < 56 {
+        return Err(Stop::Broken(Fault::ShortLine));
+    }
+    Ok(parts::after(first, rest))
+}
+
 // A short line: its first word says how many follow.
-fn brief(
-    m: Replay,
-    fd: i32,
-    first: u64,
+fn brief(bytes: &mut Bytes<'_>, first: u64) -> [u64; 8] {
+    let n = first / 256 % 256;
+    let a = following(bytes, 0 < n);
+    let b = following(bytes, 1 < n);
+    let c = following(bytes, 2 < n);
+    short::words(first, a, b, c)
+}
+
+fn one_line<W: Write>(
+    m: &mut Replay,
+    out: &mut W,
+    bytes: &mut Bytes<'_>,
     state: &mut State,
     ram: &mut [u8],
     counts: &mut [u64; 2048],
-) -> Replay {
-    let n = first / 256 % 256;
-    let a = next(fd, 0 < n);
-    let b = next(fd, 1 < n);
-    let c = next(fd, 2 < n);
-    let op = short::words(first, a, b, c);
-    act(m, fd, &op, false, state, ram, counts)
-}
-
-fn ended(m: Replay) -> Replay {
-    let mut out = m;
-    out.more = false;
-    out
-}
-
-// One line more.
-fn another(m: Replay) -> Replay {
-    let mut out = m;
-    out.lines = bits::more(m.lines);
-    out
-}
-
-fn line(m: Replay, fd: i32, state: &mut State, ram: &mut [u8], counts: &mut [u64; 2048]) -> Replay {
-    let mut head = [0u8; 8];
-    let n = io::read_full(fd, &mut head);
-    if n < 8 {
-        return ended(m);
+) -> Result<(), Stop> {
+    let head = bytes.next(8);
+    if head.len() < 8 {
+        return Err(Stop::End);
     }
-    let first = parts::word_of(&head[..n], 0);
-    let next = another(m);
-    if first % 256 < 128 {
-        full(next, fd, first, state, ram, counts)
+    let first = parts::word_of(head, 0);
+    m.lines = bits::more(m.lines);
+    let whole = first % 256 < 128;
+    let op = if whole {
+        full(bytes, first)?
     } else {
-        brief(next, fd, first, state, ram, counts)
-    }
+        brief(bytes, first)
+    };
+    act(m, out, bytes, &op, whole, state, ram, counts)
 }
 
-// The lines from a fresh core and no RAM. A proved loop ends: it counts its turns down from more than any record has.
-fn lines(fd: i32, state: &mut State, ram: &mut [u8], counts: &mut [u64; 2048]) -> Replay {
-    memory::wipe(ram);
-    let mut m = start(state);
-    let mut turns = 100_000_000u64;
-    while turns > 0 && m.more {
-        m = line(m, fd, state, ram, counts);
-        turns -= 1;
+// The lines up to the record's end, or to one that is at fault.
+fn all_lines<W: Write>(
+    m: &mut Replay,
+    out: &mut W,
+    bytes: &mut Bytes<'_>,
+    state: &mut State,
+    ram: &mut [u8],
+    counts: &mut [u64; 2048],
+) -> io::Result<()> {
+    for _ in 0..LINES {
+        match one_line(m, out, bytes, state, ram, counts) {
+            Ok(()) => {}
+            Err(Stop::End) => return Ok(()),
+            Err(Stop::Broken(fault)) => return faulty(m, out, fault),
+            Err(Stop::Output(error)) => return Err(error),
+        }
     }
-    m
+    Ok(())
 }
 
 // The header's numbers of lines, operations and cases are those that were there, and there was an operation.
-fn as_headed(m: Replay, head: &[u8]) -> Replay {
+fn as_headed<W: Write>(m: &mut Replay, out: &mut W, head: &[u8]) -> io::Result<()> {
     let told = parts::word_of(head, 3);
     let right = (parts::word_of(head, 2) == m.lines)
         & (told == m.done)
         & (parts::word_of(head, 5) == m.cases);
-    let mut out = m;
-    if m.done < told {
-        out.left = told - m.done;
-    }
+    m.left = told.saturating_sub(m.done);
     if m.done == 0 {
-        broken(out, b"no operation was replayed")
+        faulty(m, out, Fault::NothingReplayed)
     } else if right {
-        out
+        Ok(())
     } else {
-        broken(out, b"the header has other numbers")
+        faulty(m, out, Fault::OtherNumbers)
     }
 }
 
@@ -252,17 +216,23 @@ fn is_record(head: &[u8]) -> bool {
     (parts::word_of(head, 0) == 0x3230_4345_5232_3741) & (parts::word_of(head, 6) == rows::LINE)
 }
 
-// A whole record.
-pub fn record(fd: i32, state: &mut State, ram: &mut [u8], counts: &mut [u64; 2048]) -> Replay {
-    let mut head = [0u8; 64];
-    let n = io::read_full(fd, &mut head);
-    let known = is_record(&head[..n]);
-    if !known {
-        return broken(
-            start(state),
-            b"no record of the form A72REC02 with 38 words to an operation",
-        );
+// A whole record, from a fresh core and no RAM.
+pub fn record<W: Write>(
+    out: &mut W,
+    record: &[u8],
+    state: &mut State,
+    ram: &mut [u8],
+    counts: &mut [u64; 2048],
+) -> io::Result<Replay> {
+    let mut bytes = Bytes::new(record);
+    let head = bytes.next(64);
+    let mut m = start(state);
+    if !is_record(head) {
+        faulty(&mut m, out, Fault::NoRecord)?;
+        return Ok(m);
     }
-    let m = lines(fd, state, ram, counts);
-    as_headed(m, &head[..n])
+    memory::wipe(ram);
+    all_lines(&mut m, out, &mut bytes, state, ram, counts)?;
+    as_headed(&mut m, out, head)?;
+    Ok(m)
 }

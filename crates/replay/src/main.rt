@@ -1,3 +1,4 @@
+#![tactic(auto)]
 // Replays recorded answers on the proved core: each argument names a record; each difference is shown, then what was
 // replayed.
 mod cases;
@@ -5,10 +6,14 @@ mod judge;
 mod lines;
 mod parts;
 mod rows;
+mod stop;
 
 use lines::Replay;
+use record_report::report;
 use record_report::report::Total;
-use record_report::{report, say};
+use std::io::{BufWriter, ErrorKind, Read, Write};
+use std::rt::Files;
+use std::{env, fs, io};
 use word::bits;
 use words::place::{State, WORDS};
 
@@ -22,80 +27,68 @@ fn nothing() -> Total {
     }
 }
 
-fn with_record(t: Total, m: Replay) -> Total {
-    Total {
-        files: bits::more(t.files),
-        done: std::num::wrapping_add_u64(t.done, m.done),
-        left: std::num::wrapping_add_u64(t.left, m.left),
-        cases: std::num::wrapping_add_u64(t.cases, m.cases),
-        wrong: std::num::wrapping_add_u64(t.wrong, m.wrong),
-    }
+fn add(t: &mut Total, m: &Replay) {
+    t.files = bits::more(t.files);
+    t.done = t.done.wrapping_add(m.done);
+    t.left = t.left.wrapping_add(m.left);
+    t.cases = t.cases.wrapping_add(m.cases);
+    t.wrong = t.wrong.wrapping_add(m.wrong);
 }
 
-// One difference more.
-fn one_wrong(t: Total, why: &[u8]) -> Total {
-    say::text(why);
-    let mut out = t;
-    out.wrong = bits::more(t.wrong);
-    out
+// A file's bytes, up to where a read fails; nothing where it can't be opened.
+fn bytes_of<R: Files + AllocGlobal>(rt: &R, name: &str) -> io::Result<Option<Vec<u8>>> {
+    let Ok(mut file) = fs::open(rt, name) else {
+        return Ok(None);
+    };
+    let mut bytes = Vec::new(rt.alloc());
+    match file.read_to_end(&mut bytes) {
+        Err(error) if error.kind() == ErrorKind::OutOfMemory => Err(error),
+        _ => Ok(Some(bytes)),
+    }
 }
 
 // A record by its name.
-fn named(
-    t: Total,
-    name: &[u8],
+fn named<R: Files + AllocGlobal, W: Write>(
+    rt: &R,
+    out: &mut W,
+    name: &str,
+    t: &mut Total,
     state: &mut State,
     ram: &mut [u8],
     counts: &mut [u64; 2048],
-) -> Total {
-    let fd = os::open_read(name);
-    say::text(name);
-    if fd < 0 {
-        return one_wrong(t, b": no such file\n");
-    }
-    let m = lines::record(fd, state, ram, counts);
-    libc::close(fd);
-    report::file(m.done, m.left, m.cases, m.wrong);
-    with_record(t, m)
+) -> io::Result<()> {
+    write!(out, "{name}")?;
+    let Some(bytes) = bytes_of(rt, name)? else {
+        t.wrong = bits::more(t.wrong);
+        return writeln!(out, ": no such file");
+    };
+    let m = lines::record(out, bytes.as_slice(), state, ram, counts)?;
+    add(t, &m);
+    report::file(out, m.done, m.left, m.cases, m.wrong)
 }
 
-fn argument(
-    t: Total,
-    i: usize,
-    state: &mut State,
-    ram: &mut [u8],
-    counts: &mut [u64; 2048],
-) -> Total {
-    let mut name = [0u8; 256];
-    let n = os::arg(i, &mut name);
-    named(t, &name[..n], state, ram, counts)
-}
-
-fn arguments(state: &mut State, ram: &mut [u8], counts: &mut [u64; 2048]) -> Total {
-    let n = os::arg_count();
-    let mut t = nothing();
-    let mut i: usize = 1;
-    while i < n {
-        t = argument(t, i, state, ram, counts);
-        i += 1;
-    }
-    t
-}
-
-// A run without a record shows nothing.
-fn judged(t: Total) -> Total {
-    if t.files == 0 {
-        one_wrong(t, b"no record was replayed\n")
-    } else {
-        t
-    }
-}
-
-fn main() {
-    let mut ram = trace_core::memory::zeros();
+fn main(rt: HostRuntime) -> io::Result<()> {
+    let mut out = BufWriter::new(rt.alloc(), io::writer(&rt))?;
+    let mut ram = trace_core::memory::zeros(rt.alloc())?;
     let mut state = [0u64; WORDS];
     let mut counts = [0u64; 2048];
-    let t = arguments(&mut state, &mut ram, &mut counts);
-    let total = judged(t);
-    report::all(total, &counts);
+    let mut total = nothing();
+    for name in env::args(&rt)?.skip(1) {
+        named(
+            &rt,
+            &mut out,
+            name.as_str(),
+            &mut total,
+            &mut state,
+            ram.as_mut_slice(),
+            &mut counts,
+        )?;
+    }
+    // A run without a record shows nothing.
+    if total.files == 0 {
+        total.wrong = bits::more(total.wrong);
+        writeln!(out, "no record was replayed")?;
+    }
+    report::all(&mut out, total, &counts)?;
+    out.flush()
 }

@@ -1,4 +1,4 @@
-// Words of a line and of a state, read by number: 0 past the last.
+// Words of a line and of a state, read by number: 0 past the last. And a record's bytes, in their order.
 use word::ram;
 use word::ram::{Width, Word};
 use words::place::{State, WORDS};
@@ -28,4 +28,24 @@ pub fn after(first: u64, buf: &[u8]) -> [u64; 8] {
         word_of(buf, 5),
         word_of(buf, 6),
     ]
+}
+
+// The bytes of a record that are not read yet.
+#[derive(Clone, Copy)]
+pub struct Bytes<'a> {
+    rest: &'a [u8],
+}
+
+impl<'a> Bytes<'a> {
+    pub fn new(rest: &'a [u8]) -> Bytes<'a> {
+        Bytes { rest }
+    }
+
+    // The next so many, or all where fewer are left.
+    pub fn next(&mut self, most: usize) -> &'a [u8] {
+        let rest = self.rest;
+        let (taken, left) = rest.split_at(most.min(rest.len()));
+        self.rest = left;
+        taken
+    }
 }

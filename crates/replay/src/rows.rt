@@ -5,7 +5,7 @@ use words::place;
 
 pub const ANSWER: usize = 4;
 
-const PLACES: [usize; STATE] = [
+pub const PLACES: [usize; STATE] = [
     place::LEVEL_HITS,
     place::LEVEL_WALKS,
     place::LEVEL_HITS + 1,
@@ -39,15 +39,40 @@ pub const LINE: u64 = 38;
 
 pub type Words = [u64; AFTER];
 
-// The name of word i after the operation.
-pub fn name(i: u64) {
-    tables::nth(
-        b"the answer's code\nthe answer's word 1\nthe answer's word 2\nthe answer's word 3\nhits of EL0\nwalks of EL0\nhits of EL1\nwalks of EL1\nhits of EL2\nwalks of EL2\nhits of EL3\nwalks of EL3\nflushes\ndrops\nepoch\npending\nits value\nlast_pa\nabort_pa\nlevel\nunprivileged\ngeneration\nASID\nPAR_EL1\nlive entries\nhints\ndigest of registers\ndigest of entries\ndigest of hints\ndigest of RAM\n",
-        i,
-    );
-}
+const NAMES: [&str; AFTER] = [
+    "the answer's code",
+    "the answer's word 1",
+    "the answer's word 2",
+    "the answer's word 3",
+    "hits of EL0",
+    "walks of EL0",
+    "hits of EL1",
+    "walks of EL1",
+    "hits of EL2",
+    "walks of EL2",
+    "hits of EL3",
+    "walks of EL3",
+    "flushes",
+    "drops",
+    "epoch",
+    "pending",
+    "its value",
+    "last_pa",
+    "abort_pa",
+    "level",
+    "unprivileged",
+    "generation",
+    "ASID",
+    "PAR_EL1",
+    "live entries",
+    "hints",
+    "digest of registers",
+    "digest of entries",
+    "digest of hints",
+    "digest of RAM",
+];
 
-// The place of the state's word i of those.
-pub fn place_of(i: usize) -> usize {
-    if i < STATE { PLACES[i] } else { 0 }
+// The name of word i after the operation.
+pub fn name(i: u64) -> &'static str {
+    tables::nth(&NAMES, i)
 }

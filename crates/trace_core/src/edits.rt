@@ -27,12 +27,10 @@ fn moved(e: Entry, current: u32, to: u32, later: bool) -> Entry {
 fn move_generation(words: &mut State, to: u32, later: bool) {
     let current = counts::current_at(words);
     let generation = current.generation;
-    let mut j = 0usize;
-    while j < 1024 {
+    for j in 0..1024usize {
         let e = cells::entry_at(words, j);
         let made = moved(e, generation, to, later);
         cells::put_entry(words, j, made);
-        j += 1;
     }
     counts::put_generation(words, to);
 }

@@ -5,7 +5,7 @@ use digest::counts;
 use words::place::State;
 
 // The window: its base, and how many of RAM's bytes are in it.
-#[derive(Drop)]
+#[derive(Clone, Copy)]
 pub struct Machine {
     pub base: u64,
     pub len: usize,

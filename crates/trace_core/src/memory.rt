@@ -1,26 +1,30 @@
 // The bytes behind the window.
-ghost use Rattle.std.specs.Prelude.{◌≡◌, length};
+ghost use Rattle.std.specs.Prelude.{◌≡◌, IfOk, vec_len};
 
+use std::alloc::{AllocError, Global};
 use word::ram;
 use word::ram::Width;
 
 // The longest window.
 pub const LONGEST: u64 = 0x20_0000;
 
-// RAM for the longest window, all zero.
-pub fn zeros() -> [u8; 2097152]
-    ensures { 2097152 ≡ length result }
+fn zeroed(alloc: Global, n: usize) -> Result<Vec<u8>, AllocError>
+    ensures { IfOk result (λ ram. vec_len ram ≡ n) }
 {
-    [0; 2097152]
+    let mut ram = Vec::new(alloc);
+    ram.resize(n, 0)?;
+    Ok(ram)
+}
+
+// RAM for the longest window, all zero.
+pub fn zeros(alloc: Global) -> Result<Vec<u8>, AllocError>
+    ensures { IfOk result (λ ram. vec_len ram ≡ 2097152) }
+{
+    zeroed(alloc, LONGEST as usize)
 }
 
 pub fn wipe(ram: &mut [u8]) {
-    let n = ram.len();
-    let mut i = 0usize;
-    while i < n {
-        ram[i] = 0;
-        i += 1;
-    }
+    ram.fill(0);
 }
 
 // The bytes from one place to another, where they are some of RAM's.
@@ -41,9 +45,7 @@ fn poke_byte(base: u64, ram: &mut [u8], addr: u64, value: u64, i: u64) {
 
 // Another agent's write of eight bytes: those outside the window are dropped.
 pub fn poke(base: u64, ram: &mut [u8], addr: u64, value: u64) {
-    let mut i = 0u64;
-    while i < 8 {
+    for i in 0..8u64 {
         poke_byte(base, ram, addr, value, i);
-        i += 1;
     }
 }

@@ -1,64 +1,99 @@
 // A line of output for an operation: its number in the trace, the operation, the answer, and the core after it.
-use counters_report::line as levels;
+use counters_report::line::Levels;
 use digest::parts;
+use std::io::Write;
+use std::{fmt, io};
 use trace_core::counters;
-use trace_text::{out, say, write};
+use trace_text::write::{Answer, Operation};
 use words::place;
 use words::place::State;
 
-fn small(line: &mut [u8; 1024], n: usize, name: &[u8], value: u64) -> usize {
-    let k = out::text(line, n, name);
-    out::decimal(line, k, value)
+// The counters that a core's words hold.
+#[derive(Clone, Copy)]
+struct Counts<'a>(&'a State);
+
+impl fmt::Display for Counts<'_> {
+    fn fmt<W: fmt::Write>(&self, f: &mut fmt::Formatter<W>) -> fmt::Result {
+        let state = self.0;
+        let levels = counters::by_level(state);
+        write!(f, "{}", Levels(&levels))?;
+        write!(
+            f,
+            " fl={:x} dr={:x}",
+            state[place::FLUSHES],
+            state[place::DROPS]
+        )?;
+        write!(f, " ep={:x}", state[place::EPOCH])?;
+        write!(
+            f,
+            " bc={}:{:x}",
+            state[place::PENDING],
+            state[place::PENDING_VALUE]
+        )
+    }
 }
 
-fn digest(line: &mut [u8; 1024], n: usize, name: &[u8], value: u64) -> usize {
-    let k = out::text(line, n, name);
-    out::hex(line, k, value, 16)
+// The registers that a line of output names.
+#[derive(Clone, Copy)]
+struct Kept<'a>(&'a State);
+
+impl fmt::Display for Kept<'_> {
+    fn fmt<W: fmt::Write>(&self, f: &mut fmt::Formatter<W>) -> fmt::Result {
+        let state = self.0;
+        write!(
+            f,
+            "lp={:x} ap={:x}",
+            state[place::LAST_PA],
+            state[place::ABORT_PA]
+        )?;
+        write!(
+            f,
+            " el={} um={}",
+            state[place::LEVEL],
+            state[place::UNPRIVILEGED]
+        )?;
+        write!(
+            f,
+            " as={:x} gen={:x}",
+            state[place::ASID],
+            state[place::GENERATION]
+        )?;
+        write!(
+            f,
+            " par={:x} pc={:x}",
+            state[place::PAR_EL1],
+            state[place::PC]
+        )
+    }
 }
 
-fn counts(line: &mut [u8; 1024], n: usize, state: &State) -> usize {
-    let by_level = counters::by_level(state);
-    let b = levels::show(line, n, &by_level);
-    let c = out::field(line, b, b" fl=", state[place::FLUSHES]);
-    let d = out::field(line, c, b" dr=", state[place::DROPS]);
-    let e = out::field(line, d, b" ep=", state[place::EPOCH]);
-    let f = small(line, e, b" bc=", state[place::PENDING]);
-    out::field(line, f, b":", state[place::PENDING_VALUE])
+// The digests of registers, entries, hints and the window.
+#[derive(Clone, Copy)]
+struct Digests<'a> {
+    state: &'a State,
+    ram: u64,
 }
 
-fn place(line: &mut [u8; 1024], n: usize, state: &State) -> usize {
-    let a = out::field(line, n, b" lp=", state[place::LAST_PA]);
-    let b = out::field(line, a, b" ap=", state[place::ABORT_PA]);
-    let c = small(line, b, b" el=", state[place::LEVEL]);
-    let d = small(line, c, b" um=", state[place::UNPRIVILEGED]);
-    let e = out::field(line, d, b" as=", state[place::ASID]);
-    let f = out::field(line, e, b" gen=", state[place::GENERATION]);
-    let g = out::field(line, f, b" par=", state[place::PAR_EL1]);
-    out::field(line, g, b" pc=", state[place::PC])
+impl fmt::Display for Digests<'_> {
+    fn fmt<W: fmt::Write>(&self, f: &mut fmt::Formatter<W>) -> fmt::Result {
+        let entries = parts::entries(self.state);
+        let hints = parts::hints(self.state);
+        write!(f, "R={:016x}", parts::registers(self.state))?;
+        write!(f, " T={}:{:016x}", entries.count, entries.digest)?;
+        write!(f, " H={}:{:016x}", hints.count, hints.digest)?;
+        write!(f, " M={:016x}", self.ram)
+    }
 }
 
-fn digests(line: &mut [u8; 1024], n: usize, state: &State, ram: u64) -> usize {
-    let entries = parts::entries(state);
-    let hints = parts::hints(state);
-    let a = digest(line, n, b" R=", parts::registers(state));
-    let b = small(line, a, b" T=", entries.count);
-    let c = digest(line, b, b":", entries.digest);
-    let d = small(line, c, b" H=", hints.count);
-    let e = digest(line, d, b":", hints.digest);
-    digest(line, e, b" M=", ram)
-}
-
-// Whether the line was written.
-pub fn operation(number: u64, op: &[u64; 8], ans: &[u64; 4], state: &State, ram: u64) -> bool {
-    let mut line = [0u8; 1024];
-    let a = out::decimal(&mut line, 0, number);
-    let b = out::byte(&mut line, a, b' ');
-    let c = write::operation(&mut line, b, op);
-    let d = out::text(&mut line, c, b" => ");
-    let e = write::answer(&mut line, d, ans);
-    let f = counts(&mut line, e, state);
-    let g = place(&mut line, f, state);
-    let h = digests(&mut line, g, state, ram);
-    let n = out::byte(&mut line, h, b'\n');
-    say::line(&line, n)
+pub fn operation<W: Write>(
+    out: &mut W,
+    number: u64,
+    op: &[u64; 8],
+    ans: &[u64; 4],
+    state: &State,
+    ram: u64,
+) -> io::Result<()> {
+    write!(out, "{number} {} => {}", Operation(op), Answer(ans))?;
+    write!(out, " | {} {}", Counts(state), Kept(state))?;
+    writeln!(out, " {}", Digests { state, ram })
 }

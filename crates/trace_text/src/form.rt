@@ -1,195 +1,127 @@
 // The lines of a trace: each by its code, with its name and its arguments. The codes are those of the operations'
 // words.
-use crate::lex;
 
-// A name in letters, and a letter for each argument: n any number, w 32 bits, h 16 bits, b 8 bits, f a flag, k a
-// kind of access,
+// A name, and a letter for each argument: n any number, w 32 bits, h 16 bits, b 8 bits, f a flag, k a kind of access,
 // r a regime, e an exception.
-#[derive(Drop)]
+#[derive(Clone, Copy)]
 pub struct Form {
-    pub name: u64,
-    pub args: u64,
+    pub name: &'static str,
+    pub args: &'static [u8],
 }
 
 // Every code of a line is below this.
 pub const CODES: u64 = 68;
 
-// The codes of the exceptions' names begin here.
+// The codes of the exceptions' names begin here, and there are so many.
 pub const EXCEPTIONS: u64 = 100;
 
-// Up to eight letters as one number, the last in its lowest eight bits.
-pub fn letters(s: &[u8]) -> u64 {
-    let mut n = 0u64;
-    let mut i = 0usize;
-    while i < s.len() && i < 8 {
-        n = lex::lettered(n, s[i]);
-        i += 1;
-    }
-    n
-}
+pub const NAMES: u64 = 8;
 
-// Letter i of eight, from the first; 0 before the first that there is.
-pub fn letter(text: u64, i: u64) -> u8 {
-    ((text >> ((7 - i % 8) * 8)) % 256) as u8
-}
-
-fn row(name: u64, args: u64) -> Form {
-    Form { name, args }
-}
-
-// The name of no line.
-fn no_form() -> Form {
-    Form { name: 0, args: 0 }
+fn row(name: &'static str, args: &'static [u8]) -> Option<Form> {
+    Some(Form { name, args })
 }
 
 // Document 01's list, and the census.
-fn listed(code: u64) -> Form {
+fn listed(code: u64) -> Option<Form> {
     match code {
-        // tr kn
-        1 => row(0x7472, 0x6B6E),
-        // dpa n
-        2 => row(0x64_7061, 0x6E),
-        // fpa n
-        3 => row(0x66_7061, 0x6E),
-        // ld nw
-        4 => row(0x6C64, 0x6E77),
-        // st nwn
-        5 => row(0x7374, 0x6E_776E),
-        // if n
-        6 => row(0x6966, 0x6E),
-        // sys wwwww
-        7 => row(0x73_7973, 0x77_7777_7777),
-        // reg wn
-        8 => row(0x72_6567, 0x776E),
-        // level w
-        9 => row(0x6C_6576_656C, 0x77),
-        // mark f
-        10 => row(0x6D61_726B, 0x66),
-        // x wn
-        11 => row(0x78, 0x776E),
-        // abort e
-        12 => row(0x61_626F_7274, 0x65),
-        // census nn
-        13 => row(0x6365_6E73_7573, 0x6E6E),
-        _ => no_form(),
+        1 => row("tr", b"kn"),
+        2 => row("dpa", b"n"),
+        3 => row("fpa", b"n"),
+        4 => row("ld", b"nw"),
+        5 => row("st", b"nwn"),
+        6 => row("if", b"n"),
+        7 => row("sys", b"wwwww"),
+        8 => row("reg", b"wn"),
+        9 => row("level", b"w"),
+        10 => row("mark", b"f"),
+        11 => row("x", b"wn"),
+        12 => row("abort", b"e"),
+        13 => row("census", b"nn"),
+        _ => None,
     }
 }
 
 // Leaves.
-fn leaf(code: u64) -> Form {
+fn leaf(code: u64) -> Option<Form> {
     match code {
-        // l-asid
-        20 => row(0x6C2D_6173_6964, 0),
-        // l-on r
-        21 => row(0x6C2D_6F6E, 0x72),
-        // l-untag rn
-        22 => row(0x6C_2D75_6E74_6167, 0x726E),
-        // l-walk rn
-        23 => row(0x6C2D_7761_6C6B, 0x726E),
-        // l-bits n
-        24 => row(0x6C2D_6269_7473, 0x6E),
-        // l-perm b
-        25 => row(0x6C2D_7065_726D, 0x62),
-        // l-bank w
-        26 => row(0x6C2D_6261_6E6B, 0x77),
-        // l-vec wwf
-        27 => row(0x6C_2D76_6563, 0x77_7766),
-        // l-syn wwne
-        28 => row(0x6C_2D73_796E, 0x7777_6E65),
-        _ => no_form(),
+        20 => row("l-asid", b""),
+        21 => row("l-on", b"r"),
+        22 => row("l-untag", b"rn"),
+        23 => row("l-walk", b"rn"),
+        24 => row("l-bits", b"n"),
+        25 => row("l-perm", b"b"),
+        26 => row("l-bank", b"w"),
+        27 => row("l-vec", b"wwf"),
+        28 => row("l-syn", b"wwne"),
+        _ => None,
     }
 }
 
 // Pokes of the core.
-fn poked(code: u64) -> Form {
+fn poked(code: u64) -> Option<Form> {
     match code {
-        // p-level w
-        40 => row(0x70_2D6C_6576_656C, 0x77),
-        // p-pc n
-        41 => row(0x702D_7063, 0x6E),
-        // p-spsel f
-        42 => row(0x70_2D73_7073_656C, 0x66),
-        // p-gen w
-        43 => row(0x70_2D67_656E, 0x77),
-        // p-cnt n
-        44 => row(0x70_2D63_6E74, 0x6E),
-        // p-bc
-        45 => row(0x702D_6263, 0),
-        _ => no_form(),
+        40 => row("p-level", b"w"),
+        41 => row("p-pc", b"n"),
+        42 => row("p-spsel", b"f"),
+        43 => row("p-gen", b"w"),
+        44 => row("p-cnt", b"n"),
+        45 => row("p-bc", b""),
+        _ => None,
     }
 }
 
 // What stands around the operations.
-fn around(code: u64) -> Form {
+fn around(code: u64) -> Option<Form> {
     match code {
-        // fresh
-        60 => row(0x66_7265_7368, 0),
-        // window nn
-        61 => row(0x7769_6E64_6F77, 0x6E6E),
-        // zero
-        62 => row(0x7A65_726F, 0),
-        // poke nn
-        63 => row(0x706F_6B65, 0x6E6E),
-        // w-word hn
-        64 => row(0x772D_776F_7264, 0x686E),
-        // w-hint hnn
-        65 => row(0x772D_6869_6E74, 0x68_6E6E),
-        // w-entry hnnnn
-        66 => row(0x77_2D65_6E74_7279, 0x68_6E6E_6E6E),
-        // w-fetch nwn
-        67 => row(0x77_2D66_6574_6368, 0x6E_776E),
-        _ => no_form(),
+        60 => row("fresh", b""),
+        61 => row("window", b"nn"),
+        62 => row("zero", b""),
+        63 => row("poke", b"nn"),
+        64 => row("w-word", b"hn"),
+        65 => row("w-hint", b"hnn"),
+        66 => row("w-entry", b"hnnnn"),
+        67 => row("w-fetch", b"nwn"),
+        _ => None,
     }
 }
 
-fn exception(code: u64) -> Form {
+fn exception(code: u64) -> Option<Form> {
     match code {
-        // und
-        100 => row(0x75_6E64, 0),
-        // svc h
-        101 => row(0x73_7663, 0x68),
-        // hvc h
-        102 => row(0x68_7663, 0x68),
-        // smc h
-        103 => row(0x73_6D63, 0x68),
-        // brk h
-        104 => row(0x62_726B, 0x68),
-        // data nfb
-        105 => row(0x6461_7461, 0x6E_6662),
-        // insn nb
-        106 => row(0x696E_736E, 0x6E62),
-        // pca
-        107 => row(0x70_6361, 0),
-        _ => no_form(),
+        100 => row("und", b""),
+        101 => row("svc", b"h"),
+        102 => row("hvc", b"h"),
+        103 => row("smc", b"h"),
+        104 => row("brk", b"h"),
+        105 => row("data", b"nfb"),
+        106 => row("insn", b"nb"),
+        107 => row("pca", b""),
+        _ => None,
     }
 }
 
 // The form of a line's code, or of an exception's from EXCEPTIONS on.
-pub fn form_of(code: u64) -> Form {
+pub fn form_of(code: u64) -> Option<Form> {
     if code < 20 {
-        return listed(code);
+        listed(code)
+    } else if code < 40 {
+        leaf(code)
+    } else if code < 60 {
+        poked(code)
+    } else if code < EXCEPTIONS {
+        around(code)
+    } else {
+        exception(code)
     }
-    if code < 40 {
-        return leaf(code);
-    }
-    if code < 60 {
-        return poked(code);
-    }
-    if code < EXCEPTIONS {
-        return around(code);
-    }
-    exception(code)
 }
 
-// The first code from one up to another that has the name, or the second.
-pub fn code_of(name: u64, from: u64, to: u64) -> u64 {
-    let mut code = from;
-    while code < to {
-        let f = form_of(code);
-        if f.name == name && name != 0 {
-            return code;
-        }
-        code += 1;
+fn is_named(code: u64, name: &[u8]) -> bool {
+    match form_of(code) {
+        Some(form) => form.name.as_bytes() == name,
+        None => false,
     }
-    to
+}
+
+// The first code from one up to another that has the name.
+pub fn code_of(name: &[u8], from: u64, to: u64) -> Option<u64> {
+    (from..to).find(|code| is_named(*code, name))
 }

@@ -1,8 +1,10 @@
-// What the words of a line mean: eight words of a line, nothing, or the place and the reason of a refusal.
-use crate::lex::Cursor;
+// What a line of a trace means: eight words of an operation, nothing, or the place and the reason of a refusal.
+use crate::form::Form;
+use crate::lex::{NumberError, Word, Words};
 use crate::{form, lex};
+use std::fmt;
 
-#[derive(Drop)]
+#[derive(Clone, Copy)]
 pub enum Reason {
     NoSuchLine,
     NoSuchException,
@@ -15,191 +17,181 @@ pub enum Reason {
     NotKind,
     NotRegime,
     NotAscii,
+    LongLine,
+    LongWindow,
 }
 
-#[derive(Drop)]
+impl fmt::Display for Reason {
+    fn fmt<W: fmt::Write>(&self, f: &mut fmt::Formatter<W>) -> fmt::Result {
+        f.write_str(match self {
+            Reason::NoSuchLine => "no line of a trace has this name",
+            Reason::NoSuchException => {
+                "no such exception (und, svc, hvc, smc, brk, data, insn, pca)"
+            }
+            Reason::Missing => "an argument is missing",
+            Reason::NotNumber => "not a hexadecimal number (write it without 0x)",
+            Reason::Above64 => "a number of more than 64 bits",
+            Reason::Above32 => "a number of more than 32 bits, where 32 are the most",
+            Reason::Above16 => "a number of more than 16 bits, where 16 are the most",
+            Reason::Above8 => "a number of more than 8 bits, where 8 are the most",
+            Reason::NotKind => "no kind of access (1 read, 2 write, 4 fetch)",
+            Reason::NotRegime => "no regime (1, 2 or 3)",
+            Reason::NotAscii => "a byte that no line holds outside a comment",
+            Reason::LongLine => "a line of more than 65000 bytes",
+            Reason::LongWindow => "a window of more than 200000 bytes (2 MiB)",
+        })
+    }
+}
+
+// Why a line is refused, and the column of the word that is at fault, or of the line's end.
+#[derive(Clone, Copy)]
 pub struct Refusal {
-    pub column: u64,
+    pub column: usize,
     pub reason: Reason,
 }
 
-#[derive(Drop)]
-pub enum Outcome {
-    // an empty line, or a comment alone
-    Nothing,
-    Line,
-    Refused(Refusal),
+// A line's code and its arguments, the rest zero; and the column of each.
+#[derive(Clone, Copy)]
+pub struct Line {
+    pub op: [u64; 8],
+    pub columns: [usize; 8],
 }
 
-// An argument, or why there is none.
-#[derive(Drop)]
-enum Given {
-    Value(u64),
-    Not(Reason),
-}
-
-fn below(value: u64, bound: u64, otherwise: Reason) -> Given {
+fn below(value: u64, bound: u64, otherwise: Reason) -> Result<u64, Reason> {
     if value < bound {
-        Given::Value(value)
+        Ok(value)
     } else {
-        Given::Not(otherwise)
+        Err(otherwise)
     }
 }
 
 // A number as its letter asks for it.
-fn fitted(kind: u8, value: u64) -> Given {
+fn fitted(kind: u8, value: u64) -> Result<u64, Reason> {
     match kind {
         b'w' => below(value, 0x1_0000_0000, Reason::Above32),
         b'h' => below(value, 0x1_0000, Reason::Above16),
         b'b' => below(value, 0x100, Reason::Above8),
-        b'f' => Given::Value(if value == 0 { 0 } else { 1 }),
-        b'k' => {
-            if value == 1 || value == 2 || value == 4 {
-                Given::Value(value)
-            } else {
-                Given::Not(Reason::NotKind)
-            }
-        }
-        b'r' => {
-            if 1 <= value && value <= 3 {
-                Given::Value(value)
-            } else {
-                Given::Not(Reason::NotRegime)
-            }
-        }
-        _ => Given::Value(value),
+        b'f' => Ok(value.min(1)),
+        b'k' => match value {
+            1 | 2 | 4 => Ok(value),
+            _ => Err(Reason::NotKind),
+        },
+        b'r' => match value {
+            1..=3 => Ok(value),
+            _ => Err(Reason::NotRegime),
+        },
+        _ => Ok(value),
     }
 }
 
-// An exception's code, by its name.
-fn named(letters: u64) -> Given {
-    let code = form::code_of(letters, form::EXCEPTIONS, form::EXCEPTIONS + 8);
-    if code < form::EXCEPTIONS + 8 && form::EXCEPTIONS <= code {
-        Given::Value(code - form::EXCEPTIONS)
-    } else {
-        Given::Not(Reason::NoSuchException)
+// An exception's number, by its name.
+fn named(word: &[u8]) -> Result<u64, Reason> {
+    match form::code_of(word, form::EXCEPTIONS, form::EXCEPTIONS + form::NAMES) {
+        Some(code) => Ok(code.wrapping_sub(form::EXCEPTIONS)),
+        None => Err(Reason::NoSuchException),
     }
 }
 
-// The argument that word i is.
-fn argument(kind: u8, words: &[u64; 32], i: usize) -> Given {
-    if 8 <= i {
-        return Given::Not(Reason::Missing);
-    }
+// The argument that a word is.
+fn argument(kind: u8, word: &[u8]) -> Result<u64, Reason> {
     if kind == b'e' {
-        return named(words[i * 4 + 1]);
+        return named(word);
     }
-    match words[i * 4 + 3] {
-        lex::NUMBER => fitted(kind, words[i * 4 + 2]),
-        lex::TOO_LARGE => Given::Not(Reason::Above64),
-        _ => Given::Not(Reason::NotNumber),
+    match lex::signed_value_of(word) {
+        Ok(value) => fitted(kind, value),
+        Err(NumberError::TooLarge) => Err(Reason::Above64),
+        Err(NumberError::NotNumber) => Err(Reason::NotNumber),
     }
 }
 
-// The next word to be read, or the refusal.
+fn refused<T>(column: usize, reason: Reason) -> Result<T, Refusal> {
+    Err(Refusal { column, reason })
+}
+
+// A line while its words are read: those that are left, the column of its end, and what was read.
 #[derive(Drop)]
-enum Reading {
-    On(usize),
-    Refused(Refusal),
+struct Reader<'a> {
+    words: Words<'a>,
+    end: usize,
+    line: Line,
+    count: usize,
 }
 
-// Word i goes into its place as the letter asks.
-fn one(kind: u8, i: usize, c: Cursor, words: &[u64; 32], op: &mut [u64; 8]) -> Reading {
-    if 8 <= i || c.count <= i as u64 {
-        return Reading::Refused(Refusal {
-            column: c.column,
-            reason: Reason::Missing,
-        });
-    }
-    match argument(kind, words, i) {
-        Given::Value(v) => {
-            op[i] = v;
-            Reading::On(i + 1)
+impl<'a> Reader<'a> {
+    fn put(&mut self, column: usize, value: u64) {
+        let i = self.count;
+        if i < 8 {
+            self.line.op[i] = value;
+            self.line.columns[i] = column;
+            self.count = i + 1;
         }
-        Given::Not(reason) => Reading::Refused(Refusal {
-            column: words[i * 4],
-            reason,
-        }),
     }
-}
 
-fn next(r: Reading, kind: u8, c: Cursor, words: &[u64; 32], op: &mut [u64; 8]) -> Reading {
-    match r {
-        Reading::On(i) => {
-            if kind == 0 {
-                Reading::On(i)
-            } else {
-                one(kind, i, c, words, op)
+    fn argument(&mut self, kind: u8) -> Result<u64, Refusal> {
+        match self.words.next_word() {
+            None => refused(self.end, Reason::Missing),
+            Some(word) => match argument(kind, word.text) {
+                Ok(value) => {
+                    self.put(word.column, value);
+                    Ok(value)
+                }
+                Err(reason) => refused(word.column, reason),
+            },
+        }
+    }
+
+    // Words as the letters ask; the value of the last, or 0.
+    fn arguments(&mut self, args: &[u8]) -> Result<u64, Refusal> {
+        let mut last = 0;
+        for kind in args {
+            last = self.argument(*kind)?;
+        }
+        Ok(last)
+    }
+
+    // The arguments of a line, and where the last is an exception's name then the exception's own.
+    fn line(&mut self, form: Form) -> Result<(), Refusal> {
+        let last = self.arguments(form.args)?;
+        if form.args.last() == Some(&b'e') {
+            if let Some(named) = form::form_of(form::EXCEPTIONS + last % form::NAMES) {
+                self.arguments(named.args)?;
             }
         }
-        Reading::Refused(f) => Reading::Refused(f),
+        Ok(())
     }
 }
 
-// The words from one on, as the letters ask.
-fn arguments(args: u64, from: usize, c: Cursor, words: &[u64; 32], op: &mut [u64; 8]) -> Reading {
-    let mut r = Reading::On(from);
-    let mut i = 0u64;
-    while i < 8 {
-        r = next(r, form::letter(args, i), c, words, op);
-        i += 1;
+// The line that stands in some bytes, without their end; nothing where they are empty or a comment alone.
+pub fn parse(bytes: &[u8]) -> Result<Option<Line>, Refusal> {
+    let text = lex::before_comment(bytes);
+    if let Some(k) = text.iter().position(|b| !lex::is_held(*b)) {
+        return refused(k.wrapping_add(1), Reason::NotAscii);
     }
-    r
+    let mut words = Words::new(text);
+    let Some(name) = words.next_word() else {
+        return Ok(None);
+    };
+    named_line(name, words, bytes.len().wrapping_add(1))
 }
 
-// An exception's own arguments, after its name, which is word i - 1.
-fn exception(i: usize, c: Cursor, words: &[u64; 32], op: &mut [u64; 8]) -> Reading {
-    if 0 < i {
-        if i <= 8 {
-            let code = op[i - 1] % 8;
-            let f = form::form_of(form::EXCEPTIONS + code);
-            return arguments(f.args, i, c, words, op);
-        }
-    }
-    Reading::On(i)
-}
-
-fn ended(r: Reading) -> Outcome {
-    match r {
-        Reading::On(_) => Outcome::Line,
-        Reading::Refused(f) => Outcome::Refused(f),
-    }
-}
-
-// The arguments of a line's code.
-fn line(code: u64, c: Cursor, words: &[u64; 32], op: &mut [u64; 8]) -> Outcome {
-    let f = form::form_of(code);
-    let r = arguments(f.args, 1, c, words, op);
-    match r {
-        Reading::On(i) => {
-            if f.args % 256 == 101 {
-                let last = exception(i, c, words, op);
-                ended(last)
-            } else {
-                Outcome::Line
-            }
-        }
-        Reading::Refused(refusal) => Outcome::Refused(refusal),
-    }
-}
-
-fn refused(column: u64, reason: Reason) -> Outcome {
-    Outcome::Refused(Refusal { column, reason })
-}
-
-// The line whose words these are: its code and its arguments in op, the rest of op zero.
-pub fn parse(c: Cursor, words: &[u64; 32], op: &mut [u64; 8]) -> Outcome {
-    *op = [0; 8];
-    if c.odd != 0 {
-        return refused(c.odd, Reason::NotAscii);
-    }
-    if c.count == 0 {
-        return Outcome::Nothing;
-    }
-    let code = form::code_of(words[1], 1, form::CODES);
-    if form::CODES <= code {
-        return refused(words[0], Reason::NoSuchLine);
-    }
-    op[0] = code;
-    line(code, c, words, op)
+// The line with this first word.
+fn named_line(name: Word<'_>, words: Words<'_>, end: usize) -> Result<Option<Line>, Refusal> {
+    let Some(code) = form::code_of(name.text, 1, form::CODES) else {
+        return refused(name.column, Reason::NoSuchLine);
+    };
+    let Some(form) = form::form_of(code) else {
+        return refused(name.column, Reason::NoSuchLine);
+    };
+    let mut reader = Reader {
+        words,
+        end,
+        line: Line {
+            op: [0; 8],
+            columns: [0; 8],
+        },
+        count: 0,
+    };
+    reader.put(name.column, code);
+    reader.line(form)?;
+    Ok(Some(reader.line))
 }

@@ -1,19 +1,30 @@
 // What an access gets: from a walk made now, and from the core, cache and all.
-use crate::fields;
+use crate::fields::{Rights, Status};
 use a72abi::calls;
+use std::fmt;
 use tlb::access::{Answer, Kind, Privilege};
 use tlb::{access, resolve};
-use trace_text::{out, say};
 use walk::level::{Leaf, Walked};
 use walk::regime::Regime;
 use words::counts;
 use words::place::State;
 
-// An answer as words of a core's answer: 1 and the address, or 8 and the status.
-#[derive(Drop)]
-pub struct Told {
-    pub code: u64,
-    pub value: u64,
+// An address, a fault's status, or the number of the check for which there is no answer.
+#[derive(Clone, Copy, PartialEq, Eq)]
+pub enum Told {
+    Address(u64),
+    Fault(u64),
+    Nothing(u64),
+}
+
+impl fmt::Display for Told {
+    fn fmt<W: fmt::Write>(&self, f: &mut fmt::Formatter<W>) -> fmt::Result {
+        match self {
+            Told::Address(pa) => write!(f, "address {pa:x}"),
+            Told::Fault(code) => write!(f, "fault 0x{:02x}, {}", *code, Status(*code)),
+            Told::Nothing(check) => write!(f, "no answer, check {check}"),
+        }
+    }
 }
 
 pub fn kind_word(kind: Kind) -> u64 {
@@ -24,25 +35,25 @@ pub fn kind_word(kind: Kind) -> u64 {
     }
 }
 
-fn in_words(a: Answer) -> Told {
-    match a {
-        Answer::Address(pa) => Told { code: 1, value: pa },
-        Answer::Status(fault) => Told {
-            code: 8,
-            value: fault.fsc as u64,
-        },
-    }
+// The rights of a walk's leaf, and for whom it is.
+#[derive(Clone, Copy)]
+pub struct Reach {
+    pub regime: Regime,
+    pub leaf: Leaf,
 }
 
-fn show_rights(regime: Regime, leaf: Leaf) {
-    let mut line = [0u8; 1024];
-    let a = out::text(&mut line, 0, b"rights     ");
-    let n = fields::rights(&mut line, a, regime, leaf.perms);
-    say::line(&line, n);
-    if leaf.global {
-        say::text(b"  for every ASID\n");
-    } else {
-        say::text(b"  for its ASID alone\n");
+impl fmt::Display for Reach {
+    fn fmt<W: fmt::Write>(&self, f: &mut fmt::Formatter<W>) -> fmt::Result {
+        let rights = Rights {
+            regime: self.regime,
+            perms: self.leaf.perms,
+        };
+        let whom = if self.leaf.global {
+            "for every ASID"
+        } else {
+            "for its ASID alone"
+        };
+        write!(f, "{rights}  {whom}")
     }
 }
 
@@ -57,16 +68,15 @@ pub fn of_walk(
 ) -> Told {
     match w {
         Walked::Mapped(leaf) => {
-            show_rights(regime, leaf);
             let at = counts::current_at(state);
             let e = resolve::entry_for(leaf, at, 0);
             let user = access::user_of(regime, privilege, kind);
-            in_words(access::judge(e, user, kind, va))
+            match access::judge(e, user, kind, va) {
+                Answer::Address(pa) => Told::Address(pa),
+                Answer::Status(fault) => Told::Fault(u64::from(fault.fsc)),
+            }
         }
-        Walked::Fault(code) => Told {
-            code: 8,
-            value: code as u64,
-        },
+        Walked::Fault(code) => Told::Fault(u64::from(code)),
     }
 }
 
@@ -75,29 +85,9 @@ pub fn of_core(state: &mut State, base: u64, ram: &mut [u8], kind: Kind, va: u64
     let op = [1, kind_word(kind), va, 0, 0, 0, 0, 0];
     let mut ans = [99; 4];
     calls::a72_step(&op, state, base, ram, &mut ans);
-    Told {
-        code: ans[0],
-        value: if ans[0] == 8 { ans[2] } else { ans[1] },
-    }
-}
-
-pub fn same(a: Told, b: Told) -> bool {
-    (a.code == b.code) & (a.value == b.value)
-}
-
-pub fn show(t: Told) {
-    let code = t.code;
-    match code {
-        1 => {
-            say::text(b"address ");
-            say::hex(t.value, 1);
-        }
-        5 => say::field(b"no answer, check ", t.value),
-        _ => {
-            say::text(b"fault 0x");
-            say::hex(t.value, 2);
-            say::text(b", ");
-            fields::show_status(t.value);
-        }
+    match ans[0] {
+        1 => Told::Address(ans[1]),
+        8 => Told::Fault(ans[2]),
+        _ => Told::Nothing(ans[1]),
     }
 }

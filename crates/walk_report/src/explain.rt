@@ -1,45 +1,52 @@
 // A translation explained: what a walk made now gives, beside what the core answers.
-use crate::answer::Told;
+use crate::answer::{Reach, Told};
 use crate::{answer, levels, registers};
+use std::io;
+use std::io::Write;
 use tlb::access::{Kind, Privilege};
 use tlb::count::Tally;
-use trace_text::say;
+use walk::level::Walked;
 use walk::regime::{Bank, Regime};
 use walk::{regime, tag};
 use words::place::State;
 use words::{place, regs, state};
 
-fn kind_name(kind: Kind) {
+fn kind_name(kind: Kind) -> &'static str {
     match kind {
-        Kind::Read => say::text(b"read"),
-        Kind::Write => say::text(b"write"),
-        Kind::Fetch => say::text(b"fetch"),
+        Kind::Read => "read",
+        Kind::Write => "write",
+        Kind::Fetch => "fetch",
     }
 }
 
-pub fn regime_name(r: Regime) {
+pub fn regime_name(r: Regime) -> &'static str {
     match r {
-        Regime::El1 => say::text(b"EL1&0"),
-        Regime::El2 => say::text(b"EL2"),
-        Regime::El3 => say::text(b"EL3"),
+        Regime::El1 => "EL1&0",
+        Regime::El2 => "EL2",
+        Regime::El3 => "EL3",
     }
 }
 
-fn head(privilege: Privilege, kind: Kind, r: Regime, va: u64) {
-    kind_name(kind);
-    say::text(b" of ");
-    say::hex(va, 16);
-    say::field(b" at EL", privilege.level as u64);
-    if privilege.unprivileged {
-        say::text(b", unprivileged");
-    }
-    say::text(b": the regime is ");
-    regime_name(r);
-    say::text(b"\n");
+fn head<W: Write>(
+    out: &mut W,
+    privilege: Privilege,
+    kind: Kind,
+    r: Regime,
+    va: u64,
+) -> io::Result<()> {
+    let mark = if privilege.unprivileged {
+        ", unprivileged"
+    } else {
+        ""
+    };
+    write!(out, "{} of {va:016x}", kind_name(kind))?;
+    write!(out, " at EL{}{mark}", privilege.level)?;
+    writeln!(out, ": the regime is {}", regime_name(r))
 }
 
 // With stage 1 on: untagged, walked, judged.
-fn walked(
+fn walked<W: Write>(
+    out: &mut W,
     words: &State,
     base: u64,
     ram: &[u8],
@@ -48,20 +55,18 @@ fn walked(
     privilege: Privilege,
     kind: Kind,
     va: u64,
-) -> Told {
+) -> io::Result<Told> {
     let page = tag::untag(s.tcr, r, va);
     if page != va {
-        say::text(b"untagged   ");
-        say::hex(page, 16);
-        say::text(b"\n");
+        writeln!(out, "untagged   {page:016x}")?;
     }
-    let w = levels::walk(s, r, page, base, ram);
-    answer::of_walk(words, w, r, privilege, kind, va)
-}
-
-fn flat(va: u64) -> Told {
-    say::text(b"stage 1 is off: the address is the physical address\n");
-    Told { code: 1, value: va }
+    let steps = levels::walk(s, r, page, base, ram);
+    write!(out, "{steps}")?;
+    let w = steps.answer;
+    if let Walked::Mapped(leaf) = w {
+        writeln!(out, "rights     {}", Reach { regime: r, leaf })?;
+    }
+    Ok(answer::of_walk(words, w, r, privilege, kind, va))
 }
 
 // Whether stage 1 is on in the regime of the core's level.
@@ -72,18 +77,24 @@ fn is_on(words: &State) -> bool {
 }
 
 // The answer of a walk made now, each step shown.
-fn now(words: &State, base: u64, ram: &[u8], kind: Kind, va: u64) -> Told {
+fn now<W: Write>(
+    out: &mut W,
+    words: &State,
+    base: u64,
+    ram: &[u8],
+    kind: Kind,
+    va: u64,
+) -> io::Result<Told> {
     let privilege = state::privilege_at(words);
     let r = regime::regime_of(privilege.level);
     let s = regs::bank_at(words, r);
-    head(privilege, kind, r, va);
-    registers::show(s, r);
-    let on = is_on(words);
-    if on {
-        walked(words, base, ram, s, r, privilege, kind, va)
-    } else {
-        flat(va)
+    head(out, privilege, kind, r, va)?;
+    registers::show(out, s, r)?;
+    if is_on(words) {
+        return walked(out, words, base, ram, s, r, privilege, kind, va);
     }
+    writeln!(out, "stage 1 is off: the address is the physical address")?;
+    Ok(Told::Address(va))
 }
 
 // The counters of the core's own level. A core whose level is above 3 counts nothing.
@@ -97,48 +108,46 @@ fn counters(words: &State) -> Tally {
 }
 
 // Where the core's answer came from: the counters tell a walk and an entry.
-fn source(on: bool, walks: bool, hits: bool) {
+fn source(on: bool, before: Tally, after: Tally) -> &'static str {
     if !on {
-        say::text(b", with stage 1 off\n");
-        return;
-    }
-    if walks {
-        say::text(b", by a walk\n");
-        return;
-    }
-    if hits {
-        say::text(b", by an entry of the cache\n");
+        "with stage 1 off"
+    } else if before.walks != after.walks {
+        "by a walk"
+    } else if before.hits != after.hits {
+        "by an entry of the cache"
     } else {
-        say::text(b", by a hint\n");
+        "by a hint"
     }
 }
 
 // A stale cache is seen here.
-fn verdict(now: Told, core: Told) {
-    let same = answer::same(now, core);
-    if same {
-        say::text(b"the two agree\n");
-        return;
+fn verdict(now: Told, core: Told) -> &'static str {
+    if now == core {
+        return "the two agree";
     }
-    if core.code == 5 {
-        say::text(b"the core refuses the call: its level is above 3, or its window passes 2^64\n");
-    } else {
-        say::text(b"THEY DIFFER: the cache holds a translation that the tables no longer make\n");
+    match core {
+        Told::Nothing(_) => {
+            "the core refuses the call: its level is above 3, or its window passes 2^64"
+        }
+        _ => "THEY DIFFER: the cache holds a translation that the tables no longer make",
     }
 }
 
 // One translation on a core and its window.
-pub fn explain(words: &mut State, base: u64, ram: &mut [u8], kind: Kind, va: u64) {
-    let by_walk = now(words, base, ram, kind, va);
-    say::text(b"walk now   ");
-    answer::show(by_walk);
-    say::text(b"\n");
+pub fn explain<W: Write>(
+    out: &mut W,
+    words: &mut State,
+    base: u64,
+    ram: &mut [u8],
+    kind: Kind,
+    va: u64,
+) -> io::Result<()> {
+    let by_walk = now(out, words, base, ram, kind, va)?;
+    writeln!(out, "walk now   {by_walk}")?;
     let on = is_on(words);
     let before = counters(words);
     let by_core = answer::of_core(words, base, ram, kind, va);
-    say::text(b"the core   ");
-    answer::show(by_core);
     let after = counters(words);
-    source(on, after.walks != before.walks, after.hits != before.hits);
-    verdict(by_walk, by_core);
+    writeln!(out, "the core   {by_core}, {}", source(on, before, after))?;
+    writeln!(out, "{}", verdict(by_walk, by_core))
 }

@@ -1,11 +1,11 @@
-// A walk with each level shown: the tables that the walk reads, and its answer.
+// A walk that can be shown step by step: the tables that the walk reads, and its answer.
 ghost use Rattle.std.specs.Prelude.{◌≡◌};
 ghost use Rattle.word.specs.Ram.{word_at};
 ghost use Rattle.walk.specs.Walk.{walk_of};
 
-use crate::fields;
-use trace_text::say;
-use walk::level::{Leaf, Params, Step, WalkState, Walked};
+use crate::fields::{Attributes, Status, Table};
+use std::fmt;
+use walk::level::{Params, Step, Walked};
 use walk::range::Range;
 use walk::regime::{Bank, Regime};
 use walk::table::{Visit, Visited};
@@ -14,132 +14,146 @@ use word::ram;
 use word::ram::{Width, Word};
 
 // The size of a leaf's page or block, by the lowest bit of the address that it leaves alone.
-fn size(lsb: u64) {
+fn size(lsb: u64) -> &'static str {
     match lsb {
-        12 => say::text(b"page of 4 KiB"),
-        16 => say::text(b"page of 64 KiB"),
-        21 => say::text(b"block of 2 MiB"),
-        29 => say::text(b"block of 512 MiB"),
-        _ => say::text(b"block of 1 GiB"),
-    }
-}
-
-fn show_leaf(w: WalkState, leaf: Leaf) {
-    size(w.lsb);
-    say::text(b", output ");
-    say::hex(leaf.oa, 1);
-    say::text(b"\n           ");
-    fields::leaf(leaf.desc);
-}
-
-fn show_end(w: WalkState, end: Walked) {
-    match end {
-        Walked::Mapped(leaf) => show_leaf(w, leaf),
-        Walked::Fault(code) => fields::show_status(code as u64),
+        12 => "page of 4 KiB",
+        16 => "page of 64 KiB",
+        21 => "block of 2 MiB",
+        29 => "block of 512 MiB",
+        _ => "block of 1 GiB",
     }
 }
 
 // What a descriptor leads to.
-fn show_meaning(w: WalkState, desc: u64, step: Step) {
-    match step {
-        Step::Next(next) => fields::table(desc, next.table),
-        Step::Done(end) => show_end(w, end),
-    }
+#[derive(Clone, Copy)]
+struct Meaning {
+    lsb: u64,
+    desc: u64,
+    step: Step,
 }
 
-fn show_word(w: WalkState, word: Word, step: Step) {
-    match word {
-        Word::Value(desc) => {
-            say::hex(desc, 16);
-            say::text(b"  ");
-            show_meaning(w, desc, step);
-        }
-        Word::Outside => {
-            say::text(b"outside RAM  ");
-            show_meaning(w, 0, step);
+impl fmt::Display for Meaning {
+    fn fmt<W: fmt::Write>(&self, f: &mut fmt::Formatter<W>) -> fmt::Result {
+        let desc = self.desc;
+        match self.step {
+            Step::Next(next) => {
+                let next = next.table;
+                write!(f, "{}", Table { desc, next })
+            }
+            Step::Done(Walked::Mapped(leaf)) => {
+                write!(f, "{}, output {:x}", size(self.lsb), leaf.oa)?;
+                write!(f, "\n           {}", Attributes(leaf.desc))
+            }
+            Step::Done(Walked::Fault(code)) => write!(f, "{}", Status(u64::from(code))),
         }
     }
 }
 
 // One level: the table, the index, the descriptor's address and value, and what it leads to.
-fn show_level(v: Visit, base: u64, ram: &[u8]) {
+fn show_level<W: fmt::Write>(
+    f: &mut fmt::Formatter<W>,
+    v: Visit,
+    base: u64,
+    ram: &[u8],
+) -> fmt::Result {
     let w = v.state;
+    let index = v.at.wrapping_sub(w.table) / 8;
+    write!(f, "level {}    table {:x}", w.level, w.table)?;
+    write!(f, "[{index:x}]  at {:x}  ", v.at)?;
+    let lsb = w.lsb;
     let step = v.step;
-    let word = ram::read(base, ram, Width::Double, v.at);
-    say::field(b"level ", w.level as u64);
-    say::text(b"    table ");
-    say::hex(w.table, 1);
-    say::text(b"[");
-    say::hex(std::num::wrapping_sub_u64(v.at, w.table) / 8, 1);
-    say::text(b"]  at ");
-    say::hex(v.at, 1);
-    say::text(b"  ");
-    show_word(w, word, step);
-    say::text(b"\n");
+    match ram::read(base, ram, Width::Double, v.at) {
+        Word::Value(desc) => {
+            let meaning = Meaning { lsb, desc, step };
+            writeln!(f, "{desc:016x}  {meaning}")
+        }
+        Word::Outside => {
+            let desc = 0;
+            let meaning = Meaning { lsb, desc, step };
+            writeln!(f, "outside RAM  {meaning}")
+        }
+    }
 }
 
-fn show_range(g: Range, p: Params) {
-    if g.upper {
-        say::text(b"range      upper (TTBR1)");
+fn show_range<W: fmt::Write>(f: &mut fmt::Formatter<W>, g: Range, p: Params) -> fmt::Result {
+    let half = if g.upper {
+        "upper (TTBR1)"
     } else {
-        say::text(b"range      lower (TTBR0)");
-    }
-    say::text(b" ");
-    say::hex(g.baseregister, 16);
-    say::field(b", TxSZ ", g.txsz);
-    if g.largegrain {
-        say::text(b", granule 64 KiB");
-    } else {
-        say::text(b", granule 4 KiB");
-    }
-    say::field(b", output of ", p.outputsize);
-    say::text(b" bits");
+        "lower (TTBR0)"
+    };
+    let granule = if g.largegrain { 64 } else { 4 };
+    write!(f, "range      {half} {:016x}", g.baseregister)?;
+    write!(f, ", TxSZ {}, granule {granule} KiB", g.txsz)?;
+    write!(f, ", output of {} bits", p.outputsize)?;
     if g.disabled {
-        say::text(b", walks disabled (EPD)");
+        write!(f, ", walks disabled (EPD)")?;
     }
-    say::text(b"\n");
+    writeln!(f)
 }
 
-fn show_refused(answer: Walked) {
-    say::text(b"start      ");
+// Why a walk reads no table.
+fn show_refused<W: fmt::Write>(f: &mut fmt::Formatter<W>, answer: Walked) -> fmt::Result {
+    write!(f, "start      ")?;
     match answer {
-        Walked::Mapped(_) => {}
+        Walked::Mapped(_) => Ok(()),
         Walked::Fault(code) => {
-            fields::show_status(code as u64);
-            if code == 4 {
-                say::text(b": the address is out of range, or walks are disabled\n");
+            let why = if code == 4 {
+                "the address is out of range, or walks are disabled"
             } else {
-                say::text(b": the table lies beyond the output size\n");
-            }
+                "the table lies beyond the output size"
+            };
+            writeln!(f, "{}: {why}", Status(u64::from(code)))
         }
     }
 }
 
-// The tables that the walk reads, each shown; where it reads none, why.
-fn show_levels(s: Bank, regime: Regime, va: u64, base: u64, ram: &[u8], answer: Walked) {
-    let mut n: u8 = 0;
-    while n < 4 {
-        match table::visit_nth(s, regime, va, base, ram, n) {
-            Visited::At(v) => show_level(v, base, ram),
-            Visited::Beyond => {
-                if n == 0 {
-                    show_refused(answer);
+// A walk and its answer. Shown, it is the range and the tables that the walk reads, each a line; where it reads none,
+// why.
+#[derive(Clone, Copy)]
+pub struct Steps<'a> {
+    bank: Bank,
+    regime: Regime,
+    va: u64,
+    base: u64,
+    ram: &'a [u8],
+    pub answer: Walked,
+}
+
+impl fmt::Display for Steps<'_> {
+    fn fmt<W: fmt::Write>(&self, f: &mut fmt::Formatter<W>) -> fmt::Result {
+        let bank = self.bank;
+        let regime = self.regime;
+        let va = self.va;
+        let base = self.base;
+        let ram = self.ram;
+        let g = range::range_of(bank, regime, va);
+        show_range(f, g, range::params_of(bank, regime, g))?;
+        for n in 0..4u8 {
+            match table::visit_nth(bank, regime, va, base, ram, n) {
+                Visited::At(v) => show_level(f, v, base, ram)?,
+                Visited::Beyond => {
+                    if n == 0 {
+                        show_refused(f, self.answer)?;
+                    }
+                    return Ok(());
                 }
-                return;
             }
         }
-        n += 1;
+        Ok(())
     }
 }
 
-// The walk of va, which is untagged, each step shown. It is the walk that translations make.
-pub fn walk(s: Bank, regime: Regime, va: u64, base: u64, ram: &[u8]) -> Walked
-    ensures { result ≡ walk_of s regime va (word_at base ram.now 8) }
+// The walk of va, which is untagged, with its steps. It is the walk that translations make.
+pub fn walk<'a>(s: Bank, regime: Regime, va: u64, base: u64, ram: &'a [u8]) -> Steps<'a>
+    ensures { result.answer ≡ walk_of s regime va (word_at base ram.now 8) }
 {
-    let g = range::range_of(s, regime, va);
-    let p = range::params_of(s, regime, g);
     let answer = table::walk(s, regime, va, base, ram);
-    show_range(g, p);
-    show_levels(s, regime, va, base, ram, answer);
-    answer
+    Steps {
+        bank: s,
+        regime,
+        va,
+        base,
+        ram,
+        answer,
+    }
 }

@@ -1,3 +1,4 @@
+#![tactic(auto)]
 // One translation, step by step: the registers, the range, each level's descriptor, the end, and what the core
 // itself answers.
 pub mod answer;

@@ -1,93 +1,91 @@
 // The registers that a translation reads.
-use trace_text::say;
+use std::io::Write;
+use std::{fmt, io};
 use walk::regime::{Bank, Regime};
 
 fn bit(x: u64, n: u64) -> u64 {
     (x >> (n % 64)) % 2
 }
 
-fn value(name: &[u8], v: u64) {
-    say::text(name);
-    say::hex(v, 16);
-    say::text(b"  ");
-}
-
-fn granule(large: bool) {
-    if large {
-        say::text(b"64K");
-    } else {
-        say::text(b"4K");
-    }
+fn granule(large: bool) -> &'static str {
+    if large { "64K" } else { "4K" }
 }
 
 // TCR_EL1: two ranges, each with its size, granule and EPD; top byte ignore; the ASID's place and width.
-fn tcr_el1(t: u64) {
-    say::field(b"T0SZ=", t % 64);
-    say::text(b" TG0=");
-    granule((t >> 14) % 4 == 1);
-    say::field(b" EPD0=", bit(t, 7));
-    say::field(b" TBI0=", bit(t, 37));
-    say::field(b" | T1SZ=", (t >> 16) % 64);
-    say::text(b" TG1=");
-    granule((t >> 30) % 4 == 3);
-    say::field(b" EPD1=", bit(t, 23));
-    say::field(b" TBI1=", bit(t, 38));
-    say::field(b" | IPS=", (t >> 32) % 8);
-    say::field(b" A1=", bit(t, 22));
-    say::field(b" AS=", bit(t, 36));
+#[derive(Clone, Copy)]
+struct TcrEl1(u64);
+
+impl fmt::Display for TcrEl1 {
+    fn fmt<W: fmt::Write>(&self, f: &mut fmt::Formatter<W>) -> fmt::Result {
+        let t = self.0;
+        write!(f, "T0SZ={} TG0={}", t % 64, granule((t >> 14) % 4 == 1))?;
+        write!(f, " EPD0={} TBI0={}", bit(t, 7), bit(t, 37))?;
+        write!(
+            f,
+            " | T1SZ={} TG1={}",
+            (t >> 16) % 64,
+            granule((t >> 30) % 4 == 3)
+        )?;
+        write!(f, " EPD1={} TBI1={}", bit(t, 23), bit(t, 38))?;
+        write!(
+            f,
+            " | IPS={} A1={} AS={}",
+            (t >> 32) % 8,
+            bit(t, 22),
+            bit(t, 36)
+        )
+    }
 }
 
 // TCR_EL2 and TCR_EL3: one range.
-fn tcr_one(t: u64) {
-    say::field(b"T0SZ=", t % 64);
-    say::text(b" TG0=");
-    granule((t >> 14) % 4 == 1);
-    say::field(b" TBI=", bit(t, 20));
-    say::field(b" PS=", (t >> 16) % 8);
-}
+#[derive(Clone, Copy)]
+struct TcrOne(u64);
 
-fn tcr(regime: Regime, t: u64) {
-    match regime {
-        Regime::El1 => tcr_el1(t),
-        Regime::El2 => tcr_one(t),
-        Regime::El3 => tcr_one(t),
+impl fmt::Display for TcrOne {
+    fn fmt<W: fmt::Write>(&self, f: &mut fmt::Formatter<W>) -> fmt::Result {
+        let t = self.0;
+        write!(f, "T0SZ={} TG0={}", t % 64, granule((t >> 14) % 4 == 1))?;
+        write!(f, " TBI={} PS={}", bit(t, 20), (t >> 16) % 8)
     }
-    say::text(b"\n");
 }
 
-fn asid(v: u64) {
-    say::text(b"ASID=");
-    say::hex(v >> 48, 1);
-    say::text(b" base=");
-    say::hex(v % 0x1_0000_0000_0000, 1);
-    say::text(b"\n");
+// A TTBR: an ASID and a table's address.
+#[derive(Clone, Copy)]
+struct Ttbr(u64);
+
+impl fmt::Display for Ttbr {
+    fn fmt<W: fmt::Write>(&self, f: &mut fmt::Formatter<W>) -> fmt::Result {
+        let v = self.0;
+        let asid = v >> 48;
+        let base = v % 0x1_0000_0000_0000;
+        write!(f, "{v:016x}  ASID={asid:x} base={base:x}")
+    }
 }
 
 // What only the EL1&0 regime reads besides.
-fn second(regime: Regime, s: Bank) {
-    match regime {
-        Regime::El1 => {
-            value(b"TTBR1      ", s.ttbr1_el1);
-            asid(s.ttbr1_el1);
-            say::field(b"SCR.NS=", bit(s.scr_el3, 0));
-            say::field(b" HCR.TGE=", bit(s.hcr_el2, 27));
-            say::field(b" HCR.DC=", bit(s.hcr_el2, 12));
-            say::text(b"\n");
-        }
-        Regime::El2 => {}
-        Regime::El3 => {}
-    }
+fn second<W: Write>(out: &mut W, s: Bank) -> io::Result<()> {
+    writeln!(out, "TTBR1      {}", Ttbr(s.ttbr1_el1))?;
+    write!(out, "SCR.NS={}", bit(s.scr_el3, 0))?;
+    writeln!(
+        out,
+        " HCR.TGE={} HCR.DC={}",
+        bit(s.hcr_el2, 27),
+        bit(s.hcr_el2, 12)
+    )
 }
 
 // The registers of a regime, with their fields.
-pub fn show(s: Bank, regime: Regime) {
-    value(b"SCTLR      ", s.sctlr);
-    say::field(b"M=", bit(s.sctlr, 0));
-    say::field(b" WXN=", bit(s.sctlr, 19));
-    say::text(b"\n");
-    value(b"TCR        ", s.tcr);
-    tcr(regime, s.tcr);
-    value(b"TTBR0      ", s.ttbr0);
-    asid(s.ttbr0);
-    second(regime, s);
+pub fn show<W: Write>(out: &mut W, s: Bank, regime: Regime) -> io::Result<()> {
+    write!(out, "SCTLR      {:016x}", s.sctlr)?;
+    writeln!(out, "  M={} WXN={}", bit(s.sctlr, 0), bit(s.sctlr, 19))?;
+    write!(out, "TCR        {:016x}  ", s.tcr)?;
+    match regime {
+        Regime::El1 => writeln!(out, "{}", TcrEl1(s.tcr))?,
+        Regime::El2 | Regime::El3 => writeln!(out, "{}", TcrOne(s.tcr))?,
+    }
+    writeln!(out, "TTBR0      {}", Ttbr(s.ttbr0))?;
+    match regime {
+        Regime::El1 => second(out, s),
+        Regime::El2 | Regime::El3 => Ok(()),
+    }
 }
