@@ -1,5 +1,5 @@
 /*
- * Stage 1 address translation of the Cortex-A72: the C interface of liba72abi.a, which `rt staticlib a72abi` makes
+ * Stage 1 address translation of the Cortex-A72: the C interface of liba72abi.a, which `tools/build a72abi` makes
  * (x86-64, ELF). The library keeps no pointer and no data of its own, allocates nothing, and calls nothing but memset.
  *
  * The state. A core is an array of A72_WORDS words of 64 bits (a72_state), aligned as uint64_t is and owned by the

@@ -60,7 +60,7 @@ had 0.95 (translations) and 1.0 (loads and stores), entry hits of translations 1
 
 ## How it was run
 
-    rt staticlib a72abi && rt staticlib lent_bench
+    tools/build a72abi && tools/build lent_bench
     cd oracle
     FEATURE=harness/lent A72_LIB=$PWD/../target/staticlib A72_NAME=a72abi ./benchmarks.sh
 

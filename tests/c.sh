@@ -1,7 +1,7 @@
 #!/bin/sh
 # include/a72.h from C: bindings/c/example.c writes what bindings/c/example.out has, and tests/readers.c reads what it set. Both compile without a
 # warning, as C++ too. Wants a C compiler (CC, or cc, gcc, clang, or the kit's where it finds the C library's headers) and target/staticlib/liba72abi.a
-# (rt staticlib a72abi; A72_LIB names another folder). What lacks one of them is left out, and said to be.
+# (tools/build a72abi; A72_LIB names another folder). What lacks one of them is left out, and said to be.
 set -eu
 cd "$(dirname "$0")/.."
 library=${A72_LIB:-target/staticlib}/liba72abi.a
@@ -30,7 +30,7 @@ for name in bindings/c/example tests/readers; do
     "$cc" -std=c99 $strict -c "$name.c" -o "$work/$(basename "$name").o"
     [ -z "$cxx" ] || "$cxx" -x c++ -std=c++11 $strict -fsyntax-only "$name.c"
 done
-[ -f "$library" ] || { echo "compiled; the run is left out: $library is missing, and rt staticlib a72abi makes it"; exit 0; }
+[ -f "$library" ] || { echo "compiled; the run is left out: $library is missing, and tools/build a72abi makes it"; exit 0; }
 for name in example readers; do
     "$cc" "$work/$name.o" "$library" -o "$work/$name"
 done

@@ -10,25 +10,29 @@ bad=0
 pass() { good=$((good + 1)); }
 fail() { bad=$((bad + 1)); echo "differs: $1"; sed 's/^/    /' "$work/out" "$work/err"; }
 
-# A repository of two crates, and the stub: `rt version` names the kit, `rt check` and `rt ci` do what the file `does` says.
+# A small repository, and the stub: `rt version` names the kit, `rt run` and `rt ci` do what the file `does` says.
 here=$work/repository
-mkdir -p "$here/crates/word/src" "$here/crates/a72/src" "$here/tools" "$here/tests" "$here/target/bin" "$here/target/stamp" "$work/bin"
+mkdir -p "$here/crates/word/src" "$here/tools" "$here/tests" "$work/bin"
 cp run check a72 "$here"
-cp tools/said.sh tools/requires.awk "$here/tools"
+cp tools/said.sh tools/build tools/requires.awk "$here/tools"
 echo 'echo the places are one' >"$here/tests/places.sh"
-printf 'word:\na72: word io\n' >"$here/crates.txt"
+printf 'word:\na72: word io\nreplay: word\ncases: word\n' >"$here/crates.txt"
 echo 'kit of the test' >"$here/kit"
 : >"$here/crates/word/src/lib.rt"
+for name in a72 replay cases; do
+    mkdir -p "$here/crates/$name/src" "$here/crates/$name/out"
+    : >"$here/crates/$name/src/main.rt"
+    printf '#!/bin/sh\necho "played $*"\n' >"$here/crates/$name/out/$name"
+    chmod +x "$here/crates/$name/out/$name"
+done
 cat >"$work/bin/rt" <<'RT'
 #!/bin/sh
 case $1 in
 version) echo 'kit of the test' ;;
-fmt) exit 0 ;;
 *) . "$DOES" ;;
 esac
 RT
-printf '#!/bin/sh\necho "played $*"\n' >"$here/target/bin/a72"
-chmod +x "$work/bin/rt" "$here/target/bin/a72"
+chmod +x "$work/bin/rt"
 export PATH="$work/bin:$PATH" DOES="$work/does"
 cd "$here" || exit 1
 
@@ -50,54 +54,47 @@ has() {
 hasnt() { grep -qF -- "$2" "$work/$1" && fail "there is '$2'" || pass; }
 last() { [ "$(tail -n 1 "$work/$1")" = "$2" ] && pass || fail "its last line is not '$2'"; }
 
-# The first run: each crate is counted, the lines of functions go, and the program is run.
+# The first run: a line for each crate, none for a function, and the program is run.
 cat >"$DOES" <<'RT'
 # proves both
-echo 'logic /kit: libraries=1'
-echo 'fn word::bits: proved'
-echo 'rt: word proved (9 s)'
-echo 'library word: modules loaded=1 checked=0'
-echo 'rt: a72 proved (2 s)'
-echo 'rt: ok, 2 crates proved'
-: >target/stamp/a72
+echo 'logic /kit: libraries=1' >&2
+echo 'statements core: modules loaded=222 checked=0' >&2
+echo 'fn word::bits: proved' >&2
+echo 'rt: word proved' >&2
+echo 'rt: a72 proved' >&2
+echo 'logic=proved functions=1' >&2
+echo 'what the program says when it is built'
 RT
 in_out 0 ./run && {
     has err 'run: proves a72 and what it stands on, 2 crates: about 11 minutes..'
-    has err 'rt: word proved (9 s), 1 of 2'
-    has err 'rt: a72 proved (2 s), 2 of 2'
+    has err 'rt: word proved'
+    has err 'rt: a72 proved'
     hasnt err 'fn word::bits'
-    hasnt err 'library word'
+    hasnt err 'statements core'
+    hasnt err 'what the program says'
     has out 'played chord'
 }
 
-# A second run says nothing before the program does.
-cat >"$DOES" <<'RT'
-# finds all proved
-echo 'rt: word proved (unchanged since it was last proved)'
-echo 'rt: a72 proved (unchanged since it was last proved)'
-echo 'rt: ok, 2 crates proved'
-RT
-touch -d '2000-01-01' crates/word/src/lib.rt crates.txt
+# A second run says nothing before the program does; one after an edit says that it proves again.
+echo 'exit 9' >"$DOES"
 in_out 0 ./run && { [ ! -s "$work/err" ] && pass || fail 'a second run speaks'; }
-touch crates/word/src/lib.rt
-touch -d '2000-01-02' target/stamp/a72
+echo 'exit 0' >"$DOES"
+touch -d '2000-01-02' target/bin/a72
 in_out 0 ./run && has err 'run: files are newer..'
 
 # A proof that fails, and a toolchain that does.
 cat >"$DOES" <<'RT'
 # refuses a proof
-echo 'fn word::bits: proved'
-printf '%s\n' 'crates/word/src/lib.rt:12:3: error: the goal a ≡ b\n is open'
-echo 'fn word::field: not proved'
-echo 'rt: word NOT PROVED (exit 1, 3 s)'
-echo 'rt: FAILED: word' >&2
+echo 'fn word::bits: proved' >&2
+printf '%s\n' 'crates/word/src/lib.rt:12:3: error: the goal a ≡ b\n is open' >&2
+echo 'fn word::field: not proved' >&2
 exit 1
 RT
+touch -d '2000-01-02' target/bin/a72
 in_out 1 ./run && {
     has err 'crates/word/src/lib.rt:12:3: error: the goal a ≡ b\n is open'
     has err 'fn word::field: not proved'
-    has err 'rt: word NOT PROVED (exit 1, 3 s)'
-    has err 'target/log/CRATE.out..'
+    has err 'run: a72 is not proved, and was not run..'
     [ ! -s "$work/out" ] && pass || fail 'the program ran'
 }
 echo "printf 'rt: no toolchain' >&2; exit 2" >"$DOES"
@@ -108,7 +105,7 @@ in_out 0 ./run --help
 # A line comes when it is made: rt here waits for its line to arrive.
 cat >"$DOES" <<RT
 # waits for its own line
-echo 'rt: word proved (9 s)'
+echo 'rt: word proved' >&2
 n=0
 until grep -q 'rt: word proved' "$work/err" || [ \$n = 50 ]; do sleep 0.1; n=\$((n + 1)); done
 [ \$n -lt 50 ] || echo 'late'
@@ -118,16 +115,19 @@ in_out 0 ./run && hasnt err late
 # The gate: rt's last line is the last, and its status is the gate's.
 cat >"$DOES" <<'RT'
 # passes
+echo '== word'
 echo 'fn word::bits: proved'
-echo 'rt: word proved (9 s)'
-echo 'rt: must-fail word/half_order: refused, as it must be (first at src/lib.rt:1:1; 5 s)'
-echo 'rt: ok, 2 crates proved, 1 must-fail edits refused'
+echo 'empty contracts: 0 found; tried 1 of 1 functions'
+echo 'rt: word proved'
+echo 'rt: must-fail word/half_order.edit: refused, as it must be: note: src/lib.rt:1:1'
+echo 'rt: ok; handles allowed: none; must-fail edits: 1 refused, 0 bad'
 echo '3 passed, 0 failed'
 RT
 in_out 0 ./check && {
     last out '3 passed, 0 failed'
-    has out 'rt: word proved (9 s)'
-    has out 'rt: must-fail word/half_order: refused, as it must be (first at src/lib.rt:1:1; 5 s)'
+    has out 'rt: word proved'
+    has out 'rt: must-fail word/half_order.edit: refused, as it must be: note: src/lib.rt:1:1'
+    has out 'rt: ok; handles allowed: none; must-fail edits: 1 refused, 0 bad'
     hasnt out 'fn word::bits'
     hasnt out 'check: note'
 }
@@ -165,7 +165,7 @@ in_out 1 ./check tests && {
 # Without cargo and python3 their parts are left out; `all` counts them as failed, after the gate's own numbers.
 rm tests/bad.sh tests/silent.sh
 mkdir "$work/few"
-for tool in sh awk sed grep cat tr date mkdir tail head mktemp rm chmod df find basename dirname; do ln -s "$(command -v $tool)" "$work/few/$tool"; done
+for tool in sh awk sed grep cat cp tr date mkdir tail head mktemp rm chmod df find basename dirname; do ln -s "$(command -v $tool)" "$work/few/$tool"; done
 in_out 0 env PATH="$work/bin:$work/few" ./check tests && {
     has out 'check: differential: left out, cargo is missing'
     has out 'check: rows of docs/DIFFERENCES.md: left out, python3 is missing'
@@ -181,7 +181,7 @@ echo \$! >"$work/prover"
 wait
 RT
 for command in ./run ./check; do
-    rm -f "$work/prover"
+    rm -f "$work/prover" target/bin/a72
     TMPDIR=$work/scratch
     export TMPDIR
     mkdir -p "$TMPDIR"
@@ -200,9 +200,11 @@ done
 
 # The tool's script: by a link, before it is built, and with a program that is killed.
 ln -s "$here/a72" "$work/bin/tool"
+cp crates/a72/out/a72 target/bin/a72
 in_out 0 tool run x && has out 'played run x'
 in_out 0 tool counters x && has out 'played counters x'
 printf '#!/bin/sh\nkill -KILL $$\n' >target/bin/a72
+chmod +x target/bin/a72
 in_out 137 ./a72 chord
 rm target/bin/a72
 in_out 1 ./a72 chord && has err 'a72: it is not built yet..'

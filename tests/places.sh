@@ -71,9 +71,9 @@ sed -n 's/^#define A72_\([A-Z0-9_]*\) A72_KEY(\(.*\))$/\1 \2/p' $header | tr -d 
 one key bindings/rust/src/registers.rs $header
 
 # Functions, sorted: NAME, then each parameter as a C type without its name; `-` where nothing is given back.
-awk -f tools/functions.awk crates/a72abi/src/*.rt | sort | table crates/a72abi/src
+awk -f tools/functions.awk crates/a72_static/src/*.rt | sort | table crates/a72_static/src
 sed "s/A72_COUNTS]/$counts]/" $header | awk -f tools/functions.awk | sort | table $header
 awk -f tools/functions.awk bindings/rust/src/library.rs | sort | table bindings/rust/src/library.rs
-for other in $header bindings/rust/src/library.rs; do one function crates/a72abi/src "$other"; done
+for other in $header bindings/rust/src/library.rs; do one function crates/a72_static/src "$other"; done
 
 echo "$lines lines are one in all tables"

@@ -1,12 +1,12 @@
 #!/bin/sh
 # The tool beside the Rust: `a72 run` against the oracle's `run` on every recorded trace and on generated ones, then the counters by level, the census, bad
 # files and arguments.
-# Wants target/bin/a72 (rt check a72) and oracle/target/release (cargo build --offline --release in oracle/). Usage: tests/tool.sh [SEEDS]
+# Wants target/bin/a72 (tools/build a72) and oracle/target/release (cargo build --offline --release in oracle/). Usage: tests/tool.sh [SEEDS]
 set -u
 cd "$(dirname "$0")/.."
 tool=./a72
 rust=${CARGO_TARGET_DIR:-oracle/target}/release
-[ -x target/bin/a72 ] || { echo "tool.sh: target/bin/a72 is missing: ./run or rt check a72 makes it"; exit 1; }
+[ -x target/bin/a72 ] || { echo "tool.sh: target/bin/a72 is missing: ./run or tools/build a72 makes it"; exit 1; }
 for program in run generate; do
     [ -x "$rust/$program" ] || { echo "tool.sh: $rust/$program is missing: cargo build --offline --release in oracle/ makes it"; exit 1; }
 done

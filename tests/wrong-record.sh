@@ -1,9 +1,9 @@
 #!/bin/sh
-# A record with one word wrong is noticed. Wants target/bin/replay (rt check replay). Its last line is 'wrong records: all noticed'.
+# A record with one word wrong is noticed. Wants target/bin/replay (tools/build replay). Its last line is 'wrong records: all noticed'.
 set -eu
 cd "$(dirname "$0")/.."
 program=$PWD/target/bin/replay
-[ -x "$program" ] || { echo "wrong-record.sh: target/bin/replay is missing: rt check replay makes it"; exit 1; }
+[ -x "$program" ] || { echo "wrong-record.sh: target/bin/replay is missing: tools/build replay makes it"; exit 1; }
 room=$(mktemp -d)
 trap 'rm -rf "$room"' EXIT
 cp crates/replay/data/*.rec "$room"

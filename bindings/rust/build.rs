@@ -1,4 +1,4 @@
-//! Links liba72abi.a of the folder $A72_LIB, or where `rt staticlib a72abi` puts it.
+//! Links liba72abi.a of the folder $A72_LIB, or where `tools/build a72abi` puts it.
 use std::env;
 use std::path::PathBuf;
 
@@ -11,7 +11,7 @@ fn main() {
     println!("cargo:rerun-if-changed={}", file.display());
     if !file.exists() {
         panic!(
-            "{} is missing: `rt staticlib a72abi` makes it, and A72_LIB names its folder",
+            "{} is missing: `tools/build a72abi` makes it, and A72_LIB names its folder",
             file.display()
         );
     }
