@@ -18,35 +18,22 @@ use trace_file::run;
 use words::place::WORDS;
 
 // What each command does.
-fn details<W: Write>(out: &mut W) -> io::Result<()> {
-    write!(
-        out,
-        "
+const DETAILS: &str = "
 run      carries out a trace on the proved core and prints a line for each operation: its line number,
          the operation, the answer, counters, registers kept and digests, as the Rust's run does.
 counters carries out a trace, then shows what the cache counted at each exception level: translations that an
          entry answered, walks, the share of walks with a bar, the sums, and which level walks most.
-"
-    )?;
-    write!(
-        out,
-        "walk     carries out a trace, then shows one translation of ADDRESS (hexadecimal) step by step: registers,
+walk     carries out a trace, then shows one translation of ADDRESS (hexadecimal) step by step: registers,
          range, each descriptor, the end, and what the core answers. A read at the core's level, or as named.
 census   carries out a trace, then shows how the PAGES pages of 4 KiB from FIRST (both hexadecimal) end in a
          fresh walk at the core's level, or as named: a table, and a map; --svg: the map as a picture.
 chord    sixteen voices, a page each, and every order of a small chord: no tone is lost; against a stale
          cache, which loses one.
 
-"
-    )?;
-    write!(
-        out,
-        "TRACE is a file of lines: tr, dpa, fpa, ld, st, if, sys, reg, level, mark, x, abort, census; fresh, window, zero,
+TRACE is a file of lines: tr, dpa, fpa, ld, st, if, sys, reg, level, mark, x, abort, census; fresh, window, zero,
 poke; leaves l-..; pokes p-..; parts w-.. Numbers are hexadecimal without 0x; # starts a comment. A file with a
 bad line gets a message `a72: FILE:LINE:COLUMN: reason` on standard error, and nothing else happens.
-"
-    )
-}
+";
 
 fn run_command<R: Files + AllocGlobal, W: Write>(
     rt: &R,
@@ -134,7 +121,7 @@ fn chord_command<W: Write>(alloc: Global, out: &mut W, words: &[String]) -> Resu
 
 fn help<W: Write>(out: &mut W) -> Result<(), Stop> {
     stop::usage(out)?;
-    details(out)?;
+    write!(out, "{DETAILS}")?;
     Ok(())
 }
 

@@ -63,7 +63,7 @@ fn least(a: u64, b: u64) -> u64
 // A cell's letter: a census of its own pages.
 fn cell(state: &State, base: u64, ram: &[u8], start: u64, from: u64, pages: u64) -> u8 {
     let mut counts = [0u64; 129];
-    let first = std::num::wrapping_add_u64(start, from % 0x10_0000 * 4096);
+    let first = start.wrapping_add(from % 0x10_0000 * 4096);
     inspect::a72_census(state, first, pages, &mut counts, base, ram);
     letter::of_counts(&counts)
 }
