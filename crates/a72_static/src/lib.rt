@@ -1,12 +1,13 @@
 #![tactic(auto)]
-// The static library: each exported call of `a72abi` under its name for C, with the promise that it makes there. A crate
-// that others see exports nothing, so the exports stand alone here.
+// The static library: each exported call of `a72abi` under its name for C, with the promise that it makes there. A
+// crate that others see exports nothing, so the exports stand alone here.
 ghost use Rattle.std.specs.Prelude.{◌≡◌};
 ghost use Rattle.operations.specs.declared.call.Call.TheVariants as Call;
 ghost use Rattle.mmu.specs.Core.{freshCore};
 ghost use Rattle.words.specs.CoreOf.{core_of};
 ghost use Rattle.call_words.specs.declared.op.DecodedCall.TheVariants as DecodedCall;
-ghost use Rattle.call_words.specs.Ops.{key_of, kind_of, encodingOf, exceptionAt, abortCall, markCall, call_of, translateCall};
+ghost use Rattle.call_words.specs.Ops.{key_of, kind_of, encodingOf, exceptionAt};
+ghost use Rattle.call_words.specs.Ops.{abortCall, markCall, call_of, translateCall};
 ghost use Rattle.call_words.specs.Walk.{walkCode, walkWords};
 ghost use Rattle.words_census.specs.Promise.{CensusPromise};
 ghost use Rattle.a72abi.specs.Promise.{Promise, Setting, StepPromise};
