@@ -1,5 +1,5 @@
 -- Laws of exception entry: which registers change, and where it goes.
-use Rattle.std.specs.Prelude.{◌≡◌, ℕ, zero, suc, ◌+◌, ◌%◌, ◌^◌, ◌<◌, ◌≤◌, Bool, true, false, slice_index}
+use Rattle.std.specs.Prelude.{◌≡◌, ℕ, zero, suc, ◌%◌, ◌^◌, ◌<◌, ◌≤◌, Bool, true, false, slice_index}
 use Rattle.std.proofs.Math.Path.{refl}
 use Rattle.std.proofs.Common.{◌∙◌, arith}
 use Rattle.std.proofs.Math.Nat.{mod-eq_of_lt}
@@ -15,8 +15,8 @@ use Rattle.exception.specs.declared.kind.Exception.TheVariants.{Undefined, Svc, 
 use Rattle.exception.specs.Pstate.{spsrOf}
 use Rattle.exception.specs.Syndrome.{syndromeOf}
 use Rattle.exception.specs.Route.{defaultTarget, smcTrapped, callTarget, targetEl, generated, routedTo}
-use Rattle.exception.specs.Entry.{vectOffset, sameEl, atTarget, enteredSys, registerAfter, ofEntry, updated, changesOf, enteredWith, takenTo}
-use Rattle.exception.specs.Entry.{takeException, enterOf, origin_of, syncReport, syncChanges, takeSync}
+use Rattle.exception.specs.Entry.{sameEl, atTarget, enteredSys, registerAfter, ofEntry, updated, enteredWith, takenTo}
+use Rattle.exception.specs.Entry.{takeException, origin_of, syncReport, syncChanges, takeSync}
 use Rattle.exception.specs.Parts.{farUpdate}
 use Rattle.exception.specs.declared.take.Update.TheVariants.{Write, Keep}
 
@@ -75,15 +75,6 @@ entered-report f s t = rw (far-as t.report.valid)
         → updated t.target (pick b (Write t.report.far) Keep) s.far ≡ pick b (atTarget t.target t.report.far s.far) s.far
     far-as true = refl
     far-as false = refl
-
--- so is one of the synchronous kind
-pub enter-sync : (level : ℕ) (f : Flags) (s : SysRegs) (target : El) (r : Report) (ret : ℕ)
-    → enterOf level f s target 0 (Write r.esr) (farUpdate r) ret ≡ takeException level f s target r ret
-unfolding enterOf takeException
-enter-sync level f s target r ret = rw kind-zero (entered-report f s (changesOf level f target r ret))
-  where
-    kind-zero : vectOffset level (levelOf target) f.spsel + 0 ≡ vectOffset level (levelOf target) f.spsel
-    kind-zero = omega arith
 
 -- a synchronous exception is taken by what it changes
 pub take-changes : (level pc scr hcr : ℕ) (f : Flags) (s : SysRegs) (e : Exception)

@@ -19,8 +19,6 @@ use Rattle.walk.specs.declared.regime.Regime.TheVariants.{El1, El2, El3}
 use Rattle.tlb.specs.Step as Step
 use Rattle.tlb.specs.declared.access.Kind.{Kind}
 use Rattle.history.specs.World.{World, Laws, Plain, accessOf}
-use Rattle.history.specs.History.{Demand3}
-use Rattle.history.specs.Theorem.{demand-3}
 
 -- RAM as a lent window: its first address and its bytes
 pub record Ram : Type 0 where
@@ -83,7 +81,3 @@ freshPlain = record { regs = freshControl; privilege = record { level = 3; unpri
 pub fresh-asid : asidOf freshControl ≡ 0
 unfolding asidOf asidBase freshControl
 fresh-asid = refl
-
--- Demand 3 of the real walk and registers, for every list of events.
-pub every-history : Demand3 real freshPlain
-every-history = demand-3 real real-laws freshPlain fresh-asid (omega arith)

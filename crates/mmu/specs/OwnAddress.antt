@@ -10,7 +10,7 @@ use Rattle.word.specs.declared.ram.Word.{Word}
 use Rattle.walk.specs.Regime.{regimeOf}
 use Rattle.walk.specs.WalkBounds.{SoundWalked, walk-sound}
 use Rattle.tlb.specs.Live.{WellFormed}
-use Rattle.tlb.specs.Translations.{translation-follows}
+use Rattle.tlb.proofs.Translations.{translation-follows}
 use Rattle.tlb.specs.Step.{accessOf}
 use Rattle.tlb.specs.declared.{access.Kind.Kind, access.Answer.Answer, Tlb.Tlb}
 use Rattle.tlb.specs.declared.access.Answer.TheVariants.{Address, Status}

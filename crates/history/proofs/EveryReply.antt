@@ -5,10 +5,10 @@ use Rattle.tlb.specs.Tlb.{fresh}
 use Rattle.history.specs.World.{World, Laws, Plain}
 use Rattle.history.specs.History.{Event, steps, tlbRun}
 use Rattle.history.specs.Invisible.{answersRun, plainAnswersRun, Tidy}
-use Rattle.history.specs.Corollaries.{rest-invisible}
+use Rattle.history.proofs.Corollaries.{rest-invisible}
 use Rattle.history.specs.Calls.{Machine, Fed, run, lent_of, bareRun, eventsFed, eventsRun, ShownIn, Shown, plain_of, eventsOf, Bridge, Replies, SameReplies}
 use Rattle.history.specs.Calls.{replies, bareReplies, InvisibleCalls}
-use Rattle.history.specs.EveryCall.{run-bare, fed-events, run-plain, fresh-run}
+use Rattle.history.proofs.EveryCall.{run-bare, fed-events, run-plain, fresh-run}
 
 module _ (w : World) where
   -- the parts of a tidy list

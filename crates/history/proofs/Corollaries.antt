@@ -17,7 +17,7 @@ use Rattle.history.specs.Lists.{each_left, each_right, each-head, plain-append, 
 use Rattle.history.specs.World.{World, Laws, covers, Plain, uncached}
 use Rattle.history.specs.History.{Effect, nothing, carries, writes, sets, Step, Event, steps, receives, after, plainRun, drops, dropsRun, answer_of}
 use Rattle.history.specs.History.{tlbAsk, answers, tlbRun, Settled, SettledFor, FaithfulAnswer}
-use Rattle.history.specs.Theorem.{demand-3}
+use Rattle.history.proofs.Theorem.{demand-3}
 use Rattle.history.specs.Invisible.{plainAnswers, answersRun, plainAnswersRun, Tidy, Invisible}
 
 module _ (w : World) (laws : Laws w) where

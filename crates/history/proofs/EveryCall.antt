@@ -8,7 +8,7 @@ use Rattle.tlb.specs.declared.Tlb.{Tlb}
 use Rattle.history.specs.World.{World, Laws, Plain, regimeNow, pageNow, uncached}
 use Rattle.history.specs.Lists.{plain-append, tlb-append}
 use Rattle.history.specs.History.{Step, Event, plainRun, answers, tlbRun, Settled, FaithfulAnswer}
-use Rattle.history.specs.Theorem.{demand-3}
+use Rattle.history.proofs.Theorem.{demand-3}
 use Rattle.history.specs.Calls.{Machine, Lent, Fed, run, lent_of, bareRun, eventsFed, eventsRun, ShownIn, Shown, shown, plain_of, eventsOf, Bridge}
 use Rattle.history.specs.Calls.{plainAfter, Demand3Calls}
 

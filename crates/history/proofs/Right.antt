@@ -21,8 +21,8 @@ use Rattle.tlb.specs.declared.access.Kind.TheVariants.{Read, Write, Fetch}
 use Rattle.tlb.specs.declared.access.Answer.TheVariants.{Address, Status}
 use Rattle.history.specs.World.{World, Laws, LeavesEqual, leafAnswer, walkAnswer, pageWalk, Plain, regimeNow, onNow, untagNow, pageNow, needNow, uncached}
 use Rattle.history.specs.World.{accessOf}
-use Rattle.history.specs.Traced.{Moment, at, Seen, Today, LineFrom, LineOk, allows, HintFrom, flat, kept, HintOk, kind_at, Traced, traced-counting}
-use Rattle.history.specs.Traced.{traced-keep, traced-hint, traced-fetch-hint}
+use Rattle.history.proofs.Traced.{Moment, at, Seen, Today, LineFrom, LineOk, allows, HintFrom, flat, kept, HintOk, kind_at, Traced, traced-counting}
+use Rattle.history.proofs.Traced.{traced-keep, traced-hint, traced-fetch-hint}
 
 same-regime : (r s : Regime) → sameRegime r s ≡ true → r ≡ s
 same-regime El1 El1 e = refl

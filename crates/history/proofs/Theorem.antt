@@ -20,10 +20,11 @@ use Rattle.history.specs.Lists.{each_append}
 use Rattle.history.specs.World.{World, Laws, LeavesEqual, covers, Plain, pageWalk}
 use Rattle.history.specs.History.{Effect, nothing, carries, writes, sets, Step, Event, steps, receives, after, afterEvent, plainRun, drops, dropsEvent}
 use Rattle.history.specs.History.{dropsRun, tlbRun, Settled, FaithfulAnswer, Demand3}
-use Rattle.history.specs.ModelRun.{modelAsk, modelAnswers, modelAsks, modelFlushed, modelRetagged, modelAfter, modelEvent, modelRun, run-stands}
-use Rattle.history.specs.ModelRun.{fresh-stands, history-model, history-answers}
-use Rattle.history.specs.Traced.{Moment, at, drop, Walks, Seen, Traced, traced-empty, traced-at, traced-invalidate, traced-retag, traced-kept}
-use Rattle.history.specs.Right.{Agreed, answered-right, Done, translate-done, fetch-done}
+use Rattle.history.specs.ModelRun.{modelAsk, modelAnswers, modelAsks, modelFlushed, modelRetagged, modelAfter, modelEvent, modelRun}
+use Rattle.history.proofs.ModelLaws.{run-stands}
+use Rattle.history.proofs.ModelLaws.{fresh-stands, history-model, history-answers}
+use Rattle.history.proofs.Traced.{Moment, at, drop, Walks, Seen, Traced, traced-empty, traced-at, traced-invalidate, traced-retag, traced-kept}
+use Rattle.history.proofs.Right.{Agreed, answered-right, Done, translate-done, fetch-done}
 
 module _ (w : World) (laws : Laws w) where
   -- A HISTORY AS MOMENTS, the last one first: a step's start, then its invalidations

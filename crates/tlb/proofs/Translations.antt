@@ -24,7 +24,7 @@ use Rattle.tlb.specs.declared.{cells.FetchTranslation.FetchTranslation, Tlb.Tlb}
 use Rattle.tlb.specs.declared.access.Kind.TheVariants.{Read, Write, Fetch}
 use Rattle.tlb.specs.declared.access.Answer.TheVariants.{Address, Status}
 use Rattle.tlb.specs.declared.resolve.Source.TheVariants.{FromHint}
-use Rattle.tlb.specs.Misses.{withEntry, entry, missed, unmoved, still-well, miss-follows}
+use Rattle.tlb.proofs.Misses.{withEntry, entry, missed, unmoved, still-well, miss-follows}
 
 -- HINTS
 
