@@ -1,19 +1,23 @@
--- After every history each answer is judged as Judgement.antt says.
+-- After every history each answer comes from where Origin.antt says, and is judged as Judgement.antt says.
 use Rattle.std.specs.Prelude.{List}
-use Rattle.std.proofs.Common.{arith}
+use Rattle.std.proofs.Common.{subst, arith}
 use Rattle.tlb.specs.Lists.{Each, done, more}
 use Rattle.tlb.specs.Tlb.{fresh}
-use Rattle.history.specs.History.{Step, Event, answers, tlbRun}
-use Rattle.history.specs.Instance.{Ram, real, real-laws, freshPlain, fresh-asid}
+use Rattle.history.specs.Instance.{real, real-laws, freshPlain, fresh-asid}
 use Rattle.history.proofs.Origins.{origin}
-use Rattle.history.specs.Judgement.{now, Judged, judged-from}
+use Rattle.history.specs.Judgement.{Judged, judged-from, status-row}
+use Rattle.history.specs.Theorems.{every_origin, every_judgement, every_fault_row}
 
 each_map : {A : Type 0} {P Q : A → Type 0} {l : List A} → ((a : A) → P a → Q a) → Each P l → Each Q l
 each_map f done = done
 each_map f (more {a = a} p ps) = more (f a p) (each_map f ps)
 
--- After every history, whatever the RAM, each translation of each step is judged so.
-pub every-judgement : (past : List (Event real)) (m : Ram) (s : Step real)
-    → Each (λ g. Judged past m g.ask g.answer) (answers real (now past m) m s.asks (tlbRun real freshPlain past fresh))
-every-judgement past m s =
-    each_map (λ g f. judged-from past m g.ask g.answer f) (origin real real-laws freshPlain fresh-asid (omega arith) past m s)
+pub every-origin : every_origin
+every-origin = origin real real-laws freshPlain fresh-asid (omega arith)
+
+pub every-judgement : every_judgement
+every-judgement past m s = each_map (λ g f. judged-from past m g.ask g.answer f) (every-origin past m s)
+
+pub every-fault-row : every_fault_row
+every-fault-row past m s =
+    each_map (λ g j f e. status-row past m g.ask f (subst (Judged past m g.ask) e j)) (every-judgement past m s)

@@ -16,3 +16,5 @@ pub mod StepByStep
 pub mod Neighbours
 -- The proof.
 pub mod Lists
+-- What is proved, as src/theorems.rt promises it.
+pub mod Theorems
