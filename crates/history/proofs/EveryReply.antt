@@ -6,7 +6,7 @@ use Rattle.history.specs.World.{World, Laws, Plain}
 use Rattle.history.specs.History.{Event, steps, tlbRun}
 use Rattle.history.specs.Invisible.{answersRun, plainAnswersRun, Tidy}
 use Rattle.history.proofs.Corollaries.{rest-invisible}
-use Rattle.history.specs.Calls.{Machine, Fed, run, lent_of, bareRun, eventsFed, eventsRun, ShownIn, Shown, plain_of, eventsOf, Bridge, Replies, SameReplies}
+use Rattle.history.specs.Calls.{Machine, Fed, run, lent_of, bareRun, eventsFed, eventsRun, ShownIn, Shown, plain_of, eventsOf, Bridge, Replies, RepliesByAnswers, SameReplies}
 use Rattle.history.specs.Calls.{replies, bareReplies, InvisibleCalls}
 use Rattle.history.proofs.EveryCall.{run-bare, fed-events, run-plain, fresh-run}
 
@@ -48,9 +48,9 @@ module _ (w : World) (M : Machine w) where
 
 module _ (w : World) (M : Machine w) (B : Bridge w M) (laws : Laws w) (c₀ : M.Core) (new : M.tlb c₀ ≡ fresh)
     (zero-asid : w.asid (plain_of w M c₀).regs ≡ 0) (low : (plain_of w M c₀).privilege.level ≤ 3) where
-  pub same-replies : (A : Replies w M) → SameReplies w M A c₀
-  same-replies A list s x sx tidy =
-      A.same c m y given ∙ ap (λ (b : M.Bare). A.bareReply b m y) (run-bare w M B c₀ (lent_of w M list))
+  pub same-replies : (A : Replies w M) → RepliesByAnswers w M A → SameReplies w M A c₀
+  same-replies A same list s x sx tidy =
+      same c m y given ∙ ap (λ (b : M.Bare). A.bareReply b m y) (run-bare w M B c₀ (lent_of w M list))
     where
       c : M.Core
       c = run w M c₀ (lent_of w M list)
@@ -77,16 +77,16 @@ module _ (w : World) (M : Machine w) (B : Bridge w M) (laws : Laws w) (c₀ : M.
           (subst (Tidy w (plain_of w M c₀) past) here tidy))
 
   -- the calls of `todo` after those of `made`
-  rest-replies : (A : Replies w M) (made todo : List (Fed w M)) → Shown w M c₀ made → Shown w M (run w M c₀ (lent_of w M made)) todo
+  rest-replies : (A : Replies w M) → RepliesByAnswers w M A → (made todo : List (Fed w M)) → Shown w M c₀ made → Shown w M (run w M c₀ (lent_of w M made)) todo
       → Tidy w (plain_of w M c₀) (eventsRun w M (M.bare c₀) made) (eventsRun w M (bareRun w M (M.bare c₀) (lent_of w M made)) todo)
       → replies w M A (run w M c₀ (lent_of w M made)) (lent_of w M todo)
       ≡ bareReplies w M A (bareRun w M (M.bare c₀) (lent_of w M made)) (lent_of w M todo)
-  rest-replies A made [] s st tidy = refl
-  rest-replies A made (x ∷ todo) s st tidy =
+  rest-replies A same made [] s st tidy = refl
+  rest-replies A same made (x ∷ todo) s st tidy =
       ap₂ {B = List A.Reply} {C = List A.Reply} ◌∷◌
-      (same-replies A made s x st.0 (tidy-left w (plain_of w M c₀) (eventsRun w M (M.bare c₀) made) here after tidy))
+      (same-replies A same made s x st.0 (tidy-left w (plain_of w M c₀) (eventsRun w M (M.bare c₀) made) here after tidy))
       (rw (run-one w M c₀ made x, bare-one w M (M.bare c₀) made x) at
-      (rest-replies A (made ++ x ∷ []) todo (shown-one w M c₀ made x s st.0)
+      (rest-replies A same (made ++ x ∷ []) todo (shown-one w M c₀ made x s st.0)
       (rw (run-one w M c₀ made x) st.1)
       (rw (events-one w M (M.bare c₀) made x, bare-one w M (M.bare c₀) made x)
       (tidy-right w (plain_of w M c₀) (eventsRun w M (M.bare c₀) made) here after tidy))))
@@ -100,5 +100,5 @@ module _ (w : World) (M : Machine w) (B : Bridge w M) (laws : Laws w) (c₀ : M.
       after : List (Event w)
       after = eventsRun w M (M.bareStep b x.lent.ram x.lent.call) todo
 
-  pub invisible-calls : (A : Replies w M) → InvisibleCalls w M A c₀
-  invisible-calls A list s tidy = rest-replies A [] list tt s tidy
+  pub invisible-calls : (A : Replies w M) → RepliesByAnswers w M A → InvisibleCalls w M A c₀
+  invisible-calls A same list s tidy = rest-replies A same [] list tt s tidy
