@@ -5,7 +5,8 @@ use Rattle.mmu.specs.declared.core_state.Core.{Core}
 use Rattle.cpu.specs.Step.{step_of, ramOf, ramAfter, ends, refusedOr, missedBy}
 use Rattle.operations.specs.declared.{call.Call.Call, call.Reply.Reply}
 use Rattle.operations.specs.declared.call.Call.TheVariants as Call
-use Rattle.transparency.specs.Faithful.{FaithfulCall, faithful-step}
+use Rattle.transparency.specs.Faithful.{FaithfulCall}
+use Rattle.transparency.proofs.Faithful.{faithful-step}
 
 module _ (c : Core) (base : ℕ) (ram : List ℕ) (x : Call) (r : Reply) (d : Core) where
   -- of a call that leaves `after` of RAM

@@ -5,7 +5,6 @@ use Rattle.sysreg.specs.declared.{write.WriteAnswer.WriteAnswer, write.Written.W
 use Rattle.sysreg.specs.declared.write.WriteAnswer.TheVariants as Written
 use Rattle.exception.specs.Entry.{takeSync}
 use Rattle.exception.specs.declared.{kind.Exception.Exception, take.Entered.Entered}
-use Rattle.exception.specs.declared.kind.Exception.TheVariants as Exception
 use Rattle.exception.specs.declared.kind.Stop.TheVariants as Stop
 use Rattle.sysop.specs.Op.{decodeOf}
 use Rattle.sysop.specs.Par.{atPar}

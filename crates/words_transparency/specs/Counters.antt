@@ -9,7 +9,8 @@ use Rattle.history.specs.Calls.{Lent}
 use Rattle.history.specs.Instance.{real}
 use Rattle.history.specs.Tallies.{byLine, byWalk, howMany, at, rustAfter}
 use Rattle.transparency.specs.Machine.{machine}
-use Rattle.transparency.specs.LevelCounts.{madeBy, level-hits, level-walks, totalsOf, sums-list}
+use Rattle.transparency.specs.LevelCounts.{madeBy, totalsOf}
+use Rattle.transparency.proofs.LevelCounts.{level-hits, level-walks, sums-list}
 use Rattle.words.specs.CoreOf.{word, coreOn, coreBy, core_of}
 use Rattle.words.specs.Places.{LEVEL-HITS, LEVEL-WALKS}
 use Rattle.words_transparency.specs.OnWords.{Made, made-core}

@@ -5,11 +5,9 @@ use mathlib.Core.List.{List, [], ◌∷◌}
 use Rattle.word.specs.Bits.{alignDown, pick, wrap}
 use Rattle.word.specs.Ram.{width_of, bytesIn}
 use Rattle.word.specs.declared.ram.Sized.{Sized}
-use Rattle.word.specs.declared.ram.Sized.TheVariants as Sized
 use Rattle.sysreg.specs.declared.{write.WriteAnswer.WriteAnswer, write.Written.Written}
 use Rattle.sysreg.specs.declared.write.WriteAnswer.TheVariants as Written
 use Rattle.tlb.specs.declared.access.Kind.{Kind}
-use Rattle.tlb.specs.declared.access.Kind.TheVariants as Kind
 use Rattle.sysop.specs.declared.op.SysOp.{SysOp}
 use Rattle.sysop.specs.declared.op.SysOp.TheVariants as Op
 use Rattle.mmu.specs.Bare.{Bare, withPrivilege, bareOf, with_regs}

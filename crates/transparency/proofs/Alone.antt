@@ -26,9 +26,9 @@ use Rattle.transparency.specs.Events.{idle, accessIn, sizedIn, zeroSteps, sysSte
 use Rattle.transparency.specs.Starts.{ramWith, ramZeroed, zeroLater, sysLater, laterOf, laterIn}
 use Rattle.transparency.specs.Replies.{Outcome, outcome, outcomeOf, storeSays, loadSized, storeSized, sysSays, callSays, bareAnswers, bareZeroOne, onDone}
 use Rattle.transparency.specs.Replies.{bareZero, bareSys, bareCall, bareReply}
-use Rattle.transparency.specs.Bridge.{stored-bare, stored-tlb}
-use Rattle.transparency.specs.Answered.{one-page, next-aligned, start-aligned, accessGiven, store-answered, zeroOutcome, zeroGiven, storeEnds, coreThen}
-use Rattle.transparency.specs.Answered.{tlbThen, storeGiven, one-given, one-outcome, zero-said, reply-is}
+use Rattle.transparency.proofs.Bridge.{stored-bare, stored-tlb}
+use Rattle.transparency.proofs.Answered.{one-page, next-aligned, start-aligned, accessGiven, store-answered, zeroOutcome, zeroGiven, storeEnds, coreThen}
+use Rattle.transparency.proofs.Answered.{tlbThen, storeGiven, one-given, one-outcome, zero-said, reply-is}
 
 cons_head : {g h : Given} {l k : List Given} → ◌≡◌ {A = List Given} (g ∷ l) (h ∷ k) → g ≡ h
 cons_head e = cc

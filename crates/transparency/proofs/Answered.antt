@@ -5,7 +5,6 @@ use Rattle.std.proofs.Common.{sym, ap₂, ◌∙◌, append-nil, arith, le-ltb}
 use Rattle.word.specs.Bits.{alignDown, wrap}
 use Rattle.word.specs.Ram.{width_of, bytesIn}
 use Rattle.word.specs.declared.ram.Sized.{Sized}
-use Rattle.word.specs.declared.ram.Sized.TheVariants as Sized
 use Rattle.sysreg.specs.declared.{write.WriteAnswer.WriteAnswer, write.Written.Written}
 use Rattle.sysreg.specs.declared.write.WriteAnswer.TheVariants as Written
 use Rattle.tlb.specs.Asks.{translates, Given, onward-same}
@@ -27,8 +26,6 @@ use Rattle.operations.specs.declared.{place.Placed.Placed, place.Verdict.Verdict
 use Rattle.operations.specs.declared.{ends.StoreAnswer.StoreAnswer, call.Encoding.Encoding, call.Call.Call}
 use Rattle.operations.specs.declared.place.Placed.TheVariants.{At, Fault}
 use Rattle.operations.specs.declared.place.Verdict.TheVariants.{Inside, Outside}
-use Rattle.operations.specs.declared.bytes.Got.TheVariants as Got
-use Rattle.operations.specs.declared.bytes.Insn.TheVariants as Insn
 use Rattle.operations.specs.declared.ends.StoreAnswer.TheVariants as Store
 use Rattle.exec.specs.Ops.{registered, writeRegister}
 use Rattle.exec.specs.Sys.{onStored, doneWith, zero_of, zeroRam, sysBy, sysRamBy, sysOf, sysRam}
@@ -45,7 +42,7 @@ use Rattle.transparency.specs.Bare.{plainIn, number, missedIn, opIn, operandIn, 
 use Rattle.transparency.specs.Events.{idle, accessIn, sizedIn, zeroSteps, sysSteps, stepsIn, eventsIn}
 use Rattle.transparency.specs.Starts.{ramZeroed, zeroLater, sysLater, laterOf, laterIn}
 use Rattle.transparency.specs.Replies.{Outcome, outcome, outcomeOf, loadSays, storeSays, loadSized, storeSized, zeroSays, sysSays, callSays, saysIn}
-use Rattle.transparency.specs.Bridge.{stored-bare, stored-tlb}
+use Rattle.transparency.proofs.Bridge.{stored-bare, stored-tlb}
 
 -- `last_pa` and `abort_pa` reach no answer
 
