@@ -2,7 +2,6 @@
 use Rattle.std.specs.Prelude.{List}
 use Rattle.std.proofs.Common.{subst, arith}
 use Rattle.tlb.specs.Lists.{Each, done, more}
-use Rattle.tlb.specs.Tlb.{fresh}
 use Rattle.history.specs.Instance.{real, real-laws, freshPlain, fresh-asid}
 use Rattle.history.proofs.Origins.{origin}
 use Rattle.history.specs.Judgement.{Judged, judged-from, status-row}

@@ -12,7 +12,6 @@ use Rattle.walk.specs.declared.regime.Regime.{Regime}
 use Rattle.tlb.specs.Asks.{Ask, address_of, Given}
 use Rattle.tlb.specs.Counting.{sums}
 use Rattle.tlb.specs.Lists.{Each}
-use Rattle.tlb.specs.Live.{WellFormed}
 use Rattle.tlb.specs.Model.{Model, emptyModel}
 use Rattle.tlb.specs.Tlb.{fresh}
 use Rattle.tlb.specs.declared.{access.Kind.Kind}
@@ -126,8 +125,8 @@ same_for_neighbours =
     (one two : History) (base : ℕ) (xs ys : List ℕ) (a : Ask) →
     let now = plain_after one in
     let fetched =
-        fetchesOf (bankOf now.regs (regimeNow real now)) (regimeNow real now) (untagNow real now (address_of a))
-        (word_at base xs 8) in
+    fetchesOf (bankOf now.regs (regimeNow real now)) (regimeNow real now) (untagNow real now (address_of a))
+    (word_at base xs 8) in
     now ≡ plain_after two → length xs ≡ length ys
     → ((d : ℕ) → Memᴰ d fetched → base ≤ d → d + 8 ≤ base + length xs → (i : ℕ) → i < 8
     → get_or xs (d - base + i) 0 ≡ get_or ys (d - base + i) 0)

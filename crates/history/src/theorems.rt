@@ -13,7 +13,7 @@ ghost use Rattle.history.specs.Theorems.{uncached_is_fresh, uncached_is_checked}
 /// `shaping` as it was can change neither whether stage 1 is on nor the tags, and the addresses of one page have
 /// equal walks. A walk that read the address below its page, or a `shaping` without a bit that `untag` reads, breaks them.
 pub fn registers_and_walk()
-    ensures { Laws real }
+    ensures laws { Laws real }
 {}
 
 /// After every history of steps and invalidations received, whatever RAM is at each step, a translation whose page is
@@ -61,7 +61,7 @@ pub fn settled_pages()
 /// What runs under other ASIDs does not bend a page's translation: two histories that leave the page to one ASID give
 /// one answer. Rules out an entry that answers under an ASID which is not its own.
 pub fn neighbours()
-    ensures { same_for_neighbours }
+    ensures answer { same_for_neighbours }
 {}
 
 /// The core without a cache answers by the fresh answer that AT and the page census go by, and by the manual's

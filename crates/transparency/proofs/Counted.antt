@@ -15,7 +15,6 @@ use Rattle.tlb.specs.Live.{countersOf, pendingOf, live}
 use Rattle.tlb.proofs.Levels.{counters-tell}
 use Rattle.tlb.specs.Asks.{Ask, translates, fetches, onward-same}
 use Rattle.tlb.specs.declared.{access.Kind.Kind, Inval.Inval, Tlb.Tlb}
-use Rattle.tlb.specs.declared.Inval.TheVariants.{All, Page, Asid}
 use Rattle.sysop.specs.declared.op.SysOp.TheVariants as Op
 use Rattle.mmu.specs.Bare.{Bare}
 use Rattle.operations.specs.declared.{call.Encoding.Encoding, call.Call.Call}

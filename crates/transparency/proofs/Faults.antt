@@ -44,7 +44,7 @@ use Rattle.transparency.specs.Starts.{laterIn}
 use Rattle.transparency.specs.Faithful.{eventsAfter, answersAfter}
 use Rattle.transparency.proofs.Faithful.{said}
 use Rattle.transparency.proofs.Judged.{every-row}
-use Rattle.transparency.specs.Faults.{RepliesFault, FaultFrom}
+use Rattle.transparency.specs.Faults.{RepliesFault, FaultFrom, translating, outside}
 use Rattle.transparency.specs.Faults as Statement
 
 -- REPLIES

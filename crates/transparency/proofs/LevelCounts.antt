@@ -2,7 +2,7 @@
 -- 3, counted at the level of the access, which `unprivileged` doesn't lower. Their sums, wrapped at 2^64, are what the Rust's two counters are
 -- matched with". Which translations a list made, at which level, and how each was answered is read from the plain model, on the events of the
 -- list (Events.antt; RAM at a zeroing's later stores as the run shows it: Starts.antt).
-use Rattle.std.specs.Prelude.{◌≡◌, refl, true, false, List, [], ◌∷◌, ℕ, ◌+◌, ◌%◌, ◌^◌, ◌<◌}
+use Rattle.std.specs.Prelude.{◌≡◌, refl, true, List, [], ◌∷◌, ℕ, ◌+◌, ◌%◌, ◌^◌, ◌<◌}
 use Rattle.std.proofs.Common.{sym, ap, subst, ◌∙◌, arith}
 use Rattle.std.proofs.lemmas.Bool.{false≢true}
 use Rattle.word.specs.Bits.{alignDown, wrap}
@@ -11,7 +11,7 @@ use Rattle.tlb.specs.Asks.{translates, fetches}
 use Rattle.tlb.specs.Counting.{howCounted, fetch-counts, sums}
 use Rattle.tlb.specs.Live.{countersOf}
 use Rattle.tlb.specs.Lists.{Each, done, each-imp}
-use Rattle.tlb.specs.Model.{Counters, Model, emptyModel, fetch}
+use Rattle.tlb.specs.Model.{Counters, Model, emptyModel}
 use Rattle.tlb.specs.declared.access.Kind.TheVariants as Kind
 use Rattle.tlb.specs.declared.Tlb.{Tlb}
 use Rattle.sysop.specs.declared.op.SysOp.{SysOp}
@@ -183,7 +183,7 @@ module _ (b : Bare) (m : Ram) (ms : List Ram) (u : Model) where
   steps-none (Fetch va) q = absurd (false≢true q)
   steps-none (System e) q = sys-none (opIn b e) e q
   steps-none (Register key value) q = refl
-  steps-none (Level level) q = refl
+  steps-none (Level n) q = refl
   steps-none (Mark mark) q = refl
   steps-none (General n value) q = refl
   steps-none (Abort e) q = refl

@@ -44,13 +44,11 @@ use Rattle.exec.specs.Sys.{tlbiCore, sysOf}
 use Rattle.operations.specs.Check.{missedOf}
 use Rattle.operations.specs.Replies.{translation}
 use Rattle.cpu.specs.Step.{run_of, step_of}
-use Rattle.operations.specs.declared.call.Call.{Call}
 use Rattle.operations.specs.declared.call.Reply.TheVariants.{Value}
 use Rattle.history.specs.World.{LeavesEqual, covers, leafAnswer, walkAnswer, pageWalk, uncached}
 use Rattle.history.specs.Lists.{each-head}
 use Rattle.history.specs.History.{carries, writes, Event, steps}
 use Rattle.history.specs.StepByStep.{HoldsFrom, steps-settled}
-use Rattle.history.specs.Calls.{Lent}
 use Rattle.history.proofs.EveryCall.{shown-shown}
 use Rattle.history.specs.Instance.{Ram, real}
 use Rattle.transparency.specs.Bare.{plainIn}

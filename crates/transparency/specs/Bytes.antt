@@ -11,7 +11,6 @@ use Rattle.tlb.specs.declared.access.Answer.TheVariants.{Address}
 use Rattle.mmu.specs.Core.{freshCore, reg_of}
 use Rattle.operations.specs.Bytes.{byteIn}
 use Rattle.mmu.specs.Ops.{translateOf, read_of, writeOf, ramAfterWrite}
-use Rattle.mmu.specs.OpLaws.{onNow}
 use Rattle.mmu.specs.OwnAddress.{ownAnswer}
 use Rattle.mmu.specs.ByteMeaning.{OwnByte}
 use Rattle.operations.specs.declared.ends.LoadAnswer.TheVariants as Load

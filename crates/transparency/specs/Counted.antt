@@ -11,7 +11,6 @@ use Rattle.tlb.specs.Live.{countersOf, pendingOf, live}
 use Rattle.tlb.specs.Asks.{Ask, translates, fetches}
 use Rattle.tlb.specs.declared.{Inval.Inval, Tlb.Tlb}
 use Rattle.tlb.specs.declared.access.Kind.{Kind}
-use Rattle.tlb.specs.declared.access.Kind.TheVariants as Kind
 use Rattle.tlb.specs.declared.Inval.TheVariants.{All, Page, Asid}
 use Rattle.sysop.specs.declared.op.SysOp.TheVariants as Op
 use Rattle.operations.specs.declared.{call.Encoding.Encoding}
@@ -85,10 +84,10 @@ module _ (list : List (Lent real machine)) (m : Ram) where
         (n : ℕ) → what ≡ Page n
         → then.counts
         ≡ record {
-        levels = now.counts.levels;
-        flushes = now.counts.flushes;
-        drops = (now.counts.drops + 1) % 2 ^ 64;
-        epoch = (now.counts.epoch + 1) % 2 ^ 64;
+          levels = now.counts.levels;
+          flushes = now.counts.flushes;
+          drops = (now.counts.drops + 1) % 2 ^ 64;
+          epoch = (now.counts.epoch + 1) % 2 ^ 64;
         }
 
     -- an All one to `flushes` and one to `epoch`
@@ -97,10 +96,10 @@ module _ (list : List (Lent real machine)) (m : Ram) where
         what ≡ All
         → then.counts
         ≡ record {
-        levels = now.counts.levels;
-        flushes = (now.counts.flushes + 1) % 2 ^ 64;
-        drops = now.counts.drops;
-        epoch = (now.counts.epoch + 1) % 2 ^ 64;
+          levels = now.counts.levels;
+          flushes = (now.counts.flushes + 1) % 2 ^ 64;
+          drops = now.counts.drops;
+          epoch = (now.counts.epoch + 1) % 2 ^ 64;
         }
 
     -- an Asid one to `epoch` alone
@@ -109,10 +108,10 @@ module _ (list : List (Lent real machine)) (m : Ram) where
         (a : ℕ) → what ≡ Asid a
         → then.counts
         ≡ record {
-        levels = now.counts.levels;
-        flushes = now.counts.flushes;
-        drops = now.counts.drops;
-        epoch = (now.counts.epoch + 1) % 2 ^ 64;
+          levels = now.counts.levels;
+          flushes = now.counts.flushes;
+          drops = now.counts.drops;
+          epoch = (now.counts.epoch + 1) % 2 ^ 64;
         }
 
     -- "A second broadcast that differs from the pending one becomes All; an equal one stays": of an Inner Shareable

@@ -12,11 +12,9 @@ use Rattle.exception.specs.declared.kind.Stop.TheVariants as Stop
 use Rattle.mmu.specs.Core.{freshCore}
 use Rattle.operations.specs.declared.{call.Call.Call, call.Reply.Reply}
 use Rattle.cpu.specs.Step.{step_of}
-use Rattle.history.specs.History.{answers}
 use Rattle.history.specs.Calls.{Fed, lent_of, Shown}
 use Rattle.history.specs.Instance.{Ram, real}
 use Rattle.history.specs.Judgement.{Row}
-use Rattle.transparency.specs.Bare.{allowed}
 use Rattle.transparency.specs.Machine.{machine}
 use Rattle.transparency.specs.Beside.{coreAfter}
 use Rattle.transparency.specs.Faithful.{answersAfter}

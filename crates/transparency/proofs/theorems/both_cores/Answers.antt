@@ -2,4 +2,4 @@ use Rattle.transparency.proofs.Beside.{two-cores}
 use Rattle.transparency.proofs.theorems.both_cores.Goals as goal
 
 pub returns : goal.returns
-returns c = two-cores
+returns c = record { agree = two-cores }

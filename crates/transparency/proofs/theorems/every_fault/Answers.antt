@@ -2,4 +2,4 @@ use Rattle.transparency.proofs.Faults.{every-fault}
 use Rattle.transparency.proofs.theorems.every_fault.Goals as goal
 
 pub returns : goal.returns
-returns c = every-fault
+returns c = record { row = every-fault }
