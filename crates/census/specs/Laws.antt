@@ -6,7 +6,8 @@ use Rattle.word.specs.declared.ram.Word.{Word}
 use Rattle.walk.specs.Regime.{stage1On}
 use Rattle.walk.specs.Table.{Fault as Kind, addressSize, translation, accessFlag, externalAbort, statusOf}
 use Rattle.walk.specs.Fresh.{fresh_of}
-use Rattle.walk.specs.FreshLaws.{SoundFresh, answer-sound, fresh_on, fresh-off}
+use Rattle.walk.specs.FreshLaws.{SoundFresh, fresh_on, fresh-off}
+use Rattle.walk.proofs.FreshLaws.{answer-sound}
 use Rattle.walk.specs.WalkBounds.{Status, Levelled, status-small}
 use Rattle.walk.specs.declared.{regime.Regime.Regime, regime.Bank.Bank, fresh.Fresh.Fresh}
 use Rattle.walk.specs.declared.level.Walked.TheVariants.{Mapped, Fault}
