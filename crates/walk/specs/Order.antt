@@ -1,14 +1,20 @@
--- The order of a walk's answers: the table of answers, from the entry of a walk to the access flag of its leaf, a theorem for each row. A row's
--- theorem supposes its own condition and that the rows above do not hold, and says nothing of the rows below: whatever those conditions are, the
--- answer is this row's. Rows below the entry are of any table that the walk reaches.
-use Rattle.std.specs.Prelude.{◌≡◌}
+-- The order of a walk's answers: what the rows of the table of answers speak of, from the entry of a walk to the access flag of its leaf. The rows
+-- themselves are the contract of `theorems::order_of_answers`. A row supposes its own condition and that the rows above do not hold, and says nothing
+-- of the rows below: whatever those conditions are, the answer is this row's. Rows below the entry are of any table that the walk reaches.
+use Rattle.std.specs.Prelude.{◌≡◌, List}
 use Rattle.std.proofs.Math.Bool.{true, false}
 use Prim.Native.Nat.{ℕ, ◌+◌, ◌≤◌, ◌<◌}
 use Rattle.word.specs.declared.ram.Word.{Word}
-use Rattle.walk.specs.Descriptor.{valid, tableOrPage}
+use Rattle.word.specs.declared.ram.Word.TheVariants.{Value}
+use Rattle.walk.specs.Regime.{singlePriv, wxnOf}
+use Rattle.walk.specs.Descriptor.{valid, tableOrPage, af}
 use Rattle.walk.specs.Table.{firstblocklevel, in_range, beyond, Lookup}
-use Rattle.walk.specs.Table.{deeper, firstLookup, range_of, params_of, lookupNext}
-use Rattle.walk.specs.declared.{regime.Regime.Regime, regime.Bank.Bank, level.Params.Params}
+use Rattle.walk.specs.Table.{deeper, firstLookup, range_of, params_of, leafTranslation, descaddr, lookupNext}
+use Rattle.walk.specs.Walk.{leafOf, walk_of}
+use Rattle.walk.specs.Fetches.{fetchesOf}
+use Rattle.walk.specs.declared.{regime.Regime.Regime, regime.Bank.Bank, range.Range.Range, level.Params.Params}
+use Rattle.walk.specs.declared.level.Walked.{Walked}
+use Rattle.walk.specs.declared.level.Walked.TheVariants.{Mapped}
 
 -- what a descriptor is at a level: a table, a page or block, or a leaf where there can be none
 pub data TableAt (l : Lookup) (desc : ℕ) : Type 0 where
@@ -44,3 +50,35 @@ pub record Below (s : Bank) (r : Regime) (va : ℕ) (memory : ℕ → Word) (l :
   pub lookup : Lookup
   pub level : lookup.level ≡ l.level + 1
   pub reached : Reached s r va memory lookup
+
+-- a fact of every walk: of its range, what its registers say of every level, its address, its answer, and the addresses that it fetches from
+abbrev pub EachWalk : (Range → Params → ℕ → Walked → List ℕ → Type 0) → Type 0
+EachWalk P =
+    (s : Bank) (r : Regime) (va : ℕ) (memory : ℕ → Word) → P (range_of s r va) (params_at s r va) va (walk_of s r va memory) (fetchesOf s r va memory)
+
+-- a fact of every table that a walk reaches: what the memory holds at the descriptor's address, and the walk's answer
+abbrev pub EachTable : (Lookup → Word → Walked → Type 0) → Type 0
+EachTable P =
+    (s : Bank) (r : Regime) (va : ℕ) (memory : ℕ → Word) (l : Lookup) → Reached s r va memory l
+    → P l (memory (descaddr (params_at s r va) va l)) (walk_of s r va memory)
+
+-- a fact of every descriptor that a walk reads
+abbrev pub EachDescriptor : (Params → Lookup → ℕ → Walked → Type 0) → Type 0
+EachDescriptor P =
+    (s : Bank) (r : Regime) (va : ℕ) (memory : ℕ → Word) (l : Lookup) → Reached s r va memory l
+    → (desc : ℕ) → memory (descaddr (params_at s r va) va l) ≡ Value desc → P (params_at s r va) l desc (walk_of s r va memory)
+
+-- a table whose next address is not too large leads one level down
+abbrev pub TablesLead : Type 0
+TablesLead =
+    (s : Bank) (r : Regime) (va : ℕ) (memory : ℕ → Word) (l : Lookup) → Reached s r va memory l
+    → (desc : ℕ) → memory (descaddr (params_at s r va) va l) ≡ Value desc
+    → TableAt l desc → beyond (params_at s r va).outputsize desc ≡ false → Below s r va memory l
+
+-- a leaf of which no row holds is the answer
+abbrev pub LeafAnswers : Type 0
+LeafAnswers =
+    (s : Bank) (r : Regime) (va : ℕ) (memory : ℕ → Word) (l : Lookup) → Reached s r va memory l
+    → (desc : ℕ) → memory (descaddr (params_at s r va) va l) ≡ Value desc
+    → LeafAt (params_at s r va) l desc → beyond (params_at s r va).outputsize desc ≡ false → af desc ≡ true
+    → walk_of s r va memory ≡ Mapped (leafOf (singlePriv r) (wxnOf s) (leafTranslation (params_at s r va) va l desc))
