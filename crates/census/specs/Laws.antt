@@ -1,4 +1,5 @@
--- What holds of every census: each place counts what its name says, every page is counted once, adjoining ranges add up, and which places stay 0.
+-- What the laws of a census speak of: how a page ends, which statuses no walk ends at, and each place of a census. The laws are the contracts of
+-- `theorems`.
 use Rattle.std.specs.Prelude.{◌≡◌, ℕ, ◌<◌, ◌≤◌, Bool, true, false, ◌⊎◌, ◌==◌, slice_index}
 use Rattle.word.specs.declared.ram.Word.{Word}
 use Rattle.walk.specs.Fresh.{fresh_of}
@@ -6,6 +7,7 @@ use Rattle.walk.specs.declared.{regime.Regime.Regime, regime.Bank.Bank, fresh.Fr
 use Rattle.walk.specs.declared.level.Walked.TheVariants.{Mapped, Fault}
 use Rattle.walk.specs.declared.fresh.Fresh.TheVariants.{Flat, Ended}
 use Rattle.census.specs.Count.{pageAt, censusOf}
+
 -- WHAT A FRESH ANSWER IS
 
 -- a fault of this status
@@ -39,3 +41,7 @@ module _ (s : Bank) (r : Regime) (memory : ℕ → Word) (first : ℕ) where
 
   abbrev pub countAt : ℕ → ℕ → ℕ
   countAt pages j = slice_index (censusOf s r memory first pages) j
+
+-- a fact of every census: of its places, of how each of its pages ends, and of how many pages it has
+abbrev pub EachCensus : ((ℕ → ℕ) → (ℕ → Fresh) → ℕ → Type 0) → Type 0
+EachCensus P = (s : Bank) (r : Regime) (memory : ℕ → Word) (first pages : ℕ) → P (countAt s r memory first pages) (end_at s r memory first) pages
