@@ -3,7 +3,7 @@ use Rattle.std.proofs.Common.{◌≡◌, ℕ, ◌+◌, ◌-◌, ◌%◌, ◌^◌
 use Rattle.word.specs.Bits.{wrap}
 use Rattle.word.specs.declared.ram.Word.{Word}
 use Rattle.walk.specs.declared.{regime.Regime.Regime, regime.Bank.Bank}
-use Rattle.walk.specs.FreshLaws.{is-sound}
+use Rattle.walk.proofs.FreshLaws.{is-sound}
 use Rattle.census.specs.Tally.{at_most, one_more}
 use Rattle.census.specs.Count.{pageAt, placeAt, censusOf}
 

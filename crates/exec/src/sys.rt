@@ -11,7 +11,7 @@ use mmu::core_state::Core;
 use mmu::ops::Stored;
 use mmu::{core_state, ops};
 use operations::ends::StoreAnswer;
-use sysop::op::{AtForm, SysOp};
+use sysop::op::{AtForm, Encoding, SysOp};
 use sysop::{op, par, tlbi};
 use sysreg::regs::SysRegs;
 use tlb::Tlb;
@@ -123,7 +123,7 @@ pub fn sys(
     ensures ram_after { ram.new ≡ sysRam core base ram.old op1 crn crm op2 rt }
 {
     let x = core_state::reg(core, rt);
-    match op::decode(core.privilege.level, op1, crn, crm, op2) {
+    match op::decode(core.privilege.level, Encoding { op1, crn, crm, op2 }) {
         SysOp::At(form) => {
             let c = at(core, base, ram, form, x);
             Stored {

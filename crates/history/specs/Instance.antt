@@ -12,8 +12,9 @@ use Rattle.walk.specs.Regime.{regimeOf, levelOf, bankOf, stage1On}
 use Rattle.walk.specs.Tag.{untagged}
 use Rattle.walk.specs.TagLaws.{untagged-page}
 use Rattle.walk.specs.Walk.{walk_of}
-use Rattle.walk.specs.WalkBounds.{leaf-bounds}
-use Rattle.walk.specs.PageLaws.{leafAt, leaf-of-page}
+use Rattle.walk.proofs.WalkBounds.{leaf-bounds}
+use Rattle.walk.specs.PageLaws.{leafAt}
+use Rattle.walk.proofs.PageLaws.{leaf-of-page}
 use Rattle.walk.specs.declared.regime.Regime.{Regime}
 use Rattle.walk.specs.declared.regime.Regime.TheVariants.{El1, El2, El3}
 use Rattle.tlb.specs.Step as Step

@@ -11,7 +11,8 @@ use Rattle.walk.specs.Table.{Fault as WalkFault, addressSize, translation, acces
 use Rattle.walk.specs.Permission.{Access, reading, writing, fetching, allowed}
 use Rattle.walk.specs.PermissionLaws.{kindBit, firstBit, permission-bit}
 use Rattle.walk.specs.Walk.{leafOf, walkedOf, walk_of}
-use Rattle.walk.specs.WalkBounds.{Levelled, Found, Sound, table-walk-sound}
+use Rattle.walk.specs.WalkBounds.{Levelled, Found, Sound}
+use Rattle.walk.proofs.WalkBounds.{table-walk-sound}
 use Rattle.walk.specs.declared.{regime.Regime.Regime, regime.Bank.Bank, level.Leaf.Leaf}
 use Rattle.walk.specs.declared.level.Walked.TheVariants.{Mapped, Fault as Faulted}
 use Rattle.word.specs.declared.ram.Word.{Word}

@@ -8,7 +8,8 @@ use Rattle.word.specs.Bits.{pick, wrap}
 use Rattle.word.specs.Ram.{word_at}
 use Rattle.word.specs.declared.ram.Word.{Word}
 use Rattle.walk.specs.Regime.{regimeOf}
-use Rattle.walk.specs.WalkBounds.{SoundWalked, walk-sound}
+use Rattle.walk.specs.WalkBounds.{SoundWalked}
+use Rattle.walk.proofs.WalkBounds.{walk-sound}
 use Rattle.tlb.specs.Live.{WellFormed}
 use Rattle.tlb.proofs.Translations.{translation-follows}
 use Rattle.tlb.specs.Step.{accessOf}

@@ -2,7 +2,7 @@
 use Rattle.std.proofs.Common.{◌≡◌, ℕ, ◌≤◌}
 use Rattle.word.specs.declared.ram.Word.{Word}
 use Rattle.walk.specs.Fresh.{fresh_of}
-use Rattle.walk.specs.FreshLaws.{fresh-leaf}
+use Rattle.walk.proofs.FreshLaws.{fresh-leaf}
 use Rattle.walk.specs.declared.{regime.Bank.Bank, regime.Regime.Regime, level.Leaf.Leaf}
 use Rattle.walk.specs.declared.{level.Walked.Walked, fresh.Fresh.Fresh}
 use Rattle.walk.specs.declared.level.Walked.TheVariants.{Mapped}

@@ -10,7 +10,8 @@ use Rattle.walk.specs.declared.level.Walked.TheVariants.{Mapped, Fault as Faulte
 use Rattle.walk.specs.declared.fresh.Fresh.TheVariants.{Flat, Ended}
 use Rattle.census.specs.Tally.{howMany, many-same}
 use Rattle.census.specs.Count.{pageAt, censusAt}
-use Rattle.census.specs.Laws.{faultsWith, hasRights, sound-at, status-count}
+use Rattle.census.specs.Laws.{faultsWith, hasRights}
+use Rattle.census.proofs.Laws.{sound-at, status-count}
 use Rattle.tlb.specs.declared.access.Kind.{Kind}
 use Rattle.tlb.specs.declared.access.Answer.TheVariants.{Address, Status}
 use Rattle.mmu.specs.Bare.{Bare, freshBare, bareOf}

@@ -14,7 +14,7 @@ use crate::system;
 use exception::kind::{Exception, Stop};
 use operations::ends::StoreAnswer;
 use sysop::op;
-use sysop::op::SysOp;
+use sysop::op::{Encoding, SysOp};
 use tlb::access::Kind;
 use tlb::hint::HintAnswer;
 use word::ram;
@@ -109,7 +109,7 @@ pub fn system(
 {
     let x = state::general_at(state, rt);
     let privilege = state::privilege_at(state);
-    match op::decode(privilege.level, op1, crn, crm, op2) {
+    match op::decode(privilege.level, Encoding { op1, crn, crm, op2 }) {
         SysOp::At(form) => {
             system::at(state, form, x, base, ram);
             StoreAnswer::Done
