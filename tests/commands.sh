@@ -72,7 +72,7 @@ echo 'logic=proved functions=1 axioms=3' >&2
 echo 'what the program says when it is built'
 RT
 in_out 0 ./run && {
-    has err 'run: proves a72 and what it stands on, 2 crates: about 11 minutes..'
+    has err 'run: proves a72 and what it stands on, 2 crates: about 15 minutes..'
     has err 'word: proved, functions: 19'
     has err 'a72: proved, functions: 1'
     hasnt err 'fn word::bits'
