@@ -167,12 +167,13 @@ in_out 2 ./check some
 # The tests outside it: each is counted, what fails shows its end, and what says nothing has failed.
 echo "echo 'rt: ok'; echo '3 passed, 0 failed'" >"$DOES"
 printf 'echo first; echo all good\n' >tests/good.sh
-printf 'echo first; echo broken; exit 3\n' >tests/bad.sh
+printf 'echo first; echo differs: the one at fault; seq 100; echo broken; exit 3\n' >tests/bad.sh
 : >tests/silent.sh
 in_out 1 ./check tests && {
     has out 'check: tests/good.sh: all good (..'
     has out 'check: tests/bad.sh: FAILED (..'
     has out '    broken'
+    has out '    differs: the one at fault'
     has out 'check: tests/silent.sh: FAILED (..'
 }
 
