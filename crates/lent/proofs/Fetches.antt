@@ -1,12 +1,11 @@
 -- A fetch's call: what the checks and the fetch hint say, and what its changes leave, are the call's reply and core, on plain values.
+use Rattle.std.specs.Prelude.{Some, Option, None}
 use Rattle.std.specs.Prelude.{◌≡◌, ℕ, zero, suc, true, false, List, length}
 use Rattle.std.proofs.Common.{refl, sym, subst, ap, ◌∙◌}
 use Rattle.word.specs.Ram.{word_at}
 use Rattle.tlb.specs.Hint.{fetchFound}
 use Rattle.tlb.specs.declared.access.Answer.TheVariants.{Address}
 use Rattle.tlb.specs.declared.access.Kind.TheVariants.{Fetch}
-use Rattle.tlb.specs.declared.hint.HintAnswer.{HintAnswer}
-use Rattle.tlb.specs.declared.hint.HintAnswer.TheVariants.{At, Unknown}
 use Rattle.operations.specs.Bytes.{insnOf}
 use Rattle.mmu.specs.Core.{afterAccess}
 use Rattle.operations.specs.Ends.{fetchEnd as end_of}
@@ -20,7 +19,7 @@ use Rattle.operations.specs.Check.{ramRows, first_of, missedOf}
 use Rattle.cpu.specs.Step.{run_of, step_of, ends, refusedOr}
 use Rattle.operations.specs.declared.call.Call.TheVariants as Call
 use Rattle.operations.specs.declared.call.Reply.TheVariants.{Refused, Value}
-use Rattle.cpu.specs.declared.run.Stepped.{Stepped}
+use Rattle.cpu.specs.Step.{Stepped}
 use Rattle.operations.specs.Change.{unchanged}
 use Rattle.mmu.specs.Parts.{hintedIn, lookupIn, pageIn, commitIn, keptIn}
 use Rattle.operations.specs.Fetches.{quickInsn, fastFetchBy, fastFetch, hintEndBy, hintEndOf, fetchAnsweredOf, fetchedOf}
@@ -43,7 +42,7 @@ module _ (c : Core) (base : ℕ) (ram : List ℕ) (va : ℕ) where
       (rw right.0, rw right.0 (ap (λ (d : Core). keptIn d c.last_pa end.abort_pa) right.1))
 
   -- a fetch hint that leads into RAM leaves the core as it was
-  by-hint : (p : HintAnswer) (g : Insn) (pa v : ℕ) → p ≡ fetchFound c.tlb.cache.fetch c.privilege.level va → p ≡ At pa → g ≡ insnOf base ram pa → g
+  by-hint : (p : Option ℕ) (g : Insn) (pa v : ℕ) → p ≡ fetchFound c.tlb.cache.fetch c.privilege.level va → p ≡ Some pa → g ≡ insnOf base ram pa → g
       ≡ Insn.Value v
       → (Value v ≡ (run_of c base ram call).reply) × (c ≡ (run_of c base ram call).core)
   unfolding fetchedOf fetchAnsweredOf end_of
@@ -55,12 +54,12 @@ module _ (c : Core) (base : ℕ) (ram : List ℕ) (va : ℕ) where
       )
 
   -- a fetch hint that serves changes the address of the last abort at most
-  served : (p : HintAnswer) → p ≡ fetchFound c.tlb.cache.fetch c.privilege.level va → (hintEndBy p c.abort_pa base ram va).ends ≡ true
+  served : (p : Option ℕ) → p ≡ fetchFound c.tlb.cache.fetch c.privilege.level va → (hintEndBy p c.abort_pa base ram va).ends ≡ true
       → ((hintEndBy p c.abort_pa base ram va).reply ≡ (run_of c base ram call).reply)
       × (keptIn c c.last_pa (hintEndBy p c.abort_pa base ram va).abort_pa ≡ (run_of c base ram call).core)
   unfolding fetchedOf fetchAnsweredOf
-  served Unknown ep t = cc
-  served (At pa) ep t =
+  served None ep t = cc
+  served (Some pa) ep t =
       let end = end_of (Address pa) c.abort_pa base ram va in
       let is : fetchedOf (hintedIn c va Fetch) (pageIn c va Fetch) va base ram
       ≡ record { change = unchanged (lookupIn c va Fetch); last_pa = c.last_pa; abort_pa = end.abort_pa; reply = fetching end.answer }
@@ -70,19 +69,19 @@ module _ (c : Core) (base : ℕ) (ram : List ℕ) (va : ℕ) where
       )
 
   -- the checks and the fetch hint, by the number of the first check missed
-  ends_by : (n : ℕ) (p : HintAnswer) → p ≡ fetchFound c.tlb.cache.fetch c.privilege.level va → (fastFetchBy n p base ram).ends ≡ true
+  ends_by : (n : ℕ) (p : Option ℕ) → p ≡ fetchFound c.tlb.cache.fetch c.privilege.level va → (fastFetchBy n p base ram).ends ≡ true
       → ((fastFetchBy n p base ram).reply ≡ (refusedOr n (λ k. ends c (Refused k)) (run_of c base ram call)).reply)
       × (c ≡ (refusedOr n (λ k. ends c (Refused k)) (run_of c base ram call)).core)
-  ends_by zero Unknown ep t = cc
-  ends_by zero (At pa) ep t = go (insnOf base ram pa) refl t
+  ends_by zero None ep t = cc
+  ends_by zero (Some pa) ep t = go (insnOf base ram pa) refl t
     where
       go : (g : Insn) → g ≡ insnOf base ram pa → (quickInsn g).ends ≡ true → ((quickInsn g).reply ≡ (run_of c base ram call).reply)
           × (c ≡ (run_of c base ram call).core)
-      go (Insn.Value v) eg t = by-hint (At pa) (Insn.Value v) pa v ep refl eg refl
+      go (Insn.Value v) eg t = by-hint (Some pa) (Insn.Value v) pa v ep refl eg refl
       go Insn.Outside eg t = cc
   ends_by (suc n) p ep t = (refl, refl)
 
-  goes_by : (n : ℕ) (p : HintAnswer) → (fastFetchBy n p base ram).ends ≡ false → run_of c base ram call
+  goes_by : (n : ℕ) (p : Option ℕ) → (fastFetchBy n p base ram).ends ≡ false → run_of c base ram call
       ≡ refusedOr n (λ k. ends c (Refused k)) (run_of c base ram call)
   goes_by zero p t = refl
   goes_by (suc n) p t = cc

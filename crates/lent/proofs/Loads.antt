@@ -22,7 +22,7 @@ use Rattle.operations.specs.Check.{sizedRows, first_of, missedOf}
 use Rattle.cpu.specs.Step.{run_of, step_of, loadBy, ends, refusedOr}
 use Rattle.operations.specs.declared.call.Call.TheVariants as Call
 use Rattle.operations.specs.declared.call.Reply.TheVariants.{Refused, Value}
-use Rattle.cpu.specs.declared.run.Stepped.{Stepped}
+use Rattle.cpu.specs.Step.{Stepped}
 use Rattle.operations.specs.Loads.{bytesBy, secondIn, loadedBy, loadedOf, hitIn, fastGot, read_by, fastRead, fastLoadBy, fastLoad}
 use Rattle.operations.specs.Change.{unchanged}
 use Rattle.mmu.specs.Parts.{hintedIn, lookupIn, pageIn, commitIn, keptIn}

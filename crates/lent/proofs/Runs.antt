@@ -13,7 +13,7 @@ use Rattle.operations.specs.declared.{call.Call.Call, call.Reply.Reply, change.H
 use Rattle.operations.specs.declared.{change.Translated.Translated, hinted.Fast.Fast}
 use Rattle.operations.specs.declared.call.Call.TheVariants as Call
 use Rattle.operations.specs.declared.call.Reply.TheVariants.{Refused, Value}
-use Rattle.cpu.specs.declared.run.Stepped.{Stepped}
+use Rattle.cpu.specs.Step.{Stepped}
 use Rattle.operations.specs.Change.{translatedOf}
 use Rattle.mmu.specs.Parts.{hintedIn, pageIn, commitIn}
 use Rattle.operations.specs.Hinted.{hintPlace, hintServes, fastBy, fastOf}

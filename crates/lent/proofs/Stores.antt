@@ -23,7 +23,7 @@ use Rattle.operations.specs.declared.{call.Call.Call, call.Reply.Reply, loads.Ac
 use Rattle.operations.specs.declared.{change.Page.Page, stores.FastStore.FastStore}
 use Rattle.operations.specs.declared.call.Call.TheVariants as Call
 use Rattle.operations.specs.declared.call.Reply.TheVariants.{Refused, Done}
-use Rattle.cpu.specs.declared.run.Stepped.{Stepped}
+use Rattle.cpu.specs.Step.{Stepped}
 use Rattle.operations.specs.Loads.{bytesBy, secondIn, hitIn}
 use Rattle.mmu.specs.Parts.{hintedIn, lookupIn, pageIn, commitIn, keptIn}
 use Rattle.operations.specs.Hinted.{hintPlace, hintServes}

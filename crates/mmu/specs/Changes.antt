@@ -299,7 +299,7 @@ module _ (c : Core) (memory : ℕ → Word) (va : ℕ) where
   unfolding fetchAnsweredOf fetchOf fetchWith fetchEnd fetchApplied missOf
   fetch-right = go (fetchFound c.tlb.cache.fetch c.privilege.level va) refl
     where
-      go : (p : (Option ℕ)) → fetchFound c.tlb.cache.fetch c.privilege.level va ≡ p
+      go : (p : Option ℕ) → fetchFound c.tlb.cache.fetch c.privilege.level va ≡ p
           → Fetches (fetchTranslationAt p (look Fetch) (missBy (look Fetch).asked (look Fetch).bank c.privilege c.tlb.cache.current
           (pageIn c va Fetch).entry va Fetch memory) va)
       go (Some pa) e =

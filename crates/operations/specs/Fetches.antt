@@ -24,7 +24,7 @@ abbrev pub quickInsn : Insn → Fast
 quickInsn (Insn.Value v) = record { ends = true; reply = Value v }
 quickInsn Insn.Outside = record { ends = false; reply = Done }
 
-abbrev pub fastFetchBy : ℕ → (Option ℕ) → ℕ → List ℕ → Fast
+abbrev pub fastFetchBy : ℕ → Option ℕ → ℕ → List ℕ → Fast
 fastFetchBy zero (Some pa) base ram = quickInsn (insnOf base ram pa)
 fastFetchBy zero None base ram = record { ends = false; reply = Done }
 fastFetchBy (suc n) found base ram = record { ends = true; reply = Refused (suc n) }
@@ -37,7 +37,7 @@ fastFetch privilege f base ram va =
 abbrev pub hintEndAt : FetchEnd → HintEnd
 hintEndAt e = record { ends = true; abort_pa = e.abort_pa; reply = fetching e.answer }
 
-abbrev pub hintEndBy : (Option ℕ) → ℕ → ℕ → List ℕ → ℕ → HintEnd
+abbrev pub hintEndBy : Option ℕ → ℕ → ℕ → List ℕ → ℕ → HintEnd
 hintEndBy (Some pa) abort base ram va = hintEndAt (fetchEnd (Address pa) abort base ram va)
 hintEndBy None abort base ram va = record { ends = false; abort_pa = abort; reply = Done }
 
@@ -48,7 +48,7 @@ hintEndOf g base ram va = hintEndBy (fetchFound g.fetch g.privilege.level va) g.
 abbrev pub fetchTranslationBy : Lookup → Resolved → ℕ → Answered
 fetchTranslationBy k t va = record { change = fetchChangeOf k t va; answer = t.answer }
 
-abbrev pub fetchTranslationAt : (Option ℕ) → Lookup → Resolved → ℕ → Answered
+abbrev pub fetchTranslationAt : Option ℕ → Lookup → Resolved → ℕ → Answered
 fetchTranslationAt (Some pa) k t va = record { change = unchanged k; answer = Address pa }
 fetchTranslationAt None k t va = fetchTranslationBy k t va
 
