@@ -145,7 +145,7 @@ pub fn a72_fetch(state: &mut State, va: u64, ans: &mut u64, base: u64, ram: &[u8
                     }
                     Insn::Outside => slow::fetch(state, va, ans, base, ram),
                 },
-                None => slow::fetch(state, va, ans, base, ram),
+                None => slow::fetch_page(state, va, ans, base, ram),
             }
         }
     } else {

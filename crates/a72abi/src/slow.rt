@@ -141,8 +141,9 @@ fn fetch_at(state: &mut State, pa: u64, ans: &mut u64, base: u64, ram: &[u8]) ->
     }
 }
 
-// A fetch that no hint serves.
-fn fetch_page(state: &mut State, va: u64, ans: &mut u64, base: u64, ram: &[u8]) -> u64
+// A fetch that no hint serves. Out of line, so that a hint pays nothing for it.
+#[inline(never)]
+pub(crate) fn fetch_page(state: &mut State, va: u64, ans: &mut u64, base: u64, ram: &[u8]) -> u64
     requires { fetchHint (core_of state.old) va ≡ None }
     ensures { Tells
         (run_of (core_of state.old) base ram.now (Call.Fetch va))
@@ -156,6 +157,7 @@ fn fetch_page(state: &mut State, va: u64, ans: &mut u64, base: u64, ram: &[u8]) 
     fetch_at(state, pa, ans, base, ram)
 }
 
+#[inline(never)]
 #[tactic(auto, unfolding(operations::specs::Check::missedOf, cpu::specs::Step::step_of))]
 pub(crate) fn fetch(state: &mut State, va: u64, ans: &mut u64, base: u64, ram: &[u8]) -> u64
     ensures { Gives (DecodedCall.Known (Call.Fetch va)) base ram.now state.old result
