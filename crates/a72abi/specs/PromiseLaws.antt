@@ -28,7 +28,7 @@ use Rattle.cpu.specs.Step.{storeBy, storeRamBy, run_of, ramOf as ramRun, refused
 use Rattle.cpu.specs.Demand1.{writes, quiet}
 use Rattle.operations.specs.declared.call.Call.TheVariants as Call
 use Rattle.operations.specs.declared.call.Reply.TheVariants.{Refused, Done, Value, Faults, Fault, Stopped}
-use Rattle.cpu.specs.declared.run.Stepped.{Stepped}
+use Rattle.cpu.specs.Step.{Stepped}
 use Rattle.transparency.specs.Faithful.{FaithfulCall}
 use Rattle.transparency.proofs.Faithful.{faithful-step}
 use Rattle.words.specs.CoreOf.{core_of}

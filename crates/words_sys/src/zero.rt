@@ -16,7 +16,6 @@ use operations::ends::StoreAnswer;
 use sysop::op;
 use sysop::op::{Encoding, SysOp};
 use tlb::access::Kind;
-use tlb::hint::HintAnswer;
 use word::ram;
 use word::ram::Width;
 use words::place::State;
@@ -47,14 +46,14 @@ fn clear_line(state: &State, base: u64, ram: &mut [u8], va: u64, from: u64) -> b
         ≡ cleared (hintFound (core_of state.now) va Write) from base ram.old }
 {
     match translate::by_hint(state, va, Kind::Write) {
-        HintAnswer::At(pa) => {
+        Some(pa) => {
             if pa % 64 == 0 {
                 ram::write_bytes(base, ram, 64 - from, pa + from, 0)
             } else {
                 false
             }
         }
-        HintAnswer::Unknown => false,
+        None => false,
     }
 }
 
