@@ -15,7 +15,7 @@ use Rattle.operations.specs.declared.{call.Call.Call}
 use Rattle.operations.specs.declared.call.Call.TheVariants.{Translate, DataPa, FetchPa, Load, Store, Fetch, System, Register, Level, Mark, General}
 use Rattle.operations.specs.declared.call.Call.TheVariants.{Abort, Census}
 use Rattle.operations.specs.declared.call.Reply.TheVariants.{Refused}
-use Rattle.cpu.specs.declared.run.Stepped.{Stepped}
+use Rattle.cpu.specs.Step.{Stepped}
 use Rattle.history.specs.Calls.{bareRun}
 use Rattle.history.proofs.EveryCall.{run-bare as runs-agree}
 use Rattle.history.specs.Instance.{Ram, real}
