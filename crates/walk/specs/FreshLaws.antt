@@ -1,4 +1,6 @@
 -- What holds of every fresh answer, for those who know it by its definition alone.
+use Rattle.std.specs.Prelude.{Ok, Err}
+use Rattle.walk.specs.Answers.{Walked}
 use Rattle.std.specs.Prelude.{◌≡◌, Bool, ℕ}
 use Rattle.std.proofs.Common.{subst}
 use Rattle.std.proofs.Math.Bool.{true, false}
@@ -9,13 +11,12 @@ use Rattle.walk.specs.Tag.{untagged}
 use Rattle.walk.specs.Walk.{walk_of}
 use Rattle.walk.specs.Fresh.{fresh_of}
 use Rattle.walk.specs.WalkBounds.{Status, LeafBounds, SoundWalked, walk-sound}
-use Rattle.walk.specs.declared.{regime.Regime.Regime, regime.Bank.Bank, level.Leaf.Leaf, level.Walked.Walked, fresh.Fresh.Fresh}
-use Rattle.walk.specs.declared.level.Walked.TheVariants.{Mapped, Fault}
+use Rattle.walk.specs.declared.{regime.Regime.Regime, regime.Bank.Bank, level.Leaf.Leaf, fresh.Fresh.Fresh}
 use Rattle.walk.specs.declared.fresh.Fresh.TheVariants.{Flat, Ended}
 
 abbrev pub SoundEnd : Walked → Type 0
-SoundEnd (Mapped leaf) = LeafBounds leaf
-SoundEnd (Fault n) = Status n
+SoundEnd (Ok leaf) = LeafBounds leaf
+SoundEnd (Err n) = Status n
 
 -- a leaf within its bounds, a status of the table of answers, or flat
 abbrev pub SoundFresh : Fresh → Type 0
@@ -23,8 +24,8 @@ SoundFresh (Ended w) = SoundEnd w
 SoundFresh (Flat pa) = Unit {0}
 
 walk_end : (va : ℕ) (w : Walked) → SoundWalked va w → SoundEnd w
-walk_end va (Mapped leaf) h = h.0
-walk_end va (Fault n) h = h
+walk_end va (Ok leaf) h = h.0
+walk_end va (Err n) h = h
 
 module _ (s : Bank) (r : Regime) (va : ℕ) (memory : ℕ → Word) where
   pub answer-sound : SoundFresh (fresh_of s r va memory)
@@ -48,5 +49,5 @@ module _ (s : Bank) (r : Regime) (va : ℕ) (memory : ℕ → Word) where
   is-sound x e = rw e answer-sound
 
   -- a leaf that it ends in
-  pub fresh-leaf : (x : Fresh) (w : Walked) (leaf : Leaf) → x ≡ fresh_of s r va memory → x ≡ Ended w → w ≡ Mapped leaf → LeafBounds leaf
+  pub fresh-leaf : (x : Fresh) (w : Walked) (leaf : Leaf) → x ≡ fresh_of s r va memory → x ≡ Ended w → w ≡ Ok leaf → LeafBounds leaf
   fresh-leaf x w leaf e x-is w-is = subst SoundEnd w-is (subst SoundFresh x-is (is-sound x e))

@@ -1,4 +1,6 @@
 -- A walk goes by pages: addresses of one page have one walk but for the offset in the page, which is the address's own.
+use Rattle.std.specs.Prelude.{Ok, Err}
+use Rattle.walk.specs.Answers.{Walked}
 use Rattle.std.specs.Prelude.{◌≡◌, true, false, ◌&&◌, ◌||◌, eqb, ltb}
 use Rattle.std.proofs.Math.Path.{refl, sym, ap}
 use Rattle.std.proofs.Common.{subst, ◌∙◌, arith}
@@ -19,9 +21,8 @@ use Rattle.walk.specs.SizeLaws.{input-low, index-above-page}
 use Rattle.walk.specs.WalkBounds.{SoundWalked, walk-sound}
 use Rattle.walk.specs.Fetches.{afterNext, fetchesFrom, fetchesRange, fetchesOf}
 use Rattle.walk.specs.declared.{regime.Regime.Regime, regime.Bank.Bank, range.Range.Range, level.Params.Params}
-use Rattle.walk.specs.declared.{level.Leaf.Leaf, level.Walked.Walked}
+use Rattle.walk.specs.declared.level.Leaf.{Leaf}
 use Rattle.walk.specs.declared.regime.Regime.TheVariants.{El1, El2, El3}
-use Rattle.walk.specs.declared.level.Walked.TheVariants.{Mapped, Fault as Faulted}
 
 -- a leaf with another output address
 abbrev pub withAddress : Leaf → ℕ → Leaf
@@ -33,8 +34,8 @@ pagedLeaf leaf = withAddress leaf (alignDown leaf.oa 12)
 
 -- a walk of a page
 abbrev pub paged : Walked → Walked
-paged (Mapped leaf) = Mapped (pagedLeaf leaf)
-paged (Faulted n) = Faulted n
+paged (Ok leaf) = Ok (pagedLeaf leaf)
+paged (Err n) = Err n
 
 -- the same of the manual's results
 abbrev pagedFound : Translation → Translation
@@ -192,7 +193,7 @@ module _ (va vb : ℕ) (same : va / 2 ^ 12 ≡ vb / 2 ^ 12) where
   fetches-of-page s r memory = rw (range-of-page s r) (fetches-range-page (params_of s r (range_of s r vb)) (range_of s r vb) memory)
 
 -- the offset is the address's own
-pub leaf-offset : (s : Bank) (r : Regime) (va : ℕ) (memory : ℕ → Word) (leaf : Leaf) → walk_of s r va memory ≡ Mapped leaf
+pub leaf-offset : (s : Bank) (r : Regime) (va : ℕ) (memory : ℕ → Word) (leaf : Leaf) → walk_of s r va memory ≡ Ok leaf
     → leaf.oa % 2 ^ 12 ≡ va % 2 ^ 12
 leaf-offset s r va memory leaf e = (subst (SoundWalked va) e (walk-sound s r va memory)).1
 
@@ -200,10 +201,10 @@ leaf-offset s r va memory leaf e = (subst (SoundWalked va) e (walk-sound s r va 
 abbrev pub leafAt : Leaf → ℕ → Leaf
 leafAt leaf va = withAddress leaf (alignDown leaf.oa 12 + va % 2 ^ 12)
 
-mapped-inj : (x y : Leaf) → Mapped x ≡ Mapped y → x ≡ y
+mapped-inj : (x y : Leaf) → ◌≡◌ {A = Walked} (Ok x) (Ok y) → x ≡ y
 mapped-inj x y e = cc
 
-fault-mapped : (n : ℕ) (x : Leaf) → Faulted n ≡ Mapped x → ⊥
+fault-mapped : (n : ℕ) (x : Leaf) → Err n ≡ Ok x → ⊥
 fault-mapped n x e = let z : ◌≡◌ {A = ℕ} 0 1 = cc in omega arith
 
 same-leaf : (x y : Leaf) (va : ℕ) → pagedLeaf x ≡ pagedLeaf y → y.oa % 2 ^ 12 ≡ va % 2 ^ 12 → y ≡ leafAt x va
@@ -213,23 +214,23 @@ same-leaf x y va e o =
 
 module _ (s : Bank) (r : Regime) (va vb : ℕ) (memory : ℕ → Word) (same : va / 2 ^ 12 ≡ vb / 2 ^ 12) where
   -- so the leaf of one address of a page tells that of another
-  pub leaf-of-page : (leaf : Leaf) → walk_of s r va memory ≡ Mapped leaf → walk_of s r vb memory ≡ Mapped (leafAt leaf vb)
+  pub leaf-of-page : (leaf : Leaf) → walk_of s r va memory ≡ Ok leaf → walk_of s r vb memory ≡ Ok (leafAt leaf vb)
   leaf-of-page leaf e = go (walk_of s r vb memory) refl
     where
-      both : paged (Mapped leaf) ≡ paged (walk_of s r vb memory)
+      both : paged (Ok leaf) ≡ paged (walk_of s r vb memory)
       both = rw e at (walk_of-page va vb same s r memory)
 
-      go : (x : Walked) → walk_of s r vb memory ≡ x → walk_of s r vb memory ≡ Mapped (leafAt leaf vb)
-      go (Mapped y) f = f ∙ ap Mapped (same-leaf leaf y vb (mapped-inj _ _ (rw f at both)) (leaf-offset s r vb memory y f))
-      go (Faulted n) f = absurd (fault-mapped n _ (sym (rw f at both)))
+      go : (x : Walked) → walk_of s r vb memory ≡ x → walk_of s r vb memory ≡ Ok (leafAt leaf vb)
+      go (Ok y) f = f ∙ ap Ok (same-leaf leaf y vb (mapped-inj _ _ (rw f at both)) (leaf-offset s r vb memory y f))
+      go (Err n) f = absurd (fault-mapped n _ (sym (rw f at both)))
 
   -- and a fault is the page's
-  pub fault-of-page : (n : ℕ) → walk_of s r va memory ≡ Faulted n → walk_of s r vb memory ≡ Faulted n
+  pub fault-of-page : (n : ℕ) → walk_of s r va memory ≡ Err n → walk_of s r vb memory ≡ Err n
   fault-of-page n e = go (walk_of s r vb memory) refl
     where
-      both : paged (Faulted n) ≡ paged (walk_of s r vb memory)
+      both : paged (Err n) ≡ paged (walk_of s r vb memory)
       both = rw e at (walk_of-page va vb same s r memory)
 
-      go : (x : Walked) → walk_of s r vb memory ≡ x → walk_of s r vb memory ≡ Faulted n
-      go (Mapped y) f = absurd (fault-mapped n _ (rw f at both))
-      go (Faulted m) f = f ∙ sym (rw f at both)
+      go : (x : Walked) → walk_of s r vb memory ≡ x → walk_of s r vb memory ≡ Err n
+      go (Ok y) f = absurd (fault-mapped n _ (rw f at both))
+      go (Err m) f = f ∙ sym (rw f at both)

@@ -1,5 +1,7 @@
 -- What holds of every walk's answer, for those who know the walk by its definition alone: the leaf's level, output address and
 -- permission byte, and the status of a fault.
+use Rattle.std.specs.Prelude.{Ok, Err}
+use Rattle.walk.specs.Answers.{Walked}
 use Rattle.std.specs.Prelude.{◌≡◌, Bool, not, ◌&&◌, ◌||◌}
 use Rattle.std.proofs.Math.Path.{refl}
 use Rattle.std.proofs.Common.{subst, mod-lt, ltb-false, eqb-true, lit≤, pow_pos, pow_mono}
@@ -24,8 +26,6 @@ use Rattle.walk.specs.Walk.{walkedOf, walk_of}
 use Rattle.walk.specs.SizeLaws.{pa-size-low, pa-size-high, start-level, block-level, block_size, index-above-page}
 use Rattle.walk.specs.declared.{regime.Regime.Regime, regime.Bank.Bank, range.Range.Range}
 use Rattle.walk.specs.declared.{rights.Permissions.Permissions, level.Params.Params, level.Leaf.Leaf}
-use Rattle.walk.specs.declared.level.Walked.{Walked}
-use Rattle.walk.specs.declared.level.Walked.TheVariants.{Mapped, Fault as Faulted}
 
 -- the levels at which a fault of each kind can be: an access flag is read in a leaf, and no leaf is above level 1
 abbrev pub Levelled : Fault → Type 0
@@ -184,8 +184,8 @@ permission-small singlepriv wxn t =
     (access-small (rightsOf singlepriv true wxn t))
 
 abbrev pub SoundWalked : ℕ → Walked → Type 0
-SoundWalked va (Mapped leaf) = LeafBounds leaf × (leaf.oa % 2 ^ 12 ≡ va % 2 ^ 12)
-SoundWalked va (Faulted n) = Status n
+SoundWalked va (Ok leaf) = LeafBounds leaf × (leaf.oa % 2 ^ 12 ≡ va % 2 ^ 12)
+SoundWalked va (Err n) = Status n
 
 walked-sound : (singlepriv wxn : Bool) (va : ℕ) (x : Result) → Sound va x → SoundWalked va (walkedOf singlepriv wxn x)
 walked-sound singlepriv wxn va (mapped t) h =
@@ -198,11 +198,11 @@ unfolding walk_of
 walk-sound s r va memory = walked-sound (singlePriv r) (wxnOf s) va (tableWalk s r va memory) (table-walk-sound s r va memory)
 
 -- a leaf's level is 1, 2 or 3, its output address is below 2^44, its permission byte has six bits
-pub leaf-bounds : (s : Bank) (r : Regime) (va : ℕ) (memory : ℕ → Word) (leaf : Leaf) → walk_of s r va memory ≡ Mapped leaf → LeafBounds leaf
+pub leaf-bounds : (s : Bank) (r : Regime) (va : ℕ) (memory : ℕ → Word) (leaf : Leaf) → walk_of s r va memory ≡ Ok leaf → LeafBounds leaf
 leaf-bounds s r va memory leaf e = (subst (SoundWalked va) e (walk-sound s r va memory)).0
 
 -- a fault's status is one of the table of answers
-pub fault-status : (s : Bank) (r : Regime) (va : ℕ) (memory : ℕ → Word) (n : ℕ) → walk_of s r va memory ≡ Faulted n → Status n
+pub fault-status : (s : Bank) (r : Regime) (va : ℕ) (memory : ℕ → Word) (n : ℕ) → walk_of s r va memory ≡ Err n → Status n
 fault-status s r va memory n e = subst (SoundWalked va) e (walk-sound s r va memory)
 
 -- and a number below 24
