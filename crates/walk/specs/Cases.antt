@@ -1,4 +1,6 @@
 -- Document 01's proved cases that are translations with an empty cache, and the untagging: rows 1 to 9 and 12, as one computed statement.
+use Rattle.std.specs.Prelude.{Ok, Err}
+use Rattle.walk.specs.Answers.{Walked}
 use Rattle.std.specs.Prelude.{◌≡◌, refl, Bool, true, false, [], ◌∷◌, ℕ, ◌+◌, ◌%◌, ◌^◌}
 use Rattle.word.specs.Bits.{bitOn, alignDown, pick}
 use Rattle.word.specs.Ram.{word_at, littleEndian, bytes_of}
@@ -9,8 +11,7 @@ use Rattle.walk.specs.Table.{walkRange, tableWalk}
 use Rattle.walk.specs.Permission.{Access, reading, fetching, kindBit, firstBit}
 use Rattle.walk.specs.Walk.{walk_of}
 use Rattle.walk.specs.declared.regime.Regime.TheVariants.{El1}
-use Rattle.walk.specs.declared.{regime.Bank.Bank, level.Walked.Walked}
-use Rattle.walk.specs.declared.level.Walked.TheVariants.{Mapped, Fault}
+use Rattle.walk.specs.declared.regime.Bank.{Bank}
 
 -- a translation's answer: an address, or a fault status code
 pub data Answer : Type 0 where
@@ -19,9 +20,9 @@ pub data Answer : Type 0 where
 
 -- the leaf's page with the address's low twelve bits, where the leaf has the bit that the access needs
 pub judged : Bool → Access → ℕ → Walked → Answer
-judged privileged a va (Mapped leaf) =
+judged privileged a va (Ok leaf) =
     pick (bitOn leaf.perms (kindBit a + firstBit privileged)) (address (alignDown leaf.oa 12 + va % 2 ^ 12)) (status (12 + leaf.level))
-judged privileged a va (Fault code) = status code
+judged privileged a va (Err code) = status code
 
 -- SCTLR_EL1.M set, TCR_EL1 = 25, TTBR0_EL1 as given, other registers zero
 pub registers : ℕ → Bank

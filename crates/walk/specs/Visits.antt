@@ -1,11 +1,11 @@
 -- The tables that a walk reads, one by one, for those who show a walk: the table, the address of its descriptor, and what that leads to.
+use Rattle.std.specs.Prelude.{Some, None}
+use Rattle.walk.specs.Answers.{Visited}
 use Rattle.std.specs.Prelude.{ℕ, zero, suc}
 use Rattle.word.specs.declared.ram.Word.{Word}
 use Rattle.walk.specs.Table.{Lookup, Next, deeper, ends, firstLookup, entered, range_of, params_of, descaddr, lookupNext}
 use Rattle.walk.specs.State.{Outcome, lookupOf, stepped, meant}
 use Rattle.walk.specs.declared.{regime.Regime.Regime, regime.Bank.Bank, level.Params.Params}
-use Rattle.walk.specs.declared.table.Visited.{Visited}
-use Rattle.walk.specs.declared.table.Visited.TheVariants.{At, Beyond}
 
 -- a table read, or that the walk ended before
 pub data Seen : Type 0 where
@@ -29,5 +29,5 @@ visitOf s r va memory n =
 
 -- what the code's answer stands for
 abbrev pub seenAs : Params → Visited → Seen
-seenAs p (At v) = seen (lookupOf p v.state) v.at (stepped p v.step)
-seenAs p Beyond = past
+seenAs p (Some v) = seen (lookupOf p v.state) v.at (stepped p v.step)
+seenAs p None = past
