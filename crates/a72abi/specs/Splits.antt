@@ -2,8 +2,6 @@
 use Rattle.std.specs.Prelude.{Some, Option, None}
 use Rattle.std.specs.Prelude.{Bool, true, false, List, ℕ, length}
 use Rattle.word.specs.Bits.{pick}
-use Rattle.word.specs.declared.ram.Word.{Word}
-use Rattle.word.specs.declared.ram.Word.TheVariants as Word
 use Rattle.walk.specs.Regime.{regimeOf, stage1On}
 use Rattle.tlb.specs.declared.access.Kind.TheVariants.{Read, Write}
 use Rattle.mmu.specs.Core.{bankNow}
@@ -23,9 +21,9 @@ apartOf c base len va n = pick (clearOf c base len) (crosses (stage1On (bankNow 
 abbrev pub pagesAt : ℕ → ℕ → ℕ → Pages
 pagesAt va pa pa2 = record { in_page = inPage va; pa = pa; pa2 = pa2 }
 
-abbrev pub valueFrom : ℕ → Word → Split
-valueFrom pa (Word.Value v) = Split.Value pa v
-valueFrom pa Word.Outside = Split.Unknown
+abbrev pub valueFrom : ℕ → Option ℕ → Split
+valueFrom pa (Some v) = Split.Value pa v
+valueFrom pa None = Split.Unknown
 
 -- what the two hints say, where the access is apart
 unfoldable pub loadBoth : Bool → Option ℕ → Option ℕ → ℕ → ℕ → List ℕ → ℕ → Split

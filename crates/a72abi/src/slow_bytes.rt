@@ -19,7 +19,7 @@ use call_words::reply;
 use operations::{check, place};
 use tlb::access::Kind;
 use word::ram;
-use word::ram::{Sized, Width, Word};
+use word::ram::Width;
 use words::place::State;
 use words::state;
 use words_memory::{access, translate};
@@ -48,11 +48,11 @@ fn load_at(
 {
     state::put_last(state, pa);
     match ram::read(base, ram, width, pa) {
-        Word::Value(v) => {
+        Some(v) => {
             *ans = v;
             0
         }
-        Word::Outside => {
+        None => {
             state::put_abort(state, pa);
             *ans = va;
             256 + 0x10
@@ -136,8 +136,8 @@ pub(crate) fn load(
     if n != 0 {
         return n as u64;
     }
-    match ram::width_of(size) {
-        Sized::Bytes(width) => {
+    match Width::of_size(size) {
+        Some(width) => {
             if place::in_page(va) < size {
                 return load_two(state, va, width, ans, base, ram);
             }
@@ -146,7 +146,7 @@ pub(crate) fn load(
                 None => load_page(state, va, size, ans, base, ram),
             }
         }
-        Sized::Refused => 3,
+        None => 3,
     }
 }
 
@@ -277,8 +277,8 @@ pub(crate) fn store(
     if n != 0 {
         return n as u64;
     }
-    match ram::width_of(size) {
-        Sized::Bytes(width) => {
+    match Width::of_size(size) {
+        Some(width) => {
             if place::in_page(va) < size {
                 return store_two(state, va, width, value, ans, base, ram);
             }
@@ -287,6 +287,6 @@ pub(crate) fn store(
                 None => store_page(state, va, size, value, ans, base, ram),
             }
         }
-        Sized::Refused => 3,
+        None => 3,
     }
 }

@@ -1,10 +1,8 @@
 -- What the laws of a census speak of: how a page ends, which statuses no walk ends at, and each place of a census. The laws are the contracts of
 -- `theorems`.
-use Rattle.std.specs.Prelude.{◌≡◌, ℕ, ◌<◌, ◌≤◌, Bool, true, false, ◌⊎◌, ◌==◌, slice_index}
-use Rattle.word.specs.declared.ram.Word.{Word}
+use Rattle.std.specs.Prelude.{◌≡◌, ℕ, ◌<◌, ◌≤◌, Bool, true, false, ◌⊎◌, ◌==◌, slice_index, Option, Ok, Err}
 use Rattle.walk.specs.Fresh.{fresh_of}
 use Rattle.walk.specs.declared.{regime.Regime.Regime, regime.Bank.Bank, fresh.Fresh.Fresh}
-use Rattle.walk.specs.declared.level.Walked.TheVariants.{Mapped, Fault}
 use Rattle.walk.specs.declared.fresh.Fresh.TheVariants.{Flat, Ended}
 use Rattle.census.specs.Count.{pageAt, censusOf}
 
@@ -12,14 +10,14 @@ use Rattle.census.specs.Count.{pageAt, censusOf}
 
 -- a fault of this status
 abbrev pub faultsWith : ℕ → Fresh → Bool
-faultsWith status (Ended (Fault n)) = n == status
-faultsWith status (Ended (Mapped leaf)) = false
+faultsWith status (Ended (Err n)) = n == status
+faultsWith status (Ended (Ok leaf)) = false
 faultsWith status (Flat pa) = false
 
 -- a leaf of this permission byte
 abbrev pub hasRights : ℕ → Fresh → Bool
-hasRights perms (Ended (Fault n)) = false
-hasRights perms (Ended (Mapped leaf)) = leaf.perms == perms
+hasRights perms (Ended (Err n)) = false
+hasRights perms (Ended (Ok leaf)) = leaf.perms == perms
 hasRights perms (Flat pa) = false
 
 abbrev pub isFlat : Fresh → Bool
@@ -34,7 +32,7 @@ NoStatus n = (n ≡ 8) ⊎ (((12 ≤ n) × (n < 20)) ⊎ (24 ≤ n))
 
 -- A CENSUS
 
-module _ (s : Bank) (r : Regime) (memory : ℕ → Word) (first : ℕ) where
+module _ (s : Bank) (r : Regime) (memory : ℕ → Option ℕ) (first : ℕ) where
   -- how the i-th page ends with nothing cached
   abbrev pub end_at : ℕ → Fresh
   end_at i = fresh_of s r (pageAt first i) memory
@@ -44,4 +42,4 @@ module _ (s : Bank) (r : Regime) (memory : ℕ → Word) (first : ℕ) where
 
 -- a fact of every census: of its places, of how each of its pages ends, and of how many pages it has
 abbrev pub EachCensus : ((ℕ → ℕ) → (ℕ → Fresh) → ℕ → Type 0) → Type 0
-EachCensus P = (s : Bank) (r : Regime) (memory : ℕ → Word) (first pages : ℕ) → P (countAt s r memory first pages) (end_at s r memory first) pages
+EachCensus P = (s : Bank) (r : Regime) (memory : ℕ → Option ℕ) (first pages : ℕ) → P (countAt s r memory first pages) (end_at s r memory first) pages

@@ -1,7 +1,6 @@
 -- A data hint that serves gives what the translation gives, and the translation changes nothing.
-use Rattle.std.specs.Prelude.{◌≡◌, ℕ, true}
+use Rattle.std.specs.Prelude.{◌≡◌, ℕ, true, Option}
 use Rattle.std.proofs.Common.{sym}
-use Rattle.word.specs.declared.ram.Word.{Word}
 use Rattle.tlb.specs.Cache.{hintAt}
 use Rattle.tlb.specs.Hint.{onPage}
 use Rattle.tlb.specs.declared.access.Kind.{Kind}
@@ -12,7 +11,7 @@ use Rattle.mmu.specs.Results.{Translated}
 use Rattle.mmu.specs.Changes.{hint-turn}
 use Rattle.mmu.specs.declared.core_state.Core.{Core}
 
-pub by_hint : (c : Core) (memory : ℕ → Word) (va : ℕ) (kind : Kind) → hintServes (hintAt c.tlb.cache (hintPlace va kind)) c.privilege va kind ≡ true
+pub by_hint : (c : Core) (memory : ℕ → Option ℕ) (va : ℕ) (kind : Kind) → hintServes (hintAt c.tlb.cache (hintPlace va kind)) c.privilege va kind ≡ true
     → translateOf c memory va kind ≡ record { core = c; answer = Address (onPage (hintAt c.tlb.cache (hintPlace va kind)).pa va) }
 by_hint c memory va kind served =
     let turn = hint-turn c memory va kind served in

@@ -15,8 +15,7 @@ use operations::call::Reply;
 use operations::{check, hinted, reply};
 use tlb::access::Kind;
 use tlb::hint;
-use word::ram;
-use word::ram::Sized;
+use word::ram::Width;
 
 // Where the hint of va sends an access, if it serves.
 #[tactic(auto, using(crate::proofs::Hints::by_hint))]
@@ -66,9 +65,9 @@ pub fn load(core: &mut Core, base: u64, ram: &[u8], va: u64, size: u64) -> Reply
     if missed != 0 {
         return Reply::Refused(missed);
     }
-    match ram::width_of(size) {
-        Sized::Bytes(width) => reply::loaded(core.read(base, ram, va, width)),
-        Sized::Refused => Reply::Refused(3),
+    match Width::of_size(size) {
+        Some(width) => reply::loaded(core.read(base, ram, va, width)),
+        None => Reply::Refused(3),
     }
 }
 
@@ -83,9 +82,9 @@ pub fn store(core: &mut Core, base: u64, ram: &mut [u8], va: u64, size: u64, val
     if missed != 0 {
         return Reply::Refused(missed);
     }
-    match ram::width_of(size) {
-        Sized::Bytes(width) => reply::stored(core.write(base, ram, va, width, value)),
-        Sized::Refused => Reply::Refused(3),
+    match Width::of_size(size) {
+        Some(width) => reply::stored(core.write(base, ram, va, width, value)),
+        None => Reply::Refused(3),
     }
 }
 

@@ -1,7 +1,6 @@
 -- A translation as what it changes. Cited by the contracts of this crate alone.
-use Rattle.std.specs.Prelude.{ℕ, zero, suc, Bool, true, false, ◌&&◌, ◌==◌}
+use Rattle.std.specs.Prelude.{ℕ, zero, suc, Bool, true, false, ◌&&◌, ◌==◌, Option}
 use Rattle.word.specs.Bits.{pick}
-use Rattle.word.specs.declared.ram.Word.{Word}
 use Rattle.sysreg.specs.declared.regs.Control.{Control}
 use Rattle.walk.specs.Regime.{bankOf, regimeOf}
 use Rattle.walk.specs.declared.regime.Bank.{Bank}
@@ -71,7 +70,7 @@ address_of (Address pa) = pa
 address_of (Status f) = 0
 
 -- the changes of what is asked
-unfoldable pub missBy : Asked → Bank → Privilege → Current → Entry → ℕ → Kind → (ℕ → Word) → Resolved
+unfoldable pub missBy : Asked → Bank → Privilege → Current → Entry → ℕ → Kind → (ℕ → Option ℕ) → Resolved
 missBy a s privilege at e va kind memory = changesOf a s privilege at e va kind memory
 
 abbrev pub changeOf : Lookup → Resolved → ℕ → Kind → Change
@@ -101,7 +100,7 @@ unchanged k =
 abbrev pub answeredBy : Lookup → Resolved → ℕ → Kind → Answered
 answeredBy k t va kind = record { change = changeOf k t va kind; answer = t.answer }
 
-unfoldable pub answeredOf : Page → ℕ → Kind → (ℕ → Word) → Answered
+unfoldable pub answeredOf : Page → ℕ → Kind → (ℕ → Option ℕ) → Answered
 answeredOf x va kind memory =
     pick (hintServes x.hint x.lookup.privilege va kind)
     (record { change = unchanged x.lookup; answer = Address (onPage x.hint.pa va) })

@@ -1,7 +1,6 @@
 -- The translations of a load or a store, on small values: one page or two. Cited by the contracts of this crate alone.
-use Rattle.std.specs.Prelude.{ℕ, Bool}
+use Rattle.std.specs.Prelude.{ℕ, Bool, Option}
 use Rattle.word.specs.Bits.{pick}
-use Rattle.word.specs.declared.ram.Word.{Word}
 use Rattle.walk.specs.Regime.{regimeOf, stage1On}
 use Rattle.walk.specs.declared.regime.Bank.{Bank}
 use Rattle.tlb.specs.declared.{access.Answer.Answer, access.Kind.Kind}
@@ -17,16 +16,16 @@ moreOf s level a va n = goesOn a (crosses (stage1On s (regimeOf level)) va n)
 abbrev pub bothBy : Answered → Answered → ℕ → Both
 bothBy f t va = record { first = f.change; second = t.change; placed = placedBoth va f.answer t.answer }
 
-unfoldable pub twoTranslations : Answered → Page → ℕ → Kind → (ℕ → Word) → Both
+unfoldable pub twoTranslations : Answered → Page → ℕ → Kind → (ℕ → Option ℕ) → Both
 twoTranslations f y va kind memory = bothBy f (answeredOf (pageAfter f.change y) (nextPage va) kind memory) va
 
 abbrev pub oneTranslation : Answered → Page → ℕ → Both
 oneTranslation f y va = record { first = f.change; second = unchanged y.lookup; placed = placedOne va f.answer }
 
 -- the translations of an access of n bytes
-abbrev pub bothWith : Lookup → Answered → Page → ℕ → ℕ → Kind → (ℕ → Word) → Both
+abbrev pub bothWith : Lookup → Answered → Page → ℕ → ℕ → Kind → (ℕ → Option ℕ) → Both
 bothWith k f y va n kind memory =
     pick (moreOf k.bank k.privilege.level f.answer va n) (twoTranslations f y va kind memory) (oneTranslation f y va)
 
-unfoldable pub bothOf : Page → Page → ℕ → ℕ → Kind → (ℕ → Word) → Both
+unfoldable pub bothOf : Page → Page → ℕ → ℕ → Kind → (ℕ → Option ℕ) → Both
 bothOf x y va n kind memory = bothWith x.lookup (answeredOf x va kind memory) y va n kind memory

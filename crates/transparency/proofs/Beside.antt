@@ -1,8 +1,6 @@
 -- Beside demand 3: the two cores agree, AT is a fresh walk, and a refused call changes nothing in either.
-use Rattle.std.specs.Prelude.{◌≡◌, refl, List, ℕ, zero, suc}
+use Rattle.std.specs.Prelude.{◌≡◌, refl, List, ℕ, zero, suc, Ok, Err}
 use Rattle.std.proofs.Common.{ap, subst, ◌∙◌}
-use Rattle.sysreg.specs.declared.{write.WriteAnswer.WriteAnswer, write.Written.Written}
-use Rattle.sysreg.specs.declared.write.WriteAnswer.TheVariants as Written
 use Rattle.sysop.specs.declared.{op.SysOp.SysOp}
 use Rattle.sysop.specs.declared.op.SysOp.TheVariants as Op
 use Rattle.mmu.specs.Bare.{Bare, freshBare, withPar, bareOf}
@@ -25,6 +23,8 @@ use Rattle.transparency.specs.Machine.{machine}
 use Rattle.transparency.proofs.Bridge.{bridge, fits}
 use Rattle.transparency.specs.Beside.{coreAfter}
 use Rattle.transparency.specs.Beside as Statement
+use Rattle.sysreg.specs.Write.{WriteAnswer, Written}
+use Rattle.sysreg.specs.declared.write.WriteError.TheVariants.{Undefined, NoRegister}
 
 -- THE TWO CORES
 
@@ -97,9 +97,9 @@ sys-refused Op.Nothing c m op1 crm op2 x refuses = absurd (refuses refl)
 
 write-refused : (c : Core) (m : Ram) (w : Written) (a : WriteAnswer) → (byWrite a ≡ allowed → ⊥)
     → Unchanged c m (byWrite a) (afterWrite (registered c w a)) m.bytes
-write-refused c m w Written.Undefined refuses = (refl, refl)
-write-refused c m w Written.NoRegister refuses = (refl, refl)
-write-refused c m w Written.Done refuses = absurd (refuses refl)
+write-refused c m w (Err Undefined) refuses = (refl, refl)
+write-refused c m w (Err NoRegister) refuses = (refl, refl)
+write-refused c m w (Ok done) refuses = absurd (refuses refl)
 
 run-refused : (c : Core) (m : Ram) (x : Call) → (ruledIn (bareOf c) x ≡ allowed → ⊥)
     → Unchanged c m (ruledIn (bareOf c) x) (run_of c m.base m.bytes x) (ramOf c m.base m.bytes x)

@@ -1,10 +1,9 @@
 -- What the plain model says of the core's own counters and of what is pending, call by call, after every list of calls
 -- from the fresh core: as document 01's checklist asks it.
-use Rattle.std.specs.Prelude.{◌≡◌, List, ℕ, ◌+◌, ◌%◌, ◌^◌}
+use Rattle.std.specs.Prelude.{◌≡◌, List, ℕ, ◌+◌, ◌%◌, ◌^◌, Ok}
 use Rattle.std.proofs.Math.Bool.{true, false}
 use Rattle.sysreg.specs.Shape.{same_shape, asidOf}
 use Rattle.sysreg.specs.declared.regs.Control.{Control}
-use Rattle.sysreg.specs.declared.write.WriteAnswer.TheVariants as Written
 use Rattle.tlb.specs.Model.{Model, oneFlush, oneEpoch, invalCounted, joined}
 use Rattle.tlb.specs.Counting.{How, howCounted, howTranslated, howFetched}
 use Rattle.tlb.specs.Live.{countersOf, pendingOf, live}
@@ -127,7 +126,7 @@ module _ (list : List (Lent real machine)) (m : Ram) where
   -- retags"
 
   module _ (key value : ℕ) (passed : missedIn (bareAfter list) m (Register key value) ≡ 0)
-      (done : (writtenIn (bareAfter list) key value).answer ≡ Written.Done) where
+      (done : (writtenIn (bareAfter list) key value).answer ≡ Ok tt) where
     abbrev registers : Control
     registers = (writtenIn (bareAfter list) key value).control
 
@@ -169,8 +168,8 @@ EveryTlbi says =
 
 abbrev pub EveryWrite :
     ((list : List (Lent real machine)) (m : Ram) (key value : ℕ) → missedIn (bareAfter list) m (Register key value) ≡ 0
-    → (writtenIn (bareAfter list) key value).answer ≡ Written.Done → Type 0)
+    → (writtenIn (bareAfter list) key value).answer ≡ Ok tt → Type 0)
     → Type 0
 EveryWrite says =
     (list : List (Lent real machine)) (m : Ram) (key value : ℕ) (passed : missedIn (bareAfter list) m (Register key value) ≡ 0)
-    (done : (writtenIn (bareAfter list) key value).answer ≡ Written.Done) → says list m key value passed done
+    (done : (writtenIn (bareAfter list) key value).answer ≡ Ok tt) → says list m key value passed done

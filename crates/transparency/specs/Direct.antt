@@ -1,9 +1,8 @@
 -- Demand 3 of each call that translates, read off `step_of` itself: where the pages meet the premise it has the same
 -- physical address, the same fault with its status and address, and the same bytes as on the core without a cache.
-use Rattle.std.specs.Prelude.{◌≡◌, List, ℕ}
+use Rattle.std.specs.Prelude.{◌≡◌, List, ℕ, Some}
 use Rattle.word.specs.Bits.{alignDown, pick}
 use Rattle.word.specs.Ram.{width_of, bytesIn}
-use Rattle.word.specs.declared.ram.Sized.TheVariants.{Bytes}
 use Rattle.word.specs.declared.ram.Width.{Width}
 use Rattle.tlb.specs.Lists.{Each}
 use Rattle.tlb.specs.Asks.{address_of}
@@ -91,14 +90,14 @@ module _ (list : List (Fed real machine)) (m : Ram) where
   -- A load replies the bytes there, or the fault or the abort.
   abbrev pub load_after : Type 0
   load_after =
-      (va size : ℕ) (w : Width) → width_of size ≡ Bytes w → missedIn (bareOf (coreNow list)) m (Load va size) ≡ 0 → SettledOver va (bytesIn w) Kind.Read
+      (va size : ℕ) (w : Width) → width_of size ≡ Some w → missedIn (bareOf (coreNow list)) m (Load va size) ≡ 0 → SettledOver va (bytesIn w) Kind.Read
       → (step_of (coreNow list) m.base m.bytes (Load va size)).reply
       ≡ loading (loadEnd (placed_at va (bytesIn w) Kind.Read) 0 0 m.base m.bytes va (bytesIn w)).answer
 
   -- A store replies the same, and leaves the same bytes.
   abbrev pub store_after : Type 0
   store_after =
-      (va size value : ℕ) (w : Width) → width_of size ≡ Bytes w → missedIn (bareOf (coreNow list)) m (Store va size value) ≡ 0
+      (va size value : ℕ) (w : Width) → width_of size ≡ Some w → missedIn (bareOf (coreNow list)) m (Store va size value) ≡ 0
       → SettledOver va (bytesIn w) Kind.Write
       → ((step_of (coreNow list) m.base m.bytes (Store va size value)).reply
       ≡ storing (storeEnd (placed_at va (bytesIn w) Kind.Write) 0 m.base m.bytes va (bytesIn w)).answer)

@@ -1,25 +1,24 @@
 -- Every fresh answer is flat, a leaf within its bounds or a status of the table of answers.
-use Rattle.std.specs.Prelude.{◌≡◌, Bool, ℕ}
+use Rattle.std.specs.Prelude.{◌≡◌, Bool, ℕ, Option, Ok, Err}
 use Rattle.std.proofs.Common.{subst}
 use Rattle.std.proofs.Math.Bool.{true, false}
 use Rattle.word.specs.Bits.{pick}
-use Rattle.word.specs.declared.ram.Word.{Word}
 use Rattle.walk.specs.Regime.{stage1On}
 use Rattle.walk.specs.Tag.{untagged}
 use Rattle.walk.specs.Walk.{walk_of}
 use Rattle.walk.specs.Fresh.{fresh_of}
 use Rattle.walk.specs.WalkBounds.{LeafBounds, SoundWalked}
 use Rattle.walk.proofs.WalkBounds.{walk-sound}
-use Rattle.walk.specs.declared.{regime.Regime.Regime, regime.Bank.Bank, level.Leaf.Leaf, level.Walked.Walked, fresh.Fresh.Fresh}
-use Rattle.walk.specs.declared.level.Walked.TheVariants.{Mapped, Fault}
+use Rattle.walk.specs.declared.{regime.Regime.Regime, regime.Bank.Bank, level.Leaf.Leaf, fresh.Fresh.Fresh}
 use Rattle.walk.specs.declared.fresh.Fresh.TheVariants.{Flat, Ended}
 use Rattle.walk.specs.FreshLaws.{SoundEnd, SoundFresh}
+use Rattle.walk.specs.Answers.{Walked}
 
 walk_end : (va : ℕ) (w : Walked) → SoundWalked va w → SoundEnd w
-walk_end va (Mapped leaf) h = h.0
-walk_end va (Fault n) h = h
+walk_end va (Ok leaf) h = h.0
+walk_end va (Err n) h = h
 
-module _ (s : Bank) (r : Regime) (va : ℕ) (memory : ℕ → Word) where
+module _ (s : Bank) (r : Regime) (va : ℕ) (memory : ℕ → Option ℕ) where
   pub answer-sound : SoundFresh (fresh_of s r va memory)
   unfolding fresh_of
   answer-sound = go (stage1On s r)
@@ -32,5 +31,5 @@ module _ (s : Bank) (r : Regime) (va : ℕ) (memory : ℕ → Word) where
   is-sound x e = rw e answer-sound
 
   -- a leaf that it ends in
-  pub fresh-leaf : (x : Fresh) (w : Walked) (leaf : Leaf) → x ≡ fresh_of s r va memory → x ≡ Ended w → w ≡ Mapped leaf → LeafBounds leaf
+  pub fresh-leaf : (x : Fresh) (w : Walked) (leaf : Leaf) → x ≡ fresh_of s r va memory → x ≡ Ended w → w ≡ Ok leaf → LeafBounds leaf
   fresh-leaf x w leaf e x-is w-is = subst SoundEnd w-is (subst SoundFresh x-is (is-sound x e))

@@ -1,5 +1,5 @@
 -- The order of a walk's answers, row by row.
-use Rattle.std.specs.Prelude.{◌≡◌, Bool, not, ◌&&◌, ◌||◌, ltb, []}
+use Rattle.std.specs.Prelude.{◌≡◌, Bool, not, ◌&&◌, ◌||◌, ltb, [], Option, Some, None, Ok, Err}
 use Rattle.std.proofs.Math.Path.{refl}
 use Rattle.std.proofs.Common.{ap, ◌∙◌}
 use Rattle.std.proofs.Math.Bool.{true, false}
@@ -9,8 +9,6 @@ use borrow.Author.Tests.{eqb-true, eqb-false, ltb-true, ltb-false, eq-eqb, ne_eq
 use Rattle.std.proofs.Math.Arith.{lt_of_le-ne}
 use Rattle.std.proofs.Math.Dec.{eqb}
 use Rattle.word.specs.Bits.{pick}
-use Rattle.word.specs.declared.ram.Word.{Word}
-use Rattle.word.specs.declared.ram.Word.TheVariants.{Value, Outside}
 use Rattle.walk.specs.Regime.{singlePriv, wxnOf}
 use Rattle.walk.specs.Descriptor.{valid, tableOrPage, af}
 use Rattle.walk.specs.Table.{Result, mapped, faults, addressSize, translation, accessFlag, externalAbort, firstblocklevel, in_range, beyond, Lookup, Next}
@@ -21,7 +19,6 @@ use Rattle.walk.specs.SizeLaws.{pa-size-low, pa-size-high, start-level}
 use Rattle.walk.proofs.WalkBounds.{next_level}
 use Rattle.walk.specs.Fetches.{fetchesRange, fetchesOf}
 use Rattle.walk.specs.declared.{regime.Regime.Regime, regime.Bank.Bank, level.Params.Params}
-use Rattle.walk.specs.declared.level.Walked.TheVariants.{Mapped, Fault as Faulted}
 use Rattle.walk.specs.Order.{TableAt, table, LeafAt, page, block, NoLeafAt, last, early, Kind, isInvalid, isTable, isNoLeaf, isLeaf, params_at, Reached, entry, onward, Below}
 
 not_last : (n : ℕ) → n < 3 → eqb n 3 ≡ false
@@ -122,25 +119,25 @@ module _ (p : Params) (va : ℕ) (l : Lookup) (desc : ℕ) where
   used-leaf a b f = rw (leaf-allowed a, b, f)
 
 -- what holds of every table reached
-record Stage (s : Bank) (r : Regime) (va : ℕ) (memory : ℕ → Word) (l : Lookup) : Type 0 where
+record Stage (s : Bank) (r : Regime) (va : ℕ) (memory : ℕ → Option ℕ) (l : Lookup) : Type 0 where
   level : l.level ≤ 3
   walk : tableWalk s r va memory ≡ walkFrom (4 - l.level) memory (params_at s r va) va l
 
-module _ (s : Bank) (r : Regime) (va : ℕ) (memory : ℕ → Word) where
+module _ (s : Bank) (r : Regime) (va : ℕ) (memory : ℕ → Option ℕ) where
   -- Walk entry, out of range: 0x04, and nothing is fetched
-  pub out_of_range : in_range (range_of s r va) va ≡ false → (walk_of s r va memory ≡ Faulted 0x04) × (fetchesOf s r va memory ≡ [])
+  pub out_of_range : in_range (range_of s r va) va ≡ false → (walk_of s r va memory ≡ Err 0x04) × (fetchesOf s r va memory ≡ [])
   unfolding walk_of tableWalk walkRange fetchesOf fetchesRange
   out_of_range e = rw e (refl, refl)
 
   -- Walk entry, EPD set: 0x04, and nothing is fetched
-  pub range-disabled : (range_of s r va).disabled ≡ true → (walk_of s r va memory ≡ Faulted 0x04) × (fetchesOf s r va memory ≡ [])
+  pub range-disabled : (range_of s r va).disabled ≡ true → (walk_of s r va memory ≡ Err 0x04) × (fetchesOf s r va memory ≡ [])
   unfolding walk_of tableWalk walkRange fetchesOf fetchesRange
   range-disabled e = rw (e, or-true (not (in_range (range_of s r va) va))) (refl, refl)
 
   -- Walk entry, base beyond the output size: 0x00, and nothing is fetched
   pub base-too-large : in_range (range_of s r va) va ≡ true → (range_of s r va).disabled ≡ false
       → beyond (params_at s r va).outputsize (range_of s r va).baseregister ≡ true
-      → (walk_of s r va memory ≡ Faulted 0x00) × (fetchesOf s r va memory ≡ [])
+      → (walk_of s r va memory ≡ Err 0x00) × (fetchesOf s r va memory ≡ [])
   unfolding walk_of tableWalk walkRange fetchesOf fetchesRange
   base-too-large e d b = rw (e, b, d) (refl, refl)
 
@@ -177,22 +174,22 @@ module _ (s : Bank) (r : Regime) (va : ℕ) (memory : ℕ → Word) where
 
   module _ (l : Lookup) (reached : Reached s r va memory l) where
     -- Descriptor read, outside RAM: 0x14 + level
-    pub descriptor-outside : memory (descaddr (params_at s r va) va l) ≡ Outside → walk_of s r va memory ≡ Faulted (0x14 + l.level)
+    pub descriptor-outside : memory (descaddr (params_at s r va) va l) ≡ None → walk_of s r va memory ≡ Err (0x14 + l.level)
     unfolding lookupNext
     descriptor-outside e = ends-walk l (faults (externalAbort l.level)) reached (rw e)
 
-    module _ (desc : ℕ) (word : memory (descaddr (params_at s r va) va l) ≡ Value desc) where
+    module _ (desc : ℕ) (word : memory (descaddr (params_at s r va) va l) ≡ Some desc) where
       read : (n : Next) → levelNext (params_at s r va) va l desc ≡ n → lookupNext memory (params_at s r va) va l ≡ n
       unfolding lookupNext
       read n e = rw word e
 
       -- Descriptor, bit 0 clear: 0x04 + level
-      pub descriptor-invalid : valid desc ≡ false → walk_of s r va memory ≡ Faulted (0x04 + l.level)
+      pub descriptor-invalid : valid desc ≡ false → walk_of s r va memory ≡ Err (0x04 + l.level)
       descriptor-invalid e = ends-walk l _ reached (read _ (invalid-next (params_at s r va) va l desc e))
 
       -- Table, next address too large: 0x00 + level
-      pub table-too-large : TableAt l desc → beyond (params_at s r va).outputsize desc ≡ true → walk_of s r va memory ≡ Faulted (0x00 + l.level)
-      table-too-large t b = ends-walk l _ reached (read _ (large-table-next (params_at s r va) va l desc t b)) ∙ ap Faulted (omega arith)
+      pub table-too-large : TableAt l desc → beyond (params_at s r va).outputsize desc ≡ true → walk_of s r va memory ≡ Err (0x00 + l.level)
+      table-too-large t b = ends-walk l _ reached (read _ (large-table-next (params_at s r va) va l desc t b)) ∙ ap Err (omega arith)
 
       -- otherwise a table leads one level down
       pub table-leads : TableAt l desc → beyond (params_at s r va).outputsize desc ≡ false → Below s r va memory l
@@ -203,7 +200,7 @@ module _ (s : Bank) (r : Regime) (va : ℕ) (memory : ℕ → Word) where
           record { lookup = k.next; level = (one_down l k.next (stage reached).level e).0; reached = onward reached e }
 
       -- Leaf, level 3 with bit 1 clear, or a block at a level that has none: 0x04 + level
-      pub leaf-not-allowed : NoLeafAt (params_at s r va) l desc → walk_of s r va memory ≡ Faulted (0x04 + l.level)
+      pub leaf-not-allowed : NoLeafAt (params_at s r va) l desc → walk_of s r va memory ≡ Err (0x04 + l.level)
       leaf-not-allowed h = ends-walk l _ reached (read _ (no-leaf-next (params_at s r va) va l desc h))
 
       leaf-ends : (x : Result) → LeafAt (params_at s r va) l desc → leafResult (params_at s r va) va l desc ≡ x
@@ -212,15 +209,15 @@ module _ (s : Bank) (r : Regime) (va : ℕ) (memory : ℕ → Word) where
 
       -- Leaf, output too large: 0x00 + level, whatever the access flag
       pub leaf-too-large : LeafAt (params_at s r va) l desc → beyond (params_at s r va).outputsize desc ≡ true
-          → walk_of s r va memory ≡ Faulted (0x00 + l.level)
-      leaf-too-large h b = leaf-ends _ h (large-leaf (params_at s r va) va l desc h b) ∙ ap Faulted (omega arith)
+          → walk_of s r va memory ≡ Err (0x00 + l.level)
+      leaf-too-large h b = leaf-ends _ h (large-leaf (params_at s r va) va l desc h b) ∙ ap Err (omega arith)
 
       -- Leaf, access flag clear: 0x08 + level
       pub leaf-unused : LeafAt (params_at s r va) l desc → beyond (params_at s r va).outputsize desc ≡ false → af desc ≡ false
-          → walk_of s r va memory ≡ Faulted (0x08 + l.level)
+          → walk_of s r va memory ≡ Err (0x08 + l.level)
       leaf-unused h b f = leaf-ends _ h (unused-leaf (params_at s r va) va l desc h b f)
 
       -- otherwise the leaf is the answer
       pub leaf-found : LeafAt (params_at s r va) l desc → beyond (params_at s r va).outputsize desc ≡ false → af desc ≡ true
-          → walk_of s r va memory ≡ Mapped (leafOf (singlePriv r) (wxnOf s) (leafTranslation (params_at s r va) va l desc))
+          → walk_of s r va memory ≡ Ok (leafOf (singlePriv r) (wxnOf s) (leafTranslation (params_at s r va) va l desc))
       leaf-found h b f = leaf-ends _ h (used-leaf (params_at s r va) va l desc h b f)

@@ -1,8 +1,9 @@
 -- A walk goes by pages: addresses of one page have one walk but for the offset in the page, which is the address's own.
+use Rattle.std.specs.Prelude.{Ok, Err}
 use Prim.Native.Nat.{ℕ, ◌+◌, ◌%◌, ◌^◌}
 use Rattle.word.specs.Bits.{alignDown}
-use Rattle.walk.specs.declared.{level.Leaf.Leaf, level.Walked.Walked}
-use Rattle.walk.specs.declared.level.Walked.TheVariants.{Mapped, Fault as Faulted}
+use Rattle.walk.specs.declared.level.Leaf.{Leaf}
+use Rattle.walk.specs.Answers.{Walked}
 
 -- a leaf with another output address
 abbrev pub withAddress : Leaf → ℕ → Leaf
@@ -14,8 +15,8 @@ pagedLeaf leaf = withAddress leaf (alignDown leaf.oa 12)
 
 -- a walk of a page
 abbrev pub paged : Walked → Walked
-paged (Mapped leaf) = Mapped (pagedLeaf leaf)
-paged (Faulted n) = Faulted n
+paged (Ok leaf) = Ok (pagedLeaf leaf)
+paged (Err n) = Err n
 
 -- a leaf as another address of its page has it
 abbrev pub leafAt : Leaf → ℕ → Leaf

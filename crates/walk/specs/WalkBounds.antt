@@ -1,6 +1,6 @@
 -- What holds of every walk's answer, for those who know the walk by its definition alone: the leaf's level, output address and
 -- permission byte, and the status of a fault.
-use Rattle.std.specs.Prelude.{◌≡◌, Bool}
+use Rattle.std.specs.Prelude.{◌≡◌, Bool, Ok, Err}
 use Rattle.std.proofs.Common.{mod-lt, eqb-true, lit≤, pow_pos}
 use Rattle.std.proofs.Math.Bool.{true, false}
 use Prim.Native.Nat.{ℕ, ◌+◌, ◌-◌, ◌*◌, ◌%◌, ◌^◌, ◌≤◌, ◌<◌}
@@ -12,8 +12,7 @@ use Rattle.walk.specs.Table.{Fault, addressSize, translation, accessFlag, extern
 use Rattle.walk.specs.Table.{beyond, outputaddress}
 use Rattle.walk.specs.Permission.{Rights, accessBits, permissionByte, rightsOf}
 use Rattle.walk.specs.declared.{rights.Permissions.Permissions, level.Leaf.Leaf}
-use Rattle.walk.specs.declared.level.Walked.{Walked}
-use Rattle.walk.specs.declared.level.Walked.TheVariants.{Mapped, Fault as Faulted}
+use Rattle.walk.specs.Answers.{Walked}
 
 -- the levels at which a fault of each kind can be: an access flag is read in a leaf, and no leaf is above level 1
 abbrev pub Levelled : Fault → Type 0
@@ -77,8 +76,8 @@ permission-small singlepriv wxn t =
     (access-small (rightsOf singlepriv true wxn t))
 
 abbrev pub SoundWalked : ℕ → Walked → Type 0
-SoundWalked va (Mapped leaf) = LeafBounds leaf × (leaf.oa % 2 ^ 12 ≡ va % 2 ^ 12)
-SoundWalked va (Faulted n) = Status n
+SoundWalked va (Ok leaf) = LeafBounds leaf × (leaf.oa % 2 ^ 12 ≡ va % 2 ^ 12)
+SoundWalked va (Err n) = Status n
 
 -- and a number below 24
 pub status-small : (n : ℕ) → Status n → n < 24
