@@ -1,7 +1,8 @@
 -- Every call ends: a number and nothing changed, or its value, its fault, Undefined or Unimplemented.
+use Rattle.mmu.specs.Results.{Stored}
 use Rattle.std.specs.Prelude.{◌≡◌, ℕ, zero, suc, ◌+◌, ◌≤◌, Bool, true, false, ◌&&◌, List, [], ◌∷◌, length, ◌==◌, nat_le}
 use Rattle.std.proofs.Math.Path.{refl, ap, subst⁻¹}
-use Rattle.std.proofs.Common.{sym, subst, ◌∙◌, arith, leb-true}
+use Rattle.std.proofs.Common.{sym, ◌∙◌, arith, leb-true}
 use Rattle.std.proofs.lemmas.Bool.{not-false}
 use Rattle.word.specs.Bits.{pick, wrap, alignDown}
 use Rattle.word.specs.BitLaws.{both}
@@ -19,7 +20,6 @@ use Rattle.tlb.specs.declared.access.Answer.{Answer}
 use Rattle.tlb.specs.declared.access.Answer.TheVariants.{Address, Status}
 use Rattle.tlb.specs.declared.access.Kind.TheVariants as Kind
 use Rattle.sysop.specs.declared.op.SysOp.{SysOp}
-use Rattle.sysop.specs.declared.op.SysOp.TheVariants as SysOp
 use Rattle.mmu.specs.Core.{reg_of}
 use Rattle.operations.specs.Place.{verdictOf as judged}
 use Rattle.operations.specs.Bytes.{value_at}
@@ -27,11 +27,10 @@ use Rattle.mmu.specs.Says.{Said, value, done, fault, faults, undefined, unimplem
 use Rattle.mmu.specs.Says.{insnSays, load-says, store-says, fetch-says}
 use Rattle.mmu.specs.Ops.{translateOf, read_of, writeOf, ramAfterWrite, fetchOf, fetchPaOf, dataPaOf, locatedNow, fetchSteppedNow}
 use Rattle.mmu.specs.OpLaws.{ram-length, store}
-use Rattle.mmu.specs.declared.{core_state.Core.Core, ops.Stored.Stored}
+use Rattle.mmu.specs.declared.core_state.Core.{Core}
 use Rattle.operations.specs.declared.{place.Placed.Placed, place.Verdict.Verdict, ends.LoadAnswer.LoadAnswer}
 use Rattle.operations.specs.declared.{ends.StoreAnswer.StoreAnswer, ends.FetchAnswer.FetchAnswer, ends.Reached.Reached}
 use Rattle.operations.specs.declared.{call.Call.Call, call.Reply.Reply}
-use Rattle.operations.specs.declared.place.Placed.TheVariants as Placed
 use Rattle.operations.specs.declared.place.Verdict.TheVariants.{Inside, Outside}
 use Rattle.operations.specs.declared.ends.LoadAnswer.TheVariants as Load
 use Rattle.operations.specs.declared.ends.StoreAnswer.TheVariants as Store

@@ -11,7 +11,11 @@ use Rattle.mmu.specs.Bare.{withEntered, bareOf, inCore}
 use Rattle.mmu.specs.Ops.{withTlb}
 use Rattle.mmu.specs.declared.core_state.Core.{Core}
 use Rattle.exec.specs.Fit.{refitOf}
-use Rattle.exec.specs.declared.ops.Registered.{Registered}
+
+-- the core after a register write, and its answer
+pub record Registered : Type 0 where
+  pub core : Core
+  pub answer : WriteAnswer
 
 -- the core with other registers
 unfoldable pub with_regs : Core → Control → SysRegs → Core

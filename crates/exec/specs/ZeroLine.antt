@@ -1,4 +1,5 @@
 -- A zeroing whose stores are all given their addresses by the cache as it stands, which they leave alone: one store of zeros.
+use Rattle.mmu.specs.Results.{Located, Stepped, Translated}
 use Rattle.std.specs.Prelude.{◌≡◌, ℕ, zero, suc, ◌+◌, ◌-◌, ◌*◌, ◌%◌, ◌^◌, ◌<◌, ◌≤◌, true, List, length, refl}
 use Rattle.std.proofs.Math.Path.{sym, ap}
 use Rattle.std.proofs.Common.{◌∙◌, suc-add, le-leb, take-append-drop}
@@ -16,7 +17,7 @@ use Rattle.operations.specs.Ends.{storeEnd}
 use Rattle.mmu.specs.Step.{translateIn}
 use Rattle.mmu.specs.Ops.{steppedNow, translateOf, storedBy, writeAfter, writeOf, ramAfterWrite}
 use Rattle.operations.specs.BytesLaws.{stored-length}
-use Rattle.mmu.specs.declared.{core_state.Core.Core, step.Located.Located, step.Stepped.Stepped, ops.Translated.Translated}
+use Rattle.mmu.specs.declared.core_state.Core.{Core}
 use Rattle.exec.specs.Sys.{doneWith, onStored, zero_of, zeroRam}
 use Rattle.exec.specs.ZeroLaws.{one-located, one-ram, storeVa, store-va}
 

@@ -1,5 +1,6 @@
 -- The translations that an access makes, from its call and the registers; what their answers say of its place; and that
 -- they are those of the exact definitions.
+use Rattle.mmu.specs.Results.{Stepped}
 use Rattle.std.specs.Prelude.{◌≡◌, ℕ, Bool, true, false, List, [], ◌∷◌}
 use Rattle.std.proofs.Math.Path.{refl}
 use Rattle.word.specs.Bits.{pick}
@@ -16,7 +17,6 @@ use Rattle.operations.specs.Place.{nextPage, crosses, goesOn, placedOne, placedB
 use Rattle.mmu.specs.Step.{onePage, bothPages, translateIn, locatedOf}
 use Rattle.operations.specs.declared.place.Placed.{Placed}
 use Rattle.operations.specs.declared.place.Placed.TheVariants.{Fault}
-use Rattle.mmu.specs.declared.step.Stepped.{Stepped}
 
 -- An access of n bytes: its own address, and where it crosses a page with stage 1 on the next page's first. The second
 -- is made only where the first does not fault (`answers`, `tlbAsks`): that is not said here, and so nothing here

@@ -1,4 +1,5 @@
 -- A translation as its changes: what they store is what the operation's translation leaves, on plain values.
+use Rattle.std.specs.Prelude.{Some, Option, None}
 use Rattle.std.specs.Prelude.{◌≡◌, ℕ, ◌/◌, ◌%◌, ◌<◌, Bool, true, false, ◌&&◌, List, slice_set}
 use Rattle.std.proofs.Math.Path.{refl, sym, subst, ap}
 use Rattle.std.proofs.Common.{◌∙◌, arith}
@@ -15,12 +16,12 @@ use Rattle.tlb.specs.Resolve.{askOf, byItself, countedBy, keptBy, hintAfter, fet
 use Rattle.tlb.specs.Translate.{applied, missWith, missOf, changes-are, translationWith, translationOf, fetchOf, fetchWith, fetchEnd, fetchApplied}
 use Rattle.tlb.specs.declared.{access.Answer.Answer, access.Kind.Kind, access.Privilege.Privilege, count.Counts.Counts}
 use Rattle.tlb.specs.declared.{entry.Entry.Entry, entry.Current.Current, hint.FetchHint.FetchHint, hint.Hint.Hint}
-use Rattle.tlb.specs.declared.{hint.HintAnswer.HintAnswer, resolve.Asked.Asked, resolve.Resolved.Resolved}
-use Rattle.tlb.specs.declared.{resolve.Source.Source, cells.FetchTranslation.FetchTranslation}
-use Rattle.tlb.specs.declared.cells.Translation.{Translation}
+use Rattle.tlb.specs.declared.{resolve.Asked.Asked, resolve.Resolved.Resolved}
+use Rattle.tlb.specs.declared.resolve.Source.{Source}
+use Rattle.tlb.specs.Translate.{FetchTranslation}
+use Rattle.tlb.specs.Translate.{Translation}
 use Rattle.tlb.specs.declared.access.Answer.TheVariants.{Address, Status}
 use Rattle.tlb.specs.declared.access.Kind.TheVariants.{Read, Write, Fetch}
-use Rattle.tlb.specs.declared.hint.HintAnswer.TheVariants.{At, Unknown}
 use Rattle.tlb.specs.declared.resolve.Asked.TheVariants.{Flat, Of}
 use Rattle.tlb.specs.declared.resolve.Source.TheVariants.{FromHint, FromFlat, FromEntry, FromWalk, NoLeaf}
 use Rattle.mmu.specs.Core.{bankNow, afterAccess}
@@ -298,10 +299,10 @@ module _ (c : Core) (memory : ℕ → Word) (va : ℕ) where
   unfolding fetchAnsweredOf fetchOf fetchWith fetchEnd fetchApplied missOf
   fetch-right = go (fetchFound c.tlb.cache.fetch c.privilege.level va) refl
     where
-      go : (p : HintAnswer) → fetchFound c.tlb.cache.fetch c.privilege.level va ≡ p
+      go : (p : (Option ℕ)) → fetchFound c.tlb.cache.fetch c.privilege.level va ≡ p
           → Fetches (fetchTranslationAt p (look Fetch) (missBy (look Fetch).asked (look Fetch).bank c.privilege c.tlb.cache.current
           (pageIn c va Fetch).entry va Fetch memory) va)
-      go (At pa) e =
+      go (Some pa) e =
           let turn : fetchTurn ≡ record {
             counts = c.tlb.counts;
             fetch = c.tlb.cache.fetch;
@@ -312,7 +313,7 @@ module _ (c : Core) (memory : ℕ → Word) (va : ℕ) where
             ap (λ (t : FetchTranslation). t.answer) (sym turn) ∙ fetch-own.0,
             none-changed c (look Fetch) ∙ sym (same-core c (i₀ Fetch) slot) ∙ hint-back _ _ _ ∙ ap fetchPut (sym turn) ∙ fetch-own.1,
           )
-      go Unknown e =
+      go None e =
           let turn : fetchTurn ≡ fetchApplied (misses Fetch slot) c.privilege.level c.tlb.counts c.tlb.cache.fetch
           (entry_at c.tlb.cache slot) va = rw e in
           subst (λ (t : Resolved). Fetches (fetchTranslationBy (look Fetch) t va)) (sym (asked_is Fetch)) (

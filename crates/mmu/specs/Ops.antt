@@ -1,5 +1,6 @@
 -- The core's operations on memory: answer, core and RAM of each. Exact definitions, on the code's own types. What they
 -- mean: `OpSays`, the answers; `OpLaws`, what stays as it was; `ByteMeaning`, each byte that moves.
+use Rattle.mmu.specs.Results.{Stepped, Located, Translated, Accessed, Loaded, Stored, Fetched, Addressed}
 use Rattle.std.specs.Prelude.{ℕ, List}
 use Rattle.word.specs.Ram.{word_at}
 use Rattle.word.specs.declared.ram.Word.{Word}
@@ -8,9 +9,7 @@ use Rattle.tlb.specs.declared.access.Kind.TheVariants.{Read, Write}
 use Rattle.mmu.specs.Core.{afterAccess, bankNow}
 use Rattle.operations.specs.Ends.{loadEnd, storeEnd, storeRamEnd, fetchEnd, reachedBy}
 use Rattle.mmu.specs.Step.{translateIn, translateFetchIn, locatedOf}
-use Rattle.mmu.specs.declared.{core_state.Core.Core, step.Stepped.Stepped, step.Located.Located}
-use Rattle.mmu.specs.declared.{ops.Translated.Translated, ops.Accessed.Accessed, ops.Loaded.Loaded}
-use Rattle.mmu.specs.declared.{ops.Stored.Stored, ops.Fetched.Fetched, ops.Addressed.Addressed}
+use Rattle.mmu.specs.declared.core_state.Core.{Core}
 use Rattle.operations.specs.declared.{ends.LoadEnd.LoadEnd, ends.StoreEnd.StoreEnd, ends.FetchEnd.FetchEnd}
 
 -- its translations: on its own registers, level and cache
@@ -33,6 +32,9 @@ translatedBy c a = record { core = withTlb c a.tlb; answer = a.answer }
 
 unfoldable pub translateOf : Core → (ℕ → Word) → ℕ → Kind → Translated
 translateOf c memory va kind = translatedBy c (steppedNow c memory va kind)
+
+unfoldable pub translateFetchOf : Core → (ℕ → Word) → ℕ → Translated
+translateFetchOf c memory va = translatedBy c (fetchSteppedNow c memory va)
 
 abbrev pub accessedBy : Core → Located → Accessed
 accessedBy c a = record { core = withTlb c a.tlb; placed = a.placed }

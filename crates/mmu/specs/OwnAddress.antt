@@ -1,5 +1,6 @@
 -- Where each byte of an access lies, by the byte's own address: byte i of an access to va stands at the virtual address
 -- wrap (va + i), and in RAM where the translation of that address says, split or not.
+use Rattle.mmu.specs.Results.{Stepped}
 use Rattle.std.specs.Prelude.{◌≡◌, ℕ, ◌+◌, ◌-◌, ◌/◌, ◌%◌, ◌^◌, ◌<◌, ◌≤◌, Bool, true, false, List, length, ◌==◌, ◌≢◌, nat_lt}
 use Rattle.std.proofs.Math.Path.{refl}
 use Rattle.std.proofs.Common.{sym, ap, subst, ◌∙◌, arith, ltb-true, ltb-false, lt-ltb, eq-eqb, ne_eqb}
@@ -22,7 +23,7 @@ use Rattle.mmu.specs.PageLaws.{answerAt, step-page, step-offset}
 use Rattle.mmu.specs.Step.{onePage, bothPages, translateIn, locatedOf}
 use Rattle.mmu.specs.Ops.{steppedNow, locatedNow, translateOf}
 use Rattle.mmu.specs.OpLaws.{onNow}
-use Rattle.mmu.specs.declared.{core_state.Core.Core, step.Stepped.Stepped}
+use Rattle.mmu.specs.declared.core_state.Core.{Core}
 use Rattle.operations.specs.declared.place.Place.{Place}
 use Rattle.operations.specs.declared.place.Place.TheVariants.{Whole, Split}
 use Rattle.operations.specs.declared.place.Placed.TheVariants.{At, Fault}

@@ -1,4 +1,5 @@
 -- Once a page was given an address, the cache gives it again to the same level, mark and kind, whatever the tables then hold.
+use Rattle.mmu.specs.Results.{Stepped}
 use Rattle.std.specs.Prelude.{◌≡◌, ℕ, ◌+◌, ◌*◌, ◌/◌, ◌%◌, ◌<◌, Bool, true, false, ◌&&◌, ◌||◌, length, ◌==◌, bit_or, slice_set}
 use Rattle.std.specs.Prelude.{refl}
 use Rattle.std.proofs.Math.Path.{sym, ap}
@@ -25,11 +26,11 @@ use Rattle.tlb.specs.Resolve.{queryOf, entryFor, byWalk, resolveWith}
 use Rattle.tlb.specs.Translate.{missWith, applied, translationWith, walkNow}
 use Rattle.tlb.specs.declared.{access.Kind.Kind, access.Privilege.Privilege, access.Answer.Answer, cache.Cache.Cache}
 use Rattle.tlb.specs.declared.{count.Counts.Counts, entry.Entry.Entry, entry.Current.Current, hint.Hint.Hint}
-use Rattle.tlb.specs.declared.{cells.Translation.Translation, Tlb.Tlb}
+use Rattle.tlb.specs.declared.Tlb.{Tlb}
+use Rattle.tlb.specs.Translate.{Translation}
 use Rattle.tlb.specs.declared.access.Kind.TheVariants.{Read, Write, Fetch}
 use Rattle.tlb.specs.declared.access.Answer.TheVariants.{Address, Status}
 use Rattle.mmu.specs.Step.{slot_at, translateIn}
-use Rattle.mmu.specs.declared.step.Stepped.{Stepped}
 use Rattle.mmu.specs.PageLaws.{by-hint, by-miss, by-flat, by-entry, by-walk, hits, hint-aligned, entry-aligned}
 
 -- WHAT A TRANSLATION LEAVES IN ITS CELLS

@@ -22,7 +22,8 @@ use Rattle.tlb.specs.Resolve.{queryOf, entryFor, byWalk, resolveWith}
 use Rattle.tlb.specs.Translate.{missWith, applied, translationWith, walkNow}
 use Rattle.tlb.specs.declared.{access.Kind.Kind, access.Privilege.Privilege, access.Answer.Answer, count.Counts.Counts}
 use Rattle.tlb.specs.declared.{entry.Entry.Entry, entry.Current.Current, hint.Hint.Hint, resolve.Query.Query}
-use Rattle.tlb.specs.declared.{resolve.Resolved.Resolved, cells.Translation.Translation, Tlb.Tlb}
+use Rattle.tlb.specs.declared.{resolve.Resolved.Resolved, Tlb.Tlb}
+use Rattle.tlb.specs.Translate.{Translation}
 use Rattle.tlb.specs.declared.access.Answer.TheVariants.{Address, Status}
 use Rattle.mmu.specs.Step.{slot_at, translateIn}
 

@@ -1,5 +1,6 @@
 -- The translations of a load or a store as their changes leave the cache that the operation's translations leave, on plain values.
-use Rattle.std.specs.Prelude.{◌≡◌, ℕ, zero, suc, ◌%◌, ◌<◌, Bool, true, false, ◌&&◌, T as Holds, List, length, get_or, set, ◌==◌, slice_index_or, slice_set}
+use Rattle.mmu.specs.Results.{Located, Stepped}
+use Rattle.std.specs.Prelude.{◌≡◌, ℕ, zero, suc, ◌%◌, ◌<◌, Bool, true, false, ◌&&◌, T as Holds, List, length, get_or, ◌==◌, slice_index_or, slice_set}
 use Rattle.std.proofs.Math.Path.{refl, ap}
 use Rattle.std.proofs.Common.{sym, subst, ◌∙◌, arith, ne_eqb, eqb→eq, get_or-set_same, get_or-set_other}
 use Rattle.std.proofs.lemmas.Bool.{eqb-false}
@@ -18,7 +19,7 @@ use Rattle.mmu.specs.Core.{bankNow, afterAccess}
 use Rattle.mmu.specs.Ops.{steppedNow, locatedNow, translateOf, translateAccessOf}
 use Rattle.operations.specs.Place.{nextPage, crosses, goesOn, placedBoth}
 use Rattle.mmu.specs.Step.{translateIn, locatedOf, onePage, bothPages}
-use Rattle.mmu.specs.declared.{core_state.Core.Core, step.Located.Located, step.Stepped.Stepped}
+use Rattle.mmu.specs.declared.core_state.Core.{Core}
 use Rattle.operations.specs.Loads.{moreOf, oneTranslation, twoTranslations, bothOf}
 use Rattle.operations.specs.Change.{keptAs, entryPlace, answeredOf, unchanged, hintLeft, entryLeft, pageAfter, missBy, answeredBy}
 use Rattle.mmu.specs.Parts.{lookupIn, pageIn, coreWith, keptIn, commitIn}

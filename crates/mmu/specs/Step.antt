@@ -1,6 +1,7 @@
 -- Translations as steps of a cache, on the registers, the level and the RAM of the moment. Exact definitions, on the
 -- code's own types. What they mean: `Asks`, which translations an access makes; `PageLaws`, that they go by pages;
 -- `OwnAddress`, where each byte then lies.
+use Rattle.mmu.specs.Results.{Stepped, Located}
 use Rattle.std.specs.Prelude.{ℕ}
 use Rattle.word.specs.Bits.{pick}
 use Rattle.word.specs.declared.ram.Word.{Word}
@@ -13,7 +14,6 @@ use Rattle.tlb.specs.Step.{accessOf, translationIn, tlbAfter, fetchIn, fetchedIn
 use Rattle.tlb.specs.declared.{access.Kind.Kind, access.Privilege.Privilege, access.Answer.Answer, Tlb.Tlb}
 use Rattle.tlb.specs.declared.access.Kind.TheVariants.{Fetch}
 use Rattle.operations.specs.Place.{nextPage, crosses, goesOn, placedOne, placedBoth}
-use Rattle.mmu.specs.declared.{step.Stepped.Stepped, step.Located.Located}
 
 -- the slot of the entry that may serve an address
 abbrev pub slot_at : Bank → ℕ → ℕ → ℕ

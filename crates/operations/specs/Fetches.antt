@@ -1,13 +1,13 @@
 -- The work of a fetch, on small values. Cited by the contracts of this crate alone.
+use Rattle.std.specs.Prelude.{Some, Option, None}
 use Rattle.std.specs.Prelude.{ℕ, zero, suc, true, false, List, length}
 use Rattle.word.specs.Ram.{word_at}
 use Rattle.word.specs.declared.ram.Word.{Word}
 use Rattle.tlb.specs.Hint.{fetchFound}
 use Rattle.tlb.specs.declared.access.Answer.TheVariants.{Address}
 use Rattle.tlb.specs.declared.access.Kind.TheVariants.{Fetch}
-use Rattle.tlb.specs.declared.{access.Privilege.Privilege, hint.FetchHint.FetchHint, hint.HintAnswer.HintAnswer}
+use Rattle.tlb.specs.declared.{access.Privilege.Privilege, hint.FetchHint.FetchHint}
 use Rattle.tlb.specs.declared.resolve.Resolved.{Resolved}
-use Rattle.tlb.specs.declared.hint.HintAnswer.TheVariants.{At, Unknown}
 use Rattle.operations.specs.Bytes.{insnOf}
 use Rattle.operations.specs.Ends.{fetchEnd}
 use Rattle.operations.specs.declared.{bytes.Insn.Insn, ends.FetchEnd.FetchEnd, change.Hinted.Hinted}
@@ -24,9 +24,9 @@ abbrev pub quickInsn : Insn → Fast
 quickInsn (Insn.Value v) = record { ends = true; reply = Value v }
 quickInsn Insn.Outside = record { ends = false; reply = Done }
 
-abbrev pub fastFetchBy : ℕ → HintAnswer → ℕ → List ℕ → Fast
-fastFetchBy zero (At pa) base ram = quickInsn (insnOf base ram pa)
-fastFetchBy zero Unknown base ram = record { ends = false; reply = Done }
+abbrev pub fastFetchBy : ℕ → (Option ℕ) → ℕ → List ℕ → Fast
+fastFetchBy zero (Some pa) base ram = quickInsn (insnOf base ram pa)
+fastFetchBy zero None base ram = record { ends = false; reply = Done }
 fastFetchBy (suc n) found base ram = record { ends = true; reply = Refused (suc n) }
 
 unfoldable pub fastFetch : Privilege → FetchHint → ℕ → List ℕ → ℕ → Fast
@@ -37,9 +37,9 @@ fastFetch privilege f base ram va =
 abbrev pub hintEndAt : FetchEnd → HintEnd
 hintEndAt e = record { ends = true; abort_pa = e.abort_pa; reply = fetching e.answer }
 
-abbrev pub hintEndBy : HintAnswer → ℕ → ℕ → List ℕ → ℕ → HintEnd
-hintEndBy (At pa) abort base ram va = hintEndAt (fetchEnd (Address pa) abort base ram va)
-hintEndBy Unknown abort base ram va = record { ends = false; abort_pa = abort; reply = Done }
+abbrev pub hintEndBy : (Option ℕ) → ℕ → ℕ → List ℕ → ℕ → HintEnd
+hintEndBy (Some pa) abort base ram va = hintEndAt (fetchEnd (Address pa) abort base ram va)
+hintEndBy None abort base ram va = record { ends = false; abort_pa = abort; reply = Done }
 
 unfoldable pub hintEndOf : Hinted → ℕ → List ℕ → ℕ → HintEnd
 hintEndOf g base ram va = hintEndBy (fetchFound g.fetch g.privilege.level va) g.abort_pa base ram va
@@ -48,9 +48,9 @@ hintEndOf g base ram va = hintEndBy (fetchFound g.fetch g.privilege.level va) g.
 abbrev pub fetchTranslationBy : Lookup → Resolved → ℕ → Answered
 fetchTranslationBy k t va = record { change = fetchChangeOf k t va; answer = t.answer }
 
-abbrev pub fetchTranslationAt : HintAnswer → Lookup → Resolved → ℕ → Answered
-fetchTranslationAt (At pa) k t va = record { change = unchanged k; answer = Address pa }
-fetchTranslationAt Unknown k t va = fetchTranslationBy k t va
+abbrev pub fetchTranslationAt : (Option ℕ) → Lookup → Resolved → ℕ → Answered
+fetchTranslationAt (Some pa) k t va = record { change = unchanged k; answer = Address pa }
+fetchTranslationAt None k t va = fetchTranslationBy k t va
 
 unfoldable pub fetchAnsweredOf : FetchHint → Page → ℕ → (ℕ → Word) → Answered
 fetchAnsweredOf f x va memory =

@@ -16,7 +16,7 @@ use tlb::count::Tally;
 use tlb::entry::{Current, Entry};
 use tlb::hint::{FetchHint, Hint};
 use tlb::resolve::{Asked, Resolved, Source};
-use tlb::{access, count, hint, resolve};
+use tlb::{hint, resolve};
 use walk::regime::Bank;
 
 // Who asks, the registers of its regime, what is asked of the cache, and where the cells of the page lie.
@@ -143,12 +143,13 @@ fn effect_of(source: Source) -> u8
 pub fn taken(effect: u8, t: Tally) -> Tally
     ensures { result ≡ takenAs effect t }
 {
+    let mut n = t;
     match effect {
-        1 => count::taken_hit(t),
-        2 => count::taken_walk(t),
-        3 => count::taken_walk(t),
-        _ => t,
+        1 => n.add_hit(),
+        2 | 3 => n.add_walk(),
+        _ => {}
     }
+    n
 }
 
 fn is_address(answer: Answer) -> bool
@@ -188,7 +189,7 @@ pub fn miss(
     let asked = k.asked;
     match asked {
         Asked::Flat => {
-            let made = tlb::entry::blank();
+            let made = Entry::blank();
             Resolved {
                 answer: Answer::Address(va),
                 source: Source::FromFlat,
@@ -203,9 +204,9 @@ pub fn miss(
 pub fn unchanged(k: Lookup) -> Change
     ensures { result ≡ unchanged k }
 {
-    let hint = hint::no_hint();
-    let fetch = hint::no_fetch();
-    let made = tlb::entry::blank();
+    let hint = Hint::none();
+    let fetch = FetchHint::none();
+    let made = Entry::blank();
     Change {
         hint_at: k.hint,
         entry_at: k.entry,
@@ -226,12 +227,12 @@ fn change_of(k: Lookup, t: Resolved, va: u64, kind: Kind) -> Change
     let answer = t.answer;
     let source = t.source;
     let made = t.made;
-    let may = access::may_hint(privilege, kind);
+    let may = privilege.may_hint(kind);
     let is = is_address(answer);
     let pa = address_of(answer);
-    let hint = hint::hint_for(va, privilege.level, pa);
+    let hint = Hint::new(va, privilege.level, pa);
     let effect = effect_of(source);
-    let fetch = hint::no_fetch();
+    let fetch = FetchHint::none();
     Change {
         hint_at: k.hint,
         entry_at: k.entry,
@@ -254,8 +255,8 @@ pub fn fetch_change_of(k: Lookup, t: Resolved, va: u64) -> Change
     let is = is_address(answer);
     let pa = address_of(answer);
     let effect = effect_of(source);
-    let hint = hint::no_hint();
-    let fetch = hint::fetch_for(va, k.privilege.level, pa);
+    let hint = Hint::none();
+    let fetch = FetchHint::new(va, k.privilege.level, pa);
     Change {
         hint_at: k.hint,
         entry_at: k.entry,

@@ -9,8 +9,7 @@ use crate::change::{Answered, Change, Hinted, Page};
 use crate::hinted::Fast;
 use crate::{bytes, change, check, ends, reply};
 use tlb::access::{Answer, Kind};
-use tlb::hint;
-use tlb::hint::{FetchHint, HintAnswer};
+use tlb::hint::FetchHint;
 
 // What a fetch changes, the addresses that it keeps, and its reply.
 #[derive(Clone, Copy)]
@@ -43,8 +42,8 @@ pub fn at_once(g: Hinted, base: u64, ram: &[u8], va: u64) -> Fast
             reply: Reply::Refused(n),
         };
     }
-    match hint::fetch_found(f, privilege.level, va) {
-        HintAnswer::At(pa) => match bytes::insn_at(base, ram, pa) {
+    match f.find(privilege.level, va) {
+        Some(pa) => match bytes::insn_at(base, ram, pa) {
             Insn::Value(v) => Fast {
                 ends: true,
                 reply: Reply::Value(v as u64),
@@ -54,7 +53,7 @@ pub fn at_once(g: Hinted, base: u64, ram: &[u8], va: u64) -> Fast
                 reply: Reply::Done,
             },
         },
-        HintAnswer::Unknown => Fast {
+        None => Fast {
             ends: false,
             reply: Reply::Done,
         },
@@ -67,8 +66,8 @@ pub fn by_hint(g: Hinted, base: u64, ram: &[u8], va: u64) -> HintEnd
     ensures { result ≡ hintEndOf g base ram.now va }
 {
     let f = g.fetch;
-    match hint::fetch_found(f, g.privilege.level, va) {
-        HintAnswer::At(pa) => {
+    match f.find(g.privilege.level, va) {
+        Some(pa) => {
             let e = ends::fetch_end(Answer::Address(pa), g.abort_pa, base, ram, va);
             let answer = e.answer;
             let reply = reply::fetched(answer);
@@ -78,7 +77,7 @@ pub fn by_hint(g: Hinted, base: u64, ram: &[u8], va: u64) -> HintEnd
                 reply,
             }
         }
-        HintAnswer::Unknown => HintEnd {
+        None => HintEnd {
             ends: false,
             abort_pa: g.abort_pa,
             reply: Reply::Done,
@@ -94,15 +93,15 @@ fn resolve_page(f: FetchHint, x: Page, va: u64, base: u64, ram: &[u8]) -> Answer
     let k = x.lookup;
     let at = x.current;
     let e = x.entry;
-    match hint::fetch_found(f, k.privilege.level, va) {
-        HintAnswer::At(pa) => {
+    match f.find(k.privilege.level, va) {
+        Some(pa) => {
             let change = change::unchanged(k);
             Answered {
                 change,
                 answer: Answer::Address(pa),
             }
         }
-        HintAnswer::Unknown => {
+        None => {
             let t = change::miss(k, at, e, va, Kind::Fetch, base, ram);
             let change = change::fetch_change_of(k, t, va);
             let answer = t.answer;

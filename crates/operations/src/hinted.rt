@@ -9,7 +9,7 @@ use crate::change::Hinted;
 use crate::{check, lookup, place};
 use tlb::access::{Answer, Kind, Privilege};
 use tlb::hint::Hint;
-use tlb::{access, hint};
+use tlb::hint;
 use walk::regime::Bank;
 use word::ram;
 use word::ram::Sized;
@@ -46,7 +46,7 @@ pub fn hint_place(va: u64, kind: Kind) -> usize
 pub fn served(h: Hint, privilege: Privilege, va: u64, kind: Kind) -> bool
     ensures { result ≡ hintServes h privilege va kind }
 {
-    let may = access::may_hint(privilege, kind);
+    let may = privilege.may_hint(kind);
     let key = hint::hint_key(va, privilege.level);
     may & (h.key == key)
 }

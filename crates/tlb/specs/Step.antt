@@ -8,10 +8,10 @@ use Rattle.tlb.specs.Hint.{dataSlot}
 use Rattle.tlb.specs.Cache.{entry_at, hintAt, setEntry, setHint, setFetch}
 use Rattle.tlb.specs.Tlb.{tlbWith}
 use Rattle.tlb.specs.Access.{tag_of}
-use Rattle.tlb.specs.Translate.{onNow, untaggedNow, walkNow, translationWith, fetchWith, translationOf, fetchOf}
+use Rattle.tlb.specs.Translate.{Translation, FetchTranslation, onNow, untaggedNow, walkNow, missWith, translationWith, fetchWith, translationOf, fetchOf}
+use Rattle.tlb.specs.Resolve.{countedBy, keptBy}
 use Rattle.tlb.specs.Model.{Access}
-use Rattle.tlb.specs.declared.{access.Kind.Kind, access.Privilege.Privilege, cells.Translation.Translation}
-use Rattle.tlb.specs.declared.{cells.FetchTranslation.FetchTranslation, Tlb.Tlb}
+use Rattle.tlb.specs.declared.{access.Kind.Kind, access.Privilege.Privilege, resolve.Resolved.Resolved, Tlb.Tlb}
 use Rattle.tlb.specs.declared.access.Kind.TheVariants.{Fetch}
 
 -- the access that registers and tables make of an address
@@ -40,6 +40,15 @@ withTranslation t place slot r = tlbWith t (setHint (setEntry t.cache slot r.ent
 
 abbrev pub withFetch : Tlb → ℕ → FetchTranslation → Tlb
 withFetch t slot r = tlbWith t (setFetch (setEntry t.cache slot r.entry) r.fetch) r.counts
+
+-- a translation that no hint serves, and what it leaves
+abbrev pub missIn : Access → Tlb → Resolved
+missIn a t = missWith a.on a.untagged a.walk a.regime a.privilege t.cache.current (entry_at t.cache (slotFor a)) a.va a.kind
+
+abbrev pub afterMiss : Access → Tlb → Tlb
+afterMiss a t =
+    tlbWith t (setEntry t.cache (slotFor a) (keptBy (missIn a t).source (entry_at t.cache (slotFor a)) (missIn a t).made))
+    (countedBy (missIn a t).source a.privilege.level t.counts)
 
 -- the translation of an access in a cache, and what it leaves
 abbrev pub translationIn : Access → Tlb → Translation

@@ -10,7 +10,7 @@ use Rattle.tlb.specs.Cache.{entry_at, hintAt, setEntry, setHint, setFetch}
 use Rattle.tlb.specs.Tlb.{tlbWith}
 use Rattle.tlb.specs.Access.{mayHint}
 use Rattle.tlb.specs.Resolve.{countedBy, keptBy, hintAfter}
-use Rattle.tlb.specs.Translate.{missWith, applied, translationWith, fetchApplied, fetchEnd, fetchWith}
+use Rattle.tlb.specs.Translate.{Translation, FetchTranslation, missWith, applied, translationWith, fetchApplied, fetchEnd, fetchWith}
 use Rattle.tlb.specs.Model.{Slot, empty, holds, Known, folded, hintPlace, keepHint, keepFetch, Access, Outcome, known_of, unhinted, noted, tried, hinted}
 use Rattle.tlb.specs.Model.{translate, notedFetch, fetched, fetch}
 use Rattle.tlb.specs.Live.{Follows, hintOf, hintsOf, countersOf, live, Aligned, Sound, WellFormed, LeafLevel}
@@ -19,8 +19,7 @@ use Rattle.tlb.specs.Refines.{falsely}
 use Rattle.tlb.specs.Step.{placeFor, slotFor, withTranslation, withFetch, translationIn, tlbAfter, fetchIn, fetchedIn}
 use Rattle.tlb.specs.declared.{access.Kind.Kind, hint.Hint.Hint, hint.FetchHint.FetchHint, cache.Cache.Cache}
 use Rattle.tlb.specs.declared.{access.Privilege.Privilege, access.Answer.Answer, resolve.Resolved.Resolved}
-use Rattle.tlb.specs.declared.{count.Counts.Counts, entry.Entry.Entry, cells.Translation.Translation}
-use Rattle.tlb.specs.declared.{cells.FetchTranslation.FetchTranslation, Tlb.Tlb}
+use Rattle.tlb.specs.declared.{count.Counts.Counts, entry.Entry.Entry, Tlb.Tlb}
 use Rattle.tlb.specs.declared.access.Kind.TheVariants.{Read, Write, Fetch}
 use Rattle.tlb.specs.declared.access.Answer.TheVariants.{Address, Status}
 use Rattle.tlb.specs.declared.resolve.Source.TheVariants.{FromHint}
