@@ -1,4 +1,5 @@
 -- Loads and stores by number, on plain values, for `search`.
+use Rattle.std.specs.Prelude.{Option, Some, None}
 use mathlib.Core.Path.{◌≡◌, refl, sym, ap, ◌∙◌}
 use mathlib.Core.Bool.{Bool, true, false, ◌&&◌}
 use mathlib.Core.List.{List}
@@ -9,10 +10,8 @@ use borrow.Author.Tests.{le-ltb}
 use lib.ListN.{length}
 use Rattle.word.specs.Bits.{wrap}
 use Rattle.word.specs.Ram.{word_at, bytesIn, width_of, within, stored}
-use Rattle.word.specs.declared.{ram.Width.Width, ram.Sized.Sized, ram.Word.Word}
+use Rattle.word.specs.declared.ram.Width.{Width}
 use Rattle.word.specs.declared.ram.Width.TheVariants.{Byte, Half, Word as Single, Double}
-use Rattle.word.specs.declared.ram.Sized.TheVariants.{Bytes}
-use Rattle.word.specs.declared.ram.Word.TheVariants as Word
 use Rattle.walk.specs.Regime.{regimeOf, stage1On}
 use Rattle.tlb.specs.declared.{access.Kind.Kind, access.Answer.Answer, hint.HintAnswer.HintAnswer}
 use Rattle.tlb.specs.declared.access.Kind.TheVariants.{Read, Write}
@@ -63,14 +62,14 @@ first_byte : (va : ℕ) → va < 2 ^ 64 → va ≡ wrap (va + 0)
 first_byte va h = let z : va + 0 ≡ va = omega arith in sym (ap wrap z ∙ mod-eq_of_lt h)
 
 module _ (ws : List ℕ) (base : ℕ) (ram : List ℕ) (va n pa old : ℕ) where
-  module _ (w : Word) (ew : w ≡ word_at base ram n pa) where
-    pub at_value : (v : ℕ) (xs : List ℕ) → w ≡ Word.Value v → NowHolds ws xs (with_last (core_of ws) pa)
+  module _ (w : Option ℕ) (ew : w ≡ word_at base ram n pa) where
+    pub at_value : (v : ℕ) (xs : List ℕ) → w ≡ Some v → NowHolds ws xs (with_last (core_of ws) pa)
         → Tells (loadEnds (core_of ws) (At (Whole pa)) base ram va n) ws 0 old v xs
     unfolding loadEnds loadEnd keptLast with_last withAbort afterAccess
     at_value v xs e m =
         rw (sym (whole-value base ram pa n w v ew e)) (record { code = refl; value = refl; words = m; kept = record { same = λ l h. absurd (omega arith) } })
 
-    pub at-outside : (xs ys : List ℕ) → w ≡ Word.Outside → va < 2 ^ 64 → NowHolds ws xs (with_last (core_of ws) pa) → NowHolds xs ys (withAbort (core_of xs) pa)
+    pub at-outside : (xs ys : List ℕ) → w ≡ None → va < 2 ^ 64 → NowHolds ws xs (with_last (core_of ws) pa) → NowHolds xs ys (withAbort (core_of xs) pa)
         → Tells (loadEnds (core_of ws) (At (Whole pa)) base ram va n) ws (256 + 0x10) old va ys
     unfolding loadEnds loadEnd keptLast
     at-outside xs ys e h m q =
@@ -99,7 +98,7 @@ goes-not : (a : Answer) → goesOn a false ≡ false
 goes-not (Address pa) = refl
 goes-not (Status fsc) = refl
 
-width-of : (w : Width) → width_of (bytesIn w) ≡ Bytes w
+width-of : (w : Width) → width_of (bytesIn w) ≡ Some w
 width-of Byte = refl
 width-of Half = refl
 width-of Single = refl
@@ -130,7 +129,7 @@ module _ (c : Core) (base : ℕ) (ram : List ℕ) (va : ℕ) (w : Width) (near :
   load-run et =
       let l = placed-is Read et in
       let q = load-parts c base ram va (bytesIn w) (placedOne va a) d (sym (ap (λ (x : Accessed). x.placed) l)) (sym (ap (λ (x : Accessed). x.core) l)) in
-      (λ i. ends (q.1 i) (loading (q.0 i))) ∙ sym (ap (λ (s : Sized). loadBy s c base ram va) (width-of w))
+      (λ i. ends (q.1 i) (loading (q.0 i))) ∙ sym (ap (λ (s : Option Width). loadBy s c base ram va) (width-of w))
 
   store-run : (v : ℕ) → translateOf c (word_at base ram 8) va Write ≡ answering d a
       → (storeEnds d (placedOne va a) base ram va (bytesIn w) ≡ run_of c base ram (Call.Store va (bytesIn w) v))
@@ -140,8 +139,8 @@ module _ (c : Core) (base : ℕ) (ram : List ℕ) (va : ℕ) (w : Width) (near :
       let l = placed-is Write et in
       let q = store-parts c base ram va (bytesIn w) v (placedOne va a) d (sym (ap (λ (x : Accessed). x.placed) l))
       (sym (ap (λ (x : Accessed). x.core) l)) in (
-        (λ i. ends (q.1.1 i) (storing (q.0 i))) ∙ sym (ap (λ (s : Sized). storeBy s c base ram va) (width-of w)),
-        q.1.0 ∙ sym (ap (λ (s : Sized). storeRamBy s c base ram va v) (width-of w)),
+        (λ i. ends (q.1.1 i) (storing (q.0 i))) ∙ sym (ap (λ (s : Option Width). storeBy s c base ram va) (width-of w)),
+        q.1.0 ∙ sym (ap (λ (s : Option Width). storeRamBy s c base ram va v) (width-of w)),
       )
 
 ram-at : (base : ℕ) (ram : List ℕ) (n pa v : ℕ) → stored base ram n pa v ≡ storeRamEnd (At (Whole pa)) base ram n v
@@ -304,4 +303,4 @@ module _ (ws xs : List ℕ) (base : ℕ) (ram : List ℕ) (va : ℕ) (w : Width)
 pub write-ram : (ws : List ℕ) (base : ℕ) (ram : List ℕ) (va : ℕ) (w : Width) (x : ℕ) (ys : List ℕ) → ys ≡ ramAfterWrite (core_of ws) base ram va (bytesIn w) x
     → ys ≡ ramOf (core_of ws) base ram (Call.Store va (bytesIn w) x)
 unfolding ramOf
-write-ram ws base ram va w x ys e = e ∙ sym (ap (λ (s : Sized). storeRamBy s (core_of ws) base ram va x) (width-of w))
+write-ram ws base ram va w x ys e = e ∙ sym (ap (λ (s : Option Width). storeRamBy s (core_of ws) base ram va x) (width-of w))

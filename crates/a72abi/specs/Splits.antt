@@ -1,8 +1,6 @@
 -- What only private contracts cite: accesses over two pages whose hints both serve and whose bytes lie in RAM.
-use Rattle.std.specs.Prelude.{Bool, true, false, List, ℕ, length}
+use Rattle.std.specs.Prelude.{Bool, true, false, List, ℕ, length, Option, Some, None}
 use Rattle.word.specs.Bits.{pick}
-use Rattle.word.specs.declared.ram.Word.{Word}
-use Rattle.word.specs.declared.ram.Word.TheVariants as Word
 use Rattle.walk.specs.Regime.{regimeOf, stage1On}
 use Rattle.tlb.specs.declared.access.Kind.TheVariants.{Read, Write}
 use Rattle.tlb.specs.declared.hint.HintAnswer.{HintAnswer}
@@ -24,9 +22,9 @@ apartOf c base len va n = pick (clearOf c base len) (crosses (stage1On (bankNow 
 abbrev pub pagesAt : ℕ → ℕ → ℕ → Pages
 pagesAt va pa pa2 = record { in_page = inPage va; pa = pa; pa2 = pa2 }
 
-abbrev pub valueFrom : ℕ → Word → Split
-valueFrom pa (Word.Value v) = Split.Value pa v
-valueFrom pa Word.Outside = Split.Unknown
+abbrev pub valueFrom : ℕ → Option ℕ → Split
+valueFrom pa (Some v) = Split.Value pa v
+valueFrom pa None = Split.Unknown
 
 -- what the two hints say, where the access is apart
 unfoldable pub loadBoth : Bool → HintAnswer → HintAnswer → ℕ → ℕ → List ℕ → ℕ → Split

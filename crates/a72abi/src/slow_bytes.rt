@@ -21,7 +21,7 @@ use operations::{check, place};
 use tlb::access::Kind;
 use tlb::hint::HintAnswer;
 use word::ram;
-use word::ram::{Sized, Width, Word};
+use word::ram::Width;
 use words::place::State;
 use words::state;
 use words_memory::{access, translate};
@@ -50,11 +50,11 @@ fn load_at(
 {
     state::put_last(state, pa);
     match ram::read(base, ram, width, pa) {
-        Word::Value(v) => {
+        Some(v) => {
             *ans = v;
             0
         }
-        Word::Outside => {
+        None => {
             state::put_abort(state, pa);
             *ans = va;
             256 + 0x10
@@ -138,8 +138,8 @@ pub(crate) fn load(
     if n != 0 {
         return n as u64;
     }
-    match ram::width_of(size) {
-        Sized::Bytes(width) => {
+    match Width::of_size(size) {
+        Some(width) => {
             if place::in_page(va) < size {
                 return load_two(state, va, width, ans, base, ram);
             }
@@ -148,7 +148,7 @@ pub(crate) fn load(
                 HintAnswer::Unknown => load_page(state, va, size, ans, base, ram),
             }
         }
-        Sized::Refused => 3,
+        None => 3,
     }
 }
 
@@ -279,8 +279,8 @@ pub(crate) fn store(
     if n != 0 {
         return n as u64;
     }
-    match ram::width_of(size) {
-        Sized::Bytes(width) => {
+    match Width::of_size(size) {
+        Some(width) => {
             if place::in_page(va) < size {
                 return store_two(state, va, width, value, ans, base, ram);
             }
@@ -289,6 +289,6 @@ pub(crate) fn store(
                 HintAnswer::Unknown => store_page(state, va, size, value, ans, base, ram),
             }
         }
-        Sized::Refused => 3,
+        None => 3,
     }
 }

@@ -13,7 +13,6 @@ use operations::place::Pages;
 use operations::{bytes, place};
 use tlb::access::Kind;
 use tlb::hint::HintAnswer;
-use word::ram::Word;
 use words::place::State;
 use words_memory::{access, translate};
 
@@ -49,8 +48,8 @@ fn load_on(state: &State, va: u64, n: u64, pa: u64, base: u64, ram: &[u8]) -> Sp
         HintAnswer::At(pa2) => {
             let in_page = place::in_page(va);
             match bytes::read_both(base, ram, Pages { in_page, pa, pa2 }, n) {
-                Word::Value(v) => Split::Value { pa, v },
-                Word::Outside => Split::Unknown,
+                Some(v) => Split::Value { pa, v },
+                None => Split::Unknown,
             }
         }
         HintAnswer::Unknown => Split::Unknown,

@@ -1,37 +1,35 @@
 -- What holds of every census: each place counts what its name says, every page is counted once, adjoining ranges add up, and which places stay 0.
-use Rattle.std.specs.Prelude.{◌≡◌, ℕ, ◌+◌, ◌*◌, ◌/◌, ◌<◌, ◌≤◌, Bool, true, false, ◌⊎◌, ◌==◌, ◌≢◌, nat_eq, slice_index, refl}
+use Rattle.std.specs.Prelude.{◌≡◌, ℕ, ◌+◌, ◌*◌, ◌/◌, ◌<◌, ◌≤◌, Bool, true, false, ◌⊎◌, ◌==◌, ◌≢◌, nat_eq, slice_index, refl, Option, Ok, Err}
 use Rattle.std.proofs.Common.{sym, ap, ap₂, subst, ◌∙◌, ⊎_elim, arith, ne_eqb}
 use Rattle.word.specs.Bits.{alignDown, wrap}
-use Rattle.word.specs.declared.ram.Word.{Word}
 use Rattle.walk.specs.Regime.{stage1On}
 use Rattle.walk.specs.Table.{Fault as Kind, addressSize, translation, accessFlag, externalAbort, statusOf}
 use Rattle.walk.specs.Fresh.{fresh_of}
 use Rattle.walk.specs.FreshLaws.{SoundFresh, answer-sound, fresh_on, fresh-off}
 use Rattle.walk.specs.WalkBounds.{Status, Levelled, status-small}
 use Rattle.walk.specs.declared.{regime.Regime.Regime, regime.Bank.Bank, fresh.Fresh.Fresh}
-use Rattle.walk.specs.declared.level.Walked.TheVariants.{Mapped, Fault}
 use Rattle.walk.specs.declared.fresh.Fresh.TheVariants.{Flat, Ended}
 use Rattle.census.specs.Tally.{howMany, total, many-same, many-none, many-all, many-joins, shift-eqb, adds-up, at_place}
 use Rattle.census.specs.Count.{place_of, pageAt, placeAt, censusOf}
 
 -- every fresh answer has a place
 pub place-small : (x : Fresh) → SoundFresh x → place_of x < 129
-place-small (Ended (Fault status)) h = let k = status-small status h in omega arith
-place-small (Ended (Mapped leaf)) h = let k = h.perms in omega arith
+place-small (Ended (Err status)) h = let k = status-small status h in omega arith
+place-small (Ended (Ok leaf)) h = let k = h.perms in omega arith
 place-small (Flat pa) h = omega arith
 
 -- WHAT A FRESH ANSWER IS
 
 -- a fault of this status
 abbrev pub faultsWith : ℕ → Fresh → Bool
-faultsWith status (Ended (Fault n)) = n == status
-faultsWith status (Ended (Mapped leaf)) = false
+faultsWith status (Ended (Err n)) = n == status
+faultsWith status (Ended (Ok leaf)) = false
 faultsWith status (Flat pa) = false
 
 -- a leaf of this permission byte
 abbrev pub hasRights : ℕ → Fresh → Bool
-hasRights perms (Ended (Fault n)) = false
-hasRights perms (Ended (Mapped leaf)) = leaf.perms == perms
+hasRights perms (Ended (Err n)) = false
+hasRights perms (Ended (Ok leaf)) = leaf.perms == perms
 hasRights perms (Flat pa) = false
 
 abbrev pub isFlat : Fresh → Bool
@@ -39,8 +37,8 @@ isFlat (Ended w) = false
 isFlat (Flat pa) = true
 
 by-flat : (x : Fresh) → SoundFresh x → (place_of x == 128) ≡ isFlat x
-by-flat (Ended (Fault n)) k = let small = status-small n k in ne_eqb n 128 (λ e. omega arith)
-by-flat (Ended (Mapped leaf)) k = let small = k.perms in ne_eqb _ 128 (λ e. omega arith)
+by-flat (Ended (Err n)) k = let small = status-small n k in ne_eqb n 128 (λ e. omega arith)
+by-flat (Ended (Ok leaf)) k = let small = k.perms in ne_eqb _ 128 (λ e. omega arith)
 by-flat (Flat pa) k = refl
 
 -- NEVER
@@ -60,7 +58,7 @@ walks-none n never h = go h.fault h.level h.code
 
 -- A CENSUS
 
-module _ (s : Bank) (r : Regime) (memory : ℕ → Word) (first : ℕ) where
+module _ (s : Bank) (r : Regime) (memory : ℕ → Option ℕ) (first : ℕ) where
   -- how the i-th page ends with nothing cached
   abbrev pub end_at : ℕ → Fresh
   end_at i = fresh_of s r (pageAt first i) memory
@@ -80,16 +78,16 @@ module _ (s : Bank) (r : Regime) (memory : ℕ → Word) (first : ℕ) where
   status-count pages status h = count_at pages status (omega arith) ∙ many-same _ _ pages (λ i. here (end_at i) (sound-at i))
     where
       here : (x : Fresh) → SoundFresh x → (place_of x == status) ≡ faultsWith status x
-      here (Ended (Fault n)) k = refl
-      here (Ended (Mapped leaf)) k = ne_eqb _ status (λ e. omega arith)
+      here (Ended (Err n)) k = refl
+      here (Ended (Ok leaf)) k = ne_eqb _ status (λ e. omega arith)
       here (Flat pa) k = ne_eqb 128 status (λ e. omega arith)
 
   pub rights-count : (pages perms : ℕ) → perms < 64 → countAt pages (64 + perms) ≡ howMany (λ i. hasRights perms (end_at i)) pages
   rights-count pages perms h = count_at pages (64 + perms) (omega arith) ∙ many-same _ _ pages (λ i. here (end_at i) (sound-at i))
     where
       here : (x : Fresh) → SoundFresh x → (place_of x == 64 + perms) ≡ hasRights perms x
-      here (Ended (Fault n)) k = let small = status-small n k in ne_eqb n (64 + perms) (λ e. omega arith)
-      here (Ended (Mapped leaf)) k = shift-eqb 64 leaf.perms perms
+      here (Ended (Err n)) k = let small = status-small n k in ne_eqb n (64 + perms) (λ e. omega arith)
+      here (Ended (Ok leaf)) k = shift-eqb 64 leaf.perms perms
       here (Flat pa) k = ne_eqb 128 (64 + perms) (λ e. omega arith)
 
   pub flat-count : (pages : ℕ) → countAt pages 128 ≡ howMany (λ i. isFlat (end_at i)) pages
@@ -106,8 +104,8 @@ module _ (s : Bank) (r : Regime) (memory : ℕ → Word) (first : ℕ) where
       count_at pages status (omega arith) ∙ many-none _ pages (λ i. here (end_at i) (sound-at i))
     where
       here : (x : Fresh) → SoundFresh x → (place_of x == status) ≡ false
-      here (Ended (Fault k)) sound = ne_eqb k status (λ e. walks-none status never (subst Status e sound))
-      here (Ended (Mapped leaf)) sound = ne_eqb _ status (λ e. omega arith)
+      here (Ended (Err k)) sound = ne_eqb k status (λ e. walks-none status never (subst Status e sound))
+      here (Ended (Ok leaf)) sound = ne_eqb _ status (λ e. omega arith)
       here (Flat pa) sound = ne_eqb 128 status (λ e. omega arith)
 
   -- stage 1 off: every page is flat; on: none is
@@ -133,7 +131,7 @@ next-page first n i next e =
     shift : (a b c : ℕ) → wrap (a * 4096 + (b + c) * 4096) ≡ wrap (wrap ((a + b) * 4096) + c * 4096)
     shift a b c = omega arith
 
-pub joins : (s : Bank) (r : Regime) (memory : ℕ → Word) (first n m next j : ℕ) → next ≡ wrap (first + n * 4096) → j < 129
+pub joins : (s : Bank) (r : Regime) (memory : ℕ → Option ℕ) (first n m next j : ℕ) → next ≡ wrap (first + n * 4096) → j < 129
     → countAt s r memory first (n + m) j ≡ countAt s r memory first n j + countAt s r memory next m j
 joins s r memory first n m next j e h =
     count_at s r memory first (n + m) j h ∙ many-joins _ n m
@@ -141,7 +139,7 @@ joins s r memory first n m next j e h =
     (many-same _ _ m (λ i. ap (λ (va : ℕ). nat_eq (placeAt s r memory va) j) (next-page first n i next e)) ∙ sym (count_at s r memory next m j h))
 
 -- "The low twelve bits of the first address are dropped."
-pub low_bits : (s : Bank) (r : Regime) (memory : ℕ → Word) (first other pages : ℕ) → first / 4096 ≡ other / 4096
+pub low_bits : (s : Bank) (r : Regime) (memory : ℕ → Option ℕ) (first other pages : ℕ) → first / 4096 ≡ other / 4096
     → censusOf s r memory first pages ≡ censusOf s r memory other pages
 unfolding censusOf
 low_bits s r memory first other pages e = rw e

@@ -1,17 +1,15 @@
 -- Which permission bytes a leaf can have: fourteen, by the manual's tables of every attribute. So of the 64 places of permission bytes all others stay 0.
-use Rattle.std.specs.Prelude.{◌≡◌, ℕ, ◌+◌, ◌<◌, Bool, true, false, ◌&&◌, ◌||◌, List, [], ◌∷◌, ◌==◌, refl}
+use Rattle.std.specs.Prelude.{◌≡◌, ℕ, ◌+◌, ◌<◌, Bool, true, false, ◌&&◌, ◌||◌, List, [], ◌∷◌, ◌==◌, refl, Option, Ok, Err}
 use Rattle.std.proofs.Common.{sym, ap, ◌∙◌, arith, ne_eqb}
 use Rattle.word.specs.Bits.{flag, pick}
 use Rattle.word.specs.BitLaws.{both}
-use Rattle.word.specs.declared.ram.Word.{Word}
 use Rattle.walk.specs.Regime.{singlePriv, wxnOf, stage1On}
 use Rattle.walk.specs.Tag.{untagged}
 use Rattle.walk.specs.Table.{Result, mapped, faults, tableWalk}
 use Rattle.walk.specs.Permission.{permissionByte}
 use Rattle.walk.specs.Walk.{walkedOf, walk_of}
 use Rattle.walk.specs.Fresh.{fresh_of}
-use Rattle.walk.specs.declared.{regime.Regime.Regime, regime.Bank.Bank, rights.Permissions.Permissions, level.Walked.Walked}
-use Rattle.walk.specs.declared.level.Walked.TheVariants.{Mapped, Fault}
+use Rattle.walk.specs.declared.{regime.Regime.Regime, regime.Bank.Bank, rights.Permissions.Permissions}
 use Rattle.walk.specs.declared.fresh.Fresh.TheVariants.{Flat, Ended}
 use Rattle.walk.specs.FreshLaws.{SoundFresh}
 use Rattle.walk.specs.WalkBounds.{status-small}
@@ -19,6 +17,7 @@ use Rattle.walk.specs.declared.fresh.Fresh.{Fresh}
 use Rattle.census.specs.Tally.{many-none, shift-eqb}
 use Rattle.census.specs.Count.{place_of, pageAt}
 use Rattle.census.specs.Laws.{countAt, count_at, end_at, sound-at}
+use Rattle.walk.specs.Answers.{Walked}
 
 abbrev pub among : ℕ → List ℕ → Bool
 among n [] = false
@@ -59,10 +58,10 @@ unfolding fits
 permission-possible singlepriv wxn t = each_fits singlepriv wxn t.ap2 t.ap1 t.xn t.pxn
 
 abbrev Possible : Walked → Type 0
-Possible (Mapped leaf) = among leaf.perms possible ≡ true
-Possible (Fault n) = Unit {0}
+Possible (Ok leaf) = among leaf.perms possible ≡ true
+Possible (Err n) = Unit {0}
 
-walk-possible : (s : Bank) (r : Regime) (va : ℕ) (memory : ℕ → Word) → Possible (walk_of s r va memory)
+walk-possible : (s : Bank) (r : Regime) (va : ℕ) (memory : ℕ → Option ℕ) → Possible (walk_of s r va memory)
 unfolding walk_of
 walk-possible s r va memory = go (tableWalk s r va memory)
   where
@@ -81,7 +80,7 @@ abbrev PossibleFresh : Fresh → Type 0
 PossibleFresh (Ended w) = Possible w
 PossibleFresh (Flat pa) = Unit {0}
 
-fresh-possible : (s : Bank) (r : Regime) (va : ℕ) (memory : ℕ → Word) → PossibleFresh (fresh_of s r va memory)
+fresh-possible : (s : Bank) (r : Regime) (va : ℕ) (memory : ℕ → Option ℕ) → PossibleFresh (fresh_of s r va memory)
 unfolding fresh_of
 fresh-possible s r va memory = go (stage1On s r)
   where
@@ -89,7 +88,7 @@ fresh-possible s r va memory = go (stage1On s r)
     go true = walk-possible s r (untagged s.tcr r va) memory
     go false = tt
 
-pub no-other-rights : (s : Bank) (r : Regime) (memory : ℕ → Word) (first pages perms : ℕ) → perms < 64 → among perms possible ≡ false
+pub no-other-rights : (s : Bank) (r : Regime) (memory : ℕ → Option ℕ) (first pages perms : ℕ) → perms < 64 → among perms possible ≡ false
     → countAt s r memory first pages (64 + perms) ≡ 0
 no-other-rights s r memory first pages perms small h =
     count_at s r memory first pages (64 + perms) (omega arith)
@@ -97,6 +96,6 @@ no-other-rights s r memory first pages perms small h =
     (λ i. none (end_at s r memory first i) (sound-at s r memory first i) (fresh-possible s r (pageAt first i) memory))
   where
     none : (x : Fresh) → SoundFresh x → PossibleFresh x → (place_of x == 64 + perms) ≡ false
-    none (Ended (Fault n)) k q = let less = status-small n k in ne_eqb n (64 + perms) (λ e. omega arith)
-    none (Ended (Mapped leaf)) k q = shift-eqb 64 leaf.perms perms ∙ among_same leaf.perms perms q h
+    none (Ended (Err n)) k q = let less = status-small n k in ne_eqb n (64 + perms) (λ e. omega arith)
+    none (Ended (Ok leaf)) k q = shift-eqb 64 leaf.perms perms ∙ among_same leaf.perms perms q h
     none (Flat pa) k q = ne_eqb 128 (64 + perms) (λ e. omega arith)

@@ -6,7 +6,6 @@ ghost use Rattle.census.specs.Count.{place_of, placeAt, censusOf};
 
 use walk::fresh;
 use walk::fresh::Fresh;
-use walk::level::Walked;
 use walk::regime::{Bank, Regime};
 
 // Where a page is counted: by the status of its fault, by 64 plus the permission byte of its leaf, or flat.
@@ -17,8 +16,8 @@ fn place_of(end: Fresh) -> usize
 {
     match end {
         Fresh::Ended(w) => match w {
-            Walked::Fault(status) => status as usize,
-            Walked::Mapped(leaf) => 64 + leaf.perms as usize,
+            Err(status) => status as usize,
+            Ok(leaf) => 64 + leaf.perms as usize,
         },
         Fresh::Flat(_) => 128,
     }

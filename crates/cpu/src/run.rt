@@ -5,8 +5,7 @@ ghost use Rattle.cpu.specs.Step.{run_of, ramOf, step_of, ramAfter};
 use mmu::core_state::Core;
 use operations::call::{Call, Reply};
 use operations::{check, reply};
-use word::ram;
-use word::ram::Sized;
+use word::ram::Width;
 
 // The operation that a call is.
 #[tactic(auto, unfolding(crate::specs::Step::run_of, crate::specs::Step::ramOf))]
@@ -18,13 +17,13 @@ fn run(core: &mut Core, base: u64, ram: &mut [u8], call: Call) -> Reply
         Call::Translate(kind, va) => reply::translated(va, core.translate(base, ram, va, kind)),
         Call::DataPa(va) => reply::reached(core.data_pa(base, ram, va)),
         Call::FetchPa(va) => reply::reached(core.fetch_pa(base, ram, va)),
-        Call::Load(va, size) => match ram::width_of(size) {
-            Sized::Bytes(width) => reply::loaded(core.read(base, ram, va, width)),
-            Sized::Refused => Reply::Refused(3),
+        Call::Load(va, size) => match Width::of_size(size) {
+            Some(width) => reply::loaded(core.read(base, ram, va, width)),
+            None => Reply::Refused(3),
         },
-        Call::Store(va, size, value) => match ram::width_of(size) {
-            Sized::Bytes(width) => reply::stored(core.write(base, ram, va, width, value)),
-            Sized::Refused => Reply::Refused(3),
+        Call::Store(va, size, value) => match Width::of_size(size) {
+            Some(width) => reply::stored(core.write(base, ram, va, width, value)),
+            None => Reply::Refused(3),
         },
         Call::Fetch(va) => reply::fetched(core.fetch(base, ram, va)),
         Call::System(e) => {

@@ -8,7 +8,7 @@ use crate::flags::{DAIF_ALL, Flags, pstate};
 use crate::kind::Exception;
 use crate::report::{Report, syndrome};
 use crate::route::{Origin, route};
-use sysreg::regs::{El, SysRegs, index};
+use sysreg::regs::{El, SysRegs};
 
 // The place of a vector in its group, by the kind of exception.
 pub const VECTOR_SYNC: u64 = 0x000;
@@ -63,7 +63,7 @@ pub fn vector_group(from: u8, to: u8, spsel: bool) -> u64
 fn at_target(held: [u64; 4], target: El, value: u64) -> [u64; 4]
     ensures { result ≡ atTarget target value held }
 {
-    let t = index(target);
+    let t = target.index();
     let mut out = held;
     out[t] = value;
     out
@@ -122,7 +122,7 @@ fn enter_with(
 ) -> Entered
     ensures { result ≡ enteredWith flags sys target offset esr far spsr ret }
 {
-    let t = index(target);
+    let t = target.index();
     Entered {
         level: t as u8,
         flags: masked(flags),
@@ -145,7 +145,7 @@ pub fn enter(
 ) -> Entered
     ensures { result ≡ enterOf level flags sys target kind esr far ret }
 {
-    let to = index(target) as u8;
+    let to = target.index() as u8;
     let group = vector_group(level, to, flags.spsel);
     let vector = std::num::wrapping_add_u64(group, kind);
     let spsr = pstate(level, flags);
@@ -183,7 +183,7 @@ pub fn report_sync(level: u8, pc: u64, scr_el3: u64, hcr_el2: u64, e: Exception)
     Reported {
         target,
         ret: routed.ret,
-        report: syndrome(exception, el, index(target) as u8, pc),
+        report: syndrome(exception, el, target.index() as u8, pc),
     }
 }
 
@@ -197,7 +197,7 @@ pub fn sync_changes(level: u8, flags: Flags, r: Reported) -> Taken
     let report = r.report;
     Taken {
         target,
-        group: vector_group(el, index(target) as u8, flags.spsel),
+        group: vector_group(el, target.index() as u8, flags.spsel),
         spsr: pstate(el, flags),
         ret: r.ret,
         report,

@@ -3,7 +3,6 @@ ghost use Rattle.std.specs.Prelude.{◌≡◌};
 ghost use Rattle.exec.specs.Fit.{refitOf};
 
 use sysreg::regs::Control;
-use sysreg::shape;
 use tlb::Tlb;
 
 // Where the shape changed, a flush; then, where the ASID differs from the cache's, a retag.
@@ -11,10 +10,10 @@ use tlb::Tlb;
 pub fn refit(t: &mut Tlb, before: Control, after: Control)
     ensures { t.new ≡ refitOf t.old before after }
 {
-    if !shape::same_shape(before, after) {
+    if !before.same_shape(&after) {
         t.flush();
     }
-    let asid = shape::asid(after);
+    let asid = after.asid();
     if t.cache.current.asid != asid {
         t.retag(asid);
     }

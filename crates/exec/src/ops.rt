@@ -7,16 +7,16 @@ use exception::kind::Exception;
 use exception::take;
 use mmu::core_state::Core;
 use sysreg::write;
-use sysreg::write::WriteAnswer;
+use sysreg::write::WriteError;
 
 // A register write: the register, then the cache. One that is not done changes nothing.
 #[tactic(auto, unfolding(crate::specs::Ops::writeRegister, crate::specs::Ops::appliedOf, crate::specs::Ops::with_regs, mmu::specs::Core::afterAccess))]
-pub fn write_register(core: &mut Core, key: u32, value: u64) -> WriteAnswer
+pub fn write_register(core: &mut Core, key: u32, value: u64) -> Result<(), WriteError>
     ensures { record { core = core.new; answer = result } ≡ writeRegister core.old key value }
 {
     let before = core.control;
     let w = write::write_reg(before, core.sys, core.privilege.level, key, value);
-    if let WriteAnswer::Done = w.answer {
+    if let Ok(()) = w.answer {
         core.control = w.control;
         core.sys = w.sys;
         fit::refit(&mut core.tlb, before, w.control);

@@ -1,8 +1,7 @@
 -- The real registers and walk as a `World`, its laws, and demand 3 of it.
-use Rattle.std.specs.Prelude.{◌≡◌, refl, false, List, ℕ, ◌+◌, ◌*◌, ◌/◌, ◌%◌}
+use Rattle.std.specs.Prelude.{◌≡◌, refl, false, List, ℕ, ◌+◌, ◌*◌, ◌/◌, ◌%◌, Option}
 use Rattle.std.proofs.Common.{arith}
 use Rattle.word.specs.Ram.{word_at}
-use Rattle.word.specs.declared.ram.Word.{Word}
 use Rattle.sysreg.specs.Regs.{freshControl}
 use Rattle.sysreg.specs.Shape.{same_shape, asidBase, asidOf}
 use Rattle.sysreg.specs.ShapeLaws.{SameShape, shape-agrees}
@@ -31,7 +30,7 @@ abbrev pub windowOf : ℕ → List ℕ → Ram
 windowOf base bytes = record { base = base; bytes = bytes }
 
 -- the descriptor at an address
-abbrev pub memoryOf : Ram → ℕ → Word
+abbrev pub memoryOf : Ram → ℕ → Option ℕ
 memoryOf m = word_at m.base m.bytes 8
 
 abbrev pub real : World

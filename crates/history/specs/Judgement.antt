@@ -1,6 +1,6 @@
 -- Every translation, by walk, entry or hint, is judged by the manual's permission check on the attributes that a walk
 -- of its page found; and the statuses that there are. No premise: this holds after every history.
-use Rattle.std.specs.Prelude.{◌≡◌, refl, Bool, true, false, not, List, ◌⊎◌, ℕ, ◌+◌, ◌*◌, ◌/◌, ◌%◌, ◌^◌, ◌≤◌}
+use Rattle.std.specs.Prelude.{◌≡◌, refl, Bool, true, false, not, List, ◌⊎◌, ℕ, ◌+◌, ◌*◌, ◌/◌, ◌%◌, ◌^◌, ◌≤◌, Ok, Err, Option}
 use Rattle.std.proofs.Common.{sym, ap, subst, ◌∙◌, inl, inr, arith}
 use Rattle.std.proofs.lemmas.Bool.{false≢true}
 use Rattle.word.specs.Bits.{pick}
@@ -13,8 +13,6 @@ use Rattle.walk.specs.PermissionLaws.{kindBit, firstBit, permission-bit}
 use Rattle.walk.specs.Walk.{leafOf, walkedOf, walk_of}
 use Rattle.walk.specs.WalkBounds.{Levelled, Found, Sound, table-walk-sound}
 use Rattle.walk.specs.declared.{regime.Regime.Regime, regime.Bank.Bank, level.Leaf.Leaf}
-use Rattle.walk.specs.declared.level.Walked.TheVariants.{Mapped, Fault as Faulted}
-use Rattle.word.specs.declared.ram.Word.{Word}
 use Rattle.sysreg.specs.declared.regs.Control.{Control}
 use Rattle.tlb.specs.Lists.{Each, done, more}
 use Rattle.tlb.specs.Tlb.{fresh}
@@ -74,22 +72,22 @@ module _ (past : List (Event real)) (m : Ram) where
 
 -- A WALK is the manual's
 
-walked-leaf : (singlepriv wxn : Bool) (r : Result) (ℓ : Leaf) → walkedOf singlepriv wxn r ≡ Mapped ℓ
+walked-leaf : (singlepriv wxn : Bool) (r : Result) (ℓ : Leaf) → walkedOf singlepriv wxn r ≡ Ok ℓ
     → (t : Translation) × (r ≡ mapped t) × (leafOf singlepriv wxn t ≡ ℓ)
 walked-leaf singlepriv wxn (mapped t) ℓ e = (t, refl, cc)
 walked-leaf singlepriv wxn (faults f) ℓ e = let z : ◌≡◌ {A = ℕ} 0 1 = cc in absurd (omega arith)
 
-walked-fault : (singlepriv wxn : Bool) (r : Result) (code : ℕ) → walkedOf singlepriv wxn r ≡ Faulted code
+walked-fault : (singlepriv wxn : Bool) (r : Result) (code : ℕ) → walkedOf singlepriv wxn r ≡ Err code
     → (f : WalkFault) × (r ≡ faults f) × (code ≡ statusOf f)
 walked-fault singlepriv wxn (mapped t) code e = let z : ◌≡◌ {A = ℕ} 0 1 = cc in absurd (omega arith)
 walked-fault singlepriv wxn (faults f) code e = (f, refl, cc)
 
-pub manual-leaf : (s : Bank) (r : Regime) (va : ℕ) (memory : ℕ → Word) (ℓ : Leaf) → walk_of s r va memory ≡ Mapped ℓ
+pub manual-leaf : (s : Bank) (r : Regime) (va : ℕ) (memory : ℕ → Option ℕ) (ℓ : Leaf) → walk_of s r va memory ≡ Ok ℓ
     → (t : Translation) × (tableWalk s r va memory ≡ mapped t) × (leafOf (singlePriv r) (wxnOf s) t ≡ ℓ)
 unfolding walk_of
 manual-leaf s r va memory ℓ e = walked-leaf (singlePriv r) (wxnOf s) (tableWalk s r va memory) ℓ e
 
-pub manual-fault : (s : Bank) (r : Regime) (va : ℕ) (memory : ℕ → Word) (code : ℕ) → walk_of s r va memory ≡ Faulted code
+pub manual-fault : (s : Bank) (r : Regime) (va : ℕ) (memory : ℕ → Option ℕ) (code : ℕ) → walk_of s r va memory ≡ Err code
     → (f : WalkFault) × (tableWalk s r va memory ≡ faults f) × (code ≡ statusOf f)
 unfolding walk_of
 manual-fault s r va memory code e = walked-fault (singlePriv r) (wxnOf s) (tableWalk s r va memory) code e

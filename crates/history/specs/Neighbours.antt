@@ -1,6 +1,6 @@
 -- What runs under other ASIDs does not bend a page's translation: two histories that leave the page to one ASID give
 -- one answer.
-use Rattle.std.specs.Prelude.{◌≡◌, refl, Bool, true, false, ◌⊎◌, ℕ, ◌+◌, ◌-◌, ◌≤◌, ◌<◌, ◌==◌, length, get_or}
+use Rattle.std.specs.Prelude.{◌≡◌, refl, Bool, true, false, ◌⊎◌, ℕ, ◌+◌, ◌-◌, ◌≤◌, ◌<◌, ◌==◌, length, get_or, Ok}
 use Rattle.std.proofs.Math.Path.{sym}
 use Rattle.std.proofs.Common.{ap, ◌∙◌, true≢false, inl, inr, arith, eqb-true}
 use mathlib.Core.List.{List, [], ◌∷◌, ◌++◌, Memᴰ}
@@ -10,7 +10,6 @@ use Rattle.word.specs.Ram.{word_at}
 use Rattle.walk.specs.Regime.{bankOf}
 use Rattle.walk.specs.Fetches.{fetchesOf, bytes-agree}
 use Rattle.walk.specs.declared.{regime.Regime.Regime, level.Leaf.Leaf}
-use Rattle.walk.specs.declared.level.Walked.TheVariants.{Mapped}
 use Rattle.tlb.specs.Lists.{Each, done}
 use Rattle.tlb.specs.Tlb.{fresh}
 use Rattle.tlb.specs.Asks.{Ask, kind_of, address_of}
@@ -34,18 +33,18 @@ module _ (w : World) where
         past ≡ before ++ steps m' s ∷ later →
         (ℓ : Leaf) →
         w.on (plainRun w c₀ before).regs r ≡ true →
-        pageWalk w (plainRun w c₀ before).regs m' r p ≡ Mapped ℓ →
+        pageWalk w (plainRun w c₀ before).regs m' r p ≡ Ok ℓ →
         (w.asid (plainRun w c₀ before).regs ≡ w.asid (plainRun w c₀ past).regs → ⊥) →
         ℓ.global ≡ false
     pub there : (before : List (Event w)) (m' : w.Ram) (s : Step w) (later : List (Event w)) →
         past ≡ before ++ steps m' s ∷ later →
         (ℓ : Leaf) →
         w.on (plainRun w c₀ before).regs r ≡ true →
-        pageWalk w (plainRun w c₀ before).regs m' r p ≡ Mapped ℓ →
+        pageWalk w (plainRun w c₀ before).regs m' r p ≡ Ok ℓ →
         w.asid (plainRun w c₀ before).regs ≡ w.asid (plainRun w c₀ past).regs →
         Each (λ v. covers v p ℓ (w.asid (plainRun w c₀ before).regs) ≡ false)
         (dropsUnder (w.asid (plainRun w c₀ past).regs) (plainRun w c₀ before) (steps m' s ∷ later)) →
-        (ℓ' : Leaf) × (pageWalk w (plainRun w c₀ past).regs m r p ≡ Mapped ℓ') × LeavesEqual ℓ ℓ'
+        (ℓ' : Leaf) × (pageWalk w (plainRun w c₀ past).regs m r p ≡ Ok ℓ') × LeavesEqual ℓ ℓ'
 
   abbrev pub OwnFor : Plain w → List (Event w) → w.Ram → Ask → Type 0
   OwnFor c₀ past m a = Own c₀ past m (regimeNow w (plainRun w c₀ past)) (pageNow w (plainRun w c₀ past) (address_of a))
@@ -72,11 +71,11 @@ module _ (w : World) where
       A = w.asid (plainRun w c₀ past).regs
 
       go : (before : List (Event w)) (m' : w.Ram) (s : Step w) (later : List (Event w)) → past ≡ before ++ steps m' s ∷ later → (ℓ : Leaf)
-          → w.on (plainRun w c₀ before).regs r ≡ true → pageWalk w (plainRun w c₀ before).regs m' r p ≡ Mapped ℓ
+          → w.on (plainRun w c₀ before).regs r ≡ true → pageWalk w (plainRun w c₀ before).regs m' r p ≡ Ok ℓ
           → (ℓ.global ≡ true) ⊎ (w.asid (plainRun w c₀ before).regs ≡ A)
           → Each (λ v. covers v p ℓ (w.asid (plainRun w c₀ before).regs) ≡ false) (dropsRun w (plainRun w c₀ before) (steps m' s ∷ later))
           → (b : Bool) → (w.asid (plainRun w c₀ before).regs == A) ≡ b
-          → (ℓ' : Leaf) × (pageWalk w (plainRun w c₀ past).regs m r p ≡ Mapped ℓ') × LeavesEqual ℓ ℓ'
+          → (ℓ' : Leaf) × (pageWalk w (plainRun w c₀ past).regs m r p ≡ Ok ℓ') × LeavesEqual ℓ ℓ'
       go before m' s later split ℓ o x today us true b =
           own.there before m' s later split ℓ o x (eqb-true _ _ b) (under A (plainRun w c₀ before) (steps m' s ∷ later) us)
       go before m' s later split ℓ o x (inr y) us false b = absurd (eqb-false _ _ b y)

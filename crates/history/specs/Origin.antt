@@ -1,10 +1,9 @@
 -- Where every answer comes from, with no premise: from the address itself with stage 1 off, from the walk of now, which
 -- failed, or from a walk that the page had, now or at a step of the history, which no invalidation since covers.
-use Rattle.std.specs.Prelude.{◌≡◌, refl, true, false, List, [], ◌∷◌, ◌++◌, ◌⊎◌, ℕ, ◌≤◌}
+use Rattle.std.specs.Prelude.{◌≡◌, refl, true, false, List, [], ◌∷◌, ◌++◌, ◌⊎◌, ℕ, ◌≤◌, Ok, Err}
 use Rattle.std.proofs.Common.{sym, subst, ◌∙◌, inl, inr}
 use Rattle.fault.specs.First.{first}
 use Rattle.walk.specs.declared.level.Leaf.{Leaf}
-use Rattle.walk.specs.declared.level.Walked.TheVariants.{Mapped, Fault}
 use Rattle.tlb.specs.Lists.{Each, done, more}
 use Rattle.tlb.specs.Tlb.{fresh}
 use Rattle.tlb.specs.Model.{Model, emptyModel}
@@ -35,11 +34,11 @@ module _ (w : World) (c₀ : Plain w) where
     pub data From (a : Ask) (x : Answer) : Type 0 where
       flat : onNow w here ≡ false → x ≡ Address (address_of a) → From a x
       fails : (code : ℕ) → onNow w here ≡ true
-          → w.walk here.regs m (regimeNow w here) (untagNow w here (address_of a)) ≡ Fault code
+          → w.walk here.regs m (regimeNow w here) (untagNow w here (address_of a)) ≡ Err code
           → x ≡ Status (first code) → From a x
       walks : (R : w.Regs) (m' : w.Ram) (vs : List Inval) → StateIn past m R m' vs → (ℓ : Leaf)
           → w.on R (regimeNow w here) ≡ true
-          → pageWalk w R m' (regimeNow w here) (pageNow w here (address_of a)) ≡ Mapped ℓ
+          → pageWalk w R m' (regimeNow w here) (pageNow w here (address_of a)) ≡ Ok ℓ
           → (ℓ.global ≡ true) ⊎ (w.asid R ≡ w.asid here.regs)
           → Each (λ v. covers v (pageNow w here (address_of a)) ℓ (w.asid R) ≡ false) vs
           → x ≡ leafAnswer ℓ (needNow w here (kind_of a)) (address_of a) → From a x

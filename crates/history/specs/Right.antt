@@ -1,7 +1,7 @@
 -- What a translation in a traced model answers, and that it leaves the model traced.
 use Rattle.std.proofs.Math.Path.{◌≡◌, refl}
 use Rattle.std.proofs.Common.{sym, ap, subst, ◌∙◌}
-use Rattle.std.specs.Prelude.{Bool, ◌&&◌, List, ◌∷◌, ◌⊎◌, ℕ, zero, suc, ◌+◌, ◌*◌, ◌/◌, ◌%◌, ◌<◌, ◌==◌}
+use Rattle.std.specs.Prelude.{Bool, ◌&&◌, List, ◌∷◌, ◌⊎◌, ℕ, zero, suc, ◌+◌, ◌*◌, ◌/◌, ◌%◌, ◌<◌, ◌==◌, Ok, Err}
 use Rattle.std.proofs.Math.Bool.{true, false}
 use Rattle.std.proofs.lemmas.Bool.{false≢true}
 use Rattle.std.proofs.Math.Logic.{inl, inr}
@@ -10,9 +10,8 @@ use borrow.Author.Tests.{eqb-true, lt-ltb, le-ltb}
 use Rattle.word.specs.Bits.{pick}
 use Rattle.word.specs.BitLaws.{both}
 use Rattle.fault.specs.First.{first}
-use Rattle.walk.specs.declared.{regime.Regime.Regime, level.Leaf.Leaf, level.Walked.Walked}
+use Rattle.walk.specs.declared.{regime.Regime.Regime, level.Leaf.Leaf}
 use Rattle.walk.specs.declared.regime.Regime.TheVariants.{El1, El2, El3}
-use Rattle.walk.specs.declared.level.Walked.TheVariants.{Mapped, Fault}
 use Rattle.tlb.specs.Model.{Slot, empty, holds, Line, Known, Model, oneHit, oneWalk, sameRegime, folded, hintPlace, Access, Outcome, asUser, need, reachOf}
 use Rattle.tlb.specs.Model.{reaches, serving, line_for, addressIn, judge as judgeLine, lineOfLeaf, walked, looked, unhinted, known_of, noting, noted, knowing}
 use Rattle.tlb.specs.Model.{tried, hinted, hintable, translate, notingFetch, notedFetch, fetched, fetch}
@@ -23,6 +22,7 @@ use Rattle.history.specs.World.{World, Laws, LeavesEqual, leafAnswer, walkAnswer
 use Rattle.history.specs.World.{accessOf}
 use Rattle.history.specs.Traced.{Moment, at, Seen, Today, LineFrom, LineOk, allows, HintFrom, flat, kept, HintOk, kind_at, Traced, traced-counting}
 use Rattle.history.specs.Traced.{traced-keep, traced-hint, traced-fetch-hint}
+use Rattle.walk.specs.Answers.{Walked}
 
 same-regime : (r s : Regime) → sameRegime r s ≡ true → r ≡ s
 same-regime El1 El1 e = refl
@@ -74,7 +74,7 @@ module _ (w : World) where
   abbrev pub Agreed : List (Moment w) → w.Regs → w.Ram → Regime → ℕ → Type 0
   Agreed h R m r p =
       (ℓ : Leaf) (a : ℕ) → Seen w h r p ℓ a → Today w R ℓ a
-      → (ℓ' : Leaf) × (pageWalk w R m r p ≡ Mapped ℓ') × LeavesEqual ℓ ℓ'
+      → (ℓ' : Leaf) × (pageWalk w R m r p ≡ Ok ℓ') × LeavesEqual ℓ ℓ'
 
   module _ (laws : Laws w) (h : List (Moment w)) (c : Plain w) (m : w.Ram) (k : Kind) (va : ℕ) where
     -- where an answer came from
@@ -82,7 +82,7 @@ module _ (w : World) where
       itself : onNow w c ≡ false → x ≡ Address va → Answered x
       by : (ℓ : Leaf) (a : ℕ) → onNow w c ≡ true → Seen w h (regimeNow w c) (pageNow w c va) ℓ a → Today w c.regs ℓ a
           → x ≡ leafAnswer ℓ (needNow w c k) va → Answered x
-      failed : (code : ℕ) → onNow w c ≡ true → w.walk c.regs m (regimeNow w c) (untagNow w c va) ≡ Fault code → x ≡ Status (first code)
+      failed : (code : ℕ) → onNow w c ≡ true → w.walk c.regs m (regimeNow w c) (untagNow w c va) ≡ Err code → x ≡ Status (first code)
           → Answered x
 
     pub answered-right : {x : Answer} → Agreed h c.regs m (regimeNow w c) (pageNow w c va) → Answered x → x ≡ uncached w c m k va
@@ -156,13 +156,13 @@ module _ (w : World) where
     module _ (t : Model) (s : Traced w h c.regs t) where
       walk-done : onNow w c ≡ true → (x : Walked) → w.walk c.regs m (regimeNow w c) (untagNow w c va) ≡ x → Fine (walked x a t)
       unfolding walked
-      walk-done o (Fault code) e = record { traced = traced-counting w (oneWalk c.privilege.level) s; answered = failed code o e refl }
-      walk-done o (Mapped leaf) e = record { traced = traced-keep w line kept-walk (traced-counting w (oneWalk c.privilege.level) s); answered = answer }
+      walk-done o (Err code) e = record { traced = traced-counting w (oneWalk c.privilege.level) s; answered = failed code o e refl }
+      walk-done o (Ok leaf) e = record { traced = traced-keep w line kept-walk (traced-counting w (oneWalk c.privilege.level) s); answered = answer }
         where
           line : Line
           line = lineOfLeaf leaf a t.asid
 
-          own : (ℓ' : Leaf) × (pageWalk w c.regs m (regimeNow w c) (pageNow w c va) ≡ Mapped ℓ') × LeavesEqual leaf ℓ' × (leaf.global ≡ ℓ'.global)
+          own : (ℓ' : Leaf) × (pageWalk w c.regs m (regimeNow w c) (pageNow w c va) ≡ Ok ℓ') × LeavesEqual leaf ℓ' × (leaf.global ≡ ℓ'.global)
           own = laws.walk-page c.regs m (regimeNow w c) (untagNow w c va) (pageNow w c va * 4096) (omega arith) leaf e
 
           seen : Seen w h (regimeNow w c) (pageNow w c va) own.0 t.asid

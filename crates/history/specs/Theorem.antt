@@ -1,12 +1,11 @@
 -- Demand 3, proved for every registers and walk that keep `Laws`.
-use Rattle.std.specs.Prelude.{◌≡◌, Bool, List, [], ◌∷◌, ◌++◌, ◌⊎◌, ℕ, ◌≤◌, ◌==◌}
+use Rattle.std.specs.Prelude.{◌≡◌, Bool, List, [], ◌∷◌, ◌++◌, ◌⊎◌, ℕ, ◌≤◌, ◌==◌, Ok}
 use Rattle.std.proofs.Math.Path.{refl}
 use Rattle.std.proofs.Common.{sym, ap, subst, ◌∙◌, inl, inr}
 use Rattle.std.proofs.Math.Bool.{true, false}
 use borrow.Author.Tests.{eqb-true}
 use Rattle.word.specs.Bits.{pick}
 use Rattle.walk.specs.declared.{regime.Regime.Regime, level.Leaf.Leaf}
-use Rattle.walk.specs.declared.level.Walked.TheVariants.{Mapped}
 use Rattle.tlb.specs.Lists.{Each, done, more}
 use Rattle.tlb.specs.Tlb.{fresh}
 use Rattle.tlb.specs.Model.{Model, emptyModel, invalidate, retag, broadcast}
@@ -160,7 +159,7 @@ module _ (w : World) (laws : Laws w) where
       R : w.Regs
       R = (plainRun w c₀ past).regs
 
-      go : Found c₀ past r p ℓ a ⊎ (Uncovered p ℓ a (dropsRun w c₀ past) × ⊥) → (ℓ' : Leaf) × (pageWalk w R m r p ≡ Mapped ℓ') × LeavesEqual ℓ ℓ'
+      go : Found c₀ past r p ℓ a ⊎ (Uncovered p ℓ a (dropsRun w c₀ past) × ⊥) → (ℓ' : Leaf) × (pageWalk w R m r p ≡ Ok ℓ') × LeavesEqual ℓ ℓ'
       go (inr x) = absurd x.1
       go (inl f) =
           st.holds f.before f.ram f.step f.later f.split ℓ f.walks.is-on f.walks.leaf (day today)

@@ -1,12 +1,11 @@
 -- What the cache's plain model has to do with the walks of the past: behind each line stands a walk that no
 -- invalidation since covers, and behind each hint such a walk or stage 1 off (`Traced`). Each operation keeps that.
-use Rattle.std.specs.Prelude.{◌≡◌, Bool, true, false, not, ◌&&◌, List, [], ◌∷◌, ◌⊎◌, ℕ, ◌*◌, ◌/◌, ◌%◌, ◌==◌, ltb}
+use Rattle.std.specs.Prelude.{◌≡◌, Bool, true, false, not, ◌&&◌, List, [], ◌∷◌, ◌⊎◌, ℕ, ◌*◌, ◌/◌, ◌%◌, ◌==◌, ltb, Ok}
 use Rattle.std.proofs.Math.Path.{refl}
 use Rattle.std.proofs.Common.{sym, subst, ◌∙◌, inl, inr, eqb-true}
 use Rattle.word.specs.Bits.{pick}
 use Rattle.walk.specs.Regime.{regimeOf}
 use Rattle.walk.specs.declared.{regime.Regime.Regime, level.Leaf.Leaf}
-use Rattle.walk.specs.declared.level.Walked.TheVariants.{Mapped}
 use Rattle.tlb.specs.Model.{Slot, empty, holds, Line, Known, Counters, Model, emptyModel, belongsTo, covers as coversLine, uncovered, invalidate, retag}
 use Rattle.tlb.specs.Model.{counting, keep, keepHint, keepFetch, asUser, need, reachOf}
 use Rattle.tlb.specs.declared.{access.Kind.Kind, Inval.Inval}
@@ -24,7 +23,7 @@ module _ (w : World) where
   -- The page p of the regime r has the walk ℓ, under the ASID a.
   pub record Walks (R : w.Regs) (m : w.Ram) (r : Regime) (p : ℕ) (ℓ : Leaf) (a : ℕ) : Type 0 where
     pub is-on : w.on R r ≡ true
-    pub leaf : pageWalk w R m r p ≡ Mapped ℓ
+    pub leaf : pageWalk w R m r p ≡ Ok ℓ
     pub under : a ≡ w.asid R
 
   -- The page had this walk at a step, and no invalidation since covers it.

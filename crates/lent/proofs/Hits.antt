@@ -1,12 +1,11 @@
 -- An access that a hint serves in its page takes one translation, which leaves the cache as it was; and the translations of an access of a size.
-use Rattle.std.specs.Prelude.{◌≡◌, ℕ, Bool, true, false, ◌&&◌, nat_eq, nat_le, length}
+use Rattle.std.specs.Prelude.{◌≡◌, ℕ, Bool, true, false, ◌&&◌, nat_eq, nat_le, length, Option, Some, None}
 use Rattle.std.proofs.Common.{refl, sym, subst}
 use Rattle.std.proofs.lemmas.Bool.{leb-true, le-ltb}
 use Rattle.std.proofs.lemmas.Bool.{eqb-true}
 use Rattle.word.specs.Bits.{pick}
 use Rattle.word.specs.Ram.{width_of, bytesIn}
-use Rattle.word.specs.declared.{ram.Sized.Sized, ram.Width.Width, ram.Word.Word}
-use Rattle.word.specs.declared.ram.Sized.TheVariants.{Bytes, Refused as NoWidth}
+use Rattle.word.specs.declared.ram.Width.{Width}
 use Rattle.walk.specs.Regime.{regimeOf, stage1On}
 use Rattle.tlb.specs.Cache.{hintAt}
 use Rattle.tlb.specs.Hint.{onPage}
@@ -27,11 +26,11 @@ use Rattle.mmu.specs.Pairs.{pair_is}
 use Rattle.mmu.specs.Changes.{hint-turn}
 
 -- a size's bytes are its number
-abbrev Fits : Sized → ℕ → Type 0
-Fits (Bytes w) n = bytesIn w ≡ n
-Fits NoWidth n = Unit {0}
+abbrev Fits : Option Width → ℕ → Type 0
+Fits (Some w) n = bytesIn w ≡ n
+Fits None n = Unit {0}
 
-pick-fits : (b : Bool) (n : ℕ) (x y : Sized) → (b ≡ true → Fits x n) → Fits y n → Fits (pick b x y) n
+pick-fits : (b : Bool) (n : ℕ) (x y : Option Width) → (b ≡ true → Fits x n) → Fits y n → Fits (pick b x y) n
 pick-fits true n x y fx fy = fx refl
 pick-fits false n x y fx fy = fy
 
@@ -43,8 +42,8 @@ width_fits n =
     pick-fits (nat_eq n 1) n _ _ (same_number n 1)
     (pick-fits (nat_eq n 2) n _ _ (same_number n 2) (pick-fits (nat_eq n 4) n _ _ (same_number n 4) (pick-fits (nat_eq n 8) n _ _ (same_number n 8) tt)))
 
-pub size_is : (size : ℕ) (w : Width) → width_of size ≡ Bytes w → bytesIn w ≡ size
-size_is size w e = subst (λ (z : Sized). Fits z size) e (width_fits size)
+pub size_is : (size : ℕ) (w : Width) → width_of size ≡ Some w → bytesIn w ≡ size
+size_is size w e = subst (λ (z : Option Width). Fits z size) e (width_fits size)
 
 pub and_both : (a b : Bool) → (a && b) ≡ true → (a ≡ true) × (b ≡ true)
 and_both true b e = (refl, e)
@@ -54,7 +53,7 @@ and-false : (b : Bool) → (b && false) ≡ false
 and-false true = refl
 and-false false = refl
 
-module _ (c : Core) (memory : ℕ → Word) (va : ℕ) (kind : Kind) where
+module _ (c : Core) (memory : ℕ → Option ℕ) (va : ℕ) (kind : Kind) where
   -- a hint that serves
   pub hint-located : (h : Hint) → h ≡ hintAt c.tlb.cache (hintPlace va kind) → hintServes h c.privilege va kind ≡ true → (n : ℕ) → nat_le n (inPage va)
       ≡ true

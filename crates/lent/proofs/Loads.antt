@@ -1,9 +1,8 @@
 -- A load's call: what the checks and the hint say, and what its changes leave, are the call's reply and core, on plain values.
-use Rattle.std.specs.Prelude.{◌≡◌, ℕ, zero, suc, Bool, true, false, nat_le, List, length}
+use Rattle.std.specs.Prelude.{◌≡◌, ℕ, zero, suc, Bool, true, false, nat_le, List, length, Option, Some, None}
 use Rattle.std.proofs.Common.{refl, sym, subst, ap, ◌∙◌}
 use Rattle.word.specs.Ram.{word_at, width_of, bytesIn}
-use Rattle.word.specs.declared.{ram.Sized.Sized, ram.Width.Width}
-use Rattle.word.specs.declared.ram.Sized.TheVariants.{Bytes, Refused as NoWidth}
+use Rattle.word.specs.declared.ram.Width.{Width}
 use Rattle.tlb.specs.Cache.{hintAt}
 use Rattle.tlb.specs.Hint.{onPage}
 use Rattle.tlb.specs.declared.access.Kind.TheVariants.{Read}
@@ -50,18 +49,18 @@ module _ (c : Core) (base : ℕ) (ram : List ℕ) (va size : ℕ) where
   y₀ = pageIn c (secondIn x₀ va size) Read
 
   module _ (hs : length c.tlb.cache.hints ≡ 512) (es : length c.tlb.cache.entries ≡ 1024) where
-    abbrev Right : Sized → Type 0
+    abbrev Right : Option Width → Type 0
     Right z =
         ((loadedBy z (hintedIn c va Read) x₀ y₀ va base ram).reply ≡ (loadBy z c base ram va).reply)
         × (left c (loadedBy z (hintedIn c va Read) x₀ y₀ va base ram) ≡ (loadBy z c base ram va).core)
 
-    by_size : (z : Sized) → z ≡ width_of size → Right z
+    by_size : (z : Option Width) → z ≡ width_of size → Right z
     unfolding read_of
-    by_size (Bytes w) e =
+    by_size (Some w) e =
         let pair = sized-is c (word_at base ram 8) va Read size (bytesIn w) (ap bytesBy (sym e)) hs es in
         let end = loadEnd (locatedNow c (word_at base ram 8) va (bytesIn w) Read).placed c.last_pa c.abort_pa base ram va (bytesIn w) in
         (rw (pair 0 0).0, rw (pair 0 0).0 (pair end.last_pa end.abort_pa).1)
-    by_size NoWidth e = (refl, none_left c (lookupIn c va Read) y₀.lookup)
+    by_size None e = (refl, none_left c (lookupIn c va Read) y₀.lookup)
 
     loaded : ((loadedOf (hintedIn c va Read) x₀ y₀ va size base ram).reply ≡ (run_of c base ram call).reply)
         × (left c (loadedOf (hintedIn c va Read) x₀ y₀ va size base ram) ≡ (run_of c base ram call).core)
@@ -71,7 +70,7 @@ module _ (c : Core) (base : ℕ) (ram : List ℕ) (va size : ℕ) where
   -- a hint that serves in its page: the bytes
   by-hint : (h : Hint) (w : Width) (v : ℕ) → h ≡ hintAt c.tlb.cache (hintPlace va Read) → hintServes h c.privilege va Read ≡ true
       → nat_le size (inPage va) ≡ true
-      → width_of size ≡ Bytes w → load_of base ram (Whole (onPage h.pa va)) (bytesIn w) ≡ Got.Value v
+      → width_of size ≡ Some w → load_of base ram (Whole (onPage h.pa va)) (bytesIn w) ≡ Got.Value v
       → (Value v ≡ (run_of c base ram call).reply) × (keptIn c (onPage h.pa va) c.abort_pa ≡ (run_of c base ram call).core)
   unfolding run_of read_of loadEnd afterAccess
   by-hint h w v eh served here ew ev =
@@ -85,12 +84,12 @@ module _ (c : Core) (base : ℕ) (ram : List ℕ) (va size : ℕ) where
   abbrev run : Stepped
   run = run_of c base ram call
 
-  read-ends : (h : Hint) → h ≡ hintAt c.tlb.cache (hintPlace va Read) → hitIn h c.privilege va size Read ≡ true → (z : Sized) → width_of size ≡ z
+  read-ends : (h : Hint) → h ≡ hintAt c.tlb.cache (hintPlace va Read) → hitIn h c.privilege va size Read ≡ true → (z : Option Width) → width_of size ≡ z
       → (last : ℕ)
       → (read_by z base ram (onPage h.pa va) last).ends ≡ true
       → ((read_by z base ram (onPage h.pa va) last).reply ≡ run.reply) × (kept (read_by z base ram (onPage h.pa va) last).last_pa ≡ run.core)
-  read-ends h eh hit NoWidth ez last t = cc
-  read-ends h eh hit (Bytes w) ez last t = go (load_of base ram (Whole (onPage h.pa va)) (bytesIn w)) refl t
+  read-ends h eh hit None ez last t = cc
+  read-ends h eh hit (Some w) ez last t = go (load_of base ram (Whole (onPage h.pa va)) (bytesIn w)) refl t
     where
       both : (hintServes h c.privilege va Read ≡ true) × (nat_le size (inPage va) ≡ true)
       both = and_both (hintServes h c.privilege va Read) (nat_le size (inPage va)) hit

@@ -1,11 +1,10 @@
 -- A store's call: what the checks and the hint say, and what its changes leave, are the call's reply, core and RAM, on plain values.
-use Rattle.std.specs.Prelude.{◌≡◌, ℕ, zero, suc, Bool, true, false, ◌&&◌, not, nat_lt, nat_le, List, length}
+use Rattle.std.specs.Prelude.{◌≡◌, ℕ, zero, suc, Bool, true, false, ◌&&◌, not, nat_lt, nat_le, List, length, Option, Some, None}
 use Rattle.std.proofs.Common.{refl, sym, subst, ap, ◌∙◌}
 use Rattle.std.proofs.Common.{arith}
 use Rattle.word.specs.Bits.{pick}
 use Rattle.word.specs.Ram.{word_at, width_of, bytesIn, within}
-use Rattle.word.specs.declared.{ram.Sized.Sized, ram.Width.Width}
-use Rattle.word.specs.declared.ram.Sized.TheVariants.{Bytes, Refused as NoWidth}
+use Rattle.word.specs.declared.ram.Width.{Width}
 use Rattle.tlb.specs.Cache.{hintAt}
 use Rattle.tlb.specs.Hint.{onPage}
 use Rattle.tlb.specs.declared.access.Kind.TheVariants.{Write}
@@ -54,19 +53,19 @@ module _ (c : Core) (base : ℕ) (ram : List ℕ) (va size value : ℕ) where
   y₀ = pageIn c (secondIn x₀ va size) Write
 
   module _ (hs : length c.tlb.cache.hints ≡ 512) (es : length c.tlb.cache.entries ≡ 1024) where
-    abbrev Right : Sized → Type 0
+    abbrev Right : Option Width → Type 0
     Right z =
         ((storedBy z (hintedIn c va Write) x₀ y₀ va base ram).reply ≡ (storeBy z c base ram va).reply)
         × (left c (storedBy z (hintedIn c va Write) x₀ y₀ va base ram) ≡ (storeBy z c base ram va).core)
         × (storedRamBy z x₀ y₀ va value base ram ≡ storeRamBy z c base ram va value)
 
-    by_size : (z : Sized) → z ≡ width_of size → Right z
+    by_size : (z : Option Width) → z ≡ width_of size → Right z
     unfolding writeOf ramAfterWrite storeAfter
-    by_size (Bytes w) e =
+    by_size (Some w) e =
         let pair = sized-is c (word_at base ram 8) va Write size (bytesIn w) (ap bytesBy (sym e)) hs es in
         let end = storeEnd (locatedNow c (word_at base ram 8) va (bytesIn w) Write).placed c.abort_pa base ram va (bytesIn w) in
         (rw (pair 0 0).0, rw (pair 0 0).0 (pair c.last_pa end.abort_pa).1, rw (pair 0 0).0)
-    by_size NoWidth e = (refl, none_left c (lookupIn c va Write) y₀.lookup, refl)
+    by_size None e = (refl, none_left c (lookupIn c va Write) y₀.lookup, refl)
 
     stored : ((storedOf (hintedIn c va Write) x₀ y₀ va size base ram).reply ≡ (run_of c base ram call).reply)
         × (left c (storedOf (hintedIn c va Write) x₀ y₀ va size base ram) ≡ (run_of c base ram call).core)
@@ -79,7 +78,7 @@ module _ (c : Core) (base : ℕ) (ram : List ℕ) (va size value : ℕ) where
 
   -- a hint that serves in its page, the bytes in RAM
   by-hint : (h : Hint) (w : Width) → h ≡ hintAt c.tlb.cache (hintPlace va Write) → hintServes h c.privilege va Write ≡ true → nat_le size (inPage va) ≡ true
-      → within base (length ram) size (onPage h.pa va) ≡ true → width_of size ≡ Bytes w
+      → within base (length ram) size (onPage h.pa va) ≡ true → width_of size ≡ Some w
       → (Done ≡ run.reply) × (c ≡ run.core) × (storeRam base ram (Whole (onPage h.pa va)) (bytesIn w) value ≡ ramOf c base ram call)
   unfolding run_of ramOf writeOf ramAfterWrite storeEnd storeRamEnd judged afterAccess
   by-hint h w eh served here inside ew =
@@ -90,10 +89,10 @@ module _ (c : Core) (base : ℕ) (ram : List ℕ) (va size value : ℕ) where
 
   sized-ends : (h : Hint) → h ≡ hintAt c.tlb.cache (hintPlace va Write)
       → (hitIn h c.privilege va size Write && within base (length ram) size (onPage h.pa va)) ≡ true
-      → (z : Sized) → width_of size ≡ z → isWidth z ≡ true
+      → (z : Option Width) → width_of size ≡ z → isWidth z ≡ true
       → (Done ≡ run.reply) × (c ≡ run.core) × (sizedRam z (onPage h.pa va) base ram value ≡ ramOf c base ram call)
-  sized-ends h eh e NoWidth ez k = cc
-  sized-ends h eh e (Bytes w) ez k =
+  sized-ends h eh e None ez k = cc
+  sized-ends h eh e (Some w) ez k =
       let one = and_both (hitIn h c.privilege va size Write) (within base (length ram) size (onPage h.pa va)) e in
       let two = and_both (hintServes h c.privilege va Write) (nat_le size (inPage va)) one.0 in
       by-hint h w eh two.0 two.1 one.1 ez

@@ -5,9 +5,8 @@ use Rattle.std.proofs.Math.Path.{refl, sym, subst, ap}
 use Rattle.std.proofs.Common.{◌∙◌, arith}
 use Rattle.std.proofs.lemmas.List.{set-get_or}
 use Rattle.word.specs.Bits.{pick}
-use Rattle.word.specs.declared.ram.Word.{Word}
 use Rattle.walk.specs.Regime.{regimeOf, stage1On}
-use Rattle.walk.specs.declared.{level.Walked.Walked, regime.Regime.Regime}
+use Rattle.walk.specs.declared.regime.Regime.{Regime}
 use Rattle.tlb.specs.Access.{mayHint}
 use Rattle.tlb.specs.Cache.{hintAt, entry_at}
 use Rattle.tlb.specs.Entry.{blank}
@@ -34,6 +33,7 @@ use Rattle.mmu.specs.Parts.{lookupIn, pageIn, parts_in, storedIn, commitAt, comm
 use Rattle.operations.specs.Fetches.{fetchTranslationAt, fetchAnsweredOf, fetchTranslationBy}
 use Rattle.operations.specs.Hinted.{hintPlace, hintServes}
 use Rattle.operations.specs.declared.{change.Change.Change, change.Lookup.Lookup, change.Answered.Answered}
+use Rattle.walk.specs.Answers.{Walked}
 
 -- a read's and a write's hint has its own place below 512
 place-small : (page : ℕ) → place_of page < 256
@@ -97,7 +97,7 @@ fetch-translation : (on : Bool) (page : ℕ) (w : Walked) (r : Regime) (privileg
 unfolding translationWith applied
 fetch-translation on page w r privilege at k h g e va = refl
 
-module _ (c : Core) (memory : ℕ → Word) (va : ℕ) where
+module _ (c : Core) (memory : ℕ → Option ℕ) (va : ℕ) where
   -- the slot of the entry, and the translation with the hint of a place
   abbrev slot : ℕ
   slot = slot_at (bankNow c) c.privilege.level va

@@ -1,13 +1,12 @@
 -- Where each byte of an access lies, by the byte's own address: byte i of an access to va stands at the virtual address
 -- wrap (va + i), and in RAM where the translation of that address says, split or not.
 use Rattle.mmu.specs.Results.{Stepped}
-use Rattle.std.specs.Prelude.{◌≡◌, ℕ, ◌+◌, ◌-◌, ◌/◌, ◌%◌, ◌^◌, ◌<◌, ◌≤◌, Bool, true, false, List, length, ◌==◌, ◌≢◌, nat_lt}
+use Rattle.std.specs.Prelude.{◌≡◌, ℕ, ◌+◌, ◌-◌, ◌/◌, ◌%◌, ◌^◌, ◌<◌, ◌≤◌, Bool, true, false, List, length, ◌==◌, ◌≢◌, nat_lt, Option}
 use Rattle.std.proofs.Math.Path.{refl}
 use Rattle.std.proofs.Common.{sym, ap, subst, ◌∙◌, arith, ltb-true, ltb-false, lt-ltb, eq-eqb, ne_eqb}
 use Rattle.std.proofs.Math.Nat.{mod-mod}
 use Rattle.word.specs.Bits.{pick, wrap}
 use Rattle.word.specs.Ram.{word_at}
-use Rattle.word.specs.declared.ram.Word.{Word}
 use Rattle.walk.specs.Regime.{regimeOf}
 use Rattle.walk.specs.WalkBounds.{SoundWalked, walk-sound}
 use Rattle.tlb.specs.Live.{WellFormed}
@@ -34,7 +33,7 @@ byteVa va i = wrap (va + i)
 
 -- What the translation of that address answers: on va's own page in the core as it stands, and on the next page in the
 -- core that va's translation leaves, since an access translates them in this order.
-abbrev pub ownAnswer : Core → (ℕ → Word) → ℕ → Kind → ℕ → Answer
+abbrev pub ownAnswer : Core → (ℕ → Option ℕ) → ℕ → Kind → ℕ → Answer
 ownAnswer c memory va kind i =
     pick (byteVa va i / 4096 == va / 4096) (translateOf c memory (byteVa va i) kind).answer
     (translateOf (translateOf c memory va kind).core memory (byteVa va i) kind).answer
@@ -54,13 +53,13 @@ pub record Ready (c : Core) (base : ℕ) (ram : List ℕ) (va n : ℕ) (kind : K
 -- WHERE EACH BYTE LIES
 
 -- byte i's own translation, and that the access has the byte there; an address is 64 bits
-pub record Own (c : Core) (memory : ℕ → Word) (va : ℕ) (kind : Kind) (i : ℕ) (place : Place) : Type 0 where
+pub record Own (c : Core) (memory : ℕ → Option ℕ) (va : ℕ) (kind : Kind) (i : ℕ) (place : Place) : Type 0 where
   pub pa : ℕ
   pub answer : ownAnswer c memory va kind i ≡ Address pa
   pub there : wrap pa ≡ wrap (addressIn place i)
 
 module _ (c : Core) (base : ℕ) (ram : List ℕ) (va n : ℕ) (kind : Kind) (ready : Ready c base ram va n kind) where
-  abbrev memory : ℕ → Word
+  abbrev memory : ℕ → Option ℕ
   memory = word_at base ram 8
 
   abbrev stepIn : ℕ → Tlb → Stepped

@@ -1,12 +1,11 @@
 -- The translations of a load or a store as their changes leave the cache that the operation's translations leave, on plain values.
 use Rattle.mmu.specs.Results.{Located, Stepped}
-use Rattle.std.specs.Prelude.{◌≡◌, ℕ, zero, suc, ◌%◌, ◌<◌, Bool, true, false, ◌&&◌, T as Holds, List, length, get_or, ◌==◌, slice_index_or, slice_set}
+use Rattle.std.specs.Prelude.{◌≡◌, ℕ, zero, suc, ◌%◌, ◌<◌, Bool, true, false, ◌&&◌, T as Holds, List, length, get_or, ◌==◌, slice_index_or, slice_set, Option}
 use Rattle.std.proofs.Math.Path.{refl, ap}
 use Rattle.std.proofs.Common.{sym, subst, ◌∙◌, arith, ne_eqb, eqb→eq, get_or-set_same, get_or-set_other}
 use Rattle.std.proofs.lemmas.Bool.{eqb-false}
 use Rattle.std.proofs.lemmas.List.{set-get_or}
 use Rattle.word.specs.Bits.{pick}
-use Rattle.word.specs.declared.ram.Word.{Word}
 use Rattle.walk.specs.Regime.{regimeOf, stage1On}
 use Rattle.tlb.specs.Cache.{hintAt, entry_at}
 use Rattle.tlb.specs.Entry.{blank}
@@ -80,7 +79,7 @@ module _ (c : Core) (kind : Kind) (hs : length c.tlb.cache.hints ≡ 512) (es : 
       t.made blank (rw es lj)) in
       λ n. record { lookup = lookupIn c a kind; current = c.tlb.cache.current; hint = hint n; entry = entry n }
 
-  module _ (memory : ℕ → Word) (va n next : ℕ) (en : crosses (stage1On (bankNow c) (regimeOf c.privilege.level)) va n ≡ true → next ≡ nextPage va) where
+  module _ (memory : ℕ → Option ℕ) (va n next : ℕ) (en : crosses (stage1On (bankNow c) (regimeOf c.privilege.level)) va n ≡ true → next ≡ nextPage va) where
     -- the first page's translation, and the core that it leaves
     abbrev first : Answered
     first = answeredOf (pageIn c va kind) va kind memory

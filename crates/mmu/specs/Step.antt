@@ -2,9 +2,8 @@
 -- code's own types. What they mean: `Asks`, which translations an access makes; `PageLaws`, that they go by pages;
 -- `OwnAddress`, where each byte then lies.
 use Rattle.mmu.specs.Results.{Stepped, Located}
-use Rattle.std.specs.Prelude.{ℕ}
+use Rattle.std.specs.Prelude.{ℕ, Option}
 use Rattle.word.specs.Bits.{pick}
-use Rattle.word.specs.declared.ram.Word.{Word}
 use Rattle.walk.specs.Regime.{stage1On, regimeOf}
 use Rattle.walk.specs.Tag.{untagged}
 use Rattle.walk.specs.declared.regime.Bank.{Bank}
@@ -25,7 +24,7 @@ onePage va a = record { tlb = a.tlb; placed = placedOne va a.answer }
 abbrev pub bothPages : ℕ → Answer → Stepped → Located
 bothPages va a b = record { tlb = b.tlb; placed = placedBoth va a b.answer }
 
-module _ (s : Bank) (privilege : Privilege) (memory : ℕ → Word) where
+module _ (s : Bank) (privilege : Privilege) (memory : ℕ → Option ℕ) where
   -- one translation
   unfoldable pub translateIn : ℕ → Kind → Tlb → Stepped
   translateIn va kind t =

@@ -5,8 +5,7 @@ use exception::flags::Flags;
 use sysreg::regs::{Control, SysRegs};
 use tlb::Tlb;
 use tlb::access::Privilege;
-use walk::regime;
-use walk::regime::Bank;
+use walk::regime::{Bank, Regime};
 
 #[derive(Clone, Copy)]
 pub struct Core {
@@ -69,6 +68,6 @@ impl Core {
     pub fn bank(&self) -> Bank
         ensures { result ≡ bankNow self.now }
     {
-        regime::bank_of(self.control, regime::regime_of(self.privilege.level))
+        Bank::new(&self.control, Regime::of_level(self.privilege.level))
     }
 }

@@ -9,7 +9,6 @@ use operations::ends::{FetchAnswer, LoadAnswer, Reached, StoreAnswer};
 use operations::place::Placed;
 use operations::{ends, lookup, place};
 use tlb::access::{Answer, Kind};
-use word::ram;
 use word::ram::Width;
 
 impl Core {
@@ -49,7 +48,7 @@ impl Core {
         let s = self.bank();
         let privilege = self.privilege;
         let on = lookup::on_at(s, privilege.level);
-        let split = place::crosses(on, va, ram::bytes_in(width));
+        let split = place::crosses(on, va, width.bytes());
         let first = self.tlb.translate(s, privilege, va, kind, base, ram);
         let more = place::goes_on(first, split);
         if more {

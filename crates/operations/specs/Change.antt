@@ -1,8 +1,7 @@
 -- A translation as what it changes, and the core with that stored. Cited by the contracts of this crate alone.
-use Rattle.std.specs.Prelude.{◌≡◌, ℕ, zero, suc, Bool, true, false, ◌&&◌, ◌==◌, refl}
+use Rattle.std.specs.Prelude.{◌≡◌, ℕ, zero, suc, Bool, true, false, ◌&&◌, ◌==◌, refl, Option}
 use Rattle.std.proofs.lemmas.List.{set-get_or}
 use Rattle.word.specs.Bits.{pick}
-use Rattle.word.specs.declared.ram.Word.{Word}
 use Rattle.sysreg.specs.declared.regs.Control.{Control}
 use Rattle.walk.specs.Regime.{bankOf, regimeOf}
 use Rattle.walk.specs.declared.regime.Bank.{Bank}
@@ -93,7 +92,7 @@ address_of (Address pa) = pa
 address_of (Status f) = 0
 
 -- the changes of what is asked
-unfoldable pub missBy : Asked → Bank → Privilege → Current → Entry → ℕ → Kind → (ℕ → Word) → Resolved
+unfoldable pub missBy : Asked → Bank → Privilege → Current → Entry → ℕ → Kind → (ℕ → Option ℕ) → Resolved
 missBy a s privilege at e va kind memory = changesOf a s privilege at e va kind memory
 
 abbrev pub changeOf : Lookup → Resolved → ℕ → Kind → Change
@@ -140,7 +139,7 @@ unchanged k =
 abbrev pub translatedBy : Lookup → Resolved → ℕ → Kind → Translated
 translatedBy k t va kind = record { change = changeOf k t va kind; reply = translation va t.answer }
 
-unfoldable pub translatedOf : Page → ℕ → Kind → (ℕ → Word) → Translated
+unfoldable pub translatedOf : Page → ℕ → Kind → (ℕ → Option ℕ) → Translated
 translatedOf x va kind memory =
     translatedBy x.lookup (missBy x.lookup.asked x.lookup.bank x.lookup.privilege x.current x.entry va kind memory) va kind
 
@@ -148,7 +147,7 @@ translatedOf x va kind memory =
 abbrev pub answeredBy : Lookup → Resolved → ℕ → Kind → Answered
 answeredBy k t va kind = record { change = changeOf k t va kind; answer = t.answer }
 
-unfoldable pub answeredOf : Page → ℕ → Kind → (ℕ → Word) → Answered
+unfoldable pub answeredOf : Page → ℕ → Kind → (ℕ → Option ℕ) → Answered
 answeredOf x va kind memory =
     pick (hintServes x.hint x.lookup.privilege va kind)
     (record { change = unchanged x.lookup; answer = Address (onPage x.hint.pa va) })

@@ -2,7 +2,6 @@
 use Rattle.std.specs.Prelude.{Some, Option, None}
 use Rattle.std.specs.Prelude.{ℕ, zero, suc, true, false, List, length}
 use Rattle.word.specs.Ram.{word_at}
-use Rattle.word.specs.declared.ram.Word.{Word}
 use Rattle.tlb.specs.Hint.{fetchFound}
 use Rattle.tlb.specs.declared.access.Answer.TheVariants.{Address}
 use Rattle.tlb.specs.declared.access.Kind.TheVariants.{Fetch}
@@ -52,7 +51,7 @@ abbrev pub fetchTranslationAt : (Option ℕ) → Lookup → Resolved → ℕ →
 fetchTranslationAt (Some pa) k t va = record { change = unchanged k; answer = Address pa }
 fetchTranslationAt None k t va = fetchTranslationBy k t va
 
-unfoldable pub fetchAnsweredOf : FetchHint → Page → ℕ → (ℕ → Word) → Answered
+unfoldable pub fetchAnsweredOf : FetchHint → Page → ℕ → (ℕ → Option ℕ) → Answered
 fetchAnsweredOf f x va memory =
     fetchTranslationAt (fetchFound f x.lookup.privilege.level va) x.lookup
     (missBy x.lookup.asked x.lookup.bank x.lookup.privilege x.current x.entry va Fetch memory) va

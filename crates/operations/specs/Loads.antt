@@ -1,9 +1,7 @@
 -- The work of a load and of a store, on small values. Cited by the contracts of this crate alone.
-use Rattle.std.specs.Prelude.{ℕ, zero, suc, Bool, true, false, ◌&&◌, List, length, nat_le}
+use Rattle.std.specs.Prelude.{ℕ, zero, suc, Bool, true, false, ◌&&◌, List, length, nat_le, Option, Some, None}
 use Rattle.word.specs.Bits.{pick}
 use Rattle.word.specs.Ram.{word_at, width_of, bytesIn}
-use Rattle.word.specs.declared.{ram.Sized.Sized, ram.Word.Word}
-use Rattle.word.specs.declared.ram.Sized.TheVariants.{Bytes, Refused as NoWidth}
 use Rattle.walk.specs.Regime.{regimeOf, stage1On}
 use Rattle.walk.specs.declared.regime.Bank.{Bank}
 use Rattle.tlb.specs.Hint.{onPage}
@@ -22,11 +20,12 @@ use Rattle.operations.specs.Replies.{loading}
 use Rattle.operations.specs.declared.call.Reply.TheVariants.{Refused, Done, Value}
 use Rattle.operations.specs.Change.{unchanged, answeredOf, pageAfter}
 use Rattle.operations.specs.Hinted.{hintServes}
+use Rattle.word.specs.declared.ram.Width.{Width}
 
 -- the number of bytes of a size, 0 where it is none
-abbrev pub bytesBy : Sized → ℕ
-bytesBy (Bytes w) = bytesIn w
-bytesBy NoWidth = 0
+abbrev pub bytesBy : Option Width → ℕ
+bytesBy (Some w) = bytesIn w
+bytesBy None = 0
 
 abbrev pub bytes_of : ℕ → ℕ
 bytes_of size = bytesBy (width_of size)
@@ -46,18 +45,18 @@ moreOf s level a va n = goesOn a (crosses (stage1On s (regimeOf level)) va n)
 abbrev pub bothBy : Answered → Answered → ℕ → Both
 bothBy f t va = record { first = f.change; second = t.change; placed = placedBoth va f.answer t.answer }
 
-unfoldable pub twoTranslations : Answered → Page → ℕ → Kind → (ℕ → Word) → Both
+unfoldable pub twoTranslations : Answered → Page → ℕ → Kind → (ℕ → Option ℕ) → Both
 twoTranslations f y va kind memory = bothBy f (answeredOf (pageAfter f.change y) (nextPage va) kind memory) va
 
 abbrev pub oneTranslation : Answered → Page → ℕ → Both
 oneTranslation f y va = record { first = f.change; second = unchanged y.lookup; placed = placedOne va f.answer }
 
 -- the translations of an access of n bytes
-abbrev pub bothWith : Lookup → Answered → Page → ℕ → ℕ → Kind → (ℕ → Word) → Both
+abbrev pub bothWith : Lookup → Answered → Page → ℕ → ℕ → Kind → (ℕ → Option ℕ) → Both
 bothWith k f y va n kind memory =
     pick (moreOf k.bank k.privilege.level f.answer va n) (twoTranslations f y va kind memory) (oneTranslation f y va)
 
-unfoldable pub bothOf : Page → Page → ℕ → ℕ → Kind → (ℕ → Word) → Both
+unfoldable pub bothOf : Page → Page → ℕ → ℕ → Kind → (ℕ → Option ℕ) → Both
 bothOf x y va n kind memory = bothWith x.lookup (answeredOf x va kind memory) y va n kind memory
 
 -- what an access changes
@@ -83,9 +82,9 @@ afterLoadEnd b e = accessOf b e.last_pa e.abort_pa (loading e.answer)
 abbrev pub loadAfter : Hinted → Both → ℕ → ℕ → ℕ → List ℕ → Access
 loadAfter g b va n base ram = afterLoadEnd b (loadEnd b.placed g.last_pa g.abort_pa base ram va n)
 
-abbrev pub loadedBy : Sized → Hinted → Page → Page → ℕ → ℕ → List ℕ → Access
-loadedBy (Bytes w) g x y va base ram = loadAfter g (bothOf x y va (bytesIn w) Read (word_at base ram 8)) va (bytesIn w) base ram
-loadedBy NoWidth g x y va base ram = untouchedOf g x y
+abbrev pub loadedBy : Option Width → Hinted → Page → Page → ℕ → ℕ → List ℕ → Access
+loadedBy (Some w) g x y va base ram = loadAfter g (bothOf x y va (bytesIn w) Read (word_at base ram 8)) va (bytesIn w) base ram
+loadedBy None g x y va base ram = untouchedOf g x y
 
 unfoldable pub loadedOf : Hinted → Page → Page → ℕ → ℕ → ℕ → List ℕ → Access
 loadedOf g x y va size base ram = loadedBy (width_of size) g x y va base ram
@@ -99,9 +98,9 @@ abbrev pub fastGot : Got → ℕ → ℕ → FastLoad
 fastGot (Got.Value v) pa last = record { ends = true; last_pa = pa; reply = Value v }
 fastGot (Got.Abort i at) pa last = record { ends = false; last_pa = last; reply = Done }
 
-abbrev pub read_by : Sized → ℕ → List ℕ → ℕ → ℕ → FastLoad
-read_by (Bytes w) base ram pa last = fastGot (load_of base ram (Whole pa) (bytesIn w)) pa last
-read_by NoWidth base ram pa last = record { ends = false; last_pa = last; reply = Done }
+abbrev pub read_by : Option Width → ℕ → List ℕ → ℕ → ℕ → FastLoad
+read_by (Some w) base ram pa last = fastGot (load_of base ram (Whole pa) (bytesIn w)) pa last
+read_by None base ram pa last = record { ends = false; last_pa = last; reply = Done }
 
 unfoldable pub fastRead : ℕ → List ℕ → ℕ → ℕ → ℕ → FastLoad
 fastRead base ram pa size last = read_by (width_of size) base ram pa last

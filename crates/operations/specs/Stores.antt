@@ -1,8 +1,6 @@
 -- The work of a store, on small values. Cited by the contracts of this crate alone.
-use Rattle.std.specs.Prelude.{ℕ, zero, suc, Bool, true, ◌&&◌, List}
+use Rattle.std.specs.Prelude.{ℕ, zero, suc, Bool, true, ◌&&◌, List, Option, Some, None}
 use Rattle.word.specs.Ram.{word_at, width_of, bytesIn, within}
-use Rattle.word.specs.declared.ram.Sized.{Sized}
-use Rattle.word.specs.declared.ram.Sized.TheVariants.{Bytes, Refused as NoWidth}
 use Rattle.tlb.specs.Hint.{onPage}
 use Rattle.tlb.specs.declared.access.Kind.TheVariants.{Write}
 use Rattle.tlb.specs.declared.{access.Privilege.Privilege, hint.Hint.Hint}
@@ -16,6 +14,7 @@ use Rattle.operations.specs.Check.{sizedRows, first_of}
 use Rattle.operations.specs.Replies.{storing}
 use Rattle.operations.specs.declared.call.Reply.TheVariants.{Refused, Done}
 use Rattle.operations.specs.Loads.{hitIn, bothOf, untouchedOf, accessOf}
+use Rattle.word.specs.declared.ram.Width.{Width}
 
 -- whether a store ends at once: a check that it misses, or the hint that serves in its page, where the bytes lie in RAM
 abbrev pub fastStoreBy : ℕ → Bool → ℕ → FastStore
@@ -36,9 +35,9 @@ nowReplyBy (suc n) = Refused (suc n)
 abbrev pub nowReply : FastStore → Reply
 nowReply q = nowReplyBy q.refused
 
-abbrev pub sizedRam : Sized → ℕ → ℕ → List ℕ → ℕ → List ℕ
-sizedRam (Bytes w) pa base ram value = storeRam base ram (Whole pa) (bytesIn w) value
-sizedRam NoWidth pa base ram value = ram
+abbrev pub sizedRam : Option Width → ℕ → ℕ → List ℕ → ℕ → List ℕ
+sizedRam (Some w) pa base ram value = storeRam base ram (Whole pa) (bytesIn w) value
+sizedRam None pa base ram value = ram
 
 abbrev pub nowRamBy : ℕ → List ℕ → List ℕ → List ℕ
 nowRamBy zero ram after = after
@@ -54,18 +53,18 @@ afterStoreEnd b last e = accessOf b last e.abort_pa (storing e.answer)
 unfoldable pub storeAfter : Both → ℕ → ℕ → ℕ → ℕ → ℕ → List ℕ → Access
 storeAfter b last abort va n base ram = afterStoreEnd b last (storeEnd b.placed abort base ram va n)
 
-abbrev pub storedBy : Sized → Hinted → Page → Page → ℕ → ℕ → List ℕ → Access
-storedBy (Bytes w) g x y va base ram =
+abbrev pub storedBy : Option Width → Hinted → Page → Page → ℕ → ℕ → List ℕ → Access
+storedBy (Some w) g x y va base ram =
     storeAfter (bothOf x y va (bytesIn w) Write (word_at base ram 8)) g.last_pa g.abort_pa va (bytesIn w) base ram
-storedBy NoWidth g x y va base ram = untouchedOf g x y
+storedBy None g x y va base ram = untouchedOf g x y
 
 unfoldable pub storedOf : Hinted → Page → Page → ℕ → ℕ → ℕ → List ℕ → Access
 storedOf g x y va size base ram = storedBy (width_of size) g x y va base ram
 
-abbrev pub storedRamBy : Sized → Page → Page → ℕ → ℕ → ℕ → List ℕ → List ℕ
-storedRamBy (Bytes w) x y va value base ram =
+abbrev pub storedRamBy : Option Width → Page → Page → ℕ → ℕ → ℕ → List ℕ → List ℕ
+storedRamBy (Some w) x y va value base ram =
     storeRamEnd (bothOf x y va (bytesIn w) Write (word_at base ram 8)).placed base ram (bytesIn w) value
-storedRamBy NoWidth x y va value base ram = ram
+storedRamBy None x y va value base ram = ram
 
 unfoldable pub storedRam : Page → Page → ℕ → ℕ → ℕ → ℕ → List ℕ → List ℕ
 storedRam x y va size value base ram = storedRamBy (width_of size) x y va value base ram

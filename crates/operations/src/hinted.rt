@@ -11,8 +11,7 @@ use tlb::access::{Answer, Kind, Privilege};
 use tlb::hint::Hint;
 use tlb::hint;
 use walk::regime::Bank;
-use word::ram;
-use word::ram::Sized;
+use word::ram::Width;
 
 // What the hint and the checks say: an answer at once, or none.
 #[derive(Clone, Copy)]
@@ -101,9 +100,9 @@ pub fn at_once(g: Hinted, base: u64, ram: &[u8], va: u64, kind: Kind) -> Fast
 fn bytes_of(size: u64) -> u64
     ensures { result ≡ bytes_of size }
 {
-    match ram::width_of(size) {
-        Sized::Bytes(width) => ram::bytes_in(width),
-        Sized::Refused => 0,
+    match Width::of_size(size) {
+        Some(width) => width.bytes(),
+        None => 0,
     }
 }
 

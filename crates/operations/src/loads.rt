@@ -12,8 +12,7 @@ use crate::place::{Place, Placed};
 use crate::{bytes, change, check, ends, hinted, place, reply};
 use tlb::access::Kind;
 use tlb::hint;
-use word::ram;
-use word::ram::Sized;
+use word::ram::Width;
 
 // What the translations of an access change, and what they found. A page that is not translated changes nothing.
 #[derive(Clone, Copy)]
@@ -140,9 +139,9 @@ pub fn access_of(b: Both, last: u64, abort: u64, reply: Reply) -> Access
 pub fn loaded(g: Hinted, x: Page, y: Page, va: u64, size: u64, base: u64, ram: &[u8]) -> Access
     ensures { result ≡ loadedOf g x y va size base ram.now }
 {
-    match ram::width_of(size) {
-        Sized::Bytes(width) => {
-            let n = ram::bytes_in(width);
+    match Width::of_size(size) {
+        Some(width) => {
+            let n = width.bytes();
             let b = translations(x, y, va, n, Kind::Read, base, ram);
             let placed = b.placed;
             let e = ends::load_end(placed, g.last_pa, g.abort_pa, base, ram, va, width);
@@ -150,7 +149,7 @@ pub fn loaded(g: Hinted, x: Page, y: Page, va: u64, size: u64, base: u64, ram: &
             let reply = reply::loaded(answer);
             access_of(b, e.last_pa, e.abort_pa, reply)
         }
-        Sized::Refused => untouched(g, x, y),
+        None => untouched(g, x, y),
     }
 }
 
@@ -159,8 +158,8 @@ pub fn loaded(g: Hinted, x: Page, y: Page, va: u64, size: u64, base: u64, ram: &
 fn read_at(base: u64, ram: &[u8], pa: u64, size: u64, last: u64) -> FastLoad
     ensures { result ≡ fastRead base ram.now pa size last }
 {
-    match ram::width_of(size) {
-        Sized::Bytes(width) => match bytes::load(base, ram, Place::Whole(pa), width) {
+    match Width::of_size(size) {
+        Some(width) => match bytes::load(base, ram, Place::Whole(pa), width) {
             Got::Value(v) => FastLoad {
                 ends: true,
                 last_pa: pa,
@@ -172,7 +171,7 @@ fn read_at(base: u64, ram: &[u8], pa: u64, size: u64, last: u64) -> FastLoad
                 reply: Reply::Done,
             },
         },
-        Sized::Refused => FastLoad {
+        None => FastLoad {
             ends: false,
             last_pa: last,
             reply: Reply::Done,

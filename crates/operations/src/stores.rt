@@ -12,7 +12,7 @@ use crate::{bytes, check, ends, hinted, loads, reply};
 use tlb::access::Kind;
 use tlb::hint;
 use word::ram;
-use word::ram::{Sized, Width};
+use word::ram::Width;
 
 // What the checks and the hint say: whether the store ends at once, the number of the first check missed, or else
 // where the bytes go.
@@ -57,12 +57,12 @@ pub fn store_now(q: FastStore, base: u64, ram: &mut [u8], size: u64, value: u64)
     if n != 0 {
         return Reply::Refused(n);
     }
-    match ram::width_of(size) {
-        Sized::Bytes(width) => {
+    match Width::of_size(size) {
+        Some(width) => {
             let _ = bytes::store(base, ram, Place::Whole(q.pa), width, value);
             Reply::Done
         }
-        Sized::Refused => Reply::Done,
+        None => Reply::Done,
     }
 }
 
@@ -103,12 +103,12 @@ pub fn stored(
     ensures { (result ≡ storedOf g x y va size base ram.old)
         × (ram.new ≡ storedRam x y va size value base ram.old) }
 {
-    match ram::width_of(size) {
-        Sized::Bytes(width) => {
-            let n = ram::bytes_in(width);
+    match Width::of_size(size) {
+        Some(width) => {
+            let n = width.bytes();
             let b = loads::translations(x, y, va, n, Kind::Write, base, ram);
             ended(b, g.last_pa, g.abort_pa, va, width, value, base, ram)
         }
-        Sized::Refused => loads::untouched(g, x, y),
+        None => loads::untouched(g, x, y),
     }
 }

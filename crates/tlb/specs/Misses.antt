@@ -1,11 +1,10 @@
 -- A translation that no hint serves, against the plain model.
-use Rattle.std.specs.Prelude.{◌≡◌, ℕ, ◌*◌, ◌/◌, ◌≤◌, Bool, true, false}
+use Rattle.std.specs.Prelude.{◌≡◌, ℕ, ◌*◌, ◌/◌, ◌≤◌, Bool, true, false, Ok, Err}
 use Rattle.std.proofs.Math.Path.{refl, ap}
 use Rattle.std.proofs.Common.{◌∙◌, arith}
 use Rattle.std.proofs.lemmas.List.{set-get_or}
 use Rattle.word.specs.Bits.{pick}
-use Rattle.walk.specs.declared.{level.Leaf.Leaf, level.Walked.Walked}
-use Rattle.walk.specs.declared.level.Walked.TheVariants.{Mapped, Fault}
+use Rattle.walk.specs.declared.level.Leaf.{Leaf}
 use Rattle.tlb.specs.Entry.{blank, serves}
 use Rattle.tlb.specs.Count.{hitCounted, walkCounted}
 use Rattle.tlb.specs.Lists.{each-getD}
@@ -23,6 +22,7 @@ use Rattle.tlb.specs.Step.{slotFor}
 use Rattle.tlb.specs.declared.{entry.Entry.Entry, count.Counts.Counts, cache.Cache.Cache, resolve.Query.Query}
 use Rattle.tlb.specs.declared.{resolve.Resolved.Resolved, resolve.Source.Source, Tlb.Tlb}
 use Rattle.tlb.specs.declared.resolve.Source.TheVariants.{FromHint, FromEntry, FromWalk, NoLeaf}
+use Rattle.walk.specs.Answers.{Walked}
 
 -- a cell put back as it was
 same-entry : (c : Cache) (i : ℕ) → setEntry c i (entry_at c i) ≡ c
@@ -80,7 +80,7 @@ module _ (a : Access) (t : Tlb) (s : WellFormed t) (fits : LeafLevel a.walk) (lo
   abbrev made : Leaf → Entry
   made leaf = entryFor leaf t.cache.current query.tag
 
-  leaf-made : (leaf : Leaf) → a.walk ≡ Mapped leaf → Made t.cache.current.generation (made leaf)
+  leaf-made : (leaf : Leaf) → a.walk ≡ Ok leaf → Made t.cache.current.generation (made leaf)
   leaf-made leaf q = record { early = omega arith; aligned = omega arith; level = fits leaf q }
 
   leaf-line : (leaf : Leaf) → lineIn a.regime (made leaf) ≡ lineOfLeaf leaf a t.cache.current.asid
@@ -116,13 +116,13 @@ module _ (a : Access) (t : Tlb) (s : WellFormed t) (fits : LeafLevel a.walk) (lo
 
   walk-follows : (w : Walked) → a.walk ≡ w → Follows (byWalkOf w).answer (withEntry t level (slotFor a) (byWalkOf w)) (walked w a (live t))
   unfolding byWalk walked
-  walk-follows (Fault code) q =
+  walk-follows (Err code) q =
       record {
         answer = refl;
         after = counts-moved (walkCounted level t.counts) (oneWalk level) (walk-counted t.counts s.levels level low);
         well = well-after NoLeaf entry entry-made;
       }
-  walk-follows (Mapped leaf) q =
+  walk-follows (Ok leaf) q =
       record {
         answer = judged-is _ a.regime (made leaf) a (leaf-made leaf q) ∙ ap (λ (l : Line). judge l a) (leaf-line leaf);
         after = leaf-kept leaf ∙ ap (λ (l : Line). keep l (counting (oneWalk level) (live t))) (leaf-line leaf);

@@ -1,7 +1,6 @@
 -- One translation as a step of the whole cache: its cells taken out, its translation, the cells put back.
-use Rattle.std.specs.Prelude.{◌≡◌, ℕ, refl}
+use Rattle.std.specs.Prelude.{◌≡◌, ℕ, refl, Option}
 use Rattle.walk.specs.Regime.{regimeOf}
-use Rattle.word.specs.declared.ram.Word.{Word}
 use Rattle.walk.specs.declared.regime.Bank.{Bank}
 use Rattle.tlb.specs.Entry.{slot_of}
 use Rattle.tlb.specs.Hint.{dataSlot}
@@ -15,7 +14,7 @@ use Rattle.tlb.specs.declared.{access.Kind.Kind, access.Privilege.Privilege, res
 use Rattle.tlb.specs.declared.access.Kind.TheVariants.{Fetch}
 
 -- the access that registers and tables make of an address
-abbrev pub accessOf : Bank → Privilege → ℕ → Kind → (ℕ → Word) → Access
+abbrev pub accessOf : Bank → Privilege → ℕ → Kind → (ℕ → Option ℕ) → Access
 accessOf s privilege va kind memory =
     record {
       privilege = privilege;
@@ -68,14 +67,14 @@ abbrev pub fetchedIn : Access → Tlb → Tlb
 fetchedIn a t = withFetch t (slotFor a) (fetchIn a t)
 
 -- the code's translation is that of its access
-pub translation-is : (s : Bank) (privilege : Privilege) (va : ℕ) (kind : Kind) (memory : ℕ → Word) (t : Tlb)
+pub translation-is : (s : Bank) (privilege : Privilege) (va : ℕ) (kind : Kind) (memory : ℕ → Option ℕ) (t : Tlb)
     → translationOf s privilege t.cache.current t.counts (hintAt t.cache (dataSlot va kind))
     (entry_at t.cache (slotFor (accessOf s privilege va kind memory))) va kind memory
     ≡ translationIn (accessOf s privilege va kind memory) t
 unfolding translationOf
 translation-is s privilege va kind memory t = refl
 
-pub fetch-is : (s : Bank) (privilege : Privilege) (va : ℕ) (memory : ℕ → Word) (t : Tlb)
+pub fetch-is : (s : Bank) (privilege : Privilege) (va : ℕ) (memory : ℕ → Option ℕ) (t : Tlb)
     → fetchOf s privilege t.cache.current t.counts t.cache.fetch (entry_at t.cache (slotFor (accessOf s privilege va Fetch memory))) va memory
     ≡ fetchIn (accessOf s privilege va Fetch memory) t
 unfolding fetchOf

@@ -6,8 +6,7 @@ use Rattle.word.specs.Bits.{pick}
 use Rattle.walk.specs.Regime.{stage1On, regimeOf}
 use Rattle.walk.specs.Tag.{untagged}
 use Rattle.walk.specs.Walk.{walk_of}
-use Rattle.word.specs.declared.ram.Word.{Word}
-use Rattle.walk.specs.declared.{regime.Regime.Regime, regime.Bank.Bank, level.Walked.Walked}
+use Rattle.walk.specs.declared.{regime.Regime.Regime, regime.Bank.Bank}
 use Rattle.tlb.specs.Access.{mayHint}
 use Rattle.tlb.specs.Hint.{onPage, hintKey, fetchFound}
 use Rattle.tlb.specs.Resolve.{queryOf, askWith, askOf, byItself, resolveWith, resolveOf, changesOf, countedBy, keptBy, hintAfter, fetchAfter}
@@ -21,6 +20,7 @@ use Rattle.tlb.specs.declared.access.Answer.TheVariants.{Address}
 use Rattle.tlb.specs.declared.resolve.Source.{Source}
 use Rattle.tlb.specs.declared.resolve.Source.TheVariants.{FromHint}
 use Rattle.tlb.specs.declared.resolve.Asked.TheVariants.{Flat, Of}
+use Rattle.walk.specs.Answers.{Walked}
 
 -- what a translation leaves, its answer, and where that came from
 pub record Translation : Type 0 where
@@ -89,27 +89,27 @@ module _ (s : Bank) (level va : ℕ) where
   abbrev pub untaggedNow : ℕ
   untaggedNow = untagged s.tcr (regimeOf level) va
 
-  abbrev pub walkNow : (ℕ → Word) → Walked
+  abbrev pub walkNow : (ℕ → Option ℕ) → Walked
   walkNow memory = walk_of s (regimeOf level) untaggedNow memory
 
 module _ (s : Bank) (privilege : Privilege) (at : Current) where
-  unfoldable pub missOf : Entry → ℕ → Kind → (ℕ → Word) → Resolved
+  unfoldable pub missOf : Entry → ℕ → Kind → (ℕ → Option ℕ) → Resolved
   missOf e va kind memory =
       missWith (onNow s privilege.level va) (untaggedNow s privilege.level va) (walkNow s privilege.level va memory)
       (regimeOf privilege.level) privilege at e va kind
 
-  unfoldable pub translationOf : Counts → Hint → Entry → ℕ → Kind → (ℕ → Word) → Translation
+  unfoldable pub translationOf : Counts → Hint → Entry → ℕ → Kind → (ℕ → Option ℕ) → Translation
   translationOf k h e va kind memory =
       translationWith (onNow s privilege.level va) (untaggedNow s privilege.level va) (walkNow s privilege.level va memory)
       (regimeOf privilege.level) privilege at k h e va kind
 
-  unfoldable pub fetchOf : Counts → FetchHint → Entry → ℕ → (ℕ → Word) → FetchTranslation
+  unfoldable pub fetchOf : Counts → FetchHint → Entry → ℕ → (ℕ → Option ℕ) → FetchTranslation
   fetchOf k f e va memory =
       fetchWith (onNow s privilege.level va) (untaggedNow s privilege.level va) (walkNow s privilege.level va memory)
       (regimeOf privilege.level) privilege at k f e va
 
   -- the changes of what is asked
-  pub changes-are : (e : Entry) (va : ℕ) (kind : Kind) (memory : ℕ → Word)
+  pub changes-are : (e : Entry) (va : ℕ) (kind : Kind) (memory : ℕ → Option ℕ)
       → changesOf (askOf s privilege va) s privilege at e va kind memory ≡ missOf e va kind memory
   unfolding askOf missOf missWith resolveOf
   changes-are e va kind memory = go (stage1On s (regimeOf privilege.level))

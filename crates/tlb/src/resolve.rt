@@ -9,7 +9,7 @@ ghost use Rattle.tlb.specs.Resolve.{queryOf, askOf, entryFor, byEntry, byWalk, r
 use crate::access;
 use crate::access::{Answer, Kind, Privilege};
 use crate::entry::{Current, Entry};
-use walk::level::{Leaf, Walked};
+use walk::level::Leaf;
 use walk::regime::{Bank, Regime};
 
 // Where an answer came from. NoLeaf: a walk that ended in a fault.
@@ -63,8 +63,8 @@ pub fn query_of(s: Bank, regime: Regime, va: u64) -> Query
 pub fn ask(s: Bank, privilege: Privilege, va: u64) -> Asked
     ensures { result ≡ askOf s privilege va }
 {
-    let regime = walk::regime::regime_of(privilege.level);
-    if walk::regime::stage1_on(s, regime) {
+    let regime = Regime::of_level(privilege.level);
+    if s.stage1_on(regime) {
         Asked::Of(query_of(s, regime, va))
     } else {
         Asked::Flat
@@ -102,7 +102,7 @@ pub fn walked(
         (word_at base ram.now 8)) q privilege at va kind }
 {
     match walk::table::walk(s, q.regime, q.page, base, ram) {
-        Walked::Mapped(leaf) => {
+        Ok(leaf) => {
             let made = entry_for(leaf, at, q.tag);
             Resolved {
                 answer: made.judge(privilege.is_user(q.regime, kind), kind, va),
@@ -110,7 +110,7 @@ pub fn walked(
                 made,
             }
         }
-        Walked::Fault(code) => Resolved {
+        Err(code) => Resolved {
             answer: Answer::Status(fault::first(code)),
             source: Source::NoLeaf,
             made: Entry::blank(),

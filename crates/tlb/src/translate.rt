@@ -7,7 +7,6 @@ use crate::access::{Answer, Kind, Privilege};
 use crate::hint::{FetchHint, Hint};
 use crate::resolve::Asked;
 use crate::{Tlb, hint, resolve};
-use walk::level::Walked;
 use walk::regime::Bank;
 
 impl Tlb {
@@ -38,12 +37,12 @@ impl Tlb {
         }
         self.counts.add_walk(privilege.level);
         match walk::table::walk(s, q.regime, q.page, base, ram) {
-            Walked::Mapped(leaf) => {
+            Ok(leaf) => {
                 let e = resolve::entry_for(leaf, self.cache.current, q.tag);
                 self.put(e);
                 e.judge(user, kind, va)
             }
-            Walked::Fault(code) => Answer::Status(fault::first(code)),
+            Err(code) => Answer::Status(fault::first(code)),
         }
     }
 

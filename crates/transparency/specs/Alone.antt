@@ -1,9 +1,8 @@
 -- Where the answers to a call's translations are those of the core without a cache, so are its reply and RAM after it.
-use Rattle.std.specs.Prelude.{◌≡◌, refl, List, [], ◌∷◌, ◌++◌, ℕ, zero, suc, ◌+◌, ◌%◌}
+use Rattle.std.specs.Prelude.{◌≡◌, refl, List, [], ◌∷◌, ◌++◌, ℕ, zero, suc, ◌+◌, ◌%◌, Option}
 use Rattle.std.proofs.Common.{sym, ap, subst, ◌∙◌, append-nil}
 use Rattle.word.specs.Bits.{alignDown, wrap}
 use Rattle.word.specs.Ram.{width_of}
-use Rattle.word.specs.declared.ram.Sized.{Sized}
 use Rattle.tlb.specs.Asks.{translates, Given, onward-same}
 use Rattle.tlb.specs.declared.access.Kind.TheVariants as Kind
 use Rattle.tlb.specs.declared.Tlb.{Tlb}
@@ -29,6 +28,7 @@ use Rattle.transparency.specs.Replies.{bareZero, bareSys, bareCall, bareReply}
 use Rattle.transparency.specs.Bridge.{stored-bare, stored-tlb}
 use Rattle.transparency.specs.Answered.{one-page, next-aligned, start-aligned, accessGiven, store-answered, zeroOutcome, zeroGiven, storeEnds, coreThen}
 use Rattle.transparency.specs.Answered.{tlbThen, storeGiven, one-given, one-outcome, zero-said, reply-is}
+use Rattle.word.specs.declared.ram.Width.{Width}
 
 cons_head : {g h : Given} {l k : List Given} → ◌≡◌ {A = List Given} (g ∷ l) (h ∷ k) → g ≡ h
 cons_head e = cc
@@ -109,11 +109,11 @@ zero-alone (suc n) c m va al e =
 -- EVERY CALL
 
 -- the answers of one access, as the run and the access alone list them
-load-alone : (s : Sized) (b : Bare) (m : Ram) (va : ℕ)
+load-alone : (s : Option Width) (b : Bare) (m : Ram) (va : ℕ)
     → loadSized s m va (bareAnswers b m (sizedIn b va s Kind.Read) ++ []) ≡ loadSized s m va (bareAnswers b m (sizedIn b va s Kind.Read))
 load-alone s b m va = ap (loadSized s m va) (append-nil (bareAnswers b m (sizedIn b va s Kind.Read)))
 
-store-alone : (s : Sized) (b : Bare) (m : Ram) (va v : ℕ)
+store-alone : (s : Option Width) (b : Bare) (m : Ram) (va v : ℕ)
     → storeSized s m va v (bareAnswers b m (sizedIn b va s Kind.Write) ++ []) ≡ storeSized s m va v (bareAnswers b m (sizedIn b va s Kind.Write))
 store-alone s b m va v = ap (storeSized s m va v) (append-nil (bareAnswers b m (sizedIn b va s Kind.Write)))
 

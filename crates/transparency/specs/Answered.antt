@@ -1,13 +1,9 @@
 -- The cache reaches a reply through the answers to the call's translations alone.
-use Rattle.std.specs.Prelude.{◌≡◌, Bool, true, false, ◌&&◌, List, [], ◌∷◌, ◌++◌, ℕ, zero, suc, ◌+◌, ◌%◌, length}
+use Rattle.std.specs.Prelude.{◌≡◌, Bool, true, false, ◌&&◌, List, [], ◌∷◌, ◌++◌, ℕ, zero, suc, ◌+◌, ◌%◌, length, Option, Some, None, Ok, Err}
 use Rattle.std.proofs.Math.Path.{refl, ap}
 use Rattle.std.proofs.Common.{sym, ap₂, ◌∙◌, append-nil, arith, le-ltb}
 use Rattle.word.specs.Bits.{alignDown, wrap}
 use Rattle.word.specs.Ram.{width_of, bytesIn}
-use Rattle.word.specs.declared.ram.Sized.{Sized}
-use Rattle.word.specs.declared.ram.Sized.TheVariants as Sized
-use Rattle.sysreg.specs.declared.{write.WriteAnswer.WriteAnswer, write.Written.Written}
-use Rattle.sysreg.specs.declared.write.WriteAnswer.TheVariants as Written
 use Rattle.tlb.specs.Asks.{translates, Given, onward-same}
 use Rattle.tlb.specs.declared.access.Kind.TheVariants as Kind
 use Rattle.tlb.specs.declared.{access.Answer.Answer, Tlb.Tlb}
@@ -46,6 +42,9 @@ use Rattle.transparency.specs.Events.{idle, accessIn, sizedIn, zeroSteps, sysSte
 use Rattle.transparency.specs.Starts.{ramZeroed, zeroLater, sysLater, laterOf, laterIn}
 use Rattle.transparency.specs.Replies.{Outcome, outcome, outcomeOf, loadSays, storeSays, loadSized, storeSized, zeroSays, sysSays, callSays, saysIn}
 use Rattle.transparency.specs.Bridge.{stored-bare, stored-tlb}
+use Rattle.word.specs.declared.ram.Width.{Width}
+use Rattle.sysreg.specs.Write.{WriteAnswer, Written}
+use Rattle.sysreg.specs.declared.write.WriteError.TheVariants.{Undefined, NoRegister}
 
 -- `last_pa` and `abort_pa` reach no answer
 
@@ -100,18 +99,18 @@ store-answered c m va n v =
     ∙ ap (λ (p : Placed). (storeEnd p 0 m.base m.bytes va n).answer) (placed_by c m.base m.bytes va n Kind.Write))
     (ap (λ (p : Placed). storeRamEnd p m.base m.bytes n v) (placed_by c m.base m.bytes va n Kind.Write))
 
-load_sized : (c : Core) (m : Ram) (va : ℕ) (s : Sized)
+load_sized : (c : Core) (m : Ram) (va : ℕ) (s : Option Width)
     → outcome (loadBy s c m.base m.bytes va).reply m.bytes
     ≡ loadSized s m va (answers real (plainIn (bareOf c)) m (sizedIn (bareOf c) va s Kind.Read) c.tlb ++ [])
-load_sized c m va Sized.Refused = refl
-load_sized c m va (Sized.Bytes w) =
+load_sized c m va None = refl
+load_sized c m va (Some w) =
     load-answered c m va (bytesIn w) ∙ ap (loadSays m va (bytesIn w)) (sym (append-nil (accessGiven c m va (bytesIn w) Kind.Read)))
 
-store-sized : (c : Core) (m : Ram) (va v : ℕ) (s : Sized)
+store-sized : (c : Core) (m : Ram) (va v : ℕ) (s : Option Width)
     → outcome (storeBy s c m.base m.bytes va).reply (storeRamBy s c m.base m.bytes va v)
     ≡ storeSized s m va v (answers real (plainIn (bareOf c)) m (sizedIn (bareOf c) va s Kind.Write) c.tlb ++ [])
-store-sized c m va v Sized.Refused = refl
-store-sized c m va v (Sized.Bytes w) =
+store-sized c m va v None = refl
+store-sized c m va v (Some w) =
     store-answered c m va (bytesIn w) v ∙ ap (storeSays m va (bytesIn w) v) (sym (append-nil (accessGiven c m va (bytesIn w) Kind.Write)))
 
 -- ZEROING
@@ -229,9 +228,9 @@ sys-said Op.Unimplemented c m e = refl
 write-said : (c : Core) (m : Ram) (w : Written) (a : WriteAnswer)
     → outcome (afterWrite (registered c w a)).reply m.bytes
     ≡ ifAllowed (byWrite a) (outcome Done m.bytes) (outcome (refusalOf (byWrite a)) m.bytes)
-write-said c m w Written.Done = refl
-write-said c m w Written.Undefined = refl
-write-said c m w Written.NoRegister = refl
+write-said c m w (Ok tt) = refl
+write-said c m w (Err Undefined) = refl
+write-said c m w (Err NoRegister) = refl
 
 run-said : (c : Core) (m : Ram) (x : Call)
     → outcome (run_of c m.base m.bytes x).reply (ramOf c m.base m.bytes x)

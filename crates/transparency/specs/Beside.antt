@@ -1,8 +1,6 @@
 -- Beside demand 3: the two cores agree, AT is a fresh walk, and a refused call changes nothing in either.
-use Rattle.std.specs.Prelude.{◌≡◌, refl, Bool, List, ℕ, zero, suc}
+use Rattle.std.specs.Prelude.{◌≡◌, refl, Bool, List, ℕ, zero, suc, Ok, Err}
 use Rattle.std.proofs.Common.{ap, subst, ◌∙◌}
-use Rattle.sysreg.specs.declared.{write.WriteAnswer.WriteAnswer, write.Written.Written}
-use Rattle.sysreg.specs.declared.write.WriteAnswer.TheVariants as Written
 use Rattle.sysop.specs.declared.{op.AtForm.AtForm, op.SysOp.SysOp}
 use Rattle.sysop.specs.declared.op.SysOp.TheVariants as Op
 use Rattle.exception.specs.declared.kind.Exception.{Exception}
@@ -24,6 +22,8 @@ use Rattle.transparency.specs.Bare.{Ruling, allowed, number, undefined, unimplem
 use Rattle.transparency.specs.Bare.{rulingIn, refusalOf, ifAllowed, parAt, bareDoes, bareStep}
 use Rattle.transparency.specs.Machine.{machine}
 use Rattle.transparency.specs.Bridge.{bridge, fits}
+use Rattle.sysreg.specs.Write.{WriteAnswer, Written}
+use Rattle.sysreg.specs.declared.write.WriteError.TheVariants.{Undefined, NoRegister}
 
 -- THE TWO CORES
 
@@ -118,9 +118,9 @@ sys-refused Op.Nothing c m op1 crm op2 x refuses = absurd (refuses refl)
 
 write-refused : (c : Core) (m : Ram) (w : Written) (a : WriteAnswer) → (byWrite a ≡ allowed → ⊥)
     → Unchanged c m (byWrite a) (afterWrite (registered c w a)) m.bytes
-write-refused c m w Written.Undefined refuses = (refl, refl)
-write-refused c m w Written.NoRegister refuses = (refl, refl)
-write-refused c m w Written.Done refuses = absurd (refuses refl)
+write-refused c m w (Err Undefined) refuses = (refl, refl)
+write-refused c m w (Err NoRegister) refuses = (refl, refl)
+write-refused c m w (Ok tt) refuses = absurd (refuses refl)
 
 run-refused : (c : Core) (m : Ram) (x : Call) → (ruledIn (bareOf c) x ≡ allowed → ⊥)
     → Unchanged c m (ruledIn (bareOf c) x) (run_of c m.base m.bytes x) (ramOf c m.base m.bytes x)

@@ -1,13 +1,9 @@
 -- Each call does to registers, level, mark and `Tlb` what its steps do.
-use Rattle.std.specs.Prelude.{◌≡◌, refl, Bool, true, false, ◌||◌, ℕ, zero, suc, ◌+◌, ◌%◌, ◌≤◌, ◌<◌, leb, ltb, length}
+use Rattle.std.specs.Prelude.{◌≡◌, refl, Bool, true, false, ◌||◌, ℕ, zero, suc, ◌+◌, ◌%◌, ◌≤◌, ◌<◌, leb, ltb, length, Option, Some, None, Ok, Err}
 use Rattle.std.proofs.Common.{ap, ◌∙◌, mod-eq_of_lt, arith, leb-false, ltb-false}
 use mathlib.Core.List.{List, [], ◌∷◌}
 use Rattle.word.specs.Bits.{alignDown, pick, wrap}
 use Rattle.word.specs.Ram.{width_of, bytesIn}
-use Rattle.word.specs.declared.ram.Sized.{Sized}
-use Rattle.word.specs.declared.ram.Sized.TheVariants as Sized
-use Rattle.sysreg.specs.declared.{write.WriteAnswer.WriteAnswer, write.Written.Written}
-use Rattle.sysreg.specs.declared.write.WriteAnswer.TheVariants as Written
 use Rattle.tlb.specs.declared.access.Kind.{Kind}
 use Rattle.tlb.specs.declared.access.Kind.TheVariants as Kind
 use Rattle.sysop.specs.declared.op.SysOp.{SysOp}
@@ -37,6 +33,9 @@ use Rattle.transparency.specs.Bare.{bareStep}
 use Rattle.transparency.specs.Events.{does, asking, idle, accessIn, sizedIn, setBy, setting, zeroSteps, sysSteps, stepsIn, eventsIn}
 use Rattle.transparency.specs.Starts.{ramZeroed, zeroLater, sysLater, laterOf, laterIn}
 use Rattle.transparency.specs.Machine.{machine}
+use Rattle.word.specs.declared.ram.Width.{Width}
+use Rattle.sysreg.specs.Write.{WriteAnswer, Written}
+use Rattle.sysreg.specs.declared.write.WriteError.TheVariants.{Undefined, NoRegister}
 
 -- The core d that a call made of c, the state b without a cache after it, and the call's events.
 pub record Fits (c d : Core) (b : Bare) (es : List (Event real)) : Type 0 where
@@ -54,15 +53,15 @@ operation-fits : (c : Core) (m : Ram) (o : Laws.Operation)
 operation-fits c m o =
     record { bare = Laws.kept c m.base m.bytes o; plain = refl; tlb = Laws.tlb-after c m.base m.bytes o }
 
-load_fits : (c : Core) (m : Ram) (va : ℕ) (s : Sized)
+load_fits : (c : Core) (m : Ram) (va : ℕ) (s : Option Width)
     → Fits c (loadBy s c m.base m.bytes va).core (bareOf c) (steps m (asking (sizedIn (bareOf c) va s Kind.Read)) ∷ [])
-load_fits c m va (Sized.Bytes w) = operation-fits c m (Laws.load va (bytesIn w))
-load_fits c m va Sized.Refused = fits-idle c m
+load_fits c m va (Some w) = operation-fits c m (Laws.load va (bytesIn w))
+load_fits c m va None = fits-idle c m
 
-store-fits : (c : Core) (m : Ram) (va : ℕ) (s : Sized)
+store-fits : (c : Core) (m : Ram) (va : ℕ) (s : Option Width)
     → Fits c (storeBy s c m.base m.bytes va).core (bareOf c) (steps m (asking (sizedIn (bareOf c) va s Kind.Write)) ∷ [])
-store-fits c m va (Sized.Bytes w) = operation-fits c m (Laws.store va (bytesIn w) 0)
-store-fits c m va Sized.Refused = fits-idle c m
+store-fits c m va (Some w) = operation-fits c m (Laws.store va (bytesIn w) 0)
+store-fits c m va None = fits-idle c m
 
 -- ZEROING
 
@@ -145,10 +144,10 @@ write-fits : (c : Core) (m : Ram) (w : Written) (a : WriteAnswer)
     → Fits c (registered c w a).core (ifAllowed (byWrite a) (with_regs (bareOf c) w.control w.sys) (bareOf c))
     (ifAllowed (byWrite a) (steps m (does (writes w.control)) ∷ []) (steps m idle ∷ []))
 unfolding appliedOf coreRegs afterAccess refitOf
-write-fits c m w Written.Done =
+write-fits c m w (Ok tt) =
     record { bare = refl; plain = refl; tlb = refl }
-write-fits c m w Written.Undefined = fits-idle c m
-write-fits c m w Written.NoRegister = fits-idle c m
+write-fits c m w (Err Undefined) = fits-idle c m
+write-fits c m w (Err NoRegister) = fits-idle c m
 
 -- SETTINGS
 

@@ -1,5 +1,5 @@
 -- The page census after every list of calls: it counts what the core without a cache would, page by page, and is a step that does nothing.
-use Rattle.std.specs.Prelude.{◌≡◌, refl, Bool, true, false, List, [], ◌∷◌, ◌++◌, ◌⊎◌, ℕ, zero, suc, ◌+◌, ◌*◌, ◌/◌, ◌%◌, ◌<◌, ◌≤◌, eqb, get_or}
+use Rattle.std.specs.Prelude.{◌≡◌, refl, Bool, true, false, List, [], ◌∷◌, ◌++◌, ◌⊎◌, ℕ, zero, suc, ◌+◌, ◌*◌, ◌/◌, ◌%◌, ◌<◌, ◌≤◌, eqb, get_or, Ok, Err}
 use Rattle.std.proofs.Common.{sym, ap, ◌∙◌, ⊎_elim, arith, eqb-true, ne_eqb}
 use Rattle.word.specs.Bits.{flag, pick}
 use Rattle.fault.specs.First.{first as status-of}
@@ -7,7 +7,6 @@ use Rattle.fault.specs.declared.Fault.{Fault}
 use Rattle.walk.specs.Regime.{bankOf, regimeOf}
 use Rattle.walk.specs.FreshLaws.{SoundFresh}
 use Rattle.walk.specs.declared.{regime.Regime.Regime, regime.Bank.Bank, level.Leaf.Leaf, fresh.Fresh.Fresh}
-use Rattle.walk.specs.declared.level.Walked.TheVariants.{Mapped, Fault as Faulted}
 use Rattle.walk.specs.declared.fresh.Fresh.TheVariants.{Flat, Ended}
 use Rattle.census.specs.Tally.{howMany, many-same}
 use Rattle.census.specs.Count.{pageAt, censusAt}
@@ -126,8 +125,8 @@ leaf-answers status bit va h leaf low high = go (eqb (leaf.perms / bit % 2) 1)
 
 fresh-answers : (status bit va : ℕ) → NoPermission status → (x : Fresh) → SoundFresh x → answersFault status (freshAnswer x bit va) ≡ faultsWith status x
 unfolding walkAnswer
-fresh-answers status bit va h (Ended (Faulted n)) sound = refl
-fresh-answers status bit va h (Ended (Mapped leaf)) sound = leaf-answers status bit va h leaf sound.level-low sound.level-high
+fresh-answers status bit va h (Ended (Err n)) sound = refl
+fresh-answers status bit va h (Ended (Ok leaf)) sound = leaf-answers status bit va h leaf sound.level-low sound.level-high
 fresh-answers status bit va h (Flat pa) sound = refl
 
 status-faults : (b : Bare) (m : Ram) (first pages status : ℕ) (k : Kind) → status < 64 → NoPermission status
@@ -159,10 +158,10 @@ picked false pa f = refl
 
 rights-fresh : (perms bit va : ℕ) (x : Fresh) → hasRights perms x ≡ true → answersAddress (freshAnswer x bit va) ≡ eqb (perms / bit % 2) 1
 unfolding walkAnswer leafAnswer
-rights-fresh perms bit va (Ended (Mapped leaf)) h =
+rights-fresh perms bit va (Ended (Ok leaf)) h =
     picked (eqb (leaf.perms / bit % 2) 1) (leaf.oa / 4096 * 4096 + va % 4096) (status-of (12 + leaf.level))
     ∙ ap (λ (p : ℕ). eqb (p / bit % 2) 1) (eqb-true leaf.perms perms h)
-rights-fresh perms bit va (Ended (Faulted n)) h = absurd (let z : ◌≡◌ {A = ℕ} 0 1 = ap (λ (b : Bool). flag b 1) h in omega arith)
+rights-fresh perms bit va (Ended (Err n)) h = absurd (let z : ◌≡◌ {A = ℕ} 0 1 = ap (λ (b : Bool). flag b 1) h in omega arith)
 rights-fresh perms bit va (Flat pa) h = absurd (let z : ◌≡◌ {A = ℕ} 0 1 = ap (λ (b : Bool). flag b 1) h in omega arith)
 
 -- Of a page that is counted under a permission byte the core without a cache answers an access with an address exactly where the byte has the bit that

@@ -1,6 +1,6 @@
 -- What the plain model says of the core's own counters and of what is pending, call by call, after every list of calls
 -- from the fresh core: as document 01's checklist asks it.
-use Rattle.std.specs.Prelude.{◌≡◌, Bool, List, [], ◌∷◌, ℕ, ◌+◌, ◌%◌, ◌^◌}
+use Rattle.std.specs.Prelude.{◌≡◌, Bool, List, [], ◌∷◌, ℕ, ◌+◌, ◌%◌, ◌^◌, Ok}
 use Rattle.std.proofs.Math.Path.{refl, sym, ap}
 use Rattle.std.proofs.Common.{◌∙◌}
 use Rattle.std.proofs.Math.Bool.{true, false}
@@ -8,7 +8,6 @@ use Rattle.std.proofs.Math.Dec.{eqb}
 use borrow.Author.Tests.{eq-eqb, ne_eqb}
 use Rattle.sysreg.specs.Shape.{same_shape, asidOf}
 use Rattle.sysreg.specs.declared.regs.Control.{Control}
-use Rattle.sysreg.specs.declared.write.WriteAnswer.TheVariants as Written
 use Rattle.tlb.specs.Model.{Slot, Counters, Model, oneFlush, oneEpoch, invalCounted, invalidate, retag, joined, broadcast}
 use Rattle.tlb.specs.Counting.{How, howCounted, howTranslated, howFetched, translate-counts, fetch-counts}
 use Rattle.tlb.specs.Live.{countersOf, pendingOf, live}
@@ -171,7 +170,7 @@ module _ (list : List (Lent real machine)) (m : Ram) where
   -- retags"
 
   module _ (key value : ℕ) (passed : missedIn (bareAfter list) m (Register key value) ≡ 0)
-      (done : (writtenIn (bareAfter list) key value).answer ≡ Written.Done) where
+      (done : (writtenIn (bareAfter list) key value).answer ≡ Ok tt) where
     abbrev registers : Control
     registers = (writtenIn (bareAfter list) key value).control
 

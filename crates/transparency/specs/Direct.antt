@@ -1,11 +1,10 @@
 -- Demand 3 of each call that translates, read off `step_of` itself: where the pages meet the premise it has the same
 -- physical address, the same fault with its status and address, and the same bytes as on the core without a cache.
-use Rattle.std.specs.Prelude.{◌≡◌, Bool, true, false, List, [], ◌∷◌, ℕ}
+use Rattle.std.specs.Prelude.{◌≡◌, Bool, true, false, List, [], ◌∷◌, ℕ, Some}
 use Rattle.std.proofs.Math.Path.{refl, sym, ap}
 use Rattle.std.proofs.Common.{ap₂, subst, ◌∙◌, append-nil, arith}
 use Rattle.word.specs.Bits.{alignDown, pick}
 use Rattle.word.specs.Ram.{width_of, bytesIn}
-use Rattle.word.specs.declared.ram.Sized.TheVariants.{Bytes}
 use Rattle.word.specs.declared.ram.Width.{Width}
 use Rattle.tlb.specs.Lists.{Each, done, more}
 use Rattle.tlb.specs.Tlb.{fresh}
@@ -158,7 +157,7 @@ module _ (list : List (Fed real machine)) (seen : Shown real machine freshCore l
   access-after va n kind ss = placed_by coreNow m.base m.bytes va n kind ∙ given-placed va n kind ss
 
   -- A load replies the bytes there, or the fault or the abort.
-  pub load_after : (va size : ℕ) (w : Width) → width_of size ≡ Bytes w → missedIn (bareOf coreNow) m (Load va size) ≡ 0 → SettledOver va (bytesIn w) Kind.Read
+  pub load_after : (va size : ℕ) (w : Width) → width_of size ≡ Some w → missedIn (bareOf coreNow) m (Load va size) ≡ 0 → SettledOver va (bytesIn w) Kind.Read
       → (step_of coreNow m.base m.bytes (Load va size)).reply
       ≡ loading (loadEnd (placed_at va (bytesIn w) Kind.Read) 0 0 m.base m.bytes va (bytesIn w)).answer
   unfolding step_of run_of
@@ -168,7 +167,7 @@ module _ (list : List (Fed real machine)) (seen : Shown real machine freshCore l
       ∙ ap (λ (p : Placed). loading (loadEnd p 0 0 m.base m.bytes va (bytesIn w)).answer) (given-placed va (bytesIn w) Kind.Read ss))
 
   -- A store replies the same, and leaves the same bytes.
-  pub store-after : (va size value : ℕ) (w : Width) → width_of size ≡ Bytes w → missedIn (bareOf coreNow) m (Store va size value) ≡ 0
+  pub store-after : (va size value : ℕ) (w : Width) → width_of size ≡ Some w → missedIn (bareOf coreNow) m (Store va size value) ≡ 0
       → SettledOver va (bytesIn w) Kind.Write
       → ((step_of coreNow m.base m.bytes (Store va size value)).reply
       ≡ storing (storeEnd (placed_at va (bytesIn w) Kind.Write) 0 m.base m.bytes va (bytesIn w)).answer)

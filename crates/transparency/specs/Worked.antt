@@ -1,6 +1,6 @@
 -- A worked list of calls, by computation on the core itself: demand 3's premise holds where the cache answers, and
 -- fails where a table was changed without a TLBI.
-use Rattle.std.specs.Prelude.{◌≡◌, refl, true, false, List, [], ◌∷◌, ◌++◌, ℕ}
+use Rattle.std.specs.Prelude.{◌≡◌, refl, true, false, List, [], ◌∷◌, ◌++◌, ℕ, Ok, Err}
 use Rattle.std.proofs.Common.{sym, ap, subst, ◌∙◌, true≢false, arith}
 use Rattle.std.proofs.lemmas.Bool.{false≢true}
 use Rattle.word.specs.Ram.{word_at, littleEndian, bytes_of}
@@ -18,7 +18,6 @@ use Rattle.walk.specs.Table.{tableWalk}
 use Rattle.walk.specs.Walk.{walk_of}
 use Rattle.walk.specs.declared.regime.Regime.TheVariants.{El1}
 use Rattle.walk.specs.declared.level.Leaf.{Leaf}
-use Rattle.walk.specs.declared.level.Walked.TheVariants.{Mapped, Fault}
 use Rattle.tlb.specs.Maintenance.{invalidatedOf, reshapedOf, retaggedOf}
 use Rattle.tlb.specs.Lists.{Each}
 use Rattle.tlb.specs.Entry.{pageDropped}
@@ -135,28 +134,28 @@ events =
 
 -- the page's walks
 walks :
-    (pageWalk real registers none El1 0x40001 ≡ Fault 5)
-    × (pageWalk real registers old El1 0x40001 ≡ Mapped (block 0x80001000 0x80000401))
-    × (pageWalk real registers new El1 0x40001 ≡ Mapped (block 0xC0001000 0xC0000401))
+    (pageWalk real registers none El1 0x40001 ≡ Err 5)
+    × (pageWalk real registers old El1 0x40001 ≡ Ok (block 0x80001000 0x80000401))
+    × (pageWalk real registers new El1 0x40001 ≡ Ok (block 0xC0001000 0xC0000401))
 unfolding freshControl controlWith walk_of tableWalk walkRange walkFrom lookupNext levelNext leafResult leafTranslation leafPermissions tableNext descaddr
     range_of params_of paSize word_at littleEndian bytes_of
 walks = (refl, refl, refl)
 
-mapped-inj : {x y : Leaf} → Mapped x ≡ Mapped y → x ≡ y
+mapped-inj : {x y : Leaf} → Ok x ≡ Ok y → x ≡ y
 mapped-inj e = cc
 
-unmapped : {code : ℕ} {ℓ : Leaf} → Fault code ≡ Mapped ℓ → ⊥
+unmapped : {code : ℕ} {ℓ : Leaf} → Err code ≡ Ok ℓ → ⊥
 unmapped e = let z : ◌≡◌ {A = ℕ} 0 1 = cc in omega arith
 
 -- the old walk is covered, though the Page is of another 4 KiB page
-covered : (ℓ : Leaf) (a : ℕ) → pageWalk real registers old El1 0x40001 ≡ Mapped ℓ → Each (λ v. covers v 0x40001 ℓ a ≡ false) (Page 0x7FFFF ∷ []) → ⊥
+covered : (ℓ : Leaf) (a : ℕ) → pageWalk real registers old El1 0x40001 ≡ Ok ℓ → Each (λ v. covers v 0x40001 ℓ a ≡ false) (Page 0x7FFFF ∷ []) → ⊥
 unfolding covers
 covered ℓ a e us =
     true≢false (each-head (subst (λ (x : Leaf). Each (λ v. covers v 0x40001 x a ≡ false) (Page 0x7FFFF ∷ [])) (sym (mapped-inj (sym walks.1 ∙ e))) us))
 
 -- the new one equals the walk now
-unchanged : (ℓ : Leaf) → pageWalk real registers new El1 0x40001 ≡ Mapped ℓ
-    → (ℓ' : Leaf) × (pageWalk real registers new El1 0x40001 ≡ Mapped ℓ') × LeavesEqual ℓ ℓ'
+unchanged : (ℓ : Leaf) → pageWalk real registers new El1 0x40001 ≡ Ok ℓ
+    → (ℓ' : Leaf) × (pageWalk real registers new El1 0x40001 ≡ Ok ℓ') × LeavesEqual ℓ ℓ'
 unchanged ℓ e = (ℓ, e, record { pages = refl; perms = refl; levels = refl })
 
 step-by-step : HoldsFrom real registers new El1 0x40001 (plainIn freshBare) events

@@ -1,12 +1,10 @@
 -- The loop over the levels: a step that leads on stands one level lower and ends as before; a step that is done has the walk's answer.
-use Rattle.std.specs.Prelude.{Ok, Err}
+use Rattle.std.specs.Prelude.{Ok, Err, Option, None}
 use Rattle.walk.specs.Answers.{Begin, Walked}
 use mathlib.Core.Path.{◌≡◌, refl, sym, ap, ◌∙◌}
 use mathlib.Core.Bool.{Bool, true, false, not, ◌&&◌, ◌||◌}
 use Prim.Native.Nat.{ℕ, suc, ◌-◌, ◌≤◌, ◌<◌, ◌%◌, ◌^◌}
 use native.Mathlib.Omega.{arith}
-use Rattle.word.specs.declared.ram.Word.{Word}
-use Rattle.word.specs.declared.ram.Word.TheVariants.{Outside}
 use Rattle.word.specs.Bits.{alignDown}
 use Rattle.word.specs.BitLaws.{align-le}
 use Rattle.walk.specs.Table.{Lookup, Result, Next, deeper, ends, lookupNext}
@@ -44,7 +42,7 @@ pub is-deeper : (p : Params) (l : Lookup) (n : Next) → onward l ≡ meant p n 
 is-deeper p l (deeper k) e = ap deeper (sym (onward-inj l k e))
 is-deeper p l (ends r) e = absurd (apart l _ e)
 
-module _ (memory : ℕ → Word) (p : Params) (w : WalkState) (va : ℕ) (s : Step) (es : stepped p s ≡ meant p (lookupNext memory p va (lookupOf p w)))
+module _ (memory : ℕ → Option ℕ) (p : Params) (w : WalkState) (va : ℕ) (s : Step) (es : stepped p s ≡ meant p (lookupNext memory p va (lookupOf p w)))
     (ld : Leads p w s) where
   pub stands : (v : WalkState) → s ≡ Onward v → Standing p v
   stands v n = (leads-on p w v s ld n).stands
@@ -122,7 +120,7 @@ pub first-is : (p : Params) (g : Range) → firstLookup g ≡ lookupOf p (first 
 unfolding first
 first-is p g = simp and-false
 
-module _ (s : Bank) (r : Regime) (va : ℕ) (memory : ℕ → Word) (g : Range) (p : Params) (x : Begin) (eg : g ≡ range_of s r va)
+module _ (s : Bank) (r : Regime) (va : ℕ) (memory : ℕ → Option ℕ) (g : Range) (p : Params) (x : Begin) (eg : g ≡ range_of s r va)
     (ep : p ≡ params_of s r g) (ex : x ≡ beginOf g p.outputsize va) where
   same-grain : p.largegrain ≡ g.largegrain
   unfolding params_of
@@ -164,7 +162,7 @@ module _ (s : Bank) (r : Regime) (va : ℕ) (memory : ℕ → Word) (g : Range) 
 -- whatever memory holds
 pub begins-standing : (s : Bank) (r : Regime) (va : ℕ) (g : Range) (p : Params) (x : Begin) (w : WalkState) → g ≡ range_of s r va
     → p ≡ params_of s r g → x ≡ beginOf g p.outputsize va → x ≡ Ok w → Standing p w
-begins-standing s r va g p x w eg ep ex n = standing s r va (λ _. Outside) g p x eg ep ex w n
+begins-standing s r va g p x w eg ep ex n = standing s r va (λ _. None) g p x eg ep ex w n
 
 pub ruleset walk_steps = (falls, stands, goes_on, done-right)
 

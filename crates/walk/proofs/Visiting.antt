@@ -1,5 +1,5 @@
 -- The loop over the levels up to the n-th: a step that leads on leaves one fewer; where none is left, the table is the one asked for.
-use Rattle.std.specs.Prelude.{Ok, Err}
+use Rattle.std.specs.Prelude.{Ok, Err, Option}
 use Rattle.walk.specs.Answers.{Begin, Walked, Visited}
 use mathlib.Core.Path.{◌≡◌, refl, sym, ap, ◌∙◌}
 use mathlib.Core.Bool.{Bool, true, false, not, ◌||◌}
@@ -7,7 +7,6 @@ use Prim.Native.Nat.{ℕ, suc, ◌-◌, ◌≤◌, ◌<◌}
 use native.Mathlib.Omega.{arith}
 use Rattle.std.specs.Prelude.{◌≢◌}
 use Rattle.word.specs.Bits.{pick}
-use Rattle.word.specs.declared.ram.Word.{Word}
 use Rattle.walk.specs.Table.{Lookup, Next, deeper, ends, descaddr, lookupNext, range_of, params_of, firstLookup, in_range, beyond}
 use Rattle.walk.specs.State.{lookupOf, stepped, meant, beginOf}
 use Rattle.walk.specs.Visits.{Seen, seen, past, visitFrom, visitOf, seenAs}
@@ -26,7 +25,7 @@ one_fewer n e = omega arith
 some_left : (n : ℕ) → n ≢ 0 → n ≡ suc (n - 1)
 some_left n e = omega arith
 
-module _ (memory : ℕ → Word) (p : Params) (w : WalkState) (va : ℕ) (s : Step) (es : stepped p s ≡ meant p (lookupNext memory p va (lookupOf p w))) where
+module _ (memory : ℕ → Option ℕ) (p : Params) (w : WalkState) (va : ℕ) (s : Step) (es : stepped p s ≡ meant p (lookupNext memory p va (lookupOf p w))) where
   pub visit-on : (v : WalkState) (left : ℕ) (r : Seen) → s ≡ Onward v → left ≢ 0 → visitFrom left memory p va (lookupOf p w) ≡ r
       → visitFrom (left - 1) memory p va (lookupOf p v) ≡ r
   unfolding visitFrom
@@ -48,7 +47,7 @@ module _ (memory : ℕ → Word) (p : Params) (w : WalkState) (va : ℕ) (s : St
       go (ends q) e = rw (some_left left t, visitFrom, e) at h
 
 -- where a walk begins: the first table, or none
-module _ (s : Bank) (r : Regime) (va n : ℕ) (memory : ℕ → Word) (g : Range) (p : Params) (x : Begin) (eg : g ≡ range_of s r va)
+module _ (s : Bank) (r : Regime) (va n : ℕ) (memory : ℕ → Option ℕ) (g : Range) (p : Params) (x : Begin) (eg : g ≡ range_of s r va)
     (ep : p ≡ params_of s r g) (ex : x ≡ beginOf g p.outputsize va) where
   params : p ≡ params_of s r (range_of s r va)
   params = rw eg at ep

@@ -1,11 +1,10 @@
 -- What holds of every fresh answer, for those who know it by its definition alone.
-use Rattle.std.specs.Prelude.{Ok, Err}
+use Rattle.std.specs.Prelude.{Ok, Err, Option}
 use Rattle.walk.specs.Answers.{Walked}
 use Rattle.std.specs.Prelude.{◌≡◌, Bool, ℕ}
 use Rattle.std.proofs.Common.{subst}
 use Rattle.std.proofs.Math.Bool.{true, false}
 use Rattle.word.specs.Bits.{pick}
-use Rattle.word.specs.declared.ram.Word.{Word}
 use Rattle.walk.specs.Regime.{stage1On}
 use Rattle.walk.specs.Tag.{untagged}
 use Rattle.walk.specs.Walk.{walk_of}
@@ -27,7 +26,7 @@ walk_end : (va : ℕ) (w : Walked) → SoundWalked va w → SoundEnd w
 walk_end va (Ok leaf) h = h.0
 walk_end va (Err n) h = h
 
-module _ (s : Bank) (r : Regime) (va : ℕ) (memory : ℕ → Word) where
+module _ (s : Bank) (r : Regime) (va : ℕ) (memory : ℕ → Option ℕ) where
   pub answer-sound : SoundFresh (fresh_of s r va memory)
   unfolding fresh_of
   answer-sound = go (stage1On s r)

@@ -1,7 +1,7 @@
 -- The order of a walk's answers: the table of answers, from the entry of a walk to the access flag of its leaf, a theorem for each row. A row's
 -- theorem supposes its own condition and that the rows above do not hold, and says nothing of the rows below: whatever those conditions are, the
 -- answer is this row's. Rows below the entry are of any table that the walk reaches.
-use Rattle.std.specs.Prelude.{Ok, Err}
+use Rattle.std.specs.Prelude.{Ok, Err, Option, Some, None}
 use Rattle.std.specs.Prelude.{◌≡◌, Bool, not, ◌&&◌, ◌||◌, [], ltb}
 use Rattle.std.proofs.Math.Path.{refl}
 use Rattle.std.proofs.Common.{ap, ◌∙◌}
@@ -12,8 +12,6 @@ use borrow.Author.Tests.{eqb-true, eqb-false, ltb-true, ltb-false, eq-eqb, ne_eq
 use Rattle.std.proofs.Math.Arith.{lt_of_le-ne}
 use Rattle.std.proofs.Math.Dec.{eqb}
 use Rattle.word.specs.Bits.{pick}
-use Rattle.word.specs.declared.ram.Word.{Word}
-use Rattle.word.specs.declared.ram.Word.TheVariants.{Value, Outside}
 use Rattle.walk.specs.Regime.{singlePriv, wxnOf}
 use Rattle.walk.specs.Descriptor.{valid, tableOrPage, af}
 use Rattle.walk.specs.Table.{Result, mapped, faults, addressSize, translation, accessFlag, externalAbort, firstblocklevel, in_range, beyond, Lookup, Next}
@@ -146,23 +144,23 @@ abbrev pub params_at : Bank → Regime → ℕ → Params
 params_at s r va = params_of s r (range_of s r va)
 
 -- the tables that a walk reaches: the first, where no row of the entry holds, and each that a table leads to
-pub data Reached (s : Bank) (r : Regime) (va : ℕ) (memory : ℕ → Word) : Lookup → Type 0 where
+pub data Reached (s : Bank) (r : Regime) (va : ℕ) (memory : ℕ → Option ℕ) : Lookup → Type 0 where
   entry : in_range (range_of s r va) va ≡ true → (range_of s r va).disabled ≡ false
       → beyond (params_at s r va).outputsize (range_of s r va).baseregister ≡ false → Reached s r va memory (firstLookup (range_of s r va))
   onward : {l k : Lookup} → Reached s r va memory l → lookupNext memory (params_at s r va) va l ≡ deeper k → Reached s r va memory k
 
 -- one level down from a table
-pub record Below (s : Bank) (r : Regime) (va : ℕ) (memory : ℕ → Word) (l : Lookup) : Type 0 where
+pub record Below (s : Bank) (r : Regime) (va : ℕ) (memory : ℕ → Option ℕ) (l : Lookup) : Type 0 where
   pub lookup : Lookup
   pub level : lookup.level ≡ l.level + 1
   pub reached : Reached s r va memory lookup
 
 -- what holds of every table reached
-record Stage (s : Bank) (r : Regime) (va : ℕ) (memory : ℕ → Word) (l : Lookup) : Type 0 where
+record Stage (s : Bank) (r : Regime) (va : ℕ) (memory : ℕ → Option ℕ) (l : Lookup) : Type 0 where
   level : l.level ≤ 3
   walk : tableWalk s r va memory ≡ walkFrom (4 - l.level) memory (params_at s r va) va l
 
-module _ (s : Bank) (r : Regime) (va : ℕ) (memory : ℕ → Word) where
+module _ (s : Bank) (r : Regime) (va : ℕ) (memory : ℕ → Option ℕ) where
   -- Walk entry, out of range: 0x04, and nothing is fetched
   pub out_of_range : in_range (range_of s r va) va ≡ false → (walk_of s r va memory ≡ Err 0x04) × (fetchesOf s r va memory ≡ [])
   unfolding walk_of tableWalk walkRange fetchesOf fetchesRange
@@ -213,11 +211,11 @@ module _ (s : Bank) (r : Regime) (va : ℕ) (memory : ℕ → Word) where
 
   module _ (l : Lookup) (reached : Reached s r va memory l) where
     -- Descriptor read, outside RAM: 0x14 + level
-    pub descriptor-outside : memory (descaddr (params_at s r va) va l) ≡ Outside → walk_of s r va memory ≡ Err (0x14 + l.level)
+    pub descriptor-outside : memory (descaddr (params_at s r va) va l) ≡ None → walk_of s r va memory ≡ Err (0x14 + l.level)
     unfolding lookupNext
     descriptor-outside e = ends-walk l (faults (externalAbort l.level)) reached (rw e)
 
-    module _ (desc : ℕ) (word : memory (descaddr (params_at s r va) va l) ≡ Value desc) where
+    module _ (desc : ℕ) (word : memory (descaddr (params_at s r va) va l) ≡ Some desc) where
       read : (n : Next) → levelNext (params_at s r va) va l desc ≡ n → lookupNext memory (params_at s r va) va l ≡ n
       unfolding lookupNext
       read n e = rw word e

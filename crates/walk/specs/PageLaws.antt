@@ -1,5 +1,5 @@
 -- A walk goes by pages: addresses of one page have one walk but for the offset in the page, which is the address's own.
-use Rattle.std.specs.Prelude.{Ok, Err}
+use Rattle.std.specs.Prelude.{Ok, Err, Option, Some, None}
 use Rattle.walk.specs.Answers.{Walked}
 use Rattle.std.specs.Prelude.{◌≡◌, true, false, ◌&&◌, ◌||◌, eqb, ltb}
 use Rattle.std.proofs.Math.Path.{refl, sym, ap}
@@ -9,8 +9,6 @@ use mathlib.Core.List.{List, ◌∷◌}
 use Prim.Native.Nat.{ℕ, zero, suc, ◌+◌, ◌-◌, ◌/◌, ◌%◌, ◌^◌, ◌≤◌}
 use Rattle.word.specs.Bits.{alignDown, pick}
 use Rattle.word.specs.BitLaws.{same_above, join-above}
-use Rattle.word.specs.declared.ram.Word.{Word}
-use Rattle.word.specs.declared.ram.Word.TheVariants.{Value, Outside}
 use Rattle.walk.specs.Regime.{singlePriv, wxnOf}
 use Rattle.walk.specs.Descriptor.{valid, tableOrPage, af}
 use Rattle.walk.specs.Table.{Translation, Result, mapped, faults, addressSize, translation, accessFlag, externalAbort, firstblocklevel, inputsize}
@@ -113,18 +111,18 @@ module _ (va vb : ℕ) (same : va / 2 ^ 12 ≡ vb / 2 ^ 12) where
     unfolding descaddr
     same_address l = rw (above (addrselectbottom p.largegrain l.level) (index-above-page p.largegrain l.level))
 
-    lookup-page : (memory : ℕ → Word) (l : Lookup) → pagedNext (lookupNext memory p va l) ≡ pagedNext (lookupNext memory p vb l)
+    lookup-page : (memory : ℕ → Option ℕ) (l : Lookup) → pagedNext (lookupNext memory p va l) ≡ pagedNext (lookupNext memory p vb l)
     unfolding lookupNext
     lookup-page memory l = rw (same_address l) (go (memory (descaddr p vb l)))
       where
-        next : Word → ℕ → Next
+        next : Option ℕ → ℕ → Next
         next x v = on_word x (levelNext p v l) (ends (faults (externalAbort l.level)))
 
-        go : (x : Word) → pagedNext (next x va) ≡ pagedNext (next x vb)
-        go (Value desc) = level-page l desc
-        go Outside = refl
+        go : (x : Option ℕ) → pagedNext (next x va) ≡ pagedNext (next x vb)
+        go (Some desc) = level-page l desc
+        go None = refl
 
-    from-page : (n : ℕ) (memory : ℕ → Word) (l : Lookup) → pagedResult (walkFrom n memory p va l) ≡ pagedResult (walkFrom n memory p vb l)
+    from-page : (n : ℕ) (memory : ℕ → Option ℕ) (l : Lookup) → pagedResult (walkFrom n memory p va l) ≡ pagedResult (walkFrom n memory p vb l)
     unfolding walkFrom
     from-page zero memory l = refl
     from-page (suc n) memory l = go (lookupNext memory p va l) (lookupNext memory p vb l) (lookup-page memory l) (from-page n memory)
@@ -137,7 +135,7 @@ module _ (va vb : ℕ) (same : va / 2 ^ 12 ≡ vb / 2 ^ 12) where
         go (ends r) (deeper j) e ih = absurd (deeper-ends j _ (sym e))
         go (ends r) (ends q) e ih = ends-inj _ _ e
 
-    range-page : (g : Range) (memory : ℕ → Word) → pagedResult (walkRange p g va memory) ≡ pagedResult (walkRange p g vb memory)
+    range-page : (g : Range) (memory : ℕ → Option ℕ) → pagedResult (walkRange p g va memory) ≡ pagedResult (walkRange p g vb memory)
     unfolding walkRange
     range-page g memory =
         let h : 12 ≤ inputsize g = omega (arith, input-low g) in
@@ -151,7 +149,7 @@ module _ (va vb : ℕ) (same : va / 2 ^ 12 ≡ vb / 2 ^ 12) where
         go false true = refl
         go false false = from-page (4 - startlevel g) memory (firstLookup g)
 
-    fetches-page : (n : ℕ) (memory : ℕ → Word) (l : Lookup) → fetchesFrom n memory p va l ≡ fetchesFrom n memory p vb l
+    fetches-page : (n : ℕ) (memory : ℕ → Option ℕ) (l : Lookup) → fetchesFrom n memory p va l ≡ fetchesFrom n memory p vb l
     unfolding fetchesFrom
     fetches-page zero memory l = refl
     fetches-page (suc n) memory l =
@@ -165,7 +163,7 @@ module _ (va vb : ℕ) (same : va / 2 ^ 12 ≡ vb / 2 ^ 12) where
         go (ends r) (deeper j) e ih = absurd (deeper-ends j _ (sym e))
         go (ends r) (ends q) e ih = refl
 
-    fetches-range-page : (g : Range) (memory : ℕ → Word) → fetchesRange p g va memory ≡ fetchesRange p g vb memory
+    fetches-range-page : (g : Range) (memory : ℕ → Option ℕ) → fetchesRange p g va memory ≡ fetchesRange p g vb memory
     unfolding fetchesRange
     fetches-range-page g memory =
         let h : 12 ≤ inputsize g = omega (arith, input-low g) in
@@ -179,7 +177,7 @@ module _ (va vb : ℕ) (same : va / 2 ^ 12 ≡ vb / 2 ^ 12) where
   range-of-page s El3 = refl
 
   -- and have one walk but for the offset
-  pub walk_of-page : (s : Bank) (r : Regime) (memory : ℕ → Word) → paged (walk_of s r va memory) ≡ paged (walk_of s r vb memory)
+  pub walk_of-page : (s : Bank) (r : Regime) (memory : ℕ → Option ℕ) → paged (walk_of s r va memory) ≡ paged (walk_of s r vb memory)
   unfolding walk_of tableWalk
   walk_of-page s r memory =
       let g = range_of s r vb in
@@ -188,12 +186,12 @@ module _ (va vb : ℕ) (same : va / 2 ^ 12 ≡ vb / 2 ^ 12) where
       ∙ sym (paged-walked (singlePriv r) (wxnOf s) (walkRange (params_of s r g) g vb memory)))
 
   -- and fetch the same descriptors
-  pub fetches-of-page : (s : Bank) (r : Regime) (memory : ℕ → Word) → fetchesOf s r va memory ≡ fetchesOf s r vb memory
+  pub fetches-of-page : (s : Bank) (r : Regime) (memory : ℕ → Option ℕ) → fetchesOf s r va memory ≡ fetchesOf s r vb memory
   unfolding fetchesOf
   fetches-of-page s r memory = rw (range-of-page s r) (fetches-range-page (params_of s r (range_of s r vb)) (range_of s r vb) memory)
 
 -- the offset is the address's own
-pub leaf-offset : (s : Bank) (r : Regime) (va : ℕ) (memory : ℕ → Word) (leaf : Leaf) → walk_of s r va memory ≡ Ok leaf
+pub leaf-offset : (s : Bank) (r : Regime) (va : ℕ) (memory : ℕ → Option ℕ) (leaf : Leaf) → walk_of s r va memory ≡ Ok leaf
     → leaf.oa % 2 ^ 12 ≡ va % 2 ^ 12
 leaf-offset s r va memory leaf e = (subst (SoundWalked va) e (walk-sound s r va memory)).1
 
@@ -212,7 +210,7 @@ same-leaf x y va e o =
     let join : y.oa ≡ alignDown y.oa 12 + va % 2 ^ 12 = omega arith in
     ap (withAddress y) join ∙ ap (λ (l : Leaf). withAddress l (l.oa + va % 2 ^ 12)) (sym e)
 
-module _ (s : Bank) (r : Regime) (va vb : ℕ) (memory : ℕ → Word) (same : va / 2 ^ 12 ≡ vb / 2 ^ 12) where
+module _ (s : Bank) (r : Regime) (va vb : ℕ) (memory : ℕ → Option ℕ) (same : va / 2 ^ 12 ≡ vb / 2 ^ 12) where
   -- so the leaf of one address of a page tells that of another
   pub leaf-of-page : (leaf : Leaf) → walk_of s r va memory ≡ Ok leaf → walk_of s r vb memory ≡ Ok (leafAt leaf vb)
   leaf-of-page leaf e = go (walk_of s r vb memory) refl

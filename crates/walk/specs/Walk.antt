@@ -1,8 +1,7 @@
 -- The walk as the code's own types hold it: what is left of `Table`'s result once the permission byte of `Permission` stands for the attributes.
-use Rattle.std.specs.Prelude.{Ok, Err}
+use Rattle.std.specs.Prelude.{Ok, Err, Option}
 use Rattle.walk.specs.Answers.{Walked}
 use Rattle.std.specs.Prelude.{Bool, not, ℕ}
-use Rattle.word.specs.declared.ram.Word.{Word}
 use Rattle.walk.specs.Regime.{singlePriv, wxnOf}
 use Rattle.walk.specs.Table.{Translation, Result, mapped, faults, statusOf, tableWalk}
 use Rattle.walk.specs.Permission.{permissionByte}
@@ -24,5 +23,5 @@ abbrev pub walkedOf : Bool → Bool → Result → Walked
 walkedOf singlepriv wxn (mapped t) = Ok (leafOf singlepriv wxn t)
 walkedOf singlepriv wxn (faults f) = Err (statusOf f)
 
-unfoldable pub walk_of : Bank → Regime → ℕ → (ℕ → Word) → Walked
+unfoldable pub walk_of : Bank → Regime → ℕ → (ℕ → Option ℕ) → Walked
 walk_of s r va memory = walkedOf (singlePriv r) (wxnOf s) (tableWalk s r va memory)

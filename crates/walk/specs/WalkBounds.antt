@@ -1,6 +1,6 @@
 -- What holds of every walk's answer, for those who know the walk by its definition alone: the leaf's level, output address and
 -- permission byte, and the status of a fault.
-use Rattle.std.specs.Prelude.{Ok, Err}
+use Rattle.std.specs.Prelude.{Ok, Err, Option, Some, None}
 use Rattle.walk.specs.Answers.{Walked}
 use Rattle.std.specs.Prelude.{◌≡◌, Bool, not, ◌&&◌, ◌||◌}
 use Rattle.std.proofs.Math.Path.{refl}
@@ -14,8 +14,6 @@ use Rattle.std.proofs.Math.Arith.{lt_of_le-ne}
 use Rattle.std.proofs.Math.Dec.{eqb, ltb}
 use Rattle.word.specs.Bits.{field, flag, pick}
 use Rattle.word.specs.BitLaws.{cut_small, join-small, join-below}
-use Rattle.word.specs.declared.ram.Word.{Word}
-use Rattle.word.specs.declared.ram.Word.TheVariants.{Value, Outside}
 use Rattle.walk.specs.Regime.{singlePriv, wxnOf}
 use Rattle.walk.specs.Descriptor.{valid, tableOrPage, af}
 use Rattle.walk.specs.Table.{Fault, addressSize, translation, accessFlag, externalAbort, statusOf, Translation, Result, mapped, faults, firstblocklevel}
@@ -121,20 +119,20 @@ module _ (p : Params) (low : 32 ≤ p.outputsize) (high : p.outputsize ≤ 44) (
       go false false true eb = leaf-sound l desc h
       go false false false eb = table-sound l desc (lt_of_le-ne h (eqb-false _ _ eb))
 
-  lookup-sound : (memory : ℕ → Word) (l : Lookup) → l.level ≤ 3 → SoundNext va l.level (lookupNext memory p va l)
+  lookup-sound : (memory : ℕ → Option ℕ) (l : Lookup) → l.level ≤ 3 → SoundNext va l.level (lookupNext memory p va l)
   unfolding lookupNext
   lookup-sound memory l h = go (memory (descaddr p va l))
     where
-      go : (x : Word) → SoundNext va l.level (on_word x (levelNext p va l) (ends (faults (externalAbort l.level))))
-      go (Value desc) = level-sound l desc h
-      go Outside = h
+      go : (x : Option ℕ) → SoundNext va l.level (on_word x (levelNext p va l) (ends (faults (externalAbort l.level))))
+      go (Some desc) = level-sound l desc h
+      go None = h
 
   -- a table leads one level down, to level 3 at the most
-  pub next_level : (memory : ℕ → Word) (l k : Lookup) → l.level ≤ 3 → lookupNext memory p va l ≡ deeper k
+  pub next_level : (memory : ℕ → Option ℕ) (l k : Lookup) → l.level ≤ 3 → lookupNext memory p va l ≡ deeper k
       → (k.level ≡ l.level + 1) × (k.level ≤ 3)
   next_level memory l k h e = subst (SoundNext va l.level) e (lookup-sound memory l h)
 
-  from-sound : (n : ℕ) (memory : ℕ → Word) (l : Lookup) → l.level ≤ 3 → Sound va (walkFrom n memory p va l)
+  from-sound : (n : ℕ) (memory : ℕ → Option ℕ) (l : Lookup) → l.level ≤ 3 → Sound va (walkFrom n memory p va l)
   unfolding walkFrom
   from-sound zero memory l h = omega arith
   from-sound (suc n) memory l h = go (lookupNext memory p va l) (lookup-sound memory l h) (λ k. from-sound n memory k)
@@ -144,7 +142,7 @@ module _ (p : Params) (low : 32 ≤ p.outputsize) (high : p.outputsize ≤ 44) (
       go (deeper k) hk ih = ih k hk.1
       go (ends r) hr ih = hr
 
-  range-sound : (g : Range) (memory : ℕ → Word) → Sound va (walkRange p g va memory)
+  range-sound : (g : Range) (memory : ℕ → Option ℕ) → Sound va (walkRange p g va memory)
   unfolding walkRange
   range-sound g memory = go (not (in_range g va) || g.disabled) (beyond p.outputsize g.baseregister)
     where
@@ -156,7 +154,7 @@ module _ (p : Params) (low : 32 ≤ p.outputsize) (high : p.outputsize ≤ 44) (
       go false false = from-sound (4 - startlevel g) memory (firstLookup g) (start-level g)
 
 -- every walk of the manual's ends in a leaf or a fault of the table of answers
-pub table-walk-sound : (s : Bank) (r : Regime) (va : ℕ) (memory : ℕ → Word) → Sound va (tableWalk s r va memory)
+pub table-walk-sound : (s : Bank) (r : Regime) (va : ℕ) (memory : ℕ → Option ℕ) → Sound va (tableWalk s r va memory)
 unfolding tableWalk params_of
 table-walk-sound s r va memory =
     range-sound (params_of s r (range_of s r va)) (pa-size-low _) (pa-size-high _) va (range_of s r va) memory
@@ -193,16 +191,16 @@ walked-sound singlepriv wxn va (mapped t) h =
 walked-sound singlepriv wxn va (faults f) h = record { fault = f; level = h; code = refl }
 
 -- and so does the walk as the code's types hold it
-pub walk-sound : (s : Bank) (r : Regime) (va : ℕ) (memory : ℕ → Word) → SoundWalked va (walk_of s r va memory)
+pub walk-sound : (s : Bank) (r : Regime) (va : ℕ) (memory : ℕ → Option ℕ) → SoundWalked va (walk_of s r va memory)
 unfolding walk_of
 walk-sound s r va memory = walked-sound (singlePriv r) (wxnOf s) va (tableWalk s r va memory) (table-walk-sound s r va memory)
 
 -- a leaf's level is 1, 2 or 3, its output address is below 2^44, its permission byte has six bits
-pub leaf-bounds : (s : Bank) (r : Regime) (va : ℕ) (memory : ℕ → Word) (leaf : Leaf) → walk_of s r va memory ≡ Ok leaf → LeafBounds leaf
+pub leaf-bounds : (s : Bank) (r : Regime) (va : ℕ) (memory : ℕ → Option ℕ) (leaf : Leaf) → walk_of s r va memory ≡ Ok leaf → LeafBounds leaf
 leaf-bounds s r va memory leaf e = (subst (SoundWalked va) e (walk-sound s r va memory)).0
 
 -- a fault's status is one of the table of answers
-pub fault-status : (s : Bank) (r : Regime) (va : ℕ) (memory : ℕ → Word) (n : ℕ) → walk_of s r va memory ≡ Err n → Status n
+pub fault-status : (s : Bank) (r : Regime) (va : ℕ) (memory : ℕ → Option ℕ) (n : ℕ) → walk_of s r va memory ≡ Err n → Status n
 fault-status s r va memory n e = subst (SoundWalked va) e (walk-sound s r va memory)
 
 -- and a number below 24

@@ -67,7 +67,7 @@ pub fn of_walk(
     va: u64,
 ) -> Told {
     match w {
-        Walked::Mapped(leaf) => {
+        Ok(leaf) => {
             let at = counts::current_at(state);
             let e = resolve::entry_for(leaf, at, 0);
             let user = access::user_of(regime, privilege, kind);
@@ -76,7 +76,7 @@ pub fn of_walk(
                 Answer::Status(fault) => Told::Fault(u64::from(fault.fsc)),
             }
         }
-        Walked::Fault(code) => Told::Fault(u64::from(code)),
+        Err(code) => Told::Fault(u64::from(code)),
     }
 }
 

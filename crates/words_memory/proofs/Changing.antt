@@ -1,8 +1,7 @@
 -- The cells of a page taken out of words, and a change stored there, on plain values, for `search`.
-use Rattle.std.specs.Prelude.{Bool, true, false, List, ℕ, zero, suc, ◌%◌}
+use Rattle.std.specs.Prelude.{Bool, true, false, List, ℕ, zero, suc, ◌%◌, Option}
 use Rattle.std.proofs.Common.{◌≡◌, refl, sym, ap, ◌∙◌}
 use Rattle.std.proofs.lemmas.List.{set-get_or}
-use Rattle.word.specs.declared.ram.Word.{Word}
 use Rattle.tlb.specs.Cache.{entry_at}
 use Rattle.tlb.specs.Count.{hitCounted, walkCounted}
 use Rattle.tlb.specs.Hint.{noHint}
@@ -113,7 +112,7 @@ commits-all ws xs ys zs t p e m n o =
     (holds_on (λ d. hintedIf d (t.hint_at % 512) t.hints t.hint) (rw e at m) n refl) o (commit-is (core_of ws) t)
 
 -- TWO PAGES
-module _ (ws : List ℕ) (memory : ℕ → Word) (va n : ℕ) (kind : Kind) (x y : Page) (next : ℕ) (b : Both)
+module _ (ws : List ℕ) (memory : ℕ → Option ℕ) (va n : ℕ) (kind : Kind) (x y : Page) (next : ℕ) (b : Both)
     (ex : x ≡ pageIn (core_of ws) va kind) (en : next ≡ nextPage va)
     (ey : y ≡ pageIn (core_of ws) next kind) (eb : b ≡ bothOf x y va n kind memory) where
   abbrev work : Both

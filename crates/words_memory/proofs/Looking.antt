@@ -1,10 +1,9 @@
 -- The cell, the hint and the whole translation in place, on plain values, for `search`.
-use Rattle.std.specs.Prelude.{Bool, true, false, ◌&&◌, List, ℕ}
+use Rattle.std.specs.Prelude.{Bool, true, false, ◌&&◌, List, ℕ, Option}
 use Rattle.std.proofs.Common.{◌≡◌, refl, sym, ap, ◌∙◌}
 use Rattle.std.proofs.Common.{arith}
 use Rattle.std.proofs.Math.Dec.{eqb}
 use Rattle.word.specs.Ram.{word_at}
-use Rattle.word.specs.declared.ram.Word.{Word}
 use Rattle.walk.specs.Regime.{bankOf, regimeOf}
 use Rattle.walk.specs.Tag.{untagged}
 use Rattle.walk.specs.Walk.{walk_of}
@@ -38,7 +37,7 @@ use Rattle.words_memory.specs.FoundLaws.{unchanged, hint-serves, hint-misses}
 use Rattle.words_memory.specs.FetchLaws.{fetchTo, fetch-serves, fetch-misses}
 
 -- by the entry where it serves, else by a walk
-module _ (q : Query) (s : Bank) (privilege : Privilege) (at : Current) (e : Entry) (va : ℕ) (kind : Kind) (memory : ℕ → Word) where
+module _ (q : Query) (s : Bank) (privilege : Privilege) (at : Current) (e : Entry) (va : ℕ) (kind : Kind) (memory : ℕ → Option ℕ) where
   resolved-hit : serves e at q.tag ≡ true → resolveOf q s privilege at e va kind memory ≡ byEntry q privilege e va kind
   unfolding resolveOf resolveWith
   resolved-hit h = rw h
@@ -116,7 +115,7 @@ module _ (ws : List ℕ) (base : ℕ) (ram : List ℕ) (va : ℕ) (kind : Kind) 
   abbrev c : Core
   c = core_of ws
 
-  abbrev memory : ℕ → Word
+  abbrev memory : ℕ → Option ℕ
   memory = word_at base ram 8
 
   abbrev found : Translated
@@ -232,7 +231,7 @@ module _ (ws : List ℕ) (va : ℕ) (kind : Kind) (privilege : Privilege) (b : B
   hint-none f = sym (rw (hint-test, f))
 
 -- the whole translation
-module _ (ws : List ℕ) (memory : ℕ → Word) (va : ℕ) (kind : Kind) (p : HintAnswer) (ep : p ≡ hintFound (core_of ws) va kind) where
+module _ (ws : List ℕ) (memory : ℕ → Option ℕ) (va : ℕ) (kind : Kind) (p : HintAnswer) (ep : p ≡ hintFound (core_of ws) va kind) where
   pub by-hint-answer : (pa : ℕ) → p ≡ At pa → Address pa ≡ (translateOf (core_of ws) memory va kind).answer
   by-hint-answer pa e = sym (ap (λ (x : Translated). x.answer) (hint-serves (core_of ws) memory va kind pa (sym ep ∙ e)))
 
@@ -267,7 +266,7 @@ code_at (Address x) code pa old e z q = ap Address (sym q)
 code_at (Status fsc) code pa old e z q = absurd (omega (arith, e, z))
 
 -- a translation leaves the level as it is
-found-privilege : (c : Core) (memory : ℕ → Word) (va : ℕ) (kind : Kind) → (foundTo c memory va kind).core.privilege ≡ c.privilege
+found-privilege : (c : Core) (memory : ℕ → Option ℕ) (va : ℕ) (kind : Kind) → (foundTo c memory va kind).core.privilege ≡ c.privilege
 unfolding foundTo sourced withHintFor withHint withEntry withCounts withCache afterAccess
 found-privilege c memory va kind = by c-made.answer (mayHint c.privilege kind) refl
   where
@@ -282,7 +281,7 @@ found-privilege c memory va kind = by c-made.answer (mayHint c.privilege kind) r
     by (Status fsc) b e = refl
 
 -- a fetch's page
-module _ (ws : List ℕ) (memory : ℕ → Word) (va code : ℕ) (ec : code ≡ code_of (foundTo (core_of ws) memory va Fetch).answer) where
+module _ (ws : List ℕ) (memory : ℕ → Option ℕ) (va code : ℕ) (ec : code ≡ code_of (foundTo (core_of ws) memory va Fetch).answer) where
   abbrev its-page : Translated
   its-page = foundTo (core_of ws) memory va Fetch
 

@@ -1,8 +1,7 @@
 -- The translation that a fetch begins with, in place, is the core's.
-use Rattle.std.specs.Prelude.{◌≡◌, ℕ}
+use Rattle.std.specs.Prelude.{◌≡◌, ℕ, Option}
 use Rattle.std.proofs.Math.Path.{refl}
 use Rattle.std.proofs.Common.{◌∙◌}
-use Rattle.word.specs.declared.ram.Word.{Word}
 use Rattle.fault.specs.First.{first}
 use Rattle.walk.specs.Regime.{regimeOf}
 use Rattle.tlb.specs.Hint.{fetchFound}
@@ -22,7 +21,7 @@ use Rattle.words.specs.Parts.{withCache, withCounts, withEntry, withFetchHint}
 use Rattle.words_memory.specs.Found.{answering, withHintFor, answerPut, sourced, foundTo, pagedBy}
 use Rattle.words_memory.specs.FoundLaws.{unchanged}
 
-module _ (c : Core) (memory : ℕ → Word) (va : ℕ) where
+module _ (c : Core) (memory : ℕ → Option ℕ) (va : ℕ) where
   abbrev level : ℕ
   level = c.privilege.level
 

@@ -1,8 +1,7 @@
 -- One translation on the core as it is made in place: the hint first; else its changes, and the core with them stored.
-use Rattle.std.specs.Prelude.{Bool, ◌&&◌, List, ℕ, ◌+◌, eqb}
+use Rattle.std.specs.Prelude.{Bool, ◌&&◌, List, ℕ, ◌+◌, eqb, Option}
 use Rattle.word.specs.Bits.{pick}
 use Rattle.word.specs.Ram.{word_at}
-use Rattle.word.specs.declared.ram.Word.{Word}
 use Rattle.walk.specs.Regime.{regimeOf}
 use Rattle.tlb.specs.Access.{mayHint}
 use Rattle.tlb.specs.Entry.{slot_of, serves}
@@ -74,7 +73,7 @@ fromEntry c q privilege kind va =
     committing c privilege kind va (slot_of q.tag) (byEntry q privilege (entry_at c.tlb.cache (slot_of q.tag)) va kind)
 
 -- by a walk, whatever the entry holds
-unfoldable pub fromWalk : Core → (ℕ → Word) → ℕ → Kind → Translated
+unfoldable pub fromWalk : Core → (ℕ → Option ℕ) → ℕ → Kind → Translated
 fromWalk c memory va kind =
     committing c c.privilege kind va (slot_at (bankNow c) c.privilege.level va)
     (byWalk (walkNow (bankNow c) c.privilege.level va memory)
@@ -82,7 +81,7 @@ fromWalk c memory va kind =
     c.privilege c.tlb.cache.current va kind)
 
 -- of an address that no hint serves
-unfoldable pub foundTo : Core → (ℕ → Word) → ℕ → Kind → Translated
+unfoldable pub foundTo : Core → (ℕ → Option ℕ) → ℕ → Kind → Translated
 foundTo c memory va kind =
     committing c c.privilege kind va (slot_at (bankNow c) c.privilege.level va)
     (missOf (bankNow c) c.privilege c.tlb.cache.current (entry_at c.tlb.cache (slot_at (bankNow c) c.privilege.level va)) va kind memory)

@@ -1,5 +1,5 @@
 -- The translation in place is the core's: its cells taken out and put back change no more than its branches say.
-use Rattle.std.specs.Prelude.{◌≡◌, Bool, ◌&&◌, ℕ, ◌-◌, length, take, drop}
+use Rattle.std.specs.Prelude.{◌≡◌, Bool, ◌&&◌, ℕ, ◌-◌, length, take, drop, Option}
 use Rattle.std.proofs.Math.Path.{refl, ap}
 use Rattle.std.proofs.Common.{sym, subst, ◌∙◌, arith}
 use Rattle.std.proofs.Math.Bool.{true, false}
@@ -8,7 +8,6 @@ use Rattle.std.proofs.Math.Dec.{eqb}
 use Rattle.std.proofs.lemmas.List.{set-get_or}
 use Rattle.std.proofs.Math.Seq.{take-length}
 use Rattle.word.specs.Bits.{pick}
-use Rattle.word.specs.declared.ram.Word.{Word}
 use Rattle.walk.specs.Regime.{regimeOf}
 use Rattle.tlb.specs.Access.{mayHint}
 use Rattle.tlb.specs.Entry.{blank}
@@ -97,7 +96,7 @@ module _ (c : Core) where
         ≡ answerPut (withEntry (withCounts c k) slot e) c.privilege kind va a
     put-answer-back a = put-answer-with (mayHint c.privilege kind) refl a
 
-module _ (c : Core) (memory : ℕ → Word) (va : ℕ) (kind : Kind) where
+module _ (c : Core) (memory : ℕ → Option ℕ) (va : ℕ) (kind : Kind) where
   abbrev level : ℕ
   level = c.privilege.level
 

@@ -14,9 +14,9 @@ use tlb::entry::Entry;
 use tlb::hint::HintAnswer;
 use tlb::resolve::{Asked, Query, Resolved, Source};
 use tlb::{access, hint, resolve};
-use walk::regime;
 use words::place::State;
 use words::{cells, counts, regs, state};
+use walk::regime::Regime;
 
 // An allowed address becomes a hint, where hints may serve.
 fn keep_hint(state: &mut State, privilege: Privilege, kind: Kind, va: u64, pa: u64)
@@ -144,7 +144,7 @@ fn from_walk(state: &mut State, va: u64, kind: Kind, pa: &mut u64, base: u64, ra
         (walkedAt state.old base ram.now va kind).core }
 {
     let privilege = state::privilege_at(state);
-    let regime = regime::regime_of(privilege.level);
+    let regime = Regime::of_level(privilege.level);
     let s = regs::bank_at(state, regime);
     let q = resolve::query_of(s, regime, va);
     let n = ram.len();
@@ -164,7 +164,7 @@ pub fn find(state: &mut State, va: u64, kind: Kind, pa: &mut u64, base: u64, ram
         (found_at state.old base ram.now va kind).core }
 {
     let privilege = state::privilege_at(state);
-    let r = regime::regime_of(privilege.level);
+    let r = Regime::of_level(privilege.level);
     let s = regs::bank_at(state, r);
     let n = ram.len();
     match resolve::ask(s, privilege, va) {
@@ -194,7 +194,7 @@ fn find_fetch(state: &mut State, va: u64, pa: &mut u64, base: u64, ram: &[u8]) -
         (found_at state.old base ram.now va Fetch).core }
 {
     let privilege = state::privilege_at(state);
-    let r = regime::regime_of(privilege.level);
+    let r = Regime::of_level(privilege.level);
     let s = regs::bank_at(state, r);
     let n = ram.len();
     match resolve::ask(s, privilege, va) {

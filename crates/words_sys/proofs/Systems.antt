@@ -1,6 +1,6 @@
 -- TLBI and AT, step by step.
+use Rattle.std.specs.Prelude.{Option}
 use Rattle.std.proofs.Common.{◌≡◌, ℕ, Bool, true, false, List, sym, refl, ap, ◌∙◌}
-use Rattle.word.specs.declared.ram.Word.{Word}
 use Rattle.sysreg.specs.Regs.{sysAt}
 use Rattle.sysreg.specs.Write.{sysWith}
 use Rattle.sysreg.specs.declared.regs.Control.{Control}
@@ -71,7 +71,7 @@ module _ (ws : List ℕ) where
   unfolding core_of coreBy coreOn withSys sysWith withPar
   par-put v = refl
 
-  pub at-is : (xs : List ℕ) (form : AtForm) (va : ℕ) (memory : ℕ → Word) (s : Bank) (m par : ℕ) → s ≡ bankOf (core_of ws).control form.regime
+  pub at-is : (xs : List ℕ) (form : AtForm) (va : ℕ) (memory : ℕ → Option ℕ) (s : Bank) (m par : ℕ) → s ≡ bankOf (core_of ws).control form.regime
       → m ≡ sysAt (core_of ws).sys (Mair (levelOf form.regime)) → par ≡ parIn s m form va memory
       → NowHolds ws xs (withSys (core_of ws) (sysWith (core_of ws).sys Par par)) → NowHolds ws xs (at_of (core_of ws) memory form va)
   unfolding at_of atPar
