@@ -20,7 +20,6 @@ use Rattle.operations.specs.declared.call.Reply.TheVariants.{Refused, Done, Valu
 use Rattle.words_sys.specs.Early.{early, earlyStop, never}
 use Rattle.call_words.specs.Replies.{codeBy, valueBy}
 use Rattle.sysreg.specs.Write.{WriteAnswer}
-use Rattle.sysreg.specs.declared.write.WriteError.TheVariants.{Undefined}
 
 -- a refusal, Undefined, Unimplemented
 abbrev pub unmoved : Reply → Bool

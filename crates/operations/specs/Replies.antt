@@ -35,6 +35,6 @@ reaching (Reach.At pa) = Value pa
 reaching Reach.Faults = Faults
 
 abbrev pub registering : WriteAnswer → Reply
-registering (Ok tt) = Done
+registering (Ok done) = Done
 registering (Err Undefined) = Stopped (Stop.Exception Exception.Undefined)
 registering (Err NoRegister) = Refused 6
