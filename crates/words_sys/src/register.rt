@@ -1,7 +1,7 @@
 // Register writes in place.
 ghost use Rattle.std.specs.Prelude.{◌≡◌, ◌≢◌};
 ghost use Rattle.sysreg.specs.Shape.{shape, member};
-ghost use Rattle.sysreg.specs.declared.write.WriteAnswer.TheVariants as WriteAnswer;
+ghost use Rattle.sysreg.specs.Write.{Done};
 ghost use Rattle.exec.specs.Ops.{writeRegister};
 ghost use Rattle.words.specs.CoreOf.{core_of};
 ghost use Rattle.words.specs.NowHolds.{NowHolds};
@@ -105,7 +105,7 @@ pub fn write_register(state: &mut State, key: u32, value: u64) -> Result<(), Wri
     ensures value { result ≡ (writeRegister (core_of state.old) key value).answer }
     ensures now_holds { NowHolds state.old state.new
         (writeRegister (core_of state.old) key value).core }
-    ensures state_unchanged { (result ≢ WriteAnswer.Done) → state.new ≡ state.old }
+    ensures state_unchanged { (result ≢ Done) → state.new ≡ state.old }
 {
     match encoding::named(key) {
         None => Err(WriteError::NoRegister),
