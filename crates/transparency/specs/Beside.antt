@@ -9,12 +9,11 @@ use Rattle.mmu.specs.Core.{freshCore, reg_of}
 use Rattle.mmu.specs.declared.core_state.Core.{Core}
 use Rattle.exec.specs.Ops.{registered, writeRegister}
 use Rattle.exec.specs.Sys.{sysBy, sysRamBy, sysOf, sysRam}
-use Rattle.cpu.specs.Step.{ends, afterStore, afterWrite, run_of, ramOf, refusedOr, step_of, ramAfter}
+use Rattle.cpu.specs.Step.{ends, afterStore, afterWrite, run_of, ramOf, refusedOr, step_of, ramAfter, Stepped}
 use Rattle.operations.specs.declared.{call.Encoding.Encoding, call.Call.Call}
 use Rattle.operations.specs.declared.call.Call.TheVariants.{Translate, DataPa, FetchPa, Load, Store, Fetch, System, Register, Level, Mark, General}
 use Rattle.operations.specs.declared.call.Call.TheVariants.{Abort, Census}
 use Rattle.operations.specs.declared.call.Reply.TheVariants.{Refused}
-use Rattle.cpu.specs.declared.run.Stepped.{Stepped}
 use Rattle.history.specs.Calls.{Lent, run, bareRun}
 use Rattle.history.specs.EveryCall.{run-bare as runs-agree}
 use Rattle.history.specs.Instance.{Ram, real}

@@ -12,7 +12,8 @@ use Rattle.mmu.specs.Bare.{Bare, withPrivilege, bareOf, with_regs}
 use Rattle.mmu.specs.Core.{reg_of, setReg, afterAccess}
 use Rattle.mmu.specs.Ops.{writeOf}
 use Rattle.mmu.specs.OpLaws as Laws
-use Rattle.mmu.specs.declared.{core_state.Core.Core, ops.Stored.Stored}
+use Rattle.mmu.specs.declared.core_state.Core.{Core}
+use Rattle.mmu.specs.Results.{Stored}
 use Rattle.operations.specs.declared.{ends.StoreAnswer.StoreAnswer, call.Encoding.Encoding, call.Call.Call}
 use Rattle.operations.specs.declared.ends.StoreAnswer.TheVariants.{Done, Stopped}
 use Rattle.exec.specs.Fit.{refitOf}

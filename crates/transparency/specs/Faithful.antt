@@ -8,9 +8,8 @@ use Rattle.tlb.specs.Asks.{Given}
 use Rattle.mmu.specs.Bare.{Bare, freshBare}
 use Rattle.mmu.specs.Core.{freshCore}
 use Rattle.mmu.specs.declared.core_state.Core.{Core}
-use Rattle.cpu.specs.Step.{step_of, ramAfter}
+use Rattle.cpu.specs.Step.{step_of, ramAfter, Stepped}
 use Rattle.operations.specs.declared.call.Call.{Call}
-use Rattle.cpu.specs.declared.run.Stepped.{Stepped}
 use Rattle.history.specs.History.{Step, Event, steps, afterEvent, plainRun, tlbEvent, tlbRun, answers}
 use Rattle.history.specs.Invisible.{Tidy, answersRun}
 use Rattle.history.specs.Lists.{answers-split}
