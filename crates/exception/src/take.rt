@@ -1,6 +1,6 @@
 // Exception entry. A synchronous one takes a level modulo 4, as PSTATE.EL has two bits; levels are 0 to 3 below it.
 ghost use Rattle.std.specs.Prelude.{◌≡◌};
-ghost use Rattle.exception.specs.Entry.{vectOffset, updatedSys, entryFlags, enterOf};
+ghost use Rattle.exception.specs.Entry.{vectOffset, updated, updatedSys, entryFlags, enterOf};
 ghost use Rattle.exception.specs.Entry.{enteredWith, syncReport, syncChanges, takeSync};
 
 use crate::flags::{DAIF_ALL, Flags, pstate};
@@ -50,6 +50,16 @@ pub fn vector_group(from: u8, to: u8, spsel: bool) -> u64
     }
 }
 
+// The target level's register, where a value is given.
+#[tactic(auto, using(sysreg::proofs::Stores::four))]
+fn update(bank: &mut [u64; 4], target: El, value: Option<u64>)
+    ensures { bank.new ≡ updated target value bank.old }
+{
+    if let Some(value) = value {
+        bank[target.index()] = value;
+    }
+}
+
 // SPSR and ELR of the target level, and its ESR and FAR where they are given.
 #[tactic(auto, using(sysreg::proofs::Stores::four))]
 fn saved(
@@ -66,12 +76,8 @@ fn saved(
     let mut out = sys;
     out.elr[t] = ret;
     out.spsr[t] = spsr;
-    if let Some(esr) = esr {
-        out.esr[t] = esr;
-    }
-    if let Some(far) = far {
-        out.far[t] = far;
-    }
+    update(&mut out.esr, target, esr);
+    update(&mut out.far, target, far);
     out
 }
 
