@@ -40,21 +40,20 @@ afterEntry s target spsr ret esr far =
       par_el1 = s.par_el1;
     }
 
--- the same where a value is given; else what they hold
-abbrev pub updated : El → Option ℕ → List ℕ → List ℕ
-updated target (Some v) l = atTarget target v l
-updated target None l = l
-
 -- FAR is written where the exception has an address
+abbrev pub farAfter : El → Option ℕ → List ℕ → List ℕ
+farAfter target (Some v) l = atTarget target v l
+farAfter target None l = l
+
 unfoldable pub enteredSys : SysRegs → El → Report → ℕ → ℕ → SysRegs
-enteredSys s target r spsr ret = afterEntry s target spsr ret (atTarget target r.esr s.esr) (updated target r.far s.far)
+enteredSys s target r spsr ret = afterEntry s target spsr ret (atTarget target r.esr s.esr) (farAfter target r.far s.far)
 
 -- of one register: the value that is given, where it is the target's; else what it held
 abbrev pub given : Option ℕ → Bool → ℕ → ℕ
 given (Some v) same held = pick same v held
 given None same held = held
 
--- the same, register by register: what one holds after an entry, from what it held
+-- register by register: what one holds after an entry, from what it held
 abbrev pub registerAfter : El → Report → ℕ → ℕ → SysReg → ℕ → ℕ
 registerAfter target r spsr ret (Spsr el) held = pick (sameEl el target) spsr held
 registerAfter target r spsr ret (Elr el) held = pick (sameEl el target) ret held
@@ -108,6 +107,10 @@ takeException level f s target r ret = takenTo f s (changesOf level f target r r
 
 -- An entry of any kind, which is added to the offset (0x000 for a synchronous exception, 0x080 for an IRQ, 0x100 for an FIQ); ESR and FAR are
 -- written, or kept as an interrupt keeps both. A synchronous one is `takeException` (`enter-sync` of EntryLaws).
+abbrev pub updated : El → Option ℕ → List ℕ → List ℕ
+updated target (Some v) l = atTarget target v l
+updated target None l = l
+
 abbrev pub updatedSys : SysRegs → El → Option ℕ → Option ℕ → ℕ → ℕ → SysRegs
 updatedSys s target esr far spsr ret = afterEntry s target spsr ret (updated target esr s.esr) (updated target far s.far)
 

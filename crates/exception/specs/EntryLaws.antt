@@ -15,14 +15,14 @@ use Rattle.exception.specs.declared.kind.Exception.TheVariants.{Undefined, Svc, 
 use Rattle.exception.specs.Pstate.{spsrOf}
 use Rattle.exception.specs.Syndrome.{syndromeOf}
 use Rattle.exception.specs.Route.{defaultTarget, smcTrapped, callTarget, targetEl, generated, routedTo}
-use Rattle.exception.specs.Entry.{vectOffset, sameEl, atTarget, enteredSys, registerAfter, ofEntry, updated, given, changesOf, enteredWith, takenTo}
+use Rattle.exception.specs.Entry.{vectOffset, sameEl, atTarget, enteredSys, registerAfter, ofEntry, farAfter, updated, given, changesOf, enteredWith, takenTo}
 use Rattle.exception.specs.Entry.{takeException, enterOf, origin_of, syncReport, syncChanges, takeSync}
 
 module _ (s : SysRegs) (target : El) (r : Report) (spsr ret : ℕ) where
   abbrev Holds : SysReg → Type 0
   Holds q = sysAt (enteredSys s target r spsr ret) q ≡ registerAfter target r spsr ret q (sysAt s q)
 
-  far_at : (el : El) (far : Option ℕ) → slice_index (updated target far s.far) (levelOf el) ≡ given far (sameEl el target) (sysAt s (Far el))
+  far_at : (el : El) (far : Option ℕ) → slice_index (farAfter target far s.far) (levelOf el) ≡ given far (sameEl el target) (sysAt s (Far el))
   far_at El1 (Some v) = refl
   far_at El2 (Some v) = refl
   far_at El3 (Some v) = refl
@@ -66,7 +66,11 @@ module _ (s : SysRegs) (target : El) (r : Report) (spsr ret : ℕ) where
 pub entered-report : (f : Flags) (s : SysRegs) (t : Taken)
     → enteredWith f s t.target t.group (Some t.report.esr) t.report.far t.spsr t.ret ≡ takenTo f s t
 unfolding enteredSys
-entered-report f s t = refl
+entered-report f s t = rw (far-as t.report.far)
+  where
+    far-as : (far : Option ℕ) → updated t.target far s.far ≡ farAfter t.target far s.far
+    far-as (Some v) = refl
+    far-as None = refl
 
 -- so is one of the synchronous kind
 pub enter-sync : (level : ℕ) (f : Flags) (s : SysRegs) (target : El) (r : Report) (ret : ℕ)
