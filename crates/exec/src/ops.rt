@@ -15,13 +15,9 @@ pub fn write_register(core: &mut Core, key: u32, value: u64) -> Result<(), Write
     ensures { record { core = core.new; answer = result } ≡ writeRegister core.old key value }
 {
     let before = core.control;
-    let w = write::write_reg(before, core.sys, core.privilege.level, key, value);
-    if let Ok(()) = w.answer {
-        core.control = w.control;
-        core.sys = w.sys;
-        fit::refit(&mut core.tlb, before, w.control);
-    }
-    w.answer
+    write::write_reg(&mut core.control, &mut core.sys, core.privilege.level, key, value)?;
+    fit::refit(&mut core.tlb, before, core.control);
+    Ok(())
 }
 
 // The level is set.

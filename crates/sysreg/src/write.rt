@@ -1,5 +1,5 @@
 // MSR to the registers kept.
-ghost use Rattle.std.specs.Prelude.{◌≡◌};
+ghost use Rattle.std.specs.Prelude.{◌≡◌, Err};
 ghost use Rattle.sysreg.specs.Write.{kept as keptOf, controlWith, sysWith, writeReg, replyOf, replyTo};
 
 use crate::encoding::named;
@@ -65,7 +65,8 @@ impl SysRegs {
     }
 }
 
-// A key that names no register kept is refused; else EL0 may write none; else the register is written.
+// A key that names no register kept is refused; else EL0 may write none; else the register is written. One that is
+// refused changes nothing.
 #[tactic(auto, unfolding(crate::specs::Write::writeReg))]
 pub fn write_reg(
     control: &mut Control,
@@ -78,6 +79,7 @@ pub fn write_reg(
     ensures control_after { control.new ≡ (writeReg control.old sys.old level k value).control }
     ensures sys_after { sys.new ≡ (writeReg control.old sys.old level k value).sys }
     ensures answer_value { replyOf result ≡ replyTo level k }
+    ensures unchanged { (e : WriteError) → result ≡ Err e → (control.new ≡ control.old) × (sys.new ≡ sys.old) }
 {
     let register = named(k).ok_or(WriteError::NoRegister)?;
     if level == 0 {

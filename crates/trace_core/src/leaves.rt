@@ -120,10 +120,9 @@ fn reported(e: Exception, from: u64, to: u64, pc: u64) -> [u64; 4] {
     let lower = from < to;
     let below = if lower { 0u8 } else { 1u8 };
     let r = report::syndrome(e, below, 1, pc);
-    if r.valid {
-        pair(r.esr, r.far)
-    } else {
-        value(r.esr)
+    match r.far {
+        Some(far) => pair(r.esr, far),
+        None => value(r.esr),
     }
 }
 

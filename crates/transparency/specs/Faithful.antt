@@ -6,9 +6,8 @@ use Rattle.tlb.specs.Asks.{Given}
 use Rattle.mmu.specs.Bare.{freshBare}
 use Rattle.mmu.specs.Core.{freshCore}
 use Rattle.mmu.specs.declared.core_state.Core.{Core}
-use Rattle.cpu.specs.Step.{step_of, ramAfter}
+use Rattle.cpu.specs.Step.{step_of, ramAfter, Stepped}
 use Rattle.operations.specs.declared.call.Call.{Call}
-use Rattle.cpu.specs.Step.{Stepped}
 use Rattle.history.specs.History.{Step, Event, steps, afterEvent, plainRun, tlbEvent, tlbRun, answers}
 use Rattle.history.specs.Invisible.{Tidy, answersRun}
 use Rattle.history.specs.Calls.{Lent, Fed, lent_of, eventsRun, Shown, shown, FaithfulIn}

@@ -185,7 +185,7 @@ pub fn put_saved(state: &mut State, target: El, report: Report, spsr: u64, ret: 
     state[place::ELR + t] = ret;
     state[place::SPSR + t] = spsr;
     state[place::ESR + t] = report.esr;
-    if report.valid {
-        state[place::FAR + t] = report.far;
+    if let Some(far) = report.far {
+        state[place::FAR + t] = far;
     }
 }
