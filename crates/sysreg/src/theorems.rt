@@ -1,6 +1,6 @@
 // What holds of every register write and of the shape of a translation. Each function computes nothing: its contract is
 // the theorem.
-ghost use Rattle.std.specs.Prelude.{◌≡◌, ℕ, true, ◌≢◌};
+ghost use Rattle.std.specs.Prelude.{◌≡◌, ℕ, true, ◌≢◌, Some, None, Err};
 ghost use Rattle.sysreg.specs.Regs.{controlAt, sysAt};
 ghost use Rattle.sysreg.specs.Encoding.{registerAt};
 ghost use Rattle.sysreg.specs.Write.{controlWith, sysWith, ended, writeReg};
@@ -11,8 +11,7 @@ ghost use Rattle.sysreg.specs.declared.regs.SysRegs.{SysRegs};
 ghost use Rattle.sysreg.specs.declared.regs.ControlReg.{ControlReg};
 ghost use Rattle.sysreg.specs.declared.regs.SysReg.{SysReg};
 ghost use Rattle.sysreg.specs.declared.regs.Register.{Register};
-ghost use Rattle.sysreg.specs.declared.encoding.Found.TheVariants.{At, Nothing};
-ghost use Rattle.sysreg.specs.declared.write.WriteAnswer.TheVariants.{Undefined, NoRegister};
+ghost use Rattle.sysreg.specs.declared.write.WriteError.TheVariants.{Undefined, NoRegister};
 
 // Settings of one shape agree in each control register that a translation reads, but TTBR0_EL1 and TTBR1_EL1. It rules
 // out a shape that lacks a bit by which stage 1 is on or a tag is dropped, so that a hint would outlive its change.
@@ -24,9 +23,9 @@ pub fn shape_of_translations()
 // register that it names and no other.
 pub fn effect_of_writes()
     ensures undefined_at_el0 { (c : Control) (s : SysRegs) (level k v : ℕ) (r : Register)
-        → registerAt k ≡ At r → level ≡ 0 → writeReg c s level k v ≡ ended c s Undefined }
+        → registerAt k ≡ Some r → level ≡ 0 → writeReg c s level k v ≡ ended c s (Err Undefined) }
     ensures no_register { (c : Control) (s : SysRegs) (level k v : ℕ)
-        → registerAt k ≡ Nothing → writeReg c s level k v ≡ ended c s NoRegister }
+        → registerAt k ≡ None → writeReg c s level k v ≡ ended c s (Err NoRegister) }
     ensures control_written { (c : Control) (r : ControlReg) (v : ℕ) → controlAt (controlWith c r v) r ≡ v }
     ensures control_others { (c : Control) (r : ControlReg) (v : ℕ) (q : ControlReg)
         → q ≢ r → controlAt (controlWith c r v) q ≡ controlAt c q }
