@@ -1,7 +1,6 @@
 // What holds of every census. Each function computes nothing: its contract is the theorem.
-ghost use Rattle.std.specs.Prelude.{◌≡◌, ℕ, ◌+◌, ◌*◌, ◌/◌, ◌<◌, Bool, true, false};
+ghost use Rattle.std.specs.Prelude.{◌≡◌, ℕ, ◌+◌, ◌*◌, ◌/◌, ◌<◌, Bool, true, false, Option};
 ghost use Rattle.word.specs.Bits.{wrap};
-ghost use Rattle.word.specs.declared.ram.Word.{Word};
 ghost use Rattle.walk.specs.Regime.{stage1On};
 ghost use Rattle.walk.specs.declared.regime.Regime.{Regime};
 ghost use Rattle.walk.specs.declared.regime.Bank.{Bank};
@@ -24,12 +23,12 @@ pub fn meaning_of_counts()
 // All counts together are the number of pages, a census of two adjoining ranges is the sum, place by place, and the low
 // twelve bits of the first address count for nothing.
 pub fn sums_of_counts()
-    ensures all_counted { (s : Bank) (r : Regime) (memory : ℕ → Word) (first pages : ℕ)
+    ensures all_counted { (s : Bank) (r : Regime) (memory : ℕ → Option ℕ) (first pages : ℕ)
         → total (censusOf s r memory first pages) ≡ pages }
-    ensures ranges_join { (s : Bank) (r : Regime) (memory : ℕ → Word) (first n m next j : ℕ)
+    ensures ranges_join { (s : Bank) (r : Regime) (memory : ℕ → Option ℕ) (first n m next j : ℕ)
         → next ≡ wrap (first + n * 4096) → j < 129
         → countAt s r memory first (n + m) j ≡ countAt s r memory first n j + countAt s r memory next m j }
-    ensures low_bits_dropped { (s : Bank) (r : Regime) (memory : ℕ → Word) (first other pages : ℕ)
+    ensures low_bits_dropped { (s : Bank) (r : Regime) (memory : ℕ → Option ℕ) (first other pages : ℕ)
         → first / 4096 ≡ other / 4096 → censusOf s r memory first pages ≡ censusOf s r memory other pages }
 {}
 
@@ -40,11 +39,11 @@ pub fn empty_places()
         → NoStatus status → count status ≡ 0) }
     ensures no_other_rights { EachCensus (λ count end pages. (perms : ℕ) → perms < 64
         → among perms possible ≡ false → count (64 + perms) ≡ 0) }
-    ensures off_all_flat { (s : Bank) (r : Regime) (memory : ℕ → Word) (first pages : ℕ)
+    ensures off_all_flat { (s : Bank) (r : Regime) (memory : ℕ → Option ℕ) (first pages : ℕ)
         → stage1On s r ≡ false → countAt s r memory first pages 128 ≡ pages }
-    ensures off_none_else { (s : Bank) (r : Regime) (memory : ℕ → Word) (first pages j : ℕ)
+    ensures off_none_else { (s : Bank) (r : Regime) (memory : ℕ → Option ℕ) (first pages j : ℕ)
         → stage1On s r ≡ false → j < 128 → countAt s r memory first pages j ≡ 0 }
-    ensures on_none_flat { (s : Bank) (r : Regime) (memory : ℕ → Word) (first pages : ℕ)
+    ensures on_none_flat { (s : Bank) (r : Regime) (memory : ℕ → Option ℕ) (first pages : ℕ)
         → stage1On s r ≡ true → countAt s r memory first pages 128 ≡ 0 }
 {}
 

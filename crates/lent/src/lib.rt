@@ -1,9 +1,8 @@
 #![tactic(auto)]
 // The entry points over a core that is lent: each makes the call's checks, and then changes the core where it lies. Each
 // promises the call's exact definition, and that its answer is faithful whatever list of calls made the core.
-ghost use Rattle.std.specs.Prelude.{◌≡◌, ℕ, Some};
+ghost use Rattle.std.specs.Prelude.{◌≡◌, ℕ, Some, Option};
 ghost use Rattle.word.specs.Ram.{word_at};
-ghost use Rattle.word.specs.declared.ram.Word.{Word};
 ghost use Rattle.tlb.specs.declared.access.Answer.TheVariants.{Address};
 ghost use Rattle.mmu.specs.Ops.{translateOf};
 ghost use Rattle.cpu.specs.Step.{step_of, ramAfter, ends, afterTranslation};
@@ -20,7 +19,7 @@ use word::ram::Width;
 // Where the hint of va sends an access, if it serves.
 #[tactic(auto, using(crate::proofs::Hints::by_hint))]
 fn by_hint(core: &Core, va: u64, kind: Kind) -> Option<u64>
-    ensures { (memory : ℕ → Word) (pa : ℕ) → result ≡ Some pa
+    ensures { (memory : ℕ → Option ℕ) (pa : ℕ) → result ≡ Some pa
         → translateOf core.now memory va kind ≡ record { core = core.now; answer = Address pa } }
 {
     let hint = core.tlb.cache.hints[hinted::hint_place(va, kind)];

@@ -183,10 +183,10 @@ pub leaf-offset : (s : Bank) (r : Regime) (va : ℕ) (memory : ℕ → Option �
     → leaf.oa % 2 ^ 12 ≡ va % 2 ^ 12
 leaf-offset s r va memory leaf e = (subst (SoundWalked va) e (walk-sound s r va memory)).1
 
-mapped-inj : (x y : Leaf) → Ok x ≡ Ok y → x ≡ y
+mapped-inj : (x y : Leaf) → ◌≡◌ {A = Walked} (Ok x) (Ok y) → x ≡ y
 mapped-inj x y e = cc
 
-fault-mapped : (n : ℕ) (x : Leaf) → Err n ≡ Ok x → ⊥
+fault-mapped : (n : ℕ) (x : Leaf) → ◌≡◌ {A = Walked} (Err n) (Ok x) → ⊥
 fault-mapped n x e = let z : ◌≡◌ {A = ℕ} 0 1 = cc in omega arith
 
 same-leaf : (x y : Leaf) (va : ℕ) → pagedLeaf x ≡ pagedLeaf y → y.oa % 2 ^ 12 ≡ va % 2 ^ 12 → y ≡ leafAt x va
