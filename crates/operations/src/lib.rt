@@ -14,3 +14,4 @@ pub mod lookup;
 pub mod place;
 pub mod reply;
 pub mod stores;
+pub mod theorems;
