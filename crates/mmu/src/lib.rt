@@ -3,3 +3,4 @@
 pub mod core_state;
 pub mod ops;
 pub mod step;
+pub mod theorems;
