@@ -153,3 +153,10 @@ module _ (level pc scr hcr : ℕ) (f : Flags) (s : SysRegs) (e : Exception) wher
       let m : level % 2 ^ 2 ≡ level = mod-eq_of_lt (omega arith) in
       let u = target_up scr hcr pc (level % 2 ^ 2) (omega arith) (generated (origin_of level pc scr hcr) e) in
       omega (arith, u, m)
+
+-- a fact of every synchronous exception: where it is taken to, what is reported, SPSR and the return address, and the registers before and after
+abbrev pub EachEntry : (El → Report → ℕ → ℕ → SysRegs → SysRegs → Type 0) → Type 0
+EachEntry P =
+    (level pc scr hcr : ℕ) (f : Flags) (s : SysRegs) (e : Exception)
+    → P (target level pc scr hcr f s e) (report level pc scr hcr f s e) (spsrOf (level % 2 ^ 2) f) (routedTo (origin_of level pc scr hcr) e).ret s
+    (takeSync level f pc scr hcr s e).sys

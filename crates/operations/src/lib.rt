@@ -12,3 +12,4 @@ pub mod loads;
 pub mod lookup;
 pub mod place;
 pub mod reply;
+pub mod theorems;
