@@ -16,6 +16,7 @@ use Rattle.walk.specs.Size.{paSize}
 use Rattle.walk.specs.Table.{range_of, params_of, tableNext, leafPermissions, leafTranslation, leafResult, levelNext, descaddr, lookupNext, walkFrom, walkRange}
 use Rattle.walk.specs.Table.{tableWalk}
 use Rattle.walk.specs.Walk.{walk_of}
+use Rattle.walk.specs.Answers.{Walked}
 use Rattle.walk.specs.declared.regime.Regime.TheVariants.{El1}
 use Rattle.walk.specs.declared.level.Leaf.{Leaf}
 use Rattle.tlb.specs.Maintenance.{invalidatedOf, reshapedOf, retaggedOf}
@@ -141,7 +142,7 @@ unfolding freshControl controlWith walk_of tableWalk walkRange walkFrom lookupNe
     range_of params_of paSize word_at littleEndian bytes_of
 walks = (refl, refl, refl)
 
-mapped-inj : {x y : Leaf} → Ok x ≡ Ok y → x ≡ y
+mapped-inj : {x y : Leaf} → ◌≡◌ {A = Walked} (Ok x) (Ok y) → x ≡ y
 mapped-inj e = cc
 
 unmapped : {code : ℕ} {ℓ : Leaf} → Err code ≡ Ok ℓ → ⊥
