@@ -1,6 +1,5 @@
 -- The work of a fetch, on small values. Cited by the contracts of this crate alone.
-use Rattle.std.specs.Prelude.{Some, Option, None}
-use Rattle.std.specs.Prelude.{ℕ, zero, suc, true, false, List, length}
+use Rattle.std.specs.Prelude.{ℕ, zero, suc, true, false, List, length, Some, Option, None}
 use Rattle.word.specs.Ram.{word_at}
 use Rattle.tlb.specs.Hint.{fetchFound}
 use Rattle.tlb.specs.declared.access.Answer.TheVariants.{Address}

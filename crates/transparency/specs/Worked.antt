@@ -16,7 +16,6 @@ use Rattle.walk.specs.Size.{paSize}
 use Rattle.walk.specs.Table.{range_of, params_of, tableNext, leafPermissions, leafTranslation, leafResult, levelNext, descaddr, lookupNext, walkFrom, walkRange}
 use Rattle.walk.specs.Table.{tableWalk}
 use Rattle.walk.specs.Walk.{walk_of}
-use Rattle.walk.specs.Answers.{Walked}
 use Rattle.walk.specs.declared.regime.Regime.TheVariants.{El1}
 use Rattle.walk.specs.declared.level.Leaf.{Leaf}
 use Rattle.tlb.specs.Maintenance.{invalidatedOf, reshapedOf, retaggedOf}
@@ -63,6 +62,7 @@ use Rattle.transparency.specs.Machine.{machine}
 use Rattle.transparency.specs.Beside.{coreAfter, bareAfter}
 use Rattle.transparency.specs.Faithful.{fedBy}
 use Rattle.transparency.specs.Direct.{SettledAt, translate-after}
+use Rattle.walk.specs.Answers.{Walked}
 
 -- RAM with this word at 0x1008: no table, a 1 GiB block at 0x80000000, one at 0xC0000000
 abbrev pub table : ℕ → Ram

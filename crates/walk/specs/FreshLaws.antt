@@ -1,7 +1,5 @@
 -- What holds of every fresh answer, for those who know it by its definition alone.
-use Rattle.std.specs.Prelude.{Ok, Err, Option}
-use Rattle.walk.specs.Answers.{Walked}
-use Rattle.std.specs.Prelude.{◌≡◌, Bool, ℕ}
+use Rattle.std.specs.Prelude.{◌≡◌, Bool, ℕ, Option, Ok, Err}
 use Rattle.std.proofs.Common.{subst}
 use Rattle.std.proofs.Math.Bool.{true, false}
 use Rattle.word.specs.Bits.{pick}
@@ -12,6 +10,7 @@ use Rattle.walk.specs.Fresh.{fresh_of}
 use Rattle.walk.specs.WalkBounds.{Status, LeafBounds, SoundWalked, walk-sound}
 use Rattle.walk.specs.declared.{regime.Regime.Regime, regime.Bank.Bank, level.Leaf.Leaf, fresh.Fresh.Fresh}
 use Rattle.walk.specs.declared.fresh.Fresh.TheVariants.{Flat, Ended}
+use Rattle.walk.specs.Answers.{Walked}
 
 abbrev pub SoundEnd : Walked → Type 0
 SoundEnd (Ok leaf) = LeafBounds leaf

@@ -1,8 +1,7 @@
 -- The order of a walk's answers: the table of answers, from the entry of a walk to the access flag of its leaf, a theorem for each row. A row's
 -- theorem supposes its own condition and that the rows above do not hold, and says nothing of the rows below: whatever those conditions are, the
 -- answer is this row's. Rows below the entry are of any table that the walk reaches.
-use Rattle.std.specs.Prelude.{Ok, Err, Option, Some, None}
-use Rattle.std.specs.Prelude.{◌≡◌, Bool, not, ◌&&◌, ◌||◌, [], ltb}
+use Rattle.std.specs.Prelude.{◌≡◌, Bool, not, ◌&&◌, ◌||◌, [], ltb, Option, Some, None, Ok, Err}
 use Rattle.std.proofs.Math.Path.{refl}
 use Rattle.std.proofs.Common.{ap, ◌∙◌}
 use Rattle.std.proofs.Math.Bool.{true, false}

@@ -1,7 +1,5 @@
 -- A walk goes by pages: addresses of one page have one walk but for the offset in the page, which is the address's own.
-use Rattle.std.specs.Prelude.{Ok, Err, Option, Some, None}
-use Rattle.walk.specs.Answers.{Walked}
-use Rattle.std.specs.Prelude.{◌≡◌, true, false, ◌&&◌, ◌||◌, eqb, ltb}
+use Rattle.std.specs.Prelude.{◌≡◌, true, false, ◌&&◌, ◌||◌, eqb, ltb, Option, Some, None, Ok, Err}
 use Rattle.std.proofs.Math.Path.{refl, sym, ap}
 use Rattle.std.proofs.Common.{subst, ◌∙◌, arith}
 use Rattle.std.proofs.Math.Bool.{Bool, not}
@@ -21,6 +19,7 @@ use Rattle.walk.specs.Fetches.{afterNext, fetchesFrom, fetchesRange, fetchesOf}
 use Rattle.walk.specs.declared.{regime.Regime.Regime, regime.Bank.Bank, range.Range.Range, level.Params.Params}
 use Rattle.walk.specs.declared.level.Leaf.{Leaf}
 use Rattle.walk.specs.declared.regime.Regime.TheVariants.{El1, El2, El3}
+use Rattle.walk.specs.Answers.{Walked}
 
 -- a leaf with another output address
 abbrev pub withAddress : Leaf → ℕ → Leaf

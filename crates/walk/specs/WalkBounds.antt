@@ -1,8 +1,6 @@
 -- What holds of every walk's answer, for those who know the walk by its definition alone: the leaf's level, output address and
 -- permission byte, and the status of a fault.
-use Rattle.std.specs.Prelude.{Ok, Err, Option, Some, None}
-use Rattle.walk.specs.Answers.{Walked}
-use Rattle.std.specs.Prelude.{◌≡◌, Bool, not, ◌&&◌, ◌||◌}
+use Rattle.std.specs.Prelude.{◌≡◌, Bool, not, ◌&&◌, ◌||◌, Option, Some, None, Ok, Err}
 use Rattle.std.proofs.Math.Path.{refl}
 use Rattle.std.proofs.Common.{subst, mod-lt, ltb-false, eqb-true, lit≤, pow_pos, pow_mono}
 use Rattle.std.proofs.Math.Bool.{true, false}
@@ -24,6 +22,7 @@ use Rattle.walk.specs.Walk.{walkedOf, walk_of}
 use Rattle.walk.specs.SizeLaws.{pa-size-low, pa-size-high, start-level, block-level, block_size, index-above-page}
 use Rattle.walk.specs.declared.{regime.Regime.Regime, regime.Bank.Bank, range.Range.Range}
 use Rattle.walk.specs.declared.{rights.Permissions.Permissions, level.Params.Params, level.Leaf.Leaf}
+use Rattle.walk.specs.Answers.{Walked}
 
 -- the levels at which a fault of each kind can be: an access flag is read in a leaf, and no leaf is above level 1
 abbrev pub Levelled : Fault → Type 0
