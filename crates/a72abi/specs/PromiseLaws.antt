@@ -156,7 +156,7 @@ no_value zero c s old e = e
 no_value (suc n) c s old e = refl
 
 register-value : (a : WriteAnswer) (old : ℕ) → valueBy (registering a) old ≡ old
-register-value (Ok done) old = refl
+register-value (Ok x) old = refl
 register-value (Err Undefined) old = refl
 register-value (Err NoRegister) old = refl
 

@@ -189,7 +189,7 @@ fetching-says (Fetched.Aborted e) = refl
 
 -- a register write of a key that names a register is not refused
 code : WriteAnswer → ℕ
-code (Ok done) = 0
+code (Ok x) = 0
 code (Err Undefined) = 0
 code (Err NoRegister) = 1
 
@@ -260,7 +260,7 @@ module _ (c : Core) (base : ℕ) (ram : List ℕ) where
     where
       go : (a : WriteAnswer) → (written c key v).answer ≡ a
           → Ran c ram (registered c (written c key v) a).core ram (outcomeOf (registering (registered c (written c key v) a).answer))
-      go (Ok done) e = only-done c _ ram
+      go (Ok x) e = only-done c _ ram
       go (Err Undefined) e = is-undefined
       go (Err NoRegister) e =
           absurd (let z : ◌≡◌ {A = ℕ} 1 0 = ap code (sym e) ∙ named-write c.control c.sys c.privilege.level v (registerAt key) named in omega arith)

@@ -25,7 +25,7 @@ unfoldable pub appliedOf : Core → Written → Core
 appliedOf c w = withTlb (with_regs c w.control w.sys) (refitOf c.tlb c.control w.control)
 
 abbrev pub registered : Core → Written → WriteAnswer → Registered
-registered c w (Ok done) = record { core = appliedOf c w; answer = Ok tt }
+registered c w (Ok x) = record { core = appliedOf c w; answer = Ok tt }
 registered c w (Err Undefined) = record { core = c; answer = Err Undefined }
 registered c w (Err NoRegister) = record { core = c; answer = Err NoRegister }
 

@@ -1,7 +1,6 @@
 -- What every operation leaves as it was, the cache that it leaves, and RAM after it.
 use Rattle.mmu.specs.Results.{Located}
-use Rattle.std.specs.Prelude.{◌≡◌, ℕ, ◌+◌, ◌<◌, Bool, List, [], ◌∷◌, length, ◌≢◌, slice_index}
-use Rattle.std.specs.Prelude.{refl}
+use Rattle.std.specs.Prelude.{◌≡◌, ℕ, ◌+◌, ◌<◌, Bool, List, [], ◌∷◌, length, ◌≢◌, slice_index, refl}
 use Rattle.std.proofs.Common.{sym}
 use Rattle.std.proofs.Math.Path.{ap}
 use Rattle.word.specs.Ram.{word_at}

@@ -1,7 +1,6 @@
 -- Once a page was given an address, the cache gives it again to the same level, mark and kind, whatever the tables then hold.
 use Rattle.mmu.specs.Results.{Stepped}
-use Rattle.std.specs.Prelude.{◌≡◌, ℕ, ◌+◌, ◌*◌, ◌/◌, ◌%◌, ◌<◌, Bool, true, false, ◌&&◌, ◌||◌, length, ◌==◌, bit_or, slice_set, Option, Ok, Err}
-use Rattle.std.specs.Prelude.{refl}
+use Rattle.std.specs.Prelude.{◌≡◌, ℕ, ◌+◌, ◌*◌, ◌/◌, ◌%◌, ◌<◌, Bool, true, false, ◌&&◌, ◌||◌, length, ◌==◌, bit_or, slice_set, Option, Ok, Err, refl}
 use Rattle.std.proofs.Math.Path.{sym, ap}
 use Rattle.std.proofs.Common.{◌∙◌, mod-lt, arith}
 use borrow.Author.Tests.{eqb-true, eq-eqb}

@@ -35,6 +35,6 @@ reaching (Reach.At pa) = Value pa
 reaching Reach.Faults = Faults
 
 abbrev pub registering : WriteAnswer → Reply
-registering (Ok done) = Done
+registering (Ok x) = Done
 registering (Err Undefined) = Stopped (Stop.Exception Exception.Undefined)
 registering (Err NoRegister) = Refused 6

@@ -1,5 +1,5 @@
 -- How the manual encodes each register, and the register that an encoding names.
-use Rattle.std.specs.Prelude.{List, [], ◌∷◌, ◌++◌, ℕ, ◌+◌, ◌*◌, ◌%◌, ◌^◌, eqb}
+use Rattle.std.specs.Prelude.{List, [], ◌∷◌, ◌++◌, ℕ, ◌+◌, ◌*◌, ◌%◌, ◌^◌, eqb, Some, Option, None}
 use Rattle.std.specs.Int.Bits.{bit_or}
 use Rattle.word.specs.Bits.{pick}
 use Rattle.sysreg.specs.declared.{regs.El.El, regs.ControlReg.ControlReg, regs.SysReg.SysReg}
@@ -8,7 +8,6 @@ use Rattle.sysreg.specs.declared.regs.El.TheVariants.{El1, El2, El3}
 use Rattle.sysreg.specs.declared.regs.ControlReg.TheVariants.{Sctlr, Tcr, Ttbr0, Ttbr1, Scr, Hcr}
 use Rattle.sysreg.specs.declared.regs.SysReg.TheVariants.{Mair, Vbar, Elr, Spsr, Esr, Far, Vpidr, Vmpidr, Par}
 use Rattle.sysreg.specs.declared.regs.Register.TheVariants.{InControl, InSys}
-use Rattle.std.specs.Prelude.{Some, Option, None}
 
 -- op0:op1:CRn:CRm:op2, fields of 2, 3, 4, 4 and 3 bits
 abbrev pub encode : ℕ → ℕ → ℕ → ℕ → ℕ → ℕ

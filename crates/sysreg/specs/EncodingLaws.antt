@@ -1,5 +1,5 @@
 -- Laws of encodings: each register has its own, and nothing else is named.
-use Rattle.std.specs.Prelude.{◌≡◌, refl, Bool, true, false, ◌&&◌, List, [], ◌∷◌, ◌++◌, ℕ, ◌+◌, ◌*◌, ◌^◌, ◌≤◌, ◌<◌, eqb, ltb}
+use Rattle.std.specs.Prelude.{◌≡◌, refl, Bool, true, false, ◌&&◌, List, [], ◌∷◌, ◌++◌, ℕ, ◌+◌, ◌*◌, ◌^◌, ◌≤◌, ◌<◌, eqb, ltb, Some, None}
 use Rattle.std.proofs.Common.{sym, ap, ◌∙◌, mod-eq_of_lt, arith, eqb-true, le-ltb}
 use Rattle.std.proofs.lemmas.Bool.{false≢true}
 use Rattle.std.specs.Int.Bits.{bit_or}
@@ -10,7 +10,6 @@ use Rattle.sysreg.specs.declared.regs.El.TheVariants.{El1, El2, El3}
 use Rattle.sysreg.specs.declared.regs.ControlReg.TheVariants.{Sctlr, Tcr, Ttbr0, Ttbr1, Scr, Hcr}
 use Rattle.sysreg.specs.declared.regs.SysReg.TheVariants.{Mair, Vbar, Elr, Spsr, Esr, Far, Vpidr, Vmpidr, Par}
 use Rattle.sysreg.specs.declared.regs.Register.TheVariants.{InControl, InSys}
-use Rattle.std.specs.Prelude.{Some, None}
 use Rattle.sysreg.specs.Encoding.{encode, keyWord, key_of, find, bankedAt, registerAt, eachLevel, oneLevel}
 
 -- what holds at each level holds at any

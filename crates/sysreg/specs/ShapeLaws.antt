@@ -1,5 +1,5 @@
 -- Laws of the shape and of the ASID, for the cache and its history.
-use Rattle.std.specs.Prelude.{◌≡◌, refl, Bool, true, false, ◌||◌, List, [], ◌∷◌, ℕ, ◌^◌, ◌<◌, eqb}
+use Rattle.std.specs.Prelude.{◌≡◌, refl, Bool, true, false, ◌||◌, List, [], ◌∷◌, ℕ, ◌^◌, ◌<◌, eqb, Some, Option, None, Err}
 use Rattle.std.proofs.Common.{sym, arith, eqb-true, eq-eqb}
 use Rattle.std.proofs.lemmas.Bool.{false≢true, not-true}
 use Rattle.word.specs.Bits.{field, pick}
@@ -9,7 +9,6 @@ use Rattle.sysreg.specs.declared.{regs.ControlReg.ControlReg, regs.Register.Regi
 use Rattle.sysreg.specs.declared.regs.El.TheVariants.{El1, El2, El3}
 use Rattle.sysreg.specs.declared.regs.ControlReg.TheVariants.{Sctlr, Tcr, Ttbr0, Ttbr1, Scr, Hcr}
 use Rattle.sysreg.specs.declared.regs.Register.TheVariants.{InControl, InSys}
-use Rattle.std.specs.Prelude.{Some, Option, None, Err}
 use Rattle.sysreg.specs.declared.write.WriteError.TheVariants.{Undefined}
 use Rattle.sysreg.specs.Regs.{controlAt}
 use Rattle.sysreg.specs.Encoding.{controlKey, registerAt}

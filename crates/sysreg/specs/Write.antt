@@ -1,5 +1,5 @@
 -- What a register write does. Letters with a number are rows of docs/DIFFERENCES.md.
-use Rattle.std.specs.Prelude.{Bool, true, false, List, [], ◌∷◌, ℕ, ◌+◌, ◌*◌, ◌%◌, ◌^◌, eqb, get_or}
+use Rattle.std.specs.Prelude.{Bool, true, false, List, [], ◌∷◌, ℕ, ◌+◌, ◌*◌, ◌%◌, ◌^◌, eqb, get_or, Option, Some, None, Result, Ok, Err}
 use Rattle.word.specs.Bits.{field, alignDown, pick}
 use Rattle.sysreg.specs.declared.{regs.Control.Control, regs.SysRegs.SysRegs, regs.El.El}
 use Rattle.sysreg.specs.declared.{regs.ControlReg.ControlReg, regs.SysReg.SysReg, regs.Register.Register}
@@ -8,7 +8,6 @@ use Rattle.sysreg.specs.declared.regs.El.TheVariants.{El1, El2, El3}
 use Rattle.sysreg.specs.declared.regs.ControlReg.TheVariants.{Sctlr, Tcr, Ttbr0, Ttbr1, Scr, Hcr}
 use Rattle.sysreg.specs.declared.regs.SysReg.TheVariants.{Mair, Vbar, Elr, Spsr, Esr, Far, Vpidr, Vmpidr, Par}
 use Rattle.sysreg.specs.declared.regs.Register.TheVariants.{InControl, InSys}
-use Rattle.std.specs.Prelude.{Option, Some, None, Result, Ok, Err}
 use Rattle.sysreg.specs.declared.write.WriteError.TheVariants.{Undefined, NoRegister}
 use Rattle.sysreg.specs.Encoding.{controlKey, sysKey, registerAt}
 

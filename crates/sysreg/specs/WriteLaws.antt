@@ -1,5 +1,5 @@
 -- Laws of register writes: a write changes the register that it names and no other.
-use Rattle.std.specs.Prelude.{◌≡◌, Bool, ℕ, eqb}
+use Rattle.std.specs.Prelude.{◌≡◌, Bool, ℕ, eqb, Some, None, Err}
 use Rattle.std.proofs.Math.Path.{refl}
 use Rattle.std.proofs.Math.Bool.{true, false}
 use borrow.Author.Tests.{eq-eqb, ne_eqb}
@@ -9,7 +9,6 @@ use Rattle.sysreg.specs.declared.{regs.SysReg.SysReg, regs.Register.Register}
 use Rattle.sysreg.specs.declared.regs.ControlReg.TheVariants.{Sctlr, Tcr, Ttbr0, Ttbr1, Scr, Hcr}
 use Rattle.sysreg.specs.declared.regs.SysReg.TheVariants.{Mair, Vbar, Elr, Spsr, Esr, Far, Vpidr, Vmpidr, Par}
 use Rattle.sysreg.specs.declared.regs.Register.TheVariants.{InControl, InSys}
-use Rattle.std.specs.Prelude.{Some, None, Err}
 use Rattle.sysreg.specs.declared.write.WriteError.TheVariants.{Undefined, NoRegister}
 use Rattle.sysreg.specs.Regs.{controlAt, sysAt}
 use Rattle.sysreg.specs.Encoding.{controlKey, sysKey, registerAt}

@@ -226,7 +226,7 @@ sys-said Op.Unimplemented c m e = refl
 write-said : (c : Core) (m : Ram) (w : Written) (a : WriteAnswer)
     → outcome (afterWrite (registered c w a)).reply m.bytes
     ≡ ifAllowed (byWrite a) (outcome Done m.bytes) (outcome (refusalOf (byWrite a)) m.bytes)
-write-said c m w (Ok done) = refl
+write-said c m w (Ok x) = refl
 write-said c m w (Err Undefined) = refl
 write-said c m w (Err NoRegister) = refl
 

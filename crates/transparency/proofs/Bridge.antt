@@ -12,7 +12,6 @@ use Rattle.mmu.specs.Core.{reg_of, setReg, afterAccess}
 use Rattle.mmu.specs.Ops.{writeOf}
 use Rattle.mmu.specs.OpLaws as Laws
 use Rattle.mmu.specs.declared.core_state.Core.{Core}
-use Rattle.mmu.specs.Results.{Stored}
 use Rattle.operations.specs.declared.{ends.StoreAnswer.StoreAnswer, call.Encoding.Encoding, call.Call.Call}
 use Rattle.operations.specs.declared.ends.StoreAnswer.TheVariants.{Done, Stopped}
 use Rattle.exec.specs.Fit.{refitOf}
@@ -36,6 +35,7 @@ use Rattle.transparency.specs.Machine.{machine}
 use Rattle.word.specs.declared.ram.Width.{Width}
 use Rattle.sysreg.specs.Write.{WriteAnswer, Written}
 use Rattle.sysreg.specs.declared.write.WriteError.TheVariants.{Undefined, NoRegister}
+use Rattle.mmu.specs.Results.{Stored}
 
 -- The core d that a call made of c, the state b without a cache after it, and the call's events.
 pub record Fits (c d : Core) (b : Bare) (es : List (Event real)) : Type 0 where

@@ -61,7 +61,7 @@ bySys Op.Undefined = undefined
 bySys Op.Unimplemented = unimplemented
 
 abbrev pub byWrite : WriteAnswer → Ruling
-byWrite (Ok done) = allowed
+byWrite (Ok x) = allowed
 byWrite (Err Undefined) = undefined
 byWrite (Err NoRegister) = number 6
 

@@ -1,11 +1,10 @@
 -- The loop over the levels up to the n-th: a step that leads on leaves one fewer; where none is left, the table is the one asked for.
-use Rattle.std.specs.Prelude.{Ok, Err, Option}
+use Rattle.std.specs.Prelude.{Ok, Err, Option, ◌≢◌}
 use Rattle.walk.specs.Answers.{Begin, Walked, Visited}
 use mathlib.Core.Path.{◌≡◌, refl, sym, ap, ◌∙◌}
 use mathlib.Core.Bool.{Bool, true, false, not, ◌||◌}
 use Prim.Native.Nat.{ℕ, suc, ◌-◌, ◌≤◌, ◌<◌}
 use native.Mathlib.Omega.{arith}
-use Rattle.std.specs.Prelude.{◌≢◌}
 use Rattle.word.specs.Bits.{pick}
 use Rattle.walk.specs.Table.{Lookup, Next, deeper, ends, descaddr, lookupNext, range_of, params_of, firstLookup, in_range, beyond}
 use Rattle.walk.specs.State.{lookupOf, stepped, meant, beginOf}

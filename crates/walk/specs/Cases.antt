@@ -1,7 +1,5 @@
 -- Document 01's proved cases that are translations with an empty cache, and the untagging: rows 1 to 9 and 12, as one computed statement.
-use Rattle.std.specs.Prelude.{Ok, Err}
-use Rattle.walk.specs.Answers.{Walked}
-use Rattle.std.specs.Prelude.{◌≡◌, refl, Bool, true, false, [], ◌∷◌, ℕ, ◌+◌, ◌%◌, ◌^◌}
+use Rattle.std.specs.Prelude.{◌≡◌, refl, Bool, true, false, [], ◌∷◌, ℕ, ◌+◌, ◌%◌, ◌^◌, Ok, Err}
 use Rattle.word.specs.Bits.{bitOn, alignDown, pick}
 use Rattle.word.specs.Ram.{word_at, littleEndian, bytes_of}
 use Rattle.walk.specs.Tag.{untagged}
@@ -12,6 +10,7 @@ use Rattle.walk.specs.Permission.{Access, reading, fetching, kindBit, firstBit}
 use Rattle.walk.specs.Walk.{walk_of}
 use Rattle.walk.specs.declared.regime.Regime.TheVariants.{El1}
 use Rattle.walk.specs.declared.regime.Bank.{Bank}
+use Rattle.walk.specs.Answers.{Walked}
 
 -- a translation's answer: an address, or a fault status code
 pub data Answer : Type 0 where

@@ -1,10 +1,9 @@
 -- The tables that a walk reads, one by one, for those who show a walk: the table, the address of its descriptor, and what that leads to.
-use Rattle.std.specs.Prelude.{Some, None, Option}
-use Rattle.walk.specs.Answers.{Visited}
-use Rattle.std.specs.Prelude.{ℕ, zero, suc}
+use Rattle.std.specs.Prelude.{ℕ, zero, suc, Option, Some, None}
 use Rattle.walk.specs.Table.{Lookup, Next, deeper, ends, firstLookup, entered, range_of, params_of, descaddr, lookupNext}
 use Rattle.walk.specs.State.{Outcome, lookupOf, stepped, meant}
 use Rattle.walk.specs.declared.{regime.Regime.Regime, regime.Bank.Bank, level.Params.Params}
+use Rattle.walk.specs.Answers.{Visited}
 
 -- a table read, or that the walk ended before
 pub data Seen : Type 0 where
