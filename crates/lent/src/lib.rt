@@ -19,7 +19,6 @@ use word::ram;
 use word::ram::Sized;
 
 // Where the hint of va sends an access, if it serves.
-#[tactic(auto, using(crate::proofs::Hints::by_hint))]
 fn by_hint(core: &Core, va: u64, kind: Kind) -> Option<u64>
     ensures { (memory : ℕ → Word) (pa : ℕ) → result ≡ Some pa
         → translateOf core.now memory va kind ≡ record { core = core.now; answer = Address pa } }
