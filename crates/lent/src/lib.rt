@@ -17,7 +17,6 @@ use tlb::hint;
 use word::ram::Width;
 
 // Where the hint of va sends an access, if it serves.
-#[tactic(auto, using(crate::proofs::Hints::by_hint))]
 fn by_hint(core: &Core, va: u64, kind: Kind) -> Option<u64>
     ensures { (memory : ℕ → Option ℕ) (pa : ℕ) → result ≡ Some pa
         → translateOf core.now memory va kind ≡ record { core = core.now; answer = Address pa } }

@@ -99,7 +99,7 @@ write-refused : (c : Core) (m : Ram) (w : Written) (a : WriteAnswer) → (byWrit
     → Unchanged c m (byWrite a) (afterWrite (registered c w a)) m.bytes
 write-refused c m w (Err Undefined) refuses = (refl, refl)
 write-refused c m w (Err NoRegister) refuses = (refl, refl)
-write-refused c m w (Ok done) refuses = absurd (refuses refl)
+write-refused c m w (Ok x) refuses = absurd (refuses refl)
 
 run-refused : (c : Core) (m : Ram) (x : Call) → (ruledIn (bareOf c) x ≡ allowed → ⊥)
     → Unchanged c m (ruledIn (bareOf c) x) (run_of c m.base m.bytes x) (ramOf c m.base m.bytes x)

@@ -11,6 +11,7 @@ use Rattle.sysreg.specs.Shape.{same_shape, asidBase, asidOf}
 use Rattle.sysreg.specs.declared.regs.Control.{Control}
 use Rattle.sysreg.specs.declared.regs.ControlReg.TheVariants as Control
 use Rattle.sysreg.specs.declared.regs.El.TheVariants as El
+use Rattle.walk.specs.Answers.{Walked}
 use Rattle.walk.specs.Tag.{untagged}
 use Rattle.walk.specs.Size.{paSize}
 use Rattle.walk.specs.Table.{range_of, params_of, tableNext, leafPermissions, leafTranslation, leafResult, levelNext, descaddr, lookupNext, walkFrom, walkRange}
@@ -97,7 +98,7 @@ unfolding freshControl controlWith walk_of tableWalk walkRange walkFrom lookupNe
     range_of params_of paSize word_at littleEndian bytes_of
 walks = (refl, refl, refl)
 
-mapped-inj : {x y : Leaf} → Ok x ≡ Ok y → x ≡ y
+mapped-inj : {x y : Leaf} → ◌≡◌ {A = Walked} (Ok x) (Ok y) → x ≡ y
 mapped-inj e = cc
 
 unmapped : {code : ℕ} {ℓ : Leaf} → Err code ≡ Ok ℓ → ⊥
