@@ -1,5 +1,5 @@
 use Rattle.tlb.specs.Refines.{fresh-sound, invalidate-sound, retag-sound, broadcast-sound}
-use Rattle.tlb.specs.Translations.{translation-follows, fetch-follows}
+use Rattle.tlb.proofs.Translations.{translation-follows, fetch-follows}
 use Rattle.tlb.proofs.theorems.caches_stay_well_formed.Goals as goal
 
 pub returns-clause-new : goal.returns-clause-new

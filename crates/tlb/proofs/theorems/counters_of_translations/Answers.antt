@@ -1,5 +1,5 @@
 use Rattle.tlb.specs.Counting.{translate-counts, fetch-counts, others-stay, mark-free, sums-move}
-use Rattle.tlb.specs.Levels.{hit-counted, walk-counted}
+use Rattle.tlb.proofs.Levels.{hit-counted, walk-counted}
 use Rattle.tlb.proofs.theorems.counters_of_translations.Goals as goal
 
 pub returns-clause-translation : goal.returns-clause-translation

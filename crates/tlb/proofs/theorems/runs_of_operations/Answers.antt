@@ -1,4 +1,4 @@
-use Rattle.tlb.specs.Runs.{runs}
+use Rattle.tlb.proofs.EveryRun.{runs}
 use Rattle.tlb.proofs.theorems.runs_of_operations.Goals as goal
 
 pub returns : goal.returns
