@@ -1,5 +1,5 @@
 -- The cache reaches a reply through the answers to the call's translations alone.
-use Rattle.std.specs.Prelude.{◌≡◌, Bool, true, false, ◌&&◌, List, [], ◌∷◌, ◌++◌, ℕ, zero, suc, ◌+◌, ◌%◌, length, Option, Ok, Err}
+use Rattle.std.specs.Prelude.{◌≡◌, Bool, true, false, ◌&&◌, List, [], ◌∷◌, ◌++◌, ℕ, zero, suc, ◌+◌, ◌%◌, length, Option, Ok, Err, Some, None}
 use Rattle.std.proofs.Math.Path.{refl, ap}
 use Rattle.std.proofs.Common.{sym, ap₂, ◌∙◌, append-nil, arith, le-ltb}
 use Rattle.word.specs.Bits.{alignDown, wrap}
@@ -100,15 +100,15 @@ store-answered c m va n v =
 load_sized : (c : Core) (m : Ram) (va : ℕ) (s : Option Width)
     → outcome (loadBy s c m.base m.bytes va).reply m.bytes
     ≡ loadSized s m va (answers real (plainIn (bareOf c)) m (sizedIn (bareOf c) va s Kind.Read) c.tlb ++ [])
-load_sized c m va Sized.Refused = refl
-load_sized c m va (Sized.Bytes w) =
+load_sized c m va None = refl
+load_sized c m va (Some w) =
     load-answered c m va (bytesIn w) ∙ ap (loadSays m va (bytesIn w)) (sym (append-nil (accessGiven c m va (bytesIn w) Kind.Read)))
 
 store-sized : (c : Core) (m : Ram) (va v : ℕ) (s : Option Width)
     → outcome (storeBy s c m.base m.bytes va).reply (storeRamBy s c m.base m.bytes va v)
     ≡ storeSized s m va v (answers real (plainIn (bareOf c)) m (sizedIn (bareOf c) va s Kind.Write) c.tlb ++ [])
-store-sized c m va v Sized.Refused = refl
-store-sized c m va v (Sized.Bytes w) =
+store-sized c m va v None = refl
+store-sized c m va v (Some w) =
     store-answered c m va (bytesIn w) v ∙ ap (storeSays m va (bytesIn w) v) (sym (append-nil (accessGiven c m va (bytesIn w) Kind.Write)))
 
 -- ZEROING

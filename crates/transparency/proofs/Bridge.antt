@@ -1,5 +1,5 @@
 -- Each call does to registers, level, mark and `Tlb` what its steps do.
-use Rattle.std.specs.Prelude.{◌≡◌, refl, Bool, true, false, ◌||◌, ℕ, zero, suc, ◌+◌, ◌%◌, ◌≤◌, ◌<◌, leb, ltb, length, Option, Ok, Err}
+use Rattle.std.specs.Prelude.{◌≡◌, refl, Bool, true, false, ◌||◌, ℕ, zero, suc, ◌+◌, ◌%◌, ◌≤◌, ◌<◌, leb, ltb, length, Option, Ok, Err, Some, None}
 use Rattle.std.proofs.Common.{ap, ◌∙◌, mod-eq_of_lt, arith, leb-false, ltb-false}
 use mathlib.Core.List.{List, [], ◌∷◌}
 use Rattle.word.specs.Bits.{alignDown, pick, wrap}
@@ -55,13 +55,13 @@ operation-fits c m o =
 
 load_fits : (c : Core) (m : Ram) (va : ℕ) (s : Option Width)
     → Fits c (loadBy s c m.base m.bytes va).core (bareOf c) (steps m (asking (sizedIn (bareOf c) va s Kind.Read)) ∷ [])
-load_fits c m va (Sized.Bytes w) = operation-fits c m (Laws.load va (bytesIn w))
-load_fits c m va Sized.Refused = fits-idle c m
+load_fits c m va (Some w) = operation-fits c m (Laws.load va (bytesIn w))
+load_fits c m va None = fits-idle c m
 
 store-fits : (c : Core) (m : Ram) (va : ℕ) (s : Option Width)
     → Fits c (storeBy s c m.base m.bytes va).core (bareOf c) (steps m (asking (sizedIn (bareOf c) va s Kind.Write)) ∷ [])
-store-fits c m va (Sized.Bytes w) = operation-fits c m (Laws.store va (bytesIn w) 0)
-store-fits c m va Sized.Refused = fits-idle c m
+store-fits c m va (Some w) = operation-fits c m (Laws.store va (bytesIn w) 0)
+store-fits c m va None = fits-idle c m
 
 -- ZEROING
 

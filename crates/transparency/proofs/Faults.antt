@@ -1,6 +1,6 @@
 -- Each fault that a call replies is a row of document 01's table, with the address translated, or for 0x10 that of a
 -- byte of the access.
-use Rattle.std.specs.Prelude.{◌≡◌, Bool, true, false, ◌⊎◌, ℕ, zero, suc, ◌+◌, ◌%◌, ◌^◌, ◌≤◌, ◌<◌, length, Option}
+use Rattle.std.specs.Prelude.{◌≡◌, Bool, true, false, ◌⊎◌, ℕ, zero, suc, ◌+◌, ◌%◌, ◌^◌, ◌≤◌, ◌<◌, length, Option, Some, None}
 use Rattle.std.proofs.Math.Path.{refl, ap, subst⁻¹}
 use Rattle.std.proofs.Common.{sym, subst, ◌∙◌, inl, inr, arith, add-zero}
 use mathlib.Core.List.{List, [], ◌∷◌, ◌++◌, append-nil, Memᴰ}
@@ -211,16 +211,16 @@ ranGiven b m ms x t = answersRun real (plainIn b) (stepsIn b m ms x) t
 load-sized-from : (s : Option Width) (b : Bare) (m : Ram) (va : ℕ) (t : Tlb) (addr : ℕ) (fault : Fault)
     → RepliesFault (loadSized s m va (answers real (plainIn b) m (sizedIn b va s Kind.Read) t ++ [])).reply addr fault
     → FaultFrom (answers real (plainIn b) m (sizedIn b va s Kind.Read) t ++ []) addr fault
-load-sized-from Sized.Refused b m va t addr fault w = absurd w
-load-sized-from (Sized.Bytes w) b m va t addr fault x =
+load-sized-from None b m va t addr fault w = absurd w
+load-sized-from (Some w) b m va t addr fault x =
     load_from m va (bytesIn w) (some_bytes w).0 (some_bytes w).1 _
     (placed-nil va _ (answers-placed va Kind.Read (crosses (onNow real (plainIn b)) va (bytesIn w)) (plainIn b) m t)) addr fault x
 
 store-sized-from : (s : Option Width) (b : Bare) (m : Ram) (va v : ℕ) (t : Tlb) (addr : ℕ) (fault : Fault)
     → RepliesFault (storeSized s m va v (answers real (plainIn b) m (sizedIn b va s Kind.Write) t ++ [])).reply addr fault
     → FaultFrom (answers real (plainIn b) m (sizedIn b va s Kind.Write) t ++ []) addr fault
-store-sized-from Sized.Refused b m va v t addr fault w = absurd w
-store-sized-from (Sized.Bytes w) b m va v t addr fault x =
+store-sized-from None b m va v t addr fault w = absurd w
+store-sized-from (Some w) b m va v t addr fault x =
     store-from m va (bytesIn w) (some_bytes w).0 (some_bytes w).1 _
     (placed-nil va _ (answers-placed va Kind.Write (crosses (onNow real (plainIn b)) va (bytesIn w)) (plainIn b) m t)) addr fault v x
 

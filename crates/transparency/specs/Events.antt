@@ -5,7 +5,7 @@
 -- here: the event of a TLBI that is not refused carries its invalidation whatever the core did (`tlbi-event`), the
 -- theory's cache loses what it names, and the core's own `Tlb` has to be that one after every call (`tlb-is` of the
 -- bridge). Nor could one that made an invalidation up: no other call carries one.
-use Rattle.std.specs.Prelude.{◌≡◌, refl, Bool, true, false, List, [], ◌∷◌, ℕ, ◌+◌, leb, Option}
+use Rattle.std.specs.Prelude.{◌≡◌, refl, Bool, true, false, List, [], ◌∷◌, ℕ, ◌+◌, leb, Option, Some, None}
 use Rattle.std.proofs.Common.{leb-true}
 use Rattle.word.specs.Bits.{alignDown, wrap}
 use Rattle.word.specs.Ram.{width_of, bytesIn}
@@ -46,8 +46,8 @@ accessIn b va n kind = accessAsks (onNow real (plainIn b)) va n kind
 
 -- a size that is none is refused before
 abbrev pub sizedIn : Bare → ℕ → Option Width → Kind → List Ask
-sizedIn b va (Sized.Bytes w) kind = accessIn b va (bytesIn w) kind
-sizedIn b va Sized.Refused kind = []
+sizedIn b va (Some w) kind = accessIn b va (bytesIn w) kind
+sizedIn b va None kind = []
 
 -- a level above 3 is refused before
 abbrev pub setBy : (privilege : Privilege) (b : Bool) → leb privilege.level 3 ≡ b → Effect real
