@@ -68,7 +68,9 @@ module _ (w : World) where
 
   pub leaf-equal : {ℓ ℓ' : Leaf} (bit va : ℕ) → LeavesEqual ℓ ℓ' → leafAnswer ℓ bit va ≡ leafAnswer ℓ' bit va
   unfolding leafAnswer
-  leaf-equal bit va g = rw (g.pages, g.perms, g.levels)
+  leaf-equal bit va g =
+      λ i.
+      pick (g.perms i / bit % 2 == 1) (Address (g.pages i * 4096 + va % 4096)) (Status (first (12 + g.levels i)))
 
   -- each walk of the page that no invalidation since covers, global or under today's ASID, equals its walk now
   abbrev pub Agreed : List (Moment w) → w.Regs → w.Ram → Regime → ℕ → Type 0

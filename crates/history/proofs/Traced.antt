@@ -119,7 +119,7 @@ module _ (w : World) where
   same-cover : (h : List Moment) (v : Inval) (l : Line) (o : LineFrom h l) → covers v l.page o.leaf o.under ≡ coversLine v l
   unfolding covers
   same-cover h All l o = refl
-  same-cover h (Page n) l o = rw o.level
+  same-cover h (Page n) l o = rw o.level refl
   same-cover h (Asid b) l o = rw o.reach (sym (belongs o.leaf.global o.under b))
 
   spared : (h : List Moment) (v : Inval) (s : Slot Line) → LineOk h s → LineOk (drop v ∷ h) (uncovered v s)

@@ -103,7 +103,7 @@ zero-alone (suc n) c m va al e =
     go (Store.Stopped s) q more =
         let h = rw q at e in
         let one : outcome (storing (Store.Stopped s)) then.bytes ≡ bareZeroOne (bareOf c) m va = rw q at (one_same c m va al _ _ h) in
-        let made : zeroOutcome (suc n) c m va ≡ on (outcome (storing (Store.Stopped s)) then.bytes) = rw q in
+        let made : zeroOutcome (suc n) c m va ≡ on (outcome (storing (Store.Stopped s)) then.bytes) = rw q refl in
         made ∙ ap on one
 
 -- EVERY CALL

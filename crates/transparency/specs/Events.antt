@@ -114,4 +114,4 @@ tlbi_event =
     → eventsIn b m ms (System e) ≡ steps m (does (carries (invalIn b e) (sharedIn e))) ∷ []
 
 pub tlbi-event : tlbi_event
-tlbi-event b m ms e passed named = rw (passed, named)
+tlbi-event b m ms e passed named = rw (passed, named) refl
