@@ -71,11 +71,19 @@ pub fn syndrome(e: Exception, from: u8, to: u8, pc: u64) -> Report
         Exception::Smc(imm) => Report::new(EC_SMC64, imm, None),
         Exception::Brk(imm) => Report::new(EC_BRK64, imm, None),
         Exception::InsnAbort(a) => {
-            let ec = if lower { EC_INSN_ABORT_LOWER } else { EC_INSN_ABORT_SAME };
+            let ec = if lower {
+                EC_INSN_ABORT_LOWER
+            } else {
+                EC_INSN_ABORT_SAME
+            };
             Report::new(ec, u16::from(a.fault.fsc), Some(a.addr))
         }
         Exception::DataAbort(a) => {
-            let ec = if lower { EC_DATA_ABORT_LOWER } else { EC_DATA_ABORT_SAME };
+            let ec = if lower {
+                EC_DATA_ABORT_LOWER
+            } else {
+                EC_DATA_ABORT_SAME
+            };
             Report::new(ec, data_status(a.write, a.fault.fsc), Some(a.addr))
         }
         Exception::PcAlignment => Report::new(EC_PC_ALIGNMENT, 0, Some(pc)),

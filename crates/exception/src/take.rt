@@ -130,7 +130,16 @@ pub fn enter(
 {
     let group = vector_group(level, target.index() as u8, flags.spsel);
     let vector = group.wrapping_add(kind);
-    enter_with(flags, sys, target, vector, esr, far, pstate(level, flags), ret)
+    enter_with(
+        flags,
+        sys,
+        target,
+        vector,
+        esr,
+        far,
+        pstate(level, flags),
+        ret,
+    )
 }
 
 // A synchronous exception at the PC is routed and reported.
@@ -185,5 +194,14 @@ pub fn take_sync(
     let r = report_sync(level, pc, scr_el3, hcr_el2, e);
     let t = sync_changes(level, flags, r);
     let esr = Some(t.report.esr);
-    enter_with(flags, sys, t.target, t.group, esr, t.report.far, t.spsr, t.ret)
+    enter_with(
+        flags,
+        sys,
+        t.target,
+        t.group,
+        esr,
+        t.report.far,
+        t.spsr,
+        t.ret,
+    )
 }

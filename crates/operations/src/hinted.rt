@@ -8,8 +8,8 @@ use crate::call::Reply;
 use crate::change::Hinted;
 use crate::{check, lookup, place};
 use tlb::access::{Answer, Kind, Privilege};
-use tlb::hint::Hint;
 use tlb::hint;
+use tlb::hint::Hint;
 use walk::regime::Bank;
 use word::ram::Width;
 

@@ -5,8 +5,8 @@ ghost use Rattle.operations.specs.Replies.{translation, reaching, loading, stori
 use crate::call::Reply;
 use crate::ends::{FetchAnswer, LoadAnswer, Reached, StoreAnswer};
 use exception::kind::{Exception, Stop};
-use tlb::access::Answer;
 use sysreg::write::WriteError;
+use tlb::access::Answer;
 
 pub fn translated(va: u64, answer: Answer) -> Reply
     ensures { result ≡ translation va answer }
