@@ -15,7 +15,13 @@ pub fn write_register(core: &mut Core, key: u32, value: u64) -> Result<(), Write
     ensures { record { core = core.new; answer = result } ≡ writeRegister core.old key value }
 {
     let before = core.control;
-    write::write_reg(&mut core.control, &mut core.sys, core.privilege.level, key, value)?;
+    write::write_reg(
+        &mut core.control,
+        &mut core.sys,
+        core.privilege.level,
+        key,
+        value,
+    )?;
     fit::refit(&mut core.tlb, before, core.control);
     Ok(())
 }

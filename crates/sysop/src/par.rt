@@ -8,10 +8,10 @@ use crate::op::AtForm;
 use sysreg::regs::Control;
 use tlb::access;
 use tlb::access::Kind;
+use walk::fresh;
 use walk::fresh::Fresh;
 use walk::level::Leaf;
 use walk::regime::{Bank, Regime};
-use walk::fresh;
 
 fn kind_of(write: bool) -> Kind
     ensures { result ≡ kind_of write }
