@@ -4,6 +4,8 @@
 ghost use Rattle.std.specs.Prelude.{◌≡◌, ℕ, Some, Option};
 ghost use Rattle.word.specs.Ram.{word_at};
 ghost use Rattle.tlb.specs.declared.access.Answer.TheVariants.{Address};
+ghost use Rattle.tlb.specs.Cache.{hintAt};
+ghost use Rattle.operations.specs.Hinted.{hintPlace};
 ghost use Rattle.mmu.specs.Ops.{translateOf};
 ghost use Rattle.cpu.specs.Step.{step_of, ramAfter, ends, afterTranslation};
 ghost use Rattle.operations.specs.declared.call.Call.TheVariants as Call;
@@ -14,14 +16,22 @@ use operations::call::Reply;
 use operations::{check, hinted, reply};
 use tlb::access::Kind;
 use tlb::hint;
+use tlb::hint::Hint;
 use word::ram::Width;
 
-// Where the hint of va sends an access, if it serves.
+// The data hint that an access asks.
+fn hint_of(core: &Core, va: u64, kind: Kind) -> Hint
+    ensures { result ≡ hintAt core.now.tlb.cache (hintPlace va kind) }
+{
+    core.tlb.cache.hints[hinted::hint_place(va, kind)]
+}
+
+// Where it sends the access, if it serves.
 fn by_hint(core: &Core, va: u64, kind: Kind) -> Option<u64>
     ensures { (memory : ℕ → Option ℕ) (pa : ℕ) → result ≡ Some pa
         → translateOf core.now memory va kind ≡ record { core = core.now; answer = Address pa } }
 {
-    let hint = core.tlb.cache.hints[hinted::hint_place(va, kind)];
+    let hint = hint_of(core, va, kind);
     if hinted::served(hint, core.privilege, va, kind) {
         Some(hint::on_page(hint.pa, va))
     } else {

@@ -1,7 +1,7 @@
 // A translation as what it changes, and the cells of the page that it is made of.
 ghost use Rattle.std.specs.Prelude.{◌≡◌};
 ghost use Rattle.word.specs.Ram.{word_at};
-ghost use Rattle.operations.specs.Change.{entryPlace, lookupWith, lookupOf, effect_of, allowed, address_of, missBy};
+ghost use Rattle.operations.specs.Change.{entryPlace, lookupOf, effect_of, allowed, address_of, missBy};
 ghost use Rattle.operations.specs.Change.{changeOf, unchanged, answeredOf, hintLeft, entryLeft, pageAfter};
 ghost use Rattle.tlb.specs.Hint.{onPage};
 ghost use Rattle.tlb.specs.Resolve.{askOf};
@@ -80,10 +80,11 @@ fn asked_of(s: Bank, privilege: Privilege, va: u64) -> Asked
     }
 }
 
-// Where the cells of an address lie, by the registers of its regime.
-pub fn lookup_with(bank: Bank, privilege: Privilege, va: u64, kind: Kind) -> Lookup
-    ensures { result ≡ lookupWith bank privilege va kind }
+// Where the cells of an address lie, by the registers of the level's regime.
+pub fn lookup_of(control: Control, privilege: Privilege, va: u64, kind: Kind) -> Lookup
+    ensures { result ≡ lookupOf control privilege va kind }
 {
+    let bank = lookup::bank_at(control, privilege.level);
     let asked = asked_of(bank, privilege, va);
     let hint = hinted::hint_place(va, kind);
     let entry = entry_place(asked);
@@ -94,14 +95,6 @@ pub fn lookup_with(bank: Bank, privilege: Privilege, va: u64, kind: Kind) -> Loo
         hint,
         entry,
     }
-}
-
-// The same by all registers that translation reads.
-pub fn lookup_of(control: Control, privilege: Privilege, va: u64, kind: Kind) -> Lookup
-    ensures { result ≡ lookupOf control privilege va kind }
-{
-    let bank = lookup::bank_at(control, privilege.level);
-    lookup_with(bank, privilege, va, kind)
 }
 
 // What an answer's source changes.
