@@ -13,6 +13,6 @@ pub returns-in-Some : goal.returns-in-Some
 unfolding missedOf
 returns-in-Some c = search (passed-gives, sized-load, hint-load, near-width, rules)
 
-pub returns-in-Refused : goal.returns-in-Refused
+pub returns-in-None : goal.returns-in-None
 unfolding missedOf
-returns-in-Refused c = search (passed-gives, sized-none, rules)
+returns-in-None c = search (passed-gives, sized-none, rules)

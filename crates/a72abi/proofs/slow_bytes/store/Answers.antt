@@ -23,10 +23,10 @@ pub returns-in-Some-clause-ram_after : goal.returns-in-Some-clause-ram_after
 unfolding missedOf
 returns-in-Some-clause-ram_after c = search (passed-ram-is, sized-store-ram, hint-store-ram, near-width, rules)
 
-pub returns-in-Refused-clause-gives : goal.returns-in-Refused-clause-gives
+pub returns-in-None-clause-gives : goal.returns-in-None-clause-gives
 unfolding missedOf
-returns-in-Refused-clause-gives c = search (passed-gives, sized-none-store, rules)
+returns-in-None-clause-gives c = search (passed-gives, sized-none-store, rules)
 
-pub returns-in-Refused-clause-ram_after : goal.returns-in-Refused-clause-ram_after
+pub returns-in-None-clause-ram_after : goal.returns-in-None-clause-ram_after
 unfolding missedOf
-returns-in-Refused-clause-ram_after c = search (passed-ram-is, sized-none-ram, rules)
+returns-in-None-clause-ram_after c = search (passed-ram-is, sized-none-ram, rules)
