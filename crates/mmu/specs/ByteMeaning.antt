@@ -26,7 +26,6 @@ use Rattle.operations.specs.declared.place.Verdict.TheVariants.{Inside, Outside}
 use Rattle.operations.specs.declared.ends.LoadAnswer.TheVariants as Load
 use Rattle.operations.specs.declared.ends.StoreAnswer.TheVariants as Store
 use Rattle.mmu.specs.OwnAddress.{ownAnswer, Ready, Own, lies-own}
-use Rattle.operations.specs.declared.bytes.Got.TheVariants.{Value}
 
 -- EACH BYTE OF A VALUE
 
