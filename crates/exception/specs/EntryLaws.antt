@@ -15,8 +15,8 @@ use Rattle.exception.specs.declared.kind.Exception.TheVariants.{Undefined, Svc, 
 use Rattle.exception.specs.Pstate.{spsrOf}
 use Rattle.exception.specs.Syndrome.{syndromeOf}
 use Rattle.exception.specs.Route.{defaultTarget, smcTrapped, callTarget, targetEl, generated, routedTo}
-use Rattle.exception.specs.Entry.{vectOffset, sameEl, atTarget, enteredSys, registerAfter, ofEntry, farAfter, updated, given, changesOf, enteredWith, takenTo}
-use Rattle.exception.specs.Entry.{takeException, enterOf, origin_of, syncReport, syncChanges, takeSync}
+use Rattle.exception.specs.Entry.{sameEl, atTarget, enteredSys, registerAfter, ofEntry, farAfter, updated, given, enteredWith, takenTo}
+use Rattle.exception.specs.Entry.{takeException, origin_of, syncReport, syncChanges, takeSync}
 
 module _ (s : SysRegs) (target : El) (r : Report) (spsr ret : ℕ) where
   abbrev Holds : SysReg → Type 0
@@ -71,15 +71,6 @@ entered-report f s t = rw (far-as t.report.far)
     far-as : (far : Option ℕ) → updated t.target far s.far ≡ farAfter t.target far s.far
     far-as (Some v) = refl
     far-as None = refl
-
--- so is one of the synchronous kind
-pub enter-sync : (level : ℕ) (f : Flags) (s : SysRegs) (target : El) (r : Report) (ret : ℕ)
-    → enterOf level f s target 0 (Some r.esr) r.far ret ≡ takeException level f s target r ret
-unfolding enterOf takeException
-enter-sync level f s target r ret = rw kind-zero (entered-report f s (changesOf level f target r ret))
-  where
-    kind-zero : vectOffset level (levelOf target) f.spsel + 0 ≡ vectOffset level (levelOf target) f.spsel
-    kind-zero = omega arith
 
 -- a synchronous exception is taken by what it changes
 pub take-changes : (level pc scr hcr : ℕ) (f : Flags) (s : SysRegs) (e : Exception)
@@ -162,3 +153,10 @@ module _ (level pc scr hcr : ℕ) (f : Flags) (s : SysRegs) (e : Exception) wher
       let m : level % 2 ^ 2 ≡ level = mod-eq_of_lt (omega arith) in
       let u = target_up scr hcr pc (level % 2 ^ 2) (omega arith) (generated (origin_of level pc scr hcr) e) in
       omega (arith, u, m)
+
+-- a fact of every synchronous exception: where it is taken to, what is reported, SPSR and the return address, and the registers before and after
+abbrev pub EachEntry : (El → Report → ℕ → ℕ → SysRegs → SysRegs → Type 0) → Type 0
+EachEntry P =
+    (level pc scr hcr : ℕ) (f : Flags) (s : SysRegs) (e : Exception)
+    → P (target level pc scr hcr f s e) (report level pc scr hcr f s e) (spsrOf (level % 2 ^ 2) f) (routedTo (origin_of level pc scr hcr) e).ret s
+    (takeSync level f pc scr hcr s e).sys
