@@ -163,5 +163,14 @@ pub fn take_sync(
     let r = report_sync(level, pc, scr_el3, hcr_el2, e);
     let esr = Some(r.report.esr);
     let far = r.report.far;
-    enter(level % 4, flags, sys, r.target, VECTOR_SYNC, esr, far, r.ret)
+    enter(
+        level % 4,
+        flags,
+        sys,
+        r.target,
+        VECTOR_SYNC,
+        esr,
+        far,
+        r.ret,
+    )
 }
