@@ -1,5 +1,5 @@
 -- Loads and stores by number, on plain values, for `search`.
-use Rattle.std.specs.Prelude.{Option, Some, None}
+use Rattle.std.specs.Prelude.{Some, Option, None}
 use mathlib.Core.Path.{◌≡◌, refl, sym, ap, ◌∙◌}
 use mathlib.Core.Bool.{Bool, true, false, ◌&&◌}
 use mathlib.Core.List.{List}
@@ -13,18 +13,18 @@ use Rattle.word.specs.Ram.{word_at, bytesIn, width_of, within, stored}
 use Rattle.word.specs.declared.ram.Width.{Width}
 use Rattle.word.specs.declared.ram.Width.TheVariants.{Byte, Half, Word as Single, Double}
 use Rattle.walk.specs.Regime.{regimeOf, stage1On}
-use Rattle.tlb.specs.declared.{access.Kind.Kind, access.Answer.Answer, hint.HintAnswer.HintAnswer}
+use Rattle.tlb.specs.declared.{access.Kind.Kind, access.Answer.Answer}
 use Rattle.tlb.specs.declared.access.Kind.TheVariants.{Read, Write}
 use Rattle.fault.specs.declared.Fault.{Fault as Status1}
 use Rattle.tlb.specs.declared.access.Answer.TheVariants.{Address, Status}
-use Rattle.tlb.specs.declared.hint.HintAnswer.TheVariants.{At as Hinted, Unknown}
 use Rattle.mmu.specs.Core.{afterAccess, bankNow}
 use Rattle.operations.specs.Place.{inPage, crosses, goesOn, placedOne}
 use Rattle.operations.specs.Bytes.{storeRam}
 use Rattle.operations.specs.Ends.{loadEnd, storeEnd, storeRamEnd}
 use Rattle.mmu.specs.Ops.{locatedNow, translateOf, translateAccessOf, read_of, writeOf, ramAfterWrite}
 use Rattle.operations.proofs.Moves.{whole-value, whole-abort, whole-inside, whole-outside}
-use Rattle.mmu.specs.declared.{core_state.Core.Core, ops.Accessed.Accessed, ops.Translated.Translated}
+use Rattle.mmu.specs.declared.core_state.Core.{Core}
+use Rattle.mmu.specs.Results.{Accessed, Translated}
 use Rattle.operations.specs.declared.place.Place.TheVariants.{Whole}
 use Rattle.operations.specs.declared.{place.Placed.Placed, ends.LoadAnswer.LoadAnswer, ends.StoreAnswer.StoreAnswer}
 use Rattle.operations.specs.declared.place.Placed.TheVariants.{At, Fault}
@@ -32,7 +32,7 @@ use Rattle.operations.specs.declared.place.Verdict.TheVariants.{Outside}
 use Rattle.operations.specs.Replies.{loading, storing}
 use Rattle.cpu.specs.Step.{loadBy, storeBy, storeRamBy, run_of, ramOf, ends}
 use Rattle.operations.specs.declared.call.Call.TheVariants as Call
-use Rattle.cpu.specs.declared.run.Stepped.{Stepped}
+use Rattle.cpu.specs.Step.{Stepped}
 use Rattle.words_sys.specs.Early.{end-late, store-late}
 use Rattle.words.specs.CoreOf.{core_of}
 use Rattle.words.specs.Parts.{with_last, withAbort}
@@ -148,7 +148,7 @@ unfolding storeRamEnd storeRam
 ram-at base ram n pa v = refl
 
 -- by its hint
-module _ (ws : List ℕ) (base : ℕ) (ram : List ℕ) (va : ℕ) (w : Width) (near : bytesIn w ≤ inPage va) (p : HintAnswer) (pa : ℕ) (e : p ≡ Hinted pa) where
+module _ (ws : List ℕ) (base : ℕ) (ram : List ℕ) (va : ℕ) (w : Width) (near : bytesIn w ≤ inPage va) (p : Option ℕ) (pa : ℕ) (e : p ≡ Some pa) where
   pub hint-load : (n old v : ℕ) (xs : List ℕ) → p ≡ hintFound (core_of ws) va Read
       → Tells (loadEnds (core_of ws) (At (Whole pa)) base ram va (bytesIn w)) ws n old v xs
       → Tells (run_of (core_of ws) base ram (Call.Load va (bytesIn w))) ws n old v xs
@@ -186,12 +186,12 @@ unfolding storeRamEnd
 ram-fault base ram va n f v = refl
 
 module _ (ws xs : List ℕ) (base : ℕ) (ram : List ℕ) (va : ℕ) (w : Width) (near : bytesIn w ≤ inPage va) (code : ℕ) where
-  module _ (kind : Kind) (miss : hintFound (core_of ws) va kind ≡ Unknown) (a : Answer) (ea : (foundTo (core_of ws) (word_at base ram 8) va kind).answer ≡ a)
+  module _ (kind : Kind) (miss : hintFound (core_of ws) va kind ≡ None) (a : Answer) (ea : (foundTo (core_of ws) (word_at base ram 8) va kind).answer ≡ a)
       (m : NowHolds ws xs (foundTo (core_of ws) (word_at base ram 8) va kind).core) where
     found-is : translateOf (core_of ws) (word_at base ram 8) va kind ≡ answering (core_of xs) a
     found-is = hint-misses (core_of ws) (word_at base ram 8) va kind miss ∙ λ i. answering (sym m.holds i) (ea i)
 
-  module _ (miss : hintFound (core_of ws) va Read ≡ Unknown) (ec : code ≡ code_of (foundTo (core_of ws) (word_at base ram 8) va Read).answer)
+  module _ (miss : hintFound (core_of ws) va Read ≡ None) (ec : code ≡ code_of (foundTo (core_of ws) (word_at base ram 8) va Read).answer)
       (m : NowHolds ws xs (foundTo (core_of ws) (word_at base ram 8) va Read).core) where
     pub load-fault-tells : (old : ℕ) → (code ≡ 0 → ⊥) → Tells (run_of (core_of ws) base ram (Call.Load va (bytesIn w))) ws code old va xs
     load-fault-tells old n = go (foundTo (core_of ws) (word_at base ram 8) va Read).answer refl
@@ -212,7 +212,7 @@ module _ (ws xs : List ℕ) (base : ℕ) (ram : List ℕ) (va : ℕ) (w : Width)
         (tells-after m t (kept-late ws ys (loadEnds (core_of xs) (At (Whole pa)) base ram va (bytesIn w)).reply n t.code
         (load-ends-late (core_of xs) (At (Whole pa)) base ram va (bytesIn w))))
 
-  module _ (x : ℕ) (miss : hintFound (core_of ws) va Write ≡ Unknown) (ec : code ≡ code_of (foundTo (core_of ws) (word_at base ram 8) va Write).answer)
+  module _ (x : ℕ) (miss : hintFound (core_of ws) va Write ≡ None) (ec : code ≡ code_of (foundTo (core_of ws) (word_at base ram 8) va Write).answer)
       (m : NowHolds ws xs (foundTo (core_of ws) (word_at base ram 8) va Write).core) where
     abbrev call : Stepped
     call = run_of (core_of ws) base ram (Call.Store va (bytesIn w) x)
@@ -254,7 +254,7 @@ module _ (ws xs : List ℕ) (base : ℕ) (ram : List ℕ) (va : ℕ) (w : Width)
 
 -- RAM lent on as a part
 module _ (ws xs : List ℕ) (base : ℕ) (ram part : List ℕ) (va : ℕ) (w : Width) (code old : ℕ) (e : part ≡ ram) (near : bytesIn w ≤ inPage va)
-    (miss : hintFound (core_of ws) va Read ≡ Unknown) (ec : code ≡ code_of (foundTo (core_of ws) (word_at base part 8) va Read).answer)
+    (miss : hintFound (core_of ws) va Read ≡ None) (ec : code ≡ code_of (foundTo (core_of ws) (word_at base part 8) va Read).answer)
     (m : NowHolds ws xs (foundTo (core_of ws) (word_at base part 8) va Read).core) where
   pub part-fault-tells : (code ≡ 0 → ⊥) → Tells (run_of (core_of ws) base ram (Call.Load va (bytesIn w))) ws code old va xs
   part-fault-tells n = load-fault-tells ws xs base ram va w near code miss (rw e at ec) (rw e at m) old n

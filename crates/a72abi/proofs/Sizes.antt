@@ -1,5 +1,6 @@
 -- Loads and stores of a size, by the hint and after a store that was not made, on plain values, for `search`.
-use Rattle.std.specs.Prelude.{Option, Some, None}
+use Rattle.std.specs.Prelude.{Option, None}
+use Rattle.std.specs.Prelude.{Some, Option}
 use mathlib.Core.Path.{◌≡◌, refl, sym, ap, ◌∙◌}
 use mathlib.Core.Bool.{Bool, true, false}
 use mathlib.Core.List.{List}
@@ -7,9 +8,7 @@ use Prim.Native.Nat.{ℕ, ◌≤◌}
 use lib.ListN.{length}
 use Rattle.word.specs.Ram.{word_at, bytesIn, width_of, within}
 use Rattle.word.specs.declared.ram.Width.{Width}
-use Rattle.tlb.specs.declared.{hint.HintAnswer.HintAnswer}
 use Rattle.tlb.specs.declared.access.Kind.TheVariants.{Read, Write}
-use Rattle.tlb.specs.declared.hint.HintAnswer.TheVariants.{At as Hinted}
 use Rattle.operations.specs.Place.{inPage}
 use Rattle.cpu.specs.Step.{run_of, ramOf, ramAfter}
 use Rattle.operations.specs.declared.call.Call.TheVariants as Call
@@ -84,7 +83,7 @@ module _ (ws : List ℕ) (base : ℕ) (ram : List ℕ) (va size : ℕ) where
 
 -- BY THE HINT AND A SIZE
 
-module _ (ws : List ℕ) (base : ℕ) (ram : List ℕ) (va size k pa : ℕ) (p : HintAnswer) (ek : k ≡ inPage va) (near : size ≤ k) (q : p ≡ Hinted pa) where
+module _ (ws : List ℕ) (base : ℕ) (ram : List ℕ) (va size k pa : ℕ) (p : Option ℕ) (ek : k ≡ inPage va) (near : size ≤ k) (q : p ≡ Some pa) where
   pub quick-load : (w : Option ℕ) (v old : ℕ) (xs : List ℕ) → p ≡ hintFound (core_of ws) va Read → w ≡ sizedAt base ram size pa → w ≡ Some v
       → NowHolds ws xs (with_last (core_of ws) pa) → Tells (run_of (core_of ws) base ram (Call.Load va size)) ws 0 old v xs
   quick-load w v old xs ep ew e m = go (width_of size) refl

@@ -1,5 +1,5 @@
 -- Loads and stores over two pages whose hints serve are what the call says, on plain values, for `search`.
-use Rattle.std.specs.Prelude.{Option, Some, None}
+use Rattle.std.specs.Prelude.{Some, Option, None}
 use mathlib.Core.Path.{◌≡◌, refl, sym, ap, subst, ◌∙◌}
 use mathlib.Core.Bool.{Bool, true, false}
 use mathlib.Core.List.{List}
@@ -7,17 +7,17 @@ use Prim.Native.Nat.{ℕ, ◌^◌, ◌<◌}
 use lib.ListN.{length}
 use Rattle.word.specs.Bits.{pick}
 use Rattle.word.specs.Ram.{word_at, bytesIn, width_of}
-use Rattle.tlb.specs.declared.{access.Kind.Kind, hint.HintAnswer.HintAnswer}
+use Rattle.tlb.specs.declared.access.Kind.{Kind}
 use Rattle.tlb.specs.declared.access.Kind.TheVariants.{Read, Write}
 use Rattle.tlb.specs.declared.access.Answer.TheVariants.{Address}
-use Rattle.tlb.specs.declared.hint.HintAnswer.TheVariants.{At, Unknown}
 use Rattle.operations.specs.Place.{nextPage, goesOn, placedBoth, firstPa, verdictOf as judged}
 use Rattle.operations.specs.Bytes.{load_of, storeRam}
 use Rattle.operations.specs.AtOnce.{bothInside, bothAt, bothStored}
 use Rattle.operations.specs.Ends.{loadEnd, storeEnd, storeRamEnd}
 use Rattle.mmu.specs.Ops.{translateOf, translateAccessOf, read_of, writeOf, ramAfterWrite}
 use Rattle.operations.proofs.Both.{both-loads, both-judged, both-stores}
-use Rattle.mmu.specs.declared.{core_state.Core.Core, ops.Accessed.Accessed, ops.Translated.Translated}
+use Rattle.mmu.specs.declared.core_state.Core.{Core}
+use Rattle.mmu.specs.Results.{Accessed, Translated}
 use Rattle.operations.specs.declared.{place.Place.Place, ends.LoadEnd.LoadEnd, ends.StoreEnd.StoreEnd}
 use Rattle.operations.specs.declared.place.Place.TheVariants.{Split as Parts}
 use Rattle.operations.specs.declared.place.Placed.TheVariants as Placed
@@ -30,7 +30,7 @@ use Rattle.operations.specs.Replies.{loading, storing}
 use Rattle.cpu.specs.Step.{step_of, ramAfter, ends}
 use Rattle.operations.specs.declared.call.Call.TheVariants as Call
 use Rattle.operations.specs.declared.call.Reply.TheVariants.{Done, Value}
-use Rattle.cpu.specs.declared.run.Stepped.{Stepped}
+use Rattle.cpu.specs.Step.{Stepped}
 use Rattle.words.specs.CoreOf.{core_of}
 use Rattle.words.specs.Parts.{with_last}
 use Rattle.words.specs.NowHolds.{NowHolds, stays, holds_as}
@@ -57,8 +57,8 @@ record Says (c : Core) (base len va n pa : ℕ) (kind : Kind) : Type 0 where
   clear : Clear c base len
   two : twoPages c va n ≡ true
   pa2 : ℕ
-  first : hintFound c va kind ≡ At pa
-  second : hintFound c (nextPage va) kind ≡ At pa2
+  first : hintFound c va kind ≡ Some pa
+  second : hintFound c (nextPage va) kind ≡ Some pa2
 
 apart-says : (c : Core) (base len va n : ℕ) → apartOf c base len va n ≡ true → Clear c base len × (twoPages c va n ≡ true)
 unfolding apartOf
@@ -93,17 +93,17 @@ module _ (c : Core) (base : ℕ) (ram : List ℕ) (va n : ℕ) where
   unfolding splitLoad loadBoth
   load-says pa v = go (apartOf c base (length ram) va n) refl (hintFound c va Read) refl (hintFound c (nextPage va) Read) refl
     where
-      go : (b : Bool) → apartOf c base (length ram) va n ≡ b → (x : HintAnswer) → hintFound c va Read ≡ x → (y : HintAnswer) → hintFound c (nextPage va) Read
+      go : (b : Bool) → apartOf c base (length ram) va n ≡ b → (x : Option ℕ) → hintFound c va Read ≡ x → (y : Option ℕ) → hintFound c (nextPage va) Read
           ≡ y
           → loadBoth b x y va base ram n ≡ Split.Value pa v → (s : Says c base (length ram) va n pa Read)
           × (bothAt base ram (pagesAt va pa s.pa2) n ≡ Some v)
       go false eb x ex y ey e = absurd (unknown-value pa v e)
-      go true eb Unknown ex y ey e = absurd (unknown-value pa v e)
-      go true eb (At a) ex Unknown ey e = absurd (unknown-value pa v e)
-      go true eb (At a) ex (At d) ey e =
+      go true eb None ex y ey e = absurd (unknown-value pa v e)
+      go true eb (Some a) ex None ey e = absurd (unknown-value pa v e)
+      go true eb (Some a) ex (Some d) ey e =
           let p = apart-says c base (length ram) va n eb in
           let q = value-says pa a v (bothAt base ram (pagesAt va a d) n) e in (
-            record { clear = p.0; two = p.1; pa2 = d; first = ex ∙ ap At q.0; second = ey },
+            record { clear = p.0; two = p.1; pa2 = d; first = ex ∙ ap Some q.0; second = ey },
             ap (λ (m : ℕ). bothAt base ram (pagesAt va m d) n)
                 (sym q.0) ∙ q.1,
           )
@@ -114,7 +114,7 @@ module _ (c : Core) (base : ℕ) (ram : List ℕ) (va n : ℕ) where
   unfolding splitMade madeBoth splitRam ramBoth
   store-says v = go (apartOf c base (length ram) va n) refl (hintFound c va Write) refl (hintFound c (nextPage va) Write) refl
     where
-      go : (b : Bool) → apartOf c base (length ram) va n ≡ b → (x : HintAnswer) → hintFound c va Write ≡ x → (y : HintAnswer)
+      go : (b : Bool) → apartOf c base (length ram) va n ≡ b → (x : Option ℕ) → hintFound c va Write ≡ x → (y : Option ℕ)
           → hintFound c (nextPage va) Write ≡ y
           → madeBoth b x y va base ram n ≡ true
           → (pa : ℕ) × ((s : Says c base (length ram) va n pa Write)
@@ -122,9 +122,9 @@ module _ (c : Core) (base : ℕ) (ram : List ℕ) (va n : ℕ) where
           × (ramBoth (apartOf c base (length ram) va n) (hintFound c va Write) (hintFound c (nextPage va) Write) va base ram n v
           ≡ bothStored base ram (pagesAt va pa s.pa2) n v)))
       go false eb x ex y ey e = absurd (false-true e)
-      go true eb Unknown ex y ey e = absurd (false-true e)
-      go true eb (At a) ex Unknown ey e = absurd (false-true e)
-      go true eb (At a) ex (At d) ey e =
+      go true eb None ex y ey e = absurd (false-true e)
+      go true eb (Some a) ex None ey e = absurd (false-true e)
+      go true eb (Some a) ex (Some d) ey e =
           let p = apart-says c base (length ram) va n eb in
           (a, (record { clear = p.0; two = p.1; pa2 = d; first = ex; second = ey }, (e, rw (eb, ex, ey))))
 
@@ -133,11 +133,11 @@ module _ (c : Core) (base : ℕ) (ram : List ℕ) (va n : ℕ) where
   unfolding splitMade madeBoth splitRam ramBoth bothStored
   split-kept v = go (apartOf c base (length ram) va n) (hintFound c va Write) (hintFound c (nextPage va) Write)
     where
-      go : (b : Bool) (x y : HintAnswer) → madeBoth b x y va base ram n ≡ false → ramBoth b x y va base ram n v ≡ ram
+      go : (b : Bool) (x y : Option ℕ) → madeBoth b x y va base ram n ≡ false → ramBoth b x y va base ram n v ≡ ram
       go false x y e = refl
-      go true Unknown y e = refl
-      go true (At a) Unknown e = refl
-      go true (At a) (At d) e = rw e
+      go true None y e = refl
+      go true (Some a) None e = refl
+      go true (Some a) (Some d) e = rw e
 
 -- AND WHAT THE CALL SAYS
 

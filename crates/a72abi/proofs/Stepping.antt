@@ -36,7 +36,7 @@ use Rattle.operations.specs.Replies.{translation, reaching, loading, storing, fe
 use Rattle.cpu.specs.Step.{loadBy, storeBy, refusedOr, missedBy, run_of, step_of, ends}
 use Rattle.operations.specs.declared.call.Call.TheVariants as Call
 use Rattle.operations.specs.declared.call.Reply.TheVariants.{Refused, Done, Value, Faults, Fault, Stopped}
-use Rattle.cpu.specs.declared.run.Stepped.{Stepped}
+use Rattle.cpu.specs.Step.{Stepped}
 use Rattle.words.specs.CoreOf.{core_of}
 use Rattle.words.specs.NowHolds.{holds_as}
 use Rattle.words_sys.specs.Early.{never}

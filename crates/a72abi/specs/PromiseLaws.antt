@@ -24,8 +24,9 @@ use Rattle.cpu.specs.Step.{storeBy, storeRamBy, run_of, ramOf as ramRun, refused
 use Rattle.cpu.specs.Demand1.{writes, quiet}
 use Rattle.operations.specs.declared.call.Call.TheVariants as Call
 use Rattle.operations.specs.declared.call.Reply.TheVariants.{Refused, Done, Value, Faults, Fault, Stopped}
-use Rattle.cpu.specs.declared.run.Stepped.{Stepped}
-use Rattle.transparency.specs.Faithful.{FaithfulCall, faithful-step}
+use Rattle.cpu.specs.Step.{Stepped}
+use Rattle.transparency.specs.Faithful.{FaithfulCall}
+use Rattle.transparency.proofs.Faithful.{faithful-step}
 use Rattle.words.specs.CoreOf.{core_of}
 use Rattle.words.specs.NowHolds.{stays, holds_as}
 use Rattle.call_words.specs.Replies.{codeBy, valueBy, wordsBy}

@@ -12,7 +12,6 @@ use crate::split::Split;
 use crate::{slow_bytes, split};
 use operations::place;
 use tlb::access::Kind;
-use tlb::hint::HintAnswer;
 use word::ram;
 use word::ram::Width;
 use words::place::State;
@@ -105,7 +104,7 @@ pub fn a72_load(state: &mut State, va: u64, size: u64, ans: &mut u64, base: u64,
             slow_bytes::load(state, va, size, ans, base, ram)
         } else {
             match translate::by_hint(state, va, Kind::Read) {
-                HintAnswer::At(pa) => match read_sized(base, ram, size, pa) {
+                Some(pa) => match read_sized(base, ram, size, pa) {
                     Some(v) => {
                         state::put_last(state, pa);
                         *ans = v;
@@ -113,7 +112,7 @@ pub fn a72_load(state: &mut State, va: u64, size: u64, ans: &mut u64, base: u64,
                     }
                     None => slow_bytes::load(state, va, size, ans, base, ram),
                 },
-                HintAnswer::Unknown => slow_bytes::load_page(state, va, size, ans, base, ram),
+                None => slow_bytes::load_page(state, va, size, ans, base, ram),
             }
         }
     } else {
@@ -191,7 +190,7 @@ pub fn a72_store(
             slow_bytes::store(state, va, size, value, ans, base, ram)
         } else {
             match translate::by_hint(state, va, Kind::Write) {
-                HintAnswer::At(pa) => {
+                Some(pa) => {
                     let made = write_sized(base, ram, size, pa, value);
                     if made {
                         0
@@ -199,7 +198,7 @@ pub fn a72_store(
                         slow_bytes::store(state, va, size, value, ans, base, ram)
                     }
                 }
-                HintAnswer::Unknown => slow_bytes::store_page(
+                None => slow_bytes::store_page(
                     state, va, size, value, ans, base, ram,
                 ),
             }

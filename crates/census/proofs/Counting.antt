@@ -3,7 +3,7 @@ use Rattle.std.specs.Prelude.{Option}
 use Rattle.std.proofs.Common.{◌≡◌, ℕ, ◌+◌, ◌-◌, ◌*◌, ◌%◌, ◌^◌, ◌<◌, ◌≤◌, List, get_or, set, ap, ◌∙◌, add-one, arith}
 use Rattle.word.specs.Bits.{wrap}
 use Rattle.walk.specs.declared.{regime.Regime.Regime, regime.Bank.Bank}
-use Rattle.walk.specs.FreshLaws.{is-sound}
+use Rattle.walk.proofs.FreshLaws.{is-sound}
 use Rattle.census.specs.Tally.{at_most, one_more}
 use Rattle.census.specs.Count.{pageAt, placeAt, censusOf}
 

@@ -9,9 +9,6 @@ const NARROW: u64 = 0x10_0000_0000;
 // The sum of four counters below this is below 2^64.
 const SUMS_FIT: u64 = 0x4000_0000_0000_0000;
 
-const BAR: &str =
-    "########################################........................................";
-
 // Two counts of a row, right-aligned in their columns, narrow or wide.
 #[derive(Clone, Copy)]
 struct Counts {

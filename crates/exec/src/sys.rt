@@ -8,7 +8,7 @@ ghost use Rattle.exec.specs.Sys.{zero_of, zeroRam, sysOf, sysRam};
 use exception::kind::{Exception, Stop};
 use mmu::core_state::Core;
 use operations::ends::StoreAnswer;
-use sysop::op::{AtForm, SysOp};
+use sysop::op::{AtForm, Encoding, SysOp};
 use sysop::{op, par, tlbi};
 use sysreg::regs::SysRegs;
 use walk::regime::Regime;
@@ -85,7 +85,7 @@ pub fn sys(
     ensures ram_after { ram.new ≡ sysRam core.old base ram.old op1 crn crm op2 rt }
 {
     let x = core.reg(rt);
-    match op::decode(core.privilege.level, op1, crn, crm, op2) {
+    match op::decode(core.privilege.level, Encoding { op1, crn, crm, op2 }) {
         SysOp::At(form) => at(core, base, ram, form, x),
         SysOp::Tlbi => tlbi(core, op1, crm, op2, x),
         SysOp::Zva => return zva(core, base, ram, x),

@@ -8,9 +8,10 @@ use Rattle.std.proofs.Math.Nat.{mod-mod}
 use Rattle.word.specs.Bits.{pick, wrap}
 use Rattle.word.specs.Ram.{word_at}
 use Rattle.walk.specs.Regime.{regimeOf}
-use Rattle.walk.specs.WalkBounds.{SoundWalked, walk-sound}
+use Rattle.walk.specs.WalkBounds.{SoundWalked}
+use Rattle.walk.proofs.WalkBounds.{walk-sound}
 use Rattle.tlb.specs.Live.{WellFormed}
-use Rattle.tlb.specs.Translations.{translation-follows}
+use Rattle.tlb.proofs.Translations.{translation-follows}
 use Rattle.tlb.specs.Step.{accessOf}
 use Rattle.tlb.specs.declared.{access.Kind.Kind, access.Answer.Answer, Tlb.Tlb}
 use Rattle.tlb.specs.declared.access.Answer.TheVariants.{Address, Status}

@@ -7,7 +7,8 @@ use Rattle.fault.specs.First.{first}
 use Rattle.walk.specs.Regime.{stage1On, regimeOf}
 use Rattle.walk.specs.Tag.{untagged}
 use Rattle.walk.specs.TagLaws.{untagged-page}
-use Rattle.walk.specs.PageLaws.{paged, pagedLeaf, walk_of-page}
+use Rattle.walk.specs.PageLaws.{paged, pagedLeaf}
+use Rattle.walk.proofs.PageLaws.{walk_of-page}
 use Rattle.walk.specs.declared.{regime.Regime.Regime, regime.Bank.Bank, level.Leaf.Leaf}
 use Rattle.tlb.specs.Access.{mayHint, tag_of, userOf, rightOf, hasRight, judged}
 use Rattle.tlb.specs.Entry.{blank, serves}

@@ -21,7 +21,7 @@ use Rattle.mmu.specs.Step.{translateIn, locatedOf, onePage, bothPages}
 use Rattle.mmu.specs.declared.core_state.Core.{Core}
 use Rattle.operations.specs.Loads.{moreOf, oneTranslation, twoTranslations, bothOf}
 use Rattle.operations.specs.Change.{keptAs, entryPlace, answeredOf, unchanged, hintLeft, entryLeft, pageAfter, missBy, answeredBy}
-use Rattle.mmu.specs.Parts.{lookupIn, pageIn, coreWith, keptIn, commitIn}
+use Rattle.mmu.specs.Parts.{lookupIn, pageIn, coreWith, commitIn}
 use Rattle.operations.specs.Hinted.{hintPlace, hintServes}
 use Rattle.operations.specs.declared.{loads.Both.Both, change.Change.Change, change.Answered.Answered}
 use Rattle.mmu.specs.Changes.{none-changed, turn-right}
@@ -160,14 +160,8 @@ module _ (c : Core) (kind : Kind) (hs : length c.tlb.cache.hints ≡ 512) (es : 
         go true m = two-pages m
         go false m = one-page m
 
-    -- with any addresses kept
-    pub pair_is : (last abort : ℕ) → (work.placed ≡ located.placed) ×
-        (keptIn (commitIn (commitIn c work.first) work.second) last abort ≡ afterAccess c located.tlb last abort)
-    unfolding afterAccess
-    pair_is last abort = (right.0, ap (λ (t : Tlb). coreWith c t last abort) right.1)
-
-    -- with the core's own: the translations of an access
+    -- what they store is what the translations of an access leave
     pub access-is : (work.placed ≡ (translateAccessOf c memory va n kind).placed)
         × (commitIn (commitIn c work.first) work.second ≡ (translateAccessOf c memory va n kind).core)
-    unfolding translateAccessOf
-    access-is = pair_is c.last_pa c.abort_pa
+    unfolding translateAccessOf afterAccess
+    access-is = (right.0, ap (λ (t : Tlb). coreWith c t c.last_pa c.abort_pa) right.1)

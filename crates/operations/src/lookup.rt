@@ -1,6 +1,5 @@
 // The registers that a level's translations read.
 ghost use Rattle.std.specs.Prelude.{◌≡◌};
-ghost use Rattle.tlb.specs.Access.{regimeNumber};
 ghost use Rattle.walk.specs.Regime.{bankOf, regimeOf, stage1On};
 
 use sysreg::regs::Control;
@@ -12,14 +11,6 @@ pub fn bank_at(control: Control, level: u8) -> Bank
 {
     let r = Regime::of_level(level);
     Bank::new(&control, r)
-}
-
-// The place of a level's registers, in an array by exception level: EL0, and what is no level, has those of EL1.
-pub fn place_at(level: u8) -> usize
-    ensures { result ≡ regimeNumber (regimeOf level) }
-{
-    let other = (level == 0) | (3 < level);
-    if other { 1 } else { level as usize }
 }
 
 // Whether stage 1 is on at a level.

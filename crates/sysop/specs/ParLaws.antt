@@ -12,7 +12,8 @@ use Rattle.walk.specs.Permission.{permissionByte}
 use Rattle.walk.specs.PermissionLaws.{kindBit, firstBit, permission-bit}
 use Rattle.walk.specs.Walk.{leafOf, walkedOf, walk_of}
 use Rattle.walk.specs.Fresh.{fresh_of}
-use Rattle.walk.specs.WalkBounds.{SoundWalked, walk-sound, status-small}
+use Rattle.walk.specs.WalkBounds.{SoundWalked, status-small}
+use Rattle.walk.proofs.WalkBounds.{walk-sound}
 use Rattle.walk.specs.declared.regime.Bank.{Bank}
 use Rattle.walk.specs.declared.fresh.Fresh.TheVariants.{Flat, Ended}
 use Rattle.tlb.specs.Access.{rightOf}

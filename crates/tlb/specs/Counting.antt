@@ -4,7 +4,7 @@ use Rattle.std.specs.Prelude.{◌≡◌, ℕ, zero, suc, ◌+◌, ◌/◌, ◌%�
 use Rattle.std.proofs.Math.Path.{refl}
 use Rattle.std.proofs.Common.{sym, ◌∙◌, arith, ne_eqb}
 use Rattle.tlb.specs.Model.{Slot, empty, holds, Line, Counters, Model, up, upAt, oneHit, oneWalk, line_for, keep, hintPlace, knowing, Access}
-use Rattle.tlb.specs.Model.{Outcome, walked}
+use Rattle.tlb.specs.Model.{walked}
 use Rattle.tlb.specs.Model.{looked, unhinted, noting, noted, tried, hinted, hintable, translate, notingFetch, notedFetch, fetched, fetch}
 use Rattle.tlb.specs.declared.access.Answer.{Answer}
 use Rattle.tlb.specs.declared.access.Answer.TheVariants.{Address, Status}

@@ -38,7 +38,8 @@ answered (holds (Status f)) = f.fsc
 abbrev row : Seen → List ℕ
 row s = answered s.answer ∷ s.counts.hits 1 ∷ s.counts.walks 1 ∷ s.counts.flushes ∷ s.counts.drops ∷ s.counts.epoch ∷ []
 
-pub worked :
+abbrev pub WorkedRun : Type 0
+WorkedRun =
     map row
     (modelRun
     (access Read block
@@ -66,6 +67,8 @@ pub worked :
     ∷ (0 ∷ 3 ∷ 2 ∷ 1 ∷ 2 ∷ 4 ∷ [])
     ∷ (6 ∷ 3 ∷ 3 ∷ 1 ∷ 2 ∷ 4 ∷ [])
     ∷ []
+
+pub worked : WorkedRun
 unfolding modelRun translate hinted tried noted unhinted looked walked judge keep line_for invalidate folded
 worked = refl
 
@@ -92,7 +95,8 @@ levels s =
     s.counts.hits 0 ∷ s.counts.walks 0 ∷ s.counts.hits 1 ∷ s.counts.walks 1 ∷ s.counts.hits 2 ∷ s.counts.walks 2 ∷ s.counts.hits 3
     ∷ s.counts.walks 3 ∷ []
 
-pub worked-levels :
+abbrev pub WorkedLevels : Type 0
+WorkedLevels =
     map levels
     (modelRun
     (from 0 false Read 0x5000
@@ -112,5 +116,7 @@ pub worked-levels :
     ∷ (1 ∷ 1 ∷ 2 ∷ 1 ∷ 0 ∷ 0 ∷ 0 ∷ 0 ∷ [])
     ∷ (1 ∷ 1 ∷ 2 ∷ 2 ∷ 0 ∷ 0 ∷ 0 ∷ 0 ∷ [])
     ∷ []
+
+pub worked-levels : WorkedLevels
 unfolding modelRun translate hinted tried noted unhinted looked walked judge keep line_for invalidate folded
 worked-levels = refl

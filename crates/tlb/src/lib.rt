@@ -14,6 +14,7 @@ pub mod count;
 pub mod entry;
 pub mod hint;
 pub mod resolve;
+pub mod theorems;
 pub mod translate;
 
 // What a TLBI drops. A page is VA[55:12]; an ASID's entries are those that are not global.

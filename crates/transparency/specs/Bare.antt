@@ -3,7 +3,6 @@ use Rattle.std.specs.Prelude.{ℕ, length, Ok, Err}
 use Rattle.sysreg.specs.Write.{writeReg, WriteAnswer, Written}
 use Rattle.exception.specs.Entry.{takeSync}
 use Rattle.exception.specs.declared.{kind.Exception.Exception, take.Entered.Entered}
-use Rattle.exception.specs.declared.kind.Exception.TheVariants as Exception
 use Rattle.exception.specs.declared.kind.Stop.TheVariants as Stop
 use Rattle.sysop.specs.Op.{decodeOf}
 use Rattle.sysop.specs.Par.{atPar}

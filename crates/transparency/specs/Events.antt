@@ -11,7 +11,6 @@ use Rattle.word.specs.Bits.{alignDown, wrap}
 use Rattle.word.specs.Ram.{width_of, bytesIn}
 use Rattle.tlb.specs.Asks.{Ask, translates, fetches}
 use Rattle.tlb.specs.declared.{access.Kind.Kind, access.Privilege.Privilege, Inval.Inval}
-use Rattle.tlb.specs.declared.access.Kind.TheVariants as Kind
 use Rattle.exception.specs.EntryLaws.{take_level}
 use Rattle.exception.specs.declared.kind.Exception.{Exception}
 use Rattle.sysop.specs.Tlbi.{tlbiOf, reachesOthers}
@@ -109,6 +108,10 @@ abbrev pub eventsIn : Bare → Ram → List Ram → Call → List (Event real)
 eventsIn b m ms x = ifAllowed (rulingIn b m x) (stepsIn b m ms x) (steps m idle ∷ [])
 
 -- "An All, Page or Asid is one that a TLBI, not refused, carries out": each such TLBI has its event, and no more.
-pub tlbi-event : (b : Bare) (m : Ram) (ms : List Ram) (e : Encoding) → missedIn b m (System e) ≡ 0 → opIn b e ≡ Op.Tlbi
+abbrev pub tlbi_event : Type 0
+tlbi_event =
+    (b : Bare) (m : Ram) (ms : List Ram) (e : Encoding) → missedIn b m (System e) ≡ 0 → opIn b e ≡ Op.Tlbi
     → eventsIn b m ms (System e) ≡ steps m (does (carries (invalIn b e) (sharedIn e))) ∷ []
-tlbi-event b m ms e passed named = rw (passed, named)
+
+pub tlbi-event : tlbi_event
+tlbi-event b m ms e passed named = rw (passed, named) refl

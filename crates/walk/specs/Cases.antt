@@ -38,7 +38,9 @@ pub row : ℕ → Bool → Access → Answer
 unfolding translated
 row word privileged a = translated 0x1000 0x1008 word privileged a 0x40001234
 
-pub cases :
+-- rows 1 to 9, the last address in range, and row 12
+abbrev pub WorkedTranslations : Type 0
+WorkedTranslations =
     (row 0x80000401 true reading
     ∷ row 0x80000401 false reading
     ∷ row 0x80000401 false fetching
@@ -63,6 +65,8 @@ pub cases :
     ∷ address 0xBFFFFFFF
     ∷ address 0xFFFFFFFFFFFFF000
     ∷ [])
+
+pub cases : WorkedTranslations
 unfolding row translated judged registers walk_of tableWalk walkRange walkFrom lookupNext levelNext leafResult leafTranslation leafPermissions tableNext
     descaddr range_of params_of paSize untagged word_at littleEndian bytes_of
 cases = refl

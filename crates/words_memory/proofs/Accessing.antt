@@ -10,7 +10,8 @@ use Rattle.operations.specs.Place.{nextPage, crosses, goesOn, placedOne, placedB
 use Rattle.mmu.specs.Step.{locatedOf}
 use Rattle.operations.specs.Ends.{loadEnd, storeEnd, storeRamEnd}
 use Rattle.mmu.specs.Ops.{steppedNow, locatedNow, translateOf, translateAccessOf, read_of, writeOf, ramAfterWrite}
-use Rattle.mmu.specs.declared.{core_state.Core.Core, ops.Accessed.Accessed}
+use Rattle.mmu.specs.declared.core_state.Core.{Core}
+use Rattle.mmu.specs.Results.{Accessed}
 use Rattle.operations.specs.declared.{place.Placed.Placed, ends.LoadEnd.LoadEnd, ends.StoreEnd.StoreEnd}
 use Rattle.operations.specs.declared.{ends.LoadAnswer.LoadAnswer, ends.StoreAnswer.StoreAnswer}
 use Rattle.words.specs.CoreOf.{core_of}

@@ -20,7 +20,7 @@ use Rattle.mmu.specs.Ops.{withTlb}
 use Rattle.mmu.specs.declared.core_state.Core.{Core}
 use Rattle.exec.specs.Fit.{reshapedOf, retaggedOf, refitOf}
 use Rattle.exec.specs.Ops.{with_regs, appliedOf, writeRegister}
-use Rattle.exec.specs.declared.ops.Registered.{Registered}
+use Rattle.exec.specs.Ops.{Registered}
 use Rattle.words.specs.CoreOf.{core_of}
 use Rattle.words.specs.Parts.{withControl, withSys}
 use Rattle.words.specs.NowHolds.{NowHolds, stays, holds_as, holds_on}
