@@ -12,9 +12,8 @@ fn pages_4k(tcr: u64, regime: Regime) -> bool
 {
     let tg0 = (tcr >> 14) % 4 == 0;
     match regime {
-        Regime::El1 => tg0 & ((tcr >> 30) % 4 == 2),
-        Regime::El2 => tg0,
-        Regime::El3 => tg0,
+        Regime::El1 => tg0 && (tcr >> 30) % 4 == 2,
+        Regime::El2 | Regime::El3 => tg0,
     }
 }
 
@@ -23,9 +22,11 @@ fn pages_4k(tcr: u64, regime: Regime) -> bool
 fn page(control: Control, regime: Regime, x: u64) -> Inval
     ensures { result ≡ whatOf control x (ranged regime) }
 {
-    let s = Bank::new(&control, regime);
-    let small = pages_4k(s.tcr, regime);
-    if small { Inval::Page(x) } else { Inval::All }
+    if pages_4k(Bank::new(&control, regime).tcr, regime) {
+        Inval::Page(x)
+    } else {
+        Inval::All
+    }
 }
 
 // By ASID: 16 or 8 bits, by TCR_EL1.AS.
@@ -34,11 +35,8 @@ fn asid(control: Control, x: u64) -> Inval
     ensures { result ≡ whatOf control x asidForm }
 {
     let wide = (control.tcr[1] >> 36) % 2 == 1;
-    if wide {
-        Inval::Asid(((x >> 48) % 0x1_0000) as u16)
-    } else {
-        Inval::Asid(((x >> 48) % 0x100) as u16)
-    }
+    let asid = (x >> 48) as u16;
+    Inval::Asid(if wide { asid } else { asid % 0x100 })
 }
 
 // op1 0, CRm 3 or 7.
@@ -80,19 +78,10 @@ fn el3_entries(control: Control, op2: u64, x: u64) -> Inval
 pub fn tlbi(control: Control, op1: u64, crm: u64, op2: u64, x: u64) -> Inval
     ensures { result ≡ tlbiOf control op1 crm op2 x }
 {
-    match op1 {
-        0 => match crm {
-            3 | 7 => el1_entries(control, op2, x),
-            _ => Inval::All,
-        },
-        4 => match crm {
-            3 | 7 => el2_entries(control, op2, x),
-            _ => Inval::All,
-        },
-        6 => match crm {
-            3 | 7 => el3_entries(control, op2, x),
-            _ => Inval::All,
-        },
+    match (op1, crm) {
+        (0, 3 | 7) => el1_entries(control, op2, x),
+        (4, 3 | 7) => el2_entries(control, op2, x),
+        (6, 3 | 7) => el3_entries(control, op2, x),
         _ => Inval::All,
     }
 }
