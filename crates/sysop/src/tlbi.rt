@@ -39,49 +39,16 @@ fn asid(control: Control, x: u64) -> Inval
     Inval::Asid(if wide { asid } else { asid % 0x100 })
 }
 
-// op1 0, CRm 3 or 7.
-#[tactic(auto, unfolding(crate::specs::Tlbi::tlbiOf, crate::specs::Tlbi::scope_of, crate::specs::Tlbi::whatOf))]
-fn el1_entries(control: Control, op2: u64, x: u64) -> Inval
-    ensures { result ≡ tlbiOf control 0 7 op2 x }
-{
-    match op2 {
-        1 | 3 | 5 | 7 => page(control, Regime::El1, x),
-        2 => asid(control, x),
-        _ => Inval::All,
-    }
-}
-
-// op1 4, CRm 3 or 7.
-#[tactic(auto, unfolding(crate::specs::Tlbi::tlbiOf, crate::specs::Tlbi::scope_of, crate::specs::Tlbi::whatOf))]
-fn el2_entries(control: Control, op2: u64, x: u64) -> Inval
-    ensures { result ≡ tlbiOf control 4 7 op2 x }
-{
-    match op2 {
-        1 | 5 => page(control, Regime::El2, x),
-        _ => Inval::All,
-    }
-}
-
-// op1 6, CRm 3 or 7.
-#[tactic(auto, unfolding(crate::specs::Tlbi::tlbiOf, crate::specs::Tlbi::scope_of, crate::specs::Tlbi::whatOf))]
-fn el3_entries(control: Control, op2: u64, x: u64) -> Inval
-    ensures { result ≡ tlbiOf control 6 7 op2 x }
-{
-    match op2 {
-        1 | 5 => page(control, Regime::El3, x),
-        _ => Inval::All,
-    }
-}
-
 // What TLBI op1, CRm, op2 with the operand x invalidates.
 #[tactic(auto, unfolding(crate::specs::Tlbi::tlbiOf, crate::specs::Tlbi::scope_of, crate::specs::Tlbi::whatOf))]
 pub fn tlbi(control: Control, op1: u64, crm: u64, op2: u64, x: u64) -> Inval
     ensures { result ≡ tlbiOf control op1 crm op2 x }
 {
-    match (op1, crm) {
-        (0, 3 | 7) => el1_entries(control, op2, x),
-        (4, 3 | 7) => el2_entries(control, op2, x),
-        (6, 3 | 7) => el3_entries(control, op2, x),
+    match (op1, crm, op2) {
+        (0, 3 | 7, 1 | 3 | 5 | 7) => page(control, Regime::El1, x),
+        (0, 3 | 7, 2) => asid(control, x),
+        (4, 3 | 7, 1 | 5) => page(control, Regime::El2, x),
+        (6, 3 | 7, 1 | 5) => page(control, Regime::El3, x),
         _ => Inval::All,
     }
 }
