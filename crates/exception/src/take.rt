@@ -1,7 +1,7 @@
 // Exception entry. A synchronous one takes a level modulo 4, as PSTATE.EL has two bits; levels are 0 to 3 below it.
 ghost use Rattle.std.specs.Prelude.{◌≡◌};
-ghost use Rattle.exception.specs.Entry.{vectOffset, updated, updatedSys, entryFlags, enterOf};
-ghost use Rattle.exception.specs.Entry.{enteredWith, syncReport, syncChanges, takeSync};
+ghost use Rattle.exception.specs.Entry.{vectOffset, updated, updatedSys, enterOf};
+ghost use Rattle.exception.specs.Entry.{syncReport, syncChanges, takeSync};
 
 use crate::flags::{DAIF_ALL, Flags, pstate};
 use crate::kind::Exception;
@@ -81,39 +81,6 @@ fn saved(
     out
 }
 
-// SP_ELx is used, and the interrupts are masked.
-fn masked(flags: Flags) -> Flags
-    ensures { result ≡ entryFlags flags }
-{
-    Flags {
-        daif: DAIF_ALL,
-        spsel: true,
-        ..flags
-    }
-}
-
-// The state at the target: its vector is an offset from VBAR_ELx.
-fn enter_with(
-    flags: Flags,
-    sys: SysRegs,
-    target: El,
-    offset: u64,
-    esr: Option<u64>,
-    far: Option<u64>,
-    spsr: u64,
-    ret: u64,
-) -> Entered
-    ensures { result ≡ enteredWith flags sys target offset esr far spsr ret }
-{
-    let t = target.index();
-    Entered {
-        level: t as u8,
-        flags: masked(flags),
-        pc: sys.vbar[t].wrapping_add(offset),
-        sys: saved(sys, target, esr, far, spsr, ret),
-    }
-}
-
 // Exception entry to a level: the kind is the vector's place in its group, and ret the address that it returns to.
 #[tactic(auto, unfolding(crate::specs::Entry::enterOf))]
 pub fn enter(
@@ -128,18 +95,20 @@ pub fn enter(
 ) -> Entered
     ensures { result ≡ enterOf level flags sys target kind esr far ret }
 {
-    let group = vector_group(level, target.index() as u8, flags.spsel);
+    let t = target.index();
+    let group = vector_group(level, t as u8, flags.spsel);
     let vector = group.wrapping_add(kind);
-    enter_with(
-        flags,
-        sys,
-        target,
-        vector,
-        esr,
-        far,
-        pstate(level, flags),
-        ret,
-    )
+    Entered {
+        level: t as u8,
+        // SP_ELx is used, and the interrupts are masked
+        flags: Flags {
+            daif: DAIF_ALL,
+            spsel: true,
+            ..flags
+        },
+        pc: sys.vbar[t].wrapping_add(vector),
+        sys: saved(sys, target, esr, far, pstate(level, flags), ret),
+    }
 }
 
 // A synchronous exception at the PC is routed and reported.
@@ -192,16 +161,16 @@ pub fn take_sync(
     ensures { result ≡ takeSync level flags pc scr_el3 hcr_el2 sys e }
 {
     let r = report_sync(level, pc, scr_el3, hcr_el2, e);
-    let t = sync_changes(level, flags, r);
-    let esr = Some(t.report.esr);
-    enter_with(
+    let esr = Some(r.report.esr);
+    let far = r.report.far;
+    enter(
+        level % 4,
         flags,
         sys,
-        t.target,
-        t.group,
+        r.target,
+        VECTOR_SYNC,
         esr,
-        t.report.far,
-        t.spsr,
-        t.ret,
+        far,
+        r.ret,
     )
 }
