@@ -38,7 +38,7 @@ use Rattle.cpu.specs.Step.{run_of, step_of}
 use Rattle.operations.specs.declared.{call.Call.Call, call.Reply.Reply}
 use Rattle.operations.specs.declared.call.Call.TheVariants.{Translate, System, Abort}
 use Rattle.operations.specs.declared.call.Reply.TheVariants.{Value, Fault}
-use Rattle.cpu.specs.declared.run.Stepped.{Stepped}
+use Rattle.cpu.specs.Step.{Stepped}
 
 -- a core at a level with SCTLR_EL1.M set, TCR_EL1 = 25 and TTBR0_EL1 as given, other registers zero, the address in X0, and an empty cache
 pub at : ℕ → ℕ → Core

@@ -2,4 +2,3 @@
 // The core as one machine: every operation is a call, checked in document 01's order and then done.
 pub mod inspect;
 pub mod run;
-pub mod step;

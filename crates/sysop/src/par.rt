@@ -9,9 +9,9 @@ use sysreg::regs::Control;
 use tlb::access;
 use tlb::access::Kind;
 use walk::fresh::Fresh;
-use walk::level::{Leaf, Walked};
+use walk::level::Leaf;
 use walk::regime::{Bank, Regime};
-use walk::{fresh, regime};
+use walk::fresh;
 
 fn kind_of(write: bool) -> Kind
     ensures { result ≡ kind_of write }
@@ -95,8 +95,8 @@ pub fn par_in(s: Bank, mair: u64, form: AtForm, va: u64, base: u64, ram: &[u8]) 
     let ns = from_non_secure(s, regime);
     match fresh::fresh_of(s, regime, va, base, ram) {
         Fresh::Ended(end) => match end {
-            Walked::Mapped(leaf) => leaf_par(mair, ns, form, leaf),
-            Walked::Fault(status) => fault_par(status),
+            Ok(leaf) => leaf_par(mair, ns, form, leaf),
+            Err(status) => fault_par(status),
         },
         Fresh::Flat(pa) => success_par(0, pa, ns, 0),
     }
@@ -108,6 +108,6 @@ pub fn at_par(control: Control, mair: u64, form: AtForm, va: u64, base: u64, ram
     ensures { result ≡ atPar control mair form va (word_at base ram.now 8) }
 {
     let regime = form.regime;
-    let s = regime::bank_of(control, regime);
+    let s = Bank::new(&control, regime);
     par_in(s, mair, form, va, base, ram)
 }

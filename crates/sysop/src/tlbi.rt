@@ -4,8 +4,7 @@ ghost use Rattle.sysop.specs.Tlbi.{ranged, asidForm, pages4k, whatOf, tlbiOf, re
 
 use sysreg::regs::Control;
 use tlb::Inval;
-use walk::regime;
-use walk::regime::Regime;
+use walk::regime::{Bank, Regime};
 
 // Whether every range of the regime has pages of 4 KiB; tcr is the regime's own.
 fn pages_4k(tcr: u64, regime: Regime) -> bool
@@ -24,7 +23,7 @@ fn pages_4k(tcr: u64, regime: Regime) -> bool
 fn page(control: Control, regime: Regime, x: u64) -> Inval
     ensures { result ≡ whatOf control x (ranged regime) }
 {
-    let s = regime::bank_of(control, regime);
+    let s = Bank::new(&control, regime);
     let small = pages_4k(s.tcr, regime);
     if small { Inval::Page(x) } else { Inval::All }
 }

@@ -19,9 +19,9 @@ fn moved(e: Entry, current: u32, to: u32, later: bool) -> Entry {
     let live = e.generation == current;
     let kept = later & (current < e.generation) & (to < e.generation);
     if live {
-        return tlb::entry::stamped(e, to);
+        return e.stamped(to);
     }
-    if kept { e } else { tlb::entry::blank() }
+    if kept { e } else { Entry::blank() }
 }
 
 fn move_generation(words: &mut State, to: u32, later: bool) {
@@ -110,7 +110,7 @@ fn put_entry(words: &mut State, slot: u64, op: &[u64; 8]) {
         };
         cells::put_entry(words, j, e);
     } else {
-        let none = tlb::entry::blank();
+        let none = Entry::blank();
         cells::put_entry(words, j, none);
     }
 }

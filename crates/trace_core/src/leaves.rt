@@ -3,12 +3,11 @@ use call_words::op;
 use call_words::op::DecodedException;
 use exception::kind::Exception;
 use exception::{report, take};
-use sysreg::encoding::Found;
 use sysreg::regs::{ControlReg, El, Register, SysReg};
-use sysreg::{encoding, regs, shape};
-use walk::level::{Leaf, Walked};
+use sysreg::encoding;
+use walk::level::Leaf;
 use walk::regime::Regime;
-use walk::{regime, rights, size, table, tag};
+use walk::{rights, size, table, tag};
 use words::place::State;
 use words::regs::{bank_at, control_at};
 
@@ -34,12 +33,12 @@ fn regime_at(n: u64) -> Regime {
 
 fn asid(state: &State) -> [u64; 4] {
     let c = control_at(state);
-    value(shape::asid(c) as u64)
+    value(c.asid() as u64)
 }
 
 fn stage1_on(state: &State, n: u64) -> [u64; 4] {
     let r = regime_at(n);
-    let on = regime::stage1_on(bank_at(state, r), r);
+    let on = bank_at(state, r).stage1_on(r);
     value(flag(on))
 }
 
@@ -60,8 +59,8 @@ fn leaf_words(l: Leaf) -> [u64; 4] {
 fn walk_of(state: &State, n: u64, va: u64, base: u64, ram: &[u8]) -> [u64; 4] {
     let r = regime_at(n);
     match table::walk(bank_at(state, r), r, va, base, ram) {
-        Walked::Mapped(l) => leaf_words(l),
-        Walked::Fault(status) => [8, va, status as u64, 0],
+        Ok(l) => leaf_words(l),
+        Err(status) => [8, va, status as u64, 0],
     }
 }
 
@@ -70,7 +69,7 @@ fn perms(p: u64) -> [u64; 4] {
 }
 
 fn level(el: El) -> u64 {
-    regs::index(el) as u64
+    el.index() as u64
 }
 
 fn control_pair(r: ControlReg) -> [u64; 4] {
@@ -102,11 +101,11 @@ fn sys_pair(r: SysReg) -> [u64; 4] {
 // A register's number and level, by its key.
 fn bank(key: u64) -> [u64; 4] {
     match encoding::banked((key % 0x1_0000_0000) as u32) {
-        Found::At(found) => match found {
+        Some(found) => match found {
             Register::InControl(r) => control_pair(r),
             Register::InSys(r) => sys_pair(r),
         },
-        Found::Nothing => [2, 0, 0, 0],
+        None => [2, 0, 0, 0],
     }
 }
 
@@ -121,10 +120,9 @@ fn reported(e: Exception, from: u64, to: u64, pc: u64) -> [u64; 4] {
     let lower = from < to;
     let below = if lower { 0u8 } else { 1u8 };
     let r = report::syndrome(e, below, 1, pc);
-    if r.valid {
-        pair(r.esr, r.far)
-    } else {
-        value(r.esr)
+    match r.far {
+        Some(far) => pair(r.esr, far),
+        None => value(r.esr),
     }
 }
 

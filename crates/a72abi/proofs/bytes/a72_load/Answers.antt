@@ -17,8 +17,8 @@ returns-in-Value c = promise-quiet _ _ _ _ _ _ _ _ refl (search (load_gives, cle
 pub returns-in-Outside : goal.returns-in-Outside
 returns-in-Outside c = promise-quiet _ _ _ _ _ _ _ _ refl (search rules)
 
-pub returns-in-Unknown : goal.returns-in-Unknown
-returns-in-Unknown c = promise-quiet _ _ _ _ _ _ _ _ refl (search (load_gives, clear-here, rules))
+pub returns-in-None : goal.returns-in-None
+returns-in-None c = promise-quiet _ _ _ _ _ _ _ _ refl (search (load_gives, clear-here, rules))
 
 pub returns-else-known : goal.returns-else-known
 returns-else-known c = promise-quiet _ _ _ _ _ _ _ _ refl (search (load-high, level-high, rules))

@@ -9,9 +9,9 @@ pub returns-then-in_page-size : goal.returns-then-in_page-size
 unfolding missedOf
 returns-then-in_page-size c = search (passed-gives, sized-load, rules)
 
-pub returns-in-At : goal.returns-in-At
+pub returns-in-Some : goal.returns-in-Some
 unfolding missedOf
-returns-in-At c = search (passed-gives, sized-load, hint-load, near-width, rules)
+returns-in-Some c = search (passed-gives, sized-load, hint-load, near-width, rules)
 
 pub returns-in-Refused : goal.returns-in-Refused
 unfolding missedOf

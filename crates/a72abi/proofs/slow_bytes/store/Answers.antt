@@ -15,13 +15,13 @@ pub returns-then-in_page-size-clause-ram_after : goal.returns-then-in_page-size-
 unfolding missedOf
 returns-then-in_page-size-clause-ram_after c = search (passed-ram-is, sized-store-ram, rules)
 
-pub returns-in-At-clause-gives : goal.returns-in-At-clause-gives
+pub returns-in-Some-clause-gives : goal.returns-in-Some-clause-gives
 unfolding missedOf
-returns-in-At-clause-gives c = search (passed-gives, sized-store, hint-store, near-width, rules)
+returns-in-Some-clause-gives c = search (passed-gives, sized-store, hint-store, near-width, rules)
 
-pub returns-in-At-clause-ram_after : goal.returns-in-At-clause-ram_after
+pub returns-in-Some-clause-ram_after : goal.returns-in-Some-clause-ram_after
 unfolding missedOf
-returns-in-At-clause-ram_after c = search (passed-ram-is, sized-store-ram, hint-store-ram, near-width, rules)
+returns-in-Some-clause-ram_after c = search (passed-ram-is, sized-store-ram, hint-store-ram, near-width, rules)
 
 pub returns-in-Refused-clause-gives : goal.returns-in-Refused-clause-gives
 unfolding missedOf
