@@ -1,4 +1,5 @@
 // What `a72 counters` shows: a row for each level with a bar, the sums, the other counters, and who walks most.
+use crate::total::Tally;
 use crate::{most, share, total};
 use std::io::Write;
 use std::{fmt, io};
@@ -9,43 +10,38 @@ const NARROW: u64 = 0x10_0000_0000;
 // The sum of four counters below this is below 2^64.
 const SUMS_FIT: u64 = 0x4000_0000_0000_0000;
 
-const BAR: &str =
-    "########################################........................................";
-
 // Two counts of a row, right-aligned in their columns, narrow or wide.
 #[derive(Clone, Copy)]
 struct Counts {
-    hits: u64,
-    walks: u64,
+    tally: Tally,
     narrow: bool,
 }
 
 impl fmt::Display for Counts {
     fn fmt<W: fmt::Write>(&self, f: &mut fmt::Formatter<W>) -> fmt::Result {
+        let Tally { hits, walks } = self.tally;
         if self.narrow {
-            write!(f, "{:>13}{:>13}", self.hits, self.walks)
+            write!(f, "{hits:>13}{walks:>13}")
         } else {
-            write!(f, "{:>22}{:>22}", self.hits, self.walks)
+            write!(f, "{hits:>22}{walks:>22}")
         }
     }
 }
 
 // The share of walks in percent with one decimal, and a bar of forty cells.
 #[derive(Clone, Copy)]
-struct Share {
-    hits: u64,
-    walks: u64,
-}
+struct Share(Tally);
 
 impl fmt::Display for Share {
     fn fmt<W: fmt::Write>(&self, f: &mut fmt::Formatter<W>) -> fmt::Result {
-        let s = share::of_walks(self.hits, self.walks);
-        if s == 0 && self.walks != 0 {
+        let Tally { hits, walks } = self.0;
+        let s = share::of_walks(hits, walks);
+        if s == 0 && walks != 0 {
             f.write_str("    <0.1")?;
         } else {
             write!(f, "{:>6}.{}", s / 10, s % 10)?;
         }
-        let n = share::cells(s, self.walks);
+        let n = share::cells(s, walks);
         let rest = 40 - n;
         write!(f, "%  {:#>n$}{:.>rest$}", "", "")
     }
@@ -53,39 +49,40 @@ impl fmt::Display for Share {
 
 // Two counts, and the share of walks; no share of nothing.
 fn row<W: Write>(out: &mut W, counts: Counts) -> io::Result<()> {
-    let Counts { hits, walks, .. } = counts;
+    let Tally { hits, walks } = counts.tally;
     if hits == 0 && walks == 0 {
         writeln!(out, "{counts}        -")
     } else {
-        writeln!(out, "{counts}{}", Share { hits, walks })
+        writeln!(out, "{counts}{}", Share(counts.tally))
     }
 }
 
-// The counters of EL0 to EL3 as hits, walks, hits, walks, ..; and those that are not kept by level.
+// The counters of EL0 to EL3, and those that are not kept by level.
 #[derive(Clone, Copy)]
 pub struct Counters {
-    pub levels: [u64; 8],
+    pub levels: [Tally; 4],
     pub flushes: u64,
     pub drops: u64,
     pub epoch: u64,
 }
 
 // A row for each level, then the sums, with a share where none wrapped.
-fn rows<W: Write>(out: &mut W, levels: &[u64; 8], narrow: bool, whole: bool) -> io::Result<()> {
-    for level in 0..4usize {
+fn rows<W: Write>(out: &mut W, levels: &[Tally; 4], narrow: bool, whole: bool) -> io::Result<()> {
+    for (level, tally) in levels.iter().enumerate() {
         write!(out, "  EL{level}")?;
         row(
             out,
             Counts {
-                hits: levels[2 * level],
-                walks: levels[2 * level + 1],
+                tally: *tally,
                 narrow,
             },
         )?;
     }
     let all = Counts {
-        hits: total::hits(levels),
-        walks: total::walks(levels),
+        tally: Tally {
+            hits: total::hits(levels),
+            walks: total::walks(levels),
+        },
         narrow,
     };
     write!(out, "  all")?;

@@ -3,24 +3,34 @@ ghost use Rattle.std.specs.Prelude.{◌≡◌, [], ◌∷◌, ◌+◌};
 ghost use Rattle.words.specs.CoreOf.{word};
 ghost use Rattle.words.specs.Places.{LEVEL-HITS, LEVEL-WALKS};
 
+use counters_report::total::Tally;
 use words::place;
 use words::place::State;
 
-// The hits and walks of EL0, of EL1, EL2 and EL3.
-pub fn by_level(state: &State) -> [u64; 8]
-    ensures { result ≡ word state.now LEVEL-HITS ∷ word state.now LEVEL-WALKS
-        ∷ word state.now (LEVEL-HITS + 1) ∷ word state.now (LEVEL-WALKS + 1)
-        ∷ word state.now (LEVEL-HITS + 2) ∷ word state.now (LEVEL-WALKS + 2)
-        ∷ word state.now (LEVEL-HITS + 3) ∷ word state.now (LEVEL-WALKS + 3) ∷ [] }
+// What EL0, EL1, EL2 and EL3 counted.
+pub fn by_level(state: &State) -> [Tally; 4]
+    ensures { result
+        ≡ record { hits = word state.now LEVEL-HITS; walks = word state.now LEVEL-WALKS }
+        ∷ record { hits = word state.now (LEVEL-HITS + 1); walks = word state.now (LEVEL-WALKS + 1) }
+        ∷ record { hits = word state.now (LEVEL-HITS + 2); walks = word state.now (LEVEL-WALKS + 2) }
+        ∷ record { hits = word state.now (LEVEL-HITS + 3); walks = word state.now (LEVEL-WALKS + 3) } ∷ [] }
 {
     [
-        state[place::LEVEL_HITS],
-        state[place::LEVEL_WALKS],
-        state[place::LEVEL_HITS + 1],
-        state[place::LEVEL_WALKS + 1],
-        state[place::LEVEL_HITS + 2],
-        state[place::LEVEL_WALKS + 2],
-        state[place::LEVEL_HITS + 3],
-        state[place::LEVEL_WALKS + 3],
+        Tally {
+            hits: state[place::LEVEL_HITS],
+            walks: state[place::LEVEL_WALKS],
+        },
+        Tally {
+            hits: state[place::LEVEL_HITS + 1],
+            walks: state[place::LEVEL_WALKS + 1],
+        },
+        Tally {
+            hits: state[place::LEVEL_HITS + 2],
+            walks: state[place::LEVEL_WALKS + 2],
+        },
+        Tally {
+            hits: state[place::LEVEL_HITS + 3],
+            walks: state[place::LEVEL_WALKS + 3],
+        },
     ]
 }
