@@ -67,6 +67,14 @@ pub fn all<W: Write>(out: &mut W, records: u64, all: &Counts, tally: &Tally) -> 
             writeln!(out, "{} {n}", tables::class_name(class))?;
         }
     }
-    write!(out, "\n{records} records, {} operations, {} left out", all.done, all.left)?;
-    writeln!(out, ", {} outside cases; differences {}", all.cases, all.wrong)
+    write!(
+        out,
+        "\n{records} records, {} operations, {} left out",
+        all.done, all.left
+    )?;
+    writeln!(
+        out,
+        ", {} outside cases; differences {}",
+        all.cases, all.wrong
+    )
 }

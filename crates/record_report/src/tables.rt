@@ -1,9 +1,9 @@
 // Names of kinds of operation, of answers, and of classes of difference (outside/README.md).
+use operations::call::{Call, Encoding};
 use std::fmt;
+use tlb::access::Kind as Access;
 use trace_text::line;
 use trace_text::line::Operation;
-use operations::call::{Call, Encoding};
-use tlb::access::Kind as Access;
 
 // A kind of operation, in the order of the names.
 #[derive(Clone, Copy)]
