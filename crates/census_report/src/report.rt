@@ -12,7 +12,7 @@ use words::place::State;
 use words::state;
 
 // Why there is no census.
-#[derive(Clone, Copy)]
+#[derive(Clone, Copy, Debug)]
 pub enum Refused {
     Level,
     Window,

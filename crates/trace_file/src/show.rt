@@ -4,7 +4,9 @@ use digest::parts;
 use std::io::Write;
 use std::{fmt, io};
 use trace_core::counters;
-use trace_text::write::{Answer, Operation};
+use trace_core::machine::Machine;
+use trace_text::line::Operation;
+use trace_text::write::Answer;
 use words::place;
 use words::place::State;
 
@@ -88,12 +90,13 @@ impl fmt::Display for Digests<'_> {
 pub fn operation<W: Write>(
     out: &mut W,
     number: u64,
-    op: &[u64; 8],
+    operation: &Operation,
     ans: &[u64; 4],
-    state: &State,
-    ram: u64,
+    machine: &mut Machine,
 ) -> io::Result<()> {
-    write!(out, "{number} {} => {}", Operation(op), Answer(ans))?;
+    let ram = machine.window_digest();
+    let state = &machine.state;
+    write!(out, "{number} {operation} => {}", Answer(ans))?;
     write!(out, " | {} {}", Counts(state), Kept(state))?;
     writeln!(out, " {}", Digests { state, ram })
 }

@@ -1,7 +1,7 @@
 // Why a line is refused.
 use std::fmt;
 
-#[derive(Clone, Copy)]
+#[derive(Clone, Copy, Debug)]
 pub enum Reason {
     NoSuchLine,
     NoSuchException,
@@ -41,7 +41,7 @@ impl fmt::Display for Reason {
 }
 
 // The reason, and the column of the word that is at fault, or of the line's end.
-#[derive(Clone, Copy)]
+#[derive(Clone, Copy, Debug)]
 pub struct Refusal {
     pub column: usize,
     pub reason: Reason,
