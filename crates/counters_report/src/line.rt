@@ -1,7 +1,7 @@
 // The counters in a line of `a72 run`: the sums of the hits and of the walks, then each level's own.
 use crate::total;
-use crate::total::Tally;
 use std::fmt;
+use tlb::count::Tally;
 
 #[derive(Clone, Copy)]
 pub struct Levels<'a>(pub &'a [Tally; 4]);

@@ -1,8 +1,8 @@
 // Who walks most, in a sentence.
 use crate::total;
-use crate::total::Tally;
 use std::io;
 use std::io::Write;
+use tlb::count::Tally;
 
 // The sum is named where it did not wrap.
 pub fn show<W: Write>(out: &mut W, levels: &[Tally; 4], whole: bool) -> io::Result<()> {

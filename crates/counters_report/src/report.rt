@@ -1,8 +1,8 @@
 // What `a72 counters` shows: a row for each level with a bar, the sums, the other counters, and who walks most.
-use crate::total::Tally;
 use crate::{most, share, total};
 use std::io::Write;
 use std::{fmt, io};
+use tlb::count::{Counts, Tally};
 
 // Counters below this have at most eleven digits, and sums twelve.
 const NARROW: u64 = 0x10_0000_0000;
@@ -12,12 +12,12 @@ const SUMS_FIT: u64 = 0x4000_0000_0000_0000;
 
 // Two counts of a row, right-aligned in their columns, narrow or wide.
 #[derive(Clone, Copy)]
-struct Counts {
+struct Pair {
     tally: Tally,
     narrow: bool,
 }
 
-impl fmt::Display for Counts {
+impl fmt::Display for Pair {
     fn fmt<W: fmt::Write>(&self, f: &mut fmt::Formatter<W>) -> fmt::Result {
         let Tally { hits, walks } = self.tally;
         if self.narrow {
@@ -48,22 +48,13 @@ impl fmt::Display for Share {
 }
 
 // Two counts, and the share of walks; no share of nothing.
-fn row<W: Write>(out: &mut W, counts: Counts) -> io::Result<()> {
-    let Tally { hits, walks } = counts.tally;
+fn row<W: Write>(out: &mut W, pair: Pair) -> io::Result<()> {
+    let Tally { hits, walks } = pair.tally;
     if hits == 0 && walks == 0 {
-        writeln!(out, "{counts}        -")
+        writeln!(out, "{pair}        -")
     } else {
-        writeln!(out, "{counts}{}", Share(counts.tally))
+        writeln!(out, "{pair}{}", Share(pair.tally))
     }
-}
-
-// The counters of EL0 to EL3, and those that are not kept by level.
-#[derive(Clone, Copy)]
-pub struct Counters {
-    pub levels: [Tally; 4],
-    pub flushes: u64,
-    pub drops: u64,
-    pub epoch: u64,
 }
 
 // A row for each level, then the sums, with a share where none wrapped.
@@ -72,13 +63,13 @@ fn rows<W: Write>(out: &mut W, levels: &[Tally; 4], narrow: bool, whole: bool) -
         write!(out, "  EL{level}")?;
         row(
             out,
-            Counts {
+            Pair {
                 tally: *tally,
                 narrow,
             },
         )?;
     }
-    let all = Counts {
+    let all = Pair {
         tally: Tally {
             hits: total::hits(levels),
             walks: total::walks(levels),
@@ -93,7 +84,7 @@ fn rows<W: Write>(out: &mut W, levels: &[Tally; 4], narrow: bool, whole: bool) -
     }
 }
 
-pub fn show<W: Write>(out: &mut W, c: &Counters) -> io::Result<()> {
+pub fn show<W: Write>(out: &mut W, c: &Counts) -> io::Result<()> {
     let bits = total::bits(&c.levels);
     let whole = bits < SUMS_FIT;
     let narrow = bits < NARROW;

@@ -1,12 +1,7 @@
-// Sums over the levels.
+// Sums over the levels, EL0 to EL3.
 ghost use Rattle.std.specs.Prelude.{◌≡◌, ◌+◌, ◌%◌, ◌^◌, sum_by};
 
-// What a level counted: translations that an entry answered, and walks.
-#[derive(Clone, Copy)]
-pub struct Tally {
-    pub hits: u64,
-    pub walks: u64,
-}
+use tlb::count::Tally;
 
 fn of_four(a: u64, b: u64, c: u64, d: u64) -> u64
     ensures { result ≡ (a + b + c + d) % 2 ^ 64 }

@@ -1,36 +1,35 @@
-// The counters of the four levels, out of a core's words.
-ghost use Rattle.std.specs.Prelude.{◌≡◌, [], ◌∷◌, ◌+◌};
-ghost use Rattle.words.specs.CoreOf.{word};
-ghost use Rattle.words.specs.Places.{LEVEL-HITS, LEVEL-WALKS};
+// The counters out of a core's words.
+ghost use Rattle.std.specs.Prelude.{◌≡◌, ◌<◌};
+ghost use Rattle.words.specs.CoreOf.{core_of, tallyIn, word};
 
-use counters_report::total::Tally;
+use tlb::count::{Counts, Tally};
 use words::place;
 use words::place::State;
 
-// What EL0, EL1, EL2 and EL3 counted.
-pub fn by_level(state: &State) -> [Tally; 4]
-    ensures { result
-        ≡ record { hits = word state.now LEVEL-HITS; walks = word state.now LEVEL-WALKS }
-        ∷ record { hits = word state.now (LEVEL-HITS + 1); walks = word state.now (LEVEL-WALKS + 1) }
-        ∷ record { hits = word state.now (LEVEL-HITS + 2); walks = word state.now (LEVEL-WALKS + 2) }
-        ∷ record { hits = word state.now (LEVEL-HITS + 3); walks = word state.now (LEVEL-WALKS + 3) } ∷ [] }
+fn tally(state: &State, level: usize) -> Tally
+    requires { level < 4 }
+    ensures { result ≡ tallyIn (word state.now) level }
 {
-    [
-        Tally {
-            hits: state[place::LEVEL_HITS],
-            walks: state[place::LEVEL_WALKS],
-        },
-        Tally {
-            hits: state[place::LEVEL_HITS + 1],
-            walks: state[place::LEVEL_WALKS + 1],
-        },
-        Tally {
-            hits: state[place::LEVEL_HITS + 2],
-            walks: state[place::LEVEL_WALKS + 2],
-        },
-        Tally {
-            hits: state[place::LEVEL_HITS + 3],
-            walks: state[place::LEVEL_WALKS + 3],
-        },
-    ]
+    Tally {
+        hits: state[place::LEVEL_HITS + level],
+        walks: state[place::LEVEL_WALKS + level],
+    }
+}
+
+// What the cache counted at each level, and in all.
+#[tactic(auto, unfolding(words::specs::CoreOf::core_of, words::specs::CoreOf::coreBy, words::specs::CoreOf::coreOn))]
+pub fn counts(state: &State) -> Counts
+    ensures { result ≡ (core_of state.now).tlb.counts }
+{
+    Counts {
+        levels: [
+            tally(state, 0),
+            tally(state, 1),
+            tally(state, 2),
+            tally(state, 3),
+        ],
+        flushes: state[place::FLUSHES],
+        drops: state[place::DROPS],
+        epoch: state[place::EPOCH],
+    }
 }

@@ -17,21 +17,12 @@ struct Counts<'a>(&'a State);
 impl fmt::Display for Counts<'_> {
     fn fmt<W: fmt::Write>(&self, f: &mut fmt::Formatter<W>) -> fmt::Result {
         let state = self.0;
-        let levels = counters::by_level(state);
-        write!(f, "{}", Levels(&levels))?;
-        write!(
-            f,
-            " fl={:x} dr={:x}",
-            state[place::FLUSHES],
-            state[place::DROPS]
-        )?;
-        write!(f, " ep={:x}", state[place::EPOCH])?;
-        write!(
-            f,
-            " bc={}:{:x}",
-            state[place::PENDING],
-            state[place::PENDING_VALUE]
-        )
+        let counts = counters::counts(state);
+        write!(f, "{}", Levels(&counts.levels))?;
+        write!(f, " fl={:x} dr={:x}", counts.flushes, counts.drops)?;
+        write!(f, " ep={:x}", counts.epoch)?;
+        let value = state[place::PENDING_VALUE];
+        write!(f, " bc={}:{value:x}", state[place::PENDING])
     }
 }
 
