@@ -77,7 +77,10 @@ pub fn pass<R: BufRead, W: Write>(
         match source::next_line(reader, bytes).map_err(Trouble::File)? {
             Next::Line => {}
             Next::TooLong => {
-                let refusal = Refusal { column: 1, reason: Reason::LongLine };
+                let refusal = Refusal {
+                    column: 1,
+                    reason: Reason::LongLine,
+                };
                 return Err(Trouble::Line(number, refusal));
             }
             Next::End => return Ok(()),
