@@ -7,6 +7,7 @@ pub const ANSWERS: usize = 84;
 
 pub const CLASSES: usize = 32;
 
+#[derive(Drop)]
 pub struct Tally {
     answers: [[u64; ANSWERS]; KINDS.len()],
     cases: [u64; CLASSES],

@@ -111,7 +111,10 @@ impl<W: Write> Replay<'_, W> {
                     ..Case::default()
                 };
             }
-            71 => self.due(first, parts::get(&self.machine.state, first), second)?,
+            71 => {
+                let is = parts::get(&self.machine.state, first);
+                self.due(first, is, second)?;
+            }
             72 => self.other(first, second),
             73 => self.end()?,
             74 => self.answered(first, second)?,
