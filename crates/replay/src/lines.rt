@@ -1,9 +1,8 @@
 // A record's lines, one after another.
-use crate::parts;
 use crate::parts::Bytes;
 use crate::replay::Replay;
-use crate::rows;
 use crate::stop::{Fault, Stop};
+use crate::{parts, rows};
 use record_report::short;
 use std::io;
 use std::io::Write;
