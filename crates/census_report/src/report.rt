@@ -12,7 +12,7 @@ use words::state;
 use walk::regime::Regime;
 
 // Why there is no census.
-#[derive(Clone, Copy)]
+#[derive(Clone, Copy, Debug)]
 pub enum Refused {
     Level,
     Window,
