@@ -1,8 +1,8 @@
 // Leaves: functions of the registers as they stand, which change nothing.
 use exception::kind::Exception;
 use exception::{report, take};
-use sysreg::regs::{ControlReg, El, Register, SysReg};
 use sysreg::encoding;
+use sysreg::regs::{ControlReg, El, Register, SysReg};
 use trace_text::line;
 use walk::level::Leaf;
 use walk::regime::Regime;
