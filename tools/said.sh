@@ -36,6 +36,7 @@ speak() { # HOW
             ;;
         'fn '*': proved' | 'enum '*': proved' | 'struct '*': proved' | 'const '*': proved' | 'impl '*': proved' | 'trait '*': proved') continue ;;
         'logic '* | 'library '*': modules loaded='* | 'statements '* | 'checked '*' of '* | 'so far: '* | 'empty contracts: 0 found'* | '== '* | '') continue ;;
+        'axioms '*': '* | 'linked target='* | 'rt: running '*) continue ;;
         'note: no function with a body is declared'* | 'rt: chose --jobs '*) continue ;;
         [0-9]*' passed, '[0-9]*' failed')
             printf '%s\n' "$line" >"$own/tally"

@@ -1,5 +1,6 @@
 // Arguments of a command: numbers, levels, a trace's path.
 use crate::stop::{Stop, Wrong};
+use std::alloc::AllocError;
 use std::env;
 use std::io::ErrorKind;
 use std::rt::Env;
@@ -25,10 +26,7 @@ pub fn number(word: &str) -> Result<u64, NumberError> {
 
 // A number by its name in the usage.
 pub fn named_number(word: &str, name: &'static str) -> Result<u64, Stop> {
-    match number(word) {
-        Ok(value) => Ok(value),
-        Err(_) => Err(Stop::Argument(Wrong::Number(name))),
-    }
+    number(word).map_err(|_| Stop::Argument(Wrong::Number(name)))
 }
 
 // The level that an argument names; none where it is not there.
@@ -46,7 +44,7 @@ pub fn level(word: Option<&String>) -> Result<Option<u64>, Stop> {
 pub fn words<R: Env + AllocGlobal>(rt: &R) -> Result<Vec<String>, Stop> {
     match env::args(rt) {
         Ok(all) => Ok(all.skip(1).collect(rt.alloc())?),
-        Err(error) if error.kind() == ErrorKind::OutOfMemory => Err(Stop::Memory),
+        Err(error) if error.kind() == ErrorKind::OutOfMemory => Err(Stop::Memory(AllocError)),
         Err(_) => Err(Stop::Argument(Wrong::NotText)),
     }
 }

@@ -13,9 +13,9 @@ use std::io;
 use std::io::{BufWriter, IsTerminal, LineWriter, Write};
 use std::rt::Files;
 use stop::Stop;
+use trace_core::machine::Machine;
 use trace_core::memory;
 use trace_file::run;
-use words::place::WORDS;
 
 // As in bindings/rust/Cargo.toml.
 const VERSION: &str = "0.1.0";
@@ -46,12 +46,11 @@ fn run_command<R: Files + AllocGlobal, W: Write>(
     match words {
         [path] => {
             let path = arguments::path(path.as_str())?;
-            let mut state = [0u64; WORDS];
-            let mut ram = memory::zeros(rt.alloc())?;
-            run::run(rt, out, path, &mut state, ram.as_mut_slice())?;
+            let mut machine = Machine::new(rt.alloc())?;
+            run::run(rt, out, path, &mut machine)?;
             Ok(())
         }
-        _ => Err(Stop::Usage(Some("run wants one TRACE"))),
+        _ => Err(Stop::Usage("run wants one TRACE")),
     }
 }
 
@@ -62,7 +61,7 @@ fn counters_command<R: Files + AllocGlobal, W: Write>(
 ) -> Result<(), Stop> {
     match words {
         [path] => counters::show(rt, out, arguments::path(path.as_str())?),
-        _ => Err(Stop::Usage(Some("counters wants one TRACE"))),
+        _ => Err(Stop::Usage("counters wants one TRACE")),
     }
 }
 
@@ -75,9 +74,9 @@ fn walk_command<R: Files + AllocGlobal, W: Write>(
         [path, rest @ ..] if 1 <= rest.len() && rest.len() <= 3 => {
             translation::walk(rt, out, arguments::path(path.as_str())?, rest)
         }
-        _ => Err(Stop::Usage(Some(
+        _ => Err(Stop::Usage(
             "walk wants a TRACE and an ADDRESS, then a kind of access and a level if you like",
-        ))),
+        )),
     }
 }
 
@@ -107,15 +106,15 @@ fn census_command<R: Files + AllocGlobal, W: Write>(
         [path, rest @ ..] if 2 <= rest.len() && rest.len() <= 3 => {
             pages::census(rt, out, arguments::path(path.as_str())?, rest, form)
         }
-        _ => Err(Stop::Usage(Some(
+        _ => Err(Stop::Usage(
             "census wants a TRACE, a FIRST address and a number of PAGES, then a level and --svg if you like",
-        ))),
+        )),
     }
 }
 
 fn chord_command<W: Write>(alloc: Global, out: &mut W, words: &[String]) -> Result<(), Stop> {
     if !words.is_empty() {
-        return Err(Stop::Usage(Some("chord wants nothing more")));
+        return Err(Stop::Usage("chord wants nothing more"));
     }
     let mut ram = memory::zeros(alloc)?;
     chord::story::tell(out, ram.as_mut_slice())?;
@@ -136,7 +135,7 @@ fn command<R: Files + AllocGlobal, W: Write>(
     terminal: bool,
 ) -> Result<(), Stop> {
     let Some((name, rest)) = words.split_first() else {
-        return Err(Stop::Usage(None));
+        return Err(Stop::NoCommand);
     };
     match name.as_str() {
         "run" => run_command(rt, out, rest)?,
@@ -146,7 +145,7 @@ fn command<R: Files + AllocGlobal, W: Write>(
         "chord" => chord_command(rt.alloc(), out, rest)?,
         "help" | "--help" | "-h" => help(out)?,
         "--version" => writeln!(out, "a72 {VERSION}")?,
-        _ => return Err(Stop::Usage(Some("no such command"))),
+        _ => return Err(Stop::Usage("no such command")),
     }
     out.flush()?;
     Ok(())

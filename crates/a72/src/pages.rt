@@ -6,9 +6,8 @@ use census_report::report;
 use census_report::report::Form;
 use std::io::Write;
 use std::rt::Files;
-use trace_core::memory;
+use trace_core::machine::Machine;
 use trace_file::run;
-use words::place::WORDS;
 
 // What is asked: the first address, the pages, and a level where it is not the core's own.
 #[derive(Clone, Copy)]
@@ -44,16 +43,13 @@ pub fn census<R: Files + AllocGlobal, W: Write>(
     form: Form,
 ) -> Result<(), Stop> {
     let q = asked(words)?;
-    let mut state = [0u64; WORDS];
-    let mut bytes = memory::zeros(rt.alloc())?;
-    let ram = bytes.as_mut_slice();
-    let m = run::silently(rt, path, &mut state, ram)?;
+    let mut machine = Machine::new(rt.alloc())?;
+    run::silently(rt, path, &mut machine)?;
     if let Some(level) = q.level {
-        calls::a72_level(&mut state, level);
+        calls::a72_level(&mut machine.state, level);
     }
-    if m.len <= ram.len() {
-        let found = report::census(&state, m.base, &ram[..m.len], q.first, q.pages)?;
-        report::show(out, rt.alloc(), &found, form)?;
-    }
+    let ram = machine.ram.as_slice();
+    let found = report::census(&machine.state, machine.base, ram, q.first, q.pages)?;
+    report::show(out, rt.alloc(), &found, form)?;
     Ok(())
 }

@@ -1,67 +1,45 @@
 // What keeps a command from being carried out, and what is said of it on standard error.
 use census_report::report::Refused;
 use std::alloc::{AllocError, Global};
+use std::io;
 use std::io::Write;
-use std::{fmt, io};
+use thiserror::Error;
 use trace_file::report;
 use trace_file::report::Trouble;
 
 // An argument that is no such thing.
-#[derive(Clone, Copy)]
+#[derive(Clone, Copy, Debug, Error)]
 pub enum Wrong {
+    #[error("{0}: not a hexadecimal number of 64 bits")]
     Number(&'static str),
+    #[error("LEVEL: 0, 1, 2 or 3")]
     Level,
+    #[error("the kind of access is read, write or fetch")]
     Kind,
+    #[error("TRACE: File name too long")]
     LongPath,
+    #[error("an argument is not text in UTF-8")]
     NotText,
 }
 
-impl fmt::Display for Wrong {
-    fn fmt<W: fmt::Write>(&self, f: &mut fmt::Formatter<W>) -> fmt::Result {
-        match self {
-            Wrong::Number(name) => write!(f, "{name}: not a hexadecimal number of 64 bits"),
-            Wrong::Level => f.write_str("LEVEL: 0, 1, 2 or 3"),
-            Wrong::Kind => f.write_str("the kind of access is read, write or fetch"),
-            Wrong::LongPath => f.write_str("TRACE: File name too long"),
-            Wrong::NotText => f.write_str("an argument is not text in UTF-8"),
-        }
-    }
-}
-
-#[derive(Clone, Copy)]
+#[derive(Clone, Copy, Debug, Error)]
 pub enum Stop {
+    #[error("no command")]
+    NoCommand,
     // a wrong call, and what is wrong with it
-    Usage(Option<&'static str>),
-    Argument(Wrong),
-    Trace(Trouble),
-    Census(Refused),
+    #[error("{0}")]
+    Usage(&'static str),
+    #[error(transparent)]
+    Argument(#[from] Wrong),
+    #[error("a trace")]
+    Trace(#[from] Trouble),
+    #[error(transparent)]
+    Census(#[from] Refused),
     // standard output takes no more
-    Output(io::Error),
-    Memory,
-}
-
-impl From<AllocError> for Stop {
-    fn from(_error: AllocError) -> Stop {
-        Stop::Memory
-    }
-}
-
-impl From<io::Error> for Stop {
-    fn from(error: io::Error) -> Stop {
-        Stop::Output(error)
-    }
-}
-
-impl From<Trouble> for Stop {
-    fn from(trouble: Trouble) -> Stop {
-        Stop::Trace(trouble)
-    }
-}
-
-impl From<Refused> for Stop {
-    fn from(refused: Refused) -> Stop {
-        Stop::Census(refused)
-    }
+    #[error("write: {0}")]
+    Output(#[from] io::Error),
+    #[error("out of memory")]
+    Memory(#[from] AllocError),
 }
 
 pub fn usage<W: Write>(out: &mut W) -> io::Result<()> {
@@ -79,15 +57,13 @@ pub fn usage<W: Write>(out: &mut W) -> io::Result<()> {
 // The message; the path is that of the command's trace.
 pub fn show<W: Write>(out: &mut W, alloc: Global, path: &str, stop: Stop) -> io::Result<()> {
     match stop {
-        Stop::Usage(None) => usage(out),
-        Stop::Usage(Some(why)) => {
+        Stop::NoCommand => usage(out),
+        Stop::Usage(why) => {
             writeln!(out, "a72: {why}")?;
             usage(out)
         }
-        Stop::Argument(wrong) => writeln!(out, "a72: {wrong}"),
         Stop::Trace(trouble) => report::show(out, alloc, path, trouble),
-        Stop::Census(refused) => writeln!(out, "a72: {refused}"),
         Stop::Output(error) => report::system(out, alloc, "write", error),
-        Stop::Memory => writeln!(out, "a72: out of memory"),
+        _ => writeln!(out, "a72: {stop}"),
     }
 }

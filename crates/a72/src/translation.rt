@@ -5,10 +5,9 @@ use a72abi::calls;
 use std::io::Write;
 use std::rt::Files;
 use tlb::access::Kind;
-use trace_core::memory;
+use trace_core::machine::Machine;
 use trace_file::run;
 use walk_report::explain;
-use words::place::WORDS;
 
 // What is asked: the address, the kind, and a level where it is not the core's own.
 #[derive(Clone, Copy)]
@@ -49,15 +48,19 @@ pub fn walk<R: Files + AllocGlobal, W: Write>(
     words: &[String],
 ) -> Result<(), Stop> {
     let q = asked(words)?;
-    let mut state = [0u64; WORDS];
-    let mut bytes = memory::zeros(rt.alloc())?;
-    let ram = bytes.as_mut_slice();
-    let m = run::silently(rt, path, &mut state, ram)?;
+    let mut machine = Machine::new(rt.alloc())?;
+    run::silently(rt, path, &mut machine)?;
+    let state = &mut machine.state;
     if let Some(level) = q.level {
-        calls::a72_level(&mut state, level);
+        calls::a72_level(state, level);
     }
-    if m.len <= ram.len() {
-        explain::explain(out, &mut state, m.base, &mut ram[..m.len], q.kind, q.va)?;
-    }
+    explain::explain(
+        out,
+        state,
+        machine.base,
+        machine.ram.as_mut_slice(),
+        q.kind,
+        q.va,
+    )?;
     Ok(())
 }

@@ -183,9 +183,9 @@ fn store(state: &mut State, base: u64, ram: &mut [u8], va: u64, size: u64, value
     reply::words_by(n, 0, 0, 9, v, 1)
 }
 
-// The operation that a call is.
+// A call, carried out: its answer in four words.
 #[tactic(auto, unfolding(cpu::specs::Step::ramAfter, cpu::specs::Step::ramOf))]
-fn step(state: &mut State, base: u64, ram: &mut [u8], call: Call) -> [u64; 4]
+pub fn step(state: &mut State, base: u64, ram: &mut [u8], call: Call) -> [u64; 4]
     ensures steps { Steps call base ram.old state.old result state.new }
     ensures ram_after { ram.new ≡ ramAfter (core_of state.old) base ram.old call }
 {

@@ -54,12 +54,6 @@ pub fn row_bytes(g: Grid) -> u64 {
     g.per % 32 * 0x4_0000
 }
 
-fn least(a: u64, b: u64) -> u64
-    ensures { result ≡ min a b }
-{
-    if a < b { a } else { b }
-}
-
 // A cell's letter: a census of its own pages.
 fn cell(state: &State, base: u64, ram: &[u8], start: u64, from: u64, pages: u64) -> u8 {
     let mut counts = [0u64; 129];
@@ -78,7 +72,7 @@ pub fn fill(state: &State, base: u64, ram: &[u8], g: Grid, cells: &mut [u8; 4096
     let mut from = 0u64;
     let mut i: usize = 0;
     while from < pages && i < CELLS {
-        let n = least(per, pages - from);
+        let n = per.min(pages - from);
         cells[i] = cell(state, base, ram, start, from, n);
         from += n;
         i += 1;

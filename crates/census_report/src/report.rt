@@ -6,13 +6,13 @@ use a72abi::inspect;
 use std::alloc::Global;
 use std::io::Write;
 use std::{fmt, io};
+use walk::regime::Regime;
 use walk_report::explain;
 use words::place::State;
 use words::state;
-use walk::regime::Regime;
 
 // Why there is no census.
-#[derive(Clone, Copy)]
+#[derive(Clone, Copy, Debug)]
 pub enum Refused {
     Level,
     Window,

@@ -2,22 +2,22 @@
 use crate::total;
 use std::io;
 use std::io::Write;
+use tlb::count::Tally;
 
 // The sum is named where it did not wrap.
-pub fn show<W: Write>(out: &mut W, levels: &[u64; 8], whole: bool) -> io::Result<()> {
-    let walks = [levels[1], levels[3], levels[5], levels[7]];
-    let most = walks[0].max(walks[1]).max(walks[2].max(walks[3]));
+pub fn show<W: Write>(out: &mut W, levels: &[Tally; 4], whole: bool) -> io::Result<()> {
+    let most = levels.iter().map(|level| level.walks).max().unwrap_or(0);
     if most == 0 {
         return writeln!(out, "nothing was walked");
     }
     let mut before = "";
-    for level in 0..4usize {
-        if walks[level] == most {
+    for (level, tally) in levels.iter().enumerate() {
+        if tally.walks == most {
             write!(out, "{before}EL{level}")?;
             before = " and ";
         }
     }
-    if walks.iter().filter(|w| **w == most).count() == 1 {
+    if levels.iter().filter(|level| level.walks == most).count() == 1 {
         write!(out, " walks most: {most}")?;
     } else {
         write!(out, " walk most: each {most}")?;

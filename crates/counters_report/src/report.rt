@@ -2,6 +2,7 @@
 use crate::{most, share, total};
 use std::io::Write;
 use std::{fmt, io};
+use tlb::count::{Counts, Tally};
 
 // Counters below this have at most eleven digits, and sums twelve.
 const NARROW: u64 = 0x10_0000_0000;
@@ -11,78 +12,68 @@ const SUMS_FIT: u64 = 0x4000_0000_0000_0000;
 
 // Two counts of a row, right-aligned in their columns, narrow or wide.
 #[derive(Clone, Copy)]
-struct Counts {
-    hits: u64,
-    walks: u64,
+struct Pair {
+    tally: Tally,
     narrow: bool,
 }
 
-impl fmt::Display for Counts {
+impl fmt::Display for Pair {
     fn fmt<W: fmt::Write>(&self, f: &mut fmt::Formatter<W>) -> fmt::Result {
+        let Tally { hits, walks } = self.tally;
         if self.narrow {
-            write!(f, "{:>13}{:>13}", self.hits, self.walks)
+            write!(f, "{hits:>13}{walks:>13}")
         } else {
-            write!(f, "{:>22}{:>22}", self.hits, self.walks)
+            write!(f, "{hits:>22}{walks:>22}")
         }
     }
 }
 
 // The share of walks in percent with one decimal, and a bar of forty cells.
 #[derive(Clone, Copy)]
-struct Share {
-    hits: u64,
-    walks: u64,
-}
+struct Share(Tally);
 
 impl fmt::Display for Share {
     fn fmt<W: fmt::Write>(&self, f: &mut fmt::Formatter<W>) -> fmt::Result {
-        let s = share::of_walks(self.hits, self.walks);
-        if s == 0 && self.walks != 0 {
+        let Tally { hits, walks } = self.0;
+        let s = share::of_walks(hits, walks);
+        if s == 0 && walks != 0 {
             f.write_str("    <0.1")?;
         } else {
             write!(f, "{:>6}.{}", s / 10, s % 10)?;
         }
-        let n = share::cells(s, self.walks);
+        let n = share::cells(s, walks);
         let rest = 40 - n;
         write!(f, "%  {:#>n$}{:.>rest$}", "", "")
     }
 }
 
 // Two counts, and the share of walks; no share of nothing.
-fn row<W: Write>(out: &mut W, counts: Counts) -> io::Result<()> {
-    let Counts { hits, walks, .. } = counts;
+fn row<W: Write>(out: &mut W, pair: Pair) -> io::Result<()> {
+    let Tally { hits, walks } = pair.tally;
     if hits == 0 && walks == 0 {
-        writeln!(out, "{counts}        -")
+        writeln!(out, "{pair}        -")
     } else {
-        writeln!(out, "{counts}{}", Share { hits, walks })
+        writeln!(out, "{pair}{}", Share(pair.tally))
     }
 }
 
-// The counters of EL0 to EL3 as hits, walks, hits, walks, ..; and those that are not kept by level.
-#[derive(Clone, Copy)]
-pub struct Counters {
-    pub levels: [u64; 8],
-    pub flushes: u64,
-    pub drops: u64,
-    pub epoch: u64,
-}
-
 // A row for each level, then the sums, with a share where none wrapped.
-fn rows<W: Write>(out: &mut W, levels: &[u64; 8], narrow: bool, whole: bool) -> io::Result<()> {
-    for level in 0..4usize {
+fn rows<W: Write>(out: &mut W, levels: &[Tally; 4], narrow: bool, whole: bool) -> io::Result<()> {
+    for (level, tally) in levels.iter().enumerate() {
         write!(out, "  EL{level}")?;
         row(
             out,
-            Counts {
-                hits: levels[2 * level],
-                walks: levels[2 * level + 1],
+            Pair {
+                tally: *tally,
                 narrow,
             },
         )?;
     }
-    let all = Counts {
-        hits: total::hits(levels),
-        walks: total::walks(levels),
+    let all = Pair {
+        tally: Tally {
+            hits: total::hits(levels),
+            walks: total::walks(levels),
+        },
         narrow,
     };
     write!(out, "  all")?;
@@ -93,7 +84,7 @@ fn rows<W: Write>(out: &mut W, levels: &[u64; 8], narrow: bool, whole: bool) -> 
     }
 }
 
-pub fn show<W: Write>(out: &mut W, c: &Counters) -> io::Result<()> {
+pub fn show<W: Write>(out: &mut W, c: &Counts) -> io::Result<()> {
     let bits = total::bits(&c.levels);
     let whole = bits < SUMS_FIT;
     let narrow = bits < NARROW;

@@ -1,5 +1,7 @@
-// Sums over the levels. The counters of EL0 to EL3 stand as hits, walks, hits, walks, ..
-ghost use Rattle.std.specs.Prelude.{◌≡◌, ◌+◌, ◌%◌, ◌^◌, slice_index};
+// Sums over the levels, EL0 to EL3.
+ghost use Rattle.std.specs.Prelude.{◌≡◌, ◌+◌, ◌%◌, ◌^◌, sum_by};
+
+use tlb::count::Tally;
 
 fn of_four(a: u64, b: u64, c: u64, d: u64) -> u64
     ensures { result ≡ (a + b + c + d) % 2 ^ 64 }
@@ -8,23 +10,23 @@ fn of_four(a: u64, b: u64, c: u64, d: u64) -> u64
 }
 
 // The hits of all levels, wrapped at 2^64 as the counters are.
-pub fn hits(levels: &[u64; 8]) -> u64
-    ensures { result ≡ (slice_index levels.now 0 + slice_index levels.now 2
-        + slice_index levels.now 4 + slice_index levels.now 6) % 2 ^ 64 }
+pub fn hits(levels: &[Tally; 4]) -> u64
+    ensures { result ≡ sum_by (λ level. level.hits) levels.now % 2 ^ 64 }
 {
-    of_four(levels[0], levels[2], levels[4], levels[6])
+    let [el0, el1, el2, el3] = *levels;
+    of_four(el0.hits, el1.hits, el2.hits, el3.hits)
 }
 
-pub fn walks(levels: &[u64; 8]) -> u64
-    ensures { result ≡ (slice_index levels.now 1 + slice_index levels.now 3
-        + slice_index levels.now 5 + slice_index levels.now 7) % 2 ^ 64 }
+pub fn walks(levels: &[Tally; 4]) -> u64
+    ensures { result ≡ sum_by (λ level. level.walks) levels.now % 2 ^ 64 }
 {
-    of_four(levels[1], levels[3], levels[5], levels[7])
+    let [el0, el1, el2, el3] = *levels;
+    of_four(el0.walks, el1.walks, el2.walks, el3.walks)
 }
 
-// Every bit that one of the eight has: below a power of two where they all are.
-pub fn bits(levels: &[u64; 8]) -> u64 {
-    let hits = levels[0] | levels[2] | levels[4] | levels[6];
-    let walks = levels[1] | levels[3] | levels[5] | levels[7];
-    hits | walks
+// Every bit that one of the eight counters has: below a power of two where they all are.
+pub fn bits(levels: &[Tally; 4]) -> u64 {
+    levels
+        .iter()
+        .fold(0, |bits, level| bits | level.hits | level.walks)
 }

@@ -1,4 +1,5 @@
--- The core without a cache answers by the fresh answer of the address (walk/specs/Fresh.antt), which AT and the page census go by too.
+-- The core without a cache answers by the fresh answer of the address (walk/specs/Fresh.antt), which AT and the page
+-- census go by too.
 use Rattle.std.specs.Prelude.{◌≡◌, refl, Bool, true, false, ℕ}
 use Rattle.word.specs.Bits.{pick}
 use Rattle.walk.specs.Regime.{bankOf}

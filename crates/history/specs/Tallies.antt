@@ -1,6 +1,6 @@
--- The counters of each level over a history: from the plain model alone, every translation made, at which level and how it was answered. What
--- stands in the counters of a level is the number of those made at it that a line answered, that were walked; and the sums of the four levels
--- move as the Rust's two counters.
+-- The counters of each level over a history: from the plain model alone, every translation made, at which level and how
+-- it was answered. What stands in the counters of a level is the number of those made at it that a line answered, that
+-- were walked; and the sums of the four levels move as the Rust's two counters.
 use Rattle.std.specs.Prelude.{◌≡◌, Bool, ◌&&◌, List, [], ◌∷◌, ◌++◌, ℕ, ◌+◌, ◌%◌, ◌^◌, ◌≤◌, ◌<◌, ◌==◌}
 use Rattle.std.proofs.Math.Path.{refl}
 use Rattle.std.proofs.Common.{sym, ap, ◌∙◌, arith}

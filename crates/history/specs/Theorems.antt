@@ -71,7 +71,8 @@ every_answer_modelled =
 
 -- the ASID that the cache holds is that of the registers
 abbrev pub every_asid_current : Type 0
-every_asid_current = (past : History) → (tlbRun real freshPlain past fresh).cache.current.asid ≡ asidOf (plain_after past).regs
+every_asid_current =
+    (past : History) → (tlbRun real freshPlain past fresh).cache.current.asid ≡ asidOf (plain_after past).regs
 
 -- THE COUNTERS that the model has after a history from any start
 
@@ -79,13 +80,15 @@ every_asid_current = (past : History) → (tlbRun real freshPlain past fresh).ca
 abbrev pub hits_by_level : Type 0
 hits_by_level =
     (past : History) (c : Plain real) (u : Model) (l : ℕ) → u.counts.hits l < 2 ^ 64
-    → (modelRun real c past u).counts.hits l ≡ (u.counts.hits l + howMany (at l byLine) (madeRun real c past u)) % 2 ^ 64
+    → (modelRun real c past u).counts.hits l
+    ≡ (u.counts.hits l + howMany (at l byLine) (madeRun real c past u)) % 2 ^ 64
 
 -- by those that were walked
 abbrev pub walks_by_level : Type 0
 walks_by_level =
     (past : History) (c : Plain real) (u : Model) (l : ℕ) → u.counts.walks l < 2 ^ 64
-    → (modelRun real c past u).counts.walks l ≡ (u.counts.walks l + howMany (at l byWalk) (madeRun real c past u)) % 2 ^ 64
+    → (modelRun real c past u).counts.walks l
+    ≡ (u.counts.walks l + howMany (at l byWalk) (madeRun real c past u)) % 2 ^ 64
 
 -- the sums of the four levels move as the Rust's two counters
 abbrev pub sums_as_rust : Type 0
@@ -97,7 +100,8 @@ sums_as_rust =
 abbrev pub other_levels_stay : Type 0
 other_levels_stay =
     (past : History) (c : Plain real) (u : Model) (l : ℕ) → Each (λ (x : Made). l ≡ x.level → ⊥) (madeRun real c past u)
-    → ((modelRun real c past u).counts.hits l ≡ u.counts.hits l) × ((modelRun real c past u).counts.walks l ≡ u.counts.walks l)
+    → ((modelRun real c past u).counts.hits l ≡ u.counts.hits l)
+    × ((modelRun real c past u).counts.walks l ≡ u.counts.walks l)
 
 -- THE PREMISE
 
@@ -116,7 +120,8 @@ settled_by_steps =
 -- and where the history leaves it to the ASID of now
 abbrev pub settled_by_asid : Type 0
 settled_by_asid =
-    (past : History) (m : Ram) (r : Regime) (p : ℕ) → Own real freshPlain past m r p → Settled real freshPlain past m r p
+    (past : History) (m : Ram) (r : Regime) (p : ℕ) → Own real freshPlain past m r p
+    → Settled real freshPlain past m r p
 
 -- NEIGHBOURS: histories that come to the same registers, level and mark, and leave the address's page to one ASID, give
 -- it one answer, on RAMs of one window that agree on the bytes of each descriptor that its walk fetches.
@@ -139,7 +144,8 @@ same_for_neighbours =
 -- answers by the fresh answer that AT and the page census go by
 abbrev pub uncached_is_fresh : Type 0
 uncached_is_fresh =
-    (c : Plain real) (m : Ram) (k : Kind) (va : ℕ) → uncached real c m k va ≡ freshAnswer (freshNow c m va) (needNow real c k)
+    (c : Plain real) (m : Ram) (k : Kind) (va : ℕ)
+    → uncached real c m k va ≡ freshAnswer (freshNow c m va) (needNow real c k)
     va
 
 -- and by the manual's permission check on what the walk of now finds

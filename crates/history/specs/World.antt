@@ -40,7 +40,7 @@ pub record LeavesEqual (ℓ ℓ' : Leaf) : Type 0 where
 -- later All or flush; by a Page whose low 44 bits agree with its page's above the lowest 18, 9 or 0 bits for level 1,
 -- 2, 3; by an Asid equal to the ASID in force at that walk, if it isn't global." The premise's own reading, on purpose:
 -- what the plain model drops of its lines is said in tlb/specs/Model.antt, what the cache drops in
--- tlb/specs/Cache.antt, and `same-cover` (Traced.antt) and tlb/specs/Refines.antt show that they agree.
+-- tlb/specs/Cache.antt, and `same-cover` (proofs/Traced.antt) and tlb/specs/Refines.antt show that they agree.
 unfoldable pub covers : Inval → ℕ → Leaf → ℕ → Bool
 covers All p ℓ a = true
 covers (Page n) p ℓ a = p % 2 ^ 44 / 2 ^ spanBits ℓ.level == n % 2 ^ 44 / 2 ^ spanBits ℓ.level

@@ -10,8 +10,8 @@ ghost use Rattle.history.specs.Theorems.{settled_when_off, settled_by_steps, set
 ghost use Rattle.history.specs.Theorems.{uncached_is_fresh, uncached_is_checked};
 
 /// The real registers and walk keep the laws that the theory of histories rests on: a register write that leaves
-/// `shaping` as it was can change neither whether stage 1 is on nor the tags, and the addresses of one page have
-/// equal walks. A walk that read the address below its page, or a `shaping` without a bit that `untag` reads, breaks them.
+/// `shaping` as it was can change neither whether stage 1 is on nor the tags, and the addresses of one page have equal
+/// walks. A walk that read the address below its page, or a `shaping` without a bit that `untag` reads, breaks them.
 pub fn registers_and_walk()
     ensures laws { Laws real }
 {}
@@ -26,7 +26,8 @@ pub fn every_history()
 
 /// Without any premise, after every history: each answer comes from the walk of now or from an earlier walk of the page
 /// that no invalidation since covers, the manual's permission check judges it on what that walk found, and its fault
-/// has a status of the table. Rules out a hint that answers an access which its page does not allow, and a made-up status.
+/// has a status of the table. Rules out a hint that answers an access which its page does not allow, and a made-up
+/// status.
 pub fn every_answer()
     ensures origin { every_origin }
     ensures judged { every_judgement }
@@ -34,7 +35,8 @@ pub fn every_answer()
 {}
 
 /// After every history the cache stands for the plain model of it, answers as the model does, and holds the ASID of the
-/// registers. Rules out a core that walks each time and reports counters that it made up, and one that repeats old hints.
+/// registers. Rules out a core that walks each time and reports counters that it made up, and one that repeats old
+/// hints.
 pub fn every_cache()
     ensures modelled { every_cache_modelled }
     ensures answers { every_answer_modelled }
@@ -42,7 +44,8 @@ pub fn every_cache()
 {}
 
 /// The counters of a level move by the translations that a history made at that level, modulo 2^64, those of other
-/// levels stay, and the sums are the Rust's two counters. Rules out a hit counted twice, not at all, or at another level.
+/// levels stay, and the sums are the Rust's two counters. Rules out a hit counted twice, not at all, or at another
+/// level.
 pub fn every_count()
     ensures hits { hits_by_level }
     ensures walks { walks_by_level }

@@ -4,7 +4,8 @@ use Rattle.std.proofs.Common.{refl, sym}
 use Rattle.mmu.specs.declared.core_state.Core.{Core}
 use Rattle.cpu.specs.Step.{Stepped, step_of, ramOf, ramAfter, refusedOr, missedBy}
 use Rattle.operations.specs.declared.call.Call.{Call}
-use Rattle.transparency.specs.Faithful.{FaithfulCall, faithful-step}
+use Rattle.transparency.specs.Faithful.{FaithfulCall}
+use Rattle.transparency.proofs.Faithful.{faithful-step}
 
 pub faithful_store : (c : Core) (base : ℕ) (ram : List ℕ) (x : Call) (r : Stepped) (after : List ℕ) → r ≡ step_of c base ram x
     → after ≡ ramAfter c base ram x → FaithfulCall c base ram x r after

@@ -1,52 +1,53 @@
 // The summary: each record, operations by kind and answer, cases by class.
-use crate::tables::Answer;
-use crate::{tables, tally};
-use std::io;
+use crate::tables;
+use crate::tables::{Answer, KINDS, Kind};
+use crate::tally::{ANSWERS, Tally};
 use std::io::Write;
+use std::{fmt, io};
 
-// What all records came to.
-#[derive(Clone, Copy)]
-pub struct Total {
-    pub files: u64,
+// What a record came to, or all of them: operations replayed and left out, cases, differences.
+#[derive(Clone, Copy, Default)]
+pub struct Counts {
     pub done: u64,
     pub left: u64,
     pub cases: u64,
     pub wrong: u64,
 }
 
-// A record's line: operations replayed and left out, cases, differences.
-pub fn file<W: Write>(out: &mut W, done: u64, left: u64, cases: u64, wrong: u64) -> io::Result<()> {
-    let start = if wrong == 0 { ": " } else { "\n  " };
-    write!(out, "{start}{done} operations")?;
-    if left != 0 {
-        write!(out, ", {left} left out")?;
+impl Counts {
+    pub fn add(&mut self, more: &Counts) {
+        self.done = self.done.wrapping_add(more.done);
+        self.left = self.left.wrapping_add(more.left);
+        self.cases = self.cases.wrapping_add(more.cases);
+        self.wrong = self.wrong.wrapping_add(more.wrong);
     }
-    if cases != 0 {
-        write!(out, ", {cases} cases")?;
-    }
-    writeln!(out, ", {wrong} differences")
 }
 
-// How often a kind gave any answer.
-fn sum_of(kind: u64, counts: &[u64; 2048]) -> u64 {
-    let mut sum = 0u64;
-    for class in 0..tally::CLASSES {
-        sum = sum.wrapping_add(tally::at(kind, class, counts));
+// A record's line.
+impl fmt::Display for Counts {
+    fn fmt<W: fmt::Write>(&self, f: &mut fmt::Formatter<W>) -> fmt::Result {
+        let start = if self.wrong == 0 { ": " } else { "\n  " };
+        write!(f, "{start}{} operations", self.done)?;
+        if self.left != 0 {
+            write!(f, ", {} left out", self.left)?;
+        }
+        if self.cases != 0 {
+            write!(f, ", {} cases", self.cases)?;
+        }
+        write!(f, ", {} differences", self.wrong)
     }
-    sum
 }
 
 // A kind, how often it was asked for, and how often it gave each answer.
-fn row<W: Write>(out: &mut W, kind: u64, counts: &[u64; 2048]) -> io::Result<()> {
-    let sum = sum_of(kind, counts);
+fn row<W: Write>(out: &mut W, kind: Kind, name: &str, counts: &[u64; ANSWERS]) -> io::Result<()> {
+    let sum = counts.iter().fold(0u64, |sum, n| sum.wrapping_add(*n));
     if sum == 0 {
         return Ok(());
     }
-    write!(out, "{} {sum}", tables::kind_name(kind))?;
+    write!(out, "{name} {sum}")?;
     let mut before = "  ";
-    for class in 0..tally::CLASSES {
-        let n = tally::at(kind, class, counts);
-        if n != 0 {
+    for (class, n) in counts.iter().enumerate() {
+        if *n != 0 {
             write!(out, "{before}{} {n}", Answer { kind, class })?;
             before = ", ";
         }
@@ -54,27 +55,26 @@ fn row<W: Write>(out: &mut W, kind: u64, counts: &[u64; 2048]) -> io::Result<()>
     writeln!(out)
 }
 
-fn class_row<W: Write>(out: &mut W, class: u64, counts: &[u64; 2048]) -> io::Result<()> {
-    let n = tally::cases_at(class, counts);
-    if n != 0 {
-        writeln!(out, "{} {n}", tables::class_name(class))?;
-    }
-    Ok(())
-}
-
-// The whole summary.
-pub fn all<W: Write>(out: &mut W, t: Total, counts: &[u64; 2048]) -> io::Result<()> {
+// The whole summary of some records.
+pub fn all<W: Write>(out: &mut W, records: u64, all: &Counts, tally: &Tally) -> io::Result<()> {
     writeln!(out, "\nRecorded answers, by operation:")?;
-    for kind in 0..tally::KINDS {
-        row(out, kind, counts)?;
+    for (kind, name) in KINDS {
+        row(out, kind, name, tally.row(kind))?;
     }
     writeln!(out, "\nOutside vectors, by class of difference:")?;
-    for class in 0..tally::CASE_CLASSES {
-        class_row(out, class, counts)?;
+    for (class, n) in tally.cases().iter().enumerate() {
+        if *n != 0 {
+            writeln!(out, "{} {n}", tables::class_name(class))?;
+        }
     }
+    write!(
+        out,
+        "\n{records} records, {} operations, {} left out",
+        all.done, all.left
+    )?;
     writeln!(
         out,
-        "\n{} records, {} operations, {} left out, {} outside cases; differences {}",
-        t.files, t.done, t.left, t.cases, t.wrong
+        ", {} outside cases; differences {}",
+        all.cases, all.wrong
     )
 }

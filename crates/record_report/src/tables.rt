@@ -1,29 +1,102 @@
 // Names of kinds of operation, of answers, and of classes of difference (outside/README.md).
+use operations::call::{Call, Encoding};
 use std::fmt;
+use tlb::access::Kind as Access;
+use trace_text::line;
+use trace_text::line::Operation;
 
-const KINDS: [&str; 21] = [
-    "abort",
-    "census",
-    "dpa",
-    "fpa",
-    "if",
-    "l-walk",
-    "ld",
-    "leaf",
-    "level",
-    "mark",
-    "poke",
-    "reg",
-    "st",
-    "sys AT",
-    "sys DC ZVA",
-    "sys TLBI",
-    "sys other",
-    "tr fetch",
-    "tr read",
-    "tr write",
-    "x",
+// A kind of operation, in the order of the names.
+#[derive(Clone, Copy)]
+pub enum Kind {
+    Abort,
+    Census,
+    DataPa,
+    FetchPa,
+    Fetch,
+    LeafWalk,
+    Load,
+    Leaf,
+    Level,
+    Mark,
+    Poke,
+    Register,
+    Store,
+    At,
+    ZeroBlock,
+    Tlbi,
+    OtherSystem,
+    TranslateFetch,
+    TranslateRead,
+    TranslateWrite,
+    General,
+}
+
+pub const KINDS: [(Kind, &str); 21] = [
+    (Kind::Abort, "abort"),
+    (Kind::Census, "census"),
+    (Kind::DataPa, "dpa"),
+    (Kind::FetchPa, "fpa"),
+    (Kind::Fetch, "if"),
+    (Kind::LeafWalk, "l-walk"),
+    (Kind::Load, "ld"),
+    (Kind::Leaf, "leaf"),
+    (Kind::Level, "level"),
+    (Kind::Mark, "mark"),
+    (Kind::Poke, "poke"),
+    (Kind::Register, "reg"),
+    (Kind::Store, "st"),
+    (Kind::At, "sys AT"),
+    (Kind::ZeroBlock, "sys DC ZVA"),
+    (Kind::Tlbi, "sys TLBI"),
+    (Kind::OtherSystem, "sys other"),
+    (Kind::TranslateFetch, "tr fetch"),
+    (Kind::TranslateRead, "tr read"),
+    (Kind::TranslateWrite, "tr write"),
+    (Kind::General, "x"),
 ];
+
+impl Kind {
+    fn of_system(at: &Encoding) -> Kind {
+        if line::zeroes_block(at) {
+            Kind::ZeroBlock
+        } else if at.crn == 7 && at.crm == 8 {
+            Kind::At
+        } else if at.crn == 8 {
+            Kind::Tlbi
+        } else {
+            Kind::OtherSystem
+        }
+    }
+
+    fn of_call(call: &Call) -> Kind {
+        match call {
+            Call::Translate(Access::Read, _) => Kind::TranslateRead,
+            Call::Translate(Access::Write, _) => Kind::TranslateWrite,
+            Call::Translate(Access::Fetch, _) => Kind::TranslateFetch,
+            Call::DataPa(_) => Kind::DataPa,
+            Call::FetchPa(_) => Kind::FetchPa,
+            Call::Load(..) => Kind::Load,
+            Call::Store(..) => Kind::Store,
+            Call::Fetch(_) => Kind::Fetch,
+            Call::System(at) => Kind::of_system(at),
+            Call::Register(..) => Kind::Register,
+            Call::Level(_) => Kind::Level,
+            Call::Mark(_) => Kind::Mark,
+            Call::General(..) => Kind::General,
+            Call::Abort(_) => Kind::Abort,
+            Call::Census(..) => Kind::Census,
+        }
+    }
+
+    pub fn of(operation: &Operation) -> Kind {
+        match operation {
+            Operation::Call(call) => Kind::of_call(call),
+            Operation::Leaf(line::Leaf::Walk(..)) => Kind::LeafWalk,
+            Operation::Leaf(_) => Kind::Leaf,
+            Operation::Poke(_) => Kind::Poke,
+        }
+    }
+}
 
 const ANSWERS: [&str; 8] = [
     "ok",
@@ -66,25 +139,21 @@ const CLASSES: [&str; 26] = [
 ];
 
 // Name k of some, or "?" past the last.
-pub fn nth(names: &[&'static str], k: u64) -> &'static str {
-    names.get(k as usize).copied().unwrap_or("?")
-}
-
-pub fn kind_name(kind: u64) -> &'static str {
-    nth(&KINDS, kind)
+pub fn nth(names: &[&'static str], k: usize) -> &'static str {
+    names.get(k).copied().unwrap_or("?")
 }
 
 // The classes of outside/README.md, by number.
-pub fn class_name(class: u64) -> &'static str {
+pub fn class_name(class: usize) -> &'static str {
     nth(&CLASSES, class)
 }
 
 // What a status is called: PAR's of an AT, a fault's of a translation or a walk, an abort's of an access.
-fn status_word(kind: u64) -> &'static str {
+fn status_word(kind: Kind) -> &'static str {
     match kind {
-        4 => "insn",
-        6 | 12 | 14 => "data",
-        13 => "PAR",
+        Kind::Fetch => "insn",
+        Kind::Load | Kind::Store | Kind::ZeroBlock => "data",
+        Kind::At => "PAR",
         _ => "fault",
     }
 }
@@ -92,21 +161,18 @@ fn status_word(kind: u64) -> &'static str {
 // An answer of a kind of operation, by its place in the kind's row.
 #[derive(Clone, Copy)]
 pub struct Answer {
-    pub kind: u64,
-    pub class: u64,
+    pub kind: Kind,
+    pub class: usize,
 }
 
 impl fmt::Display for Answer {
     fn fmt<W: fmt::Write>(&self, f: &mut fmt::Formatter<W>) -> fmt::Result {
         let class = self.class;
-        if class < 8 {
-            f.write_str(nth(&ANSWERS, class))
-        } else if class < 16 {
-            write!(f, "no {}", class - 8)
-        } else if class < 80 {
-            write!(f, "{} {:02x}", status_word(self.kind), class - 16)
-        } else {
-            write!(f, "leaf {}", class % 4)
+        match class {
+            0..8 => f.write_str(nth(&ANSWERS, class)),
+            8..16 => write!(f, "no {}", class - 8),
+            16..80 => write!(f, "{} {:02x}", status_word(self.kind), class - 16),
+            _ => write!(f, "leaf {}", class % 4),
         }
     }
 }

@@ -73,6 +73,6 @@ const NAMES: [&str; AFTER] = [
 ];
 
 // The name of word i after the operation.
-pub fn name(i: u64) -> &'static str {
+pub fn name(i: usize) -> &'static str {
     tables::nth(&NAMES, i)
 }

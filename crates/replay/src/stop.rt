@@ -1,4 +1,5 @@
 // What ends a record.
+use std::alloc::AllocError;
 use std::{fmt, io};
 
 // A fault of the record itself.
@@ -38,5 +39,11 @@ pub enum Stop {
 impl From<io::Error> for Stop {
     fn from(error: io::Error) -> Stop {
         Stop::Output(error)
+    }
+}
+
+impl From<AllocError> for Stop {
+    fn from(error: AllocError) -> Stop {
+        Stop::Output(io::Error::from(error))
     }
 }

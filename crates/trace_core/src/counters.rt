@@ -1,26 +1,35 @@
-// The counters of the four levels, out of a core's words.
-ghost use Rattle.std.specs.Prelude.{◌≡◌, [], ◌∷◌, ◌+◌};
-ghost use Rattle.words.specs.CoreOf.{word};
-ghost use Rattle.words.specs.Places.{LEVEL-HITS, LEVEL-WALKS};
+// The counters out of a core's words.
+ghost use Rattle.std.specs.Prelude.{◌≡◌, ◌<◌};
+ghost use Rattle.words.specs.CoreOf.{core_of, tallyIn, word};
 
+use tlb::count::{Counts, Tally};
 use words::place;
 use words::place::State;
 
-// The hits and walks of EL0, of EL1, EL2 and EL3.
-pub fn by_level(state: &State) -> [u64; 8]
-    ensures { result ≡ word state.now LEVEL-HITS ∷ word state.now LEVEL-WALKS
-        ∷ word state.now (LEVEL-HITS + 1) ∷ word state.now (LEVEL-WALKS + 1)
-        ∷ word state.now (LEVEL-HITS + 2) ∷ word state.now (LEVEL-WALKS + 2)
-        ∷ word state.now (LEVEL-HITS + 3) ∷ word state.now (LEVEL-WALKS + 3) ∷ [] }
+fn tally(state: &State, level: usize) -> Tally
+    requires { level < 4 }
+    ensures { result ≡ tallyIn (word state.now) level }
 {
-    [
-        state[place::LEVEL_HITS],
-        state[place::LEVEL_WALKS],
-        state[place::LEVEL_HITS + 1],
-        state[place::LEVEL_WALKS + 1],
-        state[place::LEVEL_HITS + 2],
-        state[place::LEVEL_WALKS + 2],
-        state[place::LEVEL_HITS + 3],
-        state[place::LEVEL_WALKS + 3],
-    ]
+    Tally {
+        hits: state[place::LEVEL_HITS + level],
+        walks: state[place::LEVEL_WALKS + level],
+    }
+}
+
+// What the cache counted at each level, and in all.
+#[tactic(auto, unfolding(words::specs::CoreOf::core_of, words::specs::CoreOf::coreBy, words::specs::CoreOf::coreOn))]
+pub fn counts(state: &State) -> Counts
+    ensures { result ≡ (core_of state.now).tlb.counts }
+{
+    Counts {
+        levels: [
+            tally(state, 0),
+            tally(state, 1),
+            tally(state, 2),
+            tally(state, 3),
+        ],
+        flushes: state[place::FLUSHES],
+        drops: state[place::DROPS],
+        epoch: state[place::EPOCH],
+    }
 }

@@ -1,7 +1,7 @@
-// Lines that overwrite a part of the core: p-level, p-pc, p-spsel, p-gen, p-cnt, p-bc; w-word, w-hint, w-entry,
-// w-fetch.
+// Lines that overwrite a part of the core.
 use tlb::entry::Entry;
 use tlb::hint::Hint;
+use trace_text::line::{Part, Poke};
 use words::place::State;
 use words::{cells, counts, place, state};
 
@@ -94,25 +94,22 @@ fn put_word(words: &mut State, i: usize, v: u64) {
     }
 }
 
-// An entry of four words. No core holds a generation of more than 32 bits.
-fn put_entry(words: &mut State, slot: u64, op: &[u64; 8]) {
-    let j = (slot % 1024) as usize;
-    let bits = op[4];
-    if op[3] < 0x1_0000_0000 {
-        let e = Entry {
-            tag: op[2],
-            generation: op[3] as u32,
+// No core holds a generation of more than 32 bits: an entry of one is blank.
+fn put_entry(words: &mut State, slot: u16, tag: u64, generation: u64, bits: u64, pa: u64) {
+    let j = usize::from(slot) % 1024;
+    let e = match u32::try_from(generation) {
+        Ok(generation) => Entry {
+            tag,
+            generation,
             perms: (bits % 256) as u8,
             level: (bits / 256 % 256) as u8,
             global: bits / 65536 % 2 == 1,
             asid: (bits / 0x1_0000_0000 % 0x1_0000) as u16,
-            pa: op[5],
-        };
-        cells::put_entry(words, j, e);
-    } else {
-        let none = Entry::blank();
-        cells::put_entry(words, j, none);
-    }
+            pa,
+        },
+        Err(_) => Entry::blank(),
+    };
+    cells::put_entry(words, j, e);
 }
 
 fn put_fetch(words: &mut State, page: u64, level: u64, pa: u64) {
@@ -122,30 +119,30 @@ fn put_fetch(words: &mut State, page: u64, level: u64, pa: u64) {
     put(words, place::FETCH_PA, pa);
 }
 
-// A line of code 40 to 45.
-pub fn poke(words: &mut State, op: &[u64; 8]) {
-    match op[0] {
-        40 => put(words, place::LEVEL, op[1]),
-        41 => put(words, place::PC, op[1]),
-        42 => put(words, place::SPSEL, op[1]),
-        43 => move_generation(words, (op[1] % 0x1_0000_0000) as u32, false),
-        44 => put_counters(words, op[1]),
-        _ => take_broadcast(words),
+pub fn poke(words: &mut State, poke: Poke) {
+    match poke {
+        Poke::Level(level) => put(words, place::LEVEL, level),
+        Poke::Pc(pc) => put(words, place::PC, pc),
+        Poke::Spsel(on) => put(words, place::SPSEL, u64::from(on)),
+        Poke::Generation(to) => move_generation(words, to, false),
+        Poke::Counters(value) => put_counters(words, value),
+        Poke::Broadcast => take_broadcast(words),
     }
 }
 
-// A line of code 64 to 67.
-pub fn overwrite(words: &mut State, op: &[u64; 8]) {
-    match op[0] {
-        64 => put_word(words, op[1] as usize, op[2]),
-        65 => {
-            let h = Hint {
-                key: op[2],
-                pa: op[3],
-            };
-            cells::put_hint(words, (op[1] % 512) as usize, h);
+pub fn overwrite(words: &mut State, part: Part) {
+    match part {
+        Part::Word { place, value } => put_word(words, usize::from(place), value),
+        Part::Hint { slot, key, pa } => {
+            cells::put_hint(words, usize::from(slot) % 512, Hint { key, pa });
         }
-        66 => put_entry(words, op[1], op),
-        _ => put_fetch(words, op[1], op[2], op[3]),
+        Part::Entry {
+            slot,
+            tag,
+            generation,
+            bits,
+            pa,
+        } => put_entry(words, slot, tag, generation, bits, pa),
+        Part::FetchHint { page, level, pa } => put_fetch(words, page, level, pa),
     }
 }

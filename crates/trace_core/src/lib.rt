@@ -3,5 +3,5 @@
 pub mod counters;
 pub mod edits;
 pub mod leaves;
-pub mod line;
+pub mod machine;
 pub mod memory;

@@ -2,11 +2,9 @@
 ghost use Rattle.std.specs.Prelude.{◌≡◌, IfOk, vec_len};
 
 use std::alloc::{AllocError, Global};
+use trace_text::line::LONGEST_WINDOW;
 use word::ram;
 use word::ram::Width;
-
-// The longest window.
-pub const LONGEST: u64 = 0x20_0000;
 
 fn zeroed(alloc: Global, n: usize) -> Result<Vec<u8>, AllocError>
     ensures { IfOk result (λ ram. vec_len ram ≡ n) }
@@ -20,20 +18,7 @@ fn zeroed(alloc: Global, n: usize) -> Result<Vec<u8>, AllocError>
 pub fn zeros(alloc: Global) -> Result<Vec<u8>, AllocError>
     ensures { IfOk result (λ ram. vec_len ram ≡ 2097152) }
 {
-    zeroed(alloc, LONGEST as usize)
-}
-
-pub fn wipe(ram: &mut [u8]) {
-    ram.fill(0);
-}
-
-// The bytes from one place to another, where they are some of RAM's.
-pub fn wipe_part(ram: &mut [u8], from: usize, to: usize) {
-    if to <= ram.len() {
-        if from <= to {
-            wipe(&mut ram[from..to]);
-        }
-    }
+    zeroed(alloc, LONGEST_WINDOW)
 }
 
 fn poke_byte(base: u64, ram: &mut [u8], addr: u64, value: u64, i: u64) {

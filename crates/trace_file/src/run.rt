@@ -1,15 +1,14 @@
 // A trace from a file, line by line: checked, run with a line of output for each operation, or run in silence.
-use crate::report::{Place, Trouble};
+use crate::report::Trouble;
 use crate::source::Next;
 use crate::{show, source};
 use std::io::{BufRead, BufReader, Seek, Write};
 use std::rt::Files;
 use std::{fs, io};
-use trace_core::line::Machine;
-use trace_core::{line, memory};
+use trace_core::machine::Machine;
+use trace_text::line::Line;
 use trace_text::parse;
-use trace_text::parse::{Line, Reason};
-use words::place::State;
+use trace_text::reason::{Reason, Refusal};
 
 // What is done with each line.
 #[derive(Clone, Copy)]
@@ -19,112 +18,48 @@ pub enum Mode {
     Silent,
 }
 
-// The window as the lines left it, and its digest.
-#[derive(Clone, Copy)]
-pub struct Turn {
-    pub machine: Machine,
-    pub ram: u64,
-}
-
 // No trace has more lines.
 pub const LINES: u64 = 1_000_000_000;
 
-// A line's code from here on is no operation.
-const AROUND: u64 = 60;
-
-// The code of a window, and its length's place.
-const WINDOW: u64 = 61;
-
-const LENGTH: usize = 2;
-
-fn refused(line: u64, column: usize, reason: Reason) -> Result<Turn, Trouble> {
-    Err(Trouble::Line(Place { line, column }, reason))
-}
-
-// A line is carried out and shown.
+// A line is carried out, and shown where it is an operation.
 fn shown<W: Write>(
     out: &mut W,
-    t: Turn,
     number: u64,
-    state: &mut State,
-    ram: &mut [u8],
-    op: &[u64; 8],
-) -> Result<Turn, Trouble> {
-    let mut after = t;
-    let changes = line::moves_ram(op);
-    if AROUND <= op[0] {
-        let machine = line::arrange(t.machine, state, ram, op);
-        after.machine = machine;
-        if changes {
-            after.ram = line::window_digest(machine, ram);
+    line: Line,
+    machine: &mut Machine,
+) -> Result<(), Trouble> {
+    match line {
+        Line::Operation(operation) => {
+            let ans = machine.perform(operation);
+            show::operation(out, number, &operation, &ans, machine).map_err(Trouble::Output)
         }
-        return Ok(after);
-    }
-    let ans = line::perform(t.machine, state, ram, op);
-    if changes {
-        after.ram = line::window_digest(t.machine, ram);
-    }
-    match show::operation(out, number, op, &ans, state, after.ram) {
-        Ok(()) => Ok(after),
-        Err(error) => Err(Trouble::Output(error)),
+        Line::Setup(setup) => Ok(machine.arrange(setup)?),
     }
 }
 
 // A line is carried out, and nothing is said.
-fn silent(t: Turn, state: &mut State, ram: &mut [u8], op: &[u64; 8]) -> Turn {
-    let mut after = t;
-    if AROUND <= op[0] {
-        let machine = line::arrange(t.machine, state, ram, op);
-        after.machine = machine;
-    } else {
-        line::perform(t.machine, state, ram, op);
+fn silent(line: Line, machine: &mut Machine) -> Result<(), Trouble> {
+    match line {
+        Line::Operation(operation) => {
+            machine.perform(operation);
+        }
+        Line::Setup(setup) => machine.arrange(setup)?,
     }
-    after
+    Ok(())
 }
 
-// What a line means is done, if its window fits.
+// What a line means is done.
 fn act<W: Write>(
     out: &mut W,
     mode: Mode,
-    t: Turn,
     number: u64,
-    parsed: &Line,
-    state: &mut State,
-    ram: &mut [u8],
-) -> Result<Turn, Trouble> {
-    let op = &parsed.op;
-    if op[0] == WINDOW && memory::LONGEST < op[LENGTH] {
-        return refused(number, parsed.columns[LENGTH], Reason::LongWindow);
-    }
+    line: Line,
+    machine: &mut Machine,
+) -> Result<(), Trouble> {
     match mode {
-        Mode::Check => Ok(t),
-        Mode::Run => shown(out, t, number, state, ram, op),
-        Mode::Silent => Ok(silent(t, state, ram, op)),
-    }
-}
-
-// A line that was read: what it means is done, or it is refused with its place and reason.
-fn meant<W: Write>(
-    out: &mut W,
-    mode: Mode,
-    t: Turn,
-    number: u64,
-    bytes: &[u8],
-    state: &mut State,
-    ram: &mut [u8],
-) -> Result<Turn, Trouble> {
-    match parse::parse(bytes) {
-        Ok(None) => Ok(t),
-        Ok(Some(parsed)) => act(out, mode, t, number, &parsed, state, ram),
-        Err(refusal) => refused(number, refusal.column, refusal.reason),
-    }
-}
-
-fn first(state: &mut State, ram: &[u8]) -> Turn {
-    let machine = line::start(state);
-    Turn {
-        machine,
-        ram: line::window_digest(machine, ram),
+        Mode::Check => Ok(()),
+        Mode::Run => shown(out, number, line, machine),
+        Mode::Silent => silent(line, machine),
     }
 }
 
@@ -134,17 +69,26 @@ pub fn pass<R: BufRead, W: Write>(
     out: &mut W,
     mode: Mode,
     bytes: &mut Vec<u8>,
-    state: &mut State,
-    ram: &mut [u8],
-) -> Result<Turn, Trouble> {
-    let mut t = first(state, ram);
+    machine: &mut Machine,
+) -> Result<(), Trouble> {
+    machine.restart();
     for before in 0..LINES {
         let number = before + 1;
-        match source::next_line(reader, bytes) {
-            Ok(Next::Line) => t = meant(out, mode, t, number, bytes.as_slice(), state, ram)?,
-            Ok(Next::TooLong) => return refused(number, 1, Reason::LongLine),
-            Ok(Next::End) => return Ok(t),
-            Err(error) => return Err(Trouble::File(error)),
+        match source::next_line(reader, bytes).map_err(Trouble::File)? {
+            Next::Line => {}
+            Next::TooLong => {
+                let refusal = Refusal {
+                    column: 1,
+                    reason: Reason::LongLine,
+                };
+                return Err(Trouble::Line(number, refusal));
+            }
+            Next::End => return Ok(()),
+        }
+        match parse::parse(bytes.as_slice()) {
+            Ok(Some(line)) => act(out, mode, number, line, machine)?,
+            Ok(None) => {}
+            Err(refusal) => return Err(Trouble::Line(number, refusal)),
         }
     }
     Err(Trouble::ManyLines)
@@ -156,12 +100,11 @@ fn checked<R: BufRead + Seek, W: Write>(
     out: &mut W,
     mode: Mode,
     bytes: &mut Vec<u8>,
-    state: &mut State,
-    ram: &mut [u8],
-) -> Result<Turn, Trouble> {
-    pass(reader, out, Mode::Check, bytes, state, ram)?;
+    machine: &mut Machine,
+) -> Result<(), Trouble> {
+    pass(reader, out, Mode::Check, bytes, machine)?;
     match reader.rewind() {
-        Ok(()) => pass(reader, out, mode, bytes, state, ram),
+        Ok(()) => pass(reader, out, mode, bytes, machine),
         Err(_) => Err(Trouble::ReadOnce),
     }
 }
@@ -175,12 +118,11 @@ fn from_file<R: Files + AllocGlobal, W: Write>(
     out: &mut W,
     path: &str,
     mode: Mode,
-    state: &mut State,
-    ram: &mut [u8],
-) -> Result<Turn, Trouble> {
+    machine: &mut Machine,
+) -> Result<(), Trouble> {
     let mut bytes = Vec::new(rt.alloc());
     match opened(rt, path) {
-        Ok(mut reader) => checked(&mut reader, out, mode, &mut bytes, state, ram),
+        Ok(mut reader) => checked(&mut reader, out, mode, &mut bytes, machine),
         Err(error) => Err(Trouble::File(error)),
     }
 }
@@ -190,20 +132,16 @@ pub fn run<R: Files + AllocGlobal, W: Write>(
     rt: &R,
     out: &mut W,
     path: &str,
-    state: &mut State,
-    ram: &mut [u8],
+    machine: &mut Machine,
 ) -> Result<(), Trouble> {
-    from_file(rt, out, path, Mode::Run, state, ram)?;
-    Ok(())
+    from_file(rt, out, path, Mode::Run, machine)
 }
 
-// A trace carried out with nothing said: the window after it.
+// A trace carried out with nothing said: the machine after it.
 pub fn silently<R: Files + AllocGlobal>(
     rt: &R,
     path: &str,
-    state: &mut State,
-    ram: &mut [u8],
-) -> Result<Machine, Trouble> {
-    let t = from_file(rt, &mut io::sink(), path, Mode::Silent, state, ram)?;
-    Ok(t.machine)
+    machine: &mut Machine,
+) -> Result<(), Trouble> {
+    from_file(rt, &mut io::sink(), path, Mode::Silent, machine)
 }

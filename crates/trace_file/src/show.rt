@@ -4,7 +4,9 @@ use digest::parts;
 use std::io::Write;
 use std::{fmt, io};
 use trace_core::counters;
-use trace_text::write::{Answer, Operation};
+use trace_core::machine::Machine;
+use trace_text::line::Operation;
+use trace_text::write::Answer;
 use words::place;
 use words::place::State;
 
@@ -15,21 +17,12 @@ struct Counts<'a>(&'a State);
 impl fmt::Display for Counts<'_> {
     fn fmt<W: fmt::Write>(&self, f: &mut fmt::Formatter<W>) -> fmt::Result {
         let state = self.0;
-        let levels = counters::by_level(state);
-        write!(f, "{}", Levels(&levels))?;
-        write!(
-            f,
-            " fl={:x} dr={:x}",
-            state[place::FLUSHES],
-            state[place::DROPS]
-        )?;
-        write!(f, " ep={:x}", state[place::EPOCH])?;
-        write!(
-            f,
-            " bc={}:{:x}",
-            state[place::PENDING],
-            state[place::PENDING_VALUE]
-        )
+        let counts = counters::counts(state);
+        write!(f, "{}", Levels(&counts.levels))?;
+        write!(f, " fl={:x} dr={:x}", counts.flushes, counts.drops)?;
+        write!(f, " ep={:x}", counts.epoch)?;
+        let value = state[place::PENDING_VALUE];
+        write!(f, " bc={}:{value:x}", state[place::PENDING])
     }
 }
 
@@ -88,12 +81,13 @@ impl fmt::Display for Digests<'_> {
 pub fn operation<W: Write>(
     out: &mut W,
     number: u64,
-    op: &[u64; 8],
+    operation: &Operation,
     ans: &[u64; 4],
-    state: &State,
-    ram: u64,
+    machine: &mut Machine,
 ) -> io::Result<()> {
-    write!(out, "{number} {} => {}", Operation(op), Answer(ans))?;
+    let ram = machine.window_digest();
+    let state = &machine.state;
+    write!(out, "{number} {operation} => {}", Answer(ans))?;
     write!(out, " | {} {}", Counts(state), Kept(state))?;
     writeln!(out, " {}", Digests { state, ram })
 }

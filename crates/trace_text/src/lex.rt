@@ -2,11 +2,22 @@
 
 ghost use Rattle.std.specs.Prelude.{◌<◌, IfSome};
 
+use crate::reason::{Reason, Refusal};
+
 // A word, and the column of its first byte, from 1.
 #[derive(Clone, Copy)]
 pub struct Word<'a> {
     pub column: usize,
     pub text: &'a [u8],
+}
+
+impl Word<'_> {
+    pub fn refused(&self, reason: Reason) -> Refusal {
+        Refusal {
+            column: self.column,
+            reason,
+        }
+    }
 }
 
 // What is left of a line, and the column where that begins.

@@ -1,7 +1,10 @@
 #![tactic(auto)]
-// Traces as text: the words of a line, the operation that they name, and operations and answers written out. Every
-// function takes any bytes and any words.
-pub mod form;
+// Traces as text and as words: the words of a line, the line that they name, and operations and answers written out.
+// Every function takes any bytes and any words.
+pub mod argument;
 pub mod lex;
+pub mod line;
 pub mod parse;
+pub mod reason;
+pub mod words;
 pub mod write;

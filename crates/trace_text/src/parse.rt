@@ -1,163 +1,199 @@
-// What a line of a trace means: eight words of an operation, nothing, or the place and the reason of a refusal.
-use crate::form::Form;
-use crate::lex::{NumberError, Word, Words};
-use crate::{form, lex};
-use std::fmt;
+// What a line of a trace means: a line, nothing, or the place and the reason of a refusal.
+use crate::argument::Argument;
+use crate::lex;
+use crate::lex::{Word, Words};
+use crate::line::{LONGEST_WINDOW, Leaf, Line, Operation, Part, Poke, Setup};
+use crate::reason::{Reason, Refusal};
+use exception::kind::{DataAbort, Exception, InsnAbort};
+use operations::call::{Call, Encoding};
 
-#[derive(Clone, Copy)]
-pub enum Reason {
-    NoSuchLine,
-    NoSuchException,
-    Missing,
-    NotNumber,
-    Above64,
-    Above32,
-    Above16,
-    Above8,
-    NotKind,
-    NotRegime,
-    NotAscii,
-    LongLine,
-    LongWindow,
-}
-
-impl fmt::Display for Reason {
-    fn fmt<W: fmt::Write>(&self, f: &mut fmt::Formatter<W>) -> fmt::Result {
-        f.write_str(match self {
-            Reason::NoSuchLine => "no line of a trace has this name",
-            Reason::NoSuchException => {
-                "no such exception (und, svc, hvc, smc, brk, data, insn, pca)"
-            }
-            Reason::Missing => "an argument is missing",
-            Reason::NotNumber => "not a hexadecimal number (write it without 0x)",
-            Reason::Above64 => "a number of more than 64 bits",
-            Reason::Above32 => "a number of more than 32 bits, where 32 are the most",
-            Reason::Above16 => "a number of more than 16 bits, where 16 are the most",
-            Reason::Above8 => "a number of more than 8 bits, where 8 are the most",
-            Reason::NotKind => "no kind of access (1 read, 2 write, 4 fetch)",
-            Reason::NotRegime => "no regime (1, 2 or 3)",
-            Reason::NotAscii => "a byte that no line holds outside a comment",
-            Reason::LongLine => "a line of more than 65000 bytes",
-            Reason::LongWindow => "a window of more than 200000 bytes (2 MiB)",
-        })
-    }
-}
-
-// Why a line is refused, and the column of the word that is at fault, or of the line's end.
-#[derive(Clone, Copy)]
-pub struct Refusal {
-    pub column: usize,
-    pub reason: Reason,
-}
-
-// A line's code and its arguments, the rest zero; and the column of each.
-#[derive(Clone, Copy)]
-pub struct Line {
-    pub op: [u64; 8],
-    pub columns: [usize; 8],
-}
-
-fn below(value: u64, bound: u64, otherwise: Reason) -> Result<u64, Reason> {
-    if value < bound {
-        Ok(value)
-    } else {
-        Err(otherwise)
-    }
-}
-
-// A number as its letter asks for it.
-fn fitted(kind: u8, value: u64) -> Result<u64, Reason> {
-    match kind {
-        b'w' => below(value, 0x1_0000_0000, Reason::Above32),
-        b'h' => below(value, 0x1_0000, Reason::Above16),
-        b'b' => below(value, 0x100, Reason::Above8),
-        b'f' => Ok(value.min(1)),
-        b'k' => match value {
-            1 | 2 | 4 => Ok(value),
-            _ => Err(Reason::NotKind),
-        },
-        b'r' => match value {
-            1..=3 => Ok(value),
-            _ => Err(Reason::NotRegime),
-        },
-        _ => Ok(value),
-    }
-}
-
-// An exception's number, by its name.
-fn named(word: &[u8]) -> Result<u64, Reason> {
-    match form::code_of(word, form::EXCEPTIONS, form::EXCEPTIONS + form::NAMES) {
-        Some(code) => Ok(code.wrapping_sub(form::EXCEPTIONS)),
-        None => Err(Reason::NoSuchException),
-    }
-}
-
-// The argument that a word is.
-fn argument(kind: u8, word: &[u8]) -> Result<u64, Reason> {
-    if kind == b'e' {
-        return named(word);
-    }
-    match lex::signed_value_of(word) {
-        Ok(value) => fitted(kind, value),
-        Err(NumberError::TooLarge) => Err(Reason::Above64),
-        Err(NumberError::NotNumber) => Err(Reason::NotNumber),
-    }
-}
-
-fn refused<T>(column: usize, reason: Reason) -> Result<T, Refusal> {
-    Err(Refusal { column, reason })
-}
-
-// A line while its words are read: those that are left, the column of its end, and what was read.
+// The words of a line that are not read yet, and the column of its end.
 #[derive(Drop)]
 struct Reader<'a> {
     words: Words<'a>,
     end: usize,
-    line: Line,
-    count: usize,
 }
 
 impl<'a> Reader<'a> {
-    fn put(&mut self, column: usize, value: u64) {
-        let i = self.count;
-        if i < 8 {
-            self.line.op[i] = value;
-            self.line.columns[i] = column;
-            self.count = i + 1;
-        }
-    }
-
-    fn argument(&mut self, kind: u8) -> Result<u64, Refusal> {
+    fn word(&mut self) -> Result<Word<'a>, Refusal> {
         match self.words.next_word() {
-            None => refused(self.end, Reason::Missing),
-            Some(word) => match argument(kind, word.text) {
-                Ok(value) => {
-                    self.put(word.column, value);
-                    Ok(value)
-                }
-                Err(reason) => refused(word.column, reason),
+            Some(word) => Ok(word),
+            None => Err(Refusal {
+                column: self.end,
+                reason: Reason::Missing,
+            }),
+        }
+    }
+
+    // The next argument, as its type asks for it.
+    fn next<T: Argument>(&mut self) -> Result<T, Refusal> {
+        let word = self.word()?;
+        match T::read(word.text) {
+            Ok(value) => Ok(value),
+            Err(reason) => Err(word.refused(reason)),
+        }
+    }
+
+    // A word of an operation that has 32 bits in a trace.
+    fn wide(&mut self) -> Result<u64, Refusal> {
+        Ok(u64::from(self.next::<u32>()?))
+    }
+
+    fn exception(&mut self) -> Result<Exception, Refusal> {
+        let name = self.word()?;
+        Ok(match name.text {
+            b"und" => Exception::Undefined,
+            b"svc" => Exception::Svc(self.next()?),
+            b"hvc" => Exception::Hvc(self.next()?),
+            b"smc" => Exception::Smc(self.next()?),
+            b"brk" => Exception::Brk(self.next()?),
+            b"data" => Exception::DataAbort(DataAbort {
+                addr: self.next()?,
+                write: self.next()?,
+                fault: fault::first(self.next()?),
+            }),
+            b"insn" => Exception::InsnAbort(InsnAbort {
+                addr: self.next()?,
+                fault: fault::first(self.next()?),
+            }),
+            b"pca" => Exception::PcAlignment,
+            _ => return Err(name.refused(Reason::NoSuchException)),
+        })
+    }
+
+    fn encoding(&mut self) -> Result<Encoding, Refusal> {
+        Ok(Encoding {
+            op1: self.wide()?,
+            crn: self.wide()?,
+            crm: self.wide()?,
+            op2: self.wide()?,
+            rt: self.wide()?,
+        })
+    }
+
+    fn call(&mut self, name: &[u8]) -> Result<Option<Call>, Refusal> {
+        Ok(Some(match name {
+            b"tr" => Call::Translate(self.next()?, self.next()?),
+            b"dpa" => Call::DataPa(self.next()?),
+            b"fpa" => Call::FetchPa(self.next()?),
+            b"ld" => Call::Load(self.next()?, self.wide()?),
+            b"st" => Call::Store(self.next()?, self.wide()?, self.next()?),
+            b"if" => Call::Fetch(self.next()?),
+            b"sys" => Call::System(self.encoding()?),
+            b"reg" => Call::Register(self.next()?, self.next()?),
+            b"level" => Call::Level(self.wide()?),
+            b"mark" => Call::Mark(self.next()?),
+            b"x" => Call::General(self.wide()?, self.next()?),
+            b"abort" => Call::Abort(self.exception()?),
+            b"census" => Call::Census(self.next()?, self.next()?),
+            _ => return Ok(None),
+        }))
+    }
+
+    fn leaf(&mut self, name: &[u8]) -> Result<Option<Leaf>, Refusal> {
+        Ok(Some(match name {
+            b"l-asid" => Leaf::Asid,
+            b"l-on" => Leaf::Stage1On(self.next()?),
+            b"l-untag" => Leaf::Untag(self.next()?, self.next()?),
+            b"l-walk" => Leaf::Walk(self.next()?, self.next()?),
+            b"l-bits" => Leaf::PaBits(self.next()?),
+            b"l-perm" => Leaf::Permissions(self.next()?),
+            b"l-bank" => Leaf::Bank(self.next()?),
+            b"l-vec" => Leaf::Vector {
+                from: self.wide()?,
+                to: self.wide()?,
+                spsel: self.next()?,
             },
+            b"l-syn" => Leaf::Syndrome {
+                from: self.wide()?,
+                to: self.wide()?,
+                pc: self.next()?,
+                exception: self.exception()?,
+            },
+            _ => return Ok(None),
+        }))
+    }
+
+    fn poke(&mut self, name: &[u8]) -> Result<Option<Poke>, Refusal> {
+        Ok(Some(match name {
+            b"p-level" => Poke::Level(self.wide()?),
+            b"p-pc" => Poke::Pc(self.next()?),
+            b"p-spsel" => Poke::Spsel(self.next()?),
+            b"p-gen" => Poke::Generation(self.next()?),
+            b"p-cnt" => Poke::Counters(self.next()?),
+            b"p-bc" => Poke::Broadcast,
+            _ => return Ok(None),
+        }))
+    }
+
+    // The length of a window, in bytes.
+    fn length(&mut self) -> Result<usize, Refusal> {
+        let word = self.word()?;
+        match u64::read(word.text) {
+            Ok(len) if len <= LONGEST_WINDOW as u64 => Ok(len as usize),
+            Ok(_) => Err(word.refused(Reason::LongWindow)),
+            Err(reason) => Err(word.refused(reason)),
         }
     }
 
-    // Words as the letters ask; the value of the last, or 0.
-    fn arguments(&mut self, args: &[u8]) -> Result<u64, Refusal> {
-        let mut last = 0;
-        for kind in args {
-            last = self.argument(*kind)?;
-        }
-        Ok(last)
+    fn part(&mut self, name: &[u8]) -> Result<Option<Part>, Refusal> {
+        Ok(Some(match name {
+            b"w-word" => Part::Word {
+                place: self.next()?,
+                value: self.next()?,
+            },
+            b"w-hint" => Part::Hint {
+                slot: self.next()?,
+                key: self.next()?,
+                pa: self.next()?,
+            },
+            b"w-entry" => Part::Entry {
+                slot: self.next()?,
+                tag: self.next()?,
+                generation: self.next()?,
+                bits: self.next()?,
+                pa: self.next()?,
+            },
+            b"w-fetch" => Part::FetchHint {
+                page: self.next()?,
+                level: self.wide()?,
+                pa: self.next()?,
+            },
+            _ => return Ok(None),
+        }))
     }
 
-    // The arguments of a line, and where the last is an exception's name then the exception's own.
-    fn line(&mut self, form: Form) -> Result<(), Refusal> {
-        let last = self.arguments(form.args)?;
-        if form.args.last() == Some(&b'e') {
-            if let Some(named) = form::form_of(form::EXCEPTIONS + last % form::NAMES) {
-                self.arguments(named.args)?;
-            }
+    fn setup(&mut self, name: &[u8]) -> Result<Option<Setup>, Refusal> {
+        Ok(Some(match name {
+            b"fresh" => Setup::Fresh,
+            b"window" => Setup::Window {
+                base: self.next()?,
+                len: self.length()?,
+            },
+            b"zero" => Setup::Zero,
+            b"poke" => Setup::Write {
+                addr: self.next()?,
+                value: self.next()?,
+            },
+            _ => return Ok(self.part(name)?.map(Setup::Part)),
+        }))
+    }
+
+    // The line that begins with this word.
+    fn line(&mut self, name: Word<'_>) -> Result<Line, Refusal> {
+        if let Some(call) = self.call(name.text)? {
+            return Ok(Line::Operation(Operation::Call(call)));
         }
-        Ok(())
+        if let Some(leaf) = self.leaf(name.text)? {
+            return Ok(Line::Operation(Operation::Leaf(leaf)));
+        }
+        if let Some(poke) = self.poke(name.text)? {
+            return Ok(Line::Operation(Operation::Poke(poke)));
+        }
+        match self.setup(name.text)? {
+            Some(setup) => Ok(Line::Setup(setup)),
+            None => Err(name.refused(Reason::NoSuchLine)),
+        }
     }
 }
 
@@ -165,33 +201,17 @@ impl<'a> Reader<'a> {
 pub fn parse(bytes: &[u8]) -> Result<Option<Line>, Refusal> {
     let text = lex::before_comment(bytes);
     if let Some(k) = text.iter().position(|b| !lex::is_held(*b)) {
-        return refused(k.wrapping_add(1), Reason::NotAscii);
+        return Err(Refusal {
+            column: k.wrapping_add(1),
+            reason: Reason::NotAscii,
+        });
     }
-    let mut words = Words::new(text);
-    let Some(name) = words.next_word() else {
-        return Ok(None);
-    };
-    named_line(name, words, bytes.len().wrapping_add(1))
-}
-
-// The line with this first word.
-fn named_line(name: Word<'_>, words: Words<'_>, end: usize) -> Result<Option<Line>, Refusal> {
-    let Some(code) = form::code_of(name.text, 1, form::CODES) else {
-        return refused(name.column, Reason::NoSuchLine);
-    };
-    let Some(form) = form::form_of(code) else {
-        return refused(name.column, Reason::NoSuchLine);
-    };
     let mut reader = Reader {
-        words,
-        end,
-        line: Line {
-            op: [0; 8],
-            columns: [0; 8],
-        },
-        count: 0,
+        words: Words::new(text),
+        end: bytes.len().wrapping_add(1),
     };
-    reader.put(name.column, code);
-    reader.line(form)?;
-    Ok(Some(reader.line))
+    match reader.words.next_word() {
+        Some(name) => Ok(Some(reader.line(name)?)),
+        None => Ok(None),
+    }
 }

@@ -1,63 +1,124 @@
 // Operations and answers in the oracle's text form.
-use crate::form;
+use crate::line::{Leaf, Operation, Poke};
+use exception::kind::Exception;
+use operations::call::Call;
 use std::fmt;
-
-// An operation, or a line around operations, by its words.
-#[derive(Clone, Copy)]
-pub struct Operation<'a>(pub &'a [u64; 8]);
+use tlb::access::Kind;
+use walk::regime::Regime;
 
 // An answer, by its four words.
 #[derive(Clone, Copy)]
 pub struct Answer<'a>(pub &'a [u64; 4]);
 
-// The words from one on, a number for each letter.
-fn numbers<W: fmt::Write>(
-    f: &mut fmt::Formatter<W>,
-    args: &[u8],
-    op: &[u64; 8],
-    from: usize,
-) -> fmt::Result {
-    let mut word = from;
-    for kind in args {
-        if *kind != b'e' && word < 8 {
-            write!(f, " {:x}", op[word])?;
-            word += 1;
-        }
-    }
-    Ok(())
-}
-
-// An exception: its name and its arguments, from word i on.
-fn exception<W: fmt::Write>(f: &mut fmt::Formatter<W>, op: &[u64; 8], i: usize) -> fmt::Result {
-    if 7 <= i {
-        return Ok(());
-    }
-    match form::form_of(form::EXCEPTIONS + op[i] % form::NAMES) {
-        Some(named) => {
-            write!(f, " {}", named.name)?;
-            numbers(f, named.args, op, i + 1)
-        }
-        None => Ok(()),
+fn kind_number(kind: Kind) -> u64 {
+    match kind {
+        Kind::Read => 1,
+        Kind::Write => 2,
+        Kind::Fetch => 4,
     }
 }
 
-impl fmt::Display for Operation<'_> {
+fn regime_number(regime: Regime) -> u64 {
+    match regime {
+        Regime::El1 => 1,
+        Regime::El2 => 2,
+        Regime::El3 => 3,
+    }
+}
+
+fn exception<W: fmt::Write>(f: &mut fmt::Formatter<W>, e: Exception) -> fmt::Result {
+    match e {
+        Exception::Undefined => f.write_str("und"),
+        Exception::Svc(imm) => write!(f, "svc {imm:x}"),
+        Exception::Hvc(imm) => write!(f, "hvc {imm:x}"),
+        Exception::Smc(imm) => write!(f, "smc {imm:x}"),
+        Exception::Brk(imm) => write!(f, "brk {imm:x}"),
+        Exception::DataAbort(a) => {
+            write!(
+                f,
+                "data {:x} {} {:x}",
+                a.addr,
+                u64::from(a.write),
+                a.fault.fsc
+            )
+        }
+        Exception::InsnAbort(a) => write!(f, "insn {:x} {:x}", a.addr, a.fault.fsc),
+        Exception::PcAlignment => f.write_str("pca"),
+    }
+}
+
+fn call<W: fmt::Write>(f: &mut fmt::Formatter<W>, call: Call) -> fmt::Result {
+    match call {
+        Call::Translate(kind, va) => write!(f, "tr {} {va:x}", kind_number(kind)),
+        Call::DataPa(va) => write!(f, "dpa {va:x}"),
+        Call::FetchPa(va) => write!(f, "fpa {va:x}"),
+        Call::Load(va, size) => write!(f, "ld {va:x} {size:x}"),
+        Call::Store(va, size, value) => write!(f, "st {va:x} {size:x} {value:x}"),
+        Call::Fetch(va) => write!(f, "if {va:x}"),
+        Call::System(at) => {
+            write!(f, "sys {:x} {:x} {:x}", at.op1, at.crn, at.crm)?;
+            write!(f, " {:x} {:x}", at.op2, at.rt)
+        }
+        Call::Register(key, value) => write!(f, "reg {key:x} {value:x}"),
+        Call::Level(level) => write!(f, "level {level:x}"),
+        Call::Mark(on) => write!(f, "mark {}", u64::from(on)),
+        Call::General(number, value) => write!(f, "x {number:x} {value:x}"),
+        Call::Abort(e) => {
+            f.write_str("abort ")?;
+            exception(f, e)
+        }
+        Call::Census(first, pages) => write!(f, "census {first:x} {pages:x}"),
+    }
+}
+
+fn leaf<W: fmt::Write>(f: &mut fmt::Formatter<W>, leaf: Leaf) -> fmt::Result {
+    match leaf {
+        Leaf::Asid => f.write_str("l-asid"),
+        Leaf::Stage1On(regime) => write!(f, "l-on {}", regime_number(regime)),
+        Leaf::Untag(regime, va) => write!(f, "l-untag {} {va:x}", regime_number(regime)),
+        Leaf::Walk(regime, va) => write!(f, "l-walk {} {va:x}", regime_number(regime)),
+        Leaf::PaBits(size) => write!(f, "l-bits {size:x}"),
+        Leaf::Permissions(bits) => write!(f, "l-perm {bits:x}"),
+        Leaf::Bank(key) => write!(f, "l-bank {key:x}"),
+        Leaf::Vector { from, to, spsel } => {
+            let spsel = u64::from(spsel);
+            write!(f, "l-vec {from:x} {to:x} {spsel}")
+        }
+        Leaf::Syndrome {
+            from,
+            to,
+            pc,
+            exception: e,
+        } => {
+            write!(f, "l-syn {from:x} {to:x} {pc:x} ")?;
+            exception(f, e)
+        }
+    }
+}
+
+fn poke<W: fmt::Write>(f: &mut fmt::Formatter<W>, poke: Poke) -> fmt::Result {
+    match poke {
+        Poke::Level(level) => write!(f, "p-level {level:x}"),
+        Poke::Pc(pc) => write!(f, "p-pc {pc:x}"),
+        Poke::Spsel(on) => write!(f, "p-spsel {}", u64::from(on)),
+        Poke::Generation(generation) => write!(f, "p-gen {generation:x}"),
+        Poke::Counters(value) => write!(f, "p-cnt {value:x}"),
+        Poke::Broadcast => f.write_str("p-bc"),
+    }
+}
+
+impl fmt::Display for Operation {
     fn fmt<W: fmt::Write>(&self, f: &mut fmt::Formatter<W>) -> fmt::Result {
-        let op = self.0;
-        if let Some(form) = form::form_of(op[0]) {
-            f.write_str(form.name)?;
-            numbers(f, form.args, op, 1)?;
-        }
-        match op[0] {
-            12 => exception(f, op, 1),
-            28 => exception(f, op, 4),
-            _ => Ok(()),
+        match *self {
+            Operation::Call(c) => call(f, c),
+            Operation::Leaf(l) => leaf(f, l),
+            Operation::Poke(p) => poke(f, p),
         }
     }
 }
 
 // A walk's leaf: address, permissions, level, attribute index, shareability, NS and global.
-fn leaf<W: fmt::Write>(f: &mut fmt::Formatter<W>, ans: &[u64; 4]) -> fmt::Result {
+fn walked<W: fmt::Write>(f: &mut fmt::Formatter<W>, ans: &[u64; 4]) -> fmt::Result {
     let [_, oa, rights, kind] = *ans;
     write!(f, "leaf {oa:x} {:x} {}", rights % 256, rights / 256 % 256)?;
     write!(f, " {} {}", kind % 256, kind / 256 % 256)?;
@@ -71,7 +132,7 @@ impl fmt::Display for Answer<'_> {
             0 => f.write_str("ok"),
             1 => write!(f, "val {a:x}"),
             2 => f.write_str("none"),
-            3 => leaf(f, self.0),
+            3 => walked(f, self.0),
             4 => write!(f, "pair {a:x} {b:x}"),
             5 => write!(f, "no {a}"),
             6 => f.write_str("undefined"),

@@ -36,7 +36,8 @@ fresh-bare = refl
 pub two-cores : Statement.two_cores
 two-cores list = runs-agree real machine bridge freshCore list ∙ ap (λ (b : Bare). bareRun real machine b list) fresh-bare
 
--- WHAT A CALL OF THE CORE WITHOUT A CACHE LEAVES: its updates are the core's own (mmu/specs/Bare.antt), so each says what else stays
+-- WHAT A CALL OF THE CORE WITHOUT A CACHE LEAVES: its updates are the core's own (mmu/specs/Bare.antt), so each says
+-- what else stays
 
 pub abort-leaves : Statement.abort_leaves
 abort-leaves b m e = (refl, refl)

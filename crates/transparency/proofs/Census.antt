@@ -1,4 +1,5 @@
--- The page census after every list of calls: it counts what the core without a cache would, page by page, and is a step that does nothing.
+-- The page census after every list of calls: it counts what the core without a cache would, page by page, and is a step
+-- that does nothing.
 use Rattle.std.specs.Prelude.{◌≡◌, refl, Bool, true, false, List, [], ◌∷◌, ◌++◌, ℕ, zero, suc, ◌+◌, ◌*◌, ◌/◌, ◌%◌, ◌<◌, ◌≤◌, eqb, get_or, Ok, Err}
 use Rattle.std.proofs.Common.{sym, ap, ◌∙◌, ⊎_elim, arith, eqb-true, ne_eqb}
 use Rattle.word.specs.Bits.{flag, pick}

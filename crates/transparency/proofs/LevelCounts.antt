@@ -1,7 +1,8 @@
--- The counters of each level, for every list of calls from the fresh core. Document 02: "Keep `hits` and `walks` for each exception level 0 to
--- 3, counted at the level of the access, which `unprivileged` doesn't lower. Their sums, wrapped at 2^64, are what the Rust's two counters are
--- matched with". Which translations a list made, at which level, and how each was answered is read from the plain model, on the events of the
--- list (Events.antt; RAM at a zeroing's later stores as the run shows it: Starts.antt).
+-- The counters of each level, for every list of calls from the fresh core. Document 02: "Keep `hits` and `walks` for
+-- each exception level 0 to 3, counted at the level of the access, which `unprivileged` doesn't lower. Their sums,
+-- wrapped at 2^64, are what the Rust's two counters are matched with". Which translations a list made, at which level,
+-- and how each was answered is read from the plain model, on the events of the list (Events.antt; RAM at a zeroing's
+-- later stores as the run shows it: Starts.antt).
 use Rattle.std.specs.Prelude.{◌≡◌, refl, true, List, [], ◌∷◌, ℕ, ◌+◌, ◌%◌, ◌^◌, ◌<◌}
 use Rattle.std.proofs.Common.{sym, ap, subst, ◌∙◌, arith}
 use Rattle.std.proofs.lemmas.Bool.{false≢true}
@@ -220,7 +221,7 @@ quiet-stays list m x q l =
     let none : madeAfter list m x ≡ [] = events-none (bareAfter list) m (laterIn (coreAfter list) m x) (modelAfterList list) x q in
     unmade-stays list m x l (subst (Each (λ (y : Made). l ≡ y.level → ⊥)) (sym none) done)
 
--- THE MARK, of the translation that a fetch begins with (of others: `mark-free`, tlb/specs/Counting.antt): the counters are a function of how it
--- was answered and of the level
+-- THE MARK, of the translation that a fetch begins with (of others: `mark-free`, tlb/specs/Counting.antt): the counters
+-- are a function of how it was answered and of the level
 pub fetch-mark-free : Statement.fetch_mark_free
 fetch-mark-free a b m same how = fetch-counts a m ∙ (λ i. howCounted (how i) (same i) m.counts) ∙ sym (fetch-counts b m)

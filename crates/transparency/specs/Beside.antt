@@ -25,8 +25,8 @@ coreAfter list = run real machine freshCore list
 abbrev pub bareAfter : List (Lent real machine) → Bare
 bareAfter list = bareRun real machine freshBare list
 
--- WHATEVER CAME BEFORE: what is said of every list of calls from the fresh core; of the RAM m after it too; of a call x,
--- on the RAM m, that follows it; and of a list that is fed as its run shows it
+-- WHATEVER CAME BEFORE: what is said of every list of calls from the fresh core; of the RAM m after it too; of a call
+-- x, on the RAM m, that follows it; and of a list that is fed as its run shows it
 abbrev pub EveryList : (List (Lent real machine) → Type 0) → Type 0
 EveryList says = (list : List (Lent real machine)) → says list
 
@@ -43,17 +43,20 @@ AfterEveryRun says = (list : List (Fed real machine)) → Shown real machine fre
 abbrev pub two_cores : Type 0
 two_cores = (list : List (Lent real machine)) → bareOf (coreAfter list) ≡ bareAfter list
 
--- WHAT A CALL OF THE CORE WITHOUT A CACHE LEAVES: its updates are the core's own (mmu/specs/Bare.antt), so each says what else stays
+-- WHAT A CALL OF THE CORE WITHOUT A CACHE LEAVES: its updates are the core's own (mmu/specs/Bare.antt), so each says
+-- what else stays
 
 abbrev pub abort_leaves : Type 0
 abort_leaves =
-    (b : Bare) (m : Ram) (e : Exception) → ((bareDoes b m (Abort e)).x ≡ b.x) × ((bareDoes b m (Abort e)).control ≡ b.control)
+    (b : Bare) (m : Ram) (e : Exception)
+    → ((bareDoes b m (Abort e)).x ≡ b.x) × ((bareDoes b m (Abort e)).control ≡ b.control)
 
 abbrev pub level_leaves : Type 0
 level_leaves =
     (b : Bare) (m : Ram) (level : ℕ)
     → ((bareDoes b m (Level level)).x ≡ b.x) × ((bareDoes b m (Level level)).control ≡ b.control)
-    × ((bareDoes b m (Level level)).sys ≡ b.sys) × ((bareDoes b m (Level level)).privilege.unprivileged ≡ b.privilege.unprivileged)
+    × ((bareDoes b m (Level level)).sys ≡ b.sys)
+    × ((bareDoes b m (Level level)).privilege.unprivileged ≡ b.privilege.unprivileged)
     × ((bareDoes b m (Level level)).flags ≡ b.flags) × ((bareDoes b m (Level level)).pc ≡ b.pc)
 
 abbrev pub mark_leaves : Type 0
@@ -66,7 +69,8 @@ mark_leaves =
 abbrev pub general_leaves : Type 0
 general_leaves =
     (b : Bare) (m : Ram) (n value : ℕ)
-    → ((bareDoes b m (General n value)).privilege ≡ b.privilege) × ((bareDoes b m (General n value)).control ≡ b.control)
+    → ((bareDoes b m (General n value)).privilege ≡ b.privilege)
+    × ((bareDoes b m (General n value)).control ≡ b.control)
     × ((bareDoes b m (General n value)).sys ≡ b.sys) × ((bareDoes b m (General n value)).flags ≡ b.flags)
     × ((bareDoes b m (General n value)).pc ≡ b.pc)
 
@@ -81,7 +85,8 @@ register_leaves =
 -- "AT equals a fresh walk without any premise": whatever the cache holds, PAR_EL1 is made of the registers and RAM.
 abbrev pub at_walks : Type 0
 at_walks =
-    (c : Core) (m : Ram) (e : Encoding) (form : AtForm) → missedIn (bareOf c) m (System e) ≡ 0 → opIn (bareOf c) e ≡ Op.At form
+    (c : Core) (m : Ram) (e : Encoding) (form : AtForm) → missedIn (bareOf c) m (System e) ≡ 0
+    → opIn (bareOf c) e ≡ Op.At form
     → (step_of c m.base m.bytes (System e)).core.sys.par_el1 ≡ parAt (bareOf c) m form (operandIn (bareOf c) e)
 
 -- after every list it is that of the core without a cache
@@ -103,7 +108,8 @@ refused_bare = (b : Bare) (m : Ram) (x : Call) → (rulingIn b m x ≡ allowed �
 abbrev pub refused_core : Type 0
 refused_core =
     (c : Core) (m : Ram) (x : Call) → (rulingIn (bareOf c) m x ≡ allowed → ⊥)
-    → (step_of c m.base m.bytes x ≡ ends c (refusalOf (rulingIn (bareOf c) m x))) × (ramAfter c m.base m.bytes x ≡ m.bytes)
+    → (step_of c m.base m.bytes x ≡ ends c (refusalOf (rulingIn (bareOf c) m x)))
+    × (ramAfter c m.base m.bytes x ≡ m.bytes)
 
 -- after every list it is the refusal of the core without a cache
 abbrev pub refused_after : Type 0

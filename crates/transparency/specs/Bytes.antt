@@ -51,7 +51,8 @@ store_byte_after =
     → va < 2 ^ 64 → n ≤ 8 → m.base + length m.bytes ≤ 2 ^ 64
     → (writeOf (coreNow list) m.base m.bytes va n).answer ≡ Store.Done → i < n
     → (o : OwnByte (coreNow list) m.base m.bytes va Write i)
-    × (((j pa : ℕ) → i < j → j < n → ownAnswer (coreNow list) (memoryOf m) va Write j ≡ Address pa → wrap pa ≡ wrap o.pa → ⊥)
+    × (((j pa : ℕ) → i < j → j < n → ownAnswer (coreNow list) (memoryOf m) va Write j ≡ Address pa
+    → wrap pa ≡ wrap o.pa → ⊥)
     → byteIn m.base (ramAfterWrite (coreNow list) m.base m.bytes va n v) (wrap o.pa) ≡ v / 256 ^ i % 256)
 
 -- and every byte that is at the translation of none of its bytes' own addresses stays

@@ -1,4 +1,5 @@
--- The page census after every list of calls: it counts what the core without a cache would, page by page, and is a step that does nothing.
+-- The page census after every list of calls: it counts what the core without a cache would, page by page, and is a step
+-- that does nothing.
 use Rattle.std.specs.Prelude.{◌≡◌, Bool, true, false, List, ◌∷◌, ◌++◌, ◌⊎◌, ℕ, ◌/◌, ◌%◌, ◌<◌, eqb, get_or}
 use Rattle.walk.specs.Regime.{bankOf, regimeOf}
 use Rattle.walk.specs.declared.{regime.Regime.Regime, regime.Bank.Bank}
@@ -30,7 +31,8 @@ regimeIn b = regimeOf b.privilege.level
 abbrev pub bankIn : Bare → Bank
 bankIn b = bankOf b.control (regimeIn b)
 
--- what the core without a cache would count, on its own registers and level and the step's RAM; a refused census leaves the counts as they were
+-- what the core without a cache would count, on its own registers and level and the step's RAM; a refused census leaves
+-- the counts as they were
 abbrev pub bareCounts : Bare → Ram → ℕ → ℕ → List ℕ → List ℕ
 bareCounts b m first pages old =
     ifAllowed (rulingIn b m (Census first pages)) (censusAt b.control b.privilege.level (memoryOf m) first pages) old
@@ -44,7 +46,8 @@ census_after =
 abbrev pub census_reply : Type 0
 census_reply =
     (list : List (Lent real machine)) (m : Ram) (first pages : ℕ)
-    → (step_of (coreAfter list) m.base m.bytes (Census first pages)).reply ≡ (bareReply (bareAfter list) m (Census first pages)).reply
+    → (step_of (coreAfter list) m.base m.bytes (Census first pages)).reply
+    ≡ (bareReply (bareAfter list) m (Census first pages)).reply
 
 -- A STEP THAT DOES NOTHING: a list with a census in it leaves what it leaves without, whatever RAM the census was shown
 
@@ -73,7 +76,8 @@ abbrev pub census_faults : Type 0
 census_faults =
     (b : Bare) (m : Ram) (first pages status : ℕ) (k : Kind) (old : List ℕ) → status < 64 → NoPermission status
     → rulingIn b m (Census first pages) ≡ allowed
-    → get_or (bareCounts b m first pages old) status 0 ≡ howMany (λ i. answersFault status (uncached real (plainIn b) m k (pageAt first i))) pages
+    → get_or (bareCounts b m first pages old) status 0
+    ≡ howMany (λ i. answersFault status (uncached real (plainIn b) m k (pageAt first i))) pages
 
 abbrev pub answersAddress : Answer → Bool
 answersAddress (Address pa) = true

@@ -47,26 +47,31 @@ module _ (list : List (Lent real machine)) (m : Ram) where
   abbrev pub translate_counted : Type 0
   translate_counted =
       (kind : Kind) (va : ℕ) → missedIn (bareAfter list) m (Translate kind va) ≡ 0
-      → countersOf (tlbAfterCall list m (Translate kind va)).counts ≡ howCounted (howAnswered (translates kind va)) level (countersOf now.counts)
+      → countersOf (tlbAfterCall list m (Translate kind va)).counts
+      ≡ howCounted (howAnswered (translates kind va)) level (countersOf now.counts)
 
   abbrev pub data_pa_counted : Type 0
   data_pa_counted =
       (va : ℕ) → missedIn (bareAfter list) m (DataPa va) ≡ 0
-      → countersOf (tlbAfterCall list m (DataPa va)).counts ≡ howCounted (howAnswered (translates Kind.Read va)) level (countersOf now.counts)
+      → countersOf (tlbAfterCall list m (DataPa va)).counts
+      ≡ howCounted (howAnswered (translates Kind.Read va)) level (countersOf now.counts)
 
   abbrev pub fetch_pa_counted : Type 0
   fetch_pa_counted =
       (va : ℕ) → missedIn (bareAfter list) m (FetchPa va) ≡ 0
-      → countersOf (tlbAfterCall list m (FetchPa va)).counts ≡ howCounted (howAnswered (fetches va)) level (countersOf now.counts)
+      → countersOf (tlbAfterCall list m (FetchPa va)).counts
+      ≡ howCounted (howAnswered (fetches va)) level (countersOf now.counts)
 
   abbrev pub fetch_counted : Type 0
   fetch_counted =
       (va : ℕ) → missedIn (bareAfter list) m (Fetch va) ≡ 0
-      → countersOf (tlbAfterCall list m (Fetch va)).counts ≡ howCounted (howAnswered (fetches va)) level (countersOf now.counts)
+      → countersOf (tlbAfterCall list m (Fetch va)).counts
+      ≡ howCounted (howAnswered (fetches va)) level (countersOf now.counts)
 
   -- TLBI, not refused
 
-  module _ (e : Encoding) (passed : missedIn (bareAfter list) m (System e) ≡ 0) (named : opIn (bareAfter list) e ≡ Op.Tlbi) where
+  module _ (e : Encoding) (passed : missedIn (bareAfter list) m (System e) ≡ 0)
+      (named : opIn (bareAfter list) e ≡ Op.Tlbi) where
     abbrev what : Inval
     what = invalIn (bareAfter list) e
 

@@ -85,19 +85,22 @@ module _ (list : List (Fed real machine)) (m : Ram) where
   -- the same physical addresses, or the same fault
   abbrev pub access_after : Type 0
   access_after =
-      (va n : ℕ) (kind : Kind) → SettledOver va n kind → (locatedNow (coreNow list) (memoryOf m) va n kind).placed ≡ placed_at va n kind
+      (va n : ℕ) (kind : Kind) → SettledOver va n kind
+      → (locatedNow (coreNow list) (memoryOf m) va n kind).placed ≡ placed_at va n kind
 
   -- A load replies the bytes there, or the fault or the abort.
   abbrev pub load_after : Type 0
   load_after =
-      (va size : ℕ) (w : Width) → width_of size ≡ Some w → missedIn (bareOf (coreNow list)) m (Load va size) ≡ 0 → SettledOver va (bytesIn w) Kind.Read
+      (va size : ℕ) (w : Width) → width_of size ≡ Some w → missedIn (bareOf (coreNow list)) m (Load va size) ≡ 0
+      → SettledOver va (bytesIn w) Kind.Read
       → (step_of (coreNow list) m.base m.bytes (Load va size)).reply
       ≡ loading (loadEnd (placed_at va (bytesIn w) Kind.Read) 0 0 m.base m.bytes va (bytesIn w)).answer
 
   -- A store replies the same, and leaves the same bytes.
   abbrev pub store_after : Type 0
   store_after =
-      (va size value : ℕ) (w : Width) → width_of size ≡ Some w → missedIn (bareOf (coreNow list)) m (Store va size value) ≡ 0
+      (va size value : ℕ) (w : Width) → width_of size ≡ Some w
+      → missedIn (bareOf (coreNow list)) m (Store va size value) ≡ 0
       → SettledOver va (bytesIn w) Kind.Write
       → ((step_of (coreNow list) m.base m.bytes (Store va size value)).reply
       ≡ storing (storeEnd (placed_at va (bytesIn w) Kind.Write) 0 m.base m.bytes va (bytesIn w)).answer)
@@ -108,7 +111,8 @@ module _ (list : List (Fed real machine)) (m : Ram) where
   abbrev pub fetch_after : Type 0
   fetch_after =
       (va : ℕ) → missedIn (bareOf (coreNow list)) m (Fetch va) ≡ 0 → SettledAt va
-      → (step_of (coreNow list) m.base m.bytes (Fetch va)).reply ≡ fetching (fetchEnd (uncachedAt Kind.Fetch va) 0 m.base m.bytes va).answer
+      → (step_of (coreNow list) m.base m.bytes (Fetch va)).reply
+      ≡ fetching (fetchEnd (uncachedAt Kind.Fetch va) 0 m.base m.bytes va).answer
 
   -- A zeroing, where the page meets the premise at each store begun: the reply and the bytes of the eight stores on the
   -- core without a cache.

@@ -56,11 +56,13 @@ pub record Faithful (list : List (Lent real machine)) (m : Ram) (x : Call) (o : 
   pub answered : o ≡ saysIn (bareAfter list) m (laterIn (coreAfter list) m x) x (answersAfter list m x)
   pub parts : (before : List (Event real)) (m' : Ram) (s : Step real) (later : List (Event real))
       → eventsAfter list m x ≡ before ++ steps m' s ∷ later
-      → answersAfter list m x ≡ answersBefore list before ++ (answersAt list before m' s ++ answersFrom list before m' s later)
+      → answersAfter list m x
+      ≡ answersBefore list before ++ (answersAt list before m' s ++ answersFrom list before m' s later)
   pub faithful : (before : List (Event real)) (m' : Ram) (s : Step real) (later : List (Event real))
       → eventsAfter list m x ≡ before ++ steps m' s ∷ later
       → Each (FaithfulIn real machine freshBare (fedBy list) before m') (answersAt list before m' s)
-  pub same : Tidy real (plainIn freshBare) (eventsRun real machine freshBare (fedBy list)) (eventsAfter list m x) → o ≡ bareReply (bareAfter list) m x
+  pub same : Tidy real (plainIn freshBare) (eventsRun real machine freshBare (fedBy list)) (eventsAfter list m x)
+      → o ≡ bareReply (bareAfter list) m x
 
 -- whatever list of calls left this core
 unfoldable pub FaithfulCall : Core → ℕ → List ℕ → Call → Stepped → List ℕ → Type 0

@@ -43,7 +43,8 @@ RepliesFault Reply.Faults addr fault = ⊥
 -- (which byte: `lowest` of operations/specs/PlaceLaws.antt, and the first where the access is not split).
 pub data FaultFrom (gs : List Given) (addr : ℕ) (fault : Fault) : Type 0 where
   translating : (g : Given) → Memᴰ g gs → address_of g.ask ≡ addr → g.answer ≡ Status fault → FaultFrom gs addr fault
-  outside : (g : Given) → Memᴰ g gs → (pa : ℕ) → g.answer ≡ Address pa → (i : ℕ) → i < 8 → wrap addr ≡ wrap (address_of g.ask + i) → fault ≡ first 0x10
+  outside : (g : Given) → Memᴰ g gs → (pa : ℕ) → g.answer ≡ Address pa → (i : ℕ) → i < 8
+      → wrap addr ≡ wrap (address_of g.ask + i) → fault ≡ first 0x10
       → FaultFrom gs addr fault
 
 -- OF EVERY CORE THAT CALLS REACH
@@ -53,6 +54,7 @@ pub data FaultFrom (gs : List Given) (addr : ℕ) (fault : Fault) : Type 0 where
 -- 0x10, that of a byte of the access.
 abbrev pub every_fault_row : Type 0
 every_fault_row =
-    (list : List (Fed real machine)) → Shown real machine freshCore list → (m : Ram) (x : Call) (addr : ℕ) (fault : Fault)
+    (list : List (Fed real machine)) → Shown real machine freshCore list
+    → (m : Ram) (x : Call) (addr : ℕ) (fault : Fault)
     → RepliesFault (step_of (coreAfter (lent_of real machine list)) m.base m.bytes x).reply addr fault
     → (Row fault.fsc ⊎ (fault.fsc ≡ 0x10)) × FaultFrom (answersAfter (lent_of real machine list) m x) addr fault

@@ -1,7 +1,8 @@
--- The counters of each level, for every list of calls from the fresh core. Document 02: "Keep `hits` and `walks` for each exception level 0 to
--- 3, counted at the level of the access, which `unprivileged` doesn't lower. Their sums, wrapped at 2^64, are what the Rust's two counters are
--- matched with". Which translations a list made, at which level, and how each was answered is read from the plain model, on the events of the
--- list (Events.antt; RAM at a zeroing's later stores as the run shows it: Starts.antt).
+-- The counters of each level, for every list of calls from the fresh core. Document 02: "Keep `hits` and `walks` for
+-- each exception level 0 to 3, counted at the level of the access, which `unprivileged` doesn't lower. Their sums,
+-- wrapped at 2^64, are what the Rust's two counters are matched with". Which translations a list made, at which level,
+-- and how each was answered is read from the plain model, on the events of the list (Events.antt; RAM at a zeroing's
+-- later stores as the run shows it: Starts.antt).
 use Rattle.std.specs.Prelude.{◌≡◌, Bool, true, false, List, ℕ, ◌+◌, ◌%◌, ◌^◌}
 use Rattle.tlb.specs.Count.{tallyAt}
 use Rattle.tlb.specs.Counting.{howFetched, Totals, sums}
@@ -88,7 +89,8 @@ module _ (list : List (Lent real machine)) (m : Ram) (x : Call) where
   abbrev pub sums_call : Type 0
   sums_call = totalsOf then ≡ rustAfter (madeAfter list m x) (totalsOf (now list))
 
--- CALLS THAT TRANSLATE NOTHING: AT, TLBI and the rest of `sys` but DC ZVA, register writes, settings, abort entries, a census
+-- CALLS THAT TRANSLATE NOTHING: AT, TLBI and the rest of `sys` but DC ZVA, register writes, settings, abort entries, a
+-- census
 abbrev pub quietOp : SysOp → Bool
 quietOp Op.Zva = false
 quietOp Op.Tlbi = true
@@ -117,16 +119,18 @@ abbrev pub quiet_stays : Type 0
 quiet_stays =
     EveryCall
     (λ list m x. quiet (bareAfter list) x ≡ true → (l : ℕ)
-    → (hitsOf (tlbAfterCall list m x) l ≡ hitsOf (coreAfter list).tlb l) × (walksOf (tlbAfterCall list m x) l ≡ walksOf (coreAfter list).tlb l))
+    → (hitsOf (tlbAfterCall list m x) l ≡ hitsOf (coreAfter list).tlb l)
+    × (walksOf (tlbAfterCall list m x) l ≡ walksOf (coreAfter list).tlb l))
 
 abbrev pub refused_stays : Type 0
 refused_stays =
     EveryCall
     (λ list m x. (rulingIn (bareAfter list) m x ≡ allowed → ⊥) → (l : ℕ)
-    → (hitsOf (tlbAfterCall list m x) l ≡ hitsOf (coreAfter list).tlb l) × (walksOf (tlbAfterCall list m x) l ≡ walksOf (coreAfter list).tlb l))
+    → (hitsOf (tlbAfterCall list m x) l ≡ hitsOf (coreAfter list).tlb l)
+    × (walksOf (tlbAfterCall list m x) l ≡ walksOf (coreAfter list).tlb l))
 
--- THE MARK, of the translation that a fetch begins with (of others: `mark-free`, tlb/specs/Counting.antt): the counters are a function of how it
--- was answered and of the level
+-- THE MARK, of the translation that a fetch begins with (of others: `mark-free`, tlb/specs/Counting.antt): the counters
+-- are a function of how it was answered and of the level
 abbrev pub fetch_mark_free : Type 0
 fetch_mark_free =
     (a b : Access) (m : Model) → a.privilege.level ≡ b.privilege.level → howFetched a m ≡ howFetched b m

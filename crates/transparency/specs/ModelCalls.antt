@@ -69,7 +69,8 @@ every_core_well = EveryList (λ list. Well (coreAfter list))
 pub record Modelled (list : List (Lent real machine)) (m : Ram) (x : Call) : Type 0 where
   pub before : live (coreAfter list).tlb ≡ modelAfterList list
   pub answers : answersAfter list m x ≡ modelAnswersAfter list m x
-  pub reply : outcomeOf (coreAfter list) m x ≡ saysIn (bareAfter list) m (laterIn (coreAfter list) m x) x (modelAnswersAfter list m x)
+  pub reply : outcomeOf (coreAfter list) m x
+      ≡ saysIn (bareAfter list) m (laterIn (coreAfter list) m x) x (modelAnswersAfter list m x)
   pub after : live (tlbAfterCall list m x) ≡ modelAfterCall list m x
   pub counts : countersOf (tlbAfterCall list m x).counts ≡ (modelAfterCall list m x).counts
   pub pending : pendingOf (tlbAfterCall list m x).broadcast ≡ (modelAfterCall list m x).pending

@@ -66,7 +66,8 @@ settled = SettledAt (fedBy tidied) new 0x40001234
 
 abbrev pub by_cache : Type 0
 by_cache =
-    ((translationIn (accessOf real (plainIn (bareAfter tidied)) new Read 0x40001234) (coreAfter tidied).tlb).source ≡ FromHint)
+    ((translationIn (accessOf real (plainIn (bareAfter tidied)) new Read 0x40001234) (coreAfter tidied).tlb).source
+    ≡ FromHint)
     × ((step_of (coreAfter tidied) new.base new.bytes read).reply ≡ Value 0xC0001234)
     × (uncached real (plainIn (bareAfter tidied)) new Read 0x40001234 ≡ Address 0xC0001234)
 
@@ -81,13 +82,16 @@ stale =
 abbrev pub unsettled : Type 0
 unsettled = SettledAt (fedBy start) new 0x40001234 → ⊥
 
--- THE COUNTERS BY LEVEL. EL1's first read was walked. Under the mark EL1 reads again: judged as EL0's it is refused by the entry, and that is a
--- hit of EL1, not of EL0; a fetch under the mark, which is judged as EL1's, is another. Then EL0 fetches from the page, whose fetch hint is of EL1:
--- a hit of EL0.
+-- THE COUNTERS BY LEVEL. EL1's first read was walked. Under the mark EL1 reads again: judged as EL0's it is refused by
+-- the entry, and that is a hit of EL1, not of EL0; a fetch under the mark, which is judged as EL1's, is another. Then
+-- EL0 fetches from the page, whose fetch hint is of EL1: a hit of EL0.
 abbrev pub counted : List (Lent real machine)
-counted = start ++ lent old (Mark true) ∷ lent old read ∷ lent old (FetchPa 0x40001234) ∷ lent old (Level 0) ∷ lent old (FetchPa 0x40001234) ∷ []
+counted =
+    start ++ lent old (Mark true) ∷ lent old read ∷ lent old (FetchPa 0x40001234) ∷ lent old (Level 0)
+    ∷ lent old (FetchPa 0x40001234) ∷ []
 
 abbrev pub by_level : Type 0
 by_level =
     (coreAfter counted).tlb.counts.levels
-    ≡ record { hits = 1; walks = 0 } ∷ record { hits = 2; walks = 1 } ∷ record { hits = 0; walks = 0 } ∷ record { hits = 0; walks = 0 } ∷ []
+    ≡ record { hits = 1; walks = 0 } ∷ record { hits = 2; walks = 1 } ∷ record { hits = 0; walks = 0 }
+    ∷ record { hits = 0; walks = 0 } ∷ []

@@ -1,3 +1,3 @@
 #![tactic(auto)]
-// Demand 3 of every list of calls: definitions in specs/, and the theorems about them.
+// Every list of calls of a core: definitions in specs/, and the theorems about them.
 pub mod theorems;

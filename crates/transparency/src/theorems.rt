@@ -1,5 +1,5 @@
-// What is proved of every list of calls: each function does nothing, and its contract is the theorem. The lists begin at
-// the fresh core, hold calls of every kind, refused ones too, and RAM at each step is any.
+// What is proved of every list of calls: each function does nothing, and its contract is the theorem. The lists begin
+// at the fresh core, hold calls of every kind, refused ones too, and RAM at each step is any.
 ghost use Rattle.mmu.specs.Core.{freshCore};
 ghost use Rattle.history.specs.Calls.{Bridge, Demand3Calls, SameReplies, InvisibleCalls};
 ghost use Rattle.history.specs.Instance.{real};
@@ -36,8 +36,8 @@ pub fn every_translation()
     ensures shown { every_list_shown }
 {}
 
-/// Where all pages that a call translates are settled, its reply and RAM after it are those of the core without a cache;
-/// where no table is changed without its TLBI, no reply of a whole list shows the cache. Rules out an answer
+/// Where all pages that a call translates are settled, its reply and RAM after it are those of the core without a
+/// cache; where no table is changed without its TLBI, no reply of a whole list shows the cache. Rules out an answer
 /// that is right inside and replied, or stored, wrong.
 pub fn every_reply()
     ensures same { SameReplies real machine replies freshCore }
@@ -115,8 +115,8 @@ pub fn every_census()
 {}
 
 /// What a count means: how many pages the core without a cache answers with that fault; that a page under a permission
-/// byte is answered with an address just where the byte has the bit; that a flat page is its own address. Rules out a page
-/// counted under another status, or twice.
+/// byte is answered with an address just where the byte has the bit; that a flat page is its own address. Rules out a
+/// page counted under another status, or twice.
 pub fn census_meaning()
     ensures faults { census_faults }
     ensures rights { rights_allow }
@@ -130,15 +130,16 @@ pub fn every_judgement()
     ensures rows { every_row }
 {}
 
-/// A fault that a call replies is a row of the table and comes from one of its translations, with the address translated;
-/// or it is 0x10, with the address of a byte of the access. Rules out a made-up status and the address of another page.
+/// A fault that a call replies is a row of the table and comes from one of its translations, with the address
+/// translated; or it is 0x10, with the address of a byte of the access. Rules out a made-up status and the address of
+/// another page.
 pub fn every_fault()
     ensures row { every_fault_row }
 {}
 
-/// A worked list: with a TLBI of another page of the same block the page is settled and a hint answers, rightly; without
-/// it the core answers by the old table, and the page is not settled. Rules out a premise that nothing meets, or that
-/// all meet. And the counters by level after another list, under the mark and at two levels.
+/// A worked list: with a TLBI of another page of the same block the page is settled and a hint answers, rightly;
+/// without it the core answers by the old table, and the page is not settled. Rules out a premise that nothing meets,
+/// or that all meet. And the counters by level after another list, under the mark and at two levels.
 pub fn worked_list()
     ensures settled { settled }
     ensures by_cache { by_cache }
@@ -147,21 +148,22 @@ pub fn worked_list()
     ensures by_level { by_level }
 {}
 
-/// Every core that calls reach is well-formed: a level of 3 at most, the cache's invariant, the ASID of its registers; and
-/// its cache stands for the plain model of the list. Rules out an entry of an old generation that comes alive at a wrap.
+/// Every core that calls reach is well-formed: a level of 3 at most, the cache's invariant, the ASID of its registers;
+/// and its cache stands for the plain model of the list. Rules out an entry of an old generation that comes alive at a
+/// wrap.
 pub fn every_core()
     ensures well { every_core_well }
     ensures modelled { every_list_modelled }
 {}
 
-/// Each call's answers, reply, RAM, counters, what it leaves pending and its cache are the plain model's. Rules out a core
-/// that never invalidates, and one that walks each time and makes its counters up.
+/// Each call's answers, reply, RAM, counters, what it leaves pending and its cache are the plain model's. Rules out a
+/// core that never invalidates, and one that walks each time and makes its counters up.
 pub fn every_call()
     ensures modelled { every_call_modelled }
 {}
 
-/// A translation counts one hit where an entry answers it, one walk where it is walked, faulting or not, and nothing by a
-/// hint or with stage 1 off. Rules out a hint counted as a hit, and a faulting walk that is not counted.
+/// A translation counts one hit where an entry answers it, one walk where it is walked, faulting or not, and nothing by
+/// a hint or with stage 1 off. Rules out a hint counted as a hit, and a faulting walk that is not counted.
 pub fn counted_translations()
     ensures translate { AfterEveryList translate_counted }
     ensures data_pa { AfterEveryList data_pa_counted }
@@ -180,8 +182,8 @@ pub fn counted_invalidations()
     ensures own { EveryTlbi own_pending }
 {}
 
-/// A register write flushes where `shaping` changed, retags where the ASID did, and does nothing to the cache where neither
-/// did. Rules out a flush or a retag forgotten, and one that is counted twice.
+/// A register write flushes where `shaping` changed, retags where the ASID did, and does nothing to the cache where
+/// neither did. Rules out a flush or a retag forgotten, and one that is counted twice.
 pub fn counted_writes()
     ensures modelled { EveryWrite write_modelled }
     ensures quiet { EveryWrite write_quiet }
@@ -197,8 +199,8 @@ pub fn level_counters()
     ensures sums { EveryList sums_list }
 {}
 
-/// A call moves the counters of its own level alone, by its own translations; one that translates nothing moves none; and
-/// the mark does not count. Rules out a count at another level, and one for AT, a census or a register write.
+/// A call moves the counters of its own level alone, by its own translations; one that translates nothing moves none;
+/// and the mark does not count. Rules out a count at another level, and one for AT, a census or a register write.
 pub fn counter_moves()
     ensures level { EveryCall call_level }
     ensures others { EveryCall others_stay }
@@ -210,8 +212,8 @@ pub fn counter_moves()
 {}
 
 /// Byte i of a load or a store, split or not, lies at the translation of its own address, no other byte changes, and a
-/// zeroing that is done leaves 64 zero bytes. Rules out a byte of the next page taken from the first frame, and a zeroing of
-/// fewer bytes or of the wrong line.
+/// zeroing that is done leaves 64 zero bytes. Rules out a byte of the next page taken from the first frame, and a
+/// zeroing of fewer bytes or of the wrong line.
 pub fn every_byte()
     ensures flat { AfterEveryRun flat_after }
     ensures load { load_byte_after }

@@ -2,7 +2,7 @@
 use std::fmt;
 use walk::regime::Regime;
 
-fn bit(x: u64, n: u64) -> u64 {
+pub fn bit(x: u64, n: u64) -> u64 {
     (x >> (n % 64)) % 2
 }
 

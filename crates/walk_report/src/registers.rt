@@ -1,11 +1,8 @@
 // The registers that a translation reads.
+use crate::fields::bit;
 use std::io::Write;
 use std::{fmt, io};
 use walk::regime::{Bank, Regime};
-
-fn bit(x: u64, n: u64) -> u64 {
-    (x >> (n % 64)) % 2
-}
 
 fn granule(large: bool) -> &'static str {
     if large { "64K" } else { "4K" }

@@ -7,11 +7,11 @@ ghost use Rattle.words.specs.CoreOf.{core_of};
 ghost use Rattle.words.specs.NowHolds.{NowHolds};
 ghost use Rattle.words_sys.specs.Register.{flushed, retagged, refitted, reshaped, registered};
 
-use sysreg::regs::{ControlReg, El, Register};
 use sysreg::encoding;
+use sysreg::regs::{ControlReg, El, Register};
+use sysreg::write::WriteError;
 use words::place::State;
 use words::{clear, counts, regs, state};
-use sysreg::write::WriteError;
 
 // Every entry and every hint out.
 pub fn flush(state: &mut State)

@@ -1,5 +1,6 @@
--- The counters by level as a caller reads them among a state's words: after `a72_fresh` and any list of exported calls each holds the number of
--- translations made at its level that an entry answered, or that were walked; and their sums are the Rust's two counters.
+-- The counters by level as a caller reads them among a state's words: after `a72_fresh` and any list of exported calls
+-- each holds the number of translations made at its level that an entry answered, or that were walked; and their sums
+-- are the Rust's two counters.
 use Rattle.std.specs.Prelude.{◌≡◌, List, ℕ, ◌+◌, ◌%◌, ◌^◌, ◌<◌}
 use Rattle.tlb.specs.Counting.{Totals}
 use Rattle.history.specs.Calls.{Lent}
@@ -14,8 +15,10 @@ use Rattle.words_transparency.specs.OnWords.{Made}
 abbrev pub totalsIn : List ℕ → Totals
 totalsIn ws =
     record {
-      hits = (word ws LEVEL-HITS + word ws (LEVEL-HITS + 1) + word ws (LEVEL-HITS + 2) + word ws (LEVEL-HITS + 3)) % 2 ^ 64;
-      walks = (word ws LEVEL-WALKS + word ws (LEVEL-WALKS + 1) + word ws (LEVEL-WALKS + 2) + word ws (LEVEL-WALKS + 3)) % 2 ^ 64;
+      hits =
+          (word ws LEVEL-HITS + word ws (LEVEL-HITS + 1) + word ws (LEVEL-HITS + 2) + word ws (LEVEL-HITS + 3)) % 2 ^ 64;
+      walks =
+          (word ws LEVEL-WALKS + word ws (LEVEL-WALKS + 1) + word ws (LEVEL-WALKS + 2) + word ws (LEVEL-WALKS + 3)) % 2 ^ 64;
     }
 
 abbrev pub hits_on_words : Type 0

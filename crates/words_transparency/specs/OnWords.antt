@@ -42,19 +42,23 @@ pub data Made : List ℕ → List (Lent real machine) → Type 0 where
   stepped : (call : DecodedCall) (base : ℕ) (ram ws : List ℕ) (n : ℕ) (old v ys xs : List ℕ) (list : List (Lent real machine))
       → Made ws list → StepPromise call base ram ws n old v ys xs → Made xs (list ++ added call base ram)
   looked : (first pages base : ℕ) (ram ws : List ℕ) (n : ℕ) (old counts : List ℕ) (list : List (Lent real machine))
-      → Made ws list → CensusPromise first pages base ram ws n old counts → Made ws (list ++ added (Known (Census first pages)) base ram)
+      → Made ws list → CensusPromise first pages base ram ws n old counts
+      → Made ws (list ++ added (Known (Census first pages)) base ram)
 
-run-append : (c : Core) (l k : List (Lent real machine)) → run real machine c (l ++ k) ≡ run real machine (run real machine c l) k
+run-append : (c : Core) (l k : List (Lent real machine))
+    → run real machine c (l ++ k) ≡ run real machine (run real machine c l) k
 run-append c [] k = refl
 run-append c (x ∷ l) k = run-append (step_of c x.ram.base x.ram.bytes x.call).core l k
 
-run-added : (call : DecodedCall) (c : Core) (base : ℕ) (ram : List ℕ) → callCore call c base ram ≡ run real machine c (added call base ram)
+run-added : (call : DecodedCall) (c : Core) (base : ℕ) (ram : List ℕ)
+    → callCore call c base ram ≡ run real machine c (added call base ram)
 run-added (Known x) c base ram = refl
 run-added Unknown c base ram = refl
 
 -- one call more
 grown : (call : DecodedCall) (base : ℕ) (ram ws xs : List ℕ) (list : List (Lent real machine))
-    → core_of ws ≡ coreAfter list → NowHolds ws xs (callCore call (core_of ws) base ram) → core_of xs ≡ coreAfter (list ++ added call base ram)
+    → core_of ws ≡ coreAfter list → NowHolds ws xs (callCore call (core_of ws) base ram)
+    → core_of xs ≡ coreAfter (list ++ added call base ram)
 grown call base ram ws xs list e m =
     m.holds ∙ ap (λ (c : Core). callCore call c base ram) e ∙ run-added call (coreAfter list) base ram
     ∙ (rw (run-append freshCore list (added call base ram)) refl)
@@ -85,7 +89,8 @@ demand-3-on-words ws list m x base ram n old v ys xs p = p.demand-3 list (made-c
 abbrev pub faithful_step_on_words : Type 0
 faithful_step_on_words =
     (ws : List ℕ) (list : List (Lent real machine)) → Made ws list
-    → (x : Call) (base : ℕ) (ram : List ℕ) (n : ℕ) (old v ys xs : List ℕ) → StepPromise (Known x) base ram ws n old v ys xs
+    → (x : Call) (base : ℕ) (ram : List ℕ) (n : ℕ) (old v ys xs : List ℕ)
+    → StepPromise (Known x) base ram ws n old v ys xs
     → FaithfulWords list (windowOf base ram) x v ys
 
 pub demand-3-step : faithful_step_on_words
@@ -95,7 +100,8 @@ demand-3-step ws list m x base ram n old v ys xs p = p.demand-3 list (made-core 
 abbrev pub counts_on_words : Type 0
 counts_on_words =
     (ws : List ℕ) (list : List (Lent real machine)) → Made ws list
-    → (first pages base : ℕ) (ram : List ℕ) (n : ℕ) (old counts : List ℕ) → CensusPromise first pages base ram ws n old counts
+    → (first pages base : ℕ) (ram : List ℕ) (n : ℕ) (old counts : List ℕ)
+    → CensusPromise first pages base ram ws n old counts
     → (counts ≡ bareCounts (bareAfter list) (windowOf base ram) first pages old)
     × (n ≡ codeBy (bareReply (bareAfter list) (windowOf base ram) (Census first pages)).reply)
 

@@ -1,5 +1,5 @@
-// What is proved of every list of exported calls: each function does nothing, and its contract is the theorem. `Made` says
-// that `a72_fresh` wrote the words, and then exported calls, each as its contract promises.
+// What is proved of every list of exported calls: each function does nothing, and its contract is the theorem. `Made`
+// says that `a72_fresh` wrote the words, and then exported calls, each as its contract promises.
 ghost use Rattle.words_transparency.specs.OnWords.{words_hold_core};
 ghost use Rattle.words_transparency.specs.OnWords.{faithful_on_words, faithful_step_on_words, counts_on_words};
 ghost use Rattle.words_transparency.specs.Counters.{hits_on_words, walks_on_words, sums_on_words};
@@ -10,8 +10,8 @@ pub fn made_words()
     ensures hold { words_hold_core }
 {}
 
-/// On such words each further call is faithful: settled pages are answered as by the core without a cache, by number and
-/// by words; and a census counts, and answers, as that core does. Rules out an exported call whose own fast path
+/// On such words each further call is faithful: settled pages are answered as by the core without a cache, by number
+/// and by words; and a census counts, and answers, as that core does. Rules out an exported call whose own fast path
 /// answers by an entry or a hint that an earlier call should have dropped.
 pub fn every_call_on_words()
     ensures call { faithful_on_words }

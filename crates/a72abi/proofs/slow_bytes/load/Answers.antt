@@ -9,9 +9,9 @@ pub returns-then-in_page-size : goal.returns-then-in_page-size
 unfolding missedOf
 returns-then-in_page-size c = search (passed-gives, sized-load, rules)
 
-pub returns-in-Some : goal.returns-in-Some
+pub returns-in-Some-by_hint : goal.returns-in-Some-by_hint
 unfolding missedOf
-returns-in-Some c = search (passed-gives, sized-load, hint-load, near-width, rules)
+returns-in-Some-by_hint c = search (passed-gives, sized-load, hint-load, near-width, rules)
 
 pub returns-in-None : goal.returns-in-None
 unfolding missedOf

@@ -15,13 +15,13 @@ pub returns-then-in_page-size-clause-ram_after : goal.returns-then-in_page-size-
 unfolding missedOf
 returns-then-in_page-size-clause-ram_after c = search (passed-ram-is, sized-store-ram, rules)
 
-pub returns-in-Some-clause-gives : goal.returns-in-Some-clause-gives
+pub returns-in-Some-by_hint-clause-gives : goal.returns-in-Some-by_hint-clause-gives
 unfolding missedOf
-returns-in-Some-clause-gives c = search (passed-gives, sized-store, hint-store, near-width, rules)
+returns-in-Some-by_hint-clause-gives c = search (passed-gives, sized-store, hint-store, near-width, rules)
 
-pub returns-in-Some-clause-ram_after : goal.returns-in-Some-clause-ram_after
+pub returns-in-Some-by_hint-clause-ram_after : goal.returns-in-Some-by_hint-clause-ram_after
 unfolding missedOf
-returns-in-Some-clause-ram_after c = search (passed-ram-is, sized-store-ram, hint-store-ram, near-width, rules)
+returns-in-Some-by_hint-clause-ram_after c = search (passed-ram-is, sized-store-ram, hint-store-ram, near-width, rules)
 
 pub returns-in-None-clause-gives : goal.returns-in-None-clause-gives
 unfolding missedOf

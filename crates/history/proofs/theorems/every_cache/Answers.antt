@@ -5,7 +5,8 @@ use Rattle.history.proofs.Theorem.{history-asid}
 use Rattle.history.proofs.theorems.every_cache.Goals as goal
 
 pub returns-clause-modelled : goal.returns-clause-modelled
-returns-clause-modelled c = λ past. run-stands real real-laws past freshPlain (omega arith) (fresh-stands real real-laws)
+returns-clause-modelled c =
+    λ past. run-stands real real-laws past freshPlain (omega arith) (fresh-stands real real-laws)
 
 pub returns-clause-answers : goal.returns-clause-answers
 returns-clause-answers c = λ past m s. history-answers real real-laws freshPlain (omega arith) past m s.asks
