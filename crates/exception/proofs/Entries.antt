@@ -1,6 +1,6 @@
 -- A synchronous exception is taken.
 use Rattle.std.specs.Prelude.{Some, ◌%◌, ◌^◌}
-use Rattle.std.proofs.Common.{◌≡◌, ℕ, refl, ap, ◌∙◌}
+use Rattle.std.proofs.Common.{◌≡◌, ℕ, ap, ◌∙◌}
 use Rattle.sysreg.specs.declared.regs.SysRegs.{SysRegs}
 use Rattle.exception.specs.declared.{kind.Exception.Exception, flags.Flags.Flags}
 use Rattle.exception.specs.declared.{take.Entered.Entered, take.Reported.Reported}

@@ -1,5 +1,5 @@
 -- Laws of exception entry: which registers change, and where it goes.
-use Rattle.std.specs.Prelude.{◌≡◌, ℕ, zero, suc, ◌+◌, ◌%◌, ◌^◌, ◌<◌, ◌≤◌, Bool, true, false, slice_index, Option, Some, None}
+use Rattle.std.specs.Prelude.{◌≡◌, ℕ, zero, suc, ◌%◌, ◌^◌, ◌<◌, ◌≤◌, Bool, true, false, slice_index, Option, Some, None}
 use Rattle.std.proofs.Math.Path.{refl}
 use Rattle.std.proofs.Common.{◌∙◌, arith}
 use Rattle.std.proofs.Math.Nat.{mod-eq_of_lt}
@@ -15,7 +15,7 @@ use Rattle.exception.specs.declared.kind.Exception.TheVariants.{Undefined, Svc, 
 use Rattle.exception.specs.Pstate.{spsrOf}
 use Rattle.exception.specs.Syndrome.{syndromeOf}
 use Rattle.exception.specs.Route.{defaultTarget, smcTrapped, callTarget, targetEl, generated, routedTo}
-use Rattle.exception.specs.Entry.{sameEl, atTarget, enteredSys, registerAfter, ofEntry, farAfter, updated, given, enteredWith, takenTo}
+use Rattle.exception.specs.Entry.{sameEl, enteredSys, registerAfter, ofEntry, farAfter, updated, given, enteredWith, takenTo}
 use Rattle.exception.specs.Entry.{takeException, origin_of, syncReport, syncChanges, takeSync}
 
 module _ (s : SysRegs) (target : El) (r : Report) (spsr ret : ℕ) where
