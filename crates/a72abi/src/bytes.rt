@@ -198,9 +198,7 @@ pub fn a72_store(
                         slow_bytes::store(state, va, size, value, ans, base, ram)
                     }
                 }
-                None => slow_bytes::store_page(
-                    state, va, size, value, ans, base, ram,
-                ),
+                None => slow_bytes::store_page(state, va, size, value, ans, base, ram),
             }
         }
     } else {
