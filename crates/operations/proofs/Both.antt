@@ -4,7 +4,6 @@ use native.Mathlib.Nat.{pow-zero}
 use Rattle.word.specs.Bits.{pick, wrap}
 use Rattle.word.specs.Ram.{within, written, stored, bytes_of}
 use Rattle.word.specs.declared.ram.Word.{Word}
-use Rattle.word.specs.declared.ram.Word.TheVariants as Word
 use Rattle.word.specs.RamLaws.{digit-next, written_next}
 use Rattle.operations.specs.Place.{byte_at, firstOutside, verdictOf}
 use Rattle.operations.specs.Bytes.{splitValue, splitStored, load_of, storeRam}

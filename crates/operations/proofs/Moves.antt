@@ -4,7 +4,6 @@ use native.Mathlib.Nat.{pow-le-pow_right}
 use Rattle.word.specs.Bits.{pick}
 use Rattle.word.specs.Ram.{littleEndian, within, word_at, stored}
 use Rattle.word.specs.declared.ram.Word.{Word}
-use Rattle.word.specs.declared.ram.Word.TheVariants as Word
 use Rattle.operations.specs.Place.{byte_at, firstOutside, verdictOf}
 use Rattle.operations.specs.Bytes.{byteIn, splitValue, splitStored, gotBy, load_of}
 use Rattle.operations.specs.BytesLaws.{stored-length}

@@ -5,7 +5,6 @@ use Rattle.std.specs.Prelude.{◌≡◌, ℕ, ◌-◌, ◌^◌, ◌<◌, Bool, t
 use Rattle.word.specs.Bits.{pick}
 use Rattle.word.specs.Ram.{within}
 use Rattle.word.specs.declared.ram.Word.{Word}
-use Rattle.word.specs.declared.ram.Word.TheVariants as Word
 use Rattle.operations.specs.Place.{byte_at}
 use Rattle.operations.specs.Bytes.{splitValue, splitStored}
 use Rattle.operations.specs.declared.place.Pages.{Pages}

@@ -8,7 +8,6 @@ use Rattle.operations.specs.declared.bytes.Insn.{Insn}
 use Rattle.operations.specs.declared.place.Place.TheVariants.{Whole, Split}
 use Rattle.operations.specs.declared.place.Verdict.TheVariants.{Inside, Outside}
 use Rattle.operations.specs.declared.bytes.Got.TheVariants.{Value, Abort}
-use Rattle.operations.specs.declared.bytes.Insn.TheVariants as Insn
 
 -- the byte at a physical address, 0 outside RAM
 unfoldable pub byteIn : ℕ → List ℕ → ℕ → ℕ

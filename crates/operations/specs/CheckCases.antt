@@ -1,5 +1,5 @@
 -- Numbers of a census, computed; and parts of a range that is allowed are.
-use Rattle.std.specs.Prelude.{◌≡◌, ℕ, ◌+◌, ◌*◌, ◌/◌, ◌%◌, ◌^◌, ◌≤◌, Bool, true, false, ◌||◌, [], ◌∷◌, nat_lt, refl}
+use Rattle.std.specs.Prelude.{◌≡◌, ℕ, ◌+◌, ◌*◌, ◌^◌, ◌≤◌, Bool, true, false, ◌||◌, [], ◌∷◌, nat_lt, refl}
 use Rattle.std.proofs.Common.{ap, arith, le-ltb, ltb-false}
 use Rattle.word.specs.Bits.{alignDown, flag, wrap}
 use Rattle.operations.specs.Check.{overlong, missedOf}

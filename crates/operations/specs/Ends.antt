@@ -8,7 +8,6 @@ use Rattle.fault.specs.declared.Fault.{Fault}
 use Rattle.tlb.specs.declared.access.Answer.{Answer}
 use Rattle.tlb.specs.declared.access.Answer.TheVariants.{Address, Status}
 use Rattle.exception.specs.declared.kind.Stop.{Stop}
-use Rattle.exception.specs.declared.kind.Stop.TheVariants as Stop
 use Rattle.exception.specs.Abort.{dataAbortAt, insnAbortAt}
 use Rattle.operations.specs.Place.{firstPa, verdictOf}
 use Rattle.operations.specs.Bytes.{load_of, storeRam, insnOf}
@@ -18,11 +17,9 @@ use Rattle.operations.specs.declared.{ends.StoreEnd.StoreEnd, ends.FetchEnd.Fetc
 use Rattle.operations.specs.declared.place.Placed.TheVariants.{At}
 use Rattle.operations.specs.declared.place.Verdict.TheVariants.{Inside, Outside}
 use Rattle.operations.specs.declared.bytes.Got.TheVariants.{Value, Abort}
-use Rattle.operations.specs.declared.bytes.Insn.TheVariants as Insn
 use Rattle.operations.specs.declared.ends.LoadAnswer.TheVariants as Load
 use Rattle.operations.specs.declared.ends.StoreAnswer.TheVariants as Store
 use Rattle.operations.specs.declared.ends.FetchAnswer.TheVariants as Fetch
-use Rattle.operations.specs.declared.ends.Reached.TheVariants as Reached
 
 -- the status of an external abort
 abbrev pub external : Fault

@@ -6,7 +6,7 @@ use Rattle.std.proofs.Common.{sym, ◌∙◌, arith, ne_eqb}
 use Rattle.walk.specs.declared.level.Walked.{Walked}
 use Rattle.walk.specs.declared.level.Walked.TheVariants.{Mapped, Fault}
 use Rattle.tlb.specs.Model.{Slot, empty, holds, Line, Counters, Model, up, upAt, oneHit, oneWalk, line_for, keep, hintPlace, knowing, Access}
-use Rattle.tlb.specs.Model.{Outcome, walked}
+use Rattle.tlb.specs.Model.{walked}
 use Rattle.tlb.specs.Model.{looked, unhinted, noting, noted, tried, hinted, hintable, translate, notingFetch, notedFetch, fetched, fetch}
 use Rattle.tlb.specs.declared.access.Answer.{Answer}
 use Rattle.tlb.specs.declared.access.Answer.TheVariants.{Address, Status}

@@ -1,5 +1,5 @@
 -- The counters of the four levels: what a hit and a walk at a level do to each, as the plain model tells it.
-use Rattle.std.specs.Prelude.{◌≡◌, ℕ, ◌%◌, ◌<◌, ◌≤◌, Bool, true, false, length, ◌==◌, refl}
+use Rattle.std.specs.Prelude.{◌≡◌, ℕ, ◌≤◌, Bool, true, false, length, ◌==◌, refl}
 use Rattle.std.proofs.Common.{sym, ap, ◌∙◌, arith, eqb-true, length-set, ext_get_or}
 use Rattle.word.specs.Bits.{pick}
 use Rattle.tlb.specs.Count.{noTally, hitTaken, walkTaken, levelPlace, tallyAt, withTally, hitCounted, walkCounted}

@@ -14,7 +14,7 @@ use Rattle.tlb.specs.Tlb.{tlbWith}
 use Rattle.tlb.specs.Resolve.{queryOf, entryFor, byWalk, resolveWith, countedBy, keptBy}
 use Rattle.tlb.specs.Translate.{missWith}
 use Rattle.tlb.specs.Model.{empty, holds, Line, Counters, oneHit, oneWalk, counting, keep, Access, lineOfLeaf, reachOf, judge, walked, looked}
-use Rattle.tlb.specs.Model.{unhinted, fetch}
+use Rattle.tlb.specs.Model.{unhinted}
 use Rattle.tlb.specs.Live.{Follows, lineIn, countersOf, live, Made, WellFormed, LeafLevel}
 use Rattle.tlb.specs.Levels.{counted-long, hit-counted, walk-counted}
 use Rattle.tlb.specs.Cells.{judged-is}
