@@ -1,6 +1,6 @@
 -- A data hint that serves gives what the translation gives, and the translation changes nothing.
 use Rattle.std.specs.Prelude.{◌≡◌, ℕ, Bool, true, Option, Some}
-use Rattle.std.proofs.Common.{sym, ap, subst, ◌∙◌}
+use Rattle.std.proofs.Common.{sym, ap, ◌∙◌}
 use Rattle.tlb.specs.Cache.{hintAt}
 use Rattle.tlb.specs.Hint.{onPage}
 use Rattle.tlb.specs.declared.{access.Kind.Kind, hint.Hint.Hint}

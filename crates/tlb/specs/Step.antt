@@ -40,14 +40,16 @@ withTranslation t place slot r = tlbWith t (setHint (setEntry t.cache slot r.ent
 abbrev pub withFetch : Tlb → ℕ → FetchTranslation → Tlb
 withFetch t slot r = tlbWith t (setFetch (setEntry t.cache slot r.entry) r.fetch) r.counts
 
+-- with the changes of a translation at a level: the entry of the slot, the counters
+abbrev pub stored : Tlb → ℕ → ℕ → Resolved → Tlb
+stored t slot level r = tlbWith t (setEntry t.cache slot (keptBy r.source (entry_at t.cache slot) r.made)) (countedBy r.source level t.counts)
+
 -- a translation that no hint serves, and what it leaves
 abbrev pub missIn : Access → Tlb → Resolved
 missIn a t = missWith a.on a.untagged a.walk a.regime a.privilege t.cache.current (entry_at t.cache (slotFor a)) a.va a.kind
 
 abbrev pub afterMiss : Access → Tlb → Tlb
-afterMiss a t =
-    tlbWith t (setEntry t.cache (slotFor a) (keptBy (missIn a t).source (entry_at t.cache (slotFor a)) (missIn a t).made))
-    (countedBy (missIn a t).source a.privilege.level t.counts)
+afterMiss a t = stored t (slotFor a) a.privilege.level (missIn a t)
 
 -- the translation of an access in a cache, and what it leaves
 abbrev pub translationIn : Access → Tlb → Translation

@@ -1,20 +1,52 @@
 // One translation in the cache, in place: the hint, the entry, the walk.
 ghost use Rattle.std.specs.Prelude.{◌≡◌};
 ghost use Rattle.word.specs.Ram.{word_at};
+ghost use Rattle.walk.specs.Walk.{walk_of};
+ghost use Rattle.tlb.specs.Entry.{slot_of};
+ghost use Rattle.tlb.specs.Resolve.{byWalk};
 ghost use Rattle.tlb.specs.declared.access.Kind.TheVariants.{Fetch};
 
 use crate::access::{Answer, Kind, Privilege};
 use crate::hint::{FetchHint, Hint};
-use crate::resolve::Asked;
+use crate::resolve::{Asked, Query};
 use crate::{Tlb, hint, resolve};
 use walk::regime::Bank;
 
 impl Tlb {
-    ghost use Rattle.tlb.specs.Step.{accessOf, missIn, afterMiss, translationIn, tlbAfter, fetchIn, fetchedIn};
+    ghost use Rattle.tlb.specs.Step.{accessOf, stored, missIn, afterMiss, translationIn, tlbAfter, fetchIn, fetchedIn};
+
+    // By a walk: a leaf becomes an entry and is judged, a fault makes none. Out of line, so that a hit pays nothing for it.
+    #[inline(never)]
+    #[tactic(auto, unfolding(crate::specs::Resolve::byWalk, crate::specs::Tlb::put_of))]
+    fn walk(
+        &mut self,
+        q: Query,
+        s: Bank,
+        privilege: Privilege,
+        va: u64,
+        kind: Kind,
+        base: u64,
+        ram: &[u8],
+    ) -> Answer
+        ensures answer { result ≡ (byWalk (walk_of s q.regime q.page (word_at base ram.now 8)) q privilege self.old.cache.current va kind).answer }
+        ensures after { self.new ≡ stored self.old (slot_of q.tag) privilege.level
+            (byWalk (walk_of s q.regime q.page (word_at base ram.now 8)) q privilege self.old.cache.current va kind) }
+    {
+        self.counts.add_walk(privilege.level);
+        match walk::table::walk(s, q.regime, q.page, base, ram) {
+            Ok(leaf) => {
+                let e = resolve::entry_for(leaf, self.cache.current, q.tag);
+                self.put(e);
+                e.judge(privilege.is_user(q.regime, kind), kind, va)
+            }
+            Err(code) => Answer::Status(fault::first(code)),
+        }
+    }
 
     // A translation that no hint serves: with stage 1 off the address itself; else by the entry of its page, or by a
-    // walk. A leaf becomes an entry, a fault none.
-    #[tactic(auto, unfolding(crate::specs::Resolve::askOf, crate::specs::Resolve::resolveWith, crate::specs::Resolve::byWalk, crate::specs::Translate::missWith, crate::specs::Tlb::getOf, crate::specs::Tlb::put_of))]
+    // walk.
+    #[inline(always)]
+    #[tactic(auto, unfolding(crate::specs::Resolve::askOf, crate::specs::Resolve::resolveWith, crate::specs::Translate::missWith, crate::specs::Tlb::getOf))]
     fn miss(
         &mut self,
         s: Bank,
@@ -30,20 +62,11 @@ impl Tlb {
         let Asked::Of(q) = resolve::ask(s, privilege, va) else {
             return Answer::Address(va);
         };
-        let user = privilege.is_user(q.regime, kind);
         if let Some(e) = self.get(q.tag) {
             self.counts.add_hit(privilege.level);
-            return e.judge(user, kind, va);
+            return e.judge(privilege.is_user(q.regime, kind), kind, va);
         }
-        self.counts.add_walk(privilege.level);
-        match walk::table::walk(s, q.regime, q.page, base, ram) {
-            Ok(leaf) => {
-                let e = resolve::entry_for(leaf, self.cache.current, q.tag);
-                self.put(e);
-                e.judge(user, kind, va)
-            }
-            Err(code) => Answer::Status(fault::first(code)),
-        }
+        self.walk(q, s, privilege, va, kind, base, ram)
     }
 
     // Where an access of the kind to va goes: the hint first, where it may serve.
@@ -60,16 +83,13 @@ impl Tlb {
         ensures answer { result ≡ (translationIn (accessOf s privilege va kind (word_at base ram.now 8)) self.old).answer }
         ensures after { self.new ≡ tlbAfter (accessOf s privilege va kind (word_at base ram.now 8)) self.old }
     {
-        if !privilege.may_hint(kind) {
-            return self.miss(s, privilege, va, kind, base, ram);
-        }
+        let hints = privilege.may_hint(kind);
         let place = hint::data_slot(va, kind);
-        let h = self.cache.hints[place];
-        if h.key == hint::hint_key(va, privilege.level) {
-            return Answer::Address(hint::on_page(h.pa, va));
+        if hints && self.cache.hints[place].key == hint::hint_key(va, privilege.level) {
+            return Answer::Address(hint::on_page(self.cache.hints[place].pa, va));
         }
         let answer = self.miss(s, privilege, va, kind, base, ram);
-        if let Answer::Address(pa) = answer {
+        if hints && let Answer::Address(pa) = answer {
             self.cache.hints[place] = Hint::new(va, privilege.level, pa);
         }
         answer

@@ -9,7 +9,6 @@ use Rattle.sysreg.specs.declared.regs.SysReg.TheVariants.{Mair, Vbar}
 use Rattle.walk.specs.Regime as regime
 use Rattle.walk.specs.Regime.{bankOf}
 use Rattle.walk.specs.declared.{regime.Regime.Regime, regime.Bank.Bank}
-use Rattle.walk.specs.declared.regime.Regime.TheVariants as Regime
 use Rattle.tlb.specs.Cache.{hintAt, entry_at}
 use Rattle.tlb.specs.Hint.{noHint}
 use Rattle.tlb.specs.Entry.{blank}

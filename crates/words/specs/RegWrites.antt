@@ -9,7 +9,6 @@ use Rattle.sysreg.specs.declared.regs.SysReg.TheVariants.{Mair, Vbar, Elr, Spsr,
 use Rattle.exception.specs.Entry.{enteredSys}
 use Rattle.exception.specs.declared.report.Report.{Report}
 use Rattle.walk.specs.declared.regime.Regime.{Regime}
-use Rattle.walk.specs.declared.regime.Regime.TheVariants as Regime
 use Rattle.words.specs.CoreOf.{coreOn, coreBy, core_of}
 use Rattle.words.specs.Parts.{withControl, withSys}
 use Rattle.words.specs.NowHolds.{NowHolds, holds_as}

@@ -1,6 +1,6 @@
 -- What the words hold after stores, and after each small part is written.
 use Rattle.std.specs.Prelude.{None, Option, Some}
-use Rattle.std.specs.Prelude.{◌≡◌, ℕ, zero, suc, ◌+◌, ◌*◌, ◌%◌, ◌^◌, ◌<◌, ◌≤◌, Bool, true, false, ◌&&◌, ◌||◌, List, [], ◌∷◌, length, set, ◌==◌, ◌≢◌, nat_le, nat_lt}
+use Rattle.std.specs.Prelude.{◌≡◌, ℕ, zero, suc, ◌+◌, ◌^◌, ◌<◌, ◌≤◌, Bool, true, false, ◌&&◌, ◌||◌, List, [], ◌∷◌, length, set, ◌==◌, ◌≢◌, nat_le, nat_lt}
 use Rattle.std.proofs.Math.Path.{refl, ap}
 use Rattle.std.proofs.Common.{◌∙◌, arith, lt-ltb, ltb-true, leb-true, length-set}
 use Rattle.std.proofs.lemmas.Bool.{false≢true}

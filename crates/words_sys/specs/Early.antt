@@ -6,7 +6,6 @@ use Rattle.word.specs.Ram.{word_at}
 use Rattle.tlb.specs.declared.access.Kind.TheVariants.{Write}
 use Rattle.exception.specs.declared.kind.Exception.TheVariants.{Undefined, Svc, Hvc, Smc, Brk, DataAbort, InsnAbort, PcAlignment}
 use Rattle.exception.specs.declared.kind.Stop.{Stop}
-use Rattle.exception.specs.declared.kind.Stop.TheVariants as Stop
 use Rattle.operations.specs.Place.{verdictOf as judged}
 use Rattle.operations.specs.Ends.{storeEnd, storeEndBy}
 use Rattle.mmu.specs.Ops.{locatedNow, writeOf, ramAfterWrite}
