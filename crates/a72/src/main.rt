@@ -71,7 +71,9 @@ fn walk_command<R: Files + AllocGlobal, W: Write>(
         [path, rest @ ..] if 1 <= rest.len() && rest.len() <= 3 => {
             translation::walk(rt, out, arguments::path(path.as_str())?, rest)
         }
-        _ => Err(Stop::Usage("walk wants a TRACE and an ADDRESS, then a kind of access and a level if you like")),
+        _ => Err(Stop::Usage(
+            "walk wants a TRACE and an ADDRESS, then a kind of access and a level if you like",
+        )),
     }
 }
 
@@ -101,7 +103,9 @@ fn census_command<R: Files + AllocGlobal, W: Write>(
         [path, rest @ ..] if 2 <= rest.len() && rest.len() <= 3 => {
             pages::census(rt, out, arguments::path(path.as_str())?, rest, form)
         }
-        _ => Err(Stop::Usage("census wants a TRACE, a FIRST address and a number of PAGES, then a level and --svg if you like")),
+        _ => Err(Stop::Usage(
+            "census wants a TRACE, a FIRST address and a number of PAGES, then a level and --svg if you like",
+        )),
     }
 }
 

@@ -54,6 +54,13 @@ pub fn walk<R: Files + AllocGlobal, W: Write>(
     if let Some(level) = q.level {
         calls::a72_level(state, level);
     }
-    explain::explain(out, state, machine.base, machine.ram.as_mut_slice(), q.kind, q.va)?;
+    explain::explain(
+        out,
+        state,
+        machine.base,
+        machine.ram.as_mut_slice(),
+        q.kind,
+        q.va,
+    )?;
     Ok(())
 }
