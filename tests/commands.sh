@@ -16,9 +16,12 @@ mkdir -p "$here/crates/word/src" "$here/tools" "$here/tests" "$work/bin"
 cp run check a72 "$here"
 cp tools/said.sh tools/build tools/requires.awk "$here/tools"
 echo 'echo the places are one' >"$here/tests/places.sh"
-printf 'word:\na72: word io\nreplay: word\ncases: word\n' >"$here/crates.txt"
+printf 'word:\na72: word io\nreplay: word\ncases: word\na72_static staticlib: word\n' >"$here/crates.txt"
 echo 'kit of the test' >"$here/kit"
 : >"$here/crates/word/src/lib.rt"
+mkdir -p "$here/crates/a72_static/src" "$here/crates/a72_static/out"
+: >"$here/crates/a72_static/src/lib.rt"
+: >"$here/crates/a72_static/out/liba72_static.a"
 for name in a72 replay cases; do
     mkdir -p "$here/crates/$name/src" "$here/crates/$name/out"
     : >"$here/crates/$name/src/main.rt"
@@ -58,19 +61,23 @@ last() { [ "$(tail -n 1 "$work/$1")" = "$2" ] && pass || fail "its last line is 
 cat >"$DOES" <<'RT'
 # proves both
 echo 'logic /kit: libraries=1' >&2
+echo 'rt: word: begins with what a check kept in /elsewhere/crates/word' >&2
 echo 'statements core: modules loaded=222 checked=0' >&2
 echo 'fn word::bits: proved' >&2
-echo 'rt: word proved' >&2
-echo 'rt: a72 proved' >&2
-echo 'logic=proved functions=1' >&2
+echo 'crate word: modules loaded=0 checked=507' >&2
+echo 'logic=proved functions=19 sum=dac8' >&2
+echo 'library word: modules loaded=12 checked=0' >&2
+echo 'crate a72: modules loaded=3 checked=9' >&2
+echo 'logic=proved functions=1 axioms=3' >&2
 echo 'what the program says when it is built'
 RT
 in_out 0 ./run && {
-    has err 'run: proves a72 and what it stands on, 2 crates: about 11 minutes..'
-    has err 'rt: word proved'
-    has err 'rt: a72 proved'
+    has err 'run: proves a72 and what it stands on, 2 crates: about 15 minutes..'
+    has err 'word: proved, functions: 19'
+    has err 'a72: proved, functions: 1'
     hasnt err 'fn word::bits'
-    hasnt err 'statements core'
+    hasnt err 'modules loaded'
+    hasnt err 'kept in'
     hasnt err 'what the program says'
     has out 'played chord'
 }
@@ -118,6 +125,8 @@ cat >"$DOES" <<'RT'
 echo '== word'
 echo 'fn word::bits: proved'
 echo 'empty contracts: 0 found; tried 1 of 1 functions'
+echo 'crate word: modules loaded=0 checked=507'
+echo 'logic=proved functions=19 sum=dac8'
 echo 'rt: word proved'
 echo 'rt: must-fail word/half_order.edit: refused, as it must be: note: src/lib.rt:1:1'
 echo 'rt: ok; handles allowed: none; must-fail edits: 1 refused, 0 bad'
@@ -129,8 +138,13 @@ in_out 0 ./check && {
     has out 'rt: must-fail word/half_order.edit: refused, as it must be: note: src/lib.rt:1:1'
     has out 'rt: ok; handles allowed: none; must-fail edits: 1 refused, 0 bad'
     hasnt out 'fn word::bits'
+    hasnt out 'proved, functions'
     hasnt out 'check: note'
+    has out 'check: target/staticlib/liba72abi.a is linked'
 }
+mv crates/a72_static/out/liba72_static.a crates/a72_static/out/kept
+in_out 1 ./check && { has err 'check: liba72abi.a is not linked'; last out '3 passed, 1 failed'; }
+mv crates/a72_static/out/kept crates/a72_static/out/liba72_static.a
 echo 'another kit' >kit
 in_out 0 ./check && { has out 'check: note: this kit is..'; last out '3 passed, 0 failed'; }
 for code in 1 2; do
@@ -153,12 +167,13 @@ in_out 2 ./check some
 # The tests outside it: each is counted, what fails shows its end, and what says nothing has failed.
 echo "echo 'rt: ok'; echo '3 passed, 0 failed'" >"$DOES"
 printf 'echo first; echo all good\n' >tests/good.sh
-printf 'echo first; echo broken; exit 3\n' >tests/bad.sh
+printf 'echo first; echo differs: the one at fault; seq 100; echo broken; exit 3\n' >tests/bad.sh
 : >tests/silent.sh
 in_out 1 ./check tests && {
     has out 'check: tests/good.sh: all good (..'
     has out 'check: tests/bad.sh: FAILED (..'
     has out '    broken'
+    has out '    differs: the one at fault'
     has out 'check: tests/silent.sh: FAILED (..'
 }
 

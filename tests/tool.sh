@@ -220,13 +220,32 @@ refused 1 'the window passes 2^64' census "$work/bad" 0 10
 refused 2 'usage:' census "$layout" 0
 refused 2 'usage:' census "$layout" 0 10 1 2
 refused 1 'LEVEL: 0, 1, 2 or 3' census "$layout" 0 10 --svg --svg
+printf '%s\n' 'tr 1 0' >"$work/good"
+mkfifo "$work/pipe" && { cat "$work/good" >"$work/pipe" & }
+refused 1 'not a file that can be read twice' run "$work/pipe"
+refused 1 'an argument is not text in UTF-8' run "$(printf 'a\377')"
+"$tool" run "$work/good" >/dev/full 2>"$work/err"
+{ [ $? = 1 ] && grep -q '^a72: write: ' "$work/err" && pass; } || fail 'output that cannot be written'
 refused 2 'usage:' chord now
 refused 2 'usage:' tune
 refused 2 'usage:'
 
+# Help and version, on standard output.
+"$tool" help >"$work/help" 2>&1 && grep -q '^usage: a72 run TRACE' "$work/help" && pass || fail help
+for word in -h --help; do "$tool" "$word" 2>&1 | cmp -s - "$work/help" && pass || fail "$word"; done
+[ "$("$tool" --version 2>&1)" = "a72 $(sed -n 's/^version = "\(.*\)"/\1/p' bindings/rust/Cargo.toml)" ] && pass || fail '--version'
+
+# On a terminal the lines are those of a file.
+if command -v python3 >/dev/null; then
+    "$tool" run recorded/cases.trace >"$work/ours" 2>&1
+    python3 -c 'import pty, sys; pty.spawn(sys.argv[1:])' "$tool" run recorded/cases.trace </dev/null | tr -d '\r' | cmp -s - "$work/ours" && pass || fail 'lines on a terminal'
+fi
+
 # A trace is read as the Rust reads it.
 printf '\n  # only a comment\nwindow 0 1000 \t # a comment\ntr +1 00000000000000FF ignored\r\nlevel 1' >"$work/odd"
 same "$work/odd" 'spaces, signs, comments'
+printf 'level\v1\ntr\f1 40001234\r\n\rlevel 1\n' >"$work/odd"
+same "$work/odd" 'white space of ASCII'
 printf 'mark 2\nabort data 1000 ffff ff\nabort data 1000 0 0\nabort insn 1000 ff\nabort svc ffff\nabort brk 0\n' >"$work/odd"
 same "$work/odd" 'flags, statuses and immediates at their ends'
 : >"$work/empty"

@@ -17,18 +17,32 @@ trap 'stop 129' HUP
 trap 'stop 130' INT
 trap 'stop 143' TERM
 
-# What rt says, without the line of each function that is proved: a line for each crate and each edit, and every error as it stands. HOW: all; new,
-# where what was proved before says nothing. rt's last line goes to $own/tally. (Line by line in sh: mawk waits until it has 4 KB.)
+# What rt says, without the line of each function that is proved and of what it loads or keeps: a line for each crate and each edit, and every error as
+# it stands. HOW: all, where rt says itself that a crate is proved; new, where it does not, and what was proved before says nothing. rt's last line goes to
+# $own/tally. (Line by line in sh: mawk waits until it has 4 KB.)
 speak() { # HOW
+    crate=
     while IFS= read -r line || [ -n "$line" ]; do
         case $line in
+        'crate '*': modules loaded='*)
+            crate=${line%%: modules *} crate=${crate#crate }
+            continue
+            ;;
+        'logic=proved functions='*)
+            number=${line#logic=proved functions=}
+            [ "$1" = all ] || [ -z "$crate" ] || printf '%s: proved, functions: %s\n' "$crate" "${number%% *}"
+            crate=
+            continue
+            ;;
         'fn '*': proved' | 'enum '*': proved' | 'struct '*': proved' | 'const '*': proved' | 'impl '*': proved' | 'trait '*': proved') continue ;;
-        'logic '* | 'crate '* | 'statements '* | 'logic=proved'* | 'checked '*' of '* | 'so far: '* | 'empty contracts: 0 found'* | '== '* | '') continue ;;
+        'logic '* | 'library '*': modules loaded='* | 'statements '* | 'checked '*' of '* | 'so far: '* | 'empty contracts: 0 found'* | '== '* | '') continue ;;
+        'axioms '*': '* | 'linked target='* | 'rt: running '*) continue ;;
         'note: no function with a body is declared'* | 'rt: chose --jobs '*) continue ;;
         [0-9]*' passed, '[0-9]*' failed')
             printf '%s\n' "$line" >"$own/tally"
             continue
             ;;
+        'rt: '*': begins with what a check kept in '*) continue ;;
         'rt: '*' is kept: '* | 'rt: ok; '*) [ "$1" = all ] || continue ;;
         esac
         printf '%s\n' "$line"

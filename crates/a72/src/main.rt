@@ -10,12 +10,15 @@ mod translation;
 use census_report::report::Form;
 use std::alloc::Global;
 use std::io;
-use std::io::{BufWriter, IsTerminal, Write};
+use std::io::{BufWriter, IsTerminal, LineWriter, Write};
 use std::rt::Files;
 use stop::Stop;
 use trace_core::machine::Machine;
 use trace_core::memory;
 use trace_file::run;
+
+// As in bindings/rust/Cargo.toml.
+const VERSION: &str = "0.1.0";
 
 // What each command does.
 const DETAILS: &str = "
@@ -140,7 +143,8 @@ fn command<R: Files + AllocGlobal, W: Write>(
         "walk" => walk_command(rt, out, rest)?,
         "census" => census_command(rt, out, rest, terminal)?,
         "chord" => chord_command(rt.alloc(), out, rest)?,
-        "help" | "--help" => help(out)?,
+        "help" | "--help" | "-h" => help(out)?,
+        "--version" => writeln!(out, "a72 {VERSION}")?,
         _ => return Err(Stop::Usage("no such command")),
     }
     out.flush()?;
@@ -153,9 +157,16 @@ fn main(rt: HostRuntime) -> io::Result<()> {
         Ok(words) => words,
         Err(stop) => return stop::show(&mut rt.stderr(), alloc, "", stop),
     };
-    let mut out = BufWriter::new(alloc, io::writer(&rt))?;
     let terminal = rt.stdout().is_terminal();
-    match command(&rt, &mut out, words.as_slice(), terminal) {
+    // On a terminal each line is written as it is made.
+    let done = if terminal {
+        let mut out = LineWriter::new(alloc, io::writer(&rt))?;
+        command(&rt, &mut out, words.as_slice(), terminal)
+    } else {
+        let mut out = BufWriter::new(alloc, io::writer(&rt))?;
+        command(&rt, &mut out, words.as_slice(), terminal)
+    };
+    match done {
         Ok(()) => Ok(()),
         Err(stop) => {
             let path = words.get(1).map_or("", |word| word.as_str());

@@ -51,7 +51,7 @@ pub fn usage<W: Write>(out: &mut W) -> io::Result<()> {
     )?;
     writeln!(out, "       a72 census TRACE FIRST PAGES [LEVEL] [--svg]")?;
     writeln!(out, "       a72 chord")?;
-    writeln!(out, "       a72 help")
+    writeln!(out, "       a72 help | --version")
 }
 
 // The message; the path is that of the command's trace.

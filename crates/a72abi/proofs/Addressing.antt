@@ -1,4 +1,5 @@
 -- Translations and fetches by number, on plain values, for `search`.
+use Rattle.std.specs.Prelude.{Some, Option, None}
 use mathlib.Core.Path.{◌≡◌, refl, sym, ap, ◌∙◌}
 use mathlib.Core.Bool.{false}
 use mathlib.Core.List.{List}
@@ -8,10 +9,9 @@ use borrow.Author.Tests.{ne_eqb}
 use lib.Dec.{eqb}
 use Rattle.word.specs.Bits.{pick}
 use Rattle.word.specs.Ram.{word_at}
-use Rattle.tlb.specs.declared.{access.Kind.Kind, access.Answer.Answer, hint.HintAnswer.HintAnswer}
+use Rattle.tlb.specs.declared.{access.Kind.Kind, access.Answer.Answer}
 use Rattle.tlb.specs.declared.access.Kind.TheVariants.{Read, Write, Fetch}
 use Rattle.tlb.specs.declared.access.Answer.TheVariants.{Address, Status}
-use Rattle.tlb.specs.declared.hint.HintAnswer.TheVariants.{At, Unknown}
 use Rattle.mmu.specs.Core.{afterAccess}
 use Rattle.operations.specs.Ends.{fetchEnd, reachedBy}
 use Rattle.operations.specs.Bytes.{insnOf}
@@ -58,14 +58,14 @@ translation-tells ws base ram va kind n old v xs en ev m =
     record { code = c; value = ev ∙ translation-value va old a; words = m; kept = kept-late ws xs (translation va a) n c (translation-late va a) }
 
 -- the hint first, and else a translation that is lent RAM as a part
-module _ (ws : List ℕ) (base : ℕ) (ram : List ℕ) (va : ℕ) (kind : Kind) (old : ℕ) (p : HintAnswer) (ep : p ≡ hintFound (core_of ws) va kind) where
-  pub hint-tells : (pa : ℕ) → p ≡ At pa → Tells (run_of (core_of ws) base ram (Call.Translate kind va)) ws 0 old pa ws
+module _ (ws : List ℕ) (base : ℕ) (ram : List ℕ) (va : ℕ) (kind : Kind) (old : ℕ) (p : Option ℕ) (ep : p ≡ hintFound (core_of ws) va kind) where
+  pub hint-tells : (pa : ℕ) → p ≡ Some pa → Tells (run_of (core_of ws) base ram (Call.Translate kind va)) ws 0 old pa ws
   hint-tells pa e =
       let memory = word_at base ram 8 in
       translation-tells ws base ram va kind 0 old pa ws (by-hint-code ws memory va kind p ep pa e) (by-hint-value ws memory va kind p ep pa old e)
       (by-hint-core ws memory va kind p ep pa e)
 
-  pub find-tells : (part : List ℕ) (n v : ℕ) (xs : List ℕ) → part ≡ ram → p ≡ Unknown → n ≡ code_of (foundTo (core_of ws) (word_at base part 8) va kind).answer
+  pub find-tells : (part : List ℕ) (n v : ℕ) (xs : List ℕ) → part ≡ ram → p ≡ None → n ≡ code_of (foundTo (core_of ws) (word_at base part 8) va kind).answer
       → v ≡ value_of (foundTo (core_of ws) (word_at base part 8) va kind).answer old → NowHolds ws xs (foundTo (core_of ws) (word_at base part 8) va kind).core
       → Tells (run_of (core_of ws) base ram (Call.Translate kind va)) ws n old v xs
   find-tells part n v xs q e en ev m =
@@ -121,18 +121,18 @@ module _ (ws : List ℕ) (base : ℕ) (ram : List ℕ) (pa : ℕ) (i : Insn) (ei
   unfolding fetchEnds fetchEnd withAbort afterAccess
   insn-value v e = record { by = λ va. rw (← ei, e) (record { code = refl; value = refl; words = stays; kept = kept_same 0 ws }) }
 
-module _ (ws : List ℕ) (base : ℕ) (ram : List ℕ) (va : ℕ) (p : HintAnswer) (ep : p ≡ fetchHint (core_of ws) va) where
-  pub fetch-hint-tells : (pa n old v : ℕ) (xs : List ℕ) → p ≡ At pa → FetchTells pa base ram ws n old v xs
+module _ (ws : List ℕ) (base : ℕ) (ram : List ℕ) (va : ℕ) (p : Option ℕ) (ep : p ≡ fetchHint (core_of ws) va) where
+  pub fetch-hint-tells : (pa n old v : ℕ) (xs : List ℕ) → p ≡ Some pa → FetchTells pa base ram ws n old v xs
       → Tells (run_of (core_of ws) base ram (Call.Fetch va)) ws n old v xs
   unfolding fetchHint
   fetch-hint-tells pa n old v xs e t =
       tells_as (fetch-run (core_of ws) base ram va (Address pa) (core_of ws) (fetch-serves (core_of ws) (word_at base ram 8) va pa (sym ep ∙ e))) (t.by va)
 
-pub fetch-unknown : (ws : List ℕ) (va : ℕ) (p : HintAnswer) → p ≡ fetchHint (core_of ws) va → p ≡ Unknown
-    → fetchHint (core_of ws) va ≡ Unknown
+pub fetch-unknown : (ws : List ℕ) (va : ℕ) (p : Option ℕ) → p ≡ fetchHint (core_of ws) va → p ≡ None
+    → fetchHint (core_of ws) va ≡ None
 fetch-unknown ws va p ep e = sym ep ∙ e
 
-module _ (ws xs : List ℕ) (base : ℕ) (ram : List ℕ) (va code : ℕ) (miss : fetchHint (core_of ws) va ≡ Unknown)
+module _ (ws xs : List ℕ) (base : ℕ) (ram : List ℕ) (va code : ℕ) (miss : fetchHint (core_of ws) va ≡ None)
     (ec : code ≡ code_of (foundTo (core_of ws) (word_at base ram 8) va Fetch).answer)
     (m : NowHolds ws xs (pagedTo (core_of ws).privilege.level va (foundTo (core_of ws) (word_at base ram 8) va Fetch))) where
   page-run : (a : Answer) → (foundTo (core_of ws) (word_at base ram 8) va Fetch).answer ≡ a → fetchEnds (core_of xs) a base ram va
@@ -198,6 +198,6 @@ no-kind-gives base ram ws va p old e = rw (← e) (record { code = refl; value =
 -- AT ONCE
 
 module _ (ws : List ℕ) (base : ℕ) (ram : List ℕ) (va old : ℕ) where
-  pub quick-fetch : (p : HintAnswer) (pa : ℕ) (i : Insn) (v : ℕ) → p ≡ fetchHint (core_of ws) va → p ≡ At pa → i ≡ insnOf base ram pa
+  pub quick-fetch : (p : Option ℕ) (pa : ℕ) (i : Insn) (v : ℕ) → p ≡ fetchHint (core_of ws) va → p ≡ Some pa → i ≡ insnOf base ram pa
       → i ≡ Insn.Value v → Tells (run_of (core_of ws) base ram (Call.Fetch va)) ws 0 old v ws
   quick-fetch p pa i v ep e ei q = fetch-hint-tells ws base ram va p ep pa 0 old v ws e (insn-value ws base ram pa i ei old v q)

@@ -1,4 +1,6 @@
 -- The tests of an access over two pages by their hints, on plain values, for `search`.
+use Rattle.std.specs.Prelude.{Option}
+use Rattle.std.specs.Prelude.{Some, Option}
 use mathlib.Core.Path.{◌≡◌, refl, sym, ap, ◌∙◌}
 use mathlib.Core.Bool.{Bool, true, false}
 use mathlib.Core.List.{List}
@@ -10,9 +12,7 @@ use lib.Dec.{ltb}
 use lib.ListN.{length}
 use Rattle.word.specs.Bits.{pick}
 use Rattle.walk.specs.Regime.{regimeOf, stage1On}
-use Rattle.tlb.specs.declared.{hint.HintAnswer.HintAnswer}
 use Rattle.tlb.specs.declared.access.Kind.TheVariants.{Write}
-use Rattle.tlb.specs.declared.hint.HintAnswer.TheVariants.{At}
 use Rattle.mmu.specs.Core.{bankNow}
 use Rattle.operations.specs.Place.{inPage, nextPage, crosses}
 use Rattle.operations.specs.AtOnce.{bothStored}
@@ -38,19 +38,19 @@ abbrev pub twoPages : Core → ℕ → ℕ → Bool
 twoPages c va n = crosses (stage1On (bankNow c) (regimeOf c.privilege.level)) va n
 
 -- the second page's hint
-module _ (c : Core) (base : ℕ) (ram : List ℕ) (va n pa next : ℕ) (p : HintAnswer) (en : next ≡ nextPage va) where
+module _ (c : Core) (base : ℕ) (ram : List ℕ) (va n pa next : ℕ) (p : Option ℕ) (en : next ≡ nextPage va) where
   module _ (ep : p ≡ hintFound c next Write) where
     next-write : hintFound c (nextPage va) Write ≡ p
     next-write = sym (ep ∙ ap (λ (x : ℕ). hintFound c x Write) en)
 
-    module _ (pa2 k : ℕ) (e : p ≡ At pa2) (ek : k ≡ inPage va) where
+    module _ (pa2 k : ℕ) (e : p ≡ Some pa2) (ek : k ≡ inPage va) where
       pub write-ram : (ys : List ℕ) (v : ℕ) → ys ≡ bothStored base ram (record { in_page = k; pa = pa; pa2 = pa2 }) n v
-          → ys ≡ ramBoth true (At pa) (hintFound c (nextPage va) Write) va base ram n v
+          → ys ≡ ramBoth true (Some pa) (hintFound c (nextPage va) Write) va base ram n v
       unfolding ramBoth
       write-ram ys v q = rw (next-write ∙ e) (q ∙ ap (λ (m : ℕ). bothStored base ram (record { in_page = m; pa = pa; pa2 = pa2 }) n v) ek)
 
     -- of two bytes one lies in each page
-    module _ (pa2 : ℕ) (e : p ≡ At pa2) (two : n ≡ 2) (near : inPage va < n) where
+    module _ (pa2 : ℕ) (e : p ≡ Some pa2) (two : n ≡ 2) (near : inPage va < n) where
       one : 1 ≡ inPage va
       one = let h : va % 4096 < 4096 = mod-lt va (omega arith) in omega (arith, two)
 

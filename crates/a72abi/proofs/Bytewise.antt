@@ -1,4 +1,5 @@
 -- Sizes in bytes, and what an access keeps, on plain values, for `search`.
+use Rattle.std.specs.Prelude.{Option, Some, None}
 use mathlib.Core.Path.{◌≡◌, refl, sym, ap, subst, ◌∙◌}
 use mathlib.Core.Bool.{Bool, true, false, ◌&&◌}
 use mathlib.Core.List.{List}
@@ -8,9 +9,7 @@ use borrow.Author.Tests.{ne_eqb, eqb-true}
 use lib.Dec.{eqb}
 use lib.ListN.{length}
 use Rattle.word.specs.Ram.{bytesIn, within, stored, width_of}
-use Rattle.word.specs.declared.{ram.Width.Width, ram.Sized.Sized, ram.Word.Word}
-use Rattle.word.specs.declared.ram.Sized.TheVariants.{Bytes, Refused as NoWidth}
-use Rattle.word.specs.declared.ram.Word.TheVariants.{Value as Bits, Outside}
+use Rattle.word.specs.declared.ram.Width.{Width}
 use Rattle.mmu.specs.Core.{afterAccess}
 use Rattle.mmu.specs.Ops.{read_of, writeOf, ramAfterWrite}
 use Rattle.mmu.specs.declared.core_state.Core.{Core}
@@ -28,24 +27,24 @@ use Rattle.a72abi.proofs.Passing.{clear-sized, passed, passed-ram}
 
 -- SIZES
 
-count_of : Sized → ℕ
-count_of (Bytes w) = bytesIn w
-count_of NoWidth = 0
+count_of : Option Width → ℕ
+count_of (Some w) = bytesIn w
+count_of None = 0
 
-is-width : Sized → Type 0
-is-width (Bytes w) = Unit {0}
-is-width NoWidth = ⊥
+is-width : Option Width → Type 0
+is-width (Some w) = Unit {0}
+is-width None = ⊥
 
-no-width : (w : Width) → NoWidth ≡ Bytes w → ⊥
+no-width : (w : Width) → None ≡ Some w → ⊥
 unfolding is-width
 no-width w e = subst is-width (sym e) tt
 
 -- a width has as many bytes as its size says
-pub size_is : (size : ℕ) (w : Width) → width_of size ≡ Bytes w → bytesIn w ≡ size
+pub size_is : (size : ℕ) (w : Width) → width_of size ≡ Some w → bytesIn w ≡ size
 unfolding count_of
 size_is size w e = sym (ap count_of e) ∙ go (eqb size 1) refl (eqb size 2) refl (eqb size 4) refl (eqb size 8) refl
   where
-    none : eqb size 1 ≡ false → eqb size 2 ≡ false → eqb size 4 ≡ false → eqb size 8 ≡ false → width_of size ≡ NoWidth
+    none : eqb size 1 ≡ false → eqb size 2 ≡ false → eqb size 4 ≡ false → eqb size 8 ≡ false → width_of size ≡ None
     none ea eb ec ed = rw (ea, eb, ec, ed)
 
     go : (a : Bool) → eqb size 1 ≡ a → (b : Bool) → eqb size 2 ≡ b → (c : Bool) → eqb size 4 ≡ c → (d : Bool) → eqb size 8 ≡ d → count_of (width_of size) ≡ size
@@ -56,15 +55,15 @@ size_is size w e = sym (ap count_of e) ∙ go (eqb size 1) refl (eqb size 2) ref
     go false ea false eb false ec false ed = absurd (no-width w (sym (none ea eb ec ed) ∙ e))
 
 -- a size that is none
-pub no_size : (size : ℕ) → (size ≡ 1 → ⊥) → (size ≡ 2 → ⊥) → (size ≡ 4 → ⊥) → (size ≡ 8 → ⊥) → width_of size ≡ NoWidth
+pub no_size : (size : ℕ) → (size ≡ 1 → ⊥) → (size ≡ 2 → ⊥) → (size ≡ 4 → ⊥) → (size ≡ 8 → ⊥) → width_of size ≡ None
 no_size size a b c d = rw (ne_eqb size 1 a, ne_eqb size 2 b, ne_eqb size 4 c, ne_eqb size 8 d)
 
-pub high-size : (size : ℕ) → 4 < size → (size ≡ 8 → ⊥) → width_of size ≡ NoWidth
+pub high-size : (size : ℕ) → 4 < size → (size ≡ 8 → ⊥) → width_of size ≡ None
 high-size size h n = no_size size (λ e. omega arith) (λ e. omega arith) (λ e. omega arith) n
 
 module _ (base : ℕ) (ram : List ℕ) (pa : ℕ) where
   pub ram-high : (size v : ℕ) → 4 < size → (size ≡ 8 → ⊥) → ram ≡ sizedRam base ram size pa v
-  ram-high size v h n = sym (ap (λ (s : Sized). ramIn s base ram pa v) (high-size size h n))
+  ram-high size v h n = sym (ap (λ (s : Option Width). ramIn s base ram pa v) (high-size size h n))
 
 pub and-false : (x : Bool) → x && false ≡ false
 and-false true = refl
@@ -77,12 +76,12 @@ false-true e = subst is_false e tt
     is_false true = ⊥
     is_false false = Unit {0}
 
-pub outside-bits : (v : ℕ) → Outside ≡ Bits v → ⊥
+pub outside-bits : (v : ℕ) → None ≡ Some v → ⊥
 outside-bits v e = subst is-outside e tt
   where
-    is-outside : Word → Type 0
-    is-outside (Bits x) = ⊥
-    is-outside Outside = Unit {0}
+    is-outside : Option ℕ → Type 0
+    is-outside (Some x) = ⊥
+    is-outside None = Unit {0}
 
 pub kept-last : (c : Core) (pa v : ℕ) → keptLast c (record { last_pa = pa; abort_pa = c.abort_pa; answer = Load.Value v }) ≡ with_last c pa
 unfolding keptLast with_last withAbort afterAccess
@@ -96,20 +95,20 @@ pub unstored : (base : ℕ) (ram : List ℕ) (n pa v : ℕ) → within base (len
 unfolding stored
 unstored base ram n pa v e = rw e
 
-pub load-runs : (c : Core) (base : ℕ) (ram : List ℕ) (va size : ℕ) → length ram < 2 ^ 64 → Clear c base (length ram) → (w : Width) → width_of size ≡ Bytes w
+pub load-runs : (c : Core) (base : ℕ) (ram : List ℕ) (va size : ℕ) → length ram < 2 ^ 64 → Clear c base (length ram) → (w : Width) → width_of size ≡ Some w
     → step_of c base ram (Call.Load va size) ≡ ends (read_of c base ram va (bytesIn w)).core (loading (read_of c base ram va (bytesIn w)).answer)
 unfolding run_of missedOf
 load-runs c base ram va size h k w e =
-    passed c base ram (Call.Load va size) (clear-sized c base (length ram) size h k (ap isWidth e)) ∙ ap (λ (s : Sized). loadBy s c base ram va) e
+    passed c base ram (Call.Load va size) (clear-sized c base (length ram) size h k (ap isWidth e)) ∙ ap (λ (s : Option Width). loadBy s c base ram va) e
 
-pub store-runs : (c : Core) (base : ℕ) (ram : List ℕ) (va size v : ℕ) → length ram < 2 ^ 64 → Clear c base (length ram) → (w : Width) → width_of size ≡ Bytes w
+pub store-runs : (c : Core) (base : ℕ) (ram : List ℕ) (va size v : ℕ) → length ram < 2 ^ 64 → Clear c base (length ram) → (w : Width) → width_of size ≡ Some w
     → (step_of c base ram (Call.Store va size v) ≡ ends (writeOf c base ram va (bytesIn w)).core (storing (writeOf c base ram va (bytesIn w)).answer))
     × (ramAfter c base ram (Call.Store va size v) ≡ ramAfterWrite c base ram va (bytesIn w) v)
 unfolding run_of ramOf missedOf
 store-runs c base ram va size v h k w e =
     let z = clear-sized c base (length ram) size h k (ap isWidth e) in (
-      passed c base ram (Call.Store va size v) z ∙ ap (λ (s : Sized). storeBy s c base ram va) e,
-      passed-ram c base ram (Call.Store va size v) z ∙ ap (λ (s : Sized). storeRamBy s c base ram va v) e,
+      passed c base ram (Call.Store va size v) z ∙ ap (λ (s : Option Width). storeBy s c base ram va) e,
+      passed-ram c base ram (Call.Store va size v) z ∙ ap (λ (s : Option Width). storeRamBy s c base ram va v) e,
     )
 
 -- a store that was not made wrote nothing
@@ -117,6 +116,6 @@ pub unmade-ram : (base : ℕ) (ram : List ℕ) (size pa v : ℕ) (made : Bool) (
     ≡ sizedRam base ram size pa v → ys ≡ ram
 unmade-ram base ram size pa v made ys e f y = y ∙ go (width_of size) refl
   where
-    go : (s : Sized) → width_of size ≡ s → ramIn (width_of size) base ram pa v ≡ ram
-    go (Bytes w) q = rw q (unstored base ram (bytesIn w) pa v (sym (ap (λ (s : Sized). madeIn s base ram pa) q) ∙ sym e ∙ f))
-    go NoWidth q = rw q
+    go : (s : Option Width) → width_of size ≡ s → ramIn (width_of size) base ram pa v ≡ ram
+    go (Some w) q = rw q (unstored base ram (bytesIn w) pa v (sym (ap (λ (s : Option Width). madeIn s base ram pa) q) ∙ sym e ∙ f))
+    go None q = rw q

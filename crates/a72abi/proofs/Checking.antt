@@ -10,7 +10,7 @@ use Rattle.operations.specs.Check.{missedOf}
 use Rattle.cpu.specs.Step.{run_of, ramOf, step_of, ramAfter, ends}
 use Rattle.operations.specs.declared.call.Call.TheVariants as Call
 use Rattle.operations.specs.declared.call.Reply.TheVariants.{Refused}
-use Rattle.cpu.specs.declared.run.Stepped.{Stepped}
+use Rattle.cpu.specs.Step.{Stepped}
 use Rattle.words.specs.CoreOf.{core_of}
 use Rattle.words.specs.NowHolds.{NowHolds, stays, holds_as}
 

@@ -1,4 +1,5 @@
 -- Loads and stores by number, on plain values, for `search`.
+use Rattle.std.specs.Prelude.{Some, Option, None}
 use mathlib.Core.Path.{◌≡◌, refl, sym, ap, ◌∙◌}
 use mathlib.Core.Bool.{Bool, true, false, ◌&&◌}
 use mathlib.Core.List.{List}
@@ -9,23 +10,21 @@ use borrow.Author.Tests.{le-ltb}
 use lib.ListN.{length}
 use Rattle.word.specs.Bits.{wrap}
 use Rattle.word.specs.Ram.{word_at, bytesIn, width_of, within, stored}
-use Rattle.word.specs.declared.{ram.Width.Width, ram.Sized.Sized, ram.Word.Word}
+use Rattle.word.specs.declared.ram.Width.{Width}
 use Rattle.word.specs.declared.ram.Width.TheVariants.{Byte, Half, Word as Single, Double}
-use Rattle.word.specs.declared.ram.Sized.TheVariants.{Bytes}
-use Rattle.word.specs.declared.ram.Word.TheVariants as Word
 use Rattle.walk.specs.Regime.{regimeOf, stage1On}
-use Rattle.tlb.specs.declared.{access.Kind.Kind, access.Answer.Answer, hint.HintAnswer.HintAnswer}
+use Rattle.tlb.specs.declared.{access.Kind.Kind, access.Answer.Answer}
 use Rattle.tlb.specs.declared.access.Kind.TheVariants.{Read, Write}
 use Rattle.fault.specs.declared.Fault.{Fault as Status1}
 use Rattle.tlb.specs.declared.access.Answer.TheVariants.{Address, Status}
-use Rattle.tlb.specs.declared.hint.HintAnswer.TheVariants.{At as Hinted, Unknown}
 use Rattle.mmu.specs.Core.{afterAccess, bankNow}
 use Rattle.operations.specs.Place.{inPage, crosses, goesOn, placedOne}
 use Rattle.operations.specs.Bytes.{storeRam}
 use Rattle.operations.specs.Ends.{loadEnd, storeEnd, storeRamEnd}
 use Rattle.mmu.specs.Ops.{locatedNow, translateOf, translateAccessOf, read_of, writeOf, ramAfterWrite}
 use Rattle.operations.proofs.Moves.{whole-value, whole-abort, whole-inside, whole-outside}
-use Rattle.mmu.specs.declared.{core_state.Core.Core, ops.Accessed.Accessed, ops.Translated.Translated}
+use Rattle.mmu.specs.declared.core_state.Core.{Core}
+use Rattle.mmu.specs.Results.{Accessed, Translated}
 use Rattle.operations.specs.declared.place.Place.TheVariants.{Whole}
 use Rattle.operations.specs.declared.{place.Placed.Placed, ends.LoadAnswer.LoadAnswer, ends.StoreAnswer.StoreAnswer}
 use Rattle.operations.specs.declared.place.Placed.TheVariants.{At, Fault}
@@ -33,7 +32,7 @@ use Rattle.operations.specs.declared.place.Verdict.TheVariants.{Outside}
 use Rattle.operations.specs.Replies.{loading, storing}
 use Rattle.cpu.specs.Step.{loadBy, storeBy, storeRamBy, run_of, ramOf, ends}
 use Rattle.operations.specs.declared.call.Call.TheVariants as Call
-use Rattle.cpu.specs.declared.run.Stepped.{Stepped}
+use Rattle.cpu.specs.Step.{Stepped}
 use Rattle.words_sys.specs.Early.{end-late, store-late}
 use Rattle.words.specs.CoreOf.{core_of}
 use Rattle.words.specs.Parts.{with_last, withAbort}
@@ -63,14 +62,14 @@ first_byte : (va : ℕ) → va < 2 ^ 64 → va ≡ wrap (va + 0)
 first_byte va h = let z : va + 0 ≡ va = omega arith in sym (ap wrap z ∙ mod-eq_of_lt h)
 
 module _ (ws : List ℕ) (base : ℕ) (ram : List ℕ) (va n pa old : ℕ) where
-  module _ (w : Word) (ew : w ≡ word_at base ram n pa) where
-    pub at_value : (v : ℕ) (xs : List ℕ) → w ≡ Word.Value v → NowHolds ws xs (with_last (core_of ws) pa)
+  module _ (w : Option ℕ) (ew : w ≡ word_at base ram n pa) where
+    pub at_value : (v : ℕ) (xs : List ℕ) → w ≡ Some v → NowHolds ws xs (with_last (core_of ws) pa)
         → Tells (loadEnds (core_of ws) (At (Whole pa)) base ram va n) ws 0 old v xs
     unfolding loadEnds loadEnd keptLast with_last withAbort afterAccess
     at_value v xs e m =
         rw (sym (whole-value base ram pa n w v ew e)) (record { code = refl; value = refl; words = m; kept = record { same = λ l h. absurd (omega arith) } })
 
-    pub at-outside : (xs ys : List ℕ) → w ≡ Word.Outside → va < 2 ^ 64 → NowHolds ws xs (with_last (core_of ws) pa) → NowHolds xs ys (withAbort (core_of xs) pa)
+    pub at-outside : (xs ys : List ℕ) → w ≡ None → va < 2 ^ 64 → NowHolds ws xs (with_last (core_of ws) pa) → NowHolds xs ys (withAbort (core_of xs) pa)
         → Tells (loadEnds (core_of ws) (At (Whole pa)) base ram va n) ws (256 + 0x10) old va ys
     unfolding loadEnds loadEnd keptLast
     at-outside xs ys e h m q =
@@ -99,7 +98,7 @@ goes-not : (a : Answer) → goesOn a false ≡ false
 goes-not (Address pa) = refl
 goes-not (Status fsc) = refl
 
-width-of : (w : Width) → width_of (bytesIn w) ≡ Bytes w
+width-of : (w : Width) → width_of (bytesIn w) ≡ Some w
 width-of Byte = refl
 width-of Half = refl
 width-of Single = refl
@@ -130,7 +129,7 @@ module _ (c : Core) (base : ℕ) (ram : List ℕ) (va : ℕ) (w : Width) (near :
   load-run et =
       let l = placed-is Read et in
       let q = load-parts c base ram va (bytesIn w) (placedOne va a) d (sym (ap (λ (x : Accessed). x.placed) l)) (sym (ap (λ (x : Accessed). x.core) l)) in
-      (λ i. ends (q.1 i) (loading (q.0 i))) ∙ sym (ap (λ (s : Sized). loadBy s c base ram va) (width-of w))
+      (λ i. ends (q.1 i) (loading (q.0 i))) ∙ sym (ap (λ (s : Option Width). loadBy s c base ram va) (width-of w))
 
   store-run : (v : ℕ) → translateOf c (word_at base ram 8) va Write ≡ answering d a
       → (storeEnds d (placedOne va a) base ram va (bytesIn w) ≡ run_of c base ram (Call.Store va (bytesIn w) v))
@@ -140,8 +139,8 @@ module _ (c : Core) (base : ℕ) (ram : List ℕ) (va : ℕ) (w : Width) (near :
       let l = placed-is Write et in
       let q = store-parts c base ram va (bytesIn w) v (placedOne va a) d (sym (ap (λ (x : Accessed). x.placed) l))
       (sym (ap (λ (x : Accessed). x.core) l)) in (
-        (λ i. ends (q.1.1 i) (storing (q.0 i))) ∙ sym (ap (λ (s : Sized). storeBy s c base ram va) (width-of w)),
-        q.1.0 ∙ sym (ap (λ (s : Sized). storeRamBy s c base ram va v) (width-of w)),
+        (λ i. ends (q.1.1 i) (storing (q.0 i))) ∙ sym (ap (λ (s : Option Width). storeBy s c base ram va) (width-of w)),
+        q.1.0 ∙ sym (ap (λ (s : Option Width). storeRamBy s c base ram va v) (width-of w)),
       )
 
 ram-at : (base : ℕ) (ram : List ℕ) (n pa v : ℕ) → stored base ram n pa v ≡ storeRamEnd (At (Whole pa)) base ram n v
@@ -149,7 +148,7 @@ unfolding storeRamEnd storeRam
 ram-at base ram n pa v = refl
 
 -- by its hint
-module _ (ws : List ℕ) (base : ℕ) (ram : List ℕ) (va : ℕ) (w : Width) (near : bytesIn w ≤ inPage va) (p : HintAnswer) (pa : ℕ) (e : p ≡ Hinted pa) where
+module _ (ws : List ℕ) (base : ℕ) (ram : List ℕ) (va : ℕ) (w : Width) (near : bytesIn w ≤ inPage va) (p : Option ℕ) (pa : ℕ) (e : p ≡ Some pa) where
   pub hint-load : (n old v : ℕ) (xs : List ℕ) → p ≡ hintFound (core_of ws) va Read
       → Tells (loadEnds (core_of ws) (At (Whole pa)) base ram va (bytesIn w)) ws n old v xs
       → Tells (run_of (core_of ws) base ram (Call.Load va (bytesIn w))) ws n old v xs
@@ -187,12 +186,12 @@ unfolding storeRamEnd
 ram-fault base ram va n f v = refl
 
 module _ (ws xs : List ℕ) (base : ℕ) (ram : List ℕ) (va : ℕ) (w : Width) (near : bytesIn w ≤ inPage va) (code : ℕ) where
-  module _ (kind : Kind) (miss : hintFound (core_of ws) va kind ≡ Unknown) (a : Answer) (ea : (foundTo (core_of ws) (word_at base ram 8) va kind).answer ≡ a)
+  module _ (kind : Kind) (miss : hintFound (core_of ws) va kind ≡ None) (a : Answer) (ea : (foundTo (core_of ws) (word_at base ram 8) va kind).answer ≡ a)
       (m : NowHolds ws xs (foundTo (core_of ws) (word_at base ram 8) va kind).core) where
     found-is : translateOf (core_of ws) (word_at base ram 8) va kind ≡ answering (core_of xs) a
     found-is = hint-misses (core_of ws) (word_at base ram 8) va kind miss ∙ λ i. answering (sym m.holds i) (ea i)
 
-  module _ (miss : hintFound (core_of ws) va Read ≡ Unknown) (ec : code ≡ code_of (foundTo (core_of ws) (word_at base ram 8) va Read).answer)
+  module _ (miss : hintFound (core_of ws) va Read ≡ None) (ec : code ≡ code_of (foundTo (core_of ws) (word_at base ram 8) va Read).answer)
       (m : NowHolds ws xs (foundTo (core_of ws) (word_at base ram 8) va Read).core) where
     pub load-fault-tells : (old : ℕ) → (code ≡ 0 → ⊥) → Tells (run_of (core_of ws) base ram (Call.Load va (bytesIn w))) ws code old va xs
     load-fault-tells old n = go (foundTo (core_of ws) (word_at base ram 8) va Read).answer refl
@@ -213,7 +212,7 @@ module _ (ws xs : List ℕ) (base : ℕ) (ram : List ℕ) (va : ℕ) (w : Width)
         (tells-after m t (kept-late ws ys (loadEnds (core_of xs) (At (Whole pa)) base ram va (bytesIn w)).reply n t.code
         (load-ends-late (core_of xs) (At (Whole pa)) base ram va (bytesIn w))))
 
-  module _ (x : ℕ) (miss : hintFound (core_of ws) va Write ≡ Unknown) (ec : code ≡ code_of (foundTo (core_of ws) (word_at base ram 8) va Write).answer)
+  module _ (x : ℕ) (miss : hintFound (core_of ws) va Write ≡ None) (ec : code ≡ code_of (foundTo (core_of ws) (word_at base ram 8) va Write).answer)
       (m : NowHolds ws xs (foundTo (core_of ws) (word_at base ram 8) va Write).core) where
     abbrev call : Stepped
     call = run_of (core_of ws) base ram (Call.Store va (bytesIn w) x)
@@ -255,7 +254,7 @@ module _ (ws xs : List ℕ) (base : ℕ) (ram : List ℕ) (va : ℕ) (w : Width)
 
 -- RAM lent on as a part
 module _ (ws xs : List ℕ) (base : ℕ) (ram part : List ℕ) (va : ℕ) (w : Width) (code old : ℕ) (e : part ≡ ram) (near : bytesIn w ≤ inPage va)
-    (miss : hintFound (core_of ws) va Read ≡ Unknown) (ec : code ≡ code_of (foundTo (core_of ws) (word_at base part 8) va Read).answer)
+    (miss : hintFound (core_of ws) va Read ≡ None) (ec : code ≡ code_of (foundTo (core_of ws) (word_at base part 8) va Read).answer)
     (m : NowHolds ws xs (foundTo (core_of ws) (word_at base part 8) va Read).core) where
   pub part-fault-tells : (code ≡ 0 → ⊥) → Tells (run_of (core_of ws) base ram (Call.Load va (bytesIn w))) ws code old va xs
   part-fault-tells n = load-fault-tells ws xs base ram va w near code miss (rw e at ec) (rw e at m) old n
@@ -304,4 +303,4 @@ module _ (ws xs : List ℕ) (base : ℕ) (ram : List ℕ) (va : ℕ) (w : Width)
 pub write-ram : (ws : List ℕ) (base : ℕ) (ram : List ℕ) (va : ℕ) (w : Width) (x : ℕ) (ys : List ℕ) → ys ≡ ramAfterWrite (core_of ws) base ram va (bytesIn w) x
     → ys ≡ ramOf (core_of ws) base ram (Call.Store va (bytesIn w) x)
 unfolding ramOf
-write-ram ws base ram va w x ys e = e ∙ sym (ap (λ (s : Sized). storeRamBy s (core_of ws) base ram va x) (width-of w))
+write-ram ws base ram va w x ys e = e ∙ sym (ap (λ (s : Option Width). storeRamBy s (core_of ws) base ram va x) (width-of w))

@@ -1,4 +1,5 @@
 -- DecodedCall whose checks pass, and calls that are refused, by number, on plain values, for `search`.
+use Rattle.std.specs.Prelude.{Option, Some, None}
 use mathlib.Core.Path.{◌≡◌, refl, sym, ap, subst, ◌∙◌}
 use mathlib.Core.Bool.{Bool, true, false}
 use mathlib.Core.List.{List}
@@ -8,15 +9,13 @@ use borrow.Author.Tests.{ltb-false, ltb-true, lt-ltb, le-ltb}
 use lib.Dec.{ltb}
 use lib.ListN.{length}
 use Rattle.word.specs.Ram.{width_of}
-use Rattle.word.specs.declared.ram.Sized.{Sized}
-use Rattle.word.specs.declared.ram.Sized.TheVariants.{Bytes, Refused as NoWidth}
 use Rattle.mmu.specs.declared.core_state.Core.{Core}
 use Rattle.operations.specs.Check.{ramRows, sizedRows, first_of, missedOf, passes, isWidth, known}
 use Rattle.cpu.specs.Step.{run_of, ramOf, step_of, ramAfter, ends, loadBy}
 use Rattle.operations.specs.declared.{call.Call.Call, call.Reply.Reply}
 use Rattle.operations.specs.declared.call.Call.TheVariants as Call
 use Rattle.operations.specs.declared.call.Reply.TheVariants.{Refused}
-use Rattle.cpu.specs.declared.run.Stepped.{Stepped}
+use Rattle.cpu.specs.Step.{Stepped}
 use Rattle.words.specs.CoreOf.{core_of}
 use Rattle.words.specs.NowHolds.{NowHolds}
 use Rattle.call_words.specs.Replies.{codeBy, valueBy}
@@ -27,6 +26,7 @@ use Rattle.a72abi.specs.Promise.{Gives}
 use Rattle.call_words.specs.declared.op.DecodedCall.{DecodedCall}
 use Rattle.call_words.specs.declared.op.DecodedCall.TheVariants.{Known}
 use Rattle.a72abi.proofs.Checking.{refused-reply, refused-core, runs}
+use Rattle.word.specs.declared.ram.Width.{Width}
 
 -- a step by its number
 
@@ -125,22 +125,22 @@ module _ (c : Core) (base : ℕ) (ram : List ℕ) (va size : ℕ) (h : length ra
   unfolding run_of missedOf
   load-clear = go (width_of size) refl
     where
-      go : (s : Sized) → width_of size ≡ s → step_of c base ram (Call.Load va size) ≡ loadBy (width_of size) c base ram va
-      go (Bytes w) e = passed c base ram (Call.Load va size) (clear-sized c base (length ram) size h k (ap isWidth e))
-      go NoWidth e = no_size (Call.Load va size) refl (ap isWidth e) ∙ sym (ap (λ (s : Sized). loadBy s c base ram va) e)
+      go : (s : Option Width) → width_of size ≡ s → step_of c base ram (Call.Load va size) ≡ loadBy (width_of size) c base ram va
+      go (Some w) e = passed c base ram (Call.Load va size) (clear-sized c base (length ram) size h k (ap isWidth e))
+      go None e = no_size (Call.Load va size) refl (ap isWidth e) ∙ sym (ap (λ (s : Option Width). loadBy s c base ram va) e)
 
   store-clear : (v : ℕ) → (step_of c base ram (Call.Store va size v) ≡ run_of c base ram (Call.Store va size v))
       × (ramAfter c base ram (Call.Store va size v) ≡ ramOf c base ram (Call.Store va size v))
   unfolding run_of ramOf missedOf
   store-clear v = go (width_of size) refl
     where
-      go : (s : Sized) → width_of size ≡ s
+      go : (s : Option Width) → width_of size ≡ s
           → (step_of c base ram (Call.Store va size v) ≡ run_of c base ram (Call.Store va size v))
           × (ramAfter c base ram (Call.Store va size v) ≡ ramOf c base ram (Call.Store va size v))
-      go (Bytes w) e =
+      go (Some w) e =
           let z = clear-sized c base (length ram) size h k (ap isWidth e) in
           (passed c base ram (Call.Store va size v) z, passed-ram c base ram (Call.Store va size v) z)
-      go NoWidth e = (no_size (Call.Store va size v) refl (ap isWidth e) ∙ sym (rw e), no-size-ram (Call.Store va size v) refl (ap isWidth e) ∙ sym (rw e))
+      go None e = (no_size (Call.Store va size v) refl (ap isWidth e) ∙ sym (rw e), no-size-ram (Call.Store va size v) refl (ap isWidth e) ∙ sym (rw e))
 
 module _ (ws : List ℕ) (base : ℕ) (ram : List ℕ) (va size : ℕ) where
   pub load-high : (old : ℕ) → ltb 3 (core_of ws).privilege.level ≡ true → Gives (Known (Call.Load va size)) base ram ws 1 old old ws

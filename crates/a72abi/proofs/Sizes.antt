@@ -1,16 +1,14 @@
 -- Loads and stores of a size, by the hint and after a store that was not made, on plain values, for `search`.
+use Rattle.std.specs.Prelude.{Option, None}
+use Rattle.std.specs.Prelude.{Some, Option}
 use mathlib.Core.Path.{◌≡◌, refl, sym, ap, ◌∙◌}
 use mathlib.Core.Bool.{Bool, true, false}
 use mathlib.Core.List.{List}
 use Prim.Native.Nat.{ℕ, ◌≤◌}
 use lib.ListN.{length}
 use Rattle.word.specs.Ram.{word_at, bytesIn, width_of, within}
-use Rattle.word.specs.declared.{ram.Width.Width, ram.Sized.Sized, ram.Word.Word}
-use Rattle.word.specs.declared.ram.Sized.TheVariants.{Bytes, Refused as NoWidth}
-use Rattle.word.specs.declared.ram.Word.TheVariants as Word
-use Rattle.tlb.specs.declared.{hint.HintAnswer.HintAnswer}
+use Rattle.word.specs.declared.ram.Width.{Width}
 use Rattle.tlb.specs.declared.access.Kind.TheVariants.{Read, Write}
-use Rattle.tlb.specs.declared.hint.HintAnswer.TheVariants.{At as Hinted}
 use Rattle.operations.specs.Place.{inPage}
 use Rattle.cpu.specs.Step.{run_of, ramOf, ramAfter}
 use Rattle.operations.specs.declared.call.Call.TheVariants as Call
@@ -41,7 +39,7 @@ module _ (ws : List ℕ) (base : ℕ) (ram : List ℕ) (va size : ℕ) where
     pub size-store-ram : (x : ℕ) (ys : List ℕ) → ys ≡ ramOf (core_of ws) base ram (Call.Store va n x) → ys ≡ ramOf (core_of ws) base ram (Call.Store va size x)
     size-store-ram x ys q = rw e q
 
-  module _ (e : width_of size ≡ NoWidth) where
+  module _ (e : width_of size ≡ None) where
     pub none-load : (old : ℕ) → Tells (run_of (core_of ws) base ram (Call.Load va size)) ws 3 old old ws
     unfolding run_of
     none-load old = rw e (record { code = refl; value = refl; words = stays; kept = kept_same 3 ws })
@@ -54,17 +52,17 @@ module _ (ws : List ℕ) (base : ℕ) (ram : List ℕ) (va size : ℕ) where
     unfolding ramOf
     none-ram x = rw e
 
-  module _ (s : Sized) (es : s ≡ width_of size) where
-    pub sized-none : (old : ℕ) → s ≡ NoWidth → Tells (run_of (core_of ws) base ram (Call.Load va size)) ws 3 old old ws
+  module _ (s : Option Width) (es : s ≡ width_of size) where
+    pub sized-none : (old : ℕ) → s ≡ None → Tells (run_of (core_of ws) base ram (Call.Load va size)) ws 3 old old ws
     sized-none old e = none-load (sym es ∙ e) old
 
-    pub sized-none-store : (x old : ℕ) → s ≡ NoWidth → Tells (run_of (core_of ws) base ram (Call.Store va size x)) ws 3 old old ws
+    pub sized-none-store : (x old : ℕ) → s ≡ None → Tells (run_of (core_of ws) base ram (Call.Store va size x)) ws 3 old old ws
     sized-none-store x old e = none-store (sym es ∙ e) x old
 
-    pub sized-none-ram : (x : ℕ) → s ≡ NoWidth → ram ≡ ramOf (core_of ws) base ram (Call.Store va size x)
+    pub sized-none-ram : (x : ℕ) → s ≡ None → ram ≡ ramOf (core_of ws) base ram (Call.Store va size x)
     sized-none-ram x e = none-ram (sym es ∙ e) x
 
-    module _ (w : Width) (e : s ≡ Bytes w) where
+    module _ (w : Width) (e : s ≡ Some w) where
       counts : size ≡ bytesIn w
       counts = sym (size_is size w (sym es ∙ e))
 
@@ -85,35 +83,35 @@ module _ (ws : List ℕ) (base : ℕ) (ram : List ℕ) (va size : ℕ) where
 
 -- BY THE HINT AND A SIZE
 
-module _ (ws : List ℕ) (base : ℕ) (ram : List ℕ) (va size k pa : ℕ) (p : HintAnswer) (ek : k ≡ inPage va) (near : size ≤ k) (q : p ≡ Hinted pa) where
-  pub quick-load : (w : Word) (v old : ℕ) (xs : List ℕ) → p ≡ hintFound (core_of ws) va Read → w ≡ sizedAt base ram size pa → w ≡ Word.Value v
+module _ (ws : List ℕ) (base : ℕ) (ram : List ℕ) (va size k pa : ℕ) (p : Option ℕ) (ek : k ≡ inPage va) (near : size ≤ k) (q : p ≡ Some pa) where
+  pub quick-load : (w : Option ℕ) (v old : ℕ) (xs : List ℕ) → p ≡ hintFound (core_of ws) va Read → w ≡ sizedAt base ram size pa → w ≡ Some v
       → NowHolds ws xs (with_last (core_of ws) pa) → Tells (run_of (core_of ws) base ram (Call.Load va size)) ws 0 old v xs
   quick-load w v old xs ep ew e m = go (width_of size) refl
     where
-      go : (s : Sized) → width_of size ≡ s → Tells (run_of (core_of ws) base ram (Call.Load va size)) ws 0 old v xs
-      go (Bytes x) es =
-          let lies : w ≡ word_at base ram (bytesIn x) pa = ew ∙ ap (λ (s : Sized). sizedIn s base ram pa) es in
+      go : (s : Option Width) → width_of size ≡ s → Tells (run_of (core_of ws) base ram (Call.Load va size)) ws 0 old v xs
+      go (Some x) es =
+          let lies : w ≡ word_at base ram (bytesIn x) pa = ew ∙ ap (λ (s : Option Width). sizedIn s base ram pa) es in
           sized-load ws base ram va size (width_of size) refl x es 0 old v xs
           (hint-load ws base ram va x (near-width ws base ram va size (width_of size) refl x es k ek near) p pa q 0 old v xs ep
           (at_value ws base ram va (bytesIn x) pa old w lies v xs e m))
-      go NoWidth es = absurd (outside-bits v (sym (ew ∙ ap (λ (s : Sized). sizedIn s base ram pa) es) ∙ e))
+      go None es = absurd (outside-bits v (sym (ew ∙ ap (λ (s : Option Width). sizedIn s base ram pa) es) ∙ e))
 
   module _ (made : Bool) (x : ℕ) (ep : p ≡ hintFound (core_of ws) va Write) (em : made ≡ sizedMade base ram size pa) (t : made ≡ true) where
     quick-both : (old : ℕ) → Tells (run_of (core_of ws) base ram (Call.Store va size x)) ws 0 old old ws
         × (sizedRam base ram size pa x ≡ ramOf (core_of ws) base ram (Call.Store va size x))
     quick-both old = go (width_of size) refl
       where
-        go : (s : Sized) → width_of size ≡ s → Tells (run_of (core_of ws) base ram (Call.Store va size x)) ws 0 old old ws
+        go : (s : Option Width) → width_of size ≡ s → Tells (run_of (core_of ws) base ram (Call.Store va size x)) ws 0 old old ws
             × (sizedRam base ram size pa x ≡ ramOf (core_of ws) base ram (Call.Store va size x))
-        go (Bytes y) es =
-            let lies : made ≡ within base (length ram) (bytesIn y) pa = em ∙ ap (λ (s : Sized). madeIn s base ram pa) es in
+        go (Some y) es =
+            let lies : made ≡ within base (length ram) (bytesIn y) pa = em ∙ ap (λ (s : Option Width). madeIn s base ram pa) es in
             let h = near-width ws base ram va size (width_of size) refl y es k ek near in (
               sized-store ws base ram va size (width_of size) refl y es x 0 old old ws
                   (hint-store ws base ram va y h p pa q x 0 old old ws ep (at_done ws base ram va (bytesIn y) pa old made lies t)),
-              ap (λ (s : Sized). ramIn s base ram pa x) es
+              ap (λ (s : Option Width). ramIn s base ram pa x) es
                   ∙ sized-store-ram ws base ram va size (width_of size) refl y es x _ (hint-store-ram ws base ram va y h p pa q x _ ep refl),
             )
-        go NoWidth es = absurd (false-true (sym (em ∙ ap (λ (s : Sized). madeIn s base ram pa) es) ∙ t))
+        go None es = absurd (false-true (sym (em ∙ ap (λ (s : Option Width). madeIn s base ram pa) es) ∙ t))
 
     pub quick-store : (old : ℕ) → Tells (run_of (core_of ws) base ram (Call.Store va size x)) ws 0 old old ws
     quick-store old = (quick-both old).0

@@ -1,4 +1,5 @@
 -- Loads and stores over two pages whose hints serve are what the call says, on plain values, for `search`.
+use Rattle.std.specs.Prelude.{Some, Option, None}
 use mathlib.Core.Path.{◌≡◌, refl, sym, ap, subst, ◌∙◌}
 use mathlib.Core.Bool.{Bool, true, false}
 use mathlib.Core.List.{List}
@@ -6,20 +7,17 @@ use Prim.Native.Nat.{ℕ, ◌^◌, ◌<◌}
 use lib.ListN.{length}
 use Rattle.word.specs.Bits.{pick}
 use Rattle.word.specs.Ram.{word_at, bytesIn, width_of}
-use Rattle.word.specs.declared.{ram.Sized.Sized, ram.Word.Word}
-use Rattle.word.specs.declared.ram.Sized.TheVariants.{Bytes, Refused as NoWidth}
-use Rattle.word.specs.declared.ram.Word.TheVariants as Word
-use Rattle.tlb.specs.declared.{access.Kind.Kind, hint.HintAnswer.HintAnswer}
+use Rattle.tlb.specs.declared.access.Kind.{Kind}
 use Rattle.tlb.specs.declared.access.Kind.TheVariants.{Read, Write}
 use Rattle.tlb.specs.declared.access.Answer.TheVariants.{Address}
-use Rattle.tlb.specs.declared.hint.HintAnswer.TheVariants.{At, Unknown}
 use Rattle.operations.specs.Place.{nextPage, goesOn, placedBoth, firstPa, verdictOf as judged}
 use Rattle.operations.specs.Bytes.{load_of, storeRam}
 use Rattle.operations.specs.AtOnce.{bothInside, bothAt, bothStored}
 use Rattle.operations.specs.Ends.{loadEnd, storeEnd, storeRamEnd}
 use Rattle.mmu.specs.Ops.{translateOf, translateAccessOf, read_of, writeOf, ramAfterWrite}
 use Rattle.operations.proofs.Both.{both-loads, both-judged, both-stores}
-use Rattle.mmu.specs.declared.{core_state.Core.Core, ops.Accessed.Accessed, ops.Translated.Translated}
+use Rattle.mmu.specs.declared.core_state.Core.{Core}
+use Rattle.mmu.specs.Results.{Accessed, Translated}
 use Rattle.operations.specs.declared.{place.Place.Place, ends.LoadEnd.LoadEnd, ends.StoreEnd.StoreEnd}
 use Rattle.operations.specs.declared.place.Place.TheVariants.{Split as Parts}
 use Rattle.operations.specs.declared.place.Placed.TheVariants as Placed
@@ -32,7 +30,7 @@ use Rattle.operations.specs.Replies.{loading, storing}
 use Rattle.cpu.specs.Step.{step_of, ramAfter, ends}
 use Rattle.operations.specs.declared.call.Call.TheVariants as Call
 use Rattle.operations.specs.declared.call.Reply.TheVariants.{Done, Value}
-use Rattle.cpu.specs.declared.run.Stepped.{Stepped}
+use Rattle.cpu.specs.Step.{Stepped}
 use Rattle.words.specs.CoreOf.{core_of}
 use Rattle.words.specs.Parts.{with_last}
 use Rattle.words.specs.NowHolds.{NowHolds, stays, holds_as}
@@ -51,6 +49,7 @@ use Rattle.a72abi.specs.Kept.{kept-done}
 use Rattle.a72abi.specs.Promise.{Gives}
 use Rattle.call_words.specs.declared.op.DecodedCall.TheVariants.{Known}
 use Rattle.a72abi.proofs.Apart.{clear-is, twoPages}
+use Rattle.word.specs.declared.ram.Width.{Width}
 
 -- WHAT THE HINTS SAY
 
@@ -58,8 +57,8 @@ record Says (c : Core) (base len va n pa : ℕ) (kind : Kind) : Type 0 where
   clear : Clear c base len
   two : twoPages c va n ≡ true
   pa2 : ℕ
-  first : hintFound c va kind ≡ At pa
-  second : hintFound c (nextPage va) kind ≡ At pa2
+  first : hintFound c va kind ≡ Some pa
+  second : hintFound c (nextPage va) kind ≡ Some pa2
 
 apart-says : (c : Core) (base len va n : ℕ) → apartOf c base len va n ≡ true → Clear c base len × (twoPages c va n ≡ true)
 unfolding apartOf
@@ -84,27 +83,27 @@ abbrev valueIn : Split → ℕ
 valueIn (Split.Value a b) = b
 valueIn Split.Unknown = 0
 
-value-says : (pa a v : ℕ) (w : Word) → valueFrom a w ≡ Split.Value pa v → (a ≡ pa) × (w ≡ Word.Value v)
-value-says pa a v (Word.Value x) e = (ap addressIn e, ap (λ (s : Split). Word.Value (valueIn s)) e)
-value-says pa a v Word.Outside e = absurd (unknown-value pa v e)
+value-says : (pa a v : ℕ) (w : Option ℕ) → valueFrom a w ≡ Split.Value pa v → (a ≡ pa) × (w ≡ Some v)
+value-says pa a v (Some x) e = (ap addressIn e, ap (λ (s : Split). Some (valueIn s)) e)
+value-says pa a v None e = absurd (unknown-value pa v e)
 
 module _ (c : Core) (base : ℕ) (ram : List ℕ) (va n : ℕ) where
   load-says : (pa v : ℕ) → splitLoad c base ram va n ≡ Split.Value pa v
-      → (s : Says c base (length ram) va n pa Read) × (bothAt base ram (pagesAt va pa s.pa2) n ≡ Word.Value v)
+      → (s : Says c base (length ram) va n pa Read) × (bothAt base ram (pagesAt va pa s.pa2) n ≡ Some v)
   unfolding splitLoad loadBoth
   load-says pa v = go (apartOf c base (length ram) va n) refl (hintFound c va Read) refl (hintFound c (nextPage va) Read) refl
     where
-      go : (b : Bool) → apartOf c base (length ram) va n ≡ b → (x : HintAnswer) → hintFound c va Read ≡ x → (y : HintAnswer) → hintFound c (nextPage va) Read
+      go : (b : Bool) → apartOf c base (length ram) va n ≡ b → (x : Option ℕ) → hintFound c va Read ≡ x → (y : Option ℕ) → hintFound c (nextPage va) Read
           ≡ y
           → loadBoth b x y va base ram n ≡ Split.Value pa v → (s : Says c base (length ram) va n pa Read)
-          × (bothAt base ram (pagesAt va pa s.pa2) n ≡ Word.Value v)
+          × (bothAt base ram (pagesAt va pa s.pa2) n ≡ Some v)
       go false eb x ex y ey e = absurd (unknown-value pa v e)
-      go true eb Unknown ex y ey e = absurd (unknown-value pa v e)
-      go true eb (At a) ex Unknown ey e = absurd (unknown-value pa v e)
-      go true eb (At a) ex (At d) ey e =
+      go true eb None ex y ey e = absurd (unknown-value pa v e)
+      go true eb (Some a) ex None ey e = absurd (unknown-value pa v e)
+      go true eb (Some a) ex (Some d) ey e =
           let p = apart-says c base (length ram) va n eb in
           let q = value-says pa a v (bothAt base ram (pagesAt va a d) n) e in (
-            record { clear = p.0; two = p.1; pa2 = d; first = ex ∙ ap At q.0; second = ey },
+            record { clear = p.0; two = p.1; pa2 = d; first = ex ∙ ap Some q.0; second = ey },
             ap (λ (m : ℕ). bothAt base ram (pagesAt va m d) n)
                 (sym q.0) ∙ q.1,
           )
@@ -115,7 +114,7 @@ module _ (c : Core) (base : ℕ) (ram : List ℕ) (va n : ℕ) where
   unfolding splitMade madeBoth splitRam ramBoth
   store-says v = go (apartOf c base (length ram) va n) refl (hintFound c va Write) refl (hintFound c (nextPage va) Write) refl
     where
-      go : (b : Bool) → apartOf c base (length ram) va n ≡ b → (x : HintAnswer) → hintFound c va Write ≡ x → (y : HintAnswer)
+      go : (b : Bool) → apartOf c base (length ram) va n ≡ b → (x : Option ℕ) → hintFound c va Write ≡ x → (y : Option ℕ)
           → hintFound c (nextPage va) Write ≡ y
           → madeBoth b x y va base ram n ≡ true
           → (pa : ℕ) × ((s : Says c base (length ram) va n pa Write)
@@ -123,9 +122,9 @@ module _ (c : Core) (base : ℕ) (ram : List ℕ) (va n : ℕ) where
           × (ramBoth (apartOf c base (length ram) va n) (hintFound c va Write) (hintFound c (nextPage va) Write) va base ram n v
           ≡ bothStored base ram (pagesAt va pa s.pa2) n v)))
       go false eb x ex y ey e = absurd (false-true e)
-      go true eb Unknown ex y ey e = absurd (false-true e)
-      go true eb (At a) ex Unknown ey e = absurd (false-true e)
-      go true eb (At a) ex (At d) ey e =
+      go true eb None ex y ey e = absurd (false-true e)
+      go true eb (Some a) ex None ey e = absurd (false-true e)
+      go true eb (Some a) ex (Some d) ey e =
           let p = apart-says c base (length ram) va n eb in
           (a, (record { clear = p.0; two = p.1; pa2 = d; first = ex; second = ey }, (e, rw (eb, ex, ey))))
 
@@ -134,11 +133,11 @@ module _ (c : Core) (base : ℕ) (ram : List ℕ) (va n : ℕ) where
   unfolding splitMade madeBoth splitRam ramBoth bothStored
   split-kept v = go (apartOf c base (length ram) va n) (hintFound c va Write) (hintFound c (nextPage va) Write)
     where
-      go : (b : Bool) (x y : HintAnswer) → madeBoth b x y va base ram n ≡ false → ramBoth b x y va base ram n v ≡ ram
+      go : (b : Bool) (x y : Option ℕ) → madeBoth b x y va base ram n ≡ false → ramBoth b x y va base ram n v ≡ ram
       go false x y e = refl
-      go true Unknown y e = refl
-      go true (At a) Unknown e = refl
-      go true (At a) (At d) e = rw e
+      go true None y e = refl
+      go true (Some a) None e = refl
+      go true (Some a) (Some d) e = rw e
 
 -- AND WHAT THE CALL SAYS
 
@@ -179,7 +178,7 @@ unfolding storeRamEnd
 ram-ends base ram n v place = refl
 
 module _ (c : Core) (base : ℕ) (ram : List ℕ) (va n pa : ℕ) (h : length ram < 2 ^ 64) where
-  read-apart : (v : ℕ) (s : Says c base (length ram) va n pa Read) → bothAt base ram (pagesAt va pa s.pa2) n ≡ Word.Value v
+  read-apart : (v : ℕ) (s : Says c base (length ram) va n pa Read) → bothAt base ram (pagesAt va pa s.pa2) n ≡ Some v
       → ((read_of c base ram va n).answer ≡ Load.Value v) × ((read_of c base ram va n).core ≡ with_last c pa)
   read-apart v s w =
       let l = lie-apart c base ram va n pa Read s in
@@ -204,34 +203,34 @@ module _ (c : Core) (base : ℕ) (ram : List ℕ) (va n pa : ℕ) (h : length ra
         ),
       )
 
-no-width-known : (size : ℕ) → width_of size ≡ NoWidth → known size ≡ true → ⊥
+no-width-known : (size : ℕ) → width_of size ≡ None → known size ≡ true → ⊥
 no-width-known size e k = false-true (sym (ap isWidth e) ∙ k)
 
 module _ (c : Core) (base : ℕ) (ram : List ℕ) (va size : ℕ) (h : length ram < 2 ^ 64) (k : known size ≡ true) where
   load_apart : (pa v : ℕ) → splitLoad c base ram va size ≡ Split.Value pa v → step_of c base ram (Call.Load va size) ≡ ends (with_last c pa) (Value v)
   load_apart pa v e = go (width_of size) refl
     where
-      go : (z : Sized) → width_of size ≡ z → step_of c base ram (Call.Load va size) ≡ ends (with_last c pa) (Value v)
-      go (Bytes w) ez =
+      go : (z : Option Width) → width_of size ≡ z → step_of c base ram (Call.Load va size) ≡ ends (with_last c pa) (Value v)
+      go (Some w) ez =
           let l = load-says c base ram va (bytesIn w) pa v (ap (splitLoad c base ram va) (size_is size w ez) ∙ e) in
           let r = read-apart c base ram va (bytesIn w) pa h v l.0 l.1 in
           load-runs c base ram va size h l.0.clear w ez ∙ λ i. ends (r.1 i) (loading (r.0 i))
-      go NoWidth ez = absurd (no-width-known size ez k)
+      go None ez = absurd (no-width-known size ez k)
 
   store_apart : (v : ℕ) → splitMade c base ram va size ≡ true
       → (step_of c base ram (Call.Store va size v) ≡ ends c Done) × (ramAfter c base ram (Call.Store va size v) ≡ splitRam c base ram va size v)
   store_apart v e = go (width_of size) refl
     where
-      go : (z : Sized) → width_of size ≡ z → (step_of c base ram (Call.Store va size v) ≡ ends c Done)
+      go : (z : Option Width) → width_of size ≡ z → (step_of c base ram (Call.Store va size v) ≡ ends c Done)
           × (ramAfter c base ram (Call.Store va size v) ≡ splitRam c base ram va size v)
-      go (Bytes w) ez =
+      go (Some w) ez =
           let l = store-says c base ram va (bytesIn w) v (ap (splitMade c base ram va) (size_is size w ez) ∙ e) in
           let r = write-apart c base ram va (bytesIn w) l.0 h v l.1.0 l.1.1.0 in
           let s = store-runs c base ram va size v h l.1.0.clear w ez in (
             s.0 ∙ (λ i. ends (r.1.1 i) (storing (r.0 i))),
             s.1 ∙ r.1.0 ∙ sym l.1.1.1 ∙ ap (λ (n : ℕ). splitRam c base ram va n v) (size_is size w ez),
           )
-      go NoWidth ez = absurd (no-width-known size ez k)
+      go None ez = absurd (no-width-known size ez k)
 
 -- as the code says it
 module _ (ws : List ℕ) (base : ℕ) (ram : List ℕ) (va size : ℕ) (h : length ram < 2 ^ 64) (k : known size ≡ true) where

@@ -1,4 +1,5 @@
 -- Every call by its words, on plain values, for `search`.
+use Rattle.std.specs.Prelude.{Option, Some, None}
 use mathlib.Core.Path.{◌≡◌, refl, sym, ap, subst, ◌∙◌}
 use mathlib.Core.Bool.{Bool, true, false, not}
 use mathlib.Core.List.{List, []}
@@ -10,8 +11,6 @@ use lib.Dec.{ltb}
 use lib.ListN.{length}
 use Rattle.word.specs.Bits.{pick, wrap, flag}
 use Rattle.word.specs.Ram.{word_at, width_of, bytesIn}
-use Rattle.word.specs.declared.ram.Sized.{Sized}
-use Rattle.word.specs.declared.ram.Sized.TheVariants.{Bytes, Refused as NoWidth}
 use Rattle.tlb.specs.declared.{access.Kind.Kind, access.Answer.Answer}
 use Rattle.tlb.specs.declared.access.Kind.TheVariants.{Read, Write}
 use Rattle.fault.specs.declared.Fault.{Fault as Status1}
@@ -37,7 +36,7 @@ use Rattle.operations.specs.Replies.{translation, reaching, loading, storing, fe
 use Rattle.cpu.specs.Step.{loadBy, storeBy, refusedOr, missedBy, run_of, step_of, ends}
 use Rattle.operations.specs.declared.call.Call.TheVariants as Call
 use Rattle.operations.specs.declared.call.Reply.TheVariants.{Refused, Done, Value, Faults, Fault, Stopped}
-use Rattle.cpu.specs.declared.run.Stepped.{Stepped}
+use Rattle.cpu.specs.Step.{Stepped}
 use Rattle.words.specs.CoreOf.{core_of}
 use Rattle.words.specs.NowHolds.{holds_as}
 use Rattle.words_sys.specs.Early.{never}
@@ -51,6 +50,7 @@ use Rattle.a72abi.proofs.Checking.{refused-reply, run-reply}
 use Rattle.call_words.specs.declared.{op.DecodedCall.DecodedCall, op.DecodedException.DecodedException}
 use Rattle.call_words.specs.declared.op.DecodedCall.TheVariants as DecodedCall
 use Rattle.call_words.specs.declared.op.DecodedException.TheVariants as DecodedException
+use Rattle.word.specs.declared.ram.Width.{Width}
 
 -- A CALL'S WORDS FROM ITS NUMBER AND VALUE
 
@@ -223,10 +223,10 @@ module _ (ws : List ℕ) (base : ℕ) (ram : List ℕ) (n v : ℕ) (w xs : List 
       (go (width_of size)))
       g e
     where
-      go : (s : Sized) → Shaped (loadBy s (core_of ws) base ram va).reply 1 same 9 same 0
-      go (Bytes x) = load-shaped (locatedNow (core_of ws) (word_at base ram 8) va (bytesIn x) Read).placed (core_of ws).last_pa
+      go : (s : Option Width) → Shaped (loadBy s (core_of ws) base ram va).reply 1 same 9 same 0
+      go (Some x) = load-shaped (locatedNow (core_of ws) (word_at base ram 8) va (bytesIn x) Read).placed (core_of ws).last_pa
           (core_of ws).abort_pa base ram va (bytesIn x)
-      go NoWidth = shaped-refused 1 same 9 same 0 3 (omega arith) (omega arith)
+      go None = shaped-refused 1 same 9 same 0 3 (omega arith) (omega arith)
 
   pub store-steps : (va size x : ℕ) → Gives (DecodedCall.Known (Call.Store va size x)) base ram ws n 0 v xs → w ≡ wordsFrom n 0 0 9 v 1
       → Steps (Call.Store va size x) base ram ws w xs
@@ -238,9 +238,9 @@ module _ (ws : List ℕ) (base : ℕ) (ram : List ℕ) (n v : ℕ) (w xs : List 
       (go (width_of size)))
       g e
     where
-      go : (s : Sized) → Shaped (storeBy s (core_of ws) base ram va).reply 0 (λ y. 0) 9 same 1
-      go (Bytes y) = store-shaped (locatedNow (core_of ws) (word_at base ram 8) va (bytesIn y) Write).placed (core_of ws).abort_pa base ram va (bytesIn y)
-      go NoWidth = shaped-refused 0 (λ y. 0) 9 same 1 3 (omega arith) (omega arith)
+      go : (s : Option Width) → Shaped (storeBy s (core_of ws) base ram va).reply 0 (λ y. 0) 9 same 1
+      go (Some y) = store-shaped (locatedNow (core_of ws) (word_at base ram 8) va (bytesIn y) Write).placed (core_of ws).abort_pa base ram va (bytesIn y)
+      go None = shaped-refused 0 (λ y. 0) 9 same 1 3 (omega arith) (omega arith)
 
 -- EVERY CALL
 

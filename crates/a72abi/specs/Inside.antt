@@ -8,7 +8,7 @@ use Rattle.mmu.specs.declared.core_state.Core.{Core}
 use Rattle.operations.specs.declared.{place.Placed.Placed, call.Call.Call}
 use Rattle.operations.specs.Replies.{loading, storing, fetching}
 use Rattle.cpu.specs.Step.{ends, step_of}
-use Rattle.cpu.specs.declared.run.Stepped.{Stepped}
+use Rattle.cpu.specs.Step.{Stepped}
 use Rattle.words.specs.CoreOf.{core_of}
 use Rattle.words.specs.NowHolds.{NowHolds}
 use Rattle.words.specs.Parts.{withAbort}

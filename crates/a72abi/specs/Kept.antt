@@ -1,11 +1,9 @@
 -- Where a call writes no word.
-use Rattle.std.specs.Prelude.{◌≡◌, refl, Bool, true, false, List, ℕ, ◌<◌}
+use Rattle.std.specs.Prelude.{◌≡◌, refl, Bool, true, false, List, ℕ, ◌<◌, Ok}
 use Rattle.std.proofs.Common.{sym, ap, ◌∙◌, arith}
 use Rattle.exception.specs.declared.{kind.Exception.Exception, kind.Stop.Stop}
 use Rattle.exception.specs.declared.kind.Exception.TheVariants as Exception
 use Rattle.exception.specs.declared.kind.Stop.TheVariants as Stop
-use Rattle.sysreg.specs.declared.write.WriteAnswer.{WriteAnswer}
-use Rattle.sysreg.specs.declared.write.WriteAnswer.TheVariants as Written
 use Rattle.tlb.specs.declared.access.Answer.{Answer}
 use Rattle.tlb.specs.declared.access.Answer.TheVariants.{Address, Status}
 use Rattle.operations.specs.Bytes.{load_of, insnOf}
@@ -21,6 +19,7 @@ use Rattle.operations.specs.Replies.{translation, reaching, loading, storing, fe
 use Rattle.operations.specs.declared.call.Reply.TheVariants.{Refused, Done, Value, Faults, Fault, Stopped}
 use Rattle.words_sys.specs.Early.{early, earlyStop, never}
 use Rattle.call_words.specs.Replies.{codeBy, valueBy}
+use Rattle.sysreg.specs.Write.{WriteAnswer}
 
 -- a refusal, Undefined, Unimplemented
 abbrev pub unmoved : Reply → Bool
@@ -117,7 +116,7 @@ module _ (ws xs : List ℕ) where
   pub system-stays : (a : StoreAnswer) (r : Reply) → r ≡ storing a → (earlyStop a ≡ true → xs ≡ ws) → Stays r ws xs
   system-stays a r er h = record { still = λ t. h (sym (ap unmoved er ∙ storing-late a) ∙ t) }
 
-  pub register-stays : (a : WriteAnswer) (r : Reply) → r ≡ registering a → ((a ≡ Written.Done → ⊥) → xs ≡ ws) → Stays r ws xs
+  pub register-stays : (a : WriteAnswer) (r : Reply) → r ≡ registering a → ((a ≡ Ok tt → ⊥) → xs ≡ ws) → Stays r ws xs
   register-stays a r er h = record { still = λ t. h (λ d. never (sym (ap unmoved (er ∙ ap registering d)) ∙ t)) }
 
 pub stays_same : (r : Reply) (ws : List ℕ) → Stays r ws ws

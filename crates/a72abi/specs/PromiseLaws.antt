@@ -1,19 +1,15 @@
 -- How a promise is met: by the exact definitions, and by demand 3 of every call.
-use Rattle.std.specs.Prelude.{◌≡◌, Bool, false, get_or}
+use Rattle.std.specs.Prelude.{◌≡◌, Bool, false, get_or, Ok, Err, Option, Some, None}
 use Rattle.std.proofs.Math.Path.{refl}
 use Rattle.std.proofs.Common.{sym, ap, ◌∙◌, arith}
 use Rattle.std.proofs.Math.Bool.{true}
 use mathlib.Core.List.{List, []}
 use Prim.Native.Nat.{ℕ, zero, suc, ◌<◌}
-use Rattle.sysreg.specs.declared.write.WriteAnswer.{WriteAnswer}
-use Rattle.sysreg.specs.declared.write.WriteAnswer.TheVariants as Written
 use Rattle.exception.specs.declared.kind.Exception.{Exception}
 use Rattle.exception.specs.declared.kind.Exception.TheVariants as Exception
 use Rattle.exception.specs.declared.kind.Stop.TheVariants as Stop
 use Rattle.word.specs.Bits.{alignDown}
 use Rattle.word.specs.Ram.{bytesIn, width_of}
-use Rattle.word.specs.declared.ram.Sized.{Sized}
-use Rattle.word.specs.declared.ram.Sized.TheVariants.{Bytes, Refused as NoWidth}
 use Rattle.sysop.specs.declared.op.SysOp.{SysOp}
 use Rattle.sysop.specs.declared.op.SysOp.TheVariants as SysOp
 use Rattle.mmu.specs.Core.{reg_of}
@@ -28,8 +24,9 @@ use Rattle.cpu.specs.Step.{storeBy, storeRamBy, run_of, ramOf as ramRun, refused
 use Rattle.cpu.specs.Demand1.{writes, quiet}
 use Rattle.operations.specs.declared.call.Call.TheVariants as Call
 use Rattle.operations.specs.declared.call.Reply.TheVariants.{Refused, Done, Value, Faults, Fault, Stopped}
-use Rattle.cpu.specs.declared.run.Stepped.{Stepped}
-use Rattle.transparency.specs.Faithful.{FaithfulCall, faithful-step}
+use Rattle.cpu.specs.Step.{Stepped}
+use Rattle.transparency.specs.Faithful.{FaithfulCall}
+use Rattle.transparency.proofs.Faithful.{faithful-step}
 use Rattle.words.specs.CoreOf.{core_of}
 use Rattle.words.specs.NowHolds.{stays, holds_as}
 use Rattle.call_words.specs.Replies.{codeBy, valueBy, wordsBy}
@@ -42,6 +39,9 @@ use Rattle.a72abi.specs.Promise.{Promise, Setting, StepPromise, Runs, Gives}
 use Rattle.call_words.specs.declared.{op.DecodedKind.DecodedKind, op.DecodedCall.DecodedCall}
 use Rattle.call_words.specs.declared.op.DecodedKind.TheVariants as DecodedKind
 use Rattle.call_words.specs.declared.op.DecodedCall.TheVariants.{Known, Unknown}
+use Rattle.sysreg.specs.Write.{WriteAnswer}
+use Rattle.sysreg.specs.declared.write.WriteError.TheVariants.{Undefined, NoRegister}
+use Rattle.word.specs.declared.ram.Width.{Width}
 
 -- A REFUSAL, UNDEFINED AND UNIMPLEMENTED CHANGE NO BYTE
 
@@ -49,9 +49,9 @@ module _ (c : Core) (base : ℕ) (ram : List ℕ) where
   stopped-late : (a : StoreAnswer) (ys : List ℕ) → earlyStop a ≡ false → unmoved (storing a) ≡ true → ys ≡ ram
   stopped-late a ys h t = never (sym h ∙ sym (storing-late a) ∙ t)
 
-  store-still : (w : Sized) (va v : ℕ) → unmoved (storeBy w c base ram va).reply ≡ true → storeRamBy w c base ram va v ≡ ram
-  store-still (Bytes w) va v t = stopped-late (writeOf c base ram va (bytesIn w)).answer _ (store-late c base ram va (bytesIn w)) t
-  store-still NoWidth va v t = refl
+  store-still : (w : Option Width) (va v : ℕ) → unmoved (storeBy w c base ram va).reply ≡ true → storeRamBy w c base ram va v ≡ ram
+  store-still (Some w) va v t = stopped-late (writeOf c base ram va (bytesIn w)).answer _ (store-late c base ram va (bytesIn w)) t
+  store-still None va v t = refl
 
   system-still : (o : SysOp) (op1 crm op2 x : ℕ) → unmoved (storing (sysBy o c base ram op1 crm op2 x).answer) ≡ true → sysRamBy o c base ram x ≡ ram
   system-still (SysOp.At form) op1 crm op2 x t = refl
@@ -156,9 +156,9 @@ no_value zero c s old e = e
 no_value (suc n) c s old e = refl
 
 register-value : (a : WriteAnswer) (old : ℕ) → valueBy (registering a) old ≡ old
-register-value Written.Done old = refl
-register-value Written.Undefined old = refl
-register-value Written.NoRegister old = refl
+register-value (Ok x) old = refl
+register-value (Err Undefined) old = refl
+register-value (Err NoRegister) old = refl
 
 module _ (ws : List ℕ) (r : Reply) (n : ℕ) (xs : List ℕ) where
   pub set-level : (level : ℕ) → Runs (Call.Level level) 0 [] ws r xs → n ≡ codeBy r → Setting (Known (Call.Level level)) ws n xs

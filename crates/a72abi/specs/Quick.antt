@@ -1,11 +1,9 @@
 -- What only private contracts cite: level and window that pass at once, and sizes in bytes.
-use Rattle.std.specs.Prelude.{◌≡◌, Bool, true, false, List, ℕ, ◌-◌, ◌^◌, ltb, length}
+use Rattle.std.specs.Prelude.{◌≡◌, Bool, true, false, List, ℕ, ◌-◌, ◌^◌, ltb, length, Option, Some, None}
 use Rattle.word.specs.Bits.{pick}
 use Rattle.word.specs.Ram.{bytesIn, within, word_at, stored, width_of}
-use Rattle.word.specs.declared.{ram.Sized.Sized, ram.Word.Word}
-use Rattle.word.specs.declared.ram.Sized.TheVariants.{Bytes, Refused as NoWidth}
-use Rattle.word.specs.declared.ram.Word.TheVariants.{Outside}
 use Rattle.mmu.specs.declared.core_state.Core.{Core}
+use Rattle.word.specs.declared.ram.Width.{Width}
 
 -- a level up to 3, and a window that ends below the last address
 unfoldable pub clearOf : Core → ℕ → ℕ → Bool
@@ -16,23 +14,23 @@ pub record Clear (c : Core) (base len : ℕ) : Type 0 where
   pub short : ltb (2 ^ 64 - 1 - len) base ≡ false
 
 -- a size's bytes at an address; a size that is none has none there
-abbrev pub sizedIn : Sized → ℕ → List ℕ → ℕ → Word
-sizedIn (Bytes w) base ram pa = word_at base ram (bytesIn w) pa
-sizedIn NoWidth base ram pa = Outside
+abbrev pub sizedIn : Option Width → ℕ → List ℕ → ℕ → Option ℕ
+sizedIn (Some w) base ram pa = word_at base ram (bytesIn w) pa
+sizedIn None base ram pa = None
 
-abbrev pub sizedAt : ℕ → List ℕ → ℕ → ℕ → Word
+abbrev pub sizedAt : ℕ → List ℕ → ℕ → ℕ → Option ℕ
 sizedAt base ram size pa = sizedIn (width_of size) base ram pa
 
-abbrev pub madeIn : Sized → ℕ → List ℕ → ℕ → Bool
-madeIn (Bytes w) base ram pa = within base (length ram) (bytesIn w) pa
-madeIn NoWidth base ram pa = false
+abbrev pub madeIn : Option Width → ℕ → List ℕ → ℕ → Bool
+madeIn (Some w) base ram pa = within base (length ram) (bytesIn w) pa
+madeIn None base ram pa = false
 
 abbrev pub sizedMade : ℕ → List ℕ → ℕ → ℕ → Bool
 sizedMade base ram size pa = madeIn (width_of size) base ram pa
 
-abbrev pub ramIn : Sized → ℕ → List ℕ → ℕ → ℕ → List ℕ
-ramIn (Bytes w) base ram pa v = stored base ram (bytesIn w) pa v
-ramIn NoWidth base ram pa v = ram
+abbrev pub ramIn : Option Width → ℕ → List ℕ → ℕ → ℕ → List ℕ
+ramIn (Some w) base ram pa v = stored base ram (bytesIn w) pa v
+ramIn None base ram pa v = ram
 
 abbrev pub sizedRam : ℕ → List ℕ → ℕ → ℕ → ℕ → List ℕ
 sizedRam base ram size pa v = ramIn (width_of size) base ram pa v

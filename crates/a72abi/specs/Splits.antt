@@ -1,12 +1,9 @@
 -- What only private contracts cite: accesses over two pages whose hints both serve and whose bytes lie in RAM.
+use Rattle.std.specs.Prelude.{Some, Option, None}
 use Rattle.std.specs.Prelude.{Bool, true, false, List, ℕ, length}
 use Rattle.word.specs.Bits.{pick}
-use Rattle.word.specs.declared.ram.Word.{Word}
-use Rattle.word.specs.declared.ram.Word.TheVariants as Word
 use Rattle.walk.specs.Regime.{regimeOf, stage1On}
 use Rattle.tlb.specs.declared.access.Kind.TheVariants.{Read, Write}
-use Rattle.tlb.specs.declared.hint.HintAnswer.{HintAnswer}
-use Rattle.tlb.specs.declared.hint.HintAnswer.TheVariants.{At, Unknown}
 use Rattle.mmu.specs.Core.{bankNow}
 use Rattle.operations.specs.Place.{inPage, nextPage, crosses}
 use Rattle.operations.specs.AtOnce.{bothInside, bothAt, bothStored}
@@ -24,28 +21,28 @@ apartOf c base len va n = pick (clearOf c base len) (crosses (stage1On (bankNow 
 abbrev pub pagesAt : ℕ → ℕ → ℕ → Pages
 pagesAt va pa pa2 = record { in_page = inPage va; pa = pa; pa2 = pa2 }
 
-abbrev pub valueFrom : ℕ → Word → Split
-valueFrom pa (Word.Value v) = Split.Value pa v
-valueFrom pa Word.Outside = Split.Unknown
+abbrev pub valueFrom : ℕ → Option ℕ → Split
+valueFrom pa (Some v) = Split.Value pa v
+valueFrom pa None = Split.Unknown
 
 -- what the two hints say, where the access is apart
-unfoldable pub loadBoth : Bool → HintAnswer → HintAnswer → ℕ → ℕ → List ℕ → ℕ → Split
+unfoldable pub loadBoth : Bool → Option ℕ → Option ℕ → ℕ → ℕ → List ℕ → ℕ → Split
 loadBoth false p q va base ram n = Split.Unknown
-loadBoth true Unknown q va base ram n = Split.Unknown
-loadBoth true (At pa) Unknown va base ram n = Split.Unknown
-loadBoth true (At pa) (At pa2) va base ram n = valueFrom pa (bothAt base ram (pagesAt va pa pa2) n)
+loadBoth true None q va base ram n = Split.Unknown
+loadBoth true (Some pa) None va base ram n = Split.Unknown
+loadBoth true (Some pa) (Some pa2) va base ram n = valueFrom pa (bothAt base ram (pagesAt va pa pa2) n)
 
-unfoldable pub madeBoth : Bool → HintAnswer → HintAnswer → ℕ → ℕ → List ℕ → ℕ → Bool
+unfoldable pub madeBoth : Bool → Option ℕ → Option ℕ → ℕ → ℕ → List ℕ → ℕ → Bool
 madeBoth false p q va base ram n = false
-madeBoth true Unknown q va base ram n = false
-madeBoth true (At pa) Unknown va base ram n = false
-madeBoth true (At pa) (At pa2) va base ram n = bothInside base (length ram) (pagesAt va pa pa2) n
+madeBoth true None q va base ram n = false
+madeBoth true (Some pa) None va base ram n = false
+madeBoth true (Some pa) (Some pa2) va base ram n = bothInside base (length ram) (pagesAt va pa pa2) n
 
-unfoldable pub ramBoth : Bool → HintAnswer → HintAnswer → ℕ → ℕ → List ℕ → ℕ → ℕ → List ℕ
+unfoldable pub ramBoth : Bool → Option ℕ → Option ℕ → ℕ → ℕ → List ℕ → ℕ → ℕ → List ℕ
 ramBoth false p q va base ram n v = ram
-ramBoth true Unknown q va base ram n v = ram
-ramBoth true (At pa) Unknown va base ram n v = ram
-ramBoth true (At pa) (At pa2) va base ram n v = bothStored base ram (pagesAt va pa pa2) n v
+ramBoth true None q va base ram n v = ram
+ramBoth true (Some pa) None va base ram n v = ram
+ramBoth true (Some pa) (Some pa2) va base ram n v = bothStored base ram (pagesAt va pa pa2) n v
 
 unfoldable pub splitLoad : Core → ℕ → List ℕ → ℕ → ℕ → Split
 splitLoad c base ram va n = loadBoth (apartOf c base (length ram) va n) (hintFound c va Read) (hintFound c (nextPage va) Read) va base ram n

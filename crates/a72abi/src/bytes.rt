@@ -12,30 +12,29 @@ use crate::split::Split;
 use crate::{slow_bytes, split};
 use operations::place;
 use tlb::access::Kind;
-use tlb::hint::HintAnswer;
 use word::ram;
-use word::ram::{Width, Word};
+use word::ram::Width;
 use words::place::State;
 use words::state;
 use words_memory::translate;
 
 // The value of a size's bytes at pa; nothing where the size is none. The tests come in this order for the sake of
 // the commonest size.
-fn read_sized(base: u64, ram: &[u8], size: u64, pa: u64) -> Word
+fn read_sized(base: u64, ram: &[u8], size: u64, pa: u64) -> Option<u64>
     ensures { result ≡ sizedAt base ram.now size pa }
 {
     if 4 < size {
         if size == 8 {
             ram::read(base, ram, Width::Double, pa)
         } else {
-            Word::Outside
+            None
         }
     } else {
         match size {
             4 => ram::read(base, ram, Width::Word, pa),
             2 => ram::read(base, ram, Width::Half, pa),
             1 => ram::read(base, ram, Width::Byte, pa),
-            _ => Word::Outside,
+            _ => None,
         }
     }
 }
@@ -105,15 +104,15 @@ pub fn a72_load(state: &mut State, va: u64, size: u64, ans: &mut u64, base: u64,
             slow_bytes::load(state, va, size, ans, base, ram)
         } else {
             match translate::by_hint(state, va, Kind::Read) {
-                HintAnswer::At(pa) => match read_sized(base, ram, size, pa) {
-                    Word::Value(v) => {
+                Some(pa) => match read_sized(base, ram, size, pa) {
+                    Some(v) => {
                         state::put_last(state, pa);
                         *ans = v;
                         0
                     }
-                    Word::Outside => slow_bytes::load(state, va, size, ans, base, ram),
+                    None => slow_bytes::load(state, va, size, ans, base, ram),
                 },
-                HintAnswer::Unknown => slow_bytes::load_page(state, va, size, ans, base, ram),
+                None => slow_bytes::load_page(state, va, size, ans, base, ram),
             }
         }
     } else {
@@ -191,7 +190,7 @@ pub fn a72_store(
             slow_bytes::store(state, va, size, value, ans, base, ram)
         } else {
             match translate::by_hint(state, va, Kind::Write) {
-                HintAnswer::At(pa) => {
+                Some(pa) => {
                     let made = write_sized(base, ram, size, pa, value);
                     if made {
                         0
@@ -199,9 +198,7 @@ pub fn a72_store(
                         slow_bytes::store(state, va, size, value, ans, base, ram)
                     }
                 }
-                HintAnswer::Unknown => slow_bytes::store_page(
-                    state, va, size, value, ans, base, ram,
-                ),
+                None => slow_bytes::store_page(state, va, size, value, ans, base, ram),
             }
         }
     } else {

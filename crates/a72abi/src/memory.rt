@@ -12,7 +12,6 @@ use crate::slow;
 use operations::bytes;
 use operations::bytes::Insn;
 use tlb::access::Kind;
-use tlb::hint::HintAnswer;
 use words::place::State;
 use words::state;
 use words_memory::translate;
@@ -139,14 +138,14 @@ pub fn a72_fetch(state: &mut State, va: u64, ans: &mut u64, base: u64, ram: &[u8
             slow::fetch(state, va, ans, base, ram)
         } else {
             match translate::fetch_by_hint(state, va) {
-                HintAnswer::At(pa) => match bytes::insn_at(base, ram, pa) {
+                Some(pa) => match bytes::insn_at(base, ram, pa) {
                     Insn::Value(v) => {
                         *ans = v as u64;
                         0
                     }
                     Insn::Outside => slow::fetch(state, va, ans, base, ram),
                 },
-                HintAnswer::Unknown => slow::fetch(state, va, ans, base, ram),
+                None => slow::fetch_page(state, va, ans, base, ram),
             }
         }
     } else {

@@ -1,9 +1,8 @@
 // Translations and fetches by number, on lent words, with document 01's checks in their order: where no fast path
 // answers, and for every call by its words.
-ghost use Rattle.std.specs.Prelude.{◌≡◌, eqb};
+ghost use Rattle.std.specs.Prelude.{◌≡◌, eqb, None};
 ghost use Rattle.word.specs.Bits.{pick};
 ghost use Rattle.tlb.specs.declared.access.Kind.TheVariants.{Read};
-ghost use Rattle.tlb.specs.declared.hint.HintAnswer.TheVariants.{Unknown};
 ghost use Rattle.operations.specs.declared.place.Placed.TheVariants.{At};
 ghost use Rattle.operations.specs.Check.{ramRows, first_of};
 ghost use Rattle.cpu.specs.Step.{run_of};
@@ -17,7 +16,6 @@ ghost use Rattle.a72abi.specs.Promise.{Gives};
 use operations::bytes::Insn;
 use operations::{bytes, check};
 use tlb::access::Kind;
-use tlb::hint::HintAnswer;
 use word::ram;
 use words::place::State;
 use words::state;
@@ -47,11 +45,11 @@ pub(crate) fn address(
 {
     let n = ram.len();
     match translate::by_hint(state, va, kind) {
-        HintAnswer::At(pa) => {
+        Some(pa) => {
             *ans = pa;
             0
         }
-        HintAnswer::Unknown => translate::find(state, va, kind, ans, base, &ram[0..n]),
+        None => translate::find(state, va, kind, ans, base, &ram[0..n]),
     }
 }
 
@@ -143,9 +141,10 @@ fn fetch_at(state: &mut State, pa: u64, ans: &mut u64, base: u64, ram: &[u8]) ->
     }
 }
 
-// A fetch that no hint serves.
-fn fetch_page(state: &mut State, va: u64, ans: &mut u64, base: u64, ram: &[u8]) -> u64
-    requires { fetchHint (core_of state.old) va ≡ Unknown }
+// A fetch that no hint serves. Out of line, so that a hint pays nothing for it.
+#[inline(never)]
+pub(crate) fn fetch_page(state: &mut State, va: u64, ans: &mut u64, base: u64, ram: &[u8]) -> u64
+    requires { fetchHint (core_of state.old) va ≡ None }
     ensures { Tells
         (run_of (core_of state.old) base ram.now (Call.Fetch va))
         state.old result ans.old ans.new state.new }
@@ -158,6 +157,7 @@ fn fetch_page(state: &mut State, va: u64, ans: &mut u64, base: u64, ram: &[u8]) 
     fetch_at(state, pa, ans, base, ram)
 }
 
+#[inline(never)]
 #[tactic(auto, unfolding(operations::specs::Check::missedOf, cpu::specs::Step::step_of))]
 pub(crate) fn fetch(state: &mut State, va: u64, ans: &mut u64, base: u64, ram: &[u8]) -> u64
     ensures { Gives (DecodedCall.Known (Call.Fetch va)) base ram.now state.old result
@@ -168,7 +168,7 @@ pub(crate) fn fetch(state: &mut State, va: u64, ans: &mut u64, base: u64, ram: &
         return n as u64;
     }
     match translate::fetch_by_hint(state, va) {
-        HintAnswer::At(pa) => fetch_at(state, pa, ans, base, ram),
-        HintAnswer::Unknown => fetch_page(state, va, ans, base, ram),
+        Some(pa) => fetch_at(state, pa, ans, base, ram),
+        None => fetch_page(state, va, ans, base, ram),
     }
 }

@@ -1,9 +1,8 @@
 // Loads and stores by number, on lent words, with document 01's checks in their order: where no fast path answers,
 // and for every call by its words.
-ghost use Rattle.std.specs.Prelude.{◌≡◌, ◌≤◌};
+ghost use Rattle.std.specs.Prelude.{◌≡◌, ◌≤◌, None};
 ghost use Rattle.word.specs.Ram.{bytesIn, stored};
 ghost use Rattle.tlb.specs.declared.access.Kind.TheVariants.{Read, Write};
-ghost use Rattle.tlb.specs.declared.hint.HintAnswer.TheVariants.{Unknown};
 ghost use Rattle.operations.specs.Place.{inPage};
 ghost use Rattle.operations.specs.declared.place.Place.TheVariants.{Whole};
 ghost use Rattle.operations.specs.declared.place.Placed.TheVariants.{At};
@@ -19,9 +18,8 @@ ghost use Rattle.a72abi.specs.Promise.{Gives};
 use call_words::reply;
 use operations::{check, place};
 use tlb::access::Kind;
-use tlb::hint::HintAnswer;
 use word::ram;
-use word::ram::{Sized, Width, Word};
+use word::ram::Width;
 use words::place::State;
 use words::state;
 use words_memory::{access, translate};
@@ -50,11 +48,11 @@ fn load_at(
 {
     state::put_last(state, pa);
     match ram::read(base, ram, width, pa) {
-        Word::Value(v) => {
+        Some(v) => {
             *ans = v;
             0
         }
-        Word::Outside => {
+        None => {
             state::put_abort(state, pa);
             *ans = va;
             256 + 0x10
@@ -65,7 +63,7 @@ fn load_at(
 // A load in one page that no hint serves.
 fn load_one(state: &mut State, va: u64, width: Width, ans: &mut u64, base: u64, ram: &[u8]) -> u64
     requires width_bound { bytesIn width ≤ inPage va }
-    requires va_value { hintFound (core_of state.old) va Read ≡ Unknown }
+    requires va_value { hintFound (core_of state.old) va Read ≡ None }
     ensures { Tells
         (run_of (core_of state.old) base ram.now (Call.Load va (bytesIn width)))
         state.old result ans.old ans.new state.new }
@@ -91,7 +89,7 @@ pub(crate) fn load_page(
     ram: &[u8],
 ) -> u64
     requires size_bound { size ≤ inPage va }
-    requires va_value { hintFound (core_of state.old) va Read ≡ Unknown }
+    requires va_value { hintFound (core_of state.old) va Read ≡ None }
     ensures { Tells
         (run_of (core_of state.old) base ram.now (Call.Load va size))
         state.old result ans.old ans.new state.new }
@@ -138,17 +136,17 @@ pub(crate) fn load(
     if n != 0 {
         return n as u64;
     }
-    match ram::width_of(size) {
-        Sized::Bytes(width) => {
+    match Width::of_size(size) {
+        Some(width) => {
             if place::in_page(va) < size {
                 return load_two(state, va, width, ans, base, ram);
             }
             match translate::by_hint(state, va, Kind::Read) {
-                HintAnswer::At(pa) => load_at(state, va, width, pa, ans, base, ram),
-                HintAnswer::Unknown => load_page(state, va, size, ans, base, ram),
+                Some(pa) => load_at(state, va, width, pa, ans, base, ram),
+                None => load_page(state, va, size, ans, base, ram),
             }
         }
-        Sized::Refused => 3,
+        None => 3,
     }
 }
 
@@ -189,7 +187,7 @@ fn store_one(
     ram: &mut [u8],
 ) -> u64
     requires width_bound { bytesIn width ≤ inPage va }
-    requires va_value { hintFound (core_of state.old) va Write ≡ Unknown }
+    requires va_value { hintFound (core_of state.old) va Write ≡ None }
     ensures tells { Tells
         (run_of (core_of state.old) base ram.old (Call.Store va (bytesIn width) value))
         state.old result ans.old ans.new state.new }
@@ -217,7 +215,7 @@ pub(crate) fn store_page(
     ram: &mut [u8],
 ) -> u64
     requires size_bound { size ≤ inPage va }
-    requires va_value { hintFound (core_of state.old) va Write ≡ Unknown }
+    requires va_value { hintFound (core_of state.old) va Write ≡ None }
     ensures tells { Tells
         (run_of (core_of state.old) base ram.old (Call.Store va size value))
         state.old result ans.old ans.new state.new }
@@ -279,16 +277,16 @@ pub(crate) fn store(
     if n != 0 {
         return n as u64;
     }
-    match ram::width_of(size) {
-        Sized::Bytes(width) => {
+    match Width::of_size(size) {
+        Some(width) => {
             if place::in_page(va) < size {
                 return store_two(state, va, width, value, ans, base, ram);
             }
             match translate::by_hint(state, va, Kind::Write) {
-                HintAnswer::At(pa) => store_at(state, va, width, value, pa, ans, base, ram),
-                HintAnswer::Unknown => store_page(state, va, size, value, ans, base, ram),
+                Some(pa) => store_at(state, va, width, value, pa, ans, base, ram),
+                None => store_page(state, va, size, value, ans, base, ram),
             }
         }
-        Sized::Refused => 3,
+        None => 3,
     }
 }

@@ -1,8 +1,7 @@
 // Loads and stores over two pages whose hints both serve and whose bytes lie in RAM. All others are left
 // to the slow path.
-ghost use Rattle.std.specs.Prelude.{◌≡◌, true, ◌<◌};
+ghost use Rattle.std.specs.Prelude.{◌≡◌, true, ◌<◌, Some};
 ghost use Rattle.tlb.specs.declared.access.Kind.TheVariants.{Read, Write};
-ghost use Rattle.tlb.specs.declared.hint.HintAnswer.TheVariants.{At};
 ghost use Rattle.operations.specs.Place.{inPage, nextPage};
 ghost use Rattle.words.specs.CoreOf.{core_of};
 ghost use Rattle.words_memory.specs.Found.{hintFound};
@@ -12,8 +11,6 @@ use crate::memory;
 use operations::place::Pages;
 use operations::{bytes, place};
 use tlb::access::Kind;
-use tlb::hint::HintAnswer;
-use word::ram::Word;
 use words::place::State;
 use words_memory::{access, translate};
 
@@ -41,19 +38,19 @@ fn apart(state: &State, va: u64, n: u64, base: u64, len: u64) -> bool
 // A load whose first page lies at pa.
 #[tactic(auto, unfolding(crate::specs::Splits::loadBoth))]
 fn load_on(state: &State, va: u64, n: u64, pa: u64, base: u64, ram: &[u8]) -> Split
-    ensures { result ≡ loadBoth true (At pa) (hintFound (core_of state.now) (nextPage va) Read) va base
+    ensures { result ≡ loadBoth true (Some pa) (hintFound (core_of state.now) (nextPage va) Read) va base
         ram.now n }
 {
     let next = place::next_page(va);
     match translate::by_hint(state, next, Kind::Read) {
-        HintAnswer::At(pa2) => {
+        Some(pa2) => {
             let in_page = place::in_page(va);
             match bytes::read_both(base, ram, Pages { in_page, pa, pa2 }, n) {
-                Word::Value(v) => Split::Value { pa, v },
-                Word::Outside => Split::Unknown,
+                Some(v) => Split::Value { pa, v },
+                None => Split::Unknown,
             }
         }
-        HintAnswer::Unknown => Split::Unknown,
+        None => Split::Unknown,
     }
 }
 
@@ -64,8 +61,8 @@ pub(crate) fn load(state: &State, va: u64, n: u64, base: u64, ram: &[u8]) -> Spl
     let apart = apart(state, va, n, base, ram.len() as u64);
     if apart {
         match translate::by_hint(state, va, Kind::Read) {
-            HintAnswer::At(pa) => load_on(state, va, n, pa, base, ram),
-            HintAnswer::Unknown => Split::Unknown,
+            Some(pa) => load_on(state, va, n, pa, base, ram),
+            None => Split::Unknown,
         }
     } else {
         Split::Unknown
@@ -76,21 +73,21 @@ pub(crate) fn load(state: &State, va: u64, n: u64, base: u64, ram: &[u8]) -> Spl
 #[tactic(auto, unfolding(crate::specs::Splits::madeBoth, crate::specs::Splits::ramBoth))]
 fn store_on(state: &State, va: u64, n: u64, value: u64, pa: u64, base: u64, ram: &mut [u8]) -> bool
     requires { inPage va < n }
-    ensures value { result ≡ madeBoth true (At pa) (hintFound (core_of state.now) (nextPage va) Write) va base
+    ensures value { result ≡ madeBoth true (Some pa) (hintFound (core_of state.now) (nextPage va) Write) va base
         ram.old n }
-    ensures ram_after { ram.new ≡ ramBoth true (At pa)
+    ensures ram_after { ram.new ≡ ramBoth true (Some pa)
         (hintFound (core_of state.now) (nextPage va) Write) va base ram.old n value }
 {
     let next = place::next_page(va);
     match translate::by_hint(state, next, Kind::Write) {
-        HintAnswer::At(pa2) => {
+        Some(pa2) => {
             if n == 2 {
                 return bytes::write_pair(base, ram, pa, pa2, value);
             }
             let in_page = place::in_page(va);
             bytes::write_both(base, ram, Pages { in_page, pa, pa2 }, n, value)
         }
-        HintAnswer::Unknown => false,
+        None => false,
     }
 }
 
@@ -102,8 +99,8 @@ pub(crate) fn store(state: &State, va: u64, n: u64, value: u64, base: u64, ram: 
     let apart = apart(state, va, n, base, ram.len() as u64);
     if apart {
         match translate::by_hint(state, va, Kind::Write) {
-            HintAnswer::At(pa) => store_on(state, va, n, value, pa, base, ram),
-            HintAnswer::Unknown => false,
+            Some(pa) => store_on(state, va, n, value, pa, base, ram),
+            None => false,
         }
     } else {
         false

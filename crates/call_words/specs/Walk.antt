@@ -1,14 +1,14 @@
 -- The walk over lent words.
-use Rattle.std.specs.Prelude.{Bool, List, [], ◌∷◌, ℕ, ◌+◌, eqb, get_or, length}
+use Rattle.std.specs.Prelude.{Bool, List, [], ◌∷◌, ℕ, ◌+◌, eqb, get_or, length, Ok, Err}
 use Rattle.word.specs.Bits.{flag, pick}
 use Rattle.word.specs.Ram.{word_at}
 use Rattle.walk.specs.Walk.{walk_of}
-use Rattle.walk.specs.declared.{regime.Regime.Regime, regime.Bank.Bank, level.Leaf.Leaf, level.Walked.Walked}
+use Rattle.walk.specs.declared.{regime.Regime.Regime, regime.Bank.Bank, level.Leaf.Leaf}
 use Rattle.walk.specs.declared.regime.Regime.TheVariants.{El1, El2, El3}
-use Rattle.walk.specs.declared.level.Walked.TheVariants.{Mapped, Fault}
 use Rattle.operations.specs.Check.{passes}
 use Rattle.call_words.specs.declared.tables.Named.{Named}
 use Rattle.call_words.specs.declared.tables.Named.TheVariants.{Known, Unknown}
+use Rattle.walk.specs.Answers.{Walked}
 
 -- regimes by number
 abbrev pub regimeAt : ℕ → Named
@@ -31,12 +31,12 @@ abbrev pub leafAfter : Leaf → List ℕ
 leafAfter leaf = leaf.oa ∷ leaf.desc ∷ leaf.perms ∷ leaf.level ∷ flag leaf.global 1 ∷ []
 
 abbrev pub code_of : Walked → ℕ
-code_of (Mapped leaf) = 0
-code_of (Fault status) = 256 + status
+code_of (Ok leaf) = 0
+code_of (Err status) = 256 + status
 
 abbrev pub words_of : Walked → List ℕ → List ℕ
-words_of (Mapped leaf) out = leafAfter leaf
-words_of (Fault status) out = out
+words_of (Ok leaf) out = leafAfter leaf
+words_of (Err status) out = out
 
 abbrev pub walkAt : List ℕ → Regime → ℕ → ℕ → List ℕ → Walked
 walkAt ws r va base ram = walk_of (bankAt ws) r va (word_at base ram 8)

@@ -3,7 +3,7 @@ ghost use Rattle.std.specs.Prelude.{◌≡◌, ◌+◌};
 ghost use Rattle.call_words.specs.Walk.{bankAt, regimeAt, leafAfter, walkCode, walkWords};
 
 use operations::check;
-use walk::level::{Leaf, Walked};
+use walk::level::Leaf;
 use walk::regime::{Bank, Regime};
 use word::bits;
 
@@ -76,11 +76,11 @@ pub fn walk_words(
             }
             let bank = bank_at(words);
             match walk::table::walk(bank, regime, va, base, ram) {
-                Walked::Mapped(leaf) => {
+                Ok(leaf) => {
                     put_leaf(out, leaf);
                     0
                 }
-                Walked::Fault(status) => 256 + status as u64,
+                Err(status) => 256 + status as u64,
             }
         }
         Named::Unknown => 64,

@@ -2,7 +2,6 @@
 // Document 01's worked translations on the proved walk: a table of one word at 0x1008, SCTLR_EL1.M set, TCR_EL1 =
 // 25, other registers zero.
 use std::{fmt, io};
-use walk::level::Walked;
 use walk::regime::{Bank, Regime};
 
 // What a row gives: the word at 0x1008, TTBR0_EL1, the window's base, the address, and the permission bit that the
@@ -44,7 +43,7 @@ fn answer(row: Row) -> End {
     };
     let va = walk::tag::untag(bank.tcr, Regime::El1, row.va);
     match walk::table::walk(bank, Regime::El1, va, row.base, &row.word.to_le_bytes()) {
-        Walked::Mapped(leaf) => {
+        Ok(leaf) => {
             let allowed = (leaf.perms >> (row.need % 8)) % 2 == 1;
             if allowed {
                 End::Address(leaf.oa - leaf.oa % 4096 + row.va % 4096)
@@ -52,7 +51,7 @@ fn answer(row: Row) -> End {
                 End::Fault(12 + leaf.level % 4)
             }
         }
-        Walked::Fault(status) => End::Fault(status),
+        Err(status) => End::Fault(status),
     }
 }
 

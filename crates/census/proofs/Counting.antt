@@ -1,22 +1,18 @@
 -- One page more, on plain values.
-use Rattle.std.proofs.Common.{◌≡◌, ℕ, ◌+◌, ◌-◌, ◌%◌, ◌^◌, ◌<◌, ◌≤◌, List, get_or, set, ap, ◌∙◌, add-one, arith}
+use Rattle.std.specs.Prelude.{Option}
+use Rattle.std.proofs.Common.{◌≡◌, ℕ, ◌+◌, ◌-◌, ◌*◌, ◌%◌, ◌^◌, ◌<◌, ◌≤◌, List, get_or, set, ap, ◌∙◌, add-one, arith}
 use Rattle.word.specs.Bits.{wrap}
-use Rattle.word.specs.declared.ram.Word.{Word}
 use Rattle.walk.specs.declared.{regime.Regime.Regime, regime.Bank.Bank}
-use Rattle.walk.specs.FreshLaws.{is-sound}
+use Rattle.walk.proofs.FreshLaws.{is-sound}
 use Rattle.census.specs.Tally.{at_most, one_more}
 use Rattle.census.specs.Count.{pageAt, placeAt, censusOf}
 
-pub first-page : (first : ℕ) → first < 2 ^ 64 → first - first % 4096 ≡ pageAt first 0
-first-page first h = omega arith
+-- the address of the i-th page, as the code finds it
+pub page_is : (first start i below page : ℕ) → first < 2 ^ 64 → start ≡ first - first % 4096 → below ≡ wrap (i * 4096) → page ≡ wrap (start + below)
+    → page ≡ pageAt first i
+page_is first start i below page h es eb ep = omega arith
 
-pub next-page : (first i page next : ℕ) → page ≡ pageAt first i → next ≡ wrap (page + 4096) → next ≡ pageAt first (i + 1)
-next-page first i page next e n = n ∙ ap (λ (k : ℕ). wrap (k + 4096)) e ∙ again
-  where
-    again : wrap (pageAt first i + 4096) ≡ pageAt first (i + 1)
-    again = omega arith
-
-module _ (s : Bank) (r : Regime) (memory : ℕ → Word) (first i : ℕ) (counts : List ℕ) (e : counts ≡ censusOf s r memory first i) (at : ℕ)
+module _ (s : Bank) (r : Regime) (memory : ℕ → Option ℕ) (first i : ℕ) (counts : List ℕ) (e : counts ≡ censusOf s r memory first i) (at : ℕ)
     (small : at < 129) where
   pub one-fits : get_or counts at 0 ≤ i
   unfolding censusOf
@@ -30,14 +26,14 @@ module _ (s : Bank) (r : Regime) (memory : ℕ → Word) (first i : ℕ) (counts
       there : at ≡ placeAt s r memory (pageAt first i)
       there = ea ∙ ap (placeAt s r memory) ep
 
-pub all-pages : (s : Bank) (r : Regime) (memory : ℕ → Word) (first i pages : ℕ) (counts : List ℕ) → counts ≡ censusOf s r memory first i → i ≤ pages → pages ≤ i
+pub all-pages : (s : Bank) (r : Regime) (memory : ℕ → Option ℕ) (first i pages : ℕ) (counts : List ℕ) → counts ≡ censusOf s r memory first i → i ≤ pages → pages ≤ i
     → counts ≡ censusOf s r memory first pages
 all-pages s r memory first i pages counts e h k = e ∙ ap (censusOf s r memory first) (same h k)
   where
     same : i ≤ pages → pages ≤ i → i ≡ pages
     same a b = omega arith
 
-pub ruleset pages = (next-page, one-fits, page-more, all-pages)
+pub ruleset pages = (page_is, one-fits, page-more, all-pages)
 
 -- what the place of a fresh answer asks
 pub ruleset sound = (is-sound)

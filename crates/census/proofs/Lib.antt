@@ -1,2 +1,4 @@
 -- What the proofs share.
 pub mod Counting
+pub mod Laws
+pub mod Rights

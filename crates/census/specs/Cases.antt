@@ -29,7 +29,8 @@ counted sctlr tcr first pages place =
 --   TBI1 set, TBI0 clear: a page whose tag is dropped, then one whose tag is kept and which no range holds
 --   the last page of all, by an address within it
 --   stage 1 off; no page
-pub cases :
+abbrev pub WorkedPlaces : Type 0
+WorkedPlaces =
     (counted 1 25 0x3FFFF123 2 0x05
     ∷ counted 1 25 0x3FFFF123 2 (64 + 0x3C)
     ∷ counted 1 25 0x7FFFFFF000 2 0x15
@@ -43,6 +44,8 @@ pub cases :
     ∷ counted 1 25 0x3FFFF123 0 0x05
     ∷ [])
     ≡ (1 ∷ 1 ∷ 1 ∷ 1 ∷ 1 ∷ 1 ∷ 1 ∷ 1 ∷ 1 ∷ 3 ∷ 0 ∷ [])
+
+pub cases : WorkedPlaces
 unfolding counted registers censusOf table howMany fresh_of walk_of tableWalk walkRange walkFrom lookupNext levelNext leafResult leafTranslation
     leafPermissions tableNext descaddr range_of params_of paSize untagged word_at littleEndian bytes_of
 cases = refl
@@ -63,7 +66,10 @@ pub countedAt : ℕ → ℕ → ℕ
 unfolding control
 countedAt level place = slice_index (censusAt control level (word_at 0x1000 (bytes_of 8 0 ++ bytes_of 8 0x80000401) 8) 0x40000000 1) place
 
-pub levels : (countedAt 0 (64 + 0x3C) ∷ countedAt 1 (64 + 0x3C) ∷ countedAt 2 0x15 ∷ countedAt 3 128 ∷ []) ≡ (1 ∷ 1 ∷ 1 ∷ 1 ∷ [])
+abbrev pub WorkedLevels : Type 0
+WorkedLevels = (countedAt 0 (64 + 0x3C) ∷ countedAt 1 (64 + 0x3C) ∷ countedAt 2 0x15 ∷ countedAt 3 128 ∷ []) ≡ (1 ∷ 1 ∷ 1 ∷ 1 ∷ [])
+
+pub levels : WorkedLevels
 unfolding countedAt control censusOf table howMany fresh_of walk_of tableWalk walkRange walkFrom lookupNext levelNext leafResult leafTranslation
     leafPermissions tableNext descaddr range_of params_of paSize untagged word_at littleEndian bytes_of
 levels = refl

@@ -1,20 +1,19 @@
 -- Document 02's page census: over a range of 4 KiB pages, how many a fresh walk ends at each status code, how many at each permission byte, and how
 -- many are flat.
-use Rattle.std.specs.Prelude.{ℕ, ◌+◌, ◌*◌, List}
+use Rattle.std.specs.Prelude.{ℕ, ◌+◌, ◌*◌, List, Option, Ok, Err}
 use Rattle.word.specs.Bits.{alignDown, wrap}
-use Rattle.word.specs.declared.ram.Word.{Word}
 use Rattle.sysreg.specs.declared.regs.Control.{Control}
 use Rattle.walk.specs.Regime.{bankOf, regimeOf}
 use Rattle.walk.specs.Fresh.{fresh_of}
-use Rattle.walk.specs.declared.{regime.Regime.Regime, regime.Bank.Bank, level.Walked.Walked, fresh.Fresh.Fresh}
-use Rattle.walk.specs.declared.level.Walked.TheVariants.{Mapped, Fault}
+use Rattle.walk.specs.declared.{regime.Regime.Regime, regime.Bank.Bank, fresh.Fresh.Fresh}
 use Rattle.walk.specs.declared.fresh.Fresh.TheVariants.{Flat, Ended}
 use Rattle.census.specs.Tally.{tally}
+use Rattle.walk.specs.Answers.{Walked}
 
 -- 129 places: a status code's is its number, a permission byte's 64 more, and 128 is that of flat pages
 abbrev pub walkPlace : Walked → ℕ
-walkPlace (Fault status) = status
-walkPlace (Mapped leaf) = 64 + leaf.perms
+walkPlace (Err status) = status
+walkPlace (Ok leaf) = 64 + leaf.perms
 
 abbrev pub place_of : Fresh → ℕ
 place_of (Ended w) = walkPlace w
@@ -25,13 +24,13 @@ abbrev pub pageAt : ℕ → ℕ → ℕ
 pageAt first i = wrap (alignDown first 12 + i * 4096)
 
 -- each page by its own address, untagged as for a translation
-abbrev pub placeAt : Bank → Regime → (ℕ → Word) → ℕ → ℕ
+abbrev pub placeAt : Bank → Regime → (ℕ → Option ℕ) → ℕ → ℕ
 placeAt s r memory va = place_of (fresh_of s r va memory)
 
 -- the 129 counts of so many pages
-unfoldable pub censusOf : Bank → Regime → (ℕ → Word) → ℕ → ℕ → List ℕ
+unfoldable pub censusOf : Bank → Regime → (ℕ → Option ℕ) → ℕ → ℕ → List ℕ
 censusOf s r memory first pages = tally 129 (λ i. placeAt s r memory (pageAt first i)) pages
 
 -- under the registers kept, in the regime of an exception level
-abbrev pub censusAt : Control → ℕ → (ℕ → Word) → ℕ → ℕ → List ℕ
+abbrev pub censusAt : Control → ℕ → (ℕ → Option ℕ) → ℕ → ℕ → List ℕ
 censusAt control level memory first pages = censusOf (bankOf control (regimeOf level)) (regimeOf level) memory first pages

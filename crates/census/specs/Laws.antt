@@ -1,47 +1,28 @@
--- What holds of every census: each place counts what its name says, every page is counted once, adjoining ranges add up, and which places stay 0.
-use Rattle.std.specs.Prelude.{◌≡◌, ℕ, ◌+◌, ◌*◌, ◌/◌, ◌<◌, ◌≤◌, Bool, true, false, ◌⊎◌, ◌==◌, ◌≢◌, nat_eq, slice_index, refl}
-use Rattle.std.proofs.Common.{sym, ap, ap₂, subst, ◌∙◌, ⊎_elim, arith, ne_eqb}
-use Rattle.word.specs.Bits.{alignDown, wrap}
-use Rattle.word.specs.declared.ram.Word.{Word}
-use Rattle.walk.specs.Regime.{stage1On}
-use Rattle.walk.specs.Table.{Fault as Kind, addressSize, translation, accessFlag, externalAbort, statusOf}
+-- What the laws of a census speak of: how a page ends, which statuses no walk ends at, and each place of a census. The laws are the contracts of
+-- `theorems`.
+use Rattle.std.specs.Prelude.{◌≡◌, ℕ, ◌<◌, ◌≤◌, Bool, true, false, ◌⊎◌, ◌==◌, slice_index, Option, Ok, Err}
 use Rattle.walk.specs.Fresh.{fresh_of}
-use Rattle.walk.specs.FreshLaws.{SoundFresh, answer-sound, fresh_on, fresh-off}
-use Rattle.walk.specs.WalkBounds.{Status, Levelled, status-small}
 use Rattle.walk.specs.declared.{regime.Regime.Regime, regime.Bank.Bank, fresh.Fresh.Fresh}
-use Rattle.walk.specs.declared.level.Walked.TheVariants.{Mapped, Fault}
 use Rattle.walk.specs.declared.fresh.Fresh.TheVariants.{Flat, Ended}
-use Rattle.census.specs.Tally.{howMany, total, many-same, many-none, many-all, many-joins, shift-eqb, adds-up, at_place}
-use Rattle.census.specs.Count.{place_of, pageAt, placeAt, censusOf}
-
--- every fresh answer has a place
-pub place-small : (x : Fresh) → SoundFresh x → place_of x < 129
-place-small (Ended (Fault status)) h = let k = status-small status h in omega arith
-place-small (Ended (Mapped leaf)) h = let k = h.perms in omega arith
-place-small (Flat pa) h = omega arith
+use Rattle.census.specs.Count.{pageAt, censusOf}
 
 -- WHAT A FRESH ANSWER IS
 
 -- a fault of this status
 abbrev pub faultsWith : ℕ → Fresh → Bool
-faultsWith status (Ended (Fault n)) = n == status
-faultsWith status (Ended (Mapped leaf)) = false
+faultsWith status (Ended (Err n)) = n == status
+faultsWith status (Ended (Ok leaf)) = false
 faultsWith status (Flat pa) = false
 
 -- a leaf of this permission byte
 abbrev pub hasRights : ℕ → Fresh → Bool
-hasRights perms (Ended (Fault n)) = false
-hasRights perms (Ended (Mapped leaf)) = leaf.perms == perms
+hasRights perms (Ended (Err n)) = false
+hasRights perms (Ended (Ok leaf)) = leaf.perms == perms
 hasRights perms (Flat pa) = false
 
 abbrev pub isFlat : Fresh → Bool
 isFlat (Ended w) = false
 isFlat (Flat pa) = true
-
-by-flat : (x : Fresh) → SoundFresh x → (place_of x == 128) ≡ isFlat x
-by-flat (Ended (Fault n)) k = let small = status-small n k in ne_eqb n 128 (λ e. omega arith)
-by-flat (Ended (Mapped leaf)) k = let small = k.perms in ne_eqb _ 128 (λ e. omega arith)
-by-flat (Flat pa) k = refl
 
 -- NEVER
 
@@ -49,18 +30,9 @@ by-flat (Flat pa) k = refl
 abbrev pub NoStatus : ℕ → Type 0
 NoStatus n = (n ≡ 8) ⊎ (((12 ≤ n) × (n < 20)) ⊎ (24 ≤ n))
 
-walks-none : (n : ℕ) → NoStatus n → Status n → ⊥
-walks-none n never h = go h.fault h.level h.code
-  where
-    go : (f : Kind) → Levelled f → n ≢ statusOf f
-    go (addressSize k) l e = ⊎_elim (λ a. omega arith) (⊎_elim (λ a. omega arith) (λ a. omega arith)) never
-    go (translation k) l e = ⊎_elim (λ a. omega arith) (⊎_elim (λ a. omega arith) (λ a. omega arith)) never
-    go (accessFlag k) l e = ⊎_elim (λ a. omega arith) (⊎_elim (λ a. omega arith) (λ a. omega arith)) never
-    go (externalAbort k) l e = ⊎_elim (λ a. omega arith) (⊎_elim (λ a. omega arith) (λ a. omega arith)) never
-
 -- A CENSUS
 
-module _ (s : Bank) (r : Regime) (memory : ℕ → Word) (first : ℕ) where
+module _ (s : Bank) (r : Regime) (memory : ℕ → Option ℕ) (first : ℕ) where
   -- how the i-th page ends with nothing cached
   abbrev pub end_at : ℕ → Fresh
   end_at i = fresh_of s r (pageAt first i) memory
@@ -68,80 +40,6 @@ module _ (s : Bank) (r : Regime) (memory : ℕ → Word) (first : ℕ) where
   abbrev pub countAt : ℕ → ℕ → ℕ
   countAt pages j = slice_index (censusOf s r memory first pages) j
 
-  pub sound-at : (i : ℕ) → SoundFresh (end_at i)
-  sound-at i = answer-sound s r (pageAt first i) memory
-
-  pub count_at : (pages j : ℕ) → j < 129 → countAt pages j ≡ howMany (λ i. nat_eq (place_of (end_at i)) j) pages
-  unfolding censusOf
-  count_at pages j h = at_place 129 (λ i. place_of (end_at i)) pages j h
-
-  -- each place is the number of pages that a fresh walk ends so
-  pub status-count : (pages status : ℕ) → status < 64 → countAt pages status ≡ howMany (λ i. faultsWith status (end_at i)) pages
-  status-count pages status h = count_at pages status (omega arith) ∙ many-same _ _ pages (λ i. here (end_at i) (sound-at i))
-    where
-      here : (x : Fresh) → SoundFresh x → (place_of x == status) ≡ faultsWith status x
-      here (Ended (Fault n)) k = refl
-      here (Ended (Mapped leaf)) k = ne_eqb _ status (λ e. omega arith)
-      here (Flat pa) k = ne_eqb 128 status (λ e. omega arith)
-
-  pub rights-count : (pages perms : ℕ) → perms < 64 → countAt pages (64 + perms) ≡ howMany (λ i. hasRights perms (end_at i)) pages
-  rights-count pages perms h = count_at pages (64 + perms) (omega arith) ∙ many-same _ _ pages (λ i. here (end_at i) (sound-at i))
-    where
-      here : (x : Fresh) → SoundFresh x → (place_of x == 64 + perms) ≡ hasRights perms x
-      here (Ended (Fault n)) k = let small = status-small n k in ne_eqb n (64 + perms) (λ e. omega arith)
-      here (Ended (Mapped leaf)) k = shift-eqb 64 leaf.perms perms
-      here (Flat pa) k = ne_eqb 128 (64 + perms) (λ e. omega arith)
-
-  pub flat-count : (pages : ℕ) → countAt pages 128 ≡ howMany (λ i. isFlat (end_at i)) pages
-  flat-count pages = count_at pages 128 (omega arith) ∙ many-same _ _ pages (λ i. by-flat (end_at i) (sound-at i))
-
-  -- "All counts together add up to the range."
-  pub all-counted : (pages : ℕ) → total (censusOf s r memory first pages) ≡ pages
-  unfolding censusOf
-  all-counted pages = adds-up 129 (λ i. place_of (end_at i)) pages (λ i. place-small (end_at i) (sound-at i))
-
-  -- which places stay 0
-  pub no-other-status : (pages status : ℕ) → status < 64 → NoStatus status → countAt pages status ≡ 0
-  no-other-status pages status h never =
-      count_at pages status (omega arith) ∙ many-none _ pages (λ i. here (end_at i) (sound-at i))
-    where
-      here : (x : Fresh) → SoundFresh x → (place_of x == status) ≡ false
-      here (Ended (Fault k)) sound = ne_eqb k status (λ e. walks-none status never (subst Status e sound))
-      here (Ended (Mapped leaf)) sound = ne_eqb _ status (λ e. omega arith)
-      here (Flat pa) sound = ne_eqb 128 status (λ e. omega arith)
-
-  -- stage 1 off: every page is flat; on: none is
-  pub off-flat : (pages : ℕ) → stage1On s r ≡ false → countAt pages 128 ≡ pages
-  off-flat pages off = flat-count pages ∙ many-all _ pages (λ i. ap isFlat (fresh-off s r (pageAt first i) memory off))
-
-  pub off-others : (pages j : ℕ) → stage1On s r ≡ false → j < 128 → countAt pages j ≡ 0
-  off-others pages j off h =
-      count_at pages j (omega arith)
-      ∙ many-none _ pages (λ i. ap (λ (x : Fresh). nat_eq (place_of x) j) (fresh-off s r (pageAt first i) memory off) ∙ ne_eqb 128 j (λ e. omega arith))
-
-  pub on-none-flat : (pages : ℕ) → stage1On s r ≡ true → countAt pages 128 ≡ 0
-  on-none-flat pages on = flat-count pages ∙ many-none _ pages (λ i. ap isFlat (fresh_on s r (pageAt first i) memory on))
-
--- two adjoining ranges: the census of both is the sum
-next-page : (first n i next : ℕ) → next ≡ wrap (first + n * 4096) → pageAt first (n + i) ≡ pageAt next i
-next-page first n i next e =
-    shift (first / 4096) n i ∙ ap (λ (x : ℕ). wrap (x + i * 4096)) (sym (ap (λ (x : ℕ). alignDown x 12) e ∙ aligned))
-  where
-    aligned : alignDown (wrap (first + n * 4096)) 12 ≡ wrap ((first / 4096 + n) * 4096)
-    aligned = omega arith
-
-    shift : (a b c : ℕ) → wrap (a * 4096 + (b + c) * 4096) ≡ wrap (wrap ((a + b) * 4096) + c * 4096)
-    shift a b c = omega arith
-
-pub joins : (s : Bank) (r : Regime) (memory : ℕ → Word) (first n m next j : ℕ) → next ≡ wrap (first + n * 4096) → j < 129
-    → countAt s r memory first (n + m) j ≡ countAt s r memory first n j + countAt s r memory next m j
-joins s r memory first n m next j e h =
-    count_at s r memory first (n + m) j h ∙ many-joins _ n m
-    ∙ ap₂ (λ (a b : ℕ). a + b) (sym (count_at s r memory first n j h))
-    (many-same _ _ m (λ i. ap (λ (va : ℕ). nat_eq (placeAt s r memory va) j) (next-page first n i next e)) ∙ sym (count_at s r memory next m j h))
-
--- "The low twelve bits of the first address are dropped."
-pub low_bits : (s : Bank) (r : Regime) (memory : ℕ → Word) (first other pages : ℕ) → first / 4096 ≡ other / 4096
-    → censusOf s r memory first pages ≡ censusOf s r memory other pages
-unfolding censusOf
-low_bits s r memory first other pages e = rw e
+-- a fact of every census: of its places, of how each of its pages ends, and of how many pages it has
+abbrev pub EachCensus : ((ℕ → ℕ) → (ℕ → Fresh) → ℕ → Type 0) → Type 0
+EachCensus P = (s : Bank) (r : Regime) (memory : ℕ → Option ℕ) (first pages : ℕ) → P (countAt s r memory first pages) (end_at s r memory first) pages

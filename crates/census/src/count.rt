@@ -6,7 +6,6 @@ ghost use Rattle.census.specs.Count.{place_of, placeAt, censusOf};
 
 use walk::fresh;
 use walk::fresh::Fresh;
-use walk::level::Walked;
 use walk::regime::{Bank, Regime};
 
 // Where a page is counted: by the status of its fault, by 64 plus the permission byte of its leaf, or flat.
@@ -16,10 +15,8 @@ fn place_of(end: Fresh) -> usize
     ensures upper_bound { result < 129 }
 {
     match end {
-        Fresh::Ended(w) => match w {
-            Walked::Fault(status) => status as usize,
-            Walked::Mapped(leaf) => 64 + leaf.perms as usize,
-        },
+        Fresh::Ended(Ok(leaf)) => 64 + usize::from(leaf.perms),
+        Fresh::Ended(Err(status)) => usize::from(status),
         Fresh::Flat(_) => 128,
     }
 }
@@ -30,8 +27,7 @@ fn place_at(s: Bank, regime: Regime, va: u64, base: u64, ram: &[u8]) -> usize
     ensures value { result ≡ placeAt s regime (word_at base ram.now 8) va }
     ensures upper_bound { result < 129 }
 {
-    let end = fresh::fresh_of(s, regime, va, base, ram);
-    place_of(end)
+    place_of(fresh::fresh_of(s, regime, va, base, ram))
 }
 
 // The counts of so many pages from the page of first, each by its own address: places 0 to 63 by status, 64 to 127 by
@@ -49,12 +45,9 @@ pub fn count(
     ensures { counts.new ≡ censusOf s regime (word_at base ram.now 8) first pages }
 {
     *counts = [0; 129];
-    let mut page = first - first % 4096;
-    let mut i: u64 = 0;
-    while i < pages {
-        let at = place_at(s, regime, page, base, ram);
-        counts[at] += 1;
-        page = std::num::wrapping_add_u64(page, 4096);
-        i += 1;
+    let start = first - first % 4096;
+    for i in 0..pages {
+        let page = start.wrapping_add(i.wrapping_mul(4096));
+        counts[place_at(s, regime, page, base, ram)] += 1;
     }
 }

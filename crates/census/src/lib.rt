@@ -2,3 +2,4 @@
 // The page census: how many pages of a range end at each status, at each permission byte, and flat. It sees the tables
 // and no cache.
 pub mod count;
+pub mod theorems;

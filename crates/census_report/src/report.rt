@@ -6,7 +6,7 @@ use a72abi::inspect;
 use std::alloc::Global;
 use std::io::Write;
 use std::{fmt, io};
-use walk::regime;
+use walk::regime::Regime;
 use walk_report::explain;
 use words::place::State;
 use words::state;
@@ -91,7 +91,7 @@ pub fn census(
 fn text<W: Write>(out: &mut W, alloc: Global, found: &Found, colour: bool) -> io::Result<()> {
     let grid = found.grid;
     let level = found.level;
-    let regime = regime::regime_of(level);
+    let regime = Regime::of_level(level);
     let title = Title { grid, level };
     let name = explain::regime_name(regime);
     writeln!(out, "{title}: the regime is {name}")?;

@@ -38,7 +38,7 @@ use Rattle.cpu.specs.Step.{run_of, step_of}
 use Rattle.operations.specs.declared.{call.Call.Call, call.Reply.Reply}
 use Rattle.operations.specs.declared.call.Call.TheVariants.{Translate, System, Abort}
 use Rattle.operations.specs.declared.call.Reply.TheVariants.{Value, Fault}
-use Rattle.cpu.specs.declared.run.Stepped.{Stepped}
+use Rattle.cpu.specs.Step.{Stepped}
 
 -- a core at a level with SCTLR_EL1.M set, TCR_EL1 = 25 and TTBR0_EL1 as given, other registers zero, the address in X0, and an empty cache
 pub at : ℕ → ℕ → Core
@@ -87,7 +87,8 @@ pub esr : Reply
 unfolding at called
 esr = Value (slice_index (called (at 0 0x1000) 0x1008 0x80000401 (Abort (dataAbortAt 0x40001234 true (first 0x0D)))).core.sys.esr 1)
 
-pub cases :
+abbrev pub ProvedCases : Type 0
+ProvedCases =
     (row 1 0x80000401 Read
     ∷ row 0 0x80000401 Read
     ∷ row 0 0x80000401 Fetch
@@ -118,6 +119,8 @@ pub cases :
     ∷ Value 0x9200004D
     ∷ Value 0xBFFFFFFF
     ∷ [])
+
+pub cases : ProvedCases
 unfolding row elsewhere par esr at called step_of run_of missedOf translateOf steppedNow translationOf registerAt freshSys reg_of afterAccess sysOf at_of withPar
     abortOf takeSync takeException enteredSys spsrOf routedTo syndromeOf named decodeOf success abort leafPar parIn fresh_of atPar judged blanks
     noHints place_of byWalk

@@ -1,25 +1,21 @@
 -- Every call ends: a number and nothing changed, or its value, its fault, Undefined or Unimplemented.
-use Rattle.std.specs.Prelude.{◌≡◌, ℕ, zero, suc, ◌+◌, ◌≤◌, Bool, true, false, ◌&&◌, List, [], ◌∷◌, length, ◌==◌, nat_le}
+use Rattle.mmu.specs.Results.{Stored}
+use Rattle.std.specs.Prelude.{◌≡◌, ℕ, zero, suc, ◌+◌, ◌≤◌, Bool, true, false, ◌&&◌, List, [], ◌∷◌, length, ◌==◌, nat_le, Option, Some, None, Ok, Err}
 use Rattle.std.proofs.Math.Path.{refl, ap, subst⁻¹}
-use Rattle.std.proofs.Common.{sym, subst, ◌∙◌, arith, leb-true}
+use Rattle.std.proofs.Common.{sym, ◌∙◌, arith, leb-true}
 use Rattle.std.proofs.lemmas.Bool.{not-false}
 use Rattle.word.specs.Bits.{pick, wrap, alignDown}
 use Rattle.word.specs.BitLaws.{both}
 use Rattle.word.specs.Ram.{word_at, width_of, bytesIn, within}
-use Rattle.word.specs.declared.ram.Sized.{Sized}
-use Rattle.word.specs.declared.ram.Sized.TheVariants.{Bytes, Refused as NoWidth}
 use Rattle.sysreg.specs.Encoding.{registerAt}
-use Rattle.sysreg.specs.Write.{names, ended, wrote, writeFound, writeReg}
-use Rattle.sysreg.specs.declared.{encoding.Found.Found, regs.Control.Control, regs.SysRegs.SysRegs}
-use Rattle.sysreg.specs.declared.{regs.Register.Register, write.WriteAnswer.WriteAnswer}
-use Rattle.sysreg.specs.declared.encoding.Found.TheVariants.{At as FoundAt, Nothing as NotFound}
+use Rattle.sysreg.specs.Write.{names, ended, wrote, writeFound, writeReg, WriteAnswer}
+use Rattle.sysreg.specs.declared.{regs.Control.Control, regs.SysRegs.SysRegs}
+use Rattle.sysreg.specs.declared.regs.Register.{Register}
 use Rattle.sysreg.specs.declared.regs.Register.TheVariants.{InControl, InSys}
-use Rattle.sysreg.specs.declared.write.WriteAnswer.TheVariants as Written
 use Rattle.tlb.specs.declared.access.Answer.{Answer}
 use Rattle.tlb.specs.declared.access.Answer.TheVariants.{Address, Status}
 use Rattle.tlb.specs.declared.access.Kind.TheVariants as Kind
 use Rattle.sysop.specs.declared.op.SysOp.{SysOp}
-use Rattle.sysop.specs.declared.op.SysOp.TheVariants as SysOp
 use Rattle.mmu.specs.Core.{reg_of}
 use Rattle.operations.specs.Place.{verdictOf as judged}
 use Rattle.operations.specs.Bytes.{value_at}
@@ -27,11 +23,10 @@ use Rattle.mmu.specs.Says.{Said, value, done, fault, faults, undefined, unimplem
 use Rattle.mmu.specs.Says.{insnSays, load-says, store-says, fetch-says}
 use Rattle.mmu.specs.Ops.{translateOf, read_of, writeOf, ramAfterWrite, fetchOf, fetchPaOf, dataPaOf, locatedNow, fetchSteppedNow}
 use Rattle.mmu.specs.OpLaws.{ram-length, store}
-use Rattle.mmu.specs.declared.{core_state.Core.Core, ops.Stored.Stored}
+use Rattle.mmu.specs.declared.core_state.Core.{Core}
 use Rattle.operations.specs.declared.{place.Placed.Placed, place.Verdict.Verdict, ends.LoadAnswer.LoadAnswer}
 use Rattle.operations.specs.declared.{ends.StoreAnswer.StoreAnswer, ends.FetchAnswer.FetchAnswer, ends.Reached.Reached}
 use Rattle.operations.specs.declared.{call.Call.Call, call.Reply.Reply}
-use Rattle.operations.specs.declared.place.Placed.TheVariants as Placed
 use Rattle.operations.specs.declared.place.Verdict.TheVariants.{Inside, Outside}
 use Rattle.operations.specs.declared.ends.LoadAnswer.TheVariants as Load
 use Rattle.operations.specs.declared.ends.StoreAnswer.TheVariants as Store
@@ -45,6 +40,8 @@ use Rattle.cpu.specs.Step.{ends, loadBy, storeBy, storeRamBy, refusedOr, missedB
 use Rattle.operations.specs.declared.call.Call.TheVariants.{Translate, DataPa, FetchPa, Load as LoadCall, Store as StoreCall, Fetch, System}
 use Rattle.operations.specs.declared.call.Call.TheVariants.{Register as RegisterCall, Level, Mark, General, Abort, Census}
 use Rattle.operations.specs.declared.call.Reply.TheVariants.{Refused, Done, Value, Faults, Fault, Stopped}
+use Rattle.word.specs.declared.ram.Width.{Width}
+use Rattle.sysreg.specs.declared.write.WriteError.TheVariants.{Undefined, NoRegister}
 
 -- a reply as document 01's number, or what it says: a value, a fault's address and status, done, Undefined, Unimplemented
 pub data Outcome : Type 0 where
@@ -192,16 +189,16 @@ fetching-says (Fetched.Aborted e) = refl
 
 -- a register write of a key that names a register is not refused
 code : WriteAnswer → ℕ
-code Written.Done = 0
-code Written.Undefined = 0
-code Written.NoRegister = 1
+code (Ok x) = 0
+code (Err Undefined) = 0
+code (Err NoRegister) = 1
 
-named-write : (k : Control) (s : SysRegs) (level v : ℕ) (f : Found) → names f ≡ true → code (writeFound k s level f v).answer ≡ 0
+named-write : (k : Control) (s : SysRegs) (level v : ℕ) (f : Option Register) → names f ≡ true → code (writeFound k s level f v).answer ≡ 0
 unfolding code
-named-write k s level v NotFound h = let z : ◌≡◌ {A = ℕ} 0 1 = ap (λ (x : Bool). pick x 1 0) h in omega arith
-named-write k s level v (FoundAt r) h = go (level == 0) r
+named-write k s level v None h = let z : ◌≡◌ {A = ℕ} 0 1 = ap (λ (x : Bool). pick x 1 0) h in omega arith
+named-write k s level v (Some r) h = go (level == 0) r
   where
-    go : (x : Bool) (q : Register) → code (pick x (ended k s Written.Undefined) (wrote k s q v)).answer ≡ 0
+    go : (x : Bool) (q : Register) → code (pick x (ended k s (Err Undefined)) (wrote k s q v)).answer ≡ 0
     go true q = refl
     go false (InControl q) = refl
     go false (InSys q) = refl
@@ -263,20 +260,20 @@ module _ (c : Core) (base : ℕ) (ram : List ℕ) where
     where
       go : (a : WriteAnswer) → (written c key v).answer ≡ a
           → Ran c ram (registered c (written c key v) a).core ram (outcomeOf (registering (registered c (written c key v) a).answer))
-      go Written.Done e = only-done c _ ram
-      go Written.Undefined e = is-undefined
-      go Written.NoRegister e =
+      go (Ok x) e = only-done c _ ram
+      go (Err Undefined) e = is-undefined
+      go (Err NoRegister) e =
           absurd (let z : ◌≡◌ {A = ℕ} 1 0 = ap code (sym e) ∙ named-write c.control c.sys c.privilege.level v (registerAt key) named in omega arith)
 
-  loads : (s : Sized) (va : ℕ) → isWidth s ≡ true → Ran c ram (loadBy s c base ram va).core ram (outcomeOf (loadBy s c base ram va).reply)
-  loads (Bytes w) va h = loaded va (bytesIn w)
-  loads NoWidth va h = absurd (let z : ◌≡◌ {A = ℕ} 0 1 = ap (λ (x : Bool). pick x 1 0) h in omega arith)
+  loads : (s : Option Width) (va : ℕ) → isWidth s ≡ true → Ran c ram (loadBy s c base ram va).core ram (outcomeOf (loadBy s c base ram va).reply)
+  loads (Some w) va h = loaded va (bytesIn w)
+  loads None va h = absurd (let z : ◌≡◌ {A = ℕ} 0 1 = ap (λ (x : Bool). pick x 1 0) h in omega arith)
 
-  stores : (s : Sized) (va v : ℕ) → isWidth s ≡ true
+  stores : (s : Option Width) (va v : ℕ) → isWidth s ≡ true
       → Ran c ram (storeBy s c base ram va).core (storeRamBy s c base ram va v) (outcomeOf (storeBy s c base ram va).reply)
-  stores (Bytes w) va v h = stored (writeOf c base ram va (bytesIn w)).core (writeOf c base ram va (bytesIn w)).answer _
+  stores (Some w) va v h = stored (writeOf c base ram va (bytesIn w)).core (writeOf c base ram va (bytesIn w)).answer _
       (store_wrote c base ram va (bytesIn w) v)
-  stores NoWidth va v h = absurd (let z : ◌≡◌ {A = ℕ} 0 1 = ap (λ (x : Bool). pick x 1 0) h in omega arith)
+  stores None va v h = absurd (let z : ◌≡◌ {A = ℕ} 0 1 = ap (λ (x : Bool). pick x 1 0) h in omega arith)
 
   -- a call that misses no check ends in a value, a fault, Undefined or Unimplemented, or is done
   pub ran : (call : Call) → missedBy c base ram call ≡ 0

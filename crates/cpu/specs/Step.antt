@@ -1,22 +1,25 @@
 -- One call on the core: a number where a check is missed, and else the operation.
-use Rattle.std.specs.Prelude.{ℕ, zero, suc, ◌%◌, List, length}
+use Rattle.mmu.specs.Results.{Translated, Loaded, Stored, Fetched, Addressed}
+use Rattle.exec.specs.Ops.{Registered}
+use Rattle.std.specs.Prelude.{ℕ, zero, suc, ◌%◌, List, length, Option, Some, None}
 use Rattle.word.specs.Ram.{word_at, width_of, bytesIn}
-use Rattle.word.specs.declared.ram.Sized.{Sized}
-use Rattle.word.specs.declared.ram.Sized.TheVariants.{Bytes, Refused as NoWidth}
 use Rattle.mmu.specs.Core.{setReg}
 use Rattle.mmu.specs.Ops.{translateOf, read_of, writeOf, ramAfterWrite, fetchOf, fetchPaOf, dataPaOf}
-use Rattle.mmu.specs.declared.{core_state.Core.Core, ops.Translated.Translated, ops.Loaded.Loaded, ops.Stored.Stored}
-use Rattle.mmu.specs.declared.{ops.Fetched.Fetched, ops.Addressed.Addressed}
+use Rattle.mmu.specs.declared.core_state.Core.{Core}
 use Rattle.exec.specs.Ops.{writeRegister, setLevel, setMark, abortOf}
 use Rattle.exec.specs.Sys.{sysOf, sysRam}
-use Rattle.exec.specs.declared.ops.Registered.{Registered}
 use Rattle.operations.specs.Check.{missedOf}
 use Rattle.operations.specs.declared.{call.Call.Call, call.Reply.Reply}
 use Rattle.operations.specs.declared.call.Call.TheVariants.{Translate, DataPa, FetchPa, Load as LoadCall, Store as StoreCall, Fetch, System, Register, Level}
 use Rattle.operations.specs.declared.call.Call.TheVariants.{Mark, General, Abort, Census}
 use Rattle.operations.specs.declared.call.Reply.TheVariants.{Refused, Done}
-use Rattle.cpu.specs.declared.run.Stepped.{Stepped}
 use Rattle.operations.specs.Replies.{translation, loading, storing, fetching, reaching, registering}
+use Rattle.word.specs.declared.ram.Width.{Width}
+
+-- the core after a call, and its reply
+pub record Stepped : Type 0 where
+  pub core : Core
+  pub reply : Reply
 
 abbrev pub ends : Core → Reply → Stepped
 ends c r = record { core = c; reply = r }
@@ -40,17 +43,17 @@ abbrev pub afterWrite : Registered → Stepped
 afterWrite t = ends t.core (registering t.answer)
 
 -- a size is 1, 2, 4 or 8, or refusal 3
-abbrev pub loadBy : Sized → Core → ℕ → List ℕ → ℕ → Stepped
-loadBy (Bytes w) c base ram va = afterLoad (read_of c base ram va (bytesIn w))
-loadBy NoWidth c base ram va = ends c (Refused 3)
+abbrev pub loadBy : Option Width → Core → ℕ → List ℕ → ℕ → Stepped
+loadBy (Some w) c base ram va = afterLoad (read_of c base ram va (bytesIn w))
+loadBy None c base ram va = ends c (Refused 3)
 
-abbrev pub storeBy : Sized → Core → ℕ → List ℕ → ℕ → Stepped
-storeBy (Bytes w) c base ram va = afterStore (writeOf c base ram va (bytesIn w))
-storeBy NoWidth c base ram va = ends c (Refused 3)
+abbrev pub storeBy : Option Width → Core → ℕ → List ℕ → ℕ → Stepped
+storeBy (Some w) c base ram va = afterStore (writeOf c base ram va (bytesIn w))
+storeBy None c base ram va = ends c (Refused 3)
 
-abbrev pub storeRamBy : Sized → Core → ℕ → List ℕ → ℕ → ℕ → List ℕ
-storeRamBy (Bytes w) c base ram va value = ramAfterWrite c base ram va (bytesIn w) value
-storeRamBy NoWidth c base ram va value = ram
+abbrev pub storeRamBy : Option Width → Core → ℕ → List ℕ → ℕ → ℕ → List ℕ
+storeRamBy (Some w) c base ram va value = ramAfterWrite c base ram va (bytesIn w) value
+storeRamBy None c base ram va value = ram
 
 -- the operation that a call is
 unfoldable pub run_of : Core → ℕ → List ℕ → Call → Stepped

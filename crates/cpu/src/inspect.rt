@@ -6,7 +6,7 @@ use census::count;
 use mmu::core_state::Core;
 use operations::call::Reply;
 use operations::check;
-use walk::regime;
+use walk::regime::{Bank, Regime};
 
 // The 129 counts of a census, all 0 where it is refused, and its reply.
 #[derive(Clone, Copy)]
@@ -25,8 +25,8 @@ pub fn census(core: Core, base: u64, ram: &[u8], first: u64, pages: u64) -> Cens
     let mut counts = [0; 129];
     let n = check::census(level, base, ram.len() as u64, first, pages);
     if n == 0 {
-        let regime = regime::regime_of(level);
-        let s = regime::bank_of(control, regime);
+        let regime = Regime::of_level(level);
+        let s = Bank::new(&control, regime);
         count::count(s, regime, first, pages, base, ram, &mut counts);
         Censused {
             counts,

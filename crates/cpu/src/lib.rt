@@ -2,4 +2,4 @@
 // The core as one machine: every operation is a call, checked in document 01's order and then done.
 pub mod inspect;
 pub mod run;
-pub mod step;
+pub mod theorems;

@@ -1,11 +1,10 @@
 -- Laws of words made of bytes.
+use Rattle.std.specs.Prelude.{Option, Some, None}
 use Rattle.std.proofs.Common.{◌≡◌, ℕ, zero, suc, ◌+◌, ◌-◌, ◌*◌, ◌/◌, ◌≤◌, Bool, true, false, List, [], ◌∷◌, ◌++◌, length, get_or, sym, ap, ◌∙◌, arith}
 use native.Mathlib.Nat.{sub-zero}
 use Rattle.word.specs.Bits.{pick}
 use Rattle.word.specs.Ram.{littleEndian, word_at, within}
 use Rattle.word.specs.RamLaws.{le_join}
-use Rattle.word.specs.declared.ram.Word.{Word}
-use Rattle.word.specs.declared.ram.Word.TheVariants.{Value, Outside}
 use Rattle.digest.specs.Fold.{joined, digestFrom, digestOf, gathered}
 use Rattle.digest.specs.Window.{wholeWord, windowWords}
 use Rattle.digest.proofs.Folding.{digest-append}
@@ -24,12 +23,12 @@ join4 ram at x y p q = omega (arith, le_join ram 2 2 at)
 pub join8 : (ram : List ℕ) (at x y : ℕ) → x ≡ littleEndian ram 4 at → y ≡ littleEndian ram 4 (at + 4) → x + y * 0x100000000 ≡ littleEndian ram 8 at
 join8 ram at x y p q = omega (arith, le_join ram 4 4 at)
 
-value-go : (b : Bool) (v x : ℕ) → Value v ≡ pick b (Value x) Outside → v ≡ x
+value-go : (b : Bool) (v x : ℕ) → Some v ≡ pick b (Some x) None → v ≡ x
 value-go true v x e = cc
 value-go false v x e = cc
 
 -- a whole word that was read
-pub value-is : (ram : List ℕ) (at v : ℕ) (r : Word) → r ≡ Value v → r ≡ word_at 0 ram 8 at → v ≡ littleEndian ram 8 at
+pub value-is : (ram : List ℕ) (at v : ℕ) (r : Option ℕ) → r ≡ Some v → r ≡ word_at 0 ram 8 at → v ≡ littleEndian ram 8 at
 unfolding word_at
 value-is ram at v r p e =
     value-go (within 0 (length ram) 8 at) v (littleEndian ram 8 (at - 0)) (sym p ∙ e) ∙ ap (littleEndian ram 8) (sub-zero at)

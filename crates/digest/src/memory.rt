@@ -6,7 +6,7 @@ ghost use Rattle.digest.specs.Fold.{digestFrom, digestOf, gathered};
 ghost use Rattle.digest.specs.Window.{wholeWord, windowWords};
 
 use crate::fold;
-use word::ram::{Width, Word};
+use word::ram::Width;
 use word::{bits, ram};
 
 // A byte, 0 past the last.
@@ -55,8 +55,8 @@ fn word_at(ram: &[u8], at: usize) -> u64
     ensures { result ≡ littleEndian ram.now 8 at }
 {
     match ram::read(0, ram, Width::Double, at as u64) {
-        Word::Value(v) => v,
-        Word::Outside => rest(ram, at),
+        Some(v) => v,
+        None => rest(ram, at),
     }
 }
 

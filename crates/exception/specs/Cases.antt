@@ -1,6 +1,6 @@
 -- Document 01's proved case 13, entries of each kind, and the recorded departures, computed. The PC is 0x8000; VBAR_ELx are 0x10000, 0x20000
 -- and 0x30000; FAR_ELx hold 0xF1, 0xF2 and 0xF3 before.
-use Rattle.std.specs.Prelude.{◌≡◌, ℕ, Bool, true, false, List, [], ◌∷◌, refl}
+use Rattle.std.specs.Prelude.{◌≡◌, ℕ, Bool, true, false, List, [], ◌∷◌, refl, None}
 use Rattle.fault.specs.First.{first}
 use Rattle.sysreg.specs.Regs.{levels, sysAt}
 use Rattle.sysreg.specs.declared.{regs.El.El, regs.SysRegs.SysRegs}
@@ -8,7 +8,6 @@ use Rattle.sysreg.specs.declared.regs.El.TheVariants.{El1, El2, El3}
 use Rattle.sysreg.specs.declared.regs.SysReg.TheVariants.{Elr, Spsr, Esr, Far}
 use Rattle.exception.specs.declared.{kind.Exception.Exception, flags.Flags.Flags, take.Entered.Entered}
 use Rattle.exception.specs.declared.kind.Exception.TheVariants.{Svc, Hvc, Smc, Brk, PcAlignment}
-use Rattle.exception.specs.declared.take.Update.TheVariants.{Keep}
 use Rattle.exception.specs.Pstate.{spsrOf}
 use Rattle.exception.specs.Abort.{dataAbortAt, insnAbortAt}
 use Rattle.exception.specs.Syndrome.{syndromeOf}
@@ -108,7 +107,7 @@ departures = refl
 
 -- an IRQ from EL1 to EL2, and an FIQ from EL3 with SP_EL0 to itself: ESR and FAR stay
 pub interrupts :
-    (seen El2 (enterOf 1 (masked true) registers El2 0x80 Keep Keep 0x8000) ∷ seen El3 (enterOf 3 (masked false) registers El3 0x100 Keep Keep 0x8000) ∷ [])
+    (seen El2 (enterOf 1 (masked true) registers El2 0x80 None None 0x8000) ∷ seen El3 (enterOf 3 (masked false) registers El3 0x100 None None 0x8000) ∷ [])
     ≡ ((2 ∷ 0x20480 ∷ 0 ∷ 0xF2 ∷ 0x8000 ∷ 0x3C5 ∷ []) ∷ (3 ∷ 0x30100 ∷ 0 ∷ 0xF3 ∷ 0x8000 ∷ 0x3CC ∷ []) ∷ [])
 unfolding seen registers masked enterOf spsrOf
 interrupts = refl

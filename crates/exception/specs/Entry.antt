@@ -1,6 +1,6 @@
 -- Exception entry to AArch64: DDI 0487, AArch64.TakeException, from knowledge of ARMv8.0: the document itself was not at hand. M12 is a row of
 -- docs/DIFFERENCES.md.
-use Rattle.std.specs.Prelude.{ℕ, ◌+◌, ◌%◌, ◌^◌, Bool, true, false, List, ◌==◌}
+use Rattle.std.specs.Prelude.{ℕ, ◌+◌, ◌%◌, ◌^◌, Bool, true, false, List, ◌==◌, Option, Some, None}
 use Rattle.word.specs.Bits.{wrap, pick}
 use Rattle.sysreg.specs.Regs.{levelOf, sysAt}
 use Rattle.sysreg.specs.Write.{bank}
@@ -8,8 +8,7 @@ use Rattle.sysreg.specs.declared.{regs.El.El, regs.SysReg.SysReg, regs.SysRegs.S
 use Rattle.sysreg.specs.declared.regs.SysReg.TheVariants.{Mair, Vbar, Elr, Spsr, Esr, Far, Vpidr, Vmpidr, Par}
 use Rattle.exception.specs.declared.{kind.Exception.Exception, flags.Flags.Flags, report.Report.Report}
 use Rattle.exception.specs.declared.{route.Origin.Origin, route.Routed.Routed, take.Entered.Entered}
-use Rattle.exception.specs.declared.{take.Reported.Reported, take.Taken.Taken, take.Update.Update}
-use Rattle.exception.specs.declared.take.Update.TheVariants.{Write, Keep}
+use Rattle.exception.specs.declared.{take.Reported.Reported, take.Taken.Taken}
 use Rattle.exception.specs.Pstate.{daifAll, spsrOf}
 use Rattle.exception.specs.Syndrome.{syndromeOf}
 use Rattle.exception.specs.Route.{routedTo}
@@ -42,18 +41,24 @@ afterEntry s target spsr ret esr far =
     }
 
 -- FAR is written where the exception has an address
-abbrev pub farAfter : El → Report → List ℕ → List ℕ
-farAfter target r l = pick r.valid (atTarget target r.far l) l
+abbrev pub farAfter : El → Option ℕ → List ℕ → List ℕ
+farAfter target (Some v) l = atTarget target v l
+farAfter target None l = l
 
 unfoldable pub enteredSys : SysRegs → El → Report → ℕ → ℕ → SysRegs
-enteredSys s target r spsr ret = afterEntry s target spsr ret (atTarget target r.esr s.esr) (farAfter target r s.far)
+enteredSys s target r spsr ret = afterEntry s target spsr ret (atTarget target r.esr s.esr) (farAfter target r.far s.far)
 
--- the same, register by register: what one holds after an entry, from what it held
+-- of one register: the value that is given, where it is the target's; else what it held
+abbrev pub given : Option ℕ → Bool → ℕ → ℕ
+given (Some v) same held = pick same v held
+given None same held = held
+
+-- register by register: what one holds after an entry, from what it held
 abbrev pub registerAfter : El → Report → ℕ → ℕ → SysReg → ℕ → ℕ
 registerAfter target r spsr ret (Spsr el) held = pick (sameEl el target) spsr held
 registerAfter target r spsr ret (Elr el) held = pick (sameEl el target) ret held
 registerAfter target r spsr ret (Esr el) held = pick (sameEl el target) r.esr held
-registerAfter target r spsr ret (Far el) held = pick r.valid (pick (sameEl el target) r.far held) held
+registerAfter target r spsr ret (Far el) held = given r.far (sameEl el target) held
 registerAfter target r spsr ret (Mair el) held = held
 registerAfter target r spsr ret (Vbar el) held = held
 registerAfter target r spsr ret Vpidr held = held
@@ -102,14 +107,14 @@ takeException level f s target r ret = takenTo f s (changesOf level f target r r
 
 -- An entry of any kind, which is added to the offset (0x000 for a synchronous exception, 0x080 for an IRQ, 0x100 for an FIQ); ESR and FAR are
 -- written, or kept as an interrupt keeps both. A synchronous one is `takeException` (`enter-sync` of EntryLaws).
-abbrev pub updated : El → Update → List ℕ → List ℕ
-updated target (Write v) l = atTarget target v l
-updated target Keep l = l
+abbrev pub updated : El → Option ℕ → List ℕ → List ℕ
+updated target (Some v) l = atTarget target v l
+updated target None l = l
 
-abbrev pub updatedSys : SysRegs → El → Update → Update → ℕ → ℕ → SysRegs
+abbrev pub updatedSys : SysRegs → El → Option ℕ → Option ℕ → ℕ → ℕ → SysRegs
 updatedSys s target esr far spsr ret = afterEntry s target spsr ret (updated target esr s.esr) (updated target far s.far)
 
-abbrev pub enteredWith : Flags → SysRegs → El → ℕ → Update → Update → ℕ → ℕ → Entered
+abbrev pub enteredWith : Flags → SysRegs → El → ℕ → Option ℕ → Option ℕ → ℕ → ℕ → Entered
 enteredWith f s target offset esr far spsr ret =
     record {
       level = levelOf target;
@@ -118,7 +123,7 @@ enteredWith f s target offset esr far spsr ret =
       sys = updatedSys s target esr far spsr ret;
     }
 
-unfoldable pub enterOf : ℕ → Flags → SysRegs → El → ℕ → Update → Update → ℕ → Entered
+unfoldable pub enterOf : ℕ → Flags → SysRegs → El → ℕ → Option ℕ → Option ℕ → ℕ → Entered
 enterOf level f s target kind esr far ret =
     enteredWith f s target (vectOffset level (levelOf target) f.spsel + kind) esr far (spsrOf level f) ret
 

@@ -1,5 +1,5 @@
 -- Laws of exception entry: which registers change, and where it goes.
-use Rattle.std.specs.Prelude.{◌≡◌, ℕ, zero, suc, ◌+◌, ◌%◌, ◌^◌, ◌<◌, ◌≤◌, Bool, true, false, slice_index}
+use Rattle.std.specs.Prelude.{◌≡◌, ℕ, zero, suc, ◌+◌, ◌%◌, ◌^◌, ◌<◌, ◌≤◌, Bool, true, false, slice_index, Option, Some, None}
 use Rattle.std.proofs.Math.Path.{refl}
 use Rattle.std.proofs.Common.{◌∙◌, arith}
 use Rattle.std.proofs.Math.Nat.{mod-eq_of_lt}
@@ -15,30 +15,27 @@ use Rattle.exception.specs.declared.kind.Exception.TheVariants.{Undefined, Svc, 
 use Rattle.exception.specs.Pstate.{spsrOf}
 use Rattle.exception.specs.Syndrome.{syndromeOf}
 use Rattle.exception.specs.Route.{defaultTarget, smcTrapped, callTarget, targetEl, generated, routedTo}
-use Rattle.exception.specs.Entry.{vectOffset, sameEl, atTarget, enteredSys, registerAfter, ofEntry, updated, changesOf, enteredWith, takenTo}
-use Rattle.exception.specs.Entry.{takeException, enterOf, origin_of, syncReport, syncChanges, takeSync}
-use Rattle.exception.specs.Parts.{farUpdate}
-use Rattle.exception.specs.declared.take.Update.TheVariants.{Write, Keep}
+use Rattle.exception.specs.Entry.{sameEl, atTarget, enteredSys, registerAfter, ofEntry, farAfter, updated, given, enteredWith, takenTo}
+use Rattle.exception.specs.Entry.{takeException, origin_of, syncReport, syncChanges, takeSync}
 
 module _ (s : SysRegs) (target : El) (r : Report) (spsr ret : ℕ) where
   abbrev Holds : SysReg → Type 0
   Holds q = sysAt (enteredSys s target r spsr ret) q ≡ registerAfter target r spsr ret q (sysAt s q)
 
-  far_at : (el : El) (b : Bool) → slice_index (pick b (atTarget target r.far s.far) s.far) (levelOf el)
-      ≡ pick b (pick (sameEl el target) r.far (sysAt s (Far el))) (sysAt s (Far el))
-  far_at El1 true = refl
-  far_at El2 true = refl
-  far_at El3 true = refl
-  far_at El1 false = refl
-  far_at El2 false = refl
-  far_at El3 false = refl
+  far_at : (el : El) (far : Option ℕ) → slice_index (farAfter target far s.far) (levelOf el) ≡ given far (sameEl el target) (sysAt s (Far el))
+  far_at El1 (Some v) = refl
+  far_at El2 (Some v) = refl
+  far_at El3 (Some v) = refl
+  far_at El1 None = refl
+  far_at El2 None = refl
+  far_at El3 None = refl
 
   pub entered_at : (q : SysReg) → sysAt (enteredSys s target r spsr ret) q ≡ registerAfter target r spsr ret q (sysAt s q)
   unfolding enteredSys
   entered_at (Spsr el) = by_level (λ x. Holds (Spsr x)) refl refl refl el
   entered_at (Elr el) = by_level (λ x. Holds (Elr x)) refl refl refl el
   entered_at (Esr el) = by_level (λ x. Holds (Esr x)) refl refl refl el
-  entered_at (Far el) = far_at el r.valid
+  entered_at (Far el) = far_at el r.far
   entered_at (Mair el) = refl
   entered_at (Vbar el) = refl
   entered_at Vpidr = refl
@@ -46,15 +43,15 @@ module _ (s : SysRegs) (target : El) (r : Report) (spsr ret : ℕ) where
   entered_at Par = refl
 
 module _ (s : SysRegs) (target : El) (r : Report) (spsr ret : ℕ) where
-  far-kept : (el : El) (b : Bool) (held : ℕ) → sameEl el target ≡ false → pick b (pick (sameEl el target) r.far held) held ≡ held
-  far-kept el true held n = simp n
-  far-kept el false held n = refl
+  far-kept : (el : El) (far : Option ℕ) (held : ℕ) → sameEl el target ≡ false → given far (sameEl el target) held ≡ held
+  far-kept el (Some v) held n = simp n
+  far-kept el None held n = refl
 
   stays : (q : SysReg) (held : ℕ) → ofEntry target q ≡ false → registerAfter target r spsr ret q held ≡ held
   stays (Spsr el) held n = simp n
   stays (Elr el) held n = simp n
   stays (Esr el) held n = simp n
-  stays (Far el) held n = far-kept el r.valid held n
+  stays (Far el) held n = far-kept el r.far held n
   stays (Mair el) held n = refl
   stays (Vbar el) held n = refl
   stays Vpidr held n = refl
@@ -67,23 +64,13 @@ module _ (s : SysRegs) (target : El) (r : Report) (spsr ret : ℕ) where
 
 -- an entry that writes what a report has it write is the manual's
 pub entered-report : (f : Flags) (s : SysRegs) (t : Taken)
-    → enteredWith f s t.target t.group (Write t.report.esr) (farUpdate t.report) t.spsr t.ret ≡ takenTo f s t
+    → enteredWith f s t.target t.group (Some t.report.esr) t.report.far t.spsr t.ret ≡ takenTo f s t
 unfolding enteredSys
-entered-report f s t = rw (far-as t.report.valid)
+entered-report f s t = rw (far-as t.report.far)
   where
-    far-as : (b : Bool)
-        → updated t.target (pick b (Write t.report.far) Keep) s.far ≡ pick b (atTarget t.target t.report.far s.far) s.far
-    far-as true = refl
-    far-as false = refl
-
--- so is one of the synchronous kind
-pub enter-sync : (level : ℕ) (f : Flags) (s : SysRegs) (target : El) (r : Report) (ret : ℕ)
-    → enterOf level f s target 0 (Write r.esr) (farUpdate r) ret ≡ takeException level f s target r ret
-unfolding enterOf takeException
-enter-sync level f s target r ret = rw kind-zero (entered-report f s (changesOf level f target r ret))
-  where
-    kind-zero : vectOffset level (levelOf target) f.spsel + 0 ≡ vectOffset level (levelOf target) f.spsel
-    kind-zero = omega arith
+    far-as : (far : Option ℕ) → updated t.target far s.far ≡ farAfter t.target far s.far
+    far-as (Some v) = refl
+    far-as None = refl
 
 -- a synchronous exception is taken by what it changes
 pub take-changes : (level pc scr hcr : ℕ) (f : Flags) (s : SysRegs) (e : Exception)
@@ -166,3 +153,10 @@ module _ (level pc scr hcr : ℕ) (f : Flags) (s : SysRegs) (e : Exception) wher
       let m : level % 2 ^ 2 ≡ level = mod-eq_of_lt (omega arith) in
       let u = target_up scr hcr pc (level % 2 ^ 2) (omega arith) (generated (origin_of level pc scr hcr) e) in
       omega (arith, u, m)
+
+-- a fact of every synchronous exception: where it is taken to, what is reported, SPSR and the return address, and the registers before and after
+abbrev pub EachEntry : (El → Report → ℕ → ℕ → SysRegs → SysRegs → Type 0) → Type 0
+EachEntry P =
+    (level pc scr hcr : ℕ) (f : Flags) (s : SysRegs) (e : Exception)
+    → P (target level pc scr hcr f s e) (report level pc scr hcr f s e) (spsrOf (level % 2 ^ 2) f) (routedTo (origin_of level pc scr hcr) e).ret s
+    (takeSync level f pc scr hcr s e).sys

@@ -1,6 +1,6 @@
 -- What an exception reports: DDI 0487, AArch64.ExceptionClass, AArch64.ReportException, and the layout of ESR_ELx, from knowledge of ARMv8.0: the
 -- document itself was not at hand. M16, O6 and the like are rows of docs/DIFFERENCES.md.
-use Rattle.std.specs.Prelude.{ℕ, ◌+◌, ◌*◌, ◌/◌, ◌%◌, ◌^◌, Bool, true, false, bit_or, nat_lt}
+use Rattle.std.specs.Prelude.{ℕ, ◌+◌, ◌*◌, ◌/◌, ◌%◌, ◌^◌, Bool, true, false, bit_or, nat_lt, Some, None}
 use Rattle.word.specs.Bits.{flag, pick}
 use Rattle.exception.specs.declared.{kind.Exception.Exception, report.Report.Report}
 use Rattle.exception.specs.declared.kind.Exception.TheVariants.{Undefined, Svc, Hvc, Smc, Brk, DataAbort, InsnAbort, PcAlignment}
@@ -64,4 +64,5 @@ farOf pc (Brk imm) = 0
 
 -- the report of an exception at the PC, taken from one level to another
 unfoldable pub syndromeOf : Exception → ℕ → ℕ → ℕ → Report
-syndromeOf e from to pc = record { esr = esrOf (class_of (nat_lt from to) e) (issOf e); valid = farWritten e; far = farOf pc e }
+syndromeOf e from to pc =
+    record { esr = esrOf (class_of (nat_lt from to) e) (issOf e); far = pick (farWritten e) (Some (farOf pc e)) None }

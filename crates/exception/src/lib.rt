@@ -5,3 +5,4 @@ pub mod kind;
 pub mod report;
 pub mod route;
 pub mod take;
+pub mod theorems;

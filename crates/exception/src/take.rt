@@ -1,24 +1,16 @@
 // Exception entry. A synchronous one takes a level modulo 4, as PSTATE.EL has two bits; levels are 0 to 3 below it.
 ghost use Rattle.std.specs.Prelude.{◌≡◌};
-ghost use Rattle.exception.specs.Entry.{vectOffset, atTarget, updated, updatedSys, entryFlags, enterOf};
-ghost use Rattle.exception.specs.Entry.{enteredWith, syncReport, syncChanges, takeSync};
-ghost use Rattle.exception.specs.Parts.{farUpdate};
+ghost use Rattle.exception.specs.Entry.{vectOffset, updated, updatedSys, enterOf};
+ghost use Rattle.exception.specs.Entry.{syncReport, syncChanges, takeSync};
 
 use crate::flags::{DAIF_ALL, Flags, pstate};
 use crate::kind::Exception;
 use crate::report::{Report, syndrome};
 use crate::route::{Origin, route};
-use sysreg::regs::{El, SysRegs, index};
+use sysreg::regs::{El, SysRegs};
 
 // The place of a vector in its group, by the kind of exception.
 pub const VECTOR_SYNC: u64 = 0x000;
-
-// What an entry makes of a register of its target level.
-#[derive(Clone, Copy)]
-pub enum Update {
-    Write(u64),
-    Keep,
-}
 
 // Where a synchronous exception goes, the address that it returns to, and what it reports.
 #[derive(Clone, Copy)]
@@ -51,84 +43,42 @@ pub struct Entered {
 pub fn vector_group(from: u8, to: u8, spsel: bool) -> u64
     ensures { result ≡ vectOffset from to spsel }
 {
-    let same = from == to;
-    if same {
+    if from == to {
         if spsel { 0x200 } else { 0x000 }
     } else {
         0x400
     }
 }
 
-// The target level's register is written.
-fn at_target(held: [u64; 4], target: El, value: u64) -> [u64; 4]
-    ensures { result ≡ atTarget target value held }
+// The target level's register, where a value is given.
+#[tactic(auto, using(sysreg::proofs::Stores::four))]
+fn update(bank: &mut [u64; 4], target: El, value: Option<u64>)
+    ensures { bank.new ≡ updated target value bank.old }
 {
-    let t = index(target);
-    let mut out = held;
-    out[t] = value;
-    out
-}
-
-fn updated(held: [u64; 4], target: El, u: Update) -> [u64; 4]
-    ensures { result ≡ updated target u held }
-{
-    match u {
-        Update::Write(value) => at_target(held, target, value),
-        Update::Keep => held,
+    if let Some(value) = value {
+        bank[target.index()] = value;
     }
 }
 
-// SPSR, ELR, ESR and FAR of the target level.
-fn saved(sys: SysRegs, target: El, esr: Update, far: Update, spsr: u64, ret: u64) -> SysRegs
-    ensures { result ≡ updatedSys sys target esr far spsr ret }
-{
-    let elrs = sys.elr;
-    let elrs = at_target(elrs, target, ret);
-    let spsrs = sys.spsr;
-    let spsrs = at_target(spsrs, target, spsr);
-    let esrs = sys.esr;
-    let esrs = updated(esrs, target, esr);
-    let fars = sys.far;
-    let fars = updated(fars, target, far);
-    let mut out = sys;
-    out.elr = elrs;
-    out.spsr = spsrs;
-    out.esr = esrs;
-    out.far = fars;
-    out
-}
-
-// SP_ELx is used, and the interrupts are masked.
-fn masked(flags: Flags) -> Flags
-    ensures { result ≡ entryFlags flags }
-{
-    Flags {
-        nzcv: flags.nzcv,
-        daif: DAIF_ALL,
-        spsel: true,
-    }
-}
-
-// The state at the target: its vector is an offset from VBAR_ELx.
-fn enter_with(
-    flags: Flags,
+// SPSR and ELR of the target level, and its ESR and FAR where they are given.
+#[tactic(auto, using(sysreg::proofs::Stores::four))]
+fn saved(
     sys: SysRegs,
     target: El,
-    offset: u64,
-    esr: Update,
-    far: Update,
+    esr: Option<u64>,
+    far: Option<u64>,
     spsr: u64,
     ret: u64,
-) -> Entered
-    ensures { result ≡ enteredWith flags sys target offset esr far spsr ret }
+) -> SysRegs
+    ensures { result ≡ updatedSys sys target esr far spsr ret }
 {
-    let t = index(target);
-    Entered {
-        level: t as u8,
-        flags: masked(flags),
-        pc: std::num::wrapping_add_u64(sys.vbar[t], offset),
-        sys: saved(sys, target, esr, far, spsr, ret),
-    }
+    let t = target.index();
+    let mut out = sys;
+    out.elr[t] = ret;
+    out.spsr[t] = spsr;
+    update(&mut out.esr, target, esr);
+    update(&mut out.far, target, far);
+    out
 }
 
 // Exception entry to a level: the kind is the vector's place in its group, and ret the address that it returns to.
@@ -139,27 +89,25 @@ pub fn enter(
     sys: SysRegs,
     target: El,
     kind: u64,
-    esr: Update,
-    far: Update,
+    esr: Option<u64>,
+    far: Option<u64>,
     ret: u64,
 ) -> Entered
     ensures { result ≡ enterOf level flags sys target kind esr far ret }
 {
-    let to = index(target) as u8;
-    let group = vector_group(level, to, flags.spsel);
-    let vector = std::num::wrapping_add_u64(group, kind);
-    let spsr = pstate(level, flags);
-    enter_with(flags, sys, target, vector, esr, far, spsr, ret)
-}
-
-// FAR_ELx is written where the exception has an address.
-fn far_update(report: Report) -> Update
-    ensures { result ≡ farUpdate report }
-{
-    if report.valid {
-        Update::Write(report.far)
-    } else {
-        Update::Keep
+    let t = target.index();
+    let group = vector_group(level, t as u8, flags.spsel);
+    let vector = group.wrapping_add(kind);
+    Entered {
+        level: t as u8,
+        // SP_ELx is used, and the interrupts are masked
+        flags: Flags {
+            daif: DAIF_ALL,
+            spsel: true,
+            ..flags
+        },
+        pc: sys.vbar[t].wrapping_add(vector),
+        sys: saved(sys, target, esr, far, pstate(level, flags), ret),
     }
 }
 
@@ -169,21 +117,18 @@ pub fn report_sync(level: u8, pc: u64, scr_el3: u64, hcr_el2: u64, e: Exception)
     ensures { result ≡ syncReport level pc scr_el3 hcr_el2 e }
 {
     let el = level % 4;
-    let routed = route(
-        Origin {
-            level: el,
-            scr_el3,
-            hcr_el2,
-            pc,
-        },
-        e,
-    );
-    let exception = routed.exception;
+    let from = Origin {
+        level: el,
+        scr_el3,
+        hcr_el2,
+        pc,
+    };
+    let routed = route(from, e);
     let target = routed.target;
     Reported {
         target,
         ret: routed.ret,
-        report: syndrome(exception, el, index(target) as u8, pc),
+        report: syndrome(routed.exception, el, target.index() as u8, pc),
     }
 }
 
@@ -193,14 +138,12 @@ pub fn sync_changes(level: u8, flags: Flags, r: Reported) -> Taken
     ensures { result ≡ syncChanges level flags r }
 {
     let el = level % 4;
-    let target = r.target;
-    let report = r.report;
     Taken {
-        target,
-        group: vector_group(el, index(target) as u8, flags.spsel),
+        target: r.target,
+        group: vector_group(el, r.target.index() as u8, flags.spsel),
         spsr: pstate(el, flags),
         ret: r.ret,
-        report,
+        report: r.report,
     }
 }
 
@@ -218,10 +161,16 @@ pub fn take_sync(
     ensures { result ≡ takeSync level flags pc scr_el3 hcr_el2 sys e }
 {
     let r = report_sync(level, pc, scr_el3, hcr_el2, e);
-    let t = sync_changes(level, flags, r);
-    let target = t.target;
-    let report = t.report;
-    let esr = Update::Write(report.esr);
-    let far = far_update(report);
-    enter_with(flags, sys, target, t.group, esr, far, t.spsr, t.ret)
+    let esr = Some(r.report.esr);
+    let far = r.report.far;
+    enter(
+        level % 4,
+        flags,
+        sys,
+        r.target,
+        VECTOR_SYNC,
+        esr,
+        far,
+        r.ret,
+    )
 }

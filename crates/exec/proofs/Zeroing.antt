@@ -1,9 +1,10 @@
 -- A zeroing, store by store, on plain values.
+use Rattle.mmu.specs.Results.{Stored}
 use Rattle.std.proofs.Common.{◌≡◌, ℕ, ◌+◌, ◌-◌, List, sym, ap, ◌∙◌}
 use Rattle.word.specs.Bits.{wrap}
 use Rattle.exception.specs.declared.kind.Stop.{Stop}
 use Rattle.mmu.specs.Ops.{writeOf, ramAfterWrite}
-use Rattle.mmu.specs.declared.{core_state.Core.Core, ops.Stored.Stored}
+use Rattle.mmu.specs.declared.core_state.Core.{Core}
 use Rattle.operations.specs.declared.ends.StoreAnswer.TheVariants.{Done, Stopped}
 use Rattle.exec.specs.Sys.{zero_of, zeroRam}
 use Rattle.exec.specs.ZeroLaws.{zero-none, zero-stops, zero-goes, some_left, fewer-left}

@@ -1,9 +1,7 @@
 -- Register writes, settings and abort entry on the core.
-use Rattle.std.specs.Prelude.{ℕ, Bool}
-use Rattle.sysreg.specs.Write.{writeReg}
-use Rattle.sysreg.specs.declared.{regs.Control.Control, regs.SysRegs.SysRegs, write.WriteAnswer.WriteAnswer}
-use Rattle.sysreg.specs.declared.write.Written.{Written}
-use Rattle.sysreg.specs.declared.write.WriteAnswer.TheVariants.{Done, Undefined, NoRegister}
+use Rattle.std.specs.Prelude.{ℕ, Bool, Ok, Err}
+use Rattle.sysreg.specs.Write.{writeReg, WriteAnswer, Written}
+use Rattle.sysreg.specs.declared.{regs.Control.Control, regs.SysRegs.SysRegs}
 use Rattle.exception.specs.Entry.{takeSync}
 use Rattle.exception.specs.declared.{kind.Exception.Exception, take.Entered.Entered}
 use Rattle.mmu.specs.Bare as Bare
@@ -11,7 +9,12 @@ use Rattle.mmu.specs.Bare.{withEntered, bareOf, inCore}
 use Rattle.mmu.specs.Ops.{withTlb}
 use Rattle.mmu.specs.declared.core_state.Core.{Core}
 use Rattle.exec.specs.Fit.{refitOf}
-use Rattle.exec.specs.declared.ops.Registered.{Registered}
+use Rattle.sysreg.specs.declared.write.WriteError.TheVariants.{Undefined, NoRegister}
+
+-- the core after a register write, and its answer
+pub record Registered : Type 0 where
+  pub core : Core
+  pub answer : WriteAnswer
 
 -- the core with other registers
 unfoldable pub with_regs : Core → Control → SysRegs → Core
@@ -22,9 +25,9 @@ unfoldable pub appliedOf : Core → Written → Core
 appliedOf c w = withTlb (with_regs c w.control w.sys) (refitOf c.tlb c.control w.control)
 
 abbrev pub registered : Core → Written → WriteAnswer → Registered
-registered c w Done = record { core = appliedOf c w; answer = Done }
-registered c w Undefined = record { core = c; answer = Undefined }
-registered c w NoRegister = record { core = c; answer = NoRegister }
+registered c w (Ok x) = record { core = appliedOf c w; answer = Ok tt }
+registered c w (Err Undefined) = record { core = c; answer = Err Undefined }
+registered c w (Err NoRegister) = record { core = c; answer = Err NoRegister }
 
 abbrev pub written : Core → ℕ → ℕ → Written
 written c key value = writeReg c.control c.sys c.privilege.level key value

@@ -1,8 +1,8 @@
 -- System operations on the core.
-use Rattle.std.specs.Prelude.{ℕ, zero, suc, ◌+◌, List}
+use Rattle.mmu.specs.Results.{Stored}
+use Rattle.std.specs.Prelude.{ℕ, zero, suc, ◌+◌, List, Option}
 use Rattle.word.specs.Bits.{alignDown, wrap}
 use Rattle.word.specs.Ram.{word_at}
-use Rattle.word.specs.declared.ram.Word.{Word}
 use Rattle.sysreg.specs.Regs.{sysAt}
 use Rattle.sysreg.specs.declared.regs.SysRegs.{SysRegs}
 use Rattle.sysreg.specs.declared.regs.SysReg.TheVariants.{Mair}
@@ -20,7 +20,7 @@ use Rattle.mmu.specs.Bare as Bare
 use Rattle.mmu.specs.Bare.{bareOf, inCore}
 use Rattle.mmu.specs.Core.{reg_of}
 use Rattle.mmu.specs.Ops.{withTlb, writeOf, ramAfterWrite}
-use Rattle.mmu.specs.declared.{core_state.Core.Core, ops.Stored.Stored}
+use Rattle.mmu.specs.declared.core_state.Core.{Core}
 use Rattle.operations.specs.declared.ends.StoreAnswer.{StoreAnswer}
 use Rattle.operations.specs.declared.ends.StoreAnswer.TheVariants.{Done, Stopped}
 
@@ -32,7 +32,7 @@ unfoldable pub withPar : Core → ℕ → Core
 withPar c par = inCore c (Bare.withPar (bareOf c) par)
 
 -- AT walks afresh, and PAR_EL1 alone changes
-unfoldable pub at_of : Core → (ℕ → Word) → AtForm → ℕ → Core
+unfoldable pub at_of : Core → (ℕ → Option ℕ) → AtForm → ℕ → Core
 at_of c memory form va = withPar c (atPar c.control (mairOf c.sys form.regime) form va memory)
 
 unfoldable pub tlbiCore : Core → ℕ → ℕ → ℕ → ℕ → Core

@@ -1,4 +1,5 @@
 -- A zeroing store by store: each store's own translation, what the stores before it leave, and what they do to RAM.
+use Rattle.mmu.specs.Results.{Located, Stored}
 use Rattle.std.specs.Prelude.{◌≡◌, ℕ, zero, suc, ◌+◌, ◌-◌, ◌*◌, ◌/◌, ◌%◌, ◌^◌, ◌<◌, ◌≤◌, Bool, true, false, ltb, List, length, ◌≢◌, nat_le, nat_lt, slice_index}
 use Rattle.std.proofs.Math.Path.{refl, sym, ap}
 use Rattle.std.proofs.Common.{◌∙◌, mod-eq_of_lt, pos_of_ne-zero, leb-true, leb-false, ltb-true, ltb-false, le-ltb}
@@ -20,7 +21,7 @@ use Rattle.mmu.specs.Step.{onePage, translateIn, locatedOf}
 use Rattle.operations.specs.Ends.{storeEnd, storeRamEnd}
 use Rattle.mmu.specs.Ops.{steppedNow, locatedNow, translateOf, writeOf, ramAfterWrite}
 use Rattle.mmu.specs.OpLaws.{onNow}
-use Rattle.mmu.specs.declared.{core_state.Core.Core, step.Located.Located, ops.Stored.Stored}
+use Rattle.mmu.specs.declared.core_state.Core.{Core}
 use Rattle.operations.specs.declared.place.Place.TheVariants.{Whole}
 use Rattle.operations.specs.declared.{place.Placed.Placed, ends.StoreAnswer.StoreAnswer}
 use Rattle.operations.specs.declared.place.Placed.TheVariants.{At}

@@ -1,12 +1,12 @@
 -- A zeroing whose stores are all given their addresses by the cache as it stands, which they leave alone: one store of zeros.
-use Rattle.std.specs.Prelude.{◌≡◌, ℕ, zero, suc, ◌+◌, ◌-◌, ◌*◌, ◌%◌, ◌^◌, ◌<◌, ◌≤◌, true, List, length, refl}
+use Rattle.mmu.specs.Results.{Located, Stepped, Translated}
+use Rattle.std.specs.Prelude.{◌≡◌, ℕ, zero, suc, ◌+◌, ◌-◌, ◌*◌, ◌%◌, ◌^◌, ◌<◌, ◌≤◌, true, List, length, refl, Option}
 use Rattle.std.proofs.Math.Path.{sym, ap}
 use Rattle.std.proofs.Common.{◌∙◌, suc-add, le-leb, take-append-drop}
 use native.Mathlib.Omega.{arith}
 use Rattle.word.specs.Bits.{wrap}
 use Rattle.word.specs.Ram.{within, word_at, written, stored, bytes_of}
 use Rattle.word.specs.RamLaws.{within_low, within-high, written_next}
-use Rattle.word.specs.declared.ram.Word.{Word}
 use Rattle.tlb.specs.declared.access.Kind.TheVariants.{Write}
 use Rattle.tlb.specs.declared.{access.Answer.Answer, Tlb.Tlb}
 use Rattle.tlb.specs.declared.access.Answer.TheVariants.{Address}
@@ -16,7 +16,7 @@ use Rattle.operations.specs.Ends.{storeEnd}
 use Rattle.mmu.specs.Step.{translateIn}
 use Rattle.mmu.specs.Ops.{steppedNow, translateOf, storedBy, writeAfter, writeOf, ramAfterWrite}
 use Rattle.operations.specs.BytesLaws.{stored-length}
-use Rattle.mmu.specs.declared.{core_state.Core.Core, step.Located.Located, step.Stepped.Stepped, ops.Translated.Translated}
+use Rattle.mmu.specs.declared.core_state.Core.{Core}
 use Rattle.exec.specs.Sys.{doneWith, onStored, zero_of, zeroRam}
 use Rattle.exec.specs.ZeroLaws.{one-located, one-ram, storeVa, store-va}
 
@@ -96,7 +96,7 @@ stored-join base ram m n pa low high =
 -- store after store
 module _ (base : ℕ) (c : Core) where
   abbrev Steady : ℕ → ℕ → ℕ → Type 0
-  Steady n va pa = (memory : ℕ → Word) (j : ℕ) → j < n → translateOf c memory (storeVa va j) Write ≡ addressed c (pa + 8 * j)
+  Steady n va pa = (memory : ℕ → Option ℕ) (j : ℕ) → j < n → translateOf c memory (storeVa va j) Write ≡ addressed c (pa + 8 * j)
 
   steady-from : (n : ℕ) (ram : List ℕ) (va pa : ℕ) → ((j : ℕ) → j < n → storeVa va j % 8 ≡ 0) → base ≤ pa → pa + 8 * n ≤ base + length ram → Steady n va pa
       → (zero_of n c base ram va ≡ doneWith c) × (zeroRam n c base ram va ≡ stored base ram (8 * n) pa 0)
@@ -121,7 +121,7 @@ module _ (base : ℕ) (c : Core) where
 
   -- n stores from va, an address of eight bytes, in the address space
   pub zero-steady : (n : ℕ) (ram : List ℕ) (va pa : ℕ) → va % 8 ≡ 0 → va + 8 * n ≤ 2 ^ 64 → within base (length ram) (8 * n) pa ≡ true
-      → ((memory : ℕ → Word) (j : ℕ) → j < n → translateOf c memory (va + 8 * j) Write ≡ addressed c (pa + 8 * j))
+      → ((memory : ℕ → Option ℕ) (j : ℕ) → j < n → translateOf c memory (va + 8 * j) Write ≡ addressed c (pa + 8 * j))
       → (zero_of n c base ram va ≡ doneWith c) × (zeroRam n c base ram va ≡ stored base ram (8 * n) pa 0)
   zero-steady n ram va pa even room w t =
       let low = within_low base (length ram) (8 * n) pa w in

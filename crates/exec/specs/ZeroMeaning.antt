@@ -1,6 +1,7 @@
 -- What DC ZVA leaves in RAM. Each of its eight stores translates by itself, and RAM may hold the very tables that a
 -- store changes. So first by each store's own translation; and then that the eight agree, whatever becomes of the
 -- tables: 64 bytes at the translation of the aligned address are zero, and every other byte is as it was.
+use Rattle.mmu.specs.Results.{Stored}
 use Rattle.std.specs.Prelude.{◌≡◌, ℕ, zero, suc, ◌+◌, ◌-◌, ◌*◌, ◌/◌, ◌%◌, ◌^◌, ◌<◌, ◌≤◌, Bool, true, false, List, length, ◌≢◌, nat_lt, slice_index}
 use Rattle.std.proofs.Math.Path.{refl, ap, subst}
 use Rattle.std.proofs.Common.{sym, ◌∙◌}
@@ -22,7 +23,7 @@ use Rattle.mmu.specs.Step.{translateIn}
 use Rattle.mmu.specs.Ops.{steppedNow, translateOf, writeOf, ramAfterWrite}
 use Rattle.mmu.specs.Bare.{Bare, bareOf}
 use Rattle.mmu.specs.OpLaws.{store as storing, kept, ram-length}
-use Rattle.mmu.specs.declared.{core_state.Core.Core, ops.Stored.Stored}
+use Rattle.mmu.specs.declared.core_state.Core.{Core}
 use Rattle.operations.specs.declared.ends.StoreAnswer.{StoreAnswer}
 use Rattle.operations.specs.declared.ends.StoreAnswer.TheVariants.{Done, Stopped}
 use Rattle.exec.specs.Sys.{onStored, zero_of, zeroRam, op_of, sysOf, sysRam}
@@ -281,9 +282,13 @@ first_of c base ram va line room e =
 
 -- a zeroing of the line of x that is done: 64 zero bytes at the translation of the aligned address, whatever the stores
 -- do to the tables
-pub zero-line : (c : Core) (base : ℕ) (ram : List ℕ) (x : ℕ) → WellFormed c.tlb → x < 2 ^ 64 → (zero_of 8 c base ram (alignDown x 6)).answer ≡ Done
+abbrev pub LineZeroed : Type 0
+LineZeroed =
+    (c : Core) (base : ℕ) (ram : List ℕ) (x : ℕ) → WellFormed c.tlb → x < 2 ^ 64 → (zero_of 8 c base ram (alignDown x 6)).answer ≡ Done
     → (pa : ℕ) × (((translateOf c (word_at base ram 8) (alignDown x 6) Write).answer ≡ Address pa)
     × Zeroed base pa ram (zeroRam 8 c base ram (alignDown x 6)))
+
+pub zero-line : LineZeroed
 zero-line c base ram x well small e =
     let va : ℕ = alignDown x 6 in
     let line : va % 64 ≡ 0 = omega arith in
@@ -298,9 +303,13 @@ zero-line c base ram x well small e =
     )
 
 -- so does the system operation that is DC ZVA
-pub zva-zeroes : (c : Core) (base : ℕ) (ram : List ℕ) (op1 crn crm op2 rt : ℕ) → WellFormed c.tlb → reg_of c rt < 2 ^ 64
+abbrev pub ZvaZeroes : Type 0
+ZvaZeroes =
+    (c : Core) (base : ℕ) (ram : List ℕ) (op1 crn crm op2 rt : ℕ) → WellFormed c.tlb → reg_of c rt < 2 ^ 64
     → op_of c op1 crn crm op2 ≡ Zva → (sysOf c base ram op1 crn crm op2 rt).answer ≡ Done
     → (pa : ℕ) × (((translateOf c (word_at base ram 8) (alignDown (reg_of c rt) 6) Write).answer ≡ Address pa)
     × Zeroed base pa ram (sysRam c base ram op1 crn crm op2 rt))
+
+pub zva-zeroes : ZvaZeroes
 unfolding sysOf sysRam
 zva-zeroes c base ram op1 crn crm op2 rt well small q e = rw q (zero-line c base ram (reg_of c rt) well small (rw q at e))

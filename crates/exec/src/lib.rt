@@ -3,3 +3,4 @@
 pub mod fit;
 pub mod ops;
 pub mod sys;
+pub mod theorems;

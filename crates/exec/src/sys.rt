@@ -1,20 +1,16 @@
-// System operations on the core, by value.
+// System operations on the core.
 ghost use Rattle.std.specs.Prelude.{◌≡◌};
 ghost use Rattle.word.specs.Bits.{alignDown};
 ghost use Rattle.word.specs.Ram.{word_at};
-ghost use Rattle.exec.specs.Sys.{mairOf, withPar, at_of, invalidatedOf, tlbiCore};
+ghost use Rattle.exec.specs.Sys.{mairOf, at_of, tlbiCore};
 ghost use Rattle.exec.specs.Sys.{zero_of, zeroRam, sysOf, sysRam};
 
-use crate::ops as cores;
 use exception::kind::{Exception, Stop};
 use mmu::core_state::Core;
-use mmu::ops::Stored;
-use mmu::{core_state, ops};
 use operations::ends::StoreAnswer;
-use sysop::op::{AtForm, SysOp};
+use sysop::op::{AtForm, Encoding, SysOp};
 use sysop::{op, par, tlbi};
 use sysreg::regs::SysRegs;
-use tlb::Tlb;
 use walk::regime::Regime;
 use word::ram::Width;
 
@@ -29,80 +25,46 @@ fn mair_of(sys: SysRegs, regime: Regime) -> u64
     }
 }
 
-// The same core with another PAR_EL1.
-#[tactic(auto, unfolding(crate::specs::Sys::withPar))]
-fn with_par(core: Core, par: u64) -> Core
-    ensures { result ≡ withPar core par }
-{
-    let before = core.sys;
-    let mut sys = before;
-    sys.par_el1 = par;
-    let mut c = core;
-    c.sys = sys;
-    c
-}
-
 // AT: a fresh walk into PAR_EL1.
-#[tactic(auto, unfolding(crate::specs::Sys::at_of))]
-pub fn at(core: Core, base: u64, ram: &[u8], form: AtForm, va: u64) -> Core
-    ensures { result ≡ at_of core (word_at base ram.now 8) form va }
+#[tactic(auto, unfolding(crate::specs::Sys::at_of, crate::specs::Sys::withPar))]
+pub fn at(core: &mut Core, base: u64, ram: &[u8], form: AtForm, va: u64)
+    ensures { core.new ≡ at_of core.old (word_at base ram.now 8) form va }
 {
-    let control = core.control;
-    let sys = core.sys;
-    let regime = form.regime;
-    let mair = mair_of(sys, regime);
-    let par = par::at_par(control, mair, form, va, base, ram);
-    with_par(core, par)
-}
-
-#[tactic(auto, unfolding(tlb::specs::Maintenance::invalidatedOf))]
-fn invalidated(t: Tlb, what: tlb::Inval, shared: bool) -> Tlb
-    ensures { result ≡ invalidatedOf t what shared }
-{
-    let u = tlb::invalidate(t, what);
-    if shared { tlb::broadcast(u, what) } else { u }
+    let mair = mair_of(core.sys, form.regime);
+    core.sys.par_el1 = par::at_par(core.control, mair, form, va, base, ram);
 }
 
 // TLBI; the Inner Shareable forms are left pending for the other cores.
-#[tactic(auto, unfolding(crate::specs::Sys::tlbiCore))]
-pub fn tlbi(core: Core, op1: u64, crm: u64, op2: u64, x: u64) -> Core
-    ensures { result ≡ tlbiCore core op1 crm op2 x }
+#[tactic(auto, unfolding(crate::specs::Sys::tlbiCore, tlb::specs::Maintenance::invalidatedOf, mmu::specs::Core::afterAccess))]
+pub fn tlbi(core: &mut Core, op1: u64, crm: u64, op2: u64, x: u64)
+    ensures { core.new ≡ tlbiCore core.old op1 crm op2 x }
 {
-    let control = core.control;
-    let what = tlbi::tlbi(control, op1, crm, op2, x);
-    let shared = tlbi::broadcasts(crm);
-    let t = core.tlb;
-    let u = invalidated(t, what, shared);
-    cores::with_tlb(core, u)
+    let what = tlbi::tlbi(core.control, op1, crm, op2, x);
+    core.tlb.invalidate(what);
+    if tlbi::broadcasts(crm) {
+        core.tlb.broadcast(what);
+    }
 }
 
 // The n stores of a zeroing from va on, up to the first that stops.
 #[tactic(auto, using(crate::proofs::Zeroing::zero_steps))]
-fn zero_from(core: Core, base: u64, ram: &mut [u8], va: u64, n: u64) -> Stored
-    ensures value { result ≡ zero_of n core base ram.old va }
-    ensures ram_after { ram.new ≡ zeroRam n core base ram.old va }
+fn zero_from(core: &mut Core, base: u64, ram: &mut [u8], va: u64, n: u64) -> StoreAnswer
+    ensures value { record { core = core.new; answer = result } ≡ zero_of n core.old base ram.old va }
+    ensures ram_after { ram.new ≡ zeroRam n core.old base ram.old va }
 {
     if n == 0 {
-        return Stored {
-            core,
-            answer: StoreAnswer::Done,
-        };
+        return StoreAnswer::Done;
     }
-    let first = ops::write(core, base, ram, va, Width::Double, 0);
-    let answer = first.answer;
-    match answer {
-        StoreAnswer::Done => {
-            let c = first.core;
-            zero_from(c, base, ram, std::num::wrapping_add_u64(va, 8), n - 1)
-        }
-        StoreAnswer::Stopped(_) => first,
+    match core.write(base, ram, va, Width::Double, 0) {
+        StoreAnswer::Done => zero_from(core, base, ram, va.wrapping_add(8), n - 1),
+        StoreAnswer::Stopped(stop) => StoreAnswer::Stopped(stop),
     }
 }
 
 // DC ZVA: 64 bytes, aligned.
-pub fn zva(core: Core, base: u64, ram: &mut [u8], x: u64) -> Stored
-    ensures value { result ≡ zero_of 8 core base ram.old (alignDown x 6) }
-    ensures ram_after { ram.new ≡ zeroRam 8 core base ram.old (alignDown x 6) }
+pub fn zva(core: &mut Core, base: u64, ram: &mut [u8], x: u64) -> StoreAnswer
+    ensures value { record { core = core.new; answer = result } ≡ zero_of 8 core.old base ram.old (alignDown x 6) }
+    ensures ram_after { ram.new ≡ zeroRam 8 core.old base ram.old (alignDown x 6) }
 {
     zero_from(core, base, ram, x - x % 64, 8)
 }
@@ -110,7 +72,7 @@ pub fn zva(core: Core, base: u64, ram: &mut [u8], x: u64) -> Stored
 // A system operation of register rt.
 #[tactic(auto, unfolding(crate::specs::Sys::sysOf, crate::specs::Sys::sysRam))]
 pub fn sys(
-    core: Core,
+    core: &mut Core,
     base: u64,
     ram: &mut [u8],
     op1: u64,
@@ -118,38 +80,20 @@ pub fn sys(
     crm: u64,
     op2: u64,
     rt: u64,
-) -> Stored
-    ensures value { result ≡ sysOf core base ram.old op1 crn crm op2 rt }
-    ensures ram_after { ram.new ≡ sysRam core base ram.old op1 crn crm op2 rt }
+) -> StoreAnswer
+    ensures value { record { core = core.new; answer = result } ≡ sysOf core.old base ram.old op1 crn crm op2 rt }
+    ensures ram_after { ram.new ≡ sysRam core.old base ram.old op1 crn crm op2 rt }
 {
-    let x = core_state::reg(core, rt);
-    match op::decode(core.privilege.level, op1, crn, crm, op2) {
-        SysOp::At(form) => {
-            let c = at(core, base, ram, form, x);
-            Stored {
-                core: c,
-                answer: StoreAnswer::Done,
-            }
+    let x = core.reg(rt);
+    match op::decode(core.privilege.level, Encoding { op1, crn, crm, op2 }) {
+        SysOp::At(form) => at(core, base, ram, form, x),
+        SysOp::Tlbi => tlbi(core, op1, crm, op2, x),
+        SysOp::Zva => return zva(core, base, ram, x),
+        SysOp::Nothing => {}
+        SysOp::Undefined => {
+            return StoreAnswer::Stopped(Stop::Exception(Exception::Undefined));
         }
-        SysOp::Tlbi => {
-            let c = tlbi(core, op1, crm, op2, x);
-            Stored {
-                core: c,
-                answer: StoreAnswer::Done,
-            }
-        }
-        SysOp::Zva => zva(core, base, ram, x),
-        SysOp::Nothing => Stored {
-            core,
-            answer: StoreAnswer::Done,
-        },
-        SysOp::Undefined => Stored {
-            core,
-            answer: StoreAnswer::Stopped(Stop::Exception(Exception::Undefined)),
-        },
-        SysOp::Unimplemented => Stored {
-            core,
-            answer: StoreAnswer::Stopped(Stop::Unimplemented),
-        },
+        SysOp::Unimplemented => return StoreAnswer::Stopped(Stop::Unimplemented),
     }
+    StoreAnswer::Done
 }

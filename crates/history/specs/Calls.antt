@@ -133,14 +133,17 @@ module _ (w : World) (M : Machine w) where
   -- What a call replies.
   --   reply      by the call's exact definition: a value, a fault, a refusal, RAM after it
   --   bareReply  of the core without a cache: from its own state, RAM as the call begins, and the call
-  --   same       they are equal where the answers to the call's translations are
   pub record Replies : Type 1 where
     pub Reply : Type 0
     pub reply : M.Core → w.Ram → M.Call → Reply
     pub bareReply : M.Bare → w.Ram → M.Call → Reply
-    pub same : (c : M.Core) (m : w.Ram) (x : M.Call)
-        → answersRun w (plain_of c) (eventsOf c m x) (M.tlb c) ≡ plainAnswersRun w (plain_of c) (eventsOf c m x)
-        → reply c m x ≡ bareReply (M.bare c) m x
+
+  -- They are equal where the answers to the call's translations are.
+  abbrev pub RepliesByAnswers : Replies → Type 0
+  RepliesByAnswers A =
+      (c : M.Core) (m : w.Ram) (x : M.Call)
+      → answersRun w (plain_of c) (eventsOf c m x) (M.tlb c) ≡ plainAnswersRun w (plain_of c) (eventsOf c m x)
+      → A.reply c m x ≡ A.bareReply (M.bare c) m x
 
   -- Where all pages that a call after the list translates are settled, it replies as the core without a cache.
   abbrev pub SameReplies : Replies → M.Core → Type 0

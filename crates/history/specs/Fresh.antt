@@ -1,9 +1,10 @@
--- The core without a cache answers by the fresh answer of the address (walk/specs/Fresh.antt), which AT and the page census go by too.
+-- The core without a cache answers by the fresh answer of the address (walk/specs/Fresh.antt), which AT and the page
+-- census go by too.
 use Rattle.std.specs.Prelude.{◌≡◌, refl, Bool, true, false, ℕ}
 use Rattle.word.specs.Bits.{pick}
 use Rattle.walk.specs.Regime.{bankOf}
 use Rattle.walk.specs.Fresh.{fresh_of}
-use Rattle.walk.specs.declared.{level.Walked.Walked, fresh.Fresh.Fresh}
+use Rattle.walk.specs.declared.{fresh.Fresh.Fresh}
 use Rattle.walk.specs.declared.fresh.Fresh.TheVariants.{Flat, Ended}
 use Rattle.tlb.specs.declared.access.Kind.{Kind}
 use Rattle.tlb.specs.declared.access.Answer.{Answer}

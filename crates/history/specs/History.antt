@@ -1,9 +1,8 @@
 -- Document 01's "The list", the premise of demand 3, and demand 3 itself. With World.antt this is all that a reader has
 -- to believe; every term is read from the events, never from the cache.
-use Rattle.std.specs.Prelude.{◌≡◌, Bool, true, false, List, [], ◌∷◌, ◌++◌, ◌⊎◌, ℕ, ◌≤◌}
+use Rattle.std.specs.Prelude.{◌≡◌, Bool, true, false, List, [], ◌∷◌, ◌++◌, ◌⊎◌, ℕ, ◌≤◌, Ok}
 use Rattle.word.specs.Bits.{pick}
 use Rattle.walk.specs.declared.{regime.Regime.Regime, level.Leaf.Leaf}
-use Rattle.walk.specs.declared.level.Walked.TheVariants.{Mapped}
 use Rattle.tlb.specs.Lists.{Each}
 use Rattle.tlb.specs.Tlb.{fresh, invalidateOf}
 use Rattle.tlb.specs.Asks as Asks
@@ -111,11 +110,11 @@ module _ (w : World) where
         past ≡ before ++ steps m' s ∷ later →
         (ℓ : Leaf) →
         w.on (plainRun c₀ before).regs r ≡ true →
-        pageWalk w (plainRun c₀ before).regs m' r p ≡ Mapped ℓ →
+        pageWalk w (plainRun c₀ before).regs m' r p ≡ Ok ℓ →
         (ℓ.global ≡ true) ⊎ (w.asid (plainRun c₀ before).regs ≡ w.asid (plainRun c₀ past).regs) →
         Each (λ v. covers v p ℓ (w.asid (plainRun c₀ before).regs) ≡ false)
         (dropsRun (plainRun c₀ before) (steps m' s ∷ later)) →
-        (ℓ' : Leaf) × (pageWalk w (plainRun c₀ past).regs m r p ≡ Mapped ℓ') × LeavesEqual ℓ ℓ'
+        (ℓ' : Leaf) × (pageWalk w (plainRun c₀ past).regs m r p ≡ Ok ℓ') × LeavesEqual ℓ ℓ'
 
   -- the page of a translation made after the history is settled
   abbrev pub SettledFor : Plain w → List Event → w.Ram → Ask → Type 0

@@ -1,8 +1,7 @@
 -- The real registers and walk as a `World`, its laws, and demand 3 of it.
-use Rattle.std.specs.Prelude.{◌≡◌, refl, false, List, ℕ, ◌+◌, ◌*◌, ◌/◌, ◌%◌}
+use Rattle.std.specs.Prelude.{◌≡◌, refl, false, List, ℕ, ◌+◌, ◌*◌, ◌/◌, ◌%◌, Option}
 use Rattle.std.proofs.Common.{arith}
 use Rattle.word.specs.Ram.{word_at}
-use Rattle.word.specs.declared.ram.Word.{Word}
 use Rattle.sysreg.specs.Regs.{freshControl}
 use Rattle.sysreg.specs.Shape.{same_shape, asidBase, asidOf}
 use Rattle.sysreg.specs.ShapeLaws.{SameShape, shape-agrees}
@@ -12,15 +11,14 @@ use Rattle.walk.specs.Regime.{regimeOf, levelOf, bankOf, stage1On}
 use Rattle.walk.specs.Tag.{untagged}
 use Rattle.walk.specs.TagLaws.{untagged-page}
 use Rattle.walk.specs.Walk.{walk_of}
-use Rattle.walk.specs.WalkBounds.{leaf-bounds}
-use Rattle.walk.specs.PageLaws.{leafAt, leaf-of-page}
+use Rattle.walk.proofs.WalkBounds.{leaf-bounds}
+use Rattle.walk.specs.PageLaws.{leafAt}
+use Rattle.walk.proofs.PageLaws.{leaf-of-page}
 use Rattle.walk.specs.declared.regime.Regime.{Regime}
 use Rattle.walk.specs.declared.regime.Regime.TheVariants.{El1, El2, El3}
 use Rattle.tlb.specs.Step as Step
 use Rattle.tlb.specs.declared.access.Kind.{Kind}
 use Rattle.history.specs.World.{World, Laws, Plain, accessOf}
-use Rattle.history.specs.History.{Demand3}
-use Rattle.history.specs.Theorem.{demand-3}
 
 -- RAM as a lent window: its first address and its bytes
 pub record Ram : Type 0 where
@@ -31,7 +29,7 @@ abbrev pub windowOf : ℕ → List ℕ → Ram
 windowOf base bytes = record { base = base; bytes = bytes }
 
 -- the descriptor at an address
-abbrev pub memoryOf : Ram → ℕ → Word
+abbrev pub memoryOf : Ram → ℕ → Option ℕ
 memoryOf m = word_at m.base m.bytes 8
 
 abbrev pub real : World
@@ -83,7 +81,3 @@ freshPlain = record { regs = freshControl; privilege = record { level = 3; unpri
 pub fresh-asid : asidOf freshControl ≡ 0
 unfolding asidOf asidBase freshControl
 fresh-asid = refl
-
--- Demand 3 of the real walk and registers, for every list of events.
-pub every-history : Demand3 real freshPlain
-every-history = demand-3 real real-laws freshPlain fresh-asid (omega arith)

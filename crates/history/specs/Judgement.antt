@@ -1,6 +1,6 @@
 -- Every translation, by walk, entry or hint, is judged by the manual's permission check on the attributes that a walk
 -- of its page found; and the statuses that there are. No premise: this holds after every history.
-use Rattle.std.specs.Prelude.{◌≡◌, refl, Bool, true, false, not, List, ◌⊎◌, ℕ, ◌+◌, ◌*◌, ◌/◌, ◌%◌, ◌^◌, ◌≤◌}
+use Rattle.std.specs.Prelude.{◌≡◌, refl, Bool, true, false, not, List, ◌⊎◌, ℕ, ◌+◌, ◌*◌, ◌/◌, ◌%◌, ◌^◌, ◌≤◌, Ok, Err, Option}
 use Rattle.std.proofs.Common.{sym, ap, subst, ◌∙◌, inl, inr, arith}
 use Rattle.std.proofs.lemmas.Bool.{false≢true}
 use Rattle.word.specs.Bits.{pick}
@@ -11,22 +11,20 @@ use Rattle.walk.specs.Table.{Fault as WalkFault, addressSize, translation, acces
 use Rattle.walk.specs.Permission.{Access, reading, writing, fetching, allowed}
 use Rattle.walk.specs.PermissionLaws.{kindBit, firstBit, permission-bit}
 use Rattle.walk.specs.Walk.{leafOf, walkedOf, walk_of}
-use Rattle.walk.specs.WalkBounds.{Levelled, Found, Sound, table-walk-sound}
+use Rattle.walk.specs.WalkBounds.{Levelled, Found, Sound}
+use Rattle.walk.proofs.WalkBounds.{table-walk-sound}
 use Rattle.walk.specs.declared.{regime.Regime.Regime, regime.Bank.Bank, level.Leaf.Leaf}
-use Rattle.walk.specs.declared.level.Walked.TheVariants.{Mapped, Fault as Faulted}
-use Rattle.word.specs.declared.ram.Word.{Word}
 use Rattle.sysreg.specs.declared.regs.Control.{Control}
-use Rattle.tlb.specs.Lists.{Each, done, more}
-use Rattle.tlb.specs.Tlb.{fresh}
+use Rattle.tlb.specs.Lists.{Each}
 use Rattle.tlb.specs.Model.{asUser, need}
 use Rattle.tlb.specs.Asks.{Ask, kind_of, address_of}
 use Rattle.tlb.specs.declared.{access.Kind.Kind, access.Answer.Answer, Inval.Inval}
 use Rattle.tlb.specs.declared.access.Kind.TheVariants.{Read, Write, Fetch}
 use Rattle.tlb.specs.declared.access.Answer.TheVariants.{Address, Status}
 use Rattle.history.specs.World.{covers, Plain, leafAnswer, walkAnswer, regimeNow, onNow, untagNow, pageNow, uncached}
-use Rattle.history.specs.History.{Step, Event, plainRun, answers, tlbRun}
-use Rattle.history.specs.Instance.{Ram, memoryOf, real, real-laws, freshPlain, fresh-asid}
-use Rattle.history.specs.Origin.{StateIn, From, flat, fails, walks, origin}
+use Rattle.history.specs.History.{Event, plainRun}
+use Rattle.history.specs.Instance.{Ram, memoryOf, real, freshPlain}
+use Rattle.history.specs.Origin.{StateIn, From, flat, fails, walks}
 
 -- THE PERMISSION CHECK
 
@@ -74,22 +72,22 @@ module _ (past : List (Event real)) (m : Ram) where
 
 -- A WALK is the manual's
 
-walked-leaf : (singlepriv wxn : Bool) (r : Result) (ℓ : Leaf) → walkedOf singlepriv wxn r ≡ Mapped ℓ
+walked-leaf : (singlepriv wxn : Bool) (r : Result) (ℓ : Leaf) → walkedOf singlepriv wxn r ≡ Ok ℓ
     → (t : Translation) × (r ≡ mapped t) × (leafOf singlepriv wxn t ≡ ℓ)
 walked-leaf singlepriv wxn (mapped t) ℓ e = (t, refl, cc)
 walked-leaf singlepriv wxn (faults f) ℓ e = let z : ◌≡◌ {A = ℕ} 0 1 = cc in absurd (omega arith)
 
-walked-fault : (singlepriv wxn : Bool) (r : Result) (code : ℕ) → walkedOf singlepriv wxn r ≡ Faulted code
+walked-fault : (singlepriv wxn : Bool) (r : Result) (code : ℕ) → walkedOf singlepriv wxn r ≡ Err code
     → (f : WalkFault) × (r ≡ faults f) × (code ≡ statusOf f)
 walked-fault singlepriv wxn (mapped t) code e = let z : ◌≡◌ {A = ℕ} 0 1 = cc in absurd (omega arith)
 walked-fault singlepriv wxn (faults f) code e = (f, refl, cc)
 
-pub manual-leaf : (s : Bank) (r : Regime) (va : ℕ) (memory : ℕ → Word) (ℓ : Leaf) → walk_of s r va memory ≡ Mapped ℓ
+pub manual-leaf : (s : Bank) (r : Regime) (va : ℕ) (memory : ℕ → Option ℕ) (ℓ : Leaf) → walk_of s r va memory ≡ Ok ℓ
     → (t : Translation) × (tableWalk s r va memory ≡ mapped t) × (leafOf (singlePriv r) (wxnOf s) t ≡ ℓ)
 unfolding walk_of
 manual-leaf s r va memory ℓ e = walked-leaf (singlePriv r) (wxnOf s) (tableWalk s r va memory) ℓ e
 
-pub manual-fault : (s : Bank) (r : Regime) (va : ℕ) (memory : ℕ → Word) (code : ℕ) → walk_of s r va memory ≡ Faulted code
+pub manual-fault : (s : Bank) (r : Regime) (va : ℕ) (memory : ℕ → Option ℕ) (code : ℕ) → walk_of s r va memory ≡ Err code
     → (f : WalkFault) × (tableWalk s r va memory ≡ faults f) × (code ≡ statusOf f)
 unfolding walk_of
 manual-fault s r va memory code e = walked-fault (singlePriv r) (wxnOf s) (tableWalk s r va memory) code e
@@ -123,7 +121,7 @@ module _ (past : List (Event real)) (m : Ram) (a : Ask) where
   global-or P t (inl g) = inl (not-true t.nG g)
   global-or P t (inr y) = inr y
 
-  judged-from : (x : Answer) → From real freshPlain past m a x → Judged past m a x
+  pub judged-from : (x : Answer) → From real freshPlain past m a x → Judged past m a x
   judged-from x (flat o e) = itself o e
   judged-from x (fails code o f e) = let (g, h, q) = manual-fault _ _ _ _ code f in faulted g o h (e ∙ ap (λ (n : ℕ). Status (first n)) q)
   judged-from x (walks R m' vs at ℓ o leaf d us e) =
@@ -134,16 +132,6 @@ module _ (past : List (Event real)) (m : Ram) (a : Ask) where
       (e
       ∙ ap (λ (l : Leaf). leafAnswer l (need (kind_of a) (userNow (now past m) (kind_of a))) (address_of a)) (sym q)
       ∙ leaf-checked (bankOf R (regime past m)) (regime past m) t (kind_of a) (userNow (now past m) (kind_of a)) (address_of a))
-
-each_map : {A : Type 0} {P Q : A → Type 0} {l : List A} → ((a : A) → P a → Q a) → Each P l → Each Q l
-each_map f done = done
-each_map f (more {a = a} p ps) = more (f a p) (each_map f ps)
-
--- After every history, whatever the RAM, each translation of each step is judged so.
-pub every-judgement : (past : List (Event real)) (m : Ram) (s : Step real)
-    → Each (λ g. Judged past m g.ask g.answer) (answers real (now past m) m s.asks (tlbRun real freshPlain past fresh))
-every-judgement past m s =
-    each_map (λ g f. judged-from past m g.ask g.answer f) (origin real real-laws freshPlain fresh-asid (omega arith) past m s)
 
 -- STATUSES
 

@@ -10,15 +10,11 @@ pub mod Tallies
 pub mod Instance
 pub mod Fresh
 -- What follows from it, and how to show the premise.
-pub mod Corollaries
 pub mod Origin
 pub mod Judgement
 pub mod StepByStep
 pub mod Neighbours
 -- The proof.
 pub mod Lists
-pub mod Traced
-pub mod Right
-pub mod Theorem
-pub mod EveryCall
-pub mod EveryReply
+-- What is proved, as src/theorems.rt promises it.
+pub mod Theorems

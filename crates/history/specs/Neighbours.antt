@@ -1,25 +1,18 @@
 -- What runs under other ASIDs does not bend a page's translation: two histories that leave the page to one ASID give
 -- one answer.
-use Rattle.std.specs.Prelude.{◌≡◌, refl, Bool, true, false, ◌⊎◌, ℕ, ◌+◌, ◌-◌, ◌≤◌, ◌<◌, ◌==◌, length, get_or}
+use Rattle.std.specs.Prelude.{◌≡◌, refl, Bool, true, false, ◌⊎◌, ℕ, ◌==◌, Ok}
 use Rattle.std.proofs.Math.Path.{sym}
-use Rattle.std.proofs.Common.{ap, ◌∙◌, true≢false, inl, inr, arith, eqb-true}
-use mathlib.Core.List.{List, [], ◌∷◌, ◌++◌, Memᴰ}
+use Rattle.std.proofs.Common.{◌∙◌, true≢false, inl, inr, eqb-true}
+use mathlib.Core.List.{List, [], ◌∷◌, ◌++◌}
 use Rattle.std.proofs.lemmas.Bool.{eqb-false}
 use Rattle.word.specs.Bits.{pick}
-use Rattle.word.specs.Ram.{word_at}
-use Rattle.walk.specs.Regime.{bankOf}
-use Rattle.walk.specs.Fetches.{fetchesOf, bytes-agree}
 use Rattle.walk.specs.declared.{regime.Regime.Regime, level.Leaf.Leaf}
-use Rattle.walk.specs.declared.level.Walked.TheVariants.{Mapped}
 use Rattle.tlb.specs.Lists.{Each, done}
-use Rattle.tlb.specs.Tlb.{fresh}
-use Rattle.tlb.specs.Asks.{Ask, kind_of, address_of}
+use Rattle.tlb.specs.Asks.{Ask, address_of}
 use Rattle.tlb.specs.declared.Inval.{Inval}
 use Rattle.history.specs.Lists.{each_append, each_left, each_right}
-use Rattle.history.specs.World.{World, Laws, LeavesEqual, covers, Plain, pageWalk, regimeNow, untagNow, pageNow, uncached}
-use Rattle.history.specs.History.{Step, Event, steps, afterEvent, plainRun, dropsEvent, dropsRun, tlbRun, answer_of, Settled}
-use Rattle.history.specs.Corollaries.{one-settled}
-use Rattle.history.specs.Instance.{windowOf, real, real-laws, freshPlain, fresh-asid}
+use Rattle.history.specs.World.{World, LeavesEqual, covers, Plain, pageWalk, regimeNow, pageNow}
+use Rattle.history.specs.History.{Step, Event, steps, afterEvent, plainRun, dropsEvent, dropsRun, Settled}
 
 module _ (w : World) where
   -- the invalidations of a history that are made under the ASID a
@@ -34,18 +27,18 @@ module _ (w : World) where
         past ≡ before ++ steps m' s ∷ later →
         (ℓ : Leaf) →
         w.on (plainRun w c₀ before).regs r ≡ true →
-        pageWalk w (plainRun w c₀ before).regs m' r p ≡ Mapped ℓ →
+        pageWalk w (plainRun w c₀ before).regs m' r p ≡ Ok ℓ →
         (w.asid (plainRun w c₀ before).regs ≡ w.asid (plainRun w c₀ past).regs → ⊥) →
         ℓ.global ≡ false
     pub there : (before : List (Event w)) (m' : w.Ram) (s : Step w) (later : List (Event w)) →
         past ≡ before ++ steps m' s ∷ later →
         (ℓ : Leaf) →
         w.on (plainRun w c₀ before).regs r ≡ true →
-        pageWalk w (plainRun w c₀ before).regs m' r p ≡ Mapped ℓ →
+        pageWalk w (plainRun w c₀ before).regs m' r p ≡ Ok ℓ →
         w.asid (plainRun w c₀ before).regs ≡ w.asid (plainRun w c₀ past).regs →
         Each (λ v. covers v p ℓ (w.asid (plainRun w c₀ before).regs) ≡ false)
         (dropsUnder (w.asid (plainRun w c₀ past).regs) (plainRun w c₀ before) (steps m' s ∷ later)) →
-        (ℓ' : Leaf) × (pageWalk w (plainRun w c₀ past).regs m r p ≡ Mapped ℓ') × LeavesEqual ℓ ℓ'
+        (ℓ' : Leaf) × (pageWalk w (plainRun w c₀ past).regs m r p ≡ Ok ℓ') × LeavesEqual ℓ ℓ'
 
   abbrev pub OwnFor : Plain w → List (Event w) → w.Ram → Ask → Type 0
   OwnFor c₀ past m a = Own c₀ past m (regimeNow w (plainRun w c₀ past)) (pageNow w (plainRun w c₀ past) (address_of a))
@@ -72,49 +65,13 @@ module _ (w : World) where
       A = w.asid (plainRun w c₀ past).regs
 
       go : (before : List (Event w)) (m' : w.Ram) (s : Step w) (later : List (Event w)) → past ≡ before ++ steps m' s ∷ later → (ℓ : Leaf)
-          → w.on (plainRun w c₀ before).regs r ≡ true → pageWalk w (plainRun w c₀ before).regs m' r p ≡ Mapped ℓ
+          → w.on (plainRun w c₀ before).regs r ≡ true → pageWalk w (plainRun w c₀ before).regs m' r p ≡ Ok ℓ
           → (ℓ.global ≡ true) ⊎ (w.asid (plainRun w c₀ before).regs ≡ A)
           → Each (λ v. covers v p ℓ (w.asid (plainRun w c₀ before).regs) ≡ false) (dropsRun w (plainRun w c₀ before) (steps m' s ∷ later))
           → (b : Bool) → (w.asid (plainRun w c₀ before).regs == A) ≡ b
-          → (ℓ' : Leaf) × (pageWalk w (plainRun w c₀ past).regs m r p ≡ Mapped ℓ') × LeavesEqual ℓ ℓ'
+          → (ℓ' : Leaf) × (pageWalk w (plainRun w c₀ past).regs m r p ≡ Ok ℓ') × LeavesEqual ℓ ℓ'
       go before m' s later split ℓ o x today us true b =
           own.there before m' s later split ℓ o x (eqb-true _ _ b) (under A (plainRun w c₀ before) (steps m' s ∷ later) us)
       go before m' s later split ℓ o x (inr y) us false b = absurd (eqb-false _ _ b y)
       go before m' s later split ℓ o x (inl y) us false b =
           absurd (true≢false (sym y ∙ own.elsewhere before m' s later split ℓ o x (λ e. eqb-false _ _ b e)))
-
-  -- Two histories that come to the same registers, level and mark, with RAMs now under which the address has one walk.
-  module _ (laws : Laws w) (c₀ : Plain w) (zero-asid : w.asid c₀.regs ≡ 0) (low : c₀.privilege.level ≤ 3) (one two : List (Event w)) (m n : w.Ram)
-      (a : Ask) where
-    pub neighbours : plainRun w c₀ one ≡ plainRun w c₀ two
-        → w.walk (plainRun w c₀ one).regs m (regimeNow w (plainRun w c₀ one)) (untagNow w (plainRun w c₀ one) (address_of a))
-        ≡ w.walk (plainRun w c₀ one).regs n (regimeNow w (plainRun w c₀ one)) (untagNow w (plainRun w c₀ one) (address_of a))
-        → OwnFor c₀ one m a → OwnFor c₀ two n a
-        → answer_of w (plainRun w c₀ one) m a (tlbRun w c₀ one fresh) ≡ answer_of w (plainRun w c₀ two) n a (tlbRun w c₀ two fresh)
-    unfolding uncached
-    neighbours same walks own₁ own₂ =
-        alone one m own₁ ∙ rw walks (ap (λ (c : Plain w). uncached w c n (kind_of a) (address_of a)) same) ∙ sym (alone two n own₂)
-      where
-        alone : (past : List (Event w)) (k : w.Ram) → OwnFor c₀ past k a
-            → answer_of w (plainRun w c₀ past) k a (tlbRun w c₀ past fresh) ≡ uncached w (plainRun w c₀ past) k (kind_of a) (address_of a)
-        alone past k own =
-            one-settled w laws c₀ zero-asid low past k a (own-settled c₀ past k _ _ own)
-
--- Of the real walk: RAMs of one window that agree on the bytes of each descriptor that the walk fetches.
-module _ (one two : List (Event real)) (base : ℕ) (xs ys : List ℕ) (a : Ask) where
-  abbrev now : Plain real
-  now = plainRun real freshPlain one
-
-  abbrev fetched : List ℕ
-  fetched =
-      fetchesOf (bankOf now.regs (regimeNow real now)) (regimeNow real now) (untagNow real now (address_of a))
-      (word_at base xs 8)
-
-  pub real-neighbours : now ≡ plainRun real freshPlain two → length xs ≡ length ys
-      → ((d : ℕ) → Memᴰ d fetched → base ≤ d → d + 8 ≤ base + length xs → (i : ℕ) → i < 8 → get_or xs (d - base + i) 0 ≡ get_or ys (d - base + i) 0)
-      → OwnFor real freshPlain one (windowOf base xs) a → OwnFor real freshPlain two (windowOf base ys) a
-      → answer_of real now (windowOf base xs) a (tlbRun real freshPlain one fresh)
-      ≡ answer_of real (plainRun real freshPlain two) (windowOf base ys) a (tlbRun real freshPlain two fresh)
-  real-neighbours same long bytes own₁ own₂ =
-      neighbours real real-laws freshPlain fresh-asid (omega arith) one two (windowOf base xs) (windowOf base ys) a same
-      (bytes-agree _ _ _ base xs ys long bytes) own₁ own₂

@@ -1,22 +1,14 @@
 -- Where every answer comes from, with no premise: from the address itself with stage 1 off, from the walk of now, which
 -- failed, or from a walk that the page had, now or at a step of the history, which no invalidation since covers.
-use Rattle.std.specs.Prelude.{◌≡◌, refl, true, false, List, [], ◌∷◌, ◌++◌, ◌⊎◌, ℕ, ◌≤◌}
-use Rattle.std.proofs.Common.{sym, subst, ◌∙◌, inl, inr}
+use Rattle.std.specs.Prelude.{◌≡◌, true, false, List, [], ◌∷◌, ◌++◌, ◌⊎◌, ℕ, Ok, Err}
 use Rattle.fault.specs.First.{first}
 use Rattle.walk.specs.declared.level.Leaf.{Leaf}
-use Rattle.walk.specs.declared.level.Walked.TheVariants.{Mapped, Fault}
-use Rattle.tlb.specs.Lists.{Each, done, more}
-use Rattle.tlb.specs.Tlb.{fresh}
-use Rattle.tlb.specs.Model.{Model, emptyModel}
-use Rattle.tlb.specs.Asks.{Ask, kind_of, address_of, Given, onward}
+use Rattle.tlb.specs.Lists.{Each}
+use Rattle.tlb.specs.Asks.{Ask, kind_of, address_of}
 use Rattle.tlb.specs.declared.{access.Answer.Answer, Inval.Inval}
 use Rattle.tlb.specs.declared.access.Answer.TheVariants.{Address, Status}
-use Rattle.history.specs.World.{World, Laws, covers, leafAnswer, Plain, pageWalk, regimeNow, onNow, untagNow, pageNow, needNow}
-use Rattle.history.specs.History.{Step, Event, steps, plainRun, dropsRun, answers, tlbRun}
-use Rattle.history.specs.ModelRun.{modelAsk, modelAnswers, modelRun, history-answers}
-use Rattle.history.specs.Traced.{Moment, at, Traced, traced-at}
-use Rattle.history.specs.Right.{Answered, itself, by, failed, Done}
-use Rattle.history.specs.Theorem.{ask-done, moments, Uncovered, Found, found, history-traced}
+use Rattle.history.specs.World.{World, covers, leafAnswer, Plain, pageWalk, regimeNow, onNow, untagNow, pageNow, needNow}
+use Rattle.history.specs.History.{Step, Event, steps, plainRun, dropsRun}
 
 module _ (w : World) (c₀ : Plain w) where
   -- The registers R and the RAM m' are those of now, or those at the start of a step of the history; vs are the
@@ -35,57 +27,11 @@ module _ (w : World) (c₀ : Plain w) where
     pub data From (a : Ask) (x : Answer) : Type 0 where
       flat : onNow w here ≡ false → x ≡ Address (address_of a) → From a x
       fails : (code : ℕ) → onNow w here ≡ true
-          → w.walk here.regs m (regimeNow w here) (untagNow w here (address_of a)) ≡ Fault code
+          → w.walk here.regs m (regimeNow w here) (untagNow w here (address_of a)) ≡ Err code
           → x ≡ Status (first code) → From a x
       walks : (R : w.Regs) (m' : w.Ram) (vs : List Inval) → StateIn past m R m' vs → (ℓ : Leaf)
           → w.on R (regimeNow w here) ≡ true
-          → pageWalk w R m' (regimeNow w here) (pageNow w here (address_of a)) ≡ Mapped ℓ
+          → pageWalk w R m' (regimeNow w here) (pageNow w here (address_of a)) ≡ Ok ℓ
           → (ℓ.global ≡ true) ⊎ (w.asid R ≡ w.asid here.regs)
           → Each (λ v. covers v (pageNow w here (address_of a)) ℓ (w.asid R) ≡ false) vs
           → x ≡ leafAnswer ℓ (needNow w here (kind_of a)) (address_of a) → From a x
-
-module _ (w : World) (laws : Laws w) (c₀ : Plain w) (zero-asid : w.asid c₀.regs ≡ 0) (low : c₀.privilege.level ≤ 3) where
-  module _ (past : List (Event w)) (m : w.Ram) where
-    abbrev c : Plain w
-    c = plainRun w c₀ past
-
-    abbrev h : List (Moment w)
-    h = moments w laws c₀ past []
-
-    from : (a : Ask) (x : Answer) → Answered w laws (at c.regs m ∷ h) c m (kind_of a) (address_of a) x → From w c₀ past m a x
-    from a x (itself o e) = flat o e
-    from a x (failed code o f e) = fails code o f e
-    from a x (by ℓ i o (inl k) d e) = walks c.regs m [] (now refl refl) ℓ k.is-on k.leaf (inr refl) done e
-    from a x (by ℓ i o (inr k) d e) = go (found w laws past c₀ [] k)
-      where
-        go : Found w laws c₀ past (regimeNow w c) (pageNow w c (address_of a)) ℓ i
-            ⊎ (Uncovered w laws (pageNow w c (address_of a)) ℓ i (dropsRun w c₀ past) × ⊥) → From w c₀ past m a x
-        go (inr z) = absurd z.1
-        go (inl f) =
-            walks (plainRun w c₀ f.before).regs f.ram _ (then f.before f.step f.later f.split refl) ℓ f.walks.is-on f.walks.leaf
-            (day d) (rw f.walks.under at f.spared) e
-          where
-            day : (ℓ.global ≡ true) ⊎ (i ≡ w.asid c.regs) → (ℓ.global ≡ true) ⊎ (w.asid (plainRun w c₀ f.before).regs ≡ w.asid c.regs)
-            day (inl g) = inl g
-            day (inr y) = inr (sym f.walks.under ∙ y)
-
-    all_from : (l : List Ask) (u : Model) → Traced w (at c.regs m ∷ h) c.regs u
-        → Each (λ g. From w c₀ past m g.ask g.answer) (modelAnswers w c m l u)
-    all_from [] u s = done
-    all_from (a ∷ l) u s =
-        more (from a (modelAsk w c m a u).answer next.answered) (go (modelAsk w c m a u).answer (all_from l (modelAsk w c m a u).after next.traced))
-      where
-        next : Done w laws (at c.regs m ∷ h) c m (kind_of a) (address_of a) (modelAsk w c m a u)
-        next = ask-done w laws h c m u s a
-
-        go : (x : Answer) → Each (λ g. From w c₀ past m g.ask g.answer) (modelAnswers w c m l (modelAsk w c m a u).after)
-            → Each (λ g. From w c₀ past m g.ask g.answer) (onward x (modelAnswers w c m l (modelAsk w c m a u).after) [])
-        go (Address pa) rest = rest
-        go (Status f) rest = done
-
-  -- After every history, whatever the RAM, each answer comes from there.
-  pub origin : (past : List (Event w)) (m : w.Ram) (s : Step w)
-      → Each (λ g. From w c₀ past m g.ask g.answer) (answers w (plainRun w c₀ past) m s.asks (tlbRun w c₀ past fresh))
-  origin past m s =
-      subst (λ (l : List Given). Each (λ g. From w c₀ past m g.ask g.answer) l) (sym (history-answers w laws c₀ low past m s.asks))
-      (all_from past m s.asks (modelRun w c₀ past emptyModel) (traced-at w m (history-traced w laws c₀ zero-asid low past)))

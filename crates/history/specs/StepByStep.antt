@@ -1,8 +1,7 @@
 -- The premise step by step: what is to be shown of a list that is given.
-use Rattle.std.specs.Prelude.{◌≡◌, true, false, List, [], ◌∷◌, ◌++◌, ◌⊎◌, ℕ}
+use Rattle.std.specs.Prelude.{◌≡◌, true, false, List, [], ◌∷◌, ◌++◌, ◌⊎◌, ℕ, Ok}
 use Rattle.std.proofs.Common.{subst}
 use Rattle.walk.specs.declared.{regime.Regime.Regime, level.Leaf.Leaf}
-use Rattle.walk.specs.declared.level.Walked.TheVariants.{Mapped}
 use Rattle.tlb.specs.Lists.{Each}
 use Rattle.tlb.specs.declared.Inval.{Inval}
 use Rattle.history.specs.World.{World, LeavesEqual, covers, Plain, pageWalk}
@@ -12,10 +11,10 @@ module _ (w : World) (R : w.Regs) (m : w.Ram) (r : Regime) (p : ℕ) where
   -- at a step that begins on c and m', with the invalidations vs from then on; now the registers are R and RAM is m
   abbrev pub HoldsAt : Plain w → w.Ram → List Inval → Type 0
   HoldsAt c m' vs =
-      (ℓ : Leaf) → w.on c.regs r ≡ true → pageWalk w c.regs m' r p ≡ Mapped ℓ
+      (ℓ : Leaf) → w.on c.regs r ≡ true → pageWalk w c.regs m' r p ≡ Ok ℓ
       → (ℓ.global ≡ true) ⊎ (w.asid c.regs ≡ w.asid R)
       → Each (λ v. covers v p ℓ (w.asid c.regs) ≡ false) vs
-      → (ℓ' : Leaf) × (pageWalk w R m r p ≡ Mapped ℓ') × LeavesEqual ℓ ℓ'
+      → (ℓ' : Leaf) × (pageWalk w R m r p ≡ Ok ℓ') × LeavesEqual ℓ ℓ'
 
   abbrev pub HoldsFrom : Plain w → List (Event w) → Type 0
   HoldsFrom c [] = Unit {0}

@@ -1,7 +1,7 @@
--- The counters of each level over a history: from the plain model alone, every translation made, at which level and how it was answered. What
--- stands in the counters of a level is the number of those made at it that a line answered, that were walked; and the sums of the four levels
--- move as the Rust's two counters.
-use Rattle.std.specs.Prelude.{◌≡◌, Bool, ◌&&◌, List, [], ◌∷◌, ◌++◌, map, ℕ, zero, suc, ◌+◌, ◌%◌, ◌^◌, ◌≤◌, ◌<◌, ◌==◌}
+-- The counters of each level over a history: from the plain model alone, every translation made, at which level and how
+-- it was answered. What stands in the counters of a level is the number of those made at it that a line answered, that
+-- were walked; and the sums of the four levels move as the Rust's two counters.
+use Rattle.std.specs.Prelude.{◌≡◌, Bool, ◌&&◌, List, [], ◌∷◌, ◌++◌, ℕ, ◌+◌, ◌%◌, ◌^◌, ◌≤◌, ◌<◌, ◌==◌}
 use Rattle.std.proofs.Math.Path.{refl}
 use Rattle.std.proofs.Common.{sym, ap, ◌∙◌, arith}
 use Rattle.std.proofs.Math.Bool.{true, false}
@@ -16,7 +16,7 @@ use Rattle.tlb.specs.declared.access.Kind.TheVariants.{Fetch}
 use Rattle.tlb.specs.declared.access.Answer.TheVariants.{Address, Status}
 use Rattle.tlb.specs.declared.Inval.TheVariants.{All, Page, Asid}
 use Rattle.history.specs.World.{World, Plain, accessOf}
-use Rattle.history.specs.History.{Effect, nothing, carries, writes, sets, Event, steps, receives, after, afterEvent}
+use Rattle.history.specs.History.{Effect, nothing, carries, writes, sets, Event, steps, receives, after}
 use Rattle.history.specs.Lists.{event-low}
 use Rattle.history.specs.ModelRun.{modelAsk, modelAsks, modelFlushed, modelRetagged, modelAfter, modelEvent, modelRun}
 

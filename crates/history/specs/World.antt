@@ -1,15 +1,15 @@
 -- What the theory of histories takes from registers and walk, and document 01's terms on it: equal walks, covering, the
 -- core without a cache. `spanBits`, `asUser` and `need` are the plain model's: tlb/specs/Model.antt.
-use Rattle.std.specs.Prelude.{◌≡◌, Bool, true, not, ◌&&◌, ℕ, ◌+◌, ◌*◌, ◌/◌, ◌%◌, ◌^◌, ◌≤◌, ◌==◌}
+use Rattle.std.specs.Prelude.{◌≡◌, Bool, true, not, ◌&&◌, ℕ, ◌+◌, ◌*◌, ◌/◌, ◌%◌, ◌^◌, ◌≤◌, ◌==◌, Ok, Err}
 use Rattle.word.specs.Bits.{pick}
 use Rattle.fault.specs.First.{first}
 use Rattle.walk.specs.Regime.{regimeOf}
-use Rattle.walk.specs.declared.{regime.Regime.Regime, level.Leaf.Leaf, level.Walked.Walked}
-use Rattle.walk.specs.declared.level.Walked.TheVariants.{Mapped, Fault}
+use Rattle.walk.specs.declared.{regime.Regime.Regime, level.Leaf.Leaf}
 use Rattle.tlb.specs.Model.{Access, asUser, need, spanBits}
 use Rattle.tlb.specs.declared.{access.Kind.Kind, access.Privilege.Privilege, access.Answer.Answer, Inval.Inval}
 use Rattle.tlb.specs.declared.access.Answer.TheVariants.{Address, Status}
 use Rattle.tlb.specs.declared.Inval.TheVariants.{All, Page, Asid}
+use Rattle.walk.specs.Answers.{Walked}
 
 -- The registers that translation reads, RAM, and what they say:
 --   on          stage 1 is on in the regime
@@ -40,7 +40,7 @@ pub record LeavesEqual (ℓ ℓ' : Leaf) : Type 0 where
 -- later All or flush; by a Page whose low 44 bits agree with its page's above the lowest 18, 9 or 0 bits for level 1,
 -- 2, 3; by an Asid equal to the ASID in force at that walk, if it isn't global." The premise's own reading, on purpose:
 -- what the plain model drops of its lines is said in tlb/specs/Model.antt, what the cache drops in
--- tlb/specs/Cache.antt, and `same-cover` (Traced.antt) and tlb/specs/Refines.antt show that they agree.
+-- tlb/specs/Cache.antt, and `same-cover` (proofs/Traced.antt) and tlb/specs/Refines.antt show that they agree.
 unfoldable pub covers : Inval → ℕ → Leaf → ℕ → Bool
 covers All p ℓ a = true
 covers (Page n) p ℓ a = p % 2 ^ 44 / 2 ^ spanBits ℓ.level == n % 2 ^ 44 / 2 ^ spanBits ℓ.level
@@ -56,8 +56,8 @@ leafAnswer ℓ bit va =
 
 -- "A walk fault is the answer."
 unfoldable pub walkAnswer : Walked → ℕ → ℕ → Answer
-walkAnswer (Fault code) bit va = Status (first code)
-walkAnswer (Mapped ℓ) bit va = leafAnswer ℓ bit va
+walkAnswer (Err code) bit va = Status (first code)
+walkAnswer (Ok ℓ) bit va = leafAnswer ℓ bit va
 
 module _ (w : World) where
   -- "A page is an untagged page of one regime"; its walk is that of its first address.
@@ -115,7 +115,7 @@ pub record Laws (w : World) : Type 0 where
   -- addresses of one page are untagged to addresses of one page
   pub untag-page : (R : w.Regs) (r : Regime) (va vb : ℕ) → va / 4096 ≡ vb / 4096 → w.untag R r va / 4096 ≡ w.untag R r vb / 4096
   -- a leaf is of level 3 at most
-  pub leaf-level : (R : w.Regs) (m : w.Ram) (r : Regime) (va : ℕ) (ℓ : Leaf) → w.walk R m r va ≡ Mapped ℓ → ℓ.level ≤ 3
+  pub leaf-level : (R : w.Regs) (m : w.Ram) (r : Regime) (va : ℕ) (ℓ : Leaf) → w.walk R m r va ≡ Ok ℓ → ℓ.level ≤ 3
   -- addresses of one page have equal walks
-  pub walk-page : (R : w.Regs) (m : w.Ram) (r : Regime) (va vb : ℕ) → va / 4096 ≡ vb / 4096 → (ℓ : Leaf) → w.walk R m r va ≡ Mapped ℓ →
-      (ℓ' : Leaf) × (w.walk R m r vb ≡ Mapped ℓ') × LeavesEqual ℓ ℓ' × (ℓ.global ≡ ℓ'.global)
+  pub walk-page : (R : w.Regs) (m : w.Ram) (r : Regime) (va vb : ℕ) → va / 4096 ≡ vb / 4096 → (ℓ : Leaf) → w.walk R m r va ≡ Ok ℓ →
+      (ℓ' : Leaf) × (w.walk R m r vb ≡ Ok ℓ') × LeavesEqual ℓ ℓ' × (ℓ.global ≡ ℓ'.global)

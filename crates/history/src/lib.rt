@@ -1,2 +1,3 @@
 #![tactic(auto)]
-// Demand 3, of every history of a core: definitions and theorems in specs/ alone.
+// Every history of a core: definitions in specs/, and the theorems about them.
+pub mod theorems;

@@ -1,6 +1,2 @@
-pub mod Promised
-pub mod Runs
-pub mod Fetches
-pub mod Hits
-pub mod Loads
-pub mod Stores
+pub mod Faithful
+pub mod Hints

@@ -1,8 +1,110 @@
 #![tactic(auto)]
-// The entry points over a core that is lent: its small parts are read where they lie, covered functions work on them,
-// and the results are stored where they lie. No array is moved. Each promises the call's exact definition, and demand 3
-// of whatever list of calls made the core.
-pub mod fetch;
-pub mod load;
-pub mod store;
-pub mod translate;
+// The entry points over a core that is lent: each makes the call's checks, and then changes the core where it lies. Each
+// promises the call's exact definition, and that its answer is faithful whatever list of calls made the core.
+ghost use Rattle.std.specs.Prelude.{◌≡◌, ℕ, Some, Option};
+ghost use Rattle.word.specs.Ram.{word_at};
+ghost use Rattle.tlb.specs.declared.access.Answer.TheVariants.{Address};
+ghost use Rattle.tlb.specs.Cache.{hintAt};
+ghost use Rattle.operations.specs.Hinted.{hintPlace};
+ghost use Rattle.mmu.specs.Ops.{translateOf};
+ghost use Rattle.cpu.specs.Step.{step_of, ramAfter, ends, afterTranslation};
+ghost use Rattle.operations.specs.declared.call.Call.TheVariants as Call;
+ghost use Rattle.transparency.specs.Faithful.{FaithfulCall};
+
+use mmu::core_state::Core;
+use operations::call::Reply;
+use operations::{check, hinted, reply};
+use tlb::access::Kind;
+use tlb::hint;
+use tlb::hint::Hint;
+use word::ram::Width;
+
+// The data hint that an access asks.
+fn hint_of(core: &Core, va: u64, kind: Kind) -> Hint
+    ensures { result ≡ hintAt core.now.tlb.cache (hintPlace va kind) }
+{
+    core.tlb.cache.hints[hinted::hint_place(va, kind)]
+}
+
+// Where it sends the access, if it serves.
+fn by_hint(core: &Core, va: u64, kind: Kind) -> Option<u64>
+    ensures { (memory : ℕ → Option ℕ) (pa : ℕ) → result ≡ Some pa
+        → translateOf core.now memory va kind ≡ record { core = core.now; answer = Address pa } }
+{
+    let hint = hint_of(core, va, kind);
+    if hinted::served(hint, core.privilege, va, kind) {
+        Some(hint::on_page(hint.pa, va))
+    } else {
+        None
+    }
+}
+
+// A translation that no hint serves. Out of line, so that a hint pays nothing for it.
+#[inline(never)]
+fn resolve(core: &mut Core, base: u64, ram: &[u8], va: u64, kind: Kind) -> Reply
+    ensures { record { core = core.new; reply = result } ≡ afterTranslation va (translateOf core.old (word_at base ram.now 8) va kind) }
+{
+    reply::translated(va, core.translate(base, ram, va, kind))
+}
+
+// A translation, by the hint first.
+#[tactic(auto, unfolding(operations::specs::Check::missedOf, cpu::specs::Step::step_of, cpu::specs::Step::run_of, cpu::specs::Step::ramOf), using(crate::proofs::Faithful::faithful_read))]
+pub fn translate(core: &mut Core, base: u64, ram: &[u8], va: u64, kind: Kind) -> Reply
+    ensures step { record { core = core.new; reply = result } ≡ step_of core.old base ram.now (Call.Translate kind va) }
+    ensures faithful { FaithfulCall core.old base ram.now (Call.Translate kind va) (ends core.new result) ram.now }
+{
+    let missed = check::with_ram(core.privilege.level, base, ram.len() as u64);
+    if missed != 0 {
+        return Reply::Refused(missed);
+    }
+    match by_hint(core, va, kind) {
+        Some(pa) => Reply::Value(pa),
+        None => resolve(core, base, ram, va, kind),
+    }
+}
+
+// A load.
+#[tactic(auto, unfolding(operations::specs::Check::missedOf, cpu::specs::Step::step_of, cpu::specs::Step::run_of, cpu::specs::Step::ramOf), using(crate::proofs::Faithful::faithful_read))]
+pub fn load(core: &mut Core, base: u64, ram: &[u8], va: u64, size: u64) -> Reply
+    ensures step { record { core = core.new; reply = result } ≡ step_of core.old base ram.now (Call.Load va size) }
+    ensures faithful { FaithfulCall core.old base ram.now (Call.Load va size) (ends core.new result) ram.now }
+{
+    let missed = check::sized(core.privilege.level, base, ram.len() as u64, size);
+    if missed != 0 {
+        return Reply::Refused(missed);
+    }
+    match Width::of_size(size) {
+        Some(width) => reply::loaded(core.read(base, ram, va, width)),
+        None => Reply::Refused(3),
+    }
+}
+
+// A store of the low bytes of a value.
+#[tactic(auto, unfolding(operations::specs::Check::missedOf, cpu::specs::Step::step_of, cpu::specs::Step::run_of, cpu::specs::Step::ramAfter, cpu::specs::Step::ramOf), using(crate::proofs::Faithful::faithful_store))]
+pub fn store(core: &mut Core, base: u64, ram: &mut [u8], va: u64, size: u64, value: u64) -> Reply
+    ensures step { record { core = core.new; reply = result } ≡ step_of core.old base ram.old (Call.Store va size value) }
+    ensures ram { ram.new ≡ ramAfter core.old base ram.old (Call.Store va size value) }
+    ensures faithful { FaithfulCall core.old base ram.old (Call.Store va size value) (ends core.new result) ram.new }
+{
+    let missed = check::sized(core.privilege.level, base, ram.len() as u64, size);
+    if missed != 0 {
+        return Reply::Refused(missed);
+    }
+    match Width::of_size(size) {
+        Some(width) => reply::stored(core.write(base, ram, va, width, value)),
+        None => Reply::Refused(3),
+    }
+}
+
+// An instruction, by the fetch hint first.
+#[tactic(auto, unfolding(operations::specs::Check::missedOf, cpu::specs::Step::step_of, cpu::specs::Step::run_of, cpu::specs::Step::ramOf), using(crate::proofs::Faithful::faithful_read))]
+pub fn fetch(core: &mut Core, base: u64, ram: &[u8], va: u64) -> Reply
+    ensures step { record { core = core.new; reply = result } ≡ step_of core.old base ram.now (Call.Fetch va) }
+    ensures faithful { FaithfulCall core.old base ram.now (Call.Fetch va) (ends core.new result) ram.now }
+{
+    let missed = check::with_ram(core.privilege.level, base, ram.len() as u64);
+    if missed != 0 {
+        return Reply::Refused(missed);
+    }
+    reply::fetched(core.fetch(base, ram, va))
+}

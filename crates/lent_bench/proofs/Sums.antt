@@ -4,7 +4,7 @@ use Rattle.tlb.specs.declared.access.Kind.{Kind}
 use Rattle.mmu.specs.declared.core_state.Core.{Core}
 use Rattle.cpu.specs.Step.{step_of}
 use Rattle.operations.specs.declared.call.Call.TheVariants as Call
-use Rattle.cpu.specs.declared.run.Stepped.{Stepped}
+use Rattle.cpu.specs.Step.{Stepped}
 use Rattle.operations.specs.declared.call.Reply.{Reply}
 use Rattle.lent_bench.specs.Many.{summedOf, vaOf, coreAfter, sumAfter}
 

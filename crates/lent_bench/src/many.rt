@@ -3,7 +3,6 @@ ghost use Rattle.std.specs.Prelude.{◌≡◌};
 ghost use Rattle.lent_bench.specs.Many.{coreAfter, sumAfter, warmed};
 
 use crate::sum;
-use lent::translate;
 use mmu::core_state::Core;
 use tlb::access::Kind;
 
@@ -14,12 +13,12 @@ pub fn many(core: &mut Core, base: u64, ram: &[u8], n: u64, even: u64, odd: u64,
     ensures { (result ≡ sumAfter (warmed core.old base ram.now even kind) base ram.now even odd kind n)
         × (core.new ≡ coreAfter (warmed core.old base ram.now even kind) base ram.now even odd kind n) }
 {
-    let first = translate::translate(core, base, ram, even, kind);
+    let first = lent::translate(core, base, ram, even, kind);
     let mut i = 0;
     let mut sum = 0;
     while i < n {
         let va = sum::va_of(i, even, odd);
-        let reply = translate::translate(core, base, ram, va, kind);
+        let reply = lent::translate(core, base, ram, va, kind);
         sum = sum::summed(sum, reply);
         i += 1;
     }

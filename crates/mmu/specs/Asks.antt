@@ -1,9 +1,9 @@
 -- The translations that an access makes, from its call and the registers; what their answers say of its place; and that
 -- they are those of the exact definitions.
-use Rattle.std.specs.Prelude.{◌≡◌, ℕ, Bool, true, false, List, [], ◌∷◌}
+use Rattle.mmu.specs.Results.{Stepped}
+use Rattle.std.specs.Prelude.{◌≡◌, ℕ, Bool, true, false, List, [], ◌∷◌, Option}
 use Rattle.std.proofs.Math.Path.{refl}
 use Rattle.word.specs.Bits.{pick}
-use Rattle.word.specs.declared.ram.Word.{Word}
 use Rattle.fault.specs.First.{first}
 use Rattle.walk.specs.Regime.{stage1On, regimeOf}
 use Rattle.walk.specs.declared.regime.Bank.{Bank}
@@ -16,7 +16,6 @@ use Rattle.operations.specs.Place.{nextPage, crosses, goesOn, placedOne, placedB
 use Rattle.mmu.specs.Step.{onePage, bothPages, translateIn, locatedOf}
 use Rattle.operations.specs.declared.place.Placed.{Placed}
 use Rattle.operations.specs.declared.place.Placed.TheVariants.{Fault}
-use Rattle.mmu.specs.declared.step.Stepped.{Stepped}
 
 -- An access of n bytes: its own address, and where it crosses a page with stage 1 on the next page's first. The second
 -- is made only where the first does not fault (`answers`, `tlbAsks`): that is not said here, and so nothing here
@@ -59,7 +58,7 @@ module _ (va : ℕ) (a b : Ask) (f g : Stepped) where
   both-pages (Address pa) (Address pa2) e d = rw (e, d)
   both-pages (Address pa) (Status fault) e d = rw (e, d)
 
-module _ (s : Bank) (privilege : Privilege) (memory : ℕ → Word) where
+module _ (s : Bank) (privilege : Privilege) (memory : ℕ → Option ℕ) where
   -- the access of a kind at an address
   abbrev pub accessAt : Kind → ℕ → Access
   accessAt kind va = accessOf s privilege va kind memory

@@ -26,7 +26,6 @@ use Rattle.operations.specs.declared.place.Verdict.TheVariants.{Inside, Outside}
 use Rattle.operations.specs.declared.ends.LoadAnswer.TheVariants as Load
 use Rattle.operations.specs.declared.ends.StoreAnswer.TheVariants as Store
 use Rattle.mmu.specs.OwnAddress.{ownAnswer, Ready, Own, lies-own}
-use Rattle.operations.specs.declared.bytes.Got.TheVariants.{Value}
 
 -- EACH BYTE OF A VALUE
 
@@ -223,9 +222,13 @@ pub record OwnByte (c : Core) (base : ℕ) (ram : List ℕ) (va : ℕ) (kind : K
   pub inside : within base (length ram) 1 (wrap pa) ≡ true
 
 -- byte i of what a load answers is the byte of RAM at the translation of byte i's own address
-pub load_byte : (c : Core) (base : ℕ) (ram : List ℕ) (va n v i : ℕ) → Ready c base ram va n Read → ((k : ℕ) → slice_index ram k < 256)
+abbrev pub LoadsOwnBytes : Type 0
+LoadsOwnBytes =
+    (c : Core) (base : ℕ) (ram : List ℕ) (va n v i : ℕ) → Ready c base ram va n Read → ((k : ℕ) → slice_index ram k < 256)
     → (read_of c base ram va n).answer ≡ Load.Value v → i < n
     → (o : OwnByte c base ram va Read i) × (v / 256 ^ i % 256 ≡ byteIn base ram (wrap o.pa))
+
+pub load_byte : LoadsOwnBytes
 load_byte c base ram va n v i ready small e h =
     let l = loaded c base ram va n v e in
     let w = lies-own c base ram va n Read ready i h l.place l.placed in (
@@ -237,11 +240,15 @@ load_byte c base ram va n v i ready small e h =
 
 -- after a store that is done, the byte of RAM at the translation of byte i's own address is byte i of the value; where
 -- the two pages of a split store share bytes of RAM, that of the later byte
-pub store_byte : (c : Core) (base : ℕ) (ram : List ℕ) (va n v i : ℕ) → Ready c base ram va n Write
+abbrev pub StoresOwnBytes : Type 0
+StoresOwnBytes =
+    (c : Core) (base : ℕ) (ram : List ℕ) (va n v i : ℕ) → Ready c base ram va n Write
     → (writeOf c base ram va n).answer ≡ Store.Done → i < n
     → (o : OwnByte c base ram va Write i)
     × (((j pa : ℕ) → i < j → j < n → ownAnswer c (word_at base ram 8) va Write j ≡ Address pa → wrap pa ≢ wrap o.pa)
     → byteIn base (ramAfterWrite c base ram va n v) (wrap o.pa) ≡ v / 256 ^ i % 256)
+
+pub store_byte : StoresOwnBytes
 unfolding ramAfterWrite storeRamEnd
 store_byte c base ram va n v i ready e h =
     let d = done c base ram va n e in
@@ -254,9 +261,13 @@ store_byte c base ram va n v i ready e h =
     )
 
 -- a store, done or not, leaves every byte of RAM that is at the translation of none of its bytes' own addresses
-pub store-others : (c : Core) (base : ℕ) (ram : List ℕ) (va n v k : ℕ) → Ready c base ram va n Write → k < length ram
+abbrev pub StoreLeavesOthers : Type 0
+StoreLeavesOthers =
+    (c : Core) (base : ℕ) (ram : List ℕ) (va n v k : ℕ) → Ready c base ram va n Write → k < length ram
     → ((i pa : ℕ) → i < n → ownAnswer c (word_at base ram 8) va Write i ≡ Address pa → wrap pa ≢ base + k)
     → slice_index (ramAfterWrite c base ram va n v) k ≡ slice_index ram k
+
+pub store-others : StoreLeavesOthers
 store-others c base ram va n v k ready h none =
     write-leaves c base ram va n v k
     (λ place e i l q.

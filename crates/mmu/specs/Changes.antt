@@ -1,38 +1,36 @@
 -- A translation as its changes: what they store is what the operation's translation leaves, on plain values.
-use Rattle.std.specs.Prelude.{◌≡◌, ℕ, ◌/◌, ◌%◌, ◌<◌, Bool, true, false, ◌&&◌, List, slice_set}
+use Rattle.std.specs.Prelude.{◌≡◌, ℕ, ◌/◌, ◌%◌, ◌<◌, Bool, true, false, ◌&&◌, List, slice_set, Option}
 use Rattle.std.proofs.Math.Path.{refl, sym, subst, ap}
 use Rattle.std.proofs.Common.{◌∙◌, arith}
 use Rattle.std.proofs.lemmas.List.{set-get_or}
 use Rattle.word.specs.Bits.{pick}
-use Rattle.word.specs.declared.ram.Word.{Word}
 use Rattle.walk.specs.Regime.{regimeOf, stage1On}
-use Rattle.walk.specs.declared.{level.Walked.Walked, regime.Regime.Regime}
+use Rattle.walk.specs.declared.regime.Regime.{Regime}
 use Rattle.tlb.specs.Access.{mayHint}
 use Rattle.tlb.specs.Cache.{hintAt, entry_at}
 use Rattle.tlb.specs.Entry.{blank}
-use Rattle.tlb.specs.Hint.{place_of, dataSlot, noHint, onPage, hintFor, fetchFor, fetchFound}
-use Rattle.tlb.specs.Resolve.{askOf, byItself, countedBy, keptBy, hintAfter, fetchAfter}
-use Rattle.tlb.specs.Translate.{applied, missWith, missOf, changes-are, translationWith, translationOf, fetchOf, fetchWith, fetchEnd, fetchApplied}
+use Rattle.tlb.specs.Hint.{place_of, dataSlot, noHint, onPage, hintFor}
+use Rattle.tlb.specs.Resolve.{askOf, byItself, countedBy, keptBy, hintAfter}
+use Rattle.tlb.specs.Translate.{applied, missWith, missOf, changes-are, translationWith, translationOf}
 use Rattle.tlb.specs.declared.{access.Answer.Answer, access.Kind.Kind, access.Privilege.Privilege, count.Counts.Counts}
 use Rattle.tlb.specs.declared.{entry.Entry.Entry, entry.Current.Current, hint.FetchHint.FetchHint, hint.Hint.Hint}
-use Rattle.tlb.specs.declared.{hint.HintAnswer.HintAnswer, resolve.Asked.Asked, resolve.Resolved.Resolved}
-use Rattle.tlb.specs.declared.{resolve.Source.Source, cells.FetchTranslation.FetchTranslation}
-use Rattle.tlb.specs.declared.cells.Translation.{Translation}
+use Rattle.tlb.specs.declared.{resolve.Asked.Asked, resolve.Resolved.Resolved}
+use Rattle.tlb.specs.declared.resolve.Source.{Source}
+use Rattle.tlb.specs.Translate.{Translation}
 use Rattle.tlb.specs.declared.access.Answer.TheVariants.{Address, Status}
 use Rattle.tlb.specs.declared.access.Kind.TheVariants.{Read, Write, Fetch}
-use Rattle.tlb.specs.declared.hint.HintAnswer.TheVariants.{At, Unknown}
 use Rattle.tlb.specs.declared.resolve.Asked.TheVariants.{Flat, Of}
 use Rattle.tlb.specs.declared.resolve.Source.TheVariants.{FromHint, FromFlat, FromEntry, FromWalk, NoLeaf}
 use Rattle.mmu.specs.Core.{bankNow, afterAccess}
-use Rattle.mmu.specs.Ops.{steppedNow, fetchSteppedNow, translateOf}
-use Rattle.mmu.specs.Step.{translateIn, translateFetchIn, slot_at}
+use Rattle.mmu.specs.Ops.{steppedNow, translateOf}
+use Rattle.mmu.specs.Step.{translateIn, slot_at}
 use Rattle.mmu.specs.declared.core_state.Core.{Core}
-use Rattle.operations.specs.Change.{entryPlace, effect_of, countedAs, keptAs, allowed, address_of, missBy, changeOf, fetchChangeOf, unchanged, answeredOf}
+use Rattle.operations.specs.Change.{entryPlace, effect_of, countedAs, keptAs, allowed, address_of, missBy, changeOf, unchanged, answeredOf}
 use Rattle.operations.specs.Change.{answeredBy}
 use Rattle.mmu.specs.Parts.{lookupIn, pageIn, parts_in, storedIn, commitAt, commitIn}
-use Rattle.operations.specs.Fetches.{fetchTranslationAt, fetchAnsweredOf, fetchTranslationBy}
 use Rattle.operations.specs.Hinted.{hintPlace, hintServes}
 use Rattle.operations.specs.declared.{change.Change.Change, change.Lookup.Lookup, change.Answered.Answered}
+use Rattle.walk.specs.Answers.{Walked}
 
 -- a read's and a write's hint has its own place below 512
 place-small : (page : ℕ) → place_of page < 256
@@ -73,10 +71,6 @@ hint-as true level va (Status f) h = refl
 hint-as false level va (Address pa) h = refl
 hint-as false level va (Status f) h = refl
 
-fetch-as : (level va : ℕ) (a : Answer) (f : FetchHint) → pick (allowed a) (fetchFor va level (address_of a)) f ≡ fetchAfter level va a f
-fetch-as level va (Address pa) f = refl
-fetch-as level va (Status g) f = refl
-
 -- the core as it was is the core with its own cells stored
 pub same-core : (c : Core) (i j : ℕ) → storedIn c i j c.tlb.cache.fetch c.tlb.counts (hintAt c.tlb.cache i) (entry_at c.tlb.cache j) ≡ c
 same-core c i j =
@@ -96,7 +90,7 @@ fetch-translation : (on : Bool) (page : ℕ) (w : Walked) (r : Regime) (privileg
 unfolding translationWith applied
 fetch-translation on page w r privilege at k h g e va = refl
 
-module _ (c : Core) (memory : ℕ → Word) (va : ℕ) where
+module _ (c : Core) (memory : ℕ → Option ℕ) (va : ℕ) where
   -- the slot of the entry, and the translation with the hint of a place
   abbrev slot : ℕ
   slot = slot_at (bankNow c) c.privilege.level va
@@ -258,65 +252,3 @@ module _ (c : Core) (memory : ℕ → Word) (va : ℕ) where
             (answeredBy look (missBy look.asked look.bank c.privilege c.tlb.cache.current (pageIn c va kind).entry va kind memory) va kind))
         go true e = ((hint-turn e).0, none-changed c look ∙ (hint-turn e).1)
         go false e = miss-right e
-
-  -- THE TRANSLATION OF A FETCH, by the fetch hint first
-  abbrev fetched : Core
-  fetched = afterAccess c (fetchSteppedNow c memory va).tlb c.last_pa c.abort_pa
-
-  abbrev Fetches : Answered → Type 0
-  Fetches t = (t.answer ≡ (fetchSteppedNow c memory va).answer) × (commitIn c t.change ≡ fetched)
-
-  abbrev fetch₀ : Answer → FetchHint
-  fetch₀ a = fetchAfter c.privilege.level va a c.tlb.cache.fetch
-
-  abbrev old-hint : Answer → Hint
-  old-hint a = hintAt c.tlb.cache (hintPlace va Fetch)
-
-  fetch-stored : (t : Resolved) → commitAt c (i₀ Fetch) (j₀ Fetch) (fetchChangeOf (look Fetch) t va) ≡ kept Fetch fetch₀ old-hint (j₀ Fetch) t
-  fetch-stored t =
-      λ n. storedIn c (i₀ Fetch) (j₀ Fetch) (fetch-as c.privilege.level va t.answer c.tlb.cache.fetch n)
-      (counted-as t.source c.privilege.level c.tlb.counts n) (hintAt c.tlb.cache (i₀ Fetch))
-      (kept-as t.source (entry_at c.tlb.cache (j₀ Fetch)) t.made n)
-
-  -- the hint that was taken goes back
-  hint-back : (f : FetchHint) (k : Counts) (e : Entry) → storedIn c (i₀ Fetch) slot f k (hintAt c.tlb.cache (i₀ Fetch)) e
-      ≡ parts_in c f k c.tlb.cache.hints (slice_set c.tlb.cache.entries slot e) c.last_pa c.abort_pa
-  hint-back f k e = ap (λ hs. parts_in c f k hs (slice_set c.tlb.cache.entries slot e) c.last_pa c.abort_pa)
-      (set-get_or c.tlb.cache.hints (i₀ Fetch) noHint)
-
-  abbrev fetchPut : FetchTranslation → Core
-  fetchPut t = parts_in c t.fetch t.counts c.tlb.cache.hints (slice_set c.tlb.cache.entries slot t.entry) c.last_pa c.abort_pa
-
-  abbrev fetchTurn : FetchTranslation
-  fetchTurn = fetchOf (bankNow c) c.privilege c.tlb.cache.current c.tlb.counts c.tlb.cache.fetch (entry_at c.tlb.cache slot) va memory
-
-  fetch-own : (fetchTurn.answer ≡ (fetchSteppedNow c memory va).answer) × (fetchPut fetchTurn ≡ fetched)
-  unfolding fetchSteppedNow translateFetchIn fetchOf afterAccess
-  fetch-own = (refl, refl)
-
-  pub fetch-right : Fetches (fetchAnsweredOf c.tlb.cache.fetch (pageIn c va Fetch) va memory)
-  unfolding fetchAnsweredOf fetchOf fetchWith fetchEnd fetchApplied missOf
-  fetch-right = go (fetchFound c.tlb.cache.fetch c.privilege.level va) refl
-    where
-      go : (p : HintAnswer) → fetchFound c.tlb.cache.fetch c.privilege.level va ≡ p
-          → Fetches (fetchTranslationAt p (look Fetch) (missBy (look Fetch).asked (look Fetch).bank c.privilege c.tlb.cache.current
-          (pageIn c va Fetch).entry va Fetch memory) va)
-      go (At pa) e =
-          let turn : fetchTurn ≡ record {
-            counts = c.tlb.counts;
-            fetch = c.tlb.cache.fetch;
-            entry = entry_at c.tlb.cache slot;
-            answer = Address pa;
-            source = FromHint;
-          } = rw e in (
-            ap (λ (t : FetchTranslation). t.answer) (sym turn) ∙ fetch-own.0,
-            none-changed c (look Fetch) ∙ sym (same-core c (i₀ Fetch) slot) ∙ hint-back _ _ _ ∙ ap fetchPut (sym turn) ∙ fetch-own.1,
-          )
-      go Unknown e =
-          let turn : fetchTurn ≡ fetchApplied (misses Fetch slot) c.privilege.level c.tlb.counts c.tlb.cache.fetch
-          (entry_at c.tlb.cache slot) va = rw e in
-          subst (λ (t : Resolved). Fetches (fetchTranslationBy (look Fetch) t va)) (sym (asked_is Fetch)) (
-            (placed Fetch fetch₀ old-hint).0 ∙ ap (λ (t : FetchTranslation). t.answer) (sym turn) ∙ fetch-own.0,
-            at_places Fetch (fetchChangeOf (look Fetch) (misses Fetch (j₀ Fetch)) va) ∙ fetch-stored (misses Fetch (j₀ Fetch))
-                ∙ (placed Fetch fetch₀ old-hint).1 ∙ hint-back _ _ _ ∙ ap fetchPut (sym turn) ∙ fetch-own.1,
-          )

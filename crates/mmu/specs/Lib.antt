@@ -1,4 +1,5 @@
 -- What the contracts of `mmu` cite.
+pub mod Results
 pub mod Bare
 pub mod Core
 pub mod Step

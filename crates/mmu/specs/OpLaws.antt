@@ -1,6 +1,6 @@
 -- What every operation leaves as it was, the cache that it leaves, and RAM after it.
-use Rattle.std.specs.Prelude.{◌≡◌, ℕ, ◌+◌, ◌<◌, Bool, List, [], ◌∷◌, length, ◌≢◌, slice_index}
-use Rattle.std.specs.Prelude.{refl}
+use Rattle.mmu.specs.Results.{Located}
+use Rattle.std.specs.Prelude.{◌≡◌, ℕ, ◌+◌, ◌<◌, Bool, List, [], ◌∷◌, length, ◌≢◌, slice_index, refl}
 use Rattle.std.proofs.Common.{sym}
 use Rattle.std.proofs.Math.Path.{ap}
 use Rattle.word.specs.Ram.{word_at}
@@ -17,7 +17,7 @@ use Rattle.mmu.specs.Ops.{steppedNow, fetchSteppedNow, locatedNow, translateOf, 
 use Rattle.mmu.specs.Ops.{dataPaOf}
 use Rattle.mmu.specs.Step.{translateIn, translateFetchIn}
 use Rattle.mmu.specs.Asks.{accessAsks, accessAt, placedBy, located-asks}
-use Rattle.mmu.specs.declared.{core_state.Core.Core, step.Located.Located}
+use Rattle.mmu.specs.declared.core_state.Core.{Core}
 use Rattle.operations.specs.declared.{place.Place.Place, place.Placed.Placed}
 use Rattle.operations.specs.declared.place.Placed.TheVariants.{At, Fault}
 

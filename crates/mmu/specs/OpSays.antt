@@ -1,6 +1,5 @@
 -- What an operation answers, and RAM after it, from its call, RAM before it and the answers that its translations got.
-use Rattle.std.specs.Prelude.{◌≡◌, ℕ, List}
-use Rattle.std.specs.Prelude.{refl}
+use Rattle.std.specs.Prelude.{◌≡◌, ℕ, List, refl}
 use Rattle.std.proofs.Common.{ap, ◌∙◌}
 use Rattle.word.specs.Ram.{word_at}
 use Rattle.tlb.specs.Asks.{Given, answers}

@@ -1,26 +1,24 @@
 -- The core's operations on memory: answer, core and RAM of each. Exact definitions, on the code's own types. What they
 -- mean: `OpSays`, the answers; `OpLaws`, what stays as it was; `ByteMeaning`, each byte that moves.
-use Rattle.std.specs.Prelude.{ℕ, List}
+use Rattle.mmu.specs.Results.{Stepped, Located, Translated, Accessed, Loaded, Stored, Fetched, Addressed}
+use Rattle.std.specs.Prelude.{ℕ, List, Option}
 use Rattle.word.specs.Ram.{word_at}
-use Rattle.word.specs.declared.ram.Word.{Word}
 use Rattle.tlb.specs.declared.{access.Kind.Kind, Tlb.Tlb}
 use Rattle.tlb.specs.declared.access.Kind.TheVariants.{Read, Write}
 use Rattle.mmu.specs.Core.{afterAccess, bankNow}
 use Rattle.operations.specs.Ends.{loadEnd, storeEnd, storeRamEnd, fetchEnd, reachedBy}
 use Rattle.mmu.specs.Step.{translateIn, translateFetchIn, locatedOf}
-use Rattle.mmu.specs.declared.{core_state.Core.Core, step.Stepped.Stepped, step.Located.Located}
-use Rattle.mmu.specs.declared.{ops.Translated.Translated, ops.Accessed.Accessed, ops.Loaded.Loaded}
-use Rattle.mmu.specs.declared.{ops.Stored.Stored, ops.Fetched.Fetched, ops.Addressed.Addressed}
+use Rattle.mmu.specs.declared.core_state.Core.{Core}
 use Rattle.operations.specs.declared.{ends.LoadEnd.LoadEnd, ends.StoreEnd.StoreEnd, ends.FetchEnd.FetchEnd}
 
 -- its translations: on its own registers, level and cache
-unfoldable pub steppedNow : Core → (ℕ → Word) → ℕ → Kind → Stepped
+unfoldable pub steppedNow : Core → (ℕ → Option ℕ) → ℕ → Kind → Stepped
 steppedNow c memory va kind = translateIn (bankNow c) c.privilege memory va kind c.tlb
 
-unfoldable pub fetchSteppedNow : Core → (ℕ → Word) → ℕ → Stepped
+unfoldable pub fetchSteppedNow : Core → (ℕ → Option ℕ) → ℕ → Stepped
 fetchSteppedNow c memory va = translateFetchIn (bankNow c) c.privilege memory va c.tlb
 
-unfoldable pub locatedNow : Core → (ℕ → Word) → ℕ → ℕ → Kind → Located
+unfoldable pub locatedNow : Core → (ℕ → Option ℕ) → ℕ → ℕ → Kind → Located
 locatedNow c memory va n kind = locatedOf (bankNow c) c.privilege memory va n kind c.tlb
 
 -- TRANSLATIONS change the cache only
@@ -31,13 +29,16 @@ withTlb c t = afterAccess c t c.last_pa c.abort_pa
 abbrev pub translatedBy : Core → Stepped → Translated
 translatedBy c a = record { core = withTlb c a.tlb; answer = a.answer }
 
-unfoldable pub translateOf : Core → (ℕ → Word) → ℕ → Kind → Translated
+unfoldable pub translateOf : Core → (ℕ → Option ℕ) → ℕ → Kind → Translated
 translateOf c memory va kind = translatedBy c (steppedNow c memory va kind)
+
+unfoldable pub translateFetchOf : Core → (ℕ → Option ℕ) → ℕ → Translated
+translateFetchOf c memory va = translatedBy c (fetchSteppedNow c memory va)
 
 abbrev pub accessedBy : Core → Located → Accessed
 accessedBy c a = record { core = withTlb c a.tlb; placed = a.placed }
 
-unfoldable pub translateAccessOf : Core → (ℕ → Word) → ℕ → ℕ → Kind → Accessed
+unfoldable pub translateAccessOf : Core → (ℕ → Option ℕ) → ℕ → ℕ → Kind → Accessed
 translateAccessOf c memory va n kind = accessedBy c (locatedNow c memory va n kind)
 
 -- WHERE AN ACCESS WOULD GO: a translation whose fault is told as no more than that
@@ -45,10 +46,10 @@ translateAccessOf c memory va n kind = accessedBy c (locatedNow c memory va n ki
 abbrev pub addressedBy : Core → Stepped → Addressed
 addressedBy c a = record { core = withTlb c a.tlb; answer = reachedBy a.answer }
 
-unfoldable pub fetchPaOf : Core → (ℕ → Word) → ℕ → Addressed
+unfoldable pub fetchPaOf : Core → (ℕ → Option ℕ) → ℕ → Addressed
 fetchPaOf c memory va = addressedBy c (fetchSteppedNow c memory va)
 
-unfoldable pub dataPaOf : Core → (ℕ → Word) → ℕ → Addressed
+unfoldable pub dataPaOf : Core → (ℕ → Option ℕ) → ℕ → Addressed
 dataPaOf c memory va = addressedBy c (steppedNow c memory va Read)
 
 -- LOADS AND STORES of n bytes; the tables lie in the same RAM. A13, D3: no address is misaligned, whatever SCTLR_ELx.A

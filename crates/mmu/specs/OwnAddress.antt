@@ -1,16 +1,17 @@
 -- Where each byte of an access lies, by the byte's own address: byte i of an access to va stands at the virtual address
 -- wrap (va + i), and in RAM where the translation of that address says, split or not.
-use Rattle.std.specs.Prelude.{◌≡◌, ℕ, ◌+◌, ◌-◌, ◌/◌, ◌%◌, ◌^◌, ◌<◌, ◌≤◌, Bool, true, false, List, length, ◌==◌, ◌≢◌, nat_lt}
+use Rattle.mmu.specs.Results.{Stepped}
+use Rattle.std.specs.Prelude.{◌≡◌, ℕ, ◌+◌, ◌-◌, ◌/◌, ◌%◌, ◌^◌, ◌<◌, ◌≤◌, Bool, true, false, List, length, ◌==◌, ◌≢◌, nat_lt, Option}
 use Rattle.std.proofs.Math.Path.{refl}
 use Rattle.std.proofs.Common.{sym, ap, subst, ◌∙◌, arith, ltb-true, ltb-false, lt-ltb, eq-eqb, ne_eqb}
 use Rattle.std.proofs.Math.Nat.{mod-mod}
 use Rattle.word.specs.Bits.{pick, wrap}
 use Rattle.word.specs.Ram.{word_at}
-use Rattle.word.specs.declared.ram.Word.{Word}
 use Rattle.walk.specs.Regime.{regimeOf}
-use Rattle.walk.specs.WalkBounds.{SoundWalked, walk-sound}
+use Rattle.walk.specs.WalkBounds.{SoundWalked}
+use Rattle.walk.proofs.WalkBounds.{walk-sound}
 use Rattle.tlb.specs.Live.{WellFormed}
-use Rattle.tlb.specs.Translations.{translation-follows}
+use Rattle.tlb.proofs.Translations.{translation-follows}
 use Rattle.tlb.specs.Step.{accessOf}
 use Rattle.tlb.specs.declared.{access.Kind.Kind, access.Answer.Answer, Tlb.Tlb}
 use Rattle.tlb.specs.declared.access.Answer.TheVariants.{Address, Status}
@@ -22,7 +23,7 @@ use Rattle.mmu.specs.PageLaws.{answerAt, step-page, step-offset}
 use Rattle.mmu.specs.Step.{onePage, bothPages, translateIn, locatedOf}
 use Rattle.mmu.specs.Ops.{steppedNow, locatedNow, translateOf}
 use Rattle.mmu.specs.OpLaws.{onNow}
-use Rattle.mmu.specs.declared.{core_state.Core.Core, step.Stepped.Stepped}
+use Rattle.mmu.specs.declared.core_state.Core.{Core}
 use Rattle.operations.specs.declared.place.Place.{Place}
 use Rattle.operations.specs.declared.place.Place.TheVariants.{Whole, Split}
 use Rattle.operations.specs.declared.place.Placed.TheVariants.{At, Fault}
@@ -33,7 +34,7 @@ byteVa va i = wrap (va + i)
 
 -- What the translation of that address answers: on va's own page in the core as it stands, and on the next page in the
 -- core that va's translation leaves, since an access translates them in this order.
-abbrev pub ownAnswer : Core → (ℕ → Word) → ℕ → Kind → ℕ → Answer
+abbrev pub ownAnswer : Core → (ℕ → Option ℕ) → ℕ → Kind → ℕ → Answer
 ownAnswer c memory va kind i =
     pick (byteVa va i / 4096 == va / 4096) (translateOf c memory (byteVa va i) kind).answer
     (translateOf (translateOf c memory va kind).core memory (byteVa va i) kind).answer
@@ -53,13 +54,13 @@ pub record Ready (c : Core) (base : ℕ) (ram : List ℕ) (va n : ℕ) (kind : K
 -- WHERE EACH BYTE LIES
 
 -- byte i's own translation, and that the access has the byte there; an address is 64 bits
-pub record Own (c : Core) (memory : ℕ → Word) (va : ℕ) (kind : Kind) (i : ℕ) (place : Place) : Type 0 where
+pub record Own (c : Core) (memory : ℕ → Option ℕ) (va : ℕ) (kind : Kind) (i : ℕ) (place : Place) : Type 0 where
   pub pa : ℕ
   pub answer : ownAnswer c memory va kind i ≡ Address pa
   pub there : wrap pa ≡ wrap (addressIn place i)
 
 module _ (c : Core) (base : ℕ) (ram : List ℕ) (va n : ℕ) (kind : Kind) (ready : Ready c base ram va n kind) where
-  abbrev memory : ℕ → Word
+  abbrev memory : ℕ → Option ℕ
   memory = word_at base ram 8
 
   abbrev stepIn : ℕ → Tlb → Stepped

@@ -1,6 +1,6 @@
 -- Once a page was given an address, the cache gives it again to the same level, mark and kind, whatever the tables then hold.
-use Rattle.std.specs.Prelude.{◌≡◌, ℕ, ◌+◌, ◌*◌, ◌/◌, ◌%◌, ◌<◌, Bool, true, false, ◌&&◌, ◌||◌, length, ◌==◌, bit_or, slice_set}
-use Rattle.std.specs.Prelude.{refl}
+use Rattle.mmu.specs.Results.{Stepped}
+use Rattle.std.specs.Prelude.{◌≡◌, ℕ, ◌+◌, ◌*◌, ◌/◌, ◌%◌, ◌<◌, Bool, true, false, ◌&&◌, ◌||◌, length, ◌==◌, bit_or, slice_set, Option, Ok, Err, refl}
 use Rattle.std.proofs.Math.Path.{sym, ap}
 use Rattle.std.proofs.Common.{◌∙◌, mod-lt, arith}
 use borrow.Author.Tests.{eqb-true, eq-eqb}
@@ -8,13 +8,11 @@ use Rattle.std.proofs.lemmas.List.{set-get_or}
 use Rattle.std.proofs.Math.Seq.{get_or-set_same}
 use Rattle.word.specs.Bits.{pick}
 use Rattle.word.specs.BitLaws.{both}
-use Rattle.word.specs.declared.ram.Word.{Word}
 use Rattle.fault.specs.First.{first}
 use Rattle.walk.specs.Regime.{stage1On, regimeOf}
 use Rattle.walk.specs.Tag.{untagged}
 use Rattle.walk.specs.TagLaws.{untagged-page}
-use Rattle.walk.specs.declared.{regime.Regime.Regime, regime.Bank.Bank, level.Leaf.Leaf, level.Walked.Walked}
-use Rattle.walk.specs.declared.level.Walked.TheVariants.{Mapped, Fault}
+use Rattle.walk.specs.declared.{regime.Regime.Regime, regime.Bank.Bank, level.Leaf.Leaf}
 use Rattle.tlb.specs.Access.{mayHint, tag_of, userOf, rightOf, hasRight, judged}
 use Rattle.tlb.specs.Entry.{blank, serves}
 use Rattle.tlb.specs.Hint.{noHint, page_of, onPage, place_of, dataSlot, hintKey, hintFor}
@@ -25,12 +23,13 @@ use Rattle.tlb.specs.Resolve.{queryOf, entryFor, byWalk, resolveWith}
 use Rattle.tlb.specs.Translate.{missWith, applied, translationWith, walkNow}
 use Rattle.tlb.specs.declared.{access.Kind.Kind, access.Privilege.Privilege, access.Answer.Answer, cache.Cache.Cache}
 use Rattle.tlb.specs.declared.{count.Counts.Counts, entry.Entry.Entry, entry.Current.Current, hint.Hint.Hint}
-use Rattle.tlb.specs.declared.{cells.Translation.Translation, Tlb.Tlb}
+use Rattle.tlb.specs.declared.Tlb.{Tlb}
+use Rattle.tlb.specs.Translate.{Translation}
 use Rattle.tlb.specs.declared.access.Kind.TheVariants.{Read, Write, Fetch}
 use Rattle.tlb.specs.declared.access.Answer.TheVariants.{Address, Status}
 use Rattle.mmu.specs.Step.{slot_at, translateIn}
-use Rattle.mmu.specs.declared.step.Stepped.{Stepped}
 use Rattle.mmu.specs.PageLaws.{by-hint, by-miss, by-flat, by-entry, by-walk, hits, hint-aligned, entry-aligned}
+use Rattle.walk.specs.Answers.{Walked}
 
 -- WHAT A TRANSLATION LEAVES IN ITS CELLS
 
@@ -60,7 +59,7 @@ module _ (on : Bool) (page : ℕ) (w : Walked) (r : Regime) (privilege : Privile
     unfolding translationWith applied missWith resolveWith
     entry-left o s = (rw m, rw (m, o, s))
 
-    walk-left : (leaf : Leaf) → on ≡ true → serves e at (tag_of r page) ≡ false → w ≡ Mapped leaf
+    walk-left : (leaf : Leaf) → on ≡ true → serves e at (tag_of r page) ≡ false → w ≡ Ok leaf
         → (done.hint ≡ h) × (done.entry ≡ entryFor leaf at (tag_of r page))
     unfolding translationWith applied missWith resolveWith byWalk
     walk-left leaf o s x = (rw m, rw (m, o, s, x))
@@ -140,7 +139,7 @@ module _ (s : Bank) (privilege : Privilege) (kind : Kind) where
       by-its-entry m o (rw tags at e) (rw tags at r) (rw tags at p)
   gives-page b same (by_itself m o p) = by_itself m o (rw same at p)
 
-  module _ (memory : ℕ → Word) (t : Tlb) (a : ℕ) where
+  module _ (memory : ℕ → Option ℕ) (t : Tlb) (a : ℕ) where
     abbrev step : Stepped
     step = translateIn s privilege memory a kind t
 
@@ -297,14 +296,14 @@ module _ (s : Bank) (privilege : Privilege) (kind : Kind) where
           made-entry : serves itsEntry t.cache.current (tagIn s privilege a) ≡ false → (w : Walked) → itsWalk ≡ w
               → Gives s privilege kind a pa step.tlb.cache
           unfolding translateIn byWalk
-          made-entry q (Fault code) x =
+          made-entry q (Err code) x =
               let z : Status (first code) ≡ Address pa
               = sym (ap (λ (y : Walked). (byWalk y (queryOf (regimeOf privilege.level) (pageIn s privilege a)) privilege t.cache.current a kind).answer)
               x)
               ∙ sym (walk-answer o q) ∙ sym (miss-answer (no_hit m)) ∙ goes_to in
               let n : ◌≡◌ {A = ℕ} 0 1 = cc in
               absurd (omega arith)
-          made-entry q (Mapped leaf) x =
+          made-entry q (Ok leaf) x =
               let new : Entry = entryFor leaf t.cache.current (tagIn s privilege a) in
               let cells = walk-left (isOn s privilege) (pageIn s privilege a) itsWalk (regimeOf privilege.level) privilege t.cache.current
               t.counts itsHint itsEntry a kind m leaf o q x in

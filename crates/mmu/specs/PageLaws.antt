@@ -1,16 +1,15 @@
 -- Translations go by pages: in one cache the addresses of a page get one answer but for the offset in the page, which is each address's own.
-use Rattle.std.specs.Prelude.{◌≡◌, ℕ, ◌+◌, ◌*◌, ◌/◌, ◌%◌, Bool, true, false, ◌&&◌, ◌==◌, bit_or}
+use Rattle.std.specs.Prelude.{◌≡◌, ℕ, ◌+◌, ◌*◌, ◌/◌, ◌%◌, Bool, true, false, ◌&&◌, ◌==◌, bit_or, Option, Ok, Err}
 use Rattle.std.proofs.Math.Path.{refl, ap}
 use Rattle.std.proofs.Common.{sym, ◌∙◌, arith}
 use Rattle.word.specs.Bits.{pick}
-use Rattle.word.specs.declared.ram.Word.{Word}
 use Rattle.fault.specs.First.{first}
 use Rattle.walk.specs.Regime.{stage1On, regimeOf}
 use Rattle.walk.specs.Tag.{untagged}
 use Rattle.walk.specs.TagLaws.{untagged-page}
-use Rattle.walk.specs.PageLaws.{paged, pagedLeaf, walk_of-page}
-use Rattle.walk.specs.declared.{regime.Regime.Regime, regime.Bank.Bank, level.Leaf.Leaf, level.Walked.Walked}
-use Rattle.walk.specs.declared.level.Walked.TheVariants.{Mapped, Fault}
+use Rattle.walk.specs.PageLaws.{paged, pagedLeaf}
+use Rattle.walk.proofs.PageLaws.{walk_of-page}
+use Rattle.walk.specs.declared.{regime.Regime.Regime, regime.Bank.Bank, level.Leaf.Leaf}
 use Rattle.tlb.specs.Access.{mayHint, tag_of, userOf, rightOf, hasRight, judged}
 use Rattle.tlb.specs.Entry.{blank, serves}
 use Rattle.tlb.specs.Hint.{noHint, onPage, dataSlot, hintKey}
@@ -22,9 +21,11 @@ use Rattle.tlb.specs.Resolve.{queryOf, entryFor, byWalk, resolveWith}
 use Rattle.tlb.specs.Translate.{missWith, applied, translationWith, walkNow}
 use Rattle.tlb.specs.declared.{access.Kind.Kind, access.Privilege.Privilege, access.Answer.Answer, count.Counts.Counts}
 use Rattle.tlb.specs.declared.{entry.Entry.Entry, entry.Current.Current, hint.Hint.Hint, resolve.Query.Query}
-use Rattle.tlb.specs.declared.{resolve.Resolved.Resolved, cells.Translation.Translation, Tlb.Tlb}
+use Rattle.tlb.specs.declared.{resolve.Resolved.Resolved, Tlb.Tlb}
+use Rattle.tlb.specs.Translate.{Translation}
 use Rattle.tlb.specs.declared.access.Answer.TheVariants.{Address, Status}
 use Rattle.mmu.specs.Step.{slot_at, translateIn}
+use Rattle.walk.specs.Answers.{Walked}
 
 -- an answer as another address of its page gets it
 abbrev pub answerAt : Answer → ℕ → Answer
@@ -88,14 +89,14 @@ module _ (a b : ℕ) where
   walk-page : (v w : Walked) (p q : Query) (privilege : Privilege) (at : Current) (kind : Kind) → paged v ≡ paged w → p.regime ≡ q.regime → p.tag ≡ q.tag
       → (byWalk w q privilege at b kind).answer ≡ answerAt (byWalk v p privilege at a kind).answer b
   unfolding byWalk
-  walk-page (Mapped x) (Mapped y) p q privilege at kind e er et =
+  walk-page (Ok x) (Ok y) p q privilege at kind e er et =
       let leaf : pagedLeaf x ≡ pagedLeaf y = cc in
       let same : entryFor x at p.tag ≡ entryFor y at q.tag = λ i. entry_of at (et i) (leaf i) in
       (λ i. judged (sym same i) (userOf (sym er i) privilege kind) kind b)
       ∙ judged-page (entryFor x at p.tag) (userOf p.regime privilege kind) kind (omega arith)
-  walk-page (Fault n) (Fault m) p q privilege at kind e er et = let x : n ≡ m = cc in rw x
-  walk-page (Mapped x) (Fault m) p q privilege at kind e er et = let z : ◌≡◌ {A = ℕ} 0 1 = cc in absurd (omega arith)
-  walk-page (Fault n) (Mapped y) p q privilege at kind e er et = let z : ◌≡◌ {A = ℕ} 0 1 = cc in absurd (omega arith)
+  walk-page (Err n) (Err m) p q privilege at kind e er et = let x : n ≡ m = cc in rw x
+  walk-page (Ok x) (Err m) p q privilege at kind e er et = let z : ◌≡◌ {A = ℕ} 0 1 = cc in absurd (omega arith)
+  walk-page (Err n) (Ok y) p q privilege at kind e er et = let z : ◌≡◌ {A = ℕ} 0 1 = cc in absurd (omega arith)
 
 module _ (a b pa pb : ℕ) (v w : Walked) (same : a / 4096 ≡ b / 4096) (same_tag : pa / 4096 ≡ pb / 4096) (walks : paged v ≡ paged w)
     (on : Bool) (r : Regime) (privilege : Privilege) (at : Current) (k : Counts) (h : Hint) (e : Entry) (kind : Kind)
@@ -135,7 +136,7 @@ module _ (a b pa pb : ℕ) (v w : Walked) (same : a / 4096 ≡ b / 4096) (same_t
       hint false q =
           rw (by-miss on pb w r privilege at k h e b kind q, by-miss on pa v r privilege at k h e a kind (key ∙ q)) (missed on refl)
 
-module _ (s : Bank) (privilege : Privilege) (memory : ℕ → Word) (kind : Kind) (t : Tlb) (f : WellFormed t) where
+module _ (s : Bank) (privilege : Privilege) (memory : ℕ → Option ℕ) (kind : Kind) (t : Tlb) (f : WellFormed t) where
   pub hint-aligned : (i : ℕ) → (hintAt t.cache i).pa % 4096 ≡ 0
   hint-aligned i = each-getD {P = Aligned} noHint refl f.cache.hints i
 

@@ -1,11 +1,11 @@
 -- The translations of a load or a store as their changes leave the cache that the operation's translations leave, on plain values.
-use Rattle.std.specs.Prelude.{◌≡◌, ℕ, zero, suc, ◌%◌, ◌<◌, Bool, true, false, ◌&&◌, T as Holds, List, length, get_or, set, ◌==◌, slice_index_or, slice_set}
+use Rattle.mmu.specs.Results.{Located, Stepped}
+use Rattle.std.specs.Prelude.{◌≡◌, ℕ, zero, suc, ◌%◌, ◌<◌, Bool, true, false, ◌&&◌, T as Holds, List, length, get_or, ◌==◌, slice_index_or, slice_set, Option}
 use Rattle.std.proofs.Math.Path.{refl, ap}
 use Rattle.std.proofs.Common.{sym, subst, ◌∙◌, arith, ne_eqb, eqb→eq, get_or-set_same, get_or-set_other}
 use Rattle.std.proofs.lemmas.Bool.{eqb-false}
 use Rattle.std.proofs.lemmas.List.{set-get_or}
 use Rattle.word.specs.Bits.{pick}
-use Rattle.word.specs.declared.ram.Word.{Word}
 use Rattle.walk.specs.Regime.{regimeOf, stage1On}
 use Rattle.tlb.specs.Cache.{hintAt, entry_at}
 use Rattle.tlb.specs.Entry.{blank}
@@ -18,10 +18,10 @@ use Rattle.mmu.specs.Core.{bankNow, afterAccess}
 use Rattle.mmu.specs.Ops.{steppedNow, locatedNow, translateOf, translateAccessOf}
 use Rattle.operations.specs.Place.{nextPage, crosses, goesOn, placedBoth}
 use Rattle.mmu.specs.Step.{translateIn, locatedOf, onePage, bothPages}
-use Rattle.mmu.specs.declared.{core_state.Core.Core, step.Located.Located, step.Stepped.Stepped}
+use Rattle.mmu.specs.declared.core_state.Core.{Core}
 use Rattle.operations.specs.Loads.{moreOf, oneTranslation, twoTranslations, bothOf}
 use Rattle.operations.specs.Change.{keptAs, entryPlace, answeredOf, unchanged, hintLeft, entryLeft, pageAfter, missBy, answeredBy}
-use Rattle.mmu.specs.Parts.{lookupIn, pageIn, coreWith, keptIn, commitIn}
+use Rattle.mmu.specs.Parts.{lookupIn, pageIn, coreWith, commitIn}
 use Rattle.operations.specs.Hinted.{hintPlace, hintServes}
 use Rattle.operations.specs.declared.{loads.Both.Both, change.Change.Change, change.Answered.Answered}
 use Rattle.mmu.specs.Changes.{none-changed, turn-right}
@@ -79,7 +79,7 @@ module _ (c : Core) (kind : Kind) (hs : length c.tlb.cache.hints ≡ 512) (es : 
       t.made blank (rw es lj)) in
       λ n. record { lookup = lookupIn c a kind; current = c.tlb.cache.current; hint = hint n; entry = entry n }
 
-  module _ (memory : ℕ → Word) (va n next : ℕ) (en : crosses (stage1On (bankNow c) (regimeOf c.privilege.level)) va n ≡ true → next ≡ nextPage va) where
+  module _ (memory : ℕ → Option ℕ) (va n next : ℕ) (en : crosses (stage1On (bankNow c) (regimeOf c.privilege.level)) va n ≡ true → next ≡ nextPage va) where
     -- the first page's translation, and the core that it leaves
     abbrev first : Answered
     first = answeredOf (pageIn c va kind) va kind memory
@@ -160,14 +160,8 @@ module _ (c : Core) (kind : Kind) (hs : length c.tlb.cache.hints ≡ 512) (es : 
         go true m = two-pages m
         go false m = one-page m
 
-    -- with any addresses kept
-    pub pair_is : (last abort : ℕ) → (work.placed ≡ located.placed) ×
-        (keptIn (commitIn (commitIn c work.first) work.second) last abort ≡ afterAccess c located.tlb last abort)
-    unfolding afterAccess
-    pair_is last abort = (right.0, ap (λ (t : Tlb). coreWith c t last abort) right.1)
-
-    -- with the core's own: the translations of an access
+    -- what they store is what the translations of an access leave
     pub access-is : (work.placed ≡ (translateAccessOf c memory va n kind).placed)
         × (commitIn (commitIn c work.first) work.second ≡ (translateAccessOf c memory va n kind).core)
-    unfolding translateAccessOf
-    access-is = pair_is c.last_pa c.abort_pa
+    unfolding translateAccessOf afterAccess
+    access-is = (right.0, ap (λ (t : Tlb). coreWith c t c.last_pa c.abort_pa) right.1)

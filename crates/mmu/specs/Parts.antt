@@ -1,4 +1,4 @@
--- What a translation reads of a core, and the core with its changes stored. Cited for a lent core and for one on words.
+-- What a translation reads of a core, and the core with its changes stored. Cited for a core on words.
 use Rattle.std.specs.Prelude.{ℕ, ◌%◌, List, slice_set}
 use Rattle.word.specs.Bits.{pick}
 use Rattle.tlb.specs.Cache.{hintAt, entry_at}
@@ -7,23 +7,11 @@ use Rattle.tlb.specs.declared.{access.Kind.Kind, count.Counts.Counts, entry.Entr
 use Rattle.tlb.specs.declared.{hint.Hint.Hint, Tlb.Tlb}
 use Rattle.mmu.specs.declared.core_state.Core.{Core}
 use Rattle.operations.specs.Hinted.{hintPlace}
-use Rattle.operations.specs.declared.{change.Change.Change, change.Hinted.Hinted, change.Lookup.Lookup}
-use Rattle.operations.specs.declared.change.Page.{Page}
+use Rattle.operations.specs.declared.{change.Change.Change, change.Lookup.Lookup, change.Page.Page}
 use Rattle.operations.specs.Change.{entryPlace, lookupOf, countedAs, keptAs}
 
 abbrev pub lookupIn : Core → ℕ → Kind → Lookup
 lookupIn c va kind = lookupOf c.control c.privilege va kind
-
--- what is read first
-abbrev pub hintedIn : Core → ℕ → Kind → Hinted
-hintedIn c va kind =
-    record {
-      privilege = c.privilege;
-      hint = hintAt c.tlb.cache (hintPlace va kind);
-      fetch = c.tlb.cache.fetch;
-      last_pa = c.last_pa;
-      abort_pa = c.abort_pa;
-    }
 
 -- what a page's translation reads
 abbrev pub pageIn : Core → ℕ → Kind → Page
@@ -55,10 +43,6 @@ parts_in c f k hs es last abort =
     coreWith c
     (tlbWith c.tlb (record { current = c.tlb.cache.current; fetch = f; hints = hs; entries = es }) k) last abort
 
--- the core with other addresses kept
-abbrev pub keptIn : Core → ℕ → ℕ → Core
-keptIn c last abort = coreWith c c.tlb last abort
-
 -- the core with the counters, the entry and the hints stored
 abbrev pub storedIn : Core → ℕ → ℕ → FetchHint → Counts → Hint → Entry → Core
 storedIn c i j f k h e =
@@ -66,7 +50,7 @@ storedIn c i j f k h e =
 
 abbrev pub commitAt : Core → ℕ → ℕ → Change → Core
 commitAt c i j t =
-    storedIn c i j (pick t.fetches t.fetch c.tlb.cache.fetch) (countedAs t.effect c.privilege.level c.tlb.counts)
+    storedIn c i j c.tlb.cache.fetch (countedAs t.effect c.privilege.level c.tlb.counts)
     (pick t.hints t.hint (hintAt c.tlb.cache i)) (keptAs t.effect (entry_at c.tlb.cache j) t.made)
 
 abbrev pub commitIn : Core → Change → Core

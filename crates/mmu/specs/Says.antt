@@ -7,7 +7,6 @@ use Rattle.tlb.specs.declared.access.Kind.TheVariants.{Read, Write}
 use Rattle.tlb.specs.declared.access.Answer.{Answer}
 use Rattle.tlb.specs.declared.access.Answer.TheVariants.{Address, Status}
 use Rattle.exception.specs.declared.{kind.Stop.Stop, kind.Exception.Exception}
-use Rattle.exception.specs.declared.kind.Stop.TheVariants as Stop
 use Rattle.exception.specs.declared.kind.Exception.TheVariants.{Undefined, Svc, Hvc, Smc, Brk, DataAbort, InsnAbort, PcAlignment}
 use Rattle.operations.specs.Place.{verdictOf}
 use Rattle.operations.specs.Bytes.{value_at, load_of, insnOf}
@@ -22,7 +21,6 @@ use Rattle.operations.specs.declared.place.Verdict.TheVariants.{Inside, Outside}
 use Rattle.operations.specs.declared.ends.LoadAnswer.TheVariants as Load
 use Rattle.operations.specs.declared.ends.StoreAnswer.TheVariants as Store
 use Rattle.operations.specs.declared.ends.FetchAnswer.TheVariants as Fetch
-use Rattle.operations.specs.declared.ends.Reached.TheVariants as Reached
 
 -- value: what was loaded or fetched, or where an access goes. lies: the place of an access. faults: no more is told.
 pub data Said : Type 0 where

@@ -1,9 +1,9 @@
 -- Translations as steps of a cache, on the registers, the level and the RAM of the moment. Exact definitions, on the
 -- code's own types. What they mean: `Asks`, which translations an access makes; `PageLaws`, that they go by pages;
 -- `OwnAddress`, where each byte then lies.
-use Rattle.std.specs.Prelude.{ℕ}
+use Rattle.mmu.specs.Results.{Stepped, Located}
+use Rattle.std.specs.Prelude.{ℕ, Option}
 use Rattle.word.specs.Bits.{pick}
-use Rattle.word.specs.declared.ram.Word.{Word}
 use Rattle.walk.specs.Regime.{stage1On, regimeOf}
 use Rattle.walk.specs.Tag.{untagged}
 use Rattle.walk.specs.declared.regime.Bank.{Bank}
@@ -13,7 +13,6 @@ use Rattle.tlb.specs.Step.{accessOf, translationIn, tlbAfter, fetchIn, fetchedIn
 use Rattle.tlb.specs.declared.{access.Kind.Kind, access.Privilege.Privilege, access.Answer.Answer, Tlb.Tlb}
 use Rattle.tlb.specs.declared.access.Kind.TheVariants.{Fetch}
 use Rattle.operations.specs.Place.{nextPage, crosses, goesOn, placedOne, placedBoth}
-use Rattle.mmu.specs.declared.{step.Stepped.Stepped, step.Located.Located}
 
 -- the slot of the entry that may serve an address
 abbrev pub slot_at : Bank → ℕ → ℕ → ℕ
@@ -25,7 +24,7 @@ onePage va a = record { tlb = a.tlb; placed = placedOne va a.answer }
 abbrev pub bothPages : ℕ → Answer → Stepped → Located
 bothPages va a b = record { tlb = b.tlb; placed = placedBoth va a b.answer }
 
-module _ (s : Bank) (privilege : Privilege) (memory : ℕ → Word) where
+module _ (s : Bank) (privilege : Privilege) (memory : ℕ → Option ℕ) where
   -- one translation
   unfoldable pub translateIn : ℕ → Kind → Tlb → Stepped
   translateIn va kind t =

@@ -1,11 +1,11 @@
-// The core by value.
+// The core.
 ghost use Rattle.std.specs.Prelude.{◌≡◌};
-ghost use Rattle.mmu.specs.Core.{zeros as zerosOf, freshCore, regIn, regSet, reg_of, setReg, afterAccess};
 
 use exception::flags::Flags;
 use sysreg::regs::{Control, SysRegs};
 use tlb::Tlb;
 use tlb::access::Privilege;
+use walk::regime::{Bank, Regime};
 
 #[derive(Clone, Copy)]
 pub struct Core {
@@ -22,94 +22,52 @@ pub struct Core {
     pub abort_pa: u64,
 }
 
-#[tactic(auto, unfolding(crate::specs::Bare::zeros))]
-fn zeros() -> [u64; 31]
-    ensures { result ≡ zerosOf }
-{
-    [0; 31]
-}
-
 impl Core {
+    ghost use Rattle.mmu.specs.Core.{freshCore, reg_of, setReg, bankNow};
+
     // After reset.
-    #[tactic(auto, unfolding(crate::specs::Core::freshCore))]
+    #[tactic(auto, unfolding(crate::specs::Core::freshCore, crate::specs::Bare::zeros))]
     pub fn new() -> Self
         ensures { result ≡ freshCore }
     {
-        let flags = Flags::new();
-        let x = zeros();
-        let control = Control::new();
-        let sys = SysRegs::new();
-        let tlb = tlb::new();
         Core {
             privilege: Privilege {
                 level: 3,
                 unprivileged: false,
             },
-            flags,
+            flags: Flags::new(),
             pc: 0,
-            x,
-            control,
-            sys,
-            tlb,
+            x: [0; 31],
+            control: Control::new(),
+            sys: SysRegs::new(),
+            tlb: Tlb::new(),
             last_pa: 0,
             abort_pa: 0,
         }
     }
-}
 
-fn reg_in(x: [u64; 31], n: u64) -> u64
-    ensures { result ≡ regIn x n }
-{
-    if n < 31 {
-        let i = n as usize;
-        x[i]
-    } else {
-        0
+    // A general register. Register 31 reads as zero.
+    #[tactic(auto, unfolding(crate::specs::Core::reg_of))]
+    pub fn reg(&self, n: u64) -> u64
+        ensures { result ≡ reg_of self.now n }
+    {
+        if n < 31 { self.x[n as usize] } else { 0 }
     }
-}
 
-fn reg_set(x: [u64; 31], n: u64, value: u64) -> [u64; 31]
-    ensures { result ≡ regSet x n value }
-{
-    if n < 31 {
-        let i = n as usize;
-        let mut out = x;
-        out[i] = value;
-        out
-    } else {
-        x
+    // Register 31 drops what is written.
+    #[tactic(auto, unfolding(crate::specs::Core::setReg))]
+    pub fn set_reg(&mut self, n: u64, value: u64)
+        ensures { self.new ≡ setReg self.old n value }
+    {
+        if n < 31 {
+            self.x[n as usize] = value;
+        }
     }
-}
 
-// A general register. Register 31 reads as zero.
-#[tactic(auto, unfolding(crate::specs::Core::reg_of))]
-pub fn reg(core: Core, n: u64) -> u64
-    ensures { result ≡ reg_of core n }
-{
-    let x = core.x;
-    reg_in(x, n)
-}
-
-// Register 31 drops what is written.
-#[tactic(auto, unfolding(crate::specs::Core::setReg))]
-pub fn set_reg(core: Core, n: u64, value: u64) -> Core
-    ensures { result ≡ setReg core n value }
-{
-    let before = core.x;
-    let x = reg_set(before, n, value);
-    let mut c = core;
-    c.x = x;
-    c
-}
-
-// The core with what a memory operation may change: the cache, and the physical addresses kept.
-#[tactic(auto, unfolding(crate::specs::Core::afterAccess))]
-pub fn after_access(core: Core, t: Tlb, last: u64, abort: u64) -> Core
-    ensures { result ≡ afterAccess core t last abort }
-{
-    let mut c = core;
-    c.tlb = t;
-    c.last_pa = last;
-    c.abort_pa = abort;
-    c
+    // The registers of the level's regime.
+    pub fn bank(&self) -> Bank
+        ensures { result ≡ bankNow self.now }
+    {
+        Bank::new(&self.control, Regime::of_level(self.privilege.level))
+    }
 }

@@ -1,206 +1,120 @@
-// The core's operations on memory, by value: each takes the cache and the addresses kept out of the core, and puts
-// them back.
+// The core's operations on memory.
 ghost use Rattle.std.specs.Prelude.{◌≡◌};
 ghost use Rattle.word.specs.Ram.{word_at, bytesIn};
-ghost use Rattle.mmu.specs.Ops.{steppedNow, fetchSteppedNow, locatedNow, translateOf, translateAccessOf};
+ghost use Rattle.mmu.specs.Ops.{translateOf, translateFetchOf, translateAccessOf};
 ghost use Rattle.mmu.specs.Ops.{read_of, writeOf, ramAfterWrite, fetchOf, fetchPaOf, dataPaOf};
 
 use crate::core_state::Core;
-use crate::step::{Located, Stepped};
-use crate::{core_state, step};
 use operations::ends::{FetchAnswer, LoadAnswer, Reached, StoreAnswer};
 use operations::place::Placed;
-use operations::{ends, lookup};
+use operations::{ends, lookup, place};
 use tlb::access::{Answer, Kind};
 use word::ram::Width;
 
-#[derive(Clone, Copy)]
-pub struct Translated {
-    pub core: Core,
-    pub answer: Answer,
-}
-
-#[derive(Clone, Copy)]
-pub struct Accessed {
-    pub core: Core,
-    pub placed: Placed,
-}
-
-#[derive(Clone, Copy)]
-pub struct Loaded {
-    pub core: Core,
-    pub answer: LoadAnswer,
-}
-
-#[derive(Clone, Copy)]
-pub struct Stored {
-    pub core: Core,
-    pub answer: StoreAnswer,
-}
-
-#[derive(Clone, Copy)]
-pub struct Fetched {
-    pub core: Core,
-    pub answer: FetchAnswer,
-}
-
-#[derive(Clone, Copy)]
-pub struct Addressed {
-    pub core: Core,
-    pub answer: Reached,
-}
-
-// A translation in the core's cache.
-#[tactic(auto, unfolding(crate::specs::Ops::steppedNow))]
-fn stepped(core: Core, base: u64, ram: &[u8], va: u64, kind: Kind) -> Stepped
-    ensures { result ≡ steppedNow core (word_at base ram.now 8) va kind }
-{
-    let privilege = core.privilege;
-    let control = core.control;
-    let t = core.tlb;
-    let s = lookup::bank_at(control, privilege.level);
-    step::step(t, s, privilege, base, ram, va, kind)
-}
-
-#[tactic(auto, unfolding(crate::specs::Ops::fetchSteppedNow))]
-fn fetch_stepped(core: Core, base: u64, ram: &[u8], va: u64) -> Stepped
-    ensures { result ≡ fetchSteppedNow core (word_at base ram.now 8) va }
-{
-    let privilege = core.privilege;
-    let control = core.control;
-    let t = core.tlb;
-    let s = lookup::bank_at(control, privilege.level);
-    step::fetch_step(t, s, privilege, base, ram, va)
-}
-
-#[tactic(auto, unfolding(crate::specs::Ops::locatedNow))]
-fn located(core: Core, base: u64, ram: &[u8], va: u64, width: Width, kind: Kind) -> Located
-    ensures { result ≡ locatedNow core (word_at base ram.now 8) va (bytesIn width) kind }
-{
-    let privilege = core.privilege;
-    let control = core.control;
-    let t = core.tlb;
-    let s = lookup::bank_at(control, privilege.level);
-    step::locate(t, s, privilege, base, ram, va, width, kind)
-}
-
-// Where an access of the kind to va goes. The fetch hint is neither used nor set.
-#[tactic(auto, unfolding(crate::specs::Ops::translateOf))]
-pub fn translate(core: Core, base: u64, ram: &[u8], va: u64, kind: Kind) -> Translated
-    ensures { result ≡ translateOf core (word_at base ram.now 8) va kind }
-{
-    let a = stepped(core, base, ram, va, kind);
-    let t = a.tlb;
-    let answer = a.answer;
-    let after = core_state::after_access(core, t, core.last_pa, core.abort_pa);
-    Translated {
-        core: after,
-        answer,
+impl Core {
+    // Where an access of the kind to va goes. The fetch hint is neither used nor set.
+    #[tactic(auto, unfolding(crate::specs::Ops::translateOf, crate::specs::Ops::steppedNow, crate::specs::Step::translateIn, crate::specs::Core::afterAccess))]
+    pub fn translate(&mut self, base: u64, ram: &[u8], va: u64, kind: Kind) -> Answer
+        ensures { record { core = self.new; answer = result } ≡ translateOf self.old (word_at base ram.now 8) va kind }
+    {
+        let s = self.bank();
+        let privilege = self.privilege;
+        self.tlb.translate(s, privilege, va, kind, base, ram)
     }
-}
 
-// Both pages of an access, before a byte moves.
-#[tactic(auto, unfolding(crate::specs::Ops::translateAccessOf))]
-pub fn translate_access(
-    core: Core,
-    base: u64,
-    ram: &[u8],
-    va: u64,
-    width: Width,
-    kind: Kind,
-) -> Accessed
-    ensures { result ≡ translateAccessOf core (word_at base ram.now 8) va (bytesIn width) kind }
-{
-    let a = located(core, base, ram, va, width, kind);
-    let t = a.tlb;
-    let placed = a.placed;
-    let after = core_state::after_access(core, t, core.last_pa, core.abort_pa);
-    Accessed {
-        core: after,
-        placed,
+    // The translation that a fetch begins with.
+    #[tactic(auto, unfolding(crate::specs::Ops::translateFetchOf, crate::specs::Ops::fetchSteppedNow, crate::specs::Step::translateFetchIn, crate::specs::Core::afterAccess))]
+    fn translate_fetch(&mut self, base: u64, ram: &[u8], va: u64) -> Answer
+        ensures { record { core = self.new; answer = result } ≡ translateFetchOf self.old (word_at base ram.now 8) va }
+    {
+        let s = self.bank();
+        let privilege = self.privilege;
+        self.tlb.translate_fetch(s, privilege, va, base, ram)
     }
-}
 
-// A load.
-#[tactic(auto, unfolding(crate::specs::Ops::read_of))]
-pub fn read(core: Core, base: u64, ram: &[u8], va: u64, width: Width) -> Loaded
-    ensures { result ≡ read_of core base ram.now va (bytesIn width) }
-{
-    let a = located(core, base, ram, va, width, Kind::Read);
-    let t = a.tlb;
-    let placed = a.placed;
-    let end = ends::load_end(placed, core.last_pa, core.abort_pa, base, ram, va, width);
-    let answer = end.answer;
-    let after = core_state::after_access(core, t, end.last_pa, end.abort_pa);
-    Loaded {
-        core: after,
-        answer,
+    // The translations of an access, before a byte moves: one, or two where it crosses a page. The first one's effects
+    // remain where the second faults.
+    #[tactic(auto, unfolding(crate::specs::Ops::translateAccessOf, crate::specs::Ops::locatedNow, crate::specs::Step::locatedOf, crate::specs::Step::translateIn, crate::specs::Core::afterAccess))]
+    pub fn translate_access(
+        &mut self,
+        base: u64,
+        ram: &[u8],
+        va: u64,
+        width: Width,
+        kind: Kind,
+    ) -> Placed
+        ensures { record { core = self.new; placed = result } ≡ translateAccessOf self.old (word_at base ram.now 8) va (bytesIn width) kind }
+    {
+        let s = self.bank();
+        let privilege = self.privilege;
+        let on = lookup::on_at(s, privilege.level);
+        let split = place::crosses(on, va, width.bytes());
+        let first = self.tlb.translate(s, privilege, va, kind, base, ram);
+        let more = place::goes_on(first, split);
+        if more {
+            let next = place::next_page(va);
+            let second = self.tlb.translate(s, privilege, next, kind, base, ram);
+            place::both(va, first, second)
+        } else {
+            place::one(va, first)
+        }
     }
-}
 
-// A store of the low bytes of a value.
-#[tactic(auto, unfolding(crate::specs::Ops::writeOf, crate::specs::Ops::ramAfterWrite), using(crate::proofs::Ram::len))]
-pub fn write(core: Core, base: u64, ram: &mut [u8], va: u64, width: Width, value: u64) -> Stored
-    ensures { (result ≡ writeOf core base ram.old va (bytesIn width))
-        × (ram.new ≡ ramAfterWrite core base ram.old va (bytesIn width) value) }
-{
-    let a = located(core, base, ram, va, width, Kind::Write);
-    let t = a.tlb;
-    let placed = a.placed;
-    let end = ends::store_end(placed, core.abort_pa, base, ram, va, width, value);
-    let answer = end.answer;
-    let after = core_state::after_access(core, t, core.last_pa, end.abort_pa);
-    Stored {
-        core: after,
-        answer,
+    // A load.
+    #[tactic(auto, unfolding(crate::specs::Ops::read_of, crate::specs::Ops::translateAccessOf, crate::specs::Core::afterAccess))]
+    pub fn read(&mut self, base: u64, ram: &[u8], va: u64, width: Width) -> LoadAnswer
+        ensures { record { core = self.new; answer = result } ≡ read_of self.old base ram.now va (bytesIn width) }
+    {
+        let placed = self.translate_access(base, ram, va, width, Kind::Read);
+        let end = ends::load_end(placed, self.last_pa, self.abort_pa, base, ram, va, width);
+        self.last_pa = end.last_pa;
+        self.abort_pa = end.abort_pa;
+        end.answer
     }
-}
 
-// An instruction, by the fetch hint first.
-#[tactic(auto, unfolding(crate::specs::Ops::fetchOf))]
-pub fn fetch(core: Core, base: u64, ram: &[u8], va: u64) -> Fetched
-    ensures { result ≡ fetchOf core base ram.now va }
-{
-    let a = fetch_stepped(core, base, ram, va);
-    let u = a.tlb;
-    let at = a.answer;
-    let end = ends::fetch_end(at, core.abort_pa, base, ram, va);
-    let answer = end.answer;
-    let after = core_state::after_access(core, u, core.last_pa, end.abort_pa);
-    Fetched {
-        core: after,
-        answer,
+    // A store of the low bytes of a value.
+    #[tactic(auto, unfolding(crate::specs::Ops::writeOf, crate::specs::Ops::ramAfterWrite, crate::specs::Ops::translateAccessOf, crate::specs::Core::afterAccess), using(crate::proofs::Ram::len))]
+    pub fn write(
+        &mut self,
+        base: u64,
+        ram: &mut [u8],
+        va: u64,
+        width: Width,
+        value: u64,
+    ) -> StoreAnswer
+        ensures core { record { core = self.new; answer = result } ≡ writeOf self.old base ram.old va (bytesIn width) }
+        ensures ram { ram.new ≡ ramAfterWrite self.old base ram.old va (bytesIn width) value }
+    {
+        let placed = self.translate_access(base, ram, va, width, Kind::Write);
+        let end = ends::store_end(placed, self.abort_pa, base, ram, va, width, value);
+        self.abort_pa = end.abort_pa;
+        end.answer
     }
-}
 
-// Where a fetch of va goes, by the same hint, which a new page refreshes.
-#[tactic(auto, unfolding(crate::specs::Ops::fetchPaOf))]
-pub fn fetch_pa(core: Core, base: u64, ram: &[u8], va: u64) -> Addressed
-    ensures { result ≡ fetchPaOf core (word_at base ram.now 8) va }
-{
-    let a = fetch_stepped(core, base, ram, va);
-    let t = a.tlb;
-    let at = a.answer;
-    let answer = ends::reach(at);
-    let after = core_state::after_access(core, t, core.last_pa, core.abort_pa);
-    Addressed {
-        core: after,
-        answer,
+    // An instruction, by the fetch hint first.
+    #[tactic(auto, unfolding(crate::specs::Ops::fetchOf, crate::specs::Ops::translateFetchOf, crate::specs::Core::afterAccess))]
+    pub fn fetch(&mut self, base: u64, ram: &[u8], va: u64) -> FetchAnswer
+        ensures { record { core = self.new; answer = result } ≡ fetchOf self.old base ram.now va }
+    {
+        let at = self.translate_fetch(base, ram, va);
+        let end = ends::fetch_end(at, self.abort_pa, base, ram, va);
+        self.abort_pa = end.abort_pa;
+        end.answer
     }
-}
 
-// Where a data read of va goes.
-#[tactic(auto, unfolding(crate::specs::Ops::dataPaOf))]
-pub fn data_pa(core: Core, base: u64, ram: &[u8], va: u64) -> Addressed
-    ensures { result ≡ dataPaOf core (word_at base ram.now 8) va }
-{
-    let a = stepped(core, base, ram, va, Kind::Read);
-    let t = a.tlb;
-    let at = a.answer;
-    let answer = ends::reach(at);
-    let after = core_state::after_access(core, t, core.last_pa, core.abort_pa);
-    Addressed {
-        core: after,
-        answer,
+    // Where a fetch of va goes, by the same hint, which a new page refreshes.
+    #[tactic(auto, unfolding(crate::specs::Ops::fetchPaOf, crate::specs::Ops::translateFetchOf))]
+    pub fn fetch_pa(&mut self, base: u64, ram: &[u8], va: u64) -> Reached
+        ensures { record { core = self.new; answer = result } ≡ fetchPaOf self.old (word_at base ram.now 8) va }
+    {
+        ends::reach(self.translate_fetch(base, ram, va))
+    }
+
+    // Where a data read of va goes.
+    #[tactic(auto, unfolding(crate::specs::Ops::dataPaOf, crate::specs::Ops::translateOf))]
+    pub fn data_pa(&mut self, base: u64, ram: &[u8], va: u64) -> Reached
+        ensures { record { core = self.new; answer = result } ≡ dataPaOf self.old (word_at base ram.now 8) va }
+    {
+        ends::reach(self.translate(base, ram, va, Kind::Read))
     }
 }

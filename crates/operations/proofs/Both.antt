@@ -1,10 +1,9 @@
 -- Split accesses whose two parts lie in RAM, on plain values, for `search`.
+use Rattle.std.specs.Prelude.{Some, None}
 use Rattle.std.proofs.Common.{◌≡◌, ℕ, zero, suc, ◌+◌, ◌-◌, ◌*◌, ◌/◌, ◌%◌, ◌^◌, ◌<◌, ◌≤◌, Bool, true, false, ◌&&◌, ltb, List, length, get_or, sym, refl, ap, ◌∙◌, mod-eq_of_lt, suc-add, pow-suc, zero-add, div-one, arith, take-append-drop, pow-add, shr-shr, ltb-false, ltb-true, le-ltb, lt-ltb, le-leb}
 use native.Mathlib.Nat.{pow-zero}
 use Rattle.word.specs.Bits.{pick, wrap}
 use Rattle.word.specs.Ram.{within, written, stored, bytes_of}
-use Rattle.word.specs.declared.ram.Word.{Word}
-use Rattle.word.specs.declared.ram.Word.TheVariants as Word
 use Rattle.word.specs.RamLaws.{digit-next, written_next}
 use Rattle.operations.specs.Place.{byte_at, firstOutside, verdictOf}
 use Rattle.operations.specs.Bytes.{splitValue, splitStored, load_of, storeRam}
@@ -27,10 +26,10 @@ one-within base len n pa i h e k =
 false-true : false ≡ true → ⊥
 false-true e = cc
 
-outside-value : (v : ℕ) → Word.Outside ≡ Word.Value v → ⊥
+outside-value : (v : ℕ) → None ≡ Some v → ⊥
 outside-value v e = cc
 
-value-is : (a b : ℕ) → Word.Value a ≡ Word.Value b → a ≡ b
+value-is : (a b : ℕ) → Some a ≡ Some b → a ≡ b
 value-is a b e = cc
 
 and_both : (a b : Bool) → a && b ≡ true → (a ≡ true) × (b ≡ true)
@@ -246,11 +245,11 @@ module _ (base : ℕ) (ram : List ℕ) (p : Pages) (n : ℕ) (h : length ram < 2
   all-inside : bothInside base (length ram) p n ≡ true → firstOutside base (length ram) p 0 n ≡ Inside
   all-inside t = lie-inside base (length ram) p n (both-lie base (length ram) p n h t) n 0 (omega arith)
 
-  pub both-loads : (v : ℕ) → bothAt base ram p n ≡ Word.Value v → load_of base ram (Split p) n ≡ Got.Value v
+  pub both-loads : (v : ℕ) → bothAt base ram p n ≡ Some v → load_of base ram (Split p) n ≡ Got.Value v
   unfolding bothAt
   both-loads v = go (bothInside base (length ram) p n) refl
     where
-      go : (f : Bool) → bothInside base (length ram) p n ≡ f → pick f (Word.Value (splitValue base ram p 0 n)) Word.Outside ≡ Word.Value v
+      go : (f : Bool) → bothInside base (length ram) p n ≡ f → pick f (Some (splitValue base ram p 0 n)) None ≡ Some v
           → load_of base ram (Split p) n ≡ Got.Value v
       go true ef e = sym (split-value base ram p n v Inside (sym (all-inside ef)) refl (sym (value-is _ _ e)))
       go false ef e = absurd (outside-value v e)

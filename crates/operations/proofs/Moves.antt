@@ -1,10 +1,9 @@
 -- The cases of bytes moved, on plain values, for `search`.
+use Rattle.std.specs.Prelude.{Option, Some, None}
 use Rattle.std.proofs.Common.{◌≡◌, ℕ, zero, suc, ◌+◌, ◌-◌, ◌*◌, ◌/◌, ◌^◌, ◌<◌, ◌≤◌, Bool, true, false, ◌&&◌, leb, List, length, get_or, sym, refl, ap, ◌∙◌, pow-suc, arith, leb-true}
 use native.Mathlib.Nat.{pow-le-pow_right}
 use Rattle.word.specs.Bits.{pick}
 use Rattle.word.specs.Ram.{littleEndian, within, word_at, stored}
-use Rattle.word.specs.declared.ram.Word.{Word}
-use Rattle.word.specs.declared.ram.Word.TheVariants as Word
 use Rattle.operations.specs.Place.{byte_at, firstOutside, verdictOf}
 use Rattle.operations.specs.Bytes.{byteIn, splitValue, splitStored, gotBy, load_of}
 use Rattle.operations.specs.BytesLaws.{stored-length}
@@ -76,21 +75,21 @@ module _ (n i v : ℕ) (few : n ≤ 8) (h : 0 < i) (k : i ≤ n) (l : v < 256 ^ 
 
 -- loads
 module _ (base : ℕ) (ram : List ℕ) where
-  by_value : (pa : ℕ) (f : Bool) (v x : ℕ) → pick f (Word.Value x) Word.Outside ≡ Word.Value v
+  by_value : (pa : ℕ) (f : Bool) (v x : ℕ) → pick f (Some x) None ≡ Some v
       → Value v ≡ gotBy (pick f Inside (Outside 0 pa)) x
   by_value pa true v x q = cc
   by_value pa false v x q = cc
 
-  by-none : (pa : ℕ) (f : Bool) (x : ℕ) → pick f (Word.Value x) Word.Outside ≡ Word.Outside
+  by-none : (pa : ℕ) (f : Bool) (x : ℕ) → pick f (Some x) None ≡ None
       → Abort 0 pa ≡ gotBy (pick f Inside (Outside 0 pa)) x
   by-none pa true x q = cc
   by-none pa false x q = refl
 
-  pub whole-value : (pa n : ℕ) (w : Word) (v : ℕ) → w ≡ word_at base ram n pa → w ≡ Word.Value v → Value v ≡ load_of base ram (Whole pa) n
+  pub whole-value : (pa n : ℕ) (w : Option ℕ) (v : ℕ) → w ≡ word_at base ram n pa → w ≡ Some v → Value v ≡ load_of base ram (Whole pa) n
   unfolding load_of verdictOf word_at
   whole-value pa n w v e q = by_value pa (within base (length ram) n pa) v (littleEndian ram n (pa - base)) (sym e ∙ q)
 
-  pub whole-abort : (pa n : ℕ) (w : Word) → w ≡ word_at base ram n pa → w ≡ Word.Outside → Abort 0 pa ≡ load_of base ram (Whole pa) n
+  pub whole-abort : (pa n : ℕ) (w : Option ℕ) → w ≡ word_at base ram n pa → w ≡ None → Abort 0 pa ≡ load_of base ram (Whole pa) n
   unfolding load_of verdictOf word_at
   whole-abort pa n w e q = by-none pa (within base (length ram) n pa) (littleEndian ram n (pa - base)) (sym e ∙ q)
 

@@ -1,11 +1,9 @@
 -- The code's own test of a split access: whether both of its parts lie in RAM, decided at once. Nothing here has to be
 -- believed: where it says yes, the value and RAM are those of the bytes, and where it says no, the bytes are judged one
 -- by one.
-use Rattle.std.specs.Prelude.{◌≡◌, ℕ, ◌-◌, ◌^◌, ◌<◌, Bool, true, false, ◌&&◌, List, length, nat_lt}
+use Rattle.std.specs.Prelude.{◌≡◌, ℕ, ◌-◌, ◌^◌, ◌<◌, Bool, true, false, ◌&&◌, List, length, nat_lt, Option, Some, None}
 use Rattle.word.specs.Bits.{pick}
 use Rattle.word.specs.Ram.{within}
-use Rattle.word.specs.declared.ram.Word.{Word}
-use Rattle.word.specs.declared.ram.Word.TheVariants as Word
 use Rattle.operations.specs.Place.{byte_at}
 use Rattle.operations.specs.Bytes.{splitValue, splitStored}
 use Rattle.operations.specs.declared.place.Pages.{Pages}
@@ -22,8 +20,8 @@ pub record Lie (base len : ℕ) (p : Pages) (n : ℕ) : Type 0 where
   pub each : (i : ℕ) → i < n → within base len 1 (byte_at p i) ≡ true
 
 -- the value, and RAM after a store
-unfoldable pub bothAt : ℕ → List ℕ → Pages → ℕ → Word
-bothAt base ram p n = pick (bothInside base (length ram) p n) (Word.Value (splitValue base ram p 0 n)) Word.Outside
+unfoldable pub bothAt : ℕ → List ℕ → Pages → ℕ → Option ℕ
+bothAt base ram p n = pick (bothInside base (length ram) p n) (Some (splitValue base ram p 0 n)) None
 
 unfoldable pub bothStored : ℕ → List ℕ → Pages → ℕ → ℕ → List ℕ
 bothStored base ram p n v = pick (bothInside base (length ram) p n) (splitStored base p v 0 n ram) ram

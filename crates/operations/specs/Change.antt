@@ -1,25 +1,22 @@
--- A translation as what it changes, and the core with that stored. Cited by the contracts of this crate alone.
-use Rattle.std.specs.Prelude.{◌≡◌, ℕ, zero, suc, Bool, true, false, ◌&&◌, ◌==◌, refl}
-use Rattle.std.proofs.lemmas.List.{set-get_or}
+-- A translation as what it changes. Cited by the contracts of this crate alone.
+use Rattle.std.specs.Prelude.{ℕ, zero, suc, Bool, true, false, ◌&&◌, ◌==◌, Option}
 use Rattle.word.specs.Bits.{pick}
-use Rattle.word.specs.declared.ram.Word.{Word}
 use Rattle.sysreg.specs.declared.regs.Control.{Control}
 use Rattle.walk.specs.Regime.{bankOf, regimeOf}
 use Rattle.walk.specs.declared.regime.Bank.{Bank}
 use Rattle.tlb.specs.Access.{mayHint}
-use Rattle.tlb.specs.Count.{noTally, hitTaken, walkTaken, levelPlace, tallyAt, withTally, hitCounted, walkCounted}
+use Rattle.tlb.specs.Count.{hitCounted, walkCounted}
 use Rattle.tlb.specs.Entry.{blank, slot_of}
-use Rattle.tlb.specs.Hint.{hintFor, noHint, noFetch, fetchFor, onPage}
+use Rattle.tlb.specs.Hint.{hintFor, noHint, onPage}
 use Rattle.tlb.specs.Resolve.{askOf, changesOf}
-use Rattle.tlb.specs.declared.{access.Answer.Answer, access.Kind.Kind, access.Privilege.Privilege, count.Counts.Counts, count.Tally.Tally}
+use Rattle.tlb.specs.declared.{access.Answer.Answer, access.Kind.Kind, access.Privilege.Privilege, count.Counts.Counts}
 use Rattle.tlb.specs.declared.{entry.Entry.Entry, entry.Current.Current, hint.Hint.Hint, resolve.Asked.Asked}
 use Rattle.tlb.specs.declared.{resolve.Resolved.Resolved, resolve.Source.Source}
 use Rattle.tlb.specs.declared.access.Answer.TheVariants.{Address, Status}
 use Rattle.tlb.specs.declared.resolve.Asked.TheVariants.{Flat, Of}
 use Rattle.tlb.specs.declared.resolve.Source.TheVariants.{FromHint, FromFlat, FromEntry, FromWalk, NoLeaf}
-use Rattle.operations.specs.Replies.{translation}
 use Rattle.operations.specs.Hinted.{hintPlace, hintServes}
-use Rattle.operations.specs.declared.{change.Change.Change, change.Translated.Translated, change.Lookup.Lookup}
+use Rattle.operations.specs.declared.{change.Change.Change, change.Lookup.Lookup}
 use Rattle.operations.specs.declared.{change.Page.Page, change.Answered.Answered}
 
 -- the place of the entry that is asked, any with stage 1 off
@@ -49,10 +46,6 @@ effect_of FromEntry = 1
 effect_of FromWalk = 3
 effect_of NoLeaf = 2
 
--- the pair of a level put back as it was
-own_back : (level : ℕ) (k : Counts) → withTally k (levelPlace level) (tallyAt k (levelPlace level)) ≡ k
-own_back level k = λ i. record { levels = set-get_or k.levels (levelPlace level) noTally i; flushes = k.flushes; drops = k.drops; epoch = k.epoch }
-
 -- the counters after an effect at a level
 abbrev pub countedAs : ℕ → ℕ → Counts → Counts
 countedAs zero level k = k
@@ -60,22 +53,6 @@ countedAs (suc zero) level k = hitCounted level k
 countedAs (suc (suc zero)) level k = walkCounted level k
 countedAs (suc (suc (suc zero))) level k = walkCounted level k
 countedAs (suc (suc (suc (suc n)))) level k = k
-
--- those of the level alone
-abbrev pub takenAs : ℕ → Tally → Tally
-takenAs zero t = t
-takenAs (suc zero) t = hitTaken t
-takenAs (suc (suc zero)) t = walkTaken t
-takenAs (suc (suc (suc zero))) t = walkTaken t
-takenAs (suc (suc (suc (suc n)))) t = t
-
-pub taken-counted : (n level : ℕ) (k : Counts)
-    → withTally k (levelPlace level) (takenAs n (tallyAt k (levelPlace level))) ≡ countedAs n level k
-taken-counted zero level k = own_back level k
-taken-counted (suc zero) level k = refl
-taken-counted (suc (suc zero)) level k = refl
-taken-counted (suc (suc (suc zero))) level k = refl
-taken-counted (suc (suc (suc (suc n)))) level k = own_back level k
 
 abbrev pub keptAs : ℕ → Entry → Entry → Entry
 keptAs zero old made = old
@@ -93,7 +70,7 @@ address_of (Address pa) = pa
 address_of (Status f) = 0
 
 -- the changes of what is asked
-unfoldable pub missBy : Asked → Bank → Privilege → Current → Entry → ℕ → Kind → (ℕ → Word) → Resolved
+unfoldable pub missBy : Asked → Bank → Privilege → Current → Entry → ℕ → Kind → (ℕ → Option ℕ) → Resolved
 missBy a s privilege at e va kind memory = changesOf a s privilege at e va kind memory
 
 abbrev pub changeOf : Lookup → Resolved → ℕ → Kind → Change
@@ -103,23 +80,7 @@ changeOf k t va kind =
       entry_at = k.entry;
       effect = effect_of t.source;
       hints = mayHint k.privilege kind && allowed t.answer;
-      fetches = false;
       hint = hintFor va k.privilege.level (address_of t.answer);
-      fetch = noFetch;
-      made = t.made;
-    }
-
--- what a fetch's answer changes: the fetch hint, where it was allowed
-abbrev pub fetchChangeOf : Lookup → Resolved → ℕ → Change
-fetchChangeOf k t va =
-    record {
-      hint_at = k.hint;
-      entry_at = k.entry;
-      effect = effect_of t.source;
-      hints = false;
-      fetches = allowed t.answer;
-      hint = noHint;
-      fetch = fetchFor va k.privilege.level (address_of t.answer);
       made = t.made;
     }
 
@@ -131,24 +92,15 @@ unchanged k =
       entry_at = k.entry;
       effect = 0;
       hints = false;
-      fetches = false;
       hint = noHint;
-      fetch = noFetch;
       made = blank;
     }
-
-abbrev pub translatedBy : Lookup → Resolved → ℕ → Kind → Translated
-translatedBy k t va kind = record { change = changeOf k t va kind; reply = translation va t.answer }
-
-unfoldable pub translatedOf : Page → ℕ → Kind → (ℕ → Word) → Translated
-translatedOf x va kind memory =
-    translatedBy x.lookup (missBy x.lookup.asked x.lookup.bank x.lookup.privilege x.current x.entry va kind memory) va kind
 
 -- a translation on the cells taken out: the hint first, where it may serve
 abbrev pub answeredBy : Lookup → Resolved → ℕ → Kind → Answered
 answeredBy k t va kind = record { change = changeOf k t va kind; answer = t.answer }
 
-unfoldable pub answeredOf : Page → ℕ → Kind → (ℕ → Word) → Answered
+unfoldable pub answeredOf : Page → ℕ → Kind → (ℕ → Option ℕ) → Answered
 answeredOf x va kind memory =
     pick (hintServes x.hint x.lookup.privilege va kind)
     (record { change = unchanged x.lookup; answer = Address (onPage x.hint.pa va) })

@@ -1,23 +1,22 @@
 -- Document 01's numbers 1 to 6, and document 02's.
-use Rattle.std.specs.Prelude.{ℕ, ◌+◌, ◌*◌, ◌^◌, Bool, true, false, not, ◌||◌, List, [], ◌∷◌, nat_lt}
+use Rattle.std.specs.Prelude.{ℕ, ◌+◌, ◌*◌, ◌^◌, Bool, true, false, not, ◌||◌, List, [], ◌∷◌, nat_lt, Option, Some, None}
 use Rattle.word.specs.Bits.{alignDown, pick}
 use Rattle.word.specs.Ram.{width_of}
-use Rattle.word.specs.declared.ram.Sized.{Sized}
-use Rattle.word.specs.declared.ram.Sized.TheVariants.{Bytes, Refused}
 use Rattle.sysreg.specs.Encoding.{registerAt}
 use Rattle.sysreg.specs.Write.{names}
 use Rattle.operations.specs.declared.{call.Encoding.Encoding, call.Call.Call}
 use Rattle.operations.specs.declared.call.Call.TheVariants.{Translate, DataPa, FetchPa, Load, Store, Fetch, System, Register, Level, Mark, General}
 use Rattle.operations.specs.declared.call.Call.TheVariants.{Abort, Census}
+use Rattle.word.specs.declared.ram.Width.{Width}
 
 -- base plus length is above 2^64
 abbrev pub passes : ℕ → ℕ → Bool
 passes base len = nat_lt (2 ^ 64) (base + len)
 
 -- a size of 1, 2, 4 or 8
-abbrev pub isWidth : Sized → Bool
-isWidth (Bytes w) = true
-isWidth Refused = false
+abbrev pub isWidth : Option Width → Bool
+isWidth (Some w) = true
+isWidth None = false
 
 abbrev pub known : ℕ → Bool
 known size = isWidth (width_of size)

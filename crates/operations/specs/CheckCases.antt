@@ -1,5 +1,5 @@
 -- Numbers of a census, computed; and parts of a range that is allowed are.
-use Rattle.std.specs.Prelude.{◌≡◌, ℕ, ◌+◌, ◌*◌, ◌/◌, ◌%◌, ◌^◌, ◌≤◌, Bool, true, false, ◌||◌, [], ◌∷◌, nat_lt, refl}
+use Rattle.std.specs.Prelude.{◌≡◌, ℕ, ◌+◌, ◌*◌, ◌^◌, ◌≤◌, Bool, true, false, ◌||◌, [], ◌∷◌, nat_lt, refl}
 use Rattle.std.proofs.Common.{ap, arith, le-ltb, ltb-false}
 use Rattle.word.specs.Bits.{alignDown, flag, wrap}
 use Rattle.operations.specs.Check.{overlong, missedOf}
@@ -7,7 +7,8 @@ use Rattle.operations.specs.declared.call.Call.TheVariants.{Census}
 
 -- the numbers, by level, base and length of the window, first address and pages: 1 before 2 before 7; 65,536 pages and one more; a range that ends at
 -- 2^64, by an address within its page, and one that passes it; no page at the last address
-pub numbers :
+abbrev pub WorkedNumbers : Type 0
+WorkedNumbers =
     (missedOf 4 (2 ^ 64) 1 (Census 0 65537)
     ∷ missedOf 3 (2 ^ 64) 1 (Census 0 65537)
     ∷ missedOf 3 (2 ^ 64) 0 (Census 0 65537)
@@ -19,6 +20,8 @@ pub numbers :
     ∷ missedOf 3 0 0 (Census 0xFFFFFFFFFFFFFFFF 0)
     ∷ [])
     ≡ (1 ∷ 2 ∷ 7 ∷ 0 ∷ 0 ∷ 7 ∷ 0 ∷ 7 ∷ 0 ∷ [])
+
+pub numbers : WorkedNumbers
 unfolding missedOf
 numbers = refl
 

@@ -9,8 +9,6 @@ pub mod Replies
 pub mod Hinted
 pub mod Change
 pub mod Loads
-pub mod Stores
-pub mod Fetches
 -- Laws that the crates above cite.
 pub mod PlaceLaws
 pub mod BytesLaws

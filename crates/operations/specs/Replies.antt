@@ -1,7 +1,5 @@
 -- Each operation's answer as a reply.
-use Rattle.std.specs.Prelude.{ℕ}
-use Rattle.sysreg.specs.declared.write.WriteAnswer.{WriteAnswer}
-use Rattle.sysreg.specs.declared.write.WriteAnswer.TheVariants as Written
+use Rattle.std.specs.Prelude.{ℕ, Ok, Err}
 use Rattle.tlb.specs.declared.access.Answer.{Answer}
 use Rattle.tlb.specs.declared.access.Answer.TheVariants.{Address, Status}
 use Rattle.exception.specs.declared.kind.Exception.TheVariants as Exception
@@ -13,6 +11,8 @@ use Rattle.operations.specs.declared.ends.StoreAnswer.TheVariants as Store
 use Rattle.operations.specs.declared.ends.FetchAnswer.TheVariants as Fetched
 use Rattle.operations.specs.declared.ends.Reached.TheVariants as Reach
 use Rattle.operations.specs.declared.call.Reply.TheVariants.{Refused, Done, Value, Faults, Fault, Stopped}
+use Rattle.sysreg.specs.Write.{WriteAnswer}
+use Rattle.sysreg.specs.declared.write.WriteError.TheVariants.{Undefined, NoRegister}
 
 abbrev pub translation : ℕ → Answer → Reply
 translation va (Address pa) = Value pa
@@ -35,6 +35,6 @@ reaching (Reach.At pa) = Value pa
 reaching Reach.Faults = Faults
 
 abbrev pub registering : WriteAnswer → Reply
-registering Written.Done = Done
-registering Written.Undefined = Stopped (Stop.Exception Exception.Undefined)
-registering Written.NoRegister = Refused 6
+registering (Ok x) = Done
+registering (Err Undefined) = Stopped (Stop.Exception Exception.Undefined)
+registering (Err NoRegister) = Refused 6

@@ -7,7 +7,7 @@ ghost use Rattle.operations.specs.AtOnce.{bothInside, Lie, bothAt, bothStored, p
 
 use crate::place;
 use crate::place::{Pages, Place, Verdict};
-use word::ram::{Width, Word};
+use word::ram::Width;
 use word::{bits, ram};
 
 // The value of a load, or its lowest byte outside RAM.
@@ -82,8 +82,8 @@ fn load_whole(base: u64, ram: &[u8], pa: u64, width: Width) -> Got
     ensures { result ≡ load_of base ram.now (Place.Whole pa) (bytesIn width) }
 {
     match ram::read(base, ram, width, pa) {
-        Word::Value(v) => Got::Value(v),
-        Word::Outside => Got::Abort { index: 0, pa },
+        Some(v) => Got::Value(v),
+        None => Got::Abort { index: 0, pa },
     }
 }
 
@@ -94,7 +94,7 @@ pub fn load(base: u64, ram: &[u8], place: Place, width: Width) -> Got
     match place {
         Place::Whole(pa) => load_whole(base, ram, pa, width),
         Place::Split(p) => {
-            let n = ram::bytes_in(width);
+            let n = width.bytes();
             load_split(base, ram, p, n)
         }
     }
@@ -147,7 +147,7 @@ pub fn store(base: u64, ram: &mut [u8], place: Place, width: Width, value: u64) 
     match place {
         Place::Whole(pa) => store_whole(base, ram, pa, width, value),
         Place::Split(p) => {
-            let n = ram::bytes_in(width);
+            let n = width.bytes();
             store_split(base, ram, p, n, value)
         }
     }
@@ -171,15 +171,15 @@ fn joined(base: u64, ram: &[u8], p: Pages, n: u64) -> u64
 
 // The value of a split access, where both parts lie in RAM by one test.
 #[tactic(auto, unfolding(crate::specs::AtOnce::bothAt))]
-pub fn read_both(base: u64, ram: &[u8], p: Pages, n: u64) -> Word
+pub fn read_both(base: u64, ram: &[u8], p: Pages, n: u64) -> Option<u64>
     ensures { result ≡ bothAt base ram.now p n }
 {
     let fits = place::both_inside(base, ram.len() as u64, p, n);
     if fits {
         let v = joined(base, ram, p, n);
-        Word::Value(v)
+        Some(v)
     } else {
-        Word::Outside
+        None
     }
 }
 

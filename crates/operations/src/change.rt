@@ -1,22 +1,19 @@
 // A translation as what it changes, and the cells of the page that it is made of.
 ghost use Rattle.std.specs.Prelude.{◌≡◌};
 ghost use Rattle.word.specs.Ram.{word_at};
-ghost use Rattle.operations.specs.Change.{entryPlace, lookupWith, lookupOf, effect_of, allowed, address_of, missBy};
-ghost use Rattle.operations.specs.Change.{changeOf, translatedOf, unchanged, fetchChangeOf, answeredOf};
-ghost use Rattle.operations.specs.Change.{hintLeft, entryLeft, pageAfter, takenAs};
+ghost use Rattle.operations.specs.Change.{entryPlace, lookupOf, effect_of, allowed, address_of, missBy};
+ghost use Rattle.operations.specs.Change.{changeOf, unchanged, answeredOf, hintLeft, entryLeft, pageAfter};
 ghost use Rattle.tlb.specs.Hint.{onPage};
 ghost use Rattle.tlb.specs.Resolve.{askOf};
 ghost use Rattle.tlb.specs.declared.access.Answer.TheVariants.{Address};
 
-use crate::call::Reply;
-use crate::{hinted, lookup, reply};
+use crate::{hinted, lookup};
 use sysreg::regs::Control;
 use tlb::access::{Answer, Kind, Privilege};
-use tlb::count::Tally;
 use tlb::entry::{Current, Entry};
-use tlb::hint::{FetchHint, Hint};
+use tlb::hint::Hint;
 use tlb::resolve::{Asked, Resolved, Source};
-use tlb::{access, count, hint, resolve};
+use tlb::{hint, resolve};
 use walk::regime::Bank;
 
 // Who asks, the registers of its regime, what is asked of the cache, and where the cells of the page lie.
@@ -29,16 +26,6 @@ pub struct Lookup {
     pub entry: usize,
 }
 
-// What is read first: who asks, the hints that may serve it, and the addresses kept.
-#[derive(Clone, Copy)]
-pub struct Hinted {
-    pub privilege: Privilege,
-    pub hint: Hint,
-    pub fetch: FetchHint,
-    pub last_pa: u64,
-    pub abort_pa: u64,
-}
-
 // What a page's translation reads of the core.
 #[derive(Clone, Copy)]
 pub struct Page {
@@ -49,16 +36,14 @@ pub struct Page {
 }
 
 // What a translation changes. By effect 1 a hit is counted, by 2 a walk, by 3 a walk whose entry is stored; the hint is
-// stored where hints says so, the fetch hint where fetches does.
+// stored where hints says so.
 #[derive(Clone, Copy)]
 pub struct Change {
     pub hint_at: usize,
     pub entry_at: usize,
     pub effect: u8,
     pub hints: bool,
-    pub fetches: bool,
     pub hint: Hint,
-    pub fetch: FetchHint,
     pub made: Entry,
 }
 
@@ -67,13 +52,6 @@ pub struct Change {
 pub struct Answered {
     pub change: Change,
     pub answer: Answer,
-}
-
-// What a translation changes, and its reply.
-#[derive(Clone, Copy)]
-pub struct Translated {
-    pub change: Change,
-    pub reply: Reply,
 }
 
 // The place of the entry that is asked, any with stage 1 off.
@@ -102,10 +80,11 @@ fn asked_of(s: Bank, privilege: Privilege, va: u64) -> Asked
     }
 }
 
-// Where the cells of an address lie, by the registers of its regime.
-pub fn lookup_with(bank: Bank, privilege: Privilege, va: u64, kind: Kind) -> Lookup
-    ensures { result ≡ lookupWith bank privilege va kind }
+// Where the cells of an address lie, by the registers of the level's regime.
+pub fn lookup_of(control: Control, privilege: Privilege, va: u64, kind: Kind) -> Lookup
+    ensures { result ≡ lookupOf control privilege va kind }
 {
+    let bank = lookup::bank_at(control, privilege.level);
     let asked = asked_of(bank, privilege, va);
     let hint = hinted::hint_place(va, kind);
     let entry = entry_place(asked);
@@ -118,14 +97,6 @@ pub fn lookup_with(bank: Bank, privilege: Privilege, va: u64, kind: Kind) -> Loo
     }
 }
 
-// The same by all registers that translation reads.
-pub fn lookup_of(control: Control, privilege: Privilege, va: u64, kind: Kind) -> Lookup
-    ensures { result ≡ lookupOf control privilege va kind }
-{
-    let bank = lookup::bank_at(control, privilege.level);
-    lookup_with(bank, privilege, va, kind)
-}
-
 // What an answer's source changes.
 fn effect_of(source: Source) -> u8
     ensures { result ≡ effect_of source }
@@ -136,18 +107,6 @@ fn effect_of(source: Source) -> u8
         Source::FromEntry => 1,
         Source::FromWalk => 3,
         Source::NoLeaf => 2,
-    }
-}
-
-// The counters of a level after an effect.
-pub fn taken(effect: u8, t: Tally) -> Tally
-    ensures { result ≡ takenAs effect t }
-{
-    match effect {
-        1 => count::taken_hit(t),
-        2 => count::taken_walk(t),
-        3 => count::taken_walk(t),
-        _ => t,
     }
 }
 
@@ -188,7 +147,7 @@ pub fn miss(
     let asked = k.asked;
     match asked {
         Asked::Flat => {
-            let made = tlb::entry::blank();
+            let made = Entry::blank();
             Resolved {
                 answer: Answer::Address(va),
                 source: Source::FromFlat,
@@ -203,17 +162,14 @@ pub fn miss(
 pub fn unchanged(k: Lookup) -> Change
     ensures { result ≡ unchanged k }
 {
-    let hint = hint::no_hint();
-    let fetch = hint::no_fetch();
-    let made = tlb::entry::blank();
+    let hint = Hint::none();
+    let made = Entry::blank();
     Change {
         hint_at: k.hint,
         entry_at: k.entry,
         effect: 0,
         hints: false,
-        fetches: false,
         hint,
-        fetch,
         made,
     }
 }
@@ -226,61 +182,19 @@ fn change_of(k: Lookup, t: Resolved, va: u64, kind: Kind) -> Change
     let answer = t.answer;
     let source = t.source;
     let made = t.made;
-    let may = access::may_hint(privilege, kind);
+    let may = privilege.may_hint(kind);
     let is = is_address(answer);
     let pa = address_of(answer);
-    let hint = hint::hint_for(va, privilege.level, pa);
+    let hint = Hint::new(va, privilege.level, pa);
     let effect = effect_of(source);
-    let fetch = hint::no_fetch();
     Change {
         hint_at: k.hint,
         entry_at: k.entry,
         effect,
         hints: may & is,
-        fetches: false,
         hint,
-        fetch,
         made,
     }
-}
-
-// What a fetch's answer changes.
-pub fn fetch_change_of(k: Lookup, t: Resolved, va: u64) -> Change
-    ensures { result ≡ fetchChangeOf k t va }
-{
-    let answer = t.answer;
-    let source = t.source;
-    let made = t.made;
-    let is = is_address(answer);
-    let pa = address_of(answer);
-    let effect = effect_of(source);
-    let hint = hint::no_hint();
-    let fetch = hint::fetch_for(va, k.privilege.level, pa);
-    Change {
-        hint_at: k.hint,
-        entry_at: k.entry,
-        effect,
-        hints: false,
-        fetches: is,
-        hint,
-        fetch,
-        made,
-    }
-}
-
-// A translation that no hint serves, on the cells taken out.
-#[tactic(auto, unfolding(crate::specs::Change::translatedOf))]
-pub fn translate(x: Page, va: u64, kind: Kind, base: u64, ram: &[u8]) -> Translated
-    ensures { result ≡ translatedOf x va kind (word_at base ram.now 8) }
-{
-    let k = x.lookup;
-    let at = x.current;
-    let e = x.entry;
-    let t = miss(k, at, e, va, kind, base, ram);
-    let change = change_of(k, t, va, kind);
-    let answer = t.answer;
-    let reply = reply::translated(va, answer);
-    Translated { change, reply }
 }
 
 // A translation by the hint, where it serves.

@@ -5,9 +5,7 @@ ghost use Rattle.operations.specs.declared.call.Call.TheVariants as Call;
 
 use crate::call::{Call, Encoding};
 use sysreg::encoding;
-use sysreg::encoding::Found;
-use word::ram;
-use word::ram::Sized;
+use word::ram::Width;
 
 // Whether a window of len bytes from base passes 2^64. Nearly every one ends at the last address or before it.
 pub fn past_end(base: u64, len: u64) -> bool
@@ -24,9 +22,9 @@ pub fn past_end(base: u64, len: u64) -> bool
 fn is_size(size: u64) -> bool
     ensures { result ≡ known size }
 {
-    match ram::width_of(size) {
-        Sized::Bytes(_) => true,
-        Sized::Refused => false,
+    match Width::of_size(size) {
+        Some(_) => true,
+        None => false,
     }
 }
 
@@ -35,8 +33,8 @@ fn is_key(key: u32) -> bool
     ensures { result ≡ kept key }
 {
     match encoding::named(key) {
-        Found::At(_) => true,
-        Found::Nothing => false,
+        Some(_) => true,
+        None => false,
     }
 }
 

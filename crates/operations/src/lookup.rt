@@ -1,32 +1,22 @@
 // The registers that a level's translations read.
 ghost use Rattle.std.specs.Prelude.{◌≡◌};
-ghost use Rattle.tlb.specs.Access.{regimeNumber};
 ghost use Rattle.walk.specs.Regime.{bankOf, regimeOf, stage1On};
 
 use sysreg::regs::Control;
-use walk::regime;
-use walk::regime::Bank;
+use walk::regime::{Bank, Regime};
 
 // The registers of a level's regime.
 pub fn bank_at(control: Control, level: u8) -> Bank
     ensures { result ≡ bankOf control (regimeOf level) }
 {
-    let r = regime::regime_of(level);
-    regime::bank_of(control, r)
-}
-
-// The place of a level's registers, in an array by exception level: EL0, and what is no level, has those of EL1.
-pub fn place_at(level: u8) -> usize
-    ensures { result ≡ regimeNumber (regimeOf level) }
-{
-    let other = (level == 0) | (3 < level);
-    if other { 1 } else { level as usize }
+    let r = Regime::of_level(level);
+    Bank::new(&control, r)
 }
 
 // Whether stage 1 is on at a level.
 pub fn on_at(s: Bank, level: u8) -> bool
     ensures { result ≡ stage1On s (regimeOf level) }
 {
-    let r = regime::regime_of(level);
-    regime::stage1_on(s, r)
+    let r = Regime::of_level(level);
+    s.stage1_on(r)
 }

@@ -5,7 +5,7 @@ ghost use Rattle.operations.specs.Replies.{translation, reaching, loading, stori
 use crate::call::Reply;
 use crate::ends::{FetchAnswer, LoadAnswer, Reached, StoreAnswer};
 use exception::kind::{Exception, Stop};
-use sysreg::write::WriteAnswer;
+use sysreg::write::WriteError;
 use tlb::access::Answer;
 
 pub fn translated(va: u64, answer: Answer) -> Reply
@@ -56,12 +56,12 @@ pub fn fetched(answer: FetchAnswer) -> Reply
 }
 
 // A register write.
-pub fn written(answer: WriteAnswer) -> Reply
+pub fn written(answer: Result<(), WriteError>) -> Reply
     ensures { result ≡ registering answer }
 {
     match answer {
-        WriteAnswer::Done => Reply::Done,
-        WriteAnswer::Undefined => Reply::Stopped(Stop::Exception(Exception::Undefined)),
-        WriteAnswer::NoRegister => Reply::Refused(6),
+        Ok(()) => Reply::Done,
+        Err(WriteError::Undefined) => Reply::Stopped(Stop::Exception(Exception::Undefined)),
+        Err(WriteError::NoRegister) => Reply::Refused(6),
     }
 }

@@ -1,13 +1,13 @@
 // Words of a line and of a state, read by number: 0 past the last. And a record's bytes, in their order.
 use word::ram;
-use word::ram::{Width, Word};
+use word::ram::Width;
 use words::place::{State, WORDS};
 
 // Word i of a line's bytes.
 pub fn word_of(buf: &[u8], i: u64) -> u64 {
     match ram::read(0, buf, Width::Double, i % 64 * 8) {
-        Word::Value(v) => v,
-        Word::Outside => 0,
+        Some(v) => v,
+        None => 0,
     }
 }
 

@@ -1,13 +1,13 @@
 -- The leaf of a fresh answer is of level 3 at most.
+use Rattle.std.specs.Prelude.{Option, Ok}
 use Rattle.std.proofs.Common.{◌≡◌, ℕ, ◌≤◌}
-use Rattle.word.specs.declared.ram.Word.{Word}
 use Rattle.walk.specs.Fresh.{fresh_of}
-use Rattle.walk.specs.FreshLaws.{fresh-leaf}
+use Rattle.walk.proofs.FreshLaws.{fresh-leaf}
 use Rattle.walk.specs.declared.{regime.Bank.Bank, regime.Regime.Regime, level.Leaf.Leaf}
-use Rattle.walk.specs.declared.{level.Walked.Walked, fresh.Fresh.Fresh}
-use Rattle.walk.specs.declared.level.Walked.TheVariants.{Mapped}
+use Rattle.walk.specs.declared.fresh.Fresh.{Fresh}
 use Rattle.walk.specs.declared.fresh.Fresh.TheVariants.{Ended}
+use Rattle.walk.specs.Answers.{Walked}
 
-pub low_leaf : (s : Bank) (r : Regime) (va : ℕ) (memory : ℕ → Word) (x : Fresh) (w : Walked)
-    (leaf : Leaf) → x ≡ fresh_of s r va memory → x ≡ Ended w → w ≡ Mapped leaf → leaf.level ≤ 3
+pub low_leaf : (s : Bank) (r : Regime) (va : ℕ) (memory : ℕ → Option ℕ) (x : Fresh) (w : Walked)
+    (leaf : Leaf) → x ≡ fresh_of s r va memory → x ≡ Ended w → w ≡ Ok leaf → leaf.level ≤ 3
 low_leaf s r va memory x w leaf ex ew m = (fresh-leaf s r va memory x w leaf ex ew m).level-high

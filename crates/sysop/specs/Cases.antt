@@ -37,7 +37,10 @@ parAfter Undefined = 0
 parAfter Unimplemented = 0
 
 -- AT S1E1R and AT S1E0R
-pub cases : (parAfter (decodeOf 1 0 7 8 0) ∷ parAfter (decodeOf 1 0 7 8 2) ∷ []) ≡ (0x80001800 ∷ 0x81B ∷ [])
+abbrev pub WorkedAt : Type 0
+WorkedAt = (parAfter (decodeOf 1 0 7 8 0) ∷ parAfter (decodeOf 1 0 7 8 2) ∷ []) ≡ (0x80001800 ∷ 0x81B ∷ [])
+
+pub cases : WorkedAt
 unfolding parAfter registers decodeOf named atPar parIn fresh_of leafPar success abort walk_of tableWalk walkRange walkFrom lookupNext levelNext leafResult
     leafTranslation leafPermissions tableNext descaddr range_of params_of paSize untagged word_at littleEndian bytes_of
 cases = refl

@@ -1,22 +1,21 @@
 -- PAR_EL1 after an AT, its two formats by field name (DDI 0487, D17.2, from knowledge of ARMv8.0: the document itself
 -- was not at hand). A1, D1 and the like are rows of docs/DIFFERENCES.md.
-use Rattle.std.specs.Prelude.{Bool, true, false, not, ◌||◌, ℕ, ◌+◌, ◌*◌, ◌^◌}
+use Rattle.std.specs.Prelude.{Bool, true, false, not, ◌||◌, ℕ, ◌+◌, ◌*◌, ◌^◌, Option, Ok, Err}
 use Rattle.word.specs.Bits.{field, flag, pick}
-use Rattle.word.specs.declared.ram.Word.{Word}
 use Rattle.sysreg.specs.declared.regs.Control.{Control}
 use Rattle.walk.specs.Regime.{bankOf, nonSecure, singlePriv, wxnOf}
 use Rattle.walk.specs.Descriptor.{attrIndx, ns, sh}
 use Rattle.walk.specs.Table.{Translation, Result, mapped, faults, statusOf}
 use Rattle.walk.specs.Permission.{Access, reading, writing, allowed}
 use Rattle.walk.specs.Fresh.{fresh_of}
-use Rattle.walk.specs.declared.{regime.Regime.Regime, regime.Bank.Bank, level.Leaf.Leaf, level.Walked.Walked, fresh.Fresh.Fresh}
+use Rattle.walk.specs.declared.{regime.Regime.Regime, regime.Bank.Bank, level.Leaf.Leaf, fresh.Fresh.Fresh}
 use Rattle.walk.specs.declared.regime.Regime.TheVariants.{El1, El2, El3}
-use Rattle.walk.specs.declared.level.Walked.TheVariants.{Mapped, Fault}
 use Rattle.walk.specs.declared.fresh.Fresh.TheVariants.{Flat, Ended}
 use Rattle.tlb.specs.Access.{rightOf, hasRight}
 use Rattle.tlb.specs.declared.access.Kind.{Kind}
 use Rattle.tlb.specs.declared.access.Kind.TheVariants.{Read, Write}
 use Rattle.sysop.specs.declared.op.AtForm.{AtForm}
+use Rattle.walk.specs.Answers.{Walked}
 
 -- F is 0: ATTR<63:56>, PA<47:12>, bit 11 RES1, NS<9>, SH<8:7>
 pub record Translated : Type 0 where
@@ -76,8 +75,8 @@ unfoldable pub leafPar : ℕ → Bool → AtForm → Leaf → ℕ
 leafPar mair nonsecure f leaf = pick (permits f leaf) (leafFound mair nonsecure leaf) (abort (12 + leaf.level))
 
 abbrev pub walkPar : ℕ → Bool → AtForm → Walked → ℕ
-walkPar mair nonsecure f (Mapped leaf) = leafPar mair nonsecure f leaf
-walkPar mair nonsecure f (Fault status) = abort status
+walkPar mair nonsecure f (Ok leaf) = leafPar mair nonsecure f leaf
+walkPar mair nonsecure f (Err status) = abort status
 
 -- With stage 1 off PA is the address. D1: SH is 0, and not 0b10. A5: ATTR is 0 under HCR_EL2.DC too.
 abbrev pub freshPar : ℕ → Bool → AtForm → Fresh → ℕ
@@ -85,11 +84,11 @@ freshPar mair nonsecure f (Ended w) = walkPar mair nonsecure f w
 freshPar mair nonsecure f (Flat pa) = success 0 pa nonsecure 0
 
 -- by the fresh answer of the form's regime
-unfoldable pub parIn : Bank → ℕ → AtForm → ℕ → (ℕ → Word) → ℕ
+unfoldable pub parIn : Bank → ℕ → AtForm → ℕ → (ℕ → Option ℕ) → ℕ
 parIn s mair f va memory = freshPar mair (fromNonSecure s f.regime) f (fresh_of s f.regime va memory)
 
 -- the registers of the form's regime
-unfoldable pub atPar : Control → ℕ → AtForm → ℕ → (ℕ → Word) → ℕ
+unfoldable pub atPar : Control → ℕ → AtForm → ℕ → (ℕ → Option ℕ) → ℕ
 atPar c mair f va memory = parIn (bankOf c f.regime) mair f va memory
 
 -- PAR_EL1 by the manual's own walk and permission check, AArch64.TranslationTableWalk and AArch64.CheckPermission:

@@ -1,9 +1,8 @@
 -- Laws of PAR_EL1 after an AT.
-use Rattle.std.specs.Prelude.{◌≡◌, Bool, true, false, not, ◌&&◌, ◌||◌, ℕ, ◌+◌, ◌*◌, ◌/◌, ◌%◌, ◌^◌, ◌≤◌, ◌<◌}
+use Rattle.std.specs.Prelude.{◌≡◌, Bool, true, false, not, ◌&&◌, ◌||◌, ℕ, ◌+◌, ◌*◌, ◌/◌, ◌%◌, ◌^◌, ◌≤◌, ◌<◌, Option, Ok, Err}
 use Rattle.std.proofs.Math.Path.{refl, ap}
 use Rattle.std.proofs.Common.{◌∙◌, arith}
 use Rattle.word.specs.Bits.{bitOn, bit0, field, pick}
-use Rattle.word.specs.declared.ram.Word.{Word}
 use Rattle.sysreg.specs.declared.regs.Control.{Control}
 use Rattle.walk.specs.Regime.{bankOf, singlePriv, wxnOf, stage1On}
 use Rattle.walk.specs.Tag.{untagged}
@@ -13,23 +12,24 @@ use Rattle.walk.specs.Permission.{permissionByte}
 use Rattle.walk.specs.PermissionLaws.{kindBit, firstBit, permission-bit}
 use Rattle.walk.specs.Walk.{leafOf, walkedOf, walk_of}
 use Rattle.walk.specs.Fresh.{fresh_of}
-use Rattle.walk.specs.WalkBounds.{SoundWalked, walk-sound, status-small}
-use Rattle.walk.specs.declared.{regime.Bank.Bank, level.Walked.Walked}
-use Rattle.walk.specs.declared.level.Walked.TheVariants.{Mapped, Fault}
+use Rattle.walk.specs.WalkBounds.{SoundWalked, status-small}
+use Rattle.walk.proofs.WalkBounds.{walk-sound}
+use Rattle.walk.specs.declared.regime.Bank.{Bank}
 use Rattle.walk.specs.declared.fresh.Fresh.TheVariants.{Flat, Ended}
 use Rattle.tlb.specs.Access.{rightOf}
 use Rattle.sysop.specs.declared.op.AtForm.{AtForm}
 use Rattle.sysop.specs.Par.{success, abort, mairAttr, fromNonSecure, kind_of, permits, leafFound, leafPar, walkPar, freshPar}
 use Rattle.sysop.specs.Par.{parIn, atPar, accessOf, checked, resultPar}
+use Rattle.walk.specs.Answers.{Walked}
 
 -- the walk that an AT makes
-abbrev pub atWalk : Control → AtForm → ℕ → (ℕ → Word) → Walked
+abbrev pub atWalk : Control → AtForm → ℕ → (ℕ → Option ℕ) → Walked
 atWalk c f va memory = walk_of (bankOf c f.regime) f.regime (untagged (bankOf c f.regime).tcr f.regime va) memory
 
 -- it ends in a leaf that has the right asked for
 abbrev pub granted : AtForm → Walked → Bool
-granted f (Mapped leaf) = permits f leaf
-granted f (Fault status) = false
+granted f (Ok leaf) = permits f leaf
+granted f (Err status) = false
 
 -- PAR_EL1.F
 sum-f : (a b n s : ℕ) → (a * 2 ^ 56 + b * 2 ^ 12 + 2 ^ 11 + n * 2 ^ 9 + s * 2 ^ 7) % 2 ≡ 0
@@ -46,15 +46,15 @@ abort-f status = let e : (2 ^ 11 + 0 + 0 + status * 2 ^ 1 + 1) % 2 ≡ 1 = omega
 
 walk-f : (mair : ℕ) (n : Bool) (f : AtForm) (w : Walked) → bit0 (walkPar mair n f w) ≡ not (granted f w)
 unfolding leafPar
-walk-f mair n f (Fault status) = abort-f status
-walk-f mair n f (Mapped leaf) = go (permits f leaf)
+walk-f mair n f (Err status) = abort-f status
+walk-f mair n f (Ok leaf) = go (permits f leaf)
   where
     go : (b : Bool) → bit0 (pick b (leafFound mair n leaf) (abort (12 + leaf.level))) ≡ not b
     go true = success-f (mairAttr mair (attrIndx leaf.desc)) leaf.oa (n || ns leaf.desc) (sh leaf.desc)
     go false = abort-f (12 + leaf.level)
 
 -- what holds of the flat PAR and of each walk's holds of every PAR
-by-stage : (P : Bool → ℕ → Type 0) (c : Control) (mair : ℕ) (f : AtForm) (va : ℕ) (memory : ℕ → Word)
+by-stage : (P : Bool → ℕ → Type 0) (c : Control) (mair : ℕ) (f : AtForm) (va : ℕ) (memory : ℕ → Option ℕ)
     → ((n : Bool) → P true (walkPar mair n f (atWalk c f va memory))) → ((n : Bool) → P false (success 0 va n 0))
     → P (stage1On (bankOf c f.regime) f.regime) (atPar c mair f va memory)
 unfolding atPar parIn fresh_of
@@ -68,7 +68,7 @@ by-stage P c mair f va memory on off = go (stage1On (bankOf c f.regime) f.regime
     go false = off nonsecure
 
 -- F is set exactly where stage 1 is on and the walk faults or the permission is absent
-pub par-f : (c : Control) (mair : ℕ) (f : AtForm) (va : ℕ) (memory : ℕ → Word)
+pub par-f : (c : Control) (mair : ℕ) (f : AtForm) (va : ℕ) (memory : ℕ → Option ℕ)
     → bit0 (atPar c mair f va memory) ≡ (stage1On (bankOf c f.regime) f.regime && not (granted f (atWalk c f va memory)))
 par-f c mair f va memory =
     by-stage (λ b p. bit0 p ≡ (b && not (granted f (atWalk c f va memory)))) c mair f va memory (λ n. walk-f mair n f (atWalk c f va memory))
@@ -117,22 +117,22 @@ abort-small status h = omega arith
 
 walk-small : (mair : ℕ) (n : Bool) (f : AtForm) (va : ℕ) (w : Walked) → SoundWalked va w → walkPar mair n f w < 2 ^ 64
 unfolding leafPar
-walk-small mair n f va (Fault status) h = abort-small status (status-small status h)
-walk-small mair n f va (Mapped leaf) h = go (permits f leaf)
+walk-small mair n f va (Err status) h = abort-small status (status-small status h)
+walk-small mair n f va (Ok leaf) h = go (permits f leaf)
   where
     go : (b : Bool) → pick b (leafFound mair n leaf) (abort (12 + leaf.level)) < 2 ^ 64
     go true =
         success-small (mairAttr mair (attrIndx leaf.desc)) leaf.oa (n || ns leaf.desc) (sh leaf.desc) (omega arith) (omega arith)
     go false = let k = h.0.level-high in abort-small (12 + leaf.level) (omega arith)
 
-pub par-small : (c : Control) (mair : ℕ) (f : AtForm) (va : ℕ) (memory : ℕ → Word) → atPar c mair f va memory < 2 ^ 64
+pub par-small : (c : Control) (mair : ℕ) (f : AtForm) (va : ℕ) (memory : ℕ → Option ℕ) → atPar c mair f va memory < 2 ^ 64
 par-small c mair f va memory =
     by-stage (λ b p. p < 2 ^ 64) c mair f va memory
     (λ n. walk-small mair n f _ (atWalk c f va memory) (walk-sound (bankOf c f.regime) f.regime _ memory))
     (λ n. success-small 0 va n 0 (omega arith) (omega arith))
 
 -- an AT reads RAM by its walk alone
-pub by-walk : (c : Control) (mair : ℕ) (f : AtForm) (va : ℕ) (m n : ℕ → Word) → atWalk c f va m ≡ atWalk c f va n
+pub by-walk : (c : Control) (mair : ℕ) (f : AtForm) (va : ℕ) (m n : ℕ → Option ℕ) → atWalk c f va m ≡ atWalk c f va n
     → atPar c mair f va m ≡ atPar c mair f va n
 unfolding atPar parIn fresh_of
 by-walk c mair f va m n e = rw e
@@ -150,7 +150,7 @@ module _ (s : Bank) (f : AtForm) where
       ap (λ (n : ℕ). bitOn (permissionByte (singlePriv f.regime) (wxnOf s) t.perms) n) (bits f.write f.user)
       ∙ permission-bit (singlePriv f.regime) (wxnOf s) t.perms (not f.user) (accessOf f.write)
 
-  pub manual-par : (mair : ℕ) (n : Bool) (va : ℕ) (memory : ℕ → Word)
+  pub manual-par : (mair : ℕ) (n : Bool) (va : ℕ) (memory : ℕ → Option ℕ)
       → walkPar mair n f (walk_of s f.regime va memory) ≡ resultPar s f mair n (tableWalk s f.regime va memory)
   unfolding walk_of leafPar resultPar
   manual-par mair n va memory = go (tableWalk s f.regime va memory)

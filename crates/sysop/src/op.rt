@@ -24,6 +24,15 @@ pub enum SysOp {
     Unimplemented,
 }
 
+// The fields of a SYS encoding that say which operation it is, each as the instruction holds it.
+#[derive(Clone, Copy)]
+pub struct Encoding {
+    pub op1: u64,
+    pub crn: u64,
+    pub crm: u64,
+    pub op2: u64,
+}
+
 // What a level lacks.
 fn refusal(level: u8) -> SysOp
     ensures { result ≡ refusalOf level }
@@ -35,11 +44,12 @@ fn refusal(level: u8) -> SysOp
     }
 }
 
-// What SYS op1, CRn, CRm, op2 is at a level.
+// What SYS op1, CRn, CRm, op2 is at an exception level: Undefined or Unimplemented where the level has no such operation.
 #[tactic(auto, unfolding(crate::specs::Op::decodeOf, crate::specs::Op::named))]
-pub fn decode(level: u8, op1: u64, crn: u64, crm: u64, op2: u64) -> SysOp
-    ensures { result ≡ decodeOf level op1 crn crm op2 }
+pub fn decode(level: u8, at: Encoding) -> SysOp
+    ensures { result ≡ decodeOf level at.op1 at.crn at.crm at.op2 }
 {
+    let Encoding { op1, crn, crm, op2 } = at;
     // AT: bit 0 of op2 is set for a write, bit 1 for EL0's rights.
     let write = op2 % 2 == 1;
     let user = (op2 >> 1) % 2 == 1;

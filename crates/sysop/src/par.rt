@@ -8,10 +8,10 @@ use crate::op::AtForm;
 use sysreg::regs::Control;
 use tlb::access;
 use tlb::access::Kind;
+use walk::fresh;
 use walk::fresh::Fresh;
-use walk::level::{Leaf, Walked};
+use walk::level::Leaf;
 use walk::regime::{Bank, Regime};
-use walk::{fresh, regime};
 
 fn kind_of(write: bool) -> Kind
     ensures { result ≡ kind_of write }
@@ -23,12 +23,7 @@ fn kind_of(write: bool) -> Kind
 fn from_non_secure(s: Bank, regime: Regime) -> bool
     ensures { result ≡ fromNonSecure s regime }
 {
-    let ns = s.scr_el3 % 2 == 1;
-    match regime {
-        Regime::El1 => ns,
-        Regime::El2 => ns,
-        Regime::El3 => false,
-    }
+    regime != Regime::El3 && s.scr_el3 % 2 == 1
 }
 
 // NS stands at bit 9.
@@ -55,8 +50,7 @@ fn success_par(attr: u64, pa: u64, ns: bool, sh: u64) -> u64
     ensures { result ≡ success attr pa ns sh }
 {
     let page = (pa >> 12) % 0x10_0000_0000;
-    let bit = ns_bit(ns);
-    attr * 0x100_0000_0000_0000 + page * 0x1000 + 0x800 + bit + sh * 0x80
+    attr * 0x100_0000_0000_0000 + page * 0x1000 + 0x800 + ns_bit(ns) + sh * 0x80
 }
 
 // The format of one that faults.
@@ -64,7 +58,7 @@ fn success_par(attr: u64, pa: u64, ns: bool, sh: u64) -> u64
 fn fault_par(status: u8) -> u64
     ensures { result ≡ abort status }
 {
-    0x801 + (status as u64) * 2
+    0x801 + u64::from(status) * 2
 }
 
 // A leaf: its page and attributes, or a permission fault of its level.
@@ -73,17 +67,13 @@ fn leaf_par(mair: u64, ns: bool, form: AtForm, leaf: Leaf) -> u64
     requires { leaf.level ≤ 3 }
     ensures { result ≡ leafPar mair ns form leaf }
 {
-    let kind = kind_of(form.write);
-    let right = access::right_of(kind, form.user);
-    let allowed = (leaf.perms >> right) % 2 == 1;
-    if allowed {
-        let attr = mair_attr(mair, (leaf.desc >> 2) % 8);
-        let from = ns | ((leaf.desc >> 5) % 2 == 1);
-        let sh = (leaf.desc >> 8) % 4;
-        success_par(attr, leaf.oa, from, sh)
-    } else {
-        fault_par(12 + leaf.level)
+    let right = access::right_of(kind_of(form.write), form.user);
+    if (leaf.perms >> right) % 2 == 0 {
+        return fault_par(12 + leaf.level);
     }
+    let attr = mair_attr(mair, (leaf.desc >> 2) % 8);
+    let ns = ns || (leaf.desc >> 5) % 2 == 1;
+    success_par(attr, leaf.oa, ns, (leaf.desc >> 8) % 4)
 }
 
 // PAR by the registers of the form's regime.
@@ -94,10 +84,8 @@ pub fn par_in(s: Bank, mair: u64, form: AtForm, va: u64, base: u64, ram: &[u8]) 
     let regime = form.regime;
     let ns = from_non_secure(s, regime);
     match fresh::fresh_of(s, regime, va, base, ram) {
-        Fresh::Ended(end) => match end {
-            Walked::Mapped(leaf) => leaf_par(mair, ns, form, leaf),
-            Walked::Fault(status) => fault_par(status),
-        },
+        Fresh::Ended(Ok(leaf)) => leaf_par(mair, ns, form, leaf),
+        Fresh::Ended(Err(status)) => fault_par(status),
         Fresh::Flat(pa) => success_par(0, pa, ns, 0),
     }
 }
@@ -107,7 +95,5 @@ pub fn par_in(s: Bank, mair: u64, form: AtForm, va: u64, base: u64, ram: &[u8]) 
 pub fn at_par(control: Control, mair: u64, form: AtForm, va: u64, base: u64, ram: &[u8]) -> u64
     ensures { result ≡ atPar control mair form va (word_at base ram.now 8) }
 {
-    let regime = form.regime;
-    let s = regime::bank_of(control, regime);
-    par_in(s, mair, form, va, base, ram)
+    par_in(Bank::new(&control, form.regime), mair, form, va, base, ram)
 }

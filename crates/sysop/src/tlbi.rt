@@ -4,8 +4,7 @@ ghost use Rattle.sysop.specs.Tlbi.{ranged, asidForm, pages4k, whatOf, tlbiOf, re
 
 use sysreg::regs::Control;
 use tlb::Inval;
-use walk::regime;
-use walk::regime::Regime;
+use walk::regime::{Bank, Regime};
 
 // Whether every range of the regime has pages of 4 KiB; tcr is the regime's own.
 fn pages_4k(tcr: u64, regime: Regime) -> bool
@@ -13,9 +12,8 @@ fn pages_4k(tcr: u64, regime: Regime) -> bool
 {
     let tg0 = (tcr >> 14) % 4 == 0;
     match regime {
-        Regime::El1 => tg0 & ((tcr >> 30) % 4 == 2),
-        Regime::El2 => tg0,
-        Regime::El3 => tg0,
+        Regime::El1 => tg0 && (tcr >> 30) % 4 == 2,
+        Regime::El2 | Regime::El3 => tg0,
     }
 }
 
@@ -24,9 +22,11 @@ fn pages_4k(tcr: u64, regime: Regime) -> bool
 fn page(control: Control, regime: Regime, x: u64) -> Inval
     ensures { result ≡ whatOf control x (ranged regime) }
 {
-    let s = regime::bank_of(control, regime);
-    let small = pages_4k(s.tcr, regime);
-    if small { Inval::Page(x) } else { Inval::All }
+    if pages_4k(Bank::new(&control, regime).tcr, regime) {
+        Inval::Page(x)
+    } else {
+        Inval::All
+    }
 }
 
 // By ASID: 16 or 8 bits, by TCR_EL1.AS.
@@ -35,45 +35,8 @@ fn asid(control: Control, x: u64) -> Inval
     ensures { result ≡ whatOf control x asidForm }
 {
     let wide = (control.tcr[1] >> 36) % 2 == 1;
-    if wide {
-        Inval::Asid(((x >> 48) % 0x1_0000) as u16)
-    } else {
-        Inval::Asid(((x >> 48) % 0x100) as u16)
-    }
-}
-
-// op1 0, CRm 3 or 7.
-#[tactic(auto, unfolding(crate::specs::Tlbi::tlbiOf, crate::specs::Tlbi::scope_of, crate::specs::Tlbi::whatOf))]
-fn el1_entries(control: Control, op2: u64, x: u64) -> Inval
-    ensures { result ≡ tlbiOf control 0 7 op2 x }
-{
-    match op2 {
-        1 | 3 | 5 | 7 => page(control, Regime::El1, x),
-        2 => asid(control, x),
-        _ => Inval::All,
-    }
-}
-
-// op1 4, CRm 3 or 7.
-#[tactic(auto, unfolding(crate::specs::Tlbi::tlbiOf, crate::specs::Tlbi::scope_of, crate::specs::Tlbi::whatOf))]
-fn el2_entries(control: Control, op2: u64, x: u64) -> Inval
-    ensures { result ≡ tlbiOf control 4 7 op2 x }
-{
-    match op2 {
-        1 | 5 => page(control, Regime::El2, x),
-        _ => Inval::All,
-    }
-}
-
-// op1 6, CRm 3 or 7.
-#[tactic(auto, unfolding(crate::specs::Tlbi::tlbiOf, crate::specs::Tlbi::scope_of, crate::specs::Tlbi::whatOf))]
-fn el3_entries(control: Control, op2: u64, x: u64) -> Inval
-    ensures { result ≡ tlbiOf control 6 7 op2 x }
-{
-    match op2 {
-        1 | 5 => page(control, Regime::El3, x),
-        _ => Inval::All,
-    }
+    let asid = (x >> 48) as u16;
+    Inval::Asid(if wide { asid } else { asid % 0x100 })
 }
 
 // What TLBI op1, CRm, op2 with the operand x invalidates.
@@ -81,19 +44,11 @@ fn el3_entries(control: Control, op2: u64, x: u64) -> Inval
 pub fn tlbi(control: Control, op1: u64, crm: u64, op2: u64, x: u64) -> Inval
     ensures { result ≡ tlbiOf control op1 crm op2 x }
 {
-    match op1 {
-        0 => match crm {
-            3 | 7 => el1_entries(control, op2, x),
-            _ => Inval::All,
-        },
-        4 => match crm {
-            3 | 7 => el2_entries(control, op2, x),
-            _ => Inval::All,
-        },
-        6 => match crm {
-            3 | 7 => el3_entries(control, op2, x),
-            _ => Inval::All,
-        },
+    match (op1, crm, op2) {
+        (0, 3 | 7, 1 | 3 | 5 | 7) => page(control, Regime::El1, x),
+        (0, 3 | 7, 2) => asid(control, x),
+        (4, 3 | 7, 1 | 5) => page(control, Regime::El2, x),
+        (6, 3 | 7, 1 | 5) => page(control, Regime::El3, x),
         _ => Inval::All,
     }
 }

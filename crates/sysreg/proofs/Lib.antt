@@ -1,4 +1,3 @@
 -- What the proofs share.
-pub mod Finds
 pub mod Masks
 pub mod Stores

@@ -2,9 +2,8 @@
 use mathlib.Core.Path.{◌≡◌, refl, sym, ap, ap₂, ◌∙◌}
 use Prim.Native.Nat.{ℕ, ◌+◌, ◌-◌, ◌*◌, ◌/◌, ◌%◌, ◌^◌, ◌<◌}
 use native.Mathlib.Nat.{add_assoc, mod-eq_of_lt, mod-lt, lt_of_le_of_lt}
-use lib.Bits.{bit_and, and_mask, and_high, and_shr, and_mod, and_le_r}
-use lib.Pow.{split, shr_mod, pow_pos}
-use Rattle.word.specs.Bits.{alignDown}
+use lib.Bits.{bit_and, and_mask, and_shr, and_mod, and_le_r}
+use lib.Pow.{split, pow_pos}
 use Rattle.sysreg.specs.Write.{inPlace, spsrKept}
 
 -- a mask in two parts, from bit k up and below it
@@ -31,10 +30,4 @@ spsr_mask v =
     rw (run v 0xF03F_03DF 28 4 refl, run v 0x3F_03DF 21 1 refl, run v 0x1F_03DF 20 1 refl, run v 0xF_03DF 16 4 refl, run v 0x3DF 6 4 refl, and_mask v 5)
     (simp add_assoc)
 
-pub vbar_mask : (v : ℕ) → v < 2 ^ 64 → bit_and v 0xFFFF_FFFF_FFFF_F800 ≡ alignDown v 11
-vbar_mask v h = and_high v 53 11 ∙ ap (λ (n : ℕ). n * 2 ^ 11) (shr_mod 53 11 h)
-
-pub low_mask : (v : ℕ) → bit_and v 0xFFFF_FFFF ≡ v % 2 ^ 32
-low_mask v = and_mask v 32
-
-pub ruleset masks = (spsr_mask, vbar_mask, low_mask)
+pub ruleset masks = (spsr_mask)

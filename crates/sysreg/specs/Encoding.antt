@@ -1,14 +1,13 @@
 -- How the manual encodes each register, and the register that an encoding names.
-use Rattle.std.specs.Prelude.{List, [], ◌∷◌, ◌++◌, ℕ, ◌+◌, ◌*◌, ◌%◌, ◌^◌, eqb}
+use Rattle.std.specs.Prelude.{List, [], ◌∷◌, ◌++◌, ℕ, ◌+◌, ◌*◌, ◌%◌, ◌^◌, eqb, Some, Option, None}
 use Rattle.std.specs.Int.Bits.{bit_or}
 use Rattle.word.specs.Bits.{pick}
 use Rattle.sysreg.specs.declared.{regs.El.El, regs.ControlReg.ControlReg, regs.SysReg.SysReg}
-use Rattle.sysreg.specs.declared.{regs.Register.Register, encoding.Found.Found}
+use Rattle.sysreg.specs.declared.{regs.Register.Register}
 use Rattle.sysreg.specs.declared.regs.El.TheVariants.{El1, El2, El3}
 use Rattle.sysreg.specs.declared.regs.ControlReg.TheVariants.{Sctlr, Tcr, Ttbr0, Ttbr1, Scr, Hcr}
 use Rattle.sysreg.specs.declared.regs.SysReg.TheVariants.{Mair, Vbar, Elr, Spsr, Esr, Far, Vpidr, Vmpidr, Par}
 use Rattle.sysreg.specs.declared.regs.Register.TheVariants.{InControl, InSys}
-use Rattle.sysreg.specs.declared.encoding.Found.TheVariants.{At, Nothing}
 
 -- op0:op1:CRn:CRm:op2, fields of 2, 3, 4, 4 and 3 bits
 abbrev pub encode : ℕ → ℕ → ℕ → ℕ → ℕ → ℕ
@@ -83,14 +82,14 @@ abbrev pub oneLevel : List Register
 oneLevel = InControl Ttbr1 ∷ InControl Hcr ∷ InControl Scr ∷ InSys Vpidr ∷ InSys Vmpidr ∷ []
 
 -- the register of a list whose encoding is k
-abbrev pub find : List Register → ℕ → Found
-find [] k = Nothing
-find (r ∷ rs) k = pick (eqb k (key_of r)) (At r) (find rs k)
+abbrev pub find : List Register → ℕ → Option Register
+find [] k = None
+find (r ∷ rs) k = pick (eqb k (key_of r)) (Some r) (find rs k)
 
 -- a banked register; PAR_EL1 is none
-unfoldable pub bankedAt : ℕ → Found
+unfoldable pub bankedAt : ℕ → Option Register
 bankedAt k = find (eachLevel ++ oneLevel) k
 
 -- any register kept
-unfoldable pub registerAt : ℕ → Found
-registerAt k = pick (eqb k (key_of (InSys Par))) (At (InSys Par)) (bankedAt k)
+unfoldable pub registerAt : ℕ → Option Register
+registerAt k = pick (eqb k (key_of (InSys Par))) (Some (InSys Par)) (bankedAt k)

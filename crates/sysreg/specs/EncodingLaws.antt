@@ -1,5 +1,5 @@
 -- Laws of encodings: each register has its own, and nothing else is named.
-use Rattle.std.specs.Prelude.{◌≡◌, refl, Bool, true, false, ◌&&◌, List, [], ◌∷◌, ◌++◌, ℕ, ◌+◌, ◌*◌, ◌^◌, ◌≤◌, ◌<◌, eqb, ltb}
+use Rattle.std.specs.Prelude.{◌≡◌, refl, Bool, true, false, ◌&&◌, List, [], ◌∷◌, ◌++◌, ℕ, ◌+◌, ◌*◌, ◌^◌, ◌≤◌, ◌<◌, eqb, ltb, Some, None}
 use Rattle.std.proofs.Common.{sym, ap, ◌∙◌, mod-eq_of_lt, arith, eqb-true, le-ltb}
 use Rattle.std.proofs.lemmas.Bool.{false≢true}
 use Rattle.std.specs.Int.Bits.{bit_or}
@@ -10,7 +10,6 @@ use Rattle.sysreg.specs.declared.regs.El.TheVariants.{El1, El2, El3}
 use Rattle.sysreg.specs.declared.regs.ControlReg.TheVariants.{Sctlr, Tcr, Ttbr0, Ttbr1, Scr, Hcr}
 use Rattle.sysreg.specs.declared.regs.SysReg.TheVariants.{Mair, Vbar, Elr, Spsr, Esr, Far, Vpidr, Vmpidr, Par}
 use Rattle.sysreg.specs.declared.regs.Register.TheVariants.{InControl, InSys}
-use Rattle.sysreg.specs.declared.encoding.Found.TheVariants.{At, Nothing}
 use Rattle.sysreg.specs.Encoding.{encode, keyWord, key_of, find, bankedAt, registerAt, eachLevel, oneLevel}
 
 -- what holds at each level holds at any
@@ -56,35 +55,35 @@ skip p [] m k a f = refl
 skip p (r ∷ rs) m k a f = go (eqb k (key_of r)) refl (p (key_of r)) refl a (λ b. skip p rs m k b f)
   where
     go : (b : Bool) → eqb k (key_of r) ≡ b → (q : Bool) → p (key_of r) ≡ q → (q && all p rs) ≡ true →
-        (all p rs ≡ true → find (rs ++ m) k ≡ find m k) → pick b (At r) (find (rs ++ m) k) ≡ find m k
+        (all p rs ≡ true → find (rs ++ m) k ≡ find m k) → pick b (Some r) (find (rs ++ m) k) ≡ find m k
     go true e true h a s = absurd (false≢true (sym f ∙ ap p (eqb-true k (key_of r) e) ∙ h))
     go true e false h a s = absurd (false≢true a)
     go false e true h a s = s a
     go false e false h a s = absurd (false≢true a)
 
 -- a number of more than 16 bits names nothing
-pub wide_key : (k : ℕ) → 2 ^ 16 ≤ k → registerAt k ≡ Nothing
+pub wide_key : (k : ℕ) → 2 ^ 16 ≤ k → registerAt k ≡ None
 unfolding registerAt bankedAt
 wide_key k h = skip (λ n. ltb n (2 ^ 16)) (InSys Par ∷ eachLevel ++ oneLevel) [] k refl (le-ltb k (2 ^ 16) h)
 
 -- what is found has the encoding looked for
-found-key : (l : List Register) (k : ℕ) (r : Register) → find l k ≡ At r → k ≡ key_of r
+found-key : (l : List Register) (k : ℕ) (r : Register) → find l k ≡ Some r → k ≡ key_of r
 found-key [] k r e = let z : ◌≡◌ {A = ℕ} 0 1 = cc in absurd (omega arith)
 found-key (q ∷ qs) k r e = go (eqb k (key_of q)) refl e (found-key qs k r)
   where
-    go : (b : Bool) → eqb k (key_of q) ≡ b → pick b (At q) (find qs k) ≡ At r → (find qs k ≡ At r → k ≡ key_of r) → k ≡ key_of r
+    go : (b : Bool) → eqb k (key_of q) ≡ b → pick b (Some q) (find qs k) ≡ Some r → (find qs k ≡ Some r → k ≡ key_of r) → k ≡ key_of r
     go true t e s = let h : q ≡ r = cc in eqb-true k (key_of q) t ∙ ap key_of h
     go false t e s = s e
 
-pub named-key : (k : ℕ) (r : Register) → registerAt k ≡ At r → k ≡ key_of r
+pub named-key : (k : ℕ) (r : Register) → registerAt k ≡ Some r → k ≡ key_of r
 unfolding registerAt bankedAt
 named-key k r e = found-key (InSys Par ∷ eachLevel ++ oneLevel) k r e
 
 abbrev Named : Register → Type 0
-Named r = registerAt (key_of r) ≡ At r
+Named r = registerAt (key_of r) ≡ Some r
 
 -- the encoding of a register names it
-pub key-names : (r : Register) → registerAt (key_of r) ≡ At r
+pub key-names : (r : Register) → registerAt (key_of r) ≡ Some r
 unfolding registerAt bankedAt
 key-names (InControl (Sctlr el)) = by_level (λ x. Named (InControl (Sctlr x))) refl refl refl el
 key-names (InControl (Tcr el)) = by_level (λ x. Named (InControl (Tcr x))) refl refl refl el
@@ -104,4 +103,4 @@ key-names (InSys Par) = refl
 
 -- two registers of one encoding are one
 pub key_one : (q r : Register) → key_of q ≡ key_of r → q ≡ r
-key_one q r e = let a : At q ≡ At r = sym (key-names q) ∙ ap registerAt e ∙ key-names r in cc
+key_one q r e = let a : Some q ≡ Some r = sym (key-names q) ∙ ap registerAt e ∙ key-names r in cc

@@ -1,11 +1,10 @@
 -- What of the registers shapes a translation, and the ASID of the EL1&0 regime.
-use Rattle.std.specs.Prelude.{Bool, true, false, not, ◌&&◌, ◌||◌, List, [], ◌∷◌, ℕ, eqb}
+use Rattle.std.specs.Prelude.{Bool, true, false, not, ◌&&◌, ◌||◌, List, [], ◌∷◌, ℕ, eqb, Some, Option, None}
 use Rattle.word.specs.Bits.{field, pick}
-use Rattle.sysreg.specs.declared.{regs.Control.Control, regs.ControlReg.ControlReg, encoding.Found.Found}
+use Rattle.sysreg.specs.declared.{regs.Control.Control, regs.ControlReg.ControlReg, regs.Register.Register}
 use Rattle.sysreg.specs.declared.regs.El.TheVariants.{El1, El2, El3}
 use Rattle.sysreg.specs.declared.regs.ControlReg.TheVariants.{Sctlr, Tcr, Ttbr0, Ttbr1, Scr, Hcr}
 use Rattle.sysreg.specs.declared.regs.Register.TheVariants.{InControl, InSys}
-use Rattle.sysreg.specs.declared.encoding.Found.TheVariants.{At, Nothing}
 use Rattle.sysreg.specs.Regs.{controlAt}
 use Rattle.sysreg.specs.Encoding.{controlKey}
 use Rattle.sysreg.specs.Tcr.{a1, «as»}
@@ -20,10 +19,10 @@ member [] r = false
 member (q ∷ qs) r = eqb (controlKey q) (controlKey r) || member qs r
 
 -- a write of what the key names leaves the shape alone
-abbrev pub outsideShape : Found → Bool
-outsideShape Nothing = true
-outsideShape (At (InSys r)) = true
-outsideShape (At (InControl r)) = not (member shape r)
+abbrev pub outsideShape : Option Register → Bool
+outsideShape None = true
+outsideShape (Some (InSys r)) = true
+outsideShape (Some (InControl r)) = not (member shape r)
 
 -- each register of a list holds the same in both
 abbrev pub agreeOn : List ControlReg → Control → Control → Bool

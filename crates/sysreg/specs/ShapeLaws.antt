@@ -1,16 +1,15 @@
 -- Laws of the shape and of the ASID, for the cache and its history.
-use Rattle.std.specs.Prelude.{◌≡◌, refl, Bool, true, false, ◌||◌, List, [], ◌∷◌, ℕ, ◌^◌, ◌<◌, eqb}
+use Rattle.std.specs.Prelude.{◌≡◌, refl, Bool, true, false, ◌||◌, List, [], ◌∷◌, ℕ, ◌^◌, ◌<◌, eqb, Some, Option, None, Err}
 use Rattle.std.proofs.Common.{sym, arith, eqb-true, eq-eqb}
 use Rattle.std.proofs.lemmas.Bool.{false≢true, not-true}
 use Rattle.word.specs.Bits.{field, pick}
 use Rattle.word.specs.BitLaws.{both}
 use Rattle.sysreg.specs.declared.{regs.Control.Control, regs.SysRegs.SysRegs, regs.El.El}
-use Rattle.sysreg.specs.declared.{regs.ControlReg.ControlReg, regs.Register.Register, encoding.Found.Found}
+use Rattle.sysreg.specs.declared.{regs.ControlReg.ControlReg, regs.Register.Register}
 use Rattle.sysreg.specs.declared.regs.El.TheVariants.{El1, El2, El3}
 use Rattle.sysreg.specs.declared.regs.ControlReg.TheVariants.{Sctlr, Tcr, Ttbr0, Ttbr1, Scr, Hcr}
 use Rattle.sysreg.specs.declared.regs.Register.TheVariants.{InControl, InSys}
-use Rattle.sysreg.specs.declared.encoding.Found.TheVariants.{At, Nothing}
-use Rattle.sysreg.specs.declared.write.WriteAnswer.TheVariants.{Undefined}
+use Rattle.sysreg.specs.declared.write.WriteError.TheVariants.{Undefined}
 use Rattle.sysreg.specs.Regs.{controlAt}
 use Rattle.sysreg.specs.Encoding.{controlKey, registerAt}
 use Rattle.sysreg.specs.EncodingLaws.{by_level}
@@ -108,11 +107,11 @@ pub write-keeps-shape : (c : Control) (s : SysRegs) (level k v : ℕ) →
 unfolding writeReg
 write-keeps-shape c s level k v e = go (registerAt k) e
   where
-    end : (r : Register) (b : Bool) → outsideShape (At r) ≡ true → same_shape c (pick b (ended c s Undefined) (wrote c s r v)).control ≡ true
+    end : (r : Register) (b : Bool) → outsideShape (Some r) ≡ true → same_shape c (pick b (ended c s (Err Undefined)) (wrote c s r v)).control ≡ true
     end r true h = shape-self c
     end (InSys r) false h = shape-self c
     end (InControl r) false h = shape-kept c r v (not-true (member shape r) h)
 
-    go : (f : Found) → outsideShape f ≡ true → same_shape c (writeFound c s level f v).control ≡ true
-    go Nothing h = shape-self c
-    go (At r) h = end r (eqb level 0) h
+    go : (f : Option Register) → outsideShape f ≡ true → same_shape c (writeFound c s level f v).control ≡ true
+    go None h = shape-self c
+    go (Some r) h = end r (eqb level 0) h

@@ -1,15 +1,14 @@
 -- What a register write does. Letters with a number are rows of docs/DIFFERENCES.md.
-use Rattle.std.specs.Prelude.{Bool, true, false, List, [], ◌∷◌, ℕ, ◌+◌, ◌*◌, ◌%◌, ◌^◌, eqb, get_or}
+use Rattle.std.specs.Prelude.{Bool, true, false, List, [], ◌∷◌, ℕ, ◌+◌, ◌*◌, ◌%◌, ◌^◌, eqb, get_or, Option, Some, None, Result, Ok, Err}
 use Rattle.word.specs.Bits.{field, alignDown, pick}
 use Rattle.sysreg.specs.declared.{regs.Control.Control, regs.SysRegs.SysRegs, regs.El.El}
 use Rattle.sysreg.specs.declared.{regs.ControlReg.ControlReg, regs.SysReg.SysReg, regs.Register.Register}
-use Rattle.sysreg.specs.declared.{encoding.Found.Found, write.WriteAnswer.WriteAnswer, write.Written.Written}
+use Rattle.sysreg.specs.declared.write.WriteError.{WriteError}
 use Rattle.sysreg.specs.declared.regs.El.TheVariants.{El1, El2, El3}
 use Rattle.sysreg.specs.declared.regs.ControlReg.TheVariants.{Sctlr, Tcr, Ttbr0, Ttbr1, Scr, Hcr}
 use Rattle.sysreg.specs.declared.regs.SysReg.TheVariants.{Mair, Vbar, Elr, Spsr, Esr, Far, Vpidr, Vmpidr, Par}
 use Rattle.sysreg.specs.declared.regs.Register.TheVariants.{InControl, InSys}
-use Rattle.sysreg.specs.declared.encoding.Found.TheVariants.{At, Nothing}
-use Rattle.sysreg.specs.declared.write.WriteAnswer.TheVariants.{Done, Undefined, NoRegister}
+use Rattle.sysreg.specs.declared.write.WriteError.TheVariants.{Undefined, NoRegister}
 use Rattle.sysreg.specs.Encoding.{controlKey, sysKey, registerAt}
 
 -- the n bits of v from bit lo up, at their place
@@ -71,6 +70,18 @@ sysWith s r v =
       par_el1 = sysAfter r v Par s.par_el1;
     }
 
+abbrev pub WriteAnswer : Type 0
+WriteAnswer = Result Unit WriteError
+
+abbrev pub Done : WriteAnswer
+Done = Ok tt
+
+-- the registers after a write, and its answer
+pub record Written : Type 0 where
+  pub control : Control
+  pub sys : SysRegs
+  pub answer : WriteAnswer
+
 -- the end of a register write
 abbrev pub ended : Control → SysRegs → WriteAnswer → Written
 ended c s a = record { control = c; sys = s; answer = a }
@@ -81,9 +92,9 @@ wrote c s (InSys r) v = ended c (sysWith s r v) Done
 
 -- A key that names no register is refused first; then EL0 may write none; then the register is written. M22, R1: below the
 -- register's own level too. M7: at Non-secure EL1 HCR_EL2 could trap the write
-abbrev pub writeFound : Control → SysRegs → ℕ → Found → ℕ → Written
-writeFound c s level Nothing v = ended c s NoRegister
-writeFound c s level (At r) v = pick (eqb level 0) (ended c s Undefined) (wrote c s r v)
+abbrev pub writeFound : Control → SysRegs → ℕ → Option Register → ℕ → Written
+writeFound c s level None v = ended c s (Err NoRegister)
+writeFound c s level (Some r) v = pick (eqb level 0) (ended c s (Err Undefined)) (wrote c s r v)
 
 unfoldable pub writeReg : Control → SysRegs → ℕ → ℕ → ℕ → Written
 writeReg c s level k v = writeFound c s level (registerAt k) v
@@ -95,14 +106,14 @@ pub data Reply : Type 0 where
   refusal : ℕ → Reply
 
 abbrev pub replyOf : WriteAnswer → Reply
-replyOf Done = done
-replyOf Undefined = undefined
-replyOf NoRegister = refusal 6
+replyOf (Ok x) = done
+replyOf (Err Undefined) = undefined
+replyOf (Err NoRegister) = refusal 6
 
 -- the key is a banked register's or PAR_EL1's
-abbrev pub names : Found → Bool
-names (At r) = true
-names Nothing = false
+abbrev pub names : Option Register → Bool
+names (Some r) = true
+names None = false
 
 -- the table's rows for a register write, from top to bottom
 abbrev pub replyTo : ℕ → ℕ → Reply

@@ -1,5 +1,5 @@
 -- Laws of register writes: a write changes the register that it names and no other.
-use Rattle.std.specs.Prelude.{◌≡◌, Bool, ℕ, eqb}
+use Rattle.std.specs.Prelude.{◌≡◌, Bool, ℕ, eqb, Some, None, Err}
 use Rattle.std.proofs.Math.Path.{refl}
 use Rattle.std.proofs.Math.Bool.{true, false}
 use borrow.Author.Tests.{eq-eqb, ne_eqb}
@@ -9,8 +9,7 @@ use Rattle.sysreg.specs.declared.{regs.SysReg.SysReg, regs.Register.Register}
 use Rattle.sysreg.specs.declared.regs.ControlReg.TheVariants.{Sctlr, Tcr, Ttbr0, Ttbr1, Scr, Hcr}
 use Rattle.sysreg.specs.declared.regs.SysReg.TheVariants.{Mair, Vbar, Elr, Spsr, Esr, Far, Vpidr, Vmpidr, Par}
 use Rattle.sysreg.specs.declared.regs.Register.TheVariants.{InControl, InSys}
-use Rattle.sysreg.specs.declared.encoding.Found.TheVariants.{At, Nothing}
-use Rattle.sysreg.specs.declared.write.WriteAnswer.TheVariants.{Undefined, NoRegister}
+use Rattle.sysreg.specs.declared.write.WriteError.TheVariants.{Undefined, NoRegister}
 use Rattle.sysreg.specs.Regs.{controlAt, sysAt}
 use Rattle.sysreg.specs.Encoding.{controlKey, sysKey, registerAt}
 use Rattle.sysreg.specs.EncodingLaws.{by_level, key_one}
@@ -60,31 +59,31 @@ module _ (s : SysRegs) (r : SysReg) (v : ℕ) where
 
 -- A whole write, by what the key names.
 module _ (c : Control) (s : SysRegs) (level k v : ℕ) where
-  pub write-nothing : registerAt k ≡ Nothing → writeReg c s level k v ≡ ended c s NoRegister
+  pub write-nothing : registerAt k ≡ None → writeReg c s level k v ≡ ended c s (Err NoRegister)
   unfolding writeReg
   write-nothing e = rw e
 
-  pub write-el0 : (r : Register) → registerAt k ≡ At r → level ≡ 0 → writeReg c s level k v ≡ ended c s Undefined
+  pub write-el0 : (r : Register) → registerAt k ≡ Some r → level ≡ 0 → writeReg c s level k v ≡ ended c s (Err Undefined)
   unfolding writeReg
   write-el0 r e l = rw (e, eq-eqb level 0 l)
 
-  pub write_done : (r : Register) → registerAt k ≡ At r → (level ≡ 0 → ⊥) → writeReg c s level k v ≡ wrote c s r v
+  pub write_done : (r : Register) → registerAt k ≡ Some r → (level ≡ 0 → ⊥) → writeReg c s level k v ≡ wrote c s r v
   unfolding writeReg
   write_done r e l = rw (e, ne_eqb level 0 l)
 
   -- a register of one struct leaves the other as it is
-  pub write-control : (r : ControlReg) → registerAt k ≡ At (InControl r) → (writeReg c s level k v).sys ≡ s
+  pub write-control : (r : ControlReg) → registerAt k ≡ Some (InControl r) → (writeReg c s level k v).sys ≡ s
   unfolding writeReg
   write-control r e = rw e (go (eqb level 0))
     where
-      go : (b : Bool) → (pick b (ended c s Undefined) (wrote c s (InControl r) v)).sys ≡ s
+      go : (b : Bool) → (pick b (ended c s (Err Undefined)) (wrote c s (InControl r) v)).sys ≡ s
       go true = refl
       go false = refl
 
-  pub write-sys : (r : SysReg) → registerAt k ≡ At (InSys r) → (writeReg c s level k v).control ≡ c
+  pub write-sys : (r : SysReg) → registerAt k ≡ Some (InSys r) → (writeReg c s level k v).control ≡ c
   unfolding writeReg
   write-sys r e = rw e (go (eqb level 0))
     where
-      go : (b : Bool) → (pick b (ended c s Undefined) (wrote c s (InSys r) v)).control ≡ c
+      go : (b : Bool) → (pick b (ended c s (Err Undefined)) (wrote c s (InSys r) v)).control ≡ c
       go true = refl
       go false = refl

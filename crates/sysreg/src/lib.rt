@@ -3,4 +3,5 @@
 pub mod encoding;
 pub mod regs;
 pub mod shape;
+pub mod theorems;
 pub mod write;

@@ -68,15 +68,17 @@ pub enum Register {
     InSys(SysReg),
 }
 
-// The place of a level's instance in an array.
-pub fn index(el: El) -> usize
-    ensures value { result ≡ levelOf el }
-    ensures upper_bound { result < 4 }
-{
-    match el {
-        El::El1 => 1,
-        El::El2 => 2,
-        El::El3 => 3,
+impl El {
+    // The place of the level's instance in an array.
+    pub fn index(self) -> usize
+        ensures value { result ≡ levelOf self }
+        ensures upper_bound { result < 4 }
+    {
+        match self {
+            El::El1 => 1,
+            El::El2 => 2,
+            El::El3 => 3,
+        }
     }
 }
 

@@ -1,147 +1,93 @@
 // MSR to the registers kept.
-ghost use Rattle.std.specs.Prelude.{◌≡◌};
-ghost use Rattle.sysreg.specs.Write.{kept as keptOf, controlWith, sysWith, wrote, writeReg, replyOf, replyTo};
+ghost use Rattle.std.specs.Prelude.{◌≡◌, Err};
+ghost use Rattle.sysreg.specs.Write.{kept as keptOf, controlWith, sysWith, writeReg, replyOf, replyTo};
 
-use crate::encoding::{Found, named};
-use crate::regs::{Control, ControlReg, Register, SysReg, SysRegs, index};
+use crate::encoding::named;
+use crate::regs::{Control, ControlReg, Register, SysReg, SysRegs};
 
-// How a register write ends.
+// What keeps a register from being written.
 #[derive(Clone, Copy)]
-pub enum WriteAnswer {
-    Done,
+pub enum WriteError {
     // The level may not write it.
     Undefined,
     // The key names no register kept.
     NoRegister,
 }
 
-// The registers after a write, and its answer.
-#[derive(Clone, Copy)]
-pub struct Written {
-    pub control: Control,
-    pub sys: SysRegs,
-    pub answer: WriteAnswer,
-}
-
-#[tactic(auto, using(crate::proofs::Stores::control_stores))]
-fn put_control(control: Control, register: ControlReg, value: u64) -> Control
-    ensures { result ≡ controlWith control register value }
-{
-    let mut out = control;
-    match register {
-        ControlReg::Sctlr(el) => {
-            let i = index(el);
-            out.sctlr[i] = value;
+impl SysReg {
+    // What the register keeps of a value: VBAR, SPSR, ESR and VPIDR_EL2 only the bits that are not RES0.
+    #[tactic(auto, using(crate::proofs::Masks::masks))]
+    pub fn kept_bits(self, value: u64) -> u64
+        ensures { result ≡ keptOf self value }
+    {
+        match self {
+            SysReg::Vbar(_) => value & !0x7FF,
+            SysReg::Spsr(_) => value & 0xF03F_03DF,
+            SysReg::Esr(_) | SysReg::Vpidr => value & 0xFFFF_FFFF,
+            _ => value,
         }
-        ControlReg::Tcr(el) => {
-            let i = index(el);
-            out.tcr[i] = value;
-        }
-        ControlReg::Ttbr0(el) => {
-            let i = index(el);
-            out.ttbr0[i] = value;
-        }
-        ControlReg::Ttbr1 => out.ttbr1_el1 = value,
-        ControlReg::Scr => out.scr_el3 = value,
-        ControlReg::Hcr => out.hcr_el2 = value,
-    }
-    out
-}
-
-// VBAR, SPSR, ESR and VPIDR_EL2 keep only the bits that are not RES0.
-#[tactic(auto, using(crate::proofs::Masks::masks))]
-pub fn kept_bits(register: SysReg, value: u64) -> u64
-    ensures { result ≡ keptOf register value }
-{
-    match register {
-        SysReg::Vbar(el) => value & !0x7FF,
-        SysReg::Spsr(el) => value & 0xF03F_03DF,
-        SysReg::Esr(el) => value & 0xFFFF_FFFF,
-        SysReg::Vpidr => value & 0xFFFF_FFFF,
-        SysReg::Mair(el) => value,
-        SysReg::Elr(el) => value,
-        SysReg::Far(el) => value,
-        SysReg::Vmpidr => value,
-        SysReg::Par => value,
     }
 }
 
-#[tactic(auto, using(crate::proofs::Stores::sys_stores))]
-fn put_sys(sys: SysRegs, register: SysReg, value: u64) -> SysRegs
-    ensures { result ≡ sysWith sys register value }
-{
-    let kept = kept_bits(register, value);
-    let mut out = sys;
-    match register {
-        SysReg::Mair(el) => {
-            let i = index(el);
-            out.mair[i] = kept;
+impl Control {
+    #[tactic(auto, using(crate::proofs::Stores::four), unfolding(crate::specs::Write::controlWith))]
+    fn write(&mut self, register: ControlReg, value: u64)
+        ensures { self.new ≡ controlWith self.old register value }
+    {
+        match register {
+            ControlReg::Sctlr(el) => self.sctlr[el.index()] = value,
+            ControlReg::Tcr(el) => self.tcr[el.index()] = value,
+            ControlReg::Ttbr0(el) => self.ttbr0[el.index()] = value,
+            ControlReg::Ttbr1 => self.ttbr1_el1 = value,
+            ControlReg::Scr => self.scr_el3 = value,
+            ControlReg::Hcr => self.hcr_el2 = value,
         }
-        SysReg::Vbar(el) => {
-            let i = index(el);
-            out.vbar[i] = kept;
-        }
-        SysReg::Elr(el) => {
-            let i = index(el);
-            out.elr[i] = kept;
-        }
-        SysReg::Spsr(el) => {
-            let i = index(el);
-            out.spsr[i] = kept;
-        }
-        SysReg::Esr(el) => {
-            let i = index(el);
-            out.esr[i] = kept;
-        }
-        SysReg::Far(el) => {
-            let i = index(el);
-            out.far[i] = kept;
-        }
-        SysReg::Vpidr => out.vpidr_el2 = kept,
-        SysReg::Vmpidr => out.vmpidr_el2 = kept,
-        SysReg::Par => out.par_el1 = kept,
-    }
-    out
-}
-
-fn store(control: Control, sys: SysRegs, register: Register, value: u64) -> Written
-    ensures { result ≡ wrote control sys register value }
-{
-    match register {
-        Register::InControl(r) => Written {
-            control: put_control(control, r, value),
-            sys,
-            answer: WriteAnswer::Done,
-        },
-        Register::InSys(r) => Written {
-            control,
-            sys: put_sys(sys, r, value),
-            answer: WriteAnswer::Done,
-        },
     }
 }
 
-// A key that names no register kept is refused; else EL0 may write none; else the register is written.
+impl SysRegs {
+    #[tactic(auto, using(crate::proofs::Stores::four), unfolding(crate::specs::Write::sysWith))]
+    fn write(&mut self, register: SysReg, value: u64)
+        ensures { self.new ≡ sysWith self.old register value }
+    {
+        let kept = register.kept_bits(value);
+        match register {
+            SysReg::Mair(el) => self.mair[el.index()] = kept,
+            SysReg::Vbar(el) => self.vbar[el.index()] = kept,
+            SysReg::Elr(el) => self.elr[el.index()] = kept,
+            SysReg::Spsr(el) => self.spsr[el.index()] = kept,
+            SysReg::Esr(el) => self.esr[el.index()] = kept,
+            SysReg::Far(el) => self.far[el.index()] = kept,
+            SysReg::Vpidr => self.vpidr_el2 = kept,
+            SysReg::Vmpidr => self.vmpidr_el2 = kept,
+            SysReg::Par => self.par_el1 = kept,
+        }
+    }
+}
+
+// A key that names no register kept is refused; else EL0 may write none; else the register is written. One that is
+// refused changes nothing.
 #[tactic(auto, unfolding(crate::specs::Write::writeReg))]
-pub fn write_reg(control: Control, sys: SysRegs, level: u8, k: u32, value: u64) -> Written
-    ensures value { result ≡ writeReg control sys level k value }
-    ensures answer_value { replyOf result.answer ≡ replyTo level k }
+pub fn write_reg(
+    control: &mut Control,
+    sys: &mut SysRegs,
+    level: u8,
+    k: u32,
+    value: u64,
+) -> Result<(), WriteError>
+    ensures answer { result ≡ (writeReg control.old sys.old level k value).answer }
+    ensures control_after { control.new ≡ (writeReg control.old sys.old level k value).control }
+    ensures sys_after { sys.new ≡ (writeReg control.old sys.old level k value).sys }
+    ensures answer_value { replyOf result ≡ replyTo level k }
+    ensures unchanged { (e : WriteError) → result ≡ Err e → (control.new ≡ control.old) × (sys.new ≡ sys.old) }
 {
-    match named(k) {
-        Found::Nothing => Written {
-            control,
-            sys,
-            answer: WriteAnswer::NoRegister,
-        },
-        Found::At(register) => {
-            if level == 0 {
-                return Written {
-                    control,
-                    sys,
-                    answer: WriteAnswer::Undefined,
-                };
-            }
-            store(control, sys, register, value)
-        }
+    let register = named(k).ok_or(WriteError::NoRegister)?;
+    if level == 0 {
+        return Err(WriteError::Undefined);
     }
+    match register {
+        Register::InControl(r) => control.write(r, value),
+        Register::InSys(r) => sys.write(r, value),
+    }
+    Ok(())
 }

@@ -1,15 +1,14 @@
 -- The counters that a translation leaves in the plain model are a function of how it was answered and of its level; and their sums are the
 -- Rust's two counters.
-use Rattle.std.specs.Prelude.{◌≡◌, ℕ, zero, suc, ◌+◌, ◌/◌, ◌%◌, ◌^◌, ◌≤◌, Bool, true, false, ◌≢◌}
+use Rattle.std.specs.Prelude.{◌≡◌, ℕ, zero, suc, ◌+◌, ◌/◌, ◌%◌, ◌^◌, ◌≤◌, Bool, true, false, ◌≢◌, Ok, Err}
 use Rattle.std.proofs.Math.Path.{refl}
 use Rattle.std.proofs.Common.{sym, ◌∙◌, arith, ne_eqb}
-use Rattle.walk.specs.declared.level.Walked.{Walked}
-use Rattle.walk.specs.declared.level.Walked.TheVariants.{Mapped, Fault}
 use Rattle.tlb.specs.Model.{Slot, empty, holds, Line, Counters, Model, up, upAt, oneHit, oneWalk, line_for, keep, hintPlace, knowing, Access}
-use Rattle.tlb.specs.Model.{Outcome, walked}
+use Rattle.tlb.specs.Model.{walked}
 use Rattle.tlb.specs.Model.{looked, unhinted, noting, noted, tried, hinted, hintable, translate, notingFetch, notedFetch, fetched, fetch}
 use Rattle.tlb.specs.declared.access.Answer.{Answer}
 use Rattle.tlb.specs.declared.access.Answer.TheVariants.{Address, Status}
+use Rattle.walk.specs.Answers.{Walked}
 
 -- by a hint, by the address itself where stage 1 is off, by a line, or by a walk, whether it faults or not
 pub data How : Type 0 where
@@ -50,8 +49,8 @@ howFetched a m = howTried (knowing (a.va / 4096) a.privilege.level m.fetch) (how
 module _ (a : Access) (m : Model) where
   walk-counts : (w : Walked) → (walked w a m).after.counts ≡ oneWalk a.privilege.level m.counts
   unfolding walked keep
-  walk-counts (Mapped leaf) = refl
-  walk-counts (Fault code) = refl
+  walk-counts (Ok leaf) = refl
+  walk-counts (Err code) = refl
 
   look-counts : (l : Slot Line) → (looked l a m).after.counts ≡ howCounted (howLooked true l) a.privilege.level m.counts
   unfolding looked

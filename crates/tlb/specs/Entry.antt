@@ -1,5 +1,5 @@
 -- One entry as the code keeps it: by a tag and a generation.
-use Rattle.std.specs.Prelude.{ℕ, ◌/◌, ◌%◌, ◌^◌, Bool, true, false, not, ◌&&◌, ◌||◌, ◌==◌}
+use Rattle.std.specs.Prelude.{ℕ, ◌/◌, ◌%◌, ◌^◌, Bool, false, not, ◌&&◌, ◌||◌, ◌==◌}
 use Rattle.word.specs.Bits.{pick}
 use Rattle.tlb.specs.declared.{entry.Entry.Entry, entry.Current.Current}
 

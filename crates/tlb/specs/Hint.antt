@@ -1,10 +1,8 @@
 -- Hints as the code keeps them: by a key that holds the raw page and the level.
-use Rattle.std.specs.Prelude.{ℕ, ◌+◌, ◌-◌, ◌*◌, ◌/◌, ◌%◌, ◌^◌, Bool, true, false, ◌&&◌, ◌==◌, bit_or, bit_xor}
+use Rattle.std.specs.Prelude.{ℕ, ◌+◌, ◌-◌, ◌*◌, ◌/◌, ◌%◌, ◌^◌, Bool, true, false, ◌&&◌, ◌==◌, Option, Some, None, bit_or, bit_xor}
 use Rattle.word.specs.Bits.{pick}
 use Rattle.tlb.specs.declared.{access.Kind.Kind, hint.Hint.Hint, hint.FetchHint.FetchHint}
-use Rattle.tlb.specs.declared.hint.HintAnswer.{HintAnswer}
 use Rattle.tlb.specs.declared.access.Kind.TheVariants.{Read, Write, Fetch}
-use Rattle.tlb.specs.declared.hint.HintAnswer.TheVariants.{At, Unknown}
 
 -- the hint that matches no key
 abbrev pub noHint : Hint
@@ -46,5 +44,5 @@ fetchFor va level pa = record { some = true; page = page_of va; level = level; p
 abbrev pub fetchServes : FetchHint → ℕ → ℕ → Bool
 fetchServes f level va = (f.some && f.page == page_of va) && f.level == level
 
-abbrev pub fetchFound : FetchHint → ℕ → ℕ → HintAnswer
-fetchFound f level va = pick (fetchServes f level va) (At (onPage f.pa va)) Unknown
+abbrev pub fetchFound : FetchHint → ℕ → ℕ → Option ℕ
+fetchFound f level va = pick (fetchServes f level va) (Some (onPage f.pa va)) None

@@ -10,14 +10,11 @@ pub mod Resolve
 pub mod Translate
 pub mod Model
 pub mod Live
-pub mod Levels
 pub mod Cells
 pub mod Refines
 pub mod Step
 pub mod Asks
 pub mod Maintenance
-pub mod Misses
-pub mod Translations
 pub mod Counting
 pub mod Runs
 pub mod Worked

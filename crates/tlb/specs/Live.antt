@@ -1,17 +1,16 @@
 -- The plain model that a cache stands for, and the caches that the operations make and keep.
-use Rattle.std.specs.Prelude.{◌≡◌, ℕ, zero, suc, ◌/◌, ◌%◌, ◌^◌, ◌<◌, ◌≤◌, List, length, ◌==◌, nat_le, slice_index_or}
+use Rattle.std.specs.Prelude.{◌≡◌, ℕ, zero, suc, ◌/◌, ◌%◌, ◌^◌, ◌<◌, ◌≤◌, List, length, ◌==◌, nat_le, Option, Some, None, slice_index_or, Ok}
 use Rattle.word.specs.Bits.{pick}
-use Rattle.walk.specs.declared.{regime.Regime.Regime, level.Leaf.Leaf, level.Walked.Walked}
+use Rattle.walk.specs.declared.{regime.Regime.Regime, level.Leaf.Leaf}
 use Rattle.walk.specs.declared.regime.Regime.TheVariants.{El1, El2, El3}
-use Rattle.walk.specs.declared.level.Walked.TheVariants.{Mapped}
 use Rattle.tlb.specs.Entry.{blank}
 use Rattle.tlb.specs.Hint.{noHint}
 use Rattle.tlb.specs.Count.{tallyAt}
 use Rattle.tlb.specs.Lists.{Each}
 use Rattle.tlb.specs.Model.{Slot, empty, holds, Line, Known, Counters, Model, Outcome, reachOf}
 use Rattle.tlb.specs.declared.{entry.Entry.Entry, access.Answer.Answer, hint.Hint.Hint, hint.FetchHint.FetchHint}
-use Rattle.tlb.specs.declared.{count.Counts.Counts, cache.Cache.Cache, Tlb.Tlb, Inval.Inval, Pending.Pending}
-use Rattle.tlb.specs.declared.Pending.TheVariants.{Nothing, Some}
+use Rattle.tlb.specs.declared.{count.Counts.Counts, cache.Cache.Cache, Tlb.Tlb, Inval.Inval}
+use Rattle.walk.specs.Answers.{Walked}
 
 -- what an entry says of its page, in the regime r
 abbrev pub lineIn : Regime → Entry → Line
@@ -43,8 +42,8 @@ hintOf h = pick (nat_le (h.key % 4096) 3) (holds (record { page = h.key / 4096; 
 unfoldable pub fetchHintOf : FetchHint → Slot Known
 fetchHintOf f = pick f.some (holds (record { page = f.page / 4096; level = f.level; frame = f.pa / 4096 })) empty
 
-abbrev pub pendingOf : Pending → Slot Inval
-pendingOf Nothing = empty
+abbrev pub pendingOf : Option Inval → Slot Inval
+pendingOf None = empty
 pendingOf (Some what) = holds what
 
 unfoldable pub lines_of : ℕ → List Entry → ℕ → Slot Line
@@ -100,7 +99,7 @@ pub record WellFormed (t : Tlb) : Type 0 where
 
 -- a leaf that the walk ends in is of level 3 at most
 abbrev pub LeafLevel : Walked → Type 0
-LeafLevel w = (leaf : Leaf) → w ≡ Mapped leaf → leaf.level ≤ 3
+LeafLevel w = (leaf : Leaf) → w ≡ Ok leaf → leaf.level ≤ 3
 
 -- an answer and the cache that is left are those of the plain model
 pub record Follows (answered : Answer) (u : Tlb) (o : Outcome) : Type 0 where

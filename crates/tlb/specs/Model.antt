@@ -1,16 +1,16 @@
 -- The cache as the requirement tells it: slots that hold at most one line, places that hold at most one hint, the counters, and what is
 -- pending. No generations, no tags, no keys. It shares no function with the code's definitions that it judges: only the types of what goes in
 -- and out, and how a fault is made.
-use Rattle.std.specs.Prelude.{ℕ, zero, suc, ◌+◌, ◌-◌, ◌*◌, ◌/◌, ◌%◌, ◌^◌, Bool, true, false, not, ◌&&◌, ◌==◌, bit_xor}
+use Rattle.std.specs.Prelude.{ℕ, zero, suc, ◌+◌, ◌-◌, ◌*◌, ◌/◌, ◌%◌, ◌^◌, Bool, true, false, not, ◌&&◌, ◌==◌, bit_xor, Ok, Err}
 use Rattle.word.specs.Bits.{pick}
 use Rattle.fault.specs.First.{first}
-use Rattle.walk.specs.declared.{regime.Regime.Regime, level.Leaf.Leaf, level.Walked.Walked}
+use Rattle.walk.specs.declared.{regime.Regime.Regime, level.Leaf.Leaf}
 use Rattle.walk.specs.declared.regime.Regime.TheVariants.{El1, El2, El3}
-use Rattle.walk.specs.declared.level.Walked.TheVariants.{Mapped, Fault}
 use Rattle.tlb.specs.declared.{access.Kind.Kind, access.Privilege.Privilege, access.Answer.Answer, Inval.Inval}
 use Rattle.tlb.specs.declared.access.Kind.TheVariants.{Read, Write, Fetch}
 use Rattle.tlb.specs.declared.access.Answer.TheVariants.{Address, Status}
 use Rattle.tlb.specs.declared.Inval.TheVariants.{All, Page, Asid}
+use Rattle.walk.specs.Answers.{Walked}
 
 -- at most one
 pub data Slot (A : Type 0) : Type 0 where
@@ -319,8 +319,8 @@ lineOfLeaf leaf a asid =
 -- a walk counts one at the level of the access, which the mark does not lower; a leaf is kept and judged; a fault is the answer and leaves no
 -- line
 unfoldable pub walked : Walked → Access → Model → Outcome
-walked (Fault code) a m = record { answer = Status (first code); after = counting (oneWalk a.privilege.level) m }
-walked (Mapped leaf) a m =
+walked (Err code) a m = record { answer = Status (first code); after = counting (oneWalk a.privilege.level) m }
+walked (Ok leaf) a m =
     record {
       answer = judge (lineOfLeaf leaf a m.asid) a;
       after = keep (lineOfLeaf leaf a m.asid) (counting (oneWalk a.privilege.level) m);

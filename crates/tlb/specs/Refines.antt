@@ -1,5 +1,5 @@
 -- Each operation on the cache does to the plain model what the requirement says, and keeps the cache well-formed.
-use Rattle.std.specs.Prelude.{◌≡◌, ℕ, ◌+◌, ◌*◌, ◌/◌, ◌%◌, ◌^◌, ◌<◌, ◌≤◌, Bool, true, false, List, map, length, ◌==◌, slice_index_or, slice_set}
+use Rattle.std.specs.Prelude.{◌≡◌, ℕ, ◌+◌, ◌*◌, ◌/◌, ◌%◌, ◌^◌, ◌<◌, ◌≤◌, Bool, true, false, List, map, length, ◌==◌, Option, Some, None, slice_index_or, slice_set}
 use Rattle.std.proofs.Math.Path.{refl, ap}
 use Rattle.std.proofs.Common.{sym, ◌∙◌, arith, length-set}
 use borrow.Author.Tests.{eqb-true, eqb-false}
@@ -18,10 +18,8 @@ use Rattle.tlb.specs.Model.{Slot, empty, holds, Line, emptyModel, uncovered, inv
 use Rattle.tlb.specs.Live.{lineIn, line_of, hintOf, fetchHintOf, pendingOf, lines_of, hintsOf, countersOf, live, Made, Aligned, Sound, WellFormed}
 use Rattle.tlb.specs.Cells.{same-pick, regime-low, found, line_made, page-drops, asid-drops, all-covered, flush-drops}
 use Rattle.tlb.specs.declared.{entry.Entry.Entry, entry.Current.Current, count.Counts.Counts, cache.Cache.Cache}
-use Rattle.tlb.specs.declared.{Tlb.Tlb, Inval.Inval, Pending.Pending, Found.Found}
+use Rattle.tlb.specs.declared.{Tlb.Tlb, Inval.Inval}
 use Rattle.tlb.specs.declared.Inval.TheVariants.{All, Page, Asid}
-use Rattle.tlb.specs.declared.Pending.TheVariants.{Nothing, Some}
-use Rattle.tlb.specs.declared.Found.TheVariants.{Hit, Missing}
 
 -- WITHOUT HINTS
 
@@ -55,7 +53,7 @@ module _ (p : Current) (es : List Entry) where
         fetch-pa = refl;
       }
 
-  hintless-live : (k : Counts) (b : Pending) (ls : ℕ → Slot Line) → ((i : ℕ) → lines_of p.generation es i ≡ ls i)
+  hintless-live : (k : Counts) (b : Option Inval) (ls : ℕ → Slot Line) → ((i : ℕ) → lines_of p.generation es i ≡ ls i)
       → live (record { cache = hintless p es; counts = k; broadcast = b })
       ≡ record { asid = p.asid; lines = ls; hints = λ i. empty; fetch = empty; counts = countersOf k; pending = pendingOf b }
   hintless-live k b ls q =
@@ -97,7 +95,7 @@ no-counts =
 
 pub fresh-live : live fresh ≡ emptyModel
 fresh-live =
-    hintless-live (record { generation = 1; asid = 0 }) blanks noCounts Nothing (λ i. empty) blank-lines
+    hintless-live (record { generation = 1; asid = 0 }) blanks noCounts None (λ i. empty) blank-lines
     ∙ λ n. record { asid = 0; lines = λ i. empty; hints = λ i. empty; fetch = empty; counts = no-counts n; pending = empty }
 
 pub fresh-sound : WellFormed fresh
@@ -262,8 +260,8 @@ same-is (Asid n) All e = falsely e
 same-is (Asid n) (Page q) e = falsely e
 same-is (Asid n) (Asid m) e = ap Asid (eqb-true n m e)
 
-joined_is : (p : Pending) (what : Inval) → pendingOf (pendingAfter p what) ≡ joined (pendingOf p) what
-joined_is Nothing what = refl
+joined_is : (p : Option Inval) (what : Inval) → pendingOf (pendingAfter p what) ≡ joined (pendingOf p) what
+joined_is None what = refl
 joined_is (Some earlier) what = go (sameInval earlier what) refl
   where
     go : (b : Bool) → sameInval earlier what ≡ b → pendingOf (pendingAfter (Some earlier) what) ≡ joined (holds earlier) what
@@ -297,9 +295,9 @@ pub page-is : (r : Regime) (p : ℕ) → (p * 4 + regimeNumber r) / 4 ≡ p
 page-is r p = omega (arith, regime-low r)
 
 -- what a look-up in a regime found, as a line
-abbrev pub foundIn : Regime → Found → Slot Line
-foundIn r (Hit e) = holds (lineIn r e)
-foundIn r Missing = empty
+abbrev pub foundIn : Regime → Option Entry → Slot Line
+foundIn r (Some e) = holds (lineIn r e)
+foundIn r None = empty
 
 pub line-is : (t : Tlb) (r : Regime) (p : ℕ)
     → line_for (live t) r p
@@ -317,7 +315,7 @@ get-live t r p =
     let e = entry_at t.cache (slot_of (p * 4 + regimeNumber r)) in
     pushed (serves e t.cache.current (p * 4 + regimeNumber r)) e ∙ sym (line-is t r p)
   where
-    pushed : (b : Bool) (e : Entry) → foundIn r (pick b (Hit e) Missing) ≡ pick b (holds (lineIn r e)) empty
+    pushed : (b : Bool) (e : Entry) → foundIn r (pick b (Some e) None) ≡ pick b (holds (lineIn r e)) empty
     pushed true e = refl
     pushed false e = refl
 

@@ -1,14 +1,12 @@
 -- A translation that no hint serves, as its changes: what it asks of the cache, its answer, where that came from, the entry that a walk
 -- made; and what becomes of the counters, the entry and the hint.
-use Rattle.std.specs.Prelude.{ℕ, Bool, true, false}
+use Rattle.std.specs.Prelude.{ℕ, Bool, true, false, Option, Ok, Err}
 use Rattle.word.specs.Bits.{pick}
-use Rattle.word.specs.declared.ram.Word.{Word}
 use Rattle.fault.specs.First.{first}
 use Rattle.walk.specs.Regime.{stage1On, regimeOf}
 use Rattle.walk.specs.Tag.{untagged}
 use Rattle.walk.specs.Walk.{walk_of}
-use Rattle.walk.specs.declared.{regime.Regime.Regime, regime.Bank.Bank, level.Leaf.Leaf, level.Walked.Walked}
-use Rattle.walk.specs.declared.level.Walked.TheVariants.{Mapped, Fault}
+use Rattle.walk.specs.declared.{regime.Regime.Regime, regime.Bank.Bank, level.Leaf.Leaf}
 use Rattle.tlb.specs.Access.{tag_of, userOf, judged}
 use Rattle.tlb.specs.Entry.{blank, serves}
 use Rattle.tlb.specs.Hint.{page_of, hintFor, fetchFor}
@@ -20,6 +18,7 @@ use Rattle.tlb.specs.declared.{resolve.Query.Query, resolve.Asked.Asked, resolve
 use Rattle.tlb.specs.declared.access.Answer.TheVariants.{Address, Status}
 use Rattle.tlb.specs.declared.resolve.Source.TheVariants.{FromHint, FromFlat, FromEntry, FromWalk, NoLeaf}
 use Rattle.tlb.specs.declared.resolve.Asked.TheVariants.{Flat, Of}
+use Rattle.walk.specs.Answers.{Walked}
 
 -- an untagged address, in its regime, and the tag of its page
 abbrev pub queryOf : Regime → ℕ → Query
@@ -56,24 +55,24 @@ byEntry q privilege e va kind = record { answer = judged e (userOf q.regime priv
 
 -- a leaf becomes an entry and is judged; a fault makes none
 unfoldable pub byWalk : Walked → Query → Privilege → Current → ℕ → Kind → Resolved
-byWalk (Mapped leaf) q privilege at va kind =
+byWalk (Ok leaf) q privilege at va kind =
     record {
       answer = judged (entryFor leaf at q.tag) (userOf q.regime privilege kind) kind va;
       source = FromWalk;
       made = entryFor leaf at q.tag;
     }
-byWalk (Fault code) q privilege at va kind = record { answer = Status (first code); source = NoLeaf; made = blank }
+byWalk (Err code) q privilege at va kind = record { answer = Status (first code); source = NoLeaf; made = blank }
 
 -- by the entry, where it answers for the tag; else by the walk
 unfoldable pub resolveWith : Walked → Query → Privilege → Current → Entry → ℕ → Kind → Resolved
 resolveWith w q privilege at e va kind = pick (serves e at q.tag) (byEntry q privilege e va kind) (byWalk w q privilege at va kind)
 
 -- the same with the registers' own walk
-unfoldable pub resolveOf : Query → Bank → Privilege → Current → Entry → ℕ → Kind → (ℕ → Word) → Resolved
+unfoldable pub resolveOf : Query → Bank → Privilege → Current → Entry → ℕ → Kind → (ℕ → Option ℕ) → Resolved
 resolveOf q s privilege at e va kind memory = resolveWith (walk_of s q.regime q.page memory) q privilege at e va kind
 
 -- with stage 1 off the address itself
-abbrev pub changesOf : Asked → Bank → Privilege → Current → Entry → ℕ → Kind → (ℕ → Word) → Resolved
+abbrev pub changesOf : Asked → Bank → Privilege → Current → Entry → ℕ → Kind → (ℕ → Option ℕ) → Resolved
 changesOf Flat s privilege at e va kind memory = byItself va
 changesOf (Of q) s privilege at e va kind memory = resolveOf q s privilege at e va kind memory
 

@@ -1,14 +1,10 @@
 -- Every list of operations on a new cache: what is seen of it, answer by answer, is what is seen of the plain model. Neither `live` nor the
 -- well-formed caches stand in the statement.
-use Rattle.std.specs.Prelude.{◌≡◌, ℕ, ◌≤◌, List, [], ◌∷◌, refl}
-use Rattle.std.proofs.Common.{ap, ap₂, ◌∙◌}
-use Rattle.tlb.specs.Lists.{Each, more}
-use Rattle.tlb.specs.Tlb.{fresh, invalidateOf, retagOf, broadcastOf}
-use Rattle.tlb.specs.Model.{Slot, empty, holds, Counters, Model, emptyModel, invalidate, retag, broadcast, Access, translate, fetch}
-use Rattle.tlb.specs.Live.{countersOf, pendingOf, live, WellFormed, LeafLevel}
-use Rattle.tlb.specs.Refines.{fresh-live, fresh-sound, invalidate-live, invalidate-sound, retag-live, retag-sound, broadcast-live, broadcast-sound}
+use Rattle.std.specs.Prelude.{◌≡◌, ℕ, ◌≤◌, List, [], ◌∷◌}
+use Rattle.tlb.specs.Tlb.{invalidateOf, retagOf, broadcastOf}
+use Rattle.tlb.specs.Model.{Slot, empty, holds, Counters, Model, invalidate, retag, broadcast, Access, translate, fetch}
+use Rattle.tlb.specs.Live.{countersOf, pendingOf, LeafLevel}
 use Rattle.tlb.specs.Step.{translationIn, tlbAfter, fetchIn, fetchedIn}
-use Rattle.tlb.specs.Translations.{translation-follows, fetch-follows}
 use Rattle.tlb.specs.declared.{access.Answer.Answer, Tlb.Tlb, Inval.Inval}
 use Rattle.tlb.specs.declared.access.Kind.TheVariants.{Fetch}
 
@@ -77,37 +73,3 @@ seenIn o m = record { answer = modelAnswer o m; counts = (modelAfter o m).counts
 unfoldable pub modelRun : List Op → Model → List Seen
 modelRun [] m = []
 modelRun (o ∷ os) m = seenIn o m ∷ modelRun os (modelAfter o m)
-
--- one operation
-step-live : (o : Op) (t : Tlb) → WellFormed t → Fair o → live (afterOp o t) ≡ modelAfter o (live t)
-step-live (invalidates what) t s f = invalidate-live t s what
-step-live (retags asid) t s f = retag-live t s asid
-step-live (broadcasts what) t s f = broadcast-live t what
-step-live (translates a) t s f = (translation-follows a t s f.1 f.0).after
-step-live (fetches a) t s f = (fetch-follows a t s f.2 f.1 f.0).after
-
-step-sound : (o : Op) (t : Tlb) → WellFormed t → Fair o → WellFormed (afterOp o t)
-step-sound (invalidates what) t s f = invalidate-sound t s what
-step-sound (retags asid) t s f = retag-sound t s asid
-step-sound (broadcasts what) t s f = broadcast-sound t what s
-step-sound (translates a) t s f = (translation-follows a t s f.1 f.0).well
-step-sound (fetches a) t s f = (fetch-follows a t s f.2 f.1 f.0).well
-
-step-answer : (o : Op) (t : Tlb) → WellFormed t → Fair o → answer_of o t ≡ modelAnswer o (live t)
-step-answer (invalidates what) t s f = refl
-step-answer (retags asid) t s f = refl
-step-answer (broadcasts what) t s f = refl
-step-answer (translates a) t s f = ap holds (translation-follows a t s f.1 f.0).answer
-step-answer (fetches a) t s f = ap holds (fetch-follows a t s f.2 f.1 f.0).answer
-
-runs-from : (os : List Op) (t : Tlb) → WellFormed t → Each Fair os → run os t ≡ modelRun os (live t)
-unfolding run modelRun
-runs-from [] t s fs = refl
-runs-from (o ∷ os) t s (more f fs) =
-    let after : live (afterOp o t) ≡ modelAfter o (live t) = step-live o t s f in
-    let saw : seenOf o t ≡ seenIn o (live t) =
-    λ n. record { answer = step-answer o t s f n; counts = (after n).counts; pending = (after n).pending } in
-    ap₂ {B = List Seen} {C = List Seen} ◌∷◌ saw (runs-from os (afterOp o t) (step-sound o t s f) fs ∙ ap (modelRun os) after)
-
-pub runs : (os : List Op) → Each Fair os → run os fresh ≡ modelRun os emptyModel
-runs os fs = runs-from os fresh fresh-sound fs ∙ ap (modelRun os) fresh-live

@@ -1,22 +1,19 @@
 -- What each operation of the cache does, on the code's own types.
-use Rattle.std.specs.Prelude.{ℕ, Bool, true, false, ◌==◌}
+use Rattle.std.specs.Prelude.{ℕ, Bool, true, false, ◌==◌, Option, Some, None}
 use Rattle.word.specs.Bits.{pick}
 use Rattle.tlb.specs.Entry.{slot_of, serves, stamped}
 use Rattle.tlb.specs.Count.{noCounts, epochCounted, flushCounted, dropCounted}
 use Rattle.tlb.specs.Cache.{emptyCache, entry_at, setEntry, flushed, withoutPage, withoutAsid, retagged}
 use Rattle.tlb.specs.declared.{entry.Entry.Entry, cache.Cache.Cache, count.Counts.Counts, Tlb.Tlb, Inval.Inval}
-use Rattle.tlb.specs.declared.{Pending.Pending, Found.Found}
 use Rattle.tlb.specs.declared.Inval.TheVariants.{All, Page, Asid}
-use Rattle.tlb.specs.declared.Pending.TheVariants.{Nothing, Some}
-use Rattle.tlb.specs.declared.Found.TheVariants.{Hit, Missing}
 
 abbrev pub fresh : Tlb
-fresh = record { cache = emptyCache; counts = noCounts; broadcast = Nothing }
+fresh = record { cache = emptyCache; counts = noCounts; broadcast = None }
 
 -- the entry in the slot of the tag, where it answers for it
-unfoldable pub getOf : Tlb → ℕ → Found
+unfoldable pub getOf : Tlb → ℕ → Option Entry
 getOf t tag =
-    pick (serves (entry_at t.cache (slot_of tag)) t.cache.current tag) (Hit (entry_at t.cache (slot_of tag))) Missing
+    pick (serves (entry_at t.cache (slot_of tag)) t.cache.current tag) (Some (entry_at t.cache (slot_of tag))) None
 
 -- another cache and other counters; what is pending stays
 abbrev pub tlbWith : Tlb → Cache → Counts → Tlb
@@ -55,8 +52,8 @@ sameInval (Asid n) (Page q) = false
 sameInval (Asid n) (Asid m) = n == m
 
 -- nothing pending: this; the same pending: it stays; another: All
-abbrev pub pendingAfter : Pending → Inval → Pending
-pendingAfter Nothing what = Some what
+abbrev pub pendingAfter : Option Inval → Inval → Option Inval
+pendingAfter None what = Some what
 pendingAfter (Some earlier) what = Some (pick (sameInval earlier what) what All)
 
 unfoldable pub broadcastOf : Tlb → Inval → Tlb

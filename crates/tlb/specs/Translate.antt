@@ -1,26 +1,42 @@
 -- One translation over small values, for any walk: the hint, or the changes of a translation that no hint serves, applied.
-use Rattle.std.specs.Prelude.{◌≡◌, ℕ, Bool, true, false, ◌&&◌, ◌==◌}
+use Rattle.std.specs.Prelude.{◌≡◌, ℕ, Bool, true, false, ◌&&◌, ◌==◌, Option, Some, None}
 use Rattle.std.proofs.Math.Path.{refl}
 use Rattle.std.proofs.Common.{sym, ap, ◌∙◌}
 use Rattle.word.specs.Bits.{pick}
 use Rattle.walk.specs.Regime.{stage1On, regimeOf}
 use Rattle.walk.specs.Tag.{untagged}
 use Rattle.walk.specs.Walk.{walk_of}
-use Rattle.word.specs.declared.ram.Word.{Word}
-use Rattle.walk.specs.declared.{regime.Regime.Regime, regime.Bank.Bank, level.Walked.Walked}
+use Rattle.walk.specs.declared.{regime.Regime.Regime, regime.Bank.Bank}
 use Rattle.tlb.specs.Access.{mayHint}
 use Rattle.tlb.specs.Hint.{onPage, hintKey, fetchFound}
 use Rattle.tlb.specs.Resolve.{queryOf, askWith, askOf, byItself, resolveWith, resolveOf, changesOf, countedBy, keptBy, hintAfter, fetchAfter}
 use Rattle.tlb.specs.declared.{entry.Entry.Entry, entry.Current.Current, access.Kind.Kind, hint.Hint.Hint}
-use Rattle.tlb.specs.declared.{hint.FetchHint.FetchHint, hint.HintAnswer.HintAnswer, count.Counts.Counts}
+use Rattle.tlb.specs.declared.{hint.FetchHint.FetchHint, count.Counts.Counts}
 use Rattle.tlb.specs.declared.{access.Privilege.Privilege, resolve.Query.Query, resolve.Asked.Asked}
-use Rattle.tlb.specs.declared.{resolve.Resolved.Resolved, cells.Translation.Translation}
-use Rattle.tlb.specs.declared.cells.FetchTranslation.{FetchTranslation}
+use Rattle.tlb.specs.declared.resolve.Resolved.{Resolved}
 use Rattle.tlb.specs.declared.access.Kind.TheVariants.{Fetch}
-use Rattle.tlb.specs.declared.hint.HintAnswer.TheVariants.{At, Unknown}
+use Rattle.tlb.specs.declared.access.Answer.{Answer}
 use Rattle.tlb.specs.declared.access.Answer.TheVariants.{Address}
+use Rattle.tlb.specs.declared.resolve.Source.{Source}
 use Rattle.tlb.specs.declared.resolve.Source.TheVariants.{FromHint}
 use Rattle.tlb.specs.declared.resolve.Asked.TheVariants.{Flat, Of}
+use Rattle.walk.specs.Answers.{Walked}
+
+-- what a translation leaves, its answer, and where that came from
+pub record Translation : Type 0 where
+  pub counts : Counts
+  pub hint : Hint
+  pub entry : Entry
+  pub answer : Answer
+  pub source : Source
+
+-- the same of the translation that a fetch begins with
+pub record FetchTranslation : Type 0 where
+  pub counts : Counts
+  pub fetch : FetchHint
+  pub entry : Entry
+  pub answer : Answer
+  pub source : Source
 
 -- without a hint: with stage 1 off the address itself
 unfoldable pub missWith : Bool → ℕ → Walked → Regime → Privilege → Current → Entry → ℕ → Kind → Resolved
@@ -56,10 +72,10 @@ fetchApplied t level k f e va =
       source = t.source;
     }
 
-unfoldable pub fetchEnd : HintAnswer → Bool → ℕ → Walked → Regime → Privilege → Current → Counts → FetchHint → Entry → ℕ → FetchTranslation
-fetchEnd (At pa) on page w r privilege at k f e va =
+unfoldable pub fetchEnd : Option ℕ → Bool → ℕ → Walked → Regime → Privilege → Current → Counts → FetchHint → Entry → ℕ → FetchTranslation
+fetchEnd (Some pa) on page w r privilege at k f e va =
     record { counts = k; fetch = f; entry = e; answer = Address pa; source = FromHint }
-fetchEnd Unknown on page w r privilege at k f e va = fetchApplied (missWith on page w r privilege at e va Fetch) privilege.level k f e va
+fetchEnd None on page w r privilege at k f e va = fetchApplied (missWith on page w r privilege at e va Fetch) privilege.level k f e va
 
 -- the translation that a fetch begins with: the fetch hint first, whatever the mark
 unfoldable pub fetchWith : Bool → ℕ → Walked → Regime → Privilege → Current → Counts → FetchHint → Entry → ℕ → FetchTranslation
@@ -73,27 +89,27 @@ module _ (s : Bank) (level va : ℕ) where
   abbrev pub untaggedNow : ℕ
   untaggedNow = untagged s.tcr (regimeOf level) va
 
-  abbrev pub walkNow : (ℕ → Word) → Walked
+  abbrev pub walkNow : (ℕ → Option ℕ) → Walked
   walkNow memory = walk_of s (regimeOf level) untaggedNow memory
 
 module _ (s : Bank) (privilege : Privilege) (at : Current) where
-  unfoldable pub missOf : Entry → ℕ → Kind → (ℕ → Word) → Resolved
+  unfoldable pub missOf : Entry → ℕ → Kind → (ℕ → Option ℕ) → Resolved
   missOf e va kind memory =
       missWith (onNow s privilege.level va) (untaggedNow s privilege.level va) (walkNow s privilege.level va memory)
       (regimeOf privilege.level) privilege at e va kind
 
-  unfoldable pub translationOf : Counts → Hint → Entry → ℕ → Kind → (ℕ → Word) → Translation
+  unfoldable pub translationOf : Counts → Hint → Entry → ℕ → Kind → (ℕ → Option ℕ) → Translation
   translationOf k h e va kind memory =
       translationWith (onNow s privilege.level va) (untaggedNow s privilege.level va) (walkNow s privilege.level va memory)
       (regimeOf privilege.level) privilege at k h e va kind
 
-  unfoldable pub fetchOf : Counts → FetchHint → Entry → ℕ → (ℕ → Word) → FetchTranslation
+  unfoldable pub fetchOf : Counts → FetchHint → Entry → ℕ → (ℕ → Option ℕ) → FetchTranslation
   fetchOf k f e va memory =
       fetchWith (onNow s privilege.level va) (untaggedNow s privilege.level va) (walkNow s privilege.level va memory)
       (regimeOf privilege.level) privilege at k f e va
 
   -- the changes of what is asked
-  pub changes-are : (e : Entry) (va : ℕ) (kind : Kind) (memory : ℕ → Word)
+  pub changes-are : (e : Entry) (va : ℕ) (kind : Kind) (memory : ℕ → Option ℕ)
       → changesOf (askOf s privilege va) s privilege at e va kind memory ≡ missOf e va kind memory
   unfolding askOf missOf missWith resolveOf
   changes-are e va kind memory = go (stage1On s (regimeOf privilege.level))

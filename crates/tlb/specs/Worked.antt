@@ -1,9 +1,7 @@
 -- A worked run of the plain model, by computation: a 2 MiB block is walked, hinted, dropped by a Page of another of its pages, walked again,
 -- found after an Asid that is not its own, and gone after an All.
-use Rattle.std.specs.Prelude.{◌≡◌, ℕ, Bool, true, false, List, [], ◌∷◌, map, refl}
+use Rattle.std.specs.Prelude.{◌≡◌, ℕ, Bool, true, false, List, [], ◌∷◌, map, refl, Ok, Err}
 use Rattle.walk.specs.declared.regime.Regime.TheVariants.{El1}
-use Rattle.walk.specs.declared.level.Walked.{Walked}
-use Rattle.walk.specs.declared.level.Walked.TheVariants.{Mapped, Fault}
 use Rattle.tlb.specs.Model.{Slot, empty, holds, emptyModel, folded, keep, line_for, judge, walked, looked, unhinted, noted, tried, hinted, translate}
 use Rattle.tlb.specs.Model.{invalidate}
 use Rattle.tlb.specs.Runs.{Op, invalidates, translates, Seen, modelRun}
@@ -11,10 +9,11 @@ use Rattle.tlb.specs.declared.{access.Kind.Kind, access.Answer.Answer}
 use Rattle.tlb.specs.declared.access.Kind.TheVariants.{Read, Write, Fetch}
 use Rattle.tlb.specs.declared.access.Answer.TheVariants.{Address, Status}
 use Rattle.tlb.specs.declared.Inval.TheVariants.{All, Page, Asid}
+use Rattle.walk.specs.Answers.{Walked}
 
 -- a block of the ASID in force, readable at EL1, at 0x80000000
 abbrev block : Walked
-block = Mapped (record { oa = 0x80003000; desc = 0; perms = 8; level = 2; global = false })
+block = Ok (record { oa = 0x80003000; desc = 0; perms = 8; level = 2; global = false })
 
 -- an EL1 access to 0x40003123, with stage 1 on
 abbrev access : Kind → Walked → Op
@@ -39,7 +38,8 @@ answered (holds (Status f)) = f.fsc
 abbrev row : Seen → List ℕ
 row s = answered s.answer ∷ s.counts.hits 1 ∷ s.counts.walks 1 ∷ s.counts.flushes ∷ s.counts.drops ∷ s.counts.epoch ∷ []
 
-pub worked :
+abbrev pub WorkedRun : Type 0
+WorkedRun =
     map row
     (modelRun
     (access Read block
@@ -52,7 +52,7 @@ pub worked :
     ∷ invalidates (Page 0x40200)
     ∷ access Read block
     ∷ invalidates All
-    ∷ access Read (Fault 6)
+    ∷ access Read (Err 6)
     ∷ [])
     emptyModel)
     ≡ (0x80003123 ∷ 0 ∷ 1 ∷ 0 ∷ 0 ∷ 0 ∷ [])
@@ -67,12 +67,14 @@ pub worked :
     ∷ (0 ∷ 3 ∷ 2 ∷ 1 ∷ 2 ∷ 4 ∷ [])
     ∷ (6 ∷ 3 ∷ 3 ∷ 1 ∷ 2 ∷ 4 ∷ [])
     ∷ []
+
+pub worked : WorkedRun
 unfolding modelRun translate hinted tried noted unhinted looked walked judge keep line_for invalidate folded
 worked = refl
 
 -- Levels and the mark: each access is counted at its own level, and under the mark EL1's at EL1.
 abbrev open-page : Walked
-open-page = Mapped (record { oa = 0x90005000; desc = 0; perms = 63; level = 3; global = true })
+open-page = Ok (record { oa = 0x90005000; desc = 0; perms = 63; level = 3; global = true })
 
 abbrev from : ℕ → Bool → Kind → ℕ → Op
 from level mark k va =
@@ -93,7 +95,8 @@ levels s =
     s.counts.hits 0 ∷ s.counts.walks 0 ∷ s.counts.hits 1 ∷ s.counts.walks 1 ∷ s.counts.hits 2 ∷ s.counts.walks 2 ∷ s.counts.hits 3
     ∷ s.counts.walks 3 ∷ []
 
-pub worked-levels :
+abbrev pub WorkedLevels : Type 0
+WorkedLevels =
     map levels
     (modelRun
     (from 0 false Read 0x5000
@@ -113,5 +116,7 @@ pub worked-levels :
     ∷ (1 ∷ 1 ∷ 2 ∷ 1 ∷ 0 ∷ 0 ∷ 0 ∷ 0 ∷ [])
     ∷ (1 ∷ 1 ∷ 2 ∷ 2 ∷ 0 ∷ 0 ∷ 0 ∷ 0 ∷ [])
     ∷ []
+
+pub worked-levels : WorkedLevels
 unfolding modelRun translate hinted tried noted unhinted looked walked judge keep line_for invalidate folded
 worked-levels = refl

@@ -1,6 +1,6 @@
 // The counters. Each wraps at 2^64.
-ghost use Rattle.std.specs.Prelude.{◌≡◌};
-ghost use Rattle.tlb.specs.Count.{noTally, hitTaken, walkTaken, levelPlace, tallyAt, withTally};
+ghost use Rattle.std.specs.Prelude.{◌≡◌, ◌<◌};
+ghost use Rattle.tlb.specs.Count.{noTally, hitTaken, walkTaken, levelPlace};
 ghost use Rattle.tlb.specs.Count.{noCounts, hitCounted, walkCounted, flushCounted, dropCounted, epochCounted};
 
 // The counters of one exception level: answers from entries, and walks.
@@ -19,103 +19,76 @@ pub struct Counts {
     pub epoch: u64,
 }
 
-fn no_tally() -> Tally
-    ensures { result ≡ noTally }
-{
-    Tally { hits: 0, walks: 0 }
-}
-
-#[tactic(auto, unfolding(crate::specs::Count::noTallies))]
-pub fn none() -> Counts
-    ensures { result ≡ noCounts }
-{
-    let t = no_tally();
-    Counts {
-        levels: [t; 4],
-        flushes: 0,
-        drops: 0,
-        epoch: 0,
-    }
-}
-
-// A level has two bits.
+// The place of a level's counters: a level has two bits.
 pub fn level_place(level: u8) -> usize
-    ensures { result ≡ levelPlace level }
+    ensures value { result ≡ levelPlace level }
+    ensures upper_bound { result < 4 }
 {
     (level % 4) as usize
 }
 
-// What a hit, a walk adds to the counters of its level.
-pub fn taken_hit(t: Tally) -> Tally
-    ensures { result ≡ hitTaken t }
-{
-    let mut n = t;
-    n.hits = std::num::wrapping_add_u64(t.hits, 1);
-    n
+impl Tally {
+    pub fn new() -> Self
+        ensures { result ≡ noTally }
+    {
+        Tally { hits: 0, walks: 0 }
+    }
+
+    pub fn add_hit(&mut self)
+        ensures { self.new ≡ hitTaken self.old }
+    {
+        self.hits = self.hits.wrapping_add(1);
+    }
+
+    pub fn add_walk(&mut self)
+        ensures { self.new ≡ walkTaken self.old }
+    {
+        self.walks = self.walks.wrapping_add(1);
+    }
 }
 
-pub fn taken_walk(t: Tally) -> Tally
-    ensures { result ≡ walkTaken t }
-{
-    let mut n = t;
-    n.walks = std::num::wrapping_add_u64(t.walks, 1);
-    n
-}
+impl Counts {
+    #[tactic(auto, unfolding(crate::specs::Count::noTallies))]
+    pub fn new() -> Self
+        ensures { result ≡ noCounts }
+    {
+        Counts {
+            levels: [Tally::new(); 4],
+            flushes: 0,
+            drops: 0,
+            epoch: 0,
+        }
+    }
 
-fn tally_at(k: Counts, level: u8) -> Tally
-    ensures { result ≡ tallyAt k (levelPlace level) }
-{
-    let i = level_place(level);
-    k.levels[i]
-}
+    pub fn add_hit(&mut self, level: u8)
+        ensures { self.new ≡ hitCounted level self.old }
+    {
+        self.levels[level_place(level)].add_hit();
+    }
 
-fn with_tally(k: Counts, level: u8, t: Tally) -> Counts
-    ensures { result ≡ withTally k (levelPlace level) t }
-{
-    let mut n = k;
-    let i = level_place(level);
-    n.levels[i] = t;
-    n
-}
+    pub fn add_walk(&mut self, level: u8)
+        ensures { self.new ≡ walkCounted level self.old }
+    {
+        self.levels[level_place(level)].add_walk();
+    }
 
-pub fn hit(k: Counts, level: u8) -> Counts
-    ensures { result ≡ hitCounted level k }
-{
-    let t = tally_at(k, level);
-    let n = taken_hit(t);
-    with_tally(k, level, n)
-}
+    pub fn add_epoch(&mut self)
+        ensures { self.new ≡ epochCounted self.old }
+    {
+        self.epoch = self.epoch.wrapping_add(1);
+    }
 
-pub fn walk(k: Counts, level: u8) -> Counts
-    ensures { result ≡ walkCounted level k }
-{
-    let t = tally_at(k, level);
-    let n = taken_walk(t);
-    with_tally(k, level, n)
-}
+    pub fn add_flush(&mut self)
+        ensures { self.new ≡ flushCounted self.old }
+    {
+        self.flushes = self.flushes.wrapping_add(1);
+        self.add_epoch();
+    }
 
-pub fn epoch(k: Counts) -> Counts
-    ensures { result ≡ epochCounted k }
-{
-    let mut n = k;
-    n.epoch = std::num::wrapping_add_u64(k.epoch, 1);
-    n
-}
-
-pub fn flush(k: Counts) -> Counts
-    ensures { result ≡ flushCounted k }
-{
-    let mut n = k;
-    n.flushes = std::num::wrapping_add_u64(k.flushes, 1);
-    n.epoch = std::num::wrapping_add_u64(k.epoch, 1);
-    n
-}
-
-pub fn drop(k: Counts) -> Counts
-    ensures { result ≡ dropCounted k }
-{
-    let mut n = k;
-    n.drops = std::num::wrapping_add_u64(k.drops, 1);
-    n.epoch = std::num::wrapping_add_u64(k.epoch, 1);
-    n
+    pub fn add_drop(&mut self)
+        ensures { self.new ≡ dropCounted self.old }
+    {
+        self.drops = self.drops.wrapping_add(1);
+        self.add_epoch();
+    }
 }

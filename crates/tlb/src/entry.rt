@@ -1,7 +1,7 @@
 // One entry: what a walk found for a page of a regime.
 ghost use Rattle.std.specs.Prelude.{◌≡◌, ◌<◌, ◌≤◌};
 ghost use Rattle.tlb.specs.Entry.{blank as blankOf, slot_of, serves as servesOf, stamped as stampedOf};
-ghost use Rattle.tlb.specs.Entry.{untagged as untaggedOf, span_of, pageDropped, asidDropped};
+ghost use Rattle.tlb.specs.Entry.{span_of, pageDropped, asidDropped};
 
 #[derive(Clone, Copy)]
 pub struct Entry {
@@ -24,20 +24,8 @@ pub struct Current {
     pub asid: u16,
 }
 
-// An entry that answers for no tag.
-pub fn blank() -> Entry
-    ensures { result ≡ blankOf }
-{
-    Entry {
-        tag: 0,
-        generation: 0,
-        perms: 0,
-        level: 0,
-        global: false,
-        asid: 0,
-        pa: 0,
-    }
-}
+// The low 44 bits of a page number.
+const PAGES: u64 = 0x1000_0000_0000;
 
 // The low ten bits of a tag's page.
 pub fn slot(tag: u64) -> usize
@@ -45,29 +33,6 @@ pub fn slot(tag: u64) -> usize
     ensures upper_bound { result < 1024 }
 {
     (tag / 4 % 1024) as usize
-}
-
-// Whether an entry answers for a tag.
-pub fn serves(e: Entry, at: Current, tag: u64) -> bool
-    ensures { result ≡ servesOf e at tag }
-{
-    (e.tag == tag) & (e.generation == at.generation) & (e.global | (e.asid == at.asid))
-}
-
-pub fn stamped(e: Entry, generation: u32) -> Entry
-    ensures { result ≡ stampedOf e generation }
-{
-    let mut made = e;
-    made.generation = generation;
-    made
-}
-
-fn untagged(e: Entry) -> Entry
-    ensures { result ≡ untaggedOf e }
-{
-    let mut out = e;
-    out.tag = 0;
-    out
 }
 
 // How many low bits of a page number a leaf of the level spans: 1 GiB, 2 MiB or one page.
@@ -82,23 +47,54 @@ fn span(level: u8) -> u64
     }
 }
 
-// An entry after a Page: out if it is of the generation and translates the page.
-#[tactic(auto, unfolding(crate::specs::Entry::pageDropped))]
-pub fn page_dropped(e: Entry, generation: u32, page: u64) -> Entry
-    ensures { result ≡ pageDropped generation page e }
-{
-    let span = span(e.level);
-    let own = e.tag / 4 % 0x1000_0000_0000;
-    let named = page % 0x1000_0000_0000;
-    let out = (e.generation == generation) & (own >> span == named >> span);
-    if out { untagged(e) } else { e }
-}
+impl Entry {
+    // An entry that answers for no tag.
+    pub fn blank() -> Self
+        ensures { result ≡ blankOf }
+    {
+        Entry {
+            tag: 0,
+            generation: 0,
+            perms: 0,
+            level: 0,
+            global: false,
+            asid: 0,
+            pa: 0,
+        }
+    }
 
-// An entry after an Asid: out if it was walked for the ASID and is not global.
-#[tactic(auto, unfolding(crate::specs::Entry::asidDropped))]
-pub fn asid_dropped(e: Entry, asid: u16) -> Entry
-    ensures { result ≡ asidDropped asid e }
-{
-    let out = !e.global & (e.asid == asid);
-    if out { untagged(e) } else { e }
+    // Whether the entry answers for a tag.
+    pub fn serves(&self, at: Current, tag: u64) -> bool
+        ensures { result ≡ servesOf self.now at tag }
+    {
+        self.tag == tag && self.generation == at.generation && (self.global || self.asid == at.asid)
+    }
+
+    pub fn stamped(self, generation: u32) -> Self
+        ensures { result ≡ stampedOf self generation }
+    {
+        Entry { generation, ..self }
+    }
+
+    // After a Page: out if it is of the generation and translates the page.
+    #[tactic(auto, unfolding(crate::specs::Entry::pageDropped))]
+    pub fn drop_page(&mut self, generation: u32, page: u64)
+        ensures { self.new ≡ pageDropped generation page self.old }
+    {
+        let span = span(self.level);
+        let own = self.tag / 4 % PAGES;
+        if self.generation == generation && own >> span == page % PAGES >> span {
+            self.tag = 0;
+        }
+    }
+
+    // After an Asid: out if it was walked for the ASID and is not global.
+    #[tactic(auto, unfolding(crate::specs::Entry::asidDropped))]
+    pub fn drop_asid(&mut self, asid: u16)
+        ensures { self.new ≡ asidDropped asid self.old }
+    {
+        if !self.global && self.asid == asid {
+            self.tag = 0;
+        }
+    }
 }

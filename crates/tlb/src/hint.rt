@@ -1,6 +1,7 @@
 // Hints: pages that an access was allowed to, by raw page and level.
-ghost use Rattle.std.specs.Prelude.{◌≡◌};
-ghost use Rattle.tlb.specs.Hint.{noHint, noFetch, onPage, dataSlot, hintKey, hintFor, fetchFor, fetchFound};
+ghost use Rattle.std.specs.Prelude.{◌≡◌, ◌<◌, false};
+ghost use Rattle.tlb.specs.Hint.{noHint, noFetch, page_of, onPage, dataSlot, hintKey, hintFor, fetchFor, fetchFound};
+ghost use Rattle.tlb.specs.Access.{isFetch};
 
 use crate::access::Kind;
 
@@ -20,32 +21,11 @@ pub struct FetchHint {
     pub pa: u64,
 }
 
-// What the fetch hint says of an address.
-#[derive(Clone, Copy)]
-pub enum HintAnswer {
-    At(u64),
-    Unknown,
-}
-
-// The hint that matches no key.
-pub fn no_hint() -> Hint
-    ensures { result ≡ noHint }
+// The address of an address's page.
+fn page_of(va: u64) -> u64
+    ensures { result ≡ page_of va }
 {
-    Hint {
-        key: 0xFFFF_FFFF_FFFF_FFFF,
-        pa: 0,
-    }
-}
-
-pub fn no_fetch() -> FetchHint
-    ensures { result ≡ noFetch }
-{
-    FetchHint {
-        some: false,
-        page: 0,
-        level: 0,
-        pa: 0,
-    }
+    va / 4096 * 4096
 }
 
 // The physical page pa, with the low twelve bits of va.
@@ -59,7 +39,8 @@ pub fn on_page(pa: u64, va: u64) -> u64
 // none below 512.
 #[tactic(auto, unfolding(crate::specs::Hint::place_of))]
 pub fn data_slot(va: u64, kind: Kind) -> usize
-    ensures { result ≡ dataSlot va kind }
+    ensures value { result ≡ dataSlot va kind }
+    ensures upper_bound { isFetch kind ≡ false → result < 512 }
 {
     let page = va / 4096;
     let place = ((page ^ (page >> 5) ^ (page >> 10)) % 256) as usize;
@@ -73,40 +54,63 @@ pub fn data_slot(va: u64, kind: Kind) -> usize
 pub fn hint_key(va: u64, level: u8) -> u64
     ensures { result ≡ hintKey va level }
 {
-    va / 4096 * 4096 + level as u64
+    page_of(va) + level as u64
 }
 
-// The hint that an access to va, allowed to pa, leaves.
-pub fn hint_for(va: u64, level: u8, pa: u64) -> Hint
-    ensures { result ≡ hintFor va level pa }
-{
-    let key = hint_key(va, level);
-    Hint {
-        key,
-        pa: pa / 4096 * 4096,
+impl Hint {
+    // The hint that matches no key.
+    pub fn none() -> Self
+        ensures { result ≡ noHint }
+    {
+        Hint {
+            key: u64::MAX,
+            pa: 0,
+        }
+    }
+
+    // The hint that an access to va, allowed to pa, leaves.
+    pub fn new(va: u64, level: u8, pa: u64) -> Self
+        ensures { result ≡ hintFor va level pa }
+    {
+        Hint {
+            key: hint_key(va, level),
+            pa: page_of(pa),
+        }
     }
 }
 
-// The fetch hint that a fetch of va, allowed to pa, leaves.
-pub fn fetch_for(va: u64, level: u8, pa: u64) -> FetchHint
-    ensures { result ≡ fetchFor va level pa }
-{
-    FetchHint {
-        some: true,
-        page: va / 4096 * 4096,
-        level,
-        pa: pa / 4096 * 4096,
+impl FetchHint {
+    pub fn none() -> Self
+        ensures { result ≡ noFetch }
+    {
+        FetchHint {
+            some: false,
+            page: 0,
+            level: 0,
+            pa: 0,
+        }
     }
-}
 
-// Where a fetch of va goes by the hint.
-pub fn fetch_found(f: FetchHint, level: u8, va: u64) -> HintAnswer
-    ensures { result ≡ fetchFound f level va }
-{
-    let found = f.some & (f.page == va / 4096 * 4096) & (f.level == level);
-    if found {
-        HintAnswer::At(f.pa | (va % 4096))
-    } else {
-        HintAnswer::Unknown
+    // The hint that a fetch of va, allowed to pa, leaves.
+    pub fn new(va: u64, level: u8, pa: u64) -> Self
+        ensures { result ≡ fetchFor va level pa }
+    {
+        FetchHint {
+            some: true,
+            page: page_of(va),
+            level,
+            pa: page_of(pa),
+        }
+    }
+
+    // Where a fetch of va goes by the hint.
+    pub fn find(&self, level: u8, va: u64) -> Option<u64>
+        ensures { result ≡ fetchFound self.now level va }
+    {
+        if self.some && self.page == page_of(va) && self.level == level {
+            Some(on_page(self.pa, va))
+        } else {
+            None
+        }
     }
 }

@@ -6,10 +6,10 @@ ghost use Rattle.walk.specs.Tag.{untagged};
 ghost use Rattle.walk.specs.Walk.{walk_of};
 ghost use Rattle.tlb.specs.Resolve.{queryOf, askOf, entryFor, byEntry, byWalk, resolveOf};
 
+use crate::access;
 use crate::access::{Answer, Kind, Privilege};
 use crate::entry::{Current, Entry};
-use crate::{access, entry};
-use walk::level::{Leaf, Walked};
+use walk::level::Leaf;
 use walk::regime::{Bank, Regime};
 
 // Where an answer came from. NoLeaf: a walk that ended in a fault.
@@ -51,8 +51,11 @@ pub fn query_of(s: Bank, regime: Regime, va: u64) -> Query
     ensures { result ≡ queryOf regime (untagged s.tcr regime va) }
 {
     let page = walk::tag::untag(s.tcr, regime, va);
-    let tag = access::tag_of(regime, page);
-    Query { regime, page, tag }
+    Query {
+        regime,
+        page,
+        tag: access::tag_of(regime, page),
+    }
 }
 
 // What is asked of the cache.
@@ -60,11 +63,9 @@ pub fn query_of(s: Bank, regime: Regime, va: u64) -> Query
 pub fn ask(s: Bank, privilege: Privilege, va: u64) -> Asked
     ensures { result ≡ askOf s privilege va }
 {
-    let regime = walk::regime::regime_of(privilege.level);
-    let on = walk::regime::stage1_on(s, regime);
-    if on {
-        let q = query_of(s, regime, va);
-        Asked::Of(q)
+    let regime = Regime::of_level(privilege.level);
+    if s.stage1_on(regime) {
+        Asked::Of(query_of(s, regime, va))
     } else {
         Asked::Flat
     }
@@ -85,36 +86,8 @@ pub fn entry_for(leaf: Leaf, at: Current, tag: u64) -> Entry
     }
 }
 
-// What the end of a walk does: a leaf becomes an entry and is judged, a fault makes none.
+// By a walk: a leaf becomes an entry and is judged, a fault makes none.
 #[tactic(auto, unfolding(crate::specs::Resolve::byWalk))]
-fn ends(w: Walked, q: Query, privilege: Privilege, at: Current, kind: Kind, va: u64) -> Resolved
-    ensures { result ≡ byWalk w q privilege at va kind }
-{
-    match w {
-        Walked::Mapped(leaf) => {
-            let regime = q.regime;
-            let user = access::user_of(regime, privilege, kind);
-            let made = entry_for(leaf, at, q.tag);
-            let answer = access::judge(made, user, kind, va);
-            Resolved {
-                answer,
-                source: Source::FromWalk,
-                made,
-            }
-        }
-        Walked::Fault(code) => {
-            let status = fault::first(code);
-            let made = entry::blank();
-            Resolved {
-                answer: Answer::Status(status),
-                source: Source::NoLeaf,
-                made,
-            }
-        }
-    }
-}
-
-// By a walk. A function of its own, so that the registers are laid out for the walk in this branch alone.
 pub fn walked(
     q: Query,
     s: Bank,
@@ -128,23 +101,31 @@ pub fn walked(
     ensures { result ≡ byWalk (walk_of s q.regime q.page
         (word_at base ram.now 8)) q privilege at va kind }
 {
-    let regime = q.regime;
-    let w = walk::table::walk(s, regime, q.page, base, ram);
-    ends(w, q, privilege, at, kind, va)
+    match walk::table::walk(s, q.regime, q.page, base, ram) {
+        Ok(leaf) => {
+            let made = entry_for(leaf, at, q.tag);
+            Resolved {
+                answer: made.judge(privilege.is_user(q.regime, kind), kind, va),
+                source: Source::FromWalk,
+                made,
+            }
+        }
+        Err(code) => Resolved {
+            answer: Answer::Status(fault::first(code)),
+            source: Source::NoLeaf,
+            made: Entry::blank(),
+        },
+    }
 }
 
 // By the entry, which is judged.
 pub fn by_entry(q: Query, privilege: Privilege, e: Entry, va: u64, kind: Kind) -> Resolved
     ensures { result ≡ byEntry q privilege e va kind }
 {
-    let regime = q.regime;
-    let user = access::user_of(regime, privilege, kind);
-    let answer = access::judge(e, user, kind, va);
-    let made = entry::blank();
     Resolved {
-        answer,
+        answer: e.judge(privilege.is_user(q.regime, kind), kind, va),
         source: Source::FromEntry,
-        made,
+        made: Entry::blank(),
     }
 }
 
@@ -163,8 +144,7 @@ pub fn resolve(
 ) -> Resolved
     ensures { result ≡ resolveOf q s privilege at e va kind (word_at base ram.now 8) }
 {
-    let hit = entry::serves(e, at, q.tag);
-    if hit {
+    if e.serves(at, q.tag) {
         by_entry(q, privilege, e, va, kind)
     } else {
         walked(q, s, privilege, at, va, kind, base, ram)

@@ -19,9 +19,9 @@ fn moved(e: Entry, current: u32, to: u32, later: bool) -> Entry {
     let live = e.generation == current;
     let kept = later & (current < e.generation) & (to < e.generation);
     if live {
-        return tlb::entry::stamped(e, to);
+        return e.stamped(to);
     }
-    if kept { e } else { tlb::entry::blank() }
+    if kept { e } else { Entry::blank() }
 }
 
 fn move_generation(words: &mut State, to: u32, later: bool) {
@@ -107,7 +107,7 @@ fn put_entry(words: &mut State, slot: u16, tag: u64, generation: u64, bits: u64,
             asid: (bits / 0x1_0000_0000 % 0x1_0000) as u16,
             pa,
         },
-        Err(_) => tlb::entry::blank(),
+        Err(_) => Entry::blank(),
     };
     cells::put_entry(words, j, e);
 }

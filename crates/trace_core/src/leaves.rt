@@ -1,13 +1,12 @@
 // Leaves: functions of the registers as they stand, which change nothing.
 use exception::kind::Exception;
 use exception::{report, take};
-use sysreg::encoding::Found;
+use sysreg::encoding;
 use sysreg::regs::{ControlReg, El, Register, SysReg};
-use sysreg::{encoding, regs, shape};
 use trace_text::line;
-use walk::level::{Leaf, Walked};
+use walk::level::Leaf;
 use walk::regime::Regime;
-use walk::{regime, rights, size, table, tag};
+use walk::{rights, size, table, tag};
 use word::bits::flag_word;
 use words::place::State;
 use words::regs::{bank_at, control_at};
@@ -22,11 +21,11 @@ fn pair(a: u64, b: u64) -> [u64; 4] {
 
 fn asid(state: &State) -> [u64; 4] {
     let c = control_at(state);
-    value(shape::asid(c) as u64)
+    value(c.asid() as u64)
 }
 
 fn stage1_on(state: &State, r: Regime) -> [u64; 4] {
-    value(flag_word(regime::stage1_on(bank_at(state, r), r)))
+    value(flag_word(bank_at(state, r).stage1_on(r)))
 }
 
 fn untag(state: &State, r: Regime, va: u64) -> [u64; 4] {
@@ -44,8 +43,8 @@ fn leaf_words(l: Leaf) -> [u64; 4] {
 
 fn walk_of(state: &State, r: Regime, va: u64, base: u64, ram: &[u8]) -> [u64; 4] {
     match table::walk(bank_at(state, r), r, va, base, ram) {
-        Walked::Mapped(l) => leaf_words(l),
-        Walked::Fault(status) => [8, va, status as u64, 0],
+        Ok(l) => leaf_words(l),
+        Err(status) => [8, va, status as u64, 0],
     }
 }
 
@@ -54,7 +53,7 @@ fn perms(p: u8) -> [u64; 4] {
 }
 
 fn level(el: El) -> u64 {
-    regs::index(el) as u64
+    el.index() as u64
 }
 
 fn control_pair(r: ControlReg) -> [u64; 4] {
@@ -86,11 +85,11 @@ fn sys_pair(r: SysReg) -> [u64; 4] {
 // A register's number and level, by its key.
 fn bank(key: u32) -> [u64; 4] {
     match encoding::banked(key) {
-        Found::At(found) => match found {
+        Some(found) => match found {
             Register::InControl(r) => control_pair(r),
             Register::InSys(r) => sys_pair(r),
         },
-        Found::Nothing => [2, 0, 0, 0],
+        None => [2, 0, 0, 0],
     }
 }
 
@@ -103,10 +102,9 @@ fn vector(from: u64, to: u64, spsel: bool) -> [u64; 4] {
 fn syndrome(from: u64, to: u64, pc: u64, e: Exception) -> [u64; 4] {
     let below = if from < to { 0 } else { 1 };
     let r = report::syndrome(e, below, 1, pc);
-    if r.valid {
-        pair(r.esr, r.far)
-    } else {
-        value(r.esr)
+    match r.far {
+        Some(far) => pair(r.esr, far),
+        None => value(r.esr),
     }
 }
 

@@ -1,11 +1,8 @@
 -- Document 01's "Core without a cache", as a machine of its own: fed each step's call and RAM, and no answers.
-use Rattle.std.specs.Prelude.{ℕ, length}
-use Rattle.sysreg.specs.Write.{writeReg}
-use Rattle.sysreg.specs.declared.{write.WriteAnswer.WriteAnswer, write.Written.Written}
-use Rattle.sysreg.specs.declared.write.WriteAnswer.TheVariants as Written
+use Rattle.std.specs.Prelude.{ℕ, length, Ok, Err}
+use Rattle.sysreg.specs.Write.{writeReg, WriteAnswer, Written}
 use Rattle.exception.specs.Entry.{takeSync}
 use Rattle.exception.specs.declared.{kind.Exception.Exception, take.Entered.Entered}
-use Rattle.exception.specs.declared.kind.Exception.TheVariants as Exception
 use Rattle.exception.specs.declared.kind.Stop.TheVariants as Stop
 use Rattle.sysop.specs.Op.{decodeOf}
 use Rattle.sysop.specs.Par.{atPar}
@@ -21,6 +18,7 @@ use Rattle.operations.specs.declared.call.Call.TheVariants.{Abort, Census}
 use Rattle.operations.specs.declared.call.Reply.TheVariants.{Refused, Done, Stopped}
 use Rattle.history.specs.World.{Plain}
 use Rattle.history.specs.Instance.{Ram, memoryOf, real}
+use Rattle.sysreg.specs.declared.write.WriteError.TheVariants.{Undefined, NoRegister}
 
 -- "Its state is the level, the mark, the registers kept and the general registers", "at first those of `Cpu::new`"; and
 -- what abort entry reads and sets besides: flags and PC. The record and its updates are mmu's (`Bare`, `freshBare`); what
@@ -63,9 +61,9 @@ bySys Op.Undefined = undefined
 bySys Op.Unimplemented = unimplemented
 
 abbrev pub byWrite : WriteAnswer → Ruling
-byWrite Written.Done = allowed
-byWrite Written.Undefined = undefined
-byWrite Written.NoRegister = number 6
+byWrite (Ok x) = allowed
+byWrite (Err Undefined) = undefined
+byWrite (Err NoRegister) = number 6
 
 abbrev pub ruledIn : Bare → Call → Ruling
 ruledIn b (System e) = bySys (opIn b e)

@@ -1,29 +1,20 @@
 -- Beside demand 3: the two cores agree, AT is a fresh walk, and a refused call changes nothing in either.
-use Rattle.std.specs.Prelude.{◌≡◌, refl, Bool, List, ℕ, zero, suc}
-use Rattle.std.proofs.Common.{ap, subst, ◌∙◌}
-use Rattle.sysreg.specs.declared.{write.WriteAnswer.WriteAnswer, write.Written.Written}
-use Rattle.sysreg.specs.declared.write.WriteAnswer.TheVariants as Written
-use Rattle.sysop.specs.declared.{op.AtForm.AtForm, op.SysOp.SysOp}
+use Rattle.std.specs.Prelude.{◌≡◌, Bool, List, ℕ}
+use Rattle.sysop.specs.declared.{op.AtForm.AtForm}
 use Rattle.sysop.specs.declared.op.SysOp.TheVariants as Op
 use Rattle.exception.specs.declared.kind.Exception.{Exception}
-use Rattle.mmu.specs.Bare.{Bare, freshBare, withPar, bareOf}
-use Rattle.mmu.specs.Core.{freshCore, reg_of}
+use Rattle.mmu.specs.Bare.{Bare, freshBare, bareOf}
+use Rattle.mmu.specs.Core.{freshCore}
 use Rattle.mmu.specs.declared.core_state.Core.{Core}
-use Rattle.exec.specs.Ops.{registered, writeRegister}
-use Rattle.exec.specs.Sys.{sysBy, sysRamBy, sysOf, sysRam}
-use Rattle.cpu.specs.Step.{ends, afterStore, afterWrite, run_of, ramOf, refusedOr, step_of, ramAfter}
+use Rattle.cpu.specs.Step.{ends, step_of, ramAfter}
 use Rattle.operations.specs.declared.{call.Encoding.Encoding, call.Call.Call}
-use Rattle.operations.specs.declared.call.Call.TheVariants.{Translate, DataPa, FetchPa, Load, Store, Fetch, System, Register, Level, Mark, General}
-use Rattle.operations.specs.declared.call.Call.TheVariants.{Abort, Census}
-use Rattle.operations.specs.declared.call.Reply.TheVariants.{Refused}
-use Rattle.cpu.specs.declared.run.Stepped.{Stepped}
-use Rattle.history.specs.Calls.{Lent, run, bareRun}
-use Rattle.history.specs.EveryCall.{run-bare as runs-agree}
+use Rattle.operations.specs.declared.call.Call.TheVariants.{System, Register, Level, Mark, General}
+use Rattle.operations.specs.declared.call.Call.TheVariants.{Abort}
+use Rattle.history.specs.Calls.{Lent, Fed, run, bareRun, Shown}
 use Rattle.history.specs.Instance.{Ram, real}
-use Rattle.transparency.specs.Bare.{Ruling, allowed, number, undefined, unimplemented, missedIn, opIn, operandIn, writtenIn, bySys, byWrite, ruledIn}
-use Rattle.transparency.specs.Bare.{rulingIn, refusalOf, ifAllowed, parAt, bareDoes, bareStep}
+use Rattle.transparency.specs.Bare.{allowed, missedIn, opIn, operandIn}
+use Rattle.transparency.specs.Bare.{rulingIn, refusalOf, parAt, bareDoes, bareStep}
 use Rattle.transparency.specs.Machine.{machine}
-use Rattle.transparency.specs.Bridge.{bridge, fits}
 
 -- THE TWO CORES
 
@@ -34,133 +25,95 @@ coreAfter list = run real machine freshCore list
 abbrev pub bareAfter : List (Lent real machine) → Bare
 bareAfter list = bareRun real machine freshBare list
 
-pub fresh-bare : bareOf freshCore ≡ freshBare
-unfolding freshCore
-fresh-bare = refl
+-- WHATEVER CAME BEFORE: what is said of every list of calls from the fresh core; of the RAM m after it too; of a call
+-- x, on the RAM m, that follows it; and of a list that is fed as its run shows it
+abbrev pub EveryList : (List (Lent real machine) → Type 0) → Type 0
+EveryList says = (list : List (Lent real machine)) → says list
+
+abbrev pub AfterEveryList : (List (Lent real machine) → Ram → Type 0) → Type 0
+AfterEveryList says = (list : List (Lent real machine)) (m : Ram) → says list m
+
+abbrev pub EveryCall : (List (Lent real machine) → Ram → Call → Type 0) → Type 0
+EveryCall says = (list : List (Lent real machine)) (m : Ram) (x : Call) → says list m x
+
+abbrev pub AfterEveryRun : (List (Fed real machine) → Ram → Type 0) → Type 0
+AfterEveryRun says = (list : List (Fed real machine)) → Shown real machine freshCore list → (m : Ram) → says list m
 
 -- After every list they agree on level, mark, registers and general registers, and on flags and PC.
-pub two-cores : (list : List (Lent real machine)) → bareOf (coreAfter list) ≡ bareAfter list
-two-cores list = runs-agree real machine bridge freshCore list ∙ ap (λ (b : Bare). bareRun real machine b list) fresh-bare
+abbrev pub two_cores : Type 0
+two_cores = (list : List (Lent real machine)) → bareOf (coreAfter list) ≡ bareAfter list
 
--- WHAT A CALL OF THE CORE WITHOUT A CACHE LEAVES: its updates are the core's own (mmu/specs/Bare.antt), so each says what else stays
+-- WHAT A CALL OF THE CORE WITHOUT A CACHE LEAVES: its updates are the core's own (mmu/specs/Bare.antt), so each says
+-- what else stays
 
-pub abort-leaves : (b : Bare) (m : Ram) (e : Exception) → ((bareDoes b m (Abort e)).x ≡ b.x) × ((bareDoes b m (Abort e)).control ≡ b.control)
-abort-leaves b m e = (refl, refl)
+abbrev pub abort_leaves : Type 0
+abort_leaves =
+    (b : Bare) (m : Ram) (e : Exception)
+    → ((bareDoes b m (Abort e)).x ≡ b.x) × ((bareDoes b m (Abort e)).control ≡ b.control)
 
-pub level-leaves : (b : Bare) (m : Ram) (level : ℕ)
+abbrev pub level_leaves : Type 0
+level_leaves =
+    (b : Bare) (m : Ram) (level : ℕ)
     → ((bareDoes b m (Level level)).x ≡ b.x) × ((bareDoes b m (Level level)).control ≡ b.control)
-    × ((bareDoes b m (Level level)).sys ≡ b.sys) × ((bareDoes b m (Level level)).privilege.unprivileged ≡ b.privilege.unprivileged)
+    × ((bareDoes b m (Level level)).sys ≡ b.sys)
+    × ((bareDoes b m (Level level)).privilege.unprivileged ≡ b.privilege.unprivileged)
     × ((bareDoes b m (Level level)).flags ≡ b.flags) × ((bareDoes b m (Level level)).pc ≡ b.pc)
-level-leaves b m level = (refl, refl, refl, refl, refl, refl)
 
-pub mark-leaves : (b : Bare) (m : Ram) (mark : Bool)
+abbrev pub mark_leaves : Type 0
+mark_leaves =
+    (b : Bare) (m : Ram) (mark : Bool)
     → ((bareDoes b m (Mark mark)).x ≡ b.x) × ((bareDoes b m (Mark mark)).control ≡ b.control)
     × ((bareDoes b m (Mark mark)).sys ≡ b.sys) × ((bareDoes b m (Mark mark)).privilege.level ≡ b.privilege.level)
     × ((bareDoes b m (Mark mark)).flags ≡ b.flags) × ((bareDoes b m (Mark mark)).pc ≡ b.pc)
-mark-leaves b m mark = (refl, refl, refl, refl, refl, refl)
 
-pub general-leaves : (b : Bare) (m : Ram) (n value : ℕ)
-    → ((bareDoes b m (General n value)).privilege ≡ b.privilege) × ((bareDoes b m (General n value)).control ≡ b.control)
+abbrev pub general_leaves : Type 0
+general_leaves =
+    (b : Bare) (m : Ram) (n value : ℕ)
+    → ((bareDoes b m (General n value)).privilege ≡ b.privilege)
+    × ((bareDoes b m (General n value)).control ≡ b.control)
     × ((bareDoes b m (General n value)).sys ≡ b.sys) × ((bareDoes b m (General n value)).flags ≡ b.flags)
     × ((bareDoes b m (General n value)).pc ≡ b.pc)
-general-leaves b m n value = (refl, refl, refl, refl, refl)
 
-pub register-leaves : (b : Bare) (m : Ram) (key value : ℕ)
+abbrev pub register_leaves : Type 0
+register_leaves =
+    (b : Bare) (m : Ram) (key value : ℕ)
     → ((bareDoes b m (Register key value)).x ≡ b.x) × ((bareDoes b m (Register key value)).flags ≡ b.flags)
     × ((bareDoes b m (Register key value)).pc ≡ b.pc) × ((bareDoes b m (Register key value)).privilege ≡ b.privilege)
-register-leaves b m key value = (refl, refl, refl, refl)
 
 -- AT
 
 -- "AT equals a fresh walk without any premise": whatever the cache holds, PAR_EL1 is made of the registers and RAM.
-pub at_walks : (c : Core) (m : Ram) (e : Encoding) (form : AtForm) → missedIn (bareOf c) m (System e) ≡ 0 → opIn (bareOf c) e ≡ Op.At form
+abbrev pub at_walks : Type 0
+at_walks =
+    (c : Core) (m : Ram) (e : Encoding) (form : AtForm) → missedIn (bareOf c) m (System e) ≡ 0
+    → opIn (bareOf c) e ≡ Op.At form
     → (step_of c m.base m.bytes (System e)).core.sys.par_el1 ≡ parAt (bareOf c) m form (operandIn (bareOf c) e)
-at_walks c m e form passed named = ap (λ (b : Bare). b.sys.par_el1) ((fits c m (System e)).bare ∙ does)
-  where
-    does : bareStep (bareOf c) m (System e) ≡ withPar (bareOf c) (parAt (bareOf c) m form (operandIn (bareOf c) e))
-    does = rw (passed, named)
 
 -- after every list it is that of the core without a cache
-pub at_after : (list : List (Lent real machine)) (m : Ram) (e : Encoding) (form : AtForm)
+abbrev pub at_after : Type 0
+at_after =
+    (list : List (Lent real machine)) (m : Ram) (e : Encoding) (form : AtForm)
     → missedIn (bareAfter list) m (System e) ≡ 0 → opIn (bareAfter list) e ≡ Op.At form
     → (step_of (coreAfter list) m.base m.bytes (System e)).core.sys.par_el1
     ≡ parAt (bareAfter list) m form (operandIn (bareAfter list) e)
-at_after list m e form =
-    subst
-    (λ (b : Bare).
-    missedIn b m (System e) ≡ 0 → opIn b e ≡ Op.At form
-    → (step_of (coreAfter list) m.base m.bytes (System e)).core.sys.par_el1 ≡ parAt b m form (operandIn b e))
-    (two-cores list) (at_walks (coreAfter list) m e form)
 
 -- REFUSED CALLS
 
 -- a refused call leaves the core without a cache as it is
-pub refused-bare : (b : Bare) (m : Ram) (x : Call) → (rulingIn b m x ≡ allowed → ⊥) → bareStep b m x ≡ b
-refused-bare b m x refuses = go (rulingIn b m x) refuses
-  where
-    go : (v : Ruling) → (v ≡ allowed → ⊥) → ifAllowed v (bareDoes b m x) b ≡ b
-    go allowed n = absurd (n refl)
-    go (number k) n = refl
-    go undefined n = refl
-    go unimplemented n = refl
-
-abbrev Unchanged : Core → Ram → Ruling → Stepped → List ℕ → Type 0
-Unchanged c m v s bytes = (s ≡ ends c (refusalOf v)) × (bytes ≡ m.bytes)
-
-sys-refused : (o : SysOp) (c : Core) (m : Ram) (op1 crm op2 x : ℕ) → (bySys o ≡ allowed → ⊥)
-    → Unchanged c m (bySys o) (afterStore (sysBy o c m.base m.bytes op1 crm op2 x)) (sysRamBy o c m.base m.bytes x)
-sys-refused Op.Undefined c m op1 crm op2 x refuses = (refl, refl)
-sys-refused Op.Unimplemented c m op1 crm op2 x refuses = (refl, refl)
-sys-refused (Op.At form) c m op1 crm op2 x refuses = absurd (refuses refl)
-sys-refused Op.Tlbi c m op1 crm op2 x refuses = absurd (refuses refl)
-sys-refused Op.Zva c m op1 crm op2 x refuses = absurd (refuses refl)
-sys-refused Op.Nothing c m op1 crm op2 x refuses = absurd (refuses refl)
-
-write-refused : (c : Core) (m : Ram) (w : Written) (a : WriteAnswer) → (byWrite a ≡ allowed → ⊥)
-    → Unchanged c m (byWrite a) (afterWrite (registered c w a)) m.bytes
-write-refused c m w Written.Undefined refuses = (refl, refl)
-write-refused c m w Written.NoRegister refuses = (refl, refl)
-write-refused c m w Written.Done refuses = absurd (refuses refl)
-
-run-refused : (c : Core) (m : Ram) (x : Call) → (ruledIn (bareOf c) x ≡ allowed → ⊥)
-    → Unchanged c m (ruledIn (bareOf c) x) (run_of c m.base m.bytes x) (ramOf c m.base m.bytes x)
-unfolding run_of ramOf sysOf sysRam reg_of writeRegister
-run-refused c m (System e) refuses = sys-refused (opIn (bareOf c) e) c m e.op1 e.crm e.op2 (operandIn (bareOf c) e) refuses
-run-refused c m (Register key value) refuses = write-refused c m (writtenIn (bareOf c) key value) (writtenIn (bareOf c) key value).answer refuses
-run-refused c m (Translate kind va) refuses = absurd (refuses refl)
-run-refused c m (DataPa va) refuses = absurd (refuses refl)
-run-refused c m (FetchPa va) refuses = absurd (refuses refl)
-run-refused c m (Load va size) refuses = absurd (refuses refl)
-run-refused c m (Store va size value) refuses = absurd (refuses refl)
-run-refused c m (Fetch va) refuses = absurd (refuses refl)
-run-refused c m (Level level) refuses = absurd (refuses refl)
-run-refused c m (Mark mark) refuses = absurd (refuses refl)
-run-refused c m (General n value) refuses = absurd (refuses refl)
-run-refused c m (Abort e) refuses = absurd (refuses refl)
-run-refused c m (Census first pages) refuses = absurd (refuses refl)
+abbrev pub refused_bare : Type 0
+refused_bare = (b : Bare) (m : Ram) (x : Call) → (rulingIn b m x ≡ allowed → ⊥) → bareStep b m x ≡ b
 
 -- A refused call leaves core, cache, counters and RAM as they are, and its reply is that refusal, by the state without
 -- a cache.
-pub refused-core : (c : Core) (m : Ram) (x : Call) → (rulingIn (bareOf c) m x ≡ allowed → ⊥)
-    → (step_of c m.base m.bytes x ≡ ends c (refusalOf (rulingIn (bareOf c) m x))) × (ramAfter c m.base m.bytes x ≡ m.bytes)
-unfolding step_of ramAfter
-refused-core c m x refuses = go (missedIn (bareOf c) m x) refuses
-  where
-    go : (n : ℕ) → (refusedOr n number (ruledIn (bareOf c) x) ≡ allowed → ⊥)
-        → Unchanged c m (refusedOr n number (ruledIn (bareOf c) x))
-        (refusedOr n (λ k. ends c (Refused k)) (run_of c m.base m.bytes x))
-        (refusedOr n (λ k. m.bytes) (ramOf c m.base m.bytes x))
-    go zero n = run-refused c m x n
-    go (suc k) n = (refl, refl)
+abbrev pub refused_core : Type 0
+refused_core =
+    (c : Core) (m : Ram) (x : Call) → (rulingIn (bareOf c) m x ≡ allowed → ⊥)
+    → (step_of c m.base m.bytes x ≡ ends c (refusalOf (rulingIn (bareOf c) m x)))
+    × (ramAfter c m.base m.bytes x ≡ m.bytes)
 
 -- after every list it is the refusal of the core without a cache
-pub refused-after : (list : List (Lent real machine)) (m : Ram) (x : Call) → (rulingIn (bareAfter list) m x ≡ allowed → ⊥)
+abbrev pub refused_after : Type 0
+refused_after =
+    (list : List (Lent real machine)) (m : Ram) (x : Call) → (rulingIn (bareAfter list) m x ≡ allowed → ⊥)
     → (step_of (coreAfter list) m.base m.bytes x ≡ ends (coreAfter list) (refusalOf (rulingIn (bareAfter list) m x)))
     × (ramAfter (coreAfter list) m.base m.bytes x ≡ m.bytes)
-refused-after list m x =
-    subst
-    (λ (b : Bare).
-    (rulingIn b m x ≡ allowed → ⊥)
-    → (step_of (coreAfter list) m.base m.bytes x ≡ ends (coreAfter list) (refusalOf (rulingIn b m x)))
-    × (ramAfter (coreAfter list) m.base m.bytes x ≡ m.bytes))
-    (two-cores list) (refused-core (coreAfter list) m x)

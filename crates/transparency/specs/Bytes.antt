@@ -2,143 +2,73 @@
 -- DC ZVA leaves 64 zero bytes at the translation of the aligned address and every other byte as it was. The laws are
 -- mmu's and exec's, of cores that are well-formed; `read_of`, `writeOf`, `ramAfterWrite`, `sysOf` and `sysRam` are what
 -- `step_of` and `ramAfter` make of a call that misses no check.
-use Rattle.std.specs.Prelude.{◌≡◌, refl, false, List, [], ◌∷◌, ◌++◌, ℕ, ◌+◌, ◌/◌, ◌%◌, ◌^◌, ◌≤◌, ◌<◌, get_or}
-use Rattle.std.proofs.Common.{sym, ap, ◌∙◌}
-use borrow.Author.Tests.{le-ltb}
+use Rattle.std.specs.Prelude.{◌≡◌, false, List, ℕ, ◌+◌, ◌/◌, ◌%◌, ◌^◌, ◌≤◌, ◌<◌, get_or}
 use Rattle.std.proofs.Math.ListN.{length}
 use Rattle.word.specs.Bits.{alignDown, wrap}
-use Rattle.tlb.specs.Asks.{translates}
 use Rattle.tlb.specs.declared.access.Kind.{Kind}
 use Rattle.tlb.specs.declared.access.Kind.TheVariants.{Read, Write}
 use Rattle.tlb.specs.declared.access.Answer.TheVariants.{Address}
-use Rattle.mmu.specs.Bare.{Bare, freshBare, bareOf}
 use Rattle.mmu.specs.Core.{freshCore, reg_of}
 use Rattle.operations.specs.Bytes.{byteIn}
-use Rattle.mmu.specs.Step.{translateIn}
-use Rattle.mmu.specs.Ops.{steppedNow, translateOf, read_of, writeOf, ramAfterWrite}
-use Rattle.mmu.specs.OpLaws.{onNow}
-use Rattle.mmu.specs.OwnAddress.{ownAnswer, Ready}
-use Rattle.mmu.specs.ByteMeaning.{OwnByte, load_byte, store_byte, store-others}
+use Rattle.mmu.specs.Ops.{translateOf, read_of, writeOf, ramAfterWrite}
+use Rattle.mmu.specs.OwnAddress.{ownAnswer}
+use Rattle.mmu.specs.ByteMeaning.{OwnByte}
 use Rattle.operations.specs.declared.ends.LoadAnswer.TheVariants as Load
 use Rattle.operations.specs.declared.ends.StoreAnswer.TheVariants as Store
 use Rattle.sysop.specs.declared.op.SysOp.TheVariants as Op
 use Rattle.exec.specs.Sys.{op_of, sysOf, sysRam}
-use Rattle.exec.specs.ZeroMeaning.{Zeroed, zva-zeroes}
-use Rattle.operations.specs.Check.{missedOf}
-use Rattle.cpu.specs.Step.{run_of, step_of}
-use Rattle.operations.specs.declared.call.Call.TheVariants.{Translate}
-use Rattle.history.specs.World.{uncached}
+use Rattle.exec.specs.ZeroMeaning.{Zeroed}
 use Rattle.history.specs.World as World
-use Rattle.history.specs.Corollaries.{off-settled}
-use Rattle.history.specs.Calls.{Fed, lent_of, Shown, showing}
-use Rattle.history.specs.EveryReply.{run-one, bare-one, shown-one}
-use Rattle.history.specs.Instance.{Ram, memoryOf, real, real-laws}
-use Rattle.transparency.specs.Bare.{plainIn, missedIn, Ruling, allowed, number, undefined, unimplemented, rulingIn, ifAllowed, bareStep}
+use Rattle.history.specs.Calls.{Fed, Shown}
+use Rattle.history.specs.Instance.{Ram, memoryOf, real}
+use Rattle.transparency.specs.Bare.{plainIn}
 use Rattle.transparency.specs.Machine.{machine}
-use Rattle.transparency.specs.Beside.{two-cores}
-use Rattle.transparency.specs.Direct.{coreNow, bareNow, past, SettledAt, begins, one-ask}
-use Rattle.transparency.specs.ModelCalls.{every-core-well}
+use Rattle.transparency.specs.Direct.{coreNow, bareNow}
 
 -- WITH STAGE 1 OFF every translation is of the address itself
 
-module _ (list : List (Fed real machine)) (seen : Shown real machine freshCore list) (m : Ram) where
-  off-here : World.onNow real (plainIn (bareNow list seen m)) ≡ false → (va : ℕ) → SettledAt list seen m va
-  off-here off va =
-      off-settled real real-laws (plainIn freshBare) (past list seen m) m (World.regimeNow real (plainIn (bareNow list seen m))) _
-      (ap (λ (p : World.Plain real). real.on p.regs (World.regimeNow real (plainIn (bareNow list seen m)))) (begins list seen m) ∙ off)
-
-  pub flat_after : World.onNow real (plainIn (bareNow list seen m)) ≡ false → (kind : Kind) (va : ℕ)
-      → (translateOf (coreNow list seen m) (memoryOf m) va kind).answer ≡ Address va
-  unfolding translateOf steppedNow translateIn uncached
-  flat_after off kind va = one-ask list seen m (translates kind va) (off-here off va) ∙ rw off
-
-  -- a translation after the list is a call that misses no check
-  passed : (m.base + length m.bytes ≤ 2 ^ 64) → (kind : Kind) (va : ℕ) → missedIn (bareOf (coreNow list seen m)) m (Translate kind va) ≡ 0
-  unfolding missedOf
-  passed room kind va =
-      rw (
-        le-ltb (2 ^ 64) (m.base + length m.bytes) room,
-        le-ltb 3 (coreNow list seen m).privilege.level (every-core-well (lent_of real machine list)).level,
-      )
+module _ (list : List (Fed real machine)) (m : Ram) where
+  abbrev pub flat_after : Type 0
+  flat_after =
+      World.onNow real (plainIn (bareNow list)) ≡ false → (kind : Kind) (va : ℕ)
+      → (translateOf (coreNow list) (memoryOf m) va kind).answer ≡ Address va
 
 -- EACH BYTE
 
--- a translation leaves the state without a cache
-unmoved : (b : Bare) (m : Ram) (kind : Kind) (va : ℕ) → bareStep b m (Translate kind va) ≡ b
-unmoved b m kind va = go (rulingIn b m (Translate kind va))
-  where
-    go : (v : Ruling) → ifAllowed v b b ≡ b
-    go allowed = refl
-    go (number n) = refl
-    go undefined = refl
-    go unimplemented = refl
-
--- what a law of bytes asks of the core, the window and the access
-pub ready-after : (list : List (Fed real machine)) (seen : Shown real machine freshCore list) (m : Ram) (va n : ℕ) (kind : Kind)
-    → va < 2 ^ 64 → n ≤ 8 → m.base + length m.bytes ≤ 2 ^ 64 → Ready (coreNow list seen m) m.base m.bytes va n kind
-unfolding step_of run_of
-ready-after list seen m va n kind small few room =
-    record {
-      well = (every-core-well (lent_of real machine list)).cache;
-      level = (every-core-well (lent_of real machine list)).level;
-      address = small;
-      bytes = few;
-      window = room;
-      flat = λ off far. (flat_after list seen m (same ∙ off) kind va, λ b. rw next at (flat_after more more-seen m (still ∙ same ∙ off) kind b));
-    }
-  where
-    same : World.onNow real (plainIn (bareNow list seen m)) ≡ onNow (coreNow list seen m)
-    same = ap (λ (b : Bare). World.onNow real (plainIn b)) (sym (two-cores (lent_of real machine list)))
-
-    -- the list with this translation
-    one : Fed real machine
-    one = showing real machine (coreNow list seen m) (record { ram = m; call = Translate kind va })
-
-    more : List (Fed real machine)
-    more = list ++ one ∷ []
-
-    more-seen : Shown real machine freshCore more
-    more-seen = shown-one real machine freshCore list one seen refl
-
-    next : coreNow more more-seen m ≡ (translateOf (coreNow list seen m) (memoryOf m) va kind).core
-    next = run-one real machine freshCore list one ∙ rw (passed list seen m room kind va)
-
-    still : World.onNow real (plainIn (bareNow more more-seen m)) ≡ World.onNow real (plainIn (bareNow list seen m))
-    still = ap (λ (b : Bare). World.onNow real (plainIn b)) (bare-one real machine freshBare list one ∙ unmoved (bareNow list seen m) m kind va)
-
 -- byte i of what a load answers is the byte of RAM at the translation of its own address
-pub load-byte-after : (list : List (Fed real machine)) (seen : Shown real machine freshCore list) (m : Ram) (va n v i : ℕ)
+abbrev pub load_byte_after : Type 0
+load_byte_after =
+    (list : List (Fed real machine)) (seen : Shown real machine freshCore list) (m : Ram) (va n v i : ℕ)
     → va < 2 ^ 64 → n ≤ 8 → m.base + length m.bytes ≤ 2 ^ 64 → ((k : ℕ) → get_or m.bytes k 0 < 256)
-    → (read_of (coreNow list seen m) m.base m.bytes va n).answer ≡ Load.Value v → i < n
-    → (o : OwnByte (coreNow list seen m) m.base m.bytes va Read i) × (v / 256 ^ i % 256 ≡ byteIn m.base m.bytes (wrap o.pa))
-load-byte-after list seen m va n v i small few room bytes e h =
-    load_byte (coreNow list seen m) m.base m.bytes va n v i (ready-after list seen m va n Read small few room) bytes e h
+    → (read_of (coreNow list) m.base m.bytes va n).answer ≡ Load.Value v → i < n
+    → (o : OwnByte (coreNow list) m.base m.bytes va Read i) × (v / 256 ^ i % 256 ≡ byteIn m.base m.bytes (wrap o.pa))
 
 -- after a store that is done, the byte of RAM at the translation of byte i's own address is byte i of the value; of two
 -- bytes at one place the later
-pub store-byte-after : (list : List (Fed real machine)) (seen : Shown real machine freshCore list) (m : Ram) (va n v i : ℕ)
+abbrev pub store_byte_after : Type 0
+store_byte_after =
+    (list : List (Fed real machine)) (seen : Shown real machine freshCore list) (m : Ram) (va n v i : ℕ)
     → va < 2 ^ 64 → n ≤ 8 → m.base + length m.bytes ≤ 2 ^ 64
-    → (writeOf (coreNow list seen m) m.base m.bytes va n).answer ≡ Store.Done → i < n
-    → (o : OwnByte (coreNow list seen m) m.base m.bytes va Write i)
-    × (((j pa : ℕ) → i < j → j < n → ownAnswer (coreNow list seen m) (memoryOf m) va Write j ≡ Address pa → wrap pa ≡ wrap o.pa → ⊥)
-    → byteIn m.base (ramAfterWrite (coreNow list seen m) m.base m.bytes va n v) (wrap o.pa) ≡ v / 256 ^ i % 256)
-store-byte-after list seen m va n v i small few room e h =
-    store_byte (coreNow list seen m) m.base m.bytes va n v i (ready-after list seen m va n Write small few room) e h
+    → (writeOf (coreNow list) m.base m.bytes va n).answer ≡ Store.Done → i < n
+    → (o : OwnByte (coreNow list) m.base m.bytes va Write i)
+    × (((j pa : ℕ) → i < j → j < n → ownAnswer (coreNow list) (memoryOf m) va Write j ≡ Address pa
+    → wrap pa ≡ wrap o.pa → ⊥)
+    → byteIn m.base (ramAfterWrite (coreNow list) m.base m.bytes va n v) (wrap o.pa) ≡ v / 256 ^ i % 256)
 
 -- and every byte that is at the translation of none of its bytes' own addresses stays
-pub store-others-after : (list : List (Fed real machine)) (seen : Shown real machine freshCore list) (m : Ram) (va n v k : ℕ)
+abbrev pub store_others_after : Type 0
+store_others_after =
+    (list : List (Fed real machine)) (seen : Shown real machine freshCore list) (m : Ram) (va n v k : ℕ)
     → va < 2 ^ 64 → n ≤ 8 → m.base + length m.bytes ≤ 2 ^ 64 → k < length m.bytes
-    → ((i pa : ℕ) → i < n → ownAnswer (coreNow list seen m) (memoryOf m) va Write i ≡ Address pa → wrap pa ≡ m.base + k → ⊥)
-    → get_or (ramAfterWrite (coreNow list seen m) m.base m.bytes va n v) k 0 ≡ get_or m.bytes k 0
-store-others-after list seen m va n v k small few room h none =
-    store-others (coreNow list seen m) m.base m.bytes va n v k (ready-after list seen m va n Write small few room) h none
+    → ((i pa : ℕ) → i < n → ownAnswer (coreNow list) (memoryOf m) va Write i ≡ Address pa → wrap pa ≡ m.base + k → ⊥)
+    → get_or (ramAfterWrite (coreNow list) m.base m.bytes va n v) k 0 ≡ get_or m.bytes k 0
 
 -- DC ZVA that is done
-pub zva-after : (list : List (Fed real machine)) (seen : Shown real machine freshCore list) (m : Ram) (op1 crn crm op2 rt : ℕ)
-    → reg_of (coreNow list seen m) rt < 2 ^ 64 → op_of (coreNow list seen m) op1 crn crm op2 ≡ Op.Zva
-    → (sysOf (coreNow list seen m) m.base m.bytes op1 crn crm op2 rt).answer ≡ Store.Done
+abbrev pub zva_after : Type 0
+zva_after =
+    (list : List (Fed real machine)) (seen : Shown real machine freshCore list) (m : Ram) (op1 crn crm op2 rt : ℕ)
+    → reg_of (coreNow list) rt < 2 ^ 64 → op_of (coreNow list) op1 crn crm op2 ≡ Op.Zva
+    → (sysOf (coreNow list) m.base m.bytes op1 crn crm op2 rt).answer ≡ Store.Done
     → (pa : ℕ)
-    × (((translateOf (coreNow list seen m) (memoryOf m) (alignDown (reg_of (coreNow list seen m) rt) 6) Write).answer ≡ Address pa)
-    × Zeroed m.base pa m.bytes (sysRam (coreNow list seen m) m.base m.bytes op1 crn crm op2 rt))
-zva-after list seen m op1 crn crm op2 rt small named e =
-    zva-zeroes (coreNow list seen m) m.base m.bytes op1 crn crm op2 rt (every-core-well (lent_of real machine list)).cache small named e
+    × (((translateOf (coreNow list) (memoryOf m) (alignDown (reg_of (coreNow list) rt) 6) Write).answer ≡ Address pa)
+    × Zeroed m.base pa m.bytes (sysRam (coreNow list) m.base m.bytes op1 crn crm op2 rt))

@@ -1,36 +1,28 @@
--- The page census after every list of calls: it counts what the core without a cache would, page by page, and is a step that does nothing.
-use Rattle.std.specs.Prelude.{◌≡◌, refl, Bool, true, false, List, [], ◌∷◌, ◌++◌, ◌⊎◌, ℕ, zero, suc, ◌+◌, ◌*◌, ◌/◌, ◌%◌, ◌<◌, ◌≤◌, eqb, get_or}
-use Rattle.std.proofs.Common.{sym, ap, ◌∙◌, ⊎_elim, arith, eqb-true, ne_eqb}
-use Rattle.word.specs.Bits.{flag, pick}
-use Rattle.fault.specs.First.{first as status-of}
-use Rattle.fault.specs.declared.Fault.{Fault}
+-- The page census after every list of calls: it counts what the core without a cache would, page by page, and is a step
+-- that does nothing.
+use Rattle.std.specs.Prelude.{◌≡◌, Bool, true, false, List, ◌∷◌, ◌++◌, ◌⊎◌, ℕ, ◌/◌, ◌%◌, ◌<◌, eqb, get_or}
 use Rattle.walk.specs.Regime.{bankOf, regimeOf}
-use Rattle.walk.specs.FreshLaws.{SoundFresh}
-use Rattle.walk.specs.declared.{regime.Regime.Regime, regime.Bank.Bank, level.Leaf.Leaf, fresh.Fresh.Fresh}
-use Rattle.walk.specs.declared.level.Walked.TheVariants.{Mapped, Fault as Faulted}
-use Rattle.walk.specs.declared.fresh.Fresh.TheVariants.{Flat, Ended}
-use Rattle.census.specs.Tally.{howMany, many-same}
+use Rattle.walk.specs.declared.{regime.Regime.Regime, regime.Bank.Bank}
+use Rattle.walk.specs.declared.fresh.Fresh.TheVariants.{Flat}
+use Rattle.census.specs.Tally.{howMany}
 use Rattle.census.specs.Count.{pageAt, censusAt}
-use Rattle.census.specs.Laws.{faultsWith, hasRights, sound-at, status-count}
+use Rattle.census.specs.Laws.{hasRights}
 use Rattle.tlb.specs.declared.access.Kind.{Kind}
 use Rattle.tlb.specs.declared.access.Answer.{Answer}
 use Rattle.tlb.specs.declared.access.Answer.TheVariants.{Address, Status}
-use Rattle.mmu.specs.Bare.{Bare, freshBare, bareOf}
-use Rattle.mmu.specs.Core.{freshCore}
-use Rattle.mmu.specs.declared.core_state.Core.{Core}
+use Rattle.mmu.specs.Bare.{Bare}
 use Rattle.operations.specs.declared.call.Call.TheVariants.{Census}
-use Rattle.operations.specs.declared.call.Reply.TheVariants.{Refused, Done}
-use Rattle.cpu.specs.Step.{ends, run_of, refusedOr, step_of}
-use Rattle.cpu.specs.Inspect.{countsOf, countsAfter, census-core}
-use Rattle.history.specs.World.{leafAnswer, walkAnswer, needNow, uncached}
-use Rattle.history.specs.Fresh.{freshNow, freshAnswer, uncached-fresh}
-use Rattle.history.specs.Calls.{Lent, run, bareRun}
+use Rattle.cpu.specs.Step.{step_of}
+use Rattle.cpu.specs.Inspect.{countsAfter}
+use Rattle.history.specs.World.{needNow, uncached}
+use Rattle.history.specs.Fresh.{freshNow}
+use Rattle.history.specs.Calls.{Lent}
 use Rattle.history.specs.Instance.{Ram, memoryOf, real}
-use Rattle.transparency.specs.Bare.{Ruling, allowed, number, undefined, unimplemented, plainIn, missedIn, rulingIn, refusalOf}
-use Rattle.transparency.specs.Bare.{ifAllowed, bareStep}
-use Rattle.transparency.specs.Replies.{outcome, bareReply}
+use Rattle.transparency.specs.Bare.{allowed, plainIn, rulingIn}
+use Rattle.transparency.specs.Bare.{ifAllowed}
+use Rattle.transparency.specs.Replies.{bareReply}
 use Rattle.transparency.specs.Machine.{machine}
-use Rattle.transparency.specs.Beside.{coreAfter, bareAfter, two-cores}
+use Rattle.transparency.specs.Beside.{coreAfter, bareAfter}
 
 -- the regime of its level, and that regime's registers
 abbrev pub regimeIn : Bare → Regime
@@ -39,70 +31,34 @@ regimeIn b = regimeOf b.privilege.level
 abbrev pub bankIn : Bare → Bank
 bankIn b = bankOf b.control (regimeIn b)
 
--- what the core without a cache would count, on its own registers and level and the step's RAM; a refused census leaves the counts as they were
+-- what the core without a cache would count, on its own registers and level and the step's RAM; a refused census leaves
+-- the counts as they were
 abbrev pub bareCounts : Bare → Ram → ℕ → ℕ → List ℕ → List ℕ
 bareCounts b m first pages old =
     ifAllowed (rulingIn b m (Census first pages)) (censusAt b.control b.privilege.level (memoryOf m) first pages) old
 
-counts-bare : (c : Core) (m : Ram) (first pages : ℕ) (old : List ℕ)
-    → countsAfter c m.base m.bytes first pages old ≡ bareCounts (bareOf c) m first pages old
-unfolding countsAfter
-counts-bare c m first pages old = go (missedIn (bareOf c) m (Census first pages))
-  where
-    go : (n : ℕ) → refusedOr n (λ k. old) (countsOf c m.base m.bytes first pages)
-        ≡ ifAllowed (refusedOr n number allowed) (countsOf c m.base m.bytes first pages) old
-    go zero = refl
-    go (suc n) = refl
-
 -- After every list, refused or not: the counts, and the reply.
-pub census-after : (list : List (Lent real machine)) (m : Ram) (first pages : ℕ) (old : List ℕ)
+abbrev pub census_after : Type 0
+census_after =
+    (list : List (Lent real machine)) (m : Ram) (first pages : ℕ) (old : List ℕ)
     → countsAfter (coreAfter list) m.base m.bytes first pages old ≡ bareCounts (bareAfter list) m first pages old
-census-after list m first pages old =
-    counts-bare (coreAfter list) m first pages old ∙ ap (λ (b : Bare). bareCounts b m first pages old) (two-cores list)
 
-reply-bare : (c : Core) (m : Ram) (first pages : ℕ)
-    → (step_of c m.base m.bytes (Census first pages)).reply ≡ (bareReply (bareOf c) m (Census first pages)).reply
-unfolding step_of run_of
-reply-bare c m first pages = go (missedIn (bareOf c) m (Census first pages))
-  where
-    go : (n : ℕ) → (refusedOr n (λ k. ends c (Refused k)) (ends c Done)).reply
-        ≡ (ifAllowed (refusedOr n number allowed) (outcome Done m.bytes) (outcome (refusalOf (refusedOr n number allowed)) m.bytes)).reply
-    go zero = refl
-    go (suc n) = refl
-
-pub census-reply : (list : List (Lent real machine)) (m : Ram) (first pages : ℕ)
-    → (step_of (coreAfter list) m.base m.bytes (Census first pages)).reply ≡ (bareReply (bareAfter list) m (Census first pages)).reply
-census-reply list m first pages =
-    reply-bare (coreAfter list) m first pages ∙ ap (λ (b : Bare). (bareReply b m (Census first pages)).reply) (two-cores list)
+abbrev pub census_reply : Type 0
+census_reply =
+    (list : List (Lent real machine)) (m : Ram) (first pages : ℕ)
+    → (step_of (coreAfter list) m.base m.bytes (Census first pages)).reply
+    ≡ (bareReply (bareAfter list) m (Census first pages)).reply
 
 -- A STEP THAT DOES NOTHING: a list with a census in it leaves what it leaves without, whatever RAM the census was shown
 
 abbrev pub census : Ram → ℕ → ℕ → Lent real machine
 census m first pages = record { ram = m; call = Census first pages }
 
-core-skips : (c : Core) (before after : List (Lent real machine)) (m : Ram) (first pages : ℕ)
-    → run real machine c (before ++ (census m first pages ∷ after)) ≡ run real machine c (before ++ after)
-core-skips c [] after m first pages = ap (λ (d : Core). run real machine d after) (census-core c m.base m.bytes first pages)
-core-skips c (x ∷ before) after m first pages = core-skips (step_of c x.ram.base x.ram.bytes x.call).core before after m first pages
-
-bare-stays : (b : Bare) (m : Ram) (first pages : ℕ) → bareStep b m (Census first pages) ≡ b
-bare-stays b m first pages = go (rulingIn b m (Census first pages))
-  where
-    go : (v : Ruling) → ifAllowed v b b ≡ b
-    go allowed = refl
-    go (number n) = refl
-    go undefined = refl
-    go unimplemented = refl
-
-bare-skips : (b : Bare) (before after : List (Lent real machine)) (m : Ram) (first pages : ℕ)
-    → bareRun real machine b (before ++ (census m first pages ∷ after)) ≡ bareRun real machine b (before ++ after)
-bare-skips b [] after m first pages = ap (λ (d : Bare). bareRun real machine d after) (bare-stays b m first pages)
-bare-skips b (x ∷ before) after m first pages = bare-skips (bareStep b x.ram x.call) before after m first pages
-
-pub census-skipped : (before after : List (Lent real machine)) (m : Ram) (first pages : ℕ)
+abbrev pub census_skipped : Type 0
+census_skipped =
+    (before after : List (Lent real machine)) (m : Ram) (first pages : ℕ)
     → (coreAfter (before ++ (census m first pages ∷ after)) ≡ coreAfter (before ++ after))
     × (bareAfter (before ++ (census m first pages ∷ after)) ≡ bareAfter (before ++ after))
-census-skipped before after m first pages = (core-skips freshCore before after m first pages, bare-skips freshBare before after m first pages)
 
 -- WHAT A COUNT MEANS
 
@@ -115,63 +71,26 @@ answersFault status (Status f) = eqb f.fsc status
 abbrev pub NoPermission : ℕ → Type 0
 NoPermission status = (status < 13) ⊎ (15 < status)
 
-leaf-answers : (status bit va : ℕ) → NoPermission status → (leaf : Leaf) → 1 ≤ leaf.level → leaf.level ≤ 3
-    → answersFault status (leafAnswer leaf bit va) ≡ false
-unfolding leafAnswer
-leaf-answers status bit va h leaf low high = go (eqb (leaf.perms / bit % 2) 1)
-  where
-    go : (b : Bool) → answersFault status (pick b (Address (leaf.oa / 4096 * 4096 + va % 4096)) (Status (status-of (12 + leaf.level)))) ≡ false
-    go true = refl
-    go false = ne_eqb (12 + leaf.level) status (λ e. ⊎_elim (λ k. omega arith) (λ k. omega arith) h)
-
-fresh-answers : (status bit va : ℕ) → NoPermission status → (x : Fresh) → SoundFresh x → answersFault status (freshAnswer x bit va) ≡ faultsWith status x
-unfolding walkAnswer
-fresh-answers status bit va h (Ended (Faulted n)) sound = refl
-fresh-answers status bit va h (Ended (Mapped leaf)) sound = leaf-answers status bit va h leaf sound.level-low sound.level-high
-fresh-answers status bit va h (Flat pa) sound = refl
-
-status-faults : (b : Bare) (m : Ram) (first pages status : ℕ) (k : Kind) → status < 64 → NoPermission status
-    → get_or (censusAt b.control b.privilege.level (memoryOf m) first pages) status 0
-    ≡ howMany (λ i. answersFault status (uncached real (plainIn b) m k (pageAt first i))) pages
-status-faults b m first pages status k small h =
-    status-count (bankIn b) (regimeIn b) (memoryOf m) first pages status small ∙ many-same _ _ pages same
-  where
-    same : (i : ℕ) → faultsWith status (freshNow (plainIn b) m (pageAt first i)) ≡ answersFault status (uncached real (plainIn b) m k (pageAt first i))
-    same i =
-        sym
-        (fresh-answers status (needNow real (plainIn b) k) (pageAt first i) h (freshNow (plainIn b) m (pageAt first i))
-        (sound-at (bankIn b) (regimeIn b) (memoryOf m) first i))
-        ∙ ap (answersFault status) (sym (uncached-fresh (plainIn b) m k (pageAt first i)))
-
 -- Under a status stand the pages of which the core without a cache answers an access of any kind with that fault.
-pub census-faults : (b : Bare) (m : Ram) (first pages status : ℕ) (k : Kind) (old : List ℕ) → status < 64 → NoPermission status
+abbrev pub census_faults : Type 0
+census_faults =
+    (b : Bare) (m : Ram) (first pages status : ℕ) (k : Kind) (old : List ℕ) → status < 64 → NoPermission status
     → rulingIn b m (Census first pages) ≡ allowed
-    → get_or (bareCounts b m first pages old) status 0 ≡ howMany (λ i. answersFault status (uncached real (plainIn b) m k (pageAt first i))) pages
-census-faults b m first pages status k old small h passed = rw passed (status-faults b m first pages status k small h)
+    → get_or (bareCounts b m first pages old) status 0
+    ≡ howMany (λ i. answersFault status (uncached real (plainIn b) m k (pageAt first i))) pages
 
 abbrev pub answersAddress : Answer → Bool
 answersAddress (Address pa) = true
 answersAddress (Status f) = false
 
-picked : (b : Bool) (pa : ℕ) (f : Fault) → answersAddress (pick b (Address pa) (Status f)) ≡ b
-picked true pa f = refl
-picked false pa f = refl
+-- Of a page that is counted under a permission byte the core without a cache answers an access with an address exactly
+-- where the byte has the bit that the access needs; of a flat one, with the address itself.
+abbrev pub rights_allow : Type 0
+rights_allow =
+    (b : Bare) (m : Ram) (k : Kind) (va perms : ℕ) → hasRights perms (freshNow (plainIn b) m va) ≡ true
+    → answersAddress (uncached real (plainIn b) m k va) ≡ eqb (perms / needNow real (plainIn b) k % 2) 1
 
-rights-fresh : (perms bit va : ℕ) (x : Fresh) → hasRights perms x ≡ true → answersAddress (freshAnswer x bit va) ≡ eqb (perms / bit % 2) 1
-unfolding walkAnswer leafAnswer
-rights-fresh perms bit va (Ended (Mapped leaf)) h =
-    picked (eqb (leaf.perms / bit % 2) 1) (leaf.oa / 4096 * 4096 + va % 4096) (status-of (12 + leaf.level))
-    ∙ ap (λ (p : ℕ). eqb (p / bit % 2) 1) (eqb-true leaf.perms perms h)
-rights-fresh perms bit va (Ended (Faulted n)) h = absurd (let z : ◌≡◌ {A = ℕ} 0 1 = ap (λ (b : Bool). flag b 1) h in omega arith)
-rights-fresh perms bit va (Flat pa) h = absurd (let z : ◌≡◌ {A = ℕ} 0 1 = ap (λ (b : Bool). flag b 1) h in omega arith)
-
--- Of a page that is counted under a permission byte the core without a cache answers an access with an address exactly where the byte has the bit that
--- the access needs; of a flat one, with the address itself.
-module _ (b : Bare) (m : Ram) (k : Kind) (va : ℕ) where
-  pub rights-allow : (perms : ℕ) → hasRights perms (freshNow (plainIn b) m va) ≡ true
-      → answersAddress (uncached real (plainIn b) m k va) ≡ eqb (perms / needNow real (plainIn b) k % 2) 1
-  rights-allow perms h =
-      ap answersAddress (uncached-fresh (plainIn b) m k va) ∙ rights-fresh perms (needNow real (plainIn b) k) va (freshNow (plainIn b) m va) h
-
-  pub flat-allows : (pa : ℕ) → freshNow (plainIn b) m va ≡ Flat pa → uncached real (plainIn b) m k va ≡ Address pa
-  flat-allows pa e = uncached-fresh (plainIn b) m k va ∙ ap (λ (x : Fresh). freshAnswer x (needNow real (plainIn b) k) va) e
+abbrev pub flat_allows : Type 0
+flat_allows =
+    (b : Bare) (m : Ram) (k : Kind) (va pa : ℕ) → freshNow (plainIn b) m va ≡ Flat pa
+    → uncached real (plainIn b) m k va ≡ Address pa

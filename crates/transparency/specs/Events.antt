@@ -5,15 +5,12 @@
 -- here: the event of a TLBI that is not refused carries its invalidation whatever the core did (`tlbi-event`), the
 -- theory's cache loses what it names, and the core's own `Tlb` has to be that one after every call (`tlb-is` of the
 -- bridge). Nor could one that made an invalidation up: no other call carries one.
-use Rattle.std.specs.Prelude.{◌≡◌, refl, Bool, true, false, List, [], ◌∷◌, ℕ, ◌+◌, leb}
+use Rattle.std.specs.Prelude.{◌≡◌, refl, Bool, true, false, List, [], ◌∷◌, ℕ, ◌+◌, leb, Option, Some, None}
 use Rattle.std.proofs.Common.{leb-true}
 use Rattle.word.specs.Bits.{alignDown, wrap}
 use Rattle.word.specs.Ram.{width_of, bytesIn}
-use Rattle.word.specs.declared.ram.Sized.{Sized}
-use Rattle.word.specs.declared.ram.Sized.TheVariants as Sized
 use Rattle.tlb.specs.Asks.{Ask, translates, fetches}
 use Rattle.tlb.specs.declared.{access.Kind.Kind, access.Privilege.Privilege, Inval.Inval}
-use Rattle.tlb.specs.declared.access.Kind.TheVariants as Kind
 use Rattle.exception.specs.EntryLaws.{take_level}
 use Rattle.exception.specs.declared.kind.Exception.{Exception}
 use Rattle.sysop.specs.Tlbi.{tlbiOf, reachesOthers}
@@ -28,6 +25,7 @@ use Rattle.history.specs.World.{onNow}
 use Rattle.history.specs.History.{Effect, nothing, carries, writes, sets, Step, Event, steps}
 use Rattle.history.specs.Instance.{Ram, real}
 use Rattle.transparency.specs.Bare.{plainIn, missedIn, opIn, operandIn, writtenIn, takenIn, rulingIn, ifAllowed}
+use Rattle.word.specs.declared.ram.Width.{Width}
 
 -- STEPS
 
@@ -47,9 +45,9 @@ abbrev pub accessIn : Bare → ℕ → ℕ → Kind → List Ask
 accessIn b va n kind = accessAsks (onNow real (plainIn b)) va n kind
 
 -- a size that is none is refused before
-abbrev pub sizedIn : Bare → ℕ → Sized → Kind → List Ask
-sizedIn b va (Sized.Bytes w) kind = accessIn b va (bytesIn w) kind
-sizedIn b va Sized.Refused kind = []
+abbrev pub sizedIn : Bare → ℕ → Option Width → Kind → List Ask
+sizedIn b va (Some w) kind = accessIn b va (bytesIn w) kind
+sizedIn b va None kind = []
 
 -- a level above 3 is refused before
 abbrev pub setBy : (privilege : Privilege) (b : Bool) → leb privilege.level 3 ≡ b → Effect real
@@ -110,6 +108,10 @@ abbrev pub eventsIn : Bare → Ram → List Ram → Call → List (Event real)
 eventsIn b m ms x = ifAllowed (rulingIn b m x) (stepsIn b m ms x) (steps m idle ∷ [])
 
 -- "An All, Page or Asid is one that a TLBI, not refused, carries out": each such TLBI has its event, and no more.
-pub tlbi-event : (b : Bare) (m : Ram) (ms : List Ram) (e : Encoding) → missedIn b m (System e) ≡ 0 → opIn b e ≡ Op.Tlbi
+abbrev pub tlbi_event : Type 0
+tlbi_event =
+    (b : Bare) (m : Ram) (ms : List Ram) (e : Encoding) → missedIn b m (System e) ≡ 0 → opIn b e ≡ Op.Tlbi
     → eventsIn b m ms (System e) ≡ steps m (does (carries (invalIn b e) (sharedIn e))) ∷ []
-tlbi-event b m ms e passed named = rw (passed, named)
+
+pub tlbi-event : tlbi_event
+tlbi-event b m ms e passed named = rw (passed, named) refl

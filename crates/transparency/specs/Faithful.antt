@@ -1,30 +1,23 @@
 -- Demand 3 as a promise of one call: what the second clause of its contract says.
 use Rattle.std.specs.Prelude.{◌≡◌, ℕ}
-use Rattle.std.proofs.Common.{sym, ap, ◌∙◌}
-use Rattle.std.proofs.Math.Path.{subst}
 use mathlib.Core.List.{List, ◌∷◌, ◌++◌}
 use Rattle.tlb.specs.Lists.{Each}
 use Rattle.tlb.specs.Asks.{Given}
-use Rattle.mmu.specs.Bare.{Bare, freshBare}
+use Rattle.mmu.specs.Bare.{freshBare}
 use Rattle.mmu.specs.Core.{freshCore}
 use Rattle.mmu.specs.declared.core_state.Core.{Core}
-use Rattle.cpu.specs.Step.{step_of, ramAfter}
+use Rattle.cpu.specs.Step.{step_of, ramAfter, Stepped}
 use Rattle.operations.specs.declared.call.Call.{Call}
-use Rattle.cpu.specs.declared.run.Stepped.{Stepped}
 use Rattle.history.specs.History.{Step, Event, steps, afterEvent, plainRun, tlbEvent, tlbRun, answers}
 use Rattle.history.specs.Invisible.{Tidy, answersRun}
-use Rattle.history.specs.Lists.{answers-split}
-use Rattle.history.specs.Calls.{Lent, Fed, lent_of, eventsRun, shown, showing, FaithfulIn}
-use Rattle.history.specs.EveryCall.{shown-lent, shown-shown}
+use Rattle.history.specs.Calls.{Lent, Fed, lent_of, eventsRun, Shown, shown, FaithfulIn}
 use Rattle.history.specs.Instance.{Ram, windowOf, real}
 use Rattle.transparency.specs.Bare.{plainIn}
 use Rattle.transparency.specs.Events.{eventsIn}
 use Rattle.transparency.specs.Starts.{laterIn}
 use Rattle.transparency.specs.Machine.{machine}
-use Rattle.transparency.specs.Replies.{Outcome, outcome, outcomeOf, saysIn, bareReply}
-use Rattle.transparency.specs.Answered.{reply-is}
-use Rattle.transparency.specs.Instance.{every_call, every-reply}
-use Rattle.transparency.specs.Beside.{coreAfter, bareAfter, two-cores}
+use Rattle.transparency.specs.Replies.{Outcome, outcome, saysIn, bareReply}
+use Rattle.transparency.specs.Beside.{coreAfter, bareAfter, EveryList}
 
 -- the list, each call with RAM at its steps as the run from the fresh core shows it
 abbrev pub fedBy : List (Lent real machine) → List (Fed real machine)
@@ -63,11 +56,13 @@ pub record Faithful (list : List (Lent real machine)) (m : Ram) (x : Call) (o : 
   pub answered : o ≡ saysIn (bareAfter list) m (laterIn (coreAfter list) m x) x (answersAfter list m x)
   pub parts : (before : List (Event real)) (m' : Ram) (s : Step real) (later : List (Event real))
       → eventsAfter list m x ≡ before ++ steps m' s ∷ later
-      → answersAfter list m x ≡ answersBefore list before ++ (answersAt list before m' s ++ answersFrom list before m' s later)
+      → answersAfter list m x
+      ≡ answersBefore list before ++ (answersAt list before m' s ++ answersFrom list before m' s later)
   pub faithful : (before : List (Event real)) (m' : Ram) (s : Step real) (later : List (Event real))
       → eventsAfter list m x ≡ before ++ steps m' s ∷ later
       → Each (FaithfulIn real machine freshBare (fedBy list) before m') (answersAt list before m' s)
-  pub same : Tidy real (plainIn freshBare) (eventsRun real machine freshBare (fedBy list)) (eventsAfter list m x) → o ≡ bareReply (bareAfter list) m x
+  pub same : Tidy real (plainIn freshBare) (eventsRun real machine freshBare (fedBy list)) (eventsAfter list m x)
+      → o ≡ bareReply (bareAfter list) m x
 
 -- whatever list of calls left this core
 unfoldable pub FaithfulCall : Core → ℕ → List ℕ → Call → Stepped → List ℕ → Type 0
@@ -75,55 +70,12 @@ FaithfulCall c base bytes x r after =
     (list : List (Lent real machine)) → c ≡ coreAfter list
     → Faithful list (windowOf base bytes) x (outcome r.reply after)
 
-module _ (list : List (Lent real machine)) (m : Ram) (x : Call) where
-  abbrev fed : Fed real machine
-  fed = showing real machine (coreAfter list) (record { ram = m; call = x })
+-- WHAT IS PROVED: each list is shown by its run, so fed it is the list; and what a step gives is faithful.
+abbrev pub every_list_shown : Type 0
+every_list_shown =
+    EveryList (λ list. Shown real machine freshCore (fedBy list) × (lent_of real machine (fedBy list) ≡ list))
 
-  -- the list, as its run shows it, is the list
-  lents : lent_of real machine (fedBy list) ≡ list
-  lents = shown-lent real machine freshCore list
-
-  fed-shown : fed.later ≡ laterIn (coreAfter (lent_of real machine (fedBy list))) m x
-  fed-shown = ap (λ (l : List (Lent real machine)). laterIn (coreAfter l) m x) (sym lents)
-
-  fed-events : eventsIn (bareAfter (lent_of real machine (fedBy list))) m fed.later x ≡ eventsAfter list m x
-  fed-events = ap (λ (l : List (Lent real machine)). eventsIn (bareAfter l) m fed.later x) lents
-
-  pub said : outcomeOf (coreAfter list) m x ≡ saysIn (bareAfter list) m (laterIn (coreAfter list) m x) x (answersAfter list m x)
-  said =
-      subst
-      (λ (b : Bare).
-      outcomeOf (coreAfter list) m x
-      ≡ saysIn b m (laterIn (coreAfter list) m x) x (answersRun real (plainIn b) (eventsIn b m (laterIn (coreAfter list) m x) x) (coreAfter list).tlb))
-      (two-cores list) (reply-is (coreAfter list) m x)
-
-  fed-answers : (before : List (Event real)) (m' : Ram) (s : Step real) (later : List (Event real))
-      → eventsAfter list m x ≡ before ++ steps m' s ∷ later
-      → Each (FaithfulIn real machine freshBare (fedBy list) before m') (answersAt list before m' s)
-  unfolding freshCore
-  fed-answers before m' s later e =
-      subst (λ (l : List (Lent real machine)). Each (FaithfulIn real machine freshBare (fedBy list) before m') (answersAt l before m' s)) lents
-      (every_call (fedBy list) (shown-shown real machine freshCore list) fed fed-shown before m' s later (fed-events ∙ e))
-
-  fed-same : Tidy real (plainIn freshBare) (eventsRun real machine freshBare (fedBy list)) (eventsAfter list m x)
-      → outcomeOf (coreAfter list) m x ≡ bareReply (bareAfter list) m x
-  unfolding freshCore
-  fed-same tidy =
-      subst (λ (l : List (Lent real machine)). outcomeOf (coreAfter l) m x ≡ bareReply (bareAfter l) m x) lents
-      (every-reply (fedBy list) (shown-shown real machine freshCore list) fed fed-shown
-      (subst (Tidy real (plainIn freshBare) (eventsRun real machine freshBare (fedBy list))) (sym fed-events) tidy))
-
-pub faithful-step : (c : Core) (base : ℕ) (bytes : List ℕ) (x : Call) (r : Stepped) (after : List ℕ)
+abbrev pub faithful_step : Type 0
+faithful_step =
+    (c : Core) (base : ℕ) (bytes : List ℕ) (x : Call) (r : Stepped) (after : List ℕ)
     → r ≡ step_of c base bytes x → after ≡ ramAfter c base bytes x → FaithfulCall c base bytes x r after
-unfolding FaithfulCall
-faithful-step c base bytes x r after er ea list ec =
-    let m : Ram = windowOf base bytes in
-    let made : outcome r.reply after ≡ outcomeOf (coreAfter list) m x = rw (er, ea, ec) in
-    record {
-      answered = made ∙ said list m x;
-      parts = λ before m' s later e.
-          ap (λ (es : List (Event real)). answersRun real (plainIn (bareAfter list)) es (coreAfter list).tlb) e
-          ∙ answers-split real (plainIn (bareAfter list)) before m' s later (coreAfter list).tlb;
-      faithful = fed-answers list m x;
-      same = λ tidy. made ∙ fed-same list m x tidy;
-    }

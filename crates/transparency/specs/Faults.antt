@@ -1,58 +1,23 @@
 -- Each fault that a call replies is a row of document 01's table, with the address translated, or for 0x10 that of a
 -- byte of the access.
-use Rattle.std.specs.Prelude.{◌≡◌, Bool, true, false, ◌⊎◌, ℕ, zero, suc, ◌+◌, ◌%◌, ◌^◌, ◌≤◌, ◌<◌, length}
-use Rattle.std.proofs.Math.Path.{refl, ap, subst⁻¹}
-use Rattle.std.proofs.Common.{sym, subst, ◌∙◌, inl, inr, arith, add-zero}
-use mathlib.Core.List.{List, [], ◌∷◌, ◌++◌, append-nil, Memᴰ}
-use Rattle.std.proofs.Math.Nat.{mod-mod}
-use Rattle.word.specs.Bits.{alignDown, pick, wrap}
-use Rattle.word.specs.Ram.{width_of, bytesIn, within}
-use Rattle.word.specs.declared.{ram.Sized.Sized, ram.Width.Width}
-use Rattle.word.specs.declared.ram.Sized.TheVariants as Sized
-use Rattle.word.specs.declared.ram.Width.TheVariants as Width
+use Rattle.std.specs.Prelude.{◌≡◌, ◌⊎◌, ℕ, ◌+◌, ◌<◌}
+use mathlib.Core.List.{List, Memᴰ}
+use Rattle.word.specs.Bits.{wrap}
 use Rattle.fault.specs.First.{first}
 use Rattle.fault.specs.declared.Fault.{Fault}
-use Rattle.tlb.specs.Lists.{Each, done, more}
-use Rattle.tlb.specs.Asks.{Ask, translates, fetches, address_of, Given, onward, onward-same}
-use Rattle.tlb.specs.declared.{access.Kind.Kind, access.Answer.Answer, Tlb.Tlb}
-use Rattle.tlb.specs.declared.access.Kind.TheVariants as Kind
+use Rattle.tlb.specs.Asks.{address_of, Given}
 use Rattle.tlb.specs.declared.access.Answer.TheVariants.{Address, Status}
 use Rattle.exception.specs.declared.kind.Exception.TheVariants as Exception
 use Rattle.exception.specs.declared.kind.Stop.TheVariants as Stop
-use Rattle.mmu.specs.Bare.{Bare}
 use Rattle.mmu.specs.Core.{freshCore}
-use Rattle.operations.specs.Place.{nextPage, crosses, byte_at, firstOutside, verdictOf}
-use Rattle.operations.specs.Bytes.{gotBy, value_at, load_of, insnOf}
-use Rattle.mmu.specs.Asks.{asksBy, placedBy}
-use Rattle.operations.specs.Ends.{reachedBy, loadedFrom, loadEnd, storeEndBy, storeEnd, fetchedFrom, fetchEnd}
-use Rattle.operations.specs.declared.{place.Pages.Pages, place.Place.Place, place.Placed.Placed, place.Verdict.Verdict}
-use Rattle.operations.specs.declared.{bytes.Insn.Insn, call.Call.Call, call.Reply.Reply}
-use Rattle.operations.specs.declared.place.Place.TheVariants.{Whole, Split}
-use Rattle.operations.specs.declared.place.Placed.TheVariants as Placed
-use Rattle.operations.specs.declared.place.Verdict.TheVariants.{Inside, Outside}
-use Rattle.operations.specs.declared.bytes.Insn.TheVariants as Insn
-use Rattle.sysop.specs.declared.op.SysOp.{SysOp}
-use Rattle.sysop.specs.declared.op.SysOp.TheVariants as Op
-use Rattle.operations.specs.Replies.{translation, loading, storing, fetching, reaching}
+use Rattle.operations.specs.declared.{call.Call.Call, call.Reply.Reply}
 use Rattle.cpu.specs.Step.{step_of}
-use Rattle.operations.specs.declared.call.Call.TheVariants.{Translate, DataPa, FetchPa, Load, Store, Fetch, System, Register, Level, Mark, General}
-use Rattle.operations.specs.declared.call.Call.TheVariants.{Abort, Census}
-use Rattle.operations.specs.declared.call.Reply.TheVariants as Reply
-use Rattle.history.specs.World.{Plain, onNow}
-use Rattle.history.specs.History.{steps, answer_of, tlbAsk, answers, tlbAsks}
-use Rattle.history.specs.Invisible.{answersRun}
-use Rattle.history.specs.Calls.{Lent, Fed, lent_of, Shown}
+use Rattle.history.specs.Calls.{Fed, lent_of, Shown}
 use Rattle.history.specs.Instance.{Ram, real}
 use Rattle.history.specs.Judgement.{Row}
-use Rattle.transparency.specs.Bare.{plainIn, opIn, operandIn, Ruling, allowed, number, undefined, unimplemented, rulingIn, refusalOf, ifAllowed}
-use Rattle.transparency.specs.Events.{idle, accessIn, sizedIn, zeroSteps, sysSteps, stepsIn, eventsIn}
-use Rattle.transparency.specs.Replies.{Outcome, outcome, loadSays, storeSays, loadSized, storeSized, zeroSays, sysSays, callSays, saysIn}
-use Rattle.transparency.specs.Answered.{next-aligned, start-aligned, storeGiven, one-given}
 use Rattle.transparency.specs.Machine.{machine}
-use Rattle.transparency.specs.Beside.{coreAfter, bareAfter}
-use Rattle.transparency.specs.Starts.{laterIn}
-use Rattle.transparency.specs.Faithful.{eventsAfter, answersAfter, said}
-use Rattle.transparency.specs.Judged.{every-row}
+use Rattle.transparency.specs.Beside.{coreAfter}
+use Rattle.transparency.specs.Faithful.{answersAfter}
 
 -- REPLIES
 
@@ -78,266 +43,18 @@ RepliesFault Reply.Faults addr fault = ⊥
 -- (which byte: `lowest` of operations/specs/PlaceLaws.antt, and the first where the access is not split).
 pub data FaultFrom (gs : List Given) (addr : ℕ) (fault : Fault) : Type 0 where
   translating : (g : Given) → Memᴰ g gs → address_of g.ask ≡ addr → g.answer ≡ Status fault → FaultFrom gs addr fault
-  outside : (g : Given) → Memᴰ g gs → (pa : ℕ) → g.answer ≡ Address pa → (i : ℕ) → i < 8 → wrap addr ≡ wrap (address_of g.ask + i) → fault ≡ first 0x10
+  outside : (g : Given) → Memᴰ g gs → (pa : ℕ) → g.answer ≡ Address pa → (i : ℕ) → i < 8
+      → wrap addr ≡ wrap (address_of g.ask + i) → fault ≡ first 0x10
       → FaultFrom gs addr fault
 
--- THE BYTE that lies outside is one of the access's
-
-outside-injective : {i j x y : ℕ} → Outside i x ≡ Outside j y → i ≡ j
-outside-injective e = cc
-
-first-outside : (base len : ℕ) (p : Pages) (i n j pa : ℕ) → firstOutside base len p i n ≡ Outside j pa → j < i + n
-unfolding firstOutside
-first-outside base len p i zero j pa e = let z : ◌≡◌ {A = ℕ} 0 1 = cc in absurd (omega arith)
-first-outside base len p i (suc n) j pa e = go (within base len 1 (byte_at p i)) e (λ f. first-outside base len p (i + 1) n j pa f)
-  where
-    go : (b : Bool) → pick b (firstOutside base len p (i + 1) n) (Outside i (byte_at p i)) ≡ Outside j pa
-        → (firstOutside base len p (i + 1) n ≡ Outside j pa → j < i + 1 + n) → j < i + suc n
-    go true f k = let h : j < i + 1 + n = k f in omega arith
-    go false f k = let h : i ≡ j = outside-injective f in omega arith
-
-byte_low : (base len : ℕ) (place : Place) (n j pa : ℕ) → 0 < n → verdictOf base len place n ≡ Outside j pa → j < n
-unfolding verdictOf
-byte_low base len (Whole q) n j pa some e = go (within base len n q) e
-  where
-    go : (b : Bool) → pick b Inside (Outside 0 q) ≡ Outside j pa → j < n
-    go true f = let z : ◌≡◌ {A = ℕ} 0 1 = cc in absurd (omega arith)
-    go false f = let h : 0 ≡ j = outside-injective f in omega arith
-byte_low base len (Split p) n j pa some e = let h : j < 0 + n = first-outside base len p 0 n j pa e in omega arith
-
--- AN ACCESS: a fault is that of one of its translations, and a place begins where the first was allowed
-
-pub record PlacedFrom (va : ℕ) (gs : List Given) : Type 0 where
-  pub faulting : (a : ℕ) (fault : Fault) → placedBy va gs ≡ Placed.Fault a fault
-      → (g : Given) × Memᴰ g gs × (address_of g.ask ≡ a) × (g.answer ≡ Status fault)
-  pub lying : (place : Place) → placedBy va gs ≡ Placed.At place
-      → (g : Given) × Memᴰ g gs × (address_of g.ask ≡ va) × (pa : ℕ) × (g.answer ≡ Address pa)
-
-fault-one : {a b : ℕ} {x y : Fault} → Placed.Fault a x ≡ Placed.Fault b y → a ≡ b
-fault-one e = cc
-
-fault-two : {a b : ℕ} {x y : Fault} → Placed.Fault a x ≡ Placed.Fault b y → x ≡ y
-fault-two e = cc
-
--- two translations, by their answers
-module _ (va : ℕ) (kind : Kind) where
-  abbrev one : Answer → Given
-  one x = record { ask = translates kind va; answer = x }
-
-  abbrev two : Answer → Given
-  two y = record { ask = translates kind (nextPage va); answer = y }
-
-  placed_one : (x : Answer) → PlacedFrom va (one x ∷ [])
-  placed_one (Address pa) =
-      record {
-        faulting = λ a fault e. let z : ◌≡◌ {A = ℕ} 0 1 = cc in absurd (omega arith);
-        lying = λ place e. (one (Address pa), Memᴰ.head refl, refl, pa, refl);
-      }
-  placed_one (Status f) =
-      record {
-        faulting = λ a fault e. (one (Status f), Memᴰ.head refl, fault-one e, ap Status (fault-two e));
-        lying = λ place e. let z : ◌≡◌ {A = ℕ} 0 1 = cc in absurd (omega arith);
-      }
-
-  placed-two : (pa : ℕ) (y : Answer) → PlacedFrom va (one (Address pa) ∷ two y ∷ [])
-  placed-two pa (Address pb) =
-      record {
-        faulting = λ a fault e. let z : ◌≡◌ {A = ℕ} 0 1 = cc in absurd (omega arith);
-        lying = λ place e. (one (Address pa), Memᴰ.head refl, refl, pa, refl);
-      }
-  placed-two pa (Status f) =
-      record {
-        faulting = λ a fault e. (two (Status f), Memᴰ.tail (Memᴰ.head refl), fault-one e, ap Status (fault-two e));
-        lying = λ place e. let z : ◌≡◌ {A = ℕ} 0 1 = cc in absurd (omega arith);
-      }
-
-  pub answers-placed : (c : Bool) (q : Plain real) (m : Ram) (t : Tlb) → PlacedFrom va (answers real q m (asksBy c va kind) t)
-  answers-placed false q m t =
-      subst (λ (l : List Given). PlacedFrom va (one (answer_of real q m (translates kind va) t) ∷ l))
-      (sym (onward-same (answer_of real q m (translates kind va) t) []))
-      (placed_one (answer_of real q m (translates kind va) t))
-  answers-placed true q m t =
-      go (answer_of real q m (translates kind va) t)
-      (answer_of real q m (translates kind (nextPage va)) (tlbAsk real q m (translates kind va) t))
-    where
-      go : (x y : Answer) → PlacedFrom va (one x ∷ onward {A = List Given} x (two y ∷ onward {A = List Given} y [] []) [])
-      go (Address pa) y = subst (λ (l : List Given). PlacedFrom va (one (Address pa) ∷ two y ∷ l)) (sym (onward-same y [])) (placed-two pa y)
-      go (Status f) y = placed_one (Status f)
-
--- WHAT AN ACCESS REPLIES
-
-some_bytes : (w : Width) → (0 < bytesIn w) × (bytesIn w ≤ 8)
-some_bytes Width.Byte = (omega arith, omega arith)
-some_bytes Width.Half = (omega arith, omega arith)
-some_bytes Width.Word = (omega arith, omega arith)
-some_bytes Width.Double = (omega arith, omega arith)
-
-module _ (m : Ram) (va n : ℕ) (some : 0 < n) (few : n ≤ 8) (gs : List Given) (from : PlacedFrom va gs) (addr : ℕ) (fault : Fault) where
-  -- a byte outside
-  out : (place : Place) (j pa : ℕ) → placedBy va gs ≡ Placed.At place → verdictOf m.base (length m.bytes) place n ≡ Outside j pa
-      → wrap (va + j) ≡ addr → first 0x10 ≡ fault → FaultFrom gs addr fault
-  out place j pa e v a f =
-      let (g, mem, q, pb, r) = from.lying place e in
-      let low : j < n = byte_low m.base (length m.bytes) place n j pa some v in
-      outside g mem pb r j (omega arith) (ap wrap (sym a) ∙ mod-mod (va + j) (2 ^ 64) ∙ ap (λ (x : ℕ). wrap (x + j)) (sym q)) (sym f)
-
-  load_from : RepliesFault (loadSays m va n gs).reply addr fault → FaultFrom gs addr fault
-  unfolding loadEnd load_of
-  load_from = go (placedBy va gs) refl
-    where
-      go : (q : Placed) → placedBy va gs ≡ q → RepliesFault (loading (loadEnd q 0 0 m.base m.bytes va n).answer) addr fault → FaultFrom gs addr fault
-      go (Placed.Fault a f) e w =
-          let (g, mem, p, r) = from.faulting a f e in
-          translating g mem (p ∙ w.0) (r ∙ ap Status w.1)
-      go (Placed.At place) e w = by-verdict (verdictOf m.base (length m.bytes) place n) refl w
-        where
-          by-verdict : (v : Verdict) → verdictOf m.base (length m.bytes) place n ≡ v
-              → RepliesFault (loading (loadedFrom place (gotBy v (value_at m.base m.bytes place n)) 0 va).answer) addr fault → FaultFrom gs addr fault
-          by-verdict Inside d x = absurd x
-          by-verdict (Outside j pa) d x = out place j pa e d x.0 x.1
-
-  store-from : (v : ℕ) → RepliesFault (storeSays m va n v gs).reply addr fault → FaultFrom gs addr fault
-  unfolding storeEnd
-  store-from v = go (placedBy va gs) refl
-    where
-      go : (q : Placed) → placedBy va gs ≡ q → RepliesFault (storing (storeEnd q 0 m.base m.bytes va n).answer) addr fault → FaultFrom gs addr fault
-      go (Placed.Fault a f) e w =
-          let (g, mem, p, r) = from.faulting a f e in
-          translating g mem (p ∙ w.0) (r ∙ ap Status w.1)
-      go (Placed.At place) e w = by-verdict (verdictOf m.base (length m.bytes) place n) refl w
-        where
-          by-verdict : (d : Verdict) → verdictOf m.base (length m.bytes) place n ≡ d
-              → RepliesFault (storing (storeEndBy d 0 va).answer) addr fault → FaultFrom gs addr fault
-          by-verdict Inside d x = absurd x
-          by-verdict (Outside j pa) d x = out place j pa e d x.0 x.1
-
--- A ZEROING
-
-from-later : (g : Given) (gs : List Given) (addr : ℕ) (fault : Fault) → FaultFrom gs addr fault → FaultFrom (g ∷ gs) addr fault
-from-later g gs addr fault (translating h mem p r) = translating h (Memᴰ.tail mem) p r
-from-later g gs addr fault (outside h mem pa r i low p f) = outside h (Memᴰ.tail mem) pa r i low p f
-
-placed-nil : (va : ℕ) (gs : List Given) → PlacedFrom va gs → PlacedFrom va (gs ++ [])
-placed-nil va gs s = subst (PlacedFrom va) (sym (append-nil gs)) s
-
-zero-from : (b : Bare) (m : Ram) (ms : List Ram) (va : ℕ) (t : Tlb) (addr : ℕ) (fault : Fault) → va % 8 ≡ 0
-    → RepliesFault (zeroSays m ms va (answersRun real (plainIn b) (zeroSteps b m ms va) t)).reply addr fault
-    → FaultFrom (answersRun real (plainIn b) (zeroSteps b m ms va) t) addr fault
-zero-from b m [] va t addr fault al w =
-    store-from m va 8 (omega arith) (omega arith) _ (placed-nil va _ (answers-placed va Kind.Write (crosses (onNow real (plainIn b)) va 8) (plainIn b) m t))
-    addr fault 0 w
-zero-from b m (n ∷ ms) va t addr fault al w =
-    subst (λ (l : List Given). FaultFrom (l ++ rest) addr fault) (sym (one-given b t m va al))
-    (from-later (storeGiven b t m va) rest addr fault
-    (zero-from b n ms (wrap (va + 8)) (tlbAsks real (plainIn b) m (accessIn b va 8 Kind.Write) t) addr fault (next-aligned va al)
-    (subst (λ (l : List Given). RepliesFault (zeroSays m (n ∷ ms) va (l ++ rest)).reply addr fault) (one-given b t m va al) w)))
-  where
-    rest : List Given
-    rest = answersRun real (plainIn b) (zeroSteps b n ms (wrap (va + 8))) (tlbAsks real (plainIn b) m (accessIn b va 8 Kind.Write) t)
-
--- EVERY CALL
-
-abbrev ranGiven : Bare → Ram → List Ram → Call → Tlb → List Given
-ranGiven b m ms x t = answersRun real (plainIn b) (stepsIn b m ms x) t
-
-load-sized-from : (s : Sized) (b : Bare) (m : Ram) (va : ℕ) (t : Tlb) (addr : ℕ) (fault : Fault)
-    → RepliesFault (loadSized s m va (answers real (plainIn b) m (sizedIn b va s Kind.Read) t ++ [])).reply addr fault
-    → FaultFrom (answers real (plainIn b) m (sizedIn b va s Kind.Read) t ++ []) addr fault
-load-sized-from Sized.Refused b m va t addr fault w = absurd w
-load-sized-from (Sized.Bytes w) b m va t addr fault x =
-    load_from m va (bytesIn w) (some_bytes w).0 (some_bytes w).1 _
-    (placed-nil va _ (answers-placed va Kind.Read (crosses (onNow real (plainIn b)) va (bytesIn w)) (plainIn b) m t)) addr fault x
-
-store-sized-from : (s : Sized) (b : Bare) (m : Ram) (va v : ℕ) (t : Tlb) (addr : ℕ) (fault : Fault)
-    → RepliesFault (storeSized s m va v (answers real (plainIn b) m (sizedIn b va s Kind.Write) t ++ [])).reply addr fault
-    → FaultFrom (answers real (plainIn b) m (sizedIn b va s Kind.Write) t ++ []) addr fault
-store-sized-from Sized.Refused b m va v t addr fault w = absurd w
-store-sized-from (Sized.Bytes w) b m va v t addr fault x =
-    store-from m va (bytesIn w) (some_bytes w).0 (some_bytes w).1 _
-    (placed-nil va _ (answers-placed va Kind.Write (crosses (onNow real (plainIn b)) va (bytesIn w)) (plainIn b) m t)) addr fault v x
-
-module _ (b : Bare) (m : Ram) (t : Tlb) (addr : ℕ) (fault : Fault) where
-  translate-from : (a : Ask) (x : Answer) → RepliesFault (translation (address_of a) x) addr fault → (l : List Given)
-      → FaultFrom (record { ask = a; answer = x } ∷ l) addr fault
-  translate-from a (Address pa) w l = absurd w
-  translate-from a (Status f) w l = translating _ (Memᴰ.head refl) w.0 (ap Status w.1)
-
-  reach-from : (x : Answer) → RepliesFault (reaching (reachedBy x)) addr fault → ⊥
-  reach-from (Address pa) w = w
-  reach-from (Status f) w = w
-
-  fetch-from : (va : ℕ) (x : Answer) → RepliesFault (fetching (fetchEnd x 0 m.base m.bytes va).answer) addr fault → (l : List Given)
-      → FaultFrom (record { ask = fetches va; answer = x } ∷ l) addr fault
-  unfolding fetchEnd
-  fetch-from va (Status f) w l = translating _ (Memᴰ.head refl) w.0 (ap Status w.1)
-  fetch-from va (Address pa) w l = go (insnOf m.base m.bytes pa) w
-    where
-      go : (i : Insn) → RepliesFault (fetching (fetchedFrom pa i 0 va).answer) addr fault
-          → FaultFrom (record { ask = fetches va; answer = Address pa } ∷ l) addr fault
-      go (Insn.Value v) y = absurd y
-      go Insn.Outside y =
-          outside _ (Memᴰ.head refl) pa refl 0 (omega arith) (ap wrap (sym y.0) ∙ ap wrap (sym (add-zero va))) (sym y.1)
-
-  call_from : (ms : List Ram) (x : Call) → RepliesFault (callSays b m ms x (ranGiven b m ms x t)).reply addr fault → FaultFrom (ranGiven b m ms x t) addr fault
-  call_from ms (Translate kind va) w = translate-from (translates kind va) (answer_of real (plainIn b) m (translates kind va) t) w _
-  call_from ms (DataPa va) w = absurd (reach-from (answer_of real (plainIn b) m (translates Kind.Read va) t) w)
-  call_from ms (FetchPa va) w = absurd (reach-from (answer_of real (plainIn b) m (fetches va) t) w)
-  call_from ms (Load va size) w = load-sized-from (width_of size) b m va t addr fault w
-  call_from ms (Store va size value) w = store-sized-from (width_of size) b m va value t addr fault w
-  call_from ms (Fetch va) w = fetch-from va (answer_of real (plainIn b) m (fetches va) t) w _
-  call_from ms (System e) w = go (opIn b e) w
-    where
-      go : (o : SysOp) → RepliesFault (sysSays o m ms (operandIn b e) (answersRun real (plainIn b) (sysSteps o b m ms e) t)).reply addr fault
-          → FaultFrom (answersRun real (plainIn b) (sysSteps o b m ms e) t) addr fault
-      go Op.Zva y = zero-from b m ms (alignDown (operandIn b e) 6) t addr fault (start-aligned (operandIn b e)) y
-      go (Op.At form) y = absurd y
-      go Op.Tlbi y = absurd y
-      go Op.Nothing y = absurd y
-      go Op.Undefined y = absurd y
-      go Op.Unimplemented y = absurd y
-  call_from ms (Register key value) w = absurd w
-  call_from ms (Level level) w = absurd w
-  call_from ms (Mark mark) w = absurd w
-  call_from ms (General n value) w = absurd w
-  call_from ms (Abort e) w = absurd w
-  call_from ms (Census first pages) w = absurd w
-
-  said-from : (ms : List Ram) (x : Call) → RepliesFault (saysIn b m ms x (answersRun real (plainIn b) (eventsIn b m ms x) t)).reply addr fault
-      → FaultFrom (answersRun real (plainIn b) (eventsIn b m ms x) t) addr fault
-  said-from ms x = go (rulingIn b m x)
-    where
-      go : (v : Ruling) → RepliesFault
-          (ifAllowed v (callSays b m ms x (answersRun real (plainIn b) (ifAllowed v (stepsIn b m ms x) (steps m idle ∷ [])) t))
-          (outcome (refusalOf v) m.bytes)).reply addr fault
-          → FaultFrom (answersRun real (plainIn b) (ifAllowed v (stepsIn b m ms x) (steps m idle ∷ [])) t) addr fault
-      go allowed w = call_from ms x w
-      go (number k) w = absurd w
-      go undefined w = absurd w
-      go unimplemented w = absurd w
-
 -- OF EVERY CORE THAT CALLS REACH
-
-each_at : {A : Type 0} {P : A → Type 0} {a : A} {l : List A} → Each P l → Memᴰ a l → P a
-each_at done m = elim m [ ]
-each_at {P = P} (more p ps) (Memᴰ.head e) = subst⁻¹ P e p
-each_at (more p ps) (Memᴰ.tail m) = each_at ps m
 
 -- Whatever the call and RAM: where a call after the list replies a fault, its status is a row of the table, a
 -- translation's or 0x10, and it comes from the answers to the call's translations, with the address translated or, for
 -- 0x10, that of a byte of the access.
-pub every-fault : (list : List (Fed real machine)) → Shown real machine freshCore list → (m : Ram) (x : Call) (addr : ℕ) (fault : Fault)
+abbrev pub every_fault_row : Type 0
+every_fault_row =
+    (list : List (Fed real machine)) → Shown real machine freshCore list
+    → (m : Ram) (x : Call) (addr : ℕ) (fault : Fault)
     → RepliesFault (step_of (coreAfter (lent_of real machine list)) m.base m.bytes x).reply addr fault
     → (Row fault.fsc ⊎ (fault.fsc ≡ 0x10)) × FaultFrom (answersAfter (lent_of real machine list) m x) addr fault
-every-fault list seen m x addr fault w = (row from, from)
-  where
-    made : List (Lent real machine)
-    made = lent_of real machine list
-
-    from : FaultFrom (answersAfter made m x) addr fault
-    from =
-        said-from (bareAfter made) m (coreAfter made).tlb addr fault (laterIn (coreAfter made) m x) x
-        (subst (λ (o : Outcome). RepliesFault o.reply addr fault) (said made m x) w)
-
-    row : FaultFrom (answersAfter made m x) addr fault → Row fault.fsc ⊎ (fault.fsc ≡ 0x10)
-    row (translating g mem p r) = inl (each_at (every-row list seen (eventsAfter made m x)) mem fault r)
-    row (outside g mem pa r i low p f) = inr (ap (λ (x : Fault). x.fsc) f)

@@ -1,32 +1,9 @@
--- Demand 3 of every list of calls of the core, from the fresh core that `Cpu::new` gives.
-use Rattle.std.specs.Prelude.{refl}
-use Rattle.std.proofs.Common.{arith}
-use Rattle.mmu.specs.Core.{freshCore}
-use Rattle.history.specs.Calls.{Demand3Calls, Replies, SameReplies, InvisibleCalls}
-use Rattle.history.specs.EveryCall.{demand-3-calls}
-use Rattle.history.specs.EveryReply.{same-replies, invisible-calls}
-use Rattle.history.specs.Instance.{real, real-laws, fresh-asid}
+-- What a call of the core replies, beside the core without a cache.
+use Rattle.history.specs.Calls.{Replies}
+use Rattle.history.specs.Instance.{real}
 use Rattle.transparency.specs.Machine.{machine}
 use Rattle.transparency.specs.Replies.{Outcome, outcomeOf, bareReply}
-use Rattle.transparency.specs.Bridge.{bridge}
-use Rattle.transparency.specs.Alone.{alone-same}
-
--- After every list of calls, in every call, each translation of a page that meets the premise is answered as by the
--- core without a cache.
-pub every_call : Demand3Calls real machine freshCore
-unfolding freshCore
-every_call = demand-3-calls real machine bridge real-laws freshCore refl fresh-asid (omega arith)
 
 -- the reply and RAM of a call: by `step_of` and `ramAfter`, and by the core without a cache
 abbrev pub replies : Replies real machine
-replies = record { Reply = Outcome; reply = outcomeOf; bareReply = bareReply; same = alone-same }
-
--- Where all pages that a call translates meet the premise, its reply and RAM are those of the core without a cache.
-pub every-reply : SameReplies real machine replies freshCore
-unfolding freshCore
-every-reply = same-replies real machine bridge real-laws freshCore refl fresh-asid (omega arith) replies
-
--- Where no table is changed without the matching TLBI, no reply and no RAM of a list shows the cache.
-pub invisible : InvisibleCalls real machine replies freshCore
-unfolding freshCore
-invisible = invisible-calls real machine bridge real-laws freshCore refl fresh-asid (omega arith) replies
+replies = record { Reply = Outcome; reply = outcomeOf; bareReply = bareReply }

@@ -1,71 +1,38 @@
 -- Of every core that calls reach: each translation, by walk, entry or hint, is judged by the manual's permission check,
 -- and each fault that it meets is a row of document 01's table.
-use Rattle.std.specs.Prelude.{◌≡◌, List, [], ◌∷◌, ◌++◌}
-use Rattle.std.proofs.Math.Path.{refl}
-use Rattle.std.proofs.Common.{ap₂, subst, arith}
+use Rattle.std.specs.Prelude.{◌≡◌, List, [], ◌++◌}
 use Rattle.fault.specs.declared.Fault.{Fault}
-use Rattle.tlb.specs.Lists.{Each, done, more}
+use Rattle.tlb.specs.Lists.{Each}
 use Rattle.tlb.specs.Asks.{Given}
 use Rattle.tlb.specs.declared.access.Answer.TheVariants.{Status}
-use Rattle.tlb.specs.declared.Tlb.{Tlb}
 use Rattle.mmu.specs.Bare.{freshBare}
 use Rattle.mmu.specs.Core.{freshCore}
-use Rattle.history.specs.World.{Plain}
-use Rattle.history.specs.Lists.{each_append, plain-append, tlb-append}
-use Rattle.history.specs.History.{Step, Event, steps, receives, afterEvent, plainRun, tlbEvent, tlbRun, answers}
+use Rattle.history.specs.History.{Step, Event, tlbRun, answers}
 use Rattle.history.specs.Invisible.{answersRun}
 use Rattle.history.specs.Calls.{Fed, lent_of, eventsRun, Shown, plainAfter}
-use Rattle.history.specs.EveryCall.{lifted}
-use Rattle.history.specs.Instance.{Ram, real, real-laws, fresh-asid}
-use Rattle.history.specs.Judgement.{Judged, every-judgement, Row, status-row}
+use Rattle.history.specs.Instance.{Ram, real}
+use Rattle.history.specs.Judgement.{Judged, Row}
 use Rattle.transparency.specs.Bare.{plainIn}
 use Rattle.transparency.specs.Machine.{machine}
-use Rattle.transparency.specs.Bridge.{bridge}
 use Rattle.transparency.specs.Beside.{coreAfter, bareAfter}
 
--- After a list of calls from the fresh core, fed as its run shows it.
-module _ (list : List (Fed real machine)) (seen : Shown real machine freshCore list) where
-  abbrev pub p : Plain real
-  p = plainIn (bareAfter (lent_of real machine list))
+-- JUDGED: after a list of calls from the fresh core, fed as its run shows it, each translation of each step of a call,
+-- after the steps before in the call, with the RAM m at the step's start
+abbrev pub every_call_judged : Type 0
+every_call_judged =
+    (list : List (Fed real machine)) → Shown real machine freshCore list
+    → (before : List (Event real)) (m : Ram) (s : Step real)
+    → Each (λ g. Judged (eventsRun real machine freshBare list ++ before) m g.ask g.answer)
+    (answers real (plainAfter real machine freshBare list before) m s.asks
+    (tlbRun real (plainAfter real machine freshBare list []) before (coreAfter (lent_of real machine list)).tlb))
 
-  abbrev pub t : Tlb
-  t = (coreAfter (lent_of real machine list)).tlb
+-- a fault that a translation meets is a row of the table
+abbrev pub RowGiven : Given → Type 0
+RowGiven g = (f : Fault) → g.answer ≡ Status f → Row f.fsc
 
-  -- JUDGED: each translation of each step of a call after it, after the steps before in the call, with the RAM m at the
-  -- step's start
-  pub every-call-judged : (before : List (Event real)) (m : Ram) (s : Step real)
-      → Each (λ g. Judged (eventsRun real machine freshBare list ++ before) m g.ask g.answer)
-      (answers real (plainAfter real machine freshBare list before) m s.asks
-      (tlbRun real (plainAfter real machine freshBare list []) before (coreAfter (lent_of real machine list)).tlb))
-  unfolding freshCore
-  every-call-judged before m s =
-      lifted real machine bridge real-laws freshCore refl fresh-asid (omega arith) (λ past k g. Judged past k g.ask g.answer) every-judgement list
-      seen before m s
-
-  -- one event more before the rest
-  one_more : (before : List (Event real)) (x : Event real) (es : List (Event real))
-      → answersRun real (plainRun real p (before ++ x ∷ [])) es (tlbRun real p (before ++ x ∷ []) t)
-      ≡ answersRun real (afterEvent real x (plainRun real p before)) es (tlbEvent real x (plainRun real p before) (tlbRun real p before t))
-  one_more before x es =
-      ap₂ (λ (q : Plain real) (u : Tlb). answersRun real q es u) (plain-append real p before (x ∷ [])) (tlb-append real p before (x ∷ []) t)
-
-  -- a fault that a translation meets is a row of the table
-  abbrev pub RowGiven : Given → Type 0
-  RowGiven g = (f : Fault) → g.answer ≡ Status f → Row f.fsc
-
-  each_row : (past : List (Event real)) (m : Ram) (l : List Given) → Each (λ g. Judged past m g.ask g.answer) l → Each RowGiven l
-  each_row past m [] done = done
-  each_row past m (g ∷ l) (more j js) =
-      more (λ f e. status-row past m g.ask f (subst (Judged past m g.ask) e j)) (each_row past m l js)
-
-  rows-from : (before es : List (Event real)) → Each RowGiven (answersRun real (plainRun real p before) es (tlbRun real p before t))
-  rows-from before [] = done
-  rows-from before (steps m s ∷ es) =
-      each_append (each_row _ m _ (every-call-judged before m s))
-      (subst (λ (l : List Given). Each RowGiven l) (one_more before (steps m s) es) (rows-from (before ++ steps m s ∷ []) es))
-  rows-from before (receives v ∷ es) =
-      subst (λ (l : List Given). Each RowGiven l) (one_more before (receives v) es) (rows-from (before ++ receives v ∷ []) es)
-
-  -- ROWS: of all translations of a call after the list
-  pub every-row : (es : List (Event real)) → Each RowGiven (answersRun real p es t)
-  every-row es = rows-from [] es
+-- ROWS: of all translations of a call after the list
+abbrev pub every_row : Type 0
+every_row =
+    (list : List (Fed real machine)) → Shown real machine freshCore list → (es : List (Event real))
+    → Each RowGiven
+    (answersRun real (plainIn (bareAfter (lent_of real machine list))) es (coreAfter (lent_of real machine list)).tlb)

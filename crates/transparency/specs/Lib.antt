@@ -4,8 +4,8 @@ pub mod Events
 pub mod Replies
 pub mod Starts
 pub mod Machine
--- Its theorem, and what stands beside it.
 pub mod Instance
+-- What is proved beside it.
 pub mod Beside
 pub mod Census
 pub mod Direct
@@ -20,7 +20,3 @@ pub mod Counted
 pub mod LevelCounts
 -- The bytes.
 pub mod Bytes
--- The proof.
-pub mod Answered
-pub mod Alone
-pub mod Bridge

@@ -3,37 +3,27 @@
 -- counters and what it leaves pending are the model's. The model is that of tlb/specs/Model.antt, its run over steps
 -- that of history/specs/ModelRun.antt; the steps are read from the state without a cache and RAM at each step, as the
 -- run shows it (Starts.antt).
-use Rattle.std.specs.Prelude.{◌≡◌, ◌≤◌, length}
-use Rattle.std.proofs.Math.Path.{refl, subst}
-use Rattle.std.proofs.Common.{sym, ap, ◌∙◌, arith}
+use Rattle.std.specs.Prelude.{◌≡◌, ◌≤◌}
 use mathlib.Core.List.{List}
 use Rattle.sysreg.specs.Shape.{asidOf}
-use Rattle.tlb.specs.Tlb.{fresh}
 use Rattle.tlb.specs.Model.{Model, emptyModel}
 use Rattle.tlb.specs.Live.{countersOf, pendingOf, live, WellFormed}
 use Rattle.tlb.specs.Asks.{Given}
 use Rattle.tlb.specs.declared.Tlb.{Tlb}
-use Rattle.mmu.specs.Bare.{Bare, freshBare, bareOf}
-use Rattle.mmu.specs.Core.{freshCore}
+use Rattle.mmu.specs.Bare.{freshBare}
 use Rattle.mmu.specs.declared.core_state.Core.{Core}
 use Rattle.cpu.specs.Step.{step_of}
 use Rattle.operations.specs.declared.call.Call.{Call}
-use Rattle.history.specs.World.{Plain}
-use Rattle.history.specs.History.{Event, plainRun, tlbRun}
-use Rattle.history.specs.Lists.{run-low}
-use Rattle.history.specs.Theorem.{history-asid, history-well}
-use Rattle.history.specs.ModelRun.{modelRun, modelAnswersRun, StandsFor, run-stands, fresh-stands, answers-run-live}
+use Rattle.history.specs.History.{Event}
+use Rattle.history.specs.ModelRun.{modelRun, modelAnswersRun, StandsFor}
 use Rattle.history.specs.Calls.{Lent, eventsRun}
-use Rattle.history.specs.EveryCall.{shown-lent, shown-shown, run-plain, run-tlb}
-use Rattle.history.specs.Instance.{Ram, real, real-laws, fresh-asid}
+use Rattle.history.specs.Instance.{Ram, real}
 use Rattle.transparency.specs.Bare.{plainIn}
-use Rattle.transparency.specs.Events.{eventsIn}
 use Rattle.transparency.specs.Replies.{outcomeOf, saysIn}
 use Rattle.transparency.specs.Starts.{laterIn}
 use Rattle.transparency.specs.Machine.{machine}
-use Rattle.transparency.specs.Bridge.{bridge, fits}
-use Rattle.transparency.specs.Beside.{coreAfter, bareAfter, two-cores}
-use Rattle.transparency.specs.Faithful.{fedBy, eventsAfter, answersAfter, FaithfulCall, faithful-step}
+use Rattle.transparency.specs.Beside.{coreAfter, bareAfter, EveryList, EveryCall}
+use Rattle.transparency.specs.Faithful.{fedBy, eventsAfter, answersAfter}
 
 -- the steps of a list, and the plain model after them
 abbrev pub eventsBy : List (Lent real machine) → List (Event real)
@@ -54,26 +44,9 @@ modelAnswersAfter list m x =
 abbrev pub tlbAfterCall : List (Lent real machine) → Ram → Call → Tlb
 tlbAfterCall list m x = (step_of (coreAfter list) m.base m.bytes x).core.tlb
 
-module _ (list : List (Lent real machine)) where
-  tlb-run : (coreAfter list).tlb ≡ tlbRun real (plainIn freshBare) (eventsBy list) fresh
-  unfolding freshCore
-  tlb-run =
-      subst (λ (l : List (Lent real machine)). (coreAfter l).tlb ≡ tlbRun real (plainIn freshBare) (eventsBy list) fresh)
-      (shown-lent real machine freshCore list) (run-tlb real machine bridge freshCore (fedBy list) (shown-shown real machine freshCore list))
-
-  plain-run : plainIn (bareOf (coreAfter list)) ≡ plainRun real (plainIn freshBare) (eventsBy list)
-  unfolding freshCore
-  plain-run =
-      subst (λ (l : List (Lent real machine)). plainIn (bareOf (coreAfter l)) ≡ plainRun real (plainIn freshBare) (eventsBy list))
-      (shown-lent real machine freshCore list) (run-plain real machine bridge freshCore (fedBy list) (shown-shown real machine freshCore list))
-
-  fresh-low : (plainIn freshBare).privilege.level ≤ 3
-  fresh-low = omega arith
-
-  pub stands : StandsFor (coreAfter list).tlb (modelAfterList list)
-  stands =
-      subst (λ (t : Tlb). StandsFor t (modelAfterList list)) (sym tlb-run)
-      (run-stands real real-laws (eventsBy list) (plainIn freshBare) fresh-low (fresh-stands real real-laws))
+-- the core's cache stands for the model
+abbrev pub every_list_modelled : Type 0
+every_list_modelled = EveryList (λ list. StandsFor (coreAfter list).tlb (modelAfterList list))
 
 -- EVERY CORE THAT CALLS REACH: its level is 3 at most, its cache is well-formed, and the cache's ASID is that of the
 -- registers.
@@ -83,16 +56,8 @@ pub record Well (c : Core) : Type 0 where
   pub cache : WellFormed c.tlb
   pub asid : c.tlb.cache.current.asid ≡ asidOf c.control
 
-pub every-core-well : (list : List (Lent real machine)) → Well (coreAfter list)
-every-core-well list =
-    record {
-      level = subst (λ (p : Plain real). p.privilege.level ≤ 3) (sym (plain-run list)) (run-low real (eventsBy list) (plainIn freshBare) (fresh-low list));
-      cache = subst WellFormed (sym (tlb-run list)) (history-well real real-laws (plainIn freshBare) fresh-asid (fresh-low list) (eventsBy list));
-      asid =
-          ap (λ (t : Tlb). t.cache.current.asid) (tlb-run list)
-          ∙ history-asid real real-laws (plainIn freshBare) fresh-asid (fresh-low list) (eventsBy list)
-          ∙ ap (λ (p : Plain real). asidOf p.regs) (sym (plain-run list));
-    }
+abbrev pub every_core_well : Type 0
+every_core_well = EveryList (λ list. Well (coreAfter list))
 
 -- EVERY CALL, against the plain model.
 --   before    the cache stands for the model after the list
@@ -104,50 +69,11 @@ every-core-well list =
 pub record Modelled (list : List (Lent real machine)) (m : Ram) (x : Call) : Type 0 where
   pub before : live (coreAfter list).tlb ≡ modelAfterList list
   pub answers : answersAfter list m x ≡ modelAnswersAfter list m x
-  pub reply : outcomeOf (coreAfter list) m x ≡ saysIn (bareAfter list) m (laterIn (coreAfter list) m x) x (modelAnswersAfter list m x)
+  pub reply : outcomeOf (coreAfter list) m x
+      ≡ saysIn (bareAfter list) m (laterIn (coreAfter list) m x) x (modelAnswersAfter list m x)
   pub after : live (tlbAfterCall list m x) ≡ modelAfterCall list m x
   pub counts : countersOf (tlbAfterCall list m x).counts ≡ (modelAfterCall list m x).counts
   pub pending : pendingOf (tlbAfterCall list m x).broadcast ≡ (modelAfterCall list m x).pending
 
-module _ (list : List (Lent real machine)) (m : Ram) (x : Call) where
-  pub low-now : (plainIn (bareAfter list)).privilege.level ≤ 3
-  low-now = subst (λ (b : Bare). b.privilege.level ≤ 3) (two-cores list) (every-core-well list).level
-
-  tlb-then : tlbAfterCall list m x ≡ tlbRun real (plainIn (bareAfter list)) (eventsAfter list m x) (coreAfter list).tlb
-  tlb-then =
-      subst
-      (λ (b : Bare). tlbAfterCall list m x ≡ tlbRun real (plainIn b) (eventsIn b m (laterIn (coreAfter list) m x) x) (coreAfter list).tlb)
-      (two-cores list) (fits (coreAfter list) m x).tlb
-
-  stands-then : StandsFor (tlbAfterCall list m x) (modelAfterCall list m x)
-  stands-then =
-      subst (λ (t : Tlb). StandsFor t (modelAfterCall list m x)) (sym tlb-then)
-      (run-stands real real-laws (eventsAfter list m x) (plainIn (bareAfter list)) low-now (stands list))
-
-  model-then : live (tlbAfterCall list m x) ≡ modelAfterCall list m x
-  model-then = stands-then.is
-
-  answers-then : answersAfter list m x ≡ modelAnswersAfter list m x
-  answers-then = answers-run-live real real-laws (eventsAfter list m x) (plainIn (bareAfter list)) low-now (stands list)
-
-  said-then : outcomeOf (coreAfter list) m x ≡ saysIn (bareAfter list) m (laterIn (coreAfter list) m x) x (answersAfter list m x)
-  unfolding FaithfulCall
-  said-then = (faithful-step (coreAfter list) m.base m.bytes x _ _ refl refl list refl).answered
-
-  pub every-call-model : Modelled list m x
-  every-call-model =
-      record {
-        before = (stands list).is;
-        answers = answers-then;
-        reply = said-then ∙ ap (saysIn (bareAfter list) m (laterIn (coreAfter list) m x) x) answers-then;
-        after = model-then;
-        counts = ap (λ (u : Model). u.counts) model-then;
-        pending = ap (λ (u : Model). u.pending) model-then;
-      }
-
-  -- the counters are of four levels
-  pub levels-after : length (tlbAfterCall list m x).counts.levels ≡ 4
-  levels-after = stands-then.well.levels
-
-pub levels-now : (list : List (Lent real machine)) → length (coreAfter list).tlb.counts.levels ≡ 4
-levels-now list = (every-core-well list).cache.levels
+abbrev pub every_call_modelled : Type 0
+every_call_modelled = EveryCall Modelled

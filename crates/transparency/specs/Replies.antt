@@ -1,11 +1,9 @@
 -- What a call replies, and RAM after it: of the core, made from the answers to its translations, through which alone
 -- the cache reaches a reply (`reply-is`, in Answered.antt), so that demand 3 of them is demand 3 of what a caller sees;
 -- and of the core without a cache, from its own state, RAM as the call begins, and the call.
-use Rattle.std.specs.Prelude.{List, [], ◌∷◌, ℕ, zero, suc, ◌+◌}
+use Rattle.std.specs.Prelude.{List, [], ◌∷◌, ℕ, zero, suc, ◌+◌, Option, Some, None}
 use Rattle.word.specs.Bits.{alignDown, wrap}
 use Rattle.word.specs.Ram.{width_of, bytesIn}
-use Rattle.word.specs.declared.ram.Sized.{Sized}
-use Rattle.word.specs.declared.ram.Sized.TheVariants as Sized
 use Rattle.tlb.specs.Asks.{Ask, Given}
 use Rattle.tlb.specs.declared.access.Kind.TheVariants as Kind
 use Rattle.sysop.specs.declared.op.SysOp.{SysOp}
@@ -26,6 +24,7 @@ use Rattle.history.specs.Instance.{Ram, real}
 use Rattle.transparency.specs.Bare.{plainIn, opIn, operandIn, rulingIn, refusalOf, ifAllowed}
 use Rattle.transparency.specs.Events.{accessIn, sizedIn}
 use Rattle.transparency.specs.Starts.{ramWith}
+use Rattle.word.specs.declared.ram.Width.{Width}
 
 -- a reply, and RAM's bytes after the call
 pub record Outcome : Type 0 where
@@ -53,13 +52,13 @@ storeSays m va n v gs =
 abbrev pub fetchSays : Ram → ℕ → List Given → Outcome
 fetchSays m va gs = outcome (fetching (fetchEnd (first_of gs) 0 m.base m.bytes va).answer) m.bytes
 
-abbrev pub loadSized : Sized → Ram → ℕ → List Given → Outcome
-loadSized (Sized.Bytes w) m va gs = loadSays m va (bytesIn w) gs
-loadSized Sized.Refused m va gs = outcome (Refused 3) m.bytes
+abbrev pub loadSized : Option Width → Ram → ℕ → List Given → Outcome
+loadSized (Some w) m va gs = loadSays m va (bytesIn w) gs
+loadSized None m va gs = outcome (Refused 3) m.bytes
 
-abbrev pub storeSized : Sized → Ram → ℕ → ℕ → List Given → Outcome
-storeSized (Sized.Bytes w) m va v gs = storeSays m va (bytesIn w) v gs
-storeSized Sized.Refused m va v gs = outcome (Refused 3) m.bytes
+abbrev pub storeSized : Option Width → Ram → ℕ → ℕ → List Given → Outcome
+storeSized (Some w) m va v gs = storeSays m va (bytesIn w) v gs
+storeSized None m va v gs = outcome (Refused 3) m.bytes
 
 -- A zeroing replies as the last store begun, and RAM is as that one leaves it; each store has one answer, so that the
 -- case without one is none.

@@ -1,2 +1,3 @@
 #![tactic(auto)]
-// Demand 3 and the plain model, of every list of calls of the core: definitions and theorems in specs/ alone.
+// Every list of calls of a core: definitions in specs/, and the theorems about them.
+pub mod theorems;

@@ -1,23 +1,18 @@
 -- One level of the walk case by case, on plain values.
+use Rattle.std.specs.Prelude.{Err}
+use Rattle.walk.specs.Answers.{Walked}
 use mathlib.Core.Path.{◌≡◌, refl, sym, ap, ◌∙◌}
-use mathlib.Core.Bool.{Bool, true, false, not, ◌&&◌, ◌||◌}
+use mathlib.Core.Bool.{Bool, true, false, ◌&&◌, ◌||◌}
 use Prim.Native.Nat.{ℕ, ◌+◌, ◌-◌, ◌*◌, ◌/◌, ◌%◌, ◌^◌, ◌≤◌, ◌<◌}
 use native.Mathlib.Nat.{mod-lt, lt_of_lt_of_le, le_of_lt}
 use native.Mathlib.Omega.{arith}
 use lib.Bits.{bit_or}
-use lib.Dec.{ltb}
 use lib.Pow.{shl-shr, shr-shr, mod-pow-add, high, pow_pos, pow_mono}
 use Rattle.word.specs.Bits.{field, alignDown}
 use Rattle.word.specs.BitLaws.{place, cut_field, or-bit, align-le}
-use Rattle.walk.specs.Descriptor.{af, nG}
-use Rattle.walk.specs.Table.{grainsize, stride, firstblocklevel, addrselectbottom, beyond, descaddr, tableNext, leafPermissions}
-use Rattle.walk.specs.Table.{leafTranslation, leafResult}
-use Rattle.walk.specs.Permission.{permissionByte}
-use Rattle.walk.specs.Walk.{walkedOf}
+use Rattle.walk.specs.Table.{grainsize, stride, addrselectbottom, beyond, descaddr, tableNext}
 use Rattle.walk.specs.State.{lookupOf, answers, stepped, meant, Standing, Onwards, Leads, next, stop}
-use Rattle.walk.specs.declared.{rights.Permissions.Permissions, level.Params.Params, level.WalkState.WalkState}
-use Rattle.walk.specs.declared.{level.Walked.Walked}
-use Rattle.walk.specs.declared.level.Walked.TheVariants.{Mapped, Fault}
+use Rattle.walk.specs.declared.{level.Params.Params, level.WalkState.WalkState}
 use Rattle.walk.specs.declared.level.Step.TheVariants.{Next, Done}
 
 -- bits top-1 to lsb, by a shift up and a shift down
@@ -67,7 +62,7 @@ lsb-falls true l h = omega arith
 lsb-falls false l h = omega arith
 
 module _ (p : Params) (w : WalkState) (desc : ℕ) (large : Bool) (el : large ≡ beyond p.outputsize desc) where
-  pub table-beyond : large ≡ true → answers (Fault w.level) ≡ meant p (tableNext p (lookupOf p w) desc)
+  pub table-beyond : large ≡ true → answers (Err w.level) ≡ meant p (tableNext p (lookupOf p w) desc)
   unfolding tableNext
   table-beyond t = rw (← el, t)
 
@@ -114,36 +109,10 @@ table-leads p w desc g s x o st h es ex = next (table-down p w desc g s x o st h
 pub stops : (p : Params) (w : WalkState) (a : Walked) → Leads p w (Done a)
 stops p w a = stop
 
--- a block or page
-module _ (p : Params) (w : WalkState) (va desc f : ℕ) (large : Bool) (ef : f ≡ firstblocklevel p.largegrain)
-    (el : large ≡ beyond p.outputsize desc) where
-  pub leaf-early : ltb w.level f ≡ true → Fault (4 + w.level) ≡ walkedOf p.singlepriv p.wxn (leafResult p va (lookupOf p w) desc)
-  unfolding leafResult
-  leaf-early t = simp (rw ef at t)
-
-  pub leaf-beyond : ltb w.level f ≡ false → large ≡ true → Fault w.level ≡ walkedOf p.singlepriv p.wxn (leafResult p va (lookupOf p w) desc)
-  unfolding leafResult
-  leaf-beyond t b = rw (← el, b) (simp (rw ef at t))
-
-  pub leaf-unused : ltb w.level f ≡ false → large ≡ false → af desc ≡ false
-      → Fault (8 + w.level) ≡ walkedOf p.singlepriv p.wxn (leafResult p va (lookupOf p w) desc)
-  unfolding leafResult
-  leaf-unused t b u = rw (← el, b, u) (simp (rw ef at t))
-
-  pub leaf-mapped : (x o b : ℕ) (a : Permissions) → Standing p w → ltb w.level f ≡ false → large ≡ false → af desc ≡ true
-      → x ≡ alignDown (desc % 2 ^ 48) (w.lsb % 64) → o ≡ va % 2 ^ (w.lsb % 64) → a ≡ leafPermissions p (lookupOf p w) desc
-      → b ≡ permissionByte p.singlepriv p.wxn a
-      → Mapped record { oa = x + o; desc = desc; perms = b; level = w.level; global = not (not p.singlepriv && nG desc) }
-      ≡ walkedOf p.singlepriv p.wxn (leafResult p va (lookupOf p w) desc)
-  unfolding leafResult leafTranslation
-  leaf-mapped x o b a st t l u ex eo ea eb =
-      let h : w.lsb < 64 = omega (arith, st.below_top, st.top) in
-      rw (← el, l, u, ex, eo, eb, ea, place h, st.lsb) (simp (rw ef at t))
-
 -- the two parts of an output address fit together
-pub parts-fit : (p : Params) (w : WalkState) (va desc x o : ℕ) → Standing p w → x ≡ alignDown (desc % 2 ^ 48) (w.lsb % 64) → o ≡ va % 2 ^ (w.lsb % 64)
+pub parts_fit : (p : Params) (w : WalkState) (va desc x o : ℕ) → Standing p w → x ≡ alignDown (desc % 2 ^ 48) (w.lsb % 64) → o ≡ va % 2 ^ (w.lsb % 64)
     → x + o < 2 ^ 64
-parts-fit p w va desc x o st ex eo =
+parts_fit p w va desc x o st ex eo =
     let a = align-le (desc % 2 ^ 48) (w.lsb % 64) in
     let b : va % 2 ^ (w.lsb % 64) < 2 ^ 63 = lt_of_lt_of_le (mod-lt va (pow_pos (w.lsb % 64))) (pow_mono {i = w.lsb % 64} {j = 63} (omega arith)) in
     rw (ex, eo) (omega arith)
@@ -151,5 +120,3 @@ parts-fit p w va desc x o st ex eo =
 pub ruleset addresses = (skip-fits, skip-more, index-fits, address-fits, address_is)
 
 pub ruleset tables = (table-beyond, table-onward, stops, table-leads)
-
-pub ruleset leaf_ends = (leaf-early, leaf-beyond, leaf-mapped, leaf-unused, parts-fit)

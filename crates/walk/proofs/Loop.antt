@@ -1,10 +1,10 @@
 -- The loop over the levels: a step that leads on stands one level lower and ends as before; a step that is done has the walk's answer.
+use Rattle.std.specs.Prelude.{Ok, Err, Option, None}
+use Rattle.walk.specs.Answers.{Begin, Walked}
 use mathlib.Core.Path.{◌≡◌, refl, sym, ap, ◌∙◌}
 use mathlib.Core.Bool.{Bool, true, false, not, ◌&&◌, ◌||◌}
 use Prim.Native.Nat.{ℕ, suc, ◌-◌, ◌≤◌, ◌<◌, ◌%◌, ◌^◌}
 use native.Mathlib.Omega.{arith}
-use Rattle.word.specs.declared.ram.Word.{Word}
-use Rattle.word.specs.declared.ram.Word.TheVariants.{Outside}
 use Rattle.word.specs.Bits.{alignDown}
 use Rattle.word.specs.BitLaws.{align-le}
 use Rattle.walk.specs.Table.{Lookup, Result, Next, deeper, ends, lookupNext}
@@ -12,11 +12,9 @@ use Rattle.walk.specs.Table.{walkFrom, walkRange, tableWalk, range_of, params_of
 use Rattle.walk.specs.Table.{startlevelOf, baselowerbound}
 use Rattle.walk.specs.Walk.{walkedOf, walk_of}
 use Rattle.walk.specs.State.{lookupOf, onward, answers, stepped, meant, Standing, Onwards, Leads, next, stop, beginOf}
-use Rattle.walk.specs.declared.{regime.Regime.Regime, regime.Bank.Bank, range.Range.Range, range.Begin.Begin}
-use Rattle.walk.specs.declared.{level.Params.Params, level.WalkState.WalkState, level.Walked.Walked}
+use Rattle.walk.specs.declared.{regime.Regime.Regime, regime.Bank.Bank, range.Range.Range}
+use Rattle.walk.specs.declared.{level.Params.Params, level.WalkState.WalkState}
 use Rattle.walk.specs.declared.level.Step.{Step}
-use Rattle.walk.specs.declared.range.Begin.TheVariants.{At, Refused}
-use Rattle.walk.specs.declared.level.Walked.TheVariants.{Fault}
 use Rattle.walk.specs.declared.level.Step.TheVariants.{Next as Onward, Done}
 
 -- the two outcomes are apart
@@ -44,7 +42,7 @@ pub is-deeper : (p : Params) (l : Lookup) (n : Next) → onward l ≡ meant p n 
 is-deeper p l (deeper k) e = ap deeper (sym (onward-inj l k e))
 is-deeper p l (ends r) e = absurd (apart l _ e)
 
-module _ (memory : ℕ → Word) (p : Params) (w : WalkState) (va : ℕ) (s : Step) (es : stepped p s ≡ meant p (lookupNext memory p va (lookupOf p w)))
+module _ (memory : ℕ → Option ℕ) (p : Params) (w : WalkState) (va : ℕ) (s : Step) (es : stepped p s ≡ meant p (lookupNext memory p va (lookupOf p w)))
     (ld : Leads p w s) where
   pub stands : (v : WalkState) → s ≡ Onward v → Standing p v
   stands v n = (leads-on p w v s ld n).stands
@@ -80,16 +78,16 @@ module _ (memory : ℕ → Word) (p : Params) (w : WalkState) (va : ℕ) (s : St
           answers-inj _ _ (rw (n, e, h') at es)
 
 -- where a walk begins it stands, and what it stands for is the manual's first table
-pub at-inj : (w v : WalkState) → At w ≡ At v → w ≡ v
+pub at-inj : (w v : WalkState) → ◌≡◌ {A = Begin} (Ok w) (Ok v) → w ≡ v
 at-inj w v e = cc
 
-pub refused-at : (n : ℕ) (w : WalkState) → Refused n ≡ At w → ⊥
+pub refused-at : (n : ℕ) (w : WalkState) → Err n ≡ Ok w → ⊥
 refused-at n w e = let z : ◌≡◌ {A = ℕ} 0 1 = cc in omega arith
 
-refused-inj : (n m : ℕ) → Refused n ≡ Refused m → n ≡ m
+refused-inj : (n m : ℕ) → ◌≡◌ {A = Begin} (Err n) (Err m) → n ≡ m
 refused-inj n m e = cc
 
-pub at-refused : (n : ℕ) (w : WalkState) → At w ≡ Refused n → ⊥
+pub at-refused : (n : ℕ) (w : WalkState) → Ok w ≡ Err n → ⊥
 at-refused n w e = let z : ◌≡◌ {A = ℕ} 0 1 = cc in omega arith
 
 start-stands : (g : Bool) (n : ℕ) → 25 ≤ n → n ≤ 48 → (startlevelOf g n ≤ 3) × (addrselectbottom g (startlevelOf g n) < n)
@@ -122,7 +120,7 @@ pub first-is : (p : Params) (g : Range) → firstLookup g ≡ lookupOf p (first 
 unfolding first
 first-is p g = simp and-false
 
-module _ (s : Bank) (r : Regime) (va : ℕ) (memory : ℕ → Word) (g : Range) (p : Params) (x : Begin) (eg : g ≡ range_of s r va)
+module _ (s : Bank) (r : Regime) (va : ℕ) (memory : ℕ → Option ℕ) (g : Range) (p : Params) (x : Begin) (eg : g ≡ range_of s r va)
     (ep : p ≡ params_of s r g) (ex : x ≡ beginOf g p.outputsize va) where
   same-grain : p.largegrain ≡ g.largegrain
   unfolding params_of
@@ -132,7 +130,7 @@ module _ (s : Bank) (r : Regime) (va : ℕ) (memory : ℕ → Word) (g : Range) 
   Begun w = Standing p w × (walkRange p g va memory ≡ walkFrom (4 - w.level) memory p va (lookupOf p w))
 
   begun : (w : WalkState) (a b : Bool) → (not (in_range g va) || g.disabled) ≡ a → beyond p.outputsize g.baseregister ≡ b
-      → beginOf g p.outputsize va ≡ At w → Begun w
+      → beginOf g p.outputsize va ≡ Ok w → Begun w
   unfolding beginOf walkRange first
   begun w true b ea eb e = absurd (refused-at _ w (rw ea at e))
   begun w false true ea eb e = absurd (refused-at _ w (rw (ea, eb) at e))
@@ -141,7 +139,7 @@ module _ (s : Bank) (r : Regime) (va : ℕ) (memory : ℕ → Word) (g : Range) 
       rw (← i, ea, eb) (first-stands p g same-grain, ap (λ (l : Lookup). walkFrom (4 - startlevel g) memory p va l) (first-is p g))
 
   refused : (n : ℕ) (a b : Bool) → (not (in_range g va) || g.disabled) ≡ a → beyond p.outputsize g.baseregister ≡ b
-      → beginOf g p.outputsize va ≡ Refused n → Fault n ≡ walkedOf p.singlepriv p.wxn (walkRange p g va memory)
+      → beginOf g p.outputsize va ≡ Err n → Err n ≡ walkedOf p.singlepriv p.wxn (walkRange p g va memory)
   unfolding beginOf walkRange
   refused n true b ea eb e = rw (ea, ← refused-inj _ n (rw ea at e))
   refused n false true ea eb e = rw (ea, eb, ← refused-inj _ n (rw (ea, eb) at e))
@@ -151,20 +149,20 @@ module _ (s : Bank) (r : Regime) (va : ℕ) (memory : ℕ → Word) (g : Range) 
   unfolding walk_of tableWalk params_of
   walked = rw (ep, eg)
 
-  standing : (w : WalkState) → x ≡ At w → Standing p w
+  standing : (w : WalkState) → x ≡ Ok w → Standing p w
   standing w n = (begun w _ _ refl refl (sym ex ∙ n)).0
 
-  pub walks_from : (w : WalkState) (a : Walked) → x ≡ At w → a ≡ walkedOf p.singlepriv p.wxn (walkFrom (4 - w.level) memory p va (lookupOf p w))
+  pub walks_from : (w : WalkState) (a : Walked) → x ≡ Ok w → a ≡ walkedOf p.singlepriv p.wxn (walkFrom (4 - w.level) memory p va (lookupOf p w))
       → a ≡ walk_of s r va memory
   walks_from w a n e = e ∙ ap (walkedOf p.singlepriv p.wxn) (sym (begun w _ _ refl refl (sym ex ∙ n)).1) ∙ walked
 
-  pub walk_refused : (n : ℕ) → x ≡ Refused n → Fault n ≡ walk_of s r va memory
+  pub walk_refused : (n : ℕ) → x ≡ Err n → Err n ≡ walk_of s r va memory
   walk_refused n e = refused n _ _ refl refl (sym ex ∙ e) ∙ walked
 
 -- whatever memory holds
 pub begins-standing : (s : Bank) (r : Regime) (va : ℕ) (g : Range) (p : Params) (x : Begin) (w : WalkState) → g ≡ range_of s r va
-    → p ≡ params_of s r g → x ≡ beginOf g p.outputsize va → x ≡ At w → Standing p w
-begins-standing s r va g p x w eg ep ex n = standing s r va (λ _. Outside) g p x eg ep ex w n
+    → p ≡ params_of s r g → x ≡ beginOf g p.outputsize va → x ≡ Ok w → Standing p w
+begins-standing s r va g p x w eg ep ex n = standing s r va (λ _. None) g p x eg ep ex w n
 
 pub ruleset walk_steps = (falls, stands, goes_on, done-right)
 

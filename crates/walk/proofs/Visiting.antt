@@ -1,46 +1,43 @@
 -- The loop over the levels up to the n-th: a step that leads on leaves one fewer; where none is left, the table is the one asked for.
+use Rattle.std.specs.Prelude.{Ok, Err, Option, ◌≢◌}
+use Rattle.walk.specs.Answers.{Begin, Walked, Visited}
 use mathlib.Core.Path.{◌≡◌, refl, sym, ap, ◌∙◌}
-use mathlib.Core.Bool.{Bool, true, false, not, ◌||◌, false≢true}
-use Prim.Native.Nat.{ℕ, zero, suc, ◌-◌, ◌≤◌, ◌<◌}
+use mathlib.Core.Bool.{Bool, true, false, not, ◌||◌}
+use Prim.Native.Nat.{ℕ, suc, ◌-◌, ◌≤◌, ◌<◌}
 use native.Mathlib.Omega.{arith}
-use borrow.Author.Tests.{eqb-true}
-use lib.Dec.{eqb}
 use Rattle.word.specs.Bits.{pick}
-use Rattle.word.specs.declared.ram.Word.{Word}
 use Rattle.walk.specs.Table.{Lookup, Next, deeper, ends, descaddr, lookupNext, range_of, params_of, firstLookup, in_range, beyond}
 use Rattle.walk.specs.State.{lookupOf, stepped, meant, beginOf}
 use Rattle.walk.specs.Visits.{Seen, seen, past, visitFrom, visitOf, seenAs}
-use Rattle.walk.specs.declared.{regime.Regime.Regime, regime.Bank.Bank, range.Range.Range, range.Begin.Begin}
-use Rattle.walk.specs.declared.{level.Params.Params, level.WalkState.WalkState, level.Walked.Walked}
-use Rattle.walk.specs.declared.{level.Step.Step, table.Visited.Visited}
-use Rattle.walk.specs.declared.range.Begin.TheVariants.{At, Refused}
+use Rattle.walk.specs.declared.{regime.Regime.Regime, regime.Bank.Bank, range.Range.Range}
+use Rattle.walk.specs.declared.{level.Params.Params, level.WalkState.WalkState}
+use Rattle.walk.specs.declared.level.Step.{Step}
 use Rattle.walk.specs.declared.level.Step.TheVariants.{Next as Onward, Done}
 use Rattle.walk.proofs.Loop.{apart, is-deeper, at-inj, refused-at, at-refused, first, first-is, stands, begins-standing}
 
-some_left : (n : ℕ) → eqb n 0 ≡ false → n ≡ suc (n - 1)
-some_left zero e = absurd (false≢true (sym e))
-some_left (suc n) e = omega arith
+pub one_left : (n : ℕ) → n ≢ 0 → 1 ≤ n
+one_left n e = omega arith
 
-pub one_left : (n : ℕ) → eqb n 0 ≡ false → 1 ≤ n
-one_left n e = omega (arith, some_left n e)
+pub one_fewer : (n : ℕ) → n ≢ 0 → n - 1 < n
+one_fewer n e = omega arith
 
-pub one_fewer : (n : ℕ) → eqb n 0 ≡ false → n - 1 < n
-one_fewer n e = omega (arith, some_left n e)
+some_left : (n : ℕ) → n ≢ 0 → n ≡ suc (n - 1)
+some_left n e = omega arith
 
-module _ (memory : ℕ → Word) (p : Params) (w : WalkState) (va : ℕ) (s : Step) (es : stepped p s ≡ meant p (lookupNext memory p va (lookupOf p w))) where
-  pub visit-on : (v : WalkState) (left : ℕ) (r : Seen) → s ≡ Onward v → eqb left 0 ≡ false → visitFrom left memory p va (lookupOf p w) ≡ r
+module _ (memory : ℕ → Option ℕ) (p : Params) (w : WalkState) (va : ℕ) (s : Step) (es : stepped p s ≡ meant p (lookupNext memory p va (lookupOf p w))) where
+  pub visit-on : (v : WalkState) (left : ℕ) (r : Seen) → s ≡ Onward v → left ≢ 0 → visitFrom left memory p va (lookupOf p w) ≡ r
       → visitFrom (left - 1) memory p va (lookupOf p v) ≡ r
   unfolding visitFrom
   visit-on v left r n t h =
       let d = is-deeper p (lookupOf p v) (lookupNext memory p va (lookupOf p w)) (rw n at es) in
       rw (some_left left t, visitFrom, d) at h
 
-  pub visit-here : (a left : ℕ) (r : Seen) → eqb left 0 ≡ true → a ≡ descaddr p va (lookupOf p w) → visitFrom left memory p va (lookupOf p w) ≡ r
+  pub visit-here : (a left : ℕ) (r : Seen) → left ≡ 0 → a ≡ descaddr p va (lookupOf p w) → visitFrom left memory p va (lookupOf p w) ≡ r
       → seen (lookupOf p w) a (stepped p s) ≡ r
   unfolding visitFrom
-  visit-here a left r t ea h = rw (ea, es) (rw (eqb-true left 0 t, visitFrom) at h)
+  visit-here a left r t ea h = rw (ea, es) (rw (t, visitFrom) at h)
 
-  pub visit-past : (a : Walked) (left : ℕ) (r : Seen) → s ≡ Done a → eqb left 0 ≡ false → visitFrom left memory p va (lookupOf p w) ≡ r → past ≡ r
+  pub visit-past : (a : Walked) (left : ℕ) (r : Seen) → s ≡ Done a → left ≢ 0 → visitFrom left memory p va (lookupOf p w) ≡ r → past ≡ r
   unfolding visitFrom
   visit-past a left r n t h = go (lookupNext memory p va (lookupOf p w)) refl
     where
@@ -49,7 +46,7 @@ module _ (memory : ℕ → Word) (p : Params) (w : WalkState) (va : ℕ) (s : St
       go (ends q) e = rw (some_left left t, visitFrom, e) at h
 
 -- where a walk begins: the first table, or none
-module _ (s : Bank) (r : Regime) (va n : ℕ) (memory : ℕ → Word) (g : Range) (p : Params) (x : Begin) (eg : g ≡ range_of s r va)
+module _ (s : Bank) (r : Regime) (va n : ℕ) (memory : ℕ → Option ℕ) (g : Range) (p : Params) (x : Begin) (eg : g ≡ range_of s r va)
     (ep : p ≡ params_of s r g) (ex : x ≡ beginOf g p.outputsize va) where
   params : p ≡ params_of s r (range_of s r va)
   params = rw eg at ep
@@ -62,7 +59,7 @@ module _ (s : Bank) (r : Regime) (va n : ℕ) (memory : ℕ → Word) (g : Range
   as-whole = rw (params, eg)
 
   begun : (w : WalkState) (a b : Bool) → (not (in_range g va) || g.disabled) ≡ a → beyond p.outputsize g.baseregister ≡ b
-      → beginOf g p.outputsize va ≡ At w → whole a b ≡ visitFrom n memory p va (lookupOf p w)
+      → beginOf g p.outputsize va ≡ Ok w → whole a b ≡ visitFrom n memory p va (lookupOf p w)
   unfolding beginOf first
   begun w true b ea eb e = absurd (refused-at _ w (rw ea at e))
   begun w false true ea eb e = absurd (refused-at _ w (rw (ea, eb) at e))
@@ -71,17 +68,17 @@ module _ (s : Bank) (r : Regime) (va n : ℕ) (memory : ℕ → Word) (g : Range
       rw (← i) (ap (λ (l : Lookup). visitFrom n memory p va l) (first-is p g))
 
   refused : (m : ℕ) (a b : Bool) → (not (in_range g va) || g.disabled) ≡ a → beyond p.outputsize g.baseregister ≡ b
-      → beginOf g p.outputsize va ≡ Refused m → past ≡ whole a b
+      → beginOf g p.outputsize va ≡ Err m → past ≡ whole a b
   unfolding beginOf
   refused m true b ea eb e = refl
   refused m false true ea eb e = refl
   refused m false false ea eb e = absurd (at-refused m _ (rw (ea, eb) at e))
 
-  pub visits-from : (w : WalkState) (v : Visited) → x ≡ At w → seenAs p v ≡ visitFrom n memory p va (lookupOf p w)
+  pub visits-from : (w : WalkState) (v : Visited) → x ≡ Ok w → seenAs p v ≡ visitFrom n memory p va (lookupOf p w)
       → seenAs (params_of s r (range_of s r va)) v ≡ visitOf s r va memory n
   visits-from w v e h = rw (← params) (h ∙ sym (begun w _ _ refl refl (sym ex ∙ e)) ∙ sym as-whole)
 
-  pub visits-none : (m : ℕ) → x ≡ Refused m → past ≡ visitOf s r va memory n
+  pub visits-none : (m : ℕ) → x ≡ Err m → past ≡ visitOf s r va memory n
   visits-none m e = refused m _ _ refl refl (sym ex ∙ e) ∙ sym as-whole
 
 pub ruleset visit_steps = (one_left, one_fewer, stands, visit-on, visit-here, visit-past)

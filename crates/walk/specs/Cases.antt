@@ -1,5 +1,5 @@
 -- Document 01's proved cases that are translations with an empty cache, and the untagging: rows 1 to 9 and 12, as one computed statement.
-use Rattle.std.specs.Prelude.{◌≡◌, refl, Bool, true, false, [], ◌∷◌, ℕ, ◌+◌, ◌%◌, ◌^◌}
+use Rattle.std.specs.Prelude.{◌≡◌, refl, Bool, true, false, [], ◌∷◌, ℕ, ◌+◌, ◌%◌, ◌^◌, Ok, Err}
 use Rattle.word.specs.Bits.{bitOn, alignDown, pick}
 use Rattle.word.specs.Ram.{word_at, littleEndian, bytes_of}
 use Rattle.walk.specs.Tag.{untagged}
@@ -9,8 +9,8 @@ use Rattle.walk.specs.Table.{walkRange, tableWalk}
 use Rattle.walk.specs.Permission.{Access, reading, fetching, kindBit, firstBit}
 use Rattle.walk.specs.Walk.{walk_of}
 use Rattle.walk.specs.declared.regime.Regime.TheVariants.{El1}
-use Rattle.walk.specs.declared.{regime.Bank.Bank, level.Walked.Walked}
-use Rattle.walk.specs.declared.level.Walked.TheVariants.{Mapped, Fault}
+use Rattle.walk.specs.declared.regime.Bank.{Bank}
+use Rattle.walk.specs.Answers.{Walked}
 
 -- a translation's answer: an address, or a fault status code
 pub data Answer : Type 0 where
@@ -19,9 +19,9 @@ pub data Answer : Type 0 where
 
 -- the leaf's page with the address's low twelve bits, where the leaf has the bit that the access needs
 pub judged : Bool → Access → ℕ → Walked → Answer
-judged privileged a va (Mapped leaf) =
+judged privileged a va (Ok leaf) =
     pick (bitOn leaf.perms (kindBit a + firstBit privileged)) (address (alignDown leaf.oa 12 + va % 2 ^ 12)) (status (12 + leaf.level))
-judged privileged a va (Fault code) = status code
+judged privileged a va (Err code) = status code
 
 -- SCTLR_EL1.M set, TCR_EL1 = 25, TTBR0_EL1 as given, other registers zero
 pub registers : ℕ → Bank
@@ -38,7 +38,9 @@ pub row : ℕ → Bool → Access → Answer
 unfolding translated
 row word privileged a = translated 0x1000 0x1008 word privileged a 0x40001234
 
-pub cases :
+-- rows 1 to 9, the last address in range, and row 12
+abbrev pub WorkedTranslations : Type 0
+WorkedTranslations =
     (row 0x80000401 true reading
     ∷ row 0x80000401 false reading
     ∷ row 0x80000401 false fetching
@@ -63,6 +65,8 @@ pub cases :
     ∷ address 0xBFFFFFFF
     ∷ address 0xFFFFFFFFFFFFF000
     ∷ [])
+
+pub cases : WorkedTranslations
 unfolding row translated judged registers walk_of tableWalk walkRange walkFrom lookupNext levelNext leafResult leafTranslation leafPermissions tableNext
     descaddr range_of params_of paSize untagged word_at littleEndian bytes_of
 cases = refl

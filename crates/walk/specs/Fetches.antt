@@ -1,5 +1,5 @@
 -- The descriptors that a walk fetches. A walk sees of memory only these, and there are few.
-use Rattle.std.specs.Prelude.{◌≡◌, Bool, true, false, not, ◌||◌, length, get_or}
+use Rattle.std.specs.Prelude.{◌≡◌, Bool, true, false, not, ◌||◌, length, get_or, Option}
 use Rattle.std.proofs.Math.Path.{refl}
 use Rattle.std.proofs.Common.{ap, le_trans}
 use mathlib.Core.List.{List, [], ◌∷◌, Memᴰ}
@@ -7,7 +7,6 @@ use Prim.Native.Nat.{ℕ, zero, suc, ◌+◌, ◌-◌, ◌≤◌, ◌<◌, zero-
 use Rattle.word.specs.Bits.{pick}
 use Rattle.word.specs.Ram.{word_at}
 use Rattle.word.specs.RamLaws.{word-agree}
-use Rattle.word.specs.declared.ram.Word.{Word}
 use Rattle.walk.specs.Table.{Result, faults, addressSize, translation, in_range, beyond, startlevel, levelsOf, entered, Lookup, Next, deeper, ends}
 use Rattle.walk.specs.Table.{firstLookup, range_of, params_of, descaddr, lookupNext, onNext, walkFrom, walkRange, tableWalk}
 use Rattle.walk.specs.Walk.{walk_of}
@@ -19,39 +18,39 @@ afterNext (deeper l) k = k l
 afterNext (ends r) k = []
 
 -- the addresses of the descriptors that the walk fetches from a table on, in order
-unfoldable pub fetchesFrom : ℕ → (ℕ → Word) → Params → ℕ → Lookup → List ℕ
+unfoldable pub fetchesFrom : ℕ → (ℕ → Option ℕ) → Params → ℕ → Lookup → List ℕ
 fetchesFrom zero memory p va l = []
 fetchesFrom (suc n) memory p va l = descaddr p va l ∷ afterNext (lookupNext memory p va l) (fetchesFrom n memory p va)
 
-unfoldable pub fetchesRange : Params → Range → ℕ → (ℕ → Word) → List ℕ
+unfoldable pub fetchesRange : Params → Range → ℕ → (ℕ → Option ℕ) → List ℕ
 fetchesRange p g va memory = entered p.outputsize g va (λ f. []) (fetchesFrom (4 - startlevel g) memory p va (firstLookup g))
 
 -- those of the whole walk
-unfoldable pub fetchesOf : Bank → Regime → ℕ → (ℕ → Word) → List ℕ
+unfoldable pub fetchesOf : Bank → Regime → ℕ → (ℕ → Option ℕ) → List ℕ
 fetchesOf s r va memory = fetchesRange (params_of s r (range_of s r va)) (range_of s r va) va memory
 
 -- two memories have one word at each address of a list
-pub data Agree (m m' : ℕ → Word) : List ℕ → Type 0 where
+pub data Agree (m m' : ℕ → Option ℕ) : List ℕ → Type 0 where
   none : Agree m m' []
   one : {a : ℕ} {l : List ℕ} → m a ≡ m' a → Agree m m' l → Agree m m' (a ∷ l)
 
 -- that is, at each of its members
-pub agree-all : (m m' : ℕ → Word) (l : List ℕ) → ((a : ℕ) → Memᴰ a l → m a ≡ m' a) → Agree m m' l
+pub agree-all : (m m' : ℕ → Option ℕ) (l : List ℕ) → ((a : ℕ) → Memᴰ a l → m a ≡ m' a) → Agree m m' l
 agree-all m m' [] h = none
 agree-all m m' (a ∷ l) h = one (h a (Memᴰ.head refl)) (agree-all m m' l (λ b k. h b (Memᴰ.tail k)))
 
-agree-head : (m m' : ℕ → Word) (a : ℕ) (l : List ℕ) → Agree m m' (a ∷ l) → m a ≡ m' a
+agree-head : (m m' : ℕ → Option ℕ) (a : ℕ) (l : List ℕ) → Agree m m' (a ∷ l) → m a ≡ m' a
 agree-head m m' a l (one e t) = e
 
-agree-tail : (m m' : ℕ → Word) (a : ℕ) (l : List ℕ) → Agree m m' (a ∷ l) → Agree m m' l
+agree-tail : (m m' : ℕ → Option ℕ) (a : ℕ) (l : List ℕ) → Agree m m' (a ∷ l) → Agree m m' l
 agree-tail m m' a l (one e t) = t
 
-same_next : (m m' : ℕ → Word) (p : Params) (va : ℕ) (l : Lookup) → m (descaddr p va l) ≡ m' (descaddr p va l)
+same_next : (m m' : ℕ → Option ℕ) (p : Params) (va : ℕ) (l : Lookup) → m (descaddr p va l) ≡ m' (descaddr p va l)
     → lookupNext m p va l ≡ lookupNext m' p va l
 unfolding lookupNext
 same_next m m' p va l e = rw e
 
-module _ (m m' : ℕ → Word) (p : Params) (va : ℕ) where
+module _ (m m' : ℕ → Option ℕ) (p : Params) (va : ℕ) where
   from-agrees : (n : ℕ) (l : Lookup) → Agree m m' (fetchesFrom n m p va l)
       → (walkFrom n m p va l ≡ walkFrom n m' p va l) × (fetchesFrom n m p va l ≡ fetchesFrom n m' p va l)
   unfolding walkFrom fetchesFrom
@@ -77,10 +76,10 @@ module _ (m m' : ℕ → Word) (p : Params) (va : ℕ) where
   unfolding walkRange fetchesRange
   range-agrees g = go (not (in_range g va) || g.disabled) (beyond p.outputsize g.baseregister)
     where
-      from : (ℕ → Word) → Result
+      from : (ℕ → Option ℕ) → Result
       from memory = walkFrom (4 - startlevel g) memory p va (firstLookup g)
 
-      list : (ℕ → Word) → List ℕ
+      list : (ℕ → Option ℕ) → List ℕ
       list memory = fetchesFrom (4 - startlevel g) memory p va (firstLookup g)
 
       go : (a b : Bool)
@@ -93,16 +92,16 @@ module _ (m m' : ℕ → Word) (p : Params) (va : ℕ) where
       go false false h = from-agrees (4 - startlevel g) (firstLookup g) h
 
 -- memories that agree where the walk fetches give one walk
-pub agrees : (s : Bank) (r : Regime) (va : ℕ) (m m' : ℕ → Word) → Agree m m' (fetchesOf s r va m) → walk_of s r va m ≡ walk_of s r va m'
+pub agrees : (s : Bank) (r : Regime) (va : ℕ) (m m' : ℕ → Option ℕ) → Agree m m' (fetchesOf s r va m) → walk_of s r va m ≡ walk_of s r va m'
 unfolding walk_of tableWalk fetchesOf
 agrees s r va m m' h = rw (range-agrees m m' (params_of s r (range_of s r va)) va (range_of s r va) h).0
 
 -- and the walk fetches the same descriptors
-pub agrees-fetches : (s : Bank) (r : Regime) (va : ℕ) (m m' : ℕ → Word) → Agree m m' (fetchesOf s r va m) → fetchesOf s r va m ≡ fetchesOf s r va m'
+pub agrees-fetches : (s : Bank) (r : Regime) (va : ℕ) (m m' : ℕ → Option ℕ) → Agree m m' (fetchesOf s r va m) → fetchesOf s r va m ≡ fetchesOf s r va m'
 unfolding fetchesOf
 agrees-fetches s r va m m' h = (range-agrees m m' (params_of s r (range_of s r va)) va (range_of s r va) h).1
 
-few-from : (n : ℕ) (m : ℕ → Word) (p : Params) (va : ℕ) (l : Lookup) → length (fetchesFrom n m p va l) ≤ n
+few-from : (n : ℕ) (m : ℕ → Option ℕ) (p : Params) (va : ℕ) (l : Lookup) → length (fetchesFrom n m p va l) ≤ n
 unfolding fetchesFrom
 few-from zero m p va l = zero-le
 few-from (suc n) m p va l = go (lookupNext m p va l) (few-from n m p va)
@@ -112,7 +111,7 @@ few-from (suc n) m p va l = go (lookupNext m p va l) (few-from n m p va)
     go (deeper k) ih = suc-le-suc (ih k)
     go (ends r) ih = suc-le-suc zero-le
 
-few-range : (p : Params) (g : Range) (va : ℕ) (m : ℕ → Word) → length (fetchesRange p g va m) ≤ levelsOf g.largegrain
+few-range : (p : Params) (g : Range) (va : ℕ) (m : ℕ → Option ℕ) → length (fetchesRange p g va m) ≤ levelsOf g.largegrain
 unfolding fetchesRange
 few-range p g va m = go (not (in_range g va) || g.disabled) (beyond p.outputsize g.baseregister)
   where
@@ -122,7 +121,7 @@ few-range p g va m = go (not (in_range g va) || g.disabled) (beyond p.outputsize
     go false false = le_trans (few-from (4 - startlevel g) m p va (firstLookup g)) (level-count g)
 
 -- at most four descriptors with a granule of 4 KiB, three with one of 64 KiB
-pub few-fetches : (s : Bank) (r : Regime) (va : ℕ) (m : ℕ → Word) → length (fetchesOf s r va m) ≤ levelsOf (range_of s r va).largegrain
+pub few-fetches : (s : Bank) (r : Regime) (va : ℕ) (m : ℕ → Option ℕ) → length (fetchesOf s r va m) ≤ levelsOf (range_of s r va).largegrain
 unfolding fetchesOf
 few-fetches s r va m = few-range (params_of s r (range_of s r va)) (range_of s r va) va m
 

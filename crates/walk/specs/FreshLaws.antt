@@ -1,40 +1,25 @@
 -- What holds of every fresh answer, for those who know it by its definition alone.
-use Rattle.std.specs.Prelude.{◌≡◌, Bool, ℕ}
-use Rattle.std.proofs.Common.{subst}
+use Rattle.std.specs.Prelude.{◌≡◌, ℕ, Option, Ok, Err}
 use Rattle.std.proofs.Math.Bool.{true, false}
-use Rattle.word.specs.Bits.{pick}
-use Rattle.word.specs.declared.ram.Word.{Word}
 use Rattle.walk.specs.Regime.{stage1On}
 use Rattle.walk.specs.Tag.{untagged}
 use Rattle.walk.specs.Walk.{walk_of}
 use Rattle.walk.specs.Fresh.{fresh_of}
-use Rattle.walk.specs.WalkBounds.{Status, LeafBounds, SoundWalked, walk-sound}
-use Rattle.walk.specs.declared.{regime.Regime.Regime, regime.Bank.Bank, level.Leaf.Leaf, level.Walked.Walked, fresh.Fresh.Fresh}
-use Rattle.walk.specs.declared.level.Walked.TheVariants.{Mapped, Fault}
+use Rattle.walk.specs.WalkBounds.{Status, LeafBounds}
+use Rattle.walk.specs.declared.{regime.Regime.Regime, regime.Bank.Bank, fresh.Fresh.Fresh}
 use Rattle.walk.specs.declared.fresh.Fresh.TheVariants.{Flat, Ended}
+use Rattle.walk.specs.Answers.{Walked}
 
 abbrev pub SoundEnd : Walked → Type 0
-SoundEnd (Mapped leaf) = LeafBounds leaf
-SoundEnd (Fault n) = Status n
+SoundEnd (Ok leaf) = LeafBounds leaf
+SoundEnd (Err n) = Status n
 
 -- a leaf within its bounds, a status of the table of answers, or flat
 abbrev pub SoundFresh : Fresh → Type 0
 SoundFresh (Ended w) = SoundEnd w
 SoundFresh (Flat pa) = Unit {0}
 
-walk_end : (va : ℕ) (w : Walked) → SoundWalked va w → SoundEnd w
-walk_end va (Mapped leaf) h = h.0
-walk_end va (Fault n) h = h
-
-module _ (s : Bank) (r : Regime) (va : ℕ) (memory : ℕ → Word) where
-  pub answer-sound : SoundFresh (fresh_of s r va memory)
-  unfolding fresh_of
-  answer-sound = go (stage1On s r)
-    where
-      go : (b : Bool) → SoundFresh (pick b (Ended (walk_of s r (untagged s.tcr r va) memory)) (Flat va))
-      go true = walk_end _ (walk_of s r (untagged s.tcr r va) memory) (walk-sound s r (untagged s.tcr r va) memory)
-      go false = tt
-
+module _ (s : Bank) (r : Regime) (va : ℕ) (memory : ℕ → Option ℕ) where
   -- stage 1 on: the walk of the untagged address; off: the address
   pub fresh_on : stage1On s r ≡ true → fresh_of s r va memory ≡ Ended (walk_of s r (untagged s.tcr r va) memory)
   unfolding fresh_of
@@ -43,10 +28,3 @@ module _ (s : Bank) (r : Regime) (va : ℕ) (memory : ℕ → Word) where
   pub fresh-off : stage1On s r ≡ false → fresh_of s r va memory ≡ Flat va
   unfolding fresh_of
   fresh-off e = rw e
-
-  pub is-sound : (x : Fresh) → x ≡ fresh_of s r va memory → SoundFresh x
-  is-sound x e = rw e answer-sound
-
-  -- a leaf that it ends in
-  pub fresh-leaf : (x : Fresh) (w : Walked) (leaf : Leaf) → x ≡ fresh_of s r va memory → x ≡ Ended w → w ≡ Mapped leaf → LeafBounds leaf
-  fresh-leaf x w leaf e x-is w-is = subst SoundEnd w-is (subst SoundFresh x-is (is-sound x e))

@@ -1,4 +1,5 @@
 -- The architecture's definitions, top to bottom.
+pub mod Answers
 pub mod Regime
 pub mod Tag
 pub mod Size

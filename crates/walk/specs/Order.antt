@@ -1,29 +1,17 @@
--- The order of a walk's answers: the table of answers, from the entry of a walk to the access flag of its leaf, a theorem for each row. A row's
--- theorem supposes its own condition and that the rows above do not hold, and says nothing of the rows below: whatever those conditions are, the
--- answer is this row's. Rows below the entry are of any table that the walk reaches.
-use Rattle.std.specs.Prelude.{◌≡◌, Bool, not, ◌&&◌, ◌||◌, [], ltb}
-use Rattle.std.proofs.Math.Path.{refl}
-use Rattle.std.proofs.Common.{ap, ◌∙◌}
+-- The order of a walk's answers: what the rows of the table of answers speak of, from the entry of a walk to the access flag of its leaf. The rows
+-- themselves are the contract of `theorems::order_of_answers`. A row supposes its own condition and that the rows above do not hold, and says nothing
+-- of the rows below: whatever those conditions are, the answer is this row's. Rows below the entry are of any table that the walk reaches.
+use Rattle.std.specs.Prelude.{◌≡◌, List, Option, Some, Ok}
 use Rattle.std.proofs.Math.Bool.{true, false}
-use Prim.Native.Nat.{ℕ, suc, ◌+◌, ◌-◌, ◌≤◌, ◌<◌}
-use native.Mathlib.Omega.{arith}
-use borrow.Author.Tests.{eqb-true, eqb-false, ltb-true, ltb-false, eq-eqb, ne_eqb, lt-ltb, le-ltb}
-use Rattle.std.proofs.Math.Arith.{lt_of_le-ne}
-use Rattle.std.proofs.Math.Dec.{eqb}
-use Rattle.word.specs.Bits.{pick}
-use Rattle.word.specs.declared.ram.Word.{Word}
-use Rattle.word.specs.declared.ram.Word.TheVariants.{Value, Outside}
+use Prim.Native.Nat.{ℕ, ◌+◌, ◌≤◌, ◌<◌}
 use Rattle.walk.specs.Regime.{singlePriv, wxnOf}
 use Rattle.walk.specs.Descriptor.{valid, tableOrPage, af}
-use Rattle.walk.specs.Table.{Result, mapped, faults, addressSize, translation, accessFlag, externalAbort, firstblocklevel, in_range, beyond, Lookup, Next}
-use Rattle.walk.specs.Table.{deeper, ends, firstLookup, range_of, params_of, tableNext, leafTranslation, leafResult, levelNext, descaddr, lookupNext}
-use Rattle.walk.specs.Table.{walkFrom, walkRange, tableWalk}
-use Rattle.walk.specs.Walk.{leafOf, walkedOf, walk_of}
-use Rattle.walk.specs.SizeLaws.{pa-size-low, pa-size-high, start-level}
-use Rattle.walk.specs.WalkBounds.{next_level}
-use Rattle.walk.specs.Fetches.{fetchesRange, fetchesOf}
-use Rattle.walk.specs.declared.{regime.Regime.Regime, regime.Bank.Bank, level.Params.Params}
-use Rattle.walk.specs.declared.level.Walked.TheVariants.{Mapped, Fault as Faulted}
+use Rattle.walk.specs.Table.{firstblocklevel, in_range, beyond, Lookup}
+use Rattle.walk.specs.Table.{deeper, firstLookup, range_of, params_of, leafTranslation, descaddr, lookupNext}
+use Rattle.walk.specs.Walk.{leafOf, walk_of}
+use Rattle.walk.specs.Fetches.{fetchesOf}
+use Rattle.walk.specs.declared.{regime.Regime.Regime, regime.Bank.Bank, range.Range.Range, level.Params.Params}
+use Rattle.walk.specs.Answers.{Walked}
 
 -- what a descriptor is at a level: a table, a page or block, or a leaf where there can be none
 pub data TableAt (l : Lookup) (desc : ℕ) : Type 0 where
@@ -44,219 +32,50 @@ pub data Kind (p : Params) (l : Lookup) (desc : ℕ) : Type 0 where
   isNoLeaf : NoLeafAt p l desc → Kind p l desc
   isLeaf : LeafAt p l desc → Kind p l desc
 
-not_last : (n : ℕ) → n < 3 → eqb n 3 ≡ false
-not_last n h = ne_eqb n 3 (λ e. omega arith)
-
-block-first : (g : Bool) → firstblocklevel g ≤ 3
-block-first true = omega arith
-block-first false = omega arith
-
-early-not-last : (g : Bool) (n : ℕ) → n < firstblocklevel g → n < 3
-early-not-last g n h = omega (arith, block-first g)
-
-or-true : (a : Bool) → (a || true) ≡ true
-or-true true = refl
-or-true false = refl
-
-true-false : true ≡ false → ⊥
-true-false e = let z : ◌≡◌ {A = ℕ} 0 1 = cc in omega arith
-
-record LeadsTo (x : Next) : Type 0 where
-  next : Lookup
-  is : x ≡ deeper next
-
--- no descriptor is left out
-pub kind-of : (p : Params) (l : Lookup) (desc : ℕ) → l.level ≤ 3 → Kind p l desc
-kind-of p l desc h = go (valid desc) (tableOrPage desc) (eqb l.level 3) (ltb l.level (firstblocklevel p.largegrain)) refl refl refl refl
-  where
-    go : (v t e f : Bool) → valid desc ≡ v → tableOrPage desc ≡ t → eqb l.level 3 ≡ e → ltb l.level (firstblocklevel p.largegrain) ≡ f
-        → Kind p l desc
-    go false t e f ev et ee ef = isInvalid ev
-    go true true true f ev et ee ef = isLeaf (page (eqb-true l.level 3 ee) ev et)
-    go true true false f ev et ee ef = isTable (table (lt_of_le-ne h (eqb-false l.level 3 ee)) ev et)
-    go true false true f ev et ee ef = isNoLeaf (last (eqb-true l.level 3 ee) et)
-    go true false false true ev et ee ef = isNoLeaf (early (ltb-true l.level (firstblocklevel p.largegrain) ef) et)
-    go true false false false ev et ee ef =
-        isLeaf (block (ltb-false l.level (firstblocklevel p.largegrain) ef) (lt_of_le-ne h (eqb-false l.level 3 ee)) ev et)
-
--- what one descriptor leads to
-module _ (p : Params) (va : ℕ) (l : Lookup) (desc : ℕ) where
-  -- bit 0 clear, whatever the other bits
-  pub invalid-next : valid desc ≡ false → levelNext p va l desc ≡ ends (faults (translation l.level))
-  unfolding levelNext
-  invalid-next e = rw e
-
-  table-next : TableAt l desc → levelNext p va l desc ≡ tableNext p l desc
-  unfolding levelNext
-  table-next (table h v t) = rw (v, t, not_last l.level h)
-
-  -- a table whose next address is too large
-  pub large-table-next : TableAt l desc → beyond p.outputsize desc ≡ true → levelNext p va l desc ≡ ends (faults (addressSize l.level))
-  unfolding tableNext
-  large-table-next t b = table-next t ∙ rw b
-
-  small-table : beyond p.outputsize desc ≡ false → LeadsTo (tableNext p l desc)
-  unfolding tableNext
-  small-table b = go (beyond p.outputsize desc) _ b
-    where
-      go : (t : Bool) (k : Lookup) → t ≡ false → LeadsTo (pick t (ends (faults (addressSize l.level))) (deeper k))
-      go true k e = absurd (true-false e)
-      go false k e = record { next = k; is = refl }
-
-  -- a page or block is judged by its size and access flag
-  pub leaf-next : LeafAt p l desc → levelNext p va l desc ≡ ends (leafResult p va l desc)
-  unfolding levelNext
-  leaf-next (page h v t) = rw (v, t, eq-eqb l.level 3 h)
-  leaf-next (block k h v t) = rw (v, t, not_last l.level h)
-
-  leaf-allowed : LeafAt p l desc → ltb l.level (firstblocklevel p.largegrain) ≡ false
-  leaf-allowed (page h v t) = le-ltb l.level (firstblocklevel p.largegrain) (omega (arith, block-first p.largegrain))
-  leaf-allowed (block k h v t) = le-ltb l.level (firstblocklevel p.largegrain) k
-
-  -- a leaf where there can be none, before its size is looked at
-  pub no-leaf-next : NoLeafAt p l desc → levelNext p va l desc ≡ ends (faults (translation l.level))
-  unfolding levelNext leafResult
-  no-leaf-next (last h t) = rw (t, eq-eqb l.level 3 h, or-true)
-  no-leaf-next (early h t) = go (valid desc)
-    where
-      n : eqb l.level 3 ≡ false
-      n = not_last l.level (early-not-last p.largegrain l.level h)
-
-      go : (v : Bool) → pick (not v || (eqb l.level 3 && not (tableOrPage desc))) (ends (faults (translation l.level)))
-          (pick (eqb l.level 3 || not (tableOrPage desc)) (ends (leafResult p va l desc)) (tableNext p l desc)) ≡ ends (faults (translation l.level))
-      go true = rw (t, n, lt-ltb l.level (firstblocklevel p.largegrain) h)
-      go false = refl
-
-  -- too large, whatever the access flag
-  pub large-leaf : LeafAt p l desc → beyond p.outputsize desc ≡ true → leafResult p va l desc ≡ faults (addressSize l.level)
-  unfolding leafResult
-  large-leaf a b = rw (leaf-allowed a, b)
-
-  -- not too large: the access flag decides
-  pub unused-leaf : LeafAt p l desc → beyond p.outputsize desc ≡ false → af desc ≡ false → leafResult p va l desc ≡ faults (accessFlag l.level)
-  unfolding leafResult
-  unused-leaf a b f = rw (leaf-allowed a, b, f)
-
-  pub used-leaf : LeafAt p l desc → beyond p.outputsize desc ≡ false → af desc ≡ true → leafResult p va l desc ≡ mapped (leafTranslation p va l desc)
-  unfolding leafResult
-  used-leaf a b f = rw (leaf-allowed a, b, f)
-
 -- what the registers say of every level of a walk
 abbrev pub params_at : Bank → Regime → ℕ → Params
 params_at s r va = params_of s r (range_of s r va)
 
 -- the tables that a walk reaches: the first, where no row of the entry holds, and each that a table leads to
-pub data Reached (s : Bank) (r : Regime) (va : ℕ) (memory : ℕ → Word) : Lookup → Type 0 where
+pub data Reached (s : Bank) (r : Regime) (va : ℕ) (memory : ℕ → Option ℕ) : Lookup → Type 0 where
   entry : in_range (range_of s r va) va ≡ true → (range_of s r va).disabled ≡ false
       → beyond (params_at s r va).outputsize (range_of s r va).baseregister ≡ false → Reached s r va memory (firstLookup (range_of s r va))
   onward : {l k : Lookup} → Reached s r va memory l → lookupNext memory (params_at s r va) va l ≡ deeper k → Reached s r va memory k
 
 -- one level down from a table
-pub record Below (s : Bank) (r : Regime) (va : ℕ) (memory : ℕ → Word) (l : Lookup) : Type 0 where
+pub record Below (s : Bank) (r : Regime) (va : ℕ) (memory : ℕ → Option ℕ) (l : Lookup) : Type 0 where
   pub lookup : Lookup
   pub level : lookup.level ≡ l.level + 1
   pub reached : Reached s r va memory lookup
 
--- what holds of every table reached
-record Stage (s : Bank) (r : Regime) (va : ℕ) (memory : ℕ → Word) (l : Lookup) : Type 0 where
-  level : l.level ≤ 3
-  walk : tableWalk s r va memory ≡ walkFrom (4 - l.level) memory (params_at s r va) va l
+-- a fact of every walk: of its range, what its registers say of every level, its address, its answer, and the addresses that it fetches from
+abbrev pub EachWalk : (Range → Params → ℕ → Walked → List ℕ → Type 0) → Type 0
+EachWalk P =
+    (s : Bank) (r : Regime) (va : ℕ) (memory : ℕ → Option ℕ) → P (range_of s r va) (params_at s r va) va (walk_of s r va memory) (fetchesOf s r va memory)
 
-module _ (s : Bank) (r : Regime) (va : ℕ) (memory : ℕ → Word) where
-  -- Walk entry, out of range: 0x04, and nothing is fetched
-  pub out_of_range : in_range (range_of s r va) va ≡ false → (walk_of s r va memory ≡ Faulted 0x04) × (fetchesOf s r va memory ≡ [])
-  unfolding walk_of tableWalk walkRange fetchesOf fetchesRange
-  out_of_range e = rw e (refl, refl)
+-- a fact of every table that a walk reaches: what the memory holds at the descriptor's address, and the walk's answer
+abbrev pub EachTable : (Lookup → Option ℕ → Walked → Type 0) → Type 0
+EachTable P =
+    (s : Bank) (r : Regime) (va : ℕ) (memory : ℕ → Option ℕ) (l : Lookup) → Reached s r va memory l
+    → P l (memory (descaddr (params_at s r va) va l)) (walk_of s r va memory)
 
-  -- Walk entry, EPD set: 0x04, and nothing is fetched
-  pub range-disabled : (range_of s r va).disabled ≡ true → (walk_of s r va memory ≡ Faulted 0x04) × (fetchesOf s r va memory ≡ [])
-  unfolding walk_of tableWalk walkRange fetchesOf fetchesRange
-  range-disabled e = rw (e, or-true (not (in_range (range_of s r va) va))) (refl, refl)
+-- a fact of every descriptor that a walk reads
+abbrev pub EachDescriptor : (Params → Lookup → ℕ → Walked → Type 0) → Type 0
+EachDescriptor P =
+    (s : Bank) (r : Regime) (va : ℕ) (memory : ℕ → Option ℕ) (l : Lookup) → Reached s r va memory l
+    → (desc : ℕ) → memory (descaddr (params_at s r va) va l) ≡ Some desc → P (params_at s r va) l desc (walk_of s r va memory)
 
-  -- Walk entry, base beyond the output size: 0x00, and nothing is fetched
-  pub base-too-large : in_range (range_of s r va) va ≡ true → (range_of s r va).disabled ≡ false
-      → beyond (params_at s r va).outputsize (range_of s r va).baseregister ≡ true
-      → (walk_of s r va memory ≡ Faulted 0x00) × (fetchesOf s r va memory ≡ [])
-  unfolding walk_of tableWalk walkRange fetchesOf fetchesRange
-  base-too-large e d b = rw (e, b, d) (refl, refl)
+-- a table whose next address is not too large leads one level down
+abbrev pub TablesLead : Type 0
+TablesLead =
+    (s : Bank) (r : Regime) (va : ℕ) (memory : ℕ → Option ℕ) (l : Lookup) → Reached s r va memory l
+    → (desc : ℕ) → memory (descaddr (params_at s r va) va l) ≡ Some desc
+    → TableAt l desc → beyond (params_at s r va).outputsize desc ≡ false → Below s r va memory l
 
-  first-stage : in_range (range_of s r va) va ≡ true → (range_of s r va).disabled ≡ false
-      → beyond (params_at s r va).outputsize (range_of s r va).baseregister ≡ false → Stage s r va memory (firstLookup (range_of s r va))
-  unfolding tableWalk walkRange
-  first-stage e d b = record { level = start-level (range_of s r va); walk = rw (e, b, d) }
-
-  one_down : (l k : Lookup) → l.level ≤ 3 → lookupNext memory (params_at s r va) va l ≡ deeper k
-      → (k.level ≡ l.level + 1) × (k.level ≤ 3)
-  unfolding params_of
-  one_down l k h e = next_level (params_at s r va) (pa-size-low _) (pa-size-high _) va memory l k h e
-
-  next-stage : (l k : Lookup) → Stage s r va memory l → lookupNext memory (params_at s r va) va l ≡ deeper k → Stage s r va memory k
-  unfolding walkFrom
-  next-stage l k st e =
-      let d = one_down l k st.level e in
-      let n : 4 - l.level ≡ suc (4 - k.level) = omega arith in
-      record { level = d.1; walk = rw (n, walkFrom, e) at st.walk }
-
-  stage : {l : Lookup} → Reached s r va memory l → Stage s r va memory l
-  stage (entry e d b) = first-stage e d b
-  stage (onward {l} {k} h e) = next-stage l k (stage h) e
-
-  -- a walk ends as the first table that it reaches and that does not lead on
-  pub ends-walk : (l : Lookup) (x : Result) → Reached s r va memory l → lookupNext memory (params_at s r va) va l ≡ ends x
-      → walk_of s r va memory ≡ walkedOf (singlePriv r) (wxnOf s) x
-  unfolding walk_of walkFrom
-  ends-walk l x h e =
-      let st = stage h in
-      let n : 4 - l.level ≡ suc (3 - l.level) = omega (arith, st.level) in
-      let w : tableWalk s r va memory ≡ x = rw (n, walkFrom, e) at st.walk in
-      rw w
-
-  module _ (l : Lookup) (reached : Reached s r va memory l) where
-    -- Descriptor read, outside RAM: 0x14 + level
-    pub descriptor-outside : memory (descaddr (params_at s r va) va l) ≡ Outside → walk_of s r va memory ≡ Faulted (0x14 + l.level)
-    unfolding lookupNext
-    descriptor-outside e = ends-walk l (faults (externalAbort l.level)) reached (rw e)
-
-    module _ (desc : ℕ) (word : memory (descaddr (params_at s r va) va l) ≡ Value desc) where
-      read : (n : Next) → levelNext (params_at s r va) va l desc ≡ n → lookupNext memory (params_at s r va) va l ≡ n
-      unfolding lookupNext
-      read n e = rw word e
-
-      -- Descriptor, bit 0 clear: 0x04 + level
-      pub descriptor-invalid : valid desc ≡ false → walk_of s r va memory ≡ Faulted (0x04 + l.level)
-      descriptor-invalid e = ends-walk l _ reached (read _ (invalid-next (params_at s r va) va l desc e))
-
-      -- Table, next address too large: 0x00 + level
-      pub table-too-large : TableAt l desc → beyond (params_at s r va).outputsize desc ≡ true → walk_of s r va memory ≡ Faulted (0x00 + l.level)
-      table-too-large t b = ends-walk l _ reached (read _ (large-table-next (params_at s r va) va l desc t b)) ∙ ap Faulted (omega arith)
-
-      -- otherwise a table leads one level down
-      pub table-leads : TableAt l desc → beyond (params_at s r va).outputsize desc ≡ false → Below s r va memory l
-      table-leads t b =
-          let p = params_at s r va in
-          let k = small-table p va l desc b in
-          let e : lookupNext memory p va l ≡ deeper k.next = read (deeper k.next) (table-next p va l desc t ∙ k.is) in
-          record { lookup = k.next; level = (one_down l k.next (stage reached).level e).0; reached = onward reached e }
-
-      -- Leaf, level 3 with bit 1 clear, or a block at a level that has none: 0x04 + level
-      pub leaf-not-allowed : NoLeafAt (params_at s r va) l desc → walk_of s r va memory ≡ Faulted (0x04 + l.level)
-      leaf-not-allowed h = ends-walk l _ reached (read _ (no-leaf-next (params_at s r va) va l desc h))
-
-      leaf-ends : (x : Result) → LeafAt (params_at s r va) l desc → leafResult (params_at s r va) va l desc ≡ x
-          → walk_of s r va memory ≡ walkedOf (singlePriv r) (wxnOf s) x
-      leaf-ends x h e = ends-walk l x reached (read _ (leaf-next (params_at s r va) va l desc h ∙ ap ends e))
-
-      -- Leaf, output too large: 0x00 + level, whatever the access flag
-      pub leaf-too-large : LeafAt (params_at s r va) l desc → beyond (params_at s r va).outputsize desc ≡ true
-          → walk_of s r va memory ≡ Faulted (0x00 + l.level)
-      leaf-too-large h b = leaf-ends _ h (large-leaf (params_at s r va) va l desc h b) ∙ ap Faulted (omega arith)
-
-      -- Leaf, access flag clear: 0x08 + level
-      pub leaf-unused : LeafAt (params_at s r va) l desc → beyond (params_at s r va).outputsize desc ≡ false → af desc ≡ false
-          → walk_of s r va memory ≡ Faulted (0x08 + l.level)
-      leaf-unused h b f = leaf-ends _ h (unused-leaf (params_at s r va) va l desc h b f)
-
-      -- otherwise the leaf is the answer
-      pub leaf-found : LeafAt (params_at s r va) l desc → beyond (params_at s r va).outputsize desc ≡ false → af desc ≡ true
-          → walk_of s r va memory ≡ Mapped (leafOf (singlePriv r) (wxnOf s) (leafTranslation (params_at s r va) va l desc))
-      leaf-found h b f = leaf-ends _ h (used-leaf (params_at s r va) va l desc h b f)
+-- a leaf of which no row holds is the answer
+abbrev pub LeafAnswers : Type 0
+LeafAnswers =
+    (s : Bank) (r : Regime) (va : ℕ) (memory : ℕ → Option ℕ) (l : Lookup) → Reached s r va memory l
+    → (desc : ℕ) → memory (descaddr (params_at s r va) va l) ≡ Some desc
+    → LeafAt (params_at s r va) l desc → beyond (params_at s r va).outputsize desc ≡ false → af desc ≡ true
+    → walk_of s r va memory ≡ Ok (leafOf (singlePriv r) (wxnOf s) (leafTranslation (params_at s r va) va l desc))

@@ -1,14 +1,14 @@
 -- How the code keeps the manual's variables: the bits of all table descriptors passed in one word, and the bit at which an index begins. These
 -- are the code's own states, for the contracts of its parts; no definition of the walk reads this file.
-use Rattle.std.specs.Prelude.{◌≡◌, Bool, not, ◌&&◌, ℕ, ◌+◌, ◌%◌, ◌^◌, ◌≤◌, ◌<◌}
+use Rattle.std.specs.Prelude.{◌≡◌, Bool, not, ◌&&◌, ℕ, ◌+◌, ◌%◌, ◌^◌, ◌≤◌, ◌<◌, Ok, Err}
 use Rattle.word.specs.Bits.{alignDown}
 use Rattle.walk.specs.Descriptor.{apTable0, apTable1, uxnTable, pxnTable}
 use Rattle.walk.specs.Table.{statusOf, entered, Lookup, Next, deeper, ends, inputsize, startlevel, startlevelOf, addrselectbottom, baselowerbound}
 use Rattle.walk.specs.Walk.{walkedOf}
-use Rattle.walk.specs.declared.{range.Range.Range, range.Start.Start, range.Begin.Begin, level.Params.Params}
-use Rattle.walk.specs.declared.{level.WalkState.WalkState, level.Walked.Walked, level.Step.Step}
-use Rattle.walk.specs.declared.range.Begin.TheVariants.{At, Refused}
+use Rattle.walk.specs.declared.{range.Range.Range, range.Start.Start, level.Params.Params}
+use Rattle.walk.specs.declared.{level.WalkState.WalkState, level.Step.Step}
 use Rattle.walk.specs.declared.level.Step.TheVariants.{Next as Onward, Done}
+use Rattle.walk.specs.Answers.{Begin, Walked}
 
 -- the manual's state that a state of the code stands for. Of `tables` bits 62 to 59 alone count; the others are free
 abbrev pub lookupOf : Params → WalkState → Lookup
@@ -61,8 +61,8 @@ start_of largegrain size =
 -- where the code begins a walk
 unfoldable pub beginOf : Range → ℕ → ℕ → Begin
 beginOf g outputsize va =
-    entered outputsize g va (λ f. Refused (statusOf f))
-    (At
+    entered outputsize g va (λ f. Err (statusOf f))
+    (Ok
     record {
       tables = 0;
       table = alignDown (g.baseregister % 2 ^ 48) (baselowerbound g);

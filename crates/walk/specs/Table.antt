@@ -3,10 +3,8 @@
 -- Where the pseudocode has something else, a comment names the row of docs/DIFFERENCES.md. Left out of it are: ns_table, and with it what it does to
 -- nG (M1), to the NS of the output (A6, M17) and to that of the descriptors' addresses (M17); reversedescriptors (A10); stage 2 of a descriptor's address (M3);
 -- the contiguous bit (O4); a memory type (D3, D4, O7). What it leaves open is settled by B1, O1, O2 and O3.
-use Rattle.std.specs.Prelude.{Bool, true, false, not, ◌&&◌, ◌||◌, ℕ, zero, suc, ◌+◌, ◌-◌, ◌*◌, ◌/◌, ◌%◌, ◌^◌, min, max, eqb, ltb}
+use Rattle.std.specs.Prelude.{Bool, true, false, not, ◌&&◌, ◌||◌, ℕ, zero, suc, ◌+◌, ◌-◌, ◌*◌, ◌/◌, ◌%◌, ◌^◌, min, max, eqb, ltb, Option, Some, None}
 use Rattle.word.specs.Bits.{bitOn, field, alignDown, pick}
-use Rattle.word.specs.declared.ram.Word.{Word}
-use Rattle.word.specs.declared.ram.Word.TheVariants.{Value, Outside}
 use Rattle.sysreg.specs.Tcr.{t0sz, epd0, tg0, t1sz, epd1, tg1, ips, ps}
 use Rattle.walk.specs.Descriptor.{valid, tableOrPage, ap1, ap2, af, nG, pxn, uxn, pxnTable, uxnTable, apTable0, apTable1}
 use Rattle.walk.specs.Permission.{underApTable, underXnTable}
@@ -229,14 +227,14 @@ descaddr p va l =
     l.baseaddress
     + field va (addrselectbottom p.largegrain l.level) (l.top - addrselectbottom p.largegrain l.level) * 8
 
-abbrev pub on_word : Word → (ℕ → Next) → Next → Next
-on_word (Value desc) k none = k desc
-on_word Outside k none = none
+abbrev pub on_word : Option ℕ → (ℕ → Next) → Next → Next
+on_word (Some desc) k none = k desc
+on_word None k none = none
 
 -- one level: the descriptor is fetched from memory, a function from an address to the 64-bit word there, and read.
 -- M3: in Non-secure EL1&0 its address would go through stage 2. M17: the address would be of one of two spaces, by ns_table.
 -- A10: by SCTLR_ELx.EE the descriptor would be BigEndianReverse of that word
-unfoldable pub lookupNext : (ℕ → Word) → Params → ℕ → Lookup → Next
+unfoldable pub lookupNext : (ℕ → Option ℕ) → Params → ℕ → Lookup → Next
 lookupNext memory p va l = on_word (memory (descaddr p va l)) (levelNext p va l) (ends (faults (externalAbort l.level)))
 
 abbrev pub onNext : Next → (Lookup → Result) → Result
@@ -244,7 +242,7 @@ onNext (deeper l) k = k l
 onNext (ends r) k = r
 
 -- the walk with n levels to go; none is left below level 3, where no descriptor is a table
-unfoldable pub walkFrom : ℕ → (ℕ → Word) → Params → ℕ → Lookup → Result
+unfoldable pub walkFrom : ℕ → (ℕ → Option ℕ) → Params → ℕ → Lookup → Result
 walkFrom zero memory p va l = faults (translation 3)
 walkFrom (suc n) memory p va l = onNext (lookupNext memory p va l) (walkFrom n memory p va)
 
@@ -255,8 +253,8 @@ entered outputsize g va fault walk =
     (pick (beyond outputsize g.baseregister) (fault (addressSize 0)) walk)
 
 -- the walk of an untagged address in its range
-unfoldable pub walkRange : Params → Range → ℕ → (ℕ → Word) → Result
+unfoldable pub walkRange : Params → Range → ℕ → (ℕ → Option ℕ) → Result
 walkRange p g va memory = entered p.outputsize g va faults (walkFrom (4 - startlevel g) memory p va (firstLookup g))
 
-unfoldable pub tableWalk : Bank → Regime → ℕ → (ℕ → Word) → Result
+unfoldable pub tableWalk : Bank → Regime → ℕ → (ℕ → Option ℕ) → Result
 tableWalk s r va memory = walkRange (params_of s r (range_of s r va)) (range_of s r va) va memory

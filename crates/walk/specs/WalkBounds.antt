@@ -1,31 +1,18 @@
 -- What holds of every walk's answer, for those who know the walk by its definition alone: the leaf's level, output address and
 -- permission byte, and the status of a fault.
-use Rattle.std.specs.Prelude.{◌≡◌, Bool, not, ◌&&◌, ◌||◌}
-use Rattle.std.proofs.Math.Path.{refl}
-use Rattle.std.proofs.Common.{subst, mod-lt, ltb-false, eqb-true, lit≤, pow_pos, pow_mono}
+use Rattle.std.specs.Prelude.{◌≡◌, Bool, Ok, Err}
+use Rattle.std.proofs.Common.{mod-lt, eqb-true, lit≤, pow_pos}
 use Rattle.std.proofs.Math.Bool.{true, false}
-use Prim.Native.Nat.{ℕ, zero, suc, ◌+◌, ◌-◌, ◌*◌, ◌%◌, ◌^◌, ◌≤◌, ◌<◌}
-use Rattle.std.proofs.Math.Nat.{lt_of_lt_of_le}
+use Prim.Native.Nat.{ℕ, ◌+◌, ◌-◌, ◌*◌, ◌%◌, ◌^◌, ◌≤◌, ◌<◌}
 use native.Mathlib.Omega.{arith}
-use Rattle.std.proofs.lemmas.Bool.{eqb-false, not-false}
-use Rattle.std.proofs.Math.Arith.{lt_of_le-ne}
-use Rattle.std.proofs.Math.Dec.{eqb, ltb}
-use Rattle.word.specs.Bits.{field, flag, pick}
-use Rattle.word.specs.BitLaws.{cut_small, join-small, join-below}
-use Rattle.word.specs.declared.ram.Word.{Word}
-use Rattle.word.specs.declared.ram.Word.TheVariants.{Value, Outside}
-use Rattle.walk.specs.Regime.{singlePriv, wxnOf}
-use Rattle.walk.specs.Descriptor.{valid, tableOrPage, af}
-use Rattle.walk.specs.Table.{Fault, addressSize, translation, accessFlag, externalAbort, statusOf, Translation, Result, mapped, faults, firstblocklevel}
-use Rattle.walk.specs.Table.{startlevel, addrselectbottom, in_range, beyond, outputaddress, Lookup, Next, deeper, ends, firstLookup, range_of, params_of}
-use Rattle.walk.specs.Table.{tableNext, leafTranslation, leafResult, levelNext, descaddr, on_word, lookupNext, onNext, walkFrom, walkRange, tableWalk}
+use Rattle.std.proofs.lemmas.Bool.{not-false}
+use Rattle.word.specs.Bits.{field, flag}
+use Rattle.word.specs.BitLaws.{cut_small, join-small}
+use Rattle.walk.specs.Table.{Fault, addressSize, translation, accessFlag, externalAbort, statusOf, Translation, Result, mapped, faults}
+use Rattle.walk.specs.Table.{beyond, outputaddress}
 use Rattle.walk.specs.Permission.{Rights, accessBits, permissionByte, rightsOf}
-use Rattle.walk.specs.Walk.{walkedOf, walk_of}
-use Rattle.walk.specs.SizeLaws.{pa-size-low, pa-size-high, start-level, block-level, block_size, index-above-page}
-use Rattle.walk.specs.declared.{regime.Regime.Regime, regime.Bank.Bank, range.Range.Range}
-use Rattle.walk.specs.declared.{rights.Permissions.Permissions, level.Params.Params, level.Leaf.Leaf}
-use Rattle.walk.specs.declared.level.Walked.{Walked}
-use Rattle.walk.specs.declared.level.Walked.TheVariants.{Mapped, Fault as Faulted}
+use Rattle.walk.specs.declared.{rights.Permissions.Permissions, level.Leaf.Leaf}
+use Rattle.walk.specs.Answers.{Walked}
 
 -- the levels at which a fault of each kind can be: an access flag is read in a leaf, and no leaf is above level 1
 abbrev pub Levelled : Fault → Type 0
@@ -58,11 +45,6 @@ abbrev pub Sound : ℕ → Result → Type 0
 Sound va (mapped t) = Found va t
 Sound va (faults f) = Levelled f
 
--- a step from a level leads one level down, or ends so
-abbrev SoundNext : ℕ → ℕ → Next → Type 0
-SoundNext va level (deeper l) = (l.level ≡ level + 1) × (l.level ≤ 3)
-SoundNext va level (ends r) = Sound va r
-
 -- an address that is not beyond n bits has n bits
 pub not_beyond : (n x : ℕ) → n ≤ 48 → beyond n x ≡ false → x % 2 ^ 48 < 2 ^ n
 not_beyond n x h e = cut_small x h (eqb-true (field x n (48 - n)) 0 (not-false _ e))
@@ -70,96 +52,6 @@ not_beyond n x h e = cut_small x h (eqb-true (field x n (48 - n)) 0 (not-false _
 -- an output address whose descriptor is not beyond n bits has n bits
 pub output-small : (n bottom va desc : ℕ) → bottom ≤ n → n ≤ 48 → beyond n desc ≡ false → outputaddress bottom va desc < 2 ^ n
 output-small n bottom va desc h k e = join-small h (not_beyond n desc k e) (mod-lt va (pow_pos bottom))
-
-module _ (p : Params) (low : 32 ≤ p.outputsize) (high : p.outputsize ≤ 44) (va : ℕ) where
-  found : (l : Lookup) (desc : ℕ) → l.level ≤ 3 → firstblocklevel p.largegrain ≤ l.level → beyond p.outputsize desc ≡ false
-      → Found va (leafTranslation p va l desc)
-  unfolding leafTranslation
-  found l desc h k e =
-      let b = block_size p.largegrain l.level k in
-      let small = output-small p.outputsize (addrselectbottom p.largegrain l.level) va desc (omega arith) (omega arith) e in
-      record {
-        level-low = block-level p.largegrain l.level k;
-        level-high = h;
-        address = lt_of_lt_of_le small (pow_mono {i = p.outputsize} {j = 44} high);
-        offset = join-below (desc % 2 ^ 48) va (index-above-page p.largegrain l.level);
-      }
-
-  leaf-sound : (l : Lookup) (desc : ℕ) → l.level ≤ 3 → Sound va (leafResult p va l desc)
-  unfolding leafResult
-  leaf-sound l desc h = go (ltb l.level (firstblocklevel p.largegrain)) (beyond p.outputsize desc) (af desc) refl refl
-    where
-      go : (a b c : Bool) → ltb l.level (firstblocklevel p.largegrain) ≡ a → beyond p.outputsize desc ≡ b
-          → Sound va
-          (pick a (faults (translation l.level))
-          (pick b (faults (addressSize l.level))
-          (pick c (mapped (leafTranslation p va l desc)) (faults (accessFlag l.level)))))
-      go true b c ea eb = h
-      go false true c ea eb = h
-      go false false true ea eb = found l desc h (ltb-false _ _ ea) eb
-      go false false false ea eb = (block-level p.largegrain l.level (ltb-false _ _ ea), h)
-
-  table-sound : (l : Lookup) (desc : ℕ) → l.level < 3 → SoundNext va l.level (tableNext p l desc)
-  unfolding tableNext
-  table-sound l desc h = go (beyond p.outputsize desc) _ (refl, omega arith)
-    where
-      go : (b : Bool) (m : Lookup) → (m.level ≡ l.level + 1) × (m.level ≤ 3)
-          → SoundNext va l.level (pick b (ends (faults (addressSize l.level))) (deeper m))
-      go true m k = omega arith
-      go false m k = k
-
-  level-sound : (l : Lookup) (desc : ℕ) → l.level ≤ 3 → SoundNext va l.level (levelNext p va l desc)
-  unfolding levelNext
-  level-sound l desc h = go (not (valid desc)) (eqb l.level 3) (not (tableOrPage desc)) refl
-    where
-      go : (a b c : Bool) → eqb l.level 3 ≡ b
-          → SoundNext va l.level
-          (pick (a || (b && c)) (ends (faults (translation l.level))) (pick (b || c) (ends (leafResult p va l desc)) (tableNext p l desc)))
-      go true b c eb = h
-      go false true true eb = h
-      go false true false eb = leaf-sound l desc h
-      go false false true eb = leaf-sound l desc h
-      go false false false eb = table-sound l desc (lt_of_le-ne h (eqb-false _ _ eb))
-
-  lookup-sound : (memory : ℕ → Word) (l : Lookup) → l.level ≤ 3 → SoundNext va l.level (lookupNext memory p va l)
-  unfolding lookupNext
-  lookup-sound memory l h = go (memory (descaddr p va l))
-    where
-      go : (x : Word) → SoundNext va l.level (on_word x (levelNext p va l) (ends (faults (externalAbort l.level))))
-      go (Value desc) = level-sound l desc h
-      go Outside = h
-
-  -- a table leads one level down, to level 3 at the most
-  pub next_level : (memory : ℕ → Word) (l k : Lookup) → l.level ≤ 3 → lookupNext memory p va l ≡ deeper k
-      → (k.level ≡ l.level + 1) × (k.level ≤ 3)
-  next_level memory l k h e = subst (SoundNext va l.level) e (lookup-sound memory l h)
-
-  from-sound : (n : ℕ) (memory : ℕ → Word) (l : Lookup) → l.level ≤ 3 → Sound va (walkFrom n memory p va l)
-  unfolding walkFrom
-  from-sound zero memory l h = omega arith
-  from-sound (suc n) memory l h = go (lookupNext memory p va l) (lookup-sound memory l h) (λ k. from-sound n memory k)
-    where
-      go : (x : Next) → SoundNext va l.level x → ((k : Lookup) → k.level ≤ 3 → Sound va (walkFrom n memory p va k))
-          → Sound va (onNext x (walkFrom n memory p va))
-      go (deeper k) hk ih = ih k hk.1
-      go (ends r) hr ih = hr
-
-  range-sound : (g : Range) (memory : ℕ → Word) → Sound va (walkRange p g va memory)
-  unfolding walkRange
-  range-sound g memory = go (not (in_range g va) || g.disabled) (beyond p.outputsize g.baseregister)
-    where
-      go : (a b : Bool)
-          → Sound va
-          (pick a (faults (translation 0)) (pick b (faults (addressSize 0)) (walkFrom (4 - startlevel g) memory p va (firstLookup g))))
-      go true b = omega arith
-      go false true = omega arith
-      go false false = from-sound (4 - startlevel g) memory (firstLookup g) (start-level g)
-
--- every walk of the manual's ends in a leaf or a fault of the table of answers
-pub table-walk-sound : (s : Bank) (r : Regime) (va : ℕ) (memory : ℕ → Word) → Sound va (tableWalk s r va memory)
-unfolding tableWalk params_of
-table-walk-sound s r va memory =
-    range-sound (params_of s r (range_of s r va)) (pa-size-low _) (pa-size-high _) va (range_of s r va) memory
 
 -- the permission byte has six bits
 access-small : (g : Rights) → accessBits g ≤ 7
@@ -184,26 +76,8 @@ permission-small singlepriv wxn t =
     (access-small (rightsOf singlepriv true wxn t))
 
 abbrev pub SoundWalked : ℕ → Walked → Type 0
-SoundWalked va (Mapped leaf) = LeafBounds leaf × (leaf.oa % 2 ^ 12 ≡ va % 2 ^ 12)
-SoundWalked va (Faulted n) = Status n
-
-walked-sound : (singlepriv wxn : Bool) (va : ℕ) (x : Result) → Sound va x → SoundWalked va (walkedOf singlepriv wxn x)
-walked-sound singlepriv wxn va (mapped t) h =
-    (record { level-low = h.level-low; level-high = h.level-high; oa = h.address; perms = permission-small singlepriv wxn t.perms }, h.offset)
-walked-sound singlepriv wxn va (faults f) h = record { fault = f; level = h; code = refl }
-
--- and so does the walk as the code's types hold it
-pub walk-sound : (s : Bank) (r : Regime) (va : ℕ) (memory : ℕ → Word) → SoundWalked va (walk_of s r va memory)
-unfolding walk_of
-walk-sound s r va memory = walked-sound (singlePriv r) (wxnOf s) va (tableWalk s r va memory) (table-walk-sound s r va memory)
-
--- a leaf's level is 1, 2 or 3, its output address is below 2^44, its permission byte has six bits
-pub leaf-bounds : (s : Bank) (r : Regime) (va : ℕ) (memory : ℕ → Word) (leaf : Leaf) → walk_of s r va memory ≡ Mapped leaf → LeafBounds leaf
-leaf-bounds s r va memory leaf e = (subst (SoundWalked va) e (walk-sound s r va memory)).0
-
--- a fault's status is one of the table of answers
-pub fault-status : (s : Bank) (r : Regime) (va : ℕ) (memory : ℕ → Word) (n : ℕ) → walk_of s r va memory ≡ Faulted n → Status n
-fault-status s r va memory n e = subst (SoundWalked va) e (walk-sound s r va memory)
+SoundWalked va (Ok leaf) = LeafBounds leaf × (leaf.oa % 2 ^ 12 ≡ va % 2 ^ 12)
+SoundWalked va (Err n) = Status n
 
 -- and a number below 24
 pub status-small : (n : ℕ) → Status n → n < 24

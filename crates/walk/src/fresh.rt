@@ -5,7 +5,7 @@ ghost use Rattle.walk.specs.Fresh.{fresh_of};
 
 use crate::level::Walked;
 use crate::regime::{Bank, Regime};
-use crate::{regime, table, tag};
+use crate::{table, tag};
 
 // With stage 1 off a physical address; with it on, as the walk ends.
 #[derive(Clone, Copy)]
@@ -19,8 +19,7 @@ pub enum Fresh {
 pub fn fresh_of(s: Bank, regime: Regime, va: u64, base: u64, ram: &[u8]) -> Fresh
     ensures { result ≡ fresh_of s regime va (word_at base ram.now 8) }
 {
-    let on = regime::stage1_on(s, regime);
-    if on {
+    if s.stage1_on(regime) {
         let untagged = tag::untag(s.tcr, regime, va);
         Fresh::Ended(table::walk(s, regime, untagged, base, ram))
     } else {

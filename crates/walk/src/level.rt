@@ -43,11 +43,7 @@ pub struct Leaf {
 }
 
 // What a walk ends in: a leaf, or a fault status code.
-#[derive(Clone, Copy)]
-pub enum Walked {
-    Mapped(Leaf),
-    Fault(u8),
-}
+pub type Walked = Result<Leaf, u8>;
 
 // What a level's descriptor leads to.
 #[derive(Clone, Copy)]
@@ -105,24 +101,20 @@ fn table_step(p: Params, w: WalkState, desc: u64) -> Step
     ensures result_value { stepped p result ≡ meant p (tableNext p (lookupOf p w) desc) }
     ensures leads { Leads p w result }
 {
-    let large = too_large(desc, p.outputsize);
-    if large {
-        Step::Done(Walked::Fault(w.level))
-    } else {
-        let grain = grain_bits(p.largegrain);
-        let stride = stride_bits(p.largegrain);
-        let table = bits::align_down(desc % 0x1_0000_0000_0000, grain);
-        Step::Next(WalkState {
-            tables: w.tables | desc,
-            table,
-            top: w.lsb,
-            lsb: w.lsb - stride,
-            level: w.level + 1,
-        })
+    if too_large(desc, p.outputsize) {
+        return Step::Done(Err(w.level));
     }
+    Step::Next(WalkState {
+        tables: w.tables | desc,
+        table: bits::align_down(desc % 0x1_0000_0000_0000, grain_bits(p.largegrain)),
+        top: w.lsb,
+        lsb: w.lsb - stride_bits(p.largegrain),
+        level: w.level + 1,
+    })
 }
 
 // The attributes of a leaf that decide permission.
+#[tactic(auto, unfolding(crate::specs::Table::leafPermissions))]
 fn permissions(p: Params, w: WalkState, desc: u64) -> Permissions
     ensures { result ≡ leafPermissions p (lookupOf p w) desc }
 {
@@ -138,37 +130,30 @@ fn permissions(p: Params, w: WalkState, desc: u64) -> Permissions
 
 // A block or page descriptor: the leaf, unless blocks are not allowed there, its output lies beyond the output size,
 // or its access flag is clear.
-#[tactic(auto, using(crate::proofs::Levels::leaf_ends))]
+#[tactic(auto, using(crate::proofs::Levels::parts_fit), unfolding(crate::specs::Table::leafResult, crate::specs::Table::leafTranslation))]
 fn leaf_step(p: Params, w: WalkState, va: u64, desc: u64) -> Walked
     requires standing { Standing p w }
     requires outputsize_bound { p.outputsize ≤ 44 }
     ensures { result ≡ walkedOf p.singlepriv p.wxn (leafResult p va (lookupOf p w) desc) }
 {
-    let first = first_block_level(p.largegrain);
-    let early = w.level < first;
-    let accessed = (desc >> 10) % 2 == 1;
-    let beyond = too_large(desc, p.outputsize);
-    if early {
-        return Walked::Fault(4 + w.level);
+    if w.level < first_block_level(p.largegrain) {
+        return Err(4 + w.level);
     }
-    if beyond {
-        return Walked::Fault(w.level);
+    if too_large(desc, p.outputsize) {
+        return Err(w.level);
     }
-    if accessed {
-        let frame = bits::align_down(desc % 0x1_0000_0000_0000, w.lsb);
-        let offset = bits::low_bits(va, w.lsb);
-        let a = permissions(p, w, desc);
-        let perms = rights::perm_byte(p.singlepriv, p.wxn, a);
-        Walked::Mapped(Leaf {
-            oa: frame + offset,
-            desc,
-            perms,
-            level: w.level,
-            global: !(!p.singlepriv & ((desc >> 11) % 2 == 1)),
-        })
-    } else {
-        Walked::Fault(8 + w.level)
+    if (desc >> 10) % 2 == 0 {
+        return Err(8 + w.level);
     }
+    let frame = bits::align_down(desc % 0x1_0000_0000_0000, w.lsb);
+    let offset = bits::low_bits(va, w.lsb);
+    Ok(Leaf {
+        oa: frame + offset,
+        desc,
+        perms: rights::perm_byte(p.singlepriv, p.wxn, permissions(p, w, desc)),
+        level: w.level,
+        global: p.singlepriv || (desc >> 11) % 2 == 0,
+    })
 }
 
 // What a descriptor of the level says.
@@ -179,21 +164,14 @@ pub(crate) fn level_step(p: Params, w: WalkState, va: u64, desc: u64) -> Step
     ensures result_value { stepped p result ≡ meant p (levelNext p va (lookupOf p w) desc) }
     ensures leads { Leads p w result }
 {
-    let level = w.level;
     let valid = desc % 2 == 1;
-    let high = (desc >> 1) % 2 == 1;
-    if valid {
-        if high {
-            if level < 3 {
-                return table_step(p, w, desc);
-            }
-        } else {
-            if level == 3 {
-                return Step::Done(Walked::Fault(4 + level));
-            }
-        }
-        Step::Done(leaf_step(p, w, va, desc))
+    let table = (desc >> 1) % 2 == 1;
+    let last = w.level == 3;
+    if !valid || (last && !table) {
+        Step::Done(Err(4 + w.level))
+    } else if table && !last {
+        table_step(p, w, desc)
     } else {
-        Step::Done(Walked::Fault(4 + level))
+        Step::Done(leaf_step(p, w, va, desc))
     }
 }

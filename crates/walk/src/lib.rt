@@ -8,3 +8,4 @@ pub mod rights;
 pub mod size;
 pub mod table;
 pub mod tag;
+pub mod theorems;

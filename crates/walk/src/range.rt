@@ -1,11 +1,11 @@
 // What the registers say of a walk, and where it begins.
 ghost use Rattle.std.specs.Prelude.{◌≡◌, ℕ, ◌-◌, ◌≤◌, ◌<◌};
-ghost use Rattle.walk.specs.Table.{lowerRange, upperRange, onlyRange, range_of, params_of, inputsize, in_range};
+ghost use Rattle.walk.specs.Table.{range_of, params_of, inputsize, in_range};
 ghost use Rattle.walk.specs.State.{start_of, beginOf};
 
 use crate::level::{Params, WalkState};
 use crate::regime::{Bank, Regime};
-use crate::{level, regime, size};
+use crate::{level, size};
 use word::bits;
 
 // The fields of TCR and TTBR for the range that an address lies in.
@@ -31,70 +31,36 @@ pub struct Start {
 }
 
 // Where a walk begins, or the status of the fault that keeps it from beginning.
-#[derive(Clone, Copy)]
-pub enum Begin {
-    At(WalkState),
-    Refused(u8),
-}
+pub type Begin = Result<WalkState, u8>;
 
-// The lower range of the EL1&0 regime.
-fn lower_range(s: Bank) -> Range
-    ensures { result ≡ lowerRange s }
-{
-    Range {
-        largegrain: (s.tcr >> 14) % 4 == 1,
-        baseregister: s.ttbr0,
-        txsz: s.tcr % 64,
-        disabled: (s.tcr >> 7) % 2 == 1,
-        ps: (s.tcr >> 32) % 8,
-        upper: false,
-    }
-}
-
-// Its upper range.
-fn upper_range(s: Bank) -> Range
-    ensures { result ≡ upperRange s }
-{
-    Range {
-        largegrain: (s.tcr >> 30) % 4 == 3,
-        baseregister: s.ttbr1_el1,
-        txsz: (s.tcr >> 16) % 64,
-        disabled: (s.tcr >> 23) % 2 == 1,
-        ps: (s.tcr >> 32) % 8,
-        upper: true,
-    }
-}
-
-// The one range of the EL2 and EL3 regimes.
-fn only_range(s: Bank) -> Range
-    ensures { result ≡ onlyRange s }
-{
-    Range {
-        largegrain: (s.tcr >> 14) % 4 == 1,
-        baseregister: s.ttbr0,
-        txsz: s.tcr % 64,
-        disabled: false,
-        ps: (s.tcr >> 16) % 8,
-        upper: false,
-    }
-}
-
-// The range that va lies in.
+// The range that va lies in: one of two in the EL1&0 regime, the only one in the others.
 #[tactic(auto, unfolding(crate::specs::Table::range_of))]
 pub fn range_of(s: Bank, regime: Regime, va: u64) -> Range
     ensures { result ≡ range_of s regime va }
 {
-    let upper = (va >> 55) % 2 == 1;
-    match regime {
-        Regime::El1 => {
-            if upper {
-                upper_range(s)
-            } else {
-                lower_range(s)
-            }
-        }
-        Regime::El2 => only_range(s),
-        Regime::El3 => only_range(s),
+    let upper = regime == Regime::El1 && (va >> 55) % 2 == 1;
+    if upper {
+        return Range {
+            largegrain: (s.tcr >> 30) % 4 == 3,
+            baseregister: s.ttbr1_el1,
+            txsz: (s.tcr >> 16) % 64,
+            disabled: (s.tcr >> 23) % 2 == 1,
+            ps: (s.tcr >> 32) % 8,
+            upper,
+        };
+    }
+    let only = regime.is_single();
+    Range {
+        largegrain: (s.tcr >> 14) % 4 == 1,
+        baseregister: s.ttbr0,
+        txsz: s.tcr % 64,
+        disabled: !only && (s.tcr >> 7) % 2 == 1,
+        ps: if only {
+            (s.tcr >> 16) % 8
+        } else {
+            (s.tcr >> 32) % 8
+        },
+        upper,
     }
 }
 
@@ -104,12 +70,10 @@ pub fn params_of(s: Bank, regime: Regime, g: Range) -> Params
     ensures value { result ≡ params_of s regime g }
     ensures outputsize_bound { result.outputsize ≤ 44 }
 {
-    let outputsize = size::pa_bits(g.ps);
-    let singlepriv = regime::single_priv(regime);
     Params {
         largegrain: g.largegrain,
-        outputsize,
-        singlepriv,
+        outputsize: size::pa_bits(g.ps),
+        singlepriv: regime.is_single(),
         wxn: (s.sctlr >> 19) % 2 == 1,
     }
 }
@@ -119,11 +83,7 @@ fn input_size(g: Range) -> u64
     ensures value { result ≡ inputsize g }
     ensures lower_bound { (25 ≤ result) × (result ≤ 48) }
 {
-    if g.txsz < 16 {
-        48
-    } else {
-        if 39 < g.txsz { 25 } else { 64 - g.txsz }
-    }
+    64 - g.txsz.clamp(16, 39)
 }
 
 #[tactic(auto, using(crate::proofs::Leaves::ones_shifted))]
@@ -133,65 +93,46 @@ fn in_range(g: Range, va: u64) -> bool
     let n = input_size(g);
     let high = va >> n;
     if g.upper {
-        high == 0xFFFF_FFFF_FFFF_FFFF >> n
+        high == u64::MAX >> n
     } else {
         high == 0
     }
 }
 
-// The level of the first table.
+// The level of the first table: 4 less the strides that the bits above the granule take, rounded up.
 fn start_of(largegrain: bool, n: u64) -> Start
     requires { (25 ≤ n) × (n ≤ 48) }
     ensures value { result ≡ start_of largegrain n }
     ensures level_bound { (result.level ≤ 3) × (result.lsb < n) }
 {
-    if largegrain {
-        if n <= 29 {
-            Start { level: 3, lsb: 16 }
-        } else {
-            if n <= 42 {
-                Start { level: 2, lsb: 29 }
-            } else {
-                Start { level: 1, lsb: 42 }
-            }
-        }
-    } else {
-        if n <= 30 {
-            Start { level: 2, lsb: 21 }
-        } else {
-            if n <= 39 {
-                Start { level: 1, lsb: 30 }
-            } else {
-                Start { level: 0, lsb: 39 }
-            }
-        }
+    let grain = if largegrain { 16 } else { 12 };
+    let stride = grain - 3;
+    let strides = (n - grain).div_ceil(stride);
+    Start {
+        level: (4 - strides) as u8,
+        lsb: grain + (strides - 1) * stride,
     }
 }
 
 // The first table, unless the address is out of range or walks are disabled, or the table lies beyond the output size.
-#[tactic(auto, using(crate::proofs::Leaves::begin_ends))]
+#[tactic(auto, unfolding(crate::specs::State::beginOf))]
 pub(crate) fn begin_walk(g: Range, outputsize: u64, va: u64) -> Begin
     requires { outputsize ≤ 44 }
     ensures { result ≡ beginOf g outputsize va }
 {
+    if !in_range(g, va) || g.disabled {
+        return Err(4);
+    }
+    if level::too_large(g.baseregister, outputsize) {
+        return Err(0);
+    }
     let n = input_size(g);
     let start = start_of(g.largegrain, n);
-    let table = bits::align_down(g.baseregister % 0x1_0000_0000_0000, 3 + n - start.lsb);
-    let ranged = in_range(g, va);
-    let faults = !ranged | g.disabled;
-    let large = level::too_large(g.baseregister, outputsize);
-    if faults {
-        return Begin::Refused(4);
-    }
-    if large {
-        Begin::Refused(0)
-    } else {
-        Begin::At(WalkState {
-            tables: 0,
-            table,
-            top: n,
-            lsb: start.lsb,
-            level: start.level,
-        })
-    }
+    Ok(WalkState {
+        tables: 0,
+        table: bits::align_down(g.baseregister % 0x1_0000_0000_0000, 3 + n - start.lsb),
+        top: n,
+        lsb: start.lsb,
+        level: start.level,
+    })
 }

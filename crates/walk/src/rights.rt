@@ -12,19 +12,12 @@ pub struct Permissions {
     pub pxn: bool,
 }
 
-fn flag_bit(on: bool, bit: u8) -> u8
-    ensures value { result ≡ flag on bit }
-    ensures upper_bound { result ≤ bit }
-{
-    if on { bit } else { 0 }
-}
-
 // Read 1, write 2, fetch 4.
 pub fn perm_bits(r: bool, w: bool, x: bool) -> u8
     ensures value { result ≡ flag r 1 + flag w 2 + flag x 4 }
     ensures upper_bound { result ≤ 7 }
 {
-    flag_bit(r, 1) + flag_bit(w, 2) + flag_bit(x, 4)
+    u8::from(r) + u8::from(w) * 2 + u8::from(x) * 4
 }
 
 // The rights that a leaf gives: EL0's in bits 0 to 2, the regime's own in bits 3 to 5.
@@ -33,12 +26,12 @@ pub fn perm_byte(singlepriv: bool, wxn: bool, a: Permissions) -> u8
 {
     let priv_w = !a.ap2;
     if singlepriv {
-        let x = !(a.xn | (priv_w & wxn));
+        let x = !(a.xn || (priv_w && wxn));
         perm_bits(true, priv_w, x) * 8
     } else {
-        let user_w = a.ap1 & !a.ap2;
-        let user_x = !(a.xn | (user_w & wxn));
-        let priv_x = !((a.pxn | (priv_w & wxn)) | user_w);
+        let user_w = a.ap1 && !a.ap2;
+        let user_x = !(a.xn || (user_w && wxn));
+        let priv_x = !(a.pxn || (priv_w && wxn) || user_w);
         perm_bits(a.ap1, user_w, user_x) + perm_bits(true, priv_w, priv_x) * 8
     }
 }

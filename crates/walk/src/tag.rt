@@ -1,6 +1,6 @@
 // Tagged addresses.
 ghost use Rattle.std.specs.Prelude.{◌≡◌};
-ghost use Rattle.walk.specs.Tag.{tbi, signExtend56, tagDropped, untagged};
+ghost use Rattle.walk.specs.Tag.{tbi, signExtend56, untagged};
 
 use crate::regime::Regime;
 
@@ -17,18 +17,7 @@ fn ignores_tag(tcr: u64, regime: Regime, va: u64) -> bool
 {
     match regime {
         Regime::El1 => (tcr >> (37 + (va >> 55) % 2)) % 2 == 1,
-        Regime::El2 => (tcr >> 20) % 2 == 1,
-        Regime::El3 => (tcr >> 20) % 2 == 1,
-    }
-}
-
-fn drop_tag(regime: Regime, va: u64) -> u64
-    ensures { result ≡ tagDropped regime va }
-{
-    match regime {
-        Regime::El1 => sign_extend56(va),
-        Regime::El2 => va % 0x100_0000_0000_0000,
-        Regime::El3 => va % 0x100_0000_0000_0000,
+        Regime::El2 | Regime::El3 => (tcr >> 20) % 2 == 1,
     }
 }
 
@@ -37,6 +26,11 @@ fn drop_tag(regime: Regime, va: u64) -> u64
 pub fn untag(tcr: u64, regime: Regime, va: u64) -> u64
     ensures { result ≡ untagged tcr regime va }
 {
-    let ignored = ignores_tag(tcr, regime, va);
-    if ignored { drop_tag(regime, va) } else { va }
+    if !ignores_tag(tcr, regime, va) {
+        return va;
+    }
+    match regime {
+        Regime::El1 => sign_extend56(va),
+        Regime::El2 | Regime::El3 => va % 0x100_0000_0000_0000,
+    }
 }

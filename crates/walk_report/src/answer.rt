@@ -3,7 +3,7 @@ use crate::fields::{Rights, Status};
 use a72abi::calls;
 use std::fmt;
 use tlb::access::{Answer, Kind, Privilege};
-use tlb::{access, resolve};
+use tlb::resolve;
 use walk::level::{Leaf, Walked};
 use walk::regime::Regime;
 use words::counts;
@@ -67,16 +67,16 @@ pub fn of_walk(
     va: u64,
 ) -> Told {
     match w {
-        Walked::Mapped(leaf) => {
+        Ok(leaf) => {
             let at = counts::current_at(state);
             let e = resolve::entry_for(leaf, at, 0);
-            let user = access::user_of(regime, privilege, kind);
-            match access::judge(e, user, kind, va) {
+            let user = privilege.is_user(regime, kind);
+            match e.judge(user, kind, va) {
                 Answer::Address(pa) => Told::Address(pa),
                 Answer::Status(fault) => Told::Fault(u64::from(fault.fsc)),
             }
         }
-        Walked::Fault(code) => Told::Fault(u64::from(code)),
+        Err(code) => Told::Fault(u64::from(code)),
     }
 }
 

@@ -5,9 +5,8 @@ use std::io;
 use std::io::Write;
 use tlb::access::{Kind, Privilege};
 use tlb::count::Tally;
-use walk::level::Walked;
 use walk::regime::{Bank, Regime};
-use walk::{regime, tag};
+use walk::tag;
 use words::place::State;
 use words::{place, regs, state};
 
@@ -63,7 +62,7 @@ fn walked<W: Write>(
     let steps = levels::walk(s, r, page, base, ram);
     write!(out, "{steps}")?;
     let w = steps.answer;
-    if let Walked::Mapped(leaf) = w {
+    if let Ok(leaf) = w {
         writeln!(out, "rights     {}", Reach { regime: r, leaf })?;
     }
     Ok(answer::of_walk(words, w, r, privilege, kind, va))
@@ -72,8 +71,8 @@ fn walked<W: Write>(
 // Whether stage 1 is on in the regime of the core's level.
 fn is_on(words: &State) -> bool {
     let privilege = state::privilege_at(words);
-    let r = regime::regime_of(privilege.level);
-    regime::stage1_on(regs::bank_at(words, r), r)
+    let r = Regime::of_level(privilege.level);
+    regs::bank_at(words, r).stage1_on(r)
 }
 
 // The answer of a walk made now, each step shown.
@@ -86,7 +85,7 @@ fn now<W: Write>(
     va: u64,
 ) -> io::Result<Told> {
     let privilege = state::privilege_at(words);
-    let r = regime::regime_of(privilege.level);
+    let r = Regime::of_level(privilege.level);
     let s = regs::bank_at(words, r);
     head(out, privilege, kind, r, va)?;
     registers::show(out, s, r)?;

@@ -8,10 +8,10 @@ use std::fmt;
 use walk::level::{Params, Step, Walked};
 use walk::range::Range;
 use walk::regime::{Bank, Regime};
-use walk::table::{Visit, Visited};
+use walk::table::Visit;
 use walk::{range, table};
 use word::ram;
-use word::ram::{Width, Word};
+use word::ram::Width;
 
 // The size of a leaf's page or block, by the lowest bit of the address that it leaves alone.
 fn size(lsb: u64) -> &'static str {
@@ -40,11 +40,11 @@ impl fmt::Display for Meaning {
                 let next = next.table;
                 write!(f, "{}", Table { desc, next })
             }
-            Step::Done(Walked::Mapped(leaf)) => {
+            Step::Done(Ok(leaf)) => {
                 write!(f, "{}, output {:x}", size(self.lsb), leaf.oa)?;
                 write!(f, "\n           {}", Attributes(leaf.desc))
             }
-            Step::Done(Walked::Fault(code)) => write!(f, "{}", Status(u64::from(code))),
+            Step::Done(Err(code)) => write!(f, "{}", Status(u64::from(code))),
         }
     }
 }
@@ -63,11 +63,11 @@ fn show_level<W: fmt::Write>(
     let lsb = w.lsb;
     let step = v.step;
     match ram::read(base, ram, Width::Double, v.at) {
-        Word::Value(desc) => {
+        Some(desc) => {
             let meaning = Meaning { lsb, desc, step };
             writeln!(f, "{desc:016x}  {meaning}")
         }
-        Word::Outside => {
+        None => {
             let desc = 0;
             let meaning = Meaning { lsb, desc, step };
             writeln!(f, "outside RAM  {meaning}")
@@ -95,8 +95,8 @@ fn show_range<W: fmt::Write>(f: &mut fmt::Formatter<W>, g: Range, p: Params) -> 
 fn show_refused<W: fmt::Write>(f: &mut fmt::Formatter<W>, answer: Walked) -> fmt::Result {
     write!(f, "start      ")?;
     match answer {
-        Walked::Mapped(_) => Ok(()),
-        Walked::Fault(code) => {
+        Ok(_) => Ok(()),
+        Err(code) => {
             let why = if code == 4 {
                 "the address is out of range, or walks are disabled"
             } else {
@@ -130,8 +130,8 @@ impl fmt::Display for Steps<'_> {
         show_range(f, g, range::params_of(bank, regime, g))?;
         for n in 0..4u8 {
             match table::visit_nth(bank, regime, va, base, ram, n) {
-                Visited::At(v) => show_level(f, v, base, ram)?,
-                Visited::Beyond => {
+                Some(v) => show_level(f, v, base, ram)?,
+                None => {
                     if n == 0 {
                         show_refused(f, self.answer)?;
                     }

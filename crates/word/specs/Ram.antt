@@ -1,22 +1,20 @@
 -- RAM as a window: its first address and the list of its bytes.
-use Rattle.std.specs.Prelude.{ℕ, zero, suc, ◌+◌, ◌-◌, ◌*◌, ◌/◌, ◌%◌, Bool, ◌&&◌, List, [], ◌∷◌, ◌++◌, length, take, drop, ◌==◌, nat_le, slice_index}
+use Rattle.std.specs.Prelude.{ℕ, zero, suc, ◌+◌, ◌-◌, ◌*◌, ◌/◌, ◌%◌, Bool, ◌&&◌, List, [], ◌∷◌, ◌++◌, length, take, drop, ◌==◌, Option, Some, None, nat_le, slice_index}
 use Rattle.word.specs.Bits.{pick}
-use Rattle.word.specs.declared.{ram.Width.Width, ram.Word.Word, ram.Sized.Sized}
-use Rattle.word.specs.declared.ram.Width.TheVariants.{Byte, Half, Word as Single, Double}
-use Rattle.word.specs.declared.ram.Word.TheVariants.{Value, Outside}
-use Rattle.word.specs.declared.ram.Sized.TheVariants.{Bytes, Refused}
+use Rattle.word.specs.declared.ram.Width.{Width}
+use Rattle.word.specs.declared.ram.Width.TheVariants.{Byte, Half, Word, Double}
 
 abbrev pub bytesIn : Width → ℕ
 bytesIn Byte = 1
 bytesIn Half = 2
-bytesIn Single = 4
+bytesIn Word = 4
 bytesIn Double = 8
 
 -- a size of 1, 2, 4 or 8 bytes
-abbrev pub width_of : ℕ → Sized
+abbrev pub width_of : ℕ → Option Width
 width_of n =
-    pick (n == 1) (Bytes Byte)
-    (pick (n == 2) (Bytes Half) (pick (n == 4) (Bytes Single) (pick (n == 8) (Bytes Double) Refused)))
+    pick (n == 1) (Some Byte)
+    (pick (n == 2) (Some Half) (pick (n == 4) (Some Word) (pick (n == 8) (Some Double) None)))
 
 -- the value of n bytes from index at, the lowest first
 unfoldable pub littleEndian : List ℕ → ℕ → ℕ → ℕ
@@ -33,8 +31,8 @@ abbrev pub within : ℕ → ℕ → ℕ → ℕ → Bool
 within base len n pa = nat_le base pa && nat_le (pa + n) (base + len)
 
 -- the n bytes at an address, as a number
-unfoldable pub word_at : ℕ → List ℕ → ℕ → ℕ → Word
-word_at base ram n pa = pick (within base (length ram) n pa) (Value (littleEndian ram n (pa - base))) Outside
+unfoldable pub word_at : ℕ → List ℕ → ℕ → ℕ → Option ℕ
+word_at base ram n pa = pick (within base (length ram) n pa) (Some (littleEndian ram n (pa - base))) None
 
 -- the list with the n low bytes of a value from index at on
 abbrev pub written : List ℕ → ℕ → ℕ → ℕ → List ℕ

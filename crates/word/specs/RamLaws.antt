@@ -6,7 +6,7 @@ use Rattle.std.proofs.Math.ListN.{get_or-append}
 use Rattle.word.specs.Bits.{pick}
 use Rattle.word.specs.BitLaws.{both}
 use Rattle.word.specs.Ram.{littleEndian, bytes_of, within, word_at, written}
-use Rattle.word.specs.declared.ram.Word.TheVariants.{Value, Outside}
+use Rattle.std.specs.Prelude.{Some, None}
 
 -- an access inside the window begins in it and ends in it
 module _ (base len n pa : ℕ) (w : within base len n pa ≡ true) where
@@ -50,8 +50,8 @@ unfolding word_at
 word-agree base xs ys n pa e h = rw (← e) (go (nat_le base pa) (nat_le (pa + n) (base + length xs)) refl refl)
   where
     go : (a b : Bool) → nat_le base pa ≡ a → nat_le (pa + n) (base + length xs) ≡ b
-        → pick (a && b) (Value (littleEndian xs n (pa - base))) Outside ≡ pick (a && b) (Value (littleEndian ys n (pa - base))) Outside
-    go true true ea eb = ap Value (le-agree xs ys n (pa - base) (h (leb-true _ _ ea) (leb-true _ _ eb)))
+        → pick (a && b) (Some (littleEndian xs n (pa - base))) None ≡ pick (a && b) (Some (littleEndian ys n (pa - base))) None
+    go true true ea eb = ap Some (le-agree xs ys n (pa - base) (h (leb-true _ _ ea) (leb-true _ _ eb)))
     go true false ea eb = refl
     go false b ea eb = refl
 

@@ -1,13 +1,13 @@
 -- The core that 5,213 words hold. Every list of words holds one: of a word that is too large for its part, only some bits count.
+use Rattle.std.specs.Prelude.{None, Option, Some}
 use Rattle.std.specs.Prelude.{ℕ, ◌+◌, ◌*◌, ◌%◌, ◌^◌, List, [], ◌∷◌, ◌==◌, nat_lt, slice_index}
 use Rattle.word.specs.Bits.{bitOn, field, pick}
 use Rattle.sysreg.specs.Regs.{levels}
 use Rattle.sysreg.specs.declared.{regs.Control.Control, regs.SysRegs.SysRegs}
 use Rattle.exception.specs.declared.flags.Flags.{Flags}
 use Rattle.tlb.specs.declared.{access.Privilege.Privilege, count.Counts.Counts, count.Tally.Tally, entry.Entry.Entry}
-use Rattle.tlb.specs.declared.{entry.Current.Current, hint.Hint.Hint, hint.FetchHint.FetchHint, Pending.Pending}
+use Rattle.tlb.specs.declared.{entry.Current.Current, hint.Hint.Hint, hint.FetchHint.FetchHint, Inval.Inval}
 use Rattle.tlb.specs.declared.Inval.TheVariants.{All, Page, Asid}
-use Rattle.tlb.specs.declared.Pending.TheVariants.{Nothing, Some}
 use Rattle.mmu.specs.declared.core_state.Core.{Core}
 use Rattle.word.specs.Tables.{table}
 use Rattle.words.specs.Places.{SCTLR, TCR, TTBR0, TTBR1-EL1, MAIR, VBAR, ELR, SPSR, ESR, FAR, SCR-EL3, HCR-EL2, VPIDR-EL2, VMPIDR-EL2, PAR-EL1, PC, NZCV}
@@ -75,9 +75,9 @@ countsIn w =
     }
 
 -- words 75 and 76
-abbrev pub pendingOf : ℕ → ℕ → Pending
+abbrev pub pendingOf : ℕ → ℕ → Option Inval
 pendingOf what v =
-    pick (what == 1) (Some All) (pick (what == 2) (Some (Page v)) (pick (what == 3) (Some (Asid (v % 2 ^ 16))) Nothing))
+    pick (what == 1) (Some All) (pick (what == 2) (Some (Page v)) (pick (what == 3) (Some (Asid (v % 2 ^ 16))) None))
 
 -- words 79 and 80
 abbrev pub currentIn : (ℕ → ℕ) → Current

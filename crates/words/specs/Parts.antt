@@ -1,11 +1,12 @@
 -- The core with one part put anew.
+use Rattle.std.specs.Prelude.{Option}
 use Rattle.std.specs.Prelude.{ℕ, List}
 use Rattle.sysreg.specs.declared.{regs.Control.Control, regs.SysRegs.SysRegs}
 use Rattle.exception.specs.declared.flags.Flags.{Flags}
 use Rattle.tlb.specs.Cache.{hintless, renewed, entry_at, setEntry, setHint, setFetch}
 use Rattle.tlb.specs.Tlb.{tlbWith}
 use Rattle.tlb.specs.declared.{access.Privilege.Privilege, cache.Cache.Cache, count.Counts.Counts, entry.Entry.Entry}
-use Rattle.tlb.specs.declared.{entry.Current.Current, hint.Hint.Hint, hint.FetchHint.FetchHint, Pending.Pending}
+use Rattle.tlb.specs.declared.{entry.Current.Current, hint.Hint.Hint, hint.FetchHint.FetchHint, Inval.Inval}
 use Rattle.mmu.specs.Core.{afterAccess}
 use Rattle.mmu.specs.Ops.{withTlb}
 use Rattle.mmu.specs.declared.core_state.Core.{Core}
@@ -18,7 +19,7 @@ withCache c k = withTlb c (tlbWith c.tlb k c.tlb.counts)
 unfoldable pub withCounts : Core → Counts → Core
 withCounts c k = withTlb c (tlbWith c.tlb c.tlb.cache k)
 
-unfoldable pub withPending : Core → Pending → Core
+unfoldable pub withPending : Core → Option Inval → Core
 withPending c p = withTlb c (record { cache = c.tlb.cache; counts = c.tlb.counts; broadcast = p })
 
 unfoldable pub withHint : Core → ℕ → Hint → Core

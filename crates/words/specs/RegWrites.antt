@@ -1,5 +1,5 @@
 -- What the words hold after a system register is written, and what they say of one.
-use Rattle.std.specs.Prelude.{◌≡◌, ℕ, ◌+◌, true, false, List, [], ◌∷◌, length, slice_set, refl}
+use Rattle.std.specs.Prelude.{◌≡◌, ℕ, ◌+◌, List, [], ◌∷◌, length, slice_set, refl, Some, None}
 use Rattle.std.proofs.Common.{sym}
 use Rattle.sysreg.specs.Write.{kept, controlWith, sysWith}
 use Rattle.sysreg.specs.declared.{regs.El.El, regs.ControlReg.ControlReg, regs.SysReg.SysReg}
@@ -91,20 +91,20 @@ module _ (ws : List ℕ) (L : length ws ≡ WORDS) where
   sys-put Par k v u e q = rw (e, q) (sets-hold ws L ((32, kept Par v) ∷ []) refl)
 
   -- ELR, SPSR and ESR of a level, and FAR where there is an address
-  pub saved-put : (t : El) (i : ℕ) (r : Report) (spsr ret : ℕ) → i ≡ levelIndex t → r.valid ≡ false
+  pub saved-put : (t : El) (i : ℕ) (r : Report) (spsr ret : ℕ) → i ≡ levelIndex t → r.far ≡ None
       → NowHolds ws (slice_set (slice_set (slice_set ws (ELR + i) ret) (SPSR + i) spsr) (ESR + i) r.esr) (withSys (core_of ws) (enteredSys (core_of ws).sys t r spsr ret))
   unfolding core_of coreBy coreOn withSys enteredSys
   saved-put El1 i r spsr ret e h = rw e (holds_as (sets-hold ws L ((16, ret) ∷ (19, spsr) ∷ (22, r.esr) ∷ []) refl) (sym (rw h)))
   saved-put El2 i r spsr ret e h = rw e (holds_as (sets-hold ws L ((17, ret) ∷ (20, spsr) ∷ (23, r.esr) ∷ []) refl) (sym (rw h)))
   saved-put El3 i r spsr ret e h = rw e (holds_as (sets-hold ws L ((18, ret) ∷ (21, spsr) ∷ (24, r.esr) ∷ []) refl) (sym (rw h)))
 
-  pub saved-far-put : (t : El) (i : ℕ) (r : Report) (spsr ret : ℕ) → i ≡ levelIndex t → r.valid ≡ true
-      → NowHolds ws (slice_set (slice_set (slice_set (slice_set ws (ELR + i) ret) (SPSR + i) spsr) (ESR + i) r.esr) (FAR + i) r.far)
+  pub saved-far-put : (t : El) (i : ℕ) (r : Report) (far spsr ret : ℕ) → i ≡ levelIndex t → r.far ≡ Some far
+      → NowHolds ws (slice_set (slice_set (slice_set (slice_set ws (ELR + i) ret) (SPSR + i) spsr) (ESR + i) r.esr) (FAR + i) far)
       (withSys (core_of ws) (enteredSys (core_of ws).sys t r spsr ret))
   unfolding core_of coreBy coreOn withSys enteredSys
-  saved-far-put El1 i r spsr ret e h =
-      rw e (holds_as (sets-hold ws L ((16, ret) ∷ (19, spsr) ∷ (22, r.esr) ∷ (25, r.far) ∷ []) refl) (sym (rw h)))
-  saved-far-put El2 i r spsr ret e h =
-      rw e (holds_as (sets-hold ws L ((17, ret) ∷ (20, spsr) ∷ (23, r.esr) ∷ (26, r.far) ∷ []) refl) (sym (rw h)))
-  saved-far-put El3 i r spsr ret e h =
-      rw e (holds_as (sets-hold ws L ((18, ret) ∷ (21, spsr) ∷ (24, r.esr) ∷ (27, r.far) ∷ []) refl) (sym (rw h)))
+  saved-far-put El1 i r far spsr ret e h =
+      rw e (holds_as (sets-hold ws L ((16, ret) ∷ (19, spsr) ∷ (22, r.esr) ∷ (25, far) ∷ []) refl) (sym (rw h)))
+  saved-far-put El2 i r far spsr ret e h =
+      rw e (holds_as (sets-hold ws L ((17, ret) ∷ (20, spsr) ∷ (23, r.esr) ∷ (26, far) ∷ []) refl) (sym (rw h)))
+  saved-far-put El3 i r far spsr ret e h =
+      rw e (holds_as (sets-hold ws L ((18, ret) ∷ (21, spsr) ∷ (24, r.esr) ∷ (27, far) ∷ []) refl) (sym (rw h)))

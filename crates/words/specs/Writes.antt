@@ -1,4 +1,5 @@
 -- What the words hold after stores, and after each small part is written.
+use Rattle.std.specs.Prelude.{None, Option, Some}
 use Rattle.std.specs.Prelude.{◌≡◌, ℕ, zero, suc, ◌+◌, ◌*◌, ◌%◌, ◌^◌, ◌<◌, ◌≤◌, Bool, true, false, ◌&&◌, ◌||◌, List, [], ◌∷◌, length, set, ◌==◌, ◌≢◌, nat_le, nat_lt}
 use Rattle.std.proofs.Math.Path.{refl, ap}
 use Rattle.std.proofs.Common.{◌∙◌, arith, lt-ltb, ltb-true, leb-true, length-set}
@@ -10,9 +11,8 @@ use Rattle.mmu.specs.Core.{afterAccess}
 use Rattle.mmu.specs.declared.core_state.Core.{Core}
 use Rattle.exception.specs.Entry.{entryFlags}
 use Rattle.tlb.specs.Count.{hitTaken, walkTaken, levelPlace, tallyAt, withTally, hitCounted, walkCounted, flushCounted, dropCounted, epochCounted, more}
-use Rattle.tlb.specs.declared.{hint.FetchHint.FetchHint, Inval.Inval, Pending.Pending}
+use Rattle.tlb.specs.declared.{hint.FetchHint.FetchHint, Inval.Inval}
 use Rattle.tlb.specs.declared.Inval.TheVariants.{All, Page, Asid}
-use Rattle.tlb.specs.declared.Pending.TheVariants.{Nothing, Some}
 use Rattle.word.specs.Tables.{table}
 use Rattle.words.specs.CoreOf.{word, levelIn, hintIn, entryIn, coreOn, coreBy, core_of}
 use Rattle.words.specs.Parts.{withCache, withCounts, withPending, withFetchHint, withCurrent, with_last, withAbort, withPrivilege, with_flags, withPc}
@@ -227,7 +227,7 @@ module _ (ws : List ℕ) (L : length ws ≡ WORDS) where
       holds_as (sets-hold ((ASID, v) ∷ []) refl)
       (ap (λ (n : ℕ). withCurrent (core_of ws) (record { generation = (core_of ws).tlb.cache.current.generation; asid = n })) (mod-eq_of_lt h))
 
-  pub nothing_put : (p : Pending) → p ≡ Nothing → NowHolds ws (set (set ws PENDING 0) PENDING-VALUE 0) (withPending (core_of ws) p)
+  pub nothing_put : (p : Option Inval) → p ≡ None → NowHolds ws (set (set ws PENDING 0) PENDING-VALUE 0) (withPending (core_of ws) p)
   unfolding core_of coreBy coreOn withPending afterAccess
   nothing_put p e = rw e (sets-hold ((PENDING, 0) ∷ (PENDING-VALUE, 0) ∷ []) refl)
 
@@ -259,6 +259,6 @@ module _ (ws : List ℕ) (L : length ws ≡ WORDS) where
       (λ i. withFetchHint (core_of ws) (record { some = flag_is f.some i; page = f.page; level = mod-eq_of_lt h i; pa = f.pa })))
 
 -- what is pending, by what it is
-pub holds-some : (ws xs : List ℕ) (p : Pending) (what : Inval) → p ≡ Some what
+pub holds-some : (ws xs : List ℕ) (p : Option Inval) (what : Inval) → p ≡ Some what
     → NowHolds ws xs (withPending (core_of ws) (Some what)) → NowHolds ws xs (withPending (core_of ws) p)
 holds-some ws xs p what e m = rw e m

@@ -10,7 +10,6 @@ use crate::place;
 use crate::place::State;
 use crate::state::whole;
 use tlb::entry::Entry;
-use tlb::hint;
 use tlb::hint::{FetchHint, Hint};
 use word::bits;
 
@@ -25,7 +24,7 @@ pub fn hint_at(state: &State, i: usize) -> Hint
             pa: state[place::HINT_PA + i * 2],
         }
     } else {
-        hint::no_hint()
+        Hint::none()
     }
 }
 
@@ -88,7 +87,7 @@ pub fn entry_at(state: &State, j: usize) -> Entry
     if j < 1024 {
         entry_in(state, j)
     } else {
-        tlb::entry::blank()
+        Entry::blank()
     }
 }
 

@@ -9,14 +9,15 @@ ghost use Rattle.words.specs.NowHolds.{NowHolds};
 
 use crate::cells;
 use crate::place::State;
-use tlb::hint;
+use tlb::entry::Entry;
+use tlb::hint::{FetchHint, Hint};
 
 fn no_data_hints(state: &mut State)
     ensures { NowHolds state.old state.new (withDataHints (core_of state.old) noHints) }
 {
     let mut i: usize = 0;
     while i < 512 {
-        let h = hint::no_hint();
+        let h = Hint::none();
         cells::put_hint(state, i, h);
         i += 1;
     }
@@ -27,7 +28,7 @@ pub fn no_hints(state: &mut State)
     ensures { NowHolds state.old state.new (withoutHints (core_of state.old)) }
 {
     no_data_hints(state);
-    let f = hint::no_fetch();
+    let f = FetchHint::none();
     cells::put_fetch(state, f);
 }
 
@@ -38,7 +39,7 @@ pub fn no_entries(state: &mut State)
 {
     let mut j: usize = 0;
     while j < 1024 {
-        let e = tlb::entry::blank();
+        let e = Entry::blank();
         cells::put_entry(state, j, e);
         j += 1;
     }
@@ -51,9 +52,9 @@ pub fn drop_pages(state: &mut State, generation: u32, page: u64)
 {
     let mut j: usize = 0;
     while j < 1024 {
-        let e = cells::entry_at(state, j);
-        let d = tlb::entry::page_dropped(e, generation, page);
-        cells::put_tag(state, j, d.tag);
+        let mut e = cells::entry_at(state, j);
+        e.drop_page(generation, page);
+        cells::put_tag(state, j, e.tag);
         j += 1;
     }
 }
@@ -65,9 +66,9 @@ pub fn drop_asids(state: &mut State, asid: u16)
 {
     let mut j: usize = 0;
     while j < 1024 {
-        let e = cells::entry_at(state, j);
-        let d = tlb::entry::asid_dropped(e, asid);
-        cells::put_tag(state, j, d.tag);
+        let mut e = cells::entry_at(state, j);
+        e.drop_asid(asid);
+        cells::put_tag(state, j, e.tag);
         j += 1;
     }
 }

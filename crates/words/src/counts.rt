@@ -1,5 +1,5 @@
 // The counters, the generation and the ASID in force, and what is pending.
-ghost use Rattle.std.specs.Prelude.{◌≡◌};
+ghost use Rattle.std.specs.Prelude.{◌≡◌, Some};
 ghost use Rattle.tlb.specs.Count.{hitCounted, walkCounted, epochCounted, flushCounted, dropCounted};
 ghost use Rattle.words.specs.CoreOf.{core_of};
 ghost use Rattle.words.specs.Parts.{withCounts, withCurrent, withPending};
@@ -9,7 +9,7 @@ use crate::place;
 use crate::place::State;
 use crate::state::whole;
 use tlb::entry::Current;
-use tlb::{Inval, Pending, count};
+use tlb::{Inval, count};
 
 // A hit, a walk at a level.
 pub fn count_hit(state: &mut State, level: u8)
@@ -90,21 +90,21 @@ pub fn put_asid(state: &mut State, asid: u16)
 }
 
 #[tactic(auto, unfolding(crate::specs::CoreOf::core_of, crate::specs::CoreOf::coreBy, crate::specs::CoreOf::coreOn))]
-pub fn pending_at(state: &State) -> Pending
+pub fn pending_at(state: &State) -> Option<Inval>
     ensures { result ≡ (core_of state.now).tlb.broadcast }
 {
     let value = state[place::PENDING_VALUE];
     match state[place::PENDING] {
-        1 => Pending::Some(Inval::All),
-        2 => Pending::Some(Inval::Page(value)),
-        3 => Pending::Some(Inval::Asid((value % 0x1_0000) as u16)),
-        _ => Pending::Nothing,
+        1 => Some(Inval::All),
+        2 => Some(Inval::Page(value)),
+        3 => Some(Inval::Asid((value % 0x1_0000) as u16)),
+        _ => None,
     }
 }
 
 fn put_inval(state: &mut State, what: Inval)
     ensures { NowHolds state.old state.new (withPending (core_of state.old)
-        (Pending.Some what)) }
+        (Some what)) }
 {
     whole(state);
     match what {
@@ -123,15 +123,15 @@ fn put_inval(state: &mut State, what: Inval)
     }
 }
 
-pub fn put_pending(state: &mut State, pending: Pending)
+pub fn put_pending(state: &mut State, pending: Option<Inval>)
     ensures { NowHolds state.old state.new (withPending (core_of state.old) pending) }
 {
     whole(state);
     match pending {
-        Pending::Nothing => {
+        None => {
             state[place::PENDING] = 0;
             state[place::PENDING_VALUE] = 0;
         }
-        Pending::Some(what) => put_inval(state, what),
+        Some(what) => put_inval(state, what),
     }
 }

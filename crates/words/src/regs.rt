@@ -15,7 +15,6 @@ use crate::place::State;
 use crate::state::whole;
 use exception::report::Report;
 use sysreg::regs::{Control, ControlReg, El, SysReg};
-use sysreg::write;
 use walk::regime::{Bank, Regime};
 
 fn bank_index(regime: Regime) -> usize
@@ -171,7 +170,7 @@ pub fn put_sys(state: &mut State, register: SysReg, value: u64)
 {
     whole(state);
     let k = sys_place(register);
-    let kept = write::kept_bits(register, value);
+    let kept = register.kept_bits(value);
     state[k] = kept;
 }
 
@@ -186,7 +185,7 @@ pub fn put_saved(state: &mut State, target: El, report: Report, spsr: u64, ret: 
     state[place::ELR + t] = ret;
     state[place::SPSR + t] = spsr;
     state[place::ESR + t] = report.esr;
-    if report.valid {
-        state[place::FAR + t] = report.far;
+    if let Some(far) = report.far {
+        state[place::FAR + t] = far;
     }
 }

@@ -18,7 +18,8 @@ use Rattle.history.specs.Instance.{windowOf, real}
 use Rattle.transparency.specs.Machine.{machine}
 use Rattle.transparency.specs.Beside.{coreAfter, bareAfter}
 use Rattle.transparency.specs.Replies.{bareReply}
-use Rattle.transparency.specs.Census.{bareCounts, census-after, census-reply}
+use Rattle.transparency.specs.Census.{bareCounts}
+use Rattle.transparency.proofs.Census.{census-after, census-reply}
 use Rattle.words.specs.CoreOf.{core_of}
 use Rattle.call_words.specs.Replies.{codeBy}
 use Rattle.words_census.specs.Promise.{CensusPromise}

@@ -8,9 +8,9 @@ ghost use Rattle.words_census.specs.Promise.{CensusPromise};
 
 use census::count;
 use operations::check;
-use walk::regime;
 use words::place::State;
 use words::{regs, state};
+use walk::regime::Regime;
 
 // The number of the first check that a census misses, or 0.
 pub fn missed(state: &State, base: u64, len: u64, first: u64, pages: u64) -> u8
@@ -38,7 +38,7 @@ pub fn census(
         return n as u64;
     }
     let privilege = state::privilege_at(state);
-    let regime = regime::regime_of(privilege.level);
+    let regime = Regime::of_level(privilege.level);
     let s = regs::bank_at(state, regime);
     count::count(s, regime, first, pages, base, ram, counts);
     0

@@ -1,8 +1,7 @@
 -- Loads and stores in place put together from their parts, on plain values, for `search`.
-use Rattle.std.specs.Prelude.{Bool, true, false, List, ℕ}
+use Rattle.std.specs.Prelude.{Bool, true, false, List, ℕ, Option}
 use Rattle.std.proofs.Common.{◌≡◌, refl, ap, ◌∙◌}
 use Rattle.word.specs.Ram.{word_at}
-use Rattle.word.specs.declared.ram.Word.{Word}
 use Rattle.walk.specs.Regime.{regimeOf, stage1On}
 use Rattle.tlb.specs.declared.{access.Kind.Kind}
 use Rattle.tlb.specs.declared.access.Kind.TheVariants.{Read, Write}
@@ -11,7 +10,8 @@ use Rattle.operations.specs.Place.{nextPage, crosses, goesOn, placedOne, placedB
 use Rattle.mmu.specs.Step.{locatedOf}
 use Rattle.operations.specs.Ends.{loadEnd, storeEnd, storeRamEnd}
 use Rattle.mmu.specs.Ops.{steppedNow, locatedNow, translateOf, translateAccessOf, read_of, writeOf, ramAfterWrite}
-use Rattle.mmu.specs.declared.{core_state.Core.Core, ops.Accessed.Accessed}
+use Rattle.mmu.specs.declared.core_state.Core.{Core}
+use Rattle.mmu.specs.Results.{Accessed}
 use Rattle.operations.specs.declared.{place.Placed.Placed, ends.LoadEnd.LoadEnd, ends.StoreEnd.StoreEnd}
 use Rattle.operations.specs.declared.{ends.LoadAnswer.LoadAnswer, ends.StoreAnswer.StoreAnswer}
 use Rattle.words.specs.CoreOf.{core_of}
@@ -21,7 +21,7 @@ use Rattle.words_memory.specs.Accessed.{loadEndOf, storeEndOf, keptLast, keptAbo
 
 -- THE TRANSLATIONS of an access, by whether it goes on to a second page
 
-module _ (c : Core) (memory : ℕ → Word) (va n : ℕ) (kind : Kind) where
+module _ (c : Core) (memory : ℕ → Option ℕ) (va n : ℕ) (kind : Kind) where
   abbrev test : Bool
   test = goesOn (translateOf c memory va kind).answer (crosses (stage1On (bankNow c) (regimeOf c.privilege.level)) va n)
 

@@ -1,13 +1,12 @@
 -- The cells of a page taken out of words, and a change stored there, on plain values, for `search`.
-use Rattle.std.specs.Prelude.{Bool, true, false, List, ℕ, zero, suc, ◌%◌}
+use Rattle.std.specs.Prelude.{Bool, true, false, List, ℕ, zero, suc, ◌%◌, Option}
 use Rattle.std.proofs.Common.{◌≡◌, refl, sym, ap, ◌∙◌}
 use Rattle.std.proofs.lemmas.List.{set-get_or}
-use Rattle.word.specs.declared.ram.Word.{Word}
 use Rattle.tlb.specs.Cache.{entry_at}
 use Rattle.tlb.specs.Count.{hitCounted, walkCounted}
 use Rattle.tlb.specs.Hint.{noHint}
 use Rattle.tlb.specs.declared.{access.Kind.Kind, access.Privilege.Privilege, cache.Cache.Cache, count.Counts.Counts}
-use Rattle.tlb.specs.declared.{entry.Entry.Entry, hint.FetchHint.FetchHint, hint.Hint.Hint}
+use Rattle.tlb.specs.declared.{entry.Entry.Entry, hint.Hint.Hint}
 use Rattle.operations.specs.Change.{countedAs, keptAs}
 use Rattle.operations.specs.Loads.{bothOf}
 use Rattle.operations.specs.Place.{nextPage}
@@ -19,9 +18,9 @@ use Rattle.mmu.specs.Parts.{pageIn, commitIn}
 use Rattle.mmu.specs.declared.core_state.Core.{Core}
 use Rattle.words.specs.CoreOf.{core_of}
 use Rattle.words.specs.NowHolds.{NowHolds, stays, holds_as, holds_on}
-use Rattle.words.specs.Parts.{withCache, withCounts, withEntry, withHint, withFetchHint}
+use Rattle.words.specs.Parts.{withCache, withCounts, withEntry, withHint}
 use Rattle.words.specs.Sweeps.{hints-long, entries-long}
-use Rattle.words_memory.specs.Changed.{effected, hintedIf, fetchedIf}
+use Rattle.words_memory.specs.Changed.{effected, hintedIf}
 use Rattle.words_memory.specs.FoundLaws.{entry-back, unchanged}
 
 -- the counter and the entry, by an effect
@@ -88,32 +87,19 @@ module _ (ws : List ℕ) (some : Bool) where
       hinted : List Hint → Core
       hinted hs = withCache (core_of ws) (cached hs)
 
-  pub fetch-stored : (xs : List ℕ) (f : FetchHint) → some ≡ true → NowHolds ws xs (withFetchHint (core_of ws) f) → NowHolds ws xs (fetchedIf (core_of ws) some f)
-  unfolding fetchedIf
-  fetch-stored xs f e m = rw e m
-
-  pub fetch-left : (f : FetchHint) → some ≡ false → NowHolds ws ws (fetchedIf (core_of ws) some f)
-  unfolding fetchedIf withFetchHint withCache afterAccess
-  fetch-left f e = holds_as stays (rw e refl)
-
 -- a whole change
 commit-is : (c : Core) (t : Change)
-    → fetchedIf (hintedIf (effected c c.privilege.level (t.entry_at % 1024) t.effect t.made) (t.hint_at % 512) t.hints t.hint)
-    t.fetches t.fetch
-    ≡ commitIn c t
-unfolding effected hintedIf fetchedIf withEntry withCounts withHint withFetchHint withCache afterAccess
+    → hintedIf (effected c c.privilege.level (t.entry_at % 1024) t.effect t.made) (t.hint_at % 512) t.hints t.hint ≡ commitIn c t
+unfolding effected hintedIf withEntry withCounts withHint withCache afterAccess
 commit-is c t = refl
 
-pub commits-all : (ws xs ys zs : List ℕ) (t : Change) (p : Privilege) → p ≡ (core_of ws).privilege
+pub commits-all : (ws xs ys : List ℕ) (t : Change) (p : Privilege) → p ≡ (core_of ws).privilege
     → NowHolds ws xs (effected (core_of ws) p.level (t.entry_at % 1024) t.effect t.made)
-    → NowHolds xs ys (hintedIf (core_of xs) (t.hint_at % 512) t.hints t.hint) → NowHolds ys zs (fetchedIf (core_of ys) t.fetches t.fetch)
-    → NowHolds ws zs (commitIn (core_of ws) t)
-commits-all ws xs ys zs t p e m n o =
-    holds_on (λ d. fetchedIf d t.fetches t.fetch)
-    (holds_on (λ d. hintedIf d (t.hint_at % 512) t.hints t.hint) (rw e at m) n refl) o (commit-is (core_of ws) t)
+    → NowHolds xs ys (hintedIf (core_of xs) (t.hint_at % 512) t.hints t.hint) → NowHolds ws ys (commitIn (core_of ws) t)
+commits-all ws xs ys t p e m n = holds_on (λ d. hintedIf d (t.hint_at % 512) t.hints t.hint) (rw e at m) n (commit-is (core_of ws) t)
 
 -- TWO PAGES
-module _ (ws : List ℕ) (memory : ℕ → Word) (va n : ℕ) (kind : Kind) (x y : Page) (next : ℕ) (b : Both)
+module _ (ws : List ℕ) (memory : ℕ → Option ℕ) (va n : ℕ) (kind : Kind) (x y : Page) (next : ℕ) (b : Both)
     (ex : x ≡ pageIn (core_of ws) va kind) (en : next ≡ nextPage va)
     (ey : y ≡ pageIn (core_of ws) next kind) (eb : b ≡ bothOf x y va n kind memory) where
   abbrev work : Both

@@ -1,10 +1,10 @@
 -- The cell, the hint and the whole translation in place, on plain values, for `search`.
+use Rattle.std.specs.Prelude.{Some, Option, None}
 use Rattle.std.specs.Prelude.{Bool, true, false, ◌&&◌, List, ℕ}
 use Rattle.std.proofs.Common.{◌≡◌, refl, sym, ap, ◌∙◌}
 use Rattle.std.proofs.Common.{arith}
 use Rattle.std.proofs.Math.Dec.{eqb}
 use Rattle.word.specs.Ram.{word_at}
-use Rattle.word.specs.declared.ram.Word.{Word}
 use Rattle.walk.specs.Regime.{bankOf, regimeOf}
 use Rattle.walk.specs.Tag.{untagged}
 use Rattle.walk.specs.Walk.{walk_of}
@@ -18,16 +18,16 @@ use Rattle.tlb.specs.Resolve.{queryOf, askOf, byEntry, byWalk, resolveWith, reso
 use Rattle.tlb.specs.Translate.{untaggedNow, missOf, changes-are, asked-query}
 use Rattle.tlb.specs.declared.{access.Kind.Kind, access.Privilege.Privilege, access.Answer.Answer, entry.Entry.Entry}
 use Rattle.tlb.specs.declared.{entry.Current.Current, hint.Hint.Hint, hint.FetchHint.FetchHint}
-use Rattle.tlb.specs.declared.{hint.HintAnswer.HintAnswer, resolve.Query.Query, resolve.Asked.Asked}
+use Rattle.tlb.specs.declared.{resolve.Query.Query, resolve.Asked.Asked}
 use Rattle.tlb.specs.declared.resolve.Resolved.{Resolved}
 use Rattle.tlb.specs.declared.access.Kind.TheVariants.{Fetch}
 use Rattle.tlb.specs.declared.access.Answer.TheVariants.{Address, Status}
-use Rattle.tlb.specs.declared.hint.HintAnswer.TheVariants.{At, Unknown}
 use Rattle.tlb.specs.declared.resolve.Asked.TheVariants.{Flat, Of}
 use Rattle.mmu.specs.Core.{afterAccess, bankNow}
 use Rattle.mmu.specs.Step.{slot_at}
 use Rattle.mmu.specs.Ops.{withTlb, fetchSteppedNow, translateOf}
-use Rattle.mmu.specs.declared.{core_state.Core.Core, ops.Translated.Translated}
+use Rattle.mmu.specs.declared.core_state.Core.{Core}
+use Rattle.mmu.specs.Results.{Translated}
 use Rattle.words.specs.CoreOf.{core_of}
 use Rattle.words.specs.Parts.{withCache, withCounts, withEntry, withHint, withFetchHint}
 use Rattle.words.specs.NowHolds.{NowHolds, stays, holds_as, holds_on}
@@ -38,7 +38,7 @@ use Rattle.words_memory.specs.FoundLaws.{unchanged, hint-serves, hint-misses}
 use Rattle.words_memory.specs.FetchLaws.{fetchTo, fetch-serves, fetch-misses}
 
 -- by the entry where it serves, else by a walk
-module _ (q : Query) (s : Bank) (privilege : Privilege) (at : Current) (e : Entry) (va : ℕ) (kind : Kind) (memory : ℕ → Word) where
+module _ (q : Query) (s : Bank) (privilege : Privilege) (at : Current) (e : Entry) (va : ℕ) (kind : Kind) (memory : ℕ → Option ℕ) where
   resolved-hit : serves e at q.tag ≡ true → resolveOf q s privilege at e va kind memory ≡ byEntry q privilege e va kind
   unfolding resolveOf resolveWith
   resolved-hit h = rw h
@@ -116,7 +116,7 @@ module _ (ws : List ℕ) (base : ℕ) (ram : List ℕ) (va : ℕ) (kind : Kind) 
   abbrev c : Core
   c = core_of ws
 
-  abbrev memory : ℕ → Word
+  abbrev memory : ℕ → Option ℕ
   memory = word_at base ram 8
 
   abbrev found : Translated
@@ -223,41 +223,41 @@ module _ (ws : List ℕ) (va : ℕ) (kind : Kind) (privilege : Privilege) (b : B
   hint-test =
       sym ((λ n. eb n && eqb (hint-is n).key (ek n)) ∙ ap (λ (x : Privilege). mayHint x kind && eqb own-hint.key (hintKey va x.level)) ew)
 
-  pub hint-at : (pa : ℕ) → b && eqb h.key key ≡ true → pa ≡ onPage h.pa va → At pa ≡ hintFound (core_of ws) va kind
+  pub hint-at : (pa : ℕ) → b && eqb h.key key ≡ true → pa ≡ onPage h.pa va → Some pa ≡ hintFound (core_of ws) va kind
   unfolding hintFound
-  hint-at pa t e = ap At (e ∙ ap (λ (x : Hint). onPage x.pa va) hint-is) ∙ sym (rw (hint-test, t))
+  hint-at pa t e = ap Some (e ∙ ap (λ (x : Hint). onPage x.pa va) hint-is) ∙ sym (rw (hint-test, t))
 
-  pub hint-none : b && eqb h.key key ≡ false → Unknown ≡ hintFound (core_of ws) va kind
+  pub hint-none : b && eqb h.key key ≡ false → None ≡ hintFound (core_of ws) va kind
   unfolding hintFound
   hint-none f = sym (rw (hint-test, f))
 
 -- the whole translation
-module _ (ws : List ℕ) (memory : ℕ → Word) (va : ℕ) (kind : Kind) (p : HintAnswer) (ep : p ≡ hintFound (core_of ws) va kind) where
-  pub by-hint-answer : (pa : ℕ) → p ≡ At pa → Address pa ≡ (translateOf (core_of ws) memory va kind).answer
+module _ (ws : List ℕ) (memory : ℕ → Option ℕ) (va : ℕ) (kind : Kind) (p : Option ℕ) (ep : p ≡ hintFound (core_of ws) va kind) where
+  pub by-hint-answer : (pa : ℕ) → p ≡ Some pa → Address pa ≡ (translateOf (core_of ws) memory va kind).answer
   by-hint-answer pa e = sym (ap (λ (x : Translated). x.answer) (hint-serves (core_of ws) memory va kind pa (sym ep ∙ e)))
 
-  pub by-hint-core : (pa : ℕ) → p ≡ At pa → NowHolds ws ws (translateOf (core_of ws) memory va kind).core
+  pub by-hint-core : (pa : ℕ) → p ≡ Some pa → NowHolds ws ws (translateOf (core_of ws) memory va kind).core
   by-hint-core pa e = holds_as stays (sym (ap (λ (x : Translated). x.core) (hint-serves (core_of ws) memory va kind pa (sym ep ∙ e))))
 
-  pub by-find-answer : (a : Answer) → p ≡ Unknown → a ≡ (foundTo (core_of ws) memory va kind).answer → a ≡ (translateOf (core_of ws) memory va kind).answer
+  pub by-find-answer : (a : Answer) → p ≡ None → a ≡ (foundTo (core_of ws) memory va kind).answer → a ≡ (translateOf (core_of ws) memory va kind).answer
   by-find-answer a e q = q ∙ sym (ap (λ (x : Translated). x.answer) (hint-misses (core_of ws) memory va kind (sym ep ∙ e)))
 
-  pub by-find-core : (xs : List ℕ) → p ≡ Unknown → NowHolds ws xs (foundTo (core_of ws) memory va kind).core
+  pub by-find-core : (xs : List ℕ) → p ≡ None → NowHolds ws xs (foundTo (core_of ws) memory va kind).core
       → NowHolds ws xs (translateOf (core_of ws) memory va kind).core
   by-find-core xs e m = holds_as m (sym (ap (λ (x : Translated). x.core) (hint-misses (core_of ws) memory va kind (sym ep ∙ e))))
 
   -- by number
-  pub by-hint-code : (pa : ℕ) → p ≡ At pa → 0 ≡ code_of (translateOf (core_of ws) memory va kind).answer
+  pub by-hint-code : (pa : ℕ) → p ≡ Some pa → 0 ≡ code_of (translateOf (core_of ws) memory va kind).answer
   by-hint-code pa e = ap code_of (by-hint-answer pa e)
 
-  pub by-hint-value : (pa old : ℕ) → p ≡ At pa → pa ≡ value_of (translateOf (core_of ws) memory va kind).answer old
+  pub by-hint-value : (pa old : ℕ) → p ≡ Some pa → pa ≡ value_of (translateOf (core_of ws) memory va kind).answer old
   by-hint-value pa old e = ap (λ (a : Answer). value_of a old) (by-hint-answer pa e)
 
-  pub by-find-code : (n : ℕ) → p ≡ Unknown → n ≡ code_of (foundTo (core_of ws) memory va kind).answer → n
+  pub by-find-code : (n : ℕ) → p ≡ None → n ≡ code_of (foundTo (core_of ws) memory va kind).answer → n
       ≡ code_of (translateOf (core_of ws) memory va kind).answer
   by-find-code n e q = q ∙ ap code_of (by-find-answer _ e refl)
 
-  pub by-find-value : (v old : ℕ) → p ≡ Unknown → v ≡ value_of (foundTo (core_of ws) memory va kind).answer old → v
+  pub by-find-value : (v old : ℕ) → p ≡ None → v ≡ value_of (foundTo (core_of ws) memory va kind).answer old → v
       ≡ value_of (translateOf (core_of ws) memory va kind).answer old
   by-find-value v old e q = q ∙ ap (λ (a : Answer). value_of a old) (by-find-answer _ e refl)
 
@@ -267,7 +267,7 @@ code_at (Address x) code pa old e z q = ap Address (sym q)
 code_at (Status fsc) code pa old e z q = absurd (omega (arith, e, z))
 
 -- a translation leaves the level as it is
-found-privilege : (c : Core) (memory : ℕ → Word) (va : ℕ) (kind : Kind) → (foundTo c memory va kind).core.privilege ≡ c.privilege
+found-privilege : (c : Core) (memory : ℕ → Option ℕ) (va : ℕ) (kind : Kind) → (foundTo c memory va kind).core.privilege ≡ c.privilege
 unfolding foundTo sourced withHintFor withHint withEntry withCounts withCache afterAccess
 found-privilege c memory va kind = by c-made.answer (mayHint c.privilege kind) refl
   where
@@ -282,7 +282,7 @@ found-privilege c memory va kind = by c-made.answer (mayHint c.privilege kind) r
     by (Status fsc) b e = refl
 
 -- a fetch's page
-module _ (ws : List ℕ) (memory : ℕ → Word) (va code : ℕ) (ec : code ≡ code_of (foundTo (core_of ws) memory va Fetch).answer) where
+module _ (ws : List ℕ) (memory : ℕ → Option ℕ) (va code : ℕ) (ec : code ≡ code_of (foundTo (core_of ws) memory va Fetch).answer) where
   abbrev its-page : Translated
   its-page = foundTo (core_of ws) memory va Fetch
 
@@ -297,29 +297,29 @@ module _ (ws : List ℕ) (memory : ℕ → Word) (va code : ℕ) (ec : code ≡ 
       ∙ ap (pagedBy (core_of ws).privilege.level va its-page.core) (sym (code_at its-page.answer code pa old ec z ep)))
 
 -- the fetch hint
-pub fetch-hint : (ws : List ℕ) (va : ℕ) (privilege : Privilege) (f : FetchHint) (p : HintAnswer) → privilege ≡ (core_of ws).privilege → f
+pub fetch-hint : (ws : List ℕ) (va : ℕ) (privilege : Privilege) (f : FetchHint) (p : Option ℕ) → privilege ≡ (core_of ws).privilege → f
     ≡ (core_of ws).tlb.cache.fetch → p ≡ fetchFound f privilege.level va
     → p ≡ fetchHint (core_of ws) va
 unfolding fetchHint
 fetch-hint ws va privilege f p ew ef ep = ep ∙ λ i. fetchFound (ef i) (ew i).level va
 
 -- the translation that a fetch begins with
-module _ (ws : List ℕ) (base : ℕ) (ram : List ℕ) (va : ℕ) (p : HintAnswer) (ep : p ≡ fetchHint (core_of ws) va) where
+module _ (ws : List ℕ) (base : ℕ) (ram : List ℕ) (va : ℕ) (p : Option ℕ) (ep : p ≡ fetchHint (core_of ws) va) where
   abbrev fetched : Translated
   fetched = answering (withTlb (core_of ws) (fetchSteppedNow (core_of ws) (word_at base ram 8) va).tlb)
       (fetchSteppedNow (core_of ws) (word_at base ram 8) va).answer
 
-  serves-it : (pa : ℕ) → p ≡ At pa → fetched ≡ answering (core_of ws) (Address pa)
+  serves-it : (pa : ℕ) → p ≡ Some pa → fetched ≡ answering (core_of ws) (Address pa)
   unfolding fetchTo fetchHint
   serves-it pa e = fetch-serves (core_of ws) (word_at base ram 8) va pa (sym ep ∙ e)
 
-  pub fetch-hint-code : (pa : ℕ) → p ≡ At pa → 0 ≡ code_of (fetchSteppedNow (core_of ws) (word_at base ram 8) va).answer
+  pub fetch-hint-code : (pa : ℕ) → p ≡ Some pa → 0 ≡ code_of (fetchSteppedNow (core_of ws) (word_at base ram 8) va).answer
   fetch-hint-code pa e = sym (ap (λ (x : Translated). code_of x.answer) (serves-it pa e))
 
-  pub fetch-hint-value : (pa old : ℕ) → p ≡ At pa → pa ≡ value_of (fetchSteppedNow (core_of ws) (word_at base ram 8) va).answer old
+  pub fetch-hint-value : (pa old : ℕ) → p ≡ Some pa → pa ≡ value_of (fetchSteppedNow (core_of ws) (word_at base ram 8) va).answer old
   fetch-hint-value pa old e = sym (ap (λ (x : Translated). value_of x.answer old) (serves-it pa e))
 
-  pub fetch-hint-core : (pa : ℕ) → p ≡ At pa → NowHolds ws ws (withTlb (core_of ws) (fetchSteppedNow (core_of ws) (word_at base ram 8) va).tlb)
+  pub fetch-hint-core : (pa : ℕ) → p ≡ Some pa → NowHolds ws ws (withTlb (core_of ws) (fetchSteppedNow (core_of ws) (word_at base ram 8) va).tlb)
   fetch-hint-core pa e = holds_as stays (sym (ap (λ (x : Translated). x.core) (serves-it pa e)))
 
   -- RAM is lent on as a part
@@ -327,7 +327,7 @@ module _ (ws : List ℕ) (base : ℕ) (ram : List ℕ) (va : ℕ) (p : HintAnswe
     abbrev found-page : Translated
     found-page = foundTo (core_of ws) (word_at base part 8) va Fetch
 
-    misses-it : p ≡ Unknown → fetched ≡ answering (pagedTo (core_of ws).privilege.level va found-page) found-page.answer
+    misses-it : p ≡ None → fetched ≡ answering (pagedTo (core_of ws).privilege.level va found-page) found-page.answer
     unfolding fetchTo fetchHint
     misses-it e =
         fetch-misses (core_of ws) (word_at base ram 8) va (sym ep ∙ e)
@@ -336,13 +336,13 @@ module _ (ws : List ℕ) (base : ℕ) (ram : List ℕ) (va : ℕ) (p : HintAnswe
         paged-answer : Translated → Translated
         paged-answer t = answering (pagedTo (core_of ws).privilege.level va t) t.answer
 
-    pub fetch-page-code : (n : ℕ) → p ≡ Unknown → n ≡ code_of found-page.answer → n ≡ code_of (fetchSteppedNow (core_of ws) (word_at base ram 8) va).answer
+    pub fetch-page-code : (n : ℕ) → p ≡ None → n ≡ code_of found-page.answer → n ≡ code_of (fetchSteppedNow (core_of ws) (word_at base ram 8) va).answer
     fetch-page-code n e q = q ∙ sym (ap (λ (x : Translated). code_of x.answer) (misses-it e))
 
-    pub fetch-page-value : (v old : ℕ) → p ≡ Unknown → v ≡ value_of found-page.answer old
+    pub fetch-page-value : (v old : ℕ) → p ≡ None → v ≡ value_of found-page.answer old
         → v ≡ value_of (fetchSteppedNow (core_of ws) (word_at base ram 8) va).answer old
     fetch-page-value v old e q = q ∙ sym (ap (λ (x : Translated). value_of x.answer old) (misses-it e))
 
-    pub fetch-page-core : (xs : List ℕ) → p ≡ Unknown → NowHolds ws xs (pagedTo (core_of ws).privilege.level va found-page)
+    pub fetch-page-core : (xs : List ℕ) → p ≡ None → NowHolds ws xs (pagedTo (core_of ws).privilege.level va found-page)
         → NowHolds ws xs (withTlb (core_of ws) (fetchSteppedNow (core_of ws) (word_at base ram 8) va).tlb)
     fetch-page-core xs e m = holds_as m (sym (ap (λ (x : Translated). x.core) (misses-it e)))

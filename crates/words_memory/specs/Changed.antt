@@ -2,10 +2,10 @@
 use Rattle.std.specs.Prelude.{Bool, ℕ}
 use Rattle.word.specs.Bits.{pick}
 use Rattle.tlb.specs.Cache.{entry_at, hintAt}
-use Rattle.tlb.specs.declared.{entry.Entry.Entry, hint.FetchHint.FetchHint, hint.Hint.Hint}
+use Rattle.tlb.specs.declared.{entry.Entry.Entry, hint.Hint.Hint}
 use Rattle.operations.specs.Change.{countedAs, keptAs}
 use Rattle.mmu.specs.declared.core_state.Core.{Core}
-use Rattle.words.specs.Parts.{withCounts, withEntry, withHint, withFetchHint}
+use Rattle.words.specs.Parts.{withCounts, withEntry, withHint}
 
 unfoldable pub effected : Core → ℕ → ℕ → ℕ → Entry → Core
 effected c level slot effect made =
@@ -14,6 +14,3 @@ effected c level slot effect made =
 
 unfoldable pub hintedIf : Core → ℕ → Bool → Hint → Core
 hintedIf c i some h = withHint c i (pick some h (hintAt c.tlb.cache i))
-
-unfoldable pub fetchedIf : Core → Bool → FetchHint → Core
-fetchedIf c some f = withFetchHint c (pick some f c.tlb.cache.fetch)

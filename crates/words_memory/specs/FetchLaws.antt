@@ -1,8 +1,8 @@
 -- The translation that a fetch begins with, in place, is the core's.
+use Rattle.std.specs.Prelude.{Some, None, Option}
 use Rattle.std.specs.Prelude.{◌≡◌, ℕ}
 use Rattle.std.proofs.Math.Path.{refl}
 use Rattle.std.proofs.Common.{◌∙◌}
-use Rattle.word.specs.declared.ram.Word.{Word}
 use Rattle.fault.specs.First.{first}
 use Rattle.walk.specs.Regime.{regimeOf}
 use Rattle.tlb.specs.Hint.{fetchFound}
@@ -13,16 +13,16 @@ use Rattle.tlb.specs.Translate.{onNow, untaggedNow, walkNow, missWith, missOf, f
 use Rattle.tlb.specs.declared.access.Kind.TheVariants.{Fetch}
 use Rattle.tlb.specs.declared.{access.Answer.Answer, count.Counts.Counts, entry.Entry.Entry, resolve.Resolved.Resolved}
 use Rattle.tlb.specs.declared.access.Answer.TheVariants.{Address, Status}
-use Rattle.tlb.specs.declared.hint.HintAnswer.TheVariants.{At, Unknown}
 use Rattle.mmu.specs.Core.{afterAccess, bankNow}
 use Rattle.mmu.specs.Ops.{withTlb, fetchSteppedNow}
 use Rattle.mmu.specs.Step.{slot_at, translateFetchIn}
-use Rattle.mmu.specs.declared.{core_state.Core.Core, ops.Translated.Translated}
+use Rattle.mmu.specs.declared.core_state.Core.{Core}
+use Rattle.mmu.specs.Results.{Translated}
 use Rattle.words.specs.Parts.{withCache, withCounts, withEntry, withFetchHint}
 use Rattle.words_memory.specs.Found.{answering, withHintFor, answerPut, sourced, foundTo, pagedBy}
 use Rattle.words_memory.specs.FoundLaws.{unchanged}
 
-module _ (c : Core) (memory : ℕ → Word) (va : ℕ) where
+module _ (c : Core) (memory : ℕ → Option ℕ) (va : ℕ) where
   abbrev level : ℕ
   level = c.privilege.level
 
@@ -44,7 +44,7 @@ module _ (c : Core) (memory : ℕ → Word) (va : ℕ) where
   fetch-back e k (Address pa) = refl
   fetch-back e k (Status f) = refl
 
-  pub fetch-serves : (pa : ℕ) → fetchFound c.tlb.cache.fetch level va ≡ At pa → fetchTo ≡ answering c (Address pa)
+  pub fetch-serves : (pa : ℕ) → fetchFound c.tlb.cache.fetch level va ≡ Some pa → fetchTo ≡ answering c (Address pa)
   unfolding fetchTo fetchSteppedNow translateFetchIn fetchWith fetchEnd
   fetch-serves pa h =
       rw h (λ i. answering ((kept_back ∙ unchanged c slot) i) (Address pa))
@@ -58,7 +58,7 @@ module _ (c : Core) (memory : ℕ → Word) (va : ℕ) where
       missWith (onNow (bankNow c) level va) (untaggedNow (bankNow c) level va) (walkNow (bankNow c) level va memory) (regimeOf level) c.privilege
       c.tlb.cache.current entry va Fetch
 
-  pub fetch-misses : fetchFound c.tlb.cache.fetch level va ≡ Unknown
+  pub fetch-misses : fetchFound c.tlb.cache.fetch level va ≡ None
       → fetchTo ≡ answering (pagedBy level va (foundTo c memory va Fetch).core (foundTo c memory va Fetch).answer) (foundTo c memory va Fetch).answer
   unfolding fetchTo fetchSteppedNow translateFetchIn fetchWith fetchEnd fetchApplied missOf foundTo sourced
   fetch-misses h =

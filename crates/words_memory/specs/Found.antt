@@ -1,8 +1,8 @@
 -- One translation on the core as it is made in place: the hint first; else its changes, and the core with them stored.
+use Rattle.std.specs.Prelude.{Some, Option, None}
 use Rattle.std.specs.Prelude.{Bool, ◌&&◌, List, ℕ, ◌+◌, eqb}
 use Rattle.word.specs.Bits.{pick}
 use Rattle.word.specs.Ram.{word_at}
-use Rattle.word.specs.declared.ram.Word.{Word}
 use Rattle.walk.specs.Regime.{regimeOf}
 use Rattle.tlb.specs.Access.{mayHint}
 use Rattle.tlb.specs.Entry.{slot_of, serves}
@@ -11,13 +11,13 @@ use Rattle.tlb.specs.Cache.{entry_at, hintAt}
 use Rattle.tlb.specs.Resolve.{queryOf, byEntry, byWalk, countedBy, keptBy}
 use Rattle.tlb.specs.Translate.{untaggedNow, walkNow, missOf}
 use Rattle.tlb.specs.declared.{access.Kind.Kind, access.Privilege.Privilege, access.Answer.Answer, entry.Entry.Entry}
-use Rattle.tlb.specs.declared.{hint.HintAnswer.HintAnswer, resolve.Source.Source, resolve.Query.Query}
+use Rattle.tlb.specs.declared.{resolve.Source.Source, resolve.Query.Query}
 use Rattle.tlb.specs.declared.resolve.Resolved.{Resolved}
 use Rattle.tlb.specs.declared.access.Answer.TheVariants.{Address, Status}
-use Rattle.tlb.specs.declared.hint.HintAnswer.TheVariants.{At, Unknown}
 use Rattle.mmu.specs.Core.{bankNow}
 use Rattle.mmu.specs.Step.{slot_at}
-use Rattle.mmu.specs.declared.{core_state.Core.Core, ops.Translated.Translated}
+use Rattle.mmu.specs.declared.core_state.Core.{Core}
+use Rattle.mmu.specs.Results.{Translated}
 use Rattle.words.specs.CoreOf.{core_of}
 use Rattle.words.specs.Parts.{withCounts, withEntry, withHint, withFetchHint}
 
@@ -34,14 +34,14 @@ abbrev pub answering : Core → Answer → Translated
 answering c a = record { core = c; answer = a }
 
 -- what the hint says
-unfoldable pub hintFound : Core → ℕ → Kind → HintAnswer
+unfoldable pub hintFound : Core → ℕ → Kind → Option ℕ
 hintFound c va kind =
     pick (mayHint c.privilege kind && eqb (hintAt c.tlb.cache (dataSlot va kind)).key (hintKey va c.privilege.level))
-    (At (onPage (hintAt c.tlb.cache (dataSlot va kind)).pa va))
-    Unknown
+    (Some (onPage (hintAt c.tlb.cache (dataSlot va kind)).pa va))
+    None
 
 -- what the fetch hint says
-unfoldable pub fetchHint : Core → ℕ → HintAnswer
+unfoldable pub fetchHint : Core → ℕ → Option ℕ
 fetchHint c va = fetchFound c.tlb.cache.fetch c.privilege.level va
 
 -- an allowed address becomes a hint, where hints may serve
@@ -74,7 +74,7 @@ fromEntry c q privilege kind va =
     committing c privilege kind va (slot_of q.tag) (byEntry q privilege (entry_at c.tlb.cache (slot_of q.tag)) va kind)
 
 -- by a walk, whatever the entry holds
-unfoldable pub fromWalk : Core → (ℕ → Word) → ℕ → Kind → Translated
+unfoldable pub fromWalk : Core → (ℕ → Option ℕ) → ℕ → Kind → Translated
 fromWalk c memory va kind =
     committing c c.privilege kind va (slot_at (bankNow c) c.privilege.level va)
     (byWalk (walkNow (bankNow c) c.privilege.level va memory)
@@ -82,7 +82,7 @@ fromWalk c memory va kind =
     c.privilege c.tlb.cache.current va kind)
 
 -- of an address that no hint serves
-unfoldable pub foundTo : Core → (ℕ → Word) → ℕ → Kind → Translated
+unfoldable pub foundTo : Core → (ℕ → Option ℕ) → ℕ → Kind → Translated
 foundTo c memory va kind =
     committing c c.privilege kind va (slot_at (bankNow c) c.privilege.level va)
     (missOf (bankNow c) c.privilege c.tlb.cache.current (entry_at c.tlb.cache (slot_at (bankNow c) c.privilege.level va)) va kind memory)

@@ -1,4 +1,5 @@
 -- The translation in place is the core's: its cells taken out and put back change no more than its branches say.
+use Rattle.std.specs.Prelude.{Some, Option, None}
 use Rattle.std.specs.Prelude.{◌≡◌, Bool, ◌&&◌, ℕ, ◌-◌, length, take, drop}
 use Rattle.std.proofs.Math.Path.{refl, ap}
 use Rattle.std.proofs.Common.{sym, subst, ◌∙◌, arith}
@@ -8,7 +9,6 @@ use Rattle.std.proofs.Math.Dec.{eqb}
 use Rattle.std.proofs.lemmas.List.{set-get_or}
 use Rattle.std.proofs.Math.Seq.{take-length}
 use Rattle.word.specs.Bits.{pick}
-use Rattle.word.specs.declared.ram.Word.{Word}
 use Rattle.walk.specs.Regime.{regimeOf}
 use Rattle.tlb.specs.Access.{mayHint}
 use Rattle.tlb.specs.Entry.{blank}
@@ -18,9 +18,8 @@ use Rattle.tlb.specs.Tlb.{tlbWith}
 use Rattle.tlb.specs.Resolve.{countedBy, keptBy, hintAfter}
 use Rattle.tlb.specs.Translate.{onNow, untaggedNow, walkNow, missWith, missOf, applied, translationWith}
 use Rattle.tlb.specs.declared.{access.Kind.Kind, access.Answer.Answer, count.Counts.Counts, entry.Entry.Entry}
-use Rattle.tlb.specs.declared.{hint.Hint.Hint, hint.HintAnswer.HintAnswer, resolve.Resolved.Resolved}
+use Rattle.tlb.specs.declared.{hint.Hint.Hint, resolve.Resolved.Resolved}
 use Rattle.tlb.specs.declared.access.Answer.TheVariants.{Address, Status}
-use Rattle.tlb.specs.declared.hint.HintAnswer.TheVariants.{At, Unknown}
 use Rattle.mmu.specs.Core.{afterAccess, bankNow}
 use Rattle.mmu.specs.Ops.{withTlb, steppedNow, translateOf}
 use Rattle.mmu.specs.Step.{slot_at, translateIn}
@@ -29,32 +28,32 @@ use Rattle.words.specs.Parts.{withCache, withCounts, withEntry, withHint}
 use Rattle.words_memory.specs.Found.{answering, hintFound, withHintFor, answerPut, sourced, foundTo}
 
 -- a test that chose
-chose_at : (b : Bool) (x pa : ℕ) → pick b (At x) Unknown ≡ At pa → (b ≡ true) × (x ≡ pa)
+chose_at : (b : Bool) (x pa : ℕ) → pick b (Some x) None ≡ Some pa → (b ≡ true) × (x ≡ pa)
 chose_at true x pa e = (refl, at_same e)
   where
-    address : HintAnswer → ℕ
-    address (At n) = n
-    address Unknown = 0
+    address : Option ℕ → ℕ
+    address (Some n) = n
+    address None = 0
 
-    at_same : At x ≡ At pa → x ≡ pa
+    at_same : Some x ≡ Some pa → x ≡ pa
     at_same q = ap address q
 chose_at false x pa e = absurd (unknown-at e)
   where
-    is_at : HintAnswer → Type 0
-    is_at (At n) = Unit {0}
-    is_at Unknown = ⊥
+    is_at : Option ℕ → Type 0
+    is_at (Some n) = Unit {0}
+    is_at None = ⊥
 
-    unknown-at : Unknown ≡ At pa → ⊥
+    unknown-at : None ≡ Some pa → ⊥
     unknown-at q = subst is_at (sym q) tt
 
-chose_none : (b : Bool) (x : ℕ) → pick b (At x) Unknown ≡ Unknown → b ≡ false
+chose_none : (b : Bool) (x : ℕ) → pick b (Some x) None ≡ None → b ≡ false
 chose_none true x e = absurd (at-unknown e)
   where
-    is_at : HintAnswer → Type 0
-    is_at (At n) = Unit {0}
-    is_at Unknown = ⊥
+    is_at : Option ℕ → Type 0
+    is_at (Some n) = Unit {0}
+    is_at None = ⊥
 
-    at-unknown : At x ≡ Unknown → ⊥
+    at-unknown : Some x ≡ None → ⊥
     at-unknown q = subst is_at q tt
 chose_none false x e = refl
 
@@ -97,7 +96,7 @@ module _ (c : Core) where
         ≡ answerPut (withEntry (withCounts c k) slot e) c.privilege kind va a
     put-answer-back a = put-answer-with (mayHint c.privilege kind) refl a
 
-module _ (c : Core) (memory : ℕ → Word) (va : ℕ) (kind : Kind) where
+module _ (c : Core) (memory : ℕ → Option ℕ) (va : ℕ) (kind : Kind) where
   abbrev level : ℕ
   level = c.privilege.level
 
@@ -108,7 +107,7 @@ module _ (c : Core) (memory : ℕ → Word) (va : ℕ) (kind : Kind) where
   hint = hintAt c.tlb.cache (dataSlot va kind)
 
   -- an access that its hint serves changes nothing
-  pub hint-serves : (pa : ℕ) → hintFound c va kind ≡ At pa → translateOf c memory va kind ≡ answering c (Address pa)
+  pub hint-serves : (pa : ℕ) → hintFound c va kind ≡ Some pa → translateOf c memory va kind ≡ answering c (Address pa)
   unfolding hintFound translateOf steppedNow translateIn translationWith
   hint-serves pa h =
       let test : (mayHint c.privilege kind && eqb hint.key (hintKey va level) ≡ true) × (onPage hint.pa va ≡ pa) = chose_at _ _ pa h in
@@ -121,7 +120,7 @@ module _ (c : Core) (memory : ℕ → Word) (va : ℕ) (kind : Kind) where
       c.tlb.cache.current (entry_at c.tlb.cache slot) va kind
 
   -- one that none serves: its changes stored
-  pub hint-misses : hintFound c va kind ≡ Unknown → translateOf c memory va kind ≡ foundTo c memory va kind
+  pub hint-misses : hintFound c va kind ≡ None → translateOf c memory va kind ≡ foundTo c memory va kind
   unfolding hintFound translateOf steppedNow translateIn translationWith applied missOf foundTo sourced
   hint-misses h =
       rw (chose_none (mayHint c.privilege kind && eqb hint.key (hintKey va level)) (onPage hint.pa va) h)

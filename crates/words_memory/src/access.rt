@@ -14,11 +14,10 @@ use operations::ends::{LoadAnswer, StoreAnswer};
 use operations::place::Placed;
 use operations::{ends, loads, place};
 use tlb::access::Kind;
-use walk::regime;
-use word::ram;
 use word::ram::Width;
 use words::place::State;
 use words::{regs, state};
+use walk::regime::Regime;
 
 // Whether stage 1 is on at the level.
 pub fn on_at(state: &State) -> bool
@@ -26,9 +25,9 @@ pub fn on_at(state: &State) -> bool
         (regimeOf (core_of state.now).privilege.level) }
 {
     let privilege = state::privilege_at(state);
-    let r = regime::regime_of(privilege.level);
+    let r = Regime::of_level(privilege.level);
     let s = regs::bank_at(state, r);
-    regime::stage1_on(s, r)
+    s.stage1_on(r)
 }
 
 // Both pages of an access, before a byte moves: their translations first, then what they change is stored. The first
@@ -79,7 +78,7 @@ pub fn load(state: &mut State, va: u64, width: Width, base: u64, ram: &[u8]) -> 
     ensures now_holds { NowHolds state.old state.new
         (read_of (core_of state.old) base ram.now va (bytesIn width)).core }
 {
-    let n = ram::bytes_in(width);
+    let n = width.bytes();
     let placed = locate(state, va, n, Kind::Read, base, ram);
     load_placed(state, placed, va, width, base, ram)
 }
@@ -122,7 +121,7 @@ pub fn store(
     ensures now_holds { NowHolds state.old state.new
         (writeOf (core_of state.old) base ram.old va (bytesIn width)).core }
 {
-    let n = ram::bytes_in(width);
+    let n = width.bytes();
     let placed = locate(state, va, n, Kind::Write, base, ram);
     store_placed(state, placed, va, width, value, base, ram)
 }

@@ -3,13 +3,13 @@ ghost use Rattle.std.specs.Prelude.{◌≡◌};
 ghost use Rattle.mmu.specs.Parts.{pageIn, commitIn};
 ghost use Rattle.words.specs.CoreOf.{core_of};
 ghost use Rattle.words.specs.NowHolds.{NowHolds};
-ghost use Rattle.words_memory.specs.Changed.{effected, hintedIf, fetchedIf};
+ghost use Rattle.words_memory.specs.Changed.{effected, hintedIf};
 
 use operations::change;
 use operations::change::{Change, Page};
 use tlb::access::Kind;
 use tlb::entry::Entry;
-use tlb::hint::{FetchHint, Hint};
+use tlb::hint::Hint;
 use words::place::State;
 use words::{cells, counts, regs, state};
 
@@ -61,25 +61,13 @@ fn put_hint(state: &mut State, i: usize, some: bool, h: Hint)
     }
 }
 
-// The fetch hint of a change stored, where it has one.
-fn put_fetch(state: &mut State, some: bool, f: FetchHint)
-    ensures { NowHolds state.old state.new
-        (fetchedIf (core_of state.old) some f) }
-{
-    if some {
-        cells::put_fetch(state, f);
-    }
-}
-
 // What a translation changes, stored.
 pub fn commit(state: &mut State, t: Change)
     ensures { NowHolds state.old state.new (commitIn (core_of state.old) t) }
 {
     let made = t.made;
     let hint = t.hint;
-    let fetch = t.fetch;
     let privilege = state::privilege_at(state);
     put_effect(state, privilege.level, t.entry_at % 1024, t.effect, made);
     put_hint(state, t.hint_at % 512, t.hints, hint);
-    put_fetch(state, t.fetches, fetch);
 }

@@ -11,22 +11,22 @@ ghost use Rattle.words_memory.specs.Found.{sourced, committed, servesNow, fromEn
 
 use tlb::access::{Answer, Kind, Privilege};
 use tlb::entry::Entry;
-use tlb::hint::HintAnswer;
+use tlb::hint::{FetchHint, Hint};
 use tlb::resolve::{Asked, Query, Resolved, Source};
-use tlb::{access, hint, resolve};
-use walk::regime;
+use tlb::{hint, resolve};
 use words::place::State;
 use words::{cells, counts, regs, state};
+use walk::regime::Regime;
 
 // An allowed address becomes a hint, where hints may serve.
 fn keep_hint(state: &mut State, privilege: Privilege, kind: Kind, va: u64, pa: u64)
     ensures { NowHolds state.old state.new
         (withHintFor (core_of state.old) privilege kind va pa) }
 {
-    let hinted = access::may_hint(privilege, kind);
+    let hinted = privilege.may_hint(kind);
     if hinted {
         let i = hint::data_slot(va, kind);
-        let h = hint::hint_for(va, privilege.level, pa);
+        let h = Hint::new(va, privilege.level, pa);
         cells::put_hint(state, i, h);
     }
 }
@@ -107,7 +107,7 @@ fn entry_serves(state: &State, q: Query) -> bool
     let slot = tlb::entry::slot(q.tag);
     let at = counts::current_at(state);
     let e = cells::entry_at(state, slot);
-    tlb::entry::serves(e, at, q.tag)
+    e.serves(at, q.tag)
 }
 
 // By the entry that a query names.
@@ -144,7 +144,7 @@ fn from_walk(state: &mut State, va: u64, kind: Kind, pa: &mut u64, base: u64, ra
         (walkedAt state.old base ram.now va kind).core }
 {
     let privilege = state::privilege_at(state);
-    let regime = regime::regime_of(privilege.level);
+    let regime = Regime::of_level(privilege.level);
     let s = regs::bank_at(state, regime);
     let q = resolve::query_of(s, regime, va);
     let n = ram.len();
@@ -164,7 +164,7 @@ pub fn find(state: &mut State, va: u64, kind: Kind, pa: &mut u64, base: u64, ram
         (found_at state.old base ram.now va kind).core }
 {
     let privilege = state::privilege_at(state);
-    let r = regime::regime_of(privilege.level);
+    let r = Regime::of_level(privilege.level);
     let s = regs::bank_at(state, r);
     let n = ram.len();
     match resolve::ask(s, privilege, va) {
@@ -194,7 +194,7 @@ fn find_fetch(state: &mut State, va: u64, pa: &mut u64, base: u64, ram: &[u8]) -
         (found_at state.old base ram.now va Fetch).core }
 {
     let privilege = state::privilege_at(state);
-    let r = regime::regime_of(privilege.level);
+    let r = Regime::of_level(privilege.level);
     let s = regs::bank_at(state, r);
     let n = ram.len();
     match resolve::ask(s, privilege, va) {
@@ -215,30 +215,30 @@ fn find_fetch(state: &mut State, va: u64, pa: &mut u64, base: u64, ram: &[u8]) -
 }
 
 // What the hint says of va.
-pub fn by_hint(state: &State, va: u64, kind: Kind) -> HintAnswer
+pub fn by_hint(state: &State, va: u64, kind: Kind) -> Option<u64>
     ensures { result ≡ hintFound (core_of state.now) va kind }
 {
     let privilege = state::privilege_at(state);
-    let hinted = access::may_hint(privilege, kind);
+    let hinted = privilege.may_hint(kind);
     let key = hint::hint_key(va, privilege.level);
     let i = hint::data_slot(va, kind);
     let h = cells::hint_at(state, i);
     let found = hinted & (h.key == key);
     if found {
         let pa = hint::on_page(h.pa, va);
-        HintAnswer::At(pa)
+        Some(pa)
     } else {
-        HintAnswer::Unknown
+        None
     }
 }
 
 // What the fetch hint says of va.
-pub fn fetch_by_hint(state: &State, va: u64) -> HintAnswer
+pub fn fetch_by_hint(state: &State, va: u64) -> Option<u64>
     ensures { result ≡ fetchHint (core_of state.now) va }
 {
     let privilege = state::privilege_at(state);
     let f = cells::fetch_at(state);
-    hint::fetch_found(f, privilege.level, va)
+    f.find(privilege.level, va)
 }
 
 // A fetch from a page that the fetch hint does not name. Where it is allowed, its page becomes the hint.
@@ -254,7 +254,7 @@ pub fn fetch_find(state: &mut State, va: u64, pa: &mut u64, base: u64, ram: &[u8
     let code = find_fetch(state, va, pa, base, ram);
     if code == 0 {
         let privilege = state::privilege_at(state);
-        let f = hint::fetch_for(va, privilege.level, *pa);
+        let f = FetchHint::new(va, privilege.level, *pa);
         cells::put_fetch(state, f);
     }
     code
@@ -273,10 +273,10 @@ pub fn fetch_address(state: &mut State, va: u64, pa: &mut u64, base: u64, ram: &
 {
     let n = ram.len();
     match fetch_by_hint(state, va) {
-        HintAnswer::At(at) => {
+        Some(at) => {
             *pa = at;
             0
         }
-        HintAnswer::Unknown => fetch_find(state, va, pa, base, &ram[0..n]),
+        None => fetch_find(state, va, pa, base, &ram[0..n]),
     }
 }

@@ -1,4 +1,5 @@
 -- A register write, step by step.
+use Rattle.std.specs.Prelude.{Option, Some, None, Ok, Err}
 use Rattle.std.proofs.Common.{◌≡◌, ℕ, Bool, true, false, eqb, List, sym, refl, ap, ◌∙◌, eq-eqb, ne_eqb, eqb-true}
 use Rattle.sysreg.specs.Regs.{controlAt}
 use Rattle.sysreg.specs.Encoding.{controlKey, registerAt}
@@ -8,12 +9,10 @@ use Rattle.sysreg.specs.ShapeLaws.{SameShape, shape-agrees, agrees-shape, shape-
 use Rattle.sysreg.specs.Write.{controlWith, sysWith, wrote}
 use Rattle.sysreg.specs.WriteLaws.{control-after, control-written, write-nothing, write-el0, write_done}
 use Rattle.sysreg.specs.declared.{regs.Control.Control, regs.ControlReg.ControlReg, regs.SysReg.SysReg}
-use Rattle.sysreg.specs.declared.{regs.Register.Register, encoding.Found.Found}
+use Rattle.sysreg.specs.declared.regs.Register.{Register}
 use Rattle.sysreg.specs.declared.regs.El.TheVariants.{El1, El2, El3}
 use Rattle.sysreg.specs.declared.regs.ControlReg.TheVariants.{Sctlr, Tcr, Ttbr0, Ttbr1, Scr, Hcr}
 use Rattle.sysreg.specs.declared.regs.Register.TheVariants.{InControl, InSys}
-use Rattle.sysreg.specs.declared.encoding.Found.TheVariants.{At, Nothing}
-use Rattle.sysreg.specs.declared.write.WriteAnswer.TheVariants.{Done, Undefined, NoRegister}
 use Rattle.tlb.specs.Tlb.{flushOf, retagOf}
 use Rattle.tlb.specs.declared.{access.Privilege.Privilege, entry.Current.Current}
 use Rattle.mmu.specs.Core.{afterAccess}
@@ -21,11 +20,12 @@ use Rattle.mmu.specs.Ops.{withTlb}
 use Rattle.mmu.specs.declared.core_state.Core.{Core}
 use Rattle.exec.specs.Fit.{reshapedOf, retaggedOf, refitOf}
 use Rattle.exec.specs.Ops.{with_regs, appliedOf, writeRegister}
-use Rattle.exec.specs.declared.ops.Registered.{Registered}
+use Rattle.exec.specs.Ops.{Registered}
 use Rattle.words.specs.CoreOf.{core_of}
 use Rattle.words.specs.Parts.{withControl, withSys}
 use Rattle.words.specs.NowHolds.{NowHolds, stays, holds_as, holds_on}
 use Rattle.words_sys.specs.Register.{reshaped}
+use Rattle.sysreg.specs.declared.write.WriteError.TheVariants.{Undefined, NoRegister}
 
 -- WHETHER A WRITE CHANGES THE SHAPE
 
@@ -96,20 +96,20 @@ module _ (c : Core) where
   asid-other n e = rw e
 
   module _ (key v : ℕ) where
-    wrote-done : (r : Register) → (wrote c.control c.sys r v).answer ≡ Done
+    wrote-done : (r : Register) → (wrote c.control c.sys r v).answer ≡ Ok tt
     wrote-done (InControl r) = refl
     wrote-done (InSys r) = refl
 
-    pub write-none : registerAt key ≡ Nothing → writeRegister c key v ≡ record { core = c; answer = NoRegister }
+    pub write-none : registerAt key ≡ None → writeRegister c key v ≡ record { core = c; answer = Err NoRegister }
     unfolding writeRegister
     write-none e = rw (write-nothing c.control c.sys c.privilege.level key v e)
 
-    pub write_low : (r : Register) → registerAt key ≡ At r → c.privilege.level ≡ 0 → writeRegister c key v ≡ record { core = c; answer = Undefined }
+    pub write_low : (r : Register) → registerAt key ≡ Some r → c.privilege.level ≡ 0 → writeRegister c key v ≡ record { core = c; answer = Err Undefined }
     unfolding writeRegister
     write_low r e l = rw (write-el0 c.control c.sys c.privilege.level key v r e l)
 
-    pub write-put : (r : Register) → registerAt key ≡ At r → (c.privilege.level ≡ 0 → ⊥)
-        → writeRegister c key v ≡ record { core = appliedOf c (wrote c.control c.sys r v); answer = Done }
+    pub write-put : (r : Register) → registerAt key ≡ Some r → (c.privilege.level ≡ 0 → ⊥)
+        → writeRegister c key v ≡ record { core = appliedOf c (wrote c.control c.sys r v); answer = Ok tt }
     unfolding writeRegister
     write-put r e l = rw (write_done c.control c.sys c.privilege.level key v r e l, wrote-done r)
 
@@ -161,31 +161,31 @@ module _ (ws : List ℕ) where
         rw e
         (holds_on (λ c. withTlb c (retaggedOf c.tlb (asidOf c.control))) m my (refit-sys (core_of ws) r v))
 
-  module _ (key v : ℕ) (f : Found) (ef : f ≡ registerAt key) where
-    pub none-answer : f ≡ Nothing → NoRegister ≡ (writeRegister (core_of ws) key v).answer
+  module _ (key v : ℕ) (f : Option Register) (ef : f ≡ registerAt key) where
+    pub none-answer : f ≡ None → Err NoRegister ≡ (writeRegister (core_of ws) key v).answer
     none-answer e = ap (λ (w : Registered). w.answer) (sym (write-none (core_of ws) key v (sym ef ∙ e)))
 
-    pub none-core : f ≡ Nothing → NowHolds ws ws (writeRegister (core_of ws) key v).core
+    pub none-core : f ≡ None → NowHolds ws ws (writeRegister (core_of ws) key v).core
     none-core e = holds_as stays (ap (λ (w : Registered). w.core) (sym (write-none (core_of ws) key v (sym ef ∙ e))))
 
-    module _ (r : Register) (w : Privilege) (er : f ≡ At r) (ew : w ≡ (core_of ws).privilege) where
+    module _ (r : Register) (w : Privilege) (er : f ≡ Some r) (ew : w ≡ (core_of ws).privilege) where
       level : w.level ≡ (core_of ws).privilege.level
       level = ap (λ (q : Privilege). q.level) ew
 
-      low : w.level ≡ 0 → writeRegister (core_of ws) key v ≡ record { core = core_of ws; answer = Undefined }
+      low : w.level ≡ 0 → writeRegister (core_of ws) key v ≡ record { core = core_of ws; answer = Err Undefined }
       low l = write_low (core_of ws) key v r (sym ef ∙ er) (sym level ∙ l)
 
       done : (w.level ≡ 0 → ⊥)
-          → writeRegister (core_of ws) key v ≡ record { core = appliedOf (core_of ws) (wrote (core_of ws).control (core_of ws).sys r v); answer = Done }
+          → writeRegister (core_of ws) key v ≡ record { core = appliedOf (core_of ws) (wrote (core_of ws).control (core_of ws).sys r v); answer = Ok tt }
       done l = write-put (core_of ws) key v r (sym ef ∙ er) (λ e. l (level ∙ e))
 
-      pub low-answer : w.level ≡ 0 → Undefined ≡ (writeRegister (core_of ws) key v).answer
+      pub low-answer : w.level ≡ 0 → Err Undefined ≡ (writeRegister (core_of ws) key v).answer
       low-answer l = ap (λ (x : Registered). x.answer) (sym (low l))
 
       pub low-core : w.level ≡ 0 → NowHolds ws ws (writeRegister (core_of ws) key v).core
       low-core l = holds_as stays (ap (λ (x : Registered). x.core) (sym (low l)))
 
-      pub done-answer : (w.level ≡ 0 → ⊥) → Done ≡ (writeRegister (core_of ws) key v).answer
+      pub done-answer : (w.level ≡ 0 → ⊥) → Ok tt ≡ (writeRegister (core_of ws) key v).answer
       done-answer l = ap (λ (x : Registered). x.answer) (sym (done l))
 
       pub done-core : (xs : List ℕ) → (w.level ≡ 0 → ⊥) → NowHolds ws xs (appliedOf (core_of ws) (wrote (core_of ws).control (core_of ws).sys r v))

@@ -1,6 +1,6 @@
 -- TLBI and AT, step by step.
+use Rattle.std.specs.Prelude.{Option}
 use Rattle.std.proofs.Common.{◌≡◌, ℕ, Bool, true, false, List, sym, refl, ap, ◌∙◌}
-use Rattle.word.specs.declared.ram.Word.{Word}
 use Rattle.sysreg.specs.Regs.{sysAt}
 use Rattle.sysreg.specs.Write.{sysWith}
 use Rattle.sysreg.specs.declared.regs.Control.{Control}
@@ -8,7 +8,7 @@ use Rattle.sysreg.specs.declared.regs.SysReg.TheVariants.{Mair, Par}
 use Rattle.walk.specs.Regime.{levelOf, bankOf}
 use Rattle.walk.specs.declared.regime.Bank.{Bank}
 use Rattle.tlb.specs.Tlb.{invalidateOf, pendingAfter, broadcastOf}
-use Rattle.tlb.specs.declared.{Inval.Inval, Pending.Pending}
+use Rattle.tlb.specs.declared.Inval.{Inval}
 use Rattle.sysop.specs.Par.{parIn, atPar}
 use Rattle.sysop.specs.Tlbi.{tlbiOf, reachesOthers}
 use Rattle.sysop.specs.declared.op.AtForm.{AtForm}
@@ -41,11 +41,11 @@ module _ (c : Core) where
 
 -- on words
 module _ (ws : List ℕ) where
-  pub broadcast-is : (xs : List ℕ) (p q : Pending) (what : Inval) → p ≡ (core_of ws).tlb.broadcast → q ≡ pendingAfter p what
+  pub broadcast-is : (xs : List ℕ) (p q : Option Inval) (what : Inval) → p ≡ (core_of ws).tlb.broadcast → q ≡ pendingAfter p what
       → NowHolds ws xs (withPending (core_of ws) q) → NowHolds ws xs (withTlb (core_of ws) (broadcastOf (core_of ws).tlb what))
   broadcast-is xs p q what ep eq m =
       holds_as m
-      (ap (withPending (core_of ws)) (eq ∙ ap (λ (x : Pending). pendingAfter x what) ep) ∙ pending-put (core_of ws) what)
+      (ap (withPending (core_of ws)) (eq ∙ ap (λ (x : Option Inval). pendingAfter x what) ep) ∙ pending-put (core_of ws) what)
 
   module _ (op1 crm op2 x : ℕ) (k : Control) (what : Inval) (b : Bool) (xs : List ℕ) (ek : k ≡ (core_of ws).control) (ew : what ≡ tlbiOf k op1 crm op2 x)
       (eb : b ≡ reachesOthers crm) (mx : NowHolds ws xs (withTlb (core_of ws) (invalidateOf (core_of ws).tlb what))) where
@@ -71,7 +71,7 @@ module _ (ws : List ℕ) where
   unfolding core_of coreBy coreOn withSys sysWith withPar
   par-put v = refl
 
-  pub at-is : (xs : List ℕ) (form : AtForm) (va : ℕ) (memory : ℕ → Word) (s : Bank) (m par : ℕ) → s ≡ bankOf (core_of ws).control form.regime
+  pub at-is : (xs : List ℕ) (form : AtForm) (va : ℕ) (memory : ℕ → Option ℕ) (s : Bank) (m par : ℕ) → s ≡ bankOf (core_of ws).control form.regime
       → m ≡ sysAt (core_of ws).sys (Mair (levelOf form.regime)) → par ≡ parIn s m form va memory
       → NowHolds ws xs (withSys (core_of ws) (sysWith (core_of ws).sys Par par)) → NowHolds ws xs (at_of (core_of ws) memory form va)
   unfolding at_of atPar

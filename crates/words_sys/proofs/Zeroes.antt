@@ -10,7 +10,7 @@ use Rattle.mmu.specs.Core.{reg_of}
 use Rattle.mmu.specs.Ops.{writeOf, ramAfterWrite}
 use Rattle.operations.specs.declared.ends.StoreAnswer.{StoreAnswer}
 use Rattle.operations.specs.declared.ends.StoreAnswer.TheVariants.{Done, Stopped}
-use Rattle.mmu.specs.declared.ops.Stored.{Stored}
+use Rattle.mmu.specs.Results.{Stored}
 use Rattle.exec.specs.Sys.{zero_of, zeroRam, sysBy, sysRamBy, op_of, sysOf, sysRam}
 use Rattle.exec.specs.ZeroLaws.{zero-none, zero-stops, zero-goes}
 use Rattle.words.specs.CoreOf.{core_of}

@@ -10,7 +10,8 @@ use Rattle.exception.specs.declared.kind.Stop.TheVariants as Stop
 use Rattle.operations.specs.Place.{verdictOf as judged}
 use Rattle.operations.specs.Ends.{storeEnd, storeEndBy}
 use Rattle.mmu.specs.Ops.{locatedNow, writeOf, ramAfterWrite}
-use Rattle.mmu.specs.declared.{core_state.Core.Core, ops.Stored.Stored}
+use Rattle.mmu.specs.declared.core_state.Core.{Core}
+use Rattle.mmu.specs.Results.{Stored}
 use Rattle.operations.specs.declared.{place.Placed.Placed, place.Verdict.Verdict, ends.StoreAnswer.StoreAnswer}
 use Rattle.operations.specs.declared.place.Placed.TheVariants.{At, Fault}
 use Rattle.operations.specs.declared.place.Verdict.TheVariants.{Inside, Outside}

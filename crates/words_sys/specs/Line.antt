@@ -1,4 +1,5 @@
 -- DC ZVA by a hint: where the hint of the line's page serves, its stores are one.
+use Rattle.std.specs.Prelude.{Some, Option, None}
 use Rattle.std.specs.Prelude.{◌≡◌, ℕ, ◌+◌, ◌-◌, ◌*◌, ◌/◌, ◌%◌, ◌^◌, ◌<◌, ◌≤◌, Bool, true, false, ◌&&◌, List, length, ◌==◌, bit_or, refl}
 use Rattle.std.proofs.Common.{sym, subst, ◌∙◌, eqb-true}
 use Rattle.std.proofs.Math.Path.{ap}
@@ -12,8 +13,6 @@ use Rattle.tlb.specs.Access.{mayHint}
 use Rattle.tlb.specs.Cache.{hintAt}
 use Rattle.tlb.specs.Hint.{onPage, dataSlot, hintKey}
 use Rattle.tlb.specs.declared.access.Kind.TheVariants.{Write}
-use Rattle.tlb.specs.declared.hint.HintAnswer.{HintAnswer}
-use Rattle.tlb.specs.declared.hint.HintAnswer.TheVariants.{At, Unknown}
 use Rattle.mmu.specs.declared.core_state.Core.{Core}
 use Rattle.exec.specs.Sys.{doneWith, zero_of, zeroRam}
 use Rattle.exec.specs.ZeroLine.{zero-steady}
@@ -21,13 +20,13 @@ use Rattle.words_memory.specs.Found.{hintFound}
 use Rattle.words_memory.specs.FoundLaws.{hint-serves}
 
 -- whether the bytes of a line from one on are cleared: the hint points at a line, and they lie in RAM
-abbrev pub clears : HintAnswer → ℕ → ℕ → ℕ → Bool
-clears (At pa) from base len = pa % 64 == 0 && within base len (64 - from) (pa + from)
-clears Unknown from base len = false
+abbrev pub clears : Option ℕ → ℕ → ℕ → ℕ → Bool
+clears (Some pa) from base len = pa % 64 == 0 && within base len (64 - from) (pa + from)
+clears None from base len = false
 
-abbrev pub cleared : HintAnswer → ℕ → ℕ → List ℕ → List ℕ
-cleared (At pa) from base ram = pick (pa % 64 == 0) (stored base ram (64 - from) (pa + from) 0) ram
-cleared Unknown from base ram = ram
+abbrev pub cleared : Option ℕ → ℕ → ℕ → List ℕ → List ℕ
+cleared (Some pa) from base ram = pick (pa % 64 == 0) (stored base ram (64 - from) (pa + from) 0) ram
+cleared None from base ram = ram
 
 -- a frame whose address of a line's first byte is a line's: it adds up with each byte of it
 or-line : (p v i : ℕ) → v % 64 ≡ 0 → bit_or p v % 64 ≡ 0 → i < 64 → bit_or p (v + i) ≡ bit_or p v + i
@@ -45,21 +44,21 @@ or-line p v i low flat small =
     omega (arith, one, none)
 
 -- a hint that serves
-serving : (b : Bool) (x pa : ℕ) → pick b (At x) Unknown ≡ At pa → (b ≡ true) × (x ≡ pa)
+serving : (b : Bool) (x pa : ℕ) → pick b (Some x) None ≡ Some pa → (b ≡ true) × (x ≡ pa)
 serving true x pa e = (refl, ap address e)
   where
-    address : HintAnswer → ℕ
-    address (At n) = n
-    address Unknown = 0
+    address : Option ℕ → ℕ
+    address (Some n) = n
+    address None = 0
 serving false x pa e = absurd (subst is-unknown e tt)
   where
-    is-unknown : HintAnswer → Type 0
-    is-unknown (At n) = ⊥
-    is-unknown Unknown = Unit {0}
+    is-unknown : Option ℕ → Type 0
+    is-unknown (Some n) = ⊥
+    is-unknown None = Unit {0}
 
-module _ (c : Core) (va pa : ℕ) (line : va % 64 ≡ 0) (found : hintFound c va Write ≡ At pa) (flat : pa % 64 ≡ 0) where
+module _ (c : Core) (va pa : ℕ) (line : va % 64 ≡ 0) (found : hintFound c va Write ≡ Some pa) (flat : pa % 64 ≡ 0) where
   -- each store of the line by the same hint
-  found_at : (j : ℕ) → j < 8 → hintFound c (va + 8 * j) Write ≡ At (pa + 8 * j)
+  found_at : (j : ℕ) → j < 8 → hintFound c (va + 8 * j) Write ≡ Some (pa + 8 * j)
   unfolding hintFound
   found_at j h =
       let page : (va + 8 * j) / 4096 ≡ va / 4096 = omega arith in
@@ -68,7 +67,7 @@ module _ (c : Core) (va pa : ℕ) (line : va % 64 ≡ 0) (found : hintFound c va
       (onPage (hintAt c.tlb.cache (dataSlot va Write)).pa va) pa found in
       let sum : onPage (hintAt c.tlb.cache (dataSlot va Write)).pa va ≡ pa = s.1 in
       let each = or-line (hintAt c.tlb.cache (dataSlot va Write)).pa (va % 4096) (8 * j) (omega arith) (ap (λ (x : ℕ). x % 64) sum ∙ flat) (omega arith) in
-      rw (page, s.0, low) (ap At (each ∙ ap (λ (x : ℕ). x + 8 * j) sum))
+      rw (page, s.0, low) (ap Some (each ∙ ap (λ (x : ℕ). x + 8 * j) sum))
 
   -- the stores from number k on
   line-zeroes : (k base : ℕ) (ram : List ℕ) → k < 8 → va + 64 ≤ 2 ^ 64 → within base (length ram) (64 - 8 * k) (pa + 8 * k) ≡ true
@@ -81,7 +80,7 @@ module _ (c : Core) (va pa : ℕ) (line : va % 64 ≡ 0) (found : hintFound c va
       let a : va + 8 * (k + j) ≡ va + 8 * k + 8 * j = omega arith in
       let p : pa + 8 * (k + j) ≡ pa + 8 * k + 8 * j = omega arith in
       hint-serves c memory (va + 8 * k + 8 * j) Write (pa + 8 * k + 8 * j)
-      (ap (λ (n : ℕ). hintFound c n Write) (sym a) ∙ found_at (k + j) (omega arith) ∙ ap At p)) in
+      (ap (λ (n : ℕ). hintFound c n Write) (sym a) ∙ found_at (k + j) (omega arith) ∙ ap Some p)) in
       (z.0, z.1 ∙ ap (λ (n : ℕ). stored base ram n (pa + 8 * k) 0) (sym d))
 
 -- what was cleared is zeroed by the stores from number k on
@@ -90,23 +89,23 @@ pub clears-line : (c : Core) (base : ℕ) (ram : List ℕ) (va k : ℕ) → k < 
     → (zero_of (8 - k) c base ram (va + 8 * k) ≡ doneWith c) × (zeroRam (8 - k) c base ram (va + 8 * k) ≡ cleared (hintFound c va Write) (8 * k) base ram)
 clears-line c base ram va k h line room = go (hintFound c va Write) refl
   where
-    go : (p : HintAnswer) → hintFound c va Write ≡ p → clears p (8 * k) base (length ram) ≡ true
+    go : (p : Option ℕ) → hintFound c va Write ≡ p → clears p (8 * k) base (length ram) ≡ true
         → (zero_of (8 - k) c base ram (va + 8 * k) ≡ doneWith c) × (zeroRam (8 - k) c base ram (va + 8 * k) ≡ cleared p (8 * k) base ram)
-    go (At pa) e t =
+    go (Some pa) e t =
         let b = both (pa % 64 == 0) (within base (length ram) (64 - 8 * k) (pa + 8 * k)) t in
         let z = line-zeroes c va pa line e (eqb-true (pa % 64) 0 b.0) k base ram h room b.1 in
         (z.0, rw b.0 z.1)
-    go Unknown e t = absurd (subst is_false t tt)
+    go None e t = absurd (subst is_false t tt)
       where
         is_false : Bool → Type 0
         is_false true = ⊥
         is_false false = Unit {0}
 
 -- what was not is as it was
-pub clears-none : (p : HintAnswer) (from base : ℕ) (ram : List ℕ) → clears p from base (length ram) ≡ false → cleared p from base ram ≡ ram
+pub clears-none : (p : Option ℕ) (from base : ℕ) (ram : List ℕ) → clears p from base (length ram) ≡ false → cleared p from base ram ≡ ram
 unfolding stored
-clears-none Unknown from base ram e = refl
-clears-none (At pa) from base ram e = go (pa % 64 == 0) (within base (length ram) (64 - from) (pa + from)) refl e
+clears-none None from base ram e = refl
+clears-none (Some pa) from base ram e = go (pa % 64 == 0) (within base (length ram) (64 - from) (pa + from)) refl e
   where
     go : (x y : Bool) → within base (length ram) (64 - from) (pa + from) ≡ y → (x && y) ≡ false
         → pick x (stored base ram (64 - from) (pa + from) 0) ram ≡ ram

@@ -7,7 +7,6 @@ ghost use Rattle.words_sys.specs.Abort.{takenIn};
 use exception::kind::Exception;
 use exception::take;
 use exception::take::Taken;
-use sysreg::regs::index;
 use words::place::State;
 use words::{regs, state};
 
@@ -21,7 +20,7 @@ fn commit(state: &mut State, t: Taken)
     regs::put_saved(state, target, report, t.spsr, t.ret);
     state::put_masked(state);
     state::put_pc(state, std::num::wrapping_add_u64(vbar, t.group));
-    state::put_level(state, index(target) as u8);
+    state::put_level(state, target.index() as u8);
 }
 
 // A synchronous exception at the PC is routed, reported and taken. The flags are read last: in the arms of the routing

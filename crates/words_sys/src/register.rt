@@ -1,16 +1,15 @@
 // Register writes in place.
 ghost use Rattle.std.specs.Prelude.{◌≡◌, ◌≢◌};
 ghost use Rattle.sysreg.specs.Shape.{shape, member};
-ghost use Rattle.sysreg.specs.declared.write.WriteAnswer.TheVariants as WriteAnswer;
+ghost use Rattle.sysreg.specs.Write.{Done};
 ghost use Rattle.exec.specs.Ops.{writeRegister};
 ghost use Rattle.words.specs.CoreOf.{core_of};
 ghost use Rattle.words.specs.NowHolds.{NowHolds};
 ghost use Rattle.words_sys.specs.Register.{flushed, retagged, refitted, reshaped, registered};
 
-use sysreg::encoding::Found;
+use sysreg::encoding;
 use sysreg::regs::{ControlReg, El, Register};
-use sysreg::write::WriteAnswer;
-use sysreg::{encoding, shape};
+use sysreg::write::WriteError;
 use words::place::State;
 use words::{clear, counts, regs, state};
 
@@ -62,7 +61,7 @@ fn refit(state: &mut State)
     ensures { NowHolds state.old state.new (refitted (core_of state.old)) }
 {
     let control = regs::control_at(state);
-    let asid = shape::asid(control);
+    let asid = control.asid();
     let at = counts::current_at(state);
     if at.asid != asid {
         retag(state, asid);
@@ -102,21 +101,21 @@ fn put_register(state: &mut State, register: Register, value: u64)
 }
 
 // A register write. One that is not done writes no word.
-pub fn write_register(state: &mut State, key: u32, value: u64) -> WriteAnswer
+pub fn write_register(state: &mut State, key: u32, value: u64) -> Result<(), WriteError>
     ensures value { result ≡ (writeRegister (core_of state.old) key value).answer }
     ensures now_holds { NowHolds state.old state.new
         (writeRegister (core_of state.old) key value).core }
-    ensures state_unchanged { (result ≢ WriteAnswer.Done) → state.new ≡ state.old }
+    ensures state_unchanged { (result ≢ Done) → state.new ≡ state.old }
 {
     match encoding::named(key) {
-        Found::Nothing => WriteAnswer::NoRegister,
-        Found::At(register) => {
+        None => Err(WriteError::NoRegister),
+        Some(register) => {
             let privilege = state::privilege_at(state);
             if privilege.level == 0 {
-                return WriteAnswer::Undefined;
+                return Err(WriteError::Undefined);
             }
             put_register(state, register, value);
-            WriteAnswer::Done
+            Ok(())
         }
     }
 }

@@ -14,9 +14,8 @@ use crate::system;
 use exception::kind::{Exception, Stop};
 use operations::ends::StoreAnswer;
 use sysop::op;
-use sysop::op::SysOp;
+use sysop::op::{Encoding, SysOp};
 use tlb::access::Kind;
-use tlb::hint::HintAnswer;
 use word::ram;
 use word::ram::Width;
 use words::place::State;
@@ -47,14 +46,14 @@ fn clear_line(state: &State, base: u64, ram: &mut [u8], va: u64, from: u64) -> b
         ≡ cleared (hintFound (core_of state.now) va Write) from base ram.old }
 {
     match translate::by_hint(state, va, Kind::Write) {
-        HintAnswer::At(pa) => {
+        Some(pa) => {
             if pa % 64 == 0 {
                 ram::write_bytes(base, ram, 64 - from, pa + from, 0)
             } else {
                 false
             }
         }
-        HintAnswer::Unknown => false,
+        None => false,
     }
 }
 
@@ -109,7 +108,7 @@ pub fn system(
 {
     let x = state::general_at(state, rt);
     let privilege = state::privilege_at(state);
-    match op::decode(privilege.level, op1, crn, crm, op2) {
+    match op::decode(privilege.level, Encoding { op1, crn, crm, op2 }) {
         SysOp::At(form) => {
             system::at(state, form, x, base, ram);
             StoreAnswer::Done

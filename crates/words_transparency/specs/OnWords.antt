@@ -42,24 +42,31 @@ pub data Made : List ℕ → List (Lent real machine) → Type 0 where
   stepped : (call : DecodedCall) (base : ℕ) (ram ws : List ℕ) (n : ℕ) (old v ys xs : List ℕ) (list : List (Lent real machine))
       → Made ws list → StepPromise call base ram ws n old v ys xs → Made xs (list ++ added call base ram)
   looked : (first pages base : ℕ) (ram ws : List ℕ) (n : ℕ) (old counts : List ℕ) (list : List (Lent real machine))
-      → Made ws list → CensusPromise first pages base ram ws n old counts → Made ws (list ++ added (Known (Census first pages)) base ram)
+      → Made ws list → CensusPromise first pages base ram ws n old counts
+      → Made ws (list ++ added (Known (Census first pages)) base ram)
 
-run-append : (c : Core) (l k : List (Lent real machine)) → run real machine c (l ++ k) ≡ run real machine (run real machine c l) k
+run-append : (c : Core) (l k : List (Lent real machine))
+    → run real machine c (l ++ k) ≡ run real machine (run real machine c l) k
 run-append c [] k = refl
 run-append c (x ∷ l) k = run-append (step_of c x.ram.base x.ram.bytes x.call).core l k
 
-run-added : (call : DecodedCall) (c : Core) (base : ℕ) (ram : List ℕ) → callCore call c base ram ≡ run real machine c (added call base ram)
+run-added : (call : DecodedCall) (c : Core) (base : ℕ) (ram : List ℕ)
+    → callCore call c base ram ≡ run real machine c (added call base ram)
 run-added (Known x) c base ram = refl
 run-added Unknown c base ram = refl
 
 -- one call more
 grown : (call : DecodedCall) (base : ℕ) (ram ws xs : List ℕ) (list : List (Lent real machine))
-    → core_of ws ≡ coreAfter list → NowHolds ws xs (callCore call (core_of ws) base ram) → core_of xs ≡ coreAfter (list ++ added call base ram)
+    → core_of ws ≡ coreAfter list → NowHolds ws xs (callCore call (core_of ws) base ram)
+    → core_of xs ≡ coreAfter (list ++ added call base ram)
 grown call base ram ws xs list e m =
     m.holds ∙ ap (λ (c : Core). callCore call c base ram) e ∙ run-added call (coreAfter list) base ram
     ∙ (rw (run-append freshCore list (added call base ram)) refl)
 
-pub made-core : (xs : List ℕ) (list : List (Lent real machine)) → Made xs list → core_of xs ≡ coreAfter list
+abbrev pub words_hold_core : Type 0
+words_hold_core = (xs : List ℕ) (list : List (Lent real machine)) → Made xs list → core_of xs ≡ coreAfter list
+
+pub made-core : words_hold_core
 made-core _ _ (fresh ws e) = e
 made-core _ _ (called call base ram ws n old v ys xs list m p) = grown call base ram ws xs list (made-core ws list m) p.words
 made-core _ _ (set call base ram ws n xs list m p) = grown call base ram ws xs list (made-core ws list m) (p.on base ram 0).words
@@ -68,17 +75,35 @@ made-core _ _ (looked first pages base ram ws n old counts list m p) =
     grown (Known (Census first pages)) base ram ws ws list (made-core ws list m) (holds_as stays (sym (census-core (core_of ws) base ram first pages)))
 
 -- THE THEOREM: on such words each call that its contract promises keeps demand 3.
-module _ (ws : List ℕ) (list : List (Lent real machine)) (m : Made ws list) where
-  pub demand-3-on-words : (x : Call) (base : ℕ) (ram : List ℕ) (n old v : ℕ) (ys xs : List ℕ)
-      → Promise (Known x) base ram ws n old v ys xs → FaithfulNumber list (windowOf base ram) x n old v ys
-  demand-3-on-words x base ram n old v ys xs p = p.demand-3 list (made-core ws list m)
 
-  pub demand-3-step : (x : Call) (base : ℕ) (ram : List ℕ) (n : ℕ) (old v ys xs : List ℕ)
-      → StepPromise (Known x) base ram ws n old v ys xs → FaithfulWords list (windowOf base ram) x v ys
-  demand-3-step x base ram n old v ys xs p = p.demand-3 list (made-core ws list m)
+abbrev pub faithful_on_words : Type 0
+faithful_on_words =
+    (ws : List ℕ) (list : List (Lent real machine)) → Made ws list
+    → (x : Call) (base : ℕ) (ram : List ℕ) (n old v : ℕ) (ys xs : List ℕ) → Promise (Known x) base ram ws n old v ys xs
+    → FaithfulNumber list (windowOf base ram) x n old v ys
 
-  -- and a census counts, and answers, as the core without a cache does
-  pub census-on-words : (first pages base : ℕ) (ram : List ℕ) (n : ℕ) (old counts : List ℕ) → CensusPromise first pages base ram ws n old counts
-      → (counts ≡ bareCounts (bareAfter list) (windowOf base ram) first pages old)
-      × (n ≡ codeBy (bareReply (bareAfter list) (windowOf base ram) (Census first pages)).reply)
-  census-on-words first pages base ram n old counts p = p.demand-3 list (made-core ws list m)
+pub demand-3-on-words : faithful_on_words
+demand-3-on-words ws list m x base ram n old v ys xs p = p.demand-3 list (made-core ws list m)
+
+-- so does a step, by the words of its call
+abbrev pub faithful_step_on_words : Type 0
+faithful_step_on_words =
+    (ws : List ℕ) (list : List (Lent real machine)) → Made ws list
+    → (x : Call) (base : ℕ) (ram : List ℕ) (n : ℕ) (old v ys xs : List ℕ)
+    → StepPromise (Known x) base ram ws n old v ys xs
+    → FaithfulWords list (windowOf base ram) x v ys
+
+pub demand-3-step : faithful_step_on_words
+demand-3-step ws list m x base ram n old v ys xs p = p.demand-3 list (made-core ws list m)
+
+-- and a census counts, and answers, as the core without a cache does
+abbrev pub counts_on_words : Type 0
+counts_on_words =
+    (ws : List ℕ) (list : List (Lent real machine)) → Made ws list
+    → (first pages base : ℕ) (ram : List ℕ) (n : ℕ) (old counts : List ℕ)
+    → CensusPromise first pages base ram ws n old counts
+    → (counts ≡ bareCounts (bareAfter list) (windowOf base ram) first pages old)
+    × (n ≡ codeBy (bareReply (bareAfter list) (windowOf base ram) (Census first pages)).reply)
+
+pub census-on-words : counts_on_words
+census-on-words ws list m first pages base ram n old counts p = p.demand-3 list (made-core ws list m)

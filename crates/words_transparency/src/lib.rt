@@ -4,6 +4,8 @@ ghost use Rattle.std.specs.Prelude.{◌≡◌, ◌+◌, ◌/◌, ◌≤◌, leng
 ghost use Rattle.call_words.specs.Ops.{call_of};
 ghost use Rattle.words_transparency.specs.Run.{eight, reached, RunPromise};
 
+pub mod theorems;
+
 use a72abi::calls;
 use words::place::State;
 

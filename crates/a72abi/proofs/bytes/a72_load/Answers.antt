@@ -11,14 +11,14 @@ returns-then-in_page-size c = promise-quiet _ _ _ _ _ _ _ _ refl (search rules)
 pub returns-then-len-base : goal.returns-then-len-base
 returns-then-len-base c = promise-quiet _ _ _ _ _ _ _ _ refl (search rules)
 
-pub returns-in-Value : goal.returns-in-Value
-returns-in-Value c = promise-quiet _ _ _ _ _ _ _ _ refl (search (load_gives, clear-here, quick-load, rules))
+pub returns-in-Some-read_sized : goal.returns-in-Some-read_sized
+returns-in-Some-read_sized c = promise-quiet _ _ _ _ _ _ _ _ refl (search (load_gives, clear-here, quick-load, rules))
 
-pub returns-in-Outside : goal.returns-in-Outside
-returns-in-Outside c = promise-quiet _ _ _ _ _ _ _ _ refl (search rules)
-
-pub returns-in-Unknown : goal.returns-in-Unknown
-returns-in-Unknown c = promise-quiet _ _ _ _ _ _ _ _ refl (search (load_gives, clear-here, rules))
+pub returns-in-None-read_sized : goal.returns-in-None-read_sized
+returns-in-None-read_sized c = promise-quiet _ _ _ _ _ _ _ _ refl (search rules)
 
 pub returns-else-known : goal.returns-else-known
 returns-else-known c = promise-quiet _ _ _ _ _ _ _ _ refl (search (load-high, level-high, rules))
+
+pub returns-in-None : goal.returns-in-None
+returns-in-None c = promise-quiet _ _ _ _ _ _ _ _ refl (search (load_gives, clear-here, rules))

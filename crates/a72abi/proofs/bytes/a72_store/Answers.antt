@@ -16,8 +16,8 @@ returns-then-made c = promise _ _ _ _ _ _ _ _ _ (search (store-gives, clear-here
 pub returns-else-made : goal.returns-else-made
 returns-else-made c = promise _ _ _ _ _ _ _ _ _ (search (unmade-gives, rules)) (search (unmade-after, rules))
 
-pub returns-in-Unknown : goal.returns-in-Unknown
-returns-in-Unknown c = promise _ _ _ _ _ _ _ _ _ (search (store-gives, clear-here, rules)) (search (store-clear-ram, clear-here, rules))
+pub returns-in-None : goal.returns-in-None
+returns-in-None c = promise _ _ _ _ _ _ _ _ _ (search (store-gives, clear-here, rules)) (search (store-clear-ram, clear-here, rules))
 
 pub returns-else-known : goal.returns-else-known
 returns-else-known c = promise _ _ _ _ _ _ _ _ _ (search (store-high, level-high, rules)) (search (store-high-ram, level-high, rules))

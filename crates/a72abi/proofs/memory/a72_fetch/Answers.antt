@@ -1,5 +1,5 @@
 use Rattle.a72abi.proofs.Passing.{level-high, clear-here, ram-high, ram-clear}
-use Rattle.a72abi.proofs.Addressing.{quick-fetch}
+use Rattle.a72abi.proofs.Addressing.{quick-fetch, fetch-unknown}
 use Rattle.a72abi.specs.PromiseLaws.{promise-quiet}
 use Rattle.operations.specs.Check.{missedOf}
 use mathlib.Core.Path.{refl}
@@ -16,8 +16,12 @@ returns-in-Value c = promise-quiet _ _ _ _ _ _ _ _ refl (search (ram-clear, clea
 pub returns-in-Outside : goal.returns-in-Outside
 returns-in-Outside c = promise-quiet _ _ _ _ _ _ _ _ refl (search rules)
 
-pub returns-in-Unknown : goal.returns-in-Unknown
-returns-in-Unknown c = promise-quiet _ _ _ _ _ _ _ _ refl (search rules)
+pub fetch_page-requires : goal.fetch_page-requires
+fetch_page-requires c = search (fetch-unknown, rules)
+
+pub returns-in-None : goal.returns-in-None
+unfolding missedOf
+returns-in-None c = promise-quiet _ _ _ _ _ _ _ _ refl (search (ram-clear, clear-here, rules))
 
 pub returns-else-known : goal.returns-else-known
 unfolding missedOf

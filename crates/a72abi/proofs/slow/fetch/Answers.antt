@@ -4,9 +4,9 @@ use Rattle.operations.specs.Check.{missedOf}
 use borrow.Author.Rules.{rules}
 use Rattle.a72abi.proofs.slow.fetch.Goals as goal
 
-pub returns-in-At : goal.returns-in-At
+pub returns-in-Some : goal.returns-in-Some
 unfolding missedOf
-returns-in-At c = search (passed-gives, fetch-hint-tells, rules)
+returns-in-Some c = search (passed-gives, fetch-hint-tells, rules)
 
 pub fetch_page-requires : goal.fetch_page-requires
 fetch_page-requires c = search (fetch-unknown, rules)

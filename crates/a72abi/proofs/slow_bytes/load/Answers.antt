@@ -9,10 +9,10 @@ pub returns-then-in_page-size : goal.returns-then-in_page-size
 unfolding missedOf
 returns-then-in_page-size c = search (passed-gives, sized-load, rules)
 
-pub returns-in-At : goal.returns-in-At
+pub returns-in-Some-by_hint : goal.returns-in-Some-by_hint
 unfolding missedOf
-returns-in-At c = search (passed-gives, sized-load, hint-load, near-width, rules)
+returns-in-Some-by_hint c = search (passed-gives, sized-load, hint-load, near-width, rules)
 
-pub returns-in-Refused : goal.returns-in-Refused
+pub returns-in-None : goal.returns-in-None
 unfolding missedOf
-returns-in-Refused c = search (passed-gives, sized-none, rules)
+returns-in-None c = search (passed-gives, sized-none, rules)

@@ -15,18 +15,18 @@ pub returns-then-in_page-size-clause-ram_after : goal.returns-then-in_page-size-
 unfolding missedOf
 returns-then-in_page-size-clause-ram_after c = search (passed-ram-is, sized-store-ram, rules)
 
-pub returns-in-At-clause-gives : goal.returns-in-At-clause-gives
+pub returns-in-Some-by_hint-clause-gives : goal.returns-in-Some-by_hint-clause-gives
 unfolding missedOf
-returns-in-At-clause-gives c = search (passed-gives, sized-store, hint-store, near-width, rules)
+returns-in-Some-by_hint-clause-gives c = search (passed-gives, sized-store, hint-store, near-width, rules)
 
-pub returns-in-At-clause-ram_after : goal.returns-in-At-clause-ram_after
+pub returns-in-Some-by_hint-clause-ram_after : goal.returns-in-Some-by_hint-clause-ram_after
 unfolding missedOf
-returns-in-At-clause-ram_after c = search (passed-ram-is, sized-store-ram, hint-store-ram, near-width, rules)
+returns-in-Some-by_hint-clause-ram_after c = search (passed-ram-is, sized-store-ram, hint-store-ram, near-width, rules)
 
-pub returns-in-Refused-clause-gives : goal.returns-in-Refused-clause-gives
+pub returns-in-None-clause-gives : goal.returns-in-None-clause-gives
 unfolding missedOf
-returns-in-Refused-clause-gives c = search (passed-gives, sized-none-store, rules)
+returns-in-None-clause-gives c = search (passed-gives, sized-none-store, rules)
 
-pub returns-in-Refused-clause-ram_after : goal.returns-in-Refused-clause-ram_after
+pub returns-in-None-clause-ram_after : goal.returns-in-None-clause-ram_after
 unfolding missedOf
-returns-in-Refused-clause-ram_after c = search (passed-ram-is, sized-none-ram, rules)
+returns-in-None-clause-ram_after c = search (passed-ram-is, sized-none-ram, rules)

@@ -2,11 +2,11 @@ use Rattle.std.proofs.Common.{rules}
 use Rattle.words_sys.proofs.Registers.{none-answer, none-core, low-answer, low-core, done-answer, done-core}
 use Rattle.words_sys.proofs.register.write_register.Goals as goal
 
-pub returns-in-Nothing-clause-value : goal.returns-in-Nothing-clause-value
-returns-in-Nothing-clause-value c = search (none-answer, rules)
+pub returns-in-None-clause-value : goal.returns-in-None-clause-value
+returns-in-None-clause-value c = search (none-answer, rules)
 
-pub returns-in-Nothing-clause-now_holds : goal.returns-in-Nothing-clause-now_holds
-returns-in-Nothing-clause-now_holds c = search (none-core, rules)
+pub returns-in-None-clause-now_holds : goal.returns-in-None-clause-now_holds
+returns-in-None-clause-now_holds c = search (none-core, rules)
 
 pub returns-then-privilege-eq0-clause-value : goal.returns-then-privilege-eq0-clause-value
 returns-then-privilege-eq0-clause-value c = search (low-answer, rules)

@@ -1,0 +1,55 @@
+// What holds of every census. Each function computes nothing: its contract is the theorem.
+ghost use Rattle.std.specs.Prelude.{◌≡◌, ℕ, ◌+◌, ◌*◌, ◌/◌, ◌<◌, Bool, true, false, Option};
+ghost use Rattle.word.specs.Bits.{wrap};
+ghost use Rattle.walk.specs.Regime.{stage1On};
+ghost use Rattle.walk.specs.declared.regime.Regime.{Regime};
+ghost use Rattle.walk.specs.declared.regime.Bank.{Bank};
+ghost use Rattle.census.specs.Tally.{howMany, total};
+ghost use Rattle.census.specs.Count.{censusOf};
+ghost use Rattle.census.specs.Laws.{faultsWith, hasRights, isFlat, NoStatus, countAt, EachCensus};
+ghost use Rattle.census.specs.Rights.{among, possible};
+ghost use Rattle.census.specs.Cases.{WorkedPlaces, WorkedLevels};
+
+// What each place of a census is the number of: the pages that a fresh walk ends at a status, those whose leaf has a
+// permission byte, and those that are flat. It rules out a page that is counted under another place, or twice.
+pub fn meaning_of_counts()
+    ensures status { EachCensus (λ count end pages. (status : ℕ) → status < 64
+        → count status ≡ howMany (λ i. faultsWith status (end i)) pages) }
+    ensures rights { EachCensus (λ count end pages. (perms : ℕ) → perms < 64
+        → count (64 + perms) ≡ howMany (λ i. hasRights perms (end i)) pages) }
+    ensures flat { EachCensus (λ count end pages. count 128 ≡ howMany (λ i. isFlat (end i)) pages) }
+{}
+
+// All counts together are the number of pages, a census of two adjoining ranges is the sum, place by place, and the low
+// twelve bits of the first address count for nothing.
+pub fn sums_of_counts()
+    ensures all_counted { (s : Bank) (r : Regime) (memory : ℕ → Option ℕ) (first pages : ℕ)
+        → total (censusOf s r memory first pages) ≡ pages }
+    ensures ranges_join { (s : Bank) (r : Regime) (memory : ℕ → Option ℕ) (first n m next j : ℕ)
+        → next ≡ wrap (first + n * 4096) → j < 129
+        → countAt s r memory first (n + m) j ≡ countAt s r memory first n j + countAt s r memory next m j }
+    ensures low_bits_dropped { (s : Bank) (r : Regime) (memory : ℕ → Option ℕ) (first other pages : ℕ)
+        → first / 4096 ≡ other / 4096 → censusOf s r memory first pages ≡ censusOf s r memory other pages }
+{}
+
+// Which places stay 0: the statuses that no walk ends at, all but fourteen permission bytes, and with stage 1 off every
+// place but that of flat pages, which is 0 with stage 1 on.
+pub fn empty_places()
+    ensures no_other_status { EachCensus (λ count end pages. (status : ℕ) → status < 64
+        → NoStatus status → count status ≡ 0) }
+    ensures no_other_rights { EachCensus (λ count end pages. (perms : ℕ) → perms < 64
+        → among perms possible ≡ false → count (64 + perms) ≡ 0) }
+    ensures off_all_flat { (s : Bank) (r : Regime) (memory : ℕ → Option ℕ) (first pages : ℕ)
+        → stage1On s r ≡ false → countAt s r memory first pages 128 ≡ pages }
+    ensures off_none_else { (s : Bank) (r : Regime) (memory : ℕ → Option ℕ) (first pages j : ℕ)
+        → stage1On s r ≡ false → j < 128 → countAt s r memory first pages j ≡ 0 }
+    ensures on_none_flat { (s : Bank) (r : Regime) (memory : ℕ → Option ℕ) (first pages : ℕ)
+        → stage1On s r ≡ true → countAt s r memory first pages 128 ≡ 0 }
+{}
+
+// Censuses of pages on both sides of each border, and one at each exception level, computed. They rule out a range that
+// is untagged once in place of each page, and a level that counts by another level's tables.
+pub fn worked_censuses()
+    ensures places { WorkedPlaces }
+    ensures levels { WorkedLevels }
+{}

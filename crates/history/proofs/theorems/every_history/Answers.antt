@@ -1,0 +1,11 @@
+use Rattle.std.proofs.Common.{arith}
+use Rattle.history.specs.Instance.{real, real-laws, freshPlain, fresh-asid}
+use Rattle.history.proofs.Corollaries.{invisible}
+use Rattle.history.proofs.EveryHistory.{every-history}
+use Rattle.history.proofs.theorems.every_history.Goals as goal
+
+pub returns-clause-faithful : goal.returns-clause-faithful
+returns-clause-faithful c = every-history
+
+pub returns-clause-invisible : goal.returns-clause-invisible
+returns-clause-invisible c = invisible real real-laws freshPlain fresh-asid (omega arith)

@@ -1,0 +1,11 @@
+use Rattle.sysop.specs.OpLaws.{undefined-el0, tlbi-fields, user-el1}
+use Rattle.sysop.proofs.theorems.meaning_of_encodings.Goals as goal
+
+pub returns-clause-undefined_at_el0 : goal.returns-clause-undefined_at_el0
+returns-clause-undefined_at_el0 c = undefined-el0
+
+pub returns-clause-tlbi : goal.returns-clause-tlbi
+returns-clause-tlbi c = tlbi-fields
+
+pub returns-clause-user_of_el1 : goal.returns-clause-user_of_el1
+returns-clause-user_of_el1 c = user-el1

@@ -1,0 +1,8 @@
+use Rattle.sysop.specs.ParLaws.{manual-par, par-f}
+use Rattle.sysop.proofs.theorems.meaning_of_par.Goals as goal
+
+pub returns-clause-manual : goal.returns-clause-manual
+returns-clause-manual c = manual-par
+
+pub returns-clause-failed : goal.returns-clause-failed
+returns-clause-failed c = par-f

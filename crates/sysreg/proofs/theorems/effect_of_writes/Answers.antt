@@ -1,0 +1,17 @@
+use Rattle.sysreg.specs.WriteLaws.{write-el0, write-nothing, control-written, control-others, sys-others}
+use Rattle.sysreg.proofs.theorems.effect_of_writes.Goals as goal
+
+pub returns-clause-undefined_at_el0 : goal.returns-clause-undefined_at_el0
+returns-clause-undefined_at_el0 c = write-el0
+
+pub returns-clause-no_register : goal.returns-clause-no_register
+returns-clause-no_register c = write-nothing
+
+pub returns-clause-control_written : goal.returns-clause-control_written
+returns-clause-control_written c = control-written
+
+pub returns-clause-control_others : goal.returns-clause-control_others
+returns-clause-control_others c = control-others
+
+pub returns-clause-system_others : goal.returns-clause-system_others
+returns-clause-system_others c = sys-others

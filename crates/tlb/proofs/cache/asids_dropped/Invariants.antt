@@ -1,7 +1,0 @@
-use Rattle.std.proofs.Common.{◌≡◌}
-use Rattle.tlb.specs.Lists.{swept}
-use Rattle.tlb.specs.Entry.{asidDropped}
-use Rattle.tlb.proofs.cache.asids_dropped.Given as goal
-
-abbrev pub invariant-loop-e : goal.invariant-loop-e
-invariant-loop-e l = l.e-items ≡ swept (asidDropped l.asid) l.e-index l.fn.entries

@@ -1,0 +1,143 @@
+-- The page census after every list of calls: it counts what the core without a cache would, page by page, and is a step
+-- that does nothing.
+use Rattle.std.specs.Prelude.{◌≡◌, refl, Bool, true, false, List, [], ◌∷◌, ◌++◌, ℕ, zero, suc, ◌+◌, ◌*◌, ◌/◌, ◌%◌, ◌<◌, ◌≤◌, eqb, get_or, Ok, Err}
+use Rattle.std.proofs.Common.{sym, ap, ◌∙◌, ⊎_elim, arith, eqb-true, ne_eqb}
+use Rattle.word.specs.Bits.{flag, pick}
+use Rattle.fault.specs.First.{first as status-of}
+use Rattle.fault.specs.declared.Fault.{Fault}
+use Rattle.walk.specs.FreshLaws.{SoundFresh}
+use Rattle.walk.specs.declared.{level.Leaf.Leaf, fresh.Fresh.Fresh}
+use Rattle.walk.specs.declared.fresh.Fresh.TheVariants.{Flat, Ended}
+use Rattle.census.specs.Tally.{howMany, many-same}
+use Rattle.census.specs.Count.{pageAt, censusAt}
+use Rattle.census.specs.Laws.{faultsWith, hasRights}
+use Rattle.census.proofs.Laws.{sound-at, status-count}
+use Rattle.tlb.specs.declared.access.Kind.{Kind}
+use Rattle.tlb.specs.declared.access.Answer.TheVariants.{Address, Status}
+use Rattle.mmu.specs.Bare.{Bare, freshBare, bareOf}
+use Rattle.mmu.specs.Core.{freshCore}
+use Rattle.mmu.specs.declared.core_state.Core.{Core}
+use Rattle.operations.specs.declared.call.Call.TheVariants.{Census}
+use Rattle.operations.specs.declared.call.Reply.TheVariants.{Refused, Done}
+use Rattle.cpu.specs.Step.{ends, run_of, refusedOr, step_of}
+use Rattle.cpu.specs.Inspect.{countsOf, countsAfter, census-core}
+use Rattle.history.specs.World.{leafAnswer, walkAnswer, needNow, uncached}
+use Rattle.history.specs.Fresh.{freshNow, freshAnswer, uncached-fresh}
+use Rattle.history.specs.Calls.{Lent, run, bareRun}
+use Rattle.history.specs.Instance.{Ram, memoryOf, real}
+use Rattle.transparency.specs.Bare.{Ruling, allowed, number, undefined, unimplemented, plainIn, missedIn, rulingIn, refusalOf}
+use Rattle.transparency.specs.Bare.{ifAllowed, bareStep}
+use Rattle.transparency.specs.Replies.{outcome, bareReply}
+use Rattle.transparency.specs.Machine.{machine}
+use Rattle.transparency.specs.Beside.{coreAfter}
+use Rattle.transparency.proofs.Beside.{two-cores}
+use Rattle.transparency.specs.Census.{regimeIn, bankIn, bareCounts, census, answersFault, NoPermission, answersAddress}
+use Rattle.transparency.specs.Census as Statement
+
+counts-bare : (c : Core) (m : Ram) (first pages : ℕ) (old : List ℕ)
+    → countsAfter c m.base m.bytes first pages old ≡ bareCounts (bareOf c) m first pages old
+unfolding countsAfter
+counts-bare c m first pages old = go (missedIn (bareOf c) m (Census first pages))
+  where
+    go : (n : ℕ) → refusedOr n (λ k. old) (countsOf c m.base m.bytes first pages)
+        ≡ ifAllowed (refusedOr n number allowed) (countsOf c m.base m.bytes first pages) old
+    go zero = refl
+    go (suc n) = refl
+
+-- After every list, refused or not: the counts, and the reply.
+pub census-after : Statement.census_after
+census-after list m first pages old =
+    counts-bare (coreAfter list) m first pages old ∙ ap (λ (b : Bare). bareCounts b m first pages old) (two-cores list)
+
+reply-bare : (c : Core) (m : Ram) (first pages : ℕ)
+    → (step_of c m.base m.bytes (Census first pages)).reply ≡ (bareReply (bareOf c) m (Census first pages)).reply
+unfolding step_of run_of
+reply-bare c m first pages = go (missedIn (bareOf c) m (Census first pages))
+  where
+    go : (n : ℕ) → (refusedOr n (λ k. ends c (Refused k)) (ends c Done)).reply
+        ≡ (ifAllowed (refusedOr n number allowed) (outcome Done m.bytes) (outcome (refusalOf (refusedOr n number allowed)) m.bytes)).reply
+    go zero = refl
+    go (suc n) = refl
+
+pub census-reply : Statement.census_reply
+census-reply list m first pages =
+    reply-bare (coreAfter list) m first pages ∙ ap (λ (b : Bare). (bareReply b m (Census first pages)).reply) (two-cores list)
+
+-- A STEP THAT DOES NOTHING: a list with a census in it leaves what it leaves without, whatever RAM the census was shown
+
+core-skips : (c : Core) (before after : List (Lent real machine)) (m : Ram) (first pages : ℕ)
+    → run real machine c (before ++ (census m first pages ∷ after)) ≡ run real machine c (before ++ after)
+core-skips c [] after m first pages = ap (λ (d : Core). run real machine d after) (census-core c m.base m.bytes first pages)
+core-skips c (x ∷ before) after m first pages = core-skips (step_of c x.ram.base x.ram.bytes x.call).core before after m first pages
+
+bare-stays : (b : Bare) (m : Ram) (first pages : ℕ) → bareStep b m (Census first pages) ≡ b
+bare-stays b m first pages = go (rulingIn b m (Census first pages))
+  where
+    go : (v : Ruling) → ifAllowed v b b ≡ b
+    go allowed = refl
+    go (number n) = refl
+    go undefined = refl
+    go unimplemented = refl
+
+bare-skips : (b : Bare) (before after : List (Lent real machine)) (m : Ram) (first pages : ℕ)
+    → bareRun real machine b (before ++ (census m first pages ∷ after)) ≡ bareRun real machine b (before ++ after)
+bare-skips b [] after m first pages = ap (λ (d : Bare). bareRun real machine d after) (bare-stays b m first pages)
+bare-skips b (x ∷ before) after m first pages = bare-skips (bareStep b x.ram x.call) before after m first pages
+
+pub census-skipped : Statement.census_skipped
+census-skipped before after m first pages = (core-skips freshCore before after m first pages, bare-skips freshBare before after m first pages)
+
+-- WHAT A COUNT MEANS
+
+leaf-answers : (status bit va : ℕ) → NoPermission status → (leaf : Leaf) → 1 ≤ leaf.level → leaf.level ≤ 3
+    → answersFault status (leafAnswer leaf bit va) ≡ false
+unfolding leafAnswer
+leaf-answers status bit va h leaf low high = go (eqb (leaf.perms / bit % 2) 1)
+  where
+    go : (b : Bool) → answersFault status (pick b (Address (leaf.oa / 4096 * 4096 + va % 4096)) (Status (status-of (12 + leaf.level)))) ≡ false
+    go true = refl
+    go false = ne_eqb (12 + leaf.level) status (λ e. ⊎_elim (λ k. omega arith) (λ k. omega arith) h)
+
+fresh-answers : (status bit va : ℕ) → NoPermission status → (x : Fresh) → SoundFresh x → answersFault status (freshAnswer x bit va) ≡ faultsWith status x
+unfolding walkAnswer
+fresh-answers status bit va h (Ended (Err n)) sound = refl
+fresh-answers status bit va h (Ended (Ok leaf)) sound = leaf-answers status bit va h leaf sound.level-low sound.level-high
+fresh-answers status bit va h (Flat pa) sound = refl
+
+status-faults : (b : Bare) (m : Ram) (first pages status : ℕ) (k : Kind) → status < 64 → NoPermission status
+    → get_or (censusAt b.control b.privilege.level (memoryOf m) first pages) status 0
+    ≡ howMany (λ i. answersFault status (uncached real (plainIn b) m k (pageAt first i))) pages
+status-faults b m first pages status k small h =
+    status-count (bankIn b) (regimeIn b) (memoryOf m) first pages status small ∙ many-same _ _ pages same
+  where
+    same : (i : ℕ) → faultsWith status (freshNow (plainIn b) m (pageAt first i)) ≡ answersFault status (uncached real (plainIn b) m k (pageAt first i))
+    same i =
+        sym
+        (fresh-answers status (needNow real (plainIn b) k) (pageAt first i) h (freshNow (plainIn b) m (pageAt first i))
+        (sound-at (bankIn b) (regimeIn b) (memoryOf m) first i))
+        ∙ ap (answersFault status) (sym (uncached-fresh (plainIn b) m k (pageAt first i)))
+
+-- Under a status stand the pages of which the core without a cache answers an access of any kind with that fault.
+pub census-faults : Statement.census_faults
+census-faults b m first pages status k old small h passed = rw passed (status-faults b m first pages status k small h)
+
+picked : (b : Bool) (pa : ℕ) (f : Fault) → answersAddress (pick b (Address pa) (Status f)) ≡ b
+picked true pa f = refl
+picked false pa f = refl
+
+rights-fresh : (perms bit va : ℕ) (x : Fresh) → hasRights perms x ≡ true → answersAddress (freshAnswer x bit va) ≡ eqb (perms / bit % 2) 1
+unfolding walkAnswer leafAnswer
+rights-fresh perms bit va (Ended (Ok leaf)) h =
+    picked (eqb (leaf.perms / bit % 2) 1) (leaf.oa / 4096 * 4096 + va % 4096) (status-of (12 + leaf.level))
+    ∙ ap (λ (p : ℕ). eqb (p / bit % 2) 1) (eqb-true leaf.perms perms h)
+rights-fresh perms bit va (Ended (Err n)) h = absurd (let z : ◌≡◌ {A = ℕ} 0 1 = ap (λ (b : Bool). flag b 1) h in omega arith)
+rights-fresh perms bit va (Flat pa) h = absurd (let z : ◌≡◌ {A = ℕ} 0 1 = ap (λ (b : Bool). flag b 1) h in omega arith)
+
+-- Of a page that is counted under a permission byte, and of a flat one.
+pub rights-allow : Statement.rights_allow
+rights-allow b m k va perms h =
+    ap answersAddress (uncached-fresh (plainIn b) m k va) ∙ rights-fresh perms (needNow real (plainIn b) k) va (freshNow (plainIn b) m va) h
+
+pub flat-allows : Statement.flat_allows
+flat-allows b m k va pa e =
+    uncached-fresh (plainIn b) m k va ∙ ap (λ (x : Fresh). freshAnswer x (needNow real (plainIn b) k) va) e

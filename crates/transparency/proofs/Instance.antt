@@ -1,0 +1,28 @@
+-- Demand 3 of every list of calls of the core, from the fresh core that `Cpu::new` gives.
+use Rattle.std.specs.Prelude.{refl}
+use Rattle.std.proofs.Common.{arith}
+use Rattle.mmu.specs.Core.{freshCore}
+use Rattle.history.specs.Calls.{Demand3Calls, SameReplies, InvisibleCalls}
+use Rattle.history.proofs.EveryCall.{demand-3-calls}
+use Rattle.history.proofs.EveryReply.{same-replies, invisible-calls}
+use Rattle.history.specs.Instance.{real, real-laws, fresh-asid}
+use Rattle.transparency.specs.Machine.{machine}
+use Rattle.transparency.specs.Instance.{replies}
+use Rattle.transparency.proofs.Bridge.{bridge}
+use Rattle.transparency.proofs.Alone.{alone-same}
+
+-- After every list of calls, in every call, each translation of a page that meets the premise is answered as by the
+-- core without a cache.
+pub every_call : Demand3Calls real machine freshCore
+unfolding freshCore
+every_call = demand-3-calls real machine bridge real-laws freshCore refl fresh-asid (omega arith)
+
+-- Where all pages that a call translates meet the premise, its reply and RAM are those of the core without a cache.
+pub every-reply : SameReplies real machine replies freshCore
+unfolding freshCore
+every-reply = same-replies real machine bridge real-laws freshCore refl fresh-asid (omega arith) replies alone-same
+
+-- Where no table is changed without the matching TLBI, no reply and no RAM of a list shows the cache.
+pub invisible : InvisibleCalls real machine replies freshCore
+unfolding freshCore
+invisible = invisible-calls real machine bridge real-laws freshCore refl fresh-asid (omega arith) replies alone-same

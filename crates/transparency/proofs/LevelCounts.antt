@@ -1,0 +1,227 @@
+-- The counters of each level, for every list of calls from the fresh core. Document 02: "Keep `hits` and `walks` for
+-- each exception level 0 to 3, counted at the level of the access, which `unprivileged` doesn't lower. Their sums,
+-- wrapped at 2^64, are what the Rust's two counters are matched with". Which translations a list made, at which level,
+-- and how each was answered is read from the plain model, on the events of the list (Events.antt; RAM at a zeroing's
+-- later stores as the run shows it: Starts.antt).
+use Rattle.std.specs.Prelude.{◌≡◌, refl, true, List, [], ◌∷◌, ℕ, ◌+◌, ◌%◌, ◌^◌, ◌<◌}
+use Rattle.std.proofs.Common.{sym, ap, subst, ◌∙◌, arith}
+use Rattle.std.proofs.lemmas.Bool.{false≢true}
+use Rattle.word.specs.Bits.{alignDown, wrap}
+use Rattle.word.specs.Ram.{width_of}
+use Rattle.tlb.specs.Asks.{translates, fetches}
+use Rattle.tlb.specs.Counting.{howCounted, fetch-counts, sums}
+use Rattle.tlb.specs.Live.{countersOf}
+use Rattle.tlb.specs.Lists.{Each, done, each-imp}
+use Rattle.tlb.specs.Model.{Counters, Model, emptyModel}
+use Rattle.tlb.specs.declared.access.Kind.TheVariants as Kind
+use Rattle.tlb.specs.declared.Tlb.{Tlb}
+use Rattle.sysop.specs.declared.op.SysOp.{SysOp}
+use Rattle.sysop.specs.declared.op.SysOp.TheVariants as Op
+use Rattle.mmu.specs.Bare.{Bare, freshBare}
+use Rattle.operations.specs.declared.{call.Encoding.Encoding, call.Call.Call}
+use Rattle.operations.specs.declared.call.Call.TheVariants.{Translate, DataPa, FetchPa, Load, Store, Fetch, System, Register, Level, Mark, General}
+use Rattle.operations.specs.declared.call.Call.TheVariants.{Abort, Census}
+use Rattle.history.specs.History.{Step, steps}
+use Rattle.history.specs.Calls.{Lent}
+use Rattle.history.specs.Instance.{Ram, real}
+use Rattle.history.specs.ModelRun.{modelEvent}
+use Rattle.history.specs.Tallies.{Made, byLine, byWalk, howMany, at, rustAfter, madeRun, each_append, made-level, run-hits, run-walks, run-sums, run-other}
+use Rattle.transparency.specs.Bare.{plainIn, opIn, operandIn, Ruling, allowed, number, undefined, unimplemented, rulingIn, ifAllowed}
+use Rattle.transparency.specs.Events.{asking, idle, accessIn, sizedIn, zeroSteps, sysSteps, stepsIn, eventsIn}
+use Rattle.transparency.specs.Starts.{laterIn}
+use Rattle.transparency.specs.Machine.{machine}
+use Rattle.transparency.specs.Beside.{coreAfter, bareAfter}
+use Rattle.transparency.specs.Faithful.{eventsAfter}
+use Rattle.transparency.specs.ModelCalls.{eventsBy, modelAfterList, tlbAfterCall}
+use Rattle.transparency.proofs.ModelCalls.{stands, low-now, every-call-model}
+use Rattle.transparency.specs.LevelCounts.{madeBy, madeAfter, hitsOf, walksOf, quietOp, quiet}
+use Rattle.transparency.specs.LevelCounts as Statement
+
+from-none : (n : ℕ) → (0 + n) % 2 ^ 64 ≡ n % 2 ^ 64
+from-none n = omega arith
+
+wraps : (n : ℕ) → n % 2 ^ 64 < 2 ^ 64
+wraps n = omega arith
+
+-- FROM THE FRESH CORE
+
+module _ (list : List (Lent real machine)) where
+  abbrev now : Tlb
+  now = (coreAfter list).tlb
+
+  counts-are : countersOf now.counts ≡ (modelAfterList list).counts
+  counts-are = ap (λ (u : Model). u.counts) (stands list).is
+
+  -- each level's counts are the number of its translations that an entry answered, that were walked
+  pub level-hits : Statement.level_hits list
+  level-hits l = (λ i. (counts-are i).hits l) ∙ run-hits real (eventsBy list) (plainIn freshBare) emptyModel l (omega arith) ∙ from-none _
+
+  pub level-walks : Statement.level_walks list
+  level-walks l = (λ i. (counts-are i).walks l) ∙ run-walks real (eventsBy list) (plainIn freshBare) emptyModel l (omega arith) ∙ from-none _
+
+  small-hits : (l : ℕ) → hitsOf now l < 2 ^ 64
+  small-hits l = rw (level-hits l) (wraps (howMany (at l byLine) (madeBy list)))
+
+  small-walks : (l : ℕ) → walksOf now l < 2 ^ 64
+  small-walks l = rw (level-walks l) (wraps (howMany (at l byWalk) (madeBy list)))
+
+  -- the sums are the Rust's two counters, which begin at 0
+  pub sums-list : Statement.sums_list list
+  sums-list = ap sums counts-are ∙ run-sums real (eventsBy list) (plainIn freshBare) emptyModel (omega arith)
+
+-- EACH CALL AFTER A LIST
+
+-- all of a call's translations are made at the level at which it begins
+module _ (b : Bare) where
+  abbrev AtLevel : List Made → Type 0
+  AtLevel xs = Each (λ x. x.level ≡ b.privilege.level) xs
+
+  one : (m : Ram) (s : Step real) (u : Model) → AtLevel (madeRun real (plainIn b) (steps m s ∷ []) u)
+  one m s u = each_append (made-level real (plainIn b) m s.asks u) done
+
+  abbrev storing : ℕ → Step real
+  storing va = asking (accessIn b va 8 Kind.Write)
+
+  zero-level : (m : Ram) (ms : List Ram) (va : ℕ) (u : Model) → AtLevel (madeRun real (plainIn b) (zeroSteps b m ms va) u)
+  zero-level m [] va u = one m (storing va) u
+  zero-level m (n ∷ ms) va u =
+      each_append (made-level real (plainIn b) m (storing va).asks u)
+      (zero-level n ms (wrap (va + 8)) (modelEvent real (steps m (storing va)) (plainIn b) u))
+
+  sys-level : (op : SysOp) (m : Ram) (ms : List Ram) (e : Encoding) (u : Model) → AtLevel (madeRun real (plainIn b) (sysSteps op b m ms e) u)
+  sys-level Op.Zva m ms e u = zero-level m ms (alignDown (operandIn b e) 6) u
+  sys-level Op.Tlbi m ms e u = done
+  sys-level (Op.At form) m ms e u = done
+  sys-level Op.Nothing m ms e u = done
+  sys-level Op.Undefined m ms e u = done
+  sys-level Op.Unimplemented m ms e u = done
+
+  steps-level : (x : Call) (m : Ram) (ms : List Ram) (u : Model) → AtLevel (madeRun real (plainIn b) (stepsIn b m ms x) u)
+  steps-level (Translate kind va) m ms u = one m (asking (translates kind va ∷ [])) u
+  steps-level (DataPa va) m ms u = one m (asking (translates Kind.Read va ∷ [])) u
+  steps-level (FetchPa va) m ms u = one m (asking (fetches va ∷ [])) u
+  steps-level (Load va size) m ms u = one m (asking (sizedIn b va (width_of size) Kind.Read)) u
+  steps-level (Store va size value) m ms u = one m (asking (sizedIn b va (width_of size) Kind.Write)) u
+  steps-level (Fetch va) m ms u = one m (asking (fetches va ∷ [])) u
+  steps-level (System e) m ms u = sys-level (opIn b e) m ms e u
+  steps-level (Register key value) m ms u = done
+  steps-level (Level level) m ms u = done
+  steps-level (Mark mark) m ms u = done
+  steps-level (General n value) m ms u = done
+  steps-level (Abort e) m ms u = done
+  steps-level (Census first pages) m ms u = done
+
+  events-level : (x : Call) (m : Ram) (ms : List Ram) (u : Model) → AtLevel (madeRun real (plainIn b) (eventsIn b m ms x) u)
+  events-level x m ms u = go (rulingIn b m x)
+    where
+      go : (r : Ruling) → AtLevel (madeRun real (plainIn b) (ifAllowed r (stepsIn b m ms x) (steps m idle ∷ [])) u)
+      go allowed = steps-level x m ms u
+      go (number n) = done
+      go undefined = done
+      go unimplemented = done
+
+module _ (list : List (Lent real machine)) (m : Ram) (x : Call) where
+  -- the level of the call: the core's own, whatever the mark
+  abbrev level : ℕ
+  level = (bareAfter list).privilege.level
+
+  abbrev then : Tlb
+  then = tlbAfterCall list m x
+
+  pub call-level : Statement.call_level list m x
+  call-level = events-level (bareAfter list) x m (laterIn (coreAfter list) m x) (modelAfterList list)
+
+  counts-before : countersOf (now list).counts ≡ (modelAfterList list).counts
+  counts-before = counts-are list
+
+  -- a level at which it makes no translation keeps its counters
+  unmade-stays : (l : ℕ) → Each (λ y. l ≡ y.level → ⊥) (madeAfter list m x)
+      → (hitsOf then l ≡ hitsOf (now list) l) × (walksOf then l ≡ walksOf (now list) l)
+  unmade-stays l none =
+      let stay = run-other real (eventsAfter list m x) (plainIn (bareAfter list)) (modelAfterList list) l none in
+      let after = (every-call-model list m x).counts in
+      ((λ i. (after i).hits l) ∙ stay.0 ∙ (λ i. (sym counts-before i).hits l), (λ i. (after i).walks l) ∙ stay.1 ∙ (λ i. (sym counts-before i).walks l))
+
+  -- so no other level's counters move
+  pub others-stay : Statement.others_stay list m x
+  others-stay l ne = unmade-stays l (each-imp (λ y e q. ne (q ∙ e)) call-level)
+
+  -- the call's own level: by the number of its translations that an entry answered, that were walked
+  pub own-hits : Statement.own_hits list m x
+  own-hits =
+      (λ i. ((every-call-model list m x).counts i).hits level)
+      ∙ run-hits real (eventsAfter list m x) (plainIn (bareAfter list)) (modelAfterList list) level (rw (← counts-before) (small-hits list level))
+      ∙ ap (λ (n : ℕ). (n + howMany (at level byLine) (madeAfter list m x)) % 2 ^ 64) (λ i. (sym counts-before i).hits level)
+
+  pub own-walks : Statement.own_walks list m x
+  own-walks =
+      (λ i. ((every-call-model list m x).counts i).walks level)
+      ∙ run-walks real (eventsAfter list m x) (plainIn (bareAfter list)) (modelAfterList list) level (rw (← counts-before) (small-walks list level))
+      ∙ ap (λ (n : ℕ). (n + howMany (at level byWalk) (madeAfter list m x)) % 2 ^ 64) (λ i. (sym counts-before i).walks level)
+
+  -- the sums move as the Rust's two counters
+  pub sums-call : Statement.sums_call list m x
+  sums-call =
+      ap sums (every-call-model list m x).counts
+      ∙ run-sums real (eventsAfter list m x) (plainIn (bareAfter list)) (modelAfterList list) (low-now list m x)
+      ∙ ap (λ (k : Counters). rustAfter (madeAfter list m x) (sums k)) (sym counts-before)
+
+module _ (b : Bare) (m : Ram) (ms : List Ram) (u : Model) where
+  sys-none : (op : SysOp) (e : Encoding) → quietOp op ≡ true → madeRun real (plainIn b) (sysSteps op b m ms e) u ≡ []
+  sys-none Op.Zva e q = absurd (false≢true q)
+  sys-none Op.Tlbi e q = refl
+  sys-none (Op.At form) e q = refl
+  sys-none Op.Nothing e q = refl
+  sys-none Op.Undefined e q = refl
+  sys-none Op.Unimplemented e q = refl
+
+  steps-none : (x : Call) → quiet b x ≡ true → madeRun real (plainIn b) (stepsIn b m ms x) u ≡ []
+  steps-none (Translate kind va) q = absurd (false≢true q)
+  steps-none (DataPa va) q = absurd (false≢true q)
+  steps-none (FetchPa va) q = absurd (false≢true q)
+  steps-none (Load va size) q = absurd (false≢true q)
+  steps-none (Store va size value) q = absurd (false≢true q)
+  steps-none (Fetch va) q = absurd (false≢true q)
+  steps-none (System e) q = sys-none (opIn b e) e q
+  steps-none (Register key value) q = refl
+  steps-none (Level n) q = refl
+  steps-none (Mark mark) q = refl
+  steps-none (General n value) q = refl
+  steps-none (Abort e) q = refl
+  steps-none (Census first pages) q = refl
+
+  events-none : (x : Call) → quiet b x ≡ true → madeRun real (plainIn b) (eventsIn b m ms x) u ≡ []
+  events-none x q = go (rulingIn b m x)
+    where
+      go : (r : Ruling) → madeRun real (plainIn b) (ifAllowed r (stepsIn b m ms x) (steps m idle ∷ [])) u ≡ []
+      go allowed = steps-none x q
+      go (number n) = refl
+      go undefined = refl
+      go unimplemented = refl
+
+-- a refused call makes none either
+refused_none : (b : Bare) (m : Ram) (ms : List Ram) (u : Model) (x : Call) → (rulingIn b m x ≡ allowed → ⊥)
+    → madeRun real (plainIn b) (eventsIn b m ms x) u ≡ []
+refused_none b m ms u x not = go (rulingIn b m x) refl
+  where
+    go : (r : Ruling) → rulingIn b m x ≡ r → madeRun real (plainIn b) (ifAllowed r (stepsIn b m ms x) (steps m idle ∷ [])) u ≡ []
+    go allowed e = absurd (not e)
+    go (number n) e = refl
+    go undefined e = refl
+    go unimplemented e = refl
+
+pub refused-stays : Statement.refused_stays
+refused-stays list m x not l =
+    let none : madeAfter list m x ≡ [] = refused_none (bareAfter list) m (laterIn (coreAfter list) m x) (modelAfterList list) x not in
+    unmade-stays list m x l (subst (Each (λ (y : Made). l ≡ y.level → ⊥)) (sym none) done)
+
+-- after every list such a call leaves the counters of every level
+pub quiet-stays : Statement.quiet_stays
+quiet-stays list m x q l =
+    let none : madeAfter list m x ≡ [] = events-none (bareAfter list) m (laterIn (coreAfter list) m x) (modelAfterList list) x q in
+    unmade-stays list m x l (subst (Each (λ (y : Made). l ≡ y.level → ⊥)) (sym none) done)
+
+-- THE MARK, of the translation that a fetch begins with (of others: `mark-free`, tlb/specs/Counting.antt): the counters
+-- are a function of how it was answered and of the level
+pub fetch-mark-free : Statement.fetch_mark_free
+fetch-mark-free a b m same how = fetch-counts a m ∙ (λ i. howCounted (how i) (same i) m.counts) ∙ sym (fetch-counts b m)

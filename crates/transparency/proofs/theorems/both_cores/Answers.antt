@@ -1,0 +1,5 @@
+use Rattle.transparency.proofs.Beside.{two-cores}
+use Rattle.transparency.proofs.theorems.both_cores.Goals as goal
+
+pub returns : goal.returns
+returns c = record { agree = two-cores }

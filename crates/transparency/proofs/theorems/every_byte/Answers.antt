@@ -1,0 +1,17 @@
+use Rattle.transparency.proofs.Bytes.{flat_after, load-byte-after, store-byte-after, store-others-after, zva-after}
+use Rattle.transparency.proofs.theorems.every_byte.Goals as goal
+
+pub returns-clause-flat : goal.returns-clause-flat
+returns-clause-flat c = flat_after
+
+pub returns-clause-load : goal.returns-clause-load
+returns-clause-load c = load-byte-after
+
+pub returns-clause-store : goal.returns-clause-store
+returns-clause-store c = store-byte-after
+
+pub returns-clause-others : goal.returns-clause-others
+returns-clause-others c = store-others-after
+
+pub returns-clause-zeroing : goal.returns-clause-zeroing
+returns-clause-zeroing c = zva-after

@@ -1,0 +1,5 @@
+use Rattle.transparency.proofs.Faithful.{faithful-step}
+use Rattle.transparency.proofs.theorems.every_promise.Goals as goal
+
+pub returns : goal.returns
+returns c = record { faithful = faithful-step }

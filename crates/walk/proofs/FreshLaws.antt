@@ -1,0 +1,35 @@
+-- Every fresh answer is flat, a leaf within its bounds or a status of the table of answers.
+use Rattle.std.specs.Prelude.{◌≡◌, Bool, ℕ, Option, Ok, Err}
+use Rattle.std.proofs.Common.{subst}
+use Rattle.std.proofs.Math.Bool.{true, false}
+use Rattle.word.specs.Bits.{pick}
+use Rattle.walk.specs.Regime.{stage1On}
+use Rattle.walk.specs.Tag.{untagged}
+use Rattle.walk.specs.Walk.{walk_of}
+use Rattle.walk.specs.Fresh.{fresh_of}
+use Rattle.walk.specs.WalkBounds.{LeafBounds, SoundWalked}
+use Rattle.walk.proofs.WalkBounds.{walk-sound}
+use Rattle.walk.specs.declared.{regime.Regime.Regime, regime.Bank.Bank, level.Leaf.Leaf, fresh.Fresh.Fresh}
+use Rattle.walk.specs.declared.fresh.Fresh.TheVariants.{Flat, Ended}
+use Rattle.walk.specs.FreshLaws.{SoundEnd, SoundFresh}
+use Rattle.walk.specs.Answers.{Walked}
+
+walk_end : (va : ℕ) (w : Walked) → SoundWalked va w → SoundEnd w
+walk_end va (Ok leaf) h = h.0
+walk_end va (Err n) h = h
+
+module _ (s : Bank) (r : Regime) (va : ℕ) (memory : ℕ → Option ℕ) where
+  pub answer-sound : SoundFresh (fresh_of s r va memory)
+  unfolding fresh_of
+  answer-sound = go (stage1On s r)
+    where
+      go : (b : Bool) → SoundFresh (pick b (Ended (walk_of s r (untagged s.tcr r va) memory)) (Flat va))
+      go true = walk_end _ (walk_of s r (untagged s.tcr r va) memory) (walk-sound s r (untagged s.tcr r va) memory)
+      go false = tt
+
+  pub is-sound : (x : Fresh) → x ≡ fresh_of s r va memory → SoundFresh x
+  is-sound x e = rw e answer-sound
+
+  -- a leaf that it ends in
+  pub fresh-leaf : (x : Fresh) (w : Walked) (leaf : Leaf) → x ≡ fresh_of s r va memory → x ≡ Ended w → w ≡ Ok leaf → LeafBounds leaf
+  fresh-leaf x w leaf e x-is w-is = subst SoundEnd w-is (subst SoundFresh x-is (is-sound x e))

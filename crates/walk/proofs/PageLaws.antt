@@ -1,0 +1,218 @@
+-- A walk goes by pages: addresses of one page have one walk but for the offset in the page, which is the address's own.
+use Rattle.std.specs.Prelude.{◌≡◌, true, false, ◌&&◌, ◌||◌, eqb, ltb, Option, Some, None, Ok, Err}
+use Rattle.std.proofs.Math.Path.{refl, sym, ap}
+use Rattle.std.proofs.Common.{subst, ◌∙◌, arith}
+use Rattle.std.proofs.Math.Bool.{Bool, not}
+use mathlib.Core.List.{List, ◌∷◌}
+use Prim.Native.Nat.{ℕ, zero, suc, ◌+◌, ◌-◌, ◌/◌, ◌%◌, ◌^◌, ◌≤◌}
+use Rattle.word.specs.Bits.{alignDown, pick}
+use Rattle.word.specs.BitLaws.{same_above, join-above}
+use Rattle.walk.specs.Regime.{singlePriv, wxnOf}
+use Rattle.walk.specs.Descriptor.{valid, tableOrPage, af}
+use Rattle.walk.specs.Table.{Translation, Result, mapped, faults, addressSize, translation, accessFlag, externalAbort, firstblocklevel, inputsize}
+use Rattle.walk.specs.Table.{in_range, startlevel, addrselectbottom, beyond, outputaddress, Lookup, Next, deeper, ends, firstLookup, range_of, params_of}
+use Rattle.walk.specs.Table.{tableNext, leafTranslation, leafResult, levelNext, descaddr, on_word, lookupNext, onNext, walkFrom, walkRange, tableWalk}
+use Rattle.walk.specs.Walk.{walkedOf, walk_of}
+use Rattle.walk.specs.SizeLaws.{input-low, index-above-page}
+use Rattle.walk.specs.WalkBounds.{SoundWalked}
+use Rattle.walk.proofs.WalkBounds.{walk-sound}
+use Rattle.walk.specs.Fetches.{afterNext, fetchesFrom, fetchesRange, fetchesOf}
+use Rattle.walk.specs.declared.{regime.Regime.Regime, regime.Bank.Bank, range.Range.Range, level.Params.Params}
+use Rattle.walk.specs.declared.level.Leaf.{Leaf}
+use Rattle.walk.specs.declared.regime.Regime.TheVariants.{El1, El2, El3}
+use Rattle.walk.specs.PageLaws.{withAddress, pagedLeaf, paged, leafAt}
+use Rattle.walk.specs.Answers.{Walked}
+
+-- the same of the manual's results
+abbrev pagedFound : Translation → Translation
+pagedFound t =
+    record {
+      address = alignDown t.address 12;
+      level = t.level;
+      perms = t.perms;
+      nG = t.nG;
+      descriptor = t.descriptor;
+    }
+
+abbrev pagedResult : Result → Result
+pagedResult (mapped t) = mapped (pagedFound t)
+pagedResult (faults f) = faults f
+
+abbrev pagedNext : Next → Next
+pagedNext (deeper l) = deeper l
+pagedNext (ends r) = ends (pagedResult r)
+
+deeper-inj : (l k : Lookup) → deeper l ≡ deeper k → l ≡ k
+deeper-inj l k e = cc
+
+ends-inj : (r q : Result) → ends r ≡ ends q → r ≡ q
+ends-inj r q e = cc
+
+deeper-ends : (l : Lookup) (r : Result) → deeper l ≡ ends r → ⊥
+deeper-ends l r e = let z : ◌≡◌ {A = ℕ} 0 1 = cc in omega arith
+
+paged-walked : (singlepriv wxn : Bool) (x : Result) → paged (walkedOf singlepriv wxn x) ≡ walkedOf singlepriv wxn (pagedResult x)
+paged-walked singlepriv wxn (mapped t) = refl
+paged-walked singlepriv wxn (faults f) = refl
+
+module _ (va vb : ℕ) (same : va / 2 ^ 12 ≡ vb / 2 ^ 12) where
+  -- what is read of an address from bit 12 up
+  above : (n : ℕ) → 12 ≤ n → va / 2 ^ n ≡ vb / 2 ^ n
+  above n h = same_above va vb h same
+
+  output-page : (n desc : ℕ) → 12 ≤ n → alignDown (outputaddress n va desc) 12 ≡ alignDown (outputaddress n vb desc) 12
+  output-page n desc h = rw (join-above (desc % 2 ^ 48) va h, join-above (desc % 2 ^ 48) vb h, same)
+
+  module _ (p : Params) where
+    leaf-page : (l : Lookup) (desc : ℕ) → pagedFound (leafTranslation p va l desc) ≡ pagedFound (leafTranslation p vb l desc)
+    unfolding leafTranslation
+    leaf-page l desc = rw (output-page (addrselectbottom p.largegrain l.level) desc (index-above-page p.largegrain l.level))
+
+    result-page : (l : Lookup) (desc : ℕ) → pagedResult (leafResult p va l desc) ≡ pagedResult (leafResult p vb l desc)
+    unfolding leafResult
+    result-page l desc = go (ltb l.level (firstblocklevel p.largegrain)) (beyond p.outputsize desc) (af desc)
+      where
+        leaf : Bool → Bool → Bool → ℕ → Result
+        leaf a b c v =
+            pick a (faults (translation l.level))
+            (pick b (faults (addressSize l.level)) (pick c (mapped (leafTranslation p v l desc)) (faults (accessFlag l.level))))
+
+        go : (a b c : Bool) → pagedResult (leaf a b c va) ≡ pagedResult (leaf a b c vb)
+        go true b c = refl
+        go false true c = refl
+        go false false true = ap mapped (leaf-page l desc)
+        go false false false = refl
+
+    level-page : (l : Lookup) (desc : ℕ) → pagedNext (levelNext p va l desc) ≡ pagedNext (levelNext p vb l desc)
+    unfolding levelNext
+    level-page l desc = go (not (valid desc) || (eqb l.level 3 && not (tableOrPage desc))) (eqb l.level 3 || not (tableOrPage desc))
+      where
+        next : Bool → Bool → ℕ → Next
+        next a b v = pick a (ends (faults (translation l.level))) (pick b (ends (leafResult p v l desc)) (tableNext p l desc))
+
+        go : (a b : Bool) → pagedNext (next a b va) ≡ pagedNext (next a b vb)
+        go true b = refl
+        go false true = ap ends (result-page l desc)
+        go false false = refl
+
+    same_address : (l : Lookup) → descaddr p va l ≡ descaddr p vb l
+    unfolding descaddr
+    same_address l = rw (above (addrselectbottom p.largegrain l.level) (index-above-page p.largegrain l.level))
+
+    lookup-page : (memory : ℕ → Option ℕ) (l : Lookup) → pagedNext (lookupNext memory p va l) ≡ pagedNext (lookupNext memory p vb l)
+    unfolding lookupNext
+    lookup-page memory l = rw (same_address l) (go (memory (descaddr p vb l)))
+      where
+        next : Option ℕ → ℕ → Next
+        next x v = on_word x (levelNext p v l) (ends (faults (externalAbort l.level)))
+
+        go : (x : Option ℕ) → pagedNext (next x va) ≡ pagedNext (next x vb)
+        go (Some desc) = level-page l desc
+        go None = refl
+
+    from-page : (n : ℕ) (memory : ℕ → Option ℕ) (l : Lookup) → pagedResult (walkFrom n memory p va l) ≡ pagedResult (walkFrom n memory p vb l)
+    unfolding walkFrom
+    from-page zero memory l = refl
+    from-page (suc n) memory l = go (lookupNext memory p va l) (lookupNext memory p vb l) (lookup-page memory l) (from-page n memory)
+      where
+        go : (x y : Next) → pagedNext x ≡ pagedNext y
+            → ((k : Lookup) → pagedResult (walkFrom n memory p va k) ≡ pagedResult (walkFrom n memory p vb k))
+            → pagedResult (onNext x (walkFrom n memory p va)) ≡ pagedResult (onNext y (walkFrom n memory p vb))
+        go (deeper k) (deeper j) e ih = rw (deeper-inj k j e) (ih j)
+        go (deeper k) (ends r) e ih = absurd (deeper-ends k _ e)
+        go (ends r) (deeper j) e ih = absurd (deeper-ends j _ (sym e))
+        go (ends r) (ends q) e ih = ends-inj _ _ e
+
+    range-page : (g : Range) (memory : ℕ → Option ℕ) → pagedResult (walkRange p g va memory) ≡ pagedResult (walkRange p g vb memory)
+    unfolding walkRange
+    range-page g memory =
+        let h : 12 ≤ inputsize g = omega (arith, input-low g) in
+        rw (above (inputsize g) h) (go (not (in_range g vb) || g.disabled) (beyond p.outputsize g.baseregister))
+      where
+        result : Bool → Bool → ℕ → Result
+        result a b v = pick a (faults (translation 0)) (pick b (faults (addressSize 0)) (walkFrom (4 - startlevel g) memory p v (firstLookup g)))
+
+        go : (a b : Bool) → pagedResult (result a b va) ≡ pagedResult (result a b vb)
+        go true b = refl
+        go false true = refl
+        go false false = from-page (4 - startlevel g) memory (firstLookup g)
+
+    fetches-page : (n : ℕ) (memory : ℕ → Option ℕ) (l : Lookup) → fetchesFrom n memory p va l ≡ fetchesFrom n memory p vb l
+    unfolding fetchesFrom
+    fetches-page zero memory l = refl
+    fetches-page (suc n) memory l =
+        rw (same_address l) (ap (λ (t : List ℕ). descaddr p vb l ∷ t)
+        (go (lookupNext memory p va l) (lookupNext memory p vb l) (lookup-page memory l) (fetches-page n memory)))
+      where
+        go : (x y : Next) → pagedNext x ≡ pagedNext y → ((k : Lookup) → fetchesFrom n memory p va k ≡ fetchesFrom n memory p vb k)
+            → afterNext x (fetchesFrom n memory p va) ≡ afterNext y (fetchesFrom n memory p vb)
+        go (deeper k) (deeper j) e ih = rw (deeper-inj k j e) (ih j)
+        go (deeper k) (ends r) e ih = absurd (deeper-ends k _ e)
+        go (ends r) (deeper j) e ih = absurd (deeper-ends j _ (sym e))
+        go (ends r) (ends q) e ih = refl
+
+    fetches-range-page : (g : Range) (memory : ℕ → Option ℕ) → fetchesRange p g va memory ≡ fetchesRange p g vb memory
+    unfolding fetchesRange
+    fetches-range-page g memory =
+        let h : 12 ≤ inputsize g = omega (arith, input-low g) in
+        rw (above (inputsize g) h, fetches-page (4 - startlevel g) memory (firstLookup g))
+
+  -- addresses of one page lie in one range
+  pub range-of-page : (s : Bank) (r : Regime) → range_of s r va ≡ range_of s r vb
+  unfolding range_of
+  range-of-page s El1 = rw (above 55 (omega arith))
+  range-of-page s El2 = refl
+  range-of-page s El3 = refl
+
+  -- and have one walk but for the offset
+  pub walk_of-page : (s : Bank) (r : Regime) (memory : ℕ → Option ℕ) → paged (walk_of s r va memory) ≡ paged (walk_of s r vb memory)
+  unfolding walk_of tableWalk
+  walk_of-page s r memory =
+      let g = range_of s r vb in
+      rw (range-of-page s r) (paged-walked (singlePriv r) (wxnOf s) (walkRange (params_of s r g) g va memory)
+      ∙ ap (walkedOf (singlePriv r) (wxnOf s)) (range-page (params_of s r g) g memory)
+      ∙ sym (paged-walked (singlePriv r) (wxnOf s) (walkRange (params_of s r g) g vb memory)))
+
+  -- and fetch the same descriptors
+  pub fetches-of-page : (s : Bank) (r : Regime) (memory : ℕ → Option ℕ) → fetchesOf s r va memory ≡ fetchesOf s r vb memory
+  unfolding fetchesOf
+  fetches-of-page s r memory = rw (range-of-page s r) (fetches-range-page (params_of s r (range_of s r vb)) (range_of s r vb) memory)
+
+-- the offset is the address's own
+pub leaf-offset : (s : Bank) (r : Regime) (va : ℕ) (memory : ℕ → Option ℕ) (leaf : Leaf) → walk_of s r va memory ≡ Ok leaf
+    → leaf.oa % 2 ^ 12 ≡ va % 2 ^ 12
+leaf-offset s r va memory leaf e = (subst (SoundWalked va) e (walk-sound s r va memory)).1
+
+mapped-inj : (x y : Leaf) → ◌≡◌ {A = Walked} (Ok x) (Ok y) → x ≡ y
+mapped-inj x y e = cc
+
+fault-mapped : (n : ℕ) (x : Leaf) → ◌≡◌ {A = Walked} (Err n) (Ok x) → ⊥
+fault-mapped n x e = let z : ◌≡◌ {A = ℕ} 0 1 = cc in omega arith
+
+same-leaf : (x y : Leaf) (va : ℕ) → pagedLeaf x ≡ pagedLeaf y → y.oa % 2 ^ 12 ≡ va % 2 ^ 12 → y ≡ leafAt x va
+same-leaf x y va e o =
+    let join : y.oa ≡ alignDown y.oa 12 + va % 2 ^ 12 = omega arith in
+    ap (withAddress y) join ∙ ap (λ (l : Leaf). withAddress l (l.oa + va % 2 ^ 12)) (sym e)
+
+module _ (s : Bank) (r : Regime) (va vb : ℕ) (memory : ℕ → Option ℕ) (same : va / 2 ^ 12 ≡ vb / 2 ^ 12) where
+  -- so the leaf of one address of a page tells that of another
+  pub leaf-of-page : (leaf : Leaf) → walk_of s r va memory ≡ Ok leaf → walk_of s r vb memory ≡ Ok (leafAt leaf vb)
+  leaf-of-page leaf e = go (walk_of s r vb memory) refl
+    where
+      both : paged (Ok leaf) ≡ paged (walk_of s r vb memory)
+      both = rw e at (walk_of-page va vb same s r memory)
+
+      go : (x : Walked) → walk_of s r vb memory ≡ x → walk_of s r vb memory ≡ Ok (leafAt leaf vb)
+      go (Ok y) f = f ∙ ap Ok (same-leaf leaf y vb (mapped-inj _ _ (rw f at both)) (leaf-offset s r vb memory y f))
+      go (Err n) f = absurd (fault-mapped n _ (sym (rw f at both)))
+
+  -- and a fault is the page's
+  pub fault-of-page : (n : ℕ) → walk_of s r va memory ≡ Err n → walk_of s r vb memory ≡ Err n
+  fault-of-page n e = go (walk_of s r vb memory) refl
+    where
+      both : paged (Err n) ≡ paged (walk_of s r vb memory)
+      both = rw e at (walk_of-page va vb same s r memory)
+
+      go : (x : Walked) → walk_of s r vb memory ≡ x → walk_of s r vb memory ≡ Err n
+      go (Ok y) f = absurd (fault-mapped n _ (rw f at both))
+      go (Err m) f = f ∙ sym (rw f at both)

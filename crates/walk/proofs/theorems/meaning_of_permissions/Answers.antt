@@ -1,0 +1,5 @@
+use Rattle.walk.specs.PermissionLaws.{permission-bit}
+use Rattle.walk.proofs.theorems.meaning_of_permissions.Goals as goal
+
+pub returns : goal.returns
+returns c = record { bit = permission-bit }

@@ -1,0 +1,2 @@
+-- The counters by level, on words.
+pub mod Counters
