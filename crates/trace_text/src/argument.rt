@@ -2,6 +2,7 @@
 use crate::lex;
 use crate::lex::NumberError;
 use crate::reason::Reason;
+use crate::words;
 use tlb::access::Kind;
 use walk::regime::Regime;
 
@@ -58,11 +59,6 @@ impl Argument for Kind {
 
 impl Argument for Regime {
     fn read(word: &[u8]) -> Result<Regime, Reason> {
-        match u64::read(word)? {
-            1 => Ok(Regime::El1),
-            2 => Ok(Regime::El2),
-            3 => Ok(Regime::El3),
-            _ => Err(Reason::NotRegime),
-        }
+        words::regime(u64::read(word)?).ok_or(Reason::NotRegime)
     }
 }

@@ -6,7 +6,8 @@ use exception::kind::Exception;
 use operations::call::Call;
 use walk::regime::Regime;
 
-fn regime(word: u64) -> Option<Regime> {
+// A regime by its number.
+pub fn regime(word: u64) -> Option<Regime> {
     match word {
         1 => Some(Regime::El1),
         2 => Some(Regime::El2),
