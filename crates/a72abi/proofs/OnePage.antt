@@ -13,7 +13,6 @@ use Rattle.word.specs.Ram.{word_at, bytesIn, width_of, within, stored}
 use Rattle.word.specs.declared.{ram.Width.Width, ram.Sized.Sized, ram.Word.Word}
 use Rattle.word.specs.declared.ram.Width.TheVariants.{Byte, Half, Word as Single, Double}
 use Rattle.word.specs.declared.ram.Sized.TheVariants.{Bytes}
-use Rattle.word.specs.declared.ram.Word.TheVariants as Word
 use Rattle.walk.specs.Regime.{regimeOf, stage1On}
 use Rattle.tlb.specs.declared.{access.Kind.Kind, access.Answer.Answer}
 use Rattle.tlb.specs.declared.access.Kind.TheVariants.{Read, Write}
@@ -30,7 +29,6 @@ use Rattle.mmu.specs.Results.{Accessed, Translated}
 use Rattle.operations.specs.declared.place.Place.TheVariants.{Whole}
 use Rattle.operations.specs.declared.{place.Placed.Placed, ends.LoadAnswer.LoadAnswer, ends.StoreAnswer.StoreAnswer}
 use Rattle.operations.specs.declared.place.Placed.TheVariants.{At, Fault}
-use Rattle.operations.specs.declared.place.Verdict.TheVariants.{Outside}
 use Rattle.operations.specs.Replies.{loading, storing}
 use Rattle.cpu.specs.Step.{loadBy, storeBy, storeRamBy, run_of, ramOf, ends}
 use Rattle.operations.specs.declared.call.Call.TheVariants as Call

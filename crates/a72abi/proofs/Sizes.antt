@@ -9,7 +9,6 @@ use lib.ListN.{length}
 use Rattle.word.specs.Ram.{word_at, bytesIn, width_of, within}
 use Rattle.word.specs.declared.{ram.Width.Width, ram.Sized.Sized, ram.Word.Word}
 use Rattle.word.specs.declared.ram.Sized.TheVariants.{Bytes, Refused as NoWidth}
-use Rattle.word.specs.declared.ram.Word.TheVariants as Word
 use Rattle.tlb.specs.declared.access.Kind.TheVariants.{Read, Write}
 use Rattle.operations.specs.Place.{inPage}
 use Rattle.cpu.specs.Step.{run_of, ramOf, ramAfter}

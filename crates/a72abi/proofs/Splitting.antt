@@ -9,7 +9,6 @@ use Rattle.word.specs.Bits.{pick}
 use Rattle.word.specs.Ram.{word_at, bytesIn, width_of}
 use Rattle.word.specs.declared.{ram.Sized.Sized, ram.Word.Word}
 use Rattle.word.specs.declared.ram.Sized.TheVariants.{Bytes, Refused as NoWidth}
-use Rattle.word.specs.declared.ram.Word.TheVariants as Word
 use Rattle.tlb.specs.declared.access.Kind.{Kind}
 use Rattle.tlb.specs.declared.access.Kind.TheVariants.{Read, Write}
 use Rattle.tlb.specs.declared.access.Answer.TheVariants.{Address}
@@ -45,7 +44,6 @@ use Rattle.call_words.specs.Replies.{codeBy, valueBy}
 use Rattle.a72abi.specs.Quick.{Clear, clearOf}
 use Rattle.a72abi.specs.Splits.{apartOf, pagesAt, valueFrom, loadBoth, madeBoth, ramBoth, splitLoad, splitMade, splitRam}
 use Rattle.a72abi.specs.declared.split.Split.{Split}
-use Rattle.a72abi.specs.declared.split.Split.TheVariants as Split
 use Rattle.a72abi.proofs.Bytewise.{size_is, false-true, kept-last, kept-abort, load-runs, store-runs}
 use Rattle.a72abi.proofs.Sizes.{same_gives, same-ram}
 use Rattle.a72abi.specs.Kept.{kept-done}

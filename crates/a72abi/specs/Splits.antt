@@ -3,7 +3,6 @@ use Rattle.std.specs.Prelude.{Some, Option, None}
 use Rattle.std.specs.Prelude.{Bool, true, false, List, ℕ, length}
 use Rattle.word.specs.Bits.{pick}
 use Rattle.word.specs.declared.ram.Word.{Word}
-use Rattle.word.specs.declared.ram.Word.TheVariants as Word
 use Rattle.walk.specs.Regime.{regimeOf, stage1On}
 use Rattle.tlb.specs.declared.access.Kind.TheVariants.{Read, Write}
 use Rattle.mmu.specs.Core.{bankNow}
@@ -14,7 +13,6 @@ use Rattle.operations.specs.declared.place.Pages.{Pages}
 use Rattle.words_memory.specs.Found.{hintFound}
 use Rattle.a72abi.specs.Quick.{clearOf}
 use Rattle.a72abi.specs.declared.split.Split.{Split}
-use Rattle.a72abi.specs.declared.split.Split.TheVariants as Split
 
 -- two pages are taken, and level and window pass
 unfoldable pub apartOf : Core → ℕ → ℕ → ℕ → ℕ → Bool
