@@ -18,7 +18,6 @@ use Rattle.operations.specs.Bytes.{insnOf}
 use Rattle.mmu.specs.Ops.{withTlb, fetchSteppedNow, translateOf, dataPaOf, fetchPaOf, fetchOf}
 use Rattle.mmu.specs.declared.core_state.Core.{Core}
 use Rattle.operations.specs.declared.bytes.Insn.{Insn}
-use Rattle.operations.specs.declared.bytes.Insn.TheVariants as Insn
 use Rattle.operations.specs.Replies.{translation, reaching}
 use Rattle.cpu.specs.Step.{run_of}
 use Rattle.operations.specs.declared.call.Call.TheVariants as Call

@@ -3,7 +3,7 @@ use Rattle.std.specs.Prelude.{Option, Some, None}
 use mathlib.Core.Path.{◌≡◌, refl, sym, ap, subst, ◌∙◌}
 use mathlib.Core.Bool.{Bool, true, false, ◌&&◌}
 use mathlib.Core.List.{List}
-use Prim.Native.Nat.{ℕ, ◌+◌, ◌-◌, ◌%◌, ◌^◌, ◌≤◌, ◌<◌}
+use Prim.Native.Nat.{ℕ, ◌^◌, ◌<◌}
 use native.Mathlib.Omega.{arith}
 use borrow.Author.Tests.{ne_eqb, eqb-true}
 use lib.Dec.{eqb}
@@ -14,12 +14,10 @@ use Rattle.mmu.specs.Core.{afterAccess}
 use Rattle.mmu.specs.Ops.{read_of, writeOf, ramAfterWrite}
 use Rattle.mmu.specs.declared.core_state.Core.{Core}
 use Rattle.operations.specs.declared.ends.LoadAnswer.TheVariants as Load
-use Rattle.operations.specs.declared.ends.StoreAnswer.TheVariants as Store
 use Rattle.operations.specs.Check.{missedOf, isWidth}
 use Rattle.operations.specs.Replies.{loading, storing}
 use Rattle.cpu.specs.Step.{loadBy, storeBy, storeRamBy, run_of, ramOf, step_of, ramAfter, ends}
 use Rattle.operations.specs.declared.call.Call.TheVariants as Call
-use Rattle.operations.specs.declared.call.Reply.TheVariants.{Value}
 use Rattle.words.specs.Parts.{with_last, withAbort}
 use Rattle.words_memory.specs.Accessed.{keptLast, keptAbort}
 use Rattle.a72abi.specs.Quick.{Clear, madeIn, sizedMade, ramIn, sizedRam}

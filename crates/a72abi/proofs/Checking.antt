@@ -1,14 +1,12 @@
 -- DecodedCall that a check refuses, and calls that pass, by their replies, on plain values, for `search`.
 use mathlib.Core.Path.{◌≡◌, refl, sym, ap, ◌∙◌}
-use mathlib.Core.Bool.{◌||◌}
-use mathlib.Core.List.{List, [], ◌∷◌}
-use Prim.Native.Nat.{ℕ, zero, suc, ◌≤◌, ◌<◌}
+use mathlib.Core.List.{List}
+use Prim.Native.Nat.{ℕ, zero, suc}
 use lib.ListN.{length}
 use Rattle.operations.specs.declared.{call.Call.Call}
 use Rattle.operations.specs.declared.call.Reply.{Reply}
 use Rattle.operations.specs.Check.{missedOf}
 use Rattle.cpu.specs.Step.{run_of, ramOf, step_of, ramAfter, ends}
-use Rattle.operations.specs.declared.call.Call.TheVariants as Call
 use Rattle.operations.specs.declared.call.Reply.TheVariants.{Refused}
 use Rattle.cpu.specs.Step.{Stepped}
 use Rattle.words.specs.CoreOf.{core_of}

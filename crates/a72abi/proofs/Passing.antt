@@ -13,7 +13,6 @@ use Rattle.mmu.specs.declared.core_state.Core.{Core}
 use Rattle.operations.specs.Check.{ramRows, sizedRows, first_of, missedOf, passes, isWidth, known}
 use Rattle.cpu.specs.Step.{run_of, ramOf, step_of, ramAfter, ends, loadBy}
 use Rattle.operations.specs.declared.{call.Call.Call, call.Reply.Reply}
-use Rattle.operations.specs.declared.call.Call.TheVariants as Call
 use Rattle.operations.specs.declared.call.Reply.TheVariants.{Refused}
 use Rattle.cpu.specs.Step.{Stepped}
 use Rattle.words.specs.CoreOf.{core_of}

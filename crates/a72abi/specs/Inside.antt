@@ -1,6 +1,5 @@
 -- What only private contracts cite: an operation past its checks by its number and value, and the ends of an access.
-use Rattle.std.specs.Prelude.{◌≡◌, List, ℕ, ◌-◌, ◌<◌, eqb, ltb, get_or}
-use Rattle.word.specs.Bits.{pick}
+use Rattle.std.specs.Prelude.{◌≡◌, List, ℕ, ◌<◌, get_or}
 use Rattle.tlb.specs.declared.access.Answer.{Answer}
 use Rattle.tlb.specs.declared.access.Answer.TheVariants.{Address}
 use Rattle.operations.specs.Ends.{fetchEnd}
@@ -13,7 +12,7 @@ use Rattle.words.specs.CoreOf.{core_of}
 use Rattle.words.specs.NowHolds.{NowHolds}
 use Rattle.words.specs.Parts.{withAbort}
 use Rattle.words_memory.specs.Accessed.{loadEndOf, storeEndOf, keptLast, keptAbort}
-use Rattle.call_words.specs.Replies.{codeBy, valueBy, wordsBy, four}
+use Rattle.call_words.specs.Replies.{codeBy, valueBy, wordsBy}
 use Rattle.a72abi.specs.Kept.{Kept}
 
 -- a step by its number and value, which was old

@@ -6,12 +6,10 @@ use Rattle.std.proofs.Math.Bool.{true}
 use mathlib.Core.List.{List, []}
 use Prim.Native.Nat.{ℕ, zero, suc, ◌<◌}
 use Rattle.exception.specs.declared.kind.Exception.{Exception}
-use Rattle.exception.specs.declared.kind.Exception.TheVariants as Exception
 use Rattle.exception.specs.declared.kind.Stop.TheVariants as Stop
 use Rattle.word.specs.Bits.{alignDown}
 use Rattle.word.specs.Ram.{bytesIn, width_of}
 use Rattle.sysop.specs.declared.op.SysOp.{SysOp}
-use Rattle.sysop.specs.declared.op.SysOp.TheVariants as SysOp
 use Rattle.mmu.specs.Core.{reg_of}
 use Rattle.mmu.specs.Ops.{writeOf}
 use Rattle.mmu.specs.declared.core_state.Core.{Core}
@@ -22,7 +20,6 @@ use Rattle.operations.specs.Check.{missedOf}
 use Rattle.operations.specs.Replies.{storing, registering}
 use Rattle.cpu.specs.Step.{storeBy, storeRamBy, run_of, ramOf as ramRun, refusedOr, missedBy, step_of, ramAfter, ends}
 use Rattle.cpu.specs.Demand1.{writes, quiet}
-use Rattle.operations.specs.declared.call.Call.TheVariants as Call
 use Rattle.operations.specs.declared.call.Reply.TheVariants.{Refused, Done, Value, Faults, Fault, Stopped}
 use Rattle.cpu.specs.Step.{Stepped}
 use Rattle.transparency.specs.Faithful.{FaithfulCall}
@@ -37,7 +34,6 @@ use Rattle.a72abi.specs.Kept.{unmoved, number-unmoved, unmoved-value, storing-la
 use Rattle.a72abi.specs.Inside.{Steps}
 use Rattle.a72abi.specs.Promise.{Promise, Setting, StepPromise, Runs, Gives}
 use Rattle.call_words.specs.declared.{op.DecodedKind.DecodedKind, op.DecodedCall.DecodedCall}
-use Rattle.call_words.specs.declared.op.DecodedKind.TheVariants as DecodedKind
 use Rattle.call_words.specs.declared.op.DecodedCall.TheVariants.{Known, Unknown}
 use Rattle.sysreg.specs.Write.{WriteAnswer}
 use Rattle.sysreg.specs.declared.write.WriteError.TheVariants.{Undefined, NoRegister}

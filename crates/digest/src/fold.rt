@@ -10,8 +10,8 @@ pub const START: u64 = 0x9E37_79B9_7F4A_7C15;
 pub fn join(h: u64, w: u64) -> u64
     ensures { result ≡ joined h w }
 {
-    let twice = std::num::wrapping_add_u64(h, h);
-    let thrice = std::num::wrapping_add_u64(twice, h);
-    let sum = std::num::wrapping_add_u64(thrice, w);
+    let twice = h.wrapping_add(h);
+    let thrice = twice.wrapping_add(h);
+    let sum = thrice.wrapping_add(w);
     sum ^ (sum >> 32)
 }

@@ -41,7 +41,7 @@ fn counted(s: Sum, digest: u64) -> Sum
     ensures { result.digest ≡ digest }
 {
     Sum {
-        count: std::num::wrapping_add_u64(s.count, 1),
+        count: s.count.wrapping_add(1),
         digest,
     }
 }

@@ -69,7 +69,7 @@ fn data_abort(addr: u64, write: bool, fault: Fault) -> Stop
 fn external_abort(va: u64, index: u64, write: bool) -> Stop
     ensures { result ≡ externalAbort va index write }
 {
-    let addr = std::num::wrapping_add_u64(va, index);
+    let addr = va.wrapping_add(index);
     let fault = fault::first(EXTERNAL);
     data_abort(addr, write, fault)
 }

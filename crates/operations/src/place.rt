@@ -49,7 +49,7 @@ pub fn next_page(va: u64) -> u64
     ensures { result ≡ nextPage va }
 {
     let n = in_page(va);
-    std::num::wrapping_add_u64(va, n)
+    va.wrapping_add(n)
 }
 
 // Whether an access of n bytes takes two pages. With stage 1 off none is split.
@@ -110,9 +110,9 @@ pub fn byte_at(p: Pages, i: u64) -> u64
     ensures { result ≡ byte_at p i }
 {
     if i < p.in_page {
-        std::num::wrapping_add_u64(p.pa, i)
+        p.pa.wrapping_add(i)
     } else {
-        std::num::wrapping_add_u64(p.pa2, i - p.in_page)
+        p.pa2.wrapping_add(i - p.in_page)
     }
 }
 

@@ -29,7 +29,7 @@ pub fn low_bits(x: u64, n: u64) -> u64
 pub fn more(n: u64) -> u64
     ensures { result ≡ wrap (n + 1) }
 {
-    std::num::wrapping_add_u64(n, 1)
+    n.wrapping_add(1)
 }
 
 // A flag as a word.

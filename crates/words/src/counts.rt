@@ -18,7 +18,7 @@ pub fn count_hit(state: &mut State, level: u8)
 {
     whole(state);
     let l = count::level_place(level);
-    let n = std::num::wrapping_add_u64(state[place::LEVEL_HITS + l], 1);
+    let n = state[place::LEVEL_HITS + l].wrapping_add(1);
     state[place::LEVEL_HITS + l] = n;
 }
 
@@ -28,7 +28,7 @@ pub fn count_walk(state: &mut State, level: u8)
 {
     whole(state);
     let l = count::level_place(level);
-    let n = std::num::wrapping_add_u64(state[place::LEVEL_WALKS + l], 1);
+    let n = state[place::LEVEL_WALKS + l].wrapping_add(1);
     state[place::LEVEL_WALKS + l] = n;
 }
 
@@ -37,7 +37,7 @@ pub fn count_epoch(state: &mut State)
         (epochCounted (core_of state.old).tlb.counts)) }
 {
     whole(state);
-    let n = std::num::wrapping_add_u64(state[place::EPOCH], 1);
+    let n = state[place::EPOCH].wrapping_add(1);
     state[place::EPOCH] = n;
 }
 
@@ -46,8 +46,8 @@ pub fn count_flush(state: &mut State)
         (flushCounted (core_of state.old).tlb.counts)) }
 {
     whole(state);
-    let n = std::num::wrapping_add_u64(state[place::FLUSHES], 1);
-    let epoch = std::num::wrapping_add_u64(state[place::EPOCH], 1);
+    let n = state[place::FLUSHES].wrapping_add(1);
+    let epoch = state[place::EPOCH].wrapping_add(1);
     state[place::FLUSHES] = n;
     state[place::EPOCH] = epoch;
 }
@@ -57,8 +57,8 @@ pub fn count_drop(state: &mut State)
         (dropCounted (core_of state.old).tlb.counts)) }
 {
     whole(state);
-    let n = std::num::wrapping_add_u64(state[place::DROPS], 1);
-    let epoch = std::num::wrapping_add_u64(state[place::EPOCH], 1);
+    let n = state[place::DROPS].wrapping_add(1);
+    let epoch = state[place::EPOCH].wrapping_add(1);
     state[place::DROPS] = n;
     state[place::EPOCH] = epoch;
 }

@@ -19,7 +19,7 @@ fn commit(state: &mut State, t: Taken)
     let vbar = regs::vbar_at(state, target);
     regs::put_saved(state, target, report, t.spsr, t.ret);
     state::put_masked(state);
-    state::put_pc(state, std::num::wrapping_add_u64(vbar, t.group));
+    state::put_pc(state, vbar.wrapping_add(t.group));
     state::put_level(state, target.index() as u8);
 }
 

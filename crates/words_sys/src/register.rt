@@ -18,7 +18,7 @@ pub fn flush(state: &mut State)
     ensures { NowHolds state.old state.new (flushed (core_of state.old)) }
 {
     let at = counts::current_at(state);
-    let next = std::num::wrapping_add_u32(at.generation, 1);
+    let next = at.generation.wrapping_add(1);
     clear::no_hints(state);
     counts::count_flush(state);
     if next == 0 {

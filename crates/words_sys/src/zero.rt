@@ -31,7 +31,7 @@ fn zero_from(state: &mut State, base: u64, ram: &mut [u8], va: u64, n: u64) -> S
         return StoreAnswer::Done;
     }
     match access::store(state, va, Width::Double, 0, base, ram) {
-        StoreAnswer::Done => zero_from(state, base, ram, std::num::wrapping_add_u64(va, 8), n - 1),
+        StoreAnswer::Done => zero_from(state, base, ram, va.wrapping_add(8), n - 1),
         StoreAnswer::Stopped(stop) => StoreAnswer::Stopped(stop),
     }
 }
