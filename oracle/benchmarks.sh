@@ -30,7 +30,7 @@ instructions a call. A ratio is the library's number by the Rust's.
 ## What is called
 
 On the Rust's side pimu's own function, behind one call that is not inlined, with RAM as a slice at its quickest (one test of the window, then
-a load or store of the size). The documents' checks 1 to 7 are not made there: pimu has none. A register write is `write_reg` with document 01's
+a load or store of the size). The checks 1 to 7 are not made there: pimu has none. A register write is `write_reg` with the scope's
 rule. On the library's side the exported function on the state's words, with its checks.
 
 So the library does more: it checks level, window, kind, size and range, and takes and gives numbers. For translations, loads, stores and censuses a third column has

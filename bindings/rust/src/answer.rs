@@ -23,7 +23,7 @@ pub enum Check {
 }
 
 impl Check {
-    /// Its number in the documents, 1 to 7.
+    /// The number of the check, 1 to 7.
     pub fn number(self) -> u64 {
         self as u64
     }

@@ -34,7 +34,7 @@ unmoved (Stopped s) = early s
 pub record Stays (r : Reply) (ws xs : List ℕ) : Type 0 where
   pub still : unmoved r ≡ true → xs ≡ ws
 
--- and by its number: 1 to 63 the documents', 64 where no call is named, 65 Undefined, 66 Unimplemented
+-- and by its number: 1 to 63 the checks', 64 where no call is named, 65 Undefined, 66 Unimplemented
 pub record Kept (n : ℕ) (ws xs : List ℕ) : Type 0 where
   pub same : 0 < n → n < 256 → xs ≡ ws
 

@@ -16,9 +16,9 @@ use Rattle.a72abi.specs.Kept.{Stays, Kept}
 use Rattle.call_words.specs.declared.op.DecodedCall.{DecodedCall}
 use Rattle.call_words.specs.declared.op.DecodedCall.TheVariants.{Known, Unknown}
 
--- DEMAND 3
+-- FAITHFULNESS
 
--- The number n, the value v (the word was old) and the bytes ys tell a reply that keeps demand 3 after a list of calls.
+-- The number n, the value v (the word was old) and the bytes ys tell a reply that is faithful after a list of calls.
 pub record FaithfulNumber (list : List (Lent real machine)) (m : Ram) (x : Call) (n old v : ℕ) (ys : List ℕ) : Type 0 where
   pub reply : Reply
   pub number_is : n ≡ codeBy reply
@@ -32,9 +32,9 @@ pub record FaithfulWords (list : List (Lent real machine)) (m : Ram) (x : Call) 
   pub faithful : Faithful list m x (outcome reply ys)
 
 -- whatever list of calls left the core that the words hold; of words that name no call nothing is asked
-abbrev pub Demand3 : DecodedCall → (List (Lent real machine) → Call → Type 0) → List ℕ → Type 0
-Demand3 (Known x) promise ws = (list : List (Lent real machine)) → core_of ws ≡ coreAfter list → promise list x
-Demand3 Unknown promise ws = Unit {0}
+abbrev pub AfterEveryList : DecodedCall → (List (Lent real machine) → Call → Type 0) → List ℕ → Type 0
+AfterEveryList (Known x) promise ws = (list : List (Lent real machine)) → core_of ws ≡ coreAfter list → promise list x
+AfterEveryList Unknown promise ws = Unit {0}
 
 -- THE CALLS
 
@@ -46,7 +46,7 @@ pub record Promise (call : DecodedCall) (base : ℕ) (ram ws : List ℕ) (n old 
   pub bytes : ys ≡ callRam call (core_of ws) base ram
   pub words : NowHolds ws xs (callCore call (core_of ws) base ram)
   pub unchanged : 0 < n → n < 256 → (xs ≡ ws) × ((ys ≡ ram) × (v ≡ old))
-  pub demand-3 : Demand3 call (λ list x. FaithfulNumber list (ramOf base ram) x n old v ys) ws
+  pub faithful : AfterEveryList call (λ list x. FaithfulNumber list (ramOf base ram) x n old v ys) ws
 
 -- a call that is handed neither RAM nor a word, whatever RAM stands there
 pub record Setting (call : DecodedCall) (ws : List ℕ) (n : ℕ) (xs : List ℕ) : Type 0 where
@@ -62,7 +62,7 @@ pub record StepPromise (call : DecodedCall) (base : ℕ) (ram ws : List ℕ) (n 
   pub words : NowHolds ws xs (callCore call (core_of ws) base ram)
   pub unnamed : 0 < n → (xs ≡ ws) × ((ys ≡ ram) × (v ≡ old))
   pub unchanged : 4 < get_or v 0 0 → get_or v 0 0 < 8 → (xs ≡ ws) × (ys ≡ ram)
-  pub demand-3 : Demand3 call (λ list x. FaithfulWords list (ramOf base ram) x v ys) ws
+  pub faithful : AfterEveryList call (λ list x. FaithfulWords list (ramOf base ram) x v ys) ws
 
 -- INSIDE
 

@@ -1,4 +1,4 @@
--- How a promise is met: by the exact definitions, and by demand 3 of every call.
+-- How a promise is met: by the exact definitions, and by faithfulness of every call.
 use Rattle.std.specs.Prelude.{◌≡◌, Bool, false, get_or, Ok, Err, Option, Some, None}
 use Rattle.std.proofs.Math.Path.{refl}
 use Rattle.std.proofs.Common.{sym, ap, ◌∙◌, arith}
@@ -19,7 +19,7 @@ use Rattle.exec.specs.Sys.{zero_of, sysBy, sysRamBy, op_of, sysOf, sysRam}
 use Rattle.operations.specs.Check.{missedOf}
 use Rattle.operations.specs.Replies.{storing, registering}
 use Rattle.cpu.specs.Step.{storeBy, storeRamBy, run_of, ramOf as ramRun, refusedOr, missedBy, step_of, ramAfter, ends}
-use Rattle.cpu.specs.Demand1.{writes, quiet}
+use Rattle.cpu.specs.EveryCallEnds.{writes, quiet}
 use Rattle.operations.specs.declared.call.Reply.TheVariants.{Refused, Done, Value, Faults, Fault, Stopped}
 use Rattle.cpu.specs.Step.{Stepped}
 use Rattle.transparency.specs.Faithful.{FaithfulCall}
@@ -93,7 +93,7 @@ promise Unknown base ram ws n old v ys xs g b =
       bytes = b;
       words = g.words;
       unchanged = λ l h. (g.kept.same l h, (b, g.value));
-      demand-3 = tt;
+      faithful = tt;
     }
 promise (Known x) base ram ws n old v ys xs g b =
     record {
@@ -105,7 +105,7 @@ promise (Known x) base ram ws n old v ys xs g b =
           let t : unmoved (step_of (core_of ws) base ram x).reply ≡ true =
           number-unmoved (step_of (core_of ws) base ram x).reply (rw g.code at l) (rw g.code at h) in
           (g.kept.same l h, (b ∙ ram-still (core_of ws) base ram x t, g.value ∙ unmoved-value (step_of (core_of ws) base ram x).reply old t));
-      demand-3 = λ list e.
+      faithful = λ list e.
           record {
             reply = (step_of (core_of ws) base ram x).reply;
             number_is = g.code;
@@ -236,7 +236,7 @@ module _ (base : ℕ) (ram ws : List ℕ) (p o : DecodedCall) (eo : o ≡ p) (ol
           b ∙ ram-still (core_of ws) base ram x (tag-unmoved (step_of (core_of ws) base ram x).reply (rw s.answer at l)
               (rw s.answer at h)),
         );
-        demand-3 = λ list q.
+        faithful = λ list q.
             record {
               reply = (step_of (core_of ws) base ram x).reply;
               words_are = s.answer;
@@ -250,7 +250,7 @@ module _ (base : ℕ) (ram ws : List ℕ) (p o : DecodedCall) (eo : o ≡ p) (ol
 
   none_of : StepPromise Unknown base ram ws 64 old old ram ws
   none_of =
-      record { code = refl; answer = refl; bytes = refl; words = stays; unnamed = λ l. (refl, (refl, refl)); unchanged = λ l h. (refl, refl); demand-3 = tt }
+      record { code = refl; answer = refl; bytes = refl; words = stays; unnamed = λ l. (refl, (refl, refl)); unchanged = λ l h. (refl, refl); faithful = tt }
 
   pub step-unknown : o ≡ Unknown → StepPromise p base ram ws 64 old old ram ws
   step-unknown q = rw (← eo, q) none_of

@@ -1,6 +1,6 @@
 #![tactic(auto)]
-// The boundary: numbers, and words that the caller lends; `a72_static` exports its calls. 0 done; 1 to 63 a document's
-// number for the check that a call misses; 64 where words name nothing; 65 Undefined; 66 Unimplemented; 256 plus the
+// The boundary: numbers, and words that the caller lends; `a72_static` exports its calls. 0 done; 1 to 63 the number of
+// the check that a call misses; 64 where words name nothing; 65 Undefined; 66 Unimplemented; 256 plus the
 // status of a fault. From 1 to 255 nothing is written.
 pub mod bytes;
 pub mod calls;

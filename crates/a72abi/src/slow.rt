@@ -1,4 +1,4 @@
-// Translations and fetches by number, on lent words, with document 01's checks in their order: where no fast path
+// Translations and fetches by number, on lent words, with the checks in their order: where no fast path
 // answers, and for every call by its words.
 ghost use Rattle.std.specs.Prelude.{◌≡◌, eqb, None};
 ghost use Rattle.word.specs.Bits.{pick};

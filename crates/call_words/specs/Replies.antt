@@ -22,7 +22,7 @@ abbrev pub stopCode : Stop → ℕ
 stopCode (Stop.Exception e) = exceptionCode e
 stopCode Stop.Unimplemented = 66
 
--- 0 where it is done; 1 to 63, the document's number, where it is refused; 256 where it faults, plus the status where that is told
+-- 0 where it is done; 1 to 63, the check's number, where it is refused; 256 where it faults, plus the status where that is told
 abbrev pub codeBy : Reply → ℕ
 codeBy (Refused n) = n
 codeBy Done = 0

@@ -1,5 +1,5 @@
 #![tactic(auto)]
-// Document 01's worked translations on the proved walk: a table of one word at 0x1008, SCTLR_EL1.M set, TCR_EL1 =
+// The worked cases of docs/SCOPE.md on the proved walk: a table of one word at 0x1008, SCTLR_EL1.M set, TCR_EL1 =
 // 25, other registers zero.
 use std::{fmt, io};
 use walk::regime::{Bank, Regime};

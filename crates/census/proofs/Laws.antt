@@ -61,7 +61,7 @@ module _ (s : Bank) (r : Regime) (memory : ℕ → Option ℕ) (first : ℕ) whe
   pub flat-count : (pages : ℕ) → countAt s r memory first pages 128 ≡ howMany (λ i. isFlat (end_at s r memory first i)) pages
   flat-count pages = count_at pages 128 (omega arith) ∙ many-same _ _ pages (λ i. by-flat (end_at s r memory first i) (sound-at i))
 
-  -- "All counts together add up to the range."
+  -- all counts together are the range
   pub all-counted : (pages : ℕ) → total (censusOf s r memory first pages) ≡ pages
   unfolding censusOf
   all-counted pages = adds-up 129 (λ i. place_of (end_at s r memory first i)) pages (λ i. place-small (end_at s r memory first i) (sound-at i))
@@ -106,7 +106,7 @@ joins s r memory first n m next j e h =
     ∙ ap₂ (λ (a b : ℕ). a + b) (sym (count_at s r memory first n j h))
     (many-same _ _ m (λ i. ap (λ (va : ℕ). nat_eq (placeAt s r memory va) j) (next-page first n i next e)) ∙ sym (count_at s r memory next m j h))
 
--- "The low twelve bits of the first address are dropped."
+-- the low twelve bits of the first address are dropped
 pub low_bits : (s : Bank) (r : Regime) (memory : ℕ → Option ℕ) (first other pages : ℕ) → first / 4096 ≡ other / 4096
     → censusOf s r memory first pages ≡ censusOf s r memory other pages
 unfolding censusOf

@@ -1,4 +1,4 @@
--- Document 02's page census: over a range of 4 KiB pages, how many a fresh walk ends at each status code, how many at each permission byte, and how
+-- The page census: over a range of 4 KiB pages, how many a fresh walk ends at each status code, how many at each permission byte, and how
 -- many are flat.
 use Rattle.std.specs.Prelude.{ℕ, ◌+◌, ◌*◌, List, Option, Ok, Err}
 use Rattle.word.specs.Bits.{alignDown, wrap}

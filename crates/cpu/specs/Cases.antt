@@ -1,4 +1,4 @@
--- Document 01's thirteen proved cases and the last address in range, as one computed statement about calls on a core with an empty cache.
+-- The thirteen worked cases of docs/SCOPE.md and the last address in range, as one computed statement about calls on a core with an empty cache.
 use Rattle.std.specs.Prelude.{◌≡◌, ℕ, ◌^◌, true, false, [], ◌∷◌, replicate, slice_index}
 use Rattle.std.specs.Prelude.{refl}
 use Rattle.word.specs.Ram.{word_at, littleEndian, bytes_of}

@@ -21,7 +21,7 @@ unfoldable pub censusBy : Core → ℕ → List ℕ → ℕ → ℕ → Censused
 censusBy c base ram first pages =
     record { counts = countsAfter c base ram first pages (replicate 129 0); reply = (step_of c base ram (Census first pages)).reply }
 
--- "Cache and counters don't move", nor does anything else of the core, nor RAM
+-- Cache and counters do not move, nor does anything else of the core, nor RAM
 module _ (c : Core) (base : ℕ) (ram : List ℕ) (first pages : ℕ) where
   pub census-core : (step_of c base ram (Census first pages)).core ≡ c
   unfolding step_of run_of

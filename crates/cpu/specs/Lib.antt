@@ -1,5 +1,5 @@
--- Document 01's table of answers: the checks, then the operations.
+-- The table of docs/SCOPE.md, "Where each answer is given": the checks, then the operations.
 pub mod Step
 pub mod Inspect
 pub mod Cases
-pub mod Demand1
+pub mod EveryCallEnds

@@ -1,4 +1,4 @@
--- Document 01's proved case 13, entries of each kind, and the recorded departures, computed. The PC is 0x8000; VBAR_ELx are 0x10000, 0x20000
+-- Worked case 13 of docs/SCOPE.md, entries of each kind, and the recorded departures, computed. The PC is 0x8000; VBAR_ELx are 0x10000, 0x20000
 -- and 0x30000; FAR_ELx hold 0xF1, 0xF2 and 0xF3 before.
 use Rattle.std.specs.Prelude.{◌≡◌, ℕ, Bool, true, false, List, [], ◌∷◌, refl, None}
 use Rattle.fault.specs.First.{first}

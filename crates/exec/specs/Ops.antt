@@ -20,7 +20,7 @@ pub record Registered : Type 0 where
 unfoldable pub with_regs : Core → Control → SysRegs → Core
 with_regs c k s = inCore c (Bare.with_regs (bareOf c) k s)
 
--- a write that is done changes its register, and then the cache by document 01's rule; any other changes nothing
+-- a write that is done changes its register, and then the cache by the scope's rule; any other changes nothing
 unfoldable pub appliedOf : Core → Written → Core
 appliedOf c w = withTlb (with_regs c w.control w.sys) (refitOf c.tlb c.control w.control)
 

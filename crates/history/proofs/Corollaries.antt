@@ -1,4 +1,4 @@
--- What follows from demand 3: the answers of one translation, of a step, of a whole list; and pages that need no
+-- What follows from faithfulness: the answers of one translation, of a step, of a whole list; and pages that need no
 -- premise.
 use Rattle.std.specs.Prelude.{◌≡◌, Bool, ℕ, ◌≤◌}
 use Rattle.std.proofs.Math.Path.{refl, sym}
@@ -17,7 +17,7 @@ use Rattle.history.specs.Lists.{each_left, each_right, each-head, plain-append, 
 use Rattle.history.specs.World.{World, Laws, covers, Plain, uncached}
 use Rattle.history.specs.History.{Effect, nothing, carries, writes, sets, Step, Event, steps, receives, after, plainRun, drops, dropsRun, answer_of}
 use Rattle.history.specs.History.{tlbAsk, answers, tlbRun, Settled, SettledFor, FaithfulAnswer}
-use Rattle.history.proofs.Theorem.{demand-3}
+use Rattle.history.proofs.Theorem.{every_history_faithful}
 use Rattle.history.specs.Invisible.{plainAnswers, answersRun, plainAnswersRun, Tidy, Invisible}
 
 module _ (w : World) (laws : Laws w) where
@@ -64,7 +64,7 @@ module _ (w : World) (laws : Laws w) where
     -- one translation after a history
     pub one-settled : (past : List (Event w)) (m : w.Ram) (a : Ask) → SettledFor w c₀ past m a
         → answer_of w (plainRun w c₀ past) m a (tlbRun w c₀ past fresh) ≡ uncached w (plainRun w c₀ past) m (kind_of a) (address_of a)
-    one-settled past m a st = each-head (demand-3 w laws c₀ zero-asid low past m (record { asks = a ∷ []; effect = nothing })) st
+    one-settled past m a st = each-head (every_history_faithful w laws c₀ zero-asid low past m (record { asks = a ∷ []; effect = nothing })) st
 
     -- where all pages of a step are settled, all its answers are those of the core without a cache
     same-answers : (past : List (Event w)) (m : w.Ram) (l : List Ask) (t : Tlb) → Each (FaithfulAnswer w c₀ past m) (answers w (plainRun w c₀ past) m l t)
@@ -91,7 +91,7 @@ module _ (w : World) (laws : Laws w) where
 
     pub all_settled : (past : List (Event w)) (m : w.Ram) (s : Step w) → Each (SettledFor w c₀ past m) s.asks
         → answers w (plainRun w c₀ past) m s.asks (tlbRun w c₀ past fresh) ≡ plainAnswers w (plainRun w c₀ past) m s.asks
-    all_settled past m s ss = same-answers past m s.asks _ (demand-3 w laws c₀ zero-asid low past m s) ss
+    all_settled past m s ss = same-answers past m s.asks _ (every_history_faithful w laws c₀ zero-asid low past m s) ss
 
     -- THE CACHE IS INVISIBLE, through a tidy list after a history
 

@@ -1,4 +1,4 @@
--- Demand 3 for lists of calls, proved from a bridge.
+-- Faithfulness for lists of calls, proved from a bridge.
 use Rattle.std.specs.Prelude.{◌≡◌, refl, List, [], ◌∷◌, ◌++◌, ◌≤◌}
 use Rattle.std.proofs.Common.{sym, ap, ap₂, subst, ◌∙◌}
 use Rattle.tlb.specs.Lists.{Each}
@@ -8,9 +8,9 @@ use Rattle.tlb.specs.declared.Tlb.{Tlb}
 use Rattle.history.specs.World.{World, Laws, Plain, regimeNow, pageNow, uncached}
 use Rattle.history.specs.Lists.{plain-append, tlb-append}
 use Rattle.history.specs.History.{Step, Event, plainRun, answers, tlbRun, Settled, FaithfulAnswer}
-use Rattle.history.proofs.Theorem.{demand-3}
+use Rattle.history.proofs.Theorem.{every_history_faithful}
 use Rattle.history.specs.Calls.{Machine, Lent, Fed, run, lent_of, bareRun, eventsFed, eventsRun, ShownIn, Shown, shown, plain_of, eventsOf, Bridge}
-use Rattle.history.specs.Calls.{plainAfter, Demand3Calls}
+use Rattle.history.specs.Calls.{plainAfter, EveryCallFaithful}
 
 module _ (w : World) (M : Machine w) where
   -- every list of calls is shown by its run
@@ -117,8 +117,8 @@ module _ (w : World) (M : Machine w) (B : Bridge w M) where
             tlb-append w (plain_of w M c₀) past before fresh
             ∙ ap₂ (λ (q : Plain w) (u : Tlb). tlbRun w q before u) (sym at_last) (sym (fresh-run list shows))
 
-    pub demand-3-calls : Demand3Calls w M c₀
-    demand-3-calls list s x sx before m t later split =
+    pub every_call_faithful : EveryCallFaithful w M c₀
+    every_call_faithful list s x sx before m t later split =
         subst
         (λ (q : Plain w).
         Each
@@ -128,4 +128,4 @@ module _ (w : World) (M : Machine w) (B : Bridge w M) where
         (answers w (plainAfter w M (M.bare c₀) list before) m t.asks
         (tlbRun w (plainAfter w M (M.bare c₀) list []) before (M.tlb (run w M c₀ (lent_of w M list))))))
         (sym (now-plain c₀ list s before))
-        (lifted (FaithfulAnswer w (plain_of w M c₀)) (demand-3 w laws (plain_of w M c₀) zero-asid low) list s before m t)
+        (lifted (FaithfulAnswer w (plain_of w M c₀)) (every_history_faithful w laws (plain_of w M c₀) zero-asid low) list s before m t)

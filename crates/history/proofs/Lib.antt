@@ -1,4 +1,4 @@
--- Every law that leans on what an event does, and demand 3 itself.
+-- Every law that leans on what an event does, and faithfulness itself.
 pub mod Traced
 pub mod Right
 pub mod ModelLaws

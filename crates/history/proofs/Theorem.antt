@@ -1,4 +1,4 @@
--- Demand 3, proved for every registers and walk that keep `Laws`.
+-- Faithfulness, proved for every registers and walk that keep `Laws`.
 use Rattle.std.specs.Prelude.{◌≡◌, Bool, List, [], ◌∷◌, ◌++◌, ◌⊎◌, ℕ, ◌≤◌, ◌==◌, Ok}
 use Rattle.std.proofs.Math.Path.{refl}
 use Rattle.std.proofs.Common.{sym, ap, subst, ◌∙◌, inl, inr}
@@ -18,7 +18,7 @@ use Rattle.tlb.specs.declared.Inval.TheVariants.{All}
 use Rattle.history.specs.Lists.{each_append}
 use Rattle.history.specs.World.{World, Laws, LeavesEqual, covers, Plain, pageWalk}
 use Rattle.history.specs.History.{Effect, nothing, carries, writes, sets, Step, Event, steps, receives, after, afterEvent, plainRun, drops, dropsEvent}
-use Rattle.history.specs.History.{dropsRun, tlbRun, Settled, FaithfulAnswer, Demand3}
+use Rattle.history.specs.History.{dropsRun, tlbRun, Settled, FaithfulAnswer, EveryHistoryFaithful}
 use Rattle.history.specs.ModelRun.{modelAsk, modelAnswers, modelAsks, modelFlushed, modelRetagged, modelAfter, modelEvent, modelRun}
 use Rattle.history.proofs.ModelLaws.{run-stands}
 use Rattle.history.proofs.ModelLaws.{fresh-stands, history-model, history-answers}
@@ -170,7 +170,7 @@ module _ (w : World) (laws : Laws w) where
           day (inl g) = inl g
           day (inr x) = inr (sym f.walks.under ∙ x)
 
-  -- DEMAND 3
+  -- FAITHFULNESS
 
   answers-right : (c₀ : Plain w) (past : List (Event w)) (m : w.Ram) (l : List Ask) (u : Model)
       → Traced w (at (plainRun w c₀ past).regs m ∷ moments c₀ past []) (plainRun w c₀ past).regs u
@@ -199,8 +199,8 @@ module _ (w : World) (laws : Laws w) where
     pub history-traced : (past : List (Event w)) → Traced w (moments c₀ past []) (plainRun w c₀ past).regs (modelRun w c₀ past emptyModel)
     history-traced past = run-traced past c₀ emptyModel [] (traced-empty w c₀.regs zero-asid)
 
-    pub demand-3 : Demand3 w c₀
-    demand-3 past m s =
+    pub every_history_faithful : EveryHistoryFaithful w c₀
+    every_history_faithful past m s =
         subst (λ (l : List Given). Each (FaithfulAnswer w c₀ past m) l) (sym (history-answers w laws c₀ low past m s.asks))
         (answers-right c₀ past m s.asks (modelRun w c₀ past emptyModel) (traced-at w m (history-traced past)))
 

@@ -1,4 +1,4 @@
--- Demand 3 for lists of calls: what a core is to the theory, and the statement.
+-- Faithfulness for lists of calls: what a core is to the theory, and the statement.
 use Rattle.std.specs.Prelude.{◌≡◌, List, [], ◌∷◌, ◌++◌}
 use Rattle.tlb.specs.Lists.{Each}
 use Rattle.tlb.specs.Asks.{kind_of, address_of, Given}
@@ -7,7 +7,7 @@ use Rattle.history.specs.World.{World, Plain, regimeNow, pageNow, uncached}
 use Rattle.history.specs.History.{Step, Event, steps, plainRun, answers, tlbRun, Settled}
 use Rattle.history.specs.Invisible.{answersRun, plainAnswersRun, Tidy}
 
--- A core by its operations' exact definitions, and document 01's core without a cache beside it.
+-- A core by its operations' exact definitions, and the core without a cache beside it.
 --   step      what a call makes of the core, with RAM as it stands when the call begins
 --   later     RAM as it stands when each further step of the call begins: none for most calls, for a zeroing one for each further store begun
 --   Bare      the state without a cache: level, mark, registers kept, general registers
@@ -31,7 +31,7 @@ pub record Lent (w : World) (M : Machine w) : Type 0 where
   pub ram : w.Ram
   pub call : M.Call
 
--- "It is fed each step's call with its arguments and that step's RAM, and no answers": the call, with RAM as it stands
+-- It is fed each step's call and RAM, and no answers: the call, with RAM as it stands
 -- when each of its steps begins
 pub record Fed (w : World) (M : Machine w) : Type 0 where
   pub lent : Lent w M
@@ -99,7 +99,7 @@ module _ (w : World) (M : Machine w) where
     pub tlb-is : (c : M.Core) (m : w.Ram) (x : M.Call)
         → M.tlb (M.step c m x) ≡ tlbRun w (plain_of c) (eventsOf c m x) (M.tlb c)
 
-  -- DEMAND 3
+  -- FAITHFULNESS
 
   -- the core without a cache, fed the list and the steps before in a call after it
   abbrev pub plainAfter : M.Bare → List (Fed w M) → List (Event w) → Plain w
@@ -117,10 +117,10 @@ module _ (w : World) (M : Machine w) where
       SettledIn b₀ list before m g
       → g.answer ≡ uncached w (plainAfter b₀ list before) m (kind_of g.ask) (address_of g.ask)
 
-  -- Demand 3 for calls: after every list of calls from the fresh core c₀, in every call x after it, at each step s of
+  -- Faithfulness for calls: after every list of calls from the fresh core c₀, in every call x after it, at each step s of
   -- x, with the RAM m at its start. The steps before s in x, the earlier stores of a zeroing, belong to the list.
-  abbrev pub Demand3Calls : M.Core → Type 0
-  Demand3Calls c₀ =
+  abbrev pub EveryCallFaithful : M.Core → Type 0
+  EveryCallFaithful c₀ =
       (list : List (Fed w M)) → Shown c₀ list → (x : Fed w M) → ShownIn (run c₀ (lent_of list)) x →
       (before : List (Event w)) (m : w.Ram) (s : Step w) (later : List (Event w)) →
       eventsFed (bareRun (M.bare c₀) (lent_of list)) x ≡ before ++ steps m s ∷ later →

@@ -1,4 +1,4 @@
--- Document 01's "The list", the premise of demand 3, and demand 3 itself. With World.antt this is all that a reader has
+-- The list (docs/SCOPE.md), the premise of faithfulness, and faithfulness itself. With World.antt this is all that a reader has
 -- to believe; every term is read from the events, never from the cache.
 use Rattle.std.specs.Prelude.{◌≡◌, Bool, true, false, List, [], ◌∷◌, ◌++◌, ◌⊎◌, ℕ, ◌≤◌, Ok}
 use Rattle.word.specs.Bits.{pick}
@@ -56,7 +56,7 @@ module _ (w : World) where
 
   -- INVALIDATIONS of an effect, an event, a history, in order
 
-  -- "A flush is one that a register write makes by the rule above": where `shaping` changed. It counts as an All.
+  -- A flush is one that a register write makes, where `shaping` changed. It counts as an All.
   abbrev pub drops : Effect → Plain w → List Inval
   drops nothing c = []
   drops (carries v shared) c = v ∷ []
@@ -99,7 +99,7 @@ module _ (w : World) where
   tlbRun c [] t = t
   tlbRun c (x ∷ xs) t = tlbRun (afterEvent x c) xs (tlbEvent x c t)
 
-  -- DEMAND 3
+  -- FAITHFULNESS
 
   -- The premise, for the page p of the regime r, after the history `past` from the fresh core c₀, with the RAM m now.
   -- Take any step of the history, with the RAM m' at its start, at which stage 1 was on in r and the page's walk ended
@@ -127,8 +127,8 @@ module _ (w : World) where
   FaithfulAnswer c₀ past m g =
       SettledFor c₀ past m g.ask → g.answer ≡ uncached w (plainRun c₀ past) m (kind_of g.ask) (address_of g.ask)
 
-  -- Demand 3: after every history from the fresh core c₀, whatever the RAM, each translation of each step is faithful.
-  abbrev pub Demand3 : Plain w → Type 0
-  Demand3 c₀ =
+  -- Faithfulness: after every history from the fresh core c₀, whatever the RAM, each translation of each step is faithful.
+  abbrev pub EveryHistoryFaithful : Plain w → Type 0
+  EveryHistoryFaithful c₀ =
       (past : List Event) (m : w.Ram) (s : Step) →
       Each (FaithfulAnswer c₀ past m) (answers (plainRun c₀ past) m s.asks (tlbRun c₀ past fresh))

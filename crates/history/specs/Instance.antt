@@ -1,4 +1,4 @@
--- The real registers and walk as a `World`, its laws, and demand 3 of it.
+-- The real registers and walk as a `World`, its laws, and faithfulness of it.
 use Rattle.std.specs.Prelude.{◌≡◌, refl, false, List, ℕ, ◌+◌, ◌*◌, ◌/◌, ◌%◌, Option}
 use Rattle.std.proofs.Common.{arith}
 use Rattle.word.specs.Ram.{word_at}

@@ -135,7 +135,7 @@ module _ (past : List (Event real)) (m : Ram) (a : Ask) where
 
 -- STATUSES
 
--- document 01's table, of a translation: 0x00 to 0x07, 0x09 to 0x0B, 0x0D to 0x0F, 0x14 to 0x17
+-- the statuses of a translation (docs/SCOPE.md): 0x00 to 0x07, 0x09 to 0x0B, 0x0D to 0x0F, 0x14 to 0x17
 pub data Row (code : ℕ) : Type 0 where
   size-or-translation : code ≤ 7 → Row code
   access-flag : 9 ≤ code → code ≤ 11 → Row code

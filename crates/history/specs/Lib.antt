@@ -1,4 +1,4 @@
--- Demand 3: what a reader believes, top to bottom.
+-- Faithfulness: what a reader believes, top to bottom.
 pub mod World
 pub mod History
 pub mod Invisible

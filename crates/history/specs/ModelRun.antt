@@ -31,7 +31,7 @@ module _ (w : World) where
   modelAsks c m (a ∷ l) u =
       onward (modelAsk c m a u).answer (modelAsks c m l (modelAsk c m a u).after) (modelAsk c m a u).after
 
-  -- "A register write first does `write_reg`; then, where `shaping` changed, it flushes; then, where `asid` differs
+  -- A register write does `write_reg`; then, where `shaping` changed, it flushes; then, where `asid` differs
   -- from the cache's, it retags." A flush is an All.
   unfoldable pub modelFlushed : w.Regs → w.Regs → Model → Model
   modelFlushed R S u = pick (w.same-shape R S) u (invalidate All u)

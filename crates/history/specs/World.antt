@@ -1,4 +1,4 @@
--- What the theory of histories takes from registers and walk, and document 01's terms on it: equal walks, covering, the
+-- What the theory of histories takes from registers and walk, and the terms of docs/SCOPE.md on it: equal walks, covering, the
 -- core without a cache. `spanBits`, `asUser` and `need` are the plain model's: tlb/specs/Model.antt.
 use Rattle.std.specs.Prelude.{◌≡◌, Bool, true, not, ◌&&◌, ℕ, ◌+◌, ◌*◌, ◌/◌, ◌%◌, ◌^◌, ◌≤◌, ◌==◌, Ok, Err}
 use Rattle.word.specs.Bits.{pick}
@@ -28,7 +28,7 @@ pub record World : Type 1 where
 
 -- EQUAL WALKS
 
--- "Two walks are equal where both end in a leaf with the same physical page, permission bits and level."
+-- Two walks are equal where both end in a leaf with the same physical page, permission byte and level.
 pub record LeavesEqual (ℓ ℓ' : Leaf) : Type 0 where
   pub pages : ℓ.oa / 4096 ≡ ℓ'.oa / 4096
   pub perms : ℓ.perms ≡ ℓ'.perms
@@ -36,10 +36,9 @@ pub record LeavesEqual (ℓ ℓ' : Leaf) : Type 0 where
 
 -- COVERING
 
--- The invalidation covers the leaf ℓ of the page p, walked with the ASID a in force. "A walk result is covered by a
--- later All or flush; by a Page whose low 44 bits agree with its page's above the lowest 18, 9 or 0 bits for level 1,
--- 2, 3; by an Asid equal to the ASID in force at that walk, if it isn't global." The premise's own reading, on purpose:
--- what the plain model drops of its lines is said in tlb/specs/Model.antt, what the cache drops in
+-- The invalidation covers the leaf ℓ of the page p, walked with the ASID a in force. An All or flush covers every walk; a Page one whose page agrees
+-- in the low 44 bits above the lowest 18, 9 or 0 for level 1, 2, 3; an Asid one that is not global, by the ASID in force at that walk. The premise's
+-- own reading, on purpose: what the plain model drops of its lines is said in tlb/specs/Model.antt, what the cache drops in
 -- tlb/specs/Cache.antt, and `same-cover` (proofs/Traced.antt) and tlb/specs/Refines.antt show that they agree.
 unfoldable pub covers : Inval → ℕ → Leaf → ℕ → Bool
 covers All p ℓ a = true
@@ -48,19 +47,18 @@ covers (Asid b) p ℓ a = not ℓ.global && a == b
 
 -- CORE WITHOUT A CACHE
 
--- "0x0C plus the leaf's level, where the leaf lacks the bit that the access needs; else the leaf's physical page with
--- the address's low twelve bits."
+-- 0x0C plus the leaf's level where the leaf lacks the bit that the access needs; else its physical page with the low twelve bits of the address
 unfoldable pub leafAnswer : Leaf → ℕ → ℕ → Answer
 leafAnswer ℓ bit va =
     pick (ℓ.perms / bit % 2 == 1) (Address (ℓ.oa / 4096 * 4096 + va % 4096)) (Status (first (12 + ℓ.level)))
 
--- "A walk fault is the answer."
+-- a fault of the walk is the answer
 unfoldable pub walkAnswer : Walked → ℕ → ℕ → Answer
 walkAnswer (Err code) bit va = Status (first code)
 walkAnswer (Ok ℓ) bit va = leafAnswer ℓ bit va
 
 module _ (w : World) where
-  -- "A page is an untagged page of one regime"; its walk is that of its first address.
+  -- A page is an untagged page of one regime; its walk is that of its first address.
   abbrev pub pageWalk : w.Regs → w.Ram → Regime → ℕ → Walked
   pageWalk R m r p = w.walk R m r (p * 4096)
 

@@ -1,5 +1,5 @@
 // What is proved of every history: each function does nothing, and its contract is the theorem.
-ghost use Rattle.history.specs.History.{Demand3};
+ghost use Rattle.history.specs.History.{EveryHistoryFaithful};
 ghost use Rattle.history.specs.Instance.{real, freshPlain};
 ghost use Rattle.history.specs.Invisible.{Invisible};
 ghost use Rattle.history.specs.World.{Laws};
@@ -20,7 +20,7 @@ pub fn registers_and_walk()
 /// settled is answered as the core without a cache answers it; where every page is, no answer shows the cache. Rules
 /// out an invalidation that spares an entry or a hint, and a register write without its flush or retag.
 pub fn every_history()
-    ensures faithful { Demand3 real freshPlain }
+    ensures faithful { EveryHistoryFaithful real freshPlain }
     ensures invisible { Invisible real freshPlain }
 {}
 

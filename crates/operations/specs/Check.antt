@@ -1,4 +1,4 @@
--- Document 01's numbers 1 to 6, and document 02's.
+-- The numbers 1 to 7: docs/SCOPE.md, "Where each answer is given".
 use Rattle.std.specs.Prelude.{ℕ, ◌+◌, ◌*◌, ◌^◌, Bool, true, false, not, ◌||◌, List, [], ◌∷◌, nat_lt, Option, Some, None}
 use Rattle.word.specs.Bits.{alignDown, pick}
 use Rattle.word.specs.Ram.{width_of}

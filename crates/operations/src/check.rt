@@ -1,4 +1,4 @@
-// Document 01's checks 1 to 6 and document 02's, each call's from top to bottom.
+// The checks 1 to 7 of docs/SCOPE.md, each call's from top to bottom.
 ghost use Rattle.std.specs.Prelude.{◌≡◌, not, ◌||◌, [], ◌∷◌, nat_lt};
 ghost use Rattle.operations.specs.Check.{passes, known, kept, overlong, ramRows, sizedRows, first_of, missedOf};
 ghost use Rattle.operations.specs.declared.call.Call.TheVariants as Call;

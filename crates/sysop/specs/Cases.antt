@@ -1,4 +1,4 @@
--- Document 01's proved cases 10 and 11: AT of case 1, as one computed statement.
+-- Worked cases 10 and 11 of docs/SCOPE.md: AT of case 1, as one computed statement.
 use Rattle.std.specs.Prelude.{◌≡◌, refl, [], ◌∷◌, ℕ}
 use Rattle.word.specs.Ram.{word_at, littleEndian, bytes_of}
 use Rattle.sysreg.specs.Regs.{levels}

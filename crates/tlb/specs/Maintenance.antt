@@ -1,4 +1,4 @@
--- What TLB maintenance does to the cache: that of a TLBI, and that of a register write, by document 01's rule.
+-- What TLB maintenance does to the cache: that of a TLBI, and that of a register write, by the scope's rule.
 use Rattle.std.specs.Prelude.{ℕ, Bool, ◌==◌}
 use Rattle.word.specs.Bits.{pick}
 use Rattle.tlb.specs.Tlb.{flushOf, retagOf, invalidateOf, broadcastOf}
@@ -8,7 +8,7 @@ use Rattle.tlb.specs.declared.{Inval.Inval, Tlb.Tlb}
 unfoldable pub invalidatedOf : Tlb → Inval → Bool → Tlb
 invalidatedOf t what shared = pick shared (broadcastOf (invalidateOf t what) what) (invalidateOf t what)
 
--- "A register write first does `write_reg`; then, where `shaping` changed, it flushes; then, where `asid` differs from
+-- A register write does `write_reg`; then, where `shaping` changed, it flushes; then, where `asid` differs from
 -- the cache's, it retags."
 unfoldable pub reshapedOf : Tlb → Bool → Tlb
 reshapedOf t same = pick same t (flushOf t)

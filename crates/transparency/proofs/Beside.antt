@@ -1,4 +1,4 @@
--- Beside demand 3: the two cores agree, AT is a fresh walk, and a refused call changes nothing in either.
+-- Beside faithfulness: the two cores agree, AT is a fresh walk, and a refused call changes nothing in either.
 use Rattle.std.specs.Prelude.{◌≡◌, refl, List, ℕ, zero, suc, Ok, Err}
 use Rattle.std.proofs.Common.{ap, subst, ◌∙◌}
 use Rattle.sysop.specs.declared.{op.SysOp.SysOp}
@@ -56,7 +56,7 @@ register-leaves b m key value = (refl, refl, refl, refl)
 
 -- AT
 
--- "AT equals a fresh walk without any premise": whatever the cache holds, PAR_EL1 is made of the registers and RAM.
+-- AT equals a fresh walk without any premise: whatever the cache holds, PAR_EL1 is made of the registers and RAM.
 pub at_walks : Statement.at_walks
 at_walks c m e form passed named = ap (λ (b : Bare). b.sys.par_el1) ((fits c m (System e)).bare ∙ does)
   where

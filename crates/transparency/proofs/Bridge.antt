@@ -18,7 +18,7 @@ use Rattle.exec.specs.Fit.{refitOf}
 use Rattle.exec.specs.Ops.{with_regs as coreRegs, appliedOf, registered, writeRegister, withPrivilege as coreWho, setLevel, setMark, abortOf}
 use Rattle.exec.specs.Sys.{withPar as corePar, at_of, invalidatedOf, tlbiCore, onStored, doneWith, zero_of, sysBy, sysOf}
 use Rattle.operations.specs.Check.{missedOf}
-use Rattle.cpu.specs.Demand1.{all-passed}
+use Rattle.cpu.specs.EveryCallEnds.{all-passed}
 use Rattle.cpu.specs.Step.{ends, loadBy, storeBy, run_of, refusedOr, step_of}
 use Rattle.operations.specs.declared.call.Call.TheVariants.{Translate, DataPa, FetchPa, Load, Store, Fetch, System, Register, Level, Mark, General}
 use Rattle.operations.specs.declared.call.Call.TheVariants.{Abort, Census}

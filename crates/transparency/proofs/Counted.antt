@@ -1,5 +1,5 @@
 -- What the plain model says of the core's own counters and of what is pending, call by call, after every list of calls
--- from the fresh core: as document 01's checklist asks it.
+-- from the fresh core: as docs/SCOPE.md asks it ("Wrong cores").
 use Rattle.std.specs.Prelude.{◌≡◌, Bool, List, [], ◌∷◌, ℕ, Ok}
 use Rattle.std.proofs.Math.Path.{refl, sym, ap}
 use Rattle.std.proofs.Common.{◌∙◌}
@@ -126,7 +126,7 @@ module _ (list : List (Lent real machine)) (m : Ram) where
     asid-counted a q = counters-tell _ _ (levels-after list m (System e)) (levels-now list)
         (tlbi-counted ∙ ap (λ (v : Inval). invalCounted v (countersOf now.counts)) q)
 
-    -- "A second broadcast that differs from the pending one becomes All; an equal one stays": of an Inner Shareable
+    -- A second broadcast that differs from the pending one becomes All, an equal one stays: of an Inner Shareable
     -- form, whose CRm is 3
     pub shared-pending : Statement.shared_pending list m e passed named
     unfolding invalidate broadcast

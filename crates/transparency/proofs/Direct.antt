@@ -1,4 +1,4 @@
--- Demand 3 of each call that translates, read off `step_of` itself: where the pages meet the premise it has the same
+-- Faithfulness of each call that translates, read off `step_of` itself: where the pages meet the premise it has the same
 -- physical address, the same fault with its status and address, and the same bytes as on the core without a cache.
 use Rattle.std.specs.Prelude.{◌≡◌, Bool, true, false, List, [], ◌∷◌, ℕ}
 use Rattle.std.proofs.Math.Path.{refl, sym, ap}

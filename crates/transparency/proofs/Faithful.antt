@@ -1,4 +1,4 @@
--- Demand 3 as a promise of one call: what the second clause of its contract says.
+-- Faithfulness as a promise of one call: what the second clause of its contract says.
 use Rattle.std.specs.Prelude.{◌≡◌}
 use Rattle.std.proofs.Common.{sym, ap, ◌∙◌}
 use Rattle.std.proofs.Math.Path.{subst}

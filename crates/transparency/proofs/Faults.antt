@@ -1,4 +1,4 @@
--- Each fault that a call replies is a row of document 01's table, with the address translated, or for 0x10 that of a
+-- Each fault that a call replies is a row of docs/SCOPE.md's table, with the address translated, or for 0x10 that of a
 -- byte of the access.
 use Rattle.std.specs.Prelude.{◌≡◌, Bool, true, false, ◌⊎◌, ℕ, zero, suc, ◌+◌, ◌%◌, ◌^◌, ◌≤◌, ◌<◌, length, Option, Some, None}
 use Rattle.std.proofs.Math.Path.{refl, ap, subst⁻¹}

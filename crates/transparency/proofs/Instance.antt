@@ -1,9 +1,9 @@
--- Demand 3 of every list of calls of the core, from the fresh core that `Cpu::new` gives.
+-- Faithfulness of every list of calls of the core, from the fresh core that `Cpu::new` gives.
 use Rattle.std.specs.Prelude.{refl}
 use Rattle.std.proofs.Common.{arith}
 use Rattle.mmu.specs.Core.{freshCore}
-use Rattle.history.specs.Calls.{Demand3Calls, SameReplies, InvisibleCalls}
-use Rattle.history.proofs.EveryCall.{demand-3-calls}
+use Rattle.history.specs.Calls.{EveryCallFaithful, SameReplies, InvisibleCalls}
+use Rattle.history.proofs.EveryCall.{every_call_faithful}
 use Rattle.history.proofs.EveryReply.{same-replies, invisible-calls}
 use Rattle.history.specs.Instance.{real, real-laws, fresh-asid}
 use Rattle.transparency.specs.Machine.{machine}
@@ -13,9 +13,9 @@ use Rattle.transparency.proofs.Alone.{alone-same}
 
 -- After every list of calls, in every call, each translation of a page that meets the premise is answered as by the
 -- core without a cache.
-pub every_call : Demand3Calls real machine freshCore
+pub every_call : EveryCallFaithful real machine freshCore
 unfolding freshCore
-every_call = demand-3-calls real machine bridge real-laws freshCore refl fresh-asid (omega arith)
+every_call = every_call_faithful real machine bridge real-laws freshCore refl fresh-asid (omega arith)
 
 -- Where all pages that a call translates meet the premise, its reply and RAM are those of the core without a cache.
 pub every-reply : SameReplies real machine replies freshCore

@@ -1,4 +1,4 @@
--- Demand 3 of every list of calls.
+-- Faithfulness of every list of calls.
 pub mod Bridge
 pub mod Answered
 pub mod Alone

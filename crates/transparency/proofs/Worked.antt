@@ -1,4 +1,4 @@
--- A worked list of calls, by computation on the core itself: demand 3's premise holds where the cache answers, and
+-- A worked list of calls, by computation on the core itself: the premise of faithfulness holds where the cache answers, and
 -- fails where a table was changed without a TLBI.
 use Rattle.std.specs.Prelude.{◌≡◌, refl, true, false, List, [], ◌∷◌, ℕ, Ok, Err}
 use Rattle.std.proofs.Common.{sym, ap, subst, ◌∙◌, true≢false, arith}

@@ -1,4 +1,4 @@
--- Document 01's "Core without a cache", as a machine of its own: fed each step's call and RAM, and no answers.
+-- The core without a cache of docs/SCOPE.md, as a machine of its own: fed each step's call and RAM, and no answers.
 use Rattle.std.specs.Prelude.{ℕ, length, Ok, Err}
 use Rattle.sysreg.specs.Write.{writeReg, WriteAnswer, Written}
 use Rattle.exception.specs.Entry.{takeSync}
@@ -20,7 +20,7 @@ use Rattle.history.specs.World.{Plain}
 use Rattle.history.specs.Instance.{Ram, memoryOf, real}
 use Rattle.sysreg.specs.declared.write.WriteError.TheVariants.{Undefined, NoRegister}
 
--- "Its state is the level, the mark, the registers kept and the general registers", "at first those of `Cpu::new`"; and
+-- Its state is the level, the mark, the registers kept and the general registers, at first those of `Cpu::new`; and
 -- what abort entry reads and sets besides: flags and PC. The record and its updates are mmu's (`Bare`, `freshBare`); what
 -- each call does with them is said here, on its own.
 
@@ -99,7 +99,7 @@ ifAllowed unimplemented x y = y
 
 -- WHAT A CALL THAT IS NOT REFUSED DOES
 
--- "AT and abort entry go by their definitions." AT sets PAR_EL1 alone, by a walk on these registers and the step's RAM.
+-- AT and abort entry go by their definitions. AT sets PAR_EL1 alone, by a walk on these registers and the step's RAM.
 abbrev pub parAt : Bare → Ram → AtForm → ℕ → ℕ
 parAt b m form va = atPar b.control (mairOf b.sys form.regime) form va (memoryOf m)
 
@@ -114,8 +114,7 @@ sysDoes Op.Nothing b m va = b
 sysDoes Op.Undefined b m va = b
 sysDoes Op.Unimplemented b m va = b
 
--- "A setting stores its value; register 31 drops it." "A register write does `write_reg` and no more." "Every other
--- call leaves the state as it is."
+-- A setting stores its value; register 31 drops it. A register write does `write_reg` and no more. Every other call leaves the state as it is.
 abbrev pub bareDoes : Bare → Ram → Call → Bare
 bareDoes b m (Level level) = withPrivilege b level b.privilege.unprivileged
 bareDoes b m (Mark mark) = withPrivilege b b.privilege.level mark
@@ -131,7 +130,6 @@ bareDoes b m (Store va size value) = b
 bareDoes b m (Fetch va) = b
 bareDoes b m (Census first pages) = b
 
--- "Where the table below or a request refuses the call (a number, Undefined or Unimplemented), it gives that refusal
--- and changes nothing."
+-- A call that the table refuses (a number, Undefined or Unimplemented) changes nothing.
 abbrev pub bareStep : Bare → Ram → Call → Bare
 bareStep b m x = ifAllowed (rulingIn b m x) (bareDoes b m x) b

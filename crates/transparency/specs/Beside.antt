@@ -1,4 +1,4 @@
--- Beside demand 3: the two cores agree, AT is a fresh walk, and a refused call changes nothing in either.
+-- Beside faithfulness: the two cores agree, AT is a fresh walk, and a refused call changes nothing in either.
 use Rattle.std.specs.Prelude.{◌≡◌, Bool, List, ℕ}
 use Rattle.sysop.specs.declared.{op.AtForm.AtForm}
 use Rattle.sysop.specs.declared.op.SysOp.TheVariants as Op
@@ -82,7 +82,7 @@ register_leaves =
 
 -- AT
 
--- "AT equals a fresh walk without any premise": whatever the cache holds, PAR_EL1 is made of the registers and RAM.
+-- AT equals a fresh walk without any premise: whatever the cache holds, PAR_EL1 is made of the registers and RAM.
 abbrev pub at_walks : Type 0
 at_walks =
     (c : Core) (m : Ram) (e : Encoding) (form : AtForm) → missedIn (bareOf c) m (System e) ≡ 0

@@ -1,5 +1,5 @@
 -- What the plain model says of the core's own counters and of what is pending, call by call, after every list of calls
--- from the fresh core: as document 01's checklist asks it.
+-- from the fresh core: as docs/SCOPE.md asks it ("Wrong cores").
 use Rattle.std.specs.Prelude.{◌≡◌, List, ℕ, ◌+◌, ◌%◌, ◌^◌, Ok}
 use Rattle.std.proofs.Math.Bool.{true, false}
 use Rattle.sysreg.specs.Shape.{same_shape, asidOf}
@@ -118,7 +118,7 @@ module _ (list : List (Lent real machine)) (m : Ram) where
           epoch = (now.counts.epoch + 1) % 2 ^ 64;
         }
 
-    -- "A second broadcast that differs from the pending one becomes All; an equal one stays": of an Inner Shareable
+    -- A second broadcast that differs from the pending one becomes All, an equal one stays: of an Inner Shareable
     -- form, whose CRm is 3
     abbrev pub shared_pending : Type 0
     shared_pending = e.crm ≡ 3 → pendingOf then.broadcast ≡ joined (pendingOf now.broadcast) what

@@ -74,7 +74,7 @@ sharedIn e = reachesOthers e.crm
 
 -- EVENTS. m is RAM as the call begins, ms RAM as each further step begins.
 
--- "Each of DC ZVA's eight stores is a step": from the address and RAM at each start alone.
+-- Each of DC ZVA's eight stores is a step: from the address and RAM at each start alone.
 abbrev pub zeroSteps : Bare → Ram → List Ram → ℕ → List (Event real)
 zeroSteps b m [] va = steps m (asking (accessIn b va 8 Kind.Write)) ∷ []
 zeroSteps b m (n ∷ ms) va = steps m (asking (accessIn b va 8 Kind.Write)) ∷ zeroSteps b n ms (wrap (va + 8))
@@ -107,7 +107,7 @@ stepsIn b m ms (Census first pages) = steps m idle ∷ []
 abbrev pub eventsIn : Bare → Ram → List Ram → Call → List (Event real)
 eventsIn b m ms x = ifAllowed (rulingIn b m x) (stepsIn b m ms x) (steps m idle ∷ [])
 
--- "An All, Page or Asid is one that a TLBI, not refused, carries out": each such TLBI has its event, and no more.
+-- An All, Page or Asid is one that a TLBI, not refused, carries out: each such TLBI has its event, and no more.
 abbrev pub tlbi_event : Type 0
 tlbi_event =
     (b : Bare) (m : Ram) (ms : List Ram) (e : Encoding) → missedIn b m (System e) ≡ 0 → opIn b e ≡ Op.Tlbi

@@ -1,4 +1,4 @@
--- Demand 3 as a promise of one call: what the second clause of its contract says.
+-- Faithfulness as a promise of one call: what the second clause of its contract says.
 use Rattle.std.specs.Prelude.{◌≡◌, ℕ}
 use mathlib.Core.List.{List, ◌∷◌, ◌++◌}
 use Rattle.tlb.specs.Lists.{Each}

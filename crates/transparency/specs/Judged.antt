@@ -1,5 +1,5 @@
 -- Of every core that calls reach: each translation, by walk, entry or hint, is judged by the manual's permission check,
--- and each fault that it meets is a row of document 01's table.
+-- and each fault that it meets is a row of docs/SCOPE.md's table.
 use Rattle.std.specs.Prelude.{◌≡◌, List, [], ◌++◌}
 use Rattle.fault.specs.declared.Fault.{Fault}
 use Rattle.tlb.specs.Lists.{Each}

@@ -1,7 +1,6 @@
--- The counters of each level, for every list of calls from the fresh core. Document 02: "Keep `hits` and `walks` for
--- each exception level 0 to 3, counted at the level of the access, which `unprivileged` doesn't lower. Their sums,
--- wrapped at 2^64, are what the Rust's two counters are matched with". Which translations a list made, at which level,
--- and how each was answered is read from the plain model, on the events of the list (Events.antt; RAM at a zeroing's
+-- The counters of each level, for every list of calls from the fresh core. `hits` and `walks` of each exception level 0 to 3 count at the level of
+-- the access, which `unprivileged` does not lower. Their sums, wrapped at 2^64, are the Rust's two counters. Which translations a list made, at which
+-- level, and how each was answered is read from the plain model, on the events of the list (Events.antt; RAM at a zeroing's
 -- later stores as the run shows it: Starts.antt).
 use Rattle.std.specs.Prelude.{◌≡◌, Bool, true, false, List, ℕ, ◌+◌, ◌%◌, ◌^◌}
 use Rattle.tlb.specs.Count.{tallyAt}

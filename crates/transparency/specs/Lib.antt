@@ -1,4 +1,4 @@
--- Demand 3 of every list of calls: what a reader believes, top to bottom.
+-- Faithfulness of every list of calls: what a reader believes, top to bottom.
 pub mod Bare
 pub mod Events
 pub mod Replies

@@ -1,5 +1,5 @@
 -- What a call replies, and RAM after it: of the core, made from the answers to its translations, through which alone
--- the cache reaches a reply (`reply-is`, in Answered.antt), so that demand 3 of them is demand 3 of what a caller sees;
+-- the cache reaches a reply (`reply-is`, in Answered.antt), so that faithfulness of them is faithfulness of what a caller sees;
 -- and of the core without a cache, from its own state, RAM as the call begins, and the call.
 use Rattle.std.specs.Prelude.{List, [], ◌∷◌, ℕ, zero, suc, ◌+◌, Option, Some, None}
 use Rattle.word.specs.Bits.{alignDown, wrap}
@@ -91,7 +91,7 @@ callSays b m ms (General n value) gs = outcome Done m.bytes
 callSays b m ms (Abort e) gs = outcome Done m.bytes
 callSays b m ms (Census first pages) gs = outcome Done m.bytes
 
--- "Where the table refuses the call, it gives that refusal."
+-- A call that the table refuses gets that refusal.
 abbrev pub saysIn : Bare → Ram → List Ram → Call → List Given → Outcome
 saysIn b m ms x gs = ifAllowed (rulingIn b m x) (callSays b m ms x gs) (outcome (refusalOf (rulingIn b m x)) m.bytes)
 

@@ -1,7 +1,7 @@
 // What is proved of every list of calls: each function does nothing, and its contract is the theorem. The lists begin
 // at the fresh core, hold calls of every kind, refused ones too, and RAM at each step is any.
 ghost use Rattle.mmu.specs.Core.{freshCore};
-ghost use Rattle.history.specs.Calls.{Bridge, Demand3Calls, SameReplies, InvisibleCalls};
+ghost use Rattle.history.specs.Calls.{Bridge, EveryCallFaithful, SameReplies, InvisibleCalls};
 ghost use Rattle.history.specs.Instance.{real};
 ghost use Rattle.transparency.specs.Machine.{machine};
 ghost use Rattle.transparency.specs.Events.{tlbi_event};
@@ -32,7 +32,7 @@ ghost use Rattle.transparency.specs.Bytes.{flat_after, load_byte_after, store_by
 /// inside a load, a store, a fetch and a zeroing too. RAM at each step can be shown of every list, so that no list is
 /// left out. Rules out an entry or a hint that outlives its invalidation, a flush or a retag.
 pub fn every_translation()
-    ensures faithful { Demand3Calls real machine freshCore }
+    ensures faithful { EveryCallFaithful real machine freshCore }
     ensures shown { every_list_shown }
 {}
 

@@ -1,4 +1,4 @@
--- Document 01's proved cases that are translations with an empty cache, and the untagging: rows 1 to 9 and 12, as one computed statement.
+-- The worked cases of docs/SCOPE.md that are translations with an empty cache, and the untagging: rows 1 to 9 and 12, as one computed statement.
 use Rattle.std.specs.Prelude.{◌≡◌, refl, Bool, true, false, [], ◌∷◌, ℕ, ◌+◌, ◌%◌, ◌^◌, Ok, Err}
 use Rattle.word.specs.Bits.{bitOn, alignDown, pick}
 use Rattle.word.specs.Ram.{word_at, littleEndian, bytes_of}

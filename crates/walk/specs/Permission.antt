@@ -99,7 +99,7 @@ allowed singlepriv ispriv wxn t a = grants (rightsOf singlepriv ispriv wxn t) a
 abbrev pub accessBits : Rights → ℕ
 accessBits g = flag (grants g reading) 1 + flag (grants g writing) 2 + flag (grants g fetching) 4
 
--- document 01's permission byte: EL0's rights, and the privileged ones three bits higher
+-- the permission byte: EL0's rights, and the privileged ones three bits higher
 abbrev pub permissionByte : Bool → Bool → Permissions → ℕ
 permissionByte singlepriv wxn t =
     accessBits (rightsOf singlepriv false wxn t) + accessBits (rightsOf singlepriv true wxn t) * 8

@@ -246,7 +246,7 @@ unfoldable pub walkFrom : ℕ → (ℕ → Option ℕ) → Params → ℕ → Lo
 walkFrom zero memory p va l = faults (translation 3)
 walkFrom (suc n) memory p va l = onNext (lookupNext memory p va l) (walkFrom n memory p va)
 
--- the walk's entry, in the order of document 01's table: out of range, or EPD set; then a base beyond the output size; then the walk
+-- the walk's entry, in the order of docs/SCOPE.md's table: out of range, or EPD set; then a base beyond the output size; then the walk
 abbrev pub entered : {A : Type 0} → ℕ → Range → ℕ → (Fault → A) → A → A
 entered outputsize g va fault walk =
     pick (not (in_range g va) || g.disabled) (fault (translation 0))

@@ -50,7 +50,7 @@ module _ (first pages base : ℕ) (ram ws old : List ℕ) where
       → CensusPromise first pages base ram ws n old old
   unfolding missed countsAfter
   promise-refused n e some =
-      record { code = e ∙ code_is; counted = stays; unchanged = λ h. refl; demand-3 = after n old (e ∙ code_is) stays }
+      record { code = e ∙ code_is; counted = stays; unchanged = λ h. refl; faithful = after n old (e ∙ code_is) stays }
     where
       stays : old ≡ countsAfter (core_of ws) base ram first pages old
       stays = go (missedBy (core_of ws) base ram (Census first pages)) (λ z. some (e ∙ z))
@@ -65,7 +65,7 @@ module _ (first pages base : ℕ) (ram ws old : List ℕ) where
       → CensusPromise first pages base ram ws 0 old counts
   unfolding missed countsAfter
   promise-done n e none privilege ep r er s es counts ec =
-      record { code = sym none ∙ e ∙ code_is; counted = done; unchanged = λ h. absurd (omega arith); demand-3 = after 0 counts (sym none ∙ e ∙ code_is) done }
+      record { code = sym none ∙ e ∙ code_is; counted = done; unchanged = λ h. absurd (omega arith); faithful = after 0 counts (sym none ∙ e ∙ code_is) done }
     where
       done : counts ≡ countsAfter (core_of ws) base ram first pages old
       done = rw (sym e ∙ none) (ec ∙ rw (es, er, ep))

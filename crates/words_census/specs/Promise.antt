@@ -15,11 +15,11 @@ use Rattle.call_words.specs.Replies.{codeBy}
 
 -- The number n, and the counts, which were old.
 --   unchanged   any other number than 0 says that no count was written
---   demand-3    whatever list of calls left the core that the words hold: counts and number are those of the core without a cache
+--   faithful    whatever list of calls left the core that the words hold: counts and number are those of the core without a cache
 pub record CensusPromise (first pages base : ℕ) (ram ws : List ℕ) (n : ℕ) (old counts : List ℕ) : Type 0 where
   pub code : n ≡ codeBy (step_of (core_of ws) base ram (Census first pages)).reply
   pub counted : counts ≡ countsAfter (core_of ws) base ram first pages old
   pub unchanged : 0 < n → counts ≡ old
-  pub demand-3 : (list : List (Lent real machine)) → core_of ws ≡ coreAfter list
+  pub faithful : (list : List (Lent real machine)) → core_of ws ≡ coreAfter list
       → (counts ≡ bareCounts (bareAfter list) (windowOf base ram) first pages old)
       × (n ≡ codeBy (bareReply (bareAfter list) (windowOf base ram) (Census first pages)).reply)

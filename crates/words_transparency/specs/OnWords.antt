@@ -1,5 +1,5 @@
--- Demand 3 of every list of exported calls. Words that `a72_fresh` made and then exported calls, each as its contract
--- promises, hold the core after the list, so that each further call keeps demand 3.
+-- Faithfulness of every list of exported calls. Words that `a72_fresh` made and then exported calls, each as its contract
+-- promises, hold the core after the list, so that each further call is faithful.
 use Rattle.std.specs.Prelude.{◌≡◌, refl, List, [], ◌∷◌, ◌++◌, ℕ}
 use Rattle.std.proofs.Common.{sym, ap, ◌∙◌}
 use Rattle.mmu.specs.Core.{freshCore}
@@ -74,7 +74,7 @@ made-core _ _ (stepped call base ram ws n old v ys xs list m p) = grown call bas
 made-core _ _ (looked first pages base ram ws n old counts list m p) =
     grown (Known (Census first pages)) base ram ws ws list (made-core ws list m) (holds_as stays (sym (census-core (core_of ws) base ram first pages)))
 
--- THE THEOREM: on such words each call that its contract promises keeps demand 3.
+-- THE THEOREM: on such words each call that its contract promises is faithful.
 
 abbrev pub faithful_on_words : Type 0
 faithful_on_words =
@@ -82,8 +82,8 @@ faithful_on_words =
     → (x : Call) (base : ℕ) (ram : List ℕ) (n old v : ℕ) (ys xs : List ℕ) → Promise (Known x) base ram ws n old v ys xs
     → FaithfulNumber list (windowOf base ram) x n old v ys
 
-pub demand-3-on-words : faithful_on_words
-demand-3-on-words ws list m x base ram n old v ys xs p = p.demand-3 list (made-core ws list m)
+pub faithful_on_words : faithful_on_words
+faithful_on_words ws list m x base ram n old v ys xs p = p.faithful list (made-core ws list m)
 
 -- so does a step, by the words of its call
 abbrev pub faithful_step_on_words : Type 0
@@ -93,8 +93,8 @@ faithful_step_on_words =
     → StepPromise (Known x) base ram ws n old v ys xs
     → FaithfulWords list (windowOf base ram) x v ys
 
-pub demand-3-step : faithful_step_on_words
-demand-3-step ws list m x base ram n old v ys xs p = p.demand-3 list (made-core ws list m)
+pub faithful_step : faithful_step_on_words
+faithful_step ws list m x base ram n old v ys xs p = p.faithful list (made-core ws list m)
 
 -- and a census counts, and answers, as the core without a cache does
 abbrev pub counts_on_words : Type 0
@@ -106,4 +106,4 @@ counts_on_words =
     × (n ≡ codeBy (bareReply (bareAfter list) (windowOf base ram) (Census first pages)).reply)
 
 pub census-on-words : counts_on_words
-census-on-words ws list m first pages base ram n old counts p = p.demand-3 list (made-core ws list m)
+census-on-words ws list m first pages base ram n old counts p = p.faithful list (made-core ws list m)

@@ -13,7 +13,7 @@ use Rattle.a72abi.specs.Steps.{callCode, callCore, callRam}
 use Rattle.a72abi.specs.Promise.{FaithfulWords, StepPromise}
 use Rattle.call_words.specs.declared.op.DecodedCall.{DecodedCall}
 use Rattle.call_words.specs.declared.op.DecodedCall.TheVariants.{Known, Unknown}
-use Rattle.words_transparency.specs.OnWords.{added, Made, fresh, stepped, demand-3-step}
+use Rattle.words_transparency.specs.OnWords.{added, Made, fresh, stepped, faithful_step}
 
 -- the k-th call of words, eight to a call
 abbrev pub eight : List ℕ → ℕ → List ℕ
@@ -49,7 +49,7 @@ pub record On (a : Reached) (ys xs : List ℕ) : Type 0 where
   pub core_is : core_of xs ≡ a.core
   pub bytes-are : ys ≡ a.bytes
 
--- demand 3 of a last call, on what was reached: no more is asked of the words
+-- faithfulness of a last call, on what was reached: no more is asked of the words
 abbrev pub FaithfulLast : DecodedCall → Reached → ℕ → List ℕ → List ℕ → Type 0
 FaithfulLast (Known x) a base v ys = FaithfulWords a.list (windowOf base a.bytes) x v ys
 FaithfulLast Unknown a base v ys = Unit {0}
@@ -57,7 +57,7 @@ FaithfulLast Unknown a base v ys = Unit {0}
 pub record RunPromise (call : DecodedCall) (a : Reached) (base n : ℕ) (v ys xs : List ℕ) : Type 0 where
   pub code : n ≡ callCode call
   pub on : On (oneMore call base a) ys xs
-  pub demand-3 : FaithfulLast call a base v ys
+  pub faithful : FaithfulLast call a base v ys
 
 -- one call more, as `a72_step` promises
 pub on-more : (call : DecodedCall) (base : ℕ) (a : Reached) (ram ws : List ℕ) (n : ℕ) (old v ys xs : List ℕ)
@@ -75,10 +75,10 @@ last-call (Known x) base a ram ws n old v ys xs o p =
     record {
       code = p.code;
       on = on-more (Known x) base a ram ws n old v ys xs o p;
-      demand-3 = rw o.bytes-are at (demand-3-step ws a.list o.made x base ram n old v ys xs p);
+      faithful = rw o.bytes-are at (faithful_step ws a.list o.made x base ram n old v ys xs p);
     }
 last-call Unknown base a ram ws n old v ys xs o p =
-    record { code = p.code; on = on-more Unknown base a ram ws n old v ys xs o p; demand-3 = tt }
+    record { code = p.code; on = on-more Unknown base a ram ws n old v ys xs o p; faithful = tt }
 
 -- THE RUN, CALL BY CALL
 

@@ -1,5 +1,5 @@
 #![tactic(auto)]
-// A run of exported calls on lent words, with demand 3 of the whole list in its contract.
+// A run of exported calls on lent words, with faithfulness of the whole list in its contract.
 ghost use Rattle.std.specs.Prelude.{◌≡◌, ◌+◌, ◌/◌, ◌≤◌, length};
 ghost use Rattle.call_words.specs.Ops.{call_of};
 ghost use Rattle.words_transparency.specs.Run.{eight, reached, RunPromise};
@@ -27,7 +27,7 @@ fn op_at(ops: &[u64], at: usize) -> [u64; 8]
 }
 
 // Every word written; then the calls of ops, eight words to a call, each on RAM as the last one left it; then one call
-// more, whose number and answer are given. Whatever the calls were, the last one's answer keeps demand 3.
+// more, whose number and answer are given. Whatever the calls were, the last one's answer is faithful.
 pub fn run(
     state: &mut State,
     ops: &[u64],

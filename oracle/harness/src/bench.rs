@@ -1,7 +1,7 @@
 //! pimu's Rust and the library's functions on words, side by side in one process: the same cases, the same inputs.
 //!
 //! On the Rust's side the operation itself is called, behind one call that is not inlined, with RAM at its quickest;
-//! the documents' checks are not made there. On the library's side its exported function is called. Translations,
+//! the checks are not made there. On the library's side its exported function is called. Translations,
 //! loads, stores and censuses have a third side: the Rust behind the library's signatures, with the checks.
 mod cases;
 mod checked;

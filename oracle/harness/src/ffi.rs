@@ -3,8 +3,8 @@
 //! # The functions
 //!
 //! A core is a static library that exports the functions of `include/a72.h`, which says what each does, which number it
-//! gives ([`crate::number`]) and where a state's words hold what ([`crate::place`]). What an operation means is
-//! document 01's: the Rust function of that name. `a72_fresh` makes the state that `Cpu::new` makes.
+//! gives ([`crate::number`]) and where a state's words hold what ([`crate::place`]). What an operation means is the
+//! scope's: the Rust function of that name. `a72_fresh` makes the state that `Cpu::new` makes.
 //!
 //! [`CCore`] runs by `a72_fresh` and `a72_step`, or, with the feature `rattle`, by the function for each operation
 //! (`ffi/each.rs`); the counts of a census are `a72_census`'s in both. Without the feature the model stands behind
@@ -44,7 +44,7 @@
 //! | 44 | `p-cnt`: hits and walks of EL0, flushes, drops, epoch become this, hits and walks of EL1 to EL3 0 | value |
 //! | 45 | `p-bc`: the pending broadcast is taken (none) | |
 //!
-//! Codes 1 to 13 are the list, document 01's and what document 02 adds to it, and only they reach `a72_step`. 20 to 28
+//! Codes 1 to 13 are the list, and only they reach `a72_step`. 20 to 28
 //! are leaves, which change nothing: the core behind the boundary has none, so they are left out for it and counted
 //! ([`Core::has`]). 40 to 45 are pokes, which only the comparer uses: the harness edits the state's words itself. The
 //! lines of a trace around the operations have codes in files: 60 `fresh`; 61 `window` base, length; 62 `zero`; 63
@@ -63,7 +63,7 @@
 //! | 2 | none: `dpa`, `fpa` would fault; `l-bank` knows no such key | |
 //! | 3 | a walk's leaf | address; permissions + level << 8; attribute index + shareability << 8 + NS << 16 + global << 24 |
 //! | 4 | pair: `l-bank` register and level; `l-syn` ESR and FAR | first, second |
-//! | 5 | document 01's number, or the census's 7 | 1 to 7 |
+//! | 5 | the check's number | 1 to 7 |
 //! | 6, 7 | Undefined, Unimplemented | |
 //! | 8 | fault of a translation (also `l-walk`) | address, status |
 //! | 9 | data abort | address, status, write |

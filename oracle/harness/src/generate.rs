@@ -19,9 +19,9 @@ use tables::{Spot, Tree};
 /// What a trace may hold.
 #[derive(Clone, Copy, PartialEq, Eq, Debug)]
 pub enum Style {
-    /// Document 01's list, censuses, leaves and pokes.
+    /// The list, leaves and pokes.
     Full,
-    /// Only document 01's list, and censuses.
+    /// Only the list.
     Strict,
     /// As full, and the core's state is overwritten with odd values.
     Wild,

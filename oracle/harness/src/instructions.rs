@@ -1,5 +1,5 @@
 //! Each system operation and register write also as the instruction that pimu itself executes (`Cpu::step_fetched`):
-//! the harness calls the right functions, and where document 01's rule of a register write leaves pimu's own.
+//! the harness calls the right functions, and where the scope's rule of a register write leaves pimu's own.
 use crate::op::{Ans, Line, Op};
 use crate::rust::{kept, RustCore};
 use crate::{feed, Core, Ram, State};

@@ -1,12 +1,12 @@
-//! An oracle for stage 1 of the A72: document 01's operations on pimu's own Rust, and traces of them.
+//! An oracle for stage 1 of the A72: the scope's operations on pimu's own Rust, and traces of them.
 #[cfg(feature = "rattle")]
 pub mod bench;
 pub mod census;
 pub mod cli;
 pub mod compare;
 pub mod coverage;
-pub mod demand3;
 pub mod expect;
+pub mod faithful;
 pub mod ffi;
 pub mod generate;
 pub mod grid;
@@ -43,8 +43,8 @@ pub use ram::Ram;
 pub use refusal::refusal;
 pub use state::State;
 
-/// One core under document 01's operations. Three stand here: pimu's Rust ([`rust::RustCore`]), a model written
-/// from document 01's words ([`model::DocCore`]), and whatever is behind the C boundary ([`ffi::CCore`]).
+/// One core under the scope's operations. Three stand here: pimu's Rust ([`rust::RustCore`]), a model written
+/// from the scope's words ([`model::DocCore`]), and whatever is behind the C boundary ([`ffi::CCore`]).
 pub trait Core {
     /// Become a fresh core, the one `Cpu::new` gives.
     fn reset(&mut self);

@@ -35,7 +35,7 @@ pub enum Op {
     LeafBank(u32),
     LeafVector(u32, u32, bool),
     LeafSyndrome(Exception, u32, u32, u64),
-    // Pokes: states that no list of document 01 reaches, or not soon.
+    // Pokes: states that no list reaches, or not soon.
     PokeLevel(u32),
     PokePc(u64),
     PokeSpsel(bool),
@@ -47,7 +47,7 @@ pub enum Op {
 }
 
 impl Op {
-    /// Whether it is an operation of document 01's list, or one that a request added to it (and no leaf or poke).
+    /// Whether it is an operation of the list (and no leaf or poke).
     pub fn is_step(&self) -> bool {
         use Op::*;
         self.takes_ram() || matches!(self, Reg(..) | Level(_) | Mark(_) | SetX(..) | Abort(_))
@@ -67,7 +67,7 @@ impl Op {
         !self.is_step() && !self.is_poke()
     }
 
-    /// Whether document 01's check 2 looks at the window.
+    /// Whether check 2 looks at the window.
     pub fn takes_ram(&self) -> bool {
         use Op::*;
         matches!(
@@ -92,7 +92,7 @@ pub enum Ans {
     Pair(u64, u64),
     /// Those of a census.
     Counts(Box<Counts>),
-    /// Document 01's numbers 1 to 6, and the census's 7.
+    /// The numbers of the checks 1 to 7.
     Number(u8),
     Undefined,
     Unimplemented,

@@ -1,4 +1,4 @@
-//! Document 01's refusals 1 to 6, and document 02's 7.
+//! The refusals 1 to 7 of docs/SCOPE.md.
 use crate::count::MOST_PAGES;
 use crate::op::Op;
 use crate::Ram;

@@ -62,7 +62,7 @@ pub use crate::place::{PAR_EL1 as PAR, PC};
 pub struct State {
     /// In the order of [`REGS`].
     pub regs: [u64; 34],
-    /// NZCV, DAIF, SPSel: constant on document 01's lists.
+    /// NZCV, DAIF, SPSel: constant on lists.
     pub flags: [u64; 3],
     pub x: [u64; 31],
     pub level: u32,
@@ -120,7 +120,7 @@ impl State {
         totals(&self.levels).1
     }
 
-    /// What the documents compare, as names and values.
+    /// What the scope compares, as names and values.
     fn named(&self) -> [(&'static str, String); 18] {
         let x = |v: u64| format!("{v:x}");
         let pair = |l: usize| format!("{:x}:{:x}", self.levels[l].hits, self.levels[l].walks);
@@ -163,7 +163,7 @@ impl State {
         named.or_else(|| Some(format!("{:x}", self.regs[REGS.iter().position(|r| *r == name)?])))
     }
 
-    /// The state in one line: what the documents compare, then digests of the rest. `ram`: its digest.
+    /// The state in one line: what the scope compares, then digests of the rest. `ram`: its digest.
     pub fn line(&self, ram: u64) -> String {
         let all = self.named().into_iter().chain(self.digests());
         let s: String = all.map(|(n, v)| format!("{n}={v} ")).collect();

@@ -1,6 +1,6 @@
-//! The Rust beside the model and beside the C boundary; mistakes, demand 3 and the walk's parameters in small.
+//! The Rust beside the model and beside the C boundary; mistakes, faithfulness and the walk's parameters in small.
 use harness::compare::compare;
-use harness::demand3;
+use harness::faithful;
 use harness::ffi::{boxed, state_of, CCore};
 use harness::generate::{trace, Rng, Style};
 use harness::grid::{Ask, Grid};
@@ -90,10 +90,10 @@ fn a_mistake_is_found_and_shrunk() {
 }
 
 #[test]
-fn demand_3_holds_of_the_rust_and_not_without_flush_or_retag() {
+fn the_rust_is_faithful_and_not_without_flush_or_retag() {
     let hold = |rule| {
         let mut core = RustCore::with_rule(rule);
-        demand3::hold(&trace(1, 3000, Style::Strict), &mut core, &mut Default::default())
+        faithful::hold(&trace(1, 3000, Style::Strict), &mut core, &mut Default::default())
     };
     assert_eq!(hold(Rule::Document), Ok(()));
     assert_eq!(hold(Rule::Pimu), Ok(()));

@@ -1,4 +1,4 @@
-//! Document 02's counters for each level: what the sums alone would not show, wraps, and the words that hold nothing.
+//! The counters for each level: what the sums alone would not show, wraps, and the words that hold nothing.
 use harness::compare::compare;
 use harness::ffi::{boxed, CCore, LEVEL_WORDS, RETIRED};
 use harness::generate::{trace, Style};

@@ -41,8 +41,8 @@ fn compare() {
 }
 
 #[test]
-fn demand3() {
-    let program = env!("CARGO_BIN_EXE_demand3");
+fn faithful() {
+    let program = env!("CARGO_BIN_EXE_faithful");
     tests_nothing(program, &["5", "5", "1000"]);
     tests_nothing(program, &["5", "6", "0"]);
     succeeds(program, &["5", "6", "3000"]);

@@ -1,4 +1,4 @@
-//! The Rust behind the library's own signatures: numbers in and out, lent words of RAM, and the documents' checks 1 to
+//! The Rust behind the library's own signatures: numbers in and out, lent words of RAM, and the checks 1 to
 //! 3 and 7 before pimu's function. So both sides do the same work.
 use super::rust::Quick;
 use super::{ours::summed, repeat, told, Work, DONE, STORED};

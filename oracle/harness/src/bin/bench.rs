@@ -7,7 +7,7 @@ const USAGE: &str = "bench time [RUNS] [--only TEXT] [--counts FILE]
        bench list
        bench one CASE rust|checked|ours N
   time: a table of all cases (--only: of those whose name holds TEXT): nanoseconds a call, of a census a page, on the
-  Rust and on the library, the least of RUNS runs (600), the ratio and its bar, then the Rust with the documents'
+  Rust and on the library, the least of RUNS runs (600), the ratio and its bar, then the Rust with the
   checks behind the library's signatures and the ratio to that; --counts: with the instructions a call that
   `ir.sh` wrote. Status 1 where the two sides differ in an answer or a state. list: the cases' numbers and names.
   one: N calls of one case on one side, to count instructions.";

@@ -5,7 +5,7 @@ use harness::instructions::{compare, Outcomes};
 
 const USAGE: &str = "instructions FROM TO N
   Strict traces of the seeds FROM to TO - 1 with about N operations each. Status 1 where a system operation differs, or none was
-  seen; register writes differ where document 01's rule is not pimu's own.";
+  seen; register writes differ where the scope's rule is not pimu's own.";
 
 fn main() {
     let args = Args::new(USAGE, &[], &[]);

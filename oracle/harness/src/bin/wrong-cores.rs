@@ -10,7 +10,7 @@ const USAGE: &str = "wrong-cores SEED N
   and says after how many operations the state told them apart, and when the answers, counters, registers or RAM
   alone did. Status 1 where one is not caught by the latter.";
 
-/// What the documents compare: no hints and no entries.
+/// What the scope compares: no hints and no entries.
 fn shown(s: &State) -> impl PartialEq {
     let counters = (s.levels, s.flushes, s.drops, s.epoch);
     (
@@ -43,7 +43,7 @@ impl Pair {
         [feed(line, &mut self.rust, a), feed(line, &mut self.wrong, b)]
     }
 
-    /// Whether the whole state differs, and whether something that the documents compare does.
+    /// Whether the whole state differs, and whether something that the scope compares does.
     fn differs(&self, answers: [Option<Ans>; 2]) -> (bool, bool) {
         let (s, t) = (self.rust.state(), self.wrong.state());
         let open = answers[0] != answers[1] || self.rams[0] != self.rams[1];

@@ -1,4 +1,4 @@
-//! The pokes, as edits of a state's words: states that no list of document 01 reaches, or not soon. The harness makes
+//! The pokes, as edits of a state's words: states that no list reaches, or not soon. The harness makes
 //! them itself, so that a core behind the boundary needs none.
 use super::{Words, ENTRY_WORDS, LEVEL_WORDS};
 use crate::op::{Ans, Op};

@@ -1,4 +1,4 @@
-//! Document 02's page census.
+//! The page census.
 use super::{DocCore, Mistake};
 use crate::op::Ans;
 use crate::Ram;

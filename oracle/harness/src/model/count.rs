@@ -1,4 +1,4 @@
-//! Document 02's counters: hits and walks by exception level.
+//! The counters: hits and walks by exception level.
 use super::cache::up;
 use super::{DocCore, Mistake};
 use crate::state::Entry;

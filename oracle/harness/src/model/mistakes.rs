@@ -1,4 +1,4 @@
-//! Wrong cores: mistakes that a port might make, document 01's misreadings among them.
+//! Wrong cores: mistakes that a port might make, the misreadings of docs/SCOPE.md among them.
 
 #[derive(Clone, Copy, PartialEq, Eq, Debug)]
 pub enum Mistake {

@@ -1,4 +1,4 @@
-//! The registers and the settings: the state of document 01's core without a cache.
+//! The registers and the settings: the state of the core without a cache.
 use super::bits::{bit, bits};
 use super::Mistake;
 use std::collections::BTreeMap;

@@ -1,4 +1,4 @@
-//! Address leaves, the walk, and the translation of document 01's core without a cache.
+//! Address leaves, the walk, and the translation of the core without a cache.
 use super::bits::{bit, bits, WORD};
 use super::{Bank, Mistake, Regs};
 use crate::Ram;

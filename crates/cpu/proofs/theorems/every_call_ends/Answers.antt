@@ -1,8 +1,8 @@
-use Rattle.cpu.specs.Demand1.{demand-1, number-le, refused, refused-ram, quiet}
+use Rattle.cpu.specs.EveryCallEnds.{each_call_ends, number-le, refused, refused-ram, quiet}
 use Rattle.cpu.proofs.theorems.every_call_ends.Goals as goal
 
 pub returns-clause-ended : goal.returns-clause-ended
-returns-clause-ended c = demand-1
+returns-clause-ended c = each_call_ends
 
 pub returns-clause-numbers : goal.returns-clause-numbers
 returns-clause-numbers c = number-le

@@ -23,12 +23,12 @@ impl Walk {
         }
     }
 
-    /// Document 01: both end in a leaf with the same physical page, permissions and level.
+    /// Both end in a leaf with the same physical page, permissions and level.
     fn equals(&self, walk: &Result<Leaf, u8>) -> bool {
         matches!(walk, Ok(l) if (l.oa >> 12, l.perms, l.level) == (self.page, self.perms, self.level))
     }
 
-    /// Document 01's covering of a walk of `page`.
+    /// The covering of a walk of `page`.
     fn covered(&self, page: u64, by: Inval) -> bool {
         match by {
             Inval::All => true,

@@ -1,11 +1,11 @@
-//! Test demand 3 on lists made from seeds.
+//! Test faithfulness on lists made from seeds.
 use harness::cli::{finish, verdict, Args};
-use harness::demand3::{hold, Seen};
+use harness::faithful::{hold, Seen};
 use harness::generate::{trace, Style};
 use harness::rust::{Rule, RustCore};
 use harness::Core;
 
-const USAGE: &str = "demand3 FROM TO N [--c | --each | --mistake M | --rule pimu|noflush|noretag]
+const USAGE: &str = "faithful FROM TO N [--c | --each | --mistake M | --rule pimu|noflush|noretag]
   Strict traces of the seeds FROM to TO - 1 with about N operations each, on the Rust (--c: on the core behind the C
   boundary, --each by its functions; --mistake: on the model with that mistake; --rule: on the Rust with another rule
   of a register write).
@@ -39,7 +39,7 @@ fn main() {
         }
     }
     // A list on which the cache answered nothing shows nothing of it.
-    let (said, good) = verdict(seen.cached, held, ["demand 3 held", "DEMAND 3 BROKEN"]);
+    let (said, good) = verdict(seen.cached, held, ["as without a cache", "NOT AS WITHOUT A CACHE"]);
     println!(
         "translations {} (flat {}, walked {}, from the cache {}); stale but excused {}; excused and yet equal {}; \
          censuses {}; {said}",

@@ -1,4 +1,4 @@
-//! What carries demand 3 through a list: the cache's ASID is the registers'; behind each live entry stands an
+//! What carries faithfulness through a list: the cache's ASID is the registers'; behind each live entry stands an
 //! uncovered walk of its page with its page, permissions, level, globality and ASID, and its regime is on; behind each
 //! hint stands either a regime that is off and the same page, or an uncovered walk of the untagged page, global or
 //! of the ASID in force, with that physical page and the bit that kind and level need.

@@ -1,7 +1,7 @@
-//! Demand 3, tested in a form stronger than document 01 asks for. Beside the core under test goes the core without a
-//! cache. For each translation (each half of a split access and each store of DC ZVA too): unless some earlier walk
+//! Faithfulness, tested in a form stronger than docs/SCOPE.md has it. Beside the core under test goes the core without
+//! a cache. For each translation (each half of a split access and each store of DC ZVA too): unless some earlier walk
 //! of that page that the core really made, that no later invalidation covers, and that is global or of the ASID in
-//! force now, differs from the walk now, the two answers are equal. (Document 01 lets every walk the page would have
+//! force now, differs from the walk now, the two answers are equal. (The scope lets every walk the page would have
 //! had excuse a difference, so it asks less.) A census is a step that does nothing, and its counts are those of the
 //! core without a cache. After each step [`invariant`] is checked too.
 mod invariant;
@@ -219,7 +219,7 @@ impl Trial<'_> {
     }
 }
 
-/// Test one list; the error says where and why demand 3 or the invariant broke.
+/// Test one list; the error says where and why faithfulness or the invariant broke.
 pub fn hold(lines: &[Line], core: &mut dyn Core, seen: &mut Seen) -> Result<(), String> {
     core.reset();
     let mut ram = Ram::default();

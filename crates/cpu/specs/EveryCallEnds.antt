@@ -43,7 +43,7 @@ use Rattle.operations.specs.declared.call.Reply.TheVariants.{Refused, Done, Valu
 use Rattle.word.specs.declared.ram.Width.{Width}
 use Rattle.sysreg.specs.declared.write.WriteError.TheVariants.{Undefined, NoRegister}
 
--- a reply as document 01's number, or what it says: a value, a fault's address and status, done, Undefined, Unimplemented
+-- a reply as the number of a check, or what it says: a value, a fault's address and status, done, Undefined, Unimplemented
 pub data Outcome : Type 0 where
   number : ℕ → Outcome
   says : Said → Outcome
@@ -294,17 +294,17 @@ module _ (c : Core) (base : ℕ) (ram : List ℕ) where
   ran (Abort x) e = only-done c _ ram
   ran (Census first pages) e = only-done c _ ram
 
--- THE DEMAND
+-- THE CLAIM
 
 -- each call ends as one of them, by the number of the first check that it misses; 0 where it misses none
 pub data Ended (c : Core) (ram : List ℕ) : ℕ → Core → List ℕ → Outcome → Type 0 where
   is-refused : (n : ℕ) → suc n ≤ 7 → Ended c ram (suc n) c ram (number (suc n))
   has-run : (d : Core) (after : List ℕ) (o : Outcome) → Ran c ram d after o → Ended c ram 0 d after o
 
-pub demand-1 : (c : Core) (base : ℕ) (ram : List ℕ) (call : Call)
+pub each_call_ends : (c : Core) (base : ℕ) (ram : List ℕ) (call : Call)
     → Ended c ram (missedBy c base ram call) (step_of c base ram call).core (ramAfter c base ram call) (outcomeOf (step_of c base ram call).reply)
 unfolding step_of ramAfter
-demand-1 c base ram call = go (missedBy c base ram call) (number-le c base ram call) (λ e. ran c base ram call e)
+each_call_ends c base ram call = go (missedBy c base ram call) (number-le c base ram call) (λ e. ran c base ram call e)
   where
     go : (n : ℕ) → n ≤ 7
         → (n ≡ 0 → Ran c ram (run_of c base ram call).core (ramOf c base ram call) (outcomeOf (run_of c base ram call).reply))
