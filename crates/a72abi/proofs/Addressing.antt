@@ -1,5 +1,5 @@
 -- Translations and fetches by number, on plain values, for `search`.
-use Rattle.std.specs.Prelude.{Some, Option, None}
+use Rattle.std.specs.Prelude.{if◌then◌else◌, Some, Option, None}
 use mathlib.Core.Path.{◌≡◌, refl, sym, ap, ◌∙◌}
 use mathlib.Core.Bool.{false}
 use mathlib.Core.List.{List}
@@ -7,7 +7,6 @@ use Prim.Native.Nat.{ℕ, ◌+◌, ◌≤◌, ◌<◌}
 use native.Mathlib.Omega.{arith}
 use borrow.Author.Tests.{ne_eqb}
 use lib.Dec.{eqb}
-use Rattle.word.specs.Bits.{pick}
 use Rattle.word.specs.Ram.{word_at}
 use Rattle.tlb.specs.declared.{access.Kind.Kind, access.Answer.Answer}
 use Rattle.tlb.specs.declared.access.Kind.TheVariants.{Read, Write, Fetch}
@@ -73,15 +72,15 @@ module _ (ws : List ℕ) (base : ℕ) (ram : List ℕ) (va : ℕ) (kind : Kind) 
       (translation-tells ws base part va kind n old v xs (by-find-code ws memory va kind p ep n e en) (by-find-value ws memory va kind p ep v old e ev)
       (by-find-core ws memory va kind p ep xs e m))
 
-without-status-code : (a : Answer) (n r : ℕ) → n ≡ code_of a → r ≡ pick (eqb n 0) 0 256 → r ≡ codeBy (reaching (reachedBy a))
-without-status-code (Address pa) n r e q = q ∙ ap (λ (k : ℕ). pick (eqb k 0) 0 256) e
+without-status-code : (a : Answer) (n r : ℕ) → n ≡ code_of a → r ≡ (if eqb n 0 then 0 else 256) → r ≡ codeBy (reaching (reachedBy a))
+without-status-code (Address pa) n r e q = q ∙ ap (λ (k : ℕ). (if eqb k 0 then 0 else 256)) e
 without-status-code (Status f) n r e q = q ∙ rw (e, ne_eqb (256 + f.fsc) 0 (λ z. omega arith))
 
 without-status-value : (a : Answer) (old : ℕ) → value_of a old ≡ valueBy (reaching (reachedBy a)) old
 without-status-value (Address pa) old = refl
 without-status-value (Status fsc) old = refl
 
-module _ (ws : List ℕ) (base : ℕ) (ram : List ℕ) (va n r old v : ℕ) (xs : List ℕ) (er : r ≡ pick (eqb n 0) 0 256) where
+module _ (ws : List ℕ) (base : ℕ) (ram : List ℕ) (va n r old v : ℕ) (xs : List ℕ) (er : r ≡ (if eqb n 0 then 0 else 256)) where
   pub data-tells : Tells (run_of (core_of ws) base ram (Call.Translate Read va)) ws n old v xs → Tells (run_of (core_of ws) base ram (Call.DataPa va)) ws r old v xs
   unfolding run_of dataPaOf translateOf
   data-tells t =

@@ -1,5 +1,5 @@
 -- The tests of an access over two pages by their hints, on plain values, for `search`.
-use Rattle.std.specs.Prelude.{Option}
+use Rattle.std.specs.Prelude.{if◌then◌else◌, Option}
 use Rattle.std.specs.Prelude.{Some, Option}
 use mathlib.Core.Path.{◌≡◌, refl, sym, ap, ◌∙◌}
 use mathlib.Core.Bool.{Bool, true, false}
@@ -10,7 +10,6 @@ use native.Mathlib.Omega.{arith}
 use borrow.Author.Tests.{ltb-true}
 use lib.Dec.{ltb}
 use lib.ListN.{length}
-use Rattle.word.specs.Bits.{pick}
 use Rattle.walk.specs.Regime.{regimeOf, stage1On}
 use Rattle.tlb.specs.declared.access.Kind.TheVariants.{Write}
 use Rattle.mmu.specs.Core.{bankNow}
@@ -28,7 +27,7 @@ pub clear-is : (c : Core) (base len : ℕ) → clearOf c base len ≡ true → C
 unfolding clearOf
 clear-is c base len = go (ltb 3 c.privilege.level) refl (ltb (2 ^ 64 - 1 - len) base) refl
   where
-    go : (x : Bool) → ltb 3 c.privilege.level ≡ x → (y : Bool) → ltb (2 ^ 64 - 1 - len) base ≡ y → pick x false (pick y false true) ≡ true
+    go : (x : Bool) → ltb 3 c.privilege.level ≡ x → (y : Bool) → ltb (2 ^ 64 - 1 - len) base ≡ y → (if x then false else if y then false else true) ≡ true
         → Clear c base len
     go true ex y ey e = absurd (false-true e)
     go false ex true ey e = absurd (false-true e)
@@ -63,7 +62,7 @@ module _ (c : Core) (base : ℕ) (ram : List ℕ) (va n : ℕ) (b : Bool) (eb : 
   unfolding apartOf
   apart-near t = go (clearOf c base (length ram)) (stage1On (bankNow c) (regimeOf c.privilege.level)) (apart-here ∙ t)
     where
-      go : (k on : Bool) → pick k (crosses on va n) false ≡ true → inPage va < n
+      go : (k on : Bool) → (if k then crosses on va n else false) ≡ true → inPage va < n
       go true true e = ltb-true (inPage va) n e
       go true false e = absurd (false-true e)
       go false on e = absurd (false-true e)

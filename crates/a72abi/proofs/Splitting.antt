@@ -1,11 +1,10 @@
 -- Loads and stores over two pages whose hints serve are what the call says, on plain values, for `search`.
-use Rattle.std.specs.Prelude.{Some, Option, None}
+use Rattle.std.specs.Prelude.{if◌then◌else◌, Some, Option, None}
 use mathlib.Core.Path.{◌≡◌, refl, sym, ap, subst, ◌∙◌}
 use mathlib.Core.Bool.{Bool, true, false}
 use mathlib.Core.List.{List}
 use Prim.Native.Nat.{ℕ, ◌^◌, ◌<◌}
 use lib.ListN.{length}
-use Rattle.word.specs.Bits.{pick}
 use Rattle.word.specs.Ram.{word_at, bytesIn, width_of}
 use Rattle.tlb.specs.declared.access.Kind.{Kind}
 use Rattle.tlb.specs.declared.access.Kind.TheVariants.{Read, Write}
@@ -64,7 +63,7 @@ apart-says : (c : Core) (base len va n : ℕ) → apartOf c base len va n ≡ tr
 unfolding apartOf
 apart-says c base len va n = go (clearOf c base len) refl
   where
-    go : (x : Bool) → clearOf c base len ≡ x → pick x (twoPages c va n) false ≡ true → Clear c base len × (twoPages c va n ≡ true)
+    go : (x : Bool) → clearOf c base len ≡ x → (if x then twoPages c va n else false) ≡ true → Clear c base len × (twoPages c va n ≡ true)
     go true ex e = (clear-is c base len ex, e)
     go false ex e = absurd (false-true e)
 

@@ -1,5 +1,5 @@
 -- Every call by its words, on plain values, for `search`.
-use Rattle.std.specs.Prelude.{Option, Some, None}
+use Rattle.std.specs.Prelude.{if◌then◌else◌, Option, Some, None}
 use mathlib.Core.Path.{◌≡◌, refl, sym, ap, subst, ◌∙◌}
 use mathlib.Core.Bool.{Bool, true, false, not}
 use mathlib.Core.List.{List, []}
@@ -9,7 +9,7 @@ use native.Mathlib.Omega.{arith}
 use borrow.Author.Tests.{ne_eqb, lt-ltb, le-ltb}
 use lib.Dec.{ltb}
 use lib.ListN.{length}
-use Rattle.word.specs.Bits.{pick, wrap, flag}
+use Rattle.word.specs.Bits.{wrap, flag}
 use Rattle.word.specs.Ram.{word_at, width_of, bytesIn}
 use Rattle.tlb.specs.declared.{access.Kind.Kind, access.Answer.Answer}
 use Rattle.tlb.specs.declared.access.Kind.TheVariants.{Read, Write}
@@ -153,12 +153,12 @@ step-shaped c base ram x tag a fault b flag few s = go (missedBy c base ram x) f
     go zero h = s
     go (suc n) h = shaped-refused tag a fault b flag (suc n) (omega arith) (omega arith)
 
-ram-few : (p q : Bool) → pick p 1 (pick q 2 0) ≤ 3
+ram-few : (p q : Bool) → (if p then 1 else if q then 2 else 0) ≤ 3
 ram-few true q = omega arith
 ram-few false true = omega arith
 ram-few false false = omega arith
 
-sized-few : (p q r : Bool) → pick p 1 (pick q 2 (pick r 3 0)) ≤ 3
+sized-few : (p q r : Bool) → (if p then 1 else if q then 2 else if r then 3 else 0) ≤ 3
 sized-few true q r = omega arith
 sized-few false true r = omega arith
 sized-few false false true = omega arith
@@ -318,7 +318,7 @@ missed-small : (level base len : ℕ) (x : Exception) → missedOf level base le
 unfolding missedOf
 missed-small level base len x = go (ltb 3 level)
   where
-    go : (p : Bool) → pick p 1 0 ≤ 6
+    go : (p : Bool) → (if p then 1 else 0) ≤ 6
     go true = omega arith
     go false = omega arith
 

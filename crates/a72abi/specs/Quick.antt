@@ -1,13 +1,12 @@
 -- What only private contracts cite: level and window that pass at once, and sizes in bytes.
-use Rattle.std.specs.Prelude.{◌≡◌, Bool, true, false, List, ℕ, ◌-◌, ◌^◌, ltb, length, Option, Some, None}
-use Rattle.word.specs.Bits.{pick}
+use Rattle.std.specs.Prelude.{if◌then◌else◌, ◌≡◌, Bool, true, false, List, ℕ, ◌-◌, ◌^◌, ltb, length, Option, Some, None}
 use Rattle.word.specs.Ram.{bytesIn, within, word_at, stored, width_of}
 use Rattle.mmu.specs.declared.core_state.Core.{Core}
 use Rattle.word.specs.declared.ram.Width.{Width}
 
 -- a level up to 3, and a window that ends below the last address
 unfoldable pub clearOf : Core → ℕ → ℕ → Bool
-clearOf c base len = pick (ltb 3 c.privilege.level) false (pick (ltb (2 ^ 64 - 1 - len) base) false true)
+clearOf c base len = if ltb 3 c.privilege.level then false else if ltb (2 ^ 64 - 1 - len) base then false else true
 
 pub record Clear (c : Core) (base len : ℕ) : Type 0 where
   pub low : ltb 3 c.privilege.level ≡ false

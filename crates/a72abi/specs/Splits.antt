@@ -1,7 +1,6 @@
 -- What only private contracts cite: accesses over two pages whose hints both serve and whose bytes lie in RAM.
-use Rattle.std.specs.Prelude.{Some, Option, None}
+use Rattle.std.specs.Prelude.{if◌then◌else◌, Some, Option, None}
 use Rattle.std.specs.Prelude.{Bool, true, false, List, ℕ, length}
-use Rattle.word.specs.Bits.{pick}
 use Rattle.walk.specs.Regime.{regimeOf, stage1On}
 use Rattle.tlb.specs.declared.access.Kind.TheVariants.{Read, Write}
 use Rattle.mmu.specs.Core.{bankNow}
@@ -16,7 +15,7 @@ use Rattle.a72abi.specs.declared.split.Split.TheVariants as Split
 
 -- two pages are taken, and level and window pass
 unfoldable pub apartOf : Core → ℕ → ℕ → ℕ → ℕ → Bool
-apartOf c base len va n = pick (clearOf c base len) (crosses (stage1On (bankNow c) (regimeOf c.privilege.level)) va n) false
+apartOf c base len va n = if clearOf c base len then crosses (stage1On (bankNow c) (regimeOf c.privilege.level)) va n else false
 
 abbrev pub pagesAt : ℕ → ℕ → ℕ → Pages
 pagesAt va pa pa2 = record { in_page = inPage va; pa = pa; pa2 = pa2 }

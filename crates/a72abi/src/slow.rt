@@ -1,7 +1,6 @@
 // Translations and fetches by number, on lent words, with the checks in their order: where no fast path
 // answers, and for every call by its words.
-ghost use Rattle.std.specs.Prelude.{◌≡◌, eqb, None};
-ghost use Rattle.word.specs.Bits.{pick};
+ghost use Rattle.std.specs.Prelude.{if◌then◌else◌, ◌≡◌, eqb, None};
 ghost use Rattle.tlb.specs.declared.access.Kind.TheVariants.{Read};
 ghost use Rattle.operations.specs.declared.place.Placed.TheVariants.{At};
 ghost use Rattle.operations.specs.Check.{ramRows, first_of};
@@ -74,7 +73,7 @@ pub(crate) fn translation(
 
 // A fault is given without its status.
 fn without_status(code: u64) -> u64
-    ensures { result ≡ pick (eqb code 0) 0 256 }
+    ensures { result ≡ (if eqb code 0 then 0 else 256) }
 {
     if code == 0 { 0 } else { 256 }
 }

@@ -1,6 +1,6 @@
 -- A reply as a number and a word, and as four words.
-use Rattle.std.specs.Prelude.{List, [], ◌∷◌, ℕ, ◌+◌, ◌-◌, eqb, ltb}
-use Rattle.word.specs.Bits.{flag, pick}
+use Rattle.std.specs.Prelude.{if◌then◌else◌, List, [], ◌∷◌, ℕ, ◌+◌, ◌-◌, eqb, ltb}
+use Rattle.word.specs.Bits.{flag}
 use Rattle.exception.specs.declared.{kind.Exception.Exception, kind.Stop.Stop}
 use Rattle.exception.specs.declared.kind.Exception.TheVariants.{Undefined, Svc, Hvc, Smc, Brk, DataAbort, InsnAbort, PcAlignment}
 use Rattle.exception.specs.declared.kind.Stop.TheVariants as Stop
@@ -82,4 +82,4 @@ wordsBy (Stopped s) = stopWords s
 
 -- the words of a number: the answer's first two, a refusal's, or a fault's first two and its last
 abbrev pub wordsFrom : ℕ → ℕ → ℕ → ℕ → ℕ → ℕ → List ℕ
-wordsFrom n tag a fault b last = pick (eqb n 0) (four tag a 0 0) (pick (ltb n 256) (four 5 n 0 0) (four fault b (n - 256) last))
+wordsFrom n tag a fault b last = if eqb n 0 then four tag a 0 0 else if ltb n 256 then four 5 n 0 0 else four fault b (n - 256) last

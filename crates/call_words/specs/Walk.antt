@@ -1,6 +1,6 @@
 -- The walk over lent words.
-use Rattle.std.specs.Prelude.{Bool, List, [], ◌∷◌, ℕ, ◌+◌, eqb, get_or, length, Ok, Err}
-use Rattle.word.specs.Bits.{flag, pick}
+use Rattle.std.specs.Prelude.{if◌then◌else◌, Bool, List, [], ◌∷◌, ℕ, ◌+◌, eqb, get_or, length, Ok, Err}
+use Rattle.word.specs.Bits.{flag}
 use Rattle.word.specs.Ram.{word_at}
 use Rattle.walk.specs.Walk.{walk_of}
 use Rattle.walk.specs.declared.{regime.Regime.Regime, regime.Bank.Bank, level.Leaf.Leaf}
@@ -12,7 +12,7 @@ use Rattle.walk.specs.Answers.{Walked}
 
 -- regimes by number
 abbrev pub regimeAt : ℕ → Named
-regimeAt n = pick (eqb n 1) (Known El1) (pick (eqb n 2) (Known El2) (pick (eqb n 3) (Known El3) Unknown))
+regimeAt n = if eqb n 1 then Known El1 else if eqb n 2 then Known El2 else if eqb n 3 then Known El3 else Unknown
 
 -- SCTLR, TCR and TTBR0 of the regime, TTBR1_EL1, SCR_EL3, HCR_EL2
 abbrev pub bankAt : List ℕ → Bank
@@ -43,11 +43,11 @@ walkAt ws r va base ram = walk_of (bankAt ws) r va (word_at base ram 8)
 
 abbrev pub code_in : Named → Bool → List ℕ → ℕ → ℕ → List ℕ → ℕ
 code_in Unknown past ws va base ram = 64
-code_in (Known r) past ws va base ram = pick past 2 (code_of (walkAt ws r va base ram))
+code_in (Known r) past ws va base ram = if past then 2 else code_of (walkAt ws r va base ram)
 
 abbrev pub words_in : Named → Bool → List ℕ → ℕ → ℕ → List ℕ → List ℕ → List ℕ
 words_in Unknown past ws va base ram out = out
-words_in (Known r) past ws va base ram out = pick past out (words_of (walkAt ws r va base ram) out)
+words_in (Known r) past ws va base ram out = if past then out else words_of (walkAt ws r va base ram) out
 
 -- 64 for a number that names no regime, 2 for a window that passes 2^64, 0 for a leaf, 256 plus a fault's status
 unfoldable pub walkCode : List ℕ → ℕ → ℕ → ℕ → List ℕ → ℕ

@@ -1,7 +1,7 @@
 -- A leaf has one of the fourteen permission bytes, and no page is counted under another.
-use Rattle.std.specs.Prelude.{◌≡◌, ℕ, ◌+◌, ◌<◌, Bool, true, false, ◌&&◌, ◌==◌, refl, Option, Ok, Err}
+use Rattle.std.specs.Prelude.{if◌then◌else◌, ◌≡◌, ℕ, ◌+◌, ◌<◌, Bool, true, false, ◌&&◌, ◌==◌, refl, Option, Ok, Err}
 use Rattle.std.proofs.Common.{sym, ap, ◌∙◌, arith, ne_eqb}
-use Rattle.word.specs.Bits.{flag, pick}
+use Rattle.word.specs.Bits.{flag}
 use Rattle.word.specs.BitLaws.{both}
 use Rattle.walk.specs.Regime.{singlePriv, wxnOf, stage1On}
 use Rattle.walk.specs.Tag.{untagged}
@@ -78,7 +78,7 @@ fresh-possible : (s : Bank) (r : Regime) (va : ℕ) (memory : ℕ → Option ℕ
 unfolding fresh_of
 fresh-possible s r va memory = go (stage1On s r)
   where
-    go : (b : Bool) → PossibleFresh (pick b (Ended (walk_of s r (untagged s.tcr r va) memory)) (Flat va))
+    go : (b : Bool) → PossibleFresh (if b then Ended (walk_of s r (untagged s.tcr r va) memory) else Flat va)
     go true = walk-possible s r (untagged s.tcr r va) memory
     go false = tt
 

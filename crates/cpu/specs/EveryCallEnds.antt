@@ -1,10 +1,10 @@
 -- Every call ends: a number and nothing changed, or its value, its fault, Undefined or Unimplemented.
 use Rattle.mmu.specs.Results.{Stored}
-use Rattle.std.specs.Prelude.{◌≡◌, ℕ, zero, suc, ◌+◌, ◌≤◌, Bool, true, false, ◌&&◌, List, [], ◌∷◌, length, ◌==◌, nat_le, Option, Some, None, Ok, Err}
+use Rattle.std.specs.Prelude.{if◌then◌else◌, ◌≡◌, ℕ, zero, suc, ◌+◌, ◌≤◌, Bool, true, false, ◌&&◌, List, [], ◌∷◌, length, ◌==◌, nat_le, Option, Some, None, Ok, Err}
 use Rattle.std.proofs.Math.Path.{refl, ap, subst⁻¹}
 use Rattle.std.proofs.Common.{sym, ◌∙◌, arith, leb-true}
 use Rattle.std.proofs.lemmas.Bool.{not-false}
-use Rattle.word.specs.Bits.{pick, wrap, alignDown}
+use Rattle.word.specs.Bits.{wrap, alignDown}
 use Rattle.word.specs.BitLaws.{both}
 use Rattle.word.specs.Ram.{word_at, width_of, bytesIn, within}
 use Rattle.sysreg.specs.Encoding.{registerAt}
@@ -84,7 +84,7 @@ first-le (row ∷ rows) h =
     let (here, later) = both (nat_le 1 row.1 && nat_le row.1 7) (numbered rows) h in
     go row.0 (leb-true row.1 7 (both (nat_le 1 row.1) (nat_le row.1 7) here).1) (first-le rows later)
   where
-    go : (b : Bool) → row.1 ≤ 7 → first_of rows ≤ 7 → pick b row.1 (first_of rows) ≤ 7
+    go : (b : Bool) → row.1 ≤ 7 → first_of rows ≤ 7 → (if b then row.1 else first_of rows) ≤ 7
     go true here later = here
     go false here later = later
 
@@ -115,7 +115,7 @@ none_first (row ∷ rows) h e =
     let (here, later) = both (nat_le 1 row.1 && nat_le row.1 7) (numbered rows) h in
     go row.0 (leb-true 1 row.1 (both (nat_le 1 row.1) (nat_le row.1 7) here).0) e (none_first rows later)
   where
-    go : (b : Bool) → 1 ≤ row.1 → pick b row.1 (first_of rows) ≡ 0 → (first_of rows ≡ 0 → Passed rows) → (b ≡ false) × Passed rows
+    go : (b : Bool) → 1 ≤ row.1 → (if b then row.1 else first_of rows) ≡ 0 → (first_of rows ≡ 0 → Passed rows) → (b ≡ false) × Passed rows
     go true above z later = absurd (omega arith)
     go false above z later = (refl, later z)
 
@@ -195,10 +195,10 @@ code (Err NoRegister) = 1
 
 named-write : (k : Control) (s : SysRegs) (level v : ℕ) (f : Option Register) → names f ≡ true → code (writeFound k s level f v).answer ≡ 0
 unfolding code
-named-write k s level v None h = let z : ◌≡◌ {A = ℕ} 0 1 = ap (λ (x : Bool). pick x 1 0) h in omega arith
+named-write k s level v None h = let z : ◌≡◌ {A = ℕ} 0 1 = ap (λ (x : Bool). (if x then 1 else 0)) h in omega arith
 named-write k s level v (Some r) h = go (level == 0) r
   where
-    go : (x : Bool) (q : Register) → code (pick x (ended k s (Err Undefined)) (wrote k s q v)).answer ≡ 0
+    go : (x : Bool) (q : Register) → code (if x then ended k s (Err Undefined) else wrote k s q v).answer ≡ 0
     go true q = refl
     go false (InControl q) = refl
     go false (InSys q) = refl
@@ -234,7 +234,7 @@ module _ (c : Core) (base : ℕ) (ram : List ℕ) where
       subst⁻¹ (Ran c ram (fetchOf c base ram va).core ram) (fetching-says (fetchOf c base ram va).answer ∙ ap says (fetch-says c base ram va))
       (go (fetchSteppedNow c (word_at base ram 8) va).answer)
     where
-      memory : (b : Bool) (v : ℕ) → Ran c ram (fetchOf c base ram va).core ram (says (pick b (value v) (fault va 0x10)))
+      memory : (b : Bool) (v : ℕ) → Ran c ram (fetchOf c base ram va).core ram (says (if b then value v else fault va 0x10))
       memory true v = valued _ v
       memory false v = stopped _ va 0x10
 
@@ -267,13 +267,13 @@ module _ (c : Core) (base : ℕ) (ram : List ℕ) where
 
   loads : (s : Option Width) (va : ℕ) → isWidth s ≡ true → Ran c ram (loadBy s c base ram va).core ram (outcomeOf (loadBy s c base ram va).reply)
   loads (Some w) va h = loaded va (bytesIn w)
-  loads None va h = absurd (let z : ◌≡◌ {A = ℕ} 0 1 = ap (λ (x : Bool). pick x 1 0) h in omega arith)
+  loads None va h = absurd (let z : ◌≡◌ {A = ℕ} 0 1 = ap (λ (x : Bool). (if x then 1 else 0)) h in omega arith)
 
   stores : (s : Option Width) (va v : ℕ) → isWidth s ≡ true
       → Ran c ram (storeBy s c base ram va).core (storeRamBy s c base ram va v) (outcomeOf (storeBy s c base ram va).reply)
   stores (Some w) va v h = stored (writeOf c base ram va (bytesIn w)).core (writeOf c base ram va (bytesIn w)).answer _
       (store_wrote c base ram va (bytesIn w) v)
-  stores None va v h = absurd (let z : ◌≡◌ {A = ℕ} 0 1 = ap (λ (x : Bool). pick x 1 0) h in omega arith)
+  stores None va v h = absurd (let z : ◌≡◌ {A = ℕ} 0 1 = ap (λ (x : Bool). (if x then 1 else 0)) h in omega arith)
 
   -- a call that misses no check ends in a value, a fault, Undefined or Unimplemented, or is done
   pub ran : (call : Call) → missedBy c base ram call ≡ 0
@@ -339,7 +339,7 @@ writes c (Census first pages) = false
 
 module _ (c : Core) (base : ℕ) (ram : List ℕ) where
   system-quiet : (o : SysOp) (x : ℕ) → zeroes o ≡ false → sysRamBy o c base ram x ≡ ram
-  system-quiet SysOp.Zva x h = absurd (let z : ◌≡◌ {A = ℕ} 1 0 = ap (λ (b : Bool). pick b 1 0) h in omega arith)
+  system-quiet SysOp.Zva x h = absurd (let z : ◌≡◌ {A = ℕ} 1 0 = ap (λ (b : Bool). (if b then 1 else 0)) h in omega arith)
   system-quiet (SysOp.At form) x h = refl
   system-quiet SysOp.Tlbi x h = refl
   system-quiet SysOp.Nothing x h = refl
@@ -348,7 +348,7 @@ module _ (c : Core) (base : ℕ) (ram : List ℕ) where
 
   run-quiet : (call : Call) → writes c call ≡ false → ramOf c base ram call ≡ ram
   unfolding ramOf sysRam
-  run-quiet (StoreCall va size v) h = absurd (let z : ◌≡◌ {A = ℕ} 1 0 = ap (λ (b : Bool). pick b 1 0) h in omega arith)
+  run-quiet (StoreCall va size v) h = absurd (let z : ◌≡◌ {A = ℕ} 1 0 = ap (λ (b : Bool). (if b then 1 else 0)) h in omega arith)
   run-quiet (System f) h = system-quiet (op_of c f.op1 f.crn f.crm f.op2) (reg_of c f.rt) h
   run-quiet (Translate kind va) h = refl
   run-quiet (DataPa va) h = refl

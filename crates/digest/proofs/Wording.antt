@@ -1,8 +1,7 @@
 -- Laws of words made of bytes.
-use Rattle.std.specs.Prelude.{Option, Some, None}
+use Rattle.std.specs.Prelude.{if◌then◌else◌, Option, Some, None}
 use Rattle.std.proofs.Common.{◌≡◌, ℕ, zero, suc, ◌+◌, ◌-◌, ◌*◌, ◌/◌, ◌≤◌, Bool, true, false, List, [], ◌∷◌, ◌++◌, length, get_or, sym, ap, ◌∙◌, arith}
 use native.Mathlib.Nat.{sub-zero}
-use Rattle.word.specs.Bits.{pick}
 use Rattle.word.specs.Ram.{littleEndian, word_at, within}
 use Rattle.word.specs.RamLaws.{le_join}
 use Rattle.digest.specs.Fold.{joined, digestFrom, digestOf, gathered}
@@ -23,7 +22,7 @@ join4 ram at x y p q = omega (arith, le_join ram 2 2 at)
 pub join8 : (ram : List ℕ) (at x y : ℕ) → x ≡ littleEndian ram 4 at → y ≡ littleEndian ram 4 (at + 4) → x + y * 0x100000000 ≡ littleEndian ram 8 at
 join8 ram at x y p q = omega (arith, le_join ram 4 4 at)
 
-value-go : (b : Bool) (v x : ℕ) → Some v ≡ pick b (Some x) None → v ≡ x
+value-go : (b : Bool) (v x : ℕ) → Some v ≡ (if b then Some x else None) → v ≡ x
 value-go true v x e = cc
 value-go false v x e = cc
 

@@ -1,6 +1,6 @@
 -- The words that the digests of a core are taken of.
-use Rattle.std.specs.Prelude.{ℕ, ◌-◌, ◌^◌, Bool, not, ◌&&◌, List, [], ◌∷◌, ◌++◌, ◌==◌, slice_index}
-use Rattle.word.specs.Bits.{flag, pick}
+use Rattle.std.specs.Prelude.{if◌then◌else◌, ℕ, ◌-◌, ◌^◌, Bool, not, ◌&&◌, List, [], ◌∷◌, ◌++◌, ◌==◌, slice_index}
+use Rattle.word.specs.Bits.{flag}
 use Rattle.tlb.specs.Cache.{entry_at, hintAt}
 use Rattle.tlb.specs.declared.{cache.Cache.Cache, entry.Entry.Entry, entry.Current.Current, hint.FetchHint.FetchHint}
 use Rattle.digest.specs.Fold.{gathered}
@@ -23,17 +23,17 @@ abbrev pub recordWords : ℕ → Entry → List ℕ
 recordWords j e = j ∷ e.tag ∷ e.perms ∷ e.level ∷ flag e.global 1 ∷ e.asid ∷ e.pa ∷ []
 
 unfoldable pub entryWords : Cache → ℕ → List ℕ
-entryWords c j = pick (live (entry_at c j) c.current) (recordWords j (entry_at c j)) []
+entryWords c j = if live (entry_at c j) c.current then recordWords j (entry_at c j) else []
 
 -- the live entries by rising slot
 abbrev pub entriesWords : Cache → List ℕ
 entriesWords c = gathered (entryWords c) 1024 0
 
 unfoldable pub hintWords : Cache → ℕ → List ℕ
-hintWords c i = pick ((hintAt c i).key == 2 ^ 64 - 1) [] (i ∷ (hintAt c i).key ∷ (hintAt c i).pa ∷ [])
+hintWords c i = if (hintAt c i).key == 2 ^ 64 - 1 then [] else i ∷ (hintAt c i).key ∷ (hintAt c i).pa ∷ []
 
 unfoldable pub fetchWords : FetchHint → List ℕ
-fetchWords f = pick f.some (f.page ∷ f.level ∷ f.pa ∷ []) []
+fetchWords f = if f.some then f.page ∷ f.level ∷ f.pa ∷ [] else []
 
 -- the data hints that are set, by rising slot, then the fetch hint
 abbrev pub hintsWords : Cache → List ℕ

@@ -1,7 +1,7 @@
 -- Exception entry to AArch64: DDI 0487, AArch64.TakeException, from knowledge of ARMv8.0: the document itself was not at hand. M12 is a row of
 -- docs/DIFFERENCES.md.
-use Rattle.std.specs.Prelude.{ℕ, ◌+◌, ◌%◌, ◌^◌, Bool, true, false, List, ◌==◌, Option, Some, None}
-use Rattle.word.specs.Bits.{wrap, pick}
+use Rattle.std.specs.Prelude.{if◌then◌else◌, ℕ, ◌+◌, ◌%◌, ◌^◌, Bool, true, false, List, ◌==◌, Option, Some, None}
+use Rattle.word.specs.Bits.{wrap}
 use Rattle.sysreg.specs.Regs.{levelOf, sysAt}
 use Rattle.sysreg.specs.Write.{bank}
 use Rattle.sysreg.specs.declared.{regs.El.El, regs.SysReg.SysReg, regs.SysRegs.SysRegs}
@@ -16,14 +16,14 @@ use Rattle.exception.specs.Route.{routedTo}
 -- vect_offset of a synchronous exception: 0x400 from a lower level; else 0x200 with SP_ELx and 0x000 with SP_EL0. M12: never 0x600, as a lower
 -- level is AArch64 whatever SCR_EL3.RW and HCR_EL2.RW hold.
 abbrev pub vectOffset : ℕ → ℕ → Bool → ℕ
-vectOffset from to sp = pick (from == to) (pick sp 0x200 0x000) 0x400
+vectOffset from to sp = if from == to then if sp then 0x200 else 0x000 else 0x400
 
 abbrev pub sameEl : El → El → Bool
 sameEl a b = levelOf a == levelOf b
 
 -- v at the target level, and at the others what they hold
 abbrev pub atTarget : El → ℕ → List ℕ → List ℕ
-atTarget target v l = bank (λ el held. pick (sameEl el target) v held) l
+atTarget target v l = bank (λ el held. if sameEl el target then v else held) l
 
 -- SPSR and ELR of the target level, the ESRs and FARs that are given, and no other register
 abbrev afterEntry : SysRegs → El → ℕ → ℕ → List ℕ → List ℕ → SysRegs
@@ -50,14 +50,14 @@ enteredSys s target r spsr ret = afterEntry s target spsr ret (atTarget target r
 
 -- of one register: the value that is given, where it is the target's; else what it held
 abbrev pub given : Option ℕ → Bool → ℕ → ℕ
-given (Some v) same held = pick same v held
+given (Some v) same held = if same then v else held
 given None same held = held
 
 -- register by register: what one holds after an entry, from what it held
 abbrev pub registerAfter : El → Report → ℕ → ℕ → SysReg → ℕ → ℕ
-registerAfter target r spsr ret (Spsr el) held = pick (sameEl el target) spsr held
-registerAfter target r spsr ret (Elr el) held = pick (sameEl el target) ret held
-registerAfter target r spsr ret (Esr el) held = pick (sameEl el target) r.esr held
+registerAfter target r spsr ret (Spsr el) held = if sameEl el target then spsr else held
+registerAfter target r spsr ret (Elr el) held = if sameEl el target then ret else held
+registerAfter target r spsr ret (Esr el) held = if sameEl el target then r.esr else held
 registerAfter target r spsr ret (Far el) held = given r.far (sameEl el target) held
 registerAfter target r spsr ret (Mair el) held = held
 registerAfter target r spsr ret (Vbar el) held = held

@@ -1,9 +1,8 @@
 -- Laws of exception entry: which registers change, and where it goes.
-use Rattle.std.specs.Prelude.{◌≡◌, ℕ, zero, suc, ◌%◌, ◌^◌, ◌<◌, ◌≤◌, Bool, true, false, slice_index, Option, Some, None}
+use Rattle.std.specs.Prelude.{if◌then◌else◌, ◌≡◌, ℕ, zero, suc, ◌%◌, ◌^◌, ◌<◌, ◌≤◌, Bool, true, false, slice_index, Option, Some, None}
 use Rattle.std.proofs.Math.Path.{refl}
 use Rattle.std.proofs.Common.{◌∙◌, arith}
 use Rattle.std.proofs.Math.Nat.{mod-eq_of_lt}
-use Rattle.word.specs.Bits.{pick}
 use Rattle.sysreg.specs.Regs.{levelOf, sysAt}
 use Rattle.sysreg.specs.EncodingLaws.{by_level}
 use Rattle.sysreg.specs.declared.{regs.El.El, regs.SysReg.SysReg, regs.SysRegs.SysRegs}
@@ -97,11 +96,11 @@ module _ (scr hcr pc : ℕ) where
   call_up (suc (suc (suc zero))) h = omega arith
   call_up (suc (suc (suc (suc n)))) h = absurd (omega arith)
 
-  smc-up : (level : ℕ) → level < 4 → level ≤ levelOf (pick (smcTrapped (at level)) El2 El3)
+  smc-up : (level : ℕ) → level < 4 → level ≤ levelOf (if smcTrapped (at level) then El2 else El3)
   smc-up zero h = omega arith
   smc-up (suc zero) h = go (smcTrapped (at 1))
     where
-      go : (b : Bool) → 1 ≤ levelOf (pick b El2 El3)
+      go : (b : Bool) → 1 ≤ levelOf (if b then El2 else El3)
       go true = omega arith
       go false = omega arith
   smc-up (suc (suc zero)) h = omega arith

@@ -1,8 +1,8 @@
 -- Where the values are those that the manual has, what the definitions add for others says nothing.
-use Rattle.std.specs.Prelude.{◌≡◌, ℕ, ◌+◌, ◌/◌, ◌%◌, ◌^◌, ◌<◌, Bool, true, false, ◌==◌, refl}
+use Rattle.std.specs.Prelude.{if◌then◌else◌, ◌≡◌, ℕ, ◌+◌, ◌/◌, ◌%◌, ◌^◌, ◌<◌, Bool, true, false, ◌==◌, refl}
 use Rattle.std.proofs.Common.{mod-eq_of_lt, arith}
 use Rattle.std.specs.Int.Bits.{or_zero_r}
-use Rattle.word.specs.Bits.{flag, wrap, pick}
+use Rattle.word.specs.Bits.{flag, wrap}
 use Rattle.exception.specs.declared.flags.Flags.{Flags}
 use Rattle.exception.specs.Pstate.{freshFlags, psr, OwnBits, strayBits, spsrOf}
 use Rattle.exception.specs.Syndrome.{dataStatus}
@@ -33,7 +33,7 @@ pub vector-fields : (vbar from to : ℕ) (sp : Bool) → vbar < 2 ^ 64 → vbar 
     → wrap (vbar + vectOffset from to sp) ≡ vbar + vectOffset from to sp
 vector-fields vbar from to sp h z = go (from == to) sp
   where
-    go : (same : Bool) (b : Bool) → wrap (vbar + pick same (pick b 0x200 0x000) 0x400) ≡ vbar + pick same (pick b 0x200 0x000) 0x400
+    go : (same : Bool) (b : Bool) → wrap (vbar + (if same then if b then 0x200 else 0x000 else 0x400)) ≡ vbar + (if same then if b then 0x200 else 0x000 else 0x400)
     go true true = mod-eq_of_lt (omega arith)
     go true false = mod-eq_of_lt (omega arith)
     go false true = mod-eq_of_lt (omega arith)

@@ -1,7 +1,7 @@
 -- Routing of synchronous exceptions: DDI 0487, D1.10, and the pseudocode of SVC, HVC and SMC, from knowledge of ARMv8.0: the document itself was
 -- not at hand. A7, D2 and the like are rows of docs/DIFFERENCES.md.
-use Rattle.std.specs.Prelude.{ℕ, ◌+◌, Bool, not, ◌&&◌, ◌||◌, ◌==◌}
-use Rattle.word.specs.Bits.{bitOn, bit0, wrap, pick}
+use Rattle.std.specs.Prelude.{if◌then◌else◌, ℕ, ◌+◌, Bool, not, ◌&&◌, ◌||◌, ◌==◌}
+use Rattle.word.specs.Bits.{bitOn, bit0, wrap}
 use Rattle.sysreg.specs.declared.regs.El.{El}
 use Rattle.sysreg.specs.declared.regs.El.TheVariants.{El1, El2, El3}
 use Rattle.exception.specs.declared.{kind.Exception.Exception, route.Origin.Origin, route.Routed.Routed}
@@ -29,7 +29,7 @@ isSecure o = o.level == 3 || not (ns o)
 
 -- the level itself, and EL1 for EL0
 abbrev pub elOf : ℕ → El
-elOf level = pick (level == 2) El2 (pick (level == 3) El3 El1)
+elOf level = if level == 2 then El2 else if level == 3 then El3 else El1
 
 -- TGE takes the exceptions of Non-secure EL0 to EL2. M18: the manual has no Non-secure EL1 while TGE is set; where a level is set so
 -- here, its exceptions stay at EL1.
@@ -38,11 +38,11 @@ routeToEl2 o = o.level == 0 && (not (isSecure o) && tge o)
 
 -- D2: SCR_EL3.EA takes no external abort to EL3. O11: an external abort is synchronous, a store's too.
 abbrev pub defaultTarget : Origin → El
-defaultTarget o = pick (routeToEl2 o) El2 (elOf o.level)
+defaultTarget o = if routeToEl2 o then El2 else elOf o.level
 
 -- HVC goes to EL2, and at EL3 to itself
 abbrev pub callTarget : ℕ → El
-callTarget level = pick (level == 3) El3 El2
+callTarget level = if level == 3 then El3 else El2
 
 -- HVC is UNDEFINED where HCE is clear, and at Secure EL1. A16: not at EL0, where the manual has it so.
 abbrev pub hvcUndefined : Origin → Bool
@@ -58,8 +58,8 @@ smcUndefined o = smd o
 
 -- the exception that the instruction generates
 abbrev pub generated : Origin → Exception → Exception
-generated o (Hvc imm) = pick (hvcUndefined o) Undefined (Hvc imm)
-generated o (Smc imm) = pick (smcUndefined o) Undefined (Smc imm)
+generated o (Hvc imm) = if hvcUndefined o then Undefined else Hvc imm
+generated o (Smc imm) = if smcUndefined o then Undefined else Smc imm
 generated o Undefined = Undefined
 generated o (Svc imm) = Svc imm
 generated o (Brk imm) = Brk imm
@@ -70,7 +70,7 @@ generated o PcAlignment = PcAlignment
 -- target_el
 abbrev pub targetEl : Origin → Exception → El
 targetEl o (Hvc imm) = callTarget o.level
-targetEl o (Smc imm) = pick (smcTrapped o) El2 El3
+targetEl o (Smc imm) = if smcTrapped o then El2 else El3
 targetEl o Undefined = defaultTarget o
 targetEl o (Svc imm) = defaultTarget o
 targetEl o (Brk imm) = defaultTarget o
@@ -89,7 +89,7 @@ nextInstr o = wrap (o.pc + 4)
 abbrev pub returnAddress : Origin → Exception → ℕ
 returnAddress o (Svc imm) = nextInstr o
 returnAddress o (Hvc imm) = nextInstr o
-returnAddress o (Smc imm) = pick (smcTrapped o) (thisInstr o) (nextInstr o)
+returnAddress o (Smc imm) = if smcTrapped o then thisInstr o else nextInstr o
 returnAddress o Undefined = thisInstr o
 returnAddress o (Brk imm) = thisInstr o
 returnAddress o (DataAbort a) = thisInstr o

@@ -1,7 +1,7 @@
 -- What an exception reports: DDI 0487, AArch64.ExceptionClass, AArch64.ReportException, and the layout of ESR_ELx, from knowledge of ARMv8.0: the
 -- document itself was not at hand. M16, O6 and the like are rows of docs/DIFFERENCES.md.
-use Rattle.std.specs.Prelude.{ℕ, ◌+◌, ◌*◌, ◌/◌, ◌%◌, ◌^◌, Bool, true, false, bit_or, nat_lt, Some, None}
-use Rattle.word.specs.Bits.{flag, pick}
+use Rattle.std.specs.Prelude.{if◌then◌else◌, ℕ, ◌+◌, ◌*◌, ◌/◌, ◌%◌, ◌^◌, Bool, true, false, bit_or, nat_lt, Some, None}
+use Rattle.word.specs.Bits.{flag}
 use Rattle.exception.specs.declared.{kind.Exception.Exception, report.Report.Report}
 use Rattle.exception.specs.declared.kind.Exception.TheVariants.{Undefined, Svc, Hvc, Smc, Brk, DataAbort, InsnAbort, PcAlignment}
 
@@ -11,7 +11,7 @@ esrOf ec iss = ec * 2 ^ 26 + 1 * 2 ^ 25 + iss
 
 -- an abort's class from a lower level; from the same level it is one more
 abbrev pub abortClass : Bool → ℕ → ℕ
-abortClass lower ec = pick lower ec (ec + 1)
+abortClass lower ec = if lower then ec else ec + 1
 
 -- EC, by whether the exception comes from a lower level
 abbrev pub class_of : Bool → Exception → ℕ
@@ -65,4 +65,4 @@ farOf pc (Brk imm) = 0
 -- the report of an exception at the PC, taken from one level to another
 unfoldable pub syndromeOf : Exception → ℕ → ℕ → ℕ → Report
 syndromeOf e from to pc =
-    record { esr = esrOf (class_of (nat_lt from to) e) (issOf e); far = pick (farWritten e) (Some (farOf pc e)) None }
+    record { esr = esrOf (class_of (nat_lt from to) e) (issOf e); far = if farWritten e then Some (farOf pc e) else None }

@@ -1,11 +1,11 @@
 -- A zeroing store by store: each store's own translation, what the stores before it leave, and what they do to RAM.
 use Rattle.mmu.specs.Results.{Located, Stored}
-use Rattle.std.specs.Prelude.{◌≡◌, ℕ, zero, suc, ◌+◌, ◌-◌, ◌*◌, ◌/◌, ◌%◌, ◌^◌, ◌<◌, ◌≤◌, Bool, true, false, ltb, List, length, ◌≢◌, nat_le, nat_lt, slice_index}
+use Rattle.std.specs.Prelude.{if◌then◌else◌, ◌≡◌, ℕ, zero, suc, ◌+◌, ◌-◌, ◌*◌, ◌/◌, ◌%◌, ◌^◌, ◌<◌, ◌≤◌, Bool, true, false, ltb, List, length, ◌≢◌, nat_le, nat_lt, slice_index}
 use Rattle.std.proofs.Math.Path.{refl, sym, ap}
 use Rattle.std.proofs.Common.{◌∙◌, mod-eq_of_lt, pos_of_ne-zero, leb-true, leb-false, ltb-true, ltb-false, le-ltb}
 use Rattle.std.proofs.Math.Nat.{zero-div}
 use native.Mathlib.Omega.{arith}
-use Rattle.word.specs.Bits.{pick, wrap}
+use Rattle.word.specs.Bits.{wrap}
 use Rattle.word.specs.Ram.{within, word_at, stored}
 use Rattle.word.specs.RamLaws.{within_low, within-high, written_byte}
 use Rattle.tlb.specs.declared.access.Kind.TheVariants.{Write}
@@ -52,7 +52,7 @@ module _ (c : Core) (base : ℕ) (ram : List ℕ) (a : ℕ) (even : a % 8 ≡ 0)
   unfolding locatedNow locatedOf
   one-located = rw (one-page-only (onNow c)) (go (translateIn (bankNow c) c.privilege (word_at base ram 8) a Write c.tlb).answer _ _)
     where
-      go : (x : Answer) (y z : Located) → pick (goesOn x false) y z ≡ z
+      go : (x : Answer) (y z : Located) → (if goesOn x false then y else z) ≡ z
       go (Address pa) y z = refl
       go (Status fault) y z = refl
 

@@ -1,11 +1,10 @@
 -- What follows from faithfulness: the answers of one translation, of a step, of a whole list; and pages that need no
 -- premise.
-use Rattle.std.specs.Prelude.{◌≡◌, Bool, ℕ, ◌≤◌}
+use Rattle.std.specs.Prelude.{if◌then◌else◌, ◌≡◌, Bool, ℕ, ◌≤◌}
 use Rattle.std.proofs.Math.Path.{refl, sym}
 use Rattle.std.proofs.Common.{ap, ap₂, ◌∙◌, true≢false}
 use Rattle.std.proofs.Math.Bool.{true, false}
 use mathlib.Core.List.{List, [], ◌∷◌, ◌++◌, append-nil, append_assoc}
-use Rattle.word.specs.Bits.{pick}
 use Rattle.walk.specs.declared.{regime.Regime.Regime, level.Leaf.Leaf}
 use Rattle.tlb.specs.Lists.{Each, more}
 use Rattle.tlb.specs.Tlb.{fresh}
@@ -32,7 +31,7 @@ module _ (w : World) (laws : Laws w) where
     effect-on (sets privilege low) c us = refl
     effect-on (writes R) c us = go (w.same-shape c.regs R) refl us
       where
-        go : (b : Bool) → w.same-shape c.regs R ≡ b → Each (λ v. covers v p ℓ a ≡ false) (pick b [] (All ∷ [])) → w.on R r ≡ w.on c.regs r
+        go : (b : Bool) → w.same-shape c.regs R ≡ b → Each (λ v. covers v p ℓ a ≡ false) (if b then [] else All ∷ []) → w.on R r ≡ w.on c.regs r
         go true x vs = sym (laws.shape_on c.regs R x r)
         go false x (more y ys) = absurd (true≢false y)
 

@@ -1,9 +1,8 @@
 -- Over every history the cache of History.antt does to the plain model what the model's own functions do.
-use Rattle.std.specs.Prelude.{◌≡◌, Bool, List, [], ◌∷◌, ◌++◌, ℕ, ◌≤◌, ◌==◌}
+use Rattle.std.specs.Prelude.{if◌then◌else◌, ◌≡◌, Bool, List, [], ◌∷◌, ◌++◌, ℕ, ◌≤◌, ◌==◌}
 use Rattle.std.proofs.Math.Path.{refl, ap, subst}
 use Rattle.std.proofs.Common.{ap₂, ◌∙◌}
 use Rattle.std.proofs.Math.Bool.{true, false}
-use Rattle.word.specs.Bits.{pick}
 use Rattle.tlb.specs.Tlb.{fresh, flushOf, retagOf, invalidateOf}
 use Rattle.tlb.specs.Maintenance.{invalidatedOf, reshapedOf, retaggedOf}
 use Rattle.tlb.specs.Model.{Model, emptyModel, invalidate, retag, broadcast}
@@ -87,17 +86,17 @@ module _ (w : World) (laws : Laws w) where
   unfolding reshapedOf modelFlushed
   flushed-stands R S t s = go (w.same-shape R S)
     where
-      go : (b : Bool) → StandsFor (pick b t (flushOf t)) (pick b (live t) (invalidate All (live t)))
+      go : (b : Bool) → StandsFor (if b then t else flushOf t) (if b then live t else invalidate All (live t))
       go true = record { well = s; is = refl }
       go false = record { well = flush-sound t s; is = flush-live t s }
 
   retagged-stands : (a : ℕ) {t : Tlb} {u : Model} → StandsFor t u → StandsFor (retaggedOf t a) (modelRetagged w a u)
   unfolding retaggedOf modelRetagged
   retagged-stands a {t} r =
-      subst (λ (u : Model). StandsFor (pick (t.cache.current.asid == a) t (retagOf t a)) (pick (u.asid == a) u (retag a u))) r.is
+      subst (λ (u : Model). StandsFor (if t.cache.current.asid == a then t else retagOf t a) (if u.asid == a then u else retag a u)) r.is
       (go (t.cache.current.asid == a))
     where
-      go : (b : Bool) → StandsFor (pick b t (retagOf t a)) (pick b (live t) (retag a (live t)))
+      go : (b : Bool) → StandsFor (if b then t else retagOf t a) (if b then live t else retag a (live t))
       go true = record { well = r.well; is = refl }
       go false = record { well = retag-sound t r.well a; is = retag-live t r.well a }
 

@@ -1,13 +1,12 @@
 -- What a translation in a traced model answers, and that it leaves the model traced.
 use Rattle.std.proofs.Math.Path.{◌≡◌, refl}
 use Rattle.std.proofs.Common.{sym, ap, subst, ◌∙◌}
-use Rattle.std.specs.Prelude.{Bool, ◌&&◌, List, ◌∷◌, ◌⊎◌, ℕ, zero, suc, ◌+◌, ◌*◌, ◌/◌, ◌%◌, ◌<◌, ◌==◌, Ok, Err}
+use Rattle.std.specs.Prelude.{if◌then◌else◌, Bool, ◌&&◌, List, ◌∷◌, ◌⊎◌, ℕ, zero, suc, ◌+◌, ◌*◌, ◌/◌, ◌%◌, ◌<◌, ◌==◌, Ok, Err}
 use Rattle.std.proofs.Math.Bool.{true, false}
 use Rattle.std.proofs.lemmas.Bool.{false≢true}
 use Rattle.std.proofs.Math.Logic.{inl, inr}
 use native.Mathlib.Omega.{arith}
 use borrow.Author.Tests.{eqb-true, lt-ltb, le-ltb}
-use Rattle.word.specs.Bits.{pick}
 use Rattle.word.specs.BitLaws.{both}
 use Rattle.fault.specs.First.{first}
 use Rattle.walk.specs.declared.{regime.Regime.Regime, level.Leaf.Leaf}
@@ -70,7 +69,7 @@ module _ (w : World) where
   unfolding leafAnswer
   leaf-equal bit va g =
       λ i.
-      pick (g.perms i / bit % 2 == 1) (Address (g.pages i * 4096 + va % 4096)) (Status (first (12 + g.levels i)))
+      if g.perms i / bit % 2 == 1 then Address (g.pages i * 4096 + va % 4096) else Status (first (12 + g.levels i))
 
   -- each walk of the page that no invalidation since covers, global or under today's ASID, equals its walk now
   abbrev pub Agreed : List (Moment w) → w.Regs → w.Ram → Regime → ℕ → Type 0
@@ -109,7 +108,7 @@ module _ (w : World) where
     answered-hint pa u (itself o e) = let q : pa ≡ va = cc in flat o (ap (λ (n : ℕ). n / 4096) q)
     answered-hint pa u (by ℓ a o seen d e) = go (allows w ℓ (needNow w c k)) refl e
       where
-        go : (b : Bool) → allows w ℓ (needNow w c k) ≡ b → Address pa ≡ pick b (Address (ℓ.oa / 4096 * 4096 + va % 4096)) (Status (first (12 + ℓ.level)))
+        go : (b : Bool) → allows w ℓ (needNow w c k) ≡ b → Address pa ≡ (if b then Address (ℓ.oa / 4096 * 4096 + va % 4096) else Status (first (12 + ℓ.level)))
             → HintFrom w h c.regs k (va / 4096) c.privilege.level (pa / 4096)
         go true al q =
             let n : pa ≡ ℓ.oa / 4096 * 4096 + va % 4096 = cc in
@@ -207,7 +206,7 @@ module _ (w : World) where
       look-done o (holds l) ok = go (ofPage l) (ofRegime l) (reaches l.reach t.asid) refl refl refl
         where
           go : (p r q : Bool) → ofPage l ≡ p → ofRegime l ≡ r → reaches l.reach t.asid ≡ q
-              → Fine (looked (pick ((p && r) && q) (holds l) empty) a t)
+              → Fine (looked (if (p && r) && q then holds l else empty) a t)
           go true true true x y z = line-done o l ok x y z
           go true true false x y z = walk-done o _ refl
           go true false q x y z = walk-done o _ refl
@@ -248,7 +247,7 @@ module _ (w : World) where
       tried-done b empty ok = hint-done b _ unhinted-done
       tried-done b (holds n) ok = go (hits n) refl
         where
-          go : (d : Bool) → hits n ≡ d → Fine (tried (pick d (holds n.frame) empty) a t)
+          go : (d : Bool) → hits n ≡ d → Fine (tried (if d then holds n.frame else empty) a t)
           go true e = record { traced = s; answered = hit-done (inr (hint-unmarked k c.privilege.unprivileged b)) n ok e }
           go false e = hint-done b _ unhinted-done
 
@@ -281,7 +280,7 @@ module _ (w : World) where
           go empty o = miss
           go (holds n) o = hit (hits n) refl
             where
-              hit : (b : Bool) → hits n ≡ b → Fine (fetched (pick b (holds n.frame) empty) a t)
+              hit : (b : Bool) → hits n ≡ b → Fine (fetched (if b then holds n.frame else empty) a t)
               hit true e = record { traced = s; answered = hit-done (inl f) n o e }
               hit false e = miss
 

@@ -1,10 +1,9 @@
 -- Faithfulness, proved for every registers and walk that keep `Laws`.
-use Rattle.std.specs.Prelude.{◌≡◌, Bool, List, [], ◌∷◌, ◌++◌, ◌⊎◌, ℕ, ◌≤◌, ◌==◌, Ok}
+use Rattle.std.specs.Prelude.{if◌then◌else◌, ◌≡◌, Bool, List, [], ◌∷◌, ◌++◌, ◌⊎◌, ℕ, ◌≤◌, ◌==◌, Ok}
 use Rattle.std.proofs.Math.Path.{refl}
 use Rattle.std.proofs.Common.{sym, ap, subst, ◌∙◌, inl, inr}
 use Rattle.std.proofs.Math.Bool.{true, false}
 use borrow.Author.Tests.{eqb-true}
-use Rattle.word.specs.Bits.{pick}
 use Rattle.walk.specs.declared.{regime.Regime.Regime, level.Leaf.Leaf}
 use Rattle.tlb.specs.Lists.{Each, done, more}
 use Rattle.tlb.specs.Tlb.{fresh}
@@ -64,22 +63,22 @@ module _ (w : World) (laws : Laws w) where
   broadcast-traced v s = record { asid-is = s.asid-is; lines_ok = s.lines_ok; hints-ok = s.hints-ok; fetch-ok = s.fetch-ok }
 
   write-traced : {h : List (Moment w)} {R : w.Regs} {u : Model} (S : w.Regs) → Traced w h R u
-      → Traced w (pushed (pick (w.same-shape R S) [] (All ∷ [])) h) S (modelRetagged w (w.asid S) (modelFlushed w R S u))
+      → Traced w (pushed (if w.same-shape R S then [] else All ∷ []) h) S (modelRetagged w (w.asid S) (modelFlushed w R S u))
   unfolding modelRetagged modelFlushed invalidate
   write-traced {h} {R} {u} S s = shape (w.same-shape R S) refl
     where
-      same : (d : Bool) → w.same-shape R S ≡ true → (u.asid == w.asid S) ≡ d → Traced w h S (pick d u (retag (w.asid S) u))
+      same : (d : Bool) → w.same-shape R S ≡ true → (u.asid == w.asid S) ≡ d → Traced w h S (if d then u else retag (w.asid S) u)
       same false x y = traced-retag w S s
       same true x y = traced-kept w laws R S x (sym s.asid-is ∙ eqb-true _ _ y) s
 
       other : (d : Bool) → (u.asid == w.asid S) ≡ d
-          → Traced w (drop All ∷ h) S (pick d (invalidate All u) (retag (w.asid S) (invalidate All u)))
+          → Traced w (drop All ∷ h) S (if d then invalidate All u else retag (w.asid S) (invalidate All u))
       other false y = traced-retag w S (traced-invalidate w All R s.asid-is s)
       other true y = traced-invalidate w All S (eqb-true _ _ y) s
 
       shape : (b : Bool) → w.same-shape R S ≡ b
-          → Traced w (pushed (pick b [] (All ∷ [])) h) S
-          (pick ((pick b u (invalidate All u)).asid == w.asid S) (pick b u (invalidate All u)) (retag (w.asid S) (pick b u (invalidate All u))))
+          → Traced w (pushed (if b then [] else All ∷ []) h) S
+          (if (if b then u else invalidate All u).asid == w.asid S then if b then u else invalidate All u else retag (w.asid S) (if b then u else invalidate All u))
       shape true x = same _ x refl
       shape false x = other _ refl
 

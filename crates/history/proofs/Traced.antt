@@ -1,9 +1,8 @@
 -- What the cache's plain model has to do with the walks of the past: behind each line stands a walk that no
 -- invalidation since covers, and behind each hint such a walk or stage 1 off (`Traced`). Each operation keeps that.
-use Rattle.std.specs.Prelude.{◌≡◌, Bool, true, false, not, ◌&&◌, List, [], ◌∷◌, ◌⊎◌, ℕ, ◌*◌, ◌/◌, ◌%◌, ◌==◌, ltb, Ok}
+use Rattle.std.specs.Prelude.{if◌then◌else◌, ◌≡◌, Bool, true, false, not, ◌&&◌, List, [], ◌∷◌, ◌⊎◌, ℕ, ◌*◌, ◌/◌, ◌%◌, ◌==◌, ltb, Ok}
 use Rattle.std.proofs.Math.Path.{refl}
 use Rattle.std.proofs.Common.{sym, subst, ◌∙◌, inl, inr, eqb-true}
-use Rattle.word.specs.Bits.{pick}
 use Rattle.walk.specs.Regime.{regimeOf}
 use Rattle.walk.specs.declared.{regime.Regime.Regime, level.Leaf.Leaf}
 use Rattle.tlb.specs.Model.{Slot, empty, holds, Line, Known, Counters, Model, emptyModel, belongsTo, covers as coversLine, uncovered, invalidate, retag}
@@ -66,7 +65,7 @@ module _ (w : World) where
 
   -- reads in the first 256 places, writes in the rest
   abbrev pub kind_at : ℕ → Kind
-  kind_at i = pick (ltb i 256) Read Write
+  kind_at i = if ltb i 256 then Read else Write
 
   pub record Traced (h : List Moment) (R : w.Regs) (m : Model) : Type 0 where
     pub asid-is : m.asid ≡ w.asid R
@@ -126,7 +125,7 @@ module _ (w : World) where
   spared h v empty o = tt
   spared h v (holds l) o = go (coversLine v l) refl
     where
-      go : (b : Bool) → coversLine v l ≡ b → LineOk (drop v ∷ h) (pick b empty (holds l))
+      go : (b : Bool) → coversLine v l ≡ b → LineOk (drop v ∷ h) (if b then empty else holds l)
       go true e = tt
       go false e =
           record {
@@ -183,7 +182,7 @@ module _ (w : World) where
   pub traced-counting : {h : List Moment} {R : w.Regs} {t : Model} (f : Counters → Counters) → Traced h R t → Traced h R (counting f t)
   traced-counting f s = record { asid-is = s.asid-is; lines_ok = s.lines_ok; hints-ok = s.hints-ok; fetch-ok = s.fetch-ok }
 
-  line-put : (h : List Moment) (b : Bool) (l : Line) (s : Slot Line) → LineFrom h l → LineOk h s → LineOk h (pick b (holds l) s)
+  line-put : (h : List Moment) (b : Bool) (l : Line) (s : Slot Line) → LineFrom h l → LineOk h s → LineOk h (if b then holds l else s)
   line-put h true l s o k = o
   line-put h false l s o k = k
 
@@ -207,7 +206,7 @@ module _ (w : World) where
         fetch-ok = s.fetch-ok;
       }
     where
-      put : (i : ℕ) (b : Bool) → (i == place) ≡ b → HintOk h R (kind_at i) (pick b (holds n) (t.hints i))
+      put : (i : ℕ) (b : Bool) → (i == place) ≡ b → HintOk h R (kind_at i) (if b then holds n else t.hints i)
       put i true e = subst (λ (j : ℕ). HintFrom h R (kind_at j) n.page n.level n.frame) (sym (eqb-true i place e)) o
       put i false e = s.hints-ok i
 

@@ -1,7 +1,6 @@
 -- The core without a cache answers by the fresh answer of the address (walk/specs/Fresh.antt), which AT and the page
 -- census go by too.
-use Rattle.std.specs.Prelude.{◌≡◌, refl, Bool, true, false, ℕ}
-use Rattle.word.specs.Bits.{pick}
+use Rattle.std.specs.Prelude.{if◌then◌else◌, ◌≡◌, refl, Bool, true, false, ℕ}
 use Rattle.walk.specs.Regime.{bankOf}
 use Rattle.walk.specs.Fresh.{fresh_of}
 use Rattle.walk.specs.declared.{fresh.Fresh.Fresh}
@@ -26,7 +25,7 @@ unfolding uncached fresh_of
 uncached-fresh c m k va = go (onNow real c)
   where
     go : (b : Bool)
-        → pick b (walkAnswer (real.walk c.regs m (regimeNow real c) (untagNow real c va)) (needNow real c k) va) (Address va)
-        ≡ freshAnswer (pick b (Ended (real.walk c.regs m (regimeNow real c) (untagNow real c va))) (Flat va)) (needNow real c k) va
+        → if b then walkAnswer (real.walk c.regs m (regimeNow real c) (untagNow real c va)) (needNow real c k) va else Address va
+        ≡ freshAnswer (if b then Ended (real.walk c.regs m (regimeNow real c) (untagNow real c va)) else Flat va) (needNow real c k) va
     go true = refl
     go false = refl

@@ -1,7 +1,6 @@
 -- The list (docs/SCOPE.md), the premise of faithfulness, and faithfulness itself. With World.antt this is all that a reader has
 -- to believe; every term is read from the events, never from the cache.
-use Rattle.std.specs.Prelude.{◌≡◌, Bool, true, false, List, [], ◌∷◌, ◌++◌, ◌⊎◌, ℕ, ◌≤◌, Ok}
-use Rattle.word.specs.Bits.{pick}
+use Rattle.std.specs.Prelude.{if◌then◌else◌, ◌≡◌, Bool, true, false, List, [], ◌∷◌, ◌++◌, ◌⊎◌, ℕ, ◌≤◌, Ok}
 use Rattle.walk.specs.declared.{regime.Regime.Regime, level.Leaf.Leaf}
 use Rattle.tlb.specs.Lists.{Each}
 use Rattle.tlb.specs.Tlb.{fresh, invalidateOf}
@@ -60,7 +59,7 @@ module _ (w : World) where
   abbrev pub drops : Effect → Plain w → List Inval
   drops nothing c = []
   drops (carries v shared) c = v ∷ []
-  drops (writes R) c = pick (w.same-shape c.regs R) [] (All ∷ [])
+  drops (writes R) c = if w.same-shape c.regs R then [] else All ∷ []
   drops (sets privilege low) c = []
 
   abbrev pub dropsEvent : Event → Plain w → List Inval

@@ -1,9 +1,8 @@
 -- Every translation, by walk, entry or hint, is judged by the manual's permission check on the attributes that a walk
 -- of its page found; and the statuses that there are. No premise: this holds after every history.
-use Rattle.std.specs.Prelude.{◌≡◌, refl, Bool, true, false, not, List, ◌⊎◌, ℕ, ◌+◌, ◌*◌, ◌/◌, ◌%◌, ◌^◌, ◌≤◌, Ok, Err, Option}
+use Rattle.std.specs.Prelude.{if◌then◌else◌, ◌≡◌, refl, Bool, true, false, not, List, ◌⊎◌, ℕ, ◌+◌, ◌*◌, ◌/◌, ◌%◌, ◌^◌, ◌≤◌, Ok, Err, Option}
 use Rattle.std.proofs.Common.{sym, ap, subst, ◌∙◌, inl, inr, arith}
 use Rattle.std.proofs.lemmas.Bool.{false≢true}
-use Rattle.word.specs.Bits.{pick}
 use Rattle.fault.specs.First.{first}
 use Rattle.fault.specs.declared.Fault.{Fault}
 use Rattle.walk.specs.Regime.{singlePriv, wxnOf, bankOf}
@@ -41,8 +40,8 @@ userNow c k = asUser (regimeNow real c) c.privilege.level c.privilege.unprivileg
 -- bits, or 0x0C plus the level
 abbrev pub checked : Bank → Regime → Bool → Kind → Translation → ℕ → Answer
 checked s r user k t va =
-    pick (allowed (singlePriv r) (not user) (wxnOf s) t.perms (accessFor k))
-    (Address (t.address / 4096 * 4096 + va % 4096)) (Status (first (12 + t.level)))
+    if allowed (singlePriv r) (not user) (wxnOf s) t.perms (accessFor k) then Address (t.address / 4096 * 4096 + va % 4096)
+    else Status (first (12 + t.level))
 
 module _ (past : List (Event real)) (m : Ram) where
   -- registers, level and mark after the history
@@ -106,7 +105,7 @@ pub leaf-checked : (s : Bank) (r : Regime) (t : Translation) (k : Kind) (user : 
 unfolding leafAnswer
 leaf-checked s r t k user va =
     rw (need-bit k user)
-    (ap (λ (b : Bool). pick b (Address (t.address / 4096 * 4096 + va % 4096)) (Status (first (12 + t.level))))
+    (ap (λ (b : Bool). (if b then Address (t.address / 4096 * 4096 + va % 4096) else Status (first (12 + t.level))))
     (permission-bit (singlePriv r) (wxnOf s) t.perms (not user) (accessFor k)))
 
 -- EVERY TRANSLATION
@@ -164,7 +163,7 @@ status-row past m a x (allowing R m' vs at t o h d us e) =
     found : Found (pageNow real (now past m) (address_of a) * 4096) t
     found = subst (Sound _) h (table-walk-sound _ _ _ (memoryOf m'))
 
-    go : (b : Bool) → Status x ≡ pick b (Address (t.address / 4096 * 4096 + address_of a % 4096)) (Status (first (12 + t.level))) → Row x.fsc
+    go : (b : Bool) → Status x ≡ (if b then Address (t.address / 4096 * 4096 + address_of a % 4096) else Status (first (12 + t.level))) → Row x.fsc
     go true q = let z : ◌≡◌ {A = ℕ} 0 1 = cc in absurd (omega arith)
     go false q = rw (same_code q) (permission (omega (arith, found.level-low)) (omega (arith, found.level-high)))
 

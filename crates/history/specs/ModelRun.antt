@@ -1,9 +1,8 @@
 -- The plain model over a history: what each event does to it and what it answers, by the model's own functions; and
 -- that the cache of History.antt does the same, answers, counters and what is pending included.
-use Rattle.std.specs.Prelude.{◌≡◌, List, [], ◌∷◌, ◌++◌, ℕ, ◌==◌}
+use Rattle.std.specs.Prelude.{if◌then◌else◌, ◌≡◌, List, [], ◌∷◌, ◌++◌, ℕ, ◌==◌}
 use Rattle.std.proofs.Math.Path.{refl}
 use Rattle.std.proofs.Math.Bool.{true, false}
-use Rattle.word.specs.Bits.{pick}
 use Rattle.tlb.specs.Model.{Model, Outcome, invalidate, retag, broadcast, translate, fetch}
 use Rattle.tlb.specs.Live.{live, WellFormed}
 use Rattle.tlb.specs.Asks.{Ask, translates, fetches, Given, onward}
@@ -34,10 +33,10 @@ module _ (w : World) where
   -- A register write does `write_reg`; then, where `shaping` changed, it flushes; then, where `asid` differs
   -- from the cache's, it retags." A flush is an All.
   unfoldable pub modelFlushed : w.Regs → w.Regs → Model → Model
-  modelFlushed R S u = pick (w.same-shape R S) u (invalidate All u)
+  modelFlushed R S u = if w.same-shape R S then u else invalidate All u
 
   unfoldable pub modelRetagged : ℕ → Model → Model
-  modelRetagged a u = pick (u.asid == a) u (retag a u)
+  modelRetagged a u = if u.asid == a then u else retag a u
 
   -- A TLBI is carried out; one of an Inner Shareable form is left pending for other cores too.
   abbrev pub modelAfter : Effect w → Plain w → Model → Model

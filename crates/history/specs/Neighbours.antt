@@ -1,11 +1,10 @@
 -- What runs under other ASIDs does not bend a page's translation: two histories that leave the page to one ASID give
 -- one answer.
-use Rattle.std.specs.Prelude.{◌≡◌, refl, Bool, true, false, ◌⊎◌, ℕ, ◌==◌, Ok}
+use Rattle.std.specs.Prelude.{if◌then◌else◌, ◌≡◌, refl, Bool, true, false, ◌⊎◌, ℕ, ◌==◌, Ok}
 use Rattle.std.proofs.Math.Path.{sym}
 use Rattle.std.proofs.Common.{◌∙◌, true≢false, inl, inr, eqb-true}
 use mathlib.Core.List.{List, [], ◌∷◌, ◌++◌}
 use Rattle.std.proofs.lemmas.Bool.{eqb-false}
-use Rattle.word.specs.Bits.{pick}
 use Rattle.walk.specs.declared.{regime.Regime.Regime, level.Leaf.Leaf}
 use Rattle.tlb.specs.Lists.{Each, done}
 use Rattle.tlb.specs.Asks.{Ask, address_of}
@@ -18,7 +17,7 @@ module _ (w : World) where
   -- the invalidations of a history that are made under the ASID a
   abbrev pub dropsUnder : ℕ → Plain w → List (Event w) → List Inval
   dropsUnder a c [] = []
-  dropsUnder a c (x ∷ xs) = pick (w.asid c.regs == a) (dropsEvent w x c) [] ++ dropsUnder a (afterEvent w x c) xs
+  dropsUnder a c (x ∷ xs) = (if w.asid c.regs == a then dropsEvent w x c else []) ++ dropsUnder a (afterEvent w x c) xs
 
   -- The history leaves the page to the ASID of now: elsewhere it had no successful global walk, and each successful
   -- walk that it had there, covered by no invalidation made there, equals its walk now.
@@ -50,7 +49,7 @@ module _ (w : World) where
       each_append (some (w.asid c.regs == a) (each_left (dropsEvent w x c) (dropsRun w (afterEvent w x c) l) ps))
       (under a (afterEvent w x c) l (each_right (dropsEvent w x c) (dropsRun w (afterEvent w x c) l) ps))
     where
-      some : (b : Bool) → Each P (dropsEvent w x c) → Each P (pick b (dropsEvent w x c) [])
+      some : (b : Bool) → Each P (dropsEvent w x c) → Each P (if b then dropsEvent w x c else [])
       some true qs = qs
       some false qs = done
 

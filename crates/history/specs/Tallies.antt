@@ -1,11 +1,10 @@
 -- The counters of each level over a history: from the plain model alone, every translation made, at which level and how
 -- it was answered. What stands in the counters of a level is the number of those made at it that a line answered, that
 -- were walked; and the sums of the four levels move as the Rust's two counters.
-use Rattle.std.specs.Prelude.{◌≡◌, Bool, ◌&&◌, List, [], ◌∷◌, ◌++◌, ℕ, ◌+◌, ◌%◌, ◌^◌, ◌≤◌, ◌<◌, ◌==◌}
+use Rattle.std.specs.Prelude.{if◌then◌else◌, ◌≡◌, Bool, ◌&&◌, List, [], ◌∷◌, ◌++◌, ℕ, ◌+◌, ◌%◌, ◌^◌, ◌≤◌, ◌<◌, ◌==◌}
 use Rattle.std.proofs.Math.Path.{refl}
 use Rattle.std.proofs.Common.{sym, ap, ◌∙◌, arith}
 use Rattle.std.proofs.Math.Bool.{true, false}
-use Rattle.word.specs.Bits.{pick}
 use Rattle.tlb.specs.Asks.{Ask, translates, fetches, onward}
 use Rattle.tlb.specs.Lists.{Each, done, more, each-imp}
 use Rattle.tlb.specs.Model.{Counters, Model, up, upAt, invalidate, retag, broadcast}
@@ -43,7 +42,7 @@ byWalk walkAnswered = true
 -- how many of a list answer a test
 abbrev pub howMany : (Made → Bool) → List Made → ℕ
 howMany p [] = 0
-howMany p (x ∷ xs) = pick (p x) 1 0 + howMany p xs
+howMany p (x ∷ xs) = (if p x then 1 else 0) + howMany p xs
 
 -- made at the level l, and answered so
 abbrev pub at : ℕ → (How → Bool) → Made → Bool
@@ -113,13 +112,13 @@ module _ (w : World) where
   asks-counts c m [] u = refl
   asks-counts c m (a ∷ l) u = go (modelAsk w c m a u).answer (asks-counts c m l (modelAsk w c m a u).after)
     where
-      then : Model
-      then = (modelAsk w c m a u).after
+      asked : Model
+      asked = (modelAsk w c m a u).after
 
-      go : (x : Answer) → (modelAsks w c m l then).counts ≡ countedAll (madeIn w c m l then) then.counts
-          → (onward x (modelAsks w c m l then) then).counts
-          ≡ countedAll (onward x (madeIn w c m l then) []) (howCounted (howAsked w c m a u) c.privilege.level u.counts)
-      go (Address pa) rest = rest ∙ ap (countedAll (madeIn w c m l then)) (asked-counts c m a u)
+      go : (x : Answer) → (modelAsks w c m l asked).counts ≡ countedAll (madeIn w c m l asked) asked.counts
+          → (onward x (modelAsks w c m l asked) asked).counts
+          ≡ countedAll (onward x (madeIn w c m l asked) []) (howCounted (howAsked w c m a u) c.privilege.level u.counts)
+      go (Address pa) rest = rest ∙ ap (countedAll (madeIn w c m l asked)) (asked-counts c m a u)
       go (Status f) rest = asked-counts c m a u
 
   -- what a step does besides leaves hits and walks
@@ -129,11 +128,11 @@ module _ (w : World) where
   inval-alike (Page n) u = record { hits = refl; walks = refl }
   inval-alike (Asid a) u = record { hits = refl; walks = refl }
 
-  flush-alike : (b : Bool) (u : Model) → Alike (pick b u (invalidate All u)).counts u.counts
+  flush-alike : (b : Bool) (u : Model) → Alike (if b then u else invalidate All u).counts u.counts
   flush-alike true u = same_alike
   flush-alike false u = inval-alike All u
 
-  retag-alike : (b : Bool) (a : ℕ) (u : Model) → Alike (pick b u (retag a u)).counts u.counts
+  retag-alike : (b : Bool) (a : ℕ) (u : Model) → Alike (if b then u else retag a u).counts u.counts
   unfolding retag
   retag-alike true a u = same_alike
   retag-alike false a u = record { hits = refl; walks = refl }
@@ -166,11 +165,11 @@ module _ (w : World) where
 -- AS NUMBERS
 
 -- one more translation: of `hits` where a line answered it at the level l, of `walks` where it was walked there
-raised : (b : Bool) (n : ℕ) → n < 2 ^ 64 → (pick b (up n) n ≡ (n + pick b 1 0) % 2 ^ 64) × (pick b (up n) n < 2 ^ 64)
+raised : (b : Bool) (n : ℕ) → n < 2 ^ 64 → ((if b then up n else n) ≡ (n + (if b then 1 else 0)) % 2 ^ 64) × ((if b then up n else n) < 2 ^ 64)
 raised true n h = (refl, omega arith)
 raised false n h = (omega arith, h)
 
-still : (b : Bool) (n : ℕ) → n < 2 ^ 64 → (n ≡ (n + pick (b && false) 1 0) % 2 ^ 64) × (n < 2 ^ 64)
+still : (b : Bool) (n : ℕ) → n < 2 ^ 64 → (n ≡ (n + (if b && false then 1 else 0)) % 2 ^ 64) × (n < 2 ^ 64)
 still true n h = (omega arith, h)
 still false n h = (omega arith, h)
 
@@ -179,7 +178,7 @@ and-true true = refl
 and-true false = refl
 
 abbrev Moves : ℕ → ℕ → Bool → Type 0
-Moves n before b = (n ≡ (before + pick b 1 0) % 2 ^ 64) × (n < 2 ^ 64)
+Moves n before b = (n ≡ (before + (if b then 1 else 0)) % 2 ^ 64) × (n < 2 ^ 64)
 
 one_hit : (how : How) (level : ℕ) (k : Counters) (l : ℕ) → k.hits l < 2 ^ 64
     → Moves ((howCounted how level k).hits l) (k.hits l) (l == level && byLine how)
@@ -280,5 +279,5 @@ module _ (w : World) where
         all_others [] k done = (refl, refl)
         all_others (x ∷ xs) k (more ne rest) =
             let first = others-stay x.how x.level k l ne in
-            let then = all_others xs (howCounted x.how x.level k) rest in
-            (then.0 ∙ first.0, then.1 ∙ first.1)
+            let asked = all_others xs (howCounted x.how x.level k) rest in
+            (asked.0 ∙ first.0, asked.1 ∙ first.1)

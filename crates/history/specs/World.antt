@@ -1,7 +1,6 @@
 -- What the theory of histories takes from registers and walk, and the terms of docs/SCOPE.md on it: equal walks, covering, the
 -- core without a cache. `spanBits`, `asUser` and `need` are the plain model's: tlb/specs/Model.antt.
-use Rattle.std.specs.Prelude.{◌≡◌, Bool, true, not, ◌&&◌, ℕ, ◌+◌, ◌*◌, ◌/◌, ◌%◌, ◌^◌, ◌≤◌, ◌==◌, Ok, Err}
-use Rattle.word.specs.Bits.{pick}
+use Rattle.std.specs.Prelude.{if◌then◌else◌, ◌≡◌, Bool, true, not, ◌&&◌, ℕ, ◌+◌, ◌*◌, ◌/◌, ◌%◌, ◌^◌, ◌≤◌, ◌==◌, Ok, Err}
 use Rattle.fault.specs.First.{first}
 use Rattle.walk.specs.Regime.{regimeOf}
 use Rattle.walk.specs.declared.{regime.Regime.Regime, level.Leaf.Leaf}
@@ -50,7 +49,7 @@ covers (Asid b) p ℓ a = not ℓ.global && a == b
 -- 0x0C plus the leaf's level where the leaf lacks the bit that the access needs; else its physical page with the low twelve bits of the address
 unfoldable pub leafAnswer : Leaf → ℕ → ℕ → Answer
 leafAnswer ℓ bit va =
-    pick (ℓ.perms / bit % 2 == 1) (Address (ℓ.oa / 4096 * 4096 + va % 4096)) (Status (first (12 + ℓ.level)))
+    if ℓ.perms / bit % 2 == 1 then Address (ℓ.oa / 4096 * 4096 + va % 4096) else Status (first (12 + ℓ.level))
 
 -- a fault of the walk is the answer
 unfoldable pub walkAnswer : Walked → ℕ → ℕ → Answer
@@ -88,7 +87,7 @@ module _ (w : World) where
   -- address translated, va.
   unfoldable pub uncached : Plain → w.Ram → Kind → ℕ → Answer
   uncached c m k va =
-      pick (onNow c) (walkAnswer (w.walk c.regs m (regimeNow c) (untagNow c va)) (needNow c k) va) (Address va)
+      if onNow c then walkAnswer (w.walk c.regs m (regimeNow c) (untagNow c va)) (needNow c k) va else Address va
 
   -- the access of the same translation through a cache
   abbrev pub accessOf : Plain → w.Ram → Kind → ℕ → Access

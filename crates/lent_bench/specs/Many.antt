@@ -1,6 +1,5 @@
 -- n translations of two addresses in turn on one core, and a sum over their answers.
-use Rattle.std.specs.Prelude.{ℕ, zero, suc, ◌+◌, ◌*◌, ◌/◌, ◌%◌, ◌^◌, false, List, ◌==◌, slice_index, slice_set}
-use Rattle.word.specs.Bits.{pick}
+use Rattle.std.specs.Prelude.{if◌then◌else◌, ℕ, zero, suc, ◌+◌, ◌*◌, ◌/◌, ◌%◌, ◌^◌, false, List, ◌==◌, slice_index, slice_set}
 use Rattle.tlb.specs.declared.access.Kind.{Kind}
 use Rattle.tlb.specs.declared.access.Kind.TheVariants.{Read, Write, Fetch}
 use Rattle.sysreg.specs.Regs.{freshControl}
@@ -26,7 +25,7 @@ abbrev pub summedOf : ℕ → Reply → ℕ
 summedOf sum r = (((sum + sum) % 2 ^ 64 + sum / 2 ^ 63) % 2 ^ 64 + part_of r) % 2 ^ 64
 
 abbrev pub vaOf : ℕ → ℕ → ℕ → ℕ
-vaOf i even odd = pick (i % 2 == 0) even odd
+vaOf i even odd = if i % 2 == 0 then even else odd
 
 -- the core after a first translation
 abbrev pub warmed : Core → ℕ → List ℕ → ℕ → Kind → Core
@@ -44,7 +43,7 @@ module _ (c : Core) (base : ℕ) (ram : List ℕ) (even odd : ℕ) (kind : Kind)
 
 -- 1 reads, 2 writes, and any other number fetches
 abbrev pub kind_of : ℕ → Kind
-kind_of n = pick (n == 1) Read (pick (n == 2) Write Fetch)
+kind_of n = if n == 1 then Read else if n == 2 then Write else Fetch
 
 -- a core with other SCTLR_EL1, TCR_EL1, TTBR0_EL1 and level
 abbrev pub setIn : Core → Control → ℕ → ℕ → ℕ → ℕ → Core

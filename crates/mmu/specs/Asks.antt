@@ -1,9 +1,8 @@
 -- The translations that an access makes, from its call and the registers; what their answers say of its place; and that
 -- they are those of the exact definitions.
 use Rattle.mmu.specs.Results.{Stepped}
-use Rattle.std.specs.Prelude.{◌≡◌, ℕ, Bool, true, false, List, [], ◌∷◌, Option}
+use Rattle.std.specs.Prelude.{if◌then◌else◌, ◌≡◌, ℕ, Bool, true, false, List, [], ◌∷◌, Option}
 use Rattle.std.proofs.Math.Path.{refl}
-use Rattle.word.specs.Bits.{pick}
 use Rattle.fault.specs.First.{first}
 use Rattle.walk.specs.Regime.{stage1On, regimeOf}
 use Rattle.walk.specs.declared.regime.Bank.{Bank}
@@ -49,7 +48,7 @@ module _ (va : ℕ) (a b : Ask) (f g : Stepped) where
   one-page (Status fault) e = rw e
 
   both-pages : (x y : Answer) → f.answer ≡ x → g.answer ≡ y
-      → pick (goesOn f.answer true) (bothPages va f.answer g) (onePage va f)
+      → if goesOn f.answer true then bothPages va f.answer g else onePage va f
       ≡ record {
         tlb = onward f.answer (onward g.answer g.tlb g.tlb) f.tlb;
         placed = placedBy va (gives a f ∷ onward f.answer (gives b g ∷ onward g.answer [] []) []);
@@ -86,7 +85,7 @@ module _ (s : Bank) (privilege : Privilege) (memory : ℕ → Option ℕ) where
         neither (Status fault) = refl
 
         go : (b : Bool)
-            → pick (goesOn own.answer b) (bothPages va own.answer next) (onePage va own)
+            → if goesOn own.answer b then bothPages va own.answer next else onePage va own
             ≡ record { tlb = tlbAsks accessAt (asksBy b va kind) t; placed = placedBy va (answers accessAt (asksBy b va kind) t) }
         go true = both-pages va (translates kind va) (translates kind (nextPage va)) own next _ _ refl refl
         go false = rw (neither own.answer) (one-page va (translates kind va) (translates kind va) own own _ refl)

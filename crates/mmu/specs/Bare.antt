@@ -1,8 +1,7 @@
 -- The architectural state of a core: all of it but the cache and the two physical addresses that it keeps. Each update
 -- is said here once: the core's own definitions make it with `inCore`, the core without a cache (transparency) makes it as
 -- it is.
-use Rattle.std.specs.Prelude.{ℕ, Bool, false, List, replicate, nat_lt, slice_index, slice_set}
-use Rattle.word.specs.Bits.{pick}
+use Rattle.std.specs.Prelude.{if◌then◌else◌, ℕ, Bool, false, List, replicate, nat_lt, slice_index, slice_set}
 use Rattle.sysreg.specs.Regs.{freshControl, freshSys}
 use Rattle.sysreg.specs.declared.{regs.Control.Control, regs.SysRegs.SysRegs}
 use Rattle.tlb.specs.declared.{access.Privilege.Privilege, Tlb.Tlb}
@@ -49,10 +48,10 @@ withPrivilege b level mark =
 
 -- general registers 0 to 30 are kept; 31 reads as zero and drops what is written
 abbrev pub regIn : List ℕ → ℕ → ℕ
-regIn x n = pick (nat_lt n 31) (slice_index x n) 0
+regIn x n = if nat_lt n 31 then slice_index x n else 0
 
 abbrev pub regSet : List ℕ → ℕ → ℕ → List ℕ
-regSet x n v = pick (nat_lt n 31) (slice_set x n v) x
+regSet x n v = if nat_lt n 31 then slice_set x n v else x
 
 abbrev pub withGeneral : Bare → ℕ → ℕ → Bare
 withGeneral b n v =

@@ -1,11 +1,11 @@
 -- What a load answers and a store leaves, byte by byte, each byte by its own address: byte i of an access to va stands
 -- at the virtual address wrap (va + i). With this `Pages`, `byte_at`, `inPage` and `nextPage` need not be believed.
-use Rattle.std.specs.Prelude.{◌≡◌, ℕ, zero, suc, ◌+◌, ◌-◌, ◌*◌, ◌/◌, ◌%◌, ◌^◌, ◌<◌, ◌≤◌, Bool, true, false, List, length, ◌≢◌, nat_lt, slice_index}
+use Rattle.std.specs.Prelude.{if◌then◌else◌, ◌≡◌, ℕ, zero, suc, ◌+◌, ◌-◌, ◌*◌, ◌/◌, ◌%◌, ◌^◌, ◌<◌, ◌≤◌, Bool, true, false, List, length, ◌≢◌, nat_lt, slice_index}
 use Rattle.std.proofs.Math.Path.{refl, ap}
 use Rattle.std.proofs.Common.{sym, ◌∙◌, mod-eq_of_lt, div-one, le-leb}
 use Rattle.std.proofs.Math.Nat.{mod-mod, zero-add}
 use native.Mathlib.Omega.{arith}
-use Rattle.word.specs.Bits.{pick, wrap}
+use Rattle.word.specs.Bits.{wrap}
 use Rattle.word.specs.Ram.{within, word_at, written, stored}
 use Rattle.word.specs.RamLaws.{within_low, within-high, digit-next, byte_of, written_byte}
 use Rattle.tlb.specs.declared.access.Kind.{Kind}
@@ -34,7 +34,7 @@ small-in : (base : ℕ) (ram : List ℕ) (pa : ℕ) → ((k : ℕ) → slice_ind
 unfolding byteIn
 small-in base ram pa small = go (within base (length ram) 1 pa)
   where
-    go : (b : Bool) → pick b (slice_index ram (pa - base)) 0 < 256
+    go : (b : Bool) → (if b then slice_index ram (pa - base) else 0) < 256
     go true = small (pa - base)
     go false = omega arith
 
@@ -100,7 +100,7 @@ split-byte base p v s (suc n) (suc i) ram h w last =
 wrap-at : (p : Pages) (i : ℕ) → wrap (byte_at p i) ≡ byte_at p i
 wrap-at p i = go (nat_lt i p.in_page)
   where
-    go : (b : Bool) → wrap (pick b (wrap (p.pa + i)) (wrap (p.pa2 + (i - p.in_page)))) ≡ pick b (wrap (p.pa + i)) (wrap (p.pa2 + (i - p.in_page)))
+    go : (b : Bool) → wrap (if b then wrap (p.pa + i) else wrap (p.pa2 + (i - p.in_page))) ≡ (if b then wrap (p.pa + i) else wrap (p.pa2 + (i - p.in_page)))
     go true = mod-mod (p.pa + i) (2 ^ 64)
     go false = mod-mod (p.pa2 + (i - p.in_page)) (2 ^ 64)
 
@@ -108,7 +108,7 @@ whole-inside : (base len n pa : ℕ) → verdictOf base len (Whole pa) n ≡ Ins
 unfolding verdictOf
 whole-inside base len n pa = go (within base len n pa)
   where
-    go : (b : Bool) → pick b Inside (Outside 0 pa) ≡ Inside → b ≡ true
+    go : (b : Bool) → (if b then Inside else Outside 0 pa) ≡ Inside → b ≡ true
     go true e = refl
     go false e = let z : ◌≡◌ {A = ℕ} 0 1 = cc in absurd (omega arith)
 

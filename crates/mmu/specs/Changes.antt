@@ -1,9 +1,8 @@
 -- A translation as its changes: what they store is what the operation's translation leaves, on plain values.
-use Rattle.std.specs.Prelude.{◌≡◌, ℕ, ◌/◌, ◌%◌, ◌<◌, Bool, true, false, ◌&&◌, List, slice_set, Option}
+use Rattle.std.specs.Prelude.{if◌then◌else◌, ◌≡◌, ℕ, ◌/◌, ◌%◌, ◌<◌, Bool, true, false, ◌&&◌, List, slice_set, Option}
 use Rattle.std.proofs.Math.Path.{refl, sym, subst, ap}
 use Rattle.std.proofs.Common.{◌∙◌, arith}
 use Rattle.std.proofs.lemmas.List.{set-get_or}
-use Rattle.word.specs.Bits.{pick}
 use Rattle.walk.specs.Regime.{regimeOf, stage1On}
 use Rattle.walk.specs.declared.regime.Regime.{Regime}
 use Rattle.tlb.specs.Access.{mayHint}
@@ -65,7 +64,7 @@ kept-as FromEntry old made = refl
 kept-as FromWalk old made = refl
 kept-as NoLeaf old made = refl
 
-hint-as : (may : Bool) (level va : ℕ) (a : Answer) (h : Hint) → pick (may && allowed a) (hintFor va level (address_of a)) h ≡ hintAfter may level va a h
+hint-as : (may : Bool) (level va : ℕ) (a : Answer) (h : Hint) → (if may && allowed a then hintFor va level (address_of a) else h) ≡ hintAfter may level va a h
 hint-as true level va (Address pa) h = refl
 hint-as true level va (Status f) h = refl
 hint-as false level va (Address pa) h = refl
@@ -248,7 +247,7 @@ module _ (c : Core) (memory : ℕ → Option ℕ) (va : ℕ) where
     turn-right = go (hintServes (hintAt c.tlb.cache i₀) c.privilege va kind) refl
       where
         go : (b : Bool) → hintServes (hintAt c.tlb.cache i₀) c.privilege va kind ≡ b
-            → Translations (pick b (record { change = unchanged look; answer = Address (onPage (hintAt c.tlb.cache i₀).pa va) })
-            (answeredBy look (missBy look.asked look.bank c.privilege c.tlb.cache.current (pageIn c va kind).entry va kind memory) va kind))
+            → Translations (if b then record { change = unchanged look; answer = Address (onPage (hintAt c.tlb.cache i₀).pa va) }
+              else answeredBy look (missBy look.asked look.bank c.privilege c.tlb.cache.current (pageIn c va kind).entry va kind memory) va kind)
         go true e = ((hint-turn e).0, none-changed c look ∙ (hint-turn e).1)
         go false e = miss-right e

@@ -1,11 +1,11 @@
 -- Where each byte of an access lies, by the byte's own address: byte i of an access to va stands at the virtual address
 -- wrap (va + i), and in RAM where the translation of that address says, split or not.
 use Rattle.mmu.specs.Results.{Stepped}
-use Rattle.std.specs.Prelude.{◌≡◌, ℕ, ◌+◌, ◌-◌, ◌/◌, ◌%◌, ◌^◌, ◌<◌, ◌≤◌, Bool, true, false, List, length, ◌==◌, ◌≢◌, nat_lt, Option}
+use Rattle.std.specs.Prelude.{if◌then◌else◌, ◌≡◌, ℕ, ◌+◌, ◌-◌, ◌/◌, ◌%◌, ◌^◌, ◌<◌, ◌≤◌, Bool, true, false, List, length, ◌==◌, ◌≢◌, nat_lt, Option}
 use Rattle.std.proofs.Math.Path.{refl}
 use Rattle.std.proofs.Common.{sym, ap, subst, ◌∙◌, arith, ltb-true, ltb-false, lt-ltb, eq-eqb, ne_eqb}
 use Rattle.std.proofs.Math.Nat.{mod-mod}
-use Rattle.word.specs.Bits.{pick, wrap}
+use Rattle.word.specs.Bits.{wrap}
 use Rattle.word.specs.Ram.{word_at}
 use Rattle.walk.specs.Regime.{regimeOf}
 use Rattle.walk.specs.WalkBounds.{SoundWalked}
@@ -36,8 +36,8 @@ byteVa va i = wrap (va + i)
 -- core that va's translation leaves, since an access translates them in this order.
 abbrev pub ownAnswer : Core → (ℕ → Option ℕ) → ℕ → Kind → ℕ → Answer
 ownAnswer c memory va kind i =
-    pick (byteVa va i / 4096 == va / 4096) (translateOf c memory (byteVa va i) kind).answer
-    (translateOf (translateOf c memory va kind).core memory (byteVa va i) kind).answer
+    if byteVa va i / 4096 == va / 4096 then (translateOf c memory (byteVa va i) kind).answer
+    else (translateOf (translateOf c memory va kind).core memory (byteVa va i) kind).answer
 
 -- The core, the window and the access. The last is asked only of an access that leaves its page with stage 1 off, which
 -- is not split: there each address is its own translation.
@@ -173,7 +173,7 @@ module _ (c : Core) (base : ℕ) (ram : List ℕ) (va n : ℕ) (kind : Kind) (re
         placed-is x y q = cc
 
         go : (x : Answer) → first.answer ≡ x → (b : Bool) → crosses (onNow c) va n ≡ b → (y : Answer) → second.answer ≡ y
-            → (pick (goesOn first.answer (crosses (onNow c) va n)) (bothPages va first.answer second) (onePage va first)).placed ≡ At place
+            → (if goesOn first.answer (crosses (onNow c) va n) then bothPages va first.answer second else onePage va first).placed ≡ At place
             → Own c memory va kind i place
         go (Status fault) e b q y d p =
             let z : Fault va fault ≡ At place = rw e at p in

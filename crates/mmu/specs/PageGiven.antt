@@ -1,12 +1,11 @@
 -- Once a page was given an address, the cache gives it again to the same level, mark and kind, whatever the tables then hold.
 use Rattle.mmu.specs.Results.{Stepped}
-use Rattle.std.specs.Prelude.{◌≡◌, ℕ, ◌+◌, ◌*◌, ◌/◌, ◌%◌, ◌<◌, Bool, true, false, ◌&&◌, ◌||◌, length, ◌==◌, bit_or, slice_set, Option, Ok, Err, refl}
+use Rattle.std.specs.Prelude.{if◌then◌else◌, ◌≡◌, ℕ, ◌+◌, ◌*◌, ◌/◌, ◌%◌, ◌<◌, Bool, true, false, ◌&&◌, ◌||◌, length, ◌==◌, bit_or, slice_set, Option, Ok, Err, refl}
 use Rattle.std.proofs.Math.Path.{sym, ap}
 use Rattle.std.proofs.Common.{◌∙◌, mod-lt, arith}
 use borrow.Author.Tests.{eqb-true, eq-eqb}
 use Rattle.std.proofs.lemmas.List.{set-get_or}
 use Rattle.std.proofs.Math.Seq.{get_or-set_same}
-use Rattle.word.specs.Bits.{pick}
 use Rattle.word.specs.BitLaws.{both}
 use Rattle.fault.specs.First.{first}
 use Rattle.walk.specs.Regime.{stage1On, regimeOf}
@@ -75,7 +74,7 @@ place-low : (privilege : Privilege) (kind : Kind) (va : ℕ) → mayHint privile
 unfolding place_of
 place-low privilege Read va q = omega arith
 place-low privilege Write va q = omega arith
-place-low privilege Fetch va q = absurd (let z : ◌≡◌ {A = ℕ} 0 1 = ap (λ (b : Bool). pick b 1 0) q in omega arith)
+place-low privilege Fetch va q = absurd (let z : ◌≡◌ {A = ℕ} 0 1 = ap (λ (b : Bool). (if b then 1 else 0)) q in omega arith)
 
 -- a leaf's entry serves its tag
 new-serves : (leaf : Leaf) (at : Current) (tag : ℕ) → serves (entryFor leaf at tag) at tag ≡ true
@@ -101,7 +100,7 @@ judged-right : (e : Entry) (user : Bool) (kind : Kind) (va pa : ℕ) → judged 
 unfolding judged
 judged-right e user kind va pa = go (hasRight e.perms (rightOf kind user))
   where
-    go : (x : Bool) → pick x (Address (onPage e.pa va)) (Status (first (bit_or 12 e.level))) ≡ Address pa → (x ≡ true) × (onPage e.pa va ≡ pa)
+    go : (x : Bool) → (if x then Address (onPage e.pa va) else Status (first (bit_or 12 e.level))) ≡ Address pa → (x ≡ true) × (onPage e.pa va ≡ pa)
     go true q = (refl, cc)
     go false q = let z : ◌≡◌ {A = ℕ} 0 1 = cc in absurd (omega arith)
 

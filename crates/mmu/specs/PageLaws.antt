@@ -1,8 +1,7 @@
 -- Translations go by pages: in one cache the addresses of a page get one answer but for the offset in the page, which is each address's own.
-use Rattle.std.specs.Prelude.{◌≡◌, ℕ, ◌+◌, ◌*◌, ◌/◌, ◌%◌, Bool, true, false, ◌&&◌, ◌==◌, bit_or, Option, Ok, Err}
+use Rattle.std.specs.Prelude.{if◌then◌else◌, ◌≡◌, ℕ, ◌+◌, ◌*◌, ◌/◌, ◌%◌, Bool, true, false, ◌&&◌, ◌==◌, bit_or, Option, Ok, Err}
 use Rattle.std.proofs.Math.Path.{refl, ap}
 use Rattle.std.proofs.Common.{sym, ◌∙◌, arith}
-use Rattle.word.specs.Bits.{pick}
 use Rattle.fault.specs.First.{first}
 use Rattle.walk.specs.Regime.{stage1On, regimeOf}
 use Rattle.walk.specs.Tag.{untagged}
@@ -76,8 +75,8 @@ module _ (a b : ℕ) where
   judged-page e user kind q = go (hasRight e.perms (rightOf kind user))
     where
       go : (x : Bool)
-          → pick x (Address (onPage e.pa b)) (Status (first (bit_or 12 e.level)))
-          ≡ answerAt (pick x (Address (onPage e.pa a)) (Status (first (bit_or 12 e.level)))) b
+          → if x then Address (onPage e.pa b) else Status (first (bit_or 12 e.level))
+          ≡ answerAt (if x then Address (onPage e.pa a) else Status (first (bit_or 12 e.level))) b
       go true = ap Address (on-page e.pa q)
       go false = refl
 

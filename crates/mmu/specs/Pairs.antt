@@ -1,11 +1,10 @@
 -- The translations of a load or a store as their changes leave the cache that the operation's translations leave, on plain values.
 use Rattle.mmu.specs.Results.{Located, Stepped}
-use Rattle.std.specs.Prelude.{◌≡◌, ℕ, zero, suc, ◌%◌, ◌<◌, Bool, true, false, ◌&&◌, T as Holds, List, length, get_or, ◌==◌, slice_index_or, slice_set, Option}
+use Rattle.std.specs.Prelude.{if◌then◌else◌, ◌≡◌, ℕ, zero, suc, ◌%◌, ◌<◌, Bool, true, false, ◌&&◌, T as Holds, List, length, get_or, ◌==◌, slice_index_or, slice_set, Option}
 use Rattle.std.proofs.Math.Path.{refl, ap}
 use Rattle.std.proofs.Common.{sym, subst, ◌∙◌, arith, ne_eqb, eqb→eq, get_or-set_same, get_or-set_other}
 use Rattle.std.proofs.lemmas.Bool.{eqb-false}
 use Rattle.std.proofs.lemmas.List.{set-get_or}
-use Rattle.word.specs.Bits.{pick}
 use Rattle.walk.specs.Regime.{regimeOf, stage1On}
 use Rattle.tlb.specs.Cache.{hintAt, entry_at}
 use Rattle.tlb.specs.Entry.{blank}
@@ -27,20 +26,20 @@ use Rattle.operations.specs.declared.{loads.Both.Both, change.Change.Change, cha
 use Rattle.mmu.specs.Changes.{none-changed, turn-right}
 
 -- an element of a list with another set
-get_set : {A : Type 0} (xs : List A) (i j : ℕ) (x d : A) → i < length xs → slice_index_or (slice_set xs i x) j d ≡ pick (j == i) x (slice_index_or xs j d)
+get_set : {A : Type 0} (xs : List A) (i j : ℕ) (x d : A) → i < length xs → slice_index_or (slice_set xs i x) j d ≡ (if j == i then x else slice_index_or xs j d)
 get_set {A} xs i j x d l = go (j == i) refl
   where
-    go : (b : Bool) → (j == i) ≡ b → slice_index_or (slice_set xs i x) j d ≡ pick b x (slice_index_or xs j d)
+    go : (b : Bool) → (j == i) ≡ b → slice_index_or (slice_set xs i x) j d ≡ (if b then x else slice_index_or xs j d)
     go true e = rw (eqb→eq j i (subst Holds (sym e) tt)) (get_or-set_same xs i x d l)
     go false e = get_or-set_other xs i j x d (eqb-false j i e)
 
 -- where it is stored, or its own element goes back
-set_if : {A : Type 0} (b : Bool) (xs : List A) (i j : ℕ) (x d : A) → i < length xs → slice_index_or (slice_set xs i (pick b x (slice_index_or xs i d))) j d
-    ≡ pick (b && j == i) x (slice_index_or xs j d)
+set_if : {A : Type 0} (b : Bool) (xs : List A) (i j : ℕ) (x d : A) → i < length xs → slice_index_or (slice_set xs i (if b then x else slice_index_or xs i d)) j d
+    ≡ (if b && j == i then x else slice_index_or xs j d)
 set_if true xs i j x d l = get_set xs i j x d l
 set_if false xs i j x d l = ap (λ ys. get_or ys j d) (set-get_or xs i d)
 
-kept-pick : (n : ℕ) (old made : Entry) → keptAs n old made ≡ pick (n == 3) made old
+kept-pick : (n : ℕ) (old made : Entry) → keptAs n old made ≡ (if n == 3 then made else old)
 kept-pick zero old made = refl
 kept-pick (suc zero) old made = refl
 kept-pick (suc (suc zero)) old made = refl
@@ -55,7 +54,7 @@ entry-small (Of q) = omega arith
 abbrev At : Change → ℕ → ℕ → Type 0
 At t i j = (t.hint_at ≡ i) × (t.entry_at ≡ j)
 
-picked : (b : Bool) (x y : Answered) (i j : ℕ) → At x.change i j → At y.change i j → At (pick b x y).change i j
+picked : (b : Bool) (x y : Answered) (i j : ℕ) → At x.change i j → At y.change i j → At (if b then x else y).change i j
 picked true x y i j p q = p
 picked false x y i j p q = q
 
@@ -134,7 +133,7 @@ module _ (c : Core) (kind : Kind) (hs : length c.tlb.cache.hints ≡ 512) (es : 
     abbrev Right : Both → Type 0
     Right b = (b.placed ≡ located.placed) × ((commitIn (commitIn c b.first) b.second).tlb ≡ located.tlb)
 
-    located-is : (m : Bool) → more ≡ m → located ≡ pick m (bothPages va step.answer (step₂ step.tlb)) (onePage va step)
+    located-is : (m : Bool) → more ≡ m → located ≡ (if m then bothPages va step.answer (step₂ step.tlb) else onePage va step)
     unfolding locatedNow locatedOf
     located-is m e = rw (← answer-is, e)
 
@@ -156,7 +155,7 @@ module _ (c : Core) (kind : Kind) (hs : length c.tlb.cache.hints ≡ 512) (es : 
     unfolding bothOf
     right = go more refl
       where
-        go : (m : Bool) → more ≡ m → Right (pick m (twoTranslations first (pageIn c next kind) va kind memory) (oneTranslation first (pageIn c next kind) va))
+        go : (m : Bool) → more ≡ m → Right (if m then twoTranslations first (pageIn c next kind) va kind memory else oneTranslation first (pageIn c next kind) va)
         go true m = two-pages m
         go false m = one-page m
 

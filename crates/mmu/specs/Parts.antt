@@ -1,6 +1,5 @@
 -- What a translation reads of a core, and the core with its changes stored. Cited for a core on words.
-use Rattle.std.specs.Prelude.{ℕ, ◌%◌, List, slice_set}
-use Rattle.word.specs.Bits.{pick}
+use Rattle.std.specs.Prelude.{if◌then◌else◌, ℕ, ◌%◌, List, slice_set}
 use Rattle.tlb.specs.Cache.{hintAt, entry_at}
 use Rattle.tlb.specs.Tlb.{tlbWith}
 use Rattle.tlb.specs.declared.{access.Kind.Kind, count.Counts.Counts, entry.Entry.Entry, hint.FetchHint.FetchHint}
@@ -51,7 +50,7 @@ storedIn c i j f k h e =
 abbrev pub commitAt : Core → ℕ → ℕ → Change → Core
 commitAt c i j t =
     storedIn c i j c.tlb.cache.fetch (countedAs t.effect c.privilege.level c.tlb.counts)
-    (pick t.hints t.hint (hintAt c.tlb.cache i)) (keptAs t.effect (entry_at c.tlb.cache j) t.made)
+    (if t.hints then t.hint else hintAt c.tlb.cache i) (keptAs t.effect (entry_at c.tlb.cache j) t.made)
 
 abbrev pub commitIn : Core → Change → Core
 commitIn c t = commitAt c (t.hint_at % 512) (t.entry_at % 1024) t

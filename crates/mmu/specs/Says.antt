@@ -1,7 +1,7 @@
 -- Each answer as the requirement's value, or its fault's address and status; and what the operations answer, so told.
-use Rattle.std.specs.Prelude.{◌≡◌, ℕ, ◌+◌, ◌-◌, Bool, true, false, List, length}
+use Rattle.std.specs.Prelude.{if◌then◌else◌, ◌≡◌, ℕ, ◌+◌, ◌-◌, Bool, true, false, List, length}
 use Rattle.std.proofs.Math.Path.{refl}
-use Rattle.word.specs.Bits.{pick, wrap}
+use Rattle.word.specs.Bits.{wrap}
 use Rattle.word.specs.Ram.{littleEndian, within, word_at}
 use Rattle.tlb.specs.declared.access.Kind.TheVariants.{Read, Write}
 use Rattle.tlb.specs.declared.access.Answer.{Answer}
@@ -127,7 +127,7 @@ module _ (c : Core) (base : ℕ) (ram : List ℕ) (va n : ℕ) where
 abbrev pub insnSays : ℕ → List ℕ → ℕ → Answer → Said
 insnSays base ram va (Status f) = fault va f.fsc
 insnSays base ram va (Address pa) =
-    pick (within base (length ram) 4 pa) (value (littleEndian ram 4 (pa - base))) (fault va 0x10)
+    if within base (length ram) 4 pa then value (littleEndian ram 4 (pa - base)) else fault va 0x10
 
 pub fetch-says : (c : Core) (base : ℕ) (ram : List ℕ) (va : ℕ)
     → fetchSays (fetchOf c base ram va).answer ≡ insnSays base ram va (fetchSteppedNow c (word_at base ram 8) va).answer

@@ -2,8 +2,7 @@
 -- code's own types. What they mean: `Asks`, which translations an access makes; `PageLaws`, that they go by pages;
 -- `OwnAddress`, where each byte then lies.
 use Rattle.mmu.specs.Results.{Stepped, Located}
-use Rattle.std.specs.Prelude.{ℕ, Option}
-use Rattle.word.specs.Bits.{pick}
+use Rattle.std.specs.Prelude.{if◌then◌else◌, ℕ, Option}
 use Rattle.walk.specs.Regime.{stage1On, regimeOf}
 use Rattle.walk.specs.Tag.{untagged}
 use Rattle.walk.specs.declared.regime.Bank.{Bank}
@@ -45,6 +44,5 @@ module _ (s : Bank) (privilege : Privilege) (memory : ℕ → Option ℕ) where
   -- in the cache that the first one left. B2: both are made before a byte moves.
   unfoldable pub locatedOf : ℕ → ℕ → Kind → Tlb → Located
   locatedOf va n kind t =
-      pick (goesOn (translateIn va kind t).answer (crosses (stage1On s (regimeOf privilege.level)) va n))
-      (bothPages va (translateIn va kind t).answer (translateIn (nextPage va) kind (translateIn va kind t).tlb))
-      (onePage va (translateIn va kind t))
+      if goesOn (translateIn va kind t).answer (crosses (stage1On s (regimeOf privilege.level)) va n) then bothPages va (translateIn va kind t).answer (translateIn (nextPage va) kind (translateIn va kind t).tlb)
+      else onePage va (translateIn va kind t)

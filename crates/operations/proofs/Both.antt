@@ -1,8 +1,8 @@
 -- Split accesses whose two parts lie in RAM, on plain values, for `search`.
-use Rattle.std.specs.Prelude.{Some, None}
+use Rattle.std.specs.Prelude.{if◌then◌else◌, Some, None}
 use Rattle.std.proofs.Common.{◌≡◌, ℕ, zero, suc, ◌+◌, ◌-◌, ◌*◌, ◌/◌, ◌%◌, ◌^◌, ◌<◌, ◌≤◌, Bool, true, false, ◌&&◌, ltb, List, length, get_or, sym, refl, ap, ◌∙◌, mod-eq_of_lt, suc-add, pow-suc, zero-add, div-one, arith, take-append-drop, pow-add, shr-shr, ltb-false, ltb-true, le-ltb, lt-ltb, le-leb}
 use native.Mathlib.Nat.{pow-zero}
-use Rattle.word.specs.Bits.{pick, wrap}
+use Rattle.word.specs.Bits.{wrap}
 use Rattle.word.specs.Ram.{within, written, stored, bytes_of}
 use Rattle.word.specs.RamLaws.{digit-next, written_next}
 use Rattle.operations.specs.Place.{byte_at, firstOutside, verdictOf}
@@ -52,7 +52,7 @@ module _ (base len : ℕ) (p : Pages) (n : ℕ) where
   unfold-both = go (ltb (2 ^ 64 - 1 - len) base) refl (ltb n p.in_page) refl (ltb 8 n) refl
     where
       go : (x : Bool) → ltb (2 ^ 64 - 1 - len) base ≡ x → (y : Bool) → ltb n p.in_page ≡ y → (z : Bool) → ltb 8 n ≡ z
-          → pick x false (pick y false (pick z false parts)) ≡ true → Fit
+          → (if x then false else if y then false else if z then false else parts) ≡ true → Fit
       go true ex y ey z ez e = absurd (false-true e)
       go false ex true ey z ez e = absurd (false-true e)
       go false ex false ey true ez e = absurd (false-true e)
@@ -89,7 +89,7 @@ stored-none : (base : ℕ) (ram : List ℕ) (pa v : ℕ) → stored base ram 0 p
 unfolding stored bytes_of
 stored-none base ram pa v = go (within base (length ram) 0 pa)
   where
-    go : (b : Bool) → pick b (written ram (pa - base) 0 v) ram ≡ ram
+    go : (b : Bool) → (if b then written ram (pa - base) 0 v else ram) ≡ ram
     go true = take-append-drop (pa - base) ram
     go false = refl
 
@@ -249,7 +249,7 @@ module _ (base : ℕ) (ram : List ℕ) (p : Pages) (n : ℕ) (h : length ram < 2
   unfolding bothAt
   both-loads v = go (bothInside base (length ram) p n) refl
     where
-      go : (f : Bool) → bothInside base (length ram) p n ≡ f → pick f (Some (splitValue base ram p 0 n)) None ≡ Some v
+      go : (f : Bool) → bothInside base (length ram) p n ≡ f → (if f then Some (splitValue base ram p 0 n) else None) ≡ Some v
           → load_of base ram (Split p) n ≡ Got.Value v
       go true ef e = sym (split-value base ram p n v Inside (sym (all-inside ef)) refl (sym (value-is _ _ e)))
       go false ef e = absurd (outside-value v e)

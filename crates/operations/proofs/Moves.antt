@@ -1,8 +1,7 @@
 -- The cases of bytes moved, on plain values, for `search`.
-use Rattle.std.specs.Prelude.{Option, Some, None}
+use Rattle.std.specs.Prelude.{if◌then◌else◌, Option, Some, None}
 use Rattle.std.proofs.Common.{◌≡◌, ℕ, zero, suc, ◌+◌, ◌-◌, ◌*◌, ◌/◌, ◌^◌, ◌<◌, ◌≤◌, Bool, true, false, ◌&&◌, leb, List, length, get_or, sym, refl, ap, ◌∙◌, pow-suc, arith, leb-true}
 use native.Mathlib.Nat.{pow-le-pow_right}
-use Rattle.word.specs.Bits.{pick}
 use Rattle.word.specs.Ram.{littleEndian, within, word_at, stored}
 use Rattle.operations.specs.Place.{byte_at, firstOutside, verdictOf}
 use Rattle.operations.specs.Bytes.{byteIn, splitValue, splitStored, gotBy, load_of}
@@ -75,13 +74,13 @@ module _ (n i v : ℕ) (few : n ≤ 8) (h : 0 < i) (k : i ≤ n) (l : v < 256 ^ 
 
 -- loads
 module _ (base : ℕ) (ram : List ℕ) where
-  by_value : (pa : ℕ) (f : Bool) (v x : ℕ) → pick f (Some x) None ≡ Some v
-      → Value v ≡ gotBy (pick f Inside (Outside 0 pa)) x
+  by_value : (pa : ℕ) (f : Bool) (v x : ℕ) → (if f then Some x else None) ≡ Some v
+      → Value v ≡ gotBy (if f then Inside else Outside 0 pa) x
   by_value pa true v x q = cc
   by_value pa false v x q = cc
 
-  by-none : (pa : ℕ) (f : Bool) (x : ℕ) → pick f (Some x) None ≡ None
-      → Abort 0 pa ≡ gotBy (pick f Inside (Outside 0 pa)) x
+  by-none : (pa : ℕ) (f : Bool) (x : ℕ) → (if f then Some x else None) ≡ None
+      → Abort 0 pa ≡ gotBy (if f then Inside else Outside 0 pa) x
   by-none pa true x q = cc
   by-none pa false x q = refl
 

@@ -1,6 +1,6 @@
 -- The cases of where an access lies, on plain values, for `search`.
+use Rattle.std.specs.Prelude.{if◌then◌else◌}
 use Rattle.std.proofs.Common.{◌≡◌, ℕ, zero, suc, ◌+◌, ◌-◌, ◌<◌, ◌≤◌, Bool, true, false, sym, ap, ◌∙◌, arith}
-use Rattle.word.specs.Bits.{pick}
 use Rattle.word.specs.Ram.{within}
 use Rattle.operations.specs.Place.{byte_at, firstOutside}
 use Rattle.operations.specs.declared.{place.Pages.Pages, place.Verdict.Verdict}
@@ -14,7 +14,7 @@ module _ (base len : ℕ) (p : Pages) (n i : ℕ) where
     judge-in h = let z : n - i ≡ zero = omega arith in rw z at inv
 
     module _ (h : i < n) (pa : ℕ) (f : Bool) (ep : pa ≡ byte_at p i) (ef : f ≡ within base len 1 pa) where
-      step : pick f (firstOutside base len p (i + 1) (n - (i + 1))) (Outside i pa) ≡ x
+      step : (if f then firstOutside base len p (i + 1) (n - (i + 1)) else Outside i pa) ≡ x
       unfolding firstOutside
       step =
           let s : n - i ≡ suc (n - (i + 1)) = omega arith in

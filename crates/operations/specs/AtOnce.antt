@@ -1,8 +1,7 @@
 -- The code's own test of a split access: whether both of its parts lie in RAM, decided at once. Nothing here has to be
 -- believed: where it says yes, the value and RAM are those of the bytes, and where it says no, the bytes are judged one
 -- by one.
-use Rattle.std.specs.Prelude.{◌≡◌, ℕ, ◌-◌, ◌^◌, ◌<◌, Bool, true, false, ◌&&◌, List, length, nat_lt, Option, Some, None}
-use Rattle.word.specs.Bits.{pick}
+use Rattle.std.specs.Prelude.{if◌then◌else◌, ◌≡◌, ℕ, ◌-◌, ◌^◌, ◌<◌, Bool, true, false, ◌&&◌, List, length, nat_lt, Option, Some, None}
 use Rattle.word.specs.Ram.{within}
 use Rattle.operations.specs.Place.{byte_at}
 use Rattle.operations.specs.Bytes.{splitValue, splitStored}
@@ -11,9 +10,10 @@ use Rattle.operations.specs.declared.place.Pages.{Pages}
 -- both parts of up to eight bytes lie in RAM, in a window that ends below the last address
 unfoldable pub bothInside : ℕ → ℕ → Pages → ℕ → Bool
 bothInside base len p n =
-    pick (nat_lt (2 ^ 64 - 1 - len) base) false
-    (pick (nat_lt n p.in_page) false
-    (pick (nat_lt 8 n) false (within base len p.in_page p.pa && within base len (n - p.in_page) p.pa2)))
+    if nat_lt (2 ^ 64 - 1 - len) base then false
+    else if nat_lt n p.in_page then false
+    else if nat_lt 8 n then false
+    else within base len p.in_page p.pa && within base len (n - p.in_page) p.pa2
 
 -- so each of the n bytes lies in RAM
 pub record Lie (base len : ℕ) (p : Pages) (n : ℕ) : Type 0 where
@@ -21,10 +21,10 @@ pub record Lie (base len : ℕ) (p : Pages) (n : ℕ) : Type 0 where
 
 -- the value, and RAM after a store
 unfoldable pub bothAt : ℕ → List ℕ → Pages → ℕ → Option ℕ
-bothAt base ram p n = pick (bothInside base (length ram) p n) (Some (splitValue base ram p 0 n)) None
+bothAt base ram p n = if bothInside base (length ram) p n then Some (splitValue base ram p 0 n) else None
 
 unfoldable pub bothStored : ℕ → List ℕ → Pages → ℕ → ℕ → List ℕ
-bothStored base ram p n v = pick (bothInside base (length ram) p n) (splitStored base p v 0 n ram) ram
+bothStored base ram p n v = if bothInside base (length ram) p n then splitStored base p v 0 n ram else ram
 
 -- one byte in each page
 abbrev pub pair_at : ℕ → ℕ → Pages

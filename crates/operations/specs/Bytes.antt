@@ -1,6 +1,5 @@
 -- Bytes moved between a value and RAM, the lowest first; `ByteMeaning` has it by each byte's own address.
-use Rattle.std.specs.Prelude.{ℕ, zero, suc, ◌+◌, ◌-◌, ◌*◌, ◌/◌, List, length, slice_index}
-use Rattle.word.specs.Bits.{pick}
+use Rattle.std.specs.Prelude.{if◌then◌else◌, ℕ, zero, suc, ◌+◌, ◌-◌, ◌*◌, ◌/◌, List, length, slice_index}
 use Rattle.word.specs.Ram.{within, littleEndian, stored}
 use Rattle.operations.specs.Place.{byte_at, verdictOf, bytesBefore}
 use Rattle.operations.specs.declared.{place.Pages.Pages, place.Place.Place, place.Verdict.Verdict, bytes.Got.Got}
@@ -11,7 +10,7 @@ use Rattle.operations.specs.declared.bytes.Got.TheVariants.{Value, Abort}
 
 -- the byte at a physical address, 0 outside RAM
 unfoldable pub byteIn : ℕ → List ℕ → ℕ → ℕ
-byteIn base ram pa = pick (within base (length ram) 1 pa) (slice_index ram (pa - base)) 0
+byteIn base ram pa = if within base (length ram) 1 pa then slice_index ram (pa - base) else 0
 
 -- the value of n bytes of a split access from index i on, the lowest first
 unfoldable pub splitValue : ℕ → List ℕ → Pages → ℕ → ℕ → ℕ
@@ -44,4 +43,4 @@ storeRam base ram (Split p) n v = splitStored base p v 0 (bytesBefore (verdictOf
 
 -- four bytes, or nothing where one of them lies outside
 unfoldable pub insnOf : ℕ → List ℕ → ℕ → Insn
-insnOf base ram pa = pick (within base (length ram) 4 pa) (Insn.Value (littleEndian ram 4 (pa - base))) Insn.Outside
+insnOf base ram pa = if within base (length ram) 4 pa then Insn.Value (littleEndian ram 4 (pa - base)) else Insn.Outside

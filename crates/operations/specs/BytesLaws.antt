@@ -1,9 +1,8 @@
 -- Laws of bytes moved: RAM keeps its length, a store changes its own bytes only, and a split value is a plain one where
 -- the pages lie side by side.
-use Rattle.std.specs.Prelude.{◌≡◌, ℕ, zero, suc, ◌+◌, ◌-◌, ◌/◌, ◌<◌, ◌≤◌, Bool, true, false, ◌&&◌, List, ◌++◌, length, take, drop, ◌≢◌, nat_le, nat_lt, slice_index, refl}
+use Rattle.std.specs.Prelude.{if◌then◌else◌, ◌≡◌, ℕ, zero, suc, ◌+◌, ◌-◌, ◌/◌, ◌<◌, ◌≤◌, Bool, true, false, ◌&&◌, List, ◌++◌, length, take, drop, ◌≢◌, nat_le, nat_lt, slice_index, refl}
 use Rattle.std.proofs.Common.{sym, ap, ◌∙◌, arith, leb-true, leb-false, ltb-true, ltb-false, le-leb, length-append, length-drop, length-take-le, get_or-append-add, get_or-take, get_or-drop}
 use Rattle.std.proofs.Math.ListN.{get_or-append}
-use Rattle.word.specs.Bits.{pick}
 use Rattle.word.specs.Ram.{littleEndian, bytes_of, within, written, stored}
 use Rattle.word.specs.RamLaws.{length-bytes}
 use Rattle.operations.specs.Place.{byte_at, firstOutside, verdictOf, bytesBefore}
@@ -28,7 +27,7 @@ unfolding stored
 stored-length base ram n pa v = go (nat_le base pa) (nat_le (pa + n) (base + length ram)) refl refl
   where
     go : (a b : Bool) → nat_le base pa ≡ a → nat_le (pa + n) (base + length ram) ≡ b
-        → length (pick (a && b) (written ram (pa - base) n v) ram) ≡ length ram
+        → length (if a && b then written ram (pa - base) n v else ram) ≡ length ram
     go true true ea eb =
         let h : base ≤ pa = leb-true _ _ ea in
         let k : pa + n ≤ base + length ram = leb-true _ _ eb in
@@ -53,7 +52,7 @@ pub whole-or-none : (base : ℕ) (ram : List ℕ) (pa n v i q : ℕ) → verdict
 unfolding verdictOf storeRam stored
 whole-or-none base ram pa n v i q = go (within base (length ram) n pa)
   where
-    go : (b : Bool) → pick b Inside (Outside 0 pa) ≡ Outside i q → pick b (written ram (pa - base) n v) ram ≡ ram
+    go : (b : Bool) → (if b then Inside else Outside 0 pa) ≡ Outside i q → (if b then written ram (pa - base) n v else ram) ≡ ram
     go true e = let z : ◌≡◌ {A = ℕ} 0 1 = cc in absurd (omega arith)
     go false e = refl
 
@@ -105,7 +104,7 @@ stored-leaves base ram n pa v k none = go (nat_le base pa) (nat_le (pa + n) (bas
             absurd (none (k - (pa - base)) (omega arith) (omega arith))
 
     go : (a b : Bool) → nat_le base pa ≡ a → nat_le (pa + n) (base + length ram) ≡ b
-        → slice_index (pick (a && b) (written ram (pa - base) n v) ram) k ≡ slice_index ram k
+        → slice_index (if a && b then written ram (pa - base) n v else ram) k ≡ slice_index ram k
     go true true ea eb = within-it (leb-true _ _ ea) (leb-true _ _ eb)
     go true false ea eb = refl
     go false b ea eb = refl

@@ -1,6 +1,5 @@
 -- A translation as what it changes. Cited by the contracts of this crate alone.
-use Rattle.std.specs.Prelude.{ℕ, zero, suc, Bool, true, false, ◌&&◌, ◌==◌, Option}
-use Rattle.word.specs.Bits.{pick}
+use Rattle.std.specs.Prelude.{if◌then◌else◌, ℕ, zero, suc, Bool, true, false, ◌&&◌, ◌==◌, Option}
 use Rattle.sysreg.specs.declared.regs.Control.{Control}
 use Rattle.walk.specs.Regime.{bankOf, regimeOf}
 use Rattle.walk.specs.declared.regime.Bank.{Bank}
@@ -102,16 +101,15 @@ answeredBy k t va kind = record { change = changeOf k t va kind; answer = t.answ
 
 unfoldable pub answeredOf : Page → ℕ → Kind → (ℕ → Option ℕ) → Answered
 answeredOf x va kind memory =
-    pick (hintServes x.hint x.lookup.privilege va kind)
-    (record { change = unchanged x.lookup; answer = Address (onPage x.hint.pa va) })
-    (answeredBy x.lookup (missBy x.lookup.asked x.lookup.bank x.lookup.privilege x.current x.entry va kind memory) va kind)
+    if hintServes x.hint x.lookup.privilege va kind then record { change = unchanged x.lookup; answer = Address (onPage x.hint.pa va) }
+    else answeredBy x.lookup (missBy x.lookup.asked x.lookup.bank x.lookup.privilege x.current x.entry va kind memory) va kind
 
 -- a page, as an earlier change leaves it
 abbrev pub hintLeft : Change → Lookup → Hint → Hint
-hintLeft f k h = pick (f.hints && k.hint == f.hint_at) f.hint h
+hintLeft f k h = if f.hints && k.hint == f.hint_at then f.hint else h
 
 abbrev pub entryLeft : Change → Lookup → Entry → Entry
-entryLeft f k e = pick (f.effect == 3 && k.entry == f.entry_at) f.made e
+entryLeft f k e = if f.effect == 3 && k.entry == f.entry_at then f.made else e
 
 abbrev pub pageAfter : Change → Page → Page
 pageAfter f y =

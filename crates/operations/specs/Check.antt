@@ -1,6 +1,6 @@
 -- The numbers 1 to 7: docs/SCOPE.md, "Where each answer is given".
-use Rattle.std.specs.Prelude.{ℕ, ◌+◌, ◌*◌, ◌^◌, Bool, true, false, not, ◌||◌, List, [], ◌∷◌, nat_lt, Option, Some, None}
-use Rattle.word.specs.Bits.{alignDown, pick}
+use Rattle.std.specs.Prelude.{if◌then◌else◌, ℕ, ◌+◌, ◌*◌, ◌^◌, Bool, true, false, not, ◌||◌, List, [], ◌∷◌, nat_lt, Option, Some, None}
+use Rattle.word.specs.Bits.{alignDown}
 use Rattle.word.specs.Ram.{width_of}
 use Rattle.sysreg.specs.Encoding.{registerAt}
 use Rattle.sysreg.specs.Write.{names}
@@ -65,7 +65,7 @@ checksOf level base len (Census first pages) = (nat_lt 3 level, 1) ∷ (passes b
 -- the number of the first row whose condition holds, or 0
 abbrev pub first_of : List Row → ℕ
 first_of [] = 0
-first_of (row ∷ rows) = pick row.0 row.1 (first_of rows)
+first_of (row ∷ rows) = if row.0 then row.1 else first_of rows
 
 -- the number of the first check that a call misses; 0 where it misses none
 unfoldable pub missedOf : ℕ → ℕ → ℕ → Call → ℕ

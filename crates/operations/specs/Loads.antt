@@ -1,6 +1,5 @@
 -- The translations of a load or a store, on small values: one page or two. Cited by the contracts of this crate alone.
-use Rattle.std.specs.Prelude.{ℕ, Bool, Option}
-use Rattle.word.specs.Bits.{pick}
+use Rattle.std.specs.Prelude.{if◌then◌else◌, ℕ, Bool, Option}
 use Rattle.walk.specs.Regime.{regimeOf, stage1On}
 use Rattle.walk.specs.declared.regime.Bank.{Bank}
 use Rattle.tlb.specs.declared.{access.Answer.Answer, access.Kind.Kind}
@@ -25,7 +24,7 @@ oneTranslation f y va = record { first = f.change; second = unchanged y.lookup; 
 -- the translations of an access of n bytes
 abbrev pub bothWith : Lookup → Answered → Page → ℕ → ℕ → Kind → (ℕ → Option ℕ) → Both
 bothWith k f y va n kind memory =
-    pick (moreOf k.bank k.privilege.level f.answer va n) (twoTranslations f y va kind memory) (oneTranslation f y va)
+    if moreOf k.bank k.privilege.level f.answer va n then twoTranslations f y va kind memory else oneTranslation f y va
 
 unfoldable pub bothOf : Page → Page → ℕ → ℕ → Kind → (ℕ → Option ℕ) → Both
 bothOf x y va n kind memory = bothWith x.lookup (answeredOf x va kind memory) y va n kind memory

@@ -1,7 +1,7 @@
 -- Where the bytes of an access lie, and which of them lie outside RAM, by the code's own two parts; `OwnAddress` has it
 -- by each byte's own address.
-use Rattle.std.specs.Prelude.{ℕ, zero, suc, ◌+◌, ◌-◌, ◌%◌, Bool, false, ◌&&◌, nat_lt}
-use Rattle.word.specs.Bits.{pick, wrap}
+use Rattle.std.specs.Prelude.{if◌then◌else◌, ℕ, zero, suc, ◌+◌, ◌-◌, ◌%◌, Bool, false, ◌&&◌, nat_lt}
+use Rattle.word.specs.Bits.{wrap}
 use Rattle.word.specs.Ram.{within}
 use Rattle.tlb.specs.declared.access.Answer.{Answer}
 use Rattle.tlb.specs.declared.access.Answer.TheVariants.{Address, Status}
@@ -45,17 +45,17 @@ firstPa (Split p) = p.pa
 
 -- the physical address of byte i of a split access
 abbrev pub byte_at : Pages → ℕ → ℕ
-byte_at p i = pick (nat_lt i p.in_page) (wrap (p.pa + i)) (wrap (p.pa2 + (i - p.in_page)))
+byte_at p i = if nat_lt i p.in_page then wrap (p.pa + i) else wrap (p.pa2 + (i - p.in_page))
 
 -- A split access is judged byte by byte: of n bytes from index i on, the lowest that lies outside RAM.
 unfoldable pub firstOutside : ℕ → ℕ → Pages → ℕ → ℕ → Verdict
 firstOutside base len p i zero = Inside
 firstOutside base len p i (suc n) =
-    pick (within base len 1 (byte_at p i)) (firstOutside base len p (i + 1) n) (Outside i (byte_at p i))
+    if within base len 1 (byte_at p i) then firstOutside base len p (i + 1) n else Outside i (byte_at p i)
 
 -- Any other access is judged whole, and by its first byte where it is outside.
 unfoldable pub verdictOf : ℕ → ℕ → Place → ℕ → Verdict
-verdictOf base len (Whole pa) n = pick (within base len n pa) Inside (Outside 0 pa)
+verdictOf base len (Whole pa) n = if within base len n pa then Inside else Outside 0 pa
 verdictOf base len (Split p) n = firstOutside base len p 0 n
 
 -- how many of n bytes come before the first outside

@@ -1,8 +1,8 @@
 -- Laws of where an access lies: which byte is the lowest outside RAM, and on which page each byte stands.
-use Rattle.std.specs.Prelude.{◌≡◌, ℕ, zero, suc, ◌+◌, ◌-◌, ◌/◌, ◌%◌, ◌^◌, ◌<◌, ◌≤◌, Bool, true, false, nat_lt}
+use Rattle.std.specs.Prelude.{if◌then◌else◌, ◌≡◌, ℕ, zero, suc, ◌+◌, ◌-◌, ◌/◌, ◌%◌, ◌^◌, ◌<◌, ◌≤◌, Bool, true, false, nat_lt}
 use Rattle.std.proofs.Math.Path.{refl}
 use Rattle.std.proofs.Common.{sym, arith, ltb-true, ltb-false}
-use Rattle.word.specs.Bits.{pick, wrap}
+use Rattle.word.specs.Bits.{wrap}
 use Rattle.word.specs.Ram.{within}
 use Rattle.operations.specs.Place.{inPage, nextPage, byte_at, firstOutside, bytesBefore}
 use Rattle.operations.specs.declared.{place.Pages.Pages, place.Verdict.Verdict}
@@ -18,7 +18,7 @@ pub record Lowest (base len : ℕ) (p : Pages) (k n i pa : ℕ) : Type 0 where
 
 module _ (base len : ℕ) (p : Pages) where
   abbrev here : Bool → ℕ → ℕ → Verdict
-  here b k n = pick b (firstOutside base len p (k + 1) n) (Outside k (byte_at p k))
+  here b k n = if b then firstOutside base len p (k + 1) n else Outside k (byte_at p k)
 
   abbrev Fits : ℕ → Type 0
   Fits j = within base len 1 (byte_at p j) ≡ true

@@ -1,8 +1,7 @@
 -- System operations by the manual's names: the SYS encodings of an A72 and who may use each (DDI 0487, C5.3 to C5.5,
 -- from knowledge of ARMv8.0: the document itself was not at hand). A1, M6 and the like are rows of docs/DIFFERENCES.md,
 -- each at the line where the manual has something else.
-use Rattle.std.specs.Prelude.{Bool, true, false, ◌&&◌, List, [], ◌∷◌, ◌++◌, ℕ, ◌==◌, leb}
-use Rattle.word.specs.Bits.{pick}
+use Rattle.std.specs.Prelude.{if◌then◌else◌, Bool, true, false, ◌&&◌, List, [], ◌∷◌, ◌++◌, ℕ, ◌==◌, leb}
 use Rattle.walk.specs.declared.regime.Regime.{Regime}
 use Rattle.walk.specs.declared.regime.Regime.TheVariants.{El1, El2, El3}
 use Rattle.sysop.specs.declared.op.SysOp.{SysOp}
@@ -143,7 +142,7 @@ encodes r op1 crn crm op2 = op1 == r.op1 && (crn == r.crn && (holds r.crm crm &&
 
 abbrev pub lookUp : List Row → ℕ → ℕ → ℕ → ℕ → Row
 lookUp [] op1 crn crm op2 = absent
-lookUp (r ∷ rs) op1 crn crm op2 = pick (encodes r op1 crn crm op2) r (lookUp rs op1 crn crm op2)
+lookUp (r ∷ rs) op1 crn crm op2 = if encodes r op1 crn crm op2 then r else lookUp rs op1 crn crm op2
 
 -- the row of an encoding
 unfoldable pub named : ℕ → ℕ → ℕ → ℕ → Row
@@ -151,10 +150,10 @@ named op1 crn crm op2 = lookUp table op1 crn crm op2
 
 -- what a level lacks: UNDEFINED at EL0. A9: at a higher level too in the manual, and Unimplemented here.
 abbrev pub refusal : ℕ → SysOp
-refusal level = pick (level == 0) Undefined Unimplemented
+refusal level = if level == 0 then Undefined else Unimplemented
 
 abbrev pub ruled : ℕ → Row → SysOp
-ruled level r = pick (leb r.lowest level) (operation r.name) (refusal level)
+ruled level r = if leb r.lowest level then operation r.name else refusal level
 
 unfoldable pub decodeOf : ℕ → ℕ → ℕ → ℕ → ℕ → SysOp
 decodeOf level op1 crn crm op2 = ruled level (named op1 crn crm op2)

@@ -1,10 +1,9 @@
 -- Laws of the table, and of what is decoded by it.
-use Rattle.std.specs.Prelude.{◌≡◌, Bool, true, false, not, ◌&&◌, ◌||◌, List, [], ◌∷◌, ◌⊎◌, ℕ, zero, suc, ◌/◌, ◌≤◌, ◌<◌, ◌==◌}
+use Rattle.std.specs.Prelude.{if◌then◌else◌, ◌≡◌, Bool, true, false, not, ◌&&◌, ◌||◌, List, [], ◌∷◌, ◌⊎◌, ℕ, zero, suc, ◌/◌, ◌≤◌, ◌<◌, ◌==◌}
 use Rattle.std.proofs.Math.Path.{refl}
 use Rattle.std.proofs.Common.{sym, ap, subst, ◌∙◌, inl, inr, arith, eqb-true, ne_eqb, le-leb, leb-true}
 use Rattle.std.proofs.lemmas.Bool.{false≢true, lt-leb}
 use Rattle.std.proofs.Math.Dec.{leb}
-use Rattle.word.specs.Bits.{pick}
 use Rattle.word.specs.BitLaws.{both}
 use Rattle.walk.specs.declared.regime.Regime.{Regime}
 use Rattle.walk.specs.declared.regime.Regime.TheVariants.{El1, El2, El3}
@@ -31,7 +30,7 @@ module _ (P : Row → Type 0) (p : Row → Bool) (op1 crn crm op2 : ℕ) (good :
   found [] e = other
   found (r ∷ rs) e = let k = both (p r) (every p rs) e in go (encodes r op1 crn crm op2) refl k.0 (found rs k.1)
     where
-      go : (b : Bool) → encodes r op1 crn crm op2 ≡ b → p r ≡ true → P (lookUp rs op1 crn crm op2) → P (pick b r (lookUp rs op1 crn crm op2))
+      go : (b : Bool) → encodes r op1 crn crm op2 ≡ b → p r ≡ true → P (lookUp rs op1 crn crm op2) → P (if b then r else lookUp rs op1 crn crm op2)
       go false n x y = y
       go true n x y =
           let k = both (op1 == r.op1) (crn == r.crn && (holds r.crm crm && holds r.op2 op2)) n in
@@ -83,7 +82,7 @@ module _ (level op1 crn crm op2 : ℕ) where
 by-rule : (P : SysOp → Type 0) (level : ℕ) (r : Row) → P (operation r.name) → P (refusal level) → P (ruled level r)
 by-rule P level r a b = go (leb r.lowest level)
   where
-    go : (t : Bool) → P (pick t (operation r.name) (refusal level))
+    go : (t : Bool) → P (if t then operation r.name else refusal level)
     go true = a
     go false = b
 
@@ -134,7 +133,7 @@ tlbi-fields level op1 crn crm op2 =
     never : Unimplemented ≡ Tlbi → TlbiFields op1 crn
     never e = absurd (false≢true (ap isTlbi e))
 
-    refused : (b : Bool) → pick b Undefined Unimplemented ≡ Tlbi → Unimplemented ≡ Tlbi
+    refused : (b : Bool) → (if b then Undefined else Unimplemented) ≡ Tlbi → Unimplemented ≡ Tlbi
     refused true e = absurd (false≢true (ap isTlbi e))
     refused false e = e
 
@@ -199,7 +198,7 @@ user-el1 level op1 crn crm op2 f e =
     (found (λ r. UserInEl1 (operation r.name)) (λ r. userFits (operation r.name)) op1 crn crm op2
     (λ r a b t. user-fits (operation r.name) t) tt table refl) (refused (level == 0)))
   where
-    refused : (b : Bool) → UserInEl1 (pick b Undefined Unimplemented)
+    refused : (b : Bool) → UserInEl1 (if b then Undefined else Unimplemented)
     refused true = tt
     refused false = tt
 

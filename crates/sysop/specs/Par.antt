@@ -1,7 +1,7 @@
 -- PAR_EL1 after an AT, its two formats by field name (DDI 0487, D17.2, from knowledge of ARMv8.0: the document itself
 -- was not at hand). A1, D1 and the like are rows of docs/DIFFERENCES.md.
-use Rattle.std.specs.Prelude.{Bool, true, false, not, ◌||◌, ℕ, ◌+◌, ◌*◌, ◌^◌, Option, Ok, Err}
-use Rattle.word.specs.Bits.{field, flag, pick}
+use Rattle.std.specs.Prelude.{if◌then◌else◌, Bool, true, false, not, ◌||◌, ℕ, ◌+◌, ◌*◌, ◌^◌, Option, Ok, Err}
+use Rattle.word.specs.Bits.{field, flag}
 use Rattle.sysreg.specs.declared.regs.Control.{Control}
 use Rattle.walk.specs.Regime.{bankOf, nonSecure, singlePriv, wxnOf}
 use Rattle.walk.specs.Descriptor.{attrIndx, ns, sh}
@@ -72,7 +72,7 @@ leafFound mair nonsecure leaf =
 
 -- a permission fault has status 0x0C plus the leaf's level
 unfoldable pub leafPar : ℕ → Bool → AtForm → Leaf → ℕ
-leafPar mair nonsecure f leaf = pick (permits f leaf) (leafFound mair nonsecure leaf) (abort (12 + leaf.level))
+leafPar mair nonsecure f leaf = if permits f leaf then leafFound mair nonsecure leaf else abort (12 + leaf.level)
 
 abbrev pub walkPar : ℕ → Bool → AtForm → Walked → ℕ
 walkPar mair nonsecure f (Ok leaf) = leafPar mair nonsecure f leaf
@@ -102,6 +102,6 @@ checked s f t = allowed (singlePriv f.regime) (not f.user) (wxnOf s) t.perms (ac
 
 unfoldable pub resultPar : Bank → AtForm → ℕ → Bool → Result → ℕ
 resultPar s f mair nonsecure (mapped t) =
-    pick (checked s f t) (success (mairAttr mair (attrIndx t.descriptor)) t.address (nonsecure || ns t.descriptor) (sh t.descriptor))
-    (abort (12 + t.level))
+    if checked s f t then success (mairAttr mair (attrIndx t.descriptor)) t.address (nonsecure || ns t.descriptor) (sh t.descriptor)
+    else abort (12 + t.level)
 resultPar s f mair nonsecure (faults x) = abort (statusOf x)

@@ -1,8 +1,8 @@
 -- Laws of PAR_EL1 after an AT.
-use Rattle.std.specs.Prelude.{◌≡◌, Bool, true, false, not, ◌&&◌, ◌||◌, ℕ, ◌+◌, ◌*◌, ◌/◌, ◌%◌, ◌^◌, ◌≤◌, ◌<◌, Option, Ok, Err}
+use Rattle.std.specs.Prelude.{if◌then◌else◌, ◌≡◌, Bool, true, false, not, ◌&&◌, ◌||◌, ℕ, ◌+◌, ◌*◌, ◌/◌, ◌%◌, ◌^◌, ◌≤◌, ◌<◌, Option, Ok, Err}
 use Rattle.std.proofs.Math.Path.{refl, ap}
 use Rattle.std.proofs.Common.{◌∙◌, arith}
-use Rattle.word.specs.Bits.{bitOn, bit0, field, pick}
+use Rattle.word.specs.Bits.{bitOn, bit0, field}
 use Rattle.sysreg.specs.declared.regs.Control.{Control}
 use Rattle.walk.specs.Regime.{bankOf, singlePriv, wxnOf, stage1On}
 use Rattle.walk.specs.Tag.{untagged}
@@ -49,7 +49,7 @@ unfolding leafPar
 walk-f mair n f (Err status) = abort-f status
 walk-f mair n f (Ok leaf) = go (permits f leaf)
   where
-    go : (b : Bool) → bit0 (pick b (leafFound mair n leaf) (abort (12 + leaf.level))) ≡ not b
+    go : (b : Bool) → bit0 (if b then leafFound mair n leaf else abort (12 + leaf.level)) ≡ not b
     go true = success-f (mairAttr mair (attrIndx leaf.desc)) leaf.oa (n || ns leaf.desc) (sh leaf.desc)
     go false = abort-f (12 + leaf.level)
 
@@ -63,7 +63,7 @@ by-stage P c mair f va memory on off = go (stage1On (bankOf c f.regime) f.regime
     nonsecure : Bool
     nonsecure = fromNonSecure (bankOf c f.regime) f.regime
 
-    go : (b : Bool) → P b (freshPar mair nonsecure f (pick b (Ended (atWalk c f va memory)) (Flat va)))
+    go : (b : Bool) → P b (freshPar mair nonsecure f (if b then Ended (atWalk c f va memory) else Flat va))
     go true = on nonsecure
     go false = off nonsecure
 
@@ -120,7 +120,7 @@ unfolding leafPar
 walk-small mair n f va (Err status) h = abort-small status (status-small status h)
 walk-small mair n f va (Ok leaf) h = go (permits f leaf)
   where
-    go : (b : Bool) → pick b (leafFound mair n leaf) (abort (12 + leaf.level)) < 2 ^ 64
+    go : (b : Bool) → (if b then leafFound mair n leaf else abort (12 + leaf.level)) < 2 ^ 64
     go true =
         success-small (mairAttr mair (attrIndx leaf.desc)) leaf.oa (n || ns leaf.desc) (sh leaf.desc) (omega arith) (omega arith)
     go false = let k = h.0.level-high in abort-small (12 + leaf.level) (omega arith)
@@ -158,6 +158,6 @@ module _ (s : Bank) (f : AtForm) where
       go : (x : Result) → walkPar mair n f (walkedOf (singlePriv f.regime) (wxnOf s) x) ≡ resultPar s f mair n x
       go (mapped t) =
           ap
-          (λ (b : Bool). pick b (leafFound mair n (leafOf (singlePriv f.regime) (wxnOf s) t)) (abort (12 + t.level)))
+          (λ (b : Bool). (if b then leafFound mair n (leafOf (singlePriv f.regime) (wxnOf s) t) else abort (12 + t.level)))
           (permits-checked t)
       go (faults x) = refl

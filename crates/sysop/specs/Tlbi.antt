@@ -1,8 +1,8 @@
 -- What each TLBI invalidates, by the manual's names: the TLB maintenance instructions of an A72 (DDI 0487, C5.5, from
 -- knowledge of ARMv8.0: the document itself was not at hand). CRn is 8. M3, M20 and the like are rows of
 -- docs/DIFFERENCES.md.
-use Rattle.std.specs.Prelude.{Bool, true, false, ◌&&◌, List, [], ◌∷◌, ◌++◌, ℕ, ◌==◌}
-use Rattle.word.specs.Bits.{field, pick}
+use Rattle.std.specs.Prelude.{if◌then◌else◌, Bool, true, false, ◌&&◌, List, [], ◌∷◌, ◌++◌, ℕ, ◌==◌}
+use Rattle.word.specs.Bits.{field}
 use Rattle.sysreg.specs.Regs.{controlAt}
 use Rattle.sysreg.specs.Tcr.{tg0, tg1, «as»}
 use Rattle.sysreg.specs.declared.regs.Control.{Control}
@@ -91,7 +91,7 @@ instructions = stage1 ++ byIpa
 abbrev pub instructionAt : List Encoding → ℕ → ℕ → ℕ → Instruction
 instructionAt [] op1 crm op2 = unallocated
 instructionAt (r ∷ rs) op1 crm op2 =
-    pick (op1 == r.op1 && (crm == r.crm && op2 == r.op2)) r.name (instructionAt rs op1 crm op2)
+    if op1 == r.op1 && (crm == r.crm && op2 == r.op2) then r.name else instructionAt rs op1 crm op2
 
 unfoldable pub scope_of : ℕ → ℕ → ℕ → Scope
 scope_of op1 crm op2 = scope (instructionAt instructions op1 crm op2)
@@ -107,13 +107,13 @@ pages4k tcr El3 = tg0 tcr == 0b00
 
 -- TCR_EL1.AS: an ASID has 16 bits, and not 8
 abbrev pub asidBits : Control → ℕ
-asidBits c = pick («as» (tcrOf c El1)) 16 8
+asidBits c = if «as» (tcrOf c El1) then 16 else 8
 
 -- More may be dropped than is named. An address that need not be of a 4 KiB page drops everything; one that is keeps
 -- all 64 bits of the operand. O13: of a narrow ASID the operand's upper eight bits are masked.
 unfoldable pub whatOf : Control → ℕ → Scope → Inval
 whatOf c x everything = All
-whatOf c x (ranged r) = pick (pages4k (tcrOf c r) r) (Page x) All
+whatOf c x (ranged r) = if pages4k (tcrOf c r) r then Page x else All
 whatOf c x asidForm = Asid (field x 48 (asidBits c))
 
 unfoldable pub tlbiOf : Control → ℕ → ℕ → ℕ → ℕ → Inval

@@ -1,7 +1,7 @@
 -- Laws of what a TLBI invalidates.
-use Rattle.std.specs.Prelude.{◌≡◌, refl, Bool, true, false, List, [], ◌∷◌, ℕ, ◌^◌, ◌<◌}
+use Rattle.std.specs.Prelude.{if◌then◌else◌, ◌≡◌, refl, Bool, true, false, List, [], ◌∷◌, ℕ, ◌^◌, ◌<◌}
 use Rattle.std.proofs.Common.{subst, arith}
-use Rattle.word.specs.Bits.{field, pick}
+use Rattle.word.specs.Bits.{field}
 use Rattle.sysreg.specs.Tcr.{«as»}
 use Rattle.sysreg.specs.declared.regs.Control.{Control}
 use Rattle.walk.specs.declared.regime.Regime.TheVariants.{El1}
@@ -20,12 +20,12 @@ unfolding whatOf
 within c x everything = tt
 within c x (ranged r) = go (pages4k (tcrOf c r) r)
   where
-    go : (b : Bool) → Within x (pick b (Page x) All)
+    go : (b : Bool) → Within x (if b then Page x else All)
     go true = refl
     go false = tt
 within c x asidForm = go («as» (tcrOf c El1))
   where
-    go : (b : Bool) → field x 48 (pick b 16 8) < 2 ^ 16
+    go : (b : Bool) → field x 48 (if b then 16 else 8) < 2 ^ 16
     go true = omega arith
     go false = omega arith
 

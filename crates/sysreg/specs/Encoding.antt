@@ -1,7 +1,6 @@
 -- How the manual encodes each register, and the register that an encoding names.
-use Rattle.std.specs.Prelude.{List, [], ◌∷◌, ◌++◌, ℕ, ◌+◌, ◌*◌, ◌%◌, ◌^◌, eqb, Some, Option, None}
+use Rattle.std.specs.Prelude.{if◌then◌else◌, List, [], ◌∷◌, ◌++◌, ℕ, ◌+◌, ◌*◌, ◌%◌, ◌^◌, eqb, Some, Option, None}
 use Rattle.std.specs.Int.Bits.{bit_or}
-use Rattle.word.specs.Bits.{pick}
 use Rattle.sysreg.specs.declared.{regs.El.El, regs.ControlReg.ControlReg, regs.SysReg.SysReg}
 use Rattle.sysreg.specs.declared.{regs.Register.Register}
 use Rattle.sysreg.specs.declared.regs.El.TheVariants.{El1, El2, El3}
@@ -84,7 +83,7 @@ oneLevel = InControl Ttbr1 ∷ InControl Hcr ∷ InControl Scr ∷ InSys Vpidr �
 -- the register of a list whose encoding is k
 abbrev pub find : List Register → ℕ → Option Register
 find [] k = None
-find (r ∷ rs) k = pick (eqb k (key_of r)) (Some r) (find rs k)
+find (r ∷ rs) k = if eqb k (key_of r) then Some r else find rs k
 
 -- a banked register; PAR_EL1 is none
 unfoldable pub bankedAt : ℕ → Option Register
@@ -92,4 +91,4 @@ bankedAt k = find (eachLevel ++ oneLevel) k
 
 -- any register kept
 unfoldable pub registerAt : ℕ → Option Register
-registerAt k = pick (eqb k (key_of (InSys Par))) (Some (InSys Par)) (bankedAt k)
+registerAt k = if eqb k (key_of (InSys Par)) then Some (InSys Par) else bankedAt k

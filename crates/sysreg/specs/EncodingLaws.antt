@@ -1,10 +1,9 @@
 -- Laws of encodings: each register has its own, and nothing else is named.
-use Rattle.std.specs.Prelude.{◌≡◌, refl, Bool, true, false, ◌&&◌, List, [], ◌∷◌, ◌++◌, ℕ, ◌+◌, ◌*◌, ◌^◌, ◌≤◌, ◌<◌, eqb, ltb, Some, None}
+use Rattle.std.specs.Prelude.{if◌then◌else◌, ◌≡◌, refl, Bool, true, false, ◌&&◌, List, [], ◌∷◌, ◌++◌, ℕ, ◌+◌, ◌*◌, ◌^◌, ◌≤◌, ◌<◌, eqb, ltb, Some, None}
 use Rattle.std.proofs.Common.{sym, ap, ◌∙◌, mod-eq_of_lt, arith, eqb-true, le-ltb}
 use Rattle.std.proofs.lemmas.Bool.{false≢true}
 use Rattle.std.specs.Int.Bits.{bit_or}
 use Rattle.std.proofs.lemmas.Nat.{or_shifted}
-use Rattle.word.specs.Bits.{pick}
 use Rattle.sysreg.specs.declared.{regs.El.El, regs.Register.Register}
 use Rattle.sysreg.specs.declared.regs.El.TheVariants.{El1, El2, El3}
 use Rattle.sysreg.specs.declared.regs.ControlReg.TheVariants.{Sctlr, Tcr, Ttbr0, Ttbr1, Scr, Hcr}
@@ -55,7 +54,7 @@ skip p [] m k a f = refl
 skip p (r ∷ rs) m k a f = go (eqb k (key_of r)) refl (p (key_of r)) refl a (λ b. skip p rs m k b f)
   where
     go : (b : Bool) → eqb k (key_of r) ≡ b → (q : Bool) → p (key_of r) ≡ q → (q && all p rs) ≡ true →
-        (all p rs ≡ true → find (rs ++ m) k ≡ find m k) → pick b (Some r) (find (rs ++ m) k) ≡ find m k
+        (all p rs ≡ true → find (rs ++ m) k ≡ find m k) → (if b then Some r else find (rs ++ m) k) ≡ find m k
     go true e true h a s = absurd (false≢true (sym f ∙ ap p (eqb-true k (key_of r) e) ∙ h))
     go true e false h a s = absurd (false≢true a)
     go false e true h a s = s a
@@ -71,7 +70,7 @@ found-key : (l : List Register) (k : ℕ) (r : Register) → find l k ≡ Some r
 found-key [] k r e = let z : ◌≡◌ {A = ℕ} 0 1 = cc in absurd (omega arith)
 found-key (q ∷ qs) k r e = go (eqb k (key_of q)) refl e (found-key qs k r)
   where
-    go : (b : Bool) → eqb k (key_of q) ≡ b → pick b (Some q) (find qs k) ≡ Some r → (find qs k ≡ Some r → k ≡ key_of r) → k ≡ key_of r
+    go : (b : Bool) → eqb k (key_of q) ≡ b → (if b then Some q else find qs k) ≡ Some r → (find qs k ≡ Some r → k ≡ key_of r) → k ≡ key_of r
     go true t e s = let h : q ≡ r = cc in eqb-true k (key_of q) t ∙ ap key_of h
     go false t e s = s e
 

@@ -1,6 +1,6 @@
 -- What of the registers shapes a translation, and the ASID of the EL1&0 regime.
-use Rattle.std.specs.Prelude.{Bool, true, false, not, ◌&&◌, ◌||◌, List, [], ◌∷◌, ℕ, eqb, Some, Option, None}
-use Rattle.word.specs.Bits.{field, pick}
+use Rattle.std.specs.Prelude.{if◌then◌else◌, Bool, true, false, not, ◌&&◌, ◌||◌, List, [], ◌∷◌, ℕ, eqb, Some, Option, None}
+use Rattle.word.specs.Bits.{field}
 use Rattle.sysreg.specs.declared.{regs.Control.Control, regs.ControlReg.ControlReg, regs.Register.Register}
 use Rattle.sysreg.specs.declared.regs.El.TheVariants.{El1, El2, El3}
 use Rattle.sysreg.specs.declared.regs.ControlReg.TheVariants.{Sctlr, Tcr, Ttbr0, Ttbr1, Scr, Hcr}
@@ -34,8 +34,8 @@ same_shape a b = agreeOn shape a b
 
 -- by TCR_EL1.A1, TTBR1_EL1 and not TTBR0_EL1 holds the ASID
 unfoldable pub asidBase : Control → ℕ
-asidBase c = pick (a1 (controlAt c (Tcr El1))) (controlAt c Ttbr1) (controlAt c (Ttbr0 El1))
+asidBase c = if a1 (controlAt c (Tcr El1)) then controlAt c Ttbr1 else controlAt c (Ttbr0 El1)
 
 -- by TCR_EL1.AS, the ASID is its bits 63:48, and not 55:48
 unfoldable pub asidOf : Control → ℕ
-asidOf c = field (asidBase c) 48 (pick («as» (controlAt c (Tcr El1))) 16 8)
+asidOf c = field (asidBase c) 48 (if «as» (controlAt c (Tcr El1)) then 16 else 8)

@@ -1,8 +1,8 @@
 -- Laws of the shape and of the ASID, for the cache and its history.
-use Rattle.std.specs.Prelude.{◌≡◌, refl, Bool, true, false, ◌||◌, List, [], ◌∷◌, ℕ, ◌^◌, ◌<◌, eqb, Some, Option, None, Err}
+use Rattle.std.specs.Prelude.{if◌then◌else◌, ◌≡◌, refl, Bool, true, false, ◌||◌, List, [], ◌∷◌, ℕ, ◌^◌, ◌<◌, eqb, Some, Option, None, Err}
 use Rattle.std.proofs.Common.{sym, arith, eqb-true, eq-eqb}
 use Rattle.std.proofs.lemmas.Bool.{false≢true, not-true}
-use Rattle.word.specs.Bits.{field, pick}
+use Rattle.word.specs.Bits.{field}
 use Rattle.word.specs.BitLaws.{both}
 use Rattle.sysreg.specs.declared.{regs.Control.Control, regs.SysRegs.SysRegs, regs.El.El}
 use Rattle.sysreg.specs.declared.{regs.ControlReg.ControlReg, regs.Register.Register}
@@ -82,7 +82,7 @@ pub asid-small : (c : Control) → asidOf c < 2 ^ 16
 unfolding asidOf
 asid-small c = go («as» (controlAt c (Tcr El1)))
   where
-    go : (b : Bool) → field (asidBase c) 48 (pick b 16 8) < 2 ^ 16
+    go : (b : Bool) → field (asidBase c) 48 (if b then 16 else 8) < 2 ^ 16
     go true = omega arith
     go false = omega arith
 
@@ -107,7 +107,7 @@ pub write-keeps-shape : (c : Control) (s : SysRegs) (level k v : ℕ) →
 unfolding writeReg
 write-keeps-shape c s level k v e = go (registerAt k) e
   where
-    end : (r : Register) (b : Bool) → outsideShape (Some r) ≡ true → same_shape c (pick b (ended c s (Err Undefined)) (wrote c s r v)).control ≡ true
+    end : (r : Register) (b : Bool) → outsideShape (Some r) ≡ true → same_shape c (if b then ended c s (Err Undefined) else wrote c s r v).control ≡ true
     end r true h = shape-self c
     end (InSys r) false h = shape-self c
     end (InControl r) false h = shape-kept c r v (not-true (member shape r) h)

@@ -1,6 +1,6 @@
 -- What a register write does. Letters with a number are rows of docs/DIFFERENCES.md.
-use Rattle.std.specs.Prelude.{Bool, true, false, List, [], ◌∷◌, ℕ, ◌+◌, ◌*◌, ◌%◌, ◌^◌, eqb, get_or, Option, Some, None, Result, Ok, Err}
-use Rattle.word.specs.Bits.{field, alignDown, pick}
+use Rattle.std.specs.Prelude.{if◌then◌else◌, Bool, true, false, List, [], ◌∷◌, ℕ, ◌+◌, ◌*◌, ◌%◌, ◌^◌, eqb, get_or, Option, Some, None, Result, Ok, Err}
+use Rattle.word.specs.Bits.{field, alignDown}
 use Rattle.sysreg.specs.declared.{regs.Control.Control, regs.SysRegs.SysRegs, regs.El.El}
 use Rattle.sysreg.specs.declared.{regs.ControlReg.ControlReg, regs.SysReg.SysReg, regs.Register.Register}
 use Rattle.sysreg.specs.declared.write.WriteError.{WriteError}
@@ -35,10 +35,10 @@ kept Par v = v
 
 -- What q holds after a write of v to r: where they are one register, what it keeps of v; else what it held.
 abbrev pub controlAfter : ControlReg → ℕ → ControlReg → ℕ → ℕ
-controlAfter r v q held = pick (eqb (controlKey q) (controlKey r)) v held
+controlAfter r v q held = if eqb (controlKey q) (controlKey r) then v else held
 
 abbrev pub sysAfter : SysReg → ℕ → SysReg → ℕ → ℕ
-sysAfter r v q held = pick (eqb (sysKey q) (sysKey r)) (kept q v) held
+sysAfter r v q held = if eqb (sysKey q) (sysKey r) then kept q v else held
 
 -- an array with f at each level, and at EL0's place what it held
 abbrev pub bank : (El → ℕ → ℕ) → List ℕ → List ℕ
@@ -94,7 +94,7 @@ wrote c s (InSys r) v = ended c (sysWith s r v) Done
 -- register's own level too. M7: at Non-secure EL1 HCR_EL2 could trap the write
 abbrev pub writeFound : Control → SysRegs → ℕ → Option Register → ℕ → Written
 writeFound c s level None v = ended c s (Err NoRegister)
-writeFound c s level (Some r) v = pick (eqb level 0) (ended c s (Err Undefined)) (wrote c s r v)
+writeFound c s level (Some r) v = if eqb level 0 then ended c s (Err Undefined) else wrote c s r v
 
 unfoldable pub writeReg : Control → SysRegs → ℕ → ℕ → ℕ → Written
 writeReg c s level k v = writeFound c s level (registerAt k) v
@@ -117,4 +117,4 @@ names None = false
 
 -- the table's rows for a register write, from top to bottom
 abbrev pub replyTo : ℕ → ℕ → Reply
-replyTo level k = pick (names (registerAt k)) (pick (eqb level 0) undefined done) (refusal 6)
+replyTo level k = if names (registerAt k) then if eqb level 0 then undefined else done else refusal 6

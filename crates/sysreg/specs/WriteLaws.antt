@@ -1,9 +1,8 @@
 -- Laws of register writes: a write changes the register that it names and no other.
-use Rattle.std.specs.Prelude.{◌≡◌, Bool, ℕ, eqb, Some, None, Err}
+use Rattle.std.specs.Prelude.{if◌then◌else◌, ◌≡◌, Bool, ℕ, eqb, Some, None, Err}
 use Rattle.std.proofs.Math.Path.{refl}
 use Rattle.std.proofs.Math.Bool.{true, false}
 use borrow.Author.Tests.{eq-eqb, ne_eqb}
-use Rattle.word.specs.Bits.{pick}
 use Rattle.sysreg.specs.declared.{regs.Control.Control, regs.SysRegs.SysRegs, regs.ControlReg.ControlReg}
 use Rattle.sysreg.specs.declared.{regs.SysReg.SysReg, regs.Register.Register}
 use Rattle.sysreg.specs.declared.regs.ControlReg.TheVariants.{Sctlr, Tcr, Ttbr0, Ttbr1, Scr, Hcr}
@@ -76,7 +75,7 @@ module _ (c : Control) (s : SysRegs) (level k v : ℕ) where
   unfolding writeReg
   write-control r e = rw e (go (eqb level 0))
     where
-      go : (b : Bool) → (pick b (ended c s (Err Undefined)) (wrote c s (InControl r) v)).sys ≡ s
+      go : (b : Bool) → (if b then ended c s (Err Undefined) else wrote c s (InControl r) v).sys ≡ s
       go true = refl
       go false = refl
 
@@ -84,6 +83,6 @@ module _ (c : Control) (s : SysRegs) (level k v : ℕ) where
   unfolding writeReg
   write-sys r e = rw e (go (eqb level 0))
     where
-      go : (b : Bool) → (pick b (ended c s (Err Undefined)) (wrote c s (InSys r) v)).control ≡ c
+      go : (b : Bool) → (if b then ended c s (Err Undefined) else wrote c s (InSys r) v).control ≡ c
       go true = refl
       go false = refl

@@ -1,7 +1,6 @@
 -- The counters of the four levels: what a hit and a walk at a level do to each, as the plain model tells it.
-use Rattle.std.specs.Prelude.{◌≡◌, ℕ, ◌≤◌, Bool, true, false, length, ◌==◌, refl}
+use Rattle.std.specs.Prelude.{if◌then◌else◌, ◌≡◌, ℕ, ◌≤◌, Bool, true, false, length, ◌==◌, refl}
 use Rattle.std.proofs.Common.{sym, ap, ◌∙◌, arith, eqb-true, length-set, ext_get_or}
-use Rattle.word.specs.Bits.{pick}
 use Rattle.tlb.specs.Count.{noTally, hitTaken, walkTaken, levelPlace, tallyAt, withTally, hitCounted, walkCounted}
 use Rattle.tlb.specs.Lists.{get_d_set}
 use Rattle.tlb.specs.Resolve.{countedBy}
@@ -31,22 +30,22 @@ module _ (k : Counts) (long : length k.levels ≡ 4) (level : ℕ) (low : level 
 
   -- the pair of the level changes, no other
   changed : (f : Tally → Tally) (l : ℕ)
-      → tallyAt (withTally k (levelPlace level) (f (tallyAt k (levelPlace level)))) l ≡ pick (l == level) (f (tallyAt k l)) (tallyAt k l)
+      → tallyAt (withTally k (levelPlace level) (f (tallyAt k (levelPlace level)))) l ≡ (if l == level then f (tallyAt k l) else tallyAt k l)
   changed f l = rw own (get_d_set k.levels level l (f (tallyAt k level)) noTally (rw long (omega arith)) ∙ go (l == level) refl)
     where
-      go : (b : Bool) → (l == level) ≡ b → pick b (f (tallyAt k level)) (tallyAt k l) ≡ pick b (f (tallyAt k l)) (tallyAt k l)
+      go : (b : Bool) → (l == level) ≡ b → (if b then f (tallyAt k level) else tallyAt k l) ≡ (if b then f (tallyAt k l) else tallyAt k l)
       go true e = ap (λ (i : ℕ). f (tallyAt k i)) (sym (eqb-true l level e))
       go false e = refl
 
-  hits-of : (b : Bool) (x y : Tally) → (pick b x y).hits ≡ pick b x.hits y.hits
+  hits-of : (b : Bool) (x y : Tally) → (if b then x else y).hits ≡ (if b then x.hits else y.hits)
   hits-of true x y = refl
   hits-of false x y = refl
 
-  walks-of : (b : Bool) (x y : Tally) → (pick b x y).walks ≡ pick b x.walks y.walks
+  walks-of : (b : Bool) (x y : Tally) → (if b then x else y).walks ≡ (if b then x.walks else y.walks)
   walks-of true x y = refl
   walks-of false x y = refl
 
-  same : (b : Bool) (n : ℕ) → pick b n n ≡ n
+  same : (b : Bool) (n : ℕ) → (if b then n else n) ≡ n
   same true n = refl
   same false n = refl
 

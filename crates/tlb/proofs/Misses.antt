@@ -1,9 +1,8 @@
 -- A translation that no hint serves, against the plain model.
-use Rattle.std.specs.Prelude.{◌≡◌, ℕ, ◌*◌, ◌/◌, ◌≤◌, Bool, true, false, Ok, Err}
+use Rattle.std.specs.Prelude.{if◌then◌else◌, ◌≡◌, ℕ, ◌*◌, ◌/◌, ◌≤◌, Bool, true, false, Ok, Err}
 use Rattle.std.proofs.Math.Path.{refl, ap}
 use Rattle.std.proofs.Common.{◌∙◌, arith}
 use Rattle.std.proofs.lemmas.List.{set-get_or}
-use Rattle.word.specs.Bits.{pick}
 use Rattle.walk.specs.declared.level.Leaf.{Leaf}
 use Rattle.tlb.specs.Entry.{blank, serves}
 use Rattle.tlb.specs.Count.{hitCounted, walkCounted}
@@ -133,7 +132,7 @@ module _ (a : Access) (t : Tlb) (s : WellFormed t) (fits : LeafLevel a.walk) (lo
   resolved = resolveWith a.walk query a.privilege t.cache.current entry a.va a.kind
 
   look-follows : (b : Bool) → serves entry t.cache.current query.tag ≡ b
-      → Follows resolved.answer (withEntry t level (slotFor a) resolved) (looked (pick b (holds (lineIn a.regime entry)) empty) a (live t))
+      → Follows resolved.answer (withEntry t level (slotFor a) resolved) (looked (if b then holds (lineIn a.regime entry) else empty) a (live t))
   unfolding resolveWith looked
   look-follows true q =
       rw q (record {

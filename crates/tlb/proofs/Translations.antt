@@ -1,9 +1,8 @@
 -- A translation gives the plain model's answer, does to it what the requirement says, and keeps the cache well-formed.
-use Rattle.std.specs.Prelude.{◌≡◌, ℕ, ◌/◌, ◌%◌, ◌<◌, ◌≤◌, Bool, true, false, ◌&&◌, ◌==◌, slice_index_or, slice_set}
+use Rattle.std.specs.Prelude.{if◌then◌else◌, ◌≡◌, ℕ, ◌/◌, ◌%◌, ◌<◌, ◌≤◌, Bool, true, false, ◌&&◌, ◌==◌, slice_index_or, slice_set}
 use Rattle.std.proofs.Math.Path.{refl, sym, ap, subst}
 use Rattle.std.proofs.Common.{◌∙◌, arith, length-set}
 use Rattle.std.proofs.lemmas.List.{set-get_or}
-use Rattle.word.specs.Bits.{pick}
 use Rattle.tlb.specs.Hint.{noHint, place_of, dataSlot, hintKey, hintFor, fetchServes, fetchFor, onPage}
 use Rattle.tlb.specs.Lists.{each-getD, each_set, get_d_set}
 use Rattle.tlb.specs.Cache.{entry_at, hintAt, setEntry, setHint, setFetch}
@@ -101,16 +100,16 @@ module _ (a : Access) (t : Tlb) (x : Answer) (e : Entry) (k : Counts) (o : Outco
           pending = (live t).pending;
         }
       where
-        pushed : (b : Bool) (x y : Hint) → hintOf (pick b x y) ≡ pick b (hintOf x) (hintOf y)
+        pushed : (b : Bool) (x y : Hint) → hintOf (if b then x else y) ≡ (if b then hintOf x else hintOf y)
         pushed true x y = refl
         pushed false x y = refl
 
         at : (i : ℕ) → hintOf (slice_index_or (slice_set t.cache.hints (placeFor a) (hintFor a.va a.privilege.level pa)) i noHint)
-            ≡ pick (i == placeFor a) (holds (known_of a pa)) (hintOf (slice_index_or t.cache.hints i noHint))
+            ≡ (if i == placeFor a then holds (known_of a pa) else hintOf (slice_index_or t.cache.hints i noHint))
         at i =
             ap hintOf (get_d_set t.cache.hints (placeFor a) i (hintFor a.va a.privilege.level pa) noHint (rw s.cache.places place))
             ∙ pushed (i == placeFor a) _ _
-            ∙ ap (λ (l : Slot Known). pick (i == placeFor a) l (hintOf (slice_index_or t.cache.hints i noHint)))
+            ∙ ap (λ (l : Slot Known). (if i == placeFor a then l else hintOf (slice_index_or t.cache.hints i noHint)))
             (hint-made a.va a.privilege.level pa low)
 
     noted-follows : Follows x (put (hintAfter true a.privilege.level a.va x (hintAt t.cache (placeFor a)))) (noted a o)
@@ -164,8 +163,8 @@ module _ (a : Access) (t : Tlb) (s : WellFormed t) (fits : LeafLevel a.walk) (lo
       })
 
   by-hint : mayHint a.privilege a.kind ≡ true → (b : Bool)
-      → Follows (pick b afterHint (afterMiss true)).answer (withTranslation t (placeFor a) (slotFor a) (pick b afterHint (afterMiss true)))
-      (tried (pick b (holds (hint.pa / 4096)) empty) a (live t))
+      → Follows (if b then afterHint else afterMiss true).answer (withTranslation t (placeFor a) (slotFor a) (if b then afterHint else afterMiss true))
+      (tried (if b then holds (hint.pa / 4096) else empty) a (live t))
   unfolding tried applied
   by-hint may true = fast-follows
   by-hint may false =
@@ -173,8 +172,8 @@ module _ (a : Access) (t : Tlb) (s : WellFormed t) (fits : LeafLevel a.walk) (lo
       (place-low a.privilege a.kind a.va may) low
 
   by-mark : (m : Bool) → mayHint a.privilege a.kind ≡ m
-      → Follows (pick (m && hint.key == hintKey a.va a.privilege.level) afterHint (afterMiss m)).answer
-      (withTranslation t (placeFor a) (slotFor a) (pick (m && hint.key == hintKey a.va a.privilege.level) afterHint (afterMiss m)))
+      → Follows (if m && hint.key == hintKey a.va a.privilege.level then afterHint else afterMiss m).answer
+      (withTranslation t (placeFor a) (slotFor a) (if m && hint.key == hintKey a.va a.privilege.level then afterHint else afterMiss m))
       (hinted m a (live t))
   unfolding applied hinted hintsOf
   by-mark true q = rw (place_is a.kind a.va, known_is hint a.va a.privilege.level low)
@@ -244,7 +243,7 @@ module _ (a : Access) (t : Tlb) (s : WellFormed t) (fits : LeafLevel a.walk) (lo
       rw (e, oe) (record { answer = refl; after = fetch-miss.after; well = fetch-miss.well })
 
   by-fetch : (b : Bool) → fetchServes now a.privilege.level a.va ≡ b
-      → Follows (fetchIn a t).answer (fetchedIn a t) (fetched (pick b (holds (now.pa / 4096)) empty) a (live t))
+      → Follows (fetchIn a t).answer (fetchedIn a t) (fetched (if b then holds (now.pa / 4096) else empty) a (live t))
   unfolding fetchWith fetchEnd fetched
   by-fetch true q =
       rw q (record {

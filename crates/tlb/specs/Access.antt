@@ -1,6 +1,5 @@
 -- An access: what it wants, who makes it, what it needs, and its answer.
-use Rattle.std.specs.Prelude.{ℕ, ◌+◌, ◌*◌, ◌/◌, ◌%◌, ◌^◌, Bool, true, false, not, ◌&&◌, ◌||◌, ◌==◌, bit_or}
-use Rattle.word.specs.Bits.{pick}
+use Rattle.std.specs.Prelude.{if◌then◌else◌, ℕ, ◌+◌, ◌*◌, ◌/◌, ◌%◌, ◌^◌, Bool, true, false, not, ◌&&◌, ◌||◌, ◌==◌, bit_or}
 use Rattle.fault.specs.First.{first}
 use Rattle.walk.specs.declared.regime.Regime.{Regime}
 use Rattle.walk.specs.declared.regime.Regime.TheVariants.{El1, El2, El3}
@@ -59,4 +58,4 @@ hasRight perms right = perms / 2 ^ right % 2 == 1
 
 -- the entry's page with the low bits of the address, or a permission fault of its level
 unfoldable pub judged : Entry → Bool → Kind → ℕ → Answer
-judged e user kind va = pick (hasRight e.perms (rightOf kind user)) (Address (onPage e.pa va)) (Status (first (bit_or 12 e.level)))
+judged e user kind va = if hasRight e.perms (rightOf kind user) then Address (onPage e.pa va) else Status (first (bit_or 12 e.level))

@@ -1,6 +1,5 @@
 -- What each operation does to the entries, the hints, the generation and the ASID in force.
-use Rattle.std.specs.Prelude.{ℕ, ◌+◌, ◌%◌, ◌^◌, List, map, replicate, ◌==◌, slice_index_or, slice_set}
-use Rattle.word.specs.Bits.{pick}
+use Rattle.std.specs.Prelude.{if◌then◌else◌, ℕ, ◌+◌, ◌%◌, ◌^◌, List, map, replicate, ◌==◌, slice_index_or, slice_set}
 use Rattle.tlb.specs.Entry.{blank, pageDropped, asidDropped}
 use Rattle.tlb.specs.Hint.{noHint, noFetch}
 use Rattle.tlb.specs.declared.{entry.Entry.Entry, entry.Current.Current, hint.Hint.Hint, hint.FetchHint.FetchHint}
@@ -45,9 +44,8 @@ nextGeneration g = (g + 1) % 2 ^ 32
 -- all out: the next generation; where it wraps, the entries are cleared and it is 1
 unfoldable pub flushed : Cache → Cache
 flushed c =
-    pick (nextGeneration c.current.generation == 0)
-    (hintless (record { generation = 1; asid = c.current.asid }) blanks)
-    (hintless (record { generation = nextGeneration c.current.generation; asid = c.current.asid }) c.entries)
+    if nextGeneration c.current.generation == 0 then hintless (record { generation = 1; asid = c.current.asid }) blanks
+    else hintless (record { generation = nextGeneration c.current.generation; asid = c.current.asid }) c.entries
 
 unfoldable pub withoutPage : Cache → ℕ → Cache
 withoutPage c page = hintless c.current (map (pageDropped c.current.generation page) c.entries)

@@ -1,11 +1,10 @@
 -- One entry and one hint against the line and the hint that they stand for.
-use Rattle.std.specs.Prelude.{◌≡◌, ℕ, zero, suc, ◌+◌, ◌*◌, ◌/◌, ◌%◌, ◌^◌, ◌<◌, ◌≤◌, Bool, true, false, not, ◌&&◌, ◌||◌, ◌==◌, ◌≢◌, bit_or, nat_eq, nat_le, refl}
+use Rattle.std.specs.Prelude.{if◌then◌else◌, ◌≡◌, ℕ, zero, suc, ◌+◌, ◌*◌, ◌/◌, ◌%◌, ◌^◌, ◌<◌, ◌≤◌, Bool, true, false, not, ◌&&◌, ◌||◌, ◌==◌, ◌≢◌, bit_or, nat_eq, nat_le, refl}
 use Rattle.std.proofs.Common.{sym, ap, ap₂, ◌∙◌, div-add-mod', mod-eq_of_lt, arith}
 use Rattle.std.proofs.Math.Nat.{mul-add-div_right, mul-add-mod_self_right, div-eq_of_lt}
 use borrow.Author.Tests.{eq-eqb, ne_eqb, eqb-true, eqb-false, leb-false, le-leb}
 use Rattle.std.proofs.Math.Dec.{eqb-suc-zero}
 use Rattle.std.proofs.lemmas.Nat.{or_shifted}
-use Rattle.word.specs.Bits.{pick}
 use Rattle.fault.specs.First.{first}
 use Rattle.walk.specs.declared.regime.Regime.{Regime}
 use Rattle.walk.specs.declared.regime.Regime.TheVariants.{El1, El2, El3}
@@ -61,8 +60,8 @@ reach-is false n a = refl
 
 module _ (a p : ℕ) (e : Entry) where
   in-regime : (r s : Regime) (x : Bool)
-      → pick ((x && sameRegime s r) && reaches (reachOf e.global e.asid) a) (holds (lineIn s e)) empty
-      ≡ pick ((x && regimeNumber s == regimeNumber r) && (e.global || e.asid == a)) (holds (lineIn r e)) empty
+      → if (x && sameRegime s r) && reaches (reachOf e.global e.asid) a then holds (lineIn s e) else empty
+      ≡ (if (x && regimeNumber s == regimeNumber r) && (e.global || e.asid == a) then holds (lineIn r e) else empty)
   in-regime El1 El1 x = rw reach-is
   in-regime El1 El2 x = rw and-false
   in-regime El1 El3 x = rw and-false
@@ -80,7 +79,7 @@ module _ (a p : ℕ) (e : Entry) where
 
   by-tag : (r : Regime) (n : ℕ) → e.tag % 4 ≡ n
       → serving a r p (tagged n e)
-      ≡ pick ((e.tag / 4 == p && n == regimeNumber r) && (e.global || e.asid == a)) (holds (lineIn r e)) empty
+      ≡ (if (e.tag / 4 == p && n == regimeNumber r) && (e.global || e.asid == a) then holds (lineIn r e) else empty)
   by-tag r zero q = rw no-regime
   by-tag r (suc zero) q = in-regime r El1 (e.tag / 4 == p)
   by-tag r (suc (suc zero)) q = in-regime r El2 (e.tag / 4 == p)
@@ -90,16 +89,14 @@ module _ (a p : ℕ) (e : Entry) where
 -- an entry serves a tag just where its line serves the page and the regime
 pub found : (at : Current) (r : Regime) (p : ℕ) (e : Entry)
     → serving at.asid r p (line_of at.generation e)
-    ≡ pick (serves e at (p * 4 + regimeNumber r)) (holds (lineIn r e)) empty
+    ≡ (if serves e at (p * 4 + regimeNumber r) then holds (lineIn r e) else empty)
 unfolding line_of
 found at r p e = rw (both-parts 4 e.tag p (regimeNumber r) (omega arith) (regime-low r)) (go (e.generation == at.generation) refl)
   where
     go : (b : Bool) → (e.generation == at.generation) ≡ b
-        → serving at.asid r p (pick (e.generation == at.generation) (tagged (e.tag % 4) e) empty)
-        ≡ pick
-        (((e.tag / 4 == p && e.tag % 4 == regimeNumber r) && e.generation == at.generation)
-        && (e.global || e.asid == at.asid))
-        (holds (lineIn r e)) empty
+        → serving at.asid r p (if e.generation == at.generation then tagged (e.tag % 4) e else empty)
+        ≡ (if ((e.tag / 4 == p && e.tag % 4 == regimeNumber r) && e.generation == at.generation) && (e.global || e.asid == at.asid) then holds (lineIn r e)
+          else empty)
     go true f = rw (f, and-true) (by-tag at.asid p e r (e.tag % 4) refl)
     go false f = rw (f, and-false)
 
@@ -153,7 +150,7 @@ judged-is g r e a m =
     let has : hasRight e.perms (rightOf a.kind (userOf a.regime a.privilege a.kind)) ≡ nat_eq (e.perms / needIn a % 2) 1 =
     ap (λ (u : Bool). hasRight e.perms (rightOf a.kind u)) (user-is a.regime a.privilege.level a.privilege.unprivileged a.kind)
     ∙ right_is a.kind _ e.perms in
-    λ i. pick (has i) (Address (on-aligned e.pa a.va m.aligned i)) (Status (first (or-level e.level m.level i)))
+    λ i. if has i then Address (on-aligned e.pa a.va m.aligned i) else Status (first (or-level e.level m.level i))
 
 -- DROPS
 
@@ -163,27 +160,27 @@ span-is (suc zero) = refl
 span-is (suc (suc zero)) = refl
 span-is (suc (suc (suc n))) = rw (ne_eqb (suc (suc (suc n))) 1 (λ q. omega arith), ne_eqb (suc (suc (suc n))) 2 (λ q. omega arith))
 
-pub same-pick : {A : Type 0} (b : Bool) (x : A) → pick b x x ≡ x
+pub same-pick : {A : Type 0} (b : Bool) (x : A) → (if b then x else x) ≡ x
 same-pick true x = refl
 same-pick false x = refl
 
 -- what drops an entry just where it covers its line drops the line
 module _ (what : Inval) (e : Entry) (d : Bool) (q : (r : Regime) → covers what (lineIn r e) ≡ d) where
-  dropped : (r : Regime) → uncovered what (holds (lineIn r e)) ≡ pick d empty (holds (lineIn r e))
-  dropped r = ap (λ (b : Bool). pick b empty (holds (lineIn r e))) (q r)
+  dropped : (r : Regime) → uncovered what (holds (lineIn r e)) ≡ (if d then empty else holds (lineIn r e))
+  dropped r = ap (λ (b : Bool). (if b then empty else holds (lineIn r e))) (q r)
 
-  tag-drops : (n : ℕ) → uncovered what (tagged n e) ≡ pick d empty (tagged n e)
+  tag-drops : (n : ℕ) → uncovered what (tagged n e) ≡ (if d then empty else tagged n e)
   tag-drops zero = sym (same-pick d empty)
   tag-drops (suc zero) = dropped El1
   tag-drops (suc (suc zero)) = dropped El2
   tag-drops (suc (suc (suc n))) = dropped El3
 
-  drops : (g : ℕ) → e.generation ≡ g → line_of g (pick d (untagged e) e) ≡ uncovered what (line_of g e)
+  drops : (g : ℕ) → e.generation ≡ g → line_of g (if d then untagged e else e) ≡ uncovered what (line_of g e)
   unfolding line_of
   drops g f = rw (eq-eqb _ _ f) (go d refl)
     where
       go : (b : Bool) → d ≡ b
-          → pick ((pick d (untagged e) e).generation == g) (tagged ((pick d (untagged e) e).tag % 4) (pick d (untagged e) e)) empty
+          → if (if d then untagged e else e).generation == g then tagged ((if d then untagged e else e).tag % 4) (if d then untagged e else e) else empty
           ≡ uncovered what (tagged (e.tag % 4) e)
       go true w = rw (w, eq-eqb _ _ f) (sym (tag-drops (e.tag % 4) ∙ rw w))
       go false w = rw (w, eq-eqb _ _ f) (sym (tag-drops (e.tag % 4) ∙ rw w))
@@ -212,7 +209,7 @@ asid-drops g asid e = go (e.generation == g) refl
     own true = refl
     own false = refl
 
-    stale : (b : Bool) → (e.generation ≢ g) → line_of g (pick b (untagged e) e) ≡ empty
+    stale : (b : Bool) → (e.generation ≢ g) → line_of g (if b then untagged e else e) ≡ empty
     stale true ne = none_before g (untagged e) ne
     stale false ne = none_before g e ne
 
@@ -231,14 +228,14 @@ flush-drops g e h = none_before (g + 1) e (λ q. omega arith)
 -- HINTS
 
 pub known_is : (h : Hint) (va level : ℕ) → level ≤ 3
-    → knowing (va / 4096) level (hintOf h) ≡ pick (h.key == hintKey va level) (holds (h.pa / 4096)) empty
+    → knowing (va / 4096) level (hintOf h) ≡ (if h.key == hintKey va level then holds (h.pa / 4096) else empty)
 unfolding hintOf
 known_is h va level low = rw (both-parts 4096 h.key (va / 4096) level (omega arith) (omega arith)) (go (nat_le (h.key % 4096) 3) refl)
   where
     go : (b : Bool) → nat_le (h.key % 4096) 3 ≡ b
         → knowing (va / 4096) level
-        (pick (nat_le (h.key % 4096) 3) (holds (record { page = h.key / 4096; level = h.key % 4096; frame = h.pa / 4096 })) empty)
-        ≡ pick (h.key / 4096 == va / 4096 && h.key % 4096 == level) (holds (h.pa / 4096)) empty
+        (if nat_le (h.key % 4096) 3 then holds (record { page = h.key / 4096; level = h.key % 4096; frame = h.pa / 4096 }) else empty)
+        ≡ (if h.key / 4096 == va / 4096 && h.key % 4096 == level then holds (h.pa / 4096) else empty)
     go true f = rw f
     go false f =
         let big : 3 < h.key % 4096 = leb-false _ _ f in
@@ -254,7 +251,7 @@ hint-made va level pa low =
     rw (l, p, f, le-leb level 3 low)
 
 pub fetch-known-is : (f : FetchHint) (va level : ℕ) → f.page % 4096 ≡ 0
-    → knowing (va / 4096) level (fetchHintOf f) ≡ pick (fetchServes f level va) (holds (f.pa / 4096)) empty
+    → knowing (va / 4096) level (fetchHintOf f) ≡ (if fetchServes f level va then holds (f.pa / 4096) else empty)
 unfolding fetchHintOf
 fetch-known-is f va level q = go f.some refl
   where
@@ -264,7 +261,7 @@ fetch-known-is f va level q = go f.some refl
         rw (z, q, and-true) at (both-parts 4096 f.page (va / 4096) 0 (omega arith) (omega arith))
 
     go : (b : Bool) → f.some ≡ b
-        → knowing (va / 4096) level (fetchHintOf f) ≡ pick (fetchServes f level va) (holds (f.pa / 4096)) empty
+        → knowing (va / 4096) level (fetchHintOf f) ≡ (if fetchServes f level va then holds (f.pa / 4096) else empty)
     go true w = rw (w, page-is)
     go false w = rw w
 

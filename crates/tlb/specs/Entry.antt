@@ -1,6 +1,5 @@
 -- One entry as the code keeps it: by a tag and a generation.
-use Rattle.std.specs.Prelude.{ℕ, ◌/◌, ◌%◌, ◌^◌, Bool, false, not, ◌&&◌, ◌||◌, ◌==◌}
-use Rattle.word.specs.Bits.{pick}
+use Rattle.std.specs.Prelude.{if◌then◌else◌, ℕ, ◌/◌, ◌%◌, ◌^◌, Bool, false, not, ◌&&◌, ◌||◌, ◌==◌}
 use Rattle.tlb.specs.declared.{entry.Entry.Entry, entry.Current.Current}
 
 -- an entry that answers for no tag
@@ -26,7 +25,7 @@ untagged e =
 
 -- how many low bits of a page number a leaf of the level spans
 abbrev pub span_of : ℕ → ℕ
-span_of level = pick (level == 1) 18 (pick (level == 2) 9 0)
+span_of level = if level == 1 then 18 else if level == 2 then 9 else 0
 
 -- two pages agree in their low 44 bits above those that a leaf of the level spans
 abbrev pub samePage : ℕ → ℕ → ℕ → Bool
@@ -37,11 +36,11 @@ abbrev pub named : ℕ → ℕ → Entry → Bool
 named g page e = e.generation == g && samePage e.level (e.tag / 4) page
 
 unfoldable pub pageDropped : ℕ → ℕ → Entry → Entry
-pageDropped g page e = pick (named g page e) (untagged e) e
+pageDropped g page e = if named g page e then untagged e else e
 
 -- an Asid drops it, of whatever generation it is
 abbrev pub walkedFor : ℕ → Entry → Bool
 walkedFor n e = not e.global && e.asid == n
 
 unfoldable pub asidDropped : ℕ → Entry → Entry
-asidDropped n e = pick (walkedFor n e) (untagged e) e
+asidDropped n e = if walkedFor n e then untagged e else e

@@ -1,6 +1,5 @@
 -- Hints as the code keeps them: by a key that holds the raw page and the level.
-use Rattle.std.specs.Prelude.{ℕ, ◌+◌, ◌-◌, ◌*◌, ◌/◌, ◌%◌, ◌^◌, Bool, true, false, ◌&&◌, ◌==◌, Option, Some, None, bit_or, bit_xor}
-use Rattle.word.specs.Bits.{pick}
+use Rattle.std.specs.Prelude.{if◌then◌else◌, ℕ, ◌+◌, ◌-◌, ◌*◌, ◌/◌, ◌%◌, ◌^◌, Bool, true, false, ◌&&◌, ◌==◌, Option, Some, None, bit_or, bit_xor}
 use Rattle.tlb.specs.declared.{access.Kind.Kind, hint.Hint.Hint, hint.FetchHint.FetchHint}
 use Rattle.tlb.specs.declared.access.Kind.TheVariants.{Read, Write, Fetch}
 
@@ -45,4 +44,4 @@ abbrev pub fetchServes : FetchHint → ℕ → ℕ → Bool
 fetchServes f level va = (f.some && f.page == page_of va) && f.level == level
 
 abbrev pub fetchFound : FetchHint → ℕ → ℕ → Option ℕ
-fetchFound f level va = pick (fetchServes f level va) (Some (onPage f.pa va)) None
+fetchFound f level va = if fetchServes f level va then Some (onPage f.pa va) else None

@@ -1,8 +1,7 @@
 -- Lists that stand for arrays: what holds of each element, an element after a store, a loop that maps every element. No list is unfolded.
-use Rattle.std.specs.Prelude.{◌≡◌, ℕ, zero, suc, ◌+◌, ◌<◌, ◌≤◌, Bool, true, false, List, [], ◌∷◌, ◌++◌, map, length, take, drop, replicate, ◌==◌, slice_index_or, slice_set, refl}
+use Rattle.std.specs.Prelude.{if◌then◌else◌, ◌≡◌, ℕ, zero, suc, ◌+◌, ◌<◌, ◌≤◌, Bool, true, false, List, [], ◌∷◌, ◌++◌, map, length, take, drop, replicate, ◌==◌, slice_index_or, slice_set, refl}
 use Rattle.std.proofs.Common.{ap, add-one, not-suc-le-zero, le_of_suc-le-suc, eqb-true, get_or-set_same, get_or-set_other}
 use Rattle.std.proofs.lemmas.Bool.{eqb-false}
-use Rattle.word.specs.Bits.{pick}
 
 pub data Each {A : Type 0} (P : A → Type 0) : List A → Type 0 where
   done : Each P []
@@ -44,10 +43,10 @@ module _ {A : Type 0} where
   replicate-at x (suc n) (suc i) = replicate-at x n i
 
   -- the element at n after a store at j
-  pub get_d_set : (l : List A) (j n : ℕ) (x d : A) → j < length l → slice_index_or (slice_set l j x) n d ≡ pick (n == j) x (slice_index_or l n d)
+  pub get_d_set : (l : List A) (j n : ℕ) (x d : A) → j < length l → slice_index_or (slice_set l j x) n d ≡ (if n == j then x else slice_index_or l n d)
   get_d_set l j n x d h = go (n == j) refl
     where
-      go : (b : Bool) → (n == j) ≡ b → slice_index_or (slice_set l j x) n d ≡ pick (n == j) x (slice_index_or l n d)
+      go : (b : Bool) → (n == j) ≡ b → slice_index_or (slice_set l j x) n d ≡ (if n == j then x else slice_index_or l n d)
       go true e = rw (e, eqb-true n j e) (get_or-set_same l j x d h)
       go false e = rw e (get_or-set_other l j n x d (eqb-false n j e))
 

@@ -1,6 +1,5 @@
 -- The plain model that a cache stands for, and the caches that the operations make and keep.
-use Rattle.std.specs.Prelude.{◌≡◌, ℕ, zero, suc, ◌/◌, ◌%◌, ◌^◌, ◌<◌, ◌≤◌, List, length, ◌==◌, nat_le, Option, Some, None, slice_index_or, Ok}
-use Rattle.word.specs.Bits.{pick}
+use Rattle.std.specs.Prelude.{if◌then◌else◌, ◌≡◌, ℕ, zero, suc, ◌/◌, ◌%◌, ◌^◌, ◌<◌, ◌≤◌, List, length, ◌==◌, nat_le, Option, Some, None, slice_index_or, Ok}
 use Rattle.walk.specs.declared.{regime.Regime.Regime, level.Leaf.Leaf}
 use Rattle.walk.specs.declared.regime.Regime.TheVariants.{El1, El2, El3}
 use Rattle.tlb.specs.Entry.{blank}
@@ -33,14 +32,14 @@ tagged (suc (suc (suc n))) e = holds (lineIn El3 e)
 
 -- an entry of another generation is no line
 unfoldable pub line_of : ℕ → Entry → Slot Line
-line_of g e = pick (e.generation == g) (tagged (e.tag % 4) e) empty
+line_of g e = if e.generation == g then tagged (e.tag % 4) e else empty
 
 -- the low twelve bits of a key are the level; no access has a level above 3
 unfoldable pub hintOf : Hint → Slot Known
-hintOf h = pick (nat_le (h.key % 4096) 3) (holds (record { page = h.key / 4096; level = h.key % 4096; frame = h.pa / 4096 })) empty
+hintOf h = if nat_le (h.key % 4096) 3 then holds (record { page = h.key / 4096; level = h.key % 4096; frame = h.pa / 4096 }) else empty
 
 unfoldable pub fetchHintOf : FetchHint → Slot Known
-fetchHintOf f = pick f.some (holds (record { page = f.page / 4096; level = f.level; frame = f.pa / 4096 })) empty
+fetchHintOf f = if f.some then holds (record { page = f.page / 4096; level = f.level; frame = f.pa / 4096 }) else empty
 
 abbrev pub pendingOf : Option Inval → Slot Inval
 pendingOf None = empty

@@ -1,8 +1,7 @@
 -- The cache as the requirement tells it: slots that hold at most one line, places that hold at most one hint, the counters, and what is
 -- pending. No generations, no tags, no keys. It shares no function with the code's definitions that it judges: only the types of what goes in
 -- and out, and how a fault is made.
-use Rattle.std.specs.Prelude.{ℕ, zero, suc, ◌+◌, ◌-◌, ◌*◌, ◌/◌, ◌%◌, ◌^◌, Bool, true, false, not, ◌&&◌, ◌==◌, bit_xor, Ok, Err}
-use Rattle.word.specs.Bits.{pick}
+use Rattle.std.specs.Prelude.{if◌then◌else◌, ℕ, zero, suc, ◌+◌, ◌-◌, ◌*◌, ◌/◌, ◌%◌, ◌^◌, Bool, true, false, not, ◌&&◌, ◌==◌, bit_xor, Ok, Err}
 use Rattle.fault.specs.First.{first}
 use Rattle.walk.specs.declared.{regime.Regime.Regime, level.Leaf.Leaf}
 use Rattle.walk.specs.declared.regime.Regime.TheVariants.{El1, El2, El3}
@@ -72,7 +71,7 @@ up n = (n + 1) % 2 ^ 64
 
 -- of one level
 abbrev pub upAt : ℕ → (ℕ → ℕ) → ℕ → ℕ
-upAt level f l = pick (l == level) (up (f l)) (f l)
+upAt level f l = if l == level then up (f l) else f l
 
 abbrev pub oneHit : ℕ → Counters → Counters
 oneHit level k = record { hits = upAt level k.hits; walks = k.walks; flushes = k.flushes; drops = k.drops; epoch = k.epoch }
@@ -115,7 +114,7 @@ covers (Asid a) l = belongsTo l.reach a
 
 abbrev pub uncovered : Inval → Slot Line → Slot Line
 uncovered what empty = empty
-uncovered what (holds l) = pick (covers what l) empty (holds l)
+uncovered what (holds l) = if covers what l then empty else holds l
 
 -- All counts as a flush, a Page as a drop, whether it matched or not; each moves the epoch, an Asid nothing else
 abbrev pub invalCounted : Inval → Counters → Counters
@@ -162,7 +161,7 @@ equal (Asid a) (Asid b) = a == b
 -- a second broadcast that differs from the pending one becomes All; an equal one stays
 abbrev pub joined : Slot Inval → Inval → Slot Inval
 joined empty what = holds what
-joined (holds earlier) what = holds (pick (equal earlier what) earlier All)
+joined (holds earlier) what = holds (if equal earlier what then earlier else All)
 
 unfoldable pub broadcast : Inval → Model → Model
 broadcast what m =
@@ -196,7 +195,7 @@ sameRegime El3 El3 = true
 abbrev pub serving : ℕ → Regime → ℕ → Slot Line → Slot Line
 serving a r p empty = empty
 serving a r p (holds l) =
-    pick ((l.page == p && sameRegime l.regime r) && reaches l.reach a) (holds l) empty
+    if (l.page == p && sameRegime l.regime r) && reaches l.reach a then holds l else empty
 
 -- a page's line stands in the slot of its low ten bits
 unfoldable pub line_for : Model → Regime → ℕ → Slot Line
@@ -206,7 +205,7 @@ unfoldable pub keep : Line → Model → Model
 keep l m =
     record {
       asid = m.asid;
-      lines = λ i. pick (i == l.page % 1024) (holds l) (m.lines i);
+      lines = λ i. if i == l.page % 1024 then holds l else m.lines i;
       hints = m.hints;
       fetch = m.fetch;
       counts = m.counts;
@@ -232,14 +231,14 @@ hintPlace kind va = (kindNumber kind - 1) * 256 + folded (va / 4096)
 -- the physical page of the hint, where it is of the raw page and the level
 abbrev pub knowing : ℕ → ℕ → Slot Known → Slot ℕ
 knowing p l empty = empty
-knowing p l (holds h) = pick (h.page == p && h.level == l) (holds h.frame) empty
+knowing p l (holds h) = if h.page == p && h.level == l then holds h.frame else empty
 
 abbrev pub keepHint : ℕ → Known → Model → Model
 keepHint place h m =
     record {
       asid = m.asid;
       lines = m.lines;
-      hints = λ i. pick (i == place) (holds h) (m.hints i);
+      hints = λ i. if i == place then holds h else m.hints i;
       fetch = m.fetch;
       counts = m.counts;
       pending = m.pending;
@@ -299,7 +298,7 @@ needIn a = need a.kind (asUser a.regime a.privilege.level a.privilege.unprivileg
 
 -- 0x0C plus the level, where the line lacks that bit
 unfoldable pub judge : Line → Access → Answer
-judge l a = pick (l.perms / needIn a % 2 == 1) (addressIn l.frame a.va) (Status (first (12 + l.level)))
+judge l a = if l.perms / needIn a % 2 == 1 then addressIn l.frame a.va else Status (first (12 + l.level))
 
 abbrev pub reachOf : Bool → ℕ → Reach
 reachOf true a = everyone

@@ -1,11 +1,10 @@
 -- Each operation on the cache does to the plain model what the requirement says, and keeps the cache well-formed.
-use Rattle.std.specs.Prelude.{◌≡◌, ℕ, ◌+◌, ◌*◌, ◌/◌, ◌%◌, ◌^◌, ◌<◌, ◌≤◌, Bool, true, false, List, map, length, ◌==◌, Option, Some, None, slice_index_or, slice_set}
+use Rattle.std.specs.Prelude.{if◌then◌else◌, ◌≡◌, ℕ, ◌+◌, ◌*◌, ◌/◌, ◌%◌, ◌^◌, ◌<◌, ◌≤◌, Bool, true, false, List, map, length, ◌==◌, Option, Some, None, slice_index_or, slice_set}
 use Rattle.std.proofs.Math.Path.{refl, ap}
 use Rattle.std.proofs.Common.{sym, ◌∙◌, arith, length-set}
 use borrow.Author.Tests.{eqb-true, eqb-false}
 use Rattle.std.proofs.lemmas.List.{length-map}
 use Rattle.std.proofs.Math.ListN.{length-replicate, get_or-map}
-use Rattle.word.specs.Bits.{pick}
 use Rattle.walk.specs.declared.regime.Regime.{Regime}
 use Rattle.tlb.specs.Entry.{blank, slot_of, serves, stamped, untagged, named, pageDropped, walkedFor, asidDropped}
 use Rattle.tlb.specs.Hint.{noHint, noFetch}
@@ -120,7 +119,7 @@ mapped-sound : (c : Cache) (f : Entry → Entry) → ((e : Entry) → Made c.cur
 mapped-sound c f q s =
     hintless-sound c.current (map f c.entries) s.first s.last (length-map c.entries f ∙ s.slots) (each_map f q s.entries)
 
-made-still : (g : ℕ) (e : Entry) (b : Bool) → Made g e → Made g (pick b (untagged e) e)
+made-still : (g : ℕ) (e : Entry) (b : Bool) → Made g e → Made g (if b then untagged e else e)
 made-still g e true m = record { early = m.early; aligned = m.aligned; level = m.level }
 made-still g e false m = m
 
@@ -236,7 +235,7 @@ module _ (t : Tlb) (s : WellFormed t) where
 -- BROADCAST
 
 pub falsely : {A : Type 0} → false ≡ true → A
-falsely e = absurd (let z : ◌≡◌ {A = ℕ} 0 1 = ap (λ (b : Bool). pick b 1 0) e in omega arith)
+falsely e = absurd (let z : ◌≡◌ {A = ℕ} 0 1 = ap (λ (b : Bool). (if b then 1 else 0)) e in omega arith)
 
 equal_is : (v w : Inval) → equal v w ≡ sameInval v w
 equal_is All All = refl
@@ -301,8 +300,8 @@ foundIn r None = empty
 
 pub line-is : (t : Tlb) (r : Regime) (p : ℕ)
     → line_for (live t) r p
-    ≡ pick (serves (entry_at t.cache (slot_of (p * 4 + regimeNumber r))) t.cache.current (p * 4 + regimeNumber r))
-    (holds (lineIn r (entry_at t.cache (slot_of (p * 4 + regimeNumber r))))) empty
+    ≡ (if serves (entry_at t.cache (slot_of (p * 4 + regimeNumber r))) t.cache.current (p * 4 + regimeNumber r) then holds (lineIn r (entry_at t.cache (slot_of (p * 4 + regimeNumber r))))
+      else empty)
 unfolding line_for lines_of
 line-is t r p =
     ap (λ (i : ℕ). serving t.cache.current.asid r p (line_of t.cache.current.generation (slice_index_or t.cache.entries i blank)))
@@ -315,21 +314,21 @@ get-live t r p =
     let e = entry_at t.cache (slot_of (p * 4 + regimeNumber r)) in
     pushed (serves e t.cache.current (p * 4 + regimeNumber r)) e ∙ sym (line-is t r p)
   where
-    pushed : (b : Bool) (e : Entry) → foundIn r (pick b (Some e) None) ≡ pick b (holds (lineIn r e)) empty
+    pushed : (b : Bool) (e : Entry) → foundIn r (if b then Some e else None) ≡ (if b then holds (lineIn r e) else empty)
     pushed true e = refl
     pushed false e = refl
 
 -- an entry of a regime's page, put into its slot in the present generation
 pub kept-lines : (g p : ℕ) (r : Regime) (es : List Entry) (e : Entry) → length es ≡ 1024 → e.generation ≡ g
     → e.tag ≡ p * 4 + regimeNumber r → (i : ℕ)
-    → lines_of g (slice_set es (slot_of e.tag) e) i ≡ pick (i == e.tag / 4 % 1024) (holds (lineIn r e)) (lines_of g es i)
+    → lines_of g (slice_set es (slot_of e.tag) e) i ≡ (if i == e.tag / 4 % 1024 then holds (lineIn r e) else lines_of g es i)
 unfolding lines_of
 kept-lines g p r es e long q w i =
     ap (line_of g) (get_d_set es (slot_of e.tag) i e blank (rw long (omega arith)))
     ∙ pushed (i == slot_of e.tag) (slice_index_or es i blank)
-    ∙ ap (λ (l : Slot Line). pick (i == slot_of e.tag) l (line_of g (slice_index_or es i blank))) (line_made g p r e q w)
+    ∙ ap (λ (l : Slot Line). (if i == slot_of e.tag then l else line_of g (slice_index_or es i blank))) (line_made g p r e q w)
   where
-    pushed : (b : Bool) (y : Entry) → line_of g (pick b e y) ≡ pick b (line_of g e) (line_of g y)
+    pushed : (b : Bool) (y : Entry) → line_of g (if b then e else y) ≡ (if b then line_of g e else line_of g y)
     pushed true y = refl
     pushed false y = refl
 

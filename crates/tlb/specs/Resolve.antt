@@ -1,7 +1,6 @@
 -- A translation that no hint serves, as its changes: what it asks of the cache, its answer, where that came from, the entry that a walk
 -- made; and what becomes of the counters, the entry and the hint.
-use Rattle.std.specs.Prelude.{ℕ, Bool, true, false, Option, Ok, Err}
-use Rattle.word.specs.Bits.{pick}
+use Rattle.std.specs.Prelude.{if◌then◌else◌, ℕ, Bool, true, false, Option, Ok, Err}
 use Rattle.fault.specs.First.{first}
 use Rattle.walk.specs.Regime.{stage1On, regimeOf}
 use Rattle.walk.specs.Tag.{untagged}
@@ -26,7 +25,7 @@ queryOf r page = record { regime = r; page = page; tag = tag_of r page }
 
 -- with stage 1 off nothing is asked
 abbrev pub askWith : Bool → Regime → ℕ → Asked
-askWith on r page = pick on (Of (queryOf r page)) Flat
+askWith on r page = if on then Of (queryOf r page) else Flat
 
 unfoldable pub askOf : Bank → Privilege → ℕ → Asked
 askOf s privilege va =
@@ -65,7 +64,7 @@ byWalk (Err code) q privilege at va kind = record { answer = Status (first code)
 
 -- by the entry, where it answers for the tag; else by the walk
 unfoldable pub resolveWith : Walked → Query → Privilege → Current → Entry → ℕ → Kind → Resolved
-resolveWith w q privilege at e va kind = pick (serves e at q.tag) (byEntry q privilege e va kind) (byWalk w q privilege at va kind)
+resolveWith w q privilege at e va kind = if serves e at q.tag then byEntry q privilege e va kind else byWalk w q privilege at va kind
 
 -- the same with the registers' own walk
 unfoldable pub resolveOf : Query → Bank → Privilege → Current → Entry → ℕ → Kind → (ℕ → Option ℕ) → Resolved

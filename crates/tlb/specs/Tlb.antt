@@ -1,6 +1,5 @@
 -- What each operation of the cache does, on the code's own types.
-use Rattle.std.specs.Prelude.{ℕ, Bool, true, false, ◌==◌, Option, Some, None}
-use Rattle.word.specs.Bits.{pick}
+use Rattle.std.specs.Prelude.{if◌then◌else◌, ℕ, Bool, true, false, ◌==◌, Option, Some, None}
 use Rattle.tlb.specs.Entry.{slot_of, serves, stamped}
 use Rattle.tlb.specs.Count.{noCounts, epochCounted, flushCounted, dropCounted}
 use Rattle.tlb.specs.Cache.{emptyCache, entry_at, setEntry, flushed, withoutPage, withoutAsid, retagged}
@@ -13,7 +12,7 @@ fresh = record { cache = emptyCache; counts = noCounts; broadcast = None }
 -- the entry in the slot of the tag, where it answers for it
 unfoldable pub getOf : Tlb → ℕ → Option Entry
 getOf t tag =
-    pick (serves (entry_at t.cache (slot_of tag)) t.cache.current tag) (Some (entry_at t.cache (slot_of tag))) None
+    if serves (entry_at t.cache (slot_of tag)) t.cache.current tag then Some (entry_at t.cache (slot_of tag)) else None
 
 -- another cache and other counters; what is pending stays
 abbrev pub tlbWith : Tlb → Cache → Counts → Tlb
@@ -54,7 +53,7 @@ sameInval (Asid n) (Asid m) = n == m
 -- nothing pending: this; the same pending: it stays; another: All
 abbrev pub pendingAfter : Option Inval → Inval → Option Inval
 pendingAfter None what = Some what
-pendingAfter (Some earlier) what = Some (pick (sameInval earlier what) what All)
+pendingAfter (Some earlier) what = Some (if sameInval earlier what then what else All)
 
 unfoldable pub broadcastOf : Tlb → Inval → Tlb
 broadcastOf t what = record { cache = t.cache; counts = t.counts; broadcast = pendingAfter t.broadcast what }

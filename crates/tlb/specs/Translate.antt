@@ -1,8 +1,7 @@
 -- One translation over small values, for any walk: the hint, or the changes of a translation that no hint serves, applied.
-use Rattle.std.specs.Prelude.{◌≡◌, ℕ, Bool, true, false, ◌&&◌, ◌==◌, Option, Some, None}
+use Rattle.std.specs.Prelude.{if◌then◌else◌, ◌≡◌, ℕ, Bool, true, false, ◌&&◌, ◌==◌, Option, Some, None}
 use Rattle.std.proofs.Math.Path.{refl}
 use Rattle.std.proofs.Common.{sym, ap, ◌∙◌}
-use Rattle.word.specs.Bits.{pick}
 use Rattle.walk.specs.Regime.{stage1On, regimeOf}
 use Rattle.walk.specs.Tag.{untagged}
 use Rattle.walk.specs.Walk.{walk_of}
@@ -40,7 +39,7 @@ pub record FetchTranslation : Type 0 where
 
 -- without a hint: with stage 1 off the address itself
 unfoldable pub missWith : Bool → ℕ → Walked → Regime → Privilege → Current → Entry → ℕ → Kind → Resolved
-missWith on page w r privilege at e va kind = pick on (resolveWith w (queryOf r page) privilege at e va kind) (byItself va)
+missWith on page w r privilege at e va kind = if on then resolveWith w (queryOf r page) privilege at e va kind else byItself va
 
 -- the changes applied to the counters, the hint and the entry
 unfoldable pub applied : Resolved → Bool → ℕ → Counts → Hint → Entry → ℕ → Translation
@@ -57,9 +56,8 @@ applied t hinted level k h e va =
 -- counters, the hint and the entry that the address may use, the address, the kind. The hint comes first, where it may serve.
 unfoldable pub translationWith : Bool → ℕ → Walked → Regime → Privilege → Current → Counts → Hint → Entry → ℕ → Kind → Translation
 translationWith on page w r privilege at k h e va kind =
-    pick (mayHint privilege kind && h.key == hintKey va privilege.level)
-    (record { counts = k; hint = h; entry = e; answer = Address (onPage h.pa va); source = FromHint })
-    (applied (missWith on page w r privilege at e va kind) (mayHint privilege kind) privilege.level k h e va)
+    if mayHint privilege kind && h.key == hintKey va privilege.level then record { counts = k; hint = h; entry = e; answer = Address (onPage h.pa va); source = FromHint }
+    else applied (missWith on page w r privilege at e va kind) (mayHint privilege kind) privilege.level k h e va
 
 -- the same with the fetch hint
 unfoldable pub fetchApplied : Resolved → ℕ → Counts → FetchHint → Entry → ℕ → FetchTranslation

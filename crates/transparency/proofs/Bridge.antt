@@ -1,8 +1,8 @@
 -- Each call does to registers, level, mark and `Tlb` what its steps do.
-use Rattle.std.specs.Prelude.{◌≡◌, refl, Bool, true, false, ◌||◌, ℕ, zero, suc, ◌+◌, ◌%◌, ◌≤◌, ◌<◌, leb, ltb, length, Option, Ok, Err, Some, None}
+use Rattle.std.specs.Prelude.{if◌then◌else◌, ◌≡◌, refl, Bool, true, false, ◌||◌, ℕ, zero, suc, ◌+◌, ◌%◌, ◌≤◌, ◌<◌, leb, ltb, length, Option, Ok, Err, Some, None}
 use Rattle.std.proofs.Common.{ap, ◌∙◌, mod-eq_of_lt, arith, leb-false, ltb-false}
 use mathlib.Core.List.{List, [], ◌∷◌}
-use Rattle.word.specs.Bits.{alignDown, pick, wrap}
+use Rattle.word.specs.Bits.{alignDown, wrap}
 use Rattle.word.specs.Ram.{width_of, bytesIn}
 use Rattle.tlb.specs.declared.access.Kind.{Kind}
 use Rattle.sysop.specs.declared.op.SysOp.{SysOp}
@@ -165,7 +165,7 @@ level-low : (level base len requested : ℕ) → missedOf level base len (Level 
 level-low level base len requested e = ltb-false 3 requested (go (ltb 3 level) (all-passed level base len (Level requested) e).0)
   where
     go : (b : Bool) → (b || ltb 3 requested) ≡ false → ltb 3 requested ≡ false
-    go true z = absurd (let k : ◌≡◌ {A = ℕ} 1 0 = ap (λ (x : Bool). pick x 1 0) z in omega arith)
+    go true z = absurd (let k : ◌≡◌ {A = ℕ} 1 0 = ap (λ (x : Bool). (if x then 1 else 0)) z in omega arith)
     go false z = z
 
 mark-low : (level base len : ℕ) (mark : Bool) → missedOf level base len (Mark mark) ≡ 0 → level ≤ 3

@@ -1,8 +1,8 @@
 -- The page census after every list of calls: it counts what the core without a cache would, page by page, and is a step
 -- that does nothing.
-use Rattle.std.specs.Prelude.{◌≡◌, refl, Bool, true, false, List, [], ◌∷◌, ◌++◌, ℕ, zero, suc, ◌+◌, ◌*◌, ◌/◌, ◌%◌, ◌<◌, ◌≤◌, eqb, get_or, Ok, Err}
+use Rattle.std.specs.Prelude.{if◌then◌else◌, ◌≡◌, refl, Bool, true, false, List, [], ◌∷◌, ◌++◌, ℕ, zero, suc, ◌+◌, ◌*◌, ◌/◌, ◌%◌, ◌<◌, ◌≤◌, eqb, get_or, Ok, Err}
 use Rattle.std.proofs.Common.{sym, ap, ◌∙◌, ⊎_elim, arith, eqb-true, ne_eqb}
-use Rattle.word.specs.Bits.{flag, pick}
+use Rattle.word.specs.Bits.{flag}
 use Rattle.fault.specs.First.{first as status-of}
 use Rattle.fault.specs.declared.Fault.{Fault}
 use Rattle.walk.specs.FreshLaws.{SoundFresh}
@@ -94,7 +94,7 @@ leaf-answers : (status bit va : ℕ) → NoPermission status → (leaf : Leaf) �
 unfolding leafAnswer
 leaf-answers status bit va h leaf low high = go (eqb (leaf.perms / bit % 2) 1)
   where
-    go : (b : Bool) → answersFault status (pick b (Address (leaf.oa / 4096 * 4096 + va % 4096)) (Status (status-of (12 + leaf.level)))) ≡ false
+    go : (b : Bool) → answersFault status (if b then Address (leaf.oa / 4096 * 4096 + va % 4096) else Status (status-of (12 + leaf.level))) ≡ false
     go true = refl
     go false = ne_eqb (12 + leaf.level) status (λ e. ⊎_elim (λ k. omega arith) (λ k. omega arith) h)
 
@@ -121,7 +121,7 @@ status-faults b m first pages status k small h =
 pub census-faults : Statement.census_faults
 census-faults b m first pages status k old small h passed = rw passed (status-faults b m first pages status k small h)
 
-picked : (b : Bool) (pa : ℕ) (f : Fault) → answersAddress (pick b (Address pa) (Status f)) ≡ b
+picked : (b : Bool) (pa : ℕ) (f : Fault) → answersAddress (if b then Address pa else Status f) ≡ b
 picked true pa f = refl
 picked false pa f = refl
 

@@ -1,9 +1,9 @@
 -- Faithfulness of each call that translates, read off `step_of` itself: where the pages meet the premise it has the same
 -- physical address, the same fault with its status and address, and the same bytes as on the core without a cache.
-use Rattle.std.specs.Prelude.{◌≡◌, Bool, true, false, List, [], ◌∷◌, ℕ}
+use Rattle.std.specs.Prelude.{if◌then◌else◌, ◌≡◌, Bool, true, false, List, [], ◌∷◌, ℕ}
 use Rattle.std.proofs.Math.Path.{refl, sym, ap}
 use Rattle.std.proofs.Common.{ap₂, subst, ◌∙◌, append-nil, arith}
-use Rattle.word.specs.Bits.{alignDown, pick}
+use Rattle.word.specs.Bits.{alignDown}
 use Rattle.word.specs.Ram.{bytesIn}
 use Rattle.tlb.specs.Lists.{Each, done, more}
 use Rattle.tlb.specs.Tlb.{fresh}
@@ -90,7 +90,7 @@ module _ (list : List (Fed real machine)) (seen : Shown real machine freshCore l
 
   placed-plain : (c : Bool) (va : ℕ) (kind : Kind)
       → placedBy va (plainAnswers real (plainIn (bareNow list)) m (asksBy c va kind))
-      ≡ pick c (placedBoth va (uncachedAt list m kind va) (uncachedAt list m kind (nextPage va))) (placedOne va (uncachedAt list m kind va))
+      ≡ (if c then placedBoth va (uncachedAt list m kind va) (uncachedAt list m kind (nextPage va)) else placedOne va (uncachedAt list m kind va))
   placed-plain true va kind = go (uncachedAt list m kind va)
     where
       second : Given

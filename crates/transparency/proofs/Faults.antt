@@ -1,11 +1,11 @@
 -- Each fault that a call replies is a row of docs/SCOPE.md's table, with the address translated, or for 0x10 that of a
 -- byte of the access.
-use Rattle.std.specs.Prelude.{◌≡◌, Bool, true, false, ◌⊎◌, ℕ, zero, suc, ◌+◌, ◌%◌, ◌^◌, ◌≤◌, ◌<◌, length, Option, Some, None}
+use Rattle.std.specs.Prelude.{if◌then◌else◌, ◌≡◌, Bool, true, false, ◌⊎◌, ℕ, zero, suc, ◌+◌, ◌%◌, ◌^◌, ◌≤◌, ◌<◌, length, Option, Some, None}
 use Rattle.std.proofs.Math.Path.{refl, ap, subst⁻¹}
 use Rattle.std.proofs.Common.{sym, subst, ◌∙◌, inl, inr, arith, add-zero}
 use mathlib.Core.List.{List, [], ◌∷◌, ◌++◌, append-nil, Memᴰ}
 use Rattle.std.proofs.Math.Nat.{mod-mod}
-use Rattle.word.specs.Bits.{alignDown, pick, wrap}
+use Rattle.word.specs.Bits.{alignDown, wrap}
 use Rattle.word.specs.Ram.{width_of, bytesIn, within}
 use Rattle.word.specs.declared.ram.Width.{Width}
 use Rattle.fault.specs.First.{first}
@@ -59,7 +59,7 @@ unfolding firstOutside
 first-outside base len p i zero j pa e = let z : ◌≡◌ {A = ℕ} 0 1 = cc in absurd (omega arith)
 first-outside base len p i (suc n) j pa e = go (within base len 1 (byte_at p i)) e (λ f. first-outside base len p (i + 1) n j pa f)
   where
-    go : (b : Bool) → pick b (firstOutside base len p (i + 1) n) (Outside i (byte_at p i)) ≡ Outside j pa
+    go : (b : Bool) → (if b then firstOutside base len p (i + 1) n else Outside i (byte_at p i)) ≡ Outside j pa
         → (firstOutside base len p (i + 1) n ≡ Outside j pa → j < i + 1 + n) → j < i + suc n
     go true f k = let h : j < i + 1 + n = k f in omega arith
     go false f k = let h : i ≡ j = outside-injective f in omega arith
@@ -68,7 +68,7 @@ byte_low : (base len : ℕ) (place : Place) (n j pa : ℕ) → 0 < n → verdict
 unfolding verdictOf
 byte_low base len (Whole q) n j pa some e = go (within base len n q) e
   where
-    go : (b : Bool) → pick b Inside (Outside 0 q) ≡ Outside j pa → j < n
+    go : (b : Bool) → (if b then Inside else Outside 0 q) ≡ Outside j pa → j < n
     go true f = let z : ◌≡◌ {A = ℕ} 0 1 = cc in absurd (omega arith)
     go false f = let h : 0 ≡ j = outside-injective f in omega arith
 byte_low base len (Split p) n j pa some e = let h : j < 0 + n = first-outside base len p 0 n j pa e in omega arith

@@ -1,7 +1,7 @@
 -- Faithfulness of each call that translates, read off `step_of` itself: where the pages meet the premise it has the same
 -- physical address, the same fault with its status and address, and the same bytes as on the core without a cache.
-use Rattle.std.specs.Prelude.{◌≡◌, List, ℕ, Some}
-use Rattle.word.specs.Bits.{alignDown, pick}
+use Rattle.std.specs.Prelude.{if◌then◌else◌, ◌≡◌, List, ℕ, Some}
+use Rattle.word.specs.Bits.{alignDown}
 use Rattle.word.specs.Ram.{width_of, bytesIn}
 use Rattle.word.specs.declared.ram.Width.{Width}
 use Rattle.tlb.specs.Lists.{Each}
@@ -58,9 +58,8 @@ module _ (list : List (Fed real machine)) (m : Ram) where
 
   abbrev pub placed_at : ℕ → ℕ → Kind → Placed
   placed_at va n kind =
-      pick (crosses (onNow real (plainIn (bareNow list))) va n)
-      (placedBoth va (uncachedAt kind va) (uncachedAt kind (nextPage va)))
-      (placedOne va (uncachedAt kind va))
+      if crosses (onNow real (plainIn (bareNow list))) va n then placedBoth va (uncachedAt kind va) (uncachedAt kind (nextPage va))
+      else placedOne va (uncachedAt kind va)
 
   -- TRANSLATIONS
 

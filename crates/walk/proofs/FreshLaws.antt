@@ -1,8 +1,7 @@
 -- Every fresh answer is flat, a leaf within its bounds or a status of the table of answers.
-use Rattle.std.specs.Prelude.{◌≡◌, Bool, ℕ, Option, Ok, Err}
+use Rattle.std.specs.Prelude.{if◌then◌else◌, ◌≡◌, Bool, ℕ, Option, Ok, Err}
 use Rattle.std.proofs.Common.{subst}
 use Rattle.std.proofs.Math.Bool.{true, false}
-use Rattle.word.specs.Bits.{pick}
 use Rattle.walk.specs.Regime.{stage1On}
 use Rattle.walk.specs.Tag.{untagged}
 use Rattle.walk.specs.Walk.{walk_of}
@@ -23,7 +22,7 @@ module _ (s : Bank) (r : Regime) (va : ℕ) (memory : ℕ → Option ℕ) where
   unfolding fresh_of
   answer-sound = go (stage1On s r)
     where
-      go : (b : Bool) → SoundFresh (pick b (Ended (walk_of s r (untagged s.tcr r va) memory)) (Flat va))
+      go : (b : Bool) → SoundFresh (if b then Ended (walk_of s r (untagged s.tcr r va) memory) else Flat va)
       go true = walk_end _ (walk_of s r (untagged s.tcr r va) memory) (walk-sound s r (untagged s.tcr r va) memory)
       go false = tt
 

@@ -1,5 +1,5 @@
 -- The order of a walk's answers, row by row.
-use Rattle.std.specs.Prelude.{◌≡◌, Bool, not, ◌&&◌, ◌||◌, ltb, [], Option, Some, None, Ok, Err}
+use Rattle.std.specs.Prelude.{if◌then◌else◌, ◌≡◌, Bool, not, ◌&&◌, ◌||◌, ltb, [], Option, Some, None, Ok, Err}
 use Rattle.std.proofs.Math.Path.{refl}
 use Rattle.std.proofs.Common.{ap, ◌∙◌}
 use Rattle.std.proofs.Math.Bool.{true, false}
@@ -8,7 +8,6 @@ use native.Mathlib.Omega.{arith}
 use borrow.Author.Tests.{eqb-true, eqb-false, ltb-true, ltb-false, eq-eqb, ne_eqb, lt-ltb, le-ltb}
 use Rattle.std.proofs.Math.Arith.{lt_of_le-ne}
 use Rattle.std.proofs.Math.Dec.{eqb}
-use Rattle.word.specs.Bits.{pick}
 use Rattle.walk.specs.Regime.{singlePriv, wxnOf}
 use Rattle.walk.specs.Descriptor.{valid, tableOrPage, af}
 use Rattle.walk.specs.Table.{Result, mapped, faults, addressSize, translation, accessFlag, externalAbort, firstblocklevel, in_range, beyond, Lookup, Next}
@@ -76,7 +75,7 @@ module _ (p : Params) (va : ℕ) (l : Lookup) (desc : ℕ) where
   unfolding tableNext
   small-table b = go (beyond p.outputsize desc) _ b
     where
-      go : (t : Bool) (k : Lookup) → t ≡ false → LeadsTo (pick t (ends (faults (addressSize l.level))) (deeper k))
+      go : (t : Bool) (k : Lookup) → t ≡ false → LeadsTo (if t then ends (faults (addressSize l.level)) else deeper k)
       go true k e = absurd (true-false e)
       go false k e = record { next = k; is = refl }
 
@@ -99,8 +98,9 @@ module _ (p : Params) (va : ℕ) (l : Lookup) (desc : ℕ) where
       n : eqb l.level 3 ≡ false
       n = not_last l.level (early-not-last p.largegrain l.level h)
 
-      go : (v : Bool) → pick (not v || (eqb l.level 3 && not (tableOrPage desc))) (ends (faults (translation l.level)))
-          (pick (eqb l.level 3 || not (tableOrPage desc)) (ends (leafResult p va l desc)) (tableNext p l desc)) ≡ ends (faults (translation l.level))
+      go : (v : Bool) → (if not v || (eqb l.level 3 && not (tableOrPage desc)) then ends (faults (translation l.level))
+        else if eqb l.level 3 || not (tableOrPage desc) then ends (leafResult p va l desc)
+        else tableNext p l desc) ≡ ends (faults (translation l.level))
       go true = rw (t, n, lt-ltb l.level (firstblocklevel p.largegrain) h)
       go false = refl
 

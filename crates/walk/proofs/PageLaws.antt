@@ -1,11 +1,11 @@
 -- A walk goes by pages: addresses of one page have one walk but for the offset in the page, which is the address's own.
-use Rattle.std.specs.Prelude.{◌≡◌, true, false, ◌&&◌, ◌||◌, eqb, ltb, Option, Some, None, Ok, Err}
+use Rattle.std.specs.Prelude.{if◌then◌else◌, ◌≡◌, true, false, ◌&&◌, ◌||◌, eqb, ltb, Option, Some, None, Ok, Err}
 use Rattle.std.proofs.Math.Path.{refl, sym, ap}
 use Rattle.std.proofs.Common.{subst, ◌∙◌, arith}
 use Rattle.std.proofs.Math.Bool.{Bool, not}
 use mathlib.Core.List.{List, ◌∷◌}
 use Prim.Native.Nat.{ℕ, zero, suc, ◌+◌, ◌-◌, ◌/◌, ◌%◌, ◌^◌, ◌≤◌}
-use Rattle.word.specs.Bits.{alignDown, pick}
+use Rattle.word.specs.Bits.{alignDown}
 use Rattle.word.specs.BitLaws.{same_above, join-above}
 use Rattle.walk.specs.Regime.{singlePriv, wxnOf}
 use Rattle.walk.specs.Descriptor.{valid, tableOrPage, af}
@@ -74,8 +74,9 @@ module _ (va vb : ℕ) (same : va / 2 ^ 12 ≡ vb / 2 ^ 12) where
       where
         leaf : Bool → Bool → Bool → ℕ → Result
         leaf a b c v =
-            pick a (faults (translation l.level))
-            (pick b (faults (addressSize l.level)) (pick c (mapped (leafTranslation p v l desc)) (faults (accessFlag l.level))))
+            if a then faults (translation l.level)
+            else if b then faults (addressSize l.level)
+            else if c then mapped (leafTranslation p v l desc) else faults (accessFlag l.level)
 
         go : (a b c : Bool) → pagedResult (leaf a b c va) ≡ pagedResult (leaf a b c vb)
         go true b c = refl
@@ -88,7 +89,7 @@ module _ (va vb : ℕ) (same : va / 2 ^ 12 ≡ vb / 2 ^ 12) where
     level-page l desc = go (not (valid desc) || (eqb l.level 3 && not (tableOrPage desc))) (eqb l.level 3 || not (tableOrPage desc))
       where
         next : Bool → Bool → ℕ → Next
-        next a b v = pick a (ends (faults (translation l.level))) (pick b (ends (leafResult p v l desc)) (tableNext p l desc))
+        next a b v = if a then ends (faults (translation l.level)) else if b then ends (leafResult p v l desc) else tableNext p l desc
 
         go : (a b : Bool) → pagedNext (next a b va) ≡ pagedNext (next a b vb)
         go true b = refl
@@ -130,7 +131,7 @@ module _ (va vb : ℕ) (same : va / 2 ^ 12 ≡ vb / 2 ^ 12) where
         rw (above (inputsize g) h) (go (not (in_range g vb) || g.disabled) (beyond p.outputsize g.baseregister))
       where
         result : Bool → Bool → ℕ → Result
-        result a b v = pick a (faults (translation 0)) (pick b (faults (addressSize 0)) (walkFrom (4 - startlevel g) memory p v (firstLookup g)))
+        result a b v = if a then faults (translation 0) else if b then faults (addressSize 0) else walkFrom (4 - startlevel g) memory p v (firstLookup g)
 
         go : (a b : Bool) → pagedResult (result a b va) ≡ pagedResult (result a b vb)
         go true b = refl

@@ -1,11 +1,10 @@
 -- The loop over the levels up to the n-th: a step that leads on leaves one fewer; where none is left, the table is the one asked for.
-use Rattle.std.specs.Prelude.{Ok, Err, Option, ◌≢◌}
+use Rattle.std.specs.Prelude.{if◌then◌else◌, Ok, Err, Option, ◌≢◌}
 use Rattle.walk.specs.Answers.{Begin, Walked, Visited}
 use mathlib.Core.Path.{◌≡◌, refl, sym, ap, ◌∙◌}
 use mathlib.Core.Bool.{Bool, true, false, not, ◌||◌}
 use Prim.Native.Nat.{ℕ, suc, ◌-◌, ◌≤◌, ◌<◌}
 use native.Mathlib.Omega.{arith}
-use Rattle.word.specs.Bits.{pick}
 use Rattle.walk.specs.Table.{Lookup, Next, deeper, ends, descaddr, lookupNext, range_of, params_of, firstLookup, in_range, beyond}
 use Rattle.walk.specs.State.{lookupOf, stepped, meant, beginOf}
 use Rattle.walk.specs.Visits.{Seen, seen, past, visitFrom, visitOf, seenAs}
@@ -52,7 +51,7 @@ module _ (s : Bank) (r : Regime) (va n : ℕ) (memory : ℕ → Option ℕ) (g :
   params = rw eg at ep
 
   abbrev whole : Bool → Bool → Seen
-  whole a b = pick a past (pick b past (visitFrom n memory p va (firstLookup g)))
+  whole a b = if a then past else if b then past else visitFrom n memory p va (firstLookup g)
 
   as-whole : visitOf s r va memory n ≡ whole (not (in_range g va) || g.disabled) (beyond p.outputsize g.baseregister)
   unfolding visitOf

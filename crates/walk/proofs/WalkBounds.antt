@@ -1,5 +1,5 @@
 -- Every walk ends within its bounds.
-use Rattle.std.specs.Prelude.{◌≡◌, Bool, not, ◌&&◌, ◌||◌, Option, Some, None, Ok, Err}
+use Rattle.std.specs.Prelude.{if◌then◌else◌, ◌≡◌, Bool, not, ◌&&◌, ◌||◌, Option, Some, None, Ok, Err}
 use Rattle.std.proofs.Math.Path.{refl}
 use Rattle.std.proofs.Common.{subst, ltb-false, pow_mono}
 use Rattle.std.proofs.Math.Bool.{true, false}
@@ -9,7 +9,6 @@ use native.Mathlib.Omega.{arith}
 use Rattle.std.proofs.lemmas.Bool.{eqb-false}
 use Rattle.std.proofs.Math.Arith.{lt_of_le-ne}
 use Rattle.std.proofs.Math.Dec.{eqb, ltb}
-use Rattle.word.specs.Bits.{pick}
 use Rattle.word.specs.BitLaws.{join-below}
 use Rattle.walk.specs.Regime.{singlePriv, wxnOf}
 use Rattle.walk.specs.Descriptor.{valid, tableOrPage, af}
@@ -47,9 +46,10 @@ module _ (p : Params) (low : 32 ≤ p.outputsize) (high : p.outputsize ≤ 44) (
     where
       go : (a b c : Bool) → ltb l.level (firstblocklevel p.largegrain) ≡ a → beyond p.outputsize desc ≡ b
           → Sound va
-          (pick a (faults (translation l.level))
-          (pick b (faults (addressSize l.level))
-          (pick c (mapped (leafTranslation p va l desc)) (faults (accessFlag l.level)))))
+          (if a then faults (translation l.level)
+            else if b then faults (addressSize l.level)
+            else if c then mapped (leafTranslation p va l desc)
+            else faults (accessFlag l.level))
       go true b c ea eb = h
       go false true c ea eb = h
       go false false true ea eb = found l desc h (ltb-false _ _ ea) eb
@@ -60,7 +60,7 @@ module _ (p : Params) (low : 32 ≤ p.outputsize) (high : p.outputsize ≤ 44) (
   table-sound l desc h = go (beyond p.outputsize desc) _ (refl, omega arith)
     where
       go : (b : Bool) (m : Lookup) → (m.level ≡ l.level + 1) × (m.level ≤ 3)
-          → SoundNext va l.level (pick b (ends (faults (addressSize l.level))) (deeper m))
+          → SoundNext va l.level (if b then ends (faults (addressSize l.level)) else deeper m)
       go true m k = omega arith
       go false m k = k
 
@@ -70,7 +70,7 @@ module _ (p : Params) (low : 32 ≤ p.outputsize) (high : p.outputsize ≤ 44) (
     where
       go : (a b c : Bool) → eqb l.level 3 ≡ b
           → SoundNext va l.level
-          (pick (a || (b && c)) (ends (faults (translation l.level))) (pick (b || c) (ends (leafResult p va l desc)) (tableNext p l desc)))
+          (if a || (b && c) then ends (faults (translation l.level)) else if b || c then ends (leafResult p va l desc) else tableNext p l desc)
       go true b c eb = h
       go false true true eb = h
       go false true false eb = leaf-sound l desc h
@@ -106,7 +106,7 @@ module _ (p : Params) (low : 32 ≤ p.outputsize) (high : p.outputsize ≤ 44) (
     where
       go : (a b : Bool)
           → Sound va
-          (pick a (faults (translation 0)) (pick b (faults (addressSize 0)) (walkFrom (4 - startlevel g) memory p va (firstLookup g))))
+          (if a then faults (translation 0) else if b then faults (addressSize 0) else walkFrom (4 - startlevel g) memory p va (firstLookup g))
       go true b = omega arith
       go false true = omega arith
       go false false = from-sound (4 - startlevel g) memory (firstLookup g) (start-level g)

@@ -1,6 +1,6 @@
 -- The worked cases of docs/SCOPE.md that are translations with an empty cache, and the untagging: rows 1 to 9 and 12, as one computed statement.
-use Rattle.std.specs.Prelude.{◌≡◌, refl, Bool, true, false, [], ◌∷◌, ℕ, ◌+◌, ◌%◌, ◌^◌, Ok, Err}
-use Rattle.word.specs.Bits.{bitOn, alignDown, pick}
+use Rattle.std.specs.Prelude.{if◌then◌else◌, ◌≡◌, refl, Bool, true, false, [], ◌∷◌, ℕ, ◌+◌, ◌%◌, ◌^◌, Ok, Err}
+use Rattle.word.specs.Bits.{bitOn, alignDown}
 use Rattle.word.specs.Ram.{word_at, littleEndian, bytes_of}
 use Rattle.walk.specs.Tag.{untagged}
 use Rattle.walk.specs.Size.{paSize}
@@ -20,7 +20,7 @@ pub data Answer : Type 0 where
 -- the leaf's page with the address's low twelve bits, where the leaf has the bit that the access needs
 pub judged : Bool → Access → ℕ → Walked → Answer
 judged privileged a va (Ok leaf) =
-    pick (bitOn leaf.perms (kindBit a + firstBit privileged)) (address (alignDown leaf.oa 12 + va % 2 ^ 12)) (status (12 + leaf.level))
+    if bitOn leaf.perms (kindBit a + firstBit privileged) then address (alignDown leaf.oa 12 + va % 2 ^ 12) else status (12 + leaf.level)
 judged privileged a va (Err code) = status code
 
 -- SCTLR_EL1.M set, TCR_EL1 = 25, TTBR0_EL1 as given, other registers zero

@@ -1,10 +1,9 @@
 -- The descriptors that a walk fetches. A walk sees of memory only these, and there are few.
-use Rattle.std.specs.Prelude.{◌≡◌, Bool, true, false, not, ◌||◌, length, get_or, Option}
+use Rattle.std.specs.Prelude.{if◌then◌else◌, ◌≡◌, Bool, true, false, not, ◌||◌, length, get_or, Option}
 use Rattle.std.proofs.Math.Path.{refl}
 use Rattle.std.proofs.Common.{ap, le_trans}
 use mathlib.Core.List.{List, [], ◌∷◌, Memᴰ}
 use Prim.Native.Nat.{ℕ, zero, suc, ◌+◌, ◌-◌, ◌≤◌, ◌<◌, zero-le, suc-le-suc}
-use Rattle.word.specs.Bits.{pick}
 use Rattle.word.specs.Ram.{word_at}
 use Rattle.word.specs.RamLaws.{word-agree}
 use Rattle.walk.specs.Table.{Result, faults, addressSize, translation, in_range, beyond, startlevel, levelsOf, entered, Lookup, Next, deeper, ends}
@@ -83,10 +82,10 @@ module _ (m m' : ℕ → Option ℕ) (p : Params) (va : ℕ) where
       list memory = fetchesFrom (4 - startlevel g) memory p va (firstLookup g)
 
       go : (a b : Bool)
-          → Agree m m' (pick a [] (pick b [] (list m)))
-          → (pick a (faults (translation 0)) (pick b (faults (addressSize 0)) (from m))
-          ≡ pick a (faults (translation 0)) (pick b (faults (addressSize 0)) (from m')))
-          × (pick a [] (pick b [] (list m)) ≡ pick a [] (pick b [] (list m')))
+          → Agree m m' (if a then [] else if b then [] else list m)
+          → (if a then faults (translation 0) else if b then faults (addressSize 0) else from m
+          ≡ (if a then faults (translation 0) else if b then faults (addressSize 0) else from m'))
+          × ((if a then [] else if b then [] else list m) ≡ (if a then [] else if b then [] else list m'))
       go true b h = (refl, refl)
       go false true h = (refl, refl)
       go false false h = from-agrees (4 - startlevel g) (firstLookup g) h
@@ -115,7 +114,7 @@ few-range : (p : Params) (g : Range) (va : ℕ) (m : ℕ → Option ℕ) → len
 unfolding fetchesRange
 few-range p g va m = go (not (in_range g va) || g.disabled) (beyond p.outputsize g.baseregister)
   where
-    go : (a b : Bool) → length (pick a [] (pick b [] (fetchesFrom (4 - startlevel g) m p va (firstLookup g)))) ≤ levelsOf g.largegrain
+    go : (a b : Bool) → length (if a then [] else if b then [] else fetchesFrom (4 - startlevel g) m p va (firstLookup g)) ≤ levelsOf g.largegrain
     go true b = zero-le
     go false true = zero-le
     go false false = le_trans (few-from (4 - startlevel g) m p va (firstLookup g)) (level-count g)

@@ -1,8 +1,8 @@
 -- The permission tables as the pseudocode's expressions; and: bit k of the permission byte is set exactly where the permission check allows that
 -- access.
-use Rattle.std.specs.Prelude.{◌≡◌, refl, Bool, true, false, not, ◌&&◌, ◌||◌, ℕ, ◌+◌, ◌*◌, ◌/◌, ◌%◌, ◌^◌, ◌≤◌, eqb}
+use Rattle.std.specs.Prelude.{if◌then◌else◌, ◌≡◌, refl, Bool, true, false, not, ◌&&◌, ◌||◌, ℕ, ◌+◌, ◌*◌, ◌/◌, ◌%◌, ◌^◌, ◌≤◌, eqb}
 use Rattle.std.proofs.Common.{arith}
-use Rattle.word.specs.Bits.{bitOn, flag, pick}
+use Rattle.word.specs.Bits.{bitOn, flag}
 use Rattle.walk.specs.Descriptor.{ap1, ap2, pxn, uxn}
 use Rattle.walk.specs.Permission.{Access, reading, writing, fetching, dataAccess, dataAccessOnly, executeEl1, executeEl0, executeOnly, underApTable}
 use Rattle.walk.specs.Permission.{underXnTable, Rights, rights, grants, rightsOf, allowed, accessBits, permissionByte}
@@ -101,7 +101,7 @@ leaf-attributes p l desc = go p.singlepriv
     x : underXnTable l.xnTable (uxn desc) ≡ (uxn desc || l.xnTable)
     x = under-xn l.xnTable (uxn desc)
 
-    go : (s : Bool) → pick s (permissionsOne l desc) (permissionsTwo l desc)
+    go : (s : Bool) → (if s then permissionsOne l desc else permissionsTwo l desc)
         ≡ attributes (ap2 desc || l.apTable1) (s || (ap1 desc && not l.apTable0)) (uxn desc || l.xnTable) (not s && (pxn desc || l.pxnTable))
     go true = let a = under-ap2 l.apTable1 false (ap2 desc) true in let b = x in cc
     go false =

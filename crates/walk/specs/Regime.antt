@@ -1,8 +1,8 @@
 -- The translation regimes, and what turns stage 1 on: DDI 0487, S1TranslationRegime and AArch64.FirstStageTranslate of ARMv8.0. Written from
 -- knowledge of them; the document itself was not at hand. Letters with a number are rows of docs/DIFFERENCES.md. A `Bank` holds the registers of one
 -- regime.
-use Rattle.std.specs.Prelude.{Bool, true, false, not, ◌&&◌, ◌||◌, ℕ, eqb}
-use Rattle.word.specs.Bits.{bitOn, bit0, pick}
+use Rattle.std.specs.Prelude.{if◌then◌else◌, Bool, true, false, not, ◌&&◌, ◌||◌, ℕ, eqb}
+use Rattle.word.specs.Bits.{bitOn, bit0}
 use Rattle.sysreg.specs.Regs.{controlAt}
 use Rattle.sysreg.specs.declared.{regs.Control.Control, regs.El.El}
 use Rattle.sysreg.specs.declared.regs.ControlReg.TheVariants.{Sctlr, Tcr, Ttbr0, Ttbr1, Scr, Hcr}
@@ -12,7 +12,7 @@ use Rattle.walk.specs.declared.regime.Regime.TheVariants.{El1, El2, El3}
 -- the regime of an exception level: EL0 shares that of EL1. M15: v8.0 has no EL2 in Secure state, and so no such regime there. M12: SCR_EL3.RW and
 -- HCR_EL2.RW would make it AArch32's
 abbrev pub regimeOf : ℕ → Regime
-regimeOf level = pick (eqb level 2) El2 (pick (eqb level 3) El3 El1)
+regimeOf level = if eqb level 2 then El2 else if eqb level 3 then El3 else El1
 
 -- the exception level whose registers a regime uses
 abbrev pub levelOf : Regime → El

@@ -3,8 +3,8 @@
 -- Where the pseudocode has something else, a comment names the row of docs/DIFFERENCES.md. Left out of it are: ns_table, and with it what it does to
 -- nG (M1), to the NS of the output (A6, M17) and to that of the descriptors' addresses (M17); reversedescriptors (A10); stage 2 of a descriptor's address (M3);
 -- the contiguous bit (O4); a memory type (D3, D4, O7). What it leaves open is settled by B1, O1, O2 and O3.
-use Rattle.std.specs.Prelude.{Bool, true, false, not, ◌&&◌, ◌||◌, ℕ, zero, suc, ◌+◌, ◌-◌, ◌*◌, ◌/◌, ◌%◌, ◌^◌, min, max, eqb, ltb, Option, Some, None}
-use Rattle.word.specs.Bits.{bitOn, field, alignDown, pick}
+use Rattle.std.specs.Prelude.{if◌then◌else◌, Bool, true, false, not, ◌&&◌, ◌||◌, ℕ, zero, suc, ◌+◌, ◌-◌, ◌*◌, ◌/◌, ◌%◌, ◌^◌, min, max, eqb, ltb, Option, Some, None}
+use Rattle.word.specs.Bits.{bitOn, field, alignDown}
 use Rattle.sysreg.specs.Tcr.{t0sz, epd0, tg0, t1sz, epd1, tg1, ips, ps}
 use Rattle.walk.specs.Descriptor.{valid, tableOrPage, ap1, ap2, af, nG, pxn, uxn, pxnTable, uxnTable, apTable0, apTable1}
 use Rattle.walk.specs.Permission.{underApTable, underXnTable}
@@ -41,17 +41,17 @@ pub data Result : Type 0 where
 -- the translation granule, 64 KiB or 4 KiB (an A72 has no 16 KiB): log2 of its bytes, the address bits that a table resolves, the first level
 -- that may hold blocks
 abbrev pub grainsize : Bool → ℕ
-grainsize largegrain = pick largegrain 16 12
+grainsize largegrain = if largegrain then 16 else 12
 
 abbrev pub stride : Bool → ℕ
 stride largegrain = grainsize largegrain - 3
 
 abbrev pub firstblocklevel : Bool → ℕ
-firstblocklevel largegrain = pick largegrain 2 1
+firstblocklevel largegrain = if largegrain then 2 else 1
 
 -- how many levels a granule has at most
 abbrev pub levelsOf : Bool → ℕ
-levelsOf largegrain = pick largegrain 3 4
+levelsOf largegrain = if largegrain then 3 else 4
 
 -- the range of an address: TTBR0 and TTBR1, T0SZ and T1SZ, EPD0 and EPD1, IPS in EL1&0, by va<55>; TTBR0, T0SZ, PS in EL2 and EL3.
 -- TG0 of '01' and TG1 of '11' are 64 KiB. O1: every other code counts as 4 KiB, one that the A72 lacks too
@@ -89,7 +89,7 @@ onlyRange s =
     }
 
 unfoldable pub range_of : Bank → Regime → ℕ → Range
-range_of s El1 va = pick (bitOn va 55) (upperRange s) (lowerRange s)
+range_of s El1 va = if bitOn va 55 then upperRange s else lowerRange s
 range_of s El2 va = onlyRange s
 range_of s El3 va = onlyRange s
 
@@ -99,7 +99,7 @@ inputsize g = 64 - max 16 (min 39 g.txsz)
 
 -- basefound: va<top:inputsize> is all ones in an upper range, and zero in a lower one. The address is untagged, so top is 63 (Tag.antt)
 abbrev pub in_range : Range → ℕ → Bool
-in_range g va = eqb (va / 2 ^ inputsize g) (pick g.upper (2 ^ (64 - inputsize g) - 1) 0)
+in_range g va = eqb (va / 2 ^ inputsize g) (if g.upper then 2 ^ (64 - inputsize g) - 1 else 0)
 
 -- 4 - RoundUp((inputsize - grainsize) / stride)
 abbrev pub startlevelOf : Bool → ℕ → ℕ
@@ -158,8 +158,8 @@ pub data Next : Type 0 where
 -- M1, A6, M17: NSTable, desc<63>, would accumulate too
 unfoldable pub tableNext : Params → Lookup → ℕ → Next
 tableNext p l desc =
-    pick (beyond p.outputsize desc) (ends (faults (addressSize l.level)))
-    (deeper
+    if beyond p.outputsize desc then ends (faults (addressSize l.level))
+    else deeper
     record {
       level = l.level + 1;
       baseaddress = alignDown (desc % 2 ^ 48) (grainsize p.largegrain);
@@ -168,7 +168,7 @@ tableNext p l desc =
       apTable0 = l.apTable0 || (not p.singlepriv && apTable0 desc);
       xnTable = l.xnTable || uxnTable desc;
       pxnTable = l.pxnTable || (not p.singlepriv && pxnTable desc);
-    })
+    }
 
 -- desc<47:addrselectbottom> : va<addrselectbottom-1:0>
 abbrev pub outputaddress : ℕ → ℕ → ℕ → ℕ
@@ -195,7 +195,7 @@ permissionsOne l desc =
     }
 
 unfoldable pub leafPermissions : Params → Lookup → ℕ → Permissions
-leafPermissions p l desc = pick p.singlepriv (permissionsOne l desc) (permissionsTwo l desc)
+leafPermissions p l desc = if p.singlepriv then permissionsOne l desc else permissionsTwo l desc
 
 -- with one privilege level nG is zero. M1: in Secure EL1&0 nG would be nG OR ns_table
 unfoldable pub leafTranslation : Params → ℕ → Lookup → ℕ → Translation
@@ -211,15 +211,17 @@ leafTranslation p va l desc =
 -- a block or page: its level, then its output size, then its access flag. O4: between the first two the contiguous bit may be checked
 unfoldable pub leafResult : Params → ℕ → Lookup → ℕ → Result
 leafResult p va l desc =
-    pick (ltb l.level (firstblocklevel p.largegrain)) (faults (translation l.level))
-    (pick (beyond p.outputsize desc) (faults (addressSize l.level))
-    (pick (af desc) (mapped (leafTranslation p va l desc)) (faults (accessFlag l.level))))
+    if ltb l.level (firstblocklevel p.largegrain) then faults (translation l.level)
+    else if beyond p.outputsize desc then faults (addressSize l.level)
+    else if af desc then mapped (leafTranslation p va l desc)
+    else faults (accessFlag l.level)
 
 -- '00', '10' and, at level 3, '01' are faults; '01' is a block, '11' a page at level 3 and a table above
 unfoldable pub levelNext : Params → ℕ → Lookup → ℕ → Next
 levelNext p va l desc =
-    pick (not (valid desc) || (eqb l.level 3 && not (tableOrPage desc))) (ends (faults (translation l.level)))
-    (pick (eqb l.level 3 || not (tableOrPage desc)) (ends (leafResult p va l desc)) (tableNext p l desc))
+    if not (valid desc) || (eqb l.level 3 && not (tableOrPage desc)) then ends (faults (translation l.level))
+    else if eqb l.level 3 || not (tableOrPage desc) then ends (leafResult p va l desc)
+    else tableNext p l desc
 
 -- baseaddress, and in place of its low bits the index va<top-1:addrselectbottom> : '000'
 unfoldable pub descaddr : Params → ℕ → Lookup → ℕ
@@ -249,8 +251,9 @@ walkFrom (suc n) memory p va l = onNext (lookupNext memory p va l) (walkFrom n m
 -- the walk's entry, in the order of docs/SCOPE.md's table: out of range, or EPD set; then a base beyond the output size; then the walk
 abbrev pub entered : {A : Type 0} → ℕ → Range → ℕ → (Fault → A) → A → A
 entered outputsize g va fault walk =
-    pick (not (in_range g va) || g.disabled) (fault (translation 0))
-    (pick (beyond outputsize g.baseregister) (fault (addressSize 0)) walk)
+    if not (in_range g va) || g.disabled then fault (translation 0)
+    else if beyond outputsize g.baseregister then fault (addressSize 0)
+    else walk
 
 -- the walk of an untagged address in its range
 unfoldable pub walkRange : Params → Range → ℕ → (ℕ → Option ℕ) → Result

@@ -1,8 +1,8 @@
 -- Laws of untagged addresses: what the tag's removal leaves, and that it goes by pages. Nothing else unfolds `untagged`.
-use Rattle.std.specs.Prelude.{◌≡◌, refl, Bool, true, false, ℕ, zero, suc, ◌+◌, ◌-◌, ◌*◌, ◌/◌, ◌%◌, ◌^◌, ◌≤◌, ◌<◌}
+use Rattle.std.specs.Prelude.{if◌then◌else◌, ◌≡◌, refl, Bool, true, false, ℕ, zero, suc, ◌+◌, ◌-◌, ◌*◌, ◌/◌, ◌%◌, ◌^◌, ◌≤◌, ◌<◌}
 use Rattle.std.proofs.Common.{sym, ap, ◌∙◌, arith, shr-shr}
 use Rattle.std.proofs.Math.Nat.{zero-div}
-use Rattle.word.specs.Bits.{bitOn, pick}
+use Rattle.word.specs.Bits.{bitOn}
 use Rattle.word.specs.BitLaws.{same_above}
 use Rattle.walk.specs.Tag.{tbi, signExtend56, tagDropped, untagged}
 use Rattle.walk.specs.declared.regime.Regime.{Regime}
@@ -79,7 +79,7 @@ pub untagged-low : (tcr : ℕ) (r : Regime) (va : ℕ) → untagged tcr r va % 2
 unfolding untagged
 untagged-low tcr r va = go (tbi tcr r va)
   where
-    go : (t : Bool) → pick t (tagDropped r va) va % 2 ^ 56 ≡ va % 2 ^ 56
+    go : (t : Bool) → (if t then tagDropped r va else va) % 2 ^ 56 ≡ va % 2 ^ 56
     go true = low-kept r va
     go false = refl
 
@@ -88,7 +88,7 @@ pub untagged-offset : (tcr : ℕ) (r : Regime) (va : ℕ) → untagged tcr r va 
 unfolding untagged
 untagged-offset tcr r va = go (tbi tcr r va)
   where
-    go : (t : Bool) → pick t (tagDropped r va) va % 2 ^ 12 ≡ va % 2 ^ 12
+    go : (t : Bool) → (if t then tagDropped r va else va) % 2 ^ 12 ≡ va % 2 ^ 12
     go true = offset-kept r va
     go false = refl
 
@@ -97,7 +97,7 @@ pub untagged-twice : (tcr : ℕ) (r : Regime) (va : ℕ) → untagged tcr r (unt
 unfolding untagged
 untagged-twice tcr r va = go (tbi tcr r va) refl
   where
-    go : (t : Bool) → tbi tcr r va ≡ t → untagged tcr r (pick t (tagDropped r va) va) ≡ pick t (tagDropped r va) va
+    go : (t : Bool) → tbi tcr r va ≡ t → untagged tcr r (if t then tagDropped r va else va) ≡ (if t then tagDropped r va else va)
     go true e = rw (same-tbi tcr r (tagDropped r va) va (same-55 r va), e) (twice r va)
     go false e = rw e
 
@@ -106,7 +106,7 @@ pub untagged-small : (tcr : ℕ) (r : Regime) (va : ℕ) → va < 2 ^ 64 → unt
 unfolding untagged
 untagged-small tcr r va h = go (tbi tcr r va)
   where
-    go : (t : Bool) → pick t (tagDropped r va) va < 2 ^ 64
+    go : (t : Bool) → (if t then tagDropped r va else va) < 2 ^ 64
     go true = small r va
     go false = h
 
@@ -118,6 +118,6 @@ untagged-page tcr r va vb e = rw same (go (tbi tcr r vb))
     same : tbi tcr r va ≡ tbi tcr r vb
     same = same-tbi tcr r va vb (ap (λ (x : ℕ). x % 2) (same_above va vb {k = 12} {n = 55} (omega arith) e))
 
-    go : (t : Bool) → pick t (tagDropped r va) va / 2 ^ 12 ≡ pick t (tagDropped r vb) vb / 2 ^ 12
+    go : (t : Bool) → (if t then tagDropped r va else va) / 2 ^ 12 ≡ (if t then tagDropped r vb else vb) / 2 ^ 12
     go true = page r va vb e
     go false = e

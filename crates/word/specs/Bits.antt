@@ -25,8 +25,3 @@ wrap x = x % 2 ^ 64
 abbrev pub flag : Bool → ℕ → ℕ
 flag true n = n
 flag false n = 0
-
--- one of two values, by a test
-abbrev pub pick : {A : Type 0} → Bool → A → A → A
-pick true a b = a
-pick false a b = b

@@ -1,6 +1,5 @@
 -- RAM as a window: its first address and the list of its bytes.
-use Rattle.std.specs.Prelude.{ℕ, zero, suc, ◌+◌, ◌-◌, ◌*◌, ◌/◌, ◌%◌, Bool, ◌&&◌, List, [], ◌∷◌, ◌++◌, length, take, drop, ◌==◌, Option, Some, None, nat_le, slice_index}
-use Rattle.word.specs.Bits.{pick}
+use Rattle.std.specs.Prelude.{if◌then◌else◌, ℕ, zero, suc, ◌+◌, ◌-◌, ◌*◌, ◌/◌, ◌%◌, Bool, ◌&&◌, List, [], ◌∷◌, ◌++◌, length, take, drop, ◌==◌, Option, Some, None, nat_le, slice_index}
 use Rattle.word.specs.declared.ram.Width.{Width}
 use Rattle.word.specs.declared.ram.Width.TheVariants.{Byte, Half, Word, Double}
 
@@ -13,8 +12,10 @@ bytesIn Double = 8
 -- a size of 1, 2, 4 or 8 bytes
 abbrev pub width_of : ℕ → Option Width
 width_of n =
-    pick (n == 1) (Some Byte)
-    (pick (n == 2) (Some Half) (pick (n == 4) (Some Word) (pick (n == 8) (Some Double) None)))
+    if n == 1 then Some Byte
+    else if n == 2 then Some Half
+    else if n == 4 then Some Word
+    else if n == 8 then Some Double else None
 
 -- the value of n bytes from index at, the lowest first
 unfoldable pub littleEndian : List ℕ → ℕ → ℕ → ℕ
@@ -32,7 +33,7 @@ within base len n pa = nat_le base pa && nat_le (pa + n) (base + len)
 
 -- the n bytes at an address, as a number
 unfoldable pub word_at : ℕ → List ℕ → ℕ → ℕ → Option ℕ
-word_at base ram n pa = pick (within base (length ram) n pa) (Some (littleEndian ram n (pa - base))) None
+word_at base ram n pa = if within base (length ram) n pa then Some (littleEndian ram n (pa - base)) else None
 
 -- the list with the n low bytes of a value from index at on
 abbrev pub written : List ℕ → ℕ → ℕ → ℕ → List ℕ
@@ -40,4 +41,4 @@ written ram at n v = take at ram ++ (bytes_of n v ++ drop n (drop at ram))
 
 -- RAM after a store of n bytes: outside the window nothing moves
 unfoldable pub stored : ℕ → List ℕ → ℕ → ℕ → ℕ → List ℕ
-stored base ram n pa v = pick (within base (length ram) n pa) (written ram (pa - base) n v) ram
+stored base ram n pa v = if within base (length ram) n pa then written ram (pa - base) n v else ram

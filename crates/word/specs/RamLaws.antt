@@ -1,9 +1,8 @@
 -- Laws of little-endian words and of stores, each over the width.
-use Rattle.std.specs.Prelude.{◌≡◌, ℕ, zero, suc, ◌+◌, ◌-◌, ◌*◌, ◌/◌, ◌%◌, ◌^◌, ◌<◌, ◌≤◌, Bool, true, false, ◌&&◌, List, [], ◌∷◌, ◌++◌, length, take, drop, nat_le, slice_index, slice_index_or, refl}
+use Rattle.std.specs.Prelude.{if◌then◌else◌, ◌≡◌, ℕ, zero, suc, ◌+◌, ◌-◌, ◌*◌, ◌/◌, ◌%◌, ◌^◌, ◌<◌, ◌≤◌, Bool, true, false, ◌&&◌, List, [], ◌∷◌, ◌++◌, length, take, drop, nat_le, slice_index, slice_index_or, refl}
 use Rattle.std.proofs.Common.{sym, ap, ◌∙◌, pow-suc, zero-add, suc-add, mul_assoc, mul_comm, div-one, add-one, arith, leb-true, length-take-le, get_or-append-add}
 use Rattle.std.proofs.Math.Nat.{div-div-eq-div-mul}
 use Rattle.std.proofs.Math.ListN.{get_or-append}
-use Rattle.word.specs.Bits.{pick}
 use Rattle.word.specs.BitLaws.{both}
 use Rattle.word.specs.Ram.{littleEndian, bytes_of, within, word_at, written}
 use Rattle.std.specs.Prelude.{Some, None}
@@ -50,7 +49,7 @@ unfolding word_at
 word-agree base xs ys n pa e h = rw (← e) (go (nat_le base pa) (nat_le (pa + n) (base + length xs)) refl refl)
   where
     go : (a b : Bool) → nat_le base pa ≡ a → nat_le (pa + n) (base + length xs) ≡ b
-        → pick (a && b) (Some (littleEndian xs n (pa - base))) None ≡ pick (a && b) (Some (littleEndian ys n (pa - base))) None
+        → (if a && b then Some (littleEndian xs n (pa - base)) else None) ≡ (if a && b then Some (littleEndian ys n (pa - base)) else None)
     go true true ea eb = ap Some (le-agree xs ys n (pa - base) (h (leb-true _ _ ea) (leb-true _ _ eb)))
     go true false ea eb = refl
     go false b ea eb = refl

@@ -1,6 +1,6 @@
 -- The loops over all hints and all entries: the start, a turn and the end of each.
+use Rattle.std.specs.Prelude.{if◌then◌else◌}
 use Rattle.std.proofs.Common.{◌≡◌, ℕ, ◌+◌, ◌<◌, ◌≤◌, Bool, true, false, List, map, refl, ap, ◌∙◌}
-use Rattle.word.specs.Bits.{pick}
 use Rattle.tlb.specs.Entry.{blank, untagged, named, walkedFor, pageDropped, asidDropped}
 use Rattle.tlb.specs.Hint.{noHint, noFetch}
 use Rattle.tlb.specs.Cache.{entry_at, blanks, noHints}
@@ -68,7 +68,7 @@ module _ (ws : List ℕ) where
   entries_end g xs i h m = holds_as m (entries-done (core_of ws) g i (entries-long ws) h)
 
 -- a dropped entry loses its tag alone
-picked : (b : Bool) (e : Entry) → pick b (untagged e) e ≡ tagged e (pick b (untagged e) e).tag
+picked : (b : Bool) (e : Entry) → (if b then untagged e else e) ≡ tagged e (if b then untagged e else e).tag
 picked true e = refl
 picked false e = refl
 

@@ -1,6 +1,6 @@
 -- What is read of the words, as the parts of the core that they hold.
+use Rattle.std.specs.Prelude.{if◌then◌else◌}
 use Rattle.std.proofs.Common.{◌≡◌, ℕ, ◌+◌, ◌<◌, ◌≤◌, Bool, true, false, ltb, List, sym, refl, ap, ◌∙◌, arith, ltb-false, le-ltb, lt-ltb}
-use Rattle.word.specs.Bits.{pick}
 use Rattle.sysreg.specs.Regs.{controlAt, sysAt}
 use Rattle.sysreg.specs.declared.{regs.El.El, regs.ControlReg.ControlReg}
 use Rattle.sysreg.specs.declared.regs.El.TheVariants.{El1, El2, El3}
@@ -24,7 +24,7 @@ pub level_read : (ws : List ℕ) → ltb (word ws LEVEL) 4 ≡ ltb (core_of ws).
 unfolding core_of coreBy coreOn
 level_read ws = go (word ws LEVEL)
   where
-    inside : (n : ℕ) (b : Bool) → ltb n 256 ≡ b → ltb n 4 ≡ ltb (pick b n 255) 4
+    inside : (n : ℕ) (b : Bool) → ltb n 256 ≡ b → ltb n 4 ≡ ltb (if b then n else 255) 4
     inside n true e = refl
     inside n false e = le-ltb n 4 (omega (arith, ltb-false n 256 e))
 

@@ -1,7 +1,7 @@
 -- The core that 5,213 words hold. Every list of words holds one: of a word that is too large for its part, only some bits count.
-use Rattle.std.specs.Prelude.{None, Option, Some}
+use Rattle.std.specs.Prelude.{if◌then◌else◌, None, Option, Some}
 use Rattle.std.specs.Prelude.{ℕ, ◌+◌, ◌*◌, ◌%◌, ◌^◌, List, [], ◌∷◌, ◌==◌, nat_lt, slice_index}
-use Rattle.word.specs.Bits.{bitOn, field, pick}
+use Rattle.word.specs.Bits.{bitOn, field}
 use Rattle.sysreg.specs.Regs.{levels}
 use Rattle.sysreg.specs.declared.{regs.Control.Control, regs.SysRegs.SysRegs}
 use Rattle.exception.specs.declared.flags.Flags.{Flags}
@@ -21,7 +21,7 @@ word ws k = slice_index ws k
 
 -- a level that no byte holds is 255, which check 1 refuses like every level above 3
 abbrev pub levelIn : ℕ → ℕ
-levelIn v = pick (nat_lt v 256) v 255
+levelIn v = if nat_lt v 256 then v else 255
 
 -- the parts, of words given by their places
 
@@ -77,7 +77,7 @@ countsIn w =
 -- words 75 and 76
 abbrev pub pendingOf : ℕ → ℕ → Option Inval
 pendingOf what v =
-    pick (what == 1) (Some All) (pick (what == 2) (Some (Page v)) (pick (what == 3) (Some (Asid (v % 2 ^ 16))) None))
+    if what == 1 then Some All else if what == 2 then Some (Page v) else if what == 3 then Some (Asid (v % 2 ^ 16)) else None
 
 -- words 79 and 80
 abbrev pub currentIn : (ℕ → ℕ) → Current

@@ -1,8 +1,7 @@
 -- A word put anew: what the words then hold.
-use Rattle.std.specs.Prelude.{◌≡◌, ℕ, ◌+◌, ◌*◌, ◌<◌, ◌≤◌, Bool, true, false, List, length, ◌==◌, ◌≢◌, nat_lt, slice_set, refl}
+use Rattle.std.specs.Prelude.{if◌then◌else◌, ◌≡◌, ℕ, ◌+◌, ◌*◌, ◌<◌, ◌≤◌, Bool, true, false, List, length, ◌==◌, ◌≢◌, nat_lt, slice_set, refl}
 use Rattle.std.proofs.Common.{sym, ◌∙◌, arith, eq-eqb, ne_eqb, ltb-true, ltb-false}
 use Rattle.std.proofs.Math.Path.{ap}
-use Rattle.word.specs.Bits.{pick}
 use Rattle.tlb.specs.Lists.{get_d_set}
 use Rattle.tlb.specs.declared.{entry.Entry.Entry, hint.Hint.Hint}
 use Rattle.word.specs.Tables.{table, table_same}
@@ -11,7 +10,7 @@ use Rattle.words.specs.Places.{GENERAL, LEVEL, HINTS, HINT-PA, ENTRIES, ENTRY-GE
 
 -- v at place k
 abbrev pub put : (ℕ → ℕ) → ℕ → ℕ → ℕ → ℕ
-put w k v m = pick (m == k) v (w m)
+put w k v m = if m == k then v else w m
 
 -- a store puts a word
 pub word_set : (ws : List ℕ) (k v : ℕ) → k < length ws → word (slice_set ws k v) ≡ put (word ws) k v
@@ -26,7 +25,7 @@ same w k v = rw (eq-eqb k k refl)
 -- the places of the small parts
 abbrev small : (ℕ → ℕ) → ℕ → ℕ
 small w m =
-    pick (nat_lt m GENERAL) (w m) (pick (nat_lt m LEVEL) 0 (pick (nat_lt m HINTS) (w m) (pick (nat_lt m LEVEL-HITS) 0 (w m))))
+    if nat_lt m GENERAL then w m else if nat_lt m LEVEL then 0 else if nat_lt m HINTS then w m else if nat_lt m LEVEL-HITS then 0 else w m
 
 small-only : (w : ℕ → ℕ) (xs : List ℕ) (hs : List Hint) (es : List Entry) → coreOn w xs hs es ≡ coreOn (small w) xs hs es
 unfolding coreOn

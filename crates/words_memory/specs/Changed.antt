@@ -1,6 +1,5 @@
 -- The parts of a change stored one by one. Cited by the contracts of this crate alone.
-use Rattle.std.specs.Prelude.{Bool, ℕ}
-use Rattle.word.specs.Bits.{pick}
+use Rattle.std.specs.Prelude.{if◌then◌else◌, Bool, ℕ}
 use Rattle.tlb.specs.Cache.{entry_at, hintAt}
 use Rattle.tlb.specs.declared.{entry.Entry.Entry, hint.Hint.Hint}
 use Rattle.operations.specs.Change.{countedAs, keptAs}
@@ -13,4 +12,4 @@ effected c level slot effect made =
     (keptAs effect (entry_at c.tlb.cache slot) made)
 
 unfoldable pub hintedIf : Core → ℕ → Bool → Hint → Core
-hintedIf c i some h = withHint c i (pick some h (hintAt c.tlb.cache i))
+hintedIf c i some h = withHint c i (if some then h else hintAt c.tlb.cache i)

@@ -1,7 +1,6 @@
 -- One translation on the core as it is made in place: the hint first; else its changes, and the core with them stored.
-use Rattle.std.specs.Prelude.{Some, Option, None}
+use Rattle.std.specs.Prelude.{if◌then◌else◌, Some, Option, None}
 use Rattle.std.specs.Prelude.{Bool, ◌&&◌, List, ℕ, ◌+◌, eqb}
-use Rattle.word.specs.Bits.{pick}
 use Rattle.word.specs.Ram.{word_at}
 use Rattle.walk.specs.Regime.{regimeOf}
 use Rattle.tlb.specs.Access.{mayHint}
@@ -36,9 +35,8 @@ answering c a = record { core = c; answer = a }
 -- what the hint says
 unfoldable pub hintFound : Core → ℕ → Kind → Option ℕ
 hintFound c va kind =
-    pick (mayHint c.privilege kind && eqb (hintAt c.tlb.cache (dataSlot va kind)).key (hintKey va c.privilege.level))
-    (Some (onPage (hintAt c.tlb.cache (dataSlot va kind)).pa va))
-    None
+    if mayHint c.privilege kind && eqb (hintAt c.tlb.cache (dataSlot va kind)).key (hintKey va c.privilege.level) then Some (onPage (hintAt c.tlb.cache (dataSlot va kind)).pa va)
+    else None
 
 -- what the fetch hint says
 unfoldable pub fetchHint : Core → ℕ → Option ℕ
@@ -46,7 +44,7 @@ fetchHint c va = fetchFound c.tlb.cache.fetch c.privilege.level va
 
 -- an allowed address becomes a hint, where hints may serve
 unfoldable pub withHintFor : Core → Privilege → Kind → ℕ → ℕ → Core
-withHintFor c privilege kind va pa = pick (mayHint privilege kind) (withHint c (dataSlot va kind) (hintFor va privilege.level pa)) c
+withHintFor c privilege kind va pa = if mayHint privilege kind then withHint c (dataSlot va kind) (hintFor va privilege.level pa) else c
 
 abbrev pub answerPut : Core → Privilege → Kind → ℕ → Answer → Core
 answerPut c privilege kind va (Address pa) = withHintFor c privilege kind va pa

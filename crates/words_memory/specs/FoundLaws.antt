@@ -1,5 +1,5 @@
 -- The translation in place is the core's: its cells taken out and put back change no more than its branches say.
-use Rattle.std.specs.Prelude.{Some, Option, None}
+use Rattle.std.specs.Prelude.{if◌then◌else◌, Some, Option, None}
 use Rattle.std.specs.Prelude.{◌≡◌, Bool, ◌&&◌, ℕ, ◌-◌, length, take, drop}
 use Rattle.std.proofs.Math.Path.{refl, ap}
 use Rattle.std.proofs.Common.{sym, subst, ◌∙◌, arith}
@@ -8,7 +8,6 @@ use mathlib.Core.List.{List}
 use Rattle.std.proofs.Math.Dec.{eqb}
 use Rattle.std.proofs.lemmas.List.{set-get_or}
 use Rattle.std.proofs.Math.Seq.{take-length}
-use Rattle.word.specs.Bits.{pick}
 use Rattle.walk.specs.Regime.{regimeOf}
 use Rattle.tlb.specs.Access.{mayHint}
 use Rattle.tlb.specs.Entry.{blank}
@@ -28,7 +27,7 @@ use Rattle.words.specs.Parts.{withCache, withCounts, withEntry, withHint}
 use Rattle.words_memory.specs.Found.{answering, hintFound, withHintFor, answerPut, sourced, foundTo}
 
 -- a test that chose
-chose_at : (b : Bool) (x pa : ℕ) → pick b (Some x) None ≡ Some pa → (b ≡ true) × (x ≡ pa)
+chose_at : (b : Bool) (x pa : ℕ) → (if b then Some x else None) ≡ Some pa → (b ≡ true) × (x ≡ pa)
 chose_at true x pa e = (refl, at_same e)
   where
     address : Option ℕ → ℕ
@@ -46,7 +45,7 @@ chose_at false x pa e = absurd (unknown-at e)
     unknown-at : None ≡ Some pa → ⊥
     unknown-at q = subst is_at (sym q) tt
 
-chose_none : (b : Bool) (x : ℕ) → pick b (Some x) None ≡ None → b ≡ false
+chose_none : (b : Bool) (x : ℕ) → (if b then Some x else None) ≡ None → b ≡ false
 chose_none true x e = absurd (at-unknown e)
   where
     is_at : Option ℕ → Type 0

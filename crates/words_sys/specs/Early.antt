@@ -1,7 +1,7 @@
 -- A stop that is no abort comes before anything is written.
-use Rattle.std.specs.Prelude.{◌≡◌, ℕ, zero, suc, ◌+◌, Bool, true, false, List, length, refl}
+use Rattle.std.specs.Prelude.{if◌then◌else◌, ◌≡◌, ℕ, zero, suc, ◌+◌, Bool, true, false, List, length, refl}
 use Rattle.std.proofs.Common.{sym, ap, ◌∙◌, arith}
-use Rattle.word.specs.Bits.{pick, wrap}
+use Rattle.word.specs.Bits.{wrap}
 use Rattle.word.specs.Ram.{word_at}
 use Rattle.tlb.specs.declared.access.Kind.TheVariants.{Write}
 use Rattle.exception.specs.declared.kind.Exception.TheVariants.{Undefined, Svc, Hvc, Smc, Brk, DataAbort, InsnAbort, PcAlignment}
@@ -34,7 +34,7 @@ earlyStop Done = false
 earlyStop (Stopped s) = early s
 
 pub never : {A : Type 0} → false ≡ true → A
-never e = absurd (let z : ◌≡◌ {A = ℕ} 0 1 = ap (λ (b : Bool). pick b 1 0) e in omega arith)
+never e = absurd (let z : ◌≡◌ {A = ℕ} 0 1 = ap (λ (b : Bool). (if b then 1 else 0)) e in omega arith)
 
 -- a store stops by an abort, and so does a zeroing
 pub end-late : (x : Placed) (abort base : ℕ) (ram : List ℕ) (va n : ℕ) → earlyStop (storeEnd x abort base ram va n).answer ≡ false

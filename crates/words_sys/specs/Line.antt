@@ -1,12 +1,11 @@
 -- DC ZVA by a hint: where the hint of the line's page serves, its stores are one.
-use Rattle.std.specs.Prelude.{Some, Option, None}
+use Rattle.std.specs.Prelude.{if◌then◌else◌, Some, Option, None}
 use Rattle.std.specs.Prelude.{◌≡◌, ℕ, ◌+◌, ◌-◌, ◌*◌, ◌/◌, ◌%◌, ◌^◌, ◌<◌, ◌≤◌, Bool, true, false, ◌&&◌, List, length, ◌==◌, bit_or, refl}
 use Rattle.std.proofs.Common.{sym, subst, ◌∙◌, eqb-true}
 use Rattle.std.proofs.Math.Path.{ap}
 use native.Mathlib.Omega.{arith}
 use Rattle.std.proofs.lemmas.Nat.{or_mod, or_block}
 use Rattle.std.specs.Int.Bits.{or_zero_l, or_zero_r}
-use Rattle.word.specs.Bits.{pick}
 use Rattle.word.specs.BitLaws.{both}
 use Rattle.word.specs.Ram.{within, stored}
 use Rattle.tlb.specs.Access.{mayHint}
@@ -25,7 +24,7 @@ clears (Some pa) from base len = pa % 64 == 0 && within base len (64 - from) (pa
 clears None from base len = false
 
 abbrev pub cleared : Option ℕ → ℕ → ℕ → List ℕ → List ℕ
-cleared (Some pa) from base ram = pick (pa % 64 == 0) (stored base ram (64 - from) (pa + from) 0) ram
+cleared (Some pa) from base ram = if pa % 64 == 0 then stored base ram (64 - from) (pa + from) 0 else ram
 cleared None from base ram = ram
 
 -- a frame whose address of a line's first byte is a line's: it adds up with each byte of it
@@ -44,7 +43,7 @@ or-line p v i low flat small =
     omega (arith, one, none)
 
 -- a hint that serves
-serving : (b : Bool) (x pa : ℕ) → pick b (Some x) None ≡ Some pa → (b ≡ true) × (x ≡ pa)
+serving : (b : Bool) (x pa : ℕ) → (if b then Some x else None) ≡ Some pa → (b ≡ true) × (x ≡ pa)
 serving true x pa e = (refl, ap address e)
   where
     address : Option ℕ → ℕ
@@ -108,7 +107,7 @@ clears-none None from base ram e = refl
 clears-none (Some pa) from base ram e = go (pa % 64 == 0) (within base (length ram) (64 - from) (pa + from)) refl e
   where
     go : (x y : Bool) → within base (length ram) (64 - from) (pa + from) ≡ y → (x && y) ≡ false
-        → pick x (stored base ram (64 - from) (pa + from) 0) ram ≡ ram
+        → (if x then stored base ram (64 - from) (pa + from) 0 else ram) ≡ ram
     go true true q e = absurd (subst is_true e tt)
       where
         is_true : Bool → Type 0
