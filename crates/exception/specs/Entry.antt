@@ -28,17 +28,7 @@ atTarget target v l = bank (λ el held. if sameEl el target then v else held) l
 -- SPSR and ELR of the target level, the ESRs and FARs that are given, and no other register
 abbrev afterEntry : SysRegs → El → ℕ → ℕ → List ℕ → List ℕ → SysRegs
 afterEntry s target spsr ret esr far =
-    record {
-      mair = s.mair;
-      vbar = s.vbar;
-      elr = atTarget target ret s.elr;
-      spsr = atTarget target spsr s.spsr;
-      esr = esr;
-      far = far;
-      vpidr_el2 = s.vpidr_el2;
-      vmpidr_el2 = s.vmpidr_el2;
-      par_el1 = s.par_el1;
-    }
+    record s { elr = atTarget target ret s.elr; spsr = atTarget target spsr s.spsr; esr = esr; far = far }
 
 -- FAR is written where the exception has an address
 abbrev pub farAfter : El → Option ℕ → List ℕ → List ℕ

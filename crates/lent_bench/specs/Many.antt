@@ -48,25 +48,7 @@ kind_of n = if n == 1 then Read else if n == 2 then Write else Fetch
 -- a core with other SCTLR_EL1, TCR_EL1, TTBR0_EL1 and level
 abbrev pub setIn : Core → Control → ℕ → ℕ → ℕ → ℕ → Core
 setIn c r sctlr tcr ttbr0 level =
-    record {
-      privilege = record { level = level % 4; unprivileged = false };
-      flags = c.flags;
-      pc = c.pc;
-      x = c.x;
-      control =
-          record {
-            sctlr = slice_set r.sctlr 1 sctlr;
-            tcr = slice_set r.tcr 1 tcr;
-            ttbr0 = slice_set r.ttbr0 1 ttbr0;
-            ttbr1_el1 = r.ttbr1_el1;
-            scr_el3 = r.scr_el3;
-            hcr_el2 = r.hcr_el2;
-          };
-      sys = c.sys;
-      tlb = c.tlb;
-      last_pa = c.last_pa;
-      abort_pa = c.abort_pa;
-    }
+    record c { privilege = record { level = level % 4; unprivileged = false }; control = record r { sctlr = slice_set r.sctlr 1 sctlr; tcr = slice_set r.tcr 1 tcr; ttbr0 = slice_set r.ttbr0 1 ttbr0 } }
 
 -- a core as after reset, but for those
 unfoldable pub setUp : ℕ → ℕ → ℕ → ℕ → Core

@@ -37,14 +37,7 @@ freshBare =
 -- the level and the mark
 abbrev pub withPrivilege : Bare → ℕ → Bool → Bare
 withPrivilege b level mark =
-    record {
-      privilege = record { level = level; unprivileged = mark };
-      flags = b.flags;
-      pc = b.pc;
-      x = b.x;
-      control = b.control;
-      sys = b.sys;
-    }
+    record b { privilege = record { level = level; unprivileged = mark } }
 
 -- general registers 0 to 30 are kept; 31 reads as zero and drops what is written
 abbrev pub regIn : List ℕ → ℕ → ℕ
@@ -55,27 +48,17 @@ regSet x n v = if nat_lt n 31 then slice_set x n v else x
 
 abbrev pub withGeneral : Bare → ℕ → ℕ → Bare
 withGeneral b n v =
-    record { privilege = b.privilege; flags = b.flags; pc = b.pc; x = regSet b.x n v; control = b.control; sys = b.sys }
+    record b { x = regSet b.x n v }
 
 -- other registers
 abbrev pub with_regs : Bare → Control → SysRegs → Bare
-with_regs b k s = record { privilege = b.privilege; flags = b.flags; pc = b.pc; x = b.x; control = k; sys = s }
+with_regs b k s = record b { control = k; sys = s }
 
 -- PAR_EL1 alone
 abbrev pub withPar : Bare → ℕ → Bare
 withPar b par =
     with_regs b b.control
-    (record {
-      mair = b.sys.mair;
-      vbar = b.sys.vbar;
-      elr = b.sys.elr;
-      spsr = b.sys.spsr;
-      esr = b.sys.esr;
-      far = b.sys.far;
-      vpidr_el2 = b.sys.vpidr_el2;
-      vmpidr_el2 = b.sys.vmpidr_el2;
-      par_el1 = par;
-    })
+    (record b.sys { par_el1 = par })
 
 -- level, flags, PC and registers after an exception; all else stays
 abbrev pub withEntered : Bare → Entered → Bare

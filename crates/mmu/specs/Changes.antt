@@ -81,7 +81,7 @@ none-changed c k = same-core c (k.hint % 512) (k.entry % 1024)
 
 -- the same translation with another hint in its place
 abbrev hintless : Translation → Hint → Translation
-hintless t h = record { counts = t.counts; hint = h; entry = t.entry; answer = t.answer; source = t.source }
+hintless t h = record t { hint = h }
 
 -- a fetch's translation leaves the hint that it was handed, and does nothing else with it
 fetch-translation : (on : Bool) (page : ℕ) (w : Walked) (r : Regime) (privilege : Privilege) (at : Current) (k : Counts) (h g : Hint) (e : Entry) (va : ℕ)

@@ -86,9 +86,9 @@ new-serves leaf at tag = rw (eq-eqb tag tag refl, eq-eqb at.generation at.genera
 
 -- a cache with its own cells put back
 back : (c : Cache) (i j : ℕ)
-    → record { current = c.current; fetch = c.fetch; hints = slice_set c.hints i (hintAt c i); entries = slice_set c.entries j (entry_at c j) } ≡ c
+    → record c { hints = slice_set c.hints i (hintAt c i); entries = slice_set c.entries j (entry_at c j) } ≡ c
 back c i j =
-    λ n. record { current = c.current; fetch = c.fetch; hints = set-get_or c.hints i noHint n; entries = set-get_or c.entries j blank n }
+    λ n. record c { hints = set-get_or c.hints i noHint n; entries = set-get_or c.entries j blank n }
 
 rightly : (e : Entry) (user : Bool) (kind : Kind) (va : ℕ) → hasRight e.perms (rightOf kind user) ≡ true
     → judged e user kind va ≡ Address (onPage e.pa va)
@@ -161,12 +161,7 @@ module _ (s : Bank) (privilege : Privilege) (kind : Kind) where
 
     abbrev cacheWith : Hint → Entry → Cache
     cacheWith h e =
-        record {
-          current = t.cache.current;
-          fetch = t.cache.fetch;
-          hints = slice_set t.cache.hints (dataSlot a kind) h;
-          entries = slice_set t.cache.entries (slot_at s privilege.level a) e;
-        }
+        record t.cache { hints = slice_set t.cache.hints (dataSlot a kind) h; entries = slice_set t.cache.entries (slot_at s privilege.level a) e }
 
     -- a translation that leaves its cells as they were leaves the cache
     unmoved : (its.hint ≡ itsHint) × (its.entry ≡ itsEntry) → step.tlb.cache ≡ t.cache

@@ -25,7 +25,7 @@ use Rattle.walk.specs.Answers.{Walked}
 
 -- a cell put back as it was
 same-entry : (c : Cache) (i : ℕ) → setEntry c i (entry_at c i) ≡ c
-same-entry c i = λ n. record { current = c.current; fetch = c.fetch; hints = c.hints; entries = set-get_or c.entries i blank n }
+same-entry c i = λ n. record c { entries = set-get_or c.entries i blank n }
 
 -- its entry and its counters, those of a level, put back
 abbrev pub withEntry : Tlb → ℕ → ℕ → Resolved → Tlb

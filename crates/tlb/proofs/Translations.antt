@@ -28,7 +28,7 @@ use Rattle.tlb.proofs.Misses.{withEntry, entry, missed, unmoved, still-well, mis
 
 -- a hint put back as it was
 same-hint : (c : Cache) (i : ℕ) → setHint c i (hintAt c i) ≡ c
-same-hint c i = λ n. record { current = c.current; fetch = c.fetch; hints = set-get_or c.hints i noHint n; entries = c.entries }
+same-hint c i = λ n. record c { hints = set-get_or c.hints i noHint n }
 
 set-hint-sound : (c : Cache) (i : ℕ) (h : Hint) → Sound c → Aligned h → Sound (setHint c i h)
 set-hint-sound c i h s q =

@@ -17,7 +17,7 @@ hintless p es = record { current = p; fetch = noFetch; hints = noHints; entries 
 
 -- the hints of c with the rest anew
 abbrev pub renewed : Cache → Current → List Entry → Cache
-renewed c p es = record { current = p; fetch = c.fetch; hints = c.hints; entries = es }
+renewed c p es = record c { current = p; entries = es }
 
 abbrev pub emptyCache : Cache
 emptyCache = hintless (record { generation = 1; asid = 0 }) blanks
@@ -32,10 +32,10 @@ abbrev pub setEntry : Cache → ℕ → Entry → Cache
 setEntry c i e = renewed c c.current (slice_set c.entries i e)
 
 abbrev pub setHint : Cache → ℕ → Hint → Cache
-setHint c i h = record { current = c.current; fetch = c.fetch; hints = slice_set c.hints i h; entries = c.entries }
+setHint c i h = record c { hints = slice_set c.hints i h }
 
 abbrev pub setFetch : Cache → FetchHint → Cache
-setFetch c f = record { current = c.current; fetch = f; hints = c.hints; entries = c.entries }
+setFetch c f = record c { fetch = f }
 
 -- the generation wraps at 2^32
 abbrev pub nextGeneration : ℕ → ℕ

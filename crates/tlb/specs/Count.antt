@@ -25,7 +25,7 @@ abbrev pub tallyAt : Counts → ℕ → Tally
 tallyAt k i = slice_index_or k.levels i noTally
 
 abbrev pub withTally : Counts → ℕ → Tally → Counts
-withTally k i t = record { levels = slice_set k.levels i t; flushes = k.flushes; drops = k.drops; epoch = k.epoch }
+withTally k i t = record k { levels = slice_set k.levels i t }
 
 unfoldable pub noTallies : List Tally
 noTallies = replicate 4 noTally
@@ -43,10 +43,10 @@ walkCounted level k = withTally k (levelPlace level) (walkTaken (tallyAt k (leve
 -- THE WHOLE CACHE
 
 abbrev pub epochCounted : Counts → Counts
-epochCounted k = record { levels = k.levels; flushes = k.flushes; drops = k.drops; epoch = more k.epoch }
+epochCounted k = record k { epoch = more k.epoch }
 
 abbrev pub flushCounted : Counts → Counts
-flushCounted k = record { levels = k.levels; flushes = more k.flushes; drops = k.drops; epoch = more k.epoch }
+flushCounted k = record k { flushes = more k.flushes; epoch = more k.epoch }
 
 abbrev pub dropCounted : Counts → Counts
-dropCounted k = record { levels = k.levels; flushes = k.flushes; drops = more k.drops; epoch = more k.epoch }
+dropCounted k = record k { drops = more k.drops; epoch = more k.epoch }

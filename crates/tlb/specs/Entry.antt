@@ -16,7 +16,7 @@ serves e at tag = (e.tag == tag && e.generation == at.generation) && (e.global |
 
 abbrev pub stamped : Entry → ℕ → Entry
 stamped e g =
-    record { tag = e.tag; generation = g; perms = e.perms; level = e.level; global = e.global; asid = e.asid; pa = e.pa }
+    record e { generation = g }
 
 abbrev pub untagged : Entry → Entry
 untagged e =

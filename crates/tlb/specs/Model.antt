@@ -91,7 +91,7 @@ oneEpoch k = record { hits = k.hits; walks = k.walks; flushes = k.flushes; drops
 -- the model with other counters
 abbrev pub counting : (Counters → Counters) → Model → Model
 counting f m =
-    record { asid = m.asid; lines = m.lines; hints = m.hints; fetch = m.fetch; counts = f m.counts; pending = m.pending }
+    record m { counts = f m.counts }
 
 -- INVALIDATION
 
@@ -165,14 +165,7 @@ joined (holds earlier) what = holds (if equal earlier what then earlier else All
 
 unfoldable pub broadcast : Inval → Model → Model
 broadcast what m =
-    record {
-      asid = m.asid;
-      lines = m.lines;
-      hints = m.hints;
-      fetch = m.fetch;
-      counts = m.counts;
-      pending = joined m.pending what;
-    }
+    record m { pending = joined m.pending what }
 
 -- LINES
 
@@ -203,14 +196,7 @@ line_for m r p = serving m.asid r p (m.lines (p % 1024))
 
 unfoldable pub keep : Line → Model → Model
 keep l m =
-    record {
-      asid = m.asid;
-      lines = λ i. if i == l.page % 1024 then holds l else m.lines i;
-      hints = m.hints;
-      fetch = m.fetch;
-      counts = m.counts;
-      pending = m.pending;
-    }
+    record m { lines = λ i. if i == l.page % 1024 then holds l else m.lines i }
 
 -- HINTS
 
@@ -235,25 +221,11 @@ knowing p l (holds h) = if h.page == p && h.level == l then holds h.frame else e
 
 abbrev pub keepHint : ℕ → Known → Model → Model
 keepHint place h m =
-    record {
-      asid = m.asid;
-      lines = m.lines;
-      hints = λ i. if i == place then holds h else m.hints i;
-      fetch = m.fetch;
-      counts = m.counts;
-      pending = m.pending;
-    }
+    record m { hints = λ i. if i == place then holds h else m.hints i }
 
 abbrev pub keepFetch : Known → Model → Model
 keepFetch h m =
-    record {
-      asid = m.asid;
-      lines = m.lines;
-      hints = m.hints;
-      fetch = holds h;
-      counts = m.counts;
-      pending = m.pending;
-    }
+    record m { fetch = holds h }
 
 -- TRANSLATION
 

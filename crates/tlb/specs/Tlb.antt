@@ -56,4 +56,4 @@ pendingAfter None what = Some what
 pendingAfter (Some earlier) what = Some (if sameInval earlier what then what else All)
 
 unfoldable pub broadcastOf : Tlb → Inval → Tlb
-broadcastOf t what = record { cache = t.cache; counts = t.counts; broadcast = pendingAfter t.broadcast what }
+broadcastOf t what = record t { broadcast = pendingAfter t.broadcast what }

@@ -87,36 +87,21 @@ module _ (list : List (Lent real machine)) (m : Ram) where
     page_counted =
         (n : ℕ) → what ≡ Page n
         → then.counts
-        ≡ record {
-          levels = now.counts.levels;
-          flushes = now.counts.flushes;
-          drops = (now.counts.drops + 1) % 2 ^ 64;
-          epoch = (now.counts.epoch + 1) % 2 ^ 64;
-        }
+        ≡ record now.counts { drops = (now.counts.drops + 1) % 2 ^ 64; epoch = (now.counts.epoch + 1) % 2 ^ 64 }
 
     -- an All one to `flushes` and one to `epoch`
     abbrev pub all_counted : Type 0
     all_counted =
         what ≡ All
         → then.counts
-        ≡ record {
-          levels = now.counts.levels;
-          flushes = (now.counts.flushes + 1) % 2 ^ 64;
-          drops = now.counts.drops;
-          epoch = (now.counts.epoch + 1) % 2 ^ 64;
-        }
+        ≡ record now.counts { flushes = (now.counts.flushes + 1) % 2 ^ 64; epoch = (now.counts.epoch + 1) % 2 ^ 64 }
 
     -- an Asid one to `epoch` alone
     abbrev pub asid_counted : Type 0
     asid_counted =
         (a : ℕ) → what ≡ Asid a
         → then.counts
-        ≡ record {
-          levels = now.counts.levels;
-          flushes = now.counts.flushes;
-          drops = now.counts.drops;
-          epoch = (now.counts.epoch + 1) % 2 ^ 64;
-        }
+        ≡ record now.counts { epoch = (now.counts.epoch + 1) % 2 ^ 64 }
 
     -- A second broadcast that differs from the pending one becomes All, an equal one stays: of an Inner Shareable
     -- form, whose CRm is 3

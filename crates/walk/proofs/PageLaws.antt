@@ -26,13 +26,7 @@ use Rattle.walk.specs.Answers.{Walked}
 -- the same of the manual's results
 abbrev pagedFound : Translation → Translation
 pagedFound t =
-    record {
-      address = alignDown t.address 12;
-      level = t.level;
-      perms = t.perms;
-      nG = t.nG;
-      descriptor = t.descriptor;
-    }
+    record t { address = alignDown t.address 12 }
 
 abbrev pagedResult : Result → Result
 pagedResult (mapped t) = mapped (pagedFound t)

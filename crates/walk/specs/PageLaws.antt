@@ -7,7 +7,7 @@ use Rattle.walk.specs.Answers.{Walked}
 
 -- a leaf with another output address
 abbrev pub withAddress : Leaf → ℕ → Leaf
-withAddress leaf oa = record { oa = oa; desc = leaf.desc; perms = leaf.perms; level = leaf.level; global = leaf.global }
+withAddress leaf oa = record leaf { oa = oa }
 
 -- a leaf with the output address of its page
 abbrev pub pagedLeaf : Leaf → Leaf

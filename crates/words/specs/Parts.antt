@@ -20,7 +20,7 @@ unfoldable pub withCounts : Core → Counts → Core
 withCounts c k = withTlb c (tlbWith c.tlb c.tlb.cache k)
 
 unfoldable pub withPending : Core → Option Inval → Core
-withPending c p = withTlb c (record { cache = c.tlb.cache; counts = c.tlb.counts; broadcast = p })
+withPending c p = withTlb c (record c.tlb { broadcast = p })
 
 unfoldable pub withHint : Core → ℕ → Hint → Core
 withHint c i h = withCache c (setHint c.tlb.cache i h)
@@ -30,15 +30,7 @@ withEntry c j e = withCache c (setEntry c.tlb.cache j e)
 
 abbrev pub tagged : Entry → ℕ → Entry
 tagged e tag =
-    record {
-      tag = tag;
-      generation = e.generation;
-      perms = e.perms;
-      level = e.level;
-      global = e.global;
-      asid = e.asid;
-      pa = e.pa;
-    }
+    record e { tag = tag }
 
 unfoldable pub withFetchHint : Core → FetchHint → Core
 withFetchHint c f = withCache c (setFetch c.tlb.cache f)
@@ -67,70 +59,20 @@ withAbort c pa = afterAccess c c.tlb c.last_pa pa
 
 unfoldable pub withPrivilege : Core → Privilege → Core
 withPrivilege c privilege =
-    record {
-      privilege = privilege;
-      flags = c.flags;
-      pc = c.pc;
-      x = c.x;
-      control = c.control;
-      sys = c.sys;
-      tlb = c.tlb;
-      last_pa = c.last_pa;
-      abort_pa = c.abort_pa;
-    }
+    record c { privilege = privilege }
 
 unfoldable pub with_flags : Core → Flags → Core
 with_flags c f =
-    record {
-      privilege = c.privilege;
-      flags = f;
-      pc = c.pc;
-      x = c.x;
-      control = c.control;
-      sys = c.sys;
-      tlb = c.tlb;
-      last_pa = c.last_pa;
-      abort_pa = c.abort_pa;
-    }
+    record c { flags = f }
 
 unfoldable pub withPc : Core → ℕ → Core
 withPc c pc =
-    record {
-      privilege = c.privilege;
-      flags = c.flags;
-      pc = pc;
-      x = c.x;
-      control = c.control;
-      sys = c.sys;
-      tlb = c.tlb;
-      last_pa = c.last_pa;
-      abort_pa = c.abort_pa;
-    }
+    record c { pc = pc }
 
 unfoldable pub withControl : Core → Control → Core
 withControl c k =
-    record {
-      privilege = c.privilege;
-      flags = c.flags;
-      pc = c.pc;
-      x = c.x;
-      control = k;
-      sys = c.sys;
-      tlb = c.tlb;
-      last_pa = c.last_pa;
-      abort_pa = c.abort_pa;
-    }
+    record c { control = k }
 
 unfoldable pub withSys : Core → SysRegs → Core
 withSys c s =
-    record {
-      privilege = c.privilege;
-      flags = c.flags;
-      pc = c.pc;
-      x = c.x;
-      control = c.control;
-      sys = s;
-      tlb = c.tlb;
-      last_pa = c.last_pa;
-      abort_pa = c.abort_pa;
-    }
+    record c { sys = s }

@@ -17,12 +17,7 @@ use Rattle.words.specs.Parts.{tagged, withCache, withHint, withEntry, with_tag, 
 unfoldable pub withDataHints : Core → List Hint → Core
 withDataHints c hs =
     withCache c
-    (record {
-      current = c.tlb.cache.current;
-      fetch = c.tlb.cache.fetch;
-      hints = hs;
-      entries = c.tlb.cache.entries;
-    })
+    (record c.tlb.cache { hints = hs })
 
 abbrev pub hints : Core → List Hint
 hints c = c.tlb.cache.hints

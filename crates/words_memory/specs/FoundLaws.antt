@@ -62,7 +62,7 @@ module _ (c : Core) where
   back slot place e h k = withTlb c (tlbWith c.tlb (setHint (setEntry c.tlb.cache slot e) place h) k)
 
   abbrev celled : List Hint → List Entry → Counts → Core
-  celled hs es k = withTlb c (tlbWith c.tlb (record { current = c.tlb.cache.current; fetch = c.tlb.cache.fetch; hints = hs; entries = es }) k)
+  celled hs es k = withTlb c (tlbWith c.tlb (record c.tlb.cache { hints = hs; entries = es }) k)
 
   pub entry-back : (slot : ℕ) (k : Counts) → withEntry (withCounts c k) slot (entry_at c.tlb.cache slot) ≡ withCounts c k
   unfolding withEntry withCounts withCache afterAccess
