@@ -3,12 +3,12 @@
 // crate that others see exports nothing, so the exports stand alone here.
 ghost use Rattle.std.specs.Prelude.{◌≡◌};
 ghost use Rattle.operations.specs.declared.call.Call.TheVariants as Call;
-ghost use Rattle.mmu.specs.Core.{freshCore};
+ghost use Rattle.mmu.specs.Core.{fresh_core};
 ghost use Rattle.words.specs.CoreOf.{core_of};
 ghost use Rattle.call_words.specs.declared.op.DecodedCall.TheVariants as DecodedCall;
-ghost use Rattle.call_words.specs.Ops.{key_of, kind_of, encodingOf, exceptionAt};
-ghost use Rattle.call_words.specs.Ops.{abortCall, markCall, call_of, translateCall};
-ghost use Rattle.call_words.specs.Walk.{walkCode, walkWords};
+ghost use Rattle.call_words.specs.Ops.{key_of, kind_of, encoding_of, exception_at};
+ghost use Rattle.call_words.specs.Ops.{abort_call, mark_call, call_of, translate_call};
+ghost use Rattle.call_words.specs.Walk.{walk_code, walk_words};
 ghost use Rattle.words_census.specs.Promise.{CensusPromise};
 ghost use Rattle.a72abi.specs.Promise.{Promise, Setting, StepPromise};
 
@@ -52,7 +52,7 @@ pub extern "C" fn a72_store(
 // Every word written: the core after reset.
 #[unsafe(no_mangle)]
 pub extern "C" fn a72_fresh(state: &mut State)
-    ensures { core_of state.new ≡ freshCore }
+    ensures { core_of state.new ≡ fresh_core }
 {
     calls::a72_fresh(state);
 }
@@ -70,7 +70,7 @@ pub extern "C" fn a72_system(
     base: u64,
     ram: &mut [u8],
 ) -> u64
-    ensures { Promise (DecodedCall.Known (Call.System (encodingOf op1 crn crm op2 rt))) base ram.old
+    ensures { Promise (DecodedCall.Known (Call.System (encoding_of op1 crn crm op2 rt))) base ram.old
         state.old result ans.old ans.new ram.new state.new }
 {
     calls::a72_system(state, op1, crn, crm, op2, rt, ans, base, ram)
@@ -103,7 +103,7 @@ pub extern "C" fn a72_general(state: &mut State, number: u64, value: u64) -> u64
 // The mark, 0 or 1.
 #[unsafe(no_mangle)]
 pub extern "C" fn a72_mark(state: &mut State, mark: u64) -> u64
-    ensures { Setting (markCall mark) state.old result state.new }
+    ensures { Setting (mark_call mark) state.old result state.new }
 {
     calls::a72_mark(state, mark)
 }
@@ -111,7 +111,7 @@ pub extern "C" fn a72_mark(state: &mut State, mark: u64) -> u64
 // Abort entry, of an exception in four words.
 #[unsafe(no_mangle)]
 pub extern "C" fn a72_abort(state: &mut State, e: &[u64; 4]) -> u64
-    ensures { Setting (abortCall (exceptionAt e.now)) state.old result state.new }
+    ensures { Setting (abort_call (exception_at e.now)) state.old result state.new }
 {
     calls::a72_abort(state, e)
 }
@@ -158,8 +158,8 @@ pub extern "C" fn a72_walk(
     base: u64,
     ram: &[u8],
 ) -> u64
-    ensures { (result ≡ walkCode words.now number va base ram.now) ×
-        (out.new ≡ walkWords words.now number va base ram.now out.old) }
+    ensures { (result ≡ walk_code words.now number va base ram.now) ×
+        (out.new ≡ walk_words words.now number va base ram.now out.old) }
 {
     inspect::a72_walk(words, number, va, out, base, ram)
 }
@@ -174,7 +174,7 @@ pub extern "C" fn a72_translate(
     base: u64,
     ram: &[u8],
 ) -> u64
-    ensures { Promise (translateCall (kind_of kind) va) base ram.now state.old result
+    ensures { Promise (translate_call (kind_of kind) va) base ram.now state.old result
         ans.old ans.new ram.now state.new }
 {
     memory::a72_translate(state, va, kind, ans, base, ram)

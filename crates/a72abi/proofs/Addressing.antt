@@ -11,25 +11,25 @@ use Rattle.word.specs.Ram.{word_at}
 use Rattle.tlb.specs.declared.{access.Kind.Kind, access.Answer.Answer}
 use Rattle.tlb.specs.declared.access.Kind.TheVariants.{Read, Write, Fetch}
 use Rattle.tlb.specs.declared.access.Answer.TheVariants.{Address, Status}
-use Rattle.mmu.specs.Core.{afterAccess}
-use Rattle.operations.specs.Ends.{fetchEnd, reachedBy}
-use Rattle.operations.specs.Bytes.{insnOf}
-use Rattle.mmu.specs.Ops.{withTlb, fetchSteppedNow, translateOf, dataPaOf, fetchPaOf, fetchOf}
+use Rattle.mmu.specs.Core.{after_access}
+use Rattle.operations.specs.Ends.{fetch_end, reached_by}
+use Rattle.operations.specs.Bytes.{insn_of}
+use Rattle.mmu.specs.Ops.{with_tlb, fetch_stepped_now, translate_of, data_pa_of, fetch_pa_of, fetch_of}
 use Rattle.mmu.specs.declared.core_state.Core.{Core}
 use Rattle.operations.specs.declared.bytes.Insn.{Insn}
 use Rattle.operations.specs.Replies.{translation, reaching}
 use Rattle.cpu.specs.Step.{run_of}
 use Rattle.operations.specs.declared.call.Call.TheVariants as Call
 use Rattle.words.specs.CoreOf.{core_of}
-use Rattle.words.specs.Parts.{withAbort}
+use Rattle.words.specs.Parts.{with_abort}
 use Rattle.words.specs.NowHolds.{NowHolds, stays}
-use Rattle.words_memory.specs.Found.{code_of, value_of, answering, hintFound, fetchHint, foundTo, pagedTo}
-use Rattle.words_memory.specs.FetchLaws.{fetchTo, fetch-serves, fetch-misses}
+use Rattle.words_memory.specs.Found.{code_of, value_of, answering, hint_found, fetch_hint, found_to, paged_to}
+use Rattle.words_memory.specs.FetchLaws.{fetch_to, fetch-serves, fetch-misses}
 use Rattle.words_memory.proofs.Looking.{by-hint-code, by-hint-value, by-hint-core, by-find-code, by-find-value, by-find-core, code_at}
-use Rattle.call_words.specs.Replies.{codeBy, valueBy}
-use Rattle.call_words.specs.Ops.{kind_of, translateCall}
+use Rattle.call_words.specs.Replies.{code_by, value_by}
+use Rattle.call_words.specs.Ops.{kind_of, translate_call}
 use Rattle.a72abi.specs.Kept.{kept-late, kept_same, translation-late, reach-late, fetch-end, unmoved}
-use Rattle.a72abi.specs.Inside.{Tells, FetchTells, fetchEnds}
+use Rattle.a72abi.specs.Inside.{Tells, FetchTells, fetch_ends}
 use Rattle.a72abi.specs.Promise.{Gives}
 use Rattle.call_words.specs.declared.op.DecodedCall.TheVariants as DecodedCall
 use Rattle.call_words.specs.declared.op.DecodedKind.{DecodedKind}
@@ -38,33 +38,33 @@ use Rattle.a72abi.proofs.Passing.{tells_as, tells-after}
 
 -- TRANSLATIONS
 
-translation-code : (va : ℕ) (a : Answer) → code_of a ≡ codeBy (translation va a)
+translation-code : (va : ℕ) (a : Answer) → code_of a ≡ code_by (translation va a)
 translation-code va (Address pa) = refl
 translation-code va (Status fsc) = refl
 
-translation-value : (va old : ℕ) (a : Answer) → value_of a old ≡ valueBy (translation va a) old
+translation-value : (va old : ℕ) (a : Answer) → value_of a old ≡ value_by (translation va a) old
 translation-value va old (Address pa) = refl
 translation-value va old (Status fsc) = refl
 
 translation-tells : (ws : List ℕ) (base : ℕ) (ram : List ℕ) (va : ℕ) (kind : Kind) (n old v : ℕ) (xs : List ℕ)
-    → n ≡ code_of (translateOf (core_of ws) (word_at base ram 8) va kind).answer → v ≡ value_of (translateOf (core_of ws) (word_at base ram 8) va kind).answer old
-    → NowHolds ws xs (translateOf (core_of ws) (word_at base ram 8) va kind).core → Tells (run_of (core_of ws) base ram (Call.Translate kind va)) ws n old v xs
+    → n ≡ code_of (translate_of (core_of ws) (word_at base ram 8) va kind).answer → v ≡ value_of (translate_of (core_of ws) (word_at base ram 8) va kind).answer old
+    → NowHolds ws xs (translate_of (core_of ws) (word_at base ram 8) va kind).core → Tells (run_of (core_of ws) base ram (Call.Translate kind va)) ws n old v xs
 unfolding run_of
 translation-tells ws base ram va kind n old v xs en ev m =
-    let a = (translateOf (core_of ws) (word_at base ram 8) va kind).answer in
-    let c : n ≡ codeBy (translation va a) = en ∙ translation-code va a in
+    let a = (translate_of (core_of ws) (word_at base ram 8) va kind).answer in
+    let c : n ≡ code_by (translation va a) = en ∙ translation-code va a in
     record { code = c; value = ev ∙ translation-value va old a; words = m; kept = kept-late ws xs (translation va a) n c (translation-late va a) }
 
 -- the hint first, and else a translation that is lent RAM as a part
-module _ (ws : List ℕ) (base : ℕ) (ram : List ℕ) (va : ℕ) (kind : Kind) (old : ℕ) (p : Option ℕ) (ep : p ≡ hintFound (core_of ws) va kind) where
+module _ (ws : List ℕ) (base : ℕ) (ram : List ℕ) (va : ℕ) (kind : Kind) (old : ℕ) (p : Option ℕ) (ep : p ≡ hint_found (core_of ws) va kind) where
   pub hint-tells : (pa : ℕ) → p ≡ Some pa → Tells (run_of (core_of ws) base ram (Call.Translate kind va)) ws 0 old pa ws
   hint-tells pa e =
       let memory = word_at base ram 8 in
       translation-tells ws base ram va kind 0 old pa ws (by-hint-code ws memory va kind p ep pa e) (by-hint-value ws memory va kind p ep pa old e)
       (by-hint-core ws memory va kind p ep pa e)
 
-  pub find-tells : (part : List ℕ) (n v : ℕ) (xs : List ℕ) → part ≡ ram → p ≡ None → n ≡ code_of (foundTo (core_of ws) (word_at base part 8) va kind).answer
-      → v ≡ value_of (foundTo (core_of ws) (word_at base part 8) va kind).answer old → NowHolds ws xs (foundTo (core_of ws) (word_at base part 8) va kind).core
+  pub find-tells : (part : List ℕ) (n v : ℕ) (xs : List ℕ) → part ≡ ram → p ≡ None → n ≡ code_of (found_to (core_of ws) (word_at base part 8) va kind).answer
+      → v ≡ value_of (found_to (core_of ws) (word_at base part 8) va kind).answer old → NowHolds ws xs (found_to (core_of ws) (word_at base part 8) va kind).core
       → Tells (run_of (core_of ws) base ram (Call.Translate kind va)) ws n old v xs
   find-tells part n v xs q e en ev m =
       let memory = word_at base part 8 in
@@ -72,79 +72,79 @@ module _ (ws : List ℕ) (base : ℕ) (ram : List ℕ) (va : ℕ) (kind : Kind) 
       (translation-tells ws base part va kind n old v xs (by-find-code ws memory va kind p ep n e en) (by-find-value ws memory va kind p ep v old e ev)
       (by-find-core ws memory va kind p ep xs e m))
 
-without-status-code : (a : Answer) (n r : ℕ) → n ≡ code_of a → r ≡ (if eqb n 0 then 0 else 256) → r ≡ codeBy (reaching (reachedBy a))
+without-status-code : (a : Answer) (n r : ℕ) → n ≡ code_of a → r ≡ (if eqb n 0 then 0 else 256) → r ≡ code_by (reaching (reached_by a))
 without-status-code (Address pa) n r e q = q ∙ ap (λ (k : ℕ). (if eqb k 0 then 0 else 256)) e
 without-status-code (Status f) n r e q = q ∙ rw (e, ne_eqb (256 + f.fsc) 0 (λ z. omega arith))
 
-without-status-value : (a : Answer) (old : ℕ) → value_of a old ≡ valueBy (reaching (reachedBy a)) old
+without-status-value : (a : Answer) (old : ℕ) → value_of a old ≡ value_by (reaching (reached_by a)) old
 without-status-value (Address pa) old = refl
 without-status-value (Status fsc) old = refl
 
 module _ (ws : List ℕ) (base : ℕ) (ram : List ℕ) (va n r old v : ℕ) (xs : List ℕ) (er : r ≡ (if eqb n 0 then 0 else 256)) where
   pub data-tells : Tells (run_of (core_of ws) base ram (Call.Translate Read va)) ws n old v xs → Tells (run_of (core_of ws) base ram (Call.DataPa va)) ws r old v xs
-  unfolding run_of dataPaOf translateOf
+  unfolding run_of data_pa_of translate_of
   data-tells t =
-      let a = (translateOf (core_of ws) (word_at base ram 8) va Read).answer in
+      let a = (translate_of (core_of ws) (word_at base ram 8) va Read).answer in
       let c = without-status-code a n r (t.code ∙ sym (translation-code va a)) er in
       record {
         code = c;
         value = t.value ∙ sym (translation-value va old a) ∙ without-status-value a old;
         words = t.words;
-        kept = kept-late ws xs (reaching (reachedBy a)) r c (reach-late (reachedBy a));
+        kept = kept-late ws xs (reaching (reached_by a)) r c (reach-late (reached_by a));
       }
 
-  pub fetch-pa-tells : n ≡ code_of (fetchSteppedNow (core_of ws) (word_at base ram 8) va).answer → v
-      ≡ value_of (fetchSteppedNow (core_of ws) (word_at base ram 8) va).answer old
-      → NowHolds ws xs (withTlb (core_of ws) (fetchSteppedNow (core_of ws) (word_at base ram 8) va).tlb)
+  pub fetch-pa-tells : n ≡ code_of (fetch_stepped_now (core_of ws) (word_at base ram 8) va).answer → v
+      ≡ value_of (fetch_stepped_now (core_of ws) (word_at base ram 8) va).answer old
+      → NowHolds ws xs (with_tlb (core_of ws) (fetch_stepped_now (core_of ws) (word_at base ram 8) va).tlb)
       → Tells (run_of (core_of ws) base ram (Call.FetchPa va)) ws r old v xs
-  unfolding run_of fetchPaOf
+  unfolding run_of fetch_pa_of
   fetch-pa-tells en ev m =
-      let a = (fetchSteppedNow (core_of ws) (word_at base ram 8) va).answer in
+      let a = (fetch_stepped_now (core_of ws) (word_at base ram 8) va).answer in
       let c = without-status-code a n r en er in
-      record { code = c; value = ev ∙ without-status-value a old; words = m; kept = kept-late ws xs (reaching (reachedBy a)) r c (reach-late (reachedBy a)) }
+      record { code = c; value = ev ∙ without-status-value a old; words = m; kept = kept-late ws xs (reaching (reached_by a)) r c (reach-late (reached_by a)) }
 
 -- FETCHES
 
-fetch-ends-late : (c : Core) (a : Answer) (base : ℕ) (ram : List ℕ) (va : ℕ) → unmoved (fetchEnds c a base ram va).reply ≡ false
-unfolding fetchEnds
+fetch-ends-late : (c : Core) (a : Answer) (base : ℕ) (ram : List ℕ) (va : ℕ) → unmoved (fetch_ends c a base ram va).reply ≡ false
+unfolding fetch_ends
 fetch-ends-late c a base ram va = fetch-end a c.abort_pa base ram va
 
-fetch-run : (c : Core) (base : ℕ) (ram : List ℕ) (va : ℕ) (a : Answer) (d : Core) → fetchTo c (word_at base ram 8) va ≡ answering d a
-    → fetchEnds d a base ram va ≡ run_of c base ram (Call.Fetch va)
-unfolding fetchEnds run_of fetchOf fetchTo withAbort afterAccess
-fetch-run c base ram va a d e = λ i. fetchEnds (sym e i).core (sym e i).answer base ram va
+fetch-run : (c : Core) (base : ℕ) (ram : List ℕ) (va : ℕ) (a : Answer) (d : Core) → fetch_to c (word_at base ram 8) va ≡ answering d a
+    → fetch_ends d a base ram va ≡ run_of c base ram (Call.Fetch va)
+unfolding fetch_ends run_of fetch_of fetch_to with_abort after_access
+fetch-run c base ram va a d e = λ i. fetch_ends (sym e i).core (sym e i).answer base ram va
 
-module _ (ws : List ℕ) (base : ℕ) (ram : List ℕ) (pa : ℕ) (i : Insn) (ei : i ≡ insnOf base ram pa) (old : ℕ) where
+module _ (ws : List ℕ) (base : ℕ) (ram : List ℕ) (pa : ℕ) (i : Insn) (ei : i ≡ insn_of base ram pa) (old : ℕ) where
   pub insn-value : (v : ℕ) → i ≡ Insn.Value v → FetchTells pa base ram ws 0 old v ws
-  unfolding fetchEnds fetchEnd withAbort afterAccess
+  unfolding fetch_ends fetch_end with_abort after_access
   insn-value v e = record { by = λ va. rw (← ei, e) (record { code = refl; value = refl; words = stays; kept = kept_same 0 ws }) }
 
-module _ (ws : List ℕ) (base : ℕ) (ram : List ℕ) (va : ℕ) (p : Option ℕ) (ep : p ≡ fetchHint (core_of ws) va) where
+module _ (ws : List ℕ) (base : ℕ) (ram : List ℕ) (va : ℕ) (p : Option ℕ) (ep : p ≡ fetch_hint (core_of ws) va) where
   pub fetch-hint-tells : (pa n old v : ℕ) (xs : List ℕ) → p ≡ Some pa → FetchTells pa base ram ws n old v xs
       → Tells (run_of (core_of ws) base ram (Call.Fetch va)) ws n old v xs
-  unfolding fetchHint
+  unfolding fetch_hint
   fetch-hint-tells pa n old v xs e t =
       tells_as (fetch-run (core_of ws) base ram va (Address pa) (core_of ws) (fetch-serves (core_of ws) (word_at base ram 8) va pa (sym ep ∙ e))) (t.by va)
 
-pub fetch-unknown : (ws : List ℕ) (va : ℕ) (p : Option ℕ) → p ≡ fetchHint (core_of ws) va → p ≡ None
-    → fetchHint (core_of ws) va ≡ None
+pub fetch-unknown : (ws : List ℕ) (va : ℕ) (p : Option ℕ) → p ≡ fetch_hint (core_of ws) va → p ≡ None
+    → fetch_hint (core_of ws) va ≡ None
 fetch-unknown ws va p ep e = sym ep ∙ e
 
-module _ (ws xs : List ℕ) (base : ℕ) (ram : List ℕ) (va code : ℕ) (miss : fetchHint (core_of ws) va ≡ None)
-    (ec : code ≡ code_of (foundTo (core_of ws) (word_at base ram 8) va Fetch).answer)
-    (m : NowHolds ws xs (pagedTo (core_of ws).privilege.level va (foundTo (core_of ws) (word_at base ram 8) va Fetch))) where
-  page-run : (a : Answer) → (foundTo (core_of ws) (word_at base ram 8) va Fetch).answer ≡ a → fetchEnds (core_of xs) a base ram va
+module _ (ws xs : List ℕ) (base : ℕ) (ram : List ℕ) (va code : ℕ) (miss : fetch_hint (core_of ws) va ≡ None)
+    (ec : code ≡ code_of (found_to (core_of ws) (word_at base ram 8) va Fetch).answer)
+    (m : NowHolds ws xs (paged_to (core_of ws).privilege.level va (found_to (core_of ws) (word_at base ram 8) va Fetch))) where
+  page-run : (a : Answer) → (found_to (core_of ws) (word_at base ram 8) va Fetch).answer ≡ a → fetch_ends (core_of xs) a base ram va
       ≡ run_of (core_of ws) base ram (Call.Fetch va)
-  unfolding fetchHint
+  unfolding fetch_hint
   page-run a e =
       fetch-run (core_of ws) base ram va a (core_of xs)
       (fetch-misses (core_of ws) (word_at base ram 8) va miss ∙ λ i. answering (sym m.holds i) (e i))
 
   pub fetch-fault-tells : (old : ℕ) → (code ≡ 0 → ⊥) → Tells (run_of (core_of ws) base ram (Call.Fetch va)) ws code old old xs
-  unfolding fetchEnds fetchEnd withAbort afterAccess
-  fetch-fault-tells old n = go (foundTo (core_of ws) (word_at base ram 8) va Fetch).answer refl
+  unfolding fetch_ends fetch_end with_abort after_access
+  fetch-fault-tells old n = go (found_to (core_of ws) (word_at base ram 8) va Fetch).answer refl
     where
-      go : (a : Answer) → (foundTo (core_of ws) (word_at base ram 8) va Fetch).answer ≡ a → Tells (run_of (core_of ws) base ram (Call.Fetch va)) ws code old old xs
+      go : (a : Answer) → (found_to (core_of ws) (word_at base ram 8) va Fetch).answer ≡ a → Tells (run_of (core_of ws) base ram (Call.Fetch va)) ws code old old xs
       go (Address pa) e = absurd (n (ec ∙ ap code_of e))
       go (Status fsc) e =
           tells_as (page-run (Status fsc) e)
@@ -155,12 +155,12 @@ module _ (ws xs : List ℕ) (base : ℕ) (ram : List ℕ) (va code : ℕ) (miss 
             kept = record { same = λ l h. absurd (omega (arith, ec, ap code_of e)) };
           })
 
-  pub fetch-page-tells : (pa before n old v : ℕ) (ys : List ℕ) → code ≡ 0 → pa ≡ value_of (foundTo (core_of ws) (word_at base ram 8) va Fetch).answer before
+  pub fetch-page-tells : (pa before n old v : ℕ) (ys : List ℕ) → code ≡ 0 → pa ≡ value_of (found_to (core_of ws) (word_at base ram 8) va Fetch).answer before
       → FetchTells pa base ram xs n old v ys → Tells (run_of (core_of ws) base ram (Call.Fetch va)) ws n old v ys
   fetch-page-tells pa before n old v ys z ep t =
-      let a = code_at (foundTo (core_of ws) (word_at base ram 8) va Fetch).answer code pa before ec z ep in
+      let a = code_at (found_to (core_of ws) (word_at base ram 8) va Fetch).answer code pa before ec z ep in
       tells_as (page-run (Address pa) a)
-      (tells-after m (t.by va) (kept-late ws ys (fetchEnds (core_of xs) (Address pa) base ram va).reply n (t.by va).code
+      (tells-after m (t.by va) (kept-late ws ys (fetch_ends (core_of xs) (Address pa) base ram va).reply n (t.by va).code
       (fetch-ends-late (core_of xs) (Address pa) base ram va)))
 
 -- A TRANSLATION BY THE NUMBER OF ITS KIND
@@ -185,17 +185,17 @@ kind-high n h b c = kind-none n (λ e. omega arith) b c
 
 pub kind-gives : (base : ℕ) (ram ws : List ℕ) (va : ℕ) (p : DecodedKind) (k : Kind) (n old v : ℕ) (xs : List ℕ) → Known k ≡ p
     → Gives (DecodedCall.Known (Call.Translate k va)) base ram ws n old v xs
-    → Gives (translateCall p va) base ram ws n old v xs
-unfolding translateCall
+    → Gives (translate_call p va) base ram ws n old v xs
+unfolding translate_call
 kind-gives base ram ws va p k n old v xs e g = rw (← e) g
 
-pub no-kind-gives : (base : ℕ) (ram ws : List ℕ) (va : ℕ) (p : DecodedKind) (old : ℕ) → NoKind ≡ p → Gives (translateCall p va) base ram ws 64 old old ws
-unfolding translateCall
+pub no-kind-gives : (base : ℕ) (ram ws : List ℕ) (va : ℕ) (p : DecodedKind) (old : ℕ) → NoKind ≡ p → Gives (translate_call p va) base ram ws 64 old old ws
+unfolding translate_call
 no-kind-gives base ram ws va p old e = rw (← e) (record { code = refl; value = refl; words = stays; kept = kept_same 64 ws })
 
 -- AT ONCE
 
 module _ (ws : List ℕ) (base : ℕ) (ram : List ℕ) (va old : ℕ) where
-  pub quick-fetch : (p : Option ℕ) (pa : ℕ) (i : Insn) (v : ℕ) → p ≡ fetchHint (core_of ws) va → p ≡ Some pa → i ≡ insnOf base ram pa
+  pub quick-fetch : (p : Option ℕ) (pa : ℕ) (i : Insn) (v : ℕ) → p ≡ fetch_hint (core_of ws) va → p ≡ Some pa → i ≡ insn_of base ram pa
       → i ≡ Insn.Value v → Tells (run_of (core_of ws) base ram (Call.Fetch va)) ws 0 old v ws
   quick-fetch p pa i v ep e ei q = fetch-hint-tells ws base ram va p ep pa 0 old v ws e (insn-value ws base ram pa i ei old v q)

@@ -10,14 +10,14 @@ use lib.Dec.{ltb}
 use lib.ListN.{length}
 use Rattle.word.specs.Ram.{width_of}
 use Rattle.mmu.specs.declared.core_state.Core.{Core}
-use Rattle.operations.specs.Check.{ramRows, sizedRows, first_of, missedOf, passes, isWidth, known}
-use Rattle.cpu.specs.Step.{run_of, ramOf, step_of, ramAfter, ends, loadBy}
+use Rattle.operations.specs.Check.{ram_rows, sized_rows, first_of, missed_of, passes, is_width, known}
+use Rattle.cpu.specs.Step.{run_of, ram_of, step_of, ram_after, ends, load_by}
 use Rattle.operations.specs.declared.{call.Call.Call, call.Reply.Reply}
 use Rattle.operations.specs.declared.call.Reply.TheVariants.{Refused}
 use Rattle.cpu.specs.Step.{Stepped}
 use Rattle.words.specs.CoreOf.{core_of}
 use Rattle.words.specs.NowHolds.{NowHolds}
-use Rattle.call_words.specs.Replies.{codeBy, valueBy}
+use Rattle.call_words.specs.Replies.{code_by, value_by}
 use Rattle.a72abi.specs.Quick.{Clear}
 use Rattle.a72abi.specs.Kept.{Kept, kept_same}
 use Rattle.a72abi.specs.Inside.{Tells}
@@ -40,11 +40,11 @@ gives : {ws : List ℕ} {base : ℕ} {ram : List ℕ} {n old v : ℕ} {xs : List
     → Gives (Known call) base ram ws n old v xs
 gives call t = record { code = t.code; value = t.value; words = t.words; kept = t.kept }
 
-module _ (ws : List ℕ) (base : ℕ) (ram : List ℕ) (call : Call) (n : ℕ) (en : n ≡ missedOf (core_of ws).privilege.level base (length ram) call) where
+module _ (ws : List ℕ) (base : ℕ) (ram : List ℕ) (call : Call) (n : ℕ) (en : n ≡ missed_of (core_of ws).privilege.level base (length ram) call) where
   pub refused-gives : (old : ℕ) → (n ≡ 0 → ⊥) → Gives (Known call) base ram ws n old old ws
   refused-gives old h =
       let r = refused-reply ws base ram call n en h in
-      record { code = ap codeBy r; value = ap (λ (x : Reply). valueBy x old) r; words = refused-core ws base ram call n en h; kept = kept_same n ws }
+      record { code = ap code_by r; value = ap (λ (x : Reply). value_by x old) r; words = refused-core ws base ram call n en h; kept = kept_same n ws }
 
   pub passed-gives : (k old v : ℕ) (xs : List ℕ) → n ≡ 0 → Tells (run_of (core_of ws) base ram call) ws k old v xs → Gives (Known call) base ram ws k old v xs
   passed-gives k old v xs z t = gives call (tells_as (sym (runs ws base ram call n en z)) t)
@@ -55,11 +55,11 @@ pub part_gives : (ws : List ℕ) (base : ℕ) (ram part : List ℕ) (call : Deco
 part_gives ws base ram part call n old v xs e g = rw e at g
 
 -- by a reply
-pub put-answer-code : (s : Stepped) (r : Reply) (n : ℕ) → r ≡ s.reply → n ≡ codeBy r → n ≡ codeBy s.reply
-put-answer-code s r n e q = q ∙ ap codeBy e
+pub put-answer-code : (s : Stepped) (r : Reply) (n : ℕ) → r ≡ s.reply → n ≡ code_by r → n ≡ code_by s.reply
+put-answer-code s r n e q = q ∙ ap code_by e
 
-pub put-answer-value : (s : Stepped) (r : Reply) (v old : ℕ) → r ≡ s.reply → v ≡ valueBy r old → v ≡ valueBy s.reply old
-put-answer-value s r v old e q = q ∙ ap (λ (x : Reply). valueBy x old) e
+pub put-answer-value : (s : Stepped) (r : Reply) (v old : ℕ) → r ≡ s.reply → v ≡ value_by r old → v ≡ value_by s.reply old
+put-answer-value s r v old e q = q ∙ ap (λ (x : Reply). value_by x old) e
 
 -- LEVEL AND WINDOW AT ONCE
 
@@ -78,26 +78,26 @@ module _ (ws : List ℕ) (base len : ℕ) (b : Bool) (eb : b ≡ ltb (core_of ws
   clear-here ram el t h = record { low = level-low t; short = ap (λ (n : ℕ). ltb (2 ^ 64 - 1 - n) base) (sym el) ∙ le-ltb (2 ^ 64 - 1 - len) base h }
 
 -- nothing but the level and the window to check
-pub clear-ram : (c : Core) (base len : ℕ) → len < 2 ^ 64 → Clear c base len → first_of (ramRows c.privilege.level base len) ≡ 0
+pub clear-ram : (c : Core) (base len : ℕ) → len < 2 ^ 64 → Clear c base len → first_of (ram_rows c.privilege.level base len) ≡ 0
 clear-ram c base len h k = rw (k.low, fits-window base len h k.short)
 
 pub clear-sized : (c : Core) (base len size : ℕ) → len < 2 ^ 64 → Clear c base len → known size ≡ true
-    → first_of (sizedRows c.privilege.level base len size) ≡ 0
+    → first_of (sized_rows c.privilege.level base len size) ≡ 0
 clear-sized c base len size h k s = rw (k.low, fits-window base len h k.short, s)
 
-pub passed : (c : Core) (base : ℕ) (ram : List ℕ) (call : Call) → missedOf c.privilege.level base (length ram) call ≡ 0 → step_of c base ram call
+pub passed : (c : Core) (base : ℕ) (ram : List ℕ) (call : Call) → missed_of c.privilege.level base (length ram) call ≡ 0 → step_of c base ram call
     ≡ run_of c base ram call
 unfolding step_of
 passed c base ram call e = rw e
 
-pub passed-ram : (c : Core) (base : ℕ) (ram : List ℕ) (call : Call) → missedOf c.privilege.level base (length ram) call ≡ 0 → ramAfter c base ram call
-    ≡ ramOf c base ram call
-unfolding ramAfter
+pub passed-ram : (c : Core) (base : ℕ) (ram : List ℕ) (call : Call) → missed_of c.privilege.level base (length ram) call ≡ 0 → ram_after c base ram call
+    ≡ ram_of c base ram call
+unfolding ram_after
 passed-ram c base ram call e = rw e
 
 -- a call that is handed RAM
 module _ (ws : List ℕ) (base : ℕ) (ram : List ℕ) (call : Call)
-    (em : missedOf (core_of ws).privilege.level base (length ram) call ≡ first_of (ramRows (core_of ws).privilege.level base (length ram))) where
+    (em : missed_of (core_of ws).privilege.level base (length ram) call ≡ first_of (ram_rows (core_of ws).privilege.level base (length ram))) where
   pub ram-high : (old : ℕ) → ltb 3 (core_of ws).privilege.level ≡ true → Gives (Known call) base ram ws 1 old old ws
   ram-high old h = refused-gives ws base ram call 1 (sym (em ∙ rw h)) old (λ e. omega arith)
 
@@ -108,50 +108,50 @@ module _ (ws : List ℕ) (base : ℕ) (ram : List ℕ) (call : Call)
 
 -- a load or store: a size that is none is refused either way
 module _ (c : Core) (base : ℕ) (ram : List ℕ) (va size : ℕ) (h : length ram < 2 ^ 64) (k : Clear c base (length ram)) where
-  no_size : (call : Call) → missedOf c.privilege.level base (length ram) call ≡ first_of (sizedRows c.privilege.level base (length ram) size)
+  no_size : (call : Call) → missed_of c.privilege.level base (length ram) call ≡ first_of (sized_rows c.privilege.level base (length ram) size)
       → known size ≡ false
       → step_of c base ram call ≡ ends c (Refused 3)
   unfolding step_of
   no_size call e f = rw (e, k.low, fits-window base (length ram) h k.short, f)
 
-  no-size-ram : (call : Call) → missedOf c.privilege.level base (length ram) call ≡ first_of (sizedRows c.privilege.level base (length ram) size)
+  no-size-ram : (call : Call) → missed_of c.privilege.level base (length ram) call ≡ first_of (sized_rows c.privilege.level base (length ram) size)
       → known size ≡ false
-      → ramAfter c base ram call ≡ ram
-  unfolding ramAfter
+      → ram_after c base ram call ≡ ram
+  unfolding ram_after
   no-size-ram call e f = rw (e, k.low, fits-window base (length ram) h k.short, f)
 
   load-clear : step_of c base ram (Call.Load va size) ≡ run_of c base ram (Call.Load va size)
-  unfolding run_of missedOf
+  unfolding run_of missed_of
   load-clear = go (width_of size) refl
     where
-      go : (s : Option Width) → width_of size ≡ s → step_of c base ram (Call.Load va size) ≡ loadBy (width_of size) c base ram va
-      go (Some w) e = passed c base ram (Call.Load va size) (clear-sized c base (length ram) size h k (ap isWidth e))
-      go None e = no_size (Call.Load va size) refl (ap isWidth e) ∙ sym (ap (λ (s : Option Width). loadBy s c base ram va) e)
+      go : (s : Option Width) → width_of size ≡ s → step_of c base ram (Call.Load va size) ≡ load_by (width_of size) c base ram va
+      go (Some w) e = passed c base ram (Call.Load va size) (clear-sized c base (length ram) size h k (ap is_width e))
+      go None e = no_size (Call.Load va size) refl (ap is_width e) ∙ sym (ap (λ (s : Option Width). load_by s c base ram va) e)
 
   store-clear : (v : ℕ) → (step_of c base ram (Call.Store va size v) ≡ run_of c base ram (Call.Store va size v))
-      × (ramAfter c base ram (Call.Store va size v) ≡ ramOf c base ram (Call.Store va size v))
-  unfolding run_of ramOf missedOf
+      × (ram_after c base ram (Call.Store va size v) ≡ ram_of c base ram (Call.Store va size v))
+  unfolding run_of ram_of missed_of
   store-clear v = go (width_of size) refl
     where
       go : (s : Option Width) → width_of size ≡ s
           → (step_of c base ram (Call.Store va size v) ≡ run_of c base ram (Call.Store va size v))
-          × (ramAfter c base ram (Call.Store va size v) ≡ ramOf c base ram (Call.Store va size v))
+          × (ram_after c base ram (Call.Store va size v) ≡ ram_of c base ram (Call.Store va size v))
       go (Some w) e =
-          let z = clear-sized c base (length ram) size h k (ap isWidth e) in
+          let z = clear-sized c base (length ram) size h k (ap is_width e) in
           (passed c base ram (Call.Store va size v) z, passed-ram c base ram (Call.Store va size v) z)
-      go None e = (no_size (Call.Store va size v) refl (ap isWidth e) ∙ sym (rw e), no-size-ram (Call.Store va size v) refl (ap isWidth e) ∙ sym (rw e))
+      go None e = (no_size (Call.Store va size v) refl (ap is_width e) ∙ sym (rw e), no-size-ram (Call.Store va size v) refl (ap is_width e) ∙ sym (rw e))
 
 module _ (ws : List ℕ) (base : ℕ) (ram : List ℕ) (va size : ℕ) where
   pub load-high : (old : ℕ) → ltb 3 (core_of ws).privilege.level ≡ true → Gives (Known (Call.Load va size)) base ram ws 1 old old ws
-  unfolding missedOf
+  unfolding missed_of
   load-high old h = refused-gives ws base ram (Call.Load va size) 1 (sym (rw h)) old (λ e. omega arith)
 
   pub store-high : (v old : ℕ) → ltb 3 (core_of ws).privilege.level ≡ true → Gives (Known (Call.Store va size v)) base ram ws 1 old old ws
-  unfolding missedOf
+  unfolding missed_of
   store-high v old h = refused-gives ws base ram (Call.Store va size v) 1 (sym (rw h)) old (λ e. omega arith)
 
-  pub store-high-ram : (v : ℕ) → ltb 3 (core_of ws).privilege.level ≡ true → ram ≡ ramAfter (core_of ws) base ram (Call.Store va size v)
-  unfolding missedOf ramAfter
+  pub store-high-ram : (v : ℕ) → ltb 3 (core_of ws).privilege.level ≡ true → ram ≡ ram_after (core_of ws) base ram (Call.Store va size v)
+  unfolding missed_of ram_after
   store-high-ram v h = sym (rw h)
 
   module _ (h : length ram < 2 ^ 64) (c : Clear (core_of ws) base (length ram)) where
@@ -163,6 +163,6 @@ module _ (ws : List ℕ) (base : ℕ) (ram : List ℕ) (va size : ℕ) where
         → Gives (Known (Call.Store va size x)) base ram ws k old v xs
     store-gives x k old v xs t = gives (Call.Store va size x) (tells_as (sym (store-clear (core_of ws) base ram va size h c x).0) t)
 
-    pub store-clear-ram : (x : ℕ) (ys : List ℕ) → ys ≡ ramOf (core_of ws) base ram (Call.Store va size x) → ys
-        ≡ ramAfter (core_of ws) base ram (Call.Store va size x)
+    pub store-clear-ram : (x : ℕ) (ys : List ℕ) → ys ≡ ram_of (core_of ws) base ram (Call.Store va size x) → ys
+        ≡ ram_after (core_of ws) base ram (Call.Store va size x)
     store-clear-ram x ys e = e ∙ sym (store-clear (core_of ws) base ram va size h c x).1

@@ -6,8 +6,8 @@ use Rattle.exception.specs.declared.kind.Exception.TheVariants as Exception
 use Rattle.exception.specs.declared.kind.Stop.TheVariants as Stop
 use Rattle.tlb.specs.declared.access.Answer.{Answer}
 use Rattle.tlb.specs.declared.access.Answer.TheVariants.{Address, Status}
-use Rattle.operations.specs.Bytes.{load_of, insnOf}
-use Rattle.operations.specs.Ends.{loadedFrom, loadEnd, fetchedFrom, fetchEnd}
+use Rattle.operations.specs.Bytes.{load_of, insn_of}
+use Rattle.operations.specs.Ends.{loaded_from, load_end, fetched_from, fetch_end}
 use Rattle.operations.specs.declared.{place.Placed.Placed, bytes.Got.Got, bytes.Insn.Insn, ends.StoreAnswer.StoreAnswer}
 use Rattle.operations.specs.declared.{ends.Reached.Reached, call.Reply.Reply}
 use Rattle.operations.specs.declared.place.Placed.TheVariants.{At, Fault as NotPlaced}
@@ -17,8 +17,8 @@ use Rattle.operations.specs.declared.ends.StoreAnswer.TheVariants as Store
 use Rattle.operations.specs.declared.ends.Reached.TheVariants as Reach
 use Rattle.operations.specs.Replies.{translation, reaching, loading, storing, fetching, registering}
 use Rattle.operations.specs.declared.call.Reply.TheVariants.{Refused, Done, Value, Faults, Fault, Stopped}
-use Rattle.words_sys.specs.Early.{early, earlyStop, never}
-use Rattle.call_words.specs.Replies.{codeBy, valueBy}
+use Rattle.words_sys.specs.Early.{early, early_stop, never}
+use Rattle.call_words.specs.Replies.{code_by, value_by}
 use Rattle.sysreg.specs.Write.{WriteAnswer}
 
 -- a refusal, Undefined, Unimplemented
@@ -39,7 +39,7 @@ pub record Kept (n : ℕ) (ws xs : List ℕ) : Type 0 where
   pub same : 0 < n → n < 256 → xs ≡ ws
 
 -- such a number is of such a reply, which has no value
-pub number-unmoved : (r : Reply) → 0 < codeBy r → codeBy r < 256 → unmoved r ≡ true
+pub number-unmoved : (r : Reply) → 0 < code_by r → code_by r < 256 → unmoved r ≡ true
 number-unmoved (Refused n) l h = refl
 number-unmoved Done l h = absurd (omega arith)
 number-unmoved (Value v) l h = absurd (omega arith)
@@ -55,7 +55,7 @@ number-unmoved (Stopped (Stop.Exception (Exception.Smc imm))) l h = refl
 number-unmoved (Stopped (Stop.Exception (Exception.Brk imm))) l h = refl
 number-unmoved (Stopped (Stop.Exception Exception.PcAlignment)) l h = refl
 
-pub unmoved-value : (r : Reply) (old : ℕ) → unmoved r ≡ true → valueBy r old ≡ old
+pub unmoved-value : (r : Reply) (old : ℕ) → unmoved r ≡ true → value_by r old ≡ old
 unmoved-value (Refused n) old e = refl
 unmoved-value Done old e = refl
 unmoved-value (Value v) old e = never e
@@ -82,25 +82,25 @@ reach-late (Reach.At pa) = refl
 reach-late Reach.Faults = refl
 
 pub load-late : (x : Placed) (last abort base : ℕ) (ram : List ℕ) (va n : ℕ)
-    → unmoved (loading (loadEnd x last abort base ram va n).answer) ≡ false
-unfolding loadEnd
+    → unmoved (loading (load_end x last abort base ram va n).answer) ≡ false
+unfolding load_end
 load-late (NotPlaced addr f) last abort base ram va n = refl
 load-late (At place) last abort base ram va n = go (load_of base ram place n)
   where
-    go : (g : Got) → unmoved (loading (loadedFrom place g abort va).answer) ≡ false
+    go : (g : Got) → unmoved (loading (loaded_from place g abort va).answer) ≡ false
     go (Got.Value v) = refl
     go (Got.Abort i pa) = refl
 
-pub storing-late : (a : StoreAnswer) → unmoved (storing a) ≡ earlyStop a
+pub storing-late : (a : StoreAnswer) → unmoved (storing a) ≡ early_stop a
 storing-late Store.Done = refl
 storing-late (Store.Stopped s) = refl
 
-pub fetch-end : (a : Answer) (abort base : ℕ) (ram : List ℕ) (va : ℕ) → unmoved (fetching (fetchEnd a abort base ram va).answer) ≡ false
-unfolding fetchEnd
+pub fetch-end : (a : Answer) (abort base : ℕ) (ram : List ℕ) (va : ℕ) → unmoved (fetching (fetch_end a abort base ram va).answer) ≡ false
+unfolding fetch_end
 fetch-end (Status fsc) abort base ram va = refl
-fetch-end (Address pa) abort base ram va = inside (insnOf base ram pa)
+fetch-end (Address pa) abort base ram va = inside (insn_of base ram pa)
   where
-    inside : (i : Insn) → unmoved (fetching (fetchedFrom pa i abort va).answer) ≡ false
+    inside : (i : Insn) → unmoved (fetching (fetched_from pa i abort va).answer) ≡ false
     inside (Insn.Value v) = refl
     inside Insn.Outside = refl
 
@@ -113,7 +113,7 @@ module _ (ws xs : List ℕ) where
   pub done-moves : Stays Done ws xs
   done-moves = by-late Done refl
 
-  pub system-stays : (a : StoreAnswer) (r : Reply) → r ≡ storing a → (earlyStop a ≡ true → xs ≡ ws) → Stays r ws xs
+  pub system-stays : (a : StoreAnswer) (r : Reply) → r ≡ storing a → (early_stop a ≡ true → xs ≡ ws) → Stays r ws xs
   system-stays a r er h = record { still = λ t. h (sym (ap unmoved er ∙ storing-late a) ∙ t) }
 
   pub register-stays : (a : WriteAnswer) (r : Reply) → r ≡ registering a → ((a ≡ Ok tt → ⊥) → xs ≡ ws) → Stays r ws xs
@@ -133,10 +133,10 @@ module _ (ws xs : List ℕ) where
   pub kept-done : Kept 0 ws xs
   kept-done = record { same = λ l h. absurd (omega arith) }
 
-  pub kept-put-answer : (r : Reply) (n : ℕ) → n ≡ codeBy r → Stays r ws xs → Kept n ws xs
+  pub kept-put-answer : (r : Reply) (n : ℕ) → n ≡ code_by r → Stays r ws xs → Kept n ws xs
   kept-put-answer r n e s = record { same = λ l h. s.still (number-unmoved r (rw e at l) (rw e at h)) }
 
-  pub kept-late : (r : Reply) (n : ℕ) → n ≡ codeBy r → unmoved r ≡ false → Kept n ws xs
+  pub kept-late : (r : Reply) (n : ℕ) → n ≡ code_by r → unmoved r ≡ false → Kept n ws xs
   kept-late r n e q = kept-put-answer r n e (record { still = λ t. never (sym q ∙ t) })
 
 pub ruleset keeping = (kept_same, kept-done, kept-put-answer)

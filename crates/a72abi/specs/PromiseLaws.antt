@@ -7,18 +7,18 @@ use mathlib.Core.List.{List, []}
 use Prim.Native.Nat.{ℕ, zero, suc, ◌<◌}
 use Rattle.exception.specs.declared.kind.Exception.{Exception}
 use Rattle.exception.specs.declared.kind.Stop.TheVariants as Stop
-use Rattle.word.specs.Bits.{alignDown}
-use Rattle.word.specs.Ram.{bytesIn, width_of}
+use Rattle.word.specs.Bits.{align_down}
+use Rattle.word.specs.Ram.{bytes_in, width_of}
 use Rattle.sysop.specs.declared.op.SysOp.{SysOp}
 use Rattle.mmu.specs.Core.{reg_of}
-use Rattle.mmu.specs.Ops.{writeOf}
+use Rattle.mmu.specs.Ops.{write_of}
 use Rattle.mmu.specs.declared.core_state.Core.{Core}
 use Rattle.operations.specs.declared.{ends.StoreAnswer.StoreAnswer, call.Call.Call, call.Reply.Reply}
-use Rattle.exec.specs.Ops.{writeRegister}
-use Rattle.exec.specs.Sys.{zero_of, sysBy, sysRamBy, op_of, sysOf, sysRam}
-use Rattle.operations.specs.Check.{missedOf}
+use Rattle.exec.specs.Ops.{after_register_write}
+use Rattle.exec.specs.Sys.{zero_of, sys_by, sys_ram_by, op_of, sys_of, sys_ram}
+use Rattle.operations.specs.Check.{missed_of}
 use Rattle.operations.specs.Replies.{storing, registering}
-use Rattle.cpu.specs.Step.{storeBy, storeRamBy, run_of, ramOf as ramRun, refusedOr, missedBy, step_of, ramAfter, ends}
+use Rattle.cpu.specs.Step.{store_by, store_ram_by, run_of, ram_of as ramRun, refused_or, missed_by, step_of, ram_after, ends}
 use Rattle.cpu.specs.EveryCallEnds.{writes, quiet}
 use Rattle.operations.specs.declared.call.Reply.TheVariants.{Refused, Done, Value, Faults, Fault, Stopped}
 use Rattle.cpu.specs.Step.{Stepped}
@@ -26,10 +26,10 @@ use Rattle.transparency.specs.Faithful.{FaithfulCall}
 use Rattle.transparency.proofs.Faithful.{faithful-step}
 use Rattle.words.specs.CoreOf.{core_of}
 use Rattle.words.specs.NowHolds.{stays, holds_as}
-use Rattle.call_words.specs.Replies.{codeBy, valueBy, wordsBy}
-use Rattle.call_words.specs.Ops.{key_of, translateCall}
-use Rattle.a72abi.specs.Steps.{callRam}
-use Rattle.words_sys.specs.Early.{never, earlyStop, store-late, zero-late}
+use Rattle.call_words.specs.Replies.{code_by, value_by, words_by}
+use Rattle.call_words.specs.Ops.{key_of, translate_call}
+use Rattle.a72abi.specs.Steps.{call_ram}
+use Rattle.words_sys.specs.Early.{never, early_stop, store-late, zero-late}
 use Rattle.a72abi.specs.Kept.{unmoved, number-unmoved, unmoved-value, storing-late, kept_same, kept-put-answer}
 use Rattle.a72abi.specs.Inside.{Steps}
 use Rattle.a72abi.specs.Promise.{Promise, Setting, StepPromise, Runs, Gives}
@@ -42,23 +42,23 @@ use Rattle.word.specs.declared.ram.Width.{Width}
 -- A REFUSAL, UNDEFINED AND UNIMPLEMENTED CHANGE NO BYTE
 
 module _ (c : Core) (base : ℕ) (ram : List ℕ) where
-  stopped-late : (a : StoreAnswer) (ys : List ℕ) → earlyStop a ≡ false → unmoved (storing a) ≡ true → ys ≡ ram
+  stopped-late : (a : StoreAnswer) (ys : List ℕ) → early_stop a ≡ false → unmoved (storing a) ≡ true → ys ≡ ram
   stopped-late a ys h t = never (sym h ∙ sym (storing-late a) ∙ t)
 
-  store-still : (w : Option Width) (va v : ℕ) → unmoved (storeBy w c base ram va).reply ≡ true → storeRamBy w c base ram va v ≡ ram
-  store-still (Some w) va v t = stopped-late (writeOf c base ram va (bytesIn w)).answer _ (store-late c base ram va (bytesIn w)) t
+  store-still : (w : Option Width) (va v : ℕ) → unmoved (store_by w c base ram va).reply ≡ true → store_ram_by w c base ram va v ≡ ram
+  store-still (Some w) va v t = stopped-late (write_of c base ram va (bytes_in w)).answer _ (store-late c base ram va (bytes_in w)) t
   store-still None va v t = refl
 
-  system-still : (o : SysOp) (op1 crm op2 x : ℕ) → unmoved (storing (sysBy o c base ram op1 crm op2 x).answer) ≡ true → sysRamBy o c base ram x ≡ ram
+  system-still : (o : SysOp) (op1 crm op2 x : ℕ) → unmoved (storing (sys_by o c base ram op1 crm op2 x).answer) ≡ true → sys_ram_by o c base ram x ≡ ram
   system-still (SysOp.At form) op1 crm op2 x t = refl
   system-still SysOp.Tlbi op1 crm op2 x t = refl
-  system-still SysOp.Zva op1 crm op2 x t = stopped-late (zero_of 8 c base ram (alignDown x 6)).answer _ (zero-late 8 c base ram (alignDown x 6)) t
+  system-still SysOp.Zva op1 crm op2 x t = stopped-late (zero_of 8 c base ram (align_down x 6)).answer _ (zero-late 8 c base ram (align_down x 6)) t
   system-still SysOp.Nothing op1 crm op2 x t = refl
   system-still SysOp.Undefined op1 crm op2 x t = refl
   system-still SysOp.Unimplemented op1 crm op2 x t = refl
 
   run-still : (x : Call) → unmoved (run_of c base ram x).reply ≡ true → ramRun c base ram x ≡ ram
-  unfolding run_of ramRun sysOf sysRam
+  unfolding run_of ramRun sys_of sys_ram
   run-still (Call.Store va size v) t = store-still (width_of size) va v t
   run-still (Call.System e) t = system-still (op_of c e.op1 e.crn e.crm e.op2) e.op1 e.crm e.op2 (reg_of c e.rt) t
   run-still (Call.Translate kind va) t = refl
@@ -73,18 +73,18 @@ module _ (c : Core) (base : ℕ) (ram : List ℕ) where
   run-still (Call.Abort x) t = refl
   run-still (Call.Census first pages) t = refl
 
-  pub ram-still : (x : Call) → unmoved (step_of c base ram x).reply ≡ true → ramAfter c base ram x ≡ ram
-  unfolding step_of ramAfter
-  ram-still x t = go (missedBy c base ram x) t
+  pub ram-still : (x : Call) → unmoved (step_of c base ram x).reply ≡ true → ram_after c base ram x ≡ ram
+  unfolding step_of ram_after
+  ram-still x t = go (missed_by c base ram x) t
     where
-      go : (n : ℕ) → unmoved (refusedOr n (λ k. ends c (Refused k)) (run_of c base ram x)).reply ≡ true → refusedOr n (λ k. ram) (ramRun c base ram x) ≡ ram
+      go : (n : ℕ) → unmoved (refused_or n (λ k. ends c (Refused k)) (run_of c base ram x)).reply ≡ true → refused_or n (λ k. ram) (ramRun c base ram x) ≡ ram
       go zero u = run-still x u
       go (suc n) u = refl
 
 -- A NUMBER AND A VALUE
 
 pub promise : (call : DecodedCall) (base : ℕ) (ram ws : List ℕ) (n old v : ℕ) (ys xs : List ℕ)
-    → Gives call base ram ws n old v xs → ys ≡ callRam call (core_of ws) base ram → Promise call base ram ws n old v ys xs
+    → Gives call base ram ws n old v xs → ys ≡ call_ram call (core_of ws) base ram → Promise call base ram ws n old v ys xs
 unfolding FaithfulCall
 promise Unknown base ram ws n old v ys xs g b =
     record {
@@ -119,80 +119,80 @@ pub promise-quiet : (x : Call) (base : ℕ) (ram ws : List ℕ) (n old v : ℕ) 
     → writes (core_of ws) x ≡ false → Gives (Known x) base ram ws n old v xs → Promise (Known x) base ram ws n old v ram xs
 promise-quiet x base ram ws n old v xs q g = promise (Known x) base ram ws n old v ram xs g (sym (quiet (core_of ws) base ram x q))
 
-translate-quiet : (c : Core) (base : ℕ) (ram : List ℕ) (va : ℕ) (k : DecodedKind) → callRam (translateCall k va) c base ram ≡ ram
-unfolding translateCall
+translate-quiet : (c : Core) (base : ℕ) (ram : List ℕ) (va : ℕ) (k : DecodedKind) → call_ram (translate_call k va) c base ram ≡ ram
+unfolding translate_call
 translate-quiet c base ram va (DecodedKind.Known k) = quiet c base ram (Call.Translate k va) refl
 translate-quiet c base ram va DecodedKind.Unknown = refl
 
 pub promise-translate : (k : DecodedKind) (va base : ℕ) (ram ws : List ℕ) (n old v : ℕ) (xs : List ℕ)
-    → Gives (translateCall k va) base ram ws n old v xs → Promise (translateCall k va) base ram ws n old v ram xs
-promise-translate k va base ram ws n old v xs g = promise (translateCall k va) base ram ws n old v ram xs g (sym (translate-quiet (core_of ws) base ram va k))
+    → Gives (translate_call k va) base ram ws n old v xs → Promise (translate_call k va) base ram ws n old v ram xs
+promise-translate k va base ram ws n old v xs g = promise (translate_call k va) base ram ws n old v ram xs g (sym (translate-quiet (core_of ws) base ram va k))
 
 -- A CALL THAT IS HANDED NO RAM
 
 module _ (x : Call) (ws : List ℕ) (r : Reply) (n : ℕ) (xs : List ℕ)
     (anywhere : (base : ℕ) (ram : List ℕ) → step_of (core_of ws) 0 [] x ≡ step_of (core_of ws) base ram x) (quietly : writes (core_of ws) x ≡ false)
-    (valueless : (old : ℕ) → valueBy (step_of (core_of ws) 0 [] x).reply old ≡ old) where
-  set : Runs x 0 [] ws r xs → n ≡ codeBy r → Setting (Known x) ws n xs
+    (valueless : (old : ℕ) → value_by (step_of (core_of ws) 0 [] x).reply old ≡ old) where
+  set : Runs x 0 [] ws r xs → n ≡ code_by r → Setting (Known x) ws n xs
   set g e = record { on = on }
     where
       on : (base : ℕ) (ram : List ℕ) (old : ℕ) → Promise (Known x) base ram ws n old old ram xs
       on base ram old =
           promise-quiet x base ram ws n old old xs quietly
           (record {
-            code = e ∙ ap codeBy g.reply ∙ ap (λ (s : Stepped). codeBy s.reply) (anywhere base ram);
-            value = sym (valueless old) ∙ ap (λ (s : Stepped). valueBy s.reply old) (anywhere base ram);
+            code = e ∙ ap code_by g.reply ∙ ap (λ (s : Stepped). code_by s.reply) (anywhere base ram);
+            value = sym (valueless old) ∙ ap (λ (s : Stepped). value_by s.reply old) (anywhere base ram);
             words = holds_as g.words (ap (λ (s : Stepped). s.core) (anywhere base ram));
             kept = kept-put-answer ws xs r n e g.stays;
           })
 
 -- refused, or with no value of its own
-no_value : (n : ℕ) (c : Core) (s : Stepped) (old : ℕ) → valueBy s.reply old ≡ old → valueBy (refusedOr n (λ k. ends c (Refused k)) s).reply old ≡ old
+no_value : (n : ℕ) (c : Core) (s : Stepped) (old : ℕ) → value_by s.reply old ≡ old → value_by (refused_or n (λ k. ends c (Refused k)) s).reply old ≡ old
 no_value zero c s old e = e
 no_value (suc n) c s old e = refl
 
-register-value : (a : WriteAnswer) (old : ℕ) → valueBy (registering a) old ≡ old
+register-value : (a : WriteAnswer) (old : ℕ) → value_by (registering a) old ≡ old
 register-value (Ok x) old = refl
 register-value (Err Undefined) old = refl
 register-value (Err NoRegister) old = refl
 
 module _ (ws : List ℕ) (r : Reply) (n : ℕ) (xs : List ℕ) where
-  pub set-level : (level : ℕ) → Runs (Call.Level level) 0 [] ws r xs → n ≡ codeBy r → Setting (Known (Call.Level level)) ws n xs
-  unfolding step_of run_of missedOf
+  pub set-level : (level : ℕ) → Runs (Call.Level level) 0 [] ws r xs → n ≡ code_by r → Setting (Known (Call.Level level)) ws n xs
+  unfolding step_of run_of missed_of
   set-level level g e = set (Call.Level level) ws r n xs (λ base ram. refl) refl
-      (λ old. no_value (missedBy (core_of ws) 0 [] (Call.Level level)) (core_of ws) (run_of (core_of ws) 0 [] (Call.Level level)) old refl) g e
+      (λ old. no_value (missed_by (core_of ws) 0 [] (Call.Level level)) (core_of ws) (run_of (core_of ws) 0 [] (Call.Level level)) old refl) g e
 
-  pub set-general : (i v : ℕ) → Runs (Call.General i v) 0 [] ws r xs → n ≡ codeBy r → Setting (Known (Call.General i v)) ws n xs
-  unfolding step_of run_of missedOf
+  pub set-general : (i v : ℕ) → Runs (Call.General i v) 0 [] ws r xs → n ≡ code_by r → Setting (Known (Call.General i v)) ws n xs
+  unfolding step_of run_of missed_of
   set-general i v g e = set (Call.General i v) ws r n xs (λ base ram. refl) refl
-      (λ old. no_value (missedBy (core_of ws) 0 [] (Call.General i v)) (core_of ws) (run_of (core_of ws) 0 [] (Call.General i v)) old refl) g e
+      (λ old. no_value (missed_by (core_of ws) 0 [] (Call.General i v)) (core_of ws) (run_of (core_of ws) 0 [] (Call.General i v)) old refl) g e
 
-  bare-register : (key v : ℕ) → Runs (Call.Register key v) 0 [] ws r xs → n ≡ codeBy r → Setting (Known (Call.Register key v)) ws n xs
-  unfolding step_of run_of missedOf
+  bare-register : (key v : ℕ) → Runs (Call.Register key v) 0 [] ws r xs → n ≡ code_by r → Setting (Known (Call.Register key v)) ws n xs
+  unfolding step_of run_of missed_of
   bare-register key v g e =
       set (Call.Register key v) ws r n xs (λ base ram. refl) refl
-      (λ old. no_value (missedBy (core_of ws) 0 [] (Call.Register key v)) (core_of ws) (run_of (core_of ws) 0 [] (Call.Register key v)) old
-      (register-value (writeRegister (core_of ws) key v).answer old)) g e
+      (λ old. no_value (missed_by (core_of ws) 0 [] (Call.Register key v)) (core_of ws) (run_of (core_of ws) 0 [] (Call.Register key v)) old
+      (register-value (after_register_write (core_of ws) key v).answer old)) g e
 
-  bare-mark : (mark : Bool) → Runs (Call.Mark mark) 0 [] ws r xs → n ≡ codeBy r → Setting (Known (Call.Mark mark)) ws n xs
-  unfolding step_of run_of missedOf
+  bare-mark : (mark : Bool) → Runs (Call.Mark mark) 0 [] ws r xs → n ≡ code_by r → Setting (Known (Call.Mark mark)) ws n xs
+  unfolding step_of run_of missed_of
   bare-mark mark g e = set (Call.Mark mark) ws r n xs (λ base ram. refl) refl
-      (λ old. no_value (missedBy (core_of ws) 0 [] (Call.Mark mark)) (core_of ws) (run_of (core_of ws) 0 [] (Call.Mark mark)) old refl) g e
+      (λ old. no_value (missed_by (core_of ws) 0 [] (Call.Mark mark)) (core_of ws) (run_of (core_of ws) 0 [] (Call.Mark mark)) old refl) g e
 
-  bare-abort : (x : Exception) → Runs (Call.Abort x) 0 [] ws r xs → n ≡ codeBy r → Setting (Known (Call.Abort x)) ws n xs
-  unfolding step_of run_of missedOf
+  bare-abort : (x : Exception) → Runs (Call.Abort x) 0 [] ws r xs → n ≡ code_by r → Setting (Known (Call.Abort x)) ws n xs
+  unfolding step_of run_of missed_of
   bare-abort x g e = set (Call.Abort x) ws r n xs (λ base ram. refl) refl
-      (λ old. no_value (missedBy (core_of ws) 0 [] (Call.Abort x)) (core_of ws) (run_of (core_of ws) 0 [] (Call.Abort x)) old refl) g e
+      (λ old. no_value (missed_by (core_of ws) 0 [] (Call.Abort x)) (core_of ws) (run_of (core_of ws) 0 [] (Call.Abort x)) old refl) g e
 
   -- by its words
-  pub set-register : (key v k : ℕ) → k ≡ key_of key → Runs (Call.Register k v) 0 [] ws r xs → n ≡ codeBy r
+  pub set-register : (key v k : ℕ) → k ≡ key_of key → Runs (Call.Register k v) 0 [] ws r xs → n ≡ code_by r
       → Setting (Known (Call.Register (key_of key) v)) ws n xs
   set-register key v k q g e = rw q at (bare-register k v g e)
 
-  pub set-mark : (mark : Bool) (p : DecodedCall) → Known (Call.Mark mark) ≡ p → Runs (Call.Mark mark) 0 [] ws r xs → n ≡ codeBy r → Setting p ws n xs
+  pub set-mark : (mark : Bool) (p : DecodedCall) → Known (Call.Mark mark) ≡ p → Runs (Call.Mark mark) 0 [] ws r xs → n ≡ code_by r → Setting p ws n xs
   set-mark mark p q g e = rw q at (bare-mark mark g e)
 
-  pub set-abort : (x : Exception) (p : DecodedCall) → Known (Call.Abort x) ≡ p → Runs (Call.Abort x) 0 [] ws r xs → n ≡ codeBy r → Setting p ws n xs
+  pub set-abort : (x : Exception) (p : DecodedCall) → Known (Call.Abort x) ≡ p → Runs (Call.Abort x) 0 [] ws r xs → n ≡ code_by r → Setting p ws n xs
   set-abort x p q g e = rw q at (bare-abort x g e)
 
 pub set-unnamed : (ws : List ℕ) (p : DecodedCall) → Unknown ≡ p → Setting p ws 64 ws
@@ -204,8 +204,8 @@ set-unnamed ws p q = rw (← q)
 
 -- EVERY CALL BY EIGHT WORDS
 
-pub tag-unmoved : (r : Reply) → 4 < get_or (wordsBy r) 0 0 → get_or (wordsBy r) 0 0 < 8 → unmoved r ≡ true
-unfolding wordsBy
+pub tag-unmoved : (r : Reply) → 4 < get_or (words_by r) 0 0 → get_or (words_by r) 0 0 < 8 → unmoved r ≡ true
+unfolding words_by
 tag-unmoved (Refused n) l h = refl
 tag-unmoved Done l h = absurd (omega arith)
 tag-unmoved (Value v) l h = absurd (omega arith)
@@ -222,7 +222,7 @@ tag-unmoved (Stopped (Stop.Exception (Exception.Brk imm))) l h = refl
 tag-unmoved (Stopped (Stop.Exception Exception.PcAlignment)) l h = refl
 
 module _ (base : ℕ) (ram ws : List ℕ) (p o : DecodedCall) (eo : o ≡ p) (old : List ℕ) where
-  step-of : (x : Call) (v ys xs : List ℕ) → Steps x base ram ws v xs → ys ≡ ramAfter (core_of ws) base ram x → StepPromise (Known x) base ram ws 0 old v ys xs
+  step-of : (x : Call) (v ys xs : List ℕ) → Steps x base ram ws v xs → ys ≡ ram_after (core_of ws) base ram x → StepPromise (Known x) base ram ws 0 old v ys xs
   unfolding FaithfulCall
   step-of x v ys xs s b =
       record {
@@ -244,7 +244,7 @@ module _ (base : ℕ) (ram ws : List ℕ) (p o : DecodedCall) (eo : o ≡ p) (ol
             };
       }
 
-  pub step-known : (x : Call) (v ys xs : List ℕ) → o ≡ Known x → Steps x base ram ws v xs → ys ≡ ramAfter (core_of ws) base ram x
+  pub step-known : (x : Call) (v ys xs : List ℕ) → o ≡ Known x → Steps x base ram ws v xs → ys ≡ ram_after (core_of ws) base ram x
       → StepPromise p base ram ws 0 old v ys xs
   step-known x v ys xs q s b = rw (← eo, q) (step-of x v ys xs s b)
 

@@ -1,12 +1,12 @@
 // Loads and stores on lent words: the fast path, where hints answer and the bytes lie in RAM, and else the slow one.
 ghost use Rattle.std.specs.Prelude.{◌≡◌, true};
 ghost use Rattle.operations.specs.Check.{known};
-ghost use Rattle.cpu.specs.Step.{ramAfter};
+ghost use Rattle.cpu.specs.Step.{ram_after};
 ghost use Rattle.operations.specs.declared.call.Call.TheVariants as Call;
 ghost use Rattle.words.specs.CoreOf.{core_of};
 ghost use Rattle.call_words.specs.declared.op.DecodedCall.TheVariants as DecodedCall;
 ghost use Rattle.a72abi.specs.Promise.{Promise, Gives};
-ghost use Rattle.a72abi.specs.Quick.{sizedAt, sizedMade, sizedRam};
+ghost use Rattle.a72abi.specs.Quick.{sized_at, sized_made, sized_ram};
 
 use crate::split::Split;
 use crate::{slow_bytes, split};
@@ -21,7 +21,7 @@ use words_memory::translate;
 // The value of a size's bytes at pa; nothing where the size is none. The tests come in this order for the sake of
 // the commonest size.
 fn read_sized(base: u64, ram: &[u8], size: u64, pa: u64) -> Option<u64>
-    ensures { result ≡ sizedAt base ram.now size pa }
+    ensures { result ≡ sized_at base ram.now size pa }
 {
     if 4 < size {
         if size == 8 {
@@ -41,8 +41,8 @@ fn read_sized(base: u64, ram: &[u8], size: u64, pa: u64) -> Option<u64>
 
 // A store of a size's bytes at pa, and whether it was made.
 fn write_sized(base: u64, ram: &mut [u8], size: u64, pa: u64, value: u64) -> bool
-    ensures { (result ≡ sizedMade base ram.old size pa) ×
-        (ram.new ≡ sizedRam base ram.old size pa value) }
+    ensures { (result ≡ sized_made base ram.old size pa) ×
+        (ram.new ≡ sized_ram base ram.old size pa value) }
 {
     if 4 < size {
         if size == 8 {
@@ -133,7 +133,7 @@ fn store_split(
     requires { known size ≡ true }
     ensures gives { Gives (DecodedCall.Known (Call.Store va size value)) base ram.old state.old result
         ans.old ans.new state.new }
-    ensures ram_after { ram.new ≡ ramAfter (core_of state.old) base ram.old
+    ensures ram_after { ram.new ≡ ram_after (core_of state.old) base ram.old
         (Call.Store va size value) }
 {
     let made = split::store(state, va, size, value, base, ram);
@@ -155,7 +155,7 @@ fn store_across(
 ) -> u64
     ensures gives { Gives (DecodedCall.Known (Call.Store va size value)) base ram.old state.old result
         ans.old ans.new state.new }
-    ensures ram_after { ram.new ≡ ramAfter (core_of state.old) base ram.old
+    ensures ram_after { ram.new ≡ ram_after (core_of state.old) base ram.old
         (Call.Store va size value) }
 {
     match size {

@@ -1,11 +1,11 @@
 // The other calls on lent words, in place, and every call by its words.
 ghost use Rattle.std.specs.Prelude.{◌≡◌, []};
-ghost use Rattle.cpu.specs.Step.{ramAfter};
+ghost use Rattle.cpu.specs.Step.{ram_after};
 ghost use Rattle.operations.specs.declared.call.Call.TheVariants as Call;
-ghost use Rattle.mmu.specs.Core.{freshCore};
+ghost use Rattle.mmu.specs.Core.{fresh_core};
 ghost use Rattle.words.specs.CoreOf.{core_of};
 ghost use Rattle.call_words.specs.declared.op.DecodedCall.TheVariants as DecodedCall;
-ghost use Rattle.call_words.specs.Ops.{key_of, encodingOf, exceptionOf, exceptionAt, abortCall, markCall, call_of};
+ghost use Rattle.call_words.specs.Ops.{key_of, encoding_of, exception_of, exception_at, abort_call, mark_call, call_of};
 ghost use Rattle.a72abi.specs.Inside.{Steps};
 ghost use Rattle.a72abi.specs.Promise.{Promise, Setting, StepPromise, Runs};
 
@@ -19,7 +19,7 @@ use words::place::State;
 
 // Every word written: the core after reset.
 pub fn a72_fresh(state: &mut State)
-    ensures { core_of state.new ≡ freshCore }
+    ensures { core_of state.new ≡ fresh_core }
 {
     words::fresh::fresh(state);
 }
@@ -36,7 +36,7 @@ pub fn a72_system(
     base: u64,
     ram: &mut [u8],
 ) -> u64
-    ensures { Promise (DecodedCall.Known (Call.System (encodingOf op1 crn crm op2 rt))) base ram.old
+    ensures { Promise (DecodedCall.Known (Call.System (encoding_of op1 crn crm op2 rt))) base ram.old
         state.old result ans.old ans.new ram.new state.new }
 {
     let e = Encoding {
@@ -77,7 +77,7 @@ pub fn a72_general(state: &mut State, number: u64, value: u64) -> u64
 
 // The mark, 0 or 1.
 pub fn a72_mark(state: &mut State, mark: u64) -> u64
-    ensures { Setting (markCall mark) state.old result state.new }
+    ensures { Setting (mark_call mark) state.old result state.new }
 {
     match mark {
         0 => {
@@ -94,7 +94,7 @@ pub fn a72_mark(state: &mut State, mark: u64) -> u64
 
 // Abort entry, of an exception's four words as numbers: named in memory it would take longer than the entry.
 fn abort_named(state: &mut State, code: u64, a: u64, b: u64, c: u64) -> u64
-    ensures { Setting (abortCall (exceptionOf code a b c)) state.old result state.new }
+    ensures { Setting (abort_call (exception_of code a b c)) state.old result state.new }
 {
     match op::exception_of(code, a, b, c) {
         DecodedException::Known(x) => {
@@ -107,7 +107,7 @@ fn abort_named(state: &mut State, code: u64, a: u64, b: u64, c: u64) -> u64
 
 // Abort entry, of an exception in four words.
 pub fn a72_abort(state: &mut State, e: &[u64; 4]) -> u64
-    ensures { Setting (abortCall (exceptionAt e.now)) state.old result state.new }
+    ensures { Setting (abort_call (exception_at e.now)) state.old result state.new }
 {
     abort_named(state, e[0], e[1], e[2], e[3])
 }
@@ -175,7 +175,7 @@ fn fetch(state: &mut State, base: u64, ram: &[u8], va: u64) -> [u64; 4]
 fn store(state: &mut State, base: u64, ram: &mut [u8], va: u64, size: u64, value: u64) -> [u64; 4]
     ensures steps { Steps (Call.Store va size value) base ram.old state.old result
         state.new }
-    ensures ram_after { ram.new ≡ ramAfter (core_of state.old) base ram.old
+    ensures ram_after { ram.new ≡ ram_after (core_of state.old) base ram.old
         (Call.Store va size value) }
 {
     let mut v: u64 = 0;
@@ -184,10 +184,10 @@ fn store(state: &mut State, base: u64, ram: &mut [u8], va: u64, size: u64, value
 }
 
 // A call, carried out: its answer in four words.
-#[tactic(auto, unfolding(cpu::specs::Step::ramAfter, cpu::specs::Step::ramOf))]
+#[tactic(auto, unfolding(cpu::specs::Step::ram_after, cpu::specs::Step::ram_of))]
 pub fn step(state: &mut State, base: u64, ram: &mut [u8], call: Call) -> [u64; 4]
     ensures steps { Steps call base ram.old state.old result state.new }
-    ensures ram_after { ram.new ≡ ramAfter (core_of state.old) base ram.old call }
+    ensures ram_after { ram.new ≡ ram_after (core_of state.old) base ram.old call }
 {
     match call {
         Call::Translate(kind, va) => translation(state, base, ram, kind, va),

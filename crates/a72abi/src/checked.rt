@@ -1,8 +1,8 @@
 // System operations, settings and the census on lent words: the number of the first check that a call misses, or its
 // operation.
 ghost use Rattle.std.specs.Prelude.{◌≡◌, not, ◌||◌, [], ◌∷◌, ltb};
-ghost use Rattle.operations.specs.Check.{kept, first_of, missedOf};
-ghost use Rattle.cpu.specs.Step.{ramAfter};
+ghost use Rattle.operations.specs.Check.{kept, first_of, missed_of};
+ghost use Rattle.cpu.specs.Step.{ram_after};
 ghost use Rattle.operations.specs.declared.call.Call.TheVariants as Call;
 ghost use Rattle.words.specs.CoreOf.{core_of};
 ghost use Rattle.a72abi.specs.Promise.{Runs};
@@ -17,7 +17,7 @@ use words::state;
 // in memory it would take longer than the checks.
 
 fn missed_system(state: &State, base: u64, len: u64, e: Encoding) -> u8
-    ensures { result ≡ missedOf (core_of state.now).privilege.level base len (Call.System e) }
+    ensures { result ≡ missed_of (core_of state.now).privilege.level base len (Call.System e) }
 {
     let privilege = state::privilege_at(state);
     check::system(privilege.level, base, len, e)
@@ -46,10 +46,10 @@ fn missed_any(state: &State) -> u8
     check::any(privilege.level)
 }
 
-#[tactic(auto, unfolding(operations::specs::Check::missedOf, cpu::specs::Step::run_of, cpu::specs::Step::ramOf, cpu::specs::Step::step_of, cpu::specs::Step::ramAfter))]
+#[tactic(auto, unfolding(operations::specs::Check::missed_of, cpu::specs::Step::run_of, cpu::specs::Step::ram_of, cpu::specs::Step::step_of, cpu::specs::Step::ram_after))]
 pub fn system(state: &mut State, base: u64, ram: &mut [u8], e: Encoding) -> Reply
     ensures runs { Runs (Call.System e) base ram.old state.old result state.new }
-    ensures ram_after { ram.new ≡ ramAfter (core_of state.old) base ram.old
+    ensures ram_after { ram.new ≡ ram_after (core_of state.old) base ram.old
         (Call.System e) }
 {
     let n = missed_system(state, base, ram.len() as u64, e);
@@ -60,7 +60,7 @@ pub fn system(state: &mut State, base: u64, ram: &mut [u8], e: Encoding) -> Repl
     reply::stored(answer)
 }
 
-#[tactic(auto, unfolding(operations::specs::Check::missedOf, cpu::specs::Step::run_of, cpu::specs::Step::step_of))]
+#[tactic(auto, unfolding(operations::specs::Check::missed_of, cpu::specs::Step::run_of, cpu::specs::Step::step_of))]
 pub fn register(state: &mut State, key: u32, value: u64) -> Reply
     ensures { Runs (Call.Register key value) 0 [] state.old result state.new }
 {
@@ -72,7 +72,7 @@ pub fn register(state: &mut State, key: u32, value: u64) -> Reply
     reply::written(answer)
 }
 
-#[tactic(auto, unfolding(operations::specs::Check::missedOf, cpu::specs::Step::run_of, cpu::specs::Step::step_of, exec::specs::Ops::setLevel, words::specs::Parts::withPrivilege))]
+#[tactic(auto, unfolding(operations::specs::Check::missed_of, cpu::specs::Step::run_of, cpu::specs::Step::step_of, exec::specs::Ops::set_level, words::specs::Parts::with_privilege))]
 pub fn level(state: &mut State, level: u64) -> Reply
     ensures { Runs (Call.Level level) 0 [] state.old result state.new }
 {
@@ -84,7 +84,7 @@ pub fn level(state: &mut State, level: u64) -> Reply
     Reply::Done
 }
 
-#[tactic(auto, unfolding(operations::specs::Check::missedOf, cpu::specs::Step::run_of, cpu::specs::Step::step_of, exec::specs::Ops::setMark, words::specs::Parts::withPrivilege))]
+#[tactic(auto, unfolding(operations::specs::Check::missed_of, cpu::specs::Step::run_of, cpu::specs::Step::step_of, exec::specs::Ops::set_mark, words::specs::Parts::with_privilege))]
 pub fn mark(state: &mut State, mark: bool) -> Reply
     ensures { Runs (Call.Mark mark) 0 [] state.old result state.new }
 {
@@ -96,7 +96,7 @@ pub fn mark(state: &mut State, mark: bool) -> Reply
     Reply::Done
 }
 
-#[tactic(auto, unfolding(operations::specs::Check::missedOf, cpu::specs::Step::run_of, cpu::specs::Step::step_of))]
+#[tactic(auto, unfolding(operations::specs::Check::missed_of, cpu::specs::Step::run_of, cpu::specs::Step::step_of))]
 pub fn general(state: &mut State, number: u64, value: u64) -> Reply
     ensures { Runs (Call.General number value) 0 [] state.old result state.new }
 {
@@ -112,7 +112,7 @@ pub fn general(state: &mut State, number: u64, value: u64) -> Reply
 }
 
 // A census changes nothing: its counts are `a72_census`'s.
-#[tactic(auto, unfolding(operations::specs::Check::missedOf, cpu::specs::Step::run_of, cpu::specs::Step::step_of))]
+#[tactic(auto, unfolding(operations::specs::Check::missed_of, cpu::specs::Step::run_of, cpu::specs::Step::step_of))]
 pub fn census(state: &State, base: u64, ram: &[u8], first: u64, pages: u64) -> Reply
     ensures { Runs (Call.Census first pages) base ram.now state.now result
         state.now }
@@ -124,7 +124,7 @@ pub fn census(state: &State, base: u64, ram: &[u8], first: u64, pages: u64) -> R
     Reply::Done
 }
 
-#[tactic(auto, unfolding(operations::specs::Check::missedOf, cpu::specs::Step::run_of, cpu::specs::Step::step_of))]
+#[tactic(auto, unfolding(operations::specs::Check::missed_of, cpu::specs::Step::run_of, cpu::specs::Step::step_of))]
 pub fn abort(state: &mut State, e: Exception) -> Reply
     ensures { Runs (Call.Abort e) 0 [] state.old result state.new }
 {

@@ -1,7 +1,7 @@
 // What looks at tables and changes neither core nor RAM: the census, of a state that is lent shared, and one walk of
 // registers that the caller lends.
 ghost use Rattle.std.specs.Prelude.{◌≡◌};
-ghost use Rattle.call_words.specs.Walk.{walkCode, walkWords};
+ghost use Rattle.call_words.specs.Walk.{walk_code, walk_words};
 ghost use Rattle.words_census.specs.Promise.{CensusPromise};
 
 use call_words::tables;
@@ -32,8 +32,8 @@ pub fn a72_walk(
     base: u64,
     ram: &[u8],
 ) -> u64
-    ensures { (result ≡ walkCode words.now number va base ram.now) ×
-        (out.new ≡ walkWords words.now number va base ram.now out.old) }
+    ensures { (result ≡ walk_code words.now number va base ram.now) ×
+        (out.new ≡ walk_words words.now number va base ram.now out.old) }
 {
     tables::walk_words(words, number, va, out, base, ram)
 }

@@ -4,8 +4,8 @@ ghost use Rattle.std.specs.Prelude.{◌≡◌};
 ghost use Rattle.operations.specs.declared.call.Call.TheVariants as Call;
 ghost use Rattle.words.specs.CoreOf.{core_of};
 ghost use Rattle.call_words.specs.declared.op.DecodedCall.TheVariants as DecodedCall;
-ghost use Rattle.call_words.specs.Ops.{kind_of, translateCall};
-ghost use Rattle.a72abi.specs.Quick.{clearOf};
+ghost use Rattle.call_words.specs.Ops.{kind_of, translate_call};
+ghost use Rattle.a72abi.specs.Quick.{clear_of};
 ghost use Rattle.a72abi.specs.Promise.{Promise, Gives};
 
 use crate::slow;
@@ -17,9 +17,9 @@ use words::state;
 use words_memory::translate;
 
 // Whether level and window pass at once. A window that ends at the last address is left to the checks.
-#[tactic(auto, unfolding(crate::specs::Quick::clearOf))]
+#[tactic(auto, unfolding(crate::specs::Quick::clear_of))]
 pub(crate) fn clear(state: &State, base: u64, len: u64) -> bool
-    ensures { result ≡ clearOf (core_of state.now) base len }
+    ensures { result ≡ clear_of (core_of state.now) base len }
 {
     let privilege = state::privilege_at(state);
     if 3 < privilege.level {
@@ -31,7 +31,7 @@ pub(crate) fn clear(state: &State, base: u64, len: u64) -> bool
     true
 }
 
-#[tactic(auto, unfolding(call_words::specs::Ops::translateCall, call_words::specs::Ops::kind_of))]
+#[tactic(auto, unfolding(call_words::specs::Ops::translate_call, call_words::specs::Ops::kind_of))]
 fn translate_checked(
     state: &mut State,
     va: u64,
@@ -40,7 +40,7 @@ fn translate_checked(
     base: u64,
     ram: &[u8],
 ) -> u64
-    ensures { Gives (translateCall (kind_of kind) va) base ram.now state.old result
+    ensures { Gives (translate_call (kind_of kind) va) base ram.now state.old result
         ans.old ans.new state.new }
 {
     match kind {
@@ -60,7 +60,7 @@ pub fn a72_translate(
     base: u64,
     ram: &[u8],
 ) -> u64
-    ensures { Promise (translateCall (kind_of kind) va) base ram.now state.old result
+    ensures { Promise (translate_call (kind_of kind) va) base ram.now state.old result
         ans.old ans.new ram.now state.new }
 {
     let known = state::level_known(state);

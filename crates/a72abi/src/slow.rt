@@ -3,11 +3,11 @@
 ghost use Rattle.std.specs.Prelude.{if◌then◌else◌, ◌≡◌, eqb, None};
 ghost use Rattle.tlb.specs.declared.access.Kind.TheVariants.{Read};
 ghost use Rattle.operations.specs.declared.place.Placed.TheVariants.{At};
-ghost use Rattle.operations.specs.Check.{ramRows, first_of};
+ghost use Rattle.operations.specs.Check.{ram_rows, first_of};
 ghost use Rattle.cpu.specs.Step.{run_of};
 ghost use Rattle.operations.specs.declared.call.Call.TheVariants as Call;
 ghost use Rattle.words.specs.CoreOf.{core_of};
-ghost use Rattle.words_memory.specs.Found.{fetchHint};
+ghost use Rattle.words_memory.specs.Found.{fetch_hint};
 ghost use Rattle.a72abi.specs.Inside.{Tells, FetchTells};
 ghost use Rattle.call_words.specs.declared.op.DecodedCall.TheVariants as DecodedCall;
 ghost use Rattle.a72abi.specs.Promise.{Gives};
@@ -22,7 +22,7 @@ use words_memory::translate;
 
 // The number of the first check that its calls miss, or 0.
 fn missed_with_ram(state: &State, base: u64, len: u64) -> u8
-    ensures { result ≡ first_of (ramRows (core_of state.now).privilege.level base len) }
+    ensures { result ≡ first_of (ram_rows (core_of state.now).privilege.level base len) }
 {
     let privilege = state::privilege_at(state);
     check::with_ram(privilege.level, base, len)
@@ -52,7 +52,7 @@ pub(crate) fn address(
     }
 }
 
-#[tactic(auto, unfolding(operations::specs::Check::missedOf, cpu::specs::Step::step_of))]
+#[tactic(auto, unfolding(operations::specs::Check::missed_of, cpu::specs::Step::step_of))]
 pub(crate) fn translation(
     state: &mut State,
     va: u64,
@@ -88,7 +88,7 @@ pub(crate) fn data_to(state: &mut State, va: u64, ans: &mut u64, base: u64, ram:
     without_status(code)
 }
 
-#[tactic(auto, unfolding(operations::specs::Check::missedOf, cpu::specs::Step::step_of))]
+#[tactic(auto, unfolding(operations::specs::Check::missed_of, cpu::specs::Step::step_of))]
 pub(crate) fn data_pa(state: &mut State, va: u64, ans: &mut u64, base: u64, ram: &[u8]) -> u64
     ensures { Gives (DecodedCall.Known (Call.DataPa va)) base ram.now state.old result
         ans.old ans.new state.new }
@@ -110,7 +110,7 @@ pub(crate) fn fetch_to(state: &mut State, va: u64, ans: &mut u64, base: u64, ram
     without_status(code)
 }
 
-#[tactic(auto, unfolding(operations::specs::Check::missedOf, cpu::specs::Step::step_of))]
+#[tactic(auto, unfolding(operations::specs::Check::missed_of, cpu::specs::Step::step_of))]
 pub(crate) fn fetch_pa(state: &mut State, va: u64, ans: &mut u64, base: u64, ram: &[u8]) -> u64
     ensures { Gives (DecodedCall.Known (Call.FetchPa va)) base ram.now state.old result
         ans.old ans.new state.new }
@@ -123,7 +123,7 @@ pub(crate) fn fetch_pa(state: &mut State, va: u64, ans: &mut u64, base: u64, ram
 }
 
 // The instruction that lies at pa.
-#[tactic(auto, unfolding(crate::specs::Inside::fetchEnds, operations::specs::Ends::fetchEnd, words::specs::Parts::withAbort, mmu::specs::Core::afterAccess))]
+#[tactic(auto, unfolding(crate::specs::Inside::fetch_ends, operations::specs::Ends::fetch_end, words::specs::Parts::with_abort, mmu::specs::Core::after_access))]
 fn fetch_at(state: &mut State, pa: u64, ans: &mut u64, base: u64, ram: &[u8]) -> u64
     ensures { FetchTells pa base ram.now state.old result ans.old ans.new
         state.new }
@@ -143,7 +143,7 @@ fn fetch_at(state: &mut State, pa: u64, ans: &mut u64, base: u64, ram: &[u8]) ->
 // A fetch that no hint serves. Out of line, so that a hint pays nothing for it.
 #[inline(never)]
 pub(crate) fn fetch_page(state: &mut State, va: u64, ans: &mut u64, base: u64, ram: &[u8]) -> u64
-    requires { fetchHint (core_of state.old) va ≡ None }
+    requires { fetch_hint (core_of state.old) va ≡ None }
     ensures { Tells
         (run_of (core_of state.old) base ram.now (Call.Fetch va))
         state.old result ans.old ans.new state.new }
@@ -157,7 +157,7 @@ pub(crate) fn fetch_page(state: &mut State, va: u64, ans: &mut u64, base: u64, r
 }
 
 #[inline(never)]
-#[tactic(auto, unfolding(operations::specs::Check::missedOf, cpu::specs::Step::step_of))]
+#[tactic(auto, unfolding(operations::specs::Check::missed_of, cpu::specs::Step::step_of))]
 pub(crate) fn fetch(state: &mut State, va: u64, ans: &mut u64, base: u64, ram: &[u8]) -> u64
     ensures { Gives (DecodedCall.Known (Call.Fetch va)) base ram.now state.old result
         ans.old ans.new state.new }

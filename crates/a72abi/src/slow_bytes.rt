@@ -1,17 +1,17 @@
 // Loads and stores by number, on lent words, with the checks in their order: where no fast path answers,
 // and for every call by its words.
 ghost use Rattle.std.specs.Prelude.{◌≡◌, ◌≤◌, None};
-ghost use Rattle.word.specs.Ram.{bytesIn, stored};
+ghost use Rattle.word.specs.Ram.{bytes_in, stored};
 ghost use Rattle.tlb.specs.declared.access.Kind.TheVariants.{Read, Write};
-ghost use Rattle.operations.specs.Place.{inPage};
+ghost use Rattle.operations.specs.Place.{in_page};
 ghost use Rattle.operations.specs.declared.place.Place.TheVariants.{Whole};
 ghost use Rattle.operations.specs.declared.place.Placed.TheVariants.{At};
-ghost use Rattle.operations.specs.Check.{sizedRows, first_of};
-ghost use Rattle.cpu.specs.Step.{run_of, ramOf, ramAfter};
+ghost use Rattle.operations.specs.Check.{sized_rows, first_of};
+ghost use Rattle.cpu.specs.Step.{run_of, ram_of, ram_after};
 ghost use Rattle.operations.specs.declared.call.Call.TheVariants as Call;
 ghost use Rattle.words.specs.CoreOf.{core_of};
-ghost use Rattle.words_memory.specs.Found.{hintFound};
-ghost use Rattle.a72abi.specs.Inside.{Tells, loadEnds, storeEnds};
+ghost use Rattle.words_memory.specs.Found.{hint_found};
+ghost use Rattle.a72abi.specs.Inside.{Tells, load_ends, store_ends};
 ghost use Rattle.call_words.specs.declared.op.DecodedCall.TheVariants as DecodedCall;
 ghost use Rattle.a72abi.specs.Promise.{Gives};
 
@@ -26,7 +26,7 @@ use words_memory::{access, translate};
 
 // The number of the first check that its calls miss, or 0.
 fn missed_sized(state: &State, base: u64, len: u64, size: u64) -> u8
-    ensures { result ≡ first_of (sizedRows (core_of state.now).privilege.level base len size) }
+    ensures { result ≡ first_of (sized_rows (core_of state.now).privilege.level base len size) }
 {
     let privilege = state::privilege_at(state);
     check::sized(privilege.level, base, len, size)
@@ -43,7 +43,7 @@ fn load_at(
     ram: &[u8],
 ) -> u64
     ensures { Tells
-        (loadEnds (core_of state.old) (At (Whole pa)) base ram.now va (bytesIn width))
+        (load_ends (core_of state.old) (At (Whole pa)) base ram.now va (bytes_in width))
         state.old result ans.old ans.new state.new }
 {
     state::put_last(state, pa);
@@ -62,10 +62,10 @@ fn load_at(
 
 // A load in one page that no hint serves.
 fn load_one(state: &mut State, va: u64, width: Width, ans: &mut u64, base: u64, ram: &[u8]) -> u64
-    requires width_bound { bytesIn width ≤ inPage va }
-    requires va_value { hintFound (core_of state.old) va Read ≡ None }
+    requires width_bound { bytes_in width ≤ in_page va }
+    requires va_value { hint_found (core_of state.old) va Read ≡ None }
     ensures { Tells
-        (run_of (core_of state.old) base ram.now (Call.Load va (bytesIn width)))
+        (run_of (core_of state.old) base ram.now (Call.Load va (bytes_in width)))
         state.old result ans.old ans.new state.new }
 {
     let mut pa: u64 = 0;
@@ -88,8 +88,8 @@ pub(crate) fn load_page(
     base: u64,
     ram: &[u8],
 ) -> u64
-    requires size_bound { size ≤ inPage va }
-    requires va_value { hintFound (core_of state.old) va Read ≡ None }
+    requires size_bound { size ≤ in_page va }
+    requires va_value { hint_found (core_of state.old) va Read ≡ None }
     ensures { Tells
         (run_of (core_of state.old) base ram.now (Call.Load va size))
         state.old result ans.old ans.new state.new }
@@ -113,14 +113,14 @@ pub(crate) fn load_page(
 // A load that may take two pages.
 fn load_two(state: &mut State, va: u64, width: Width, ans: &mut u64, base: u64, ram: &[u8]) -> u64
     ensures { Tells
-        (run_of (core_of state.old) base ram.now (Call.Load va (bytesIn width)))
+        (run_of (core_of state.old) base ram.now (Call.Load va (bytes_in width)))
         state.old result ans.old ans.new state.new }
 {
     let answer = access::load(state, va, width, base, ram);
     reply::loaded(answer, ans)
 }
 
-#[tactic(auto, unfolding(operations::specs::Check::missedOf, cpu::specs::Step::step_of))]
+#[tactic(auto, unfolding(operations::specs::Check::missed_of, cpu::specs::Step::step_of))]
 pub(crate) fn load(
     state: &mut State,
     va: u64,
@@ -162,9 +162,9 @@ fn store_at(
     ram: &mut [u8],
 ) -> u64
     ensures tells { Tells
-        (storeEnds (core_of state.old) (At (Whole pa)) base ram.old va (bytesIn width))
+        (store_ends (core_of state.old) (At (Whole pa)) base ram.old va (bytes_in width))
         state.old result ans.old ans.new state.new }
-    ensures ram_after { ram.new ≡ stored base ram.old (bytesIn width) pa value }
+    ensures ram_after { ram.new ≡ stored base ram.old (bytes_in width) pa value }
 {
     let made = ram::write(base, ram, width, pa, value);
     if made {
@@ -186,13 +186,13 @@ fn store_one(
     base: u64,
     ram: &mut [u8],
 ) -> u64
-    requires width_bound { bytesIn width ≤ inPage va }
-    requires va_value { hintFound (core_of state.old) va Write ≡ None }
+    requires width_bound { bytes_in width ≤ in_page va }
+    requires va_value { hint_found (core_of state.old) va Write ≡ None }
     ensures tells { Tells
-        (run_of (core_of state.old) base ram.old (Call.Store va (bytesIn width) value))
+        (run_of (core_of state.old) base ram.old (Call.Store va (bytes_in width) value))
         state.old result ans.old ans.new state.new }
-    ensures ram_after { ram.new ≡ ramOf (core_of state.old) base ram.old
-        (Call.Store va (bytesIn width) value) }
+    ensures ram_after { ram.new ≡ ram_of (core_of state.old) base ram.old
+        (Call.Store va (bytes_in width) value) }
 {
     let mut pa: u64 = 0;
     let code = translate::find(state, va, Kind::Write, &mut pa, base, ram);
@@ -204,7 +204,7 @@ fn store_one(
 }
 
 // The same of a size; the commonest is tested first.
-#[tactic(auto, unfolding(cpu::specs::Step::run_of, cpu::specs::Step::ramOf))]
+#[tactic(auto, unfolding(cpu::specs::Step::run_of, cpu::specs::Step::ram_of))]
 pub(crate) fn store_page(
     state: &mut State,
     va: u64,
@@ -214,12 +214,12 @@ pub(crate) fn store_page(
     base: u64,
     ram: &mut [u8],
 ) -> u64
-    requires size_bound { size ≤ inPage va }
-    requires va_value { hintFound (core_of state.old) va Write ≡ None }
+    requires size_bound { size ≤ in_page va }
+    requires va_value { hint_found (core_of state.old) va Write ≡ None }
     ensures tells { Tells
         (run_of (core_of state.old) base ram.old (Call.Store va size value))
         state.old result ans.old ans.new state.new }
-    ensures ram_after { ram.new ≡ ramOf (core_of state.old) base ram.old
+    ensures ram_after { ram.new ≡ ram_of (core_of state.old) base ram.old
         (Call.Store va size value) }
 {
     if 4 < size {
@@ -249,16 +249,16 @@ fn store_two(
     ram: &mut [u8],
 ) -> u64
     ensures tells { Tells
-        (run_of (core_of state.old) base ram.old (Call.Store va (bytesIn width) value))
+        (run_of (core_of state.old) base ram.old (Call.Store va (bytes_in width) value))
         state.old result ans.old ans.new state.new }
-    ensures ram_after { ram.new ≡ ramOf (core_of state.old) base ram.old
-        (Call.Store va (bytesIn width) value) }
+    ensures ram_after { ram.new ≡ ram_of (core_of state.old) base ram.old
+        (Call.Store va (bytes_in width) value) }
 {
     let answer = access::store(state, va, width, value, base, ram);
     reply::stored(answer, ans)
 }
 
-#[tactic(auto, unfolding(operations::specs::Check::missedOf, cpu::specs::Step::step_of, cpu::specs::Step::ramAfter))]
+#[tactic(auto, unfolding(operations::specs::Check::missed_of, cpu::specs::Step::step_of, cpu::specs::Step::ram_after))]
 pub(crate) fn store(
     state: &mut State,
     va: u64,
@@ -270,7 +270,7 @@ pub(crate) fn store(
 ) -> u64
     ensures gives { Gives (DecodedCall.Known (Call.Store va size value)) base ram.old state.old result
         ans.old ans.new state.new }
-    ensures ram_after { ram.new ≡ ramAfter (core_of state.old) base ram.old
+    ensures ram_after { ram.new ≡ ram_after (core_of state.old) base ram.old
         (Call.Store va size value) }
 {
     let n = missed_sized(state, base, ram.len() as u64, size);

@@ -2,10 +2,10 @@
 // to the slow path.
 ghost use Rattle.std.specs.Prelude.{◌≡◌, true, ◌<◌, Some};
 ghost use Rattle.tlb.specs.declared.access.Kind.TheVariants.{Read, Write};
-ghost use Rattle.operations.specs.Place.{inPage, nextPage};
+ghost use Rattle.operations.specs.Place.{in_page, next_page};
 ghost use Rattle.words.specs.CoreOf.{core_of};
-ghost use Rattle.words_memory.specs.Found.{hintFound};
-ghost use Rattle.a72abi.specs.Splits.{apartOf, loadBoth, madeBoth, ramBoth, splitLoad, splitMade, splitRam};
+ghost use Rattle.words_memory.specs.Found.{hint_found};
+ghost use Rattle.a72abi.specs.Splits.{apart_of, load_both, made_both, ram_both, split_load, split_made, split_ram};
 
 use crate::memory;
 use operations::place::Pages;
@@ -22,9 +22,9 @@ pub enum Split {
 }
 
 // Whether the access takes two pages, at a level and over a window that pass at once.
-#[tactic(auto, unfolding(crate::specs::Splits::apartOf, crate::specs::Quick::clearOf))]
+#[tactic(auto, unfolding(crate::specs::Splits::apart_of, crate::specs::Quick::clear_of))]
 fn apart(state: &State, va: u64, n: u64, base: u64, len: u64) -> bool
-    ensures { result ≡ apartOf (core_of state.now) base len va n }
+    ensures { result ≡ apart_of (core_of state.now) base len va n }
 {
     let clear = memory::clear(state, base, len);
     if clear {
@@ -36,9 +36,9 @@ fn apart(state: &State, va: u64, n: u64, base: u64, len: u64) -> bool
 }
 
 // A load whose first page lies at pa.
-#[tactic(auto, unfolding(crate::specs::Splits::loadBoth))]
+#[tactic(auto, unfolding(crate::specs::Splits::load_both))]
 fn load_on(state: &State, va: u64, n: u64, pa: u64, base: u64, ram: &[u8]) -> Split
-    ensures { result ≡ loadBoth true (Some pa) (hintFound (core_of state.now) (nextPage va) Read) va base
+    ensures { result ≡ load_both true (Some pa) (hint_found (core_of state.now) (next_page va) Read) va base
         ram.now n }
 {
     let next = place::next_page(va);
@@ -54,9 +54,9 @@ fn load_on(state: &State, va: u64, n: u64, pa: u64, base: u64, ram: &[u8]) -> Sp
     }
 }
 
-#[tactic(auto, unfolding(crate::specs::Splits::splitLoad, crate::specs::Splits::loadBoth))]
+#[tactic(auto, unfolding(crate::specs::Splits::split_load, crate::specs::Splits::load_both))]
 pub(crate) fn load(state: &State, va: u64, n: u64, base: u64, ram: &[u8]) -> Split
-    ensures { result ≡ splitLoad (core_of state.now) base ram.now va n }
+    ensures { result ≡ split_load (core_of state.now) base ram.now va n }
 {
     let apart = apart(state, va, n, base, ram.len() as u64);
     if apart {
@@ -70,13 +70,13 @@ pub(crate) fn load(state: &State, va: u64, n: u64, base: u64, ram: &[u8]) -> Spl
 }
 
 // A store whose first page lies at pa, and whether it was made.
-#[tactic(auto, unfolding(crate::specs::Splits::madeBoth, crate::specs::Splits::ramBoth))]
+#[tactic(auto, unfolding(crate::specs::Splits::made_both, crate::specs::Splits::ram_both))]
 fn store_on(state: &State, va: u64, n: u64, value: u64, pa: u64, base: u64, ram: &mut [u8]) -> bool
-    requires { inPage va < n }
-    ensures value { result ≡ madeBoth true (Some pa) (hintFound (core_of state.now) (nextPage va) Write) va base
+    requires { in_page va < n }
+    ensures value { result ≡ made_both true (Some pa) (hint_found (core_of state.now) (next_page va) Write) va base
         ram.old n }
-    ensures ram_after { ram.new ≡ ramBoth true (Some pa)
-        (hintFound (core_of state.now) (nextPage va) Write) va base ram.old n value }
+    ensures ram_after { ram.new ≡ ram_both true (Some pa)
+        (hint_found (core_of state.now) (next_page va) Write) va base ram.old n value }
 {
     let next = place::next_page(va);
     match translate::by_hint(state, next, Kind::Write) {
@@ -91,10 +91,10 @@ fn store_on(state: &State, va: u64, n: u64, value: u64, pa: u64, base: u64, ram:
     }
 }
 
-#[tactic(auto, unfolding(crate::specs::Splits::splitMade, crate::specs::Splits::splitRam, crate::specs::Splits::madeBoth, crate::specs::Splits::ramBoth))]
+#[tactic(auto, unfolding(crate::specs::Splits::split_made, crate::specs::Splits::split_ram, crate::specs::Splits::made_both, crate::specs::Splits::ram_both))]
 pub(crate) fn store(state: &State, va: u64, n: u64, value: u64, base: u64, ram: &mut [u8]) -> bool
-    ensures value { result ≡ splitMade (core_of state.now) base ram.old va n }
-    ensures ram_after { ram.new ≡ splitRam (core_of state.now) base ram.old va n value }
+    ensures value { result ≡ split_made (core_of state.now) base ram.old va n }
+    ensures ram_after { ram.new ≡ split_ram (core_of state.now) base ram.old va n value }
 {
     let apart = apart(state, va, n, base, ram.len() as u64);
     if apart {

@@ -11,12 +11,12 @@ use Rattle.call_words.specs.declared.tables.Named.TheVariants.{Known, Unknown}
 use Rattle.walk.specs.Answers.{Walked}
 
 -- regimes by number
-abbrev pub regimeAt : ℕ → Named
-regimeAt n = if eqb n 1 then Known El1 else if eqb n 2 then Known El2 else if eqb n 3 then Known El3 else Unknown
+abbrev pub regime_at : ℕ → Named
+regime_at n = if eqb n 1 then Known El1 else if eqb n 2 then Known El2 else if eqb n 3 then Known El3 else Unknown
 
 -- SCTLR, TCR and TTBR0 of the regime, TTBR1_EL1, SCR_EL3, HCR_EL2
-abbrev pub bankAt : List ℕ → Bank
-bankAt ws =
+abbrev pub bank_at : List ℕ → Bank
+bank_at ws =
     record {
       sctlr = get_or ws 0 0;
       tcr = get_or ws 1 0;
@@ -27,32 +27,32 @@ bankAt ws =
     }
 
 -- a leaf as words
-abbrev pub leafAfter : Leaf → List ℕ
-leafAfter leaf = leaf.oa ∷ leaf.desc ∷ leaf.perms ∷ leaf.level ∷ flag leaf.global 1 ∷ []
+abbrev pub leaf_after : Leaf → List ℕ
+leaf_after leaf = leaf.oa ∷ leaf.desc ∷ leaf.perms ∷ leaf.level ∷ flag leaf.global 1 ∷ []
 
 abbrev pub code_of : Walked → ℕ
 code_of (Ok leaf) = 0
 code_of (Err status) = 256 + status
 
 abbrev pub words_of : Walked → List ℕ → List ℕ
-words_of (Ok leaf) out = leafAfter leaf
+words_of (Ok leaf) out = leaf_after leaf
 words_of (Err status) out = out
 
-abbrev pub walkAt : List ℕ → Regime → ℕ → ℕ → List ℕ → Walked
-walkAt ws r va base ram = walk_of (bankAt ws) r va (word_at base ram 8)
+abbrev pub walk_at : List ℕ → Regime → ℕ → ℕ → List ℕ → Walked
+walk_at ws r va base ram = walk_of (bank_at ws) r va (word_at base ram 8)
 
 abbrev pub code_in : Named → Bool → List ℕ → ℕ → ℕ → List ℕ → ℕ
 code_in Unknown past ws va base ram = 64
-code_in (Known r) past ws va base ram = if past then 2 else code_of (walkAt ws r va base ram)
+code_in (Known r) past ws va base ram = if past then 2 else code_of (walk_at ws r va base ram)
 
 abbrev pub words_in : Named → Bool → List ℕ → ℕ → ℕ → List ℕ → List ℕ → List ℕ
 words_in Unknown past ws va base ram out = out
-words_in (Known r) past ws va base ram out = if past then out else words_of (walkAt ws r va base ram) out
+words_in (Known r) past ws va base ram out = if past then out else words_of (walk_at ws r va base ram) out
 
 -- 64 for a number that names no regime, 2 for a window that passes 2^64, 0 for a leaf, 256 plus a fault's status
-unfoldable pub walkCode : List ℕ → ℕ → ℕ → ℕ → List ℕ → ℕ
-walkCode ws number va base ram = code_in (regimeAt number) (passes base (length ram)) ws va base ram
+unfoldable pub walk_code : List ℕ → ℕ → ℕ → ℕ → List ℕ → ℕ
+walk_code ws number va base ram = code_in (regime_at number) (passes base (length ram)) ws va base ram
 
 -- the leaf is written, and nothing where there is none
-unfoldable pub walkWords : List ℕ → ℕ → ℕ → ℕ → List ℕ → List ℕ → List ℕ
-walkWords ws number va base ram out = words_in (regimeAt number) (passes base (length ram)) ws va base ram out
+unfoldable pub walk_words : List ℕ → ℕ → ℕ → ℕ → List ℕ → List ℕ → List ℕ
+walk_words ws number va base ram out = words_in (regime_at number) (passes base (length ram)) ws va base ram out

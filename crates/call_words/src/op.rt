@@ -1,8 +1,8 @@
 // A call as words.
 ghost use Rattle.std.specs.Prelude.{◌≡◌};
 ghost use Rattle.call_words.specs.declared.op.DecodedException.TheVariants as DecodedException;
-ghost use Rattle.call_words.specs.Ops.{kind_of, in_range, dataAbortOf, insnAbortOf, exceptionOf, exceptionAt};
-ghost use Rattle.call_words.specs.Ops.{key_of, translateCall, abortCall, markCall, call_of};
+ghost use Rattle.call_words.specs.Ops.{kind_of, in_range, data_abort_of, insn_abort_of, exception_of, exception_at};
+ghost use Rattle.call_words.specs.Ops.{key_of, translate_call, abort_call, mark_call, call_of};
 
 use exception::kind::{DataAbort, Exception, InsnAbort};
 use operations::call::{Call, Encoding};
@@ -38,9 +38,9 @@ pub fn kind_of(word: u64) -> DecodedKind
     }
 }
 
-#[tactic(auto, unfolding(crate::specs::Ops::dataAbortOf))]
+#[tactic(auto, unfolding(crate::specs::Ops::data_abort_of))]
 fn data_abort_of(addr: u64, write: u64, fsc: u64) -> DecodedException
-    ensures { result ≡ dataAbortOf addr write fsc }
+    ensures { result ≡ data_abort_of addr write fsc }
 {
     if fsc < 256 {
         let fault = fault::first(fsc as u8);
@@ -63,7 +63,7 @@ fn data_abort_of(addr: u64, write: u64, fsc: u64) -> DecodedException
 }
 
 fn insn_abort_of(addr: u64, fsc: u64) -> DecodedException
-    ensures { result ≡ insnAbortOf addr fsc }
+    ensures { result ≡ insn_abort_of addr fsc }
 {
     if fsc < 256 {
         let fault = fault::first(fsc as u8);
@@ -86,9 +86,9 @@ fn in_range(ok: bool, e: Exception) -> DecodedException
 
 // 0 Undefined; 1 SVC, 2 HVC, 3 SMC, 4 BRK, each with its immediate, of 16 bits; 5 data abort with address, write and
 // status; 6 instruction abort with address and status; 7 PC alignment. Words out of range name nothing.
-#[tactic(auto, unfolding(crate::specs::Ops::exceptionOf, crate::specs::Ops::callExceptionOf))]
+#[tactic(auto, unfolding(crate::specs::Ops::exception_of, crate::specs::Ops::call_exception_of))]
 pub fn exception_of(code: u64, a: u64, b: u64, c: u64) -> DecodedException
-    ensures { result ≡ exceptionOf code a b c }
+    ensures { result ≡ exception_of code a b c }
 {
     let ok = a < 0x1_0000;
     let imm = (a % 0x1_0000) as u16;
@@ -106,9 +106,9 @@ pub fn exception_of(code: u64, a: u64, b: u64, c: u64) -> DecodedException
 }
 
 // The four words that name an exception.
-#[tactic(auto, unfolding(crate::specs::Ops::exceptionOf, crate::specs::Ops::callExceptionOf))]
+#[tactic(auto, unfolding(crate::specs::Ops::exception_of, crate::specs::Ops::call_exception_of))]
 pub fn words_of(e: Exception) -> [u64; 4]
-    ensures { exceptionAt result ≡ DecodedException.Known e }
+    ensures { exception_at result ≡ DecodedException.Known e }
 {
     match e {
         Exception::Undefined => [0, 0, 0, 0],
@@ -128,9 +128,9 @@ pub fn words_of(e: Exception) -> [u64; 4]
     }
 }
 
-#[tactic(auto, unfolding(crate::specs::Ops::translateCall))]
+#[tactic(auto, unfolding(crate::specs::Ops::translate_call))]
 fn translate_of(kind: u64, va: u64) -> DecodedCall
-    ensures { result ≡ translateCall (kind_of kind) va }
+    ensures { result ≡ translate_call (kind_of kind) va }
 {
     match kind_of(kind) {
         DecodedKind::Known(k) => DecodedCall::Known(Call::Translate(k, va)),
@@ -139,7 +139,7 @@ fn translate_of(kind: u64, va: u64) -> DecodedCall
 }
 
 fn mark_of(word: u64) -> DecodedCall
-    ensures { result ≡ markCall word }
+    ensures { result ≡ mark_call word }
 {
     match word {
         0 => DecodedCall::Known(Call::Mark(false)),
@@ -156,7 +156,7 @@ pub fn key_of(word: u64) -> u32
 }
 
 fn abort_of(code: u64, a: u64, b: u64, c: u64) -> DecodedCall
-    ensures { result ≡ abortCall (exceptionOf code a b c) }
+    ensures { result ≡ abort_call (exception_of code a b c) }
 {
     match exception_of(code, a, b, c) {
         DecodedException::Known(e) => DecodedCall::Known(Call::Abort(e)),

@@ -1,7 +1,7 @@
 // A reply as a number and a word, and as four words.
 ghost use Rattle.std.specs.Prelude.{◌≡◌};
-ghost use Rattle.call_words.specs.Replies.{exceptionCode, stopCode, codeBy, exceptionValue, stopValue, valueBy};
-ghost use Rattle.call_words.specs.Replies.{exceptionWords, stopWords, wordsBy, wordsFrom};
+ghost use Rattle.call_words.specs.Replies.{exception_code, stop_code, code_by, exception_value, stop_value, value_by};
+ghost use Rattle.call_words.specs.Replies.{exception_words, stop_words, words_by, words_from};
 ghost use Rattle.operations.specs.Replies.{loading, storing};
 
 use exception::kind::{Exception, Stop};
@@ -11,8 +11,8 @@ use word::bits;
 
 // The number of an exception that stops an operation, and the address of a data abort.
 fn put_answer(e: Exception, ans: &mut u64) -> u64
-    ensures value { result ≡ exceptionCode e }
-    ensures ans_after { ans.new ≡ exceptionValue e ans.old }
+    ensures value { result ≡ exception_code e }
+    ensures ans_after { ans.new ≡ exception_value e ans.old }
 {
     match e {
         Exception::DataAbort(a) => {
@@ -30,8 +30,8 @@ fn put_answer(e: Exception, ans: &mut u64) -> u64
 }
 
 fn stopped(stop: Stop, ans: &mut u64) -> u64
-    ensures value { result ≡ stopCode stop }
-    ensures ans_after { ans.new ≡ stopValue stop ans.old }
+    ensures value { result ≡ stop_code stop }
+    ensures ans_after { ans.new ≡ stop_value stop ans.old }
 {
     match stop {
         Stop::Exception(e) => put_answer(e, ans),
@@ -41,8 +41,8 @@ fn stopped(stop: Stop, ans: &mut u64) -> u64
 
 // The number of a load's or a store's answer, and in ans its value or the address of its data abort.
 pub fn loaded(answer: LoadAnswer, ans: &mut u64) -> u64
-    ensures value { result ≡ codeBy (loading answer) }
-    ensures ans_after { ans.new ≡ valueBy (loading answer) ans.old }
+    ensures value { result ≡ code_by (loading answer) }
+    ensures ans_after { ans.new ≡ value_by (loading answer) ans.old }
 {
     match answer {
         LoadAnswer::Value(v) => {
@@ -54,8 +54,8 @@ pub fn loaded(answer: LoadAnswer, ans: &mut u64) -> u64
 }
 
 pub fn stored(answer: StoreAnswer, ans: &mut u64) -> u64
-    ensures value { result ≡ codeBy (storing answer) }
-    ensures ans_after { ans.new ≡ valueBy (storing answer) ans.old }
+    ensures value { result ≡ code_by (storing answer) }
+    ensures ans_after { ans.new ≡ value_by (storing answer) ans.old }
 {
     match answer {
         StoreAnswer::Done => 0,
@@ -65,7 +65,7 @@ pub fn stored(answer: StoreAnswer, ans: &mut u64) -> u64
 
 // The four words of a number: of what it did by its first two, of a fault by its first two and its last.
 pub fn words_by(n: u64, tag: u64, a: u64, fault: u64, b: u64, flag: u64) -> [u64; 4]
-    ensures { result ≡ wordsFrom n tag a fault b flag }
+    ensures { result ≡ words_from n tag a fault b flag }
 {
     if n == 0 {
         return [tag, a, 0, 0];
@@ -79,8 +79,8 @@ pub fn words_by(n: u64, tag: u64, a: u64, fault: u64, b: u64, flag: u64) -> [u64
 
 // The number of a reply, and in ans its value or the address of its data abort.
 pub fn answer(reply: Reply, ans: &mut u64) -> u64
-    ensures value { result ≡ codeBy reply }
-    ensures ans_after { ans.new ≡ valueBy reply ans.old }
+    ensures value { result ≡ code_by reply }
+    ensures ans_after { ans.new ≡ value_by reply ans.old }
 {
     match reply {
         Reply::Refused(n) => n as u64,
@@ -97,14 +97,14 @@ pub fn answer(reply: Reply, ans: &mut u64) -> u64
 
 // Its number alone.
 pub fn number(reply: Reply) -> u64
-    ensures { result ≡ codeBy reply }
+    ensures { result ≡ code_by reply }
 {
     let mut dropped: u64 = 0;
     answer(reply, &mut dropped)
 }
 
 fn exception_words(e: Exception) -> [u64; 4]
-    ensures { result ≡ exceptionWords e }
+    ensures { result ≡ exception_words e }
 {
     match e {
         Exception::DataAbort(a) => {
@@ -122,7 +122,7 @@ fn exception_words(e: Exception) -> [u64; 4]
 }
 
 fn stop_words(stop: Stop) -> [u64; 4]
-    ensures { result ≡ stopWords stop }
+    ensures { result ≡ stop_words stop }
 {
     match stop {
         Stop::Exception(e) => exception_words(e),
@@ -131,9 +131,9 @@ fn stop_words(stop: Stop) -> [u64; 4]
 }
 
 // The four words of a reply.
-#[tactic(auto, unfolding(crate::specs::Replies::wordsBy))]
+#[tactic(auto, unfolding(crate::specs::Replies::words_by))]
 pub fn words(reply: Reply) -> [u64; 4]
-    ensures { result ≡ wordsBy reply }
+    ensures { result ≡ words_by reply }
 {
     match reply {
         Reply::Refused(n) => [5, n as u64, 0, 0],

@@ -1,6 +1,6 @@
 // One walk of the tables, of registers and RAM that the caller lends. A number other than 0 writes no word of the leaf.
 ghost use Rattle.std.specs.Prelude.{◌≡◌, ◌+◌};
-ghost use Rattle.call_words.specs.Walk.{bankAt, regimeAt, leafAfter, walkCode, walkWords};
+ghost use Rattle.call_words.specs.Walk.{bank_at, regime_at, leaf_after, walk_code, walk_words};
 
 use operations::check;
 use walk::level::Leaf;
@@ -15,7 +15,7 @@ pub enum Named {
 }
 
 fn regime_at(number: u64) -> Named
-    ensures { result ≡ regimeAt number }
+    ensures { result ≡ regime_at number }
 {
     match number {
         1 => Named::Known(Regime::El1),
@@ -27,7 +27,7 @@ fn regime_at(number: u64) -> Named
 
 // The six registers of a regime: SCTLR, TCR, TTBR0 of its own, TTBR1_EL1, SCR_EL3, HCR_EL2.
 fn bank_at(words: &[u64; 6]) -> Bank
-    ensures { result ≡ bankAt words.now }
+    ensures { result ≡ bank_at words.now }
 {
     Bank {
         sctlr: words[0],
@@ -41,7 +41,7 @@ fn bank_at(words: &[u64; 6]) -> Bank
 
 // The leaf as five words: output address, descriptor, permission byte, level, and 1 where it holds for every ASID.
 fn put_leaf(out: &mut [u64; 5], leaf: Leaf)
-    ensures { out.new ≡ leafAfter leaf }
+    ensures { out.new ≡ leaf_after leaf }
 {
     let global = bits::flag_word(leaf.global);
     *out = [
@@ -55,7 +55,7 @@ fn put_leaf(out: &mut [u64; 5], leaf: Leaf)
 
 // One walk of an untagged address: 0 and the leaf, or 256 plus the fault's status; 64 for no regime, 2 for a window
 // that passes 2^64.
-#[tactic(auto, unfolding(crate::specs::Walk::walkCode, crate::specs::Walk::walkWords))]
+#[tactic(auto, unfolding(crate::specs::Walk::walk_code, crate::specs::Walk::walk_words))]
 pub fn walk_words(
     words: &[u64; 6],
     number: u64,
@@ -64,8 +64,8 @@ pub fn walk_words(
     base: u64,
     ram: &[u8],
 ) -> u64
-    ensures { (result ≡ walkCode words.now number va base ram.now) ×
-        (out.new ≡ walkWords words.now number va base ram.now out.old) }
+    ensures { (result ≡ walk_code words.now number va base ram.now) ×
+        (out.new ≡ walk_words words.now number va base ram.now out.old) }
 {
     let named = regime_at(number);
     match named {

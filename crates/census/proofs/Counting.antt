@@ -5,30 +5,30 @@ use Rattle.word.specs.Bits.{wrap}
 use Rattle.walk.specs.declared.{regime.Regime.Regime, regime.Bank.Bank}
 use Rattle.walk.proofs.FreshLaws.{is-sound}
 use Rattle.census.specs.Tally.{at_most, one_more}
-use Rattle.census.specs.Count.{pageAt, placeAt, censusOf}
+use Rattle.census.specs.Count.{page_at, place_at, census_of}
 
 -- the address of the i-th page, as the code finds it
 pub page_is : (first start i below page : ℕ) → first < 2 ^ 64 → start ≡ first - first % 4096 → below ≡ wrap (i * 4096) → page ≡ wrap (start + below)
-    → page ≡ pageAt first i
+    → page ≡ page_at first i
 page_is first start i below page h es eb ep = omega arith
 
-module _ (s : Bank) (r : Regime) (memory : ℕ → Option ℕ) (first i : ℕ) (counts : List ℕ) (e : counts ≡ censusOf s r memory first i) (at : ℕ)
+module _ (s : Bank) (r : Regime) (memory : ℕ → Option ℕ) (first i : ℕ) (counts : List ℕ) (e : counts ≡ census_of s r memory first i) (at : ℕ)
     (small : at < 129) where
   pub one-fits : get_or counts at 0 ≤ i
-  unfolding censusOf
-  one-fits = rw e (at_most 129 (λ k. placeAt s r memory (pageAt first k)) i at small)
+  unfolding census_of
+  one-fits = rw e (at_most 129 (λ k. place_at s r memory (page_at first k)) i at small)
 
-  pub page-more : (page : ℕ) → page ≡ pageAt first i → at ≡ placeAt s r memory page
-      → set counts at (get_or counts at 0 + 1) ≡ censusOf s r memory first (i + 1)
-  unfolding censusOf
-  page-more page ep ea = rw (e, there, add-one i) (one_more 129 (λ k. placeAt s r memory (pageAt first k)) i (rw there at small))
+  pub page-more : (page : ℕ) → page ≡ page_at first i → at ≡ place_at s r memory page
+      → set counts at (get_or counts at 0 + 1) ≡ census_of s r memory first (i + 1)
+  unfolding census_of
+  page-more page ep ea = rw (e, there, add-one i) (one_more 129 (λ k. place_at s r memory (page_at first k)) i (rw there at small))
     where
-      there : at ≡ placeAt s r memory (pageAt first i)
-      there = ea ∙ ap (placeAt s r memory) ep
+      there : at ≡ place_at s r memory (page_at first i)
+      there = ea ∙ ap (place_at s r memory) ep
 
-pub all-pages : (s : Bank) (r : Regime) (memory : ℕ → Option ℕ) (first i pages : ℕ) (counts : List ℕ) → counts ≡ censusOf s r memory first i → i ≤ pages → pages ≤ i
-    → counts ≡ censusOf s r memory first pages
-all-pages s r memory first i pages counts e h k = e ∙ ap (censusOf s r memory first) (same h k)
+pub all-pages : (s : Bank) (r : Regime) (memory : ℕ → Option ℕ) (first i pages : ℕ) (counts : List ℕ) → counts ≡ census_of s r memory first i → i ≤ pages → pages ≤ i
+    → counts ≡ census_of s r memory first pages
+all-pages s r memory first i pages counts e h k = e ∙ ap (census_of s r memory first) (same h k)
   where
     same : i ≤ pages → pages ≤ i → i ≡ pages
     same a b = omega arith

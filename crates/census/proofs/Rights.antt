@@ -3,11 +3,11 @@ use Rattle.std.specs.Prelude.{if◌then◌else◌, ◌≡◌, ℕ, ◌+◌, ◌<
 use Rattle.std.proofs.Common.{sym, ap, ◌∙◌, arith, ne_eqb}
 use Rattle.word.specs.Bits.{flag}
 use Rattle.word.specs.BitLaws.{both}
-use Rattle.walk.specs.Regime.{singlePriv, wxnOf, stage1On}
+use Rattle.walk.specs.Regime.{single_priv, wxn_of, stage1_on}
 use Rattle.walk.specs.Tag.{untagged}
-use Rattle.walk.specs.Table.{Result, mapped, faults, tableWalk}
-use Rattle.walk.specs.Permission.{permissionByte}
-use Rattle.walk.specs.Walk.{walkedOf, walk_of}
+use Rattle.walk.specs.Table.{Result, mapped, faults, table_walk}
+use Rattle.walk.specs.Permission.{permission_byte}
+use Rattle.walk.specs.Walk.{walked_of, walk_of}
 use Rattle.walk.specs.Fresh.{fresh_of}
 use Rattle.walk.specs.declared.{regime.Regime.Regime, regime.Bank.Bank, rights.Permissions.Permissions}
 use Rattle.walk.specs.declared.fresh.Fresh.TheVariants.{Flat, Ended}
@@ -15,8 +15,8 @@ use Rattle.walk.specs.FreshLaws.{SoundFresh}
 use Rattle.walk.specs.WalkBounds.{status-small}
 use Rattle.walk.specs.declared.fresh.Fresh.{Fresh}
 use Rattle.census.specs.Tally.{many-none, shift-eqb}
-use Rattle.census.specs.Count.{place_of, pageAt}
-use Rattle.census.specs.Laws.{countAt, end_at}
+use Rattle.census.specs.Count.{place_of, page_at}
+use Rattle.census.specs.Laws.{census_count, end_at}
 use Rattle.census.proofs.Laws.{count_at, sound-at}
 use Rattle.census.specs.Rights.{among, possible}
 use Rattle.walk.specs.Answers.{Walked}
@@ -32,7 +32,7 @@ each f e false = (both (f true) (f false) e).1
 
 -- the permission byte of each AP[2], AP[1], XN and PXN, by singlepriv and WXN
 fits : Bool → Bool → Bool → Bool → Bool → Bool → Bool
-fits singlepriv wxn ap2 ap1 xn pxn = among (permissionByte singlepriv wxn (record { ap2 = ap2; ap1 = ap1; xn = xn; pxn = pxn })) possible
+fits singlepriv wxn ap2 ap1 xn pxn = among (permission_byte singlepriv wxn (record { ap2 = ap2; ap1 = ap1; xn = xn; pxn = pxn })) possible
 
 all_fit : every (λ a. every (λ b. every (λ c. every (λ d. every (λ e. every (fits a b c d e)))))) ≡ true
 unfolding every fits
@@ -47,7 +47,7 @@ each_fits a b c d e f =
     (each (λ b. every (λ c. every (λ d. every (λ e. every (fits a b c d e)))))
     (each (λ a. every (λ b. every (λ c. every (λ d. every (λ e. every (fits a b c d e)))))) all_fit a) b) c) d) e) f
 
-pub permission-possible : (singlepriv wxn : Bool) (t : Permissions) → among (permissionByte singlepriv wxn t) possible ≡ true
+pub permission-possible : (singlepriv wxn : Bool) (t : Permissions) → among (permission_byte singlepriv wxn t) possible ≡ true
 unfolding fits
 permission-possible singlepriv wxn t = each_fits singlepriv wxn t.ap2 t.ap1 t.xn t.pxn
 
@@ -57,10 +57,10 @@ Possible (Err n) = Unit {0}
 
 walk-possible : (s : Bank) (r : Regime) (va : ℕ) (memory : ℕ → Option ℕ) → Possible (walk_of s r va memory)
 unfolding walk_of
-walk-possible s r va memory = go (tableWalk s r va memory)
+walk-possible s r va memory = go (table_walk s r va memory)
   where
-    go : (x : Result) → Possible (walkedOf (singlePriv r) (wxnOf s) x)
-    go (mapped t) = permission-possible (singlePriv r) (wxnOf s) t.perms
+    go : (x : Result) → Possible (walked_of (single_priv r) (wxn_of s) x)
+    go (mapped t) = permission-possible (single_priv r) (wxn_of s) t.perms
     go (faults f) = tt
 
 -- what is not among them no page is counted under
@@ -76,18 +76,18 @@ PossibleFresh (Flat pa) = Unit {0}
 
 fresh-possible : (s : Bank) (r : Regime) (va : ℕ) (memory : ℕ → Option ℕ) → PossibleFresh (fresh_of s r va memory)
 unfolding fresh_of
-fresh-possible s r va memory = go (stage1On s r)
+fresh-possible s r va memory = go (stage1_on s r)
   where
     go : (b : Bool) → PossibleFresh (if b then Ended (walk_of s r (untagged s.tcr r va) memory) else Flat va)
     go true = walk-possible s r (untagged s.tcr r va) memory
     go false = tt
 
 pub no-other-rights : (s : Bank) (r : Regime) (memory : ℕ → Option ℕ) (first pages perms : ℕ) → perms < 64 → among perms possible ≡ false
-    → countAt s r memory first pages (64 + perms) ≡ 0
+    → census_count s r memory first pages (64 + perms) ≡ 0
 no-other-rights s r memory first pages perms small h =
     count_at s r memory first pages (64 + perms) (omega arith)
     ∙ many-none _ pages
-    (λ i. none (end_at s r memory first i) (sound-at s r memory first i) (fresh-possible s r (pageAt first i) memory))
+    (λ i. none (end_at s r memory first i) (sound-at s r memory first i) (fresh-possible s r (page_at first i) memory))
   where
     none : (x : Fresh) → SoundFresh x → PossibleFresh x → (place_of x == 64 + perms) ≡ false
     none (Ended (Err n)) k q = let less = status-small n k in ne_eqb n (64 + perms) (λ e. omega arith)

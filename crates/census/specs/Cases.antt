@@ -1,18 +1,18 @@
 -- Worked censuses, as one computed statement. SCTLR_EL1.M set, TTBR0_EL1 0x1000, a window of two words at 0x1000: 0, and a 1 GiB block at 0x80000000.
 use Rattle.std.specs.Prelude.{◌≡◌, ℕ, ◌+◌, ◌^◌, [], ◌∷◌, ◌++◌, slice_index, refl}
-use Rattle.word.specs.Ram.{word_at, littleEndian, bytes_of}
+use Rattle.word.specs.Ram.{word_at, little_endian, bytes_of}
 use Rattle.word.specs.Tables.{table}
 use Rattle.sysreg.specs.declared.regs.Control.{Control}
 use Rattle.walk.specs.Tag.{untagged}
-use Rattle.walk.specs.Size.{paSize}
-use Rattle.walk.specs.Table.{range_of, params_of, tableNext, leafPermissions, leafTranslation, leafResult, levelNext, descaddr, lookupNext, walkFrom}
-use Rattle.walk.specs.Table.{walkRange, tableWalk}
+use Rattle.walk.specs.Size.{pa_size}
+use Rattle.walk.specs.Table.{range_of, params_of, table_next, leaf_permissions, leaf_translation, leaf_result, level_next, descaddr, lookup_next, walk_from}
+use Rattle.walk.specs.Table.{walk_range, table_walk}
 use Rattle.walk.specs.Walk.{walk_of}
 use Rattle.walk.specs.Fresh.{fresh_of}
 use Rattle.walk.specs.declared.regime.Regime.TheVariants.{El1}
 use Rattle.walk.specs.declared.regime.Bank.{Bank}
-use Rattle.census.specs.Tally.{howMany}
-use Rattle.census.specs.Count.{censusOf, censusAt}
+use Rattle.census.specs.Tally.{how_many}
+use Rattle.census.specs.Count.{census_of, census_at}
 
 pub registers : ℕ → ℕ → Bank
 registers sctlr tcr = record { sctlr = sctlr; tcr = tcr; ttbr0 = 0x1000; ttbr1_el1 = 0; scr_el3 = 0; hcr_el2 = 0 }
@@ -21,7 +21,7 @@ registers sctlr tcr = record { sctlr = sctlr; tcr = tcr; ttbr0 = 0x1000; ttbr1_e
 pub counted : ℕ → ℕ → ℕ → ℕ → ℕ → ℕ
 unfolding registers
 counted sctlr tcr first pages place =
-    slice_index (censusOf (registers sctlr tcr) El1 (word_at 0x1000 (bytes_of 8 0 ++ bytes_of 8 0x80000401) 8) first pages) place
+    slice_index (census_of (registers sctlr tcr) El1 (word_at 0x1000 (bytes_of 8 0 ++ bytes_of 8 0x80000401) 8) first pages) place
 
 --   the last page below 1 GiB, which is not mapped, and the first of the block, by an address within the former
 --   the last page of the lower range, whose descriptor lies outside RAM, and the first beyond it
@@ -46,8 +46,8 @@ WorkedPlaces =
     ≡ (1 ∷ 1 ∷ 1 ∷ 1 ∷ 1 ∷ 1 ∷ 1 ∷ 1 ∷ 1 ∷ 3 ∷ 0 ∷ [])
 
 pub cases : WorkedPlaces
-unfolding counted registers censusOf table howMany fresh_of walk_of tableWalk walkRange walkFrom lookupNext levelNext leafResult leafTranslation
-    leafPermissions tableNext descaddr range_of params_of paSize untagged word_at littleEndian bytes_of
+unfolding counted registers census_of table how_many fresh_of walk_of table_walk walk_range walk_from lookup_next level_next leaf_result leaf_translation
+    leaf_permissions table_next descaddr range_of params_of pa_size untagged word_at little_endian bytes_of
 cases = refl
 
 -- Each level's own regime and registers: EL1&0's tables as above, EL2's outside RAM, EL3's stage 1 off. The first page of the block at EL0, EL1, EL2, EL3.
@@ -62,14 +62,14 @@ control =
       hcr_el2 = 0;
     }
 
-pub countedAt : ℕ → ℕ → ℕ
+pub counted_at : ℕ → ℕ → ℕ
 unfolding control
-countedAt level place = slice_index (censusAt control level (word_at 0x1000 (bytes_of 8 0 ++ bytes_of 8 0x80000401) 8) 0x40000000 1) place
+counted_at level place = slice_index (census_at control level (word_at 0x1000 (bytes_of 8 0 ++ bytes_of 8 0x80000401) 8) 0x40000000 1) place
 
 abbrev pub WorkedLevels : Type 0
-WorkedLevels = (countedAt 0 (64 + 0x3C) ∷ countedAt 1 (64 + 0x3C) ∷ countedAt 2 0x15 ∷ countedAt 3 128 ∷ []) ≡ (1 ∷ 1 ∷ 1 ∷ 1 ∷ [])
+WorkedLevels = (counted_at 0 (64 + 0x3C) ∷ counted_at 1 (64 + 0x3C) ∷ counted_at 2 0x15 ∷ counted_at 3 128 ∷ []) ≡ (1 ∷ 1 ∷ 1 ∷ 1 ∷ [])
 
 pub levels : WorkedLevels
-unfolding countedAt control censusOf table howMany fresh_of walk_of tableWalk walkRange walkFrom lookupNext levelNext leafResult leafTranslation
-    leafPermissions tableNext descaddr range_of params_of paSize untagged word_at littleEndian bytes_of
+unfolding counted_at control census_of table how_many fresh_of walk_of table_walk walk_range walk_from lookup_next level_next leaf_result leaf_translation
+    leaf_permissions table_next descaddr range_of params_of pa_size untagged word_at little_endian bytes_of
 levels = refl

@@ -4,25 +4,25 @@ use Rattle.std.specs.Prelude.{◌≡◌, ℕ, ◌<◌, ◌≤◌, Bool, true, fa
 use Rattle.walk.specs.Fresh.{fresh_of}
 use Rattle.walk.specs.declared.{regime.Regime.Regime, regime.Bank.Bank, fresh.Fresh.Fresh}
 use Rattle.walk.specs.declared.fresh.Fresh.TheVariants.{Flat, Ended}
-use Rattle.census.specs.Count.{pageAt, censusOf}
+use Rattle.census.specs.Count.{page_at, census_of}
 
 -- WHAT A FRESH ANSWER IS
 
 -- a fault of this status
-abbrev pub faultsWith : ℕ → Fresh → Bool
-faultsWith status (Ended (Err n)) = n == status
-faultsWith status (Ended (Ok leaf)) = false
-faultsWith status (Flat pa) = false
+abbrev pub faults_with : ℕ → Fresh → Bool
+faults_with status (Ended (Err n)) = n == status
+faults_with status (Ended (Ok leaf)) = false
+faults_with status (Flat pa) = false
 
 -- a leaf of this permission byte
-abbrev pub hasRights : ℕ → Fresh → Bool
-hasRights perms (Ended (Err n)) = false
-hasRights perms (Ended (Ok leaf)) = leaf.perms == perms
-hasRights perms (Flat pa) = false
+abbrev pub has_rights : ℕ → Fresh → Bool
+has_rights perms (Ended (Err n)) = false
+has_rights perms (Ended (Ok leaf)) = leaf.perms == perms
+has_rights perms (Flat pa) = false
 
-abbrev pub isFlat : Fresh → Bool
-isFlat (Ended w) = false
-isFlat (Flat pa) = true
+abbrev pub is_flat : Fresh → Bool
+is_flat (Ended w) = false
+is_flat (Flat pa) = true
 
 -- NEVER
 
@@ -35,11 +35,11 @@ NoStatus n = (n ≡ 8) ⊎ (((12 ≤ n) × (n < 20)) ⊎ (24 ≤ n))
 module _ (s : Bank) (r : Regime) (memory : ℕ → Option ℕ) (first : ℕ) where
   -- how the i-th page ends with nothing cached
   abbrev pub end_at : ℕ → Fresh
-  end_at i = fresh_of s r (pageAt first i) memory
+  end_at i = fresh_of s r (page_at first i) memory
 
-  abbrev pub countAt : ℕ → ℕ → ℕ
-  countAt pages j = slice_index (censusOf s r memory first pages) j
+  abbrev pub census_count : ℕ → ℕ → ℕ
+  census_count pages j = slice_index (census_of s r memory first pages) j
 
 -- a fact of every census: of its places, of how each of its pages ends, and of how many pages it has
 abbrev pub EachCensus : ((ℕ → ℕ) → (ℕ → Fresh) → ℕ → Type 0) → Type 0
-EachCensus P = (s : Bank) (r : Regime) (memory : ℕ → Option ℕ) (first pages : ℕ) → P (countAt s r memory first pages) (end_at s r memory first) pages
+EachCensus P = (s : Bank) (r : Regime) (memory : ℕ → Option ℕ) (first pages : ℕ) → P (census_count s r memory first pages) (end_at s r memory first) pages

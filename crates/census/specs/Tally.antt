@@ -7,9 +7,9 @@ use Rattle.word.specs.Bits.{flag}
 use Rattle.word.specs.Tables.{table, table_at, table_same, table-set}
 
 -- the number of i below n of which p holds
-unfoldable pub howMany : (ℕ → Bool) → ℕ → ℕ
-howMany p zero = 0
-howMany p (suc n) = howMany p n + flag (p n) 1
+unfoldable pub how_many : (ℕ → Bool) → ℕ → ℕ
+how_many p zero = 0
+how_many p (suc n) = how_many p n + flag (p n) 1
 
 -- the sum of a list
 unfoldable pub total : List ℕ → ℕ
@@ -18,7 +18,7 @@ total (x ∷ xs) = x + total xs
 
 -- how many i below n have their place at j
 abbrev pub named : (ℕ → ℕ) → ℕ → ℕ → ℕ
-named place n j = howMany (λ i. nat_eq (place i) j) n
+named place n j = how_many (λ i. nat_eq (place i) j) n
 
 -- the same of each place below m
 abbrev pub tally : ℕ → (ℕ → ℕ) → ℕ → List ℕ
@@ -36,34 +36,34 @@ flag_one : (b : Bool) → flag b 1 ≤ 1
 flag_one true = omega arith
 flag_one false = omega arith
 
-pub many-le : (p : ℕ → Bool) (n : ℕ) → howMany p n ≤ n
-unfolding howMany
+pub many-le : (p : ℕ → Bool) (n : ℕ) → how_many p n ≤ n
+unfolding how_many
 many-le p zero = omega arith
 many-le p (suc n) = let h = many-le p n in let k = flag_one (p n) in omega arith
 
 -- alike at every number
-pub many-same : (p q : ℕ → Bool) (n : ℕ) → ((i : ℕ) → p i ≡ q i) → howMany p n ≡ howMany q n
-unfolding howMany
+pub many-same : (p q : ℕ → Bool) (n : ℕ) → ((i : ℕ) → p i ≡ q i) → how_many p n ≡ how_many q n
+unfolding how_many
 many-same p q zero h = refl
 many-same p q (suc n) h = ap₂ (λ (a : ℕ) (b : Bool). a + flag b 1) (many-same p q n h) (h n)
 
-pub many-none : (p : ℕ → Bool) (n : ℕ) → ((i : ℕ) → p i ≡ false) → howMany p n ≡ 0
-unfolding howMany
+pub many-none : (p : ℕ → Bool) (n : ℕ) → ((i : ℕ) → p i ≡ false) → how_many p n ≡ 0
+unfolding how_many
 many-none p zero h = refl
 many-none p (suc n) h = ap₂ (λ (a : ℕ) (b : Bool). a + flag b 1) (many-none p n h) (h n)
 
-pub many-all : (p : ℕ → Bool) (n : ℕ) → ((i : ℕ) → p i ≡ true) → howMany p n ≡ n
-unfolding howMany
+pub many-all : (p : ℕ → Bool) (n : ℕ) → ((i : ℕ) → p i ≡ true) → how_many p n ≡ n
+unfolding how_many
 many-all p zero h = refl
 many-all p (suc n) h = ap₂ (λ (a : ℕ) (b : Bool). a + flag b 1) (many-all p n h) (h n) ∙ plus_one n
 
 -- those below n, and those of the next m
-pub many-joins : (p : ℕ → Bool) (n m : ℕ) → howMany p (n + m) ≡ howMany p n + howMany (λ i. p (n + i)) m
-unfolding howMany
-many-joins p n zero = rw (plus-zero n) (sym (plus-zero (howMany p n)))
+pub many-joins : (p : ℕ → Bool) (n m : ℕ) → how_many p (n + m) ≡ how_many p n + how_many (λ i. p (n + i)) m
+unfolding how_many
+many-joins p n zero = rw (plus-zero n) (sym (plus-zero (how_many p n)))
 many-joins p n (suc m) =
-    ap (howMany p) (plus_suc n m) ∙ ap (λ (k : ℕ). k + flag (p (n + m)) 1) (many-joins p n m)
-    ∙ assoc (howMany p n) (howMany (λ i. p (n + i)) m) (flag (p (n + m)) 1)
+    ap (how_many p) (plus_suc n m) ∙ ap (λ (k : ℕ). k + flag (p (n + m)) 1) (many-joins p n m)
+    ∙ assoc (how_many p n) (how_many (λ i. p (n + i)) m) (flag (p (n + m)) 1)
   where
     plus_suc : (a b : ℕ) → a + suc b ≡ suc (a + b)
     plus_suc a b = omega arith
@@ -119,7 +119,7 @@ total-one (suc m) (suc k) h =
 
 -- every number below n has one place
 pub adds-up : (m : ℕ) (place : ℕ → ℕ) (n : ℕ) → ((i : ℕ) → place i < m) → total (tally m place n) ≡ n
-unfolding howMany
+unfolding how_many
 adds-up m place zero h = total-none m
 adds-up m place (suc n) h =
     total-join m (named place n) (λ j. flag (place n == j) 1)
@@ -136,7 +136,7 @@ module _ (m : ℕ) (place : ℕ → ℕ) where
 
   pub one_more : (n : ℕ) → place n < m
       → slice_set (tally m place n) (place n) (slice_index (tally m place n) (place n) + 1) ≡ tally m place (suc n)
-  unfolding howMany
+  unfolding how_many
   one_more n h =
       ap (set (tally m place n) (place n)) (ap (λ (k : ℕ). k + 1) (at_place n (place n) h) ∙ ap (λ (b : Bool). named place n (place n) + flag b 1) (sym same))
       ∙ sym (table-set m (named place n) (named place (suc n)) (place n) h others)

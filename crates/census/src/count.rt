@@ -2,7 +2,7 @@
 ghost use Rattle.std.specs.Prelude.{◌≡◌, ◌<◌};
 ghost use Rattle.word.specs.Ram.{word_at};
 ghost use Rattle.walk.specs.FreshLaws.{SoundFresh};
-ghost use Rattle.census.specs.Count.{place_of, placeAt, censusOf};
+ghost use Rattle.census.specs.Count.{place_of, place_at, census_of};
 
 use walk::fresh;
 use walk::fresh::Fresh;
@@ -24,7 +24,7 @@ fn place_of(end: Fresh) -> usize
 // Where the page is counted whose first address is va.
 #[tactic(auto, using(crate::proofs::Counting::sound))]
 fn place_at(s: Bank, regime: Regime, va: u64, base: u64, ram: &[u8]) -> usize
-    ensures value { result ≡ placeAt s regime (word_at base ram.now 8) va }
+    ensures value { result ≡ place_at s regime (word_at base ram.now 8) va }
     ensures upper_bound { result < 129 }
 {
     place_of(fresh::fresh_of(s, regime, va, base, ram))
@@ -42,7 +42,7 @@ pub fn count(
     ram: &[u8],
     counts: &mut [u64; 129],
 )
-    ensures { counts.new ≡ censusOf s regime (word_at base ram.now 8) first pages }
+    ensures { counts.new ≡ census_of s regime (word_at base ram.now 8) first pages }
 {
     *counts = [0; 129];
     let start = first - first % 4096;

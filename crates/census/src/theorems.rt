@@ -1,12 +1,12 @@
 // What holds of every census. Each function computes nothing: its contract is the theorem.
 ghost use Rattle.std.specs.Prelude.{◌≡◌, ℕ, ◌+◌, ◌*◌, ◌/◌, ◌<◌, Bool, true, false, Option};
 ghost use Rattle.word.specs.Bits.{wrap};
-ghost use Rattle.walk.specs.Regime.{stage1On};
+ghost use Rattle.walk.specs.Regime.{stage1_on};
 ghost use Rattle.walk.specs.declared.regime.Regime.{Regime};
 ghost use Rattle.walk.specs.declared.regime.Bank.{Bank};
-ghost use Rattle.census.specs.Tally.{howMany, total};
-ghost use Rattle.census.specs.Count.{censusOf};
-ghost use Rattle.census.specs.Laws.{faultsWith, hasRights, isFlat, NoStatus, countAt, EachCensus};
+ghost use Rattle.census.specs.Tally.{how_many, total};
+ghost use Rattle.census.specs.Count.{census_of};
+ghost use Rattle.census.specs.Laws.{faults_with, has_rights, is_flat, NoStatus, census_count, EachCensus};
 ghost use Rattle.census.specs.Rights.{among, possible};
 ghost use Rattle.census.specs.Cases.{WorkedPlaces, WorkedLevels};
 
@@ -14,22 +14,22 @@ ghost use Rattle.census.specs.Cases.{WorkedPlaces, WorkedLevels};
 // permission byte, and those that are flat. It rules out a page that is counted under another place, or twice.
 pub fn meaning_of_counts()
     ensures status { EachCensus (λ count end pages. (status : ℕ) → status < 64
-        → count status ≡ howMany (λ i. faultsWith status (end i)) pages) }
+        → count status ≡ how_many (λ i. faults_with status (end i)) pages) }
     ensures rights { EachCensus (λ count end pages. (perms : ℕ) → perms < 64
-        → count (64 + perms) ≡ howMany (λ i. hasRights perms (end i)) pages) }
-    ensures flat { EachCensus (λ count end pages. count 128 ≡ howMany (λ i. isFlat (end i)) pages) }
+        → count (64 + perms) ≡ how_many (λ i. has_rights perms (end i)) pages) }
+    ensures flat { EachCensus (λ count end pages. count 128 ≡ how_many (λ i. is_flat (end i)) pages) }
 {}
 
 // All counts together are the number of pages, a census of two adjoining ranges is the sum, place by place, and the low
 // twelve bits of the first address count for nothing.
 pub fn sums_of_counts()
     ensures all_counted { (s : Bank) (r : Regime) (memory : ℕ → Option ℕ) (first pages : ℕ)
-        → total (censusOf s r memory first pages) ≡ pages }
+        → total (census_of s r memory first pages) ≡ pages }
     ensures ranges_join { (s : Bank) (r : Regime) (memory : ℕ → Option ℕ) (first n m next j : ℕ)
         → next ≡ wrap (first + n * 4096) → j < 129
-        → countAt s r memory first (n + m) j ≡ countAt s r memory first n j + countAt s r memory next m j }
+        → census_count s r memory first (n + m) j ≡ census_count s r memory first n j + census_count s r memory next m j }
     ensures low_bits_dropped { (s : Bank) (r : Regime) (memory : ℕ → Option ℕ) (first other pages : ℕ)
-        → first / 4096 ≡ other / 4096 → censusOf s r memory first pages ≡ censusOf s r memory other pages }
+        → first / 4096 ≡ other / 4096 → census_of s r memory first pages ≡ census_of s r memory other pages }
 {}
 
 // Which places stay 0: the statuses that no walk ends at, all but fourteen permission bytes, and with stage 1 off every
@@ -40,11 +40,11 @@ pub fn empty_places()
     ensures no_other_rights { EachCensus (λ count end pages. (perms : ℕ) → perms < 64
         → among perms possible ≡ false → count (64 + perms) ≡ 0) }
     ensures off_all_flat { (s : Bank) (r : Regime) (memory : ℕ → Option ℕ) (first pages : ℕ)
-        → stage1On s r ≡ false → countAt s r memory first pages 128 ≡ pages }
+        → stage1_on s r ≡ false → census_count s r memory first pages 128 ≡ pages }
     ensures off_none_else { (s : Bank) (r : Regime) (memory : ℕ → Option ℕ) (first pages j : ℕ)
-        → stage1On s r ≡ false → j < 128 → countAt s r memory first pages j ≡ 0 }
+        → stage1_on s r ≡ false → j < 128 → census_count s r memory first pages j ≡ 0 }
     ensures on_none_flat { (s : Bank) (r : Regime) (memory : ℕ → Option ℕ) (first pages : ℕ)
-        → stage1On s r ≡ true → countAt s r memory first pages 128 ≡ 0 }
+        → stage1_on s r ≡ true → census_count s r memory first pages 128 ≡ 0 }
 {}
 
 // Censuses of pages on both sides of each border, and one at each exception level, computed. They rule out a range that

@@ -1,39 +1,39 @@
 -- The thirteen worked cases of docs/SCOPE.md and the last address in range, as one computed statement about calls on a core with an empty cache.
 use Rattle.std.specs.Prelude.{◌≡◌, ℕ, ◌^◌, true, false, [], ◌∷◌, replicate, slice_index}
 use Rattle.std.specs.Prelude.{refl}
-use Rattle.word.specs.Ram.{word_at, littleEndian, bytes_of}
+use Rattle.word.specs.Ram.{word_at, little_endian, bytes_of}
 use Rattle.fault.specs.First.{first}
-use Rattle.sysreg.specs.Encoding.{registerAt}
-use Rattle.sysreg.specs.Regs.{levels, freshSys}
+use Rattle.sysreg.specs.Encoding.{register_at}
+use Rattle.sysreg.specs.Regs.{levels, fresh_sys}
 use Rattle.walk.specs.Tag.{untagged}
-use Rattle.walk.specs.Size.{paSize}
-use Rattle.walk.specs.Table.{range_of, params_of, tableNext, leafPermissions, leafTranslation, leafResult, levelNext, descaddr, lookupNext, walkFrom, walkRange}
-use Rattle.walk.specs.Table.{tableWalk}
+use Rattle.walk.specs.Size.{pa_size}
+use Rattle.walk.specs.Table.{range_of, params_of, table_next, leaf_permissions, leaf_translation, leaf_result, level_next, descaddr, lookup_next, walk_from, walk_range}
+use Rattle.walk.specs.Table.{table_walk}
 use Rattle.walk.specs.Walk.{walk_of}
 use Rattle.walk.specs.declared.regime.Regime.TheVariants.{El1}
 use Rattle.tlb.specs.Access.{judged}
-use Rattle.tlb.specs.Cache.{blanks, noHints}
+use Rattle.tlb.specs.Cache.{blanks, no_hints}
 use Rattle.tlb.specs.Hint.{place_of}
 use Rattle.tlb.specs.Tlb.{fresh}
-use Rattle.tlb.specs.Resolve.{byWalk, resolveWith}
-use Rattle.tlb.specs.Translate.{missWith, applied, translationWith, fetchApplied, fetchEnd, fetchWith}
+use Rattle.tlb.specs.Resolve.{by_walk, resolve_with}
+use Rattle.tlb.specs.Translate.{miss_with, applied, translation_with, fetch_applied, fetch_end, fetch_with}
 use Rattle.tlb.specs.declared.access.Kind.{Kind}
 use Rattle.tlb.specs.declared.access.Kind.TheVariants.{Read, Fetch}
-use Rattle.exception.specs.Entry.{enteredSys, takeException, takeSync}
-use Rattle.exception.specs.Pstate.{freshFlags, spsrOf}
-use Rattle.exception.specs.Route.{routedTo}
-use Rattle.exception.specs.Syndrome.{syndromeOf}
-use Rattle.exception.specs.Abort.{dataAbortAt}
-use Rattle.mmu.specs.Core.{reg_of, afterAccess}
-use Rattle.mmu.specs.Step.{translateIn as translationOf}
-use Rattle.mmu.specs.Ops.{steppedNow, translateOf}
+use Rattle.exception.specs.Entry.{entered_sys, take_exception, take_sync}
+use Rattle.exception.specs.Pstate.{fresh_flags, spsr_of}
+use Rattle.exception.specs.Route.{routed_to}
+use Rattle.exception.specs.Syndrome.{syndrome_of}
+use Rattle.exception.specs.Abort.{data_abort_at}
+use Rattle.mmu.specs.Core.{reg_of, after_access}
+use Rattle.mmu.specs.Step.{translate_in as translation_of}
+use Rattle.mmu.specs.Ops.{stepped_now, translate_of}
 use Rattle.mmu.specs.declared.core_state.Core.{Core}
-use Rattle.sysop.specs.Op.{named, decodeOf}
+use Rattle.sysop.specs.Op.{named, decode_of}
 use Rattle.walk.specs.Fresh.{fresh_of}
-use Rattle.sysop.specs.Par.{success, abort, leafPar, parIn, atPar}
-use Rattle.exec.specs.Ops.{abortOf}
-use Rattle.exec.specs.Sys.{withPar, at_of, sysOf}
-use Rattle.operations.specs.Check.{missedOf}
+use Rattle.sysop.specs.Par.{success, abort, leaf_par, par_in, at_par}
+use Rattle.exec.specs.Ops.{abort_of}
+use Rattle.exec.specs.Sys.{with_par, at_of, sys_of}
+use Rattle.operations.specs.Check.{missed_of}
 use Rattle.cpu.specs.Step.{run_of, step_of}
 use Rattle.operations.specs.declared.{call.Call.Call, call.Reply.Reply}
 use Rattle.operations.specs.declared.call.Call.TheVariants.{Translate, System, Abort}
@@ -45,7 +45,7 @@ pub at : ℕ → ℕ → Core
 at level ttbr0 =
     record {
       privilege = record { level = level; unprivileged = false };
-      flags = freshFlags;
+      flags = fresh_flags;
       pc = 0;
       x = 0x40001234 ∷ replicate 30 0;
       control =
@@ -57,7 +57,7 @@ at level ttbr0 =
             scr_el3 = 0;
             hcr_el2 = 0;
           };
-      sys = freshSys;
+      sys = fresh_sys;
       tlb = fresh;
       last_pa = 0;
       abort_pa = 0;
@@ -85,7 +85,7 @@ par op2 = Value (called (at 1 0x1000) 0x1008 0x80000401 (System (record { op1 = 
 -- ESR_EL1 after abort entry from EL0
 pub esr : Reply
 unfolding at called
-esr = Value (slice_index (called (at 0 0x1000) 0x1008 0x80000401 (Abort (dataAbortAt 0x40001234 true (first 0x0D)))).core.sys.esr 1)
+esr = Value (slice_index (called (at 0 0x1000) 0x1008 0x80000401 (Abort (data_abort_at 0x40001234 true (first 0x0D)))).core.sys.esr 1)
 
 abbrev pub ProvedCases : Type 0
 ProvedCases =
@@ -121,9 +121,9 @@ ProvedCases =
     ∷ [])
 
 pub cases : ProvedCases
-unfolding row elsewhere par esr at called step_of run_of missedOf translateOf steppedNow translationOf registerAt freshSys reg_of afterAccess sysOf at_of withPar
-    abortOf takeSync takeException enteredSys spsrOf routedTo syndromeOf named decodeOf success abort leafPar parIn fresh_of atPar judged blanks
-    noHints place_of byWalk
-    resolveWith missWith applied translationWith fetchApplied fetchEnd fetchWith walk_of tableWalk walkRange walkFrom lookupNext levelNext leafResult
-    leafTranslation leafPermissions tableNext descaddr range_of params_of paSize untagged word_at littleEndian bytes_of
+unfolding row elsewhere par esr at called step_of run_of missed_of translate_of stepped_now translation_of register_at fresh_sys reg_of after_access sys_of at_of with_par
+    abort_of take_sync take_exception entered_sys spsr_of routed_to syndrome_of named decode_of success abort leaf_par par_in fresh_of at_par judged blanks
+    no_hints place_of by_walk
+    resolve_with miss_with applied translation_with fetch_applied fetch_end fetch_with walk_of table_walk walk_range walk_from lookup_next level_next leaf_result
+    leaf_translation leaf_permissions table_next descaddr range_of params_of pa_size untagged word_at little_endian bytes_of
 cases = refl

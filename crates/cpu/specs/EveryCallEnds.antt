@@ -4,11 +4,11 @@ use Rattle.std.specs.Prelude.{if◌then◌else◌, ◌≡◌, ℕ, zero, suc, �
 use Rattle.std.proofs.Math.Path.{refl, ap, subst⁻¹}
 use Rattle.std.proofs.Common.{sym, ◌∙◌, arith, leb-true}
 use Rattle.std.proofs.lemmas.Bool.{not-false}
-use Rattle.word.specs.Bits.{wrap, alignDown}
+use Rattle.word.specs.Bits.{wrap, align_down}
 use Rattle.word.specs.BitLaws.{both}
-use Rattle.word.specs.Ram.{word_at, width_of, bytesIn, within}
-use Rattle.sysreg.specs.Encoding.{registerAt}
-use Rattle.sysreg.specs.Write.{names, ended, wrote, writeFound, writeReg, WriteAnswer}
+use Rattle.word.specs.Ram.{word_at, width_of, bytes_in, within}
+use Rattle.sysreg.specs.Encoding.{register_at}
+use Rattle.sysreg.specs.Write.{names, ended, wrote, write_found, write_reg, WriteAnswer}
 use Rattle.sysreg.specs.declared.{regs.Control.Control, regs.SysRegs.SysRegs}
 use Rattle.sysreg.specs.declared.regs.Register.{Register}
 use Rattle.sysreg.specs.declared.regs.Register.TheVariants.{InControl, InSys}
@@ -17,11 +17,11 @@ use Rattle.tlb.specs.declared.access.Answer.TheVariants.{Address, Status}
 use Rattle.tlb.specs.declared.access.Kind.TheVariants as Kind
 use Rattle.sysop.specs.declared.op.SysOp.{SysOp}
 use Rattle.mmu.specs.Core.{reg_of}
-use Rattle.operations.specs.Place.{verdictOf as judged}
+use Rattle.operations.specs.Place.{verdict_of as judged}
 use Rattle.operations.specs.Bytes.{value_at}
-use Rattle.mmu.specs.Says.{Said, value, done, fault, faults, undefined, unimplemented, stopSays, loadSays, storeSays, fetchSays, memorySays, accessSays}
-use Rattle.mmu.specs.Says.{insnSays, load-says, store-says, fetch-says}
-use Rattle.mmu.specs.Ops.{translateOf, read_of, writeOf, ramAfterWrite, fetchOf, fetchPaOf, dataPaOf, locatedNow, fetchSteppedNow}
+use Rattle.mmu.specs.Says.{Said, value, done, fault, faults, undefined, unimplemented, stop_says, load_says, store_says, fetch_says, memory_says, access_says}
+use Rattle.mmu.specs.Says.{insn_says, load-says, store-says, fetch-says}
+use Rattle.mmu.specs.Ops.{translate_of, read_of, write_of, ram_after_write, fetch_of, fetch_pa_of, data_pa_of, located_now, fetch_stepped_now}
 use Rattle.mmu.specs.OpLaws.{ram-length, store}
 use Rattle.mmu.specs.declared.core_state.Core.{Core}
 use Rattle.operations.specs.declared.{place.Placed.Placed, place.Verdict.Verdict, ends.LoadAnswer.LoadAnswer}
@@ -32,11 +32,11 @@ use Rattle.operations.specs.declared.ends.LoadAnswer.TheVariants as Load
 use Rattle.operations.specs.declared.ends.StoreAnswer.TheVariants as Store
 use Rattle.operations.specs.declared.ends.FetchAnswer.TheVariants as Fetched
 use Rattle.operations.specs.declared.ends.Reached.TheVariants as Reach
-use Rattle.exec.specs.Ops.{registered, written, writeRegister}
-use Rattle.exec.specs.Sys.{onStored, zero_of, zeroRam, sysBy, sysRamBy, op_of, sysOf, sysRam}
-use Rattle.operations.specs.Check.{Row, checksOf, first_of, missedOf, isWidth, known, kept}
+use Rattle.exec.specs.Ops.{registered, written, after_register_write}
+use Rattle.exec.specs.Sys.{on_stored, zero_of, zero_ram, sys_by, sys_ram_by, op_of, sys_of, sys_ram}
+use Rattle.operations.specs.Check.{Row, checks_of, first_of, missed_of, is_width, known, kept}
 use Rattle.operations.specs.Replies.{translation, loading, storing, fetching, reaching, registering}
-use Rattle.cpu.specs.Step.{ends, loadBy, storeBy, storeRamBy, refusedOr, missedBy, run_of, ramOf, step_of, ramAfter}
+use Rattle.cpu.specs.Step.{ends, load_by, store_by, store_ram_by, refused_or, missed_by, run_of, ram_of, step_of, ram_after}
 use Rattle.operations.specs.declared.call.Call.TheVariants.{Translate, DataPa, FetchPa, Load as LoadCall, Store as StoreCall, Fetch, System}
 use Rattle.operations.specs.declared.call.Call.TheVariants.{Register as RegisterCall, Level, Mark, General, Abort, Census}
 use Rattle.operations.specs.declared.call.Reply.TheVariants.{Refused, Done, Value, Faults, Fault, Stopped}
@@ -48,13 +48,13 @@ pub data Outcome : Type 0 where
   number : ℕ → Outcome
   says : Said → Outcome
 
-abbrev pub outcomeOf : Reply → Outcome
-outcomeOf (Refused n) = number n
-outcomeOf Done = says done
-outcomeOf (Value v) = says (value v)
-outcomeOf Faults = says faults
-outcomeOf (Fault va f) = says (fault va f.fsc)
-outcomeOf (Stopped s) = says (stopSays s)
+abbrev pub outcome_of : Reply → Outcome
+outcome_of (Refused n) = number n
+outcome_of Done = says done
+outcome_of (Value v) = says (value v)
+outcome_of Faults = says faults
+outcome_of (Fault va f) = says (fault va f.fsc)
+outcome_of (Stopped s) = says (stop_says s)
 
 -- A REFUSED CALL
 
@@ -63,7 +63,7 @@ abbrev numbered : List Row → Bool
 numbered [] = true
 numbered (row ∷ rows) = (nat_le 1 row.1 && nat_le row.1 7) && numbered rows
 
-checks-numbered : (level base len : ℕ) (call : Call) → numbered (checksOf level base len call) ≡ true
+checks-numbered : (level base len : ℕ) (call : Call) → numbered (checks_of level base len call) ≡ true
 checks-numbered level base len (Translate kind va) = refl
 checks-numbered level base len (DataPa va) = refl
 checks-numbered level base len (FetchPa va) = refl
@@ -89,17 +89,17 @@ first-le (row ∷ rows) h =
     go false here later = later
 
 -- and a call with one is the identity on core and RAM
-pub number-le : (c : Core) (base : ℕ) (ram : List ℕ) (call : Call) → missedBy c base ram call ≤ 7
-unfolding missedOf
-number-le c base ram call = first-le (checksOf c.privilege.level base (length ram) call) (checks-numbered c.privilege.level base (length ram) call)
+pub number-le : (c : Core) (base : ℕ) (ram : List ℕ) (call : Call) → missed_by c base ram call ≤ 7
+unfolding missed_of
+number-le c base ram call = first-le (checks_of c.privilege.level base (length ram) call) (checks-numbered c.privilege.level base (length ram) call)
 
-module _ (c : Core) (base : ℕ) (ram : List ℕ) (call : Call) (n : ℕ) (e : missedBy c base ram call ≡ suc n) where
+module _ (c : Core) (base : ℕ) (ram : List ℕ) (call : Call) (n : ℕ) (e : missed_by c base ram call ≡ suc n) where
   pub refused : step_of c base ram call ≡ ends c (Refused (suc n))
   unfolding step_of
   refused = rw e
 
-  pub refused-ram : ramAfter c base ram call ≡ ram
-  unfolding ramAfter
+  pub refused-ram : ram_after c base ram call ≡ ram
+  unfolding ram_after
   refused-ram = rw e
 
 -- EVERY OTHER CALL
@@ -119,9 +119,9 @@ none_first (row ∷ rows) h e =
     go true above z later = absurd (omega arith)
     go false above z later = (refl, later z)
 
-pub all-passed : (level base len : ℕ) (call : Call) → missedOf level base len call ≡ 0 → Passed (checksOf level base len call)
-unfolding missedOf
-all-passed level base len call = none_first (checksOf level base len call) (checks-numbered level base len call)
+pub all-passed : (level base len : ℕ) (call : Call) → missed_of level base len call ≡ 0 → Passed (checks_of level base len call)
+unfolding missed_of
+all-passed level base len call = none_first (checks_of level base len call) (checks-numbered level base len call)
 
 -- RAM after a store or a zeroing: as many bytes, whether it is done or stops at a fault
 pub data Wrote (ram : List ℕ) : List ℕ → Said → Type 0 where
@@ -142,18 +142,18 @@ only-done c d ram = wrote-ram d ram done (did ram refl)
 
 -- stores, and the stores of a zeroing
 store_wrote : (c : Core) (base : ℕ) (ram : List ℕ) (va n v : ℕ)
-    → Wrote ram (ramAfterWrite c base ram va n v) (storeSays (writeOf c base ram va n).answer)
+    → Wrote ram (ram_after_write c base ram va n v) (store_says (write_of c base ram va n).answer)
 store_wrote c base ram va n v =
-    subst⁻¹ (Wrote ram (ramAfterWrite c base ram va n v)) (store-says c base ram va n) (go (locatedNow c (word_at base ram 8) va n Kind.Write).placed)
+    subst⁻¹ (Wrote ram (ram_after_write c base ram va n v)) (store-says c base ram va n) (go (located_now c (word_at base ram 8) va n Kind.Write).placed)
   where
-    same : length (ramAfterWrite c base ram va n v) ≡ length ram
+    same : length (ram_after_write c base ram va n v) ≡ length ram
     same = ram-length c base ram (store va n v)
 
-    memory : (d : Verdict) → Wrote ram (ramAfterWrite c base ram va n v) (memorySays d va done)
+    memory : (d : Verdict) → Wrote ram (ram_after_write c base ram va n v) (memory_says d va done)
     memory Inside = did _ same
     memory (Outside i pa) = faulted _ _ _ same
 
-    go : (x : Placed) → Wrote ram (ramAfterWrite c base ram va n v) (accessSays x (λ p. judged base (length ram) p n) va (λ p. done))
+    go : (x : Placed) → Wrote ram (ram_after_write c base ram va n v) (access_says x (λ p. judged base (length ram) p n) va (λ p. done))
     go (Placed.Fault a f) = faulted _ a f.fsc same
     go (Placed.At p) = memory (judged base (length ram) p n)
 
@@ -161,29 +161,29 @@ wrote-later : (ram mid after : List ℕ) (s : Said) → length mid ≡ length ra
 wrote-later ram mid _ _ e (did after h) = did after (h ∙ e)
 wrote-later ram mid _ _ e (faulted after a f h) = faulted after a f (h ∙ e)
 
-zero-wrote : (n : ℕ) (c : Core) (base : ℕ) (ram : List ℕ) (va : ℕ) → Wrote ram (zeroRam n c base ram va) (storeSays (zero_of n c base ram va).answer)
-unfolding zero_of zeroRam
+zero-wrote : (n : ℕ) (c : Core) (base : ℕ) (ram : List ℕ) (va : ℕ) → Wrote ram (zero_ram n c base ram va) (store_says (zero_of n c base ram va).answer)
+unfolding zero_of zero_ram
 zero-wrote zero c base ram va = did ram refl
 zero-wrote (suc n) c base ram va =
-    go (writeOf c base ram va 8).answer (zeroRam n (writeOf c base ram va 8).core base (ramAfterWrite c base ram va 8 0) (wrap (va + 8)))
-    (zero_of n (writeOf c base ram va 8).core base (ramAfterWrite c base ram va 8 0) (wrap (va + 8)))
-    (zero-wrote n (writeOf c base ram va 8).core base (ramAfterWrite c base ram va 8 0) (wrap (va + 8)))
+    go (write_of c base ram va 8).answer (zero_ram n (write_of c base ram va 8).core base (ram_after_write c base ram va 8 0) (wrap (va + 8)))
+    (zero_of n (write_of c base ram va 8).core base (ram_after_write c base ram va 8 0) (wrap (va + 8)))
+    (zero-wrote n (write_of c base ram va 8).core base (ram_after_write c base ram va 8 0) (wrap (va + 8)))
   where
-    go : (a : StoreAnswer) (later : List ℕ) (t : Stored) → Wrote (ramAfterWrite c base ram va 8 0) later (storeSays t.answer)
-        → Wrote ram (onStored a later (ramAfterWrite c base ram va 8 0)) (storeSays (onStored a t (writeOf c base ram va 8)).answer)
-    go Store.Done later t h = wrote-later ram (ramAfterWrite c base ram va 8 0) _ _ (ram-length c base ram (store va 8 0)) h
+    go : (a : StoreAnswer) (later : List ℕ) (t : Stored) → Wrote (ram_after_write c base ram va 8 0) later (store_says t.answer)
+        → Wrote ram (on_stored a later (ram_after_write c base ram va 8 0)) (store_says (on_stored a t (write_of c base ram va 8)).answer)
+    go Store.Done later t h = wrote-later ram (ram_after_write c base ram va 8 0) _ _ (ram-length c base ram (store va 8 0)) h
     go (Store.Stopped s) later t h = store_wrote c base ram va 8 0
 
 -- each answer as what it says
-loading-says : (a : LoadAnswer) → outcomeOf (loading a) ≡ says (loadSays a)
+loading-says : (a : LoadAnswer) → outcome_of (loading a) ≡ says (load_says a)
 loading-says (Load.Value v) = refl
 loading-says (Load.Stopped s) = refl
 
-storing-says : (a : StoreAnswer) → outcomeOf (storing a) ≡ says (storeSays a)
+storing-says : (a : StoreAnswer) → outcome_of (storing a) ≡ says (store_says a)
 storing-says Store.Done = refl
 storing-says (Store.Stopped s) = refl
 
-fetching-says : (a : FetchAnswer) → outcomeOf (fetching a) ≡ says (fetchSays a)
+fetching-says : (a : FetchAnswer) → outcome_of (fetching a) ≡ says (fetch_says a)
 fetching-says (Fetched.Value v) = refl
 fetching-says (Fetched.Aborted e) = refl
 
@@ -193,7 +193,7 @@ code (Ok x) = 0
 code (Err Undefined) = 0
 code (Err NoRegister) = 1
 
-named-write : (k : Control) (s : SysRegs) (level v : ℕ) (f : Option Register) → names f ≡ true → code (writeFound k s level f v).answer ≡ 0
+named-write : (k : Control) (s : SysRegs) (level v : ℕ) (f : Option Register) → names f ≡ true → code (write_found k s level f v).answer ≡ 0
 unfolding code
 named-write k s level v None h = let z : ◌≡◌ {A = ℕ} 0 1 = ap (λ (x : Bool). (if x then 1 else 0)) h in omega arith
 named-write k s level v (Some r) h = go (level == 0) r
@@ -204,84 +204,84 @@ named-write k s level v (Some r) h = go (level == 0) r
     go false (InSys q) = refl
 
 module _ (c : Core) (base : ℕ) (ram : List ℕ) where
-  translated : (d : Core) (va : ℕ) (a : Answer) → Ran c ram d ram (outcomeOf (translation va a))
+  translated : (d : Core) (va : ℕ) (a : Answer) → Ran c ram d ram (outcome_of (translation va a))
   translated d va (Address pa) = valued d pa
   translated d va (Status f) = stopped d va f.fsc
 
-  addressed : (d : Core) (a : Reached) → Ran c ram d ram (outcomeOf (reaching a))
+  addressed : (d : Core) (a : Reached) → Ran c ram d ram (outcome_of (reaching a))
   addressed d (Reach.At pa) = valued d pa
   addressed d Reach.Faults = unreached d
 
-  loaded : (va n : ℕ) → Ran c ram (read_of c base ram va n).core ram (outcomeOf (loading (read_of c base ram va n).answer))
+  loaded : (va n : ℕ) → Ran c ram (read_of c base ram va n).core ram (outcome_of (loading (read_of c base ram va n).answer))
   loaded va n =
       subst⁻¹ (Ran c ram (read_of c base ram va n).core ram) (loading-says (read_of c base ram va n).answer ∙ ap says (load-says c base ram va n))
-      (go (locatedNow c (word_at base ram 8) va n Kind.Read).placed)
+      (go (located_now c (word_at base ram 8) va n Kind.Read).placed)
     where
-      memory : (d : Verdict) (v : ℕ) → Ran c ram (read_of c base ram va n).core ram (says (memorySays d va (value v)))
+      memory : (d : Verdict) (v : ℕ) → Ran c ram (read_of c base ram va n).core ram (says (memory_says d va (value v)))
       memory Inside v = valued _ v
       memory (Outside i pa) v = stopped _ _ _
 
       go : (x : Placed)
-          → Ran c ram (read_of c base ram va n).core ram (says (accessSays x (λ p. judged base (length ram) p n) va (λ p. value (value_at base ram p n))))
+          → Ran c ram (read_of c base ram va n).core ram (says (access_says x (λ p. judged base (length ram) p n) va (λ p. value (value_at base ram p n))))
       go (Placed.Fault a f) = stopped _ a f.fsc
       go (Placed.At p) = memory (judged base (length ram) p n) _
 
-  stored : (d : Core) (a : StoreAnswer) (after : List ℕ) → Wrote ram after (storeSays a) → Ran c ram d after (outcomeOf (storing a))
-  stored d a after w = subst⁻¹ (Ran c ram d after) (storing-says a) (wrote-ram d after (storeSays a) w)
+  stored : (d : Core) (a : StoreAnswer) (after : List ℕ) → Wrote ram after (store_says a) → Ran c ram d after (outcome_of (storing a))
+  stored d a after w = subst⁻¹ (Ran c ram d after) (storing-says a) (wrote-ram d after (store_says a) w)
 
-  fetched : (va : ℕ) → Ran c ram (fetchOf c base ram va).core ram (outcomeOf (fetching (fetchOf c base ram va).answer))
+  fetched : (va : ℕ) → Ran c ram (fetch_of c base ram va).core ram (outcome_of (fetching (fetch_of c base ram va).answer))
   fetched va =
-      subst⁻¹ (Ran c ram (fetchOf c base ram va).core ram) (fetching-says (fetchOf c base ram va).answer ∙ ap says (fetch-says c base ram va))
-      (go (fetchSteppedNow c (word_at base ram 8) va).answer)
+      subst⁻¹ (Ran c ram (fetch_of c base ram va).core ram) (fetching-says (fetch_of c base ram va).answer ∙ ap says (fetch-says c base ram va))
+      (go (fetch_stepped_now c (word_at base ram 8) va).answer)
     where
-      memory : (b : Bool) (v : ℕ) → Ran c ram (fetchOf c base ram va).core ram (says (if b then value v else fault va 0x10))
+      memory : (b : Bool) (v : ℕ) → Ran c ram (fetch_of c base ram va).core ram (says (if b then value v else fault va 0x10))
       memory true v = valued _ v
       memory false v = stopped _ va 0x10
 
-      go : (a : Answer) → Ran c ram (fetchOf c base ram va).core ram (says (insnSays base ram va a))
+      go : (a : Answer) → Ran c ram (fetch_of c base ram va).core ram (says (insn_says base ram va a))
       go (Status f) = stopped _ va f.fsc
       go (Address pa) = memory (within base (length ram) 4 pa) _
 
   -- a system operation, by what its encoding names
   system : (o : SysOp) (op1 crm op2 x : ℕ)
-      → Ran c ram (sysBy o c base ram op1 crm op2 x).core (sysRamBy o c base ram x) (outcomeOf (storing (sysBy o c base ram op1 crm op2 x).answer))
+      → Ran c ram (sys_by o c base ram op1 crm op2 x).core (sys_ram_by o c base ram x) (outcome_of (storing (sys_by o c base ram op1 crm op2 x).answer))
   system (SysOp.At form) op1 crm op2 x = only-done c _ ram
   system SysOp.Tlbi op1 crm op2 x = only-done c _ ram
   system SysOp.Zva op1 crm op2 x =
-      stored (zero_of 8 c base ram (alignDown x 6)).core (zero_of 8 c base ram (alignDown x 6)).answer _ (zero-wrote 8 c base ram (alignDown x 6))
+      stored (zero_of 8 c base ram (align_down x 6)).core (zero_of 8 c base ram (align_down x 6)).answer _ (zero-wrote 8 c base ram (align_down x 6))
   system SysOp.Nothing op1 crm op2 x = only-done c c ram
   system SysOp.Undefined op1 crm op2 x = is-undefined
   system SysOp.Unimplemented op1 crm op2 x = is-unimplemented
 
   registers : (key v : ℕ) → kept key ≡ true
-      → Ran c ram (writeRegister c key v).core ram (outcomeOf (registering (writeRegister c key v).answer))
-  unfolding writeRegister writeReg code
+      → Ran c ram (after_register_write c key v).core ram (outcome_of (registering (after_register_write c key v).answer))
+  unfolding after_register_write write_reg code
   registers key v named = go (written c key v).answer refl
     where
       go : (a : WriteAnswer) → (written c key v).answer ≡ a
-          → Ran c ram (registered c (written c key v) a).core ram (outcomeOf (registering (registered c (written c key v) a).answer))
+          → Ran c ram (registered c (written c key v) a).core ram (outcome_of (registering (registered c (written c key v) a).answer))
       go (Ok x) e = only-done c _ ram
       go (Err Undefined) e = is-undefined
       go (Err NoRegister) e =
-          absurd (let z : ◌≡◌ {A = ℕ} 1 0 = ap code (sym e) ∙ named-write c.control c.sys c.privilege.level v (registerAt key) named in omega arith)
+          absurd (let z : ◌≡◌ {A = ℕ} 1 0 = ap code (sym e) ∙ named-write c.control c.sys c.privilege.level v (register_at key) named in omega arith)
 
-  loads : (s : Option Width) (va : ℕ) → isWidth s ≡ true → Ran c ram (loadBy s c base ram va).core ram (outcomeOf (loadBy s c base ram va).reply)
-  loads (Some w) va h = loaded va (bytesIn w)
+  loads : (s : Option Width) (va : ℕ) → is_width s ≡ true → Ran c ram (load_by s c base ram va).core ram (outcome_of (load_by s c base ram va).reply)
+  loads (Some w) va h = loaded va (bytes_in w)
   loads None va h = absurd (let z : ◌≡◌ {A = ℕ} 0 1 = ap (λ (x : Bool). (if x then 1 else 0)) h in omega arith)
 
-  stores : (s : Option Width) (va v : ℕ) → isWidth s ≡ true
-      → Ran c ram (storeBy s c base ram va).core (storeRamBy s c base ram va v) (outcomeOf (storeBy s c base ram va).reply)
-  stores (Some w) va v h = stored (writeOf c base ram va (bytesIn w)).core (writeOf c base ram va (bytesIn w)).answer _
-      (store_wrote c base ram va (bytesIn w) v)
+  stores : (s : Option Width) (va v : ℕ) → is_width s ≡ true
+      → Ran c ram (store_by s c base ram va).core (store_ram_by s c base ram va v) (outcome_of (store_by s c base ram va).reply)
+  stores (Some w) va v h = stored (write_of c base ram va (bytes_in w)).core (write_of c base ram va (bytes_in w)).answer _
+      (store_wrote c base ram va (bytes_in w) v)
   stores None va v h = absurd (let z : ◌≡◌ {A = ℕ} 0 1 = ap (λ (x : Bool). (if x then 1 else 0)) h in omega arith)
 
   -- a call that misses no check ends in a value, a fault, Undefined or Unimplemented, or is done
-  pub ran : (call : Call) → missedBy c base ram call ≡ 0
-      → Ran c ram (run_of c base ram call).core (ramOf c base ram call) (outcomeOf (run_of c base ram call).reply)
-  unfolding run_of ramOf sysOf sysRam
-  ran (Translate kind va) e = translated (translateOf c (word_at base ram 8) va kind).core va (translateOf c (word_at base ram 8) va kind).answer
-  ran (DataPa va) e = addressed (dataPaOf c (word_at base ram 8) va).core (dataPaOf c (word_at base ram 8) va).answer
-  ran (FetchPa va) e = addressed (fetchPaOf c (word_at base ram 8) va).core (fetchPaOf c (word_at base ram 8) va).answer
+  pub ran : (call : Call) → missed_by c base ram call ≡ 0
+      → Ran c ram (run_of c base ram call).core (ram_of c base ram call) (outcome_of (run_of c base ram call).reply)
+  unfolding run_of ram_of sys_of sys_ram
+  ran (Translate kind va) e = translated (translate_of c (word_at base ram 8) va kind).core va (translate_of c (word_at base ram 8) va kind).answer
+  ran (DataPa va) e = addressed (data_pa_of c (word_at base ram 8) va).core (data_pa_of c (word_at base ram 8) va).answer
+  ran (FetchPa va) e = addressed (fetch_pa_of c (word_at base ram 8) va).core (fetch_pa_of c (word_at base ram 8) va).answer
   ran (LoadCall va size) e = loads (width_of size) va (not-false (known size) (all-passed c.privilege.level base (length ram) (LoadCall va size) e).1.1.0)
   ran (StoreCall va size v) e = stores (width_of size) va v (not-false (known size)
       (all-passed c.privilege.level base (length ram) (StoreCall va size v) e).1.1.0)
@@ -302,14 +302,14 @@ pub data Ended (c : Core) (ram : List ℕ) : ℕ → Core → List ℕ → Outco
   has-run : (d : Core) (after : List ℕ) (o : Outcome) → Ran c ram d after o → Ended c ram 0 d after o
 
 pub each_call_ends : (c : Core) (base : ℕ) (ram : List ℕ) (call : Call)
-    → Ended c ram (missedBy c base ram call) (step_of c base ram call).core (ramAfter c base ram call) (outcomeOf (step_of c base ram call).reply)
-unfolding step_of ramAfter
-each_call_ends c base ram call = go (missedBy c base ram call) (number-le c base ram call) (λ e. ran c base ram call e)
+    → Ended c ram (missed_by c base ram call) (step_of c base ram call).core (ram_after c base ram call) (outcome_of (step_of c base ram call).reply)
+unfolding step_of ram_after
+each_call_ends c base ram call = go (missed_by c base ram call) (number-le c base ram call) (λ e. ran c base ram call e)
   where
     go : (n : ℕ) → n ≤ 7
-        → (n ≡ 0 → Ran c ram (run_of c base ram call).core (ramOf c base ram call) (outcomeOf (run_of c base ram call).reply))
-        → Ended c ram n (refusedOr n (λ k. ends c (Refused k)) (run_of c base ram call)).core (refusedOr n (λ k. ram) (ramOf c base ram call))
-        (outcomeOf (refusedOr n (λ k. ends c (Refused k)) (run_of c base ram call)).reply)
+        → (n ≡ 0 → Ran c ram (run_of c base ram call).core (ram_of c base ram call) (outcome_of (run_of c base ram call).reply))
+        → Ended c ram n (refused_or n (λ k. ends c (Refused k)) (run_of c base ram call)).core (refused_or n (λ k. ram) (ram_of c base ram call))
+        (outcome_of (refused_or n (λ k. ends c (Refused k)) (run_of c base ram call)).reply)
     go zero h r = has-run _ _ _ (r refl)
     go (suc n) h r = is-refused n h
 
@@ -338,7 +338,7 @@ writes c (Abort x) = false
 writes c (Census first pages) = false
 
 module _ (c : Core) (base : ℕ) (ram : List ℕ) where
-  system-quiet : (o : SysOp) (x : ℕ) → zeroes o ≡ false → sysRamBy o c base ram x ≡ ram
+  system-quiet : (o : SysOp) (x : ℕ) → zeroes o ≡ false → sys_ram_by o c base ram x ≡ ram
   system-quiet SysOp.Zva x h = absurd (let z : ◌≡◌ {A = ℕ} 1 0 = ap (λ (b : Bool). (if b then 1 else 0)) h in omega arith)
   system-quiet (SysOp.At form) x h = refl
   system-quiet SysOp.Tlbi x h = refl
@@ -346,8 +346,8 @@ module _ (c : Core) (base : ℕ) (ram : List ℕ) where
   system-quiet SysOp.Undefined x h = refl
   system-quiet SysOp.Unimplemented x h = refl
 
-  run-quiet : (call : Call) → writes c call ≡ false → ramOf c base ram call ≡ ram
-  unfolding ramOf sysRam
+  run-quiet : (call : Call) → writes c call ≡ false → ram_of c base ram call ≡ ram
+  unfolding ram_of sys_ram
   run-quiet (StoreCall va size v) h = absurd (let z : ◌≡◌ {A = ℕ} 1 0 = ap (λ (b : Bool). (if b then 1 else 0)) h in omega arith)
   run-quiet (System f) h = system-quiet (op_of c f.op1 f.crn f.crm f.op2) (reg_of c f.rt) h
   run-quiet (Translate kind va) h = refl
@@ -362,10 +362,10 @@ module _ (c : Core) (base : ℕ) (ram : List ℕ) where
   run-quiet (Abort x) h = refl
   run-quiet (Census first pages) h = refl
 
-  pub quiet : (call : Call) → writes c call ≡ false → ramAfter c base ram call ≡ ram
-  unfolding ramAfter
-  quiet call h = go (missedBy c base ram call)
+  pub quiet : (call : Call) → writes c call ≡ false → ram_after c base ram call ≡ ram
+  unfolding ram_after
+  quiet call h = go (missed_by c base ram call)
     where
-      go : (n : ℕ) → refusedOr n (λ k. ram) (ramOf c base ram call) ≡ ram
+      go : (n : ℕ) → refused_or n (λ k. ram) (ram_of c base ram call) ≡ ram
       go zero = run-quiet call h
       go (suc n) = refl

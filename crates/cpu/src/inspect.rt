@@ -1,6 +1,6 @@
 // Operations that look at registers and RAM and change neither: what they find, beside the call's reply.
 ghost use Rattle.std.specs.Prelude.{◌≡◌};
-ghost use Rattle.cpu.specs.Inspect.{censusBy};
+ghost use Rattle.cpu.specs.Inspect.{census_by};
 
 use census::count;
 use mmu::core_state::Core;
@@ -16,9 +16,9 @@ pub struct Censused {
 }
 
 // The census of so many pages from the page of first, at the core's level.
-#[tactic(auto, unfolding(crate::specs::Inspect::censusBy, crate::specs::Inspect::countsAfter, crate::specs::Step::step_of, crate::specs::Step::run_of))]
+#[tactic(auto, unfolding(crate::specs::Inspect::census_by, crate::specs::Inspect::counts_after, crate::specs::Step::step_of, crate::specs::Step::run_of))]
 pub fn census(core: Core, base: u64, ram: &[u8], first: u64, pages: u64) -> Censused
-    ensures { result ≡ censusBy core base ram.now first pages }
+    ensures { result ≡ census_by core base ram.now first pages }
 {
     let level = core.privilege.level;
     let control = core.control;

@@ -1,6 +1,6 @@
 // One call on the core.
 ghost use Rattle.std.specs.Prelude.{◌≡◌};
-ghost use Rattle.cpu.specs.Step.{run_of, ramOf, step_of, ramAfter};
+ghost use Rattle.cpu.specs.Step.{run_of, ram_of, step_of, ram_after};
 
 use mmu::core_state::Core;
 use operations::call::{Call, Reply};
@@ -8,10 +8,10 @@ use operations::{check, reply};
 use word::ram::Width;
 
 // The operation that a call is.
-#[tactic(auto, unfolding(crate::specs::Step::run_of, crate::specs::Step::ramOf))]
+#[tactic(auto, unfolding(crate::specs::Step::run_of, crate::specs::Step::ram_of))]
 fn run(core: &mut Core, base: u64, ram: &mut [u8], call: Call) -> Reply
     ensures core { record { core = core.new; reply = result } ≡ run_of core.old base ram.old call }
-    ensures ram { ram.new ≡ ramOf core.old base ram.old call }
+    ensures ram { ram.new ≡ ram_of core.old base ram.old call }
 {
     match call {
         Call::Translate(kind, va) => reply::translated(va, core.translate(base, ram, va, kind)),
@@ -53,10 +53,10 @@ fn run(core: &mut Core, base: u64, ram: &mut [u8], call: Call) -> Reply
 }
 
 // The number of the first check that the call misses, and then nothing changes; else the operation.
-#[tactic(auto, unfolding(crate::specs::Step::step_of, crate::specs::Step::ramAfter))]
+#[tactic(auto, unfolding(crate::specs::Step::step_of, crate::specs::Step::ram_after))]
 pub fn step(core: &mut Core, base: u64, ram: &mut [u8], call: Call) -> Reply
     ensures core { record { core = core.new; reply = result } ≡ step_of core.old base ram.old call }
-    ensures ram { ram.new ≡ ramAfter core.old base ram.old call }
+    ensures ram { ram.new ≡ ram_after core.old base ram.old call }
 {
     let n = check::missed(core.privilege.level, base, ram.len() as u64, call);
     if n == 0 {

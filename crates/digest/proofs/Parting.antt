@@ -1,11 +1,11 @@
 -- The words of the hints.
 use Rattle.std.proofs.Common.{◌≡◌, ℕ, sym, ap, ◌∙◌}
 use Rattle.tlb.specs.declared.cache.Cache.{Cache}
-use Rattle.digest.specs.Fold.{digestFrom, digestOf, gathered}
-use Rattle.digest.specs.Parts.{hintWords, fetchWords, hintsWords}
+use Rattle.digest.specs.Fold.{digest_from, digest_of, gathered}
+use Rattle.digest.specs.Parts.{hint_words, fetch_words, hints_words}
 use Rattle.digest.proofs.Folding.{digest-append}
 
 -- the data hints, then the fetch hint
-pub hints-end : (c : Cache) (d k : ℕ) → d ≡ digestOf (gathered (hintWords c) 512 0) → k ≡ digestFrom d (fetchWords c.fetch) → k ≡ digestOf (hintsWords c)
+pub hints-end : (c : Cache) (d k : ℕ) → d ≡ digest_of (gathered (hint_words c) 512 0) → k ≡ digest_from d (fetch_words c.fetch) → k ≡ digest_of (hints_words c)
 hints-end c d k p q =
-    q ∙ (ap (λ (v : ℕ). digestFrom v (fetchWords c.fetch)) p ∙ sym (digest-append 0x9E3779B97F4A7C15 (gathered (hintWords c) 512 0) (fetchWords c.fetch)))
+    q ∙ (ap (λ (v : ℕ). digest_from v (fetch_words c.fetch)) p ∙ sym (digest-append 0x9E3779B97F4A7C15 (gathered (hint_words c) 512 0) (fetch_words c.fetch)))

@@ -11,12 +11,12 @@ unfoldable pub joined : ℕ → ℕ → ℕ
 joined h w = mixed (wrap (3 * h + w))
 
 -- a digest with more words, one after another
-unfoldable pub digestFrom : ℕ → List ℕ → ℕ
-digestFrom h [] = h
-digestFrom h (w ∷ ws) = digestFrom (joined h w) ws
+unfoldable pub digest_from : ℕ → List ℕ → ℕ
+digest_from h [] = h
+digest_from h (w ∷ ws) = digest_from (joined h w) ws
 
-abbrev pub digestOf : List ℕ → ℕ
-digestOf ws = digestFrom 0x9E3779B97F4A7C15 ws
+abbrev pub digest_of : List ℕ → ℕ
+digest_of ws = digest_from 0x9E3779B97F4A7C15 ws
 
 -- the words of n things from thing i on, one thing after another
 unfoldable pub gathered : (ℕ → List ℕ) → ℕ → ℕ → List ℕ

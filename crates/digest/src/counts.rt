@@ -1,14 +1,14 @@
 // The digest of a census: its 129 counts, one after another.
 ghost use Rattle.std.specs.Prelude.{◌≡◌};
-ghost use Rattle.digest.specs.Fold.{digestOf, gathered};
-ghost use Rattle.digest.specs.Parts.{wordAlone};
+ghost use Rattle.digest.specs.Fold.{digest_of, gathered};
+ghost use Rattle.digest.specs.Parts.{word_alone};
 
 use crate::fold;
 use crate::parts::Sum;
 use word::bits;
 
 fn digest(counts: &[u64; 129]) -> u64
-    ensures { result ≡ digestOf (gathered (wordAlone counts.now) 129 0) }
+    ensures { result ≡ digest_of (gathered (word_alone counts.now) 129 0) }
 {
     let mut h = fold::START;
     let mut i: usize = 0;
@@ -34,7 +34,7 @@ fn found(counts: &[u64; 129]) -> u64 {
 
 // How many of the counts are not 0, and the digest of all.
 pub fn counts(counts: &[u64; 129]) -> Sum
-    ensures { result.digest ≡ digestOf (gathered (wordAlone counts.now) 129 0) }
+    ensures { result.digest ≡ digest_of (gathered (word_alone counts.now) 129 0) }
 {
     let count = found(counts);
     let d = digest(counts);

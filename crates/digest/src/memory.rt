@@ -1,9 +1,9 @@
 // The digest of a window: its base, its length, and its bytes as little-endian words, the last filled up with zero
 // bytes.
 ghost use Rattle.std.specs.Prelude.{◌≡◌, ◌+◌, ◌*◌, ◌/◌, ◌≤◌, length, slice_index};
-ghost use Rattle.word.specs.Ram.{littleEndian};
-ghost use Rattle.digest.specs.Fold.{digestFrom, digestOf, gathered};
-ghost use Rattle.digest.specs.Window.{wholeWord, windowWords};
+ghost use Rattle.word.specs.Ram.{little_endian};
+ghost use Rattle.digest.specs.Fold.{digest_from, digest_of, gathered};
+ghost use Rattle.digest.specs.Window.{whole_word, window_words};
 
 use crate::fold;
 use word::ram::Width;
@@ -25,7 +25,7 @@ fn byte_at(ram: &[u8], at: usize) -> u64
 #[tactic(auto, using(crate::proofs::Wording::join2))]
 fn two_at(ram: &[u8], at: usize) -> u64
     requires { at ≤ length ram.now + 6 }
-    ensures value { result ≡ littleEndian ram.now 2 at }
+    ensures value { result ≡ little_endian ram.now 2 at }
     ensures upper_bound { result ≤ 0xFFFF }
 {
     byte_at(ram, at) + byte_at(ram, at + 1) * 0x100
@@ -34,7 +34,7 @@ fn two_at(ram: &[u8], at: usize) -> u64
 #[tactic(auto, using(crate::proofs::Wording::join4))]
 fn four_at(ram: &[u8], at: usize) -> u64
     requires { at ≤ length ram.now + 4 }
-    ensures value { result ≡ littleEndian ram.now 4 at }
+    ensures value { result ≡ little_endian ram.now 4 at }
     ensures upper_bound { result ≤ 0xFFFF_FFFF }
 {
     two_at(ram, at) + two_at(ram, at + 2) * 0x1_0000
@@ -44,7 +44,7 @@ fn four_at(ram: &[u8], at: usize) -> u64
 #[tactic(auto, using(crate::proofs::Wording::join8))]
 fn rest(ram: &[u8], at: usize) -> u64
     requires { at ≤ length ram.now }
-    ensures { result ≡ littleEndian ram.now 8 at }
+    ensures { result ≡ little_endian ram.now 8 at }
 {
     four_at(ram, at) + four_at(ram, at + 4) * 0x1_0000_0000
 }
@@ -52,7 +52,7 @@ fn rest(ram: &[u8], at: usize) -> u64
 // The word from at.
 fn word_at(ram: &[u8], at: usize) -> u64
     requires { at ≤ length ram.now }
-    ensures { result ≡ littleEndian ram.now 8 at }
+    ensures { result ≡ little_endian ram.now 8 at }
 {
     match ram::read(0, ram, Width::Double, at as u64) {
         Some(v) => v,
@@ -62,7 +62,7 @@ fn word_at(ram: &[u8], at: usize) -> u64
 
 // The whole words of a window.
 fn whole_words(ram: &[u8], start: u64) -> u64
-    ensures { result ≡ digestFrom start (gathered (wholeWord ram.now) (length ram.now / 8) 0) }
+    ensures { result ≡ digest_from start (gathered (whole_word ram.now) (length ram.now / 8) 0) }
 {
     let n = ram.len() / 8;
     let mut h = start;
@@ -78,7 +78,7 @@ fn whole_words(ram: &[u8], start: u64) -> u64
 // Its bytes as words.
 #[tactic(auto, using(crate::proofs::Wording::all_whole))]
 fn all_words(ram: &[u8], start: u64) -> u64
-    ensures { result ≡ digestFrom start (gathered (wholeWord ram.now) ((length ram.now + 7) / 8) 0) }
+    ensures { result ≡ digest_from start (gathered (whole_word ram.now) ((length ram.now + 7) / 8) 0) }
 {
     let h = whole_words(ram, start);
     let n = ram.len() / 8;
@@ -93,7 +93,7 @@ fn all_words(ram: &[u8], start: u64) -> u64
 // The digest of a window.
 #[tactic(auto, using(crate::proofs::Wording::headed))]
 pub fn window(base: u64, ram: &[u8]) -> u64
-    ensures { result ≡ digestOf (windowWords base ram.now) }
+    ensures { result ≡ digest_of (window_words base ram.now) }
 {
     let with_base = fold::join(fold::START, base);
     let with_length = fold::join(with_base, ram.len() as u64);

@@ -1,9 +1,9 @@
 // The digests of a core's words.
 ghost use Rattle.std.specs.Prelude.{◌≡◌, [], ◌∷◌};
 ghost use Rattle.words.specs.CoreOf.{core_of};
-ghost use Rattle.digest.specs.Fold.{digestFrom, digestOf, gathered};
-ghost use Rattle.digest.specs.Parts.{registerWords, recordWords, entryWords, entriesWords, hintWords};
-ghost use Rattle.digest.specs.Parts.{fetchWords, hintsWords};
+ghost use Rattle.digest.specs.Fold.{digest_from, digest_of, gathered};
+ghost use Rattle.digest.specs.Parts.{register_words, record_words, entry_words, entries_words, hint_words};
+ghost use Rattle.digest.specs.Parts.{fetch_words, hints_words};
 
 use crate::fold;
 use tlb::entry::Entry;
@@ -28,9 +28,9 @@ fn start() -> Sum
     }
 }
 
-#[tactic(auto, unfolding(crate::specs::Fold::digestFrom))]
+#[tactic(auto, unfolding(crate::specs::Fold::digest_from))]
 fn joined_three(h: u64, a: u64, b: u64, c: u64) -> u64
-    ensures { result ≡ digestFrom h (a ∷ b ∷ c ∷ []) }
+    ensures { result ≡ digest_from h (a ∷ b ∷ c ∷ []) }
 {
     let with_a = fold::join(h, a);
     let with_b = fold::join(with_a, b);
@@ -48,7 +48,7 @@ fn counted(s: Sum, digest: u64) -> Sum
 
 // The registers, the flags and the general registers: the words before the level.
 pub fn registers(state: &State) -> u64
-    ensures { result ≡ digestOf (registerWords state.now) }
+    ensures { result ≡ digest_of (register_words state.now) }
 {
     let mut h = fold::START;
     let mut i: usize = 0;
@@ -60,9 +60,9 @@ pub fn registers(state: &State) -> u64
 }
 
 // A digest with the slot of an entry, and the entry.
-#[tactic(auto, unfolding(crate::specs::Fold::digestFrom))]
+#[tactic(auto, unfolding(crate::specs::Fold::digest_from))]
 fn with_entry(digest: u64, slot: u64, e: Entry) -> u64
-    ensures { result ≡ digestFrom digest (recordWords slot e) }
+    ensures { result ≡ digest_from digest (record_words slot e) }
 {
     let h = joined_three(digest, slot, e.tag, e.perms as u64);
     let global = bits::flag_word(e.global);
@@ -71,9 +71,9 @@ fn with_entry(digest: u64, slot: u64, e: Entry) -> u64
 }
 
 // An entry is live where it has a tag and is of the present generation.
-#[tactic(auto, unfolding(crate::specs::Fold::digestFrom, crate::specs::Parts::entryWords))]
+#[tactic(auto, unfolding(crate::specs::Fold::digest_from, crate::specs::Parts::entry_words))]
 fn with_live(s: Sum, state: &State, j: usize) -> Sum
-    ensures { result.digest ≡ digestFrom s.digest (entryWords (core_of state.now).tlb.cache j) }
+    ensures { result.digest ≡ digest_from s.digest (entry_words (core_of state.now).tlb.cache j) }
 {
     let e = cells::entry_at(state, j);
     let now = counts::current_at(state);
@@ -88,7 +88,7 @@ fn with_live(s: Sum, state: &State, j: usize) -> Sum
 
 // The live entries by rising slot.
 pub fn entries(state: &State) -> Sum
-    ensures { result.digest ≡ digestOf (entriesWords (core_of state.now).tlb.cache) }
+    ensures { result.digest ≡ digest_of (entries_words (core_of state.now).tlb.cache) }
 {
     let mut s = start();
     let mut j: usize = 0;
@@ -99,9 +99,9 @@ pub fn entries(state: &State) -> Sum
     s
 }
 
-#[tactic(auto, unfolding(crate::specs::Fold::digestFrom, crate::specs::Parts::hintWords))]
+#[tactic(auto, unfolding(crate::specs::Fold::digest_from, crate::specs::Parts::hint_words))]
 fn with_hint(s: Sum, state: &State, i: usize) -> Sum
-    ensures { result.digest ≡ digestFrom s.digest (hintWords (core_of state.now).tlb.cache i) }
+    ensures { result.digest ≡ digest_from s.digest (hint_words (core_of state.now).tlb.cache i) }
 {
     let h = cells::hint_at(state, i);
     let unset = h.key == 0xFFFF_FFFF_FFFF_FFFF;
@@ -113,9 +113,9 @@ fn with_hint(s: Sum, state: &State, i: usize) -> Sum
     }
 }
 
-#[tactic(auto, unfolding(crate::specs::Fold::digestFrom, crate::specs::Parts::fetchWords))]
+#[tactic(auto, unfolding(crate::specs::Fold::digest_from, crate::specs::Parts::fetch_words))]
 fn with_fetch(s: Sum, state: &State) -> Sum
-    ensures { result.digest ≡ digestFrom s.digest (fetchWords
+    ensures { result.digest ≡ digest_from s.digest (fetch_words
         (core_of state.now).tlb.cache.fetch) }
 {
     let f = cells::fetch_at(state);
@@ -128,7 +128,7 @@ fn with_fetch(s: Sum, state: &State) -> Sum
 }
 
 fn data_hints(state: &State) -> Sum
-    ensures { result.digest ≡ digestOf (gathered (hintWords (core_of state.now).tlb.cache) 512 0) }
+    ensures { result.digest ≡ digest_of (gathered (hint_words (core_of state.now).tlb.cache) 512 0) }
 {
     let mut s = start();
     let mut i: usize = 0;
@@ -141,7 +141,7 @@ fn data_hints(state: &State) -> Sum
 
 // The data hints that are set, by rising slot, then the fetch hint.
 pub fn hints(state: &State) -> Sum
-    ensures { result.digest ≡ digestOf (hintsWords (core_of state.now).tlb.cache) }
+    ensures { result.digest ≡ digest_of (hints_words (core_of state.now).tlb.cache) }
 {
     let s = data_hints(state);
     with_fetch(s, state)

@@ -3,19 +3,19 @@ use Rattle.std.proofs.Common.{◌≡◌, ℕ, zero, suc, ◌+◌, ◌*◌, ◌/�
 use native.Mathlib.Nat.{max-le}
 use lib.Bits.{bit_or, or_comm, or_lt, or_zero_l, or_zero_r, or_block, or_shifted, or_shifted_r, or_shr, or_step}
 use lib.Pow.{split}
-use Rattle.word.specs.Bits.{field, alignDown}
+use Rattle.word.specs.Bits.{field, align_down}
 use Rattle.exception.specs.declared.flags.Flags.{Flags}
-use Rattle.exception.specs.Pstate.{strayBits, spsrOf}
-use Rattle.exception.specs.Syndrome.{dataStatus}
+use Rattle.exception.specs.Pstate.{stray_bits, spsr_of}
+use Rattle.exception.specs.Syndrome.{data_status}
 
 -- a status with WnR, and without
-pub status-joined : (s : ℕ) (write : Bool) → write ≡ true → bit_or s 0x40 ≡ dataStatus write s
+pub status-joined : (s : ℕ) (write : Bool) → write ≡ true → bit_or s 0x40 ≡ data_status write s
 status-joined s write e =
     rw e
     (ap (λ (n : ℕ). bit_or n 0x40) (sym (split s 6)) ∙ or_block 6 (s / 2 ^ 6) 1 (s % 2 ^ 6) 0 (omega arith) (omega arith)
     ∙ ap (λ (n : ℕ). bit_or (s / 2 ^ 6) 1 * 2 ^ 6 + n) (or_zero_r (s % 2 ^ 6)))
 
-pub status-alone : (s : ℕ) (write : Bool) → write ≡ false → s ≡ dataStatus write s
+pub status-alone : (s : ℕ) (write : Bool) → write ≡ false → s ≡ data_status write s
 status-alone s write e = rw (e, or_zero_r (s / 2 ^ 6)) (sym (split s 6))
 
 pub ruleset status_words = (status-joined, status-alone)
@@ -67,12 +67,12 @@ nzcv-parts : (n : ℕ) → n < 2 ^ 32 → n ≡ bit_or (field n 28 4 * 2 ^ 28) (
 nzcv-parts n h = let e = or_shifted (field n 28 4) 28 (n % 2 ^ 28) (omega arith) in omega (arith, e)
 
 -- DAIF's word: bits 9 to 6, and the others
-daif-parts : (d : ℕ) → d ≡ bit_or (field d 6 4 * 2 ^ 6) (alignDown d 10 + d % 2 ^ 6)
+daif-parts : (d : ℕ) → d ≡ bit_or (field d 6 4 * 2 ^ 6) (align_down d 10 + d % 2 ^ 6)
 daif-parts d =
     let e = or_block 6 (field d 6 4) (d / 2 ^ 10 * 2 ^ 4) 0 (d % 2 ^ 6) (omega arith) (omega arith) in
     let f = or_shifted_r (d / 2 ^ 10) 4 (field d 6 4) (omega arith) in
     let g : field d 6 4 * 2 ^ 6 + 0 ≡ field d 6 4 * 2 ^ 6 = omega arith in
-    let h : d / 2 ^ 10 * 2 ^ 4 * 2 ^ 6 + d % 2 ^ 6 ≡ alignDown d 10 + d % 2 ^ 6 = omega arith in
+    let h : d / 2 ^ 10 * 2 ^ 4 * 2 ^ 6 + d % 2 ^ 6 ≡ align_down d 10 + d % 2 ^ 6 = omega arith in
     omega (arith, e, f, or_zero_l (d % 2 ^ 6), ap₂ bit_or g h)
 
 -- the fields of SPSR do not meet
@@ -91,7 +91,7 @@ fields_join q m l s hm hl hs =
 
 module _ (level : ℕ) (f : Flags) (hn : f.nzcv < 2 ^ 32) (hd : f.daif < 2 ^ 32) where
   joined : (s : ℕ) → s < 4 → bit_or (bit_or (bit_or f.nzcv f.daif) (level % 4 * 4)) s
-      ≡ bit_or (field f.nzcv 28 4 * 2 ^ 28 + field f.daif 6 4 * 2 ^ 6 + level % 4 * 4 + s) (strayBits f)
+      ≡ bit_or (field f.nzcv 28 4 * 2 ^ 28 + field f.daif 6 4 * 2 ^ 6 + level % 4 * 4 + s) (stray_bits f)
   joined s hs =
       let n = f.nzcv in
       let d = f.daif in
@@ -99,16 +99,16 @@ module _ (level : ℕ) (f : Flags) (hn : f.nzcv < 2 ^ 32) (hd : f.daif < 2 ^ 32)
       let m = field d 6 4 in
       let l = level % 4 in
       ap₂ (λ (u v : ℕ). bit_or (bit_or (bit_or u v) (l * 4)) s) (nzcv-parts n hn) (daif-parts d)
-      ∙ gather (q * 2 ^ 28) (n % 2 ^ 28) (m * 2 ^ 6) (alignDown d 10 + d % 2 ^ 6) (l * 4) s
+      ∙ gather (q * 2 ^ 28) (n % 2 ^ 28) (m * 2 ^ 6) (align_down d 10 + d % 2 ^ 6) (l * 4) s
       (omega arith) (omega arith) (omega arith) (omega arith) (omega arith) (omega arith)
-      ∙ ap (λ (u : ℕ). bit_or u (strayBits f)) (fields_join q m l s (omega arith) (omega arith) hs)
+      ∙ ap (λ (u : ℕ). bit_or u (stray_bits f)) (fields_join q m l s (omega arith) (omega arith) hs)
 
-  pub psr-elx : f.spsel ≡ true → bit_or (bit_or (bit_or f.nzcv f.daif) (level % 4 * 4)) 1 ≡ spsrOf level f
-  unfolding spsrOf
+  pub psr-elx : f.spsel ≡ true → bit_or (bit_or (bit_or f.nzcv f.daif) (level % 4 * 4)) 1 ≡ spsr_of level f
+  unfolding spsr_of
   psr-elx e = joined 1 (omega arith) ∙ simp e
 
-  pub psr-el0 : f.spsel ≡ false → bit_or (bit_or f.nzcv f.daif) (level % 4 * 4) ≡ spsrOf level f
-  unfolding spsrOf
+  pub psr-el0 : f.spsel ≡ false → bit_or (bit_or f.nzcv f.daif) (level % 4 * 4) ≡ spsr_of level f
+  unfolding spsr_of
   psr-el0 e = sym (or_zero_r (bit_or (bit_or f.nzcv f.daif) (level % 4 * 4))) ∙ joined 0 (omega arith) ∙ simp e
 
 pub ruleset psr_words = (psr-elx, psr-el0)

@@ -4,8 +4,8 @@ use Rattle.fault.specs.declared.Fault.{Fault}
 use Rattle.exception.specs.declared.kind.Exception.{Exception}
 use Rattle.exception.specs.declared.kind.Exception.TheVariants.{DataAbort, InsnAbort}
 
-abbrev pub dataAbortAt : ℕ → Bool → Fault → Exception
-dataAbortAt addr write f = DataAbort (record { addr = addr; write = write; fault = f })
+abbrev pub data_abort_at : ℕ → Bool → Fault → Exception
+data_abort_at addr write f = DataAbort (record { addr = addr; write = write; fault = f })
 
-abbrev pub insnAbortAt : ℕ → Fault → Exception
-insnAbortAt addr f = InsnAbort (record { addr = addr; fault = f })
+abbrev pub insn_abort_at : ℕ → Fault → Exception
+insn_abort_at addr f = InsnAbort (record { addr = addr; fault = f })

@@ -2,17 +2,17 @@
 -- and 0x30000; FAR_ELx hold 0xF1, 0xF2 and 0xF3 before.
 use Rattle.std.specs.Prelude.{◌≡◌, ℕ, Bool, true, false, List, [], ◌∷◌, refl, None}
 use Rattle.fault.specs.First.{first}
-use Rattle.sysreg.specs.Regs.{levels, sysAt}
+use Rattle.sysreg.specs.Regs.{levels, sys_at}
 use Rattle.sysreg.specs.declared.{regs.El.El, regs.SysRegs.SysRegs}
 use Rattle.sysreg.specs.declared.regs.El.TheVariants.{El1, El2, El3}
 use Rattle.sysreg.specs.declared.regs.SysReg.TheVariants.{Elr, Spsr, Esr, Far}
 use Rattle.exception.specs.declared.{kind.Exception.Exception, flags.Flags.Flags, take.Entered.Entered}
 use Rattle.exception.specs.declared.kind.Exception.TheVariants.{Svc, Hvc, Smc, Brk, PcAlignment}
-use Rattle.exception.specs.Pstate.{spsrOf}
-use Rattle.exception.specs.Abort.{dataAbortAt, insnAbortAt}
-use Rattle.exception.specs.Syndrome.{syndromeOf}
-use Rattle.exception.specs.Route.{routedTo}
-use Rattle.exception.specs.Entry.{enteredSys, takeException, enterOf, takeSync}
+use Rattle.exception.specs.Pstate.{spsr_of}
+use Rattle.exception.specs.Abort.{data_abort_at, insn_abort_at}
+use Rattle.exception.specs.Syndrome.{syndrome_of}
+use Rattle.exception.specs.Route.{routed_to}
+use Rattle.exception.specs.Entry.{entered_sys, take_exception, enter_of, take_sync}
 
 pub registers : SysRegs
 registers =
@@ -38,26 +38,26 @@ masked sp = record { nzcv = 0; daif = 0x3C0; spsel = sp }
 
 -- the level, the PC, and ESR, FAR, ELR, SPSR of a level
 pub seen : El → Entered → List ℕ
-seen el n = n.level ∷ n.pc ∷ sysAt n.sys (Esr el) ∷ sysAt n.sys (Far el) ∷ sysAt n.sys (Elr el) ∷ sysAt n.sys (Spsr el) ∷ []
+seen el n = n.level ∷ n.pc ∷ sys_at n.sys (Esr el) ∷ sys_at n.sys (Far el) ∷ sys_at n.sys (Elr el) ∷ sys_at n.sys (Spsr el) ∷ []
 
 -- an exception at a level, with SCR_EL3 and HCR_EL2, and what is seen at a level
 pub entry : ℕ → Flags → ℕ → ℕ → Exception → El → List ℕ
 unfolding registers seen
-entry level f scr hcr e el = seen el (takeSync level f 0x8000 scr hcr registers e)
+entry level f scr hcr e el = seen el (take_sync level f 0x8000 scr hcr registers e)
 
 -- case 13: EL0 store, status 0x0D, to EL1
-pub case13 : (syndromeOf (dataAbortAt 0x40001234 true (first 0x0D)) 0 1 0x8000).esr ≡ 0x9200004D
-unfolding syndromeOf
+pub case13 : (syndrome_of (data_abort_at 0x40001234 true (first 0x0D)) 0 1 0x8000).esr ≡ 0x9200004D
+unfolding syndrome_of
 case13 = refl
 
 -- case 13 again; SVC; SVC and TGE; an instruction abort from Secure EL0, which TGE leaves; an abort from EL1 to itself; HVC, with HCE clear, at
 -- Secure EL1; SMC, with TSC, with SMD at EL2; BRK; PC alignment at EL3 with SP_EL0
 pub entries :
-    (entry 0 user 0 0 (dataAbortAt 0x40001234 true (first 0x0D)) El1
+    (entry 0 user 0 0 (data_abort_at 0x40001234 true (first 0x0D)) El1
     ∷ entry 0 user 0 0 (Svc 0x1234) El1
     ∷ entry 0 user 1 0x8000000 (Svc 0x1234) El2
-    ∷ entry 0 user 0 0x8000000 (insnAbortAt 0x5000 (first 0x0F)) El1
-    ∷ entry 1 (masked true) 1 0 (dataAbortAt 0x6000 false (first 0x05)) El1
+    ∷ entry 0 user 0 0x8000000 (insn_abort_at 0x5000 (first 0x0F)) El1
+    ∷ entry 1 (masked true) 1 0 (data_abort_at 0x6000 false (first 0x05)) El1
     ∷ entry 1 (masked true) 0x101 0 (Hvc 1) El2
     ∷ entry 1 (masked true) 1 0 (Hvc 1) El1
     ∷ entry 1 (masked true) 0x100 0 (Hvc 1) El1
@@ -81,7 +81,7 @@ pub entries :
     ∷ (2 ∷ 0x20200 ∷ 0xF2000007 ∷ 0xF2 ∷ 0x8000 ∷ 0x3C9 ∷ [])
     ∷ (3 ∷ 0x30000 ∷ 0x8A000000 ∷ 0x8000 ∷ 0x8000 ∷ 0x3CC ∷ [])
     ∷ [])
-unfolding entry seen registers user masked takeSync takeException enteredSys syndromeOf routedTo spsrOf
+unfolding entry seen registers user masked take_sync take_exception entered_sys syndrome_of routed_to spsr_of
 entries = refl
 
 -- docs/DIFFERENCES.md: A7, A15, A16 with HVC and with SMC, D2, M12, M16
@@ -90,9 +90,9 @@ pub departures :
     ∷ entry 0 (masked true) 0 0 (Svc 0) El1
     ∷ entry 0 (masked true) 0x101 0 (Hvc 1) El2
     ∷ entry 0 (masked true) 0x101 0 (Smc 1) El3
-    ∷ entry 1 (masked true) 8 0 (dataAbortAt 0x80000000 false (first 0x10)) El1
+    ∷ entry 1 (masked true) 8 0 (data_abort_at 0x80000000 false (first 0x10)) El1
     ∷ entry 1 (masked true) 0 0 (Smc 1) El3
-    ∷ entry 1 (masked true) 0 0 (dataAbortAt 0 false (first 0x40)) El1
+    ∷ entry 1 (masked true) 0 0 (data_abort_at 0 false (first 0x40)) El1
     ∷ [])
     ≡ ((1 ∷ 0x10200 ∷ 0x2000000 ∷ 0xF1 ∷ 0x8000 ∷ 0x3C5 ∷ [])
     ∷ (1 ∷ 0x10400 ∷ 0x56000000 ∷ 0xF1 ∷ 0x8004 ∷ 0x3C1 ∷ [])
@@ -102,12 +102,12 @@ pub departures :
     ∷ (3 ∷ 0x30400 ∷ 0x5E000001 ∷ 0xF3 ∷ 0x8004 ∷ 0x3C5 ∷ [])
     ∷ (1 ∷ 0x10200 ∷ 0x96000040 ∷ 0x0 ∷ 0x8000 ∷ 0x3C5 ∷ [])
     ∷ [])
-unfolding entry seen registers user masked takeSync takeException enteredSys syndromeOf routedTo spsrOf
+unfolding entry seen registers user masked take_sync take_exception entered_sys syndrome_of routed_to spsr_of
 departures = refl
 
 -- an IRQ from EL1 to EL2, and an FIQ from EL3 with SP_EL0 to itself: ESR and FAR stay
 pub interrupts :
-    (seen El2 (enterOf 1 (masked true) registers El2 0x80 None None 0x8000) ∷ seen El3 (enterOf 3 (masked false) registers El3 0x100 None None 0x8000) ∷ [])
+    (seen El2 (enter_of 1 (masked true) registers El2 0x80 None None 0x8000) ∷ seen El3 (enter_of 3 (masked false) registers El3 0x100 None None 0x8000) ∷ [])
     ≡ ((2 ∷ 0x20480 ∷ 0 ∷ 0xF2 ∷ 0x8000 ∷ 0x3C5 ∷ []) ∷ (3 ∷ 0x30100 ∷ 0 ∷ 0xF3 ∷ 0x8000 ∷ 0x3CC ∷ []) ∷ [])
-unfolding seen registers masked enterOf spsrOf
+unfolding seen registers masked enter_of spsr_of
 interrupts = refl

@@ -4,33 +4,33 @@ use Rattle.std.proofs.Common.{mod-eq_of_lt, arith}
 use Rattle.std.specs.Int.Bits.{or_zero_r}
 use Rattle.word.specs.Bits.{flag, wrap}
 use Rattle.exception.specs.declared.flags.Flags.{Flags}
-use Rattle.exception.specs.Pstate.{freshFlags, psr, OwnBits, strayBits, spsrOf}
-use Rattle.exception.specs.Syndrome.{dataStatus}
-use Rattle.exception.specs.Entry.{vectOffset, entryFlags}
+use Rattle.exception.specs.Pstate.{fresh_flags, psr, OwnBits, stray_bits, spsr_of}
+use Rattle.exception.specs.Syndrome.{data_status}
+use Rattle.exception.specs.Entry.{vect_offset, entry_flags}
 
 -- where PSTATE's words hold their own bits alone, SPSR is the manual's
-own-stray : (f : Flags) → OwnBits f → strayBits f ≡ 0
+own-stray : (f : Flags) → OwnBits f → stray_bits f ≡ 0
 own-stray f h = rw (h.nzcv-31-28, h.daif-9, h.daif-6)
 
-pub spsr-fields : (level : ℕ) (f : Flags) → OwnBits f → spsrOf level f ≡ psr level f
-unfolding spsrOf
+pub spsr-fields : (level : ℕ) (f : Flags) → OwnBits f → spsr_of level f ≡ psr level f
+unfolding spsr_of
 spsr-fields level f h = rw (own-stray f h) (or_zero_r (psr level f))
 
 -- as they do after reset, and after every entry from such words
-pub fresh-fields : OwnBits freshFlags
+pub fresh-fields : OwnBits fresh_flags
 fresh-fields = record { nzcv-31-28 = refl; daif-9 = refl; daif-6 = refl }
 
-pub entry-fields : (f : Flags) → OwnBits f → OwnBits (entryFlags f)
+pub entry-fields : (f : Flags) → OwnBits f → OwnBits (entry_flags f)
 entry-fields f h = record { nzcv-31-28 = h.nzcv-31-28; daif-9 = refl; daif-6 = refl }
 
 -- a status of six bits
-pub status-fields : (write : Bool) (fsc : ℕ) → fsc < 2 ^ 6 → dataStatus write fsc ≡ flag write (2 ^ 6) + fsc
+pub status-fields : (write : Bool) (fsc : ℕ) → fsc < 2 ^ 6 → data_status write fsc ≡ flag write (2 ^ 6) + fsc
 status-fields true fsc h = let z : fsc / 2 ^ 6 ≡ 0 = omega arith in rw z (omega arith)
 status-fields false fsc h = let z : fsc / 2 ^ 6 ≡ 0 = omega arith in rw z (omega arith)
 
 -- VBAR_ELx<10:0> are zero: the address is VBAR_ELx<63:11> and the offset below
 pub vector-fields : (vbar from to : ℕ) (sp : Bool) → vbar < 2 ^ 64 → vbar % 2 ^ 11 ≡ 0
-    → wrap (vbar + vectOffset from to sp) ≡ vbar + vectOffset from to sp
+    → wrap (vbar + vect_offset from to sp) ≡ vbar + vect_offset from to sp
 vector-fields vbar from to sp h z = go (from == to) sp
   where
     go : (same : Bool) (b : Bool) → wrap (vbar + (if same then if b then 0x200 else 0x000 else 0x400)) ≡ vbar + (if same then if b then 0x200 else 0x000 else 0x400)

@@ -2,8 +2,8 @@
 use Rattle.std.specs.Prelude.{ℕ}
 use Rattle.exception.specs.declared.{kind.Exception.Exception, route.Origin.Origin}
 use Rattle.exception.specs.declared.route.Routed.{Routed}
-use Rattle.exception.specs.Route.{defaultTarget}
+use Rattle.exception.specs.Route.{default_target}
 
 -- an exception on the usual way, back to an address
 abbrev pub usually : Origin → Exception → ℕ → Routed
-usually o e ret = record { exception = e; target = defaultTarget o; ret = ret }
+usually o e ret = record { exception = e; target = default_target o; ret = ret }

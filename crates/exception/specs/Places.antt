@@ -1,8 +1,8 @@
 -- The bits of each field that an entry reads or writes, computed: a place that code and definition both had wrong fails here.
 use Rattle.std.specs.Prelude.{◌≡◌, ℕ, true, false, [], ◌∷◌, refl}
 use Rattle.exception.specs.declared.route.Origin.{Origin}
-use Rattle.exception.specs.Pstate.{daifAll, psr}
-use Rattle.exception.specs.Syndrome.{esrOf, dataStatus}
+use Rattle.exception.specs.Pstate.{daif_all, psr}
+use Rattle.exception.specs.Syndrome.{esr_of, data_status}
 use Rattle.exception.specs.Route.{ns, smd, hce, tsc, tge}
 
 -- SCR_EL3 and HCR_EL2: a word with the bit alone, and one with every other bit
@@ -29,7 +29,7 @@ tge-place = (refl, refl)
 
 -- DAIF; SPSR_ELx with N, Z, C, V alone, with D, A, I, F alone, from EL3, with SP
 pub pstate-places :
-    (daifAll
+    (daif_all
     ∷ psr 0 (record { nzcv = 0xFFFF_FFFF; daif = 0; spsel = false })
     ∷ psr 0 (record { nzcv = 0; daif = 0xFFFF_FFFF; spsel = false })
     ∷ psr 3 (record { nzcv = 0; daif = 0; spsel = false })
@@ -39,5 +39,5 @@ pub pstate-places :
 pstate-places = refl
 
 -- ESR_ELx with EC alone beside IL, with ISS; WnR, and DFSC
-pub esr-places : (esrOf 0x3F 0 ∷ esrOf 0 0x1FF_FFFF ∷ dataStatus true 0 ∷ dataStatus false 0x3F ∷ []) ≡ (0xFE00_0000 ∷ 0x3FF_FFFF ∷ 0x40 ∷ 0x3F ∷ [])
+pub esr-places : (esr_of 0x3F 0 ∷ esr_of 0 0x1FF_FFFF ∷ data_status true 0 ∷ data_status false 0x3F ∷ []) ≡ (0xFE00_0000 ∷ 0x3FF_FFFF ∷ 0x40 ∷ 0x3F ∷ [])
 esr-places = refl

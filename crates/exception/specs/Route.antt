@@ -1,7 +1,7 @@
 -- Routing of synchronous exceptions: DDI 0487, D1.10, and the pseudocode of SVC, HVC and SMC, from knowledge of ARMv8.0: the document itself was
 -- not at hand. A7, D2 and the like are rows of docs/DIFFERENCES.md.
 use Rattle.std.specs.Prelude.{if◌then◌else◌, ℕ, ◌+◌, Bool, not, ◌&&◌, ◌||◌, ◌==◌}
-use Rattle.word.specs.Bits.{bitOn, bit0, wrap}
+use Rattle.word.specs.Bits.{bit_on, bit0, wrap}
 use Rattle.sysreg.specs.declared.regs.El.{El}
 use Rattle.sysreg.specs.declared.regs.El.TheVariants.{El1, El2, El3}
 use Rattle.exception.specs.declared.{kind.Exception.Exception, route.Origin.Origin, route.Routed.Routed}
@@ -12,54 +12,54 @@ abbrev pub ns : Origin → Bool
 ns o = bit0 o.scr_el3
 
 abbrev pub smd : Origin → Bool
-smd o = bitOn o.scr_el3 7
+smd o = bit_on o.scr_el3 7
 
 abbrev pub hce : Origin → Bool
-hce o = bitOn o.scr_el3 8
+hce o = bit_on o.scr_el3 8
 
 abbrev pub tsc : Origin → Bool
-tsc o = bitOn o.hcr_el2 19
+tsc o = bit_on o.hcr_el2 19
 
 abbrev pub tge : Origin → Bool
-tge o = bitOn o.hcr_el2 27
+tge o = bit_on o.hcr_el2 27
 
 -- IsSecure()
-abbrev pub isSecure : Origin → Bool
-isSecure o = o.level == 3 || not (ns o)
+abbrev pub is_secure : Origin → Bool
+is_secure o = o.level == 3 || not (ns o)
 
 -- the level itself, and EL1 for EL0
-abbrev pub elOf : ℕ → El
-elOf level = if level == 2 then El2 else if level == 3 then El3 else El1
+abbrev pub el_of : ℕ → El
+el_of level = if level == 2 then El2 else if level == 3 then El3 else El1
 
 -- TGE takes the exceptions of Non-secure EL0 to EL2. M18: the manual has no Non-secure EL1 while TGE is set; where a level is set so
 -- here, its exceptions stay at EL1.
-abbrev pub routeToEl2 : Origin → Bool
-routeToEl2 o = o.level == 0 && (not (isSecure o) && tge o)
+abbrev pub route_to_el2 : Origin → Bool
+route_to_el2 o = o.level == 0 && (not (is_secure o) && tge o)
 
 -- D2: SCR_EL3.EA takes no external abort to EL3. O11: an external abort is synchronous, a store's too.
-abbrev pub defaultTarget : Origin → El
-defaultTarget o = if routeToEl2 o then El2 else elOf o.level
+abbrev pub default_target : Origin → El
+default_target o = if route_to_el2 o then El2 else el_of o.level
 
 -- HVC goes to EL2, and at EL3 to itself
-abbrev pub callTarget : ℕ → El
-callTarget level = if level == 3 then El3 else El2
+abbrev pub call_target : ℕ → El
+call_target level = if level == 3 then El3 else El2
 
 -- HVC is UNDEFINED where HCE is clear, and at Secure EL1. A16: not at EL0, where the manual has it so.
-abbrev pub hvcUndefined : Origin → Bool
-hvcUndefined o = not (hce o) || (o.level == 1 && isSecure o)
+abbrev pub hvc_undefined : Origin → Bool
+hvc_undefined o = not (hce o) || (o.level == 1 && is_secure o)
 
 -- TSC traps SMC at Non-secure EL1 to EL2
-abbrev pub smcTrapped : Origin → Bool
-smcTrapped o = o.level == 1 && (not (isSecure o) && tsc o)
+abbrev pub smc_trapped : Origin → Bool
+smc_trapped o = o.level == 1 && (not (is_secure o) && tsc o)
 
 -- SMC is UNDEFINED where SMD is set. A7: also where TSC would trap it. A16: not at EL0, where the manual has it so.
-abbrev pub smcUndefined : Origin → Bool
-smcUndefined o = smd o
+abbrev pub smc_undefined : Origin → Bool
+smc_undefined o = smd o
 
 -- the exception that the instruction generates
 abbrev pub generated : Origin → Exception → Exception
-generated o (Hvc imm) = if hvcUndefined o then Undefined else Hvc imm
-generated o (Smc imm) = if smcUndefined o then Undefined else Smc imm
+generated o (Hvc imm) = if hvc_undefined o then Undefined else Hvc imm
+generated o (Smc imm) = if smc_undefined o then Undefined else Smc imm
 generated o Undefined = Undefined
 generated o (Svc imm) = Svc imm
 generated o (Brk imm) = Brk imm
@@ -68,36 +68,36 @@ generated o (InsnAbort a) = InsnAbort a
 generated o PcAlignment = PcAlignment
 
 -- target_el
-abbrev pub targetEl : Origin → Exception → El
-targetEl o (Hvc imm) = callTarget o.level
-targetEl o (Smc imm) = if smcTrapped o then El2 else El3
-targetEl o Undefined = defaultTarget o
-targetEl o (Svc imm) = defaultTarget o
-targetEl o (Brk imm) = defaultTarget o
-targetEl o (DataAbort a) = defaultTarget o
-targetEl o (InsnAbort a) = defaultTarget o
-targetEl o PcAlignment = defaultTarget o
+abbrev pub target_el : Origin → Exception → El
+target_el o (Hvc imm) = call_target o.level
+target_el o (Smc imm) = if smc_trapped o then El2 else El3
+target_el o Undefined = default_target o
+target_el o (Svc imm) = default_target o
+target_el o (Brk imm) = default_target o
+target_el o (DataAbort a) = default_target o
+target_el o (InsnAbort a) = default_target o
+target_el o PcAlignment = default_target o
 
 -- ThisInstrAddr() and NextInstrAddr()
-abbrev pub thisInstr : Origin → ℕ
-thisInstr o = o.pc
+abbrev pub this_instr : Origin → ℕ
+this_instr o = o.pc
 
-abbrev pub nextInstr : Origin → ℕ
-nextInstr o = wrap (o.pc + 4)
+abbrev pub next_instr : Origin → ℕ
+next_instr o = wrap (o.pc + 4)
 
 -- preferred_exception_return: past a call that is taken as one, else the instruction itself
-abbrev pub returnAddress : Origin → Exception → ℕ
-returnAddress o (Svc imm) = nextInstr o
-returnAddress o (Hvc imm) = nextInstr o
-returnAddress o (Smc imm) = if smcTrapped o then thisInstr o else nextInstr o
-returnAddress o Undefined = thisInstr o
-returnAddress o (Brk imm) = thisInstr o
-returnAddress o (DataAbort a) = thisInstr o
-returnAddress o (InsnAbort a) = thisInstr o
-returnAddress o PcAlignment = thisInstr o
+abbrev pub return_address : Origin → Exception → ℕ
+return_address o (Svc imm) = next_instr o
+return_address o (Hvc imm) = next_instr o
+return_address o (Smc imm) = if smc_trapped o then this_instr o else next_instr o
+return_address o Undefined = this_instr o
+return_address o (Brk imm) = this_instr o
+return_address o (DataAbort a) = this_instr o
+return_address o (InsnAbort a) = this_instr o
+return_address o PcAlignment = this_instr o
 
 abbrev pub routed : Origin → Exception → Routed
-routed o x = record { exception = x; target = targetEl o x; ret = returnAddress o x }
+routed o x = record { exception = x; target = target_el o x; ret = return_address o x }
 
-unfoldable pub routedTo : Origin → Exception → Routed
-routedTo o e = routed o (generated o e)
+unfoldable pub routed_to : Origin → Exception → Routed
+routed_to o e = routed o (generated o e)

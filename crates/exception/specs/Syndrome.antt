@@ -6,12 +6,12 @@ use Rattle.exception.specs.declared.{kind.Exception.Exception, report.Report.Rep
 use Rattle.exception.specs.declared.kind.Exception.TheVariants.{Undefined, Svc, Hvc, Smc, Brk, DataAbort, InsnAbort, PcAlignment}
 
 -- ESR_ELx: EC is <31:26>, IL <25>, ISS <24:0>. IL is 1: the instruction has 32 bits, or the class has no use for it.
-abbrev pub esrOf : ℕ → ℕ → ℕ
-esrOf ec iss = ec * 2 ^ 26 + 1 * 2 ^ 25 + iss
+abbrev pub esr_of : ℕ → ℕ → ℕ
+esr_of ec iss = ec * 2 ^ 26 + 1 * 2 ^ 25 + iss
 
 -- an abort's class from a lower level; from the same level it is one more
-abbrev pub abortClass : Bool → ℕ → ℕ
-abortClass lower ec = if lower then ec else ec + 1
+abbrev pub abort_class : Bool → ℕ → ℕ
+abort_class lower ec = if lower then ec else ec + 1
 
 -- EC, by whether the exception comes from a lower level
 abbrev pub class_of : Bool → Exception → ℕ
@@ -19,50 +19,50 @@ class_of lower Undefined = 0x00
 class_of lower (Svc imm) = 0x15
 class_of lower (Hvc imm) = 0x16
 class_of lower (Smc imm) = 0x17
-class_of lower (InsnAbort a) = abortClass lower 0x20
+class_of lower (InsnAbort a) = abort_class lower 0x20
 class_of lower PcAlignment = 0x22
-class_of lower (DataAbort a) = abortClass lower 0x24
+class_of lower (DataAbort a) = abort_class lower 0x24
 class_of lower (Brk imm) = 0x3C
 
 -- ISS of a data abort: WnR is <6>, DFSC <5:0>; M3: S1PTW <7> is 0, without stage 2; ISV, CM and the rest are 0. O6: EA <9> is 0. M16: the bits of
 -- a status above DFSC are or-ed in.
-abbrev pub dataStatus : Bool → ℕ → ℕ
-dataStatus write fsc = bit_or (fsc / 2 ^ 6) (flag write 1) * 2 ^ 6 + fsc % 2 ^ 6
+abbrev pub data_status : Bool → ℕ → ℕ
+data_status write fsc = bit_or (fsc / 2 ^ 6) (flag write 1) * 2 ^ 6 + fsc % 2 ^ 6
 
 -- ISS: the immediate in <15:0>, or the status. An instruction abort's IFSC is <5:0>; O6 and M16 again.
-abbrev pub issOf : Exception → ℕ
-issOf Undefined = 0
-issOf (Svc imm) = imm
-issOf (Hvc imm) = imm
-issOf (Smc imm) = imm
-issOf (InsnAbort a) = a.fault.fsc
-issOf PcAlignment = 0
-issOf (DataAbort a) = dataStatus a.write a.fault.fsc
-issOf (Brk imm) = imm
+abbrev pub iss_of : Exception → ℕ
+iss_of Undefined = 0
+iss_of (Svc imm) = imm
+iss_of (Hvc imm) = imm
+iss_of (Smc imm) = imm
+iss_of (InsnAbort a) = a.fault.fsc
+iss_of PcAlignment = 0
+iss_of (DataAbort a) = data_status a.write a.fault.fsc
+iss_of (Brk imm) = imm
 
 -- FAR_ELx is written for aborts and PC alignment. O12: for the others, where the manual leaves it UNKNOWN, it is kept.
-abbrev pub farWritten : Exception → Bool
-farWritten Undefined = false
-farWritten (Svc imm) = false
-farWritten (Hvc imm) = false
-farWritten (Smc imm) = false
-farWritten (InsnAbort a) = true
-farWritten PcAlignment = true
-farWritten (DataAbort a) = true
-farWritten (Brk imm) = false
+abbrev pub far_written : Exception → Bool
+far_written Undefined = false
+far_written (Svc imm) = false
+far_written (Hvc imm) = false
+far_written (Smc imm) = false
+far_written (InsnAbort a) = true
+far_written PcAlignment = true
+far_written (DataAbort a) = true
+far_written (Brk imm) = false
 
 -- its value: the address of the access, or the PC
-abbrev pub farOf : ℕ → Exception → ℕ
-farOf pc Undefined = 0
-farOf pc (Svc imm) = 0
-farOf pc (Hvc imm) = 0
-farOf pc (Smc imm) = 0
-farOf pc (InsnAbort a) = a.addr
-farOf pc PcAlignment = pc
-farOf pc (DataAbort a) = a.addr
-farOf pc (Brk imm) = 0
+abbrev pub far_of : ℕ → Exception → ℕ
+far_of pc Undefined = 0
+far_of pc (Svc imm) = 0
+far_of pc (Hvc imm) = 0
+far_of pc (Smc imm) = 0
+far_of pc (InsnAbort a) = a.addr
+far_of pc PcAlignment = pc
+far_of pc (DataAbort a) = a.addr
+far_of pc (Brk imm) = 0
 
 -- the report of an exception at the PC, taken from one level to another
-unfoldable pub syndromeOf : Exception → ℕ → ℕ → ℕ → Report
-syndromeOf e from to pc =
-    record { esr = esrOf (class_of (nat_lt from to) e) (issOf e); far = if farWritten e then Some (farOf pc e) else None }
+unfoldable pub syndrome_of : Exception → ℕ → ℕ → ℕ → Report
+syndrome_of e from to pc =
+    record { esr = esr_of (class_of (nat_lt from to) e) (iss_of e); far = if far_written e then Some (far_of pc e) else None }

@@ -1,6 +1,6 @@
 // PSTATE: NZCV in bits 31 to 28, DAIF in bits 9 to 6, and SP.
 ghost use Rattle.std.specs.Prelude.{◌≡◌};
-ghost use Rattle.exception.specs.Pstate.{freshFlags, spsrOf};
+ghost use Rattle.exception.specs.Pstate.{fresh_flags, spsr_of};
 
 #[derive(Clone, Copy)]
 pub struct Flags {
@@ -15,7 +15,7 @@ pub const DAIF_ALL: u32 = 0x3C0;
 impl Flags {
     // After reset the interrupts are masked, and SP_ELx is used.
     pub fn new() -> Self
-        ensures { result ≡ freshFlags }
+        ensures { result ≡ fresh_flags }
     {
         Flags {
             nzcv: 0,
@@ -28,7 +28,7 @@ impl Flags {
 // PSTATE as SPSR_ELx holds it. Of the level two bits count.
 #[tactic(auto, using(crate::proofs::Words::psr_words))]
 pub fn pstate(level: u8, flags: Flags) -> u64
-    ensures { result ≡ spsrOf level flags }
+    ensures { result ≡ spsr_of level flags }
 {
     let el = (level % 4) as u64;
     let psr = flags.nzcv as u64 | flags.daif as u64 | el * 4;

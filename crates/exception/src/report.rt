@@ -1,6 +1,6 @@
 // What an exception reports: ESR_ELx and FAR_ELx.
 ghost use Rattle.std.specs.Prelude.{◌≡◌};
-ghost use Rattle.exception.specs.Syndrome.{esrOf, dataStatus, syndromeOf};
+ghost use Rattle.exception.specs.Syndrome.{esr_of, data_status, syndrome_of};
 
 use crate::kind::Exception;
 
@@ -41,7 +41,7 @@ const WNR: u16 = 0x40;
 impl Report {
     // The report of an exception class, with its syndrome.
     fn new(ec: u8, iss: u16, far: Option<u64>) -> Self
-        ensures { result ≡ record { esr = esrOf ec iss; far = far } }
+        ensures { result ≡ record { esr = esr_of ec iss; far = far } }
     {
         Report {
             esr: u64::from(ec) * 0x400_0000 + ESR_IL + u64::from(iss),
@@ -52,16 +52,16 @@ impl Report {
 
 #[tactic(auto, using(crate::proofs::Words::status_words))]
 fn data_status(write: bool, fsc: u8) -> u16
-    ensures { result ≡ dataStatus write fsc }
+    ensures { result ≡ data_status write fsc }
 {
     let status = u16::from(fsc);
     if write { status | WNR } else { status }
 }
 
 // ESR_ELx and FAR_ELx of an exception at the PC, taken from one level to another.
-#[tactic(auto, unfolding(crate::specs::Syndrome::syndromeOf))]
+#[tactic(auto, unfolding(crate::specs::Syndrome::syndrome_of))]
 pub fn syndrome(e: Exception, from: u8, to: u8, pc: u64) -> Report
-    ensures { result ≡ syndromeOf e from to pc }
+    ensures { result ≡ syndrome_of e from to pc }
 {
     let lower = from < to;
     match e {

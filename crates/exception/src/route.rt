@@ -1,7 +1,7 @@
 // Where a synchronous exception is taken to, as what, and the address that it returns to.
 ghost use Rattle.std.specs.Prelude.{◌≡◌};
 ghost use Rattle.exception.specs.declared.kind.Exception.TheVariants.{Hvc, Smc};
-ghost use Rattle.exception.specs.Route.{isSecure, defaultTarget, callTarget, routedTo};
+ghost use Rattle.exception.specs.Route.{is_secure, default_target, call_target, routed_to};
 ghost use Rattle.exception.specs.Parts.{usually};
 
 use crate::kind::Exception;
@@ -26,14 +26,14 @@ pub struct Origin {
 impl Origin {
     // EL3, and every other level while SCR_EL3.NS is clear.
     fn is_secure(self) -> bool
-        ensures { result ≡ isSecure self }
+        ensures { result ≡ is_secure self }
     {
         self.level == 3 || self.scr_el3 % 2 == 0
     }
 
     // Where most exceptions go: to the level itself, and EL1 for EL0. HCR_EL2.TGE takes those of Non-secure EL0 to EL2.
     fn default_target(self) -> El
-        ensures { result ≡ defaultTarget self }
+        ensures { result ≡ default_target self }
     {
         let tge = (self.hcr_el2 >> 27) % 2 == 1;
         match self.level {
@@ -58,15 +58,15 @@ impl Origin {
 
 // To EL2, and at EL3 to itself.
 fn hypervisor_target(level: u8) -> El
-    ensures { result ≡ callTarget level }
+    ensures { result ≡ call_target level }
 {
     if level == 3 { El::El3 } else { El::El2 }
 }
 
 // UNDEFINED where SCR_EL3.HCE is clear, and at Secure EL1.
-#[tactic(auto, unfolding(crate::specs::Route::routedTo))]
+#[tactic(auto, unfolding(crate::specs::Route::routed_to))]
 fn route_hvc(o: Origin, imm: u16) -> Routed
-    ensures { result ≡ routedTo o (Hvc imm) }
+    ensures { result ≡ routed_to o (Hvc imm) }
 {
     let hce = (o.scr_el3 >> 8) % 2 == 1;
     if !hce || (o.level == 1 && o.is_secure()) {
@@ -80,9 +80,9 @@ fn route_hvc(o: Origin, imm: u16) -> Routed
 }
 
 // UNDEFINED where SCR_EL3.SMD is set; else HCR_EL2.TSC traps it at Non-secure EL1.
-#[tactic(auto, unfolding(crate::specs::Route::routedTo))]
+#[tactic(auto, unfolding(crate::specs::Route::routed_to))]
 fn route_smc(o: Origin, imm: u16) -> Routed
-    ensures { result ≡ routedTo o (Smc imm) }
+    ensures { result ≡ routed_to o (Smc imm) }
 {
     let smd = (o.scr_el3 >> 7) % 2 == 1;
     if smd {
@@ -104,9 +104,9 @@ fn route_smc(o: Origin, imm: u16) -> Routed
 }
 
 // An exception is taken as it is, or as UNDEFINED. A call returns past itself, the others to their instruction.
-#[tactic(auto, unfolding(crate::specs::Route::routedTo))]
+#[tactic(auto, unfolding(crate::specs::Route::routed_to))]
 pub fn route(o: Origin, e: Exception) -> Routed
-    ensures { result ≡ routedTo o e }
+    ensures { result ≡ routed_to o e }
 {
     match e {
         Exception::Hvc(imm) => route_hvc(o, imm),

@@ -1,7 +1,7 @@
 // Exception entry. A synchronous one takes a level modulo 4, as PSTATE.EL has two bits; levels are 0 to 3 below it.
 ghost use Rattle.std.specs.Prelude.{◌≡◌};
-ghost use Rattle.exception.specs.Entry.{vectOffset, updated, updatedSys, enterOf};
-ghost use Rattle.exception.specs.Entry.{syncReport, syncChanges, takeSync};
+ghost use Rattle.exception.specs.Entry.{vect_offset, updated, updated_sys, enter_of};
+ghost use Rattle.exception.specs.Entry.{sync_report, sync_changes, take_sync};
 
 use crate::flags::{DAIF_ALL, Flags, pstate};
 use crate::kind::Exception;
@@ -41,7 +41,7 @@ pub struct Entered {
 
 // The group of vectors for an exception from one level to another; its first vector is that of synchronous exceptions.
 pub fn vector_group(from: u8, to: u8, spsel: bool) -> u64
-    ensures { result ≡ vectOffset from to spsel }
+    ensures { result ≡ vect_offset from to spsel }
 {
     if from == to {
         if spsel { 0x200 } else { 0x000 }
@@ -70,7 +70,7 @@ fn saved(
     spsr: u64,
     ret: u64,
 ) -> SysRegs
-    ensures { result ≡ updatedSys sys target esr far spsr ret }
+    ensures { result ≡ updated_sys sys target esr far spsr ret }
 {
     let t = target.index();
     let mut out = sys;
@@ -82,7 +82,7 @@ fn saved(
 }
 
 // Exception entry to a level: the kind is the vector's place in its group, and ret the address that it returns to.
-#[tactic(auto, unfolding(crate::specs::Entry::enterOf))]
+#[tactic(auto, unfolding(crate::specs::Entry::enter_of))]
 pub fn enter(
     level: u8,
     flags: Flags,
@@ -93,7 +93,7 @@ pub fn enter(
     far: Option<u64>,
     ret: u64,
 ) -> Entered
-    ensures { result ≡ enterOf level flags sys target kind esr far ret }
+    ensures { result ≡ enter_of level flags sys target kind esr far ret }
 {
     let t = target.index();
     let group = vector_group(level, t as u8, flags.spsel);
@@ -112,9 +112,9 @@ pub fn enter(
 }
 
 // A synchronous exception at the PC is routed and reported.
-#[tactic(auto, unfolding(crate::specs::Entry::syncReport))]
+#[tactic(auto, unfolding(crate::specs::Entry::sync_report))]
 pub fn report_sync(level: u8, pc: u64, scr_el3: u64, hcr_el2: u64, e: Exception) -> Reported
-    ensures { result ≡ syncReport level pc scr_el3 hcr_el2 e }
+    ensures { result ≡ sync_report level pc scr_el3 hcr_el2 e }
 {
     let el = level % 4;
     let from = Origin {
@@ -133,9 +133,9 @@ pub fn report_sync(level: u8, pc: u64, scr_el3: u64, hcr_el2: u64, e: Exception)
 }
 
 // What its entry changes.
-#[tactic(auto, unfolding(crate::specs::Entry::syncChanges))]
+#[tactic(auto, unfolding(crate::specs::Entry::sync_changes))]
 pub fn sync_changes(level: u8, flags: Flags, r: Reported) -> Taken
-    ensures { result ≡ syncChanges level flags r }
+    ensures { result ≡ sync_changes level flags r }
 {
     let el = level % 4;
     Taken {
@@ -158,7 +158,7 @@ pub fn take_sync(
     sys: SysRegs,
     e: Exception,
 ) -> Entered
-    ensures { result ≡ takeSync level flags pc scr_el3 hcr_el2 sys e }
+    ensures { result ≡ take_sync level flags pc scr_el3 hcr_el2 sys e }
 {
     let r = report_sync(level, pc, scr_el3, hcr_el2, e);
     let esr = Some(r.report.esr);

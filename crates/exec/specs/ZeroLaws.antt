@@ -13,34 +13,34 @@ use Rattle.fault.specs.declared.Fault.{Fault}
 use Rattle.tlb.specs.declared.access.Answer.{Answer}
 use Rattle.tlb.specs.declared.access.Answer.TheVariants.{Address, Status}
 use Rattle.exception.specs.declared.kind.Stop.{Stop}
-use Rattle.mmu.specs.Core.{afterAccess, bankNow}
-use Rattle.operations.specs.Place.{inPage, crosses, goesOn, placedOne, verdictOf}
-use Rattle.operations.specs.Bytes.{storeRam}
+use Rattle.mmu.specs.Core.{after_access, bank_now}
+use Rattle.operations.specs.Place.{in_page, crosses, goes_on, placed_one, verdict_of}
+use Rattle.operations.specs.Bytes.{store_ram}
 use Rattle.operations.specs.BytesLaws.{stored-leaves}
-use Rattle.mmu.specs.Step.{onePage, translateIn, locatedOf}
-use Rattle.operations.specs.Ends.{storeEnd, storeRamEnd}
-use Rattle.mmu.specs.Ops.{steppedNow, locatedNow, translateOf, writeOf, ramAfterWrite}
-use Rattle.mmu.specs.OpLaws.{onNow}
+use Rattle.mmu.specs.Step.{one_page, translate_in, located_of}
+use Rattle.operations.specs.Ends.{store_end, store_ram_end}
+use Rattle.mmu.specs.Ops.{stepped_now, located_now, translate_of, write_of, ram_after_write}
+use Rattle.mmu.specs.OpLaws.{on_now}
 use Rattle.mmu.specs.declared.core_state.Core.{Core}
 use Rattle.operations.specs.declared.place.Place.TheVariants.{Whole}
 use Rattle.operations.specs.declared.{place.Placed.Placed, ends.StoreAnswer.StoreAnswer}
 use Rattle.operations.specs.declared.place.Placed.TheVariants.{At}
 use Rattle.operations.specs.declared.ends.StoreAnswer.TheVariants.{Done, Stopped}
-use Rattle.exec.specs.Sys.{doneWith, onStored, zero_of, zeroRam}
+use Rattle.exec.specs.Sys.{done_with, on_stored, zero_of, zero_ram}
 
 -- ONE STORE OF EIGHT ZERO BYTES, at an address of which it is a multiple
 
 module _ (c : Core) (base : ℕ) (ram : List ℕ) (a : ℕ) (even : a % 8 ≡ 0) where
-  abbrev answerFor : Answer
-  answerFor = (translateOf c (word_at base ram 8) a Write).answer
+  abbrev answer_for : Answer
+  answer_for = (translate_of c (word_at base ram 8) a Write).answer
 
   one-page-only : (on : Bool) → crosses on a 8 ≡ false
   one-page-only on = go on
     where
-      long : 8 ≤ inPage a
+      long : 8 ≤ in_page a
       long = omega arith
 
-      short : ltb (inPage a) 8 ≡ false
+      short : ltb (in_page a) 8 ≡ false
       short = le-ltb _ _ long
 
       go : (b : Bool) → crosses b a 8 ≡ false
@@ -48,49 +48,49 @@ module _ (c : Core) (base : ℕ) (ram : List ℕ) (a : ℕ) (even : a % 8 ≡ 0)
       go false = refl
 
   -- it takes one translation
-  pub one-located : locatedNow c (word_at base ram 8) a 8 Write ≡ onePage a (translateIn (bankNow c) c.privilege (word_at base ram 8) a Write c.tlb)
-  unfolding locatedNow locatedOf
-  one-located = rw (one-page-only (onNow c)) (go (translateIn (bankNow c) c.privilege (word_at base ram 8) a Write c.tlb).answer _ _)
+  pub one-located : located_now c (word_at base ram 8) a 8 Write ≡ one_page a (translate_in (bank_now c) c.privilege (word_at base ram 8) a Write c.tlb)
+  unfolding located_now located_of
+  one-located = rw (one-page-only (on_now c)) (go (translate_in (bank_now c) c.privilege (word_at base ram 8) a Write c.tlb).answer _ _)
     where
-      go : (x : Answer) (y z : Located) → (if goesOn x false then y else z) ≡ z
+      go : (x : Answer) (y z : Located) → (if goes_on x false then y else z) ≡ z
       go (Address pa) y z = refl
       go (Status fault) y z = refl
 
-  one_placed : (locatedNow c (word_at base ram 8) a 8 Write).placed ≡ placedOne a answerFor
-  unfolding translateOf steppedNow
+  one_placed : (located_now c (word_at base ram 8) a 8 Write).placed ≡ placed_one a answer_for
+  unfolding translate_of stepped_now
   one_placed = ap (λ (l : Located). l.placed) one-located
 
-  pub one-tlb : (writeOf c base ram a 8).core.tlb ≡ (translateIn (bankNow c) c.privilege (word_at base ram 8) a Write c.tlb).tlb
-  unfolding writeOf afterAccess
+  pub one-tlb : (write_of c base ram a 8).core.tlb ≡ (translate_in (bank_now c) c.privilege (word_at base ram 8) a Write c.tlb).tlb
+  unfolding write_of after_access
   one-tlb = ap (λ (l : Located). l.tlb) one-located
 
   -- what it does to RAM, by its translation's answer
-  pub one-ram : (pa : ℕ) → answerFor ≡ Address pa → ramAfterWrite c base ram a 8 0 ≡ stored base ram 8 pa 0
-  unfolding ramAfterWrite storeRamEnd storeRam
+  pub one-ram : (pa : ℕ) → answer_for ≡ Address pa → ram_after_write c base ram a 8 0 ≡ stored base ram 8 pa 0
+  unfolding ram_after_write store_ram_end store_ram
   one-ram pa e = rw (one_placed, e)
 
-  pub none-ram : (f : Fault) → answerFor ≡ Status f → ramAfterWrite c base ram a 8 0 ≡ ram
-  unfolding ramAfterWrite storeRamEnd
+  pub none-ram : (f : Fault) → answer_for ≡ Status f → ram_after_write c base ram a 8 0 ≡ ram
+  unfolding ram_after_write store_ram_end
   none-ram f e = rw (one_placed, e)
 
   -- a store that is done has an address, of eight bytes of RAM
-  pub one-done : (writeOf c base ram a 8).answer ≡ Done → (pa : ℕ) × ((answerFor ≡ Address pa) × (within base (length ram) 8 pa ≡ true))
-  unfolding writeOf storeEnd verdictOf
-  one-done = go (locatedNow c (word_at base ram 8) a 8 Write).placed one_placed answerFor refl
+  pub one-done : (write_of c base ram a 8).answer ≡ Done → (pa : ℕ) × ((answer_for ≡ Address pa) × (within base (length ram) 8 pa ≡ true))
+  unfolding write_of store_end verdict_of
+  one-done = go (located_now c (word_at base ram 8) a 8 Write).placed one_placed answer_for refl
     where
-      go : (x : Placed) → x ≡ placedOne a answerFor → (y : Answer) → answerFor ≡ y → (storeEnd x c.abort_pa base ram a 8).answer ≡ Done
-          → (pa : ℕ) × ((answerFor ≡ Address pa) × (within base (length ram) 8 pa ≡ true))
+      go : (x : Placed) → x ≡ placed_one a answer_for → (y : Answer) → answer_for ≡ y → (store_end x c.abort_pa base ram a 8).answer ≡ Done
+          → (pa : ℕ) × ((answer_for ≡ Address pa) × (within base (length ram) 8 pa ≡ true))
       go x p (Status fault) e q =
-          let f : (storeEnd (Placed.Fault a fault) c.abort_pa base ram a 8).answer ≡ Done
-          = ap (λ (w : Placed). (storeEnd w c.abort_pa base ram a 8).answer) (sym (p ∙ ap (placedOne a) e)) ∙ q in
+          let f : (store_end (Placed.Fault a fault) c.abort_pa base ram a 8).answer ≡ Done
+          = ap (λ (w : Placed). (store_end w c.abort_pa base ram a 8).answer) (sym (p ∙ ap (placed_one a) e)) ∙ q in
           let z : ◌≡◌ {A = ℕ} 0 1 = cc in
           absurd (omega arith)
       go x p (Address pa) e q =
-          let f : (storeEnd (At (Whole pa)) c.abort_pa base ram a 8).answer ≡ Done
-          = ap (λ (w : Placed). (storeEnd w c.abort_pa base ram a 8).answer) (sym (p ∙ ap (placedOne a) e)) ∙ q in
+          let f : (store_end (At (Whole pa)) c.abort_pa base ram a 8).answer ≡ Done
+          = ap (λ (w : Placed). (store_end w c.abort_pa base ram a 8).answer) (sym (p ∙ ap (placed_one a) e)) ∙ q in
           (pa, (e, inside (within base (length ram) 8 pa) refl f))
         where
-          inside : (b : Bool) → within base (length ram) 8 pa ≡ b → (storeEnd (At (Whole pa)) c.abort_pa base ram a 8).answer ≡ Done
+          inside : (b : Bool) → within base (length ram) 8 pa ≡ b → (store_end (At (Whole pa)) c.abort_pa base ram a 8).answer ≡ Done
               → within base (length ram) 8 pa ≡ true
           inside true w f = w
           inside false w f = let r = rw w at f in let z : ◌≡◌ {A = ℕ} 0 1 = cc in absurd (omega arith)
@@ -153,107 +153,107 @@ more n h = let k = some_left n h in omega arith
 
 -- no store, one that stops, and one that goes on
 module _ (n : ℕ) (c : Core) (base : ℕ) (ram : List ℕ) (va : ℕ) where
-  pub zero-none : n ≡ 0 → (doneWith c ≡ zero_of n c base ram va) × (ram ≡ zeroRam n c base ram va)
-  unfolding zero_of zeroRam
+  pub zero-none : n ≡ 0 → (done_with c ≡ zero_of n c base ram va) × (ram ≡ zero_ram n c base ram va)
+  unfolding zero_of zero_ram
   zero-none e = (rw e, rw e)
 
-  zero-next : (m : ℕ) → n ≡ suc m → (writeOf c base ram va 8).answer ≡ Done
-      → (zero_of m (writeOf c base ram va 8).core base (ramAfterWrite c base ram va 8 0) (wrap (va + 8)) ≡ zero_of n c base ram va)
-      × (zeroRam m (writeOf c base ram va 8).core base (ramAfterWrite c base ram va 8 0) (wrap (va + 8)) ≡ zeroRam n c base ram va)
-  unfolding zero_of zeroRam
-  zero-next m k e = (rw (k, zero_of, e), rw (k, zeroRam, e))
+  zero-next : (m : ℕ) → n ≡ suc m → (write_of c base ram va 8).answer ≡ Done
+      → (zero_of m (write_of c base ram va 8).core base (ram_after_write c base ram va 8 0) (wrap (va + 8)) ≡ zero_of n c base ram va)
+      × (zero_ram m (write_of c base ram va 8).core base (ram_after_write c base ram va 8 0) (wrap (va + 8)) ≡ zero_ram n c base ram va)
+  unfolding zero_of zero_ram
+  zero-next m k e = (rw (k, zero_of, e), rw (k, zero_ram, e))
 
   module _ (h : n ≡ 0 → ⊥) where
-    pub zero-stops : (s : Stop) → (writeOf c base ram va 8).answer ≡ Stopped s
-        → (writeOf c base ram va 8 ≡ zero_of n c base ram va) × (ramAfterWrite c base ram va 8 0 ≡ zeroRam n c base ram va)
-    unfolding zero_of zeroRam
-    zero-stops s e = (rw (more n h, zero_of, e), rw (more n h, zeroRam, e))
+    pub zero-stops : (s : Stop) → (write_of c base ram va 8).answer ≡ Stopped s
+        → (write_of c base ram va 8 ≡ zero_of n c base ram va) × (ram_after_write c base ram va 8 0 ≡ zero_ram n c base ram va)
+    unfolding zero_of zero_ram
+    zero-stops s e = (rw (more n h, zero_of, e), rw (more n h, zero_ram, e))
 
-    pub zero-goes : (writeOf c base ram va 8).answer ≡ Done
-        → (zero_of (n - 1) (writeOf c base ram va 8).core base (ramAfterWrite c base ram va 8 0) (wrap (va + 8)) ≡ zero_of n c base ram va)
-        × (zeroRam (n - 1) (writeOf c base ram va 8).core base (ramAfterWrite c base ram va 8 0) (wrap (va + 8)) ≡ zeroRam n c base ram va)
+    pub zero-goes : (write_of c base ram va 8).answer ≡ Done
+        → (zero_of (n - 1) (write_of c base ram va 8).core base (ram_after_write c base ram va 8 0) (wrap (va + 8)) ≡ zero_of n c base ram va)
+        × (zero_ram (n - 1) (write_of c base ram va 8).core base (ram_after_write c base ram va 8 0) (wrap (va + 8)) ≡ zero_ram n c base ram va)
     zero-goes e = zero-next (n - 1) (more n h) e
 
 -- the address of store n
-abbrev pub storeVa : ℕ → ℕ → ℕ
-storeVa va zero = va
-storeVa va (suc n) = storeVa (wrap (va + 8)) n
+abbrev pub store_va : ℕ → ℕ → ℕ
+store_va va zero = va
+store_va va (suc n) = store_va (wrap (va + 8)) n
 
 -- which is va + 8 * n where the stores end in the address space
-pub store-va : (n va : ℕ) → va + 8 * n < 2 ^ 64 → storeVa va n ≡ va + 8 * n
+pub store-va : (n va : ℕ) → va + 8 * n < 2 ^ 64 → store_va va n ≡ va + 8 * n
 store-va zero va h = omega arith
 store-va (suc n) va h =
     let w : wrap (va + 8) ≡ va + 8 = mod-eq_of_lt (omega arith) in
-    ap (λ (x : ℕ). storeVa x n) w ∙ store-va n (va + 8) (omega arith) ∙ omega arith
+    ap (λ (x : ℕ). store_va x n) w ∙ store-va n (va + 8) (omega arith) ∙ omega arith
 
 module _ (base : ℕ) where
   abbrev after : ℕ → Core → List ℕ → ℕ → Stored
   after n c ram va = zero_of n c base ram va
 
   abbrev left : ℕ → Core → List ℕ → ℕ → List ℕ
-  left n c ram va = zeroRam n c base ram va
+  left n c ram va = zero_ram n c base ram va
 
   -- n + 1 stores are n, and one more where all of them were done
   pub zero-last : (n : ℕ) (c : Core) (ram : List ℕ) (va : ℕ)
       → after (suc n) c ram va
-      ≡ onStored (after n c ram va).answer (writeOf (after n c ram va).core base (left n c ram va) (storeVa va n) 8) (after n c ram va)
-  unfolding zero_of zeroRam
-  zero-last zero c ram va = go (writeOf c base ram va 8).answer refl
+      ≡ on_stored (after n c ram va).answer (write_of (after n c ram va).core base (left n c ram va) (store_va va n) 8) (after n c ram va)
+  unfolding zero_of zero_ram
+  zero-last zero c ram va = go (write_of c base ram va 8).answer refl
     where
-      go : (x : StoreAnswer) → (writeOf c base ram va 8).answer ≡ x
-          → onStored (writeOf c base ram va 8).answer (doneWith (writeOf c base ram va 8).core) (writeOf c base ram va 8) ≡ writeOf c base ram va 8
+      go : (x : StoreAnswer) → (write_of c base ram va 8).answer ≡ x
+          → on_stored (write_of c base ram va 8).answer (done_with (write_of c base ram va 8).core) (write_of c base ram va 8) ≡ write_of c base ram va 8
       go Done e =
-          ap (λ (y : StoreAnswer). onStored y (doneWith (writeOf c base ram va 8).core) (writeOf c base ram va 8)) e
-          ∙ (λ i. record { core = (writeOf c base ram va 8).core; answer = sym e i })
+          ap (λ (y : StoreAnswer). on_stored y (done_with (write_of c base ram va 8).core) (write_of c base ram va 8)) e
+          ∙ (λ i. record { core = (write_of c base ram va 8).core; answer = sym e i })
       go (Stopped s) e = rw e
   zero-last (suc n) c ram va =
-      go (writeOf c base ram va 8).answer refl (zero-last n (writeOf c base ram va 8).core (ramAfterWrite c base ram va 8 0) (wrap (va + 8)))
+      go (write_of c base ram va 8).answer refl (zero-last n (write_of c base ram va 8).core (ram_after_write c base ram va 8 0) (wrap (va + 8)))
     where
-      go : (x : StoreAnswer) → (writeOf c base ram va 8).answer ≡ x
-          → after (suc n) (writeOf c base ram va 8).core (ramAfterWrite c base ram va 8 0) (wrap (va + 8))
-          ≡ onStored (after n (writeOf c base ram va 8).core (ramAfterWrite c base ram va 8 0) (wrap (va + 8))).answer
-          (writeOf (after n (writeOf c base ram va 8).core (ramAfterWrite c base ram va 8 0) (wrap (va + 8))).core base
-          (left n (writeOf c base ram va 8).core (ramAfterWrite c base ram va 8 0) (wrap (va + 8))) (storeVa (wrap (va + 8)) n) 8)
-          (after n (writeOf c base ram va 8).core (ramAfterWrite c base ram va 8 0) (wrap (va + 8)))
+      go : (x : StoreAnswer) → (write_of c base ram va 8).answer ≡ x
+          → after (suc n) (write_of c base ram va 8).core (ram_after_write c base ram va 8 0) (wrap (va + 8))
+          ≡ on_stored (after n (write_of c base ram va 8).core (ram_after_write c base ram va 8 0) (wrap (va + 8))).answer
+          (write_of (after n (write_of c base ram va 8).core (ram_after_write c base ram va 8 0) (wrap (va + 8))).core base
+          (left n (write_of c base ram va 8).core (ram_after_write c base ram va 8 0) (wrap (va + 8))) (store_va (wrap (va + 8)) n) 8)
+          (after n (write_of c base ram va 8).core (ram_after_write c base ram va 8 0) (wrap (va + 8)))
           → after (suc (suc n)) c ram va
-          ≡ onStored (after (suc n) c ram va).answer
-          (writeOf (after (suc n) c ram va).core base (left (suc n) c ram va) (storeVa va (suc n)) 8) (after (suc n) c ram va)
+          ≡ on_stored (after (suc n) c ram va).answer
+          (write_of (after (suc n) c ram va).core base (left (suc n) c ram va) (store_va va (suc n)) 8) (after (suc n) c ram va)
       go Done e ih = rw e ih
       go (Stopped s) e ih = rw e
 
   pub zero-ram-last : (n : ℕ) (c : Core) (ram : List ℕ) (va : ℕ)
       → left (suc n) c ram va
-      ≡ onStored (after n c ram va).answer (ramAfterWrite (after n c ram va).core base (left n c ram va) (storeVa va n) 8 0) (left n c ram va)
-  unfolding zero_of zeroRam
-  zero-ram-last zero c ram va = go (writeOf c base ram va 8).answer
+      ≡ on_stored (after n c ram va).answer (ram_after_write (after n c ram va).core base (left n c ram va) (store_va va n) 8 0) (left n c ram va)
+  unfolding zero_of zero_ram
+  zero-ram-last zero c ram va = go (write_of c base ram va 8).answer
     where
-      go : (x : StoreAnswer) → onStored x (ramAfterWrite c base ram va 8 0) (ramAfterWrite c base ram va 8 0) ≡ ramAfterWrite c base ram va 8 0
+      go : (x : StoreAnswer) → on_stored x (ram_after_write c base ram va 8 0) (ram_after_write c base ram va 8 0) ≡ ram_after_write c base ram va 8 0
       go Done = refl
       go (Stopped s) = refl
   zero-ram-last (suc n) c ram va =
-      go (writeOf c base ram va 8).answer refl (zero-ram-last n (writeOf c base ram va 8).core (ramAfterWrite c base ram va 8 0) (wrap (va + 8)))
+      go (write_of c base ram va 8).answer refl (zero-ram-last n (write_of c base ram va 8).core (ram_after_write c base ram va 8 0) (wrap (va + 8)))
     where
-      go : (x : StoreAnswer) → (writeOf c base ram va 8).answer ≡ x
-          → left (suc n) (writeOf c base ram va 8).core (ramAfterWrite c base ram va 8 0) (wrap (va + 8))
-          ≡ onStored (after n (writeOf c base ram va 8).core (ramAfterWrite c base ram va 8 0) (wrap (va + 8))).answer
-          (ramAfterWrite (after n (writeOf c base ram va 8).core (ramAfterWrite c base ram va 8 0) (wrap (va + 8))).core base
-          (left n (writeOf c base ram va 8).core (ramAfterWrite c base ram va 8 0) (wrap (va + 8))) (storeVa (wrap (va + 8)) n) 8 0)
-          (left n (writeOf c base ram va 8).core (ramAfterWrite c base ram va 8 0) (wrap (va + 8)))
+      go : (x : StoreAnswer) → (write_of c base ram va 8).answer ≡ x
+          → left (suc n) (write_of c base ram va 8).core (ram_after_write c base ram va 8 0) (wrap (va + 8))
+          ≡ on_stored (after n (write_of c base ram va 8).core (ram_after_write c base ram va 8 0) (wrap (va + 8))).answer
+          (ram_after_write (after n (write_of c base ram va 8).core (ram_after_write c base ram va 8 0) (wrap (va + 8))).core base
+          (left n (write_of c base ram va 8).core (ram_after_write c base ram va 8 0) (wrap (va + 8))) (store_va (wrap (va + 8)) n) 8 0)
+          (left n (write_of c base ram va 8).core (ram_after_write c base ram va 8 0) (wrap (va + 8)))
           → left (suc (suc n)) c ram va
-          ≡ onStored (after (suc n) c ram va).answer
-          (ramAfterWrite (after (suc n) c ram va).core base (left (suc n) c ram va) (storeVa va (suc n)) 8 0) (left (suc n) c ram va)
+          ≡ on_stored (after (suc n) c ram va).answer
+          (ram_after_write (after (suc n) c ram va).core base (left (suc n) c ram va) (store_va va (suc n)) 8 0) (left (suc n) c ram va)
       go Done e ih = rw e ih
       go (Stopped s) e ih = rw e
 
   -- where n + 1 are done, n are, and the last is
   pub zero-done : (n : ℕ) (c : Core) (ram : List ℕ) (va : ℕ) → (after (suc n) c ram va).answer ≡ Done
-      → ((after n c ram va).answer ≡ Done) × ((writeOf (after n c ram va).core base (left n c ram va) (storeVa va n) 8).answer ≡ Done)
+      → ((after n c ram va).answer ≡ Done) × ((write_of (after n c ram va).core base (left n c ram va) (store_va va n) 8).answer ≡ Done)
   zero-done n c ram va e = go (after n c ram va).answer refl (ap (λ (r : Stored). r.answer) (sym (zero-last n c ram va)) ∙ e)
     where
       last : Stored
-      last = writeOf (after n c ram va).core base (left n c ram va) (storeVa va n) 8
+      last = write_of (after n c ram va).core base (left n c ram va) (store_va va n) 8
 
-      go : (x : StoreAnswer) → (after n c ram va).answer ≡ x → (onStored (after n c ram va).answer last (after n c ram va)).answer ≡ Done
+      go : (x : StoreAnswer) → (after n c ram va).answer ≡ x → (on_stored (after n c ram va).answer last (after n c ram va)).answer ≡ Done
           → ((after n c ram va).answer ≡ Done) × (last.answer ≡ Done)
       go Done q f = (q, rw q at f)
       go (Stopped s) q f =

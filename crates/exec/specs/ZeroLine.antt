@@ -10,15 +10,15 @@ use Rattle.word.specs.RamLaws.{within_low, within-high, written_next}
 use Rattle.tlb.specs.declared.access.Kind.TheVariants.{Write}
 use Rattle.tlb.specs.declared.{access.Answer.Answer, Tlb.Tlb}
 use Rattle.tlb.specs.declared.access.Answer.TheVariants.{Address}
-use Rattle.mmu.specs.Core.{afterAccess, bankNow}
-use Rattle.operations.specs.Place.{placedOne, verdictOf}
-use Rattle.operations.specs.Ends.{storeEnd}
-use Rattle.mmu.specs.Step.{translateIn}
-use Rattle.mmu.specs.Ops.{steppedNow, translateOf, storedBy, writeAfter, writeOf, ramAfterWrite}
+use Rattle.mmu.specs.Core.{after_access, bank_now}
+use Rattle.operations.specs.Place.{placed_one, verdict_of}
+use Rattle.operations.specs.Ends.{store_end}
+use Rattle.mmu.specs.Step.{translate_in}
+use Rattle.mmu.specs.Ops.{stepped_now, translate_of, stored_by, write_after, write_of, ram_after_write}
 use Rattle.operations.specs.BytesLaws.{stored-length}
 use Rattle.mmu.specs.declared.core_state.Core.{Core}
-use Rattle.exec.specs.Sys.{doneWith, onStored, zero_of, zeroRam}
-use Rattle.exec.specs.ZeroLaws.{one-located, one-ram, storeVa, store-va}
+use Rattle.exec.specs.Sys.{done_with, on_stored, zero_of, zero_ram}
+use Rattle.exec.specs.ZeroLaws.{one-located, one-ram, store_va, store-va}
 
 -- a translation that answers and changes nothing
 abbrev pub addressed : Core → ℕ → Translated
@@ -33,29 +33,29 @@ module _ (base : ℕ) (ram : List ℕ) (n pa : ℕ) (low : base ≤ pa) (high : 
   stored-inside = rw inside
 
 -- one store of eight zero bytes
-module _ (c : Core) (base : ℕ) (ram : List ℕ) (a pa : ℕ) (even : a % 8 ≡ 0) (t : translateOf c (word_at base ram 8) a Write ≡ addressed c pa)
+module _ (c : Core) (base : ℕ) (ram : List ℕ) (a pa : ℕ) (even : a % 8 ≡ 0) (t : translate_of c (word_at base ram 8) a Write ≡ addressed c pa)
     (w : within base (length ram) 8 pa ≡ true) where
   abbrev step : Stepped
-  step = translateIn (bankNow c) c.privilege (word_at base ram 8) a Write c.tlb
+  step = translate_in (bank_now c) c.privilege (word_at base ram 8) a Write c.tlb
 
   its-answer : step.answer ≡ Address pa
-  unfolding translateOf steppedNow
+  unfolding translate_of stepped_now
   its-answer = ap (λ (x : Translated). x.answer) t
 
   its-tlb : step.tlb ≡ c.tlb
-  unfolding translateOf steppedNow afterAccess
+  unfolding translate_of stepped_now after_access
   its-tlb = ap (λ (x : Translated). x.core.tlb) t
 
-  put : storedBy c c.tlb (storeEnd (placedOne a (Address pa)) c.abort_pa base ram a 8) ≡ doneWith c
-  unfolding storeEnd verdictOf afterAccess
+  put : stored_by c c.tlb (store_end (placed_one a (Address pa)) c.abort_pa base ram a 8) ≡ done_with c
+  unfolding store_end verdict_of after_access
   put = rw w
 
-  pub write-steady : writeOf c base ram a 8 ≡ doneWith c
-  unfolding writeOf
+  pub write-steady : write_of c base ram a 8 ≡ done_with c
+  unfolding write_of
   write-steady =
-      ap (λ (x : Located). writeAfter c x base ram a 8) (one-located c base ram a even)
-      ∙ ap (λ (x : Tlb). storedBy c x (storeEnd (placedOne a step.answer) c.abort_pa base ram a 8)) its-tlb
-      ∙ ap (λ (x : Answer). storedBy c c.tlb (storeEnd (placedOne a x) c.abort_pa base ram a 8)) its-answer
+      ap (λ (x : Located). write_after c x base ram a 8) (one-located c base ram a even)
+      ∙ ap (λ (x : Tlb). stored_by c x (store_end (placed_one a step.answer) c.abort_pa base ram a 8)) its-tlb
+      ∙ ap (λ (x : Answer). stored_by c c.tlb (store_end (placed_one a x) c.abort_pa base ram a 8)) its-answer
       ∙ put
 
 -- zeros after zeros
@@ -96,24 +96,24 @@ stored-join base ram m n pa low high =
 -- store after store
 module _ (base : ℕ) (c : Core) where
   abbrev Steady : ℕ → ℕ → ℕ → Type 0
-  Steady n va pa = (memory : ℕ → Option ℕ) (j : ℕ) → j < n → translateOf c memory (storeVa va j) Write ≡ addressed c (pa + 8 * j)
+  Steady n va pa = (memory : ℕ → Option ℕ) (j : ℕ) → j < n → translate_of c memory (store_va va j) Write ≡ addressed c (pa + 8 * j)
 
-  steady-from : (n : ℕ) (ram : List ℕ) (va pa : ℕ) → ((j : ℕ) → j < n → storeVa va j % 8 ≡ 0) → base ≤ pa → pa + 8 * n ≤ base + length ram → Steady n va pa
-      → (zero_of n c base ram va ≡ doneWith c) × (zeroRam n c base ram va ≡ stored base ram (8 * n) pa 0)
-  unfolding zero_of zeroRam
+  steady-from : (n : ℕ) (ram : List ℕ) (va pa : ℕ) → ((j : ℕ) → j < n → store_va va j % 8 ≡ 0) → base ≤ pa → pa + 8 * n ≤ base + length ram → Steady n va pa
+      → (zero_of n c base ram va ≡ done_with c) × (zero_ram n c base ram va ≡ stored base ram (8 * n) pa 0)
+  unfolding zero_of zero_ram
   steady-from zero ram va pa even low high t = (refl, sym (stored-inside base ram 0 pa low (omega arith) ∙ written_none ram (pa - base) 0))
   steady-from (suc n) ram va pa even low high t =
       let p : pa + 8 * 0 ≡ pa = omega arith in
-      let t0 : translateOf c (word_at base ram 8) va Write ≡ addressed c pa = t (word_at base ram 8) 0 (omega arith) ∙ ap (addressed c) p in
+      let t0 : translate_of c (word_at base ram 8) va Write ≡ addressed c pa = t (word_at base ram 8) 0 (omega arith) ∙ ap (addressed c) p in
       let e0 : va % 8 ≡ 0 = even 0 (omega arith) in
-      let w : writeOf c base ram va 8 ≡ doneWith c = write-steady c base ram va pa e0 t0 (inside base ram 8 pa low (omega arith)) in
-      let r : ramAfterWrite c base ram va 8 0 ≡ stored base ram 8 pa 0 = one-ram c base ram va e0 pa (ap (λ (x : Translated). x.answer) t0) in
+      let w : write_of c base ram va 8 ≡ done_with c = write-steady c base ram va pa e0 t0 (inside base ram 8 pa low (omega arith)) in
+      let r : ram_after_write c base ram va 8 0 ≡ stored base ram 8 pa 0 = one-ram c base ram va e0 pa (ap (λ (x : Translated). x.answer) t0) in
       let l = stored-length base ram 8 pa 0 in
       let ih = steady-from n (stored base ram 8 pa 0) (wrap (va + 8)) (pa + 8) (λ j h. even (suc j) (omega arith)) (omega arith) (omega arith)
       (λ memory j h. let q : pa + 8 * suc j ≡ pa + 8 + 8 * j = omega arith in t memory (suc j) (omega arith) ∙ ap (addressed c) q) in
       let d : 8 * suc n ≡ 8 + 8 * n = omega arith in (
-        (λ i. onStored (w i).answer (zero_of n (w i).core base (r i) (wrap (va + 8))) (w i)) ∙ ih.0,
-        (λ i. onStored (w i).answer (zeroRam n (w i).core base (r i) (wrap (va + 8))) (ramAfterWrite c base ram va 8 0))
+        (λ i. on_stored (w i).answer (zero_of n (w i).core base (r i) (wrap (va + 8))) (w i)) ∙ ih.0,
+        (λ i. on_stored (w i).answer (zero_ram n (w i).core base (r i) (wrap (va + 8))) (ram_after_write c base ram va 8 0))
             ∙ ih.1
             ∙ stored-join base ram 8 (8 * n) pa low (omega arith)
             ∙ ap (λ (k : ℕ). stored base ram k pa 0) (sym d),
@@ -121,10 +121,10 @@ module _ (base : ℕ) (c : Core) where
 
   -- n stores from va, an address of eight bytes, in the address space
   pub zero-steady : (n : ℕ) (ram : List ℕ) (va pa : ℕ) → va % 8 ≡ 0 → va + 8 * n ≤ 2 ^ 64 → within base (length ram) (8 * n) pa ≡ true
-      → ((memory : ℕ → Option ℕ) (j : ℕ) → j < n → translateOf c memory (va + 8 * j) Write ≡ addressed c (pa + 8 * j))
-      → (zero_of n c base ram va ≡ doneWith c) × (zeroRam n c base ram va ≡ stored base ram (8 * n) pa 0)
+      → ((memory : ℕ → Option ℕ) (j : ℕ) → j < n → translate_of c memory (va + 8 * j) Write ≡ addressed c (pa + 8 * j))
+      → (zero_of n c base ram va ≡ done_with c) × (zero_ram n c base ram va ≡ stored base ram (8 * n) pa 0)
   zero-steady n ram va pa even room w t =
       let low = within_low base (length ram) (8 * n) pa w in
       let high = within-high base (length ram) (8 * n) pa w in
       steady-from n ram va pa (λ j h. ap (λ (x : ℕ). x % 8) (store-va j va (omega arith)) ∙ omega arith) low high
-      (λ memory j h. ap (λ (x : ℕ). translateOf c memory x Write) (store-va j va (omega arith)) ∙ t memory j h)
+      (λ memory j h. ap (λ (x : ℕ). translate_of c memory x Write) (store-va j va (omega arith)) ∙ t memory j h)

@@ -7,96 +7,96 @@ use Rattle.std.proofs.Math.Path.{refl, ap, subst}
 use Rattle.std.proofs.Common.{sym, ◌∙◌}
 use native.Mathlib.Omega.{arith}
 use borrow.Author.Tests.{ltb-true, ltb-false, le-leb}
-use Rattle.word.specs.Bits.{alignDown}
+use Rattle.word.specs.Bits.{align_down}
 use Rattle.word.specs.Ram.{within, word_at, stored}
 use Rattle.sysop.specs.declared.op.SysOp.TheVariants.{Zva}
-use Rattle.walk.specs.Regime.{bankOf, regimeOf}
+use Rattle.walk.specs.Regime.{bank_of, regime_of}
 use Rattle.tlb.specs.Live.{WellFormed}
 use Rattle.tlb.specs.declared.access.Kind.TheVariants.{Write}
 use Rattle.tlb.specs.declared.{access.Answer.Answer, Tlb.Tlb}
 use Rattle.tlb.specs.declared.access.Answer.TheVariants.{Address, Status}
-use Rattle.mmu.specs.Core.{bankNow, reg_of}
+use Rattle.mmu.specs.Core.{bank_now, reg_of}
 use Rattle.operations.specs.BytesLaws.{stored-leaves}
 use Rattle.mmu.specs.PageLaws.{step-offset}
 use Rattle.mmu.specs.PageGiven.{Gives, gives-page, given, step_gives}
-use Rattle.mmu.specs.Step.{translateIn}
-use Rattle.mmu.specs.Ops.{steppedNow, translateOf, writeOf, ramAfterWrite}
-use Rattle.mmu.specs.Bare.{Bare, bareOf}
+use Rattle.mmu.specs.Step.{translate_in}
+use Rattle.mmu.specs.Ops.{stepped_now, translate_of, write_of, ram_after_write}
+use Rattle.mmu.specs.Bare.{Bare, bare_of}
 use Rattle.mmu.specs.OpLaws.{store as storing, kept, ram-length}
 use Rattle.mmu.specs.declared.core_state.Core.{Core}
 use Rattle.operations.specs.declared.ends.StoreAnswer.{StoreAnswer}
 use Rattle.operations.specs.declared.ends.StoreAnswer.TheVariants.{Done, Stopped}
-use Rattle.exec.specs.Sys.{onStored, zero_of, zeroRam, op_of, sysOf, sysRam}
+use Rattle.exec.specs.Sys.{on_stored, zero_of, zero_ram, op_of, sys_of, sys_ram}
 use Rattle.word.specs.RamLaws.{within_low, within-high}
-use Rattle.exec.specs.ZeroLaws.{one-ram, none-ram, one-done, one-tlb, zeros-there, zeros-stay, storeVa, store-va, zero-last, zero-ram-last, zero-done}
+use Rattle.exec.specs.ZeroLaws.{one-ram, none-ram, one-done, one-tlb, zeros-there, zeros-stay, store_va, store-va, zero-last, zero-ram-last, zero-done}
 
 -- the translation that store j makes: of its own address, in the core and the RAM that the stores before it leave
-abbrev pub storeAnswer : Core → ℕ → List ℕ → ℕ → ℕ → Answer
-storeAnswer c base ram va j =
-    (translateOf (zero_of j c base ram va).core (word_at base (zeroRam j c base ram va) 8) (va + 8 * j) Write).answer
+abbrev pub store_answer : Core → ℕ → List ℕ → ℕ → ℕ → Answer
+store_answer c base ram va j =
+    (translate_of (zero_of j c base ram va).core (word_at base (zero_ram j c base ram va) 8) (va + 8 * j) Write).answer
 
 -- of the first store, in the core and RAM as they stand
-pub first-answer : (c : Core) (base : ℕ) (ram : List ℕ) (va : ℕ) → storeAnswer c base ram va 0 ≡ (translateOf c (word_at base ram 8) va Write).answer
-unfolding zero_of zeroRam
-first-answer c base ram va = ap (λ (a : ℕ). (translateOf c (word_at base ram 8) a Write).answer) (omega arith)
+pub first-answer : (c : Core) (base : ℕ) (ram : List ℕ) (va : ℕ) → store_answer c base ram va 0 ≡ (translate_of c (word_at base ram 8) va Write).answer
+unfolding zero_of zero_ram
+first-answer c base ram va = ap (λ (a : ℕ). (translate_of c (word_at base ram 8) a Write).answer) (omega arith)
 
 -- store j of n: where its translation says, eight bytes of RAM that are zero in the end
 pub record StoreZeros (c : Core) (base : ℕ) (ram : List ℕ) (va n j : ℕ) : Type 0 where
   pub pa : ℕ
-  pub answer : storeAnswer c base ram va j ≡ Address pa
+  pub answer : store_answer c base ram va j ≡ Address pa
   pub inside : within base (length ram) 8 pa ≡ true
-  pub zeros : (i : ℕ) → i < 8 → slice_index (zeroRam n c base ram va) (pa + i - base) ≡ 0
+  pub zeros : (i : ℕ) → i < 8 → slice_index (zero_ram n c base ram va) (pa + i - base) ≡ 0
 
 -- EACH STORE BY ITS OWN TRANSLATION
 
 module _ (c : Core) (base : ℕ) (ram : List ℕ) (va : ℕ) (even : va % 8 ≡ 0) where
-  abbrev coreAt : ℕ → Core
-  coreAt n = (zero_of n c base ram va).core
+  abbrev core_at : ℕ → Core
+  core_at n = (zero_of n c base ram va).core
 
-  abbrev ramAt : ℕ → List ℕ
-  ramAt n = zeroRam n c base ram va
+  abbrev ram_at : ℕ → List ℕ
+  ram_at n = zero_ram n c base ram va
 
   -- RAM keeps its length
-  pub zero-length : (n : ℕ) → length (ramAt n) ≡ length ram
-  unfolding zeroRam
+  pub zero-length : (n : ℕ) → length (ram_at n) ≡ length ram
+  unfolding zero_ram
   zero-length zero = refl
   zero-length (suc n) = ap length (zero-ram-last base n c ram va) ∙ go (zero_of n c base ram va).answer ∙ zero-length n
     where
-      go : (x : StoreAnswer) → length (onStored x (ramAfterWrite (coreAt n) base (ramAt n) (storeVa va n) 8 0) (ramAt n)) ≡ length (ramAt n)
-      go Done = ram-length (coreAt n) base (ramAt n) (storing (storeVa va n) 8 0)
+      go : (x : StoreAnswer) → length (on_stored x (ram_after_write (core_at n) base (ram_at n) (store_va va n) 8 0) (ram_at n)) ≡ length (ram_at n)
+      go Done = ram-length (core_at n) base (ram_at n) (storing (store_va va n) 8 0)
       go (Stopped s) = refl
 
   module _ (n : ℕ) (room : va + 8 * suc n ≤ 2 ^ 64) where
-    here : storeVa va n ≡ va + 8 * n
+    here : store_va va n ≡ va + 8 * n
     here = store-va n va (omega arith)
 
     even-here : (va + 8 * n) % 8 ≡ 0
     even-here = omega arith
 
     -- what n + 1 stores leave
-    ram-then : (zero_of n c base ram va).answer ≡ Done → ramAt (suc n) ≡ ramAfterWrite (coreAt n) base (ramAt n) (va + 8 * n) 8 0
+    ram-then : (zero_of n c base ram va).answer ≡ Done → ram_at (suc n) ≡ ram_after_write (core_at n) base (ram_at n) (va + 8 * n) 8 0
     ram-then e =
         zero-ram-last base n c ram va
-        ∙ ap (λ (x : StoreAnswer). onStored x (ramAfterWrite (coreAt n) base (ramAt n) (storeVa va n) 8 0) (ramAt n)) e
-        ∙ ap (λ (a : ℕ). ramAfterWrite (coreAt n) base (ramAt n) a 8 0) here
+        ∙ ap (λ (x : StoreAnswer). on_stored x (ram_after_write (core_at n) base (ram_at n) (store_va va n) 8 0) (ram_at n)) e
+        ∙ ap (λ (a : ℕ). ram_after_write (core_at n) base (ram_at n) a 8 0) here
 
-    last_done : (zero_of (suc n) c base ram va).answer ≡ Done → (writeOf (coreAt n) base (ramAt n) (va + 8 * n) 8).answer ≡ Done
-    last_done e = ap (λ (a : ℕ). (writeOf (coreAt n) base (ramAt n) a 8).answer) (sym here) ∙ (zero-done base n c ram va e).1
+    last_done : (zero_of (suc n) c base ram va).answer ≡ Done → (write_of (core_at n) base (ram_at n) (va + 8 * n) 8).answer ≡ Done
+    last_done e = ap (λ (a : ℕ). (write_of (core_at n) base (ram_at n) a 8).answer) (sym here) ∙ (zero-done base n c ram va e).1
 
     record Last : Type 0 where
       pa : ℕ
-      answer : storeAnswer c base ram va n ≡ Address pa
-      inside : within base (length (ramAt n)) 8 pa ≡ true
-      after : ramAt (suc n) ≡ stored base (ramAt n) 8 pa 0
+      answer : store_answer c base ram va n ≡ Address pa
+      inside : within base (length (ram_at n)) 8 pa ≡ true
+      after : ram_at (suc n) ≡ stored base (ram_at n) 8 pa 0
 
     last-store : (zero_of (suc n) c base ram va).answer ≡ Done → Last
     last-store e =
-        let o = one-done (coreAt n) base (ramAt n) (va + 8 * n) even-here (last_done e) in
+        let o = one-done (core_at n) base (ram_at n) (va + 8 * n) even-here (last_done e) in
         record {
           pa = o.0;
           answer = o.1.0;
           inside = o.1.1;
-          after = ram-then (zero-done base n c ram va e).0 ∙ one-ram (coreAt n) base (ramAt n) (va + 8 * n) even-here o.0 o.1.0;
+          after = ram-then (zero-done base n c ram va e).0 ∙ one-ram (core_at n) base (ram_at n) (va + 8 * n) even-here o.0 o.1.0;
         }
 
   -- every store of a zeroing that is done: its eight bytes are zero in the end
@@ -115,7 +115,7 @@ module _ (c : Core) (base : ℕ) (ram : List ℕ) (va : ℕ) (even : va % 8 ≡ 
             inside = z.inside;
             zeros = λ i k.
                 ap (λ (m : List ℕ). slice_index m (z.pa + i - base)) l.after
-                ∙ zeros-stay base (ramAt n) 8 l.pa (z.pa + i - base) (z.zeros i k);
+                ∙ zeros-stay base (ram_at n) 8 l.pa (z.pa + i - base) (z.zeros i k);
           }
       go false q earlier =
           let l = last-store n room e in
@@ -123,44 +123,44 @@ module _ (c : Core) (base : ℕ) (ram : List ℕ) (va : ℕ) (even : va % 8 ≡ 
           let same : j ≡ n = omega arith in
           record {
             pa = l.pa;
-            answer = ap (storeAnswer c base ram va) same ∙ l.answer;
+            answer = ap (store_answer c base ram va) same ∙ l.answer;
             inside = ap (λ (m : ℕ). within base m 8 l.pa) (sym (zero-length n)) ∙ l.inside;
-            zeros = λ i k. ap (λ (m : List ℕ). slice_index m (l.pa + i - base)) l.after ∙ zeros-there base (ramAt n) 8 l.pa l.inside i k;
+            zeros = λ i k. ap (λ (m : List ℕ). slice_index m (l.pa + i - base)) l.after ∙ zeros-there base (ram_at n) 8 l.pa l.inside i k;
           }
 
   -- a byte of RAM that no store's translation reaches is as it was, whether the zeroing is done or stops
   pub zero-others : (n k : ℕ) → va + 8 * n ≤ 2 ^ 64
-      → ((j pa i : ℕ) → j < n → i < 8 → storeAnswer c base ram va j ≡ Address pa → base + k ≢ pa + i)
-      → slice_index (ramAt n) k ≡ slice_index ram k
-  unfolding zeroRam
+      → ((j pa i : ℕ) → j < n → i < 8 → store_answer c base ram va j ≡ Address pa → base + k ≢ pa + i)
+      → slice_index (ram_at n) k ≡ slice_index ram k
+  unfolding zero_ram
   zero-others zero k room none = refl
   zero-others (suc n) k room none = go (zero_of n c base ram va).answer refl ∙ zero-others n k (omega arith) (λ j pa i h. none j pa i (omega arith))
     where
-      store : (x : Answer) → storeAnswer c base ram va n ≡ x → slice_index (ramAfterWrite (coreAt n) base (ramAt n) (va + 8 * n) 8 0) k ≡ slice_index (ramAt n) k
+      store : (x : Answer) → store_answer c base ram va n ≡ x → slice_index (ram_after_write (core_at n) base (ram_at n) (va + 8 * n) 8 0) k ≡ slice_index (ram_at n) k
       store (Address pa) e =
-          ap (λ (m : List ℕ). slice_index m k) (one-ram (coreAt n) base (ramAt n) (va + 8 * n) (even-here n room) pa e)
-          ∙ stored-leaves base (ramAt n) 8 pa 0 k (λ i h. none n pa i (omega arith) h e)
-      store (Status fault) e = ap (λ (m : List ℕ). slice_index m k) (none-ram (coreAt n) base (ramAt n) (va + 8 * n) (even-here n room) fault e)
+          ap (λ (m : List ℕ). slice_index m k) (one-ram (core_at n) base (ram_at n) (va + 8 * n) (even-here n room) pa e)
+          ∙ stored-leaves base (ram_at n) 8 pa 0 k (λ i h. none n pa i (omega arith) h e)
+      store (Status fault) e = ap (λ (m : List ℕ). slice_index m k) (none-ram (core_at n) base (ram_at n) (va + 8 * n) (even-here n room) fault e)
 
-      go : (x : StoreAnswer) → (zero_of n c base ram va).answer ≡ x → slice_index (ramAt (suc n)) k ≡ slice_index (ramAt n) k
+      go : (x : StoreAnswer) → (zero_of n c base ram va).answer ≡ x → slice_index (ram_at (suc n)) k ≡ slice_index (ram_at n) k
       go Done e = ap (λ (m : List ℕ). slice_index m k) (ram-then n room e) ∙ store _ refl
       go (Stopped s) e =
           ap (λ (m : List ℕ). slice_index m k) (zero-ram-last base n c ram va
-          ∙ ap (λ (x : StoreAnswer). onStored x (ramAfterWrite (coreAt n) base (ramAt n) (storeVa va n) 8 0) (ramAt n)) e)
+          ∙ ap (λ (x : StoreAnswer). on_stored x (ram_after_write (core_at n) base (ram_at n) (store_va va n) 8 0) (ram_at n)) e)
 
 -- THE EIGHT AGREE
 
 -- a store leaves level, mark and registers
 module _ (c : Core) (base : ℕ) (ram : List ℕ) (va : ℕ) where
-  bare-kept : (n : ℕ) → bareOf (zero_of n c base ram va).core ≡ bareOf c
+  bare-kept : (n : ℕ) → bare_of (zero_of n c base ram va).core ≡ bare_of c
   unfolding zero_of
   bare-kept zero = refl
-  bare-kept (suc n) = ap (λ (r : Stored). bareOf r.core) (zero-last base n c ram va) ∙ go (zero_of n c base ram va).answer ∙ bare-kept n
+  bare-kept (suc n) = ap (λ (r : Stored). bare_of r.core) (zero-last base n c ram va) ∙ go (zero_of n c base ram va).answer ∙ bare-kept n
     where
       go : (x : StoreAnswer)
-          → bareOf (onStored x (writeOf (zero_of n c base ram va).core base (zeroRam n c base ram va) (storeVa va n) 8) (zero_of n c base ram va)).core
-          ≡ bareOf (zero_of n c base ram va).core
-      go Done = kept (zero_of n c base ram va).core base (zeroRam n c base ram va) (storing (storeVa va n) 8 0)
+          → bare_of (on_stored x (write_of (zero_of n c base ram va).core base (zero_ram n c base ram va) (store_va va n) 8) (zero_of n c base ram va)).core
+          ≡ bare_of (zero_of n c base ram va).core
+      go Done = kept (zero_of n c base ram va).core base (zero_ram n c base ram va) (storing (store_va va n) 8 0)
       go (Stopped s) = refl
 
   -- where n stores are done, fewer are
@@ -175,59 +175,59 @@ module _ (c : Core) (base : ℕ) (ram : List ℕ) (va : ℕ) where
 
 -- a store to a page whose frame the cache gives
 module _ (c d : Core) (base : ℕ) (ram : List ℕ) (va pa a : ℕ) (ew : d.privilege ≡ c.privilege) (ec : d.control ≡ c.control)
-    (g : Gives (bankNow c) c.privilege Write va pa d.tlb.cache) (same : va / 4096 ≡ a / 4096) (even : a % 8 ≡ 0) where
-  again : ((translateOf d (word_at base ram 8) a Write).answer ≡ Address (pa / 4096 * 4096 + a % 4096))
-      × ((writeOf d base ram a 8).core.tlb.cache ≡ d.tlb.cache)
-  unfolding translateOf steppedNow
+    (g : Gives (bank_now c) c.privilege Write va pa d.tlb.cache) (same : va / 4096 ≡ a / 4096) (even : a % 8 ≡ 0) where
+  again : ((translate_of d (word_at base ram 8) a Write).answer ≡ Address (pa / 4096 * 4096 + a % 4096))
+      × ((write_of d base ram a 8).core.tlb.cache ≡ d.tlb.cache)
+  unfolding translate_of stepped_now
   again =
-      let q = given (bankNow c) c.privilege Write (word_at base ram 8) d.tlb a pa (gives-page (bankNow c) c.privilege Write a same g) in (
-        (λ i. (translateIn (bankOf (ec i) (regimeOf (ew i).level)) (ew i) (word_at base ram 8) a Write d.tlb).answer) ∙ q.0,
+      let q = given (bank_now c) c.privilege Write (word_at base ram 8) d.tlb a pa (gives-page (bank_now c) c.privilege Write a same g) in (
+        (λ i. (translate_in (bank_of (ec i) (regime_of (ew i).level)) (ew i) (word_at base ram 8) a Write d.tlb).answer) ∙ q.0,
         ap (λ (t : Tlb). t.cache) (one-tlb d base ram a even)
-            ∙ (λ i. (translateIn (bankOf (ec i) (regimeOf (ew i).level)) (ew i) (word_at base ram 8) a Write d.tlb).tlb.cache)
+            ∙ (λ i. (translate_in (bank_of (ec i) (regime_of (ew i).level)) (ew i) (word_at base ram 8) a Write d.tlb).tlb.cache)
             ∙ q.1,
       )
 
 module _ (c : Core) (base : ℕ) (ram : List ℕ) (va pa : ℕ) (well : WellFormed c.tlb) (line : va % 64 ≡ 0) (room : va + 64 ≤ 2 ^ 64)
-    (first : (translateOf c (word_at base ram 8) va Write).answer ≡ Address pa) where
+    (first : (translate_of c (word_at base ram 8) va Write).answer ≡ Address pa) where
   offset : pa % 4096 ≡ va % 4096
-  unfolding translateOf steppedNow
-  offset = step-offset (bankNow c) c.privilege (word_at base ram 8) Write c.tlb well va pa first
+  unfolding translate_of stepped_now
+  offset = step-offset (bank_now c) c.privilege (word_at base ram 8) Write c.tlb well va pa first
 
-  begins : Gives (bankNow c) c.privilege Write va pa (writeOf c base ram va 8).core.tlb.cache
-  unfolding translateOf steppedNow
-  begins = rw (one-tlb c base ram va (omega arith)) (step_gives (bankNow c) c.privilege Write (word_at base ram 8) c.tlb va well pa first)
+  begins : Gives (bank_now c) c.privilege Write va pa (write_of c base ram va 8).core.tlb.cache
+  unfolding translate_of stepped_now
+  begins = rw (one-tlb c base ram va (omega arith)) (step_gives (bank_now c) c.privilege Write (word_at base ram 8) c.tlb va well pa first)
 
   record Agrees (n : ℕ) : Type 0 where
-    answer : storeAnswer c base ram va n ≡ Address (pa + 8 * n)
-    gives : Gives (bankNow c) c.privilege Write va pa (zero_of (suc n) c base ram va).core.tlb.cache
+    answer : store_answer c base ram va n ≡ Address (pa + 8 * n)
+    gives : Gives (bank_now c) c.privilege Write va pa (zero_of (suc n) c base ram va).core.tlb.cache
 
   -- the core after one store more
   core-then : (n : ℕ) → n < 8 → (zero_of n c base ram va).answer ≡ Done
-      → (zero_of (suc n) c base ram va).core ≡ (writeOf (zero_of n c base ram va).core base (zeroRam n c base ram va) (va + 8 * n) 8).core
+      → (zero_of (suc n) c base ram va).core ≡ (write_of (zero_of n c base ram va).core base (zero_ram n c base ram va) (va + 8 * n) 8).core
   core-then n h e =
       ap (λ (r : Stored). r.core) (zero-last base n c ram va)
-      ∙ ap (λ (x : StoreAnswer). (onStored x (writeOf (zero_of n c base ram va).core base (zeroRam n c base ram va) (storeVa va n) 8)
+      ∙ ap (λ (x : StoreAnswer). (on_stored x (write_of (zero_of n c base ram va).core base (zero_ram n c base ram va) (store_va va n) 8)
       (zero_of n c base ram va)).core) e
-      ∙ ap (λ (a : ℕ). (writeOf (zero_of n c base ram va).core base (zeroRam n c base ram va) a 8).core) (store-va n va (omega arith))
+      ∙ ap (λ (a : ℕ). (write_of (zero_of n c base ram va).core base (zero_ram n c base ram va) a 8).core) (store-va n va (omega arith))
 
   agree : (n : ℕ) → n < 8 → (zero_of n c base ram va).answer ≡ Done → Agrees n
-  unfolding zero_of zeroRam
+  unfolding zero_of zero_ram
   agree zero h e =
       let z : va + 8 * 0 ≡ va = omega arith in
       let p : pa + 8 * 0 ≡ pa = omega arith in
       record {
         answer = first-answer c base ram va ∙ first ∙ ap Address (sym p);
-        gives = subst (λ (d : Core). Gives (bankNow c) c.privilege Write va pa d.tlb.cache) (sym (core-then 0 h e)) (rw z begins);
+        gives = subst (λ (d : Core). Gives (bank_now c) c.privilege Write va pa d.tlb.cache) (sym (core-then 0 h e)) (rw z begins);
       }
   agree (suc n) h e =
       let before = agree n (omega arith) (zero-fewer c base ram va (suc n) n (omega arith) e) in
       let o = offset in
-      let q = again c (zero_of (suc n) c base ram va).core base (zeroRam (suc n) c base ram va) va pa (va + 8 * suc n)
+      let q = again c (zero_of (suc n) c base ram va).core base (zero_ram (suc n) c base ram va) va pa (va + 8 * suc n)
       (ap (λ (b : Bare). b.privilege) (bare-kept c base ram va (suc n)))
       (ap (λ (b : Bare). b.control) (bare-kept c base ram va (suc n))) before.gives (omega arith) (omega arith) in
       record {
         answer = q.0 ∙ ap Address (omega arith);
-        gives = subst (Gives (bankNow c) c.privilege Write va pa) (sym (ap (λ (d : Core). d.tlb.cache) (core-then (suc n) h e) ∙ q.1)) before.gives;
+        gives = subst (Gives (bank_now c) c.privilege Write va pa) (sym (ap (λ (d : Core). d.tlb.cache) (core-then (suc n) h e) ∙ q.1)) before.gives;
       }
 
 -- DC ZVA
@@ -241,7 +241,7 @@ pub record Zeroed (base pa : ℕ) (before after : List ℕ) : Type 0 where
   pub above : (k : ℕ) → pa + 64 ≤ base + k → slice_index after k ≡ slice_index before k
 
 module _ (c : Core) (base : ℕ) (ram : List ℕ) (va pa : ℕ) (line : va % 64 ≡ 0) (room : va + 64 ≤ 2 ^ 64)
-    (e : (zero_of 8 c base ram va).answer ≡ Done) (same : (j : ℕ) → j < 8 → storeAnswer c base ram va j ≡ Address (pa + 8 * j)) where
+    (e : (zero_of 8 c base ram va).answer ≡ Done) (same : (j : ℕ) → j < 8 → store_answer c base ram va j ≡ Address (pa + 8 * j)) where
   place_is : {x y : ℕ} → Address x ≡ Address y → x ≡ y
   place_is q = cc
 
@@ -249,14 +249,14 @@ module _ (c : Core) (base : ℕ) (ram : List ℕ) (va pa : ℕ) (line : va % 64 
   even = omega arith
 
   each : (j : ℕ) → j < 8 → (within base (length ram) 8 (pa + 8 * j) ≡ true)
-      × ((i : ℕ) → i < 8 → slice_index (zeroRam 8 c base ram va) (pa + 8 * j + i - base) ≡ 0)
+      × ((i : ℕ) → i < 8 → slice_index (zero_ram 8 c base ram va) (pa + 8 * j + i - base) ≡ 0)
   each j h =
       let z = zero-each c base ram va even 8 j (omega arith) e h in
       let q : z.pa ≡ pa + 8 * j = place_is (sym z.answer ∙ same j h) in
-      (ap (within base (length ram) 8) (sym q) ∙ z.inside, λ i k. ap (λ (x : ℕ). slice_index (zeroRam 8 c base ram va) (x + i - base)) (sym q) ∙ z.zeros i k)
+      (ap (within base (length ram) 8) (sym q) ∙ z.inside, λ i k. ap (λ (x : ℕ). slice_index (zero_ram 8 c base ram va) (x + i - base)) (sym q) ∙ z.zeros i k)
 
   -- where the eight translations agree, the eight stores are one line
-  pub zero-agreed : Zeroed base pa ram (zeroRam 8 c base ram va)
+  pub zero-agreed : Zeroed base pa ram (zero_ram 8 c base ram va)
   zero-agreed =
       let first = (each 0 (omega arith)).0 in
       let last = (each 7 (omega arith)).0 in
@@ -275,7 +275,7 @@ module _ (c : Core) (base : ℕ) (ram : List ℕ) (va pa : ℕ) (line : va % 64 
       }
 
 first_of : (c : Core) (base : ℕ) (ram : List ℕ) (va : ℕ) → va % 64 ≡ 0 → va + 64 ≤ 2 ^ 64 → (zero_of 8 c base ram va).answer ≡ Done
-    → (pa : ℕ) × ((translateOf c (word_at base ram 8) va Write).answer ≡ Address pa)
+    → (pa : ℕ) × ((translate_of c (word_at base ram 8) va Write).answer ≡ Address pa)
 first_of c base ram va line room e =
     let z = zero-each c base ram va (omega arith) 8 0 (omega arith) e (omega arith) in
     (z.pa, sym (first-answer c base ram va) ∙ z.answer)
@@ -284,13 +284,13 @@ first_of c base ram va line room e =
 -- do to the tables
 abbrev pub LineZeroed : Type 0
 LineZeroed =
-    (c : Core) (base : ℕ) (ram : List ℕ) (x : ℕ) → WellFormed c.tlb → x < 2 ^ 64 → (zero_of 8 c base ram (alignDown x 6)).answer ≡ Done
-    → (pa : ℕ) × (((translateOf c (word_at base ram 8) (alignDown x 6) Write).answer ≡ Address pa)
-    × Zeroed base pa ram (zeroRam 8 c base ram (alignDown x 6)))
+    (c : Core) (base : ℕ) (ram : List ℕ) (x : ℕ) → WellFormed c.tlb → x < 2 ^ 64 → (zero_of 8 c base ram (align_down x 6)).answer ≡ Done
+    → (pa : ℕ) × (((translate_of c (word_at base ram 8) (align_down x 6) Write).answer ≡ Address pa)
+    × Zeroed base pa ram (zero_ram 8 c base ram (align_down x 6)))
 
 pub zero-line : LineZeroed
 zero-line c base ram x well small e =
-    let va : ℕ = alignDown x 6 in
+    let va : ℕ = align_down x 6 in
     let line : va % 64 ≡ 0 = omega arith in
     let room : va + 64 ≤ 2 ^ 64 = omega arith in
     let one = first_of c base ram va line room e in (
@@ -306,10 +306,10 @@ zero-line c base ram x well small e =
 abbrev pub ZvaZeroes : Type 0
 ZvaZeroes =
     (c : Core) (base : ℕ) (ram : List ℕ) (op1 crn crm op2 rt : ℕ) → WellFormed c.tlb → reg_of c rt < 2 ^ 64
-    → op_of c op1 crn crm op2 ≡ Zva → (sysOf c base ram op1 crn crm op2 rt).answer ≡ Done
-    → (pa : ℕ) × (((translateOf c (word_at base ram 8) (alignDown (reg_of c rt) 6) Write).answer ≡ Address pa)
-    × Zeroed base pa ram (sysRam c base ram op1 crn crm op2 rt))
+    → op_of c op1 crn crm op2 ≡ Zva → (sys_of c base ram op1 crn crm op2 rt).answer ≡ Done
+    → (pa : ℕ) × (((translate_of c (word_at base ram 8) (align_down (reg_of c rt) 6) Write).answer ≡ Address pa)
+    × Zeroed base pa ram (sys_ram c base ram op1 crn crm op2 rt))
 
 pub zva-zeroes : ZvaZeroes
-unfolding sysOf sysRam
+unfolding sys_of sys_ram
 zva-zeroes c base ram op1 crn crm op2 rt well small q e = rw q (zero-line c base ram (reg_of c rt) well small (rw q at e))

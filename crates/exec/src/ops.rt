@@ -1,6 +1,6 @@
 // Register writes, settings and abort entry on the core.
 ghost use Rattle.std.specs.Prelude.{◌≡◌};
-ghost use Rattle.exec.specs.Ops.{writeRegister, setLevel, setMark, abortOf};
+ghost use Rattle.exec.specs.Ops.{after_register_write, set_level, set_mark, abort_of};
 
 use crate::fit;
 use exception::kind::Exception;
@@ -10,9 +10,9 @@ use sysreg::write;
 use sysreg::write::WriteError;
 
 // A register write: the register, then the cache. One that is not done changes nothing.
-#[tactic(auto, unfolding(crate::specs::Ops::writeRegister, crate::specs::Ops::appliedOf, crate::specs::Ops::with_regs, mmu::specs::Core::afterAccess))]
+#[tactic(auto, unfolding(crate::specs::Ops::after_register_write, crate::specs::Ops::applied_of, crate::specs::Ops::with_regs, mmu::specs::Core::after_access))]
 pub fn write_register(core: &mut Core, key: u32, value: u64) -> Result<(), WriteError>
-    ensures { record { core = core.new; answer = result } ≡ writeRegister core.old key value }
+    ensures { record { core = core.new; answer = result } ≡ after_register_write core.old key value }
 {
     let before = core.control;
     write::write_reg(
@@ -27,25 +27,25 @@ pub fn write_register(core: &mut Core, key: u32, value: u64) -> Result<(), Write
 }
 
 // The level is set.
-#[tactic(auto, unfolding(crate::specs::Ops::setLevel))]
+#[tactic(auto, unfolding(crate::specs::Ops::set_level))]
 pub fn set_level(core: &mut Core, level: u8)
-    ensures { core.new ≡ setLevel core.old level }
+    ensures { core.new ≡ set_level core.old level }
 {
     core.privilege.level = level;
 }
 
 // The mark is set or cleared.
-#[tactic(auto, unfolding(crate::specs::Ops::setMark))]
+#[tactic(auto, unfolding(crate::specs::Ops::set_mark))]
 pub fn set_mark(core: &mut Core, mark: bool)
-    ensures { core.new ≡ setMark core.old mark }
+    ensures { core.new ≡ set_mark core.old mark }
 {
     core.privilege.unprivileged = mark;
 }
 
 // A synchronous exception is taken.
-#[tactic(auto, unfolding(crate::specs::Ops::abortOf))]
+#[tactic(auto, unfolding(crate::specs::Ops::abort_of))]
 pub fn abort(core: &mut Core, e: Exception)
-    ensures { core.new ≡ abortOf core.old e }
+    ensures { core.new ≡ abort_of core.old e }
 {
     let r = take::take_sync(
         core.privilege.level,

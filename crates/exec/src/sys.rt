@@ -1,9 +1,9 @@
 // System operations on the core.
 ghost use Rattle.std.specs.Prelude.{◌≡◌};
-ghost use Rattle.word.specs.Bits.{alignDown};
+ghost use Rattle.word.specs.Bits.{align_down};
 ghost use Rattle.word.specs.Ram.{word_at};
-ghost use Rattle.exec.specs.Sys.{mairOf, at_of, tlbiCore};
-ghost use Rattle.exec.specs.Sys.{zero_of, zeroRam, sysOf, sysRam};
+ghost use Rattle.exec.specs.Sys.{mair_of, at_of, tlbi_core};
+ghost use Rattle.exec.specs.Sys.{zero_of, zero_ram, sys_of, sys_ram};
 
 use exception::kind::{Exception, Stop};
 use mmu::core_state::Core;
@@ -16,7 +16,7 @@ use word::ram::Width;
 
 // MAIR of a regime.
 fn mair_of(sys: SysRegs, regime: Regime) -> u64
-    ensures { result ≡ mairOf sys regime }
+    ensures { result ≡ mair_of sys regime }
 {
     match regime {
         Regime::El1 => sys.mair[1],
@@ -26,7 +26,7 @@ fn mair_of(sys: SysRegs, regime: Regime) -> u64
 }
 
 // AT: a fresh walk into PAR_EL1.
-#[tactic(auto, unfolding(crate::specs::Sys::at_of, crate::specs::Sys::withPar))]
+#[tactic(auto, unfolding(crate::specs::Sys::at_of, crate::specs::Sys::with_par))]
 pub fn at(core: &mut Core, base: u64, ram: &[u8], form: AtForm, va: u64)
     ensures { core.new ≡ at_of core.old (word_at base ram.now 8) form va }
 {
@@ -35,9 +35,9 @@ pub fn at(core: &mut Core, base: u64, ram: &[u8], form: AtForm, va: u64)
 }
 
 // TLBI; the Inner Shareable forms are left pending for the other cores.
-#[tactic(auto, unfolding(crate::specs::Sys::tlbiCore, tlb::specs::Maintenance::invalidatedOf, mmu::specs::Core::afterAccess))]
+#[tactic(auto, unfolding(crate::specs::Sys::tlbi_core, tlb::specs::Maintenance::invalidated_of, mmu::specs::Core::after_access))]
 pub fn tlbi(core: &mut Core, op1: u64, crm: u64, op2: u64, x: u64)
-    ensures { core.new ≡ tlbiCore core.old op1 crm op2 x }
+    ensures { core.new ≡ tlbi_core core.old op1 crm op2 x }
 {
     let what = tlbi::tlbi(core.control, op1, crm, op2, x);
     core.tlb.invalidate(what);
@@ -50,7 +50,7 @@ pub fn tlbi(core: &mut Core, op1: u64, crm: u64, op2: u64, x: u64)
 #[tactic(auto, using(crate::proofs::Zeroing::zero_steps))]
 fn zero_from(core: &mut Core, base: u64, ram: &mut [u8], va: u64, n: u64) -> StoreAnswer
     ensures value { record { core = core.new; answer = result } ≡ zero_of n core.old base ram.old va }
-    ensures ram_after { ram.new ≡ zeroRam n core.old base ram.old va }
+    ensures ram_after { ram.new ≡ zero_ram n core.old base ram.old va }
 {
     if n == 0 {
         return StoreAnswer::Done;
@@ -63,14 +63,14 @@ fn zero_from(core: &mut Core, base: u64, ram: &mut [u8], va: u64, n: u64) -> Sto
 
 // DC ZVA: 64 bytes, aligned.
 pub fn zva(core: &mut Core, base: u64, ram: &mut [u8], x: u64) -> StoreAnswer
-    ensures value { record { core = core.new; answer = result } ≡ zero_of 8 core.old base ram.old (alignDown x 6) }
-    ensures ram_after { ram.new ≡ zeroRam 8 core.old base ram.old (alignDown x 6) }
+    ensures value { record { core = core.new; answer = result } ≡ zero_of 8 core.old base ram.old (align_down x 6) }
+    ensures ram_after { ram.new ≡ zero_ram 8 core.old base ram.old (align_down x 6) }
 {
     zero_from(core, base, ram, x - x % 64, 8)
 }
 
 // A system operation of register rt.
-#[tactic(auto, unfolding(crate::specs::Sys::sysOf, crate::specs::Sys::sysRam))]
+#[tactic(auto, unfolding(crate::specs::Sys::sys_of, crate::specs::Sys::sys_ram))]
 pub fn sys(
     core: &mut Core,
     base: u64,
@@ -81,8 +81,8 @@ pub fn sys(
     op2: u64,
     rt: u64,
 ) -> StoreAnswer
-    ensures value { record { core = core.new; answer = result } ≡ sysOf core.old base ram.old op1 crn crm op2 rt }
-    ensures ram_after { ram.new ≡ sysRam core.old base ram.old op1 crn crm op2 rt }
+    ensures value { record { core = core.new; answer = result } ≡ sys_of core.old base ram.old op1 crn crm op2 rt }
+    ensures ram_after { ram.new ≡ sys_ram core.old base ram.old op1 crn crm op2 rt }
 {
     let x = core.reg(rt);
     match op::decode(core.privilege.level, Encoding { op1, crn, crm, op2 }) {

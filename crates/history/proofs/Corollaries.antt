@@ -14,10 +14,10 @@ use Rattle.tlb.specs.declared.access.Answer.TheVariants.{Address, Status}
 use Rattle.tlb.specs.declared.Inval.TheVariants.{All}
 use Rattle.history.specs.Lists.{each_left, each_right, each-head, plain-append, tlb-append}
 use Rattle.history.specs.World.{World, Laws, covers, Plain, uncached}
-use Rattle.history.specs.History.{Effect, nothing, carries, writes, sets, Step, Event, steps, receives, after, plainRun, drops, dropsRun, answer_of}
-use Rattle.history.specs.History.{tlbAsk, answers, tlbRun, Settled, SettledFor, FaithfulAnswer}
+use Rattle.history.specs.History.{Effect, nothing, carries, writes, sets, Step, Event, steps, receives, after, plain_run, drops, drops_run, answer_of}
+use Rattle.history.specs.History.{tlb_ask, answers, tlb_run, Settled, SettledFor, FaithfulAnswer}
 use Rattle.history.proofs.Theorem.{every_history_faithful}
-use Rattle.history.specs.Invisible.{plainAnswers, answersRun, plainAnswersRun, Tidy, Invisible}
+use Rattle.history.specs.Invisible.{plain_answers, answers_run, plain_answers_run, Tidy, Invisible}
 
 module _ (w : World) (laws : Laws w) where
   -- WITH STAGE 1 OFF NOW every page of the regime is settled: "a page has no walk to count"
@@ -35,15 +35,15 @@ module _ (w : World) (laws : Laws w) where
         go true x vs = sym (laws.shape_on c.regs R x r)
         go false x (more y ys) = absurd (true≢false y)
 
-    kept_on : (l : List (Event w)) (c : Plain w) → Each (λ v. covers v p ℓ a ≡ false) (dropsRun w c l)
-        → w.on (plainRun w c l).regs r ≡ w.on c.regs r
+    kept_on : (l : List (Event w)) (c : Plain w) → Each (λ v. covers v p ℓ a ≡ false) (drops_run w c l)
+        → w.on (plain_run w c l).regs r ≡ w.on c.regs r
     kept_on [] c us = refl
     kept_on (steps m s ∷ l) c us =
         kept_on l (after w s.effect c) (each_right (drops w s.effect c) _ us)
-        ∙ effect-on s.effect c (each_left (drops w s.effect c) (dropsRun w (after w s.effect c) l) us)
+        ∙ effect-on s.effect c (each_left (drops w s.effect c) (drops_run w (after w s.effect c) l) us)
     kept_on (receives v ∷ l) c us = kept_on l c (each_right (v ∷ []) _ us)
 
-  pub off-settled : (c₀ : Plain w) (past : List (Event w)) (m : w.Ram) (r : Regime) (p : ℕ) → w.on (plainRun w c₀ past).regs r ≡ false
+  pub off-settled : (c₀ : Plain w) (past : List (Event w)) (m : w.Ram) (r : Regime) (p : ℕ) → w.on (plain_run w c₀ past).regs r ≡ false
       → Settled w c₀ past m r p
   off-settled c₀ past m r p off =
       record {
@@ -51,9 +51,9 @@ module _ (w : World) (laws : Laws w) where
             absurd
             (true≢false
             (sym on_then
-            ∙ sym (kept_on r p ℓ _ (steps m' s ∷ later) (plainRun w c₀ before) us)
+            ∙ sym (kept_on r p ℓ _ (steps m' s ∷ later) (plain_run w c₀ before) us)
             ∙ ap (λ (c : Plain w). w.on c.regs r) (sym (plain-append w c₀ before (steps m' s ∷ later)))
-            ∙ ap (λ (l : List (Event w)). w.on (plainRun w c₀ l).regs r) (sym split)
+            ∙ ap (λ (l : List (Event w)). w.on (plain_run w c₀ l).regs r) (sym split)
             ∙ off));
       }
 
@@ -62,34 +62,34 @@ module _ (w : World) (laws : Laws w) where
   module _ (c₀ : Plain w) (zero-asid : w.asid c₀.regs ≡ 0) (low : c₀.privilege.level ≤ 3) where
     -- one translation after a history
     pub one-settled : (past : List (Event w)) (m : w.Ram) (a : Ask) → SettledFor w c₀ past m a
-        → answer_of w (plainRun w c₀ past) m a (tlbRun w c₀ past fresh) ≡ uncached w (plainRun w c₀ past) m (kind_of a) (address_of a)
+        → answer_of w (plain_run w c₀ past) m a (tlb_run w c₀ past fresh) ≡ uncached w (plain_run w c₀ past) m (kind_of a) (address_of a)
     one-settled past m a st = each-head (every_history_faithful w laws c₀ zero-asid low past m (record { asks = a ∷ []; effect = nothing })) st
 
     -- where all pages of a step are settled, all its answers are those of the core without a cache
-    same-answers : (past : List (Event w)) (m : w.Ram) (l : List Ask) (t : Tlb) → Each (FaithfulAnswer w c₀ past m) (answers w (plainRun w c₀ past) m l t)
-        → Each (SettledFor w c₀ past m) l → answers w (plainRun w c₀ past) m l t ≡ plainAnswers w (plainRun w c₀ past) m l
+    same-answers : (past : List (Event w)) (m : w.Ram) (l : List Ask) (t : Tlb) → Each (FaithfulAnswer w c₀ past m) (answers w (plain_run w c₀ past) m l t)
+        → Each (SettledFor w c₀ past m) l → answers w (plain_run w c₀ past) m l t ≡ plain_answers w (plain_run w c₀ past) m l
     same-answers past m [] t fs ss = refl
     same-answers past m (a ∷ l) t (more f fs) (more s ss) =
-        go (answer_of w c m a t) (f s) fs (λ gs. same-answers past m l (tlbAsk w c m a t) gs ss)
+        go (answer_of w c m a t) (f s) fs (λ gs. same-answers past m l (tlb_ask w c m a t) gs ss)
       where
         c : Plain w
-        c = plainRun w c₀ past
+        c = plain_run w c₀ past
 
         rest : List Given
-        rest = answers w c m l (tlbAsk w c m a t)
+        rest = answers w c m l (tlb_ask w c m a t)
 
         u : Answer
         u = uncached w c m (kind_of a) (address_of a)
 
         go : (x : Answer) → x ≡ u → Each (FaithfulAnswer w c₀ past m) (onward x rest [])
-            → (Each (FaithfulAnswer w c₀ past m) rest → rest ≡ plainAnswers w c m l)
+            → (Each (FaithfulAnswer w c₀ past m) rest → rest ≡ plain_answers w c m l)
             → ◌≡◌ {A = List Given} (record { ask = a; answer = x } ∷ onward x rest [])
-            (record { ask = a; answer = u } ∷ onward u (plainAnswers w c m l) [])
+            (record { ask = a; answer = u } ∷ onward u (plain_answers w c m l) [])
         go (Address pa) e gs k = rw (← e) (ap {B = List Given} (λ (n : List Given). record { ask = a; answer = Address pa } ∷ n) (k gs))
         go (Status f) e gs k = rw (← e)
 
     pub all_settled : (past : List (Event w)) (m : w.Ram) (s : Step w) → Each (SettledFor w c₀ past m) s.asks
-        → answers w (plainRun w c₀ past) m s.asks (tlbRun w c₀ past fresh) ≡ plainAnswers w (plainRun w c₀ past) m s.asks
+        → answers w (plain_run w c₀ past) m s.asks (tlb_run w c₀ past fresh) ≡ plain_answers w (plain_run w c₀ past) m s.asks
     all_settled past m s ss = same-answers past m s.asks _ (every_history_faithful w laws c₀ zero-asid low past m s) ss
 
     -- THE CACHE IS INVISIBLE, through a tidy list after a history
@@ -99,7 +99,7 @@ module _ (w : World) (laws : Laws w) where
         rw (append_assoc past (x ∷ []) before) (tidy (x ∷ before) m s later (ap {B = List (Event w)} (λ l. x ∷ l) split))
 
     pub rest-invisible : (past rest : List (Event w)) → Tidy w c₀ past rest
-        → answersRun w (plainRun w c₀ past) rest (tlbRun w c₀ past fresh) ≡ plainAnswersRun w (plainRun w c₀ past) rest
+        → answers_run w (plain_run w c₀ past) rest (tlb_run w c₀ past fresh) ≡ plain_answers_run w (plain_run w c₀ past) rest
     rest-invisible past [] tidy = refl
     rest-invisible past (steps m s ∷ rest) tidy =
         ap₂ {B = List Given} {C = List Given} ◌++◌

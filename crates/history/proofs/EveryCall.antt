@@ -5,12 +5,12 @@ use Rattle.tlb.specs.Lists.{Each}
 use Rattle.tlb.specs.Tlb.{fresh}
 use Rattle.tlb.specs.Asks.{kind_of, address_of, Given}
 use Rattle.tlb.specs.declared.Tlb.{Tlb}
-use Rattle.history.specs.World.{World, Laws, Plain, regimeNow, pageNow, uncached}
+use Rattle.history.specs.World.{World, Laws, Plain, regime_now, page_now, uncached}
 use Rattle.history.specs.Lists.{plain-append, tlb-append}
-use Rattle.history.specs.History.{Step, Event, plainRun, answers, tlbRun, Settled, FaithfulAnswer}
+use Rattle.history.specs.History.{Step, Event, plain_run, answers, tlb_run, Settled, FaithfulAnswer}
 use Rattle.history.proofs.Theorem.{every_history_faithful}
-use Rattle.history.specs.Calls.{Machine, Lent, Fed, run, lent_of, bareRun, eventsFed, eventsRun, ShownIn, Shown, shown, plain_of, eventsOf, Bridge}
-use Rattle.history.specs.Calls.{plainAfter, EveryCallFaithful}
+use Rattle.history.specs.Calls.{Machine, Lent, Fed, run, lent_of, bare_run, events_fed, events_run, ShownIn, Shown, shown, plain_of, events_of, Bridge}
+use Rattle.history.specs.Calls.{plain_after, EveryCallFaithful}
 
 module _ (w : World) (M : Machine w) where
   -- every list of calls is shown by its run
@@ -24,98 +24,98 @@ module _ (w : World) (M : Machine w) where
 
 module _ (w : World) (M : Machine w) (B : Bridge w M) where
   -- after every list the two cores agree on level, mark, registers and general registers
-  pub run-bare : (c : M.Core) (l : List (Lent w M)) → M.bare (run w M c l) ≡ bareRun w M (M.bare c) l
+  pub run-bare : (c : M.Core) (l : List (Lent w M)) → M.bare (run w M c l) ≡ bare_run w M (M.bare c) l
   run-bare c [] = refl
   run-bare c (x ∷ l) =
-      run-bare (M.step c x.ram x.call) l ∙ ap (λ (b : M.Bare). bareRun w M b l) (B.bare-is c x.ram x.call)
+      run-bare (M.step c x.ram x.call) l ∙ ap (λ (b : M.Bare). bare_run w M b l) (B.bare-is c x.ram x.call)
 
   -- the steps of a call that is fed are those that the run shows
-  pub fed-events : (c : M.Core) (x : Fed w M) → ShownIn w M c x → eventsFed w M (M.bare c) x ≡ eventsOf w M c x.lent.ram x.lent.call
+  pub fed-events : (c : M.Core) (x : Fed w M) → ShownIn w M c x → events_fed w M (M.bare c) x ≡ events_of w M c x.lent.ram x.lent.call
   fed-events c x s = ap (λ (ms : List w.Ram). M.events (M.bare c) x.lent.ram ms x.lent.call) s
 
   step-plain : (c : M.Core) (x : Fed w M) → ShownIn w M c x
-      → plain_of w M (M.step c x.lent.ram x.lent.call) ≡ plainRun w (plain_of w M c) (eventsFed w M (M.bare c) x)
+      → plain_of w M (M.step c x.lent.ram x.lent.call) ≡ plain_run w (plain_of w M c) (events_fed w M (M.bare c) x)
   step-plain c x s =
       ap M.plain (B.bare-is c x.lent.ram x.lent.call)
       ∙ B.plain-is c x.lent.ram x.lent.call
-      ∙ ap (plainRun w (plain_of w M c)) (sym (fed-events c x s))
+      ∙ ap (plain_run w (plain_of w M c)) (sym (fed-events c x s))
 
   step-tlb : (c : M.Core) (x : Fed w M) → ShownIn w M c x
-      → M.tlb (M.step c x.lent.ram x.lent.call) ≡ tlbRun w (plain_of w M c) (eventsFed w M (M.bare c) x) (M.tlb c)
+      → M.tlb (M.step c x.lent.ram x.lent.call) ≡ tlb_run w (plain_of w M c) (events_fed w M (M.bare c) x) (M.tlb c)
   step-tlb c x s =
       B.tlb-is c x.lent.ram x.lent.call
-      ∙ ap (λ (es : List (Event w)). tlbRun w (plain_of w M c) es (M.tlb c)) (sym (fed-events c x s))
+      ∙ ap (λ (es : List (Event w)). tlb_run w (plain_of w M c) es (M.tlb c)) (sym (fed-events c x s))
 
   -- the steps after the first call
   abbrev rest : M.Core → Fed w M → List (Fed w M) → List (Event w)
-  rest c x l = eventsRun w M (M.bareStep (M.bare c) x.lent.ram x.lent.call) l
+  rest c x l = events_run w M (M.bare_step (M.bare c) x.lent.ram x.lent.call) l
 
   -- what translations read is what the list's steps leave
   pub run-plain : (c : M.Core) (l : List (Fed w M)) → Shown w M c l
-      → plain_of w M (run w M c (lent_of w M l)) ≡ plainRun w (plain_of w M c) (eventsRun w M (M.bare c) l)
+      → plain_of w M (run w M c (lent_of w M l)) ≡ plain_run w (plain_of w M c) (events_run w M (M.bare c) l)
   run-plain c [] s = refl
   run-plain c (x ∷ l) s =
       run-plain d l s.1
-      ∙ ap₂ (λ (p : Plain w) (b : M.Bare). plainRun w p (eventsRun w M b l)) (step-plain c x s.0) (B.bare-is c x.lent.ram x.lent.call)
-      ∙ sym (plain-append w (plain_of w M c) (eventsFed w M (M.bare c) x) (rest c x l))
+      ∙ ap₂ (λ (p : Plain w) (b : M.Bare). plain_run w p (events_run w M b l)) (step-plain c x s.0) (B.bare-is c x.lent.ram x.lent.call)
+      ∙ sym (plain-append w (plain_of w M c) (events_fed w M (M.bare c) x) (rest c x l))
     where
       d : M.Core
       d = M.step c x.lent.ram x.lent.call
 
   -- and so is the cache, with its counters and what is pending
   pub run-tlb : (c : M.Core) (l : List (Fed w M)) → Shown w M c l
-      → M.tlb (run w M c (lent_of w M l)) ≡ tlbRun w (plain_of w M c) (eventsRun w M (M.bare c) l) (M.tlb c)
+      → M.tlb (run w M c (lent_of w M l)) ≡ tlb_run w (plain_of w M c) (events_run w M (M.bare c) l) (M.tlb c)
   run-tlb c [] s = refl
   run-tlb c (x ∷ l) s =
       run-tlb d l s.1
-      ∙ ap₂ (λ (p : Plain w) (b : M.Bare). tlbRun w p (eventsRun w M b l) (M.tlb d)) (step-plain c x s.0) (B.bare-is c x.lent.ram x.lent.call)
-      ∙ ap (tlbRun w (plainRun w (plain_of w M c) (eventsFed w M (M.bare c) x)) (rest c x l)) (step-tlb c x s.0)
-      ∙ sym (tlb-append w (plain_of w M c) (eventsFed w M (M.bare c) x) (rest c x l) (M.tlb c))
+      ∙ ap₂ (λ (p : Plain w) (b : M.Bare). tlb_run w p (events_run w M b l) (M.tlb d)) (step-plain c x s.0) (B.bare-is c x.lent.ram x.lent.call)
+      ∙ ap (tlb_run w (plain_run w (plain_of w M c) (events_fed w M (M.bare c) x)) (rest c x l)) (step-tlb c x s.0)
+      ∙ sym (tlb-append w (plain_of w M c) (events_fed w M (M.bare c) x) (rest c x l) (M.tlb c))
     where
       d : M.Core
       d = M.step c x.lent.ram x.lent.call
 
   -- what translations read after a list and the steps before in a call
   pub now-plain : (c : M.Core) (l : List (Fed w M)) → Shown w M c l → (before : List (Event w))
-      → plainAfter w M (M.bare c) l before ≡ plainRun w (plain_of w M c) (eventsRun w M (M.bare c) l ++ before)
+      → plain_after w M (M.bare c) l before ≡ plain_run w (plain_of w M c) (events_run w M (M.bare c) l ++ before)
   now-plain c l s before =
-      ap (λ (b : M.Bare). plainRun w (M.plain b) before) (sym (run-bare c (lent_of w M l)))
-      ∙ ap (λ (q : Plain w). plainRun w q before) (run-plain c l s)
-      ∙ sym (plain-append w (plain_of w M c) (eventsRun w M (M.bare c) l) before)
+      ap (λ (b : M.Bare). plain_run w (M.plain b) before) (sym (run-bare c (lent_of w M l)))
+      ∙ ap (λ (q : Plain w). plain_run w q before) (run-plain c l s)
+      ∙ sym (plain-append w (plain_of w M c) (events_run w M (M.bare c) l) before)
 
   -- A fresh core: a new cache, the ASID 0, a level of 3 at most.
   module _ (laws : Laws w) (c₀ : M.Core) (new : M.tlb c₀ ≡ fresh) (zero-asid : w.asid (plain_of w M c₀).regs ≡ 0)
       (low : (plain_of w M c₀).privilege.level ≤ 3) where
     -- the cache after a list is that of the list's steps on a new one
     pub fresh-run : (list : List (Fed w M)) → Shown w M c₀ list
-        → M.tlb (run w M c₀ (lent_of w M list)) ≡ tlbRun w (plain_of w M c₀) (eventsRun w M (M.bare c₀) list) fresh
-    fresh-run list s = run-tlb c₀ list s ∙ ap (tlbRun w (plain_of w M c₀) (eventsRun w M (M.bare c₀) list)) new
+        → M.tlb (run w M c₀ (lent_of w M list)) ≡ tlb_run w (plain_of w M c₀) (events_run w M (M.bare c₀) list) fresh
+    fresh-run list s = run-tlb c₀ list s ∙ ap (tlb_run w (plain_of w M c₀) (events_run w M (M.bare c₀) list)) new
 
     -- What holds of the answers of every step after every history holds of those of every step of a call after every
     -- list of calls.
     pub lifted : (Q : List (Event w) → w.Ram → Given → Type 0)
         → ((past : List (Event w)) (m : w.Ram) (s : Step w)
-        → Each (Q past m) (answers w (plainRun w (plain_of w M c₀) past) m s.asks (tlbRun w (plain_of w M c₀) past fresh)))
+        → Each (Q past m) (answers w (plain_run w (plain_of w M c₀) past) m s.asks (tlb_run w (plain_of w M c₀) past fresh)))
         → (list : List (Fed w M)) → Shown w M c₀ list → (before : List (Event w)) (m : w.Ram) (s : Step w)
-        → Each (Q (eventsRun w M (M.bare c₀) list ++ before) m)
-        (answers w (plainAfter w M (M.bare c₀) list before) m s.asks
-        (tlbRun w (plainAfter w M (M.bare c₀) list []) before (M.tlb (run w M c₀ (lent_of w M list)))))
+        → Each (Q (events_run w M (M.bare c₀) list ++ before) m)
+        (answers w (plain_after w M (M.bare c₀) list before) m s.asks
+        (tlb_run w (plain_after w M (M.bare c₀) list []) before (M.tlb (run w M c₀ (lent_of w M list)))))
     lifted Q h list shows before m s =
         subst (λ (l : List Given). Each (Q (past ++ before) m) l)
         (ap₂ (λ (q : Plain w) (t : Tlb). answers w q m s.asks t) (sym (now-plain c₀ list shows before)) caches)
         (h (past ++ before) m s)
       where
         past : List (Event w)
-        past = eventsRun w M (M.bare c₀) list
+        past = events_run w M (M.bare c₀) list
 
-        at_last : plainAfter w M (M.bare c₀) list [] ≡ plainRun w (plain_of w M c₀) past
+        at_last : plain_after w M (M.bare c₀) list [] ≡ plain_run w (plain_of w M c₀) past
         at_last = ap M.plain (sym (run-bare c₀ (lent_of w M list))) ∙ run-plain c₀ list shows
 
-        caches : tlbRun w (plain_of w M c₀) (past ++ before) fresh
-            ≡ tlbRun w (plainAfter w M (M.bare c₀) list []) before (M.tlb (run w M c₀ (lent_of w M list)))
+        caches : tlb_run w (plain_of w M c₀) (past ++ before) fresh
+            ≡ tlb_run w (plain_after w M (M.bare c₀) list []) before (M.tlb (run w M c₀ (lent_of w M list)))
         caches =
             tlb-append w (plain_of w M c₀) past before fresh
-            ∙ ap₂ (λ (q : Plain w) (u : Tlb). tlbRun w q before u) (sym at_last) (sym (fresh-run list shows))
+            ∙ ap₂ (λ (q : Plain w) (u : Tlb). tlb_run w q before u) (sym at_last) (sym (fresh-run list shows))
 
     pub every_call_faithful : EveryCallFaithful w M c₀
     every_call_faithful list s x sx before m t later split =
@@ -123,9 +123,9 @@ module _ (w : World) (M : Machine w) (B : Bridge w M) where
         (λ (q : Plain w).
         Each
         (λ g.
-        Settled w (plain_of w M c₀) (eventsRun w M (M.bare c₀) list ++ before) m (regimeNow w q) (pageNow w q (address_of g.ask))
+        Settled w (plain_of w M c₀) (events_run w M (M.bare c₀) list ++ before) m (regime_now w q) (page_now w q (address_of g.ask))
         → g.answer ≡ uncached w q m (kind_of g.ask) (address_of g.ask))
-        (answers w (plainAfter w M (M.bare c₀) list before) m t.asks
-        (tlbRun w (plainAfter w M (M.bare c₀) list []) before (M.tlb (run w M c₀ (lent_of w M list))))))
+        (answers w (plain_after w M (M.bare c₀) list before) m t.asks
+        (tlb_run w (plain_after w M (M.bare c₀) list []) before (M.tlb (run w M c₀ (lent_of w M list))))))
         (sym (now-plain c₀ list s before))
         (lifted (FaithfulAnswer w (plain_of w M c₀)) (every_history_faithful w laws (plain_of w M c₀) zero-asid low) list s before m t)

@@ -2,7 +2,7 @@
 use Rattle.std.specs.Prelude.{List}
 use Rattle.std.proofs.Common.{subst, arith}
 use Rattle.tlb.specs.Lists.{Each, done, more}
-use Rattle.history.specs.Instance.{real, real-laws, freshPlain, fresh-asid}
+use Rattle.history.specs.Instance.{real, real-laws, fresh_plain, fresh-asid}
 use Rattle.history.proofs.Origins.{origin}
 use Rattle.history.specs.Judgement.{Judged, judged-from, status-row}
 use Rattle.history.specs.Theorems.{every_origin, every_judgement, every_fault_row}
@@ -12,7 +12,7 @@ each_map f done = done
 each_map f (more {a = a} p ps) = more (f a p) (each_map f ps)
 
 pub every-origin : every_origin
-every-origin = origin real real-laws freshPlain fresh-asid (omega arith)
+every-origin = origin real real-laws fresh_plain fresh-asid (omega arith)
 
 pub every-judgement : every_judgement
 every-judgement past m s = each_map (λ g f. judged-from past m g.ask g.answer f) (every-origin past m s)

@@ -3,9 +3,9 @@ use Rattle.std.specs.Prelude.{if◌then◌else◌, ◌≡◌, Bool, List, [], �
 use Rattle.std.proofs.Math.Path.{refl, ap, subst}
 use Rattle.std.proofs.Common.{ap₂, ◌∙◌}
 use Rattle.std.proofs.Math.Bool.{true, false}
-use Rattle.tlb.specs.Tlb.{fresh, flushOf, retagOf, invalidateOf}
-use Rattle.tlb.specs.Maintenance.{invalidatedOf, reshapedOf, retaggedOf}
-use Rattle.tlb.specs.Model.{Model, emptyModel, invalidate, retag, broadcast}
+use Rattle.tlb.specs.Tlb.{fresh, flush_of, retag_of, invalidate_of}
+use Rattle.tlb.specs.Maintenance.{invalidated_of, reshaped_of, retagged_of}
+use Rattle.tlb.specs.Model.{Model, empty_model, invalidate, retag, broadcast}
 use Rattle.tlb.specs.Live.{live, WellFormed, LeafLevel, Follows}
 use Rattle.tlb.specs.Refines.{fresh-live, fresh-sound, flush-live, flush-sound, invalidate-live, invalidate-sound, retag-live, retag-sound, broadcast-live}
 use Rattle.tlb.specs.Refines.{broadcast-sound}
@@ -15,99 +15,99 @@ use Rattle.tlb.specs.declared.{access.Kind.Kind, access.Answer.Answer, Tlb.Tlb}
 use Rattle.tlb.specs.declared.access.Kind.TheVariants.{Fetch}
 use Rattle.tlb.specs.declared.access.Answer.TheVariants.{Address, Status}
 use Rattle.tlb.specs.declared.Inval.TheVariants.{All}
-use Rattle.history.specs.World.{World, Laws, Plain, regimeNow, untagNow, accessOf}
-use Rattle.history.specs.History.{Effect, nothing, carries, writes, sets, Event, steps, receives, after, afterEvent, plainRun, answer_of, tlbAsk, answers}
-use Rattle.history.specs.History.{tlbAsks, tlbAfter, tlbEvent, tlbRun}
-use Rattle.history.specs.Invisible.{answersRun}
+use Rattle.history.specs.World.{World, Laws, Plain, regime_now, untag_now, access_of}
+use Rattle.history.specs.History.{Effect, nothing, carries, writes, sets, Event, steps, receives, after, after_event, plain_run, answer_of, tlb_ask, answers}
+use Rattle.history.specs.History.{tlb_asks, tlb_after, tlb_event, tlb_run}
+use Rattle.history.specs.Invisible.{answers_run}
 use Rattle.history.specs.Lists.{event-low, run-low}
-use Rattle.history.specs.ModelRun.{modelAsk, modelAnswers, modelAsks, modelFlushed, modelRetagged, modelAfter, modelEvent, modelRun, modelAnswersRun, StandsFor}
+use Rattle.history.specs.ModelRun.{model_ask, model_answers, model_asks, model_flushed, model_retagged, model_after, model_event, model_run, model_answers_run, StandsFor}
 
 module _ (w : World) (laws : Laws w) where
   -- TRANSLATIONS
 
   module _ (c : Plain w) (m : w.Ram) (low : c.privilege.level ≤ 3) where
-    leaf-fits : (k : Kind) (va : ℕ) → LeafLevel (accessOf w c m k va).walk
-    leaf-fits k va leaf e = laws.leaf-level c.regs m (regimeNow w c) (untagNow w c va) leaf e
+    leaf-fits : (k : Kind) (va : ℕ) → LeafLevel (access_of w c m k va).walk
+    leaf-fits k va leaf e = laws.leaf-level c.regs m (regime_now w c) (untag_now w c va) leaf e
 
-    ask-follows : (a : Ask) (t : Tlb) → WellFormed t → Follows (answer_of w c m a t) (tlbAsk w c m a t) (modelAsk w c m a (live t))
-    ask-follows (translates k va) t s = translation-follows (accessOf w c m k va) t s (leaf-fits k va) low
-    ask-follows (fetches va) t s = fetch-follows (accessOf w c m Fetch va) t s (leaf-fits Fetch va) low refl
+    ask-follows : (a : Ask) (t : Tlb) → WellFormed t → Follows (answer_of w c m a t) (tlb_ask w c m a t) (model_ask w c m a (live t))
+    ask-follows (translates k va) t s = translation-follows (access_of w c m k va) t s (leaf-fits k va) low
+    ask-follows (fetches va) t s = fetch-follows (access_of w c m Fetch va) t s (leaf-fits Fetch va) low refl
 
     -- the first translation, and the rest of them where it does not fault
-    module _ (a : Ask) (l : List Ask) (t : Tlb) (f : Follows (answer_of w c m a t) (tlbAsk w c m a t) (modelAsk w c m a (live t))) where
-      more-stands : StandsFor (tlbAsks w c m l (tlbAsk w c m a t)) (modelAsks w c m l (live (tlbAsk w c m a t)))
-          → StandsFor (tlbAsks w c m (a ∷ l) t) (modelAsks w c m (a ∷ l) (live t))
+    module _ (a : Ask) (l : List Ask) (t : Tlb) (f : Follows (answer_of w c m a t) (tlb_ask w c m a t) (model_ask w c m a (live t))) where
+      more-stands : StandsFor (tlb_asks w c m l (tlb_ask w c m a t)) (model_asks w c m l (live (tlb_ask w c m a t)))
+          → StandsFor (tlb_asks w c m (a ∷ l) t) (model_asks w c m (a ∷ l) (live t))
       more-stands rest =
           record {
             well = well (answer_of w c m a t);
             is =
-                ap (λ (x : Answer). live (onward x (tlbAsks w c m l (tlbAsk w c m a t)) (tlbAsk w c m a t))) f.answer
-                ∙ go (modelAsk w c m a (live t)).answer;
+                ap (λ (x : Answer). live (onward x (tlb_asks w c m l (tlb_ask w c m a t)) (tlb_ask w c m a t))) f.answer
+                ∙ go (model_ask w c m a (live t)).answer;
           }
         where
-          well : (x : Answer) → WellFormed (onward x (tlbAsks w c m l (tlbAsk w c m a t)) (tlbAsk w c m a t))
+          well : (x : Answer) → WellFormed (onward x (tlb_asks w c m l (tlb_ask w c m a t)) (tlb_ask w c m a t))
           well (Address pa) = rest.well
           well (Status fault) = f.well
 
           go : (x : Answer)
-              → live (onward x (tlbAsks w c m l (tlbAsk w c m a t)) (tlbAsk w c m a t))
-              ≡ onward x (modelAsks w c m l (modelAsk w c m a (live t)).after) (modelAsk w c m a (live t)).after
-          go (Address pa) = rest.is ∙ ap (modelAsks w c m l) f.after
+              → live (onward x (tlb_asks w c m l (tlb_ask w c m a t)) (tlb_ask w c m a t))
+              ≡ onward x (model_asks w c m l (model_ask w c m a (live t)).after) (model_ask w c m a (live t)).after
+          go (Address pa) = rest.is ∙ ap (model_asks w c m l) f.after
           go (Status fault) = f.after
 
-      more-answers : answers w c m l (tlbAsk w c m a t) ≡ modelAnswers w c m l (live (tlbAsk w c m a t))
-          → answers w c m (a ∷ l) t ≡ modelAnswers w c m (a ∷ l) (live t)
+      more-answers : answers w c m l (tlb_ask w c m a t) ≡ model_answers w c m l (live (tlb_ask w c m a t))
+          → answers w c m (a ∷ l) t ≡ model_answers w c m (a ∷ l) (live t)
       more-answers rest =
           ap₂ {B = List Given} {C = List Given} (λ (x : Answer) (k : List Given). record { ask = a; answer = x } ∷ k) f.answer
-          (ap (λ (x : Answer). onward x (answers w c m l (tlbAsk w c m a t)) []) f.answer ∙ go (modelAsk w c m a (live t)).answer)
+          (ap (λ (x : Answer). onward x (answers w c m l (tlb_ask w c m a t)) []) f.answer ∙ go (model_ask w c m a (live t)).answer)
         where
           go : (x : Answer)
-              → onward {A = List Given} x (answers w c m l (tlbAsk w c m a t)) []
-              ≡ onward x (modelAnswers w c m l (modelAsk w c m a (live t)).after) []
-          go (Address pa) = rest ∙ ap (modelAnswers w c m l) f.after
+              → onward {A = List Given} x (answers w c m l (tlb_ask w c m a t)) []
+              ≡ onward x (model_answers w c m l (model_ask w c m a (live t)).after) []
+          go (Address pa) = rest ∙ ap (model_answers w c m l) f.after
           go (Status fault) = refl
 
-    asks-stand : (l : List Ask) (t : Tlb) → WellFormed t → StandsFor (tlbAsks w c m l t) (modelAsks w c m l (live t))
+    asks-stand : (l : List Ask) (t : Tlb) → WellFormed t → StandsFor (tlb_asks w c m l t) (model_asks w c m l (live t))
     asks-stand [] t s = record { well = s; is = refl }
     asks-stand (a ∷ l) t s =
         let f = ask-follows a t s in
-        more-stands a l t f (asks-stand l (tlbAsk w c m a t) f.well)
+        more-stands a l t f (asks-stand l (tlb_ask w c m a t) f.well)
 
     -- the answers of a step are the model's
-    pub answers-live : (l : List Ask) (t : Tlb) → WellFormed t → answers w c m l t ≡ modelAnswers w c m l (live t)
+    pub answers-live : (l : List Ask) (t : Tlb) → WellFormed t → answers w c m l t ≡ model_answers w c m l (live t)
     answers-live [] t s = refl
     answers-live (a ∷ l) t s =
         let f = ask-follows a t s in
-        more-answers a l t f (answers-live l (tlbAsk w c m a t) f.well)
+        more-answers a l t f (answers-live l (tlb_ask w c m a t) f.well)
 
   -- EFFECTS
 
-  flushed-stands : (R S : w.Regs) (t : Tlb) → WellFormed t → StandsFor (reshapedOf t (w.same-shape R S)) (modelFlushed w R S (live t))
-  unfolding reshapedOf modelFlushed
+  flushed-stands : (R S : w.Regs) (t : Tlb) → WellFormed t → StandsFor (reshaped_of t (w.same-shape R S)) (model_flushed w R S (live t))
+  unfolding reshaped_of model_flushed
   flushed-stands R S t s = go (w.same-shape R S)
     where
-      go : (b : Bool) → StandsFor (if b then t else flushOf t) (if b then live t else invalidate All (live t))
+      go : (b : Bool) → StandsFor (if b then t else flush_of t) (if b then live t else invalidate All (live t))
       go true = record { well = s; is = refl }
       go false = record { well = flush-sound t s; is = flush-live t s }
 
-  retagged-stands : (a : ℕ) {t : Tlb} {u : Model} → StandsFor t u → StandsFor (retaggedOf t a) (modelRetagged w a u)
-  unfolding retaggedOf modelRetagged
+  retagged-stands : (a : ℕ) {t : Tlb} {u : Model} → StandsFor t u → StandsFor (retagged_of t a) (model_retagged w a u)
+  unfolding retagged_of model_retagged
   retagged-stands a {t} r =
-      subst (λ (u : Model). StandsFor (if t.cache.current.asid == a then t else retagOf t a) (if u.asid == a then u else retag a u)) r.is
+      subst (λ (u : Model). StandsFor (if t.cache.current.asid == a then t else retag_of t a) (if u.asid == a then u else retag a u)) r.is
       (go (t.cache.current.asid == a))
     where
-      go : (b : Bool) → StandsFor (if b then t else retagOf t a) (if b then live t else retag a (live t))
+      go : (b : Bool) → StandsFor (if b then t else retag_of t a) (if b then live t else retag a (live t))
       go true = record { well = r.well; is = refl }
       go false = record { well = retag-sound t r.well a; is = retag-live t r.well a }
 
-  effect-stands : (e : Effect w) (c : Plain w) (t : Tlb) → WellFormed t → StandsFor (tlbAfter w e c t) (modelAfter w e c (live t))
-  unfolding invalidatedOf
+  effect-stands : (e : Effect w) (c : Plain w) (t : Tlb) → WellFormed t → StandsFor (tlb_after w e c t) (model_after w e c (live t))
+  unfolding invalidated_of
   effect-stands nothing c t s = record { well = s; is = refl }
   effect-stands (carries v false) c t s = record { well = invalidate-sound t s v; is = invalidate-live t s v }
   effect-stands (carries v true) c t s =
       record {
-        well = broadcast-sound (invalidateOf t v) v (invalidate-sound t s v);
-        is = broadcast-live (invalidateOf t v) v ∙ ap (broadcast v) (invalidate-live t s v);
+        well = broadcast-sound (invalidate_of t v) v (invalidate-sound t s v);
+        is = broadcast-live (invalidate_of t v) v ∙ ap (broadcast v) (invalidate-live t s v);
       }
   effect-stands (writes R) c t s = retagged-stands (w.asid R) (flushed-stands c.regs R t s)
   effect-stands (sets privilege low) c t s = record { well = s; is = refl }
@@ -115,49 +115,49 @@ module _ (w : World) (laws : Laws w) where
   -- EVENTS
 
   event-stands : (x : Event w) (c : Plain w) {t : Tlb} {u : Model} → c.privilege.level ≤ 3 → StandsFor t u
-      → StandsFor (tlbEvent w x c t) (modelEvent w x c u)
-  event-stands x c {t} low r = subst (λ (u : Model). StandsFor (tlbEvent w x c t) (modelEvent w x c u)) r.is (go x)
+      → StandsFor (tlb_event w x c t) (model_event w x c u)
+  event-stands x c {t} low r = subst (λ (u : Model). StandsFor (tlb_event w x c t) (model_event w x c u)) r.is (go x)
     where
-      go : (y : Event w) → StandsFor (tlbEvent w y c t) (modelEvent w y c (live t))
+      go : (y : Event w) → StandsFor (tlb_event w y c t) (model_event w y c (live t))
       go (steps m s) =
           let l = asks-stand c m low s.asks t r.well in
-          subst (λ (u : Model). StandsFor (tlbAfter w s.effect c (tlbAsks w c m s.asks t)) (modelAfter w s.effect c u)) l.is
-          (effect-stands s.effect c (tlbAsks w c m s.asks t) l.well)
+          subst (λ (u : Model). StandsFor (tlb_after w s.effect c (tlb_asks w c m s.asks t)) (model_after w s.effect c u)) l.is
+          (effect-stands s.effect c (tlb_asks w c m s.asks t) l.well)
       go (receives v) = record { well = invalidate-sound t r.well v; is = invalidate-live t r.well v }
 
   -- HISTORIES
 
   pub run-stands : (past : List (Event w)) (c : Plain w) {t : Tlb} {u : Model} → c.privilege.level ≤ 3 → StandsFor t u
-      → StandsFor (tlbRun w c past t) (modelRun w c past u)
+      → StandsFor (tlb_run w c past t) (model_run w c past u)
   run-stands [] c low r = r
-  run-stands (x ∷ xs) c low r = run-stands xs (afterEvent w x c) (event-low w x c low) (event-stands x c low r)
+  run-stands (x ∷ xs) c low r = run-stands xs (after_event w x c) (event-low w x c low) (event-stands x c low r)
 
   -- Over every history the cache does to the plain model what the model's own functions do.
   pub run-live : (past : List (Event w)) (c : Plain w) (t : Tlb) → c.privilege.level ≤ 3 → WellFormed t
-      → live (tlbRun w c past t) ≡ modelRun w c past (live t)
+      → live (tlb_run w c past t) ≡ model_run w c past (live t)
   run-live past c t low s = (run-stands past c low (record { well = s; is = refl })).is
 
   -- and each answer is the model's
   pub answers-run-live : (past : List (Event w)) (c : Plain w) {t : Tlb} {u : Model} → c.privilege.level ≤ 3 → StandsFor t u
-      → answersRun w c past t ≡ modelAnswersRun w c past u
+      → answers_run w c past t ≡ model_answers_run w c past u
   answers-run-live [] c low r = refl
   answers-run-live (steps m s ∷ xs) c {t} low r =
-      ap₂ {C = List Given} ◌++◌ (answers-live c m low s.asks t r.well ∙ ap (modelAnswers w c m s.asks) r.is)
+      ap₂ {C = List Given} ◌++◌ (answers-live c m low s.asks t r.well ∙ ap (model_answers w c m s.asks) r.is)
       (answers-run-live xs (after w s.effect c) (event-low w (steps m s) c low) (event-stands (steps m s) c low r))
   answers-run-live (receives v ∷ xs) c low r = answers-run-live xs c low (event-stands (receives v) c low r)
 
   -- A new cache is the empty model.
-  pub fresh-stands : StandsFor fresh emptyModel
+  pub fresh-stands : StandsFor fresh empty_model
   fresh-stands = record { well = fresh-sound; is = fresh-live }
 
   -- After every history from a core with a new cache: the plain model, and the model's answers to each translation of
   -- the next step.
   module _ (c₀ : Plain w) (low : c₀.privilege.level ≤ 3) (past : List (Event w)) where
-    pub history-model : live (tlbRun w c₀ past fresh) ≡ modelRun w c₀ past emptyModel
+    pub history-model : live (tlb_run w c₀ past fresh) ≡ model_run w c₀ past empty_model
     history-model = (run-stands past c₀ low fresh-stands).is
 
     pub history-answers : (m : w.Ram) (l : List Ask)
-        → answers w (plainRun w c₀ past) m l (tlbRun w c₀ past fresh) ≡ modelAnswers w (plainRun w c₀ past) m l (modelRun w c₀ past emptyModel)
+        → answers w (plain_run w c₀ past) m l (tlb_run w c₀ past fresh) ≡ model_answers w (plain_run w c₀ past) m l (model_run w c₀ past empty_model)
     history-answers m l =
-        answers-live (plainRun w c₀ past) m (run-low w past c₀ low) l (tlbRun w c₀ past fresh) (run-stands past c₀ low fresh-stands).well
-        ∙ ap (modelAnswers w (plainRun w c₀ past) m l) history-model
+        answers-live (plain_run w c₀ past) m (run-low w past c₀ low) l (tlb_run w c₀ past fresh) (run-stands past c₀ low fresh-stands).well
+        ∙ ap (model_answers w (plain_run w c₀ past) m l) history-model

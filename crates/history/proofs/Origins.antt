@@ -3,13 +3,13 @@ use Rattle.std.specs.Prelude.{◌≡◌, refl, true, List, [], ◌∷◌, ◌⊎
 use Rattle.std.proofs.Common.{sym, subst, ◌∙◌, inl, inr}
 use Rattle.tlb.specs.Lists.{Each, done, more}
 use Rattle.tlb.specs.Tlb.{fresh}
-use Rattle.tlb.specs.Model.{Model, emptyModel}
+use Rattle.tlb.specs.Model.{Model, empty_model}
 use Rattle.tlb.specs.Asks.{Ask, kind_of, address_of, Given, onward}
 use Rattle.tlb.specs.declared.{access.Answer.Answer}
 use Rattle.tlb.specs.declared.access.Answer.TheVariants.{Address, Status}
-use Rattle.history.specs.World.{World, Laws, Plain, regimeNow, pageNow}
-use Rattle.history.specs.History.{Step, Event, plainRun, dropsRun, answers, tlbRun}
-use Rattle.history.specs.ModelRun.{modelAsk, modelAnswers, modelRun}
+use Rattle.history.specs.World.{World, Laws, Plain, regime_now, page_now}
+use Rattle.history.specs.History.{Step, Event, plain_run, drops_run, answers, tlb_run}
+use Rattle.history.specs.ModelRun.{model_ask, model_answers, model_run}
 use Rattle.history.proofs.ModelLaws.{history-answers}
 use Rattle.history.proofs.Traced.{Moment, at, Traced, traced-at}
 use Rattle.history.proofs.Right.{Answered, itself, by, failed, Done}
@@ -19,7 +19,7 @@ use Rattle.history.specs.Origin.{now, then, From, flat, fails, walks}
 module _ (w : World) (laws : Laws w) (c₀ : Plain w) (zero-asid : w.asid c₀.regs ≡ 0) (low : c₀.privilege.level ≤ 3) where
   module _ (past : List (Event w)) (m : w.Ram) where
     abbrev c : Plain w
-    c = plainRun w c₀ past
+    c = plain_run w c₀ past
 
     abbrev h : List (Moment w)
     h = moments w laws c₀ past []
@@ -30,34 +30,34 @@ module _ (w : World) (laws : Laws w) (c₀ : Plain w) (zero-asid : w.asid c₀.r
     from a x (by ℓ i o (inl k) d e) = walks c.regs m [] (now refl refl) ℓ k.is-on k.leaf (inr refl) done e
     from a x (by ℓ i o (inr k) d e) = go (found w laws past c₀ [] k)
       where
-        go : Found w laws c₀ past (regimeNow w c) (pageNow w c (address_of a)) ℓ i
-            ⊎ (Uncovered w laws (pageNow w c (address_of a)) ℓ i (dropsRun w c₀ past) × ⊥) → From w c₀ past m a x
+        go : Found w laws c₀ past (regime_now w c) (page_now w c (address_of a)) ℓ i
+            ⊎ (Uncovered w laws (page_now w c (address_of a)) ℓ i (drops_run w c₀ past) × ⊥) → From w c₀ past m a x
         go (inr z) = absurd z.1
         go (inl f) =
-            walks (plainRun w c₀ f.before).regs f.ram _ (then f.before f.step f.later f.split refl) ℓ f.walks.is-on f.walks.leaf
+            walks (plain_run w c₀ f.before).regs f.ram _ (then f.before f.step f.later f.split refl) ℓ f.walks.is-on f.walks.leaf
             (day d) (rw f.walks.under at f.spared) e
           where
-            day : (ℓ.global ≡ true) ⊎ (i ≡ w.asid c.regs) → (ℓ.global ≡ true) ⊎ (w.asid (plainRun w c₀ f.before).regs ≡ w.asid c.regs)
+            day : (ℓ.global ≡ true) ⊎ (i ≡ w.asid c.regs) → (ℓ.global ≡ true) ⊎ (w.asid (plain_run w c₀ f.before).regs ≡ w.asid c.regs)
             day (inl g) = inl g
             day (inr y) = inr (sym f.walks.under ∙ y)
 
     all_from : (l : List Ask) (u : Model) → Traced w (at c.regs m ∷ h) c.regs u
-        → Each (λ g. From w c₀ past m g.ask g.answer) (modelAnswers w c m l u)
+        → Each (λ g. From w c₀ past m g.ask g.answer) (model_answers w c m l u)
     all_from [] u s = done
     all_from (a ∷ l) u s =
-        more (from a (modelAsk w c m a u).answer next.answered) (go (modelAsk w c m a u).answer (all_from l (modelAsk w c m a u).after next.traced))
+        more (from a (model_ask w c m a u).answer next.answered) (go (model_ask w c m a u).answer (all_from l (model_ask w c m a u).after next.traced))
       where
-        next : Done w laws (at c.regs m ∷ h) c m (kind_of a) (address_of a) (modelAsk w c m a u)
+        next : Done w laws (at c.regs m ∷ h) c m (kind_of a) (address_of a) (model_ask w c m a u)
         next = ask-done w laws h c m u s a
 
-        go : (x : Answer) → Each (λ g. From w c₀ past m g.ask g.answer) (modelAnswers w c m l (modelAsk w c m a u).after)
-            → Each (λ g. From w c₀ past m g.ask g.answer) (onward x (modelAnswers w c m l (modelAsk w c m a u).after) [])
+        go : (x : Answer) → Each (λ g. From w c₀ past m g.ask g.answer) (model_answers w c m l (model_ask w c m a u).after)
+            → Each (λ g. From w c₀ past m g.ask g.answer) (onward x (model_answers w c m l (model_ask w c m a u).after) [])
         go (Address pa) rest = rest
         go (Status f) rest = done
 
   -- After every history, whatever the RAM, each answer comes from there.
   pub origin : (past : List (Event w)) (m : w.Ram) (s : Step w)
-      → Each (λ g. From w c₀ past m g.ask g.answer) (answers w (plainRun w c₀ past) m s.asks (tlbRun w c₀ past fresh))
+      → Each (λ g. From w c₀ past m g.ask g.answer) (answers w (plain_run w c₀ past) m s.asks (tlb_run w c₀ past fresh))
   origin past m s =
       subst (λ (l : List Given). Each (λ g. From w c₀ past m g.ask g.answer) l) (sym (history-answers w laws c₀ low past m s.asks))
-      (all_from past m s.asks (modelRun w c₀ past emptyModel) (traced-at w m (history-traced w laws c₀ zero-asid low past)))
+      (all_from past m s.asks (model_run w c₀ past empty_model) (traced-at w m (history-traced w laws c₀ zero-asid low past)))

@@ -11,19 +11,19 @@ use Rattle.word.specs.BitLaws.{both}
 use Rattle.fault.specs.First.{first}
 use Rattle.walk.specs.declared.{regime.Regime.Regime, level.Leaf.Leaf}
 use Rattle.walk.specs.declared.regime.Regime.TheVariants.{El1, El2, El3}
-use Rattle.tlb.specs.Model.{Slot, empty, holds, Line, Known, Model, oneHit, oneWalk, sameRegime, folded, hintPlace, Access, Outcome, asUser, need, reachOf}
-use Rattle.tlb.specs.Model.{reaches, serving, line_for, addressIn, judge as judgeLine, lineOfLeaf, walked, looked, unhinted, known_of, noting, noted, knowing}
-use Rattle.tlb.specs.Model.{tried, hinted, hintable, translate, notingFetch, notedFetch, fetched, fetch}
+use Rattle.tlb.specs.Model.{Slot, empty, holds, Line, Known, Model, one_hit, one_walk, same_regime, folded, hint_place, Access, Outcome, as_user, need, reach_of}
+use Rattle.tlb.specs.Model.{reaches, serving, line_for, address_in, judge as judgeLine, line_of_leaf, walked, looked, unhinted, known_of, noting, noted, knowing}
+use Rattle.tlb.specs.Model.{tried, hinted, hintable, translate, noting_fetch, noted_fetch, fetched, fetch}
 use Rattle.tlb.specs.declared.{access.Kind.Kind, access.Answer.Answer}
 use Rattle.tlb.specs.declared.access.Kind.TheVariants.{Read, Write, Fetch}
 use Rattle.tlb.specs.declared.access.Answer.TheVariants.{Address, Status}
-use Rattle.history.specs.World.{World, Laws, LeavesEqual, leafAnswer, walkAnswer, pageWalk, Plain, regimeNow, onNow, untagNow, pageNow, needNow, uncached}
-use Rattle.history.specs.World.{accessOf}
+use Rattle.history.specs.World.{World, Laws, LeavesEqual, leaf_answer, walk_answer, page_walk, Plain, regime_now, on_now, untag_now, page_now, need_now, uncached}
+use Rattle.history.specs.World.{access_of}
 use Rattle.history.proofs.Traced.{Moment, at, Seen, Today, LineFrom, LineOk, allows, HintFrom, flat, kept, HintOk, kind_at, Traced, traced-counting}
 use Rattle.history.proofs.Traced.{traced-keep, traced-hint, traced-fetch-hint}
 use Rattle.walk.specs.Answers.{Walked}
 
-same-regime : (r s : Regime) → sameRegime r s ≡ true → r ≡ s
+same-regime : (r s : Regime) → same_regime r s ≡ true → r ≡ s
 same-regime El1 El1 e = refl
 same-regime El1 El2 e = absurd (false≢true e)
 same-regime El1 El3 e = absurd (false≢true e)
@@ -38,13 +38,13 @@ same-regime El3 El3 e = refl
 abbrev Unmarked : Bool → Kind → Type 0
 Unmarked mark k = (k ≡ Fetch) ⊎ (mark ≡ false)
 
-fetch-unmarked : (r : Regime) (el : ℕ) (mark : Bool) → asUser r el mark Fetch ≡ asUser r el false Fetch
+fetch-unmarked : (r : Regime) (el : ℕ) (mark : Bool) → as_user r el mark Fetch ≡ as_user r el false Fetch
 fetch-unmarked El1 zero mark = refl
 fetch-unmarked El1 (suc n) mark = refl
 fetch-unmarked El2 el mark = refl
 fetch-unmarked El3 el mark = refl
 
-unmarked : (r : Regime) (el : ℕ) (mark : Bool) (k : Kind) → Unmarked mark k → asUser r el mark k ≡ asUser r el false k
+unmarked : (r : Regime) (el : ℕ) (mark : Bool) (k : Kind) → Unmarked mark k → as_user r el mark k ≡ as_user r el false k
 unmarked r el mark k (inl e) = rw e (fetch-unmarked r el mark)
 unmarked r el mark k (inr e) = rw e
 
@@ -60,13 +60,13 @@ place-low p = omega arith
 
 module _ (w : World) where
   -- a hint's place says its kind
-  kind-at : (k : Kind) (mark : Bool) (va : ℕ) → hintable k mark ≡ true → kind_at w (hintPlace k va) ≡ k
+  kind-at : (k : Kind) (mark : Bool) (va : ℕ) → hintable k mark ≡ true → kind_at w (hint_place k va) ≡ k
   kind-at Read mark va e = rw (lt-ltb (0 + folded (va / 4096)) 256 (omega (arith, place-low (va / 4096))))
   kind-at Write mark va e = rw (le-ltb (256 + folded (va / 4096)) 256 (omega arith))
   kind-at Fetch mark va e = absurd (false≢true e)
 
-  pub leaf-equal : {ℓ ℓ' : Leaf} (bit va : ℕ) → LeavesEqual ℓ ℓ' → leafAnswer ℓ bit va ≡ leafAnswer ℓ' bit va
-  unfolding leafAnswer
+  pub leaf-equal : {ℓ ℓ' : Leaf} (bit va : ℕ) → LeavesEqual ℓ ℓ' → leaf_answer ℓ bit va ≡ leaf_answer ℓ' bit va
+  unfolding leaf_answer
   leaf-equal bit va g =
       λ i.
       if g.perms i / bit % 2 == 1 then Address (g.pages i * 4096 + va % 4096) else Status (first (12 + g.levels i))
@@ -75,53 +75,53 @@ module _ (w : World) where
   abbrev pub Agreed : List (Moment w) → w.Regs → w.Ram → Regime → ℕ → Type 0
   Agreed h R m r p =
       (ℓ : Leaf) (a : ℕ) → Seen w h r p ℓ a → Today w R ℓ a
-      → (ℓ' : Leaf) × (pageWalk w R m r p ≡ Ok ℓ') × LeavesEqual ℓ ℓ'
+      → (ℓ' : Leaf) × (page_walk w R m r p ≡ Ok ℓ') × LeavesEqual ℓ ℓ'
 
   module _ (laws : Laws w) (h : List (Moment w)) (c : Plain w) (m : w.Ram) (k : Kind) (va : ℕ) where
     -- where an answer came from
     pub data Answered (x : Answer) : Type 0 where
-      itself : onNow w c ≡ false → x ≡ Address va → Answered x
-      by : (ℓ : Leaf) (a : ℕ) → onNow w c ≡ true → Seen w h (regimeNow w c) (pageNow w c va) ℓ a → Today w c.regs ℓ a
-          → x ≡ leafAnswer ℓ (needNow w c k) va → Answered x
-      failed : (code : ℕ) → onNow w c ≡ true → w.walk c.regs m (regimeNow w c) (untagNow w c va) ≡ Err code → x ≡ Status (first code)
+      itself : on_now w c ≡ false → x ≡ Address va → Answered x
+      by : (ℓ : Leaf) (a : ℕ) → on_now w c ≡ true → Seen w h (regime_now w c) (page_now w c va) ℓ a → Today w c.regs ℓ a
+          → x ≡ leaf_answer ℓ (need_now w c k) va → Answered x
+      failed : (code : ℕ) → on_now w c ≡ true → w.walk c.regs m (regime_now w c) (untag_now w c va) ≡ Err code → x ≡ Status (first code)
           → Answered x
 
-    pub answered-right : {x : Answer} → Agreed h c.regs m (regimeNow w c) (pageNow w c va) → Answered x → x ≡ uncached w c m k va
-    unfolding uncached walkAnswer
+    pub answered-right : {x : Answer} → Agreed h c.regs m (regime_now w c) (page_now w c va) → Answered x → x ≡ uncached w c m k va
+    unfolding uncached walk_answer
     answered-right st (itself o e) = rw o e
     answered-right st (by ℓ a o seen d e) =
         let (ℓ', e', g) = st ℓ a seen d in
-        let (ℓ'', e'', g'', _) = laws.walk-page c.regs m (regimeNow w c) (pageNow w c va * 4096) (untagNow w c va) (omega arith) ℓ' e' in
-        rw (o, e'') (e ∙ leaf-equal (needNow w c k) va g ∙ leaf-equal (needNow w c k) va g'')
+        let (ℓ'', e'', g'', _) = laws.walk-page c.regs m (regime_now w c) (page_now w c va * 4096) (untag_now w c va) (omega arith) ℓ' e' in
+        rw (o, e'') (e ∙ leaf-equal (need_now w c k) va g ∙ leaf-equal (need_now w c k) va g'')
     answered-right st (failed code o f e) = rw (o, f) e
 
     -- the pages of an address and of its page's first address are untagged to one page
-    untag-first : untagNow w c va / 4096 ≡ w.untag c.regs (regimeNow w c) (va / 4096 * 4096) / 4096
-    untag-first = laws.untag-page c.regs (regimeNow w c) va (va / 4096 * 4096) (omega arith)
+    untag-first : untag_now w c va / 4096 ≡ w.untag c.regs (regime_now w c) (va / 4096 * 4096) / 4096
+    untag-first = laws.untag-page c.regs (regime_now w c) va (va / 4096 * 4096) (omega arith)
 
-    same-need : Unmarked c.privilege.unprivileged k → needNow w c k ≡ need k (asUser (regimeNow w c) c.privilege.level false k)
-    same-need u = ap (need k) (unmarked (regimeNow w c) c.privilege.level c.privilege.unprivileged k u)
+    same-need : Unmarked c.privilege.unprivileged k → need_now w c k ≡ need k (as_user (regime_now w c) c.privilege.level false k)
+    same-need u = ap (need k) (unmarked (regime_now w c) c.privilege.level c.privilege.unprivileged k u)
 
     answered-hint : (pa : ℕ) → Unmarked c.privilege.unprivileged k → Answered (Address pa)
         → HintFrom w h c.regs k (va / 4096) c.privilege.level (pa / 4096)
-    unfolding leafAnswer
+    unfolding leaf_answer
     answered-hint pa u (itself o e) = let q : pa ≡ va = cc in flat o (ap (λ (n : ℕ). n / 4096) q)
-    answered-hint pa u (by ℓ a o seen d e) = go (allows w ℓ (needNow w c k)) refl e
+    answered-hint pa u (by ℓ a o seen d e) = go (allows w ℓ (need_now w c k)) refl e
       where
-        go : (b : Bool) → allows w ℓ (needNow w c k) ≡ b → Address pa ≡ (if b then Address (ℓ.oa / 4096 * 4096 + va % 4096) else Status (first (12 + ℓ.level)))
+        go : (b : Bool) → allows w ℓ (need_now w c k) ≡ b → Address pa ≡ (if b then Address (ℓ.oa / 4096 * 4096 + va % 4096) else Status (first (12 + ℓ.level)))
             → HintFrom w h c.regs k (va / 4096) c.privilege.level (pa / 4096)
         go true al q =
             let n : pa ≡ ℓ.oa / 4096 * 4096 + va % 4096 = cc in
-            kept ℓ a o (subst (λ (p : ℕ). Seen w h (regimeNow w c) p ℓ a) untag-first seen) d
+            kept ℓ a o (subst (λ (p : ℕ). Seen w h (regime_now w c) p ℓ a) untag-first seen) d
             (ap (allows w ℓ) (sym (same-need u)) ∙ al) (omega arith)
         go false al q = let z : ◌≡◌ {A = ℕ} 0 1 = cc in absurd (omega arith)
     answered-hint pa u (failed code o f e) = let z : ◌≡◌ {A = ℕ} 0 1 = cc in absurd (omega arith)
 
-    hint-answered : (q : ℕ) → Unmarked c.privilege.unprivileged k → HintFrom w h c.regs k (va / 4096) c.privilege.level q → Answered (addressIn q va)
-    unfolding leafAnswer
+    hint-answered : (q : ℕ) → Unmarked c.privilege.unprivileged k → HintFrom w h c.regs k (va / 4096) c.privilege.level q → Answered (address_in q va)
+    unfolding leaf_answer
     hint-answered q u (flat o e) = let x : q * 4096 + va % 4096 ≡ va = omega arith in itself o (ap Address x)
     hint-answered q u (kept ℓ a o seen d al e) =
-        by ℓ a o (subst (λ (p : ℕ). Seen w h (regimeNow w c) p ℓ a) (sym untag-first) seen) d
+        by ℓ a o (subst (λ (p : ℕ). Seen w h (regime_now w c) p ℓ a) (sym untag-first) seen) d
         (rw (same-need u, al) (ap (λ (n : ℕ). Address (n * 4096 + va % 4096)) e))
 
     -- an answer that came so, and a model that is traced
@@ -129,8 +129,8 @@ module _ (w : World) where
       pub traced : Traced w h c.regs o.after
       pub answered : Answered o.answer
 
-    line-judged : (l : Line) (o : LineFrom w h l) → judgeLine l (accessOf w c m k va) ≡ leafAnswer o.leaf (needNow w c k) va
-    unfolding judgeLine leafAnswer
+    line-judged : (l : Line) (o : LineFrom w h l) → judgeLine l (access_of w c m k va) ≡ leaf_answer o.leaf (need_now w c k) va
+    unfolding judgeLine leaf_answer
     line-judged l o = rw (o.frame, o.perms, o.level)
 
   -- a step has begun on the registers and RAM of now
@@ -142,31 +142,31 @@ module _ (w : World) where
     Fine o = Done laws h c m k va o
 
     abbrev a : Access
-    a = accessOf w c m k va
+    a = access_of w c m k va
 
     -- the tests of a line and of a hint
-    abbrev ofPage : Line → Bool
-    ofPage l = l.page == pageNow w c va
+    abbrev of_page : Line → Bool
+    of_page l = l.page == page_now w c va
 
-    abbrev ofRegime : Line → Bool
-    ofRegime l = sameRegime l.regime (regimeNow w c)
+    abbrev of_regime : Line → Bool
+    of_regime l = same_regime l.regime (regime_now w c)
 
     abbrev hits : Known → Bool
     hits n = n.page == va / 4096 && n.level == c.privilege.level
 
     module _ (t : Model) (s : Traced w h c.regs t) where
-      walk-done : onNow w c ≡ true → (x : Walked) → w.walk c.regs m (regimeNow w c) (untagNow w c va) ≡ x → Fine (walked x a t)
+      walk-done : on_now w c ≡ true → (x : Walked) → w.walk c.regs m (regime_now w c) (untag_now w c va) ≡ x → Fine (walked x a t)
       unfolding walked
-      walk-done o (Err code) e = record { traced = traced-counting w (oneWalk c.privilege.level) s; answered = failed code o e refl }
-      walk-done o (Ok leaf) e = record { traced = traced-keep w line kept-walk (traced-counting w (oneWalk c.privilege.level) s); answered = answer }
+      walk-done o (Err code) e = record { traced = traced-counting w (one_walk c.privilege.level) s; answered = failed code o e refl }
+      walk-done o (Ok leaf) e = record { traced = traced-keep w line kept-walk (traced-counting w (one_walk c.privilege.level) s); answered = answer }
         where
           line : Line
-          line = lineOfLeaf leaf a t.asid
+          line = line_of_leaf leaf a t.asid
 
-          own : (ℓ' : Leaf) × (pageWalk w c.regs m (regimeNow w c) (pageNow w c va) ≡ Ok ℓ') × LeavesEqual leaf ℓ' × (leaf.global ≡ ℓ'.global)
-          own = laws.walk-page c.regs m (regimeNow w c) (untagNow w c va) (pageNow w c va * 4096) (omega arith) leaf e
+          own : (ℓ' : Leaf) × (page_walk w c.regs m (regime_now w c) (page_now w c va) ≡ Ok ℓ') × LeavesEqual leaf ℓ' × (leaf.global ≡ ℓ'.global)
+          own = laws.walk-page c.regs m (regime_now w c) (untag_now w c va) (page_now w c va * 4096) (omega arith) leaf e
 
-          seen : Seen w h (regimeNow w c) (pageNow w c va) own.0 t.asid
+          seen : Seen w h (regime_now w c) (page_now w c va) own.0 t.asid
           seen = inl (record { is-on = o; leaf = own.1; under = s.asid-is })
 
           kept-walk : LineFrom w h line
@@ -178,47 +178,47 @@ module _ (w : World) where
                 frame = own.2.pages;
                 perms = own.2.perms;
                 level = own.2.levels;
-                reach = ap (λ (g : Bool). reachOf g t.asid) own.3;
+                reach = ap (λ (g : Bool). reach_of g t.asid) own.3;
               }
 
           answer : Answered laws h c m k va (judgeLine line a)
           answer = by own.0 t.asid o seen (inr s.asid-is) (line-judged laws h c m k va line kept-walk)
 
       -- a line that serves keeps a walk that was seen, global or under today's ASID
-      line-done : onNow w c ≡ true → (l : Line) → LineFrom w h l → ofPage l ≡ true → ofRegime l ≡ true → reaches l.reach t.asid ≡ true
+      line-done : on_now w c ≡ true → (l : Line) → LineFrom w h l → of_page l ≡ true → of_regime l ≡ true → reaches l.reach t.asid ≡ true
           → Fine (looked (holds l) a t)
       unfolding looked
       line-done o l b p r q =
           record {
-            traced = traced-counting w (oneHit c.privilege.level) s;
+            traced = traced-counting w (one_hit c.privilege.level) s;
             answered =
-                by b.leaf b.under o (rw (same-regime l.regime (regimeNow w c) r, eqb-true l.page (pageNow w c va) p) at b.seen)
+                by b.leaf b.under o (rw (same-regime l.regime (regime_now w c) r, eqb-true l.page (page_now w c va) p) at b.seen)
                 (today b.leaf.global refl (rw b.reach at q)) (line-judged laws h c m k va l b);
           }
         where
-          today : (g : Bool) → b.leaf.global ≡ g → reaches (reachOf b.leaf.global b.under) t.asid ≡ true → Today w c.regs b.leaf b.under
+          today : (g : Bool) → b.leaf.global ≡ g → reaches (reach_of b.leaf.global b.under) t.asid ≡ true → Today w c.regs b.leaf b.under
           today true e x = inl e
           today false e x = inr (eqb-true _ _ (rw e at x) ∙ s.asid-is)
 
-      look-done : onNow w c ≡ true → (x : Slot Line) → LineOk w h x → Fine (looked (serving t.asid (regimeNow w c) (pageNow w c va) x) a t)
+      look-done : on_now w c ≡ true → (x : Slot Line) → LineOk w h x → Fine (looked (serving t.asid (regime_now w c) (page_now w c va) x) a t)
       unfolding looked
       look-done o empty ok = walk-done o _ refl
-      look-done o (holds l) ok = go (ofPage l) (ofRegime l) (reaches l.reach t.asid) refl refl refl
+      look-done o (holds l) ok = go (of_page l) (of_regime l) (reaches l.reach t.asid) refl refl refl
         where
-          go : (p r q : Bool) → ofPage l ≡ p → ofRegime l ≡ r → reaches l.reach t.asid ≡ q
+          go : (p r q : Bool) → of_page l ≡ p → of_regime l ≡ r → reaches l.reach t.asid ≡ q
               → Fine (looked (if (p && r) && q then holds l else empty) a t)
           go true true true x y z = line-done o l ok x y z
           go true true false x y z = walk-done o _ refl
           go true false q x y z = walk-done o _ refl
           go false r q x y z = walk-done o _ refl
 
-      pub unhinted-done : Fine (unhinted (onNow w c) a t)
+      pub unhinted-done : Fine (unhinted (on_now w c) a t)
       unfolding unhinted line_for
-      unhinted-done = go (onNow w c) refl
+      unhinted-done = go (on_now w c) refl
         where
-          go : (b : Bool) → onNow w c ≡ b → Fine (unhinted b a t)
+          go : (b : Bool) → on_now w c ≡ b → Fine (unhinted b a t)
           go false o = record { traced = s; answered = itself o refl }
-          go true o = look-done o (t.lines (pageNow w c va % 1024)) (s.lines_ok (pageNow w c va % 1024))
+          go true o = look-done o (t.lines (page_now w c va % 1024)) (s.lines_ok (page_now w c va % 1024))
 
       -- a data translation that came out sets a hint that holds
       hint-done : hintable k c.privilege.unprivileged ≡ true → (o : Outcome) → Fine o → Fine (noted a o)
@@ -228,14 +228,14 @@ module _ (w : World) where
           go : (x : Answer) → o.answer ≡ x → Traced w h c.regs (noting x a o.after)
           go (Status f) e = d.traced
           go (Address pa) e =
-              traced-hint w (hintPlace k va) (known_of a pa)
+              traced-hint w (hint_place k va) (known_of a pa)
               (rw (kind-at k c.privilege.unprivileged va b)
               (answered-hint laws h c m k va pa (inr (hint-unmarked k c.privilege.unprivileged b)) (rw e at d.answered)))
               d.traced
 
       -- a hint answers what it says
       hit-done : Unmarked c.privilege.unprivileged k → (n : Known) → HintFrom w h c.regs k n.page n.level n.frame
-          → hits n ≡ true → Answered laws h c m k va (addressIn n.frame va)
+          → hits n ≡ true → Answered laws h c m k va (address_in n.frame va)
       hit-done u n o e =
           let p : n.page ≡ va / 4096 = eqb-true _ _ (both (n.page == va / 4096) _ e).0 in
           let l : n.level ≡ c.privilege.level = eqb-true _ _ (both (n.page == va / 4096) _ e).1 in
@@ -258,22 +258,22 @@ module _ (w : World) where
           go : (b : Bool) → hintable k c.privilege.unprivileged ≡ b → Fine (hinted b a t)
           go false b = unhinted-done
           go true b =
-              tried-done b (t.hints (hintPlace k va))
-              (rw (kind-at k c.privilege.unprivileged va b) at (s.hints-ok (hintPlace k va)))
+              tried-done b (t.hints (hint_place k va))
+              (rw (kind-at k c.privilege.unprivileged va b) at (s.hints-ok (hint_place k va)))
 
       fetch-tried : k ≡ Fetch → (x : Slot Known) → HintOk w h c.regs k x → Fine (fetched (knowing (va / 4096) c.privilege.level x) a t)
-      unfolding fetched notedFetch
+      unfolding fetched noted_fetch
       fetch-tried f x ok = go x ok
         where
-          d : Fine (unhinted (onNow w c) a t)
+          d : Fine (unhinted (on_now w c) a t)
           d = unhinted-done
 
-          put : (y : Answer) → (unhinted (onNow w c) a t).answer ≡ y → Traced w h c.regs (notingFetch y a (unhinted (onNow w c) a t).after)
+          put : (y : Answer) → (unhinted (on_now w c) a t).answer ≡ y → Traced w h c.regs (noting_fetch y a (unhinted (on_now w c) a t).after)
           put (Status f) e = d.traced
           put (Address pa) e =
               traced-fetch-hint w (known_of a pa) (rw f at (answered-hint laws h c m k va pa (inl f) (rw e at d.answered))) d.traced
 
-          miss : Fine (notedFetch a (unhinted (onNow w c) a t))
+          miss : Fine (noted_fetch a (unhinted (on_now w c) a t))
           miss = record { traced = put _ refl; answered = d.answered }
 
           go : (y : Slot Known) → HintOk w h c.regs k y → Fine (fetched (knowing (va / 4096) c.privilege.level y) a t)

@@ -3,14 +3,14 @@
 use Rattle.std.specs.Prelude.{if◌then◌else◌, ◌≡◌, Bool, true, false, not, ◌&&◌, List, [], ◌∷◌, ◌⊎◌, ℕ, ◌*◌, ◌/◌, ◌%◌, ◌==◌, ltb, Ok}
 use Rattle.std.proofs.Math.Path.{refl}
 use Rattle.std.proofs.Common.{sym, subst, ◌∙◌, inl, inr, eqb-true}
-use Rattle.walk.specs.Regime.{regimeOf}
+use Rattle.walk.specs.Regime.{regime_of}
 use Rattle.walk.specs.declared.{regime.Regime.Regime, level.Leaf.Leaf}
-use Rattle.tlb.specs.Model.{Slot, empty, holds, Line, Known, Counters, Model, emptyModel, belongsTo, covers as coversLine, uncovered, invalidate, retag}
-use Rattle.tlb.specs.Model.{counting, keep, keepHint, keepFetch, asUser, need, reachOf}
+use Rattle.tlb.specs.Model.{Slot, empty, holds, Line, Known, Counters, Model, empty_model, belongs_to, covers as coversLine, uncovered, invalidate, retag}
+use Rattle.tlb.specs.Model.{counting, keep, keep_hint, keep_fetch, as_user, need, reach_of}
 use Rattle.tlb.specs.declared.{access.Kind.Kind, Inval.Inval}
 use Rattle.tlb.specs.declared.access.Kind.TheVariants.{Read, Write, Fetch}
 use Rattle.tlb.specs.declared.Inval.TheVariants.{All, Page, Asid}
-use Rattle.history.specs.World.{World, Laws, covers, pageWalk}
+use Rattle.history.specs.World.{World, Laws, covers, page_walk}
 
 module _ (w : World) where
   -- The history as moments, the last one first: a step begins, on these registers and this RAM; or an invalidation is
@@ -22,7 +22,7 @@ module _ (w : World) where
   -- The page p of the regime r has the walk ℓ, under the ASID a.
   pub record Walks (R : w.Regs) (m : w.Ram) (r : Regime) (p : ℕ) (ℓ : Leaf) (a : ℕ) : Type 0 where
     pub is-on : w.on R r ≡ true
-    pub leaf : pageWalk w R m r p ≡ Ok ℓ
+    pub leaf : page_walk w R m r p ≡ Ok ℓ
     pub under : a ≡ w.asid R
 
   -- The page had this walk at a step, and no invalidation since covers it.
@@ -43,7 +43,7 @@ module _ (w : World) where
     pub frame : l.frame ≡ leaf.oa / 4096
     pub perms : l.perms ≡ leaf.perms
     pub level : l.level ≡ leaf.level
-    pub reach : l.reach ≡ reachOf leaf.global under
+    pub reach : l.reach ≡ reach_of leaf.global under
 
   abbrev pub LineOk : List Moment → Slot Line → Type 0
   LineOk h empty = Unit {0}
@@ -55,9 +55,9 @@ module _ (w : World) where
   -- What a hint for the raw page v at the level el says to an access of the kind, without the mark: the physical
   -- page q.
   pub data HintFrom (h : List Moment) (R : w.Regs) (k : Kind) (v el q : ℕ) : Type 0 where
-    flat : w.on R (regimeOf el) ≡ false → q ≡ v → HintFrom h R k v el q
-    kept : (ℓ : Leaf) (a : ℕ) → w.on R (regimeOf el) ≡ true → Seen h (regimeOf el) (w.untag R (regimeOf el) (v * 4096) / 4096) ℓ a
-        → Today R ℓ a → allows ℓ (need k (asUser (regimeOf el) el false k)) ≡ true → q ≡ ℓ.oa / 4096 → HintFrom h R k v el q
+    flat : w.on R (regime_of el) ≡ false → q ≡ v → HintFrom h R k v el q
+    kept : (ℓ : Leaf) (a : ℕ) → w.on R (regime_of el) ≡ true → Seen h (regime_of el) (w.untag R (regime_of el) (v * 4096) / 4096) ℓ a
+        → Today R ℓ a → allows ℓ (need k (as_user (regime_of el) el false k)) ≡ true → q ≡ ℓ.oa / 4096 → HintFrom h R k v el q
 
   abbrev pub HintOk : List Moment → w.Regs → Kind → Slot Known → Type 0
   HintOk h R k empty = Unit {0}
@@ -73,7 +73,7 @@ module _ (w : World) where
     pub hints-ok : (i : ℕ) → HintOk h R (kind_at i) (m.hints i)
     pub fetch-ok : HintOk h R Fetch m.fetch
 
-  pub traced-empty : (R : w.Regs) → w.asid R ≡ 0 → Traced [] R emptyModel
+  pub traced-empty : (R : w.Regs) → w.asid R ≡ 0 → Traced [] R empty_model
   traced-empty R z = record { asid-is = sym z; lines_ok = λ i. tt; hints-ok = λ i. tt; fetch-ok = tt }
 
   -- A STEP BEGINS: more is seen, and every hint stays so
@@ -111,7 +111,7 @@ module _ (w : World) where
 
   -- INVALIDATION: what it spares, it does not cover
 
-  belongs : (g : Bool) (a b : ℕ) → belongsTo (reachOf g a) b ≡ (not g && a == b)
+  belongs : (g : Bool) (a b : ℕ) → belongs_to (reach_of g a) b ≡ (not g && a == b)
   belongs true a b = refl
   belongs false a b = refl
 
@@ -158,10 +158,10 @@ module _ (w : World) where
     today-kept ℓ a (inr i) = inr (i ∙ asids)
 
     hint-from-kept : {h : List Moment} {k : Kind} {v el q : ℕ} → HintFrom h R k v el q → HintFrom h S k v el q
-    hint-from-kept {el} (flat o e) = flat (sym (laws.shape_on R S shape (regimeOf el)) ∙ o) e
+    hint-from-kept {el} (flat o e) = flat (sym (laws.shape_on R S shape (regime_of el)) ∙ o) e
     hint-from-kept {h} {v} {el} (kept ℓ a o s d al e) =
-        kept ℓ a (sym (laws.shape_on R S shape (regimeOf el)) ∙ o)
-        (subst (λ (u : ℕ). Seen h (regimeOf el) (u / 4096) ℓ a) (laws.shape-untag R S shape (regimeOf el) (v * 4096)) s)
+        kept ℓ a (sym (laws.shape_on R S shape (regime_of el)) ∙ o)
+        (subst (λ (u : ℕ). Seen h (regime_of el) (u / 4096) ℓ a) (laws.shape-untag R S shape (regime_of el) (v * 4096)) s)
         (today-kept ℓ a d) al e
 
     hint-kept : (h : List Moment) (k : Kind) (n : Slot Known) → HintOk h R k n → HintOk h S k n
@@ -197,7 +197,7 @@ module _ (w : World) where
       }
 
   pub traced-hint : {h : List Moment} {R : w.Regs} {t : Model} (place : ℕ) (n : Known) → HintFrom h R (kind_at place) n.page n.level n.frame
-      → Traced h R t → Traced h R (keepHint place n t)
+      → Traced h R t → Traced h R (keep_hint place n t)
   traced-hint {h} {R} {t} place n o s =
       record {
         asid-is = s.asid-is;
@@ -211,5 +211,5 @@ module _ (w : World) where
       put i false e = s.hints-ok i
 
   pub traced-fetch-hint : {h : List Moment} {R : w.Regs} {t : Model} (n : Known) → HintFrom h R Fetch n.page n.level n.frame
-      → Traced h R t → Traced h R (keepFetch n t)
+      → Traced h R t → Traced h R (keep_fetch n t)
   traced-fetch-hint n o s = record { asid-is = s.asid-is; lines_ok = s.lines_ok; hints-ok = s.hints-ok; fetch-ok = o }

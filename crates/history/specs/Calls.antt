@@ -3,15 +3,15 @@ use Rattle.std.specs.Prelude.{◌≡◌, List, [], ◌∷◌, ◌++◌}
 use Rattle.tlb.specs.Lists.{Each}
 use Rattle.tlb.specs.Asks.{kind_of, address_of, Given}
 use Rattle.tlb.specs.declared.Tlb.{Tlb}
-use Rattle.history.specs.World.{World, Plain, regimeNow, pageNow, uncached}
-use Rattle.history.specs.History.{Step, Event, steps, plainRun, answers, tlbRun, Settled}
-use Rattle.history.specs.Invisible.{answersRun, plainAnswersRun, Tidy}
+use Rattle.history.specs.World.{World, Plain, regime_now, page_now, uncached}
+use Rattle.history.specs.History.{Step, Event, steps, plain_run, answers, tlb_run, Settled}
+use Rattle.history.specs.Invisible.{answers_run, plain_answers_run, Tidy}
 
 -- A core by its operations' exact definitions, and the core without a cache beside it.
 --   step      what a call makes of the core, with RAM as it stands when the call begins
 --   later     RAM as it stands when each further step of the call begins: none for most calls, for a zeroing one for each further store begun
 --   Bare      the state without a cache: level, mark, registers kept, general registers
---   bareStep  what the call makes of that state
+--   bare_step  what the call makes of that state
 --   plain     the part of it that a translation reads
 --   events    the call's steps, each with its RAM: read from the call, the state without a cache and RAM at each step's start
 pub record Machine (w : World) : Type 1 where
@@ -23,7 +23,7 @@ pub record Machine (w : World) : Type 1 where
   pub step : Core → w.Ram → Call → Core
   pub later : Core → w.Ram → Call → List w.Ram
   pub plain : Bare → Plain w
-  pub bareStep : Bare → w.Ram → Call → Bare
+  pub bare_step : Bare → w.Ram → Call → Bare
   pub events : Bare → w.Ram → List w.Ram → Call → List (Event w)
 
 -- a call, with RAM as it stands when the call begins
@@ -50,18 +50,18 @@ module _ (w : World) (M : Machine w) where
 
   -- THE CORE WITHOUT A CACHE, after the same list
 
-  abbrev pub bareRun : M.Bare → List (Lent w M) → M.Bare
-  bareRun b [] = b
-  bareRun b (x ∷ xs) = bareRun (M.bareStep b x.ram x.call) xs
+  abbrev pub bare_run : M.Bare → List (Lent w M) → M.Bare
+  bare_run b [] = b
+  bare_run b (x ∷ xs) = bare_run (M.bare_step b x.ram x.call) xs
 
   -- THE STEPS of a list that it is fed: read from the state without a cache and RAM at each step alone
 
-  abbrev pub eventsFed : M.Bare → Fed w M → List (Event w)
-  eventsFed b x = M.events b x.lent.ram x.later x.lent.call
+  abbrev pub events_fed : M.Bare → Fed w M → List (Event w)
+  events_fed b x = M.events b x.lent.ram x.later x.lent.call
 
-  abbrev pub eventsRun : M.Bare → List (Fed w M) → List (Event w)
-  eventsRun b [] = []
-  eventsRun b (x ∷ xs) = eventsFed b x ++ eventsRun (M.bareStep b x.lent.ram x.lent.call) xs
+  abbrev pub events_run : M.Bare → List (Fed w M) → List (Event w)
+  events_run b [] = []
+  events_run b (x ∷ xs) = events_fed b x ++ events_run (M.bare_step b x.lent.ram x.lent.call) xs
 
   -- WHAT TIES THE TWO: RAM at each step is what the run on the core c shows. A call's first step begins on the RAM that
   -- the list gives; while the call runs only the call writes RAM, so further steps begin on what it has written.
@@ -87,35 +87,35 @@ module _ (w : World) (M : Machine w) where
   plain_of c = M.plain (M.bare c)
 
   -- the call's steps, as the run shows them
-  abbrev pub eventsOf : M.Core → w.Ram → M.Call → List (Event w)
-  eventsOf c m x = M.events (M.bare c) m (M.later c m x) x
+  abbrev pub events_of : M.Core → w.Ram → M.Call → List (Event w)
+  events_of c m x = M.events (M.bare c) m (M.later c m x) x
 
   -- All that is to be shown of the calls: the cache does not reach the rest of the state, and each call does to
   -- registers, level, mark and the whole of the `Tlb`, counters and what is pending included, what its steps do.
   pub record Bridge : Type 0 where
-    pub bare-is : (c : M.Core) (m : w.Ram) (x : M.Call) → M.bare (M.step c m x) ≡ M.bareStep (M.bare c) m x
+    pub bare-is : (c : M.Core) (m : w.Ram) (x : M.Call) → M.bare (M.step c m x) ≡ M.bare_step (M.bare c) m x
     pub plain-is : (c : M.Core) (m : w.Ram) (x : M.Call)
-        → M.plain (M.bareStep (M.bare c) m x) ≡ plainRun w (plain_of c) (eventsOf c m x)
+        → M.plain (M.bare_step (M.bare c) m x) ≡ plain_run w (plain_of c) (events_of c m x)
     pub tlb-is : (c : M.Core) (m : w.Ram) (x : M.Call)
-        → M.tlb (M.step c m x) ≡ tlbRun w (plain_of c) (eventsOf c m x) (M.tlb c)
+        → M.tlb (M.step c m x) ≡ tlb_run w (plain_of c) (events_of c m x) (M.tlb c)
 
   -- FAITHFULNESS
 
   -- the core without a cache, fed the list and the steps before in a call after it
-  abbrev pub plainAfter : M.Bare → List (Fed w M) → List (Event w) → Plain w
-  plainAfter b₀ list before = plainRun w (M.plain (bareRun b₀ (lent_of list))) before
+  abbrev pub plain_after : M.Bare → List (Fed w M) → List (Event w) → Plain w
+  plain_after b₀ list before = plain_run w (M.plain (bare_run b₀ (lent_of list))) before
 
   -- The page of an address is settled by the list and the steps before it in its call.
   abbrev pub SettledIn : M.Bare → List (Fed w M) → List (Event w) → w.Ram → Given → Type 0
   SettledIn b₀ list before m g =
-      Settled w (M.plain b₀) (eventsRun b₀ list ++ before) m (regimeNow w (plainAfter b₀ list before))
-      (pageNow w (plainAfter b₀ list before) (address_of g.ask))
+      Settled w (M.plain b₀) (events_run b₀ list ++ before) m (regime_now w (plain_after b₀ list before))
+      (page_now w (plain_after b₀ list before) (address_of g.ask))
 
   -- Where the page of a translation is settled, its answer is that of the core without a cache.
   abbrev pub FaithfulIn : M.Bare → List (Fed w M) → List (Event w) → w.Ram → Given → Type 0
   FaithfulIn b₀ list before m g =
       SettledIn b₀ list before m g
-      → g.answer ≡ uncached w (plainAfter b₀ list before) m (kind_of g.ask) (address_of g.ask)
+      → g.answer ≡ uncached w (plain_after b₀ list before) m (kind_of g.ask) (address_of g.ask)
 
   -- Faithfulness for calls: after every list of calls from the fresh core c₀, in every call x after it, at each step s of
   -- x, with the RAM m at its start. The steps before s in x, the earlier stores of a zeroing, belong to the list.
@@ -123,48 +123,48 @@ module _ (w : World) (M : Machine w) where
   EveryCallFaithful c₀ =
       (list : List (Fed w M)) → Shown c₀ list → (x : Fed w M) → ShownIn (run c₀ (lent_of list)) x →
       (before : List (Event w)) (m : w.Ram) (s : Step w) (later : List (Event w)) →
-      eventsFed (bareRun (M.bare c₀) (lent_of list)) x ≡ before ++ steps m s ∷ later →
+      events_fed (bare_run (M.bare c₀) (lent_of list)) x ≡ before ++ steps m s ∷ later →
       Each (FaithfulIn (M.bare c₀) list before m)
-      (answers w (plainAfter (M.bare c₀) list before) m s.asks
-      (tlbRun w (plainAfter (M.bare c₀) list []) before (M.tlb (run c₀ (lent_of list)))))
+      (answers w (plain_after (M.bare c₀) list before) m s.asks
+      (tlb_run w (plain_after (M.bare c₀) list []) before (M.tlb (run c₀ (lent_of list)))))
 
   -- REPLIES
 
   -- What a call replies.
   --   reply      by the call's exact definition: a value, a fault, a refusal, RAM after it
-  --   bareReply  of the core without a cache: from its own state, RAM as the call begins, and the call
+  --   bare_reply  of the core without a cache: from its own state, RAM as the call begins, and the call
   pub record Replies : Type 1 where
     pub Reply : Type 0
     pub reply : M.Core → w.Ram → M.Call → Reply
-    pub bareReply : M.Bare → w.Ram → M.Call → Reply
+    pub bare_reply : M.Bare → w.Ram → M.Call → Reply
 
   -- They are equal where the answers to the call's translations are.
   abbrev pub RepliesByAnswers : Replies → Type 0
   RepliesByAnswers A =
       (c : M.Core) (m : w.Ram) (x : M.Call)
-      → answersRun w (plain_of c) (eventsOf c m x) (M.tlb c) ≡ plainAnswersRun w (plain_of c) (eventsOf c m x)
-      → A.reply c m x ≡ A.bareReply (M.bare c) m x
+      → answers_run w (plain_of c) (events_of c m x) (M.tlb c) ≡ plain_answers_run w (plain_of c) (events_of c m x)
+      → A.reply c m x ≡ A.bare_reply (M.bare c) m x
 
   -- Where all pages that a call after the list translates are settled, it replies as the core without a cache.
   abbrev pub SameReplies : Replies → M.Core → Type 0
   SameReplies A c₀ =
       (list : List (Fed w M)) → Shown c₀ list → (x : Fed w M) → ShownIn (run c₀ (lent_of list)) x →
-      Tidy w (M.plain (M.bare c₀)) (eventsRun (M.bare c₀) list) (eventsFed (bareRun (M.bare c₀) (lent_of list)) x) →
+      Tidy w (M.plain (M.bare c₀)) (events_run (M.bare c₀) list) (events_fed (bare_run (M.bare c₀) (lent_of list)) x) →
       A.reply (run c₀ (lent_of list)) x.lent.ram x.lent.call
-      ≡ A.bareReply (bareRun (M.bare c₀) (lent_of list)) x.lent.ram x.lent.call
+      ≡ A.bare_reply (bare_run (M.bare c₀) (lent_of list)) x.lent.ram x.lent.call
 
   -- Every reply of a list, and those of the core without a cache beside it.
   abbrev pub replies : (A : Replies) → M.Core → List (Lent w M) → List A.Reply
   replies A c [] = []
   replies A c (x ∷ xs) = A.reply c x.ram x.call ∷ replies A (M.step c x.ram x.call) xs
 
-  abbrev pub bareReplies : (A : Replies) → M.Bare → List (Lent w M) → List A.Reply
-  bareReplies A b [] = []
-  bareReplies A b (x ∷ xs) = A.bareReply b x.ram x.call ∷ bareReplies A (M.bareStep b x.ram x.call) xs
+  abbrev pub bare_replies : (A : Replies) → M.Bare → List (Lent w M) → List A.Reply
+  bare_replies A b [] = []
+  bare_replies A b (x ∷ xs) = A.bare_reply b x.ram x.call ∷ bare_replies A (M.bare_step b x.ram x.call) xs
 
   -- The corollary to read first: where no table is changed without the matching TLBI, no reply of a list shows the
   -- cache.
   abbrev pub InvisibleCalls : Replies → M.Core → Type 0
   InvisibleCalls A c₀ =
-      (list : List (Fed w M)) → Shown c₀ list → Tidy w (M.plain (M.bare c₀)) [] (eventsRun (M.bare c₀) list) →
-      replies A c₀ (lent_of list) ≡ bareReplies A (M.bare c₀) (lent_of list)
+      (list : List (Fed w M)) → Shown c₀ list → Tidy w (M.plain (M.bare c₀)) [] (events_run (M.bare c₀) list) →
+      replies A c₀ (lent_of list) ≡ bare_replies A (M.bare c₀) (lent_of list)

@@ -3,13 +3,13 @@
 use Rattle.std.specs.Prelude.{if◌then◌else◌, ◌≡◌, Bool, true, false, List, [], ◌∷◌, ◌++◌, ◌⊎◌, ℕ, ◌≤◌, Ok}
 use Rattle.walk.specs.declared.{regime.Regime.Regime, level.Leaf.Leaf}
 use Rattle.tlb.specs.Lists.{Each}
-use Rattle.tlb.specs.Tlb.{fresh, invalidateOf}
+use Rattle.tlb.specs.Tlb.{fresh, invalidate_of}
 use Rattle.tlb.specs.Asks as Asks
 use Rattle.tlb.specs.Asks.{Ask, kind_of, address_of, Given}
-use Rattle.tlb.specs.Maintenance.{invalidatedOf, refitBy}
+use Rattle.tlb.specs.Maintenance.{invalidated_of, refit_by}
 use Rattle.tlb.specs.declared.{access.Privilege.Privilege, access.Answer.Answer, Inval.Inval, Tlb.Tlb}
 use Rattle.tlb.specs.declared.Inval.TheVariants.{All}
-use Rattle.history.specs.World.{World, LeavesEqual, covers, Plain, pageWalk, regimeNow, pageNow, uncached, accessOf}
+use Rattle.history.specs.World.{World, LeavesEqual, covers, Plain, page_walk, regime_now, page_now, uncached, access_of}
 
 module _ (w : World) where
   -- EVENTS
@@ -45,13 +45,13 @@ module _ (w : World) where
   after (writes R) c = record { regs = R; privilege = c.privilege }
   after (sets privilege low) c = record { regs = c.regs; privilege = privilege }
 
-  abbrev pub afterEvent : Event → Plain w → Plain w
-  afterEvent (steps m s) c = after s.effect c
-  afterEvent (receives v) c = c
+  abbrev pub after_event : Event → Plain w → Plain w
+  after_event (steps m s) c = after s.effect c
+  after_event (receives v) c = c
 
-  abbrev pub plainRun : Plain w → List Event → Plain w
-  plainRun c [] = c
-  plainRun c (x ∷ xs) = plainRun (afterEvent x c) xs
+  abbrev pub plain_run : Plain w → List Event → Plain w
+  plain_run c [] = c
+  plain_run c (x ∷ xs) = plain_run (after_event x c) xs
 
   -- INVALIDATIONS of an effect, an event, a history, in order
 
@@ -62,41 +62,41 @@ module _ (w : World) where
   drops (writes R) c = if w.same-shape c.regs R then [] else All ∷ []
   drops (sets privilege low) c = []
 
-  abbrev pub dropsEvent : Event → Plain w → List Inval
-  dropsEvent (steps m s) c = drops s.effect c
-  dropsEvent (receives v) c = v ∷ []
+  abbrev pub drops_event : Event → Plain w → List Inval
+  drops_event (steps m s) c = drops s.effect c
+  drops_event (receives v) c = v ∷ []
 
-  abbrev pub dropsRun : Plain w → List Event → List Inval
-  dropsRun c [] = []
-  dropsRun c (x ∷ xs) = dropsEvent x c ++ dropsRun (afterEvent x c) xs
+  abbrev pub drops_run : Plain w → List Event → List Inval
+  drops_run c [] = []
+  drops_run c (x ∷ xs) = drops_event x c ++ drops_run (after_event x c) xs
 
   -- THE CORE WITH ITS CACHE, by the functions that the contracts of `tlb` cite
 
   abbrev pub answer_of : Plain w → w.Ram → Ask → Tlb → Answer
-  answer_of c m a t = Asks.answer_of (accessOf w c m) a t
+  answer_of c m a t = Asks.answer_of (access_of w c m) a t
 
-  abbrev pub tlbAsk : Plain w → w.Ram → Ask → Tlb → Tlb
-  tlbAsk c m a t = Asks.tlbAsk (accessOf w c m) a t
+  abbrev pub tlb_ask : Plain w → w.Ram → Ask → Tlb → Tlb
+  tlb_ask c m a t = Asks.tlb_ask (access_of w c m) a t
 
   abbrev pub answers : Plain w → w.Ram → List Ask → Tlb → List Given
-  answers c m l t = Asks.answers (accessOf w c m) l t
+  answers c m l t = Asks.answers (access_of w c m) l t
 
-  abbrev pub tlbAsks : Plain w → w.Ram → List Ask → Tlb → Tlb
-  tlbAsks c m l t = Asks.tlbAsks (accessOf w c m) l t
+  abbrev pub tlb_asks : Plain w → w.Ram → List Ask → Tlb → Tlb
+  tlb_asks c m l t = Asks.tlb_asks (access_of w c m) l t
 
-  abbrev pub tlbAfter : Effect → Plain w → Tlb → Tlb
-  tlbAfter nothing c t = t
-  tlbAfter (carries v shared) c t = invalidatedOf t v shared
-  tlbAfter (writes R) c t = refitBy t (w.same-shape c.regs R) (w.asid R)
-  tlbAfter (sets privilege low) c t = t
+  abbrev pub tlb_after : Effect → Plain w → Tlb → Tlb
+  tlb_after nothing c t = t
+  tlb_after (carries v shared) c t = invalidated_of t v shared
+  tlb_after (writes R) c t = refit_by t (w.same-shape c.regs R) (w.asid R)
+  tlb_after (sets privilege low) c t = t
 
-  abbrev pub tlbEvent : Event → Plain w → Tlb → Tlb
-  tlbEvent (steps m s) c t = tlbAfter s.effect c (tlbAsks c m s.asks t)
-  tlbEvent (receives v) c t = invalidateOf t v
+  abbrev pub tlb_event : Event → Plain w → Tlb → Tlb
+  tlb_event (steps m s) c t = tlb_after s.effect c (tlb_asks c m s.asks t)
+  tlb_event (receives v) c t = invalidate_of t v
 
-  abbrev pub tlbRun : Plain w → List Event → Tlb → Tlb
-  tlbRun c [] t = t
-  tlbRun c (x ∷ xs) t = tlbRun (afterEvent x c) xs (tlbEvent x c t)
+  abbrev pub tlb_run : Plain w → List Event → Tlb → Tlb
+  tlb_run c [] t = t
+  tlb_run c (x ∷ xs) t = tlb_run (after_event x c) xs (tlb_event x c t)
 
   -- FAITHFULNESS
 
@@ -108,26 +108,26 @@ module _ (w : World) where
     pub holds : (before : List Event) (m' : w.Ram) (s : Step) (later : List Event) →
         past ≡ before ++ steps m' s ∷ later →
         (ℓ : Leaf) →
-        w.on (plainRun c₀ before).regs r ≡ true →
-        pageWalk w (plainRun c₀ before).regs m' r p ≡ Ok ℓ →
-        (ℓ.global ≡ true) ⊎ (w.asid (plainRun c₀ before).regs ≡ w.asid (plainRun c₀ past).regs) →
-        Each (λ v. covers v p ℓ (w.asid (plainRun c₀ before).regs) ≡ false)
-        (dropsRun (plainRun c₀ before) (steps m' s ∷ later)) →
-        (ℓ' : Leaf) × (pageWalk w (plainRun c₀ past).regs m r p ≡ Ok ℓ') × LeavesEqual ℓ ℓ'
+        w.on (plain_run c₀ before).regs r ≡ true →
+        page_walk w (plain_run c₀ before).regs m' r p ≡ Ok ℓ →
+        (ℓ.global ≡ true) ⊎ (w.asid (plain_run c₀ before).regs ≡ w.asid (plain_run c₀ past).regs) →
+        Each (λ v. covers v p ℓ (w.asid (plain_run c₀ before).regs) ≡ false)
+        (drops_run (plain_run c₀ before) (steps m' s ∷ later)) →
+        (ℓ' : Leaf) × (page_walk w (plain_run c₀ past).regs m r p ≡ Ok ℓ') × LeavesEqual ℓ ℓ'
 
   -- the page of a translation made after the history is settled
   abbrev pub SettledFor : Plain w → List Event → w.Ram → Ask → Type 0
   SettledFor c₀ past m a =
-      Settled c₀ past m (regimeNow w (plainRun c₀ past)) (pageNow w (plainRun c₀ past) (address_of a))
+      Settled c₀ past m (regime_now w (plain_run c₀ past)) (page_now w (plain_run c₀ past) (address_of a))
 
   -- The conclusion, for a translation made now and its answer: where its page is settled, the core without a cache, fed
   -- the same list and shown the same RAM, answers the same.
   abbrev pub FaithfulAnswer : Plain w → List Event → w.Ram → Given → Type 0
   FaithfulAnswer c₀ past m g =
-      SettledFor c₀ past m g.ask → g.answer ≡ uncached w (plainRun c₀ past) m (kind_of g.ask) (address_of g.ask)
+      SettledFor c₀ past m g.ask → g.answer ≡ uncached w (plain_run c₀ past) m (kind_of g.ask) (address_of g.ask)
 
   -- Faithfulness: after every history from the fresh core c₀, whatever the RAM, each translation of each step is faithful.
   abbrev pub EveryHistoryFaithful : Plain w → Type 0
   EveryHistoryFaithful c₀ =
       (past : List Event) (m : w.Ram) (s : Step) →
-      Each (FaithfulAnswer c₀ past m) (answers (plainRun c₀ past) m s.asks (tlbRun c₀ past fresh))
+      Each (FaithfulAnswer c₀ past m) (answers (plain_run c₀ past) m s.asks (tlb_run c₀ past fresh))

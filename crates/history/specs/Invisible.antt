@@ -5,27 +5,27 @@ use Rattle.tlb.specs.Tlb.{fresh}
 use Rattle.tlb.specs.Asks.{Ask, kind_of, address_of, Given, onward}
 use Rattle.tlb.specs.declared.Tlb.{Tlb}
 use Rattle.history.specs.World.{World, Plain, uncached}
-use Rattle.history.specs.History.{Step, Event, steps, receives, afterEvent, answers, tlbEvent, SettledFor}
+use Rattle.history.specs.History.{Step, Event, steps, receives, after_event, answers, tlb_event, SettledFor}
 
 module _ (w : World) where
   -- the answers of the core without a cache to a step's translations
-  abbrev pub plainAnswers : Plain w → w.Ram → List Ask → List Given
-  plainAnswers c m [] = []
-  plainAnswers c m (a ∷ l) =
+  abbrev pub plain_answers : Plain w → w.Ram → List Ask → List Given
+  plain_answers c m [] = []
+  plain_answers c m (a ∷ l) =
       record { ask = a; answer = uncached w c m (kind_of a) (address_of a) }
-      ∷ onward (uncached w c m (kind_of a) (address_of a)) (plainAnswers c m l) []
+      ∷ onward (uncached w c m (kind_of a) (address_of a)) (plain_answers c m l) []
 
   -- every answer of a list: with the cache, and without
-  abbrev pub answersRun : Plain w → List (Event w) → Tlb → List Given
-  answersRun c [] t = []
-  answersRun c (steps m s ∷ xs) t =
-      answers w c m s.asks t ++ answersRun (afterEvent w (steps m s) c) xs (tlbEvent w (steps m s) c t)
-  answersRun c (receives v ∷ xs) t = answersRun c xs (tlbEvent w (receives v) c t)
+  abbrev pub answers_run : Plain w → List (Event w) → Tlb → List Given
+  answers_run c [] t = []
+  answers_run c (steps m s ∷ xs) t =
+      answers w c m s.asks t ++ answers_run (after_event w (steps m s) c) xs (tlb_event w (steps m s) c t)
+  answers_run c (receives v ∷ xs) t = answers_run c xs (tlb_event w (receives v) c t)
 
-  abbrev pub plainAnswersRun : Plain w → List (Event w) → List Given
-  plainAnswersRun c [] = []
-  plainAnswersRun c (steps m s ∷ xs) = plainAnswers c m s.asks ++ plainAnswersRun (afterEvent w (steps m s) c) xs
-  plainAnswersRun c (receives v ∷ xs) = plainAnswersRun c xs
+  abbrev pub plain_answers_run : Plain w → List (Event w) → List Given
+  plain_answers_run c [] = []
+  plain_answers_run c (steps m s ∷ xs) = plain_answers c m s.asks ++ plain_answers_run (after_event w (steps m s) c) xs
+  plain_answers_run c (receives v ∷ xs) = plain_answers_run c xs
 
   -- No table is changed without the matching TLBI, in a list after the history `past`: at each step, of each page that
   -- it translates, each earlier walk that no invalidation since covers, global or under the ASID of now, equals the
@@ -38,4 +38,4 @@ module _ (w : World) where
 
   -- Then every answer of the list is that of the core without a cache.
   abbrev pub Invisible : Plain w → Type 0
-  Invisible c₀ = (list : List (Event w)) → Tidy c₀ [] list → answersRun c₀ list fresh ≡ plainAnswersRun c₀ list
+  Invisible c₀ = (list : List (Event w)) → Tidy c₀ [] list → answers_run c₀ list fresh ≡ plain_answers_run c₀ list

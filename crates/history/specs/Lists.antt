@@ -5,9 +5,9 @@ use Rattle.tlb.specs.Lists.{Each, done, more}
 use Rattle.tlb.specs.Asks.{Given}
 use Rattle.tlb.specs.declared.Tlb.{Tlb}
 use Rattle.history.specs.World.{World, Plain}
-use Rattle.history.specs.History.{Effect, nothing, carries, writes, sets, Step, Event, steps, receives, after, afterEvent, plainRun, answers, tlbEvent}
-use Rattle.history.specs.History.{tlbRun}
-use Rattle.history.specs.Invisible.{answersRun}
+use Rattle.history.specs.History.{Effect, nothing, carries, writes, sets, Step, Event, steps, receives, after, after_event, plain_run, answers, tlb_event}
+use Rattle.history.specs.History.{tlb_run}
+use Rattle.history.specs.Invisible.{answers_run}
 
 module _ {A : Type 0} where
   pub each_append : {P : A → Type 0} {l k : List A} → Each P l → Each P k → Each P (l ++ k)
@@ -33,31 +33,31 @@ module _ (w : World) where
   effect-low (writes R) c low = low
   effect-low (sets privilege small) c low = small
 
-  pub event-low : (x : Event w) (c : Plain w) → c.privilege.level ≤ 3 → (afterEvent w x c).privilege.level ≤ 3
+  pub event-low : (x : Event w) (c : Plain w) → c.privilege.level ≤ 3 → (after_event w x c).privilege.level ≤ 3
   event-low (steps m s) c low = effect-low s.effect c low
   event-low (receives v) c low = low
 
-  pub run-low : (past : List (Event w)) (c : Plain w) → c.privilege.level ≤ 3 → (plainRun w c past).privilege.level ≤ 3
+  pub run-low : (past : List (Event w)) (c : Plain w) → c.privilege.level ≤ 3 → (plain_run w c past).privilege.level ≤ 3
   run-low [] c low = low
-  run-low (x ∷ xs) c low = run-low xs (afterEvent w x c) (event-low x c low)
+  run-low (x ∷ xs) c low = run-low xs (after_event w x c) (event-low x c low)
 
-  pub plain-append : (c : Plain w) (l k : List (Event w)) → plainRun w c (l ++ k) ≡ plainRun w (plainRun w c l) k
+  pub plain-append : (c : Plain w) (l k : List (Event w)) → plain_run w c (l ++ k) ≡ plain_run w (plain_run w c l) k
   plain-append c [] k = refl
-  plain-append c (x ∷ l) k = plain-append (afterEvent w x c) l k
+  plain-append c (x ∷ l) k = plain-append (after_event w x c) l k
 
-  pub tlb-append : (c : Plain w) (l k : List (Event w)) (t : Tlb) → tlbRun w c (l ++ k) t ≡ tlbRun w (plainRun w c l) k (tlbRun w c l t)
+  pub tlb-append : (c : Plain w) (l k : List (Event w)) (t : Tlb) → tlb_run w c (l ++ k) t ≡ tlb_run w (plain_run w c l) k (tlb_run w c l t)
   tlb-append c [] k t = refl
-  tlb-append c (x ∷ l) k t = tlb-append (afterEvent w x c) l k (tlbEvent w x c t)
+  tlb-append c (x ∷ l) k t = tlb-append (after_event w x c) l k (tlb_event w x c t)
 
   -- the answers of a list's steps, one after the other: those before a step, its own, those after it
   pub answers-split : (c : Plain w) (before : List (Event w)) (m : w.Ram) (s : Step w) (later : List (Event w)) (t : Tlb)
-      → answersRun w c (before ++ steps m s ∷ later) t
-      ≡ answersRun w c before t
-      ++ (answers w (plainRun w c before) m s.asks (tlbRun w c before t)
-      ++ answersRun w (afterEvent w (steps m s) (plainRun w c before)) later (tlbEvent w (steps m s) (plainRun w c before) (tlbRun w c before t)))
+      → answers_run w c (before ++ steps m s ∷ later) t
+      ≡ answers_run w c before t
+      ++ (answers w (plain_run w c before) m s.asks (tlb_run w c before t)
+      ++ answers_run w (after_event w (steps m s) (plain_run w c before)) later (tlb_event w (steps m s) (plain_run w c before) (tlb_run w c before t)))
   answers-split c [] m s later t = refl
   answers-split c (steps n u ∷ b) m s later t =
       ap (λ (l : List Given). answers w c n u.asks t ++ l)
-      (answers-split (afterEvent w (steps n u) c) b m s later (tlbEvent w (steps n u) c t))
+      (answers-split (after_event w (steps n u) c) b m s later (tlb_event w (steps n u) c t))
       ∙ sym (append_assoc (answers w c n u.asks t) _ _)
-  answers-split c (receives v ∷ b) m s later t = answers-split c b m s later (tlbEvent w (receives v) c t)
+  answers-split c (receives v ∷ b) m s later t = answers-split c b m s later (tlb_event w (receives v) c t)

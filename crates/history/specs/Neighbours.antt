@@ -10,14 +10,14 @@ use Rattle.tlb.specs.Lists.{Each, done}
 use Rattle.tlb.specs.Asks.{Ask, address_of}
 use Rattle.tlb.specs.declared.Inval.{Inval}
 use Rattle.history.specs.Lists.{each_append, each_left, each_right}
-use Rattle.history.specs.World.{World, LeavesEqual, covers, Plain, pageWalk, regimeNow, pageNow}
-use Rattle.history.specs.History.{Step, Event, steps, afterEvent, plainRun, dropsEvent, dropsRun, Settled}
+use Rattle.history.specs.World.{World, LeavesEqual, covers, Plain, page_walk, regime_now, page_now}
+use Rattle.history.specs.History.{Step, Event, steps, after_event, plain_run, drops_event, drops_run, Settled}
 
 module _ (w : World) where
   -- the invalidations of a history that are made under the ASID a
-  abbrev pub dropsUnder : ℕ → Plain w → List (Event w) → List Inval
-  dropsUnder a c [] = []
-  dropsUnder a c (x ∷ xs) = (if w.asid c.regs == a then dropsEvent w x c else []) ++ dropsUnder a (afterEvent w x c) xs
+  abbrev pub drops_under : ℕ → Plain w → List (Event w) → List Inval
+  drops_under a c [] = []
+  drops_under a c (x ∷ xs) = (if w.asid c.regs == a then drops_event w x c else []) ++ drops_under a (after_event w x c) xs
 
   -- The history leaves the page to the ASID of now: elsewhere it had no successful global walk, and each successful
   -- walk that it had there, covered by no invalidation made there, equals its walk now.
@@ -25,31 +25,31 @@ module _ (w : World) where
     pub elsewhere : (before : List (Event w)) (m' : w.Ram) (s : Step w) (later : List (Event w)) →
         past ≡ before ++ steps m' s ∷ later →
         (ℓ : Leaf) →
-        w.on (plainRun w c₀ before).regs r ≡ true →
-        pageWalk w (plainRun w c₀ before).regs m' r p ≡ Ok ℓ →
-        (w.asid (plainRun w c₀ before).regs ≡ w.asid (plainRun w c₀ past).regs → ⊥) →
+        w.on (plain_run w c₀ before).regs r ≡ true →
+        page_walk w (plain_run w c₀ before).regs m' r p ≡ Ok ℓ →
+        (w.asid (plain_run w c₀ before).regs ≡ w.asid (plain_run w c₀ past).regs → ⊥) →
         ℓ.global ≡ false
     pub there : (before : List (Event w)) (m' : w.Ram) (s : Step w) (later : List (Event w)) →
         past ≡ before ++ steps m' s ∷ later →
         (ℓ : Leaf) →
-        w.on (plainRun w c₀ before).regs r ≡ true →
-        pageWalk w (plainRun w c₀ before).regs m' r p ≡ Ok ℓ →
-        w.asid (plainRun w c₀ before).regs ≡ w.asid (plainRun w c₀ past).regs →
-        Each (λ v. covers v p ℓ (w.asid (plainRun w c₀ before).regs) ≡ false)
-        (dropsUnder (w.asid (plainRun w c₀ past).regs) (plainRun w c₀ before) (steps m' s ∷ later)) →
-        (ℓ' : Leaf) × (pageWalk w (plainRun w c₀ past).regs m r p ≡ Ok ℓ') × LeavesEqual ℓ ℓ'
+        w.on (plain_run w c₀ before).regs r ≡ true →
+        page_walk w (plain_run w c₀ before).regs m' r p ≡ Ok ℓ →
+        w.asid (plain_run w c₀ before).regs ≡ w.asid (plain_run w c₀ past).regs →
+        Each (λ v. covers v p ℓ (w.asid (plain_run w c₀ before).regs) ≡ false)
+        (drops_under (w.asid (plain_run w c₀ past).regs) (plain_run w c₀ before) (steps m' s ∷ later)) →
+        (ℓ' : Leaf) × (page_walk w (plain_run w c₀ past).regs m r p ≡ Ok ℓ') × LeavesEqual ℓ ℓ'
 
   abbrev pub OwnFor : Plain w → List (Event w) → w.Ram → Ask → Type 0
-  OwnFor c₀ past m a = Own c₀ past m (regimeNow w (plainRun w c₀ past)) (pageNow w (plainRun w c₀ past) (address_of a))
+  OwnFor c₀ past m a = Own c₀ past m (regime_now w (plain_run w c₀ past)) (page_now w (plain_run w c₀ past) (address_of a))
 
   -- what holds of all invalidations holds of those made under an ASID
-  under : {P : Inval → Type 0} (a : ℕ) (c : Plain w) (l : List (Event w)) → Each P (dropsRun w c l) → Each P (dropsUnder a c l)
+  under : {P : Inval → Type 0} (a : ℕ) (c : Plain w) (l : List (Event w)) → Each P (drops_run w c l) → Each P (drops_under a c l)
   under a c [] ps = done
   under {P} a c (x ∷ l) ps =
-      each_append (some (w.asid c.regs == a) (each_left (dropsEvent w x c) (dropsRun w (afterEvent w x c) l) ps))
-      (under a (afterEvent w x c) l (each_right (dropsEvent w x c) (dropsRun w (afterEvent w x c) l) ps))
+      each_append (some (w.asid c.regs == a) (each_left (drops_event w x c) (drops_run w (after_event w x c) l) ps))
+      (under a (after_event w x c) l (each_right (drops_event w x c) (drops_run w (after_event w x c) l) ps))
     where
-      some : (b : Bool) → Each P (dropsEvent w x c) → Each P (if b then dropsEvent w x c else [])
+      some : (b : Bool) → Each P (drops_event w x c) → Each P (if b then drops_event w x c else [])
       some true qs = qs
       some false qs = done
 
@@ -57,20 +57,20 @@ module _ (w : World) where
   own-settled c₀ past m r p own =
       record {
         holds = λ before m' s later split ℓ o x today us.
-            go before m' s later split ℓ o x today us (w.asid (plainRun w c₀ before).regs == A) refl;
+            go before m' s later split ℓ o x today us (w.asid (plain_run w c₀ before).regs == A) refl;
       }
     where
       A : ℕ
-      A = w.asid (plainRun w c₀ past).regs
+      A = w.asid (plain_run w c₀ past).regs
 
       go : (before : List (Event w)) (m' : w.Ram) (s : Step w) (later : List (Event w)) → past ≡ before ++ steps m' s ∷ later → (ℓ : Leaf)
-          → w.on (plainRun w c₀ before).regs r ≡ true → pageWalk w (plainRun w c₀ before).regs m' r p ≡ Ok ℓ
-          → (ℓ.global ≡ true) ⊎ (w.asid (plainRun w c₀ before).regs ≡ A)
-          → Each (λ v. covers v p ℓ (w.asid (plainRun w c₀ before).regs) ≡ false) (dropsRun w (plainRun w c₀ before) (steps m' s ∷ later))
-          → (b : Bool) → (w.asid (plainRun w c₀ before).regs == A) ≡ b
-          → (ℓ' : Leaf) × (pageWalk w (plainRun w c₀ past).regs m r p ≡ Ok ℓ') × LeavesEqual ℓ ℓ'
+          → w.on (plain_run w c₀ before).regs r ≡ true → page_walk w (plain_run w c₀ before).regs m' r p ≡ Ok ℓ
+          → (ℓ.global ≡ true) ⊎ (w.asid (plain_run w c₀ before).regs ≡ A)
+          → Each (λ v. covers v p ℓ (w.asid (plain_run w c₀ before).regs) ≡ false) (drops_run w (plain_run w c₀ before) (steps m' s ∷ later))
+          → (b : Bool) → (w.asid (plain_run w c₀ before).regs == A) ≡ b
+          → (ℓ' : Leaf) × (page_walk w (plain_run w c₀ past).regs m r p ≡ Ok ℓ') × LeavesEqual ℓ ℓ'
       go before m' s later split ℓ o x today us true b =
-          own.there before m' s later split ℓ o x (eqb-true _ _ b) (under A (plainRun w c₀ before) (steps m' s ∷ later) us)
+          own.there before m' s later split ℓ o x (eqb-true _ _ b) (under A (plain_run w c₀ before) (steps m' s ∷ later) us)
       go before m' s later split ℓ o x (inr y) us false b = absurd (eqb-false _ _ b y)
       go before m' s later split ℓ o x (inl y) us false b =
           absurd (true≢false (sym y ∙ own.elsewhere before m' s later split ℓ o x (λ e. eqb-false _ _ b e)))

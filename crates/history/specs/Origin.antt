@@ -7,31 +7,31 @@ use Rattle.tlb.specs.Lists.{Each}
 use Rattle.tlb.specs.Asks.{Ask, kind_of, address_of}
 use Rattle.tlb.specs.declared.{access.Answer.Answer, Inval.Inval}
 use Rattle.tlb.specs.declared.access.Answer.TheVariants.{Address, Status}
-use Rattle.history.specs.World.{World, covers, leafAnswer, Plain, pageWalk, regimeNow, onNow, untagNow, pageNow, needNow}
-use Rattle.history.specs.History.{Step, Event, steps, plainRun, dropsRun}
+use Rattle.history.specs.World.{World, covers, leaf_answer, Plain, page_walk, regime_now, on_now, untag_now, page_now, need_now}
+use Rattle.history.specs.History.{Step, Event, steps, plain_run, drops_run}
 
 module _ (w : World) (c₀ : Plain w) where
   -- The registers R and the RAM m' are those of now, or those at the start of a step of the history; vs are the
   -- invalidations since.
   pub data StateIn (past : List (Event w)) (m : w.Ram) (R : w.Regs) (m' : w.Ram) : List Inval → Type 0 where
-    now : R ≡ (plainRun w c₀ past).regs → m' ≡ m → StateIn past m R m' []
+    now : R ≡ (plain_run w c₀ past).regs → m' ≡ m → StateIn past m R m' []
     then : (before : List (Event w)) (s : Step w) (later : List (Event w)) → past ≡ before ++ steps m' s ∷ later
-        → R ≡ (plainRun w c₀ before).regs → StateIn past m R m' (dropsRun w (plainRun w c₀ before) (steps m' s ∷ later))
+        → R ≡ (plain_run w c₀ before).regs → StateIn past m R m' (drops_run w (plain_run w c₀ before) (steps m' s ∷ later))
 
   module _ (past : List (Event w)) (m : w.Ram) where
     -- what a translation reads after the history
     abbrev pub here : Plain w
-    here = plainRun w c₀ past
+    here = plain_run w c₀ past
 
     -- The answer x to a translation a, made after the history on the RAM m.
     pub data From (a : Ask) (x : Answer) : Type 0 where
-      flat : onNow w here ≡ false → x ≡ Address (address_of a) → From a x
-      fails : (code : ℕ) → onNow w here ≡ true
-          → w.walk here.regs m (regimeNow w here) (untagNow w here (address_of a)) ≡ Err code
+      flat : on_now w here ≡ false → x ≡ Address (address_of a) → From a x
+      fails : (code : ℕ) → on_now w here ≡ true
+          → w.walk here.regs m (regime_now w here) (untag_now w here (address_of a)) ≡ Err code
           → x ≡ Status (first code) → From a x
       walks : (R : w.Regs) (m' : w.Ram) (vs : List Inval) → StateIn past m R m' vs → (ℓ : Leaf)
-          → w.on R (regimeNow w here) ≡ true
-          → pageWalk w R m' (regimeNow w here) (pageNow w here (address_of a)) ≡ Ok ℓ
+          → w.on R (regime_now w here) ≡ true
+          → page_walk w R m' (regime_now w here) (page_now w here (address_of a)) ≡ Ok ℓ
           → (ℓ.global ≡ true) ⊎ (w.asid R ≡ w.asid here.regs)
-          → Each (λ v. covers v (pageNow w here (address_of a)) ℓ (w.asid R) ≡ false) vs
-          → x ≡ leafAnswer ℓ (needNow w here (kind_of a)) (address_of a) → From a x
+          → Each (λ v. covers v (page_now w here (address_of a)) ℓ (w.asid R) ≡ false) vs
+          → x ≡ leaf_answer ℓ (need_now w here (kind_of a)) (address_of a) → From a x

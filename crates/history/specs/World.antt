@@ -1,10 +1,10 @@
 -- What the theory of histories takes from registers and walk, and the terms of docs/SCOPE.md on it: equal walks, covering, the
--- core without a cache. `spanBits`, `asUser` and `need` are the plain model's: tlb/specs/Model.antt.
+-- core without a cache. `span_bits`, `as_user` and `need` are the plain model's: tlb/specs/Model.antt.
 use Rattle.std.specs.Prelude.{if◌then◌else◌, ◌≡◌, Bool, true, not, ◌&&◌, ℕ, ◌+◌, ◌*◌, ◌/◌, ◌%◌, ◌^◌, ◌≤◌, ◌==◌, Ok, Err}
 use Rattle.fault.specs.First.{first}
-use Rattle.walk.specs.Regime.{regimeOf}
+use Rattle.walk.specs.Regime.{regime_of}
 use Rattle.walk.specs.declared.{regime.Regime.Regime, level.Leaf.Leaf}
-use Rattle.tlb.specs.Model.{Access, asUser, need, spanBits}
+use Rattle.tlb.specs.Model.{Access, as_user, need, span_bits}
 use Rattle.tlb.specs.declared.{access.Kind.Kind, access.Privilege.Privilege, access.Answer.Answer, Inval.Inval}
 use Rattle.tlb.specs.declared.access.Answer.TheVariants.{Address, Status}
 use Rattle.tlb.specs.declared.Inval.TheVariants.{All, Page, Asid}
@@ -41,65 +41,65 @@ pub record LeavesEqual (ℓ ℓ' : Leaf) : Type 0 where
 -- tlb/specs/Cache.antt, and `same-cover` (proofs/Traced.antt) and tlb/specs/Refines.antt show that they agree.
 unfoldable pub covers : Inval → ℕ → Leaf → ℕ → Bool
 covers All p ℓ a = true
-covers (Page n) p ℓ a = p % 2 ^ 44 / 2 ^ spanBits ℓ.level == n % 2 ^ 44 / 2 ^ spanBits ℓ.level
+covers (Page n) p ℓ a = p % 2 ^ 44 / 2 ^ span_bits ℓ.level == n % 2 ^ 44 / 2 ^ span_bits ℓ.level
 covers (Asid b) p ℓ a = not ℓ.global && a == b
 
 -- CORE WITHOUT A CACHE
 
 -- 0x0C plus the leaf's level where the leaf lacks the bit that the access needs; else its physical page with the low twelve bits of the address
-unfoldable pub leafAnswer : Leaf → ℕ → ℕ → Answer
-leafAnswer ℓ bit va =
+unfoldable pub leaf_answer : Leaf → ℕ → ℕ → Answer
+leaf_answer ℓ bit va =
     if ℓ.perms / bit % 2 == 1 then Address (ℓ.oa / 4096 * 4096 + va % 4096) else Status (first (12 + ℓ.level))
 
 -- a fault of the walk is the answer
-unfoldable pub walkAnswer : Walked → ℕ → ℕ → Answer
-walkAnswer (Err code) bit va = Status (first code)
-walkAnswer (Ok ℓ) bit va = leafAnswer ℓ bit va
+unfoldable pub walk_answer : Walked → ℕ → ℕ → Answer
+walk_answer (Err code) bit va = Status (first code)
+walk_answer (Ok ℓ) bit va = leaf_answer ℓ bit va
 
 module _ (w : World) where
   -- A page is an untagged page of one regime; its walk is that of its first address.
-  abbrev pub pageWalk : w.Regs → w.Ram → Regime → ℕ → Walked
-  pageWalk R m r p = w.walk R m r (p * 4096)
+  abbrev pub page_walk : w.Regs → w.Ram → Regime → ℕ → Walked
+  page_walk R m r p = w.walk R m r (p * 4096)
 
   -- What a translation reads besides RAM and the cache: the registers, the level and the mark.
   pub record Plain : Type 0 where
     pub regs : w.Regs
     pub privilege : Privilege
 
-  abbrev pub regimeNow : Plain → Regime
-  regimeNow c = regimeOf c.privilege.level
+  abbrev pub regime_now : Plain → Regime
+  regime_now c = regime_of c.privilege.level
 
-  abbrev pub onNow : Plain → Bool
-  onNow c = w.on c.regs (regimeNow c)
+  abbrev pub on_now : Plain → Bool
+  on_now c = w.on c.regs (regime_now c)
 
-  abbrev pub untagNow : Plain → ℕ → ℕ
-  untagNow c va = w.untag c.regs (regimeNow c) va
+  abbrev pub untag_now : Plain → ℕ → ℕ
+  untag_now c va = w.untag c.regs (regime_now c) va
 
-  abbrev pub pageNow : Plain → ℕ → ℕ
-  pageNow c va = untagNow c va / 4096
+  abbrev pub page_now : Plain → ℕ → ℕ
+  page_now c va = untag_now c va / 4096
 
   -- the permission bit that the access needs
-  abbrev pub needNow : Plain → Kind → ℕ
-  needNow c k = need k (asUser (regimeNow c) c.privilege.level c.privilege.unprivileged k)
+  abbrev pub need_now : Plain → Kind → ℕ
+  need_now c k = need k (as_user (regime_now c) c.privilege.level c.privilege.unprivileged k)
 
   -- Its answer to a translation that isn't refused: "with stage 1 off, the address itself. Else it untags the address
   -- and walks, by the walk's definition, on its own registers and the step's RAM." A fault is its status and the
   -- address translated, va.
   unfoldable pub uncached : Plain → w.Ram → Kind → ℕ → Answer
   uncached c m k va =
-      if onNow c then walkAnswer (w.walk c.regs m (regimeNow c) (untagNow c va)) (needNow c k) va else Address va
+      if on_now c then walk_answer (w.walk c.regs m (regime_now c) (untag_now c va)) (need_now c k) va else Address va
 
   -- the access of the same translation through a cache
-  abbrev pub accessOf : Plain → w.Ram → Kind → ℕ → Access
-  accessOf c m k va =
+  abbrev pub access_of : Plain → w.Ram → Kind → ℕ → Access
+  access_of c m k va =
       record {
         privilege = c.privilege;
         kind = k;
         va = va;
-        on = onNow c;
-        regime = regimeNow c;
-        untagged = untagNow c va;
-        walk = w.walk c.regs m (regimeNow c) (untagNow c va);
+        on = on_now c;
+        regime = regime_now c;
+        untagged = untag_now c va;
+        walk = w.walk c.regs m (regime_now c) (untag_now c va);
       }
 
 -- LAWS

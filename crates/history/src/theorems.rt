@@ -1,6 +1,6 @@
 // What is proved of every history: each function does nothing, and its contract is the theorem.
 ghost use Rattle.history.specs.History.{EveryHistoryFaithful};
-ghost use Rattle.history.specs.Instance.{real, freshPlain};
+ghost use Rattle.history.specs.Instance.{real, fresh_plain};
 ghost use Rattle.history.specs.Invisible.{Invisible};
 ghost use Rattle.history.specs.World.{Laws};
 ghost use Rattle.history.specs.Theorems.{every_origin, every_judgement, every_fault_row};
@@ -20,8 +20,8 @@ pub fn registers_and_walk()
 /// settled is answered as the core without a cache answers it; where every page is, no answer shows the cache. Rules
 /// out an invalidation that spares an entry or a hint, and a register write without its flush or retag.
 pub fn every_history()
-    ensures faithful { EveryHistoryFaithful real freshPlain }
-    ensures invisible { Invisible real freshPlain }
+    ensures faithful { EveryHistoryFaithful real fresh_plain }
+    ensures invisible { Invisible real fresh_plain }
 {}
 
 /// Without any premise, after every history: each answer comes from the walk of now or from an earlier walk of the page

@@ -4,10 +4,10 @@
 ghost use Rattle.std.specs.Prelude.{◌≡◌, ℕ, Some, Option};
 ghost use Rattle.word.specs.Ram.{word_at};
 ghost use Rattle.tlb.specs.declared.access.Answer.TheVariants.{Address};
-ghost use Rattle.tlb.specs.Cache.{hintAt};
-ghost use Rattle.operations.specs.Hinted.{hintPlace};
-ghost use Rattle.mmu.specs.Ops.{translateOf};
-ghost use Rattle.cpu.specs.Step.{step_of, ramAfter, ends, afterTranslation};
+ghost use Rattle.tlb.specs.Cache.{hint_at};
+ghost use Rattle.operations.specs.Hinted.{hint_place};
+ghost use Rattle.mmu.specs.Ops.{translate_of};
+ghost use Rattle.cpu.specs.Step.{step_of, ram_after, ends, after_translation};
 ghost use Rattle.operations.specs.declared.call.Call.TheVariants as Call;
 ghost use Rattle.transparency.specs.Faithful.{FaithfulCall};
 
@@ -21,7 +21,7 @@ use word::ram::Width;
 
 // The data hint that an access asks.
 fn hint_of(core: &Core, va: u64, kind: Kind) -> Hint
-    ensures { result ≡ hintAt core.now.tlb.cache (hintPlace va kind) }
+    ensures { result ≡ hint_at core.now.tlb.cache (hint_place va kind) }
 {
     core.tlb.cache.hints[hinted::hint_place(va, kind)]
 }
@@ -29,7 +29,7 @@ fn hint_of(core: &Core, va: u64, kind: Kind) -> Hint
 // Where it sends the access, if it serves.
 fn by_hint(core: &Core, va: u64, kind: Kind) -> Option<u64>
     ensures { (memory : ℕ → Option ℕ) (pa : ℕ) → result ≡ Some pa
-        → translateOf core.now memory va kind ≡ record { core = core.now; answer = Address pa } }
+        → translate_of core.now memory va kind ≡ record { core = core.now; answer = Address pa } }
 {
     let hint = hint_of(core, va, kind);
     if hinted::served(hint, core.privilege, va, kind) {
@@ -42,13 +42,13 @@ fn by_hint(core: &Core, va: u64, kind: Kind) -> Option<u64>
 // A translation that no hint serves. Out of line, so that a hint pays nothing for it.
 #[inline(never)]
 fn resolve(core: &mut Core, base: u64, ram: &[u8], va: u64, kind: Kind) -> Reply
-    ensures { record { core = core.new; reply = result } ≡ afterTranslation va (translateOf core.old (word_at base ram.now 8) va kind) }
+    ensures { record { core = core.new; reply = result } ≡ after_translation va (translate_of core.old (word_at base ram.now 8) va kind) }
 {
     reply::translated(va, core.translate(base, ram, va, kind))
 }
 
 // A translation, by the hint first.
-#[tactic(auto, unfolding(operations::specs::Check::missedOf, cpu::specs::Step::step_of, cpu::specs::Step::run_of, cpu::specs::Step::ramOf), using(crate::proofs::Faithful::faithful_read))]
+#[tactic(auto, unfolding(operations::specs::Check::missed_of, cpu::specs::Step::step_of, cpu::specs::Step::run_of, cpu::specs::Step::ram_of), using(crate::proofs::Faithful::faithful_read))]
 pub fn translate(core: &mut Core, base: u64, ram: &[u8], va: u64, kind: Kind) -> Reply
     ensures step { record { core = core.new; reply = result } ≡ step_of core.old base ram.now (Call.Translate kind va) }
     ensures faithful { FaithfulCall core.old base ram.now (Call.Translate kind va) (ends core.new result) ram.now }
@@ -64,7 +64,7 @@ pub fn translate(core: &mut Core, base: u64, ram: &[u8], va: u64, kind: Kind) ->
 }
 
 // A load.
-#[tactic(auto, unfolding(operations::specs::Check::missedOf, cpu::specs::Step::step_of, cpu::specs::Step::run_of, cpu::specs::Step::ramOf), using(crate::proofs::Faithful::faithful_read))]
+#[tactic(auto, unfolding(operations::specs::Check::missed_of, cpu::specs::Step::step_of, cpu::specs::Step::run_of, cpu::specs::Step::ram_of), using(crate::proofs::Faithful::faithful_read))]
 pub fn load(core: &mut Core, base: u64, ram: &[u8], va: u64, size: u64) -> Reply
     ensures step { record { core = core.new; reply = result } ≡ step_of core.old base ram.now (Call.Load va size) }
     ensures faithful { FaithfulCall core.old base ram.now (Call.Load va size) (ends core.new result) ram.now }
@@ -80,10 +80,10 @@ pub fn load(core: &mut Core, base: u64, ram: &[u8], va: u64, size: u64) -> Reply
 }
 
 // A store of the low bytes of a value.
-#[tactic(auto, unfolding(operations::specs::Check::missedOf, cpu::specs::Step::step_of, cpu::specs::Step::run_of, cpu::specs::Step::ramAfter, cpu::specs::Step::ramOf), using(crate::proofs::Faithful::faithful_store))]
+#[tactic(auto, unfolding(operations::specs::Check::missed_of, cpu::specs::Step::step_of, cpu::specs::Step::run_of, cpu::specs::Step::ram_after, cpu::specs::Step::ram_of), using(crate::proofs::Faithful::faithful_store))]
 pub fn store(core: &mut Core, base: u64, ram: &mut [u8], va: u64, size: u64, value: u64) -> Reply
     ensures step { record { core = core.new; reply = result } ≡ step_of core.old base ram.old (Call.Store va size value) }
-    ensures ram { ram.new ≡ ramAfter core.old base ram.old (Call.Store va size value) }
+    ensures ram { ram.new ≡ ram_after core.old base ram.old (Call.Store va size value) }
     ensures faithful { FaithfulCall core.old base ram.old (Call.Store va size value) (ends core.new result) ram.new }
 {
     let missed = check::sized(core.privilege.level, base, ram.len() as u64, size);
@@ -97,7 +97,7 @@ pub fn store(core: &mut Core, base: u64, ram: &mut [u8], va: u64, size: u64, val
 }
 
 // An instruction, by the fetch hint first.
-#[tactic(auto, unfolding(operations::specs::Check::missedOf, cpu::specs::Step::step_of, cpu::specs::Step::run_of, cpu::specs::Step::ramOf), using(crate::proofs::Faithful::faithful_read))]
+#[tactic(auto, unfolding(operations::specs::Check::missed_of, cpu::specs::Step::step_of, cpu::specs::Step::run_of, cpu::specs::Step::ram_of), using(crate::proofs::Faithful::faithful_read))]
 pub fn fetch(core: &mut Core, base: u64, ram: &[u8], va: u64) -> Reply
     ensures step { record { core = core.new; reply = result } ≡ step_of core.old base ram.now (Call.Fetch va) }
     ensures faithful { FaithfulCall core.old base ram.now (Call.Fetch va) (ends core.new result) ram.now }

@@ -1,6 +1,6 @@
 // n translations on a lent core.
 ghost use Rattle.std.specs.Prelude.{◌≡◌};
-ghost use Rattle.lent_bench.specs.Many.{coreAfter, sumAfter, warmed};
+ghost use Rattle.lent_bench.specs.Many.{core_after, sum_after, warmed};
 
 use crate::sum;
 use mmu::core_state::Core;
@@ -10,8 +10,8 @@ use tlb::access::Kind;
 // answers. With two places that call it, `translate` stays a function of its own, as the Rust's is where the two are
 // timed.
 pub fn many(core: &mut Core, base: u64, ram: &[u8], n: u64, even: u64, odd: u64, kind: Kind) -> u64
-    ensures { (result ≡ sumAfter (warmed core.old base ram.now even kind) base ram.now even odd kind n)
-        × (core.new ≡ coreAfter (warmed core.old base ram.now even kind) base ram.now even odd kind n) }
+    ensures { (result ≡ sum_after (warmed core.old base ram.now even kind) base ram.now even odd kind n)
+        × (core.new ≡ core_after (warmed core.old base ram.now even kind) base ram.now even odd kind n) }
 {
     let first = lent::translate(core, base, ram, even, kind);
     let mut i = 0;

@@ -1,6 +1,6 @@
 // What stands before the loop: the core, and the kind of access.
 ghost use Rattle.std.specs.Prelude.{◌≡◌};
-ghost use Rattle.lent_bench.specs.Many.{kind_of, setUp};
+ghost use Rattle.lent_bench.specs.Many.{kind_of, set_up};
 
 use mmu::core_state::Core;
 use sysreg::regs::Control;
@@ -19,7 +19,7 @@ pub fn kind_of(word: u64) -> Kind
 
 // A core as after reset, but for three registers and the level.
 pub fn core_with(sctlr: u64, tcr: u64, ttbr0: u64, level: u64) -> Core
-    ensures { result ≡ setUp sctlr tcr ttbr0 level }
+    ensures { result ≡ set_up sctlr tcr ttbr0 level }
 {
     let mut control = Control::new();
     control.sctlr[1] = sctlr;

@@ -1,6 +1,6 @@
 // The sum over the answers, and which address a turn takes.
 ghost use Rattle.std.specs.Prelude.{◌≡◌};
-ghost use Rattle.lent_bench.specs.Many.{part_of, summedOf, vaOf};
+ghost use Rattle.lent_bench.specs.Many.{part_of, summed_of, va_of};
 
 use operations::call::Reply;
 use std::num;
@@ -21,7 +21,7 @@ fn part_of(reply: Reply) -> u64
 
 // The sum so far, rotated by one bit, and the answer.
 pub fn summed(sum: u64, reply: Reply) -> u64
-    ensures { result ≡ summedOf sum reply }
+    ensures { result ≡ summed_of sum reply }
 {
     let part = part_of(reply);
     let twice = num::wrapping_add_u64(sum, sum);
@@ -31,7 +31,7 @@ pub fn summed(sum: u64, reply: Reply) -> u64
 
 // The two addresses in turn.
 pub fn va_of(i: u64, even: u64, odd: u64) -> u64
-    ensures { result ≡ vaOf i even odd }
+    ensures { result ≡ va_of i even odd }
 {
     if i % 2 == 0 { even } else { odd }
 }

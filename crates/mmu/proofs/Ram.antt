@@ -2,12 +2,12 @@
 use Rattle.std.specs.Prelude.{◌≡◌, ℕ, List, length}
 use mathlib.Core.Path.{ap, ◌∙◌}
 use Rattle.operations.specs.BytesLaws.{store_length}
-use Rattle.operations.specs.Ends.{storeRamEnd}
+use Rattle.operations.specs.Ends.{store_ram_end}
 use Rattle.operations.specs.declared.place.Placed.{Placed}
 use Rattle.operations.specs.declared.place.Placed.TheVariants.{At, Fault}
 
-pub len : (base : ℕ) (ram : List ℕ) (n v : ℕ) (ys : List ℕ) (x : Placed) → ys ≡ storeRamEnd x base ram n v
+pub len : (base : ℕ) (ram : List ℕ) (n v : ℕ) (ys : List ℕ) (x : Placed) → ys ≡ store_ram_end x base ram n v
     → length ys ≡ length ram
-unfolding storeRamEnd
+unfolding store_ram_end
 len base ram n v ys (At place) e = ap length e ∙ store_length base ram place n v
 len base ram n v ys (Fault addr f) e = ap length e

@@ -5,85 +5,85 @@ use Rattle.std.specs.Prelude.{ℕ, List, Option}
 use Rattle.word.specs.Ram.{word_at}
 use Rattle.tlb.specs.declared.{access.Kind.Kind, Tlb.Tlb}
 use Rattle.tlb.specs.declared.access.Kind.TheVariants.{Read, Write}
-use Rattle.mmu.specs.Core.{afterAccess, bankNow}
-use Rattle.operations.specs.Ends.{loadEnd, storeEnd, storeRamEnd, fetchEnd, reachedBy}
-use Rattle.mmu.specs.Step.{translateIn, translateFetchIn, locatedOf}
+use Rattle.mmu.specs.Core.{after_access, bank_now}
+use Rattle.operations.specs.Ends.{load_end, store_end, store_ram_end, fetch_end, reached_by}
+use Rattle.mmu.specs.Step.{translate_in, translate_fetch_in, located_of}
 use Rattle.mmu.specs.declared.core_state.Core.{Core}
 use Rattle.operations.specs.declared.{ends.LoadEnd.LoadEnd, ends.StoreEnd.StoreEnd, ends.FetchEnd.FetchEnd}
 
 -- its translations: on its own registers, level and cache
-unfoldable pub steppedNow : Core → (ℕ → Option ℕ) → ℕ → Kind → Stepped
-steppedNow c memory va kind = translateIn (bankNow c) c.privilege memory va kind c.tlb
+unfoldable pub stepped_now : Core → (ℕ → Option ℕ) → ℕ → Kind → Stepped
+stepped_now c memory va kind = translate_in (bank_now c) c.privilege memory va kind c.tlb
 
-unfoldable pub fetchSteppedNow : Core → (ℕ → Option ℕ) → ℕ → Stepped
-fetchSteppedNow c memory va = translateFetchIn (bankNow c) c.privilege memory va c.tlb
+unfoldable pub fetch_stepped_now : Core → (ℕ → Option ℕ) → ℕ → Stepped
+fetch_stepped_now c memory va = translate_fetch_in (bank_now c) c.privilege memory va c.tlb
 
-unfoldable pub locatedNow : Core → (ℕ → Option ℕ) → ℕ → ℕ → Kind → Located
-locatedNow c memory va n kind = locatedOf (bankNow c) c.privilege memory va n kind c.tlb
+unfoldable pub located_now : Core → (ℕ → Option ℕ) → ℕ → ℕ → Kind → Located
+located_now c memory va n kind = located_of (bank_now c) c.privilege memory va n kind c.tlb
 
 -- TRANSLATIONS change the cache only
 
-abbrev pub withTlb : Core → Tlb → Core
-withTlb c t = afterAccess c t c.last_pa c.abort_pa
+abbrev pub with_tlb : Core → Tlb → Core
+with_tlb c t = after_access c t c.last_pa c.abort_pa
 
-abbrev pub translatedBy : Core → Stepped → Translated
-translatedBy c a = record { core = withTlb c a.tlb; answer = a.answer }
+abbrev pub translated_by : Core → Stepped → Translated
+translated_by c a = record { core = with_tlb c a.tlb; answer = a.answer }
 
-unfoldable pub translateOf : Core → (ℕ → Option ℕ) → ℕ → Kind → Translated
-translateOf c memory va kind = translatedBy c (steppedNow c memory va kind)
+unfoldable pub translate_of : Core → (ℕ → Option ℕ) → ℕ → Kind → Translated
+translate_of c memory va kind = translated_by c (stepped_now c memory va kind)
 
-unfoldable pub translateFetchOf : Core → (ℕ → Option ℕ) → ℕ → Translated
-translateFetchOf c memory va = translatedBy c (fetchSteppedNow c memory va)
+unfoldable pub translate_fetch_of : Core → (ℕ → Option ℕ) → ℕ → Translated
+translate_fetch_of c memory va = translated_by c (fetch_stepped_now c memory va)
 
-abbrev pub accessedBy : Core → Located → Accessed
-accessedBy c a = record { core = withTlb c a.tlb; placed = a.placed }
+abbrev pub accessed_by : Core → Located → Accessed
+accessed_by c a = record { core = with_tlb c a.tlb; placed = a.placed }
 
-unfoldable pub translateAccessOf : Core → (ℕ → Option ℕ) → ℕ → ℕ → Kind → Accessed
-translateAccessOf c memory va n kind = accessedBy c (locatedNow c memory va n kind)
+unfoldable pub translate_access_of : Core → (ℕ → Option ℕ) → ℕ → ℕ → Kind → Accessed
+translate_access_of c memory va n kind = accessed_by c (located_now c memory va n kind)
 
 -- WHERE AN ACCESS WOULD GO: a translation whose fault is told as no more than that
 
-abbrev pub addressedBy : Core → Stepped → Addressed
-addressedBy c a = record { core = withTlb c a.tlb; answer = reachedBy a.answer }
+abbrev pub addressed_by : Core → Stepped → Addressed
+addressed_by c a = record { core = with_tlb c a.tlb; answer = reached_by a.answer }
 
-unfoldable pub fetchPaOf : Core → (ℕ → Option ℕ) → ℕ → Addressed
-fetchPaOf c memory va = addressedBy c (fetchSteppedNow c memory va)
+unfoldable pub fetch_pa_of : Core → (ℕ → Option ℕ) → ℕ → Addressed
+fetch_pa_of c memory va = addressed_by c (fetch_stepped_now c memory va)
 
-unfoldable pub dataPaOf : Core → (ℕ → Option ℕ) → ℕ → Addressed
-dataPaOf c memory va = addressedBy c (steppedNow c memory va Read)
+unfoldable pub data_pa_of : Core → (ℕ → Option ℕ) → ℕ → Addressed
+data_pa_of c memory va = addressed_by c (stepped_now c memory va Read)
 
 -- LOADS AND STORES of n bytes; the tables lie in the same RAM. A13, D3: no address is misaligned, whatever SCTLR_ELx.A
 -- and the memory's type. M5: bytes are little-endian, whatever SCTLR_ELx.EE and E0E.
 
-abbrev pub loadedBy : Core → Tlb → LoadEnd → Loaded
-loadedBy c t e = record { core = afterAccess c t e.last_pa e.abort_pa; answer = e.answer }
+abbrev pub loaded_by : Core → Tlb → LoadEnd → Loaded
+loaded_by c t e = record { core = after_access c t e.last_pa e.abort_pa; answer = e.answer }
 
-abbrev pub readAfter : Core → Located → ℕ → List ℕ → ℕ → ℕ → Loaded
-readAfter c a base ram va n = loadedBy c a.tlb (loadEnd a.placed c.last_pa c.abort_pa base ram va n)
+abbrev pub read_after : Core → Located → ℕ → List ℕ → ℕ → ℕ → Loaded
+read_after c a base ram va n = loaded_by c a.tlb (load_end a.placed c.last_pa c.abort_pa base ram va n)
 
 unfoldable pub read_of : Core → ℕ → List ℕ → ℕ → ℕ → Loaded
-read_of c base ram va n = readAfter c (locatedNow c (word_at base ram 8) va n Read) base ram va n
+read_of c base ram va n = read_after c (located_now c (word_at base ram 8) va n Read) base ram va n
 
-abbrev pub storedBy : Core → Tlb → StoreEnd → Stored
-storedBy c t e = record { core = afterAccess c t c.last_pa e.abort_pa; answer = e.answer }
+abbrev pub stored_by : Core → Tlb → StoreEnd → Stored
+stored_by c t e = record { core = after_access c t c.last_pa e.abort_pa; answer = e.answer }
 
-abbrev pub writeAfter : Core → Located → ℕ → List ℕ → ℕ → ℕ → Stored
-writeAfter c a base ram va n = storedBy c a.tlb (storeEnd a.placed c.abort_pa base ram va n)
+abbrev pub write_after : Core → Located → ℕ → List ℕ → ℕ → ℕ → Stored
+write_after c a base ram va n = stored_by c a.tlb (store_end a.placed c.abort_pa base ram va n)
 
-unfoldable pub writeOf : Core → ℕ → List ℕ → ℕ → ℕ → Stored
-writeOf c base ram va n = writeAfter c (locatedNow c (word_at base ram 8) va n Write) base ram va n
+unfoldable pub write_of : Core → ℕ → List ℕ → ℕ → ℕ → Stored
+write_of c base ram va n = write_after c (located_now c (word_at base ram 8) va n Write) base ram va n
 
 -- RAM after a store of the n low bytes of v
-unfoldable pub ramAfterWrite : Core → ℕ → List ℕ → ℕ → ℕ → ℕ → List ℕ
-ramAfterWrite c base ram va n v = storeRamEnd (locatedNow c (word_at base ram 8) va n Write).placed base ram n v
+unfoldable pub ram_after_write : Core → ℕ → List ℕ → ℕ → ℕ → ℕ → List ℕ
+ram_after_write c base ram va n v = store_ram_end (located_now c (word_at base ram 8) va n Write).placed base ram n v
 
 -- FETCHES. M14: from an address that is no multiple of four too. O7: from Device memory too.
 
-abbrev pub fetchedBy : Core → Tlb → FetchEnd → Fetched
-fetchedBy c t e = record { core = afterAccess c t c.last_pa e.abort_pa; answer = e.answer }
+abbrev pub fetched_by : Core → Tlb → FetchEnd → Fetched
+fetched_by c t e = record { core = after_access c t c.last_pa e.abort_pa; answer = e.answer }
 
-abbrev pub fetchAfter : Core → Stepped → ℕ → List ℕ → ℕ → Fetched
-fetchAfter c a base ram va = fetchedBy c a.tlb (fetchEnd a.answer c.abort_pa base ram va)
+abbrev pub fetch_after : Core → Stepped → ℕ → List ℕ → ℕ → Fetched
+fetch_after c a base ram va = fetched_by c a.tlb (fetch_end a.answer c.abort_pa base ram va)
 
-unfoldable pub fetchOf : Core → ℕ → List ℕ → ℕ → Fetched
-fetchOf c base ram va = fetchAfter c (fetchSteppedNow c (word_at base ram 8) va) base ram va
+unfoldable pub fetch_of : Core → ℕ → List ℕ → ℕ → Fetched
+fetch_of c base ram va = fetch_after c (fetch_stepped_now c (word_at base ram 8) va) base ram va

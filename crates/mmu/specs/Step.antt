@@ -3,46 +3,46 @@
 -- `OwnAddress`, where each byte then lies.
 use Rattle.mmu.specs.Results.{Stepped, Located}
 use Rattle.std.specs.Prelude.{if◌then◌else◌, ℕ, Option}
-use Rattle.walk.specs.Regime.{stage1On, regimeOf}
+use Rattle.walk.specs.Regime.{stage1_on, regime_of}
 use Rattle.walk.specs.Tag.{untagged}
 use Rattle.walk.specs.declared.regime.Bank.{Bank}
 use Rattle.tlb.specs.Entry.{slot_of}
 use Rattle.tlb.specs.Access.{tag_of}
-use Rattle.tlb.specs.Step.{accessOf, translationIn, tlbAfter, fetchIn, fetchedIn}
+use Rattle.tlb.specs.Step.{access_of, translation_in, tlb_after, fetch_in, fetched_in}
 use Rattle.tlb.specs.declared.{access.Kind.Kind, access.Privilege.Privilege, access.Answer.Answer, Tlb.Tlb}
 use Rattle.tlb.specs.declared.access.Kind.TheVariants.{Fetch}
-use Rattle.operations.specs.Place.{nextPage, crosses, goesOn, placedOne, placedBoth}
+use Rattle.operations.specs.Place.{next_page, crosses, goes_on, placed_one, placed_both}
 
 -- the slot of the entry that may serve an address
 abbrev pub slot_at : Bank → ℕ → ℕ → ℕ
-slot_at s level va = slot_of (tag_of (regimeOf level) (untagged s.tcr (regimeOf level) va))
+slot_at s level va = slot_of (tag_of (regime_of level) (untagged s.tcr (regime_of level) va))
 
-abbrev pub onePage : ℕ → Stepped → Located
-onePage va a = record { tlb = a.tlb; placed = placedOne va a.answer }
+abbrev pub one_page : ℕ → Stepped → Located
+one_page va a = record { tlb = a.tlb; placed = placed_one va a.answer }
 
-abbrev pub bothPages : ℕ → Answer → Stepped → Located
-bothPages va a b = record { tlb = b.tlb; placed = placedBoth va a b.answer }
+abbrev pub both_pages : ℕ → Answer → Stepped → Located
+both_pages va a b = record { tlb = b.tlb; placed = placed_both va a b.answer }
 
 module _ (s : Bank) (privilege : Privilege) (memory : ℕ → Option ℕ) where
   -- one translation
-  unfoldable pub translateIn : ℕ → Kind → Tlb → Stepped
-  translateIn va kind t =
+  unfoldable pub translate_in : ℕ → Kind → Tlb → Stepped
+  translate_in va kind t =
       record {
-        tlb = tlbAfter (accessOf s privilege va kind memory) t;
-        answer = (translationIn (accessOf s privilege va kind memory) t).answer;
+        tlb = tlb_after (access_of s privilege va kind memory) t;
+        answer = (translation_in (access_of s privilege va kind memory) t).answer;
       }
 
   -- that of a fetch, by the fetch hint first
-  unfoldable pub translateFetchIn : ℕ → Tlb → Stepped
-  translateFetchIn va t =
+  unfoldable pub translate_fetch_in : ℕ → Tlb → Stepped
+  translate_fetch_in va t =
       record {
-        tlb = fetchedIn (accessOf s privilege va Fetch memory) t;
-        answer = (fetchIn (accessOf s privilege va Fetch memory) t).answer;
+        tlb = fetched_in (access_of s privilege va Fetch memory) t;
+        answer = (fetch_in (access_of s privilege va Fetch memory) t).answer;
       }
 
   -- The translations of an access of n bytes: its page's; and where it crosses and that was allowed, the next page's,
   -- in the cache that the first one left. B2: both are made before a byte moves.
-  unfoldable pub locatedOf : ℕ → ℕ → Kind → Tlb → Located
-  locatedOf va n kind t =
-      if goesOn (translateIn va kind t).answer (crosses (stage1On s (regimeOf privilege.level)) va n) then bothPages va (translateIn va kind t).answer (translateIn (nextPage va) kind (translateIn va kind t).tlb)
-      else onePage va (translateIn va kind t)
+  unfoldable pub located_of : ℕ → ℕ → Kind → Tlb → Located
+  located_of va n kind t =
+      if goes_on (translate_in va kind t).answer (crosses (stage1_on s (regime_of privilege.level)) va n) then both_pages va (translate_in va kind t).answer (translate_in (next_page va) kind (translate_in va kind t).tlb)
+      else one_page va (translate_in va kind t)

@@ -23,12 +23,12 @@ pub struct Core {
 }
 
 impl Core {
-    ghost use Rattle.mmu.specs.Core.{freshCore, reg_of, setReg, bankNow};
+    ghost use Rattle.mmu.specs.Core.{fresh_core, reg_of, set_reg, bank_now};
 
     // After reset.
-    #[tactic(auto, unfolding(crate::specs::Core::freshCore, crate::specs::Bare::zeros))]
+    #[tactic(auto, unfolding(crate::specs::Core::fresh_core, crate::specs::Bare::zeros))]
     pub fn new() -> Self
-        ensures { result ≡ freshCore }
+        ensures { result ≡ fresh_core }
     {
         Core {
             privilege: Privilege {
@@ -55,9 +55,9 @@ impl Core {
     }
 
     // Register 31 drops what is written.
-    #[tactic(auto, unfolding(crate::specs::Core::setReg))]
+    #[tactic(auto, unfolding(crate::specs::Core::set_reg))]
     pub fn set_reg(&mut self, n: u64, value: u64)
-        ensures { self.new ≡ setReg self.old n value }
+        ensures { self.new ≡ set_reg self.old n value }
     {
         if n < 31 {
             self.x[n as usize] = value;
@@ -66,7 +66,7 @@ impl Core {
 
     // The registers of the level's regime.
     pub fn bank(&self) -> Bank
-        ensures { result ≡ bankNow self.now }
+        ensures { result ≡ bank_now self.now }
     {
         Bank::new(&self.control, Regime::of_level(self.privilege.level))
     }

@@ -1,8 +1,8 @@
 // The core's operations on memory.
 ghost use Rattle.std.specs.Prelude.{◌≡◌};
-ghost use Rattle.word.specs.Ram.{word_at, bytesIn};
-ghost use Rattle.mmu.specs.Ops.{translateOf, translateFetchOf, translateAccessOf};
-ghost use Rattle.mmu.specs.Ops.{read_of, writeOf, ramAfterWrite, fetchOf, fetchPaOf, dataPaOf};
+ghost use Rattle.word.specs.Ram.{word_at, bytes_in};
+ghost use Rattle.mmu.specs.Ops.{translate_of, translate_fetch_of, translate_access_of};
+ghost use Rattle.mmu.specs.Ops.{read_of, write_of, ram_after_write, fetch_of, fetch_pa_of, data_pa_of};
 
 use crate::core_state::Core;
 use operations::ends::{FetchAnswer, LoadAnswer, Reached, StoreAnswer};
@@ -13,9 +13,9 @@ use word::ram::Width;
 
 impl Core {
     // Where an access of the kind to va goes. The fetch hint is neither used nor set.
-    #[tactic(auto, unfolding(crate::specs::Ops::translateOf, crate::specs::Ops::steppedNow, crate::specs::Step::translateIn, crate::specs::Core::afterAccess))]
+    #[tactic(auto, unfolding(crate::specs::Ops::translate_of, crate::specs::Ops::stepped_now, crate::specs::Step::translate_in, crate::specs::Core::after_access))]
     pub fn translate(&mut self, base: u64, ram: &[u8], va: u64, kind: Kind) -> Answer
-        ensures { record { core = self.new; answer = result } ≡ translateOf self.old (word_at base ram.now 8) va kind }
+        ensures { record { core = self.new; answer = result } ≡ translate_of self.old (word_at base ram.now 8) va kind }
     {
         let s = self.bank();
         let privilege = self.privilege;
@@ -23,9 +23,9 @@ impl Core {
     }
 
     // The translation that a fetch begins with.
-    #[tactic(auto, unfolding(crate::specs::Ops::translateFetchOf, crate::specs::Ops::fetchSteppedNow, crate::specs::Step::translateFetchIn, crate::specs::Core::afterAccess))]
+    #[tactic(auto, unfolding(crate::specs::Ops::translate_fetch_of, crate::specs::Ops::fetch_stepped_now, crate::specs::Step::translate_fetch_in, crate::specs::Core::after_access))]
     fn translate_fetch(&mut self, base: u64, ram: &[u8], va: u64) -> Answer
-        ensures { record { core = self.new; answer = result } ≡ translateFetchOf self.old (word_at base ram.now 8) va }
+        ensures { record { core = self.new; answer = result } ≡ translate_fetch_of self.old (word_at base ram.now 8) va }
     {
         let s = self.bank();
         let privilege = self.privilege;
@@ -34,7 +34,7 @@ impl Core {
 
     // The translations of an access, before a byte moves: one, or two where it crosses a page. The first one's effects
     // remain where the second faults.
-    #[tactic(auto, unfolding(crate::specs::Ops::translateAccessOf, crate::specs::Ops::locatedNow, crate::specs::Step::locatedOf, crate::specs::Step::translateIn, crate::specs::Core::afterAccess))]
+    #[tactic(auto, unfolding(crate::specs::Ops::translate_access_of, crate::specs::Ops::located_now, crate::specs::Step::located_of, crate::specs::Step::translate_in, crate::specs::Core::after_access))]
     pub fn translate_access(
         &mut self,
         base: u64,
@@ -43,7 +43,7 @@ impl Core {
         width: Width,
         kind: Kind,
     ) -> Placed
-        ensures { record { core = self.new; placed = result } ≡ translateAccessOf self.old (word_at base ram.now 8) va (bytesIn width) kind }
+        ensures { record { core = self.new; placed = result } ≡ translate_access_of self.old (word_at base ram.now 8) va (bytes_in width) kind }
     {
         let s = self.bank();
         let privilege = self.privilege;
@@ -61,9 +61,9 @@ impl Core {
     }
 
     // A load.
-    #[tactic(auto, unfolding(crate::specs::Ops::read_of, crate::specs::Ops::translateAccessOf, crate::specs::Core::afterAccess))]
+    #[tactic(auto, unfolding(crate::specs::Ops::read_of, crate::specs::Ops::translate_access_of, crate::specs::Core::after_access))]
     pub fn read(&mut self, base: u64, ram: &[u8], va: u64, width: Width) -> LoadAnswer
-        ensures { record { core = self.new; answer = result } ≡ read_of self.old base ram.now va (bytesIn width) }
+        ensures { record { core = self.new; answer = result } ≡ read_of self.old base ram.now va (bytes_in width) }
     {
         let placed = self.translate_access(base, ram, va, width, Kind::Read);
         let end = ends::load_end(placed, self.last_pa, self.abort_pa, base, ram, va, width);
@@ -73,7 +73,7 @@ impl Core {
     }
 
     // A store of the low bytes of a value.
-    #[tactic(auto, unfolding(crate::specs::Ops::writeOf, crate::specs::Ops::ramAfterWrite, crate::specs::Ops::translateAccessOf, crate::specs::Core::afterAccess), using(crate::proofs::Ram::len))]
+    #[tactic(auto, unfolding(crate::specs::Ops::write_of, crate::specs::Ops::ram_after_write, crate::specs::Ops::translate_access_of, crate::specs::Core::after_access), using(crate::proofs::Ram::len))]
     pub fn write(
         &mut self,
         base: u64,
@@ -82,8 +82,8 @@ impl Core {
         width: Width,
         value: u64,
     ) -> StoreAnswer
-        ensures core { record { core = self.new; answer = result } ≡ writeOf self.old base ram.old va (bytesIn width) }
-        ensures ram { ram.new ≡ ramAfterWrite self.old base ram.old va (bytesIn width) value }
+        ensures core { record { core = self.new; answer = result } ≡ write_of self.old base ram.old va (bytes_in width) }
+        ensures ram { ram.new ≡ ram_after_write self.old base ram.old va (bytes_in width) value }
     {
         let placed = self.translate_access(base, ram, va, width, Kind::Write);
         let end = ends::store_end(placed, self.abort_pa, base, ram, va, width, value);
@@ -92,9 +92,9 @@ impl Core {
     }
 
     // An instruction, by the fetch hint first.
-    #[tactic(auto, unfolding(crate::specs::Ops::fetchOf, crate::specs::Ops::translateFetchOf, crate::specs::Core::afterAccess))]
+    #[tactic(auto, unfolding(crate::specs::Ops::fetch_of, crate::specs::Ops::translate_fetch_of, crate::specs::Core::after_access))]
     pub fn fetch(&mut self, base: u64, ram: &[u8], va: u64) -> FetchAnswer
-        ensures { record { core = self.new; answer = result } ≡ fetchOf self.old base ram.now va }
+        ensures { record { core = self.new; answer = result } ≡ fetch_of self.old base ram.now va }
     {
         let at = self.translate_fetch(base, ram, va);
         let end = ends::fetch_end(at, self.abort_pa, base, ram, va);
@@ -103,17 +103,17 @@ impl Core {
     }
 
     // Where a fetch of va goes, by the same hint, which a new page refreshes.
-    #[tactic(auto, unfolding(crate::specs::Ops::fetchPaOf, crate::specs::Ops::translateFetchOf))]
+    #[tactic(auto, unfolding(crate::specs::Ops::fetch_pa_of, crate::specs::Ops::translate_fetch_of))]
     pub fn fetch_pa(&mut self, base: u64, ram: &[u8], va: u64) -> Reached
-        ensures { record { core = self.new; answer = result } ≡ fetchPaOf self.old (word_at base ram.now 8) va }
+        ensures { record { core = self.new; answer = result } ≡ fetch_pa_of self.old (word_at base ram.now 8) va }
     {
         ends::reach(self.translate_fetch(base, ram, va))
     }
 
     // Where a data read of va goes.
-    #[tactic(auto, unfolding(crate::specs::Ops::dataPaOf, crate::specs::Ops::translateOf))]
+    #[tactic(auto, unfolding(crate::specs::Ops::data_pa_of, crate::specs::Ops::translate_of))]
     pub fn data_pa(&mut self, base: u64, ram: &[u8], va: u64) -> Reached
-        ensures { record { core = self.new; answer = result } ≡ dataPaOf self.old (word_at base ram.now 8) va }
+        ensures { record { core = self.new; answer = result } ≡ data_pa_of self.old (word_at base ram.now 8) va }
     {
         ends::reach(self.translate(base, ram, va, Kind::Read))
     }

@@ -5,10 +5,10 @@ use native.Mathlib.Nat.{pow-zero}
 use Rattle.word.specs.Bits.{wrap}
 use Rattle.word.specs.Ram.{within, written, stored, bytes_of}
 use Rattle.word.specs.RamLaws.{digit-next, written_next}
-use Rattle.operations.specs.Place.{byte_at, firstOutside, verdictOf}
-use Rattle.operations.specs.Bytes.{splitValue, splitStored, load_of, storeRam}
+use Rattle.operations.specs.Place.{byte_at, first_outside, verdict_of}
+use Rattle.operations.specs.Bytes.{split_value, split_stored, load_of, store_ram}
 use Rattle.operations.specs.BytesLaws.{stored-length}
-use Rattle.operations.specs.AtOnce.{bothInside, Lie, bothAt, bothStored, pair_at}
+use Rattle.operations.specs.AtOnce.{both_inside, Lie, both_at, both_stored, pair_at}
 use Rattle.operations.specs.declared.place.Pages.{Pages}
 use Rattle.operations.specs.declared.place.Place.TheVariants.{Split}
 use Rattle.operations.specs.declared.place.Verdict.TheVariants.{Inside}
@@ -47,8 +47,8 @@ module _ (base len : ℕ) (p : Pages) (n : ℕ) where
     few : n ≤ 8
     both : parts ≡ true
 
-  unfold-both : bothInside base len p n ≡ true → Fit
-  unfolding bothInside
+  unfold-both : both_inside base len p n ≡ true → Fit
+  unfolding both_inside
   unfold-both = go (ltb (2 ^ 64 - 1 - len) base) refl (ltb n p.in_page) refl (ltb 8 n) refl
     where
       go : (x : Bool) → ltb (2 ^ 64 - 1 - len) base ≡ x → (y : Bool) → ltb n p.in_page ≡ y → (z : Bool) → ltb 8 n ≡ z
@@ -58,7 +58,7 @@ module _ (base len : ℕ) (p : Pages) (n : ℕ) where
       go false ex false ey true ez e = absurd (false-true e)
       go false ex false ey false ez e = record { low = ltb-false _ _ ex; some = ltb-false _ _ ey; few = ltb-false _ _ ez; both = e }
 
-  pub both-lie : len < 2 ^ 64 → bothInside base len p n ≡ true → Lie base len p n
+  pub both-lie : len < 2 ^ 64 → both_inside base len p n ≡ true → Lie base len p n
   both-lie h t =
       let u = unfold-both t in
       let s : base ≤ 2 ^ 64 - 1 - len = u.low in
@@ -77,8 +77,8 @@ module _ (base len : ℕ) (p : Pages) (n i pa : ℕ) (l : Lie base len p n) (h :
   next-within : true ≡ within base len 1 pa
   next-within = sym (ap (within base len 1) ep ∙ l.each i h)
 
-pub joined-on : (base : ℕ) (ram : List ℕ) (p : Pages) (n i v pa b : ℕ) → Lie base (length ram) p n → 0 < i → i ≤ n → v ≡ splitValue base ram p i (n - i)
-    → pa ≡ byte_at p (i - 1) → b ≡ get_or ram (pa - base) 0 → v * 256 + b ≡ splitValue base ram p (i - 1) (n - (i - 1))
+pub joined-on : (base : ℕ) (ram : List ℕ) (p : Pages) (n i v pa b : ℕ) → Lie base (length ram) p n → 0 < i → i ≤ n → v ≡ split_value base ram p i (n - i)
+    → pa ≡ byte_at p (i - 1) → b ≡ get_or ram (pa - base) 0 → v * 256 + b ≡ split_value base ram p (i - 1) (n - (i - 1))
 joined-on base ram p n i v pa b l h k ev ep eb =
     sum-on base ram p n i v pa b h k ev ep (byte-there base ram pa true (next-within base (length ram) p n (i - 1) pa l (omega arith) ep) b refl eb)
 
@@ -115,8 +115,8 @@ stored_next base ram n pa v e =
 
 -- bytes that follow one another in RAM are one part
 row-stored : (base : ℕ) (p : Pages) (v i n q : ℕ) (ram : List ℕ) → ((j : ℕ) → j < n → byte_at p (i + j) ≡ q + j)
-    → true ≡ within base (length ram) n q → splitStored base p v i n ram ≡ stored base ram n q v
-unfolding splitStored
+    → true ≡ within base (length ram) n q → split_stored base p v i n ram ≡ stored base ram n q v
+unfolding split_stored
 row-stored base p v i zero q ram row e = sym (stored-none base ram q v)
 row-stored base p v i (suc n) q ram row e =
     let b : base ≤ q = fits-base base (length ram) (suc n) q true refl e in
@@ -133,8 +133,8 @@ row-stored base p v i (suc n) q ram row e =
 
 -- m bytes, and then n more
 split-join : (base : ℕ) (p : Pages) (v i m n : ℕ) (ram : List ℕ)
-    → splitStored base p v i (m + n) ram ≡ splitStored base p (v / 256 ^ m) (i + m) n (splitStored base p v i m ram)
-unfolding splitStored
+    → split_stored base p v i (m + n) ram ≡ split_stored base p (v / 256 ^ m) (i + m) n (split_stored base p v i m ram)
+unfolding split_stored
 split-join base p v i zero n ram =
     let z : i + 0 ≡ i = omega arith in
     rw (zero-add n, z, pow-zero 256, div-one v)
@@ -152,14 +152,14 @@ double-shift (suc k) =
 pub shifted : (v k : ℕ) → v / 2 ^ (k * 4) / 2 ^ (k * 4) ≡ v / 256 ^ k
 shifted v k = shr-shr v (k * 4) (k * 4) ∙ ap (λ (m : ℕ). v / m) (double-shift k)
 
-module _ (base : ℕ) (ram : List ℕ) (p : Pages) (n v : ℕ) (h : length ram < 2 ^ 64) (t : bothInside base (length ram) p n ≡ true) where
+module _ (base : ℕ) (ram : List ℕ) (p : Pages) (n v : ℕ) (h : length ram < 2 ^ 64) (t : both_inside base (length ram) p n ≡ true) where
   abbrev first_part : List ℕ
   first_part = stored base ram p.in_page p.pa v
 
   abbrev rest_of : ℕ
   rest_of = v / 256 ^ p.in_page
 
-  pub parts-stored : stored base first_part (n - p.in_page) p.pa2 rest_of ≡ splitStored base p v 0 n ram
+  pub parts-stored : stored base first_part (n - p.in_page) p.pa2 rest_of ≡ split_stored base p v 0 n ram
   parts-stored =
       let f = unfold-both base (length ram) p n t in
       let w : (within base (length ram) p.in_page p.pa ≡ true) × (within base (length ram) (n - p.in_page) p.pa2 ≡ true)
@@ -172,16 +172,16 @@ module _ (base : ℕ) (ram : List ℕ) (p : Pages) (n v : ℕ) (h : length ram <
       let e1 = fits-end base (length ram) p.in_page p.pa true refl (sym w.0) in
       let b2 = fits-base base (length ram) (n - p.in_page) p.pa2 true refl (sym w.1) in
       let e2 = fits-end base (length ram) (n - p.in_page) p.pa2 true refl (sym w.1) in
-      let one : splitStored base p v 0 p.in_page ram ≡ first_part
+      let one : split_stored base p v 0 p.in_page ram ≡ first_part
       = row-stored base p v 0 p.in_page p.pa ram (λ j k. here j k (omega arith)) (sym w.0) in
-      let two : splitStored base p rest_of p.in_page (n - p.in_page) first_part ≡ stored base first_part (n - p.in_page) p.pa2 rest_of
+      let two : split_stored base p rest_of p.in_page (n - p.in_page) first_part ≡ stored base first_part (n - p.in_page) p.pa2 rest_of
       = row-stored base p rest_of p.in_page (n - p.in_page) p.pa2 first_part (λ j k. there j (omega arith))
       (sym (ap (λ (m : ℕ). within base m (n - p.in_page) p.pa2) long ∙ w.1)) in
       sym two
-      ∙ ap (splitStored base p rest_of p.in_page (n - p.in_page)) (sym one)
-      ∙ ap (λ (m : ℕ). splitStored base p rest_of m (n - p.in_page) (splitStored base p v 0 p.in_page ram)) (sym (zero-add p.in_page))
+      ∙ ap (split_stored base p rest_of p.in_page (n - p.in_page)) (sym one)
+      ∙ ap (λ (m : ℕ). split_stored base p rest_of m (n - p.in_page) (split_stored base p v 0 p.in_page ram)) (sym (zero-add p.in_page))
       ∙ sym (split-join base p v 0 p.in_page (n - p.in_page) ram)
-      ∙ ap (λ (m : ℕ). splitStored base p v 0 m ram) sum
+      ∙ ap (λ (m : ℕ). split_stored base p v 0 m ram) sum
     where
       here : (j : ℕ) → j < p.in_page → p.pa + j < 2 ^ 64 → byte_at p (0 + j) ≡ p.pa + j
       here j k s = rw (zero-add j, lt-ltb _ _ k) (mod-eq_of_lt s)
@@ -192,22 +192,22 @@ module _ (base : ℕ) (ram : List ℕ) (p : Pages) (n v : ℕ) (h : length ram <
           rw (le-ltb (p.in_page + j) p.in_page (omega arith), q) (mod-eq_of_lt s)
 
 -- a load and a store by one test
-module _ (base : ℕ) (ram : List ℕ) (p : Pages) (n : ℕ) (f : Bool) (ef : f ≡ bothInside base (length ram) p n) where
+module _ (base : ℕ) (ram : List ℕ) (p : Pages) (n : ℕ) (f : Bool) (ef : f ≡ both_inside base (length ram) p n) where
   pub lies : length ram < 2 ^ 64 → f ≡ true → Lie base (length ram) p n
   lies h t = both-lie base (length ram) p n h (sym ef ∙ t)
 
   pub few : f ≡ true → n ≤ 8
   few t = (unfold-both base (length ram) p n (sym ef ∙ t)).few
 
-  pub made : f ≡ true → true ≡ bothInside base (length ram) p n
+  pub made : f ≡ true → true ≡ both_inside base (length ram) p n
   made t = sym t ∙ ef
 
-  pub unmade : f ≡ false → false ≡ bothInside base (length ram) p n
+  pub unmade : f ≡ false → false ≡ both_inside base (length ram) p n
   unmade t = sym t ∙ ef
 
   pub both-wrote : length ram < 2 ^ 64 → (xs ys : List ℕ) (v : ℕ) → f ≡ true → xs ≡ stored base ram p.in_page p.pa v
-      → ys ≡ stored base xs (n - p.in_page) p.pa2 (v / 2 ^ (p.in_page * 4) / 2 ^ (p.in_page * 4)) → ys ≡ bothStored base ram p n v
-  unfolding bothStored
+      → ys ≡ stored base xs (n - p.in_page) p.pa2 (v / 2 ^ (p.in_page * 4) / 2 ^ (p.in_page * 4)) → ys ≡ both_stored base ram p n v
+  unfolding both_stored
   both-wrote h xs ys v t ex ey =
       rw (← ef, t)
       (ey
@@ -224,40 +224,40 @@ module _ (base : ℕ) (ram : List ℕ) (p : Pages) (n : ℕ) (f : Bool) (ef : f 
   pub some : f ≡ true → p.in_page ≤ n
   some t = (unfold-both base (length ram) p n (sym ef ∙ t)).some
 
-  pub both-unwritten : (v : ℕ) → f ≡ false → ram ≡ bothStored base ram p n v
-  unfolding bothStored
+  pub both-unwritten : (v : ℕ) → f ≡ false → ram ≡ both_stored base ram p n v
+  unfolding both_stored
   both-unwritten v t = rw (← ef, t)
 
 -- two bytes, one in each page
-module _ (base : ℕ) (ram : List ℕ) (pa pa2 : ℕ) (f : Bool) (ef : f ≡ bothInside base (length ram) (pair_at pa pa2) 2) where
+module _ (base : ℕ) (ram : List ℕ) (pa pa2 : ℕ) (f : Bool) (ef : f ≡ both_inside base (length ram) (pair_at pa pa2) 2) where
   pub pair-wrote : length ram < 2 ^ 64 → (xs ys : List ℕ) (v : ℕ) → f ≡ true → xs ≡ stored base ram 1 pa v → ys ≡ stored base xs 1 pa2 (v / 256)
-      → ys ≡ bothStored base ram (pair_at pa pa2) 2 v
+      → ys ≡ both_stored base ram (pair_at pa pa2) 2 v
   pair-wrote h xs ys v t ex ey =
       both-wrote base ram (pair_at pa pa2) 2 f ef h xs ys v t ex (ey ∙ ap (stored base xs 1 pa2) (sym (shr-shr v 4 4)))
 
 -- and what it says is what the bytes say
-lie-inside : (base len : ℕ) (p : Pages) (n : ℕ) → Lie base len p n → (m i : ℕ) → i + m ≤ n → firstOutside base len p i m ≡ Inside
-unfolding firstOutside
+lie-inside : (base len : ℕ) (p : Pages) (n : ℕ) → Lie base len p n → (m i : ℕ) → i + m ≤ n → first_outside base len p i m ≡ Inside
+unfolding first_outside
 lie-inside base len p n l zero i h = refl
 lie-inside base len p n l (suc m) i h = rw (l.each i (omega arith)) (lie-inside base len p n l m (i + 1) (omega arith))
 
 module _ (base : ℕ) (ram : List ℕ) (p : Pages) (n : ℕ) (h : length ram < 2 ^ 64) where
-  all-inside : bothInside base (length ram) p n ≡ true → firstOutside base (length ram) p 0 n ≡ Inside
+  all-inside : both_inside base (length ram) p n ≡ true → first_outside base (length ram) p 0 n ≡ Inside
   all-inside t = lie-inside base (length ram) p n (both-lie base (length ram) p n h t) n 0 (omega arith)
 
-  pub both-loads : (v : ℕ) → bothAt base ram p n ≡ Some v → load_of base ram (Split p) n ≡ Got.Value v
-  unfolding bothAt
-  both-loads v = go (bothInside base (length ram) p n) refl
+  pub both-loads : (v : ℕ) → both_at base ram p n ≡ Some v → load_of base ram (Split p) n ≡ Got.Value v
+  unfolding both_at
+  both-loads v = go (both_inside base (length ram) p n) refl
     where
-      go : (f : Bool) → bothInside base (length ram) p n ≡ f → (if f then Some (splitValue base ram p 0 n) else None) ≡ Some v
+      go : (f : Bool) → both_inside base (length ram) p n ≡ f → (if f then Some (split_value base ram p 0 n) else None) ≡ Some v
           → load_of base ram (Split p) n ≡ Got.Value v
       go true ef e = sym (split-value base ram p n v Inside (sym (all-inside ef)) refl (sym (value-is _ _ e)))
       go false ef e = absurd (outside-value v e)
 
-  pub both-judged : bothInside base (length ram) p n ≡ true → verdictOf base (length ram) (Split p) n ≡ Inside
-  unfolding verdictOf
+  pub both-judged : both_inside base (length ram) p n ≡ true → verdict_of base (length ram) (Split p) n ≡ Inside
+  unfolding verdict_of
   both-judged t = all-inside t
 
-  pub both-stores : (v : ℕ) → bothInside base (length ram) p n ≡ true → storeRam base ram (Split p) n v ≡ bothStored base ram p n v
-  unfolding storeRam verdictOf bothStored
+  pub both-stores : (v : ℕ) → both_inside base (length ram) p n ≡ true → store_ram base ram (Split p) n v ≡ both_stored base ram p n v
+  unfolding store_ram verdict_of both_stored
   both-stores v t = rw (all-inside t, t)

@@ -2,9 +2,9 @@
 use Rattle.std.specs.Prelude.{if◌then◌else◌, Option, Some, None}
 use Rattle.std.proofs.Common.{◌≡◌, ℕ, zero, suc, ◌+◌, ◌-◌, ◌*◌, ◌/◌, ◌^◌, ◌<◌, ◌≤◌, Bool, true, false, ◌&&◌, leb, List, length, get_or, sym, refl, ap, ◌∙◌, pow-suc, arith, leb-true}
 use native.Mathlib.Nat.{pow-le-pow_right}
-use Rattle.word.specs.Ram.{littleEndian, within, word_at, stored}
-use Rattle.operations.specs.Place.{byte_at, firstOutside, verdictOf}
-use Rattle.operations.specs.Bytes.{byteIn, splitValue, splitStored, gotBy, load_of}
+use Rattle.word.specs.Ram.{little_endian, within, word_at, stored}
+use Rattle.operations.specs.Place.{byte_at, first_outside, verdict_of}
+use Rattle.operations.specs.Bytes.{byte_in, split_value, split_stored, got_by, load_of}
 use Rattle.operations.specs.BytesLaws.{stored-length}
 use Rattle.operations.specs.declared.{place.Pages.Pages, place.Verdict.Verdict}
 use Rattle.operations.specs.declared.place.Place.TheVariants.{Whole, Split}
@@ -33,19 +33,19 @@ module _ (base len n pa : ℕ) (f : Bool) (t : f ≡ true) (e : f ≡ within bas
 
 -- a byte
 module _ (base : ℕ) (ram : List ℕ) (pa : ℕ) (f : Bool) (e : f ≡ within base (length ram) 1 pa) where
-  pub byte-there : (b : ℕ) → f ≡ true → b ≡ get_or ram (pa - base) 0 → b ≡ byteIn base ram pa
-  unfolding byteIn
+  pub byte-there : (b : ℕ) → f ≡ true → b ≡ get_or ram (pa - base) 0 → b ≡ byte_in base ram pa
+  unfolding byte_in
   byte-there b t q = rw (← e, t) q
 
 -- the loop that sums up a split access's bytes, from the highest down
 module _ (base : ℕ) (ram : List ℕ) (p : Pages) (n : ℕ) where
-  pub sum-starts : 0 ≡ splitValue base ram p n (n - n)
-  unfolding splitValue
+  pub sum-starts : 0 ≡ split_value base ram p n (n - n)
+  unfolding split_value
   sum-starts = let z : n - n ≡ zero = omega arith in rw z
 
-  pub sum-on : (i v pa b : ℕ) → 0 < i → i ≤ n → v ≡ splitValue base ram p i (n - i) → pa ≡ byte_at p (i - 1) → b ≡ byteIn base ram pa
-      → v * 256 + b ≡ splitValue base ram p (i - 1) (n - (i - 1))
-  unfolding splitValue
+  pub sum-on : (i v pa b : ℕ) → 0 < i → i ≤ n → v ≡ split_value base ram p i (n - i) → pa ≡ byte_at p (i - 1) → b ≡ byte_in base ram pa
+      → v * 256 + b ≡ split_value base ram p (i - 1) (n - (i - 1))
+  unfolding split_value
   sum-on i v pa b h k ev ep eb =
       let s : n - (i - 1) ≡ suc (n - i) = omega arith in
       let q : i - 1 + 1 ≡ i = omega arith in
@@ -75,50 +75,50 @@ module _ (n i v : ℕ) (few : n ≤ 8) (h : 0 < i) (k : i ≤ n) (l : v < 256 ^ 
 -- loads
 module _ (base : ℕ) (ram : List ℕ) where
   by_value : (pa : ℕ) (f : Bool) (v x : ℕ) → (if f then Some x else None) ≡ Some v
-      → Value v ≡ gotBy (if f then Inside else Outside 0 pa) x
+      → Value v ≡ got_by (if f then Inside else Outside 0 pa) x
   by_value pa true v x q = cc
   by_value pa false v x q = cc
 
   by-none : (pa : ℕ) (f : Bool) (x : ℕ) → (if f then Some x else None) ≡ None
-      → Abort 0 pa ≡ gotBy (if f then Inside else Outside 0 pa) x
+      → Abort 0 pa ≡ got_by (if f then Inside else Outside 0 pa) x
   by-none pa true x q = cc
   by-none pa false x q = refl
 
   pub whole-value : (pa n : ℕ) (w : Option ℕ) (v : ℕ) → w ≡ word_at base ram n pa → w ≡ Some v → Value v ≡ load_of base ram (Whole pa) n
-  unfolding load_of verdictOf word_at
-  whole-value pa n w v e q = by_value pa (within base (length ram) n pa) v (littleEndian ram n (pa - base)) (sym e ∙ q)
+  unfolding load_of verdict_of word_at
+  whole-value pa n w v e q = by_value pa (within base (length ram) n pa) v (little_endian ram n (pa - base)) (sym e ∙ q)
 
   pub whole-abort : (pa n : ℕ) (w : Option ℕ) → w ≡ word_at base ram n pa → w ≡ None → Abort 0 pa ≡ load_of base ram (Whole pa) n
-  unfolding load_of verdictOf word_at
-  whole-abort pa n w e q = by-none pa (within base (length ram) n pa) (littleEndian ram n (pa - base)) (sym e ∙ q)
+  unfolding load_of verdict_of word_at
+  whole-abort pa n w e q = by-none pa (within base (length ram) n pa) (little_endian ram n (pa - base)) (sym e ∙ q)
 
-  pub split-value : (p : Pages) (n v : ℕ) (d : Verdict) → d ≡ firstOutside base (length ram) p 0 n → d ≡ Inside
-      → v ≡ splitValue base ram p 0 n → Value v ≡ load_of base ram (Split p) n
-  unfolding load_of verdictOf
+  pub split-value : (p : Pages) (n v : ℕ) (d : Verdict) → d ≡ first_outside base (length ram) p 0 n → d ≡ Inside
+      → v ≡ split_value base ram p 0 n → Value v ≡ load_of base ram (Split p) n
+  unfolding load_of verdict_of
   split-value p n v d e q s = rw (← e, q, s)
 
 -- the loop that writes a split access's bytes
-module _ (base : ℕ) (p : Pages) (n i v : ℕ) (ram ys : List ℕ) (inv : splitStored base p v i (n - i) ram ≡ ys) where
+module _ (base : ℕ) (p : Pages) (n i v : ℕ) (ram ys : List ℕ) (inv : split_stored base p v i (n - i) ram ≡ ys) where
   pub put-end : n ≤ i → ram ≡ ys
-  unfolding splitStored
+  unfolding split_stored
   put-end h = let z : n - i ≡ zero = omega arith in rw z at inv
 
   pub put_on : (pa : ℕ) (ram' : List ℕ) → i < n → pa ≡ byte_at p i → ram' ≡ stored base ram 1 pa v
-      → splitStored base p (v / 256) (i + 1) (n - (i + 1)) ram' ≡ ys
-  unfolding splitStored
+      → split_stored base p (v / 256) (i + 1) (n - (i + 1)) ram' ≡ ys
+  unfolding split_stored
   put_on pa ram' h ep er =
       let s : n - i ≡ suc (n - (i + 1)) = omega arith in
-      rw (er, ep) (sym (ap (λ (k : ℕ). splitStored base p v i k ram) s) ∙ inv)
+      rw (er, ep) (sym (ap (λ (k : ℕ). split_stored base p v i k ram) s) ∙ inv)
 
 pub put-length : (base : ℕ) (ram ys : List ℕ) (pa v m : ℕ) → ys ≡ stored base ram 1 pa v → length ram ≡ m → length ys ≡ m
 put-length base ram ys pa v m e q = ap length e ∙ stored-length base ram 1 pa v ∙ q
 
 -- stores
 module _ (base : ℕ) (ram : List ℕ) where
-  pub whole-inside : (pa n : ℕ) (f : Bool) → f ≡ true → f ≡ within base (length ram) n pa → Inside ≡ verdictOf base (length ram) (Whole pa) n
-  unfolding verdictOf
+  pub whole-inside : (pa n : ℕ) (f : Bool) → f ≡ true → f ≡ within base (length ram) n pa → Inside ≡ verdict_of base (length ram) (Whole pa) n
+  unfolding verdict_of
   whole-inside pa n f t e = rw (← e, t)
 
-  pub whole-outside : (pa n : ℕ) (f : Bool) → f ≡ false → f ≡ within base (length ram) n pa → Outside 0 pa ≡ verdictOf base (length ram) (Whole pa) n
-  unfolding verdictOf
+  pub whole-outside : (pa n : ℕ) (f : Bool) → f ≡ false → f ≡ within base (length ram) n pa → Outside 0 pa ≡ verdict_of base (length ram) (Whole pa) n
+  unfolding verdict_of
   whole-outside pa n f t e = rw (← e, t)

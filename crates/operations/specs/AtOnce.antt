@@ -4,12 +4,12 @@
 use Rattle.std.specs.Prelude.{if◌then◌else◌, ◌≡◌, ℕ, ◌-◌, ◌^◌, ◌<◌, Bool, true, false, ◌&&◌, List, length, nat_lt, Option, Some, None}
 use Rattle.word.specs.Ram.{within}
 use Rattle.operations.specs.Place.{byte_at}
-use Rattle.operations.specs.Bytes.{splitValue, splitStored}
+use Rattle.operations.specs.Bytes.{split_value, split_stored}
 use Rattle.operations.specs.declared.place.Pages.{Pages}
 
 -- both parts of up to eight bytes lie in RAM, in a window that ends below the last address
-unfoldable pub bothInside : ℕ → ℕ → Pages → ℕ → Bool
-bothInside base len p n =
+unfoldable pub both_inside : ℕ → ℕ → Pages → ℕ → Bool
+both_inside base len p n =
     if nat_lt (2 ^ 64 - 1 - len) base then false
     else if nat_lt n p.in_page then false
     else if nat_lt 8 n then false
@@ -20,11 +20,11 @@ pub record Lie (base len : ℕ) (p : Pages) (n : ℕ) : Type 0 where
   pub each : (i : ℕ) → i < n → within base len 1 (byte_at p i) ≡ true
 
 -- the value, and RAM after a store
-unfoldable pub bothAt : ℕ → List ℕ → Pages → ℕ → Option ℕ
-bothAt base ram p n = if bothInside base (length ram) p n then Some (splitValue base ram p 0 n) else None
+unfoldable pub both_at : ℕ → List ℕ → Pages → ℕ → Option ℕ
+both_at base ram p n = if both_inside base (length ram) p n then Some (split_value base ram p 0 n) else None
 
-unfoldable pub bothStored : ℕ → List ℕ → Pages → ℕ → ℕ → List ℕ
-bothStored base ram p n v = if bothInside base (length ram) p n then splitStored base p v 0 n ram else ram
+unfoldable pub both_stored : ℕ → List ℕ → Pages → ℕ → ℕ → List ℕ
+both_stored base ram p n v = if both_inside base (length ram) p n then split_stored base p v 0 n ram else ram
 
 -- one byte in each page
 abbrev pub pair_at : ℕ → ℕ → Pages

@@ -1,7 +1,7 @@
 -- Bytes moved between a value and RAM, the lowest first; `ByteMeaning` has it by each byte's own address.
 use Rattle.std.specs.Prelude.{if◌then◌else◌, ℕ, zero, suc, ◌+◌, ◌-◌, ◌*◌, ◌/◌, List, length, slice_index}
-use Rattle.word.specs.Ram.{within, littleEndian, stored}
-use Rattle.operations.specs.Place.{byte_at, verdictOf, bytesBefore}
+use Rattle.word.specs.Ram.{within, little_endian, stored}
+use Rattle.operations.specs.Place.{byte_at, verdict_of, bytes_before}
 use Rattle.operations.specs.declared.{place.Pages.Pages, place.Place.Place, place.Verdict.Verdict, bytes.Got.Got}
 use Rattle.operations.specs.declared.bytes.Insn.{Insn}
 use Rattle.operations.specs.declared.place.Place.TheVariants.{Whole, Split}
@@ -9,38 +9,38 @@ use Rattle.operations.specs.declared.place.Verdict.TheVariants.{Inside, Outside}
 use Rattle.operations.specs.declared.bytes.Got.TheVariants.{Value, Abort}
 
 -- the byte at a physical address, 0 outside RAM
-unfoldable pub byteIn : ℕ → List ℕ → ℕ → ℕ
-byteIn base ram pa = if within base (length ram) 1 pa then slice_index ram (pa - base) else 0
+unfoldable pub byte_in : ℕ → List ℕ → ℕ → ℕ
+byte_in base ram pa = if within base (length ram) 1 pa then slice_index ram (pa - base) else 0
 
 -- the value of n bytes of a split access from index i on, the lowest first
-unfoldable pub splitValue : ℕ → List ℕ → Pages → ℕ → ℕ → ℕ
-splitValue base ram p i zero = 0
-splitValue base ram p i (suc n) = splitValue base ram p (i + 1) n * 256 + byteIn base ram (byte_at p i)
+unfoldable pub split_value : ℕ → List ℕ → Pages → ℕ → ℕ → ℕ
+split_value base ram p i zero = 0
+split_value base ram p i (suc n) = split_value base ram p (i + 1) n * 256 + byte_in base ram (byte_at p i)
 
 -- the value of n bytes that lie in RAM
 abbrev pub value_at : ℕ → List ℕ → Place → ℕ → ℕ
-value_at base ram (Whole pa) n = littleEndian ram n (pa - base)
-value_at base ram (Split p) n = splitValue base ram p 0 n
+value_at base ram (Whole pa) n = little_endian ram n (pa - base)
+value_at base ram (Split p) n = split_value base ram p 0 n
 
 -- nothing, but the lowest byte outside, where there is one
-abbrev pub gotBy : Verdict → ℕ → Got
-gotBy Inside v = Value v
-gotBy (Outside i pa) v = Abort i pa
+abbrev pub got_by : Verdict → ℕ → Got
+got_by Inside v = Value v
+got_by (Outside i pa) v = Abort i pa
 
 -- a load: its value, where all bytes lie in RAM
 unfoldable pub load_of : ℕ → List ℕ → Place → ℕ → Got
-load_of base ram place n = gotBy (verdictOf base (length ram) place n) (value_at base ram place n)
+load_of base ram place n = got_by (verdict_of base (length ram) place n) (value_at base ram place n)
 
 -- RAM after n bytes of a value go to a split access's bytes from index i on, the lowest first
-unfoldable pub splitStored : ℕ → Pages → ℕ → ℕ → ℕ → List ℕ → List ℕ
-splitStored base p v i zero ram = ram
-splitStored base p v i (suc n) ram = splitStored base p (v / 256) (i + 1) n (stored base ram 1 (byte_at p i) v)
+unfoldable pub split_stored : ℕ → Pages → ℕ → ℕ → ℕ → List ℕ → List ℕ
+split_stored base p v i zero ram = ram
+split_stored base p v i (suc n) ram = split_stored base p (v / 256) (i + 1) n (stored base ram 1 (byte_at p i) v)
 
 -- RAM after a store: a split one keeps the bytes before the first outside
-unfoldable pub storeRam : ℕ → List ℕ → Place → ℕ → ℕ → List ℕ
-storeRam base ram (Whole pa) n v = stored base ram n pa v
-storeRam base ram (Split p) n v = splitStored base p v 0 (bytesBefore (verdictOf base (length ram) (Split p) n) n) ram
+unfoldable pub store_ram : ℕ → List ℕ → Place → ℕ → ℕ → List ℕ
+store_ram base ram (Whole pa) n v = stored base ram n pa v
+store_ram base ram (Split p) n v = split_stored base p v 0 (bytes_before (verdict_of base (length ram) (Split p) n) n) ram
 
 -- four bytes, or nothing where one of them lies outside
-unfoldable pub insnOf : ℕ → List ℕ → ℕ → Insn
-insnOf base ram pa = if within base (length ram) 4 pa then Insn.Value (littleEndian ram 4 (pa - base)) else Insn.Outside
+unfoldable pub insn_of : ℕ → List ℕ → ℕ → Insn
+insn_of base ram pa = if within base (length ram) 4 pa then Insn.Value (little_endian ram 4 (pa - base)) else Insn.Outside

@@ -3,11 +3,11 @@
 use Rattle.std.specs.Prelude.{if◌then◌else◌, ◌≡◌, ℕ, zero, suc, ◌+◌, ◌-◌, ◌/◌, ◌<◌, ◌≤◌, Bool, true, false, ◌&&◌, List, ◌++◌, length, take, drop, ◌≢◌, nat_le, nat_lt, slice_index, refl}
 use Rattle.std.proofs.Common.{sym, ap, ◌∙◌, arith, leb-true, leb-false, ltb-true, ltb-false, le-leb, length-append, length-drop, length-take-le, get_or-append-add, get_or-take, get_or-drop}
 use Rattle.std.proofs.Math.ListN.{get_or-append}
-use Rattle.word.specs.Ram.{littleEndian, bytes_of, within, written, stored}
+use Rattle.word.specs.Ram.{little_endian, bytes_of, within, written, stored}
 use Rattle.word.specs.RamLaws.{length-bytes}
-use Rattle.operations.specs.Place.{byte_at, firstOutside, verdictOf, bytesBefore}
+use Rattle.operations.specs.Place.{byte_at, first_outside, verdict_of, bytes_before}
 use Rattle.operations.specs.PlaceLaws.{before-le}
-use Rattle.operations.specs.Bytes.{byteIn, splitValue, splitStored, storeRam}
+use Rattle.operations.specs.Bytes.{byte_in, split_value, split_stored, store_ram}
 use Rattle.operations.specs.declared.{place.Pages.Pages, place.Place.Place}
 use Rattle.operations.specs.declared.place.Place.TheVariants.{Whole, Split}
 use Rattle.operations.specs.declared.place.Verdict.TheVariants.{Inside, Outside}
@@ -35,21 +35,21 @@ stored-length base ram n pa v = go (nat_le base pa) (nat_le (pa + n) (base + len
     go true false ea eb = refl
     go false b ea eb = refl
 
-pub split-length : (base : ℕ) (p : Pages) (v i n : ℕ) (ram : List ℕ) → length (splitStored base p v i n ram) ≡ length ram
-unfolding splitStored
+pub split-length : (base : ℕ) (p : Pages) (v i n : ℕ) (ram : List ℕ) → length (split_stored base p v i n ram) ≡ length ram
+unfolding split_stored
 split-length base p v i zero ram = refl
 split-length base p v i (suc n) ram =
     split-length base p (v / 256) (i + 1) n (stored base ram 1 (byte_at p i) v) ∙ stored-length base ram 1 (byte_at p i) v
 
-pub store_length : (base : ℕ) (ram : List ℕ) (place : Place) (n v : ℕ) → length (storeRam base ram place n v) ≡ length ram
-unfolding storeRam
+pub store_length : (base : ℕ) (ram : List ℕ) (place : Place) (n v : ℕ) → length (store_ram base ram place n v) ≡ length ram
+unfolding store_ram
 store_length base ram (Whole pa) n v = stored-length base ram n pa v
-store_length base ram (Split p) n v = split-length base p v 0 (bytesBefore (verdictOf base (length ram) (Split p) n) n) ram
+store_length base ram (Split p) n v = split-length base p v 0 (bytes_before (verdict_of base (length ram) (Split p) n) n) ram
 
 -- an access that is not split and has a byte outside moves nothing
-pub whole-or-none : (base : ℕ) (ram : List ℕ) (pa n v i q : ℕ) → verdictOf base (length ram) (Whole pa) n ≡ Outside i q
-    → storeRam base ram (Whole pa) n v ≡ ram
-unfolding verdictOf storeRam stored
+pub whole-or-none : (base : ℕ) (ram : List ℕ) (pa n v i q : ℕ) → verdict_of base (length ram) (Whole pa) n ≡ Outside i q
+    → store_ram base ram (Whole pa) n v ≡ ram
+unfolding verdict_of store_ram stored
 whole-or-none base ram pa n v i q = go (within base (length ram) n pa)
   where
     go : (b : Bool) → (if b then Inside else Outside 0 pa) ≡ Outside i q → (if b then written ram (pa - base) n v else ram) ≡ ram
@@ -60,9 +60,9 @@ whole-or-none base ram pa n v i q = go (within base (length ram) n pa)
 
 -- the physical address of byte i
 
-abbrev pub addressIn : Place → ℕ → ℕ
-addressIn (Whole pa) i = pa + i
-addressIn (Split p) i = byte_at p i
+abbrev pub address_in : Place → ℕ → ℕ
+address_in (Whole pa) i = pa + i
+address_in (Split p) i = byte_at p i
 
 module _ (ram : List ℕ) (at n v k : ℕ) (fits : at + n ≤ length ram) where
   below : k < at → slice_index (written ram at n v) k ≡ slice_index ram k
@@ -110,27 +110,27 @@ stored-leaves base ram n pa v k none = go (nat_le base pa) (nat_le (pa + n) (bas
     go false b ea eb = refl
 
 pub split-leaves : (base : ℕ) (p : Pages) (v s n k : ℕ) (ram : List ℕ) → ((i : ℕ) → s ≤ i → i < s + n → base + k ≢ byte_at p i)
-    → slice_index (splitStored base p v s n ram) k ≡ slice_index ram k
-unfolding splitStored
+    → slice_index (split_stored base p v s n ram) k ≡ slice_index ram k
+unfolding split_stored
 split-leaves base p v s zero k ram none = refl
 split-leaves base p v s (suc n) k ram none =
     split-leaves base p (v / 256) (s + 1) n k (stored base ram 1 (byte_at p s) v) (λ i a b. none i (omega arith) (omega arith))
     ∙ stored-leaves base ram 1 (byte_at p s) v k (λ i a q. none s (omega arith) (omega arith) (omega arith))
 
-pub store-leaves : (base : ℕ) (ram : List ℕ) (place : Place) (n v k : ℕ) → ((i : ℕ) → i < n → base + k ≢ addressIn place i)
-    → slice_index (storeRam base ram place n v) k ≡ slice_index ram k
-unfolding storeRam verdictOf
+pub store-leaves : (base : ℕ) (ram : List ℕ) (place : Place) (n v k : ℕ) → ((i : ℕ) → i < n → base + k ≢ address_in place i)
+    → slice_index (store_ram base ram place n v) k ≡ slice_index ram k
+unfolding store_ram verdict_of
 store-leaves base ram (Whole pa) n v k none = stored-leaves base ram n pa v k none
 store-leaves base ram (Split p) n v k none =
-    let few : bytesBefore (firstOutside base (length ram) p 0 n) n ≤ n = before-le base (length ram) p n in
-    split-leaves base p v 0 (bytesBefore (firstOutside base (length ram) p 0 n) n) k ram (λ i a b. none i (omega arith))
+    let few : bytes_before (first_outside base (length ram) p 0 n) n ≤ n = before-le base (length ram) p n in
+    split-leaves base p v 0 (bytes_before (first_outside base (length ram) p 0 n) n) k ram (λ i a b. none i (omega arith))
 
 -- PAGES SIDE BY SIDE
 
 -- where the bytes of a split access follow one another in RAM, their value is that of a whole access
 pub side_by_side : (base : ℕ) (ram : List ℕ) (p : Pages) (pa s n : ℕ) → ((i : ℕ) → s ≤ i → i < s + n → byte_at p i ≡ pa + i)
-    → base ≤ pa + s → pa + s + n ≤ base + length ram → splitValue base ram p s n ≡ littleEndian ram n (pa + s - base)
-unfolding splitValue littleEndian byteIn
+    → base ≤ pa + s → pa + s + n ≤ base + length ram → split_value base ram p s n ≡ little_endian ram n (pa + s - base)
+unfolding split_value little_endian byte_in
 side_by_side base ram p pa s zero row h e = refl
 side_by_side base ram p pa s (suc n) row h e =
     let ih = side_by_side base ram p pa (s + 1) n (λ i a b. row i (omega arith) (omega arith)) (omega arith) (omega arith) in

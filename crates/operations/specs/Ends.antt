@@ -8,9 +8,9 @@ use Rattle.fault.specs.declared.Fault.{Fault}
 use Rattle.tlb.specs.declared.access.Answer.{Answer}
 use Rattle.tlb.specs.declared.access.Answer.TheVariants.{Address, Status}
 use Rattle.exception.specs.declared.kind.Stop.{Stop}
-use Rattle.exception.specs.Abort.{dataAbortAt, insnAbortAt}
-use Rattle.operations.specs.Place.{firstPa, verdictOf}
-use Rattle.operations.specs.Bytes.{load_of, storeRam, insnOf}
+use Rattle.exception.specs.Abort.{data_abort_at, insn_abort_at}
+use Rattle.operations.specs.Place.{first_pa, verdict_of}
+use Rattle.operations.specs.Bytes.{load_of, store_ram, insn_of}
 use Rattle.operations.specs.declared.{place.Place.Place, place.Placed.Placed, place.Verdict.Verdict}
 use Rattle.operations.specs.declared.{bytes.Got.Got, bytes.Insn.Insn, ends.Reached.Reached, ends.LoadEnd.LoadEnd}
 use Rattle.operations.specs.declared.{ends.StoreEnd.StoreEnd, ends.FetchEnd.FetchEnd}
@@ -25,54 +25,54 @@ use Rattle.operations.specs.declared.ends.FetchAnswer.TheVariants as Fetch
 abbrev pub external : Fault
 external = first 0x10
 
-abbrev pub dataAbort : ℕ → Bool → Fault → Stop
-dataAbort addr write f = Stop.Exception (dataAbortAt addr write f)
+abbrev pub data_abort : ℕ → Bool → Fault → Stop
+data_abort addr write f = Stop.Exception (data_abort_at addr write f)
 
 -- it reports the virtual address of the lowest failing byte, which wraps
-abbrev pub externalAbort : ℕ → ℕ → Bool → Stop
-externalAbort va i write = dataAbort (wrap (va + i)) write external
+abbrev pub external_abort : ℕ → ℕ → Bool → Stop
+external_abort va i write = data_abort (wrap (va + i)) write external
 
 -- LOADS
 
 -- `last_pa` is set once the translations have succeeded, `abort_pa` by an external abort
-abbrev pub loadedFrom : Place → Got → ℕ → ℕ → LoadEnd
-loadedFrom place (Value v) abort va = record { last_pa = firstPa place; abort_pa = abort; answer = Load.Value v }
-loadedFrom place (Abort i pa) abort va =
-    record { last_pa = firstPa place; abort_pa = pa; answer = Load.Stopped (externalAbort va i false) }
+abbrev pub loaded_from : Place → Got → ℕ → ℕ → LoadEnd
+loaded_from place (Value v) abort va = record { last_pa = first_pa place; abort_pa = abort; answer = Load.Value v }
+loaded_from place (Abort i pa) abort va =
+    record { last_pa = first_pa place; abort_pa = pa; answer = Load.Stopped (external_abort va i false) }
 
-unfoldable pub loadEnd : Placed → ℕ → ℕ → ℕ → List ℕ → ℕ → ℕ → LoadEnd
-loadEnd (Placed.Fault addr f) last abort base ram va n =
-    record { last_pa = last; abort_pa = abort; answer = Load.Stopped (dataAbort addr false f) }
-loadEnd (At place) last abort base ram va n = loadedFrom place (load_of base ram place n) abort va
+unfoldable pub load_end : Placed → ℕ → ℕ → ℕ → List ℕ → ℕ → ℕ → LoadEnd
+load_end (Placed.Fault addr f) last abort base ram va n =
+    record { last_pa = last; abort_pa = abort; answer = Load.Stopped (data_abort addr false f) }
+load_end (At place) last abort base ram va n = loaded_from place (load_of base ram place n) abort va
 
 -- STORES
 
-abbrev pub storeEndBy : Verdict → ℕ → ℕ → StoreEnd
-storeEndBy Inside abort va = record { abort_pa = abort; answer = Store.Done }
-storeEndBy (Outside i pa) abort va = record { abort_pa = pa; answer = Store.Stopped (externalAbort va i true) }
+abbrev pub store_end_by : Verdict → ℕ → ℕ → StoreEnd
+store_end_by Inside abort va = record { abort_pa = abort; answer = Store.Done }
+store_end_by (Outside i pa) abort va = record { abort_pa = pa; answer = Store.Stopped (external_abort va i true) }
 
-unfoldable pub storeEnd : Placed → ℕ → ℕ → List ℕ → ℕ → ℕ → StoreEnd
-storeEnd (Placed.Fault addr f) abort base ram va n =
-    record { abort_pa = abort; answer = Store.Stopped (dataAbort addr true f) }
-storeEnd (At place) abort base ram va n = storeEndBy (verdictOf base (length ram) place n) abort va
+unfoldable pub store_end : Placed → ℕ → ℕ → List ℕ → ℕ → ℕ → StoreEnd
+store_end (Placed.Fault addr f) abort base ram va n =
+    record { abort_pa = abort; answer = Store.Stopped (data_abort addr true f) }
+store_end (At place) abort base ram va n = store_end_by (verdict_of base (length ram) place n) abort va
 
 -- a store that faults moves no byte
-unfoldable pub storeRamEnd : Placed → ℕ → List ℕ → ℕ → ℕ → List ℕ
-storeRamEnd (Placed.Fault addr f) base ram n v = ram
-storeRamEnd (At place) base ram n v = storeRam base ram place n v
+unfoldable pub store_ram_end : Placed → ℕ → List ℕ → ℕ → ℕ → List ℕ
+store_ram_end (Placed.Fault addr f) base ram n v = ram
+store_ram_end (At place) base ram n v = store_ram base ram place n v
 
 -- FETCHES
 
-abbrev pub fetchedFrom : ℕ → Insn → ℕ → ℕ → FetchEnd
-fetchedFrom pa (Insn.Value v) abort va = record { abort_pa = abort; answer = Fetch.Value v }
-fetchedFrom pa Insn.Outside abort va = record { abort_pa = pa; answer = Fetch.Aborted (insnAbortAt va external) }
+abbrev pub fetched_from : ℕ → Insn → ℕ → ℕ → FetchEnd
+fetched_from pa (Insn.Value v) abort va = record { abort_pa = abort; answer = Fetch.Value v }
+fetched_from pa Insn.Outside abort va = record { abort_pa = pa; answer = Fetch.Aborted (insn_abort_at va external) }
 
-unfoldable pub fetchEnd : Answer → ℕ → ℕ → List ℕ → ℕ → FetchEnd
-fetchEnd (Status f) abort base ram va = record { abort_pa = abort; answer = Fetch.Aborted (insnAbortAt va f) }
-fetchEnd (Address pa) abort base ram va = fetchedFrom pa (insnOf base ram pa) abort va
+unfoldable pub fetch_end : Answer → ℕ → ℕ → List ℕ → ℕ → FetchEnd
+fetch_end (Status f) abort base ram va = record { abort_pa = abort; answer = Fetch.Aborted (insn_abort_at va f) }
+fetch_end (Address pa) abort base ram va = fetched_from pa (insn_of base ram pa) abort va
 
 -- WHERE AN ACCESS WOULD GO
 
-abbrev pub reachedBy : Answer → Reached
-reachedBy (Address pa) = Reached.At pa
-reachedBy (Status f) = Reached.Faults
+abbrev pub reached_by : Answer → Reached
+reached_by (Address pa) = Reached.At pa
+reached_by (Status f) = Reached.Faults

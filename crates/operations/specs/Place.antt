@@ -12,53 +12,53 @@ use Rattle.operations.specs.declared.place.Placed.TheVariants.{At, Fault}
 use Rattle.operations.specs.declared.place.Verdict.TheVariants.{Inside, Outside}
 
 -- the bytes from va to the end of its page
-abbrev pub inPage : ℕ → ℕ
-inPage va = 4096 - va % 4096
+abbrev pub in_page : ℕ → ℕ
+in_page va = 4096 - va % 4096
 
 -- the first address of the next page; the last page is followed by the first (O8)
-abbrev pub nextPage : ℕ → ℕ
-nextPage va = wrap (va + inPage va)
+abbrev pub next_page : ℕ → ℕ
+next_page va = wrap (va + in_page va)
 
 -- n bytes take two pages; with stage 1 off no access is split
 abbrev pub crosses : Bool → ℕ → ℕ → Bool
-crosses on va n = on && nat_lt (inPage va) n
+crosses on va n = on && nat_lt (in_page va) n
 
 -- the second page is translated where the first was allowed
-abbrev pub goesOn : Answer → Bool → Bool
-goesOn (Address pa) split = split
-goesOn (Status f) split = false
+abbrev pub goes_on : Answer → Bool → Bool
+goes_on (Address pa) split = split
+goes_on (Status f) split = false
 
 -- what one translation found
-abbrev pub placedOne : ℕ → Answer → Placed
-placedOne va (Address pa) = At (Whole pa)
-placedOne va (Status f) = Fault va f
+abbrev pub placed_one : ℕ → Answer → Placed
+placed_one va (Address pa) = At (Whole pa)
+placed_one va (Status f) = Fault va f
 
 -- what two found: a fault of the second is at the next page's first address
-abbrev pub placedBoth : ℕ → Answer → Answer → Placed
-placedBoth va (Address pa) (Address pa2) = At (Split (record { in_page = inPage va; pa = pa; pa2 = pa2 }))
-placedBoth va (Address pa) (Status f) = Fault (nextPage va) f
-placedBoth va (Status f) b = Fault va f
+abbrev pub placed_both : ℕ → Answer → Answer → Placed
+placed_both va (Address pa) (Address pa2) = At (Split (record { in_page = in_page va; pa = pa; pa2 = pa2 }))
+placed_both va (Address pa) (Status f) = Fault (next_page va) f
+placed_both va (Status f) b = Fault va f
 
-abbrev pub firstPa : Place → ℕ
-firstPa (Whole pa) = pa
-firstPa (Split p) = p.pa
+abbrev pub first_pa : Place → ℕ
+first_pa (Whole pa) = pa
+first_pa (Split p) = p.pa
 
 -- the physical address of byte i of a split access
 abbrev pub byte_at : Pages → ℕ → ℕ
 byte_at p i = if nat_lt i p.in_page then wrap (p.pa + i) else wrap (p.pa2 + (i - p.in_page))
 
 -- A split access is judged byte by byte: of n bytes from index i on, the lowest that lies outside RAM.
-unfoldable pub firstOutside : ℕ → ℕ → Pages → ℕ → ℕ → Verdict
-firstOutside base len p i zero = Inside
-firstOutside base len p i (suc n) =
-    if within base len 1 (byte_at p i) then firstOutside base len p (i + 1) n else Outside i (byte_at p i)
+unfoldable pub first_outside : ℕ → ℕ → Pages → ℕ → ℕ → Verdict
+first_outside base len p i zero = Inside
+first_outside base len p i (suc n) =
+    if within base len 1 (byte_at p i) then first_outside base len p (i + 1) n else Outside i (byte_at p i)
 
 -- Any other access is judged whole, and by its first byte where it is outside.
-unfoldable pub verdictOf : ℕ → ℕ → Place → ℕ → Verdict
-verdictOf base len (Whole pa) n = if within base len n pa then Inside else Outside 0 pa
-verdictOf base len (Split p) n = firstOutside base len p 0 n
+unfoldable pub verdict_of : ℕ → ℕ → Place → ℕ → Verdict
+verdict_of base len (Whole pa) n = if within base len n pa then Inside else Outside 0 pa
+verdict_of base len (Split p) n = first_outside base len p 0 n
 
 -- how many of n bytes come before the first outside
-abbrev pub bytesBefore : Verdict → ℕ → ℕ
-bytesBefore Inside n = n
-bytesBefore (Outside i pa) n = i
+abbrev pub bytes_before : Verdict → ℕ → ℕ
+bytes_before Inside n = n
+bytes_before (Outside i pa) n = i

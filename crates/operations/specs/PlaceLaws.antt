@@ -4,7 +4,7 @@ use Rattle.std.proofs.Math.Path.{refl}
 use Rattle.std.proofs.Common.{sym, arith, ltb-true, ltb-false}
 use Rattle.word.specs.Bits.{wrap}
 use Rattle.word.specs.Ram.{within}
-use Rattle.operations.specs.Place.{inPage, nextPage, byte_at, firstOutside, bytesBefore}
+use Rattle.operations.specs.Place.{in_page, next_page, byte_at, first_outside, bytes_before}
 use Rattle.operations.specs.declared.{place.Pages.Pages, place.Verdict.Verdict}
 use Rattle.operations.specs.declared.place.Verdict.TheVariants.{Inside, Outside}
 
@@ -18,7 +18,7 @@ pub record Lowest (base len : ℕ) (p : Pages) (k n i pa : ℕ) : Type 0 where
 
 module _ (base len : ℕ) (p : Pages) where
   abbrev here : Bool → ℕ → ℕ → Verdict
-  here b k n = if b then firstOutside base len p (k + 1) n else Outside k (byte_at p k)
+  here b k n = if b then first_outside base len p (k + 1) n else Outside k (byte_at p k)
 
   abbrev Fits : ℕ → Type 0
   Fits j = within base len 1 (byte_at p j) ≡ true
@@ -32,13 +32,13 @@ module _ (base len : ℕ) (p : Pages) where
       go false e = let l : j ≤ k = ltb-false k j e in let q : j ≡ k = omega arith in rw q now
 
   -- where it answers a byte, that is the lowest outside
-  pub lowest : (k n i pa : ℕ) → firstOutside base len p k n ≡ Outside i pa → Lowest base len p k n i pa
-  unfolding firstOutside
+  pub lowest : (k n i pa : ℕ) → first_outside base len p k n ≡ Outside i pa → Lowest base len p k n i pa
+  unfolding first_outside
   lowest k zero i pa e = let z : ◌≡◌ {A = ℕ} 0 1 = cc in absurd (omega arith)
   lowest k (suc n) i pa e = go (within base len 1 (byte_at p k)) refl e (lowest (k + 1) n i pa)
     where
       go : (b : Bool) → within base len 1 (byte_at p k) ≡ b → here b k n ≡ Outside i pa
-          → (firstOutside base len p (k + 1) n ≡ Outside i pa → Lowest base len p (k + 1) n i pa) → Lowest base len p k (suc n) i pa
+          → (first_outside base len p (k + 1) n ≡ Outside i pa → Lowest base len p (k + 1) n i pa) → Lowest base len p k (suc n) i pa
       go true t q later =
           let l = later q in
           let f : k + 1 ≤ i = l.first in
@@ -62,36 +62,36 @@ module _ (base len : ℕ) (p : Pages) where
           }
 
   -- where it answers none, every byte lies inside
-  pub all-inside : (k n : ℕ) → firstOutside base len p k n ≡ Inside → (j : ℕ) → k ≤ j → j < k + n → within base len 1 (byte_at p j) ≡ true
-  unfolding firstOutside
+  pub all-inside : (k n : ℕ) → first_outside base len p k n ≡ Inside → (j : ℕ) → k ≤ j → j < k + n → within base len 1 (byte_at p j) ≡ true
+  unfolding first_outside
   all-inside k zero e j a b = absurd (omega arith)
   all-inside k (suc n) e j a b = go (within base len 1 (byte_at p k)) refl e (λ q c. all-inside (k + 1) n q j c (omega arith))
     where
       go : (b : Bool) → within base len 1 (byte_at p k) ≡ b → here b k n ≡ Inside
-          → (firstOutside base len p (k + 1) n ≡ Inside → k + 1 ≤ j → Fits j) → Fits j
+          → (first_outside base len p (k + 1) n ≡ Inside → k + 1 ≤ j → Fits j) → Fits j
       go true t q later = from k j a t (later q)
       go false t q later = let z : ◌≡◌ {A = ℕ} 0 1 = cc in absurd (omega arith)
 
   -- no more bytes come before the first outside than there are
-  pub before-le : (n : ℕ) → bytesBefore (firstOutside base len p 0 n) n ≤ n
-  before-le n = go (firstOutside base len p 0 n) refl
+  pub before-le : (n : ℕ) → bytes_before (first_outside base len p 0 n) n ≤ n
+  before-le n = go (first_outside base len p 0 n) refl
     where
-      go : (d : Verdict) → firstOutside base len p 0 n ≡ d → bytesBefore d n ≤ n
+      go : (d : Verdict) → first_outside base len p 0 n ≡ d → bytes_before d n ≤ n
       go Inside e = omega arith
       go (Outside i pa) e = let l : i < 0 + n = (lowest 0 n i pa e).last in omega arith
 
 -- PAGES: byte i of an access to va stands at the virtual address wrap (va + i)
 
 -- the bytes before the end of the page stand on it
-pub same-page : (va i : ℕ) → va < 2 ^ 64 → i < inPage va → wrap (va + i) / 4096 ≡ va / 4096
+pub same-page : (va i : ℕ) → va < 2 ^ 64 → i < in_page va → wrap (va + i) / 4096 ≡ va / 4096
 same-page va i h k = omega arith
 
-pub same-offset : (va i : ℕ) → va < 2 ^ 64 → i < inPage va → wrap (va + i) % 4096 ≡ va % 4096 + i
+pub same-offset : (va i : ℕ) → va < 2 ^ 64 → i < in_page va → wrap (va + i) % 4096 ≡ va % 4096 + i
 same-offset va i h k = omega arith
 
 -- the next page begins with its first byte, and the others stand on it
-pub next-first : (va : ℕ) → va < 2 ^ 64 → nextPage va % 4096 ≡ 0
+pub next-first : (va : ℕ) → va < 2 ^ 64 → next_page va % 4096 ≡ 0
 next-first va h = omega arith
 
-pub next-bytes : (va i : ℕ) → va < 2 ^ 64 → inPage va ≤ i → wrap (va + i) ≡ wrap (nextPage va + (i - inPage va))
+pub next-bytes : (va i : ℕ) → va < 2 ^ 64 → in_page va ≤ i → wrap (va + i) ≡ wrap (next_page va + (i - in_page va))
 next-bytes va i h k = omega arith

@@ -1,9 +1,9 @@
 // Bytes moved between a value and RAM, once it is known where they lie.
 ghost use Rattle.std.specs.Prelude.{◌≡◌, ◌+◌, ◌<◌, ◌≤◌, length, slice_index};
-ghost use Rattle.word.specs.Ram.{bytesIn, littleEndian};
-ghost use Rattle.operations.specs.Place.{verdictOf};
-ghost use Rattle.operations.specs.Bytes.{byteIn, splitValue, splitStored, load_of, storeRam, insnOf};
-ghost use Rattle.operations.specs.AtOnce.{bothInside, Lie, bothAt, bothStored, pair_at};
+ghost use Rattle.word.specs.Ram.{bytes_in, little_endian};
+ghost use Rattle.operations.specs.Place.{verdict_of};
+ghost use Rattle.operations.specs.Bytes.{byte_in, split_value, split_stored, load_of, store_ram, insn_of};
+ghost use Rattle.operations.specs.AtOnce.{both_inside, Lie, both_at, both_stored, pair_at};
 
 use crate::place;
 use crate::place::{Pages, Place, Verdict};
@@ -33,9 +33,9 @@ fn byte(ram: &[u8], at: usize) -> u64
 }
 
 // The byte at pa, 0 outside RAM.
-#[tactic(auto, unfolding(crate::specs::Bytes::byteIn))]
+#[tactic(auto, unfolding(crate::specs::Bytes::byte_in))]
 fn byte_in(base: u64, ram: &[u8], pa: u64) -> u64
-    ensures value { result ≡ byteIn base ram.now pa }
+    ensures value { result ≡ byte_in base ram.now pa }
     ensures upper_bound { result ≤ 255 }
 {
     let fits = ram::inside(base, ram.len() as u64, 1, pa);
@@ -50,7 +50,7 @@ fn byte_in(base: u64, ram: &[u8], pa: u64) -> u64
 // The value of the bytes of a split access, the lowest first.
 fn split_value(base: u64, ram: &[u8], p: Pages, n: u64) -> u64
     requires { n ≤ 8 }
-    ensures { result ≡ splitValue base ram.now p 0 n }
+    ensures { result ≡ split_value base ram.now p 0 n }
 {
     let mut v: u64 = 0;
     let mut i: u64 = n;
@@ -63,7 +63,7 @@ fn split_value(base: u64, ram: &[u8], p: Pages, n: u64) -> u64
     v
 }
 
-#[tactic(auto, unfolding(crate::specs::Bytes::load_of, crate::specs::Place::verdictOf))]
+#[tactic(auto, unfolding(crate::specs::Bytes::load_of, crate::specs::Place::verdict_of))]
 fn load_split(base: u64, ram: &[u8], p: Pages, n: u64) -> Got
     requires { n ≤ 8 }
     ensures { result ≡ load_of base ram.now (Place.Split p) n }
@@ -77,9 +77,9 @@ fn load_split(base: u64, ram: &[u8], p: Pages, n: u64) -> Got
     }
 }
 
-#[tactic(auto, unfolding(crate::specs::Bytes::load_of, crate::specs::Place::verdictOf, word::specs::Ram::word_at))]
+#[tactic(auto, unfolding(crate::specs::Bytes::load_of, crate::specs::Place::verdict_of, word::specs::Ram::word_at))]
 fn load_whole(base: u64, ram: &[u8], pa: u64, width: Width) -> Got
-    ensures { result ≡ load_of base ram.now (Place.Whole pa) (bytesIn width) }
+    ensures { result ≡ load_of base ram.now (Place.Whole pa) (bytes_in width) }
 {
     match ram::read(base, ram, width, pa) {
         Some(v) => Got::Value(v),
@@ -89,7 +89,7 @@ fn load_whole(base: u64, ram: &[u8], pa: u64, width: Width) -> Got
 
 // A load from a place.
 pub fn load(base: u64, ram: &[u8], place: Place, width: Width) -> Got
-    ensures { result ≡ load_of base ram.now place (bytesIn width) }
+    ensures { result ≡ load_of base ram.now place (bytes_in width) }
 {
     match place {
         Place::Whole(pa) => load_whole(base, ram, pa, width),
@@ -102,7 +102,7 @@ pub fn load(base: u64, ram: &[u8], place: Place, width: Width) -> Got
 
 // The low n bytes of a value, each to its place.
 fn put_split(base: u64, ram: &mut [u8], p: Pages, n: u64, value: u64)
-    ensures { ram.new ≡ splitStored base p value 0 n ram.old }
+    ensures { ram.new ≡ split_stored base p value 0 n ram.old }
 {
     let mut v = value;
     let mut i: u64 = 0;
@@ -115,10 +115,10 @@ fn put_split(base: u64, ram: &mut [u8], p: Pages, n: u64, value: u64)
 }
 
 // The bytes before the first outside are written.
-#[tactic(auto, unfolding(crate::specs::Place::verdictOf, crate::specs::Bytes::storeRam))]
+#[tactic(auto, unfolding(crate::specs::Place::verdict_of, crate::specs::Bytes::store_ram))]
 fn store_split(base: u64, ram: &mut [u8], p: Pages, n: u64, value: u64) -> Verdict
-    ensures { (result ≡ verdictOf base (length ram.old) (Place.Split p) n)
-        × (ram.new ≡ storeRam base ram.old (Place.Split p) n value) }
+    ensures { (result ≡ verdict_of base (length ram.old) (Place.Split p) n)
+        × (ram.new ≡ store_ram base ram.old (Place.Split p) n value) }
 {
     let v = place::first_outside(base, ram.len() as u64, p, n);
     let k = place::bytes_before(v, n);
@@ -126,10 +126,10 @@ fn store_split(base: u64, ram: &mut [u8], p: Pages, n: u64, value: u64) -> Verdi
     v
 }
 
-#[tactic(auto, unfolding(crate::specs::Place::verdictOf, crate::specs::Bytes::storeRam))]
+#[tactic(auto, unfolding(crate::specs::Place::verdict_of, crate::specs::Bytes::store_ram))]
 fn store_whole(base: u64, ram: &mut [u8], pa: u64, width: Width, value: u64) -> Verdict
-    ensures { (result ≡ verdictOf base (length ram.old) (Place.Whole pa) (bytesIn width))
-        × (ram.new ≡ storeRam base ram.old (Place.Whole pa) (bytesIn width) value) }
+    ensures { (result ≡ verdict_of base (length ram.old) (Place.Whole pa) (bytes_in width))
+        × (ram.new ≡ store_ram base ram.old (Place.Whole pa) (bytes_in width) value) }
 {
     let made = ram::write(base, ram, width, pa, value);
     if made {
@@ -141,8 +141,8 @@ fn store_whole(base: u64, ram: &mut [u8], pa: u64, width: Width, value: u64) -> 
 
 // A store to a place.
 pub fn store(base: u64, ram: &mut [u8], place: Place, width: Width, value: u64) -> Verdict
-    ensures { (result ≡ verdictOf base (length ram.old) place (bytesIn width))
-        × (ram.new ≡ storeRam base ram.old place (bytesIn width) value) }
+    ensures { (result ≡ verdict_of base (length ram.old) place (bytes_in width))
+        × (ram.new ≡ store_ram base ram.old place (bytes_in width) value) }
 {
     match place {
         Place::Whole(pa) => store_whole(base, ram, pa, width, value),
@@ -157,7 +157,7 @@ pub fn store(base: u64, ram: &mut [u8], place: Place, width: Width, value: u64) 
 fn joined(base: u64, ram: &[u8], p: Pages, n: u64) -> u64
     requires n_bound { n ≤ 8 }
     requires lie { Lie base (length ram.now) p n }
-    ensures { result ≡ splitValue base ram.now p 0 n }
+    ensures { result ≡ split_value base ram.now p 0 n }
 {
     let mut v: u64 = 0;
     let mut i: u64 = n;
@@ -170,9 +170,9 @@ fn joined(base: u64, ram: &[u8], p: Pages, n: u64) -> u64
 }
 
 // The value of a split access, where both parts lie in RAM by one test.
-#[tactic(auto, unfolding(crate::specs::AtOnce::bothAt))]
+#[tactic(auto, unfolding(crate::specs::AtOnce::both_at))]
 pub fn read_both(base: u64, ram: &[u8], p: Pages, n: u64) -> Option<u64>
-    ensures { result ≡ bothAt base ram.now p n }
+    ensures { result ≡ both_at base ram.now p n }
 {
     let fits = place::both_inside(base, ram.len() as u64, p, n);
     if fits {
@@ -186,8 +186,8 @@ pub fn read_both(base: u64, ram: &[u8], p: Pages, n: u64) -> Option<u64>
 // A split store, where both parts lie in RAM by one test, and whether it was made. The byte writer is lent each part
 // by itself: the first page's bytes, and then the others, which are those of the value above them.
 pub fn write_both(base: u64, ram: &mut [u8], p: Pages, n: u64, value: u64) -> bool
-    ensures { (result ≡ bothInside base (length ram.old) p n)
-        × (ram.new ≡ bothStored base ram.old p n value) }
+    ensures { (result ≡ both_inside base (length ram.old) p n)
+        × (ram.new ≡ both_stored base ram.old p n value) }
 {
     let fits = place::both_inside(base, ram.len() as u64, p, n);
     if fits {
@@ -204,8 +204,8 @@ pub fn write_both(base: u64, ram: &mut [u8], p: Pages, n: u64, value: u64) -> bo
 // The two low bytes of a value, one at the end of a page and one at the start of another, by one test, and whether it
 // was made.
 pub fn write_pair(base: u64, ram: &mut [u8], pa: u64, pa2: u64, value: u64) -> bool
-    ensures { (result ≡ bothInside base (length ram.old) (pair_at pa pa2) 2)
-        × (ram.new ≡ bothStored base ram.old (pair_at pa pa2) 2 value) }
+    ensures { (result ≡ both_inside base (length ram.old) (pair_at pa pa2) 2)
+        × (ram.new ≡ both_stored base ram.old (pair_at pa pa2) 2 value) }
 {
     let p = Pages {
         in_page: 1,
@@ -223,10 +223,10 @@ pub fn write_pair(base: u64, ram: &mut [u8], pa: u64, pa2: u64, value: u64) -> b
 }
 
 // Four bytes in one sum.
-#[tactic(auto, unfolding(word::specs::Ram::littleEndian))]
+#[tactic(auto, unfolding(word::specs::Ram::little_endian))]
 fn word32(ram: &[u8], at: usize) -> u32
     requires { at + 4 ≤ length ram.now }
-    ensures { result ≡ littleEndian ram.now 4 at }
+    ensures { result ≡ little_endian ram.now 4 at }
 {
     let v = byte(ram, at)
         + byte(ram, at + 1) * 0x100
@@ -236,9 +236,9 @@ fn word32(ram: &[u8], at: usize) -> u32
 }
 
 // The instruction at pa.
-#[tactic(auto, unfolding(crate::specs::Bytes::insnOf))]
+#[tactic(auto, unfolding(crate::specs::Bytes::insn_of))]
 pub fn insn_at(base: u64, ram: &[u8], pa: u64) -> Insn
-    ensures { result ≡ insnOf base ram.now pa }
+    ensures { result ≡ insn_of base ram.now pa }
 {
     let fits = ram::inside(base, ram.len() as u64, 4, pa);
     if fits {

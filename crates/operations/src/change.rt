@@ -1,10 +1,10 @@
 // A translation as what it changes, and the cells of the page that it is made of.
 ghost use Rattle.std.specs.Prelude.{◌≡◌};
 ghost use Rattle.word.specs.Ram.{word_at};
-ghost use Rattle.operations.specs.Change.{entryPlace, lookupOf, effect_of, allowed, address_of, missBy};
-ghost use Rattle.operations.specs.Change.{changeOf, unchanged, answeredOf, hintLeft, entryLeft, pageAfter};
-ghost use Rattle.tlb.specs.Hint.{onPage};
-ghost use Rattle.tlb.specs.Resolve.{askOf};
+ghost use Rattle.operations.specs.Change.{entry_place, lookup_of, effect_of, allowed, address_of, miss_by};
+ghost use Rattle.operations.specs.Change.{change_of, unchanged, answered_of, hint_left, entry_left, page_after};
+ghost use Rattle.tlb.specs.Hint.{on_page};
+ghost use Rattle.tlb.specs.Resolve.{ask_of};
 ghost use Rattle.tlb.specs.declared.access.Answer.TheVariants.{Address};
 
 use crate::{hinted, lookup};
@@ -56,7 +56,7 @@ pub struct Answered {
 
 // The place of the entry that is asked, any with stage 1 off.
 fn entry_place(a: Asked) -> usize
-    ensures { result ≡ entryPlace a }
+    ensures { result ≡ entry_place a }
 {
     match a {
         Asked::Flat => 0,
@@ -65,9 +65,9 @@ fn entry_place(a: Asked) -> usize
 }
 
 // What is asked of the cache, of which the level says the regime alone: for levels 0 and 1 the compiler then knows it.
-#[tactic(auto, unfolding(tlb::specs::Resolve::askOf))]
+#[tactic(auto, unfolding(tlb::specs::Resolve::ask_of))]
 fn asked_of(s: Bank, privilege: Privilege, va: u64) -> Asked
-    ensures { result ≡ askOf s privilege va }
+    ensures { result ≡ ask_of s privilege va }
 {
     if privilege.level < 2 {
         let el1 = Privilege {
@@ -82,7 +82,7 @@ fn asked_of(s: Bank, privilege: Privilege, va: u64) -> Asked
 
 // Where the cells of an address lie, by the registers of the level's regime.
 pub fn lookup_of(control: Control, privilege: Privilege, va: u64, kind: Kind) -> Lookup
-    ensures { result ≡ lookupOf control privilege va kind }
+    ensures { result ≡ lookup_of control privilege va kind }
 {
     let bank = lookup::bank_at(control, privilege.level);
     let asked = asked_of(bank, privilege, va);
@@ -130,7 +130,7 @@ fn address_of(answer: Answer) -> u64
 }
 
 // A translation that no hint serves.
-#[tactic(auto, unfolding(crate::specs::Change::missBy))]
+#[tactic(auto, unfolding(crate::specs::Change::miss_by))]
 pub fn miss(
     k: Lookup,
     at: Current,
@@ -140,7 +140,7 @@ pub fn miss(
     base: u64,
     ram: &[u8],
 ) -> Resolved
-    ensures { result ≡ missBy k.asked k.bank k.privilege at e va kind (word_at base ram.now 8) }
+    ensures { result ≡ miss_by k.asked k.bank k.privilege at e va kind (word_at base ram.now 8) }
 {
     let bank = k.bank;
     let privilege = k.privilege;
@@ -176,7 +176,7 @@ pub fn unchanged(k: Lookup) -> Change
 
 // What a translation's answer changes.
 fn change_of(k: Lookup, t: Resolved, va: u64, kind: Kind) -> Change
-    ensures { result ≡ changeOf k t va kind }
+    ensures { result ≡ change_of k t va kind }
 {
     let privilege = k.privilege;
     let answer = t.answer;
@@ -199,7 +199,7 @@ fn change_of(k: Lookup, t: Resolved, va: u64, kind: Kind) -> Change
 
 // A translation by the hint, where it serves.
 fn by_hint(k: Lookup, h: Hint, va: u64) -> Answered
-    ensures { result ≡ record { change = unchanged k; answer = Address (onPage h.pa va) } }
+    ensures { result ≡ record { change = unchanged k; answer = Address (on_page h.pa va) } }
 {
     let change = unchanged(k);
     let pa = hint::on_page(h.pa, va);
@@ -210,9 +210,9 @@ fn by_hint(k: Lookup, h: Hint, va: u64) -> Answered
 }
 
 // A translation on the cells taken out: the hint first, where it may serve.
-#[tactic(auto, unfolding(crate::specs::Change::answeredOf))]
+#[tactic(auto, unfolding(crate::specs::Change::answered_of))]
 pub fn resolve_page(x: Page, va: u64, kind: Kind, base: u64, ram: &[u8]) -> Answered
-    ensures { result ≡ answeredOf x va kind (word_at base ram.now 8) }
+    ensures { result ≡ answered_of x va kind (word_at base ram.now 8) }
 {
     let k = x.lookup;
     let at = x.current;
@@ -231,7 +231,7 @@ pub fn resolve_page(x: Page, va: u64, kind: Kind, base: u64, ram: &[u8]) -> Answ
 
 // The hint of a page, as an earlier change leaves it.
 fn hint_after(f: Change, k: Lookup, h: Hint) -> Hint
-    ensures { result ≡ hintLeft f k h }
+    ensures { result ≡ hint_left f k h }
 {
     let same = f.hints & (k.hint == f.hint_at);
     if same { f.hint } else { h }
@@ -239,7 +239,7 @@ fn hint_after(f: Change, k: Lookup, h: Hint) -> Hint
 
 // The entry of a page, as an earlier change leaves it.
 fn entry_after(f: Change, k: Lookup, e: Entry) -> Entry
-    ensures { result ≡ entryLeft f k e }
+    ensures { result ≡ entry_left f k e }
 {
     let same = (f.effect == 3) & (k.entry == f.entry_at);
     if same { f.made } else { e }
@@ -247,7 +247,7 @@ fn entry_after(f: Change, k: Lookup, e: Entry) -> Entry
 
 // A page, as an earlier change leaves it.
 pub fn after(f: Change, y: Page) -> Page
-    ensures { result ≡ pageAfter f y }
+    ensures { result ≡ page_after f y }
 {
     let k = y.lookup;
     let current = y.current;

@@ -1,6 +1,6 @@
 // The checks 1 to 7 of docs/SCOPE.md, each call's from top to bottom.
 ghost use Rattle.std.specs.Prelude.{◌≡◌, not, ◌||◌, [], ◌∷◌, nat_lt};
-ghost use Rattle.operations.specs.Check.{passes, known, kept, overlong, ramRows, sizedRows, first_of, missedOf};
+ghost use Rattle.operations.specs.Check.{passes, known, kept, overlong, ram_rows, sized_rows, first_of, missed_of};
 ghost use Rattle.operations.specs.declared.call.Call.TheVariants as Call;
 
 use crate::call::{Call, Encoding};
@@ -67,7 +67,7 @@ pub fn levels(level: u8, requested: u64) -> u8
 
 // Translations and fetch: they are handed RAM and no more.
 pub fn with_ram(level: u8, base: u64, len: u64) -> u8
-    ensures { result ≡ first_of (ramRows level base len) }
+    ensures { result ≡ first_of (ram_rows level base len) }
 {
     if 3 < level {
         return 1;
@@ -77,7 +77,7 @@ pub fn with_ram(level: u8, base: u64, len: u64) -> u8
 
 // Load, store.
 pub fn sized(level: u8, base: u64, len: u64, size: u64) -> u8
-    ensures { result ≡ first_of (sizedRows level base len size) }
+    ensures { result ≡ first_of (sized_rows level base len size) }
 {
     if 3 < level {
         return 1;
@@ -90,9 +90,9 @@ pub fn sized(level: u8, base: u64, len: u64, size: u64) -> u8
 }
 
 // System operation.
-#[tactic(auto, unfolding(crate::specs::Check::missedOf))]
+#[tactic(auto, unfolding(crate::specs::Check::missed_of))]
 pub fn system(level: u8, base: u64, len: u64, e: Encoding) -> u8
-    ensures { result ≡ missedOf level base len (Call.System e) }
+    ensures { result ≡ missed_of level base len (Call.System e) }
 {
     if 3 < level {
         return 1;
@@ -127,9 +127,9 @@ pub fn general(level: u8, number: u64) -> u8
 }
 
 // Census.
-#[tactic(auto, unfolding(crate::specs::Check::missedOf))]
+#[tactic(auto, unfolding(crate::specs::Check::missed_of))]
 pub fn census(level: u8, base: u64, len: u64, first: u64, pages: u64) -> u8
-    ensures { result ≡ missedOf level base len (Call.Census first pages) }
+    ensures { result ≡ missed_of level base len (Call.Census first pages) }
 {
     if 3 < level {
         return 1;
@@ -141,9 +141,9 @@ pub fn census(level: u8, base: u64, len: u64, first: u64, pages: u64) -> u8
 }
 
 // Any call.
-#[tactic(auto, unfolding(crate::specs::Check::missedOf))]
+#[tactic(auto, unfolding(crate::specs::Check::missed_of))]
 pub fn missed(level: u8, base: u64, len: u64, call: Call) -> u8
-    ensures { result ≡ missedOf level base len call }
+    ensures { result ≡ missed_of level base len call }
 {
     match call {
         Call::Translate(_, _) => with_ram(level, base, len),

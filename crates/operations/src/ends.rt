@@ -1,8 +1,8 @@
 // How an access ends, after its translations: its answer, and the physical addresses that the core keeps.
 ghost use Rattle.std.specs.Prelude.{◌≡◌};
-ghost use Rattle.word.specs.Ram.{bytesIn};
-ghost use Rattle.operations.specs.Ends.{dataAbort, externalAbort, loadEnd, storeEnd, storeRamEnd, fetchEnd};
-ghost use Rattle.operations.specs.Ends.{reachedBy};
+ghost use Rattle.word.specs.Ram.{bytes_in};
+ghost use Rattle.operations.specs.Ends.{data_abort, external_abort, load_end, store_end, store_ram_end, fetch_end};
+ghost use Rattle.operations.specs.Ends.{reached_by};
 
 use crate::bytes::{Got, Insn};
 use crate::place::{Placed, Verdict};
@@ -60,14 +60,14 @@ pub struct FetchEnd {
 const EXTERNAL: u8 = 0x10;
 
 fn data_abort(addr: u64, write: bool, fault: Fault) -> Stop
-    ensures { result ≡ dataAbort addr write fault }
+    ensures { result ≡ data_abort addr write fault }
 {
     Stop::Exception(Exception::DataAbort(DataAbort { addr, write, fault }))
 }
 
 // The external abort of byte index of an access to va.
 fn external_abort(va: u64, index: u64, write: bool) -> Stop
-    ensures { result ≡ externalAbort va index write }
+    ensures { result ≡ external_abort va index write }
 {
     let addr = va.wrapping_add(index);
     let fault = fault::first(EXTERNAL);
@@ -75,7 +75,7 @@ fn external_abort(va: u64, index: u64, write: bool) -> Stop
 }
 
 // A load keeps the first byte's physical address once it has translated, also where it then aborts.
-#[tactic(auto, unfolding(crate::specs::Ends::loadEnd))]
+#[tactic(auto, unfolding(crate::specs::Ends::load_end))]
 pub fn load_end(
     placed: Placed,
     last: u64,
@@ -85,7 +85,7 @@ pub fn load_end(
     va: u64,
     width: Width,
 ) -> LoadEnd
-    ensures { result ≡ loadEnd placed last abort base ram.now va (bytesIn width) }
+    ensures { result ≡ load_end placed last abort base ram.now va (bytes_in width) }
 {
     match placed {
         Placed::Fault { addr, fault } => {
@@ -117,7 +117,7 @@ pub fn load_end(
     }
 }
 
-#[tactic(auto, unfolding(crate::specs::Ends::storeEnd, crate::specs::Ends::storeRamEnd))]
+#[tactic(auto, unfolding(crate::specs::Ends::store_end, crate::specs::Ends::store_ram_end))]
 pub fn store_end(
     placed: Placed,
     abort: u64,
@@ -127,8 +127,8 @@ pub fn store_end(
     width: Width,
     value: u64,
 ) -> StoreEnd
-    ensures { (result ≡ storeEnd placed abort base ram.old va (bytesIn width))
-        × (ram.new ≡ storeRamEnd placed base ram.old (bytesIn width) value) }
+    ensures { (result ≡ store_end placed abort base ram.old va (bytes_in width))
+        × (ram.new ≡ store_ram_end placed base ram.old (bytes_in width) value) }
 {
     match placed {
         Placed::Fault { addr, fault } => {
@@ -155,9 +155,9 @@ pub fn store_end(
 }
 
 // A fetch reads four bytes and is never split.
-#[tactic(auto, unfolding(crate::specs::Ends::fetchEnd))]
+#[tactic(auto, unfolding(crate::specs::Ends::fetch_end))]
 pub fn fetch_end(at: Answer, abort: u64, base: u64, ram: &[u8], va: u64) -> FetchEnd
-    ensures { result ≡ fetchEnd at abort base ram.now va }
+    ensures { result ≡ fetch_end at abort base ram.now va }
 {
     match at {
         Answer::Status(fault) => FetchEnd {
@@ -184,7 +184,7 @@ pub fn fetch_end(at: Answer, abort: u64, base: u64, ram: &[u8], va: u64) -> Fetc
 }
 
 pub fn reach(at: Answer) -> Reached
-    ensures { result ≡ reachedBy at }
+    ensures { result ≡ reached_by at }
 {
     match at {
         Answer::Address(pa) => Reached::At(pa),

@@ -1,7 +1,7 @@
 // The data hint of an access: its place, and whether it serves.
 ghost use Rattle.std.specs.Prelude.{◌≡◌, ◌%◌};
-ghost use Rattle.operations.specs.Hinted.{hintPlace, hintServes};
-ghost use Rattle.tlb.specs.Hint.{firstPlace};
+ghost use Rattle.operations.specs.Hinted.{hint_place, hint_serves};
+ghost use Rattle.tlb.specs.Hint.{first_place};
 
 use tlb::access::{Kind, Privilege};
 use tlb::hint;
@@ -9,7 +9,7 @@ use tlb::hint::Hint;
 
 // The first place of a kind's hints. Fetches have none: theirs, past the last, is taken modulo 512.
 fn first_of(kind: Kind) -> usize
-    ensures { result ≡ firstPlace kind % 512 }
+    ensures { result ≡ first_place kind % 512 }
 {
     match kind {
         Kind::Read => 0,
@@ -21,7 +21,7 @@ fn first_of(kind: Kind) -> usize
 // The place of the hint of an address: a fetch has none, and takes any.
 #[tactic(auto, unfolding(tlb::specs::Hint::place_of))]
 pub fn hint_place(va: u64, kind: Kind) -> usize
-    ensures { result ≡ hintPlace va kind }
+    ensures { result ≡ hint_place va kind }
 {
     let place = hint::data_slot(va, Kind::Read);
     let first = first_of(kind);
@@ -30,7 +30,7 @@ pub fn hint_place(va: u64, kind: Kind) -> usize
 
 // Whether the hint serves.
 pub fn served(h: Hint, privilege: Privilege, va: u64, kind: Kind) -> bool
-    ensures { result ≡ hintServes h privilege va kind }
+    ensures { result ≡ hint_serves h privilege va kind }
 {
     let may = privilege.may_hint(kind);
     let key = hint::hint_key(va, privilege.level);

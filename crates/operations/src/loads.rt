@@ -1,7 +1,7 @@
 // The translations of a load or a store, on small values: one page or two.
 ghost use Rattle.std.specs.Prelude.{◌≡◌};
 ghost use Rattle.word.specs.Ram.{word_at};
-ghost use Rattle.operations.specs.Loads.{moreOf, twoTranslations, oneTranslation, bothOf};
+ghost use Rattle.operations.specs.Loads.{more_of, two_translations, one_translation, both_of};
 
 use crate::change::{Answered, Change, Page};
 use crate::place::Placed;
@@ -18,9 +18,9 @@ pub struct Both {
 }
 
 // The second page's translation, after the first one's.
-#[tactic(auto, unfolding(crate::specs::Loads::twoTranslations))]
+#[tactic(auto, unfolding(crate::specs::Loads::two_translations))]
 fn two(f: Answered, y: Page, va: u64, kind: Kind, base: u64, ram: &[u8]) -> Both
-    ensures { result ≡ twoTranslations f y va kind (word_at base ram.now 8) }
+    ensures { result ≡ two_translations f y va kind (word_at base ram.now 8) }
 {
     let first = f.change;
     let at = f.answer;
@@ -39,7 +39,7 @@ fn two(f: Answered, y: Page, va: u64, kind: Kind, base: u64, ram: &[u8]) -> Both
 
 // One page's translation alone.
 fn one(f: Answered, y: Page, va: u64) -> Both
-    ensures { result ≡ oneTranslation f y va }
+    ensures { result ≡ one_translation f y va }
 {
     let first = f.change;
     let answer = f.answer;
@@ -55,7 +55,7 @@ fn one(f: Answered, y: Page, va: u64) -> Both
 
 // Whether the second page is translated, after the first one's answer.
 fn goes_on(bank: Bank, level: u8, answer: Answer, va: u64, n: u64) -> bool
-    ensures { result ≡ moreOf bank level answer va n }
+    ensures { result ≡ more_of bank level answer va n }
 {
     let on = lookup::on_at(bank, level);
     let split = place::crosses(on, va, n);
@@ -63,9 +63,9 @@ fn goes_on(bank: Bank, level: u8, answer: Answer, va: u64, n: u64) -> bool
 }
 
 // The translations of an access of n bytes, on the cells taken out.
-#[tactic(auto, unfolding(crate::specs::Loads::bothOf))]
+#[tactic(auto, unfolding(crate::specs::Loads::both_of))]
 pub fn translations(x: Page, y: Page, va: u64, n: u64, kind: Kind, base: u64, ram: &[u8]) -> Both
-    ensures { result ≡ bothOf x y va n kind (word_at base ram.now 8) }
+    ensures { result ≡ both_of x y va n kind (word_at base ram.now 8) }
 {
     let k = x.lookup;
     let bank = k.bank;

@@ -1,13 +1,13 @@
 // The registers that a level's translations read.
 ghost use Rattle.std.specs.Prelude.{◌≡◌};
-ghost use Rattle.walk.specs.Regime.{bankOf, regimeOf, stage1On};
+ghost use Rattle.walk.specs.Regime.{bank_of, regime_of, stage1_on};
 
 use sysreg::regs::Control;
 use walk::regime::{Bank, Regime};
 
 // The registers of a level's regime.
 pub fn bank_at(control: Control, level: u8) -> Bank
-    ensures { result ≡ bankOf control (regimeOf level) }
+    ensures { result ≡ bank_of control (regime_of level) }
 {
     let r = Regime::of_level(level);
     Bank::new(&control, r)
@@ -15,7 +15,7 @@ pub fn bank_at(control: Control, level: u8) -> Bank
 
 // Whether stage 1 is on at a level.
 pub fn on_at(s: Bank, level: u8) -> bool
-    ensures { result ≡ stage1On s (regimeOf level) }
+    ensures { result ≡ stage1_on s (regime_of level) }
 {
     let r = Regime::of_level(level);
     s.stage1_on(r)

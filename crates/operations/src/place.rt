@@ -1,8 +1,8 @@
 // Where the bytes of an access lie, and which of them lie outside RAM.
 ghost use Rattle.std.specs.Prelude.{◌≡◌, ◌≤◌};
-ghost use Rattle.operations.specs.Place.{inPage, nextPage, crosses as crosses_of, goesOn, placedOne, placedBoth};
-ghost use Rattle.operations.specs.Place.{firstPa, byte_at, firstOutside, bytesBefore};
-ghost use Rattle.operations.specs.AtOnce.{bothInside};
+ghost use Rattle.operations.specs.Place.{in_page, next_page, crosses as crosses_of, goes_on, placed_one, placed_both};
+ghost use Rattle.operations.specs.Place.{first_pa, byte_at, first_outside, bytes_before};
+ghost use Rattle.operations.specs.AtOnce.{both_inside};
 
 use fault::Fault;
 use tlb::access::Answer;
@@ -38,7 +38,7 @@ pub enum Verdict {
 
 // The number of bytes from va to the end of its page.
 pub fn in_page(va: u64) -> u64
-    ensures value { result ≡ inPage va }
+    ensures value { result ≡ in_page va }
     ensures upper_bound { result ≤ 4096 }
 {
     4096 - va % 4096
@@ -46,7 +46,7 @@ pub fn in_page(va: u64) -> u64
 
 // The first address of the next page.
 pub fn next_page(va: u64) -> u64
-    ensures { result ≡ nextPage va }
+    ensures { result ≡ next_page va }
 {
     let n = in_page(va);
     va.wrapping_add(n)
@@ -62,7 +62,7 @@ pub fn crosses(on: bool, va: u64, n: u64) -> bool
 
 // Whether the second page is translated, after the first one's answer.
 pub fn goes_on(first: Answer, split: bool) -> bool
-    ensures { result ≡ goesOn first split }
+    ensures { result ≡ goes_on first split }
 {
     match first {
         Answer::Address(_) => split,
@@ -72,7 +72,7 @@ pub fn goes_on(first: Answer, split: bool) -> bool
 
 // An access that took one translation.
 pub fn one(va: u64, first: Answer) -> Placed
-    ensures { result ≡ placedOne va first }
+    ensures { result ≡ placed_one va first }
 {
     match first {
         Answer::Address(pa) => Placed::At(Place::Whole(pa)),
@@ -82,7 +82,7 @@ pub fn one(va: u64, first: Answer) -> Placed
 
 // An access that took two: the second one's fault is at the next page.
 pub fn both(va: u64, first: Answer, second: Answer) -> Placed
-    ensures { result ≡ placedBoth va first second }
+    ensures { result ≡ placed_both va first second }
 {
     let in_page = in_page(va);
     let next = next_page(va);
@@ -97,7 +97,7 @@ pub fn both(va: u64, first: Answer, second: Answer) -> Placed
 
 // The first byte's physical address.
 pub fn first_pa(place: Place) -> u64
-    ensures { result ≡ firstPa place }
+    ensures { result ≡ first_pa place }
 {
     match place {
         Place::Whole(pa) => pa,
@@ -118,7 +118,7 @@ pub fn byte_at(p: Pages, i: u64) -> u64
 
 // The bytes of a split access, judged one by one. This is the only place where they are.
 pub fn first_outside(base: u64, len: u64, p: Pages, n: u64) -> Verdict
-    ensures { result ≡ firstOutside base len p 0 n }
+    ensures { result ≡ first_outside base len p 0 n }
 {
     let mut i: u64 = 0;
     while i < n {
@@ -135,7 +135,7 @@ pub fn first_outside(base: u64, len: u64, p: Pages, n: u64) -> Verdict
 
 // How many of n bytes come before the first outside.
 pub fn bytes_before(v: Verdict, n: u64) -> u64
-    ensures { result ≡ bytesBefore v n }
+    ensures { result ≡ bytes_before v n }
 {
     match v {
         Verdict::Inside => n,
@@ -145,9 +145,9 @@ pub fn bytes_before(v: Verdict, n: u64) -> u64
 
 // Whether both parts of a split access of up to eight bytes lie in RAM, by one test: a window that ends at the last
 // address is left to the bytes.
-#[tactic(auto, unfolding(crate::specs::AtOnce::bothInside))]
+#[tactic(auto, unfolding(crate::specs::AtOnce::both_inside))]
 pub fn both_inside(base: u64, len: u64, p: Pages, n: u64) -> bool
-    ensures { result ≡ bothInside base len p n }
+    ensures { result ≡ both_inside base len p n }
 {
     if u64::MAX - len < base {
         return false;

@@ -1,18 +1,18 @@
 -- Worked cases 10 and 11 of docs/SCOPE.md: AT of case 1, as one computed statement.
 use Rattle.std.specs.Prelude.{◌≡◌, refl, [], ◌∷◌, ℕ}
-use Rattle.word.specs.Ram.{word_at, littleEndian, bytes_of}
+use Rattle.word.specs.Ram.{word_at, little_endian, bytes_of}
 use Rattle.sysreg.specs.Regs.{levels}
 use Rattle.sysreg.specs.declared.regs.Control.{Control}
 use Rattle.walk.specs.Tag.{untagged}
-use Rattle.walk.specs.Size.{paSize}
-use Rattle.walk.specs.Table.{range_of, params_of, tableNext, leafPermissions, leafTranslation, leafResult, levelNext, descaddr, lookupNext, walkFrom, walkRange}
-use Rattle.walk.specs.Table.{tableWalk}
+use Rattle.walk.specs.Size.{pa_size}
+use Rattle.walk.specs.Table.{range_of, params_of, table_next, leaf_permissions, leaf_translation, leaf_result, level_next, descaddr, lookup_next, walk_from, walk_range}
+use Rattle.walk.specs.Table.{table_walk}
 use Rattle.walk.specs.Fresh.{fresh_of}
 use Rattle.walk.specs.Walk.{walk_of}
 use Rattle.sysop.specs.declared.op.SysOp.{SysOp}
 use Rattle.sysop.specs.declared.op.SysOp.TheVariants.{At, Tlbi, Zva, Nothing, Undefined, Unimplemented}
-use Rattle.sysop.specs.Op.{named, decodeOf}
-use Rattle.sysop.specs.Par.{success, abort, leafPar, parIn, atPar}
+use Rattle.sysop.specs.Op.{named, decode_of}
+use Rattle.sysop.specs.Par.{success, abort, leaf_par, par_in, at_par}
 
 -- SCTLR_EL1.M set, TCR_EL1 = 25, TTBR0_EL1 = 0x1000, other registers zero
 pub registers : Control
@@ -27,20 +27,20 @@ registers =
     }
 
 -- PAR_EL1 after the operation at address 0x40001234, where 0x80000401 stands at 0x1008; no other operation moves it
-pub parAfter : SysOp → ℕ
+pub par_after : SysOp → ℕ
 unfolding registers
-parAfter (At f) = atPar registers 0 f 0x40001234 (word_at 0x1008 (bytes_of 8 0x80000401) 8)
-parAfter Tlbi = 0
-parAfter Zva = 0
-parAfter Nothing = 0
-parAfter Undefined = 0
-parAfter Unimplemented = 0
+par_after (At f) = at_par registers 0 f 0x40001234 (word_at 0x1008 (bytes_of 8 0x80000401) 8)
+par_after Tlbi = 0
+par_after Zva = 0
+par_after Nothing = 0
+par_after Undefined = 0
+par_after Unimplemented = 0
 
 -- AT S1E1R and AT S1E0R
 abbrev pub WorkedAt : Type 0
-WorkedAt = (parAfter (decodeOf 1 0 7 8 0) ∷ parAfter (decodeOf 1 0 7 8 2) ∷ []) ≡ (0x80001800 ∷ 0x81B ∷ [])
+WorkedAt = (par_after (decode_of 1 0 7 8 0) ∷ par_after (decode_of 1 0 7 8 2) ∷ []) ≡ (0x80001800 ∷ 0x81B ∷ [])
 
 pub cases : WorkedAt
-unfolding parAfter registers decodeOf named atPar parIn fresh_of leafPar success abort walk_of tableWalk walkRange walkFrom lookupNext levelNext leafResult
-    leafTranslation leafPermissions tableNext descaddr range_of params_of paSize untagged word_at littleEndian bytes_of
+unfolding par_after registers decode_of named at_par par_in fresh_of leaf_par success abort walk_of table_walk walk_range walk_from lookup_next level_next leaf_result
+    leaf_translation leaf_permissions table_next descaddr range_of params_of pa_size untagged word_at little_endian bytes_of
 cases = refl

@@ -23,25 +23,25 @@ reads r = At (record { regime = r; user = false; write = false })
 abbrev writes : Regime → SysOp
 writes r = At (record { regime = r; user = false; write = true })
 
-abbrev userReads : SysOp
-userReads = At (record { regime = El1; user = true; write = false })
+abbrev user_reads : SysOp
+user_reads = At (record { regime = El1; user = true; write = false })
 
-abbrev userWrites : SysOp
-userWrites = At (record { regime = El1; user = true; write = true })
+abbrev user_writes : SysOp
+user_writes = At (record { regime = El1; user = true; write = true })
 
 -- What each is here. M3: there is no stage 2, so S12 is S1. M6: cache maintenance does nothing, and by address
 -- translates nothing.
 abbrev pub operation : Name → SysOp
 operation AT-S1E1R = reads El1
 operation AT-S1E1W = writes El1
-operation AT-S1E0R = userReads
-operation AT-S1E0W = userWrites
+operation AT-S1E0R = user_reads
+operation AT-S1E0W = user_writes
 operation AT-S1E2R = reads El2
 operation AT-S1E2W = writes El2
 operation AT-S12E1R = reads El1
 operation AT-S12E1W = writes El1
-operation AT-S12E0R = userReads
-operation AT-S12E0W = userWrites
+operation AT-S12E0R = user_reads
+operation AT-S12E0W = user_writes
 operation AT-S1E3R = reads El3
 operation AT-S1E3W = writes El3
 operation DC-ZVA = Zva
@@ -83,13 +83,13 @@ block n a b l = record { name = n; op1 = a; crn = b; crm = any; op2 = any; lowes
 
 -- op1 3. A11: SCTLR_EL1.DZE traps no DC ZVA of EL0. M21: under the mark its stores are judged by EL0's rights. A12:
 -- SCTLR_EL1.UCI traps none of the others. M7: nor does HCR_EL2 at EL1 and EL0.
-abbrev ofEl0 : List Row
-ofEl0 =
+abbrev of_el0 : List Row
+of_el0 =
     row DC-ZVA 3 7 4 1 0 ∷ row IC-IVAU 3 7 5 1 0 ∷ row DC-CVAC 3 7 10 1 0 ∷ row DC-CVAU 3 7 11 1 0 ∷ row DC-CIVAC 3 7 14 1 0 ∷ []
 
 -- op1 0. M7: HCR_EL2 traps none of them.
-abbrev ofEl1 : List Row
-ofEl1 =
+abbrev of_el1 : List Row
+of_el1 =
     row IC-IALLUIS 0 7 1 0 1
     ∷ row IC-IALLU 0 7 5 0 1
     ∷ row DC-IVAC 0 7 6 1 1
@@ -103,8 +103,8 @@ ofEl1 =
     ∷ []
 
 -- op1 4. A2: AT S1E2R and S1E2W are not UNDEFINED at EL3 with SCR_EL3.NS clear.
-abbrev ofEl2 : List Row
-ofEl2 =
+abbrev of_el2 : List Row
+of_el2 =
     row AT-S1E2R 4 7 8 0 2
     ∷ row AT-S1E2W 4 7 8 1 2
     ∷ row AT-S12E1R 4 7 8 4 2
@@ -114,8 +114,8 @@ ofEl2 =
     ∷ []
 
 -- op1 6
-abbrev ofEl3 : List Row
-ofEl3 = row AT-S1E3R 6 7 8 0 3 ∷ row AT-S1E3W 6 7 8 1 3 ∷ []
+abbrev of_el3 : List Row
+of_el3 = row AT-S1E3R 6 7 8 0 3 ∷ row AT-S1E3W 6 7 8 1 3 ∷ []
 
 -- CRn 8; op1 says whose entries, and Tlbi.antt has CRm and op2. M9: one that is not allocated counts as one. M10: those
 -- of EL2 are not UNDEFINED at EL3 with SCR_EL3.NS clear.
@@ -127,7 +127,7 @@ abbrev besides : List Row
 besides = row accepted 0 7 10 1 1 ∷ row accepted 0 7 14 1 1 ∷ []
 
 abbrev pub table : List Row
-table = ofEl0 ++ ofEl1 ++ ofEl2 ++ ofEl3 ++ invalidations ++ besides
+table = of_el0 ++ of_el1 ++ of_el2 ++ of_el3 ++ invalidations ++ besides
 
 -- any other encoding
 abbrev pub absent : Row
@@ -140,13 +140,13 @@ holds any x = true
 abbrev pub encodes : Row → ℕ → ℕ → ℕ → ℕ → Bool
 encodes r op1 crn crm op2 = op1 == r.op1 && (crn == r.crn && (holds r.crm crm && holds r.op2 op2))
 
-abbrev pub lookUp : List Row → ℕ → ℕ → ℕ → ℕ → Row
-lookUp [] op1 crn crm op2 = absent
-lookUp (r ∷ rs) op1 crn crm op2 = if encodes r op1 crn crm op2 then r else lookUp rs op1 crn crm op2
+abbrev pub look_up : List Row → ℕ → ℕ → ℕ → ℕ → Row
+look_up [] op1 crn crm op2 = absent
+look_up (r ∷ rs) op1 crn crm op2 = if encodes r op1 crn crm op2 then r else look_up rs op1 crn crm op2
 
 -- the row of an encoding
 unfoldable pub named : ℕ → ℕ → ℕ → ℕ → Row
-named op1 crn crm op2 = lookUp table op1 crn crm op2
+named op1 crn crm op2 = look_up table op1 crn crm op2
 
 -- what a level lacks: UNDEFINED at EL0. A9: at a higher level too in the manual, and Unimplemented here.
 abbrev pub refusal : ℕ → SysOp
@@ -155,5 +155,5 @@ refusal level = if level == 0 then Undefined else Unimplemented
 abbrev pub ruled : ℕ → Row → SysOp
 ruled level r = if leb r.lowest level then operation r.name else refusal level
 
-unfoldable pub decodeOf : ℕ → ℕ → ℕ → ℕ → ℕ → SysOp
-decodeOf level op1 crn crm op2 = ruled level (named op1 crn crm op2)
+unfoldable pub decode_of : ℕ → ℕ → ℕ → ℕ → ℕ → SysOp
+decode_of level op1 crn crm op2 = ruled level (named op1 crn crm op2)

@@ -9,7 +9,7 @@ use Rattle.walk.specs.declared.regime.Regime.{Regime}
 use Rattle.walk.specs.declared.regime.Regime.TheVariants.{El1, El2, El3}
 use Rattle.sysop.specs.declared.{op.AtForm.AtForm, op.SysOp.SysOp}
 use Rattle.sysop.specs.declared.op.SysOp.TheVariants.{At, Tlbi, Zva, Nothing, Undefined, Unimplemented}
-use Rattle.sysop.specs.Op.{Field, only, any, Row, table, absent, holds, encodes, lookUp, named, operation, refusal, ruled, decodeOf}
+use Rattle.sysop.specs.Op.{Field, only, any, Row, table, absent, holds, encodes, look_up, named, operation, refusal, ruled, decode_of}
 
 abbrev pub every : (Row → Bool) → List Row → Bool
 every p [] = true
@@ -26,11 +26,11 @@ either false b e = inr e
 -- what is found is a row of the list that has the encoding, or none
 module _ (P : Row → Type 0) (p : Row → Bool) (op1 crn crm op2 : ℕ) (good : (r : Row) → op1 ≡ r.op1 → crn ≡ r.crn → p r ≡ true → P r)
     (other : P absent) where
-  found : (rs : List Row) → every p rs ≡ true → P (lookUp rs op1 crn crm op2)
+  found : (rs : List Row) → every p rs ≡ true → P (look_up rs op1 crn crm op2)
   found [] e = other
   found (r ∷ rs) e = let k = both (p r) (every p rs) e in go (encodes r op1 crn crm op2) refl k.0 (found rs k.1)
     where
-      go : (b : Bool) → encodes r op1 crn crm op2 ≡ b → p r ≡ true → P (lookUp rs op1 crn crm op2) → P (if b then r else lookUp rs op1 crn crm op2)
+      go : (b : Bool) → encodes r op1 crn crm op2 ≡ b → p r ≡ true → P (look_up rs op1 crn crm op2) → P (if b then r else look_up rs op1 crn crm op2)
       go false n x y = y
       go true n x y =
           let k = both (op1 == r.op1) (crn == r.crn && (holds r.crm crm && holds r.op2 op2)) n in
@@ -44,8 +44,8 @@ absent-refused (suc n) = rw (le-leb 1 (suc n) (omega arith), ne_eqb (suc n) 0 (�
 
 module _ (level op1 crn crm op2 : ℕ) where
   -- from EL1 and from op1 / 2 up, what is named is what is decoded
-  pub at_level : 1 ≤ level → op1 / 2 ≤ level → operation (named op1 crn crm op2).name ≡ decodeOf level op1 crn crm op2
-  unfolding decodeOf named
+  pub at_level : 1 ≤ level → op1 / 2 ≤ level → operation (named op1 crn crm op2).name ≡ decode_of level op1 crn crm op2
+  unfolding decode_of named
   at_level o h =
       found (λ r. operation r.name ≡ ruled level r) (λ r. leb r.lowest 1 || leb r.lowest (r.op1 / 2)) op1 crn crm op2
       (λ r a b t. here r a (either (leb r.lowest 1) (leb r.lowest (r.op1 / 2)) t)) (rw (le-leb 1 level o)) table refl
@@ -58,8 +58,8 @@ module _ (level op1 crn crm op2 : ℕ) where
       here r a (inr e) = let k : r.op1 / 2 ≤ level = rw a at h in known r (omega (arith, leb-true r.lowest (r.op1 / 2) e, k))
 
   -- below, everything but op1 3 is refused
-  pub too-low : (op1 ≡ 3 → ⊥) → (level < 1) ⊎ (level < op1 / 2) → decodeOf level op1 crn crm op2 ≡ refusal level
-  unfolding decodeOf named
+  pub too-low : (op1 ≡ 3 → ⊥) → (level < 1) ⊎ (level < op1 / 2) → decode_of level op1 crn crm op2 ≡ refusal level
+  unfolding decode_of named
   too-low n h =
       found (λ r. ruled level r ≡ refusal level) (λ r. (r.op1 == 3) || (leb 1 r.lowest && leb (r.op1 / 2) r.lowest)) op1 crn crm op2
       (λ r a b t. here r a (either (r.op1 == 3) (leb 1 r.lowest && leb (r.op1 / 2) r.lowest) t)) (sym (absent-refused level)) table refl
@@ -95,14 +95,14 @@ defined Nothing = true
 defined Undefined = false
 defined Unimplemented = true
 
-pub undefined-el0 : (level op1 crn crm op2 : ℕ) → decodeOf level op1 crn crm op2 ≡ Undefined → level ≡ 0
-unfolding decodeOf named defined
+pub undefined-el0 : (level op1 crn crm op2 : ℕ) → decode_of level op1 crn crm op2 ≡ Undefined → level ≡ 0
+unfolding decode_of named defined
 undefined-el0 zero op1 crn crm op2 e = refl
 undefined-el0 (suc n) op1 crn crm op2 e =
     absurd
     (false≢true
     (sym (ap defined e)
-    ∙ by-rule (λ o. defined o ≡ true) (suc n) (lookUp table op1 crn crm op2)
+    ∙ by-rule (λ o. defined o ≡ true) (suc n) (look_up table op1 crn crm op2)
     (found (λ r. defined (operation r.name) ≡ true) (λ r. defined (operation r.name)) op1 crn crm op2 (λ r a b t. t) refl table refl)
     (rw (ne_eqb (suc n) 0 (λ z. omega arith)))))
 
@@ -111,30 +111,30 @@ pub record TlbiFields (op1 crn : ℕ) : Type 0 where
   pub crn-8 : crn ≡ 8
   pub whose : (op1 ≡ 0) ⊎ ((op1 ≡ 4) ⊎ (op1 ≡ 6))
 
-isTlbi : SysOp → Bool
-isTlbi (At f) = false
-isTlbi Tlbi = true
-isTlbi Zva = false
-isTlbi Nothing = false
-isTlbi Undefined = false
-isTlbi Unimplemented = false
+is_tlbi : SysOp → Bool
+is_tlbi (At f) = false
+is_tlbi Tlbi = true
+is_tlbi Zva = false
+is_tlbi Nothing = false
+is_tlbi Undefined = false
+is_tlbi Unimplemented = false
 
 abbrev fields : Row → Bool
 fields r = r.crn == 8 && (r.op1 == 0 || (r.op1 == 4 || r.op1 == 6))
 
-pub tlbi-fields : (level op1 crn crm op2 : ℕ) → decodeOf level op1 crn crm op2 ≡ Tlbi → TlbiFields op1 crn
-unfolding decodeOf named isTlbi
+pub tlbi-fields : (level op1 crn crm op2 : ℕ) → decode_of level op1 crn crm op2 ≡ Tlbi → TlbiFields op1 crn
+unfolding decode_of named is_tlbi
 tlbi-fields level op1 crn crm op2 =
-    by-rule (λ o. o ≡ Tlbi → TlbiFields op1 crn) level (lookUp table op1 crn crm op2)
-    (found (λ r. operation r.name ≡ Tlbi → TlbiFields op1 crn) (λ r. not (isTlbi (operation r.name)) || fields r) op1 crn crm op2 here
+    by-rule (λ o. o ≡ Tlbi → TlbiFields op1 crn) level (look_up table op1 crn crm op2)
+    (found (λ r. operation r.name ≡ Tlbi → TlbiFields op1 crn) (λ r. not (is_tlbi (operation r.name)) || fields r) op1 crn crm op2 here
     (λ e. never e) table refl)
     (λ e. never (refused (level == 0) e))
   where
     never : Unimplemented ≡ Tlbi → TlbiFields op1 crn
-    never e = absurd (false≢true (ap isTlbi e))
+    never e = absurd (false≢true (ap is_tlbi e))
 
     refused : (b : Bool) → (if b then Undefined else Unimplemented) ≡ Tlbi → Unimplemented ≡ Tlbi
-    refused true e = absurd (false≢true (ap isTlbi e))
+    refused true e = absurd (false≢true (ap is_tlbi e))
     refused false e = e
 
     whose : (r : Row) → op1 ≡ r.op1 → ((r.op1 == 0) ≡ true) ⊎ (r.op1 == 4 || (r.op1 == 6) ≡ true) → (op1 ≡ 0) ⊎ ((op1 ≡ 4) ⊎ (op1 ≡ 6))
@@ -145,10 +145,10 @@ tlbi-fields level op1 crn crm op2 =
         last (inl x) = inl (a ∙ eqb-true r.op1 4 x)
         last (inr x) = inr (a ∙ eqb-true r.op1 6 x)
 
-    here : (r : Row) → op1 ≡ r.op1 → crn ≡ r.crn → (not (isTlbi (operation r.name)) || fields r) ≡ true → operation r.name ≡ Tlbi → TlbiFields op1 crn
+    here : (r : Row) → op1 ≡ r.op1 → crn ≡ r.crn → (not (is_tlbi (operation r.name)) || fields r) ≡ true → operation r.name ≡ Tlbi → TlbiFields op1 crn
     here r a b t e =
         let k = both (r.crn == 8) (r.op1 == 0 || (r.op1 == 4 || r.op1 == 6))
-        (implied (isTlbi (operation r.name)) (fields r) (ap isTlbi e) t) in
+        (implied (is_tlbi (operation r.name)) (fields r) (ap is_tlbi e) t) in
         record {
           crn-8 = b ∙ eqb-true r.crn 8 k.0;
           whose = whose r a (either (r.op1 == 0) (r.op1 == 4 || r.op1 == 6) k.1);
@@ -163,24 +163,24 @@ UserInEl1 Nothing = Unit
 UserInEl1 Undefined = Unit
 UserInEl1 Unimplemented = Unit
 
-isEl1 : Regime → Bool
-isEl1 El1 = true
-isEl1 El2 = false
-isEl1 El3 = false
+is_el1 : Regime → Bool
+is_el1 El1 = true
+is_el1 El2 = false
+is_el1 El3 = false
 
-userFits : SysOp → Bool
-userFits (At f) = not f.user || isEl1 f.regime
-userFits Tlbi = true
-userFits Zva = true
-userFits Nothing = true
-userFits Undefined = true
-userFits Unimplemented = true
+user_fits : SysOp → Bool
+user_fits (At f) = not f.user || is_el1 f.regime
+user_fits Tlbi = true
+user_fits Zva = true
+user_fits Nothing = true
+user_fits Undefined = true
+user_fits Unimplemented = true
 
-user-fits : (o : SysOp) → userFits o ≡ true → UserInEl1 o
-unfolding userFits isEl1
-user-fits (At f) t = λ e. go f.regime (implied f.user (isEl1 f.regime) e t)
+user-fits : (o : SysOp) → user_fits o ≡ true → UserInEl1 o
+unfolding user_fits is_el1
+user-fits (At f) t = λ e. go f.regime (implied f.user (is_el1 f.regime) e t)
   where
-    go : (r : Regime) → isEl1 r ≡ true → r ≡ El1
+    go : (r : Regime) → is_el1 r ≡ true → r ≡ El1
     go El1 h = refl
     go El2 h = absurd (false≢true h)
     go El3 h = absurd (false≢true h)
@@ -190,12 +190,12 @@ user-fits Nothing t = tt
 user-fits Undefined t = tt
 user-fits Unimplemented t = tt
 
-pub user-el1 : (level op1 crn crm op2 : ℕ) (f : AtForm) → decodeOf level op1 crn crm op2 ≡ At f → f.user ≡ true → f.regime ≡ El1
-unfolding decodeOf named userFits isEl1
+pub user-el1 : (level op1 crn crm op2 : ℕ) (f : AtForm) → decode_of level op1 crn crm op2 ≡ At f → f.user ≡ true → f.regime ≡ El1
+unfolding decode_of named user_fits is_el1
 user-el1 level op1 crn crm op2 f e =
     subst UserInEl1 e
-    (by-rule UserInEl1 level (lookUp table op1 crn crm op2)
-    (found (λ r. UserInEl1 (operation r.name)) (λ r. userFits (operation r.name)) op1 crn crm op2
+    (by-rule UserInEl1 level (look_up table op1 crn crm op2)
+    (found (λ r. UserInEl1 (operation r.name)) (λ r. user_fits (operation r.name)) op1 crn crm op2
     (λ r a b t. user-fits (operation r.name) t) tt table refl) (refused (level == 0)))
   where
     refused : (b : Bool) → UserInEl1 (if b then Undefined else Unimplemented)
@@ -207,9 +207,9 @@ abbrev pub number : Field → ℕ
 number (only n) = n
 number any = 0
 
-abbrev pub lookedUp : List Row → List Row
-lookedUp [] = []
-lookedUp (r ∷ rs) = lookUp table r.op1 r.crn (number r.crm) (number r.op2) ∷ lookedUp rs
+abbrev pub looked_up : List Row → List Row
+looked_up [] = []
+looked_up (r ∷ rs) = look_up table r.op1 r.crn (number r.crm) (number r.op2) ∷ looked_up rs
 
-pub rows_apart : lookedUp table ≡ table
+pub rows_apart : looked_up table ≡ table
 rows_apart = refl

@@ -3,15 +3,15 @@
 use Rattle.std.specs.Prelude.{if◌then◌else◌, Bool, true, false, not, ◌||◌, ℕ, ◌+◌, ◌*◌, ◌^◌, Option, Ok, Err}
 use Rattle.word.specs.Bits.{field, flag}
 use Rattle.sysreg.specs.declared.regs.Control.{Control}
-use Rattle.walk.specs.Regime.{bankOf, nonSecure, singlePriv, wxnOf}
-use Rattle.walk.specs.Descriptor.{attrIndx, ns, sh}
-use Rattle.walk.specs.Table.{Translation, Result, mapped, faults, statusOf}
+use Rattle.walk.specs.Regime.{bank_of, non_secure, single_priv, wxn_of}
+use Rattle.walk.specs.Descriptor.{attr_indx, ns, sh}
+use Rattle.walk.specs.Table.{Translation, Result, mapped, faults, status_of}
 use Rattle.walk.specs.Permission.{Access, reading, writing, allowed}
 use Rattle.walk.specs.Fresh.{fresh_of}
 use Rattle.walk.specs.declared.{regime.Regime.Regime, regime.Bank.Bank, level.Leaf.Leaf, fresh.Fresh.Fresh}
 use Rattle.walk.specs.declared.regime.Regime.TheVariants.{El1, El2, El3}
 use Rattle.walk.specs.declared.fresh.Fresh.TheVariants.{Flat, Ended}
-use Rattle.tlb.specs.Access.{rightOf, hasRight}
+use Rattle.tlb.specs.Access.{right_of, has_right}
 use Rattle.tlb.specs.declared.access.Kind.{Kind}
 use Rattle.tlb.specs.declared.access.Kind.TheVariants.{Read, Write}
 use Rattle.sysop.specs.declared.op.AtForm.{AtForm}
@@ -46,15 +46,15 @@ unfoldable pub abort : ℕ → ℕ
 abort status = faulted (record { s = false; ptw = false; fst = status })
 
 -- MAIR_ELx.Attr<n>. O9: as it stands.
-abbrev pub mairAttr : ℕ → ℕ → ℕ
-mairAttr mair n = field mair (n * 8) 8
+abbrev pub mair_attr : ℕ → ℕ → ℕ
+mair_attr mair n = field mair (n * 8) 8
 
 -- a regime is Non-secure by SCR_EL3.NS, and EL3's never. O10: PAR.NS, UNKNOWN from a Non-secure regime in the manual,
 -- is 1.
-abbrev pub fromNonSecure : Bank → Regime → Bool
-fromNonSecure s El1 = nonSecure s
-fromNonSecure s El2 = nonSecure s
-fromNonSecure s El3 = false
+abbrev pub from_non_secure : Bank → Regime → Bool
+from_non_secure s El1 = non_secure s
+from_non_secure s El2 = non_secure s
+from_non_secure s El3 = false
 
 abbrev pub kind_of : Bool → Kind
 kind_of true = Write
@@ -62,46 +62,46 @@ kind_of false = Read
 
 -- the leaf has the right that the form asks for: EL0's or the regime's own, to read or to write
 abbrev pub permits : AtForm → Leaf → Bool
-permits f leaf = hasRight leaf.perms (rightOf (kind_of f.write) f.user)
+permits f leaf = has_right leaf.perms (right_of (kind_of f.write) f.user)
 
 -- NS and SH are the leaf descriptor's. A6: NSTable is ignored. D1: SH is not made 0b10 for Device and Non-cacheable
 -- memory.
-abbrev pub leafFound : ℕ → Bool → Leaf → ℕ
-leafFound mair nonsecure leaf =
-    success (mairAttr mair (attrIndx leaf.desc)) leaf.oa (nonsecure || ns leaf.desc) (sh leaf.desc)
+abbrev pub leaf_found : ℕ → Bool → Leaf → ℕ
+leaf_found mair nonsecure leaf =
+    success (mair_attr mair (attr_indx leaf.desc)) leaf.oa (nonsecure || ns leaf.desc) (sh leaf.desc)
 
 -- a permission fault has status 0x0C plus the leaf's level
-unfoldable pub leafPar : ℕ → Bool → AtForm → Leaf → ℕ
-leafPar mair nonsecure f leaf = if permits f leaf then leafFound mair nonsecure leaf else abort (12 + leaf.level)
+unfoldable pub leaf_par : ℕ → Bool → AtForm → Leaf → ℕ
+leaf_par mair nonsecure f leaf = if permits f leaf then leaf_found mair nonsecure leaf else abort (12 + leaf.level)
 
-abbrev pub walkPar : ℕ → Bool → AtForm → Walked → ℕ
-walkPar mair nonsecure f (Ok leaf) = leafPar mair nonsecure f leaf
-walkPar mair nonsecure f (Err status) = abort status
+abbrev pub walk_par : ℕ → Bool → AtForm → Walked → ℕ
+walk_par mair nonsecure f (Ok leaf) = leaf_par mair nonsecure f leaf
+walk_par mair nonsecure f (Err status) = abort status
 
 -- With stage 1 off PA is the address. D1: SH is 0, and not 0b10. A5: ATTR is 0 under HCR_EL2.DC too.
-abbrev pub freshPar : ℕ → Bool → AtForm → Fresh → ℕ
-freshPar mair nonsecure f (Ended w) = walkPar mair nonsecure f w
-freshPar mair nonsecure f (Flat pa) = success 0 pa nonsecure 0
+abbrev pub fresh_par : ℕ → Bool → AtForm → Fresh → ℕ
+fresh_par mair nonsecure f (Ended w) = walk_par mair nonsecure f w
+fresh_par mair nonsecure f (Flat pa) = success 0 pa nonsecure 0
 
 -- by the fresh answer of the form's regime
-unfoldable pub parIn : Bank → ℕ → AtForm → ℕ → (ℕ → Option ℕ) → ℕ
-parIn s mair f va memory = freshPar mair (fromNonSecure s f.regime) f (fresh_of s f.regime va memory)
+unfoldable pub par_in : Bank → ℕ → AtForm → ℕ → (ℕ → Option ℕ) → ℕ
+par_in s mair f va memory = fresh_par mair (from_non_secure s f.regime) f (fresh_of s f.regime va memory)
 
 -- the registers of the form's regime
-unfoldable pub atPar : Control → ℕ → AtForm → ℕ → (ℕ → Option ℕ) → ℕ
-atPar c mair f va memory = parIn (bankOf c f.regime) mair f va memory
+unfoldable pub at_par : Control → ℕ → AtForm → ℕ → (ℕ → Option ℕ) → ℕ
+at_par c mair f va memory = par_in (bank_of c f.regime) mair f va memory
 
 -- PAR_EL1 by the manual's own walk and permission check, AArch64.TranslationTableWalk and AArch64.CheckPermission:
 -- `manual-par` of ParLaws has the two equal
-abbrev pub accessOf : Bool → Access
-accessOf true = writing
-accessOf false = reading
+abbrev pub access_of : Bool → Access
+access_of true = writing
+access_of false = reading
 
 abbrev pub checked : Bank → AtForm → Translation → Bool
-checked s f t = allowed (singlePriv f.regime) (not f.user) (wxnOf s) t.perms (accessOf f.write)
+checked s f t = allowed (single_priv f.regime) (not f.user) (wxn_of s) t.perms (access_of f.write)
 
-unfoldable pub resultPar : Bank → AtForm → ℕ → Bool → Result → ℕ
-resultPar s f mair nonsecure (mapped t) =
-    if checked s f t then success (mairAttr mair (attrIndx t.descriptor)) t.address (nonsecure || ns t.descriptor) (sh t.descriptor)
+unfoldable pub result_par : Bank → AtForm → ℕ → Bool → Result → ℕ
+result_par s f mair nonsecure (mapped t) =
+    if checked s f t then success (mair_attr mair (attr_indx t.descriptor)) t.address (nonsecure || ns t.descriptor) (sh t.descriptor)
     else abort (12 + t.level)
-resultPar s f mair nonsecure (faults x) = abort (statusOf x)
+result_par s f mair nonsecure (faults x) = abort (status_of x)

@@ -2,29 +2,29 @@
 use Rattle.std.specs.Prelude.{if◌then◌else◌, ◌≡◌, Bool, true, false, not, ◌&&◌, ◌||◌, ℕ, ◌+◌, ◌*◌, ◌/◌, ◌%◌, ◌^◌, ◌≤◌, ◌<◌, Option, Ok, Err}
 use Rattle.std.proofs.Math.Path.{refl, ap}
 use Rattle.std.proofs.Common.{◌∙◌, arith}
-use Rattle.word.specs.Bits.{bitOn, bit0, field}
+use Rattle.word.specs.Bits.{bit_on, bit0, field}
 use Rattle.sysreg.specs.declared.regs.Control.{Control}
-use Rattle.walk.specs.Regime.{bankOf, singlePriv, wxnOf, stage1On}
+use Rattle.walk.specs.Regime.{bank_of, single_priv, wxn_of, stage1_on}
 use Rattle.walk.specs.Tag.{untagged}
-use Rattle.walk.specs.Descriptor.{attrIndx, ns, sh}
-use Rattle.walk.specs.Table.{Translation, Result, mapped, faults, tableWalk}
-use Rattle.walk.specs.Permission.{permissionByte}
-use Rattle.walk.specs.PermissionLaws.{kindBit, firstBit, permission-bit}
-use Rattle.walk.specs.Walk.{leafOf, walkedOf, walk_of}
+use Rattle.walk.specs.Descriptor.{attr_indx, ns, sh}
+use Rattle.walk.specs.Table.{Translation, Result, mapped, faults, table_walk}
+use Rattle.walk.specs.Permission.{permission_byte}
+use Rattle.walk.specs.PermissionLaws.{kind_bit, first_bit, permission-bit}
+use Rattle.walk.specs.Walk.{leaf_of, walked_of, walk_of}
 use Rattle.walk.specs.Fresh.{fresh_of}
 use Rattle.walk.specs.WalkBounds.{SoundWalked, status-small}
 use Rattle.walk.proofs.WalkBounds.{walk-sound}
 use Rattle.walk.specs.declared.regime.Bank.{Bank}
 use Rattle.walk.specs.declared.fresh.Fresh.TheVariants.{Flat, Ended}
-use Rattle.tlb.specs.Access.{rightOf}
+use Rattle.tlb.specs.Access.{right_of}
 use Rattle.sysop.specs.declared.op.AtForm.{AtForm}
-use Rattle.sysop.specs.Par.{success, abort, mairAttr, fromNonSecure, kind_of, permits, leafFound, leafPar, walkPar, freshPar}
-use Rattle.sysop.specs.Par.{parIn, atPar, accessOf, checked, resultPar}
+use Rattle.sysop.specs.Par.{success, abort, mair_attr, from_non_secure, kind_of, permits, leaf_found, leaf_par, walk_par, fresh_par}
+use Rattle.sysop.specs.Par.{par_in, at_par, access_of, checked, result_par}
 use Rattle.walk.specs.Answers.{Walked}
 
 -- the walk that an AT makes
-abbrev pub atWalk : Control → AtForm → ℕ → (ℕ → Option ℕ) → Walked
-atWalk c f va memory = walk_of (bankOf c f.regime) f.regime (untagged (bankOf c f.regime).tcr f.regime va) memory
+abbrev pub at_walk : Control → AtForm → ℕ → (ℕ → Option ℕ) → Walked
+at_walk c f va memory = walk_of (bank_of c f.regime) f.regime (untagged (bank_of c f.regime).tcr f.regime va) memory
 
 -- it ends in a leaf that has the right asked for
 abbrev pub granted : AtForm → Walked → Bool
@@ -44,41 +44,41 @@ abort-f : (status : ℕ) → bit0 (abort status) ≡ true
 unfolding abort
 abort-f status = let e : (2 ^ 11 + 0 + 0 + status * 2 ^ 1 + 1) % 2 ≡ 1 = omega arith in rw e
 
-walk-f : (mair : ℕ) (n : Bool) (f : AtForm) (w : Walked) → bit0 (walkPar mair n f w) ≡ not (granted f w)
-unfolding leafPar
+walk-f : (mair : ℕ) (n : Bool) (f : AtForm) (w : Walked) → bit0 (walk_par mair n f w) ≡ not (granted f w)
+unfolding leaf_par
 walk-f mair n f (Err status) = abort-f status
 walk-f mair n f (Ok leaf) = go (permits f leaf)
   where
-    go : (b : Bool) → bit0 (if b then leafFound mair n leaf else abort (12 + leaf.level)) ≡ not b
-    go true = success-f (mairAttr mair (attrIndx leaf.desc)) leaf.oa (n || ns leaf.desc) (sh leaf.desc)
+    go : (b : Bool) → bit0 (if b then leaf_found mair n leaf else abort (12 + leaf.level)) ≡ not b
+    go true = success-f (mair_attr mair (attr_indx leaf.desc)) leaf.oa (n || ns leaf.desc) (sh leaf.desc)
     go false = abort-f (12 + leaf.level)
 
 -- what holds of the flat PAR and of each walk's holds of every PAR
 by-stage : (P : Bool → ℕ → Type 0) (c : Control) (mair : ℕ) (f : AtForm) (va : ℕ) (memory : ℕ → Option ℕ)
-    → ((n : Bool) → P true (walkPar mair n f (atWalk c f va memory))) → ((n : Bool) → P false (success 0 va n 0))
-    → P (stage1On (bankOf c f.regime) f.regime) (atPar c mair f va memory)
-unfolding atPar parIn fresh_of
-by-stage P c mair f va memory on off = go (stage1On (bankOf c f.regime) f.regime)
+    → ((n : Bool) → P true (walk_par mair n f (at_walk c f va memory))) → ((n : Bool) → P false (success 0 va n 0))
+    → P (stage1_on (bank_of c f.regime) f.regime) (at_par c mair f va memory)
+unfolding at_par par_in fresh_of
+by-stage P c mair f va memory on off = go (stage1_on (bank_of c f.regime) f.regime)
   where
     nonsecure : Bool
-    nonsecure = fromNonSecure (bankOf c f.regime) f.regime
+    nonsecure = from_non_secure (bank_of c f.regime) f.regime
 
-    go : (b : Bool) → P b (freshPar mair nonsecure f (if b then Ended (atWalk c f va memory) else Flat va))
+    go : (b : Bool) → P b (fresh_par mair nonsecure f (if b then Ended (at_walk c f va memory) else Flat va))
     go true = on nonsecure
     go false = off nonsecure
 
 -- F is set exactly where stage 1 is on and the walk faults or the permission is absent
 pub par-f : (c : Control) (mair : ℕ) (f : AtForm) (va : ℕ) (memory : ℕ → Option ℕ)
-    → bit0 (atPar c mair f va memory) ≡ (stage1On (bankOf c f.regime) f.regime && not (granted f (atWalk c f va memory)))
+    → bit0 (at_par c mair f va memory) ≡ (stage1_on (bank_of c f.regime) f.regime && not (granted f (at_walk c f va memory)))
 par-f c mair f va memory =
-    by-stage (λ b p. bit0 p ≡ (b && not (granted f (atWalk c f va memory)))) c mair f va memory (λ n. walk-f mair n f (atWalk c f va memory))
+    by-stage (λ b p. bit0 p ≡ (b && not (granted f (at_walk c f va memory)))) c mair f va memory (λ n. walk-f mair n f (at_walk c f va memory))
     (λ n. success-f 0 va n 0)
 
 -- each field stands where the manual has it
 pub record Fields (par attr pa : ℕ) (n : Bool) (s : ℕ) : Type 0 where
   pub attr-63-56 : field par 56 8 ≡ attr
   pub pa-47-12 : field par 12 36 ≡ field pa 12 36
-  pub ns-9 : bitOn par 9 ≡ n
+  pub ns-9 : bit_on par 9 ≡ n
   pub sh-8-7 : field par 7 2 ≡ s
 
 sum-ns : (a b n s : ℕ) → n ≤ 1 → s < 2 ^ 2 → (a * 2 ^ 56 + b * 2 ^ 12 + 2 ^ 11 + n * 2 ^ 9 + s * 2 ^ 7) / 2 ^ 9 % 2 ≡ n
@@ -115,49 +115,49 @@ abort-small : (status : ℕ) → status < 24 → abort status < 2 ^ 64
 unfolding abort
 abort-small status h = omega arith
 
-walk-small : (mair : ℕ) (n : Bool) (f : AtForm) (va : ℕ) (w : Walked) → SoundWalked va w → walkPar mair n f w < 2 ^ 64
-unfolding leafPar
+walk-small : (mair : ℕ) (n : Bool) (f : AtForm) (va : ℕ) (w : Walked) → SoundWalked va w → walk_par mair n f w < 2 ^ 64
+unfolding leaf_par
 walk-small mair n f va (Err status) h = abort-small status (status-small status h)
 walk-small mair n f va (Ok leaf) h = go (permits f leaf)
   where
-    go : (b : Bool) → (if b then leafFound mair n leaf else abort (12 + leaf.level)) < 2 ^ 64
+    go : (b : Bool) → (if b then leaf_found mair n leaf else abort (12 + leaf.level)) < 2 ^ 64
     go true =
-        success-small (mairAttr mair (attrIndx leaf.desc)) leaf.oa (n || ns leaf.desc) (sh leaf.desc) (omega arith) (omega arith)
+        success-small (mair_attr mair (attr_indx leaf.desc)) leaf.oa (n || ns leaf.desc) (sh leaf.desc) (omega arith) (omega arith)
     go false = let k = h.0.level-high in abort-small (12 + leaf.level) (omega arith)
 
-pub par-small : (c : Control) (mair : ℕ) (f : AtForm) (va : ℕ) (memory : ℕ → Option ℕ) → atPar c mair f va memory < 2 ^ 64
+pub par-small : (c : Control) (mair : ℕ) (f : AtForm) (va : ℕ) (memory : ℕ → Option ℕ) → at_par c mair f va memory < 2 ^ 64
 par-small c mair f va memory =
     by-stage (λ b p. p < 2 ^ 64) c mair f va memory
-    (λ n. walk-small mair n f _ (atWalk c f va memory) (walk-sound (bankOf c f.regime) f.regime _ memory))
+    (λ n. walk-small mair n f _ (at_walk c f va memory) (walk-sound (bank_of c f.regime) f.regime _ memory))
     (λ n. success-small 0 va n 0 (omega arith) (omega arith))
 
 -- an AT reads RAM by its walk alone
-pub by-walk : (c : Control) (mair : ℕ) (f : AtForm) (va : ℕ) (m n : ℕ → Option ℕ) → atWalk c f va m ≡ atWalk c f va n
-    → atPar c mair f va m ≡ atPar c mair f va n
-unfolding atPar parIn fresh_of
+pub by-walk : (c : Control) (mair : ℕ) (f : AtForm) (va : ℕ) (m n : ℕ → Option ℕ) → at_walk c f va m ≡ at_walk c f va n
+    → at_par c mair f va m ≡ at_par c mair f va n
+unfolding at_par par_in fresh_of
 by-walk c mair f va m n e = rw e
 
 -- PAR_EL1 by the manual's own walk and permission check
 module _ (s : Bank) (f : AtForm) where
-  bits : (w u : Bool) → rightOf (kind_of w) u ≡ kindBit (accessOf w) + firstBit (not u)
+  bits : (w u : Bool) → right_of (kind_of w) u ≡ kind_bit (access_of w) + first_bit (not u)
   bits true true = refl
   bits true false = refl
   bits false true = refl
   bits false false = refl
 
-  permits-checked : (t : Translation) → permits f (leafOf (singlePriv f.regime) (wxnOf s) t) ≡ checked s f t
+  permits-checked : (t : Translation) → permits f (leaf_of (single_priv f.regime) (wxn_of s) t) ≡ checked s f t
   permits-checked t =
-      ap (λ (n : ℕ). bitOn (permissionByte (singlePriv f.regime) (wxnOf s) t.perms) n) (bits f.write f.user)
-      ∙ permission-bit (singlePriv f.regime) (wxnOf s) t.perms (not f.user) (accessOf f.write)
+      ap (λ (n : ℕ). bit_on (permission_byte (single_priv f.regime) (wxn_of s) t.perms) n) (bits f.write f.user)
+      ∙ permission-bit (single_priv f.regime) (wxn_of s) t.perms (not f.user) (access_of f.write)
 
   pub manual-par : (mair : ℕ) (n : Bool) (va : ℕ) (memory : ℕ → Option ℕ)
-      → walkPar mair n f (walk_of s f.regime va memory) ≡ resultPar s f mair n (tableWalk s f.regime va memory)
-  unfolding walk_of leafPar resultPar
-  manual-par mair n va memory = go (tableWalk s f.regime va memory)
+      → walk_par mair n f (walk_of s f.regime va memory) ≡ result_par s f mair n (table_walk s f.regime va memory)
+  unfolding walk_of leaf_par result_par
+  manual-par mair n va memory = go (table_walk s f.regime va memory)
     where
-      go : (x : Result) → walkPar mair n f (walkedOf (singlePriv f.regime) (wxnOf s) x) ≡ resultPar s f mair n x
+      go : (x : Result) → walk_par mair n f (walked_of (single_priv f.regime) (wxn_of s) x) ≡ result_par s f mair n x
       go (mapped t) =
           ap
-          (λ (b : Bool). (if b then leafFound mair n (leafOf (singlePriv f.regime) (wxnOf s) t) else abort (12 + t.level)))
+          (λ (b : Bool). (if b then leaf_found mair n (leaf_of (single_priv f.regime) (wxn_of s) t) else abort (12 + t.level)))
           (permits-checked t)
       go (faults x) = refl

@@ -8,7 +8,7 @@ use Rattle.sysop.specs.Op as op
 use Rattle.sysop.specs.Op.{AT-S1E1R, AT-S1E1W, AT-S1E0R, AT-S1E0W, AT-S1E2R, AT-S1E2W, AT-S12E1R, AT-S12E1W, AT-S12E0R, AT-S12E0W, AT-S1E3R, AT-S1E3W}
 use Rattle.sysop.specs.Op.{DC-ZVA, DC-CVAC, DC-CVAU, DC-CIVAC, IC-IVAU, DC-IVAC, DC-ISW, DC-CSW, DC-CISW, IC-IALLU, IC-IALLUIS}
 use Rattle.sysop.specs.Tlbi.{Instruction, VMALLE1, VAE1, ASIDE1, VAAE1, VALE1, VAALE1, ALLE2, VAE2, ALLE1, VALE2, VMALLS12E1, IPAS2E1, IPAS2LE1, ALLE3}
-use Rattle.sysop.specs.Tlbi.{VAE3, VALE3, instructions, instructionAt, scope_of, whatOf, tlbiOf}
+use Rattle.sysop.specs.Tlbi.{VAE3, VALE3, instructions, instruction_at, scope_of, what_of, tlbi_of}
 use Rattle.sysop.specs.Par.{success, abort}
 
 -- SYS op1, CRn, CRm, op2
@@ -49,7 +49,7 @@ maintenance = (refl, refl, refl, refl, refl, refl, refl, refl, refl, refl, refl)
 -- TLBI op1, op2: the Inner Shareable form with CRm 3, and the other with CRm 7; by intermediate physical address with
 -- CRm 0 and 4
 abbrev Both : Instruction → ℕ → ℕ → ℕ → ℕ → Type 0
-Both n op1 crm local op2 = (instructionAt instructions op1 crm op2 ≡ n) × (instructionAt instructions op1 local op2 ≡ n)
+Both n op1 crm local op2 = (instruction_at instructions op1 crm op2 ≡ n) × (instruction_at instructions op1 local op2 ≡ n)
 
 pub invalidations :
     Both VMALLE1 0 3 7 0
@@ -88,8 +88,8 @@ invalidations = (
 )
 
 -- a core whose TCR_EL1 is given
-abbrev tcrEl1 : ℕ → Control
-tcrEl1 tcr =
+abbrev tcr_el1 : ℕ → Control
+tcr_el1 tcr =
     record {
       sctlr = levels 0 0 0;
       tcr = levels tcr 0 0;
@@ -101,14 +101,14 @@ tcrEl1 tcr =
 
 -- TLBI ASIDE1 and VAE1 of one operand: with TCR_EL1.AS, without; with TG1 4 KiB, with TG1 64 KiB, with TG0 64 KiB
 pub operands :
-    (tlbiOf (tcrEl1 0x10_0000_0000) 0 7 2 0xABCD_0000_0000_1234
-    ∷ tlbiOf (tcrEl1 0) 0 7 2 0xABCD_0000_0000_1234
-    ∷ tlbiOf (tcrEl1 0x8000_0000) 0 7 1 0xABCD_0000_0000_1234
-    ∷ tlbiOf (tcrEl1 0xC000_0000) 0 7 1 0xABCD_0000_0000_1234
-    ∷ tlbiOf (tcrEl1 0x8000_4000) 0 7 1 0xABCD_0000_0000_1234
+    (tlbi_of (tcr_el1 0x10_0000_0000) 0 7 2 0xABCD_0000_0000_1234
+    ∷ tlbi_of (tcr_el1 0) 0 7 2 0xABCD_0000_0000_1234
+    ∷ tlbi_of (tcr_el1 0x8000_0000) 0 7 1 0xABCD_0000_0000_1234
+    ∷ tlbi_of (tcr_el1 0xC000_0000) 0 7 1 0xABCD_0000_0000_1234
+    ∷ tlbi_of (tcr_el1 0x8000_4000) 0 7 1 0xABCD_0000_0000_1234
     ∷ [])
     ≡ (Asid 0xABCD ∷ Asid 0xCD ∷ Page 0xABCD_0000_0000_1234 ∷ All ∷ All ∷ [])
-unfolding tlbiOf whatOf scope_of
+unfolding tlbi_of what_of scope_of
 operands = refl
 
 -- PAR_EL1: ATTR, PA, NS and SH alone, and FST

@@ -3,11 +3,11 @@
 -- docs/DIFFERENCES.md.
 use Rattle.std.specs.Prelude.{if◌then◌else◌, Bool, true, false, ◌&&◌, List, [], ◌∷◌, ◌++◌, ℕ, ◌==◌}
 use Rattle.word.specs.Bits.{field}
-use Rattle.sysreg.specs.Regs.{controlAt}
+use Rattle.sysreg.specs.Regs.{control_at}
 use Rattle.sysreg.specs.Tcr.{tg0, tg1, «as»}
 use Rattle.sysreg.specs.declared.regs.Control.{Control}
 use Rattle.sysreg.specs.declared.regs.ControlReg.TheVariants.{Tcr}
-use Rattle.walk.specs.Regime.{levelOf}
+use Rattle.walk.specs.Regime.{level_of}
 use Rattle.walk.specs.declared.regime.Regime.{Regime}
 use Rattle.walk.specs.declared.regime.Regime.TheVariants.{El1, El2, El3}
 use Rattle.tlb.specs.declared.Inval.{Inval}
@@ -22,7 +22,7 @@ pub data Instruction : Type 0 where
 
 -- what is named: everything, the operand's virtual address in a regime, or the operand's ASID
 pub data Scope : Type 0 where
-  everything asidForm : Scope
+  everything asid_form : Scope
   ranged : Regime → Scope
 
 -- What each names here, which is at least what the manual has it name: an address in every ASID and at every level
@@ -31,7 +31,7 @@ pub data Scope : Type 0 where
 abbrev pub scope : Instruction → Scope
 scope VMALLE1 = everything
 scope VAE1 = ranged El1
-scope ASIDE1 = asidForm
+scope ASIDE1 = asid_form
 scope VAAE1 = ranged El1
 scope VALE1 = ranged El1
 scope VAALE1 = ranged El1
@@ -80,24 +80,24 @@ stage1 =
     ++ forms VALE3 6 5
 
 -- here the Inner Shareable form has CRm 0, the other CRm 4
-abbrev pub byIpa : List Encoding
-byIpa =
+abbrev pub by_ipa : List Encoding
+by_ipa =
     encoding IPAS2E1 true 4 0 1 ∷ encoding IPAS2LE1 true 4 0 5 ∷ encoding IPAS2E1 false 4 4 1 ∷ encoding IPAS2LE1 false 4 4 5 ∷ []
 
 abbrev pub instructions : List Encoding
-instructions = stage1 ++ byIpa
+instructions = stage1 ++ by_ipa
 
 -- the instruction of an encoding
-abbrev pub instructionAt : List Encoding → ℕ → ℕ → ℕ → Instruction
-instructionAt [] op1 crm op2 = unallocated
-instructionAt (r ∷ rs) op1 crm op2 =
-    if op1 == r.op1 && (crm == r.crm && op2 == r.op2) then r.name else instructionAt rs op1 crm op2
+abbrev pub instruction_at : List Encoding → ℕ → ℕ → ℕ → Instruction
+instruction_at [] op1 crm op2 = unallocated
+instruction_at (r ∷ rs) op1 crm op2 =
+    if op1 == r.op1 && (crm == r.crm && op2 == r.op2) then r.name else instruction_at rs op1 crm op2
 
 unfoldable pub scope_of : ℕ → ℕ → ℕ → Scope
-scope_of op1 crm op2 = scope (instructionAt instructions op1 crm op2)
+scope_of op1 crm op2 = scope (instruction_at instructions op1 crm op2)
 
-abbrev pub tcrOf : Control → Regime → ℕ
-tcrOf c r = controlAt c (Tcr (levelOf r))
+abbrev pub tcr_of : Control → Regime → ℕ
+tcr_of c r = control_at c (Tcr (level_of r))
 
 -- pages of 4 KiB: TCR_ELx.TG0 is '00', and in the EL1&0 regime TCR_EL1.TG1 is '10'
 abbrev pub pages4k : ℕ → Regime → Bool
@@ -106,20 +106,20 @@ pages4k tcr El2 = tg0 tcr == 0b00
 pages4k tcr El3 = tg0 tcr == 0b00
 
 -- TCR_EL1.AS: an ASID has 16 bits, and not 8
-abbrev pub asidBits : Control → ℕ
-asidBits c = if «as» (tcrOf c El1) then 16 else 8
+abbrev pub asid_bits : Control → ℕ
+asid_bits c = if «as» (tcr_of c El1) then 16 else 8
 
 -- More may be dropped than is named. An address that need not be of a 4 KiB page drops everything; one that is keeps
 -- all 64 bits of the operand. O13: of a narrow ASID the operand's upper eight bits are masked.
-unfoldable pub whatOf : Control → ℕ → Scope → Inval
-whatOf c x everything = All
-whatOf c x (ranged r) = if pages4k (tcrOf c r) r then Page x else All
-whatOf c x asidForm = Asid (field x 48 (asidBits c))
+unfoldable pub what_of : Control → ℕ → Scope → Inval
+what_of c x everything = All
+what_of c x (ranged r) = if pages4k (tcr_of c r) r then Page x else All
+what_of c x asid_form = Asid (field x 48 (asid_bits c))
 
-unfoldable pub tlbiOf : Control → ℕ → ℕ → ℕ → ℕ → Inval
-tlbiOf c op1 crm op2 x = whatOf c x (scope_of op1 crm op2)
+unfoldable pub tlbi_of : Control → ℕ → ℕ → ℕ → ℕ → Inval
+tlbi_of c op1 crm op2 x = what_of c x (scope_of op1 crm op2)
 
 -- CRm 3 reaches the other cores. M8: HCR_EL2.FB makes no other form do so. M20: nor do IPAS2E1IS and IPAS2LE1IS, which
 -- have CRm 0.
-abbrev pub reachesOthers : ℕ → Bool
-reachesOthers crm = crm == 3
+abbrev pub reaches_others : ℕ → Bool
+reaches_others crm = crm == 3

@@ -1,6 +1,6 @@
 // The system operation that a SYS encoding names.
 ghost use Rattle.std.specs.Prelude.{◌≡◌};
-ghost use Rattle.sysop.specs.Op.{decodeOf, refusal as refusalOf};
+ghost use Rattle.sysop.specs.Op.{decode_of, refusal as refusal_of};
 
 use walk::regime::Regime;
 
@@ -35,7 +35,7 @@ pub struct Encoding {
 
 // What a level lacks.
 fn refusal(level: u8) -> SysOp
-    ensures { result ≡ refusalOf level }
+    ensures { result ≡ refusal_of level }
 {
     if level == 0 {
         SysOp::Undefined
@@ -45,9 +45,9 @@ fn refusal(level: u8) -> SysOp
 }
 
 // What SYS op1, CRn, CRm, op2 is at an exception level: Undefined or Unimplemented where the level has no such operation.
-#[tactic(auto, unfolding(crate::specs::Op::decodeOf, crate::specs::Op::named))]
+#[tactic(auto, unfolding(crate::specs::Op::decode_of, crate::specs::Op::named))]
 pub fn decode(level: u8, at: Encoding) -> SysOp
-    ensures { result ≡ decodeOf level at.op1 at.crn at.crm at.op2 }
+    ensures { result ≡ decode_of level at.op1 at.crn at.crm at.op2 }
 {
     let Encoding { op1, crn, crm, op2 } = at;
     // AT: bit 0 of op2 is set for a write, bit 1 for EL0's rights.

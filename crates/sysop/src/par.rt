@@ -2,7 +2,7 @@
 ghost use Rattle.std.specs.Prelude.{◌≡◌, ◌^◌, ◌≤◌, ◌<◌};
 ghost use Rattle.word.specs.Bits.{flag};
 ghost use Rattle.word.specs.Ram.{word_at};
-ghost use Rattle.sysop.specs.Par.{kind_of, fromNonSecure, mairAttr, success, abort, leafPar, parIn, atPar};
+ghost use Rattle.sysop.specs.Par.{kind_of, from_non_secure, mair_attr, success, abort, leaf_par, par_in, at_par};
 
 use crate::op::AtForm;
 use sysreg::regs::Control;
@@ -21,7 +21,7 @@ fn kind_of(write: bool) -> Kind
 
 // SCR_EL3.NS; EL3 is always Secure.
 fn from_non_secure(s: Bank, regime: Regime) -> bool
-    ensures { result ≡ fromNonSecure s regime }
+    ensures { result ≡ from_non_secure s regime }
 {
     regime != Regime::El3 && s.scr_el3 % 2 == 1
 }
@@ -37,7 +37,7 @@ fn ns_bit(ns: bool) -> u64
 // MAIR's byte of an index.
 fn mair_attr(mair: u64, index: u64) -> u64
     requires { index < 8 }
-    ensures value { result ≡ mairAttr mair index }
+    ensures value { result ≡ mair_attr mair index }
     ensures upper_bound { result < 256 }
 {
     (mair >> (index * 8)) % 256
@@ -62,10 +62,10 @@ fn fault_par(status: u8) -> u64
 }
 
 // A leaf: its page and attributes, or a permission fault of its level.
-#[tactic(auto, unfolding(crate::specs::Par::leafPar))]
+#[tactic(auto, unfolding(crate::specs::Par::leaf_par))]
 fn leaf_par(mair: u64, ns: bool, form: AtForm, leaf: Leaf) -> u64
     requires { leaf.level ≤ 3 }
-    ensures { result ≡ leafPar mair ns form leaf }
+    ensures { result ≡ leaf_par mair ns form leaf }
 {
     let right = access::right_of(kind_of(form.write), form.user);
     if (leaf.perms >> right) % 2 == 0 {
@@ -77,9 +77,9 @@ fn leaf_par(mair: u64, ns: bool, form: AtForm, leaf: Leaf) -> u64
 }
 
 // PAR by the registers of the form's regime.
-#[tactic(auto, unfolding(crate::specs::Par::parIn), using(crate::proofs::Pars::low_leaf))]
+#[tactic(auto, unfolding(crate::specs::Par::par_in), using(crate::proofs::Pars::low_leaf))]
 pub fn par_in(s: Bank, mair: u64, form: AtForm, va: u64, base: u64, ram: &[u8]) -> u64
-    ensures { result ≡ parIn s mair form va (word_at base ram.now 8) }
+    ensures { result ≡ par_in s mair form va (word_at base ram.now 8) }
 {
     let regime = form.regime;
     let ns = from_non_secure(s, regime);
@@ -91,9 +91,9 @@ pub fn par_in(s: Bank, mair: u64, form: AtForm, va: u64, base: u64, ram: &[u8]) 
 }
 
 // PAR_EL1 after an AT of the form at va; mair is the MAIR of the form's regime.
-#[tactic(auto, unfolding(crate::specs::Par::atPar))]
+#[tactic(auto, unfolding(crate::specs::Par::at_par))]
 pub fn at_par(control: Control, mair: u64, form: AtForm, va: u64, base: u64, ram: &[u8]) -> u64
-    ensures { result ≡ atPar control mair form va (word_at base ram.now 8) }
+    ensures { result ≡ at_par control mair form va (word_at base ram.now 8) }
 {
     par_in(Bank::new(&control, form.regime), mair, form, va, base, ram)
 }

@@ -1,6 +1,6 @@
 // What a TLBI invalidates.
 ghost use Rattle.std.specs.Prelude.{◌≡◌};
-ghost use Rattle.sysop.specs.Tlbi.{ranged, asidForm, pages4k, whatOf, tlbiOf, reachesOthers};
+ghost use Rattle.sysop.specs.Tlbi.{ranged, asid_form, pages4k, what_of, tlbi_of, reaches_others};
 
 use sysreg::regs::Control;
 use tlb::Inval;
@@ -18,9 +18,9 @@ fn pages_4k(tcr: u64, regime: Regime) -> bool
 }
 
 // By address: a page where pages are 4 KiB, and all where they are not.
-#[tactic(auto, unfolding(crate::specs::Tlbi::whatOf))]
+#[tactic(auto, unfolding(crate::specs::Tlbi::what_of))]
 fn page(control: Control, regime: Regime, x: u64) -> Inval
-    ensures { result ≡ whatOf control x (ranged regime) }
+    ensures { result ≡ what_of control x (ranged regime) }
 {
     if pages_4k(Bank::new(&control, regime).tcr, regime) {
         Inval::Page(x)
@@ -30,9 +30,9 @@ fn page(control: Control, regime: Regime, x: u64) -> Inval
 }
 
 // By ASID: 16 or 8 bits, by TCR_EL1.AS.
-#[tactic(auto, unfolding(crate::specs::Tlbi::whatOf))]
+#[tactic(auto, unfolding(crate::specs::Tlbi::what_of))]
 fn asid(control: Control, x: u64) -> Inval
-    ensures { result ≡ whatOf control x asidForm }
+    ensures { result ≡ what_of control x asid_form }
 {
     let wide = (control.tcr[1] >> 36) % 2 == 1;
     let asid = (x >> 48) as u16;
@@ -40,9 +40,9 @@ fn asid(control: Control, x: u64) -> Inval
 }
 
 // What TLBI op1, CRm, op2 with the operand x invalidates.
-#[tactic(auto, unfolding(crate::specs::Tlbi::tlbiOf, crate::specs::Tlbi::scope_of, crate::specs::Tlbi::whatOf))]
+#[tactic(auto, unfolding(crate::specs::Tlbi::tlbi_of, crate::specs::Tlbi::scope_of, crate::specs::Tlbi::what_of))]
 pub fn tlbi(control: Control, op1: u64, crm: u64, op2: u64, x: u64) -> Inval
-    ensures { result ≡ tlbiOf control op1 crm op2 x }
+    ensures { result ≡ tlbi_of control op1 crm op2 x }
 {
     match (op1, crm, op2) {
         (0, 3 | 7, 1 | 3 | 5 | 7) => page(control, Regime::El1, x),
@@ -55,7 +55,7 @@ pub fn tlbi(control: Control, op1: u64, crm: u64, op2: u64, x: u64) -> Inval
 
 // Whether the other cores are to do it too: the Inner Shareable forms.
 pub fn broadcasts(crm: u64) -> bool
-    ensures { result ≡ reachesOthers crm }
+    ensures { result ≡ reaches_others crm }
 {
     crm == 3
 }

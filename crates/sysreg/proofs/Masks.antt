@@ -4,7 +4,7 @@ use Prim.Native.Nat.{ℕ, ◌+◌, ◌-◌, ◌*◌, ◌/◌, ◌%◌, ◌^◌, 
 use native.Mathlib.Nat.{add_assoc, mod-eq_of_lt, mod-lt, lt_of_le_of_lt}
 use lib.Bits.{bit_and, and_mask, and_shr, and_mod, and_le_r}
 use lib.Pow.{split, pow_pos}
-use Rattle.sysreg.specs.Write.{inPlace, spsrKept}
+use Rattle.sysreg.specs.Write.{in_place, spsr_kept}
 
 -- a mask in two parts, from bit k up and below it
 cut : (v m k : ℕ) → bit_and v m ≡ bit_and (v / 2 ^ k) (m / 2 ^ k) * 2 ^ k + bit_and (v % 2 ^ k) (m % 2 ^ k)
@@ -19,13 +19,13 @@ below v m k =
     sym (sym (mod-eq_of_lt l) ∙ e ∙ ap (bit_and (v % 2 ^ k)) h)
 
 -- a mask whose top is a run of n ones from bit lo up
-run : (v m lo n : ℕ) → m / 2 ^ lo ≡ 2 ^ n - 1 → bit_and v m ≡ inPlace v lo n + bit_and v (m % 2 ^ lo)
+run : (v m lo n : ℕ) → m / 2 ^ lo ≡ 2 ^ n - 1 → bit_and v m ≡ in_place v lo n + bit_and v (m % 2 ^ lo)
 run v m lo n e =
     cut v m lo
     ∙ ap₂ (λ (a b : ℕ). a * 2 ^ lo + b) (ap (bit_and (v / 2 ^ lo)) e ∙ and_mask (v / 2 ^ lo) n) (below v m lo)
 
-pub spsr_mask : (v : ℕ) → bit_and v 0xF03F_03DF ≡ spsrKept v
-unfolding spsrKept
+pub spsr_mask : (v : ℕ) → bit_and v 0xF03F_03DF ≡ spsr_kept v
+unfolding spsr_kept
 spsr_mask v =
     rw (run v 0xF03F_03DF 28 4 refl, run v 0x3F_03DF 21 1 refl, run v 0x1F_03DF 20 1 refl, run v 0xF_03DF 16 4 refl, run v 0x3DF 6 4 refl, and_mask v 5)
     (simp add_assoc)

@@ -9,7 +9,7 @@ use Rattle.sysreg.specs.declared.regs.El.TheVariants.{El1, El2, El3}
 use Rattle.sysreg.specs.declared.regs.ControlReg.TheVariants.{Sctlr, Tcr, Ttbr0, Ttbr1, Scr, Hcr}
 use Rattle.sysreg.specs.declared.regs.SysReg.TheVariants.{Mair, Vbar, Elr, Spsr, Esr, Far, Vpidr, Vmpidr, Par}
 use Rattle.sysreg.specs.declared.regs.Register.TheVariants.{InControl, InSys}
-use Rattle.sysreg.specs.Encoding.{encode, keyWord, key_of, find, bankedAt, registerAt, eachLevel, oneLevel}
+use Rattle.sysreg.specs.Encoding.{encode, key_word, key_of, find, banked_at, register_at, each_level, one_level}
 
 -- what holds at each level holds at any
 pub by_level : (P : El → Type 0) → P El1 → P El2 → P El3 → (el : El) → P el
@@ -23,7 +23,7 @@ below x k b y h e = rw e (or_shifted x k b h)
 
 -- the key of fields within their widths is the encoding
 pub key-in-range : (op0 op1 crn crm op2 : ℕ) → op0 < 4 → op1 < 8 → crn < 16 → crm < 16 → op2 < 8 →
-    keyWord op0 op1 crn crm op2 ≡ encode op0 op1 crn crm op2
+    key_word op0 op1 crn crm op2 ≡ encode op0 op1 crn crm op2
 key-in-range op0 op1 crn crm op2 a b c d e =
     rw (
       mod-eq_of_lt {n = op0 * 2 ^ 14} {m = 2 ^ 32} (omega arith),
@@ -37,7 +37,7 @@ key-in-range op0 op1 crn crm op2 a b c d e =
     )
 
 -- and outside them the fields run into one another
-pub key-wide : (keyWord 4 0 0 0 0 ≡ 0x10000) × (keyWord 0 8 0 0 0 ≡ 0x4000) × (keyWord 0 0 0 16 0 ≡ 0x80)
+pub key-wide : (key_word 4 0 0 0 0 ≡ 0x10000) × (key_word 0 8 0 0 0 ≡ 0x4000) × (key_word 0 0 0 16 0 ≡ 0x80)
 key-wide = (refl, refl, refl)
 
 pub par-key : key_of (InSys Par) ≡ 0xC3A0
@@ -61,9 +61,9 @@ skip p (r ∷ rs) m k a f = go (eqb k (key_of r)) refl (p (key_of r)) refl a (λ
     go false e false h a s = absurd (false≢true a)
 
 -- a number of more than 16 bits names nothing
-pub wide_key : (k : ℕ) → 2 ^ 16 ≤ k → registerAt k ≡ None
-unfolding registerAt bankedAt
-wide_key k h = skip (λ n. ltb n (2 ^ 16)) (InSys Par ∷ eachLevel ++ oneLevel) [] k refl (le-ltb k (2 ^ 16) h)
+pub wide_key : (k : ℕ) → 2 ^ 16 ≤ k → register_at k ≡ None
+unfolding register_at banked_at
+wide_key k h = skip (λ n. ltb n (2 ^ 16)) (InSys Par ∷ each_level ++ one_level) [] k refl (le-ltb k (2 ^ 16) h)
 
 -- what is found has the encoding looked for
 found-key : (l : List Register) (k : ℕ) (r : Register) → find l k ≡ Some r → k ≡ key_of r
@@ -74,16 +74,16 @@ found-key (q ∷ qs) k r e = go (eqb k (key_of q)) refl e (found-key qs k r)
     go true t e s = let h : q ≡ r = cc in eqb-true k (key_of q) t ∙ ap key_of h
     go false t e s = s e
 
-pub named-key : (k : ℕ) (r : Register) → registerAt k ≡ Some r → k ≡ key_of r
-unfolding registerAt bankedAt
-named-key k r e = found-key (InSys Par ∷ eachLevel ++ oneLevel) k r e
+pub named-key : (k : ℕ) (r : Register) → register_at k ≡ Some r → k ≡ key_of r
+unfolding register_at banked_at
+named-key k r e = found-key (InSys Par ∷ each_level ++ one_level) k r e
 
 abbrev Named : Register → Type 0
-Named r = registerAt (key_of r) ≡ Some r
+Named r = register_at (key_of r) ≡ Some r
 
 -- the encoding of a register names it
-pub key-names : (r : Register) → registerAt (key_of r) ≡ Some r
-unfolding registerAt bankedAt
+pub key-names : (r : Register) → register_at (key_of r) ≡ Some r
+unfolding register_at banked_at
 key-names (InControl (Sctlr el)) = by_level (λ x. Named (InControl (Sctlr x))) refl refl refl el
 key-names (InControl (Tcr el)) = by_level (λ x. Named (InControl (Tcr x))) refl refl refl el
 key-names (InControl (Ttbr0 el)) = by_level (λ x. Named (InControl (Ttbr0 x))) refl refl refl el
@@ -102,4 +102,4 @@ key-names (InSys Par) = refl
 
 -- two registers of one encoding are one
 pub key_one : (q r : Register) → key_of q ≡ key_of r → q ≡ r
-key_one q r e = let a : Some q ≡ Some r = sym (key-names q) ∙ ap registerAt e ∙ key-names r in cc
+key_one q r e = let a : Some q ≡ Some r = sym (key-names q) ∙ ap register_at e ∙ key-names r in cc

@@ -5,8 +5,8 @@ use Rattle.sysreg.specs.declared.{regs.Control.Control, regs.ControlReg.ControlR
 use Rattle.sysreg.specs.declared.regs.El.TheVariants.{El1, El2, El3}
 use Rattle.sysreg.specs.declared.regs.ControlReg.TheVariants.{Sctlr, Tcr, Ttbr0, Ttbr1, Scr, Hcr}
 use Rattle.sysreg.specs.declared.regs.Register.TheVariants.{InControl, InSys}
-use Rattle.sysreg.specs.Regs.{controlAt}
-use Rattle.sysreg.specs.Encoding.{controlKey}
+use Rattle.sysreg.specs.Regs.{control_at}
+use Rattle.sysreg.specs.Encoding.{control_key}
 use Rattle.sysreg.specs.Tcr.{a1, «as»}
 
 -- The registers that shape translations: all that translation reads but TTBR0_EL1 and TTBR1_EL1, which an ASID tells apart.
@@ -16,26 +16,26 @@ shape =
 
 abbrev pub member : List ControlReg → ControlReg → Bool
 member [] r = false
-member (q ∷ qs) r = eqb (controlKey q) (controlKey r) || member qs r
+member (q ∷ qs) r = eqb (control_key q) (control_key r) || member qs r
 
 -- a write of what the key names leaves the shape alone
-abbrev pub outsideShape : Option Register → Bool
-outsideShape None = true
-outsideShape (Some (InSys r)) = true
-outsideShape (Some (InControl r)) = not (member shape r)
+abbrev pub outside_shape : Option Register → Bool
+outside_shape None = true
+outside_shape (Some (InSys r)) = true
+outside_shape (Some (InControl r)) = not (member shape r)
 
 -- each register of a list holds the same in both
-abbrev pub agreeOn : List ControlReg → Control → Control → Bool
-agreeOn [] a b = true
-agreeOn (r ∷ rs) a b = eqb (controlAt a r) (controlAt b r) && agreeOn rs a b
+abbrev pub agree_on : List ControlReg → Control → Control → Bool
+agree_on [] a b = true
+agree_on (r ∷ rs) a b = eqb (control_at a r) (control_at b r) && agree_on rs a b
 
 unfoldable pub same_shape : Control → Control → Bool
-same_shape a b = agreeOn shape a b
+same_shape a b = agree_on shape a b
 
 -- by TCR_EL1.A1, TTBR1_EL1 and not TTBR0_EL1 holds the ASID
-unfoldable pub asidBase : Control → ℕ
-asidBase c = if a1 (controlAt c (Tcr El1)) then controlAt c Ttbr1 else controlAt c (Ttbr0 El1)
+unfoldable pub asid_base : Control → ℕ
+asid_base c = if a1 (control_at c (Tcr El1)) then control_at c Ttbr1 else control_at c (Ttbr0 El1)
 
 -- by TCR_EL1.AS, the ASID is its bits 63:48, and not 55:48
-unfoldable pub asidOf : Control → ℕ
-asidOf c = field (asidBase c) 48 (if «as» (controlAt c (Tcr El1)) then 16 else 8)
+unfoldable pub asid_of : Control → ℕ
+asid_of c = field (asid_base c) 48 (if «as» (control_at c (Tcr El1)) then 16 else 8)

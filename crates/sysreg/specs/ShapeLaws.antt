@@ -10,46 +10,46 @@ use Rattle.sysreg.specs.declared.regs.El.TheVariants.{El1, El2, El3}
 use Rattle.sysreg.specs.declared.regs.ControlReg.TheVariants.{Sctlr, Tcr, Ttbr0, Ttbr1, Scr, Hcr}
 use Rattle.sysreg.specs.declared.regs.Register.TheVariants.{InControl, InSys}
 use Rattle.sysreg.specs.declared.write.WriteError.TheVariants.{Undefined}
-use Rattle.sysreg.specs.Regs.{controlAt}
-use Rattle.sysreg.specs.Encoding.{controlKey, registerAt}
+use Rattle.sysreg.specs.Regs.{control_at}
+use Rattle.sysreg.specs.Encoding.{control_key, register_at}
 use Rattle.sysreg.specs.EncodingLaws.{by_level}
-use Rattle.sysreg.specs.Write.{controlWith, ended, wrote, writeFound, writeReg}
+use Rattle.sysreg.specs.Write.{control_with, ended, wrote, write_found, write_reg}
 use Rattle.sysreg.specs.WriteLaws.{control-after}
 use Rattle.sysreg.specs.Tcr.{«as»}
-use Rattle.sysreg.specs.Shape.{shape, member, outsideShape, agreeOn, same_shape, asidBase, asidOf}
+use Rattle.sysreg.specs.Shape.{shape, member, outside_shape, agree_on, same_shape, asid_base, asid_of}
 
 -- Two settings of one shape agree in all that translation reads but TTBR0_EL1 and TTBR1_EL1.
 pub record SameShape (a b : Control) : Type 0 where
-  pub sctlr : (el : El) → controlAt a (Sctlr el) ≡ controlAt b (Sctlr el)
-  pub tcr : (el : El) → controlAt a (Tcr el) ≡ controlAt b (Tcr el)
-  pub ttbr0-el2 : controlAt a (Ttbr0 El2) ≡ controlAt b (Ttbr0 El2)
-  pub ttbr0-el3 : controlAt a (Ttbr0 El3) ≡ controlAt b (Ttbr0 El3)
-  pub hcr : controlAt a Hcr ≡ controlAt b Hcr
-  pub scr : controlAt a Scr ≡ controlAt b Scr
+  pub sctlr : (el : El) → control_at a (Sctlr el) ≡ control_at b (Sctlr el)
+  pub tcr : (el : El) → control_at a (Tcr el) ≡ control_at b (Tcr el)
+  pub ttbr0-el2 : control_at a (Ttbr0 El2) ≡ control_at b (Ttbr0 El2)
+  pub ttbr0-el3 : control_at a (Ttbr0 El3) ≡ control_at b (Ttbr0 El3)
+  pub hcr : control_at a Hcr ≡ control_at b Hcr
+  pub scr : control_at a Scr ≡ control_at b Scr
 
 module _ (a b : Control) where
   -- what a list of registers holds in both
   abbrev Agree : List ControlReg → Type 0
   Agree [] = Unit {0}
-  Agree (r ∷ rs) = (controlAt a r ≡ controlAt b r) × Agree rs
+  Agree (r ∷ rs) = (control_at a r ≡ control_at b r) × Agree rs
 
-  agree : (l : List ControlReg) → agreeOn l a b ≡ true → Agree l
+  agree : (l : List ControlReg) → agree_on l a b ≡ true → Agree l
   agree [] e = tt
   agree (r ∷ rs) e =
-      let h = both (eqb (controlAt a r) (controlAt b r)) (agreeOn rs a b) e in
-      (eqb-true (controlAt a r) (controlAt b r) h.0, agree rs h.1)
+      let h = both (eqb (control_at a r) (control_at b r)) (agree_on rs a b) e in
+      (eqb-true (control_at a r) (control_at b r) h.0, agree rs h.1)
 
-  agreed : (l : List ControlReg) → Agree l → agreeOn l a b ≡ true
+  agreed : (l : List ControlReg) → Agree l → agree_on l a b ≡ true
   agreed [] h = refl
-  agreed (r ∷ rs) h = rw (eq-eqb (controlAt a r) (controlAt b r) h.0) (agreed rs h.1)
+  agreed (r ∷ rs) h = rw (eq-eqb (control_at a r) (control_at b r) h.0) (agreed rs h.1)
 
   pub shape-agrees : same_shape a b ≡ true → SameShape a b
   unfolding same_shape
   shape-agrees e =
       let h = agree shape e in
       record {
-        sctlr = by_level (λ el. controlAt a (Sctlr el) ≡ controlAt b (Sctlr el)) h.0 h.1.0 h.1.1.0;
-        tcr = by_level (λ el. controlAt a (Tcr el) ≡ controlAt b (Tcr el)) h.1.1.1.0 h.1.1.1.1.0 h.1.1.1.1.1.0;
+        sctlr = by_level (λ el. control_at a (Sctlr el) ≡ control_at b (Sctlr el)) h.0 h.1.0 h.1.1.0;
+        tcr = by_level (λ el. control_at a (Tcr el) ≡ control_at b (Tcr el)) h.1.1.1.0 h.1.1.1.1.0 h.1.1.1.1.1.0;
         ttbr0-el2 = h.1.1.1.1.1.1.0;
         ttbr0-el3 = h.1.1.1.1.1.1.1.0;
         hcr = h.1.1.1.1.1.1.1.1.0;
@@ -63,14 +63,14 @@ module _ (a b : Control) where
       (h.sctlr El1, (h.sctlr El2, (h.sctlr El3, (h.tcr El1, (h.tcr El2, (h.tcr El3, (h.ttbr0-el2, (h.ttbr0-el3, (h.hcr, (h.scr, tt))))))))))
 
   -- the ASID is read from three registers
-  pub asid-reads : controlAt a (Tcr El1) ≡ controlAt b (Tcr El1) →
-      controlAt a (Ttbr0 El1) ≡ controlAt b (Ttbr0 El1) → controlAt a Ttbr1 ≡ controlAt b Ttbr1 → asidOf a ≡ asidOf b
-  unfolding asidOf asidBase
+  pub asid-reads : control_at a (Tcr El1) ≡ control_at b (Tcr El1) →
+      control_at a (Ttbr0 El1) ≡ control_at b (Ttbr0 El1) → control_at a Ttbr1 ≡ control_at b Ttbr1 → asid_of a ≡ asid_of b
+  unfolding asid_of asid_base
   asid-reads t z o = rw (t, z, o)
 
   -- of which the shape holds the first
   pub asid-same : same_shape a b ≡ true →
-      controlAt a (Ttbr0 El1) ≡ controlAt b (Ttbr0 El1) → controlAt a Ttbr1 ≡ controlAt b Ttbr1 → asidOf a ≡ asidOf b
+      control_at a (Ttbr0 El1) ≡ control_at b (Ttbr0 El1) → control_at a Ttbr1 ≡ control_at b Ttbr1 → asid_of a ≡ asid_of b
   asid-same e z o = asid-reads ((shape-agrees e).tcr El1) z o
 
 pub shape-self : (c : Control) → same_shape c c ≡ true
@@ -78,11 +78,11 @@ shape-self c =
     agrees-shape c c (record { sctlr = λ el. refl; tcr = λ el. refl; ttbr0-el2 = refl; ttbr0-el3 = refl; hcr = refl; scr = refl })
 
 -- an ASID has at most 16 bits
-pub asid-small : (c : Control) → asidOf c < 2 ^ 16
-unfolding asidOf
-asid-small c = go («as» (controlAt c (Tcr El1)))
+pub asid-small : (c : Control) → asid_of c < 2 ^ 16
+unfolding asid_of
+asid-small c = go («as» (control_at c (Tcr El1)))
   where
-    go : (b : Bool) → field (asidBase c) 48 (if b then 16 else 8) < 2 ^ 16
+    go : (b : Bool) → field (asid_base c) 48 (if b then 16 else 8) < 2 ^ 16
     go true = omega arith
     go false = omega arith
 
@@ -91,27 +91,27 @@ neither true y e = absurd (false≢true (sym e))
 neither false y e = (refl, e)
 
 -- registers that a write does not name hold what they held
-kept_on : (c : Control) (r : ControlReg) (v : ℕ) (l : List ControlReg) → member l r ≡ false → agreeOn l c (controlWith c r v) ≡ true
+kept_on : (c : Control) (r : ControlReg) (v : ℕ) (l : List ControlReg) → member l r ≡ false → agree_on l c (control_with c r v) ≡ true
 kept_on c r v [] e = refl
 kept_on c r v (q ∷ qs) e =
-    let h = neither (eqb (controlKey q) (controlKey r)) (member qs r) e in
-    rw (eq-eqb (controlAt c q) (controlAt (controlWith c r v) q) (rw (control-after c r v q, h.0))) (kept_on c r v qs h.1)
+    let h = neither (eqb (control_key q) (control_key r)) (member qs r) e in
+    rw (eq-eqb (control_at c q) (control_at (control_with c r v) q) (rw (control-after c r v q, h.0))) (kept_on c r v qs h.1)
 
-pub shape-kept : (c : Control) (r : ControlReg) (v : ℕ) → member shape r ≡ false → same_shape c (controlWith c r v) ≡ true
+pub shape-kept : (c : Control) (r : ControlReg) (v : ℕ) → member shape r ≡ false → same_shape c (control_with c r v) ≡ true
 unfolding same_shape
 shape-kept c r v e = kept_on c r v shape e
 
 -- a write outside the shape, refused or not, leaves the shape
 pub write-keeps-shape : (c : Control) (s : SysRegs) (level k v : ℕ) →
-    outsideShape (registerAt k) ≡ true → same_shape c (writeReg c s level k v).control ≡ true
-unfolding writeReg
-write-keeps-shape c s level k v e = go (registerAt k) e
+    outside_shape (register_at k) ≡ true → same_shape c (write_reg c s level k v).control ≡ true
+unfolding write_reg
+write-keeps-shape c s level k v e = go (register_at k) e
   where
-    end : (r : Register) (b : Bool) → outsideShape (Some r) ≡ true → same_shape c (if b then ended c s (Err Undefined) else wrote c s r v).control ≡ true
+    end : (r : Register) (b : Bool) → outside_shape (Some r) ≡ true → same_shape c (if b then ended c s (Err Undefined) else wrote c s r v).control ≡ true
     end r true h = shape-self c
     end (InSys r) false h = shape-self c
     end (InControl r) false h = shape-kept c r v (not-true (member shape r) h)
 
-    go : (f : Option Register) → outsideShape f ≡ true → same_shape c (writeFound c s level f v).control ≡ true
+    go : (f : Option Register) → outside_shape f ≡ true → same_shape c (write_found c s level f v).control ≡ true
     go None h = shape-self c
     go (Some r) h = end r (eqb level 0) h

@@ -1,6 +1,6 @@
 -- What a register write does. Letters with a number are rows of docs/DIFFERENCES.md.
 use Rattle.std.specs.Prelude.{if◌then◌else◌, Bool, true, false, List, [], ◌∷◌, ℕ, ◌+◌, ◌*◌, ◌%◌, ◌^◌, eqb, get_or, Option, Some, None, Result, Ok, Err}
-use Rattle.word.specs.Bits.{field, alignDown}
+use Rattle.word.specs.Bits.{field, align_down}
 use Rattle.sysreg.specs.declared.{regs.Control.Control, regs.SysRegs.SysRegs, regs.El.El}
 use Rattle.sysreg.specs.declared.{regs.ControlReg.ControlReg, regs.SysReg.SysReg, regs.Register.Register}
 use Rattle.sysreg.specs.declared.write.WriteError.{WriteError}
@@ -9,22 +9,22 @@ use Rattle.sysreg.specs.declared.regs.ControlReg.TheVariants.{Sctlr, Tcr, Ttbr0,
 use Rattle.sysreg.specs.declared.regs.SysReg.TheVariants.{Mair, Vbar, Elr, Spsr, Esr, Far, Vpidr, Vmpidr, Par}
 use Rattle.sysreg.specs.declared.regs.Register.TheVariants.{InControl, InSys}
 use Rattle.sysreg.specs.declared.write.WriteError.TheVariants.{Undefined, NoRegister}
-use Rattle.sysreg.specs.Encoding.{controlKey, sysKey, registerAt}
+use Rattle.sysreg.specs.Encoding.{control_key, sys_key, register_at}
 
 -- the n bits of v from bit lo up, at their place
-abbrev pub inPlace : ℕ → ℕ → ℕ → ℕ
-inPlace v lo n = field v lo n * 2 ^ lo
+abbrev pub in_place : ℕ → ℕ → ℕ → ℕ
+in_place v lo n = field v lo n * 2 ^ lo
 
 -- SPSR_ELx: N, Z, C, V are 31:28, SS 21, IL 20, GE 19:16 (the AArch32 form's), D, A, I, F 9:6, M 4:0; the others are RES0.
 -- M13: of a saved AArch32 state T, IT and Q would be kept too; E stands at D
-unfoldable pub spsrKept : ℕ → ℕ
-spsrKept v = inPlace v 28 4 + inPlace v 21 1 + inPlace v 20 1 + inPlace v 16 4 + inPlace v 6 4 + v % 2 ^ 5
+unfoldable pub spsr_kept : ℕ → ℕ
+spsr_kept v = in_place v 28 4 + in_place v 21 1 + in_place v 20 1 + in_place v 16 4 + in_place v 6 4 + v % 2 ^ 5
 
 -- What a register keeps of a value. VBAR_ELx<10:0> are RES0, and so are bits 63:32 of ESR_ELx and VPIDR_EL2. O5: the others, and those of `Control`,
 -- keep the bits that are RES0 or RES1 as they are written
 abbrev pub kept : SysReg → ℕ → ℕ
-kept (Vbar el) v = alignDown v 11
-kept (Spsr el) v = spsrKept v
+kept (Vbar el) v = align_down v 11
+kept (Spsr el) v = spsr_kept v
 kept (Esr el) v = v % 2 ^ 32
 kept Vpidr v = v % 2 ^ 32
 kept (Mair el) v = v
@@ -34,40 +34,40 @@ kept Vmpidr v = v
 kept Par v = v
 
 -- What q holds after a write of v to r: where they are one register, what it keeps of v; else what it held.
-abbrev pub controlAfter : ControlReg → ℕ → ControlReg → ℕ → ℕ
-controlAfter r v q held = if eqb (controlKey q) (controlKey r) then v else held
+abbrev pub control_after : ControlReg → ℕ → ControlReg → ℕ → ℕ
+control_after r v q held = if eqb (control_key q) (control_key r) then v else held
 
-abbrev pub sysAfter : SysReg → ℕ → SysReg → ℕ → ℕ
-sysAfter r v q held = if eqb (sysKey q) (sysKey r) then kept q v else held
+abbrev pub sys_after : SysReg → ℕ → SysReg → ℕ → ℕ
+sys_after r v q held = if eqb (sys_key q) (sys_key r) then kept q v else held
 
 -- an array with f at each level, and at EL0's place what it held
 abbrev pub bank : (El → ℕ → ℕ) → List ℕ → List ℕ
 bank f l = get_or l 0 0 ∷ f El1 (get_or l 1 0) ∷ f El2 (get_or l 2 0) ∷ f El3 (get_or l 3 0) ∷ []
 
 -- all registers after a write of v to r
-unfoldable pub controlWith : Control → ControlReg → ℕ → Control
-controlWith c r v =
+unfoldable pub control_with : Control → ControlReg → ℕ → Control
+control_with c r v =
     record {
-      sctlr = bank (λ el. controlAfter r v (Sctlr el)) c.sctlr;
-      tcr = bank (λ el. controlAfter r v (Tcr el)) c.tcr;
-      ttbr0 = bank (λ el. controlAfter r v (Ttbr0 el)) c.ttbr0;
-      ttbr1_el1 = controlAfter r v Ttbr1 c.ttbr1_el1;
-      scr_el3 = controlAfter r v Scr c.scr_el3;
-      hcr_el2 = controlAfter r v Hcr c.hcr_el2;
+      sctlr = bank (λ el. control_after r v (Sctlr el)) c.sctlr;
+      tcr = bank (λ el. control_after r v (Tcr el)) c.tcr;
+      ttbr0 = bank (λ el. control_after r v (Ttbr0 el)) c.ttbr0;
+      ttbr1_el1 = control_after r v Ttbr1 c.ttbr1_el1;
+      scr_el3 = control_after r v Scr c.scr_el3;
+      hcr_el2 = control_after r v Hcr c.hcr_el2;
     }
 
-unfoldable pub sysWith : SysRegs → SysReg → ℕ → SysRegs
-sysWith s r v =
+unfoldable pub sys_with : SysRegs → SysReg → ℕ → SysRegs
+sys_with s r v =
     record {
-      mair = bank (λ el. sysAfter r v (Mair el)) s.mair;
-      vbar = bank (λ el. sysAfter r v (Vbar el)) s.vbar;
-      elr = bank (λ el. sysAfter r v (Elr el)) s.elr;
-      spsr = bank (λ el. sysAfter r v (Spsr el)) s.spsr;
-      esr = bank (λ el. sysAfter r v (Esr el)) s.esr;
-      far = bank (λ el. sysAfter r v (Far el)) s.far;
-      vpidr_el2 = sysAfter r v Vpidr s.vpidr_el2;
-      vmpidr_el2 = sysAfter r v Vmpidr s.vmpidr_el2;
-      par_el1 = sysAfter r v Par s.par_el1;
+      mair = bank (λ el. sys_after r v (Mair el)) s.mair;
+      vbar = bank (λ el. sys_after r v (Vbar el)) s.vbar;
+      elr = bank (λ el. sys_after r v (Elr el)) s.elr;
+      spsr = bank (λ el. sys_after r v (Spsr el)) s.spsr;
+      esr = bank (λ el. sys_after r v (Esr el)) s.esr;
+      far = bank (λ el. sys_after r v (Far el)) s.far;
+      vpidr_el2 = sys_after r v Vpidr s.vpidr_el2;
+      vmpidr_el2 = sys_after r v Vmpidr s.vmpidr_el2;
+      par_el1 = sys_after r v Par s.par_el1;
     }
 
 abbrev pub WriteAnswer : Type 0
@@ -87,17 +87,17 @@ abbrev pub ended : Control → SysRegs → WriteAnswer → Written
 ended c s a = record { control = c; sys = s; answer = a }
 
 abbrev pub wrote : Control → SysRegs → Register → ℕ → Written
-wrote c s (InControl r) v = ended (controlWith c r v) s Done
-wrote c s (InSys r) v = ended c (sysWith s r v) Done
+wrote c s (InControl r) v = ended (control_with c r v) s Done
+wrote c s (InSys r) v = ended c (sys_with s r v) Done
 
 -- A key that names no register is refused first; then EL0 may write none; then the register is written. M22, R1: below the
 -- register's own level too. M7: at Non-secure EL1 HCR_EL2 could trap the write
-abbrev pub writeFound : Control → SysRegs → ℕ → Option Register → ℕ → Written
-writeFound c s level None v = ended c s (Err NoRegister)
-writeFound c s level (Some r) v = if eqb level 0 then ended c s (Err Undefined) else wrote c s r v
+abbrev pub write_found : Control → SysRegs → ℕ → Option Register → ℕ → Written
+write_found c s level None v = ended c s (Err NoRegister)
+write_found c s level (Some r) v = if eqb level 0 then ended c s (Err Undefined) else wrote c s r v
 
-unfoldable pub writeReg : Control → SysRegs → ℕ → ℕ → ℕ → Written
-writeReg c s level k v = writeFound c s level (registerAt k) v
+unfoldable pub write_reg : Control → SysRegs → ℕ → ℕ → ℕ → Written
+write_reg c s level k v = write_found c s level (register_at k) v
 
 -- An answer in the words of the scope's table: a refusal has a number.
 pub data Reply : Type 0 where
@@ -105,10 +105,10 @@ pub data Reply : Type 0 where
   undefined : Reply
   refusal : ℕ → Reply
 
-abbrev pub replyOf : WriteAnswer → Reply
-replyOf (Ok x) = done
-replyOf (Err Undefined) = undefined
-replyOf (Err NoRegister) = refusal 6
+abbrev pub reply_of : WriteAnswer → Reply
+reply_of (Ok x) = done
+reply_of (Err Undefined) = undefined
+reply_of (Err NoRegister) = refusal 6
 
 -- the key is a banked register's or PAR_EL1's
 abbrev pub names : Option Register → Bool
@@ -116,5 +116,5 @@ names (Some r) = true
 names None = false
 
 -- the table's rows for a register write, from top to bottom
-abbrev pub replyTo : ℕ → ℕ → Reply
-replyTo level k = if names (registerAt k) then if eqb level 0 then undefined else done else refusal 6
+abbrev pub reply_to : ℕ → ℕ → Reply
+reply_to level k = if names (register_at k) then if eqb level 0 then undefined else done else refusal 6

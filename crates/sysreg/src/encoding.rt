@@ -1,6 +1,6 @@
 // Encodings of system registers, and the register that one names.
 ghost use Rattle.std.specs.Prelude.{◌≡◌};
-ghost use Rattle.sysreg.specs.Encoding.{keyWord, bankedAt, registerAt};
+ghost use Rattle.sysreg.specs.Encoding.{key_word, banked_at, register_at};
 
 use crate::regs::{ControlReg, El, Register, SysReg};
 
@@ -9,15 +9,15 @@ pub const PAR_EL1: u32 = 0xC3A0;
 
 // The encoding op0:op1:CRn:CRm:op2, as in bits 20 to 5 of MRS and MSR.
 pub fn key(op0: u32, op1: u32, crn: u32, crm: u32, op2: u32) -> u32
-    ensures { result ≡ keyWord op0 op1 crn crm op2 }
+    ensures { result ≡ key_word op0 op1 crn crm op2 }
 {
     (op0 << 14) | (op1 << 11) | (crn << 7) | (crm << 3) | op2
 }
 
 // The banked register that an encoding names.
-#[tactic(auto, unfolding(crate::specs::Encoding::bankedAt))]
+#[tactic(auto, unfolding(crate::specs::Encoding::banked_at))]
 pub fn banked(k: u32) -> Option<Register>
-    ensures { result ≡ bankedAt k }
+    ensures { result ≡ banked_at k }
 {
     Some(match k {
         0xC080 => Register::InControl(ControlReg::Sctlr(El::El1)),
@@ -57,9 +57,9 @@ pub fn banked(k: u32) -> Option<Register>
 }
 
 // The register kept that an encoding names: PAR_EL1 or a banked one.
-#[tactic(auto, unfolding(crate::specs::Encoding::registerAt))]
+#[tactic(auto, unfolding(crate::specs::Encoding::register_at))]
 pub fn named(k: u32) -> Option<Register>
-    ensures { result ≡ registerAt k }
+    ensures { result ≡ register_at k }
 {
     if k == PAR_EL1 {
         Some(Register::InSys(SysReg::Par))

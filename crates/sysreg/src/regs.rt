@@ -1,7 +1,7 @@
 // The registers as two structs: what translation reads, and the rest. An array is indexed by exception level; index
 // 0 is never written.
 ghost use Rattle.std.specs.Prelude.{◌≡◌, ◌<◌};
-ghost use Rattle.sysreg.specs.Regs.{levelOf, freshControl, freshSys};
+ghost use Rattle.sysreg.specs.Regs.{level_of, fresh_control, fresh_sys};
 
 // All that translation reads.
 #[derive(Clone, Copy)]
@@ -71,7 +71,7 @@ pub enum Register {
 impl El {
     // The place of the level's instance in an array.
     pub fn index(self) -> usize
-        ensures value { result ≡ levelOf self }
+        ensures value { result ≡ level_of self }
         ensures upper_bound { result < 4 }
     {
         match self {
@@ -84,9 +84,9 @@ impl El {
 
 impl Control {
     // SCTLR_ELx have their RES1 bits, and what reset leaves unknown is 0.
-    #[tactic(auto, unfolding(crate::specs::Regs::freshControl))]
+    #[tactic(auto, unfolding(crate::specs::Regs::fresh_control))]
     pub fn new() -> Self
-        ensures { result ≡ freshControl }
+        ensures { result ≡ fresh_control }
     {
         Control {
             sctlr: [0, 0x30D0_0800, 0x30C5_0830, 0x30C5_0830],
@@ -101,9 +101,9 @@ impl Control {
 
 impl SysRegs {
     // VPIDR_EL2 and VMPIDR_EL2 start as the identity of core 0, so that EL1 sees it where EL2 sets nothing.
-    #[tactic(auto, unfolding(crate::specs::Regs::freshSys))]
+    #[tactic(auto, unfolding(crate::specs::Regs::fresh_sys))]
     pub fn new() -> Self
-        ensures { result ≡ freshSys }
+        ensures { result ≡ fresh_sys }
     {
         SysRegs {
             mair: [0; 4],

@@ -1,9 +1,9 @@
 // What holds of every register write and of the shape of a translation. Each function computes nothing: its contract is
 // the theorem.
 ghost use Rattle.std.specs.Prelude.{◌≡◌, ℕ, true, ◌≢◌, Some, None, Err};
-ghost use Rattle.sysreg.specs.Regs.{controlAt, sysAt};
-ghost use Rattle.sysreg.specs.Encoding.{registerAt};
-ghost use Rattle.sysreg.specs.Write.{controlWith, sysWith, ended, writeReg};
+ghost use Rattle.sysreg.specs.Regs.{control_at, sys_at};
+ghost use Rattle.sysreg.specs.Encoding.{register_at};
+ghost use Rattle.sysreg.specs.Write.{control_with, sys_with, ended, write_reg};
 ghost use Rattle.sysreg.specs.Shape.{same_shape};
 ghost use Rattle.sysreg.specs.ShapeLaws.{SameShape};
 ghost use Rattle.sysreg.specs.declared.regs.Control.{Control};
@@ -23,12 +23,12 @@ pub fn shape_of_translations()
 // register that it names and no other.
 pub fn effect_of_writes()
     ensures undefined_at_el0 { (c : Control) (s : SysRegs) (level k v : ℕ) (r : Register)
-        → registerAt k ≡ Some r → level ≡ 0 → writeReg c s level k v ≡ ended c s (Err Undefined) }
+        → register_at k ≡ Some r → level ≡ 0 → write_reg c s level k v ≡ ended c s (Err Undefined) }
     ensures no_register { (c : Control) (s : SysRegs) (level k v : ℕ)
-        → registerAt k ≡ None → writeReg c s level k v ≡ ended c s (Err NoRegister) }
-    ensures control_written { (c : Control) (r : ControlReg) (v : ℕ) → controlAt (controlWith c r v) r ≡ v }
+        → register_at k ≡ None → write_reg c s level k v ≡ ended c s (Err NoRegister) }
+    ensures control_written { (c : Control) (r : ControlReg) (v : ℕ) → control_at (control_with c r v) r ≡ v }
     ensures control_others { (c : Control) (r : ControlReg) (v : ℕ) (q : ControlReg)
-        → q ≢ r → controlAt (controlWith c r v) q ≡ controlAt c q }
+        → q ≢ r → control_at (control_with c r v) q ≡ control_at c q }
     ensures system_others { (s : SysRegs) (r : SysReg) (v : ℕ) (q : SysReg)
-        → q ≢ r → sysAt (sysWith s r v) q ≡ sysAt s q }
+        → q ≢ r → sys_at (sys_with s r v) q ≡ sys_at s q }
 {}

@@ -1,6 +1,6 @@
 // MSR to the registers kept.
 ghost use Rattle.std.specs.Prelude.{◌≡◌, Err};
-ghost use Rattle.sysreg.specs.Write.{kept as keptOf, controlWith, sysWith, writeReg, replyOf, replyTo};
+ghost use Rattle.sysreg.specs.Write.{kept as keptOf, control_with, sys_with, write_reg, reply_of, reply_to};
 
 use crate::encoding::named;
 use crate::regs::{Control, ControlReg, Register, SysReg, SysRegs};
@@ -30,9 +30,9 @@ impl SysReg {
 }
 
 impl Control {
-    #[tactic(auto, using(crate::proofs::Stores::four), unfolding(crate::specs::Write::controlWith))]
+    #[tactic(auto, using(crate::proofs::Stores::four), unfolding(crate::specs::Write::control_with))]
     fn write(&mut self, register: ControlReg, value: u64)
-        ensures { self.new ≡ controlWith self.old register value }
+        ensures { self.new ≡ control_with self.old register value }
     {
         match register {
             ControlReg::Sctlr(el) => self.sctlr[el.index()] = value,
@@ -46,9 +46,9 @@ impl Control {
 }
 
 impl SysRegs {
-    #[tactic(auto, using(crate::proofs::Stores::four), unfolding(crate::specs::Write::sysWith))]
+    #[tactic(auto, using(crate::proofs::Stores::four), unfolding(crate::specs::Write::sys_with))]
     fn write(&mut self, register: SysReg, value: u64)
-        ensures { self.new ≡ sysWith self.old register value }
+        ensures { self.new ≡ sys_with self.old register value }
     {
         let kept = register.kept_bits(value);
         match register {
@@ -67,7 +67,7 @@ impl SysRegs {
 
 // A key that names no register kept is refused; else EL0 may write none; else the register is written. One that is
 // refused changes nothing.
-#[tactic(auto, unfolding(crate::specs::Write::writeReg))]
+#[tactic(auto, unfolding(crate::specs::Write::write_reg))]
 pub fn write_reg(
     control: &mut Control,
     sys: &mut SysRegs,
@@ -75,10 +75,10 @@ pub fn write_reg(
     k: u32,
     value: u64,
 ) -> Result<(), WriteError>
-    ensures answer { result ≡ (writeReg control.old sys.old level k value).answer }
-    ensures control_after { control.new ≡ (writeReg control.old sys.old level k value).control }
-    ensures sys_after { sys.new ≡ (writeReg control.old sys.old level k value).sys }
-    ensures answer_value { replyOf result ≡ replyTo level k }
+    ensures answer { result ≡ (write_reg control.old sys.old level k value).answer }
+    ensures control_after { control.new ≡ (write_reg control.old sys.old level k value).control }
+    ensures sys_after { sys.new ≡ (write_reg control.old sys.old level k value).sys }
+    ensures answer_value { reply_of result ≡ reply_to level k }
     ensures unchanged { (e : WriteError) → result ≡ Err e → (control.new ≡ control.old) × (sys.new ≡ sys.old) }
 {
     let register = named(k).ok_or(WriteError::NoRegister)?;

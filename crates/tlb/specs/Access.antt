@@ -3,59 +3,59 @@ use Rattle.std.specs.Prelude.{if◌then◌else◌, ℕ, ◌+◌, ◌*◌, ◌/�
 use Rattle.fault.specs.First.{first}
 use Rattle.walk.specs.declared.regime.Regime.{Regime}
 use Rattle.walk.specs.declared.regime.Regime.TheVariants.{El1, El2, El3}
-use Rattle.tlb.specs.Hint.{onPage}
+use Rattle.tlb.specs.Hint.{on_page}
 use Rattle.tlb.specs.declared.{entry.Entry.Entry, access.Kind.Kind, access.Privilege.Privilege}
 use Rattle.tlb.specs.declared.access.Answer.{Answer}
 use Rattle.tlb.specs.declared.access.Kind.TheVariants.{Read, Write, Fetch}
 use Rattle.tlb.specs.declared.access.Answer.TheVariants.{Address, Status}
 
-abbrev pub isFetch : Kind → Bool
-isFetch Read = false
-isFetch Write = false
-isFetch Fetch = true
+abbrev pub is_fetch : Kind → Bool
+is_fetch Read = false
+is_fetch Write = false
+is_fetch Fetch = true
 
 -- hints serve reads and writes, and not while the mark holds
-abbrev pub mayHint : Privilege → Kind → Bool
-mayHint privilege kind = not (isFetch kind) && not privilege.unprivileged
+abbrev pub may_hint : Privilege → Kind → Bool
+may_hint privilege kind = not (is_fetch kind) && not privilege.unprivileged
 
-abbrev pub regimeNumber : Regime → ℕ
-regimeNumber El1 = 1
-regimeNumber El2 = 2
-regimeNumber El3 = 3
+abbrev pub regime_number : Regime → ℕ
+regime_number El1 = 1
+regime_number El2 = 2
+regime_number El3 = 3
 
-abbrev pub ifTwoRanges : Regime → Bool → Bool
-ifTwoRanges El1 b = b
-ifTwoRanges El2 b = false
-ifTwoRanges El3 b = false
+abbrev pub if_two_ranges : Regime → Bool → Bool
+if_two_ranges El1 b = b
+if_two_ranges El2 b = false
+if_two_ranges El3 b = false
 
 -- at EL0, or under the mark unless it is a fetch
-abbrev pub countsAsUser : Privilege → Kind → Bool
-countsAsUser privilege kind = privilege.level == 0 || (privilege.unprivileged && not (isFetch kind))
+abbrev pub counts_as_user : Privilege → Kind → Bool
+counts_as_user privilege kind = privilege.level == 0 || (privilege.unprivileged && not (is_fetch kind))
 
 -- in regime 1 alone
-abbrev pub userOf : Regime → Privilege → Kind → Bool
-userOf r privilege kind = ifTwoRanges r (countsAsUser privilege kind)
+abbrev pub user_of : Regime → Privilege → Kind → Bool
+user_of r privilege kind = if_two_ranges r (counts_as_user privilege kind)
 
 -- the untagged page times 4 plus the regime
 abbrev pub tag_of : Regime → ℕ → ℕ
-tag_of r va = va / 4096 * 4 + regimeNumber r
+tag_of r va = va / 4096 * 4 + regime_number r
 
 -- the bit that the access needs: read 0, write 1, fetch 2; the privileged rights stand three higher
-abbrev pub ownRights : Bool → ℕ
-ownRights true = 0
-ownRights false = 3
+abbrev pub own_rights : Bool → ℕ
+own_rights true = 0
+own_rights false = 3
 
-abbrev pub rightPlace : Kind → ℕ
-rightPlace Read = 0
-rightPlace Write = 1
-rightPlace Fetch = 2
+abbrev pub right_place : Kind → ℕ
+right_place Read = 0
+right_place Write = 1
+right_place Fetch = 2
 
-abbrev pub rightOf : Kind → Bool → ℕ
-rightOf kind user = ownRights user + rightPlace kind
+abbrev pub right_of : Kind → Bool → ℕ
+right_of kind user = own_rights user + right_place kind
 
-abbrev pub hasRight : ℕ → ℕ → Bool
-hasRight perms right = perms / 2 ^ right % 2 == 1
+abbrev pub has_right : ℕ → ℕ → Bool
+has_right perms right = perms / 2 ^ right % 2 == 1
 
 -- the entry's page with the low bits of the address, or a permission fault of its level
 unfoldable pub judged : Entry → Bool → Kind → ℕ → Answer
-judged e user kind va = if hasRight e.perms (rightOf kind user) then Address (onPage e.pa va) else Status (first (bit_or 12 e.level))
+judged e user kind va = if has_right e.perms (right_of kind user) then Address (on_page e.pa va) else Status (first (bit_or 12 e.level))

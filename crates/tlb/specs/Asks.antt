@@ -2,7 +2,7 @@
 -- cache.
 use Rattle.std.specs.Prelude.{◌≡◌, ℕ, List, [], ◌∷◌, refl}
 use Rattle.tlb.specs.Model.{Access}
-use Rattle.tlb.specs.Step.{translationIn, tlbAfter, fetchIn, fetchedIn}
+use Rattle.tlb.specs.Step.{translation_in, tlb_after, fetch_in, fetched_in}
 use Rattle.tlb.specs.declared.{access.Kind.Kind, access.Answer.Answer, Tlb.Tlb}
 use Rattle.tlb.specs.declared.access.Kind.TheVariants.{Fetch}
 use Rattle.tlb.specs.declared.access.Answer.TheVariants.{Address, Status}
@@ -39,17 +39,17 @@ onward-same (Status f) x = refl
 -- translation and the cache after it; the answers to a step's, and the cache after them.
 module _ (access : Kind → ℕ → Access) where
   abbrev pub answer_of : Ask → Tlb → Answer
-  answer_of (translates k va) t = (translationIn (access k va) t).answer
-  answer_of (fetches va) t = (fetchIn (access Fetch va) t).answer
+  answer_of (translates k va) t = (translation_in (access k va) t).answer
+  answer_of (fetches va) t = (fetch_in (access Fetch va) t).answer
 
-  abbrev pub tlbAsk : Ask → Tlb → Tlb
-  tlbAsk (translates k va) t = tlbAfter (access k va) t
-  tlbAsk (fetches va) t = fetchedIn (access Fetch va) t
+  abbrev pub tlb_ask : Ask → Tlb → Tlb
+  tlb_ask (translates k va) t = tlb_after (access k va) t
+  tlb_ask (fetches va) t = fetched_in (access Fetch va) t
 
   abbrev pub answers : List Ask → Tlb → List Given
   answers [] t = []
-  answers (a ∷ l) t = record { ask = a; answer = answer_of a t } ∷ onward (answer_of a t) (answers l (tlbAsk a t)) []
+  answers (a ∷ l) t = record { ask = a; answer = answer_of a t } ∷ onward (answer_of a t) (answers l (tlb_ask a t)) []
 
-  abbrev pub tlbAsks : List Ask → Tlb → Tlb
-  tlbAsks [] t = t
-  tlbAsks (a ∷ l) t = onward (answer_of a t) (tlbAsks l (tlbAsk a t)) (tlbAsk a t)
+  abbrev pub tlb_asks : List Ask → Tlb → Tlb
+  tlb_asks [] t = t
+  tlb_asks (a ∷ l) t = onward (answer_of a t) (tlb_asks l (tlb_ask a t)) (tlb_ask a t)

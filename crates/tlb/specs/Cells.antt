@@ -8,12 +8,12 @@ use Rattle.std.proofs.lemmas.Nat.{or_shifted}
 use Rattle.fault.specs.First.{first}
 use Rattle.walk.specs.declared.regime.Regime.{Regime}
 use Rattle.walk.specs.declared.regime.Regime.TheVariants.{El1, El2, El3}
-use Rattle.tlb.specs.Entry.{serves, untagged, span_of, pageDropped, asidDropped}
-use Rattle.tlb.specs.Hint.{onPage, hintKey, hintFor, fetchServes, fetchFor}
-use Rattle.tlb.specs.Access.{isFetch, mayHint, regimeNumber, ifTwoRanges, userOf, rightOf, hasRight, judged}
-use Rattle.tlb.specs.Model.{Slot, empty, holds, Line, reachOf, reaches, belongsTo, spanBits, covers, uncovered, sameRegime, serving, knowing, Access}
-use Rattle.tlb.specs.Model.{asUser, need, needIn, judge, hintable}
-use Rattle.tlb.specs.Live.{lineIn, tagged, line_of, hintOf, fetchHintOf, Made}
+use Rattle.tlb.specs.Entry.{serves, untagged, span_of, page_dropped, asid_dropped}
+use Rattle.tlb.specs.Hint.{on_page, hint_key, hint_for, fetch_serves, fetch_for}
+use Rattle.tlb.specs.Access.{is_fetch, may_hint, regime_number, if_two_ranges, user_of, right_of, has_right, judged}
+use Rattle.tlb.specs.Model.{Slot, empty, holds, Line, reach_of, reaches, belongs_to, span_bits, covers, uncovered, same_regime, serving, knowing, Access}
+use Rattle.tlb.specs.Model.{as_user, need, need_in, judge, hintable}
+use Rattle.tlb.specs.Live.{line_in, tagged, line_of, hint_of, fetch_hint_of, Made}
 use Rattle.tlb.specs.declared.{entry.Entry.Entry, entry.Current.Current, access.Kind.Kind, hint.Hint.Hint}
 use Rattle.tlb.specs.declared.{hint.FetchHint.FetchHint, access.Privilege.Privilege, Inval.Inval}
 use Rattle.tlb.specs.declared.access.Kind.TheVariants.{Read, Write, Fetch}
@@ -47,21 +47,21 @@ both-parts m k v l pos h = go (k == v * m + l) refl
     go true e = let q : k ≡ v * m + l = eqb-true _ _ e in e ∙ sym (rw (eq-eqb _ _ (high q), eq-eqb _ _ (low q)))
     go false e = e ∙ sym (apart _ _ refl refl (eqb-false _ _ e))
 
-pub regime-low : (r : Regime) → regimeNumber r < 4
+pub regime-low : (r : Regime) → regime_number r < 4
 regime-low El1 = omega arith
 regime-low El2 = omega arith
 regime-low El3 = omega arith
 
 -- LINES
 
-reach-is : (g : Bool) (n a : ℕ) → reaches (reachOf g n) a ≡ (g || n == a)
+reach-is : (g : Bool) (n a : ℕ) → reaches (reach_of g n) a ≡ (g || n == a)
 reach-is true n a = refl
 reach-is false n a = refl
 
 module _ (a p : ℕ) (e : Entry) where
   in-regime : (r s : Regime) (x : Bool)
-      → if (x && sameRegime s r) && reaches (reachOf e.global e.asid) a then holds (lineIn s e) else empty
-      ≡ (if (x && regimeNumber s == regimeNumber r) && (e.global || e.asid == a) then holds (lineIn r e) else empty)
+      → if (x && same_regime s r) && reaches (reach_of e.global e.asid) a then holds (line_in s e) else empty
+      ≡ (if (x && regime_number s == regime_number r) && (e.global || e.asid == a) then holds (line_in r e) else empty)
   in-regime El1 El1 x = rw reach-is
   in-regime El1 El2 x = rw and-false
   in-regime El1 El3 x = rw and-false
@@ -72,14 +72,14 @@ module _ (a p : ℕ) (e : Entry) where
   in-regime El3 El2 x = rw and-false
   in-regime El3 El3 x = rw reach-is
 
-  no-regime : (r : Regime) (x y : Bool) → (x && 0 == regimeNumber r) && y ≡ false
+  no-regime : (r : Regime) (x y : Bool) → (x && 0 == regime_number r) && y ≡ false
   no-regime El1 x y = rw and-false
   no-regime El2 x y = rw and-false
   no-regime El3 x y = rw and-false
 
   by-tag : (r : Regime) (n : ℕ) → e.tag % 4 ≡ n
       → serving a r p (tagged n e)
-      ≡ (if (e.tag / 4 == p && n == regimeNumber r) && (e.global || e.asid == a) then holds (lineIn r e) else empty)
+      ≡ (if (e.tag / 4 == p && n == regime_number r) && (e.global || e.asid == a) then holds (line_in r e) else empty)
   by-tag r zero q = rw no-regime
   by-tag r (suc zero) q = in-regime r El1 (e.tag / 4 == p)
   by-tag r (suc (suc zero)) q = in-regime r El2 (e.tag / 4 == p)
@@ -89,40 +89,40 @@ module _ (a p : ℕ) (e : Entry) where
 -- an entry serves a tag just where its line serves the page and the regime
 pub found : (at : Current) (r : Regime) (p : ℕ) (e : Entry)
     → serving at.asid r p (line_of at.generation e)
-    ≡ (if serves e at (p * 4 + regimeNumber r) then holds (lineIn r e) else empty)
+    ≡ (if serves e at (p * 4 + regime_number r) then holds (line_in r e) else empty)
 unfolding line_of
-found at r p e = rw (both-parts 4 e.tag p (regimeNumber r) (omega arith) (regime-low r)) (go (e.generation == at.generation) refl)
+found at r p e = rw (both-parts 4 e.tag p (regime_number r) (omega arith) (regime-low r)) (go (e.generation == at.generation) refl)
   where
     go : (b : Bool) → (e.generation == at.generation) ≡ b
         → serving at.asid r p (if e.generation == at.generation then tagged (e.tag % 4) e else empty)
-        ≡ (if ((e.tag / 4 == p && e.tag % 4 == regimeNumber r) && e.generation == at.generation) && (e.global || e.asid == at.asid) then holds (lineIn r e)
-          else empty)
+        ≡ (if ((e.tag / 4 == p && e.tag % 4 == regime_number r) && e.generation == at.generation) && (e.global || e.asid == at.asid) then holds (line_in r e)
+        else empty)
     go true f = rw (f, and-true) (by-tag at.asid p e r (e.tag % 4) refl)
     go false f = rw (f, and-false)
 
 -- an entry of the present generation with a regime's tag is a line
-pub line_made : (g p : ℕ) (r : Regime) (e : Entry) → e.generation ≡ g → e.tag ≡ p * 4 + regimeNumber r
-    → line_of g e ≡ holds (lineIn r e)
+pub line_made : (g p : ℕ) (r : Regime) (e : Entry) → e.generation ≡ g → e.tag ≡ p * 4 + regime_number r
+    → line_of g e ≡ holds (line_in r e)
 unfolding line_of
 line_made g p El1 e q t = let n : e.tag % 4 ≡ 1 = omega arith in rw (eq-eqb _ _ q, n)
 line_made g p El2 e q t = let n : e.tag % 4 ≡ 2 = omega arith in rw (eq-eqb _ _ q, n)
 line_made g p El3 e q t = let n : e.tag % 4 ≡ 3 = omega arith in rw (eq-eqb _ _ q, n)
 
 -- where the physical page is aligned, its address and the low bits add up; so do the fault's code and a level
-pub or-page : (pa va : ℕ) → pa % 4096 ≡ 0 → onPage pa va ≡ pa + va % 4096
+pub or-page : (pa va : ℕ) → pa % 4096 ≡ 0 → on_page pa va ≡ pa + va % 4096
 or-page pa va q =
     let whole : pa ≡ pa / 4096 * 2 ^ 12 = omega arith in
     ap (λ (n : ℕ). bit_or n (va % 4096)) whole ∙ or_shifted (pa / 4096) 12 (va % 4096) (omega arith)
     ∙ ap (λ (n : ℕ). n + va % 4096) (sym whole)
 
-pub on-aligned : (pa va : ℕ) → pa % 4096 ≡ 0 → onPage pa va ≡ pa / 4096 * 4096 + va % 4096
+pub on-aligned : (pa va : ℕ) → pa % 4096 ≡ 0 → on_page pa va ≡ pa / 4096 * 4096 + va % 4096
 on-aligned pa va q = or-page pa va q ∙ omega arith
 
 pub or-level : (l : ℕ) → l ≤ 3 → bit_or 12 l ≡ 12 + l
 or-level l h = or_shifted 3 2 l (omega arith)
 
 user-is : (r : Regime) (level : ℕ) (mark : Bool) (k : Kind)
-    → ifTwoRanges r (level == 0 || (mark && not (isFetch k))) ≡ asUser r level mark k
+    → if_two_ranges r (level == 0 || (mark && not (is_fetch k))) ≡ as_user r level mark k
 user-is El1 zero mark k = refl
 user-is El1 (suc n) mark Read = rw (eqb-suc-zero n, and-true)
 user-is El1 (suc n) mark Write = rw (eqb-suc-zero n, and-true)
@@ -130,7 +130,7 @@ user-is El1 (suc n) mark Fetch = rw (eqb-suc-zero n, and-false)
 user-is El2 level mark k = refl
 user-is El3 level mark k = refl
 
-right_is : (k : Kind) (user : Bool) (perms : ℕ) → hasRight perms (rightOf k user) ≡ (perms / need k user % 2 == 1)
+right_is : (k : Kind) (user : Bool) (perms : ℕ) → has_right perms (right_of k user) ≡ (perms / need k user % 2 == 1)
 right_is Read true perms = refl
 right_is Write true perms = refl
 right_is Fetch true perms = refl
@@ -138,23 +138,23 @@ right_is Read false perms = refl
 right_is Write false perms = refl
 right_is Fetch false perms = refl
 
-pub may-is : (privilege : Privilege) (k : Kind) → mayHint privilege k ≡ hintable k privilege.unprivileged
+pub may-is : (privilege : Privilege) (k : Kind) → may_hint privilege k ≡ hintable k privilege.unprivileged
 may-is privilege Read = refl
 may-is privilege Write = refl
 may-is privilege Fetch = refl
 
 pub judged-is : (g : ℕ) (r : Regime) (e : Entry) (a : Access) → Made g e
-    → judged e (userOf a.regime a.privilege a.kind) a.kind a.va ≡ judge (lineIn r e) a
+    → judged e (user_of a.regime a.privilege a.kind) a.kind a.va ≡ judge (line_in r e) a
 unfolding judged judge
 judged-is g r e a m =
-    let has : hasRight e.perms (rightOf a.kind (userOf a.regime a.privilege a.kind)) ≡ nat_eq (e.perms / needIn a % 2) 1 =
-    ap (λ (u : Bool). hasRight e.perms (rightOf a.kind u)) (user-is a.regime a.privilege.level a.privilege.unprivileged a.kind)
+    let has : has_right e.perms (right_of a.kind (user_of a.regime a.privilege a.kind)) ≡ nat_eq (e.perms / need_in a % 2) 1 =
+    ap (λ (u : Bool). has_right e.perms (right_of a.kind u)) (user-is a.regime a.privilege.level a.privilege.unprivileged a.kind)
     ∙ right_is a.kind _ e.perms in
     λ i. if has i then Address (on-aligned e.pa a.va m.aligned i) else Status (first (or-level e.level m.level i))
 
 -- DROPS
 
-span-is : (l : ℕ) → span_of l ≡ spanBits l
+span-is : (l : ℕ) → span_of l ≡ span_bits l
 span-is zero = refl
 span-is (suc zero) = refl
 span-is (suc (suc zero)) = refl
@@ -165,9 +165,9 @@ same-pick true x = refl
 same-pick false x = refl
 
 -- what drops an entry just where it covers its line drops the line
-module _ (what : Inval) (e : Entry) (d : Bool) (q : (r : Regime) → covers what (lineIn r e) ≡ d) where
-  dropped : (r : Regime) → uncovered what (holds (lineIn r e)) ≡ (if d then empty else holds (lineIn r e))
-  dropped r = ap (λ (b : Bool). (if b then empty else holds (lineIn r e))) (q r)
+module _ (what : Inval) (e : Entry) (d : Bool) (q : (r : Regime) → covers what (line_in r e) ≡ d) where
+  dropped : (r : Regime) → uncovered what (holds (line_in r e)) ≡ (if d then empty else holds (line_in r e))
+  dropped r = ap (λ (b : Bool). (if b then empty else holds (line_in r e))) (q r)
 
   tag-drops : (n : ℕ) → uncovered what (tagged n e) ≡ (if d then empty else tagged n e)
   tag-drops zero = sym (same-pick d empty)
@@ -190,22 +190,22 @@ pub none_before : (g : ℕ) (e : Entry) → (e.generation ≢ g) → line_of g e
 unfolding line_of
 none_before g e ne = rw (ne_eqb _ _ ne)
 
-pub page-drops : (g page : ℕ) (e : Entry) → line_of g (pageDropped g page e) ≡ uncovered (Page page) (line_of g e)
-unfolding pageDropped
+pub page-drops : (g page : ℕ) (e : Entry) → line_of g (page_dropped g page e) ≡ uncovered (Page page) (line_of g e)
+unfolding page_dropped
 page-drops g page e = go (e.generation == g) refl
   where
     same : Bool
     same = e.tag / 4 % 2 ^ 44 / 2 ^ span_of e.level == page % 2 ^ 44 / 2 ^ span_of e.level
 
-    go : (b : Bool) → (e.generation == g) ≡ b → line_of g (pageDropped g page e) ≡ uncovered (Page page) (line_of g e)
+    go : (b : Bool) → (e.generation == g) ≡ b → line_of g (page_dropped g page e) ≡ uncovered (Page page) (line_of g e)
     go true f = rw f (drops (Page page) e same (λ r. rw span-is) g (eqb-true _ _ f))
     go false f = rw (f, none_before g e (eqb-false _ _ f))
 
-pub asid-drops : (g asid : ℕ) (e : Entry) → line_of g (asidDropped asid e) ≡ uncovered (Asid asid) (line_of g e)
-unfolding asidDropped
+pub asid-drops : (g asid : ℕ) (e : Entry) → line_of g (asid_dropped asid e) ≡ uncovered (Asid asid) (line_of g e)
+unfolding asid_dropped
 asid-drops g asid e = go (e.generation == g) refl
   where
-    own : (b : Bool) → belongsTo (reachOf b e.asid) asid ≡ (not b && e.asid == asid)
+    own : (b : Bool) → belongs_to (reach_of b e.asid) asid ≡ (not b && e.asid == asid)
     own true = refl
     own false = refl
 
@@ -213,7 +213,7 @@ asid-drops g asid e = go (e.generation == g) refl
     stale true ne = none_before g (untagged e) ne
     stale false ne = none_before g e ne
 
-    go : (b : Bool) → (e.generation == g) ≡ b → line_of g (asidDropped asid e) ≡ uncovered (Asid asid) (line_of g e)
+    go : (b : Bool) → (e.generation == g) ≡ b → line_of g (asid_dropped asid e) ≡ uncovered (Asid asid) (line_of g e)
     go true f = drops (Asid asid) e _ (λ r. own e.global) g (eqb-true _ _ f)
     go false f = stale (not e.global && e.asid == asid) (eqb-false _ _ f) ∙ rw (none_before g e (eqb-false _ _ f))
 
@@ -228,8 +228,8 @@ flush-drops g e h = none_before (g + 1) e (λ q. omega arith)
 -- HINTS
 
 pub known_is : (h : Hint) (va level : ℕ) → level ≤ 3
-    → knowing (va / 4096) level (hintOf h) ≡ (if h.key == hintKey va level then holds (h.pa / 4096) else empty)
-unfolding hintOf
+    → knowing (va / 4096) level (hint_of h) ≡ (if h.key == hint_key va level then holds (h.pa / 4096) else empty)
+unfolding hint_of
 known_is h va level low = rw (both-parts 4096 h.key (va / 4096) level (omega arith) (omega arith)) (go (nat_le (h.key % 4096) 3) refl)
   where
     go : (b : Bool) → nat_le (h.key % 4096) 3 ≡ b
@@ -242,17 +242,17 @@ known_is h va level low = rw (both-parts 4096 h.key (va / 4096) level (omega ari
         rw (f, ne_eqb (h.key % 4096) level (λ q. omega arith), and-false)
 
 pub hint-made : (va level pa : ℕ) → level ≤ 3
-    → hintOf (hintFor va level pa) ≡ holds (record { page = va / 4096; level = level; frame = pa / 4096 })
-unfolding hintOf
+    → hint_of (hint_for va level pa) ≡ holds (record { page = va / 4096; level = level; frame = pa / 4096 })
+unfolding hint_of
 hint-made va level pa low =
-    let l : hintKey va level % 4096 ≡ level = omega arith in
-    let p : hintKey va level / 4096 ≡ va / 4096 = omega arith in
+    let l : hint_key va level % 4096 ≡ level = omega arith in
+    let p : hint_key va level / 4096 ≡ va / 4096 = omega arith in
     let f : pa / 4096 * 4096 / 4096 ≡ pa / 4096 = omega arith in
     rw (l, p, f, le-leb level 3 low)
 
 pub fetch-known-is : (f : FetchHint) (va level : ℕ) → f.page % 4096 ≡ 0
-    → knowing (va / 4096) level (fetchHintOf f) ≡ (if fetchServes f level va then holds (f.pa / 4096) else empty)
-unfolding fetchHintOf
+    → knowing (va / 4096) level (fetch_hint_of f) ≡ (if fetch_serves f level va then holds (f.pa / 4096) else empty)
+unfolding fetch_hint_of
 fetch-known-is f va level q = go f.some refl
   where
     page-is : nat_eq f.page (va / 4096 * 4096) ≡ (f.page / 4096 == va / 4096)
@@ -261,13 +261,13 @@ fetch-known-is f va level q = go f.some refl
         rw (z, q, and-true) at (both-parts 4096 f.page (va / 4096) 0 (omega arith) (omega arith))
 
     go : (b : Bool) → f.some ≡ b
-        → knowing (va / 4096) level (fetchHintOf f) ≡ (if fetchServes f level va then holds (f.pa / 4096) else empty)
+        → knowing (va / 4096) level (fetch_hint_of f) ≡ (if fetch_serves f level va then holds (f.pa / 4096) else empty)
     go true w = rw (w, page-is)
     go false w = rw w
 
 pub fetch-made : (va level pa : ℕ)
-    → fetchHintOf (fetchFor va level pa) ≡ holds (record { page = va / 4096; level = level; frame = pa / 4096 })
-unfolding fetchHintOf
+    → fetch_hint_of (fetch_for va level pa) ≡ holds (record { page = va / 4096; level = level; frame = pa / 4096 })
+unfolding fetch_hint_of
 fetch-made va level pa =
     let p : va / 4096 * 4096 / 4096 ≡ va / 4096 = omega arith in
     let f : pa / 4096 * 4096 / 4096 ≡ pa / 4096 = omega arith in

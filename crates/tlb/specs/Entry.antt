@@ -28,19 +28,19 @@ abbrev pub span_of : ℕ → ℕ
 span_of level = if level == 1 then 18 else if level == 2 then 9 else 0
 
 -- two pages agree in their low 44 bits above those that a leaf of the level spans
-abbrev pub samePage : ℕ → ℕ → ℕ → Bool
-samePage level p q = p % 2 ^ 44 / 2 ^ span_of level == q % 2 ^ 44 / 2 ^ span_of level
+abbrev pub same_page : ℕ → ℕ → ℕ → Bool
+same_page level p q = p % 2 ^ 44 / 2 ^ span_of level == q % 2 ^ 44 / 2 ^ span_of level
 
 -- a Page drops it: it is of the generation, and its leaf spans the page
 abbrev pub named : ℕ → ℕ → Entry → Bool
-named g page e = e.generation == g && samePage e.level (e.tag / 4) page
+named g page e = e.generation == g && same_page e.level (e.tag / 4) page
 
-unfoldable pub pageDropped : ℕ → ℕ → Entry → Entry
-pageDropped g page e = if named g page e then untagged e else e
+unfoldable pub page_dropped : ℕ → ℕ → Entry → Entry
+page_dropped g page e = if named g page e then untagged e else e
 
 -- an Asid drops it, of whatever generation it is
-abbrev pub walkedFor : ℕ → Entry → Bool
-walkedFor n e = not e.global && e.asid == n
+abbrev pub walked_for : ℕ → Entry → Bool
+walked_for n e = not e.global && e.asid == n
 
-unfoldable pub asidDropped : ℕ → Entry → Entry
-asidDropped n e = if walkedFor n e then untagged e else e
+unfoldable pub asid_dropped : ℕ → Entry → Entry
+asid_dropped n e = if walked_for n e then untagged e else e

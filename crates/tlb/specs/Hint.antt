@@ -4,44 +4,44 @@ use Rattle.tlb.specs.declared.{access.Kind.Kind, hint.Hint.Hint, hint.FetchHint.
 use Rattle.tlb.specs.declared.access.Kind.TheVariants.{Read, Write, Fetch}
 
 -- the hint that matches no key
-abbrev pub noHint : Hint
-noHint = record { key = 2 ^ 64 - 1; pa = 0 }
+abbrev pub no_hint : Hint
+no_hint = record { key = 2 ^ 64 - 1; pa = 0 }
 
-abbrev pub noFetch : FetchHint
-noFetch = record { some = false; page = 0; level = 0; pa = 0 }
+abbrev pub no_fetch : FetchHint
+no_fetch = record { some = false; page = 0; level = 0; pa = 0 }
 
 -- the address of an address's page
 abbrev pub page_of : ℕ → ℕ
 page_of va = va / 4096 * 4096
 
 -- the physical page pa, with the low twelve bits of va
-abbrev pub onPage : ℕ → ℕ → ℕ
-onPage pa va = bit_or pa (va % 4096)
+abbrev pub on_page : ℕ → ℕ → ℕ
+on_page pa va = bit_or pa (va % 4096)
 
 -- a page's place among 256
 unfoldable pub place_of : ℕ → ℕ
 place_of page = bit_xor (bit_xor page (page / 2 ^ 5)) (page / 2 ^ 10) % 256
 
 -- reads in the first 256, writes in the next; a fetch has no place below 512
-abbrev pub firstPlace : Kind → ℕ
-firstPlace Read = 0
-firstPlace Write = 256
-firstPlace Fetch = 768
+abbrev pub first_place : Kind → ℕ
+first_place Read = 0
+first_place Write = 256
+first_place Fetch = 768
 
-abbrev pub dataSlot : ℕ → Kind → ℕ
-dataSlot va kind = firstPlace kind + place_of (va / 4096)
+abbrev pub data_slot : ℕ → Kind → ℕ
+data_slot va kind = first_place kind + place_of (va / 4096)
 
-abbrev pub hintKey : ℕ → ℕ → ℕ
-hintKey va level = page_of va + level
+abbrev pub hint_key : ℕ → ℕ → ℕ
+hint_key va level = page_of va + level
 
-abbrev pub hintFor : ℕ → ℕ → ℕ → Hint
-hintFor va level pa = record { key = hintKey va level; pa = page_of pa }
+abbrev pub hint_for : ℕ → ℕ → ℕ → Hint
+hint_for va level pa = record { key = hint_key va level; pa = page_of pa }
 
-abbrev pub fetchFor : ℕ → ℕ → ℕ → FetchHint
-fetchFor va level pa = record { some = true; page = page_of va; level = level; pa = page_of pa }
+abbrev pub fetch_for : ℕ → ℕ → ℕ → FetchHint
+fetch_for va level pa = record { some = true; page = page_of va; level = level; pa = page_of pa }
 
-abbrev pub fetchServes : FetchHint → ℕ → ℕ → Bool
-fetchServes f level va = (f.some && f.page == page_of va) && f.level == level
+abbrev pub fetch_serves : FetchHint → ℕ → ℕ → Bool
+fetch_serves f level va = (f.some && f.page == page_of va) && f.level == level
 
-abbrev pub fetchFound : FetchHint → ℕ → ℕ → Option ℕ
-fetchFound f level va = if fetchServes f level va then Some (onPage f.pa va) else None
+abbrev pub fetch_found : FetchHint → ℕ → ℕ → Option ℕ
+fetch_found f level va = if fetch_serves f level va then Some (on_page f.pa va) else None

@@ -3,59 +3,59 @@ use Rattle.std.specs.Prelude.{if◌then◌else◌, ◌≡◌, ℕ, zero, suc, �
 use Rattle.walk.specs.declared.{regime.Regime.Regime, level.Leaf.Leaf}
 use Rattle.walk.specs.declared.regime.Regime.TheVariants.{El1, El2, El3}
 use Rattle.tlb.specs.Entry.{blank}
-use Rattle.tlb.specs.Hint.{noHint}
-use Rattle.tlb.specs.Count.{tallyAt}
+use Rattle.tlb.specs.Hint.{no_hint}
+use Rattle.tlb.specs.Count.{tally_at}
 use Rattle.tlb.specs.Lists.{Each}
-use Rattle.tlb.specs.Model.{Slot, empty, holds, Line, Known, Counters, Model, Outcome, reachOf}
+use Rattle.tlb.specs.Model.{Slot, empty, holds, Line, Known, Counters, Model, Outcome, reach_of}
 use Rattle.tlb.specs.declared.{entry.Entry.Entry, access.Answer.Answer, hint.Hint.Hint, hint.FetchHint.FetchHint}
 use Rattle.tlb.specs.declared.{count.Counts.Counts, cache.Cache.Cache, Tlb.Tlb, Inval.Inval}
 use Rattle.walk.specs.Answers.{Walked}
 
 -- what an entry says of its page, in the regime r
-abbrev pub lineIn : Regime → Entry → Line
-lineIn r e =
+abbrev pub line_in : Regime → Entry → Line
+line_in r e =
     record {
       page = e.tag / 4;
       regime = r;
       frame = e.pa / 4096;
       perms = e.perms;
       level = e.level;
-      reach = reachOf e.global e.asid;
+      reach = reach_of e.global e.asid;
     }
 
 -- the low two bits of a tag are the regime; no access has a tag with 0 there
 abbrev pub tagged : ℕ → Entry → Slot Line
 tagged zero e = empty
-tagged (suc zero) e = holds (lineIn El1 e)
-tagged (suc (suc zero)) e = holds (lineIn El2 e)
-tagged (suc (suc (suc n))) e = holds (lineIn El3 e)
+tagged (suc zero) e = holds (line_in El1 e)
+tagged (suc (suc zero)) e = holds (line_in El2 e)
+tagged (suc (suc (suc n))) e = holds (line_in El3 e)
 
 -- an entry of another generation is no line
 unfoldable pub line_of : ℕ → Entry → Slot Line
 line_of g e = if e.generation == g then tagged (e.tag % 4) e else empty
 
 -- the low twelve bits of a key are the level; no access has a level above 3
-unfoldable pub hintOf : Hint → Slot Known
-hintOf h = if nat_le (h.key % 4096) 3 then holds (record { page = h.key / 4096; level = h.key % 4096; frame = h.pa / 4096 }) else empty
+unfoldable pub hint_of : Hint → Slot Known
+hint_of h = if nat_le (h.key % 4096) 3 then holds (record { page = h.key / 4096; level = h.key % 4096; frame = h.pa / 4096 }) else empty
 
-unfoldable pub fetchHintOf : FetchHint → Slot Known
-fetchHintOf f = if f.some then holds (record { page = f.page / 4096; level = f.level; frame = f.pa / 4096 }) else empty
+unfoldable pub fetch_hint_of : FetchHint → Slot Known
+fetch_hint_of f = if f.some then holds (record { page = f.page / 4096; level = f.level; frame = f.pa / 4096 }) else empty
 
-abbrev pub pendingOf : Option Inval → Slot Inval
-pendingOf None = empty
-pendingOf (Some what) = holds what
+abbrev pub pending_of : Option Inval → Slot Inval
+pending_of None = empty
+pending_of (Some what) = holds what
 
 unfoldable pub lines_of : ℕ → List Entry → ℕ → Slot Line
 lines_of g es i = line_of g (slice_index_or es i blank)
 
-unfoldable pub hintsOf : List Hint → ℕ → Slot Known
-hintsOf hs i = hintOf (slice_index_or hs i noHint)
+unfoldable pub hints_of : List Hint → ℕ → Slot Known
+hints_of hs i = hint_of (slice_index_or hs i no_hint)
 
-abbrev pub countersOf : Counts → Counters
-countersOf k =
+abbrev pub counters_of : Counts → Counters
+counters_of k =
     record {
-      hits = λ l. (tallyAt k l).hits;
-      walks = λ l. (tallyAt k l).walks;
+      hits = λ l. (tally_at k l).hits;
+      walks = λ l. (tally_at k l).walks;
       flushes = k.flushes;
       drops = k.drops;
       epoch = k.epoch;
@@ -66,10 +66,10 @@ live t =
     record {
       asid = t.cache.current.asid;
       lines = lines_of t.cache.current.generation t.cache.entries;
-      hints = hintsOf t.cache.hints;
-      fetch = fetchHintOf t.cache.fetch;
-      counts = countersOf t.counts;
-      pending = pendingOf t.broadcast;
+      hints = hints_of t.cache.hints;
+      fetch = fetch_hint_of t.cache.fetch;
+      counts = counters_of t.counts;
+      pending = pending_of t.broadcast;
     }
 
 -- an entry that a walk made, of the generation g or an earlier one; a blank one is such, too

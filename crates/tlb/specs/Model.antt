@@ -53,8 +53,8 @@ pub record Model : Type 0 where
   pub counts : Counters
   pub pending : Slot Inval
 
-abbrev pub emptyModel : Model
-emptyModel =
+abbrev pub empty_model : Model
+empty_model =
     record {
       asid = 0;
       lines = λ i. empty;
@@ -70,23 +70,23 @@ abbrev pub up : ℕ → ℕ
 up n = (n + 1) % 2 ^ 64
 
 -- of one level
-abbrev pub upAt : ℕ → (ℕ → ℕ) → ℕ → ℕ
-upAt level f l = if l == level then up (f l) else f l
+abbrev pub up_at : ℕ → (ℕ → ℕ) → ℕ → ℕ
+up_at level f l = if l == level then up (f l) else f l
 
-abbrev pub oneHit : ℕ → Counters → Counters
-oneHit level k = record { hits = upAt level k.hits; walks = k.walks; flushes = k.flushes; drops = k.drops; epoch = k.epoch }
+abbrev pub one_hit : ℕ → Counters → Counters
+one_hit level k = record { hits = up_at level k.hits; walks = k.walks; flushes = k.flushes; drops = k.drops; epoch = k.epoch }
 
-abbrev pub oneWalk : ℕ → Counters → Counters
-oneWalk level k = record { hits = k.hits; walks = upAt level k.walks; flushes = k.flushes; drops = k.drops; epoch = k.epoch }
+abbrev pub one_walk : ℕ → Counters → Counters
+one_walk level k = record { hits = k.hits; walks = up_at level k.walks; flushes = k.flushes; drops = k.drops; epoch = k.epoch }
 
-abbrev pub oneFlush : Counters → Counters
-oneFlush k = record { hits = k.hits; walks = k.walks; flushes = up k.flushes; drops = k.drops; epoch = k.epoch }
+abbrev pub one_flush : Counters → Counters
+one_flush k = record { hits = k.hits; walks = k.walks; flushes = up k.flushes; drops = k.drops; epoch = k.epoch }
 
-abbrev pub oneDrop : Counters → Counters
-oneDrop k = record { hits = k.hits; walks = k.walks; flushes = k.flushes; drops = up k.drops; epoch = k.epoch }
+abbrev pub one_drop : Counters → Counters
+one_drop k = record { hits = k.hits; walks = k.walks; flushes = k.flushes; drops = up k.drops; epoch = k.epoch }
 
-abbrev pub oneEpoch : Counters → Counters
-oneEpoch k = record { hits = k.hits; walks = k.walks; flushes = k.flushes; drops = k.drops; epoch = up k.epoch }
+abbrev pub one_epoch : Counters → Counters
+one_epoch k = record { hits = k.hits; walks = k.walks; flushes = k.flushes; drops = k.drops; epoch = up k.epoch }
 
 -- the model with other counters
 abbrev pub counting : (Counters → Counters) → Model → Model
@@ -96,31 +96,31 @@ counting f m =
 -- INVALIDATION
 
 -- 18, 9 or 0 low bits of a page number lie within a leaf of level 1, 2 or 3
-abbrev pub spanBits : ℕ → ℕ
-spanBits zero = 0
-spanBits (suc zero) = 18
-spanBits (suc (suc zero)) = 9
-spanBits (suc (suc (suc n))) = 0
+abbrev pub span_bits : ℕ → ℕ
+span_bits zero = 0
+span_bits (suc zero) = 18
+span_bits (suc (suc zero)) = 9
+span_bits (suc (suc (suc n))) = 0
 
-abbrev pub belongsTo : Reach → ℕ → Bool
-belongsTo everyone a = false
-belongsTo (only b) a = b == a
+abbrev pub belongs_to : Reach → ℕ → Bool
+belongs_to everyone a = false
+belongs_to (only b) a = b == a
 
 -- All covers every line; a Page those whose page's low 44 bits agree with its own above the leaf's span; an Asid its own
 abbrev pub covers : Inval → Line → Bool
 covers All l = true
-covers (Page n) l = l.page % 2 ^ 44 / 2 ^ spanBits l.level == n % 2 ^ 44 / 2 ^ spanBits l.level
-covers (Asid a) l = belongsTo l.reach a
+covers (Page n) l = l.page % 2 ^ 44 / 2 ^ span_bits l.level == n % 2 ^ 44 / 2 ^ span_bits l.level
+covers (Asid a) l = belongs_to l.reach a
 
 abbrev pub uncovered : Inval → Slot Line → Slot Line
 uncovered what empty = empty
 uncovered what (holds l) = if covers what l then empty else holds l
 
 -- All counts as a flush, a Page as a drop, whether it matched or not; each moves the epoch, an Asid nothing else
-abbrev pub invalCounted : Inval → Counters → Counters
-invalCounted All k = oneEpoch (oneFlush k)
-invalCounted (Page n) k = oneEpoch (oneDrop k)
-invalCounted (Asid a) k = oneEpoch k
+abbrev pub inval_counted : Inval → Counters → Counters
+inval_counted All k = one_epoch (one_flush k)
+inval_counted (Page n) k = one_epoch (one_drop k)
+inval_counted (Asid a) k = one_epoch k
 
 -- the lines that it covers go, and every hint
 unfoldable pub invalidate : Inval → Model → Model
@@ -130,7 +130,7 @@ invalidate what m =
       lines = λ i. uncovered what (m.lines i);
       hints = λ i. empty;
       fetch = empty;
-      counts = invalCounted what m.counts;
+      counts = inval_counted what m.counts;
       pending = m.pending;
     }
 
@@ -142,7 +142,7 @@ retag a m =
       lines = m.lines;
       hints = λ i. empty;
       fetch = empty;
-      counts = oneEpoch m.counts;
+      counts = one_epoch m.counts;
       pending = m.pending;
     }
 
@@ -173,22 +173,22 @@ abbrev pub reaches : Reach → ℕ → Bool
 reaches everyone a = true
 reaches (only b) a = b == a
 
-abbrev pub sameRegime : Regime → Regime → Bool
-sameRegime El1 El1 = true
-sameRegime El1 El2 = false
-sameRegime El1 El3 = false
-sameRegime El2 El1 = false
-sameRegime El2 El2 = true
-sameRegime El2 El3 = false
-sameRegime El3 El1 = false
-sameRegime El3 El2 = false
-sameRegime El3 El3 = true
+abbrev pub same_regime : Regime → Regime → Bool
+same_regime El1 El1 = true
+same_regime El1 El2 = false
+same_regime El1 El3 = false
+same_regime El2 El1 = false
+same_regime El2 El2 = true
+same_regime El2 El3 = false
+same_regime El3 El1 = false
+same_regime El3 El2 = false
+same_regime El3 El3 = true
 
 -- the line, where it is of the page and the regime and serves the ASID
 abbrev pub serving : ℕ → Regime → ℕ → Slot Line → Slot Line
 serving a r p empty = empty
 serving a r p (holds l) =
-    if (l.page == p && sameRegime l.regime r) && reaches l.reach a then holds l else empty
+    if (l.page == p && same_regime l.regime r) && reaches l.reach a then holds l else empty
 
 -- a page's line stands in the slot of its low ten bits
 unfoldable pub line_for : Model → Regime → ℕ → Slot Line
@@ -201,30 +201,30 @@ keep l m =
 -- HINTS
 
 -- a kind as `data_slot` numbers it
-abbrev pub kindNumber : Kind → ℕ
-kindNumber Read = 1
-kindNumber Write = 2
-kindNumber Fetch = 4
+abbrev pub kind_number : Kind → ℕ
+kind_number Read = 1
+kind_number Write = 2
+kind_number Fetch = 4
 
 -- (p xor p >> 5 xor p >> 10) mod 256
 unfoldable pub folded : ℕ → ℕ
 folded p = bit_xor (bit_xor p (p / 2 ^ 5)) (p / 2 ^ 10) % 256
 
 -- a data hint's place: (kind - 1) * 256, and the raw page folded; a fetch has none below 512
-abbrev pub hintPlace : Kind → ℕ → ℕ
-hintPlace kind va = (kindNumber kind - 1) * 256 + folded (va / 4096)
+abbrev pub hint_place : Kind → ℕ → ℕ
+hint_place kind va = (kind_number kind - 1) * 256 + folded (va / 4096)
 
 -- the physical page of the hint, where it is of the raw page and the level
 abbrev pub knowing : ℕ → ℕ → Slot Known → Slot ℕ
 knowing p l empty = empty
 knowing p l (holds h) = if h.page == p && h.level == l then holds h.frame else empty
 
-abbrev pub keepHint : ℕ → Known → Model → Model
-keepHint place h m =
+abbrev pub keep_hint : ℕ → Known → Model → Model
+keep_hint place h m =
     record m { hints = λ i. if i == place then holds h else m.hints i }
 
-abbrev pub keepFetch : Known → Model → Model
-keepFetch h m =
+abbrev pub keep_fetch : Known → Model → Model
+keep_fetch h m =
     record m { fetch = holds h }
 
 -- TRANSLATION
@@ -244,17 +244,17 @@ pub record Outcome : Type 0 where
   pub after : Model
 
 -- the physical page with the address's low twelve bits
-abbrev pub addressIn : ℕ → ℕ → Answer
-addressIn frame va = Address (frame * 4096 + va % 4096)
+abbrev pub address_in : ℕ → ℕ → Answer
+address_in frame va = Address (frame * 4096 + va % 4096)
 
 -- it is judged as EL0's in regime 1, at level 0, or under the mark unless it is a fetch
-abbrev pub asUser : Regime → ℕ → Bool → Kind → Bool
-asUser El1 zero mark kind = true
-asUser El1 (suc n) mark Read = mark
-asUser El1 (suc n) mark Write = mark
-asUser El1 (suc n) mark Fetch = false
-asUser El2 level mark kind = false
-asUser El3 level mark kind = false
+abbrev pub as_user : Regime → ℕ → Bool → Kind → Bool
+as_user El1 zero mark kind = true
+as_user El1 (suc n) mark Read = mark
+as_user El1 (suc n) mark Write = mark
+as_user El1 (suc n) mark Fetch = false
+as_user El2 level mark kind = false
+as_user El3 level mark kind = false
 
 -- the permission bit that it needs, EL0's or the regime's own
 abbrev pub need : Kind → Bool → ℕ
@@ -265,41 +265,41 @@ need Read false = 8
 need Write false = 16
 need Fetch false = 32
 
-abbrev pub needIn : Access → ℕ
-needIn a = need a.kind (asUser a.regime a.privilege.level a.privilege.unprivileged a.kind)
+abbrev pub need_in : Access → ℕ
+need_in a = need a.kind (as_user a.regime a.privilege.level a.privilege.unprivileged a.kind)
 
 -- 0x0C plus the level, where the line lacks that bit
 unfoldable pub judge : Line → Access → Answer
-judge l a = if l.perms / needIn a % 2 == 1 then addressIn l.frame a.va else Status (first (12 + l.level))
+judge l a = if l.perms / need_in a % 2 == 1 then address_in l.frame a.va else Status (first (12 + l.level))
 
-abbrev pub reachOf : Bool → ℕ → Reach
-reachOf true a = everyone
-reachOf false a = only a
+abbrev pub reach_of : Bool → ℕ → Reach
+reach_of true a = everyone
+reach_of false a = only a
 
-abbrev pub lineOfLeaf : Leaf → Access → ℕ → Line
-lineOfLeaf leaf a asid =
+abbrev pub line_of_leaf : Leaf → Access → ℕ → Line
+line_of_leaf leaf a asid =
     record {
       page = a.untagged / 4096;
       regime = a.regime;
       frame = leaf.oa / 4096;
       perms = leaf.perms;
       level = leaf.level;
-      reach = reachOf leaf.global asid;
+      reach = reach_of leaf.global asid;
     }
 
 -- a walk counts one at the level of the access, which the mark does not lower; a leaf is kept and judged; a fault is the answer and leaves no
 -- line
 unfoldable pub walked : Walked → Access → Model → Outcome
-walked (Err code) a m = record { answer = Status (first code); after = counting (oneWalk a.privilege.level) m }
+walked (Err code) a m = record { answer = Status (first code); after = counting (one_walk a.privilege.level) m }
 walked (Ok leaf) a m =
     record {
-      answer = judge (lineOfLeaf leaf a m.asid) a;
-      after = keep (lineOfLeaf leaf a m.asid) (counting (oneWalk a.privilege.level) m);
+      answer = judge (line_of_leaf leaf a m.asid) a;
+      after = keep (line_of_leaf leaf a m.asid) (counting (one_walk a.privilege.level) m);
     }
 
 -- a line that serves is a hit at that level; where none does, the page is walked
 unfoldable pub looked : Slot Line → Access → Model → Outcome
-looked (holds l) a m = record { answer = judge l a; after = counting (oneHit a.privilege.level) m }
+looked (holds l) a m = record { answer = judge l a; after = counting (one_hit a.privilege.level) m }
 looked empty a m = walked a.walk a m
 
 -- with stage 1 off the answer is the address itself
@@ -312,7 +312,7 @@ abbrev pub known_of : Access → ℕ → Known
 known_of a pa = record { page = a.va / 4096; level = a.privilege.level; frame = pa / 4096 }
 
 abbrev pub noting : Answer → Access → Model → Model
-noting (Address pa) a m = keepHint (hintPlace a.kind a.va) (known_of a pa) m
+noting (Address pa) a m = keep_hint (hint_place a.kind a.va) (known_of a pa) m
 noting (Status f) a m = m
 
 unfoldable pub noted : Access → Outcome → Outcome
@@ -320,11 +320,11 @@ noted a o = record { answer = o.answer; after = noting o.answer a o.after }
 
 -- a hint answers and changes nothing
 unfoldable pub tried : Slot ℕ → Access → Model → Outcome
-tried (holds frame) a m = record { answer = addressIn frame a.va; after = m }
+tried (holds frame) a m = record { answer = address_in frame a.va; after = m }
 tried empty a m = noted a (unhinted a.on a m)
 
 unfoldable pub hinted : Bool → Access → Model → Outcome
-hinted true a m = tried (knowing (a.va / 4096) a.privilege.level (m.hints (hintPlace a.kind a.va))) a m
+hinted true a m = tried (knowing (a.va / 4096) a.privilege.level (m.hints (hint_place a.kind a.va))) a m
 hinted false a m = unhinted a.on a m
 
 -- hints serve reads and writes, and not while the mark is set
@@ -337,16 +337,16 @@ unfoldable pub translate : Access → Model → Outcome
 translate a m = hinted (hintable a.kind a.privilege.unprivileged) a m
 
 -- a fetch asks the fetch hint first, whatever the mark, and leaves one
-abbrev pub notingFetch : Answer → Access → Model → Model
-notingFetch (Address pa) a m = keepFetch (known_of a pa) m
-notingFetch (Status f) a m = m
+abbrev pub noting_fetch : Answer → Access → Model → Model
+noting_fetch (Address pa) a m = keep_fetch (known_of a pa) m
+noting_fetch (Status f) a m = m
 
-unfoldable pub notedFetch : Access → Outcome → Outcome
-notedFetch a o = record { answer = o.answer; after = notingFetch o.answer a o.after }
+unfoldable pub noted_fetch : Access → Outcome → Outcome
+noted_fetch a o = record { answer = o.answer; after = noting_fetch o.answer a o.after }
 
 unfoldable pub fetched : Slot ℕ → Access → Model → Outcome
-fetched (holds frame) a m = record { answer = addressIn frame a.va; after = m }
-fetched empty a m = notedFetch a (unhinted a.on a m)
+fetched (holds frame) a m = record { answer = address_in frame a.va; after = m }
+fetched empty a m = noted_fetch a (unhinted a.on a m)
 
 unfoldable pub fetch : Access → Model → Outcome
 fetch a m = fetched (knowing (a.va / 4096) a.privilege.level m.fetch) a m

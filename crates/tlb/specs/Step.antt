@@ -1,83 +1,83 @@
 -- One translation as a step of the whole cache: its cells taken out, its translation, the cells put back.
 use Rattle.std.specs.Prelude.{◌≡◌, ℕ, refl, Option}
-use Rattle.walk.specs.Regime.{regimeOf}
+use Rattle.walk.specs.Regime.{regime_of}
 use Rattle.walk.specs.declared.regime.Bank.{Bank}
 use Rattle.tlb.specs.Entry.{slot_of}
-use Rattle.tlb.specs.Hint.{dataSlot}
-use Rattle.tlb.specs.Cache.{entry_at, hintAt, setEntry, setHint, setFetch}
-use Rattle.tlb.specs.Tlb.{tlbWith}
+use Rattle.tlb.specs.Hint.{data_slot}
+use Rattle.tlb.specs.Cache.{entry_at, hint_at, set_entry, set_hint, set_fetch}
+use Rattle.tlb.specs.Tlb.{tlb_with}
 use Rattle.tlb.specs.Access.{tag_of}
-use Rattle.tlb.specs.Translate.{Translation, FetchTranslation, onNow, untaggedNow, walkNow, missWith, translationWith, fetchWith, translationOf, fetchOf}
-use Rattle.tlb.specs.Resolve.{countedBy, keptBy}
+use Rattle.tlb.specs.Translate.{Translation, FetchTranslation, on_now, untagged_now, walk_now, miss_with, translation_with, fetch_with, translation_of, fetch_of}
+use Rattle.tlb.specs.Resolve.{counted_by, kept_by}
 use Rattle.tlb.specs.Model.{Access}
 use Rattle.tlb.specs.declared.{access.Kind.Kind, access.Privilege.Privilege, resolve.Resolved.Resolved, Tlb.Tlb}
 use Rattle.tlb.specs.declared.access.Kind.TheVariants.{Fetch}
 
 -- the access that registers and tables make of an address
-abbrev pub accessOf : Bank → Privilege → ℕ → Kind → (ℕ → Option ℕ) → Access
-accessOf s privilege va kind memory =
+abbrev pub access_of : Bank → Privilege → ℕ → Kind → (ℕ → Option ℕ) → Access
+access_of s privilege va kind memory =
     record {
       privilege = privilege;
       kind = kind;
       va = va;
-      on = onNow s privilege.level va;
-      regime = regimeOf privilege.level;
-      untagged = untaggedNow s privilege.level va;
-      walk = walkNow s privilege.level va memory;
+      on = on_now s privilege.level va;
+      regime = regime_of privilege.level;
+      untagged = untagged_now s privilege.level va;
+      walk = walk_now s privilege.level va memory;
     }
 
 -- the place of its hint, and the slot of its entry
-abbrev pub placeFor : Access → ℕ
-placeFor a = dataSlot a.va a.kind
+abbrev pub place_for : Access → ℕ
+place_for a = data_slot a.va a.kind
 
-abbrev pub slotFor : Access → ℕ
-slotFor a = slot_of (tag_of a.regime a.untagged)
+abbrev pub slot_for : Access → ℕ
+slot_for a = slot_of (tag_of a.regime a.untagged)
 
 -- the cells put back
-abbrev pub withTranslation : Tlb → ℕ → ℕ → Translation → Tlb
-withTranslation t place slot r = tlbWith t (setHint (setEntry t.cache slot r.entry) place r.hint) r.counts
+abbrev pub with_translation : Tlb → ℕ → ℕ → Translation → Tlb
+with_translation t place slot r = tlb_with t (set_hint (set_entry t.cache slot r.entry) place r.hint) r.counts
 
-abbrev pub withFetch : Tlb → ℕ → FetchTranslation → Tlb
-withFetch t slot r = tlbWith t (setFetch (setEntry t.cache slot r.entry) r.fetch) r.counts
+abbrev pub with_fetch : Tlb → ℕ → FetchTranslation → Tlb
+with_fetch t slot r = tlb_with t (set_fetch (set_entry t.cache slot r.entry) r.fetch) r.counts
 
 -- with the changes of a translation at a level: the entry of the slot, the counters
 abbrev pub stored : Tlb → ℕ → ℕ → Resolved → Tlb
-stored t slot level r = tlbWith t (setEntry t.cache slot (keptBy r.source (entry_at t.cache slot) r.made)) (countedBy r.source level t.counts)
+stored t slot level r = tlb_with t (set_entry t.cache slot (kept_by r.source (entry_at t.cache slot) r.made)) (counted_by r.source level t.counts)
 
 -- a translation that no hint serves, and what it leaves
-abbrev pub missIn : Access → Tlb → Resolved
-missIn a t = missWith a.on a.untagged a.walk a.regime a.privilege t.cache.current (entry_at t.cache (slotFor a)) a.va a.kind
+abbrev pub miss_in : Access → Tlb → Resolved
+miss_in a t = miss_with a.on a.untagged a.walk a.regime a.privilege t.cache.current (entry_at t.cache (slot_for a)) a.va a.kind
 
-abbrev pub afterMiss : Access → Tlb → Tlb
-afterMiss a t = stored t (slotFor a) a.privilege.level (missIn a t)
+abbrev pub after_miss : Access → Tlb → Tlb
+after_miss a t = stored t (slot_for a) a.privilege.level (miss_in a t)
 
 -- the translation of an access in a cache, and what it leaves
-abbrev pub translationIn : Access → Tlb → Translation
-translationIn a t =
-    translationWith a.on a.untagged a.walk a.regime a.privilege t.cache.current t.counts (hintAt t.cache (placeFor a))
-    (entry_at t.cache (slotFor a)) a.va a.kind
+abbrev pub translation_in : Access → Tlb → Translation
+translation_in a t =
+    translation_with a.on a.untagged a.walk a.regime a.privilege t.cache.current t.counts (hint_at t.cache (place_for a))
+    (entry_at t.cache (slot_for a)) a.va a.kind
 
-abbrev pub tlbAfter : Access → Tlb → Tlb
-tlbAfter a t = withTranslation t (placeFor a) (slotFor a) (translationIn a t)
+abbrev pub tlb_after : Access → Tlb → Tlb
+tlb_after a t = with_translation t (place_for a) (slot_for a) (translation_in a t)
 
-abbrev pub fetchIn : Access → Tlb → FetchTranslation
-fetchIn a t =
-    fetchWith a.on a.untagged a.walk a.regime a.privilege t.cache.current t.counts t.cache.fetch
-    (entry_at t.cache (slotFor a)) a.va
+abbrev pub fetch_in : Access → Tlb → FetchTranslation
+fetch_in a t =
+    fetch_with a.on a.untagged a.walk a.regime a.privilege t.cache.current t.counts t.cache.fetch
+    (entry_at t.cache (slot_for a)) a.va
 
-abbrev pub fetchedIn : Access → Tlb → Tlb
-fetchedIn a t = withFetch t (slotFor a) (fetchIn a t)
+abbrev pub fetched_in : Access → Tlb → Tlb
+fetched_in a t = with_fetch t (slot_for a) (fetch_in a t)
 
 -- the code's translation is that of its access
 pub translation-is : (s : Bank) (privilege : Privilege) (va : ℕ) (kind : Kind) (memory : ℕ → Option ℕ) (t : Tlb)
-    → translationOf s privilege t.cache.current t.counts (hintAt t.cache (dataSlot va kind))
-    (entry_at t.cache (slotFor (accessOf s privilege va kind memory))) va kind memory
-    ≡ translationIn (accessOf s privilege va kind memory) t
-unfolding translationOf
+    → translation_of s privilege t.cache.current t.counts (hint_at t.cache (data_slot va kind))
+    (entry_at t.cache (slot_for (access_of s privilege va kind memory))) va kind memory
+    ≡ translation_in (access_of s privilege va kind memory) t
+unfolding translation_of
 translation-is s privilege va kind memory t = refl
 
 pub fetch-is : (s : Bank) (privilege : Privilege) (va : ℕ) (memory : ℕ → Option ℕ) (t : Tlb)
-    → fetchOf s privilege t.cache.current t.counts t.cache.fetch (entry_at t.cache (slotFor (accessOf s privilege va Fetch memory))) va memory
-    ≡ fetchIn (accessOf s privilege va Fetch memory) t
-unfolding fetchOf
+    → fetch_of s privilege t.cache.current t.counts t.cache.fetch (entry_at t.cache (slot_for (access_of s privilege va Fetch memory))) va memory
+    ≡ fetch_in (access_of s privilege va Fetch memory) t
+unfolding fetch_of
 fetch-is s privilege va memory t = refl

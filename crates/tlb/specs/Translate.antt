@@ -2,13 +2,13 @@
 use Rattle.std.specs.Prelude.{if◌then◌else◌, ◌≡◌, ℕ, Bool, true, false, ◌&&◌, ◌==◌, Option, Some, None}
 use Rattle.std.proofs.Math.Path.{refl}
 use Rattle.std.proofs.Common.{sym, ap, ◌∙◌}
-use Rattle.walk.specs.Regime.{stage1On, regimeOf}
+use Rattle.walk.specs.Regime.{stage1_on, regime_of}
 use Rattle.walk.specs.Tag.{untagged}
 use Rattle.walk.specs.Walk.{walk_of}
 use Rattle.walk.specs.declared.{regime.Regime.Regime, regime.Bank.Bank}
-use Rattle.tlb.specs.Access.{mayHint}
-use Rattle.tlb.specs.Hint.{onPage, hintKey, fetchFound}
-use Rattle.tlb.specs.Resolve.{queryOf, askWith, askOf, byItself, resolveWith, resolveOf, changesOf, countedBy, keptBy, hintAfter, fetchAfter}
+use Rattle.tlb.specs.Access.{may_hint}
+use Rattle.tlb.specs.Hint.{on_page, hint_key, fetch_found}
+use Rattle.tlb.specs.Resolve.{query_of, ask_with, ask_of, by_itself, resolve_with, resolve_of, changes_of, counted_by, kept_by, hint_after, fetch_after}
 use Rattle.tlb.specs.declared.{entry.Entry.Entry, entry.Current.Current, access.Kind.Kind, hint.Hint.Hint}
 use Rattle.tlb.specs.declared.{hint.FetchHint.FetchHint, count.Counts.Counts}
 use Rattle.tlb.specs.declared.{access.Privilege.Privilege, resolve.Query.Query, resolve.Asked.Asked}
@@ -38,99 +38,99 @@ pub record FetchTranslation : Type 0 where
   pub source : Source
 
 -- without a hint: with stage 1 off the address itself
-unfoldable pub missWith : Bool → ℕ → Walked → Regime → Privilege → Current → Entry → ℕ → Kind → Resolved
-missWith on page w r privilege at e va kind = if on then resolveWith w (queryOf r page) privilege at e va kind else byItself va
+unfoldable pub miss_with : Bool → ℕ → Walked → Regime → Privilege → Current → Entry → ℕ → Kind → Resolved
+miss_with on page w r privilege at e va kind = if on then resolve_with w (query_of r page) privilege at e va kind else by_itself va
 
 -- the changes applied to the counters, the hint and the entry
 unfoldable pub applied : Resolved → Bool → ℕ → Counts → Hint → Entry → ℕ → Translation
 applied t hinted level k h e va =
     record {
-      counts = countedBy t.source level k;
-      hint = hintAfter hinted level va t.answer h;
-      entry = keptBy t.source e t.made;
+      counts = counted_by t.source level k;
+      hint = hint_after hinted level va t.answer h;
+      entry = kept_by t.source e t.made;
       answer = t.answer;
       source = t.source;
     }
 
 -- A translation, of: whether stage 1 is on, the untagged address, its walk, the regime, who asks, the cache's generation and ASID, the
 -- counters, the hint and the entry that the address may use, the address, the kind. The hint comes first, where it may serve.
-unfoldable pub translationWith : Bool → ℕ → Walked → Regime → Privilege → Current → Counts → Hint → Entry → ℕ → Kind → Translation
-translationWith on page w r privilege at k h e va kind =
-    if mayHint privilege kind && h.key == hintKey va privilege.level then record { counts = k; hint = h; entry = e; answer = Address (onPage h.pa va); source = FromHint }
-    else applied (missWith on page w r privilege at e va kind) (mayHint privilege kind) privilege.level k h e va
+unfoldable pub translation_with : Bool → ℕ → Walked → Regime → Privilege → Current → Counts → Hint → Entry → ℕ → Kind → Translation
+translation_with on page w r privilege at k h e va kind =
+    if may_hint privilege kind && h.key == hint_key va privilege.level then record { counts = k; hint = h; entry = e; answer = Address (on_page h.pa va); source = FromHint }
+    else applied (miss_with on page w r privilege at e va kind) (may_hint privilege kind) privilege.level k h e va
 
 -- the same with the fetch hint
-unfoldable pub fetchApplied : Resolved → ℕ → Counts → FetchHint → Entry → ℕ → FetchTranslation
-fetchApplied t level k f e va =
+unfoldable pub fetch_applied : Resolved → ℕ → Counts → FetchHint → Entry → ℕ → FetchTranslation
+fetch_applied t level k f e va =
     record {
-      counts = countedBy t.source level k;
-      fetch = fetchAfter level va t.answer f;
-      entry = keptBy t.source e t.made;
+      counts = counted_by t.source level k;
+      fetch = fetch_after level va t.answer f;
+      entry = kept_by t.source e t.made;
       answer = t.answer;
       source = t.source;
     }
 
-unfoldable pub fetchEnd : Option ℕ → Bool → ℕ → Walked → Regime → Privilege → Current → Counts → FetchHint → Entry → ℕ → FetchTranslation
-fetchEnd (Some pa) on page w r privilege at k f e va =
+unfoldable pub fetch_end : Option ℕ → Bool → ℕ → Walked → Regime → Privilege → Current → Counts → FetchHint → Entry → ℕ → FetchTranslation
+fetch_end (Some pa) on page w r privilege at k f e va =
     record { counts = k; fetch = f; entry = e; answer = Address pa; source = FromHint }
-fetchEnd None on page w r privilege at k f e va = fetchApplied (missWith on page w r privilege at e va Fetch) privilege.level k f e va
+fetch_end None on page w r privilege at k f e va = fetch_applied (miss_with on page w r privilege at e va Fetch) privilege.level k f e va
 
 -- the translation that a fetch begins with: the fetch hint first, whatever the mark
-unfoldable pub fetchWith : Bool → ℕ → Walked → Regime → Privilege → Current → Counts → FetchHint → Entry → ℕ → FetchTranslation
-fetchWith on page w r privilege at k f e va = fetchEnd (fetchFound f privilege.level va) on page w r privilege at k f e va
+unfoldable pub fetch_with : Bool → ℕ → Walked → Regime → Privilege → Current → Counts → FetchHint → Entry → ℕ → FetchTranslation
+fetch_with on page w r privilege at k f e va = fetch_end (fetch_found f privilege.level va) on page w r privilege at k f e va
 
 -- the same with what the registers say, and their own walk of the untagged address
 module _ (s : Bank) (level va : ℕ) where
-  abbrev pub onNow : Bool
-  onNow = stage1On s (regimeOf level)
+  abbrev pub on_now : Bool
+  on_now = stage1_on s (regime_of level)
 
-  abbrev pub untaggedNow : ℕ
-  untaggedNow = untagged s.tcr (regimeOf level) va
+  abbrev pub untagged_now : ℕ
+  untagged_now = untagged s.tcr (regime_of level) va
 
-  abbrev pub walkNow : (ℕ → Option ℕ) → Walked
-  walkNow memory = walk_of s (regimeOf level) untaggedNow memory
+  abbrev pub walk_now : (ℕ → Option ℕ) → Walked
+  walk_now memory = walk_of s (regime_of level) untagged_now memory
 
 module _ (s : Bank) (privilege : Privilege) (at : Current) where
-  unfoldable pub missOf : Entry → ℕ → Kind → (ℕ → Option ℕ) → Resolved
-  missOf e va kind memory =
-      missWith (onNow s privilege.level va) (untaggedNow s privilege.level va) (walkNow s privilege.level va memory)
-      (regimeOf privilege.level) privilege at e va kind
+  unfoldable pub miss_of : Entry → ℕ → Kind → (ℕ → Option ℕ) → Resolved
+  miss_of e va kind memory =
+      miss_with (on_now s privilege.level va) (untagged_now s privilege.level va) (walk_now s privilege.level va memory)
+      (regime_of privilege.level) privilege at e va kind
 
-  unfoldable pub translationOf : Counts → Hint → Entry → ℕ → Kind → (ℕ → Option ℕ) → Translation
-  translationOf k h e va kind memory =
-      translationWith (onNow s privilege.level va) (untaggedNow s privilege.level va) (walkNow s privilege.level va memory)
-      (regimeOf privilege.level) privilege at k h e va kind
+  unfoldable pub translation_of : Counts → Hint → Entry → ℕ → Kind → (ℕ → Option ℕ) → Translation
+  translation_of k h e va kind memory =
+      translation_with (on_now s privilege.level va) (untagged_now s privilege.level va) (walk_now s privilege.level va memory)
+      (regime_of privilege.level) privilege at k h e va kind
 
-  unfoldable pub fetchOf : Counts → FetchHint → Entry → ℕ → (ℕ → Option ℕ) → FetchTranslation
-  fetchOf k f e va memory =
-      fetchWith (onNow s privilege.level va) (untaggedNow s privilege.level va) (walkNow s privilege.level va memory)
-      (regimeOf privilege.level) privilege at k f e va
+  unfoldable pub fetch_of : Counts → FetchHint → Entry → ℕ → (ℕ → Option ℕ) → FetchTranslation
+  fetch_of k f e va memory =
+      fetch_with (on_now s privilege.level va) (untagged_now s privilege.level va) (walk_now s privilege.level va memory)
+      (regime_of privilege.level) privilege at k f e va
 
   -- the changes of what is asked
   pub changes-are : (e : Entry) (va : ℕ) (kind : Kind) (memory : ℕ → Option ℕ)
-      → changesOf (askOf s privilege va) s privilege at e va kind memory ≡ missOf e va kind memory
-  unfolding askOf missOf missWith resolveOf
-  changes-are e va kind memory = go (stage1On s (regimeOf privilege.level))
+      → changes_of (ask_of s privilege va) s privilege at e va kind memory ≡ miss_of e va kind memory
+  unfolding ask_of miss_of miss_with resolve_of
+  changes-are e va kind memory = go (stage1_on s (regime_of privilege.level))
     where
       go : (on : Bool)
-          → changesOf (askWith on (regimeOf privilege.level) (untaggedNow s privilege.level va)) s privilege at e va kind memory
-          ≡ missWith on (untaggedNow s privilege.level va) (walkNow s privilege.level va memory) (regimeOf privilege.level) privilege at e va kind
+          → changes_of (ask_with on (regime_of privilege.level) (untagged_now s privilege.level va)) s privilege at e va kind memory
+          ≡ miss_with on (untagged_now s privilege.level va) (walk_now s privilege.level va memory) (regime_of privilege.level) privilege at e va kind
       go true = refl
       go false = refl
 
 -- what is asked is the query of the untagged address
-abbrev queryIn : Query → Asked → Query
-queryIn other Flat = other
-queryIn other (Of q) = q
+abbrev query_in : Query → Asked → Query
+query_in other Flat = other
+query_in other (Of q) = q
 
-pub asked-query : (s : Bank) (privilege : Privilege) (va : ℕ) (q : Query) → askOf s privilege va ≡ Of q
-    → q ≡ queryOf (regimeOf privilege.level) (untaggedNow s privilege.level va)
-unfolding askOf
-asked-query s privilege va q e = sym (ap (queryIn own) e) ∙ go (stage1On s (regimeOf privilege.level))
+pub asked-query : (s : Bank) (privilege : Privilege) (va : ℕ) (q : Query) → ask_of s privilege va ≡ Of q
+    → q ≡ query_of (regime_of privilege.level) (untagged_now s privilege.level va)
+unfolding ask_of
+asked-query s privilege va q e = sym (ap (query_in own) e) ∙ go (stage1_on s (regime_of privilege.level))
   where
     own : Query
-    own = queryOf (regimeOf privilege.level) (untaggedNow s privilege.level va)
+    own = query_of (regime_of privilege.level) (untagged_now s privilege.level va)
 
-    go : (on : Bool) → queryIn own (askWith on (regimeOf privilege.level) (untaggedNow s privilege.level va)) ≡ own
+    go : (on : Bool) → query_in own (ask_with on (regime_of privilege.level) (untagged_now s privilege.level va)) ≡ own
     go true = refl
     go false = refl

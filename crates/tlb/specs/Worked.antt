@@ -2,9 +2,9 @@
 -- found after an Asid that is not its own, and gone after an All.
 use Rattle.std.specs.Prelude.{◌≡◌, ℕ, Bool, true, false, List, [], ◌∷◌, map, refl, Ok, Err}
 use Rattle.walk.specs.declared.regime.Regime.TheVariants.{El1}
-use Rattle.tlb.specs.Model.{Slot, empty, holds, emptyModel, folded, keep, line_for, judge, walked, looked, unhinted, noted, tried, hinted, translate}
+use Rattle.tlb.specs.Model.{Slot, empty, holds, empty_model, folded, keep, line_for, judge, walked, looked, unhinted, noted, tried, hinted, translate}
 use Rattle.tlb.specs.Model.{invalidate}
-use Rattle.tlb.specs.Runs.{Op, invalidates, translates, Seen, modelRun}
+use Rattle.tlb.specs.Runs.{Op, invalidates, translates, Seen, model_run}
 use Rattle.tlb.specs.declared.{access.Kind.Kind, access.Answer.Answer}
 use Rattle.tlb.specs.declared.access.Kind.TheVariants.{Read, Write, Fetch}
 use Rattle.tlb.specs.declared.access.Answer.TheVariants.{Address, Status}
@@ -41,7 +41,7 @@ row s = answered s.answer ∷ s.counts.hits 1 ∷ s.counts.walks 1 ∷ s.counts.
 abbrev pub WorkedRun : Type 0
 WorkedRun =
     map row
-    (modelRun
+    (model_run
     (access Read block
     ∷ access Read block
     ∷ access Write block
@@ -54,7 +54,7 @@ WorkedRun =
     ∷ invalidates All
     ∷ access Read (Err 6)
     ∷ [])
-    emptyModel)
+    empty_model)
     ≡ (0x80003123 ∷ 0 ∷ 1 ∷ 0 ∷ 0 ∷ 0 ∷ [])
     ∷ (0x80003123 ∷ 0 ∷ 1 ∷ 0 ∷ 0 ∷ 0 ∷ [])
     ∷ (0x0E ∷ 1 ∷ 1 ∷ 0 ∷ 0 ∷ 0 ∷ [])
@@ -69,7 +69,7 @@ WorkedRun =
     ∷ []
 
 pub worked : WorkedRun
-unfolding modelRun translate hinted tried noted unhinted looked walked judge keep line_for invalidate folded
+unfolding model_run translate hinted tried noted unhinted looked walked judge keep line_for invalidate folded
 worked = refl
 
 -- Levels and the mark: each access is counted at its own level, and under the mark EL1's at EL1.
@@ -98,7 +98,7 @@ levels s =
 abbrev pub WorkedLevels : Type 0
 WorkedLevels =
     map levels
-    (modelRun
+    (model_run
     (from 0 false Read 0x5000
     ∷ from 1 false Read 0x5000
     ∷ from 1 true Read 0x5000
@@ -107,7 +107,7 @@ WorkedLevels =
     ∷ from 0 false Write 0x6008
     ∷ from 1 true Fetch 0x7000
     ∷ [])
-    emptyModel)
+    empty_model)
     ≡ (0 ∷ 1 ∷ 0 ∷ 0 ∷ 0 ∷ 0 ∷ 0 ∷ 0 ∷ [])
     ∷ (0 ∷ 1 ∷ 1 ∷ 0 ∷ 0 ∷ 0 ∷ 0 ∷ 0 ∷ [])
     ∷ (0 ∷ 1 ∷ 2 ∷ 0 ∷ 0 ∷ 0 ∷ 0 ∷ 0 ∷ [])
@@ -118,5 +118,5 @@ WorkedLevels =
     ∷ []
 
 pub worked-levels : WorkedLevels
-unfolding modelRun translate hinted tried noted unhinted looked walked judge keep line_for invalidate folded
+unfolding model_run translate hinted tried noted unhinted looked walked judge keep line_for invalidate folded
 worked-levels = refl

@@ -1,6 +1,6 @@
 // An access: what it wants, who makes it, what it needs, and its answer.
 ghost use Rattle.std.specs.Prelude.{◌≡◌, ◌≤◌};
-ghost use Rattle.tlb.specs.Access.{isFetch, mayHint, regimeNumber, tag_of, userOf, rightOf, judged};
+ghost use Rattle.tlb.specs.Access.{is_fetch, may_hint, regime_number, tag_of, user_of, right_of, judged};
 
 use crate::entry::Entry;
 use crate::hint;
@@ -29,7 +29,7 @@ pub enum Answer {
 }
 
 fn regime_number(regime: Regime) -> u64
-    ensures value { result ≡ regimeNumber regime }
+    ensures value { result ≡ regime_number regime }
     ensures upper_bound { result ≤ 3 }
 {
     match regime {
@@ -48,7 +48,7 @@ pub fn tag_of(regime: Regime, va: u64) -> u64
 
 impl Kind {
     fn is_fetch(self) -> bool
-        ensures { result ≡ isFetch self }
+        ensures { result ≡ is_fetch self }
     {
         self == Kind::Fetch
     }
@@ -57,14 +57,14 @@ impl Kind {
 impl Privilege {
     // Whether a data hint may serve the access.
     pub fn may_hint(self, kind: Kind) -> bool
-        ensures { result ≡ mayHint self kind }
+        ensures { result ≡ may_hint self kind }
     {
         !kind.is_fetch() && !self.unprivileged
     }
 
     // Whether the access is judged by EL0's rights: in the EL1&0 regime EL0's own, and data accesses that count as its.
     pub fn is_user(self, regime: Regime, kind: Kind) -> bool
-        ensures { result ≡ userOf regime self kind }
+        ensures { result ≡ user_of regime self kind }
     {
         match regime {
             Regime::El1 => self.level == 0 || (self.unprivileged && !kind.is_fetch()),
@@ -75,7 +75,7 @@ impl Privilege {
 
 // The bit among an entry's rights that the access needs: EL0's come first, then the regime's own.
 pub fn right_of(kind: Kind, user: bool) -> u8
-    ensures value { result ≡ rightOf kind user }
+    ensures value { result ≡ right_of kind user }
     ensures upper_bound { result ≤ 5 }
 {
     let own = if user { 0 } else { 3 };

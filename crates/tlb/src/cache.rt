@@ -1,6 +1,6 @@
 // What translation depends on: the entries, the hints, the generation and the ASID in force.
 ghost use Rattle.std.specs.Prelude.{◌≡◌, ◌<◌};
-ghost use Rattle.tlb.specs.Cache.{hintless, emptyCache, flushed, withoutPage, withoutAsid, retagged};
+ghost use Rattle.tlb.specs.Cache.{hintless, empty_cache, flushed, without_page, without_asid, retagged};
 
 use crate::entry::{Current, Entry};
 use crate::hint::{FetchHint, Hint};
@@ -14,9 +14,9 @@ pub struct Cache {
 }
 
 impl Cache {
-    #[tactic(auto, unfolding(crate::specs::Cache::blanks, crate::specs::Cache::noHints))]
+    #[tactic(auto, unfolding(crate::specs::Cache::blanks, crate::specs::Cache::no_hints))]
     pub fn new() -> Self
-        ensures { result ≡ emptyCache }
+        ensures { result ≡ empty_cache }
     {
         Cache {
             current: Current {
@@ -30,7 +30,7 @@ impl Cache {
     }
 
     // Every hint out.
-    #[tactic(auto, unfolding(crate::specs::Cache::noHints))]
+    #[tactic(auto, unfolding(crate::specs::Cache::no_hints))]
     fn clear_hints(&mut self)
         ensures { self.new ≡ hintless self.old.current self.old.entries }
     {
@@ -51,9 +51,9 @@ impl Cache {
         }
     }
 
-    #[tactic(auto, using(crate::specs::Lists::sweep), unfolding(crate::specs::Cache::withoutPage))]
+    #[tactic(auto, using(crate::specs::Lists::sweep), unfolding(crate::specs::Cache::without_page))]
     pub fn drop_page(&mut self, page: u64)
-        ensures { self.new ≡ withoutPage self.old page }
+        ensures { self.new ≡ without_page self.old page }
     {
         self.clear_hints();
         let generation = self.current.generation;
@@ -62,9 +62,9 @@ impl Cache {
         }
     }
 
-    #[tactic(auto, using(crate::specs::Lists::sweep), unfolding(crate::specs::Cache::withoutAsid))]
+    #[tactic(auto, using(crate::specs::Lists::sweep), unfolding(crate::specs::Cache::without_asid))]
     pub fn drop_asid(&mut self, asid: u16)
-        ensures { self.new ≡ withoutAsid self.old asid }
+        ensures { self.new ≡ without_asid self.old asid }
     {
         self.clear_hints();
         for e in self.entries.iter_mut() {

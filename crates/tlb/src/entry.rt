@@ -1,7 +1,7 @@
 // One entry: what a walk found for a page of a regime.
 ghost use Rattle.std.specs.Prelude.{◌≡◌, ◌<◌, ◌≤◌};
 ghost use Rattle.tlb.specs.Entry.{blank as blankOf, slot_of, serves as servesOf, stamped as stampedOf};
-ghost use Rattle.tlb.specs.Entry.{span_of, pageDropped, asidDropped};
+ghost use Rattle.tlb.specs.Entry.{span_of, page_dropped, asid_dropped};
 
 #[derive(Clone, Copy)]
 pub struct Entry {
@@ -77,9 +77,9 @@ impl Entry {
     }
 
     // After a Page: out if it is of the generation and translates the page.
-    #[tactic(auto, unfolding(crate::specs::Entry::pageDropped))]
+    #[tactic(auto, unfolding(crate::specs::Entry::page_dropped))]
     pub fn drop_page(&mut self, generation: u32, page: u64)
-        ensures { self.new ≡ pageDropped generation page self.old }
+        ensures { self.new ≡ page_dropped generation page self.old }
     {
         let span = span(self.level);
         let own = self.tag / 4 % PAGES;
@@ -89,9 +89,9 @@ impl Entry {
     }
 
     // After an Asid: out if it was walked for the ASID and is not global.
-    #[tactic(auto, unfolding(crate::specs::Entry::asidDropped))]
+    #[tactic(auto, unfolding(crate::specs::Entry::asid_dropped))]
     pub fn drop_asid(&mut self, asid: u16)
-        ensures { self.new ≡ asidDropped asid self.old }
+        ensures { self.new ≡ asid_dropped asid self.old }
     {
         if !self.global && self.asid == asid {
             self.tag = 0;

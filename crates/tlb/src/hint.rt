@@ -1,7 +1,7 @@
 // Hints: pages that an access was allowed to, by raw page and level.
 ghost use Rattle.std.specs.Prelude.{◌≡◌, ◌<◌, false};
-ghost use Rattle.tlb.specs.Hint.{noHint, noFetch, page_of, onPage, dataSlot, hintKey, hintFor, fetchFor, fetchFound};
-ghost use Rattle.tlb.specs.Access.{isFetch};
+ghost use Rattle.tlb.specs.Hint.{no_hint, no_fetch, page_of, on_page, data_slot, hint_key, hint_for, fetch_for, fetch_found};
+ghost use Rattle.tlb.specs.Access.{is_fetch};
 
 use crate::access::Kind;
 
@@ -30,7 +30,7 @@ fn page_of(va: u64) -> u64
 
 // The physical page pa, with the low twelve bits of va.
 pub fn on_page(pa: u64, va: u64) -> u64
-    ensures { result ≡ onPage pa va }
+    ensures { result ≡ on_page pa va }
 {
     pa | (va % 4096)
 }
@@ -39,8 +39,8 @@ pub fn on_page(pa: u64, va: u64) -> u64
 // none below 512.
 #[tactic(auto, unfolding(crate::specs::Hint::place_of))]
 pub fn data_slot(va: u64, kind: Kind) -> usize
-    ensures value { result ≡ dataSlot va kind }
-    ensures upper_bound { isFetch kind ≡ false → result < 512 }
+    ensures value { result ≡ data_slot va kind }
+    ensures upper_bound { is_fetch kind ≡ false → result < 512 }
 {
     let page = va / 4096;
     let place = ((page ^ (page >> 5) ^ (page >> 10)) % 256) as usize;
@@ -52,7 +52,7 @@ pub fn data_slot(va: u64, kind: Kind) -> usize
 }
 
 pub fn hint_key(va: u64, level: u8) -> u64
-    ensures { result ≡ hintKey va level }
+    ensures { result ≡ hint_key va level }
 {
     page_of(va) + level as u64
 }
@@ -60,7 +60,7 @@ pub fn hint_key(va: u64, level: u8) -> u64
 impl Hint {
     // The hint that matches no key.
     pub fn none() -> Self
-        ensures { result ≡ noHint }
+        ensures { result ≡ no_hint }
     {
         Hint {
             key: u64::MAX,
@@ -70,7 +70,7 @@ impl Hint {
 
     // The hint that an access to va, allowed to pa, leaves.
     pub fn new(va: u64, level: u8, pa: u64) -> Self
-        ensures { result ≡ hintFor va level pa }
+        ensures { result ≡ hint_for va level pa }
     {
         Hint {
             key: hint_key(va, level),
@@ -81,7 +81,7 @@ impl Hint {
 
 impl FetchHint {
     pub fn none() -> Self
-        ensures { result ≡ noFetch }
+        ensures { result ≡ no_fetch }
     {
         FetchHint {
             some: false,
@@ -93,7 +93,7 @@ impl FetchHint {
 
     // The hint that a fetch of va, allowed to pa, leaves.
     pub fn new(va: u64, level: u8, pa: u64) -> Self
-        ensures { result ≡ fetchFor va level pa }
+        ensures { result ≡ fetch_for va level pa }
     {
         FetchHint {
             some: true,
@@ -105,7 +105,7 @@ impl FetchHint {
 
     // Where a fetch of va goes by the hint.
     pub fn find(&self, level: u8, va: u64) -> Option<u64>
-        ensures { result ≡ fetchFound self.now level va }
+        ensures { result ≡ fetch_found self.now level va }
     {
         if self.some && self.page == page_of(va) && self.level == level {
             Some(on_page(self.pa, va))

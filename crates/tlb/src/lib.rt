@@ -1,8 +1,8 @@
 #![tactic(auto)]
 // The cache of stage 1: what walks found, the hints of recent accesses, the counters, and what other cores are to drop.
 ghost use Rattle.std.specs.Prelude.{◌≡◌};
-ghost use Rattle.tlb.specs.Tlb.{fresh, getOf, put_of, flushOf, dropPageOf, dropAsidOf, invalidateOf, retagOf};
-ghost use Rattle.tlb.specs.Tlb.{pendingAfter, broadcastOf};
+ghost use Rattle.tlb.specs.Tlb.{fresh, get_of, put_of, flush_of, drop_page_of, drop_asid_of, invalidate_of, retag_of};
+ghost use Rattle.tlb.specs.Tlb.{pending_after, broadcast_of};
 
 use cache::Cache;
 use count::Counts;
@@ -35,7 +35,7 @@ pub struct Tlb {
 
 // What is pending after a broadcast: the same stays, another makes it All.
 pub fn pending_after(pending: Option<Inval>, what: Inval) -> Option<Inval>
-    ensures { result ≡ pendingAfter pending what }
+    ensures { result ≡ pending_after pending what }
 {
     match pending {
         Some(earlier) if earlier != what => Some(Inval::All),
@@ -55,9 +55,9 @@ impl Tlb {
     }
 
     // The entry that answers for a tag.
-    #[tactic(auto, unfolding(crate::specs::Tlb::getOf))]
+    #[tactic(auto, unfolding(crate::specs::Tlb::get_of))]
     pub fn get(&self, tag: u64) -> Option<Entry>
-        ensures { result ≡ getOf self.now tag }
+        ensures { result ≡ get_of self.now tag }
     {
         let e = self.cache.entries[entry::slot(tag)];
         if e.serves(self.cache.current, tag) {
@@ -76,45 +76,45 @@ impl Tlb {
     }
 
     // Every entry and every hint out.
-    #[tactic(auto, unfolding(crate::specs::Tlb::flushOf))]
+    #[tactic(auto, unfolding(crate::specs::Tlb::flush_of))]
     pub fn flush(&mut self)
-        ensures { self.new ≡ flushOf self.old }
+        ensures { self.new ≡ flush_of self.old }
     {
         self.cache.flush();
         self.counts.add_flush();
     }
 
     // What translates the page out, blocks that cover it included, and every hint.
-    #[tactic(auto, unfolding(crate::specs::Tlb::dropPageOf))]
+    #[tactic(auto, unfolding(crate::specs::Tlb::drop_page_of))]
     pub fn drop_page(&mut self, page: u64)
-        ensures { self.new ≡ dropPageOf self.old page }
+        ensures { self.new ≡ drop_page_of self.old page }
     {
         self.cache.drop_page(page);
         self.counts.add_drop();
     }
 
     // What was walked for the ASID and is not global out, and every hint.
-    #[tactic(auto, unfolding(crate::specs::Tlb::dropAsidOf))]
+    #[tactic(auto, unfolding(crate::specs::Tlb::drop_asid_of))]
     pub fn drop_asid(&mut self, asid: u16)
-        ensures { self.new ≡ dropAsidOf self.old asid }
+        ensures { self.new ≡ drop_asid_of self.old asid }
     {
         self.cache.drop_asid(asid);
         self.counts.add_epoch();
     }
 
     // The ASID in force is now asid: the entries stay, every hint goes.
-    #[tactic(auto, unfolding(crate::specs::Tlb::retagOf))]
+    #[tactic(auto, unfolding(crate::specs::Tlb::retag_of))]
     pub fn retag(&mut self, asid: u16)
-        ensures { self.new ≡ retagOf self.old asid }
+        ensures { self.new ≡ retag_of self.old asid }
     {
         self.cache.retag(asid);
         self.counts.add_epoch();
     }
 
     // What a TLBI asks for.
-    #[tactic(auto, unfolding(crate::specs::Tlb::invalidateOf))]
+    #[tactic(auto, unfolding(crate::specs::Tlb::invalidate_of))]
     pub fn invalidate(&mut self, what: Inval)
-        ensures { self.new ≡ invalidateOf self.old what }
+        ensures { self.new ≡ invalidate_of self.old what }
     {
         match what {
             Inval::All => self.flush(),
@@ -124,9 +124,9 @@ impl Tlb {
     }
 
     // The other cores are to drop what too.
-    #[tactic(auto, unfolding(crate::specs::Tlb::broadcastOf))]
+    #[tactic(auto, unfolding(crate::specs::Tlb::broadcast_of))]
     pub fn broadcast(&mut self, what: Inval)
-        ensures { self.new ≡ broadcastOf self.old what }
+        ensures { self.new ≡ broadcast_of self.old what }
     {
         self.broadcast = pending_after(self.broadcast, what);
     }

@@ -4,7 +4,7 @@ ghost use Rattle.std.specs.Prelude.{◌≡◌};
 ghost use Rattle.word.specs.Ram.{word_at};
 ghost use Rattle.walk.specs.Tag.{untagged};
 ghost use Rattle.walk.specs.Walk.{walk_of};
-ghost use Rattle.tlb.specs.Resolve.{queryOf, askOf, entryFor, byEntry, byWalk, resolveOf};
+ghost use Rattle.tlb.specs.Resolve.{query_of, ask_of, entry_for, by_entry, by_walk, resolve_of};
 
 use crate::access;
 use crate::access::{Answer, Kind, Privilege};
@@ -48,7 +48,7 @@ pub struct Resolved {
 
 // What an address asks in a regime: itself untagged, and the tag of its page.
 pub fn query_of(s: Bank, regime: Regime, va: u64) -> Query
-    ensures { result ≡ queryOf regime (untagged s.tcr regime va) }
+    ensures { result ≡ query_of regime (untagged s.tcr regime va) }
 {
     let page = walk::tag::untag(s.tcr, regime, va);
     Query {
@@ -59,9 +59,9 @@ pub fn query_of(s: Bank, regime: Regime, va: u64) -> Query
 }
 
 // What is asked of the cache.
-#[tactic(auto, unfolding(crate::specs::Resolve::askOf))]
+#[tactic(auto, unfolding(crate::specs::Resolve::ask_of))]
 pub fn ask(s: Bank, privilege: Privilege, va: u64) -> Asked
-    ensures { result ≡ askOf s privilege va }
+    ensures { result ≡ ask_of s privilege va }
 {
     let regime = Regime::of_level(privilege.level);
     if s.stage1_on(regime) {
@@ -73,7 +73,7 @@ pub fn ask(s: Bank, privilege: Privilege, va: u64) -> Asked
 
 // The entry that a leaf becomes.
 pub fn entry_for(leaf: Leaf, at: Current, tag: u64) -> Entry
-    ensures { result ≡ entryFor leaf at tag }
+    ensures { result ≡ entry_for leaf at tag }
 {
     Entry {
         tag,
@@ -87,7 +87,7 @@ pub fn entry_for(leaf: Leaf, at: Current, tag: u64) -> Entry
 }
 
 // By a walk: a leaf becomes an entry and is judged, a fault makes none.
-#[tactic(auto, unfolding(crate::specs::Resolve::byWalk))]
+#[tactic(auto, unfolding(crate::specs::Resolve::by_walk))]
 pub fn walked(
     q: Query,
     s: Bank,
@@ -98,7 +98,7 @@ pub fn walked(
     base: u64,
     ram: &[u8],
 ) -> Resolved
-    ensures { result ≡ byWalk (walk_of s q.regime q.page
+    ensures { result ≡ by_walk (walk_of s q.regime q.page
         (word_at base ram.now 8)) q privilege at va kind }
 {
     match walk::table::walk(s, q.regime, q.page, base, ram) {
@@ -120,7 +120,7 @@ pub fn walked(
 
 // By the entry, which is judged.
 pub fn by_entry(q: Query, privilege: Privilege, e: Entry, va: u64, kind: Kind) -> Resolved
-    ensures { result ≡ byEntry q privilege e va kind }
+    ensures { result ≡ by_entry q privilege e va kind }
 {
     Resolved {
         answer: e.judge(privilege.is_user(q.regime, kind), kind, va),
@@ -130,7 +130,7 @@ pub fn by_entry(q: Query, privilege: Privilege, e: Entry, va: u64, kind: Kind) -
 }
 
 // By the entry that the query's tag names, or by a walk.
-#[tactic(auto, unfolding(crate::specs::Resolve::resolveOf, crate::specs::Resolve::resolveWith))]
+#[tactic(auto, unfolding(crate::specs::Resolve::resolve_of, crate::specs::Resolve::resolve_with))]
 pub fn resolve(
     q: Query,
     s: Bank,
@@ -142,7 +142,7 @@ pub fn resolve(
     base: u64,
     ram: &[u8],
 ) -> Resolved
-    ensures { result ≡ resolveOf q s privilege at e va kind (word_at base ram.now 8) }
+    ensures { result ≡ resolve_of q s privilege at e va kind (word_at base ram.now 8) }
 {
     if e.serves(at, q.tag) {
         by_entry(q, privilege, e, va, kind)

@@ -1,14 +1,14 @@
 // What holds of every cache. Each function computes nothing: its contract is the theorem.
 ghost use Rattle.std.specs.Prelude.{◌≡◌, ℕ, ◌≤◌, List, length, ◌≢◌};
-ghost use Rattle.tlb.specs.Count.{hitCounted, walkCounted};
-ghost use Rattle.tlb.specs.Counting.{How, howCounted, howTranslated, howFetched, rustCounted, sums};
+ghost use Rattle.tlb.specs.Count.{hit_counted, walk_counted};
+ghost use Rattle.tlb.specs.Counting.{How, how_counted, how_translated, how_fetched, rust_counted, sums};
 ghost use Rattle.tlb.specs.Lists.{Each};
-ghost use Rattle.tlb.specs.Live.{countersOf, live, WellFormed, LeafLevel, Follows};
-ghost use Rattle.tlb.specs.Model.{Access, Counters, Model, emptyModel, oneHit, oneWalk};
+ghost use Rattle.tlb.specs.Live.{counters_of, live, WellFormed, LeafLevel, Follows};
+ghost use Rattle.tlb.specs.Model.{Access, Counters, Model, empty_model, one_hit, one_walk};
 ghost use Rattle.tlb.specs.Model.{translate, fetch, invalidate, retag, broadcast};
-ghost use Rattle.tlb.specs.Runs.{Op, Fair, run, modelRun};
-ghost use Rattle.tlb.specs.Step.{translationIn, tlbAfter, fetchIn, fetchedIn};
-ghost use Rattle.tlb.specs.Tlb.{fresh, flushOf, invalidateOf, retagOf, broadcastOf};
+ghost use Rattle.tlb.specs.Runs.{Op, Fair, run, model_run};
+ghost use Rattle.tlb.specs.Step.{translation_in, tlb_after, fetch_in, fetched_in};
+ghost use Rattle.tlb.specs.Tlb.{fresh, flush_of, invalidate_of, retag_of, broadcast_of};
 ghost use Rattle.tlb.specs.Worked.{WorkedRun, WorkedLevels};
 ghost use Rattle.tlb.specs.declared.Tlb.{Tlb};
 ghost use Rattle.tlb.specs.declared.Inval.{Inval};
@@ -20,52 +20,52 @@ ghost use Rattle.tlb.specs.declared.access.Kind.TheVariants.{Fetch};
 // same entries and hints, the same pending invalidation. It rules out a cache that keeps a hint past an invalidation,
 // that drops one 4 KiB entry of a larger block, or that reports counters of its own.
 pub fn refinement_of_the_model()
-    ensures new { live fresh ≡ emptyModel }
+    ensures new { live fresh ≡ empty_model }
     ensures translation { (a : Access) (t : Tlb) → WellFormed t → LeafLevel a.walk → a.privilege.level ≤ 3
-        → Follows (translationIn a t).answer (tlbAfter a t) (translate a (live t)) }
+        → Follows (translation_in a t).answer (tlb_after a t) (translate a (live t)) }
     ensures fetch { (a : Access) (t : Tlb) → WellFormed t → LeafLevel a.walk → a.privilege.level ≤ 3
-        → a.kind ≡ Fetch → Follows (fetchIn a t).answer (fetchedIn a t) (fetch a (live t)) }
-    ensures flush { (t : Tlb) → WellFormed t → live (flushOf t) ≡ invalidate All (live t) }
+        → a.kind ≡ Fetch → Follows (fetch_in a t).answer (fetched_in a t) (fetch a (live t)) }
+    ensures flush { (t : Tlb) → WellFormed t → live (flush_of t) ≡ invalidate All (live t) }
     ensures invalidation { (t : Tlb) → WellFormed t → (what : Inval)
-        → live (invalidateOf t what) ≡ invalidate what (live t) }
-    ensures retag { (t : Tlb) → WellFormed t → (asid : ℕ) → live (retagOf t asid) ≡ retag asid (live t) }
-    ensures broadcast { (t : Tlb) (what : Inval) → live (broadcastOf t what) ≡ broadcast what (live t) }
+        → live (invalidate_of t what) ≡ invalidate what (live t) }
+    ensures retag { (t : Tlb) → WellFormed t → (asid : ℕ) → live (retag_of t asid) ≡ retag asid (live t) }
+    ensures broadcast { (t : Tlb) (what : Inval) → live (broadcast_of t what) ≡ broadcast what (live t) }
 {}
 
 // A new cache is well-formed, and each operation leaves it so, over every generation and its wrap.
 pub fn caches_stay_well_formed()
     ensures new { WellFormed fresh }
     ensures translation { (a : Access) (t : Tlb) → WellFormed t → LeafLevel a.walk → a.privilege.level ≤ 3
-        → WellFormed (tlbAfter a t) }
+        → WellFormed (tlb_after a t) }
     ensures fetch { (a : Access) (t : Tlb) → WellFormed t → LeafLevel a.walk → a.privilege.level ≤ 3
-        → a.kind ≡ Fetch → WellFormed (fetchedIn a t) }
-    ensures invalidation { (t : Tlb) → WellFormed t → (what : Inval) → WellFormed (invalidateOf t what) }
-    ensures retag { (t : Tlb) → WellFormed t → (asid : ℕ) → WellFormed (retagOf t asid) }
-    ensures broadcast { (t : Tlb) (what : Inval) → WellFormed t → WellFormed (broadcastOf t what) }
+        → a.kind ≡ Fetch → WellFormed (fetched_in a t) }
+    ensures invalidation { (t : Tlb) → WellFormed t → (what : Inval) → WellFormed (invalidate_of t what) }
+    ensures retag { (t : Tlb) → WellFormed t → (asid : ℕ) → WellFormed (retag_of t asid) }
+    ensures broadcast { (t : Tlb) (what : Inval) → WellFormed t → WellFormed (broadcast_of t what) }
 {}
 
 // Every list of operations on a new cache shows what the plain model shows: answers, counters, what is pending.
 pub fn runs_of_operations()
-    ensures same_as_the_model { (os : List Op) → Each Fair os → run os fresh ≡ modelRun os emptyModel }
+    ensures same_as_the_model { (os : List Op) → Each Fair os → run os fresh ≡ model_run os empty_model }
 {}
 
 // Which counters a translation moves: those of its own level alone, by how it was answered and by nothing else. The mark
 // of an unprivileged access lowers no level, and the sums of the four levels move as one pair of counters would.
 pub fn counters_of_translations()
     ensures translation { (a : Access) (m : Model)
-        → (translate a m).after.counts ≡ howCounted (howTranslated a m) a.privilege.level m.counts }
+        → (translate a m).after.counts ≡ how_counted (how_translated a m) a.privilege.level m.counts }
     ensures fetch { (a : Access) (m : Model)
-        → (fetch a m).after.counts ≡ howCounted (howFetched a m) a.privilege.level m.counts }
+        → (fetch a m).after.counts ≡ how_counted (how_fetched a m) a.privilege.level m.counts }
     ensures other_levels_stay { (how : How) (level : ℕ) (k : Counters) (l : ℕ) → l ≢ level
-        → ((howCounted how level k).hits l ≡ k.hits l) × ((howCounted how level k).walks l ≡ k.walks l) }
+        → ((how_counted how level k).hits l ≡ k.hits l) × ((how_counted how level k).walks l ≡ k.walks l) }
     ensures mark_lowers_no_level { (a b : Access) (m : Model) → a.privilege.level ≡ b.privilege.level
-        → howTranslated a m ≡ howTranslated b m → (translate a m).after.counts ≡ (translate b m).after.counts }
+        → how_translated a m ≡ how_translated b m → (translate a m).after.counts ≡ (translate b m).after.counts }
     ensures sums { (how : How) (level : ℕ) (k : Counters) → level ≤ 3
-        → sums (howCounted how level k) ≡ rustCounted how (sums k) }
+        → sums (how_counted how level k) ≡ rust_counted how (sums k) }
     ensures hit { (k : Counts) → length k.levels ≡ 4 → (level : ℕ) → level ≤ 3
-        → countersOf (hitCounted level k) ≡ oneHit level (countersOf k) }
+        → counters_of (hit_counted level k) ≡ one_hit level (counters_of k) }
     ensures walk { (k : Counts) → length k.levels ≡ 4 → (level : ℕ) → level ≤ 3
-        → countersOf (walkCounted level k) ≡ oneWalk level (countersOf k) }
+        → counters_of (walk_counted level k) ≡ one_walk level (counters_of k) }
 {}
 
 // A run of the plain model over a 2 MiB block and its invalidations, and one at several levels, computed.

@@ -3,7 +3,7 @@ ghost use Rattle.std.specs.Prelude.{◌≡◌};
 ghost use Rattle.word.specs.Ram.{word_at};
 ghost use Rattle.walk.specs.Walk.{walk_of};
 ghost use Rattle.tlb.specs.Entry.{slot_of};
-ghost use Rattle.tlb.specs.Resolve.{byWalk};
+ghost use Rattle.tlb.specs.Resolve.{by_walk};
 ghost use Rattle.tlb.specs.declared.access.Kind.TheVariants.{Fetch};
 
 use crate::access::{Answer, Kind, Privilege};
@@ -13,11 +13,11 @@ use crate::{Tlb, hint, resolve};
 use walk::regime::Bank;
 
 impl Tlb {
-    ghost use Rattle.tlb.specs.Step.{accessOf, stored, missIn, afterMiss, translationIn, tlbAfter, fetchIn, fetchedIn};
+    ghost use Rattle.tlb.specs.Step.{access_of, stored, miss_in, after_miss, translation_in, tlb_after, fetch_in, fetched_in};
 
     // By a walk: a leaf becomes an entry and is judged, a fault makes none. Out of line, so that a hit pays nothing for it.
     #[inline(never)]
-    #[tactic(auto, unfolding(crate::specs::Resolve::byWalk, crate::specs::Tlb::put_of))]
+    #[tactic(auto, unfolding(crate::specs::Resolve::by_walk, crate::specs::Tlb::put_of))]
     fn walk(
         &mut self,
         q: Query,
@@ -28,9 +28,9 @@ impl Tlb {
         base: u64,
         ram: &[u8],
     ) -> Answer
-        ensures answer { result ≡ (byWalk (walk_of s q.regime q.page (word_at base ram.now 8)) q privilege self.old.cache.current va kind).answer }
+        ensures answer { result ≡ (by_walk (walk_of s q.regime q.page (word_at base ram.now 8)) q privilege self.old.cache.current va kind).answer }
         ensures after { self.new ≡ stored self.old (slot_of q.tag) privilege.level
-            (byWalk (walk_of s q.regime q.page (word_at base ram.now 8)) q privilege self.old.cache.current va kind) }
+            (by_walk (walk_of s q.regime q.page (word_at base ram.now 8)) q privilege self.old.cache.current va kind) }
     {
         self.counts.add_walk(privilege.level);
         match walk::table::walk(s, q.regime, q.page, base, ram) {
@@ -46,7 +46,7 @@ impl Tlb {
     // A translation that no hint serves: with stage 1 off the address itself; else by the entry of its page, or by a
     // walk.
     #[inline(always)]
-    #[tactic(auto, unfolding(crate::specs::Resolve::askOf, crate::specs::Resolve::resolveWith, crate::specs::Translate::missWith, crate::specs::Tlb::getOf))]
+    #[tactic(auto, unfolding(crate::specs::Resolve::ask_of, crate::specs::Resolve::resolve_with, crate::specs::Translate::miss_with, crate::specs::Tlb::get_of))]
     fn miss(
         &mut self,
         s: Bank,
@@ -56,8 +56,8 @@ impl Tlb {
         base: u64,
         ram: &[u8],
     ) -> Answer
-        ensures answer { result ≡ (missIn (accessOf s privilege va kind (word_at base ram.now 8)) self.old).answer }
-        ensures after { self.new ≡ afterMiss (accessOf s privilege va kind (word_at base ram.now 8)) self.old }
+        ensures answer { result ≡ (miss_in (access_of s privilege va kind (word_at base ram.now 8)) self.old).answer }
+        ensures after { self.new ≡ after_miss (access_of s privilege va kind (word_at base ram.now 8)) self.old }
     {
         let Asked::Of(q) = resolve::ask(s, privilege, va) else {
             return Answer::Address(va);
@@ -70,7 +70,7 @@ impl Tlb {
     }
 
     // Where an access of the kind to va goes: the hint first, where it may serve.
-    #[tactic(auto, unfolding(crate::specs::Translate::translationWith, crate::specs::Translate::applied))]
+    #[tactic(auto, unfolding(crate::specs::Translate::translation_with, crate::specs::Translate::applied))]
     pub fn translate(
         &mut self,
         s: Bank,
@@ -80,8 +80,8 @@ impl Tlb {
         base: u64,
         ram: &[u8],
     ) -> Answer
-        ensures answer { result ≡ (translationIn (accessOf s privilege va kind (word_at base ram.now 8)) self.old).answer }
-        ensures after { self.new ≡ tlbAfter (accessOf s privilege va kind (word_at base ram.now 8)) self.old }
+        ensures answer { result ≡ (translation_in (access_of s privilege va kind (word_at base ram.now 8)) self.old).answer }
+        ensures after { self.new ≡ tlb_after (access_of s privilege va kind (word_at base ram.now 8)) self.old }
     {
         let hints = privilege.may_hint(kind);
         let place = hint::data_slot(va, kind);
@@ -96,7 +96,7 @@ impl Tlb {
     }
 
     // The translation that a fetch begins with: the fetch hint, and else one that leaves it.
-    #[tactic(auto, unfolding(crate::specs::Translate::fetchWith, crate::specs::Translate::fetchEnd, crate::specs::Translate::fetchApplied))]
+    #[tactic(auto, unfolding(crate::specs::Translate::fetch_with, crate::specs::Translate::fetch_end, crate::specs::Translate::fetch_applied))]
     pub fn translate_fetch(
         &mut self,
         s: Bank,
@@ -105,8 +105,8 @@ impl Tlb {
         base: u64,
         ram: &[u8],
     ) -> Answer
-        ensures answer { result ≡ (fetchIn (accessOf s privilege va Fetch (word_at base ram.now 8)) self.old).answer }
-        ensures after { self.new ≡ fetchedIn (accessOf s privilege va Fetch (word_at base ram.now 8)) self.old }
+        ensures answer { result ≡ (fetch_in (access_of s privilege va Fetch (word_at base ram.now 8)) self.old).answer }
+        ensures after { self.new ≡ fetched_in (access_of s privilege va Fetch (word_at base ram.now 8)) self.old }
     {
         if let Some(pa) = self.cache.fetch.find(privilege.level, va) {
             return Answer::Address(pa);

@@ -1,6 +1,6 @@
 // The counters out of a core's words.
 ghost use Rattle.std.specs.Prelude.{◌≡◌, ◌<◌};
-ghost use Rattle.words.specs.CoreOf.{core_of, tallyIn, word};
+ghost use Rattle.words.specs.CoreOf.{core_of, tally_in, word};
 
 use tlb::count::{Counts, Tally};
 use words::place;
@@ -8,7 +8,7 @@ use words::place::State;
 
 fn tally(state: &State, level: usize) -> Tally
     requires { level < 4 }
-    ensures { result ≡ tallyIn (word state.now) level }
+    ensures { result ≡ tally_in (word state.now) level }
 {
     Tally {
         hits: state[place::LEVEL_HITS + level],
@@ -17,7 +17,7 @@ fn tally(state: &State, level: usize) -> Tally
 }
 
 // What the cache counted at each level, and in all.
-#[tactic(auto, unfolding(words::specs::CoreOf::core_of, words::specs::CoreOf::coreBy, words::specs::CoreOf::coreOn))]
+#[tactic(auto, unfolding(words::specs::CoreOf::core_of, words::specs::CoreOf::core_by, words::specs::CoreOf::core_on))]
 pub fn counts(state: &State) -> Counts
     ensures { result ≡ (core_of state.now).tlb.counts }
 {

@@ -1,8 +1,7 @@
 // The arguments of a line, each by its type.
-use crate::lex;
 use crate::lex::NumberError;
 use crate::reason::Reason;
-use crate::words;
+use crate::{lex, words};
 use tlb::access::Kind;
 use walk::regime::Regime;
 

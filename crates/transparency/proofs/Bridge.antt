@@ -2,35 +2,35 @@
 use Rattle.std.specs.Prelude.{if◌then◌else◌, ◌≡◌, refl, Bool, true, false, ◌||◌, ℕ, zero, suc, ◌+◌, ◌%◌, ◌≤◌, ◌<◌, leb, ltb, length, Option, Ok, Err, Some, None}
 use Rattle.std.proofs.Common.{ap, ◌∙◌, mod-eq_of_lt, arith, leb-false, ltb-false}
 use mathlib.Core.List.{List, [], ◌∷◌}
-use Rattle.word.specs.Bits.{alignDown, wrap}
-use Rattle.word.specs.Ram.{width_of, bytesIn}
+use Rattle.word.specs.Bits.{align_down, wrap}
+use Rattle.word.specs.Ram.{width_of, bytes_in}
 use Rattle.tlb.specs.declared.access.Kind.{Kind}
 use Rattle.sysop.specs.declared.op.SysOp.{SysOp}
 use Rattle.sysop.specs.declared.op.SysOp.TheVariants as Op
-use Rattle.mmu.specs.Bare.{Bare, withPrivilege, bareOf, with_regs}
-use Rattle.mmu.specs.Core.{reg_of, setReg, afterAccess}
-use Rattle.mmu.specs.Ops.{writeOf}
+use Rattle.mmu.specs.Bare.{Bare, with_privilege, bare_of, with_regs}
+use Rattle.mmu.specs.Core.{reg_of, set_reg, after_access}
+use Rattle.mmu.specs.Ops.{write_of}
 use Rattle.mmu.specs.OpLaws as Laws
 use Rattle.mmu.specs.declared.core_state.Core.{Core}
 use Rattle.operations.specs.declared.{ends.StoreAnswer.StoreAnswer, call.Encoding.Encoding, call.Call.Call}
 use Rattle.operations.specs.declared.ends.StoreAnswer.TheVariants.{Done, Stopped}
-use Rattle.exec.specs.Fit.{refitOf}
-use Rattle.exec.specs.Ops.{with_regs as coreRegs, appliedOf, registered, writeRegister, withPrivilege as coreWho, setLevel, setMark, abortOf}
-use Rattle.exec.specs.Sys.{withPar as corePar, at_of, invalidatedOf, tlbiCore, onStored, doneWith, zero_of, sysBy, sysOf}
-use Rattle.operations.specs.Check.{missedOf}
+use Rattle.exec.specs.Fit.{refit_of}
+use Rattle.exec.specs.Ops.{with_regs as coreRegs, applied_of, registered, after_register_write, with_privilege as coreWho, set_level, set_mark, abort_of}
+use Rattle.exec.specs.Sys.{with_par as corePar, at_of, invalidated_of, tlbi_core, on_stored, done_with, zero_of, sys_by, sys_of}
+use Rattle.operations.specs.Check.{missed_of}
 use Rattle.cpu.specs.EveryCallEnds.{all-passed}
-use Rattle.cpu.specs.Step.{ends, loadBy, storeBy, run_of, refusedOr, step_of}
+use Rattle.cpu.specs.Step.{ends, load_by, store_by, run_of, refused_or, step_of}
 use Rattle.operations.specs.declared.call.Call.TheVariants.{Translate, DataPa, FetchPa, Load, Store, Fetch, System, Register, Level, Mark, General}
 use Rattle.operations.specs.declared.call.Call.TheVariants.{Abort, Census}
 use Rattle.operations.specs.declared.call.Reply.TheVariants.{Refused}
 use Rattle.history.specs.World.{Plain}
-use Rattle.history.specs.History.{writes, Event, steps, plainRun, tlbAsks, tlbRun}
+use Rattle.history.specs.History.{writes, Event, steps, plain_run, tlb_asks, tlb_run}
 use Rattle.history.specs.Calls.{Bridge}
 use Rattle.history.specs.Instance.{Ram, real}
-use Rattle.transparency.specs.Bare.{plainIn, missedIn, opIn, operandIn, writtenIn, number, bySys, byWrite, ruledIn, ifAllowed, sysDoes, bareDoes}
-use Rattle.transparency.specs.Bare.{bareStep}
-use Rattle.transparency.specs.Events.{does, asking, idle, accessIn, sizedIn, setBy, setting, zeroSteps, sysSteps, stepsIn, eventsIn}
-use Rattle.transparency.specs.Starts.{ramZeroed, zeroLater, sysLater, laterOf, laterIn}
+use Rattle.transparency.specs.Bare.{plain_in, missed_in, op_in, operand_in, written_in, number, by_sys, by_write, ruled_in, if_allowed, sys_does, bare_does}
+use Rattle.transparency.specs.Bare.{bare_step}
+use Rattle.transparency.specs.Events.{does, asking, idle, access_in, sized_in, set_by, setting, zero_steps, sys_steps, steps_in, events_in}
+use Rattle.transparency.specs.Starts.{ram_zeroed, zero_later, sys_later, later_of, later_in}
 use Rattle.transparency.specs.Machine.{machine}
 use Rattle.word.specs.declared.ram.Width.{Width}
 use Rattle.sysreg.specs.Write.{WriteAnswer, Written}
@@ -39,101 +39,101 @@ use Rattle.mmu.specs.Results.{Stored}
 
 -- The core d that a call made of c, the state b without a cache after it, and the call's events.
 pub record Fits (c d : Core) (b : Bare) (es : List (Event real)) : Type 0 where
-  pub bare : bareOf d ≡ b
-  pub plain : plainIn b ≡ plainRun real (plainIn (bareOf c)) es
-  pub tlb : d.tlb ≡ tlbRun real (plainIn (bareOf c)) es c.tlb
+  pub bare : bare_of d ≡ b
+  pub plain : plain_in b ≡ plain_run real (plain_in (bare_of c)) es
+  pub tlb : d.tlb ≡ tlb_run real (plain_in (bare_of c)) es c.tlb
 
-fits-idle : (c : Core) (m : Ram) → Fits c c (bareOf c) (steps m idle ∷ [])
+fits-idle : (c : Core) (m : Ram) → Fits c c (bare_of c) (steps m idle ∷ [])
 fits-idle c m = record { bare = refl; plain = refl; tlb = refl }
 
 -- TRANSLATIONS
 
 operation-fits : (c : Core) (m : Ram) (o : Laws.Operation)
-    → Fits c (Laws.operationCore c m.base m.bytes o) (bareOf c) (steps m (asking (Laws.asksOf (Laws.onNow c) o)) ∷ [])
+    → Fits c (Laws.operation_core c m.base m.bytes o) (bare_of c) (steps m (asking (Laws.asks_of (Laws.on_now c) o)) ∷ [])
 operation-fits c m o =
     record { bare = Laws.kept c m.base m.bytes o; plain = refl; tlb = Laws.tlb-after c m.base m.bytes o }
 
 load_fits : (c : Core) (m : Ram) (va : ℕ) (s : Option Width)
-    → Fits c (loadBy s c m.base m.bytes va).core (bareOf c) (steps m (asking (sizedIn (bareOf c) va s Kind.Read)) ∷ [])
-load_fits c m va (Some w) = operation-fits c m (Laws.load va (bytesIn w))
+    → Fits c (load_by s c m.base m.bytes va).core (bare_of c) (steps m (asking (sized_in (bare_of c) va s Kind.Read)) ∷ [])
+load_fits c m va (Some w) = operation-fits c m (Laws.load va (bytes_in w))
 load_fits c m va None = fits-idle c m
 
 store-fits : (c : Core) (m : Ram) (va : ℕ) (s : Option Width)
-    → Fits c (storeBy s c m.base m.bytes va).core (bareOf c) (steps m (asking (sizedIn (bareOf c) va s Kind.Write)) ∷ [])
-store-fits c m va (Some w) = operation-fits c m (Laws.store va (bytesIn w) 0)
+    → Fits c (store_by s c m.base m.bytes va).core (bare_of c) (steps m (asking (sized_in (bare_of c) va s Kind.Write)) ∷ [])
+store-fits c m va (Some w) = operation-fits c m (Laws.store va (bytes_in w) 0)
 store-fits c m va None = fits-idle c m
 
 -- ZEROING
 
-zero-plain : (b : Bare) (p : Plain real) (m : Ram) (l : List Ram) (va : ℕ) → p ≡ plainRun real p (zeroSteps b m l va)
+zero-plain : (b : Bare) (p : Plain real) (m : Ram) (l : List Ram) (va : ℕ) → p ≡ plain_run real p (zero_steps b m l va)
 zero-plain b p m [] va = refl
 zero-plain b p m (n ∷ l) va = zero-plain b p n l (wrap (va + 8))
 
 -- a store leaves the state without a cache, and of the cache what its translations leave
-pub stored-bare : (c : Core) (m : Ram) (va : ℕ) → bareOf (writeOf c m.base m.bytes va 8).core ≡ bareOf c
+pub stored-bare : (c : Core) (m : Ram) (va : ℕ) → bare_of (write_of c m.base m.bytes va 8).core ≡ bare_of c
 stored-bare c m va = Laws.kept c m.base m.bytes (Laws.store va 8 0)
 
 pub stored-tlb : (c : Core) (m : Ram) (va : ℕ)
-    → (writeOf c m.base m.bytes va 8).core.tlb ≡ tlbAsks real (plainIn (bareOf c)) m (accessIn (bareOf c) va 8 Kind.Write) c.tlb
+    → (write_of c m.base m.bytes va 8).core.tlb ≡ tlb_asks real (plain_in (bare_of c)) m (access_in (bare_of c) va 8 Kind.Write) c.tlb
 stored-tlb c m va = Laws.tlb-after c m.base m.bytes (Laws.store va 8 0)
 
 -- the store at va and n further ones: after the first, which leaves the state without a cache, the rest
 module _ (c : Core) (m : Ram) (va : ℕ) where
   abbrev stored : Stored
-  stored = writeOf c m.base m.bytes va 8
+  stored = write_of c m.base m.bytes va 8
 
   abbrev ZeroFits : ℕ → Core → Ram → ℕ → Type 0
-  ZeroFits n d k a = Fits d (zero_of (suc n) d k.base k.bytes a).core (bareOf d) (zeroSteps (bareOf d) k (zeroLater n d k a) a)
+  ZeroFits n d k a = Fits d (zero_of (suc n) d k.base k.bytes a).core (bare_of d) (zero_steps (bare_of d) k (zero_later n d k a) a)
 
-  one-fits : Fits c stored.core (bareOf c) (zeroSteps (bareOf c) m [] va)
+  one-fits : Fits c stored.core (bare_of c) (zero_steps (bare_of c) m [] va)
   one-fits = record { bare = stored-bare c m va; plain = refl; tlb = stored-tlb c m va }
 
   zero-last : ZeroFits zero c m va
   unfolding zero_of
   zero-last = go stored.answer
     where
-      go : (a : StoreAnswer) → Fits c (onStored a (doneWith stored.core) stored).core (bareOf c) (zeroSteps (bareOf c) m [] va)
+      go : (a : StoreAnswer) → Fits c (on_stored a (done_with stored.core) stored).core (bare_of c) (zero_steps (bare_of c) m [] va)
       go Done = one-fits
       go (Stopped s) = one-fits
 
-  zero-next : (n : ℕ) → ZeroFits n stored.core (ramZeroed c m va) (wrap (va + 8)) → ZeroFits (suc n) c m va
-  unfolding zero_of writeOf afterAccess
+  zero-next : (n : ℕ) → ZeroFits n stored.core (ram_zeroed c m va) (wrap (va + 8)) → ZeroFits (suc n) c m va
+  unfolding zero_of write_of after_access
   zero-next n rest = go stored.answer
     where
       more : Stored
-      more = zero_of (suc n) stored.core m.base (ramZeroed c m va).bytes (wrap (va + 8))
+      more = zero_of (suc n) stored.core m.base (ram_zeroed c m va).bytes (wrap (va + 8))
 
       later : List Ram
-      later = zeroLater n stored.core (ramZeroed c m va) (wrap (va + 8))
+      later = zero_later n stored.core (ram_zeroed c m va) (wrap (va + 8))
 
       go : (a : StoreAnswer)
-          → Fits c (onStored a more stored).core (bareOf c) (zeroSteps (bareOf c) m (onStored a (ramZeroed c m va ∷ later) []) va)
+          → Fits c (on_stored a more stored).core (bare_of c) (zero_steps (bare_of c) m (on_stored a (ram_zeroed c m va ∷ later) []) va)
       go Done =
           record {
             bare = rest.bare;
-            plain = zero-plain (bareOf c) (plainIn (bareOf c)) m (ramZeroed c m va ∷ later) va;
+            plain = zero-plain (bare_of c) (plain_in (bare_of c)) m (ram_zeroed c m va ∷ later) va;
             tlb =
                 rest.tlb
-                ∙ ap (tlbRun real (plainIn (bareOf c)) (zeroSteps (bareOf c) (ramZeroed c m va) later (wrap (va + 8)))) (stored-tlb c m va);
+                ∙ ap (tlb_run real (plain_in (bare_of c)) (zero_steps (bare_of c) (ram_zeroed c m va) later (wrap (va + 8)))) (stored-tlb c m va);
           }
       go (Stopped s) = one-fits
 
 zero-fits : (n : ℕ) (c : Core) (m : Ram) (va : ℕ)
-    → Fits c (zero_of (suc n) c m.base m.bytes va).core (bareOf c) (zeroSteps (bareOf c) m (zeroLater n c m va) va)
+    → Fits c (zero_of (suc n) c m.base m.bytes va).core (bare_of c) (zero_steps (bare_of c) m (zero_later n c m va) va)
 zero-fits zero c m va = zero-last c m va
 zero-fits (suc n) c m va =
-    zero-next c m va n (zero-fits n (writeOf c m.base m.bytes va 8).core (ramZeroed c m va) (wrap (va + 8)))
+    zero-next c m va n (zero-fits n (write_of c m.base m.bytes va 8).core (ram_zeroed c m va) (wrap (va + 8)))
 
 -- SYSTEM OPERATIONS
 
 sys-fits : (o : SysOp) (c : Core) (m : Ram) (e : Encoding)
-    → Fits c (sysBy o c m.base m.bytes e.op1 e.crm e.op2 (operandIn (bareOf c) e)).core
-    (ifAllowed (bySys o) (sysDoes o (bareOf c) m (operandIn (bareOf c) e)) (bareOf c))
-    (ifAllowed (bySys o) (sysSteps o (bareOf c) m (ifAllowed (bySys o) (sysLater o c m (operandIn (bareOf c) e)) []) e) (steps m idle ∷ []))
-unfolding at_of corePar tlbiCore invalidatedOf afterAccess
+    → Fits c (sys_by o c m.base m.bytes e.op1 e.crm e.op2 (operand_in (bare_of c) e)).core
+    (if_allowed (by_sys o) (sys_does o (bare_of c) m (operand_in (bare_of c) e)) (bare_of c))
+    (if_allowed (by_sys o) (sys_steps o (bare_of c) m (if_allowed (by_sys o) (sys_later o c m (operand_in (bare_of c) e)) []) e) (steps m idle ∷ []))
+unfolding at_of corePar tlbi_core invalidated_of after_access
 sys-fits (Op.At form) c m e = record { bare = refl; plain = refl; tlb = refl }
 sys-fits Op.Tlbi c m e = record { bare = refl; plain = refl; tlb = refl }
-sys-fits Op.Zva c m e = zero-fits 7 c m (alignDown (operandIn (bareOf c) e) 6)
+sys-fits Op.Zva c m e = zero-fits 7 c m (align_down (operand_in (bare_of c) e) 6)
 sys-fits Op.Nothing c m e = fits-idle c m
 sys-fits Op.Undefined c m e = fits-idle c m
 sys-fits Op.Unimplemented c m e = fits-idle c m
@@ -141,9 +141,9 @@ sys-fits Op.Unimplemented c m e = fits-idle c m
 -- REGISTER WRITES
 
 write-fits : (c : Core) (m : Ram) (w : Written) (a : WriteAnswer)
-    → Fits c (registered c w a).core (ifAllowed (byWrite a) (with_regs (bareOf c) w.control w.sys) (bareOf c))
-    (ifAllowed (byWrite a) (steps m (does (writes w.control)) ∷ []) (steps m idle ∷ []))
-unfolding appliedOf coreRegs afterAccess refitOf
+    → Fits c (registered c w a).core (if_allowed (by_write a) (with_regs (bare_of c) w.control w.sys) (bare_of c))
+    (if_allowed (by_write a) (steps m (does (writes w.control)) ∷ []) (steps m idle ∷ []))
+unfolding applied_of coreRegs after_access refit_of
 write-fits c m w (Ok tt) =
     record { bare = refl; plain = refl; tlb = refl }
 write-fits c m w (Err Undefined) = fits-idle c m
@@ -152,29 +152,29 @@ write-fits c m w (Err NoRegister) = fits-idle c m
 -- SETTINGS
 
 setting-fits : (c : Core) (m : Ram) (level : ℕ) (mark : Bool) → level ≤ 3
-    → Fits c (coreWho c level mark) (withPrivilege (bareOf c) level mark) (steps m (setting (record { level = level; unprivileged = mark })) ∷ [])
+    → Fits c (coreWho c level mark) (with_privilege (bare_of c) level mark) (steps m (setting (record { level = level; unprivileged = mark })) ∷ [])
 setting-fits c m level mark low = go (leb level 3) refl
   where
     go : (b : Bool) (e : leb level 3 ≡ b)
-        → Fits c (coreWho c level mark) (withPrivilege (bareOf c) level mark) (steps m (does (setBy (record { level = level; unprivileged = mark }) b e)) ∷ [])
+        → Fits c (coreWho c level mark) (with_privilege (bare_of c) level mark) (steps m (does (set_by (record { level = level; unprivileged = mark }) b e)) ∷ [])
     go true e = record { bare = refl; plain = refl; tlb = refl }
     go false e = let h : 3 < level = leb-false level 3 e in absurd (omega arith)
 
 -- where no check is missed the level is 3 at most, the one asked for too
-level-low : (level base len requested : ℕ) → missedOf level base len (Level requested) ≡ 0 → requested ≤ 3
+level-low : (level base len requested : ℕ) → missed_of level base len (Level requested) ≡ 0 → requested ≤ 3
 level-low level base len requested e = ltb-false 3 requested (go (ltb 3 level) (all-passed level base len (Level requested) e).0)
   where
     go : (b : Bool) → (b || ltb 3 requested) ≡ false → ltb 3 requested ≡ false
     go true z = absurd (let k : ◌≡◌ {A = ℕ} 1 0 = ap (λ (x : Bool). (if x then 1 else 0)) z in omega arith)
     go false z = z
 
-mark-low : (level base len : ℕ) (mark : Bool) → missedOf level base len (Mark mark) ≡ 0 → level ≤ 3
+mark-low : (level base len : ℕ) (mark : Bool) → missed_of level base len (Mark mark) ≡ 0 → level ≤ 3
 mark-low level base len mark e = ltb-false 3 level (all-passed level base len (Mark mark) e).0
 
 level-fits : (c : Core) (m : Ram) (level : ℕ) → level ≤ 3
-    → Fits c (setLevel c (level % 4)) (withPrivilege (bareOf c) level c.privilege.unprivileged)
+    → Fits c (set_level c (level % 4)) (with_privilege (bare_of c) level c.privilege.unprivileged)
     (steps m (setting (record { level = level; unprivileged = c.privilege.unprivileged })) ∷ [])
-unfolding setLevel
+unfolding set_level
 level-fits c m level low =
     let q : level % 4 ≡ level = mod-eq_of_lt (omega arith) in
     rw q (setting-fits c m level c.privilege.unprivileged low)
@@ -182,20 +182,20 @@ level-fits c m level low =
 -- EVERY CALL
 
 -- that misses no check
-run_fits : (c : Core) (m : Ram) (x : Call) → missedIn (bareOf c) m x ≡ 0
-    → Fits c (run_of c m.base m.bytes x).core (ifAllowed (ruledIn (bareOf c) x) (bareDoes (bareOf c) m x) (bareOf c))
-    (ifAllowed (ruledIn (bareOf c) x)
-    (stepsIn (bareOf c) m (ifAllowed (ruledIn (bareOf c) x) (laterOf c m x) []) x)
+run_fits : (c : Core) (m : Ram) (x : Call) → missed_in (bare_of c) m x ≡ 0
+    → Fits c (run_of c m.base m.bytes x).core (if_allowed (ruled_in (bare_of c) x) (bare_does (bare_of c) m x) (bare_of c))
+    (if_allowed (ruled_in (bare_of c) x)
+    (steps_in (bare_of c) m (if_allowed (ruled_in (bare_of c) x) (later_of c m x) []) x)
     (steps m idle ∷ []))
-unfolding run_of sysOf reg_of writeRegister setMark setReg abortOf
+unfolding run_of sys_of reg_of after_register_write set_mark set_reg abort_of
 run_fits c m (Translate kind va) p = operation-fits c m (Laws.translate va kind)
-run_fits c m (DataPa va) p = operation-fits c m (Laws.dataPa va)
-run_fits c m (FetchPa va) p = operation-fits c m (Laws.fetchPa va)
+run_fits c m (DataPa va) p = operation-fits c m (Laws.data_pa va)
+run_fits c m (FetchPa va) p = operation-fits c m (Laws.fetch_pa va)
 run_fits c m (Load va size) p = load_fits c m va (width_of size)
 run_fits c m (Store va size value) p = store-fits c m va (width_of size)
 run_fits c m (Fetch va) p = operation-fits c m (Laws.fetch va)
-run_fits c m (System e) p = sys-fits (opIn (bareOf c) e) c m e
-run_fits c m (Register key value) p = write-fits c m (writtenIn (bareOf c) key value) (writtenIn (bareOf c) key value).answer
+run_fits c m (System e) p = sys-fits (op_in (bare_of c) e) c m e
+run_fits c m (Register key value) p = write-fits c m (written_in (bare_of c) key value) (written_in (bare_of c) key value).answer
 run_fits c m (Level level) p = level-fits c m level (level-low c.privilege.level m.base (length m.bytes) level p)
 run_fits c m (Mark mark) p = setting-fits c m c.privilege.level mark (mark-low c.privilege.level m.base (length m.bytes) mark p)
 run_fits c m (General n value) p = record { bare = refl; plain = refl; tlb = refl }
@@ -203,15 +203,15 @@ run_fits c m (Abort e) p = record { bare = refl; plain = refl; tlb = refl }
 run_fits c m (Census first pages) p = record { bare = refl; plain = refl; tlb = refl }
 
 pub fits : (c : Core) (m : Ram) (x : Call)
-    → Fits c (step_of c m.base m.bytes x).core (bareStep (bareOf c) m x) (eventsIn (bareOf c) m (laterIn c m x) x)
+    → Fits c (step_of c m.base m.bytes x).core (bare_step (bare_of c) m x) (events_in (bare_of c) m (later_in c m x) x)
 unfolding step_of
-fits c m x = go (missedIn (bareOf c) m x) refl
+fits c m x = go (missed_in (bare_of c) m x) refl
   where
-    go : (n : ℕ) → missedIn (bareOf c) m x ≡ n
-        → Fits c (refusedOr n (λ k. ends c (Refused k)) (run_of c m.base m.bytes x)).core
-        (ifAllowed (refusedOr n number (ruledIn (bareOf c) x)) (bareDoes (bareOf c) m x) (bareOf c))
-        (ifAllowed (refusedOr n number (ruledIn (bareOf c) x))
-        (stepsIn (bareOf c) m (ifAllowed (refusedOr n number (ruledIn (bareOf c) x)) (laterOf c m x) []) x)
+    go : (n : ℕ) → missed_in (bare_of c) m x ≡ n
+        → Fits c (refused_or n (λ k. ends c (Refused k)) (run_of c m.base m.bytes x)).core
+        (if_allowed (refused_or n number (ruled_in (bare_of c) x)) (bare_does (bare_of c) m x) (bare_of c))
+        (if_allowed (refused_or n number (ruled_in (bare_of c) x))
+        (steps_in (bare_of c) m (if_allowed (refused_or n number (ruled_in (bare_of c) x)) (later_of c m x) []) x)
         (steps m idle ∷ []))
     go zero e = run_fits c m x e
     go (suc n) e = fits-idle c m

@@ -1,7 +1,7 @@
 -- Of every core that calls reach: each byte of a load or a store is the byte at the translation of its own address, and
 -- DC ZVA leaves 64 zero bytes at the translation of the aligned address and every other byte as it was. The laws are
--- mmu's and exec's, of cores that are well-formed; `read_of`, `writeOf`, `ramAfterWrite`, `sysOf` and `sysRam` are what
--- `step_of` and `ramAfter` make of a call that misses no check.
+-- mmu's and exec's, of cores that are well-formed; `read_of`, `write_of`, `ram_after_write`, `sys_of` and `sys_ram` are what
+-- `step_of` and `ram_after` make of a call that misses no check.
 use Rattle.std.specs.Prelude.{◌≡◌, refl, false, List, [], ◌∷◌, ◌++◌, ℕ, ◌+◌, ◌^◌, ◌≤◌, ◌<◌}
 use Rattle.std.proofs.Common.{sym, ap, ◌∙◌}
 use borrow.Author.Tests.{le-ltb}
@@ -9,15 +9,15 @@ use Rattle.std.proofs.Math.ListN.{length}
 use Rattle.tlb.specs.Asks.{translates}
 use Rattle.tlb.specs.declared.access.Kind.{Kind}
 use Rattle.tlb.specs.declared.access.Kind.TheVariants.{Read, Write}
-use Rattle.mmu.specs.Bare.{Bare, freshBare, bareOf}
-use Rattle.mmu.specs.Core.{freshCore}
-use Rattle.mmu.specs.Step.{translateIn}
-use Rattle.mmu.specs.Ops.{steppedNow, translateOf}
-use Rattle.mmu.specs.OpLaws.{onNow}
+use Rattle.mmu.specs.Bare.{Bare, fresh_bare, bare_of}
+use Rattle.mmu.specs.Core.{fresh_core}
+use Rattle.mmu.specs.Step.{translate_in}
+use Rattle.mmu.specs.Ops.{stepped_now, translate_of}
+use Rattle.mmu.specs.OpLaws.{on_now}
 use Rattle.mmu.specs.OwnAddress.{Ready}
 use Rattle.mmu.specs.ByteMeaning.{load_byte, store_byte, store-others}
 use Rattle.exec.specs.ZeroMeaning.{zva-zeroes}
-use Rattle.operations.specs.Check.{missedOf}
+use Rattle.operations.specs.Check.{missed_of}
 use Rattle.cpu.specs.Step.{run_of, step_of}
 use Rattle.operations.specs.declared.call.Call.TheVariants.{Translate}
 use Rattle.history.specs.World.{uncached}
@@ -25,51 +25,51 @@ use Rattle.history.specs.World as World
 use Rattle.history.proofs.Corollaries.{off-settled}
 use Rattle.history.specs.Calls.{Fed, lent_of, Shown, showing}
 use Rattle.history.proofs.EveryReply.{run-one, bare-one, shown-one}
-use Rattle.history.specs.Instance.{Ram, memoryOf, real, real-laws}
-use Rattle.transparency.specs.Bare.{plainIn, missedIn, Ruling, allowed, number, undefined, unimplemented, rulingIn, ifAllowed, bareStep}
+use Rattle.history.specs.Instance.{Ram, memory_of, real, real-laws}
+use Rattle.transparency.specs.Bare.{plain_in, missed_in, Ruling, allowed, number, undefined, unimplemented, ruling_in, if_allowed, bare_step}
 use Rattle.transparency.specs.Machine.{machine}
 use Rattle.transparency.proofs.Beside.{two-cores}
-use Rattle.transparency.specs.Direct.{coreNow, bareNow, past, SettledAt}
+use Rattle.transparency.specs.Direct.{core_now, bare_now, past, SettledAt}
 use Rattle.transparency.proofs.Direct.{begins, one-ask}
 use Rattle.transparency.proofs.ModelCalls.{every-core-well}
 use Rattle.transparency.specs.Bytes as Statement
 
 -- WITH STAGE 1 OFF every translation is of the address itself
 
-module _ (list : List (Fed real machine)) (seen : Shown real machine freshCore list) (m : Ram) where
-  off-here : World.onNow real (plainIn (bareNow list)) ≡ false → (va : ℕ) → SettledAt list m va
+module _ (list : List (Fed real machine)) (seen : Shown real machine fresh_core list) (m : Ram) where
+  off-here : World.on_now real (plain_in (bare_now list)) ≡ false → (va : ℕ) → SettledAt list m va
   off-here off va =
-      off-settled real real-laws (plainIn freshBare) (past list) m (World.regimeNow real (plainIn (bareNow list))) _
-      (ap (λ (p : World.Plain real). real.on p.regs (World.regimeNow real (plainIn (bareNow list)))) (begins list seen m) ∙ off)
+      off-settled real real-laws (plain_in fresh_bare) (past list) m (World.regime_now real (plain_in (bare_now list))) _
+      (ap (λ (p : World.Plain real). real.on p.regs (World.regime_now real (plain_in (bare_now list)))) (begins list seen m) ∙ off)
 
   pub flat_after : Statement.flat_after list m
-  unfolding translateOf steppedNow translateIn uncached
+  unfolding translate_of stepped_now translate_in uncached
   flat_after off kind va = one-ask list seen m (translates kind va) (off-here off va) ∙ rw off
 
   -- a translation after the list is a call that misses no check
-  passed : (m.base + length m.bytes ≤ 2 ^ 64) → (kind : Kind) (va : ℕ) → missedIn (bareOf (coreNow list)) m (Translate kind va) ≡ 0
-  unfolding missedOf
+  passed : (m.base + length m.bytes ≤ 2 ^ 64) → (kind : Kind) (va : ℕ) → missed_in (bare_of (core_now list)) m (Translate kind va) ≡ 0
+  unfolding missed_of
   passed room kind va =
       rw (
         le-ltb (2 ^ 64) (m.base + length m.bytes) room,
-        le-ltb 3 (coreNow list).privilege.level (every-core-well (lent_of real machine list)).level,
+        le-ltb 3 (core_now list).privilege.level (every-core-well (lent_of real machine list)).level,
       )
 
 -- EACH BYTE
 
 -- a translation leaves the state without a cache
-unmoved : (b : Bare) (m : Ram) (kind : Kind) (va : ℕ) → bareStep b m (Translate kind va) ≡ b
-unmoved b m kind va = go (rulingIn b m (Translate kind va))
+unmoved : (b : Bare) (m : Ram) (kind : Kind) (va : ℕ) → bare_step b m (Translate kind va) ≡ b
+unmoved b m kind va = go (ruling_in b m (Translate kind va))
   where
-    go : (v : Ruling) → ifAllowed v b b ≡ b
+    go : (v : Ruling) → if_allowed v b b ≡ b
     go allowed = refl
     go (number n) = refl
     go undefined = refl
     go unimplemented = refl
 
 -- what a law of bytes asks of the core, the window and the access
-pub ready-after : (list : List (Fed real machine)) (seen : Shown real machine freshCore list) (m : Ram) (va n : ℕ) (kind : Kind)
-    → va < 2 ^ 64 → n ≤ 8 → m.base + length m.bytes ≤ 2 ^ 64 → Ready (coreNow list) m.base m.bytes va n kind
+pub ready-after : (list : List (Fed real machine)) (seen : Shown real machine fresh_core list) (m : Ram) (va n : ℕ) (kind : Kind)
+    → va < 2 ^ 64 → n ≤ 8 → m.base + length m.bytes ≤ 2 ^ 64 → Ready (core_now list) m.base m.bytes va n kind
 unfolding step_of run_of
 ready-after list seen m va n kind small few room =
     record {
@@ -81,42 +81,42 @@ ready-after list seen m va n kind small few room =
       flat = λ off far. (flat_after list seen m (same ∙ off) kind va, λ b. rw next at (flat_after more more-seen m (still ∙ same ∙ off) kind b));
     }
   where
-    same : World.onNow real (plainIn (bareNow list)) ≡ onNow (coreNow list)
-    same = ap (λ (b : Bare). World.onNow real (plainIn b)) (sym (two-cores (lent_of real machine list)))
+    same : World.on_now real (plain_in (bare_now list)) ≡ on_now (core_now list)
+    same = ap (λ (b : Bare). World.on_now real (plain_in b)) (sym (two-cores (lent_of real machine list)))
 
     -- the list with this translation
     one : Fed real machine
-    one = showing real machine (coreNow list) (record { ram = m; call = Translate kind va })
+    one = showing real machine (core_now list) (record { ram = m; call = Translate kind va })
 
     more : List (Fed real machine)
     more = list ++ one ∷ []
 
-    more-seen : Shown real machine freshCore more
-    more-seen = shown-one real machine freshCore list one seen refl
+    more-seen : Shown real machine fresh_core more
+    more-seen = shown-one real machine fresh_core list one seen refl
 
-    next : coreNow more ≡ (translateOf (coreNow list) (memoryOf m) va kind).core
-    next = run-one real machine freshCore list one ∙ rw (passed list seen m room kind va)
+    next : core_now more ≡ (translate_of (core_now list) (memory_of m) va kind).core
+    next = run-one real machine fresh_core list one ∙ rw (passed list seen m room kind va)
 
-    still : World.onNow real (plainIn (bareNow more)) ≡ World.onNow real (plainIn (bareNow list))
-    still = ap (λ (b : Bare). World.onNow real (plainIn b)) (bare-one real machine freshBare list one ∙ unmoved (bareNow list) m kind va)
+    still : World.on_now real (plain_in (bare_now more)) ≡ World.on_now real (plain_in (bare_now list))
+    still = ap (λ (b : Bare). World.on_now real (plain_in b)) (bare-one real machine fresh_bare list one ∙ unmoved (bare_now list) m kind va)
 
 -- byte i of what a load answers is the byte of RAM at the translation of its own address
 pub load-byte-after : Statement.load_byte_after
 load-byte-after list seen m va n v i small few room bytes e h =
-    load_byte (coreNow list) m.base m.bytes va n v i (ready-after list seen m va n Read small few room) bytes e h
+    load_byte (core_now list) m.base m.bytes va n v i (ready-after list seen m va n Read small few room) bytes e h
 
 -- after a store that is done, the byte of RAM at the translation of byte i's own address is byte i of the value; of two
 -- bytes at one place the later
 pub store-byte-after : Statement.store_byte_after
 store-byte-after list seen m va n v i small few room e h =
-    store_byte (coreNow list) m.base m.bytes va n v i (ready-after list seen m va n Write small few room) e h
+    store_byte (core_now list) m.base m.bytes va n v i (ready-after list seen m va n Write small few room) e h
 
 -- and every byte that is at the translation of none of its bytes' own addresses stays
 pub store-others-after : Statement.store_others_after
 store-others-after list seen m va n v k small few room h none =
-    store-others (coreNow list) m.base m.bytes va n v k (ready-after list seen m va n Write small few room) h none
+    store-others (core_now list) m.base m.bytes va n v k (ready-after list seen m va n Write small few room) h none
 
 -- DC ZVA that is done
 pub zva-after : Statement.zva_after
 zva-after list seen m op1 crn crm op2 rt small named e =
-    zva-zeroes (coreNow list) m.base m.bytes op1 crn crm op2 rt (every-core-well (lent_of real machine list)).cache small named e
+    zva-zeroes (core_now list) m.base m.bytes op1 crn crm op2 rt (every-core-well (lent_of real machine list)).cache small named e

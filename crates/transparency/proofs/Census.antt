@@ -8,60 +8,60 @@ use Rattle.fault.specs.declared.Fault.{Fault}
 use Rattle.walk.specs.FreshLaws.{SoundFresh}
 use Rattle.walk.specs.declared.{level.Leaf.Leaf, fresh.Fresh.Fresh}
 use Rattle.walk.specs.declared.fresh.Fresh.TheVariants.{Flat, Ended}
-use Rattle.census.specs.Tally.{howMany, many-same}
-use Rattle.census.specs.Count.{pageAt, censusAt}
-use Rattle.census.specs.Laws.{faultsWith, hasRights}
+use Rattle.census.specs.Tally.{how_many, many-same}
+use Rattle.census.specs.Count.{page_at, census_at}
+use Rattle.census.specs.Laws.{faults_with, has_rights}
 use Rattle.census.proofs.Laws.{sound-at, status-count}
 use Rattle.tlb.specs.declared.access.Kind.{Kind}
 use Rattle.tlb.specs.declared.access.Answer.TheVariants.{Address, Status}
-use Rattle.mmu.specs.Bare.{Bare, freshBare, bareOf}
-use Rattle.mmu.specs.Core.{freshCore}
+use Rattle.mmu.specs.Bare.{Bare, fresh_bare, bare_of}
+use Rattle.mmu.specs.Core.{fresh_core}
 use Rattle.mmu.specs.declared.core_state.Core.{Core}
 use Rattle.operations.specs.declared.call.Call.TheVariants.{Census}
 use Rattle.operations.specs.declared.call.Reply.TheVariants.{Refused, Done}
-use Rattle.cpu.specs.Step.{ends, run_of, refusedOr, step_of}
-use Rattle.cpu.specs.Inspect.{countsOf, countsAfter, census-core}
-use Rattle.history.specs.World.{leafAnswer, walkAnswer, needNow, uncached}
-use Rattle.history.specs.Fresh.{freshNow, freshAnswer, uncached-fresh}
-use Rattle.history.specs.Calls.{Lent, run, bareRun}
-use Rattle.history.specs.Instance.{Ram, memoryOf, real}
-use Rattle.transparency.specs.Bare.{Ruling, allowed, number, undefined, unimplemented, plainIn, missedIn, rulingIn, refusalOf}
-use Rattle.transparency.specs.Bare.{ifAllowed, bareStep}
-use Rattle.transparency.specs.Replies.{outcome, bareReply}
+use Rattle.cpu.specs.Step.{ends, run_of, refused_or, step_of}
+use Rattle.cpu.specs.Inspect.{counts_of, counts_after, census-core}
+use Rattle.history.specs.World.{leaf_answer, walk_answer, need_now, uncached}
+use Rattle.history.specs.Fresh.{fresh_now, fresh_answer, uncached-fresh}
+use Rattle.history.specs.Calls.{Lent, run, bare_run}
+use Rattle.history.specs.Instance.{Ram, memory_of, real}
+use Rattle.transparency.specs.Bare.{Ruling, allowed, number, undefined, unimplemented, plain_in, missed_in, ruling_in, refusal_of}
+use Rattle.transparency.specs.Bare.{if_allowed, bare_step}
+use Rattle.transparency.specs.Replies.{outcome, bare_reply}
 use Rattle.transparency.specs.Machine.{machine}
-use Rattle.transparency.specs.Beside.{coreAfter}
+use Rattle.transparency.specs.Beside.{core_after}
 use Rattle.transparency.proofs.Beside.{two-cores}
-use Rattle.transparency.specs.Census.{regimeIn, bankIn, bareCounts, census, answersFault, NoPermission, answersAddress}
+use Rattle.transparency.specs.Census.{regime_in, bank_in, bare_counts, census, answers_fault, NoPermission, answers_address}
 use Rattle.transparency.specs.Census as Statement
 
 counts-bare : (c : Core) (m : Ram) (first pages : ℕ) (old : List ℕ)
-    → countsAfter c m.base m.bytes first pages old ≡ bareCounts (bareOf c) m first pages old
-unfolding countsAfter
-counts-bare c m first pages old = go (missedIn (bareOf c) m (Census first pages))
+    → counts_after c m.base m.bytes first pages old ≡ bare_counts (bare_of c) m first pages old
+unfolding counts_after
+counts-bare c m first pages old = go (missed_in (bare_of c) m (Census first pages))
   where
-    go : (n : ℕ) → refusedOr n (λ k. old) (countsOf c m.base m.bytes first pages)
-        ≡ ifAllowed (refusedOr n number allowed) (countsOf c m.base m.bytes first pages) old
+    go : (n : ℕ) → refused_or n (λ k. old) (counts_of c m.base m.bytes first pages)
+        ≡ if_allowed (refused_or n number allowed) (counts_of c m.base m.bytes first pages) old
     go zero = refl
     go (suc n) = refl
 
 -- After every list, refused or not: the counts, and the reply.
 pub census-after : Statement.census_after
 census-after list m first pages old =
-    counts-bare (coreAfter list) m first pages old ∙ ap (λ (b : Bare). bareCounts b m first pages old) (two-cores list)
+    counts-bare (core_after list) m first pages old ∙ ap (λ (b : Bare). bare_counts b m first pages old) (two-cores list)
 
 reply-bare : (c : Core) (m : Ram) (first pages : ℕ)
-    → (step_of c m.base m.bytes (Census first pages)).reply ≡ (bareReply (bareOf c) m (Census first pages)).reply
+    → (step_of c m.base m.bytes (Census first pages)).reply ≡ (bare_reply (bare_of c) m (Census first pages)).reply
 unfolding step_of run_of
-reply-bare c m first pages = go (missedIn (bareOf c) m (Census first pages))
+reply-bare c m first pages = go (missed_in (bare_of c) m (Census first pages))
   where
-    go : (n : ℕ) → (refusedOr n (λ k. ends c (Refused k)) (ends c Done)).reply
-        ≡ (ifAllowed (refusedOr n number allowed) (outcome Done m.bytes) (outcome (refusalOf (refusedOr n number allowed)) m.bytes)).reply
+    go : (n : ℕ) → (refused_or n (λ k. ends c (Refused k)) (ends c Done)).reply
+        ≡ (if_allowed (refused_or n number allowed) (outcome Done m.bytes) (outcome (refusal_of (refused_or n number allowed)) m.bytes)).reply
     go zero = refl
     go (suc n) = refl
 
 pub census-reply : Statement.census_reply
 census-reply list m first pages =
-    reply-bare (coreAfter list) m first pages ∙ ap (λ (b : Bare). (bareReply b m (Census first pages)).reply) (two-cores list)
+    reply-bare (core_after list) m first pages ∙ ap (λ (b : Bare). (bare_reply b m (Census first pages)).reply) (two-cores list)
 
 -- A STEP THAT DOES NOTHING: a list with a census in it leaves what it leaves without, whatever RAM the census was shown
 
@@ -70,63 +70,63 @@ core-skips : (c : Core) (before after : List (Lent real machine)) (m : Ram) (fir
 core-skips c [] after m first pages = ap (λ (d : Core). run real machine d after) (census-core c m.base m.bytes first pages)
 core-skips c (x ∷ before) after m first pages = core-skips (step_of c x.ram.base x.ram.bytes x.call).core before after m first pages
 
-bare-stays : (b : Bare) (m : Ram) (first pages : ℕ) → bareStep b m (Census first pages) ≡ b
-bare-stays b m first pages = go (rulingIn b m (Census first pages))
+bare-stays : (b : Bare) (m : Ram) (first pages : ℕ) → bare_step b m (Census first pages) ≡ b
+bare-stays b m first pages = go (ruling_in b m (Census first pages))
   where
-    go : (v : Ruling) → ifAllowed v b b ≡ b
+    go : (v : Ruling) → if_allowed v b b ≡ b
     go allowed = refl
     go (number n) = refl
     go undefined = refl
     go unimplemented = refl
 
 bare-skips : (b : Bare) (before after : List (Lent real machine)) (m : Ram) (first pages : ℕ)
-    → bareRun real machine b (before ++ (census m first pages ∷ after)) ≡ bareRun real machine b (before ++ after)
-bare-skips b [] after m first pages = ap (λ (d : Bare). bareRun real machine d after) (bare-stays b m first pages)
-bare-skips b (x ∷ before) after m first pages = bare-skips (bareStep b x.ram x.call) before after m first pages
+    → bare_run real machine b (before ++ (census m first pages ∷ after)) ≡ bare_run real machine b (before ++ after)
+bare-skips b [] after m first pages = ap (λ (d : Bare). bare_run real machine d after) (bare-stays b m first pages)
+bare-skips b (x ∷ before) after m first pages = bare-skips (bare_step b x.ram x.call) before after m first pages
 
 pub census-skipped : Statement.census_skipped
-census-skipped before after m first pages = (core-skips freshCore before after m first pages, bare-skips freshBare before after m first pages)
+census-skipped before after m first pages = (core-skips fresh_core before after m first pages, bare-skips fresh_bare before after m first pages)
 
 -- WHAT A COUNT MEANS
 
 leaf-answers : (status bit va : ℕ) → NoPermission status → (leaf : Leaf) → 1 ≤ leaf.level → leaf.level ≤ 3
-    → answersFault status (leafAnswer leaf bit va) ≡ false
-unfolding leafAnswer
+    → answers_fault status (leaf_answer leaf bit va) ≡ false
+unfolding leaf_answer
 leaf-answers status bit va h leaf low high = go (eqb (leaf.perms / bit % 2) 1)
   where
-    go : (b : Bool) → answersFault status (if b then Address (leaf.oa / 4096 * 4096 + va % 4096) else Status (status-of (12 + leaf.level))) ≡ false
+    go : (b : Bool) → answers_fault status (if b then Address (leaf.oa / 4096 * 4096 + va % 4096) else Status (status-of (12 + leaf.level))) ≡ false
     go true = refl
     go false = ne_eqb (12 + leaf.level) status (λ e. ⊎_elim (λ k. omega arith) (λ k. omega arith) h)
 
-fresh-answers : (status bit va : ℕ) → NoPermission status → (x : Fresh) → SoundFresh x → answersFault status (freshAnswer x bit va) ≡ faultsWith status x
-unfolding walkAnswer
+fresh-answers : (status bit va : ℕ) → NoPermission status → (x : Fresh) → SoundFresh x → answers_fault status (fresh_answer x bit va) ≡ faults_with status x
+unfolding walk_answer
 fresh-answers status bit va h (Ended (Err n)) sound = refl
 fresh-answers status bit va h (Ended (Ok leaf)) sound = leaf-answers status bit va h leaf sound.level-low sound.level-high
 fresh-answers status bit va h (Flat pa) sound = refl
 
 status-faults : (b : Bare) (m : Ram) (first pages status : ℕ) (k : Kind) → status < 64 → NoPermission status
-    → get_or (censusAt b.control b.privilege.level (memoryOf m) first pages) status 0
-    ≡ howMany (λ i. answersFault status (uncached real (plainIn b) m k (pageAt first i))) pages
+    → get_or (census_at b.control b.privilege.level (memory_of m) first pages) status 0
+    ≡ how_many (λ i. answers_fault status (uncached real (plain_in b) m k (page_at first i))) pages
 status-faults b m first pages status k small h =
-    status-count (bankIn b) (regimeIn b) (memoryOf m) first pages status small ∙ many-same _ _ pages same
+    status-count (bank_in b) (regime_in b) (memory_of m) first pages status small ∙ many-same _ _ pages same
   where
-    same : (i : ℕ) → faultsWith status (freshNow (plainIn b) m (pageAt first i)) ≡ answersFault status (uncached real (plainIn b) m k (pageAt first i))
+    same : (i : ℕ) → faults_with status (fresh_now (plain_in b) m (page_at first i)) ≡ answers_fault status (uncached real (plain_in b) m k (page_at first i))
     same i =
         sym
-        (fresh-answers status (needNow real (plainIn b) k) (pageAt first i) h (freshNow (plainIn b) m (pageAt first i))
-        (sound-at (bankIn b) (regimeIn b) (memoryOf m) first i))
-        ∙ ap (answersFault status) (sym (uncached-fresh (plainIn b) m k (pageAt first i)))
+        (fresh-answers status (need_now real (plain_in b) k) (page_at first i) h (fresh_now (plain_in b) m (page_at first i))
+        (sound-at (bank_in b) (regime_in b) (memory_of m) first i))
+        ∙ ap (answers_fault status) (sym (uncached-fresh (plain_in b) m k (page_at first i)))
 
 -- Under a status stand the pages of which the core without a cache answers an access of any kind with that fault.
 pub census-faults : Statement.census_faults
 census-faults b m first pages status k old small h passed = rw passed (status-faults b m first pages status k small h)
 
-picked : (b : Bool) (pa : ℕ) (f : Fault) → answersAddress (if b then Address pa else Status f) ≡ b
+picked : (b : Bool) (pa : ℕ) (f : Fault) → answers_address (if b then Address pa else Status f) ≡ b
 picked true pa f = refl
 picked false pa f = refl
 
-rights-fresh : (perms bit va : ℕ) (x : Fresh) → hasRights perms x ≡ true → answersAddress (freshAnswer x bit va) ≡ eqb (perms / bit % 2) 1
-unfolding walkAnswer leafAnswer
+rights-fresh : (perms bit va : ℕ) (x : Fresh) → has_rights perms x ≡ true → answers_address (fresh_answer x bit va) ≡ eqb (perms / bit % 2) 1
+unfolding walk_answer leaf_answer
 rights-fresh perms bit va (Ended (Ok leaf)) h =
     picked (eqb (leaf.perms / bit % 2) 1) (leaf.oa / 4096 * 4096 + va % 4096) (status-of (12 + leaf.level))
     ∙ ap (λ (p : ℕ). eqb (p / bit % 2) 1) (eqb-true leaf.perms perms h)
@@ -136,8 +136,8 @@ rights-fresh perms bit va (Flat pa) h = absurd (let z : ◌≡◌ {A = ℕ} 0 1 
 -- Of a page that is counted under a permission byte, and of a flat one.
 pub rights-allow : Statement.rights_allow
 rights-allow b m k va perms h =
-    ap answersAddress (uncached-fresh (plainIn b) m k va) ∙ rights-fresh perms (needNow real (plainIn b) k) va (freshNow (plainIn b) m va) h
+    ap answers_address (uncached-fresh (plain_in b) m k va) ∙ rights-fresh perms (need_now real (plain_in b) k) va (fresh_now (plain_in b) m va) h
 
 pub flat-allows : Statement.flat_allows
 flat-allows b m k va pa e =
-    uncached-fresh (plainIn b) m k va ∙ ap (λ (x : Fresh). freshAnswer x (needNow real (plainIn b) k) va) e
+    uncached-fresh (plain_in b) m k va ∙ ap (λ (x : Fresh). fresh_answer x (need_now real (plain_in b) k) va) e

@@ -6,11 +6,11 @@ use Rattle.std.proofs.Common.{◌∙◌}
 use Rattle.std.proofs.Math.Bool.{true, false}
 use Rattle.std.proofs.Math.Dec.{eqb}
 use borrow.Author.Tests.{eq-eqb, ne_eqb}
-use Rattle.sysreg.specs.Shape.{asidOf}
+use Rattle.sysreg.specs.Shape.{asid_of}
 use Rattle.sysreg.specs.declared.regs.Control.{Control}
-use Rattle.tlb.specs.Model.{Slot, Counters, Model, oneFlush, oneEpoch, invalCounted, invalidate, retag, joined, broadcast}
-use Rattle.tlb.specs.Counting.{howCounted, translate-counts, fetch-counts}
-use Rattle.tlb.specs.Live.{countersOf, pendingOf, live}
+use Rattle.tlb.specs.Model.{Slot, Counters, Model, one_flush, one_epoch, inval_counted, invalidate, retag, joined, broadcast}
+use Rattle.tlb.specs.Counting.{how_counted, translate-counts, fetch-counts}
+use Rattle.tlb.specs.Live.{counters_of, pending_of, live}
 use Rattle.tlb.proofs.Levels.{counters-tell}
 use Rattle.tlb.specs.Asks.{Ask, translates, fetches, onward-same}
 use Rattle.tlb.specs.declared.{access.Kind.Kind, Inval.Inval, Tlb.Tlb}
@@ -18,58 +18,58 @@ use Rattle.sysop.specs.declared.op.SysOp.TheVariants as Op
 use Rattle.mmu.specs.Bare.{Bare}
 use Rattle.operations.specs.declared.{call.Encoding.Encoding, call.Call.Call}
 use Rattle.operations.specs.declared.call.Call.TheVariants.{Translate, DataPa, FetchPa, Fetch, System, Register}
-use Rattle.history.specs.World.{accessOf}
+use Rattle.history.specs.World.{access_of}
 use Rattle.history.specs.History.{carries, writes, Event, steps}
-use Rattle.history.specs.ModelRun.{modelAsk, modelAfter, modelFlushed, modelRetagged, modelRun}
+use Rattle.history.specs.ModelRun.{model_ask, model_after, model_flushed, model_retagged, model_run}
 use Rattle.history.specs.Calls.{Lent}
 use Rattle.history.specs.Instance.{Ram, real}
-use Rattle.transparency.specs.Bare.{plainIn, missedIn, opIn, writtenIn}
-use Rattle.transparency.specs.Events.{does, asking, invalIn, sharedIn, tlbi-event}
-use Rattle.transparency.specs.Starts.{laterIn}
+use Rattle.transparency.specs.Bare.{plain_in, missed_in, op_in, written_in}
+use Rattle.transparency.specs.Events.{does, asking, inval_in, shared_in, tlbi-event}
+use Rattle.transparency.specs.Starts.{later_in}
 use Rattle.transparency.specs.Machine.{machine}
-use Rattle.transparency.specs.Beside.{coreAfter, bareAfter}
+use Rattle.transparency.specs.Beside.{core_after, bare_after}
 use Rattle.transparency.proofs.Beside.{two-cores}
-use Rattle.transparency.specs.Faithful.{eventsAfter}
-use Rattle.transparency.specs.ModelCalls.{modelAfterList, tlbAfterCall}
+use Rattle.transparency.specs.Faithful.{events_after}
+use Rattle.transparency.specs.ModelCalls.{model_after_list, tlb_after_call}
 use Rattle.transparency.proofs.ModelCalls.{every-core-well, every-call-model, levels-now, levels-after}
-use Rattle.transparency.specs.Counted.{howAnswered}
+use Rattle.transparency.specs.Counted.{how_answered}
 use Rattle.transparency.specs.Counted as Statement
 
 module _ (list : List (Lent real machine)) (m : Ram) where
   abbrev now : Tlb
-  now = (coreAfter list).tlb
+  now = (core_after list).tlb
 
   abbrev model : Model
-  model = modelAfterList list
+  model = model_after_list list
 
   -- the level of the next call
   abbrev level : ℕ
-  level = (bareAfter list).privilege.level
+  level = (bare_after list).privilege.level
 
   -- the model after a call of one step
-  one-step : (x : Call) (es : List (Event real)) → eventsAfter list m x ≡ es
-      → live (tlbAfterCall list m x) ≡ modelRun real (plainIn (bareAfter list)) es model
+  one-step : (x : Call) (es : List (Event real)) → events_after list m x ≡ es
+      → live (tlb_after_call list m x) ≡ model_run real (plain_in (bare_after list)) es model
   one-step x es e =
-      (every-call-model list m x).after ∙ ap (λ (l : List (Event real)). modelRun real (plainIn (bareAfter list)) l model) e
+      (every-call-model list m x).after ∙ ap (λ (l : List (Event real)). model_run real (plain_in (bare_after list)) l model) e
 
-  model-counts : model.counts ≡ countersOf now.counts
+  model-counts : model.counts ≡ counters_of now.counts
   model-counts = ap (λ (u : Model). u.counts) (sym (every-call-model list m (Fetch 0)).before)
 
-  model-pending : model.pending ≡ pendingOf now.broadcast
+  model-pending : model.pending ≡ pending_of now.broadcast
   model-pending = ap (λ (u : Model). u.pending) (sym (every-call-model list m (Fetch 0)).before)
 
   -- TRANSLATIONS
 
-  translation-counts : (a : Ask) → (modelAsk real (plainIn (bareAfter list)) m a model).after.counts ≡ howCounted (howAnswered list m a) level model.counts
-  translation-counts (translates kind va) = translate-counts (accessOf real (plainIn (bareAfter list)) m kind va) model
-  translation-counts (fetches va) = fetch-counts (accessOf real (plainIn (bareAfter list)) m Kind.Fetch va) model
+  translation-counts : (a : Ask) → (model_ask real (plain_in (bare_after list)) m a model).after.counts ≡ how_counted (how_answered list m a) level model.counts
+  translation-counts (translates kind va) = translate-counts (access_of real (plain_in (bare_after list)) m kind va) model
+  translation-counts (fetches va) = fetch-counts (access_of real (plain_in (bare_after list)) m Kind.Fetch va) model
 
-  one-counted : (x : Call) (a : Ask) → eventsAfter list m x ≡ steps m (asking (a ∷ [])) ∷ []
-      → countersOf (tlbAfterCall list m x).counts ≡ howCounted (howAnswered list m a) level (countersOf now.counts)
+  one-counted : (x : Call) (a : Ask) → events_after list m x ≡ steps m (asking (a ∷ [])) ∷ []
+      → counters_of (tlb_after_call list m x).counts ≡ how_counted (how_answered list m a) level (counters_of now.counts)
   one-counted x a e =
-      ap (λ (u : Model). u.counts) (one-step x (steps m (asking (a ∷ [])) ∷ []) e ∙ onward-same (modelAsk real (plainIn (bareAfter list)) m a model).answer _)
+      ap (λ (u : Model). u.counts) (one-step x (steps m (asking (a ∷ [])) ∷ []) e ∙ onward-same (model_ask real (plain_in (bare_after list)) m a model).answer _)
       ∙ translation-counts a
-      ∙ ap (howCounted (howAnswered list m a) level) model-counts
+      ∙ ap (how_counted (how_answered list m a) level) model-counts
 
   -- One that a line of the model answers counts one in `hits` of the core's level, one that is walked one in `walks` of
   -- it, whether it faults or not; a hint, and the address itself with stage 1 off, count nothing.
@@ -87,44 +87,44 @@ module _ (list : List (Lent real machine)) (m : Ram) where
 
   -- TLBI, not refused
 
-  module _ (e : Encoding) (passed : missedIn (bareAfter list) m (System e) ≡ 0) (named : opIn (bareAfter list) e ≡ Op.Tlbi) where
+  module _ (e : Encoding) (passed : missed_in (bare_after list) m (System e) ≡ 0) (named : op_in (bare_after list) e ≡ Op.Tlbi) where
     abbrev what : Inval
-    what = invalIn (bareAfter list) e
+    what = inval_in (bare_after list) e
 
     abbrev then : Tlb
-    then = tlbAfterCall list m (System e)
+    then = tlb_after_call list m (System e)
 
     abbrev carried : Bool → Model
-    carried shared = modelAfter real (carries what shared) (plainIn (bareAfter list)) model
+    carried shared = model_after real (carries what shared) (plain_in (bare_after list)) model
 
-    tlbi-model : live then ≡ carried (sharedIn e)
+    tlbi-model : live then ≡ carried (shared_in e)
     tlbi-model =
-        one-step (System e) (steps m (does (carries what (sharedIn e))) ∷ [])
-        (tlbi-event (bareAfter list) m (laterIn (coreAfter list) m (System e)) e passed named)
+        one-step (System e) (steps m (does (carries what (shared_in e))) ∷ [])
+        (tlbi-event (bare_after list) m (later_in (core_after list) m (System e)) e passed named)
 
-    carried-counts : (shared : Bool) → (carried shared).counts ≡ invalCounted what model.counts
+    carried-counts : (shared : Bool) → (carried shared).counts ≡ inval_counted what model.counts
     unfolding invalidate broadcast
     carried-counts true = refl
     carried-counts false = refl
 
     -- it counts what it names, once, whether it is an Inner Shareable form or not
     pub tlbi-counted : Statement.tlbi_counted list m e passed named
-    tlbi-counted = ap (λ (u : Model). u.counts) tlbi-model ∙ carried-counts (sharedIn e) ∙ ap (invalCounted what) model-counts
+    tlbi-counted = ap (λ (u : Model). u.counts) tlbi-model ∙ carried-counts (shared_in e) ∙ ap (inval_counted what) model-counts
 
     -- a Page adds just one to `drops` and one to `epoch`
     pub page-counted : Statement.page_counted list m e passed named
     page-counted n q = counters-tell _ _ (levels-after list m (System e)) (levels-now list)
-        (tlbi-counted ∙ ap (λ (v : Inval). invalCounted v (countersOf now.counts)) q)
+        (tlbi-counted ∙ ap (λ (v : Inval). inval_counted v (counters_of now.counts)) q)
 
     -- an All one to `flushes` and one to `epoch`
     pub all-counted : Statement.all_counted list m e passed named
     all-counted q = counters-tell _ _ (levels-after list m (System e)) (levels-now list)
-        (tlbi-counted ∙ ap (λ (v : Inval). invalCounted v (countersOf now.counts)) q)
+        (tlbi-counted ∙ ap (λ (v : Inval). inval_counted v (counters_of now.counts)) q)
 
     -- an Asid one to `epoch` alone
     pub asid-counted : Statement.asid_counted list m e passed named
     asid-counted a q = counters-tell _ _ (levels-after list m (System e)) (levels-now list)
-        (tlbi-counted ∙ ap (λ (v : Inval). invalCounted v (countersOf now.counts)) q)
+        (tlbi-counted ∙ ap (λ (v : Inval). inval_counted v (counters_of now.counts)) q)
 
     -- A second broadcast that differs from the pending one becomes All, an equal one stays: of an Inner Shareable
     -- form, whose CRm is 3
@@ -141,41 +141,41 @@ module _ (list : List (Lent real machine)) (m : Ram) where
   -- REGISTER WRITES, not refused: "where `shaping` changed, it flushes; then, where `asid` differs from the cache's, it
   -- retags"
 
-  module _ (key value : ℕ) (passed : missedIn (bareAfter list) m (Register key value) ≡ 0)
-      (done : (writtenIn (bareAfter list) key value).answer ≡ Ok tt) where
+  module _ (key value : ℕ) (passed : missed_in (bare_after list) m (Register key value) ≡ 0)
+      (done : (written_in (bare_after list) key value).answer ≡ Ok tt) where
     abbrev registers : Control
-    registers = (writtenIn (bareAfter list) key value).control
+    registers = (written_in (bare_after list) key value).control
 
     abbrev written : Tlb
-    written = tlbAfterCall list m (Register key value)
+    written = tlb_after_call list m (Register key value)
 
     pub write-modelled : Statement.write_modelled list m key value passed done
     write-modelled = one-step (Register key value) (steps m (does (writes registers)) ∷ []) (rw (passed, done))
 
     -- the ASID in force is the cache's
-    asid-now : model.asid ≡ asidOf (bareAfter list).control
+    asid-now : model.asid ≡ asid_of (bare_after list).control
     asid-now =
         ap (λ (u : Model). u.asid) (sym (every-call-model list m (Register key value)).before)
         ∙ (every-core-well list).asid
-        ∙ ap (λ (b : Bare). asidOf b.control) (two-cores list)
+        ∙ ap (λ (b : Bare). asid_of b.control) (two-cores list)
 
     -- neither changed: nothing of the cache changes
     pub write-quiet : Statement.write_quiet list m key value passed done
-    unfolding modelRetagged modelFlushed
+    unfolding model_retagged model_flushed
     write-quiet shape asid =
-        let same : eqb model.asid (asidOf registers) ≡ true = eq-eqb _ _ (asid-now ∙ sym asid) in
+        let same : eqb model.asid (asid_of registers) ≡ true = eq-eqb _ _ (asid-now ∙ sym asid) in
         write-modelled ∙ rw (shape, same) (sym (every-call-model list m (Register key value)).before)
 
     -- `shaping` alone: a flush, one in `flushes` and one in `epoch`
     pub write-flushes : Statement.write_flushes list m key value passed done
-    unfolding modelRetagged modelFlushed invalidate
+    unfolding model_retagged model_flushed invalidate
     write-flushes shape asid =
-        let same : eqb model.asid (asidOf registers) ≡ true = eq-eqb _ _ (asid-now ∙ sym asid) in
-        ap (λ (u : Model). u.counts) write-modelled ∙ rw (shape, same) (ap (λ (k : Counters). oneEpoch (oneFlush k)) model-counts)
+        let same : eqb model.asid (asid_of registers) ≡ true = eq-eqb _ _ (asid-now ∙ sym asid) in
+        ap (λ (u : Model). u.counts) write-modelled ∙ rw (shape, same) (ap (λ (k : Counters). one_epoch (one_flush k)) model-counts)
 
     -- the ASID alone: a retag, one in `epoch`
     pub write-retags : Statement.write_retags list m key value passed done
-    unfolding modelRetagged modelFlushed retag
+    unfolding model_retagged model_flushed retag
     write-retags shape differs =
-        let other : eqb model.asid (asidOf registers) ≡ false = ne_eqb _ _ (λ q. differs (sym q ∙ asid-now)) in
-        ap (λ (u : Model). u.counts) write-modelled ∙ rw (shape, other) (ap oneEpoch model-counts)
+        let other : eqb model.asid (asid_of registers) ≡ false = ne_eqb _ _ (λ q. differs (sym q ∙ asid-now)) in
+        ap (λ (u : Model). u.counts) write-modelled ∙ rw (shape, other) (ap one_epoch model-counts)

@@ -5,8 +5,8 @@ use Rattle.std.proofs.Math.Path.{refl, ap, subst⁻¹}
 use Rattle.std.proofs.Common.{sym, subst, ◌∙◌, inl, inr, arith, add-zero}
 use mathlib.Core.List.{List, [], ◌∷◌, ◌++◌, append-nil, Memᴰ}
 use Rattle.std.proofs.Math.Nat.{mod-mod}
-use Rattle.word.specs.Bits.{alignDown, wrap}
-use Rattle.word.specs.Ram.{width_of, bytesIn, within}
+use Rattle.word.specs.Bits.{align_down, wrap}
+use Rattle.word.specs.Ram.{width_of, bytes_in, within}
 use Rattle.word.specs.declared.ram.Width.{Width}
 use Rattle.fault.specs.First.{first}
 use Rattle.fault.specs.declared.Fault.{Fault}
@@ -15,10 +15,10 @@ use Rattle.tlb.specs.Asks.{Ask, translates, fetches, address_of, Given, onward, 
 use Rattle.tlb.specs.declared.{access.Kind.Kind, access.Answer.Answer, Tlb.Tlb}
 use Rattle.tlb.specs.declared.access.Answer.TheVariants.{Address, Status}
 use Rattle.mmu.specs.Bare.{Bare}
-use Rattle.operations.specs.Place.{nextPage, crosses, byte_at, firstOutside, verdictOf}
-use Rattle.operations.specs.Bytes.{gotBy, value_at, load_of, insnOf}
-use Rattle.mmu.specs.Asks.{asksBy, placedBy}
-use Rattle.operations.specs.Ends.{reachedBy, loadedFrom, loadEnd, storeEndBy, storeEnd, fetchedFrom, fetchEnd}
+use Rattle.operations.specs.Place.{next_page, crosses, byte_at, first_outside, verdict_of}
+use Rattle.operations.specs.Bytes.{got_by, value_at, load_of, insn_of}
+use Rattle.mmu.specs.Asks.{asks_by, placed_from}
+use Rattle.operations.specs.Ends.{reached_by, loaded_from, load_end, store_end_by, store_end, fetched_from, fetch_end}
 use Rattle.operations.specs.declared.{place.Pages.Pages, place.Place.Place, place.Placed.Placed, place.Verdict.Verdict}
 use Rattle.operations.specs.declared.{bytes.Insn.Insn, call.Call.Call}
 use Rattle.operations.specs.declared.place.Place.TheVariants.{Whole, Split}
@@ -28,20 +28,20 @@ use Rattle.sysop.specs.declared.op.SysOp.TheVariants as Op
 use Rattle.operations.specs.Replies.{translation, loading, storing, fetching, reaching}
 use Rattle.operations.specs.declared.call.Call.TheVariants.{Translate, DataPa, FetchPa, Load, Store, Fetch, System, Register, Level, Mark, General}
 use Rattle.operations.specs.declared.call.Call.TheVariants.{Abort, Census}
-use Rattle.history.specs.World.{Plain, onNow}
-use Rattle.history.specs.History.{steps, answer_of, tlbAsk, answers, tlbAsks}
-use Rattle.history.specs.Invisible.{answersRun}
+use Rattle.history.specs.World.{Plain, on_now}
+use Rattle.history.specs.History.{steps, answer_of, tlb_ask, answers, tlb_asks}
+use Rattle.history.specs.Invisible.{answers_run}
 use Rattle.history.specs.Calls.{Lent, lent_of}
 use Rattle.history.specs.Instance.{Ram, real}
 use Rattle.history.specs.Judgement.{Row}
-use Rattle.transparency.specs.Bare.{plainIn, opIn, operandIn, Ruling, allowed, number, undefined, unimplemented, rulingIn, refusalOf, ifAllowed}
-use Rattle.transparency.specs.Events.{idle, accessIn, sizedIn, zeroSteps, sysSteps, stepsIn, eventsIn}
-use Rattle.transparency.specs.Replies.{Outcome, outcome, loadSays, storeSays, loadSized, storeSized, zeroSays, sysSays, callSays, saysIn}
-use Rattle.transparency.proofs.Answered.{next-aligned, start-aligned, storeGiven, one-given}
+use Rattle.transparency.specs.Bare.{plain_in, op_in, operand_in, Ruling, allowed, number, undefined, unimplemented, ruling_in, refusal_of, if_allowed}
+use Rattle.transparency.specs.Events.{idle, access_in, sized_in, zero_steps, sys_steps, steps_in, events_in}
+use Rattle.transparency.specs.Replies.{Outcome, outcome, load_says, store_says, load_by_size, store_by_size, zero_says, sys_says, call_says, says_in}
+use Rattle.transparency.proofs.Answered.{next-aligned, start-aligned, store_given, one-given}
 use Rattle.transparency.specs.Machine.{machine}
-use Rattle.transparency.specs.Beside.{coreAfter, bareAfter}
-use Rattle.transparency.specs.Starts.{laterIn}
-use Rattle.transparency.specs.Faithful.{eventsAfter, answersAfter}
+use Rattle.transparency.specs.Beside.{core_after, bare_after}
+use Rattle.transparency.specs.Starts.{later_in}
+use Rattle.transparency.specs.Faithful.{events_after, answers_after}
 use Rattle.transparency.proofs.Faithful.{said}
 use Rattle.transparency.proofs.Judged.{every-row}
 use Rattle.transparency.specs.Faults.{RepliesFault, FaultFrom, translating, outside}
@@ -54,18 +54,18 @@ use Rattle.transparency.specs.Faults as Statement
 outside-injective : {i j x y : ℕ} → Outside i x ≡ Outside j y → i ≡ j
 outside-injective e = cc
 
-first-outside : (base len : ℕ) (p : Pages) (i n j pa : ℕ) → firstOutside base len p i n ≡ Outside j pa → j < i + n
-unfolding firstOutside
+first-outside : (base len : ℕ) (p : Pages) (i n j pa : ℕ) → first_outside base len p i n ≡ Outside j pa → j < i + n
+unfolding first_outside
 first-outside base len p i zero j pa e = let z : ◌≡◌ {A = ℕ} 0 1 = cc in absurd (omega arith)
 first-outside base len p i (suc n) j pa e = go (within base len 1 (byte_at p i)) e (λ f. first-outside base len p (i + 1) n j pa f)
   where
-    go : (b : Bool) → (if b then firstOutside base len p (i + 1) n else Outside i (byte_at p i)) ≡ Outside j pa
-        → (firstOutside base len p (i + 1) n ≡ Outside j pa → j < i + 1 + n) → j < i + suc n
+    go : (b : Bool) → (if b then first_outside base len p (i + 1) n else Outside i (byte_at p i)) ≡ Outside j pa
+        → (first_outside base len p (i + 1) n ≡ Outside j pa → j < i + 1 + n) → j < i + suc n
     go true f k = let h : j < i + 1 + n = k f in omega arith
     go false f k = let h : i ≡ j = outside-injective f in omega arith
 
-byte_low : (base len : ℕ) (place : Place) (n j pa : ℕ) → 0 < n → verdictOf base len place n ≡ Outside j pa → j < n
-unfolding verdictOf
+byte_low : (base len : ℕ) (place : Place) (n j pa : ℕ) → 0 < n → verdict_of base len place n ≡ Outside j pa → j < n
+unfolding verdict_of
 byte_low base len (Whole q) n j pa some e = go (within base len n q) e
   where
     go : (b : Bool) → (if b then Inside else Outside 0 q) ≡ Outside j pa → j < n
@@ -76,9 +76,9 @@ byte_low base len (Split p) n j pa some e = let h : j < 0 + n = first-outside ba
 -- AN ACCESS: a fault is that of one of its translations, and a place begins where the first was allowed
 
 pub record PlacedFrom (va : ℕ) (gs : List Given) : Type 0 where
-  pub faulting : (a : ℕ) (fault : Fault) → placedBy va gs ≡ Placed.Fault a fault
+  pub faulting : (a : ℕ) (fault : Fault) → placed_from va gs ≡ Placed.Fault a fault
       → (g : Given) × Memᴰ g gs × (address_of g.ask ≡ a) × (g.answer ≡ Status fault)
-  pub lying : (place : Place) → placedBy va gs ≡ Placed.At place
+  pub lying : (place : Place) → placed_from va gs ≡ Placed.At place
       → (g : Given) × Memᴰ g gs × (address_of g.ask ≡ va) × (pa : ℕ) × (g.answer ≡ Address pa)
 
 fault-one : {a b : ℕ} {x y : Fault} → Placed.Fault a x ≡ Placed.Fault b y → a ≡ b
@@ -93,7 +93,7 @@ module _ (va : ℕ) (kind : Kind) where
   one x = record { ask = translates kind va; answer = x }
 
   abbrev two : Answer → Given
-  two y = record { ask = translates kind (nextPage va); answer = y }
+  two y = record { ask = translates kind (next_page va); answer = y }
 
   placed_one : (x : Answer) → PlacedFrom va (one x ∷ [])
   placed_one (Address pa) =
@@ -119,14 +119,14 @@ module _ (va : ℕ) (kind : Kind) where
         lying = λ place e. let z : ◌≡◌ {A = ℕ} 0 1 = cc in absurd (omega arith);
       }
 
-  pub answers-placed : (c : Bool) (q : Plain real) (m : Ram) (t : Tlb) → PlacedFrom va (answers real q m (asksBy c va kind) t)
+  pub answers-placed : (c : Bool) (q : Plain real) (m : Ram) (t : Tlb) → PlacedFrom va (answers real q m (asks_by c va kind) t)
   answers-placed false q m t =
       subst (λ (l : List Given). PlacedFrom va (one (answer_of real q m (translates kind va) t) ∷ l))
       (sym (onward-same (answer_of real q m (translates kind va) t) []))
       (placed_one (answer_of real q m (translates kind va) t))
   answers-placed true q m t =
       go (answer_of real q m (translates kind va) t)
-      (answer_of real q m (translates kind (nextPage va)) (tlbAsk real q m (translates kind va) t))
+      (answer_of real q m (translates kind (next_page va)) (tlb_ask real q m (translates kind va) t))
     where
       go : (x y : Answer) → PlacedFrom va (one x ∷ onward {A = List Given} x (two y ∷ onward {A = List Given} y [] []) [])
       go (Address pa) y = subst (λ (l : List Given). PlacedFrom va (one (Address pa) ∷ two y ∷ l)) (sym (onward-same y [])) (placed-two pa y)
@@ -134,7 +134,7 @@ module _ (va : ℕ) (kind : Kind) where
 
 -- WHAT AN ACCESS REPLIES
 
-some_bytes : (w : Width) → (0 < bytesIn w) × (bytesIn w ≤ 8)
+some_bytes : (w : Width) → (0 < bytes_in w) × (bytes_in w ≤ 8)
 some_bytes Width.Byte = (omega arith, omega arith)
 some_bytes Width.Half = (omega arith, omega arith)
 some_bytes Width.Word = (omega arith, omega arith)
@@ -142,40 +142,40 @@ some_bytes Width.Double = (omega arith, omega arith)
 
 module _ (m : Ram) (va n : ℕ) (some : 0 < n) (few : n ≤ 8) (gs : List Given) (from : PlacedFrom va gs) (addr : ℕ) (fault : Fault) where
   -- a byte outside
-  out : (place : Place) (j pa : ℕ) → placedBy va gs ≡ Placed.At place → verdictOf m.base (length m.bytes) place n ≡ Outside j pa
+  out : (place : Place) (j pa : ℕ) → placed_from va gs ≡ Placed.At place → verdict_of m.base (length m.bytes) place n ≡ Outside j pa
       → wrap (va + j) ≡ addr → first 0x10 ≡ fault → FaultFrom gs addr fault
   out place j pa e v a f =
       let (g, mem, q, pb, r) = from.lying place e in
       let low : j < n = byte_low m.base (length m.bytes) place n j pa some v in
       outside g mem pb r j (omega arith) (ap wrap (sym a) ∙ mod-mod (va + j) (2 ^ 64) ∙ ap (λ (x : ℕ). wrap (x + j)) (sym q)) (sym f)
 
-  load_from : RepliesFault (loadSays m va n gs).reply addr fault → FaultFrom gs addr fault
-  unfolding loadEnd load_of
-  load_from = go (placedBy va gs) refl
+  load_from : RepliesFault (load_says m va n gs).reply addr fault → FaultFrom gs addr fault
+  unfolding load_end load_of
+  load_from = go (placed_from va gs) refl
     where
-      go : (q : Placed) → placedBy va gs ≡ q → RepliesFault (loading (loadEnd q 0 0 m.base m.bytes va n).answer) addr fault → FaultFrom gs addr fault
+      go : (q : Placed) → placed_from va gs ≡ q → RepliesFault (loading (load_end q 0 0 m.base m.bytes va n).answer) addr fault → FaultFrom gs addr fault
       go (Placed.Fault a f) e w =
           let (g, mem, p, r) = from.faulting a f e in
           translating g mem (p ∙ w.0) (r ∙ ap Status w.1)
-      go (Placed.At place) e w = by-verdict (verdictOf m.base (length m.bytes) place n) refl w
+      go (Placed.At place) e w = by-verdict (verdict_of m.base (length m.bytes) place n) refl w
         where
-          by-verdict : (v : Verdict) → verdictOf m.base (length m.bytes) place n ≡ v
-              → RepliesFault (loading (loadedFrom place (gotBy v (value_at m.base m.bytes place n)) 0 va).answer) addr fault → FaultFrom gs addr fault
+          by-verdict : (v : Verdict) → verdict_of m.base (length m.bytes) place n ≡ v
+              → RepliesFault (loading (loaded_from place (got_by v (value_at m.base m.bytes place n)) 0 va).answer) addr fault → FaultFrom gs addr fault
           by-verdict Inside d x = absurd x
           by-verdict (Outside j pa) d x = out place j pa e d x.0 x.1
 
-  store-from : (v : ℕ) → RepliesFault (storeSays m va n v gs).reply addr fault → FaultFrom gs addr fault
-  unfolding storeEnd
-  store-from v = go (placedBy va gs) refl
+  store-from : (v : ℕ) → RepliesFault (store_says m va n v gs).reply addr fault → FaultFrom gs addr fault
+  unfolding store_end
+  store-from v = go (placed_from va gs) refl
     where
-      go : (q : Placed) → placedBy va gs ≡ q → RepliesFault (storing (storeEnd q 0 m.base m.bytes va n).answer) addr fault → FaultFrom gs addr fault
+      go : (q : Placed) → placed_from va gs ≡ q → RepliesFault (storing (store_end q 0 m.base m.bytes va n).answer) addr fault → FaultFrom gs addr fault
       go (Placed.Fault a f) e w =
           let (g, mem, p, r) = from.faulting a f e in
           translating g mem (p ∙ w.0) (r ∙ ap Status w.1)
-      go (Placed.At place) e w = by-verdict (verdictOf m.base (length m.bytes) place n) refl w
+      go (Placed.At place) e w = by-verdict (verdict_of m.base (length m.bytes) place n) refl w
         where
-          by-verdict : (d : Verdict) → verdictOf m.base (length m.bytes) place n ≡ d
-              → RepliesFault (storing (storeEndBy d 0 va).answer) addr fault → FaultFrom gs addr fault
+          by-verdict : (d : Verdict) → verdict_of m.base (length m.bytes) place n ≡ d
+              → RepliesFault (storing (store_end_by d 0 va).answer) addr fault → FaultFrom gs addr fault
           by-verdict Inside d x = absurd x
           by-verdict (Outside j pa) d x = out place j pa e d x.0 x.1
 
@@ -189,40 +189,40 @@ placed-nil : (va : ℕ) (gs : List Given) → PlacedFrom va gs → PlacedFrom va
 placed-nil va gs s = subst (PlacedFrom va) (sym (append-nil gs)) s
 
 zero-from : (b : Bare) (m : Ram) (ms : List Ram) (va : ℕ) (t : Tlb) (addr : ℕ) (fault : Fault) → va % 8 ≡ 0
-    → RepliesFault (zeroSays m ms va (answersRun real (plainIn b) (zeroSteps b m ms va) t)).reply addr fault
-    → FaultFrom (answersRun real (plainIn b) (zeroSteps b m ms va) t) addr fault
+    → RepliesFault (zero_says m ms va (answers_run real (plain_in b) (zero_steps b m ms va) t)).reply addr fault
+    → FaultFrom (answers_run real (plain_in b) (zero_steps b m ms va) t) addr fault
 zero-from b m [] va t addr fault al w =
-    store-from m va 8 (omega arith) (omega arith) _ (placed-nil va _ (answers-placed va Kind.Write (crosses (onNow real (plainIn b)) va 8) (plainIn b) m t))
+    store-from m va 8 (omega arith) (omega arith) _ (placed-nil va _ (answers-placed va Kind.Write (crosses (on_now real (plain_in b)) va 8) (plain_in b) m t))
     addr fault 0 w
 zero-from b m (n ∷ ms) va t addr fault al w =
     subst (λ (l : List Given). FaultFrom (l ++ rest) addr fault) (sym (one-given b t m va al))
-    (from-later (storeGiven b t m va) rest addr fault
-    (zero-from b n ms (wrap (va + 8)) (tlbAsks real (plainIn b) m (accessIn b va 8 Kind.Write) t) addr fault (next-aligned va al)
-    (subst (λ (l : List Given). RepliesFault (zeroSays m (n ∷ ms) va (l ++ rest)).reply addr fault) (one-given b t m va al) w)))
+    (from-later (store_given b t m va) rest addr fault
+    (zero-from b n ms (wrap (va + 8)) (tlb_asks real (plain_in b) m (access_in b va 8 Kind.Write) t) addr fault (next-aligned va al)
+    (subst (λ (l : List Given). RepliesFault (zero_says m (n ∷ ms) va (l ++ rest)).reply addr fault) (one-given b t m va al) w)))
   where
     rest : List Given
-    rest = answersRun real (plainIn b) (zeroSteps b n ms (wrap (va + 8))) (tlbAsks real (plainIn b) m (accessIn b va 8 Kind.Write) t)
+    rest = answers_run real (plain_in b) (zero_steps b n ms (wrap (va + 8))) (tlb_asks real (plain_in b) m (access_in b va 8 Kind.Write) t)
 
 -- EVERY CALL
 
-abbrev ranGiven : Bare → Ram → List Ram → Call → Tlb → List Given
-ranGiven b m ms x t = answersRun real (plainIn b) (stepsIn b m ms x) t
+abbrev ran_given : Bare → Ram → List Ram → Call → Tlb → List Given
+ran_given b m ms x t = answers_run real (plain_in b) (steps_in b m ms x) t
 
 load-sized-from : (s : Option Width) (b : Bare) (m : Ram) (va : ℕ) (t : Tlb) (addr : ℕ) (fault : Fault)
-    → RepliesFault (loadSized s m va (answers real (plainIn b) m (sizedIn b va s Kind.Read) t ++ [])).reply addr fault
-    → FaultFrom (answers real (plainIn b) m (sizedIn b va s Kind.Read) t ++ []) addr fault
+    → RepliesFault (load_by_size s m va (answers real (plain_in b) m (sized_in b va s Kind.Read) t ++ [])).reply addr fault
+    → FaultFrom (answers real (plain_in b) m (sized_in b va s Kind.Read) t ++ []) addr fault
 load-sized-from None b m va t addr fault w = absurd w
 load-sized-from (Some w) b m va t addr fault x =
-    load_from m va (bytesIn w) (some_bytes w).0 (some_bytes w).1 _
-    (placed-nil va _ (answers-placed va Kind.Read (crosses (onNow real (plainIn b)) va (bytesIn w)) (plainIn b) m t)) addr fault x
+    load_from m va (bytes_in w) (some_bytes w).0 (some_bytes w).1 _
+    (placed-nil va _ (answers-placed va Kind.Read (crosses (on_now real (plain_in b)) va (bytes_in w)) (plain_in b) m t)) addr fault x
 
 store-sized-from : (s : Option Width) (b : Bare) (m : Ram) (va v : ℕ) (t : Tlb) (addr : ℕ) (fault : Fault)
-    → RepliesFault (storeSized s m va v (answers real (plainIn b) m (sizedIn b va s Kind.Write) t ++ [])).reply addr fault
-    → FaultFrom (answers real (plainIn b) m (sizedIn b va s Kind.Write) t ++ []) addr fault
+    → RepliesFault (store_by_size s m va v (answers real (plain_in b) m (sized_in b va s Kind.Write) t ++ [])).reply addr fault
+    → FaultFrom (answers real (plain_in b) m (sized_in b va s Kind.Write) t ++ []) addr fault
 store-sized-from None b m va v t addr fault w = absurd w
 store-sized-from (Some w) b m va v t addr fault x =
-    store-from m va (bytesIn w) (some_bytes w).0 (some_bytes w).1 _
-    (placed-nil va _ (answers-placed va Kind.Write (crosses (onNow real (plainIn b)) va (bytesIn w)) (plainIn b) m t)) addr fault v x
+    store-from m va (bytes_in w) (some_bytes w).0 (some_bytes w).1 _
+    (placed-nil va _ (answers-placed va Kind.Write (crosses (on_now real (plain_in b)) va (bytes_in w)) (plain_in b) m t)) addr fault v x
 
 module _ (b : Bare) (m : Ram) (t : Tlb) (addr : ℕ) (fault : Fault) where
   translate-from : (a : Ask) (x : Answer) → RepliesFault (translation (address_of a) x) addr fault → (l : List Given)
@@ -230,34 +230,34 @@ module _ (b : Bare) (m : Ram) (t : Tlb) (addr : ℕ) (fault : Fault) where
   translate-from a (Address pa) w l = absurd w
   translate-from a (Status f) w l = translating _ (Memᴰ.head refl) w.0 (ap Status w.1)
 
-  reach-from : (x : Answer) → RepliesFault (reaching (reachedBy x)) addr fault → ⊥
+  reach-from : (x : Answer) → RepliesFault (reaching (reached_by x)) addr fault → ⊥
   reach-from (Address pa) w = w
   reach-from (Status f) w = w
 
-  fetch-from : (va : ℕ) (x : Answer) → RepliesFault (fetching (fetchEnd x 0 m.base m.bytes va).answer) addr fault → (l : List Given)
+  fetch-from : (va : ℕ) (x : Answer) → RepliesFault (fetching (fetch_end x 0 m.base m.bytes va).answer) addr fault → (l : List Given)
       → FaultFrom (record { ask = fetches va; answer = x } ∷ l) addr fault
-  unfolding fetchEnd
+  unfolding fetch_end
   fetch-from va (Status f) w l = translating _ (Memᴰ.head refl) w.0 (ap Status w.1)
-  fetch-from va (Address pa) w l = go (insnOf m.base m.bytes pa) w
+  fetch-from va (Address pa) w l = go (insn_of m.base m.bytes pa) w
     where
-      go : (i : Insn) → RepliesFault (fetching (fetchedFrom pa i 0 va).answer) addr fault
+      go : (i : Insn) → RepliesFault (fetching (fetched_from pa i 0 va).answer) addr fault
           → FaultFrom (record { ask = fetches va; answer = Address pa } ∷ l) addr fault
       go (Insn.Value v) y = absurd y
       go Insn.Outside y =
           outside _ (Memᴰ.head refl) pa refl 0 (omega arith) (ap wrap (sym y.0) ∙ ap wrap (sym (add-zero va))) (sym y.1)
 
-  call_from : (ms : List Ram) (x : Call) → RepliesFault (callSays b m ms x (ranGiven b m ms x t)).reply addr fault → FaultFrom (ranGiven b m ms x t) addr fault
-  call_from ms (Translate kind va) w = translate-from (translates kind va) (answer_of real (plainIn b) m (translates kind va) t) w _
-  call_from ms (DataPa va) w = absurd (reach-from (answer_of real (plainIn b) m (translates Kind.Read va) t) w)
-  call_from ms (FetchPa va) w = absurd (reach-from (answer_of real (plainIn b) m (fetches va) t) w)
+  call_from : (ms : List Ram) (x : Call) → RepliesFault (call_says b m ms x (ran_given b m ms x t)).reply addr fault → FaultFrom (ran_given b m ms x t) addr fault
+  call_from ms (Translate kind va) w = translate-from (translates kind va) (answer_of real (plain_in b) m (translates kind va) t) w _
+  call_from ms (DataPa va) w = absurd (reach-from (answer_of real (plain_in b) m (translates Kind.Read va) t) w)
+  call_from ms (FetchPa va) w = absurd (reach-from (answer_of real (plain_in b) m (fetches va) t) w)
   call_from ms (Load va size) w = load-sized-from (width_of size) b m va t addr fault w
   call_from ms (Store va size value) w = store-sized-from (width_of size) b m va value t addr fault w
-  call_from ms (Fetch va) w = fetch-from va (answer_of real (plainIn b) m (fetches va) t) w _
-  call_from ms (System e) w = go (opIn b e) w
+  call_from ms (Fetch va) w = fetch-from va (answer_of real (plain_in b) m (fetches va) t) w _
+  call_from ms (System e) w = go (op_in b e) w
     where
-      go : (o : SysOp) → RepliesFault (sysSays o m ms (operandIn b e) (answersRun real (plainIn b) (sysSteps o b m ms e) t)).reply addr fault
-          → FaultFrom (answersRun real (plainIn b) (sysSteps o b m ms e) t) addr fault
-      go Op.Zva y = zero-from b m ms (alignDown (operandIn b e) 6) t addr fault (start-aligned (operandIn b e)) y
+      go : (o : SysOp) → RepliesFault (sys_says o m ms (operand_in b e) (answers_run real (plain_in b) (sys_steps o b m ms e) t)).reply addr fault
+          → FaultFrom (answers_run real (plain_in b) (sys_steps o b m ms e) t) addr fault
+      go Op.Zva y = zero-from b m ms (align_down (operand_in b e) 6) t addr fault (start-aligned (operand_in b e)) y
       go (Op.At form) y = absurd y
       go Op.Tlbi y = absurd y
       go Op.Nothing y = absurd y
@@ -270,14 +270,14 @@ module _ (b : Bare) (m : Ram) (t : Tlb) (addr : ℕ) (fault : Fault) where
   call_from ms (Abort e) w = absurd w
   call_from ms (Census first pages) w = absurd w
 
-  said-from : (ms : List Ram) (x : Call) → RepliesFault (saysIn b m ms x (answersRun real (plainIn b) (eventsIn b m ms x) t)).reply addr fault
-      → FaultFrom (answersRun real (plainIn b) (eventsIn b m ms x) t) addr fault
-  said-from ms x = go (rulingIn b m x)
+  said-from : (ms : List Ram) (x : Call) → RepliesFault (says_in b m ms x (answers_run real (plain_in b) (events_in b m ms x) t)).reply addr fault
+      → FaultFrom (answers_run real (plain_in b) (events_in b m ms x) t) addr fault
+  said-from ms x = go (ruling_in b m x)
     where
       go : (v : Ruling) → RepliesFault
-          (ifAllowed v (callSays b m ms x (answersRun real (plainIn b) (ifAllowed v (stepsIn b m ms x) (steps m idle ∷ [])) t))
-          (outcome (refusalOf v) m.bytes)).reply addr fault
-          → FaultFrom (answersRun real (plainIn b) (ifAllowed v (stepsIn b m ms x) (steps m idle ∷ [])) t) addr fault
+          (if_allowed v (call_says b m ms x (answers_run real (plain_in b) (if_allowed v (steps_in b m ms x) (steps m idle ∷ [])) t))
+          (outcome (refusal_of v) m.bytes)).reply addr fault
+          → FaultFrom (answers_run real (plain_in b) (if_allowed v (steps_in b m ms x) (steps m idle ∷ [])) t) addr fault
       go allowed w = call_from ms x w
       go (number k) w = absurd w
       go undefined w = absurd w
@@ -299,11 +299,11 @@ every-fault list seen m x addr fault w = (row from, from)
     made : List (Lent real machine)
     made = lent_of real machine list
 
-    from : FaultFrom (answersAfter made m x) addr fault
+    from : FaultFrom (answers_after made m x) addr fault
     from =
-        said-from (bareAfter made) m (coreAfter made).tlb addr fault (laterIn (coreAfter made) m x) x
+        said-from (bare_after made) m (core_after made).tlb addr fault (later_in (core_after made) m x) x
         (subst (λ (o : Outcome). RepliesFault o.reply addr fault) (said made m x) w)
 
-    row : FaultFrom (answersAfter made m x) addr fault → Row fault.fsc ⊎ (fault.fsc ≡ 0x10)
-    row (translating g mem p r) = inl (each_at (every-row list seen (eventsAfter made m x)) mem fault r)
+    row : FaultFrom (answers_after made m x) addr fault → Row fault.fsc ⊎ (fault.fsc ≡ 0x10)
+    row (translating g mem p r) = inl (each_at (every-row list seen (events_after made m x)) mem fault r)
     row (outside g mem pa r i low p f) = inr (ap (λ (x : Fault). x.fsc) f)

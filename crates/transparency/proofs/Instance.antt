@@ -1,7 +1,7 @@
 -- Faithfulness of every list of calls of the core, from the fresh core that `Cpu::new` gives.
 use Rattle.std.specs.Prelude.{refl}
 use Rattle.std.proofs.Common.{arith}
-use Rattle.mmu.specs.Core.{freshCore}
+use Rattle.mmu.specs.Core.{fresh_core}
 use Rattle.history.specs.Calls.{EveryCallFaithful, SameReplies, InvisibleCalls}
 use Rattle.history.proofs.EveryCall.{every_call_faithful}
 use Rattle.history.proofs.EveryReply.{same-replies, invisible-calls}
@@ -13,16 +13,16 @@ use Rattle.transparency.proofs.Alone.{alone-same}
 
 -- After every list of calls, in every call, each translation of a page that meets the premise is answered as by the
 -- core without a cache.
-pub every_call : EveryCallFaithful real machine freshCore
-unfolding freshCore
-every_call = every_call_faithful real machine bridge real-laws freshCore refl fresh-asid (omega arith)
+pub every_call : EveryCallFaithful real machine fresh_core
+unfolding fresh_core
+every_call = every_call_faithful real machine bridge real-laws fresh_core refl fresh-asid (omega arith)
 
 -- Where all pages that a call translates meet the premise, its reply and RAM are those of the core without a cache.
-pub every-reply : SameReplies real machine replies freshCore
-unfolding freshCore
-every-reply = same-replies real machine bridge real-laws freshCore refl fresh-asid (omega arith) replies alone-same
+pub every-reply : SameReplies real machine replies fresh_core
+unfolding fresh_core
+every-reply = same-replies real machine bridge real-laws fresh_core refl fresh-asid (omega arith) replies alone-same
 
 -- Where no table is changed without the matching TLBI, no reply and no RAM of a list shows the cache.
-pub invisible : InvisibleCalls real machine replies freshCore
-unfolding freshCore
-invisible = invisible-calls real machine bridge real-laws freshCore refl fresh-asid (omega arith) replies alone-same
+pub invisible : InvisibleCalls real machine replies fresh_core
+unfolding fresh_core
+invisible = invisible-calls real machine bridge real-laws fresh_core refl fresh-asid (omega arith) replies alone-same

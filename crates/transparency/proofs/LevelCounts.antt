@@ -5,35 +5,35 @@
 use Rattle.std.specs.Prelude.{◌≡◌, refl, true, List, [], ◌∷◌, ℕ, ◌+◌, ◌%◌, ◌^◌, ◌<◌}
 use Rattle.std.proofs.Common.{sym, ap, subst, ◌∙◌, arith}
 use Rattle.std.proofs.lemmas.Bool.{false≢true}
-use Rattle.word.specs.Bits.{alignDown, wrap}
+use Rattle.word.specs.Bits.{align_down, wrap}
 use Rattle.word.specs.Ram.{width_of}
 use Rattle.tlb.specs.Asks.{translates, fetches}
-use Rattle.tlb.specs.Counting.{howCounted, fetch-counts, sums}
-use Rattle.tlb.specs.Live.{countersOf}
+use Rattle.tlb.specs.Counting.{how_counted, fetch-counts, sums}
+use Rattle.tlb.specs.Live.{counters_of}
 use Rattle.tlb.specs.Lists.{Each, done, each-imp}
-use Rattle.tlb.specs.Model.{Counters, Model, emptyModel}
+use Rattle.tlb.specs.Model.{Counters, Model, empty_model}
 use Rattle.tlb.specs.declared.access.Kind.TheVariants as Kind
 use Rattle.tlb.specs.declared.Tlb.{Tlb}
 use Rattle.sysop.specs.declared.op.SysOp.{SysOp}
 use Rattle.sysop.specs.declared.op.SysOp.TheVariants as Op
-use Rattle.mmu.specs.Bare.{Bare, freshBare}
+use Rattle.mmu.specs.Bare.{Bare, fresh_bare}
 use Rattle.operations.specs.declared.{call.Encoding.Encoding, call.Call.Call}
 use Rattle.operations.specs.declared.call.Call.TheVariants.{Translate, DataPa, FetchPa, Load, Store, Fetch, System, Register, Level, Mark, General}
 use Rattle.operations.specs.declared.call.Call.TheVariants.{Abort, Census}
 use Rattle.history.specs.History.{Step, steps}
 use Rattle.history.specs.Calls.{Lent}
 use Rattle.history.specs.Instance.{Ram, real}
-use Rattle.history.specs.ModelRun.{modelEvent}
-use Rattle.history.specs.Tallies.{Made, byLine, byWalk, howMany, at, rustAfter, madeRun, each_append, made-level, run-hits, run-walks, run-sums, run-other}
-use Rattle.transparency.specs.Bare.{plainIn, opIn, operandIn, Ruling, allowed, number, undefined, unimplemented, rulingIn, ifAllowed}
-use Rattle.transparency.specs.Events.{asking, idle, accessIn, sizedIn, zeroSteps, sysSteps, stepsIn, eventsIn}
-use Rattle.transparency.specs.Starts.{laterIn}
+use Rattle.history.specs.ModelRun.{model_event}
+use Rattle.history.specs.Tallies.{Made, by_line, by_walk, how_many, at, rust_after, made_run, each_append, made-level, run-hits, run-walks, run-sums, run-other}
+use Rattle.transparency.specs.Bare.{plain_in, op_in, operand_in, Ruling, allowed, number, undefined, unimplemented, ruling_in, if_allowed}
+use Rattle.transparency.specs.Events.{asking, idle, access_in, sized_in, zero_steps, sys_steps, steps_in, events_in}
+use Rattle.transparency.specs.Starts.{later_in}
 use Rattle.transparency.specs.Machine.{machine}
-use Rattle.transparency.specs.Beside.{coreAfter, bareAfter}
-use Rattle.transparency.specs.Faithful.{eventsAfter}
-use Rattle.transparency.specs.ModelCalls.{eventsBy, modelAfterList, tlbAfterCall}
+use Rattle.transparency.specs.Beside.{core_after, bare_after}
+use Rattle.transparency.specs.Faithful.{events_after}
+use Rattle.transparency.specs.ModelCalls.{events_by, model_after_list, tlb_after_call}
 use Rattle.transparency.proofs.ModelCalls.{stands, low-now, every-call-model}
-use Rattle.transparency.specs.LevelCounts.{madeBy, madeAfter, hitsOf, walksOf, quietOp, quiet}
+use Rattle.transparency.specs.LevelCounts.{made_by, made_after, hits_of, walks_of, quiet_op, quiet}
 use Rattle.transparency.specs.LevelCounts as Statement
 
 from-none : (n : ℕ) → (0 + n) % 2 ^ 64 ≡ n % 2 ^ 64
@@ -46,27 +46,27 @@ wraps n = omega arith
 
 module _ (list : List (Lent real machine)) where
   abbrev now : Tlb
-  now = (coreAfter list).tlb
+  now = (core_after list).tlb
 
-  counts-are : countersOf now.counts ≡ (modelAfterList list).counts
+  counts-are : counters_of now.counts ≡ (model_after_list list).counts
   counts-are = ap (λ (u : Model). u.counts) (stands list).is
 
   -- each level's counts are the number of its translations that an entry answered, that were walked
   pub level-hits : Statement.level_hits list
-  level-hits l = (λ i. (counts-are i).hits l) ∙ run-hits real (eventsBy list) (plainIn freshBare) emptyModel l (omega arith) ∙ from-none _
+  level-hits l = (λ i. (counts-are i).hits l) ∙ run-hits real (events_by list) (plain_in fresh_bare) empty_model l (omega arith) ∙ from-none _
 
   pub level-walks : Statement.level_walks list
-  level-walks l = (λ i. (counts-are i).walks l) ∙ run-walks real (eventsBy list) (plainIn freshBare) emptyModel l (omega arith) ∙ from-none _
+  level-walks l = (λ i. (counts-are i).walks l) ∙ run-walks real (events_by list) (plain_in fresh_bare) empty_model l (omega arith) ∙ from-none _
 
-  small-hits : (l : ℕ) → hitsOf now l < 2 ^ 64
-  small-hits l = rw (level-hits l) (wraps (howMany (at l byLine) (madeBy list)))
+  small-hits : (l : ℕ) → hits_of now l < 2 ^ 64
+  small-hits l = rw (level-hits l) (wraps (how_many (at l by_line) (made_by list)))
 
-  small-walks : (l : ℕ) → walksOf now l < 2 ^ 64
-  small-walks l = rw (level-walks l) (wraps (howMany (at l byWalk) (madeBy list)))
+  small-walks : (l : ℕ) → walks_of now l < 2 ^ 64
+  small-walks l = rw (level-walks l) (wraps (how_many (at l by_walk) (made_by list)))
 
   -- the sums are the Rust's two counters, which begin at 0
   pub sums-list : Statement.sums_list list
-  sums-list = ap sums counts-are ∙ run-sums real (eventsBy list) (plainIn freshBare) emptyModel (omega arith)
+  sums-list = ap sums counts-are ∙ run-sums real (events_by list) (plain_in fresh_bare) empty_model (omega arith)
 
 -- EACH CALL AFTER A LIST
 
@@ -75,34 +75,34 @@ module _ (b : Bare) where
   abbrev AtLevel : List Made → Type 0
   AtLevel xs = Each (λ x. x.level ≡ b.privilege.level) xs
 
-  one : (m : Ram) (s : Step real) (u : Model) → AtLevel (madeRun real (plainIn b) (steps m s ∷ []) u)
-  one m s u = each_append (made-level real (plainIn b) m s.asks u) done
+  one : (m : Ram) (s : Step real) (u : Model) → AtLevel (made_run real (plain_in b) (steps m s ∷ []) u)
+  one m s u = each_append (made-level real (plain_in b) m s.asks u) done
 
   abbrev storing : ℕ → Step real
-  storing va = asking (accessIn b va 8 Kind.Write)
+  storing va = asking (access_in b va 8 Kind.Write)
 
-  zero-level : (m : Ram) (ms : List Ram) (va : ℕ) (u : Model) → AtLevel (madeRun real (plainIn b) (zeroSteps b m ms va) u)
+  zero-level : (m : Ram) (ms : List Ram) (va : ℕ) (u : Model) → AtLevel (made_run real (plain_in b) (zero_steps b m ms va) u)
   zero-level m [] va u = one m (storing va) u
   zero-level m (n ∷ ms) va u =
-      each_append (made-level real (plainIn b) m (storing va).asks u)
-      (zero-level n ms (wrap (va + 8)) (modelEvent real (steps m (storing va)) (plainIn b) u))
+      each_append (made-level real (plain_in b) m (storing va).asks u)
+      (zero-level n ms (wrap (va + 8)) (model_event real (steps m (storing va)) (plain_in b) u))
 
-  sys-level : (op : SysOp) (m : Ram) (ms : List Ram) (e : Encoding) (u : Model) → AtLevel (madeRun real (plainIn b) (sysSteps op b m ms e) u)
-  sys-level Op.Zva m ms e u = zero-level m ms (alignDown (operandIn b e) 6) u
+  sys-level : (op : SysOp) (m : Ram) (ms : List Ram) (e : Encoding) (u : Model) → AtLevel (made_run real (plain_in b) (sys_steps op b m ms e) u)
+  sys-level Op.Zva m ms e u = zero-level m ms (align_down (operand_in b e) 6) u
   sys-level Op.Tlbi m ms e u = done
   sys-level (Op.At form) m ms e u = done
   sys-level Op.Nothing m ms e u = done
   sys-level Op.Undefined m ms e u = done
   sys-level Op.Unimplemented m ms e u = done
 
-  steps-level : (x : Call) (m : Ram) (ms : List Ram) (u : Model) → AtLevel (madeRun real (plainIn b) (stepsIn b m ms x) u)
+  steps-level : (x : Call) (m : Ram) (ms : List Ram) (u : Model) → AtLevel (made_run real (plain_in b) (steps_in b m ms x) u)
   steps-level (Translate kind va) m ms u = one m (asking (translates kind va ∷ [])) u
   steps-level (DataPa va) m ms u = one m (asking (translates Kind.Read va ∷ [])) u
   steps-level (FetchPa va) m ms u = one m (asking (fetches va ∷ [])) u
-  steps-level (Load va size) m ms u = one m (asking (sizedIn b va (width_of size) Kind.Read)) u
-  steps-level (Store va size value) m ms u = one m (asking (sizedIn b va (width_of size) Kind.Write)) u
+  steps-level (Load va size) m ms u = one m (asking (sized_in b va (width_of size) Kind.Read)) u
+  steps-level (Store va size value) m ms u = one m (asking (sized_in b va (width_of size) Kind.Write)) u
   steps-level (Fetch va) m ms u = one m (asking (fetches va ∷ [])) u
-  steps-level (System e) m ms u = sys-level (opIn b e) m ms e u
+  steps-level (System e) m ms u = sys-level (op_in b e) m ms e u
   steps-level (Register key value) m ms u = done
   steps-level (Level level) m ms u = done
   steps-level (Mark mark) m ms u = done
@@ -110,10 +110,10 @@ module _ (b : Bare) where
   steps-level (Abort e) m ms u = done
   steps-level (Census first pages) m ms u = done
 
-  events-level : (x : Call) (m : Ram) (ms : List Ram) (u : Model) → AtLevel (madeRun real (plainIn b) (eventsIn b m ms x) u)
-  events-level x m ms u = go (rulingIn b m x)
+  events-level : (x : Call) (m : Ram) (ms : List Ram) (u : Model) → AtLevel (made_run real (plain_in b) (events_in b m ms x) u)
+  events-level x m ms u = go (ruling_in b m x)
     where
-      go : (r : Ruling) → AtLevel (madeRun real (plainIn b) (ifAllowed r (stepsIn b m ms x) (steps m idle ∷ [])) u)
+      go : (r : Ruling) → AtLevel (made_run real (plain_in b) (if_allowed r (steps_in b m ms x) (steps m idle ∷ [])) u)
       go allowed = steps-level x m ms u
       go (number n) = done
       go undefined = done
@@ -122,22 +122,22 @@ module _ (b : Bare) where
 module _ (list : List (Lent real machine)) (m : Ram) (x : Call) where
   -- the level of the call: the core's own, whatever the mark
   abbrev level : ℕ
-  level = (bareAfter list).privilege.level
+  level = (bare_after list).privilege.level
 
   abbrev then : Tlb
-  then = tlbAfterCall list m x
+  then = tlb_after_call list m x
 
   pub call-level : Statement.call_level list m x
-  call-level = events-level (bareAfter list) x m (laterIn (coreAfter list) m x) (modelAfterList list)
+  call-level = events-level (bare_after list) x m (later_in (core_after list) m x) (model_after_list list)
 
-  counts-before : countersOf (now list).counts ≡ (modelAfterList list).counts
+  counts-before : counters_of (now list).counts ≡ (model_after_list list).counts
   counts-before = counts-are list
 
   -- a level at which it makes no translation keeps its counters
-  unmade-stays : (l : ℕ) → Each (λ y. l ≡ y.level → ⊥) (madeAfter list m x)
-      → (hitsOf then l ≡ hitsOf (now list) l) × (walksOf then l ≡ walksOf (now list) l)
+  unmade-stays : (l : ℕ) → Each (λ y. l ≡ y.level → ⊥) (made_after list m x)
+      → (hits_of then l ≡ hits_of (now list) l) × (walks_of then l ≡ walks_of (now list) l)
   unmade-stays l none =
-      let stay = run-other real (eventsAfter list m x) (plainIn (bareAfter list)) (modelAfterList list) l none in
+      let stay = run-other real (events_after list m x) (plain_in (bare_after list)) (model_after_list list) l none in
       let after = (every-call-model list m x).counts in
       ((λ i. (after i).hits l) ∙ stay.0 ∙ (λ i. (sym counts-before i).hits l), (λ i. (after i).walks l) ∙ stay.1 ∙ (λ i. (sym counts-before i).walks l))
 
@@ -149,24 +149,24 @@ module _ (list : List (Lent real machine)) (m : Ram) (x : Call) where
   pub own-hits : Statement.own_hits list m x
   own-hits =
       (λ i. ((every-call-model list m x).counts i).hits level)
-      ∙ run-hits real (eventsAfter list m x) (plainIn (bareAfter list)) (modelAfterList list) level (rw (← counts-before) (small-hits list level))
-      ∙ ap (λ (n : ℕ). (n + howMany (at level byLine) (madeAfter list m x)) % 2 ^ 64) (λ i. (sym counts-before i).hits level)
+      ∙ run-hits real (events_after list m x) (plain_in (bare_after list)) (model_after_list list) level (rw (← counts-before) (small-hits list level))
+      ∙ ap (λ (n : ℕ). (n + how_many (at level by_line) (made_after list m x)) % 2 ^ 64) (λ i. (sym counts-before i).hits level)
 
   pub own-walks : Statement.own_walks list m x
   own-walks =
       (λ i. ((every-call-model list m x).counts i).walks level)
-      ∙ run-walks real (eventsAfter list m x) (plainIn (bareAfter list)) (modelAfterList list) level (rw (← counts-before) (small-walks list level))
-      ∙ ap (λ (n : ℕ). (n + howMany (at level byWalk) (madeAfter list m x)) % 2 ^ 64) (λ i. (sym counts-before i).walks level)
+      ∙ run-walks real (events_after list m x) (plain_in (bare_after list)) (model_after_list list) level (rw (← counts-before) (small-walks list level))
+      ∙ ap (λ (n : ℕ). (n + how_many (at level by_walk) (made_after list m x)) % 2 ^ 64) (λ i. (sym counts-before i).walks level)
 
   -- the sums move as the Rust's two counters
   pub sums-call : Statement.sums_call list m x
   sums-call =
       ap sums (every-call-model list m x).counts
-      ∙ run-sums real (eventsAfter list m x) (plainIn (bareAfter list)) (modelAfterList list) (low-now list m x)
-      ∙ ap (λ (k : Counters). rustAfter (madeAfter list m x) (sums k)) (sym counts-before)
+      ∙ run-sums real (events_after list m x) (plain_in (bare_after list)) (model_after_list list) (low-now list m x)
+      ∙ ap (λ (k : Counters). rust_after (made_after list m x) (sums k)) (sym counts-before)
 
 module _ (b : Bare) (m : Ram) (ms : List Ram) (u : Model) where
-  sys-none : (op : SysOp) (e : Encoding) → quietOp op ≡ true → madeRun real (plainIn b) (sysSteps op b m ms e) u ≡ []
+  sys-none : (op : SysOp) (e : Encoding) → quiet_op op ≡ true → made_run real (plain_in b) (sys_steps op b m ms e) u ≡ []
   sys-none Op.Zva e q = absurd (false≢true q)
   sys-none Op.Tlbi e q = refl
   sys-none (Op.At form) e q = refl
@@ -174,14 +174,14 @@ module _ (b : Bare) (m : Ram) (ms : List Ram) (u : Model) where
   sys-none Op.Undefined e q = refl
   sys-none Op.Unimplemented e q = refl
 
-  steps-none : (x : Call) → quiet b x ≡ true → madeRun real (plainIn b) (stepsIn b m ms x) u ≡ []
+  steps-none : (x : Call) → quiet b x ≡ true → made_run real (plain_in b) (steps_in b m ms x) u ≡ []
   steps-none (Translate kind va) q = absurd (false≢true q)
   steps-none (DataPa va) q = absurd (false≢true q)
   steps-none (FetchPa va) q = absurd (false≢true q)
   steps-none (Load va size) q = absurd (false≢true q)
   steps-none (Store va size value) q = absurd (false≢true q)
   steps-none (Fetch va) q = absurd (false≢true q)
-  steps-none (System e) q = sys-none (opIn b e) e q
+  steps-none (System e) q = sys-none (op_in b e) e q
   steps-none (Register key value) q = refl
   steps-none (Level n) q = refl
   steps-none (Mark mark) q = refl
@@ -189,21 +189,21 @@ module _ (b : Bare) (m : Ram) (ms : List Ram) (u : Model) where
   steps-none (Abort e) q = refl
   steps-none (Census first pages) q = refl
 
-  events-none : (x : Call) → quiet b x ≡ true → madeRun real (plainIn b) (eventsIn b m ms x) u ≡ []
-  events-none x q = go (rulingIn b m x)
+  events-none : (x : Call) → quiet b x ≡ true → made_run real (plain_in b) (events_in b m ms x) u ≡ []
+  events-none x q = go (ruling_in b m x)
     where
-      go : (r : Ruling) → madeRun real (plainIn b) (ifAllowed r (stepsIn b m ms x) (steps m idle ∷ [])) u ≡ []
+      go : (r : Ruling) → made_run real (plain_in b) (if_allowed r (steps_in b m ms x) (steps m idle ∷ [])) u ≡ []
       go allowed = steps-none x q
       go (number n) = refl
       go undefined = refl
       go unimplemented = refl
 
 -- a refused call makes none either
-refused_none : (b : Bare) (m : Ram) (ms : List Ram) (u : Model) (x : Call) → (rulingIn b m x ≡ allowed → ⊥)
-    → madeRun real (plainIn b) (eventsIn b m ms x) u ≡ []
-refused_none b m ms u x not = go (rulingIn b m x) refl
+refused_none : (b : Bare) (m : Ram) (ms : List Ram) (u : Model) (x : Call) → (ruling_in b m x ≡ allowed → ⊥)
+    → made_run real (plain_in b) (events_in b m ms x) u ≡ []
+refused_none b m ms u x not = go (ruling_in b m x) refl
   where
-    go : (r : Ruling) → rulingIn b m x ≡ r → madeRun real (plainIn b) (ifAllowed r (stepsIn b m ms x) (steps m idle ∷ [])) u ≡ []
+    go : (r : Ruling) → ruling_in b m x ≡ r → made_run real (plain_in b) (if_allowed r (steps_in b m ms x) (steps m idle ∷ [])) u ≡ []
     go allowed e = absurd (not e)
     go (number n) e = refl
     go undefined e = refl
@@ -211,16 +211,16 @@ refused_none b m ms u x not = go (rulingIn b m x) refl
 
 pub refused-stays : Statement.refused_stays
 refused-stays list m x not l =
-    let none : madeAfter list m x ≡ [] = refused_none (bareAfter list) m (laterIn (coreAfter list) m x) (modelAfterList list) x not in
+    let none : made_after list m x ≡ [] = refused_none (bare_after list) m (later_in (core_after list) m x) (model_after_list list) x not in
     unmade-stays list m x l (subst (Each (λ (y : Made). l ≡ y.level → ⊥)) (sym none) done)
 
 -- after every list such a call leaves the counters of every level
 pub quiet-stays : Statement.quiet_stays
 quiet-stays list m x q l =
-    let none : madeAfter list m x ≡ [] = events-none (bareAfter list) m (laterIn (coreAfter list) m x) (modelAfterList list) x q in
+    let none : made_after list m x ≡ [] = events-none (bare_after list) m (later_in (core_after list) m x) (model_after_list list) x q in
     unmade-stays list m x l (subst (Each (λ (y : Made). l ≡ y.level → ⊥)) (sym none) done)
 
 -- THE MARK, of the translation that a fetch begins with (of others: `mark-free`, tlb/specs/Counting.antt): the counters
 -- are a function of how it was answered and of the level
 pub fetch-mark-free : Statement.fetch_mark_free
-fetch-mark-free a b m same how = fetch-counts a m ∙ (λ i. howCounted (how i) (same i) m.counts) ∙ sym (fetch-counts b m)
+fetch-mark-free a b m same how = fetch-counts a m ∙ (λ i. how_counted (how i) (same i) m.counts) ∙ sym (fetch-counts b m)

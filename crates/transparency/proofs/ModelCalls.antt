@@ -7,16 +7,16 @@ use Rattle.std.specs.Prelude.{◌≡◌, ◌≤◌, length}
 use Rattle.std.proofs.Math.Path.{refl, subst}
 use Rattle.std.proofs.Common.{sym, ap, ◌∙◌, arith}
 use mathlib.Core.List.{List}
-use Rattle.sysreg.specs.Shape.{asidOf}
+use Rattle.sysreg.specs.Shape.{asid_of}
 use Rattle.tlb.specs.Tlb.{fresh}
 use Rattle.tlb.specs.Model.{Model}
 use Rattle.tlb.specs.Live.{live, WellFormed}
 use Rattle.tlb.specs.declared.Tlb.{Tlb}
-use Rattle.mmu.specs.Bare.{Bare, freshBare, bareOf}
-use Rattle.mmu.specs.Core.{freshCore}
+use Rattle.mmu.specs.Bare.{Bare, fresh_bare, bare_of}
+use Rattle.mmu.specs.Core.{fresh_core}
 use Rattle.operations.specs.declared.call.Call.{Call}
 use Rattle.history.specs.World.{Plain}
-use Rattle.history.specs.History.{plainRun, tlbRun}
+use Rattle.history.specs.History.{plain_run, tlb_run}
 use Rattle.history.specs.Lists.{run-low}
 use Rattle.history.proofs.Theorem.{history-asid, history-well}
 use Rattle.history.specs.ModelRun.{StandsFor}
@@ -24,39 +24,39 @@ use Rattle.history.proofs.ModelLaws.{run-stands, fresh-stands, answers-run-live}
 use Rattle.history.specs.Calls.{Lent}
 use Rattle.history.proofs.EveryCall.{shown-lent, shown-shown, run-plain, run-tlb}
 use Rattle.history.specs.Instance.{Ram, real, real-laws, fresh-asid}
-use Rattle.transparency.specs.Bare.{plainIn}
-use Rattle.transparency.specs.Events.{eventsIn}
-use Rattle.transparency.specs.Replies.{outcomeOf, saysIn}
-use Rattle.transparency.specs.Starts.{laterIn}
+use Rattle.transparency.specs.Bare.{plain_in}
+use Rattle.transparency.specs.Events.{events_in}
+use Rattle.transparency.specs.Replies.{outcome_of, says_in}
+use Rattle.transparency.specs.Starts.{later_in}
 use Rattle.transparency.specs.Machine.{machine}
 use Rattle.transparency.proofs.Bridge.{bridge, fits}
-use Rattle.transparency.specs.Beside.{coreAfter, bareAfter}
+use Rattle.transparency.specs.Beside.{core_after, bare_after}
 use Rattle.transparency.proofs.Beside.{two-cores}
-use Rattle.transparency.specs.Faithful.{fedBy, eventsAfter, answersAfter, FaithfulCall}
+use Rattle.transparency.specs.Faithful.{fed_by, events_after, answers_after, FaithfulCall}
 use Rattle.transparency.proofs.Faithful.{faithful-step}
-use Rattle.transparency.specs.ModelCalls.{eventsBy, modelAfterList, modelAfterCall, modelAnswersAfter, tlbAfterCall, Modelled}
+use Rattle.transparency.specs.ModelCalls.{events_by, model_after_list, model_after_call, model_answers_after, tlb_after_call, Modelled}
 use Rattle.transparency.specs.ModelCalls as Statement
 
 module _ (list : List (Lent real machine)) where
-  tlb-run : (coreAfter list).tlb ≡ tlbRun real (plainIn freshBare) (eventsBy list) fresh
-  unfolding freshCore
+  tlb-run : (core_after list).tlb ≡ tlb_run real (plain_in fresh_bare) (events_by list) fresh
+  unfolding fresh_core
   tlb-run =
-      subst (λ (l : List (Lent real machine)). (coreAfter l).tlb ≡ tlbRun real (plainIn freshBare) (eventsBy list) fresh)
-      (shown-lent real machine freshCore list) (run-tlb real machine bridge freshCore (fedBy list) (shown-shown real machine freshCore list))
+      subst (λ (l : List (Lent real machine)). (core_after l).tlb ≡ tlb_run real (plain_in fresh_bare) (events_by list) fresh)
+      (shown-lent real machine fresh_core list) (run-tlb real machine bridge fresh_core (fed_by list) (shown-shown real machine fresh_core list))
 
-  plain-run : plainIn (bareOf (coreAfter list)) ≡ plainRun real (plainIn freshBare) (eventsBy list)
-  unfolding freshCore
+  plain-run : plain_in (bare_of (core_after list)) ≡ plain_run real (plain_in fresh_bare) (events_by list)
+  unfolding fresh_core
   plain-run =
-      subst (λ (l : List (Lent real machine)). plainIn (bareOf (coreAfter l)) ≡ plainRun real (plainIn freshBare) (eventsBy list))
-      (shown-lent real machine freshCore list) (run-plain real machine bridge freshCore (fedBy list) (shown-shown real machine freshCore list))
+      subst (λ (l : List (Lent real machine)). plain_in (bare_of (core_after l)) ≡ plain_run real (plain_in fresh_bare) (events_by list))
+      (shown-lent real machine fresh_core list) (run-plain real machine bridge fresh_core (fed_by list) (shown-shown real machine fresh_core list))
 
-  fresh-low : (plainIn freshBare).privilege.level ≤ 3
+  fresh-low : (plain_in fresh_bare).privilege.level ≤ 3
   fresh-low = omega arith
 
-  pub stands : StandsFor (coreAfter list).tlb (modelAfterList list)
+  pub stands : StandsFor (core_after list).tlb (model_after_list list)
   stands =
-      subst (λ (t : Tlb). StandsFor t (modelAfterList list)) (sym tlb-run)
-      (run-stands real real-laws (eventsBy list) (plainIn freshBare) fresh-low (fresh-stands real real-laws))
+      subst (λ (t : Tlb). StandsFor t (model_after_list list)) (sym tlb-run)
+      (run-stands real real-laws (events_by list) (plain_in fresh_bare) fresh-low (fresh-stands real real-laws))
 
 -- EVERY CORE THAT CALLS REACH: its level is 3 at most, its cache is well-formed, and the cache's ASID is that of the
 -- registers.
@@ -64,53 +64,53 @@ module _ (list : List (Lent real machine)) where
 pub every-core-well : Statement.every_core_well
 every-core-well list =
     record {
-      level = subst (λ (p : Plain real). p.privilege.level ≤ 3) (sym (plain-run list)) (run-low real (eventsBy list) (plainIn freshBare) (fresh-low list));
-      cache = subst WellFormed (sym (tlb-run list)) (history-well real real-laws (plainIn freshBare) fresh-asid (fresh-low list) (eventsBy list));
+      level = subst (λ (p : Plain real). p.privilege.level ≤ 3) (sym (plain-run list)) (run-low real (events_by list) (plain_in fresh_bare) (fresh-low list));
+      cache = subst WellFormed (sym (tlb-run list)) (history-well real real-laws (plain_in fresh_bare) fresh-asid (fresh-low list) (events_by list));
       asid =
           ap (λ (t : Tlb). t.cache.current.asid) (tlb-run list)
-          ∙ history-asid real real-laws (plainIn freshBare) fresh-asid (fresh-low list) (eventsBy list)
-          ∙ ap (λ (p : Plain real). asidOf p.regs) (sym (plain-run list));
+          ∙ history-asid real real-laws (plain_in fresh_bare) fresh-asid (fresh-low list) (events_by list)
+          ∙ ap (λ (p : Plain real). asid_of p.regs) (sym (plain-run list));
     }
 
 module _ (list : List (Lent real machine)) (m : Ram) (x : Call) where
-  pub low-now : (plainIn (bareAfter list)).privilege.level ≤ 3
+  pub low-now : (plain_in (bare_after list)).privilege.level ≤ 3
   low-now = subst (λ (b : Bare). b.privilege.level ≤ 3) (two-cores list) (every-core-well list).level
 
-  tlb-then : tlbAfterCall list m x ≡ tlbRun real (plainIn (bareAfter list)) (eventsAfter list m x) (coreAfter list).tlb
+  tlb-then : tlb_after_call list m x ≡ tlb_run real (plain_in (bare_after list)) (events_after list m x) (core_after list).tlb
   tlb-then =
       subst
-      (λ (b : Bare). tlbAfterCall list m x ≡ tlbRun real (plainIn b) (eventsIn b m (laterIn (coreAfter list) m x) x) (coreAfter list).tlb)
-      (two-cores list) (fits (coreAfter list) m x).tlb
+      (λ (b : Bare). tlb_after_call list m x ≡ tlb_run real (plain_in b) (events_in b m (later_in (core_after list) m x) x) (core_after list).tlb)
+      (two-cores list) (fits (core_after list) m x).tlb
 
-  stands-then : StandsFor (tlbAfterCall list m x) (modelAfterCall list m x)
+  stands-then : StandsFor (tlb_after_call list m x) (model_after_call list m x)
   stands-then =
-      subst (λ (t : Tlb). StandsFor t (modelAfterCall list m x)) (sym tlb-then)
-      (run-stands real real-laws (eventsAfter list m x) (plainIn (bareAfter list)) low-now (stands list))
+      subst (λ (t : Tlb). StandsFor t (model_after_call list m x)) (sym tlb-then)
+      (run-stands real real-laws (events_after list m x) (plain_in (bare_after list)) low-now (stands list))
 
-  model-then : live (tlbAfterCall list m x) ≡ modelAfterCall list m x
+  model-then : live (tlb_after_call list m x) ≡ model_after_call list m x
   model-then = stands-then.is
 
-  answers-then : answersAfter list m x ≡ modelAnswersAfter list m x
-  answers-then = answers-run-live real real-laws (eventsAfter list m x) (plainIn (bareAfter list)) low-now (stands list)
+  answers-then : answers_after list m x ≡ model_answers_after list m x
+  answers-then = answers-run-live real real-laws (events_after list m x) (plain_in (bare_after list)) low-now (stands list)
 
-  said-then : outcomeOf (coreAfter list) m x ≡ saysIn (bareAfter list) m (laterIn (coreAfter list) m x) x (answersAfter list m x)
+  said-then : outcome_of (core_after list) m x ≡ says_in (bare_after list) m (later_in (core_after list) m x) x (answers_after list m x)
   unfolding FaithfulCall
-  said-then = (faithful-step (coreAfter list) m.base m.bytes x _ _ refl refl list refl).answered
+  said-then = (faithful-step (core_after list) m.base m.bytes x _ _ refl refl list refl).answered
 
   pub every-call-model : Modelled list m x
   every-call-model =
       record {
         before = (stands list).is;
         answers = answers-then;
-        reply = said-then ∙ ap (saysIn (bareAfter list) m (laterIn (coreAfter list) m x) x) answers-then;
+        reply = said-then ∙ ap (says_in (bare_after list) m (later_in (core_after list) m x) x) answers-then;
         after = model-then;
         counts = ap (λ (u : Model). u.counts) model-then;
         pending = ap (λ (u : Model). u.pending) model-then;
       }
 
   -- the counters are of four levels
-  pub levels-after : length (tlbAfterCall list m x).counts.levels ≡ 4
+  pub levels-after : length (tlb_after_call list m x).counts.levels ≡ 4
   levels-after = stands-then.well.levels
 
-pub levels-now : (list : List (Lent real machine)) → length (coreAfter list).tlb.counts.levels ≡ 4
+pub levels-now : (list : List (Lent real machine)) → length (core_after list).tlb.counts.levels ≡ 4
 levels-now list = (every-core-well list).cache.levels

@@ -3,58 +3,58 @@
 use Rattle.std.specs.Prelude.{◌≡◌, refl, true, false, List, [], ◌∷◌, ℕ, Ok, Err}
 use Rattle.std.proofs.Common.{sym, ap, subst, ◌∙◌, true≢false, arith}
 use Rattle.std.proofs.lemmas.Bool.{false≢true}
-use Rattle.word.specs.Ram.{word_at, littleEndian, bytes_of}
-use Rattle.sysreg.specs.Regs.{freshControl, freshSys}
-use Rattle.sysreg.specs.Encoding.{bankedAt, registerAt}
-use Rattle.sysreg.specs.Write.{controlWith, sysWith, writeReg}
-use Rattle.sysreg.specs.Shape.{same_shape, asidBase, asidOf}
+use Rattle.word.specs.Ram.{word_at, little_endian, bytes_of}
+use Rattle.sysreg.specs.Regs.{fresh_control, fresh_sys}
+use Rattle.sysreg.specs.Encoding.{banked_at, register_at}
+use Rattle.sysreg.specs.Write.{control_with, sys_with, write_reg}
+use Rattle.sysreg.specs.Shape.{same_shape, asid_base, asid_of}
 use Rattle.sysreg.specs.declared.regs.Control.{Control}
 use Rattle.sysreg.specs.declared.regs.ControlReg.TheVariants as Control
 use Rattle.sysreg.specs.declared.regs.El.TheVariants as El
 use Rattle.walk.specs.Answers.{Walked}
 use Rattle.walk.specs.Tag.{untagged}
-use Rattle.walk.specs.Size.{paSize}
-use Rattle.walk.specs.Table.{range_of, params_of, tableNext, leafPermissions, leafTranslation, leafResult, levelNext, descaddr, lookupNext, walkFrom, walkRange}
-use Rattle.walk.specs.Table.{tableWalk}
+use Rattle.walk.specs.Size.{pa_size}
+use Rattle.walk.specs.Table.{range_of, params_of, table_next, leaf_permissions, leaf_translation, leaf_result, level_next, descaddr, lookup_next, walk_from, walk_range}
+use Rattle.walk.specs.Table.{table_walk}
 use Rattle.walk.specs.Walk.{walk_of}
 use Rattle.walk.specs.declared.regime.Regime.TheVariants.{El1}
 use Rattle.walk.specs.declared.level.Leaf.{Leaf}
-use Rattle.tlb.specs.Maintenance.{invalidatedOf, reshapedOf, retaggedOf}
+use Rattle.tlb.specs.Maintenance.{invalidated_of, reshaped_of, retagged_of}
 use Rattle.tlb.specs.Lists.{Each}
-use Rattle.tlb.specs.Entry.{pageDropped}
+use Rattle.tlb.specs.Entry.{page_dropped}
 use Rattle.tlb.specs.Hint.{place_of}
-use Rattle.tlb.specs.Cache.{blanks, noHints, flushed, withoutPage}
-use Rattle.tlb.specs.Count.{noTallies}
-use Rattle.tlb.specs.Tlb.{flushOf, dropPageOf, invalidateOf}
+use Rattle.tlb.specs.Cache.{blanks, no_hints, flushed, without_page}
+use Rattle.tlb.specs.Count.{no_tallies}
+use Rattle.tlb.specs.Tlb.{flush_of, drop_page_of, invalidate_of}
 use Rattle.tlb.specs.Access.{judged}
-use Rattle.tlb.specs.Resolve.{byWalk, resolveWith}
-use Rattle.tlb.specs.Translate.{missWith, applied, translationWith, fetchApplied, fetchEnd, fetchWith}
+use Rattle.tlb.specs.Resolve.{by_walk, resolve_with}
+use Rattle.tlb.specs.Translate.{miss_with, applied, translation_with, fetch_applied, fetch_end, fetch_with}
 use Rattle.tlb.specs.Asks.{translates}
 use Rattle.tlb.specs.declared.access.Kind.TheVariants.{Read}
 use Rattle.tlb.specs.declared.Inval.TheVariants.{Page}
-use Rattle.mmu.specs.Bare.{freshBare}
-use Rattle.mmu.specs.Core.{zeros, freshCore, reg_of, setReg, afterAccess}
-use Rattle.mmu.specs.Step.{translateIn, translateFetchIn}
-use Rattle.mmu.specs.Ops.{steppedNow, translateOf, fetchSteppedNow, fetchPaOf}
-use Rattle.sysop.specs.Op.{named, decodeOf}
-use Rattle.sysop.specs.Tlbi.{scope_of, whatOf, tlbiOf}
-use Rattle.exec.specs.Fit.{refitOf}
-use Rattle.exec.specs.Ops.{with_regs, appliedOf, writeRegister, setLevel, setMark}
-use Rattle.exec.specs.Sys.{tlbiCore, sysOf}
-use Rattle.operations.specs.Check.{missedOf}
+use Rattle.mmu.specs.Bare.{fresh_bare}
+use Rattle.mmu.specs.Core.{zeros, fresh_core, reg_of, set_reg, after_access}
+use Rattle.mmu.specs.Step.{translate_in, translate_fetch_in}
+use Rattle.mmu.specs.Ops.{stepped_now, translate_of, fetch_stepped_now, fetch_pa_of}
+use Rattle.sysop.specs.Op.{named, decode_of}
+use Rattle.sysop.specs.Tlbi.{scope_of, what_of, tlbi_of}
+use Rattle.exec.specs.Fit.{refit_of}
+use Rattle.exec.specs.Ops.{with_regs, applied_of, after_register_write, set_level, set_mark}
+use Rattle.exec.specs.Sys.{tlbi_core, sys_of}
+use Rattle.operations.specs.Check.{missed_of}
 use Rattle.operations.specs.Replies.{translation}
 use Rattle.cpu.specs.Step.{run_of, step_of}
 use Rattle.operations.specs.declared.call.Reply.TheVariants.{Value}
-use Rattle.history.specs.World.{LeavesEqual, covers, leafAnswer, walkAnswer, pageWalk, uncached}
+use Rattle.history.specs.World.{LeavesEqual, covers, leaf_answer, walk_answer, page_walk, uncached}
 use Rattle.history.specs.Lists.{each-head}
 use Rattle.history.specs.History.{carries, writes, Event, steps}
 use Rattle.history.specs.StepByStep.{HoldsFrom, steps-settled}
 use Rattle.history.proofs.EveryCall.{shown-shown}
 use Rattle.history.specs.Instance.{Ram, real}
-use Rattle.transparency.specs.Bare.{plainIn}
+use Rattle.transparency.specs.Bare.{plain_in}
 use Rattle.transparency.specs.Events.{does, asking, idle, setting}
 use Rattle.transparency.specs.Machine.{machine}
-use Rattle.transparency.specs.Faithful.{fedBy}
+use Rattle.transparency.specs.Faithful.{fed_by}
 use Rattle.transparency.proofs.Direct.{translate-after}
 use Rattle.transparency.specs.Worked.{table, lent, none, old, new, start}
 use Rattle.transparency.specs.Worked as Statement
@@ -66,13 +66,13 @@ block oa desc = record { oa = oa; desc = desc; perms = 0x3C; level = 1; global =
 
 -- the registers after each write
 abbrev first : Control
-first = controlWith freshControl (Control.Tcr El.El1) 0x80000019
+first = control_with fresh_control (Control.Tcr El.El1) 0x80000019
 
 abbrev second : Control
-second = controlWith first (Control.Ttbr0 El.El1) 0x1000
+second = control_with first (Control.Ttbr0 El.El1) 0x1000
 
 abbrev registers : Control
-registers = controlWith second (Control.Sctlr El.El1) 1
+registers = control_with second (Control.Sctlr El.El1) 1
 
 abbrev reads : Ram → Event real
 reads m = steps m (asking (translates Read 0x40001234 ∷ []))
@@ -91,11 +91,11 @@ events =
 
 -- the page's walks
 walks :
-    (pageWalk real registers none El1 0x40001 ≡ Err 5)
-    × (pageWalk real registers old El1 0x40001 ≡ Ok (block 0x80001000 0x80000401))
-    × (pageWalk real registers new El1 0x40001 ≡ Ok (block 0xC0001000 0xC0000401))
-unfolding freshControl controlWith walk_of tableWalk walkRange walkFrom lookupNext levelNext leafResult leafTranslation leafPermissions tableNext descaddr
-    range_of params_of paSize word_at littleEndian bytes_of
+    (page_walk real registers none El1 0x40001 ≡ Err 5)
+    × (page_walk real registers old El1 0x40001 ≡ Ok (block 0x80001000 0x80000401))
+    × (page_walk real registers new El1 0x40001 ≡ Ok (block 0xC0001000 0xC0000401))
+unfolding fresh_control control_with walk_of table_walk walk_range walk_from lookup_next level_next leaf_result leaf_translation leaf_permissions table_next descaddr
+    range_of params_of pa_size word_at little_endian bytes_of
 walks = (refl, refl, refl)
 
 mapped-inj : {x y : Leaf} → ◌≡◌ {A = Walked} (Ok x) (Ok y) → x ≡ y
@@ -105,18 +105,18 @@ unmapped : {code : ℕ} {ℓ : Leaf} → Err code ≡ Ok ℓ → ⊥
 unmapped e = let z : ◌≡◌ {A = ℕ} 0 1 = cc in omega arith
 
 -- the old walk is covered, though the Page is of another 4 KiB page
-covered : (ℓ : Leaf) (a : ℕ) → pageWalk real registers old El1 0x40001 ≡ Ok ℓ → Each (λ v. covers v 0x40001 ℓ a ≡ false) (Page 0x7FFFF ∷ []) → ⊥
+covered : (ℓ : Leaf) (a : ℕ) → page_walk real registers old El1 0x40001 ≡ Ok ℓ → Each (λ v. covers v 0x40001 ℓ a ≡ false) (Page 0x7FFFF ∷ []) → ⊥
 unfolding covers
 covered ℓ a e us =
     true≢false (each-head (subst (λ (x : Leaf). Each (λ v. covers v 0x40001 x a ≡ false) (Page 0x7FFFF ∷ [])) (sym (mapped-inj (sym walks.1 ∙ e))) us))
 
 -- the new one equals the walk now
-unchanged : (ℓ : Leaf) → pageWalk real registers new El1 0x40001 ≡ Ok ℓ
-    → (ℓ' : Leaf) × (pageWalk real registers new El1 0x40001 ≡ Ok ℓ') × LeavesEqual ℓ ℓ'
+unchanged : (ℓ : Leaf) → page_walk real registers new El1 0x40001 ≡ Ok ℓ
+    → (ℓ' : Leaf) × (page_walk real registers new El1 0x40001 ≡ Ok ℓ') × LeavesEqual ℓ ℓ'
 unchanged ℓ e = (ℓ, e, record { pages = refl; perms = refl; levels = refl })
 
-step-by-step : HoldsFrom real registers new El1 0x40001 (plainIn freshBare) events
-unfolding freshControl controlWith
+step-by-step : HoldsFrom real registers new El1 0x40001 (plain_in fresh_bare) events
+unfolding fresh_control control_with
 step-by-step = (
   λ ℓ on e d us. absurd (false≢true on),
   (
@@ -143,32 +143,32 @@ step-by-step = (
 -- WITH THE TLBI the page is settled, and the cache answers from a hint, as the core without a cache does.
 
 pub settled : Statement.settled
-unfolding bytes_of setReg freshCore zeros freshControl freshSys bankedAt registerAt controlWith sysWith writeReg missedOf named decodeOf scope_of whatOf tlbiOf
+unfolding bytes_of set_reg fresh_core zeros fresh_control fresh_sys banked_at register_at control_with sys_with write_reg missed_of named decode_of scope_of what_of tlbi_of
     untagged
-settled = steps-settled real (plainIn freshBare) events new El1 0x40001 step-by-step
+settled = steps-settled real (plain_in fresh_bare) events new El1 0x40001 step-by-step
 
 pub by-cache : Statement.by_cache
-unfolding step_of run_of translateOf steppedNow translateIn afterAccess reg_of setReg writeRegister appliedOf with_regs refitOf retaggedOf reshapedOf setLevel
-    sysOf tlbiCore invalidatedOf uncached walkAnswer leafAnswer same_shape asidOf asidBase freshCore zeros freshControl freshSys bankedAt registerAt
-    controlWith sysWith writeReg missedOf named decodeOf scope_of whatOf tlbiOf flushOf flushed invalidateOf dropPageOf withoutPage pageDropped translationWith
-    missWith resolveWith byWalk applied judged walk_of tableWalk walkRange walkFrom lookupNext levelNext leafResult leafTranslation leafPermissions tableNext
-    descaddr range_of params_of paSize untagged word_at littleEndian bytes_of place_of blanks noHints
+unfolding step_of run_of translate_of stepped_now translate_in after_access reg_of set_reg after_register_write applied_of with_regs refit_of retagged_of reshaped_of set_level
+    sys_of tlbi_core invalidated_of uncached walk_answer leaf_answer same_shape asid_of asid_base fresh_core zeros fresh_control fresh_sys banked_at register_at
+    control_with sys_with write_reg missed_of named decode_of scope_of what_of tlbi_of flush_of flushed invalidate_of drop_page_of without_page page_dropped translation_with
+    miss_with resolve_with by_walk applied judged walk_of table_walk walk_range walk_from lookup_next level_next leaf_result leaf_translation leaf_permissions table_next
+    descaddr range_of params_of pa_size untagged word_at little_endian bytes_of place_of blanks no_hints
 by-cache = (refl, refl, refl)
 
 -- WITHOUT IT the cache answers by the old table, so the page is not settled.
 
 pub stale : Statement.stale
-unfolding step_of run_of translateOf steppedNow translateIn afterAccess reg_of setReg writeRegister appliedOf with_regs refitOf retaggedOf reshapedOf setLevel
-    uncached walkAnswer leafAnswer same_shape asidOf asidBase freshCore zeros freshControl freshSys bankedAt registerAt controlWith sysWith writeReg missedOf
-    flushOf flushed translationWith missWith resolveWith byWalk applied judged walk_of tableWalk walkRange walkFrom lookupNext levelNext leafResult
-    leafTranslation leafPermissions tableNext descaddr range_of params_of paSize untagged word_at littleEndian bytes_of place_of blanks noHints
+unfolding step_of run_of translate_of stepped_now translate_in after_access reg_of set_reg after_register_write applied_of with_regs refit_of retagged_of reshaped_of set_level
+    uncached walk_answer leaf_answer same_shape asid_of asid_base fresh_core zeros fresh_control fresh_sys banked_at register_at control_with sys_with write_reg missed_of
+    flush_of flushed translation_with miss_with resolve_with by_walk applied judged walk_of table_walk walk_range walk_from lookup_next level_next leaf_result
+    leaf_translation leaf_permissions table_next descaddr range_of params_of pa_size untagged word_at little_endian bytes_of place_of blanks no_hints
 stale = (refl, refl, refl)
 
 pub unsettled : Statement.unsettled
 unsettled st =
     let e : Value 0x80001234 ≡ Value 0xC0001234 =
     sym stale.0
-    ∙ translate-after (fedBy start) (shown-shown real machine freshCore start) new Read 0x40001234 stale.2 st
+    ∙ translate-after (fed_by start) (shown-shown real machine fresh_core start) new Read 0x40001234 stale.2 st
     ∙ ap (translation 0x40001234) stale.1 in
     let z : ◌≡◌ {A = ℕ} 0x80001234 0xC0001234 = same e in
     omega arith
@@ -177,9 +177,9 @@ unsettled st =
     same e = cc
 
 pub by_level : Statement.by_level
-unfolding step_of run_of translateOf steppedNow fetchPaOf fetchSteppedNow translateFetchIn fetchWith fetchEnd fetchApplied translateIn afterAccess
-    writeRegister appliedOf with_regs refitOf retaggedOf reshapedOf setLevel setMark
-    same_shape asidOf asidBase freshCore freshControl freshSys bankedAt registerAt controlWith sysWith writeReg missedOf
-    flushOf flushed translationWith missWith resolveWith byWalk applied judged walk_of tableWalk walkRange walkFrom lookupNext levelNext leafResult
-    leafTranslation leafPermissions tableNext descaddr range_of params_of paSize untagged word_at littleEndian bytes_of place_of blanks noHints noTallies
+unfolding step_of run_of translate_of stepped_now fetch_pa_of fetch_stepped_now translate_fetch_in fetch_with fetch_end fetch_applied translate_in after_access
+    after_register_write applied_of with_regs refit_of retagged_of reshaped_of set_level set_mark
+    same_shape asid_of asid_base fresh_core fresh_control fresh_sys banked_at register_at control_with sys_with write_reg missed_of
+    flush_of flushed translation_with miss_with resolve_with by_walk applied judged walk_of table_walk walk_range walk_from lookup_next level_next leaf_result
+    leaf_translation leaf_permissions table_next descaddr range_of params_of pa_size untagged word_at little_endian bytes_of place_of blanks no_hints no_tallies
 by_level = refl

@@ -1,53 +1,53 @@
 -- The page census after every list of calls: it counts what the core without a cache would, page by page, and is a step
 -- that does nothing.
 use Rattle.std.specs.Prelude.{◌≡◌, Bool, true, false, List, ◌∷◌, ◌++◌, ◌⊎◌, ℕ, ◌/◌, ◌%◌, ◌<◌, eqb, get_or}
-use Rattle.walk.specs.Regime.{bankOf, regimeOf}
+use Rattle.walk.specs.Regime.{bank_of, regime_of}
 use Rattle.walk.specs.declared.{regime.Regime.Regime, regime.Bank.Bank}
 use Rattle.walk.specs.declared.fresh.Fresh.TheVariants.{Flat}
-use Rattle.census.specs.Tally.{howMany}
-use Rattle.census.specs.Count.{pageAt, censusAt}
-use Rattle.census.specs.Laws.{hasRights}
+use Rattle.census.specs.Tally.{how_many}
+use Rattle.census.specs.Count.{page_at, census_at}
+use Rattle.census.specs.Laws.{has_rights}
 use Rattle.tlb.specs.declared.access.Kind.{Kind}
 use Rattle.tlb.specs.declared.access.Answer.{Answer}
 use Rattle.tlb.specs.declared.access.Answer.TheVariants.{Address, Status}
 use Rattle.mmu.specs.Bare.{Bare}
 use Rattle.operations.specs.declared.call.Call.TheVariants.{Census}
 use Rattle.cpu.specs.Step.{step_of}
-use Rattle.cpu.specs.Inspect.{countsAfter}
-use Rattle.history.specs.World.{needNow, uncached}
-use Rattle.history.specs.Fresh.{freshNow}
+use Rattle.cpu.specs.Inspect.{counts_after}
+use Rattle.history.specs.World.{need_now, uncached}
+use Rattle.history.specs.Fresh.{fresh_now}
 use Rattle.history.specs.Calls.{Lent}
-use Rattle.history.specs.Instance.{Ram, memoryOf, real}
-use Rattle.transparency.specs.Bare.{allowed, plainIn, rulingIn}
-use Rattle.transparency.specs.Bare.{ifAllowed}
-use Rattle.transparency.specs.Replies.{bareReply}
+use Rattle.history.specs.Instance.{Ram, memory_of, real}
+use Rattle.transparency.specs.Bare.{allowed, plain_in, ruling_in}
+use Rattle.transparency.specs.Bare.{if_allowed}
+use Rattle.transparency.specs.Replies.{bare_reply}
 use Rattle.transparency.specs.Machine.{machine}
-use Rattle.transparency.specs.Beside.{coreAfter, bareAfter}
+use Rattle.transparency.specs.Beside.{core_after, bare_after}
 
 -- the regime of its level, and that regime's registers
-abbrev pub regimeIn : Bare → Regime
-regimeIn b = regimeOf b.privilege.level
+abbrev pub regime_in : Bare → Regime
+regime_in b = regime_of b.privilege.level
 
-abbrev pub bankIn : Bare → Bank
-bankIn b = bankOf b.control (regimeIn b)
+abbrev pub bank_in : Bare → Bank
+bank_in b = bank_of b.control (regime_in b)
 
 -- what the core without a cache would count, on its own registers and level and the step's RAM; a refused census leaves
 -- the counts as they were
-abbrev pub bareCounts : Bare → Ram → ℕ → ℕ → List ℕ → List ℕ
-bareCounts b m first pages old =
-    ifAllowed (rulingIn b m (Census first pages)) (censusAt b.control b.privilege.level (memoryOf m) first pages) old
+abbrev pub bare_counts : Bare → Ram → ℕ → ℕ → List ℕ → List ℕ
+bare_counts b m first pages old =
+    if_allowed (ruling_in b m (Census first pages)) (census_at b.control b.privilege.level (memory_of m) first pages) old
 
 -- After every list, refused or not: the counts, and the reply.
 abbrev pub census_after : Type 0
 census_after =
     (list : List (Lent real machine)) (m : Ram) (first pages : ℕ) (old : List ℕ)
-    → countsAfter (coreAfter list) m.base m.bytes first pages old ≡ bareCounts (bareAfter list) m first pages old
+    → counts_after (core_after list) m.base m.bytes first pages old ≡ bare_counts (bare_after list) m first pages old
 
 abbrev pub census_reply : Type 0
 census_reply =
     (list : List (Lent real machine)) (m : Ram) (first pages : ℕ)
-    → (step_of (coreAfter list) m.base m.bytes (Census first pages)).reply
-    ≡ (bareReply (bareAfter list) m (Census first pages)).reply
+    → (step_of (core_after list) m.base m.bytes (Census first pages)).reply
+    ≡ (bare_reply (bare_after list) m (Census first pages)).reply
 
 -- A STEP THAT DOES NOTHING: a list with a census in it leaves what it leaves without, whatever RAM the census was shown
 
@@ -57,15 +57,15 @@ census m first pages = record { ram = m; call = Census first pages }
 abbrev pub census_skipped : Type 0
 census_skipped =
     (before after : List (Lent real machine)) (m : Ram) (first pages : ℕ)
-    → (coreAfter (before ++ (census m first pages ∷ after)) ≡ coreAfter (before ++ after))
-    × (bareAfter (before ++ (census m first pages ∷ after)) ≡ bareAfter (before ++ after))
+    → (core_after (before ++ (census m first pages ∷ after)) ≡ core_after (before ++ after))
+    × (bare_after (before ++ (census m first pages ∷ after)) ≡ bare_after (before ++ after))
 
 -- WHAT A COUNT MEANS
 
 -- a fault of this status
-abbrev pub answersFault : ℕ → Answer → Bool
-answersFault status (Address pa) = false
-answersFault status (Status f) = eqb f.fsc status
+abbrev pub answers_fault : ℕ → Answer → Bool
+answers_fault status (Address pa) = false
+answers_fault status (Status f) = eqb f.fsc status
 
 -- a permission fault, which depends on the access, is 0x0D to 0x0F
 abbrev pub NoPermission : ℕ → Type 0
@@ -75,22 +75,22 @@ NoPermission status = (status < 13) ⊎ (15 < status)
 abbrev pub census_faults : Type 0
 census_faults =
     (b : Bare) (m : Ram) (first pages status : ℕ) (k : Kind) (old : List ℕ) → status < 64 → NoPermission status
-    → rulingIn b m (Census first pages) ≡ allowed
-    → get_or (bareCounts b m first pages old) status 0
-    ≡ howMany (λ i. answersFault status (uncached real (plainIn b) m k (pageAt first i))) pages
+    → ruling_in b m (Census first pages) ≡ allowed
+    → get_or (bare_counts b m first pages old) status 0
+    ≡ how_many (λ i. answers_fault status (uncached real (plain_in b) m k (page_at first i))) pages
 
-abbrev pub answersAddress : Answer → Bool
-answersAddress (Address pa) = true
-answersAddress (Status f) = false
+abbrev pub answers_address : Answer → Bool
+answers_address (Address pa) = true
+answers_address (Status f) = false
 
 -- Of a page that is counted under a permission byte the core without a cache answers an access with an address exactly
 -- where the byte has the bit that the access needs; of a flat one, with the address itself.
 abbrev pub rights_allow : Type 0
 rights_allow =
-    (b : Bare) (m : Ram) (k : Kind) (va perms : ℕ) → hasRights perms (freshNow (plainIn b) m va) ≡ true
-    → answersAddress (uncached real (plainIn b) m k va) ≡ eqb (perms / needNow real (plainIn b) k % 2) 1
+    (b : Bare) (m : Ram) (k : Kind) (va perms : ℕ) → has_rights perms (fresh_now (plain_in b) m va) ≡ true
+    → answers_address (uncached real (plain_in b) m k va) ≡ eqb (perms / need_now real (plain_in b) k % 2) 1
 
 abbrev pub flat_allows : Type 0
 flat_allows =
-    (b : Bare) (m : Ram) (k : Kind) (va pa : ℕ) → freshNow (plainIn b) m va ≡ Flat pa
-    → uncached real (plainIn b) m k va ≡ Address pa
+    (b : Bare) (m : Ram) (k : Kind) (va pa : ℕ) → fresh_now (plain_in b) m va ≡ Flat pa
+    → uncached real (plain_in b) m k va ≡ Address pa

@@ -7,24 +7,24 @@
 -- bridge). Nor could one that made an invalidation up: no other call carries one.
 use Rattle.std.specs.Prelude.{◌≡◌, refl, Bool, true, false, List, [], ◌∷◌, ℕ, ◌+◌, leb, Option, Some, None}
 use Rattle.std.proofs.Common.{leb-true}
-use Rattle.word.specs.Bits.{alignDown, wrap}
-use Rattle.word.specs.Ram.{width_of, bytesIn}
+use Rattle.word.specs.Bits.{align_down, wrap}
+use Rattle.word.specs.Ram.{width_of, bytes_in}
 use Rattle.tlb.specs.Asks.{Ask, translates, fetches}
 use Rattle.tlb.specs.declared.{access.Kind.Kind, access.Privilege.Privilege, Inval.Inval}
 use Rattle.exception.specs.EntryLaws.{take_level}
 use Rattle.exception.specs.declared.kind.Exception.{Exception}
-use Rattle.sysop.specs.Tlbi.{tlbiOf, reachesOthers}
+use Rattle.sysop.specs.Tlbi.{tlbi_of, reaches_others}
 use Rattle.sysop.specs.declared.op.SysOp.{SysOp}
 use Rattle.sysop.specs.declared.op.SysOp.TheVariants as Op
 use Rattle.mmu.specs.Bare.{Bare}
-use Rattle.mmu.specs.Asks.{accessAsks}
+use Rattle.mmu.specs.Asks.{access_asks}
 use Rattle.operations.specs.declared.{call.Encoding.Encoding, call.Call.Call}
 use Rattle.operations.specs.declared.call.Call.TheVariants.{Translate, DataPa, FetchPa, Load, Store, Fetch, System, Register, Level, Mark, General}
 use Rattle.operations.specs.declared.call.Call.TheVariants.{Abort, Census}
-use Rattle.history.specs.World.{onNow}
+use Rattle.history.specs.World.{on_now}
 use Rattle.history.specs.History.{Effect, nothing, carries, writes, sets, Step, Event, steps}
 use Rattle.history.specs.Instance.{Ram, real}
-use Rattle.transparency.specs.Bare.{plainIn, missedIn, opIn, operandIn, writtenIn, takenIn, rulingIn, ifAllowed}
+use Rattle.transparency.specs.Bare.{plain_in, missed_in, op_in, operand_in, written_in, taken_in, ruling_in, if_allowed}
 use Rattle.word.specs.declared.ram.Width.{Width}
 
 -- STEPS
@@ -41,77 +41,77 @@ abbrev pub idle : Step real
 idle = does nothing
 
 -- an access of n bytes: its own page; and the next page, where it crosses with stage 1 on
-abbrev pub accessIn : Bare → ℕ → ℕ → Kind → List Ask
-accessIn b va n kind = accessAsks (onNow real (plainIn b)) va n kind
+abbrev pub access_in : Bare → ℕ → ℕ → Kind → List Ask
+access_in b va n kind = access_asks (on_now real (plain_in b)) va n kind
 
 -- a size that is none is refused before
-abbrev pub sizedIn : Bare → ℕ → Option Width → Kind → List Ask
-sizedIn b va (Some w) kind = accessIn b va (bytesIn w) kind
-sizedIn b va None kind = []
+abbrev pub sized_in : Bare → ℕ → Option Width → Kind → List Ask
+sized_in b va (Some w) kind = access_in b va (bytes_in w) kind
+sized_in b va None kind = []
 
 -- a level above 3 is refused before
-abbrev pub setBy : (privilege : Privilege) (b : Bool) → leb privilege.level 3 ≡ b → Effect real
-setBy privilege true e = sets privilege (leb-true privilege.level 3 e)
-setBy privilege false e = nothing
+abbrev pub set_by : (privilege : Privilege) (b : Bool) → leb privilege.level 3 ≡ b → Effect real
+set_by privilege true e = sets privilege (leb-true privilege.level 3 e)
+set_by privilege false e = nothing
 
 abbrev pub setting : Privilege → Step real
-setting privilege = does (setBy privilege (leb privilege.level 3) refl)
+setting privilege = does (set_by privilege (leb privilege.level 3) refl)
 
 -- abort entry goes to level 1, 2 or 3 and leaves the mark
-abbrev pub abortStep : Bare → Exception → Step real
-abortStep b e =
+abbrev pub abort_step : Bare → Exception → Step real
+abort_step b e =
     does
-    (sets (record { level = (takenIn b e).level; unprivileged = b.privilege.unprivileged })
+    (sets (record { level = (taken_in b e).level; unprivileged = b.privilege.unprivileged })
     (take_level b.privilege.level b.pc b.control.scr_el3 b.control.hcr_el2 b.flags b.sys e).1)
 
 -- what a TLBI names
-abbrev pub invalIn : Bare → Encoding → Inval
-invalIn b e = tlbiOf b.control e.op1 e.crm e.op2 (operandIn b e)
+abbrev pub inval_in : Bare → Encoding → Inval
+inval_in b e = tlbi_of b.control e.op1 e.crm e.op2 (operand_in b e)
 
 -- whether it is an Inner Shareable form, which other cores carry out too
-abbrev pub sharedIn : Encoding → Bool
-sharedIn e = reachesOthers e.crm
+abbrev pub shared_in : Encoding → Bool
+shared_in e = reaches_others e.crm
 
 -- EVENTS. m is RAM as the call begins, ms RAM as each further step begins.
 
 -- Each of DC ZVA's eight stores is a step: from the address and RAM at each start alone.
-abbrev pub zeroSteps : Bare → Ram → List Ram → ℕ → List (Event real)
-zeroSteps b m [] va = steps m (asking (accessIn b va 8 Kind.Write)) ∷ []
-zeroSteps b m (n ∷ ms) va = steps m (asking (accessIn b va 8 Kind.Write)) ∷ zeroSteps b n ms (wrap (va + 8))
+abbrev pub zero_steps : Bare → Ram → List Ram → ℕ → List (Event real)
+zero_steps b m [] va = steps m (asking (access_in b va 8 Kind.Write)) ∷ []
+zero_steps b m (n ∷ ms) va = steps m (asking (access_in b va 8 Kind.Write)) ∷ zero_steps b n ms (wrap (va + 8))
 
-abbrev pub sysSteps : SysOp → Bare → Ram → List Ram → Encoding → List (Event real)
-sysSteps Op.Tlbi b m ms e = steps m (does (carries (invalIn b e) (sharedIn e))) ∷ []
-sysSteps Op.Zva b m ms e = zeroSteps b m ms (alignDown (operandIn b e) 6)
-sysSteps (Op.At form) b m ms e = steps m idle ∷ []
-sysSteps Op.Nothing b m ms e = steps m idle ∷ []
-sysSteps Op.Undefined b m ms e = steps m idle ∷ []
-sysSteps Op.Unimplemented b m ms e = steps m idle ∷ []
+abbrev pub sys_steps : SysOp → Bare → Ram → List Ram → Encoding → List (Event real)
+sys_steps Op.Tlbi b m ms e = steps m (does (carries (inval_in b e) (shared_in e))) ∷ []
+sys_steps Op.Zva b m ms e = zero_steps b m ms (align_down (operand_in b e) 6)
+sys_steps (Op.At form) b m ms e = steps m idle ∷ []
+sys_steps Op.Nothing b m ms e = steps m idle ∷ []
+sys_steps Op.Undefined b m ms e = steps m idle ∷ []
+sys_steps Op.Unimplemented b m ms e = steps m idle ∷ []
 
 -- the steps of a call that is not refused
-abbrev pub stepsIn : Bare → Ram → List Ram → Call → List (Event real)
-stepsIn b m ms (Translate kind va) = steps m (asking (translates kind va ∷ [])) ∷ []
-stepsIn b m ms (DataPa va) = steps m (asking (translates Kind.Read va ∷ [])) ∷ []
-stepsIn b m ms (FetchPa va) = steps m (asking (fetches va ∷ [])) ∷ []
-stepsIn b m ms (Load va size) = steps m (asking (sizedIn b va (width_of size) Kind.Read)) ∷ []
-stepsIn b m ms (Store va size value) = steps m (asking (sizedIn b va (width_of size) Kind.Write)) ∷ []
-stepsIn b m ms (Fetch va) = steps m (asking (fetches va ∷ [])) ∷ []
-stepsIn b m ms (System e) = sysSteps (opIn b e) b m ms e
-stepsIn b m ms (Register key value) = steps m (does (writes (writtenIn b key value).control)) ∷ []
-stepsIn b m ms (Level level) = steps m (setting (record { level = level; unprivileged = b.privilege.unprivileged })) ∷ []
-stepsIn b m ms (Mark mark) = steps m (setting (record { level = b.privilege.level; unprivileged = mark })) ∷ []
-stepsIn b m ms (General n value) = steps m idle ∷ []
-stepsIn b m ms (Abort e) = steps m (abortStep b e) ∷ []
-stepsIn b m ms (Census first pages) = steps m idle ∷ []
+abbrev pub steps_in : Bare → Ram → List Ram → Call → List (Event real)
+steps_in b m ms (Translate kind va) = steps m (asking (translates kind va ∷ [])) ∷ []
+steps_in b m ms (DataPa va) = steps m (asking (translates Kind.Read va ∷ [])) ∷ []
+steps_in b m ms (FetchPa va) = steps m (asking (fetches va ∷ [])) ∷ []
+steps_in b m ms (Load va size) = steps m (asking (sized_in b va (width_of size) Kind.Read)) ∷ []
+steps_in b m ms (Store va size value) = steps m (asking (sized_in b va (width_of size) Kind.Write)) ∷ []
+steps_in b m ms (Fetch va) = steps m (asking (fetches va ∷ [])) ∷ []
+steps_in b m ms (System e) = sys_steps (op_in b e) b m ms e
+steps_in b m ms (Register key value) = steps m (does (writes (written_in b key value).control)) ∷ []
+steps_in b m ms (Level level) = steps m (setting (record { level = level; unprivileged = b.privilege.unprivileged })) ∷ []
+steps_in b m ms (Mark mark) = steps m (setting (record { level = b.privilege.level; unprivileged = mark })) ∷ []
+steps_in b m ms (General n value) = steps m idle ∷ []
+steps_in b m ms (Abort e) = steps m (abort_step b e) ∷ []
+steps_in b m ms (Census first pages) = steps m idle ∷ []
 
 -- a refused call is a step that does nothing
-abbrev pub eventsIn : Bare → Ram → List Ram → Call → List (Event real)
-eventsIn b m ms x = ifAllowed (rulingIn b m x) (stepsIn b m ms x) (steps m idle ∷ [])
+abbrev pub events_in : Bare → Ram → List Ram → Call → List (Event real)
+events_in b m ms x = if_allowed (ruling_in b m x) (steps_in b m ms x) (steps m idle ∷ [])
 
 -- An All, Page or Asid is one that a TLBI, not refused, carries out: each such TLBI has its event, and no more.
 abbrev pub tlbi_event : Type 0
 tlbi_event =
-    (b : Bare) (m : Ram) (ms : List Ram) (e : Encoding) → missedIn b m (System e) ≡ 0 → opIn b e ≡ Op.Tlbi
-    → eventsIn b m ms (System e) ≡ steps m (does (carries (invalIn b e) (sharedIn e))) ∷ []
+    (b : Bare) (m : Ram) (ms : List Ram) (e : Encoding) → missed_in b m (System e) ≡ 0 → op_in b e ≡ Op.Tlbi
+    → events_in b m ms (System e) ≡ steps m (does (carries (inval_in b e) (shared_in e))) ∷ []
 
 pub tlbi-event : tlbi_event
 tlbi-event b m ms e passed named = rw (passed, named) refl

@@ -9,15 +9,15 @@ use Rattle.tlb.specs.Asks.{address_of, Given}
 use Rattle.tlb.specs.declared.access.Answer.TheVariants.{Address, Status}
 use Rattle.exception.specs.declared.kind.Exception.TheVariants as Exception
 use Rattle.exception.specs.declared.kind.Stop.TheVariants as Stop
-use Rattle.mmu.specs.Core.{freshCore}
+use Rattle.mmu.specs.Core.{fresh_core}
 use Rattle.operations.specs.declared.{call.Call.Call, call.Reply.Reply}
 use Rattle.cpu.specs.Step.{step_of}
 use Rattle.history.specs.Calls.{Fed, lent_of, Shown}
 use Rattle.history.specs.Instance.{Ram, real}
 use Rattle.history.specs.Judgement.{Row}
 use Rattle.transparency.specs.Machine.{machine}
-use Rattle.transparency.specs.Beside.{coreAfter}
-use Rattle.transparency.specs.Faithful.{answersAfter}
+use Rattle.transparency.specs.Beside.{core_after}
+use Rattle.transparency.specs.Faithful.{answers_after}
 
 -- REPLIES
 
@@ -54,7 +54,7 @@ pub data FaultFrom (gs : List Given) (addr : ℕ) (fault : Fault) : Type 0 where
 -- 0x10, that of a byte of the access.
 abbrev pub every_fault_row : Type 0
 every_fault_row =
-    (list : List (Fed real machine)) → Shown real machine freshCore list
+    (list : List (Fed real machine)) → Shown real machine fresh_core list
     → (m : Ram) (x : Call) (addr : ℕ) (fault : Fault)
-    → RepliesFault (step_of (coreAfter (lent_of real machine list)) m.base m.bytes x).reply addr fault
-    → (Row fault.fsc ⊎ (fault.fsc ≡ 0x10)) × FaultFrom (answersAfter (lent_of real machine list) m x) addr fault
+    → RepliesFault (step_of (core_after (lent_of real machine list)) m.base m.bytes x).reply addr fault
+    → (Row fault.fsc ⊎ (fault.fsc ≡ 0x10)) × FaultFrom (answers_after (lent_of real machine list) m x) addr fault

@@ -2,8 +2,8 @@
 use Rattle.history.specs.Calls.{Replies}
 use Rattle.history.specs.Instance.{real}
 use Rattle.transparency.specs.Machine.{machine}
-use Rattle.transparency.specs.Replies.{Outcome, outcomeOf, bareReply}
+use Rattle.transparency.specs.Replies.{Outcome, outcome_of, bare_reply}
 
--- the reply and RAM of a call: by `step_of` and `ramAfter`, and by the core without a cache
+-- the reply and RAM of a call: by `step_of` and `ram_after`, and by the core without a cache
 abbrev pub replies : Replies real machine
-replies = record { Reply = Outcome; reply = outcomeOf; bareReply = bareReply }
+replies = record { Reply = Outcome; reply = outcome_of; bare_reply = bare_reply }

@@ -5,26 +5,26 @@ use Rattle.fault.specs.declared.Fault.{Fault}
 use Rattle.tlb.specs.Lists.{Each}
 use Rattle.tlb.specs.Asks.{Given}
 use Rattle.tlb.specs.declared.access.Answer.TheVariants.{Status}
-use Rattle.mmu.specs.Bare.{freshBare}
-use Rattle.mmu.specs.Core.{freshCore}
-use Rattle.history.specs.History.{Step, Event, tlbRun, answers}
-use Rattle.history.specs.Invisible.{answersRun}
-use Rattle.history.specs.Calls.{Fed, lent_of, eventsRun, Shown, plainAfter}
+use Rattle.mmu.specs.Bare.{fresh_bare}
+use Rattle.mmu.specs.Core.{fresh_core}
+use Rattle.history.specs.History.{Step, Event, tlb_run, answers}
+use Rattle.history.specs.Invisible.{answers_run}
+use Rattle.history.specs.Calls.{Fed, lent_of, events_run, Shown, plain_after}
 use Rattle.history.specs.Instance.{Ram, real}
 use Rattle.history.specs.Judgement.{Judged, Row}
-use Rattle.transparency.specs.Bare.{plainIn}
+use Rattle.transparency.specs.Bare.{plain_in}
 use Rattle.transparency.specs.Machine.{machine}
-use Rattle.transparency.specs.Beside.{coreAfter, bareAfter}
+use Rattle.transparency.specs.Beside.{core_after, bare_after}
 
 -- JUDGED: after a list of calls from the fresh core, fed as its run shows it, each translation of each step of a call,
 -- after the steps before in the call, with the RAM m at the step's start
 abbrev pub every_call_judged : Type 0
 every_call_judged =
-    (list : List (Fed real machine)) → Shown real machine freshCore list
+    (list : List (Fed real machine)) → Shown real machine fresh_core list
     → (before : List (Event real)) (m : Ram) (s : Step real)
-    → Each (λ g. Judged (eventsRun real machine freshBare list ++ before) m g.ask g.answer)
-    (answers real (plainAfter real machine freshBare list before) m s.asks
-    (tlbRun real (plainAfter real machine freshBare list []) before (coreAfter (lent_of real machine list)).tlb))
+    → Each (λ g. Judged (events_run real machine fresh_bare list ++ before) m g.ask g.answer)
+    (answers real (plain_after real machine fresh_bare list before) m s.asks
+    (tlb_run real (plain_after real machine fresh_bare list []) before (core_after (lent_of real machine list)).tlb))
 
 -- a fault that a translation meets is a row of the table
 abbrev pub RowGiven : Given → Type 0
@@ -33,6 +33,6 @@ RowGiven g = (f : Fault) → g.answer ≡ Status f → Row f.fsc
 -- ROWS: of all translations of a call after the list
 abbrev pub every_row : Type 0
 every_row =
-    (list : List (Fed real machine)) → Shown real machine freshCore list → (es : List (Event real))
+    (list : List (Fed real machine)) → Shown real machine fresh_core list → (es : List (Event real))
     → Each RowGiven
-    (answersRun real (plainIn (bareAfter (lent_of real machine list))) es (coreAfter (lent_of real machine list)).tlb)
+    (answers_run real (plain_in (bare_after (lent_of real machine list))) es (core_after (lent_of real machine list)).tlb)

@@ -5,48 +5,48 @@
 -- run shows it (Starts.antt).
 use Rattle.std.specs.Prelude.{◌≡◌, ◌≤◌}
 use mathlib.Core.List.{List}
-use Rattle.sysreg.specs.Shape.{asidOf}
-use Rattle.tlb.specs.Model.{Model, emptyModel}
-use Rattle.tlb.specs.Live.{countersOf, pendingOf, live, WellFormed}
+use Rattle.sysreg.specs.Shape.{asid_of}
+use Rattle.tlb.specs.Model.{Model, empty_model}
+use Rattle.tlb.specs.Live.{counters_of, pending_of, live, WellFormed}
 use Rattle.tlb.specs.Asks.{Given}
 use Rattle.tlb.specs.declared.Tlb.{Tlb}
-use Rattle.mmu.specs.Bare.{freshBare}
+use Rattle.mmu.specs.Bare.{fresh_bare}
 use Rattle.mmu.specs.declared.core_state.Core.{Core}
 use Rattle.cpu.specs.Step.{step_of}
 use Rattle.operations.specs.declared.call.Call.{Call}
 use Rattle.history.specs.History.{Event}
-use Rattle.history.specs.ModelRun.{modelRun, modelAnswersRun, StandsFor}
-use Rattle.history.specs.Calls.{Lent, eventsRun}
+use Rattle.history.specs.ModelRun.{model_run, model_answers_run, StandsFor}
+use Rattle.history.specs.Calls.{Lent, events_run}
 use Rattle.history.specs.Instance.{Ram, real}
-use Rattle.transparency.specs.Bare.{plainIn}
-use Rattle.transparency.specs.Replies.{outcomeOf, saysIn}
-use Rattle.transparency.specs.Starts.{laterIn}
+use Rattle.transparency.specs.Bare.{plain_in}
+use Rattle.transparency.specs.Replies.{outcome_of, says_in}
+use Rattle.transparency.specs.Starts.{later_in}
 use Rattle.transparency.specs.Machine.{machine}
-use Rattle.transparency.specs.Beside.{coreAfter, bareAfter, EveryList, EveryCall}
-use Rattle.transparency.specs.Faithful.{fedBy, eventsAfter, answersAfter}
+use Rattle.transparency.specs.Beside.{core_after, bare_after, EveryList, EveryCall}
+use Rattle.transparency.specs.Faithful.{fed_by, events_after, answers_after}
 
 -- the steps of a list, and the plain model after them
-abbrev pub eventsBy : List (Lent real machine) → List (Event real)
-eventsBy list = eventsRun real machine freshBare (fedBy list)
+abbrev pub events_by : List (Lent real machine) → List (Event real)
+events_by list = events_run real machine fresh_bare (fed_by list)
 
-abbrev pub modelAfterList : List (Lent real machine) → Model
-modelAfterList list = modelRun real (plainIn freshBare) (eventsBy list) emptyModel
+abbrev pub model_after_list : List (Lent real machine) → Model
+model_after_list list = model_run real (plain_in fresh_bare) (events_by list) empty_model
 
 -- and after a call x, on the RAM m, that follows the list; its answers
-abbrev pub modelAfterCall : List (Lent real machine) → Ram → Call → Model
-modelAfterCall list m x = modelRun real (plainIn (bareAfter list)) (eventsAfter list m x) (modelAfterList list)
+abbrev pub model_after_call : List (Lent real machine) → Ram → Call → Model
+model_after_call list m x = model_run real (plain_in (bare_after list)) (events_after list m x) (model_after_list list)
 
-abbrev pub modelAnswersAfter : List (Lent real machine) → Ram → Call → List Given
-modelAnswersAfter list m x =
-    modelAnswersRun real (plainIn (bareAfter list)) (eventsAfter list m x) (modelAfterList list)
+abbrev pub model_answers_after : List (Lent real machine) → Ram → Call → List Given
+model_answers_after list m x =
+    model_answers_run real (plain_in (bare_after list)) (events_after list m x) (model_after_list list)
 
 -- the cache after that call
-abbrev pub tlbAfterCall : List (Lent real machine) → Ram → Call → Tlb
-tlbAfterCall list m x = (step_of (coreAfter list) m.base m.bytes x).core.tlb
+abbrev pub tlb_after_call : List (Lent real machine) → Ram → Call → Tlb
+tlb_after_call list m x = (step_of (core_after list) m.base m.bytes x).core.tlb
 
 -- the core's cache stands for the model
 abbrev pub every_list_modelled : Type 0
-every_list_modelled = EveryList (λ list. StandsFor (coreAfter list).tlb (modelAfterList list))
+every_list_modelled = EveryList (λ list. StandsFor (core_after list).tlb (model_after_list list))
 
 -- EVERY CORE THAT CALLS REACH: its level is 3 at most, its cache is well-formed, and the cache's ASID is that of the
 -- registers.
@@ -54,10 +54,10 @@ every_list_modelled = EveryList (λ list. StandsFor (coreAfter list).tlb (modelA
 pub record Well (c : Core) : Type 0 where
   pub level : c.privilege.level ≤ 3
   pub cache : WellFormed c.tlb
-  pub asid : c.tlb.cache.current.asid ≡ asidOf c.control
+  pub asid : c.tlb.cache.current.asid ≡ asid_of c.control
 
 abbrev pub every_core_well : Type 0
-every_core_well = EveryList (λ list. Well (coreAfter list))
+every_core_well = EveryList (λ list. Well (core_after list))
 
 -- EVERY CALL, against the plain model.
 --   before    the cache stands for the model after the list
@@ -67,13 +67,13 @@ every_core_well = EveryList (λ list. Well (coreAfter list))
 --   counts    the counters, those of each level included, are the model's
 --   pending   what is pending for other cores is the model's
 pub record Modelled (list : List (Lent real machine)) (m : Ram) (x : Call) : Type 0 where
-  pub before : live (coreAfter list).tlb ≡ modelAfterList list
-  pub answers : answersAfter list m x ≡ modelAnswersAfter list m x
-  pub reply : outcomeOf (coreAfter list) m x
-      ≡ saysIn (bareAfter list) m (laterIn (coreAfter list) m x) x (modelAnswersAfter list m x)
-  pub after : live (tlbAfterCall list m x) ≡ modelAfterCall list m x
-  pub counts : countersOf (tlbAfterCall list m x).counts ≡ (modelAfterCall list m x).counts
-  pub pending : pendingOf (tlbAfterCall list m x).broadcast ≡ (modelAfterCall list m x).pending
+  pub before : live (core_after list).tlb ≡ model_after_list list
+  pub answers : answers_after list m x ≡ model_answers_after list m x
+  pub reply : outcome_of (core_after list) m x
+      ≡ says_in (bare_after list) m (later_in (core_after list) m x) x (model_answers_after list m x)
+  pub after : live (tlb_after_call list m x) ≡ model_after_call list m x
+  pub counts : counters_of (tlb_after_call list m x).counts ≡ (model_after_call list m x).counts
+  pub pending : pending_of (tlb_after_call list m x).broadcast ≡ (model_after_call list m x).pending
 
 abbrev pub every_call_modelled : Type 0
 every_call_modelled = EveryCall Modelled

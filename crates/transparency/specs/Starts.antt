@@ -4,57 +4,57 @@
 -- registers and RAM as the last one, and so the same walk). `Shown` of history's Calls is the hypothesis that the list
 -- is fed so.
 use Rattle.std.specs.Prelude.{List, [], ◌∷◌, ℕ, zero, suc, ◌+◌}
-use Rattle.word.specs.Bits.{alignDown, wrap}
+use Rattle.word.specs.Bits.{align_down, wrap}
 use Rattle.sysop.specs.declared.op.SysOp.{SysOp}
 use Rattle.sysop.specs.declared.op.SysOp.TheVariants as Op
-use Rattle.mmu.specs.Bare.{bareOf}
-use Rattle.mmu.specs.Ops.{writeOf, ramAfterWrite}
+use Rattle.mmu.specs.Bare.{bare_of}
+use Rattle.mmu.specs.Ops.{write_of, ram_after_write}
 use Rattle.mmu.specs.declared.core_state.Core.{Core}
-use Rattle.exec.specs.Sys.{onStored}
+use Rattle.exec.specs.Sys.{on_stored}
 use Rattle.operations.specs.declared.call.Call.{Call}
 use Rattle.operations.specs.declared.call.Call.TheVariants.{Translate, DataPa, FetchPa, Load, Store, Fetch, System, Register, Level, Mark, General}
 use Rattle.operations.specs.declared.call.Call.TheVariants.{Abort, Census}
-use Rattle.history.specs.Instance.{Ram, windowOf}
-use Rattle.transparency.specs.Bare.{opIn, operandIn, rulingIn, ifAllowed}
+use Rattle.history.specs.Instance.{Ram, window_of}
+use Rattle.transparency.specs.Bare.{op_in, operand_in, ruling_in, if_allowed}
 
-abbrev pub ramWith : Ram → List ℕ → Ram
-ramWith m bytes = windowOf m.base bytes
+abbrev pub ram_with : Ram → List ℕ → Ram
+ram_with m bytes = window_of m.base bytes
 
 -- RAM after a store of eight zero bytes
-abbrev pub ramZeroed : Core → Ram → ℕ → Ram
-ramZeroed c m va = ramWith m (ramAfterWrite c m.base m.bytes va 8 0)
+abbrev pub ram_zeroed : Core → Ram → ℕ → Ram
+ram_zeroed c m va = ram_with m (ram_after_write c m.base m.bytes va 8 0)
 
 -- of n further stores of eight zero bytes after the one at va, those begun
-abbrev pub zeroLater : ℕ → Core → Ram → ℕ → List Ram
-zeroLater zero c m va = []
-zeroLater (suc n) c m va =
-    onStored (writeOf c m.base m.bytes va 8).answer
-    (ramZeroed c m va ∷ zeroLater n (writeOf c m.base m.bytes va 8).core (ramZeroed c m va) (wrap (va + 8)))
+abbrev pub zero_later : ℕ → Core → Ram → ℕ → List Ram
+zero_later zero c m va = []
+zero_later (suc n) c m va =
+    on_stored (write_of c m.base m.bytes va 8).answer
+    (ram_zeroed c m va ∷ zero_later n (write_of c m.base m.bytes va 8).core (ram_zeroed c m va) (wrap (va + 8)))
     []
 
-abbrev pub sysLater : SysOp → Core → Ram → ℕ → List Ram
-sysLater Op.Zva c m va = zeroLater 7 c m (alignDown va 6)
-sysLater (Op.At form) c m va = []
-sysLater Op.Tlbi c m va = []
-sysLater Op.Nothing c m va = []
-sysLater Op.Undefined c m va = []
-sysLater Op.Unimplemented c m va = []
+abbrev pub sys_later : SysOp → Core → Ram → ℕ → List Ram
+sys_later Op.Zva c m va = zero_later 7 c m (align_down va 6)
+sys_later (Op.At form) c m va = []
+sys_later Op.Tlbi c m va = []
+sys_later Op.Nothing c m va = []
+sys_later Op.Undefined c m va = []
+sys_later Op.Unimplemented c m va = []
 
-abbrev pub laterOf : Core → Ram → Call → List Ram
-laterOf c m (System e) = sysLater (opIn (bareOf c) e) c m (operandIn (bareOf c) e)
-laterOf c m (Translate kind va) = []
-laterOf c m (DataPa va) = []
-laterOf c m (FetchPa va) = []
-laterOf c m (Load va size) = []
-laterOf c m (Store va size value) = []
-laterOf c m (Fetch va) = []
-laterOf c m (Register key value) = []
-laterOf c m (Level level) = []
-laterOf c m (Mark mark) = []
-laterOf c m (General n value) = []
-laterOf c m (Abort e) = []
-laterOf c m (Census first pages) = []
+abbrev pub later_of : Core → Ram → Call → List Ram
+later_of c m (System e) = sys_later (op_in (bare_of c) e) c m (operand_in (bare_of c) e)
+later_of c m (Translate kind va) = []
+later_of c m (DataPa va) = []
+later_of c m (FetchPa va) = []
+later_of c m (Load va size) = []
+later_of c m (Store va size value) = []
+later_of c m (Fetch va) = []
+later_of c m (Register key value) = []
+later_of c m (Level level) = []
+later_of c m (Mark mark) = []
+later_of c m (General n value) = []
+later_of c m (Abort e) = []
+later_of c m (Census first pages) = []
 
 -- a refused call has one step
-abbrev pub laterIn : Core → Ram → Call → List Ram
-laterIn c m x = ifAllowed (rulingIn (bareOf c) m x) (laterOf c m x) []
+abbrev pub later_in : Core → Ram → Call → List Ram
+later_in c m x = if_allowed (ruling_in (bare_of c) m x) (later_of c m x) []

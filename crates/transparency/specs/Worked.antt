@@ -2,22 +2,22 @@
 -- fails where a table was changed without a TLBI.
 use Rattle.std.specs.Prelude.{◌≡◌, true, List, [], ◌∷◌, ◌++◌, ℕ}
 use Rattle.word.specs.Ram.{bytes_of}
-use Rattle.tlb.specs.Step.{translationIn}
+use Rattle.tlb.specs.Step.{translation_in}
 use Rattle.tlb.specs.declared.access.Kind.TheVariants.{Read}
 use Rattle.tlb.specs.declared.access.Answer.TheVariants.{Address}
 use Rattle.tlb.specs.declared.resolve.Source.TheVariants.{FromHint}
-use Rattle.mmu.specs.Bare.{bareOf}
+use Rattle.mmu.specs.Bare.{bare_of}
 use Rattle.cpu.specs.Step.{step_of}
 use Rattle.operations.specs.declared.call.Call.{Call}
 use Rattle.operations.specs.declared.call.Call.TheVariants.{Translate, FetchPa, Register, Level, Mark, General, System}
 use Rattle.operations.specs.declared.call.Reply.TheVariants.{Value}
-use Rattle.history.specs.World.{uncached, accessOf}
+use Rattle.history.specs.World.{uncached, access_of}
 use Rattle.history.specs.Calls.{Lent}
 use Rattle.history.specs.Instance.{Ram, real}
-use Rattle.transparency.specs.Bare.{plainIn, missedIn}
+use Rattle.transparency.specs.Bare.{plain_in, missed_in}
 use Rattle.transparency.specs.Machine.{machine}
-use Rattle.transparency.specs.Beside.{coreAfter, bareAfter}
-use Rattle.transparency.specs.Faithful.{fedBy}
+use Rattle.transparency.specs.Beside.{core_after, bare_after}
+use Rattle.transparency.specs.Faithful.{fed_by}
 use Rattle.transparency.specs.Direct.{SettledAt}
 
 -- RAM with this word at 0x1008: no table, a 1 GiB block at 0x80000000, one at 0xC0000000
@@ -62,25 +62,25 @@ tidied =
 -- WITH THE TLBI the page is settled, and the cache answers from a hint, as the core without a cache does.
 
 abbrev pub settled : Type 0
-settled = SettledAt (fedBy tidied) new 0x40001234
+settled = SettledAt (fed_by tidied) new 0x40001234
 
 abbrev pub by_cache : Type 0
 by_cache =
-    ((translationIn (accessOf real (plainIn (bareAfter tidied)) new Read 0x40001234) (coreAfter tidied).tlb).source
+    ((translation_in (access_of real (plain_in (bare_after tidied)) new Read 0x40001234) (core_after tidied).tlb).source
     ≡ FromHint)
-    × ((step_of (coreAfter tidied) new.base new.bytes read).reply ≡ Value 0xC0001234)
-    × (uncached real (plainIn (bareAfter tidied)) new Read 0x40001234 ≡ Address 0xC0001234)
+    × ((step_of (core_after tidied) new.base new.bytes read).reply ≡ Value 0xC0001234)
+    × (uncached real (plain_in (bare_after tidied)) new Read 0x40001234 ≡ Address 0xC0001234)
 
 -- WITHOUT IT the cache answers by the old table, so the page is not settled.
 
 abbrev pub stale : Type 0
 stale =
-    ((step_of (coreAfter start) new.base new.bytes read).reply ≡ Value 0x80001234)
-    × (uncached real (plainIn (bareAfter start)) new Read 0x40001234 ≡ Address 0xC0001234)
-    × (missedIn (bareOf (coreAfter start)) new read ≡ 0)
+    ((step_of (core_after start) new.base new.bytes read).reply ≡ Value 0x80001234)
+    × (uncached real (plain_in (bare_after start)) new Read 0x40001234 ≡ Address 0xC0001234)
+    × (missed_in (bare_of (core_after start)) new read ≡ 0)
 
 abbrev pub unsettled : Type 0
-unsettled = SettledAt (fedBy start) new 0x40001234 → ⊥
+unsettled = SettledAt (fed_by start) new 0x40001234 → ⊥
 
 -- THE COUNTERS BY LEVEL. EL1's first read was walked. Under the mark EL1 reads again: judged as EL0's it is refused by
 -- the entry, and that is a hit of EL1, not of EL0; a fetch under the mark, which is judged as EL1's, is another. Then
@@ -92,6 +92,6 @@ counted =
 
 abbrev pub by_level : Type 0
 by_level =
-    (coreAfter counted).tlb.counts.levels
+    (core_after counted).tlb.counts.levels
     ≡ record { hits = 1; walks = 0 } ∷ record { hits = 2; walks = 1 } ∷ record { hits = 0; walks = 0 }
     ∷ record { hits = 0; walks = 0 } ∷ []

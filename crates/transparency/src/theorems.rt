@@ -1,6 +1,6 @@
 // What is proved of every list of calls: each function does nothing, and its contract is the theorem. The lists begin
 // at the fresh core, hold calls of every kind, refused ones too, and RAM at each step is any.
-ghost use Rattle.mmu.specs.Core.{freshCore};
+ghost use Rattle.mmu.specs.Core.{fresh_core};
 ghost use Rattle.history.specs.Calls.{Bridge, EveryCallFaithful, SameReplies, InvisibleCalls};
 ghost use Rattle.history.specs.Instance.{real};
 ghost use Rattle.transparency.specs.Machine.{machine};
@@ -32,7 +32,7 @@ ghost use Rattle.transparency.specs.Bytes.{flat_after, load_byte_after, store_by
 /// inside a load, a store, a fetch and a zeroing too. RAM at each step can be shown of every list, so that no list is
 /// left out. Rules out an entry or a hint that outlives its invalidation, a flush or a retag.
 pub fn every_translation()
-    ensures faithful { EveryCallFaithful real machine freshCore }
+    ensures faithful { EveryCallFaithful real machine fresh_core }
     ensures shown { every_list_shown }
 {}
 
@@ -40,8 +40,8 @@ pub fn every_translation()
 /// cache; where no table is changed without its TLBI, no reply of a whole list shows the cache. Rules out an answer
 /// that is right inside and replied, or stored, wrong.
 pub fn every_reply()
-    ensures same { SameReplies real machine replies freshCore }
-    ensures invisible { InvisibleCalls real machine replies freshCore }
+    ensures same { SameReplies real machine replies fresh_core }
+    ensures invisible { InvisibleCalls real machine replies fresh_core }
 {}
 
 /// What `step` gives is faithful, whatever list of calls left the core: this is the promise that entry points carry in

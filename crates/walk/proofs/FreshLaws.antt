@@ -2,7 +2,7 @@
 use Rattle.std.specs.Prelude.{if◌then◌else◌, ◌≡◌, Bool, ℕ, Option, Ok, Err}
 use Rattle.std.proofs.Common.{subst}
 use Rattle.std.proofs.Math.Bool.{true, false}
-use Rattle.walk.specs.Regime.{stage1On}
+use Rattle.walk.specs.Regime.{stage1_on}
 use Rattle.walk.specs.Tag.{untagged}
 use Rattle.walk.specs.Walk.{walk_of}
 use Rattle.walk.specs.Fresh.{fresh_of}
@@ -20,7 +20,7 @@ walk_end va (Err n) h = h
 module _ (s : Bank) (r : Regime) (va : ℕ) (memory : ℕ → Option ℕ) where
   pub answer-sound : SoundFresh (fresh_of s r va memory)
   unfolding fresh_of
-  answer-sound = go (stage1On s r)
+  answer-sound = go (stage1_on s r)
     where
       go : (b : Bool) → SoundFresh (if b then Ended (walk_of s r (untagged s.tcr r va) memory) else Flat va)
       go true = walk_end _ (walk_of s r (untagged s.tcr r va) memory) (walk-sound s r (untagged s.tcr r va) memory)

@@ -8,10 +8,10 @@ use native.Mathlib.Nat.{mod-lt, lt_of_lt_of_le, le_of_lt}
 use native.Mathlib.Omega.{arith}
 use lib.Bits.{bit_or}
 use lib.Pow.{shl-shr, shr-shr, mod-pow-add, high, pow_pos, pow_mono}
-use Rattle.word.specs.Bits.{field, alignDown}
+use Rattle.word.specs.Bits.{field, align_down}
 use Rattle.word.specs.BitLaws.{place, cut_field, or-bit, align-le}
-use Rattle.walk.specs.Table.{grainsize, stride, addrselectbottom, beyond, descaddr, tableNext}
-use Rattle.walk.specs.State.{lookupOf, answers, stepped, meant, Standing, Onwards, Leads, next, stop}
+use Rattle.walk.specs.Table.{grainsize, stride, addrselectbottom, beyond, descaddr, table_next}
+use Rattle.walk.specs.State.{lookup_of, answers, stepped, meant, Standing, Onwards, Leads, next, stop}
 use Rattle.walk.specs.declared.{level.Params.Params, level.WalkState.WalkState}
 use Rattle.walk.specs.declared.level.Step.TheVariants.{Next, Done}
 
@@ -37,7 +37,7 @@ pub skip-more : (p : Params) (w : WalkState) → Standing p w → 64 - w.top + w
 skip-more p w st = omega (arith, st.below_top, st.top)
 
 module _ (p : Params) (w : WalkState) (va : ℕ) (st : Standing p w) where
-  pub address_is : w.table + (va * 2 ^ (64 - w.top)) % 2 ^ 64 / 2 ^ (64 - w.top + w.lsb) * 8 ≡ descaddr p va (lookupOf p w)
+  pub address_is : w.table + (va * 2 ^ (64 - w.top)) % 2 ^ 64 / 2 ^ (64 - w.top + w.lsb) * 8 ≡ descaddr p va (lookup_of p w)
   unfolding descaddr
   address_is = rw (index_is va w.top w.lsb (le_of_lt st.below_top) (omega (arith, st.top)), ← st.lsb)
 
@@ -62,14 +62,14 @@ lsb-falls true l h = omega arith
 lsb-falls false l h = omega arith
 
 module _ (p : Params) (w : WalkState) (desc : ℕ) (large : Bool) (el : large ≡ beyond p.outputsize desc) where
-  pub table-beyond : large ≡ true → answers (Err w.level) ≡ meant p (tableNext p (lookupOf p w) desc)
-  unfolding tableNext
+  pub table-beyond : large ≡ true → answers (Err w.level) ≡ meant p (table_next p (lookup_of p w) desc)
+  unfolding table_next
   table-beyond t = rw (← el, t)
 
-  pub table-onward : (g s x : ℕ) → large ≡ false → Standing p w → g ≡ grainsize p.largegrain → g ≤ 16 → x ≡ alignDown (desc % 2 ^ 48) (g % 64)
+  pub table-onward : (g s x : ℕ) → large ≡ false → Standing p w → g ≡ grainsize p.largegrain → g ≤ 16 → x ≡ align_down (desc % 2 ^ 48) (g % 64)
       → stepped p (Next record { tables = bit_or w.tables desc; table = x; top = w.lsb; lsb = w.lsb - s; level = w.level + 1 })
-      ≡ meant p (tableNext p (lookupOf p w) desc)
-  unfolding tableNext
+      ≡ meant p (table_next p (lookup_of p w) desc)
+  unfolding table_next
   table-onward g s x t st eg hg ex =
       rw (← el, t, ex, place {n = g} (omega arith), eg, st.lsb)
       (simp (or-bit w.tables desc 62, or-bit w.tables desc 61, or-bit w.tables desc 60, or-bit w.tables desc 59, and-or))
@@ -86,7 +86,7 @@ stride-some : (g : Bool) → 0 < stride g
 stride-some true = omega arith
 stride-some false = omega arith
 
-table-down : (p : Params) (w : WalkState) (desc g s x o : ℕ) → Standing p w → w.level < 3 → s ≡ stride p.largegrain → x ≡ alignDown (desc % 2 ^ 48) (g % 64)
+table-down : (p : Params) (w : WalkState) (desc g s x o : ℕ) → Standing p w → w.level < 3 → s ≡ stride p.largegrain → x ≡ align_down (desc % 2 ^ 48) (g % 64)
     → Onwards p w record { tables = o; table = x; top = w.lsb; lsb = w.lsb - s; level = w.level + 1 }
 table-down p w desc g s x o st h es ex =
     record {
@@ -102,7 +102,7 @@ table-down p w desc g s x o st h es ex =
     }
 
 pub table-leads : (p : Params) (w : WalkState) (desc g s x o : ℕ) → Standing p w → w.level < 3 → s ≡ stride p.largegrain → x
-    ≡ alignDown (desc % 2 ^ 48) (g % 64)
+    ≡ align_down (desc % 2 ^ 48) (g % 64)
     → Leads p w (Next record { tables = o; table = x; top = w.lsb; lsb = w.lsb - s; level = w.level + 1 })
 table-leads p w desc g s x o st h es ex = next (table-down p w desc g s x o st h es ex)
 
@@ -110,7 +110,7 @@ pub stops : (p : Params) (w : WalkState) (a : Walked) → Leads p w (Done a)
 stops p w a = stop
 
 -- the two parts of an output address fit together
-pub parts_fit : (p : Params) (w : WalkState) (va desc x o : ℕ) → Standing p w → x ≡ alignDown (desc % 2 ^ 48) (w.lsb % 64) → o ≡ va % 2 ^ (w.lsb % 64)
+pub parts_fit : (p : Params) (w : WalkState) (va desc x o : ℕ) → Standing p w → x ≡ align_down (desc % 2 ^ 48) (w.lsb % 64) → o ≡ va % 2 ^ (w.lsb % 64)
     → x + o < 2 ^ 64
 parts_fit p w va desc x o st ex eo =
     let a = align-le (desc % 2 ^ 48) (w.lsb % 64) in

@@ -5,13 +5,13 @@ use mathlib.Core.Path.{◌≡◌, refl, sym, ap, ◌∙◌}
 use mathlib.Core.Bool.{Bool, true, false, not, ◌&&◌, ◌||◌}
 use Prim.Native.Nat.{ℕ, suc, ◌-◌, ◌≤◌, ◌<◌, ◌%◌, ◌^◌}
 use native.Mathlib.Omega.{arith}
-use Rattle.word.specs.Bits.{alignDown}
+use Rattle.word.specs.Bits.{align_down}
 use Rattle.word.specs.BitLaws.{align-le}
-use Rattle.walk.specs.Table.{Lookup, Result, Next, deeper, ends, lookupNext}
-use Rattle.walk.specs.Table.{walkFrom, walkRange, tableWalk, range_of, params_of, firstLookup, startlevel, inputsize, in_range, beyond, addrselectbottom}
-use Rattle.walk.specs.Table.{startlevelOf, baselowerbound}
-use Rattle.walk.specs.Walk.{walkedOf, walk_of}
-use Rattle.walk.specs.State.{lookupOf, onward, answers, stepped, meant, Standing, Onwards, Leads, next, stop, beginOf}
+use Rattle.walk.specs.Table.{Lookup, Result, Next, deeper, ends, lookup_next}
+use Rattle.walk.specs.Table.{walk_from, walk_range, table_walk, range_of, params_of, first_lookup, startlevel, inputsize, in_range, beyond, addrselectbottom}
+use Rattle.walk.specs.Table.{startlevel_of, baselowerbound}
+use Rattle.walk.specs.Walk.{walked_of, walk_of}
+use Rattle.walk.specs.State.{lookup_of, onward, answers, stepped, meant, Standing, Onwards, Leads, next, stop, begin_of}
 use Rattle.walk.specs.declared.{regime.Regime.Regime, regime.Bank.Bank, range.Range.Range}
 use Rattle.walk.specs.declared.{level.Params.Params, level.WalkState.WalkState}
 use Rattle.walk.specs.declared.level.Step.{Step}
@@ -42,7 +42,7 @@ pub is-deeper : (p : Params) (l : Lookup) (n : Next) → onward l ≡ meant p n 
 is-deeper p l (deeper k) e = ap deeper (sym (onward-inj l k e))
 is-deeper p l (ends r) e = absurd (apart l _ e)
 
-module _ (memory : ℕ → Option ℕ) (p : Params) (w : WalkState) (va : ℕ) (s : Step) (es : stepped p s ≡ meant p (lookupNext memory p va (lookupOf p w)))
+module _ (memory : ℕ → Option ℕ) (p : Params) (w : WalkState) (va : ℕ) (s : Step) (es : stepped p s ≡ meant p (lookup_next memory p va (lookup_of p w)))
     (ld : Leads p w s) where
   pub stands : (v : WalkState) → s ≡ Onward v → Standing p v
   stands v n = (leads-on p w v s ld n).stands
@@ -53,28 +53,28 @@ module _ (memory : ℕ → Option ℕ) (p : Params) (w : WalkState) (va : ℕ) (
       let h = (leads-on p w v s ld n).stands.level in
       omega arith
 
-  pub goes_on : (v : WalkState) (r : Result) → s ≡ Onward v → walkFrom (4 - w.level) memory p va (lookupOf p w) ≡ r
-      → walkFrom (4 - v.level) memory p va (lookupOf p v) ≡ r
-  unfolding walkFrom
+  pub goes_on : (v : WalkState) (r : Result) → s ≡ Onward v → walk_from (4 - w.level) memory p va (lookup_of p w) ≡ r
+      → walk_from (4 - v.level) memory p va (lookup_of p v) ≡ r
+  unfolding walk_from
   goes_on v r n h =
       let l = (leads-on p w v s ld n).level in
       let b = (leads-on p w v s ld n).stands.level in
       let k : 4 - w.level ≡ suc (4 - v.level) = omega arith in
-      let d = is-deeper p (lookupOf p v) (lookupNext memory p va (lookupOf p w)) (rw n at es) in
-      rw (k, walkFrom, d) at h
+      let d = is-deeper p (lookup_of p v) (lookup_next memory p va (lookup_of p w)) (rw n at es) in
+      rw (k, walk_from, d) at h
 
-  pub done-right : (a : Walked) (r : Result) → s ≡ Done a → Standing p w → walkFrom (4 - w.level) memory p va (lookupOf p w) ≡ r
-      → a ≡ walkedOf p.singlepriv p.wxn r
-  unfolding walkFrom
-  done-right a r n st h = go (lookupNext memory p va (lookupOf p w)) refl
+  pub done-right : (a : Walked) (r : Result) → s ≡ Done a → Standing p w → walk_from (4 - w.level) memory p va (lookup_of p w) ≡ r
+      → a ≡ walked_of p.singlepriv p.wxn r
+  unfolding walk_from
+  done-right a r n st h = go (lookup_next memory p va (lookup_of p w)) refl
     where
       k : 4 - w.level ≡ suc (3 - w.level)
       k = omega (arith, st.level)
 
-      go : (x : Next) → lookupNext memory p va (lookupOf p w) ≡ x → a ≡ walkedOf p.singlepriv p.wxn r
+      go : (x : Next) → lookup_next memory p va (lookup_of p w) ≡ x → a ≡ walked_of p.singlepriv p.wxn r
       go (deeper l) e = absurd (apart l a (sym (rw (n, e) at es)))
       go (ends q) e =
-          let h' : q ≡ r = rw (k, walkFrom, e) at h in
+          let h' : q ≡ r = rw (k, walk_from, e) at h in
           answers-inj _ _ (rw (n, e, h') at es)
 
 -- where a walk begins it stands, and what it stands for is the manual's first table
@@ -90,7 +90,7 @@ refused-inj n m e = cc
 pub at-refused : (n : ℕ) (w : WalkState) → Ok w ≡ Err n → ⊥
 at-refused n w e = let z : ◌≡◌ {A = ℕ} 0 1 = cc in omega arith
 
-start-stands : (g : Bool) (n : ℕ) → 25 ≤ n → n ≤ 48 → (startlevelOf g n ≤ 3) × (addrselectbottom g (startlevelOf g n) < n)
+start-stands : (g : Bool) (n : ℕ) → 25 ≤ n → n ≤ 48 → (startlevel_of g n ≤ 3) × (addrselectbottom g (startlevel_of g n) < n)
 start-stands true n h k = (omega arith, omega arith)
 start-stands false n h k = (omega arith, omega arith)
 
@@ -103,7 +103,7 @@ unfoldable pub first : Range → WalkState
 first g =
     record {
       tables = 0;
-      table = alignDown (g.baseregister % 2 ^ 48) (baselowerbound g);
+      table = align_down (g.baseregister % 2 ^ 48) (baselowerbound g);
       top = inputsize g;
       lsb = addrselectbottom g.largegrain (startlevel g);
       level = startlevel g;
@@ -116,52 +116,52 @@ first-stands p g e =
     let le = align-le (g.baseregister % 2 ^ 48) (baselowerbound g) in
     record { level = st.0; lsb = rw e; below_top = st.1; top = omega arith; table = omega arith }
 
-pub first-is : (p : Params) (g : Range) → firstLookup g ≡ lookupOf p (first g)
+pub first-is : (p : Params) (g : Range) → first_lookup g ≡ lookup_of p (first g)
 unfolding first
 first-is p g = simp and-false
 
 module _ (s : Bank) (r : Regime) (va : ℕ) (memory : ℕ → Option ℕ) (g : Range) (p : Params) (x : Begin) (eg : g ≡ range_of s r va)
-    (ep : p ≡ params_of s r g) (ex : x ≡ beginOf g p.outputsize va) where
+    (ep : p ≡ params_of s r g) (ex : x ≡ begin_of g p.outputsize va) where
   same-grain : p.largegrain ≡ g.largegrain
   unfolding params_of
   same-grain = ap (λ (q : Params). q.largegrain) ep
 
   abbrev Begun : WalkState → Type 0
-  Begun w = Standing p w × (walkRange p g va memory ≡ walkFrom (4 - w.level) memory p va (lookupOf p w))
+  Begun w = Standing p w × (walk_range p g va memory ≡ walk_from (4 - w.level) memory p va (lookup_of p w))
 
   begun : (w : WalkState) (a b : Bool) → (not (in_range g va) || g.disabled) ≡ a → beyond p.outputsize g.baseregister ≡ b
-      → beginOf g p.outputsize va ≡ Ok w → Begun w
-  unfolding beginOf walkRange first
+      → begin_of g p.outputsize va ≡ Ok w → Begun w
+  unfolding begin_of walk_range first
   begun w true b ea eb e = absurd (refused-at _ w (rw ea at e))
   begun w false true ea eb e = absurd (refused-at _ w (rw (ea, eb) at e))
   begun w false false ea eb e =
       let i : first g ≡ w = at-inj (first g) w (rw (ea, eb) at e) in
-      rw (← i, ea, eb) (first-stands p g same-grain, ap (λ (l : Lookup). walkFrom (4 - startlevel g) memory p va l) (first-is p g))
+      rw (← i, ea, eb) (first-stands p g same-grain, ap (λ (l : Lookup). walk_from (4 - startlevel g) memory p va l) (first-is p g))
 
   refused : (n : ℕ) (a b : Bool) → (not (in_range g va) || g.disabled) ≡ a → beyond p.outputsize g.baseregister ≡ b
-      → beginOf g p.outputsize va ≡ Err n → Err n ≡ walkedOf p.singlepriv p.wxn (walkRange p g va memory)
-  unfolding beginOf walkRange
+      → begin_of g p.outputsize va ≡ Err n → Err n ≡ walked_of p.singlepriv p.wxn (walk_range p g va memory)
+  unfolding begin_of walk_range
   refused n true b ea eb e = rw (ea, ← refused-inj _ n (rw ea at e))
   refused n false true ea eb e = rw (ea, eb, ← refused-inj _ n (rw (ea, eb) at e))
   refused n false false ea eb e = absurd (at-refused n _ (rw (ea, eb) at e))
 
-  walked : walkedOf p.singlepriv p.wxn (walkRange p g va memory) ≡ walk_of s r va memory
-  unfolding walk_of tableWalk params_of
+  walked : walked_of p.singlepriv p.wxn (walk_range p g va memory) ≡ walk_of s r va memory
+  unfolding walk_of table_walk params_of
   walked = rw (ep, eg)
 
   standing : (w : WalkState) → x ≡ Ok w → Standing p w
   standing w n = (begun w _ _ refl refl (sym ex ∙ n)).0
 
-  pub walks_from : (w : WalkState) (a : Walked) → x ≡ Ok w → a ≡ walkedOf p.singlepriv p.wxn (walkFrom (4 - w.level) memory p va (lookupOf p w))
+  pub walks_from : (w : WalkState) (a : Walked) → x ≡ Ok w → a ≡ walked_of p.singlepriv p.wxn (walk_from (4 - w.level) memory p va (lookup_of p w))
       → a ≡ walk_of s r va memory
-  walks_from w a n e = e ∙ ap (walkedOf p.singlepriv p.wxn) (sym (begun w _ _ refl refl (sym ex ∙ n)).1) ∙ walked
+  walks_from w a n e = e ∙ ap (walked_of p.singlepriv p.wxn) (sym (begun w _ _ refl refl (sym ex ∙ n)).1) ∙ walked
 
   pub walk_refused : (n : ℕ) → x ≡ Err n → Err n ≡ walk_of s r va memory
   walk_refused n e = refused n _ _ refl refl (sym ex ∙ e) ∙ walked
 
 -- whatever memory holds
 pub begins-standing : (s : Bank) (r : Regime) (va : ℕ) (g : Range) (p : Params) (x : Begin) (w : WalkState) → g ≡ range_of s r va
-    → p ≡ params_of s r g → x ≡ beginOf g p.outputsize va → x ≡ Ok w → Standing p w
+    → p ≡ params_of s r g → x ≡ begin_of g p.outputsize va → x ≡ Ok w → Standing p w
 begins-standing s r va g p x w eg ep ex n = standing s r va (λ _. None) g p x eg ep ex w n
 
 pub ruleset walk_steps = (falls, stands, goes_on, done-right)

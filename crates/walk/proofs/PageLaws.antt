@@ -5,36 +5,36 @@ use Rattle.std.proofs.Common.{subst, ◌∙◌, arith}
 use Rattle.std.proofs.Math.Bool.{Bool, not}
 use mathlib.Core.List.{List, ◌∷◌}
 use Prim.Native.Nat.{ℕ, zero, suc, ◌+◌, ◌-◌, ◌/◌, ◌%◌, ◌^◌, ◌≤◌}
-use Rattle.word.specs.Bits.{alignDown}
+use Rattle.word.specs.Bits.{align_down}
 use Rattle.word.specs.BitLaws.{same_above, join-above}
-use Rattle.walk.specs.Regime.{singlePriv, wxnOf}
-use Rattle.walk.specs.Descriptor.{valid, tableOrPage, af}
-use Rattle.walk.specs.Table.{Translation, Result, mapped, faults, addressSize, translation, accessFlag, externalAbort, firstblocklevel, inputsize}
-use Rattle.walk.specs.Table.{in_range, startlevel, addrselectbottom, beyond, outputaddress, Lookup, Next, deeper, ends, firstLookup, range_of, params_of}
-use Rattle.walk.specs.Table.{tableNext, leafTranslation, leafResult, levelNext, descaddr, on_word, lookupNext, onNext, walkFrom, walkRange, tableWalk}
-use Rattle.walk.specs.Walk.{walkedOf, walk_of}
+use Rattle.walk.specs.Regime.{single_priv, wxn_of}
+use Rattle.walk.specs.Descriptor.{valid, table_or_page, af}
+use Rattle.walk.specs.Table.{Translation, Result, mapped, faults, address_size, translation, access_flag, external_abort, firstblocklevel, inputsize}
+use Rattle.walk.specs.Table.{in_range, startlevel, addrselectbottom, beyond, outputaddress, Lookup, Next, deeper, ends, first_lookup, range_of, params_of}
+use Rattle.walk.specs.Table.{table_next, leaf_translation, leaf_result, level_next, descaddr, on_word, lookup_next, on_next, walk_from, walk_range, table_walk}
+use Rattle.walk.specs.Walk.{walked_of, walk_of}
 use Rattle.walk.specs.SizeLaws.{input-low, index-above-page}
 use Rattle.walk.specs.WalkBounds.{SoundWalked}
 use Rattle.walk.proofs.WalkBounds.{walk-sound}
-use Rattle.walk.specs.Fetches.{afterNext, fetchesFrom, fetchesRange, fetchesOf}
+use Rattle.walk.specs.Fetches.{after_next, fetches_from, fetches_range, fetches_of}
 use Rattle.walk.specs.declared.{regime.Regime.Regime, regime.Bank.Bank, range.Range.Range, level.Params.Params}
 use Rattle.walk.specs.declared.level.Leaf.{Leaf}
 use Rattle.walk.specs.declared.regime.Regime.TheVariants.{El1, El2, El3}
-use Rattle.walk.specs.PageLaws.{withAddress, pagedLeaf, paged, leafAt}
+use Rattle.walk.specs.PageLaws.{with_address, paged_leaf, paged, leaf_at}
 use Rattle.walk.specs.Answers.{Walked}
 
 -- the same of the manual's results
-abbrev pagedFound : Translation → Translation
-pagedFound t =
-    record t { address = alignDown t.address 12 }
+abbrev paged_found : Translation → Translation
+paged_found t =
+    record t { address = align_down t.address 12 }
 
-abbrev pagedResult : Result → Result
-pagedResult (mapped t) = mapped (pagedFound t)
-pagedResult (faults f) = faults f
+abbrev paged_result : Result → Result
+paged_result (mapped t) = mapped (paged_found t)
+paged_result (faults f) = faults f
 
-abbrev pagedNext : Next → Next
-pagedNext (deeper l) = deeper l
-pagedNext (ends r) = ends (pagedResult r)
+abbrev paged_next : Next → Next
+paged_next (deeper l) = deeper l
+paged_next (ends r) = ends (paged_result r)
 
 deeper-inj : (l k : Lookup) → deeper l ≡ deeper k → l ≡ k
 deeper-inj l k e = cc
@@ -45,7 +45,7 @@ ends-inj r q e = cc
 deeper-ends : (l : Lookup) (r : Result) → deeper l ≡ ends r → ⊥
 deeper-ends l r e = let z : ◌≡◌ {A = ℕ} 0 1 = cc in omega arith
 
-paged-walked : (singlepriv wxn : Bool) (x : Result) → paged (walkedOf singlepriv wxn x) ≡ walkedOf singlepriv wxn (pagedResult x)
+paged-walked : (singlepriv wxn : Bool) (x : Result) → paged (walked_of singlepriv wxn x) ≡ walked_of singlepriv wxn (paged_result x)
 paged-walked singlepriv wxn (mapped t) = refl
 paged-walked singlepriv wxn (faults f) = refl
 
@@ -54,38 +54,38 @@ module _ (va vb : ℕ) (same : va / 2 ^ 12 ≡ vb / 2 ^ 12) where
   above : (n : ℕ) → 12 ≤ n → va / 2 ^ n ≡ vb / 2 ^ n
   above n h = same_above va vb h same
 
-  output-page : (n desc : ℕ) → 12 ≤ n → alignDown (outputaddress n va desc) 12 ≡ alignDown (outputaddress n vb desc) 12
+  output-page : (n desc : ℕ) → 12 ≤ n → align_down (outputaddress n va desc) 12 ≡ align_down (outputaddress n vb desc) 12
   output-page n desc h = rw (join-above (desc % 2 ^ 48) va h, join-above (desc % 2 ^ 48) vb h, same)
 
   module _ (p : Params) where
-    leaf-page : (l : Lookup) (desc : ℕ) → pagedFound (leafTranslation p va l desc) ≡ pagedFound (leafTranslation p vb l desc)
-    unfolding leafTranslation
+    leaf-page : (l : Lookup) (desc : ℕ) → paged_found (leaf_translation p va l desc) ≡ paged_found (leaf_translation p vb l desc)
+    unfolding leaf_translation
     leaf-page l desc = rw (output-page (addrselectbottom p.largegrain l.level) desc (index-above-page p.largegrain l.level))
 
-    result-page : (l : Lookup) (desc : ℕ) → pagedResult (leafResult p va l desc) ≡ pagedResult (leafResult p vb l desc)
-    unfolding leafResult
+    result-page : (l : Lookup) (desc : ℕ) → paged_result (leaf_result p va l desc) ≡ paged_result (leaf_result p vb l desc)
+    unfolding leaf_result
     result-page l desc = go (ltb l.level (firstblocklevel p.largegrain)) (beyond p.outputsize desc) (af desc)
       where
         leaf : Bool → Bool → Bool → ℕ → Result
         leaf a b c v =
             if a then faults (translation l.level)
-            else if b then faults (addressSize l.level)
-            else if c then mapped (leafTranslation p v l desc) else faults (accessFlag l.level)
+            else if b then faults (address_size l.level)
+            else if c then mapped (leaf_translation p v l desc) else faults (access_flag l.level)
 
-        go : (a b c : Bool) → pagedResult (leaf a b c va) ≡ pagedResult (leaf a b c vb)
+        go : (a b c : Bool) → paged_result (leaf a b c va) ≡ paged_result (leaf a b c vb)
         go true b c = refl
         go false true c = refl
         go false false true = ap mapped (leaf-page l desc)
         go false false false = refl
 
-    level-page : (l : Lookup) (desc : ℕ) → pagedNext (levelNext p va l desc) ≡ pagedNext (levelNext p vb l desc)
-    unfolding levelNext
-    level-page l desc = go (not (valid desc) || (eqb l.level 3 && not (tableOrPage desc))) (eqb l.level 3 || not (tableOrPage desc))
+    level-page : (l : Lookup) (desc : ℕ) → paged_next (level_next p va l desc) ≡ paged_next (level_next p vb l desc)
+    unfolding level_next
+    level-page l desc = go (not (valid desc) || (eqb l.level 3 && not (table_or_page desc))) (eqb l.level 3 || not (table_or_page desc))
       where
         next : Bool → Bool → ℕ → Next
-        next a b v = if a then ends (faults (translation l.level)) else if b then ends (leafResult p v l desc) else tableNext p l desc
+        next a b v = if a then ends (faults (translation l.level)) else if b then ends (leaf_result p v l desc) else table_next p l desc
 
-        go : (a b : Bool) → pagedNext (next a b va) ≡ pagedNext (next a b vb)
+        go : (a b : Bool) → paged_next (next a b va) ≡ paged_next (next a b vb)
         go true b = refl
         go false true = ap ends (result-page l desc)
         go false false = refl
@@ -94,63 +94,63 @@ module _ (va vb : ℕ) (same : va / 2 ^ 12 ≡ vb / 2 ^ 12) where
     unfolding descaddr
     same_address l = rw (above (addrselectbottom p.largegrain l.level) (index-above-page p.largegrain l.level))
 
-    lookup-page : (memory : ℕ → Option ℕ) (l : Lookup) → pagedNext (lookupNext memory p va l) ≡ pagedNext (lookupNext memory p vb l)
-    unfolding lookupNext
+    lookup-page : (memory : ℕ → Option ℕ) (l : Lookup) → paged_next (lookup_next memory p va l) ≡ paged_next (lookup_next memory p vb l)
+    unfolding lookup_next
     lookup-page memory l = rw (same_address l) (go (memory (descaddr p vb l)))
       where
         next : Option ℕ → ℕ → Next
-        next x v = on_word x (levelNext p v l) (ends (faults (externalAbort l.level)))
+        next x v = on_word x (level_next p v l) (ends (faults (external_abort l.level)))
 
-        go : (x : Option ℕ) → pagedNext (next x va) ≡ pagedNext (next x vb)
+        go : (x : Option ℕ) → paged_next (next x va) ≡ paged_next (next x vb)
         go (Some desc) = level-page l desc
         go None = refl
 
-    from-page : (n : ℕ) (memory : ℕ → Option ℕ) (l : Lookup) → pagedResult (walkFrom n memory p va l) ≡ pagedResult (walkFrom n memory p vb l)
-    unfolding walkFrom
+    from-page : (n : ℕ) (memory : ℕ → Option ℕ) (l : Lookup) → paged_result (walk_from n memory p va l) ≡ paged_result (walk_from n memory p vb l)
+    unfolding walk_from
     from-page zero memory l = refl
-    from-page (suc n) memory l = go (lookupNext memory p va l) (lookupNext memory p vb l) (lookup-page memory l) (from-page n memory)
+    from-page (suc n) memory l = go (lookup_next memory p va l) (lookup_next memory p vb l) (lookup-page memory l) (from-page n memory)
       where
-        go : (x y : Next) → pagedNext x ≡ pagedNext y
-            → ((k : Lookup) → pagedResult (walkFrom n memory p va k) ≡ pagedResult (walkFrom n memory p vb k))
-            → pagedResult (onNext x (walkFrom n memory p va)) ≡ pagedResult (onNext y (walkFrom n memory p vb))
+        go : (x y : Next) → paged_next x ≡ paged_next y
+            → ((k : Lookup) → paged_result (walk_from n memory p va k) ≡ paged_result (walk_from n memory p vb k))
+            → paged_result (on_next x (walk_from n memory p va)) ≡ paged_result (on_next y (walk_from n memory p vb))
         go (deeper k) (deeper j) e ih = rw (deeper-inj k j e) (ih j)
         go (deeper k) (ends r) e ih = absurd (deeper-ends k _ e)
         go (ends r) (deeper j) e ih = absurd (deeper-ends j _ (sym e))
         go (ends r) (ends q) e ih = ends-inj _ _ e
 
-    range-page : (g : Range) (memory : ℕ → Option ℕ) → pagedResult (walkRange p g va memory) ≡ pagedResult (walkRange p g vb memory)
-    unfolding walkRange
+    range-page : (g : Range) (memory : ℕ → Option ℕ) → paged_result (walk_range p g va memory) ≡ paged_result (walk_range p g vb memory)
+    unfolding walk_range
     range-page g memory =
         let h : 12 ≤ inputsize g = omega (arith, input-low g) in
         rw (above (inputsize g) h) (go (not (in_range g vb) || g.disabled) (beyond p.outputsize g.baseregister))
       where
         result : Bool → Bool → ℕ → Result
-        result a b v = if a then faults (translation 0) else if b then faults (addressSize 0) else walkFrom (4 - startlevel g) memory p v (firstLookup g)
+        result a b v = if a then faults (translation 0) else if b then faults (address_size 0) else walk_from (4 - startlevel g) memory p v (first_lookup g)
 
-        go : (a b : Bool) → pagedResult (result a b va) ≡ pagedResult (result a b vb)
+        go : (a b : Bool) → paged_result (result a b va) ≡ paged_result (result a b vb)
         go true b = refl
         go false true = refl
-        go false false = from-page (4 - startlevel g) memory (firstLookup g)
+        go false false = from-page (4 - startlevel g) memory (first_lookup g)
 
-    fetches-page : (n : ℕ) (memory : ℕ → Option ℕ) (l : Lookup) → fetchesFrom n memory p va l ≡ fetchesFrom n memory p vb l
-    unfolding fetchesFrom
+    fetches-page : (n : ℕ) (memory : ℕ → Option ℕ) (l : Lookup) → fetches_from n memory p va l ≡ fetches_from n memory p vb l
+    unfolding fetches_from
     fetches-page zero memory l = refl
     fetches-page (suc n) memory l =
         rw (same_address l) (ap (λ (t : List ℕ). descaddr p vb l ∷ t)
-        (go (lookupNext memory p va l) (lookupNext memory p vb l) (lookup-page memory l) (fetches-page n memory)))
+        (go (lookup_next memory p va l) (lookup_next memory p vb l) (lookup-page memory l) (fetches-page n memory)))
       where
-        go : (x y : Next) → pagedNext x ≡ pagedNext y → ((k : Lookup) → fetchesFrom n memory p va k ≡ fetchesFrom n memory p vb k)
-            → afterNext x (fetchesFrom n memory p va) ≡ afterNext y (fetchesFrom n memory p vb)
+        go : (x y : Next) → paged_next x ≡ paged_next y → ((k : Lookup) → fetches_from n memory p va k ≡ fetches_from n memory p vb k)
+            → after_next x (fetches_from n memory p va) ≡ after_next y (fetches_from n memory p vb)
         go (deeper k) (deeper j) e ih = rw (deeper-inj k j e) (ih j)
         go (deeper k) (ends r) e ih = absurd (deeper-ends k _ e)
         go (ends r) (deeper j) e ih = absurd (deeper-ends j _ (sym e))
         go (ends r) (ends q) e ih = refl
 
-    fetches-range-page : (g : Range) (memory : ℕ → Option ℕ) → fetchesRange p g va memory ≡ fetchesRange p g vb memory
-    unfolding fetchesRange
+    fetches-range-page : (g : Range) (memory : ℕ → Option ℕ) → fetches_range p g va memory ≡ fetches_range p g vb memory
+    unfolding fetches_range
     fetches-range-page g memory =
         let h : 12 ≤ inputsize g = omega (arith, input-low g) in
-        rw (above (inputsize g) h, fetches-page (4 - startlevel g) memory (firstLookup g))
+        rw (above (inputsize g) h, fetches-page (4 - startlevel g) memory (first_lookup g))
 
   -- addresses of one page lie in one range
   pub range-of-page : (s : Bank) (r : Regime) → range_of s r va ≡ range_of s r vb
@@ -161,16 +161,16 @@ module _ (va vb : ℕ) (same : va / 2 ^ 12 ≡ vb / 2 ^ 12) where
 
   -- and have one walk but for the offset
   pub walk_of-page : (s : Bank) (r : Regime) (memory : ℕ → Option ℕ) → paged (walk_of s r va memory) ≡ paged (walk_of s r vb memory)
-  unfolding walk_of tableWalk
+  unfolding walk_of table_walk
   walk_of-page s r memory =
       let g = range_of s r vb in
-      rw (range-of-page s r) (paged-walked (singlePriv r) (wxnOf s) (walkRange (params_of s r g) g va memory)
-      ∙ ap (walkedOf (singlePriv r) (wxnOf s)) (range-page (params_of s r g) g memory)
-      ∙ sym (paged-walked (singlePriv r) (wxnOf s) (walkRange (params_of s r g) g vb memory)))
+      rw (range-of-page s r) (paged-walked (single_priv r) (wxn_of s) (walk_range (params_of s r g) g va memory)
+      ∙ ap (walked_of (single_priv r) (wxn_of s)) (range-page (params_of s r g) g memory)
+      ∙ sym (paged-walked (single_priv r) (wxn_of s) (walk_range (params_of s r g) g vb memory)))
 
   -- and fetch the same descriptors
-  pub fetches-of-page : (s : Bank) (r : Regime) (memory : ℕ → Option ℕ) → fetchesOf s r va memory ≡ fetchesOf s r vb memory
-  unfolding fetchesOf
+  pub fetches-of-page : (s : Bank) (r : Regime) (memory : ℕ → Option ℕ) → fetches_of s r va memory ≡ fetches_of s r vb memory
+  unfolding fetches_of
   fetches-of-page s r memory = rw (range-of-page s r) (fetches-range-page (params_of s r (range_of s r vb)) (range_of s r vb) memory)
 
 -- the offset is the address's own
@@ -184,20 +184,20 @@ mapped-inj x y e = cc
 fault-mapped : (n : ℕ) (x : Leaf) → ◌≡◌ {A = Walked} (Err n) (Ok x) → ⊥
 fault-mapped n x e = let z : ◌≡◌ {A = ℕ} 0 1 = cc in omega arith
 
-same-leaf : (x y : Leaf) (va : ℕ) → pagedLeaf x ≡ pagedLeaf y → y.oa % 2 ^ 12 ≡ va % 2 ^ 12 → y ≡ leafAt x va
+same-leaf : (x y : Leaf) (va : ℕ) → paged_leaf x ≡ paged_leaf y → y.oa % 2 ^ 12 ≡ va % 2 ^ 12 → y ≡ leaf_at x va
 same-leaf x y va e o =
-    let join : y.oa ≡ alignDown y.oa 12 + va % 2 ^ 12 = omega arith in
-    ap (withAddress y) join ∙ ap (λ (l : Leaf). withAddress l (l.oa + va % 2 ^ 12)) (sym e)
+    let join : y.oa ≡ align_down y.oa 12 + va % 2 ^ 12 = omega arith in
+    ap (with_address y) join ∙ ap (λ (l : Leaf). with_address l (l.oa + va % 2 ^ 12)) (sym e)
 
 module _ (s : Bank) (r : Regime) (va vb : ℕ) (memory : ℕ → Option ℕ) (same : va / 2 ^ 12 ≡ vb / 2 ^ 12) where
   -- so the leaf of one address of a page tells that of another
-  pub leaf-of-page : (leaf : Leaf) → walk_of s r va memory ≡ Ok leaf → walk_of s r vb memory ≡ Ok (leafAt leaf vb)
+  pub leaf-of-page : (leaf : Leaf) → walk_of s r va memory ≡ Ok leaf → walk_of s r vb memory ≡ Ok (leaf_at leaf vb)
   leaf-of-page leaf e = go (walk_of s r vb memory) refl
     where
       both : paged (Ok leaf) ≡ paged (walk_of s r vb memory)
       both = rw e at (walk_of-page va vb same s r memory)
 
-      go : (x : Walked) → walk_of s r vb memory ≡ x → walk_of s r vb memory ≡ Ok (leafAt leaf vb)
+      go : (x : Walked) → walk_of s r vb memory ≡ x → walk_of s r vb memory ≡ Ok (leaf_at leaf vb)
       go (Ok y) f = f ∙ ap Ok (same-leaf leaf y vb (mapped-inj _ _ (rw f at both)) (leaf-offset s r vb memory y f))
       go (Err n) f = absurd (fault-mapped n _ (sym (rw f at both)))
 

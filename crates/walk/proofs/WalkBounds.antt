@@ -10,12 +10,12 @@ use Rattle.std.proofs.lemmas.Bool.{eqb-false}
 use Rattle.std.proofs.Math.Arith.{lt_of_le-ne}
 use Rattle.std.proofs.Math.Dec.{eqb, ltb}
 use Rattle.word.specs.BitLaws.{join-below}
-use Rattle.walk.specs.Regime.{singlePriv, wxnOf}
-use Rattle.walk.specs.Descriptor.{valid, tableOrPage, af}
-use Rattle.walk.specs.Table.{addressSize, translation, accessFlag, externalAbort, Result, mapped, faults, firstblocklevel}
-use Rattle.walk.specs.Table.{startlevel, addrselectbottom, in_range, beyond, Lookup, Next, deeper, ends, firstLookup, range_of, params_of}
-use Rattle.walk.specs.Table.{tableNext, leafTranslation, leafResult, levelNext, descaddr, on_word, lookupNext, onNext, walkFrom, walkRange, tableWalk}
-use Rattle.walk.specs.Walk.{walkedOf, walk_of}
+use Rattle.walk.specs.Regime.{single_priv, wxn_of}
+use Rattle.walk.specs.Descriptor.{valid, table_or_page, af}
+use Rattle.walk.specs.Table.{address_size, translation, access_flag, external_abort, Result, mapped, faults, firstblocklevel}
+use Rattle.walk.specs.Table.{startlevel, addrselectbottom, in_range, beyond, Lookup, Next, deeper, ends, first_lookup, range_of, params_of}
+use Rattle.walk.specs.Table.{table_next, leaf_translation, leaf_result, level_next, descaddr, on_word, lookup_next, on_next, walk_from, walk_range, table_walk}
+use Rattle.walk.specs.Walk.{walked_of, walk_of}
 use Rattle.walk.specs.SizeLaws.{pa-size-low, pa-size-high, start-level, block-level, block_size, index-above-page}
 use Rattle.walk.specs.declared.{regime.Regime.Regime, regime.Bank.Bank, range.Range.Range}
 use Rattle.walk.specs.declared.{level.Params.Params, level.Leaf.Leaf}
@@ -28,8 +28,8 @@ SoundNext va level (ends r) = Sound va r
 
 module _ (p : Params) (low : 32 ≤ p.outputsize) (high : p.outputsize ≤ 44) (va : ℕ) where
   found : (l : Lookup) (desc : ℕ) → l.level ≤ 3 → firstblocklevel p.largegrain ≤ l.level → beyond p.outputsize desc ≡ false
-      → Found va (leafTranslation p va l desc)
-  unfolding leafTranslation
+      → Found va (leaf_translation p va l desc)
+  unfolding leaf_translation
   found l desc h k e =
       let b = block_size p.largegrain l.level k in
       let small = output-small p.outputsize (addrselectbottom p.largegrain l.level) va desc (omega arith) (omega arith) e in
@@ -40,84 +40,84 @@ module _ (p : Params) (low : 32 ≤ p.outputsize) (high : p.outputsize ≤ 44) (
         offset = join-below (desc % 2 ^ 48) va (index-above-page p.largegrain l.level);
       }
 
-  leaf-sound : (l : Lookup) (desc : ℕ) → l.level ≤ 3 → Sound va (leafResult p va l desc)
-  unfolding leafResult
+  leaf-sound : (l : Lookup) (desc : ℕ) → l.level ≤ 3 → Sound va (leaf_result p va l desc)
+  unfolding leaf_result
   leaf-sound l desc h = go (ltb l.level (firstblocklevel p.largegrain)) (beyond p.outputsize desc) (af desc) refl refl
     where
       go : (a b c : Bool) → ltb l.level (firstblocklevel p.largegrain) ≡ a → beyond p.outputsize desc ≡ b
           → Sound va
           (if a then faults (translation l.level)
-            else if b then faults (addressSize l.level)
-            else if c then mapped (leafTranslation p va l desc)
-            else faults (accessFlag l.level))
+          else if b then faults (address_size l.level)
+          else if c then mapped (leaf_translation p va l desc)
+          else faults (access_flag l.level))
       go true b c ea eb = h
       go false true c ea eb = h
       go false false true ea eb = found l desc h (ltb-false _ _ ea) eb
       go false false false ea eb = (block-level p.largegrain l.level (ltb-false _ _ ea), h)
 
-  table-sound : (l : Lookup) (desc : ℕ) → l.level < 3 → SoundNext va l.level (tableNext p l desc)
-  unfolding tableNext
+  table-sound : (l : Lookup) (desc : ℕ) → l.level < 3 → SoundNext va l.level (table_next p l desc)
+  unfolding table_next
   table-sound l desc h = go (beyond p.outputsize desc) _ (refl, omega arith)
     where
       go : (b : Bool) (m : Lookup) → (m.level ≡ l.level + 1) × (m.level ≤ 3)
-          → SoundNext va l.level (if b then ends (faults (addressSize l.level)) else deeper m)
+          → SoundNext va l.level (if b then ends (faults (address_size l.level)) else deeper m)
       go true m k = omega arith
       go false m k = k
 
-  level-sound : (l : Lookup) (desc : ℕ) → l.level ≤ 3 → SoundNext va l.level (levelNext p va l desc)
-  unfolding levelNext
-  level-sound l desc h = go (not (valid desc)) (eqb l.level 3) (not (tableOrPage desc)) refl
+  level-sound : (l : Lookup) (desc : ℕ) → l.level ≤ 3 → SoundNext va l.level (level_next p va l desc)
+  unfolding level_next
+  level-sound l desc h = go (not (valid desc)) (eqb l.level 3) (not (table_or_page desc)) refl
     where
       go : (a b c : Bool) → eqb l.level 3 ≡ b
           → SoundNext va l.level
-          (if a || (b && c) then ends (faults (translation l.level)) else if b || c then ends (leafResult p va l desc) else tableNext p l desc)
+          (if a || (b && c) then ends (faults (translation l.level)) else if b || c then ends (leaf_result p va l desc) else table_next p l desc)
       go true b c eb = h
       go false true true eb = h
       go false true false eb = leaf-sound l desc h
       go false false true eb = leaf-sound l desc h
       go false false false eb = table-sound l desc (lt_of_le-ne h (eqb-false _ _ eb))
 
-  lookup-sound : (memory : ℕ → Option ℕ) (l : Lookup) → l.level ≤ 3 → SoundNext va l.level (lookupNext memory p va l)
-  unfolding lookupNext
+  lookup-sound : (memory : ℕ → Option ℕ) (l : Lookup) → l.level ≤ 3 → SoundNext va l.level (lookup_next memory p va l)
+  unfolding lookup_next
   lookup-sound memory l h = go (memory (descaddr p va l))
     where
-      go : (x : Option ℕ) → SoundNext va l.level (on_word x (levelNext p va l) (ends (faults (externalAbort l.level))))
+      go : (x : Option ℕ) → SoundNext va l.level (on_word x (level_next p va l) (ends (faults (external_abort l.level))))
       go (Some desc) = level-sound l desc h
       go None = h
 
   -- a table leads one level down, to level 3 at the most
-  pub next_level : (memory : ℕ → Option ℕ) (l k : Lookup) → l.level ≤ 3 → lookupNext memory p va l ≡ deeper k
+  pub next_level : (memory : ℕ → Option ℕ) (l k : Lookup) → l.level ≤ 3 → lookup_next memory p va l ≡ deeper k
       → (k.level ≡ l.level + 1) × (k.level ≤ 3)
   next_level memory l k h e = subst (SoundNext va l.level) e (lookup-sound memory l h)
 
-  from-sound : (n : ℕ) (memory : ℕ → Option ℕ) (l : Lookup) → l.level ≤ 3 → Sound va (walkFrom n memory p va l)
-  unfolding walkFrom
+  from-sound : (n : ℕ) (memory : ℕ → Option ℕ) (l : Lookup) → l.level ≤ 3 → Sound va (walk_from n memory p va l)
+  unfolding walk_from
   from-sound zero memory l h = omega arith
-  from-sound (suc n) memory l h = go (lookupNext memory p va l) (lookup-sound memory l h) (λ k. from-sound n memory k)
+  from-sound (suc n) memory l h = go (lookup_next memory p va l) (lookup-sound memory l h) (λ k. from-sound n memory k)
     where
-      go : (x : Next) → SoundNext va l.level x → ((k : Lookup) → k.level ≤ 3 → Sound va (walkFrom n memory p va k))
-          → Sound va (onNext x (walkFrom n memory p va))
+      go : (x : Next) → SoundNext va l.level x → ((k : Lookup) → k.level ≤ 3 → Sound va (walk_from n memory p va k))
+          → Sound va (on_next x (walk_from n memory p va))
       go (deeper k) hk ih = ih k hk.1
       go (ends r) hr ih = hr
 
-  range-sound : (g : Range) (memory : ℕ → Option ℕ) → Sound va (walkRange p g va memory)
-  unfolding walkRange
+  range-sound : (g : Range) (memory : ℕ → Option ℕ) → Sound va (walk_range p g va memory)
+  unfolding walk_range
   range-sound g memory = go (not (in_range g va) || g.disabled) (beyond p.outputsize g.baseregister)
     where
       go : (a b : Bool)
           → Sound va
-          (if a then faults (translation 0) else if b then faults (addressSize 0) else walkFrom (4 - startlevel g) memory p va (firstLookup g))
+          (if a then faults (translation 0) else if b then faults (address_size 0) else walk_from (4 - startlevel g) memory p va (first_lookup g))
       go true b = omega arith
       go false true = omega arith
-      go false false = from-sound (4 - startlevel g) memory (firstLookup g) (start-level g)
+      go false false = from-sound (4 - startlevel g) memory (first_lookup g) (start-level g)
 
 -- every walk of the manual's ends in a leaf or a fault of the table of answers
-pub table-walk-sound : (s : Bank) (r : Regime) (va : ℕ) (memory : ℕ → Option ℕ) → Sound va (tableWalk s r va memory)
-unfolding tableWalk params_of
+pub table-walk-sound : (s : Bank) (r : Regime) (va : ℕ) (memory : ℕ → Option ℕ) → Sound va (table_walk s r va memory)
+unfolding table_walk params_of
 table-walk-sound s r va memory =
     range-sound (params_of s r (range_of s r va)) (pa-size-low _) (pa-size-high _) va (range_of s r va) memory
 
-walked-sound : (singlepriv wxn : Bool) (va : ℕ) (x : Result) → Sound va x → SoundWalked va (walkedOf singlepriv wxn x)
+walked-sound : (singlepriv wxn : Bool) (va : ℕ) (x : Result) → Sound va x → SoundWalked va (walked_of singlepriv wxn x)
 walked-sound singlepriv wxn va (mapped t) h =
     (record { level-low = h.level-low; level-high = h.level-high; oa = h.address; perms = permission-small singlepriv wxn t.perms }, h.offset)
 walked-sound singlepriv wxn va (faults f) h = record { fault = f; level = h; code = refl }
@@ -125,7 +125,7 @@ walked-sound singlepriv wxn va (faults f) h = record { fault = f; level = h; cod
 -- and so does the walk as the code's types hold it
 pub walk-sound : (s : Bank) (r : Regime) (va : ℕ) (memory : ℕ → Option ℕ) → SoundWalked va (walk_of s r va memory)
 unfolding walk_of
-walk-sound s r va memory = walked-sound (singlePriv r) (wxnOf s) va (tableWalk s r va memory) (table-walk-sound s r va memory)
+walk-sound s r va memory = walked-sound (single_priv r) (wxn_of s) va (table_walk s r va memory) (table-walk-sound s r va memory)
 
 -- a leaf's level is 1, 2 or 3, its output address is below 2^44, its permission byte has six bits
 pub leaf-bounds : (s : Bank) (r : Regime) (va : ℕ) (memory : ℕ → Option ℕ) (leaf : Leaf) → walk_of s r va memory ≡ Ok leaf → LeafBounds leaf

@@ -1,12 +1,12 @@
 -- The worked cases of docs/SCOPE.md that are translations with an empty cache, and the untagging: rows 1 to 9 and 12, as one computed statement.
 use Rattle.std.specs.Prelude.{if◌then◌else◌, ◌≡◌, refl, Bool, true, false, [], ◌∷◌, ℕ, ◌+◌, ◌%◌, ◌^◌, Ok, Err}
-use Rattle.word.specs.Bits.{bitOn, alignDown}
-use Rattle.word.specs.Ram.{word_at, littleEndian, bytes_of}
+use Rattle.word.specs.Bits.{bit_on, align_down}
+use Rattle.word.specs.Ram.{word_at, little_endian, bytes_of}
 use Rattle.walk.specs.Tag.{untagged}
-use Rattle.walk.specs.Size.{paSize}
-use Rattle.walk.specs.Table.{range_of, params_of, tableNext, leafPermissions, leafTranslation, leafResult, levelNext, descaddr, lookupNext, walkFrom}
-use Rattle.walk.specs.Table.{walkRange, tableWalk}
-use Rattle.walk.specs.Permission.{Access, reading, fetching, kindBit, firstBit}
+use Rattle.walk.specs.Size.{pa_size}
+use Rattle.walk.specs.Table.{range_of, params_of, table_next, leaf_permissions, leaf_translation, leaf_result, level_next, descaddr, lookup_next, walk_from}
+use Rattle.walk.specs.Table.{walk_range, table_walk}
+use Rattle.walk.specs.Permission.{Access, reading, fetching, kind_bit, first_bit}
 use Rattle.walk.specs.Walk.{walk_of}
 use Rattle.walk.specs.declared.regime.Regime.TheVariants.{El1}
 use Rattle.walk.specs.declared.regime.Bank.{Bank}
@@ -20,7 +20,7 @@ pub data Answer : Type 0 where
 -- the leaf's page with the address's low twelve bits, where the leaf has the bit that the access needs
 pub judged : Bool → Access → ℕ → Walked → Answer
 judged privileged a va (Ok leaf) =
-    if bitOn leaf.perms (kindBit a + firstBit privileged) then address (alignDown leaf.oa 12 + va % 2 ^ 12) else status (12 + leaf.level)
+    if bit_on leaf.perms (kind_bit a + first_bit privileged) then address (align_down leaf.oa 12 + va % 2 ^ 12) else status (12 + leaf.level)
 judged privileged a va (Err code) = status code
 
 -- SCTLR_EL1.M set, TCR_EL1 = 25, TTBR0_EL1 as given, other registers zero
@@ -67,6 +67,6 @@ WorkedTranslations =
     ∷ [])
 
 pub cases : WorkedTranslations
-unfolding row translated judged registers walk_of tableWalk walkRange walkFrom lookupNext levelNext leafResult leafTranslation leafPermissions tableNext
-    descaddr range_of params_of paSize untagged word_at littleEndian bytes_of
+unfolding row translated judged registers walk_of table_walk walk_range walk_from lookup_next level_next leaf_result leaf_translation leaf_permissions table_next
+    descaddr range_of params_of pa_size untagged word_at little_endian bytes_of
 cases = refl

@@ -6,27 +6,27 @@ use mathlib.Core.List.{List, [], ◌∷◌, Memᴰ}
 use Prim.Native.Nat.{ℕ, zero, suc, ◌+◌, ◌-◌, ◌≤◌, ◌<◌, zero-le, suc-le-suc}
 use Rattle.word.specs.Ram.{word_at}
 use Rattle.word.specs.RamLaws.{word-agree}
-use Rattle.walk.specs.Table.{Result, faults, addressSize, translation, in_range, beyond, startlevel, levelsOf, entered, Lookup, Next, deeper, ends}
-use Rattle.walk.specs.Table.{firstLookup, range_of, params_of, descaddr, lookupNext, onNext, walkFrom, walkRange, tableWalk}
+use Rattle.walk.specs.Table.{Result, faults, address_size, translation, in_range, beyond, startlevel, levels_of, entered, Lookup, Next, deeper, ends}
+use Rattle.walk.specs.Table.{first_lookup, range_of, params_of, descaddr, lookup_next, on_next, walk_from, walk_range, table_walk}
 use Rattle.walk.specs.Walk.{walk_of}
 use Rattle.walk.specs.SizeLaws.{level-count}
 use Rattle.walk.specs.declared.{regime.Regime.Regime, regime.Bank.Bank, range.Range.Range, level.Params.Params}
 
-abbrev pub afterNext : Next → (Lookup → List ℕ) → List ℕ
-afterNext (deeper l) k = k l
-afterNext (ends r) k = []
+abbrev pub after_next : Next → (Lookup → List ℕ) → List ℕ
+after_next (deeper l) k = k l
+after_next (ends r) k = []
 
 -- the addresses of the descriptors that the walk fetches from a table on, in order
-unfoldable pub fetchesFrom : ℕ → (ℕ → Option ℕ) → Params → ℕ → Lookup → List ℕ
-fetchesFrom zero memory p va l = []
-fetchesFrom (suc n) memory p va l = descaddr p va l ∷ afterNext (lookupNext memory p va l) (fetchesFrom n memory p va)
+unfoldable pub fetches_from : ℕ → (ℕ → Option ℕ) → Params → ℕ → Lookup → List ℕ
+fetches_from zero memory p va l = []
+fetches_from (suc n) memory p va l = descaddr p va l ∷ after_next (lookup_next memory p va l) (fetches_from n memory p va)
 
-unfoldable pub fetchesRange : Params → Range → ℕ → (ℕ → Option ℕ) → List ℕ
-fetchesRange p g va memory = entered p.outputsize g va (λ f. []) (fetchesFrom (4 - startlevel g) memory p va (firstLookup g))
+unfoldable pub fetches_range : Params → Range → ℕ → (ℕ → Option ℕ) → List ℕ
+fetches_range p g va memory = entered p.outputsize g va (λ f. []) (fetches_from (4 - startlevel g) memory p va (first_lookup g))
 
 -- those of the whole walk
-unfoldable pub fetchesOf : Bank → Regime → ℕ → (ℕ → Option ℕ) → List ℕ
-fetchesOf s r va memory = fetchesRange (params_of s r (range_of s r va)) (range_of s r va) va memory
+unfoldable pub fetches_of : Bank → Regime → ℕ → (ℕ → Option ℕ) → List ℕ
+fetches_of s r va memory = fetches_range (params_of s r (range_of s r va)) (range_of s r va) va memory
 
 -- two memories have one word at each address of a list
 pub data Agree (m m' : ℕ → Option ℕ) : List ℕ → Type 0 where
@@ -45,94 +45,94 @@ agree-tail : (m m' : ℕ → Option ℕ) (a : ℕ) (l : List ℕ) → Agree m m'
 agree-tail m m' a l (one e t) = t
 
 same_next : (m m' : ℕ → Option ℕ) (p : Params) (va : ℕ) (l : Lookup) → m (descaddr p va l) ≡ m' (descaddr p va l)
-    → lookupNext m p va l ≡ lookupNext m' p va l
-unfolding lookupNext
+    → lookup_next m p va l ≡ lookup_next m' p va l
+unfolding lookup_next
 same_next m m' p va l e = rw e
 
 module _ (m m' : ℕ → Option ℕ) (p : Params) (va : ℕ) where
-  from-agrees : (n : ℕ) (l : Lookup) → Agree m m' (fetchesFrom n m p va l)
-      → (walkFrom n m p va l ≡ walkFrom n m' p va l) × (fetchesFrom n m p va l ≡ fetchesFrom n m' p va l)
-  unfolding walkFrom fetchesFrom
+  from-agrees : (n : ℕ) (l : Lookup) → Agree m m' (fetches_from n m p va l)
+      → (walk_from n m p va l ≡ walk_from n m' p va l) × (fetches_from n m p va l ≡ fetches_from n m' p va l)
+  unfolding walk_from fetches_from
   from-agrees zero l h = (refl, refl)
-  from-agrees (suc n) l h = go (lookupNext m p va l) refl (from-agrees n)
+  from-agrees (suc n) l h = go (lookup_next m p va l) refl (from-agrees n)
     where
-      same : lookupNext m p va l ≡ lookupNext m' p va l
+      same : lookup_next m p va l ≡ lookup_next m' p va l
       same = same_next m m' p va l (agree-head m m' _ _ h)
 
-      go : (x : Next) → lookupNext m p va l ≡ x
-          → ((k : Lookup) → Agree m m' (fetchesFrom n m p va k)
-          → (walkFrom n m p va k ≡ walkFrom n m' p va k) × (fetchesFrom n m p va k ≡ fetchesFrom n m' p va k))
-          → (onNext (lookupNext m p va l) (walkFrom n m p va) ≡ onNext (lookupNext m' p va l) (walkFrom n m' p va))
-          × (◌≡◌ {A = List ℕ} (descaddr p va l ∷ afterNext (lookupNext m p va l) (fetchesFrom n m p va))
-          (descaddr p va l ∷ afterNext (lookupNext m' p va l) (fetchesFrom n m' p va)))
+      go : (x : Next) → lookup_next m p va l ≡ x
+          → ((k : Lookup) → Agree m m' (fetches_from n m p va k)
+          → (walk_from n m p va k ≡ walk_from n m' p va k) × (fetches_from n m p va k ≡ fetches_from n m' p va k))
+          → (on_next (lookup_next m p va l) (walk_from n m p va) ≡ on_next (lookup_next m' p va l) (walk_from n m' p va))
+          × (◌≡◌ {A = List ℕ} (descaddr p va l ∷ after_next (lookup_next m p va l) (fetches_from n m p va))
+          (descaddr p va l ∷ after_next (lookup_next m' p va l) (fetches_from n m' p va)))
       go (deeper k) e ih =
           let both = ih k (rw e at (agree-tail m m' _ _ h)) in
           rw (← same, e) (both.0, ap (λ (t : List ℕ). descaddr p va l ∷ t) both.1)
       go (ends r) e ih = rw (← same, e) (refl, refl)
 
-  range-agrees : (g : Range) → Agree m m' (fetchesRange p g va m)
-      → (walkRange p g va m ≡ walkRange p g va m') × (fetchesRange p g va m ≡ fetchesRange p g va m')
-  unfolding walkRange fetchesRange
+  range-agrees : (g : Range) → Agree m m' (fetches_range p g va m)
+      → (walk_range p g va m ≡ walk_range p g va m') × (fetches_range p g va m ≡ fetches_range p g va m')
+  unfolding walk_range fetches_range
   range-agrees g = go (not (in_range g va) || g.disabled) (beyond p.outputsize g.baseregister)
     where
       from : (ℕ → Option ℕ) → Result
-      from memory = walkFrom (4 - startlevel g) memory p va (firstLookup g)
+      from memory = walk_from (4 - startlevel g) memory p va (first_lookup g)
 
       list : (ℕ → Option ℕ) → List ℕ
-      list memory = fetchesFrom (4 - startlevel g) memory p va (firstLookup g)
+      list memory = fetches_from (4 - startlevel g) memory p va (first_lookup g)
 
       go : (a b : Bool)
           → Agree m m' (if a then [] else if b then [] else list m)
-          → (if a then faults (translation 0) else if b then faults (addressSize 0) else from m
-          ≡ (if a then faults (translation 0) else if b then faults (addressSize 0) else from m'))
+          → (if a then faults (translation 0) else if b then faults (address_size 0) else from m
+          ≡ (if a then faults (translation 0) else if b then faults (address_size 0) else from m'))
           × ((if a then [] else if b then [] else list m) ≡ (if a then [] else if b then [] else list m'))
       go true b h = (refl, refl)
       go false true h = (refl, refl)
-      go false false h = from-agrees (4 - startlevel g) (firstLookup g) h
+      go false false h = from-agrees (4 - startlevel g) (first_lookup g) h
 
 -- memories that agree where the walk fetches give one walk
-pub agrees : (s : Bank) (r : Regime) (va : ℕ) (m m' : ℕ → Option ℕ) → Agree m m' (fetchesOf s r va m) → walk_of s r va m ≡ walk_of s r va m'
-unfolding walk_of tableWalk fetchesOf
+pub agrees : (s : Bank) (r : Regime) (va : ℕ) (m m' : ℕ → Option ℕ) → Agree m m' (fetches_of s r va m) → walk_of s r va m ≡ walk_of s r va m'
+unfolding walk_of table_walk fetches_of
 agrees s r va m m' h = rw (range-agrees m m' (params_of s r (range_of s r va)) va (range_of s r va) h).0
 
 -- and the walk fetches the same descriptors
-pub agrees-fetches : (s : Bank) (r : Regime) (va : ℕ) (m m' : ℕ → Option ℕ) → Agree m m' (fetchesOf s r va m) → fetchesOf s r va m ≡ fetchesOf s r va m'
-unfolding fetchesOf
+pub agrees-fetches : (s : Bank) (r : Regime) (va : ℕ) (m m' : ℕ → Option ℕ) → Agree m m' (fetches_of s r va m) → fetches_of s r va m ≡ fetches_of s r va m'
+unfolding fetches_of
 agrees-fetches s r va m m' h = (range-agrees m m' (params_of s r (range_of s r va)) va (range_of s r va) h).1
 
-few-from : (n : ℕ) (m : ℕ → Option ℕ) (p : Params) (va : ℕ) (l : Lookup) → length (fetchesFrom n m p va l) ≤ n
-unfolding fetchesFrom
+few-from : (n : ℕ) (m : ℕ → Option ℕ) (p : Params) (va : ℕ) (l : Lookup) → length (fetches_from n m p va l) ≤ n
+unfolding fetches_from
 few-from zero m p va l = zero-le
-few-from (suc n) m p va l = go (lookupNext m p va l) (few-from n m p va)
+few-from (suc n) m p va l = go (lookup_next m p va l) (few-from n m p va)
   where
-    go : (x : Next) → ((k : Lookup) → length (fetchesFrom n m p va k) ≤ n)
-        → length (descaddr p va l ∷ afterNext x (fetchesFrom n m p va)) ≤ suc n
+    go : (x : Next) → ((k : Lookup) → length (fetches_from n m p va k) ≤ n)
+        → length (descaddr p va l ∷ after_next x (fetches_from n m p va)) ≤ suc n
     go (deeper k) ih = suc-le-suc (ih k)
     go (ends r) ih = suc-le-suc zero-le
 
-few-range : (p : Params) (g : Range) (va : ℕ) (m : ℕ → Option ℕ) → length (fetchesRange p g va m) ≤ levelsOf g.largegrain
-unfolding fetchesRange
+few-range : (p : Params) (g : Range) (va : ℕ) (m : ℕ → Option ℕ) → length (fetches_range p g va m) ≤ levels_of g.largegrain
+unfolding fetches_range
 few-range p g va m = go (not (in_range g va) || g.disabled) (beyond p.outputsize g.baseregister)
   where
-    go : (a b : Bool) → length (if a then [] else if b then [] else fetchesFrom (4 - startlevel g) m p va (firstLookup g)) ≤ levelsOf g.largegrain
+    go : (a b : Bool) → length (if a then [] else if b then [] else fetches_from (4 - startlevel g) m p va (first_lookup g)) ≤ levels_of g.largegrain
     go true b = zero-le
     go false true = zero-le
-    go false false = le_trans (few-from (4 - startlevel g) m p va (firstLookup g)) (level-count g)
+    go false false = le_trans (few-from (4 - startlevel g) m p va (first_lookup g)) (level-count g)
 
 -- at most four descriptors with a granule of 4 KiB, three with one of 64 KiB
-pub few-fetches : (s : Bank) (r : Regime) (va : ℕ) (m : ℕ → Option ℕ) → length (fetchesOf s r va m) ≤ levelsOf (range_of s r va).largegrain
-unfolding fetchesOf
+pub few-fetches : (s : Bank) (r : Regime) (va : ℕ) (m : ℕ → Option ℕ) → length (fetches_of s r va m) ≤ levels_of (range_of s r va).largegrain
+unfolding fetches_of
 few-fetches s r va m = few-range (params_of s r (range_of s r va)) (range_of s r va) va m
 
 -- two windows of RAM whose words agree where the walk fetches give one walk
 pub ram-agrees : (s : Bank) (r : Regime) (va base : ℕ) (ram : List ℕ) (base' : ℕ) (ram' : List ℕ)
-    → ((a : ℕ) → Memᴰ a (fetchesOf s r va (word_at base ram 8)) → word_at base ram 8 a ≡ word_at base' ram' 8 a)
+    → ((a : ℕ) → Memᴰ a (fetches_of s r va (word_at base ram 8)) → word_at base ram 8 a ≡ word_at base' ram' 8 a)
     → walk_of s r va (word_at base ram 8) ≡ walk_of s r va (word_at base' ram' 8)
 ram-agrees s r va base ram base' ram' h = agrees s r va _ _ (agree-all _ _ _ h)
 
 -- and so do two of one base and length that agree on the bytes of each descriptor fetched, where it lies inside
 pub bytes-agree : (s : Bank) (r : Regime) (va base : ℕ) (ram ram' : List ℕ) → length ram ≡ length ram'
-    → ((a : ℕ) → Memᴰ a (fetchesOf s r va (word_at base ram 8)) → base ≤ a → a + 8 ≤ base + length ram
+    → ((a : ℕ) → Memᴰ a (fetches_of s r va (word_at base ram 8)) → base ≤ a → a + 8 ≤ base + length ram
     → (i : ℕ) → i < 8 → get_or ram (a - base + i) 0 ≡ get_or ram' (a - base + i) 0)
     → walk_of s r va (word_at base ram 8) ≡ walk_of s r va (word_at base ram' 8)
 bytes-agree s r va base ram ram' e h = ram-agrees s r va base ram base ram' (λ a k. word-agree base ram ram' 8 a e (h a k))

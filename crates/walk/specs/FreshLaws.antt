@@ -1,7 +1,7 @@
 -- What holds of every fresh answer, for those who know it by its definition alone.
 use Rattle.std.specs.Prelude.{◌≡◌, ℕ, Option, Ok, Err}
 use Rattle.std.proofs.Math.Bool.{true, false}
-use Rattle.walk.specs.Regime.{stage1On}
+use Rattle.walk.specs.Regime.{stage1_on}
 use Rattle.walk.specs.Tag.{untagged}
 use Rattle.walk.specs.Walk.{walk_of}
 use Rattle.walk.specs.Fresh.{fresh_of}
@@ -21,10 +21,10 @@ SoundFresh (Flat pa) = Unit {0}
 
 module _ (s : Bank) (r : Regime) (va : ℕ) (memory : ℕ → Option ℕ) where
   -- stage 1 on: the walk of the untagged address; off: the address
-  pub fresh_on : stage1On s r ≡ true → fresh_of s r va memory ≡ Ended (walk_of s r (untagged s.tcr r va) memory)
+  pub fresh_on : stage1_on s r ≡ true → fresh_of s r va memory ≡ Ended (walk_of s r (untagged s.tcr r va) memory)
   unfolding fresh_of
   fresh_on e = rw e
 
-  pub fresh-off : stage1On s r ≡ false → fresh_of s r va memory ≡ Flat va
+  pub fresh-off : stage1_on s r ≡ false → fresh_of s r va memory ≡ Flat va
   unfolding fresh_of
   fresh-off e = rw e

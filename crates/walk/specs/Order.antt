@@ -4,33 +4,33 @@
 use Rattle.std.specs.Prelude.{◌≡◌, List, Option, Some, Ok}
 use Rattle.std.proofs.Math.Bool.{true, false}
 use Prim.Native.Nat.{ℕ, ◌+◌, ◌≤◌, ◌<◌}
-use Rattle.walk.specs.Regime.{singlePriv, wxnOf}
-use Rattle.walk.specs.Descriptor.{valid, tableOrPage, af}
+use Rattle.walk.specs.Regime.{single_priv, wxn_of}
+use Rattle.walk.specs.Descriptor.{valid, table_or_page, af}
 use Rattle.walk.specs.Table.{firstblocklevel, in_range, beyond, Lookup}
-use Rattle.walk.specs.Table.{deeper, firstLookup, range_of, params_of, leafTranslation, descaddr, lookupNext}
-use Rattle.walk.specs.Walk.{leafOf, walk_of}
-use Rattle.walk.specs.Fetches.{fetchesOf}
+use Rattle.walk.specs.Table.{deeper, first_lookup, range_of, params_of, leaf_translation, descaddr, lookup_next}
+use Rattle.walk.specs.Walk.{leaf_of, walk_of}
+use Rattle.walk.specs.Fetches.{fetches_of}
 use Rattle.walk.specs.declared.{regime.Regime.Regime, regime.Bank.Bank, range.Range.Range, level.Params.Params}
 use Rattle.walk.specs.Answers.{Walked}
 
 -- what a descriptor is at a level: a table, a page or block, or a leaf where there can be none
 pub data TableAt (l : Lookup) (desc : ℕ) : Type 0 where
-  table : l.level < 3 → valid desc ≡ true → tableOrPage desc ≡ true → TableAt l desc
+  table : l.level < 3 → valid desc ≡ true → table_or_page desc ≡ true → TableAt l desc
 
 pub data LeafAt (p : Params) (l : Lookup) (desc : ℕ) : Type 0 where
-  page : l.level ≡ 3 → valid desc ≡ true → tableOrPage desc ≡ true → LeafAt p l desc
-  block : firstblocklevel p.largegrain ≤ l.level → l.level < 3 → valid desc ≡ true → tableOrPage desc ≡ false → LeafAt p l desc
+  page : l.level ≡ 3 → valid desc ≡ true → table_or_page desc ≡ true → LeafAt p l desc
+  block : firstblocklevel p.largegrain ≤ l.level → l.level < 3 → valid desc ≡ true → table_or_page desc ≡ false → LeafAt p l desc
 
 pub data NoLeafAt (p : Params) (l : Lookup) (desc : ℕ) : Type 0 where
-  last : l.level ≡ 3 → tableOrPage desc ≡ false → NoLeafAt p l desc
-  early : l.level < firstblocklevel p.largegrain → tableOrPage desc ≡ false → NoLeafAt p l desc
+  last : l.level ≡ 3 → table_or_page desc ≡ false → NoLeafAt p l desc
+  early : l.level < firstblocklevel p.largegrain → table_or_page desc ≡ false → NoLeafAt p l desc
 
 -- a descriptor is invalid or one of these
 pub data Kind (p : Params) (l : Lookup) (desc : ℕ) : Type 0 where
-  isInvalid : valid desc ≡ false → Kind p l desc
-  isTable : TableAt l desc → Kind p l desc
-  isNoLeaf : NoLeafAt p l desc → Kind p l desc
-  isLeaf : LeafAt p l desc → Kind p l desc
+  is_invalid : valid desc ≡ false → Kind p l desc
+  is_table : TableAt l desc → Kind p l desc
+  is_no_leaf : NoLeafAt p l desc → Kind p l desc
+  is_leaf : LeafAt p l desc → Kind p l desc
 
 -- what the registers say of every level of a walk
 abbrev pub params_at : Bank → Regime → ℕ → Params
@@ -39,8 +39,8 @@ params_at s r va = params_of s r (range_of s r va)
 -- the tables that a walk reaches: the first, where no row of the entry holds, and each that a table leads to
 pub data Reached (s : Bank) (r : Regime) (va : ℕ) (memory : ℕ → Option ℕ) : Lookup → Type 0 where
   entry : in_range (range_of s r va) va ≡ true → (range_of s r va).disabled ≡ false
-      → beyond (params_at s r va).outputsize (range_of s r va).baseregister ≡ false → Reached s r va memory (firstLookup (range_of s r va))
-  onward : {l k : Lookup} → Reached s r va memory l → lookupNext memory (params_at s r va) va l ≡ deeper k → Reached s r va memory k
+      → beyond (params_at s r va).outputsize (range_of s r va).baseregister ≡ false → Reached s r va memory (first_lookup (range_of s r va))
+  onward : {l k : Lookup} → Reached s r va memory l → lookup_next memory (params_at s r va) va l ≡ deeper k → Reached s r va memory k
 
 -- one level down from a table
 pub record Below (s : Bank) (r : Regime) (va : ℕ) (memory : ℕ → Option ℕ) (l : Lookup) : Type 0 where
@@ -51,7 +51,7 @@ pub record Below (s : Bank) (r : Regime) (va : ℕ) (memory : ℕ → Option ℕ
 -- a fact of every walk: of its range, what its registers say of every level, its address, its answer, and the addresses that it fetches from
 abbrev pub EachWalk : (Range → Params → ℕ → Walked → List ℕ → Type 0) → Type 0
 EachWalk P =
-    (s : Bank) (r : Regime) (va : ℕ) (memory : ℕ → Option ℕ) → P (range_of s r va) (params_at s r va) va (walk_of s r va memory) (fetchesOf s r va memory)
+    (s : Bank) (r : Regime) (va : ℕ) (memory : ℕ → Option ℕ) → P (range_of s r va) (params_at s r va) va (walk_of s r va memory) (fetches_of s r va memory)
 
 -- a fact of every table that a walk reaches: what the memory holds at the descriptor's address, and the walk's answer
 abbrev pub EachTable : (Lookup → Option ℕ → Walked → Type 0) → Type 0
@@ -78,4 +78,4 @@ LeafAnswers =
     (s : Bank) (r : Regime) (va : ℕ) (memory : ℕ → Option ℕ) (l : Lookup) → Reached s r va memory l
     → (desc : ℕ) → memory (descaddr (params_at s r va) va l) ≡ Some desc
     → LeafAt (params_at s r va) l desc → beyond (params_at s r va).outputsize desc ≡ false → af desc ≡ true
-    → walk_of s r va memory ≡ Ok (leafOf (singlePriv r) (wxnOf s) (leafTranslation (params_at s r va) va l desc))
+    → walk_of s r va memory ≡ Ok (leaf_of (single_priv r) (wxn_of s) (leaf_translation (params_at s r va) va l desc))

@@ -1,23 +1,23 @@
 -- A walk goes by pages: addresses of one page have one walk but for the offset in the page, which is the address's own.
 use Rattle.std.specs.Prelude.{Ok, Err}
 use Prim.Native.Nat.{ℕ, ◌+◌, ◌%◌, ◌^◌}
-use Rattle.word.specs.Bits.{alignDown}
+use Rattle.word.specs.Bits.{align_down}
 use Rattle.walk.specs.declared.level.Leaf.{Leaf}
 use Rattle.walk.specs.Answers.{Walked}
 
 -- a leaf with another output address
-abbrev pub withAddress : Leaf → ℕ → Leaf
-withAddress leaf oa = record leaf { oa = oa }
+abbrev pub with_address : Leaf → ℕ → Leaf
+with_address leaf oa = record leaf { oa = oa }
 
 -- a leaf with the output address of its page
-abbrev pub pagedLeaf : Leaf → Leaf
-pagedLeaf leaf = withAddress leaf (alignDown leaf.oa 12)
+abbrev pub paged_leaf : Leaf → Leaf
+paged_leaf leaf = with_address leaf (align_down leaf.oa 12)
 
 -- a walk of a page
 abbrev pub paged : Walked → Walked
-paged (Ok leaf) = Ok (pagedLeaf leaf)
+paged (Ok leaf) = Ok (paged_leaf leaf)
 paged (Err n) = Err n
 
 -- a leaf as another address of its page has it
-abbrev pub leafAt : Leaf → ℕ → Leaf
-leafAt leaf va = withAddress leaf (alignDown leaf.oa 12 + va % 2 ^ 12)
+abbrev pub leaf_at : Leaf → ℕ → Leaf
+leaf_at leaf va = with_address leaf (align_down leaf.oa 12 + va % 2 ^ 12)

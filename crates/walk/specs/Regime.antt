@@ -2,8 +2,8 @@
 -- knowledge of them; the document itself was not at hand. Letters with a number are rows of docs/DIFFERENCES.md. A `Bank` holds the registers of one
 -- regime.
 use Rattle.std.specs.Prelude.{if◌then◌else◌, Bool, true, false, not, ◌&&◌, ◌||◌, ℕ, eqb}
-use Rattle.word.specs.Bits.{bitOn, bit0}
-use Rattle.sysreg.specs.Regs.{controlAt}
+use Rattle.word.specs.Bits.{bit_on, bit0}
+use Rattle.sysreg.specs.Regs.{control_at}
 use Rattle.sysreg.specs.declared.{regs.Control.Control, regs.El.El}
 use Rattle.sysreg.specs.declared.regs.ControlReg.TheVariants.{Sctlr, Tcr, Ttbr0, Ttbr1, Scr, Hcr}
 use Rattle.walk.specs.declared.{regime.Regime.Regime, regime.Bank.Bank}
@@ -11,54 +11,54 @@ use Rattle.walk.specs.declared.regime.Regime.TheVariants.{El1, El2, El3}
 
 -- the regime of an exception level: EL0 shares that of EL1. M15: v8.0 has no EL2 in Secure state, and so no such regime there. M12: SCR_EL3.RW and
 -- HCR_EL2.RW would make it AArch32's
-abbrev pub regimeOf : ℕ → Regime
-regimeOf level = if eqb level 2 then El2 else if eqb level 3 then El3 else El1
+abbrev pub regime_of : ℕ → Regime
+regime_of level = if eqb level 2 then El2 else if eqb level 3 then El3 else El1
 
 -- the exception level whose registers a regime uses
-abbrev pub levelOf : Regime → El
-levelOf El1 = El.El1
-levelOf El2 = El.El2
-levelOf El3 = El.El3
+abbrev pub level_of : Regime → El
+level_of El1 = El.El1
+level_of El2 = El.El2
+level_of El3 = El.El3
 
 -- SCTLR, TCR and TTBR0 of the regime's own level; TTBR1_EL1, SCR_EL3 and HCR_EL2
-abbrev pub bankOf : Control → Regime → Bank
-bankOf c r =
+abbrev pub bank_of : Control → Regime → Bank
+bank_of c r =
     record {
-      sctlr = controlAt c (Sctlr (levelOf r));
-      tcr = controlAt c (Tcr (levelOf r));
-      ttbr0 = controlAt c (Ttbr0 (levelOf r));
-      ttbr1_el1 = controlAt c Ttbr1;
-      scr_el3 = controlAt c Scr;
-      hcr_el2 = controlAt c Hcr;
+      sctlr = control_at c (Sctlr (level_of r));
+      tcr = control_at c (Tcr (level_of r));
+      ttbr0 = control_at c (Ttbr0 (level_of r));
+      ttbr1_el1 = control_at c Ttbr1;
+      scr_el3 = control_at c Scr;
+      hcr_el2 = control_at c Hcr;
     }
 
 -- EL2 and EL3 have one privilege level and one range of addresses; EL1&0 has two of each
-abbrev pub singlePriv : Regime → Bool
-singlePriv El1 = false
-singlePriv El2 = true
-singlePriv El3 = true
+abbrev pub single_priv : Regime → Bool
+single_priv El1 = false
+single_priv El2 = true
+single_priv El3 = true
 
 -- SCTLR_ELx.M and SCTLR_ELx.WXN
-abbrev pub mmuOn : Bank → Bool
-mmuOn s = bit0 s.sctlr
+abbrev pub mmu_on : Bank → Bool
+mmu_on s = bit0 s.sctlr
 
-abbrev pub wxnOf : Bank → Bool
-wxnOf s = bitOn s.sctlr 19
+abbrev pub wxn_of : Bank → Bool
+wxn_of s = bit_on s.sctlr 19
 
 -- SCR_EL3.NS, HCR_EL2.TGE and HCR_EL2.DC
-abbrev pub nonSecure : Bank → Bool
-nonSecure s = bit0 s.scr_el3
+abbrev pub non_secure : Bank → Bool
+non_secure s = bit0 s.scr_el3
 
 abbrev pub tge : Bank → Bool
-tge s = bitOn s.hcr_el2 27
+tge s = bit_on s.hcr_el2 27
 
 abbrev pub dc : Bank → Bool
-dc s = bitOn s.hcr_el2 12
+dc s = bit_on s.hcr_el2 12
 
 -- stage 1 is on by SCTLR_ELx.M; in Non-secure state TGE and DC turn that of EL1&0 off. M3, M4: HCR_EL2.VM, and DC, would turn stage 2 on there.
 -- A3, A4: with stage 1 off AArch64.TranslateAddressS1Off would fault an address beyond the implemented size and drop a tag; the address itself is
 -- the answer here
-abbrev pub stage1On : Bank → Regime → Bool
-stage1On s El1 = mmuOn s && not (nonSecure s && (tge s || dc s))
-stage1On s El2 = mmuOn s
-stage1On s El3 = mmuOn s
+abbrev pub stage1_on : Bank → Regime → Bool
+stage1_on s El1 = mmu_on s && not (non_secure s && (tge s || dc s))
+stage1_on s El2 = mmu_on s
+stage1_on s El3 = mmu_on s

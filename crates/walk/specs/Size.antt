@@ -3,18 +3,18 @@
 use Rattle.std.specs.Prelude.{ℕ, zero, suc, min}
 
 -- the number of bits that a code names; O2 (docs/DIFFERENCES.md): the reserved codes above 5 count as 5
-abbrev pub psBits : ℕ → ℕ
-psBits zero = 32
-psBits (suc zero) = 36
-psBits (suc (suc zero)) = 40
-psBits (suc (suc (suc zero))) = 42
-psBits (suc (suc (suc (suc zero)))) = 44
-psBits (suc (suc (suc (suc (suc n))))) = 48
+abbrev pub ps_bits : ℕ → ℕ
+ps_bits zero = 32
+ps_bits (suc zero) = 36
+ps_bits (suc (suc zero)) = 40
+ps_bits (suc (suc (suc zero))) = 42
+ps_bits (suc (suc (suc (suc zero)))) = 44
+ps_bits (suc (suc (suc (suc (suc n))))) = 48
 
 -- ID_AA64MMFR0_EL1.PARange of the A72
-abbrev pub paMax : ℕ
-paMax = 44
+abbrev pub pa_max : ℕ
+pa_max = 44
 
 -- never more than the implemented size. O2: so codes 5 to 7 are 44 bits
-unfoldable pub paSize : ℕ → ℕ
-paSize code = min (psBits code) paMax
+unfoldable pub pa_size : ℕ → ℕ
+pa_size code = min (ps_bits code) pa_max

@@ -1,13 +1,13 @@
 -- Laws of the output address size and of the first level: all that proofs above the definitions know of these.
 use Rattle.std.specs.Prelude.{Bool, true, false, ℕ, zero, suc, ◌-◌, ◌≤◌}
 use Rattle.std.proofs.Common.{arith}
-use Rattle.walk.specs.Size.{paSize}
-use Rattle.walk.specs.Table.{firstblocklevel, levelsOf, inputsize, startlevelOf, startlevel, addrselectbottom}
+use Rattle.walk.specs.Size.{pa_size}
+use Rattle.walk.specs.Table.{firstblocklevel, levels_of, inputsize, startlevel_of, startlevel, addrselectbottom}
 use Rattle.walk.specs.declared.range.Range.{Range}
 
 -- an output address has at least 32 bits
-pub pa-size-low : (code : ℕ) → 32 ≤ paSize code
-unfolding paSize
+pub pa-size-low : (code : ℕ) → 32 ≤ pa_size code
+unfolding pa_size
 pa-size-low zero = omega arith
 pa-size-low (suc zero) = omega arith
 pa-size-low (suc (suc zero)) = omega arith
@@ -16,8 +16,8 @@ pa-size-low (suc (suc (suc (suc zero)))) = omega arith
 pa-size-low (suc (suc (suc (suc (suc n))))) = omega arith
 
 -- and at most 44
-pub pa-size-high : (code : ℕ) → paSize code ≤ 44
-unfolding paSize
+pub pa-size-high : (code : ℕ) → pa_size code ≤ 44
+unfolding pa_size
 pa-size-high code = omega arith
 
 -- an input address has 25 to 48 bits
@@ -28,7 +28,7 @@ pub input-high : (g : Range) → inputsize g ≤ 48
 input-high g = omega arith
 
 -- a walk begins at level 3 at the latest
-level-within : (g : Bool) (n : ℕ) → 25 ≤ n → n ≤ 48 → startlevelOf g n ≤ 3
+level-within : (g : Bool) (n : ℕ) → 25 ≤ n → n ≤ 48 → startlevel_of g n ≤ 3
 level-within true n h k = omega arith
 level-within false n h k = omega arith
 
@@ -49,10 +49,10 @@ pub index-above-page : (g : Bool) (n : ℕ) → 12 ≤ addrselectbottom g n
 index-above-page true n = omega arith
 index-above-page false n = omega arith
 
-levels-within : (g : Bool) (n : ℕ) → n ≤ 48 → 4 - startlevelOf g n ≤ levelsOf g
+levels-within : (g : Bool) (n : ℕ) → n ≤ 48 → 4 - startlevel_of g n ≤ levels_of g
 levels-within true n h = omega arith
 levels-within false n h = omega arith
 
 -- a walk goes through at most the levels that its granule has
-pub level-count : (g : Range) → 4 - startlevel g ≤ levelsOf g.largegrain
+pub level-count : (g : Range) → 4 - startlevel g ≤ levels_of g.largegrain
 level-count g = levels-within g.largegrain (inputsize g) (input-high g)

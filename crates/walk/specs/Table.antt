@@ -1,29 +1,29 @@
 -- The VMSAv8-64 stage 1 translation table walk: DDI 0487, AArch64.TranslationTableWalk of ARMv8.0, with its variables' names. Written from
 -- knowledge of that pseudocode; the document itself was not at hand. x<hi:lo> is `field x lo (hi + 1 - lo)`.
 -- Where the pseudocode has something else, a comment names the row of docs/DIFFERENCES.md. Left out of it are: ns_table, and with it what it does to
--- nG (M1), to the NS of the output (A6, M17) and to that of the descriptors' addresses (M17); reversedescriptors (A10); stage 2 of a descriptor's address (M3);
+-- not_global (M1), to the NS of the output (A6, M17) and to that of the descriptors' addresses (M17); reversedescriptors (A10); stage 2 of a descriptor's address (M3);
 -- the contiguous bit (O4); a memory type (D3, D4, O7). What it leaves open is settled by B1, O1, O2 and O3.
 use Rattle.std.specs.Prelude.{if◌then◌else◌, Bool, true, false, not, ◌&&◌, ◌||◌, ℕ, zero, suc, ◌+◌, ◌-◌, ◌*◌, ◌/◌, ◌%◌, ◌^◌, min, max, eqb, ltb, Option, Some, None}
-use Rattle.word.specs.Bits.{bitOn, field, alignDown}
+use Rattle.word.specs.Bits.{bit_on, field, align_down}
 use Rattle.sysreg.specs.Tcr.{t0sz, epd0, tg0, t1sz, epd1, tg1, ips, ps}
-use Rattle.walk.specs.Descriptor.{valid, tableOrPage, ap1, ap2, af, nG, pxn, uxn, pxnTable, uxnTable, apTable0, apTable1}
-use Rattle.walk.specs.Permission.{underApTable, underXnTable}
-use Rattle.walk.specs.Regime.{singlePriv, wxnOf}
-use Rattle.walk.specs.Size.{paSize}
+use Rattle.walk.specs.Descriptor.{valid, table_or_page, ap1, ap2, af, not_global, pxn, uxn, pxn_table, uxn_table, ap_table0, ap_table1}
+use Rattle.walk.specs.Permission.{under_ap_table, under_xn_table}
+use Rattle.walk.specs.Regime.{single_priv, wxn_of}
+use Rattle.walk.specs.Size.{pa_size}
 use Rattle.walk.specs.declared.{regime.Regime.Regime, regime.Bank.Bank, range.Range.Range}
 use Rattle.walk.specs.declared.{rights.Permissions.Permissions, level.Params.Params}
 use Rattle.walk.specs.declared.regime.Regime.TheVariants.{El1, El2, El3}
 
 -- how a walk ends short of a leaf, with the level
 pub data Fault : Type 0 where
-  addressSize translation accessFlag externalAbort : ℕ → Fault
+  address_size translation access_flag external_abort : ℕ → Fault
 
 -- the fault's status code
-abbrev pub statusOf : Fault → ℕ
-statusOf (addressSize level) = level
-statusOf (translation level) = 4 + level
-statusOf (accessFlag level) = 8 + level
-statusOf (externalAbort level) = 20 + level
+abbrev pub status_of : Fault → ℕ
+status_of (address_size level) = level
+status_of (translation level) = 4 + level
+status_of (access_flag level) = 8 + level
+status_of (external_abort level) = 20 + level
 
 -- what a walk finds: the output address, the permission attributes as the tables above leave them, the rest as the descriptor has it.
 -- A6, M17: NS would be NS OR ns_table, and choose one of two physical address spaces. D3, D4, O7: no memory type is made of AttrIndx
@@ -31,7 +31,7 @@ pub record Translation : Type 0 where
   pub address : ℕ
   pub level : ℕ
   pub perms : Permissions
-  pub nG : Bool
+  pub not_global : Bool
   pub descriptor : ℕ
 
 pub data Result : Type 0 where
@@ -50,13 +50,13 @@ abbrev pub firstblocklevel : Bool → ℕ
 firstblocklevel largegrain = if largegrain then 2 else 1
 
 -- how many levels a granule has at most
-abbrev pub levelsOf : Bool → ℕ
-levelsOf largegrain = if largegrain then 3 else 4
+abbrev pub levels_of : Bool → ℕ
+levels_of largegrain = if largegrain then 3 else 4
 
 -- the range of an address: TTBR0 and TTBR1, T0SZ and T1SZ, EPD0 and EPD1, IPS in EL1&0, by va<55>; TTBR0, T0SZ, PS in EL2 and EL3.
 -- TG0 of '01' and TG1 of '11' are 64 KiB. O1: every other code counts as 4 KiB, one that the A72 lacks too
-abbrev pub lowerRange : Bank → Range
-lowerRange s =
+abbrev pub lower_range : Bank → Range
+lower_range s =
     record {
       largegrain = eqb (tg0 s.tcr) 0b01;
       baseregister = s.ttbr0;
@@ -66,8 +66,8 @@ lowerRange s =
       upper = false;
     }
 
-abbrev pub upperRange : Bank → Range
-upperRange s =
+abbrev pub upper_range : Bank → Range
+upper_range s =
     record {
       largegrain = eqb (tg1 s.tcr) 0b11;
       baseregister = s.ttbr1_el1;
@@ -77,8 +77,8 @@ upperRange s =
       upper = true;
     }
 
-abbrev pub onlyRange : Bank → Range
-onlyRange s =
+abbrev pub only_range : Bank → Range
+only_range s =
     record {
       largegrain = eqb (tg0 s.tcr) 0b01;
       baseregister = s.ttbr0;
@@ -89,9 +89,9 @@ onlyRange s =
     }
 
 unfoldable pub range_of : Bank → Regime → ℕ → Range
-range_of s El1 va = if bitOn va 55 then upperRange s else lowerRange s
-range_of s El2 va = onlyRange s
-range_of s El3 va = onlyRange s
+range_of s El1 va = if bit_on va 55 then upper_range s else lower_range s
+range_of s El2 va = only_range s
+range_of s El3 va = only_range s
 
 -- 64 - TxSZ. B1: TxSZ is held to 16..39; beyond, a level 0 translation fault is allowed too
 abbrev pub inputsize : Range → ℕ
@@ -102,11 +102,11 @@ abbrev pub in_range : Range → ℕ → Bool
 in_range g va = eqb (va / 2 ^ inputsize g) (if g.upper then 2 ^ (64 - inputsize g) - 1 else 0)
 
 -- 4 - RoundUp((inputsize - grainsize) / stride)
-abbrev pub startlevelOf : Bool → ℕ → ℕ
-startlevelOf largegrain inputbits = 4 - (inputbits - grainsize largegrain + (stride largegrain - 1)) / stride largegrain
+abbrev pub startlevel_of : Bool → ℕ → ℕ
+startlevel_of largegrain inputbits = 4 - (inputbits - grainsize largegrain + (stride largegrain - 1)) / stride largegrain
 
 abbrev pub startlevel : Range → ℕ
-startlevel g = startlevelOf g.largegrain (inputsize g)
+startlevel g = startlevel_of g.largegrain (inputsize g)
 
 -- the lowest address bit that indexes a table of the level
 abbrev pub addrselectbottom : Bool → ℕ → ℕ
@@ -123,7 +123,7 @@ beyond n x = not (eqb (field x n (48 - n)) 0)
 -- what a regime's registers say of every level. IPS and PS have three bits
 unfoldable pub params_of : Bank → Regime → Range → Params
 params_of s r g =
-    record { largegrain = g.largegrain; outputsize = paSize (g.ps % 2 ^ 3); singlepriv = singlePriv r; wxn = wxnOf s }
+    record { largegrain = g.largegrain; outputsize = pa_size (g.ps % 2 ^ 3); singlepriv = single_priv r; wxn = wxn_of s }
 
 -- a table: its level and base, the bit above those that index it, and what the tables above forbid: ap_table, xn_table and pxn_table.
 -- M1, A6, M17: ns_table would stand here too
@@ -131,22 +131,22 @@ pub record Lookup : Type 0 where
   pub level : ℕ
   pub baseaddress : ℕ
   pub top : ℕ
-  pub apTable1 : Bool
-  pub apTable0 : Bool
-  pub xnTable : Bool
-  pub pxnTable : Bool
+  pub ap_table1 : Bool
+  pub ap_table0 : Bool
+  pub xn_table : Bool
+  pub pxn_table : Bool
 
 -- baseregister<47:baselowerbound> : Zeros(baselowerbound); nothing is forbidden yet. O3: what the base has below that bound is taken as zero
-abbrev pub firstLookup : Range → Lookup
-firstLookup g =
+abbrev pub first_lookup : Range → Lookup
+first_lookup g =
     record {
       level = startlevel g;
-      baseaddress = alignDown (g.baseregister % 2 ^ 48) (baselowerbound g);
+      baseaddress = align_down (g.baseregister % 2 ^ 48) (baselowerbound g);
       top = inputsize g;
-      apTable1 = false;
-      apTable0 = false;
-      xnTable = false;
-      pxnTable = false;
+      ap_table1 = false;
+      ap_table0 = false;
+      xn_table = false;
+      pxn_table = false;
     }
 
 -- what a descriptor leads to
@@ -156,72 +156,72 @@ pub data Next : Type 0 where
 
 -- a table descriptor: desc<47:grainsize>. APTable<1> and XNTable accumulate; APTable<0> and PXNTable too where there are two privilege levels.
 -- M1, A6, M17: NSTable, desc<63>, would accumulate too
-unfoldable pub tableNext : Params → Lookup → ℕ → Next
-tableNext p l desc =
-    if beyond p.outputsize desc then ends (faults (addressSize l.level))
+unfoldable pub table_next : Params → Lookup → ℕ → Next
+table_next p l desc =
+    if beyond p.outputsize desc then ends (faults (address_size l.level))
     else deeper
     record {
       level = l.level + 1;
-      baseaddress = alignDown (desc % 2 ^ 48) (grainsize p.largegrain);
+      baseaddress = align_down (desc % 2 ^ 48) (grainsize p.largegrain);
       top = addrselectbottom p.largegrain l.level;
-      apTable1 = l.apTable1 || apTable1 desc;
-      apTable0 = l.apTable0 || (not p.singlepriv && apTable0 desc);
-      xnTable = l.xnTable || uxnTable desc;
-      pxnTable = l.pxnTable || (not p.singlepriv && pxnTable desc);
+      ap_table1 = l.ap_table1 || ap_table1 desc;
+      ap_table0 = l.ap_table0 || (not p.singlepriv && ap_table0 desc);
+      xn_table = l.xn_table || uxn_table desc;
+      pxn_table = l.pxn_table || (not p.singlepriv && pxn_table desc);
     }
 
 -- desc<47:addrselectbottom> : va<addrselectbottom-1:0>
 abbrev pub outputaddress : ℕ → ℕ → ℕ → ℕ
-outputaddress bottom va desc = alignDown (desc % 2 ^ 48) bottom + va % 2 ^ bottom
+outputaddress bottom va desc = align_down (desc % 2 ^ 48) bottom + va % 2 ^ bottom
 
 -- a leaf's permission attributes under those of the tables above, with two privilege levels
-abbrev pub permissionsTwo : Lookup → ℕ → Permissions
-permissionsTwo l desc =
+abbrev pub permissions_two : Lookup → ℕ → Permissions
+permissions_two l desc =
     record {
-      ap2 = (underApTable l.apTable1 l.apTable0 (ap2 desc) (ap1 desc)).0;
-      ap1 = (underApTable l.apTable1 l.apTable0 (ap2 desc) (ap1 desc)).1;
-      xn = underXnTable l.xnTable (uxn desc);
-      pxn = underXnTable l.pxnTable (pxn desc);
+      ap2 = (under_ap_table l.ap_table1 l.ap_table0 (ap2 desc) (ap1 desc)).0;
+      ap1 = (under_ap_table l.ap_table1 l.ap_table0 (ap2 desc) (ap1 desc)).1;
+      xn = under_xn_table l.xn_table (uxn desc);
+      pxn = under_xn_table l.pxn_table (pxn desc);
     }
 
 -- and with one, where AP[1] is one, PXN is zero, and APTable[0] and PXNTable have no effect
-abbrev pub permissionsOne : Lookup → ℕ → Permissions
-permissionsOne l desc =
+abbrev pub permissions_one : Lookup → ℕ → Permissions
+permissions_one l desc =
     record {
-      ap2 = (underApTable l.apTable1 false (ap2 desc) true).0;
+      ap2 = (under_ap_table l.ap_table1 false (ap2 desc) true).0;
       ap1 = true;
-      xn = underXnTable l.xnTable (uxn desc);
+      xn = under_xn_table l.xn_table (uxn desc);
       pxn = false;
     }
 
-unfoldable pub leafPermissions : Params → Lookup → ℕ → Permissions
-leafPermissions p l desc = if p.singlepriv then permissionsOne l desc else permissionsTwo l desc
+unfoldable pub leaf_permissions : Params → Lookup → ℕ → Permissions
+leaf_permissions p l desc = if p.singlepriv then permissions_one l desc else permissions_two l desc
 
--- with one privilege level nG is zero. M1: in Secure EL1&0 nG would be nG OR ns_table
-unfoldable pub leafTranslation : Params → ℕ → Lookup → ℕ → Translation
-leafTranslation p va l desc =
+-- with one privilege level not_global is zero. M1: in Secure EL1&0 not_global would be not_global OR ns_table
+unfoldable pub leaf_translation : Params → ℕ → Lookup → ℕ → Translation
+leaf_translation p va l desc =
     record {
       address = outputaddress (addrselectbottom p.largegrain l.level) va desc;
       level = l.level;
-      perms = leafPermissions p l desc;
-      nG = not p.singlepriv && nG desc;
+      perms = leaf_permissions p l desc;
+      not_global = not p.singlepriv && not_global desc;
       descriptor = desc;
     }
 
 -- a block or page: its level, then its output size, then its access flag. O4: between the first two the contiguous bit may be checked
-unfoldable pub leafResult : Params → ℕ → Lookup → ℕ → Result
-leafResult p va l desc =
+unfoldable pub leaf_result : Params → ℕ → Lookup → ℕ → Result
+leaf_result p va l desc =
     if ltb l.level (firstblocklevel p.largegrain) then faults (translation l.level)
-    else if beyond p.outputsize desc then faults (addressSize l.level)
-    else if af desc then mapped (leafTranslation p va l desc)
-    else faults (accessFlag l.level)
+    else if beyond p.outputsize desc then faults (address_size l.level)
+    else if af desc then mapped (leaf_translation p va l desc)
+    else faults (access_flag l.level)
 
 -- '00', '10' and, at level 3, '01' are faults; '01' is a block, '11' a page at level 3 and a table above
-unfoldable pub levelNext : Params → ℕ → Lookup → ℕ → Next
-levelNext p va l desc =
-    if not (valid desc) || (eqb l.level 3 && not (tableOrPage desc)) then ends (faults (translation l.level))
-    else if eqb l.level 3 || not (tableOrPage desc) then ends (leafResult p va l desc)
-    else tableNext p l desc
+unfoldable pub level_next : Params → ℕ → Lookup → ℕ → Next
+level_next p va l desc =
+    if not (valid desc) || (eqb l.level 3 && not (table_or_page desc)) then ends (faults (translation l.level))
+    else if eqb l.level 3 || not (table_or_page desc) then ends (leaf_result p va l desc)
+    else table_next p l desc
 
 -- baseaddress, and in place of its low bits the index va<top-1:addrselectbottom> : '000'
 unfoldable pub descaddr : Params → ℕ → Lookup → ℕ
@@ -236,28 +236,28 @@ on_word None k none = none
 -- one level: the descriptor is fetched from memory, a function from an address to the 64-bit word there, and read.
 -- M3: in Non-secure EL1&0 its address would go through stage 2. M17: the address would be of one of two spaces, by ns_table.
 -- A10: by SCTLR_ELx.EE the descriptor would be BigEndianReverse of that word
-unfoldable pub lookupNext : (ℕ → Option ℕ) → Params → ℕ → Lookup → Next
-lookupNext memory p va l = on_word (memory (descaddr p va l)) (levelNext p va l) (ends (faults (externalAbort l.level)))
+unfoldable pub lookup_next : (ℕ → Option ℕ) → Params → ℕ → Lookup → Next
+lookup_next memory p va l = on_word (memory (descaddr p va l)) (level_next p va l) (ends (faults (external_abort l.level)))
 
-abbrev pub onNext : Next → (Lookup → Result) → Result
-onNext (deeper l) k = k l
-onNext (ends r) k = r
+abbrev pub on_next : Next → (Lookup → Result) → Result
+on_next (deeper l) k = k l
+on_next (ends r) k = r
 
 -- the walk with n levels to go; none is left below level 3, where no descriptor is a table
-unfoldable pub walkFrom : ℕ → (ℕ → Option ℕ) → Params → ℕ → Lookup → Result
-walkFrom zero memory p va l = faults (translation 3)
-walkFrom (suc n) memory p va l = onNext (lookupNext memory p va l) (walkFrom n memory p va)
+unfoldable pub walk_from : ℕ → (ℕ → Option ℕ) → Params → ℕ → Lookup → Result
+walk_from zero memory p va l = faults (translation 3)
+walk_from (suc n) memory p va l = on_next (lookup_next memory p va l) (walk_from n memory p va)
 
 -- the walk's entry, in the order of docs/SCOPE.md's table: out of range, or EPD set; then a base beyond the output size; then the walk
 abbrev pub entered : {A : Type 0} → ℕ → Range → ℕ → (Fault → A) → A → A
 entered outputsize g va fault walk =
     if not (in_range g va) || g.disabled then fault (translation 0)
-    else if beyond outputsize g.baseregister then fault (addressSize 0)
+    else if beyond outputsize g.baseregister then fault (address_size 0)
     else walk
 
 -- the walk of an untagged address in its range
-unfoldable pub walkRange : Params → Range → ℕ → (ℕ → Option ℕ) → Result
-walkRange p g va memory = entered p.outputsize g va faults (walkFrom (4 - startlevel g) memory p va (firstLookup g))
+unfoldable pub walk_range : Params → Range → ℕ → (ℕ → Option ℕ) → Result
+walk_range p g va memory = entered p.outputsize g va faults (walk_from (4 - startlevel g) memory p va (first_lookup g))
 
-unfoldable pub tableWalk : Bank → Regime → ℕ → (ℕ → Option ℕ) → Result
-tableWalk s r va memory = walkRange (params_of s r (range_of s r va)) (range_of s r va) va memory
+unfoldable pub table_walk : Bank → Regime → ℕ → (ℕ → Option ℕ) → Result
+table_walk s r va memory = walk_range (params_of s r (range_of s r va)) (range_of s r va) va memory

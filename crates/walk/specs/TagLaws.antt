@@ -2,9 +2,9 @@
 use Rattle.std.specs.Prelude.{if◌then◌else◌, ◌≡◌, refl, Bool, true, false, ℕ, zero, suc, ◌+◌, ◌-◌, ◌*◌, ◌/◌, ◌%◌, ◌^◌, ◌≤◌, ◌<◌}
 use Rattle.std.proofs.Common.{sym, ap, ◌∙◌, arith, shr-shr}
 use Rattle.std.proofs.Math.Nat.{zero-div}
-use Rattle.word.specs.Bits.{bitOn}
+use Rattle.word.specs.Bits.{bit_on}
 use Rattle.word.specs.BitLaws.{same_above}
-use Rattle.walk.specs.Tag.{tbi, signExtend56, tagDropped, untagged}
+use Rattle.walk.specs.Tag.{tbi, sign_extend56, tag_dropped, untagged}
 use Rattle.walk.specs.declared.regime.Regime.{Regime}
 use Rattle.walk.specs.declared.regime.Regime.TheVariants.{El1, El2, El3}
 
@@ -23,19 +23,19 @@ byte-bit (suc zero) (suc (suc (suc (suc (suc (suc (suc (suc i)))))))) h k = absu
 byte-bit (suc (suc b)) i h k = absurd (omega arith)
 
 -- the top byte of a sign-extended address
-top_byte : (va : ℕ) → signExtend56 va / 2 ^ 56 ≡ va / 2 ^ 55 % 2 * 255
+top_byte : (va : ℕ) → sign_extend56 va / 2 ^ 56 ≡ va / 2 ^ 55 % 2 * 255
 top_byte va = omega arith
 
 -- bits 63 to 56 of a sign-extended address are copies of bit 55
-pub sign-copies : (va i : ℕ) → 56 ≤ i → i < 64 → bitOn (signExtend56 va) i ≡ bitOn va 55
+pub sign-copies : (va i : ℕ) → 56 ≤ i → i < 64 → bit_on (sign_extend56 va) i ≡ bit_on va 55
 sign-copies va i h k =
     let e : 56 + (i - 56) ≡ i = omega arith in
-    let down : signExtend56 va / 2 ^ i ≡ va / 2 ^ 55 % 2 * 255 / 2 ^ (i - 56) =
-    ap (λ (n : ℕ). signExtend56 va / 2 ^ n) (sym e) ∙ sym (shr-shr (signExtend56 va) 56 (i - 56)) ∙ ap (λ (x : ℕ). x / 2 ^ (i - 56)) (top_byte va) in
+    let down : sign_extend56 va / 2 ^ i ≡ va / 2 ^ 55 % 2 * 255 / 2 ^ (i - 56) =
+    ap (λ (n : ℕ). sign_extend56 va / 2 ^ n) (sym e) ∙ sym (shr-shr (sign_extend56 va) 56 (i - 56)) ∙ ap (λ (x : ℕ). x / 2 ^ (i - 56)) (top_byte va) in
     rw (down, byte-bit (va / 2 ^ 55 % 2) (i - 56) (omega arith) (omega arith))
 
 -- bit 55 itself is kept
-same-55 : (r : Regime) (va : ℕ) → tagDropped r va / 2 ^ 55 % 2 ≡ va / 2 ^ 55 % 2
+same-55 : (r : Regime) (va : ℕ) → tag_dropped r va / 2 ^ 55 % 2 ≡ va / 2 ^ 55 % 2
 same-55 El1 va = omega arith
 same-55 El2 va = omega arith
 same-55 El3 va = omega arith
@@ -46,22 +46,22 @@ same-tbi tcr El1 x va e = rw e
 same-tbi tcr El2 x va e = refl
 same-tbi tcr El3 x va e = refl
 
-low-kept : (r : Regime) (va : ℕ) → tagDropped r va % 2 ^ 56 ≡ va % 2 ^ 56
+low-kept : (r : Regime) (va : ℕ) → tag_dropped r va % 2 ^ 56 ≡ va % 2 ^ 56
 low-kept El1 va = omega arith
 low-kept El2 va = omega arith
 low-kept El3 va = omega arith
 
-offset-kept : (r : Regime) (va : ℕ) → tagDropped r va % 2 ^ 12 ≡ va % 2 ^ 12
+offset-kept : (r : Regime) (va : ℕ) → tag_dropped r va % 2 ^ 12 ≡ va % 2 ^ 12
 offset-kept El1 va = omega arith
 offset-kept El2 va = omega arith
 offset-kept El3 va = omega arith
 
-twice : (r : Regime) (va : ℕ) → tagDropped r (tagDropped r va) ≡ tagDropped r va
+twice : (r : Regime) (va : ℕ) → tag_dropped r (tag_dropped r va) ≡ tag_dropped r va
 twice El1 va = rw (low-kept El1 va, same-55 El1 va)
 twice El2 va = omega arith
 twice El3 va = omega arith
 
-small : (r : Regime) (va : ℕ) → tagDropped r va < 2 ^ 64
+small : (r : Regime) (va : ℕ) → tag_dropped r va < 2 ^ 64
 small El1 va = omega arith
 small El2 va = omega arith
 small El3 va = omega arith
@@ -69,7 +69,7 @@ small El3 va = omega arith
 above : (a c b : ℕ) → a / 2 ^ 12 ≡ c / 2 ^ 12 → (a + b * (2 ^ 64 - 2 ^ 56)) / 2 ^ 12 ≡ (c + b * (2 ^ 64 - 2 ^ 56)) / 2 ^ 12
 above a c b e = omega arith
 
-page : (r : Regime) (va vb : ℕ) → va / 2 ^ 12 ≡ vb / 2 ^ 12 → tagDropped r va / 2 ^ 12 ≡ tagDropped r vb / 2 ^ 12
+page : (r : Regime) (va vb : ℕ) → va / 2 ^ 12 ≡ vb / 2 ^ 12 → tag_dropped r va / 2 ^ 12 ≡ tag_dropped r vb / 2 ^ 12
 page El1 va vb e = rw (same_above va vb {k = 12} {n = 55} (omega arith) e) (above (va % 2 ^ 56) (vb % 2 ^ 56) (vb / 2 ^ 55 % 2) (omega arith))
 page El2 va vb e = omega arith
 page El3 va vb e = omega arith
@@ -79,7 +79,7 @@ pub untagged-low : (tcr : ℕ) (r : Regime) (va : ℕ) → untagged tcr r va % 2
 unfolding untagged
 untagged-low tcr r va = go (tbi tcr r va)
   where
-    go : (t : Bool) → (if t then tagDropped r va else va) % 2 ^ 56 ≡ va % 2 ^ 56
+    go : (t : Bool) → (if t then tag_dropped r va else va) % 2 ^ 56 ≡ va % 2 ^ 56
     go true = low-kept r va
     go false = refl
 
@@ -88,7 +88,7 @@ pub untagged-offset : (tcr : ℕ) (r : Regime) (va : ℕ) → untagged tcr r va 
 unfolding untagged
 untagged-offset tcr r va = go (tbi tcr r va)
   where
-    go : (t : Bool) → (if t then tagDropped r va else va) % 2 ^ 12 ≡ va % 2 ^ 12
+    go : (t : Bool) → (if t then tag_dropped r va else va) % 2 ^ 12 ≡ va % 2 ^ 12
     go true = offset-kept r va
     go false = refl
 
@@ -97,8 +97,8 @@ pub untagged-twice : (tcr : ℕ) (r : Regime) (va : ℕ) → untagged tcr r (unt
 unfolding untagged
 untagged-twice tcr r va = go (tbi tcr r va) refl
   where
-    go : (t : Bool) → tbi tcr r va ≡ t → untagged tcr r (if t then tagDropped r va else va) ≡ (if t then tagDropped r va else va)
-    go true e = rw (same-tbi tcr r (tagDropped r va) va (same-55 r va), e) (twice r va)
+    go : (t : Bool) → tbi tcr r va ≡ t → untagged tcr r (if t then tag_dropped r va else va) ≡ (if t then tag_dropped r va else va)
+    go true e = rw (same-tbi tcr r (tag_dropped r va) va (same-55 r va), e) (twice r va)
     go false e = rw e
 
 -- an untagged address has 64 bits
@@ -106,7 +106,7 @@ pub untagged-small : (tcr : ℕ) (r : Regime) (va : ℕ) → va < 2 ^ 64 → unt
 unfolding untagged
 untagged-small tcr r va h = go (tbi tcr r va)
   where
-    go : (t : Bool) → (if t then tagDropped r va else va) < 2 ^ 64
+    go : (t : Bool) → (if t then tag_dropped r va else va) < 2 ^ 64
     go true = small r va
     go false = h
 
@@ -118,6 +118,6 @@ untagged-page tcr r va vb e = rw same (go (tbi tcr r vb))
     same : tbi tcr r va ≡ tbi tcr r vb
     same = same-tbi tcr r va vb (ap (λ (x : ℕ). x % 2) (same_above va vb {k = 12} {n = 55} (omega arith) e))
 
-    go : (t : Bool) → (if t then tagDropped r va else va) / 2 ^ 12 ≡ (if t then tagDropped r vb else vb) / 2 ^ 12
+    go : (t : Bool) → (if t then tag_dropped r va else va) / 2 ^ 12 ≡ (if t then tag_dropped r vb else vb) / 2 ^ 12
     go true = page r va vb e
     go false = e

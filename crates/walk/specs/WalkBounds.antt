@@ -8,24 +8,24 @@ use native.Mathlib.Omega.{arith}
 use Rattle.std.proofs.lemmas.Bool.{not-false}
 use Rattle.word.specs.Bits.{field, flag}
 use Rattle.word.specs.BitLaws.{cut_small, join-small}
-use Rattle.walk.specs.Table.{Fault, addressSize, translation, accessFlag, externalAbort, statusOf, Translation, Result, mapped, faults}
+use Rattle.walk.specs.Table.{Fault, address_size, translation, access_flag, external_abort, status_of, Translation, Result, mapped, faults}
 use Rattle.walk.specs.Table.{beyond, outputaddress}
-use Rattle.walk.specs.Permission.{Rights, accessBits, permissionByte, rightsOf}
+use Rattle.walk.specs.Permission.{Rights, access_bits, permission_byte, rights_of}
 use Rattle.walk.specs.declared.{rights.Permissions.Permissions, level.Leaf.Leaf}
 use Rattle.walk.specs.Answers.{Walked}
 
 -- the levels at which a fault of each kind can be: an access flag is read in a leaf, and no leaf is above level 1
 abbrev pub Levelled : Fault → Type 0
-Levelled (addressSize n) = n ≤ 3
+Levelled (address_size n) = n ≤ 3
 Levelled (translation n) = n ≤ 3
-Levelled (accessFlag n) = (1 ≤ n) × (n ≤ 3)
-Levelled (externalAbort n) = n ≤ 3
+Levelled (access_flag n) = (1 ≤ n) × (n ≤ 3)
+Levelled (external_abort n) = n ≤ 3
 
 -- a status of the table of answers
 pub record Status (n : ℕ) : Type 0 where
   pub fault : Fault
   pub level : Levelled fault
-  pub code : n ≡ statusOf fault
+  pub code : n ≡ status_of fault
 
 -- what holds of a leaf
 pub record LeafBounds (leaf : Leaf) : Type 0 where
@@ -54,7 +54,7 @@ pub output-small : (n bottom va desc : ℕ) → bottom ≤ n → n ≤ 48 → be
 output-small n bottom va desc h k e = join-small h (not_beyond n desc k e) (mod-lt va (pow_pos bottom))
 
 -- the permission byte has six bits
-access-small : (g : Rights) → accessBits g ≤ 7
+access-small : (g : Rights) → access_bits g ≤ 7
 access-small g = go g.r g.w g.x
   where
     go : (a b c : Bool) → flag a 1 + flag b 2 + flag c 4 ≤ 7
@@ -70,10 +70,10 @@ access-small g = go g.r g.w g.x
 sum-small : (a b : ℕ) → a ≤ 7 → b ≤ 7 → a + b * 8 < 64
 sum-small a b h k = omega arith
 
-pub permission-small : (singlepriv wxn : Bool) (t : Permissions) → permissionByte singlepriv wxn t < 64
+pub permission-small : (singlepriv wxn : Bool) (t : Permissions) → permission_byte singlepriv wxn t < 64
 permission-small singlepriv wxn t =
-    sum-small (accessBits (rightsOf singlepriv false wxn t)) (accessBits (rightsOf singlepriv true wxn t)) (access-small (rightsOf singlepriv false wxn t))
-    (access-small (rightsOf singlepriv true wxn t))
+    sum-small (access_bits (rights_of singlepriv false wxn t)) (access_bits (rights_of singlepriv true wxn t)) (access-small (rights_of singlepriv false wxn t))
+    (access-small (rights_of singlepriv true wxn t))
 
 abbrev pub SoundWalked : ℕ → Walked → Type 0
 SoundWalked va (Ok leaf) = LeafBounds leaf × (leaf.oa % 2 ^ 12 ≡ va % 2 ^ 12)
@@ -83,8 +83,8 @@ SoundWalked va (Err n) = Status n
 pub status-small : (n : ℕ) → Status n → n < 24
 status-small n h = go h.fault h.level h.code
   where
-    go : (f : Fault) → Levelled f → n ≡ statusOf f → n < 24
-    go (addressSize k) l e = omega arith
+    go : (f : Fault) → Levelled f → n ≡ status_of f → n < 24
+    go (address_size k) l e = omega arith
     go (translation k) l e = omega arith
-    go (accessFlag k) l e = omega arith
-    go (externalAbort k) l e = omega arith
+    go (access_flag k) l e = omega arith
+    go (external_abort k) l e = omega arith

@@ -1,9 +1,9 @@
 // One level of a walk: where its descriptor lies, and what the descriptor says.
 ghost use Rattle.std.specs.Prelude.{◌≡◌, ℕ, ◌≤◌, ◌<◌};
-ghost use Rattle.walk.specs.Table.{grainsize, stride, firstblocklevel, beyond, descaddr, tableNext};
-ghost use Rattle.walk.specs.Table.{leafPermissions, leafResult, levelNext};
-ghost use Rattle.walk.specs.Walk.{walkedOf};
-ghost use Rattle.walk.specs.State.{lookupOf, stepped, meant, Standing, Leads};
+ghost use Rattle.walk.specs.Table.{grainsize, stride, firstblocklevel, beyond, descaddr, table_next};
+ghost use Rattle.walk.specs.Table.{leaf_permissions, leaf_result, level_next};
+ghost use Rattle.walk.specs.Walk.{walked_of};
+ghost use Rattle.walk.specs.State.{lookup_of, stepped, meant, Standing, Leads};
 
 use crate::rights;
 use crate::rights::Permissions;
@@ -38,7 +38,7 @@ pub struct Leaf {
     pub desc: u64,
     pub perms: u8,
     pub level: u8,
-    // nG clear: the same for every ASID
+    // not_global clear: the same for every ASID
     pub global: bool,
 }
 
@@ -86,7 +86,7 @@ pub(crate) fn too_large(x: u64, n: u64) -> bool
 #[tactic(auto, using(crate::proofs::Levels::addresses))]
 pub(crate) fn descriptor_address(p: Params, w: WalkState, va: u64) -> u64
     requires { Standing p w }
-    ensures { result ≡ descaddr p va (lookupOf p w) }
+    ensures { result ≡ descaddr p va (lookup_of p w) }
 {
     let skip = 64 - w.top;
     let index = (va << skip) >> (skip + w.lsb);
@@ -98,7 +98,7 @@ pub(crate) fn descriptor_address(p: Params, w: WalkState, va: u64) -> u64
 fn table_step(p: Params, w: WalkState, desc: u64) -> Step
     requires standing { Standing p w }
     requires level_bound { (w.level < 3) × (p.outputsize ≤ 44) }
-    ensures result_value { stepped p result ≡ meant p (tableNext p (lookupOf p w) desc) }
+    ensures result_value { stepped p result ≡ meant p (table_next p (lookup_of p w) desc) }
     ensures leads { Leads p w result }
 {
     if too_large(desc, p.outputsize) {
@@ -114,9 +114,9 @@ fn table_step(p: Params, w: WalkState, desc: u64) -> Step
 }
 
 // The attributes of a leaf that decide permission.
-#[tactic(auto, unfolding(crate::specs::Table::leafPermissions))]
+#[tactic(auto, unfolding(crate::specs::Table::leaf_permissions))]
 fn permissions(p: Params, w: WalkState, desc: u64) -> Permissions
-    ensures { result ≡ leafPermissions p (lookupOf p w) desc }
+    ensures { result ≡ leaf_permissions p (lookup_of p w) desc }
 {
     let two = !p.singlepriv;
     let tables = w.tables;
@@ -130,11 +130,11 @@ fn permissions(p: Params, w: WalkState, desc: u64) -> Permissions
 
 // A block or page descriptor: the leaf, unless blocks are not allowed there, its output lies beyond the output size,
 // or its access flag is clear.
-#[tactic(auto, using(crate::proofs::Levels::parts_fit), unfolding(crate::specs::Table::leafResult, crate::specs::Table::leafTranslation))]
+#[tactic(auto, using(crate::proofs::Levels::parts_fit), unfolding(crate::specs::Table::leaf_result, crate::specs::Table::leaf_translation))]
 fn leaf_step(p: Params, w: WalkState, va: u64, desc: u64) -> Walked
     requires standing { Standing p w }
     requires outputsize_bound { p.outputsize ≤ 44 }
-    ensures { result ≡ walkedOf p.singlepriv p.wxn (leafResult p va (lookupOf p w) desc) }
+    ensures { result ≡ walked_of p.singlepriv p.wxn (leaf_result p va (lookup_of p w) desc) }
 {
     if w.level < first_block_level(p.largegrain) {
         return Err(4 + w.level);
@@ -157,11 +157,11 @@ fn leaf_step(p: Params, w: WalkState, va: u64, desc: u64) -> Walked
 }
 
 // What a descriptor of the level says.
-#[tactic(auto, using(crate::proofs::Levels::stops), unfolding(crate::specs::Table::levelNext))]
+#[tactic(auto, using(crate::proofs::Levels::stops), unfolding(crate::specs::Table::level_next))]
 pub(crate) fn level_step(p: Params, w: WalkState, va: u64, desc: u64) -> Step
     requires standing { Standing p w }
     requires outputsize_bound { p.outputsize ≤ 44 }
-    ensures result_value { stepped p result ≡ meant p (levelNext p va (lookupOf p w) desc) }
+    ensures result_value { stepped p result ≡ meant p (level_next p va (lookup_of p w) desc) }
     ensures leads { Leads p w result }
 {
     let valid = desc % 2 == 1;

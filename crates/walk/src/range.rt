@@ -1,7 +1,7 @@
 // What the registers say of a walk, and where it begins.
 ghost use Rattle.std.specs.Prelude.{◌≡◌, ℕ, ◌-◌, ◌≤◌, ◌<◌};
 ghost use Rattle.walk.specs.Table.{range_of, params_of, inputsize, in_range};
-ghost use Rattle.walk.specs.State.{start_of, beginOf};
+ghost use Rattle.walk.specs.State.{start_of, begin_of};
 
 use crate::level::{Params, WalkState};
 use crate::regime::{Bank, Regime};
@@ -115,10 +115,10 @@ fn start_of(largegrain: bool, n: u64) -> Start
 }
 
 // The first table, unless the address is out of range or walks are disabled, or the table lies beyond the output size.
-#[tactic(auto, unfolding(crate::specs::State::beginOf))]
+#[tactic(auto, unfolding(crate::specs::State::begin_of))]
 pub(crate) fn begin_walk(g: Range, outputsize: u64, va: u64) -> Begin
     requires { outputsize ≤ 44 }
-    ensures { result ≡ beginOf g outputsize va }
+    ensures { result ≡ begin_of g outputsize va }
 {
     if !in_range(g, va) || g.disabled {
         return Err(4);

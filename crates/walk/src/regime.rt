@@ -1,7 +1,7 @@
 // The translation regimes and their registers.
 ghost use Rattle.std.specs.Prelude.{◌≡◌, ◌<◌};
-ghost use Rattle.sysreg.specs.Regs.{levelOf as elLevel};
-ghost use Rattle.walk.specs.Regime.{bankOf, levelOf, regimeOf, singlePriv, stage1On};
+ghost use Rattle.sysreg.specs.Regs.{level_of as elLevel};
+ghost use Rattle.walk.specs.Regime.{bank_of, level_of, regime_of, single_priv, stage1_on};
 
 use sysreg::regs::Control;
 
@@ -27,7 +27,7 @@ pub struct Bank {
 impl Regime {
     // The regime of an exception level.
     pub fn of_level(level: u8) -> Self
-        ensures { result ≡ regimeOf level }
+        ensures { result ≡ regime_of level }
     {
         match level {
             2 => Regime::El2,
@@ -38,14 +38,14 @@ impl Regime {
 
     // Whether the regime has one privilege level and one range of addresses.
     pub fn is_single(self) -> bool
-        ensures { result ≡ singlePriv self }
+        ensures { result ≡ single_priv self }
     {
         self != Regime::El1
     }
 
     // The place of the regime's own registers.
     fn index(self) -> usize
-        ensures value { result ≡ elLevel (levelOf self) }
+        ensures value { result ≡ elLevel (level_of self) }
         ensures upper_bound { result < 4 }
     {
         match self {
@@ -59,7 +59,7 @@ impl Regime {
 impl Bank {
     // The registers of a regime.
     pub fn new(c: &Control, regime: Regime) -> Self
-        ensures { result ≡ bankOf c.now regime }
+        ensures { result ≡ bank_of c.now regime }
     {
         let el = regime.index();
         Bank {
@@ -74,7 +74,7 @@ impl Bank {
 
     // Is stage 1 on for the regime?
     pub fn stage1_on(&self, regime: Regime) -> bool
-        ensures { result ≡ stage1On self.now regime }
+        ensures { result ≡ stage1_on self.now regime }
     {
         let on = self.sctlr % 2 == 1;
         let ns = self.scr_el3 % 2 == 1;

@@ -1,7 +1,7 @@
 // Permissions.
 ghost use Rattle.std.specs.Prelude.{◌≡◌, ◌+◌, ◌≤◌};
 ghost use Rattle.word.specs.Bits.{flag};
-ghost use Rattle.walk.specs.Permission.{permissionByte};
+ghost use Rattle.walk.specs.Permission.{permission_byte};
 
 // The attributes of a leaf that decide permission, as the tables above it leave them: AP<2>, AP<1>, UXN (XN) and PXN.
 #[derive(Clone, Copy)]
@@ -22,7 +22,7 @@ pub fn perm_bits(r: bool, w: bool, x: bool) -> u8
 
 // The rights that a leaf gives: EL0's in bits 0 to 2, the regime's own in bits 3 to 5.
 pub fn perm_byte(singlepriv: bool, wxn: bool, a: Permissions) -> u8
-    ensures { result ≡ permissionByte singlepriv wxn a }
+    ensures { result ≡ permission_byte singlepriv wxn a }
 {
     let priv_w = !a.ap2;
     if singlepriv {

@@ -1,12 +1,12 @@
 // Tagged addresses.
 ghost use Rattle.std.specs.Prelude.{◌≡◌};
-ghost use Rattle.walk.specs.Tag.{tbi, signExtend56, untagged};
+ghost use Rattle.walk.specs.Tag.{tbi, sign_extend56, untagged};
 
 use crate::regime::Regime;
 
 // The low 56 bits of va, with bit 55 copied to the top byte by a signed right shift.
 fn sign_extend56(va: u64) -> u64
-    ensures { result ≡ signExtend56 va }
+    ensures { result ≡ sign_extend56 va }
 {
     ((va << 8).cast_signed() >> 8).cast_unsigned()
 }

@@ -8,7 +8,7 @@ use Rattle.std.proofs.lemmas.Nat.{or_shr}
 use Rattle.std.specs.Int.Bits.{or_step}
 use Rattle.std.proofs.Math.Pow
 use Rattle.std.proofs.Math.Pow.{split}
-use Rattle.word.specs.Bits.{bitOn, field, alignDown}
+use Rattle.word.specs.Bits.{bit_on, field, align_down}
 
 -- a place below 64 is the place that the machine takes
 pub place : {n : ℕ} → n < 64 → n % 64 ≡ n
@@ -20,11 +20,11 @@ both true b e = (refl, e)
 both false b e = absurd (false≢true e)
 
 -- aligning goes down
-pub align-le : (x n : ℕ) → alignDown x n ≤ x
+pub align-le : (x n : ℕ) → align_down x n ≤ x
 align-le x n = omega (arith, split x n)
 
 -- and what it drops is the remainder
-pub align-low : (x n : ℕ) → x - alignDown x n ≡ x % 2 ^ n
+pub align-low : (x n : ℕ) → x - align_down x n ≡ x % 2 ^ n
 align-low x n = omega (arith, split x n)
 
 -- the bits lo to hi of a number cut at hi are those of the number
@@ -52,7 +52,7 @@ max-bit (suc zero) (suc (suc b)) h k = absurd (omega arith)
 low_bit : (a b : ℕ) → bit_or a b % 2 ≡ max (a % 2) (b % 2)
 low_bit a b = let h : max (a % 2) (b % 2) ≤ 1 = max-le (omega arith) (omega arith) in omega (arith, or_step a b)
 
-pub or-bit : (a b i : ℕ) → bitOn (bit_or a b) i ≡ (bitOn a i || bitOn b i)
+pub or-bit : (a b i : ℕ) → bit_on (bit_or a b) i ≡ (bit_on a i || bit_on b i)
 or-bit a b i = rw (or_shr a b i, low_bit) (max-bit (a / 2 ^ i % 2) (b / 2 ^ i % 2) (omega arith) (omega arith))
 
 -- numbers with the same bits from k up have the same bits from any n above
@@ -70,26 +70,26 @@ cut_small x {n} {m} h e =
     omega (arith, rw z at s)
 
 -- a number of n bits with its low k bits replaced has n bits
-pub join-small : {x r k n : ℕ} → k ≤ n → x < 2 ^ n → r < 2 ^ k → alignDown x k + r < 2 ^ n
+pub join-small : {x r k n : ℕ} → k ≤ n → x < 2 ^ n → r < 2 ^ k → align_down x k + r < 2 ^ n
 join-small {x} {r} {k} {n} h a b =
     let e : n - k + k ≡ n = omega arith in
     let q : x / 2 ^ k < 2 ^ (n - k) = shr_lt (n - k) k (rw (← e) at a) in
-    let w : alignDown x k + r < 2 ^ (n - k) * 2 ^ k = digits_lt q b in
+    let w : align_down x k + r < 2 ^ (n - k) * 2 ^ k = digits_lt q b in
     rw (← pow-add 2 (n - k) k, e) at w
 
 -- a number aligned by n is a multiple of every lower power
-align-split : (x : ℕ) {k n : ℕ} → k ≤ n → alignDown x n ≡ x / 2 ^ n * 2 ^ (n - k) * 2 ^ k
+align-split : (x : ℕ) {k n : ℕ} → k ≤ n → align_down x n ≡ x / 2 ^ n * 2 ^ (n - k) * 2 ^ k
 align-split x {k} {n} h =
     let e : n - k + k ≡ n = omega arith in
     ap (λ (m : ℕ). x / 2 ^ n * 2 ^ m) (sym e) ∙ ap (λ (m : ℕ). x / 2 ^ n * m) (pow-add 2 (n - k) k) ∙ sym (mul_assoc (x / 2 ^ n) (2 ^ (n - k)) (2 ^ k))
 
 -- x with its low n bits replaced by those of y: its bits from k up, k at most n
-pub join-above : (x y : ℕ) {k n : ℕ} → k ≤ n → (alignDown x n + y % 2 ^ n) / 2 ^ k ≡ x / 2 ^ n * 2 ^ (n - k) + field y k (n - k)
+pub join-above : (x y : ℕ) {k n : ℕ} → k ≤ n → (align_down x n + y % 2 ^ n) / 2 ^ k ≡ x / 2 ^ n * 2 ^ (n - k) + field y k (n - k)
 join-above x y {k} {n} h =
     ap (λ (a : ℕ). (a + y % 2 ^ n) / 2 ^ k) (align-split x h) ∙ mul-add-div_right (pow_pos k) (x / 2 ^ n * 2 ^ (n - k)) (y % 2 ^ n)
     ∙ ap (λ (f : ℕ). x / 2 ^ n * 2 ^ (n - k) + f) (cut_field y h)
 
 -- and its bits below k, which are y's
-pub join-below : (x y : ℕ) {k n : ℕ} → k ≤ n → (alignDown x n + y % 2 ^ n) % 2 ^ k ≡ y % 2 ^ k
+pub join-below : (x y : ℕ) {k n : ℕ} → k ≤ n → (align_down x n + y % 2 ^ n) % 2 ^ k ≡ y % 2 ^ k
 join-below x y {k} {n} h =
     ap (λ (a : ℕ). (a + y % 2 ^ n) % 2 ^ k) (align-split x h) ∙ mul-add-mod_self_right (x / 2 ^ n * 2 ^ (n - k)) (2 ^ k) (y % 2 ^ n) ∙ cut-cut y h

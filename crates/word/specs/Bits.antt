@@ -2,8 +2,8 @@
 use Rattle.std.specs.Prelude.{ℕ, ◌*◌, ◌/◌, ◌%◌, ◌^◌, Bool, true, false, ◌==◌}
 
 -- x<i> == '1'
-abbrev pub bitOn : ℕ → ℕ → Bool
-bitOn x i = x / 2 ^ i % 2 == 1
+abbrev pub bit_on : ℕ → ℕ → Bool
+bit_on x i = x / 2 ^ i % 2 == 1
 
 -- x<0> == '1'
 abbrev pub bit0 : ℕ → Bool
@@ -14,8 +14,8 @@ abbrev pub field : ℕ → ℕ → ℕ → ℕ
 field x lo n = x / 2 ^ lo % 2 ^ n
 
 -- x with its low n bits clear, Align(x, 2^n)
-abbrev pub alignDown : ℕ → ℕ → ℕ
-alignDown x n = x / 2 ^ n * 2 ^ n
+abbrev pub align_down : ℕ → ℕ → ℕ
+align_down x n = x / 2 ^ n * 2 ^ n
 
 -- a sum as 64 bits keep it
 abbrev pub wrap : ℕ → ℕ

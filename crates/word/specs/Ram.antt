@@ -3,11 +3,11 @@ use Rattle.std.specs.Prelude.{if◌then◌else◌, ℕ, zero, suc, ◌+◌, ◌-
 use Rattle.word.specs.declared.ram.Width.{Width}
 use Rattle.word.specs.declared.ram.Width.TheVariants.{Byte, Half, Word, Double}
 
-abbrev pub bytesIn : Width → ℕ
-bytesIn Byte = 1
-bytesIn Half = 2
-bytesIn Word = 4
-bytesIn Double = 8
+abbrev pub bytes_in : Width → ℕ
+bytes_in Byte = 1
+bytes_in Half = 2
+bytes_in Word = 4
+bytes_in Double = 8
 
 -- a size of 1, 2, 4 or 8 bytes
 abbrev pub width_of : ℕ → Option Width
@@ -18,9 +18,9 @@ width_of n =
     else if n == 8 then Some Double else None
 
 -- the value of n bytes from index at, the lowest first
-unfoldable pub littleEndian : List ℕ → ℕ → ℕ → ℕ
-littleEndian ram zero at = 0
-littleEndian ram (suc n) at = littleEndian ram n (at + 1) * 256 + slice_index ram at
+unfoldable pub little_endian : List ℕ → ℕ → ℕ → ℕ
+little_endian ram zero at = 0
+little_endian ram (suc n) at = little_endian ram n (at + 1) * 256 + slice_index ram at
 
 -- the n low bytes of a value, the lowest first
 unfoldable pub bytes_of : ℕ → ℕ → List ℕ
@@ -33,7 +33,7 @@ within base len n pa = nat_le base pa && nat_le (pa + n) (base + len)
 
 -- the n bytes at an address, as a number
 unfoldable pub word_at : ℕ → List ℕ → ℕ → ℕ → Option ℕ
-word_at base ram n pa = if within base (length ram) n pa then Some (littleEndian ram n (pa - base)) else None
+word_at base ram n pa = if within base (length ram) n pa then Some (little_endian ram n (pa - base)) else None
 
 -- the list with the n low bytes of a value from index at on
 abbrev pub written : List ℕ → ℕ → ℕ → ℕ → List ℕ

@@ -4,7 +4,7 @@ use Rattle.std.proofs.Common.{sym, ap, ◌∙◌, pow-suc, zero-add, suc-add, mu
 use Rattle.std.proofs.Math.Nat.{div-div-eq-div-mul}
 use Rattle.std.proofs.Math.ListN.{get_or-append}
 use Rattle.word.specs.BitLaws.{both}
-use Rattle.word.specs.Ram.{littleEndian, bytes_of, within, word_at, written}
+use Rattle.word.specs.Ram.{little_endian, bytes_of, within, word_at, written}
 use Rattle.std.specs.Prelude.{Some, None}
 
 -- an access inside the window begins in it and ends in it
@@ -16,15 +16,15 @@ module _ (base len n pa : ℕ) (w : within base len n pa ≡ true) where
   within-high = leb-true (pa + n) (base + len) (both (nat_le base pa) (nat_le (pa + n) (base + len)) w).1
 
 -- the value of m + n bytes is that of the first m, and above it that of the rest
-pub le_join : (ram : List ℕ) (m n at : ℕ) → littleEndian ram (m + n) at ≡ littleEndian ram m at + littleEndian ram n (at + m) * 256 ^ m
-unfolding littleEndian
+pub le_join : (ram : List ℕ) (m n at : ℕ) → little_endian ram (m + n) at ≡ little_endian ram m at + little_endian ram n (at + m) * 256 ^ m
+unfolding little_endian
 le_join ram zero n at =
     let e : at + 0 ≡ at = omega arith in
     rw (zero-add n, e) (omega arith)
 le_join ram (suc m) n at =
     let e : at + suc m ≡ at + 1 + m = omega arith in
     let ih = le_join ram m n (at + 1) in
-    rw (suc-add m n, littleEndian, e, pow-suc 256 m, ← mul_assoc (littleEndian ram n (at + 1 + m)) (256 ^ m) 256, ih) (omega arith)
+    rw (suc-add m n, little_endian, e, pow-suc 256 m, ← mul_assoc (little_endian ram n (at + 1 + m)) (256 ^ m) 256, ih) (omega arith)
 
 pub length-bytes : (n v : ℕ) → length (bytes_of n v) ≡ n
 unfolding bytes_of
@@ -33,8 +33,8 @@ length-bytes (suc n) v = ap suc (length-bytes n (v / 256))
 
 -- lists that agree on the n bytes from an index have one value there
 pub le-agree : (xs ys : List ℕ) (n at : ℕ) → ((i : ℕ) → i < n → slice_index xs (at + i) ≡ slice_index ys (at + i))
-    → littleEndian xs n at ≡ littleEndian ys n at
-unfolding littleEndian
+    → little_endian xs n at ≡ little_endian ys n at
+unfolding little_endian
 le-agree xs ys zero at h = refl
 le-agree xs ys (suc n) at h =
     let z : at + 0 ≡ at = omega arith in
@@ -49,7 +49,7 @@ unfolding word_at
 word-agree base xs ys n pa e h = rw (← e) (go (nat_le base pa) (nat_le (pa + n) (base + length xs)) refl refl)
   where
     go : (a b : Bool) → nat_le base pa ≡ a → nat_le (pa + n) (base + length xs) ≡ b
-        → (if a && b then Some (littleEndian xs n (pa - base)) else None) ≡ (if a && b then Some (littleEndian ys n (pa - base)) else None)
+        → (if a && b then Some (little_endian xs n (pa - base)) else None) ≡ (if a && b then Some (little_endian ys n (pa - base)) else None)
     go true true ea eb = ap Some (le-agree xs ys n (pa - base) (h (leb-true _ _ ea) (leb-true _ _ eb)))
     go true false ea eb = refl
     go false b ea eb = refl
@@ -62,18 +62,18 @@ digit-next v i =
     ap (λ (m : ℕ). v / m) (pow-suc 256 i ∙ mul_comm (256 ^ i) 256) ∙ sym (div-div-eq-div-mul v 256 (256 ^ i))
 
 -- of the value of n bytes it is the byte at that index
-pub byte_of : (ram : List ℕ) (n at i : ℕ) → ((k : ℕ) → slice_index ram k < 256) → i < n → littleEndian ram n at / 256 ^ i % 256 ≡ slice_index ram (at + i)
-unfolding littleEndian
+pub byte_of : (ram : List ℕ) (n at i : ℕ) → ((k : ℕ) → slice_index ram k < 256) → i < n → little_endian ram n at / 256 ^ i % 256 ≡ slice_index ram (at + i)
+unfolding little_endian
 byte_of ram zero at i small h = absurd (omega arith)
 byte_of ram (suc n) at zero small h =
     let b = small at in
     let z : at + 0 ≡ at = omega arith in
-    rw (z, div-one (littleEndian ram n (at + 1) * 256 + slice_index ram at)) (omega arith)
+    rw (z, div-one (little_endian ram n (at + 1) * 256 + slice_index ram at)) (omega arith)
 byte_of ram (suc n) at (suc i) small h =
     let b = small at in
     let e : at + suc i ≡ at + 1 + i = omega arith in
-    let q : (littleEndian ram n (at + 1) * 256 + slice_index ram at) / 256 ≡ littleEndian ram n (at + 1) = omega arith in
-    rw (digit-next (littleEndian ram n (at + 1) * 256 + slice_index ram at) i, q, e) (byte_of ram n (at + 1) i small (omega arith))
+    let q : (little_endian ram n (at + 1) * 256 + slice_index ram at) / 256 ≡ little_endian ram n (at + 1) = omega arith in
+    rw (digit-next (little_endian ram n (at + 1) * 256 + slice_index ram at) i, q, e) (byte_of ram n (at + 1) i small (omega arith))
 
 -- and of the bytes of a value it is what is written there
 pub digit-of : (n v i : ℕ) → i < n → slice_index (bytes_of n v) i ≡ v / 256 ^ i % 256

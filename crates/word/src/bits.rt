@@ -1,18 +1,18 @@
 // Bit fields whose place is a variable; a field at a fixed place is written out, as (x >> 14) % 4. A place is taken
 // modulo 64, as the machine's shifts take it, so that each function is total.
 ghost use Rattle.std.specs.Prelude.{◌≡◌, ◌+◌, ◌%◌, ◌^◌, ◌≤◌};
-ghost use Rattle.word.specs.Bits.{bitOn, alignDown, wrap, flag};
+ghost use Rattle.word.specs.Bits.{bit_on, align_down, wrap, flag};
 
 // Whether bit i of x is set.
 pub fn bit(x: u64, i: u64) -> bool
-    ensures { result ≡ bitOn x (i % 64) }
+    ensures { result ≡ bit_on x (i % 64) }
 {
     (x >> (i % 64)) % 2 == 1
 }
 
 // x with its low n bits clear.
 pub fn align_down(x: u64, n: u64) -> u64
-    ensures { result ≡ alignDown x (n % 64) }
+    ensures { result ≡ align_down x (n % 64) }
 {
     let m = n % 64;
     x >> m << m

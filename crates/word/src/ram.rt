@@ -1,7 +1,7 @@
 // RAM as a lent window: its first address, and its bytes. An access is 1, 2, 4 or 8 bytes, little-endian, and has
 // all of its bytes in the window or moves none.
 ghost use Rattle.std.specs.Prelude.{◌≡◌, ◌+◌, ◌≤◌, length};
-ghost use Rattle.word.specs.Ram.{littleEndian, bytes_of, bytesIn, within, word_at, written, stored, width_of};
+ghost use Rattle.word.specs.Ram.{little_endian, bytes_of, bytes_in, within, word_at, written, stored, width_of};
 
 // How many bytes an access moves.
 #[derive(Clone, Copy)]
@@ -27,7 +27,7 @@ impl Width {
     }
 
     pub fn bytes(self) -> u64
-        ensures value { result ≡ bytesIn self }
+        ensures value { result ≡ bytes_in self }
         ensures upper_bound { result ≤ 8 }
     {
         match self {
@@ -48,10 +48,10 @@ pub fn inside(base: u64, len: u64, n: u64, pa: u64) -> bool
 }
 
 // The value of a width's bytes from at, the lowest first.
-#[tactic(auto, unfolding(crate::specs::Ram::littleEndian))]
+#[tactic(auto, unfolding(crate::specs::Ram::little_endian))]
 fn value_at(ram: &[u8], width: Width, at: usize) -> u64
-    requires { at + bytesIn width ≤ length ram.now }
-    ensures { result ≡ littleEndian ram.now (bytesIn width) at }
+    requires { at + bytes_in width ≤ length ram.now }
+    ensures { result ≡ little_endian ram.now (bytes_in width) at }
 {
     match width {
         Width::Byte => u64::from(ram[at]),
@@ -78,7 +78,7 @@ fn value_at(ram: &[u8], width: Width, at: usize) -> u64
 // The value at the physical address pa, or nothing where a byte of it lies outside the window.
 #[tactic(auto, unfolding(crate::specs::Ram::word_at))]
 pub fn read(base: u64, ram: &[u8], width: Width, pa: u64) -> Option<u64>
-    ensures { result ≡ word_at base ram.now (bytesIn width) pa }
+    ensures { result ≡ word_at base ram.now (bytes_in width) pa }
 {
     if inside(base, ram.len() as u64, width.bytes(), pa) {
         Some(value_at(ram, width, (pa - base) as usize))
@@ -118,8 +118,8 @@ pub fn write_bytes(base: u64, ram: &mut [u8], n: u64, pa: u64, value: u64) -> bo
 
 // A store of a width's bytes.
 pub fn write(base: u64, ram: &mut [u8], width: Width, pa: u64, value: u64) -> bool
-    ensures made { result ≡ within base (length ram.old) (bytesIn width) pa }
-    ensures after { ram.new ≡ stored base ram.old (bytesIn width) pa value }
+    ensures made { result ≡ within base (length ram.old) (bytes_in width) pa }
+    ensures after { ram.new ≡ stored base ram.old (bytes_in width) pa value }
 {
     write_bytes(base, ram, width.bytes(), pa, value)
 }

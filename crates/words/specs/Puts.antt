@@ -5,7 +5,7 @@ use Rattle.std.proofs.Math.Path.{ap}
 use Rattle.tlb.specs.Lists.{get_d_set}
 use Rattle.tlb.specs.declared.{entry.Entry.Entry, hint.Hint.Hint}
 use Rattle.word.specs.Tables.{table, table_same}
-use Rattle.words.specs.CoreOf.{word, hintIn, entryIn, coreOn, coreBy}
+use Rattle.words.specs.CoreOf.{word, hint_in, entry_in, core_on, core_by}
 use Rattle.words.specs.Places.{GENERAL, LEVEL, HINTS, HINT-PA, ENTRIES, ENTRY-GENERATION, ENTRY-ATTRIBUTES, ENTRY-PA, LEVEL-HITS}
 
 -- v at place k
@@ -27,8 +27,8 @@ abbrev small : (ℕ → ℕ) → ℕ → ℕ
 small w m =
     if nat_lt m GENERAL then w m else if nat_lt m LEVEL then 0 else if nat_lt m HINTS then w m else if nat_lt m LEVEL-HITS then 0 else w m
 
-small-only : (w : ℕ → ℕ) (xs : List ℕ) (hs : List Hint) (es : List Entry) → coreOn w xs hs es ≡ coreOn (small w) xs hs es
-unfolding coreOn
+small-only : (w : ℕ → ℕ) (xs : List ℕ) (hs : List Hint) (es : List Entry) → core_on w xs hs es ≡ core_on (small w) xs hs es
+unfolding core_on
 small-only w xs hs es = refl
 
 abbrev pub generals : (ℕ → ℕ) → List ℕ
@@ -57,18 +57,18 @@ module _ (v w : ℕ → ℕ) where
       go false a false p false q true r = rw (a, p, q, r)
       go false a false p false q false r = rw (a, p, q, r, s.beyond m (ltb-false m LEVEL-HITS r))
 
-  pub small_same : SmallSame v w → (xs : List ℕ) (hs : List Hint) (es : List Entry) → coreOn v xs hs es ≡ coreOn w xs hs es
+  pub small_same : SmallSame v w → (xs : List ℕ) (hs : List Hint) (es : List Entry) → core_on v xs hs es ≡ core_on w xs hs es
   small_same s xs hs es =
-      small-only v xs hs es ∙ ap (λ (f : ℕ → ℕ). coreOn f xs hs es) (λ i m. small_at s m i) ∙ sym (small-only w xs hs es)
+      small-only v xs hs es ∙ ap (λ (f : ℕ → ℕ). core_on f xs hs es) (λ i m. small_at s m i) ∙ sym (small-only w xs hs es)
 
-  pub hints-same : ((m : ℕ) → HINTS ≤ m → m < ENTRIES → v m ≡ w m) → table 512 (hintIn v) ≡ table 512 (hintIn w)
+  pub hints-same : ((m : ℕ) → HINTS ≤ m → m < ENTRIES → v m ≡ w m) → table 512 (hint_in v) ≡ table 512 (hint_in w)
   hints-same h =
-      table_same 512 (hintIn v) (hintIn w)
+      table_same 512 (hint_in v) (hint_in w)
       (λ i k. rw (h (HINTS + i * 2) (omega arith) (omega arith), h (HINT-PA + i * 2) (omega arith) (omega arith)))
 
-  pub entries-same : ((m : ℕ) → ENTRIES ≤ m → m < LEVEL-HITS → v m ≡ w m) → table 1024 (entryIn v) ≡ table 1024 (entryIn w)
+  pub entries-same : ((m : ℕ) → ENTRIES ≤ m → m < LEVEL-HITS → v m ≡ w m) → table 1024 (entry_in v) ≡ table 1024 (entry_in w)
   entries-same h =
-      table_same 1024 (entryIn v) (entryIn w)
+      table_same 1024 (entry_in v) (entry_in w)
       (λ j k. rw (
         h (ENTRIES + j * 4) (omega arith) (omega arith),
         h (ENTRY-GENERATION + j * 4) (omega arith) (omega arith),
@@ -80,16 +80,16 @@ module _ (v w : ℕ → ℕ) where
   generals-same h = table_same 31 (λ n. v (GENERAL + n)) (λ n. w (GENERAL + n)) (λ n k. h (GENERAL + n) (omega arith) (omega arith))
 
   -- small parts put anew
-  pub coreOf-small : RestSame v w → coreBy v ≡ coreOn v (generals w) (table 512 (hintIn w)) (table 1024 (entryIn w))
-  unfolding coreBy
+  pub coreOf-small : RestSame v w → core_by v ≡ core_on v (generals w) (table 512 (hint_in w)) (table 1024 (entry_in w))
+  unfolding core_by
   coreOf-small r =
-      λ i. coreOn v (generals-same r.general i) (hints-same (λ m a b. r.above m a (omega arith)) i)
+      λ i. core_on v (generals-same r.general i) (hints-same (λ m a b. r.above m a (omega arith)) i)
       (entries-same (λ m a b. r.above m (omega arith) b) i)
 
   -- hints or entries put anew
-  pub coreOf-tables : SmallSame v w → ((m : ℕ) → GENERAL ≤ m → m < LEVEL → v m ≡ w m) → coreBy v
-      ≡ coreOn w (generals w) (table 512 (hintIn v)) (table 1024 (entryIn v))
-  unfolding coreBy
+  pub coreOf-tables : SmallSame v w → ((m : ℕ) → GENERAL ≤ m → m < LEVEL → v m ≡ w m) → core_by v
+      ≡ core_on w (generals w) (table 512 (hint_in v)) (table 1024 (entry_in v))
+  unfolding core_by
   coreOf-tables s g =
-      small_same s (generals v) (table 512 (hintIn v)) (table 1024 (entryIn v))
-      ∙ ap (λ (xs : List ℕ). coreOn w xs (table 512 (hintIn v)) (table 1024 (entryIn v))) (generals-same g)
+      small_same s (generals v) (table 512 (hint_in v)) (table 1024 (entry_in v))
+      ∙ ap (λ (xs : List ℕ). core_on w xs (table 512 (hint_in v)) (table 1024 (entry_in v))) (generals-same g)

@@ -1,8 +1,8 @@
 // The fetch hint, the data hints and the entries.
 ghost use Rattle.std.specs.Prelude.{◌≡◌, ◌<◌};
-ghost use Rattle.tlb.specs.Cache.{hintAt, entry_at};
+ghost use Rattle.tlb.specs.Cache.{hint_at, entry_at};
 ghost use Rattle.words.specs.CoreOf.{core_of};
-ghost use Rattle.words.specs.Parts.{withHint, withEntry, with_tag, withFetchHint};
+ghost use Rattle.words.specs.Parts.{with_hint, with_entry, with_tag, with_fetch_hint};
 ghost use Rattle.words.specs.NowHolds.{NowHolds};
 ghost use Rattle.words.specs.EntryWrites.{attributes};
 
@@ -16,7 +16,7 @@ use word::bits;
 // A data hint, none past the last.
 #[tactic(auto, using(crate::proofs::Reading::hint_read, crate::proofs::Reading::hint_past))]
 pub fn hint_at(state: &State, i: usize) -> Hint
-    ensures { result ≡ hintAt (core_of state.now).tlb.cache i }
+    ensures { result ≡ hint_at (core_of state.now).tlb.cache i }
 {
     if i < 512 {
         Hint {
@@ -29,7 +29,7 @@ pub fn hint_at(state: &State, i: usize) -> Hint
 }
 
 pub fn put_hint(state: &mut State, i: usize, h: Hint)
-    ensures { NowHolds state.old state.new (withHint (core_of state.old) i h) }
+    ensures { NowHolds state.old state.new (with_hint (core_of state.old) i h) }
 {
     whole(state);
     if i < 512 {
@@ -38,7 +38,7 @@ pub fn put_hint(state: &mut State, i: usize, h: Hint)
     }
 }
 
-#[tactic(auto, unfolding(crate::specs::CoreOf::core_of, crate::specs::CoreOf::coreBy, crate::specs::CoreOf::coreOn))]
+#[tactic(auto, unfolding(crate::specs::CoreOf::core_of, crate::specs::CoreOf::core_by, crate::specs::CoreOf::core_on))]
 pub fn fetch_at(state: &State) -> FetchHint
     ensures { result ≡ (core_of state.now).tlb.cache.fetch }
 {
@@ -52,7 +52,7 @@ pub fn fetch_at(state: &State) -> FetchHint
 
 pub fn put_fetch(state: &mut State, f: FetchHint)
     ensures { NowHolds state.old state.new
-        (withFetchHint (core_of state.old) f) }
+        (with_fetch_hint (core_of state.old) f) }
 {
     whole(state);
     let some = bits::flag_word(f.some);
@@ -101,7 +101,7 @@ fn attributes_of(e: Entry) -> u64
 }
 
 pub fn put_entry(state: &mut State, j: usize, e: Entry)
-    ensures { NowHolds state.old state.new (withEntry (core_of state.old) j e) }
+    ensures { NowHolds state.old state.new (with_entry (core_of state.old) j e) }
 {
     whole(state);
     if j < 1024 {

@@ -1,10 +1,10 @@
 // Hints emptied, entries cleared or dropped: each place by itself.
 ghost use Rattle.std.specs.Prelude.{map};
-ghost use Rattle.tlb.specs.Entry.{pageDropped, asidDropped};
-ghost use Rattle.tlb.specs.Cache.{blanks, noHints};
+ghost use Rattle.tlb.specs.Entry.{page_dropped, asid_dropped};
+ghost use Rattle.tlb.specs.Cache.{blanks, no_hints};
 ghost use Rattle.words.specs.CoreOf.{core_of};
-ghost use Rattle.words.specs.Parts.{withEntries, withoutHints};
-ghost use Rattle.words.specs.Sweeps.{withDataHints};
+ghost use Rattle.words.specs.Parts.{with_entries, without_hints};
+ghost use Rattle.words.specs.Sweeps.{with_data_hints};
 ghost use Rattle.words.specs.NowHolds.{NowHolds};
 
 use crate::cells;
@@ -13,7 +13,7 @@ use tlb::entry::Entry;
 use tlb::hint::{FetchHint, Hint};
 
 fn no_data_hints(state: &mut State)
-    ensures { NowHolds state.old state.new (withDataHints (core_of state.old) noHints) }
+    ensures { NowHolds state.old state.new (with_data_hints (core_of state.old) no_hints) }
 {
     let mut i: usize = 0;
     while i < 512 {
@@ -25,7 +25,7 @@ fn no_data_hints(state: &mut State)
 
 // Every hint out.
 pub fn no_hints(state: &mut State)
-    ensures { NowHolds state.old state.new (withoutHints (core_of state.old)) }
+    ensures { NowHolds state.old state.new (without_hints (core_of state.old)) }
 {
     no_data_hints(state);
     let f = FetchHint::none();
@@ -35,7 +35,7 @@ pub fn no_hints(state: &mut State)
 // Every entry out.
 pub fn no_entries(state: &mut State)
     ensures { NowHolds state.old state.new
-        (withEntries (core_of state.old) blanks) }
+        (with_entries (core_of state.old) blanks) }
 {
     let mut j: usize = 0;
     while j < 1024 {
@@ -47,8 +47,8 @@ pub fn no_entries(state: &mut State)
 
 // Each entry that a Page names loses its tag.
 pub fn drop_pages(state: &mut State, generation: u32, page: u64)
-    ensures { NowHolds state.old state.new (withEntries (core_of state.old) (map
-        (pageDropped generation page) (core_of state.old).tlb.cache.entries)) }
+    ensures { NowHolds state.old state.new (with_entries (core_of state.old) (map
+        (page_dropped generation page) (core_of state.old).tlb.cache.entries)) }
 {
     let mut j: usize = 0;
     while j < 1024 {
@@ -61,8 +61,8 @@ pub fn drop_pages(state: &mut State, generation: u32, page: u64)
 
 // Each entry that an Asid names loses its tag.
 pub fn drop_asids(state: &mut State, asid: u16)
-    ensures { NowHolds state.old state.new (withEntries (core_of state.old) (map
-        (asidDropped asid) (core_of state.old).tlb.cache.entries)) }
+    ensures { NowHolds state.old state.new (with_entries (core_of state.old) (map
+        (asid_dropped asid) (core_of state.old).tlb.cache.entries)) }
 {
     let mut j: usize = 0;
     while j < 1024 {

@@ -1,8 +1,8 @@
 // The counters, the generation and the ASID in force, and what is pending.
 ghost use Rattle.std.specs.Prelude.{◌≡◌, Some};
-ghost use Rattle.tlb.specs.Count.{hitCounted, walkCounted, epochCounted, flushCounted, dropCounted};
+ghost use Rattle.tlb.specs.Count.{hit_counted, walk_counted, epoch_counted, flush_counted, drop_counted};
 ghost use Rattle.words.specs.CoreOf.{core_of};
-ghost use Rattle.words.specs.Parts.{withCounts, withCurrent, withPending};
+ghost use Rattle.words.specs.Parts.{with_counts, with_current, with_pending};
 ghost use Rattle.words.specs.NowHolds.{NowHolds};
 
 use crate::place;
@@ -13,8 +13,8 @@ use tlb::{Inval, count};
 
 // A hit, a walk at a level.
 pub fn count_hit(state: &mut State, level: u8)
-    ensures { NowHolds state.old state.new (withCounts (core_of state.old)
-        (hitCounted level (core_of state.old).tlb.counts)) }
+    ensures { NowHolds state.old state.new (with_counts (core_of state.old)
+        (hit_counted level (core_of state.old).tlb.counts)) }
 {
     whole(state);
     let l = count::level_place(level);
@@ -23,8 +23,8 @@ pub fn count_hit(state: &mut State, level: u8)
 }
 
 pub fn count_walk(state: &mut State, level: u8)
-    ensures { NowHolds state.old state.new (withCounts (core_of state.old)
-        (walkCounted level (core_of state.old).tlb.counts)) }
+    ensures { NowHolds state.old state.new (with_counts (core_of state.old)
+        (walk_counted level (core_of state.old).tlb.counts)) }
 {
     whole(state);
     let l = count::level_place(level);
@@ -33,8 +33,8 @@ pub fn count_walk(state: &mut State, level: u8)
 }
 
 pub fn count_epoch(state: &mut State)
-    ensures { NowHolds state.old state.new (withCounts (core_of state.old)
-        (epochCounted (core_of state.old).tlb.counts)) }
+    ensures { NowHolds state.old state.new (with_counts (core_of state.old)
+        (epoch_counted (core_of state.old).tlb.counts)) }
 {
     whole(state);
     let n = state[place::EPOCH].wrapping_add(1);
@@ -42,8 +42,8 @@ pub fn count_epoch(state: &mut State)
 }
 
 pub fn count_flush(state: &mut State)
-    ensures { NowHolds state.old state.new (withCounts (core_of state.old)
-        (flushCounted (core_of state.old).tlb.counts)) }
+    ensures { NowHolds state.old state.new (with_counts (core_of state.old)
+        (flush_counted (core_of state.old).tlb.counts)) }
 {
     whole(state);
     let n = state[place::FLUSHES].wrapping_add(1);
@@ -53,8 +53,8 @@ pub fn count_flush(state: &mut State)
 }
 
 pub fn count_drop(state: &mut State)
-    ensures { NowHolds state.old state.new (withCounts (core_of state.old)
-        (dropCounted (core_of state.old).tlb.counts)) }
+    ensures { NowHolds state.old state.new (with_counts (core_of state.old)
+        (drop_counted (core_of state.old).tlb.counts)) }
 {
     whole(state);
     let n = state[place::DROPS].wrapping_add(1);
@@ -63,7 +63,7 @@ pub fn count_drop(state: &mut State)
     state[place::EPOCH] = epoch;
 }
 
-#[tactic(auto, unfolding(crate::specs::CoreOf::core_of, crate::specs::CoreOf::coreBy, crate::specs::CoreOf::coreOn))]
+#[tactic(auto, unfolding(crate::specs::CoreOf::core_of, crate::specs::CoreOf::core_by, crate::specs::CoreOf::core_on))]
 pub fn current_at(state: &State) -> Current
     ensures { result ≡ (core_of state.now).tlb.cache.current }
 {
@@ -74,7 +74,7 @@ pub fn current_at(state: &State) -> Current
 }
 
 pub fn put_generation(state: &mut State, generation: u32)
-    ensures { NowHolds state.old state.new (withCurrent (core_of state.old)
+    ensures { NowHolds state.old state.new (with_current (core_of state.old)
         (record { generation = generation; asid = (core_of state.old).tlb.cache.current.asid })) }
 {
     whole(state);
@@ -82,14 +82,14 @@ pub fn put_generation(state: &mut State, generation: u32)
 }
 
 pub fn put_asid(state: &mut State, asid: u16)
-    ensures { NowHolds state.old state.new (withCurrent (core_of state.old)
+    ensures { NowHolds state.old state.new (with_current (core_of state.old)
         (record { generation = (core_of state.old).tlb.cache.current.generation; asid = asid })) }
 {
     whole(state);
     state[place::ASID] = asid as u64;
 }
 
-#[tactic(auto, unfolding(crate::specs::CoreOf::core_of, crate::specs::CoreOf::coreBy, crate::specs::CoreOf::coreOn))]
+#[tactic(auto, unfolding(crate::specs::CoreOf::core_of, crate::specs::CoreOf::core_by, crate::specs::CoreOf::core_on))]
 pub fn pending_at(state: &State) -> Option<Inval>
     ensures { result ≡ (core_of state.now).tlb.broadcast }
 {
@@ -103,7 +103,7 @@ pub fn pending_at(state: &State) -> Option<Inval>
 }
 
 fn put_inval(state: &mut State, what: Inval)
-    ensures { NowHolds state.old state.new (withPending (core_of state.old)
+    ensures { NowHolds state.old state.new (with_pending (core_of state.old)
         (Some what)) }
 {
     whole(state);
@@ -124,7 +124,7 @@ fn put_inval(state: &mut State, what: Inval)
 }
 
 pub fn put_pending(state: &mut State, pending: Option<Inval>)
-    ensures { NowHolds state.old state.new (withPending (core_of state.old) pending) }
+    ensures { NowHolds state.old state.new (with_pending (core_of state.old) pending) }
 {
     whole(state);
     match pending {

@@ -1,16 +1,16 @@
 // The words of a core after reset.
 ghost use Rattle.std.specs.Prelude.{◌≡◌};
-ghost use Rattle.mmu.specs.Core.{freshCore};
+ghost use Rattle.mmu.specs.Core.{fresh_core};
 ghost use Rattle.words.specs.CoreOf.{core_of};
-ghost use Rattle.words.specs.Fresh.{zeroWords, zeroCore, registered};
+ghost use Rattle.words.specs.Fresh.{zero_words, zero_core, registered};
 
 use crate::place::{State, WORDS};
 use crate::{clear, counts, regs, state};
 use sysreg::regs::{ControlReg, El, SysReg};
 
-#[tactic(auto, unfolding(crate::specs::Fresh::zeroWords))]
+#[tactic(auto, unfolding(crate::specs::Fresh::zero_words))]
 fn zeros() -> State
-    ensures { result ≡ zeroWords }
+    ensures { result ≡ zero_words }
 {
     [0; WORDS]
 }
@@ -18,7 +18,7 @@ fn zeros() -> State
 // All zero: no register, no hint, no entry.
 #[tactic(auto, using(crate::proofs::Resets::zeroed))]
 fn clear_all(state: &mut State)
-    ensures { core_of state.new ≡ zeroCore }
+    ensures { core_of state.new ≡ zero_core }
 {
     let z = zeros();
     *state = z;
@@ -37,7 +37,7 @@ fn put_registers(state: &mut State)
 
 // Every word written: the core after reset.
 pub fn fresh(state: &mut State)
-    ensures { core_of state.new ≡ freshCore }
+    ensures { core_of state.new ≡ fresh_core }
 {
     clear_all(state);
     put_registers(state);

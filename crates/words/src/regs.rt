@@ -1,14 +1,14 @@
 // The system registers.
 ghost use Rattle.std.specs.Prelude.{◌≡◌, ◌<◌, ◌≤◌};
-ghost use Rattle.sysreg.specs.Regs.{controlAt, sysAt};
-ghost use Rattle.sysreg.specs.Write.{controlWith, sysWith};
+ghost use Rattle.sysreg.specs.Regs.{control_at, sys_at};
+ghost use Rattle.sysreg.specs.Write.{control_with, sys_with};
 ghost use Rattle.sysreg.specs.declared.regs.SysReg.TheVariants.{Mair, Vbar};
-ghost use Rattle.exception.specs.Entry.{enteredSys};
-ghost use Rattle.walk.specs.Regime.{levelOf, bankOf};
+ghost use Rattle.exception.specs.Entry.{entered_sys};
+ghost use Rattle.walk.specs.Regime.{level_of, bank_of};
 ghost use Rattle.words.specs.CoreOf.{core_of};
-ghost use Rattle.words.specs.Parts.{withControl, withSys};
+ghost use Rattle.words.specs.Parts.{with_control, with_sys};
 ghost use Rattle.words.specs.NowHolds.{NowHolds};
-ghost use Rattle.words.specs.RegWrites.{bankIndex, levelIndex, controlPlace, sysPlace};
+ghost use Rattle.words.specs.RegWrites.{bank_index, level_index, control_place, sys_place};
 
 use crate::place;
 use crate::place::State;
@@ -18,7 +18,7 @@ use sysreg::regs::{Control, ControlReg, El, SysReg};
 use walk::regime::{Bank, Regime};
 
 fn bank_index(regime: Regime) -> usize
-    ensures value { result ≡ bankIndex regime }
+    ensures value { result ≡ bank_index regime }
     ensures upper_bound { result ≤ 2 }
 {
     match regime {
@@ -31,7 +31,7 @@ fn bank_index(regime: Regime) -> usize
 // The registers that translation in a regime reads.
 #[tactic(auto, using(crate::proofs::Reading::bank_read))]
 pub fn bank_at(state: &State, regime: Regime) -> Bank
-    ensures { result ≡ bankOf (core_of state.now).control regime }
+    ensures { result ≡ bank_of (core_of state.now).control regime }
 {
     let b = bank_index(regime);
     Bank {
@@ -46,20 +46,20 @@ pub fn bank_at(state: &State, regime: Regime) -> Bank
 
 #[tactic(auto, using(crate::proofs::Reading::mair_read))]
 pub fn mair_at(state: &State, regime: Regime) -> u64
-    ensures { result ≡ sysAt (core_of state.now).sys (Mair (levelOf regime)) }
+    ensures { result ≡ sys_at (core_of state.now).sys (Mair (level_of regime)) }
 {
     let b = bank_index(regime);
     state[place::MAIR + b]
 }
 
-#[tactic(auto, unfolding(crate::specs::CoreOf::core_of, crate::specs::CoreOf::coreBy, crate::specs::CoreOf::coreOn))]
+#[tactic(auto, unfolding(crate::specs::CoreOf::core_of, crate::specs::CoreOf::core_by, crate::specs::CoreOf::core_on))]
 pub fn scr_at(state: &State) -> u64
     ensures { result ≡ (core_of state.now).control.scr_el3 }
 {
     state[place::SCR_EL3]
 }
 
-#[tactic(auto, unfolding(crate::specs::CoreOf::core_of, crate::specs::CoreOf::coreBy, crate::specs::CoreOf::coreOn))]
+#[tactic(auto, unfolding(crate::specs::CoreOf::core_of, crate::specs::CoreOf::core_by, crate::specs::CoreOf::core_on))]
 pub fn hcr_at(state: &State) -> u64
     ensures { result ≡ (core_of state.now).control.hcr_el2 }
 {
@@ -68,13 +68,13 @@ pub fn hcr_at(state: &State) -> u64
 
 #[tactic(auto, using(crate::proofs::Reading::vbar_read))]
 pub fn vbar_at(state: &State, el: El) -> u64
-    ensures { result ≡ sysAt (core_of state.now).sys (Vbar el) }
+    ensures { result ≡ sys_at (core_of state.now).sys (Vbar el) }
 {
     let i = level_index(el);
     state[place::VBAR + i]
 }
 
-#[tactic(auto, unfolding(crate::specs::CoreOf::core_of, crate::specs::CoreOf::coreBy, crate::specs::CoreOf::coreOn))]
+#[tactic(auto, unfolding(crate::specs::CoreOf::core_of, crate::specs::CoreOf::core_by, crate::specs::CoreOf::core_on))]
 pub fn control_at(state: &State) -> Control
     ensures { result ≡ (core_of state.now).control }
 {
@@ -105,7 +105,7 @@ pub fn control_at(state: &State) -> Control
 
 // A level's place among its registers.
 fn level_index(el: El) -> usize
-    ensures value { result ≡ levelIndex el }
+    ensures value { result ≡ level_index el }
     ensures upper_bound { result ≤ 2 }
 {
     match el {
@@ -117,7 +117,7 @@ fn level_index(el: El) -> usize
 
 // Where a register stands.
 fn control_place(register: ControlReg) -> usize
-    ensures value { result ≡ controlPlace register }
+    ensures value { result ≡ control_place register }
     ensures upper_bound { result < 37 }
 {
     match register {
@@ -131,7 +131,7 @@ fn control_place(register: ControlReg) -> usize
 }
 
 fn sys_place(register: SysReg) -> usize
-    ensures value { result ≡ sysPlace register }
+    ensures value { result ≡ sys_place register }
     ensures upper_bound { result < 37 }
 {
     match register {
@@ -149,15 +149,15 @@ fn sys_place(register: SysReg) -> usize
 
 #[tactic(auto, using(crate::proofs::Reading::control_read))]
 pub fn control_reg(state: &State, register: ControlReg) -> u64
-    ensures { result ≡ controlAt (core_of state.now).control register }
+    ensures { result ≡ control_at (core_of state.now).control register }
 {
     let k = control_place(register);
     state[k]
 }
 
 pub fn put_control(state: &mut State, register: ControlReg, value: u64)
-    ensures { NowHolds state.old state.new (withControl (core_of state.old)
-        (controlWith (core_of state.old).control register value)) }
+    ensures { NowHolds state.old state.new (with_control (core_of state.old)
+        (control_with (core_of state.old).control register value)) }
 {
     whole(state);
     let k = control_place(register);
@@ -165,7 +165,7 @@ pub fn put_control(state: &mut State, register: ControlReg, value: u64)
 }
 
 pub fn put_sys(state: &mut State, register: SysReg, value: u64)
-    ensures { NowHolds state.old state.new (withSys (core_of state.old) (sysWith
+    ensures { NowHolds state.old state.new (with_sys (core_of state.old) (sys_with
         (core_of state.old).sys register value)) }
 {
     whole(state);
@@ -177,7 +177,7 @@ pub fn put_sys(state: &mut State, register: SysReg, value: u64)
 // ELR, SPSR and ESR of an exception's target, and FAR where it has an address.
 pub fn put_saved(state: &mut State, target: El, report: Report, spsr: u64, ret: u64)
     ensures { NowHolds state.old state.new
-        (withSys (core_of state.old) (enteredSys
+        (with_sys (core_of state.old) (entered_sys
         (core_of state.old).sys target report spsr ret)) }
 {
     whole(state);

@@ -1,9 +1,9 @@
 // The level and the mark, PSTATE, the PC, the general registers, and the physical addresses kept.
 ghost use Rattle.std.specs.Prelude.{◌≡◌, length, nat_lt};
-ghost use Rattle.exception.specs.Entry.{entryFlags};
-ghost use Rattle.mmu.specs.Core.{reg_of, setReg};
-ghost use Rattle.words.specs.CoreOf.{levelIn, core_of};
-ghost use Rattle.words.specs.Parts.{with_last, withAbort, withPrivilege, with_flags, withPc};
+ghost use Rattle.exception.specs.Entry.{entry_flags};
+ghost use Rattle.mmu.specs.Core.{reg_of, set_reg};
+ghost use Rattle.words.specs.CoreOf.{level_in, core_of};
+ghost use Rattle.words.specs.Parts.{with_last, with_abort, with_privilege, with_flags, with_pc};
 ghost use Rattle.words.specs.NowHolds.{NowHolds};
 
 use crate::place;
@@ -21,12 +21,12 @@ pub fn whole(state: &State)
 
 // A level that no byte holds reads as 255, which check 1 refuses like every level above 3.
 fn level_of(word: u64) -> u8
-    ensures { result ≡ levelIn word }
+    ensures { result ≡ level_in word }
 {
     if word < 256 { word as u8 } else { 255 }
 }
 
-#[tactic(auto, unfolding(crate::specs::CoreOf::core_of, crate::specs::CoreOf::coreBy, crate::specs::CoreOf::coreOn))]
+#[tactic(auto, unfolding(crate::specs::CoreOf::core_of, crate::specs::CoreOf::core_by, crate::specs::CoreOf::core_on))]
 pub fn privilege_at(state: &State) -> Privilege
     ensures { result ≡ (core_of state.now).privilege }
 {
@@ -46,7 +46,7 @@ pub fn level_known(state: &State) -> bool
 }
 
 pub fn put_level(state: &mut State, level: u8)
-    ensures { NowHolds state.old state.new (withPrivilege (core_of state.old)
+    ensures { NowHolds state.old state.new (with_privilege (core_of state.old)
         (record { level = level; unprivileged = (core_of state.old).privilege.unprivileged })) }
 {
     whole(state);
@@ -54,7 +54,7 @@ pub fn put_level(state: &mut State, level: u8)
 }
 
 pub fn put_mark(state: &mut State, mark: bool)
-    ensures { NowHolds state.old state.new (withPrivilege (core_of state.old)
+    ensures { NowHolds state.old state.new (with_privilege (core_of state.old)
         (record { level = (core_of state.old).privilege.level; unprivileged = mark })) }
 {
     whole(state);
@@ -62,7 +62,7 @@ pub fn put_mark(state: &mut State, mark: bool)
     state[place::UNPRIVILEGED] = word;
 }
 
-#[tactic(auto, unfolding(crate::specs::CoreOf::core_of, crate::specs::CoreOf::coreBy, crate::specs::CoreOf::coreOn))]
+#[tactic(auto, unfolding(crate::specs::CoreOf::core_of, crate::specs::CoreOf::core_by, crate::specs::CoreOf::core_on))]
 pub fn flags_at(state: &State) -> Flags
     ensures { result ≡ (core_of state.now).flags }
 {
@@ -76,14 +76,14 @@ pub fn flags_at(state: &State) -> Flags
 // An exception masks the interrupts and takes SP_ELx.
 pub fn put_masked(state: &mut State)
     ensures { NowHolds state.old state.new (with_flags (core_of state.old)
-        (entryFlags (core_of state.old).flags)) }
+        (entry_flags (core_of state.old).flags)) }
 {
     whole(state);
     state[place::DAIF] = DAIF_ALL as u64;
     state[place::SPSEL] = 1;
 }
 
-#[tactic(auto, unfolding(crate::specs::CoreOf::core_of, crate::specs::CoreOf::coreBy, crate::specs::CoreOf::coreOn))]
+#[tactic(auto, unfolding(crate::specs::CoreOf::core_of, crate::specs::CoreOf::core_by, crate::specs::CoreOf::core_on))]
 pub fn pc_at(state: &State) -> u64
     ensures { result ≡ (core_of state.now).pc }
 {
@@ -91,7 +91,7 @@ pub fn pc_at(state: &State) -> u64
 }
 
 pub fn put_pc(state: &mut State, pc: u64)
-    ensures { NowHolds state.old state.new (withPc (core_of state.old) pc) }
+    ensures { NowHolds state.old state.new (with_pc (core_of state.old) pc) }
 {
     whole(state);
     state[place::PC] = pc;
@@ -113,7 +113,7 @@ pub fn general_at(state: &State, n: u64) -> u64
 // Register 31 drops what is written.
 pub fn put_general(state: &mut State, n: u64, value: u64)
     ensures { NowHolds state.old state.new
-        (setReg (core_of state.old) n value) }
+        (set_reg (core_of state.old) n value) }
 {
     whole(state);
     if n < 31 {
@@ -122,7 +122,7 @@ pub fn put_general(state: &mut State, n: u64, value: u64)
     }
 }
 
-#[tactic(auto, unfolding(crate::specs::CoreOf::core_of, crate::specs::CoreOf::coreBy, crate::specs::CoreOf::coreOn))]
+#[tactic(auto, unfolding(crate::specs::CoreOf::core_of, crate::specs::CoreOf::core_by, crate::specs::CoreOf::core_on))]
 pub fn last_at(state: &State) -> u64
     ensures { result ≡ (core_of state.now).last_pa }
 {
@@ -136,7 +136,7 @@ pub fn put_last(state: &mut State, pa: u64)
     state[place::LAST_PA] = pa;
 }
 
-#[tactic(auto, unfolding(crate::specs::CoreOf::core_of, crate::specs::CoreOf::coreBy, crate::specs::CoreOf::coreOn))]
+#[tactic(auto, unfolding(crate::specs::CoreOf::core_of, crate::specs::CoreOf::core_by, crate::specs::CoreOf::core_on))]
 pub fn abort_at(state: &State) -> u64
     ensures { result ≡ (core_of state.now).abort_pa }
 {
@@ -144,7 +144,7 @@ pub fn abort_at(state: &State) -> u64
 }
 
 pub fn put_abort(state: &mut State, pa: u64)
-    ensures { NowHolds state.old state.new (withAbort (core_of state.old) pa) }
+    ensures { NowHolds state.old state.new (with_abort (core_of state.old) pa) }
 {
     whole(state);
     state[place::ABORT_PA] = pa;

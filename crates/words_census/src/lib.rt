@@ -1,20 +1,20 @@
 #![tactic(auto)]
 // The page census on lent words, through a shared reference to the state: no word of it can be written.
 ghost use Rattle.std.specs.Prelude.{◌≡◌};
-ghost use Rattle.operations.specs.Check.{missedOf};
+ghost use Rattle.operations.specs.Check.{missed_of};
 ghost use Rattle.operations.specs.declared.call.Call.TheVariants as Call;
 ghost use Rattle.words.specs.CoreOf.{core_of};
 ghost use Rattle.words_census.specs.Promise.{CensusPromise};
 
 use census::count;
 use operations::check;
+use walk::regime::Regime;
 use words::place::State;
 use words::{regs, state};
-use walk::regime::Regime;
 
 // The number of the first check that a census misses, or 0.
 pub fn missed(state: &State, base: u64, len: u64, first: u64, pages: u64) -> u8
-    ensures { result ≡ missedOf (core_of state.now).privilege.level base len (Call.Census first pages) }
+    ensures { result ≡ missed_of (core_of state.now).privilege.level base len (Call.Census first pages) }
 {
     let privilege = state::privilege_at(state);
     check::census(privilege.level, base, len, first, pages)

@@ -1,19 +1,19 @@
 -- The addresses that an access keeps.
 use Rattle.std.specs.Prelude.{List, ℕ}
-use Rattle.operations.specs.Ends.{loadEnd, storeEnd}
+use Rattle.operations.specs.Ends.{load_end, store_end}
 use Rattle.mmu.specs.declared.core_state.Core.{Core}
 use Rattle.operations.specs.declared.{place.Placed.Placed, ends.LoadEnd.LoadEnd, ends.StoreEnd.StoreEnd}
-use Rattle.words.specs.Parts.{with_last, withAbort}
+use Rattle.words.specs.Parts.{with_last, with_abort}
 
 -- the ends with the addresses that the core keeps
-abbrev pub loadEndOf : Core → Placed → ℕ → List ℕ → ℕ → ℕ → LoadEnd
-loadEndOf c placed base ram va n = loadEnd placed c.last_pa c.abort_pa base ram va n
+abbrev pub load_end_of : Core → Placed → ℕ → List ℕ → ℕ → ℕ → LoadEnd
+load_end_of c placed base ram va n = load_end placed c.last_pa c.abort_pa base ram va n
 
-abbrev pub storeEndOf : Core → Placed → ℕ → List ℕ → ℕ → ℕ → StoreEnd
-storeEndOf c placed base ram va n = storeEnd placed c.abort_pa base ram va n
+abbrev pub store_end_of : Core → Placed → ℕ → List ℕ → ℕ → ℕ → StoreEnd
+store_end_of c placed base ram va n = store_end placed c.abort_pa base ram va n
 
-unfoldable pub keptAbort : Core → ℕ → Core
-keptAbort c pa = withAbort c pa
+unfoldable pub kept_abort : Core → ℕ → Core
+kept_abort c pa = with_abort c pa
 
-unfoldable pub keptLast : Core → LoadEnd → Core
-keptLast c e = withAbort (with_last c e.last_pa) e.abort_pa
+unfoldable pub kept_last : Core → LoadEnd → Core
+kept_last c e = with_abort (with_last c e.last_pa) e.abort_pa

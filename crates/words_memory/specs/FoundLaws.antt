@@ -8,23 +8,23 @@ use mathlib.Core.List.{List}
 use Rattle.std.proofs.Math.Dec.{eqb}
 use Rattle.std.proofs.lemmas.List.{set-get_or}
 use Rattle.std.proofs.Math.Seq.{take-length}
-use Rattle.walk.specs.Regime.{regimeOf}
-use Rattle.tlb.specs.Access.{mayHint}
+use Rattle.walk.specs.Regime.{regime_of}
+use Rattle.tlb.specs.Access.{may_hint}
 use Rattle.tlb.specs.Entry.{blank}
-use Rattle.tlb.specs.Hint.{noHint, dataSlot, hintKey, onPage}
-use Rattle.tlb.specs.Cache.{entry_at, hintAt, setEntry, setHint}
-use Rattle.tlb.specs.Tlb.{tlbWith}
-use Rattle.tlb.specs.Resolve.{countedBy, keptBy, hintAfter}
-use Rattle.tlb.specs.Translate.{onNow, untaggedNow, walkNow, missWith, missOf, applied, translationWith}
+use Rattle.tlb.specs.Hint.{no_hint, data_slot, hint_key, on_page}
+use Rattle.tlb.specs.Cache.{entry_at, hint_at, set_entry, set_hint}
+use Rattle.tlb.specs.Tlb.{tlb_with}
+use Rattle.tlb.specs.Resolve.{counted_by, kept_by, hint_after}
+use Rattle.tlb.specs.Translate.{on_now, untagged_now, walk_now, miss_with, miss_of, applied, translation_with}
 use Rattle.tlb.specs.declared.{access.Kind.Kind, access.Answer.Answer, count.Counts.Counts, entry.Entry.Entry}
 use Rattle.tlb.specs.declared.{hint.Hint.Hint, resolve.Resolved.Resolved}
 use Rattle.tlb.specs.declared.access.Answer.TheVariants.{Address, Status}
-use Rattle.mmu.specs.Core.{afterAccess, bankNow}
-use Rattle.mmu.specs.Ops.{withTlb, steppedNow, translateOf}
-use Rattle.mmu.specs.Step.{slot_at, translateIn}
+use Rattle.mmu.specs.Core.{after_access, bank_now}
+use Rattle.mmu.specs.Ops.{with_tlb, stepped_now, translate_of}
+use Rattle.mmu.specs.Step.{slot_at, translate_in}
 use Rattle.mmu.specs.declared.core_state.Core.{Core}
-use Rattle.words.specs.Parts.{withCache, withCounts, withEntry, withHint}
-use Rattle.words_memory.specs.Found.{answering, hintFound, withHintFor, answerPut, sourced, foundTo}
+use Rattle.words.specs.Parts.{with_cache, with_counts, with_entry, with_hint}
+use Rattle.words_memory.specs.Found.{answering, hint_found, with_hint_for, answer_put, sourced, found_to}
 
 -- a test that chose
 chose_at : (b : Bool) (x pa : ℕ) → (if b then Some x else None) ≡ Some pa → (b ≡ true) × (x ≡ pa)
@@ -59,73 +59,73 @@ chose_none false x e = refl
 module _ (c : Core) where
   -- cells put back
   abbrev back : ℕ → ℕ → Entry → Hint → Counts → Core
-  back slot place e h k = withTlb c (tlbWith c.tlb (setHint (setEntry c.tlb.cache slot e) place h) k)
+  back slot place e h k = with_tlb c (tlb_with c.tlb (set_hint (set_entry c.tlb.cache slot e) place h) k)
 
   abbrev celled : List Hint → List Entry → Counts → Core
-  celled hs es k = withTlb c (tlbWith c.tlb (record c.tlb.cache { hints = hs; entries = es }) k)
+  celled hs es k = with_tlb c (tlb_with c.tlb (record c.tlb.cache { hints = hs; entries = es }) k)
 
-  pub entry-back : (slot : ℕ) (k : Counts) → withEntry (withCounts c k) slot (entry_at c.tlb.cache slot) ≡ withCounts c k
-  unfolding withEntry withCounts withCache afterAccess
+  pub entry-back : (slot : ℕ) (k : Counts) → with_entry (with_counts c k) slot (entry_at c.tlb.cache slot) ≡ with_counts c k
+  unfolding with_entry with_counts with_cache after_access
   entry-back slot k = ap (λ (es : List Entry). celled c.tlb.cache.hints es k) (set-get_or c.tlb.cache.entries slot blank)
 
-  counts-back : withCounts c c.tlb.counts ≡ c
-  unfolding withCounts afterAccess
+  counts-back : with_counts c c.tlb.counts ≡ c
+  unfolding with_counts after_access
   counts-back = refl
 
-  pub unchanged : (slot : ℕ) → withEntry (withCounts c c.tlb.counts) slot (entry_at c.tlb.cache slot) ≡ c
+  pub unchanged : (slot : ℕ) → with_entry (with_counts c c.tlb.counts) slot (entry_at c.tlb.cache slot) ≡ c
   unchanged slot = entry-back slot c.tlb.counts ∙ counts-back
 
-  hint-back : (slot place : ℕ) (e : Entry) (k : Counts) → back slot place e (hintAt c.tlb.cache place) k ≡ withEntry (withCounts c k) slot e
-  unfolding withEntry withCounts withCache afterAccess
+  hint-back : (slot place : ℕ) (e : Entry) (k : Counts) → back slot place e (hint_at c.tlb.cache place) k ≡ with_entry (with_counts c k) slot e
+  unfolding with_entry with_counts with_cache after_access
   hint-back slot place e k =
-      ap (λ (hs : List Hint). celled hs (setEntry c.tlb.cache slot e).entries k) (set-get_or c.tlb.cache.hints place noHint)
+      ap (λ (hs : List Hint). celled hs (set_entry c.tlb.cache slot e).entries k) (set-get_or c.tlb.cache.hints place no_hint)
 
   module _ (va : ℕ) (kind : Kind) (slot : ℕ) (e : Entry) (k : Counts) where
-    put-answer-with : (b : Bool) → mayHint c.privilege kind ≡ b → (a : Answer)
-        → back slot (dataSlot va kind) e (hintAfter (mayHint c.privilege kind) c.privilege.level va a (hintAt c.tlb.cache (dataSlot va kind))) k
-        ≡ answerPut (withEntry (withCounts c k) slot e) c.privilege kind va a
-    unfolding withHintFor withHint withEntry withCounts withCache afterAccess
+    put-answer-with : (b : Bool) → may_hint c.privilege kind ≡ b → (a : Answer)
+        → back slot (data_slot va kind) e (hint_after (may_hint c.privilege kind) c.privilege.level va a (hint_at c.tlb.cache (data_slot va kind))) k
+        ≡ answer_put (with_entry (with_counts c k) slot e) c.privilege kind va a
+    unfolding with_hint_for with_hint with_entry with_counts with_cache after_access
     put-answer-with true q (Address pa) = rw q
-    put-answer-with true q (Status f) = rw q (hint-back slot (dataSlot va kind) e k)
-    put-answer-with false q (Address pa) = rw q (hint-back slot (dataSlot va kind) e k)
-    put-answer-with false q (Status f) = rw q (hint-back slot (dataSlot va kind) e k)
+    put-answer-with true q (Status f) = rw q (hint-back slot (data_slot va kind) e k)
+    put-answer-with false q (Address pa) = rw q (hint-back slot (data_slot va kind) e k)
+    put-answer-with false q (Status f) = rw q (hint-back slot (data_slot va kind) e k)
 
     put-answer-back : (a : Answer)
-        → back slot (dataSlot va kind) e (hintAfter (mayHint c.privilege kind) c.privilege.level va a (hintAt c.tlb.cache (dataSlot va kind))) k
-        ≡ answerPut (withEntry (withCounts c k) slot e) c.privilege kind va a
-    put-answer-back a = put-answer-with (mayHint c.privilege kind) refl a
+        → back slot (data_slot va kind) e (hint_after (may_hint c.privilege kind) c.privilege.level va a (hint_at c.tlb.cache (data_slot va kind))) k
+        ≡ answer_put (with_entry (with_counts c k) slot e) c.privilege kind va a
+    put-answer-back a = put-answer-with (may_hint c.privilege kind) refl a
 
 module _ (c : Core) (memory : ℕ → Option ℕ) (va : ℕ) (kind : Kind) where
   abbrev level : ℕ
   level = c.privilege.level
 
   abbrev slot : ℕ
-  slot = slot_at (bankNow c) level va
+  slot = slot_at (bank_now c) level va
 
   abbrev hint : Hint
-  hint = hintAt c.tlb.cache (dataSlot va kind)
+  hint = hint_at c.tlb.cache (data_slot va kind)
 
   -- an access that its hint serves changes nothing
-  pub hint-serves : (pa : ℕ) → hintFound c va kind ≡ Some pa → translateOf c memory va kind ≡ answering c (Address pa)
-  unfolding hintFound translateOf steppedNow translateIn translationWith
+  pub hint-serves : (pa : ℕ) → hint_found c va kind ≡ Some pa → translate_of c memory va kind ≡ answering c (Address pa)
+  unfolding hint_found translate_of stepped_now translate_in translation_with
   hint-serves pa h =
-      let test : (mayHint c.privilege kind && eqb hint.key (hintKey va level) ≡ true) × (onPage hint.pa va ≡ pa) = chose_at _ _ pa h in
+      let test : (may_hint c.privilege kind && eqb hint.key (hint_key va level) ≡ true) × (on_page hint.pa va ≡ pa) = chose_at _ _ pa h in
       rw (test.0, test.1)
-      (λ i. answering ((hint-back c slot (dataSlot va kind) (entry_at c.tlb.cache slot) c.tlb.counts ∙ unchanged c slot) i) (Address pa))
+      (λ i. answering ((hint-back c slot (data_slot va kind) (entry_at c.tlb.cache slot) c.tlb.counts ∙ unchanged c slot) i) (Address pa))
 
   abbrev t : Resolved
   t =
-      missWith (onNow (bankNow c) level va) (untaggedNow (bankNow c) level va) (walkNow (bankNow c) level va memory) (regimeOf level) c.privilege
+      miss_with (on_now (bank_now c) level va) (untagged_now (bank_now c) level va) (walk_now (bank_now c) level va memory) (regime_of level) c.privilege
       c.tlb.cache.current (entry_at c.tlb.cache slot) va kind
 
   -- one that none serves: its changes stored
-  pub hint-misses : hintFound c va kind ≡ None → translateOf c memory va kind ≡ foundTo c memory va kind
-  unfolding hintFound translateOf steppedNow translateIn translationWith applied missOf foundTo sourced
+  pub hint-misses : hint_found c va kind ≡ None → translate_of c memory va kind ≡ found_to c memory va kind
+  unfolding hint_found translate_of stepped_now translate_in translation_with applied miss_of found_to sourced
   hint-misses h =
-      rw (chose_none (mayHint c.privilege kind && eqb hint.key (hintKey va level)) (onPage hint.pa va) h)
+      rw (chose_none (may_hint c.privilege kind && eqb hint.key (hint_key va level)) (on_page hint.pa va) h)
       (λ i.
       answering
-      (put-answer-back c va kind slot (keptBy t.source (entry_at c.tlb.cache slot) t.made) (countedBy t.source level c.tlb.counts)
+      (put-answer-back c va kind slot (kept_by t.source (entry_at c.tlb.cache slot) t.made) (counted_by t.source level c.tlb.counts)
       t.answer i)
       t.answer)
 

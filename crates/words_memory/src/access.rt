@@ -1,28 +1,28 @@
 // Loads and stores in place.
 ghost use Rattle.std.specs.Prelude.{◌≡◌};
-ghost use Rattle.word.specs.Ram.{word_at, bytesIn};
-ghost use Rattle.walk.specs.Regime.{regimeOf, stage1On};
-ghost use Rattle.mmu.specs.Core.{bankNow};
-ghost use Rattle.operations.specs.Ends.{storeRamEnd};
-ghost use Rattle.mmu.specs.Ops.{translateAccessOf, read_of, writeOf, ramAfterWrite};
+ghost use Rattle.word.specs.Ram.{word_at, bytes_in};
+ghost use Rattle.walk.specs.Regime.{regime_of, stage1_on};
+ghost use Rattle.mmu.specs.Core.{bank_now};
+ghost use Rattle.operations.specs.Ends.{store_ram_end};
+ghost use Rattle.mmu.specs.Ops.{translate_access_of, read_of, write_of, ram_after_write};
 ghost use Rattle.words.specs.CoreOf.{core_of};
 ghost use Rattle.words.specs.NowHolds.{NowHolds};
-ghost use Rattle.words_memory.specs.Accessed.{loadEndOf, storeEndOf, keptLast, keptAbort};
+ghost use Rattle.words_memory.specs.Accessed.{load_end_of, store_end_of, kept_last, kept_abort};
 
 use crate::pages;
 use operations::ends::{LoadAnswer, StoreAnswer};
 use operations::place::Placed;
 use operations::{ends, loads, place};
 use tlb::access::Kind;
+use walk::regime::Regime;
 use word::ram::Width;
 use words::place::State;
 use words::{regs, state};
-use walk::regime::Regime;
 
 // Whether stage 1 is on at the level.
 pub fn on_at(state: &State) -> bool
-    ensures { result ≡ stage1On (bankNow (core_of state.now))
-        (regimeOf (core_of state.now).privilege.level) }
+    ensures { result ≡ stage1_on (bank_now (core_of state.now))
+        (regime_of (core_of state.now).privilege.level) }
 {
     let privilege = state::privilege_at(state);
     let r = Regime::of_level(privilege.level);
@@ -33,10 +33,10 @@ pub fn on_at(state: &State) -> bool
 // Both pages of an access, before a byte moves: their translations first, then what they change is stored. The first
 // one's changes remain where the second faults.
 fn locate(state: &mut State, va: u64, n: u64, kind: Kind, base: u64, ram: &[u8]) -> Placed
-    ensures value { result ≡ (translateAccessOf (core_of state.old)
+    ensures value { result ≡ (translate_access_of (core_of state.old)
         (word_at base ram.now 8) va n kind).placed }
     ensures now_holds { NowHolds state.old state.new
-        (translateAccessOf (core_of state.old) (word_at base ram.now 8) va n kind).core }
+        (translate_access_of (core_of state.old) (word_at base ram.now 8) va n kind).core }
 {
     let x = pages::take_page(state, va, kind);
     let next = place::next_page(va);
@@ -59,9 +59,9 @@ fn load_placed(
     ram: &[u8],
 ) -> LoadAnswer
     ensures value { result
-        ≡ (loadEndOf (core_of state.old) placed base ram.now va (bytesIn width)).answer }
-    ensures now_holds { NowHolds state.old state.new (keptLast (core_of state.old)
-        (loadEndOf (core_of state.old) placed base ram.now va (bytesIn width))) }
+        ≡ (load_end_of (core_of state.old) placed base ram.now va (bytes_in width)).answer }
+    ensures now_holds { NowHolds state.old state.new (kept_last (core_of state.old)
+        (load_end_of (core_of state.old) placed base ram.now va (bytes_in width))) }
 {
     let last = state::last_at(state);
     let abort = state::abort_at(state);
@@ -74,9 +74,9 @@ fn load_placed(
 
 // A load.
 pub fn load(state: &mut State, va: u64, width: Width, base: u64, ram: &[u8]) -> LoadAnswer
-    ensures value { result ≡ (read_of (core_of state.old) base ram.now va (bytesIn width)).answer }
+    ensures value { result ≡ (read_of (core_of state.old) base ram.now va (bytes_in width)).answer }
     ensures now_holds { NowHolds state.old state.new
-        (read_of (core_of state.old) base ram.now va (bytesIn width)).core }
+        (read_of (core_of state.old) base ram.now va (bytes_in width)).core }
 {
     let n = width.bytes();
     let placed = locate(state, va, n, Kind::Read, base, ram);
@@ -94,10 +94,10 @@ fn store_placed(
     ram: &mut [u8],
 ) -> StoreAnswer
     ensures value { result
-        ≡ (storeEndOf (core_of state.old) placed base ram.old va (bytesIn width)).answer }
-    ensures ram_after { ram.new ≡ storeRamEnd placed base ram.old (bytesIn width) value }
-    ensures now_holds { NowHolds state.old state.new (keptAbort (core_of state.old)
-        (storeEndOf (core_of state.old) placed base ram.old va (bytesIn width)).abort_pa) }
+        ≡ (store_end_of (core_of state.old) placed base ram.old va (bytes_in width)).answer }
+    ensures ram_after { ram.new ≡ store_ram_end placed base ram.old (bytes_in width) value }
+    ensures now_holds { NowHolds state.old state.new (kept_abort (core_of state.old)
+        (store_end_of (core_of state.old) placed base ram.old va (bytes_in width)).abort_pa) }
 {
     let abort = state::abort_at(state);
     let end = ends::store_end(placed, abort, base, ram, va, width, value);
@@ -115,11 +115,11 @@ pub fn store(
     base: u64,
     ram: &mut [u8],
 ) -> StoreAnswer
-    ensures value { result ≡ (writeOf (core_of state.old) base ram.old va (bytesIn width)).answer }
+    ensures value { result ≡ (write_of (core_of state.old) base ram.old va (bytes_in width)).answer }
     ensures ram_after { ram.new
-        ≡ ramAfterWrite (core_of state.old) base ram.old va (bytesIn width) value }
+        ≡ ram_after_write (core_of state.old) base ram.old va (bytes_in width) value }
     ensures now_holds { NowHolds state.old state.new
-        (writeOf (core_of state.old) base ram.old va (bytesIn width)).core }
+        (write_of (core_of state.old) base ram.old va (bytes_in width)).core }
 {
     let n = width.bytes();
     let placed = locate(state, va, n, Kind::Write, base, ram);

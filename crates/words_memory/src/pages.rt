@@ -1,9 +1,9 @@
 // The cells of a page on words: taken out for a translation, and what it changes stored.
 ghost use Rattle.std.specs.Prelude.{◌≡◌};
-ghost use Rattle.mmu.specs.Parts.{pageIn, commitIn};
+ghost use Rattle.mmu.specs.Parts.{page_in, commit_in};
 ghost use Rattle.words.specs.CoreOf.{core_of};
 ghost use Rattle.words.specs.NowHolds.{NowHolds};
-ghost use Rattle.words_memory.specs.Changed.{effected, hintedIf};
+ghost use Rattle.words_memory.specs.Changed.{effected, hinted_if};
 
 use operations::change;
 use operations::change::{Change, Page};
@@ -15,7 +15,7 @@ use words::{cells, counts, regs, state};
 
 // What a page's translation reads.
 pub fn take_page(state: &State, va: u64, kind: Kind) -> Page
-    ensures { result ≡ pageIn (core_of state.now) va kind }
+    ensures { result ≡ page_in (core_of state.now) va kind }
 {
     let privilege = state::privilege_at(state);
     let control = regs::control_at(state);
@@ -54,7 +54,7 @@ fn put_effect(state: &mut State, level: u8, slot: usize, effect: u8, made: Entry
 // The hint of a change stored, where it has one.
 fn put_hint(state: &mut State, i: usize, some: bool, h: Hint)
     ensures { NowHolds state.old state.new
-        (hintedIf (core_of state.old) i some h) }
+        (hinted_if (core_of state.old) i some h) }
 {
     if some {
         cells::put_hint(state, i, h);
@@ -63,7 +63,7 @@ fn put_hint(state: &mut State, i: usize, some: bool, h: Hint)
 
 // What a translation changes, stored.
 pub fn commit(state: &mut State, t: Change)
-    ensures { NowHolds state.old state.new (commitIn (core_of state.old) t) }
+    ensures { NowHolds state.old state.new (commit_in (core_of state.old) t) }
 {
     let made = t.made;
     let hint = t.hint;

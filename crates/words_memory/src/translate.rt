@@ -3,25 +3,25 @@
 ghost use Rattle.std.specs.Prelude.{◌≡◌, ◌≤◌};
 ghost use Rattle.word.specs.Ram.{word_at};
 ghost use Rattle.tlb.specs.declared.access.Kind.TheVariants.{Fetch};
-ghost use Rattle.mmu.specs.Ops.{fetchSteppedNow, withTlb};
+ghost use Rattle.mmu.specs.Ops.{fetch_stepped_now, with_tlb};
 ghost use Rattle.words.specs.CoreOf.{core_of};
 ghost use Rattle.words.specs.NowHolds.{NowHolds};
-ghost use Rattle.words_memory.specs.Found.{code_of, value_of, hintFound, fetchHint, withHintFor, answerPut};
-ghost use Rattle.words_memory.specs.Found.{sourced, committed, servesNow, fromEntry, walkedAt, found_at, pagedTo};
+ghost use Rattle.words_memory.specs.Found.{code_of, value_of, hint_found, fetch_hint, with_hint_for, answer_put};
+ghost use Rattle.words_memory.specs.Found.{sourced, committed, serves_now, from_entry, walked_at, found_at, paged_to};
 
 use tlb::access::{Answer, Kind, Privilege};
 use tlb::entry::Entry;
 use tlb::hint::{FetchHint, Hint};
 use tlb::resolve::{Asked, Query, Resolved, Source};
 use tlb::{hint, resolve};
+use walk::regime::Regime;
 use words::place::State;
 use words::{cells, counts, regs, state};
-use walk::regime::Regime;
 
 // An allowed address becomes a hint, where hints may serve.
 fn keep_hint(state: &mut State, privilege: Privilege, kind: Kind, va: u64, pa: u64)
     ensures { NowHolds state.old state.new
-        (withHintFor (core_of state.old) privilege kind va pa) }
+        (with_hint_for (core_of state.old) privilege kind va pa) }
 {
     let hinted = privilege.may_hint(kind);
     if hinted {
@@ -44,7 +44,7 @@ fn put_answer(
     ensures value { result ≡ code_of answer }
     ensures pa_after { pa.new ≡ value_of answer pa.old }
     ensures now_holds { NowHolds state.old state.new
-        (answerPut (core_of state.old) privilege kind va answer) }
+        (answer_put (core_of state.old) privilege kind va answer) }
 {
     match answer {
         Answer::Address(at) => {
@@ -102,7 +102,7 @@ fn commit(
 
 // Whether the entry that a query names serves it.
 fn entry_serves(state: &State, q: Query) -> bool
-    ensures { result ≡ servesNow (core_of state.now) q }
+    ensures { result ≡ serves_now (core_of state.now) q }
 {
     let slot = tlb::entry::slot(q.tag);
     let at = counts::current_at(state);
@@ -120,11 +120,11 @@ fn from_entry(
     pa: &mut u64,
 ) -> u64
     ensures upper_bound { result ≤ 511 }
-    ensures value { result ≡ code_of (fromEntry (core_of state.old) q privilege kind va).answer }
+    ensures value { result ≡ code_of (from_entry (core_of state.old) q privilege kind va).answer }
     ensures pa_after { pa.new
-        ≡ value_of (fromEntry (core_of state.old) q privilege kind va).answer pa.old }
+        ≡ value_of (from_entry (core_of state.old) q privilege kind va).answer pa.old }
     ensures now_holds { NowHolds state.old state.new
-        (fromEntry (core_of state.old) q privilege kind va).core }
+        (from_entry (core_of state.old) q privilege kind va).core }
 {
     let slot = tlb::entry::slot(q.tag);
     let e = cells::entry_at(state, slot);
@@ -137,11 +137,11 @@ fn from_entry(
 // By a walk. It reads anew what it needs, so that a hit holds nothing for it.
 fn from_walk(state: &mut State, va: u64, kind: Kind, pa: &mut u64, base: u64, ram: &[u8]) -> u64
     ensures upper_bound { result ≤ 511 }
-    ensures value { result ≡ code_of (walkedAt state.old base ram.now va kind).answer }
+    ensures value { result ≡ code_of (walked_at state.old base ram.now va kind).answer }
     ensures pa_after { pa.new
-        ≡ value_of (walkedAt state.old base ram.now va kind).answer pa.old }
+        ≡ value_of (walked_at state.old base ram.now va kind).answer pa.old }
     ensures now_holds { NowHolds state.old state.new
-        (walkedAt state.old base ram.now va kind).core }
+        (walked_at state.old base ram.now va kind).core }
 {
     let privilege = state::privilege_at(state);
     let regime = Regime::of_level(privilege.level);
@@ -216,7 +216,7 @@ fn find_fetch(state: &mut State, va: u64, pa: &mut u64, base: u64, ram: &[u8]) -
 
 // What the hint says of va.
 pub fn by_hint(state: &State, va: u64, kind: Kind) -> Option<u64>
-    ensures { result ≡ hintFound (core_of state.now) va kind }
+    ensures { result ≡ hint_found (core_of state.now) va kind }
 {
     let privilege = state::privilege_at(state);
     let hinted = privilege.may_hint(kind);
@@ -234,7 +234,7 @@ pub fn by_hint(state: &State, va: u64, kind: Kind) -> Option<u64>
 
 // What the fetch hint says of va.
 pub fn fetch_by_hint(state: &State, va: u64) -> Option<u64>
-    ensures { result ≡ fetchHint (core_of state.now) va }
+    ensures { result ≡ fetch_hint (core_of state.now) va }
 {
     let privilege = state::privilege_at(state);
     let f = cells::fetch_at(state);
@@ -248,7 +248,7 @@ pub fn fetch_find(state: &mut State, va: u64, pa: &mut u64, base: u64, ram: &[u8
     ensures pa_after { pa.new
         ≡ value_of (found_at state.old base ram.now va Fetch).answer pa.old }
     ensures now_holds { NowHolds state.old state.new
-        (pagedTo (core_of state.old).privilege.level va
+        (paged_to (core_of state.old).privilege.level va
         (found_at state.old base ram.now va Fetch)) }
 {
     let code = find_fetch(state, va, pa, base, ram);
@@ -264,12 +264,12 @@ pub fn fetch_find(state: &mut State, va: u64, pa: &mut u64, base: u64, ram: &[u8
 pub fn fetch_address(state: &mut State, va: u64, pa: &mut u64, base: u64, ram: &[u8]) -> u64
     ensures upper_bound { result ≤ 511 }
     ensures value { result
-        ≡ code_of (fetchSteppedNow (core_of state.old) (word_at base ram.now 8) va).answer }
+        ≡ code_of (fetch_stepped_now (core_of state.old) (word_at base ram.now 8) va).answer }
     ensures pa_after { pa.new ≡ value_of
-        (fetchSteppedNow (core_of state.old) (word_at base ram.now 8) va).answer
+        (fetch_stepped_now (core_of state.old) (word_at base ram.now 8) va).answer
         pa.old }
-    ensures now_holds { NowHolds state.old state.new (withTlb (core_of state.old)
-        (fetchSteppedNow (core_of state.old) (word_at base ram.now 8) va).tlb) }
+    ensures now_holds { NowHolds state.old state.new (with_tlb (core_of state.old)
+        (fetch_stepped_now (core_of state.old) (word_at base ram.now 8) va).tlb) }
 {
     let n = ram.len();
     match fetch_by_hint(state, va) {

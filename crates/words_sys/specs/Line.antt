@@ -8,14 +8,14 @@ use Rattle.std.proofs.lemmas.Nat.{or_mod, or_block}
 use Rattle.std.specs.Int.Bits.{or_zero_l, or_zero_r}
 use Rattle.word.specs.BitLaws.{both}
 use Rattle.word.specs.Ram.{within, stored}
-use Rattle.tlb.specs.Access.{mayHint}
-use Rattle.tlb.specs.Cache.{hintAt}
-use Rattle.tlb.specs.Hint.{onPage, dataSlot, hintKey}
+use Rattle.tlb.specs.Access.{may_hint}
+use Rattle.tlb.specs.Cache.{hint_at}
+use Rattle.tlb.specs.Hint.{on_page, data_slot, hint_key}
 use Rattle.tlb.specs.declared.access.Kind.TheVariants.{Write}
 use Rattle.mmu.specs.declared.core_state.Core.{Core}
-use Rattle.exec.specs.Sys.{doneWith, zero_of, zeroRam}
+use Rattle.exec.specs.Sys.{done_with, zero_of, zero_ram}
 use Rattle.exec.specs.ZeroLine.{zero-steady}
-use Rattle.words_memory.specs.Found.{hintFound}
+use Rattle.words_memory.specs.Found.{hint_found}
 use Rattle.words_memory.specs.FoundLaws.{hint-serves}
 
 -- whether the bytes of a line from one on are cleared: the hint points at a line, and they lie in RAM
@@ -55,22 +55,22 @@ serving false x pa e = absurd (subst is-unknown e tt)
     is-unknown (Some n) = ⊥
     is-unknown None = Unit {0}
 
-module _ (c : Core) (va pa : ℕ) (line : va % 64 ≡ 0) (found : hintFound c va Write ≡ Some pa) (flat : pa % 64 ≡ 0) where
+module _ (c : Core) (va pa : ℕ) (line : va % 64 ≡ 0) (found : hint_found c va Write ≡ Some pa) (flat : pa % 64 ≡ 0) where
   -- each store of the line by the same hint
-  found_at : (j : ℕ) → j < 8 → hintFound c (va + 8 * j) Write ≡ Some (pa + 8 * j)
-  unfolding hintFound
+  found_at : (j : ℕ) → j < 8 → hint_found c (va + 8 * j) Write ≡ Some (pa + 8 * j)
+  unfolding hint_found
   found_at j h =
       let page : (va + 8 * j) / 4096 ≡ va / 4096 = omega arith in
       let low : (va + 8 * j) % 4096 ≡ va % 4096 + 8 * j = omega arith in
-      let s = serving (mayHint c.privilege Write && (hintAt c.tlb.cache (dataSlot va Write)).key == hintKey va c.privilege.level)
-      (onPage (hintAt c.tlb.cache (dataSlot va Write)).pa va) pa found in
-      let sum : onPage (hintAt c.tlb.cache (dataSlot va Write)).pa va ≡ pa = s.1 in
-      let each = or-line (hintAt c.tlb.cache (dataSlot va Write)).pa (va % 4096) (8 * j) (omega arith) (ap (λ (x : ℕ). x % 64) sum ∙ flat) (omega arith) in
+      let s = serving (may_hint c.privilege Write && (hint_at c.tlb.cache (data_slot va Write)).key == hint_key va c.privilege.level)
+      (on_page (hint_at c.tlb.cache (data_slot va Write)).pa va) pa found in
+      let sum : on_page (hint_at c.tlb.cache (data_slot va Write)).pa va ≡ pa = s.1 in
+      let each = or-line (hint_at c.tlb.cache (data_slot va Write)).pa (va % 4096) (8 * j) (omega arith) (ap (λ (x : ℕ). x % 64) sum ∙ flat) (omega arith) in
       rw (page, s.0, low) (ap Some (each ∙ ap (λ (x : ℕ). x + 8 * j) sum))
 
   -- the stores from number k on
   line-zeroes : (k base : ℕ) (ram : List ℕ) → k < 8 → va + 64 ≤ 2 ^ 64 → within base (length ram) (64 - 8 * k) (pa + 8 * k) ≡ true
-      → (zero_of (8 - k) c base ram (va + 8 * k) ≡ doneWith c) × (zeroRam (8 - k) c base ram (va + 8 * k) ≡ stored base ram (64 - 8 * k) (pa + 8 * k) 0)
+      → (zero_of (8 - k) c base ram (va + 8 * k) ≡ done_with c) × (zero_ram (8 - k) c base ram (va + 8 * k) ≡ stored base ram (64 - 8 * k) (pa + 8 * k) 0)
   line-zeroes k base ram h room w =
       let d : 64 - 8 * k ≡ 8 * (8 - k) = omega arith in
       let z = zero-steady base c (8 - k) ram (va + 8 * k) (pa + 8 * k) (omega arith) (omega arith)
@@ -79,17 +79,17 @@ module _ (c : Core) (va pa : ℕ) (line : va % 64 ≡ 0) (found : hintFound c va
       let a : va + 8 * (k + j) ≡ va + 8 * k + 8 * j = omega arith in
       let p : pa + 8 * (k + j) ≡ pa + 8 * k + 8 * j = omega arith in
       hint-serves c memory (va + 8 * k + 8 * j) Write (pa + 8 * k + 8 * j)
-      (ap (λ (n : ℕ). hintFound c n Write) (sym a) ∙ found_at (k + j) (omega arith) ∙ ap Some p)) in
+      (ap (λ (n : ℕ). hint_found c n Write) (sym a) ∙ found_at (k + j) (omega arith) ∙ ap Some p)) in
       (z.0, z.1 ∙ ap (λ (n : ℕ). stored base ram n (pa + 8 * k) 0) (sym d))
 
 -- what was cleared is zeroed by the stores from number k on
 pub clears-line : (c : Core) (base : ℕ) (ram : List ℕ) (va k : ℕ) → k < 8 → va % 64 ≡ 0 → va + 64 ≤ 2 ^ 64
-    → clears (hintFound c va Write) (8 * k) base (length ram) ≡ true
-    → (zero_of (8 - k) c base ram (va + 8 * k) ≡ doneWith c) × (zeroRam (8 - k) c base ram (va + 8 * k) ≡ cleared (hintFound c va Write) (8 * k) base ram)
-clears-line c base ram va k h line room = go (hintFound c va Write) refl
+    → clears (hint_found c va Write) (8 * k) base (length ram) ≡ true
+    → (zero_of (8 - k) c base ram (va + 8 * k) ≡ done_with c) × (zero_ram (8 - k) c base ram (va + 8 * k) ≡ cleared (hint_found c va Write) (8 * k) base ram)
+clears-line c base ram va k h line room = go (hint_found c va Write) refl
   where
-    go : (p : Option ℕ) → hintFound c va Write ≡ p → clears p (8 * k) base (length ram) ≡ true
-        → (zero_of (8 - k) c base ram (va + 8 * k) ≡ doneWith c) × (zeroRam (8 - k) c base ram (va + 8 * k) ≡ cleared p (8 * k) base ram)
+    go : (p : Option ℕ) → hint_found c va Write ≡ p → clears p (8 * k) base (length ram) ≡ true
+        → (zero_of (8 - k) c base ram (va + 8 * k) ≡ done_with c) × (zero_ram (8 - k) c base ram (va + 8 * k) ≡ cleared p (8 * k) base ram)
     go (Some pa) e t =
         let b = both (pa % 64 == 0) (within base (length ram) (64 - 8 * k) (pa + 8 * k)) t in
         let z = line-zeroes c va pa line e (eqb-true (pa % 64) 0 b.0) k base ram h room b.1 in

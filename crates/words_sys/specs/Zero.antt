@@ -1,7 +1,7 @@
 -- What a zeroing promises of words, and of RAM's bytes from base on.
 use Rattle.std.specs.Prelude.{◌≡◌, ℕ, List}
 use Rattle.operations.specs.declared.ends.StoreAnswer.{StoreAnswer}
-use Rattle.exec.specs.Sys.{zero_of, zeroRam}
+use Rattle.exec.specs.Sys.{zero_of, zero_ram}
 use Rattle.words.specs.CoreOf.{core_of}
 use Rattle.words.specs.NowHolds.{NowHolds}
 
@@ -9,4 +9,4 @@ use Rattle.words.specs.NowHolds.{NowHolds}
 pub record Zeroes (n : ℕ) (ws : List ℕ) (base : ℕ) (ram : List ℕ) (va : ℕ) (a : StoreAnswer) (xs ys : List ℕ) : Type 0 where
   pub answer : a ≡ (zero_of n (core_of ws) base ram va).answer
   pub words : NowHolds ws xs (zero_of n (core_of ws) base ram va).core
-  pub bytes : ys ≡ zeroRam n (core_of ws) base ram va
+  pub bytes : ys ≡ zero_ram n (core_of ws) base ram va

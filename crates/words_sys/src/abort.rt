@@ -1,8 +1,8 @@
 // Abort entry in place.
-ghost use Rattle.exec.specs.Ops.{abortOf};
+ghost use Rattle.exec.specs.Ops.{abort_of};
 ghost use Rattle.words.specs.CoreOf.{core_of};
 ghost use Rattle.words.specs.NowHolds.{NowHolds};
-ghost use Rattle.words_sys.specs.Abort.{takenIn};
+ghost use Rattle.words_sys.specs.Abort.{taken_in};
 
 use exception::kind::Exception;
 use exception::take;
@@ -12,7 +12,7 @@ use words::{regs, state};
 
 // What an entry changes is stored.
 fn commit(state: &mut State, t: Taken)
-    ensures { NowHolds state.old state.new (takenIn (core_of state.old) t) }
+    ensures { NowHolds state.old state.new (taken_in (core_of state.old) t) }
 {
     let target = t.target;
     let report = t.report;
@@ -26,7 +26,7 @@ fn commit(state: &mut State, t: Taken)
 // A synchronous exception at the PC is routed, reported and taken. The flags are read last: in the arms of the routing
 // two of their words would become one load of 16 bytes, which waits for an entry's store of one of them.
 pub fn abort(state: &mut State, e: Exception)
-    ensures { NowHolds state.old state.new (abortOf (core_of state.old) e) }
+    ensures { NowHolds state.old state.new (abort_of (core_of state.old) e) }
 {
     let privilege = state::privilege_at(state);
     let pc = state::pc_at(state);

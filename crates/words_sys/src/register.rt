@@ -2,7 +2,7 @@
 ghost use Rattle.std.specs.Prelude.{◌≡◌, ◌≢◌};
 ghost use Rattle.sysreg.specs.Shape.{shape, member};
 ghost use Rattle.sysreg.specs.Write.{Done};
-ghost use Rattle.exec.specs.Ops.{writeRegister};
+ghost use Rattle.exec.specs.Ops.{after_register_write};
 ghost use Rattle.words.specs.CoreOf.{core_of};
 ghost use Rattle.words.specs.NowHolds.{NowHolds};
 ghost use Rattle.words_sys.specs.Register.{flushed, retagged, refitted, reshaped, registered};
@@ -102,9 +102,9 @@ fn put_register(state: &mut State, register: Register, value: u64)
 
 // A register write. One that is not done writes no word.
 pub fn write_register(state: &mut State, key: u32, value: u64) -> Result<(), WriteError>
-    ensures value { result ≡ (writeRegister (core_of state.old) key value).answer }
+    ensures value { result ≡ (after_register_write (core_of state.old) key value).answer }
     ensures now_holds { NowHolds state.old state.new
-        (writeRegister (core_of state.old) key value).core }
+        (after_register_write (core_of state.old) key value).core }
     ensures state_unchanged { (result ≢ Done) → state.new ≡ state.old }
 {
     match encoding::named(key) {

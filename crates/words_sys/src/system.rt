@@ -1,9 +1,9 @@
 // TLBI and AT in place.
 ghost use Rattle.word.specs.Ram.{word_at};
-ghost use Rattle.exec.specs.Sys.{at_of, tlbiCore};
+ghost use Rattle.exec.specs.Sys.{at_of, tlbi_core};
 ghost use Rattle.words.specs.CoreOf.{core_of};
 ghost use Rattle.words.specs.NowHolds.{NowHolds};
-ghost use Rattle.words_sys.specs.Register.{pageDropped, asidDropped, invalidated, leftPending};
+ghost use Rattle.words_sys.specs.Register.{page_dropped, asid_dropped, invalidated, left_pending};
 
 use crate::register;
 use sysop::op::AtForm;
@@ -16,7 +16,7 @@ use words::{clear, counts, regs};
 // What translates the page out, and every hint.
 fn drop_page(state: &mut State, page: u64)
     ensures { NowHolds state.old state.new
-        (pageDropped (core_of state.old) page) }
+        (page_dropped (core_of state.old) page) }
 {
     let at = counts::current_at(state);
     clear::drop_pages(state, at.generation, page);
@@ -27,7 +27,7 @@ fn drop_page(state: &mut State, page: u64)
 // What was walked for the ASID and is not global out, and every hint.
 fn drop_asid(state: &mut State, asid: u16)
     ensures { NowHolds state.old state.new
-        (asidDropped (core_of state.old) asid) }
+        (asid_dropped (core_of state.old) asid) }
 {
     clear::drop_asids(state, asid);
     clear::no_hints(state);
@@ -48,7 +48,7 @@ fn invalidate(state: &mut State, what: Inval)
 // Left pending for the other cores.
 fn broadcast(state: &mut State, what: Inval)
     ensures { NowHolds state.old state.new
-        (leftPending (core_of state.old) what) }
+        (left_pending (core_of state.old) what) }
 {
     let earlier = counts::pending_at(state);
     let pending = tlb::pending_after(earlier, what);
@@ -58,7 +58,7 @@ fn broadcast(state: &mut State, what: Inval)
 // TLBI; the Inner Shareable forms are left pending for the other cores.
 pub fn tlbi(state: &mut State, op1: u64, crm: u64, op2: u64, x: u64)
     ensures { NowHolds state.old state.new
-        (tlbiCore (core_of state.old) op1 crm op2 x) }
+        (tlbi_core (core_of state.old) op1 crm op2 x) }
 {
     let control = regs::control_at(state);
     let what = tlbi::tlbi(control, op1, crm, op2, x);

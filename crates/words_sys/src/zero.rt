@@ -1,12 +1,12 @@
 // System operations in place, DC ZVA among them.
 ghost use Rattle.std.specs.Prelude.{◌≡◌, ◌+◌, ◌%◌, ◌≤◌, true, length};
-ghost use Rattle.word.specs.Bits.{alignDown};
+ghost use Rattle.word.specs.Bits.{align_down};
 ghost use Rattle.tlb.specs.declared.access.Kind.TheVariants.{Write};
-ghost use Rattle.exec.specs.Sys.{sysOf, sysRam};
+ghost use Rattle.exec.specs.Sys.{sys_of, sys_ram};
 ghost use Rattle.words.specs.CoreOf.{core_of};
 ghost use Rattle.words.specs.NowHolds.{NowHolds};
-ghost use Rattle.words_memory.specs.Found.{hintFound};
-ghost use Rattle.words_sys.specs.Early.{earlyStop};
+ghost use Rattle.words_memory.specs.Found.{hint_found};
+ghost use Rattle.words_sys.specs.Early.{early_stop};
 ghost use Rattle.words_sys.specs.Line.{clears, cleared};
 ghost use Rattle.words_sys.specs.Zero.{Zeroes};
 
@@ -41,9 +41,9 @@ fn zero_from(state: &mut State, base: u64, ram: &mut [u8], va: u64, n: u64) -> S
 fn clear_line(state: &State, base: u64, ram: &mut [u8], va: u64, from: u64) -> bool
     requires { from ≤ 8 }
     ensures value { result
-        ≡ clears (hintFound (core_of state.now) va Write) from base (length ram.old) }
+        ≡ clears (hint_found (core_of state.now) va Write) from base (length ram.old) }
     ensures ram_after { ram.new
-        ≡ cleared (hintFound (core_of state.now) va Write) from base ram.old }
+        ≡ cleared (hint_found (core_of state.now) va Write) from base ram.old }
 {
     match translate::by_hint(state, va, Kind::Write) {
         Some(pa) => {
@@ -74,7 +74,7 @@ fn zero_rest(state: &mut State, base: u64, ram: &mut [u8], va: u64) -> StoreAnsw
 // DC ZVA, the line of x: by its page's hint; or the first store, and the rest by the hint that it leaves; or store by
 // store.
 fn zva(state: &mut State, base: u64, ram: &mut [u8], x: u64) -> StoreAnswer
-    ensures { Zeroes 8 state.old base ram.old (alignDown x 6) result
+    ensures { Zeroes 8 state.old base ram.old (align_down x 6) result
         state.new ram.new }
 {
     let va = x - x % 64;
@@ -99,12 +99,12 @@ pub fn system(
     op2: u64,
     rt: u64,
 ) -> StoreAnswer
-    ensures value { result ≡ (sysOf (core_of state.old) base ram.old op1 crn crm op2 rt).answer }
+    ensures value { result ≡ (sys_of (core_of state.old) base ram.old op1 crn crm op2 rt).answer }
     ensures now_holds { NowHolds state.old state.new
-        (sysOf (core_of state.old) base ram.old op1 crn crm op2 rt).core }
+        (sys_of (core_of state.old) base ram.old op1 crn crm op2 rt).core }
     ensures ram_after { ram.new
-        ≡ sysRam (core_of state.old) base ram.old op1 crn crm op2 rt }
-    ensures state_unchanged { earlyStop result ≡ true → state.new ≡ state.old }
+        ≡ sys_ram (core_of state.old) base ram.old op1 crn crm op2 rt }
+    ensures state_unchanged { early_stop result ≡ true → state.new ≡ state.old }
 {
     let x = state::general_at(state, rt);
     let privilege = state::privilege_at(state);

@@ -2,14 +2,14 @@
 use Rattle.std.specs.Prelude.{◌≡◌, List, [], ◌∷◌, ◌++◌, ℕ, zero, suc, ◌+◌, ◌*◌, ◌≤◌, get_or}
 use Rattle.std.proofs.Math.Path.{refl}
 use Rattle.std.proofs.Common.{add-one, arith}
-use Rattle.mmu.specs.Core.{freshCore}
+use Rattle.mmu.specs.Core.{fresh_core}
 use Rattle.mmu.specs.declared.core_state.Core.{Core}
 use Rattle.history.specs.Calls.{Lent}
-use Rattle.history.specs.Instance.{windowOf, real}
+use Rattle.history.specs.Instance.{window_of, real}
 use Rattle.transparency.specs.Machine.{machine}
 use Rattle.words.specs.CoreOf.{core_of}
 use Rattle.call_words.specs.Ops.{call_of}
-use Rattle.a72abi.specs.Steps.{callCode, callCore, callRam}
+use Rattle.a72abi.specs.Steps.{call_code, call_core, call_ram}
 use Rattle.a72abi.specs.Promise.{FaithfulWords, StepPromise}
 use Rattle.call_words.specs.declared.op.DecodedCall.{DecodedCall}
 use Rattle.call_words.specs.declared.op.DecodedCall.TheVariants.{Known, Unknown}
@@ -30,18 +30,18 @@ pub record Reached : Type 0 where
   pub bytes : List ℕ
   pub list : List (Lent real machine)
 
-abbrev pub oneMore : DecodedCall → ℕ → Reached → Reached
-oneMore call base a =
+abbrev pub one_more : DecodedCall → ℕ → Reached → Reached
+one_more call base a =
     record {
-      core = callCore call a.core base a.bytes;
-      bytes = callRam call a.core base a.bytes;
+      core = call_core call a.core base a.bytes;
+      bytes = call_ram call a.core base a.bytes;
       list = a.list ++ added call base a.bytes;
     }
 
 -- the first n calls from reset, on RAM as each leaves it
 unfoldable pub reached : ℕ → List ℕ → ℕ → List ℕ → Reached
-reached zero ops base ram = record { core = freshCore; bytes = ram; list = [] }
-reached (suc k) ops base ram = oneMore (call_at ops k) base (reached k ops base ram)
+reached zero ops base ram = record { core = fresh_core; bytes = ram; list = [] }
+reached (suc k) ops base ram = one_more (call_at ops k) base (reached k ops base ram)
 
 -- the words xs and the bytes ys are those reached
 pub record On (a : Reached) (ys xs : List ℕ) : Type 0 where
@@ -51,17 +51,17 @@ pub record On (a : Reached) (ys xs : List ℕ) : Type 0 where
 
 -- faithfulness of a last call, on what was reached: no more is asked of the words
 abbrev pub FaithfulLast : DecodedCall → Reached → ℕ → List ℕ → List ℕ → Type 0
-FaithfulLast (Known x) a base v ys = FaithfulWords a.list (windowOf base a.bytes) x v ys
+FaithfulLast (Known x) a base v ys = FaithfulWords a.list (window_of base a.bytes) x v ys
 FaithfulLast Unknown a base v ys = Unit {0}
 
 pub record RunPromise (call : DecodedCall) (a : Reached) (base n : ℕ) (v ys xs : List ℕ) : Type 0 where
-  pub code : n ≡ callCode call
-  pub on : On (oneMore call base a) ys xs
+  pub code : n ≡ call_code call
+  pub on : On (one_more call base a) ys xs
   pub faithful : FaithfulLast call a base v ys
 
 -- one call more, as `a72_step` promises
 pub on-more : (call : DecodedCall) (base : ℕ) (a : Reached) (ram ws : List ℕ) (n : ℕ) (old v ys xs : List ℕ)
-    → On a ram ws → StepPromise call base ram ws n old v ys xs → On (oneMore call base a) ys xs
+    → On a ram ws → StepPromise call base ram ws n old v ys xs → On (one_more call base a) ys xs
 on-more call base a ram ws n old v ys xs o p =
     record {
       made = rw o.bytes-are at (stepped call base ram ws n old v ys xs a.list o.made p);
@@ -83,7 +83,7 @@ last-call Unknown base a ram ws n old v ys xs o p =
 -- THE RUN, CALL BY CALL
 
 module _ (ops : List ℕ) (base : ℕ) (ram : List ℕ) where
-  pub on-fresh : (ws : List ℕ) → core_of ws ≡ freshCore → On (reached 0 ops base ram) ram ws
+  pub on-fresh : (ws : List ℕ) → core_of ws ≡ fresh_core → On (reached 0 ops base ram) ram ws
   unfolding reached
   on-fresh ws e = record { made = fresh ws e; core_is = e; bytes-are = refl }
 

@@ -1,6 +1,6 @@
 use Rattle.a72abi.proofs.Passing.{level-high, clear-here, ram-high, ram-clear}
 use Rattle.a72abi.specs.PromiseLaws.{promise-quiet}
-use Rattle.operations.specs.Check.{missedOf}
+use Rattle.operations.specs.Check.{missed_of}
 use mathlib.Core.Path.{refl}
 use borrow.Author.Rules.{rules}
 use Rattle.a72abi.proofs.memory.a72_fetch_pa.Goals as goal
@@ -9,9 +9,9 @@ pub returns-then-len-base : goal.returns-then-len-base
 returns-then-len-base c = promise-quiet _ _ _ _ _ _ _ _ refl (search rules)
 
 pub returns-else-len-base : goal.returns-else-len-base
-unfolding missedOf
+unfolding missed_of
 returns-else-len-base c = promise-quiet _ _ _ _ _ _ _ _ refl (search (ram-clear, clear-here, rules))
 
 pub returns-else-known : goal.returns-else-known
-unfolding missedOf
+unfolding missed_of
 returns-else-known c = promise-quiet _ _ _ _ _ _ _ _ refl (search (ram-high, level-high, rules))

@@ -1,9 +1,9 @@
 use Rattle.std.proofs.Common.{refl}
 use Rattle.word.specs.Tables.{table}
-use Rattle.census.specs.Tally.{howMany}
-use Rattle.census.specs.Count.{censusOf}
+use Rattle.census.specs.Tally.{how_many}
+use Rattle.census.specs.Count.{census_of}
 use Rattle.census.proofs.count.count.Goals as goal
 
 pub loop-i-init : goal.loop-i-init
-unfolding censusOf table howMany
+unfolding census_of table how_many
 loop-i-init c = refl

@@ -1,13 +1,13 @@
 use Rattle.std.proofs.Common.{arith}
-use Rattle.digest.specs.Parts.{wordAlone}
+use Rattle.digest.specs.Parts.{word_alone}
 use Rattle.digest.proofs.Folding.{again, one, ended}
 use Rattle.digest.proofs.counts.digest.Goals as goal
 
 pub loop-i-preserved : goal.loop-i-preserved
 loop-i-preserved c = record {
   within = omega arith;
-  rest = again (wordAlone c.args.counts.now) 129 c.loop-i.i c.loop-i.h _ _ (omega arith) (one _ _ _ c.join-h.ensures) c.loop-i.invariant.rest;
+  rest = again (word_alone c.args.counts.now) 129 c.loop-i.i c.loop-i.h _ _ (omega arith) (one _ _ _ c.join-h.ensures) c.loop-i.invariant.rest;
 }
 
 pub returns : goal.returns
-returns c = ended (wordAlone c.args.counts.now) 129 c.loop-i.i c.loop-i.h _ (omega arith) c.loop-i.invariant.rest
+returns c = ended (word_alone c.args.counts.now) 129 c.loop-i.i c.loop-i.h _ (omega arith) c.loop-i.invariant.rest

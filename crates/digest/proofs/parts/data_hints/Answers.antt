@@ -1,6 +1,6 @@
 use Rattle.std.proofs.Common.{arith}
 use Rattle.words.specs.CoreOf.{core_of}
-use Rattle.digest.specs.Parts.{hintWords}
+use Rattle.digest.specs.Parts.{hint_words}
 use Rattle.digest.proofs.Folding.{again, ended}
 use Rattle.digest.proofs.parts.data_hints.Goals as goal
 
@@ -8,10 +8,10 @@ pub loop-i-preserved : goal.loop-i-preserved
 loop-i-preserved c = record {
   within = omega arith;
   rest =
-      again (hintWords (core_of c.args.state.now).tlb.cache) 512 c.loop-i.i c.loop-i.s.digest _ _ (omega arith)
+      again (hint_words (core_of c.args.state.now).tlb.cache) 512 c.loop-i.i c.loop-i.s.digest _ _ (omega arith)
       c.with_hint-s.ensures c.loop-i.invariant.rest;
 }
 
 pub returns : goal.returns
 returns c =
-    ended (hintWords (core_of c.args.state.now).tlb.cache) 512 c.loop-i.i c.loop-i.s.digest _ (omega arith) c.loop-i.invariant.rest
+    ended (hint_words (core_of c.args.state.now).tlb.cache) 512 c.loop-i.i c.loop-i.s.digest _ (omega arith) c.loop-i.invariant.rest

@@ -1,5 +1,5 @@
 use Rattle.std.proofs.Common.{arith}
-use Rattle.history.specs.Instance.{real, real-laws, freshPlain, fresh-asid}
+use Rattle.history.specs.Instance.{real, real-laws, fresh_plain, fresh-asid}
 use Rattle.history.proofs.Corollaries.{invisible}
 use Rattle.history.proofs.EveryHistory.{every-history}
 use Rattle.history.proofs.theorems.every_history.Goals as goal
@@ -8,4 +8,4 @@ pub returns-clause-faithful : goal.returns-clause-faithful
 returns-clause-faithful c = every-history
 
 pub returns-clause-invisible : goal.returns-clause-invisible
-returns-clause-invisible c = invisible real real-laws freshPlain fresh-asid (omega arith)
+returns-clause-invisible c = invisible real real-laws fresh_plain fresh-asid (omega arith)

@@ -1,14 +1,14 @@
-use Rattle.history.specs.Instance.{real, real-laws, freshPlain}
+use Rattle.history.specs.Instance.{real, real-laws, fresh_plain}
 use Rattle.history.specs.Neighbours.{own-settled}
 use Rattle.history.specs.StepByStep.{steps-settled}
 use Rattle.history.proofs.Corollaries.{off-settled}
 use Rattle.history.proofs.theorems.settled_pages.Goals as goal
 
 pub returns-clause-off : goal.returns-clause-off
-returns-clause-off c = off-settled real real-laws freshPlain
+returns-clause-off c = off-settled real real-laws fresh_plain
 
 pub returns-clause-steps : goal.returns-clause-steps
-returns-clause-steps c = steps-settled real freshPlain
+returns-clause-steps c = steps-settled real fresh_plain
 
 pub returns-clause-asid : goal.returns-clause-asid
-returns-clause-asid c = own-settled real freshPlain
+returns-clause-asid c = own-settled real fresh_plain

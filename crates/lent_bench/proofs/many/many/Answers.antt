@@ -1,11 +1,11 @@
 use Rattle.std.proofs.Common.{refl, ap, arith}
 use Rattle.cpu.specs.Step.{Stepped}
-use Rattle.lent_bench.specs.Many.{coreAfter, sumAfter}
+use Rattle.lent_bench.specs.Many.{core_after, sum_after}
 use Rattle.lent_bench.proofs.Sums.{core-next, sum-next}
 use Rattle.lent_bench.proofs.many.many.Goals as goal
 
 pub loop-i-init : goal.loop-i-init
-unfolding coreAfter sumAfter
+unfolding core_after sum_after
 loop-i-init c = record { turns = omega arith; core_is = ap (λ (s : Stepped). s.core) c.translate-first.ensures.step; sum_is = refl }
 
 pub loop-i-preserved : goal.loop-i-preserved
