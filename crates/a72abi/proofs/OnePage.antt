@@ -28,7 +28,6 @@ use Rattle.mmu.specs.Results.{Accessed, Translated}
 use Rattle.operations.specs.declared.place.Place.TheVariants.{Whole}
 use Rattle.operations.specs.declared.{place.Placed.Placed, ends.LoadAnswer.LoadAnswer, ends.StoreAnswer.StoreAnswer}
 use Rattle.operations.specs.declared.place.Placed.TheVariants.{At, Fault}
-use Rattle.operations.specs.declared.place.Verdict.TheVariants.{Outside}
 use Rattle.operations.specs.Replies.{loading, storing}
 use Rattle.cpu.specs.Step.{load_by, store_by, store_ram_by, run_of, ram_of, ends}
 use Rattle.operations.specs.declared.call.Call.TheVariants as Call

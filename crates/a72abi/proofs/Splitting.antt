@@ -41,7 +41,6 @@ use Rattle.call_words.specs.Replies.{code_by, value_by}
 use Rattle.a72abi.specs.Quick.{Clear, clear_of}
 use Rattle.a72abi.specs.Splits.{apart_of, pages_at, value_from, load_both, made_both, ram_both, split_load, split_made, split_ram}
 use Rattle.a72abi.specs.declared.split.Split.{Split}
-use Rattle.a72abi.specs.declared.split.Split.TheVariants as Split
 use Rattle.a72abi.proofs.Bytewise.{size_is, false-true, kept-last, kept-abort, load-runs, store-runs}
 use Rattle.a72abi.proofs.Sizes.{same_gives, same-ram}
 use Rattle.a72abi.specs.Kept.{kept-done}

@@ -17,7 +17,6 @@ use Rattle.fault.specs.declared.Fault.{Fault as Status1}
 use Rattle.exception.specs.Abort.{data_abort_at, insn_abort_at}
 use Rattle.tlb.specs.declared.access.Answer.TheVariants.{Address, Status}
 use Rattle.exception.specs.declared.kind.Exception.{Exception}
-use Rattle.exception.specs.declared.kind.Exception.TheVariants as Exception
 use Rattle.exception.specs.declared.kind.Stop.TheVariants as Stop
 use Rattle.operations.specs.Place.{verdict_of}
 use Rattle.operations.specs.Bytes.{load_of, insn_of}
@@ -27,14 +26,10 @@ use Rattle.mmu.specs.declared.core_state.Core.{Core}
 use Rattle.operations.specs.declared.{place.Placed.Placed, place.Verdict.Verdict, bytes.Got.Got, bytes.Insn.Insn}
 use Rattle.operations.specs.declared.{ends.Reached.Reached, call.Call.Call, call.Reply.Reply}
 use Rattle.operations.specs.declared.place.Placed.TheVariants.{At, Fault as NotPlaced}
-use Rattle.operations.specs.declared.place.Verdict.TheVariants as Verdict
-use Rattle.operations.specs.declared.bytes.Got.TheVariants as Got
-use Rattle.operations.specs.declared.bytes.Insn.TheVariants as Insn
 use Rattle.operations.specs.declared.ends.Reached.TheVariants as Reach
 use Rattle.operations.specs.Check.{missed_of, passes, known}
 use Rattle.operations.specs.Replies.{translation, reaching, loading, storing, fetching}
 use Rattle.cpu.specs.Step.{load_by, store_by, refused_or, missed_by, run_of, step_of, ends}
-use Rattle.operations.specs.declared.call.Call.TheVariants as Call
 use Rattle.operations.specs.declared.call.Reply.TheVariants.{Refused, Done, Value, Faults, Fault, Stopped}
 use Rattle.cpu.specs.Step.{Stepped}
 use Rattle.words.specs.CoreOf.{core_of}
@@ -48,8 +43,6 @@ use Rattle.a72abi.specs.PromiseLaws.{tag-unmoved}
 use Rattle.call_words.specs.Replies.{code_by, value_by, words_by, words_from}
 use Rattle.a72abi.proofs.Checking.{refused-reply, run-reply}
 use Rattle.call_words.specs.declared.{op.DecodedCall.DecodedCall, op.DecodedException.DecodedException}
-use Rattle.call_words.specs.declared.op.DecodedCall.TheVariants as DecodedCall
-use Rattle.call_words.specs.declared.op.DecodedException.TheVariants as DecodedException
 use Rattle.word.specs.declared.ram.Width.{Width}
 
 -- A CALL'S WORDS FROM ITS NUMBER AND VALUE

@@ -2,8 +2,6 @@
 use Rattle.std.specs.Prelude.{◌≡◌, refl, Bool, true, false, List, ℕ, ◌<◌, Ok}
 use Rattle.std.proofs.Common.{sym, ap, ◌∙◌, arith}
 use Rattle.exception.specs.declared.{kind.Exception.Exception, kind.Stop.Stop}
-use Rattle.exception.specs.declared.kind.Exception.TheVariants as Exception
-use Rattle.exception.specs.declared.kind.Stop.TheVariants as Stop
 use Rattle.tlb.specs.declared.access.Answer.{Answer}
 use Rattle.tlb.specs.declared.access.Answer.TheVariants.{Address, Status}
 use Rattle.operations.specs.Bytes.{load_of, insn_of}
@@ -11,8 +9,6 @@ use Rattle.operations.specs.Ends.{loaded_from, load_end, fetched_from, fetch_end
 use Rattle.operations.specs.declared.{place.Placed.Placed, bytes.Got.Got, bytes.Insn.Insn, ends.StoreAnswer.StoreAnswer}
 use Rattle.operations.specs.declared.{ends.Reached.Reached, call.Reply.Reply}
 use Rattle.operations.specs.declared.place.Placed.TheVariants.{At, Fault as NotPlaced}
-use Rattle.operations.specs.declared.bytes.Got.TheVariants as Got
-use Rattle.operations.specs.declared.bytes.Insn.TheVariants as Insn
 use Rattle.operations.specs.declared.ends.StoreAnswer.TheVariants as Store
 use Rattle.operations.specs.declared.ends.Reached.TheVariants as Reach
 use Rattle.operations.specs.Replies.{translation, reaching, loading, storing, fetching, registering}

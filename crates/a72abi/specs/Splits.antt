@@ -11,7 +11,6 @@ use Rattle.operations.specs.declared.place.Pages.{Pages}
 use Rattle.words_memory.specs.Found.{hint_found}
 use Rattle.a72abi.specs.Quick.{clear_of}
 use Rattle.a72abi.specs.declared.split.Split.{Split}
-use Rattle.a72abi.specs.declared.split.Split.TheVariants as Split
 
 -- two pages are taken, and level and window pass
 unfoldable pub apart_of : Core → ℕ → ℕ → ℕ → ℕ → Bool

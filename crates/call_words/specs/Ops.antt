@@ -6,12 +6,8 @@ use Rattle.exception.specs.Abort.{data_abort_at, insn_abort_at}
 use Rattle.exception.specs.declared.kind.Exception.{Exception}
 use Rattle.exception.specs.declared.kind.Exception.TheVariants.{Undefined, Svc, Hvc, Smc, Brk, PcAlignment}
 use Rattle.operations.specs.declared.{call.Call.Call, call.Encoding.Encoding}
-use Rattle.operations.specs.declared.call.Call.TheVariants as Call
 use Rattle.call_words.specs.declared.{op.DecodedKind.DecodedKind, op.DecodedException.DecodedException}
 use Rattle.call_words.specs.declared.op.DecodedCall.{DecodedCall}
-use Rattle.call_words.specs.declared.op.DecodedKind.TheVariants as DecodedKind
-use Rattle.call_words.specs.declared.op.DecodedException.TheVariants as DecodedException
-use Rattle.call_words.specs.declared.op.DecodedCall.TheVariants as DecodedCall
 
 -- 1 read, 2 write, 4 fetch
 abbrev pub kind_of : ℕ → DecodedKind
