@@ -17,16 +17,15 @@ pub struct Censused {
 
 // The census of so many pages from the page of first, at the core's level.
 #[tactic(auto, unfolding(crate::specs::Inspect::census_by, crate::specs::Inspect::counts_after, crate::specs::Step::step_of, crate::specs::Step::run_of))]
-pub fn census(core: Core, base: u64, ram: &[u8], first: u64, pages: u64) -> Censused
-    ensures { result ≡ census_by core base ram.now first pages }
+pub fn census(core: &Core, base: u64, ram: &[u8], first: u64, pages: u64) -> Censused
+    ensures { result ≡ census_by core.now base ram.now first pages }
 {
     let level = core.privilege.level;
-    let control = core.control;
     let mut counts = [0; 129];
     let n = check::census(level, base, ram.len() as u64, first, pages);
     if n == 0 {
         let regime = Regime::of_level(level);
-        let s = Bank::new(&control, regime);
+        let s = Bank::new(&core.control, regime);
         count::count(s, regime, first, pages, base, ram, &mut counts);
         Censused {
             counts,
