@@ -82,8 +82,8 @@ faithful_on_words =
     → (x : Call) (base : ℕ) (ram : List ℕ) (n old v : ℕ) (ys xs : List ℕ) → Promise (Known x) base ram ws n old v ys xs
     → FaithfulNumber list (window_of base ram) x n old v ys
 
-pub faithful_on_words : faithful_on_words
-faithful_on_words ws list m x base ram n old v ys xs p = p.faithful list (made-core ws list m)
+pub faithful-on-words : faithful_on_words
+faithful-on-words ws list m x base ram n old v ys xs p = p.faithful list (made-core ws list m)
 
 -- so does a step, by the words of its call
 abbrev pub faithful_step_on_words : Type 0
@@ -93,8 +93,8 @@ faithful_step_on_words =
     → StepPromise (Known x) base ram ws n old v ys xs
     → FaithfulWords list (window_of base ram) x v ys
 
-pub faithful_step : faithful_step_on_words
-faithful_step ws list m x base ram n old v ys xs p = p.faithful list (made-core ws list m)
+pub faithful-step-on-words : faithful_step_on_words
+faithful-step-on-words ws list m x base ram n old v ys xs p = p.faithful list (made-core ws list m)
 
 -- and a census counts, and answers, as the core without a cache does
 abbrev pub counts_on_words : Type 0

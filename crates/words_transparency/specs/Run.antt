@@ -13,7 +13,7 @@ use Rattle.a72abi.specs.Steps.{call_code, call_core, call_ram}
 use Rattle.a72abi.specs.Promise.{FaithfulWords, StepPromise}
 use Rattle.call_words.specs.declared.op.DecodedCall.{DecodedCall}
 use Rattle.call_words.specs.declared.op.DecodedCall.TheVariants.{Known, Unknown}
-use Rattle.words_transparency.specs.OnWords.{added, Made, fresh, stepped, faithful_step}
+use Rattle.words_transparency.specs.OnWords.{added, Made, fresh, stepped, faithful-step-on-words}
 
 -- the k-th call of words, eight to a call
 abbrev pub eight : List ℕ → ℕ → List ℕ
@@ -75,7 +75,7 @@ last-call (Known x) base a ram ws n old v ys xs o p =
     record {
       code = p.code;
       on = on-more (Known x) base a ram ws n old v ys xs o p;
-      faithful = rw o.bytes-are at (faithful_step ws a.list o.made x base ram n old v ys xs p);
+      faithful = rw o.bytes-are at (faithful-step-on-words ws a.list o.made x base ram n old v ys xs p);
     }
 last-call Unknown base a ram ws n old v ys xs o p =
     record { code = p.code; on = on-more Unknown base a ram ws n old v ys xs o p; faithful = tt }
