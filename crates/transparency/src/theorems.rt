@@ -1,7 +1,7 @@
 // What is proved of every list of calls: each function does nothing, and its contract is the theorem. The lists begin
 // at the fresh core, hold calls of every kind, refused ones too, and RAM at each step is any.
 ghost use Rattle.mmu.specs.Core.{fresh_core};
-ghost use Rattle.history.specs.Calls.{Bridge, EveryCallFaithful, SameReplies, InvisibleCalls};
+ghost use Rattle.history.specs.Calls.{Bridge, EveryCallFaithful, RepliesByAnswers, SameReplies, InvisibleCalls};
 ghost use Rattle.history.specs.Instance.{real};
 ghost use Rattle.transparency.specs.Machine.{machine};
 ghost use Rattle.transparency.specs.Events.{tlbi_event};
@@ -40,6 +40,7 @@ pub fn every_translation()
 /// cache; where no table is changed without its TLBI, no reply of a whole list shows the cache. Rules out an answer
 /// that is right inside and replied, or stored, wrong.
 pub fn every_reply()
+    ensures by_answers { RepliesByAnswers real machine replies }
     ensures same { SameReplies real machine replies fresh_core }
     ensures invisible { InvisibleCalls real machine replies fresh_core }
 {}
