@@ -1,4 +1,4 @@
-use Rattle.sysreg.specs.WriteLaws.{write-el0, write-nothing, control-written, control-others, sys-others}
+use Rattle.sysreg.specs.WriteLaws.{write-el0, write-nothing, write_done, control-written, control-others, sys-written, sys-others}
 use Rattle.sysreg.proofs.theorems.effect_of_writes.Goals as goal
 
 pub returns-clause-undefined_at_el0 : goal.returns-clause-undefined_at_el0
@@ -15,3 +15,9 @@ returns-clause-control_others c = control-others
 
 pub returns-clause-system_others : goal.returns-clause-system_others
 returns-clause-system_others c = sys-others
+
+pub returns-clause-done : goal.returns-clause-done
+returns-clause-done c = write_done
+
+pub returns-clause-system_written : goal.returns-clause-system_written
+returns-clause-system_written c = sys-written
