@@ -28,8 +28,8 @@ pub fn effect_of_operations()
         → (fetch_of c base ram va).core.last_pa ≡ c.last_pa }
 {}
 
-// Each byte of a load or store, split or not, is the byte at the translation of its own address, and a store leaves
-// every other. It rules out a split access that takes its second part from the first page.
+// On a well-formed cache each byte of a load or store, split or not, is the byte at the translation of its own address,
+// and a store leaves every other. It rules out a split access that takes its second part from the first page.
 pub fn bytes_at_their_own_addresses()
     ensures loaded { LoadsOwnBytes }
     ensures stored { StoresOwnBytes }

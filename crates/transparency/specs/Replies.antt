@@ -1,5 +1,5 @@
 -- What a call replies, and RAM after it: of the core, made from the answers to its translations, through which alone
--- the cache reaches a reply (`reply-is`, in Answered.antt), so that faithfulness of them is faithfulness of what a caller sees;
+-- the cache reaches a reply (`reply-is`, in proofs/Answered.antt), so that faithfulness of them is faithfulness of what a caller sees;
 -- and of the core without a cache, from its own state, RAM as the call begins, and the call.
 use Rattle.std.specs.Prelude.{List, [], ◌∷◌, ℕ, zero, suc, ◌+◌, Option, Some, None}
 use Rattle.word.specs.Bits.{align_down, wrap}
