@@ -1,6 +1,5 @@
 -- One level of the walk case by case, on plain values.
 use Rattle.std.specs.Prelude.{Err}
-use Rattle.walk.specs.Answers.{Walked}
 use mathlib.Core.Path.{◌≡◌, refl, sym, ap, ◌∙◌}
 use mathlib.Core.Bool.{Bool, true, false, ◌&&◌, ◌||◌}
 use Prim.Native.Nat.{ℕ, ◌+◌, ◌-◌, ◌*◌, ◌/◌, ◌%◌, ◌^◌, ◌≤◌, ◌<◌}
@@ -11,9 +10,9 @@ use lib.Pow.{shl-shr, shr-shr, mod-pow-add, high, pow_pos, pow_mono}
 use Rattle.word.specs.Bits.{field, align_down}
 use Rattle.word.specs.BitLaws.{place, cut_field, or-bit, align-le}
 use Rattle.walk.specs.Table.{grainsize, stride, addrselectbottom, beyond, descaddr, table_next}
-use Rattle.walk.specs.State.{lookup_of, answers, stepped, meant, Standing, Onwards, Leads, next, stop}
-use Rattle.walk.specs.declared.{level.Params.Params, level.WalkState.WalkState}
-use Rattle.walk.specs.declared.level.Step.TheVariants.{Next, Done}
+use Rattle.walk.specs.State.{lookup_of, answers, stepped, meant, Standing, Onwards, Leads, next, found, fault}
+use Rattle.walk.specs.declared.{level.Params.Params, level.WalkState.WalkState, level.Leaf.Leaf}
+use Rattle.walk.specs.declared.level.Step.TheVariants.{Next, Leaf as Found, Fault}
 
 -- bits top-1 to lsb, by a shift up and a shift down
 pub index_is : (va top lsb : ℕ) → lsb ≤ top → top ≤ 64 → (va * 2 ^ (64 - top)) % 2 ^ 64 / 2 ^ (64 - top + lsb) ≡ field va lsb (top - lsb)
@@ -106,8 +105,11 @@ pub table-leads : (p : Params) (w : WalkState) (desc g s x o : ℕ) → Standing
     → Leads p w (Next record { tables = o; table = x; top = w.lsb; lsb = w.lsb - s; level = w.level + 1 })
 table-leads p w desc g s x o st h es ex = next (table-down p w desc g s x o st h es ex)
 
-pub stops : (p : Params) (w : WalkState) (a : Walked) → Leads p w (Done a)
-stops p w a = stop
+pub leaf_leads : (p : Params) (w : WalkState) (leaf : Leaf) → Leads p w (Found leaf)
+leaf_leads p w leaf = found
+
+pub fault_leads : (p : Params) (w : WalkState) (status : ℕ) → Leads p w (Fault status)
+fault_leads p w status = fault
 
 -- the two parts of an output address fit together
 pub parts_fit : (p : Params) (w : WalkState) (va desc x o : ℕ) → Standing p w → x ≡ align_down (desc % 2 ^ 48) (w.lsb % 64) → o ≡ va % 2 ^ (w.lsb % 64)
@@ -119,4 +121,6 @@ parts_fit p w va desc x o st ex eo =
 
 pub ruleset addresses = (skip-fits, skip-more, index-fits, address-fits, address_is)
 
-pub ruleset tables = (table-beyond, table-onward, stops, table-leads)
+pub ruleset tables = (table-beyond, table-onward, fault_leads, table-leads)
+
+pub ruleset leaves = (parts_fit, leaf_leads, fault_leads)

@@ -11,11 +11,11 @@ use Rattle.walk.specs.Table.{Lookup, Result, Next, deeper, ends, lookup_next}
 use Rattle.walk.specs.Table.{walk_from, walk_range, table_walk, range_of, params_of, first_lookup, startlevel, inputsize, in_range, beyond, addrselectbottom}
 use Rattle.walk.specs.Table.{startlevel_of, baselowerbound}
 use Rattle.walk.specs.Walk.{walked_of, walk_of}
-use Rattle.walk.specs.State.{lookup_of, onward, answers, stepped, meant, Standing, Onwards, Leads, next, stop, begin_of}
+use Rattle.walk.specs.State.{lookup_of, onward, answers, stepped, meant, Standing, Onwards, Leads, next, found, fault, begin_of}
 use Rattle.walk.specs.declared.{regime.Regime.Regime, regime.Bank.Bank, range.Range.Range}
-use Rattle.walk.specs.declared.{level.Params.Params, level.WalkState.WalkState}
+use Rattle.walk.specs.declared.{level.Params.Params, level.WalkState.WalkState, level.Leaf.Leaf}
 use Rattle.walk.specs.declared.level.Step.{Step}
-use Rattle.walk.specs.declared.level.Step.TheVariants.{Next as Onward, Done}
+use Rattle.walk.specs.declared.level.Step.TheVariants.{Next as Onward, Leaf as Found, Fault}
 
 -- the two outcomes are apart
 pub apart : (l : Lookup) (a : Walked) → onward l ≡ answers a → ⊥
@@ -27,8 +27,8 @@ onward-inj l k e = cc
 answers-inj : (a b : Walked) → answers a ≡ answers b → a ≡ b
 answers-inj a b e = cc
 
-steps_apart : (w : WalkState) (a : Walked) → Done a ≡ Onward w → ⊥
-steps_apart w a e = let z : ◌≡◌ {A = ℕ} 0 1 = cc in omega arith
+steps_apart : (p : Params) (w : WalkState) (a : Walked) (s : Step) → stepped p s ≡ answers a → s ≡ Onward w → ⊥
+steps_apart p w a s h e = apart (lookup_of p w) a (rw e at h)
 
 onward-state : (w v : WalkState) → Onward w ≡ Onward v → w ≡ v
 onward-state w v e = cc
@@ -36,7 +36,8 @@ onward-state w v e = cc
 -- a step that leads on
 leads-on : (p : Params) (w v : WalkState) (s : Step) → Leads p w s → s ≡ Onward v → Onwards p w v
 leads-on p w v (Onward u) (next o) e = rw (onward-state u v e) at o
-leads-on p w v (Done a) stop e = absurd (steps_apart v a e)
+leads-on p w v (Found leaf) found e = absurd (steps_apart p v _ _ refl e)
+leads-on p w v (Fault status) fault e = absurd (steps_apart p v _ _ refl e)
 
 pub is-deeper : (p : Params) (l : Lookup) (n : Next) → onward l ≡ meant p n → n ≡ deeper l
 is-deeper p l (deeper k) e = ap deeper (sym (onward-inj l k e))
@@ -63,7 +64,7 @@ module _ (memory : ℕ → Option ℕ) (p : Params) (w : WalkState) (va : ℕ) (
       let d = is-deeper p (lookup_of p v) (lookup_next memory p va (lookup_of p w)) (rw n at es) in
       rw (k, walk_from, d) at h
 
-  pub done-right : (a : Walked) (r : Result) → s ≡ Done a → Standing p w → walk_from (4 - w.level) memory p va (lookup_of p w) ≡ r
+  done-right : (a : Walked) (r : Result) → stepped p s ≡ answers a → Standing p w → walk_from (4 - w.level) memory p va (lookup_of p w) ≡ r
       → a ≡ walked_of p.singlepriv p.wxn r
   unfolding walk_from
   done-right a r n st h = go (lookup_next memory p va (lookup_of p w)) refl
@@ -76,6 +77,14 @@ module _ (memory : ℕ → Option ℕ) (p : Params) (w : WalkState) (va : ℕ) (
       go (ends q) e =
           let h' : q ≡ r = rw (k, walk_from, e) at h in
           answers-inj _ _ (rw (n, e, h') at es)
+
+  pub leaf-right : (leaf : Leaf) (r : Result) → s ≡ Found leaf → Standing p w → walk_from (4 - w.level) memory p va (lookup_of p w) ≡ r
+      → Ok leaf ≡ walked_of p.singlepriv p.wxn r
+  leaf-right leaf r n = done-right (Ok leaf) r (ap (stepped p) n)
+
+  pub fault-right : (status : ℕ) (r : Result) → s ≡ Fault status → Standing p w → walk_from (4 - w.level) memory p va (lookup_of p w) ≡ r
+      → Err status ≡ walked_of p.singlepriv p.wxn r
+  fault-right status r n = done-right (Err status) r (ap (stepped p) n)
 
 -- where a walk begins it stands, and what it stands for is the manual's first table
 pub at-inj : (w v : WalkState) → ◌≡◌ {A = Begin} (Ok w) (Ok v) → w ≡ v
@@ -164,6 +173,6 @@ pub begins-standing : (s : Bank) (r : Regime) (va : ℕ) (g : Range) (p : Params
     → p ≡ params_of s r g → x ≡ begin_of g p.outputsize va → x ≡ Ok w → Standing p w
 begins-standing s r va g p x w eg ep ex n = standing s r va (λ _. None) g p x eg ep ex w n
 
-pub ruleset walk_steps = (falls, stands, goes_on, done-right)
+pub ruleset walk_steps = (falls, stands, goes_on, leaf-right, fault-right)
 
 pub ruleset walk_ends = (begins-standing, walks_from, walk_refused)

@@ -6,12 +6,12 @@ use mathlib.Core.Bool.{Bool, true, false, not, ◌||◌}
 use Prim.Native.Nat.{ℕ, suc, ◌-◌, ◌≤◌, ◌<◌}
 use native.Mathlib.Omega.{arith}
 use Rattle.walk.specs.Table.{Lookup, Next, deeper, ends, descaddr, lookup_next, range_of, params_of, first_lookup, in_range, beyond}
-use Rattle.walk.specs.State.{lookup_of, stepped, meant, begin_of}
+use Rattle.walk.specs.State.{lookup_of, answers, stepped, meant, begin_of}
 use Rattle.walk.specs.Visits.{Seen, seen, past, visit_from, visit_of, seen_as}
 use Rattle.walk.specs.declared.{regime.Regime.Regime, regime.Bank.Bank, range.Range.Range}
-use Rattle.walk.specs.declared.{level.Params.Params, level.WalkState.WalkState}
+use Rattle.walk.specs.declared.{level.Params.Params, level.WalkState.WalkState, level.Leaf.Leaf}
 use Rattle.walk.specs.declared.level.Step.{Step}
-use Rattle.walk.specs.declared.level.Step.TheVariants.{Next as Onward, Done}
+use Rattle.walk.specs.declared.level.Step.TheVariants.{Next as Onward, Leaf as Found, Fault}
 use Rattle.walk.proofs.Loop.{apart, is-deeper, at-inj, refused-at, at-refused, first, first-is, stands, begins-standing}
 
 pub one_left : (n : ℕ) → n ≢ 0 → 1 ≤ n
@@ -36,13 +36,19 @@ module _ (memory : ℕ → Option ℕ) (p : Params) (w : WalkState) (va : ℕ) (
   unfolding visit_from
   visit-here a left r t ea h = rw (ea, es) (rw (t, visit_from) at h)
 
-  pub visit-past : (a : Walked) (left : ℕ) (r : Seen) → s ≡ Done a → left ≢ 0 → visit_from left memory p va (lookup_of p w) ≡ r → past ≡ r
+  visit-past : (a : Walked) (left : ℕ) (r : Seen) → stepped p s ≡ answers a → left ≢ 0 → visit_from left memory p va (lookup_of p w) ≡ r → past ≡ r
   unfolding visit_from
   visit-past a left r n t h = go (lookup_next memory p va (lookup_of p w)) refl
     where
       go : (x : Next) → lookup_next memory p va (lookup_of p w) ≡ x → past ≡ r
       go (deeper l) e = absurd (apart l a (sym (rw (n, e) at es)))
       go (ends q) e = rw (some_left left t, visit_from, e) at h
+
+  pub past-leaf : (leaf : Leaf) (left : ℕ) (r : Seen) → s ≡ Found leaf → left ≢ 0 → visit_from left memory p va (lookup_of p w) ≡ r → past ≡ r
+  past-leaf leaf left r n = visit-past (Ok leaf) left r (ap (stepped p) n)
+
+  pub past-fault : (status left : ℕ) (r : Seen) → s ≡ Fault status → left ≢ 0 → visit_from left memory p va (lookup_of p w) ≡ r → past ≡ r
+  past-fault status left r n = visit-past (Err status) left r (ap (stepped p) n)
 
 -- where a walk begins: the first table, or none
 module _ (s : Bank) (r : Regime) (va n : ℕ) (memory : ℕ → Option ℕ) (g : Range) (p : Params) (x : Begin) (eg : g ≡ range_of s r va)
@@ -80,6 +86,6 @@ module _ (s : Bank) (r : Regime) (va n : ℕ) (memory : ℕ → Option ℕ) (g :
   pub visits-none : (m : ℕ) → x ≡ Err m → past ≡ visit_of s r va memory n
   visits-none m e = refused m _ _ refl refl (sym ex ∙ e) ∙ sym as-whole
 
-pub ruleset visit_steps = (one_left, one_fewer, stands, visit-on, visit-here, visit-past)
+pub ruleset visit_steps = (one_left, one_fewer, stands, visit-on, visit-here, past-leaf, past-fault)
 
 pub ruleset visit_ends = (begins-standing, visits-from, visits-none)

@@ -6,8 +6,8 @@ use Rattle.walk.specs.Descriptor.{ap_table0, ap_table1, uxn_table, pxn_table}
 use Rattle.walk.specs.Table.{status_of, entered, Lookup, Next, deeper, ends, inputsize, startlevel, startlevel_of, addrselectbottom, baselowerbound}
 use Rattle.walk.specs.Walk.{walked_of}
 use Rattle.walk.specs.declared.{range.Range.Range, range.Start.Start, level.Params.Params}
-use Rattle.walk.specs.declared.{level.WalkState.WalkState, level.Step.Step}
-use Rattle.walk.specs.declared.level.Step.TheVariants.{Next as Onward, Done}
+use Rattle.walk.specs.declared.{level.WalkState.WalkState, level.Leaf.Leaf, level.Step.Step}
+use Rattle.walk.specs.declared.level.Step.TheVariants.{Next as Onward, Leaf as Found, Fault}
 use Rattle.walk.specs.Answers.{Begin, Walked}
 
 -- the manual's state that a state of the code stands for. Of `tables` bits 62 to 59 alone count; the others are free
@@ -30,7 +30,8 @@ pub data Outcome : Type 0 where
 
 abbrev pub stepped : Params → Step → Outcome
 stepped p (Onward w) = onward (lookup_of p w)
-stepped p (Done a) = answers a
+stepped p (Found leaf) = answers (Ok leaf)
+stepped p (Fault status) = answers (Err status)
 
 abbrev pub meant : Params → Next → Outcome
 meant p (deeper l) = onward l
@@ -51,7 +52,8 @@ pub record Onwards (p : Params) (w v : WalkState) : Type 0 where
 
 pub data Leads (p : Params) (w : WalkState) : Step → Type 0 where
   next : {v : WalkState} → Onwards p w v → Leads p w (Onward v)
-  stop : {a : Walked} → Leads p w (Done a)
+  found : {leaf : Leaf} → Leads p w (Found leaf)
+  fault : {status : ℕ} → Leads p w (Fault status)
 
 -- the first level of a granule and input size, and the bit at which its index begins
 abbrev pub start_of : Bool → ℕ → Start

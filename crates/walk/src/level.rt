@@ -1,8 +1,7 @@
 // One level of a walk: where its descriptor lies, and what the descriptor says.
 ghost use Rattle.std.specs.Prelude.{◌≡◌, ℕ, ◌≤◌, ◌<◌};
 ghost use Rattle.walk.specs.Table.{grainsize, stride, firstblocklevel, beyond, descaddr, table_next};
-ghost use Rattle.walk.specs.Table.{leaf_permissions, leaf_result, level_next};
-ghost use Rattle.walk.specs.Walk.{walked_of};
+ghost use Rattle.walk.specs.Table.{leaf_permissions, leaf_result, level_next, ends};
 ghost use Rattle.walk.specs.State.{lookup_of, stepped, meant, Standing, Leads};
 
 use crate::rights;
@@ -45,11 +44,12 @@ pub struct Leaf {
 // What a walk ends in: a leaf, or a fault status code.
 pub type Walked = Result<Leaf, u8>;
 
-// What a level's descriptor leads to.
+// What a level's descriptor leads to: the next level, or the walk's end.
 #[derive(Clone, Copy)]
 pub enum Step {
     Next(WalkState),
-    Done(Walked),
+    Leaf(Leaf),
+    Fault(u8),
 }
 
 // log2 of the granule's bytes.
@@ -102,7 +102,7 @@ fn table_step(p: Params, w: WalkState, desc: u64) -> Step
     ensures leads { Leads p w result }
 {
     if too_large(desc, p.outputsize) {
-        return Step::Done(Err(w.level));
+        return Step::Fault(w.level);
     }
     Step::Next(WalkState {
         tables: w.tables | desc,
@@ -130,24 +130,25 @@ fn permissions(p: Params, w: WalkState, desc: u64) -> Permissions
 
 // A block or page descriptor: the leaf, unless blocks are not allowed there, its output lies beyond the output size,
 // or its access flag is clear.
-#[tactic(auto, using(crate::proofs::Levels::parts_fit), unfolding(crate::specs::Table::leaf_result, crate::specs::Table::leaf_translation))]
-fn leaf_step(p: Params, w: WalkState, va: u64, desc: u64) -> Walked
+#[tactic(auto, using(crate::proofs::Levels::leaves), unfolding(crate::specs::Table::leaf_result, crate::specs::Table::leaf_translation))]
+fn leaf_step(p: Params, w: WalkState, va: u64, desc: u64) -> Step
     requires standing { Standing p w }
     requires outputsize_bound { p.outputsize ≤ 44 }
-    ensures { result ≡ walked_of p.singlepriv p.wxn (leaf_result p va (lookup_of p w) desc) }
+    ensures result_value { stepped p result ≡ meant p (ends (leaf_result p va (lookup_of p w) desc)) }
+    ensures leads { Leads p w result }
 {
     if w.level < first_block_level(p.largegrain) {
-        return Err(4 + w.level);
+        return Step::Fault(4 + w.level);
     }
     if too_large(desc, p.outputsize) {
-        return Err(w.level);
+        return Step::Fault(w.level);
     }
     if (desc >> 10) % 2 == 0 {
-        return Err(8 + w.level);
+        return Step::Fault(8 + w.level);
     }
     let frame = bits::align_down(desc % 0x1_0000_0000_0000, w.lsb);
     let offset = bits::low_bits(va, w.lsb);
-    Ok(Leaf {
+    Step::Leaf(Leaf {
         oa: frame + offset,
         desc,
         perms: rights::perm_byte(p.singlepriv, p.wxn, permissions(p, w, desc)),
@@ -157,7 +158,7 @@ fn leaf_step(p: Params, w: WalkState, va: u64, desc: u64) -> Walked
 }
 
 // What a descriptor of the level says.
-#[tactic(auto, using(crate::proofs::Levels::stops), unfolding(crate::specs::Table::level_next))]
+#[tactic(auto, using(crate::proofs::Levels::fault_leads), unfolding(crate::specs::Table::level_next))]
 pub(crate) fn level_step(p: Params, w: WalkState, va: u64, desc: u64) -> Step
     requires standing { Standing p w }
     requires outputsize_bound { p.outputsize ≤ 44 }
@@ -168,10 +169,10 @@ pub(crate) fn level_step(p: Params, w: WalkState, va: u64, desc: u64) -> Step
     let table = (desc >> 1) % 2 == 1;
     let last = w.level == 3;
     if !valid || (last && !table) {
-        Step::Done(Err(4 + w.level))
+        Step::Fault(4 + w.level)
     } else if table && !last {
         table_step(p, w, desc)
     } else {
-        Step::Done(leaf_step(p, w, va, desc))
+        leaf_step(p, w, va, desc)
     }
 }

@@ -105,9 +105,11 @@ fn start_of(largegrain: bool, n: u64) -> Start
     ensures value { result ≡ start_of largegrain n }
     ensures level_bound { (result.level ≤ 3) × (result.lsb < n) }
 {
-    let grain = if largegrain { 16 } else { 12 };
-    let stride = grain - 3;
-    let strides = (n - grain).div_ceil(stride);
+    let (grain, stride, strides) = if largegrain {
+        (16, 13, (n - 16).div_ceil(13))
+    } else {
+        (12, 9, (n - 12).div_ceil(9))
+    };
     Start {
         level: (4 - strides) as u8,
         lsb: grain + (strides - 1) * stride,

@@ -40,11 +40,11 @@ impl fmt::Display for Meaning {
                 let next = next.table;
                 write!(f, "{}", Table { desc, next })
             }
-            Step::Done(Ok(leaf)) => {
+            Step::Leaf(leaf) => {
                 write!(f, "{}, output {:x}", size(self.lsb), leaf.oa)?;
                 write!(f, "\n           {}", Attributes(leaf.desc))
             }
-            Step::Done(Err(code)) => write!(f, "{}", Status(u64::from(code))),
+            Step::Fault(status) => write!(f, "{}", Status(u64::from(status))),
         }
     }
 }
