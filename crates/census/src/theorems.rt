@@ -27,7 +27,8 @@ pub fn sums_of_counts()
         → total (census_of s r memory first pages) ≡ pages }
     ensures ranges_join { (s : Bank) (r : Regime) (memory : ℕ → Option ℕ) (first n m next j : ℕ)
         → next ≡ wrap (first + n * 4096) → j < 129
-        → census_count s r memory first (n + m) j ≡ census_count s r memory first n j + census_count s r memory next m j }
+        → census_count s r memory first (n + m) j
+        ≡ census_count s r memory first n j + census_count s r memory next m j }
     ensures low_bits_dropped { (s : Bank) (r : Regime) (memory : ℕ → Option ℕ) (first other pages : ℕ)
         → first / 4096 ≡ other / 4096 → census_of s r memory first pages ≡ census_of s r memory other pages }
 {}

@@ -1,6 +1,6 @@
--- Worked case 13 of docs/SCOPE.md, entries of each kind, and the recorded departures, computed. The PC is 0x8000; VBAR_ELx are 0x10000, 0x20000
--- and 0x30000; FAR_ELx hold 0xF1, 0xF2 and 0xF3 before.
-use Rattle.std.specs.Prelude.{◌≡◌, ℕ, Bool, true, false, List, [], ◌∷◌, refl, None}
+-- Worked case 13 of docs/SCOPE.md, entries of each kind, and the recorded departures: `theorems` promises them, each row computed. The PC is 0x8000;
+-- VBAR_ELx are 0x10000, 0x20000 and 0x30000; FAR_ELx hold 0xF1, 0xF2 and 0xF3 before.
+use Rattle.std.specs.Prelude.{◌≡◌, ℕ, Bool, true, false, List, [], ◌∷◌, None}
 use Rattle.fault.specs.First.{first}
 use Rattle.sysreg.specs.Regs.{levels, sys_at}
 use Rattle.sysreg.specs.declared.{regs.El.El, regs.SysRegs.SysRegs}
@@ -8,13 +8,10 @@ use Rattle.sysreg.specs.declared.regs.El.TheVariants.{El1, El2, El3}
 use Rattle.sysreg.specs.declared.regs.SysReg.TheVariants.{Elr, Spsr, Esr, Far}
 use Rattle.exception.specs.declared.{kind.Exception.Exception, flags.Flags.Flags, take.Entered.Entered}
 use Rattle.exception.specs.declared.kind.Exception.TheVariants.{Svc, Hvc, Smc, Brk, PcAlignment}
-use Rattle.exception.specs.Pstate.{spsr_of}
 use Rattle.exception.specs.Abort.{data_abort_at, insn_abort_at}
-use Rattle.exception.specs.Syndrome.{syndrome_of}
-use Rattle.exception.specs.Route.{routed_to}
-use Rattle.exception.specs.Entry.{entered_sys, take_exception, enter_of, take_sync}
+use Rattle.exception.specs.Entry.{enter_of, take_sync}
 
-pub registers : SysRegs
+abbrev pub registers : SysRegs
 registers =
     record {
       mair = levels 0 0 0;
@@ -29,85 +26,48 @@ registers =
     }
 
 -- N and Z set, nothing masked, SP_EL0
-pub user : Flags
+abbrev pub user : Flags
 user = record { nzcv = 0xC000_0000; daif = 0; spsel = false }
 
 -- all masked; SP_ELx or SP_EL0
-pub masked : Bool → Flags
+abbrev pub masked : Bool → Flags
 masked sp = record { nzcv = 0; daif = 0x3C0; spsel = sp }
 
 -- the level, the PC, and ESR, FAR, ELR, SPSR of a level
-pub seen : El → Entered → List ℕ
+abbrev pub seen : El → Entered → List ℕ
 seen el n = n.level ∷ n.pc ∷ sys_at n.sys (Esr el) ∷ sys_at n.sys (Far el) ∷ sys_at n.sys (Elr el) ∷ sys_at n.sys (Spsr el) ∷ []
 
 -- an exception at a level, with SCR_EL3 and HCR_EL2, and what is seen at a level
-pub entry : ℕ → Flags → ℕ → ℕ → Exception → El → List ℕ
-unfolding registers seen
+abbrev pub entry : ℕ → Flags → ℕ → ℕ → Exception → El → List ℕ
 entry level f scr hcr e el = seen el (take_sync level f 0x8000 scr hcr registers e)
 
--- case 13: EL0 store, status 0x0D, to EL1
-pub case13 : (syndrome_of (data_abort_at 0x40001234 true (first 0x0D)) 0 1 0x8000).esr ≡ 0x9200004D
-unfolding syndrome_of
-case13 = refl
+-- case 13 again, and entries of each kind
+pub record WorkedEntries : Type 0 where
+  pub case_13 : entry 0 user 0 0 (data_abort_at 0x40001234 true (first 0x0D)) El1 ≡ (1 ∷ 0x10400 ∷ 0x9200004D ∷ 0x40001234 ∷ 0x8000 ∷ 0xC0000000 ∷ [])
+  pub svc : entry 0 user 0 0 (Svc 0x1234) El1 ≡ (1 ∷ 0x10400 ∷ 0x56001234 ∷ 0xF1 ∷ 0x8004 ∷ 0xC0000000 ∷ [])
+  pub svc_with_tge : entry 0 user 1 0x8000000 (Svc 0x1234) El2 ≡ (2 ∷ 0x20400 ∷ 0x56001234 ∷ 0xF2 ∷ 0x8004 ∷ 0xC0000000 ∷ [])
+  pub fetch_secure_with_tge : entry 0 user 0 0x8000000 (insn_abort_at 0x5000 (first 0x0F)) El1 ≡ (1 ∷ 0x10400 ∷ 0x8200000F ∷ 0x5000 ∷ 0x8000 ∷ 0xC0000000 ∷ [])
+  pub abort_to_itself : entry 1 (masked true) 1 0 (data_abort_at 0x6000 false (first 0x05)) El1 ≡ (1 ∷ 0x10200 ∷ 0x96000005 ∷ 0x6000 ∷ 0x8000 ∷ 0x3C5 ∷ [])
+  pub hvc : entry 1 (masked true) 0x101 0 (Hvc 1) El2 ≡ (2 ∷ 0x20400 ∷ 0x5A000001 ∷ 0xF2 ∷ 0x8004 ∷ 0x3C5 ∷ [])
+  pub hvc_without_hce : entry 1 (masked true) 1 0 (Hvc 1) El1 ≡ (1 ∷ 0x10200 ∷ 0x2000000 ∷ 0xF1 ∷ 0x8000 ∷ 0x3C5 ∷ [])
+  pub hvc_secure : entry 1 (masked true) 0x100 0 (Hvc 1) El1 ≡ (1 ∷ 0x10200 ∷ 0x2000000 ∷ 0xF1 ∷ 0x8000 ∷ 0x3C5 ∷ [])
+  pub smc : entry 1 (masked true) 1 0 (Smc 1) El3 ≡ (3 ∷ 0x30400 ∷ 0x5E000001 ∷ 0xF3 ∷ 0x8004 ∷ 0x3C5 ∷ [])
+  pub smc_with_tsc : entry 1 (masked true) 1 0x80000 (Smc 1) El2 ≡ (2 ∷ 0x20400 ∷ 0x5E000001 ∷ 0xF2 ∷ 0x8000 ∷ 0x3C5 ∷ [])
+  pub smc_with_smd : entry 2 (masked true) 0x81 0x80000 (Smc 1) El2 ≡ (2 ∷ 0x20200 ∷ 0x2000000 ∷ 0xF2 ∷ 0x8000 ∷ 0x3C9 ∷ [])
+  pub brk : entry 2 (masked true) 1 0 (Brk 7) El2 ≡ (2 ∷ 0x20200 ∷ 0xF2000007 ∷ 0xF2 ∷ 0x8000 ∷ 0x3C9 ∷ [])
+  pub pc_alignment_sp_el0 : entry 3 (masked false) 1 0x8000000 PcAlignment El3 ≡ (3 ∷ 0x30000 ∷ 0x8A000000 ∷ 0x8000 ∷ 0x8000 ∷ 0x3CC ∷ [])
 
--- case 13 again; SVC; SVC and TGE; an instruction abort from Secure EL0, which TGE leaves; an abort from EL1 to itself; HVC, with HCE clear, at
--- Secure EL1; SMC, with TSC, with SMD at EL2; BRK; PC alignment at EL3 with SP_EL0
-pub entries :
-    (entry 0 user 0 0 (data_abort_at 0x40001234 true (first 0x0D)) El1
-    ∷ entry 0 user 0 0 (Svc 0x1234) El1
-    ∷ entry 0 user 1 0x8000000 (Svc 0x1234) El2
-    ∷ entry 0 user 0 0x8000000 (insn_abort_at 0x5000 (first 0x0F)) El1
-    ∷ entry 1 (masked true) 1 0 (data_abort_at 0x6000 false (first 0x05)) El1
-    ∷ entry 1 (masked true) 0x101 0 (Hvc 1) El2
-    ∷ entry 1 (masked true) 1 0 (Hvc 1) El1
-    ∷ entry 1 (masked true) 0x100 0 (Hvc 1) El1
-    ∷ entry 1 (masked true) 1 0 (Smc 1) El3
-    ∷ entry 1 (masked true) 1 0x80000 (Smc 1) El2
-    ∷ entry 2 (masked true) 0x81 0x80000 (Smc 1) El2
-    ∷ entry 2 (masked true) 1 0 (Brk 7) El2
-    ∷ entry 3 (masked false) 1 0x8000000 PcAlignment El3
-    ∷ [])
-    ≡ ((1 ∷ 0x10400 ∷ 0x9200004D ∷ 0x40001234 ∷ 0x8000 ∷ 0xC0000000 ∷ [])
-    ∷ (1 ∷ 0x10400 ∷ 0x56001234 ∷ 0xF1 ∷ 0x8004 ∷ 0xC0000000 ∷ [])
-    ∷ (2 ∷ 0x20400 ∷ 0x56001234 ∷ 0xF2 ∷ 0x8004 ∷ 0xC0000000 ∷ [])
-    ∷ (1 ∷ 0x10400 ∷ 0x8200000F ∷ 0x5000 ∷ 0x8000 ∷ 0xC0000000 ∷ [])
-    ∷ (1 ∷ 0x10200 ∷ 0x96000005 ∷ 0x6000 ∷ 0x8000 ∷ 0x3C5 ∷ [])
-    ∷ (2 ∷ 0x20400 ∷ 0x5A000001 ∷ 0xF2 ∷ 0x8004 ∷ 0x3C5 ∷ [])
-    ∷ (1 ∷ 0x10200 ∷ 0x2000000 ∷ 0xF1 ∷ 0x8000 ∷ 0x3C5 ∷ [])
-    ∷ (1 ∷ 0x10200 ∷ 0x2000000 ∷ 0xF1 ∷ 0x8000 ∷ 0x3C5 ∷ [])
-    ∷ (3 ∷ 0x30400 ∷ 0x5E000001 ∷ 0xF3 ∷ 0x8004 ∷ 0x3C5 ∷ [])
-    ∷ (2 ∷ 0x20400 ∷ 0x5E000001 ∷ 0xF2 ∷ 0x8000 ∷ 0x3C5 ∷ [])
-    ∷ (2 ∷ 0x20200 ∷ 0x2000000 ∷ 0xF2 ∷ 0x8000 ∷ 0x3C9 ∷ [])
-    ∷ (2 ∷ 0x20200 ∷ 0xF2000007 ∷ 0xF2 ∷ 0x8000 ∷ 0x3C9 ∷ [])
-    ∷ (3 ∷ 0x30000 ∷ 0x8A000000 ∷ 0x8000 ∷ 0x8000 ∷ 0x3CC ∷ [])
-    ∷ [])
-unfolding entry seen registers user masked take_sync take_exception entered_sys syndrome_of routed_to spsr_of
-entries = refl
-
--- docs/DIFFERENCES.md: A7, A15, A16 with HVC and with SMC, D2, M12, M16
-pub departures :
-    (entry 1 (masked true) 0x81 0x80000 (Smc 1) El1
-    ∷ entry 0 (masked true) 0 0 (Svc 0) El1
-    ∷ entry 0 (masked true) 0x101 0 (Hvc 1) El2
-    ∷ entry 0 (masked true) 0x101 0 (Smc 1) El3
-    ∷ entry 1 (masked true) 8 0 (data_abort_at 0x80000000 false (first 0x10)) El1
-    ∷ entry 1 (masked true) 0 0 (Smc 1) El3
-    ∷ entry 1 (masked true) 0 0 (data_abort_at 0 false (first 0x40)) El1
-    ∷ [])
-    ≡ ((1 ∷ 0x10200 ∷ 0x2000000 ∷ 0xF1 ∷ 0x8000 ∷ 0x3C5 ∷ [])
-    ∷ (1 ∷ 0x10400 ∷ 0x56000000 ∷ 0xF1 ∷ 0x8004 ∷ 0x3C1 ∷ [])
-    ∷ (2 ∷ 0x20400 ∷ 0x5A000001 ∷ 0xF2 ∷ 0x8004 ∷ 0x3C1 ∷ [])
-    ∷ (3 ∷ 0x30400 ∷ 0x5E000001 ∷ 0xF3 ∷ 0x8004 ∷ 0x3C1 ∷ [])
-    ∷ (1 ∷ 0x10200 ∷ 0x96000010 ∷ 0x80000000 ∷ 0x8000 ∷ 0x3C5 ∷ [])
-    ∷ (3 ∷ 0x30400 ∷ 0x5E000001 ∷ 0xF3 ∷ 0x8004 ∷ 0x3C5 ∷ [])
-    ∷ (1 ∷ 0x10200 ∷ 0x96000040 ∷ 0x0 ∷ 0x8000 ∷ 0x3C5 ∷ [])
-    ∷ [])
-unfolding entry seen registers user masked take_sync take_exception entered_sys syndrome_of routed_to spsr_of
-departures = refl
+-- the rows of docs/DIFFERENCES.md
+pub record WorkedDepartures : Type 0 where
+  pub a7 : entry 1 (masked true) 0x81 0x80000 (Smc 1) El1 ≡ (1 ∷ 0x10200 ∷ 0x2000000 ∷ 0xF1 ∷ 0x8000 ∷ 0x3C5 ∷ [])
+  pub a15 : entry 0 (masked true) 0 0 (Svc 0) El1 ≡ (1 ∷ 0x10400 ∷ 0x56000000 ∷ 0xF1 ∷ 0x8004 ∷ 0x3C1 ∷ [])
+  pub a16_hvc : entry 0 (masked true) 0x101 0 (Hvc 1) El2 ≡ (2 ∷ 0x20400 ∷ 0x5A000001 ∷ 0xF2 ∷ 0x8004 ∷ 0x3C1 ∷ [])
+  pub a16_smc : entry 0 (masked true) 0x101 0 (Smc 1) El3 ≡ (3 ∷ 0x30400 ∷ 0x5E000001 ∷ 0xF3 ∷ 0x8004 ∷ 0x3C1 ∷ [])
+  pub d2 : entry 1 (masked true) 8 0 (data_abort_at 0x80000000 false (first 0x10)) El1 ≡ (1 ∷ 0x10200 ∷ 0x96000010 ∷ 0x80000000 ∷ 0x8000 ∷ 0x3C5 ∷ [])
+  pub m12 : entry 1 (masked true) 0 0 (Smc 1) El3 ≡ (3 ∷ 0x30400 ∷ 0x5E000001 ∷ 0xF3 ∷ 0x8004 ∷ 0x3C5 ∷ [])
+  pub m16 : entry 1 (masked true) 0 0 (data_abort_at 0 false (first 0x40)) El1 ≡ (1 ∷ 0x10200 ∷ 0x96000040 ∷ 0x0 ∷ 0x8000 ∷ 0x3C5 ∷ [])
 
 -- an IRQ from EL1 to EL2, and an FIQ from EL3 with SP_EL0 to itself: ESR and FAR stay
-pub interrupts :
-    (seen El2 (enter_of 1 (masked true) registers El2 0x80 None None 0x8000) ∷ seen El3 (enter_of 3 (masked false) registers El3 0x100 None None 0x8000) ∷ [])
-    ≡ ((2 ∷ 0x20480 ∷ 0 ∷ 0xF2 ∷ 0x8000 ∷ 0x3C5 ∷ []) ∷ (3 ∷ 0x30100 ∷ 0 ∷ 0xF3 ∷ 0x8000 ∷ 0x3CC ∷ []) ∷ [])
-unfolding seen registers masked enter_of spsr_of
-interrupts = refl
+pub record WorkedInterrupts : Type 0 where
+  pub irq : seen El2 (enter_of 1 (masked true) registers El2 0x80 None None 0x8000) ≡ (2 ∷ 0x20480 ∷ 0 ∷ 0xF2 ∷ 0x8000 ∷ 0x3C5 ∷ [])
+  pub fiq : seen El3 (enter_of 3 (masked false) registers El3 0x100 None None 0x8000) ≡ (3 ∷ 0x30100 ∷ 0 ∷ 0xF3 ∷ 0x8000 ∷ 0x3CC ∷ [])

@@ -1,12 +1,12 @@
 -- Where the values are those that the manual has, what the definitions add for others says nothing.
-use Rattle.std.specs.Prelude.{if◌then◌else◌, ◌≡◌, ℕ, ◌+◌, ◌/◌, ◌%◌, ◌^◌, ◌<◌, Bool, true, false, ◌==◌, refl}
+use Rattle.std.specs.Prelude.{if◌then◌else◌, ◌≡◌, ℕ, ◌+◌, ◌/◌, ◌%◌, ◌^◌, ◌<◌, Bool, true, false, ◌==◌}
 use Rattle.std.proofs.Common.{mod-eq_of_lt, arith}
 use Rattle.std.specs.Int.Bits.{or_zero_r}
 use Rattle.word.specs.Bits.{flag, wrap}
 use Rattle.exception.specs.declared.flags.Flags.{Flags}
-use Rattle.exception.specs.Pstate.{fresh_flags, psr, OwnBits, stray_bits, spsr_of}
+use Rattle.exception.specs.Pstate.{psr, OwnBits, stray_bits, spsr_of}
 use Rattle.exception.specs.Syndrome.{data_status}
-use Rattle.exception.specs.Entry.{vect_offset, entry_flags}
+use Rattle.exception.specs.Entry.{vect_offset}
 
 -- where PSTATE's words hold their own bits alone, SPSR is the manual's
 own-stray : (f : Flags) → OwnBits f → stray_bits f ≡ 0
@@ -15,13 +15,6 @@ own-stray f h = rw (h.nzcv-31-28, h.daif-9, h.daif-6)
 pub spsr-fields : (level : ℕ) (f : Flags) → OwnBits f → spsr_of level f ≡ psr level f
 unfolding spsr_of
 spsr-fields level f h = rw (own-stray f h) (or_zero_r (psr level f))
-
--- as they do after reset, and after every entry from such words
-pub fresh-fields : OwnBits fresh_flags
-fresh-fields = record { nzcv-31-28 = refl; daif-9 = refl; daif-6 = refl }
-
-pub entry-fields : (f : Flags) → OwnBits f → OwnBits (entry_flags f)
-entry-fields f h = record { nzcv-31-28 = h.nzcv-31-28; daif-9 = refl; daif-6 = refl }
 
 -- a status of six bits
 pub status-fields : (write : Bool) (fsc : ℕ) → fsc < 2 ^ 6 → data_status write fsc ≡ flag write (2 ^ 6) + fsc

@@ -17,7 +17,7 @@ fresh_flags = record { nzcv = 0; daif = daif_all; spsel = true }
 abbrev pub psr : ℕ → Flags → ℕ
 psr level f = field f.nzcv 28 4 * 2 ^ 28 + field f.daif 6 4 * 2 ^ 6 + level % 2 ^ 2 * 2 ^ 2 + flag f.spsel 1
 
--- That is all where the words hold no bit elsewhere, as after reset and after every entry (FieldLaws): nothing else writes them.
+-- That is all where the words hold no bit elsewhere, as after reset and after every entry (`theorems::fields_of_entry`): nothing else writes them.
 pub record OwnBits (f : Flags) : Type 0 where
   pub nzcv-31-28 : f.nzcv % 2 ^ 28 ≡ 0
   pub daif-9 : align_down f.daif 10 ≡ 0

@@ -202,7 +202,7 @@ user-el1 level op1 crn crm op2 f e =
     refused true = tt
     refused false = tt
 
--- no two rows have one encoding: each is found by its own
+-- what is found by the encoding of each row
 abbrev pub number : Field → ℕ
 number (only n) = n
 number any = 0
@@ -210,6 +210,3 @@ number any = 0
 abbrev pub looked_up : List Row → List Row
 looked_up [] = []
 looked_up (r ∷ rs) = look_up table r.op1 r.crn (number r.crm) (number r.op2) ∷ looked_up rs
-
-pub rows_apart : looked_up table ≡ table
-rows_apart = refl

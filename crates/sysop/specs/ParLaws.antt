@@ -1,5 +1,5 @@
 -- Laws of PAR_EL1 after an AT.
-use Rattle.std.specs.Prelude.{if◌then◌else◌, ◌≡◌, Bool, true, false, not, ◌&&◌, ◌||◌, ℕ, ◌+◌, ◌*◌, ◌/◌, ◌%◌, ◌^◌, ◌≤◌, ◌<◌, Option, Ok, Err}
+use Rattle.std.specs.Prelude.{if◌then◌else◌, ◌≡◌, Bool, true, false, not, ◌&&◌, ◌||◌, ℕ, ◌+◌, ◌*◌, ◌%◌, ◌^◌, ◌<◌, Option, Ok, Err}
 use Rattle.std.proofs.Math.Path.{refl, ap}
 use Rattle.std.proofs.Common.{◌∙◌, arith}
 use Rattle.word.specs.Bits.{bit_on, bit0, field}
@@ -80,30 +80,6 @@ pub record Fields (par attr pa : ℕ) (n : Bool) (s : ℕ) : Type 0 where
   pub pa-47-12 : field par 12 36 ≡ field pa 12 36
   pub ns-9 : bit_on par 9 ≡ n
   pub sh-8-7 : field par 7 2 ≡ s
-
-sum-ns : (a b n s : ℕ) → n ≤ 1 → s < 2 ^ 2 → (a * 2 ^ 56 + b * 2 ^ 12 + 2 ^ 11 + n * 2 ^ 9 + s * 2 ^ 7) / 2 ^ 9 % 2 ≡ n
-sum-ns a b n s h k = omega arith
-
-pub success-fields : (attr pa : ℕ) (n : Bool) (s : ℕ) → attr < 2 ^ 8 → s < 2 ^ 2 → Fields (success attr pa n s) attr pa n s
-unfolding success
-success-fields attr pa true s h k =
-    record {
-      attr-63-56 = omega arith;
-      pa-47-12 = omega arith;
-      ns-9 = rw (sum-ns attr (field pa 12 36) 1 s (omega arith) k);
-      sh-8-7 = omega arith;
-    }
-success-fields attr pa false s h k =
-    record {
-      attr-63-56 = omega arith;
-      pa-47-12 = omega arith;
-      ns-9 = rw (sum-ns attr (field pa 12 36) 0 s (omega arith) k);
-      sh-8-7 = omega arith;
-    }
-
-pub abort-fst : (status : ℕ) → status < 2 ^ 6 → field (abort status) 1 6 ≡ status
-unfolding abort
-abort-fst status h = omega arith
 
 -- PAR_EL1 has 64 bits
 success-small : (attr pa : ℕ) (n : Bool) (s : ℕ) → attr < 2 ^ 8 → s < 2 ^ 2 → success attr pa n s < 2 ^ 64

@@ -1,21 +1,19 @@
--- Encodings by mnemonic, and the bits of each field, computed: a place that code and definition both had wrong fails
--- here.
-use Rattle.std.specs.Prelude.{◌≡◌, refl, true, false, [], ◌∷◌, ℕ}
+-- The SYS encodings by mnemonic, as tables that `theorems` promises, each row computed.
+use Rattle.std.specs.Prelude.{◌≡◌, ℕ}
 use Rattle.sysreg.specs.Regs.{levels}
 use Rattle.sysreg.specs.declared.regs.Control.{Control}
-use Rattle.tlb.specs.declared.Inval.TheVariants.{All, Page, Asid}
 use Rattle.sysop.specs.Op as op
 use Rattle.sysop.specs.Op.{AT-S1E1R, AT-S1E1W, AT-S1E0R, AT-S1E0W, AT-S1E2R, AT-S1E2W, AT-S12E1R, AT-S12E1W, AT-S12E0R, AT-S12E0W, AT-S1E3R, AT-S1E3W}
 use Rattle.sysop.specs.Op.{DC-ZVA, DC-CVAC, DC-CVAU, DC-CIVAC, IC-IVAU, DC-IVAC, DC-ISW, DC-CSW, DC-CISW, IC-IALLU, IC-IALLUIS}
 use Rattle.sysop.specs.Tlbi.{Instruction, VMALLE1, VAE1, ASIDE1, VAAE1, VALE1, VAALE1, ALLE2, VAE2, ALLE1, VALE2, VMALLS12E1, IPAS2E1, IPAS2LE1, ALLE3}
-use Rattle.sysop.specs.Tlbi.{VAE3, VALE3, instructions, instruction_at, scope_of, what_of, tlbi_of}
-use Rattle.sysop.specs.Par.{success, abort}
+use Rattle.sysop.specs.Tlbi.{VAE3, VALE3, instructions, instruction_at}
 
 -- SYS op1, CRn, CRm, op2
 abbrev Is : op.Name → ℕ → ℕ → ℕ → ℕ → Type 0
 Is n op1 crn crm op2 = (op.named op1 crn crm op2).name ≡ n
 
-pub translations :
+abbrev pub TranslationNames : Type 0
+TranslationNames =
     Is AT-S1E1R 0 7 8 0
     × Is AT-S1E1W 0 7 8 1
     × Is AT-S1E0R 0 7 8 2
@@ -28,10 +26,9 @@ pub translations :
     × Is AT-S12E0W 4 7 8 7
     × Is AT-S1E3R 6 7 8 0
     × Is AT-S1E3W 6 7 8 1
-unfolding op.named
-translations = (refl, refl, refl, refl, refl, refl, refl, refl, refl, refl, refl, refl)
 
-pub maintenance :
+abbrev pub MaintenanceNames : Type 0
+MaintenanceNames =
     Is DC-ZVA 3 7 4 1
     × Is IC-IVAU 3 7 5 1
     × Is DC-CVAC 3 7 10 1
@@ -43,15 +40,14 @@ pub maintenance :
     × Is DC-ISW 0 7 6 2
     × Is DC-CSW 0 7 10 2
     × Is DC-CISW 0 7 14 2
-unfolding op.named
-maintenance = (refl, refl, refl, refl, refl, refl, refl, refl, refl, refl, refl)
 
 -- TLBI op1, op2: the Inner Shareable form with CRm 3, and the other with CRm 7; by intermediate physical address with
 -- CRm 0 and 4
 abbrev Both : Instruction → ℕ → ℕ → ℕ → ℕ → Type 0
 Both n op1 crm local op2 = (instruction_at instructions op1 crm op2 ≡ n) × (instruction_at instructions op1 local op2 ≡ n)
 
-pub invalidations :
+abbrev pub InvalidationNames : Type 0
+InvalidationNames =
     Both VMALLE1 0 3 7 0
     × Both VAE1 0 3 7 1
     × Both ASIDE1 0 3 7 2
@@ -68,27 +64,9 @@ pub invalidations :
     × Both VALE3 6 3 7 5
     × Both IPAS2E1 4 0 4 1
     × Both IPAS2LE1 4 0 4 5
-invalidations = (
-  (refl, refl),
-  (refl, refl),
-  (refl, refl),
-  (refl, refl),
-  (refl, refl),
-  (refl, refl),
-  (refl, refl),
-  (refl, refl),
-  (refl, refl),
-  (refl, refl),
-  (refl, refl),
-  (refl, refl),
-  (refl, refl),
-  (refl, refl),
-  (refl, refl),
-  (refl, refl),
-)
 
--- a core whose TCR_EL1 is given
-abbrev tcr_el1 : ℕ → Control
+-- the settings of a core whose TCR_EL1 is given
+abbrev pub tcr_el1 : ℕ → Control
 tcr_el1 tcr =
     record {
       sctlr = levels 0 0 0;
@@ -98,29 +76,3 @@ tcr_el1 tcr =
       scr_el3 = 0;
       hcr_el2 = 0;
     }
-
--- TLBI ASIDE1 and VAE1 of one operand: with TCR_EL1.AS, without; with TG1 4 KiB, with TG1 64 KiB, with TG0 64 KiB
-pub operands :
-    (tlbi_of (tcr_el1 0x10_0000_0000) 0 7 2 0xABCD_0000_0000_1234
-    ∷ tlbi_of (tcr_el1 0) 0 7 2 0xABCD_0000_0000_1234
-    ∷ tlbi_of (tcr_el1 0x8000_0000) 0 7 1 0xABCD_0000_0000_1234
-    ∷ tlbi_of (tcr_el1 0xC000_0000) 0 7 1 0xABCD_0000_0000_1234
-    ∷ tlbi_of (tcr_el1 0x8000_4000) 0 7 1 0xABCD_0000_0000_1234
-    ∷ [])
-    ≡ (Asid 0xABCD ∷ Asid 0xCD ∷ Page 0xABCD_0000_0000_1234 ∷ All ∷ All ∷ [])
-unfolding tlbi_of what_of scope_of
-operands = refl
-
--- PAR_EL1: ATTR, PA, NS and SH alone, and FST
-pub fields :
-    (success 0xFF 0 false 0
-    ∷ success 0 0xFFFF_FFFF_FFFF_FFFF false 0
-    ∷ success 0 0 true 0
-    ∷ success 0 0 false 0b11
-    ∷ success 0 0 false 0
-    ∷ abort 0b11_1111
-    ∷ abort 0
-    ∷ [])
-    ≡ (0xFF00_0000_0000_0800 ∷ 0xFFFF_FFFF_F800 ∷ 0xA00 ∷ 0x980 ∷ 0x800 ∷ 0x87F ∷ 0x801 ∷ [])
-unfolding success abort
-fields = refl

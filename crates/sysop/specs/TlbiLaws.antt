@@ -7,7 +7,7 @@ use Rattle.sysreg.specs.declared.regs.Control.{Control}
 use Rattle.walk.specs.declared.regime.Regime.TheVariants.{El1}
 use Rattle.tlb.specs.declared.Inval.{Inval}
 use Rattle.tlb.specs.declared.Inval.TheVariants.{All, Page, Asid}
-use Rattle.sysop.specs.Tlbi.{Scope, everything, asid_form, ranged, Encoding, stage1, scope_of, tcr_of, pages4k, what_of, tlbi_of, reaches_others}
+use Rattle.sysop.specs.Tlbi.{Scope, everything, asid_form, ranged, Encoding, scope_of, tcr_of, pages4k, what_of, tlbi_of, reaches_others}
 
 -- what is named lies within the operand: a Page is the operand itself, and an ASID has 16 bits
 abbrev pub Within : ℕ → Inval → Type 0
@@ -37,7 +37,7 @@ pub page-operand : (c : Control) (op1 crm op2 x page : ℕ) → tlbi_of c op1 cr
 unfolding tlbi_of
 page-operand c op1 crm op2 x page e = subst (Within x) e (within c x (scope_of op1 crm op2))
 
--- the forms that reach the other cores are the Inner Shareable ones of stage 1
+-- which forms of a list are Inner Shareable, and which reach the other cores
 abbrev pub shareables : List Encoding → List Bool
 shareables [] = []
 shareables (r ∷ rs) = r.shareable ∷ shareables rs
@@ -45,6 +45,3 @@ shareables (r ∷ rs) = r.shareable ∷ shareables rs
 abbrev pub reaching : List Encoding → List Bool
 reaching [] = []
 reaching (r ∷ rs) = reaches_others r.crm ∷ reaching rs
-
-pub shareable-reaches : reaching stage1 ≡ shareables stage1
-shareable-reaches = refl

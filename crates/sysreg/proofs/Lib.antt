@@ -1,3 +1,4 @@
 -- What the proofs share.
 pub mod Masks
 pub mod Stores
+pub mod Encodings

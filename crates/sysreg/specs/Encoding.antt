@@ -16,7 +16,7 @@ encode op0 op1 crn crm op2 = op0 * 2 ^ 14 + op1 * 2 ^ 11 + crn * 2 ^ 7 + crm * 2
 abbrev pub shifted : ℕ → ℕ → ℕ
 shifted x n = x * 2 ^ n % 2 ^ 32
 
--- the Rust's `key`, of any five words: shifted and or-ed, none cut to its field. Of fields in range it is `encode` (EncodingLaws, `key-in-range`)
+-- the Rust's `key`, of any five words: shifted and or-ed, none cut to its field. Of fields in range it is `encode` (`theorems::encodings_of_registers`)
 abbrev pub key_word : ℕ → ℕ → ℕ → ℕ → ℕ → ℕ
 key_word op0 op1 crn crm op2 =
     bit_or (bit_or (bit_or (bit_or (shifted op0 14) (shifted op1 11)) (shifted crn 7)) (shifted crm 3)) op2

@@ -3,7 +3,6 @@ pub mod Regs
 pub mod Encoding
 pub mod Write
 pub mod Tcr
-pub mod TcrPlaces
 pub mod Shape
 pub mod Parts
 pub mod EncodingLaws

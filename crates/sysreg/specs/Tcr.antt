@@ -1,5 +1,5 @@
 -- The fields of TCR_ELx that stage 1 reads, by the manual's names: DDI 0487, TCR_EL1, TCR_EL2 and TCR_EL3 of ARMv8.0.
--- Written from knowledge of the manual; the document itself was not at hand. `TcrPlaces` computes the bits of each field.
+-- Written from knowledge of the manual; the document itself was not at hand. `theorems::places_in_tcr` has the bits of each field.
 use Rattle.std.specs.Prelude.{Bool, ℕ, ◌%◌, ◌^◌}
 use Rattle.word.specs.Bits.{bit_on, field}
 

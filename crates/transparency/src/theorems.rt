@@ -26,7 +26,8 @@ ghost use Rattle.transparency.specs.Counted.{write_modelled, write_quiet, write_
 ghost use Rattle.transparency.specs.LevelCounts.{level_hits, level_walks, sums_list, call_level, others_stay};
 ghost use Rattle.transparency.specs.LevelCounts.{own_hits, own_walks, sums_call, quiet_stays, refused_stays};
 ghost use Rattle.transparency.specs.LevelCounts.{fetch_mark_free};
-ghost use Rattle.transparency.specs.Bytes.{flat_after, load_byte_after, store_byte_after, store_others_after, zva_after};
+ghost use Rattle.transparency.specs.Bytes.{flat_after, load_byte_after, store_byte_after, store_others_after};
+ghost use Rattle.transparency.specs.Bytes.{zva_after};
 
 /// In every call after every list, each translation of a settled page is answered as by the core without a cache: those
 /// inside a load, a store, a fetch and a zeroing too. RAM at each step can be shown of every list, so that no list is

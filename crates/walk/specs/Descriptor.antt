@@ -1,5 +1,6 @@
 -- A VMSAv8-64 stage 1 descriptor by the manual's field names: DDI 0487, ARMv8.0. Written from knowledge of it; the document itself was not at hand.
--- `Places` computes the bits of each field. Not read: NSTable, bit 63 (M1, A6, M17), and the contiguous bit, 52 (O4): rows of docs/DIFFERENCES.md.
+-- `theorems::places_in_descriptors` has the bits of each field. Not read: NSTable, bit 63 (M1, A6, M17), and the contiguous bit, 52 (O4): rows
+-- of docs/DIFFERENCES.md.
 use Rattle.std.specs.Prelude.{Bool, ℕ}
 use Rattle.word.specs.Bits.{bit_on, bit0, field}
 

@@ -1,8 +1,8 @@
 -- A walk goes by pages: addresses of one page have one walk but for the offset in the page, which is the address's own.
-use Rattle.std.specs.Prelude.{Ok, Err}
-use Prim.Native.Nat.{ℕ, ◌+◌, ◌%◌, ◌^◌}
+use Rattle.std.specs.Prelude.{◌≡◌, Option, Ok, Err}
+use Prim.Native.Nat.{ℕ, ◌+◌, ◌/◌, ◌%◌, ◌^◌}
 use Rattle.word.specs.Bits.{align_down}
-use Rattle.walk.specs.declared.level.Leaf.{Leaf}
+use Rattle.walk.specs.declared.{regime.Regime.Regime, regime.Bank.Bank, level.Leaf.Leaf}
 use Rattle.walk.specs.Answers.{Walked}
 
 -- a leaf with another output address
@@ -21,3 +21,7 @@ paged (Err n) = Err n
 -- a leaf as another address of its page has it
 abbrev pub leaf_at : Leaf → ℕ → Leaf
 leaf_at leaf va = with_address leaf (align_down leaf.oa 12 + va % 2 ^ 12)
+
+-- a fact of every two addresses of one page
+abbrev pub EachPage : (Bank → Regime → (ℕ → Option ℕ) → ℕ → ℕ → Type 0) → Type 0
+EachPage P = (s : Bank) (r : Regime) (memory : ℕ → Option ℕ) (va vb : ℕ) → va / 2 ^ 12 ≡ vb / 2 ^ 12 → P s r memory va vb

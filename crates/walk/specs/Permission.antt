@@ -1,6 +1,7 @@
--- Stage 1 access permissions as the manual's tables: DDI 0487, memory access control, ARMv8.0. Written from knowledge of them; the document
--- itself was not at hand. Letters with a number are rows of docs/DIFFERENCES.md. `PermissionLaws` proves the tables equal to the expressions of
--- AArch64.CheckPermission and AArch64.TranslationTableWalk. Of those are left out: SCR_EL3.SIF (M2); alignment and Device memory (A13, D3, D4, O7).
+-- Stage 1 access permissions as the manual's tables: DDI 0487, memory access control, ARMv8.0. Written from knowledge of them; the document itself
+-- was not at hand. Letters with a number are rows of docs/DIFFERENCES.md. `theorems::permissions_by_expressions` says the tables equal to the
+-- expressions of AArch64.CheckPermission and AArch64.TranslationTableWalk. Of those are left out: SCR_EL3.SIF (M2); alignment and Device memory (A13,
+-- D3, D4, O7).
 use Rattle.std.specs.Prelude.{Bool, true, false, ℕ, ◌+◌, ◌*◌}
 use Rattle.word.specs.Bits.{flag}
 use Rattle.walk.specs.declared.rights.Permissions.{Permissions}

@@ -11,7 +11,7 @@ pub use Rattle.walk.specs.Permission.{kind_bit, first_bit}
 use Rattle.walk.specs.declared.{level.Params.Params, rights.Permissions.Permissions}
 
 -- AArch64.CheckPermission: r, w, and xn negated
-abbrev made : Bool → Bool → Bool → Rights
+abbrev pub made : Bool → Bool → Bool → Rights
 made r w x = record { r = r; w = w; x = x }
 
 module _ (wxn : Bool) (t : Permissions) where
@@ -88,7 +88,7 @@ under-xn true false = refl
 under-xn false true = refl
 under-xn false false = refl
 
-abbrev attributes : Bool → Bool → Bool → Bool → Permissions
+abbrev pub attributes : Bool → Bool → Bool → Bool → Permissions
 attributes a2 a1 x p = record { ap2 = a2; ap1 = a1; xn = x; pxn = p }
 
 pub leaf-attributes : (p : Params) (l : Lookup) (desc : ℕ)

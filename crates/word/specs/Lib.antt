@@ -1,4 +1,5 @@
 pub mod Bits
+pub mod Places
 pub mod Ram
 pub mod BitLaws
 pub mod RamLaws

@@ -1,4 +1,4 @@
-use Rattle.sysop.specs.OpLaws.{undefined-el0, tlbi-fields, user-el1}
+use Rattle.sysop.specs.OpLaws.{at_level, undefined-el0, tlbi-fields, user-el1}
 use Rattle.sysop.proofs.theorems.meaning_of_encodings.Goals as goal
 
 pub returns-clause-undefined_at_el0 : goal.returns-clause-undefined_at_el0
@@ -9,3 +9,6 @@ returns-clause-tlbi c = tlbi-fields
 
 pub returns-clause-user_of_el1 : goal.returns-clause-user_of_el1
 returns-clause-user_of_el1 c = user-el1
+
+pub returns-clause-named : goal.returns-clause-named
+returns-clause-named c = at_level

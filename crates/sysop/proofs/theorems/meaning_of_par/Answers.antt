@@ -1,4 +1,4 @@
-use Rattle.sysop.specs.ParLaws.{manual-par, par-f}
+use Rattle.sysop.specs.ParLaws.{manual-par, par-f, par-small}
 use Rattle.sysop.proofs.theorems.meaning_of_par.Goals as goal
 
 pub returns-clause-manual : goal.returns-clause-manual
@@ -6,3 +6,6 @@ returns-clause-manual c = manual-par
 
 pub returns-clause-failed : goal.returns-clause-failed
 returns-clause-failed c = par-f
+
+pub returns-clause-bounded : goal.returns-clause-bounded
+returns-clause-bounded c = par-small

@@ -1,4 +1,4 @@
-use Rattle.sysreg.specs.WriteLaws.{write-el0, write-nothing, write_done, control-written, control-others, sys-written, sys-others}
+use Rattle.sysreg.specs.WriteLaws.{write-el0, write-nothing, write_done, write-control, write-sys, control-written, control-others, sys-written, sys-others}
 use Rattle.sysreg.proofs.theorems.effect_of_writes.Goals as goal
 
 pub returns-clause-undefined_at_el0 : goal.returns-clause-undefined_at_el0
@@ -21,3 +21,9 @@ returns-clause-done c = write_done
 
 pub returns-clause-system_written : goal.returns-clause-system_written
 returns-clause-system_written c = sys-written
+
+pub returns-clause-control_keeps_system : goal.returns-clause-control_keeps_system
+returns-clause-control_keeps_system c = write-control
+
+pub returns-clause-system_keeps_control : goal.returns-clause-system_keeps_control
+returns-clause-system_keeps_control c = write-sys
