@@ -1,51 +1,16 @@
 #![tactic(auto)]
 // The entry points over a core that is lent: each makes the call's checks, and then changes the core where it lies. Each
 // promises the call's exact definition, and that its answer is faithful whatever list of calls made the core.
-ghost use Rattle.std.specs.Prelude.{◌≡◌, ℕ, Some, Option};
-ghost use Rattle.word.specs.Ram.{word_at};
-ghost use Rattle.tlb.specs.declared.access.Answer.TheVariants.{Address};
-ghost use Rattle.tlb.specs.Cache.{hint_at};
-ghost use Rattle.operations.specs.Hinted.{hint_place};
-ghost use Rattle.mmu.specs.Ops.{translate_of};
-ghost use Rattle.cpu.specs.Step.{step_of, ram_after, ends, after_translation};
+ghost use Rattle.std.specs.Prelude.{◌≡◌};
+ghost use Rattle.cpu.specs.Step.{step_of, ram_after, ends};
 ghost use Rattle.operations.specs.declared.call.Call.TheVariants as Call;
 ghost use Rattle.transparency.specs.Faithful.{FaithfulCall};
 
 use mmu::core_state::Core;
 use operations::call::Reply;
-use operations::{check, hinted, reply};
+use operations::{check, reply};
 use tlb::access::Kind;
-use tlb::hint;
-use tlb::hint::Hint;
 use word::ram::Width;
-
-// The data hint that an access asks.
-fn hint_of(core: &Core, va: u64, kind: Kind) -> Hint
-    ensures { result ≡ hint_at core.now.tlb.cache (hint_place va kind) }
-{
-    core.tlb.cache.hints[hinted::hint_place(va, kind)]
-}
-
-// Where it sends the access, if it serves.
-fn by_hint(core: &Core, va: u64, kind: Kind) -> Option<u64>
-    ensures { (memory : ℕ → Option ℕ) (pa : ℕ) → result ≡ Some pa
-        → translate_of core.now memory va kind ≡ record { core = core.now; answer = Address pa } }
-{
-    let hint = hint_of(core, va, kind);
-    if hinted::served(hint, core.privilege, va, kind) {
-        Some(hint::on_page(hint.pa, va))
-    } else {
-        None
-    }
-}
-
-// A translation that no hint serves. Out of line, so that a hint pays nothing for it.
-#[inline(never)]
-fn resolve(core: &mut Core, base: u64, ram: &[u8], va: u64, kind: Kind) -> Reply
-    ensures { record { core = core.new; reply = result } ≡ after_translation va (translate_of core.old (word_at base ram.now 8) va kind) }
-{
-    reply::translated(va, core.translate(base, ram, va, kind))
-}
 
 // A translation, by the hint first.
 #[tactic(auto, unfolding(operations::specs::Check::missed_of, cpu::specs::Step::step_of, cpu::specs::Step::run_of, cpu::specs::Step::ram_of), using(crate::proofs::Faithful::faithful_read))]
@@ -57,10 +22,7 @@ pub fn translate(core: &mut Core, base: u64, ram: &[u8], va: u64, kind: Kind) ->
     if missed != 0 {
         return Reply::Refused(missed);
     }
-    match by_hint(core, va, kind) {
-        Some(pa) => Reply::Value(pa),
-        None => resolve(core, base, ram, va, kind),
-    }
+    reply::translated(va, core.translate(base, ram, va, kind))
 }
 
 // A load.

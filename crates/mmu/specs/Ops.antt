@@ -7,7 +7,7 @@ use Rattle.tlb.specs.declared.{access.Kind.Kind, Tlb.Tlb}
 use Rattle.tlb.specs.declared.access.Kind.TheVariants.{Read, Write}
 use Rattle.mmu.specs.Core.{after_access, bank_now}
 use Rattle.operations.specs.Ends.{load_end, store_end, store_ram_end, fetch_end, reached_by}
-use Rattle.mmu.specs.Step.{translate_in, translate_fetch_in, located_of}
+use Rattle.mmu.specs.Step.{translate_in, past_hint_step, translate_fetch_in, located_of}
 use Rattle.mmu.specs.declared.core_state.Core.{Core}
 use Rattle.operations.specs.declared.{ends.LoadEnd.LoadEnd, ends.StoreEnd.StoreEnd, ends.FetchEnd.FetchEnd}
 
@@ -31,6 +31,10 @@ translated_by c a = record { core = with_tlb c a.tlb; answer = a.answer }
 
 unfoldable pub translate_of : Core → (ℕ → Option ℕ) → ℕ → Kind → Translated
 translate_of c memory va kind = translated_by c (stepped_now c memory va kind)
+
+-- one that no hint serves
+unfoldable pub past_hint_of : Core → (ℕ → Option ℕ) → ℕ → Kind → Translated
+past_hint_of c memory va kind = translated_by c (past_hint_step (bank_now c) c.privilege memory va kind c.tlb)
 
 unfoldable pub translate_fetch_of : Core → (ℕ → Option ℕ) → ℕ → Translated
 translate_fetch_of c memory va = translated_by c (fetch_stepped_now c memory va)

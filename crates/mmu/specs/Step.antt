@@ -8,7 +8,7 @@ use Rattle.walk.specs.Tag.{untagged}
 use Rattle.walk.specs.declared.regime.Bank.{Bank}
 use Rattle.tlb.specs.Entry.{slot_of}
 use Rattle.tlb.specs.Access.{tag_of}
-use Rattle.tlb.specs.Step.{access_of, translation_in, tlb_after, fetch_in, fetched_in}
+use Rattle.tlb.specs.Step.{access_of, past_hint_in, after_past_hint, translation_in, tlb_after, fetch_in, fetched_in}
 use Rattle.tlb.specs.declared.{access.Kind.Kind, access.Privilege.Privilege, access.Answer.Answer, Tlb.Tlb}
 use Rattle.tlb.specs.declared.access.Kind.TheVariants.{Fetch}
 use Rattle.operations.specs.Place.{next_page, crosses, goes_on, placed_one, placed_both}
@@ -30,6 +30,14 @@ module _ (s : Bank) (privilege : Privilege) (memory : ℕ → Option ℕ) where
       record {
         tlb = tlb_after (access_of s privilege va kind memory) t;
         answer = (translation_in (access_of s privilege va kind memory) t).answer;
+      }
+
+  -- one that no hint serves
+  unfoldable pub past_hint_step : ℕ → Kind → Tlb → Stepped
+  past_hint_step va kind t =
+      record {
+        tlb = after_past_hint (access_of s privilege va kind memory) t;
+        answer = (past_hint_in (access_of s privilege va kind memory) t).answer;
       }
 
   -- that of a fetch, by the fetch hint first

@@ -1,7 +1,7 @@
 // The core's operations on memory.
 ghost use Rattle.std.specs.Prelude.{◌≡◌};
 ghost use Rattle.word.specs.Ram.{word_at, bytes_in};
-ghost use Rattle.mmu.specs.Ops.{translate_of, translate_fetch_of, translate_access_of};
+ghost use Rattle.mmu.specs.Ops.{translate_of, past_hint_of, translate_fetch_of, translate_access_of};
 ghost use Rattle.mmu.specs.Ops.{read_of, write_of, ram_after_write, fetch_of, fetch_pa_of, data_pa_of};
 
 use crate::core_state::Core;
@@ -12,14 +12,27 @@ use tlb::access::{Answer, Kind};
 use word::ram::Width;
 
 impl Core {
-    // Where an access of the kind to va goes. The fetch hint is neither used nor set.
-    #[tactic(auto, unfolding(crate::specs::Ops::translate_of, crate::specs::Ops::stepped_now, crate::specs::Step::translate_in, crate::specs::Core::after_access))]
-    pub fn translate(&mut self, base: u64, ram: &[u8], va: u64, kind: Kind) -> Answer
-        ensures { record { core = self.new; answer = result } ≡ translate_of self.old (word_at base ram.now 8) va kind }
+    // A translation that no hint serves. Out of line, and reads the registers itself, so that a hint pays nothing for it.
+    #[inline(never)]
+    #[tactic(auto, unfolding(crate::specs::Ops::past_hint_of, crate::specs::Step::past_hint_step, crate::specs::Core::after_access))]
+    fn past_hint(&mut self, base: u64, ram: &[u8], va: u64, kind: Kind) -> Answer
+        ensures { record { core = self.new; answer = result } ≡ past_hint_of self.old (word_at base ram.now 8) va kind }
     {
         let s = self.bank();
         let privilege = self.privilege;
-        self.tlb.translate(s, privilege, va, kind, base, ram)
+        self.tlb.past_hint(s, privilege, va, kind, base, ram)
+    }
+
+    // Where an access of the kind to va goes: the data hint first, which is asked once. The fetch hint is neither used
+    // nor set.
+    #[tactic(auto, unfolding(crate::specs::Ops::translate_of, crate::specs::Ops::stepped_now, crate::specs::Ops::past_hint_of, crate::specs::Step::translate_in, crate::specs::Step::past_hint_step, crate::specs::Core::after_access, tlb::specs::Translate::translation_with))]
+    pub fn translate(&mut self, base: u64, ram: &[u8], va: u64, kind: Kind) -> Answer
+        ensures { record { core = self.new; answer = result } ≡ translate_of self.old (word_at base ram.now 8) va kind }
+    {
+        match self.tlb.by_hint(self.privilege, va, kind) {
+            Some(pa) => Answer::Address(pa),
+            None => self.past_hint(base, ram, va, kind),
+        }
     }
 
     // The translation that a fetch begins with.

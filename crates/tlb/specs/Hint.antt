@@ -37,6 +37,9 @@ hint_key va level = page_of va + level
 abbrev pub hint_for : ℕ → ℕ → ℕ → Hint
 hint_for va level pa = record { key = hint_key va level; pa = page_of pa }
 
+abbrev pub hint_found : Hint → ℕ → ℕ → Option ℕ
+hint_found h level va = if h.key == hint_key va level then Some (on_page h.pa va) else None
+
 abbrev pub fetch_for : ℕ → ℕ → ℕ → FetchHint
 fetch_for va level pa = record { some = true; page = page_of va; level = level; pa = page_of pa }
 

@@ -1,13 +1,13 @@
 -- One translation as a step of the whole cache: its cells taken out, its translation, the cells put back.
-use Rattle.std.specs.Prelude.{◌≡◌, ℕ, refl, Option}
+use Rattle.std.specs.Prelude.{if◌then◌else◌, ◌≡◌, ℕ, refl, Option, None}
 use Rattle.walk.specs.Regime.{regime_of}
 use Rattle.walk.specs.declared.regime.Bank.{Bank}
 use Rattle.tlb.specs.Entry.{slot_of}
-use Rattle.tlb.specs.Hint.{data_slot}
+use Rattle.tlb.specs.Hint.{data_slot, hint_found}
 use Rattle.tlb.specs.Cache.{entry_at, hint_at, set_entry, set_hint, set_fetch}
 use Rattle.tlb.specs.Tlb.{tlb_with}
-use Rattle.tlb.specs.Access.{tag_of}
-use Rattle.tlb.specs.Translate.{Translation, FetchTranslation, on_now, untagged_now, walk_now, miss_with, translation_with, fetch_with, translation_of, fetch_of}
+use Rattle.tlb.specs.Access.{tag_of, may_hint}
+use Rattle.tlb.specs.Translate.{Translation, FetchTranslation, on_now, untagged_now, walk_now, miss_with, applied, translation_with, fetch_with, translation_of, fetch_of}
 use Rattle.tlb.specs.Resolve.{counted_by, kept_by}
 use Rattle.tlb.specs.Model.{Access}
 use Rattle.tlb.specs.declared.{access.Kind.Kind, access.Privilege.Privilege, resolve.Resolved.Resolved, Tlb.Tlb}
@@ -50,6 +50,19 @@ miss_in a t = miss_with a.on a.untagged a.walk a.regime a.privilege t.cache.curr
 
 abbrev pub after_miss : Access → Tlb → Tlb
 after_miss a t = stored t (slot_for a) a.privilege.level (miss_in a t)
+
+-- where the hint of an access sends it, if it may serve
+abbrev pub hint_in : Privilege → ℕ → Kind → Tlb → Option ℕ
+hint_in privilege va kind t = if may_hint privilege kind then hint_found (hint_at t.cache (data_slot va kind)) privilege.level va else None
+
+-- a translation that no hint serves, with the hint that it leaves
+abbrev pub past_hint_in : Access → Tlb → Translation
+past_hint_in a t =
+    applied (miss_in a t) (may_hint a.privilege a.kind) a.privilege.level t.counts (hint_at t.cache (place_for a))
+    (entry_at t.cache (slot_for a)) a.va
+
+abbrev pub after_past_hint : Access → Tlb → Tlb
+after_past_hint a t = with_translation t (place_for a) (slot_for a) (past_hint_in a t)
 
 -- the translation of an access in a cache, and what it leaves
 abbrev pub translation_in : Access → Tlb → Translation

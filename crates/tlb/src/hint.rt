@@ -1,6 +1,6 @@
 // Hints: pages that an access was allowed to, by raw page and level.
 ghost use Rattle.std.specs.Prelude.{◌≡◌, ◌<◌, false};
-ghost use Rattle.tlb.specs.Hint.{no_hint, no_fetch, page_of, on_page, data_slot, hint_key, hint_for, fetch_for, fetch_found};
+ghost use Rattle.tlb.specs.Hint.{no_hint, no_fetch, page_of, on_page, data_slot, hint_key, hint_for, hint_found, fetch_for, fetch_found};
 ghost use Rattle.tlb.specs.Access.{is_fetch};
 
 use crate::access::Kind;
@@ -75,6 +75,17 @@ impl Hint {
         Hint {
             key: hint_key(va, level),
             pa: page_of(pa),
+        }
+    }
+
+    // Where an access to va goes by the hint.
+    pub fn find(&self, level: u8, va: u64) -> Option<u64>
+        ensures { result ≡ hint_found self.now level va }
+    {
+        if self.key == hint_key(va, level) {
+            Some(on_page(self.pa, va))
+        } else {
+            None
         }
     }
 }

@@ -13,7 +13,7 @@ use crate::{Tlb, hint, resolve};
 use walk::regime::Bank;
 
 impl Tlb {
-    ghost use Rattle.tlb.specs.Step.{access_of, stored, miss_in, after_miss, translation_in, tlb_after, fetch_in, fetched_in};
+    ghost use Rattle.tlb.specs.Step.{access_of, stored, miss_in, after_miss, translation_in, hint_in, past_hint_in, after_past_hint, tlb_after, fetch_in, fetched_in};
 
     // By a walk: a leaf becomes an entry and is judged, a fault makes none. Out of line, so that a hit pays nothing for it.
     #[inline(never)]
@@ -69,8 +69,42 @@ impl Tlb {
         self.walk(q, s, privilege, va, kind, base, ram)
     }
 
+    // Where the data hint sends an access, if it serves.
+    pub fn by_hint(&self, privilege: Privilege, va: u64, kind: Kind) -> Option<u64>
+        ensures { result ≡ hint_in privilege va kind self.now }
+    {
+        if privilege.may_hint(kind) {
+            self.cache.hints[hint::data_slot(va, kind)].find(privilege.level, va)
+        } else {
+            None
+        }
+    }
+
+    // A translation that no hint serves. It leaves one, where one may serve.
+    #[tactic(auto, unfolding(crate::specs::Translate::applied))]
+    pub fn past_hint(
+        &mut self,
+        s: Bank,
+        privilege: Privilege,
+        va: u64,
+        kind: Kind,
+        base: u64,
+        ram: &[u8],
+    ) -> Answer
+        ensures answer { result ≡ (past_hint_in (access_of s privilege va kind (word_at base ram.now 8)) self.old).answer }
+        ensures after { self.new ≡ after_past_hint (access_of s privilege va kind (word_at base ram.now 8)) self.old }
+    {
+        let answer = self.miss(s, privilege, va, kind, base, ram);
+        if privilege.may_hint(kind)
+            && let Answer::Address(pa) = answer
+        {
+            self.cache.hints[hint::data_slot(va, kind)] = Hint::new(va, privilege.level, pa);
+        }
+        answer
+    }
+
     // Where an access of the kind to va goes: the hint first, where it may serve.
-    #[tactic(auto, unfolding(crate::specs::Translate::translation_with, crate::specs::Translate::applied))]
+    #[tactic(auto, unfolding(crate::specs::Translate::translation_with))]
     pub fn translate(
         &mut self,
         s: Bank,
@@ -83,16 +117,10 @@ impl Tlb {
         ensures answer { result ≡ (translation_in (access_of s privilege va kind (word_at base ram.now 8)) self.old).answer }
         ensures after { self.new ≡ tlb_after (access_of s privilege va kind (word_at base ram.now 8)) self.old }
     {
-        let hints = privilege.may_hint(kind);
-        let place = hint::data_slot(va, kind);
-        if hints && self.cache.hints[place].key == hint::hint_key(va, privilege.level) {
-            return Answer::Address(hint::on_page(self.cache.hints[place].pa, va));
+        match self.by_hint(privilege, va, kind) {
+            Some(pa) => Answer::Address(pa),
+            None => self.past_hint(s, privilege, va, kind, base, ram),
         }
-        let answer = self.miss(s, privilege, va, kind, base, ram);
-        if hints && let Answer::Address(pa) = answer {
-            self.cache.hints[place] = Hint::new(va, privilege.level, pa);
-        }
-        answer
     }
 
     // The translation that a fetch begins with: the fetch hint, and else one that leaves it.
