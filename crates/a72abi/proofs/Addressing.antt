@@ -1,5 +1,5 @@
 -- Translations and fetches by number, on plain values, for `search`.
-use Rattle.std.specs.Prelude.{if◌then◌else◌, Some, Option, None}
+use Rattle.std.specs.Prelude.{if◌then◌else◌, Some, Option, None, ℕ, Ok, Err}
 use mathlib.Core.Path.{◌≡◌, refl, sym, ap, ◌∙◌}
 use mathlib.Core.Bool.{false}
 use mathlib.Core.List.{List}
@@ -8,15 +8,14 @@ use native.Mathlib.Omega.{arith}
 use borrow.Author.Tests.{ne_eqb}
 use lib.Dec.{eqb}
 use Rattle.word.specs.Ram.{word_at}
-use Rattle.tlb.specs.declared.{access.Kind.Kind, access.Answer.Answer}
+use Rattle.tlb.specs.declared.access.Kind.{Kind}
+use Rattle.tlb.specs.Answers.{Answer}
 use Rattle.tlb.specs.declared.access.Kind.TheVariants.{Read, Write, Fetch}
-use Rattle.tlb.specs.declared.access.Answer.TheVariants.{Address, Status}
 use Rattle.mmu.specs.Core.{after_access}
 use Rattle.operations.specs.Ends.{fetch_end, reached_by}
 use Rattle.operations.specs.Bytes.{insn_of}
 use Rattle.mmu.specs.Ops.{with_tlb, fetch_stepped_now, translate_of, data_pa_of, fetch_pa_of, fetch_of}
 use Rattle.mmu.specs.declared.core_state.Core.{Core}
-use Rattle.operations.specs.declared.bytes.Insn.{Insn}
 use Rattle.operations.specs.Replies.{translation, reaching}
 use Rattle.cpu.specs.Step.{run_of}
 use Rattle.operations.specs.declared.call.Call.TheVariants as Call
@@ -39,12 +38,12 @@ use Rattle.a72abi.proofs.Passing.{tells_as, tells-after}
 -- TRANSLATIONS
 
 translation-code : (va : ℕ) (a : Answer) → code_of a ≡ code_by (translation va a)
-translation-code va (Address pa) = refl
-translation-code va (Status fsc) = refl
+translation-code va (Ok pa) = refl
+translation-code va (Err fsc) = refl
 
 translation-value : (va old : ℕ) (a : Answer) → value_of a old ≡ value_by (translation va a) old
-translation-value va old (Address pa) = refl
-translation-value va old (Status fsc) = refl
+translation-value va old (Ok pa) = refl
+translation-value va old (Err fsc) = refl
 
 translation-tells : (ws : List ℕ) (base : ℕ) (ram : List ℕ) (va : ℕ) (kind : Kind) (n old v : ℕ) (xs : List ℕ)
     → n ≡ code_of (translate_of (core_of ws) (word_at base ram 8) va kind).answer → v ≡ value_of (translate_of (core_of ws) (word_at base ram 8) va kind).answer old
@@ -73,12 +72,12 @@ module _ (ws : List ℕ) (base : ℕ) (ram : List ℕ) (va : ℕ) (kind : Kind) 
       (by-find-core ws memory va kind p ep xs e m))
 
 without-status-code : (a : Answer) (n r : ℕ) → n ≡ code_of a → r ≡ (if eqb n 0 then 0 else 256) → r ≡ code_by (reaching (reached_by a))
-without-status-code (Address pa) n r e q = q ∙ ap (λ (k : ℕ). (if eqb k 0 then 0 else 256)) e
-without-status-code (Status f) n r e q = q ∙ rw (e, ne_eqb (256 + f.fsc) 0 (λ z. omega arith))
+without-status-code (Ok pa) n r e q = q ∙ ap (λ (k : ℕ). (if eqb k 0 then 0 else 256)) e
+without-status-code (Err f) n r e q = q ∙ rw (e, ne_eqb (256 + f.fsc) 0 (λ z. omega arith))
 
 without-status-value : (a : Answer) (old : ℕ) → value_of a old ≡ value_by (reaching (reached_by a)) old
-without-status-value (Address pa) old = refl
-without-status-value (Status fsc) old = refl
+without-status-value (Ok pa) old = refl
+without-status-value (Err fsc) old = refl
 
 module _ (ws : List ℕ) (base : ℕ) (ram : List ℕ) (va n r old v : ℕ) (xs : List ℕ) (er : r ≡ (if eqb n 0 then 0 else 256)) where
   pub data-tells : Tells (run_of (core_of ws) base ram (Call.Translate Read va)) ws n old v xs → Tells (run_of (core_of ws) base ram (Call.DataPa va)) ws r old v xs
@@ -114,8 +113,8 @@ fetch-run : (c : Core) (base : ℕ) (ram : List ℕ) (va : ℕ) (a : Answer) (d 
 unfolding fetch_ends run_of fetch_of fetch_to with_abort after_access
 fetch-run c base ram va a d e = λ i. fetch_ends (sym e i).core (sym e i).answer base ram va
 
-module _ (ws : List ℕ) (base : ℕ) (ram : List ℕ) (pa : ℕ) (i : Insn) (ei : i ≡ insn_of base ram pa) (old : ℕ) where
-  pub insn-value : (v : ℕ) → i ≡ Insn.Value v → FetchTells pa base ram ws 0 old v ws
+module _ (ws : List ℕ) (base : ℕ) (ram : List ℕ) (pa : ℕ) (i : Option ℕ) (ei : i ≡ insn_of base ram pa) (old : ℕ) where
+  pub insn-value : (v : ℕ) → i ≡ Some v → FetchTells pa base ram ws 0 old v ws
   unfolding fetch_ends fetch_end with_abort after_access
   insn-value v e = record { by = λ va. rw (← ei, e) (record { code = refl; value = refl; words = stays; kept = kept_same 0 ws }) }
 
@@ -124,7 +123,7 @@ module _ (ws : List ℕ) (base : ℕ) (ram : List ℕ) (va : ℕ) (p : Option �
       → Tells (run_of (core_of ws) base ram (Call.Fetch va)) ws n old v xs
   unfolding fetch_hint
   fetch-hint-tells pa n old v xs e t =
-      tells_as (fetch-run (core_of ws) base ram va (Address pa) (core_of ws) (fetch-serves (core_of ws) (word_at base ram 8) va pa (sym ep ∙ e))) (t.by va)
+      tells_as (fetch-run (core_of ws) base ram va (Ok pa) (core_of ws) (fetch-serves (core_of ws) (word_at base ram 8) va pa (sym ep ∙ e))) (t.by va)
 
 pub fetch-unknown : (ws : List ℕ) (va : ℕ) (p : Option ℕ) → p ≡ fetch_hint (core_of ws) va → p ≡ None
     → fetch_hint (core_of ws) va ≡ None
@@ -145,9 +144,9 @@ module _ (ws xs : List ℕ) (base : ℕ) (ram : List ℕ) (va code : ℕ) (miss 
   fetch-fault-tells old n = go (found_to (core_of ws) (word_at base ram 8) va Fetch).answer refl
     where
       go : (a : Answer) → (found_to (core_of ws) (word_at base ram 8) va Fetch).answer ≡ a → Tells (run_of (core_of ws) base ram (Call.Fetch va)) ws code old old xs
-      go (Address pa) e = absurd (n (ec ∙ ap code_of e))
-      go (Status fsc) e =
-          tells_as (page-run (Status fsc) e)
+      go (Ok pa) e = absurd (n (ec ∙ ap code_of e))
+      go (Err fsc) e =
+          tells_as (page-run (Err fsc) e)
           (record {
             code = ec ∙ ap code_of e;
             value = refl;
@@ -159,9 +158,9 @@ module _ (ws xs : List ℕ) (base : ℕ) (ram : List ℕ) (va code : ℕ) (miss 
       → FetchTells pa base ram xs n old v ys → Tells (run_of (core_of ws) base ram (Call.Fetch va)) ws n old v ys
   fetch-page-tells pa before n old v ys z ep t =
       let a = code_at (found_to (core_of ws) (word_at base ram 8) va Fetch).answer code pa before ec z ep in
-      tells_as (page-run (Address pa) a)
-      (tells-after m (t.by va) (kept-late ws ys (fetch_ends (core_of xs) (Address pa) base ram va).reply n (t.by va).code
-      (fetch-ends-late (core_of xs) (Address pa) base ram va)))
+      tells_as (page-run (Ok pa) a)
+      (tells-after m (t.by va) (kept-late ws ys (fetch_ends (core_of xs) (Ok pa) base ram va).reply n (t.by va).code
+      (fetch-ends-late (core_of xs) (Ok pa) base ram va)))
 
 -- A TRANSLATION BY THE NUMBER OF ITS KIND
 
@@ -196,6 +195,6 @@ no-kind-gives base ram ws va p old e = rw (← e) (record { code = refl; value =
 -- AT ONCE
 
 module _ (ws : List ℕ) (base : ℕ) (ram : List ℕ) (va old : ℕ) where
-  pub quick-fetch : (p : Option ℕ) (pa : ℕ) (i : Insn) (v : ℕ) → p ≡ fetch_hint (core_of ws) va → p ≡ Some pa → i ≡ insn_of base ram pa
-      → i ≡ Insn.Value v → Tells (run_of (core_of ws) base ram (Call.Fetch va)) ws 0 old v ws
+  pub quick-fetch : (p : Option ℕ) (pa : ℕ) (i : Option ℕ) (v : ℕ) → p ≡ fetch_hint (core_of ws) va → p ≡ Some pa → i ≡ insn_of base ram pa
+      → i ≡ Some v → Tells (run_of (core_of ws) base ram (Call.Fetch va)) ws 0 old v ws
   quick-fetch p pa i v ep e ei q = fetch-hint-tells ws base ram va p ep pa 0 old v ws e (insn-value ws base ram pa i ei old v q)

@@ -1,5 +1,5 @@
 -- Sizes in bytes, and what an access keeps, on plain values, for `search`.
-use Rattle.std.specs.Prelude.{Option, Some, None}
+use Rattle.std.specs.Prelude.{Option, Some, None, Ok}
 use mathlib.Core.Path.{◌≡◌, refl, sym, ap, subst, ◌∙◌}
 use mathlib.Core.Bool.{Bool, true, false, ◌&&◌}
 use mathlib.Core.List.{List}
@@ -13,7 +13,6 @@ use Rattle.word.specs.declared.ram.Width.{Width}
 use Rattle.mmu.specs.Core.{after_access}
 use Rattle.mmu.specs.Ops.{read_of, write_of, ram_after_write}
 use Rattle.mmu.specs.declared.core_state.Core.{Core}
-use Rattle.operations.specs.declared.ends.LoadAnswer.TheVariants as Load
 use Rattle.operations.specs.Check.{missed_of, is_width}
 use Rattle.operations.specs.Replies.{loading, storing}
 use Rattle.cpu.specs.Step.{load_by, store_by, store_ram_by, run_of, ram_of, step_of, ram_after, ends}
@@ -81,7 +80,7 @@ outside-bits v e = subst is-outside e tt
     is-outside (Some x) = ⊥
     is-outside None = Unit {0}
 
-pub kept-last : (c : Core) (pa v : ℕ) → kept_last c (record { last_pa = pa; abort_pa = c.abort_pa; answer = Load.Value v }) ≡ with_last c pa
+pub kept-last : (c : Core) (pa v : ℕ) → kept_last c (record { last_pa = pa; abort_pa = c.abort_pa; answer = Ok v }) ≡ with_last c pa
 unfolding kept_last with_last with_abort after_access
 kept-last c pa v = refl
 

@@ -1,5 +1,5 @@
 -- Loads and stores by number, on plain values, for `search`.
-use Rattle.std.specs.Prelude.{Some, Option, None}
+use Rattle.std.specs.Prelude.{Some, Option, None, Ok, Err}
 use mathlib.Core.Path.{◌≡◌, refl, sym, ap, ◌∙◌}
 use mathlib.Core.Bool.{Bool, true, false, ◌&&◌}
 use mathlib.Core.List.{List}
@@ -13,10 +13,11 @@ use Rattle.word.specs.Ram.{word_at, bytes_in, width_of, within, stored}
 use Rattle.word.specs.declared.ram.Width.{Width}
 use Rattle.word.specs.declared.ram.Width.TheVariants.{Byte, Half, Word as Single, Double}
 use Rattle.walk.specs.Regime.{regime_of, stage1_on}
-use Rattle.tlb.specs.declared.{access.Kind.Kind, access.Answer.Answer}
+use Rattle.tlb.specs.declared.access.Kind.{Kind}
+use Rattle.tlb.specs.Answers.{Answer}
+use Rattle.operations.specs.Answers.{Placed, LoadAnswer, StoreAnswer, fault_at}
 use Rattle.tlb.specs.declared.access.Kind.TheVariants.{Read, Write}
 use Rattle.fault.specs.declared.Fault.{Fault as Status1}
-use Rattle.tlb.specs.declared.access.Answer.TheVariants.{Address, Status}
 use Rattle.mmu.specs.Core.{after_access, bank_now}
 use Rattle.operations.specs.Place.{in_page, crosses, goes_on, placed_one}
 use Rattle.operations.specs.Bytes.{store_ram}
@@ -26,8 +27,6 @@ use Rattle.operations.proofs.Moves.{whole-value, whole-abort, whole-inside, whol
 use Rattle.mmu.specs.declared.core_state.Core.{Core}
 use Rattle.mmu.specs.Results.{Accessed, Translated}
 use Rattle.operations.specs.declared.place.Place.TheVariants.{Whole}
-use Rattle.operations.specs.declared.{place.Placed.Placed, ends.LoadAnswer.LoadAnswer, ends.StoreAnswer.StoreAnswer}
-use Rattle.operations.specs.declared.place.Placed.TheVariants.{At, Fault}
 use Rattle.operations.specs.Replies.{loading, storing}
 use Rattle.cpu.specs.Step.{load_by, store_by, store_ram_by, run_of, ram_of, ends}
 use Rattle.operations.specs.declared.call.Call.TheVariants as Call
@@ -63,25 +62,25 @@ first_byte va h = let z : va + 0 ≡ va = omega arith in sym (ap wrap z ∙ mod-
 module _ (ws : List ℕ) (base : ℕ) (ram : List ℕ) (va n pa old : ℕ) where
   module _ (w : Option ℕ) (ew : w ≡ word_at base ram n pa) where
     pub at_value : (v : ℕ) (xs : List ℕ) → w ≡ Some v → NowHolds ws xs (with_last (core_of ws) pa)
-        → Tells (load_ends (core_of ws) (At (Whole pa)) base ram va n) ws 0 old v xs
+        → Tells (load_ends (core_of ws) (Ok (Whole pa)) base ram va n) ws 0 old v xs
     unfolding load_ends load_end kept_last with_last with_abort after_access
     at_value v xs e m =
         rw (sym (whole-value base ram pa n w v ew e)) (record { code = refl; value = refl; words = m; kept = record { same = λ l h. absurd (omega arith) } })
 
     pub at-outside : (xs ys : List ℕ) → w ≡ None → va < 2 ^ 64 → NowHolds ws xs (with_last (core_of ws) pa) → NowHolds xs ys (with_abort (core_of xs) pa)
-        → Tells (load_ends (core_of ws) (At (Whole pa)) base ram va n) ws (256 + 0x10) old va ys
+        → Tells (load_ends (core_of ws) (Ok (Whole pa)) base ram va n) ws (256 + 0x10) old va ys
     unfolding load_ends load_end kept_last
     at-outside xs ys e h m q =
         rw (sym (whole-abort base ram pa n w ew e))
         (record { code = refl; value = first_byte va h; words = holds_on (λ c. with_abort c pa) m q refl; kept = record { same = λ l k. absurd (omega arith) } })
 
   module _ (made : Bool) (em : made ≡ within base (length ram) n pa) where
-    pub at_done : made ≡ true → Tells (store_ends (core_of ws) (At (Whole pa)) base ram va n) ws 0 old old ws
+    pub at_done : made ≡ true → Tells (store_ends (core_of ws) (Ok (Whole pa)) base ram va n) ws 0 old old ws
     unfolding store_ends store_end kept_abort with_abort after_access
     at_done t = rw (sym (whole-inside base ram pa n made t em)) (record { code = refl; value = refl; words = stays; kept = kept_same 0 ws })
 
     pub at-undone : (xs : List ℕ) → made ≡ false → va < 2 ^ 64 → NowHolds ws xs (with_abort (core_of ws) pa)
-        → Tells (store_ends (core_of ws) (At (Whole pa)) base ram va n) ws (256 + 0x10) old va xs
+        → Tells (store_ends (core_of ws) (Ok (Whole pa)) base ram va n) ws (256 + 0x10) old va xs
     unfolding store_ends store_end kept_abort
     at-undone xs f h m =
         rw (sym (whole-outside base ram pa n made f em)) (record {
@@ -94,8 +93,8 @@ module _ (ws : List ℕ) (base : ℕ) (ram : List ℕ) (va n pa old : ℕ) where
 -- ONE PAGE
 
 goes-not : (a : Answer) → goes_on a false ≡ false
-goes-not (Address pa) = refl
-goes-not (Status fsc) = refl
+goes-not (Ok pa) = refl
+goes-not (Err fsc) = refl
 
 width-of : (w : Width) → width_of (bytes_in w) ≡ Some w
 width-of Byte = refl
@@ -142,26 +141,26 @@ module _ (c : Core) (base : ℕ) (ram : List ℕ) (va : ℕ) (w : Width) (near :
         q.1.0 ∙ sym (ap (λ (s : Option Width). store_ram_by s c base ram va v) (width-of w)),
       )
 
-ram-at : (base : ℕ) (ram : List ℕ) (n pa v : ℕ) → stored base ram n pa v ≡ store_ram_end (At (Whole pa)) base ram n v
+ram-at : (base : ℕ) (ram : List ℕ) (n pa v : ℕ) → stored base ram n pa v ≡ store_ram_end (Ok (Whole pa)) base ram n v
 unfolding store_ram_end store_ram
 ram-at base ram n pa v = refl
 
 -- by its hint
 module _ (ws : List ℕ) (base : ℕ) (ram : List ℕ) (va : ℕ) (w : Width) (near : bytes_in w ≤ in_page va) (p : Option ℕ) (pa : ℕ) (e : p ≡ Some pa) where
   pub hint-load : (n old v : ℕ) (xs : List ℕ) → p ≡ hint_found (core_of ws) va Read
-      → Tells (load_ends (core_of ws) (At (Whole pa)) base ram va (bytes_in w)) ws n old v xs
+      → Tells (load_ends (core_of ws) (Ok (Whole pa)) base ram va (bytes_in w)) ws n old v xs
       → Tells (run_of (core_of ws) base ram (Call.Load va (bytes_in w))) ws n old v xs
-  hint-load n old v xs ep t = tells_as (load-run (core_of ws) base ram va w near (core_of ws) (Address pa)
+  hint-load n old v xs ep t = tells_as (load-run (core_of ws) base ram va w near (core_of ws) (Ok pa)
       (hint-serves (core_of ws) (word_at base ram 8) va Read pa (sym ep ∙ e))) t
 
   hint-store-run : (x : ℕ) → p ≡ hint_found (core_of ws) va Write
-      → (store_ends (core_of ws) (At (Whole pa)) base ram va (bytes_in w) ≡ run_of (core_of ws) base ram (Call.Store va (bytes_in w) x))
-      × (store_ram_end (At (Whole pa)) base ram (bytes_in w) x ≡ ram_of (core_of ws) base ram (Call.Store va (bytes_in w) x))
-  hint-store-run x ep = store-run (core_of ws) base ram va w near (core_of ws) (Address pa) x
+      → (store_ends (core_of ws) (Ok (Whole pa)) base ram va (bytes_in w) ≡ run_of (core_of ws) base ram (Call.Store va (bytes_in w) x))
+      × (store_ram_end (Ok (Whole pa)) base ram (bytes_in w) x ≡ ram_of (core_of ws) base ram (Call.Store va (bytes_in w) x))
+  hint-store-run x ep = store-run (core_of ws) base ram va w near (core_of ws) (Ok pa) x
       (hint-serves (core_of ws) (word_at base ram 8) va Write pa (sym ep ∙ e))
 
   pub hint-store : (x n old v : ℕ) (xs : List ℕ) → p ≡ hint_found (core_of ws) va Write
-      → Tells (store_ends (core_of ws) (At (Whole pa)) base ram va (bytes_in w)) ws n old v xs
+      → Tells (store_ends (core_of ws) (Ok (Whole pa)) base ram va (bytes_in w)) ws n old v xs
       → Tells (run_of (core_of ws) base ram (Call.Store va (bytes_in w) x)) ws n old v xs
   hint-store x n old v xs ep t = tells_as (hint-store-run x ep).0 t
 
@@ -171,16 +170,16 @@ module _ (ws : List ℕ) (base : ℕ) (ram : List ℕ) (va : ℕ) (w : Width) (n
 
 -- by its translation
 load-fault : (d : Core) (base : ℕ) (ram : List ℕ) (va n : ℕ) (f : Status1) (old : ℕ) (ws xs : List ℕ) → NowHolds ws xs d
-    → Tells (load_ends d (Fault va f) base ram va n) ws (256 + f.fsc) old va xs
+    → Tells (load_ends d (Err (fault_at va f)) base ram va n) ws (256 + f.fsc) old va xs
 unfolding load_ends load_end kept_last with_last with_abort after_access
 load-fault d base ram va n f old ws xs m = record { code = refl; value = refl; words = m; kept = record { same = λ l h. absurd (omega arith) } }
 
 store-fault : (d : Core) (base : ℕ) (ram : List ℕ) (va n : ℕ) (f : Status1) (old : ℕ) (ws xs : List ℕ) → NowHolds ws xs d
-    → Tells (store_ends d (Fault va f) base ram va n) ws (256 + f.fsc) old va xs
+    → Tells (store_ends d (Err (fault_at va f)) base ram va n) ws (256 + f.fsc) old va xs
 unfolding store_ends store_end kept_abort with_abort after_access
 store-fault d base ram va n f old ws xs m = record { code = refl; value = refl; words = m; kept = record { same = λ l h. absurd (omega arith) } }
 
-ram-fault : (base : ℕ) (ram : List ℕ) (va n : ℕ) (f : Status1) (v : ℕ) → store_ram_end (Fault va f) base ram n v ≡ ram
+ram-fault : (base : ℕ) (ram : List ℕ) (va n : ℕ) (f : Status1) (v : ℕ) → store_ram_end (Err (fault_at va f)) base ram n v ≡ ram
 unfolding store_ram_end
 ram-fault base ram va n f v = refl
 
@@ -197,19 +196,19 @@ module _ (ws xs : List ℕ) (base : ℕ) (ram : List ℕ) (va : ℕ) (w : Width)
       where
         go : (a : Answer) → (found_to (core_of ws) (word_at base ram 8) va Read).answer ≡ a
             → Tells (run_of (core_of ws) base ram (Call.Load va (bytes_in w))) ws code old va xs
-        go (Address pa) e = absurd (n (ec ∙ ap code_of e))
-        go (Status fsc) e =
-            tells_as (load-run (core_of ws) base ram va w near (core_of xs) (Status fsc) (found-is Read miss (Status fsc) e m))
+        go (Ok pa) e = absurd (n (ec ∙ ap code_of e))
+        go (Err fsc) e =
+            tells_as (load-run (core_of ws) base ram va w near (core_of xs) (Err fsc) (found-is Read miss (Err fsc) e m))
             (rw (ec ∙ ap code_of e) (load-fault (core_of xs) base ram va (bytes_in w) fsc old ws xs (record { long = m.long; holds = refl })))
 
     pub load-page-tells : (pa before n old v : ℕ) (ys : List ℕ) → code ≡ 0 → pa ≡ value_of (found_to (core_of ws) (word_at base ram 8) va Read).answer before
-        → Tells (load_ends (core_of xs) (At (Whole pa)) base ram va (bytes_in w)) xs n old v ys
+        → Tells (load_ends (core_of xs) (Ok (Whole pa)) base ram va (bytes_in w)) xs n old v ys
         → Tells (run_of (core_of ws) base ram (Call.Load va (bytes_in w))) ws n old v ys
     load-page-tells pa before n old v ys z ep t =
         let e = code_at (found_to (core_of ws) (word_at base ram 8) va Read).answer code pa before ec z ep in
-        tells_as (load-run (core_of ws) base ram va w near (core_of xs) (Address pa) (found-is Read miss (Address pa) e m))
-        (tells-after m t (kept-late ws ys (load_ends (core_of xs) (At (Whole pa)) base ram va (bytes_in w)).reply n t.code
-        (load-ends-late (core_of xs) (At (Whole pa)) base ram va (bytes_in w))))
+        tells_as (load-run (core_of ws) base ram va w near (core_of xs) (Ok pa) (found-is Read miss (Ok pa) e m))
+        (tells-after m t (kept-late ws ys (load_ends (core_of xs) (Ok (Whole pa)) base ram va (bytes_in w)).reply n t.code
+        (load-ends-late (core_of xs) (Ok (Whole pa)) base ram va (bytes_in w))))
 
   module _ (x : ℕ) (miss : hint_found (core_of ws) va Write ≡ None) (ec : code ≡ code_of (found_to (core_of ws) (word_at base ram 8) va Write).answer)
       (m : NowHolds ws xs (found_to (core_of ws) (word_at base ram 8) va Write).core) where
@@ -221,9 +220,9 @@ module _ (ws xs : List ℕ) (base : ℕ) (ram : List ℕ) (va : ℕ) (w : Width)
       where
         go : (a : Answer) → (found_to (core_of ws) (word_at base ram 8) va Write).answer ≡ a → Tells call ws code old va xs
             × (ram ≡ ram_of (core_of ws) base ram (Call.Store va (bytes_in w) x))
-        go (Address pa) e = absurd (n (ec ∙ ap code_of e))
-        go (Status fsc) e =
-            let r = store-run (core_of ws) base ram va w near (core_of xs) (Status fsc) x (found-is Write miss (Status fsc) e m) in (
+        go (Ok pa) e = absurd (n (ec ∙ ap code_of e))
+        go (Err fsc) e =
+            let r = store-run (core_of ws) base ram va w near (core_of xs) (Err fsc) x (found-is Write miss (Err fsc) e m) in (
               tells_as r.0 (rw (ec ∙ ap code_of e) (store-fault (core_of xs) base ram va (bytes_in w) fsc old ws xs (record { long = m.long; holds = refl }))),
               sym (ram-fault base ram va (bytes_in w) fsc x) ∙ r.1,
             )
@@ -235,18 +234,18 @@ module _ (ws xs : List ℕ) (base : ℕ) (ram : List ℕ) (va : ℕ) (w : Width)
     store-fault-ram n = (faults n 0).1
 
     module _ (pa before : ℕ) (z : code ≡ 0) (ep : pa ≡ value_of (found_to (core_of ws) (word_at base ram 8) va Write).answer before) where
-      made : (store_ends (core_of xs) (At (Whole pa)) base ram va (bytes_in w) ≡ call)
-          × (store_ram_end (At (Whole pa)) base ram (bytes_in w) x ≡ ram_of (core_of ws) base ram (Call.Store va (bytes_in w) x))
+      made : (store_ends (core_of xs) (Ok (Whole pa)) base ram va (bytes_in w) ≡ call)
+          × (store_ram_end (Ok (Whole pa)) base ram (bytes_in w) x ≡ ram_of (core_of ws) base ram (Call.Store va (bytes_in w) x))
       made =
-          store-run (core_of ws) base ram va w near (core_of xs) (Address pa) x
-          (found-is Write miss (Address pa) (code_at (found_to (core_of ws) (word_at base ram 8) va Write).answer code pa before ec z ep) m)
+          store-run (core_of ws) base ram va w near (core_of xs) (Ok pa) x
+          (found-is Write miss (Ok pa) (code_at (found_to (core_of ws) (word_at base ram 8) va Write).answer code pa before ec z ep) m)
 
-      pub store-page-tells : (n old v : ℕ) (ys : List ℕ) → Tells (store_ends (core_of xs) (At (Whole pa)) base ram va (bytes_in w)) xs n old v ys
+      pub store-page-tells : (n old v : ℕ) (ys : List ℕ) → Tells (store_ends (core_of xs) (Ok (Whole pa)) base ram va (bytes_in w)) xs n old v ys
           → Tells call ws n old v ys
       store-page-tells n old v ys t =
           tells_as made.0
-          (tells-after m t (kept-late ws ys (store_ends (core_of xs) (At (Whole pa)) base ram va (bytes_in w)).reply n t.code
-          (store-ends-late (core_of xs) (At (Whole pa)) base ram va (bytes_in w))))
+          (tells-after m t (kept-late ws ys (store_ends (core_of xs) (Ok (Whole pa)) base ram va (bytes_in w)).reply n t.code
+          (store-ends-late (core_of xs) (Ok (Whole pa)) base ram va (bytes_in w))))
 
       pub store-page-ram : (ys : List ℕ) → ys ≡ stored base ram (bytes_in w) pa x → ys ≡ ram_of (core_of ws) base ram (Call.Store va (bytes_in w) x)
       store-page-ram ys q = q ∙ ram-at base ram (bytes_in w) pa x ∙ made.1
@@ -259,7 +258,7 @@ module _ (ws xs : List ℕ) (base : ℕ) (ram part : List ℕ) (va : ℕ) (w : W
   part-fault-tells n = load-fault-tells ws xs base ram va w near code miss (rw e at ec) (rw e at m) old n
 
   pub part-page-tells : (pa before n v : ℕ) (ys : List ℕ) → code ≡ 0 → pa ≡ value_of (found_to (core_of ws) (word_at base part 8) va Read).answer before
-      → Tells (load_ends (core_of xs) (At (Whole pa)) base ram va (bytes_in w)) xs n old v ys
+      → Tells (load_ends (core_of xs) (Ok (Whole pa)) base ram va (bytes_in w)) xs n old v ys
       → Tells (run_of (core_of ws) base ram (Call.Load va (bytes_in w))) ws n old v ys
   part-page-tells pa before n v ys z ep t = load-page-tells ws xs base ram va w near code miss (rw e at ec) (rw e at m) pa before n old v ys z (rw e at ep) t
 

@@ -1,5 +1,5 @@
 -- Loads and stores over two pages whose hints serve are what the call says, on plain values, for `search`.
-use Rattle.std.specs.Prelude.{if◌then◌else◌, Some, Option, None}
+use Rattle.std.specs.Prelude.{if◌then◌else◌, Some, Option, None, Ok}
 use mathlib.Core.Path.{◌≡◌, refl, sym, ap, subst, ◌∙◌}
 use mathlib.Core.Bool.{Bool, true, false}
 use mathlib.Core.List.{List}
@@ -8,7 +8,6 @@ use lib.ListN.{length}
 use Rattle.word.specs.Ram.{word_at, bytes_in, width_of}
 use Rattle.tlb.specs.declared.access.Kind.{Kind}
 use Rattle.tlb.specs.declared.access.Kind.TheVariants.{Read, Write}
-use Rattle.tlb.specs.declared.access.Answer.TheVariants.{Address}
 use Rattle.operations.specs.Place.{next_page, goes_on, placed_both, first_pa, verdict_of as judged}
 use Rattle.operations.specs.Bytes.{load_of, store_ram}
 use Rattle.operations.specs.AtOnce.{both_inside, both_at, both_stored}
@@ -19,11 +18,6 @@ use Rattle.mmu.specs.declared.core_state.Core.{Core}
 use Rattle.mmu.specs.Results.{Accessed, Translated}
 use Rattle.operations.specs.declared.{place.Place.Place, ends.LoadEnd.LoadEnd, ends.StoreEnd.StoreEnd}
 use Rattle.operations.specs.declared.place.Place.TheVariants.{Split as Parts}
-use Rattle.operations.specs.declared.place.Placed.TheVariants as Placed
-use Rattle.operations.specs.declared.place.Verdict.TheVariants.{Inside}
-use Rattle.operations.specs.declared.bytes.Got.TheVariants as Got
-use Rattle.operations.specs.declared.ends.LoadAnswer.TheVariants as Load
-use Rattle.operations.specs.declared.ends.StoreAnswer.TheVariants as Store
 use Rattle.operations.specs.Check.{is_width, known}
 use Rattle.operations.specs.Replies.{loading, storing}
 use Rattle.cpu.specs.Step.{step_of, ram_after, ends}
@@ -140,17 +134,17 @@ module _ (c : Core) (base : ℕ) (ram : List ℕ) (va n : ℕ) where
 -- AND WHAT THE CALL SAYS
 
 module _ (c : Core) (base : ℕ) (ram : List ℕ) (va n pa : ℕ) (kind : Kind) (s : Says c base (length ram) va n pa kind) where
-  found_first : translate_of c (word_at base ram 8) va kind ≡ answering c (Address pa)
+  found_first : translate_of c (word_at base ram 8) va kind ≡ answering c (Ok pa)
   found_first = hint-serves c (word_at base ram 8) va kind pa s.first
 
-  found-second : translate_of c (word_at base ram 8) (next_page va) kind ≡ answering c (Address s.pa2)
+  found-second : translate_of c (word_at base ram 8) (next_page va) kind ≡ answering c (Ok s.pa2)
   found-second = hint-serves c (word_at base ram 8) (next_page va) kind s.pa2 s.second
 
   both-goes : goes_on (translate_of c (word_at base ram 8) va kind).answer (two_pages c va n) ≡ true
   both-goes = ap (λ (t : Translated). goes_on t.answer (two_pages c va n)) found_first ∙ s.two
 
   abbrev apart-placed : Accessed
-  apart-placed = record { core = c; placed = Placed.At (Parts (pages_at va pa s.pa2)) }
+  apart-placed = record { core = c; placed = Ok (Parts (pages_at va pa s.pa2)) }
 
   lie-apart : translate_access_of c (word_at base ram 8) va n kind ≡ apart-placed
   lie-apart =
@@ -159,39 +153,39 @@ module _ (c : Core) (base : ℕ) (ram : List ℕ) (va n pa : ℕ) (kind : Kind) 
         core = (translate_of t.core (word_at base ram 8) (next_page va) kind).core;
         placed = placed_both va t.answer (translate_of t.core (word_at base ram 8) (next_page va) kind).answer;
       }) found_first
-      ∙ ap (λ (t : Translated). record { core = t.core; placed = placed_both va (Address pa) t.answer }) found-second
+      ∙ ap (λ (t : Translated). record { core = t.core; placed = placed_both va (Ok pa) t.answer }) found-second
 
-load-ends : (last abort base : ℕ) (ram : List ℕ) (va n v : ℕ) (place : Place) → load_of base ram place n ≡ Got.Value v
-    → load_end (Placed.At place) last abort base ram va n ≡ record { last_pa = first_pa place; abort_pa = abort; answer = Load.Value v }
+load-ends : (last abort base : ℕ) (ram : List ℕ) (va n v : ℕ) (place : Place) → load_of base ram place n ≡ Ok v
+    → load_end (Ok place) last abort base ram va n ≡ record { last_pa = first_pa place; abort_pa = abort; answer = Ok v }
 unfolding load_end
 load-ends last abort base ram va n v place e = rw e
 
-store-ends : (abort base : ℕ) (ram : List ℕ) (va n : ℕ) (place : Place) → judged base (length ram) place n ≡ Inside
-    → store_end (Placed.At place) abort base ram va n ≡ record { abort_pa = abort; answer = Store.Done }
+store-ends : (abort base : ℕ) (ram : List ℕ) (va n : ℕ) (place : Place) → judged base (length ram) place n ≡ Ok tt
+    → store_end (Ok place) abort base ram va n ≡ record { abort_pa = abort; answer = Ok tt }
 unfolding store_end
 store-ends abort base ram va n place e = rw e
 
-ram-ends : (base : ℕ) (ram : List ℕ) (n v : ℕ) (place : Place) → store_ram_end (Placed.At place) base ram n v ≡ store_ram base ram place n v
+ram-ends : (base : ℕ) (ram : List ℕ) (n v : ℕ) (place : Place) → store_ram_end (Ok place) base ram n v ≡ store_ram base ram place n v
 unfolding store_ram_end
 ram-ends base ram n v place = refl
 
 module _ (c : Core) (base : ℕ) (ram : List ℕ) (va n pa : ℕ) (h : length ram < 2 ^ 64) where
   read-apart : (v : ℕ) (s : Says c base (length ram) va n pa Read) → both_at base ram (pages_at va pa s.pa2) n ≡ Some v
-      → ((read_of c base ram va n).answer ≡ Load.Value v) × ((read_of c base ram va n).core ≡ with_last c pa)
+      → ((read_of c base ram va n).answer ≡ Ok v) × ((read_of c base ram va n).core ≡ with_last c pa)
   read-apart v s w =
       let l = lie-apart c base ram va n pa Read s in
-      let p = load-parts c base ram va n (Placed.At (Parts (pages_at va pa s.pa2))) c (sym (ap (λ (x : Accessed). x.placed) l))
+      let p = load-parts c base ram va n (Ok (Parts (pages_at va pa s.pa2))) c (sym (ap (λ (x : Accessed). x.placed) l))
       (sym (ap (λ (x : Accessed). x.core) l)) in
       let e = load-ends c.last_pa c.abort_pa base ram va n v (Parts (pages_at va pa s.pa2))
       (both-loads base ram (pages_at va pa s.pa2) n h v w) in
       (sym p.0 ∙ ap (λ (x : LoadEnd). x.answer) e, sym p.1 ∙ ap (kept_last c) e ∙ kept-last c pa v)
 
   write-apart : (v : ℕ) (s : Says c base (length ram) va n pa Write) → both_inside base (length ram) (pages_at va pa s.pa2) n ≡ true
-      → ((write_of c base ram va n).answer ≡ Store.Done)
+      → ((write_of c base ram va n).answer ≡ Ok tt)
       × ((ram_after_write c base ram va n v ≡ both_stored base ram (pages_at va pa s.pa2) n v) × ((write_of c base ram va n).core ≡ c))
   write-apart v s w =
       let l = lie-apart c base ram va n pa Write s in
-      let p = store-parts c base ram va n v (Placed.At (Parts (pages_at va pa s.pa2))) c (sym (ap (λ (x : Accessed). x.placed) l))
+      let p = store-parts c base ram va n v (Ok (Parts (pages_at va pa s.pa2))) c (sym (ap (λ (x : Accessed). x.placed) l))
       (sym (ap (λ (x : Accessed). x.core) l)) in
       let e = store-ends c.abort_pa base ram va n (Parts (pages_at va pa s.pa2)) (both-judged base ram (pages_at va pa s.pa2) n h w) in (
         sym p.0 ∙ ap (λ (x : StoreEnd). x.answer) e,

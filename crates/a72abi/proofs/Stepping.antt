@@ -1,5 +1,5 @@
 -- Every call by its words, on plain values, for `search`.
-use Rattle.std.specs.Prelude.{if◌then◌else◌, Option, Some, None}
+use Rattle.std.specs.Prelude.{if◌then◌else◌, Option, Some, None, ℕ, Ok, Err}
 use mathlib.Core.Path.{◌≡◌, refl, sym, ap, subst, ◌∙◌}
 use mathlib.Core.Bool.{Bool, true, false, not}
 use mathlib.Core.List.{List, []}
@@ -11,11 +11,12 @@ use lib.Dec.{ltb}
 use lib.ListN.{length}
 use Rattle.word.specs.Bits.{wrap, flag}
 use Rattle.word.specs.Ram.{word_at, width_of, bytes_in}
-use Rattle.tlb.specs.declared.{access.Kind.Kind, access.Answer.Answer}
+use Rattle.tlb.specs.declared.access.Kind.{Kind}
+use Rattle.tlb.specs.Answers.{Answer}
+use Rattle.operations.specs.Answers.{Placed, Verdict, Got}
 use Rattle.tlb.specs.declared.access.Kind.TheVariants.{Read, Write}
 use Rattle.fault.specs.declared.Fault.{Fault as Status1}
 use Rattle.exception.specs.Abort.{data_abort_at, insn_abort_at}
-use Rattle.tlb.specs.declared.access.Answer.TheVariants.{Address, Status}
 use Rattle.exception.specs.declared.kind.Exception.{Exception}
 use Rattle.exception.specs.declared.kind.Stop.TheVariants as Stop
 use Rattle.operations.specs.Place.{verdict_of}
@@ -23,10 +24,7 @@ use Rattle.operations.specs.Bytes.{load_of, insn_of}
 use Rattle.operations.specs.Ends.{external, loaded_from, load_end, store_end_by, store_end, fetched_from, fetch_end}
 use Rattle.mmu.specs.Ops.{located_now, fetch_stepped_now, translate_of, data_pa_of, fetch_pa_of, read_of, write_of, fetch_of}
 use Rattle.mmu.specs.declared.core_state.Core.{Core}
-use Rattle.operations.specs.declared.{place.Placed.Placed, place.Verdict.Verdict, bytes.Got.Got, bytes.Insn.Insn}
-use Rattle.operations.specs.declared.{ends.Reached.Reached, call.Call.Call, call.Reply.Reply}
-use Rattle.operations.specs.declared.place.Placed.TheVariants.{At, Fault as NotPlaced}
-use Rattle.operations.specs.declared.ends.Reached.TheVariants as Reach
+use Rattle.operations.specs.declared.{call.Call.Call, call.Reply.Reply}
 use Rattle.operations.specs.Check.{missed_of, passes, known}
 use Rattle.operations.specs.Replies.{translation, reaching, loading, storing, fetching}
 use Rattle.cpu.specs.Step.{load_by, store_by, refused_or, missed_by, run_of, step_of, ends}
@@ -102,39 +100,39 @@ module _ (tag : ℕ) (a : ℕ → ℕ) where
 
 -- each operation's
 translation-shaped : (va : ℕ) (x : Answer) → Shaped (translation va x) 1 same 8 (λ v. va) 0
-translation-shaped va (Address pa) = shaped-value 8 (λ v. va) 0 pa
-translation-shaped va (Status fsc) = shaped-fault 1 same va fsc
+translation-shaped va (Ok pa) = shaped-value 8 (λ v. va) 0 pa
+translation-shaped va (Err fsc) = shaped-fault 1 same va fsc
 
-reach-shaped : (x : Reached) → Shaped (reaching x) 1 same 2 (λ v. 0) 0
-reach-shaped (Reach.At pa) = shaped-value 2 (λ v. 0) 0 pa
-reach-shaped Reach.Faults = shaped-faults 1 same
+reach-shaped : (x : Option ℕ) → Shaped (reaching x) 1 same 2 (λ v. 0) 0
+reach-shaped (Some pa) = shaped-value 2 (λ v. 0) 0 pa
+reach-shaped None = shaped-faults 1 same
 
 load-shaped : (x : Placed) (last abort base : ℕ) (ram : List ℕ) (va n : ℕ) → Shaped (loading (load_end x last abort base ram va n).answer) 1 same 9 same 0
 unfolding load_end
-load-shaped (NotPlaced addr fsc) last abort base ram va n = shaped-data 1 same addr false fsc
-load-shaped (At place) last abort base ram va n = go (load_of base ram place n)
+load-shaped (Err failed) last abort base ram va n = shaped-data 1 same failed.addr false failed.fault
+load-shaped (Ok place) last abort base ram va n = go (load_of base ram place n)
   where
     go : (g : Got) → Shaped (loading (loaded_from place g abort va).answer) 1 same 9 same 0
-    go (Got.Value v) = shaped-value 9 same 0 v
-    go (Got.Abort i pa) = shaped-data 1 same (wrap (va + i)) false external
+    go (Ok v) = shaped-value 9 same 0 v
+    go (Err out) = shaped-data 1 same (wrap (va + out.index)) false external
 
 store-shaped : (x : Placed) (abort base : ℕ) (ram : List ℕ) (va n : ℕ) → Shaped (storing (store_end x abort base ram va n).answer) 0 (λ v. 0) 9 same 1
 unfolding store_end
-store-shaped (NotPlaced addr fsc) abort base ram va n = shaped-data 0 (λ v. 0) addr true fsc
-store-shaped (At place) abort base ram va n = go (verdict_of base (length ram) place n)
+store-shaped (Err failed) abort base ram va n = shaped-data 0 (λ v. 0) failed.addr true failed.fault
+store-shaped (Ok place) abort base ram va n = go (verdict_of base (length ram) place n)
   where
     go : (g : Verdict) → Shaped (storing (store_end_by g abort va).answer) 0 (λ v. 0) 9 same 1
-    go Verdict.Inside = shaped-done 9 same 1
-    go (Verdict.Outside i pa) = shaped-data 0 (λ v. 0) (wrap (va + i)) true external
+    go (Ok x) = shaped-done 9 same 1
+    go (Err out) = shaped-data 0 (λ v. 0) (wrap (va + out.index)) true external
 
 fetch-shaped : (x : Answer) (abort base : ℕ) (ram : List ℕ) (va : ℕ) → Shaped (fetching (fetch_end x abort base ram va).answer) 1 same 10 (λ v. va) 0
 unfolding fetch_end
-fetch-shaped (Status fsc) abort base ram va = shaped-insn 1 same va fsc
-fetch-shaped (Address pa) abort base ram va = go (insn_of base ram pa)
+fetch-shaped (Err fsc) abort base ram va = shaped-insn 1 same va fsc
+fetch-shaped (Ok pa) abort base ram va = go (insn_of base ram pa)
   where
-    go : (i : Insn) → Shaped (fetching (fetched_from pa i abort va).answer) 1 same 10 (λ v. va) 0
-    go (Insn.Value v) = shaped-value 10 (λ v. va) 0 v
-    go Insn.Outside = shaped-insn 1 same va external
+    go : (i : Option ℕ) → Shaped (fetching (fetched_from pa i abort va).answer) 1 same 10 (λ v. va) 0
+    go (Some v) = shaped-value 10 (λ v. va) 0 v
+    go None = shaped-insn 1 same va external
 
 -- with its checks: their numbers are up to 3
 step-shaped : (c : Core) (base : ℕ) (ram : List ℕ) (x : Call) (tag : ℕ) (a : ℕ → ℕ) (fault : ℕ) (b : ℕ → ℕ) (flag : ℕ) → missed_by c base ram x ≤ 3

@@ -1,10 +1,10 @@
 -- What only private contracts cite: an operation past its checks by its number and value, and the ends of an access.
-use Rattle.std.specs.Prelude.{◌≡◌, List, ℕ, ◌<◌, get_or}
-use Rattle.tlb.specs.declared.access.Answer.{Answer}
-use Rattle.tlb.specs.declared.access.Answer.TheVariants.{Address}
+use Rattle.std.specs.Prelude.{◌≡◌, List, ℕ, ◌<◌, get_or, Ok}
+use Rattle.tlb.specs.Answers.{Answer}
+use Rattle.operations.specs.Answers.{Placed}
 use Rattle.operations.specs.Ends.{fetch_end}
 use Rattle.mmu.specs.declared.core_state.Core.{Core}
-use Rattle.operations.specs.declared.{place.Placed.Placed, call.Call.Call}
+use Rattle.operations.specs.declared.call.Call.{Call}
 use Rattle.operations.specs.Replies.{loading, storing, fetching}
 use Rattle.cpu.specs.Step.{ends, step_of}
 use Rattle.cpu.specs.Step.{Stepped}
@@ -35,7 +35,7 @@ fetch_ends c a base ram va =
 
 -- the instruction at pa, whatever address it was fetched by
 pub record FetchTells (pa base : ℕ) (ram ws : List ℕ) (n old v : ℕ) (xs : List ℕ) : Type 0 where
-  pub by : (va : ℕ) → Tells (fetch_ends (core_of ws) (Address pa) base ram va) ws n old v xs
+  pub by : (va : ℕ) → Tells (fetch_ends (core_of ws) (Ok pa) base ram va) ws n old v xs
 
 -- A call by its four words, and where those say that nothing was written.
 pub record Steps (call : Call) (base : ℕ) (ram ws : List ℕ) (w xs : List ℕ) : Type 0 where

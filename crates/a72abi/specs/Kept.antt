@@ -1,16 +1,12 @@
 -- Where a call writes no word.
-use Rattle.std.specs.Prelude.{◌≡◌, refl, Bool, true, false, List, ℕ, ◌<◌, Ok}
+use Rattle.std.specs.Prelude.{◌≡◌, refl, Bool, true, false, List, ℕ, ◌<◌, Ok, Option, Some, None, Err}
 use Rattle.std.proofs.Common.{sym, ap, ◌∙◌, arith}
 use Rattle.exception.specs.declared.{kind.Exception.Exception, kind.Stop.Stop}
-use Rattle.tlb.specs.declared.access.Answer.{Answer}
-use Rattle.tlb.specs.declared.access.Answer.TheVariants.{Address, Status}
+use Rattle.tlb.specs.Answers.{Answer}
+use Rattle.operations.specs.Answers.{Placed, Got, StoreAnswer}
 use Rattle.operations.specs.Bytes.{load_of, insn_of}
 use Rattle.operations.specs.Ends.{loaded_from, load_end, fetched_from, fetch_end}
-use Rattle.operations.specs.declared.{place.Placed.Placed, bytes.Got.Got, bytes.Insn.Insn, ends.StoreAnswer.StoreAnswer}
-use Rattle.operations.specs.declared.{ends.Reached.Reached, call.Reply.Reply}
-use Rattle.operations.specs.declared.place.Placed.TheVariants.{At, Fault as NotPlaced}
-use Rattle.operations.specs.declared.ends.StoreAnswer.TheVariants as Store
-use Rattle.operations.specs.declared.ends.Reached.TheVariants as Reach
+use Rattle.operations.specs.declared.call.Reply.{Reply}
 use Rattle.operations.specs.Replies.{translation, reaching, loading, storing, fetching, registering}
 use Rattle.operations.specs.declared.call.Reply.TheVariants.{Refused, Done, Value, Faults, Fault, Stopped}
 use Rattle.words_sys.specs.Early.{early, early_stop, never}
@@ -70,35 +66,35 @@ unmoved-value (Stopped (Stop.Exception Exception.PcAlignment)) old e = refl
 -- WHAT STOPS BY AN ABORT
 
 pub translation-late : (va : ℕ) (a : Answer) → unmoved (translation va a) ≡ false
-translation-late va (Address pa) = refl
-translation-late va (Status f) = refl
+translation-late va (Ok pa) = refl
+translation-late va (Err f) = refl
 
-pub reach-late : (a : Reached) → unmoved (reaching a) ≡ false
-reach-late (Reach.At pa) = refl
-reach-late Reach.Faults = refl
+pub reach-late : (a : Option ℕ) → unmoved (reaching a) ≡ false
+reach-late (Some pa) = refl
+reach-late None = refl
 
 pub load-late : (x : Placed) (last abort base : ℕ) (ram : List ℕ) (va n : ℕ)
     → unmoved (loading (load_end x last abort base ram va n).answer) ≡ false
 unfolding load_end
-load-late (NotPlaced addr f) last abort base ram va n = refl
-load-late (At place) last abort base ram va n = go (load_of base ram place n)
+load-late (Err failed) last abort base ram va n = refl
+load-late (Ok place) last abort base ram va n = go (load_of base ram place n)
   where
     go : (g : Got) → unmoved (loading (loaded_from place g abort va).answer) ≡ false
-    go (Got.Value v) = refl
-    go (Got.Abort i pa) = refl
+    go (Ok v) = refl
+    go (Err out) = refl
 
 pub storing-late : (a : StoreAnswer) → unmoved (storing a) ≡ early_stop a
-storing-late Store.Done = refl
-storing-late (Store.Stopped s) = refl
+storing-late (Ok x) = refl
+storing-late (Err s) = refl
 
 pub fetch-end : (a : Answer) (abort base : ℕ) (ram : List ℕ) (va : ℕ) → unmoved (fetching (fetch_end a abort base ram va).answer) ≡ false
 unfolding fetch_end
-fetch-end (Status fsc) abort base ram va = refl
-fetch-end (Address pa) abort base ram va = inside (insn_of base ram pa)
+fetch-end (Err fsc) abort base ram va = refl
+fetch-end (Ok pa) abort base ram va = inside (insn_of base ram pa)
   where
-    inside : (i : Insn) → unmoved (fetching (fetched_from pa i abort va).answer) ≡ false
-    inside (Insn.Value v) = refl
-    inside Insn.Outside = refl
+    inside : (i : Option ℕ) → unmoved (fetching (fetched_from pa i abort va).answer) ≡ false
+    inside (Some v) = refl
+    inside None = refl
 
 -- BY THE REPLY
 

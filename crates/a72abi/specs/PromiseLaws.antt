@@ -13,7 +13,8 @@ use Rattle.sysop.specs.declared.op.SysOp.{SysOp}
 use Rattle.mmu.specs.Core.{reg_of}
 use Rattle.mmu.specs.Ops.{write_of}
 use Rattle.mmu.specs.declared.core_state.Core.{Core}
-use Rattle.operations.specs.declared.{ends.StoreAnswer.StoreAnswer, call.Call.Call, call.Reply.Reply}
+use Rattle.operations.specs.declared.{call.Call.Call, call.Reply.Reply}
+use Rattle.operations.specs.Answers.{StoreAnswer}
 use Rattle.exec.specs.Ops.{after_register_write}
 use Rattle.exec.specs.Sys.{zero_of, sys_by, sys_ram_by, op_of, sys_of, sys_ram}
 use Rattle.operations.specs.Check.{missed_of}

@@ -9,7 +9,7 @@ ghost use Rattle.a72abi.specs.Promise.{Runs};
 
 use exception::kind::Exception;
 use operations::call::{Encoding, Reply};
-use operations::{check, reply};
+use operations::check;
 use words::place::State;
 use words::state;
 
@@ -20,7 +20,7 @@ fn missed_system(state: &State, base: u64, len: u64, e: Encoding) -> u8
     ensures { result ≡ missed_of (core_of state.now).privilege.level base len (Call.System e) }
 {
     let privilege = state::privilege_at(state);
-    check::system(privilege.level, base, len, e)
+    check::number_missed(check::system(privilege.level, base, len, e))
 }
 
 fn missed_register(state: &State, key: u32) -> u8
@@ -28,7 +28,7 @@ fn missed_register(state: &State, key: u32) -> u8
         (not (kept key), 6) ∷ []) }
 {
     let privilege = state::privilege_at(state);
-    check::register(privilege.level, key)
+    check::number_missed(check::register(privilege.level, key))
 }
 
 fn missed_level(state: &State, requested: u64) -> u8
@@ -36,14 +36,14 @@ fn missed_level(state: &State, requested: u64) -> u8
         ≡ first_of ((ltb 3 (core_of state.now).privilege.level || ltb 3 requested, 1) ∷ []) }
 {
     let privilege = state::privilege_at(state);
-    check::levels(privilege.level, requested)
+    check::number_missed(check::levels(privilege.level, requested))
 }
 
 fn missed_any(state: &State) -> u8
     ensures { result ≡ first_of ((ltb 3 (core_of state.now).privilege.level, 1) ∷ []) }
 {
     let privilege = state::privilege_at(state);
-    check::any(privilege.level)
+    check::number_missed(check::any(privilege.level))
 }
 
 #[tactic(auto, unfolding(operations::specs::Check::missed_of, cpu::specs::Step::run_of, cpu::specs::Step::ram_of, cpu::specs::Step::step_of, cpu::specs::Step::ram_after))]
@@ -57,7 +57,7 @@ pub fn system(state: &mut State, base: u64, ram: &mut [u8], e: Encoding) -> Repl
         return Reply::Refused(n);
     }
     let answer = words_sys::zero::system(state, base, ram, e.op1, e.crn, e.crm, e.op2, e.rt);
-    reply::stored(answer)
+    Reply::from(answer)
 }
 
 #[tactic(auto, unfolding(operations::specs::Check::missed_of, cpu::specs::Step::run_of, cpu::specs::Step::step_of))]
@@ -69,7 +69,7 @@ pub fn register(state: &mut State, key: u32, value: u64) -> Reply
         return Reply::Refused(n);
     }
     let answer = words_sys::register::write_register(state, key, value);
-    reply::written(answer)
+    Reply::from(answer)
 }
 
 #[tactic(auto, unfolding(operations::specs::Check::missed_of, cpu::specs::Step::run_of, cpu::specs::Step::step_of, exec::specs::Ops::set_level, words::specs::Parts::with_privilege))]

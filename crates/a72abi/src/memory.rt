@@ -10,7 +10,6 @@ ghost use Rattle.a72abi.specs.Promise.{Promise, Gives};
 
 use crate::slow;
 use operations::bytes;
-use operations::bytes::Insn;
 use tlb::access::Kind;
 use words::place::State;
 use words::state;
@@ -139,11 +138,11 @@ pub fn a72_fetch(state: &mut State, va: u64, ans: &mut u64, base: u64, ram: &[u8
         } else {
             match translate::fetch_by_hint(state, va) {
                 Some(pa) => match bytes::insn_at(base, ram, pa) {
-                    Insn::Value(v) => {
+                    Some(v) => {
                         *ans = v as u64;
                         0
                     }
-                    Insn::Outside => slow::fetch(state, va, ans, base, ram),
+                    None => slow::fetch(state, va, ans, base, ram),
                 },
                 None => slow::fetch_page(state, va, ans, base, ram),
             }

@@ -2,7 +2,6 @@
 // answers, and for every call by its words.
 ghost use Rattle.std.specs.Prelude.{if◌then◌else◌, ◌≡◌, eqb, None};
 ghost use Rattle.tlb.specs.declared.access.Kind.TheVariants.{Read};
-ghost use Rattle.operations.specs.declared.place.Placed.TheVariants.{At};
 ghost use Rattle.operations.specs.Check.{ram_rows, first_of};
 ghost use Rattle.cpu.specs.Step.{run_of};
 ghost use Rattle.operations.specs.declared.call.Call.TheVariants as Call;
@@ -12,7 +11,6 @@ ghost use Rattle.a72abi.specs.Inside.{Tells, FetchTells};
 ghost use Rattle.call_words.specs.declared.op.DecodedCall.TheVariants as DecodedCall;
 ghost use Rattle.a72abi.specs.Promise.{Gives};
 
-use operations::bytes::Insn;
 use operations::{bytes, check};
 use tlb::access::Kind;
 use word::ram;
@@ -25,7 +23,7 @@ fn missed_with_ram(state: &State, base: u64, len: u64) -> u8
     ensures { result ≡ first_of (ram_rows (core_of state.now).privilege.level base len) }
 {
     let privilege = state::privilege_at(state);
-    check::with_ram(privilege.level, base, len)
+    check::number_missed(check::with_ram(privilege.level, base, len))
 }
 
 // The translation of va, past the checks: the hint first. A translation that no hint serves is lent RAM as a part, so
@@ -129,11 +127,11 @@ fn fetch_at(state: &mut State, pa: u64, ans: &mut u64, base: u64, ram: &[u8]) ->
         state.new }
 {
     match bytes::insn_at(base, ram, pa) {
-        Insn::Value(v) => {
+        Some(v) => {
             *ans = v as u64;
             0
         }
-        Insn::Outside => {
+        None => {
             state::put_abort(state, pa);
             256 + 0x10
         }

@@ -1,11 +1,10 @@
 // Loads and stores by number, on lent words, with the checks in their order: where no fast path answers,
 // and for every call by its words.
-ghost use Rattle.std.specs.Prelude.{◌≡◌, ◌≤◌, None};
+ghost use Rattle.std.specs.Prelude.{◌≡◌, ◌≤◌, None, Ok};
 ghost use Rattle.word.specs.Ram.{bytes_in, stored};
 ghost use Rattle.tlb.specs.declared.access.Kind.TheVariants.{Read, Write};
 ghost use Rattle.operations.specs.Place.{in_page};
 ghost use Rattle.operations.specs.declared.place.Place.TheVariants.{Whole};
-ghost use Rattle.operations.specs.declared.place.Placed.TheVariants.{At};
 ghost use Rattle.operations.specs.Check.{sized_rows, first_of};
 ghost use Rattle.cpu.specs.Step.{run_of, ram_of, ram_after};
 ghost use Rattle.operations.specs.declared.call.Call.TheVariants as Call;
@@ -29,7 +28,7 @@ fn missed_sized(state: &State, base: u64, len: u64, size: u64) -> u8
     ensures { result ≡ first_of (sized_rows (core_of state.now).privilege.level base len size) }
 {
     let privilege = state::privilege_at(state);
-    check::sized(privilege.level, base, len, size)
+    check::number_missed(check::sized(privilege.level, base, len, size))
 }
 
 // The bytes of a load that lie from pa on. An external abort is 256 plus its status.
@@ -43,7 +42,7 @@ fn load_at(
     ram: &[u8],
 ) -> u64
     ensures { Tells
-        (load_ends (core_of state.old) (At (Whole pa)) base ram.now va (bytes_in width))
+        (load_ends (core_of state.old) (Ok (Whole pa)) base ram.now va (bytes_in width))
         state.old result ans.old ans.new state.new }
 {
     state::put_last(state, pa);
@@ -162,7 +161,7 @@ fn store_at(
     ram: &mut [u8],
 ) -> u64
     ensures tells { Tells
-        (store_ends (core_of state.old) (At (Whole pa)) base ram.old va (bytes_in width))
+        (store_ends (core_of state.old) (Ok (Whole pa)) base ram.old va (bytes_in width))
         state.old result ans.old ans.new state.new }
     ensures ram_after { ram.new ≡ stored base ram.old (bytes_in width) pa value }
 {

@@ -6,7 +6,6 @@ ghost use Rattle.operations.specs.Replies.{loading, storing};
 
 use exception::kind::{Exception, Stop};
 use operations::call::Reply;
-use operations::ends::{LoadAnswer, StoreAnswer};
 use word::bits;
 
 // The number of an exception that stops an operation, and the address of a data abort.
@@ -40,26 +39,26 @@ fn stopped(stop: Stop, ans: &mut u64) -> u64
 }
 
 // The number of a load's or a store's answer, and in ans its value or the address of its data abort.
-pub fn loaded(answer: LoadAnswer, ans: &mut u64) -> u64
+pub fn loaded(answer: Result<u64, Stop>, ans: &mut u64) -> u64
     ensures value { result ≡ code_by (loading answer) }
     ensures ans_after { ans.new ≡ value_by (loading answer) ans.old }
 {
     match answer {
-        LoadAnswer::Value(v) => {
+        Ok(v) => {
             *ans = v;
             0
         }
-        LoadAnswer::Stopped(stop) => stopped(stop, ans),
+        Err(stop) => stopped(stop, ans),
     }
 }
 
-pub fn stored(answer: StoreAnswer, ans: &mut u64) -> u64
+pub fn stored(answer: Result<(), Stop>, ans: &mut u64) -> u64
     ensures value { result ≡ code_by (storing answer) }
     ensures ans_after { ans.new ≡ value_by (storing answer) ans.old }
 {
     match answer {
-        StoreAnswer::Done => 0,
-        StoreAnswer::Stopped(stop) => stopped(stop, ans),
+        Ok(()) => 0,
+        Err(stop) => stopped(stop, ans),
     }
 }
 

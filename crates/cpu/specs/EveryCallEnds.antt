@@ -12,8 +12,8 @@ use Rattle.sysreg.specs.Write.{names, ended, wrote, write_found, write_reg, Writ
 use Rattle.sysreg.specs.declared.{regs.Control.Control, regs.SysRegs.SysRegs}
 use Rattle.sysreg.specs.declared.regs.Register.{Register}
 use Rattle.sysreg.specs.declared.regs.Register.TheVariants.{InControl, InSys}
-use Rattle.tlb.specs.declared.access.Answer.{Answer}
-use Rattle.tlb.specs.declared.access.Answer.TheVariants.{Address, Status}
+use Rattle.tlb.specs.Answers.{Answer}
+use Rattle.operations.specs.Answers.{Placed, Verdict, LoadAnswer, StoreAnswer, FetchAnswer}
 use Rattle.tlb.specs.declared.access.Kind.TheVariants as Kind
 use Rattle.sysop.specs.declared.op.SysOp.{SysOp}
 use Rattle.mmu.specs.Core.{reg_of}
@@ -24,14 +24,7 @@ use Rattle.mmu.specs.Says.{insn_says, load-says, store-says, fetch-says}
 use Rattle.mmu.specs.Ops.{translate_of, read_of, write_of, ram_after_write, fetch_of, fetch_pa_of, data_pa_of, located_now, fetch_stepped_now}
 use Rattle.mmu.specs.OpLaws.{ram-length, store}
 use Rattle.mmu.specs.declared.core_state.Core.{Core}
-use Rattle.operations.specs.declared.{place.Placed.Placed, place.Verdict.Verdict, ends.LoadAnswer.LoadAnswer}
-use Rattle.operations.specs.declared.{ends.StoreAnswer.StoreAnswer, ends.FetchAnswer.FetchAnswer, ends.Reached.Reached}
 use Rattle.operations.specs.declared.{call.Call.Call, call.Reply.Reply}
-use Rattle.operations.specs.declared.place.Verdict.TheVariants.{Inside, Outside}
-use Rattle.operations.specs.declared.ends.LoadAnswer.TheVariants as Load
-use Rattle.operations.specs.declared.ends.StoreAnswer.TheVariants as Store
-use Rattle.operations.specs.declared.ends.FetchAnswer.TheVariants as Fetched
-use Rattle.operations.specs.declared.ends.Reached.TheVariants as Reach
 use Rattle.exec.specs.Ops.{registered, written, after_register_write}
 use Rattle.exec.specs.Sys.{on_stored, zero_of, zero_ram, sys_by, sys_ram_by, op_of, sys_of, sys_ram}
 use Rattle.operations.specs.Check.{Row, checks_of, first_of, missed_of, is_width, known, kept}
@@ -150,12 +143,12 @@ store_wrote c base ram va n v =
     same = ram-length c base ram (store va n v)
 
     memory : (d : Verdict) → Wrote ram (ram_after_write c base ram va n v) (memory_says d va done)
-    memory Inside = did _ same
-    memory (Outside i pa) = faulted _ _ _ same
+    memory (Ok x) = did _ same
+    memory (Err out) = faulted _ _ _ same
 
     go : (x : Placed) → Wrote ram (ram_after_write c base ram va n v) (access_says x (λ p. judged base (length ram) p n) va (λ p. done))
-    go (Placed.Fault a f) = faulted _ a f.fsc same
-    go (Placed.At p) = memory (judged base (length ram) p n)
+    go (Err failed) = faulted _ failed.addr failed.fault.fsc same
+    go (Ok p) = memory (judged base (length ram) p n)
 
 wrote-later : (ram mid after : List ℕ) (s : Said) → length mid ≡ length ram → Wrote mid after s → Wrote ram after s
 wrote-later ram mid _ _ e (did after h) = did after (h ∙ e)
@@ -171,21 +164,21 @@ zero-wrote (suc n) c base ram va =
   where
     go : (a : StoreAnswer) (later : List ℕ) (t : Stored) → Wrote (ram_after_write c base ram va 8 0) later (store_says t.answer)
         → Wrote ram (on_stored a later (ram_after_write c base ram va 8 0)) (store_says (on_stored a t (write_of c base ram va 8)).answer)
-    go Store.Done later t h = wrote-later ram (ram_after_write c base ram va 8 0) _ _ (ram-length c base ram (store va 8 0)) h
-    go (Store.Stopped s) later t h = store_wrote c base ram va 8 0
+    go (Ok x) later t h = wrote-later ram (ram_after_write c base ram va 8 0) _ _ (ram-length c base ram (store va 8 0)) h
+    go (Err s) later t h = store_wrote c base ram va 8 0
 
 -- each answer as what it says
 loading-says : (a : LoadAnswer) → outcome_of (loading a) ≡ says (load_says a)
-loading-says (Load.Value v) = refl
-loading-says (Load.Stopped s) = refl
+loading-says (Ok v) = refl
+loading-says (Err s) = refl
 
 storing-says : (a : StoreAnswer) → outcome_of (storing a) ≡ says (store_says a)
-storing-says Store.Done = refl
-storing-says (Store.Stopped s) = refl
+storing-says (Ok x) = refl
+storing-says (Err s) = refl
 
 fetching-says : (a : FetchAnswer) → outcome_of (fetching a) ≡ says (fetch_says a)
-fetching-says (Fetched.Value v) = refl
-fetching-says (Fetched.Aborted e) = refl
+fetching-says (Ok v) = refl
+fetching-says (Err e) = refl
 
 -- a register write of a key that names a register is not refused
 code : WriteAnswer → ℕ
@@ -205,12 +198,12 @@ named-write k s level v (Some r) h = go (level == 0) r
 
 module _ (c : Core) (base : ℕ) (ram : List ℕ) where
   translated : (d : Core) (va : ℕ) (a : Answer) → Ran c ram d ram (outcome_of (translation va a))
-  translated d va (Address pa) = valued d pa
-  translated d va (Status f) = stopped d va f.fsc
+  translated d va (Ok pa) = valued d pa
+  translated d va (Err f) = stopped d va f.fsc
 
-  addressed : (d : Core) (a : Reached) → Ran c ram d ram (outcome_of (reaching a))
-  addressed d (Reach.At pa) = valued d pa
-  addressed d Reach.Faults = unreached d
+  addressed : (d : Core) (a : Option ℕ) → Ran c ram d ram (outcome_of (reaching a))
+  addressed d (Some pa) = valued d pa
+  addressed d None = unreached d
 
   loaded : (va n : ℕ) → Ran c ram (read_of c base ram va n).core ram (outcome_of (loading (read_of c base ram va n).answer))
   loaded va n =
@@ -218,13 +211,13 @@ module _ (c : Core) (base : ℕ) (ram : List ℕ) where
       (go (located_now c (word_at base ram 8) va n Kind.Read).placed)
     where
       memory : (d : Verdict) (v : ℕ) → Ran c ram (read_of c base ram va n).core ram (says (memory_says d va (value v)))
-      memory Inside v = valued _ v
-      memory (Outside i pa) v = stopped _ _ _
+      memory (Ok x) v = valued _ v
+      memory (Err out) v = stopped _ _ _
 
       go : (x : Placed)
           → Ran c ram (read_of c base ram va n).core ram (says (access_says x (λ p. judged base (length ram) p n) va (λ p. value (value_at base ram p n))))
-      go (Placed.Fault a f) = stopped _ a f.fsc
-      go (Placed.At p) = memory (judged base (length ram) p n) _
+      go (Err failed) = stopped _ failed.addr failed.fault.fsc
+      go (Ok p) = memory (judged base (length ram) p n) _
 
   stored : (d : Core) (a : StoreAnswer) (after : List ℕ) → Wrote ram after (store_says a) → Ran c ram d after (outcome_of (storing a))
   stored d a after w = subst⁻¹ (Ran c ram d after) (storing-says a) (wrote-ram d after (store_says a) w)
@@ -239,8 +232,8 @@ module _ (c : Core) (base : ℕ) (ram : List ℕ) where
       memory false v = stopped _ va 0x10
 
       go : (a : Answer) → Ran c ram (fetch_of c base ram va).core ram (says (insn_says base ram va a))
-      go (Status f) = stopped _ va f.fsc
-      go (Address pa) = memory (within base (length ram) 4 pa) _
+      go (Err f) = stopped _ va f.fsc
+      go (Ok pa) = memory (within base (length ram) 4 pa) _
 
   -- a system operation, by what its encoding names
   system : (o : SysOp) (op1 crm op2 x : ℕ)

@@ -22,19 +22,13 @@ pub fn census(core: &Core, base: u64, ram: &[u8], first: u64, pages: u64) -> Cen
 {
     let level = core.privilege.level;
     let mut counts = [0; 129];
-    let n = check::census(level, base, ram.len() as u64, first, pages);
-    if n == 0 {
-        let regime = Regime::of_level(level);
-        let s = Bank::new(&core.control, regime);
-        count::count(s, regime, first, pages, base, ram, &mut counts);
-        Censused {
-            counts,
-            reply: Reply::Done,
-        }
-    } else {
-        Censused {
-            counts,
-            reply: Reply::Refused(n),
-        }
+    if let Err(check) = check::census(level, base, ram.len() as u64, first, pages) {
+        let reply = Reply::from(check);
+        return Censused { counts, reply };
     }
+    let regime = Regime::of_level(level);
+    let s = Bank::new(&core.control, regime);
+    count::count(s, regime, first, pages, base, ram, &mut counts);
+    let reply = Reply::Done;
+    Censused { counts, reply }
 }

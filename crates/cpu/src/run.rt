@@ -4,7 +4,8 @@ ghost use Rattle.cpu.specs.Step.{run_of, ram_of, step_of, ram_after};
 
 use mmu::core_state::Core;
 use operations::call::{Call, Reply};
-use operations::{check, reply};
+use operations::check;
+use operations::check::Check;
 use word::ram::Width;
 
 // The operation that a call is.
@@ -14,23 +15,23 @@ fn run(core: &mut Core, base: u64, ram: &mut [u8], call: Call) -> Reply
     ensures ram { ram.new ≡ ram_of core.old base ram.old call }
 {
     match call {
-        Call::Translate(kind, va) => reply::translated(va, core.translate(base, ram, va, kind)),
-        Call::DataPa(va) => reply::reached(core.data_pa(base, ram, va)),
-        Call::FetchPa(va) => reply::reached(core.fetch_pa(base, ram, va)),
+        Call::Translate(kind, va) => Reply::translated(va, core.translate(base, ram, va, kind)),
+        Call::DataPa(va) => Reply::from(core.data_pa(base, ram, va)),
+        Call::FetchPa(va) => Reply::from(core.fetch_pa(base, ram, va)),
         Call::Load(va, size) => match Width::of_size(size) {
-            Some(width) => reply::loaded(core.read(base, ram, va, width)),
-            None => Reply::Refused(3),
+            Some(width) => Reply::from(core.read(base, ram, va, width)),
+            None => Reply::from(Check::Size),
         },
         Call::Store(va, size, value) => match Width::of_size(size) {
-            Some(width) => reply::stored(core.write(base, ram, va, width, value)),
-            None => Reply::Refused(3),
+            Some(width) => Reply::from(core.write(base, ram, va, width, value)),
+            None => Reply::from(Check::Size),
         },
-        Call::Fetch(va) => reply::fetched(core.fetch(base, ram, va)),
+        Call::Fetch(va) => Reply::from(core.fetch(base, ram, va)),
         Call::System(e) => {
-            reply::stored(exec::sys::sys(core, base, ram, e.op1, e.crn, e.crm, e.op2, e.rt))
+            Reply::from(exec::sys::sys(core, base, ram, e.op1, e.crn, e.crm, e.op2, e.rt))
         }
         Call::Register(key, value) => {
-            reply::written(exec::ops::write_register(core, key, value))
+            Reply::from(exec::ops::write_register(core, key, value))
         }
         Call::Level(level) => {
             exec::ops::set_level(core, (level % 4) as u8);
@@ -58,10 +59,8 @@ pub fn step(core: &mut Core, base: u64, ram: &mut [u8], call: Call) -> Reply
     ensures core { record { core = core.new; reply = result } ≡ step_of core.old base ram.old call }
     ensures ram { ram.new ≡ ram_after core.old base ram.old call }
 {
-    let n = check::missed(core.privilege.level, base, ram.len() as u64, call);
-    if n == 0 {
-        run(core, base, ram, call)
-    } else {
-        Reply::Refused(n)
+    match check::missed(core.privilege.level, base, ram.len() as u64, call) {
+        Ok(()) => run(core, base, ram, call),
+        Err(check) => Reply::from(check),
     }
 }

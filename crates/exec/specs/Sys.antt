@@ -1,6 +1,6 @@
 -- System operations on the core.
 use Rattle.mmu.specs.Results.{Stored}
-use Rattle.std.specs.Prelude.{ℕ, zero, suc, ◌+◌, List, Option}
+use Rattle.std.specs.Prelude.{ℕ, zero, suc, ◌+◌, List, Option, Ok, Err}
 use Rattle.word.specs.Bits.{align_down, wrap}
 use Rattle.word.specs.Ram.{word_at}
 use Rattle.sysreg.specs.Regs.{sys_at}
@@ -21,8 +21,7 @@ use Rattle.mmu.specs.Bare.{bare_of, in_core}
 use Rattle.mmu.specs.Core.{reg_of}
 use Rattle.mmu.specs.Ops.{with_tlb, write_of, ram_after_write}
 use Rattle.mmu.specs.declared.core_state.Core.{Core}
-use Rattle.operations.specs.declared.ends.StoreAnswer.{StoreAnswer}
-use Rattle.operations.specs.declared.ends.StoreAnswer.TheVariants.{Done, Stopped}
+use Rattle.operations.specs.Answers.{StoreAnswer}
 
 -- MAIR of a regime
 abbrev pub mair_of : SysRegs → Regime → ℕ
@@ -40,11 +39,11 @@ tlbi_core c op1 crm op2 x = with_tlb c (invalidated_of c.tlb (tlbi_of c.control 
 
 -- n stores of eight zero bytes from va on, up to the first that stops; `ZeroMeaning` says what they leave in RAM
 abbrev pub done_with : Core → Stored
-done_with c = record { core = c; answer = Done }
+done_with c = record { core = c; answer = Ok tt }
 
 abbrev pub on_stored : {A : Type 0} → StoreAnswer → A → A → A
-on_stored Done more end = more
-on_stored (Stopped s) more end = end
+on_stored (Ok x) more end = more
+on_stored (Err s) more end = end
 
 unfoldable pub zero_of : ℕ → Core → ℕ → List ℕ → ℕ → Stored
 zero_of zero c base ram va = done_with c
@@ -67,8 +66,8 @@ sys_by (At form) c base ram op1 crm op2 x = done_with (at_of c (word_at base ram
 sys_by Tlbi c base ram op1 crm op2 x = done_with (tlbi_core c op1 crm op2 x)
 sys_by Zva c base ram op1 crm op2 x = zero_of 8 c base ram (align_down x 6)
 sys_by Nothing c base ram op1 crm op2 x = done_with c
-sys_by Undefined c base ram op1 crm op2 x = record { core = c; answer = Stopped (Stop.Exception Exception.Undefined) }
-sys_by Unimplemented c base ram op1 crm op2 x = record { core = c; answer = Stopped Stop.Unimplemented }
+sys_by Undefined c base ram op1 crm op2 x = record { core = c; answer = Err (Stop.Exception Exception.Undefined) }
+sys_by Unimplemented c base ram op1 crm op2 x = record { core = c; answer = Err Stop.Unimplemented }
 
 -- only a zeroing writes RAM
 abbrev pub sys_ram_by : SysOp → Core → ℕ → List ℕ → ℕ → List ℕ

@@ -1,6 +1,6 @@
 -- A zeroing store by store: each store's own translation, what the stores before it leave, and what they do to RAM.
 use Rattle.mmu.specs.Results.{Located, Stored}
-use Rattle.std.specs.Prelude.{if◌then◌else◌, ◌≡◌, ℕ, zero, suc, ◌+◌, ◌-◌, ◌*◌, ◌/◌, ◌%◌, ◌^◌, ◌<◌, ◌≤◌, Bool, true, false, ltb, List, length, ◌≢◌, nat_le, nat_lt, slice_index}
+use Rattle.std.specs.Prelude.{if◌then◌else◌, ◌≡◌, ℕ, zero, suc, ◌+◌, ◌-◌, ◌*◌, ◌/◌, ◌%◌, ◌^◌, ◌<◌, ◌≤◌, Bool, true, false, ltb, List, length, ◌≢◌, nat_le, nat_lt, slice_index, Ok, Err}
 use Rattle.std.proofs.Math.Path.{refl, sym, ap}
 use Rattle.std.proofs.Common.{◌∙◌, mod-eq_of_lt, pos_of_ne-zero, leb-true, leb-false, ltb-true, ltb-false, le-ltb}
 use Rattle.std.proofs.Math.Nat.{zero-div}
@@ -10,8 +10,8 @@ use Rattle.word.specs.Ram.{within, word_at, stored}
 use Rattle.word.specs.RamLaws.{within_low, within-high, written_byte}
 use Rattle.tlb.specs.declared.access.Kind.TheVariants.{Write}
 use Rattle.fault.specs.declared.Fault.{Fault}
-use Rattle.tlb.specs.declared.access.Answer.{Answer}
-use Rattle.tlb.specs.declared.access.Answer.TheVariants.{Address, Status}
+use Rattle.tlb.specs.Answers.{Answer}
+use Rattle.operations.specs.Answers.{Placed, StoreAnswer, fault_at}
 use Rattle.exception.specs.declared.kind.Stop.{Stop}
 use Rattle.mmu.specs.Core.{after_access, bank_now}
 use Rattle.operations.specs.Place.{in_page, crosses, goes_on, placed_one, verdict_of}
@@ -23,9 +23,6 @@ use Rattle.mmu.specs.Ops.{stepped_now, located_now, translate_of, write_of, ram_
 use Rattle.mmu.specs.OpLaws.{on_now}
 use Rattle.mmu.specs.declared.core_state.Core.{Core}
 use Rattle.operations.specs.declared.place.Place.TheVariants.{Whole}
-use Rattle.operations.specs.declared.{place.Placed.Placed, ends.StoreAnswer.StoreAnswer}
-use Rattle.operations.specs.declared.place.Placed.TheVariants.{At}
-use Rattle.operations.specs.declared.ends.StoreAnswer.TheVariants.{Done, Stopped}
 use Rattle.exec.specs.Sys.{done_with, on_stored, zero_of, zero_ram}
 
 -- ONE STORE OF EIGHT ZERO BYTES, at an address of which it is a multiple
@@ -53,8 +50,8 @@ module _ (c : Core) (base : ℕ) (ram : List ℕ) (a : ℕ) (even : a % 8 ≡ 0)
   one-located = rw (one-page-only (on_now c)) (go (translate_in (bank_now c) c.privilege (word_at base ram 8) a Write c.tlb).answer _ _)
     where
       go : (x : Answer) (y z : Located) → (if goes_on x false then y else z) ≡ z
-      go (Address pa) y z = refl
-      go (Status fault) y z = refl
+      go (Ok pa) y z = refl
+      go (Err fault) y z = refl
 
   one_placed : (located_now c (word_at base ram 8) a 8 Write).placed ≡ placed_one a answer_for
   unfolding translate_of stepped_now
@@ -65,32 +62,32 @@ module _ (c : Core) (base : ℕ) (ram : List ℕ) (a : ℕ) (even : a % 8 ≡ 0)
   one-tlb = ap (λ (l : Located). l.tlb) one-located
 
   -- what it does to RAM, by its translation's answer
-  pub one-ram : (pa : ℕ) → answer_for ≡ Address pa → ram_after_write c base ram a 8 0 ≡ stored base ram 8 pa 0
+  pub one-ram : (pa : ℕ) → answer_for ≡ Ok pa → ram_after_write c base ram a 8 0 ≡ stored base ram 8 pa 0
   unfolding ram_after_write store_ram_end store_ram
   one-ram pa e = rw (one_placed, e)
 
-  pub none-ram : (f : Fault) → answer_for ≡ Status f → ram_after_write c base ram a 8 0 ≡ ram
+  pub none-ram : (f : Fault) → answer_for ≡ Err f → ram_after_write c base ram a 8 0 ≡ ram
   unfolding ram_after_write store_ram_end
   none-ram f e = rw (one_placed, e)
 
   -- a store that is done has an address, of eight bytes of RAM
-  pub one-done : (write_of c base ram a 8).answer ≡ Done → (pa : ℕ) × ((answer_for ≡ Address pa) × (within base (length ram) 8 pa ≡ true))
+  pub one-done : (write_of c base ram a 8).answer ≡ Ok tt → (pa : ℕ) × ((answer_for ≡ Ok pa) × (within base (length ram) 8 pa ≡ true))
   unfolding write_of store_end verdict_of
   one-done = go (located_now c (word_at base ram 8) a 8 Write).placed one_placed answer_for refl
     where
-      go : (x : Placed) → x ≡ placed_one a answer_for → (y : Answer) → answer_for ≡ y → (store_end x c.abort_pa base ram a 8).answer ≡ Done
-          → (pa : ℕ) × ((answer_for ≡ Address pa) × (within base (length ram) 8 pa ≡ true))
-      go x p (Status fault) e q =
-          let f : (store_end (Placed.Fault a fault) c.abort_pa base ram a 8).answer ≡ Done
+      go : (x : Placed) → x ≡ placed_one a answer_for → (y : Answer) → answer_for ≡ y → (store_end x c.abort_pa base ram a 8).answer ≡ Ok tt
+          → (pa : ℕ) × ((answer_for ≡ Ok pa) × (within base (length ram) 8 pa ≡ true))
+      go x p (Err fault) e q =
+          let f : (store_end (Err (fault_at a fault)) c.abort_pa base ram a 8).answer ≡ Ok tt
           = ap (λ (w : Placed). (store_end w c.abort_pa base ram a 8).answer) (sym (p ∙ ap (placed_one a) e)) ∙ q in
           let z : ◌≡◌ {A = ℕ} 0 1 = cc in
           absurd (omega arith)
-      go x p (Address pa) e q =
-          let f : (store_end (At (Whole pa)) c.abort_pa base ram a 8).answer ≡ Done
+      go x p (Ok pa) e q =
+          let f : (store_end (Ok (Whole pa)) c.abort_pa base ram a 8).answer ≡ Ok tt
           = ap (λ (w : Placed). (store_end w c.abort_pa base ram a 8).answer) (sym (p ∙ ap (placed_one a) e)) ∙ q in
           (pa, (e, inside (within base (length ram) 8 pa) refl f))
         where
-          inside : (b : Bool) → within base (length ram) 8 pa ≡ b → (store_end (At (Whole pa)) c.abort_pa base ram a 8).answer ≡ Done
+          inside : (b : Bool) → within base (length ram) 8 pa ≡ b → (store_end (Ok (Whole pa)) c.abort_pa base ram a 8).answer ≡ Ok tt
               → within base (length ram) 8 pa ≡ true
           inside true w f = w
           inside false w f = let r = rw w at f in let z : ◌≡◌ {A = ℕ} 0 1 = cc in absurd (omega arith)
@@ -157,19 +154,19 @@ module _ (n : ℕ) (c : Core) (base : ℕ) (ram : List ℕ) (va : ℕ) where
   unfolding zero_of zero_ram
   zero-none e = (rw e, rw e)
 
-  zero-next : (m : ℕ) → n ≡ suc m → (write_of c base ram va 8).answer ≡ Done
+  zero-next : (m : ℕ) → n ≡ suc m → (write_of c base ram va 8).answer ≡ Ok tt
       → (zero_of m (write_of c base ram va 8).core base (ram_after_write c base ram va 8 0) (wrap (va + 8)) ≡ zero_of n c base ram va)
       × (zero_ram m (write_of c base ram va 8).core base (ram_after_write c base ram va 8 0) (wrap (va + 8)) ≡ zero_ram n c base ram va)
   unfolding zero_of zero_ram
   zero-next m k e = (rw (k, zero_of, e), rw (k, zero_ram, e))
 
   module _ (h : n ≡ 0 → ⊥) where
-    pub zero-stops : (s : Stop) → (write_of c base ram va 8).answer ≡ Stopped s
+    pub zero-stops : (s : Stop) → (write_of c base ram va 8).answer ≡ Err s
         → (write_of c base ram va 8 ≡ zero_of n c base ram va) × (ram_after_write c base ram va 8 0 ≡ zero_ram n c base ram va)
     unfolding zero_of zero_ram
     zero-stops s e = (rw (more n h, zero_of, e), rw (more n h, zero_ram, e))
 
-    pub zero-goes : (write_of c base ram va 8).answer ≡ Done
+    pub zero-goes : (write_of c base ram va 8).answer ≡ Ok tt
         → (zero_of (n - 1) (write_of c base ram va 8).core base (ram_after_write c base ram va 8 0) (wrap (va + 8)) ≡ zero_of n c base ram va)
         × (zero_ram (n - 1) (write_of c base ram va 8).core base (ram_after_write c base ram va 8 0) (wrap (va + 8)) ≡ zero_ram n c base ram va)
     zero-goes e = zero-next (n - 1) (more n h) e
@@ -202,10 +199,10 @@ module _ (base : ℕ) where
     where
       go : (x : StoreAnswer) → (write_of c base ram va 8).answer ≡ x
           → on_stored (write_of c base ram va 8).answer (done_with (write_of c base ram va 8).core) (write_of c base ram va 8) ≡ write_of c base ram va 8
-      go Done e =
+      go (Ok x) e =
           ap (λ (y : StoreAnswer). on_stored y (done_with (write_of c base ram va 8).core) (write_of c base ram va 8)) e
           ∙ (λ i. record { core = (write_of c base ram va 8).core; answer = sym e i })
-      go (Stopped s) e = rw e
+      go (Err s) e = rw e
   zero-last (suc n) c ram va =
       go (write_of c base ram va 8).answer refl (zero-last n (write_of c base ram va 8).core (ram_after_write c base ram va 8 0) (wrap (va + 8)))
     where
@@ -218,8 +215,8 @@ module _ (base : ℕ) where
           → after (suc (suc n)) c ram va
           ≡ on_stored (after (suc n) c ram va).answer
           (write_of (after (suc n) c ram va).core base (left (suc n) c ram va) (store_va va (suc n)) 8) (after (suc n) c ram va)
-      go Done e ih = rw e ih
-      go (Stopped s) e ih = rw e
+      go (Ok x) e ih = rw e ih
+      go (Err s) e ih = rw e
 
   pub zero-ram-last : (n : ℕ) (c : Core) (ram : List ℕ) (va : ℕ)
       → left (suc n) c ram va
@@ -228,8 +225,8 @@ module _ (base : ℕ) where
   zero-ram-last zero c ram va = go (write_of c base ram va 8).answer
     where
       go : (x : StoreAnswer) → on_stored x (ram_after_write c base ram va 8 0) (ram_after_write c base ram va 8 0) ≡ ram_after_write c base ram va 8 0
-      go Done = refl
-      go (Stopped s) = refl
+      go (Ok x) = refl
+      go (Err s) = refl
   zero-ram-last (suc n) c ram va =
       go (write_of c base ram va 8).answer refl (zero-ram-last n (write_of c base ram va 8).core (ram_after_write c base ram va 8 0) (wrap (va + 8)))
     where
@@ -242,21 +239,21 @@ module _ (base : ℕ) where
           → left (suc (suc n)) c ram va
           ≡ on_stored (after (suc n) c ram va).answer
           (ram_after_write (after (suc n) c ram va).core base (left (suc n) c ram va) (store_va va (suc n)) 8 0) (left (suc n) c ram va)
-      go Done e ih = rw e ih
-      go (Stopped s) e ih = rw e
+      go (Ok x) e ih = rw e ih
+      go (Err s) e ih = rw e
 
   -- where n + 1 are done, n are, and the last is
-  pub zero-done : (n : ℕ) (c : Core) (ram : List ℕ) (va : ℕ) → (after (suc n) c ram va).answer ≡ Done
-      → ((after n c ram va).answer ≡ Done) × ((write_of (after n c ram va).core base (left n c ram va) (store_va va n) 8).answer ≡ Done)
+  pub zero-done : (n : ℕ) (c : Core) (ram : List ℕ) (va : ℕ) → (after (suc n) c ram va).answer ≡ Ok tt
+      → ((after n c ram va).answer ≡ Ok tt) × ((write_of (after n c ram va).core base (left n c ram va) (store_va va n) 8).answer ≡ Ok tt)
   zero-done n c ram va e = go (after n c ram va).answer refl (ap (λ (r : Stored). r.answer) (sym (zero-last n c ram va)) ∙ e)
     where
       last : Stored
       last = write_of (after n c ram va).core base (left n c ram va) (store_va va n) 8
 
-      go : (x : StoreAnswer) → (after n c ram va).answer ≡ x → (on_stored (after n c ram va).answer last (after n c ram va)).answer ≡ Done
-          → ((after n c ram va).answer ≡ Done) × (last.answer ≡ Done)
-      go Done q f = (q, rw q at f)
-      go (Stopped s) q f =
-          let r : Stopped s ≡ Done = rw q at f in
+      go : (x : StoreAnswer) → (after n c ram va).answer ≡ x → (on_stored (after n c ram va).answer last (after n c ram va)).answer ≡ Ok tt
+          → ((after n c ram va).answer ≡ Ok tt) × (last.answer ≡ Ok tt)
+      go (Ok x) q f = (q, rw q at f)
+      go (Err s) q f =
+          let r : ◌≡◌ {A = StoreAnswer} (Err s) (Ok tt) = rw q at f in
           let z : ◌≡◌ {A = ℕ} 0 1 = cc in
           absurd (omega arith)

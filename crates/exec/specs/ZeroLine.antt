@@ -1,6 +1,6 @@
 -- A zeroing whose stores are all given their addresses by the cache as it stands, which they leave alone: one store of zeros.
 use Rattle.mmu.specs.Results.{Located, Stepped, Translated}
-use Rattle.std.specs.Prelude.{◌≡◌, ℕ, zero, suc, ◌+◌, ◌-◌, ◌*◌, ◌%◌, ◌^◌, ◌<◌, ◌≤◌, true, List, length, refl, Option}
+use Rattle.std.specs.Prelude.{◌≡◌, ℕ, zero, suc, ◌+◌, ◌-◌, ◌*◌, ◌%◌, ◌^◌, ◌<◌, ◌≤◌, true, List, length, refl, Option, Ok}
 use Rattle.std.proofs.Math.Path.{sym, ap}
 use Rattle.std.proofs.Common.{◌∙◌, suc-add, le-leb, take-append-drop}
 use native.Mathlib.Omega.{arith}
@@ -8,8 +8,8 @@ use Rattle.word.specs.Bits.{wrap}
 use Rattle.word.specs.Ram.{within, word_at, written, stored, bytes_of}
 use Rattle.word.specs.RamLaws.{within_low, within-high, written_next}
 use Rattle.tlb.specs.declared.access.Kind.TheVariants.{Write}
-use Rattle.tlb.specs.declared.{access.Answer.Answer, Tlb.Tlb}
-use Rattle.tlb.specs.declared.access.Answer.TheVariants.{Address}
+use Rattle.tlb.specs.declared.Tlb.{Tlb}
+use Rattle.tlb.specs.Answers.{Answer}
 use Rattle.mmu.specs.Core.{after_access, bank_now}
 use Rattle.operations.specs.Place.{placed_one, verdict_of}
 use Rattle.operations.specs.Ends.{store_end}
@@ -22,7 +22,7 @@ use Rattle.exec.specs.ZeroLaws.{one-located, one-ram, store_va, store-va}
 
 -- a translation that answers and changes nothing
 abbrev pub addressed : Core → ℕ → Translated
-addressed c pa = record { core = c; answer = Address pa }
+addressed c pa = record { core = c; answer = Ok pa }
 
 module _ (base : ℕ) (ram : List ℕ) (n pa : ℕ) (low : base ≤ pa) (high : pa + n ≤ base + length ram) where
   inside : within base (length ram) n pa ≡ true
@@ -38,7 +38,7 @@ module _ (c : Core) (base : ℕ) (ram : List ℕ) (a pa : ℕ) (even : a % 8 ≡
   abbrev step : Stepped
   step = translate_in (bank_now c) c.privilege (word_at base ram 8) a Write c.tlb
 
-  its-answer : step.answer ≡ Address pa
+  its-answer : step.answer ≡ Ok pa
   unfolding translate_of stepped_now
   its-answer = ap (λ (x : Translated). x.answer) t
 
@@ -46,7 +46,7 @@ module _ (c : Core) (base : ℕ) (ram : List ℕ) (a pa : ℕ) (even : a % 8 ≡
   unfolding translate_of stepped_now after_access
   its-tlb = ap (λ (x : Translated). x.core.tlb) t
 
-  put : stored_by c c.tlb (store_end (placed_one a (Address pa)) c.abort_pa base ram a 8) ≡ done_with c
+  put : stored_by c c.tlb (store_end (placed_one a (Ok pa)) c.abort_pa base ram a 8) ≡ done_with c
   unfolding store_end verdict_of after_access
   put = rw w
 

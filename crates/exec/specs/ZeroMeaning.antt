@@ -2,7 +2,7 @@
 -- store changes. So first by each store's own translation; and then that the eight agree, whatever becomes of the
 -- tables: 64 bytes at the translation of the aligned address are zero, and every other byte is as it was.
 use Rattle.mmu.specs.Results.{Stored}
-use Rattle.std.specs.Prelude.{◌≡◌, ℕ, zero, suc, ◌+◌, ◌-◌, ◌*◌, ◌/◌, ◌%◌, ◌^◌, ◌<◌, ◌≤◌, Bool, true, false, List, length, ◌≢◌, nat_lt, slice_index}
+use Rattle.std.specs.Prelude.{◌≡◌, ℕ, zero, suc, ◌+◌, ◌-◌, ◌*◌, ◌/◌, ◌%◌, ◌^◌, ◌<◌, ◌≤◌, Bool, true, false, List, length, ◌≢◌, nat_lt, slice_index, Ok, Err}
 use Rattle.std.proofs.Math.Path.{refl, ap, subst}
 use Rattle.std.proofs.Common.{sym, ◌∙◌}
 use native.Mathlib.Omega.{arith}
@@ -13,8 +13,9 @@ use Rattle.sysop.specs.declared.op.SysOp.TheVariants.{Zva}
 use Rattle.walk.specs.Regime.{bank_of, regime_of}
 use Rattle.tlb.specs.Live.{WellFormed}
 use Rattle.tlb.specs.declared.access.Kind.TheVariants.{Write}
-use Rattle.tlb.specs.declared.{access.Answer.Answer, Tlb.Tlb}
-use Rattle.tlb.specs.declared.access.Answer.TheVariants.{Address, Status}
+use Rattle.tlb.specs.declared.Tlb.{Tlb}
+use Rattle.tlb.specs.Answers.{Answer}
+use Rattle.operations.specs.Answers.{StoreAnswer}
 use Rattle.mmu.specs.Core.{bank_now, reg_of}
 use Rattle.operations.specs.BytesLaws.{stored-leaves}
 use Rattle.mmu.specs.PageLaws.{step-offset}
@@ -24,8 +25,6 @@ use Rattle.mmu.specs.Ops.{stepped_now, translate_of, write_of, ram_after_write}
 use Rattle.mmu.specs.Bare.{Bare, bare_of}
 use Rattle.mmu.specs.OpLaws.{store as storing, kept, ram-length}
 use Rattle.mmu.specs.declared.core_state.Core.{Core}
-use Rattle.operations.specs.declared.ends.StoreAnswer.{StoreAnswer}
-use Rattle.operations.specs.declared.ends.StoreAnswer.TheVariants.{Done, Stopped}
 use Rattle.exec.specs.Sys.{on_stored, zero_of, zero_ram, op_of, sys_of, sys_ram}
 use Rattle.word.specs.RamLaws.{within_low, within-high}
 use Rattle.exec.specs.ZeroLaws.{one-ram, none-ram, one-done, one-tlb, zeros-there, zeros-stay, store_va, store-va, zero-last, zero-ram-last, zero-done}
@@ -43,7 +42,7 @@ first-answer c base ram va = ap (λ (a : ℕ). (translate_of c (word_at base ram
 -- store j of n: where its translation says, eight bytes of RAM that are zero in the end
 pub record StoreZeros (c : Core) (base : ℕ) (ram : List ℕ) (va n j : ℕ) : Type 0 where
   pub pa : ℕ
-  pub answer : store_answer c base ram va j ≡ Address pa
+  pub answer : store_answer c base ram va j ≡ Ok pa
   pub inside : within base (length ram) 8 pa ≡ true
   pub zeros : (i : ℕ) → i < 8 → slice_index (zero_ram n c base ram va) (pa + i - base) ≡ 0
 
@@ -63,8 +62,8 @@ module _ (c : Core) (base : ℕ) (ram : List ℕ) (va : ℕ) (even : va % 8 ≡ 
   zero-length (suc n) = ap length (zero-ram-last base n c ram va) ∙ go (zero_of n c base ram va).answer ∙ zero-length n
     where
       go : (x : StoreAnswer) → length (on_stored x (ram_after_write (core_at n) base (ram_at n) (store_va va n) 8 0) (ram_at n)) ≡ length (ram_at n)
-      go Done = ram-length (core_at n) base (ram_at n) (storing (store_va va n) 8 0)
-      go (Stopped s) = refl
+      go (Ok x) = ram-length (core_at n) base (ram_at n) (storing (store_va va n) 8 0)
+      go (Err s) = refl
 
   module _ (n : ℕ) (room : va + 8 * suc n ≤ 2 ^ 64) where
     here : store_va va n ≡ va + 8 * n
@@ -74,22 +73,22 @@ module _ (c : Core) (base : ℕ) (ram : List ℕ) (va : ℕ) (even : va % 8 ≡ 
     even-here = omega arith
 
     -- what n + 1 stores leave
-    ram-then : (zero_of n c base ram va).answer ≡ Done → ram_at (suc n) ≡ ram_after_write (core_at n) base (ram_at n) (va + 8 * n) 8 0
+    ram-then : (zero_of n c base ram va).answer ≡ Ok tt → ram_at (suc n) ≡ ram_after_write (core_at n) base (ram_at n) (va + 8 * n) 8 0
     ram-then e =
         zero-ram-last base n c ram va
         ∙ ap (λ (x : StoreAnswer). on_stored x (ram_after_write (core_at n) base (ram_at n) (store_va va n) 8 0) (ram_at n)) e
         ∙ ap (λ (a : ℕ). ram_after_write (core_at n) base (ram_at n) a 8 0) here
 
-    last_done : (zero_of (suc n) c base ram va).answer ≡ Done → (write_of (core_at n) base (ram_at n) (va + 8 * n) 8).answer ≡ Done
+    last_done : (zero_of (suc n) c base ram va).answer ≡ Ok tt → (write_of (core_at n) base (ram_at n) (va + 8 * n) 8).answer ≡ Ok tt
     last_done e = ap (λ (a : ℕ). (write_of (core_at n) base (ram_at n) a 8).answer) (sym here) ∙ (zero-done base n c ram va e).1
 
     record Last : Type 0 where
       pa : ℕ
-      answer : store_answer c base ram va n ≡ Address pa
+      answer : store_answer c base ram va n ≡ Ok pa
       inside : within base (length (ram_at n)) 8 pa ≡ true
       after : ram_at (suc n) ≡ stored base (ram_at n) 8 pa 0
 
-    last-store : (zero_of (suc n) c base ram va).answer ≡ Done → Last
+    last-store : (zero_of (suc n) c base ram va).answer ≡ Ok tt → Last
     last-store e =
         let o = one-done (core_at n) base (ram_at n) (va + 8 * n) even-here (last_done e) in
         record {
@@ -100,7 +99,7 @@ module _ (c : Core) (base : ℕ) (ram : List ℕ) (va : ℕ) (even : va % 8 ≡ 
         }
 
   -- every store of a zeroing that is done: its eight bytes are zero in the end
-  pub zero-each : (n j : ℕ) → va + 8 * n ≤ 2 ^ 64 → (zero_of n c base ram va).answer ≡ Done → j < n → StoreZeros c base ram va n j
+  pub zero-each : (n j : ℕ) → va + 8 * n ≤ 2 ^ 64 → (zero_of n c base ram va).answer ≡ Ok tt → j < n → StoreZeros c base ram va n j
   zero-each zero j room e h = absurd (omega arith)
   zero-each (suc n) j room e h =
       go (nat_lt j n) refl (λ k. zero-each n j (omega arith) (zero-done base n c ram va e).0 k)
@@ -130,21 +129,21 @@ module _ (c : Core) (base : ℕ) (ram : List ℕ) (va : ℕ) (even : va % 8 ≡ 
 
   -- a byte of RAM that no store's translation reaches is as it was, whether the zeroing is done or stops
   pub zero-others : (n k : ℕ) → va + 8 * n ≤ 2 ^ 64
-      → ((j pa i : ℕ) → j < n → i < 8 → store_answer c base ram va j ≡ Address pa → base + k ≢ pa + i)
+      → ((j pa i : ℕ) → j < n → i < 8 → store_answer c base ram va j ≡ Ok pa → base + k ≢ pa + i)
       → slice_index (ram_at n) k ≡ slice_index ram k
   unfolding zero_ram
   zero-others zero k room none = refl
   zero-others (suc n) k room none = go (zero_of n c base ram va).answer refl ∙ zero-others n k (omega arith) (λ j pa i h. none j pa i (omega arith))
     where
       store : (x : Answer) → store_answer c base ram va n ≡ x → slice_index (ram_after_write (core_at n) base (ram_at n) (va + 8 * n) 8 0) k ≡ slice_index (ram_at n) k
-      store (Address pa) e =
+      store (Ok pa) e =
           ap (λ (m : List ℕ). slice_index m k) (one-ram (core_at n) base (ram_at n) (va + 8 * n) (even-here n room) pa e)
           ∙ stored-leaves base (ram_at n) 8 pa 0 k (λ i h. none n pa i (omega arith) h e)
-      store (Status fault) e = ap (λ (m : List ℕ). slice_index m k) (none-ram (core_at n) base (ram_at n) (va + 8 * n) (even-here n room) fault e)
+      store (Err fault) e = ap (λ (m : List ℕ). slice_index m k) (none-ram (core_at n) base (ram_at n) (va + 8 * n) (even-here n room) fault e)
 
       go : (x : StoreAnswer) → (zero_of n c base ram va).answer ≡ x → slice_index (ram_at (suc n)) k ≡ slice_index (ram_at n) k
-      go Done e = ap (λ (m : List ℕ). slice_index m k) (ram-then n room e) ∙ store _ refl
-      go (Stopped s) e =
+      go (Ok x) e = ap (λ (m : List ℕ). slice_index m k) (ram-then n room e) ∙ store _ refl
+      go (Err s) e =
           ap (λ (m : List ℕ). slice_index m k) (zero-ram-last base n c ram va
           ∙ ap (λ (x : StoreAnswer). on_stored x (ram_after_write (core_at n) base (ram_at n) (store_va va n) 8 0) (ram_at n)) e)
 
@@ -160,23 +159,23 @@ module _ (c : Core) (base : ℕ) (ram : List ℕ) (va : ℕ) where
       go : (x : StoreAnswer)
           → bare_of (on_stored x (write_of (zero_of n c base ram va).core base (zero_ram n c base ram va) (store_va va n) 8) (zero_of n c base ram va)).core
           ≡ bare_of (zero_of n c base ram va).core
-      go Done = kept (zero_of n c base ram va).core base (zero_ram n c base ram va) (storing (store_va va n) 8 0)
-      go (Stopped s) = refl
+      go (Ok x) = kept (zero_of n c base ram va).core base (zero_ram n c base ram va) (storing (store_va va n) 8 0)
+      go (Err s) = refl
 
   -- where n stores are done, fewer are
-  zero-fewer : (n m : ℕ) → m ≤ n → (zero_of n c base ram va).answer ≡ Done → (zero_of m c base ram va).answer ≡ Done
+  zero-fewer : (n m : ℕ) → m ≤ n → (zero_of n c base ram va).answer ≡ Ok tt → (zero_of m c base ram va).answer ≡ Ok tt
   unfolding zero_of
   zero-fewer zero m h e = let z : m ≡ zero = omega arith in rw z
   zero-fewer (suc n) m h e = go (nat_lt m (suc n)) refl (λ k. zero-fewer n m (omega arith) (zero-done base n c ram va e).0)
     where
-      go : (b : Bool) → nat_lt m (suc n) ≡ b → (m < suc n → (zero_of m c base ram va).answer ≡ Done) → (zero_of m c base ram va).answer ≡ Done
+      go : (b : Bool) → nat_lt m (suc n) ≡ b → (m < suc n → (zero_of m c base ram va).answer ≡ Ok tt) → (zero_of m c base ram va).answer ≡ Ok tt
       go true q earlier = earlier (ltb-true m (suc n) q)
       go false q earlier = let k : suc n ≤ m = ltb-false m (suc n) q in let z : m ≡ suc n = omega arith in rw z e
 
 -- a store to a page whose frame the cache gives
 module _ (c d : Core) (base : ℕ) (ram : List ℕ) (va pa a : ℕ) (ew : d.privilege ≡ c.privilege) (ec : d.control ≡ c.control)
     (g : Gives (bank_now c) c.privilege Write va pa d.tlb.cache) (same : va / 4096 ≡ a / 4096) (even : a % 8 ≡ 0) where
-  again : ((translate_of d (word_at base ram 8) a Write).answer ≡ Address (pa / 4096 * 4096 + a % 4096))
+  again : ((translate_of d (word_at base ram 8) a Write).answer ≡ Ok (pa / 4096 * 4096 + a % 4096))
       × ((write_of d base ram a 8).core.tlb.cache ≡ d.tlb.cache)
   unfolding translate_of stepped_now
   again =
@@ -188,7 +187,7 @@ module _ (c d : Core) (base : ℕ) (ram : List ℕ) (va pa a : ℕ) (ew : d.priv
       )
 
 module _ (c : Core) (base : ℕ) (ram : List ℕ) (va pa : ℕ) (well : WellFormed c.tlb) (line : va % 64 ≡ 0) (room : va + 64 ≤ 2 ^ 64)
-    (first : (translate_of c (word_at base ram 8) va Write).answer ≡ Address pa) where
+    (first : (translate_of c (word_at base ram 8) va Write).answer ≡ Ok pa) where
   offset : pa % 4096 ≡ va % 4096
   unfolding translate_of stepped_now
   offset = step-offset (bank_now c) c.privilege (word_at base ram 8) Write c.tlb well va pa first
@@ -198,11 +197,11 @@ module _ (c : Core) (base : ℕ) (ram : List ℕ) (va pa : ℕ) (well : WellForm
   begins = rw (one-tlb c base ram va (omega arith)) (step_gives (bank_now c) c.privilege Write (word_at base ram 8) c.tlb va well pa first)
 
   record Agrees (n : ℕ) : Type 0 where
-    answer : store_answer c base ram va n ≡ Address (pa + 8 * n)
+    answer : store_answer c base ram va n ≡ Ok (pa + 8 * n)
     gives : Gives (bank_now c) c.privilege Write va pa (zero_of (suc n) c base ram va).core.tlb.cache
 
   -- the core after one store more
-  core-then : (n : ℕ) → n < 8 → (zero_of n c base ram va).answer ≡ Done
+  core-then : (n : ℕ) → n < 8 → (zero_of n c base ram va).answer ≡ Ok tt
       → (zero_of (suc n) c base ram va).core ≡ (write_of (zero_of n c base ram va).core base (zero_ram n c base ram va) (va + 8 * n) 8).core
   core-then n h e =
       ap (λ (r : Stored). r.core) (zero-last base n c ram va)
@@ -210,13 +209,13 @@ module _ (c : Core) (base : ℕ) (ram : List ℕ) (va pa : ℕ) (well : WellForm
       (zero_of n c base ram va)).core) e
       ∙ ap (λ (a : ℕ). (write_of (zero_of n c base ram va).core base (zero_ram n c base ram va) a 8).core) (store-va n va (omega arith))
 
-  agree : (n : ℕ) → n < 8 → (zero_of n c base ram va).answer ≡ Done → Agrees n
+  agree : (n : ℕ) → n < 8 → (zero_of n c base ram va).answer ≡ Ok tt → Agrees n
   unfolding zero_of zero_ram
   agree zero h e =
       let z : va + 8 * 0 ≡ va = omega arith in
       let p : pa + 8 * 0 ≡ pa = omega arith in
       record {
-        answer = first-answer c base ram va ∙ first ∙ ap Address (sym p);
+        answer = first-answer c base ram va ∙ first ∙ ap Ok (sym p);
         gives = subst (λ (d : Core). Gives (bank_now c) c.privilege Write va pa d.tlb.cache) (sym (core-then 0 h e)) (rw z begins);
       }
   agree (suc n) h e =
@@ -226,7 +225,7 @@ module _ (c : Core) (base : ℕ) (ram : List ℕ) (va pa : ℕ) (well : WellForm
       (ap (λ (b : Bare). b.privilege) (bare-kept c base ram va (suc n)))
       (ap (λ (b : Bare). b.control) (bare-kept c base ram va (suc n))) before.gives (omega arith) (omega arith) in
       record {
-        answer = q.0 ∙ ap Address (omega arith);
+        answer = q.0 ∙ ap Ok (omega arith);
         gives = subst (Gives (bank_now c) c.privilege Write va pa) (sym (ap (λ (d : Core). d.tlb.cache) (core-then (suc n) h e) ∙ q.1)) before.gives;
       }
 
@@ -241,8 +240,8 @@ pub record Zeroed (base pa : ℕ) (before after : List ℕ) : Type 0 where
   pub above : (k : ℕ) → pa + 64 ≤ base + k → slice_index after k ≡ slice_index before k
 
 module _ (c : Core) (base : ℕ) (ram : List ℕ) (va pa : ℕ) (line : va % 64 ≡ 0) (room : va + 64 ≤ 2 ^ 64)
-    (e : (zero_of 8 c base ram va).answer ≡ Done) (same : (j : ℕ) → j < 8 → store_answer c base ram va j ≡ Address (pa + 8 * j)) where
-  place_is : {x y : ℕ} → Address x ≡ Address y → x ≡ y
+    (e : (zero_of 8 c base ram va).answer ≡ Ok tt) (same : (j : ℕ) → j < 8 → store_answer c base ram va j ≡ Ok (pa + 8 * j)) where
+  place_is : {x y : ℕ} → ◌≡◌ {A = Answer} (Ok x) (Ok y) → x ≡ y
   place_is q = cc
 
   even : va % 8 ≡ 0
@@ -274,8 +273,8 @@ module _ (c : Core) (base : ℕ) (ram : List ℕ) (va pa : ℕ) (line : va % 64 
             (λ j q i hj hi f g. let x : q ≡ pa + 8 * j = place_is (sym f ∙ same j hj) in omega arith);
       }
 
-first_of : (c : Core) (base : ℕ) (ram : List ℕ) (va : ℕ) → va % 64 ≡ 0 → va + 64 ≤ 2 ^ 64 → (zero_of 8 c base ram va).answer ≡ Done
-    → (pa : ℕ) × ((translate_of c (word_at base ram 8) va Write).answer ≡ Address pa)
+first_of : (c : Core) (base : ℕ) (ram : List ℕ) (va : ℕ) → va % 64 ≡ 0 → va + 64 ≤ 2 ^ 64 → (zero_of 8 c base ram va).answer ≡ Ok tt
+    → (pa : ℕ) × ((translate_of c (word_at base ram 8) va Write).answer ≡ Ok pa)
 first_of c base ram va line room e =
     let z = zero-each c base ram va (omega arith) 8 0 (omega arith) e (omega arith) in
     (z.pa, sym (first-answer c base ram va) ∙ z.answer)
@@ -284,8 +283,8 @@ first_of c base ram va line room e =
 -- do to the tables
 abbrev pub LineZeroed : Type 0
 LineZeroed =
-    (c : Core) (base : ℕ) (ram : List ℕ) (x : ℕ) → WellFormed c.tlb → x < 2 ^ 64 → (zero_of 8 c base ram (align_down x 6)).answer ≡ Done
-    → (pa : ℕ) × (((translate_of c (word_at base ram 8) (align_down x 6) Write).answer ≡ Address pa)
+    (c : Core) (base : ℕ) (ram : List ℕ) (x : ℕ) → WellFormed c.tlb → x < 2 ^ 64 → (zero_of 8 c base ram (align_down x 6)).answer ≡ Ok tt
+    → (pa : ℕ) × (((translate_of c (word_at base ram 8) (align_down x 6) Write).answer ≡ Ok pa)
     × Zeroed base pa ram (zero_ram 8 c base ram (align_down x 6)))
 
 pub zero-line : LineZeroed
@@ -306,8 +305,8 @@ zero-line c base ram x well small e =
 abbrev pub ZvaZeroes : Type 0
 ZvaZeroes =
     (c : Core) (base : ℕ) (ram : List ℕ) (op1 crn crm op2 rt : ℕ) → WellFormed c.tlb → reg_of c rt < 2 ^ 64
-    → op_of c op1 crn crm op2 ≡ Zva → (sys_of c base ram op1 crn crm op2 rt).answer ≡ Done
-    → (pa : ℕ) × (((translate_of c (word_at base ram 8) (align_down (reg_of c rt) 6) Write).answer ≡ Address pa)
+    → op_of c op1 crn crm op2 ≡ Zva → (sys_of c base ram op1 crn crm op2 rt).answer ≡ Ok tt
+    → (pa : ℕ) × (((translate_of c (word_at base ram 8) (align_down (reg_of c rt) 6) Write).answer ≡ Ok pa)
     × Zeroed base pa ram (sys_ram c base ram op1 crn crm op2 rt))
 
 pub zva-zeroes : ZvaZeroes

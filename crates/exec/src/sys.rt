@@ -7,7 +7,6 @@ ghost use Rattle.exec.specs.Sys.{zero_of, zero_ram, sys_of, sys_ram};
 
 use exception::kind::{Exception, Stop};
 use mmu::core_state::Core;
-use operations::ends::StoreAnswer;
 use sysop::op::{AtForm, Encoding, SysOp};
 use sysop::{op, par, tlbi};
 use sysreg::regs::SysRegs;
@@ -48,21 +47,19 @@ pub fn tlbi(core: &mut Core, op1: u64, crm: u64, op2: u64, x: u64)
 
 // The n stores of a zeroing from va on, up to the first that stops.
 #[tactic(auto, using(crate::proofs::Zeroing::zero_steps))]
-fn zero_from(core: &mut Core, base: u64, ram: &mut [u8], va: u64, n: u64) -> StoreAnswer
+fn zero_from(core: &mut Core, base: u64, ram: &mut [u8], va: u64, n: u64) -> Result<(), Stop>
     ensures value { record { core = core.new; answer = result } ≡ zero_of n core.old base ram.old va }
     ensures ram_after { ram.new ≡ zero_ram n core.old base ram.old va }
 {
     if n == 0 {
-        return StoreAnswer::Done;
+        return Ok(());
     }
-    match core.write(base, ram, va, Width::Double, 0) {
-        StoreAnswer::Done => zero_from(core, base, ram, va.wrapping_add(8), n - 1),
-        StoreAnswer::Stopped(stop) => StoreAnswer::Stopped(stop),
-    }
+    core.write(base, ram, va, Width::Double, 0)?;
+    zero_from(core, base, ram, va.wrapping_add(8), n - 1)
 }
 
 // DC ZVA: 64 bytes, aligned.
-pub fn zva(core: &mut Core, base: u64, ram: &mut [u8], x: u64) -> StoreAnswer
+pub fn zva(core: &mut Core, base: u64, ram: &mut [u8], x: u64) -> Result<(), Stop>
     ensures value { record { core = core.new; answer = result } ≡ zero_of 8 core.old base ram.old (align_down x 6) }
     ensures ram_after { ram.new ≡ zero_ram 8 core.old base ram.old (align_down x 6) }
 {
@@ -80,7 +77,7 @@ pub fn sys(
     crm: u64,
     op2: u64,
     rt: u64,
-) -> StoreAnswer
+) -> Result<(), Stop>
     ensures value { record { core = core.new; answer = result } ≡ sys_of core.old base ram.old op1 crn crm op2 rt }
     ensures ram_after { ram.new ≡ sys_ram core.old base ram.old op1 crn crm op2 rt }
 {
@@ -91,9 +88,9 @@ pub fn sys(
         SysOp::Zva => return zva(core, base, ram, x),
         SysOp::Nothing => {}
         SysOp::Undefined => {
-            return StoreAnswer::Stopped(Stop::Exception(Exception::Undefined));
+            return Err(Stop::Exception(Exception::Undefined));
         }
-        SysOp::Unimplemented => return StoreAnswer::Stopped(Stop::Unimplemented),
+        SysOp::Unimplemented => return Err(Stop::Unimplemented),
     }
-    StoreAnswer::Done
+    Ok(())
 }

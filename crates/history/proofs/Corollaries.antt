@@ -1,6 +1,6 @@
 -- What follows from faithfulness: the answers of one translation, of a step, of a whole list; and pages that need no
 -- premise.
-use Rattle.std.specs.Prelude.{if◌then◌else◌, ◌≡◌, Bool, ℕ, ◌≤◌}
+use Rattle.std.specs.Prelude.{if◌then◌else◌, ◌≡◌, Bool, ℕ, ◌≤◌, Ok, Err}
 use Rattle.std.proofs.Math.Path.{refl, sym}
 use Rattle.std.proofs.Common.{ap, ap₂, ◌∙◌, true≢false}
 use Rattle.std.proofs.Math.Bool.{true, false}
@@ -9,8 +9,8 @@ use Rattle.walk.specs.declared.{regime.Regime.Regime, level.Leaf.Leaf}
 use Rattle.tlb.specs.Lists.{Each, more}
 use Rattle.tlb.specs.Tlb.{fresh}
 use Rattle.tlb.specs.Asks.{Ask, kind_of, address_of, Given, onward}
-use Rattle.tlb.specs.declared.{access.Answer.Answer, Tlb.Tlb}
-use Rattle.tlb.specs.declared.access.Answer.TheVariants.{Address, Status}
+use Rattle.tlb.specs.declared.Tlb.{Tlb}
+use Rattle.tlb.specs.Answers.{Answer}
 use Rattle.tlb.specs.declared.Inval.TheVariants.{All}
 use Rattle.history.specs.Lists.{each_left, each_right, each-head, plain-append, tlb-append}
 use Rattle.history.specs.World.{World, Laws, covers, Plain, uncached}
@@ -85,8 +85,8 @@ module _ (w : World) (laws : Laws w) where
             → (Each (FaithfulAnswer w c₀ past m) rest → rest ≡ plain_answers w c m l)
             → ◌≡◌ {A = List Given} (record { ask = a; answer = x } ∷ onward x rest [])
             (record { ask = a; answer = u } ∷ onward u (plain_answers w c m l) [])
-        go (Address pa) e gs k = rw (← e) (ap {B = List Given} (λ (n : List Given). record { ask = a; answer = Address pa } ∷ n) (k gs))
-        go (Status f) e gs k = rw (← e)
+        go (Ok pa) e gs k = rw (← e) (ap {B = List Given} (λ (n : List Given). record { ask = a; answer = Ok pa } ∷ n) (k gs))
+        go (Err f) e gs k = rw (← e)
 
     pub all_settled : (past : List (Event w)) (m : w.Ram) (s : Step w) → Each (SettledFor w c₀ past m) s.asks
         → answers w (plain_run w c₀ past) m s.asks (tlb_run w c₀ past fresh) ≡ plain_answers w (plain_run w c₀ past) m s.asks

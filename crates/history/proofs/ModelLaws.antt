@@ -1,5 +1,5 @@
 -- Over every history the cache of History.antt does to the plain model what the model's own functions do.
-use Rattle.std.specs.Prelude.{if◌then◌else◌, ◌≡◌, Bool, List, [], ◌∷◌, ◌++◌, ℕ, ◌≤◌, ◌==◌}
+use Rattle.std.specs.Prelude.{if◌then◌else◌, ◌≡◌, Bool, List, [], ◌∷◌, ◌++◌, ℕ, ◌≤◌, ◌==◌, Ok, Err}
 use Rattle.std.proofs.Math.Path.{refl, ap, subst}
 use Rattle.std.proofs.Common.{ap₂, ◌∙◌}
 use Rattle.std.proofs.Math.Bool.{true, false}
@@ -11,9 +11,9 @@ use Rattle.tlb.specs.Refines.{fresh-live, fresh-sound, flush-live, flush-sound, 
 use Rattle.tlb.specs.Refines.{broadcast-sound}
 use Rattle.tlb.proofs.Translations.{translation-follows, fetch-follows}
 use Rattle.tlb.specs.Asks.{Ask, translates, fetches, Given, onward}
-use Rattle.tlb.specs.declared.{access.Kind.Kind, access.Answer.Answer, Tlb.Tlb}
+use Rattle.tlb.specs.declared.{access.Kind.Kind, Tlb.Tlb}
+use Rattle.tlb.specs.Answers.{Answer}
 use Rattle.tlb.specs.declared.access.Kind.TheVariants.{Fetch}
-use Rattle.tlb.specs.declared.access.Answer.TheVariants.{Address, Status}
 use Rattle.tlb.specs.declared.Inval.TheVariants.{All}
 use Rattle.history.specs.World.{World, Laws, Plain, regime_now, untag_now, access_of}
 use Rattle.history.specs.History.{Effect, nothing, carries, writes, sets, Event, steps, receives, after, after_event, plain_run, answer_of, tlb_ask, answers}
@@ -46,14 +46,14 @@ module _ (w : World) (laws : Laws w) where
           }
         where
           well : (x : Answer) → WellFormed (onward x (tlb_asks w c m l (tlb_ask w c m a t)) (tlb_ask w c m a t))
-          well (Address pa) = rest.well
-          well (Status fault) = f.well
+          well (Ok pa) = rest.well
+          well (Err fault) = f.well
 
           go : (x : Answer)
               → live (onward x (tlb_asks w c m l (tlb_ask w c m a t)) (tlb_ask w c m a t))
               ≡ onward x (model_asks w c m l (model_ask w c m a (live t)).after) (model_ask w c m a (live t)).after
-          go (Address pa) = rest.is ∙ ap (model_asks w c m l) f.after
-          go (Status fault) = f.after
+          go (Ok pa) = rest.is ∙ ap (model_asks w c m l) f.after
+          go (Err fault) = f.after
 
       more-answers : answers w c m l (tlb_ask w c m a t) ≡ model_answers w c m l (live (tlb_ask w c m a t))
           → answers w c m (a ∷ l) t ≡ model_answers w c m (a ∷ l) (live t)
@@ -64,8 +64,8 @@ module _ (w : World) (laws : Laws w) where
           go : (x : Answer)
               → onward {A = List Given} x (answers w c m l (tlb_ask w c m a t)) []
               ≡ onward x (model_answers w c m l (model_ask w c m a (live t)).after) []
-          go (Address pa) = rest ∙ ap (model_answers w c m l) f.after
-          go (Status fault) = refl
+          go (Ok pa) = rest ∙ ap (model_answers w c m l) f.after
+          go (Err fault) = refl
 
     asks-stand : (l : List Ask) (t : Tlb) → WellFormed t → StandsFor (tlb_asks w c m l t) (model_asks w c m l (live t))
     asks-stand [] t s = record { well = s; is = refl }

@@ -1,12 +1,11 @@
 -- After every history each answer comes from where Origin.antt says.
-use Rattle.std.specs.Prelude.{◌≡◌, refl, true, List, [], ◌∷◌, ◌⊎◌, ◌≤◌}
+use Rattle.std.specs.Prelude.{◌≡◌, refl, true, List, [], ◌∷◌, ◌⊎◌, ◌≤◌, Ok, Err}
 use Rattle.std.proofs.Common.{sym, subst, ◌∙◌, inl, inr}
 use Rattle.tlb.specs.Lists.{Each, done, more}
 use Rattle.tlb.specs.Tlb.{fresh}
 use Rattle.tlb.specs.Model.{Model, empty_model}
 use Rattle.tlb.specs.Asks.{Ask, kind_of, address_of, Given, onward}
-use Rattle.tlb.specs.declared.{access.Answer.Answer}
-use Rattle.tlb.specs.declared.access.Answer.TheVariants.{Address, Status}
+use Rattle.tlb.specs.Answers.{Answer}
 use Rattle.history.specs.World.{World, Laws, Plain, regime_now, page_now}
 use Rattle.history.specs.History.{Step, Event, plain_run, drops_run, answers, tlb_run}
 use Rattle.history.specs.ModelRun.{model_ask, model_answers, model_run}
@@ -52,8 +51,8 @@ module _ (w : World) (laws : Laws w) (c₀ : Plain w) (zero-asid : w.asid c₀.r
 
         go : (x : Answer) → Each (λ g. From w c₀ past m g.ask g.answer) (model_answers w c m l (model_ask w c m a u).after)
             → Each (λ g. From w c₀ past m g.ask g.answer) (onward x (model_answers w c m l (model_ask w c m a u).after) [])
-        go (Address pa) rest = rest
-        go (Status f) rest = done
+        go (Ok pa) rest = rest
+        go (Err f) rest = done
 
   -- After every history, whatever the RAM, each answer comes from there.
   pub origin : (past : List (Event w)) (m : w.Ram) (s : Step w)

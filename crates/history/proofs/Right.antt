@@ -14,9 +14,9 @@ use Rattle.walk.specs.declared.regime.Regime.TheVariants.{El1, El2, El3}
 use Rattle.tlb.specs.Model.{Slot, empty, holds, Line, Known, Model, one_hit, one_walk, same_regime, folded, hint_place, Access, Outcome, as_user, need, reach_of}
 use Rattle.tlb.specs.Model.{reaches, serving, line_for, address_in, judge as judgeLine, line_of_leaf, walked, looked, unhinted, known_of, noting, noted, knowing}
 use Rattle.tlb.specs.Model.{tried, hinted, hintable, translate, noting_fetch, noted_fetch, fetched, fetch}
-use Rattle.tlb.specs.declared.{access.Kind.Kind, access.Answer.Answer}
+use Rattle.tlb.specs.declared.access.Kind.{Kind}
+use Rattle.tlb.specs.Answers.{Answer}
 use Rattle.tlb.specs.declared.access.Kind.TheVariants.{Read, Write, Fetch}
-use Rattle.tlb.specs.declared.access.Answer.TheVariants.{Address, Status}
 use Rattle.history.specs.World.{World, Laws, LeavesEqual, leaf_answer, walk_answer, page_walk, Plain, regime_now, on_now, untag_now, page_now, need_now, uncached}
 use Rattle.history.specs.World.{access_of}
 use Rattle.history.proofs.Traced.{Moment, at, Seen, Today, LineFrom, LineOk, allows, HintFrom, flat, kept, HintOk, kind_at, Traced, traced-counting}
@@ -69,7 +69,7 @@ module _ (w : World) where
   unfolding leaf_answer
   leaf-equal bit va g =
       λ i.
-      if g.perms i / bit % 2 == 1 then Address (g.pages i * 4096 + va % 4096) else Status (first (12 + g.levels i))
+      if g.perms i / bit % 2 == 1 then Ok (g.pages i * 4096 + va % 4096) else Err (first (12 + g.levels i))
 
   -- each walk of the page that no invalidation since covers, global or under today's ASID, equals its walk now
   abbrev pub Agreed : List (Moment w) → w.Regs → w.Ram → Regime → ℕ → Type 0
@@ -80,10 +80,10 @@ module _ (w : World) where
   module _ (laws : Laws w) (h : List (Moment w)) (c : Plain w) (m : w.Ram) (k : Kind) (va : ℕ) where
     -- where an answer came from
     pub data Answered (x : Answer) : Type 0 where
-      itself : on_now w c ≡ false → x ≡ Address va → Answered x
+      itself : on_now w c ≡ false → x ≡ Ok va → Answered x
       by : (ℓ : Leaf) (a : ℕ) → on_now w c ≡ true → Seen w h (regime_now w c) (page_now w c va) ℓ a → Today w c.regs ℓ a
           → x ≡ leaf_answer ℓ (need_now w c k) va → Answered x
-      failed : (code : ℕ) → on_now w c ≡ true → w.walk c.regs m (regime_now w c) (untag_now w c va) ≡ Err code → x ≡ Status (first code)
+      failed : (code : ℕ) → on_now w c ≡ true → w.walk c.regs m (regime_now w c) (untag_now w c va) ≡ Err code → x ≡ Err (first code)
           → Answered x
 
     pub answered-right : {x : Answer} → Agreed h c.regs m (regime_now w c) (page_now w c va) → Answered x → x ≡ uncached w c m k va
@@ -102,13 +102,13 @@ module _ (w : World) where
     same-need : Unmarked c.privilege.unprivileged k → need_now w c k ≡ need k (as_user (regime_now w c) c.privilege.level false k)
     same-need u = ap (need k) (unmarked (regime_now w c) c.privilege.level c.privilege.unprivileged k u)
 
-    answered-hint : (pa : ℕ) → Unmarked c.privilege.unprivileged k → Answered (Address pa)
+    answered-hint : (pa : ℕ) → Unmarked c.privilege.unprivileged k → Answered (Ok pa)
         → HintFrom w h c.regs k (va / 4096) c.privilege.level (pa / 4096)
     unfolding leaf_answer
     answered-hint pa u (itself o e) = let q : pa ≡ va = cc in flat o (ap (λ (n : ℕ). n / 4096) q)
     answered-hint pa u (by ℓ a o seen d e) = go (allows w ℓ (need_now w c k)) refl e
       where
-        go : (b : Bool) → allows w ℓ (need_now w c k) ≡ b → Address pa ≡ (if b then Address (ℓ.oa / 4096 * 4096 + va % 4096) else Status (first (12 + ℓ.level)))
+        go : (b : Bool) → allows w ℓ (need_now w c k) ≡ b → Ok pa ≡ (if b then Ok (ℓ.oa / 4096 * 4096 + va % 4096) else Err (first (12 + ℓ.level)))
             → HintFrom w h c.regs k (va / 4096) c.privilege.level (pa / 4096)
         go true al q =
             let n : pa ≡ ℓ.oa / 4096 * 4096 + va % 4096 = cc in
@@ -119,10 +119,10 @@ module _ (w : World) where
 
     hint-answered : (q : ℕ) → Unmarked c.privilege.unprivileged k → HintFrom w h c.regs k (va / 4096) c.privilege.level q → Answered (address_in q va)
     unfolding leaf_answer
-    hint-answered q u (flat o e) = let x : q * 4096 + va % 4096 ≡ va = omega arith in itself o (ap Address x)
+    hint-answered q u (flat o e) = let x : q * 4096 + va % 4096 ≡ va = omega arith in itself o (ap Ok x)
     hint-answered q u (kept ℓ a o seen d al e) =
         by ℓ a o (subst (λ (p : ℕ). Seen w h (regime_now w c) p ℓ a) (sym untag-first) seen) d
-        (rw (same-need u, al) (ap (λ (n : ℕ). Address (n * 4096 + va % 4096)) e))
+        (rw (same-need u, al) (ap (λ (n : ℕ). Ok (n * 4096 + va % 4096)) e))
 
     -- an answer that came so, and a model that is traced
     pub record Done (o : Outcome) : Type 0 where
@@ -226,8 +226,8 @@ module _ (w : World) where
       hint-done b o d = record { traced = go o.answer refl; answered = d.answered }
         where
           go : (x : Answer) → o.answer ≡ x → Traced w h c.regs (noting x a o.after)
-          go (Status f) e = d.traced
-          go (Address pa) e =
+          go (Err f) e = d.traced
+          go (Ok pa) e =
               traced-hint w (hint_place k va) (known_of a pa)
               (rw (kind-at k c.privilege.unprivileged va b)
               (answered-hint laws h c m k va pa (inr (hint-unmarked k c.privilege.unprivileged b)) (rw e at d.answered)))
@@ -269,8 +269,8 @@ module _ (w : World) where
           d = unhinted-done
 
           put : (y : Answer) → (unhinted (on_now w c) a t).answer ≡ y → Traced w h c.regs (noting_fetch y a (unhinted (on_now w c) a t).after)
-          put (Status f) e = d.traced
-          put (Address pa) e =
+          put (Err f) e = d.traced
+          put (Ok pa) e =
               traced-fetch-hint w (known_of a pa) (rw f at (answered-hint laws h c m k va pa (inl f) (rw e at d.answered))) d.traced
 
           miss : Fine (noted_fetch a (unhinted (on_now w c) a t))

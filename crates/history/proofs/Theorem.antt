@@ -1,5 +1,5 @@
 -- Faithfulness, proved for every registers and walk that keep `Laws`.
-use Rattle.std.specs.Prelude.{if◌then◌else◌, ◌≡◌, Bool, List, [], ◌∷◌, ◌++◌, ◌⊎◌, ℕ, ◌≤◌, ◌==◌, Ok}
+use Rattle.std.specs.Prelude.{if◌then◌else◌, ◌≡◌, Bool, List, [], ◌∷◌, ◌++◌, ◌⊎◌, ℕ, ◌≤◌, ◌==◌, Ok, Err}
 use Rattle.std.proofs.Math.Path.{refl}
 use Rattle.std.proofs.Common.{sym, ap, subst, ◌∙◌, inl, inr}
 use Rattle.std.proofs.Math.Bool.{true, false}
@@ -11,8 +11,8 @@ use Rattle.tlb.specs.Model.{Model, empty_model, invalidate, retag, broadcast}
 use Rattle.tlb.specs.Live.{WellFormed}
 use Rattle.tlb.specs.Asks.{Ask, translates, fetches, kind_of, address_of, Given, onward}
 use Rattle.tlb.specs.declared.access.Kind.TheVariants.{Fetch}
-use Rattle.tlb.specs.declared.{access.Answer.Answer, Inval.Inval}
-use Rattle.tlb.specs.declared.access.Answer.TheVariants.{Address, Status}
+use Rattle.tlb.specs.declared.Inval.{Inval}
+use Rattle.tlb.specs.Answers.{Answer}
 use Rattle.tlb.specs.declared.Inval.TheVariants.{All}
 use Rattle.history.specs.Lists.{each_append}
 use Rattle.history.specs.World.{World, Laws, LeavesEqual, covers, Plain, page_walk}
@@ -54,8 +54,8 @@ module _ (w : World) (laws : Laws w) where
     where
       go : (x : Answer) → Traced w (at c.regs m ∷ h) c.regs (model_asks w c m l (model_ask w c m a u).after)
           → Traced w (at c.regs m ∷ h) c.regs (onward x (model_asks w c m l (model_ask w c m a u).after) (model_ask w c m a u).after)
-      go (Address pa) rest = rest
-      go (Status f) rest = (ask-done h c m u s a).traced
+      go (Ok pa) rest = rest
+      go (Err f) rest = (ask-done h c m u s a).traced
 
   -- what is left pending for others is no part of what a translation reads
   broadcast-traced : {h : List (Moment w)} {R : w.Regs} {u : Model} (v : Inval) → Traced w h R u → Traced w h R (broadcast v u)
@@ -190,8 +190,8 @@ module _ (w : World) (laws : Laws w) where
 
       go : (x : Answer) → Each (FaithfulAnswer w c₀ past m) (model_answers w c m l (model_ask w c m a u).after)
           → Each (FaithfulAnswer w c₀ past m) (onward x (model_answers w c m l (model_ask w c m a u).after) [])
-      go (Address pa) rest = rest
-      go (Status f) rest = done
+      go (Ok pa) rest = rest
+      go (Err f) rest = done
 
   -- A fresh core: its ASID is 0, its level at most 3, its cache new.
   module _ (c₀ : Plain w) (zero-asid : w.asid c₀.regs ≡ 0) (low : c₀.privilege.level ≤ 3) where

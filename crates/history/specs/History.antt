@@ -7,7 +7,8 @@ use Rattle.tlb.specs.Tlb.{fresh, invalidate_of}
 use Rattle.tlb.specs.Asks as Asks
 use Rattle.tlb.specs.Asks.{Ask, kind_of, address_of, Given}
 use Rattle.tlb.specs.Maintenance.{invalidated_of, refit_by}
-use Rattle.tlb.specs.declared.{access.Privilege.Privilege, access.Answer.Answer, Inval.Inval, Tlb.Tlb}
+use Rattle.tlb.specs.declared.{access.Privilege.Privilege, Inval.Inval, Tlb.Tlb}
+use Rattle.tlb.specs.Answers.{Answer}
 use Rattle.tlb.specs.declared.Inval.TheVariants.{All}
 use Rattle.history.specs.World.{World, LeavesEqual, covers, Plain, page_walk, regime_now, page_now, uncached, access_of}
 

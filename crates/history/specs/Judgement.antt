@@ -17,9 +17,9 @@ use Rattle.sysreg.specs.declared.regs.Control.{Control}
 use Rattle.tlb.specs.Lists.{Each}
 use Rattle.tlb.specs.Model.{as_user, need}
 use Rattle.tlb.specs.Asks.{Ask, kind_of, address_of}
-use Rattle.tlb.specs.declared.{access.Kind.Kind, access.Answer.Answer, Inval.Inval}
+use Rattle.tlb.specs.declared.{access.Kind.Kind, Inval.Inval}
+use Rattle.tlb.specs.Answers.{Answer}
 use Rattle.tlb.specs.declared.access.Kind.TheVariants.{Read, Write, Fetch}
-use Rattle.tlb.specs.declared.access.Answer.TheVariants.{Address, Status}
 use Rattle.history.specs.World.{covers, Plain, leaf_answer, walk_answer, regime_now, on_now, untag_now, page_now, uncached}
 use Rattle.history.specs.History.{Event, plain_run}
 use Rattle.history.specs.Instance.{Ram, memory_of, real, fresh_plain}
@@ -40,8 +40,8 @@ user_now c k = as_user (regime_now real c) c.privilege.level c.privilege.unprivi
 -- bits, or 0x0C plus the level
 abbrev pub checked : Bank → Regime → Bool → Kind → Translation → ℕ → Answer
 checked s r user k t va =
-    if allowed (single_priv r) (not user) (wxn_of s) t.perms (access_for k) then Address (t.address / 4096 * 4096 + va % 4096)
-    else Status (first (12 + t.level))
+    if allowed (single_priv r) (not user) (wxn_of s) t.perms (access_for k) then Ok (t.address / 4096 * 4096 + va % 4096)
+    else Err (first (12 + t.level))
 
 module _ (past : List (Event real)) (m : Ram) where
   -- registers, level and mark after the history
@@ -56,10 +56,10 @@ module _ (past : List (Event real)) (m : Ram) where
   -- m', of now or of a step of the history, global or under today's ASID, which no invalidation since covers, and the
   -- access of now is checked on what t found.
   pub data Judged (a : Ask) (x : Answer) : Type 0 where
-    itself : on_now real now ≡ false → x ≡ Address (address_of a) → Judged a x
+    itself : on_now real now ≡ false → x ≡ Ok (address_of a) → Judged a x
     faulted : (f : WalkFault) → on_now real now ≡ true
         → table_walk (bank_of now.regs regime) regime (untag_now real now (address_of a)) (memory_of m) ≡ faults f
-        → x ≡ Status (first (status_of f)) → Judged a x
+        → x ≡ Err (first (status_of f)) → Judged a x
     allowing : (R : Control) (m' : Ram) (vs : List Inval) → StateIn real fresh_plain past m R m' vs → (t : Translation)
         → real.on R regime ≡ true
         → table_walk (bank_of R regime) regime (page_now real now (address_of a) * 4096) (memory_of m') ≡ mapped t
@@ -105,7 +105,7 @@ pub leaf-checked : (s : Bank) (r : Regime) (t : Translation) (k : Kind) (user : 
 unfolding leaf_answer
 leaf-checked s r t k user va =
     rw (need-bit k user)
-    (ap (λ (b : Bool). (if b then Address (t.address / 4096 * 4096 + va % 4096) else Status (first (12 + t.level))))
+    (ap (λ (b : Bool). (if b then Ok (t.address / 4096 * 4096 + va % 4096) else Err (first (12 + t.level))))
     (permission-bit (single_priv r) (wxn_of s) t.perms (not user) (access_for k)))
 
 -- EVERY TRANSLATION
@@ -122,7 +122,7 @@ module _ (past : List (Event real)) (m : Ram) (a : Ask) where
 
   pub judged-from : (x : Answer) → From real fresh_plain past m a x → Judged past m a x
   judged-from x (flat o e) = itself o e
-  judged-from x (fails code o f e) = let (g, h, q) = manual-fault _ _ _ _ code f in faulted g o h (e ∙ ap (λ (n : ℕ). Status (first n)) q)
+  judged-from x (fails code o f e) = let (g, h, q) = manual-fault _ _ _ _ code f in faulted g o h (e ∙ ap (λ (n : ℕ). Err (first n)) q)
   judged-from x (walks R m' vs at ℓ o leaf d us e) =
       let (t, h, q) = manual-leaf _ _ _ _ ℓ leaf in
       allowing R m' vs at t o h
@@ -147,10 +147,10 @@ walk-row (translation n) l = size-or-translation (omega arith)
 walk-row (access_flag n) l = access-flag (omega arith) (omega arith)
 walk-row (external_abort n) l = descriptor-read (omega arith) (omega arith)
 
-same_code : {x y : Fault} → Status x ≡ Status y → x.fsc ≡ y.fsc
+same_code : {x y : Fault} → ◌≡◌ {A = Answer} (Err x) (Err y) → x.fsc ≡ y.fsc
 same_code {x} {y} e = let q : x ≡ y = cc in ap (λ (f : Fault). f.fsc) q
 
-pub status-row : (past : List (Event real)) (m : Ram) (a : Ask) (x : Fault) → Judged past m a (Status x) → Row x.fsc
+pub status-row : (past : List (Event real)) (m : Ram) (a : Ask) (x : Fault) → Judged past m a (Err x) → Row x.fsc
 status-row past m a x (itself o e) = let z : ◌≡◌ {A = ℕ} 0 1 = cc in absurd (omega arith)
 status-row past m a x (faulted f o h e) =
     rw (same_code e) (walk-row f (subst (Sound _) h (table-walk-sound _ _ _ (memory_of m))))
@@ -163,7 +163,7 @@ status-row past m a x (allowing R m' vs at t o h d us e) =
     found : Found (page_now real (now past m) (address_of a) * 4096) t
     found = subst (Sound _) h (table-walk-sound _ _ _ (memory_of m'))
 
-    go : (b : Bool) → Status x ≡ (if b then Address (t.address / 4096 * 4096 + address_of a % 4096) else Status (first (12 + t.level))) → Row x.fsc
+    go : (b : Bool) → Err x ≡ (if b then Ok (t.address / 4096 * 4096 + address_of a % 4096) else Err (first (12 + t.level))) → Row x.fsc
     go true q = let z : ◌≡◌ {A = ℕ} 0 1 = cc in absurd (omega arith)
     go false q = rw (same_code q) (permission (omega (arith, found.level-low)) (omega (arith, found.level-high)))
 

@@ -5,8 +5,8 @@ use Rattle.fault.specs.First.{first}
 use Rattle.walk.specs.declared.level.Leaf.{Leaf}
 use Rattle.tlb.specs.Lists.{Each}
 use Rattle.tlb.specs.Asks.{Ask, kind_of, address_of}
-use Rattle.tlb.specs.declared.{access.Answer.Answer, Inval.Inval}
-use Rattle.tlb.specs.declared.access.Answer.TheVariants.{Address, Status}
+use Rattle.tlb.specs.declared.Inval.{Inval}
+use Rattle.tlb.specs.Answers.{Answer}
 use Rattle.history.specs.World.{World, covers, leaf_answer, Plain, page_walk, regime_now, on_now, untag_now, page_now, need_now}
 use Rattle.history.specs.History.{Step, Event, steps, plain_run, drops_run}
 
@@ -25,10 +25,10 @@ module _ (w : World) (c₀ : Plain w) where
 
     -- The answer x to a translation a, made after the history on the RAM m.
     pub data From (a : Ask) (x : Answer) : Type 0 where
-      flat : on_now w here ≡ false → x ≡ Address (address_of a) → From a x
+      flat : on_now w here ≡ false → x ≡ Ok (address_of a) → From a x
       fails : (code : ℕ) → on_now w here ≡ true
           → w.walk here.regs m (regime_now w here) (untag_now w here (address_of a)) ≡ Err code
-          → x ≡ Status (first code) → From a x
+          → x ≡ Err (first code) → From a x
       walks : (R : w.Regs) (m' : w.Ram) (vs : List Inval) → StateIn past m R m' vs → (ℓ : Leaf)
           → w.on R (regime_now w here) ≡ true
           → page_walk w R m' (regime_now w here) (page_now w here (address_of a)) ≡ Ok ℓ

@@ -1,7 +1,7 @@
 -- The counters of each level over a history: from the plain model alone, every translation made, at which level and how
 -- it was answered. What stands in the counters of a level is the number of those made at it that a line answered, that
 -- were walked; and the sums of the four levels move as the Rust's two counters.
-use Rattle.std.specs.Prelude.{if◌then◌else◌, ◌≡◌, Bool, ◌&&◌, List, [], ◌∷◌, ◌++◌, ℕ, ◌+◌, ◌%◌, ◌^◌, ◌≤◌, ◌<◌, ◌==◌}
+use Rattle.std.specs.Prelude.{if◌then◌else◌, ◌≡◌, Bool, ◌&&◌, List, [], ◌∷◌, ◌++◌, ℕ, ◌+◌, ◌%◌, ◌^◌, ◌≤◌, ◌<◌, ◌==◌, Ok, Err}
 use Rattle.std.proofs.Math.Path.{refl}
 use Rattle.std.proofs.Common.{sym, ap, ◌∙◌, arith}
 use Rattle.std.proofs.Math.Bool.{true, false}
@@ -10,9 +10,9 @@ use Rattle.tlb.specs.Lists.{Each, done, more, each-imp}
 use Rattle.tlb.specs.Model.{Counters, Model, up, up_at, invalidate, retag, broadcast}
 use Rattle.tlb.specs.Counting.{How, hint_answered, itself, line_answered, walk_answered, how_counted, how_translated, how_fetched, translate-counts, fetch-counts}
 use Rattle.tlb.specs.Counting.{others-stay, Totals, rust_counted, sums, sums-move}
-use Rattle.tlb.specs.declared.{access.Answer.Answer, Inval.Inval}
+use Rattle.tlb.specs.declared.Inval.{Inval}
+use Rattle.tlb.specs.Answers.{Answer}
 use Rattle.tlb.specs.declared.access.Kind.TheVariants.{Fetch}
-use Rattle.tlb.specs.declared.access.Answer.TheVariants.{Address, Status}
 use Rattle.tlb.specs.declared.Inval.TheVariants.{All, Page, Asid}
 use Rattle.history.specs.World.{World, Plain, access_of}
 use Rattle.history.specs.History.{Effect, nothing, carries, writes, sets, Event, steps, receives, after}
@@ -118,8 +118,8 @@ module _ (w : World) where
       go : (x : Answer) → (model_asks w c m l asked).counts ≡ counted_all (made_in w c m l asked) asked.counts
           → (onward x (model_asks w c m l asked) asked).counts
           ≡ counted_all (onward x (made_in w c m l asked) []) (how_counted (how_asked w c m a u) c.privilege.level u.counts)
-      go (Address pa) rest = rest ∙ ap (counted_all (made_in w c m l asked)) (asked-counts c m a u)
-      go (Status f) rest = asked-counts c m a u
+      go (Ok pa) rest = rest ∙ ap (counted_all (made_in w c m l asked)) (asked-counts c m a u)
+      go (Err f) rest = asked-counts c m a u
 
   -- what a step does besides leaves hits and walks
   inval-alike : (v : Inval) (u : Model) → Alike (invalidate v u).counts u.counts
@@ -241,8 +241,8 @@ module _ (w : World) where
     where
       go : (x : Answer) → Each (λ (y : Made). y.level ≡ c.privilege.level) (made_in w c m l (model_ask w c m a u).after)
           → Each (λ (y : Made). y.level ≡ c.privilege.level) (onward x (made_in w c m l (model_ask w c m a u).after) [])
-      go (Address pa) rest = rest
-      go (Status f) rest = done
+      go (Ok pa) rest = rest
+      go (Err f) rest = done
 
   run-low-made : (past : List (Event w)) (c : Plain w) (u : Model) → c.privilege.level ≤ 3 → Each Low (made_run w c past u)
   run-low-made [] c u low = done

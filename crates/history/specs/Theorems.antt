@@ -1,6 +1,6 @@
 -- What is proved of every history of a core with the real registers and walk: the statements that src/theorems.rt
 -- promises. RAM, at each step and now, is any.
-use Rattle.std.specs.Prelude.{◌≡◌, true, false, List, ℕ, ◌+◌, ◌-◌, ◌%◌, ◌^◌, ◌≤◌, ◌<◌, length, get_or}
+use Rattle.std.specs.Prelude.{◌≡◌, true, false, List, ℕ, ◌+◌, ◌-◌, ◌%◌, ◌^◌, ◌≤◌, ◌<◌, length, get_or, Err}
 use mathlib.Core.List.{Memᴰ}
 use Rattle.word.specs.Ram.{word_at}
 use Rattle.fault.specs.declared.Fault.{Fault}
@@ -15,7 +15,6 @@ use Rattle.tlb.specs.Lists.{Each}
 use Rattle.tlb.specs.Model.{Model, empty_model}
 use Rattle.tlb.specs.Tlb.{fresh}
 use Rattle.tlb.specs.declared.{access.Kind.Kind}
-use Rattle.tlb.specs.declared.access.Answer.TheVariants.{Status}
 use Rattle.history.specs.World.{Plain, regime_now, untag_now, on_now, need_now, uncached}
 use Rattle.history.specs.History.{Step, Event, plain_run, answers, tlb_run, answer_of, Settled}
 use Rattle.history.specs.Fresh.{fresh_now, fresh_answer}
@@ -54,7 +53,7 @@ every_judgement = EachAnswer (λ past m g. Judged past m g.ask g.answer)
 
 -- a fault has one of the statuses of a translation
 abbrev pub every_fault_row : Type 0
-every_fault_row = EachAnswer (λ past m g. (f : Fault) → g.answer ≡ Status f → Row f.fsc)
+every_fault_row = EachAnswer (λ past m g. (f : Fault) → g.answer ≡ Err f → Row f.fsc)
 
 -- THE PLAIN MODEL
 

@@ -5,8 +5,8 @@ use Rattle.fault.specs.First.{first}
 use Rattle.walk.specs.Regime.{regime_of}
 use Rattle.walk.specs.declared.{regime.Regime.Regime, level.Leaf.Leaf}
 use Rattle.tlb.specs.Model.{Access, as_user, need, span_bits}
-use Rattle.tlb.specs.declared.{access.Kind.Kind, access.Privilege.Privilege, access.Answer.Answer, Inval.Inval}
-use Rattle.tlb.specs.declared.access.Answer.TheVariants.{Address, Status}
+use Rattle.tlb.specs.declared.{access.Kind.Kind, access.Privilege.Privilege, Inval.Inval}
+use Rattle.tlb.specs.Answers.{Answer}
 use Rattle.tlb.specs.declared.Inval.TheVariants.{All, Page, Asid}
 use Rattle.walk.specs.Answers.{Walked}
 
@@ -49,11 +49,11 @@ covers (Asid b) p ℓ a = not ℓ.global && a == b
 -- 0x0C plus the leaf's level where the leaf lacks the bit that the access needs; else its physical page with the low twelve bits of the address
 unfoldable pub leaf_answer : Leaf → ℕ → ℕ → Answer
 leaf_answer ℓ bit va =
-    if ℓ.perms / bit % 2 == 1 then Address (ℓ.oa / 4096 * 4096 + va % 4096) else Status (first (12 + ℓ.level))
+    if ℓ.perms / bit % 2 == 1 then Ok (ℓ.oa / 4096 * 4096 + va % 4096) else Err (first (12 + ℓ.level))
 
 -- a fault of the walk is the answer
 unfoldable pub walk_answer : Walked → ℕ → ℕ → Answer
-walk_answer (Err code) bit va = Status (first code)
+walk_answer (Err code) bit va = Err (first code)
 walk_answer (Ok ℓ) bit va = leaf_answer ℓ bit va
 
 module _ (w : World) where
@@ -87,7 +87,7 @@ module _ (w : World) where
   -- address translated, va.
   unfoldable pub uncached : Plain → w.Ram → Kind → ℕ → Answer
   uncached c m k va =
-      if on_now c then walk_answer (w.walk c.regs m (regime_now c) (untag_now c va)) (need_now c k) va else Address va
+      if on_now c then walk_answer (w.walk c.regs m (regime_now c) (untag_now c va)) (need_now c k) va else Ok va
 
   -- the access of the same translation through a cache
   abbrev pub access_of : Plain → w.Ram → Kind → ℕ → Access

@@ -8,9 +8,8 @@ ghost use Rattle.transparency.specs.Faithful.{FaithfulCall};
 
 use mmu::core_state::Core;
 use operations::call::Reply;
-use operations::{check, reply};
+use operations::check;
 use tlb::access::Kind;
-use word::ram::Width;
 
 // A translation, by the hint first.
 #[tactic(auto, unfolding(operations::specs::Check::missed_of, cpu::specs::Step::step_of, cpu::specs::Step::run_of, cpu::specs::Step::ram_of), using(crate::proofs::Faithful::faithful_read))]
@@ -18,11 +17,10 @@ pub fn translate(core: &mut Core, base: u64, ram: &[u8], va: u64, kind: Kind) ->
     ensures step { record { core = core.new; reply = result } ≡ step_of core.old base ram.now (Call.Translate kind va) }
     ensures faithful { FaithfulCall core.old base ram.now (Call.Translate kind va) (ends core.new result) ram.now }
 {
-    let missed = check::with_ram(core.privilege.level, base, ram.len() as u64);
-    if missed != 0 {
-        return Reply::Refused(missed);
+    match check::with_ram(core.privilege.level, base, ram.len() as u64) {
+        Ok(()) => Reply::translated(va, core.translate(base, ram, va, kind)),
+        Err(check) => Reply::from(check),
     }
-    reply::translated(va, core.translate(base, ram, va, kind))
 }
 
 // A load.
@@ -31,13 +29,9 @@ pub fn load(core: &mut Core, base: u64, ram: &[u8], va: u64, size: u64) -> Reply
     ensures step { record { core = core.new; reply = result } ≡ step_of core.old base ram.now (Call.Load va size) }
     ensures faithful { FaithfulCall core.old base ram.now (Call.Load va size) (ends core.new result) ram.now }
 {
-    let missed = check::sized(core.privilege.level, base, ram.len() as u64, size);
-    if missed != 0 {
-        return Reply::Refused(missed);
-    }
-    match Width::of_size(size) {
-        Some(width) => reply::loaded(core.read(base, ram, va, width)),
-        None => Reply::Refused(3),
+    match check::sized(core.privilege.level, base, ram.len() as u64, size) {
+        Ok(width) => Reply::from(core.read(base, ram, va, width)),
+        Err(check) => Reply::from(check),
     }
 }
 
@@ -48,13 +42,9 @@ pub fn store(core: &mut Core, base: u64, ram: &mut [u8], va: u64, size: u64, val
     ensures ram { ram.new ≡ ram_after core.old base ram.old (Call.Store va size value) }
     ensures faithful { FaithfulCall core.old base ram.old (Call.Store va size value) (ends core.new result) ram.new }
 {
-    let missed = check::sized(core.privilege.level, base, ram.len() as u64, size);
-    if missed != 0 {
-        return Reply::Refused(missed);
-    }
-    match Width::of_size(size) {
-        Some(width) => reply::stored(core.write(base, ram, va, width, value)),
-        None => Reply::Refused(3),
+    match check::sized(core.privilege.level, base, ram.len() as u64, size) {
+        Ok(width) => Reply::from(core.write(base, ram, va, width, value)),
+        Err(check) => Reply::from(check),
     }
 }
 
@@ -64,9 +54,8 @@ pub fn fetch(core: &mut Core, base: u64, ram: &[u8], va: u64) -> Reply
     ensures step { record { core = core.new; reply = result } ≡ step_of core.old base ram.now (Call.Fetch va) }
     ensures faithful { FaithfulCall core.old base ram.now (Call.Fetch va) (ends core.new result) ram.now }
 {
-    let missed = check::with_ram(core.privilege.level, base, ram.len() as u64);
-    if missed != 0 {
-        return Reply::Refused(missed);
+    match check::with_ram(core.privilege.level, base, ram.len() as u64) {
+        Ok(()) => Reply::from(core.fetch(base, ram, va)),
+        Err(check) => Reply::from(check),
     }
-    reply::fetched(core.fetch(base, ram, va))
 }

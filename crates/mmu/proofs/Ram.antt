@@ -1,13 +1,12 @@
 -- A store keeps RAM's length.
-use Rattle.std.specs.Prelude.{◌≡◌, ℕ, List, length}
+use Rattle.std.specs.Prelude.{◌≡◌, ℕ, List, length, Ok, Err}
 use mathlib.Core.Path.{ap, ◌∙◌}
 use Rattle.operations.specs.BytesLaws.{store_length}
 use Rattle.operations.specs.Ends.{store_ram_end}
-use Rattle.operations.specs.declared.place.Placed.{Placed}
-use Rattle.operations.specs.declared.place.Placed.TheVariants.{At, Fault}
+use Rattle.operations.specs.Answers.{Placed}
 
 pub len : (base : ℕ) (ram : List ℕ) (n v : ℕ) (ys : List ℕ) (x : Placed) → ys ≡ store_ram_end x base ram n v
     → length ys ≡ length ram
 unfolding store_ram_end
-len base ram n v ys (At place) e = ap length e ∙ store_length base ram place n v
-len base ram n v ys (Fault addr f) e = ap length e
+len base ram n v ys (Ok place) e = ap length e ∙ store_length base ram place n v
+len base ram n v ys (Err failed) e = ap length e

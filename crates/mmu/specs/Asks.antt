@@ -1,7 +1,7 @@
 -- The translations that an access makes, from its call and the registers; what their answers say of its place; and that
 -- they are those of the exact definitions.
 use Rattle.mmu.specs.Results.{Stepped}
-use Rattle.std.specs.Prelude.{if◌then◌else◌, ◌≡◌, ℕ, Bool, true, false, List, [], ◌∷◌, Option}
+use Rattle.std.specs.Prelude.{if◌then◌else◌, ◌≡◌, ℕ, Bool, true, false, List, [], ◌∷◌, Option, Ok, Err}
 use Rattle.std.proofs.Math.Path.{refl}
 use Rattle.fault.specs.First.{first}
 use Rattle.walk.specs.Regime.{stage1_on, regime_of}
@@ -9,12 +9,11 @@ use Rattle.walk.specs.declared.regime.Bank.{Bank}
 use Rattle.tlb.specs.Model.{Access}
 use Rattle.tlb.specs.Step.{access_of}
 use Rattle.tlb.specs.Asks.{Ask, translates, Given, onward, answers, tlb_asks}
-use Rattle.tlb.specs.declared.{access.Kind.Kind, access.Privilege.Privilege, access.Answer.Answer, Tlb.Tlb}
-use Rattle.tlb.specs.declared.access.Answer.TheVariants.{Address, Status}
+use Rattle.tlb.specs.declared.{access.Kind.Kind, access.Privilege.Privilege, Tlb.Tlb}
+use Rattle.tlb.specs.Answers.{Answer}
+use Rattle.operations.specs.Answers.{Placed, fault_at}
 use Rattle.operations.specs.Place.{next_page, crosses, goes_on, placed_one, placed_both}
 use Rattle.mmu.specs.Step.{one_page, both_pages, translate_in, located_of}
-use Rattle.operations.specs.declared.place.Placed.{Placed}
-use Rattle.operations.specs.declared.place.Placed.TheVariants.{Fault}
 
 -- An access of n bytes: its own address, and where it crosses a page with stage 1 on the next page's first. The second
 -- is made only where the first does not fault (`answers`, `tlb_asks`): that is not said here, and so nothing here
@@ -28,12 +27,12 @@ access_asks on va n kind = asks_by (crosses on va n) va kind
 
 -- the answer of a call of one translation
 abbrev pub first_of : List Given → Answer
-first_of [] = Status (first 0)
+first_of [] = Err (first 0)
 first_of (g ∷ l) = g.answer
 
 -- what the answers of an access say of its place: it has one, or two where it is split and the first is an address
 abbrev pub placed_from : ℕ → List Given → Placed
-placed_from va [] = Fault va (first 0)
+placed_from va [] = Err (fault_at va (first 0))
 placed_from va (g ∷ []) = placed_one va g.answer
 placed_from va (g ∷ h ∷ l) = placed_both va g.answer h.answer
 
@@ -44,8 +43,8 @@ module _ (va : ℕ) (a b : Ask) (f g : Stepped) where
 
   one-page : (x : Answer) → f.answer ≡ x
       → one_page va f ≡ record { tlb = onward f.answer f.tlb f.tlb; placed = placed_from va (gives a f ∷ onward f.answer [] []) }
-  one-page (Address pa) e = rw e
-  one-page (Status fault) e = rw e
+  one-page (Ok pa) e = rw e
+  one-page (Err fault) e = rw e
 
   both-pages : (x y : Answer) → f.answer ≡ x → g.answer ≡ y
       → if goes_on f.answer true then both_pages va f.answer g else one_page va f
@@ -53,9 +52,9 @@ module _ (va : ℕ) (a b : Ask) (f g : Stepped) where
         tlb = onward f.answer (onward g.answer g.tlb g.tlb) f.tlb;
         placed = placed_from va (gives a f ∷ onward f.answer (gives b g ∷ onward g.answer [] []) []);
       }
-  both-pages (Status fault) y e d = rw e
-  both-pages (Address pa) (Address pa2) e d = rw (e, d)
-  both-pages (Address pa) (Status fault) e d = rw (e, d)
+  both-pages (Err fault) y e d = rw e
+  both-pages (Ok pa) (Ok pa2) e d = rw (e, d)
+  both-pages (Ok pa) (Err fault) e d = rw (e, d)
 
 module _ (s : Bank) (privilege : Privilege) (memory : ℕ → Option ℕ) where
   -- the access of a kind at an address
@@ -81,8 +80,8 @@ module _ (s : Bank) (privilege : Privilege) (memory : ℕ → Option ℕ) where
     located-asks = go (crosses on_it va n)
       where
         neither : (x : Answer) → goes_on x false ≡ false
-        neither (Address pa) = refl
-        neither (Status fault) = refl
+        neither (Ok pa) = refl
+        neither (Err fault) = refl
 
         go : (b : Bool)
             → if goes_on own.answer b then both_pages va own.answer next else one_page va own

@@ -1,6 +1,6 @@
 -- What a load answers and a store leaves, byte by byte, each byte by its own address: byte i of an access to va stands
 -- at the virtual address wrap (va + i). With this `Pages`, `byte_at`, `in_page` and `next_page` need not be believed.
-use Rattle.std.specs.Prelude.{if◌then◌else◌, ◌≡◌, ℕ, zero, suc, ◌+◌, ◌-◌, ◌*◌, ◌/◌, ◌%◌, ◌^◌, ◌<◌, ◌≤◌, Bool, true, false, List, length, ◌≢◌, nat_lt, slice_index}
+use Rattle.std.specs.Prelude.{if◌then◌else◌, ◌≡◌, ℕ, zero, suc, ◌+◌, ◌-◌, ◌*◌, ◌/◌, ◌%◌, ◌^◌, ◌<◌, ◌≤◌, Bool, true, false, List, length, ◌≢◌, nat_lt, slice_index, Ok, Err}
 use Rattle.std.proofs.Math.Path.{refl, ap}
 use Rattle.std.proofs.Common.{sym, ◌∙◌, mod-eq_of_lt, div-one, le-leb}
 use Rattle.std.proofs.Math.Nat.{mod-mod, zero-add}
@@ -10,7 +10,7 @@ use Rattle.word.specs.Ram.{within, word_at, written, stored}
 use Rattle.word.specs.RamLaws.{within_low, within-high, digit-next, byte_of, written_byte}
 use Rattle.tlb.specs.declared.access.Kind.{Kind}
 use Rattle.tlb.specs.declared.access.Kind.TheVariants.{Read, Write}
-use Rattle.tlb.specs.declared.access.Answer.TheVariants.{Address}
+use Rattle.operations.specs.Answers.{Placed, Verdict, LoadAnswer, outside_at}
 use Rattle.operations.specs.Place.{byte_at, verdict_of, bytes_before}
 use Rattle.operations.specs.PlaceLaws.{all-inside}
 use Rattle.operations.specs.Bytes.{byte_in, split_value, split_stored, value_at, load_of, store_ram}
@@ -19,12 +19,8 @@ use Rattle.operations.specs.Ends.{load_end, store_end, store_ram_end}
 use Rattle.mmu.specs.Ops.{located_now, read_of, write_of, ram_after_write}
 use Rattle.mmu.specs.OpLaws.{write-leaves}
 use Rattle.mmu.specs.declared.core_state.Core.{Core}
-use Rattle.operations.specs.declared.{place.Pages.Pages, place.Place.Place, place.Placed.Placed, place.Verdict.Verdict}
+use Rattle.operations.specs.declared.{place.Pages.Pages, place.Place.Place}
 use Rattle.operations.specs.declared.place.Place.TheVariants.{Whole, Split}
-use Rattle.operations.specs.declared.place.Placed.TheVariants.{At, Fault}
-use Rattle.operations.specs.declared.place.Verdict.TheVariants.{Inside, Outside}
-use Rattle.operations.specs.declared.ends.LoadAnswer.TheVariants as Load
-use Rattle.operations.specs.declared.ends.StoreAnswer.TheVariants as Store
 use Rattle.mmu.specs.OwnAddress.{own_answer, Ready, Own, lies-own}
 
 -- EACH BYTE OF A VALUE
@@ -104,20 +100,20 @@ wrap-at p i = go (nat_lt i p.in_page)
     go true = mod-mod (p.pa + i) (2 ^ 64)
     go false = mod-mod (p.pa2 + (i - p.in_page)) (2 ^ 64)
 
-whole-inside : (base len n pa : ℕ) → verdict_of base len (Whole pa) n ≡ Inside → within base len n pa ≡ true
+whole-inside : (base len n pa : ℕ) → verdict_of base len (Whole pa) n ≡ Ok tt → within base len n pa ≡ true
 unfolding verdict_of
 whole-inside base len n pa = go (within base len n pa)
   where
-    go : (b : Bool) → (if b then Inside else Outside 0 pa) ≡ Inside → b ≡ true
+    go : (b : Bool) → ◌≡◌ {A = Verdict} (if b then Ok tt else Err (outside_at 0 pa)) (Ok tt) → b ≡ true
     go true e = refl
     go false e = let z : ◌≡◌ {A = ℕ} 0 1 = cc in absurd (omega arith)
 
-split-inside : (base len n i : ℕ) (p : Pages) → verdict_of base len (Split p) n ≡ Inside → i < n → within base len 1 (byte_at p i) ≡ true
+split-inside : (base len n i : ℕ) (p : Pages) → verdict_of base len (Split p) n ≡ Ok tt → i < n → within base len 1 (byte_at p i) ≡ true
 unfolding verdict_of
 split-inside base len n i p e h = all-inside base len p 0 n e i (omega arith) (omega arith)
 
 module _ (base : ℕ) (ram : List ℕ) (n i : ℕ) (window : base + length ram ≤ 2 ^ 64) (h : i < n) where
-  module _ (pa : ℕ) (e : verdict_of base (length ram) (Whole pa) n ≡ Inside) where
+  module _ (pa : ℕ) (e : verdict_of base (length ram) (Whole pa) n ≡ Ok tt) where
     whole-low : base ≤ pa
     whole-low = within_low base (length ram) n pa (whole-inside base (length ram) n pa e)
 
@@ -127,14 +123,14 @@ module _ (base : ℕ) (ram : List ℕ) (n i : ℕ) (window : base + length ram �
     whole-at : wrap (pa + i) ≡ pa + i
     whole-at = let k = whole-high in mod-eq_of_lt (omega arith)
 
-  in_window : (place : Place) → verdict_of base (length ram) place n ≡ Inside → within base (length ram) 1 (wrap (address_in place i)) ≡ true
+  in_window : (place : Place) → verdict_of base (length ram) place n ≡ Ok tt → within base (length ram) 1 (wrap (address_in place i)) ≡ true
   in_window (Whole pa) e =
       let l = whole-low pa e in
       let k = whole-high pa e in
       rw (whole-at pa e, le-leb base (pa + i) (omega arith), le-leb (pa + i + 1) (base + length ram) (omega arith))
   in_window (Split p) e = rw (wrap-at p i) (split-inside base (length ram) n i p e h)
 
-  value-byte : ((k : ℕ) → slice_index ram k < 256) → (place : Place) → verdict_of base (length ram) place n ≡ Inside
+  value-byte : ((k : ℕ) → slice_index ram k < 256) → (place : Place) → verdict_of base (length ram) place n ≡ Ok tt
       → value_at base ram place n / 256 ^ i % 256 ≡ byte_in base ram (wrap (address_in place i))
   value-byte small (Whole pa) e =
       let l = whole-low pa e in
@@ -149,7 +145,7 @@ module _ (base : ℕ) (ram : List ℕ) (n i : ℕ) (window : base + length ram �
       ∙ ap (λ (j : ℕ). byte_in base ram (byte_at p j)) (zero-add i)
       ∙ ap (byte_in base ram) (sym (wrap-at p i))
 
-  store-digit : (v : ℕ) (place : Place) → verdict_of base (length ram) place n ≡ Inside
+  store-digit : (v : ℕ) (place : Place) → verdict_of base (length ram) place n ≡ Ok tt
       → ((j : ℕ) → i < j → j < n → wrap (address_in place j) ≢ wrap (address_in place i))
       → byte_in base (store_ram base ram place n v) (wrap (address_in place i)) ≡ v / 256 ^ i % 256
   unfolding store_ram
@@ -177,55 +173,55 @@ module _ (c : Core) (base : ℕ) (ram : List ℕ) (va n : ℕ) where
 
   record Loaded (v : ℕ) : Type 0 where
     place : Place
-    placed : placed_for Read ≡ At place
-    inside : verdict_of base (length ram) place n ≡ Inside
+    placed : placed_for Read ≡ Ok place
+    inside : verdict_of base (length ram) place n ≡ Ok tt
     value : v ≡ value_at base ram place n
 
-  loaded : (v : ℕ) → (read_of c base ram va n).answer ≡ Load.Value v → Loaded v
+  loaded : (v : ℕ) → (read_of c base ram va n).answer ≡ Ok v → Loaded v
   unfolding read_of load_end load_of
   loaded v = go (placed_for Read) refl
     where
-      value-is : (x : ℕ) → Load.Value x ≡ Load.Value v → v ≡ x
+      value-is : (x : ℕ) → ◌≡◌ {A = LoadAnswer} (Ok x) (Ok v) → v ≡ x
       value-is x q = cc
 
-      go : (x : Placed) → placed_for Read ≡ x → (load_end x c.last_pa c.abort_pa base ram va n).answer ≡ Load.Value v → Loaded v
-      go (Fault addr fault) e q = let z : ◌≡◌ {A = ℕ} 0 1 = cc in absurd (omega arith)
-      go (At place) e q = verdict (verdict_of base (length ram) place n) refl
+      go : (x : Placed) → placed_for Read ≡ x → (load_end x c.last_pa c.abort_pa base ram va n).answer ≡ Ok v → Loaded v
+      go (Err failed) e q = let z : ◌≡◌ {A = ℕ} 0 1 = cc in absurd (omega arith)
+      go (Ok place) e q = verdict (verdict_of base (length ram) place n) refl
         where
           verdict : (d : Verdict) → verdict_of base (length ram) place n ≡ d → Loaded v
-          verdict Inside d = record { place = place; placed = e; inside = d; value = value-is _ (rw d at q) }
-          verdict (Outside i pa) d = let z = rw d at q in let w : ◌≡◌ {A = ℕ} 0 1 = cc in absurd (omega arith)
+          verdict (Ok x) d = record { place = place; placed = e; inside = d; value = value-is _ (rw d at q) }
+          verdict (Err out) d = let z = rw d at q in let w : ◌≡◌ {A = ℕ} 0 1 = cc in absurd (omega arith)
 
   record Done : Type 0 where
     place : Place
-    placed : placed_for Write ≡ At place
-    inside : verdict_of base (length ram) place n ≡ Inside
+    placed : placed_for Write ≡ Ok place
+    inside : verdict_of base (length ram) place n ≡ Ok tt
 
-  done : (write_of c base ram va n).answer ≡ Store.Done → Done
+  done : (write_of c base ram va n).answer ≡ Ok tt → Done
   unfolding write_of store_end
   done = go (placed_for Write) refl
     where
-      go : (x : Placed) → placed_for Write ≡ x → (store_end x c.abort_pa base ram va n).answer ≡ Store.Done → Done
-      go (Fault addr fault) e q = let z : ◌≡◌ {A = ℕ} 0 1 = cc in absurd (omega arith)
-      go (At place) e q = verdict (verdict_of base (length ram) place n) refl
+      go : (x : Placed) → placed_for Write ≡ x → (store_end x c.abort_pa base ram va n).answer ≡ Ok tt → Done
+      go (Err failed) e q = let z : ◌≡◌ {A = ℕ} 0 1 = cc in absurd (omega arith)
+      go (Ok place) e q = verdict (verdict_of base (length ram) place n) refl
         where
           verdict : (d : Verdict) → verdict_of base (length ram) place n ≡ d → Done
-          verdict Inside d = record { place = place; placed = e; inside = d }
-          verdict (Outside i pa) d = let z = rw d at q in let w : ◌≡◌ {A = ℕ} 0 1 = cc in absurd (omega arith)
+          verdict (Ok x) d = record { place = place; placed = e; inside = d }
+          verdict (Err out) d = let z = rw d at q in let w : ◌≡◌ {A = ℕ} 0 1 = cc in absurd (omega arith)
 
 -- THE OPERATIONS
 
 -- byte i of an access by its own address: where its translation says, and that it lies in RAM; an address is 64 bits
 pub record OwnByte (c : Core) (base : ℕ) (ram : List ℕ) (va : ℕ) (kind : Kind) (i : ℕ) : Type 0 where
   pub pa : ℕ
-  pub answer : own_answer c (word_at base ram 8) va kind i ≡ Address pa
+  pub answer : own_answer c (word_at base ram 8) va kind i ≡ Ok pa
   pub inside : within base (length ram) 1 (wrap pa) ≡ true
 
 -- byte i of what a load answers is the byte of RAM at the translation of byte i's own address
 abbrev pub LoadsOwnBytes : Type 0
 LoadsOwnBytes =
     (c : Core) (base : ℕ) (ram : List ℕ) (va n v i : ℕ) → Ready c base ram va n Read → ((k : ℕ) → slice_index ram k < 256)
-    → (read_of c base ram va n).answer ≡ Load.Value v → i < n
+    → (read_of c base ram va n).answer ≡ Ok v → i < n
     → (o : OwnByte c base ram va Read i) × (v / 256 ^ i % 256 ≡ byte_in base ram (wrap o.pa))
 
 pub load_byte : LoadsOwnBytes
@@ -243,9 +239,9 @@ load_byte c base ram va n v i ready small e h =
 abbrev pub StoresOwnBytes : Type 0
 StoresOwnBytes =
     (c : Core) (base : ℕ) (ram : List ℕ) (va n v i : ℕ) → Ready c base ram va n Write
-    → (write_of c base ram va n).answer ≡ Store.Done → i < n
+    → (write_of c base ram va n).answer ≡ Ok tt → i < n
     → (o : OwnByte c base ram va Write i)
-    × (((j pa : ℕ) → i < j → j < n → own_answer c (word_at base ram 8) va Write j ≡ Address pa → wrap pa ≢ wrap o.pa)
+    × (((j pa : ℕ) → i < j → j < n → own_answer c (word_at base ram 8) va Write j ≡ Ok pa → wrap pa ≢ wrap o.pa)
     → byte_in base (ram_after_write c base ram va n v) (wrap o.pa) ≡ v / 256 ^ i % 256)
 
 pub store_byte : StoresOwnBytes
@@ -264,7 +260,7 @@ store_byte c base ram va n v i ready e h =
 abbrev pub StoreLeavesOthers : Type 0
 StoreLeavesOthers =
     (c : Core) (base : ℕ) (ram : List ℕ) (va n v k : ℕ) → Ready c base ram va n Write → k < length ram
-    → ((i pa : ℕ) → i < n → own_answer c (word_at base ram 8) va Write i ≡ Address pa → wrap pa ≢ base + k)
+    → ((i pa : ℕ) → i < n → own_answer c (word_at base ram 8) va Write i ≡ Ok pa → wrap pa ≢ base + k)
     → slice_index (ram_after_write c base ram va n v) k ≡ slice_index ram k
 
 pub store-others : StoreLeavesOthers

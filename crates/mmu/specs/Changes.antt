@@ -1,5 +1,5 @@
 -- A translation as its changes: what they store is what the operation's translation leaves, on plain values.
-use Rattle.std.specs.Prelude.{if◌then◌else◌, ◌≡◌, ℕ, ◌/◌, ◌%◌, ◌<◌, Bool, true, false, ◌&&◌, List, slice_set, Option}
+use Rattle.std.specs.Prelude.{if◌then◌else◌, ◌≡◌, ℕ, ◌/◌, ◌%◌, ◌<◌, Bool, true, false, List, slice_set, Option, Ok, Err}
 use Rattle.std.proofs.Math.Path.{refl, sym, subst, ap}
 use Rattle.std.proofs.Common.{◌∙◌, arith}
 use Rattle.std.proofs.lemmas.List.{set-get_or}
@@ -8,23 +8,22 @@ use Rattle.walk.specs.declared.regime.Regime.{Regime}
 use Rattle.tlb.specs.Access.{may_hint}
 use Rattle.tlb.specs.Cache.{hint_at, entry_at}
 use Rattle.tlb.specs.Entry.{blank}
-use Rattle.tlb.specs.Hint.{place_of, data_slot, no_hint, on_page, hint_for}
+use Rattle.tlb.specs.Hint.{place_of, data_slot, no_hint, on_page}
 use Rattle.tlb.specs.Resolve.{ask_of, by_itself, counted_by, kept_by, hint_after}
 use Rattle.tlb.specs.Translate.{applied, miss_with, miss_of, changes-are, translation_with, translation_of}
-use Rattle.tlb.specs.declared.{access.Answer.Answer, access.Kind.Kind, access.Privilege.Privilege, count.Counts.Counts}
+use Rattle.tlb.specs.declared.{access.Kind.Kind, access.Privilege.Privilege, count.Counts.Counts}
+use Rattle.tlb.specs.Answers.{Answer}
 use Rattle.tlb.specs.declared.{entry.Entry.Entry, entry.Current.Current, hint.FetchHint.FetchHint, hint.Hint.Hint}
 use Rattle.tlb.specs.declared.{resolve.Asked.Asked, resolve.Resolved.Resolved}
-use Rattle.tlb.specs.declared.resolve.Source.{Source}
 use Rattle.tlb.specs.Translate.{Translation}
-use Rattle.tlb.specs.declared.access.Answer.TheVariants.{Address, Status}
 use Rattle.tlb.specs.declared.access.Kind.TheVariants.{Read, Write, Fetch}
 use Rattle.tlb.specs.declared.resolve.Asked.TheVariants.{Flat, Of}
-use Rattle.tlb.specs.declared.resolve.Source.TheVariants.{FromHint, FromFlat, FromEntry, FromWalk, NoLeaf}
+use Rattle.tlb.specs.declared.resolve.Source.TheVariants.{FromHint}
 use Rattle.mmu.specs.Core.{bank_now, after_access}
 use Rattle.mmu.specs.Ops.{stepped_now, translate_of}
 use Rattle.mmu.specs.Step.{translate_in, slot_at}
 use Rattle.mmu.specs.declared.core_state.Core.{Core}
-use Rattle.operations.specs.Change.{entry_place, effect_of, counted_as, kept_as, allowed, address_of, miss_by, change_of, unchanged, answered_of}
+use Rattle.operations.specs.Change.{entry_place, hint_made, hint_or, miss_by, change_of, unchanged, answered_of}
 use Rattle.operations.specs.Change.{answered_by}
 use Rattle.mmu.specs.Parts.{lookup_in, page_in, parts_in, stored_in, commit_at, commit_in}
 use Rattle.operations.specs.Hinted.{hint_place, hint_serves}
@@ -49,26 +48,11 @@ place-mod (Of q) = omega arith
 hint-mod : (va : ℕ) (kind : Kind) → hint_place va kind % 512 ≡ hint_place va kind
 hint-mod va kind = omega arith
 
--- the law that ties a change's effect to the source of its answer
-counted-as : (s : Source) (level : ℕ) (k : Counts) → counted_as (effect_of s) level k ≡ counted_by s level k
-counted-as FromHint level k = refl
-counted-as FromFlat level k = refl
-counted-as FromEntry level k = refl
-counted-as FromWalk level k = refl
-counted-as NoLeaf level k = refl
-
-kept-as : (s : Source) (old made : Entry) → kept_as (effect_of s) old made ≡ kept_by s old made
-kept-as FromHint old made = refl
-kept-as FromFlat old made = refl
-kept-as FromEntry old made = refl
-kept-as FromWalk old made = refl
-kept-as NoLeaf old made = refl
-
-hint-as : (may : Bool) (level va : ℕ) (a : Answer) (h : Hint) → (if may && allowed a then hint_for va level (address_of a) else h) ≡ hint_after may level va a h
-hint-as true level va (Address pa) h = refl
-hint-as true level va (Status f) h = refl
-hint-as false level va (Address pa) h = refl
-hint-as false level va (Status f) h = refl
+-- a change's hint stored is the hint after the answer
+hint-as : (may : Bool) (level va : ℕ) (a : Answer) (h : Hint) → hint_or (hint_made may level va a) h ≡ hint_after may level va a h
+hint-as true level va (Ok pa) h = refl
+hint-as true level va (Err f) h = refl
+hint-as false level va a h = refl
 
 -- the core as it was is the core with its own cells stored
 pub same-core : (c : Core) (i j : ℕ) → stored_in c i j c.tlb.cache.fetch c.tlb.counts (hint_at c.tlb.cache i) (entry_at c.tlb.cache j) ≡ c
@@ -160,9 +144,9 @@ module _ (c : Core) (memory : ℕ → Option ℕ) (va : ℕ) where
       flat-miss j e = rw e
 
       -- with stage 1 off no entry is stored, whatever its place
-      flat-core : (j : ℕ) → kept j (by_itself va) ≡ parts_in c (f (Address va)) c.tlb.counts (slice_set c.tlb.cache.hints i₀ (h (Address va)))
+      flat-core : (j : ℕ) → kept j (by_itself va) ≡ parts_in c (f (Ok va)) c.tlb.counts (slice_set c.tlb.cache.hints i₀ (h (Ok va)))
           c.tlb.cache.entries c.last_pa c.abort_pa
-      flat-core j = ap (λ es. parts_in c (f (Address va)) c.tlb.counts (slice_set c.tlb.cache.hints i₀ (h (Address va))) es c.last_pa c.abort_pa)
+      flat-core j = ap (λ es. parts_in c (f (Ok va)) c.tlb.counts (slice_set c.tlb.cache.hints i₀ (h (Ok va))) es c.last_pa c.abort_pa)
           (set-get_or c.tlb.cache.entries j blank)
 
       by-stage : (on : Bool) → stage1_on (bank_now c) (regime_of c.privilege.level) ≡ on → Same j₀
@@ -194,9 +178,9 @@ module _ (c : Core) (memory : ℕ → Option ℕ) (va : ℕ) where
 
     stored_is : (t : Resolved) → commit_at c i₀ j₀ (change_of look t va kind) ≡ kept (λ a. c.tlb.cache.fetch) hint₀ j₀ t
     stored_is t =
-        λ n. stored_in c i₀ j₀ c.tlb.cache.fetch (counted-as t.source c.privilege.level c.tlb.counts n)
+        λ n. stored_in c i₀ j₀ c.tlb.cache.fetch (counted_by t.source c.privilege.level c.tlb.counts)
         (hint-as (may_hint c.privilege kind) c.privilege.level va t.answer (hint_at c.tlb.cache i₀) n)
-        (kept-as t.source (entry_at c.tlb.cache j₀) t.made n)
+        (kept_by t.source (entry_at c.tlb.cache j₀) t.made)
 
     module _ (none : hint_serves (hint_at c.tlb.cache i₀) c.privilege va kind ≡ false) where
       translation-is : translation_at kind i₀ ≡ applied (misses slot) (may_hint c.privilege kind) c.privilege.level c.tlb.counts
@@ -218,7 +202,7 @@ module _ (c : Core) (memory : ℕ → Option ℕ) (va : ℕ) where
 
     -- a hint that serves leaves the core as it was
     pub hint-turn : hint_serves (hint_at c.tlb.cache i₀) c.privilege va kind ≡ true
-        → (Address (on_page (hint_at c.tlb.cache i₀).pa va) ≡ (translate_of c memory va kind).answer) × (c ≡ (translate_of c memory va kind).core)
+        → (Ok (on_page (hint_at c.tlb.cache i₀).pa va) ≡ (translate_of c memory va kind).answer) × (c ≡ (translate_of c memory va kind).core)
     unfolding translation_of translation_with
     hint-turn s =
         let turn : translation_at kind i₀
@@ -226,7 +210,7 @@ module _ (c : Core) (memory : ℕ → Option ℕ) (va : ℕ) where
           counts = c.tlb.counts;
           hint = hint_at c.tlb.cache i₀;
           entry = entry_at c.tlb.cache slot;
-          answer = Address (on_page (hint_at c.tlb.cache i₀).pa va);
+          answer = Ok (on_page (hint_at c.tlb.cache i₀).pa va);
           source = FromHint;
         }
         = rw s in
@@ -247,7 +231,7 @@ module _ (c : Core) (memory : ℕ → Option ℕ) (va : ℕ) where
     turn-right = go (hint_serves (hint_at c.tlb.cache i₀) c.privilege va kind) refl
       where
         go : (b : Bool) → hint_serves (hint_at c.tlb.cache i₀) c.privilege va kind ≡ b
-            → Translations (if b then record { change = unchanged look; answer = Address (on_page (hint_at c.tlb.cache i₀).pa va) }
+            → Translations (if b then record { change = unchanged look; answer = Ok (on_page (hint_at c.tlb.cache i₀).pa va) }
             else answered_by look (miss_by look.asked look.bank c.privilege c.tlb.cache.current (page_in c va kind).entry va kind memory) va kind)
         go true e = ((hint-turn e).0, none-changed c look ∙ (hint-turn e).1)
         go false e = miss-right e

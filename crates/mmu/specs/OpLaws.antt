@@ -1,6 +1,6 @@
 -- What every operation leaves as it was, the cache that it leaves, and RAM after it.
 use Rattle.mmu.specs.Results.{Located}
-use Rattle.std.specs.Prelude.{◌≡◌, ℕ, ◌+◌, ◌<◌, Bool, List, [], ◌∷◌, length, ◌≢◌, slice_index, refl}
+use Rattle.std.specs.Prelude.{◌≡◌, ℕ, ◌+◌, ◌<◌, Bool, List, [], ◌∷◌, length, ◌≢◌, slice_index, refl, Ok, Err}
 use Rattle.std.proofs.Common.{sym}
 use Rattle.std.proofs.Math.Path.{ap}
 use Rattle.word.specs.Ram.{word_at}
@@ -18,8 +18,8 @@ use Rattle.mmu.specs.Ops.{data_pa_of}
 use Rattle.mmu.specs.Step.{translate_in, translate_fetch_in}
 use Rattle.mmu.specs.Asks.{access_asks, access_at, placed_from, located-asks}
 use Rattle.mmu.specs.declared.core_state.Core.{Core}
-use Rattle.operations.specs.declared.{place.Place.Place, place.Placed.Placed}
-use Rattle.operations.specs.declared.place.Placed.TheVariants.{At, Fault}
+use Rattle.operations.specs.declared.place.Place.{Place}
+use Rattle.operations.specs.Answers.{Placed}
 
 -- the operations; n is a number of bytes
 pub data Operation : Type 0 where
@@ -125,8 +125,8 @@ unfolding ram_after_write store_ram_end
 ram-length c base ram (store va n v) = go (located_now c (word_at base ram 8) va n Write).placed
   where
     go : (x : Placed) → length (store_ram_end x base ram n v) ≡ length ram
-    go (At place) = store_length base ram place n v
-    go (Fault addr fault) = refl
+    go (Ok place) = store_length base ram place n v
+    go (Err failed) = refl
 ram-length c base ram (translate va kind) = refl
 ram-length c base ram (access va n kind) = refl
 ram-length c base ram (load va n) = refl
@@ -136,13 +136,13 @@ ram-length c base ram (data_pa va) = refl
 
 -- a store changes no byte but its own
 pub write-leaves : (c : Core) (base : ℕ) (ram : List ℕ) (va n v k : ℕ)
-    → ((place : Place) → (located_now c (word_at base ram 8) va n Write).placed ≡ At place
+    → ((place : Place) → (located_now c (word_at base ram 8) va n Write).placed ≡ Ok place
     → (i : ℕ) → i < n → base + k ≢ address_in place i)
     → slice_index (ram_after_write c base ram va n v) k ≡ slice_index ram k
 unfolding ram_after_write store_ram_end
 write-leaves c base ram va n v k none = go (located_now c (word_at base ram 8) va n Write).placed none
   where
-    go : (x : Placed) → ((place : Place) → x ≡ At place → (i : ℕ) → i < n → base + k ≢ address_in place i)
+    go : (x : Placed) → ((place : Place) → x ≡ Ok place → (i : ℕ) → i < n → base + k ≢ address_in place i)
         → slice_index (store_ram_end x base ram n v) k ≡ slice_index ram k
-    go (At place) free = store-leaves base ram place n v k (free place refl)
-    go (Fault addr fault) free = refl
+    go (Ok place) free = store-leaves base ram place n v k (free place refl)
+    go (Err failed) free = refl

@@ -13,7 +13,7 @@ use Rattle.mmu.specs.Step.{translate_in, translate_fetch_in}
 use Rattle.mmu.specs.Asks.{first_of, placed_from}
 use Rattle.mmu.specs.OpLaws.{Operation, translate, access, load, store, fetch, fetch_pa, data_pa, operation_ram, asks_of, on_now, access_now, placed_by}
 use Rattle.mmu.specs.declared.core_state.Core.{Core}
-use Rattle.operations.specs.declared.place.Placed.{Placed}
+use Rattle.operations.specs.Answers.{Placed}
 
 abbrev pub says : Core → ℕ → List ℕ → Operation → Said
 says c base ram (translate va kind) = answer_says va (translate_of c (word_at base ram 8) va kind).answer

@@ -1,7 +1,7 @@
 -- Where each byte of an access lies, by the byte's own address: byte i of an access to va stands at the virtual address
 -- wrap (va + i), and in RAM where the translation of that address says, split or not.
 use Rattle.mmu.specs.Results.{Stepped}
-use Rattle.std.specs.Prelude.{if◌then◌else◌, ◌≡◌, ℕ, ◌+◌, ◌-◌, ◌/◌, ◌%◌, ◌^◌, ◌<◌, ◌≤◌, Bool, true, false, List, length, ◌==◌, ◌≢◌, nat_lt, Option}
+use Rattle.std.specs.Prelude.{if◌then◌else◌, ◌≡◌, ℕ, ◌+◌, ◌-◌, ◌/◌, ◌%◌, ◌^◌, ◌<◌, ◌≤◌, Bool, true, false, List, length, ◌==◌, ◌≢◌, nat_lt, Option, Ok, Err}
 use Rattle.std.proofs.Math.Path.{refl}
 use Rattle.std.proofs.Common.{sym, ap, subst, ◌∙◌, arith, ltb-true, ltb-false, lt-ltb, eq-eqb, ne_eqb}
 use Rattle.std.proofs.Math.Nat.{mod-mod}
@@ -13,8 +13,9 @@ use Rattle.walk.proofs.WalkBounds.{walk-sound}
 use Rattle.tlb.specs.Live.{WellFormed}
 use Rattle.tlb.proofs.Translations.{translation-follows}
 use Rattle.tlb.specs.Step.{access_of}
-use Rattle.tlb.specs.declared.{access.Kind.Kind, access.Answer.Answer, Tlb.Tlb}
-use Rattle.tlb.specs.declared.access.Answer.TheVariants.{Address, Status}
+use Rattle.tlb.specs.declared.{access.Kind.Kind, Tlb.Tlb}
+use Rattle.tlb.specs.Answers.{Answer}
+use Rattle.operations.specs.Answers.{Placed, fault_at}
 use Rattle.mmu.specs.Core.{after_access, bank_now}
 use Rattle.operations.specs.Place.{in_page, next_page, crosses, goes_on}
 use Rattle.operations.specs.PlaceLaws.{same-page, same-offset, next-first}
@@ -26,7 +27,6 @@ use Rattle.mmu.specs.OpLaws.{on_now}
 use Rattle.mmu.specs.declared.core_state.Core.{Core}
 use Rattle.operations.specs.declared.place.Place.{Place}
 use Rattle.operations.specs.declared.place.Place.TheVariants.{Whole, Split}
-use Rattle.operations.specs.declared.place.Placed.TheVariants.{At, Fault}
 
 -- the virtual address of byte i
 abbrev pub byte_va : ℕ → ℕ → ℕ
@@ -48,15 +48,15 @@ pub record Ready (c : Core) (base : ℕ) (ram : List ℕ) (va n : ℕ) (kind : K
   pub bytes : n ≤ 8
   pub window : base + length ram ≤ 2 ^ 64
   pub flat : on_now c ≡ false → in_page va < n
-      → ((translate_of c (word_at base ram 8) va kind).answer ≡ Address va)
-      × ((b : ℕ) → (translate_of (translate_of c (word_at base ram 8) va kind).core (word_at base ram 8) b kind).answer ≡ Address b)
+      → ((translate_of c (word_at base ram 8) va kind).answer ≡ Ok va)
+      × ((b : ℕ) → (translate_of (translate_of c (word_at base ram 8) va kind).core (word_at base ram 8) b kind).answer ≡ Ok b)
 
 -- WHERE EACH BYTE LIES
 
 -- byte i's own translation, and that the access has the byte there; an address is 64 bits
 pub record Own (c : Core) (memory : ℕ → Option ℕ) (va : ℕ) (kind : Kind) (i : ℕ) (place : Place) : Type 0 where
   pub pa : ℕ
-  pub answer : own_answer c memory va kind i ≡ Address pa
+  pub answer : own_answer c memory va kind i ≡ Ok pa
   pub there : wrap pa ≡ wrap (address_in place i)
 
 module _ (c : Core) (base : ℕ) (ram : List ℕ) (va n : ℕ) (kind : Kind) (ready : Ready c base ram va n kind) where
@@ -88,7 +88,7 @@ module _ (c : Core) (base : ℕ) (ram : List ℕ) (va n : ℕ) (kind : Kind) (re
   own-next i q = rw (ne_eqb _ _ q)
 
   -- on its own page
-  own-here : (i pa : ℕ) → first.answer ≡ Address pa → i < in_page va → own_answer c memory va kind i ≡ Address (pa + i)
+  own-here : (i pa : ℕ) → first.answer ≡ Ok pa → i < in_page va → own_answer c memory va kind i ≡ Ok (pa + i)
   own-here i pa e h =
       let w : va < 2 ^ 64 = ready.address in
       let page : byte_va va i / 4096 ≡ va / 4096 = same-page va i w h in
@@ -97,7 +97,7 @@ module _ (c : Core) (base : ℕ) (ram : List ℕ) (va n : ℕ) (kind : Kind) (re
       own_first i page
       ∙ step-page (bank_now c) c.privilege memory kind c.tlb ready.well va (byte_va va i) (sym page)
       ∙ ap (λ (x : Answer). answer_at x (byte_va va i)) e
-      ∙ ap Address (omega arith)
+      ∙ ap Ok (omega arith)
 
   -- on the next
   next-differs : (i : ℕ) → in_page va ≤ i → i < 8 → byte_va va i / 4096 ≢ va / 4096
@@ -109,7 +109,7 @@ module _ (c : Core) (base : ℕ) (ram : List ℕ) (va n : ℕ) (kind : Kind) (re
   next-offset : (i : ℕ) → in_page va ≤ i → i < 8 → byte_va va i % 4096 ≡ i - in_page va
   next-offset i h k = let w : va < 2 ^ 64 = ready.address in omega arith
 
-  own-there : (i pa : ℕ) → second.answer ≡ Address pa → in_page va ≤ i → i < 8 → own_answer c memory va kind i ≡ Address (pa + (i - in_page va))
+  own-there : (i pa : ℕ) → second.answer ≡ Ok pa → in_page va ≤ i → i < 8 → own_answer c memory va kind i ≡ Ok (pa + (i - in_page va))
   own-there i pa e h k =
       let w : va < 2 ^ 64 = ready.address in
       let low = next-offset i h k in
@@ -118,10 +118,10 @@ module _ (c : Core) (base : ℕ) (ram : List ℕ) (va n : ℕ) (kind : Kind) (re
       own-next i (next-differs i h k)
       ∙ step-page (bank_now c) c.privilege memory kind first.tlb first-well (next_page va) (byte_va va i) (next-page i h k)
       ∙ ap (λ (x : Answer). answer_at x (byte_va va i)) e
-      ∙ ap Address (omega arith)
+      ∙ ap Ok (omega arith)
 
   -- with stage 1 off, past the end of its page
-  own-flat : (i pa : ℕ) → first.answer ≡ Address pa → on_now c ≡ false → in_page va ≤ i → i < n → Own c memory va kind i (Whole pa)
+  own-flat : (i pa : ℕ) → first.answer ≡ Ok pa → on_now c ≡ false → in_page va ≤ i → i < n → Own c memory va kind i (Whole pa)
   unfolding translate_of stepped_now after_access
   own-flat i pa e o h k =
       let few : n ≤ 8 = ready.bytes in
@@ -133,7 +133,7 @@ module _ (c : Core) (base : ℕ) (ram : List ℕ) (va n : ℕ) (kind : Kind) (re
         there = rw same (mod-mod (va + i) (2 ^ 64));
       }
     where
-      address_is : {x y : ℕ} → Address x ≡ Address y → x ≡ y
+      address_is : {x y : ℕ} → ◌≡◌ {A = Answer} (Ok x) (Ok y) → x ≡ y
       address_is q = cc
 
   off-crossing : (on : Bool) → in_page va < n → crosses on va n ≡ false → on ≡ false
@@ -141,7 +141,7 @@ module _ (c : Core) (base : ℕ) (ram : List ℕ) (va n : ℕ) (kind : Kind) (re
   off-crossing false h q = refl
 
   module _ (i : ℕ) (h : i < n) where
-    whole-own : (pa : ℕ) → first.answer ≡ Address pa → crosses (on_now c) va n ≡ false → Own c memory va kind i (Whole pa)
+    whole-own : (pa : ℕ) → first.answer ≡ Ok pa → crosses (on_now c) va n ≡ false → Own c memory va kind i (Whole pa)
     whole-own pa e q = go (nat_lt i (in_page va)) refl
       where
         go : (b : Bool) → nat_lt i (in_page va) ≡ b → Own c memory va kind i (Whole pa)
@@ -150,7 +150,7 @@ module _ (c : Core) (base : ℕ) (ram : List ℕ) (va n : ℕ) (kind : Kind) (re
             let k : in_page va ≤ i = ltb-false _ _ l in
             own-flat i pa e (off-crossing (on_now c) (omega arith) q) k h
 
-    split-own : (pa pa2 : ℕ) → first.answer ≡ Address pa → second.answer ≡ Address pa2
+    split-own : (pa pa2 : ℕ) → first.answer ≡ Ok pa → second.answer ≡ Ok pa2
         → Own c memory va kind i (Split (record { in_page = in_page va; pa = pa; pa2 = pa2 }))
     split-own pa pa2 e d = go (nat_lt i (in_page va)) refl
       where
@@ -165,27 +165,27 @@ module _ (c : Core) (base : ℕ) (ram : List ℕ) (va n : ℕ) (kind : Kind) (re
             }
 
     -- each byte of an access that was placed lies where its own address's translation says
-    pub lies-own : (place : Place) → (located_now c memory va n kind).placed ≡ At place → Own c memory va kind i place
+    pub lies-own : (place : Place) → (located_now c memory va n kind).placed ≡ Ok place → Own c memory va kind i place
     unfolding located_now located_of
     lies-own place = go first.answer refl (crosses (on_now c) va n) refl second.answer refl
       where
-        placed-is : (x y : Place) → At x ≡ At y → x ≡ y
+        placed-is : (x y : Place) → ◌≡◌ {A = Placed} (Ok x) (Ok y) → x ≡ y
         placed-is x y q = cc
 
         go : (x : Answer) → first.answer ≡ x → (b : Bool) → crosses (on_now c) va n ≡ b → (y : Answer) → second.answer ≡ y
-            → (if goes_on first.answer (crosses (on_now c) va n) then both_pages va first.answer second else one_page va first).placed ≡ At place
+            → (if goes_on first.answer (crosses (on_now c) va n) then both_pages va first.answer second else one_page va first).placed ≡ Ok place
             → Own c memory va kind i place
-        go (Status fault) e b q y d p =
-            let z : Fault va fault ≡ At place = rw e at p in
+        go (Err fault) e b q y d p =
+            let z : Err (fault_at va fault) ≡ Ok place = rw e at p in
             let w : ◌≡◌ {A = ℕ} 0 1 = cc in
             absurd (omega arith)
-        go (Address pa) e false q y d p =
-            let z : At (Whole pa) ≡ At place = rw (e, q) at p in
+        go (Ok pa) e false q y d p =
+            let z : ◌≡◌ {A = Placed} (Ok (Whole pa)) (Ok place) = rw (e, q) at p in
             subst (Own c memory va kind i) (placed-is _ _ z) (whole-own pa e q)
-        go (Address pa) e true q (Status fault) d p =
-            let z : Fault (next_page va) fault ≡ At place = rw (e, q, d) at p in
+        go (Ok pa) e true q (Err fault) d p =
+            let z : Err (fault_at (next_page va) fault) ≡ Ok place = rw (e, q, d) at p in
             let w : ◌≡◌ {A = ℕ} 0 1 = cc in
             absurd (omega arith)
-        go (Address pa) e true q (Address pa2) d p =
-            let z : At (Split (record { in_page = in_page va; pa = pa; pa2 = pa2 })) ≡ At place = rw (e, q, d) at p in
+        go (Ok pa) e true q (Ok pa2) d p =
+            let z : ◌≡◌ {A = Placed} (Ok (Split (record { in_page = in_page va; pa = pa; pa2 = pa2 }))) (Ok place) = rw (e, q, d) at p in
             subst (Own c memory va kind i) (placed-is _ _ z) (split-own pa pa2 e d)

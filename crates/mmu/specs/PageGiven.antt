@@ -20,12 +20,12 @@ use Rattle.tlb.specs.Live.{WellFormed}
 use Rattle.tlb.specs.Cells.{or-page}
 use Rattle.tlb.specs.Resolve.{query_of, entry_for, by_walk, resolve_with}
 use Rattle.tlb.specs.Translate.{miss_with, applied, translation_with, walk_now}
-use Rattle.tlb.specs.declared.{access.Kind.Kind, access.Privilege.Privilege, access.Answer.Answer, cache.Cache.Cache}
+use Rattle.tlb.specs.declared.{access.Kind.Kind, access.Privilege.Privilege, cache.Cache.Cache}
+use Rattle.tlb.specs.Answers.{Answer}
 use Rattle.tlb.specs.declared.{count.Counts.Counts, entry.Entry.Entry, entry.Current.Current, hint.Hint.Hint}
 use Rattle.tlb.specs.declared.Tlb.{Tlb}
 use Rattle.tlb.specs.Translate.{Translation}
 use Rattle.tlb.specs.declared.access.Kind.TheVariants.{Read, Write, Fetch}
-use Rattle.tlb.specs.declared.access.Answer.TheVariants.{Address, Status}
 use Rattle.mmu.specs.Step.{slot_at, translate_in}
 use Rattle.mmu.specs.PageLaws.{by-hint, by-miss, by-flat, by-entry, by-walk, hits, hint-aligned, entry-aligned}
 use Rattle.walk.specs.Answers.{Walked}
@@ -42,11 +42,11 @@ module _ (on : Bool) (page : ℕ) (w : Walked) (r : Regime) (privilege : Privile
   unfolding translation_with
   hint-left q = (rw q, rw q)
 
-  new-hint : (pa : ℕ) → may_hint privilege kind ≡ true → hits on page w r privilege at k h e va kind ≡ false → done.answer ≡ Address pa
+  new-hint : (pa : ℕ) → may_hint privilege kind ≡ true → hits on page w r privilege at k h e va kind ≡ false → done.answer ≡ Ok pa
       → done.hint ≡ hint_for va privilege.level pa
   unfolding translation_with applied
   new-hint pa m q p =
-      let x : (miss_with on page w r privilege at e va kind).answer ≡ Address pa = sym (by-miss on page w r privilege at k h e va kind q) ∙ p in
+      let x : (miss_with on page w r privilege at e va kind).answer ≡ Ok pa = sym (by-miss on page w r privilege at k h e va kind q) ∙ p in
       rw (q, m, x)
 
   module _ (m : may_hint privilege kind ≡ false) where
@@ -63,7 +63,7 @@ module _ (on : Bool) (page : ℕ) (w : Walked) (r : Regime) (privilege : Privile
     unfolding translation_with applied miss_with resolve_with by_walk
     walk-left leaf o s x = (rw m, rw (m, o, s, x))
 
-address_is : {x y : ℕ} → Address x ≡ Address y → x ≡ y
+address_is : {x y : ℕ} → ◌≡◌ {A = Answer} (Ok x) (Ok y) → x ≡ y
 address_is e = cc
 
 hint-eq : (h : Hint) (key pa : ℕ) → h.key ≡ key → h.pa ≡ pa → h ≡ record { key = key; pa = pa }
@@ -91,16 +91,16 @@ back c i j =
     λ n. record c { hints = set-get_or c.hints i no_hint n; entries = set-get_or c.entries j blank n }
 
 rightly : (e : Entry) (user : Bool) (kind : Kind) (va : ℕ) → has_right e.perms (right_of kind user) ≡ true
-    → judged e user kind va ≡ Address (on_page e.pa va)
+    → judged e user kind va ≡ Ok (on_page e.pa va)
 unfolding judged
 rightly e user kind va q = rw q
 
-judged-right : (e : Entry) (user : Bool) (kind : Kind) (va pa : ℕ) → judged e user kind va ≡ Address pa
+judged-right : (e : Entry) (user : Bool) (kind : Kind) (va pa : ℕ) → judged e user kind va ≡ Ok pa
     → (has_right e.perms (right_of kind user) ≡ true) × (on_page e.pa va ≡ pa)
 unfolding judged
 judged-right e user kind va pa = go (has_right e.perms (right_of kind user))
   where
-    go : (x : Bool) → (if x then Address (on_page e.pa va) else Status (first (bit_or 12 e.level))) ≡ Address pa → (x ≡ true) × (on_page e.pa va ≡ pa)
+    go : (x : Bool) → (if x then Ok (on_page e.pa va) else Err (first (bit_or 12 e.level))) ≡ Ok pa → (x ≡ true) × (on_page e.pa va ≡ pa)
     go true q = (refl, cc)
     go false q = let z : ◌≡◌ {A = ℕ} 0 1 = cc in absurd (omega arith)
 
@@ -172,7 +172,7 @@ module _ (s : Bank) (privilege : Privilege) (kind : Kind) where
     no_hit : may_hint privilege kind ≡ false → hit ≡ false
     no_hit m = rw m
 
-    abbrev hint-answer : hit ≡ true → its.answer ≡ Address (on_page its_hint.pa a)
+    abbrev hint-answer : hit ≡ true → its.answer ≡ Ok (on_page its_hint.pa a)
     hint-answer =
         by-hint (is_on s privilege) (page_in s privilege a) its_walk (regime_of privilege.level) privilege t.cache.current
         t.counts its_hint its_entry a kind
@@ -186,7 +186,7 @@ module _ (s : Bank) (privilege : Privilege) (kind : Kind) where
         by-miss (is_on s privilege) (page_in s privilege a) its_walk (regime_of privilege.level) privilege t.cache.current
         t.counts its_hint its_entry a kind
 
-    flat-answer : is_on s privilege ≡ false → missed-answer ≡ Address a
+    flat-answer : is_on s privilege ≡ false → missed-answer ≡ Ok a
     flat-answer =
         by-flat (is_on s privilege) (page_in s privilege a) its_walk (regime_of privilege.level) privilege t.cache.current
         t.counts its_hint its_entry a kind
@@ -221,14 +221,14 @@ module _ (s : Bank) (privilege : Privilege) (kind : Kind) where
 
     -- it answers, and the cache stays
     pub given : (pa : ℕ) → Gives s privilege kind a pa t.cache
-        → (step.answer ≡ Address (pa / 4096 * 4096 + a % 4096)) × (step.tlb.cache ≡ t.cache)
+        → (step.answer ≡ Ok (pa / 4096 * 4096 + a % 4096)) × (step.tlb.cache ≡ t.cache)
     unfolding translate_in
     given pa (by-its-hint m e) =
         let key : its_hint.key ≡ hint_key a privilege.level = ap (λ (h : Hint). h.key) e in
         let frame : its_hint.pa ≡ page_of pa = ap (λ (h : Hint). h.pa) e in
         let q : hit ≡ true = rw (m, eq-eqb _ _ key) in
         let sum = or-page (page_of pa) a (omega arith) in (
-          hint-answer q ∙ ap (λ (x : ℕ). Address (on_page x a)) frame ∙ ap Address sum,
+          hint-answer q ∙ ap (λ (x : ℕ). Ok (on_page x a)) frame ∙ ap Ok sum,
           unmoved (hit-cells q),
         )
     given pa (by-its-entry m o e r p) =
@@ -236,15 +236,15 @@ module _ (s : Bank) (privilege : Privilege) (kind : Kind) where
           miss-answer (no_hit m)
               ∙ entry-answer o e
               ∙ rightly its_entry (user_in privilege kind) kind a r
-              ∙ ap (λ (x : ℕ). Address (on_page x a)) p
-              ∙ ap Address sum,
+              ∙ ap (λ (x : ℕ). Ok (on_page x a)) p
+              ∙ ap Ok sum,
           unmoved (entry-cells m o e),
         )
-    given pa (by_itself m o p) = (miss-answer (no_hit m) ∙ flat-answer o ∙ ap Address (omega arith), unmoved (flat-cells m o))
+    given pa (by_itself m o p) = (miss-answer (no_hit m) ∙ flat-answer o ∙ ap Ok (omega arith), unmoved (flat-cells m o))
 
     -- ONCE A PAGE WAS GIVEN AN ADDRESS
-    module _ (f : WellFormed t) (pa : ℕ) (e : step.answer ≡ Address pa) where
-      goes_to : its.answer ≡ Address pa
+    module _ (f : WellFormed t) (pa : ℕ) (e : step.answer ≡ Ok pa) where
+      goes_to : its.answer ≡ Ok pa
       unfolding translate_in
       goes_to = e
 
@@ -291,7 +291,7 @@ module _ (s : Bank) (privilege : Privilege) (kind : Kind) where
               → Gives s privilege kind a pa step.tlb.cache
           unfolding translate_in by_walk
           made-entry q (Err code) x =
-              let z : Status (first code) ≡ Address pa
+              let z : Err (first code) ≡ Ok pa
               = sym (ap (λ (y : Walked). (by_walk y (query_of (regime_of privilege.level) (page_in s privilege a)) privilege t.cache.current a kind).answer)
               x)
               ∙ sym (walk-answer o q) ∙ sym (miss-answer (no_hit m)) ∙ goes_to in

@@ -18,18 +18,18 @@ use Rattle.tlb.specs.Live.{Made, Aligned, WellFormed}
 use Rattle.tlb.specs.Cells.{or-page}
 use Rattle.tlb.specs.Resolve.{query_of, entry_for, by_walk, resolve_with}
 use Rattle.tlb.specs.Translate.{miss_with, applied, translation_with, walk_now}
-use Rattle.tlb.specs.declared.{access.Kind.Kind, access.Privilege.Privilege, access.Answer.Answer, count.Counts.Counts}
+use Rattle.tlb.specs.declared.{access.Kind.Kind, access.Privilege.Privilege, count.Counts.Counts}
+use Rattle.tlb.specs.Answers.{Answer}
 use Rattle.tlb.specs.declared.{entry.Entry.Entry, entry.Current.Current, hint.Hint.Hint, resolve.Query.Query}
 use Rattle.tlb.specs.declared.{resolve.Resolved.Resolved, Tlb.Tlb}
 use Rattle.tlb.specs.Translate.{Translation}
-use Rattle.tlb.specs.declared.access.Answer.TheVariants.{Address, Status}
 use Rattle.mmu.specs.Step.{slot_at, translate_in}
 use Rattle.walk.specs.Answers.{Walked}
 
 -- an answer as another address of its page gets it
 abbrev pub answer_at : Answer → ℕ → Answer
-answer_at (Address pa) b = Address (pa / 4096 * 4096 + b % 4096)
-answer_at (Status f) b = Status f
+answer_at (Ok pa) b = Ok (pa / 4096 * 4096 + b % 4096)
+answer_at (Err f) b = Err f
 
 -- THE ANSWER OF A TURN, by its tests
 
@@ -44,7 +44,7 @@ module _ (on : Bool) (page : ℕ) (w : Walked) (r : Regime) (privilege : Privile
   abbrev pub hits : Bool
   hits = may_hint privilege kind && h.key == hint_key va privilege.level
 
-  pub by-hint : hits ≡ true → turn.answer ≡ Address (on_page h.pa va)
+  pub by-hint : hits ≡ true → turn.answer ≡ Ok (on_page h.pa va)
   unfolding translation_with
   by-hint q = rw q
 
@@ -52,7 +52,7 @@ module _ (on : Bool) (page : ℕ) (w : Walked) (r : Regime) (privilege : Privile
   unfolding translation_with applied
   by-miss q = rw q
 
-  pub by-flat : on ≡ false → miss.answer ≡ Address va
+  pub by-flat : on ≡ false → miss.answer ≡ Ok va
   unfolding miss_with
   by-flat q = rw q
 
@@ -75,9 +75,9 @@ module _ (a b : ℕ) where
   judged-page e user kind q = go (has_right e.perms (right_of kind user))
     where
       go : (x : Bool)
-          → if x then Address (on_page e.pa b) else Status (first (bit_or 12 e.level))
-          ≡ answer_at (if x then Address (on_page e.pa a) else Status (first (bit_or 12 e.level))) b
-      go true = ap Address (on-page e.pa q)
+          → if x then Ok (on_page e.pa b) else Err (first (bit_or 12 e.level))
+          ≡ answer_at (if x then Ok (on_page e.pa a) else Err (first (bit_or 12 e.level))) b
+      go true = ap Ok (on-page e.pa q)
       go false = refl
 
   -- an entry is made of a leaf's page
@@ -117,7 +117,7 @@ module _ (a b pa pb : ℕ) (v w : Walked) (same : a / 4096 ≡ b / 4096) (same_t
 
       missed : (x : Bool) → on ≡ x → (miss_with on pb w r privilege at e b kind).answer ≡ answer_at (miss_with on pa v r privilege at e a kind).answer b
       missed false q =
-          rw (by-flat on pb w r privilege at k h e b kind q, by-flat on pa v r privilege at k h e a kind q) (ap Address (omega arith))
+          rw (by-flat on pb w r privilege at k h e b kind q, by-flat on pa v r privilege at k h e a kind q) (ap Ok (omega arith))
       missed true q = go (serves e at (tag_of r pb)) refl
         where
           go : (y : Bool) → serves e at (tag_of r pb) ≡ y
@@ -131,7 +131,7 @@ module _ (a b pa pb : ℕ) (v w : Walked) (same : a / 4096 ≡ b / 4096) (same_t
 
       hint : (x : Bool) → hits on pb w r privilege at k h e b kind ≡ x → at_b ≡ answer_at at_a b
       hint true q =
-          rw (by-hint on pb w r privilege at k h e b kind q, by-hint on pa v r privilege at k h e a kind (key ∙ q)) (ap Address (on-page a b h.pa ah))
+          rw (by-hint on pb w r privilege at k h e b kind q, by-hint on pa v r privilege at k h e a kind (key ∙ q)) (ap Ok (on-page a b h.pa ah))
       hint false q =
           rw (by-miss on pb w r privilege at k h e b kind q, by-miss on pa v r privilege at k h e a kind (key ∙ q)) (missed on refl)
 
@@ -166,9 +166,9 @@ module _ (s : Bank) (privilege : Privilege) (memory : ℕ → Option ℕ) (kind 
       (entry-aligned (slot_at s privilege.level a))
 
   -- so an address that is answered has the offset of the one that was asked for
-  pub step-offset : (a pa : ℕ) → (translate_in s privilege memory a kind t).answer ≡ Address pa → pa % 4096 ≡ a % 4096
+  pub step-offset : (a pa : ℕ) → (translate_in s privilege memory a kind t).answer ≡ Ok pa → pa % 4096 ≡ a % 4096
   step-offset a pa e =
       let q : (translate_in s privilege memory a kind t).answer ≡ answer_at (translate_in s privilege memory a kind t).answer a = step-page a a refl in
-      let p : Address pa ≡ Address (pa / 4096 * 4096 + a % 4096) = rw e at q in
+      let p : ◌≡◌ {A = Answer} (Ok pa) (Ok (pa / 4096 * 4096 + a % 4096)) = rw e at q in
       let n : pa ≡ pa / 4096 * 4096 + a % 4096 = cc in
       omega arith

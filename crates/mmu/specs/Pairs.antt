@@ -1,17 +1,16 @@
 -- The translations of a load or a store as their changes leave the cache that the operation's translations leave, on plain values.
 use Rattle.mmu.specs.Results.{Located, Stepped}
-use Rattle.std.specs.Prelude.{if◌then◌else◌, ◌≡◌, ℕ, zero, suc, ◌%◌, ◌<◌, Bool, true, false, ◌&&◌, T as Holds, List, length, get_or, ◌==◌, slice_index_or, slice_set, Option}
+use Rattle.std.specs.Prelude.{if◌then◌else◌, ◌≡◌, ℕ, ◌%◌, ◌<◌, Bool, true, false, T as Holds, List, length, ◌==◌, slice_index_or, slice_set, Option, Ok, Err}
 use Rattle.std.proofs.Math.Path.{refl, ap}
-use Rattle.std.proofs.Common.{sym, subst, ◌∙◌, arith, ne_eqb, eqb→eq, get_or-set_same, get_or-set_other}
+use Rattle.std.proofs.Common.{sym, subst, ◌∙◌, arith, eqb→eq, get_or-set_same, get_or-set_other}
 use Rattle.std.proofs.lemmas.Bool.{eqb-false}
-use Rattle.std.proofs.lemmas.List.{set-get_or}
 use Rattle.walk.specs.Regime.{regime_of, stage1_on}
 use Rattle.tlb.specs.Cache.{hint_at, entry_at}
 use Rattle.tlb.specs.Entry.{blank}
 use Rattle.tlb.specs.Hint.{no_hint, on_page}
-use Rattle.tlb.specs.Resolve.{ask_of}
-use Rattle.tlb.specs.declared.{access.Answer.Answer, access.Kind.Kind, entry.Entry.Entry, resolve.Asked.Asked, Tlb.Tlb}
-use Rattle.tlb.specs.declared.access.Answer.TheVariants.{Address, Status}
+use Rattle.tlb.specs.Resolve.{ask_of, kept_by}
+use Rattle.tlb.specs.declared.{access.Kind.Kind, resolve.Asked.Asked, Tlb.Tlb}
+use Rattle.tlb.specs.Answers.{Answer}
 use Rattle.tlb.specs.declared.resolve.Asked.TheVariants.{Flat, Of}
 use Rattle.mmu.specs.Core.{bank_now, after_access}
 use Rattle.mmu.specs.Ops.{stepped_now, located_now, translate_of, translate_access_of}
@@ -19,32 +18,21 @@ use Rattle.operations.specs.Place.{next_page, crosses, goes_on, placed_both}
 use Rattle.mmu.specs.Step.{translate_in, located_of, one_page, both_pages}
 use Rattle.mmu.specs.declared.core_state.Core.{Core}
 use Rattle.operations.specs.Loads.{more_of, one_translation, two_translations, both_of}
-use Rattle.operations.specs.Change.{kept_as, entry_place, answered_of, unchanged, hint_left, entry_left, page_after, miss_by, answered_by}
+use Rattle.operations.specs.Change.{hint_or, entry_place, answered_of, unchanged, hint_left, entry_left, page_after, miss_by, answered_by}
 use Rattle.mmu.specs.Parts.{lookup_in, page_in, core_with, commit_in}
 use Rattle.operations.specs.Hinted.{hint_place, hint_serves}
 use Rattle.operations.specs.declared.{loads.Both.Both, change.Change.Change, change.Answered.Answered}
 use Rattle.mmu.specs.Changes.{none-changed, turn-right}
 
--- an element of a list with another set
-get_set : {A : Type 0} (xs : List A) (i j : ℕ) (x d : A) → i < length xs → slice_index_or (slice_set xs i x) j d ≡ (if j == i then x else slice_index_or xs j d)
-get_set {A} xs i j x d l = go (j == i) refl
+-- an element of a list with one of them changed
+set_by : {A : Type 0} (f : A → A) (xs : List A) (i j : ℕ) (d : A) → i < length xs
+    → slice_index_or (slice_set xs i (f (slice_index_or xs i d))) j d ≡ (if j == i then f (slice_index_or xs j d) else slice_index_or xs j d)
+set_by {A} f xs i j d l = go (j == i) refl
   where
-    go : (b : Bool) → (j == i) ≡ b → slice_index_or (slice_set xs i x) j d ≡ (if b then x else slice_index_or xs j d)
-    go true e = rw (eqb→eq j i (subst Holds (sym e) tt)) (get_or-set_same xs i x d l)
-    go false e = get_or-set_other xs i j x d (eqb-false j i e)
-
--- where it is stored, or its own element goes back
-set_if : {A : Type 0} (b : Bool) (xs : List A) (i j : ℕ) (x d : A) → i < length xs → slice_index_or (slice_set xs i (if b then x else slice_index_or xs i d)) j d
-    ≡ (if b && j == i then x else slice_index_or xs j d)
-set_if true xs i j x d l = get_set xs i j x d l
-set_if false xs i j x d l = ap (λ ys. get_or ys j d) (set-get_or xs i d)
-
-kept-pick : (n : ℕ) (old made : Entry) → kept_as n old made ≡ (if n == 3 then made else old)
-kept-pick zero old made = refl
-kept-pick (suc zero) old made = refl
-kept-pick (suc (suc zero)) old made = refl
-kept-pick (suc (suc (suc zero))) old made = refl
-kept-pick (suc (suc (suc (suc n)))) old made = rw (ne_eqb (suc (suc (suc (suc n)))) 3 (λ e. omega (arith, e)))
+    go : (b : Bool) → (j == i) ≡ b
+        → slice_index_or (slice_set xs i (f (slice_index_or xs i d))) j d ≡ (if b then f (slice_index_or xs j d) else slice_index_or xs j d)
+    go true e = rw (eqb→eq j i (subst Holds (sym e) tt)) (get_or-set_same xs i (f (slice_index_or xs i d)) d l)
+    go false e = get_or-set_other xs i j (f (slice_index_or xs i d)) d (eqb-false j i e)
 
 -- the places of a change, as of the lookup that it was made for
 entry-small : (a : Asked) → entry_place a < 1024
@@ -59,9 +47,9 @@ picked true x y i j p q = p
 picked false x y i j p q = q
 
 split-of : (a : Answer) (split : Bool) → goes_on a split ≡ true → split ≡ true
-split-of (Address pa) split e = e
-split-of (Status f) true e = refl
-split-of (Status f) false e = e
+split-of (Ok pa) split e = e
+split-of (Err f) true e = refl
+split-of (Err f) false e = e
 
 module _ (c : Core) (kind : Kind) (hs : length c.tlb.cache.hints ≡ 512) (es : length c.tlb.cache.entries ≡ 1024) where
   -- a page read after a change is the page as the change leaves it
@@ -69,13 +57,11 @@ module _ (c : Core) (kind : Kind) (hs : length c.tlb.cache.hints ≡ 512) (es : 
   page-after t a li lj =
       let ei : t.hint_at % 512 ≡ t.hint_at = omega arith in
       let ej : t.entry_at % 1024 ≡ t.entry_at = omega arith in
-      let old : Entry = entry_at c.tlb.cache t.entry_at in
       let hint : hint_at (commit_in c t).tlb.cache (hint_place a kind) ≡ hint_left t (lookup_in c a kind) (hint_at c.tlb.cache (hint_place a kind))
-      = rw ei (set_if t.hints c.tlb.cache.hints t.hint_at (hint_place a kind) t.hint no_hint (rw hs li)) in
+      = rw ei (set_by (hint_or t.hint) c.tlb.cache.hints t.hint_at (hint_place a kind) no_hint (rw hs li)) in
       let entry : entry_at (commit_in c t).tlb.cache (lookup_in c a kind).entry
       ≡ entry_left t (lookup_in c a kind) (entry_at c.tlb.cache (lookup_in c a kind).entry)
-      = rw (ej, kept-pick t.effect old t.made) (set_if (t.effect == 3) c.tlb.cache.entries t.entry_at (lookup_in c a kind).entry
-      t.made blank (rw es lj)) in
+      = rw ej (set_by (λ e. kept_by t.source e t.made) c.tlb.cache.entries t.entry_at (lookup_in c a kind).entry blank (rw es lj)) in
       λ n. record { lookup = lookup_in c a kind; current = c.tlb.cache.current; hint = hint n; entry = entry n }
 
   module _ (memory : ℕ → Option ℕ) (va n next : ℕ) (en : crosses (stage1_on (bank_now c) (regime_of c.privilege.level)) va n ≡ true → next ≡ next_page va) where
@@ -92,7 +78,7 @@ module _ (c : Core) (kind : Kind) (hs : length c.tlb.cache.hints ≡ 512) (es : 
     first-at : At first.change (hint_place va kind) (entry_place (ask_of (bank_now c) c.privilege va))
     unfolding answered_of
     first-at = picked (hint_serves (hint_at c.tlb.cache (hint_place va kind)) c.privilege va kind)
-        (record { change = unchanged (lookup_in c va kind); answer = Address (on_page (hint_at c.tlb.cache (hint_place va kind)).pa va) })
+        (record { change = unchanged (lookup_in c va kind); answer = Ok (on_page (hint_at c.tlb.cache (hint_place va kind)).pa va) })
         (answered_by (lookup_in c va kind) (miss_by (lookup_in c va kind).asked (bank_now c) c.privilege c.tlb.cache.current
         (page_in c va kind).entry va kind memory) va kind)
         (hint_place va kind) (entry_place (ask_of (bank_now c) c.privilege va)) (refl, refl) (refl, refl)

@@ -1,13 +1,14 @@
 -- What a translation reads of a core, and the core with its changes stored. Cited for a core on words.
-use Rattle.std.specs.Prelude.{if◌then◌else◌, ℕ, ◌%◌, List, slice_set}
+use Rattle.std.specs.Prelude.{ℕ, ◌%◌, List, slice_set}
 use Rattle.tlb.specs.Cache.{hint_at, entry_at}
+use Rattle.tlb.specs.Resolve.{counted_by, kept_by}
 use Rattle.tlb.specs.Tlb.{tlb_with}
 use Rattle.tlb.specs.declared.{access.Kind.Kind, count.Counts.Counts, entry.Entry.Entry, hint.FetchHint.FetchHint}
 use Rattle.tlb.specs.declared.{hint.Hint.Hint, Tlb.Tlb}
 use Rattle.mmu.specs.declared.core_state.Core.{Core}
 use Rattle.operations.specs.Hinted.{hint_place}
 use Rattle.operations.specs.declared.{change.Change.Change, change.Lookup.Lookup, change.Page.Page}
-use Rattle.operations.specs.Change.{entry_place, lookup_of, counted_as, kept_as}
+use Rattle.operations.specs.Change.{entry_place, lookup_of, hint_or}
 
 abbrev pub lookup_in : Core → ℕ → Kind → Lookup
 lookup_in c va kind = lookup_of c.control c.privilege va kind
@@ -49,8 +50,8 @@ stored_in c i j f k h e =
 
 abbrev pub commit_at : Core → ℕ → ℕ → Change → Core
 commit_at c i j t =
-    stored_in c i j c.tlb.cache.fetch (counted_as t.effect c.privilege.level c.tlb.counts)
-    (if t.hints then t.hint else hint_at c.tlb.cache i) (kept_as t.effect (entry_at c.tlb.cache j) t.made)
+    stored_in c i j c.tlb.cache.fetch (counted_by t.source c.privilege.level c.tlb.counts)
+    (hint_or t.hint (hint_at c.tlb.cache i)) (kept_by t.source (entry_at c.tlb.cache j) t.made)
 
 abbrev pub commit_in : Core → Change → Core
 commit_in c t = commit_at c (t.hint_at % 512) (t.entry_at % 1024) t

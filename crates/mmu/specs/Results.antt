@@ -1,7 +1,8 @@
 -- What an operation leaves, and its answer.
-use Rattle.tlb.specs.declared.{access.Answer.Answer, Tlb.Tlb}
-use Rattle.operations.specs.declared.{place.Placed.Placed, ends.LoadAnswer.LoadAnswer, ends.StoreAnswer.StoreAnswer}
-use Rattle.operations.specs.declared.{ends.FetchAnswer.FetchAnswer, ends.Reached.Reached}
+use Rattle.std.specs.Prelude.{ℕ, Option}
+use Rattle.tlb.specs.declared.Tlb.{Tlb}
+use Rattle.tlb.specs.Answers.{Answer}
+use Rattle.operations.specs.Answers.{Placed, LoadAnswer, StoreAnswer, FetchAnswer}
 use Rattle.mmu.specs.declared.core_state.Core.{Core}
 
 -- of a cache
@@ -36,4 +37,4 @@ pub record Fetched : Type 0 where
 
 pub record Addressed : Type 0 where
   pub core : Core
-  pub answer : Reached
+  pub answer : Option ℕ

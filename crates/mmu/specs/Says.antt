@@ -1,11 +1,11 @@
 -- Each answer as the requirement's value, or its fault's address and status; and what the operations answer, so told.
-use Rattle.std.specs.Prelude.{if◌then◌else◌, ◌≡◌, ℕ, ◌+◌, ◌-◌, Bool, true, false, List, length}
+use Rattle.std.specs.Prelude.{if◌then◌else◌, ◌≡◌, ℕ, ◌+◌, ◌-◌, Bool, true, false, List, length, Option, Some, None, Ok, Err}
 use Rattle.std.proofs.Math.Path.{refl}
 use Rattle.word.specs.Bits.{wrap}
 use Rattle.word.specs.Ram.{little_endian, within, word_at}
 use Rattle.tlb.specs.declared.access.Kind.TheVariants.{Read, Write}
-use Rattle.tlb.specs.declared.access.Answer.{Answer}
-use Rattle.tlb.specs.declared.access.Answer.TheVariants.{Address, Status}
+use Rattle.tlb.specs.Answers.{Answer}
+use Rattle.operations.specs.Answers.{Placed, Verdict, LoadAnswer, StoreAnswer, FetchAnswer}
 use Rattle.exception.specs.declared.{kind.Stop.Stop, kind.Exception.Exception}
 use Rattle.exception.specs.declared.kind.Exception.TheVariants.{Undefined, Svc, Hvc, Smc, Brk, DataAbort, InsnAbort, PcAlignment}
 use Rattle.operations.specs.Place.{verdict_of}
@@ -13,14 +13,7 @@ use Rattle.operations.specs.Bytes.{value_at, load_of, insn_of}
 use Rattle.operations.specs.Ends.{load_end, store_end, fetch_end}
 use Rattle.mmu.specs.Ops.{fetch_stepped_now, located_now, read_of, write_of, fetch_of}
 use Rattle.mmu.specs.declared.core_state.Core.{Core}
-use Rattle.operations.specs.declared.{place.Place.Place, place.Placed.Placed, place.Verdict.Verdict}
-use Rattle.operations.specs.declared.{ends.LoadAnswer.LoadAnswer, ends.StoreAnswer.StoreAnswer}
-use Rattle.operations.specs.declared.{ends.FetchAnswer.FetchAnswer, ends.Reached.Reached}
-use Rattle.operations.specs.declared.place.Placed.TheVariants.{At, Fault}
-use Rattle.operations.specs.declared.place.Verdict.TheVariants.{Inside, Outside}
-use Rattle.operations.specs.declared.ends.LoadAnswer.TheVariants as Load
-use Rattle.operations.specs.declared.ends.StoreAnswer.TheVariants as Store
-use Rattle.operations.specs.declared.ends.FetchAnswer.TheVariants as Fetch
+use Rattle.operations.specs.declared.place.Place.{Place}
 
 -- value: what was loaded or fetched, or where an access goes. lies: the place of an access. faults: no more is told.
 pub data Said : Type 0 where
@@ -35,16 +28,16 @@ pub data Said : Type 0 where
   misaligned : Said
 
 abbrev pub answer_says : ℕ → Answer → Said
-answer_says va (Address pa) = value pa
-answer_says va (Status f) = fault va f.fsc
+answer_says va (Ok pa) = value pa
+answer_says va (Err f) = fault va f.fsc
 
 abbrev pub placed_says : Placed → Said
-placed_says (At place) = lies place
-placed_says (Fault addr f) = fault addr f.fsc
+placed_says (Ok place) = lies place
+placed_says (Err failed) = fault failed.addr failed.fault.fsc
 
-abbrev pub reached_says : Reached → Said
-reached_says (Reached.At pa) = value pa
-reached_says Reached.Faults = faults
+abbrev pub reached_says : Option ℕ → Said
+reached_says (Some pa) = value pa
+reached_says None = faults
 
 abbrev pub exception_says : Exception → Said
 exception_says (DataAbort a) = fault a.addr a.fault.fsc
@@ -61,28 +54,28 @@ stop_says (Stop.Exception e) = exception_says e
 stop_says Stop.Unimplemented = unimplemented
 
 abbrev pub load_says : LoadAnswer → Said
-load_says (Load.Value v) = value v
-load_says (Load.Stopped s) = stop_says s
+load_says (Ok v) = value v
+load_says (Err s) = stop_says s
 
 abbrev pub store_says : StoreAnswer → Said
-store_says Store.Done = done
-store_says (Store.Stopped s) = stop_says s
+store_says (Ok x) = done
+store_says (Err s) = stop_says s
 
 abbrev pub fetch_says : FetchAnswer → Said
-fetch_says (Fetch.Value v) = value v
-fetch_says (Fetch.Aborted e) = exception_says e
+fetch_says (Ok v) = value v
+fetch_says (Err e) = exception_says e
 
 -- THE OPERATIONS
 
 -- memory: 0x10 at the lowest failing byte
 abbrev pub memory_says : Verdict → ℕ → Said → Said
-memory_says Inside va said = said
-memory_says (Outside i pa) va said = fault (wrap (va + i)) 0x10
+memory_says (Ok x) va said = said
+memory_says (Err out) va said = fault (wrap (va + out.index)) 0x10
 
 -- an access: the fault of its translations, or else what memory says
 abbrev pub access_says : Placed → (Place → Verdict) → ℕ → (Place → Said) → Said
-access_says (Fault addr f) judge va said = fault addr f.fsc
-access_says (At place) judge va said = memory_says (judge place) va (said place)
+access_says (Err failed) judge va said = fault failed.addr failed.fault.fsc
+access_says (Ok place) judge va said = memory_says (judge place) va (said place)
 
 -- whether its n bytes lie in RAM
 abbrev pub verdict_in : ℕ → List ℕ → ℕ → Place → Verdict
@@ -92,24 +85,24 @@ module _ (c : Core) (base : ℕ) (ram : List ℕ) (va n : ℕ) where
   load-ends : (x : Placed) (last abort : ℕ)
       → load_says (load_end x last abort base ram va n).answer ≡ access_says x (verdict_in base ram n) va (λ p. value (value_at base ram p n))
   unfolding load_end load_of
-  load-ends (Fault addr f) last abort = refl
-  load-ends (At place) last abort = go (verdict_in base ram n place) refl
+  load-ends (Err failed) last abort = refl
+  load-ends (Ok place) last abort = go (verdict_in base ram n place) refl
     where
       go : (d : Verdict) → verdict_in base ram n place ≡ d
-          → load_says (load_end (At place) last abort base ram va n).answer ≡ memory_says (verdict_in base ram n place) va (value (value_at base ram place n))
-      go Inside e = rw e
-      go (Outside i pa) e = rw e
+          → load_says (load_end (Ok place) last abort base ram va n).answer ≡ memory_says (verdict_in base ram n place) va (value (value_at base ram place n))
+      go (Ok x) e = rw e
+      go (Err out) e = rw e
 
   store-ends : (x : Placed) (abort : ℕ)
       → store_says (store_end x abort base ram va n).answer ≡ access_says x (verdict_in base ram n) va (λ p. done)
   unfolding store_end
-  store-ends (Fault addr f) abort = refl
-  store-ends (At place) abort = go (verdict_in base ram n place) refl
+  store-ends (Err failed) abort = refl
+  store-ends (Ok place) abort = go (verdict_in base ram n place) refl
     where
       go : (d : Verdict) → verdict_in base ram n place ≡ d
-          → store_says (store_end (At place) abort base ram va n).answer ≡ memory_says (verdict_in base ram n place) va done
-      go Inside e = rw e
-      go (Outside i pa) e = rw e
+          → store_says (store_end (Ok place) abort base ram va n).answer ≡ memory_says (verdict_in base ram n place) va done
+      go (Ok x) e = rw e
+      go (Err out) e = rw e
 
   -- a load answers the value of its bytes
   pub load-says : load_says (read_of c base ram va n).answer
@@ -125,8 +118,8 @@ module _ (c : Core) (base : ℕ) (ram : List ℕ) (va n : ℕ) where
 
 -- a fetch reads four bytes: the fault of its translation, or 0x10, at its own address
 abbrev pub insn_says : ℕ → List ℕ → ℕ → Answer → Said
-insn_says base ram va (Status f) = fault va f.fsc
-insn_says base ram va (Address pa) =
+insn_says base ram va (Err f) = fault va f.fsc
+insn_says base ram va (Ok pa) =
     if within base (length ram) 4 pa then value (little_endian ram 4 (pa - base)) else fault va 0x10
 
 pub fetch-says : (c : Core) (base : ℕ) (ram : List ℕ) (va : ℕ)
@@ -135,10 +128,10 @@ unfolding fetch_of fetch_end insn_of
 fetch-says c base ram va = ends (fetch_stepped_now c (word_at base ram 8) va).answer _
   where
     ends : (a : Answer) (abort : ℕ) → fetch_says (fetch_end a abort base ram va).answer ≡ insn_says base ram va a
-    ends (Status f) abort = refl
-    ends (Address pa) abort = go (within base (length ram) 4 pa) refl
+    ends (Err f) abort = refl
+    ends (Ok pa) abort = go (within base (length ram) 4 pa) refl
       where
         go : (b : Bool) → within base (length ram) 4 pa ≡ b
-            → fetch_says (fetch_end (Address pa) abort base ram va).answer ≡ insn_says base ram va (Address pa)
+            → fetch_says (fetch_end (Ok pa) abort base ram va).answer ≡ insn_says base ram va (Ok pa)
         go true e = rw e
         go false e = rw e

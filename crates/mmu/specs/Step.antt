@@ -9,7 +9,8 @@ use Rattle.walk.specs.declared.regime.Bank.{Bank}
 use Rattle.tlb.specs.Entry.{slot_of}
 use Rattle.tlb.specs.Access.{tag_of}
 use Rattle.tlb.specs.Step.{access_of, past_hint_in, after_past_hint, translation_in, tlb_after, fetch_in, fetched_in}
-use Rattle.tlb.specs.declared.{access.Kind.Kind, access.Privilege.Privilege, access.Answer.Answer, Tlb.Tlb}
+use Rattle.tlb.specs.declared.{access.Kind.Kind, access.Privilege.Privilege, Tlb.Tlb}
+use Rattle.tlb.specs.Answers.{Answer}
 use Rattle.tlb.specs.declared.access.Kind.TheVariants.{Fetch}
 use Rattle.operations.specs.Place.{next_page, crosses, goes_on, placed_one, placed_both}
 

@@ -5,17 +5,18 @@ ghost use Rattle.mmu.specs.Ops.{translate_of, past_hint_of, translate_fetch_of, 
 ghost use Rattle.mmu.specs.Ops.{read_of, write_of, ram_after_write, fetch_of, fetch_pa_of, data_pa_of};
 
 use crate::core_state::Core;
-use operations::ends::{FetchAnswer, LoadAnswer, Reached, StoreAnswer};
-use operations::place::Placed;
+use exception::kind::{Exception, Stop};
+use fault::Fault;
+use operations::place::{FaultAt, Pages, Place};
 use operations::{ends, lookup, place};
-use tlb::access::{Answer, Kind};
+use tlb::access::Kind;
 use word::ram::Width;
 
 impl Core {
     // A translation that no hint serves. Out of line, and reads the registers itself, so that a hint pays nothing for it.
     #[inline(never)]
     #[tactic(auto, unfolding(crate::specs::Ops::past_hint_of, crate::specs::Step::past_hint_step, crate::specs::Core::after_access))]
-    fn past_hint(&mut self, base: u64, ram: &[u8], va: u64, kind: Kind) -> Answer
+    fn past_hint(&mut self, base: u64, ram: &[u8], va: u64, kind: Kind) -> Result<u64, Fault>
         ensures { record { core = self.new; answer = result } ≡ past_hint_of self.old (word_at base ram.now 8) va kind }
     {
         let s = self.bank();
@@ -26,18 +27,18 @@ impl Core {
     // Where an access of the kind to va goes: the data hint first, which is asked once. The fetch hint is neither used
     // nor set.
     #[tactic(auto, unfolding(crate::specs::Ops::translate_of, crate::specs::Ops::stepped_now, crate::specs::Ops::past_hint_of, crate::specs::Step::translate_in, crate::specs::Step::past_hint_step, crate::specs::Core::after_access, tlb::specs::Translate::translation_with))]
-    pub fn translate(&mut self, base: u64, ram: &[u8], va: u64, kind: Kind) -> Answer
+    pub fn translate(&mut self, base: u64, ram: &[u8], va: u64, kind: Kind) -> Result<u64, Fault>
         ensures { record { core = self.new; answer = result } ≡ translate_of self.old (word_at base ram.now 8) va kind }
     {
         match self.tlb.by_hint(self.privilege, va, kind) {
-            Some(pa) => Answer::Address(pa),
+            Some(pa) => Ok(pa),
             None => self.past_hint(base, ram, va, kind),
         }
     }
 
     // The translation that a fetch begins with.
     #[tactic(auto, unfolding(crate::specs::Ops::translate_fetch_of, crate::specs::Ops::fetch_stepped_now, crate::specs::Step::translate_fetch_in, crate::specs::Core::after_access))]
-    fn translate_fetch(&mut self, base: u64, ram: &[u8], va: u64) -> Answer
+    fn translate_fetch(&mut self, base: u64, ram: &[u8], va: u64) -> Result<u64, Fault>
         ensures { record { core = self.new; answer = result } ≡ translate_fetch_of self.old (word_at base ram.now 8) va }
     {
         let s = self.bank();
@@ -55,27 +56,27 @@ impl Core {
         va: u64,
         width: Width,
         kind: Kind,
-    ) -> Placed
+    ) -> Result<Place, FaultAt>
         ensures { record { core = self.new; placed = result } ≡ translate_access_of self.old (word_at base ram.now 8) va (bytes_in width) kind }
     {
         let s = self.bank();
         let privilege = self.privilege;
-        let on = lookup::on_at(s, privilege.level);
-        let split = place::crosses(on, va, width.bytes());
         let first = self.tlb.translate(s, privilege, va, kind, base, ram);
-        let more = place::goes_on(first, split);
-        if more {
-            let next = place::next_page(va);
-            let second = self.tlb.translate(s, privilege, next, kind, base, ram);
-            place::both(va, first, second)
-        } else {
-            place::one(va, first)
+        let pa = first.map_err(|fault| FaultAt { addr: va, fault })?;
+        let on = lookup::on_at(s, privilege.level);
+        if !place::crosses(on, va, width.bytes()) {
+            return Ok(Place::Whole(pa));
         }
+        let next = place::next_page(va);
+        let second = self.tlb.translate(s, privilege, next, kind, base, ram);
+        let pa2 = second.map_err(|fault| FaultAt { addr: next, fault })?;
+        let in_page = place::in_page(va);
+        Ok(Place::Split(Pages { in_page, pa, pa2 }))
     }
 
     // A load.
     #[tactic(auto, unfolding(crate::specs::Ops::read_of, crate::specs::Ops::translate_access_of, crate::specs::Core::after_access))]
-    pub fn read(&mut self, base: u64, ram: &[u8], va: u64, width: Width) -> LoadAnswer
+    pub fn read(&mut self, base: u64, ram: &[u8], va: u64, width: Width) -> Result<u64, Stop>
         ensures { record { core = self.new; answer = result } ≡ read_of self.old base ram.now va (bytes_in width) }
     {
         let placed = self.translate_access(base, ram, va, width, Kind::Read);
@@ -94,7 +95,7 @@ impl Core {
         va: u64,
         width: Width,
         value: u64,
-    ) -> StoreAnswer
+    ) -> Result<(), Stop>
         ensures core { record { core = self.new; answer = result } ≡ write_of self.old base ram.old va (bytes_in width) }
         ensures ram { ram.new ≡ ram_after_write self.old base ram.old va (bytes_in width) value }
     {
@@ -106,7 +107,7 @@ impl Core {
 
     // An instruction, by the fetch hint first.
     #[tactic(auto, unfolding(crate::specs::Ops::fetch_of, crate::specs::Ops::translate_fetch_of, crate::specs::Core::after_access))]
-    pub fn fetch(&mut self, base: u64, ram: &[u8], va: u64) -> FetchAnswer
+    pub fn fetch(&mut self, base: u64, ram: &[u8], va: u64) -> Result<u32, Exception>
         ensures { record { core = self.new; answer = result } ≡ fetch_of self.old base ram.now va }
     {
         let at = self.translate_fetch(base, ram, va);
@@ -117,17 +118,17 @@ impl Core {
 
     // Where a fetch of va goes, by the same hint, which a new page refreshes.
     #[tactic(auto, unfolding(crate::specs::Ops::fetch_pa_of, crate::specs::Ops::translate_fetch_of))]
-    pub fn fetch_pa(&mut self, base: u64, ram: &[u8], va: u64) -> Reached
+    pub fn fetch_pa(&mut self, base: u64, ram: &[u8], va: u64) -> Option<u64>
         ensures { record { core = self.new; answer = result } ≡ fetch_pa_of self.old (word_at base ram.now 8) va }
     {
-        ends::reach(self.translate_fetch(base, ram, va))
+        self.translate_fetch(base, ram, va).ok()
     }
 
     // Where a data read of va goes.
     #[tactic(auto, unfolding(crate::specs::Ops::data_pa_of, crate::specs::Ops::translate_of))]
-    pub fn data_pa(&mut self, base: u64, ram: &[u8], va: u64) -> Reached
+    pub fn data_pa(&mut self, base: u64, ram: &[u8], va: u64) -> Option<u64>
         ensures { record { core = self.new; answer = result } ≡ data_pa_of self.old (word_at base ram.now 8) va }
     {
-        ends::reach(self.translate(base, ram, va, Kind::Read))
+        self.translate(base, ram, va, Kind::Read).ok()
     }
 }

@@ -1,5 +1,5 @@
 -- Split accesses whose two parts lie in RAM, on plain values, for `search`.
-use Rattle.std.specs.Prelude.{if◌then◌else◌, Some, None}
+use Rattle.std.specs.Prelude.{if◌then◌else◌, Some, None, Ok}
 use Rattle.std.proofs.Common.{◌≡◌, ℕ, zero, suc, ◌+◌, ◌-◌, ◌*◌, ◌/◌, ◌%◌, ◌^◌, ◌<◌, ◌≤◌, Bool, true, false, ◌&&◌, ltb, List, length, get_or, sym, refl, ap, ◌∙◌, mod-eq_of_lt, suc-add, pow-suc, zero-add, div-one, arith, take-append-drop, pow-add, shr-shr, ltb-false, ltb-true, le-ltb, lt-ltb, le-leb}
 use native.Mathlib.Nat.{pow-zero}
 use Rattle.word.specs.Bits.{wrap}
@@ -11,8 +11,6 @@ use Rattle.operations.specs.BytesLaws.{stored-length}
 use Rattle.operations.specs.AtOnce.{both_inside, Lie, both_at, both_stored, pair_at}
 use Rattle.operations.specs.declared.place.Pages.{Pages}
 use Rattle.operations.specs.declared.place.Place.TheVariants.{Split}
-use Rattle.operations.specs.declared.place.Verdict.TheVariants.{Inside}
-use Rattle.operations.specs.declared.bytes.Got.TheVariants as Got
 use Rattle.operations.proofs.Moves.{fits-base, fits-end, byte-there, sum-on, split-value}
 
 -- n bytes from pa lie in RAM, so each of them does
@@ -236,25 +234,25 @@ module _ (base : ℕ) (ram : List ℕ) (pa pa2 : ℕ) (f : Bool) (ef : f ≡ bot
       both-wrote base ram (pair_at pa pa2) 2 f ef h xs ys v t ex (ey ∙ ap (stored base xs 1 pa2) (sym (shr-shr v 4 4)))
 
 -- and what it says is what the bytes say
-lie-inside : (base len : ℕ) (p : Pages) (n : ℕ) → Lie base len p n → (m i : ℕ) → i + m ≤ n → first_outside base len p i m ≡ Inside
+lie-inside : (base len : ℕ) (p : Pages) (n : ℕ) → Lie base len p n → (m i : ℕ) → i + m ≤ n → first_outside base len p i m ≡ Ok tt
 unfolding first_outside
 lie-inside base len p n l zero i h = refl
 lie-inside base len p n l (suc m) i h = rw (l.each i (omega arith)) (lie-inside base len p n l m (i + 1) (omega arith))
 
 module _ (base : ℕ) (ram : List ℕ) (p : Pages) (n : ℕ) (h : length ram < 2 ^ 64) where
-  all-inside : both_inside base (length ram) p n ≡ true → first_outside base (length ram) p 0 n ≡ Inside
+  all-inside : both_inside base (length ram) p n ≡ true → first_outside base (length ram) p 0 n ≡ Ok tt
   all-inside t = lie-inside base (length ram) p n (both-lie base (length ram) p n h t) n 0 (omega arith)
 
-  pub both-loads : (v : ℕ) → both_at base ram p n ≡ Some v → load_of base ram (Split p) n ≡ Got.Value v
+  pub both-loads : (v : ℕ) → both_at base ram p n ≡ Some v → load_of base ram (Split p) n ≡ Ok v
   unfolding both_at
   both-loads v = go (both_inside base (length ram) p n) refl
     where
       go : (f : Bool) → both_inside base (length ram) p n ≡ f → (if f then Some (split_value base ram p 0 n) else None) ≡ Some v
-          → load_of base ram (Split p) n ≡ Got.Value v
-      go true ef e = sym (split-value base ram p n v Inside (sym (all-inside ef)) refl (sym (value-is _ _ e)))
+          → load_of base ram (Split p) n ≡ Ok v
+      go true ef e = sym (split-value base ram p n v (Ok tt) (sym (all-inside ef)) refl (sym (value-is _ _ e)))
       go false ef e = absurd (outside-value v e)
 
-  pub both-judged : both_inside base (length ram) p n ≡ true → verdict_of base (length ram) (Split p) n ≡ Inside
+  pub both-judged : both_inside base (length ram) p n ≡ true → verdict_of base (length ram) (Split p) n ≡ Ok tt
   unfolding verdict_of
   both-judged t = all-inside t
 

@@ -1,15 +1,19 @@
 -- The cases of bytes moved, on plain values, for `search`.
-use Rattle.std.specs.Prelude.{if◌then◌else◌, Option, Some, None}
+use Rattle.std.specs.Prelude.{if◌then◌else◌, Option, Some, None, Ok, Err}
 use Rattle.std.proofs.Common.{◌≡◌, ℕ, zero, suc, ◌+◌, ◌-◌, ◌*◌, ◌/◌, ◌^◌, ◌<◌, ◌≤◌, Bool, true, false, ◌&&◌, leb, List, length, get_or, sym, refl, ap, ◌∙◌, pow-suc, arith, leb-true}
 use native.Mathlib.Nat.{pow-le-pow_right}
 use Rattle.word.specs.Ram.{little_endian, within, word_at, stored}
-use Rattle.operations.specs.Place.{byte_at, first_outside, verdict_of}
+use Rattle.walk.specs.Regime.{regime_of, stage1_on}
+use Rattle.tlb.specs.declared.access.Kind.{Kind}
+use Rattle.operations.specs.Change.{answered_of}
+use Rattle.operations.specs.Loads.{two_translations, both_of}
+use Rattle.operations.specs.declared.{change.Page.Page, change.Answered.Answered}
+use Rattle.operations.specs.Place.{crosses, byte_at, first_outside, verdict_of}
 use Rattle.operations.specs.Bytes.{byte_in, split_value, split_stored, got_by, load_of}
 use Rattle.operations.specs.BytesLaws.{stored-length}
-use Rattle.operations.specs.declared.{place.Pages.Pages, place.Verdict.Verdict}
+use Rattle.operations.specs.declared.place.Pages.{Pages}
+use Rattle.operations.specs.Answers.{Verdict, outside_at}
 use Rattle.operations.specs.declared.place.Place.TheVariants.{Whole, Split}
-use Rattle.operations.specs.declared.place.Verdict.TheVariants.{Inside, Outside}
-use Rattle.operations.specs.declared.bytes.Got.TheVariants.{Value, Abort}
 
 -- what the window's test says of the numbers
 and_left : (a b : Bool) → (a && b) ≡ true → a ≡ true
@@ -75,25 +79,25 @@ module _ (n i v : ℕ) (few : n ≤ 8) (h : 0 < i) (k : i ≤ n) (l : v < 256 ^ 
 -- loads
 module _ (base : ℕ) (ram : List ℕ) where
   by_value : (pa : ℕ) (f : Bool) (v x : ℕ) → (if f then Some x else None) ≡ Some v
-      → Value v ≡ got_by (if f then Inside else Outside 0 pa) x
+      → Ok v ≡ got_by (if f then Ok tt else Err (outside_at 0 pa)) x
   by_value pa true v x q = cc
   by_value pa false v x q = cc
 
   by-none : (pa : ℕ) (f : Bool) (x : ℕ) → (if f then Some x else None) ≡ None
-      → Abort 0 pa ≡ got_by (if f then Inside else Outside 0 pa) x
+      → Err (outside_at 0 pa) ≡ got_by (if f then Ok tt else Err (outside_at 0 pa)) x
   by-none pa true x q = cc
   by-none pa false x q = refl
 
-  pub whole-value : (pa n : ℕ) (w : Option ℕ) (v : ℕ) → w ≡ word_at base ram n pa → w ≡ Some v → Value v ≡ load_of base ram (Whole pa) n
+  pub whole-value : (pa n : ℕ) (w : Option ℕ) (v : ℕ) → w ≡ word_at base ram n pa → w ≡ Some v → Ok v ≡ load_of base ram (Whole pa) n
   unfolding load_of verdict_of word_at
   whole-value pa n w v e q = by_value pa (within base (length ram) n pa) v (little_endian ram n (pa - base)) (sym e ∙ q)
 
-  pub whole-abort : (pa n : ℕ) (w : Option ℕ) → w ≡ word_at base ram n pa → w ≡ None → Abort 0 pa ≡ load_of base ram (Whole pa) n
+  pub whole-abort : (pa n : ℕ) (w : Option ℕ) → w ≡ word_at base ram n pa → w ≡ None → Err (outside_at 0 pa) ≡ load_of base ram (Whole pa) n
   unfolding load_of verdict_of word_at
   whole-abort pa n w e q = by-none pa (within base (length ram) n pa) (little_endian ram n (pa - base)) (sym e ∙ q)
 
-  pub split-value : (p : Pages) (n v : ℕ) (d : Verdict) → d ≡ first_outside base (length ram) p 0 n → d ≡ Inside
-      → v ≡ split_value base ram p 0 n → Value v ≡ load_of base ram (Split p) n
+  pub split-value : (p : Pages) (n v : ℕ) (d : Verdict) → d ≡ first_outside base (length ram) p 0 n → d ≡ Ok tt
+      → v ≡ split_value base ram p 0 n → Ok v ≡ load_of base ram (Split p) n
   unfolding load_of verdict_of
   split-value p n v d e q s = rw (← e, q, s)
 
@@ -115,10 +119,19 @@ put-length base ram ys pa v m e q = ap length e ∙ stored-length base ram 1 pa 
 
 -- stores
 module _ (base : ℕ) (ram : List ℕ) where
-  pub whole-inside : (pa n : ℕ) (f : Bool) → f ≡ true → f ≡ within base (length ram) n pa → Inside ≡ verdict_of base (length ram) (Whole pa) n
+  pub whole-inside : (pa n : ℕ) (f : Bool) → f ≡ true → f ≡ within base (length ram) n pa → Ok tt ≡ verdict_of base (length ram) (Whole pa) n
   unfolding verdict_of
   whole-inside pa n f t e = rw (← e, t)
 
-  pub whole-outside : (pa n : ℕ) (f : Bool) → f ≡ false → f ≡ within base (length ram) n pa → Outside 0 pa ≡ verdict_of base (length ram) (Whole pa) n
+  pub whole-outside : (pa n : ℕ) (f : Bool) → f ≡ false → f ≡ within base (length ram) n pa → Err (outside_at 0 pa) ≡ verdict_of base (length ram) (Whole pa) n
   unfolding verdict_of
   whole-outside pa n f t e = rw (← e, t)
+
+-- TWO PAGES: after a first that was allowed
+pub both_two : (x y : Page) (va n pa : ℕ) (kind : Kind) (memory : ℕ → Option ℕ) (f : Answered) (on b : Bool) → f ≡ answered_of x va kind memory
+    → on ≡ stage1_on x.lookup.bank (regime_of x.lookup.privilege.level) → b ≡ crosses on va n → f.answer ≡ Ok pa → b ≡ true
+    → two_translations (record { change = f.change; answer = Ok pa }) y va kind memory ≡ both_of x y va n kind memory
+unfolding both_of two_translations
+both_two x y va n pa kind memory f on b e o c a h =
+    let split : crosses (stage1_on x.lookup.bank (regime_of x.lookup.privilege.level)) va n ≡ true = rw (← o, ← c) h in
+    rw (← e, a, split)

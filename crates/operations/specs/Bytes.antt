@@ -1,12 +1,10 @@
 -- Bytes moved between a value and RAM, the lowest first; `ByteMeaning` has it by each byte's own address.
-use Rattle.std.specs.Prelude.{if◌then◌else◌, ℕ, zero, suc, ◌+◌, ◌-◌, ◌*◌, ◌/◌, List, length, slice_index}
+use Rattle.std.specs.Prelude.{if◌then◌else◌, ℕ, zero, suc, ◌+◌, ◌-◌, ◌*◌, ◌/◌, List, length, slice_index, Option, Some, None, Ok, Err}
 use Rattle.word.specs.Ram.{within, little_endian, stored}
 use Rattle.operations.specs.Place.{byte_at, verdict_of, bytes_before}
-use Rattle.operations.specs.declared.{place.Pages.Pages, place.Place.Place, place.Verdict.Verdict, bytes.Got.Got}
-use Rattle.operations.specs.declared.bytes.Insn.{Insn}
+use Rattle.operations.specs.declared.{place.Pages.Pages, place.Place.Place}
+use Rattle.operations.specs.Answers.{Verdict, Got}
 use Rattle.operations.specs.declared.place.Place.TheVariants.{Whole, Split}
-use Rattle.operations.specs.declared.place.Verdict.TheVariants.{Inside, Outside}
-use Rattle.operations.specs.declared.bytes.Got.TheVariants.{Value, Abort}
 
 -- the byte at a physical address, 0 outside RAM
 unfoldable pub byte_in : ℕ → List ℕ → ℕ → ℕ
@@ -24,8 +22,8 @@ value_at base ram (Split p) n = split_value base ram p 0 n
 
 -- nothing, but the lowest byte outside, where there is one
 abbrev pub got_by : Verdict → ℕ → Got
-got_by Inside v = Value v
-got_by (Outside i pa) v = Abort i pa
+got_by (Ok x) v = Ok v
+got_by (Err out) v = Err out
 
 -- a load: its value, where all bytes lie in RAM
 unfoldable pub load_of : ℕ → List ℕ → Place → ℕ → Got
@@ -42,5 +40,5 @@ store_ram base ram (Whole pa) n v = stored base ram n pa v
 store_ram base ram (Split p) n v = split_stored base p v 0 (bytes_before (verdict_of base (length ram) (Split p) n) n) ram
 
 -- four bytes, or nothing where one of them lies outside
-unfoldable pub insn_of : ℕ → List ℕ → ℕ → Insn
-insn_of base ram pa = if within base (length ram) 4 pa then Insn.Value (little_endian ram 4 (pa - base)) else Insn.Outside
+unfoldable pub insn_of : ℕ → List ℕ → ℕ → Option ℕ
+insn_of base ram pa = if within base (length ram) 4 pa then Some (little_endian ram 4 (pa - base)) else None

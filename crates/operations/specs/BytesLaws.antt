@@ -1,6 +1,6 @@
 -- Laws of bytes moved: RAM keeps its length, a store changes its own bytes only, and a split value is a plain one where
 -- the pages lie side by side.
-use Rattle.std.specs.Prelude.{if◌then◌else◌, ◌≡◌, ℕ, zero, suc, ◌+◌, ◌-◌, ◌/◌, ◌<◌, ◌≤◌, Bool, true, false, ◌&&◌, List, ◌++◌, length, take, drop, ◌≢◌, nat_le, nat_lt, slice_index, refl}
+use Rattle.std.specs.Prelude.{if◌then◌else◌, ◌≡◌, ℕ, zero, suc, ◌+◌, ◌-◌, ◌/◌, ◌<◌, ◌≤◌, Bool, true, false, ◌&&◌, List, ◌++◌, length, take, drop, ◌≢◌, nat_le, nat_lt, slice_index, refl, Ok, Err}
 use Rattle.std.proofs.Common.{sym, ap, ◌∙◌, arith, leb-true, leb-false, ltb-true, ltb-false, le-leb, length-append, length-drop, length-take-le, get_or-append-add, get_or-take, get_or-drop}
 use Rattle.std.proofs.Math.ListN.{get_or-append}
 use Rattle.word.specs.Ram.{little_endian, bytes_of, within, written, stored}
@@ -10,7 +10,7 @@ use Rattle.operations.specs.PlaceLaws.{before-le}
 use Rattle.operations.specs.Bytes.{byte_in, split_value, split_stored, store_ram}
 use Rattle.operations.specs.declared.{place.Pages.Pages, place.Place.Place}
 use Rattle.operations.specs.declared.place.Place.TheVariants.{Whole, Split}
-use Rattle.operations.specs.declared.place.Verdict.TheVariants.{Inside, Outside}
+use Rattle.operations.specs.Answers.{Verdict, outside_at}
 
 written-length : (ram : List ℕ) (at n v : ℕ) → at + n ≤ length ram → length (written ram at n v) ≡ length ram
 written-length ram at n v h =
@@ -47,12 +47,13 @@ store_length base ram (Whole pa) n v = stored-length base ram n pa v
 store_length base ram (Split p) n v = split-length base p v 0 (bytes_before (verdict_of base (length ram) (Split p) n) n) ram
 
 -- an access that is not split and has a byte outside moves nothing
-pub whole-or-none : (base : ℕ) (ram : List ℕ) (pa n v i q : ℕ) → verdict_of base (length ram) (Whole pa) n ≡ Outside i q
+pub whole-or-none : (base : ℕ) (ram : List ℕ) (pa n v i q : ℕ) → verdict_of base (length ram) (Whole pa) n ≡ Err (outside_at i q)
     → store_ram base ram (Whole pa) n v ≡ ram
 unfolding verdict_of store_ram stored
 whole-or-none base ram pa n v i q = go (within base (length ram) n pa)
   where
-    go : (b : Bool) → (if b then Inside else Outside 0 pa) ≡ Outside i q → (if b then written ram (pa - base) n v else ram) ≡ ram
+    go : (b : Bool) → ◌≡◌ {A = Verdict} (if b then Ok tt else Err (outside_at 0 pa)) (Err (outside_at i q))
+        → (if b then written ram (pa - base) n v else ram) ≡ ram
     go true e = let z : ◌≡◌ {A = ℕ} 0 1 = cc in absurd (omega arith)
     go false e = refl
 

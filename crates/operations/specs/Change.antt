@@ -1,19 +1,18 @@
 -- A translation as what it changes. Cited by the contracts of this crate alone.
-use Rattle.std.specs.Prelude.{if◌then◌else◌, ℕ, zero, suc, Bool, true, false, ◌&&◌, ◌==◌, Option}
+use Rattle.std.specs.Prelude.{if◌then◌else◌, ℕ, Bool, true, false, ◌==◌, Option, Some, None, Ok, Err}
 use Rattle.sysreg.specs.declared.regs.Control.{Control}
 use Rattle.walk.specs.Regime.{bank_of, regime_of}
 use Rattle.walk.specs.declared.regime.Bank.{Bank}
 use Rattle.tlb.specs.Access.{may_hint}
-use Rattle.tlb.specs.Count.{hit_counted, walk_counted}
 use Rattle.tlb.specs.Entry.{blank, slot_of}
-use Rattle.tlb.specs.Hint.{hint_for, no_hint, on_page}
-use Rattle.tlb.specs.Resolve.{ask_of, changes_of}
-use Rattle.tlb.specs.declared.{access.Answer.Answer, access.Kind.Kind, access.Privilege.Privilege, count.Counts.Counts}
+use Rattle.tlb.specs.Hint.{hint_for, on_page}
+use Rattle.tlb.specs.Resolve.{ask_of, changes_of, kept_by}
+use Rattle.tlb.specs.declared.{access.Kind.Kind, access.Privilege.Privilege}
+use Rattle.tlb.specs.Answers.{Answer}
 use Rattle.tlb.specs.declared.{entry.Entry.Entry, entry.Current.Current, hint.Hint.Hint, resolve.Asked.Asked}
-use Rattle.tlb.specs.declared.{resolve.Resolved.Resolved, resolve.Source.Source}
-use Rattle.tlb.specs.declared.access.Answer.TheVariants.{Address, Status}
+use Rattle.tlb.specs.declared.{resolve.Resolved.Resolved}
 use Rattle.tlb.specs.declared.resolve.Asked.TheVariants.{Flat, Of}
-use Rattle.tlb.specs.declared.resolve.Source.TheVariants.{FromHint, FromFlat, FromEntry, FromWalk, NoLeaf}
+use Rattle.tlb.specs.declared.resolve.Source.TheVariants.{FromHint}
 use Rattle.operations.specs.Hinted.{hint_place, hint_serves}
 use Rattle.operations.specs.declared.{change.Change.Change, change.Lookup.Lookup}
 use Rattle.operations.specs.declared.{change.Page.Page, change.Answered.Answered}
@@ -37,36 +36,16 @@ lookup_with s privilege va kind =
 abbrev pub lookup_of : Control → Privilege → ℕ → Kind → Lookup
 lookup_of c privilege va kind = lookup_with (bank_of c (regime_of privilege.level)) privilege va kind
 
--- a hit is counted, a walk, or a walk whose entry is stored
-abbrev pub effect_of : Source → ℕ
-effect_of FromHint = 0
-effect_of FromFlat = 0
-effect_of FromEntry = 1
-effect_of FromWalk = 3
-effect_of NoLeaf = 2
+-- an allowed address becomes a hint, where hints may serve
+abbrev pub hint_made : Bool → ℕ → ℕ → Answer → Option Hint
+hint_made true level va (Ok pa) = Some (hint_for va level pa)
+hint_made true level va (Err f) = None
+hint_made false level va a = None
 
--- the counters after an effect at a level
-abbrev pub counted_as : ℕ → ℕ → Counts → Counts
-counted_as zero level k = k
-counted_as (suc zero) level k = hit_counted level k
-counted_as (suc (suc zero)) level k = walk_counted level k
-counted_as (suc (suc (suc zero))) level k = walk_counted level k
-counted_as (suc (suc (suc (suc n)))) level k = k
-
-abbrev pub kept_as : ℕ → Entry → Entry → Entry
-kept_as zero old made = old
-kept_as (suc zero) old made = old
-kept_as (suc (suc zero)) old made = old
-kept_as (suc (suc (suc zero))) old made = made
-kept_as (suc (suc (suc (suc n)))) old made = old
-
-abbrev pub allowed : Answer → Bool
-allowed (Address pa) = true
-allowed (Status f) = false
-
-abbrev pub address_of : Answer → ℕ
-address_of (Address pa) = pa
-address_of (Status f) = 0
+-- the hint of a place, after one that is stored there or none
+abbrev pub hint_or : Option Hint → Hint → Hint
+hint_or (Some h) old = h
+hint_or None old = old
 
 -- the changes of what is asked
 unfoldable pub miss_by : Asked → Bank → Privilege → Current → Entry → ℕ → Kind → (ℕ → Option ℕ) → Resolved
@@ -77,21 +56,19 @@ change_of k t va kind =
     record {
       hint_at = k.hint;
       entry_at = k.entry;
-      effect = effect_of t.source;
-      hints = may_hint k.privilege kind && allowed t.answer;
-      hint = hint_for va k.privilege.level (address_of t.answer);
+      source = t.source;
+      hint = hint_made (may_hint k.privilege kind) k.privilege.level va t.answer;
       made = t.made;
     }
 
--- nothing
+-- nothing, as by a hint
 abbrev pub unchanged : Lookup → Change
 unchanged k =
     record {
       hint_at = k.hint;
       entry_at = k.entry;
-      effect = 0;
-      hints = false;
-      hint = no_hint;
+      source = FromHint;
+      hint = None;
       made = blank;
     }
 
@@ -101,15 +78,15 @@ answered_by k t va kind = record { change = change_of k t va kind; answer = t.an
 
 unfoldable pub answered_of : Page → ℕ → Kind → (ℕ → Option ℕ) → Answered
 answered_of x va kind memory =
-    if hint_serves x.hint x.lookup.privilege va kind then record { change = unchanged x.lookup; answer = Address (on_page x.hint.pa va) }
+    if hint_serves x.hint x.lookup.privilege va kind then record { change = unchanged x.lookup; answer = Ok (on_page x.hint.pa va) }
     else answered_by x.lookup (miss_by x.lookup.asked x.lookup.bank x.lookup.privilege x.current x.entry va kind memory) va kind
 
 -- a page, as an earlier change leaves it
 abbrev pub hint_left : Change → Lookup → Hint → Hint
-hint_left f k h = if f.hints && k.hint == f.hint_at then f.hint else h
+hint_left f k h = if k.hint == f.hint_at then hint_or f.hint h else h
 
 abbrev pub entry_left : Change → Lookup → Entry → Entry
-entry_left f k e = if f.effect == 3 && k.entry == f.entry_at then f.made else e
+entry_left f k e = if k.entry == f.entry_at then kept_by f.source e f.made else e
 
 abbrev pub page_after : Change → Page → Page
 page_after f y =

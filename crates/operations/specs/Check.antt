@@ -1,10 +1,11 @@
 -- The numbers 1 to 7: docs/SCOPE.md, "Where each answer is given".
-use Rattle.std.specs.Prelude.{if◌then◌else◌, ℕ, ◌+◌, ◌*◌, ◌^◌, Bool, true, false, not, ◌||◌, List, [], ◌∷◌, nat_lt, Option, Some, None}
+use Rattle.std.specs.Prelude.{if◌then◌else◌, ℕ, ◌+◌, ◌*◌, ◌^◌, Bool, true, false, not, ◌||◌, List, [], ◌∷◌, nat_lt, Option, Some, None, Result, Ok, Err}
 use Rattle.word.specs.Bits.{align_down}
 use Rattle.word.specs.Ram.{width_of}
 use Rattle.sysreg.specs.Encoding.{register_at}
 use Rattle.sysreg.specs.Write.{names}
-use Rattle.operations.specs.declared.{call.Encoding.Encoding, call.Call.Call}
+use Rattle.operations.specs.declared.{call.Encoding.Encoding, call.Call.Call, check.Check.Check}
+use Rattle.operations.specs.declared.check.Check.TheVariants as Check
 use Rattle.operations.specs.declared.call.Call.TheVariants.{Translate, DataPa, FetchPa, Load, Store, Fetch, System, Register, Level, Mark, General}
 use Rattle.operations.specs.declared.call.Call.TheVariants.{Abort, Census}
 use Rattle.word.specs.declared.ram.Width.{Width}
@@ -70,3 +71,18 @@ first_of (row ∷ rows) = if row.0 then row.1 else first_of rows
 -- the number of the first check that a call misses; 0 where it misses none
 unfoldable pub missed_of : ℕ → ℕ → ℕ → Call → ℕ
 missed_of level base len call = first_of (checks_of level base len call)
+
+-- the number of a check
+abbrev pub number_of : Check → ℕ
+number_of Check.Level = 1
+number_of Check.Window = 2
+number_of Check.Size = 3
+number_of Check.Encoding = 4
+number_of Check.General = 5
+number_of Check.Key = 6
+number_of Check.Pages = 7
+
+-- the number of the check that is missed; 0 where none is
+abbrev pub number_missed : {A : Type 0} → Result A Check → ℕ
+number_missed (Ok x) = 0
+number_missed (Err check) = number_of check

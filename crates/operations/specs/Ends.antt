@@ -1,25 +1,19 @@
 -- How an access ends, after its translations: its answer, and the physical addresses that the core keeps. Exact
 -- definitions, on the code's own types. What they mean: `Says`, each answer as the requirement's value or fault;
 -- `ByteMeaning`, each byte by its own address.
-use Rattle.std.specs.Prelude.{ℕ, ◌+◌, Bool, true, false, List, length}
+use Rattle.std.specs.Prelude.{ℕ, ◌+◌, Bool, true, false, List, length, Option, Some, None, Ok, Err}
 use Rattle.word.specs.Bits.{wrap}
 use Rattle.fault.specs.First.{first}
 use Rattle.fault.specs.declared.Fault.{Fault}
-use Rattle.tlb.specs.declared.access.Answer.{Answer}
-use Rattle.tlb.specs.declared.access.Answer.TheVariants.{Address, Status}
+use Rattle.tlb.specs.Answers.{Answer}
+use Rattle.operations.specs.Answers.{Placed, Verdict, Got}
 use Rattle.exception.specs.declared.kind.Stop.{Stop}
 use Rattle.exception.specs.Abort.{data_abort_at, insn_abort_at}
 use Rattle.operations.specs.Place.{first_pa, verdict_of}
 use Rattle.operations.specs.Bytes.{load_of, store_ram, insn_of}
-use Rattle.operations.specs.declared.{place.Place.Place, place.Placed.Placed, place.Verdict.Verdict}
-use Rattle.operations.specs.declared.{bytes.Got.Got, bytes.Insn.Insn, ends.Reached.Reached, ends.LoadEnd.LoadEnd}
+use Rattle.operations.specs.declared.place.Place.{Place}
+use Rattle.operations.specs.declared.ends.LoadEnd.{LoadEnd}
 use Rattle.operations.specs.declared.{ends.StoreEnd.StoreEnd, ends.FetchEnd.FetchEnd}
-use Rattle.operations.specs.declared.place.Placed.TheVariants.{At}
-use Rattle.operations.specs.declared.place.Verdict.TheVariants.{Inside, Outside}
-use Rattle.operations.specs.declared.bytes.Got.TheVariants.{Value, Abort}
-use Rattle.operations.specs.declared.ends.LoadAnswer.TheVariants as Load
-use Rattle.operations.specs.declared.ends.StoreAnswer.TheVariants as Store
-use Rattle.operations.specs.declared.ends.FetchAnswer.TheVariants as Fetch
 
 -- the status of an external abort
 abbrev pub external : Fault
@@ -36,43 +30,43 @@ external_abort va i write = data_abort (wrap (va + i)) write external
 
 -- `last_pa` is set once the translations have succeeded, `abort_pa` by an external abort
 abbrev pub loaded_from : Place → Got → ℕ → ℕ → LoadEnd
-loaded_from place (Value v) abort va = record { last_pa = first_pa place; abort_pa = abort; answer = Load.Value v }
-loaded_from place (Abort i pa) abort va =
-    record { last_pa = first_pa place; abort_pa = pa; answer = Load.Stopped (external_abort va i false) }
+loaded_from place (Ok v) abort va = record { last_pa = first_pa place; abort_pa = abort; answer = Ok v }
+loaded_from place (Err out) abort va =
+    record { last_pa = first_pa place; abort_pa = out.pa; answer = Err (external_abort va out.index false) }
 
 unfoldable pub load_end : Placed → ℕ → ℕ → ℕ → List ℕ → ℕ → ℕ → LoadEnd
-load_end (Placed.Fault addr f) last abort base ram va n =
-    record { last_pa = last; abort_pa = abort; answer = Load.Stopped (data_abort addr false f) }
-load_end (At place) last abort base ram va n = loaded_from place (load_of base ram place n) abort va
+load_end (Err failed) last abort base ram va n =
+    record { last_pa = last; abort_pa = abort; answer = Err (data_abort failed.addr false failed.fault) }
+load_end (Ok place) last abort base ram va n = loaded_from place (load_of base ram place n) abort va
 
 -- STORES
 
 abbrev pub store_end_by : Verdict → ℕ → ℕ → StoreEnd
-store_end_by Inside abort va = record { abort_pa = abort; answer = Store.Done }
-store_end_by (Outside i pa) abort va = record { abort_pa = pa; answer = Store.Stopped (external_abort va i true) }
+store_end_by (Ok x) abort va = record { abort_pa = abort; answer = Ok tt }
+store_end_by (Err out) abort va = record { abort_pa = out.pa; answer = Err (external_abort va out.index true) }
 
 unfoldable pub store_end : Placed → ℕ → ℕ → List ℕ → ℕ → ℕ → StoreEnd
-store_end (Placed.Fault addr f) abort base ram va n =
-    record { abort_pa = abort; answer = Store.Stopped (data_abort addr true f) }
-store_end (At place) abort base ram va n = store_end_by (verdict_of base (length ram) place n) abort va
+store_end (Err failed) abort base ram va n =
+    record { abort_pa = abort; answer = Err (data_abort failed.addr true failed.fault) }
+store_end (Ok place) abort base ram va n = store_end_by (verdict_of base (length ram) place n) abort va
 
 -- a store that faults moves no byte
 unfoldable pub store_ram_end : Placed → ℕ → List ℕ → ℕ → ℕ → List ℕ
-store_ram_end (Placed.Fault addr f) base ram n v = ram
-store_ram_end (At place) base ram n v = store_ram base ram place n v
+store_ram_end (Err failed) base ram n v = ram
+store_ram_end (Ok place) base ram n v = store_ram base ram place n v
 
 -- FETCHES
 
-abbrev pub fetched_from : ℕ → Insn → ℕ → ℕ → FetchEnd
-fetched_from pa (Insn.Value v) abort va = record { abort_pa = abort; answer = Fetch.Value v }
-fetched_from pa Insn.Outside abort va = record { abort_pa = pa; answer = Fetch.Aborted (insn_abort_at va external) }
+abbrev pub fetched_from : ℕ → Option ℕ → ℕ → ℕ → FetchEnd
+fetched_from pa (Some v) abort va = record { abort_pa = abort; answer = Ok v }
+fetched_from pa None abort va = record { abort_pa = pa; answer = Err (insn_abort_at va external) }
 
 unfoldable pub fetch_end : Answer → ℕ → ℕ → List ℕ → ℕ → FetchEnd
-fetch_end (Status f) abort base ram va = record { abort_pa = abort; answer = Fetch.Aborted (insn_abort_at va f) }
-fetch_end (Address pa) abort base ram va = fetched_from pa (insn_of base ram pa) abort va
+fetch_end (Err f) abort base ram va = record { abort_pa = abort; answer = Err (insn_abort_at va f) }
+fetch_end (Ok pa) abort base ram va = fetched_from pa (insn_of base ram pa) abort va
 
 -- WHERE AN ACCESS WOULD GO
 
-abbrev pub reached_by : Answer → Reached
-reached_by (Address pa) = Reached.At pa
-reached_by (Status f) = Reached.Faults
+abbrev pub reached_by : Answer → Option ℕ
+reached_by (Ok pa) = Some pa
+reached_by (Err f) = None

@@ -1,4 +1,5 @@
 -- What the contracts of `operations` cite: the checks 1 to 7; where the bytes of an access lie; how it ends; the replies.
+pub mod Answers
 pub mod Check
 pub mod CheckCases
 pub mod Place

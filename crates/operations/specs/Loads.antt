@@ -2,7 +2,8 @@
 use Rattle.std.specs.Prelude.{if◌then◌else◌, ℕ, Bool, Option}
 use Rattle.walk.specs.Regime.{regime_of, stage1_on}
 use Rattle.walk.specs.declared.regime.Bank.{Bank}
-use Rattle.tlb.specs.declared.{access.Answer.Answer, access.Kind.Kind}
+use Rattle.tlb.specs.declared.access.Kind.{Kind}
+use Rattle.tlb.specs.Answers.{Answer}
 use Rattle.operations.specs.Change.{unchanged, answered_of, page_after}
 use Rattle.operations.specs.Place.{next_page, crosses, goes_on, placed_one, placed_both}
 use Rattle.operations.specs.declared.{change.Lookup.Lookup, change.Page.Page, change.Answered.Answered, loads.Both.Both}

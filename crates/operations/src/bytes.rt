@@ -6,23 +6,9 @@ ghost use Rattle.operations.specs.Bytes.{byte_in, split_value, split_stored, loa
 ghost use Rattle.operations.specs.AtOnce.{both_inside, Lie, both_at, both_stored, pair_at};
 
 use crate::place;
-use crate::place::{Pages, Place, Verdict};
+use crate::place::{Outside, Pages, Place};
 use word::ram::Width;
 use word::{bits, ram};
-
-// The value of a load, or its lowest byte outside RAM.
-#[derive(Clone, Copy)]
-pub enum Got {
-    Value(u64),
-    Abort { index: u64, pa: u64 },
-}
-
-// An instruction, or nothing where a byte of it lies outside RAM.
-#[derive(Clone, Copy)]
-pub enum Insn {
-    Value(u32),
-    Outside,
-}
 
 fn byte(ram: &[u8], at: usize) -> u64
     requires { at < length ram.now }
@@ -64,31 +50,23 @@ fn split_value(base: u64, ram: &[u8], p: Pages, n: u64) -> u64
 }
 
 #[tactic(auto, unfolding(crate::specs::Bytes::load_of, crate::specs::Place::verdict_of))]
-fn load_split(base: u64, ram: &[u8], p: Pages, n: u64) -> Got
+fn load_split(base: u64, ram: &[u8], p: Pages, n: u64) -> Result<u64, Outside>
     requires { n ≤ 8 }
     ensures { result ≡ load_of base ram.now (Place.Split p) n }
 {
-    match place::first_outside(base, ram.len() as u64, p, n) {
-        Verdict::Inside => {
-            let v = split_value(base, ram, p, n);
-            Got::Value(v)
-        }
-        Verdict::Outside { index, pa } => Got::Abort { index, pa },
-    }
+    place::first_outside(base, ram.len() as u64, p, n)?;
+    Ok(split_value(base, ram, p, n))
 }
 
 #[tactic(auto, unfolding(crate::specs::Bytes::load_of, crate::specs::Place::verdict_of, word::specs::Ram::word_at))]
-fn load_whole(base: u64, ram: &[u8], pa: u64, width: Width) -> Got
+fn load_whole(base: u64, ram: &[u8], pa: u64, width: Width) -> Result<u64, Outside>
     ensures { result ≡ load_of base ram.now (Place.Whole pa) (bytes_in width) }
 {
-    match ram::read(base, ram, width, pa) {
-        Some(v) => Got::Value(v),
-        None => Got::Abort { index: 0, pa },
-    }
+    ram::read(base, ram, width, pa).ok_or(Outside { index: 0, pa })
 }
 
 // A load from a place.
-pub fn load(base: u64, ram: &[u8], place: Place, width: Width) -> Got
+pub fn load(base: u64, ram: &[u8], place: Place, width: Width) -> Result<u64, Outside>
     ensures { result ≡ load_of base ram.now place (bytes_in width) }
 {
     match place {
@@ -116,7 +94,7 @@ fn put_split(base: u64, ram: &mut [u8], p: Pages, n: u64, value: u64)
 
 // The bytes before the first outside are written.
 #[tactic(auto, unfolding(crate::specs::Place::verdict_of, crate::specs::Bytes::store_ram))]
-fn store_split(base: u64, ram: &mut [u8], p: Pages, n: u64, value: u64) -> Verdict
+fn store_split(base: u64, ram: &mut [u8], p: Pages, n: u64, value: u64) -> Result<(), Outside>
     ensures { (result ≡ verdict_of base (length ram.old) (Place.Split p) n)
         × (ram.new ≡ store_ram base ram.old (Place.Split p) n value) }
 {
@@ -127,20 +105,25 @@ fn store_split(base: u64, ram: &mut [u8], p: Pages, n: u64, value: u64) -> Verdi
 }
 
 #[tactic(auto, unfolding(crate::specs::Place::verdict_of, crate::specs::Bytes::store_ram))]
-fn store_whole(base: u64, ram: &mut [u8], pa: u64, width: Width, value: u64) -> Verdict
+fn store_whole(base: u64, ram: &mut [u8], pa: u64, width: Width, value: u64) -> Result<(), Outside>
     ensures { (result ≡ verdict_of base (length ram.old) (Place.Whole pa) (bytes_in width))
         × (ram.new ≡ store_ram base ram.old (Place.Whole pa) (bytes_in width) value) }
 {
-    let made = ram::write(base, ram, width, pa, value);
-    if made {
-        Verdict::Inside
+    if ram::write(base, ram, width, pa, value) {
+        Ok(())
     } else {
-        Verdict::Outside { index: 0, pa }
+        Err(Outside { index: 0, pa })
     }
 }
 
 // A store to a place.
-pub fn store(base: u64, ram: &mut [u8], place: Place, width: Width, value: u64) -> Verdict
+pub fn store(
+    base: u64,
+    ram: &mut [u8],
+    place: Place,
+    width: Width,
+    value: u64,
+) -> Result<(), Outside>
     ensures { (result ≡ verdict_of base (length ram.old) place (bytes_in width))
         × (ram.new ≡ store_ram base ram.old place (bytes_in width) value) }
 {
@@ -174,10 +157,8 @@ fn joined(base: u64, ram: &[u8], p: Pages, n: u64) -> u64
 pub fn read_both(base: u64, ram: &[u8], p: Pages, n: u64) -> Option<u64>
     ensures { result ≡ both_at base ram.now p n }
 {
-    let fits = place::both_inside(base, ram.len() as u64, p, n);
-    if fits {
-        let v = joined(base, ram, p, n);
-        Some(v)
+    if place::both_inside(base, ram.len() as u64, p, n) {
+        Some(joined(base, ram, p, n))
     } else {
         None
     }
@@ -237,14 +218,12 @@ fn word32(ram: &[u8], at: usize) -> u32
 
 // The instruction at pa.
 #[tactic(auto, unfolding(crate::specs::Bytes::insn_of))]
-pub fn insn_at(base: u64, ram: &[u8], pa: u64) -> Insn
+pub fn insn_at(base: u64, ram: &[u8], pa: u64) -> Option<u32>
     ensures { result ≡ insn_of base ram.now pa }
 {
-    let fits = ram::inside(base, ram.len() as u64, 4, pa);
-    if fits {
-        let at = (pa - base) as usize;
-        Insn::Value(word32(ram, at))
+    if ram::inside(base, ram.len() as u64, 4, pa) {
+        Some(word32(ram, (pa - base) as usize))
     } else {
-        Insn::Outside
+        None
     }
 }

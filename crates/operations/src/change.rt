@@ -1,15 +1,15 @@
 // A translation as what it changes, and the cells of the page that it is made of.
-ghost use Rattle.std.specs.Prelude.{◌≡◌};
+ghost use Rattle.std.specs.Prelude.{◌≡◌, Ok};
 ghost use Rattle.word.specs.Ram.{word_at};
-ghost use Rattle.operations.specs.Change.{entry_place, lookup_of, effect_of, allowed, address_of, miss_by};
+ghost use Rattle.operations.specs.Change.{entry_place, lookup_of, miss_by, hint_made};
 ghost use Rattle.operations.specs.Change.{change_of, unchanged, answered_of, hint_left, entry_left, page_after};
 ghost use Rattle.tlb.specs.Hint.{on_page};
 ghost use Rattle.tlb.specs.Resolve.{ask_of};
-ghost use Rattle.tlb.specs.declared.access.Answer.TheVariants.{Address};
 
 use crate::{hinted, lookup};
+use fault::Fault;
 use sysreg::regs::Control;
-use tlb::access::{Answer, Kind, Privilege};
+use tlb::access::{Kind, Privilege};
 use tlb::entry::{Current, Entry};
 use tlb::hint::Hint;
 use tlb::resolve::{Asked, Resolved, Source};
@@ -35,15 +35,13 @@ pub struct Page {
     pub entry: Entry,
 }
 
-// What a translation changes. By effect 1 a hit is counted, by 2 a walk, by 3 a walk whose entry is stored; the hint is
-// stored where hints says so.
+// What a translation changes: by the source of its answer the counters and the entry, and a hint where one is stored.
 #[derive(Clone, Copy)]
 pub struct Change {
     pub hint_at: usize,
     pub entry_at: usize,
-    pub effect: u8,
-    pub hints: bool,
-    pub hint: Hint,
+    pub source: Source,
+    pub hint: Option<Hint>,
     pub made: Entry,
 }
 
@@ -51,7 +49,7 @@ pub struct Change {
 #[derive(Clone, Copy)]
 pub struct Answered {
     pub change: Change,
-    pub answer: Answer,
+    pub answer: Result<u64, Fault>,
 }
 
 // The place of the entry that is asked, any with stage 1 off.
@@ -97,38 +95,6 @@ pub fn lookup_of(control: Control, privilege: Privilege, va: u64, kind: Kind) ->
     }
 }
 
-// What an answer's source changes.
-fn effect_of(source: Source) -> u8
-    ensures { result ≡ effect_of source }
-{
-    match source {
-        Source::FromHint => 0,
-        Source::FromFlat => 0,
-        Source::FromEntry => 1,
-        Source::FromWalk => 3,
-        Source::NoLeaf => 2,
-    }
-}
-
-fn is_address(answer: Answer) -> bool
-    ensures { result ≡ allowed answer }
-{
-    match answer {
-        Answer::Address(_) => true,
-        Answer::Status(_) => false,
-    }
-}
-
-// The address of an answer, 0 where it has none.
-fn address_of(answer: Answer) -> u64
-    ensures { result ≡ address_of answer }
-{
-    match answer {
-        Answer::Address(pa) => pa,
-        Answer::Status(_) => 0,
-    }
-}
-
 // A translation that no hint serves.
 #[tactic(auto, unfolding(crate::specs::Change::miss_by))]
 pub fn miss(
@@ -142,35 +108,36 @@ pub fn miss(
 ) -> Resolved
     ensures { result ≡ miss_by k.asked k.bank k.privilege at e va kind (word_at base ram.now 8) }
 {
-    let bank = k.bank;
-    let privilege = k.privilege;
-    let asked = k.asked;
-    match asked {
-        Asked::Flat => {
-            let made = Entry::blank();
-            Resolved {
-                answer: Answer::Address(va),
-                source: Source::FromFlat,
-                made,
-            }
-        }
-        Asked::Of(q) => resolve::resolve(q, bank, privilege, at, e, va, kind, base, ram),
+    match k.asked {
+        Asked::Flat => Resolved {
+            answer: Ok(va),
+            source: Source::FromFlat,
+            made: Entry::blank(),
+        },
+        Asked::Of(q) => resolve::resolve(q, k.bank, k.privilege, at, e, va, kind, base, ram),
     }
 }
 
-// Nothing changes.
+// Nothing changes, as by a hint.
 pub fn unchanged(k: Lookup) -> Change
     ensures { result ≡ unchanged k }
 {
-    let hint = Hint::none();
-    let made = Entry::blank();
     Change {
         hint_at: k.hint,
         entry_at: k.entry,
-        effect: 0,
-        hints: false,
-        hint,
-        made,
+        source: Source::FromHint,
+        hint: None,
+        made: Entry::blank(),
+    }
+}
+
+// An allowed address becomes a hint, where hints may serve.
+fn hint_made(may: bool, level: u8, va: u64, answer: Result<u64, Fault>) -> Option<Hint>
+    ensures { result ≡ hint_made may level va answer }
+{
+    match answer {
+        Ok(pa) if may => Some(Hint::new(va, level, pa)),
+        _ => None,
     }
 }
 
@@ -178,34 +145,13 @@ pub fn unchanged(k: Lookup) -> Change
 fn change_of(k: Lookup, t: Resolved, va: u64, kind: Kind) -> Change
     ensures { result ≡ change_of k t va kind }
 {
-    let privilege = k.privilege;
-    let answer = t.answer;
-    let source = t.source;
-    let made = t.made;
-    let may = privilege.may_hint(kind);
-    let is = is_address(answer);
-    let pa = address_of(answer);
-    let hint = Hint::new(va, privilege.level, pa);
-    let effect = effect_of(source);
+    let may = k.privilege.may_hint(kind);
     Change {
         hint_at: k.hint,
         entry_at: k.entry,
-        effect,
-        hints: may & is,
-        hint,
-        made,
-    }
-}
-
-// A translation by the hint, where it serves.
-fn by_hint(k: Lookup, h: Hint, va: u64) -> Answered
-    ensures { result ≡ record { change = unchanged k; answer = Address (on_page h.pa va) } }
-{
-    let change = unchanged(k);
-    let pa = hint::on_page(h.pa, va);
-    Answered {
-        change,
-        answer: Answer::Address(pa),
+        source: t.source,
+        hint: hint_made(may, k.privilege.level, va, t.answer),
+        made: t.made,
     }
 }
 
@@ -215,17 +161,16 @@ pub fn resolve_page(x: Page, va: u64, kind: Kind, base: u64, ram: &[u8]) -> Answ
     ensures { result ≡ answered_of x va kind (word_at base ram.now 8) }
 {
     let k = x.lookup;
-    let at = x.current;
-    let h = x.hint;
-    let e = x.entry;
-    let hit = hinted::served(h, k.privilege, va, kind);
-    if hit {
-        by_hint(k, h, va)
-    } else {
-        let t = miss(k, at, e, va, kind, base, ram);
-        let change = change_of(k, t, va, kind);
-        let answer = t.answer;
-        Answered { change, answer }
+    if hinted::served(x.hint, k.privilege, va, kind) {
+        return Answered {
+            change: unchanged(k),
+            answer: Ok(hint::on_page(x.hint.pa, va)),
+        };
+    }
+    let t = miss(k, x.current, x.entry, va, kind, base, ram);
+    Answered {
+        change: change_of(k, t, va, kind),
+        answer: t.answer,
     }
 }
 
@@ -233,32 +178,31 @@ pub fn resolve_page(x: Page, va: u64, kind: Kind, base: u64, ram: &[u8]) -> Answ
 fn hint_after(f: Change, k: Lookup, h: Hint) -> Hint
     ensures { result ≡ hint_left f k h }
 {
-    let same = f.hints & (k.hint == f.hint_at);
-    if same { f.hint } else { h }
+    let same = k.hint == f.hint_at;
+    match f.hint {
+        Some(stored) if same => stored,
+        _ => h,
+    }
 }
 
 // The entry of a page, as an earlier change leaves it.
 fn entry_after(f: Change, k: Lookup, e: Entry) -> Entry
     ensures { result ≡ entry_left f k e }
 {
-    let same = (f.effect == 3) & (k.entry == f.entry_at);
-    if same { f.made } else { e }
+    let same = k.entry == f.entry_at;
+    match f.source {
+        Source::FromWalk if same => f.made,
+        _ => e,
+    }
 }
 
 // A page, as an earlier change leaves it.
 pub fn after(f: Change, y: Page) -> Page
     ensures { result ≡ page_after f y }
 {
-    let k = y.lookup;
-    let current = y.current;
-    let h = y.hint;
-    let e = y.entry;
-    let hint = hint_after(f, k, h);
-    let entry = entry_after(f, k, e);
     Page {
-        lookup: k,
-        current,
-        hint,
-        entry,
+        hint: hint_after(f, y.lookup, y.hint),
+        entry: entry_after(f, y.lookup, y.entry),
+        ..y
     }
 }

@@ -2,58 +2,30 @@
 ghost use Rattle.std.specs.Prelude.{◌≡◌};
 ghost use Rattle.word.specs.Ram.{bytes_in};
 ghost use Rattle.operations.specs.Ends.{data_abort, external_abort, load_end, store_end, store_ram_end, fetch_end};
-ghost use Rattle.operations.specs.Ends.{reached_by};
 
-use crate::bytes::{Got, Insn};
-use crate::place::{Placed, Verdict};
+use crate::place::{FaultAt, Outside, Place};
 use crate::{bytes, place};
 use exception::kind::{DataAbort, Exception, InsnAbort, Stop};
 use fault::Fault;
-use tlb::access::Answer;
 use word::ram::Width;
-
-#[derive(Clone, Copy)]
-pub enum LoadAnswer {
-    Value(u64),
-    Stopped(Stop),
-}
-
-#[derive(Clone, Copy)]
-pub enum StoreAnswer {
-    Done,
-    Stopped(Stop),
-}
-
-#[derive(Clone, Copy)]
-pub enum FetchAnswer {
-    Value(u32),
-    Aborted(Exception),
-}
-
-// Where an access would go, or no more than that it faults.
-#[derive(Clone, Copy)]
-pub enum Reached {
-    At(u64),
-    Faults,
-}
 
 #[derive(Clone, Copy)]
 pub struct LoadEnd {
     pub last_pa: u64,
     pub abort_pa: u64,
-    pub answer: LoadAnswer,
+    pub answer: Result<u64, Stop>,
 }
 
 #[derive(Clone, Copy)]
 pub struct StoreEnd {
     pub abort_pa: u64,
-    pub answer: StoreAnswer,
+    pub answer: Result<(), Stop>,
 }
 
 #[derive(Clone, Copy)]
 pub struct FetchEnd {
     pub abort_pa: u64,
-    pub answer: FetchAnswer,
+    pub answer: Result<u32, Exception>,
 }
 
 // The status of an external abort.
@@ -77,7 +49,7 @@ fn external_abort(va: u64, index: u64, write: bool) -> Stop
 // A load keeps the first byte's physical address once it has translated, also where it then aborts.
 #[tactic(auto, unfolding(crate::specs::Ends::load_end))]
 pub fn load_end(
-    placed: Placed,
+    placed: Result<Place, FaultAt>,
     last: u64,
     abort: u64,
     base: u64,
@@ -88,28 +60,28 @@ pub fn load_end(
     ensures { result ≡ load_end placed last abort base ram.now va (bytes_in width) }
 {
     match placed {
-        Placed::Fault { addr, fault } => {
+        Err(FaultAt { addr, fault }) => {
             let stop = data_abort(addr, false, fault);
             LoadEnd {
                 last_pa: last,
                 abort_pa: abort,
-                answer: LoadAnswer::Stopped(stop),
+                answer: Err(stop),
             }
         }
-        Placed::At(at) => {
+        Ok(at) => {
             let first = place::first_pa(at);
             match bytes::load(base, ram, at, width) {
-                Got::Value(v) => LoadEnd {
+                Ok(v) => LoadEnd {
                     last_pa: first,
                     abort_pa: abort,
-                    answer: LoadAnswer::Value(v),
+                    answer: Ok(v),
                 },
-                Got::Abort { index, pa } => {
+                Err(Outside { index, pa }) => {
                     let stop = external_abort(va, index, false);
                     LoadEnd {
                         last_pa: first,
                         abort_pa: pa,
-                        answer: LoadAnswer::Stopped(stop),
+                        answer: Err(stop),
                     }
                 }
             }
@@ -119,7 +91,7 @@ pub fn load_end(
 
 #[tactic(auto, unfolding(crate::specs::Ends::store_end, crate::specs::Ends::store_ram_end))]
 pub fn store_end(
-    placed: Placed,
+    placed: Result<Place, FaultAt>,
     abort: u64,
     base: u64,
     ram: &mut [u8],
@@ -131,23 +103,23 @@ pub fn store_end(
         × (ram.new ≡ store_ram_end placed base ram.old (bytes_in width) value) }
 {
     match placed {
-        Placed::Fault { addr, fault } => {
+        Err(FaultAt { addr, fault }) => {
             let stop = data_abort(addr, true, fault);
             StoreEnd {
                 abort_pa: abort,
-                answer: StoreAnswer::Stopped(stop),
+                answer: Err(stop),
             }
         }
-        Placed::At(at) => match bytes::store(base, ram, at, width, value) {
-            Verdict::Inside => StoreEnd {
+        Ok(at) => match bytes::store(base, ram, at, width, value) {
+            Ok(()) => StoreEnd {
                 abort_pa: abort,
-                answer: StoreAnswer::Done,
+                answer: Ok(()),
             },
-            Verdict::Outside { index, pa } => {
+            Err(Outside { index, pa }) => {
                 let stop = external_abort(va, index, true);
                 StoreEnd {
                     abort_pa: pa,
-                    answer: StoreAnswer::Stopped(stop),
+                    answer: Err(stop),
                 }
             }
         },
@@ -156,38 +128,26 @@ pub fn store_end(
 
 // A fetch reads four bytes and is never split.
 #[tactic(auto, unfolding(crate::specs::Ends::fetch_end))]
-pub fn fetch_end(at: Answer, abort: u64, base: u64, ram: &[u8], va: u64) -> FetchEnd
+pub fn fetch_end(at: Result<u64, Fault>, abort: u64, base: u64, ram: &[u8], va: u64) -> FetchEnd
     ensures { result ≡ fetch_end at abort base ram.now va }
 {
     match at {
-        Answer::Status(fault) => FetchEnd {
+        Err(fault) => FetchEnd {
             abort_pa: abort,
-            answer: FetchAnswer::Aborted(Exception::InsnAbort(InsnAbort { addr: va, fault })),
+            answer: Err(Exception::InsnAbort(InsnAbort { addr: va, fault })),
         },
-        Answer::Address(pa) => match bytes::insn_at(base, ram, pa) {
-            Insn::Value(v) => FetchEnd {
+        Ok(pa) => match bytes::insn_at(base, ram, pa) {
+            Some(v) => FetchEnd {
                 abort_pa: abort,
-                answer: FetchAnswer::Value(v),
+                answer: Ok(v),
             },
-            Insn::Outside => {
+            None => {
                 let fault = fault::first(EXTERNAL);
                 FetchEnd {
                     abort_pa: pa,
-                    answer: FetchAnswer::Aborted(Exception::InsnAbort(InsnAbort {
-                        addr: va,
-                        fault,
-                    })),
+                    answer: Err(Exception::InsnAbort(InsnAbort { addr: va, fault })),
                 }
             }
         },
-    }
-}
-
-pub fn reach(at: Answer) -> Reached
-    ensures { result ≡ reached_by at }
-{
-    match at {
-        Answer::Address(pa) => Reached::At(pa),
-        Answer::Status(_) => Reached::Faults,
     }
 }

@@ -1,80 +1,60 @@
 // The translations of a load or a store, on small values: one page or two.
-ghost use Rattle.std.specs.Prelude.{◌≡◌};
+ghost use Rattle.std.specs.Prelude.{◌≡◌, Ok};
 ghost use Rattle.word.specs.Ram.{word_at};
-ghost use Rattle.operations.specs.Loads.{more_of, two_translations, one_translation, both_of};
+ghost use Rattle.operations.specs.Loads.{two_translations, both_of};
 
-use crate::change::{Answered, Change, Page};
-use crate::place::Placed;
+use crate::change::{Change, Page};
+use crate::place::{FaultAt, Pages, Place};
 use crate::{change, lookup, place};
-use tlb::access::{Answer, Kind};
-use walk::regime::Bank;
+use tlb::access::Kind;
 
 // What the translations of an access change, and what they found. A page that is not translated changes nothing.
 #[derive(Clone, Copy)]
 pub struct Both {
     pub first: Change,
     pub second: Change,
-    pub placed: Placed,
+    pub placed: Result<Place, FaultAt>,
 }
 
-// The second page's translation, after the first one's.
+// The second page's translation, after the first one's, which was allowed.
 #[tactic(auto, unfolding(crate::specs::Loads::two_translations))]
-fn two(f: Answered, y: Page, va: u64, kind: Kind, base: u64, ram: &[u8]) -> Both
-    ensures { result ≡ two_translations f y va kind (word_at base ram.now 8) }
+fn two(first: Change, pa: u64, y: Page, va: u64, kind: Kind, base: u64, ram: &[u8]) -> Both
+    ensures { result ≡ two_translations (record { change = first; answer = Ok pa }) y va kind (word_at base ram.now 8) }
 {
-    let first = f.change;
-    let at = f.answer;
     let next = place::next_page(va);
-    let z = change::after(first, y);
-    let t = change::resolve_page(z, next, kind, base, ram);
-    let answer = t.answer;
-    let placed = place::both(va, at, answer);
-    let second = t.change;
+    let t = change::resolve_page(change::after(first, y), next, kind, base, ram);
+    let placed = match t.answer {
+        Ok(pa2) => Ok(Place::Split(Pages {
+            in_page: place::in_page(va),
+            pa,
+            pa2,
+        })),
+        Err(fault) => Err(FaultAt { addr: next, fault }),
+    };
     Both {
         first,
-        second,
+        second: t.change,
         placed,
     }
-}
-
-// One page's translation alone.
-fn one(f: Answered, y: Page, va: u64) -> Both
-    ensures { result ≡ one_translation f y va }
-{
-    let first = f.change;
-    let answer = f.answer;
-    let k = y.lookup;
-    let second = change::unchanged(k);
-    let placed = place::one(va, answer);
-    Both {
-        first,
-        second,
-        placed,
-    }
-}
-
-// Whether the second page is translated, after the first one's answer.
-fn goes_on(bank: Bank, level: u8, answer: Answer, va: u64, n: u64) -> bool
-    ensures { result ≡ more_of bank level answer va n }
-{
-    let on = lookup::on_at(bank, level);
-    let split = place::crosses(on, va, n);
-    place::goes_on(answer, split)
 }
 
 // The translations of an access of n bytes, on the cells taken out.
-#[tactic(auto, unfolding(crate::specs::Loads::both_of))]
+#[tactic(auto, unfolding(crate::specs::Loads::both_of), using(crate::proofs::Moves::both_two))]
 pub fn translations(x: Page, y: Page, va: u64, n: u64, kind: Kind, base: u64, ram: &[u8]) -> Both
     ensures { result ≡ both_of x y va n kind (word_at base ram.now 8) }
 {
     let k = x.lookup;
-    let bank = k.bank;
     let f = change::resolve_page(x, va, kind, base, ram);
-    let answer = f.answer;
-    let more = goes_on(bank, k.privilege.level, answer, va, n);
-    if more {
-        two(f, y, va, kind, base, ram)
-    } else {
-        one(f, y, va)
+    let on = lookup::on_at(k.bank, k.privilege.level);
+    let crosses = place::crosses(on, va, n);
+    let placed = match f.answer {
+        Ok(pa) if crosses => return two(f.change, pa, y, va, kind, base, ram),
+        Ok(pa) => Ok(Place::Whole(pa)),
+        Err(fault) => Err(FaultAt { addr: va, fault }),
+    };
+    Both {
+        first: f.change,
+        second: change::unchanged(y.lookup),
+        placed,
     }
 }

@@ -1,11 +1,10 @@
 // Where the bytes of an access lie, and which of them lie outside RAM.
 ghost use Rattle.std.specs.Prelude.{◌≡◌, ◌≤◌};
-ghost use Rattle.operations.specs.Place.{in_page, next_page, crosses as crosses_of, goes_on, placed_one, placed_both};
+ghost use Rattle.operations.specs.Place.{in_page, next_page, crosses as crosses_of};
 ghost use Rattle.operations.specs.Place.{first_pa, byte_at, first_outside, bytes_before};
 ghost use Rattle.operations.specs.AtOnce.{both_inside};
 
 use fault::Fault;
-use tlb::access::Answer;
 use word::ram;
 
 // The first in_page bytes lie from pa on, the others from pa2 on.
@@ -22,18 +21,18 @@ pub enum Place {
     Split(Pages),
 }
 
-// What the translations of an access found: its place, or a fault and its address.
+// A fault, and the address that it is reported at.
 #[derive(Clone, Copy)]
-pub enum Placed {
-    At(Place),
-    Fault { addr: u64, fault: Fault },
+pub struct FaultAt {
+    pub addr: u64,
+    pub fault: Fault,
 }
 
-// Whether all bytes lie in RAM, or else the lowest that does not, by its index, and its physical address.
+// The lowest byte of an access that lies outside RAM, and its physical address.
 #[derive(Clone, Copy)]
-pub enum Verdict {
-    Inside,
-    Outside { index: u64, pa: u64 },
+pub struct Outside {
+    pub index: u64,
+    pub pa: u64,
 }
 
 // The number of bytes from va to the end of its page.
@@ -60,41 +59,6 @@ pub fn crosses(on: bool, va: u64, n: u64) -> bool
     on & (here < n)
 }
 
-// Whether the second page is translated, after the first one's answer.
-pub fn goes_on(first: Answer, split: bool) -> bool
-    ensures { result ≡ goes_on first split }
-{
-    match first {
-        Answer::Address(_) => split,
-        Answer::Status(_) => false,
-    }
-}
-
-// An access that took one translation.
-pub fn one(va: u64, first: Answer) -> Placed
-    ensures { result ≡ placed_one va first }
-{
-    match first {
-        Answer::Address(pa) => Placed::At(Place::Whole(pa)),
-        Answer::Status(fault) => Placed::Fault { addr: va, fault },
-    }
-}
-
-// An access that took two: the second one's fault is at the next page.
-pub fn both(va: u64, first: Answer, second: Answer) -> Placed
-    ensures { result ≡ placed_both va first second }
-{
-    let in_page = in_page(va);
-    let next = next_page(va);
-    match first {
-        Answer::Address(pa) => match second {
-            Answer::Address(pa2) => Placed::At(Place::Split(Pages { in_page, pa, pa2 })),
-            Answer::Status(fault) => Placed::Fault { addr: next, fault },
-        },
-        Answer::Status(fault) => Placed::Fault { addr: va, fault },
-    }
-}
-
 // The first byte's physical address.
 pub fn first_pa(place: Place) -> u64
     ensures { result ≡ first_pa place }
@@ -117,7 +81,7 @@ pub fn byte_at(p: Pages, i: u64) -> u64
 }
 
 // The bytes of a split access, judged one by one. This is the only place where they are.
-pub fn first_outside(base: u64, len: u64, p: Pages, n: u64) -> Verdict
+pub fn first_outside(base: u64, len: u64, p: Pages, n: u64) -> Result<(), Outside>
     ensures { result ≡ first_outside base len p 0 n }
 {
     let mut i: u64 = 0;
@@ -127,19 +91,19 @@ pub fn first_outside(base: u64, len: u64, p: Pages, n: u64) -> Verdict
         if fits {
             i += 1;
         } else {
-            return Verdict::Outside { index: i, pa };
+            return Err(Outside { index: i, pa });
         }
     }
-    Verdict::Inside
+    Ok(())
 }
 
 // How many of n bytes come before the first outside.
-pub fn bytes_before(v: Verdict, n: u64) -> u64
+pub fn bytes_before(v: Result<(), Outside>, n: u64) -> u64
     ensures { result ≡ bytes_before v n }
 {
     match v {
-        Verdict::Inside => n,
-        Verdict::Outside { index, pa: _ } => index,
+        Ok(()) => n,
+        Err(out) => out.index,
     }
 }
 

@@ -1,5 +1,5 @@
 // What holds of every access and check. Each function computes nothing: its contract is the theorem.
-ghost use Rattle.std.specs.Prelude.{◌≡◌, ℕ, ◌+◌, ◌-◌, ◌*◌, ◌/◌, ◌^◌, ◌<◌, ◌≤◌, Bool, true, false, List, length, ◌≢◌};
+ghost use Rattle.std.specs.Prelude.{◌≡◌, ℕ, ◌+◌, ◌-◌, ◌*◌, ◌/◌, ◌^◌, ◌<◌, ◌≤◌, Bool, true, false, List, length, ◌≢◌, Ok, Err};
 ghost use Rattle.std.specs.Prelude.{slice_index};
 ghost use Rattle.word.specs.Bits.{wrap};
 ghost use Rattle.word.specs.Ram.{within};
@@ -12,14 +12,14 @@ ghost use Rattle.operations.specs.BytesLaws.{address_in};
 ghost use Rattle.operations.specs.declared.place.Pages.{Pages};
 ghost use Rattle.operations.specs.declared.place.Place.{Place};
 ghost use Rattle.operations.specs.declared.place.Place.TheVariants.{Whole};
-ghost use Rattle.operations.specs.declared.place.Verdict.TheVariants.{Inside, Outside};
+ghost use Rattle.operations.specs.Answers.{outside_at};
 
 // The byte that an access over two pages is refused by is the lowest that lies outside RAM, and where there is none
 // every byte lies inside. It rules out an abort that reports a later byte.
 pub fn byte_at_fault()
     ensures lowest { (base len : ℕ) (p : Pages) (k n i pa : ℕ)
-        → first_outside base len p k n ≡ Outside i pa → Lowest base len p k n i pa }
-    ensures all_inside { (base len : ℕ) (p : Pages) (k n : ℕ) → first_outside base len p k n ≡ Inside
+        → first_outside base len p k n ≡ Err (outside_at i pa) → Lowest base len p k n i pa }
+    ensures all_inside { (base len : ℕ) (p : Pages) (k n : ℕ) → first_outside base len p k n ≡ Ok tt
         → (j : ℕ) → k ≤ j → j < k + n → within base len 1 (byte_at p j) ≡ true }
 {}
 
@@ -40,7 +40,7 @@ pub fn bytes_that_a_store_leaves()
         → ((i : ℕ) → i < n → base + k ≢ address_in place i)
         → slice_index (store_ram base ram place n v) k ≡ slice_index ram k }
     ensures whole_or_none { (base : ℕ) (ram : List ℕ) (pa n v i q : ℕ)
-        → verdict_of base (length ram) (Whole pa) n ≡ Outside i q → store_ram base ram (Whole pa) n v ≡ ram }
+        → verdict_of base (length ram) (Whole pa) n ≡ Err (outside_at i q) → store_ram base ram (Whole pa) n v ≡ ram }
 {}
 
 // The checks of a census: their numbers in order, computed, and both parts of a range that is allowed are allowed.

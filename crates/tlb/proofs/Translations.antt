@@ -1,5 +1,5 @@
 -- A translation gives the plain model's answer, does to it what the requirement says, and keeps the cache well-formed.
-use Rattle.std.specs.Prelude.{if◌then◌else◌, ◌≡◌, ℕ, ◌/◌, ◌%◌, ◌<◌, ◌≤◌, Bool, true, false, ◌&&◌, ◌==◌, slice_index_or, slice_set}
+use Rattle.std.specs.Prelude.{if◌then◌else◌, ◌≡◌, ℕ, ◌/◌, ◌%◌, ◌<◌, ◌≤◌, Bool, true, false, ◌&&◌, ◌==◌, slice_index_or, slice_set, Ok, Err}
 use Rattle.std.proofs.Math.Path.{refl, sym, ap, subst}
 use Rattle.std.proofs.Common.{◌∙◌, arith, length-set}
 use Rattle.std.proofs.lemmas.List.{set-get_or}
@@ -17,10 +17,10 @@ use Rattle.tlb.specs.Cells.{on-aligned, may-is, known_is, hint-made, fetch-known
 use Rattle.tlb.specs.Refines.{falsely}
 use Rattle.tlb.specs.Step.{place_for, slot_for, with_translation, with_fetch, translation_in, tlb_after, fetch_in, fetched_in}
 use Rattle.tlb.specs.declared.{access.Kind.Kind, hint.Hint.Hint, hint.FetchHint.FetchHint, cache.Cache.Cache}
-use Rattle.tlb.specs.declared.{access.Privilege.Privilege, access.Answer.Answer, resolve.Resolved.Resolved}
+use Rattle.tlb.specs.declared.{access.Privilege.Privilege, resolve.Resolved.Resolved}
+use Rattle.tlb.specs.Answers.{Answer}
 use Rattle.tlb.specs.declared.{count.Counts.Counts, entry.Entry.Entry, Tlb.Tlb}
 use Rattle.tlb.specs.declared.access.Kind.TheVariants.{Read, Write, Fetch}
-use Rattle.tlb.specs.declared.access.Answer.TheVariants.{Address, Status}
 use Rattle.tlb.specs.declared.resolve.Source.TheVariants.{FromHint}
 use Rattle.tlb.proofs.Misses.{with_entry, entry, missed, unmoved, still-well, miss-follows}
 
@@ -118,15 +118,15 @@ module _ (a : Access) (t : Tlb) (x : Answer) (e : Entry) (k : Counts) (o : Outco
       where
         go : (y : Answer) → x ≡ y
             → Follows x (put (hint_after true a.privilege.level a.va x (hint_at t.cache (place_for a)))) (noted a o)
-        go (Address pa) e =
-            let oe : o.answer ≡ Address pa = sym f.answer ∙ e in
+        go (Ok pa) e =
+            let oe : o.answer ≡ Ok pa = sym f.answer ∙ e in
             rw (e, oe, place_is a.kind a.va) (record {
               answer = refl;
               after = hint-kept pa ∙ ap (keep_hint (place_for a) (known_of a pa)) f.after;
               well = record { cache = set-hint-sound _ _ _ f.well.cache (omega arith); levels = f.well.levels };
             })
-        go (Status fault) e =
-            let oe : o.answer ≡ Status fault = sym f.answer ∙ e in
+        go (Err fault) e =
+            let oe : o.answer ≡ Err fault = sym f.answer ∙ e in
             rw (e, oe) (record { answer = refl; after = unnoted.after; well = unnoted.well })
 
 -- TRANSLATIONS
@@ -147,7 +147,7 @@ module _ (a : Access) (t : Tlb) (s : WellFormed t) (fits : LeafLevel a.walk) (lo
         counts = t.counts;
         hint = hint;
         entry = entry a t s fits low;
-        answer = Address (on_page hint.pa a.va);
+        answer = Ok (on_page hint.pa a.va);
         source = FromHint;
       }
 
@@ -157,7 +157,7 @@ module _ (a : Access) (t : Tlb) (s : WellFormed t) (fits : LeafLevel a.walk) (lo
   fast-follows =
       unnoted a t after_hint.answer (entry a t s fits low) t.counts _
       (record {
-        answer = ap Address (on-aligned hint.pa a.va (each-getD {P = Aligned} no_hint refl s.cache.hints (place_for a)));
+        answer = ap Ok (on-aligned hint.pa a.va (each-getD {P = Aligned} no_hint refl s.cache.hints (place_for a)));
         after = unmoved a t s fits low t.counts;
         well = still-well a t s fits low;
       })
@@ -231,15 +231,15 @@ module _ (a : Access) (t : Tlb) (s : WellFormed t) (fits : LeafLevel a.walk) (lo
   fetch-noted : (x : Answer) → fetch_miss.answer ≡ x
       → Follows fetch_missed.answer (with_fetch t (slot_for a) fetch_missed) (noted_fetch a (unhinted a.on a (live t)))
   unfolding fetch_applied noted_fetch
-  fetch-noted (Address pa) e =
-      let oe : (unhinted a.on a (live t)).answer ≡ Address pa = sym fetch-miss.answer ∙ e in
+  fetch-noted (Ok pa) e =
+      let oe : (unhinted a.on a (live t)).answer ≡ Ok pa = sym fetch-miss.answer ∙ e in
       rw (e, oe) (record {
         answer = refl;
         after = fetch-kept pa ∙ ap (keep_fetch (known_of a pa)) fetch-miss.after;
         well = record { cache = set-fetch-sound _ _ fetch-miss.well.cache (omega arith) (omega arith); levels = fetch-miss.well.levels };
       })
-  fetch-noted (Status fault) e =
-      let oe : (unhinted a.on a (live t)).answer ≡ Status fault = sym fetch-miss.answer ∙ e in
+  fetch-noted (Err fault) e =
+      let oe : (unhinted a.on a (live t)).answer ≡ Err fault = sym fetch-miss.answer ∙ e in
       rw (e, oe) (record { answer = refl; after = fetch-miss.after; well = fetch-miss.well })
 
   by-fetch : (b : Bool) → fetch_serves now a.privilege.level a.va ≡ b
@@ -247,7 +247,7 @@ module _ (a : Access) (t : Tlb) (s : WellFormed t) (fits : LeafLevel a.walk) (lo
   unfolding fetch_with fetch_end fetched
   by-fetch true q =
       rw q (record {
-        answer = ap Address (on-aligned now.pa a.va s.cache.fetch-pa);
+        answer = ap Ok (on-aligned now.pa a.va s.cache.fetch-pa);
         after = unmoved a t s fits low t.counts;
         well = still-well a t s fits low;
       })

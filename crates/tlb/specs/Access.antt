@@ -1,13 +1,12 @@
 -- An access: what it wants, who makes it, what it needs, and its answer.
-use Rattle.std.specs.Prelude.{if◌then◌else◌, ℕ, ◌+◌, ◌*◌, ◌/◌, ◌%◌, ◌^◌, Bool, true, false, not, ◌&&◌, ◌||◌, ◌==◌, bit_or}
+use Rattle.std.specs.Prelude.{if◌then◌else◌, ℕ, ◌+◌, ◌*◌, ◌/◌, ◌%◌, ◌^◌, Bool, true, false, not, ◌&&◌, ◌||◌, ◌==◌, bit_or, Ok, Err}
 use Rattle.fault.specs.First.{first}
 use Rattle.walk.specs.declared.regime.Regime.{Regime}
 use Rattle.walk.specs.declared.regime.Regime.TheVariants.{El1, El2, El3}
 use Rattle.tlb.specs.Hint.{on_page}
 use Rattle.tlb.specs.declared.{entry.Entry.Entry, access.Kind.Kind, access.Privilege.Privilege}
-use Rattle.tlb.specs.declared.access.Answer.{Answer}
+use Rattle.tlb.specs.Answers.{Answer}
 use Rattle.tlb.specs.declared.access.Kind.TheVariants.{Read, Write, Fetch}
-use Rattle.tlb.specs.declared.access.Answer.TheVariants.{Address, Status}
 
 abbrev pub is_fetch : Kind → Bool
 is_fetch Read = false
@@ -58,4 +57,4 @@ has_right perms right = perms / 2 ^ right % 2 == 1
 
 -- the entry's page with the low bits of the address, or a permission fault of its level
 unfoldable pub judged : Entry → Bool → Kind → ℕ → Answer
-judged e user kind va = if has_right e.perms (right_of kind user) then Address (on_page e.pa va) else Status (first (bit_or 12 e.level))
+judged e user kind va = if has_right e.perms (right_of kind user) then Ok (on_page e.pa va) else Err (first (bit_or 12 e.level))

@@ -1,11 +1,11 @@
 -- The translations that a step of a core makes, in order and until one faults, and the answers that they get in a
 -- cache.
-use Rattle.std.specs.Prelude.{◌≡◌, ℕ, List, [], ◌∷◌, refl}
+use Rattle.std.specs.Prelude.{◌≡◌, ℕ, List, [], ◌∷◌, refl, Ok, Err}
 use Rattle.tlb.specs.Model.{Access}
 use Rattle.tlb.specs.Step.{translation_in, tlb_after, fetch_in, fetched_in}
-use Rattle.tlb.specs.declared.{access.Kind.Kind, access.Answer.Answer, Tlb.Tlb}
+use Rattle.tlb.specs.declared.{access.Kind.Kind, Tlb.Tlb}
+use Rattle.tlb.specs.Answers.{Answer}
 use Rattle.tlb.specs.declared.access.Kind.TheVariants.{Fetch}
-use Rattle.tlb.specs.declared.access.Answer.TheVariants.{Address, Status}
 
 -- One translation: of a kind, alone or in a load, a store or a zeroing; or the one that a fetch begins with, which asks
 -- the fetch hint.
@@ -28,12 +28,12 @@ pub record Given : Type 0 where
 
 -- on after an address, not after a fault
 abbrev pub onward {ℓ} : {A : Type ℓ} → Answer → A → A → A
-onward (Address pa) x y = x
-onward (Status f) x y = y
+onward (Ok pa) x y = x
+onward (Err f) x y = y
 
 pub onward-same : {A : Type 0} (a : Answer) (x : A) → onward a x x ≡ x
-onward-same (Address pa) x = refl
-onward-same (Status f) x = refl
+onward-same (Ok pa) x = refl
+onward-same (Err f) x = refl
 
 -- In a cache, by the accesses that registers, level and tables make of kinds and addresses: the answer to one
 -- translation and the cache after it; the answers to a step's, and the cache after them.

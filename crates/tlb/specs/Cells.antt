@@ -1,5 +1,5 @@
 -- One entry and one hint against the line and the hint that they stand for.
-use Rattle.std.specs.Prelude.{if◌then◌else◌, ◌≡◌, ℕ, zero, suc, ◌+◌, ◌*◌, ◌/◌, ◌%◌, ◌^◌, ◌<◌, ◌≤◌, Bool, true, false, not, ◌&&◌, ◌||◌, ◌==◌, ◌≢◌, bit_or, nat_eq, nat_le, refl}
+use Rattle.std.specs.Prelude.{if◌then◌else◌, ◌≡◌, ℕ, zero, suc, ◌+◌, ◌*◌, ◌/◌, ◌%◌, ◌^◌, ◌<◌, ◌≤◌, Bool, true, false, not, ◌&&◌, ◌||◌, ◌==◌, ◌≢◌, bit_or, nat_eq, nat_le, refl, Ok, Err}
 use Rattle.std.proofs.Common.{sym, ap, ap₂, ◌∙◌, div-add-mod', mod-eq_of_lt, arith}
 use Rattle.std.proofs.Math.Nat.{mul-add-div_right, mul-add-mod_self_right, div-eq_of_lt}
 use borrow.Author.Tests.{eq-eqb, ne_eqb, eqb-true, eqb-false, leb-false, le-leb}
@@ -17,7 +17,6 @@ use Rattle.tlb.specs.Live.{line_in, tagged, line_of, hint_of, fetch_hint_of, Mad
 use Rattle.tlb.specs.declared.{entry.Entry.Entry, entry.Current.Current, access.Kind.Kind, hint.Hint.Hint}
 use Rattle.tlb.specs.declared.{hint.FetchHint.FetchHint, access.Privilege.Privilege, Inval.Inval}
 use Rattle.tlb.specs.declared.access.Kind.TheVariants.{Read, Write, Fetch}
-use Rattle.tlb.specs.declared.access.Answer.TheVariants.{Address, Status}
 use Rattle.tlb.specs.declared.Inval.TheVariants.{All, Page, Asid}
 
 pub and-false : (x : Bool) → x && false ≡ false
@@ -150,7 +149,7 @@ judged-is g r e a m =
     let has : has_right e.perms (right_of a.kind (user_of a.regime a.privilege a.kind)) ≡ nat_eq (e.perms / need_in a % 2) 1 =
     ap (λ (u : Bool). has_right e.perms (right_of a.kind u)) (user-is a.regime a.privilege.level a.privilege.unprivileged a.kind)
     ∙ right_is a.kind _ e.perms in
-    λ i. if has i then Address (on-aligned e.pa a.va m.aligned i) else Status (first (or-level e.level m.level i))
+    λ i. if has i then Ok (on-aligned e.pa a.va m.aligned i) else Err (first (or-level e.level m.level i))
 
 -- DROPS
 

@@ -6,8 +6,7 @@ use Rattle.std.proofs.Common.{sym, ◌∙◌, arith, ne_eqb}
 use Rattle.tlb.specs.Model.{Slot, empty, holds, Line, Counters, Model, up, up_at, one_hit, one_walk, line_for, keep, hint_place, knowing, Access}
 use Rattle.tlb.specs.Model.{walked}
 use Rattle.tlb.specs.Model.{looked, unhinted, noting, noted, tried, hinted, hintable, translate, noting_fetch, noted_fetch, fetched, fetch}
-use Rattle.tlb.specs.declared.access.Answer.{Answer}
-use Rattle.tlb.specs.declared.access.Answer.TheVariants.{Address, Status}
+use Rattle.tlb.specs.Answers.{Answer}
 use Rattle.walk.specs.Answers.{Walked}
 
 -- by a hint, by the address itself where stage 1 is off, by a line, or by a walk, whether it faults or not
@@ -64,12 +63,12 @@ module _ (a : Access) (m : Model) where
   miss-counts false = refl
 
   note-counts : (x : Answer) (n : Model) → (noting x a n).counts ≡ n.counts
-  note-counts (Address pa) n = refl
-  note-counts (Status f) n = refl
+  note-counts (Ok pa) n = refl
+  note-counts (Err f) n = refl
 
   note-fetch-counts : (x : Answer) (n : Model) → (noting_fetch x a n).counts ≡ n.counts
-  note-fetch-counts (Address pa) n = refl
-  note-fetch-counts (Status f) n = refl
+  note-fetch-counts (Ok pa) n = refl
+  note-fetch-counts (Err f) n = refl
 
   try-counts : (h : Slot ℕ) → (tried h a m).after.counts ≡ how_counted (how_tried h (how_unhinted a m)) a.privilege.level m.counts
   unfolding tried noted

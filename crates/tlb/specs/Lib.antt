@@ -1,4 +1,5 @@
 -- What the contracts of `tlb` cite.
+pub mod Answers
 pub mod Entry
 pub mod Hint
 pub mod Count

@@ -7,7 +7,8 @@ use Rattle.tlb.specs.Hint.{no_hint}
 use Rattle.tlb.specs.Count.{tally_at}
 use Rattle.tlb.specs.Lists.{Each}
 use Rattle.tlb.specs.Model.{Slot, empty, holds, Line, Known, Counters, Model, Outcome, reach_of}
-use Rattle.tlb.specs.declared.{entry.Entry.Entry, access.Answer.Answer, hint.Hint.Hint, hint.FetchHint.FetchHint}
+use Rattle.tlb.specs.declared.{entry.Entry.Entry, hint.Hint.Hint, hint.FetchHint.FetchHint}
+use Rattle.tlb.specs.Answers.{Answer}
 use Rattle.tlb.specs.declared.{count.Counts.Counts, cache.Cache.Cache, Tlb.Tlb, Inval.Inval}
 use Rattle.walk.specs.Answers.{Walked}
 

@@ -5,9 +5,9 @@ use Rattle.std.specs.Prelude.{if◌then◌else◌, ℕ, zero, suc, ◌+◌, ◌-
 use Rattle.fault.specs.First.{first}
 use Rattle.walk.specs.declared.{regime.Regime.Regime, level.Leaf.Leaf}
 use Rattle.walk.specs.declared.regime.Regime.TheVariants.{El1, El2, El3}
-use Rattle.tlb.specs.declared.{access.Kind.Kind, access.Privilege.Privilege, access.Answer.Answer, Inval.Inval}
+use Rattle.tlb.specs.declared.{access.Kind.Kind, access.Privilege.Privilege, Inval.Inval}
+use Rattle.tlb.specs.Answers.{Answer}
 use Rattle.tlb.specs.declared.access.Kind.TheVariants.{Read, Write, Fetch}
-use Rattle.tlb.specs.declared.access.Answer.TheVariants.{Address, Status}
 use Rattle.tlb.specs.declared.Inval.TheVariants.{All, Page, Asid}
 use Rattle.walk.specs.Answers.{Walked}
 
@@ -245,7 +245,7 @@ pub record Outcome : Type 0 where
 
 -- the physical page with the address's low twelve bits
 abbrev pub address_in : ℕ → ℕ → Answer
-address_in frame va = Address (frame * 4096 + va % 4096)
+address_in frame va = Ok (frame * 4096 + va % 4096)
 
 -- it is judged as EL0's in regime 1, at level 0, or under the mark unless it is a fetch
 abbrev pub as_user : Regime → ℕ → Bool → Kind → Bool
@@ -270,7 +270,7 @@ need_in a = need a.kind (as_user a.regime a.privilege.level a.privilege.unprivil
 
 -- 0x0C plus the level, where the line lacks that bit
 unfoldable pub judge : Line → Access → Answer
-judge l a = if l.perms / need_in a % 2 == 1 then address_in l.frame a.va else Status (first (12 + l.level))
+judge l a = if l.perms / need_in a % 2 == 1 then address_in l.frame a.va else Err (first (12 + l.level))
 
 abbrev pub reach_of : Bool → ℕ → Reach
 reach_of true a = everyone
@@ -290,7 +290,7 @@ line_of_leaf leaf a asid =
 -- a walk counts one at the level of the access, which the mark does not lower; a leaf is kept and judged; a fault is the answer and leaves no
 -- line
 unfoldable pub walked : Walked → Access → Model → Outcome
-walked (Err code) a m = record { answer = Status (first code); after = counting (one_walk a.privilege.level) m }
+walked (Err code) a m = record { answer = Err (first code); after = counting (one_walk a.privilege.level) m }
 walked (Ok leaf) a m =
     record {
       answer = judge (line_of_leaf leaf a m.asid) a;
@@ -305,15 +305,15 @@ looked empty a m = walked a.walk a m
 -- with stage 1 off the answer is the address itself
 unfoldable pub unhinted : Bool → Access → Model → Outcome
 unhinted true a m = looked (line_for m a.regime (a.untagged / 4096)) a m
-unhinted false a m = record { answer = Address a.va; after = m }
+unhinted false a m = record { answer = Ok a.va; after = m }
 
 -- an address becomes a hint, a fault does not
 abbrev pub known_of : Access → ℕ → Known
 known_of a pa = record { page = a.va / 4096; level = a.privilege.level; frame = pa / 4096 }
 
 abbrev pub noting : Answer → Access → Model → Model
-noting (Address pa) a m = keep_hint (hint_place a.kind a.va) (known_of a pa) m
-noting (Status f) a m = m
+noting (Ok pa) a m = keep_hint (hint_place a.kind a.va) (known_of a pa) m
+noting (Err f) a m = m
 
 unfoldable pub noted : Access → Outcome → Outcome
 noted a o = record { answer = o.answer; after = noting o.answer a o.after }
@@ -338,8 +338,8 @@ translate a m = hinted (hintable a.kind a.privilege.unprivileged) a m
 
 -- a fetch asks the fetch hint first, whatever the mark, and leaves one
 abbrev pub noting_fetch : Answer → Access → Model → Model
-noting_fetch (Address pa) a m = keep_fetch (known_of a pa) m
-noting_fetch (Status f) a m = m
+noting_fetch (Ok pa) a m = keep_fetch (known_of a pa) m
+noting_fetch (Err f) a m = m
 
 unfoldable pub noted_fetch : Access → Outcome → Outcome
 noted_fetch a o = record { answer = o.answer; after = noting_fetch o.answer a o.after }

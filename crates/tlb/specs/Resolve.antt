@@ -11,10 +11,10 @@ use Rattle.tlb.specs.Entry.{blank, serves}
 use Rattle.tlb.specs.Hint.{page_of, hint_for, fetch_for}
 use Rattle.tlb.specs.Count.{hit_counted, walk_counted}
 use Rattle.tlb.specs.declared.{entry.Entry.Entry, entry.Current.Current, access.Kind.Kind}
-use Rattle.tlb.specs.declared.{access.Privilege.Privilege, access.Answer.Answer, count.Counts.Counts}
+use Rattle.tlb.specs.declared.{access.Privilege.Privilege, count.Counts.Counts}
+use Rattle.tlb.specs.Answers.{Answer}
 use Rattle.tlb.specs.declared.{hint.Hint.Hint, hint.FetchHint.FetchHint, resolve.Source.Source}
 use Rattle.tlb.specs.declared.{resolve.Query.Query, resolve.Asked.Asked, resolve.Resolved.Resolved}
-use Rattle.tlb.specs.declared.access.Answer.TheVariants.{Address, Status}
 use Rattle.tlb.specs.declared.resolve.Source.TheVariants.{FromHint, FromFlat, FromEntry, FromWalk, NoLeaf}
 use Rattle.tlb.specs.declared.resolve.Asked.TheVariants.{Flat, Of}
 use Rattle.walk.specs.Answers.{Walked}
@@ -46,7 +46,7 @@ entry_for leaf at tag =
 
 -- the address itself
 abbrev pub by_itself : ℕ → Resolved
-by_itself va = record { answer = Address va; source = FromFlat; made = blank }
+by_itself va = record { answer = Ok va; source = FromFlat; made = blank }
 
 -- the entry is judged
 abbrev pub by_entry : Query → Privilege → Entry → ℕ → Kind → Resolved
@@ -60,7 +60,7 @@ by_walk (Ok leaf) q privilege at va kind =
       source = FromWalk;
       made = entry_for leaf at q.tag;
     }
-by_walk (Err code) q privilege at va kind = record { answer = Status (first code); source = NoLeaf; made = blank }
+by_walk (Err code) q privilege at va kind = record { answer = Err (first code); source = NoLeaf; made = blank }
 
 -- by the entry, where it answers for the tag; else by the walk
 unfoldable pub resolve_with : Walked → Query → Privilege → Current → Entry → ℕ → Kind → Resolved
@@ -93,11 +93,11 @@ kept_by NoLeaf old made = old
 
 -- an address that was allowed becomes a hint, where hints may serve
 abbrev pub hint_after : Bool → ℕ → ℕ → Answer → Hint → Hint
-hint_after true level va (Address pa) old = hint_for va level pa
-hint_after true level va (Status f) old = old
+hint_after true level va (Ok pa) old = hint_for va level pa
+hint_after true level va (Err f) old = old
 hint_after false level va a old = old
 
 -- an address that a fetch was allowed becomes the fetch hint
 abbrev pub fetch_after : ℕ → ℕ → Answer → FetchHint → FetchHint
-fetch_after level va (Address pa) old = fetch_for va level pa
-fetch_after level va (Status f) old = old
+fetch_after level va (Ok pa) old = fetch_for va level pa
+fetch_after level va (Err f) old = old

@@ -5,7 +5,8 @@ use Rattle.tlb.specs.Tlb.{invalidate_of, retag_of, broadcast_of}
 use Rattle.tlb.specs.Model.{Slot, empty, holds, Counters, Model, invalidate, retag, broadcast, Access, translate, fetch}
 use Rattle.tlb.specs.Live.{counters_of, pending_of, LeafLevel}
 use Rattle.tlb.specs.Step.{translation_in, tlb_after, fetch_in, fetched_in}
-use Rattle.tlb.specs.declared.{access.Answer.Answer, Tlb.Tlb, Inval.Inval}
+use Rattle.tlb.specs.declared.{Tlb.Tlb, Inval.Inval}
+use Rattle.tlb.specs.Answers.{Answer}
 use Rattle.tlb.specs.declared.access.Kind.TheVariants.{Fetch}
 
 -- what can be asked of a cache; a flush is an All

@@ -1,5 +1,5 @@
 -- One translation over small values, for any walk: the hint, or the changes of a translation that no hint serves, applied.
-use Rattle.std.specs.Prelude.{if◌then◌else◌, ◌≡◌, ℕ, Bool, true, false, ◌&&◌, ◌==◌, Option, Some, None}
+use Rattle.std.specs.Prelude.{if◌then◌else◌, ◌≡◌, ℕ, Bool, true, false, ◌&&◌, ◌==◌, Option, Some, None, Ok}
 use Rattle.std.proofs.Math.Path.{refl}
 use Rattle.std.proofs.Common.{sym, ap, ◌∙◌}
 use Rattle.walk.specs.Regime.{stage1_on, regime_of}
@@ -14,8 +14,7 @@ use Rattle.tlb.specs.declared.{hint.FetchHint.FetchHint, count.Counts.Counts}
 use Rattle.tlb.specs.declared.{access.Privilege.Privilege, resolve.Query.Query, resolve.Asked.Asked}
 use Rattle.tlb.specs.declared.resolve.Resolved.{Resolved}
 use Rattle.tlb.specs.declared.access.Kind.TheVariants.{Fetch}
-use Rattle.tlb.specs.declared.access.Answer.{Answer}
-use Rattle.tlb.specs.declared.access.Answer.TheVariants.{Address}
+use Rattle.tlb.specs.Answers.{Answer}
 use Rattle.tlb.specs.declared.resolve.Source.{Source}
 use Rattle.tlb.specs.declared.resolve.Source.TheVariants.{FromHint}
 use Rattle.tlb.specs.declared.resolve.Asked.TheVariants.{Flat, Of}
@@ -56,7 +55,7 @@ applied t hinted level k h e va =
 -- counters, the hint and the entry that the address may use, the address, the kind. The hint comes first, where it may serve.
 unfoldable pub translation_with : Bool → ℕ → Walked → Regime → Privilege → Current → Counts → Hint → Entry → ℕ → Kind → Translation
 translation_with on page w r privilege at k h e va kind =
-    if may_hint privilege kind && h.key == hint_key va privilege.level then record { counts = k; hint = h; entry = e; answer = Address (on_page h.pa va); source = FromHint }
+    if may_hint privilege kind && h.key == hint_key va privilege.level then record { counts = k; hint = h; entry = e; answer = Ok (on_page h.pa va); source = FromHint }
     else applied (miss_with on page w r privilege at e va kind) (may_hint privilege kind) privilege.level k h e va
 
 -- the same with the fetch hint
@@ -72,7 +71,7 @@ fetch_applied t level k f e va =
 
 unfoldable pub fetch_end : Option ℕ → Bool → ℕ → Walked → Regime → Privilege → Current → Counts → FetchHint → Entry → ℕ → FetchTranslation
 fetch_end (Some pa) on page w r privilege at k f e va =
-    record { counts = k; fetch = f; entry = e; answer = Address pa; source = FromHint }
+    record { counts = k; fetch = f; entry = e; answer = Ok pa; source = FromHint }
 fetch_end None on page w r privilege at k f e va = fetch_applied (miss_with on page w r privilege at e va Fetch) privilege.level k f e va
 
 -- the translation that a fetch begins with: the fetch hint first, whatever the mark

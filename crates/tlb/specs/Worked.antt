@@ -5,9 +5,9 @@ use Rattle.walk.specs.declared.regime.Regime.TheVariants.{El1}
 use Rattle.tlb.specs.Model.{Slot, empty, holds, empty_model, folded, keep, line_for, judge, walked, looked, unhinted, noted, tried, hinted, translate}
 use Rattle.tlb.specs.Model.{invalidate}
 use Rattle.tlb.specs.Runs.{Op, invalidates, translates, Seen, model_run}
-use Rattle.tlb.specs.declared.{access.Kind.Kind, access.Answer.Answer}
+use Rattle.tlb.specs.declared.access.Kind.{Kind}
+use Rattle.tlb.specs.Answers.{Answer}
 use Rattle.tlb.specs.declared.access.Kind.TheVariants.{Read, Write, Fetch}
-use Rattle.tlb.specs.declared.access.Answer.TheVariants.{Address, Status}
 use Rattle.tlb.specs.declared.Inval.TheVariants.{All, Page, Asid}
 use Rattle.walk.specs.Answers.{Walked}
 
@@ -32,8 +32,8 @@ access k w =
 -- the answer as a number, hits and walks of EL1, flushes, drops, epoch
 abbrev answered : Slot Answer → ℕ
 answered empty = 0
-answered (holds (Address pa)) = pa
-answered (holds (Status f)) = f.fsc
+answered (holds (Ok pa)) = pa
+answered (holds (Err f)) = f.fsc
 
 abbrev row : Seen → List ℕ
 row s = answered s.answer ∷ s.counts.hits 1 ∷ s.counts.walks 1 ∷ s.counts.flushes ∷ s.counts.drops ∷ s.counts.epoch ∷ []

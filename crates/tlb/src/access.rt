@@ -21,13 +21,6 @@ pub struct Privilege {
     pub unprivileged: bool,
 }
 
-// The address that an access goes to, or its fault.
-#[derive(Clone, Copy)]
-pub enum Answer {
-    Address(u64),
-    Status(Fault),
-}
-
 fn regime_number(regime: Regime) -> u64
     ensures value { result ≡ regime_number regime }
     ensures upper_bound { result ≤ 3 }
@@ -90,13 +83,13 @@ pub fn right_of(kind: Kind, user: bool) -> u8
 impl Entry {
     // The entry's page, if it has the right that the access needs.
     #[tactic(auto, unfolding(crate::specs::Access::judged))]
-    pub fn judge(&self, user: bool, kind: Kind, va: u64) -> Answer
+    pub fn judge(&self, user: bool, kind: Kind, va: u64) -> Result<u64, Fault>
         ensures { result ≡ judged self.now user kind va }
     {
         if (self.perms >> right_of(kind, user)) % 2 == 1 {
-            Answer::Address(hint::on_page(self.pa, va))
+            Ok(hint::on_page(self.pa, va))
         } else {
-            Answer::Status(fault::first(12 | self.level))
+            Err(fault::first(12 | self.level))
         }
     }
 }

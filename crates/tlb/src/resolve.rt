@@ -7,8 +7,9 @@ ghost use Rattle.walk.specs.Walk.{walk_of};
 ghost use Rattle.tlb.specs.Resolve.{query_of, ask_of, entry_for, by_entry, by_walk, resolve_of};
 
 use crate::access;
-use crate::access::{Answer, Kind, Privilege};
+use crate::access::{Kind, Privilege};
 use crate::entry::{Current, Entry};
+use fault::Fault;
 use walk::level::Leaf;
 use walk::regime::{Bank, Regime};
 
@@ -41,7 +42,7 @@ pub enum Asked {
 // (else blank).
 #[derive(Clone, Copy)]
 pub struct Resolved {
-    pub answer: Answer,
+    pub answer: Result<u64, Fault>,
     pub source: Source,
     pub made: Entry,
 }
@@ -111,7 +112,7 @@ pub fn walked(
             }
         }
         Err(code) => Resolved {
-            answer: Answer::Status(fault::first(code)),
+            answer: Err(fault::first(code)),
             source: Source::NoLeaf,
             made: Entry::blank(),
         },

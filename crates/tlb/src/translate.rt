@@ -6,10 +6,11 @@ ghost use Rattle.tlb.specs.Entry.{slot_of};
 ghost use Rattle.tlb.specs.Resolve.{by_walk};
 ghost use Rattle.tlb.specs.declared.access.Kind.TheVariants.{Fetch};
 
-use crate::access::{Answer, Kind, Privilege};
+use crate::access::{Kind, Privilege};
 use crate::hint::{FetchHint, Hint};
 use crate::resolve::{Asked, Query};
 use crate::{Tlb, hint, resolve};
+use fault::Fault;
 use walk::regime::Bank;
 
 impl Tlb {
@@ -27,7 +28,7 @@ impl Tlb {
         kind: Kind,
         base: u64,
         ram: &[u8],
-    ) -> Answer
+    ) -> Result<u64, Fault>
         ensures answer { result ≡ (by_walk (walk_of s q.regime q.page (word_at base ram.now 8)) q privilege self.old.cache.current va kind).answer }
         ensures after { self.new ≡ stored self.old (slot_of q.tag) privilege.level
             (by_walk (walk_of s q.regime q.page (word_at base ram.now 8)) q privilege self.old.cache.current va kind) }
@@ -39,7 +40,7 @@ impl Tlb {
                 self.put(e);
                 e.judge(privilege.is_user(q.regime, kind), kind, va)
             }
-            Err(code) => Answer::Status(fault::first(code)),
+            Err(code) => Err(fault::first(code)),
         }
     }
 
@@ -55,12 +56,12 @@ impl Tlb {
         kind: Kind,
         base: u64,
         ram: &[u8],
-    ) -> Answer
+    ) -> Result<u64, Fault>
         ensures answer { result ≡ (miss_in (access_of s privilege va kind (word_at base ram.now 8)) self.old).answer }
         ensures after { self.new ≡ after_miss (access_of s privilege va kind (word_at base ram.now 8)) self.old }
     {
         let Asked::Of(q) = resolve::ask(s, privilege, va) else {
-            return Answer::Address(va);
+            return Ok(va);
         };
         if let Some(e) = self.get(q.tag) {
             self.counts.add_hit(privilege.level);
@@ -90,13 +91,13 @@ impl Tlb {
         kind: Kind,
         base: u64,
         ram: &[u8],
-    ) -> Answer
+    ) -> Result<u64, Fault>
         ensures answer { result ≡ (past_hint_in (access_of s privilege va kind (word_at base ram.now 8)) self.old).answer }
         ensures after { self.new ≡ after_past_hint (access_of s privilege va kind (word_at base ram.now 8)) self.old }
     {
         let answer = self.miss(s, privilege, va, kind, base, ram);
         if privilege.may_hint(kind)
-            && let Answer::Address(pa) = answer
+            && let Ok(pa) = answer
         {
             self.cache.hints[hint::data_slot(va, kind)] = Hint::new(va, privilege.level, pa);
         }
@@ -113,12 +114,12 @@ impl Tlb {
         kind: Kind,
         base: u64,
         ram: &[u8],
-    ) -> Answer
+    ) -> Result<u64, Fault>
         ensures answer { result ≡ (translation_in (access_of s privilege va kind (word_at base ram.now 8)) self.old).answer }
         ensures after { self.new ≡ tlb_after (access_of s privilege va kind (word_at base ram.now 8)) self.old }
     {
         match self.by_hint(privilege, va, kind) {
-            Some(pa) => Answer::Address(pa),
+            Some(pa) => Ok(pa),
             None => self.past_hint(s, privilege, va, kind, base, ram),
         }
     }
@@ -132,15 +133,15 @@ impl Tlb {
         va: u64,
         base: u64,
         ram: &[u8],
-    ) -> Answer
+    ) -> Result<u64, Fault>
         ensures answer { result ≡ (fetch_in (access_of s privilege va Fetch (word_at base ram.now 8)) self.old).answer }
         ensures after { self.new ≡ fetched_in (access_of s privilege va Fetch (word_at base ram.now 8)) self.old }
     {
         if let Some(pa) = self.cache.fetch.find(privilege.level, va) {
-            return Answer::Address(pa);
+            return Ok(pa);
         }
         let answer = self.miss(s, privilege, va, Kind::Fetch, base, ram);
-        if let Answer::Address(pa) = answer {
+        if let Ok(pa) = answer {
             self.cache.fetch = FetchHint::new(va, privilege.level, pa);
         }
         answer

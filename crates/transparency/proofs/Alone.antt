@@ -1,5 +1,5 @@
 -- Where the answers to a call's translations are those of the core without a cache, so are its reply and RAM after it.
-use Rattle.std.specs.Prelude.{◌≡◌, refl, List, [], ◌∷◌, ◌++◌, ℕ, zero, suc, ◌+◌, ◌%◌, Option}
+use Rattle.std.specs.Prelude.{◌≡◌, refl, List, [], ◌∷◌, ◌++◌, ℕ, zero, suc, ◌+◌, ◌%◌, Option, Ok, Err}
 use Rattle.std.proofs.Common.{sym, ap, subst, ◌∙◌, append-nil}
 use Rattle.word.specs.Bits.{align_down, wrap}
 use Rattle.word.specs.Ram.{width_of}
@@ -10,8 +10,8 @@ use Rattle.sysop.specs.declared.op.SysOp.{SysOp}
 use Rattle.sysop.specs.declared.op.SysOp.TheVariants as Op
 use Rattle.mmu.specs.Bare.{Bare, bare_of}
 use Rattle.mmu.specs.declared.core_state.Core.{Core}
-use Rattle.operations.specs.declared.{ends.StoreAnswer.StoreAnswer, call.Encoding.Encoding, call.Call.Call}
-use Rattle.operations.specs.declared.ends.StoreAnswer.TheVariants as Store
+use Rattle.operations.specs.declared.{call.Encoding.Encoding, call.Call.Call}
+use Rattle.operations.specs.Answers.{StoreAnswer}
 use Rattle.exec.specs.Sys.{zero_of, zero_ram}
 use Rattle.operations.specs.Replies.{storing}
 use Rattle.operations.specs.declared.call.Call.TheVariants.{Translate, DataPa, FetchPa, Load, Store, Fetch, System, Register, Level, Mark, General}
@@ -95,15 +95,15 @@ zero-alone (suc n) c m va al e =
     on o = on_done o.reply (bare_zero n (bare_of c) (ram_with m o.bytes) next) o
 
     go : (a : StoreAnswer) → store_ends c m va ≡ a → Rest (bare_of c) (tlb_then c m va) → zero_outcome (suc n) c m va ≡ bare_zero (suc n) (bare_of c) m va
-    go Store.Done q more =
+    go (Ok x) q more =
         let h = rw q at e in
-        let one : outcome (storing Store.Done) then.bytes ≡ bare_zero_one (bare_of c) m va = rw q at (one_same c m va al _ _ h) in
-        let made : zero_outcome (suc n) c m va ≡ on (outcome (storing Store.Done) then.bytes) = rw q (more (rest-same c m va al _ _ h)) in
+        let one : outcome (storing (Ok tt)) then.bytes ≡ bare_zero_one (bare_of c) m va = rw q at (one_same c m va al _ _ h) in
+        let made : zero_outcome (suc n) c m va ≡ on (outcome (storing (Ok tt)) then.bytes) = rw q (more (rest-same c m va al _ _ h)) in
         made ∙ ap on one
-    go (Store.Stopped s) q more =
+    go (Err s) q more =
         let h = rw q at e in
-        let one : outcome (storing (Store.Stopped s)) then.bytes ≡ bare_zero_one (bare_of c) m va = rw q at (one_same c m va al _ _ h) in
-        let made : zero_outcome (suc n) c m va ≡ on (outcome (storing (Store.Stopped s)) then.bytes) = rw q refl in
+        let one : outcome (storing (Err s)) then.bytes ≡ bare_zero_one (bare_of c) m va = rw q at (one_same c m va al _ _ h) in
+        let made : zero_outcome (suc n) c m va ≡ on (outcome (storing (Err s)) then.bytes) = rw q refl in
         made ∙ ap on one
 
 -- EVERY CALL

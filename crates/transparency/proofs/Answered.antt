@@ -6,8 +6,9 @@ use Rattle.word.specs.Bits.{align_down, wrap}
 use Rattle.word.specs.Ram.{width_of, bytes_in}
 use Rattle.tlb.specs.Asks.{translates, Given, onward-same}
 use Rattle.tlb.specs.declared.access.Kind.TheVariants as Kind
-use Rattle.tlb.specs.declared.{access.Answer.Answer, Tlb.Tlb}
-use Rattle.tlb.specs.declared.access.Answer.TheVariants.{Address, Status}
+use Rattle.tlb.specs.declared.Tlb.{Tlb}
+use Rattle.tlb.specs.Answers.{Answer}
+use Rattle.operations.specs.Answers.{Placed, Verdict, Got, StoreAnswer}
 use Rattle.sysop.specs.declared.op.SysOp.{SysOp}
 use Rattle.sysop.specs.declared.op.SysOp.TheVariants as Op
 use Rattle.mmu.specs.Bare.{Bare, bare_of}
@@ -19,11 +20,7 @@ use Rattle.mmu.specs.Step.{translate_in, translate_fetch_in}
 use Rattle.mmu.specs.Ops.{stepped_now, fetch_stepped_now, translate_of, read_of, write_of, ram_after_write, fetch_of, fetch_pa_of, data_pa_of}
 use Rattle.mmu.specs.OpLaws.{placed_by}
 use Rattle.mmu.specs.declared.core_state.Core.{Core}
-use Rattle.operations.specs.declared.{place.Placed.Placed, place.Verdict.Verdict, bytes.Got.Got, bytes.Insn.Insn}
-use Rattle.operations.specs.declared.{ends.StoreAnswer.StoreAnswer, call.Encoding.Encoding, call.Call.Call}
-use Rattle.operations.specs.declared.place.Placed.TheVariants.{At, Fault}
-use Rattle.operations.specs.declared.place.Verdict.TheVariants.{Inside, Outside}
-use Rattle.operations.specs.declared.ends.StoreAnswer.TheVariants as Store
+use Rattle.operations.specs.declared.{call.Encoding.Encoding, call.Call.Call}
 use Rattle.exec.specs.Ops.{registered, after_register_write}
 use Rattle.exec.specs.Sys.{on_stored, done_with, zero_of, zero_ram, sys_by, sys_ram_by, sys_of, sys_ram}
 use Rattle.operations.specs.Replies.{loading, storing, fetching}
@@ -49,30 +46,30 @@ use Rattle.sysreg.specs.declared.write.WriteError.TheVariants.{Undefined, NoRegi
 load-end : (x : Placed) (last abort base : ℕ) (ram : List ℕ) (va n : ℕ)
     → (load_end x last abort base ram va n).answer ≡ (load_end x 0 0 base ram va n).answer
 unfolding load_end
-load-end (Fault addr f) last abort base ram va n = refl
-load-end (At place) last abort base ram va n = go (load_of base ram place n)
+load-end (Err failed) last abort base ram va n = refl
+load-end (Ok place) last abort base ram va n = go (load_of base ram place n)
   where
     go : (g : Got) → (loaded_from place g abort va).answer ≡ (loaded_from place g 0 va).answer
-    go (Got.Value v) = refl
-    go (Got.Abort i pa) = refl
+    go (Ok v) = refl
+    go (Err out) = refl
 
 store-end : (x : Placed) (abort base : ℕ) (ram : List ℕ) (va n : ℕ) → (store_end x abort base ram va n).answer ≡ (store_end x 0 base ram va n).answer
 unfolding store_end
-store-end (Fault addr f) abort base ram va n = refl
-store-end (At place) abort base ram va n = go (verdict_of base (length ram) place n)
+store-end (Err failed) abort base ram va n = refl
+store-end (Ok place) abort base ram va n = go (verdict_of base (length ram) place n)
   where
     go : (d : Verdict) → (store_end_by d abort va).answer ≡ (store_end_by d 0 va).answer
-    go Inside = refl
-    go (Outside i pa) = refl
+    go (Ok x) = refl
+    go (Err out) = refl
 
 pub fetch-end : (a : Answer) (abort base : ℕ) (ram : List ℕ) (va : ℕ) → (fetch_end a abort base ram va).answer ≡ (fetch_end a 0 base ram va).answer
 unfolding fetch_end
-fetch-end (Status f) abort base ram va = refl
-fetch-end (Address pa) abort base ram va = go (insn_of base ram pa)
+fetch-end (Err f) abort base ram va = refl
+fetch-end (Ok pa) abort base ram va = go (insn_of base ram pa)
   where
-    go : (i : Insn) → (fetched_from pa i abort va).answer ≡ (fetched_from pa i 0 va).answer
-    go (Insn.Value v) = refl
-    go Insn.Outside = refl
+    go : (i : Option ℕ) → (fetched_from pa i abort va).answer ≡ (fetched_from pa i 0 va).answer
+    go (Some v) = refl
+    go None = refl
 
 -- LOADS AND STORES
 
@@ -170,8 +167,8 @@ module _ (c : Core) (m : Ram) (va : ℕ) where
           → outcome (storing (on_stored a (done_with core_then) (write_of c m.base m.bytes va 8)).answer)
           (on_stored a (ram_zeroed c m va).bytes (ram_zeroed c m va).bytes)
           ≡ outcome (storing store_ends) (ram_zeroed c m va).bytes
-      go Store.Done e = ap (λ (x : StoreAnswer). outcome (storing x) (ram_zeroed c m va).bytes) (sym e)
-      go (Store.Stopped s) e = refl
+      go (Ok _) e = ap (λ (x : StoreAnswer). outcome (storing x) (ram_zeroed c m va).bytes) (sym e)
+      go (Err s) e = refl
 
   last-said : outcome (storing store_ends) (ram_zeroed c m va).bytes ≡ zero_says m [] va (access_given c m va 8 Kind.Write ++ [])
   last-said = store-answered c m va 8 0 ∙ ap (store_says m va 8 0) (sym (append-nil (access_given c m va 8 Kind.Write)))
@@ -191,13 +188,13 @@ module _ (c : Core) (m : Ram) (va : ℕ) where
           (storing (on_stored a (zero_of (suc n) core_then m.base next.bytes (wrap (va + 8))) (write_of c m.base m.bytes va 8)).answer)
           (on_stored a (zero_ram (suc n) core_then m.base next.bytes (wrap (va + 8))) next.bytes)
           ≡ zero_says m (on_stored a (next ∷ more) []) va (zero_given (bare_of c) c.tlb m (on_stored a (next ∷ more) []) va)
-      go Store.Done =
+      go (Ok x) =
           rest
           ∙ ap₂ (λ (b : Bare) (t : Tlb). zero_says next more (wrap (va + 8)) (zero_given b t next more (wrap (va + 8))))
           (stored-bare c m va) (stored-tlb c m va)
           ∙ ap (λ (l : List Given). zero_says m (next ∷ more) va (l ++ zero_given (bare_of c) tlb_then next more (wrap (va + 8))))
           (sym (one-given (bare_of c) c.tlb m va al))
-      go (Store.Stopped s) = last-said
+      go (Err s) = last-said
 
 pub zero-said : (n : ℕ) (c : Core) (m : Ram) (va : ℕ) → va % 8 ≡ 0 → ZeroSaid n c m va
 zero-said zero c m va al = one-outcome c m va ∙ last-said c m va

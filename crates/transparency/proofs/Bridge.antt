@@ -12,8 +12,8 @@ use Rattle.mmu.specs.Core.{reg_of, set_reg, after_access}
 use Rattle.mmu.specs.Ops.{write_of}
 use Rattle.mmu.specs.OpLaws as Laws
 use Rattle.mmu.specs.declared.core_state.Core.{Core}
-use Rattle.operations.specs.declared.{ends.StoreAnswer.StoreAnswer, call.Encoding.Encoding, call.Call.Call}
-use Rattle.operations.specs.declared.ends.StoreAnswer.TheVariants.{Done, Stopped}
+use Rattle.operations.specs.declared.{call.Encoding.Encoding, call.Call.Call}
+use Rattle.operations.specs.Answers.{StoreAnswer}
 use Rattle.exec.specs.Fit.{refit_of}
 use Rattle.exec.specs.Ops.{with_regs as coreRegs, applied_of, registered, after_register_write, with_privilege as coreWho, set_level, set_mark, abort_of}
 use Rattle.exec.specs.Sys.{with_par as corePar, at_of, invalidated_of, tlbi_core, on_stored, done_with, zero_of, sys_by, sys_of}
@@ -93,8 +93,8 @@ module _ (c : Core) (m : Ram) (va : ℕ) where
   zero-last = go stored.answer
     where
       go : (a : StoreAnswer) → Fits c (on_stored a (done_with stored.core) stored).core (bare_of c) (zero_steps (bare_of c) m [] va)
-      go Done = one-fits
-      go (Stopped s) = one-fits
+      go (Ok x) = one-fits
+      go (Err s) = one-fits
 
   zero-next : (n : ℕ) → ZeroFits n stored.core (ram_zeroed c m va) (wrap (va + 8)) → ZeroFits (suc n) c m va
   unfolding zero_of write_of after_access
@@ -108,7 +108,7 @@ module _ (c : Core) (m : Ram) (va : ℕ) where
 
       go : (a : StoreAnswer)
           → Fits c (on_stored a more stored).core (bare_of c) (zero_steps (bare_of c) m (on_stored a (ram_zeroed c m va ∷ later) []) va)
-      go Done =
+      go (Ok x) =
           record {
             bare = rest.bare;
             plain = zero-plain (bare_of c) (plain_in (bare_of c)) m (ram_zeroed c m va ∷ later) va;
@@ -116,7 +116,7 @@ module _ (c : Core) (m : Ram) (va : ℕ) where
                 rest.tlb
                 ∙ ap (tlb_run real (plain_in (bare_of c)) (zero_steps (bare_of c) (ram_zeroed c m va) later (wrap (va + 8)))) (stored-tlb c m va);
           }
-      go (Stopped s) = one-fits
+      go (Err s) = one-fits
 
 zero-fits : (n : ℕ) (c : Core) (m : Ram) (va : ℕ)
     → Fits c (zero_of (suc n) c m.base m.bytes va).core (bare_of c) (zero_steps (bare_of c) m (zero_later n c m va) va)

@@ -13,7 +13,6 @@ use Rattle.census.specs.Count.{page_at, census_at}
 use Rattle.census.specs.Laws.{faults_with, has_rights}
 use Rattle.census.proofs.Laws.{sound-at, status-count}
 use Rattle.tlb.specs.declared.access.Kind.{Kind}
-use Rattle.tlb.specs.declared.access.Answer.TheVariants.{Address, Status}
 use Rattle.mmu.specs.Bare.{Bare, fresh_bare, bare_of}
 use Rattle.mmu.specs.Core.{fresh_core}
 use Rattle.mmu.specs.declared.core_state.Core.{Core}
@@ -94,7 +93,7 @@ leaf-answers : (status bit va : ℕ) → NoPermission status → (leaf : Leaf) �
 unfolding leaf_answer
 leaf-answers status bit va h leaf low high = go (eqb (leaf.perms / bit % 2) 1)
   where
-    go : (b : Bool) → answers_fault status (if b then Address (leaf.oa / 4096 * 4096 + va % 4096) else Status (status-of (12 + leaf.level))) ≡ false
+    go : (b : Bool) → answers_fault status (if b then Ok (leaf.oa / 4096 * 4096 + va % 4096) else Err (status-of (12 + leaf.level))) ≡ false
     go true = refl
     go false = ne_eqb (12 + leaf.level) status (λ e. ⊎_elim (λ k. omega arith) (λ k. omega arith) h)
 
@@ -121,7 +120,7 @@ status-faults b m first pages status k small h =
 pub census-faults : Statement.census_faults
 census-faults b m first pages status k old small h passed = rw passed (status-faults b m first pages status k small h)
 
-picked : (b : Bool) (pa : ℕ) (f : Fault) → answers_address (if b then Address pa else Status f) ≡ b
+picked : (b : Bool) (pa : ℕ) (f : Fault) → answers_address (if b then Ok pa else Err f) ≡ b
 picked true pa f = refl
 picked false pa f = refl
 

@@ -1,6 +1,6 @@
 -- Faithfulness of each call that translates, read off `step_of` itself: where the pages meet the premise it has the same
 -- physical address, the same fault with its status and address, and the same bytes as on the core without a cache.
-use Rattle.std.specs.Prelude.{if◌then◌else◌, ◌≡◌, Bool, true, false, List, [], ◌∷◌, ℕ}
+use Rattle.std.specs.Prelude.{if◌then◌else◌, ◌≡◌, Bool, true, false, List, [], ◌∷◌, ℕ, Ok, Err}
 use Rattle.std.proofs.Math.Path.{refl, sym, ap}
 use Rattle.std.proofs.Common.{ap₂, subst, ◌∙◌, append-nil, arith}
 use Rattle.word.specs.Bits.{align_down}
@@ -8,8 +8,9 @@ use Rattle.word.specs.Ram.{bytes_in}
 use Rattle.tlb.specs.Lists.{Each, done, more}
 use Rattle.tlb.specs.Tlb.{fresh}
 use Rattle.tlb.specs.Asks.{Ask, translates, fetches, kind_of, address_of, Given, onward}
-use Rattle.tlb.specs.declared.{access.Kind.Kind, access.Answer.Answer, Tlb.Tlb}
-use Rattle.tlb.specs.declared.access.Answer.TheVariants.{Address, Status}
+use Rattle.tlb.specs.declared.{access.Kind.Kind, Tlb.Tlb}
+use Rattle.tlb.specs.Answers.{Answer}
+use Rattle.operations.specs.Answers.{Placed}
 use Rattle.mmu.specs.Bare.{Bare, fresh_bare, bare_of}
 use Rattle.mmu.specs.Core.{fresh_core}
 use Rattle.operations.specs.Place.{next_page, crosses, placed_one, placed_both}
@@ -18,7 +19,6 @@ use Rattle.mmu.specs.Asks.{asks_by, first_of, placed_from}
 use Rattle.operations.specs.Ends.{reached_by, load_end, store_end, store_ram_end, fetch_end}
 use Rattle.mmu.specs.Ops.{stepped_now, fetch_stepped_now, translate_of, fetch_pa_of, data_pa_of, fetch_of}
 use Rattle.mmu.specs.OpLaws.{placed_by}
-use Rattle.operations.specs.declared.{place.Placed.Placed}
 use Rattle.operations.specs.Replies.{translation, reaching, loading, storing, fetching}
 use Rattle.cpu.specs.Step.{run_of, ram_of, step_of, ram_after}
 use Rattle.operations.specs.declared.call.Call.TheVariants.{System}
@@ -101,13 +101,13 @@ module _ (list : List (Fed real machine)) (seen : Shown real machine fresh_core 
           (record { ask = translates kind va; answer = x }
           ∷ onward x (second ∷ onward {A = List Given} second.answer [] []) [])
           ≡ placed_both va x (uncached_at list m kind (next_page va))
-      go (Address pa) = refl
-      go (Status f) = refl
+      go (Ok pa) = refl
+      go (Err f) = refl
   placed-plain false va kind = go (uncached_at list m kind va)
     where
       go : (x : Answer) → placed_from va (record { ask = translates kind va; answer = x } ∷ onward {A = List Given} x [] []) ≡ placed_one va x
-      go (Address pa) = refl
-      go (Status f) = refl
+      go (Ok pa) = refl
+      go (Err f) = refl
 
   -- where an access lies
   given-placed : (va n : ℕ) (kind : Kind) → SettledOver list m va n kind

@@ -1,6 +1,6 @@
 -- Each fault that a call replies is a row of docs/SCOPE.md's table, with the address translated, or for 0x10 that of a
 -- byte of the access.
-use Rattle.std.specs.Prelude.{if◌then◌else◌, ◌≡◌, Bool, true, false, ◌⊎◌, ℕ, zero, suc, ◌+◌, ◌%◌, ◌^◌, ◌≤◌, ◌<◌, length, Option, Some, None}
+use Rattle.std.specs.Prelude.{if◌then◌else◌, ◌≡◌, Bool, true, false, ◌⊎◌, ℕ, zero, suc, ◌+◌, ◌%◌, ◌^◌, ◌≤◌, ◌<◌, length, Option, Some, None, Ok, Err}
 use Rattle.std.proofs.Math.Path.{refl, ap, subst⁻¹}
 use Rattle.std.proofs.Common.{sym, subst, ◌∙◌, inl, inr, arith, add-zero}
 use mathlib.Core.List.{List, [], ◌∷◌, ◌++◌, append-nil, Memᴰ}
@@ -12,17 +12,18 @@ use Rattle.fault.specs.First.{first}
 use Rattle.fault.specs.declared.Fault.{Fault}
 use Rattle.tlb.specs.Lists.{Each, done, more}
 use Rattle.tlb.specs.Asks.{Ask, translates, fetches, address_of, Given, onward, onward-same}
-use Rattle.tlb.specs.declared.{access.Kind.Kind, access.Answer.Answer, Tlb.Tlb}
-use Rattle.tlb.specs.declared.access.Answer.TheVariants.{Address, Status}
+use Rattle.tlb.specs.declared.{access.Kind.Kind, Tlb.Tlb}
+use Rattle.tlb.specs.Answers.{Answer}
+use Rattle.operations.specs.Answers.{Placed, Verdict, fault_at, outside_at}
 use Rattle.mmu.specs.Bare.{Bare}
 use Rattle.operations.specs.Place.{next_page, crosses, byte_at, first_outside, verdict_of}
+use Rattle.operations.specs.PlaceLaws.{same-outside, same-fault}
 use Rattle.operations.specs.Bytes.{got_by, value_at, load_of, insn_of}
 use Rattle.mmu.specs.Asks.{asks_by, placed_from}
 use Rattle.operations.specs.Ends.{reached_by, loaded_from, load_end, store_end_by, store_end, fetched_from, fetch_end}
-use Rattle.operations.specs.declared.{place.Pages.Pages, place.Place.Place, place.Placed.Placed, place.Verdict.Verdict}
-use Rattle.operations.specs.declared.{bytes.Insn.Insn, call.Call.Call}
+use Rattle.operations.specs.declared.{place.Pages.Pages, place.Place.Place}
+use Rattle.operations.specs.declared.call.Call.{Call}
 use Rattle.operations.specs.declared.place.Place.TheVariants.{Whole, Split}
-use Rattle.operations.specs.declared.place.Verdict.TheVariants.{Inside, Outside}
 use Rattle.sysop.specs.declared.op.SysOp.{SysOp}
 use Rattle.sysop.specs.declared.op.SysOp.TheVariants as Op
 use Rattle.operations.specs.Replies.{translation, loading, storing, fetching, reaching}
@@ -51,41 +52,32 @@ use Rattle.transparency.specs.Faults as Statement
 
 -- THE BYTE that lies outside is one of the access's
 
-outside-injective : {i j x y : ℕ} → Outside i x ≡ Outside j y → i ≡ j
-outside-injective e = cc
-
-first-outside : (base len : ℕ) (p : Pages) (i n j pa : ℕ) → first_outside base len p i n ≡ Outside j pa → j < i + n
+first-outside : (base len : ℕ) (p : Pages) (i n j pa : ℕ) → first_outside base len p i n ≡ Err (outside_at j pa) → j < i + n
 unfolding first_outside
 first-outside base len p i zero j pa e = let z : ◌≡◌ {A = ℕ} 0 1 = cc in absurd (omega arith)
 first-outside base len p i (suc n) j pa e = go (within base len 1 (byte_at p i)) e (λ f. first-outside base len p (i + 1) n j pa f)
   where
-    go : (b : Bool) → (if b then first_outside base len p (i + 1) n else Outside i (byte_at p i)) ≡ Outside j pa
-        → (first_outside base len p (i + 1) n ≡ Outside j pa → j < i + 1 + n) → j < i + suc n
+    go : (b : Bool) → ◌≡◌ {A = Verdict} (if b then first_outside base len p (i + 1) n else Err (outside_at i (byte_at p i))) (Err (outside_at j pa))
+        → (first_outside base len p (i + 1) n ≡ Err (outside_at j pa) → j < i + 1 + n) → j < i + suc n
     go true f k = let h : j < i + 1 + n = k f in omega arith
-    go false f k = let h : i ≡ j = outside-injective f in omega arith
+    go false f k = let h : i ≡ j = (same-outside _ _ _ _ f).0 in omega arith
 
-byte_low : (base len : ℕ) (place : Place) (n j pa : ℕ) → 0 < n → verdict_of base len place n ≡ Outside j pa → j < n
+byte_low : (base len : ℕ) (place : Place) (n j pa : ℕ) → 0 < n → verdict_of base len place n ≡ Err (outside_at j pa) → j < n
 unfolding verdict_of
 byte_low base len (Whole q) n j pa some e = go (within base len n q) e
   where
-    go : (b : Bool) → (if b then Inside else Outside 0 q) ≡ Outside j pa → j < n
+    go : (b : Bool) → ◌≡◌ {A = Verdict} (if b then Ok tt else Err (outside_at 0 q)) (Err (outside_at j pa)) → j < n
     go true f = let z : ◌≡◌ {A = ℕ} 0 1 = cc in absurd (omega arith)
-    go false f = let h : 0 ≡ j = outside-injective f in omega arith
+    go false f = let h : 0 ≡ j = (same-outside _ _ _ _ f).0 in omega arith
 byte_low base len (Split p) n j pa some e = let h : j < 0 + n = first-outside base len p 0 n j pa e in omega arith
 
 -- AN ACCESS: a fault is that of one of its translations, and a place begins where the first was allowed
 
 pub record PlacedFrom (va : ℕ) (gs : List Given) : Type 0 where
-  pub faulting : (a : ℕ) (fault : Fault) → placed_from va gs ≡ Placed.Fault a fault
-      → (g : Given) × Memᴰ g gs × (address_of g.ask ≡ a) × (g.answer ≡ Status fault)
-  pub lying : (place : Place) → placed_from va gs ≡ Placed.At place
-      → (g : Given) × Memᴰ g gs × (address_of g.ask ≡ va) × (pa : ℕ) × (g.answer ≡ Address pa)
-
-fault-one : {a b : ℕ} {x y : Fault} → Placed.Fault a x ≡ Placed.Fault b y → a ≡ b
-fault-one e = cc
-
-fault-two : {a b : ℕ} {x y : Fault} → Placed.Fault a x ≡ Placed.Fault b y → x ≡ y
-fault-two e = cc
+  pub faulting : (a : ℕ) (fault : Fault) → placed_from va gs ≡ Err (fault_at a fault)
+      → (g : Given) × Memᴰ g gs × (address_of g.ask ≡ a) × (g.answer ≡ Err fault)
+  pub lying : (place : Place) → placed_from va gs ≡ Ok place
+      → (g : Given) × Memᴰ g gs × (address_of g.ask ≡ va) × (pa : ℕ) × (g.answer ≡ Ok pa)
 
 -- two translations, by their answers
 module _ (va : ℕ) (kind : Kind) where
@@ -96,26 +88,26 @@ module _ (va : ℕ) (kind : Kind) where
   two y = record { ask = translates kind (next_page va); answer = y }
 
   placed_one : (x : Answer) → PlacedFrom va (one x ∷ [])
-  placed_one (Address pa) =
+  placed_one (Ok pa) =
       record {
         faulting = λ a fault e. let z : ◌≡◌ {A = ℕ} 0 1 = cc in absurd (omega arith);
-        lying = λ place e. (one (Address pa), Memᴰ.head refl, refl, pa, refl);
+        lying = λ place e. (one (Ok pa), Memᴰ.head refl, refl, pa, refl);
       }
-  placed_one (Status f) =
+  placed_one (Err f) =
       record {
-        faulting = λ a fault e. (one (Status f), Memᴰ.head refl, fault-one e, ap Status (fault-two e));
+        faulting = λ a fault e. (one (Err f), Memᴰ.head refl, (same-fault _ _ _ _ e).0, ap Err (same-fault _ _ _ _ e).1);
         lying = λ place e. let z : ◌≡◌ {A = ℕ} 0 1 = cc in absurd (omega arith);
       }
 
-  placed-two : (pa : ℕ) (y : Answer) → PlacedFrom va (one (Address pa) ∷ two y ∷ [])
-  placed-two pa (Address pb) =
+  placed-two : (pa : ℕ) (y : Answer) → PlacedFrom va (one (Ok pa) ∷ two y ∷ [])
+  placed-two pa (Ok pb) =
       record {
         faulting = λ a fault e. let z : ◌≡◌ {A = ℕ} 0 1 = cc in absurd (omega arith);
-        lying = λ place e. (one (Address pa), Memᴰ.head refl, refl, pa, refl);
+        lying = λ place e. (one (Ok pa), Memᴰ.head refl, refl, pa, refl);
       }
-  placed-two pa (Status f) =
+  placed-two pa (Err f) =
       record {
-        faulting = λ a fault e. (two (Status f), Memᴰ.tail (Memᴰ.head refl), fault-one e, ap Status (fault-two e));
+        faulting = λ a fault e. (two (Err f), Memᴰ.tail (Memᴰ.head refl), (same-fault _ _ _ _ e).0, ap Err (same-fault _ _ _ _ e).1);
         lying = λ place e. let z : ◌≡◌ {A = ℕ} 0 1 = cc in absurd (omega arith);
       }
 
@@ -129,8 +121,8 @@ module _ (va : ℕ) (kind : Kind) where
       (answer_of real q m (translates kind (next_page va)) (tlb_ask real q m (translates kind va) t))
     where
       go : (x y : Answer) → PlacedFrom va (one x ∷ onward {A = List Given} x (two y ∷ onward {A = List Given} y [] []) [])
-      go (Address pa) y = subst (λ (l : List Given). PlacedFrom va (one (Address pa) ∷ two y ∷ l)) (sym (onward-same y [])) (placed-two pa y)
-      go (Status f) y = placed_one (Status f)
+      go (Ok pa) y = subst (λ (l : List Given). PlacedFrom va (one (Ok pa) ∷ two y ∷ l)) (sym (onward-same y [])) (placed-two pa y)
+      go (Err f) y = placed_one (Err f)
 
 -- WHAT AN ACCESS REPLIES
 
@@ -142,7 +134,7 @@ some_bytes Width.Double = (omega arith, omega arith)
 
 module _ (m : Ram) (va n : ℕ) (some : 0 < n) (few : n ≤ 8) (gs : List Given) (from : PlacedFrom va gs) (addr : ℕ) (fault : Fault) where
   -- a byte outside
-  out : (place : Place) (j pa : ℕ) → placed_from va gs ≡ Placed.At place → verdict_of m.base (length m.bytes) place n ≡ Outside j pa
+  out : (place : Place) (j pa : ℕ) → placed_from va gs ≡ Ok place → verdict_of m.base (length m.bytes) place n ≡ Err (outside_at j pa)
       → wrap (va + j) ≡ addr → first 0x10 ≡ fault → FaultFrom gs addr fault
   out place j pa e v a f =
       let (g, mem, q, pb, r) = from.lying place e in
@@ -154,30 +146,30 @@ module _ (m : Ram) (va n : ℕ) (some : 0 < n) (few : n ≤ 8) (gs : List Given)
   load_from = go (placed_from va gs) refl
     where
       go : (q : Placed) → placed_from va gs ≡ q → RepliesFault (loading (load_end q 0 0 m.base m.bytes va n).answer) addr fault → FaultFrom gs addr fault
-      go (Placed.Fault a f) e w =
-          let (g, mem, p, r) = from.faulting a f e in
-          translating g mem (p ∙ w.0) (r ∙ ap Status w.1)
-      go (Placed.At place) e w = by-verdict (verdict_of m.base (length m.bytes) place n) refl w
+      go (Err failed) e w =
+          let (g, mem, p, r) = from.faulting failed.addr failed.fault e in
+          translating g mem (p ∙ w.0) (r ∙ ap Err w.1)
+      go (Ok place) e w = by-verdict (verdict_of m.base (length m.bytes) place n) refl w
         where
           by-verdict : (v : Verdict) → verdict_of m.base (length m.bytes) place n ≡ v
               → RepliesFault (loading (loaded_from place (got_by v (value_at m.base m.bytes place n)) 0 va).answer) addr fault → FaultFrom gs addr fault
-          by-verdict Inside d x = absurd x
-          by-verdict (Outside j pa) d x = out place j pa e d x.0 x.1
+          by-verdict (Ok _) d x = absurd x
+          by-verdict (Err o) d x = out place o.index o.pa e d x.0 x.1
 
   store-from : (v : ℕ) → RepliesFault (store_says m va n v gs).reply addr fault → FaultFrom gs addr fault
   unfolding store_end
   store-from v = go (placed_from va gs) refl
     where
       go : (q : Placed) → placed_from va gs ≡ q → RepliesFault (storing (store_end q 0 m.base m.bytes va n).answer) addr fault → FaultFrom gs addr fault
-      go (Placed.Fault a f) e w =
-          let (g, mem, p, r) = from.faulting a f e in
-          translating g mem (p ∙ w.0) (r ∙ ap Status w.1)
-      go (Placed.At place) e w = by-verdict (verdict_of m.base (length m.bytes) place n) refl w
+      go (Err failed) e w =
+          let (g, mem, p, r) = from.faulting failed.addr failed.fault e in
+          translating g mem (p ∙ w.0) (r ∙ ap Err w.1)
+      go (Ok place) e w = by-verdict (verdict_of m.base (length m.bytes) place n) refl w
         where
           by-verdict : (d : Verdict) → verdict_of m.base (length m.bytes) place n ≡ d
               → RepliesFault (storing (store_end_by d 0 va).answer) addr fault → FaultFrom gs addr fault
-          by-verdict Inside d x = absurd x
-          by-verdict (Outside j pa) d x = out place j pa e d x.0 x.1
+          by-verdict (Ok _) d x = absurd x
+          by-verdict (Err o) d x = out place o.index o.pa e d x.0 x.1
 
 -- A ZEROING
 
@@ -227,23 +219,23 @@ store-sized-from (Some w) b m va v t addr fault x =
 module _ (b : Bare) (m : Ram) (t : Tlb) (addr : ℕ) (fault : Fault) where
   translate-from : (a : Ask) (x : Answer) → RepliesFault (translation (address_of a) x) addr fault → (l : List Given)
       → FaultFrom (record { ask = a; answer = x } ∷ l) addr fault
-  translate-from a (Address pa) w l = absurd w
-  translate-from a (Status f) w l = translating _ (Memᴰ.head refl) w.0 (ap Status w.1)
+  translate-from a (Ok pa) w l = absurd w
+  translate-from a (Err f) w l = translating _ (Memᴰ.head refl) w.0 (ap Err w.1)
 
   reach-from : (x : Answer) → RepliesFault (reaching (reached_by x)) addr fault → ⊥
-  reach-from (Address pa) w = w
-  reach-from (Status f) w = w
+  reach-from (Ok pa) w = w
+  reach-from (Err f) w = w
 
   fetch-from : (va : ℕ) (x : Answer) → RepliesFault (fetching (fetch_end x 0 m.base m.bytes va).answer) addr fault → (l : List Given)
       → FaultFrom (record { ask = fetches va; answer = x } ∷ l) addr fault
   unfolding fetch_end
-  fetch-from va (Status f) w l = translating _ (Memᴰ.head refl) w.0 (ap Status w.1)
-  fetch-from va (Address pa) w l = go (insn_of m.base m.bytes pa) w
+  fetch-from va (Err f) w l = translating _ (Memᴰ.head refl) w.0 (ap Err w.1)
+  fetch-from va (Ok pa) w l = go (insn_of m.base m.bytes pa) w
     where
-      go : (i : Insn) → RepliesFault (fetching (fetched_from pa i 0 va).answer) addr fault
-          → FaultFrom (record { ask = fetches va; answer = Address pa } ∷ l) addr fault
-      go (Insn.Value v) y = absurd y
-      go Insn.Outside y =
+      go : (i : Option ℕ) → RepliesFault (fetching (fetched_from pa i 0 va).answer) addr fault
+          → FaultFrom (record { ask = fetches va; answer = Ok pa } ∷ l) addr fault
+      go (Some v) y = absurd y
+      go None y =
           outside _ (Memᴰ.head refl) pa refl 0 (omega arith) (ap wrap (sym y.0) ∙ ap wrap (sym (add-zero va))) (sym y.1)
 
   call_from : (ms : List Ram) (x : Call) → RepliesFault (call_says b m ms x (ran_given b m ms x t)).reply addr fault → FaultFrom (ran_given b m ms x t) addr fault

@@ -2,19 +2,16 @@
 -- DC ZVA leaves 64 zero bytes at the translation of the aligned address and every other byte as it was. The laws are
 -- mmu's and exec's, of cores that are well-formed; `read_of`, `write_of`, `ram_after_write`, `sys_of` and `sys_ram` are what
 -- `step_of` and `ram_after` make of a call that misses no check.
-use Rattle.std.specs.Prelude.{◌≡◌, false, List, ℕ, ◌+◌, ◌/◌, ◌%◌, ◌^◌, ◌≤◌, ◌<◌, get_or}
+use Rattle.std.specs.Prelude.{◌≡◌, false, List, ℕ, ◌+◌, ◌/◌, ◌%◌, ◌^◌, ◌≤◌, ◌<◌, get_or, Ok}
 use Rattle.std.proofs.Math.ListN.{length}
 use Rattle.word.specs.Bits.{align_down, wrap}
 use Rattle.tlb.specs.declared.access.Kind.{Kind}
 use Rattle.tlb.specs.declared.access.Kind.TheVariants.{Read, Write}
-use Rattle.tlb.specs.declared.access.Answer.TheVariants.{Address}
 use Rattle.mmu.specs.Core.{fresh_core, reg_of}
 use Rattle.operations.specs.Bytes.{byte_in}
 use Rattle.mmu.specs.Ops.{translate_of, read_of, write_of, ram_after_write}
 use Rattle.mmu.specs.OwnAddress.{own_answer}
 use Rattle.mmu.specs.ByteMeaning.{OwnByte}
-use Rattle.operations.specs.declared.ends.LoadAnswer.TheVariants as Load
-use Rattle.operations.specs.declared.ends.StoreAnswer.TheVariants as Store
 use Rattle.sysop.specs.declared.op.SysOp.TheVariants as Op
 use Rattle.exec.specs.Sys.{op_of, sys_of, sys_ram}
 use Rattle.exec.specs.ZeroMeaning.{Zeroed}
@@ -31,7 +28,7 @@ module _ (list : List (Fed real machine)) (m : Ram) where
   abbrev pub flat_after : Type 0
   flat_after =
       World.on_now real (plain_in (bare_now list)) ≡ false → (kind : Kind) (va : ℕ)
-      → (translate_of (core_now list) (memory_of m) va kind).answer ≡ Address va
+      → (translate_of (core_now list) (memory_of m) va kind).answer ≡ Ok va
 
 -- EACH BYTE
 
@@ -40,7 +37,7 @@ abbrev pub load_byte_after : Type 0
 load_byte_after =
     (list : List (Fed real machine)) (seen : Shown real machine fresh_core list) (m : Ram) (va n v i : ℕ)
     → va < 2 ^ 64 → n ≤ 8 → m.base + length m.bytes ≤ 2 ^ 64 → ((k : ℕ) → get_or m.bytes k 0 < 256)
-    → (read_of (core_now list) m.base m.bytes va n).answer ≡ Load.Value v → i < n
+    → (read_of (core_now list) m.base m.bytes va n).answer ≡ Ok v → i < n
     → (o : OwnByte (core_now list) m.base m.bytes va Read i) × (v / 256 ^ i % 256 ≡ byte_in m.base m.bytes (wrap o.pa))
 
 -- after a store that is done, the byte of RAM at the translation of byte i's own address is byte i of the value; of two
@@ -49,9 +46,9 @@ abbrev pub store_byte_after : Type 0
 store_byte_after =
     (list : List (Fed real machine)) (seen : Shown real machine fresh_core list) (m : Ram) (va n v i : ℕ)
     → va < 2 ^ 64 → n ≤ 8 → m.base + length m.bytes ≤ 2 ^ 64
-    → (write_of (core_now list) m.base m.bytes va n).answer ≡ Store.Done → i < n
+    → (write_of (core_now list) m.base m.bytes va n).answer ≡ Ok tt → i < n
     → (o : OwnByte (core_now list) m.base m.bytes va Write i)
-    × (((j pa : ℕ) → i < j → j < n → own_answer (core_now list) (memory_of m) va Write j ≡ Address pa
+    × (((j pa : ℕ) → i < j → j < n → own_answer (core_now list) (memory_of m) va Write j ≡ Ok pa
     → wrap pa ≡ wrap o.pa → ⊥)
     → byte_in m.base (ram_after_write (core_now list) m.base m.bytes va n v) (wrap o.pa) ≡ v / 256 ^ i % 256)
 
@@ -60,7 +57,7 @@ abbrev pub store_others_after : Type 0
 store_others_after =
     (list : List (Fed real machine)) (seen : Shown real machine fresh_core list) (m : Ram) (va n v k : ℕ)
     → va < 2 ^ 64 → n ≤ 8 → m.base + length m.bytes ≤ 2 ^ 64 → k < length m.bytes
-    → ((i pa : ℕ) → i < n → own_answer (core_now list) (memory_of m) va Write i ≡ Address pa → wrap pa ≡ m.base + k → ⊥)
+    → ((i pa : ℕ) → i < n → own_answer (core_now list) (memory_of m) va Write i ≡ Ok pa → wrap pa ≡ m.base + k → ⊥)
     → get_or (ram_after_write (core_now list) m.base m.bytes va n v) k 0 ≡ get_or m.bytes k 0
 
 -- DC ZVA that is done
@@ -68,7 +65,7 @@ abbrev pub zva_after : Type 0
 zva_after =
     (list : List (Fed real machine)) (seen : Shown real machine fresh_core list) (m : Ram) (op1 crn crm op2 rt : ℕ)
     → reg_of (core_now list) rt < 2 ^ 64 → op_of (core_now list) op1 crn crm op2 ≡ Op.Zva
-    → (sys_of (core_now list) m.base m.bytes op1 crn crm op2 rt).answer ≡ Store.Done
+    → (sys_of (core_now list) m.base m.bytes op1 crn crm op2 rt).answer ≡ Ok tt
     → (pa : ℕ)
-    × (((translate_of (core_now list) (memory_of m) (align_down (reg_of (core_now list) rt) 6) Write).answer ≡ Address pa)
+    × (((translate_of (core_now list) (memory_of m) (align_down (reg_of (core_now list) rt) 6) Write).answer ≡ Ok pa)
     × Zeroed m.base pa m.bytes (sys_ram (core_now list) m.base m.bytes op1 crn crm op2 rt))

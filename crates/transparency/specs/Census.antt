@@ -1,6 +1,6 @@
 -- The page census after every list of calls: it counts what the core without a cache would, page by page, and is a step
 -- that does nothing.
-use Rattle.std.specs.Prelude.{◌≡◌, Bool, true, false, List, ◌∷◌, ◌++◌, ◌⊎◌, ℕ, ◌/◌, ◌%◌, ◌<◌, eqb, get_or}
+use Rattle.std.specs.Prelude.{◌≡◌, Bool, true, false, List, ◌∷◌, ◌++◌, ◌⊎◌, ℕ, ◌/◌, ◌%◌, ◌<◌, eqb, get_or, Ok, Err}
 use Rattle.walk.specs.Regime.{bank_of, regime_of}
 use Rattle.walk.specs.declared.{regime.Regime.Regime, regime.Bank.Bank}
 use Rattle.walk.specs.declared.fresh.Fresh.TheVariants.{Flat}
@@ -8,8 +8,7 @@ use Rattle.census.specs.Tally.{how_many}
 use Rattle.census.specs.Count.{page_at, census_at}
 use Rattle.census.specs.Laws.{has_rights}
 use Rattle.tlb.specs.declared.access.Kind.{Kind}
-use Rattle.tlb.specs.declared.access.Answer.{Answer}
-use Rattle.tlb.specs.declared.access.Answer.TheVariants.{Address, Status}
+use Rattle.tlb.specs.Answers.{Answer}
 use Rattle.mmu.specs.Bare.{Bare}
 use Rattle.operations.specs.declared.call.Call.TheVariants.{Census}
 use Rattle.cpu.specs.Step.{step_of}
@@ -64,8 +63,8 @@ census_skipped =
 
 -- a fault of this status
 abbrev pub answers_fault : ℕ → Answer → Bool
-answers_fault status (Address pa) = false
-answers_fault status (Status f) = eqb f.fsc status
+answers_fault status (Ok pa) = false
+answers_fault status (Err f) = eqb f.fsc status
 
 -- a permission fault, which depends on the access, is 0x0D to 0x0F
 abbrev pub NoPermission : ℕ → Type 0
@@ -80,8 +79,8 @@ census_faults =
     ≡ how_many (λ i. answers_fault status (uncached real (plain_in b) m k (page_at first i))) pages
 
 abbrev pub answers_address : Answer → Bool
-answers_address (Address pa) = true
-answers_address (Status f) = false
+answers_address (Ok pa) = true
+answers_address (Err f) = false
 
 -- Of a page that is counted under a permission byte the core without a cache answers an access with an address exactly
 -- where the byte has the bit that the access needs; of a flat one, with the address itself.
@@ -93,4 +92,4 @@ rights_allow =
 abbrev pub flat_allows : Type 0
 flat_allows =
     (b : Bare) (m : Ram) (k : Kind) (va pa : ℕ) → fresh_now (plain_in b) m va ≡ Flat pa
-    → uncached real (plain_in b) m k va ≡ Address pa
+    → uncached real (plain_in b) m k va ≡ Ok pa

@@ -6,13 +6,15 @@ use Rattle.word.specs.Ram.{width_of, bytes_in}
 use Rattle.word.specs.declared.ram.Width.{Width}
 use Rattle.tlb.specs.Lists.{Each}
 use Rattle.tlb.specs.Asks.{address_of}
-use Rattle.tlb.specs.declared.{access.Kind.Kind, access.Answer.Answer}
+use Rattle.tlb.specs.declared.access.Kind.{Kind}
+use Rattle.tlb.specs.Answers.{Answer}
+use Rattle.operations.specs.Answers.{Placed}
 use Rattle.mmu.specs.Bare.{Bare, fresh_bare, bare_of}
 use Rattle.operations.specs.Place.{next_page, crosses, placed_one, placed_both}
 use Rattle.operations.specs.Ends.{reached_by, load_end, store_end, store_ram_end, fetch_end}
 use Rattle.mmu.specs.Ops.{located_now}
 use Rattle.mmu.specs.declared.core_state.Core.{Core}
-use Rattle.operations.specs.declared.{place.Placed.Placed, call.Encoding.Encoding}
+use Rattle.operations.specs.declared.call.Encoding.{Encoding}
 use Rattle.sysop.specs.declared.op.SysOp.TheVariants as Op
 use Rattle.operations.specs.Replies.{translation, reaching, loading, storing, fetching}
 use Rattle.cpu.specs.Step.{step_of, ram_after}

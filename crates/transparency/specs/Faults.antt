@@ -1,12 +1,11 @@
 -- Each fault that a call replies is a row of docs/SCOPE.md's table, with the address translated, or for 0x10 that of a
 -- byte of the access.
-use Rattle.std.specs.Prelude.{◌≡◌, ◌⊎◌, ℕ, ◌+◌, ◌<◌}
+use Rattle.std.specs.Prelude.{◌≡◌, ◌⊎◌, ℕ, ◌+◌, ◌<◌, Ok, Err}
 use mathlib.Core.List.{List, Memᴰ}
 use Rattle.word.specs.Bits.{wrap}
 use Rattle.fault.specs.First.{first}
 use Rattle.fault.specs.declared.Fault.{Fault}
 use Rattle.tlb.specs.Asks.{address_of, Given}
-use Rattle.tlb.specs.declared.access.Answer.TheVariants.{Address, Status}
 use Rattle.exception.specs.declared.kind.Exception.TheVariants as Exception
 use Rattle.exception.specs.declared.kind.Stop.TheVariants as Stop
 use Rattle.mmu.specs.Core.{fresh_core}
@@ -42,8 +41,8 @@ RepliesFault Reply.Faults addr fault = ⊥
 -- for an abort, from an access that begins at the address of one that was allowed, with the address of its byte i
 -- (which byte: `lowest` of operations/specs/PlaceLaws.antt, and the first where the access is not split).
 pub data FaultFrom (gs : List Given) (addr : ℕ) (fault : Fault) : Type 0 where
-  translating : (g : Given) → Memᴰ g gs → address_of g.ask ≡ addr → g.answer ≡ Status fault → FaultFrom gs addr fault
-  outside : (g : Given) → Memᴰ g gs → (pa : ℕ) → g.answer ≡ Address pa → (i : ℕ) → i < 8
+  translating : (g : Given) → Memᴰ g gs → address_of g.ask ≡ addr → g.answer ≡ Err fault → FaultFrom gs addr fault
+  outside : (g : Given) → Memᴰ g gs → (pa : ℕ) → g.answer ≡ Ok pa → (i : ℕ) → i < 8
       → wrap addr ≡ wrap (address_of g.ask + i) → fault ≡ first 0x10
       → FaultFrom gs addr fault
 

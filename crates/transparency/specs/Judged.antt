@@ -1,10 +1,9 @@
 -- Of every core that calls reach: each translation, by walk, entry or hint, is judged by the manual's permission check,
 -- and each fault that it meets is a row of docs/SCOPE.md's table.
-use Rattle.std.specs.Prelude.{◌≡◌, List, [], ◌++◌}
+use Rattle.std.specs.Prelude.{◌≡◌, List, [], ◌++◌, Err}
 use Rattle.fault.specs.declared.Fault.{Fault}
 use Rattle.tlb.specs.Lists.{Each}
 use Rattle.tlb.specs.Asks.{Given}
-use Rattle.tlb.specs.declared.access.Answer.TheVariants.{Status}
 use Rattle.mmu.specs.Bare.{fresh_bare}
 use Rattle.mmu.specs.Core.{fresh_core}
 use Rattle.history.specs.History.{Step, Event, tlb_run, answers}
@@ -28,7 +27,7 @@ every_call_judged =
 
 -- a fault that a translation meets is a row of the table
 abbrev pub RowGiven : Given → Type 0
-RowGiven g = (f : Fault) → g.answer ≡ Status f → Row f.fsc
+RowGiven g = (f : Fault) → g.answer ≡ Err f → Row f.fsc
 
 -- ROWS: of all translations of a call after the list
 abbrev pub every_row : Type 0

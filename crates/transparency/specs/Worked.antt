@@ -1,10 +1,9 @@
 -- A worked list of calls, by computation on the core itself: the premise of faithfulness holds where the cache answers, and
 -- fails where a table was changed without a TLBI.
-use Rattle.std.specs.Prelude.{◌≡◌, true, List, [], ◌∷◌, ◌++◌, ℕ}
+use Rattle.std.specs.Prelude.{◌≡◌, true, List, [], ◌∷◌, ◌++◌, ℕ, Ok}
 use Rattle.word.specs.Ram.{bytes_of}
 use Rattle.tlb.specs.Step.{translation_in}
 use Rattle.tlb.specs.declared.access.Kind.TheVariants.{Read}
-use Rattle.tlb.specs.declared.access.Answer.TheVariants.{Address}
 use Rattle.tlb.specs.declared.resolve.Source.TheVariants.{FromHint}
 use Rattle.mmu.specs.Bare.{bare_of}
 use Rattle.cpu.specs.Step.{step_of}
@@ -69,14 +68,14 @@ by_cache =
     ((translation_in (access_of real (plain_in (bare_after tidied)) new Read 0x40001234) (core_after tidied).tlb).source
     ≡ FromHint)
     × ((step_of (core_after tidied) new.base new.bytes read).reply ≡ Value 0xC0001234)
-    × (uncached real (plain_in (bare_after tidied)) new Read 0x40001234 ≡ Address 0xC0001234)
+    × (uncached real (plain_in (bare_after tidied)) new Read 0x40001234 ≡ Ok 0xC0001234)
 
 -- WITHOUT IT the cache answers by the old table, so the page is not settled.
 
 abbrev pub stale : Type 0
 stale =
     ((step_of (core_after start) new.base new.bytes read).reply ≡ Value 0x80001234)
-    × (uncached real (plain_in (bare_after start)) new Read 0x40001234 ≡ Address 0xC0001234)
+    × (uncached real (plain_in (bare_after start)) new Read 0x40001234 ≡ Ok 0xC0001234)
     × (missed_in (bare_of (core_after start)) new read ≡ 0)
 
 abbrev pub unsettled : Type 0

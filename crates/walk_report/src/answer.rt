@@ -2,7 +2,7 @@
 use crate::fields::{Rights, Status};
 use a72abi::calls;
 use std::fmt;
-use tlb::access::{Answer, Kind, Privilege};
+use tlb::access::{Kind, Privilege};
 use tlb::resolve;
 use walk::level::{Leaf, Walked};
 use walk::regime::Regime;
@@ -72,8 +72,8 @@ pub fn of_walk(
             let e = resolve::entry_for(leaf, at, 0);
             let user = privilege.is_user(regime, kind);
             match e.judge(user, kind, va) {
-                Answer::Address(pa) => Told::Address(pa),
-                Answer::Status(fault) => Told::Fault(u64::from(fault.fsc)),
+                Ok(pa) => Told::Address(pa),
+                Err(fault) => Told::Fault(u64::from(fault.fsc)),
             }
         }
         Err(code) => Told::Fault(u64::from(code)),

@@ -17,7 +17,7 @@ pub fn missed(state: &State, base: u64, len: u64, first: u64, pages: u64) -> u8
     ensures { result ≡ missed_of (core_of state.now).privilege.level base len (Call.Census first pages) }
 {
     let privilege = state::privilege_at(state);
-    check::census(privilege.level, base, len, first, pages)
+    check::number_missed(check::census(privilege.level, base, len, first, pages))
 }
 
 // The census of so many pages from the page of first: 0 and all 129 counts, or the number of the first check that it

@@ -12,8 +12,8 @@ use Rattle.operations.specs.Ends.{load_end, store_end, store_ram_end}
 use Rattle.mmu.specs.Ops.{stepped_now, located_now, translate_of, translate_access_of, read_of, write_of, ram_after_write}
 use Rattle.mmu.specs.declared.core_state.Core.{Core}
 use Rattle.mmu.specs.Results.{Accessed}
-use Rattle.operations.specs.declared.{place.Placed.Placed, ends.LoadEnd.LoadEnd, ends.StoreEnd.StoreEnd}
-use Rattle.operations.specs.declared.{ends.LoadAnswer.LoadAnswer, ends.StoreAnswer.StoreAnswer}
+use Rattle.operations.specs.declared.{ends.LoadEnd.LoadEnd, ends.StoreEnd.StoreEnd}
+use Rattle.operations.specs.Answers.{Placed, LoadAnswer, StoreAnswer}
 use Rattle.words.specs.CoreOf.{core_of}
 use Rattle.words.specs.Parts.{with_last, with_abort}
 use Rattle.words.specs.NowHolds.{NowHolds, holds_as, holds_on}

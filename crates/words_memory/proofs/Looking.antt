@@ -1,5 +1,5 @@
 -- The cell, the hint and the whole translation in place, on plain values, for `search`.
-use Rattle.std.specs.Prelude.{Some, Option, None}
+use Rattle.std.specs.Prelude.{Some, Option, None, Ok, Err}
 use Rattle.std.specs.Prelude.{Bool, true, false, ◌&&◌, List, ℕ}
 use Rattle.std.proofs.Common.{◌≡◌, refl, sym, ap, ◌∙◌}
 use Rattle.std.proofs.Common.{arith}
@@ -16,12 +16,12 @@ use Rattle.tlb.specs.Count.{hit_counted}
 use Rattle.tlb.specs.Cache.{entry_at, hint_at}
 use Rattle.tlb.specs.Resolve.{query_of, ask_of, by_entry, by_walk, resolve_with, resolve_of, changes_of}
 use Rattle.tlb.specs.Translate.{untagged_now, miss_of, changes-are, asked-query}
-use Rattle.tlb.specs.declared.{access.Kind.Kind, access.Privilege.Privilege, access.Answer.Answer, entry.Entry.Entry}
+use Rattle.tlb.specs.declared.{access.Kind.Kind, access.Privilege.Privilege, entry.Entry.Entry}
+use Rattle.tlb.specs.Answers.{Answer}
 use Rattle.tlb.specs.declared.{entry.Current.Current, hint.Hint.Hint, hint.FetchHint.FetchHint}
 use Rattle.tlb.specs.declared.{resolve.Query.Query, resolve.Asked.Asked}
 use Rattle.tlb.specs.declared.resolve.Resolved.{Resolved}
 use Rattle.tlb.specs.declared.access.Kind.TheVariants.{Fetch}
-use Rattle.tlb.specs.declared.access.Answer.TheVariants.{Address, Status}
 use Rattle.tlb.specs.declared.resolve.Asked.TheVariants.{Flat, Of}
 use Rattle.mmu.specs.Core.{after_access, bank_now}
 use Rattle.mmu.specs.Step.{slot_at}
@@ -193,10 +193,10 @@ module _ (ws : List ℕ) (base : ℕ) (ram : List ℕ) (va : ℕ) (kind : Kind) 
         miss-core xs f m = holds_as m (ap (λ (x : Translated). x.core) (miss-is f))
 
   module _ (f : a ≡ Flat) where
-    flat-is : answering (with_hint_for c privilege kind va va) (Address va) ≡ found
+    flat-is : answering (with_hint_for c privilege kind va va) (Ok va) ≡ found
     unfolding found_to sourced
     flat-is =
-        (λ i. answering (with_hint_for (sym (unchanged c slot) i) (ew i) kind va va) (Address va))
+        (λ i. answering (with_hint_for (sym (unchanged c slot) i) (ew i) kind va va) (Ok va))
         ∙ ap (committing c c.privilege kind va slot)
         (ap (λ (x : Asked). changes_of x (bank_now c) c.privilege c.tlb.cache.current own va kind memory) (sym f) ∙ changes-is)
 
@@ -233,7 +233,7 @@ module _ (ws : List ℕ) (va : ℕ) (kind : Kind) (privilege : Privilege) (b : B
 
 -- the whole translation
 module _ (ws : List ℕ) (memory : ℕ → Option ℕ) (va : ℕ) (kind : Kind) (p : Option ℕ) (ep : p ≡ hint_found (core_of ws) va kind) where
-  pub by-hint-answer : (pa : ℕ) → p ≡ Some pa → Address pa ≡ (translate_of (core_of ws) memory va kind).answer
+  pub by-hint-answer : (pa : ℕ) → p ≡ Some pa → Ok pa ≡ (translate_of (core_of ws) memory va kind).answer
   by-hint-answer pa e = sym (ap (λ (x : Translated). x.answer) (hint-serves (core_of ws) memory va kind pa (sym ep ∙ e)))
 
   pub by-hint-core : (pa : ℕ) → p ≡ Some pa → NowHolds ws ws (translate_of (core_of ws) memory va kind).core
@@ -262,9 +262,9 @@ module _ (ws : List ℕ) (memory : ℕ → Option ℕ) (va : ℕ) (kind : Kind) 
   by-find-value v old e q = q ∙ ap (λ (a : Answer). value_of a old) (by-find-answer _ e refl)
 
 -- the number says which answer it was
-pub code_at : (a : Answer) (code pa old : ℕ) → code ≡ code_of a → code ≡ 0 → pa ≡ value_of a old → a ≡ Address pa
-code_at (Address x) code pa old e z q = ap Address (sym q)
-code_at (Status fsc) code pa old e z q = absurd (omega (arith, e, z))
+pub code_at : (a : Answer) (code pa old : ℕ) → code ≡ code_of a → code ≡ 0 → pa ≡ value_of a old → a ≡ Ok pa
+code_at (Ok x) code pa old e z q = ap Ok (sym q)
+code_at (Err fsc) code pa old e z q = absurd (omega (arith, e, z))
 
 -- a translation leaves the level as it is
 found-privilege : (c : Core) (memory : ℕ → Option ℕ) (va : ℕ) (kind : Kind) → (found_to c memory va kind).core.privilege ≡ c.privilege
@@ -277,9 +277,9 @@ found-privilege c memory va kind = by c-made.answer (may_hint c.privilege kind) 
     by : (a : Answer) (b : Bool) → may_hint c.privilege kind ≡ b
         → (answer_put (sourced c c.privilege.level (slot_at (bank_now c) c.privilege.level va) c-made.source c-made.made) c.privilege kind va a
         ).privilege ≡ c.privilege
-    by (Address pa) true e = rw e
-    by (Address pa) false e = rw e
-    by (Status fsc) b e = refl
+    by (Ok pa) true e = rw e
+    by (Ok pa) false e = rw e
+    by (Err fsc) b e = refl
 
 -- a fetch's page
 module _ (ws : List ℕ) (memory : ℕ → Option ℕ) (va code : ℕ) (ec : code ≡ code_of (found_to (core_of ws) memory va Fetch).answer) where
@@ -309,7 +309,7 @@ module _ (ws : List ℕ) (base : ℕ) (ram : List ℕ) (va : ℕ) (p : Option �
   fetched = answering (with_tlb (core_of ws) (fetch_stepped_now (core_of ws) (word_at base ram 8) va).tlb)
       (fetch_stepped_now (core_of ws) (word_at base ram 8) va).answer
 
-  serves-it : (pa : ℕ) → p ≡ Some pa → fetched ≡ answering (core_of ws) (Address pa)
+  serves-it : (pa : ℕ) → p ≡ Some pa → fetched ≡ answering (core_of ws) (Ok pa)
   unfolding fetch_to fetch_hint
   serves-it pa e = fetch-serves (core_of ws) (word_at base ram 8) va pa (sym ep ∙ e)
 

@@ -2,7 +2,8 @@
 use Rattle.std.specs.Prelude.{List, ℕ}
 use Rattle.operations.specs.Ends.{load_end, store_end}
 use Rattle.mmu.specs.declared.core_state.Core.{Core}
-use Rattle.operations.specs.declared.{place.Placed.Placed, ends.LoadEnd.LoadEnd, ends.StoreEnd.StoreEnd}
+use Rattle.operations.specs.declared.{ends.LoadEnd.LoadEnd, ends.StoreEnd.StoreEnd}
+use Rattle.operations.specs.Answers.{Placed}
 use Rattle.words.specs.Parts.{with_last, with_abort}
 
 -- the ends with the addresses that the core keeps

@@ -1,5 +1,5 @@
 -- The translation that a fetch begins with, in place, is the core's.
-use Rattle.std.specs.Prelude.{Some, None, Option}
+use Rattle.std.specs.Prelude.{Some, None, Option, Ok, Err}
 use Rattle.std.specs.Prelude.{◌≡◌, ℕ}
 use Rattle.std.proofs.Math.Path.{refl}
 use Rattle.std.proofs.Common.{◌∙◌}
@@ -11,8 +11,8 @@ use Rattle.tlb.specs.Tlb.{tlb_with}
 use Rattle.tlb.specs.Resolve.{counted_by, kept_by, fetch_after}
 use Rattle.tlb.specs.Translate.{on_now, untagged_now, walk_now, miss_with, miss_of, fetch_applied, fetch_end, fetch_with}
 use Rattle.tlb.specs.declared.access.Kind.TheVariants.{Fetch}
-use Rattle.tlb.specs.declared.{access.Answer.Answer, count.Counts.Counts, entry.Entry.Entry, resolve.Resolved.Resolved}
-use Rattle.tlb.specs.declared.access.Answer.TheVariants.{Address, Status}
+use Rattle.tlb.specs.declared.{count.Counts.Counts, entry.Entry.Entry, resolve.Resolved.Resolved}
+use Rattle.tlb.specs.Answers.{Answer}
 use Rattle.mmu.specs.Core.{after_access, bank_now}
 use Rattle.mmu.specs.Ops.{with_tlb, fetch_stepped_now}
 use Rattle.mmu.specs.Step.{slot_at, translate_fetch_in}
@@ -41,17 +41,17 @@ module _ (c : Core) (memory : ℕ → Option ℕ) (va : ℕ) where
       → with_tlb c (tlb_with c.tlb (set_fetch (set_entry c.tlb.cache slot e) (fetch_after level va a c.tlb.cache.fetch)) k)
       ≡ paged_by level va (answer_put (with_entry (with_counts c k) slot e) c.privilege Fetch va a) a
   unfolding with_hint_for with_fetch_hint with_entry with_counts with_cache after_access
-  fetch-back e k (Address pa) = refl
-  fetch-back e k (Status f) = refl
+  fetch-back e k (Ok pa) = refl
+  fetch-back e k (Err f) = refl
 
-  pub fetch-serves : (pa : ℕ) → fetch_found c.tlb.cache.fetch level va ≡ Some pa → fetch_to ≡ answering c (Address pa)
+  pub fetch-serves : (pa : ℕ) → fetch_found c.tlb.cache.fetch level va ≡ Some pa → fetch_to ≡ answering c (Ok pa)
   unfolding fetch_to fetch_stepped_now translate_fetch_in fetch_with fetch_end
   fetch-serves pa h =
-      rw h (λ i. answering ((kept_back ∙ unchanged c slot) i) (Address pa))
+      rw h (λ i. answering ((kept_back ∙ unchanged c slot) i) (Ok pa))
     where
       kept_back : with_tlb c (tlb_with c.tlb (set_fetch (set_entry c.tlb.cache slot entry) c.tlb.cache.fetch) c.tlb.counts)
           ≡ with_entry (with_counts c c.tlb.counts) slot entry
-      kept_back = fetch-back entry c.tlb.counts (Status (first 0))
+      kept_back = fetch-back entry c.tlb.counts (Err (first 0))
 
   abbrev t : Resolved
   t =

@@ -1,5 +1,5 @@
 -- One translation on the core as it is made in place: the hint first; else its changes, and the core with them stored.
-use Rattle.std.specs.Prelude.{if◌then◌else◌, Some, Option, None}
+use Rattle.std.specs.Prelude.{if◌then◌else◌, Some, Option, None, Ok, Err}
 use Rattle.std.specs.Prelude.{Bool, ◌&&◌, List, ℕ, ◌+◌, eqb}
 use Rattle.word.specs.Ram.{word_at}
 use Rattle.walk.specs.Regime.{regime_of}
@@ -9,10 +9,10 @@ use Rattle.tlb.specs.Hint.{data_slot, hint_key, hint_for, on_page, fetch_for, fe
 use Rattle.tlb.specs.Cache.{entry_at, hint_at}
 use Rattle.tlb.specs.Resolve.{query_of, by_entry, by_walk, counted_by, kept_by}
 use Rattle.tlb.specs.Translate.{untagged_now, walk_now, miss_of}
-use Rattle.tlb.specs.declared.{access.Kind.Kind, access.Privilege.Privilege, access.Answer.Answer, entry.Entry.Entry}
+use Rattle.tlb.specs.declared.{access.Kind.Kind, access.Privilege.Privilege, entry.Entry.Entry}
+use Rattle.tlb.specs.Answers.{Answer}
 use Rattle.tlb.specs.declared.{resolve.Source.Source, resolve.Query.Query}
 use Rattle.tlb.specs.declared.resolve.Resolved.{Resolved}
-use Rattle.tlb.specs.declared.access.Answer.TheVariants.{Address, Status}
 use Rattle.mmu.specs.Core.{bank_now}
 use Rattle.mmu.specs.Step.{slot_at}
 use Rattle.mmu.specs.declared.core_state.Core.{Core}
@@ -22,12 +22,12 @@ use Rattle.words.specs.Parts.{with_counts, with_entry, with_hint, with_fetch_hin
 
 -- an answer as a number: 0, or 256 plus the status; and the address where there is one
 abbrev pub code_of : Answer → ℕ
-code_of (Address pa) = 0
-code_of (Status f) = 256 + f.fsc
+code_of (Ok pa) = 0
+code_of (Err f) = 256 + f.fsc
 
 abbrev pub value_of : Answer → ℕ → ℕ
-value_of (Address pa) old = pa
-value_of (Status f) old = old
+value_of (Ok pa) old = pa
+value_of (Err f) old = old
 
 abbrev pub answering : Core → Answer → Translated
 answering c a = record { core = c; answer = a }
@@ -47,8 +47,8 @@ unfoldable pub with_hint_for : Core → Privilege → Kind → ℕ → ℕ → C
 with_hint_for c privilege kind va pa = if may_hint privilege kind then with_hint c (data_slot va kind) (hint_for va privilege.level pa) else c
 
 abbrev pub answer_put : Core → Privilege → Kind → ℕ → Answer → Core
-answer_put c privilege kind va (Address pa) = with_hint_for c privilege kind va pa
-answer_put c privilege kind va (Status f) = c
+answer_put c privilege kind va (Ok pa) = with_hint_for c privilege kind va pa
+answer_put c privilege kind va (Err f) = c
 
 -- the counters of a level and the entry of the slot, by an answer's source
 unfoldable pub sourced : Core → ℕ → ℕ → Source → Entry → Core
@@ -95,8 +95,8 @@ module _ (ws : List ℕ) (base : ℕ) (ram : List ℕ) where
 
 -- the page of a fetch that was allowed becomes the fetch hint
 abbrev pub paged_by : ℕ → ℕ → Core → Answer → Core
-paged_by level va c (Address pa) = with_fetch_hint c (fetch_for va level pa)
-paged_by level va c (Status f) = c
+paged_by level va c (Ok pa) = with_fetch_hint c (fetch_for va level pa)
+paged_by level va c (Err f) = c
 
 abbrev pub paged_to : ℕ → ℕ → Translated → Core
 paged_to level va t = paged_by level va t.core t.answer

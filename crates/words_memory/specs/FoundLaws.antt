@@ -1,5 +1,5 @@
 -- The translation in place is the core's: its cells taken out and put back change no more than its branches say.
-use Rattle.std.specs.Prelude.{if◌then◌else◌, Some, Option, None}
+use Rattle.std.specs.Prelude.{if◌then◌else◌, Some, Option, None, Ok, Err}
 use Rattle.std.specs.Prelude.{◌≡◌, Bool, ◌&&◌, ℕ, ◌-◌, length, take, drop}
 use Rattle.std.proofs.Math.Path.{refl, ap}
 use Rattle.std.proofs.Common.{sym, subst, ◌∙◌, arith}
@@ -16,9 +16,9 @@ use Rattle.tlb.specs.Cache.{entry_at, hint_at, set_entry, set_hint}
 use Rattle.tlb.specs.Tlb.{tlb_with}
 use Rattle.tlb.specs.Resolve.{counted_by, kept_by, hint_after}
 use Rattle.tlb.specs.Translate.{on_now, untagged_now, walk_now, miss_with, miss_of, applied, translation_with}
-use Rattle.tlb.specs.declared.{access.Kind.Kind, access.Answer.Answer, count.Counts.Counts, entry.Entry.Entry}
+use Rattle.tlb.specs.declared.{access.Kind.Kind, count.Counts.Counts, entry.Entry.Entry}
+use Rattle.tlb.specs.Answers.{Answer}
 use Rattle.tlb.specs.declared.{hint.Hint.Hint, resolve.Resolved.Resolved}
-use Rattle.tlb.specs.declared.access.Answer.TheVariants.{Address, Status}
 use Rattle.mmu.specs.Core.{after_access, bank_now}
 use Rattle.mmu.specs.Ops.{with_tlb, stepped_now, translate_of}
 use Rattle.mmu.specs.Step.{slot_at, translate_in}
@@ -85,10 +85,10 @@ module _ (c : Core) where
         → back slot (data_slot va kind) e (hint_after (may_hint c.privilege kind) c.privilege.level va a (hint_at c.tlb.cache (data_slot va kind))) k
         ≡ answer_put (with_entry (with_counts c k) slot e) c.privilege kind va a
     unfolding with_hint_for with_hint with_entry with_counts with_cache after_access
-    put-answer-with true q (Address pa) = rw q
-    put-answer-with true q (Status f) = rw q (hint-back slot (data_slot va kind) e k)
-    put-answer-with false q (Address pa) = rw q (hint-back slot (data_slot va kind) e k)
-    put-answer-with false q (Status f) = rw q (hint-back slot (data_slot va kind) e k)
+    put-answer-with true q (Ok pa) = rw q
+    put-answer-with true q (Err f) = rw q (hint-back slot (data_slot va kind) e k)
+    put-answer-with false q (Ok pa) = rw q (hint-back slot (data_slot va kind) e k)
+    put-answer-with false q (Err f) = rw q (hint-back slot (data_slot va kind) e k)
 
     put-answer-back : (a : Answer)
         → back slot (data_slot va kind) e (hint_after (may_hint c.privilege kind) c.privilege.level va a (hint_at c.tlb.cache (data_slot va kind))) k
@@ -106,12 +106,12 @@ module _ (c : Core) (memory : ℕ → Option ℕ) (va : ℕ) (kind : Kind) where
   hint = hint_at c.tlb.cache (data_slot va kind)
 
   -- an access that its hint serves changes nothing
-  pub hint-serves : (pa : ℕ) → hint_found c va kind ≡ Some pa → translate_of c memory va kind ≡ answering c (Address pa)
+  pub hint-serves : (pa : ℕ) → hint_found c va kind ≡ Some pa → translate_of c memory va kind ≡ answering c (Ok pa)
   unfolding hint_found translate_of stepped_now translate_in translation_with
   hint-serves pa h =
       let test : (may_hint c.privilege kind && eqb hint.key (hint_key va level) ≡ true) × (on_page hint.pa va ≡ pa) = chose_at _ _ pa h in
       rw (test.0, test.1)
-      (λ i. answering ((hint-back c slot (data_slot va kind) (entry_at c.tlb.cache slot) c.tlb.counts ∙ unchanged c slot) i) (Address pa))
+      (λ i. answering ((hint-back c slot (data_slot va kind) (entry_at c.tlb.cache slot) c.tlb.counts ∙ unchanged c slot) i) (Ok pa))
 
   abbrev t : Resolved
   t =

@@ -9,9 +9,9 @@ ghost use Rattle.words.specs.CoreOf.{core_of};
 ghost use Rattle.words.specs.NowHolds.{NowHolds};
 ghost use Rattle.words_memory.specs.Accessed.{load_end_of, store_end_of, kept_last, kept_abort};
 
+use operations::place::{FaultAt, Place};
+use exception::kind::Stop;
 use crate::pages;
-use operations::ends::{LoadAnswer, StoreAnswer};
-use operations::place::Placed;
 use operations::{ends, loads, place};
 use tlb::access::Kind;
 use walk::regime::Regime;
@@ -32,7 +32,7 @@ pub fn on_at(state: &State) -> bool
 
 // Both pages of an access, before a byte moves: their translations first, then what they change is stored. The first
 // one's changes remain where the second faults.
-fn locate(state: &mut State, va: u64, n: u64, kind: Kind, base: u64, ram: &[u8]) -> Placed
+fn locate(state: &mut State, va: u64, n: u64, kind: Kind, base: u64, ram: &[u8]) -> Result<Place, FaultAt>
     ensures value { result ≡ (translate_access_of (core_of state.old)
         (word_at base ram.now 8) va n kind).placed }
     ensures now_holds { NowHolds state.old state.new
@@ -52,12 +52,12 @@ fn locate(state: &mut State, va: u64, n: u64, kind: Kind, base: u64, ram: &[u8])
 // The bytes of a load that was placed.
 fn load_placed(
     state: &mut State,
-    placed: Placed,
+    placed: Result<Place, FaultAt>,
     va: u64,
     width: Width,
     base: u64,
     ram: &[u8],
-) -> LoadAnswer
+) -> Result<u64, Stop>
     ensures value { result
         ≡ (load_end_of (core_of state.old) placed base ram.now va (bytes_in width)).answer }
     ensures now_holds { NowHolds state.old state.new (kept_last (core_of state.old)
@@ -73,7 +73,7 @@ fn load_placed(
 }
 
 // A load.
-pub fn load(state: &mut State, va: u64, width: Width, base: u64, ram: &[u8]) -> LoadAnswer
+pub fn load(state: &mut State, va: u64, width: Width, base: u64, ram: &[u8]) -> Result<u64, Stop>
     ensures value { result ≡ (read_of (core_of state.old) base ram.now va (bytes_in width)).answer }
     ensures now_holds { NowHolds state.old state.new
         (read_of (core_of state.old) base ram.now va (bytes_in width)).core }
@@ -86,13 +86,13 @@ pub fn load(state: &mut State, va: u64, width: Width, base: u64, ram: &[u8]) -> 
 // The bytes of a store that was placed.
 fn store_placed(
     state: &mut State,
-    placed: Placed,
+    placed: Result<Place, FaultAt>,
     va: u64,
     width: Width,
     value: u64,
     base: u64,
     ram: &mut [u8],
-) -> StoreAnswer
+) -> Result<(), Stop>
     ensures value { result
         ≡ (store_end_of (core_of state.old) placed base ram.old va (bytes_in width)).answer }
     ensures ram_after { ram.new ≡ store_ram_end placed base ram.old (bytes_in width) value }
@@ -114,7 +114,7 @@ pub fn store(
     value: u64,
     base: u64,
     ram: &mut [u8],
-) -> StoreAnswer
+) -> Result<(), Stop>
     ensures value { result ≡ (write_of (core_of state.old) base ram.old va (bytes_in width)).answer }
     ensures ram_after { ram.new
         ≡ ram_after_write (core_of state.old) base ram.old va (bytes_in width) value }

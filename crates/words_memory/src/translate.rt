@@ -9,7 +9,8 @@ ghost use Rattle.words.specs.NowHolds.{NowHolds};
 ghost use Rattle.words_memory.specs.Found.{code_of, value_of, hint_found, fetch_hint, with_hint_for, answer_put};
 ghost use Rattle.words_memory.specs.Found.{sourced, committed, serves_now, from_entry, walked_at, found_at, paged_to};
 
-use tlb::access::{Answer, Kind, Privilege};
+use fault::Fault;
+use tlb::access::{Kind, Privilege};
 use tlb::entry::Entry;
 use tlb::hint::{FetchHint, Hint};
 use tlb::resolve::{Asked, Query, Resolved, Source};
@@ -37,7 +38,7 @@ fn put_answer(
     privilege: Privilege,
     kind: Kind,
     va: u64,
-    answer: Answer,
+    answer: Result<u64, Fault>,
     pa: &mut u64,
 ) -> u64
     ensures upper_bound { result ≤ 511 }
@@ -47,17 +48,17 @@ fn put_answer(
         (answer_put (core_of state.old) privilege kind va answer) }
 {
     match answer {
-        Answer::Address(at) => {
+        Ok(at) => {
             *pa = at;
             keep_hint(state, privilege, kind, va, at);
             0
         }
-        Answer::Status(fault) => 256 + fault.fsc as u64,
+        Err(fault) => 256 + fault.fsc as u64,
     }
 }
 
 // What an answer's source changes is stored: the level's counters, and the entry of the slot where a walk made one.
-fn put_changes(state: &mut State, level: u8, slot: usize, source: Source, made: Entry)
+pub fn put_changes(state: &mut State, level: u8, slot: usize, source: Source, made: Entry)
     ensures { NowHolds state.old state.new
         (sourced (core_of state.old) level slot source made) }
 {

@@ -1,5 +1,5 @@
 -- A stop that is no abort comes before anything is written.
-use Rattle.std.specs.Prelude.{if◌then◌else◌, ◌≡◌, ℕ, zero, suc, ◌+◌, Bool, true, false, List, length, refl}
+use Rattle.std.specs.Prelude.{if◌then◌else◌, ◌≡◌, ℕ, zero, suc, ◌+◌, Bool, true, false, List, length, refl, Ok, Err}
 use Rattle.std.proofs.Common.{sym, ap, ◌∙◌, arith}
 use Rattle.word.specs.Bits.{wrap}
 use Rattle.word.specs.Ram.{word_at}
@@ -11,10 +11,7 @@ use Rattle.operations.specs.Ends.{store_end, store_end_by}
 use Rattle.mmu.specs.Ops.{located_now, write_of, ram_after_write}
 use Rattle.mmu.specs.declared.core_state.Core.{Core}
 use Rattle.mmu.specs.Results.{Stored}
-use Rattle.operations.specs.declared.{place.Placed.Placed, place.Verdict.Verdict, ends.StoreAnswer.StoreAnswer}
-use Rattle.operations.specs.declared.place.Placed.TheVariants.{At, Fault}
-use Rattle.operations.specs.declared.place.Verdict.TheVariants.{Inside, Outside}
-use Rattle.operations.specs.declared.ends.StoreAnswer.TheVariants.{Done, Stopped}
+use Rattle.operations.specs.Answers.{Placed, Verdict, StoreAnswer}
 use Rattle.exec.specs.Sys.{on_stored, zero_of}
 
 -- Undefined, Unimplemented, and the exceptions that stop no operation
@@ -30,8 +27,8 @@ early (Stop.Exception (Brk imm)) = true
 early (Stop.Exception PcAlignment) = true
 
 abbrev pub early_stop : StoreAnswer → Bool
-early_stop Done = false
-early_stop (Stopped s) = early s
+early_stop (Ok x) = false
+early_stop (Err s) = early s
 
 pub never : {A : Type 0} → false ≡ true → A
 never e = absurd (let z : ◌≡◌ {A = ℕ} 0 1 = ap (λ (b : Bool). (if b then 1 else 0)) e in omega arith)
@@ -39,12 +36,12 @@ never e = absurd (let z : ◌≡◌ {A = ℕ} 0 1 = ap (λ (b : Bool). (if b the
 -- a store stops by an abort, and so does a zeroing
 pub end-late : (x : Placed) (abort base : ℕ) (ram : List ℕ) (va n : ℕ) → early_stop (store_end x abort base ram va n).answer ≡ false
 unfolding store_end
-end-late (Fault addr f) abort base ram va n = refl
-end-late (At place) abort base ram va n = inside (judged base (length ram) place n)
+end-late (Err failed) abort base ram va n = refl
+end-late (Ok place) abort base ram va n = inside (judged base (length ram) place n)
   where
     inside : (d : Verdict) → early_stop (store_end_by d abort va).answer ≡ false
-    inside Inside = refl
-    inside (Outside i pa) = refl
+    inside (Ok x) = refl
+    inside (Err out) = refl
 
 pub store-late : (c : Core) (base : ℕ) (ram : List ℕ) (va n : ℕ) → early_stop (write_of c base ram va n).answer ≡ false
 unfolding write_of
@@ -61,8 +58,8 @@ zero-late (suc n) c base ram va =
     (store-late c base ram va 8)
   where
     on : (a : StoreAnswer) (t u : Stored) → early_stop t.answer ≡ false → early_stop u.answer ≡ false → early_stop (on_stored a t u).answer ≡ false
-    on Done t u h k = h
-    on (Stopped s) t u h k = k
+    on (Ok x) t u h k = h
+    on (Err s) t u h k = k
 
 pub late-zero : (ws xs : List ℕ) (n : ℕ) (c : Core) (base : ℕ) (ram : List ℕ) (va : ℕ) (a : StoreAnswer)
     → a ≡ (zero_of n c base ram va).answer → early_stop a ≡ true → xs ≡ ws

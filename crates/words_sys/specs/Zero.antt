@@ -1,6 +1,6 @@
 -- What a zeroing promises of words, and of RAM's bytes from base on.
 use Rattle.std.specs.Prelude.{◌≡◌, ℕ, List}
-use Rattle.operations.specs.declared.ends.StoreAnswer.{StoreAnswer}
+use Rattle.operations.specs.Answers.{StoreAnswer}
 use Rattle.exec.specs.Sys.{zero_of, zero_ram}
 use Rattle.words.specs.CoreOf.{core_of}
 use Rattle.words.specs.NowHolds.{NowHolds}

@@ -12,7 +12,6 @@ ghost use Rattle.words_sys.specs.Zero.{Zeroes};
 
 use crate::system;
 use exception::kind::{Exception, Stop};
-use operations::ends::StoreAnswer;
 use sysop::op;
 use sysop::op::{Encoding, SysOp};
 use tlb::access::Kind;
@@ -23,17 +22,15 @@ use words::state;
 use words_memory::{access, translate};
 
 // The n stores of a zeroing from va on, up to the first that stops.
-fn zero_from(state: &mut State, base: u64, ram: &mut [u8], va: u64, n: u64) -> StoreAnswer
+fn zero_from(state: &mut State, base: u64, ram: &mut [u8], va: u64, n: u64) -> Result<(), Stop>
     ensures { Zeroes n state.old base ram.old va result
         state.new ram.new }
 {
     if n == 0 {
-        return StoreAnswer::Done;
+        return Ok(());
     }
-    match access::store(state, va, Width::Double, 0, base, ram) {
-        StoreAnswer::Done => zero_from(state, base, ram, va.wrapping_add(8), n - 1),
-        StoreAnswer::Stopped(stop) => StoreAnswer::Stopped(stop),
-    }
+    access::store(state, va, Width::Double, 0, base, ram)?;
+    zero_from(state, base, ram, va.wrapping_add(8), n - 1)
 }
 
 // The bytes of a line from one on, where the hint of its address va serves and points at a line, and they lie in RAM:
@@ -58,14 +55,14 @@ fn clear_line(state: &State, base: u64, ram: &mut [u8], va: u64, from: u64) -> b
 }
 
 // The rest of a line, after its first store was made.
-fn zero_rest(state: &mut State, base: u64, ram: &mut [u8], va: u64) -> StoreAnswer
+fn zero_rest(state: &mut State, base: u64, ram: &mut [u8], va: u64) -> Result<(), Stop>
     requires { va % 64 ≡ 0 }
     ensures { Zeroes 7 state.old base ram.old (va + 8) result
         state.new ram.new }
 {
     let made = clear_line(state, base, ram, va, 8);
     if made {
-        StoreAnswer::Done
+        Ok(())
     } else {
         zero_from(state, base, ram, va + 8, 7)
     }
@@ -73,19 +70,17 @@ fn zero_rest(state: &mut State, base: u64, ram: &mut [u8], va: u64) -> StoreAnsw
 
 // DC ZVA, the line of x: by its page's hint; or the first store, and the rest by the hint that it leaves; or store by
 // store.
-fn zva(state: &mut State, base: u64, ram: &mut [u8], x: u64) -> StoreAnswer
+fn zva(state: &mut State, base: u64, ram: &mut [u8], x: u64) -> Result<(), Stop>
     ensures { Zeroes 8 state.old base ram.old (align_down x 6) result
         state.new ram.new }
 {
     let va = x - x % 64;
     let made = clear_line(state, base, ram, va, 0);
     if made {
-        return StoreAnswer::Done;
+        return Ok(());
     }
-    match access::store(state, va, Width::Double, 0, base, ram) {
-        StoreAnswer::Done => zero_rest(state, base, ram, va),
-        StoreAnswer::Stopped(stop) => StoreAnswer::Stopped(stop),
-    }
+    access::store(state, va, Width::Double, 0, base, ram)?;
+    zero_rest(state, base, ram, va)
 }
 
 // A system operation of register rt. Undefined and Unimplemented write no word.
@@ -98,7 +93,7 @@ pub fn system(
     crm: u64,
     op2: u64,
     rt: u64,
-) -> StoreAnswer
+) -> Result<(), Stop>
     ensures value { result ≡ (sys_of (core_of state.old) base ram.old op1 crn crm op2 rt).answer }
     ensures now_holds { NowHolds state.old state.new
         (sys_of (core_of state.old) base ram.old op1 crn crm op2 rt).core }
@@ -111,15 +106,15 @@ pub fn system(
     match op::decode(privilege.level, Encoding { op1, crn, crm, op2 }) {
         SysOp::At(form) => {
             system::at(state, form, x, base, ram);
-            StoreAnswer::Done
+            Ok(())
         }
         SysOp::Tlbi => {
             system::tlbi(state, op1, crm, op2, x);
-            StoreAnswer::Done
+            Ok(())
         }
         SysOp::Zva => zva(state, base, ram, x),
-        SysOp::Nothing => StoreAnswer::Done,
-        SysOp::Undefined => StoreAnswer::Stopped(Stop::Exception(Exception::Undefined)),
-        SysOp::Unimplemented => StoreAnswer::Stopped(Stop::Unimplemented),
+        SysOp::Nothing => Ok(()),
+        SysOp::Undefined => Err(Stop::Exception(Exception::Undefined)),
+        SysOp::Unimplemented => Err(Stop::Unimplemented),
     }
 }

@@ -9,12 +9,12 @@ use Rattle.a72abi.proofs.memory.a72_fetch.Goals as goal
 pub returns-then-len-base : goal.returns-then-len-base
 returns-then-len-base c = promise-quiet _ _ _ _ _ _ _ _ refl (search rules)
 
-pub returns-in-Value : goal.returns-in-Value
+pub returns-in-Some-insn_at : goal.returns-in-Some-insn_at
 unfolding missed_of
-returns-in-Value c = promise-quiet _ _ _ _ _ _ _ _ refl (search (ram-clear, clear-here, quick-fetch, rules))
+returns-in-Some-insn_at c = promise-quiet _ _ _ _ _ _ _ _ refl (search (ram-clear, clear-here, quick-fetch, rules))
 
-pub returns-in-Outside : goal.returns-in-Outside
-returns-in-Outside c = promise-quiet _ _ _ _ _ _ _ _ refl (search rules)
+pub returns-in-None-insn_at : goal.returns-in-None-insn_at
+returns-in-None-insn_at c = promise-quiet _ _ _ _ _ _ _ _ refl (search rules)
 
 pub fetch_page-requires : goal.fetch_page-requires
 fetch_page-requires c = search (fetch-unknown, rules)

@@ -3,8 +3,8 @@ use Rattle.std.proofs.Common.{rules}
 use Rattle.exec.proofs.Zeroing.{stops-is, stops-ram}
 use Rattle.exec.proofs.sys.+zero_from.Goals as goal
 
-pub returns-in-Stopped-clause-value : goal.returns-in-Stopped-clause-value
-returns-in-Stopped-clause-value t c = search (stops-is, rules)
+pub returns-in_err-write-clause-value : goal.returns-in_err-write-clause-value
+returns-in_err-write-clause-value t c = search (stops-is, rules)
 
-pub returns-in-Stopped-clause-ram_after : goal.returns-in-Stopped-clause-ram_after
-returns-in-Stopped-clause-ram_after t c = search (stops-ram, rules)
+pub returns-in_err-write-clause-ram_after : goal.returns-in_err-write-clause-ram_after
+returns-in_err-write-clause-ram_after t c = search (stops-ram, rules)

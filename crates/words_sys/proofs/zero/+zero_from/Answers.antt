@@ -1,12 +1,14 @@
-use Rattle.std.proofs.Common.{rules}
+use Rattle.std.proofs.Common.{rules, ◌≡◌, Err}
 use Rattle.words_sys.proofs.Zeroes.{none, goes, stops}
 use Rattle.words_sys.proofs.zero.+zero_from.Goals as goal
 
 pub returns-then-n-eq0 : goal.returns-then-n-eq0
 returns-then-n-eq0 t c = search (none, rules)
 
-pub returns-in-Done : goal.returns-in-Done
-returns-in-Done t c = search (goes, rules)
+pub returns : goal.returns
+returns t c = search (goes, c.in_ok-store.was, rules)
 
-pub returns-in-Stopped : goal.returns-in-Stopped
-returns-in-Stopped t c = search (stops, rules)
+pub returns-in_err-store : goal.returns-in_err-store
+returns-in_err-store t c =
+    let e : c.from_residual.result ≡ Err c.in_err-store.field-0.0 = search rules in
+    search (stops, c.in_err-store.was, e, rules)
