@@ -30,9 +30,7 @@ fn run(core: &mut Core, base: u64, ram: &mut [u8], call: Call) -> Reply
         Call::System(e) => {
             Reply::from(exec::sys::sys(core, base, ram, e.op1, e.crn, e.crm, e.op2, e.rt))
         }
-        Call::Register(key, value) => {
-            Reply::from(exec::ops::write_register(core, key, value))
-        }
+        Call::Register(key, value) => { Reply::from(exec::ops::write_register(core, key, value)) }
         Call::Level(level) => {
             exec::ops::set_level(core, (level % 4) as u8);
             Reply::Done

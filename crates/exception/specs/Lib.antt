@@ -6,7 +6,7 @@ pub mod Route
 pub mod Entry
 -- What private functions promise.
 pub mod Parts
--- Laws, worked cases, and the places of bits.
+-- Laws, worked cases, and PSTATE by its words.
 pub mod EntryLaws
 pub mod FieldLaws
 pub mod Cases

@@ -1,6 +1,7 @@
 -- A zeroing store by store: each store's own translation, what the stores before it leave, and what they do to RAM.
 use Rattle.mmu.specs.Results.{Located, Stored}
-use Rattle.std.specs.Prelude.{if◌then◌else◌, ◌≡◌, ℕ, zero, suc, ◌+◌, ◌-◌, ◌*◌, ◌/◌, ◌%◌, ◌^◌, ◌<◌, ◌≤◌, Bool, true, false, ltb, List, length, ◌≢◌, nat_le, nat_lt, slice_index, Ok, Err}
+use Rattle.std.specs.Prelude.{if◌then◌else◌, ◌≡◌, ℕ, zero, suc, ◌+◌, ◌-◌, ◌*◌, ◌/◌, ◌%◌, ◌^◌, ◌<◌, ◌≤◌, Bool, true, false, ltb, List, length, ◌≢◌}
+use Rattle.std.specs.Prelude.{nat_le, nat_lt, slice_index, Ok, Err}
 use Rattle.std.proofs.Math.Path.{refl, sym, ap}
 use Rattle.std.proofs.Common.{◌∙◌, mod-eq_of_lt, pos_of_ne-zero, leb-true, leb-false, ltb-true, ltb-false, le-ltb}
 use Rattle.std.proofs.Math.Nat.{zero-div}

@@ -24,10 +24,8 @@ fn byte_in(base: u64, ram: &[u8], pa: u64) -> u64
     ensures value { result ≡ byte_in base ram.now pa }
     ensures upper_bound { result ≤ 255 }
 {
-    let fits = ram::inside(base, ram.len() as u64, 1, pa);
-    if fits {
-        let at = (pa - base) as usize;
-        byte(ram, at)
+    if ram::inside(base, ram.len() as u64, 1, pa) {
+        byte(ram, (pa - base) as usize)
     } else {
         0
     }
@@ -71,10 +69,7 @@ pub fn load(base: u64, ram: &[u8], place: Place, width: Width) -> Result<u64, Ou
 {
     match place {
         Place::Whole(pa) => load_whole(base, ram, pa, width),
-        Place::Split(p) => {
-            let n = width.bytes();
-            load_split(base, ram, p, n)
-        }
+        Place::Split(p) => load_split(base, ram, p, width.bytes()),
     }
 }
 
@@ -129,10 +124,7 @@ pub fn store(
 {
     match place {
         Place::Whole(pa) => store_whole(base, ram, pa, width, value),
-        Place::Split(p) => {
-            let n = width.bytes();
-            store_split(base, ram, p, n, value)
-        }
+        Place::Split(p) => store_split(base, ram, p, width.bytes(), value),
     }
 }
 
@@ -170,8 +162,7 @@ pub fn write_both(base: u64, ram: &mut [u8], p: Pages, n: u64, value: u64) -> bo
     ensures { (result ≡ both_inside base (length ram.old) p n)
         × (ram.new ≡ both_stored base ram.old p n value) }
 {
-    let fits = place::both_inside(base, ram.len() as u64, p, n);
-    if fits {
+    if place::both_inside(base, ram.len() as u64, p, n) {
         let here = p.in_page;
         let rest = value >> (here * 4) >> (here * 4);
         ram::write_bytes(base, ram, here, p.pa, value);
@@ -193,8 +184,7 @@ pub fn write_pair(base: u64, ram: &mut [u8], pa: u64, pa2: u64, value: u64) -> b
         pa,
         pa2,
     };
-    let fits = place::both_inside(base, ram.len() as u64, p, 2);
-    if fits {
+    if place::both_inside(base, ram.len() as u64, p, 2) {
         ram::write_bytes(base, ram, 1, pa, value);
         ram::write_bytes(base, ram, 1, pa2, value / 256);
         true

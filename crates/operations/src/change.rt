@@ -1,9 +1,8 @@
 // A translation as what it changes, and the cells of the page that it is made of.
-ghost use Rattle.std.specs.Prelude.{◌≡◌, Ok};
+ghost use Rattle.std.specs.Prelude.{◌≡◌};
 ghost use Rattle.word.specs.Ram.{word_at};
 ghost use Rattle.operations.specs.Change.{entry_place, lookup_of, miss_by, hint_made};
 ghost use Rattle.operations.specs.Change.{change_of, unchanged, answered_of, hint_left, entry_left, page_after};
-ghost use Rattle.tlb.specs.Hint.{on_page};
 ghost use Rattle.tlb.specs.Resolve.{ask_of};
 
 use crate::{hinted, lookup};

@@ -23,16 +23,12 @@ fn first_of(kind: Kind) -> usize
 pub fn hint_place(va: u64, kind: Kind) -> usize
     ensures { result ≡ hint_place va kind }
 {
-    let place = hint::data_slot(va, Kind::Read);
-    let first = first_of(kind);
-    first + place
+    first_of(kind) + hint::data_slot(va, Kind::Read)
 }
 
 // Whether the hint serves.
 pub fn served(h: Hint, privilege: Privilege, va: u64, kind: Kind) -> bool
     ensures { result ≡ hint_serves h privilege va kind }
 {
-    let may = privilege.may_hint(kind);
-    let key = hint::hint_key(va, privilege.level);
-    may & (h.key == key)
+    privilege.may_hint(kind) && h.key == hint::hint_key(va, privilege.level)
 }

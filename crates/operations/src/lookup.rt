@@ -9,14 +9,12 @@ use walk::regime::{Bank, Regime};
 pub fn bank_at(control: Control, level: u8) -> Bank
     ensures { result ≡ bank_of control (regime_of level) }
 {
-    let r = Regime::of_level(level);
-    Bank::new(&control, r)
+    Bank::new(&control, Regime::of_level(level))
 }
 
 // Whether stage 1 is on at a level.
 pub fn on_at(s: Bank, level: u8) -> bool
     ensures { result ≡ stage1_on s (regime_of level) }
 {
-    let r = Regime::of_level(level);
-    s.stage1_on(r)
+    s.stage1_on(Regime::of_level(level))
 }

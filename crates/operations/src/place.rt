@@ -47,16 +47,14 @@ pub fn in_page(va: u64) -> u64
 pub fn next_page(va: u64) -> u64
     ensures { result ≡ next_page va }
 {
-    let n = in_page(va);
-    va.wrapping_add(n)
+    va.wrapping_add(in_page(va))
 }
 
 // Whether an access of n bytes takes two pages. With stage 1 off none is split.
 pub fn crosses(on: bool, va: u64, n: u64) -> bool
     ensures { result ≡ crosses_of on va n }
 {
-    let here = in_page(va);
-    on & (here < n)
+    on && in_page(va) < n
 }
 
 // The first byte's physical address.
@@ -87,12 +85,10 @@ pub fn first_outside(base: u64, len: u64, p: Pages, n: u64) -> Result<(), Outsid
     let mut i: u64 = 0;
     while i < n {
         let pa = byte_at(p, i);
-        let fits = ram::inside(base, len, 1, pa);
-        if fits {
-            i += 1;
-        } else {
+        if !ram::inside(base, len, 1, pa) {
             return Err(Outside { index: i, pa });
         }
+        i += 1;
     }
     Ok(())
 }
@@ -113,16 +109,8 @@ pub fn bytes_before(v: Result<(), Outside>, n: u64) -> u64
 pub fn both_inside(base: u64, len: u64, p: Pages, n: u64) -> bool
     ensures { result ≡ both_inside base len p n }
 {
-    if u64::MAX - len < base {
+    if u64::MAX - len < base || n < p.in_page || 8 < n {
         return false;
     }
-    if n < p.in_page {
-        return false;
-    }
-    if 8 < n {
-        return false;
-    }
-    let first = ram::inside(base, len, p.in_page, p.pa);
-    let second = ram::inside(base, len, n - p.in_page, p.pa2);
-    if first { second } else { false }
+    ram::inside(base, len, p.in_page, p.pa) && ram::inside(base, len, n - p.in_page, p.pa2)
 }

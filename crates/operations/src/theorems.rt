@@ -1,5 +1,6 @@
 // What holds of every access and check. Each function computes nothing: its contract is the theorem.
-ghost use Rattle.std.specs.Prelude.{◌≡◌, ℕ, ◌+◌, ◌-◌, ◌*◌, ◌/◌, ◌^◌, ◌<◌, ◌≤◌, Bool, true, false, List, length, ◌≢◌, Ok, Err};
+ghost use Rattle.std.specs.Prelude.{◌≡◌, ℕ, ◌+◌, ◌-◌, ◌*◌, ◌/◌, ◌^◌, ◌<◌, ◌≤◌, Bool, true, false, List};
+ghost use Rattle.std.specs.Prelude.{length, ◌≢◌, Ok, Err};
 ghost use Rattle.std.specs.Prelude.{slice_index};
 ghost use Rattle.word.specs.Bits.{wrap};
 ghost use Rattle.word.specs.Ram.{within};

@@ -2,7 +2,7 @@
 pub mod Op
 pub mod Tlbi
 pub mod Par
--- Worked cases.
+-- Worked cases, and the encodings by mnemonic.
 pub mod Cases
 pub mod Places
 -- Laws that the crates above cite in place of the definitions.

@@ -8,7 +8,7 @@ use crate::hint::{FetchHint, Hint};
 #[derive(Clone, Copy)]
 pub struct Cache {
     pub current: Current,
-    pub fetch: FetchHint,
+    pub fetch: Option<FetchHint>,
     pub hints: [Hint; 512],
     pub entries: [Entry; 1024],
 }
@@ -23,7 +23,7 @@ impl Cache {
                 generation: 1,
                 asid: 0,
             },
-            fetch: FetchHint::none(),
+            fetch: None,
             hints: [Hint::none(); 512],
             entries: [Entry::blank(); 1024],
         }
@@ -34,7 +34,7 @@ impl Cache {
     fn clear_hints(&mut self)
         ensures { self.new ≡ hintless self.old.current self.old.entries }
     {
-        self.fetch = FetchHint::none();
+        self.fetch = None;
         self.hints = [Hint::none(); 512];
     }
 

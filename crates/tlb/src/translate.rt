@@ -137,12 +137,14 @@ impl Tlb {
         ensures answer { result ≡ (fetch_in (access_of s privilege va Fetch (word_at base ram.now 8)) self.old).answer }
         ensures after { self.new ≡ fetched_in (access_of s privilege va Fetch (word_at base ram.now 8)) self.old }
     {
-        if let Some(pa) = self.cache.fetch.find(privilege.level, va) {
+        if let Some(hint) = self.cache.fetch
+            && let Some(pa) = hint.find(privilege.level, va)
+        {
             return Ok(pa);
         }
         let answer = self.miss(s, privilege, va, Kind::Fetch, base, ram);
         if let Ok(pa) = answer {
-            self.cache.fetch = FetchHint::new(va, privilege.level, pa);
+            self.cache.fetch = Some(FetchHint::new(va, privilege.level, pa));
         }
         answer
     }

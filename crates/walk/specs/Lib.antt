@@ -8,7 +8,7 @@ pub mod Permission
 pub mod Table
 pub mod Walk
 pub mod Fresh
--- Computed places and worked cases.
+-- What `theorems` says of levels, and worked cases.
 pub mod Places
 pub mod Cases
 -- Laws that the crates above cite in place of the definitions.

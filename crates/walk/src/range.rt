@@ -99,7 +99,8 @@ fn in_range(g: Range, va: u64) -> bool
     }
 }
 
-// The level of the first table: 4 less the strides that the bits above the granule take, rounded up.
+// The level of the first table: 4 less the strides that the bits above the granule take, rounded up. Each granule has a
+// quotient of its own, by a constant, which costs no division.
 fn start_of(largegrain: bool, n: u64) -> Start
     requires { (25 ≤ n) × (n ≤ 48) }
     ensures value { result ≡ start_of largegrain n }

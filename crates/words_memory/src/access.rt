@@ -9,9 +9,9 @@ ghost use Rattle.words.specs.CoreOf.{core_of};
 ghost use Rattle.words.specs.NowHolds.{NowHolds};
 ghost use Rattle.words_memory.specs.Accessed.{load_end_of, store_end_of, kept_last, kept_abort};
 
-use operations::place::{FaultAt, Place};
-use exception::kind::Stop;
 use crate::pages;
+use exception::kind::Stop;
+use operations::place::{FaultAt, Place};
 use operations::{ends, loads, place};
 use tlb::access::Kind;
 use walk::regime::Regime;
@@ -32,7 +32,14 @@ pub fn on_at(state: &State) -> bool
 
 // Both pages of an access, before a byte moves: their translations first, then what they change is stored. The first
 // one's changes remain where the second faults.
-fn locate(state: &mut State, va: u64, n: u64, kind: Kind, base: u64, ram: &[u8]) -> Result<Place, FaultAt>
+fn locate(
+    state: &mut State,
+    va: u64,
+    n: u64,
+    kind: Kind,
+    base: u64,
+    ram: &[u8],
+) -> Result<Place, FaultAt>
     ensures value { result ≡ (translate_access_of (core_of state.old)
         (word_at base ram.now 8) va n kind).placed }
     ensures now_holds { NowHolds state.old state.new

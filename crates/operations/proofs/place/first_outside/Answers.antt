@@ -5,8 +5,8 @@ use Rattle.operations.proofs.place.first_outside.Goals as goal
 pub loop-i-preserved : goal.loop-i-preserved
 loop-i-preserved c = search (judge-on, rules)
 
-pub returns-else-fits : goal.returns-else-fits
-returns-else-fits c = search (judge-out, rules)
+pub returns-then-not-inside : goal.returns-then-not-inside
+returns-then-not-inside c = search (judge-out, rules)
 
 pub returns : goal.returns
 returns c = search (judge-in, rules)
