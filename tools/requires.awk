@@ -1,4 +1,5 @@
-# Prints FILE:LINE of each `requires` that stands on a `pub fn`. A function's head ends at the line that opens its body.
+# Prints FILE:LINE of each `requires` that stands on a `pub fn`. A function's head ends at the line that opens its body, or with its file.
+FNR == 1 { head = 0 }
 /^[ \t]*pub (extern "C" )?fn / { head = 1 }
 head && /^[ \t]*requires/ { print FILENAME ":" FNR }
 head && (/^[ \t]*\{[ \t]*$/ || (/\{[ \t]*$/ && !/^[ \t]*(requires|ensures)/)) { head = 0 }

@@ -29,6 +29,8 @@ pub fn census(core: &Core, base: u64, ram: &[u8], first: u64, pages: u64) -> Cen
     let regime = Regime::of_level(level);
     let s = Bank::new(&core.control, regime);
     count::count(s, regime, first, pages, base, ram, &mut counts);
-    let reply = Reply::Done;
-    Censused { counts, reply }
+    Censused {
+        counts,
+        reply: Reply::Done,
+    }
 }

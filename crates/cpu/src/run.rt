@@ -16,8 +16,8 @@ fn run(core: &mut Core, base: u64, ram: &mut [u8], call: Call) -> Reply
 {
     match call {
         Call::Translate(kind, va) => Reply::translated(va, core.translate(base, ram, va, kind)),
-        Call::DataPa(va) => Reply::from(core.data_pa(base, ram, va)),
-        Call::FetchPa(va) => Reply::from(core.fetch_pa(base, ram, va)),
+        Call::DataPa(va) => Reply::reached(core.data_pa(base, ram, va)),
+        Call::FetchPa(va) => Reply::reached(core.fetch_pa(base, ram, va)),
         Call::Load(va, size) => match Width::of_size(size) {
             Some(width) => Reply::from(core.read(base, ram, va, width)),
             None => Reply::from(Check::Size),
@@ -30,7 +30,7 @@ fn run(core: &mut Core, base: u64, ram: &mut [u8], call: Call) -> Reply
         Call::System(e) => {
             Reply::from(exec::sys::sys(core, base, ram, e.op1, e.crn, e.crm, e.op2, e.rt))
         }
-        Call::Register(key, value) => { Reply::from(exec::ops::write_register(core, key, value)) }
+        Call::Register(key, value) => Reply::from(exec::ops::write_register(core, key, value)),
         Call::Level(level) => {
             exec::ops::set_level(core, (level % 4) as u8);
             Reply::Done

@@ -10,4 +10,4 @@ pub mod Parts
 pub mod EntryLaws
 pub mod FieldLaws
 pub mod Cases
-pub mod Places
+pub mod Flags

@@ -11,7 +11,7 @@ ghost use Rattle.exception.specs.Abort.{data_abort_at};
 ghost use Rattle.exception.specs.Syndrome.{esr_of, data_status, syndrome_of};
 ghost use Rattle.exception.specs.Route.{ns, smd, hce, tsc, tge};
 ghost use Rattle.exception.specs.Entry.{entry_flags, vect_offset, register_after, of_entry, take_sync};
-ghost use Rattle.exception.specs.Places.{flags};
+ghost use Rattle.exception.specs.Flags.{flags};
 ghost use Rattle.exception.specs.Cases.{WorkedEntries, WorkedDepartures, WorkedInterrupts};
 ghost use Rattle.exception.specs.EntryLaws.{EachEntry};
 ghost use Rattle.exception.specs.declared.kind.Exception.{Exception};

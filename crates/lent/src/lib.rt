@@ -1,6 +1,6 @@
 #![tactic(auto)]
-// The entry points over a core that is lent: each makes the call's checks, and then changes the core where it lies. Each
-// promises the call's exact definition, and that its answer is faithful whatever list of calls made the core.
+// The entry points over a core that is lent: each makes the call's checks, and then changes the core where it lies.
+// Each promises the call's exact definition, and that its answer is faithful whatever list of calls made the core.
 ghost use Rattle.std.specs.Prelude.{◌≡◌};
 ghost use Rattle.cpu.specs.Step.{step_of, ram_after, ends};
 ghost use Rattle.operations.specs.declared.call.Call.TheVariants as Call;
@@ -38,7 +38,8 @@ pub fn load(core: &mut Core, base: u64, ram: &[u8], va: u64, size: u64) -> Reply
 // A store of the low bytes of a value.
 #[tactic(auto, unfolding(operations::specs::Check::missed_of, cpu::specs::Step::step_of, cpu::specs::Step::run_of, cpu::specs::Step::ram_after, cpu::specs::Step::ram_of), using(crate::proofs::Faithful::faithful_store))]
 pub fn store(core: &mut Core, base: u64, ram: &mut [u8], va: u64, size: u64, value: u64) -> Reply
-    ensures step { record { core = core.new; reply = result } ≡ step_of core.old base ram.old (Call.Store va size value) }
+    ensures step { record { core = core.new; reply = result }
+        ≡ step_of core.old base ram.old (Call.Store va size value) }
     ensures ram { ram.new ≡ ram_after core.old base ram.old (Call.Store va size value) }
     ensures faithful { FaithfulCall core.old base ram.old (Call.Store va size value) (ends core.new result) ram.new }
 {

@@ -13,7 +13,8 @@ use tlb::access::Kind;
 use word::ram::Width;
 
 impl Core {
-    // A translation that no hint serves. Out of line, and reads the registers itself, so that a hint pays nothing for it.
+    // A translation that no hint serves. Out of line, and reads the registers itself, so that a hint pays nothing for
+    // it.
     #[inline(never)]
     #[tactic(auto, unfolding(crate::specs::Ops::past_hint_of, crate::specs::Step::past_hint_step, crate::specs::Core::after_access))]
     fn past_hint(&mut self, base: u64, ram: &[u8], va: u64, kind: Kind) -> Result<u64, Fault>
@@ -39,7 +40,8 @@ impl Core {
     // The translation that a fetch begins with.
     #[tactic(auto, unfolding(crate::specs::Ops::translate_fetch_of, crate::specs::Ops::fetch_stepped_now, crate::specs::Step::translate_fetch_in, crate::specs::Core::after_access))]
     fn translate_fetch(&mut self, base: u64, ram: &[u8], va: u64) -> Result<u64, Fault>
-        ensures { record { core = self.new; answer = result } ≡ translate_fetch_of self.old (word_at base ram.now 8) va }
+        ensures { record { core = self.new; answer = result }
+            ≡ translate_fetch_of self.old (word_at base ram.now 8) va }
     {
         let s = self.bank();
         let privilege = self.privilege;
@@ -57,7 +59,8 @@ impl Core {
         width: Width,
         kind: Kind,
     ) -> Result<Place, FaultAt>
-        ensures { record { core = self.new; placed = result } ≡ translate_access_of self.old (word_at base ram.now 8) va (bytes_in width) kind }
+        ensures { record { core = self.new; placed = result }
+            ≡ translate_access_of self.old (word_at base ram.now 8) va (bytes_in width) kind }
     {
         let s = self.bank();
         let privilege = self.privilege;
@@ -96,7 +99,8 @@ impl Core {
         width: Width,
         value: u64,
     ) -> Result<(), Stop>
-        ensures core { record { core = self.new; answer = result } ≡ write_of self.old base ram.old va (bytes_in width) }
+        ensures core { record { core = self.new; answer = result }
+            ≡ write_of self.old base ram.old va (bytes_in width) }
         ensures ram { ram.new ≡ ram_after_write self.old base ram.old va (bytes_in width) value }
     {
         let placed = self.translate_access(base, ram, va, width, Kind::Write);

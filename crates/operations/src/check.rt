@@ -2,8 +2,8 @@
 ghost use Rattle.std.specs.Prelude.{◌≡◌, not, ◌||◌, [], ◌∷◌, nat_lt, Ok, Some};
 ghost use Rattle.word.specs.Ram.{width_of};
 ghost use Rattle.word.specs.declared.ram.Width.{Width};
-ghost use Rattle.operations.specs.Check.{passes, overlong, kept, ram_rows, sized_rows, first_of, number_of, number_missed};
-ghost use Rattle.operations.specs.Check.{missed_of};
+ghost use Rattle.operations.specs.Check.{passes, overlong, kept, ram_rows, sized_rows, first_of, missed_of};
+ghost use Rattle.operations.specs.Check.{number_of, number_missed};
 ghost use Rattle.operations.specs.declared.call.Call.TheVariants as Call;
 
 use crate::call::{Call, Encoding};

@@ -20,6 +20,16 @@ impl Reply {
             Err(fault) => Reply::Fault { addr: va, fault },
         }
     }
+
+    // data_pa and fetch_pa.
+    pub fn reached(answer: Option<u64>) -> Reply
+        ensures { result ≡ reaching answer }
+    {
+        match answer {
+            Some(pa) => Reply::Value(pa),
+            None => Reply::Faults,
+        }
+    }
 }
 
 // A call that misses a check.
@@ -28,18 +38,6 @@ impl From<Check> for Reply {
         ensures { result ≡ Refused (number_of check) }
     {
         Reply::Refused(check.number())
-    }
-}
-
-// data_pa and fetch_pa.
-impl From<Option<u64>> for Reply {
-    fn from(answer: Option<u64>) -> Reply
-        ensures { result ≡ reaching answer }
-    {
-        match answer {
-            Some(pa) => Reply::Value(pa),
-            None => Reply::Faults,
-        }
     }
 }
 

@@ -1,9 +1,9 @@
 // What holds of every register write and of the shape of a translation. Each function computes nothing: its contract is
 // the theorem.
-ghost use Rattle.std.specs.Prelude.{◌≡◌, ℕ, ◌^◌, ◌≤◌, ◌<◌, true, ◌≢◌, Some, None, Err};
+ghost use Rattle.std.specs.Prelude.{◌≡◌, ℕ, ◌^◌, ◌≤◌, ◌<◌, true, ◌≢◌, Some, None, Err, [], ◌∷◌, map};
 ghost use Rattle.word.specs.Places.{FieldAt, BitAt};
 ghost use Rattle.sysreg.specs.Regs.{control_at, sys_at};
-ghost use Rattle.sysreg.specs.Encoding.{encode, key_word, key_of, register_at};
+ghost use Rattle.sysreg.specs.Encoding.{encode, key_word, key_of, each_control, each_sys, register_at};
 ghost use Rattle.sysreg.specs.Tcr.{t0sz, tg0, epd0, t1sz, a1, epd1, tg1, ips, «as», tbi0, tbi1, ps, tbi};
 ghost use Rattle.sysreg.specs.Write.{kept, control_with, sys_with, ended, wrote, write_reg};
 ghost use Rattle.sysreg.specs.Shape.{outside_shape, same_shape};
@@ -14,7 +14,8 @@ ghost use Rattle.sysreg.specs.declared.regs.ControlReg.{ControlReg};
 ghost use Rattle.sysreg.specs.declared.regs.SysReg.{SysReg};
 ghost use Rattle.sysreg.specs.declared.regs.Register.{Register};
 ghost use Rattle.sysreg.specs.declared.regs.Register.TheVariants.{InControl, InSys};
-ghost use Rattle.sysreg.specs.declared.regs.SysReg.TheVariants.{Par};
+ghost use Rattle.sysreg.specs.declared.regs.ControlReg.TheVariants.{Sctlr, Tcr, Ttbr0, Ttbr1, Hcr, Scr};
+ghost use Rattle.sysreg.specs.declared.regs.SysReg.TheVariants.{Mair, Vbar, Elr, Spsr, Esr, Far, Vpidr, Vmpidr, Par};
 ghost use Rattle.sysreg.specs.declared.write.WriteError.TheVariants.{Undefined, NoRegister};
 
 // Where each field of TCR_ELx lies, of every word. It rules out a field that code and definition both read at a wrong
@@ -38,15 +39,34 @@ pub fn places_in_tcr()
     ensures tbi_place { BitAt tbi 20 }
 {}
 
+// The keys as numbers, of EL1, EL2 and EL3 where a register has an instance at each. It rules out two registers whose
+// encodings are exchanged in code and definition alike, as TCR_EL2's and TCR_EL3's.
+pub fn keys_of_registers()
+    ensures sctlr { map key_of (each_control Sctlr) ≡ (0xC080 ∷ 0xE080 ∷ 0xF080 ∷ []) }
+    ensures tcr { map key_of (each_control Tcr) ≡ (0xC102 ∷ 0xE102 ∷ 0xF102 ∷ []) }
+    ensures ttbr0 { map key_of (each_control Ttbr0) ≡ (0xC100 ∷ 0xE100 ∷ 0xF100 ∷ []) }
+    ensures mair { map key_of (each_sys Mair) ≡ (0xC510 ∷ 0xE510 ∷ 0xF510 ∷ []) }
+    ensures vbar { map key_of (each_sys Vbar) ≡ (0xC600 ∷ 0xE600 ∷ 0xF600 ∷ []) }
+    ensures elr { map key_of (each_sys Elr) ≡ (0xC201 ∷ 0xE201 ∷ 0xF201 ∷ []) }
+    ensures spsr { map key_of (each_sys Spsr) ≡ (0xC200 ∷ 0xE200 ∷ 0xF200 ∷ []) }
+    ensures esr { map key_of (each_sys Esr) ≡ (0xC290 ∷ 0xE290 ∷ 0xF290 ∷ []) }
+    ensures far { map key_of (each_sys Far) ≡ (0xC300 ∷ 0xE300 ∷ 0xF300 ∷ []) }
+    ensures ttbr1_el1 { key_of (InControl Ttbr1) ≡ 0xC101 }
+    ensures hcr_el2 { key_of (InControl Hcr) ≡ 0xE088 }
+    ensures scr_el3 { key_of (InControl Scr) ≡ 0xF088 }
+    ensures vpidr_el2 { key_of (InSys Vpidr) ≡ 0xE000 }
+    ensures vmpidr_el2 { key_of (InSys Vmpidr) ≡ 0xE005 }
+    ensures par_el1 { key_of (InSys Par) ≡ 0xC3A0 }
+{}
+
 // Each register has an encoding of its own, which names it and nothing else, and the key of fields within their widths
-// is their encoding. It rules out TCR_EL3 under TCR_EL2's encoding, one encoding for two registers, and a key whose
-// fields are cut to their widths or stand in another order.
+// is their encoding. It rules out one encoding for two registers, and a key whose fields are cut to their widths or
+// stand in another order.
 pub fn encodings_of_registers()
     ensures key_names { (r : Register) → register_at (key_of r) ≡ Some r }
     ensures named_key { (k : ℕ) (r : Register) → register_at k ≡ Some r → k ≡ key_of r }
     ensures one_register { (q r : Register) → key_of q ≡ key_of r → q ≡ r }
     ensures wide_key { (k : ℕ) → 2 ^ 16 ≤ k → register_at k ≡ None }
-    ensures par_key { key_of (InSys Par) ≡ 0xC3A0 }
     ensures key_in_range { (op0 op1 crn crm op2 : ℕ) → op0 < 4 → op1 < 8 → crn < 16 → crm < 16 → op2 < 8
         → key_word op0 op1 crn crm op2 ≡ encode op0 op1 crn crm op2 }
     ensures key_beyond { (key_word 4 0 0 0 0 ≡ 0x10000) × (key_word 0 8 0 0 0 ≡ 0x4000)

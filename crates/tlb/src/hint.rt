@@ -1,6 +1,7 @@
 // Hints: pages that an access was allowed to, by raw page and level.
 ghost use Rattle.std.specs.Prelude.{◌≡◌, ◌<◌, false};
-ghost use Rattle.tlb.specs.Hint.{no_hint, page_of, on_page, data_slot, hint_key, hint_for, hint_found, fetch_for, fetch_found};
+ghost use Rattle.tlb.specs.Hint.{no_hint, page_of, on_page, data_slot, hint_key, hint_for, hint_found};
+ghost use Rattle.tlb.specs.Hint.{fetch_for, fetch_found};
 ghost use Rattle.tlb.specs.Access.{is_fetch};
 
 use crate::access::Kind;

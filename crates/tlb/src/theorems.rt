@@ -49,8 +49,8 @@ pub fn runs_of_operations()
     ensures same_as_the_model { (os : List Op) → Each Fair os → run os fresh ≡ model_run os empty_model }
 {}
 
-// Which counters a translation moves: those of its own level alone, by how it was answered and by nothing else. The mark
-// of an unprivileged access lowers no level, and the sums of the four levels move as one pair of counters would.
+// Which counters a translation moves: those of its own level alone, by how it was answered and by nothing else. The
+// mark of an unprivileged access lowers no level, and the sums of the four levels move as one pair of counters would.
 pub fn counters_of_translations()
     ensures translation { (a : Access) (m : Model)
         → (translate a m).after.counts ≡ how_counted (how_translated a m) a.privilege.level m.counts }

@@ -14,9 +14,11 @@ use fault::Fault;
 use walk::regime::Bank;
 
 impl Tlb {
-    ghost use Rattle.tlb.specs.Step.{access_of, stored, miss_in, after_miss, translation_in, hint_in, past_hint_in, after_past_hint, tlb_after, fetch_in, fetched_in};
+    ghost use Rattle.tlb.specs.Step.{access_of, stored, miss_in, after_miss, hint_in, past_hint_in, after_past_hint};
+    ghost use Rattle.tlb.specs.Step.{translation_in, tlb_after, fetch_in, fetched_in};
 
-    // By a walk: a leaf becomes an entry and is judged, a fault makes none. Out of line, so that a hit pays nothing for it.
+    // By a walk: a leaf becomes an entry and is judged, a fault makes none. Out of line, so that a hit pays nothing for
+    // it.
     #[inline(never)]
     #[tactic(auto, unfolding(crate::specs::Resolve::by_walk, crate::specs::Tlb::put_of))]
     fn walk(
@@ -29,7 +31,8 @@ impl Tlb {
         base: u64,
         ram: &[u8],
     ) -> Result<u64, Fault>
-        ensures answer { result ≡ (by_walk (walk_of s q.regime q.page (word_at base ram.now 8)) q privilege self.old.cache.current va kind).answer }
+        ensures answer { result
+            ≡ (by_walk (walk_of s q.regime q.page (word_at base ram.now 8)) q privilege self.old.cache.current va kind).answer }
         ensures after { self.new ≡ stored self.old (slot_of q.tag) privilege.level
             (by_walk (walk_of s q.regime q.page (word_at base ram.now 8)) q privilege self.old.cache.current va kind) }
     {
@@ -92,7 +95,8 @@ impl Tlb {
         base: u64,
         ram: &[u8],
     ) -> Result<u64, Fault>
-        ensures answer { result ≡ (past_hint_in (access_of s privilege va kind (word_at base ram.now 8)) self.old).answer }
+        ensures answer { result
+            ≡ (past_hint_in (access_of s privilege va kind (word_at base ram.now 8)) self.old).answer }
         ensures after { self.new ≡ after_past_hint (access_of s privilege va kind (word_at base ram.now 8)) self.old }
     {
         let answer = self.miss(s, privilege, va, kind, base, ram);
@@ -115,7 +119,8 @@ impl Tlb {
         base: u64,
         ram: &[u8],
     ) -> Result<u64, Fault>
-        ensures answer { result ≡ (translation_in (access_of s privilege va kind (word_at base ram.now 8)) self.old).answer }
+        ensures answer { result
+            ≡ (translation_in (access_of s privilege va kind (word_at base ram.now 8)) self.old).answer }
         ensures after { self.new ≡ tlb_after (access_of s privilege va kind (word_at base ram.now 8)) self.old }
     {
         match self.by_hint(privilege, va, kind) {

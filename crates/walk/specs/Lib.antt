@@ -9,7 +9,7 @@ pub mod Table
 pub mod Walk
 pub mod Fresh
 -- What `theorems` says of levels, and worked cases.
-pub mod Places
+pub mod Begins
 pub mod Cases
 -- Laws that the crates above cite in place of the definitions.
 pub mod TagLaws

@@ -58,7 +58,7 @@ fn put_answer(
 }
 
 // What an answer's source changes is stored: the level's counters, and the entry of the slot where a walk made one.
-pub fn put_changes(state: &mut State, level: u8, slot: usize, source: Source, made: Entry)
+pub(crate) fn put_changes(state: &mut State, level: u8, slot: usize, source: Source, made: Entry)
     ensures { NowHolds state.old state.new
         (sourced (core_of state.old) level slot source made) }
 {
