@@ -1,5 +1,5 @@
 -- The words that the digests of a core are taken of.
-use Rattle.std.specs.Prelude.{if◌then◌else◌, ℕ, ◌-◌, ◌^◌, Bool, not, ◌&&◌, List, [], ◌∷◌, ◌++◌, ◌==◌, Option, Some, None, slice_index}
+use Rattle.std.specs.Prelude.{if◌then◌else◌, ℕ, ◌-◌, ◌^◌, Bool, not, ◌&&◌, List, [], ◌∷◌, ◌++◌, ◌==◌, slice_index}
 use Rattle.word.specs.Bits.{flag}
 use Rattle.tlb.specs.Cache.{entry_at, hint_at}
 use Rattle.tlb.specs.declared.{cache.Cache.Cache, entry.Entry.Entry, entry.Current.Current, hint.FetchHint.FetchHint}
@@ -32,9 +32,8 @@ entries_words c = gathered (entry_words c) 1024 0
 unfoldable pub hint_words : Cache → ℕ → List ℕ
 hint_words c i = if (hint_at c i).key == 2 ^ 64 - 1 then [] else i ∷ (hint_at c i).key ∷ (hint_at c i).pa ∷ []
 
-unfoldable pub fetch_words : Option FetchHint → List ℕ
-fetch_words None = []
-fetch_words (Some f) = f.page ∷ f.level ∷ f.pa ∷ []
+unfoldable pub fetch_words : FetchHint → List ℕ
+fetch_words f = if f.some then f.page ∷ f.level ∷ f.pa ∷ [] else []
 
 -- the data hints that are set, by rising slot, then the fetch hint
 abbrev pub hints_words : Cache → List ℕ

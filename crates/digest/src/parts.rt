@@ -118,12 +118,12 @@ fn with_fetch(s: Sum, state: &State) -> Sum
     ensures { result.digest ≡ digest_from s.digest (fetch_words
         (core_of state.now).tlb.cache.fetch) }
 {
-    match cells::fetch_at(state) {
-        Some(f) => {
-            let d = joined_three(s.digest, f.page, f.level as u64, f.pa);
-            counted(s, d)
-        }
-        None => s,
+    let f = cells::fetch_at(state);
+    if f.some {
+        let d = joined_three(s.digest, f.page, f.level as u64, f.pa);
+        counted(s, d)
+    } else {
+        s
     }
 }
 

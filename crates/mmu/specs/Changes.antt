@@ -127,7 +127,7 @@ module _ (c : Core) (memory : ℕ → Option ℕ) (va : ℕ) where
     abbrev j₀ : ℕ
     j₀ = entry_place (ask_of (bank_now c) c.privilege va)
 
-    module _ (f : Answer → Option FetchHint) (h : Answer → Hint) where
+    module _ (f : Answer → FetchHint) (h : Answer → Hint) where
       abbrev kept : ℕ → Resolved → Core
       kept j t = stored_in c i₀ j (f t.answer) (counted_by t.source c.privilege.level c.tlb.counts) (h t.answer)
           (kept_by t.source (entry_at c.tlb.cache j) t.made)

@@ -1,5 +1,5 @@
 -- What a translation reads of a core, and the core with its changes stored. Cited for a core on words.
-use Rattle.std.specs.Prelude.{ℕ, ◌%◌, List, Option, slice_set}
+use Rattle.std.specs.Prelude.{ℕ, ◌%◌, List, slice_set}
 use Rattle.tlb.specs.Cache.{hint_at, entry_at}
 use Rattle.tlb.specs.Resolve.{counted_by, kept_by}
 use Rattle.tlb.specs.Tlb.{tlb_with}
@@ -38,13 +38,13 @@ core_with c t last abort =
       abort_pa = abort;
     }
 
-abbrev pub parts_in : Core → Option FetchHint → Counts → List Hint → List Entry → ℕ → ℕ → Core
+abbrev pub parts_in : Core → FetchHint → Counts → List Hint → List Entry → ℕ → ℕ → Core
 parts_in c f k hs es last abort =
     core_with c
     (tlb_with c.tlb (record { current = c.tlb.cache.current; fetch = f; hints = hs; entries = es }) k) last abort
 
 -- the core with the counters, the entry and the hints stored
-abbrev pub stored_in : Core → ℕ → ℕ → Option FetchHint → Counts → Hint → Entry → Core
+abbrev pub stored_in : Core → ℕ → ℕ → FetchHint → Counts → Hint → Entry → Core
 stored_in c i j f k h e =
     parts_in c f k (slice_set c.tlb.cache.hints i h) (slice_set c.tlb.cache.entries j e) c.last_pa c.abort_pa
 

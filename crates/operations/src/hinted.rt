@@ -13,8 +13,7 @@ fn first_of(kind: Kind) -> usize
 {
     match kind {
         Kind::Read => 0,
-        Kind::Write => 256,
-        Kind::Fetch => 256,
+        Kind::Write | Kind::Fetch => 256,
     }
 }
 

@@ -1,10 +1,9 @@
 -- A translation gives the plain model's answer, does to it what the requirement says, and keeps the cache well-formed.
-use Rattle.std.specs.Prelude.{if◌then◌else◌, ◌≡◌, ℕ, ◌/◌, ◌<◌, ◌≤◌, Bool, true, false, ◌&&◌, ◌==◌, Option, Some, None, slice_index_or, slice_set, Ok, Err}
-use Rattle.std.specs.Option.{IfSome}
+use Rattle.std.specs.Prelude.{if◌then◌else◌, ◌≡◌, ℕ, ◌/◌, ◌%◌, ◌<◌, ◌≤◌, Bool, true, false, ◌&&◌, ◌==◌, slice_index_or, slice_set, Ok, Err}
 use Rattle.std.proofs.Math.Path.{refl, sym, ap, subst}
 use Rattle.std.proofs.Common.{◌∙◌, arith, length-set}
 use Rattle.std.proofs.lemmas.List.{set-get_or}
-use Rattle.tlb.specs.Hint.{no_hint, place_of, data_slot, hint_key, hint_for, fetch_serves, fetch_sends, fetch_for, on_page}
+use Rattle.tlb.specs.Hint.{no_hint, place_of, data_slot, hint_key, hint_for, fetch_serves, fetch_for, on_page}
 use Rattle.tlb.specs.Lists.{each-getD, each_set, get_d_set}
 use Rattle.tlb.specs.Cache.{entry_at, hint_at, set_entry, set_hint, set_fetch}
 use Rattle.tlb.specs.Tlb.{tlb_with}
@@ -12,8 +11,8 @@ use Rattle.tlb.specs.Access.{may_hint}
 use Rattle.tlb.specs.Resolve.{counted_by, kept_by, hint_after}
 use Rattle.tlb.specs.Translate.{Translation, FetchTranslation, miss_with, applied, translation_with, fetch_applied, fetch_end, fetch_with}
 use Rattle.tlb.specs.Model.{Slot, empty, holds, Known, folded, hint_place, keep_hint, keep_fetch, Access, Outcome, known_of, unhinted, noted, tried, hinted}
-use Rattle.tlb.specs.Model.{translate, noted_fetch, fetched, fetch, knowing}
-use Rattle.tlb.specs.Live.{Follows, hint_of, hints_of, counters_of, live, fetch_hint_of, Aligned, FetchAligned, Sound, WellFormed, LeafLevel}
+use Rattle.tlb.specs.Model.{translate, noted_fetch, fetched, fetch}
+use Rattle.tlb.specs.Live.{Follows, hint_of, hints_of, counters_of, live, Aligned, Sound, WellFormed, LeafLevel}
 use Rattle.tlb.specs.Cells.{on-aligned, may-is, known_is, hint-made, fetch-known-is, fetch-made}
 use Rattle.tlb.specs.Refines.{falsely}
 use Rattle.tlb.specs.Step.{place_for, slot_for, with_translation, with_fetch, translation_in, tlb_after, fetch_in, fetched_in}
@@ -40,11 +39,12 @@ set-hint-sound c i h s q =
       places = length-set c.hints i h ∙ s.places;
       entries = s.entries;
       hints = each_set h q s.hints i;
-      fetch = s.fetch;
+      fetch-page = s.fetch-page;
+      fetch-pa = s.fetch-pa;
     }
 
-set-fetch-sound : (c : Cache) (f : FetchHint) → Sound c → FetchAligned f → Sound (set_fetch c (Some f))
-set-fetch-sound c f s q =
+set-fetch-sound : (c : Cache) (f : FetchHint) → Sound c → f.page % 4096 ≡ 0 → f.pa % 4096 ≡ 0 → Sound (set_fetch c f)
+set-fetch-sound c f s p q =
     record {
       first = s.first;
       last = s.last;
@@ -52,7 +52,8 @@ set-fetch-sound c f s q =
       places = s.places;
       entries = s.entries;
       hints = s.hints;
-      fetch = q;
+      fetch-page = p;
+      fetch-pa = q;
     }
 
 -- the place that the code gives a hint is the model's
@@ -189,7 +190,7 @@ module _ (a : Access) (t : Tlb) (s : WellFormed t) (fits : LeafLevel a.walk) (lo
 -- FETCHES
 
 module _ (a : Access) (t : Tlb) (s : WellFormed t) (fits : LeafLevel a.walk) (low : a.privilege.level ≤ 3) (kind : a.kind ≡ Fetch) where
-  abbrev now : Option FetchHint
+  abbrev now : FetchHint
   now = t.cache.fetch
 
   abbrev miss_by : Kind → Resolved
@@ -211,7 +212,7 @@ module _ (a : Access) (t : Tlb) (s : WellFormed t) (fits : LeafLevel a.walk) (lo
   miss_entry = kept_by fetch_miss.source (entry_at t.cache (slot_for a)) fetch_miss.made
 
   fetch-kept : (pa : ℕ)
-      → live (tlb_with t (set_fetch (set_entry t.cache (slot_for a) miss_entry) (Some (fetch_for a.va a.privilege.level pa))) miss_counts)
+      → live (tlb_with t (set_fetch (set_entry t.cache (slot_for a) miss_entry) (fetch_for a.va a.privilege.level pa)) miss_counts)
       ≡ keep_fetch (known_of a pa) (live (with_entry t a.privilege.level (slot_for a) fetch_miss))
   fetch-kept pa =
       λ n.
@@ -235,42 +236,25 @@ module _ (a : Access) (t : Tlb) (s : WellFormed t) (fits : LeafLevel a.walk) (lo
       rw (e, oe) (record {
         answer = refl;
         after = fetch-kept pa ∙ ap (keep_fetch (known_of a pa)) fetch-miss.after;
-        well = record { cache = set-fetch-sound _ _ fetch-miss.well.cache (record { page = omega arith; pa = omega arith }); levels = fetch-miss.well.levels };
+        well = record { cache = set-fetch-sound _ _ fetch-miss.well.cache (omega arith) (omega arith); levels = fetch-miss.well.levels };
       })
   fetch-noted (Err fault) e =
       let oe : (unhinted a.on a (live t)).answer ≡ Err fault = sym fetch-miss.answer ∙ e in
       rw (e, oe) (record { answer = refl; after = fetch-miss.after; well = fetch-miss.well })
 
-  aligned : (f : FetchHint) → now ≡ Some f → FetchAligned f
-  aligned f e = subst (λ (h : Option FetchHint). IfSome h FetchAligned) e s.cache.fetch
-
-  abbrev ended : Option ℕ → FetchTranslation
-  ended p =
-      fetch_end p a.on a.untagged a.walk a.regime a.privilege t.cache.current t.counts now (entry_at t.cache (slot_for a)) a.va
-
-  by-fetch : (f : FetchHint) → now ≡ Some f → (b : Bool)
-      → Follows (ended (if b then Some (on_page f.pa a.va) else None)).answer
-      (with_fetch t (slot_for a) (ended (if b then Some (on_page f.pa a.va) else None)))
-      (fetched (if b then holds (f.pa / 4096) else empty) a (live t))
-  unfolding fetch_end fetched
-  by-fetch f e true =
-      record {
-        answer = ap Ok (on-aligned f.pa a.va (aligned f e).pa);
+  by-fetch : (b : Bool) → fetch_serves now a.privilege.level a.va ≡ b
+      → Follows (fetch_in a t).answer (fetched_in a t) (fetched (if b then holds (now.pa / 4096) else empty) a (live t))
+  unfolding fetch_with fetch_end fetched
+  by-fetch true q =
+      rw q (record {
+        answer = ap Ok (on-aligned now.pa a.va s.cache.fetch-pa);
         after = unmoved a t s fits low t.counts;
         well = still-well a t s fits low;
-      }
-  by-fetch f e false = fetch-noted _ refl
-
-  by-any : (h : Option FetchHint) → now ≡ h
-      → Follows (ended (fetch_sends h a.privilege.level a.va)).answer
-      (with_fetch t (slot_for a) (ended (fetch_sends h a.privilege.level a.va)))
-      (fetched (knowing (a.va / 4096) a.privilege.level (fetch_hint_of h)) a (live t))
-  unfolding fetch_end fetched fetch_hint_of
-  by-any None e = fetch-noted _ refl
-  by-any (Some f) e =
-      rw (fetch-known-is f a.va a.privilege.level (aligned f e).page) (by-fetch f e (fetch_serves f a.privilege.level a.va))
+      })
+  by-fetch false q = rw q (fetch-noted _ refl)
 
   -- the translation that a fetch begins with follows the plain model
   pub fetch-follows : Follows (fetch_in a t).answer (fetched_in a t) (fetch a (live t))
-  unfolding fetch fetch_with
-  fetch-follows = by-any now refl
+  unfolding fetch
+  fetch-follows =
+      rw (fetch-known-is now a.va a.privilege.level s.cache.fetch-page) (by-fetch (fetch_serves now a.privilege.level a.va) refl)

@@ -1,7 +1,7 @@
 -- What each operation does to the entries, the hints, the generation and the ASID in force.
-use Rattle.std.specs.Prelude.{if◌then◌else◌, ℕ, ◌+◌, ◌%◌, ◌^◌, List, map, replicate, ◌==◌, Option, None, slice_index_or, slice_set}
+use Rattle.std.specs.Prelude.{if◌then◌else◌, ℕ, ◌+◌, ◌%◌, ◌^◌, List, map, replicate, ◌==◌, slice_index_or, slice_set}
 use Rattle.tlb.specs.Entry.{blank, page_dropped, asid_dropped}
-use Rattle.tlb.specs.Hint.{no_hint}
+use Rattle.tlb.specs.Hint.{no_hint, no_fetch}
 use Rattle.tlb.specs.declared.{entry.Entry.Entry, entry.Current.Current, hint.Hint.Hint, hint.FetchHint.FetchHint}
 use Rattle.tlb.specs.declared.cache.Cache.{Cache}
 
@@ -13,7 +13,7 @@ no_hints = replicate 512 no_hint
 
 -- a cache without hints
 abbrev pub hintless : Current → List Entry → Cache
-hintless p es = record { current = p; fetch = None; hints = no_hints; entries = es }
+hintless p es = record { current = p; fetch = no_fetch; hints = no_hints; entries = es }
 
 -- the hints of c with the rest anew
 abbrev pub renewed : Cache → Current → List Entry → Cache
@@ -34,7 +34,7 @@ set_entry c i e = renewed c c.current (slice_set c.entries i e)
 abbrev pub set_hint : Cache → ℕ → Hint → Cache
 set_hint c i h = record c { hints = slice_set c.hints i h }
 
-abbrev pub set_fetch : Cache → Option FetchHint → Cache
+abbrev pub set_fetch : Cache → FetchHint → Cache
 set_fetch c f = record c { fetch = f }
 
 -- the generation wraps at 2^32

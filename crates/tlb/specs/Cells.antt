@@ -1,6 +1,6 @@
 -- One entry and one hint against the line and the hint that they stand for.
 use Rattle.std.specs.Prelude.{if◌then◌else◌, ◌≡◌, ℕ, zero, suc, ◌+◌, ◌*◌, ◌/◌, ◌%◌, ◌^◌, ◌<◌, ◌≤◌, Bool, true, false, not, ◌&&◌, ◌||◌, ◌==◌, ◌≢◌}
-use Rattle.std.specs.Prelude.{bit_or, nat_eq, nat_le, Some, refl, Ok, Err}
+use Rattle.std.specs.Prelude.{bit_or, nat_eq, nat_le, refl, Ok, Err}
 use Rattle.std.proofs.Common.{sym, ap, ap₂, ◌∙◌, div-add-mod', mod-eq_of_lt, arith}
 use Rattle.std.proofs.Math.Nat.{mul-add-div_right, mul-add-mod_self_right, div-eq_of_lt}
 use borrow.Author.Tests.{eq-eqb, ne_eqb, eqb-true, eqb-false, leb-false, le-leb}
@@ -251,17 +251,22 @@ hint-made va level pa low =
     rw (l, p, f, le-leb level 3 low)
 
 pub fetch-known-is : (f : FetchHint) (va level : ℕ) → f.page % 4096 ≡ 0
-    → knowing (va / 4096) level (fetch_hint_of (Some f)) ≡ (if fetch_serves f level va then holds (f.pa / 4096) else empty)
+    → knowing (va / 4096) level (fetch_hint_of f) ≡ (if fetch_serves f level va then holds (f.pa / 4096) else empty)
 unfolding fetch_hint_of
-fetch-known-is f va level q = rw page-is
+fetch-known-is f va level q = go f.some refl
   where
     page-is : nat_eq f.page (va / 4096 * 4096) ≡ (f.page / 4096 == va / 4096)
     page-is =
         let z : va / 4096 * 4096 + 0 ≡ va / 4096 * 4096 = omega arith in
         rw (z, q, and-true) at (both-parts 4096 f.page (va / 4096) 0 (omega arith) (omega arith))
 
+    go : (b : Bool) → f.some ≡ b
+        → knowing (va / 4096) level (fetch_hint_of f) ≡ (if fetch_serves f level va then holds (f.pa / 4096) else empty)
+    go true w = rw (w, page-is)
+    go false w = rw w
+
 pub fetch-made : (va level pa : ℕ)
-    → fetch_hint_of (Some (fetch_for va level pa)) ≡ holds (record { page = va / 4096; level = level; frame = pa / 4096 })
+    → fetch_hint_of (fetch_for va level pa) ≡ holds (record { page = va / 4096; level = level; frame = pa / 4096 })
 unfolding fetch_hint_of
 fetch-made va level pa =
     let p : va / 4096 * 4096 / 4096 ≡ va / 4096 = omega arith in

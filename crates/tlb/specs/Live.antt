@@ -1,6 +1,5 @@
 -- The plain model that a cache stands for, and the caches that the operations make and keep.
 use Rattle.std.specs.Prelude.{if◌then◌else◌, ◌≡◌, ℕ, zero, suc, ◌/◌, ◌%◌, ◌^◌, ◌<◌, ◌≤◌, List, length, ◌==◌, nat_le, Option, Some, None, slice_index_or, Ok}
-use Rattle.std.specs.Option.{IfSome}
 use Rattle.walk.specs.declared.{regime.Regime.Regime, level.Leaf.Leaf}
 use Rattle.walk.specs.declared.regime.Regime.TheVariants.{El1, El2, El3}
 use Rattle.tlb.specs.Entry.{blank}
@@ -40,9 +39,8 @@ line_of g e = if e.generation == g then tagged (e.tag % 4) e else empty
 unfoldable pub hint_of : Hint → Slot Known
 hint_of h = if nat_le (h.key % 4096) 3 then holds (record { page = h.key / 4096; level = h.key % 4096; frame = h.pa / 4096 }) else empty
 
-unfoldable pub fetch_hint_of : Option FetchHint → Slot Known
-fetch_hint_of None = empty
-fetch_hint_of (Some f) = holds (record { page = f.page / 4096; level = f.level; frame = f.pa / 4096 })
+unfoldable pub fetch_hint_of : FetchHint → Slot Known
+fetch_hint_of f = if f.some then holds (record { page = f.page / 4096; level = f.level; frame = f.pa / 4096 }) else empty
 
 abbrev pub pending_of : Option Inval → Slot Inval
 pending_of None = empty
@@ -84,10 +82,6 @@ pub record Made (g : ℕ) (e : Entry) : Type 0 where
 abbrev pub Aligned : Hint → Type 0
 Aligned h = h.pa % 4096 ≡ 0
 
-pub record FetchAligned (f : FetchHint) : Type 0 where
-  pub page : f.page % 4096 ≡ 0
-  pub pa : f.pa % 4096 ≡ 0
-
 pub record Sound (c : Cache) : Type 0 where
   pub first : 1 ≤ c.current.generation
   pub last : c.current.generation < 2 ^ 32
@@ -95,7 +89,8 @@ pub record Sound (c : Cache) : Type 0 where
   pub places : length c.hints ≡ 512
   pub entries : Each (Made c.current.generation) c.entries
   pub hints : Each Aligned c.hints
-  pub fetch : IfSome c.fetch FetchAligned
+  pub fetch-page : c.fetch.page % 4096 ≡ 0
+  pub fetch-pa : c.fetch.pa % 4096 ≡ 0
 
 -- and counters of four levels
 pub record WellFormed (t : Tlb) : Type 0 where

@@ -7,7 +7,7 @@ use Rattle.std.proofs.lemmas.List.{length-map}
 use Rattle.std.proofs.Math.ListN.{length-replicate, get_or-map}
 use Rattle.walk.specs.declared.regime.Regime.{Regime}
 use Rattle.tlb.specs.Entry.{blank, slot_of, serves, stamped, untagged, named, page_dropped, walked_for, asid_dropped}
-use Rattle.tlb.specs.Hint.{no_hint}
+use Rattle.tlb.specs.Hint.{no_hint, no_fetch}
 use Rattle.tlb.specs.Lists.{Each, each_map, each-imp, each_set, each-getD, each-replicate, replicate-at, get_d_set}
 use Rattle.tlb.specs.Count.{no_tally, no_tallies, no_counts, flush_counted, drop_counted, epoch_counted}
 use Rattle.tlb.specs.Cache.{blanks, no_hints, hintless, entry_at, set_entry, next_generation, flushed, without_page, without_asid, retagged}
@@ -30,7 +30,7 @@ no-hints-at : (i : ℕ) → hints_of no_hints i ≡ empty
 unfolding hints_of no_hints hint_of
 no-hints-at i = ap hint_of (replicate-at no_hint 512 i)
 
-no-fetch : fetch_hint_of None ≡ empty
+no-fetch : fetch_hint_of no_fetch ≡ empty
 unfolding fetch_hint_of
 no-fetch = refl
 
@@ -48,7 +48,8 @@ module _ (p : Current) (es : List Entry) where
         places = length-replicate 512 no_hint;
         entries = q;
         hints = each-replicate Aligned no_hint refl 512;
-        fetch = tt;
+        fetch-page = refl;
+        fetch-pa = refl;
       }
 
   hintless-live : (k : Counts) (b : Option Inval) (ls : ℕ → Slot Line) → ((i : ℕ) → lines_of p.generation es i ≡ ls i)
@@ -340,7 +341,8 @@ set-sound c i e s m =
       places = s.places;
       entries = each_set e m s.entries i;
       hints = s.hints;
-      fetch = s.fetch;
+      fetch-page = s.fetch-page;
+      fetch-pa = s.fetch-pa;
     }
 
 module _ (t : Tlb) (s : WellFormed t) (r : Regime) (p : ℕ) (e : Entry) where

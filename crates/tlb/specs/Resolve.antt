@@ -1,6 +1,6 @@
 -- A translation that no hint serves, as its changes: what it asks of the cache, its answer, where that came from, the entry that a walk
 -- made; and what becomes of the counters, the entry and the hint.
-use Rattle.std.specs.Prelude.{if◌then◌else◌, ℕ, Bool, true, false, Option, Some, Ok, Err}
+use Rattle.std.specs.Prelude.{if◌then◌else◌, ℕ, Bool, true, false, Option, Ok, Err}
 use Rattle.fault.specs.First.{first}
 use Rattle.walk.specs.Regime.{stage1_on, regime_of}
 use Rattle.walk.specs.Tag.{untagged}
@@ -98,6 +98,6 @@ hint_after true level va (Err f) old = old
 hint_after false level va a old = old
 
 -- an address that a fetch was allowed becomes the fetch hint
-abbrev pub fetch_after : ℕ → ℕ → Answer → Option FetchHint → Option FetchHint
-fetch_after level va (Ok pa) old = Some (fetch_for va level pa)
+abbrev pub fetch_after : ℕ → ℕ → Answer → FetchHint → FetchHint
+fetch_after level va (Ok pa) old = fetch_for va level pa
 fetch_after level va (Err f) old = old

@@ -7,7 +7,7 @@ use Rattle.walk.specs.Tag.{untagged}
 use Rattle.walk.specs.Walk.{walk_of}
 use Rattle.walk.specs.declared.{regime.Regime.Regime, regime.Bank.Bank}
 use Rattle.tlb.specs.Access.{may_hint}
-use Rattle.tlb.specs.Hint.{on_page, hint_key, fetch_sends}
+use Rattle.tlb.specs.Hint.{on_page, hint_key, fetch_found}
 use Rattle.tlb.specs.Resolve.{query_of, ask_with, ask_of, by_itself, resolve_with, resolve_of, changes_of, counted_by, kept_by, hint_after, fetch_after}
 use Rattle.tlb.specs.declared.{entry.Entry.Entry, entry.Current.Current, access.Kind.Kind, hint.Hint.Hint}
 use Rattle.tlb.specs.declared.{hint.FetchHint.FetchHint, count.Counts.Counts}
@@ -31,7 +31,7 @@ pub record Translation : Type 0 where
 -- the same of the translation that a fetch begins with
 pub record FetchTranslation : Type 0 where
   pub counts : Counts
-  pub fetch : Option FetchHint
+  pub fetch : FetchHint
   pub entry : Entry
   pub answer : Answer
   pub source : Source
@@ -60,7 +60,7 @@ translation_with on page w r privilege at k h e va kind =
     else applied (miss_with on page w r privilege at e va kind) (may_hint privilege kind) privilege.level k h e va
 
 -- the same with the fetch hint
-unfoldable pub fetch_applied : Resolved → ℕ → Counts → Option FetchHint → Entry → ℕ → FetchTranslation
+unfoldable pub fetch_applied : Resolved → ℕ → Counts → FetchHint → Entry → ℕ → FetchTranslation
 fetch_applied t level k f e va =
     record {
       counts = counted_by t.source level k;
@@ -70,14 +70,14 @@ fetch_applied t level k f e va =
       source = t.source;
     }
 
-unfoldable pub fetch_end : Option ℕ → Bool → ℕ → Walked → Regime → Privilege → Current → Counts → Option FetchHint → Entry → ℕ → FetchTranslation
+unfoldable pub fetch_end : Option ℕ → Bool → ℕ → Walked → Regime → Privilege → Current → Counts → FetchHint → Entry → ℕ → FetchTranslation
 fetch_end (Some pa) on page w r privilege at k f e va =
     record { counts = k; fetch = f; entry = e; answer = Ok pa; source = FromHint }
 fetch_end None on page w r privilege at k f e va = fetch_applied (miss_with on page w r privilege at e va Fetch) privilege.level k f e va
 
 -- the translation that a fetch begins with: the fetch hint first, whatever the mark
-unfoldable pub fetch_with : Bool → ℕ → Walked → Regime → Privilege → Current → Counts → Option FetchHint → Entry → ℕ → FetchTranslation
-fetch_with on page w r privilege at k f e va = fetch_end (fetch_sends f privilege.level va) on page w r privilege at k f e va
+unfoldable pub fetch_with : Bool → ℕ → Walked → Regime → Privilege → Current → Counts → FetchHint → Entry → ℕ → FetchTranslation
+fetch_with on page w r privilege at k f e va = fetch_end (fetch_found f privilege.level va) on page w r privilege at k f e va
 
 -- the same with what the registers say, and their own walk of the untagged address
 module _ (s : Bank) (level va : ℕ) where
@@ -101,7 +101,7 @@ module _ (s : Bank) (privilege : Privilege) (at : Current) where
       translation_with (on_now s privilege.level va) (untagged_now s privilege.level va) (walk_now s privilege.level va memory)
       (regime_of privilege.level) privilege at k h e va kind
 
-  unfoldable pub fetch_of : Counts → Option FetchHint → Entry → ℕ → (ℕ → Option ℕ) → FetchTranslation
+  unfoldable pub fetch_of : Counts → FetchHint → Entry → ℕ → (ℕ → Option ℕ) → FetchTranslation
   fetch_of k f e va memory =
       fetch_with (on_now s privilege.level va) (untagged_now s privilege.level va) (walk_now s privilege.level va memory)
       (regime_of privilege.level) privilege at k f e va

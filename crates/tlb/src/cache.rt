@@ -8,7 +8,7 @@ use crate::hint::{FetchHint, Hint};
 #[derive(Clone, Copy)]
 pub struct Cache {
     pub current: Current,
-    pub fetch: Option<FetchHint>,
+    pub fetch: FetchHint,
     pub hints: [Hint; 512],
     pub entries: [Entry; 1024],
 }
@@ -23,7 +23,7 @@ impl Cache {
                 generation: 1,
                 asid: 0,
             },
-            fetch: None,
+            fetch: FetchHint::none(),
             hints: [Hint::none(); 512],
             entries: [Entry::blank(); 1024],
         }
@@ -34,7 +34,7 @@ impl Cache {
     fn clear_hints(&mut self)
         ensures { self.new ≡ hintless self.old.current self.old.entries }
     {
-        self.fetch = None;
+        self.fetch = FetchHint::none();
         self.hints = [Hint::none(); 512];
     }
 

@@ -1,6 +1,6 @@
 // Hints: pages that an access was allowed to, by raw page and level.
 ghost use Rattle.std.specs.Prelude.{◌≡◌, ◌<◌, false};
-ghost use Rattle.tlb.specs.Hint.{no_hint, page_of, on_page, data_slot, hint_key, hint_for, hint_found};
+ghost use Rattle.tlb.specs.Hint.{no_hint, no_fetch, page_of, on_page, data_slot, hint_key, hint_for, hint_found};
 ghost use Rattle.tlb.specs.Hint.{fetch_for, fetch_found};
 ghost use Rattle.tlb.specs.Access.{is_fetch};
 
@@ -15,6 +15,7 @@ pub struct Hint {
 
 #[derive(Clone, Copy)]
 pub struct FetchHint {
+    pub some: bool,
     // the raw page's address
     pub page: u64,
     pub level: u8,
@@ -91,11 +92,23 @@ impl Hint {
 }
 
 impl FetchHint {
+    pub fn none() -> Self
+        ensures { result ≡ no_fetch }
+    {
+        FetchHint {
+            some: false,
+            page: 0,
+            level: 0,
+            pa: 0,
+        }
+    }
+
     // The hint that a fetch of va, allowed to pa, leaves.
     pub fn new(va: u64, level: u8, pa: u64) -> Self
         ensures { result ≡ fetch_for va level pa }
     {
         FetchHint {
+            some: true,
             page: page_of(va),
             level,
             pa: page_of(pa),
@@ -106,7 +119,7 @@ impl FetchHint {
     pub fn find(&self, level: u8, va: u64) -> Option<u64>
         ensures { result ≡ fetch_found self.now level va }
     {
-        if self.page == page_of(va) && self.level == level {
+        if self.some && self.page == page_of(va) && self.level == level {
             Some(on_page(self.pa, va))
         } else {
             None

@@ -32,7 +32,8 @@ impl Tlb {
         ram: &[u8],
     ) -> Result<u64, Fault>
         ensures answer { result
-            ≡ (by_walk (walk_of s q.regime q.page (word_at base ram.now 8)) q privilege self.old.cache.current va kind).answer }
+            ≡ (by_walk (walk_of s q.regime q.page (word_at base ram.now 8)) q privilege
+            self.old.cache.current va kind).answer }
         ensures after { self.new ≡ stored self.old (slot_of q.tag) privilege.level
             (by_walk (walk_of s q.regime q.page (word_at base ram.now 8)) q privilege self.old.cache.current va kind) }
     {
@@ -142,14 +143,12 @@ impl Tlb {
         ensures answer { result ≡ (fetch_in (access_of s privilege va Fetch (word_at base ram.now 8)) self.old).answer }
         ensures after { self.new ≡ fetched_in (access_of s privilege va Fetch (word_at base ram.now 8)) self.old }
     {
-        if let Some(hint) = self.cache.fetch
-            && let Some(pa) = hint.find(privilege.level, va)
-        {
+        if let Some(pa) = self.cache.fetch.find(privilege.level, va) {
             return Ok(pa);
         }
         let answer = self.miss(s, privilege, va, Kind::Fetch, base, ram);
         if let Ok(pa) = answer {
-            self.cache.fetch = Some(FetchHint::new(va, privilege.level, pa));
+            self.cache.fetch = FetchHint::new(va, privilege.level, pa);
         }
         answer
     }

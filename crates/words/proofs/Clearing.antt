@@ -1,11 +1,11 @@
 -- The loops over all hints and all entries: the start, a turn and the end of each.
-use Rattle.std.specs.Prelude.{if◌then◌else◌, None}
+use Rattle.std.specs.Prelude.{if◌then◌else◌}
 use Rattle.std.proofs.Common.{◌≡◌, ℕ, ◌+◌, ◌<◌, ◌≤◌, Bool, true, false, List, map, refl, ap, ◌∙◌}
 use Rattle.tlb.specs.Entry.{blank, untagged, named, walked_for, page_dropped, asid_dropped}
-use Rattle.tlb.specs.Hint.{no_hint}
+use Rattle.tlb.specs.Hint.{no_hint, no_fetch}
 use Rattle.tlb.specs.Cache.{entry_at, blanks, no_hints}
 use Rattle.tlb.specs.Lists.{swept}
-use Rattle.tlb.specs.declared.{entry.Entry.Entry, hint.Hint.Hint}
+use Rattle.tlb.specs.declared.{entry.Entry.Entry, hint.Hint.Hint, hint.FetchHint.FetchHint}
 use Rattle.mmu.specs.Core.{after_access}
 use Rattle.mmu.specs.declared.core_state.Core.{Core}
 use Rattle.words.specs.CoreOf.{core_of}
@@ -14,7 +14,7 @@ use Rattle.words.specs.NowHolds.{NowHolds, stays, holds_as, holds_on, holds_then
 use Rattle.words.specs.Sweeps.{with_data_hints, hints, entries, hints-long, entries-long, hints-begin, hints-translation, hints-done, entries-begin}
 use Rattle.words.specs.Sweeps.{entries-translation, tags-translation, entries-done, blanks-done}
 
-fetch-out : (c : Core) → with_fetch_hint (with_data_hints c no_hints) None ≡ without_hints c
+fetch-out : (c : Core) → with_fetch_hint (with_data_hints c no_hints) no_fetch ≡ without_hints c
 unfolding with_fetch_hint with_data_hints without_hints with_cache after_access
 fetch-out c = refl
 
@@ -35,10 +35,10 @@ module _ (ws : List ℕ) where
   hints_end xs i g m = holds_as m (hints-done (core_of ws) i (hints-long ws) g)
 
   -- then the fetch hint
-  pub hints_gone : (xs ys : List ℕ) → NowHolds ws xs (with_data_hints (core_of ws) no_hints)
-      → NowHolds xs ys (with_fetch_hint (core_of xs) None)
+  pub hints_gone : (xs ys : List ℕ) (f : FetchHint) → f ≡ no_fetch → NowHolds ws xs (with_data_hints (core_of ws) no_hints)
+      → NowHolds xs ys (with_fetch_hint (core_of xs) f)
       → NowHolds ws ys (without_hints (core_of ws))
-  hints_gone xs ys m n = holds_on (λ c. with_fetch_hint c None) m n (fetch-out (core_of ws))
+  hints_gone xs ys f e m n = holds_on (λ c. with_fetch_hint c f) m n (ap (with_fetch_hint (with_data_hints (core_of ws) no_hints)) e ∙ fetch-out (core_of ws))
 
   -- the first i entries are g of what they were
   abbrev pub EntriesBy : (Entry → Entry) → ℕ → List ℕ → Type 0

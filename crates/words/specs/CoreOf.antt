@@ -83,9 +83,9 @@ pending_of what v =
 abbrev pub current_in : (ℕ → ℕ) → Current
 current_in w = record { generation = w GENERATION % 2 ^ 32; asid = w ASID % 2 ^ 16 }
 
--- word 81 says whether there is one, words 82 to 84 are it
-abbrev pub fetch_in : (ℕ → ℕ) → Option FetchHint
-fetch_in w = if w FETCH == 1 then Some (record { page = w FETCH-PAGE; level = w FETCH-LEVEL % 2 ^ 8; pa = w FETCH-PA }) else None
+-- words 81 to 84
+abbrev pub fetch_in : (ℕ → ℕ) → FetchHint
+fetch_in w = record { some = (w FETCH == 1); page = w FETCH-PAGE; level = w FETCH-LEVEL % 2 ^ 8; pa = w FETCH-PA }
 
 -- two words from 85 on for each data hint
 abbrev pub hint_in : (ℕ → ℕ) → ℕ → Hint

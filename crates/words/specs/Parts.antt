@@ -32,7 +32,7 @@ abbrev pub tagged : Entry → ℕ → Entry
 tagged e tag =
     record e { tag = tag }
 
-unfoldable pub with_fetch_hint : Core → Option FetchHint → Core
+unfoldable pub with_fetch_hint : Core → FetchHint → Core
 with_fetch_hint c f = with_cache c (set_fetch c.tlb.cache f)
 
 unfoldable pub with_current : Core → Current → Core

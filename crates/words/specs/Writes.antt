@@ -250,16 +250,13 @@ module _ (ws : List ℕ) (L : length ws ≡ WORDS) where
 
   -- THE FETCH HINT
 
-  pub fetch-put : (f : FetchHint) → f.level < 2 ^ 8
-      → NowHolds ws (set (set (set (set ws FETCH 1) FETCH-PAGE f.page) FETCH-LEVEL f.level) FETCH-PA f.pa) (with_fetch_hint (core_of ws) (Some f))
+  pub fetch-put : (f : FetchHint) (v : ℕ) → v ≡ flag f.some 1 → f.level < 2 ^ 8
+      → NowHolds ws (set (set (set (set ws FETCH v) FETCH-PAGE f.page) FETCH-LEVEL f.level) FETCH-PA f.pa) (with_fetch_hint (core_of ws) f)
   unfolding core_of core_by core_on with_fetch_hint with_cache after_access
-  fetch-put f h =
-      holds_as (sets-hold ((FETCH, 1) ∷ (FETCH-PAGE, f.page) ∷ (FETCH-LEVEL, f.level) ∷ (FETCH-PA, f.pa) ∷ []) refl)
-      (λ i. with_fetch_hint (core_of ws) (Some (record { page = f.page; level = mod-eq_of_lt h i; pa = f.pa })))
-
-  pub fetch-cleared : NowHolds ws (set (set (set (set ws FETCH 0) FETCH-PAGE 0) FETCH-LEVEL 0) FETCH-PA 0) (with_fetch_hint (core_of ws) None)
-  unfolding core_of core_by core_on with_fetch_hint with_cache after_access
-  fetch-cleared = sets-hold ((FETCH, 0) ∷ (FETCH-PAGE, 0) ∷ (FETCH-LEVEL, 0) ∷ (FETCH-PA, 0) ∷ []) refl
+  fetch-put f v e h =
+      rw e
+      (holds_as (sets-hold ((FETCH, flag f.some 1) ∷ (FETCH-PAGE, f.page) ∷ (FETCH-LEVEL, f.level) ∷ (FETCH-PA, f.pa) ∷ []) refl)
+      (λ i. with_fetch_hint (core_of ws) (record { some = flag_is f.some i; page = f.page; level = mod-eq_of_lt h i; pa = f.pa })))
 
 -- what is pending, by what it is
 pub holds-some : (ws xs : List ℕ) (p : Option Inval) (what : Inval) → p ≡ Some what

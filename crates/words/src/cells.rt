@@ -1,5 +1,5 @@
 // The fetch hint, the data hints and the entries.
-ghost use Rattle.std.specs.Prelude.{◌≡◌, ◌<◌, Some, None};
+ghost use Rattle.std.specs.Prelude.{◌≡◌, ◌<◌};
 ghost use Rattle.tlb.specs.Cache.{hint_at, entry_at};
 ghost use Rattle.words.specs.CoreOf.{core_of};
 ghost use Rattle.words.specs.Parts.{with_hint, with_entry, with_tag, with_fetch_hint};
@@ -39,41 +39,27 @@ pub fn put_hint(state: &mut State, i: usize, h: Hint)
 }
 
 #[tactic(auto, unfolding(crate::specs::CoreOf::core_of, crate::specs::CoreOf::core_by, crate::specs::CoreOf::core_on))]
-pub fn fetch_at(state: &State) -> Option<FetchHint>
+pub fn fetch_at(state: &State) -> FetchHint
     ensures { result ≡ (core_of state.now).tlb.cache.fetch }
 {
-    if state[place::FETCH] == 1 {
-        Some(FetchHint {
-            page: state[place::FETCH_PAGE],
-            level: (state[place::FETCH_LEVEL] % 256) as u8,
-            pa: state[place::FETCH_PA],
-        })
-    } else {
-        None
+    FetchHint {
+        some: state[place::FETCH] == 1,
+        page: state[place::FETCH_PAGE],
+        level: (state[place::FETCH_LEVEL] % 256) as u8,
+        pa: state[place::FETCH_PA],
     }
 }
 
 pub fn put_fetch(state: &mut State, f: FetchHint)
     ensures { NowHolds state.old state.new
-        (with_fetch_hint (core_of state.old) (Some f)) }
+        (with_fetch_hint (core_of state.old) f) }
 {
     whole(state);
-    state[place::FETCH] = 1;
+    let some = bits::flag_word(f.some);
+    state[place::FETCH] = some;
     state[place::FETCH_PAGE] = f.page;
     state[place::FETCH_LEVEL] = f.level as u64;
     state[place::FETCH_PA] = f.pa;
-}
-
-// The fetch hint out.
-pub(crate) fn no_fetch(state: &mut State)
-    ensures { NowHolds state.old state.new
-        (with_fetch_hint (core_of state.old) None) }
-{
-    whole(state);
-    state[place::FETCH] = 0;
-    state[place::FETCH_PAGE] = 0;
-    state[place::FETCH_LEVEL] = 0;
-    state[place::FETCH_PA] = 0;
 }
 
 #[tactic(auto, using(crate::proofs::Reading::entry_read))]

@@ -10,7 +10,7 @@ ghost use Rattle.words.specs.NowHolds.{NowHolds};
 use crate::cells;
 use crate::place::State;
 use tlb::entry::Entry;
-use tlb::hint::Hint;
+use tlb::hint::{FetchHint, Hint};
 
 fn no_data_hints(state: &mut State)
     ensures { NowHolds state.old state.new (with_data_hints (core_of state.old) no_hints) }
@@ -28,7 +28,8 @@ pub fn no_hints(state: &mut State)
     ensures { NowHolds state.old state.new (without_hints (core_of state.old)) }
 {
     no_data_hints(state);
-    cells::no_fetch(state);
+    let f = FetchHint::none();
+    cells::put_fetch(state, f);
 }
 
 // Every entry out.

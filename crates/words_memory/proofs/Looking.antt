@@ -11,7 +11,7 @@ use Rattle.walk.specs.Walk.{walk_of}
 use Rattle.walk.specs.declared.{regime.Regime.Regime, regime.Bank.Bank}
 use Rattle.tlb.specs.Access.{may_hint}
 use Rattle.tlb.specs.Entry.{slot_of, serves}
-use Rattle.tlb.specs.Hint.{data_slot, hint_key, on_page, fetch_for, fetch_found, fetch_sends}
+use Rattle.tlb.specs.Hint.{data_slot, hint_key, on_page, fetch_for, fetch_found}
 use Rattle.tlb.specs.Count.{hit_counted}
 use Rattle.tlb.specs.Cache.{entry_at, hint_at}
 use Rattle.tlb.specs.Resolve.{query_of, ask_of, by_entry, by_walk, resolve_with, resolve_of, changes_of}
@@ -288,25 +288,20 @@ module _ (ws : List ℕ) (memory : ℕ → Option ℕ) (va code : ℕ) (ec : cod
 
   pub page-core : (pa old : ℕ) (privilege : Privilege) (xs ys : List ℕ) (h : FetchHint) → code ≡ 0 → pa ≡ value_of its-page.answer old
       → NowHolds ws xs its-page.core → privilege ≡ (core_of xs).privilege
-      → h ≡ fetch_for va privilege.level pa → NowHolds xs ys (with_fetch_hint (core_of xs) (Some h))
+      → h ≡ fetch_for va privilege.level pa → NowHolds xs ys (with_fetch_hint (core_of xs) h)
       → NowHolds ws ys (paged_to (core_of ws).privilege.level va its-page)
   page-core pa old privilege xs ys h z ep m ew eh n =
-      holds_on (λ c. with_fetch_hint c (Some h)) m n
-      (ap (λ (f : FetchHint). with_fetch_hint its-page.core (Some f)) (eh ∙ ap (λ (w : Privilege). fetch_for va w.level pa)
+      holds_on (λ c. with_fetch_hint c h) m n
+      (ap (with_fetch_hint its-page.core) (eh ∙ ap (λ (w : Privilege). fetch_for va w.level pa)
       (ew ∙ ap (λ (c : Core). c.privilege) m.holds ∙ found-privilege (core_of ws) memory va Fetch))
       ∙ ap (paged_by (core_of ws).privilege.level va its-page.core) (sym (code_at its-page.answer code pa old ec z ep)))
 
 -- the fetch hint
-pub fetch-hint : (ws : List ℕ) (va : ℕ) (privilege : Privilege) (h : Option FetchHint) (f : FetchHint) (p : Option ℕ)
-    → privilege ≡ (core_of ws).privilege → h ≡ (core_of ws).tlb.cache.fetch → h ≡ Some f → p ≡ fetch_found f privilege.level va
+pub fetch-hint : (ws : List ℕ) (va : ℕ) (privilege : Privilege) (f : FetchHint) (p : Option ℕ) → privilege ≡ (core_of ws).privilege → f
+    ≡ (core_of ws).tlb.cache.fetch → p ≡ fetch_found f privilege.level va
     → p ≡ fetch_hint (core_of ws) va
 unfolding fetch_hint
-fetch-hint ws va privilege h f p ew eh ef ep = ep ∙ λ i. fetch_sends ((sym ef ∙ eh) i) (ew i).level va
-
-pub no-fetch-hint : (ws : List ℕ) (va : ℕ) (h : Option FetchHint) → h ≡ (core_of ws).tlb.cache.fetch → h ≡ None
-    → None ≡ fetch_hint (core_of ws) va
-unfolding fetch_hint
-no-fetch-hint ws va h eh en = λ i. fetch_sends ((sym en ∙ eh) i) (core_of ws).privilege.level va
+fetch-hint ws va privilege f p ew ef ep = ep ∙ λ i. fetch_found (ef i) (ew i).level va
 
 -- the translation that a fetch begins with
 module _ (ws : List ℕ) (base : ℕ) (ram : List ℕ) (va : ℕ) (p : Option ℕ) (ep : p ≡ fetch_hint (core_of ws) va) where

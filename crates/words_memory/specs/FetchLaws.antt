@@ -5,7 +5,7 @@ use Rattle.std.proofs.Math.Path.{refl}
 use Rattle.std.proofs.Common.{◌∙◌}
 use Rattle.fault.specs.First.{first}
 use Rattle.walk.specs.Regime.{regime_of}
-use Rattle.tlb.specs.Hint.{fetch_sends}
+use Rattle.tlb.specs.Hint.{fetch_found}
 use Rattle.tlb.specs.Cache.{entry_at, set_entry, set_fetch}
 use Rattle.tlb.specs.Tlb.{tlb_with}
 use Rattle.tlb.specs.Resolve.{counted_by, kept_by, fetch_after}
@@ -44,7 +44,7 @@ module _ (c : Core) (memory : ℕ → Option ℕ) (va : ℕ) where
   fetch-back e k (Ok pa) = refl
   fetch-back e k (Err f) = refl
 
-  pub fetch-serves : (pa : ℕ) → fetch_sends c.tlb.cache.fetch level va ≡ Some pa → fetch_to ≡ answering c (Ok pa)
+  pub fetch-serves : (pa : ℕ) → fetch_found c.tlb.cache.fetch level va ≡ Some pa → fetch_to ≡ answering c (Ok pa)
   unfolding fetch_to fetch_stepped_now translate_fetch_in fetch_with fetch_end
   fetch-serves pa h =
       rw h (λ i. answering ((kept_back ∙ unchanged c slot) i) (Ok pa))
@@ -58,7 +58,7 @@ module _ (c : Core) (memory : ℕ → Option ℕ) (va : ℕ) where
       miss_with (on_now (bank_now c) level va) (untagged_now (bank_now c) level va) (walk_now (bank_now c) level va memory) (regime_of level) c.privilege
       c.tlb.cache.current entry va Fetch
 
-  pub fetch-misses : fetch_sends c.tlb.cache.fetch level va ≡ None
+  pub fetch-misses : fetch_found c.tlb.cache.fetch level va ≡ None
       → fetch_to ≡ answering (paged_by level va (found_to c memory va Fetch).core (found_to c memory va Fetch).answer) (found_to c memory va Fetch).answer
   unfolding fetch_to fetch_stepped_now translate_fetch_in fetch_with fetch_end fetch_applied miss_of found_to sourced
   fetch-misses h =

@@ -5,7 +5,7 @@ use Rattle.word.specs.Ram.{word_at}
 use Rattle.walk.specs.Regime.{regime_of}
 use Rattle.tlb.specs.Access.{may_hint}
 use Rattle.tlb.specs.Entry.{slot_of, serves}
-use Rattle.tlb.specs.Hint.{data_slot, hint_key, hint_for, on_page, fetch_for, fetch_sends}
+use Rattle.tlb.specs.Hint.{data_slot, hint_key, hint_for, on_page, fetch_for, fetch_found}
 use Rattle.tlb.specs.Cache.{entry_at, hint_at}
 use Rattle.tlb.specs.Resolve.{query_of, by_entry, by_walk, counted_by, kept_by}
 use Rattle.tlb.specs.Translate.{untagged_now, walk_now, miss_of}
@@ -40,7 +40,7 @@ hint_found c va kind =
 
 -- what the fetch hint says
 unfoldable pub fetch_hint : Core → ℕ → Option ℕ
-fetch_hint c va = fetch_sends c.tlb.cache.fetch c.privilege.level va
+fetch_hint c va = fetch_found c.tlb.cache.fetch c.privilege.level va
 
 -- an allowed address becomes a hint, where hints may serve
 unfoldable pub with_hint_for : Core → Privilege → Kind → ℕ → ℕ → Core
@@ -95,7 +95,7 @@ module _ (ws : List ℕ) (base : ℕ) (ram : List ℕ) where
 
 -- the page of a fetch that was allowed becomes the fetch hint
 abbrev pub paged_by : ℕ → ℕ → Core → Answer → Core
-paged_by level va c (Ok pa) = with_fetch_hint c (Some (fetch_for va level pa))
+paged_by level va c (Ok pa) = with_fetch_hint c (fetch_for va level pa)
 paged_by level va c (Err f) = c
 
 abbrev pub paged_to : ℕ → ℕ → Translated → Core

@@ -238,8 +238,8 @@ pub fn fetch_by_hint(state: &State, va: u64) -> Option<u64>
     ensures { result ≡ fetch_hint (core_of state.now) va }
 {
     let privilege = state::privilege_at(state);
-    let hint = cells::fetch_at(state)?;
-    hint.find(privilege.level, va)
+    let f = cells::fetch_at(state);
+    f.find(privilege.level, va)
 }
 
 // A fetch from a page that the fetch hint does not name. Where it is allowed, its page becomes the hint.

@@ -1,9 +1,6 @@
 use Rattle.std.proofs.Common.{rules}
-use Rattle.words_memory.proofs.Looking.{fetch-hint, no-fetch-hint}
+use Rattle.words_memory.proofs.Looking.{fetch-hint}
 use Rattle.words_memory.proofs.translate.fetch_by_hint.Goals as goal
 
 pub returns : goal.returns
 returns c = search (fetch-hint, rules)
-
-pub returns-in_err-hint : goal.returns-in_err-hint
-returns-in_err-hint c = search (no-fetch-hint, rules)
