@@ -35,18 +35,13 @@ def answers(crate, function):
 
 
 def cell(stated, laws):
-    """A function's clauses, each with its laws; those that follow one another and have none are told together."""
-    parts, alone = [], []
-    for clause in stated + [None]:
-        if clause and not laws.get(clause):
-            alone.append(clause)
-            continue
-        if alone:
-            parts.append(", ".join(alone) + ": found")
-            alone = []
-        if clause:
-            parts.append(f"{clause}: " + ", ".join(f"`{law}`" for law in laws[clause]))
-    return "; ".join(parts)
+    """A function's clauses, each with its laws; clauses that no law proves are told together, and one whose law has its name is told by it."""
+    parts, alone = [], [clause for clause in stated if not laws.get(clause)]
+    for clause in stated:
+        named = [law.replace("-", "_") for law in laws.get(clause, [])]
+        if named:
+            parts.append(f"`{laws[clause][0]}`" if named == [clause] else f"{clause}: " + ", ".join(f"`{law}`" for law in laws[clause]))
+    return "; ".join(parts + ([", ".join(alone) + ": found"] if alone else []))
 
 
 def rows(text):
@@ -75,10 +70,10 @@ def block(proved):
             names = {function}.union(*laws.values())
             proving |= names - {function}
             at = [row for row, seen, said in cited if any(n in said and (crate in seen or len(of[n]) == 1) for n in names)]
-            table.append(f"| `{crate}::theorems::{function}` | {cell(stated, laws)} | {', '.join(dict.fromkeys(at)) or '-'} |")
+            table.append(f"| `{crate}` | `{function}` | {cell(stated, laws)} | {', '.join(dict.fromkeys(at)) or '-'} |")
     named = set().union(*(said for _, _, said in cited))
     laws = {n for n in named if n in proving or ("-" in n and not n.endswith("-"))}
     used = sorted(laws - proving)
     first = f"Of the {len(laws)} laws that the tables of this page cite {len(laws - set(used))} prove a clause below"
     first += f", and {len(used)} are used in the proof of one: {', '.join(f'`{n}`' for n in used)}." if used else "."
-    return [first, "", "| Function | Clauses, each with the law that proves it | Rows |", "|---|---|---|", *table]
+    return [first, "", "| Crate | Function | Clauses, each with the law that proves it | Rows |", "|---|---|---|---|", *table]
