@@ -29,7 +29,7 @@ def answers(crate, function):
     known = {name.strip() for names in imported for name in names.split(",")}
     given = dict(re.findall(r"^returns-clause-(\w+) \S+ =(.*?)(?=^pub|^returns|\Z)", text, re.M | re.S))
     for record in re.findall(r"^returns \S+ = record \{(.*?)\}", text, re.M | re.S):
-        given.update(part.strip().split(" = ", 1) for part in record.split(";"))
+        given.update(part.strip().split(" = ", 1) for part in record.split(";") if " = " in part)
     laws = {clause: [w for w in dict.fromkeys(re.findall(r"[\w-]+", said)) if w in known] for clause, said in given.items()}
     return {clause: [w for w in found if w not in HANDED] or found for clause, found in laws.items()}
 
