@@ -69,7 +69,8 @@ def block(proved):
             laws = answers(crate, function)
             names = {function}.union(*laws.values())
             proving |= names - {function}
-            at = [row for row, seen, said in cited if any(n in said and (crate in seen or len(of[n]) == 1) for n in names)]
+            # a name of one word may be another's: its row names the crate by a path
+            at = [row for row, seen, said in cited if any(n in said and (crate in seen or len(of[n]) == 1 and re.search("[-_]", n)) for n in names)]
             table.append(f"| `{crate}` | `{function}` | {cell(stated, laws)} | {', '.join(dict.fromkeys(at)) or '-'} |")
     named = set().union(*(said for _, _, said in cited))
     laws = {n for n in named if n in proving or ("-" in n and not n.endswith("-"))}
