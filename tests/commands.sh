@@ -16,6 +16,8 @@ mkdir -p "$here/crates/word/src" "$here/tools" "$here/tests" "$work/bin"
 cp run check a72 "$here"
 cp tools/said.sh tools/build tools/requires.awk "$here/tools"
 echo 'echo the places are one' >"$here/tests/places.sh"
+printf '#!/bin/sh\necho all is as counted\n' >"$here/tools/counts"
+chmod +x "$here/tools/counts"
 printf 'word:\na72: word io\nreplay: word\ncases: word\na72_static staticlib: word\n' >"$here/crates.txt"
 echo 'kit of the test' >"$here/kit"
 : >"$here/crates/word/src/lib.rt"
@@ -159,6 +161,9 @@ in_out 1 ./check && { has err 'check: a requires on a public function: crates/wo
 echo 'echo place LEVEL: 68 and 69; exit 1' >tests/places.sh
 in_out 1 ./check && { has err 'check: the places of a state differ: place LEVEL: 68 and 69'; last out '0 passed, 1 failed'; }
 echo 'echo the places are one' >tests/places.sh
+printf '#!/bin/sh\necho page:7: states 75, counted 76\nexit 1\n' >tools/counts
+in_out 1 ./check && { has err 'page:7: states 75, counted 76'; last out '0 passed, 1 failed'; }
+printf '#!/bin/sh\necho all is as counted\n' >tools/counts
 mkdir crates/stray
 in_out 1 ./check && { has err 'check: crates/stray is not listed in crates.txt'; last out '0 passed, 1 failed'; }
 rmdir crates/stray
