@@ -1,6 +1,6 @@
 // What holds of every register write and of the shape of a translation. Each function computes nothing: its contract is
 // the theorem.
-ghost use Rattle.std.specs.Prelude.{◌≡◌, ℕ, ◌+◌, ◌^◌, ◌≤◌, ◌<◌, true, false, ◌≢◌, Some, None, Err, [], ◌∷◌, map, bit_and};
+ghost use Rattle.std.specs.Prelude.{◌≡◌, ℕ, ◌^◌, ◌≤◌, ◌<◌, true, false, ◌≢◌, Some, None, Err, [], ◌∷◌, map, bit_and};
 ghost use Rattle.word.specs.Places.{bits, bit, FieldAt, BitAt};
 ghost use Rattle.sysreg.specs.Regs.{control_at, sys_at, fresh_control, fresh_sys};
 ghost use Rattle.sysreg.specs.Encoding.{encode, key_word, key_of, each_control, each_sys, register_at};
@@ -86,8 +86,8 @@ pub fn shape_of_translations()
 {}
 
 // Which registers count in the shape: a write of another value changes it, but for TTBR0_EL1 and TTBR1_EL1, and a
-// write of a system register leaves it. Out of reset a write of 1 keeps the shape in these rows. It rules out a write of
-// TTBR1_EL1 that empties the cache, and one of any other control register that does not.
+// write of a system register leaves it. The rows say whether a write of 1 out of reset keeps it. It rules out a write
+// of TTBR1_EL1 that empties the cache, and one of any other control register that does not.
 pub fn shape_after_writes()
     ensures shaped { (a b : Control) → SameShape a b → same_shape a b ≡ true }
     ensures changed { (c : Control) (r : ControlReg) (v : ℕ) → r ≢ Ttbr0 El1 → r ≢ Ttbr1 → control_at c r ≢ v
@@ -101,17 +101,17 @@ pub fn shape_after_writes()
         ≡ (false ∷ false ∷ false ∷ false ∷ false ∷ false ∷ true ∷ false ∷ false ∷ true ∷ false ∷ false ∷ []) }
 {}
 
-// The ASID: of TTBR1_EL1 where TCR_EL1.A1 (bit 22) is 1, and else of TTBR0_EL1; its bits 63:48 where TCR_EL1.AS (bit 36)
-// is 1, and else 55:48. It rules out the ASID of the other register, and 8 bits from the top.
+// The ASID: of TTBR1_EL1 where TCR_EL1.A1 (bit 22) is 1, and else of TTBR0_EL1; its bits 63:48 where TCR_EL1.AS
+// (bit 36) is 1, and else 55:48. It rules out the ASID of the other register, and 8 bits from the top.
 pub fn asids_of_settings()
-    ensures upper_wide { (c : Control) → bit (control_at c (Tcr El1)) 22 ≡ true → bit (control_at c (Tcr El1)) 36 ≡ true
-        → asid_of c ≡ bits (control_at c Ttbr1) 63 48 }
-    ensures upper_narrow { (c : Control) → bit (control_at c (Tcr El1)) 22 ≡ true → bit (control_at c (Tcr El1)) 36 ≡ false
-        → asid_of c ≡ bits (control_at c Ttbr1) 55 48 }
-    ensures lower_wide { (c : Control) → bit (control_at c (Tcr El1)) 22 ≡ false → bit (control_at c (Tcr El1)) 36 ≡ true
-        → asid_of c ≡ bits (control_at c (Ttbr0 El1)) 63 48 }
-    ensures lower_narrow { (c : Control) → bit (control_at c (Tcr El1)) 22 ≡ false → bit (control_at c (Tcr El1)) 36 ≡ false
-        → asid_of c ≡ bits (control_at c (Ttbr0 El1)) 55 48 }
+    ensures upper_wide { (c : Control)
+        → bit (control_at c (Tcr El1)) 22 ≡ true → bit (control_at c (Tcr El1)) 36 ≡ true → asid_of c ≡ bits (control_at c Ttbr1) 63 48 }
+    ensures upper_narrow { (c : Control)
+        → bit (control_at c (Tcr El1)) 22 ≡ true → bit (control_at c (Tcr El1)) 36 ≡ false → asid_of c ≡ bits (control_at c Ttbr1) 55 48 }
+    ensures lower_wide { (c : Control)
+        → bit (control_at c (Tcr El1)) 22 ≡ false → bit (control_at c (Tcr El1)) 36 ≡ true → asid_of c ≡ bits (control_at c (Ttbr0 El1)) 63 48 }
+    ensures lower_narrow { (c : Control)
+        → bit (control_at c (Tcr El1)) 22 ≡ false → bit (control_at c (Tcr El1)) 36 ≡ false → asid_of c ≡ bits (control_at c (Ttbr0 El1)) 55 48 }
     // neither, AS, A1, both
     ensures rows { map (λ tcr. asid_of (asids_under tcr)) (0 ∷ 0x10_0000_0000 ∷ 0x40_0000 ∷ 0x10_0040_0000 ∷ [])
         ≡ (0x22 ∷ 0x1122 ∷ 0x44 ∷ 0x3344 ∷ []) }

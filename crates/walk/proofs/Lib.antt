@@ -6,3 +6,5 @@ pub mod WalkBounds
 pub mod FreshLaws
 pub mod PageLaws
 pub mod Order
+pub mod Numbers
+pub mod InRange
