@@ -8,3 +8,4 @@ pub mod PageLaws
 pub mod Order
 pub mod Numbers
 pub mod InRange
+pub mod Permissions
