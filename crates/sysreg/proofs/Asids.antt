@@ -1,5 +1,5 @@
 -- The ASID by the bits of its register, at each setting of TCR_EL1.A1 and AS.
-use Rattle.std.specs.Prelude.{◌≡◌, Bool, true, false, ℕ, ◌+◌, ◌-◌, ◌/◌, ◌%◌, ◌^◌, ◌≤◌, ◌==◌}
+use Rattle.std.specs.Prelude.{◌≡◌, true, false, ℕ, ◌+◌, ◌-◌, ◌/◌, ◌%◌, ◌^◌, ◌≤◌, ◌==◌}
 use Rattle.std.proofs.Common.{sym, ap, ◌∙◌, arith}
 use Rattle.word.specs.Bits.{bit_on, field}
 use Rattle.word.specs.BitLaws.{cut_field}

@@ -1,6 +1,6 @@
 -- A control register that counts in the shape: a write of another value changes the shape.
 use Rattle.std.specs.Prelude.{◌≡◌, refl, Bool, true, false, ℕ, Some}
-use Rattle.std.proofs.Common.{sym, ◌∙◌}
+use Rattle.std.proofs.Common.{◌∙◌}
 use Rattle.sysreg.specs.declared.{regs.Control.Control, regs.SysRegs.SysRegs, regs.ControlReg.ControlReg, regs.SysReg.SysReg}
 use Rattle.sysreg.specs.declared.regs.El.TheVariants.{El1, El2, El3}
 use Rattle.sysreg.specs.declared.regs.ControlReg.TheVariants.{Sctlr, Tcr, Ttbr0, Ttbr1, Scr, Hcr}

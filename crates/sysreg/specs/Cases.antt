@@ -1,12 +1,10 @@
 -- The registers in rows, and settings for rows that are computed: what the numbers of `theorems` are said of.
 use Rattle.std.specs.Prelude.{Bool, List, [], ◌∷◌, ◌++◌, ℕ}
 use Rattle.sysreg.specs.declared.{regs.Control.Control, regs.El.El, regs.ControlReg.ControlReg, regs.SysReg.SysReg}
-use Rattle.sysreg.specs.declared.{regs.Register.Register}
 use Rattle.sysreg.specs.declared.regs.El.TheVariants.{El1, El2, El3}
 use Rattle.sysreg.specs.declared.regs.ControlReg.TheVariants.{Sctlr, Tcr, Ttbr0, Ttbr1, Scr, Hcr}
 use Rattle.sysreg.specs.declared.regs.SysReg.TheVariants.{Mair, Vbar, Elr, Spsr, Esr, Far, Vpidr, Vmpidr, Par}
-use Rattle.sysreg.specs.declared.regs.Register.TheVariants.{InControl, InSys}
-use Rattle.sysreg.specs.Regs.{control_at, sys_at, levels, fresh_control, fresh_sys}
+use Rattle.sysreg.specs.Regs.{levels, fresh_control}
 use Rattle.sysreg.specs.Shape.{same_shape}
 use Rattle.sysreg.specs.Write.{control_with}
 
