@@ -2,3 +2,5 @@
 pub mod Masks
 pub mod Stores
 pub mod Encodings
+pub mod Changes
+pub mod Asids

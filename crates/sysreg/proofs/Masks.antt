@@ -4,7 +4,11 @@ use Prim.Native.Nat.{ℕ, ◌+◌, ◌-◌, ◌*◌, ◌/◌, ◌%◌, ◌^◌, 
 use native.Mathlib.Nat.{add_assoc, mod-eq_of_lt, mod-lt, lt_of_le_of_lt}
 use lib.Bits.{bit_and, and_mask, and_shr, and_mod, and_le_r}
 use lib.Pow.{split, pow_pos}
-use Rattle.sysreg.specs.Write.{in_place, spsr_kept}
+use Rattle.std.proofs.Common.{lit≤}
+use Rattle.std.proofs.lemmas.Nat.Bits.{and_high_mask}
+use Rattle.sysreg.specs.declared.regs.SysReg.{SysReg}
+use Rattle.sysreg.specs.declared.regs.SysReg.TheVariants.{Mair, Vbar, Elr, Spsr, Esr, Far, Vpidr, Vmpidr, Par}
+use Rattle.sysreg.specs.Write.{in_place, spsr_kept, kept}
 
 -- a mask in two parts, from bit k up and below it
 cut : (v m k : ℕ) → bit_and v m ≡ bit_and (v / 2 ^ k) (m / 2 ^ k) * 2 ^ k + bit_and (v % 2 ^ k) (m % 2 ^ k)
@@ -31,3 +35,20 @@ spsr_mask v =
     (simp add_assoc)
 
 pub ruleset masks = (spsr_mask)
+
+-- all bits of a value of n bits
+whole : (v n : ℕ) → v < 2 ^ n → bit_and v (2 ^ n - 1) ≡ v
+whole v n h = and_mask v n ∙ mod-eq_of_lt h
+
+-- what a register keeps is a mask of the value
+pub kept-masked : (r : SysReg) (v : ℕ) → v < 2 ^ 64 → kept r v ≡ bit_and v (kept r 0xFFFF_FFFF_FFFF_FFFF)
+unfolding spsr_kept
+kept-masked (Vbar el) v h = sym (and_high_mask 64 11 (lit≤ tt) v h)
+kept-masked (Spsr el) v h = sym (spsr_mask v)
+kept-masked (Esr el) v h = sym (and_mask v 32)
+kept-masked Vpidr v h = sym (and_mask v 32)
+kept-masked (Mair el) v h = sym (whole v 64 h)
+kept-masked (Elr el) v h = sym (whole v 64 h)
+kept-masked (Far el) v h = sym (whole v 64 h)
+kept-masked Vmpidr v h = sym (whole v 64 h)
+kept-masked Par v h = sym (whole v 64 h)

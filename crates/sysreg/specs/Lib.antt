@@ -4,6 +4,7 @@ pub mod Encoding
 pub mod Write
 pub mod Tcr
 pub mod Shape
+pub mod Cases
 pub mod Parts
 pub mod EncodingLaws
 pub mod WriteLaws

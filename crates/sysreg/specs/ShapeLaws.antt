@@ -74,8 +74,12 @@ module _ (a b : Control) where
   asid-same e z o = asid-reads ((shape-agrees e).tcr El1) z o
 
 pub shape-self : (c : Control) → same_shape c c ≡ true
-shape-self c =
-    agrees-shape c c (record { sctlr = λ el. refl; tcr = λ el. refl; ttbr0-el2 = refl; ttbr0-el3 = refl; hcr = refl; scr = refl })
+unfolding same_shape
+shape-self c = all shape
+  where
+    all : (l : List ControlReg) → agree_on l c c ≡ true
+    all [] = refl
+    all (r ∷ rs) = rw (eq-eqb (control_at c r) (control_at c r) refl) (all rs)
 
 -- an ASID has at most 16 bits
 pub asid-small : (c : Control) → asid_of c < 2 ^ 16

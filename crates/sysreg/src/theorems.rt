@@ -1,13 +1,16 @@
 // What holds of every register write and of the shape of a translation. Each function computes nothing: its contract is
 // the theorem.
-ghost use Rattle.std.specs.Prelude.{◌≡◌, ℕ, ◌^◌, ◌≤◌, ◌<◌, true, ◌≢◌, Some, None, Err, [], ◌∷◌, map};
-ghost use Rattle.word.specs.Places.{FieldAt, BitAt};
-ghost use Rattle.sysreg.specs.Regs.{control_at, sys_at};
+ghost use Rattle.std.specs.Prelude.{◌≡◌, ℕ, ◌^◌, ◌≤◌, ◌<◌, true, false, ◌≢◌, Some, None, Err, [], ◌∷◌, map, bit_and};
+ghost use Rattle.word.specs.Places.{bits, bit, FieldAt, BitAt};
+ghost use Rattle.sysreg.specs.Regs.{control_at, sys_at, fresh_control, fresh_sys};
 ghost use Rattle.sysreg.specs.Encoding.{encode, key_word, key_of, each_control, each_sys, register_at};
 ghost use Rattle.sysreg.specs.Tcr.{t0sz, tg0, epd0, t1sz, a1, epd1, tg1, ips, «as», tbi0, tbi1, ps, tbi};
 ghost use Rattle.sysreg.specs.Write.{kept, control_with, sys_with, ended, wrote, write_reg};
-ghost use Rattle.sysreg.specs.Shape.{outside_shape, same_shape};
+ghost use Rattle.sysreg.specs.Shape.{outside_shape, same_shape, asid_of};
 ghost use Rattle.sysreg.specs.ShapeLaws.{SameShape};
+ghost use Rattle.sysreg.specs.Cases.{control_registers, system_registers, keeps_fresh_shape, asids_under};
+ghost use Rattle.sysreg.specs.declared.regs.El.{El};
+ghost use Rattle.sysreg.specs.declared.regs.El.TheVariants.{El1};
 ghost use Rattle.sysreg.specs.declared.regs.Control.{Control};
 ghost use Rattle.sysreg.specs.declared.regs.SysRegs.{SysRegs};
 ghost use Rattle.sysreg.specs.declared.regs.ControlReg.{ControlReg};
@@ -80,6 +83,65 @@ pub fn shape_of_translations()
     ensures agrees { (a b : Control) → same_shape a b ≡ true → SameShape a b }
     ensures kept_by_writes { (c : Control) (s : SysRegs) (level k v : ℕ)
         → outside_shape (register_at k) ≡ true → same_shape c (write_reg c s level k v).control ≡ true }
+{}
+
+// Which registers count in the shape: a write of another value changes it, but for TTBR0_EL1 and TTBR1_EL1, and a
+// write of a system register leaves it. The rows say whether a write of 1 out of reset keeps it. It rules out a write
+// of TTBR1_EL1 that empties the cache, and one of any other control register that does not.
+pub fn shape_after_writes()
+    ensures shaped { (a b : Control) → SameShape a b → same_shape a b ≡ true }
+    ensures changed { (c : Control) (r : ControlReg) (v : ℕ) → r ≢ Ttbr0 El1 → r ≢ Ttbr1 → control_at c r ≢ v
+        → same_shape c (control_with c r v) ≡ false }
+    ensures ttbr0_el1 { (c : Control) (v : ℕ) → same_shape c (control_with c (Ttbr0 El1) v) ≡ true }
+    ensures ttbr1_el1 { (c : Control) (v : ℕ) → same_shape c (control_with c Ttbr1 v) ≡ true }
+    ensures system { (c : Control) (s : SysRegs) (level k v : ℕ) (r : SysReg)
+        → register_at k ≡ Some (InSys r) → same_shape c (write_reg c s level k v).control ≡ true }
+    // SCTLR, TCR and TTBR0 of EL1, EL2 and EL3; TTBR1_EL1, SCR_EL3 and HCR_EL2
+    ensures rows { map (keeps_fresh_shape 1) control_registers
+        ≡ (false ∷ false ∷ false ∷ false ∷ false ∷ false ∷ true ∷ false ∷ false ∷ true ∷ false ∷ false ∷ []) }
+{}
+
+// The ASID: of TTBR1_EL1 where TCR_EL1.A1 (bit 22) is 1, and else of TTBR0_EL1; its bits 63:48 where TCR_EL1.AS
+// (bit 36) is 1, and else 55:48. It rules out the ASID of the other register, and 8 bits from the top.
+pub fn asids_of_settings()
+    ensures upper_wide { (c : Control)
+        → bit (control_at c (Tcr El1)) 22 ≡ true → bit (control_at c (Tcr El1)) 36 ≡ true → asid_of c ≡ bits (control_at c Ttbr1) 63 48 }
+    ensures upper_narrow { (c : Control)
+        → bit (control_at c (Tcr El1)) 22 ≡ true → bit (control_at c (Tcr El1)) 36 ≡ false → asid_of c ≡ bits (control_at c Ttbr1) 55 48 }
+    ensures lower_wide { (c : Control)
+        → bit (control_at c (Tcr El1)) 22 ≡ false → bit (control_at c (Tcr El1)) 36 ≡ true → asid_of c ≡ bits (control_at c (Ttbr0 El1)) 63 48 }
+    ensures lower_narrow { (c : Control)
+        → bit (control_at c (Tcr El1)) 22 ≡ false → bit (control_at c (Tcr El1)) 36 ≡ false → asid_of c ≡ bits (control_at c (Ttbr0 El1)) 55 48 }
+    // neither, AS, A1, both
+    ensures rows { map (λ tcr. asid_of (asids_under tcr)) (0 ∷ 0x10_0000_0000 ∷ 0x40_0000 ∷ 0x10_0040_0000 ∷ [])
+        ≡ (0x22 ∷ 0x1122 ∷ 0x44 ∷ 0x3344 ∷ []) }
+{}
+
+// What a system register keeps of a value, as a mask: the value's bits that are kept of all ones. VBAR drops bits 10:0,
+// SPSR keeps NZCV, SS, IL, GE, DAIF and M, ESR and VPIDR_EL2 bits 31:0, every other all 64. It rules out a bit too many
+// or too few.
+pub fn bits_kept_by_registers()
+    ensures masked { (r : SysReg) (v : ℕ) → v < 2 ^ 64 → kept r v ≡ bit_and v (kept r 0xFFFF_FFFF_FFFF_FFFF) }
+    ensures vbar { (el : El) → kept (Vbar el) 0xFFFF_FFFF_FFFF_FFFF ≡ 0xFFFF_FFFF_FFFF_F800 }
+    ensures spsr { (el : El) → kept (Spsr el) 0xFFFF_FFFF_FFFF_FFFF ≡ 0xF03F_03DF }
+    ensures esr { (el : El) → kept (Esr el) 0xFFFF_FFFF_FFFF_FFFF ≡ 0xFFFF_FFFF }
+    ensures vpidr_el2 { kept Vpidr 0xFFFF_FFFF_FFFF_FFFF ≡ 0xFFFF_FFFF }
+    ensures mair { (el : El) → kept (Mair el) 0xFFFF_FFFF_FFFF_FFFF ≡ 0xFFFF_FFFF_FFFF_FFFF }
+    ensures elr { (el : El) → kept (Elr el) 0xFFFF_FFFF_FFFF_FFFF ≡ 0xFFFF_FFFF_FFFF_FFFF }
+    ensures far { (el : El) → kept (Far el) 0xFFFF_FFFF_FFFF_FFFF ≡ 0xFFFF_FFFF_FFFF_FFFF }
+    ensures vmpidr_el2 { kept Vmpidr 0xFFFF_FFFF_FFFF_FFFF ≡ 0xFFFF_FFFF_FFFF_FFFF }
+    ensures par_el1 { kept Par 0xFFFF_FFFF_FFFF_FFFF ≡ 0xFFFF_FFFF_FFFF_FFFF }
+{}
+
+// Every register out of reset. It rules out stage 1 that is on out of reset, and the identity of another core.
+#[tactic(auto, unfolding(crate::specs::Regs::fresh_control, crate::specs::Regs::fresh_sys))]
+pub fn values_of_reset()
+    // SCTLR, TCR and TTBR0 of EL1, EL2 and EL3; TTBR1_EL1, SCR_EL3 and HCR_EL2
+    ensures control { map (control_at fresh_control) control_registers
+        ≡ (0x30D0_0800 ∷ 0x30C5_0830 ∷ 0x30C5_0830 ∷ 0 ∷ 0 ∷ 0 ∷ 0 ∷ 0 ∷ 0 ∷ 0 ∷ 0 ∷ 0 ∷ []) }
+    // MAIR, VBAR, ELR, SPSR, ESR and FAR of EL1, EL2 and EL3; VPIDR_EL2, VMPIDR_EL2 and PAR_EL1
+    ensures system { map (sys_at fresh_sys) system_registers
+        ≡ (0 ∷ 0 ∷ 0 ∷ 0 ∷ 0 ∷ 0 ∷ 0 ∷ 0 ∷ 0 ∷ 0 ∷ 0 ∷ 0 ∷ 0 ∷ 0 ∷ 0 ∷ 0 ∷ 0 ∷ 0 ∷ 0x410F_D083 ∷ 0x8000_0000 ∷ 0 ∷ []) }
 {}
 
 // A register write at EL0 is Undefined, one of a key that names no register is answered so, and every other writes the

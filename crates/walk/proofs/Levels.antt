@@ -111,12 +111,11 @@ leaf_leads p w leaf = found
 pub fault_leads : (p : Params) (w : WalkState) (status : ℕ) → Leads p w (Fault status)
 fault_leads p w status = fault
 
--- the two parts of an output address fit together
-pub parts_fit : (p : Params) (w : WalkState) (va desc x o : ℕ) → Standing p w → x ≡ align_down (desc % 2 ^ 48) (w.lsb % 64) → o ≡ va % 2 ^ (w.lsb % 64)
-    → x + o < 2 ^ 64
-parts_fit p w va desc x o st ex eo =
-    let a = align-le (desc % 2 ^ 48) (w.lsb % 64) in
-    let b : va % 2 ^ (w.lsb % 64) < 2 ^ 63 = lt_of_lt_of_le (mod-lt va (pow_pos (w.lsb % 64))) (pow_mono {i = w.lsb % 64} {j = 63} (omega arith)) in
+-- the two parts of an output address fit together, wherever they meet
+pub parts_fit : (va desc x o n : ℕ) → x ≡ align_down (desc % 2 ^ 48) (n % 64) → o ≡ va % 2 ^ (n % 64) → x + o < 2 ^ 64
+parts_fit va desc x o n ex eo =
+    let a = align-le (desc % 2 ^ 48) (n % 64) in
+    let b : va % 2 ^ (n % 64) < 2 ^ 63 = lt_of_lt_of_le (mod-lt va (pow_pos (n % 64))) (pow_mono {i = n % 64} {j = 63} (omega arith)) in
     rw (ex, eo) (omega arith)
 
 pub ruleset addresses = (skip-fits, skip-more, index-fits, address-fits, address_is)

@@ -6,3 +6,6 @@ pub mod WalkBounds
 pub mod FreshLaws
 pub mod PageLaws
 pub mod Order
+pub mod Numbers
+pub mod InRange
+pub mod Permissions

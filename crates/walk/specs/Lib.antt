@@ -11,6 +11,7 @@ pub mod Fresh
 -- What `theorems` says of levels, and worked cases.
 pub mod Begins
 pub mod Cases
+pub mod Numbers
 -- Laws that the crates above cite in place of the definitions.
 pub mod TagLaws
 pub mod SizeLaws

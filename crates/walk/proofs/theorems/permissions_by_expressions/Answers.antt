@@ -1,4 +1,4 @@
-use Rattle.walk.specs.PermissionLaws.{leaf-attributes, privileged-rights, user-rights, only-rights}
+use Rattle.walk.proofs.Permissions.{leaf-attributes, privileged-rights, user-rights, only-rights}
 use Rattle.walk.proofs.theorems.permissions_by_expressions.Goals as goal
 
 pub returns-clause-leaf : goal.returns-clause-leaf
