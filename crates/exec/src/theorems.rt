@@ -1,4 +1,6 @@
-// What holds of every zeroing. The function computes nothing: its contract is the theorem.
+// What holds of every zeroing, and of AT. Each function computes nothing: its contract is the theorem.
+ghost use Rattle.mmu.specs.declared.core_state.Core.{Core};
+ghost use Rattle.exec.specs.Cases.{Attributes};
 ghost use Rattle.exec.specs.ZeroMeaning.{LineZeroed, ZvaZeroes};
 
 // On a well-formed cache a zeroing that is done leaves 64 zero bytes at the translation of the aligned address and
@@ -7,4 +9,10 @@ ghost use Rattle.exec.specs.ZeroMeaning.{LineZeroed, ZvaZeroes};
 pub fn effect_of_zeroing()
     ensures line { LineZeroed }
     ensures dc_zva { ZvaZeroes }
+{}
+
+// AT S1E1R, S12E1R, S1E2R and S1E3R of one page, with another MAIR in each regime, computed on every core: PAR_EL1 has
+// the attributes of the form's own regime. It rules out an AT of EL2 or EL3 that reads MAIR_EL1.
+pub fn attributes_of_translations()
+    ensures attributes { (c : Core) → Attributes c }
 {}
