@@ -1,5 +1,5 @@
 -- AT by its encoding, as one computed statement for each regime: PAR_EL1 has the attributes of the regime's own MAIR.
-use Rattle.std.specs.Prelude.{◌≡◌, false, List, [], ◌∷◌, ℕ}
+use Rattle.std.specs.Prelude.{◌≡◌, false, [], ◌∷◌, ℕ}
 use Rattle.word.specs.Ram.{bytes_of}
 use Rattle.sysreg.specs.Regs.{levels}
 use Rattle.sysreg.specs.declared.regs.{Control.Control, SysRegs.SysRegs}

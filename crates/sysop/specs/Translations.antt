@@ -1,5 +1,5 @@
 -- PAR_EL1 a second time: tables in numbers that `theorems` promises, each row computed of a walk.
-use Rattle.std.specs.Prelude.{◌≡◌, Bool, true, false, List, [], ◌∷◌, ℕ, ◌+◌, ◌*◌, ◌^◌, Ok, Err}
+use Rattle.std.specs.Prelude.{◌≡◌, Bool, true, false, List, [], ◌∷◌, ℕ, ◌+◌, ◌*◌, Ok}
 use Rattle.word.specs.Bits.{bit0}
 use Rattle.word.specs.Ram.{word_at, bytes_of}
 use Rattle.sysreg.specs.Regs.{levels}
