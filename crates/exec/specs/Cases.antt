@@ -1,9 +1,10 @@
--- AT by its encoding, as one computed statement for each regime: PAR_EL1 has the attributes of the regime's own MAIR.
-use Rattle.std.specs.Prelude.{◌≡◌, false, [], ◌∷◌, ℕ}
+-- AT and register writes as computed statements. AT by its encoding, for each regime: PAR_EL1 has the attributes of the regime's own MAIR.
+use Rattle.std.specs.Prelude.{◌≡◌, false, List, [], ◌∷◌, ℕ}
 use Rattle.word.specs.Ram.{bytes_of}
 use Rattle.sysreg.specs.Regs.{levels}
-use Rattle.sysreg.specs.declared.regs.{Control.Control, SysRegs.SysRegs}
+use Rattle.tlb.specs.declared.Tlb.{Tlb}
 use Rattle.mmu.specs.declared.core_state.Core.{Core}
+use Rattle.exec.specs.Ops.{after_register_write}
 use Rattle.exec.specs.Sys.{sys_of}
 
 -- At EL3 with x0 = 0x40001234: in each regime stage 1 on, TCR_ELx = 25, TTBR0_ELx = 0x1000; MAIR_ELx differ.
@@ -33,3 +34,61 @@ pub record Attributes (c : Core) : Type 0 where
   pub s12e1r : par_after c 4 4 ≡ 0xA100_0000_8000_1800
   pub s1e2r : par_after c 4 0 ≡ 0xB200_0000_8000_1800
   pub s1e3r : par_after c 6 0 ≡ 0xC300_0000_8000_1800
+
+-- A register write and the cache. At EL1 with every register of translation zero but TTBR0_EL1.ASID<63:48>, which is 3: the cache's ASID is 3 and its
+-- generation 7; 20 flushes and 30 changes of the cache were counted.
+abbrev written_to : Core → Core
+written_to c =
+    record c {
+      privilege = record { level = 1; unprivileged = false };
+      control = record {
+        sctlr = levels 0 0 0;
+        tcr = levels 0 0 0;
+        ttbr0 = levels 0x3_0000_0000_0000 0 0;
+        ttbr1_el1 = 0;
+        scr_el3 = 0;
+        hcr_el2 = 0;
+      };
+      tlb = record c.tlb {
+        cache = record c.tlb.cache { current = record { generation = 7; asid = 3 } };
+        counts = record c.tlb.counts { flushes = 20; epoch = 30 };
+      };
+    }
+
+-- the flushes and the changes that are counted, and the cache's generation and ASID
+abbrev counted : Tlb → List ℕ
+counted t = t.counts.flushes ∷ t.counts.epoch ∷ t.cache.current.generation ∷ t.cache.current.asid ∷ []
+
+-- after a write of a value to the register of op0:op1:CRn:CRm:op2
+abbrev after_write : Core → ℕ → ℕ → List ℕ
+after_write c key value = counted (after_register_write (written_to c) key value).core.tlb
+
+abbrev unmoved : List ℕ
+unmoved = 20 ∷ 30 ∷ 7 ∷ 3 ∷ []
+
+abbrev flush : List ℕ
+flush = 21 ∷ 31 ∷ 8 ∷ 3 ∷ []
+
+abbrev retag : ℕ → List ℕ
+retag n = 20 ∷ 31 ∷ 7 ∷ n ∷ []
+
+-- SCTLR_ELx, TCR_ELx, TTBR0_EL2 and EL3, HCR_EL2 and SCR_EL3 flush; by TTBR0_EL1 the ASID changes alone, and so by TTBR1_EL1 where TCR_EL1.A1<22> is
+-- set; MAIR_EL1 and VBAR_EL1 do nothing, and so does a write of what is there.
+pub record Refits (c : Core) : Type 0 where
+  pub sctlr_el1 : after_write c 0xC080 1 ≡ flush
+  pub sctlr_el2 : after_write c 0xE080 1 ≡ flush
+  pub sctlr_el3 : after_write c 0xF080 1 ≡ flush
+  pub tcr_el1 : after_write c 0xC102 1 ≡ flush
+  pub tcr_el2 : after_write c 0xE102 1 ≡ flush
+  pub tcr_el3 : after_write c 0xF102 1 ≡ flush
+  pub ttbr0_el2 : after_write c 0xE100 1 ≡ flush
+  pub ttbr0_el3 : after_write c 0xF100 1 ≡ flush
+  pub hcr_el2 : after_write c 0xE088 1 ≡ flush
+  pub scr_el3 : after_write c 0xF088 1 ≡ flush
+  pub other_asid : after_write c 0xC100 0x5_0000_0000_1000 ≡ retag 5
+  pub same_asid : after_write c 0xC100 0x3_0000_0000_1000 ≡ unmoved
+  pub ttbr1_el1 : after_write c 0xC101 0x5_0000_0000_1000 ≡ unmoved
+  pub by_ttbr1 : after_write c 0xC102 0x40_0000 ≡ (21 ∷ 32 ∷ 8 ∷ 0 ∷ [])
+  pub mair_el1 : after_write c 0xC510 1 ≡ unmoved
+  pub vbar_el1 : after_write c 0xC600 0x800 ≡ unmoved
+  pub same_value : after_write c 0xC080 0 ≡ unmoved

@@ -1,6 +1,6 @@
-// What holds of every zeroing, and of AT. Each function computes nothing: its contract is the theorem.
+// What holds of every zeroing, AT and register write. Each function computes nothing: its contract is the theorem.
 ghost use Rattle.mmu.specs.declared.core_state.Core.{Core};
-ghost use Rattle.exec.specs.Cases.{Attributes};
+ghost use Rattle.exec.specs.Cases.{Attributes, Refits};
 ghost use Rattle.exec.specs.ZeroMeaning.{LineZeroed, ZvaZeroes};
 
 // On a well-formed cache a zeroing that is done leaves 64 zero bytes at the translation of the aligned address and
@@ -15,4 +15,11 @@ pub fn effect_of_zeroing()
 // the attributes of the form's own regime. It rules out an AT of EL2 or EL3 that reads MAIR_EL1.
 pub fn attributes_of_translations()
     ensures attributes { (c : Core) → Attributes c }
+{}
+
+// Which register writes flush the cache, which give it another ASID and which leave it, computed on every core: by what
+// is counted, the generation and the ASID. It rules out a write of TCR_EL1 that flushes nothing, and one of TTBR0_EL1
+// that keeps the ASID.
+pub fn effect_of_register_writes()
+    ensures refits { (c : Core) → Refits c }
 {}
