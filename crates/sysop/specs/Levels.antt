@@ -133,3 +133,13 @@ pub record Allocated : Type 0 where
   pub el1 : done_at 1 7 ≡ (el1_done ∷ 0 ∷ 0 ∷ el0_done ∷ 0 ∷ 0 ∷ 0 ∷ 0 ∷ [])
   pub el2 : done_at 2 7 ≡ (el1_done ∷ 0 ∷ 0 ∷ el0_done ∷ el2_done ∷ 0 ∷ 0 ∷ 0 ∷ [])
   pub el3 : done_at 3 7 ≡ (el1_done ∷ 0 ∷ 0 ∷ el0_done ∷ el2_done ∷ 0 ∷ el3_done ∷ 0 ∷ [])
+
+-- of CRn 8: every CRm and op2
+abbrev every_bit : ℕ
+every_bit = 0xFFFF_FFFF_FFFF_FFFF_FFFF_FFFF_FFFF_FFFF
+
+pub record Invalidating : Type 0 where
+  pub el0 : done_at 0 8 ≡ (0 ∷ 0 ∷ 0 ∷ 0 ∷ 0 ∷ 0 ∷ 0 ∷ 0 ∷ [])
+  pub el1 : done_at 1 8 ≡ (every_bit ∷ 0 ∷ 0 ∷ 0 ∷ 0 ∷ 0 ∷ 0 ∷ 0 ∷ [])
+  pub el2 : done_at 2 8 ≡ (every_bit ∷ 0 ∷ 0 ∷ 0 ∷ every_bit ∷ 0 ∷ 0 ∷ 0 ∷ [])
+  pub el3 : done_at 3 8 ≡ (every_bit ∷ 0 ∷ 0 ∷ 0 ∷ every_bit ∷ 0 ∷ every_bit ∷ 0 ∷ [])

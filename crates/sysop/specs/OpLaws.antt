@@ -83,6 +83,17 @@ module _ (level op1 crn crm op2 : ℕ) where
   pub too-low : (op1 ≡ 3 → ⊥) → (level < 1) ⊎ (level < op1 / 2) → decode_of level op1 crn crm op2 ≡ refusal level
   too-low n h = refused_but (λ r. r.op1 == 3) refl (λ r a b e. n (a ∙ eqb-true r.op1 3 e)) h
 
+  -- CRn 7 and 8 alone name an operation
+  pub other_crn : (crn ≡ 7 → ⊥) → (crn ≡ 8 → ⊥) → decode_of level op1 crn crm op2 ≡ refusal level
+  unfolding decode_of named
+  other_crn n m =
+      found (λ r. ruled level r ≡ refusal level) (λ r. r.crn == 7 || r.crn == 8) op1 crn crm op2
+      (λ r a b t. absurd (neither r b (either (r.crn == 7) (r.crn == 8) t))) (sym (absent-refused level)) table refl
+    where
+      neither : (r : Row) → crn ≡ r.crn → ((r.crn == 7) ≡ true) ⊎ ((r.crn == 8) ≡ true) → ⊥
+      neither r b (inl e) = n (b ∙ eqb-true r.crn 7 e)
+      neither r b (inr e) = m (b ∙ eqb-true r.crn 8 e)
+
 -- what is decoded is a row's operation or a refusal
 by-rule : (P : SysOp → Type 0) (level : ℕ) (r : Row) → P (operation r.name) → P (refusal level) → P (ruled level r)
 by-rule P level r a b = go (leb r.lowest level)

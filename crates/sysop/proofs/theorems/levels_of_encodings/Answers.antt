@@ -1,5 +1,6 @@
 use Rattle.std.specs.Prelude.{refl}
 use Rattle.sysop.specs.Op.{named, decode_of}
+use Rattle.sysop.specs.OpLaws.{other_crn}
 use Rattle.sysop.proofs.theorems.levels_of_encodings.Goals as goal
 
 pub returns-clause-translations : goal.returns-clause-translations
@@ -59,3 +60,10 @@ returns-clause-invalidations c = record {
 pub returns-clause-allocated : goal.returns-clause-allocated
 unfolding named decode_of
 returns-clause-allocated c = record { el0 = refl; el1 = refl; el2 = refl; el3 = refl }
+
+pub returns-clause-invalidating : goal.returns-clause-invalidating
+unfolding named decode_of
+returns-clause-invalidating c = record { el0 = refl; el1 = refl; el2 = refl; el3 = refl }
+
+pub returns-clause-others : goal.returns-clause-others
+returns-clause-others c = other_crn
