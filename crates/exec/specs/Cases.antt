@@ -1,8 +1,9 @@
--- AT and register writes as computed statements. AT by its encoding, for each regime: PAR_EL1 has the attributes of the regime's own MAIR.
-use Rattle.std.specs.Prelude.{◌≡◌, false, List, [], ◌∷◌, ℕ}
+-- AT, register writes and TLBI as computed statements. AT by its encoding, for each regime: PAR_EL1 has the attributes of the regime's own MAIR.
+use Rattle.std.specs.Prelude.{◌≡◌, false, List, [], ◌∷◌, ℕ, Option, Some, None}
 use Rattle.word.specs.Ram.{bytes_of}
 use Rattle.sysreg.specs.Regs.{levels}
-use Rattle.tlb.specs.declared.Tlb.{Tlb}
+use Rattle.tlb.specs.declared.{Inval.Inval, Tlb.Tlb}
+use Rattle.tlb.specs.declared.Inval.TheVariants.{All, Page, Asid}
 use Rattle.mmu.specs.declared.core_state.Core.{Core}
 use Rattle.exec.specs.Ops.{after_register_write}
 use Rattle.exec.specs.Sys.{sys_of}
@@ -92,3 +93,56 @@ pub record Refits (c : Core) : Type 0 where
   pub mair_el1 : after_write c 0xC510 1 ≡ unmoved
   pub vbar_el1 : after_write c 0xC600 0x800 ≡ unmoved
   pub same_value : after_write c 0xC080 0 ≡ unmoved
+
+-- TLBI of x0 at EL3, with 4 KiB everywhere: 20 flushes, 25 drops of a page and 30 changes were counted, the generation is 7, and this is pending for the
+-- other cores.
+abbrev invalidating : Core → Option Inval → Core
+invalidating c pending =
+    record c {
+      privilege = record { level = 3; unprivileged = false };
+      x = 0xABCD_0000_0000_1234 ∷ [];
+      control = record {
+        sctlr = levels 0 0 0;
+        tcr = levels 0x8000_0000 0 0;
+        ttbr0 = levels 0 0 0;
+        ttbr1_el1 = 0;
+        scr_el3 = 0;
+        hcr_el2 = 0;
+      };
+      tlb = record {
+        cache = record c.tlb.cache { current = record { generation = 7; asid = 3 } };
+        counts = record c.tlb.counts { flushes = 20; drops = 25; epoch = 30 };
+        broadcast = pending;
+      };
+    }
+
+abbrev after_tlbi : Core → Option Inval → ℕ → ℕ → ℕ → Tlb
+after_tlbi c pending op1 crm op2 = (sys_of (invalidating c pending) 0 [] op1 8 crm op2 0).core.tlb
+
+-- the flushes, the drops and the changes, and the generation
+abbrev kept : Core → ℕ → ℕ → ℕ → List ℕ
+kept c op1 crm op2 =
+    let t = after_tlbi c None op1 crm op2 in
+    t.counts.flushes ∷ t.counts.drops ∷ t.counts.epoch ∷ t.cache.current.generation ∷ []
+
+abbrev left : Core → Option Inval → ℕ → ℕ → ℕ → Option Inval
+left c pending op1 crm op2 = (after_tlbi c pending op1 crm op2).broadcast
+
+-- VMALLE1, VAE1 and ASIDE1 with CRm 7, and their Inner Shareable forms with CRm 3, which alone leave something pending: what they drop, and everything
+-- where something else was
+pub record Invalidations (c : Core) : Type 0 where
+  pub all : kept c 0 7 0 ≡ (21 ∷ 25 ∷ 31 ∷ 8 ∷ [])
+  pub page : kept c 0 7 1 ≡ (20 ∷ 26 ∷ 31 ∷ 7 ∷ [])
+  pub an_asid : kept c 0 7 2 ≡ (20 ∷ 25 ∷ 31 ∷ 7 ∷ [])
+  pub all_shared : kept c 0 3 0 ≡ (21 ∷ 25 ∷ 31 ∷ 8 ∷ [])
+  pub page_shared : kept c 0 3 1 ≡ (20 ∷ 26 ∷ 31 ∷ 7 ∷ [])
+  pub an_asid_shared : kept c 0 3 2 ≡ (20 ∷ 25 ∷ 31 ∷ 7 ∷ [])
+  pub left_all : left c None 0 7 0 ≡ None
+  pub left_page : left c None 0 7 1 ≡ None
+  pub left_asid : left c None 0 7 2 ≡ None
+  pub pending_all : left c None 0 3 0 ≡ Some All
+  pub pending_page : left c None 0 3 1 ≡ Some (Page 0xABCD_0000_0000_1234)
+  pub pending_asid : left c None 0 3 2 ≡ Some (Asid 0xCD)
+  pub same_again : left c (Some (Asid 0xCD)) 0 3 2 ≡ Some (Asid 0xCD)
+  pub another : left c (Some (Asid 0xCE)) 0 3 2 ≡ Some All
+  pub pending_stays : left c (Some (Asid 0xCE)) 0 7 0 ≡ Some (Asid 0xCE)
