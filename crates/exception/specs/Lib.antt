@@ -11,3 +11,5 @@ pub mod EntryLaws
 pub mod FieldLaws
 pub mod Cases
 pub mod Flags
+-- The same a second time, in numbers.
+pub mod Tables

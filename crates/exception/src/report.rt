@@ -1,5 +1,5 @@
 // What an exception reports: ESR_ELx and FAR_ELx.
-ghost use Rattle.std.specs.Prelude.{◌≡◌};
+ghost use Rattle.std.specs.Prelude.{◌≡◌, nat_lt};
 ghost use Rattle.exception.specs.Syndrome.{esr_of, data_status, syndrome_of};
 
 use crate::kind::Exception;
@@ -58,12 +58,19 @@ fn data_status(write: bool, fsc: u8) -> u16
     if write { status | WNR } else { status }
 }
 
+// Whether an exception comes from a lower level than the one that takes it.
+fn comes_from_lower(from: u8, to: u8) -> bool
+    ensures { result ≡ nat_lt from to }
+{
+    from < to
+}
+
 // ESR_ELx and FAR_ELx of an exception at the PC, taken from one level to another.
 #[tactic(auto, unfolding(crate::specs::Syndrome::syndrome_of))]
 pub fn syndrome(e: Exception, from: u8, to: u8, pc: u64) -> Report
     ensures { result ≡ syndrome_of e from to pc }
 {
-    let lower = from < to;
+    let lower = comes_from_lower(from, to);
     match e {
         Exception::Undefined => Report::new(EC_UNKNOWN, 0, None),
         Exception::Svc(imm) => Report::new(EC_SVC64, imm, None),

@@ -13,6 +13,7 @@ ghost use Rattle.exception.specs.Route.{ns, smd, hce, tsc, tge};
 ghost use Rattle.exception.specs.Entry.{entry_flags, vect_offset, register_after, of_entry, take_sync};
 ghost use Rattle.exception.specs.Flags.{flags};
 ghost use Rattle.exception.specs.Cases.{WorkedEntries, WorkedDepartures, WorkedInterrupts};
+ghost use Rattle.exception.specs.Tables.{Targets, Reports, Vectors, Masked, Saved};
 ghost use Rattle.exception.specs.EntryLaws.{EachEntry};
 ghost use Rattle.exception.specs.declared.kind.Exception.{Exception};
 ghost use Rattle.exception.specs.declared.flags.Flags.{Flags};
@@ -65,6 +66,23 @@ pub fn worked_entries()
     ensures entries { WorkedEntries }
     ensures departures { WorkedDepartures }
     ensures interrupts { WorkedInterrupts }
+{}
+
+// The level that each kind of exception is taken to, computed: HCR_EL2.TGE takes each that is usual from Non-secure EL0
+// to EL2, and an HVC or SMC that is UNDEFINED; from Secure EL0, EL1 and above it takes none. It rules out a BRK that
+// ignores TGE, and TSC that traps SMC at Secure EL1.
+pub fn targets_of_exceptions()
+    ensures targets { Targets }
+{}
+
+// What each kind reports from a lower level and from its own, the vector of each kind of entry, and PSTATE before and
+// after it, in numbers. It rules out an immediate that loses bits, one class for both levels, the vector of another
+// level, and an entry that leaves an interrupt unmasked or SP_EL0 in use.
+pub fn tables_of_entries()
+    ensures reports { (pc addr : ℕ) → Reports pc addr }
+    ensures vectors { Vectors }
+    ensures pstate { Masked }
+    ensures saved { Saved }
 {}
 
 // Where PSTATE and VBAR hold what the manual lets them hold and a status has six bits, SPSR, ESR and the vector are the

@@ -57,12 +57,13 @@ module _ (level op1 crn crm op2 : ℕ) where
       here r a (inl e) = known r (omega (arith, leb-true r.lowest 1 e))
       here r a (inr e) = let k : r.op1 / 2 ≤ level = rw a at h in known r (omega (arith, leb-true r.lowest (r.op1 / 2) e, k))
 
-  -- below, everything but op1 3 is refused
-  pub too-low : (op1 ≡ 3 → ⊥) → (level < 1) ⊎ (level < op1 / 2) → decode_of level op1 crn crm op2 ≡ refusal level
+  -- below, everything is refused but the rows that p names, where p names no row of this op1 and CRn
+  refused_but : (p : Row → Bool) → every (λ r. p r || (leb 1 r.lowest && leb (r.op1 / 2) r.lowest)) table ≡ true
+      → ((r : Row) → op1 ≡ r.op1 → crn ≡ r.crn → p r ≡ true → ⊥) → (level < 1) ⊎ (level < op1 / 2) → decode_of level op1 crn crm op2 ≡ refusal level
   unfolding decode_of named
-  too-low n h =
-      found (λ r. ruled level r ≡ refusal level) (λ r. (r.op1 == 3) || (leb 1 r.lowest && leb (r.op1 / 2) r.lowest)) op1 crn crm op2
-      (λ r a b t. here r a (either (r.op1 == 3) (leb 1 r.lowest && leb (r.op1 / 2) r.lowest) t)) (sym (absent-refused level)) table refl
+  refused_but p all n h =
+      found (λ r. ruled level r ≡ refusal level) (λ r. p r || (leb 1 r.lowest && leb (r.op1 / 2) r.lowest)) op1 crn crm op2
+      (λ r a b t. here r a b (either (p r) (leb 1 r.lowest && leb (r.op1 / 2) r.lowest) t)) (sym (absent-refused level)) table all
     where
       known : (r : Row) → level < r.lowest → ruled level r ≡ refusal level
       known r k = rw (lt-leb r.lowest level k)
@@ -71,12 +72,27 @@ module _ (level op1 crn crm op2 : ℕ) where
       above r a x y (inl z) = known r (omega arith)
       above r a x y (inr z) = let k : level < r.op1 / 2 = rw a at z in known r (omega arith)
 
-      here : (r : Row) → op1 ≡ r.op1 → ((r.op1 == 3) ≡ true) ⊎ ((leb 1 r.lowest && leb (r.op1 / 2) r.lowest) ≡ true)
+      here : (r : Row) → op1 ≡ r.op1 → crn ≡ r.crn → (p r ≡ true) ⊎ ((leb 1 r.lowest && leb (r.op1 / 2) r.lowest) ≡ true)
           → ruled level r ≡ refusal level
-      here r a (inl e) = absurd (n (a ∙ eqb-true r.op1 3 e))
-      here r a (inr e) =
+      here r a b (inl e) = absurd (n r a b e)
+      here r a b (inr e) =
           let k = both (leb 1 r.lowest) (leb (r.op1 / 2) r.lowest) e in
           above r a (leb-true 1 r.lowest k.0) (leb-true (r.op1 / 2) r.lowest k.1) h
+
+  -- everything but op1 3
+  pub too-low : (op1 ≡ 3 → ⊥) → (level < 1) ⊎ (level < op1 / 2) → decode_of level op1 crn crm op2 ≡ refusal level
+  too-low n h = refused_but (λ r. r.op1 == 3) refl (λ r a b e. n (a ∙ eqb-true r.op1 3 e)) h
+
+  -- CRn 7 and 8 alone name an operation
+  pub other_crn : (crn ≡ 7 → ⊥) → (crn ≡ 8 → ⊥) → decode_of level op1 crn crm op2 ≡ refusal level
+  unfolding decode_of named
+  other_crn n m =
+      found (λ r. ruled level r ≡ refusal level) (λ r. r.crn == 7 || r.crn == 8) op1 crn crm op2
+      (λ r a b t. absurd (neither r b (either (r.crn == 7) (r.crn == 8) t))) (sym (absent-refused level)) table refl
+    where
+      neither : (r : Row) → crn ≡ r.crn → ((r.crn == 7) ≡ true) ⊎ ((r.crn == 8) ≡ true) → ⊥
+      neither r b (inl e) = n (b ∙ eqb-true r.crn 7 e)
+      neither r b (inr e) = m (b ∙ eqb-true r.crn 8 e)
 
 -- what is decoded is a row's operation or a refusal
 by-rule : (P : SysOp → Type 0) (level : ℕ) (r : Row) → P (operation r.name) → P (refusal level) → P (ruled level r)
