@@ -1,1 +1,2 @@
 pub mod Ram
+pub mod Keeping

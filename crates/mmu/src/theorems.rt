@@ -3,6 +3,8 @@ ghost use Rattle.std.specs.Prelude.{◌≡◌, ℕ, List, length};
 ghost use Rattle.mmu.specs.Bare.{bare_of};
 ghost use Rattle.tlb.specs.Asks.{tlb_asks};
 ghost use Rattle.mmu.specs.ByteMeaning.{LoadsOwnBytes, StoresOwnBytes, StoreLeavesOthers};
+ghost use Rattle.mmu.specs.Kept.{ReadsWhatIsWritten, OthersStay, LastIsWritten, ReadsZero, DropsWrites, NothingElse};
+ghost use Rattle.mmu.specs.Kept.{RegisterRows, NeighbourRows, OnlyLoadsSetLast, TranslationsKeepAbort};
 ghost use Rattle.mmu.specs.Ops.{write_of, fetch_of};
 ghost use Rattle.mmu.specs.OpLaws.{Operation, operation_core, operation_ram, asks_of, on_now, access_now};
 ghost use Rattle.mmu.specs.OpSays.{says, said_by, ram_by, translations_of};
@@ -34,4 +36,25 @@ pub fn bytes_at_their_own_addresses()
     ensures loaded { LoadsOwnBytes }
     ensures stored { StoresOwnBytes }
     ensures others_stay { StoreLeavesOthers }
+{}
+
+// General registers: what is written to one of the 31 is read from it, X30 too, and the others stay; register 31 reads as
+// zero and drops what is written. Of every core, and in numbers. It rules out writes of X30 that are dropped, and a
+// register 31 that reads X30.
+pub fn general_registers()
+    ensures written { ReadsWhatIsWritten }
+    ensures last_written { LastIsWritten }
+    ensures others_stay { OthersStay }
+    ensures reads_zero { ReadsZero }
+    ensures drops_writes { DropsWrites }
+    ensures nothing_else { NothingElse }
+    ensures rows { RegisterRows }
+    ensures neighbours { NeighbourRows }
+{}
+
+// Who sets the physical addresses that the core keeps: `last_pa` a load alone, `abort_pa` a load, a store or a fetch. It
+// rules out a translation or a question where an access would go that leaves its answer there.
+pub fn setters_of_addresses()
+    ensures last { OnlyLoadsSetLast }
+    ensures abort { TranslationsKeepAbort }
 {}
