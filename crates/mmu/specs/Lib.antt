@@ -18,3 +18,4 @@ pub mod OwnAddress
 pub mod ByteMeaning
 -- What the core keeps, said once more.
 pub mod Kept
+pub mod AbortAddress

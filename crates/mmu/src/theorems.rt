@@ -3,6 +3,7 @@ ghost use Rattle.std.specs.Prelude.{◌≡◌, ℕ, List, length};
 ghost use Rattle.mmu.specs.Bare.{bare_of};
 ghost use Rattle.tlb.specs.Asks.{tlb_asks};
 ghost use Rattle.mmu.specs.ByteMeaning.{LoadsOwnBytes, StoresOwnBytes, StoreLeavesOthers};
+ghost use Rattle.mmu.specs.AbortAddress.{LoadsKeepFirst, LoadAborts, StoreAborts, FetchAborts};
 ghost use Rattle.mmu.specs.Kept.{ReadsWhatIsWritten, OthersStay, LastIsWritten, ReadsZero, DropsWrites, NothingElse};
 ghost use Rattle.mmu.specs.Kept.{RegisterRows, NeighbourRows, OnlyLoadsSetLast, TranslationsKeepAbort};
 ghost use Rattle.mmu.specs.Ops.{write_of, fetch_of};
@@ -57,4 +58,14 @@ pub fn general_registers()
 pub fn setters_of_addresses()
     ensures last { OnlyLoadsSetLast }
     ensures abort { TranslationsKeepAbort }
+{}
+
+// Which physical addresses an access leaves: in `last_pa` a load's what its own address translates to, also where it then
+// aborts; in `abort_pa` what the failing byte's own address translates to. It rules out a `last_pa` that is the failing
+// byte's, and an abort that leaves `abort_pa`.
+pub fn addresses_left()
+    ensures load_first { LoadsKeepFirst }
+    ensures load_aborts { LoadAborts }
+    ensures store_aborts { StoreAborts }
+    ensures fetch_aborts { FetchAborts }
 {}
