@@ -7,6 +7,7 @@ use Rattle.word.specs.declared.ram.Width.{Width}
 use Rattle.sysreg.specs.Write.{WriteAnswer}
 use Rattle.sysreg.specs.declared.write.WriteError.TheVariants.{Undefined, NoRegister}
 use Rattle.sysop.specs.declared.op.SysOp.{SysOp}
+use Rattle.mmu.specs.Results.{Stored}
 use Rattle.mmu.specs.Core.{reg_of, set_reg, after_access}
 use Rattle.mmu.specs.Ops.{translate_of, write_of, ram_after_write, fetch_of, fetch_pa_of, data_pa_of}
 use Rattle.mmu.specs.OpLaws.{store-last}
@@ -48,15 +49,16 @@ written-abort c key value = go (written c key value).answer
 zero-last : (n : ℕ) (c : Core) (base : ℕ) (ram : List ℕ) (va : ℕ) → (zero_of n c base ram va).core.last_pa ≡ c.last_pa
 unfolding zero_of
 zero-last zero c base ram va = refl
-zero-last (suc n) c base ram va = go (write_of c base ram va 8).answer
+zero-last (suc n) c base ram va =
+    go (write_of c base ram va 8).answer (zero-last n (write_of c base ram va 8).core base (ram_after_write c base ram va 8 0) (wrap (va + 8)))
   where
-    next : Core
-    next = (write_of c base ram va 8).core
+    next : Stored
+    next = zero_of n (write_of c base ram va 8).core base (ram_after_write c base ram va 8 0) (wrap (va + 8))
 
-    go : (a : StoreAnswer)
-        → (on_stored a (zero_of n next base (ram_after_write c base ram va 8 0) (wrap (va + 8))) (write_of c base ram va 8)).core.last_pa ≡ c.last_pa
-    go (Ok x) = zero-last n next base (ram_after_write c base ram va 8 0) (wrap (va + 8)) ∙ store-last c base ram va 8
-    go (Err s) = store-last c base ram va 8
+    go : (a : StoreAnswer) → next.core.last_pa ≡ (write_of c base ram va 8).core.last_pa
+        → (on_stored a next (write_of c base ram va 8)).core.last_pa ≡ c.last_pa
+    go (Ok x) later = later ∙ store-last c base ram va 8
+    go (Err s) later = store-last c base ram va 8
 
 module _ (c : Core) (base : ℕ) (ram : List ℕ) where
   stored-last : (w : Option Width) (va : ℕ) → (store_by w c base ram va).core.last_pa ≡ c.last_pa
