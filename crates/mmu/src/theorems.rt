@@ -1,12 +1,16 @@
 // What holds of every memory operation. Each function computes nothing: its contract is the theorem.
-ghost use Rattle.std.specs.Prelude.{◌≡◌, ℕ, List, length};
+ghost use Rattle.std.specs.Prelude.{◌≡◌, ℕ, ◌+◌, ◌<◌, List, length, ◌≢◌, slice_index, Ok};
+ghost use Rattle.word.specs.Ram.{word_at};
 ghost use Rattle.mmu.specs.Bare.{bare_of};
 ghost use Rattle.tlb.specs.Asks.{tlb_asks};
 ghost use Rattle.mmu.specs.ByteMeaning.{LoadsOwnBytes, StoresOwnBytes, StoreLeavesOthers};
 ghost use Rattle.mmu.specs.AbortAddress.{LoadsKeepFirst, LoadAborts, StoreAborts, FetchAborts};
 ghost use Rattle.mmu.specs.Kept.{ReadsWhatIsWritten, OthersStay, LastIsWritten, ReadsZero, DropsWrites, NothingElse};
 ghost use Rattle.mmu.specs.Kept.{RegisterRows, NeighbourRows, OnlyLoadsSetLast, TranslationsKeepAbort};
-ghost use Rattle.mmu.specs.Ops.{write_of, fetch_of};
+ghost use Rattle.mmu.specs.Ops.{located_now, write_of, ram_after_write, fetch_of};
+ghost use Rattle.operations.specs.BytesLaws.{address_in};
+ghost use Rattle.operations.specs.declared.place.Place.{Place};
+ghost use Rattle.tlb.specs.declared.access.Kind.TheVariants.{Write};
 ghost use Rattle.mmu.specs.OpLaws.{Operation, operation_core, operation_ram, asks_of, on_now, access_now};
 ghost use Rattle.mmu.specs.OpSays.{says, said_by, ram_by, translations_of};
 ghost use Rattle.mmu.specs.declared.core_state.Core.{Core};
@@ -29,6 +33,11 @@ pub fn effect_of_operations()
         → (write_of c base ram va n).core.last_pa ≡ c.last_pa }
     ensures fetch_keeps_last { (c : Core) (base : ℕ) (ram : List ℕ) (va : ℕ)
         → (fetch_of c base ram va).core.last_pa ≡ c.last_pa }
+    // a store, on any cache, leaves every byte of RAM that is none of its own
+    ensures store_leaves { (c : Core) (base : ℕ) (ram : List ℕ) (va n v k : ℕ)
+        → ((place : Place) → (located_now c (word_at base ram 8) va n Write).placed ≡ Ok place
+        → (i : ℕ) → i < n → base + k ≢ address_in place i)
+        → slice_index (ram_after_write c base ram va n v) k ≡ slice_index ram k }
 {}
 
 // On a well-formed cache each byte of a load or store, split or not, is the byte at the translation of its own address,
