@@ -1,19 +1,18 @@
 -- What an abort says of the access, and which addresses the core keeps, of every place.
-use Rattle.std.specs.Prelude.{if◌then◌else◌, Option, Some, None, Ok, Err}
-use Rattle.std.proofs.Common.{◌≡◌, ℕ, ◌+◌, ◌-◌, ◌%◌, ◌^◌, ◌<◌, Bool, true, false, List, length, sym, refl, ap, ◌∙◌, mod-eq_of_lt, lt-ltb, arith}
+use Rattle.std.specs.Prelude.{if◌then◌else◌, Some, None, Ok, Err}
+use Rattle.std.proofs.Common.{◌≡◌, ℕ, ◌+◌, ◌-◌, ◌%◌, ◌^◌, Bool, true, false, length, sym, refl, ap, mod-eq_of_lt, lt-ltb, arith}
 use Rattle.word.specs.Bits.{wrap}
 use Rattle.word.specs.Ram.{within, little_endian}
-use Rattle.fault.specs.declared.Fault.{Fault}
 use Rattle.exception.specs.declared.{kind.Stop.Stop, kind.Exception.Exception}
 use Rattle.operations.specs.Answers.{Verdict, LoadAnswer, StoreAnswer, FetchAnswer, outside_at}
-use Rattle.operations.specs.Place.{byte_at, first_outside, verdict_of}
+use Rattle.operations.specs.Place.{byte_at, verdict_of}
 use Rattle.operations.specs.PlaceLaws.{same-outside, lowest}
 use Rattle.operations.specs.Bytes.{value_at, load_of, insn_of, got_by}
 use Rattle.operations.specs.BytesLaws.{address_in}
-use Rattle.operations.specs.Ends.{data_abort, external_abort, external, loaded_from, store_end_by, fetched_from, load_end, store_end, fetch_end}
+use Rattle.operations.specs.Ends.{loaded_from, store_end_by, fetched_from, load_end, store_end, fetch_end}
 use Rattle.operations.specs.EndMeaning.{stop_writes, stop_address, exception_writes, exception_address, LoadsRead, StoresWrite, FetchesReport}
 use Rattle.operations.specs.EndMeaning.{LoadAborts, StoreAborts, FetchAborts, LoadsKeepFirst, FaultsLeave, DoneLeaves}
-use Rattle.operations.specs.declared.{place.Place.Place, place.Outside.Outside}
+use Rattle.operations.specs.declared.{place.Place.Place}
 use Rattle.operations.specs.declared.place.Place.TheVariants.{Whole, Split}
 
 same_load : (s t : Stop) → ◌≡◌ {A = LoadAnswer} (Err s) (Err t) → s ≡ t

@@ -1,5 +1,5 @@
 -- The checks 1 to 7 in numbers: docs/SCOPE.md's table said once more, row by row, at each bound and one beyond it.
-use Rattle.std.specs.Prelude.{◌≡◌, ℕ, ◌^◌, true, List, [], ◌∷◌, map}
+use Rattle.std.specs.Prelude.{◌≡◌, ℕ, true, List, [], ◌∷◌, map}
 use Rattle.tlb.specs.declared.access.Kind.TheVariants.{Read}
 use Rattle.exception.specs.declared.kind.Exception.TheVariants as Exception
 use Rattle.operations.specs.Check.{missed_of}

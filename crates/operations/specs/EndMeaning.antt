@@ -4,7 +4,6 @@ use Rattle.word.specs.Bits.{wrap}
 use Rattle.word.specs.Ram.{within}
 use Rattle.fault.specs.declared.Fault.{Fault}
 use Rattle.exception.specs.declared.{kind.Stop.Stop, kind.Exception.Exception}
-use Rattle.exception.specs.declared.kind.Stop.TheVariants as Stop
 use Rattle.exception.specs.declared.kind.Exception.TheVariants.{Undefined, Svc, Hvc, Smc, Brk, DataAbort, InsnAbort, PcAlignment}
 use Rattle.tlb.specs.Answers.{Answer}
 use Rattle.operations.specs.Answers.{Placed, outside_at}

@@ -1,13 +1,12 @@
 -- Where an access lies and how it ends, in numbers: the first and the last byte of a page, two pages, the addresses that an abort reports and those
 -- that the core keeps.
-use Rattle.std.specs.Prelude.{◌≡◌, ℕ, ◌+◌, ◌-◌, Bool, true, false, List, [], ◌∷◌, map, Option, Some, None, Ok, Err}
+use Rattle.std.specs.Prelude.{◌≡◌, ℕ, true, false, List, [], ◌∷◌, map, Ok, Err}
 use Rattle.word.specs.Bits.{flag}
 use Rattle.fault.specs.First.{first}
 use Rattle.exception.specs.declared.{kind.Stop.Stop, kind.Exception.Exception}
-use Rattle.exception.specs.declared.kind.Stop.TheVariants as Stop
 use Rattle.exception.specs.declared.kind.Exception.TheVariants.{Undefined, Svc, Hvc, Smc, Brk, DataAbort, InsnAbort, PcAlignment}
 use Rattle.operations.specs.Answers.{Placed, LoadAnswer, StoreAnswer, FetchAnswer, fault_at}
-use Rattle.operations.specs.Place.{in_page, next_page, crosses, goes_on, placed_both, byte_at}
+use Rattle.operations.specs.Place.{in_page, next_page, crosses, placed_both, byte_at}
 use Rattle.operations.specs.Ends.{load_end, store_end, store_ram_end, fetch_end}
 use Rattle.operations.specs.declared.place.Pages.{Pages}
 use Rattle.operations.specs.declared.place.Place.TheVariants.{Whole, Split}
