@@ -86,15 +86,6 @@ pub number-le : (c : Core) (base : ℕ) (ram : List ℕ) (call : Call) → misse
 unfolding missed_of
 number-le c base ram call = first-le (checks_of c.privilege.level base (length ram) call) (checks-numbered c.privilege.level base (length ram) call)
 
-module _ (c : Core) (base : ℕ) (ram : List ℕ) (call : Call) (n : ℕ) (e : missed_by c base ram call ≡ suc n) where
-  pub refused : step_of c base ram call ≡ ends c (Refused (suc n))
-  unfolding step_of
-  refused = rw e
-
-  pub refused-ram : ram_after c base ram call ≡ ram
-  unfolding ram_after
-  refused-ram = rw e
-
 -- EVERY OTHER CALL
 
 -- where a call misses no check, no row's condition holds
@@ -293,18 +284,6 @@ module _ (c : Core) (base : ℕ) (ram : List ℕ) where
 pub data Ended (c : Core) (ram : List ℕ) : ℕ → Core → List ℕ → Outcome → Type 0 where
   is-refused : (n : ℕ) → suc n ≤ 7 → Ended c ram (suc n) c ram (number (suc n))
   has-run : (d : Core) (after : List ℕ) (o : Outcome) → Ran c ram d after o → Ended c ram 0 d after o
-
-pub each_call_ends : (c : Core) (base : ℕ) (ram : List ℕ) (call : Call)
-    → Ended c ram (missed_by c base ram call) (step_of c base ram call).core (ram_after c base ram call) (outcome_of (step_of c base ram call).reply)
-unfolding step_of ram_after
-each_call_ends c base ram call = go (missed_by c base ram call) (number-le c base ram call) (λ e. ran c base ram call e)
-  where
-    go : (n : ℕ) → n ≤ 7
-        → (n ≡ 0 → Ran c ram (run_of c base ram call).core (ram_of c base ram call) (outcome_of (run_of c base ram call).reply))
-        → Ended c ram n (refused_or n (λ k. ends c (Refused k)) (run_of c base ram call)).core (refused_or n (λ k. ram) (ram_of c base ram call))
-        (outcome_of (refused_or n (λ k. ends c (Refused k)) (run_of c base ram call)).reply)
-    go zero h r = has-run _ _ _ (r refl)
-    go (suc n) h r = is-refused n h
 
 -- stores and zeroing may write; translations, loads, fetches, AT, TLBI, register writes, settings, abort entry and the census change no byte
 abbrev pub zeroes : SysOp → Bool

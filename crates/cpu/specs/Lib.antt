@@ -3,3 +3,4 @@ pub mod Step
 pub mod Inspect
 pub mod Cases
 pub mod EveryCallEnds
+pub mod Setters

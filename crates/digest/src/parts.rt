@@ -1,12 +1,15 @@
 // The digests of a core's words.
-ghost use Rattle.std.specs.Prelude.{◌≡◌, [], ◌∷◌};
+ghost use Rattle.std.specs.Prelude.{◌≡◌, ◌+◌, ◌≤◌, [], ◌∷◌};
+ghost use Rattle.word.specs.Bits.{wrap, flag};
 ghost use Rattle.words.specs.CoreOf.{core_of};
 ghost use Rattle.digest.specs.Fold.{digest_from, digest_of, gathered};
-ghost use Rattle.digest.specs.Parts.{register_words, record_words, entry_words, entries_words, hint_words};
+ghost use Rattle.digest.specs.Count.{live_at, live_entries, set, set_at, set_data_hints, set_hints};
+ghost use Rattle.digest.specs.Parts.{live, register_words, record_words, entry_words, entries_words, hint_words};
 ghost use Rattle.digest.specs.Parts.{fetch_words, hints_words};
 
 use crate::fold;
-use tlb::entry::Entry;
+use tlb::entry::{Current, Entry};
+use tlb::hint::Hint;
 use word::bits;
 use words::place::State;
 use words::{cells, counts, place};
@@ -37,11 +40,13 @@ fn joined_three(h: u64, a: u64, b: u64, c: u64) -> u64
     fold::join(with_b, c)
 }
 
+// One more, with another digest.
 fn counted(s: Sum, digest: u64) -> Sum
-    ensures { result.digest ≡ digest }
+    ensures digest_value { result.digest ≡ digest }
+    ensures count_value { result.count ≡ wrap (s.count + 1) }
 {
     Sum {
-        count: s.count.wrapping_add(1),
+        count: bits::more(s.count),
         digest,
     }
 }
@@ -71,14 +76,21 @@ fn with_entry(digest: u64, slot: u64, e: Entry) -> u64
 }
 
 // An entry is live where it has a tag and is of the present generation.
+fn is_live(e: Entry, now: Current) -> bool
+    ensures { result ≡ live e now }
+{
+    (e.tag != 0) & (e.generation == now.generation)
+}
+
+// A sum with an entry, where it is live.
 #[tactic(auto, unfolding(crate::specs::Fold::digest_from, crate::specs::Parts::entry_words))]
 fn with_live(s: Sum, state: &State, j: usize) -> Sum
-    ensures { result.digest ≡ digest_from s.digest (entry_words (core_of state.now).tlb.cache j) }
+    ensures digest_value { result.digest ≡ digest_from s.digest (entry_words (core_of state.now).tlb.cache j) }
+    ensures count_value { result.count ≡ wrap (s.count + flag (live_at (core_of state.now).tlb.cache j) 1) }
 {
     let e = cells::entry_at(state, j);
     let now = counts::current_at(state);
-    let live = (e.tag != 0) & (e.generation == now.generation);
-    if live {
+    if is_live(e, now) {
         let d = with_entry(s.digest, j as u64, e);
         counted(s, d)
     } else {
@@ -88,7 +100,8 @@ fn with_live(s: Sum, state: &State, j: usize) -> Sum
 
 // The live entries by rising slot.
 pub fn entries(state: &State) -> Sum
-    ensures { result.digest ≡ digest_of (entries_words (core_of state.now).tlb.cache) }
+    ensures digest_value { result.digest ≡ digest_of (entries_words (core_of state.now).tlb.cache) }
+    ensures count_value { result.count ≡ live_entries (core_of state.now).tlb.cache }
 {
     let mut s = start();
     let mut j: usize = 0;
@@ -99,24 +112,31 @@ pub fn entries(state: &State) -> Sum
     s
 }
 
+// A data hint whose key is all ones is none.
+fn is_set(h: Hint) -> bool
+    ensures { result ≡ set h }
+{
+    h.key != 0xFFFF_FFFF_FFFF_FFFF
+}
+
 #[tactic(auto, unfolding(crate::specs::Fold::digest_from, crate::specs::Parts::hint_words))]
 fn with_hint(s: Sum, state: &State, i: usize) -> Sum
-    ensures { result.digest ≡ digest_from s.digest (hint_words (core_of state.now).tlb.cache i) }
+    ensures digest_value { result.digest ≡ digest_from s.digest (hint_words (core_of state.now).tlb.cache i) }
+    ensures count_value { result.count ≡ wrap (s.count + flag (set_at (core_of state.now).tlb.cache i) 1) }
 {
     let h = cells::hint_at(state, i);
-    let unset = h.key == 0xFFFF_FFFF_FFFF_FFFF;
-    if unset {
-        s
-    } else {
+    if is_set(h) {
         let d = joined_three(s.digest, i as u64, h.key, h.pa);
         counted(s, d)
+    } else {
+        s
     }
 }
 
 #[tactic(auto, unfolding(crate::specs::Fold::digest_from, crate::specs::Parts::fetch_words))]
 fn with_fetch(s: Sum, state: &State) -> Sum
-    ensures { result.digest ≡ digest_from s.digest (fetch_words
-        (core_of state.now).tlb.cache.fetch) }
+    ensures digest_value { result.digest ≡ digest_from s.digest (fetch_words (core_of state.now).tlb.cache.fetch) }
+    ensures count_value { result.count ≡ wrap (s.count + flag (core_of state.now).tlb.cache.fetch.some 1) }
 {
     let f = cells::fetch_at(state);
     if f.some {
@@ -128,7 +148,9 @@ fn with_fetch(s: Sum, state: &State) -> Sum
 }
 
 fn data_hints(state: &State) -> Sum
-    ensures { result.digest ≡ digest_of (gathered (hint_words (core_of state.now).tlb.cache) 512 0) }
+    ensures digest_value { result.digest ≡ digest_of (gathered (hint_words (core_of state.now).tlb.cache) 512 0) }
+    ensures count_value { result.count ≡ set_data_hints (core_of state.now).tlb.cache }
+    ensures upper_bound { result.count ≤ 512 }
 {
     let mut s = start();
     let mut i: usize = 0;
@@ -141,7 +163,8 @@ fn data_hints(state: &State) -> Sum
 
 // The data hints that are set, by rising slot, then the fetch hint.
 pub fn hints(state: &State) -> Sum
-    ensures { result.digest ≡ digest_of (hints_words (core_of state.now).tlb.cache) }
+    ensures digest_value { result.digest ≡ digest_of (hints_words (core_of state.now).tlb.cache) }
+    ensures count_value { result.count ≡ set_hints (core_of state.now).tlb.cache }
 {
     let s = data_hints(state);
     with_fetch(s, state)

@@ -1,1 +1,3 @@
 pub mod Ram
+pub mod Keeping
+pub mod Aborting

@@ -16,3 +16,6 @@ pub mod OpLaws
 pub mod OpSays
 pub mod OwnAddress
 pub mod ByteMeaning
+-- What the core keeps, said once more.
+pub mod Kept
+pub mod AbortAddress

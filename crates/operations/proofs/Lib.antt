@@ -2,3 +2,5 @@
 pub mod Places
 pub mod Moves
 pub mod Both
+pub mod Rows
+pub mod Endings

@@ -21,10 +21,6 @@ WorkedNumbers =
     ∷ [])
     ≡ (1 ∷ 2 ∷ 7 ∷ 0 ∷ 0 ∷ 7 ∷ 0 ∷ 7 ∷ 0 ∷ [])
 
-pub numbers : WorkedNumbers
-unfolding missed_of
-numbers = refl
-
 differ : true ≡ false → ⊥
 differ q = let z : ◌≡◌ {A = ℕ} 1 0 = ap (λ (x : Bool). flag x 1) q in omega arith
 

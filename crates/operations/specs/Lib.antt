@@ -2,6 +2,7 @@
 pub mod Answers
 pub mod Check
 pub mod CheckCases
+pub mod CheckRows
 pub mod Place
 pub mod Bytes
 pub mod AtOnce
@@ -13,3 +14,6 @@ pub mod Loads
 -- Laws that the crates above cite.
 pub mod PlaceLaws
 pub mod BytesLaws
+-- Ends and places said once more, in numbers and by each byte's own address.
+pub mod PlaceRows
+pub mod EndMeaning

@@ -6,6 +6,12 @@ ghost use Rattle.word.specs.Bits.{wrap};
 ghost use Rattle.word.specs.Ram.{within};
 ghost use Rattle.operations.specs.Check.{overlong};
 ghost use Rattle.operations.specs.CheckCases.{WorkedNumbers};
+ghost use Rattle.operations.specs.CheckRows.{OrderRows, LevelRows, WindowRows, SizeRows, SystemRows, GeneralRows};
+ghost use Rattle.operations.specs.CheckRows.{NamedKeys, OtherKeys};
+ghost use Rattle.operations.specs.PlaceRows.{CrossingRows, NextPageRows, ByteRows, FaultRows, LoadRows, StoreRows};
+ghost use Rattle.operations.specs.PlaceRows.{FetchRows};
+ghost use Rattle.operations.specs.EndMeaning.{LoadsRead, StoresWrite, FetchesReport, LoadAborts, StoreAborts};
+ghost use Rattle.operations.specs.EndMeaning.{FetchAborts, LoadsKeepFirst, FaultsLeave, DoneLeaves};
 ghost use Rattle.operations.specs.Place.{in_page, next_page, byte_at, first_outside, verdict_of};
 ghost use Rattle.operations.specs.PlaceLaws.{Lowest};
 ghost use Rattle.operations.specs.Bytes.{store_ram};
@@ -49,4 +55,56 @@ pub fn checks_of_a_census()
     ensures numbers { WorkedNumbers }
     ensures parts_allowed { (first n m next : ℕ) → next ≡ wrap (first + n * 4096) → overlong first (n + m) ≡ false
         → (overlong first n ≡ false) × (overlong next m ≡ false) }
+{}
+
+// The numbers 1 to 7 at each bound and one beyond it, and which comes first where a call misses several: computed, by
+// literal calls. It rules out a check with another bound in code and definition alike, as one that lets CRm 16 or
+// register 32 pass, and one that is made before another that comes first.
+pub fn numbers_of_checks()
+    ensures order { OrderRows }
+    ensures levels { LevelRows }
+    ensures windows { WindowRows }
+    ensures sizes { SizeRows }
+    ensures system { SystemRows }
+    ensures general { GeneralRows }
+    ensures named_keys { NamedKeys }
+    ensures other_keys { OtherKeys }
+{}
+
+// Pages in numbers: which accesses take two, where the next page begins, where each byte lies, and at which address a
+// fault is reported. It rules out an access that ends with its page and takes the next one too, and a fault of the
+// second page that is reported at the access's address.
+pub fn worked_places()
+    ensures crossing { CrossingRows }
+    ensures next_pages { NextPageRows }
+    ensures bytes { ByteRows }
+    ensures faults { FaultRows }
+{}
+
+// Loads, stores and fetches in numbers, on one page and on two: what the core keeps, the value or the abort, and RAM. It
+// rules out an abort after which `last_pa` is the failing byte's, a store's abort that leaves `abort_pa`, and a fetch
+// that reads two bytes.
+pub fn worked_ends()
+    ensures loads { LoadRows }
+    ensures stores { StoreRows }
+    ensures fetches { FetchRows }
+{}
+
+// Which way each abort says that the access went, of every place and every RAM. It rules out a load whose fault reports
+// a write.
+pub fn reports_of_accesses()
+    ensures loads { LoadsRead }
+    ensures stores { StoresWrite }
+    ensures fetches { FetchesReport }
+{}
+
+// The physical addresses that the core keeps, by each byte's own: `abort_pa` is the failing byte's, `last_pa` a load's
+// first, and a fault of the translations leaves both. It rules out a store's abort that leaves `abort_pa`.
+pub fn addresses_kept()
+    ensures load_aborts { LoadAborts }
+    ensures store_aborts { StoreAborts }
+    ensures fetch_aborts { FetchAborts }
+    ensures loads_keep_first { LoadsKeepFirst }
+    ensures faults_leave { FaultsLeave }
+    ensures done_leaves { DoneLeaves }
 {}

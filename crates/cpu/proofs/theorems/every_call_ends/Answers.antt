@@ -1,4 +1,5 @@
-use Rattle.cpu.specs.EveryCallEnds.{each_call_ends, number-le, refused, refused-ram, quiet}
+use Rattle.cpu.specs.EveryCallEnds.{number-le, quiet}
+use Rattle.cpu.proofs.Refusing.{refused, refused-ram, each_call_ends}
 use Rattle.cpu.proofs.theorems.every_call_ends.Goals as goal
 
 pub returns-clause-ended : goal.returns-clause-ended

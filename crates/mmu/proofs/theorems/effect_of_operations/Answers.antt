@@ -1,5 +1,5 @@
 use Rattle.mmu.specs.OpSays.{says-by, ram-by}
-use Rattle.mmu.specs.OpLaws.{ram-length, tlb-after, kept, store-last, fetch-last}
+use Rattle.mmu.specs.OpLaws.{ram-length, tlb-after, kept, store-last, fetch-last, write-leaves}
 use Rattle.mmu.proofs.theorems.effect_of_operations.Goals as goal
 
 pub returns-clause-answer : goal.returns-clause-answer
@@ -22,3 +22,6 @@ returns-clause-store_keeps_last c = store-last
 
 pub returns-clause-fetch_keeps_last : goal.returns-clause-fetch_keeps_last
 returns-clause-fetch_keeps_last c = fetch-last
+
+pub returns-clause-store_leaves : goal.returns-clause-store_leaves
+returns-clause-store_leaves c = write-leaves
