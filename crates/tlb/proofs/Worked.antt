@@ -10,7 +10,7 @@ use Rattle.tlb.specs.Access.{judged}
 use Rattle.tlb.specs.Resolve.{by_walk, resolve_with}
 use Rattle.tlb.specs.Translate.{miss_with, applied, translation_with}
 use Rattle.tlb.specs.Runs.{run, model_run}
-use Rattle.tlb.specs.Worked.{WorkedRun, WorkedAtLevels, WorkedSlots, WorkedCovers}
+use Rattle.tlb.specs.Worked.{WorkedRun, WorkedAtLevels, WorkedSlots, WorkedCovers, WorkedRights}
 
 pub worked-run : WorkedRun
 unfolding run model_run translate hinted tried noted unhinted looked walked judge keep line_for invalidate retag folded
@@ -33,3 +33,8 @@ unfolding run model_run translate hinted tried noted unhinted looked walked judg
     flush_of flushed drop_page_of without_page page_dropped drop_asid_of without_asid asid_dropped retag_of retagged invalidate_of
     translation_with miss_with resolve_with by_walk applied judged place_of blanks no_hints no_tallies
 worked-covers = record { cache = refl; model = refl }
+
+pub worked-rights : WorkedRights
+unfolding run model_run translate hinted tried noted unhinted looked walked judge keep line_for folded
+    translation_with miss_with resolve_with by_walk applied judged place_of blanks no_hints no_tallies
+worked-rights = ((refl, refl, refl, refl, refl, refl), (refl, refl, refl, refl, refl, refl))

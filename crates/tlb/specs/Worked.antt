@@ -1,8 +1,8 @@
 -- Worked runs, in numbers: what is seen of a list of operations on a new cache and on the empty plain model, the same rows of both. Where a
 -- definition is wrong, the cache's rows are others, computed.
-use Rattle.std.specs.Prelude.{◌≡◌, ℕ, Bool, true, false, List, [], ◌∷◌, map, Ok, Err}
+use Rattle.std.specs.Prelude.{◌≡◌, ℕ, Bool, true, false, List, [], ◌∷◌, map, filter, Ok, Err}
 use Rattle.walk.specs.declared.regime.Regime.{Regime}
-use Rattle.walk.specs.declared.regime.Regime.TheVariants.{El1, El2}
+use Rattle.walk.specs.declared.regime.Regime.TheVariants.{El1, El2, El3}
 use Rattle.tlb.specs.Model.{Slot, empty, holds, empty_model}
 use Rattle.tlb.specs.Tlb.{fresh}
 use Rattle.tlb.specs.Runs.{Op, invalidates, retags, translates, Seen, run, model_run}
@@ -236,3 +236,37 @@ WorkedCovers =
     ∷ (6 ∷ 7 ∷ [])
     ∷ (7 ∷ 7 ∷ [])
     ∷ [])
+
+-- RIGHTS. Which of the six permission bits lets an access pass, each on a page that has this bit alone: EL0's read, write and fetch are bits 1, 2
+-- and 4, the regime's own 8, 16 and 32. Under the mark EL1 reads and writes by EL0's, and fetches by its own; EL2 and EL3 have no EL0.
+
+-- the only access of a list passes
+abbrev is_address : Slot Answer → Bool
+is_address empty = false
+is_address (holds (Ok pa)) = true
+is_address (holds (Err f)) = false
+
+abbrev passes : List Seen → Bool
+passes [] = false
+passes (s ∷ ss) = is_address s.answer
+
+abbrev with_bit : Regime → ℕ → Bool → Kind → ℕ → List Op
+with_bit r level mark k bit =
+    asked r level mark k 0x5000 (Ok (record { oa = 0x90005000; desc = 0; perms = bit; level = 3; global = true })) ∷ []
+
+-- the bits that let a read, a write and a fetch pass
+abbrev needed : (List Op → List Seen) → Regime → ℕ → Bool → List (List ℕ)
+needed shown r level mark =
+    map (λ k. filter (λ bit. passes (shown (with_bit r level mark k bit))) (1 ∷ 2 ∷ 4 ∷ 8 ∷ 16 ∷ 32 ∷ [])) (Read ∷ Write ∷ Fetch ∷ [])
+
+abbrev NeededAre : (List Op → List Seen) → Type 0
+NeededAre shown =
+    (needed shown El1 0 false ≡ (1 ∷ []) ∷ (2 ∷ []) ∷ (4 ∷ []) ∷ [])
+    × (needed shown El1 0 true ≡ (1 ∷ []) ∷ (2 ∷ []) ∷ (4 ∷ []) ∷ [])
+    × (needed shown El1 1 false ≡ (8 ∷ []) ∷ (16 ∷ []) ∷ (32 ∷ []) ∷ [])
+    × (needed shown El1 1 true ≡ (1 ∷ []) ∷ (2 ∷ []) ∷ (32 ∷ []) ∷ [])
+    × (needed shown El2 2 true ≡ (8 ∷ []) ∷ (16 ∷ []) ∷ (32 ∷ []) ∷ [])
+    × (needed shown El3 3 true ≡ (8 ∷ []) ∷ (16 ∷ []) ∷ (32 ∷ []) ∷ [])
+
+abbrev pub WorkedRights : Type 0
+WorkedRights = NeededAre (λ os. run os fresh) × NeededAre (λ os. model_run os empty_model)

@@ -1,4 +1,4 @@
-use Rattle.tlb.proofs.Worked.{worked-run, worked-at-levels, worked-slots, worked-covers}
+use Rattle.tlb.proofs.Worked.{worked-run, worked-at-levels, worked-slots, worked-covers, worked-rights}
 use Rattle.tlb.proofs.theorems.worked_runs.Goals as goal
 
 pub returns-clause-block : goal.returns-clause-block
@@ -12,3 +12,6 @@ returns-clause-places c = worked-slots
 
 pub returns-clause-covers : goal.returns-clause-covers
 returns-clause-covers c = worked-covers
+
+pub returns-clause-rights : goal.returns-clause-rights
+returns-clause-rights c = worked-rights
