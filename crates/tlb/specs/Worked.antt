@@ -3,10 +3,10 @@
 use Rattle.std.specs.Prelude.{◌≡◌, ℕ, Bool, true, false, List, [], ◌∷◌, map, filter, Ok, Err}
 use Rattle.walk.specs.declared.regime.Regime.{Regime}
 use Rattle.walk.specs.declared.regime.Regime.TheVariants.{El1, El2, El3}
-use Rattle.tlb.specs.Model.{Slot, empty, holds, empty_model}
+use Rattle.tlb.specs.Model.{Slot, empty, holds, Access, empty_model}
 use Rattle.tlb.specs.Tlb.{fresh}
-use Rattle.tlb.specs.Runs.{Op, invalidates, retags, translates, Seen, run, model_run}
-use Rattle.tlb.specs.declared.access.Kind.{Kind}
+use Rattle.tlb.specs.Runs.{Op, invalidates, retags, broadcasts, translates, fetches, Seen, run, model_run}
+use Rattle.tlb.specs.declared.{access.Kind.Kind, Inval.Inval}
 use Rattle.tlb.specs.Answers.{Answer}
 use Rattle.tlb.specs.declared.access.Kind.TheVariants.{Read, Write, Fetch}
 use Rattle.tlb.specs.declared.Inval.TheVariants.{All, Page, Asid}
@@ -86,10 +86,9 @@ WorkedRun =
 abbrev open-page : ℕ → Walked
 open-page level = Ok (record { oa = 0x90005000; desc = 0; perms = 63; level = level; global = true })
 
-abbrev asked : Regime → ℕ → Bool → Kind → ℕ → Walked → Op
-asked r level mark k va w =
-    translates
-    (record {
+abbrev access_by : Regime → ℕ → Bool → Kind → ℕ → Walked → Access
+access_by r level mark k va w =
+    record {
       privilege = record { level = level; unprivileged = mark };
       kind = k;
       va = va;
@@ -97,7 +96,10 @@ asked r level mark k va w =
       regime = r;
       untagged = va;
       walk = w;
-    })
+    }
+
+abbrev asked : Regime → ℕ → Bool → Kind → ℕ → Walked → Op
+asked r level mark k va w = translates (access_by r level mark k va w)
 
 abbrev from : ℕ → Bool → Kind → ℕ → Op
 from level mark k va = asked El1 level mark k va (open-page 3)
@@ -270,3 +272,58 @@ NeededAre shown =
 
 abbrev pub WorkedRights : Type 0
 WorkedRights = NeededAre (λ os. run os fresh) × NeededAre (λ os. model_run os empty_model)
+
+-- FETCHES. The fetch hint serves its page at its level, whatever the mark, and counts nothing; it is one: the next page or level replaces it.
+-- A translation of the kind alone asks no hint and leaves none. An invalidation empties it.
+
+-- hits and walks of EL0 and of EL1
+abbrev none_and_one : Seen → List ℕ
+none_and_one s = s.counts.hits 0 ∷ s.counts.walks 0 ∷ s.counts.hits 1 ∷ s.counts.walks 1 ∷ []
+
+abbrev fetch_from : ℕ → Bool → ℕ → Op
+fetch_from level mark va = fetches (access_by El1 level mark Fetch va (open-page 3))
+
+abbrev pub WorkedFetches : Type 0
+WorkedFetches =
+    Shows none_and_one
+    (fetch_from 1 false 0x7000
+    ∷ fetch_from 1 false 0x7008
+    ∷ fetch_from 1 true 0x7008
+    ∷ fetch_from 0 false 0x7000
+    ∷ fetch_from 0 false 0x7000
+    ∷ fetch_from 1 false 0x7000
+    ∷ fetch_from 1 false 0x8000
+    ∷ fetch_from 1 false 0x7000
+    ∷ from 1 false Fetch 0x7000
+    ∷ fetch_from 1 false 0x7000
+    ∷ invalidates (Asid 9)
+    ∷ fetch_from 1 false 0x7000
+    ∷ [])
+    ((0 ∷ 0 ∷ 0 ∷ 1 ∷ [])
+    ∷ (0 ∷ 0 ∷ 0 ∷ 1 ∷ [])
+    ∷ (0 ∷ 0 ∷ 0 ∷ 1 ∷ [])
+    ∷ (1 ∷ 0 ∷ 0 ∷ 1 ∷ [])
+    ∷ (1 ∷ 0 ∷ 0 ∷ 1 ∷ [])
+    ∷ (1 ∷ 0 ∷ 1 ∷ 1 ∷ [])
+    ∷ (1 ∷ 0 ∷ 1 ∷ 2 ∷ [])
+    ∷ (1 ∷ 0 ∷ 2 ∷ 2 ∷ [])
+    ∷ (1 ∷ 0 ∷ 3 ∷ 2 ∷ [])
+    ∷ (1 ∷ 0 ∷ 3 ∷ 2 ∷ [])
+    ∷ (1 ∷ 0 ∷ 3 ∷ 2 ∷ [])
+    ∷ (1 ∷ 0 ∷ 4 ∷ 2 ∷ [])
+    ∷ [])
+
+-- WHAT IS PENDING for other cores: an equal second broadcast leaves it, another makes it All, and what this core carries out does not count.
+abbrev pending : List Seen → List (Slot Inval)
+pending = map (λ s. s.pending)
+
+abbrev PendingAre : (List Op → List Seen) → Type 0
+PendingAre shown =
+    (pending (shown (invalidates (Page 4) ∷ broadcasts (Page 5) ∷ broadcasts (Page 5) ∷ broadcasts (Page 6) ∷ broadcasts (Page 5) ∷ []))
+    ≡ empty ∷ holds (Page 5) ∷ holds (Page 5) ∷ holds All ∷ holds All ∷ [])
+    × (pending (shown (broadcasts (Asid 3) ∷ invalidates All ∷ broadcasts (Asid 3) ∷ broadcasts (Asid 4) ∷ []))
+    ≡ holds (Asid 3) ∷ holds (Asid 3) ∷ holds (Asid 3) ∷ holds All ∷ [])
+    × (pending (shown (broadcasts (Asid 3) ∷ broadcasts (Page 3) ∷ [])) ≡ holds (Asid 3) ∷ holds All ∷ [])
+
+abbrev pub WorkedPending : Type 0
+WorkedPending = PendingAre (λ os. run os fresh) × PendingAre (λ os. model_run os empty_model)
