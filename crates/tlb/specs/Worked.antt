@@ -202,14 +202,19 @@ WorkedCovers =
     ∷ giant
     ∷ large
     ∷ small
-    ∷ invalidates (Page 0x100000040200)
+    ∷ invalidates (Page 0x10000007FFFF)
     ∷ large
     ∷ small
+    ∷ giant
+    ∷ invalidates (Page 0x100000040200)
+    ∷ large
     ∷ giant
     ∷ invalidates (Page 0x1000000401FF)
     ∷ small
     ∷ giant
     ∷ large
+    ∷ invalidates (Page 0x40002)
+    ∷ small
     ∷ invalidates (Page 0x100000040003)
     ∷ small
     ∷ invalidates (Asid 0)
@@ -231,12 +236,17 @@ WorkedCovers =
     ∷ (5 ∷ 4 ∷ [])
     ∷ (6 ∷ 4 ∷ [])
     ∷ (6 ∷ 5 ∷ [])
-    ∷ (6 ∷ 6 ∷ [])
-    ∷ (6 ∷ 6 ∷ [])
-    ∷ (6 ∷ 7 ∷ [])
-    ∷ (6 ∷ 7 ∷ [])
-    ∷ (6 ∷ 7 ∷ [])
+    ∷ (6 ∷ 5 ∷ [])
+    ∷ (7 ∷ 5 ∷ [])
+    ∷ (7 ∷ 6 ∷ [])
     ∷ (7 ∷ 7 ∷ [])
+    ∷ (7 ∷ 7 ∷ [])
+    ∷ (8 ∷ 7 ∷ [])
+    ∷ (8 ∷ 7 ∷ [])
+    ∷ (8 ∷ 8 ∷ [])
+    ∷ (8 ∷ 8 ∷ [])
+    ∷ (8 ∷ 8 ∷ [])
+    ∷ (9 ∷ 8 ∷ [])
     ∷ [])
 
 -- RIGHTS. Which of the six permission bits lets an access pass, each on a page that has this bit alone: EL0's read, write and fetch are bits 1, 2
