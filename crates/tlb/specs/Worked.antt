@@ -131,21 +131,24 @@ WorkedAtLevels =
     ∷ [])
 
 -- PLACES. Under the mark no hint answers, so that each access shows whether its page's entry is there. Pages 5 and 0x405 share a slot,
--- 5 and 0x205 do not; a page of EL2 and one of EL1 share a slot, and neither serves the other. Without the mark pages 5, 0x10D and
--- 0x425 share a hint's place, 5 and 0x105 do not.
+-- 5 and 0x205 do not; one page of EL1, of EL2 and of EL3 has one slot, and none of them serves another. Without the mark pages 5, 0x10D
+-- and 0x425 share a hint's place, 5 and 0x105 do not.
 
--- hits and walks of EL1 and of EL2
-abbrev one_and_two : Seen → List ℕ
-one_and_two s = s.counts.hits 1 ∷ s.counts.walks 1 ∷ s.counts.hits 2 ∷ s.counts.walks 2 ∷ []
+-- hits and walks of EL1, EL2 and EL3
+abbrev one_to_three : Seen → List ℕ
+one_to_three s =
+    s.counts.hits 1 ∷ s.counts.walks 1 ∷ s.counts.hits 2 ∷ s.counts.walks 2 ∷ s.counts.hits 3 ∷ s.counts.walks 3 ∷ []
 
 abbrev pub WorkedSlots : Type 0
 WorkedSlots =
-    Shows one_and_two
+    Shows one_to_three
     (from 1 true Read 0x5000
     ∷ from 1 true Read 0x405000
     ∷ from 1 true Read 0x5000
     ∷ from 1 true Read 0x205000
     ∷ from 1 true Read 0x5000
+    ∷ asked El2 2 true Read 0x5000 (open-page 3)
+    ∷ asked El3 3 true Read 0x5000 (open-page 3)
     ∷ asked El2 2 true Read 0x5000 (open-page 3)
     ∷ from 1 true Read 0x5000
     ∷ from 1 false Read 0x5000
@@ -157,21 +160,23 @@ WorkedSlots =
     ∷ from 1 false Read 0x425000
     ∷ from 1 false Read 0x5000
     ∷ [])
-    ((0 ∷ 1 ∷ 0 ∷ 0 ∷ [])
-    ∷ (0 ∷ 2 ∷ 0 ∷ 0 ∷ [])
-    ∷ (0 ∷ 3 ∷ 0 ∷ 0 ∷ [])
-    ∷ (0 ∷ 4 ∷ 0 ∷ 0 ∷ [])
-    ∷ (1 ∷ 4 ∷ 0 ∷ 0 ∷ [])
-    ∷ (1 ∷ 4 ∷ 0 ∷ 1 ∷ [])
-    ∷ (1 ∷ 5 ∷ 0 ∷ 1 ∷ [])
-    ∷ (2 ∷ 5 ∷ 0 ∷ 1 ∷ [])
-    ∷ (2 ∷ 5 ∷ 0 ∷ 1 ∷ [])
-    ∷ (2 ∷ 6 ∷ 0 ∷ 1 ∷ [])
-    ∷ (2 ∷ 6 ∷ 0 ∷ 1 ∷ [])
-    ∷ (2 ∷ 7 ∷ 0 ∷ 1 ∷ [])
-    ∷ (3 ∷ 7 ∷ 0 ∷ 1 ∷ [])
-    ∷ (3 ∷ 8 ∷ 0 ∷ 1 ∷ [])
-    ∷ (4 ∷ 8 ∷ 0 ∷ 1 ∷ [])
+    ((0 ∷ 1 ∷ 0 ∷ 0 ∷ 0 ∷ 0 ∷ [])
+    ∷ (0 ∷ 2 ∷ 0 ∷ 0 ∷ 0 ∷ 0 ∷ [])
+    ∷ (0 ∷ 3 ∷ 0 ∷ 0 ∷ 0 ∷ 0 ∷ [])
+    ∷ (0 ∷ 4 ∷ 0 ∷ 0 ∷ 0 ∷ 0 ∷ [])
+    ∷ (1 ∷ 4 ∷ 0 ∷ 0 ∷ 0 ∷ 0 ∷ [])
+    ∷ (1 ∷ 4 ∷ 0 ∷ 1 ∷ 0 ∷ 0 ∷ [])
+    ∷ (1 ∷ 4 ∷ 0 ∷ 1 ∷ 0 ∷ 1 ∷ [])
+    ∷ (1 ∷ 4 ∷ 0 ∷ 2 ∷ 0 ∷ 1 ∷ [])
+    ∷ (1 ∷ 5 ∷ 0 ∷ 2 ∷ 0 ∷ 1 ∷ [])
+    ∷ (2 ∷ 5 ∷ 0 ∷ 2 ∷ 0 ∷ 1 ∷ [])
+    ∷ (2 ∷ 5 ∷ 0 ∷ 2 ∷ 0 ∷ 1 ∷ [])
+    ∷ (2 ∷ 6 ∷ 0 ∷ 2 ∷ 0 ∷ 1 ∷ [])
+    ∷ (2 ∷ 6 ∷ 0 ∷ 2 ∷ 0 ∷ 1 ∷ [])
+    ∷ (2 ∷ 7 ∷ 0 ∷ 2 ∷ 0 ∷ 1 ∷ [])
+    ∷ (3 ∷ 7 ∷ 0 ∷ 2 ∷ 0 ∷ 1 ∷ [])
+    ∷ (3 ∷ 8 ∷ 0 ∷ 2 ∷ 0 ∷ 1 ∷ [])
+    ∷ (4 ∷ 8 ∷ 0 ∷ 2 ∷ 0 ∷ 1 ∷ [])
     ∷ [])
 
 -- COVERING. A leaf of level 1 spans 2^18 pages, of level 2 2^9, of level 3 one; the bits of a page above the low 44 do not count; a leaf
