@@ -45,10 +45,10 @@ WorkedPlaces =
     ∷ [])
     ≡ (1 ∷ 1 ∷ 1 ∷ 1 ∷ 1 ∷ 1 ∷ 1 ∷ 1 ∷ 1 ∷ 3 ∷ 0 ∷ [])
 
-pub cases : WorkedPlaces
+pub worked-places : WorkedPlaces
 unfolding counted registers census_of table how_many fresh_of walk_of table_walk walk_range walk_from lookup_next level_next leaf_result leaf_translation
     leaf_permissions table_next descaddr range_of params_of pa_size untagged word_at little_endian bytes_of
-cases = refl
+worked-places = refl
 
 -- Each level's own regime and registers: EL1&0's tables as above, EL2's outside RAM, EL3's stage 1 off. The first page of the block at EL0, EL1, EL2, EL3.
 pub control : Control
@@ -69,7 +69,7 @@ counted_at level place = slice_index (census_at control level (word_at 0x1000 (b
 abbrev pub WorkedLevels : Type 0
 WorkedLevels = (counted_at 0 (64 + 0x3C) ∷ counted_at 1 (64 + 0x3C) ∷ counted_at 2 0x15 ∷ counted_at 3 128 ∷ []) ≡ (1 ∷ 1 ∷ 1 ∷ 1 ∷ [])
 
-pub levels : WorkedLevels
+pub worked-levels : WorkedLevels
 unfolding counted_at control census_of table how_many fresh_of walk_of table_walk walk_range walk_from lookup_next level_next leaf_result leaf_translation
     leaf_permissions table_next descaddr range_of params_of pa_size untagged word_at little_endian bytes_of
-levels = refl
+worked-levels = refl

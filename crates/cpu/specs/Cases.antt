@@ -120,10 +120,10 @@ ProvedCases =
     ∷ Value 0xBFFFFFFF
     ∷ [])
 
-pub cases : ProvedCases
+pub proved-cases : ProvedCases
 unfolding row elsewhere par esr at called step_of run_of missed_of translate_of stepped_now translation_of register_at fresh_sys reg_of after_access sys_of at_of with_par
     abort_of take_sync take_exception entered_sys spsr_of routed_to syndrome_of named decode_of success abort leaf_par par_in fresh_of at_par judged blanks
     no_hints place_of by_walk
     resolve_with miss_with applied translation_with fetch_applied fetch_end fetch_with walk_of table_walk walk_range walk_from lookup_next level_next leaf_result
     leaf_translation leaf_permissions table_next descaddr range_of params_of pa_size untagged word_at little_endian bytes_of
-cases = refl
+proved-cases = refl

@@ -7,8 +7,8 @@ use Rattle.tlb.specs.Tlb.{fresh, flush_of, retag_of, invalidate_of}
 use Rattle.tlb.specs.Maintenance.{invalidated_of, reshaped_of, retagged_of}
 use Rattle.tlb.specs.Model.{Model, empty_model, invalidate, retag, broadcast}
 use Rattle.tlb.specs.Live.{live, WellFormed, LeafLevel, Follows}
-use Rattle.tlb.specs.Refines.{fresh-live, fresh-sound, flush-live, flush-sound, invalidate-live, invalidate-sound, retag-live, retag-sound, broadcast-live}
-use Rattle.tlb.specs.Refines.{broadcast-sound}
+use Rattle.tlb.proofs.Refines.{fresh-live, fresh-sound, flush-live, flush-sound, invalidate-live, invalidate-sound, retag-live, retag-sound, broadcast-live}
+use Rattle.tlb.proofs.Refines.{broadcast-sound}
 use Rattle.tlb.proofs.Translations.{translation-follows, fetch-follows}
 use Rattle.tlb.specs.Asks.{Ask, translates, fetches, Given, onward}
 use Rattle.tlb.specs.declared.{access.Kind.Kind, Tlb.Tlb}

@@ -115,7 +115,7 @@ not-true false e = refl
 not-true true e = absurd (false≢true e)
 
 module _ (past : List (Event real)) (m : Ram) (a : Ask) where
-  -- a leaf is global where not_global is clear
+  -- a leaf is global where nG is clear
   global-or : (P : Type 0) (t : Translation) → (not t.not_global ≡ true) ⊎ P → (t.not_global ≡ false) ⊎ P
   global-or P t (inl g) = inl (not-true t.not_global g)
   global-or P t (inr y) = inr y

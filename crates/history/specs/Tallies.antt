@@ -9,7 +9,7 @@ use Rattle.tlb.specs.Asks.{Ask, translates, fetches, onward}
 use Rattle.tlb.specs.Lists.{Each, done, more, each-imp}
 use Rattle.tlb.specs.Model.{Counters, Model, up, up_at, invalidate, retag, broadcast}
 use Rattle.tlb.specs.Counting.{How, hint_answered, itself, line_answered, walk_answered, how_counted, how_translated, how_fetched, translate-counts, fetch-counts}
-use Rattle.tlb.specs.Counting.{others-stay, Totals, rust_counted, sums, sums-move}
+use Rattle.tlb.specs.Counting.{counted-others, Totals, rust_counted, sums, sums-move}
 use Rattle.tlb.specs.declared.Inval.{Inval}
 use Rattle.tlb.specs.Answers.{Answer}
 use Rattle.tlb.specs.declared.access.Kind.TheVariants.{Fetch}
@@ -278,6 +278,6 @@ module _ (w : World) where
             → ((counted_all xs k).hits l ≡ k.hits l) × ((counted_all xs k).walks l ≡ k.walks l)
         all_others [] k done = (refl, refl)
         all_others (x ∷ xs) k (more ne rest) =
-            let first = others-stay x.how x.level k l ne in
+            let first = counted-others x.how x.level k l ne in
             let asked = all_others xs (how_counted x.how x.level k) rest in
             (asked.0 ∙ first.0, asked.1 ∙ first.1)

@@ -40,7 +40,7 @@ par_after Unimplemented = 0
 abbrev pub WorkedAt : Type 0
 WorkedAt = (par_after (decode_of 1 0 7 8 0) ∷ par_after (decode_of 1 0 7 8 2) ∷ []) ≡ (0x80001800 ∷ 0x81B ∷ [])
 
-pub cases : WorkedAt
+pub worked-at : WorkedAt
 unfolding par_after registers decode_of named at_par par_in fresh_of leaf_par success abort walk_of table_walk walk_range walk_from lookup_next level_next leaf_result
     leaf_translation leaf_permissions table_next descaddr range_of params_of pa_size untagged word_at little_endian bytes_of
-cases = refl
+worked-at = refl

@@ -5,7 +5,7 @@ use Rattle.tlb.specs.Lists.{Each, more}
 use Rattle.tlb.specs.Tlb.{fresh}
 use Rattle.tlb.specs.Model.{holds, empty_model}
 use Rattle.tlb.specs.Live.{live, WellFormed}
-use Rattle.tlb.specs.Refines.{fresh-live, fresh-sound, invalidate-live, invalidate-sound, retag-live, retag-sound, broadcast-live, broadcast-sound}
+use Rattle.tlb.proofs.Refines.{fresh-live, fresh-sound, invalidate-live, invalidate-sound, retag-live, retag-sound, broadcast-live, broadcast-sound}
 use Rattle.tlb.proofs.Translations.{translation-follows, fetch-follows}
 use Rattle.tlb.specs.declared.{Tlb.Tlb}
 use Rattle.tlb.specs.Runs.{Op, invalidates, retags, broadcasts, translates, fetches, Fair, Seen, after_op, answer_of, seen_of, run, model_after, model_answer, seen_in, model_run}

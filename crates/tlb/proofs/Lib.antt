@@ -1,5 +1,7 @@
--- The counters and translations, beside the plain model.
+-- The cache beside the plain model: each operation, the counters, translations, runs; and worked runs, computed.
+pub mod Refines
 pub mod Levels
 pub mod Misses
 pub mod Translations
 pub mod EveryRun
+pub mod Worked

@@ -16,7 +16,7 @@ use Rattle.tlb.specs.Model.{unhinted}
 use Rattle.tlb.specs.Live.{Follows, line_in, counters_of, live, Made, WellFormed, LeafLevel}
 use Rattle.tlb.proofs.Levels.{counted-long, hit-counted, walk-counted}
 use Rattle.tlb.specs.Cells.{judged-is}
-use Rattle.tlb.specs.Refines.{blank-made, page-is, line-is, kept-lines, set-sound}
+use Rattle.tlb.proofs.Refines.{blank-made, page-is, line-is, kept-lines, set-sound}
 use Rattle.tlb.specs.Step.{slot_for}
 use Rattle.tlb.specs.declared.{entry.Entry.Entry, count.Counts.Counts, cache.Cache.Cache, resolve.Query.Query}
 use Rattle.tlb.specs.declared.{resolve.Resolved.Resolved, resolve.Source.Source, Tlb.Tlb}

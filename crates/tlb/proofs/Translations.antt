@@ -14,7 +14,7 @@ use Rattle.tlb.specs.Model.{Slot, empty, holds, Known, folded, hint_place, keep_
 use Rattle.tlb.specs.Model.{translate, noted_fetch, fetched, fetch}
 use Rattle.tlb.specs.Live.{Follows, hint_of, hints_of, counters_of, live, Aligned, Sound, WellFormed, LeafLevel}
 use Rattle.tlb.specs.Cells.{on-aligned, may-is, known_is, hint-made, fetch-known-is, fetch-made}
-use Rattle.tlb.specs.Refines.{falsely}
+use Rattle.tlb.proofs.Refines.{falsely}
 use Rattle.tlb.specs.Step.{place_for, slot_for, with_translation, with_fetch, translation_in, tlb_after, fetch_in, fetched_in}
 use Rattle.tlb.specs.declared.{access.Kind.Kind, hint.Hint.Hint, hint.FetchHint.FetchHint, cache.Cache.Cache}
 use Rattle.tlb.specs.declared.{access.Privilege.Privilege, resolve.Resolved.Resolved}

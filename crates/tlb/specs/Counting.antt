@@ -95,9 +95,9 @@ module _ (a : Access) (m : Model) where
 -- THE LEVEL OF THE ACCESS, AND NO OTHER
 
 module _ (how : How) (level : ℕ) (k : Counters) where
-  pub others-stay : (l : ℕ) → (l ≢ level)
+  pub counted-others : (l : ℕ) → (l ≢ level)
       → ((how_counted how level k).hits l ≡ k.hits l) × ((how_counted how level k).walks l ≡ k.walks l)
-  others-stay l ne = go how
+  counted-others l ne = go how
     where
       go : (h : How) → ((how_counted h level k).hits l ≡ k.hits l) × ((how_counted h level k).walks l ≡ k.walks l)
       go hint_answered = (refl, refl)

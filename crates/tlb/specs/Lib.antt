@@ -12,7 +12,6 @@ pub mod Translate
 pub mod Model
 pub mod Live
 pub mod Cells
-pub mod Refines
 pub mod Step
 pub mod Asks
 pub mod Maintenance

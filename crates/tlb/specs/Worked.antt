@@ -1,19 +1,29 @@
--- A worked run of the plain model, by computation: a 2 MiB block is walked, hinted, dropped by a Page of another of its pages, walked again,
--- found after an Asid that is not its own, and gone after an All.
-use Rattle.std.specs.Prelude.{◌≡◌, ℕ, Bool, true, false, List, [], ◌∷◌, map, refl, Ok, Err}
-use Rattle.walk.specs.declared.regime.Regime.TheVariants.{El1}
-use Rattle.tlb.specs.Model.{Slot, empty, holds, empty_model, folded, keep, line_for, judge, walked, looked, unhinted, noted, tried, hinted, translate}
-use Rattle.tlb.specs.Model.{invalidate}
-use Rattle.tlb.specs.Runs.{Op, invalidates, translates, Seen, model_run}
-use Rattle.tlb.specs.declared.access.Kind.{Kind}
+-- Worked runs, in numbers: what is seen of a list of operations on a new cache and on the empty plain model, the same rows of both. Where a
+-- definition is wrong, the cache's rows are others, computed.
+use Rattle.std.specs.Prelude.{◌≡◌, ℕ, Bool, true, false, List, [], ◌∷◌, map, filter, Ok, Err}
+use Rattle.walk.specs.declared.regime.Regime.{Regime}
+use Rattle.walk.specs.declared.regime.Regime.TheVariants.{El1, El2, El3}
+use Rattle.tlb.specs.Model.{Slot, empty, holds, Access, empty_model}
+use Rattle.tlb.specs.Tlb.{fresh}
+use Rattle.tlb.specs.Runs.{Op, invalidates, retags, broadcasts, translates, fetches, Seen, run, model_run}
+use Rattle.tlb.specs.declared.{access.Kind.Kind, Inval.Inval}
 use Rattle.tlb.specs.Answers.{Answer}
 use Rattle.tlb.specs.declared.access.Kind.TheVariants.{Read, Write, Fetch}
 use Rattle.tlb.specs.declared.Inval.TheVariants.{All, Page, Asid}
 use Rattle.walk.specs.Answers.{Walked}
 
--- a block of the ASID in force, readable at EL1, at 0x80000000
-abbrev block : Walked
-block = Ok (record { oa = 0x80003000; desc = 0; perms = 8; level = 2; global = false })
+-- a list shows these rows, on the cache and on the plain model
+pub record Shows (row : Seen → List ℕ) (ops : List Op) (rows : List (List ℕ)) : Type 0 where
+  pub cache : map row (run ops fresh) ≡ rows
+  pub model : map row (model_run ops empty_model) ≡ rows
+
+-- A BLOCK and its invalidations: a 2 MiB block is walked, hinted, dropped by a Page of another of its pages, walked again, found after an Asid
+-- that is not its own and after a Page of the next block, out of use under another ASID, and gone after an All. Each of the four takes
+-- the hint along, which would answer every one of these reads by itself.
+
+-- a block of the ASID in force, readable at EL1
+abbrev block : ℕ → Walked
+block oa = Ok (record { oa = oa; desc = 0; perms = 8; level = 2; global = false })
 
 -- an EL1 access to 0x40003123, with stage 1 on
 abbrev access : Kind → Walked → Op
@@ -40,22 +50,22 @@ row s = answered s.answer ∷ s.counts.hits 1 ∷ s.counts.walks 1 ∷ s.counts.
 
 abbrev pub WorkedRun : Type 0
 WorkedRun =
-    map row
-    (model_run
-    (access Read block
-    ∷ access Read block
-    ∷ access Write block
+    Shows row
+    (access Read (block 0x80003000)
+    ∷ access Read (block 0x80003000)
+    ∷ access Write (block 0x80003000)
     ∷ invalidates (Page 0x401FF)
-    ∷ access Read block
+    ∷ access Read (block 0x80003000)
     ∷ invalidates (Asid 1)
-    ∷ access Read block
+    ∷ access Read (block 0x80003000)
     ∷ invalidates (Page 0x40200)
-    ∷ access Read block
+    ∷ access Read (block 0x80003000)
+    ∷ retags 1
+    ∷ access Read (block 0xA0003000)
     ∷ invalidates All
     ∷ access Read (Err 6)
     ∷ [])
-    empty_model)
-    ≡ (0x80003123 ∷ 0 ∷ 1 ∷ 0 ∷ 0 ∷ 0 ∷ [])
+    ((0x80003123 ∷ 0 ∷ 1 ∷ 0 ∷ 0 ∷ 0 ∷ [])
     ∷ (0x80003123 ∷ 0 ∷ 1 ∷ 0 ∷ 0 ∷ 0 ∷ [])
     ∷ (0x0E ∷ 1 ∷ 1 ∷ 0 ∷ 0 ∷ 0 ∷ [])
     ∷ (0 ∷ 1 ∷ 1 ∷ 0 ∷ 1 ∷ 1 ∷ [])
@@ -64,30 +74,35 @@ WorkedRun =
     ∷ (0x80003123 ∷ 2 ∷ 2 ∷ 0 ∷ 1 ∷ 2 ∷ [])
     ∷ (0 ∷ 2 ∷ 2 ∷ 0 ∷ 2 ∷ 3 ∷ [])
     ∷ (0x80003123 ∷ 3 ∷ 2 ∷ 0 ∷ 2 ∷ 3 ∷ [])
-    ∷ (0 ∷ 3 ∷ 2 ∷ 1 ∷ 2 ∷ 4 ∷ [])
-    ∷ (6 ∷ 3 ∷ 3 ∷ 1 ∷ 2 ∷ 4 ∷ [])
-    ∷ []
+    ∷ (0 ∷ 3 ∷ 2 ∷ 0 ∷ 2 ∷ 4 ∷ [])
+    ∷ (0xA0003123 ∷ 3 ∷ 3 ∷ 0 ∷ 2 ∷ 4 ∷ [])
+    ∷ (0 ∷ 3 ∷ 3 ∷ 1 ∷ 2 ∷ 5 ∷ [])
+    ∷ (6 ∷ 3 ∷ 4 ∷ 1 ∷ 2 ∷ 5 ∷ [])
+    ∷ [])
 
-pub worked : WorkedRun
-unfolding model_run translate hinted tried noted unhinted looked walked judge keep line_for invalidate folded
-worked = refl
+-- LEVELS AND THE MARK: each access is counted at its own level, and under the mark EL1's at EL1.
 
--- Levels and the mark: each access is counted at its own level, and under the mark EL1's at EL1.
-abbrev open-page : Walked
-open-page = Ok (record { oa = 0x90005000; desc = 0; perms = 63; level = 3; global = true })
+-- a page that all may use, for every ASID, as a leaf of a level
+abbrev open-page : ℕ → Walked
+open-page level = Ok (record { oa = 0x90005000; desc = 0; perms = 63; level = level; global = true })
 
-abbrev from : ℕ → Bool → Kind → ℕ → Op
-from level mark k va =
-    translates
-    (record {
+abbrev access_by : Regime → ℕ → Bool → Kind → ℕ → Walked → Access
+access_by r level mark k va w =
+    record {
       privilege = record { level = level; unprivileged = mark };
       kind = k;
       va = va;
       on = true;
-      regime = El1;
+      regime = r;
       untagged = va;
-      walk = open-page;
-    })
+      walk = w;
+    }
+
+abbrev asked : Regime → ℕ → Bool → Kind → ℕ → Walked → Op
+asked r level mark k va w = translates (access_by r level mark k va w)
+
+abbrev from : ℕ → Bool → Kind → ℕ → Op
+from level mark k va = asked El1 level mark k va (open-page 3)
 
 -- hits and walks of EL0 to EL3
 abbrev levels : Seen → List ℕ
@@ -95,10 +110,9 @@ levels s =
     s.counts.hits 0 ∷ s.counts.walks 0 ∷ s.counts.hits 1 ∷ s.counts.walks 1 ∷ s.counts.hits 2 ∷ s.counts.walks 2 ∷ s.counts.hits 3
     ∷ s.counts.walks 3 ∷ []
 
-abbrev pub WorkedLevels : Type 0
-WorkedLevels =
-    map levels
-    (model_run
+abbrev pub WorkedAtLevels : Type 0
+WorkedAtLevels =
+    Shows levels
     (from 0 false Read 0x5000
     ∷ from 1 false Read 0x5000
     ∷ from 1 true Read 0x5000
@@ -107,16 +121,224 @@ WorkedLevels =
     ∷ from 0 false Write 0x6008
     ∷ from 1 true Fetch 0x7000
     ∷ [])
-    empty_model)
-    ≡ (0 ∷ 1 ∷ 0 ∷ 0 ∷ 0 ∷ 0 ∷ 0 ∷ 0 ∷ [])
+    ((0 ∷ 1 ∷ 0 ∷ 0 ∷ 0 ∷ 0 ∷ 0 ∷ 0 ∷ [])
     ∷ (0 ∷ 1 ∷ 1 ∷ 0 ∷ 0 ∷ 0 ∷ 0 ∷ 0 ∷ [])
     ∷ (0 ∷ 1 ∷ 2 ∷ 0 ∷ 0 ∷ 0 ∷ 0 ∷ 0 ∷ [])
     ∷ (0 ∷ 1 ∷ 2 ∷ 1 ∷ 0 ∷ 0 ∷ 0 ∷ 0 ∷ [])
     ∷ (1 ∷ 1 ∷ 2 ∷ 1 ∷ 0 ∷ 0 ∷ 0 ∷ 0 ∷ [])
     ∷ (1 ∷ 1 ∷ 2 ∷ 1 ∷ 0 ∷ 0 ∷ 0 ∷ 0 ∷ [])
     ∷ (1 ∷ 1 ∷ 2 ∷ 2 ∷ 0 ∷ 0 ∷ 0 ∷ 0 ∷ [])
-    ∷ []
+    ∷ [])
 
-pub worked-levels : WorkedLevels
-unfolding model_run translate hinted tried noted unhinted looked walked judge keep line_for invalidate folded
-worked-levels = refl
+-- PLACES. Under the mark no hint answers, so that each access shows whether its page's entry is there. Pages 5 and 0x405 share a slot,
+-- 5 and 0x205 do not; one page of EL1, of EL2 and of EL3 has one slot, and none of them serves another. Without the mark pages 5, 0x10D
+-- and 0x425 share a hint's place, 5 and 0x105 do not.
+
+-- hits and walks of EL1, EL2 and EL3
+abbrev one_to_three : Seen → List ℕ
+one_to_three s =
+    s.counts.hits 1 ∷ s.counts.walks 1 ∷ s.counts.hits 2 ∷ s.counts.walks 2 ∷ s.counts.hits 3 ∷ s.counts.walks 3 ∷ []
+
+abbrev pub WorkedSlots : Type 0
+WorkedSlots =
+    Shows one_to_three
+    (from 1 true Read 0x5000
+    ∷ from 1 true Read 0x405000
+    ∷ from 1 true Read 0x5000
+    ∷ from 1 true Read 0x205000
+    ∷ from 1 true Read 0x5000
+    ∷ asked El2 2 true Read 0x5000 (open-page 3)
+    ∷ asked El3 3 true Read 0x5000 (open-page 3)
+    ∷ asked El2 2 true Read 0x5000 (open-page 3)
+    ∷ from 1 true Read 0x5000
+    ∷ from 1 false Read 0x5000
+    ∷ from 1 false Read 0x5000
+    ∷ from 1 false Read 0x105000
+    ∷ from 1 false Read 0x5000
+    ∷ from 1 false Read 0x10D000
+    ∷ from 1 false Read 0x5000
+    ∷ from 1 false Read 0x425000
+    ∷ from 1 false Read 0x5000
+    ∷ [])
+    ((0 ∷ 1 ∷ 0 ∷ 0 ∷ 0 ∷ 0 ∷ [])
+    ∷ (0 ∷ 2 ∷ 0 ∷ 0 ∷ 0 ∷ 0 ∷ [])
+    ∷ (0 ∷ 3 ∷ 0 ∷ 0 ∷ 0 ∷ 0 ∷ [])
+    ∷ (0 ∷ 4 ∷ 0 ∷ 0 ∷ 0 ∷ 0 ∷ [])
+    ∷ (1 ∷ 4 ∷ 0 ∷ 0 ∷ 0 ∷ 0 ∷ [])
+    ∷ (1 ∷ 4 ∷ 0 ∷ 1 ∷ 0 ∷ 0 ∷ [])
+    ∷ (1 ∷ 4 ∷ 0 ∷ 1 ∷ 0 ∷ 1 ∷ [])
+    ∷ (1 ∷ 4 ∷ 0 ∷ 2 ∷ 0 ∷ 1 ∷ [])
+    ∷ (1 ∷ 5 ∷ 0 ∷ 2 ∷ 0 ∷ 1 ∷ [])
+    ∷ (2 ∷ 5 ∷ 0 ∷ 2 ∷ 0 ∷ 1 ∷ [])
+    ∷ (2 ∷ 5 ∷ 0 ∷ 2 ∷ 0 ∷ 1 ∷ [])
+    ∷ (2 ∷ 6 ∷ 0 ∷ 2 ∷ 0 ∷ 1 ∷ [])
+    ∷ (2 ∷ 6 ∷ 0 ∷ 2 ∷ 0 ∷ 1 ∷ [])
+    ∷ (2 ∷ 7 ∷ 0 ∷ 2 ∷ 0 ∷ 1 ∷ [])
+    ∷ (3 ∷ 7 ∷ 0 ∷ 2 ∷ 0 ∷ 1 ∷ [])
+    ∷ (3 ∷ 8 ∷ 0 ∷ 2 ∷ 0 ∷ 1 ∷ [])
+    ∷ (4 ∷ 8 ∷ 0 ∷ 2 ∷ 0 ∷ 1 ∷ [])
+    ∷ [])
+
+-- COVERING. A leaf of level 1 spans 2^18 pages, of level 2 2^9, of level 3 one; the bits of a page above the low 44 do not count; a leaf
+-- for every ASID stays after an Asid and under another ASID, and a Page takes it. Each read again is a hit or a walk.
+
+-- hits and walks of EL1
+abbrev hits_and_walks : Seen → List ℕ
+hits_and_walks s = s.counts.hits 1 ∷ s.counts.walks 1 ∷ []
+
+-- reads of three pages of other slots, whose leaves are of level 1, 2 and 3
+abbrev giant : Op
+giant = asked El1 1 true Read 0x40001000 (open-page 1)
+
+abbrev large : Op
+large = asked El1 1 true Read 0x40002000 (open-page 2)
+
+abbrev small : Op
+small = asked El1 1 true Read 0x40003000 (open-page 3)
+
+abbrev pub WorkedCovers : Type 0
+WorkedCovers =
+    Shows hits_and_walks
+    (giant
+    ∷ large
+    ∷ small
+    ∷ invalidates (Page 0x3FFFF)
+    ∷ invalidates (Page 0x80000)
+    ∷ giant
+    ∷ large
+    ∷ small
+    ∷ invalidates (Page 0x10000007FFFF)
+    ∷ large
+    ∷ small
+    ∷ giant
+    ∷ invalidates (Page 0x100000040200)
+    ∷ large
+    ∷ giant
+    ∷ invalidates (Page 0x1000000401FF)
+    ∷ small
+    ∷ giant
+    ∷ large
+    ∷ invalidates (Page 0x40002)
+    ∷ small
+    ∷ invalidates (Page 0x100000040003)
+    ∷ small
+    ∷ invalidates (Asid 0)
+    ∷ retags 3
+    ∷ small
+    ∷ [])
+    ((0 ∷ 1 ∷ [])
+    ∷ (0 ∷ 2 ∷ [])
+    ∷ (0 ∷ 3 ∷ [])
+    ∷ (0 ∷ 3 ∷ [])
+    ∷ (0 ∷ 3 ∷ [])
+    ∷ (1 ∷ 3 ∷ [])
+    ∷ (2 ∷ 3 ∷ [])
+    ∷ (3 ∷ 3 ∷ [])
+    ∷ (3 ∷ 3 ∷ [])
+    ∷ (4 ∷ 3 ∷ [])
+    ∷ (5 ∷ 3 ∷ [])
+    ∷ (5 ∷ 4 ∷ [])
+    ∷ (5 ∷ 4 ∷ [])
+    ∷ (6 ∷ 4 ∷ [])
+    ∷ (6 ∷ 5 ∷ [])
+    ∷ (6 ∷ 5 ∷ [])
+    ∷ (7 ∷ 5 ∷ [])
+    ∷ (7 ∷ 6 ∷ [])
+    ∷ (7 ∷ 7 ∷ [])
+    ∷ (7 ∷ 7 ∷ [])
+    ∷ (8 ∷ 7 ∷ [])
+    ∷ (8 ∷ 7 ∷ [])
+    ∷ (8 ∷ 8 ∷ [])
+    ∷ (8 ∷ 8 ∷ [])
+    ∷ (8 ∷ 8 ∷ [])
+    ∷ (9 ∷ 8 ∷ [])
+    ∷ [])
+
+-- RIGHTS. Which of the six permission bits lets an access pass, each on a page that has this bit alone: EL0's read, write and fetch are bits 1, 2
+-- and 4, the regime's own 8, 16 and 32. Under the mark EL1 reads and writes by EL0's, and fetches by its own; EL2 and EL3 have no EL0.
+
+-- the only access of a list passes
+abbrev is_address : Slot Answer → Bool
+is_address empty = false
+is_address (holds (Ok pa)) = true
+is_address (holds (Err f)) = false
+
+abbrev passes : List Seen → Bool
+passes [] = false
+passes (s ∷ ss) = is_address s.answer
+
+abbrev with_bit : Regime → ℕ → Bool → Kind → ℕ → List Op
+with_bit r level mark k bit =
+    asked r level mark k 0x5000 (Ok (record { oa = 0x90005000; desc = 0; perms = bit; level = 3; global = true })) ∷ []
+
+-- the bits that let a read, a write and a fetch pass
+abbrev needed : (List Op → List Seen) → Regime → ℕ → Bool → List (List ℕ)
+needed shown r level mark =
+    map (λ k. filter (λ bit. passes (shown (with_bit r level mark k bit))) (1 ∷ 2 ∷ 4 ∷ 8 ∷ 16 ∷ 32 ∷ [])) (Read ∷ Write ∷ Fetch ∷ [])
+
+abbrev NeededAre : (List Op → List Seen) → Type 0
+NeededAre shown =
+    (needed shown El1 0 false ≡ (1 ∷ []) ∷ (2 ∷ []) ∷ (4 ∷ []) ∷ [])
+    × (needed shown El1 0 true ≡ (1 ∷ []) ∷ (2 ∷ []) ∷ (4 ∷ []) ∷ [])
+    × (needed shown El1 1 false ≡ (8 ∷ []) ∷ (16 ∷ []) ∷ (32 ∷ []) ∷ [])
+    × (needed shown El1 1 true ≡ (1 ∷ []) ∷ (2 ∷ []) ∷ (32 ∷ []) ∷ [])
+    × (needed shown El2 2 true ≡ (8 ∷ []) ∷ (16 ∷ []) ∷ (32 ∷ []) ∷ [])
+    × (needed shown El3 3 true ≡ (8 ∷ []) ∷ (16 ∷ []) ∷ (32 ∷ []) ∷ [])
+
+abbrev pub WorkedRights : Type 0
+WorkedRights = NeededAre (λ os. run os fresh) × NeededAre (λ os. model_run os empty_model)
+
+-- FETCHES. The fetch hint serves its page at its level, whatever the mark, and counts nothing; it is one: the next page or level replaces it.
+-- A translation of the kind alone asks no hint and leaves none. An invalidation empties it.
+
+-- hits and walks of EL0 and of EL1
+abbrev none_and_one : Seen → List ℕ
+none_and_one s = s.counts.hits 0 ∷ s.counts.walks 0 ∷ s.counts.hits 1 ∷ s.counts.walks 1 ∷ []
+
+abbrev fetch_from : ℕ → Bool → ℕ → Op
+fetch_from level mark va = fetches (access_by El1 level mark Fetch va (open-page 3))
+
+abbrev pub WorkedFetches : Type 0
+WorkedFetches =
+    Shows none_and_one
+    (fetch_from 1 false 0x7000
+    ∷ fetch_from 1 false 0x7008
+    ∷ fetch_from 1 true 0x7008
+    ∷ fetch_from 0 false 0x7000
+    ∷ fetch_from 0 false 0x7000
+    ∷ fetch_from 1 false 0x7000
+    ∷ fetch_from 1 false 0x8000
+    ∷ fetch_from 1 false 0x7000
+    ∷ from 1 false Fetch 0x7000
+    ∷ fetch_from 1 false 0x7000
+    ∷ invalidates (Asid 9)
+    ∷ fetch_from 1 false 0x7000
+    ∷ [])
+    ((0 ∷ 0 ∷ 0 ∷ 1 ∷ [])
+    ∷ (0 ∷ 0 ∷ 0 ∷ 1 ∷ [])
+    ∷ (0 ∷ 0 ∷ 0 ∷ 1 ∷ [])
+    ∷ (1 ∷ 0 ∷ 0 ∷ 1 ∷ [])
+    ∷ (1 ∷ 0 ∷ 0 ∷ 1 ∷ [])
+    ∷ (1 ∷ 0 ∷ 1 ∷ 1 ∷ [])
+    ∷ (1 ∷ 0 ∷ 1 ∷ 2 ∷ [])
+    ∷ (1 ∷ 0 ∷ 2 ∷ 2 ∷ [])
+    ∷ (1 ∷ 0 ∷ 3 ∷ 2 ∷ [])
+    ∷ (1 ∷ 0 ∷ 3 ∷ 2 ∷ [])
+    ∷ (1 ∷ 0 ∷ 3 ∷ 2 ∷ [])
+    ∷ (1 ∷ 0 ∷ 4 ∷ 2 ∷ [])
+    ∷ [])
+
+-- WHAT IS PENDING for other cores: an equal second broadcast leaves it, another makes it All, and what this core carries out does not count.
+abbrev pending : List Seen → List (Slot Inval)
+pending = map (λ s. s.pending)
+
+abbrev PendingAre : (List Op → List Seen) → Type 0
+PendingAre shown =
+    (pending (shown (invalidates (Page 4) ∷ broadcasts (Page 5) ∷ broadcasts (Page 5) ∷ broadcasts (Page 6) ∷ broadcasts (Page 5) ∷ []))
+    ≡ empty ∷ holds (Page 5) ∷ holds (Page 5) ∷ holds All ∷ holds All ∷ [])
+    × (pending (shown (broadcasts (Asid 3) ∷ invalidates All ∷ broadcasts (Asid 3) ∷ broadcasts (Asid 4) ∷ []))
+    ≡ holds (Asid 3) ∷ holds (Asid 3) ∷ holds (Asid 3) ∷ holds All ∷ [])
+    × (pending (shown (broadcasts (Asid 3) ∷ broadcasts (Page 3) ∷ [])) ≡ holds (Asid 3) ∷ holds All ∷ [])
+
+abbrev pub WorkedPending : Type 0
+WorkedPending = PendingAre (λ os. run os fresh) × PendingAre (λ os. model_run os empty_model)

@@ -9,7 +9,8 @@ ghost use Rattle.tlb.specs.Model.{translate, fetch, invalidate, retag, broadcast
 ghost use Rattle.tlb.specs.Runs.{Op, Fair, run, model_run};
 ghost use Rattle.tlb.specs.Step.{translation_in, tlb_after, fetch_in, fetched_in};
 ghost use Rattle.tlb.specs.Tlb.{fresh, flush_of, invalidate_of, retag_of, broadcast_of};
-ghost use Rattle.tlb.specs.Worked.{WorkedRun, WorkedLevels};
+ghost use Rattle.tlb.specs.Worked.{WorkedRun, WorkedAtLevels, WorkedSlots, WorkedCovers};
+ghost use Rattle.tlb.specs.Worked.{WorkedRights, WorkedFetches, WorkedPending};
 ghost use Rattle.tlb.specs.declared.Tlb.{Tlb};
 ghost use Rattle.tlb.specs.declared.Inval.{Inval};
 ghost use Rattle.tlb.specs.declared.Inval.TheVariants.{All};
@@ -68,8 +69,17 @@ pub fn counters_of_translations()
         → counters_of (walk_counted level k) ≡ one_walk level (counters_of k) }
 {}
 
-// A run of the plain model over a 2 MiB block and its invalidations, and one at several levels, computed.
+// Worked runs, the same rows in numbers of the cache and of the plain model: a 2 MiB block and its invalidations,
+// accesses at several levels, which pages share a slot or a hint's place, what a Page and an Asid cover, which right each
+// access needs, the fetch hint, and what is pending. They rule out hints that outlive an invalidation, and a slot, a
+// place, a span, a mask or a right of other bits, a mark that counts for a fetch, and a broadcast that forgets an earlier
+// one, in code, definition and plain model alike.
 pub fn worked_runs()
     ensures block { WorkedRun }
-    ensures levels { WorkedLevels }
+    ensures levels { WorkedAtLevels }
+    ensures places { WorkedSlots }
+    ensures covers { WorkedCovers }
+    ensures rights { WorkedRights }
+    ensures fetches { WorkedFetches }
+    ensures pending { WorkedPending }
 {}

@@ -57,20 +57,20 @@ register-leaves b m key value = (refl, refl, refl, refl)
 -- AT
 
 -- AT equals a fresh walk without any premise: whatever the cache holds, PAR_EL1 is made of the registers and RAM.
-pub at_walks : Statement.at_walks
-at_walks c m e form passed named = ap (λ (b : Bare). b.sys.par_el1) ((fits c m (System e)).bare ∙ does)
+pub at-walks : Statement.at_walks
+at-walks c m e form passed named = ap (λ (b : Bare). b.sys.par_el1) ((fits c m (System e)).bare ∙ does)
   where
     does : bare_step (bare_of c) m (System e) ≡ with_par (bare_of c) (par_at (bare_of c) m form (operand_in (bare_of c) e))
     does = rw (passed, named)
 
 -- after every list it is that of the core without a cache
-pub at_after : Statement.at_after
-at_after list m e form =
+pub at-after : Statement.at_after
+at-after list m e form =
     subst
     (λ (b : Bare).
     missed_in b m (System e) ≡ 0 → op_in b e ≡ Op.At form
     → (step_of (core_after list) m.base m.bytes (System e)).core.sys.par_el1 ≡ par_at b m form (operand_in b e))
-    (two-cores list) (at_walks (core_after list) m e form)
+    (two-cores list) (at-walks (core_after list) m e form)
 
 -- REFUSED CALLS
 

@@ -42,9 +42,9 @@ module _ (list : List (Fed real machine)) (seen : Shown real machine fresh_core 
       off-settled real real-laws (plain_in fresh_bare) (past list) m (World.regime_now real (plain_in (bare_now list))) _
       (ap (λ (p : World.Plain real). real.on p.regs (World.regime_now real (plain_in (bare_now list)))) (begins list seen m) ∙ off)
 
-  pub flat_after : Statement.flat_after list m
+  pub flat-after : Statement.flat_after list m
   unfolding translate_of stepped_now translate_in uncached
-  flat_after off kind va = one-ask list seen m (translates kind va) (off-here off va) ∙ rw off
+  flat-after off kind va = one-ask list seen m (translates kind va) (off-here off va) ∙ rw off
 
   -- a translation after the list is a call that misses no check
   passed : (m.base + length m.bytes ≤ 2 ^ 64) → (kind : Kind) (va : ℕ) → missed_in (bare_of (core_now list)) m (Translate kind va) ≡ 0
@@ -78,7 +78,7 @@ ready-after list seen m va n kind small few room =
       address = small;
       bytes = few;
       window = room;
-      flat = λ off far. (flat_after list seen m (same ∙ off) kind va, λ b. rw next at (flat_after more more-seen m (still ∙ same ∙ off) kind b));
+      flat = λ off far. (flat-after list seen m (same ∙ off) kind va, λ b. rw next at (flat-after more more-seen m (still ∙ same ∙ off) kind b));
     }
   where
     same : World.on_now real (plain_in (bare_now list)) ≡ on_now (core_now list)

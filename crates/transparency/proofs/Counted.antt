@@ -31,7 +31,7 @@ use Rattle.transparency.specs.Beside.{core_after, bare_after}
 use Rattle.transparency.proofs.Beside.{two-cores}
 use Rattle.transparency.specs.Faithful.{events_after}
 use Rattle.transparency.specs.ModelCalls.{model_after_list, tlb_after_call}
-use Rattle.transparency.proofs.ModelCalls.{every-core-well, every-call-model, levels-now, levels-after}
+use Rattle.transparency.proofs.ModelCalls.{every-core-well, every-call-modelled, levels-now, levels-after}
 use Rattle.transparency.specs.Counted.{how_answered}
 use Rattle.transparency.specs.Counted as Statement
 
@@ -50,13 +50,13 @@ module _ (list : List (Lent real machine)) (m : Ram) where
   one-step : (x : Call) (es : List (Event real)) → events_after list m x ≡ es
       → live (tlb_after_call list m x) ≡ model_run real (plain_in (bare_after list)) es model
   one-step x es e =
-      (every-call-model list m x).after ∙ ap (λ (l : List (Event real)). model_run real (plain_in (bare_after list)) l model) e
+      (every-call-modelled list m x).after ∙ ap (λ (l : List (Event real)). model_run real (plain_in (bare_after list)) l model) e
 
   model-counts : model.counts ≡ counters_of now.counts
-  model-counts = ap (λ (u : Model). u.counts) (sym (every-call-model list m (Fetch 0)).before)
+  model-counts = ap (λ (u : Model). u.counts) (sym (every-call-modelled list m (Fetch 0)).before)
 
   model-pending : model.pending ≡ pending_of now.broadcast
-  model-pending = ap (λ (u : Model). u.pending) (sym (every-call-model list m (Fetch 0)).before)
+  model-pending = ap (λ (u : Model). u.pending) (sym (every-call-modelled list m (Fetch 0)).before)
 
   -- TRANSLATIONS
 
@@ -117,8 +117,8 @@ module _ (list : List (Lent real machine)) (m : Ram) where
         (tlbi-counted ∙ ap (λ (v : Inval). inval_counted v (counters_of now.counts)) q)
 
     -- an All one to `flushes` and one to `epoch`
-    pub all-counted : Statement.all_counted list m e passed named
-    all-counted q = counters-tell _ _ (levels-after list m (System e)) (levels-now list)
+    pub tlbi-all-counted : Statement.tlbi_all_counted list m e passed named
+    tlbi-all-counted q = counters-tell _ _ (levels-after list m (System e)) (levels-now list)
         (tlbi-counted ∙ ap (λ (v : Inval). inval_counted v (counters_of now.counts)) q)
 
     -- an Asid one to `epoch` alone
@@ -155,7 +155,7 @@ module _ (list : List (Lent real machine)) (m : Ram) where
     -- the ASID in force is the cache's
     asid-now : model.asid ≡ asid_of (bare_after list).control
     asid-now =
-        ap (λ (u : Model). u.asid) (sym (every-call-model list m (Register key value)).before)
+        ap (λ (u : Model). u.asid) (sym (every-call-modelled list m (Register key value)).before)
         ∙ (every-core-well list).asid
         ∙ ap (λ (b : Bare). asid_of b.control) (two-cores list)
 
@@ -164,7 +164,7 @@ module _ (list : List (Lent real machine)) (m : Ram) where
     unfolding model_retagged model_flushed
     write-quiet shape asid =
         let same : eqb model.asid (asid_of registers) ≡ true = eq-eqb _ _ (asid-now ∙ sym asid) in
-        write-modelled ∙ rw (shape, same) (sym (every-call-model list m (Register key value)).before)
+        write-modelled ∙ rw (shape, same) (sym (every-call-modelled list m (Register key value)).before)
 
     -- `shaping` alone: a flush, one in `flushes` and one in `epoch`
     pub write-flushes : Statement.write_flushes list m key value passed done

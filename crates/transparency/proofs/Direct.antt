@@ -122,9 +122,9 @@ module _ (list : List (Fed real machine)) (seen : Shown real machine fresh_core 
   access-after va n kind ss = placed_by (core_now list) m.base m.bytes va n kind ∙ given-placed va n kind ss
 
   -- A load replies the bytes there, or the fault or the abort.
-  pub load_after : Statement.load_after list m
+  pub load-after : Statement.load_after list m
   unfolding step_of run_of
-  load_after va size w sized passed ss =
+  load-after va size w sized passed ss =
       rw (passed, sized)
       (ap (λ (o : Outcome). o.reply) (load-answered (core_now list) m va (bytes_in w))
       ∙ ap (λ (p : Placed). loading (load_end p 0 0 m.base m.bytes va (bytes_in w)).answer) (given-placed va (bytes_in w) Kind.Read ss))

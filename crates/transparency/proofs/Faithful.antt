@@ -19,7 +19,7 @@ use Rattle.transparency.specs.Starts.{later_in}
 use Rattle.transparency.specs.Machine.{machine}
 use Rattle.transparency.specs.Replies.{outcome, outcome_of, says_in, bare_reply}
 use Rattle.transparency.proofs.Answered.{reply-is}
-use Rattle.transparency.proofs.Instance.{every_call, every-reply}
+use Rattle.transparency.proofs.Instance.{every-translation, every-reply}
 use Rattle.transparency.specs.Beside.{core_after, bare_after}
 use Rattle.transparency.proofs.Beside.{two-cores}
 use Rattle.transparency.specs.Faithful.{fed_by, events_after, answers_after, answers_at, FaithfulCall}
@@ -53,7 +53,7 @@ module _ (list : List (Lent real machine)) (m : Ram) (x : Call) where
   unfolding fresh_core
   fed-answers before m' s later e =
       subst (λ (l : List (Lent real machine)). Each (FaithfulIn real machine fresh_bare (fed_by list) before m') (answers_at l before m' s)) lents
-      (every_call (fed_by list) (shown-shown real machine fresh_core list) fed fed-shown before m' s later (fed-events ∙ e))
+      (every-translation (fed_by list) (shown-shown real machine fresh_core list) fed fed-shown before m' s later (fed-events ∙ e))
 
   fed-same : Tidy real (plain_in fresh_bare) (events_run real machine fresh_bare (fed_by list)) (events_after list m x)
       → outcome_of (core_after list) m x ≡ bare_reply (bare_after list) m x

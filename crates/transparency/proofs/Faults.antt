@@ -285,8 +285,8 @@ each_at (more p ps) (Memᴰ.tail m) = each_at ps m
 -- Whatever the call and RAM: where a call after the list replies a fault, its status is a row of the table, a
 -- translation's or 0x10, and it comes from the answers to the call's translations, with the address translated or, for
 -- 0x10, that of a byte of the access.
-pub every-fault : Statement.every_fault_row
-every-fault list seen m x addr fault w = (row from, from)
+pub every-replied-fault : Statement.every_replied_fault
+every-replied-fault list seen m x addr fault w = (row from, from)
   where
     made : List (Lent real machine)
     made = lent_of real machine list

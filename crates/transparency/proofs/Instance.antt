@@ -13,9 +13,9 @@ use Rattle.transparency.proofs.Alone.{alone-same}
 
 -- After every list of calls, in every call, each translation of a page that meets the premise is answered as by the
 -- core without a cache.
-pub every_call : EveryCallFaithful real machine fresh_core
+pub every-translation : EveryCallFaithful real machine fresh_core
 unfolding fresh_core
-every_call = every_call_faithful real machine bridge real-laws fresh_core refl fresh-asid (omega arith)
+every-translation = every_call_faithful real machine bridge real-laws fresh_core refl fresh-asid (omega arith)
 
 -- Where all pages that a call translates meet the premise, its reply and RAM are those of the core without a cache.
 pub every-reply : SameReplies real machine replies fresh_core
@@ -23,6 +23,6 @@ unfolding fresh_core
 every-reply = same-replies real machine bridge real-laws fresh_core refl fresh-asid (omega arith) replies alone-same
 
 -- Where no table is changed without the matching TLBI, no reply and no RAM of a list shows the cache.
-pub invisible : InvisibleCalls real machine replies fresh_core
+pub invisible-lists : InvisibleCalls real machine replies fresh_core
 unfolding fresh_core
-invisible = invisible-calls real machine bridge real-laws fresh_core refl fresh-asid (omega arith) replies alone-same
+invisible-lists = invisible-calls real machine bridge real-laws fresh_core refl fresh-asid (omega arith) replies alone-same

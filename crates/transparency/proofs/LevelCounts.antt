@@ -32,8 +32,8 @@ use Rattle.transparency.specs.Machine.{machine}
 use Rattle.transparency.specs.Beside.{core_after, bare_after}
 use Rattle.transparency.specs.Faithful.{events_after}
 use Rattle.transparency.specs.ModelCalls.{events_by, model_after_list, tlb_after_call}
-use Rattle.transparency.proofs.ModelCalls.{stands, low-now, every-call-model}
-use Rattle.transparency.specs.LevelCounts.{made_by, made_after, hits_of, walks_of, quiet_op, quiet}
+use Rattle.transparency.proofs.ModelCalls.{every-list-modelled, low-now, every-call-modelled}
+use Rattle.transparency.specs.LevelCounts.{made_by, made_after, hits_of, walks_of, quiet_op, translates_nothing}
 use Rattle.transparency.specs.LevelCounts as Statement
 
 from-none : (n : ℕ) → (0 + n) % 2 ^ 64 ≡ n % 2 ^ 64
@@ -49,7 +49,7 @@ module _ (list : List (Lent real machine)) where
   now = (core_after list).tlb
 
   counts-are : counters_of now.counts ≡ (model_after_list list).counts
-  counts-are = ap (λ (u : Model). u.counts) (stands list).is
+  counts-are = ap (λ (u : Model). u.counts) (every-list-modelled list).is
 
   -- each level's counts are the number of its translations that an entry answered, that were walked
   pub level-hits : Statement.level_hits list
@@ -138,7 +138,7 @@ module _ (list : List (Lent real machine)) (m : Ram) (x : Call) where
       → (hits_of then l ≡ hits_of (now list) l) × (walks_of then l ≡ walks_of (now list) l)
   unmade-stays l none =
       let stay = run-other real (events_after list m x) (plain_in (bare_after list)) (model_after_list list) l none in
-      let after = (every-call-model list m x).counts in
+      let after = (every-call-modelled list m x).counts in
       ((λ i. (after i).hits l) ∙ stay.0 ∙ (λ i. (sym counts-before i).hits l), (λ i. (after i).walks l) ∙ stay.1 ∙ (λ i. (sym counts-before i).walks l))
 
   -- so no other level's counters move
@@ -148,20 +148,20 @@ module _ (list : List (Lent real machine)) (m : Ram) (x : Call) where
   -- the call's own level: by the number of its translations that an entry answered, that were walked
   pub own-hits : Statement.own_hits list m x
   own-hits =
-      (λ i. ((every-call-model list m x).counts i).hits level)
+      (λ i. ((every-call-modelled list m x).counts i).hits level)
       ∙ run-hits real (events_after list m x) (plain_in (bare_after list)) (model_after_list list) level (rw (← counts-before) (small-hits list level))
       ∙ ap (λ (n : ℕ). (n + how_many (at level by_line) (made_after list m x)) % 2 ^ 64) (λ i. (sym counts-before i).hits level)
 
   pub own-walks : Statement.own_walks list m x
   own-walks =
-      (λ i. ((every-call-model list m x).counts i).walks level)
+      (λ i. ((every-call-modelled list m x).counts i).walks level)
       ∙ run-walks real (events_after list m x) (plain_in (bare_after list)) (model_after_list list) level (rw (← counts-before) (small-walks list level))
       ∙ ap (λ (n : ℕ). (n + how_many (at level by_walk) (made_after list m x)) % 2 ^ 64) (λ i. (sym counts-before i).walks level)
 
   -- the sums move as the Rust's two counters
   pub sums-call : Statement.sums_call list m x
   sums-call =
-      ap sums (every-call-model list m x).counts
+      ap sums (every-call-modelled list m x).counts
       ∙ run-sums real (events_after list m x) (plain_in (bare_after list)) (model_after_list list) (low-now list m x)
       ∙ ap (λ (k : Counters). rust_after (made_after list m x) (sums k)) (sym counts-before)
 
@@ -174,7 +174,7 @@ module _ (b : Bare) (m : Ram) (ms : List Ram) (u : Model) where
   sys-none Op.Undefined e q = refl
   sys-none Op.Unimplemented e q = refl
 
-  steps-none : (x : Call) → quiet b x ≡ true → made_run real (plain_in b) (steps_in b m ms x) u ≡ []
+  steps-none : (x : Call) → translates_nothing b x ≡ true → made_run real (plain_in b) (steps_in b m ms x) u ≡ []
   steps-none (Translate kind va) q = absurd (false≢true q)
   steps-none (DataPa va) q = absurd (false≢true q)
   steps-none (FetchPa va) q = absurd (false≢true q)
@@ -189,7 +189,7 @@ module _ (b : Bare) (m : Ram) (ms : List Ram) (u : Model) where
   steps-none (Abort e) q = refl
   steps-none (Census first pages) q = refl
 
-  events-none : (x : Call) → quiet b x ≡ true → made_run real (plain_in b) (events_in b m ms x) u ≡ []
+  events-none : (x : Call) → translates_nothing b x ≡ true → made_run real (plain_in b) (events_in b m ms x) u ≡ []
   events-none x q = go (ruling_in b m x)
     where
       go : (r : Ruling) → made_run real (plain_in b) (if_allowed r (steps_in b m ms x) (steps m idle ∷ [])) u ≡ []

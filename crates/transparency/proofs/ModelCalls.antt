@@ -53,8 +53,8 @@ module _ (list : List (Lent real machine)) where
   fresh-low : (plain_in fresh_bare).privilege.level ≤ 3
   fresh-low = omega arith
 
-  pub stands : StandsFor (core_after list).tlb (model_after_list list)
-  stands =
+  pub every-list-modelled : StandsFor (core_after list).tlb (model_after_list list)
+  every-list-modelled =
       subst (λ (t : Tlb). StandsFor t (model_after_list list)) (sym tlb-run)
       (run-stands real real-laws (events_by list) (plain_in fresh_bare) fresh-low (fresh-stands real real-laws))
 
@@ -85,22 +85,22 @@ module _ (list : List (Lent real machine)) (m : Ram) (x : Call) where
   stands-then : StandsFor (tlb_after_call list m x) (model_after_call list m x)
   stands-then =
       subst (λ (t : Tlb). StandsFor t (model_after_call list m x)) (sym tlb-then)
-      (run-stands real real-laws (events_after list m x) (plain_in (bare_after list)) low-now (stands list))
+      (run-stands real real-laws (events_after list m x) (plain_in (bare_after list)) low-now (every-list-modelled list))
 
   model-then : live (tlb_after_call list m x) ≡ model_after_call list m x
   model-then = stands-then.is
 
   answers-then : answers_after list m x ≡ model_answers_after list m x
-  answers-then = answers-run-live real real-laws (events_after list m x) (plain_in (bare_after list)) low-now (stands list)
+  answers-then = answers-run-live real real-laws (events_after list m x) (plain_in (bare_after list)) low-now (every-list-modelled list)
 
   said-then : outcome_of (core_after list) m x ≡ says_in (bare_after list) m (later_in (core_after list) m x) x (answers_after list m x)
   unfolding FaithfulCall
   said-then = (faithful-step (core_after list) m.base m.bytes x _ _ refl refl list refl).answered
 
-  pub every-call-model : Modelled list m x
-  every-call-model =
+  pub every-call-modelled : Modelled list m x
+  every-call-modelled =
       record {
-        before = (stands list).is;
+        before = (every-list-modelled list).is;
         answers = answers-then;
         reply = said-then ∙ ap (says_in (bare_after list) m (later_in (core_after list) m x) x) answers-then;
         after = model-then;

@@ -142,10 +142,10 @@ step-by-step = (
 
 -- WITH THE TLBI the page is settled, and the cache answers from a hint, as the core without a cache does.
 
-pub settled : Statement.settled
+pub tidied-settled : Statement.tidied_settled
 unfolding bytes_of set_reg fresh_core zeros fresh_control fresh_sys banked_at register_at control_with sys_with write_reg missed_of named decode_of scope_of what_of tlbi_of
     untagged
-settled = steps-settled real (plain_in fresh_bare) events new El1 0x40001 step-by-step
+tidied-settled = steps-settled real (plain_in fresh_bare) events new El1 0x40001 step-by-step
 
 pub by-cache : Statement.by_cache
 unfolding step_of run_of translate_of stepped_now translate_in after_access reg_of set_reg after_register_write applied_of with_regs refit_of retagged_of reshaped_of set_level
@@ -157,29 +157,29 @@ by-cache = (refl, refl, refl)
 
 -- WITHOUT IT the cache answers by the old table, so the page is not settled.
 
-pub stale : Statement.stale
+pub start-stale : Statement.start_stale
 unfolding step_of run_of translate_of stepped_now translate_in after_access reg_of set_reg after_register_write applied_of with_regs refit_of retagged_of reshaped_of set_level
     uncached walk_answer leaf_answer same_shape asid_of asid_base fresh_core zeros fresh_control fresh_sys banked_at register_at control_with sys_with write_reg missed_of
     flush_of flushed translation_with miss_with resolve_with by_walk applied judged walk_of table_walk walk_range walk_from lookup_next level_next leaf_result
     leaf_translation leaf_permissions table_next descaddr range_of params_of pa_size untagged word_at little_endian bytes_of place_of blanks no_hints
-stale = (refl, refl, refl)
+start-stale = (refl, refl, refl)
 
-pub unsettled : Statement.unsettled
-unsettled st =
+pub start-unsettled : Statement.start_unsettled
+start-unsettled st =
     let e : Value 0x80001234 ≡ Value 0xC0001234 =
-    sym stale.0
-    ∙ translate-after (fed_by start) (shown-shown real machine fresh_core start) new Read 0x40001234 stale.2 st
-    ∙ ap (translation 0x40001234) stale.1 in
+    sym start-stale.0
+    ∙ translate-after (fed_by start) (shown-shown real machine fresh_core start) new Read 0x40001234 start-stale.2 st
+    ∙ ap (translation 0x40001234) start-stale.1 in
     let z : ◌≡◌ {A = ℕ} 0x80001234 0xC0001234 = same e in
     omega arith
   where
     same : {x y : ℕ} → Value x ≡ Value y → x ≡ y
     same e = cc
 
-pub by_level : Statement.by_level
+pub counted-by-level : Statement.counted_by_level
 unfolding step_of run_of translate_of stepped_now fetch_pa_of fetch_stepped_now translate_fetch_in fetch_with fetch_end fetch_applied translate_in after_access
     after_register_write applied_of with_regs refit_of retagged_of reshaped_of set_level set_mark
     same_shape asid_of asid_base fresh_core fresh_control fresh_sys banked_at register_at control_with sys_with write_reg missed_of
     flush_of flushed translation_with miss_with resolve_with by_walk applied judged walk_of table_walk walk_range walk_from lookup_next level_next leaf_result
     leaf_translation leaf_permissions table_next descaddr range_of params_of pa_size untagged word_at little_endian bytes_of place_of blanks no_hints no_tallies
-by_level = refl
+counted-by-level = refl

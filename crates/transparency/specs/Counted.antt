@@ -90,8 +90,8 @@ module _ (list : List (Lent real machine)) (m : Ram) where
         ≡ record now.counts { drops = (now.counts.drops + 1) % 2 ^ 64; epoch = (now.counts.epoch + 1) % 2 ^ 64 }
 
     -- an All one to `flushes` and one to `epoch`
-    abbrev pub all_counted : Type 0
-    all_counted =
+    abbrev pub tlbi_all_counted : Type 0
+    tlbi_all_counted =
         what ≡ All
         → then.counts
         ≡ record now.counts { flushes = (now.counts.flushes + 1) % 2 ^ 64; epoch = (now.counts.epoch + 1) % 2 ^ 64 }

@@ -51,8 +51,8 @@ pub data FaultFrom (gs : List Given) (addr : ℕ) (fault : Fault) : Type 0 where
 -- Whatever the call and RAM: where a call after the list replies a fault, its status is a row of the table, a
 -- translation's or 0x10, and it comes from the answers to the call's translations, with the address translated or, for
 -- 0x10, that of a byte of the access.
-abbrev pub every_fault_row : Type 0
-every_fault_row =
+abbrev pub every_replied_fault : Type 0
+every_replied_fault =
     (list : List (Fed real machine)) → Shown real machine fresh_core list
     → (m : Ram) (x : Call) (addr : ℕ) (fault : Fault)
     → RepliesFault (step_of (core_after (lent_of real machine list)) m.base m.bytes x).reply addr fault

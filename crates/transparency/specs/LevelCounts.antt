@@ -98,26 +98,26 @@ quiet_op Op.Nothing = true
 quiet_op Op.Undefined = true
 quiet_op Op.Unimplemented = true
 
-abbrev pub quiet : Bare → Call → Bool
-quiet b (Translate kind va) = false
-quiet b (DataPa va) = false
-quiet b (FetchPa va) = false
-quiet b (Load va size) = false
-quiet b (Store va size value) = false
-quiet b (Fetch va) = false
-quiet b (System e) = quiet_op (op_in b e)
-quiet b (Register key value) = true
-quiet b (Level n) = true
-quiet b (Mark mark) = true
-quiet b (General n value) = true
-quiet b (Abort e) = true
-quiet b (Census first pages) = true
+abbrev pub translates_nothing : Bare → Call → Bool
+translates_nothing b (Translate kind va) = false
+translates_nothing b (DataPa va) = false
+translates_nothing b (FetchPa va) = false
+translates_nothing b (Load va size) = false
+translates_nothing b (Store va size value) = false
+translates_nothing b (Fetch va) = false
+translates_nothing b (System e) = quiet_op (op_in b e)
+translates_nothing b (Register key value) = true
+translates_nothing b (Level n) = true
+translates_nothing b (Mark mark) = true
+translates_nothing b (General n value) = true
+translates_nothing b (Abort e) = true
+translates_nothing b (Census first pages) = true
 
 -- after every list such a call leaves the counters of every level, and so does a refused one
 abbrev pub quiet_stays : Type 0
 quiet_stays =
     EveryCall
-    (λ list m x. quiet (bare_after list) x ≡ true → (l : ℕ)
+    (λ list m x. translates_nothing (bare_after list) x ≡ true → (l : ℕ)
     → (hits_of (tlb_after_call list m x) l ≡ hits_of (core_after list).tlb l)
     × (walks_of (tlb_after_call list m x) l ≡ walks_of (core_after list).tlb l))
 

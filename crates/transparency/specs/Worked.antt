@@ -60,8 +60,8 @@ tidied =
 
 -- WITH THE TLBI the page is settled, and the cache answers from a hint, as the core without a cache does.
 
-abbrev pub settled : Type 0
-settled = SettledAt (fed_by tidied) new 0x40001234
+abbrev pub tidied_settled : Type 0
+tidied_settled = SettledAt (fed_by tidied) new 0x40001234
 
 abbrev pub by_cache : Type 0
 by_cache =
@@ -72,14 +72,14 @@ by_cache =
 
 -- WITHOUT IT the cache answers by the old table, so the page is not settled.
 
-abbrev pub stale : Type 0
-stale =
+abbrev pub start_stale : Type 0
+start_stale =
     ((step_of (core_after start) new.base new.bytes read).reply ≡ Value 0x80001234)
     × (uncached real (plain_in (bare_after start)) new Read 0x40001234 ≡ Ok 0xC0001234)
     × (missed_in (bare_of (core_after start)) new read ≡ 0)
 
-abbrev pub unsettled : Type 0
-unsettled = SettledAt (fed_by start) new 0x40001234 → ⊥
+abbrev pub start_unsettled : Type 0
+start_unsettled = SettledAt (fed_by start) new 0x40001234 → ⊥
 
 -- THE COUNTERS BY LEVEL. EL1's first read was walked. Under the mark EL1 reads again: judged as EL0's it is refused by
 -- the entry, and that is a hit of EL1, not of EL0; a fetch under the mark, which is judged as EL1's, is another. Then
@@ -89,8 +89,8 @@ counted =
     start ++ lent old (Mark true) ∷ lent old read ∷ lent old (FetchPa 0x40001234) ∷ lent old (Level 0)
     ∷ lent old (FetchPa 0x40001234) ∷ []
 
-abbrev pub by_level : Type 0
-by_level =
+abbrev pub counted_by_level : Type 0
+counted_by_level =
     (core_after counted).tlb.counts.levels
     ≡ record { hits = 1; walks = 0 } ∷ record { hits = 2; walks = 1 } ∷ record { hits = 0; walks = 0 }
     ∷ record { hits = 0; walks = 0 } ∷ []

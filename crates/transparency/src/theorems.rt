@@ -15,12 +15,12 @@ ghost use Rattle.transparency.specs.Direct.{access_after, load_after, store_afte
 ghost use Rattle.transparency.specs.Census.{census_after, census_reply, census_skipped};
 ghost use Rattle.transparency.specs.Census.{census_faults, rights_allow, flat_allows};
 ghost use Rattle.transparency.specs.Judged.{every_call_judged, every_row};
-ghost use Rattle.transparency.specs.Faults.{every_fault_row};
-ghost use Rattle.transparency.specs.Worked.{settled, by_cache, stale, unsettled, by_level};
+ghost use Rattle.transparency.specs.Faults.{every_replied_fault};
+ghost use Rattle.transparency.specs.Worked.{tidied_settled, by_cache, start_stale, start_unsettled, counted_by_level};
 ghost use Rattle.transparency.specs.ModelCalls.{every_core_well, every_list_modelled, every_call_modelled};
 ghost use Rattle.transparency.specs.Counted.{EveryTlbi, EveryWrite};
 ghost use Rattle.transparency.specs.Counted.{translate_counted, data_pa_counted, fetch_pa_counted, fetch_counted};
-ghost use Rattle.transparency.specs.Counted.{tlbi_counted, page_counted, all_counted, asid_counted};
+ghost use Rattle.transparency.specs.Counted.{tlbi_counted, page_counted, tlbi_all_counted, asid_counted};
 ghost use Rattle.transparency.specs.Counted.{shared_pending, own_pending};
 ghost use Rattle.transparency.specs.Counted.{write_modelled, write_quiet, write_flushes, write_retags};
 ghost use Rattle.transparency.specs.LevelCounts.{level_hits, level_walks, sums_list, call_level, others_stay};
@@ -136,18 +136,18 @@ pub fn every_judgement()
 /// translated; or it is 0x10, with the address of a byte of the access. Rules out a made-up status and the address of
 /// another page.
 pub fn every_fault()
-    ensures row { every_fault_row }
+    ensures row { every_replied_fault }
 {}
 
 /// A worked list: with a TLBI of another page of the same block the page is settled and a hint answers, rightly;
 /// without it the core answers by the old table, and the page is not settled. Rules out a premise that nothing meets,
 /// or that all meet. And the counters by level after another list, under the mark and at two levels.
 pub fn worked_list()
-    ensures settled { settled }
+    ensures settled { tidied_settled }
     ensures by_cache { by_cache }
-    ensures stale { stale }
-    ensures unsettled { unsettled }
-    ensures by_level { by_level }
+    ensures stale { start_stale }
+    ensures unsettled { start_unsettled }
+    ensures by_level { counted_by_level }
 {}
 
 /// Every core that calls reach is well-formed: a level of 3 at most, the cache's invariant, the ASID of its registers;
@@ -178,7 +178,7 @@ pub fn counted_translations()
 pub fn counted_invalidations()
     ensures once { EveryTlbi tlbi_counted }
     ensures page { EveryTlbi page_counted }
-    ensures all { EveryTlbi all_counted }
+    ensures all { EveryTlbi tlbi_all_counted }
     ensures asid { EveryTlbi asid_counted }
     ensures shared { EveryTlbi shared_pending }
     ensures own { EveryTlbi own_pending }

@@ -66,7 +66,7 @@ WorkedTranslations =
     ∷ address 0xFFFFFFFFFFFFF000
     ∷ [])
 
-pub cases : WorkedTranslations
+pub worked-translations : WorkedTranslations
 unfolding row translated judged registers walk_of table_walk walk_range walk_from lookup_next level_next leaf_result leaf_translation leaf_permissions table_next
     descaddr range_of params_of pa_size untagged word_at little_endian bytes_of
-cases = refl
+worked-translations = refl

@@ -1,5 +1,5 @@
-use Rattle.sysop.specs.Cases.{cases}
+use Rattle.sysop.specs.Cases.{worked-at}
 use Rattle.sysop.proofs.theorems.worked_translations.Goals as goal
 
 pub returns : goal.returns
-returns c = record { par = cases }
+returns c = record { par = worked-at }

@@ -1,4 +1,4 @@
-use Rattle.tlb.specs.Refines.{fresh-sound, invalidate-sound, retag-sound, broadcast-sound}
+use Rattle.tlb.proofs.Refines.{fresh-sound, invalidate-sound, retag-sound, broadcast-sound}
 use Rattle.tlb.proofs.Translations.{translation-follows, fetch-follows}
 use Rattle.tlb.proofs.theorems.caches_stay_well_formed.Goals as goal
 

@@ -1,4 +1,4 @@
-use Rattle.tlb.specs.Counting.{translate-counts, fetch-counts, others-stay, mark-free, sums-move}
+use Rattle.tlb.specs.Counting.{translate-counts, fetch-counts, counted-others, mark-free, sums-move}
 use Rattle.tlb.proofs.Levels.{hit-counted, walk-counted}
 use Rattle.tlb.proofs.theorems.counters_of_translations.Goals as goal
 
@@ -9,7 +9,7 @@ pub returns-clause-fetch : goal.returns-clause-fetch
 returns-clause-fetch c = fetch-counts
 
 pub returns-clause-other_levels_stay : goal.returns-clause-other_levels_stay
-returns-clause-other_levels_stay c = others-stay
+returns-clause-other_levels_stay c = counted-others
 
 pub returns-clause-mark_lowers_no_level : goal.returns-clause-mark_lowers_no_level
 returns-clause-mark_lowers_no_level c = mark-free

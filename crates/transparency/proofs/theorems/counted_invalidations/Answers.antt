@@ -1,4 +1,4 @@
-use Rattle.transparency.proofs.Counted.{tlbi-counted, page-counted, all-counted, asid-counted, shared-pending, own-pending}
+use Rattle.transparency.proofs.Counted.{tlbi-counted, page-counted, tlbi-all-counted, asid-counted, shared-pending, own-pending}
 use Rattle.transparency.proofs.theorems.counted_invalidations.Goals as goal
 
 pub returns-clause-once : goal.returns-clause-once
@@ -8,7 +8,7 @@ pub returns-clause-page : goal.returns-clause-page
 returns-clause-page c = page-counted
 
 pub returns-clause-all : goal.returns-clause-all
-returns-clause-all c = all-counted
+returns-clause-all c = tlbi-all-counted
 
 pub returns-clause-asid : goal.returns-clause-asid
 returns-clause-asid c = asid-counted

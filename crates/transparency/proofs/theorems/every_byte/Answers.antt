@@ -1,8 +1,8 @@
-use Rattle.transparency.proofs.Bytes.{flat_after, load-byte-after, store-byte-after, store-others-after, zva-after}
+use Rattle.transparency.proofs.Bytes.{flat-after, load-byte-after, store-byte-after, store-others-after, zva-after}
 use Rattle.transparency.proofs.theorems.every_byte.Goals as goal
 
 pub returns-clause-flat : goal.returns-clause-flat
-returns-clause-flat c = flat_after
+returns-clause-flat c = flat-after
 
 pub returns-clause-load : goal.returns-clause-load
 returns-clause-load c = load-byte-after

@@ -1,5 +1,5 @@
-use Rattle.walk.specs.Cases.{cases}
+use Rattle.walk.specs.Cases.{worked-translations}
 use Rattle.walk.proofs.theorems.worked_translations.Goals as goal
 
 pub returns : goal.returns
-returns c = record { answers = cases }
+returns c = record { answers = worked-translations }
