@@ -105,13 +105,17 @@ pub fn shape_after_writes()
 // (bit 36) is 1, and else 55:48. It rules out the ASID of the other register, and 8 bits from the top.
 pub fn asids_of_settings()
     ensures upper_wide { (c : Control)
-        → bit (control_at c (Tcr El1)) 22 ≡ true → bit (control_at c (Tcr El1)) 36 ≡ true → asid_of c ≡ bits (control_at c Ttbr1) 63 48 }
+        → bit (control_at c (Tcr El1)) 22 ≡ true → bit (control_at c (Tcr El1)) 36 ≡ true
+        → asid_of c ≡ bits (control_at c Ttbr1) 63 48 }
     ensures upper_narrow { (c : Control)
-        → bit (control_at c (Tcr El1)) 22 ≡ true → bit (control_at c (Tcr El1)) 36 ≡ false → asid_of c ≡ bits (control_at c Ttbr1) 55 48 }
+        → bit (control_at c (Tcr El1)) 22 ≡ true → bit (control_at c (Tcr El1)) 36 ≡ false
+        → asid_of c ≡ bits (control_at c Ttbr1) 55 48 }
     ensures lower_wide { (c : Control)
-        → bit (control_at c (Tcr El1)) 22 ≡ false → bit (control_at c (Tcr El1)) 36 ≡ true → asid_of c ≡ bits (control_at c (Ttbr0 El1)) 63 48 }
+        → bit (control_at c (Tcr El1)) 22 ≡ false → bit (control_at c (Tcr El1)) 36 ≡ true
+        → asid_of c ≡ bits (control_at c (Ttbr0 El1)) 63 48 }
     ensures lower_narrow { (c : Control)
-        → bit (control_at c (Tcr El1)) 22 ≡ false → bit (control_at c (Tcr El1)) 36 ≡ false → asid_of c ≡ bits (control_at c (Ttbr0 El1)) 55 48 }
+        → bit (control_at c (Tcr El1)) 22 ≡ false → bit (control_at c (Tcr El1)) 36 ≡ false
+        → asid_of c ≡ bits (control_at c (Ttbr0 El1)) 55 48 }
     // neither, AS, A1, both
     ensures rows { map (λ tcr. asid_of (asids_under tcr)) (0 ∷ 0x10_0000_0000 ∷ 0x40_0000 ∷ 0x10_0040_0000 ∷ [])
         ≡ (0x22 ∷ 0x1122 ∷ 0x44 ∷ 0x3344 ∷ []) }
