@@ -179,8 +179,8 @@ WorkedSlots =
     ∷ (4 ∷ 8 ∷ 0 ∷ 2 ∷ 0 ∷ 1 ∷ [])
     ∷ [])
 
--- COVERING. A leaf of level 1 spans 2^18 pages, of level 2 2^9, of level 3 one; the bits of a page above the low 44 do not count; a leaf
--- for every ASID stays after an Asid and under another ASID, and a Page takes it. Each read again is a hit or a walk.
+-- COVERING. A leaf of level 1 spans 2^18 pages, of level 2 2^9, of level 3 one; a page's low 44 bits count and no higher one; a leaf for
+-- every ASID stays after an Asid and under another ASID, and a Page takes it. Each read again is a hit or a walk.
 
 -- hits and walks of EL1
 abbrev hits_and_walks : Seen → List ℕ
@@ -219,6 +219,7 @@ WorkedCovers =
     ∷ giant
     ∷ large
     ∷ invalidates (Page 0x40002)
+    ∷ invalidates (Page 0x80000040003)
     ∷ small
     ∷ invalidates (Page 0x100000040003)
     ∷ small
@@ -244,6 +245,7 @@ WorkedCovers =
     ∷ (6 ∷ 5 ∷ [])
     ∷ (7 ∷ 5 ∷ [])
     ∷ (7 ∷ 6 ∷ [])
+    ∷ (7 ∷ 7 ∷ [])
     ∷ (7 ∷ 7 ∷ [])
     ∷ (7 ∷ 7 ∷ [])
     ∷ (8 ∷ 7 ∷ [])
