@@ -1,5 +1,5 @@
 -- The physical addresses that an access leaves, by the translations of its bytes' own addresses.
-use Rattle.std.specs.Prelude.{if◌then◌else◌, nat_lt, Ok, Err}
+use Rattle.std.specs.Prelude.{if◌then◌else◌, Ok, Err}
 use Rattle.std.proofs.Common.{◌≡◌, ℕ, ◌+◌, Bool, true, false, List, length, sym, refl, ap, ◌∙◌, arith}
 use Rattle.word.specs.Bits.{wrap}
 use Rattle.word.specs.Ram.{within, word_at}
@@ -7,19 +7,19 @@ use Rattle.tlb.specs.declared.access.Kind.{Kind}
 use Rattle.tlb.specs.declared.access.Kind.TheVariants.{Read, Write}
 use Rattle.tlb.specs.Answers.{Answer}
 use Rattle.operations.specs.Answers.{Placed, Verdict, fault_at, outside_at}
-use Rattle.operations.specs.Place.{next_page, in_page, crosses, goes_on, first_pa, first_outside, verdict_of}
+use Rattle.operations.specs.Place.{next_page, in_page, crosses, goes_on, first_pa, verdict_of}
 use Rattle.operations.specs.PlaceLaws.{same-outside, lowest}
 use Rattle.operations.specs.Bytes.{value_at, load_of, insn_of, got_by}
 use Rattle.operations.specs.BytesLaws.{address_in}
-use Rattle.operations.specs.Ends.{loaded_from, store_end_by, load_end, store_end, fetch_end}
+use Rattle.operations.specs.Ends.{loaded_from, load_end, store_end, fetch_end}
 use Rattle.operations.specs.declared.place.Place.{Place}
 use Rattle.operations.specs.declared.place.Place.TheVariants.{Whole, Split}
 use Rattle.mmu.specs.Results.{Stepped}
 use Rattle.mmu.specs.Core.{after_access, bank_now}
 use Rattle.mmu.specs.Step.{translate_in, located_of, one_page, both_pages}
-use Rattle.mmu.specs.Ops.{stepped_now, fetch_stepped_now, located_now, translate_of, read_of, write_of, fetch_of}
+use Rattle.mmu.specs.Ops.{stepped_now, located_now, translate_of, read_of, write_of, fetch_of}
 use Rattle.mmu.specs.OpLaws.{on_now}
-use Rattle.mmu.specs.OwnAddress.{own_answer, Own, Ready, lies-own}
+use Rattle.mmu.specs.OwnAddress.{lies-own}
 use Rattle.mmu.specs.AbortAddress.{LoadsKeepFirst, LoadAborts, StoreAborts, FetchAborts}
 use Rattle.mmu.specs.declared.core_state.Core.{Core}
 
