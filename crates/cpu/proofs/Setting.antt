@@ -20,7 +20,7 @@ use Rattle.operations.specs.declared.call.Call.TheVariants.{Translate, DataPa, F
 use Rattle.operations.specs.declared.call.Call.TheVariants.{Mark, General, Abort, Census}
 use Rattle.operations.specs.declared.call.Reply.TheVariants.{Refused}
 use Rattle.cpu.specs.EveryCallEnds.{zeroes}
-use Rattle.cpu.specs.Setters.{loads, goes_to_memory, OnlyLoadsSetLast, OthersKeepAbort}
+use Rattle.cpu.specs.Setters.{loads, goes_to_memory, OnlyLoadCallsSetLast, OtherCallsKeepAbort}
 use Rattle.cpu.specs.Step.{ends, store_by, refused_or, missed_by, run_of, step_of}
 
 differ : true ≡ false → ⊥
@@ -115,17 +115,17 @@ module _ (c : Core) (base : ℕ) (ram : List ℕ) where
   run-abort (Abort x) h = refl
   run-abort (Census first pages) h = refl
 
-pub only-loads-set-last : OnlyLoadsSetLast
+pub only-load-calls-set-last : OnlyLoadCallsSetLast
 unfolding step_of
-only-loads-set-last c base ram call h = go (missed_by c base ram call)
+only-load-calls-set-last c base ram call h = go (missed_by c base ram call)
   where
     go : (n : ℕ) → (refused_or n (λ k. ends c (Refused k)) (run_of c base ram call)).core.last_pa ≡ c.last_pa
     go zero = run-last c base ram call h
     go (suc n) = refl
 
-pub others-keep-abort : OthersKeepAbort
+pub other-calls-keep-abort : OtherCallsKeepAbort
 unfolding step_of
-others-keep-abort c base ram call h = go (missed_by c base ram call)
+other-calls-keep-abort c base ram call h = go (missed_by c base ram call)
   where
     go : (n : ℕ) → (refused_or n (λ k. ends c (Refused k)) (run_of c base ram call)).core.abort_pa ≡ c.abort_pa
     go zero = run-abort c base ram call h

@@ -20,7 +20,7 @@ use Rattle.mmu.specs.Step.{translate_in, located_of, one_page, both_pages}
 use Rattle.mmu.specs.Ops.{stepped_now, located_now, translate_of, read_of, write_of, fetch_of}
 use Rattle.mmu.specs.OpLaws.{on_now}
 use Rattle.mmu.specs.OwnAddress.{lies-own}
-use Rattle.mmu.specs.AbortAddress.{LoadsKeepFirst, LoadAborts, StoreAborts, FetchAborts}
+use Rattle.mmu.specs.AbortAddress.{LoadsLeaveOwnFirst, LoadLeavesFailing, StoreLeavesFailing, FetchLeavesFailing}
 use Rattle.mmu.specs.declared.core_state.Core.{Core}
 
 -- the lowest byte outside has its own address
@@ -80,9 +80,9 @@ kept-first place last abort base ram va n = go (verdict_of base (length ram) pla
     go (Ok x) = refl
     go (Err out) = refl
 
-pub loads-keep-first : LoadsKeepFirst
+pub own-first : LoadsLeaveOwnFirst
 unfolding read_of after_access
-loads-keep-first c base ram va n place e =
+own-first c base ram va n place e =
     first-translated c base ram va n Read place e
     ∙ ap Ok (sym (ap (λ (x : Placed). (load_end x c.last_pa c.abort_pa base ram va n).last_pa) e ∙ kept-first place c.last_pa c.abort_pa base ram va n))
 
@@ -96,9 +96,9 @@ store-keeps : (place : Place) (abort base : ℕ) (ram : List ℕ) (va n i q : �
 unfolding store_end
 store-keeps place abort base ram va n i q e = rw e refl
 
-pub load-aborts : LoadAborts
+pub load-failing : LoadLeavesFailing
 unfolding read_of after_access
-load-aborts c base ram va n place i q ready e v h =
+load-failing c base ram va n place i q ready e v h =
     let w = lies-own c base ram va n Read ready i h place e in (
       w.pa,
       w.answer,
@@ -109,9 +109,9 @@ load-aborts c base ram va n place i q ready e v h =
           ∙ sym w.there,
     )
 
-pub store-aborts : StoreAborts
+pub store-failing : StoreLeavesFailing
 unfolding write_of after_access
-store-aborts c base ram va n place i q ready e v h =
+store-failing c base ram va n place i q ready e v h =
     let w = lies-own c base ram va n Write ready i h place e in (
       w.pa,
       w.answer,
@@ -122,6 +122,6 @@ store-aborts c base ram va n place i q ready e v h =
           ∙ sym w.there,
     )
 
-pub fetch-aborts : FetchAborts
+pub fetch-failing : FetchLeavesFailing
 unfolding fetch_of fetch_end insn_of after_access
-fetch-aborts c base ram va pa e h = rw (e, h) refl
+fetch-failing c base ram va pa e h = rw (e, h) refl
