@@ -1,6 +1,6 @@
 -- Which calls set `last_pa` and `abort_pa`.
 use Rattle.std.specs.Prelude.{Option, Some, None, Ok, Err}
-use Rattle.std.proofs.Common.{◌≡◌, ℕ, zero, suc, ◌+◌, Bool, true, false, List, refl, ◌∙◌}
+use Rattle.std.proofs.Common.{◌≡◌, ℕ, zero, suc, ◌+◌, true, false, List, refl, ◌∙◌}
 use Rattle.word.specs.Bits.{wrap, align_down}
 use Rattle.word.specs.Ram.{width_of, bytes_in}
 use Rattle.word.specs.declared.ram.Width.{Width}
@@ -12,7 +12,7 @@ use Rattle.mmu.specs.Core.{reg_of, set_reg, after_access}
 use Rattle.mmu.specs.Ops.{translate_of, write_of, ram_after_write, fetch_of, fetch_pa_of, data_pa_of}
 use Rattle.mmu.specs.OpLaws.{store-last}
 use Rattle.mmu.specs.declared.core_state.Core.{Core}
-use Rattle.exec.specs.Ops.{Registered, registered, written, applied_of, with_regs, after_register_write, set_level, set_mark, abort_of}
+use Rattle.exec.specs.Ops.{registered, written, applied_of, with_regs, after_register_write, set_level, set_mark, abort_of}
 use Rattle.exec.specs.Sys.{with_par, at_of, tlbi_core, on_stored, zero_of, sys_by, op_of, sys_of}
 use Rattle.operations.specs.Answers.{StoreAnswer}
 use Rattle.operations.specs.declared.call.Call.{Call}
