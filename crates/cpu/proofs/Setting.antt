@@ -1,6 +1,6 @@
 -- Which calls set `last_pa` and `abort_pa`.
 use Rattle.std.specs.Prelude.{Option, Some, None, Ok, Err}
-use Rattle.std.proofs.Common.{◌≡◌, ℕ, zero, suc, ◌+◌, Bool, true, false, List, refl, ◌∙◌}
+use Rattle.std.proofs.Common.{◌≡◌, ℕ, zero, suc, ◌+◌, true, false, List, refl, ◌∙◌}
 use Rattle.word.specs.Bits.{wrap, align_down}
 use Rattle.word.specs.Ram.{width_of, bytes_in}
 use Rattle.word.specs.declared.ram.Width.{Width}
@@ -12,7 +12,7 @@ use Rattle.mmu.specs.Core.{reg_of, set_reg, after_access}
 use Rattle.mmu.specs.Ops.{translate_of, write_of, ram_after_write, fetch_of, fetch_pa_of, data_pa_of}
 use Rattle.mmu.specs.OpLaws.{store-last}
 use Rattle.mmu.specs.declared.core_state.Core.{Core}
-use Rattle.exec.specs.Ops.{Registered, registered, written, applied_of, with_regs, after_register_write, set_level, set_mark, abort_of}
+use Rattle.exec.specs.Ops.{registered, written, applied_of, with_regs, after_register_write, set_level, set_mark, abort_of}
 use Rattle.exec.specs.Sys.{with_par, at_of, tlbi_core, on_stored, zero_of, sys_by, op_of, sys_of}
 use Rattle.operations.specs.Answers.{StoreAnswer}
 use Rattle.operations.specs.declared.call.Call.{Call}
@@ -20,7 +20,7 @@ use Rattle.operations.specs.declared.call.Call.TheVariants.{Translate, DataPa, F
 use Rattle.operations.specs.declared.call.Call.TheVariants.{Mark, General, Abort, Census}
 use Rattle.operations.specs.declared.call.Reply.TheVariants.{Refused}
 use Rattle.cpu.specs.EveryCallEnds.{zeroes}
-use Rattle.cpu.specs.Setters.{loads, goes_to_memory, OnlyLoadsSetLast, OthersKeepAbort}
+use Rattle.cpu.specs.Setters.{loads, goes_to_memory, OnlyLoadCallsSetLast, OtherCallsKeepAbort}
 use Rattle.cpu.specs.Step.{ends, store_by, refused_or, missed_by, run_of, step_of}
 
 differ : true ≡ false → ⊥
@@ -115,17 +115,17 @@ module _ (c : Core) (base : ℕ) (ram : List ℕ) where
   run-abort (Abort x) h = refl
   run-abort (Census first pages) h = refl
 
-pub only-loads-set-last : OnlyLoadsSetLast
+pub only-load-calls-set-last : OnlyLoadCallsSetLast
 unfolding step_of
-only-loads-set-last c base ram call h = go (missed_by c base ram call)
+only-load-calls-set-last c base ram call h = go (missed_by c base ram call)
   where
     go : (n : ℕ) → (refused_or n (λ k. ends c (Refused k)) (run_of c base ram call)).core.last_pa ≡ c.last_pa
     go zero = run-last c base ram call h
     go (suc n) = refl
 
-pub others-keep-abort : OthersKeepAbort
+pub other-calls-keep-abort : OtherCallsKeepAbort
 unfolding step_of
-others-keep-abort c base ram call h = go (missed_by c base ram call)
+other-calls-keep-abort c base ram call h = go (missed_by c base ram call)
   where
     go : (n : ℕ) → (refused_or n (λ k. ends c (Refused k)) (run_of c base ram call)).core.abort_pa ≡ c.abort_pa
     go zero = run-abort c base ram call h

@@ -29,7 +29,7 @@ use Rattle.exec.specs.Ops.{registered, written, after_register_write}
 use Rattle.exec.specs.Sys.{on_stored, zero_of, zero_ram, sys_by, sys_ram_by, op_of, sys_of, sys_ram}
 use Rattle.operations.specs.Check.{Row, checks_of, first_of, missed_of, is_width, known, kept}
 use Rattle.operations.specs.Replies.{translation, loading, storing, fetching, reaching, registering}
-use Rattle.cpu.specs.Step.{ends, load_by, store_by, store_ram_by, refused_or, missed_by, run_of, ram_of, step_of, ram_after}
+use Rattle.cpu.specs.Step.{load_by, store_by, store_ram_by, refused_or, missed_by, run_of, ram_of, ram_after}
 use Rattle.operations.specs.declared.call.Call.TheVariants.{Translate, DataPa, FetchPa, Load as LoadCall, Store as StoreCall, Fetch, System}
 use Rattle.operations.specs.declared.call.Call.TheVariants.{Register as RegisterCall, Level, Mark, General, Abort, Census}
 use Rattle.operations.specs.declared.call.Reply.TheVariants.{Refused, Done, Value, Faults, Fault, Stopped}

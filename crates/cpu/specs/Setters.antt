@@ -38,10 +38,10 @@ goes_to_memory c (General n v) = false
 goes_to_memory c (Abort x) = false
 goes_to_memory c (Census first pages) = false
 
-abbrev pub OnlyLoadsSetLast : Type 0
-OnlyLoadsSetLast =
+abbrev pub OnlyLoadCallsSetLast : Type 0
+OnlyLoadCallsSetLast =
     (c : Core) (base : ℕ) (ram : List ℕ) (call : Call) → loads call ≡ false → (step_of c base ram call).core.last_pa ≡ c.last_pa
 
-abbrev pub OthersKeepAbort : Type 0
-OthersKeepAbort =
+abbrev pub OtherCallsKeepAbort : Type 0
+OtherCallsKeepAbort =
     (c : Core) (base : ℕ) (ram : List ℕ) (call : Call) → goes_to_memory c call ≡ false → (step_of c base ram call).core.abort_pa ≡ c.abort_pa

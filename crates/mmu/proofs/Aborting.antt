@@ -1,5 +1,5 @@
 -- The physical addresses that an access leaves, by the translations of its bytes' own addresses.
-use Rattle.std.specs.Prelude.{if◌then◌else◌, nat_lt, Ok, Err}
+use Rattle.std.specs.Prelude.{if◌then◌else◌, Ok, Err}
 use Rattle.std.proofs.Common.{◌≡◌, ℕ, ◌+◌, Bool, true, false, List, length, sym, refl, ap, ◌∙◌, arith}
 use Rattle.word.specs.Bits.{wrap}
 use Rattle.word.specs.Ram.{within, word_at}
@@ -7,20 +7,20 @@ use Rattle.tlb.specs.declared.access.Kind.{Kind}
 use Rattle.tlb.specs.declared.access.Kind.TheVariants.{Read, Write}
 use Rattle.tlb.specs.Answers.{Answer}
 use Rattle.operations.specs.Answers.{Placed, Verdict, fault_at, outside_at}
-use Rattle.operations.specs.Place.{next_page, in_page, crosses, goes_on, first_pa, first_outside, verdict_of}
+use Rattle.operations.specs.Place.{next_page, in_page, crosses, goes_on, first_pa, verdict_of}
 use Rattle.operations.specs.PlaceLaws.{same-outside, lowest}
 use Rattle.operations.specs.Bytes.{value_at, load_of, insn_of, got_by}
 use Rattle.operations.specs.BytesLaws.{address_in}
-use Rattle.operations.specs.Ends.{loaded_from, store_end_by, load_end, store_end, fetch_end}
+use Rattle.operations.specs.Ends.{loaded_from, load_end, store_end, fetch_end}
 use Rattle.operations.specs.declared.place.Place.{Place}
 use Rattle.operations.specs.declared.place.Place.TheVariants.{Whole, Split}
 use Rattle.mmu.specs.Results.{Stepped}
 use Rattle.mmu.specs.Core.{after_access, bank_now}
 use Rattle.mmu.specs.Step.{translate_in, located_of, one_page, both_pages}
-use Rattle.mmu.specs.Ops.{stepped_now, fetch_stepped_now, located_now, translate_of, read_of, write_of, fetch_of}
+use Rattle.mmu.specs.Ops.{stepped_now, located_now, translate_of, read_of, write_of, fetch_of}
 use Rattle.mmu.specs.OpLaws.{on_now}
-use Rattle.mmu.specs.OwnAddress.{own_answer, Own, Ready, lies-own}
-use Rattle.mmu.specs.AbortAddress.{LoadsKeepFirst, LoadAborts, StoreAborts, FetchAborts}
+use Rattle.mmu.specs.OwnAddress.{lies-own}
+use Rattle.mmu.specs.AbortAddress.{LoadsLeaveOwnFirst, LoadLeavesFailing, StoreLeavesFailing, FetchLeavesFailing}
 use Rattle.mmu.specs.declared.core_state.Core.{Core}
 
 -- the lowest byte outside has its own address
@@ -80,9 +80,9 @@ kept-first place last abort base ram va n = go (verdict_of base (length ram) pla
     go (Ok x) = refl
     go (Err out) = refl
 
-pub loads-keep-first : LoadsKeepFirst
+pub own-first : LoadsLeaveOwnFirst
 unfolding read_of after_access
-loads-keep-first c base ram va n place e =
+own-first c base ram va n place e =
     first-translated c base ram va n Read place e
     ∙ ap Ok (sym (ap (λ (x : Placed). (load_end x c.last_pa c.abort_pa base ram va n).last_pa) e ∙ kept-first place c.last_pa c.abort_pa base ram va n))
 
@@ -96,9 +96,9 @@ store-keeps : (place : Place) (abort base : ℕ) (ram : List ℕ) (va n i q : �
 unfolding store_end
 store-keeps place abort base ram va n i q e = rw e refl
 
-pub load-aborts : LoadAborts
+pub load-failing : LoadLeavesFailing
 unfolding read_of after_access
-load-aborts c base ram va n place i q ready e v h =
+load-failing c base ram va n place i q ready e v h =
     let w = lies-own c base ram va n Read ready i h place e in (
       w.pa,
       w.answer,
@@ -109,9 +109,9 @@ load-aborts c base ram va n place i q ready e v h =
           ∙ sym w.there,
     )
 
-pub store-aborts : StoreAborts
+pub store-failing : StoreLeavesFailing
 unfolding write_of after_access
-store-aborts c base ram va n place i q ready e v h =
+store-failing c base ram va n place i q ready e v h =
     let w = lies-own c base ram va n Write ready i h place e in (
       w.pa,
       w.answer,
@@ -122,6 +122,6 @@ store-aborts c base ram va n place i q ready e v h =
           ∙ sym w.there,
     )
 
-pub fetch-aborts : FetchAborts
+pub fetch-failing : FetchLeavesFailing
 unfolding fetch_of fetch_end insn_of after_access
-fetch-aborts c base ram va pa e h = rw (e, h) refl
+fetch-failing c base ram va pa e h = rw (e, h) refl

@@ -1,12 +1,12 @@
 -- What the core keeps: general registers, `last_pa` and `abort_pa`.
-use Rattle.std.proofs.Common.{◌≡◌, ℕ, ◌+◌, ◌<◌, ◌≤◌, Bool, true, false, List, length, refl, ap, arith, lt-ltb, le-ltb, ltb}
-use Rattle.std.specs.Prelude.{if◌then◌else◌, ◌≢◌, slice_index, slice_set}
+use Rattle.std.proofs.Common.{◌≡◌, Bool, true, false, length, refl, arith, lt-ltb, le-ltb, ltb}
+use Rattle.std.specs.Prelude.{if◌then◌else◌, slice_index, slice_set}
 use Rattle.std.proofs.lemmas.List.{get_or-set_same, get_or-set_other}
 use Rattle.std.proofs.Math.ListN.{length-set}
 use Rattle.mmu.specs.Bare.{zeros}
 use Rattle.mmu.specs.Core.{fresh_core, reg_of, set_reg, after_access}
-use Rattle.mmu.specs.Ops.{translate_of, translate_access_of, read_of, write_of, fetch_of, fetch_pa_of, data_pa_of}
-use Rattle.mmu.specs.OpLaws.{Operation, translate, access, load, store, fetch, fetch_pa, data_pa}
+use Rattle.mmu.specs.Ops.{translate_of, translate_access_of, write_of, fetch_of, fetch_pa_of, data_pa_of}
+use Rattle.mmu.specs.OpLaws.{translate, access, load, store, fetch, fetch_pa, data_pa}
 use Rattle.mmu.specs.Kept.{ReadsWhatIsWritten, OthersStay, LastIsWritten, ReadsZero, DropsWrites, NothingElse, RegisterRows, NeighbourRows}
 use Rattle.mmu.specs.Kept.{OnlyLoadsSetLast, TranslationsKeepAbort}
 

@@ -13,8 +13,8 @@ use Rattle.mmu.specs.OwnAddress.{own_answer, Ready}
 use Rattle.mmu.specs.declared.core_state.Core.{Core}
 
 -- a load that is placed, whether it then aborts or not, leaves in `last_pa` what the translation of its own address answers
-abbrev pub LoadsKeepFirst : Type 0
-LoadsKeepFirst =
+abbrev pub LoadsLeaveOwnFirst : Type 0
+LoadsLeaveOwnFirst =
     (c : Core) (base : ℕ) (ram : List ℕ) (va n : ℕ) (place : Place) → (located_now c (word_at base ram 8) va n Read).placed ≡ Ok place
     → (translate_of c (word_at base ram 8) va Read).answer ≡ Ok (read_of c base ram va n).core.last_pa
 
@@ -25,14 +25,14 @@ AbortedAt c base ram va n kind after =
     → verdict_of base (length ram) place n ≡ Err (outside_at i q) → i < n
     → (pa : ℕ) × (own_answer c (word_at base ram 8) va kind i ≡ Ok pa) × (wrap after.abort_pa ≡ wrap pa)
 
-abbrev pub LoadAborts : Type 0
-LoadAborts = (c : Core) (base : ℕ) (ram : List ℕ) (va n : ℕ) → AbortedAt c base ram va n Read (read_of c base ram va n).core
+abbrev pub LoadLeavesFailing : Type 0
+LoadLeavesFailing = (c : Core) (base : ℕ) (ram : List ℕ) (va n : ℕ) → AbortedAt c base ram va n Read (read_of c base ram va n).core
 
-abbrev pub StoreAborts : Type 0
-StoreAborts = (c : Core) (base : ℕ) (ram : List ℕ) (va n : ℕ) → AbortedAt c base ram va n Write (write_of c base ram va n).core
+abbrev pub StoreLeavesFailing : Type 0
+StoreLeavesFailing = (c : Core) (base : ℕ) (ram : List ℕ) (va n : ℕ) → AbortedAt c base ram va n Write (write_of c base ram va n).core
 
 -- a fetch of whose four bytes one lies outside leaves what its translation answered
-abbrev pub FetchAborts : Type 0
-FetchAborts =
+abbrev pub FetchLeavesFailing : Type 0
+FetchLeavesFailing =
     (c : Core) (base : ℕ) (ram : List ℕ) (va pa : ℕ) → (fetch_stepped_now c (word_at base ram 8) va).answer ≡ Ok pa
     → within base (length ram) 4 pa ≡ false → (fetch_of c base ram va).core.abort_pa ≡ pa

@@ -4,7 +4,7 @@ ghost use Rattle.word.specs.Ram.{word_at};
 ghost use Rattle.mmu.specs.Bare.{bare_of};
 ghost use Rattle.tlb.specs.Asks.{tlb_asks};
 ghost use Rattle.mmu.specs.ByteMeaning.{LoadsOwnBytes, StoresOwnBytes, StoreLeavesOthers};
-ghost use Rattle.mmu.specs.AbortAddress.{LoadsKeepFirst, LoadAborts, StoreAborts, FetchAborts};
+ghost use Rattle.mmu.specs.AbortAddress.{LoadsLeaveOwnFirst, LoadLeavesFailing, StoreLeavesFailing, FetchLeavesFailing};
 ghost use Rattle.mmu.specs.Kept.{ReadsWhatIsWritten, OthersStay, LastIsWritten, ReadsZero, DropsWrites, NothingElse};
 ghost use Rattle.mmu.specs.Kept.{RegisterRows, NeighbourRows, OnlyLoadsSetLast, TranslationsKeepAbort};
 ghost use Rattle.mmu.specs.Ops.{located_now, write_of, ram_after_write, fetch_of};
@@ -73,8 +73,8 @@ pub fn setters_of_addresses()
 // aborts; in `abort_pa` what the failing byte's own address translates to. It rules out a `last_pa` that is the failing
 // byte's, and an abort that leaves `abort_pa`.
 pub fn addresses_left()
-    ensures load_first { LoadsKeepFirst }
-    ensures load_aborts { LoadAborts }
-    ensures store_aborts { StoreAborts }
-    ensures fetch_aborts { FetchAborts }
+    ensures own_first { LoadsLeaveOwnFirst }
+    ensures load_failing { LoadLeavesFailing }
+    ensures store_failing { StoreLeavesFailing }
+    ensures fetch_failing { FetchLeavesFailing }
 {}

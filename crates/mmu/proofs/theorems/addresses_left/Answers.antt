@@ -1,14 +1,14 @@
-use Rattle.mmu.proofs.Aborting.{loads-keep-first, load-aborts, store-aborts, fetch-aborts}
+use Rattle.mmu.proofs.Aborting.{own-first, load-failing, store-failing, fetch-failing}
 use Rattle.mmu.proofs.theorems.addresses_left.Goals as goal
 
-pub returns-clause-load_first : goal.returns-clause-load_first
-returns-clause-load_first c = loads-keep-first
+pub returns-clause-own_first : goal.returns-clause-own_first
+returns-clause-own_first c = own-first
 
-pub returns-clause-load_aborts : goal.returns-clause-load_aborts
-returns-clause-load_aborts c = load-aborts
+pub returns-clause-load_failing : goal.returns-clause-load_failing
+returns-clause-load_failing c = load-failing
 
-pub returns-clause-store_aborts : goal.returns-clause-store_aborts
-returns-clause-store_aborts c = store-aborts
+pub returns-clause-store_failing : goal.returns-clause-store_failing
+returns-clause-store_failing c = store-failing
 
-pub returns-clause-fetch_aborts : goal.returns-clause-fetch_aborts
-returns-clause-fetch_aborts c = fetch-aborts
+pub returns-clause-fetch_failing : goal.returns-clause-fetch_failing
+returns-clause-fetch_failing c = fetch-failing

@@ -1,8 +1,0 @@
-use Rattle.cpu.proofs.Setting.{only-loads-set-last, others-keep-abort}
-use Rattle.cpu.proofs.theorems.setters_of_addresses.Goals as goal
-
-pub returns-clause-last : goal.returns-clause-last
-returns-clause-last c = only-loads-set-last
-
-pub returns-clause-abort : goal.returns-clause-abort
-returns-clause-abort c = others-keep-abort
