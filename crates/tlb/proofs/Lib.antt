@@ -3,3 +3,4 @@ pub mod Levels
 pub mod Misses
 pub mod Translations
 pub mod EveryRun
+mod Hands

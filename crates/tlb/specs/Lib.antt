@@ -14,6 +14,7 @@ pub mod Live
 pub mod Cells
 pub mod Refines
 pub mod Step
+pub mod Hand
 pub mod Asks
 pub mod Maintenance
 pub mod Counting
