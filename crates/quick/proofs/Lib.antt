@@ -1,0 +1,5 @@
+-- Laws that the answers cite.
+mod ByHint
+mod OnePage
+mod OneStore
+mod Fetching
