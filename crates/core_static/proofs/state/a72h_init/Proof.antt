@@ -29,9 +29,9 @@ use Rattle.mmu.specs.contracts.core_state.Core.{the_row as T}
 use Rattle.mmu.proofs.core_state.Core.TheLaws.{the_row_laws}
 use Rattle.mmu.specs.contracts.core_state.Core.new as g
 use Rattle.mmu.proofs.core_state.Core.new.Met.{met}
-use Rattle.core_static.specs.contracts.a72h_init as f
-use Rattle.core_static.proofs.a72h_init.Statement.{statement}
-use Rattle.core_static.proofs.a72h_init.Code as code
+use Rattle.core_static.specs.contracts.state.a72h_init as f
+use Rattle.core_static.proofs.state.a72h_init.Statement.{statement}
+use Rattle.core_static.proofs.state.a72h_init.Code as code
 
 abbrev stayed : Stays f.ended.signature.params f.ended.kept
 stayed = (stay_dropped _ yes, tt)
