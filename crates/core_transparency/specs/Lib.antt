@@ -1,0 +1,3 @@
+pub mod OnCore
+pub mod Run
+pub mod Counters
