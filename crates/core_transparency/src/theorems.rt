@@ -3,6 +3,7 @@
 ghost use Rattle.core_transparency.specs.OnCore.{made_is_core};
 ghost use Rattle.core_transparency.specs.OnCore.{faithful_on_core, faithful_step_on_core, counts_on_core};
 ghost use Rattle.core_transparency.specs.Counters.{hits_on_core, walks_on_core, sums_on_core};
+ghost use Rattle.core_transparency.specs.Whole.{call_keeps_whole, made_is_whole, made_is_saved};
 
 /// Such a core is the core after the list. Rules out a call that promises one core and leaves another.
 pub fn made_core()
@@ -24,4 +25,13 @@ pub fn counters_on_core()
     ensures hits { hits_on_core }
     ensures walks { walks_on_core }
     ensures sums { sums_on_core }
+{}
+
+/// What words hold of a core is all of it, after every list of calls: place 0 of the arrays by level, which has no word,
+/// stays 0, and the core comes back out of its words whole. So it does where words were restored before. Rules out a call
+/// that writes a part of which nothing is saved.
+pub fn whole_core()
+    ensures call { call_keeps_whole }
+    ensures list { made_is_whole }
+    ensures saved { made_is_saved }
 {}

@@ -3,6 +3,7 @@ use Rattle.std.specs.Prelude.{if◌then◌else◌, List, [], ◌∷◌, ℕ, ◌
 use Rattle.word.specs.Bits.{flag}
 use Rattle.word.specs.Tables.{table}
 use Rattle.sysreg.specs.Regs.{levels}
+use Rattle.sysreg.specs.declared.{regs.Control.Control, regs.SysRegs.SysRegs}
 use Rattle.tlb.specs.Cache.{hint_at, entry_at}
 use Rattle.tlb.specs.Count.{tally_at}
 use Rattle.tlb.specs.declared.{entry.Entry.Entry, hint.Hint.Hint, Inval.Inval}
@@ -113,21 +114,25 @@ word_of c p =
 unfoldable pub words_of : Core → List ℕ
 words_of c = table WORDS (word_of c)
 
--- The nine arrays by level have a place 0 that no operation reads or writes and no word holds: the core with those as after reset.
+-- The nine arrays by level have a place 0, which is 0 after reset, no operation writes and no word holds: the core with 0 there.
 abbrev pub placed : List ℕ → List ℕ
 placed xs = levels (slice_index xs 1) (slice_index xs 2) (slice_index xs 3)
 
+abbrev pub held_control : Control → Control
+held_control k =
+    record k { sctlr = placed k.sctlr; tcr = placed k.tcr; ttbr0 = placed k.ttbr0 }
+
+abbrev pub held_sys : SysRegs → SysRegs
+held_sys s =
+    record s {
+      mair = placed s.mair;
+      vbar = placed s.vbar;
+      elr = placed s.elr;
+      spsr = placed s.spsr;
+      esr = placed s.esr;
+      far = placed s.far;
+    }
+
 unfoldable pub held : Core → Core
 held c =
-    record c {
-      control = record c.control { sctlr = placed c.control.sctlr; tcr = placed c.control.tcr; ttbr0 = placed c.control.ttbr0 };
-      sys =
-          record c.sys {
-            mair = placed c.sys.mair;
-            vbar = placed c.sys.vbar;
-            elr = placed c.sys.elr;
-            spsr = placed c.sys.spsr;
-            esr = placed c.sys.esr;
-            far = placed c.sys.far;
-          };
-    }
+    record c { control = held_control c.control; sys = held_sys c.sys }
