@@ -30,12 +30,12 @@ abbrev is_at : Option ℕ → Type 0
 is_at (Some n) = Unit {0}
 is_at None = ⊥
 
-abbrev address : Option ℕ → ℕ
+abbrev pub address : Option ℕ → ℕ
 address (Some n) = n
 address None = 0
 
 -- a test that chose a place
-chosen : (b : Bool) (x : Option ℕ) (pa : ℕ) → (if b then x else None) ≡ Some pa → (b ≡ true) × (x ≡ Some pa)
+pub chosen : (b : Bool) (x : Option ℕ) (pa : ℕ) → (if b then x else None) ≡ Some pa → (b ≡ true) × (x ≡ Some pa)
 chosen true x pa e = (refl, e)
 chosen false x pa e = absurd (subst is_at (sym e) tt)
 

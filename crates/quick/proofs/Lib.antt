@@ -3,3 +3,6 @@ mod ByHint
 mod OnePage
 mod OneStore
 mod Fetching
+mod Checks
+mod Setting
+mod Line

@@ -9,6 +9,7 @@ use Rattle.tlb.specs.Tlb.{tlb_with}
 use Rattle.tlb.specs.Resolve.{fetch_after}
 use Rattle.operations.specs.Place.{placed_one}
 use Rattle.operations.specs.Ends.{load_end, store_end, store_ram_end, fetch_end, reached_by}
+use Rattle.exec.specs.Sys.{done_with, zero_of, zero_ram}
 use Rattle.cpu.specs.Step.{Stepped, step_of}
 use Rattle.call_words.specs.Replies.{code_by, value_by}
 use Rattle.call_words.specs.declared.op.DecodedCall.{DecodedCall}
@@ -33,6 +34,10 @@ pub record Nothing (c : Core) (old n v : ℕ) (d : Core) : Type 0 where
 abbrev pub Says : DecodedCall → Core → ℕ → List ℕ → ℕ → ℕ → ℕ → Core → Type 0
 Says (Known x) c base ram old n v d = Tells (step_of c base ram x) old n v d
 Says Unknown c base ram old n v d = Nothing c old n v d
+
+-- a call that is handed neither RAM nor a word, whatever RAM stands there
+pub record Sets (call : DecodedCall) (c : Core) (n : ℕ) (d : Core) : Type 0 where
+  pub on : (base : ℕ) (ram : List ℕ) (old : ℕ) → Says call c base ram old n old d
 
 -- AN ACCESS OF ONE PAGE, on the core that its translation left
 
@@ -67,3 +72,8 @@ OfTwo c base ram va n None = Unit {0}
 abbrev pub PutTwo : Core → ℕ → List ℕ → ℕ → ℕ → ℕ → Bool → List ℕ → Type 0
 PutTwo c base ram va n v true ys = (record { core = c; answer = Ok tt } ≡ write_of c base ram va n) × (ys ≡ ram_after_write c base ram va n v)
 PutTwo c base ram va n v false ys = ys ≡ ram
+
+-- A LINE OF DC ZVA by its hint: whether it is cleared, and the bytes after it
+abbrev pub Cleared : Core → ℕ → List ℕ → ℕ → Bool → List ℕ → Type 0
+Cleared c base ram va true ys = (zero_of 8 c base ram va ≡ done_with c) × (ys ≡ zero_ram 8 c base ram va)
+Cleared c base ram va false ys = ys ≡ ram

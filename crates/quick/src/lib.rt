@@ -4,5 +4,8 @@
 pub mod fetch;
 pub mod load;
 pub mod reach;
+pub mod settings;
+mod split;
 pub mod store;
+pub mod system;
 pub mod translation;

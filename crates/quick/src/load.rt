@@ -8,14 +8,14 @@ ghost use Rattle.operations.specs.Place.{in_page};
 ghost use Rattle.operations.specs.declared.call.Call.TheVariants as Call;
 ghost use Rattle.mmu.specs.Hand.{NeedsWalkNow};
 ghost use Rattle.cpu.specs.Step.{step_of, after_load};
-ghost use Rattle.quick.specs.Says.{Tells, Clear, OfTwo, ended_of};
+ghost use Rattle.quick.specs.Says.{Tells, Clear, ended_of};
 
+use crate::split;
 use call_words::reply;
 use fault::Fault;
 use mmu::core_state::Core;
 use operations::call::Reply;
-use operations::place::Pages;
-use operations::{bytes, check, lookup, place};
+use operations::{check, place};
 use tlb::access::Kind;
 use word::ram;
 use word::ram::Width;
@@ -40,31 +40,6 @@ fn long(core: &mut Core, va: u64, size: u64, ans: &mut u64, base: u64, ram: &[u8
     reply::answer(r, ans)
 }
 
-// The value of a load over two pages whose hints both serve and whose bytes lie in RAM, and where its first byte lies.
-#[inline(always)]
-fn of_two(core: &Core, va: u64, width: Width, base: u64, ram: &[u8]) -> Option<(u64, u64)>
-    ensures { OfTwo core.now base ram.now va (bytes_in width) result }
-{
-    let on = lookup::on_at(core.bank(), core.privilege.level);
-    if place::crosses(on, va, width.bytes()) {
-        if let Some(pa) = core.tlb.by_hint(core.privilege, va, Kind::Read) {
-            let next = place::next_page(va);
-            if let Some(pa2) = core.tlb.by_hint(core.privilege, next, Kind::Read) {
-                let in_page = place::in_page(va);
-                if let Some(v) = bytes::read_both(
-                    base,
-                    ram,
-                    Pages { in_page, pa, pa2 },
-                    width.bytes(),
-                ) {
-                    return Some((pa, v));
-                }
-            }
-        }
-    }
-    None
-}
-
 // What is not one page by its hint, its entry or a walk.
 #[inline(always)]
 fn rest(core: &mut Core, va: u64, width: Width, ans: &mut u64, base: u64, ram: &[u8]) -> u64
@@ -72,8 +47,8 @@ fn rest(core: &mut Core, va: u64, width: Width, ans: &mut u64, base: u64, ram: &
 {
     if core.privilege.level < 4 {
         if base <= u64::MAX - ram.len() as u64 {
-            if let Some((pa, v)) = of_two(core, va, width, base, ram) {
-                core.last_pa = pa;
+            if let Some((first, v)) = split::load(core, va, width, base, ram) {
+                core.last_pa = first;
                 *ans = v;
                 return 0;
             }

@@ -4,18 +4,17 @@ ghost use Rattle.word.specs.Ram.{word_at, bytes_in};
 ghost use Rattle.tlb.specs.Step.{hint_in};
 ghost use Rattle.tlb.specs.declared.access.Kind.TheVariants.{Write};
 ghost use Rattle.operations.specs.Place.{in_page};
-ghost use Rattle.operations.specs.AtOnce.{both_inside, both_stored};
 ghost use Rattle.operations.specs.declared.call.Call.TheVariants as Call;
 ghost use Rattle.mmu.specs.Hand.{NeedsWalkNow};
 ghost use Rattle.cpu.specs.Step.{step_of, ram_after, after_store};
-ghost use Rattle.quick.specs.Says.{Tells, Clear, PutTwo, stored_of, put_of};
+ghost use Rattle.quick.specs.Says.{Tells, Clear, stored_of, put_of};
 
+use crate::split;
 use call_words::reply;
 use fault::Fault;
 use mmu::core_state::Core;
 use operations::call::Reply;
-use operations::place::Pages;
-use operations::{bytes, check, lookup, place};
+use operations::{check, place};
 use tlb::access::Kind;
 use word::ram;
 use word::ram::Width;
@@ -51,44 +50,6 @@ fn long(
     reply::answer(r, ans)
 }
 
-// The bytes of a store over two pages, where all lie in RAM by one test, and whether it was made.
-#[inline(always)]
-fn put_both(base: u64, ram: &mut [u8], p: Pages, width: Width, value: u64) -> bool
-    requires some { 0 < p.in_page }
-    requires few { p.in_page < bytes_in width }
-    ensures made { result ≡ both_inside base (length ram.old) p (bytes_in width) }
-    ensures after { ram.new ≡ both_stored base ram.old p (bytes_in width) value }
-{
-    match width {
-        Width::Half => bytes::write_pair(base, ram, p.pa, p.pa2, value),
-        Width::Byte | Width::Word | Width::Double => bytes::write_both(
-            base,
-            ram,
-            p,
-            width.bytes(),
-            value,
-        ),
-    }
-}
-
-// A store over two pages whose hints both serve and whose bytes lie in RAM, and whether it was made.
-#[inline(always)]
-fn put_two(core: &Core, va: u64, width: Width, value: u64, base: u64, ram: &mut [u8]) -> bool
-    ensures { PutTwo core.now base ram.old va (bytes_in width) value result ram.new }
-{
-    let on = lookup::on_at(core.bank(), core.privilege.level);
-    if place::crosses(on, va, width.bytes()) {
-        if let Some(pa) = core.tlb.by_hint(core.privilege, va, Kind::Write) {
-            let next = place::next_page(va);
-            if let Some(pa2) = core.tlb.by_hint(core.privilege, next, Kind::Write) {
-                let in_page = place::in_page(va);
-                return put_both(base, ram, Pages { in_page, pa, pa2 }, width, value);
-            }
-        }
-    }
-    false
-}
-
 // What is not one page by its hint, its entry or a walk.
 #[inline(always)]
 fn rest(
@@ -105,7 +66,7 @@ fn rest(
 {
     if core.privilege.level < 4 {
         if base <= u64::MAX - ram.len() as u64 {
-            if put_two(core, va, width, value, base, ram) {
+            if split::store(core, va, width, value, base, ram) {
                 return 0;
             }
         }

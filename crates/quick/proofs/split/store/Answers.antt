@@ -8,7 +8,7 @@ use Rattle.mmu.specs.Core.{bank_now}
 use Rattle.operations.specs.Place.{next_page, crosses}
 use Rattle.operations.specs.AtOnce.{both_inside, both_stored}
 use Rattle.quick.proofs.OneStore.{put-two}
-use Rattle.quick.proofs.store.put_two.Goals as goal
+use Rattle.quick.proofs.split.store.Goals as goal
 
 pub returns-in-Some-by_hint : goal.returns-in-Some-by_hint
 returns-in-Some-by_hint c =

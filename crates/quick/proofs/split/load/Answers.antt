@@ -9,7 +9,7 @@ use Rattle.operations.specs.Place.{in_page, next_page, crosses}
 use Rattle.operations.specs.AtOnce.{both_at}
 use Rattle.operations.proofs.Both.{both-loads}
 use Rattle.quick.proofs.OnePage.{two-read}
-use Rattle.quick.proofs.load.of_two.Goals as goal
+use Rattle.quick.proofs.split.load.Goals as goal
 
 pub returns-in-Some-read_both : goal.returns-in-Some-read_both
 returns-in-Some-read_both c =
