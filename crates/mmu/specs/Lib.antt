@@ -4,6 +4,7 @@ pub mod Bare
 pub mod Core
 pub mod Step
 pub mod Ops
+pub mod Hand
 -- Laws that the crates above cite.
 pub mod Parts
 pub mod Changes

@@ -2,6 +2,7 @@
 ghost use Rattle.std.specs.Prelude.{◌≡◌};
 ghost use Rattle.word.specs.Ram.{word_at, bytes_in};
 ghost use Rattle.mmu.specs.Ops.{translate_of, past_hint_of, translate_fetch_of, translate_access_of};
+ghost use Rattle.mmu.specs.Hand.{HandedNow, KeptNow, NeedsWalkNow};
 ghost use Rattle.mmu.specs.Ops.{read_of, write_of, ram_after_write, fetch_of, fetch_pa_of, data_pa_of};
 
 use crate::core_state::Core;
@@ -13,16 +14,46 @@ use tlb::access::Kind;
 use word::ram::Width;
 
 impl Core {
-    // A translation that no hint serves. Out of line, and reads the registers itself, so that a hint pays nothing for
-    // it.
-    #[inline(never)]
+    // The answer of a translation that no hint serves, where no walk is needed. RAM is read by no code here.
+    #[inline(always)]
     #[tactic(auto, unfolding(crate::specs::Ops::past_hint_of, crate::specs::Step::past_hint_step, crate::specs::Core::after_access))]
-    fn past_hint(&mut self, base: u64, ram: &[u8], va: u64, kind: Kind) -> Result<u64, Fault>
+    pub fn at_hand(
+        &mut self,
+        base: u64,
+        ram: &[u8],
+        va: u64,
+        kind: Kind,
+    ) -> Option<Result<u64, Fault>>
+        ensures answer { HandedNow self.old (word_at base ram.now 8) va kind result self.new }
+        ensures kept { KeptNow self.old result self.new }
+    {
+        let s = self.bank();
+        let privilege = self.privilege;
+        self.tlb.at_hand(s, privilege, va, kind, base, ram)
+    }
+
+    // A translation that needs a walk.
+    #[inline(always)]
+    #[tactic(auto, unfolding(crate::specs::Ops::past_hint_of, crate::specs::Step::past_hint_step, crate::specs::Core::after_access))]
+    pub fn by_walk(&mut self, base: u64, ram: &[u8], va: u64, kind: Kind) -> Result<u64, Fault>
+        requires { NeedsWalkNow self.old (word_at base ram.now 8) va kind }
         ensures { record { core = self.new; answer = result } ≡ past_hint_of self.old (word_at base ram.now 8) va kind }
     {
         let s = self.bank();
         let privilege = self.privilege;
-        self.tlb.past_hint(s, privilege, va, kind, base, ram)
+        self.tlb.by_walk(s, privilege, va, kind, base, ram)
+    }
+
+    // A translation that no hint serves. Out of line, and reads the registers itself, so that a hint pays nothing for
+    // it.
+    #[inline(never)]
+    fn past_hint(&mut self, base: u64, ram: &[u8], va: u64, kind: Kind) -> Result<u64, Fault>
+        ensures { record { core = self.new; answer = result } ≡ past_hint_of self.old (word_at base ram.now 8) va kind }
+    {
+        match self.at_hand(base, ram, va, kind) {
+            Some(answer) => answer,
+            None => self.by_walk(base, ram, va, kind),
+        }
     }
 
     // Where an access of the kind to va goes: the data hint first, which is asked once. The fetch hint is neither used
@@ -50,7 +81,7 @@ impl Core {
 
     // The translations of an access, before a byte moves: one, or two where it crosses a page. The first one's effects
     // remain where the second faults.
-    #[tactic(auto, unfolding(crate::specs::Ops::translate_access_of, crate::specs::Ops::located_now, crate::specs::Step::located_of, crate::specs::Step::translate_in, crate::specs::Core::after_access))]
+    #[tactic(auto, unfolding(crate::specs::Ops::translate_access_of, crate::specs::Ops::located_now, crate::specs::Step::located_of, crate::specs::Ops::translate_of, crate::specs::Ops::stepped_now, crate::specs::Core::after_access))]
     pub fn translate_access(
         &mut self,
         base: u64,
@@ -63,15 +94,14 @@ impl Core {
             ≡ translate_access_of self.old (word_at base ram.now 8) va (bytes_in width) kind }
     {
         let s = self.bank();
-        let privilege = self.privilege;
-        let first = self.tlb.translate(s, privilege, va, kind, base, ram);
+        let on = lookup::on_at(s, self.privilege.level);
+        let first = self.translate(base, ram, va, kind);
         let pa = first.map_err(|fault| FaultAt { addr: va, fault })?;
-        let on = lookup::on_at(s, privilege.level);
         if !place::crosses(on, va, width.bytes()) {
             return Ok(Place::Whole(pa));
         }
         let next = place::next_page(va);
-        let second = self.tlb.translate(s, privilege, next, kind, base, ram);
+        let second = self.translate(base, ram, next, kind);
         let pa2 = second.map_err(|fault| FaultAt { addr: next, fault })?;
         let in_page = place::in_page(va);
         Ok(Place::Split(Pages { in_page, pa, pa2 }))

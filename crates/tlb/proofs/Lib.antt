@@ -5,3 +5,4 @@ pub mod Misses
 pub mod Translations
 pub mod EveryRun
 pub mod Worked
+mod Hands

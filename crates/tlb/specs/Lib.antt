@@ -13,6 +13,7 @@ pub mod Model
 pub mod Live
 pub mod Cells
 pub mod Step
+pub mod Hand
 pub mod Asks
 pub mod Maintenance
 pub mod Counting

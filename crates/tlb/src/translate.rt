@@ -11,15 +11,15 @@ use crate::hint::{FetchHint, Hint};
 use crate::resolve::{Asked, Query};
 use crate::{Tlb, hint, resolve};
 use fault::Fault;
-use walk::regime::Bank;
+use walk::regime::{Bank, Regime};
 
 impl Tlb {
     ghost use Rattle.tlb.specs.Step.{access_of, stored, miss_in, after_miss, hint_in, past_hint_in, after_past_hint};
     ghost use Rattle.tlb.specs.Step.{translation_in, tlb_after, fetch_in, fetched_in};
+    ghost use Rattle.tlb.specs.Hand.{Handed, AfterHanded, Ready, AfterReady, NeedsWalk, hinted_by};
 
-    // By a walk: a leaf becomes an entry and is judged, a fault makes none. Out of line, so that a hit pays nothing for
-    // it.
-    #[inline(never)]
+    // By a walk: a leaf becomes an entry and is judged, a fault makes none.
+    #[inline(always)]
     #[tactic(auto, unfolding(crate::specs::Resolve::by_walk, crate::specs::Tlb::put_of))]
     fn walk(
         &mut self,
@@ -48,10 +48,58 @@ impl Tlb {
         }
     }
 
-    // A translation that no hint serves: with stage 1 off the address itself; else by the entry of its page, or by a
-    // walk.
+    // Where the data hint sends an access, if it serves.
+    pub fn by_hint(&self, privilege: Privilege, va: u64, kind: Kind) -> Option<u64>
+        ensures { result ≡ hint_in privilege va kind self.now }
+    {
+        if privilege.may_hint(kind) {
+            self.cache.hints[hint::data_slot(va, kind)].find(privilege.level, va)
+        } else {
+            None
+        }
+    }
+
+    // An allowed address becomes a hint, where one may serve.
+    #[inline(always)]
+    #[tactic(auto, using(crate::proofs::Hands::hint_kept))]
+    fn keep(&mut self, privilege: Privilege, va: u64, kind: Kind, answer: Result<u64, Fault>)
+        ensures { self.new ≡ hinted_by self.old privilege va kind answer }
+    {
+        if privilege.may_hint(kind)
+            && let Ok(pa) = answer
+        {
+            self.cache.hints[hint::data_slot(va, kind)] = Hint::new(va, privilege.level, pa);
+        }
+    }
+
+    // The answer where no walk is needed: with stage 1 off the address itself, or by the entry of its page. RAM is read
+    // by no code here.
     #[inline(always)]
     #[tactic(auto, unfolding(crate::specs::Resolve::ask_of, crate::specs::Resolve::resolve_with, crate::specs::Translate::miss_with, crate::specs::Tlb::get_of))]
+    fn ready(
+        &mut self,
+        s: Bank,
+        privilege: Privilege,
+        va: u64,
+        kind: Kind,
+        base: u64,
+        ram: &[u8],
+    ) -> Option<Result<u64, Fault>>
+        ensures answer { Ready (access_of s privilege va kind (word_at base ram.now 8)) self.old result }
+        ensures after { AfterReady (access_of s privilege va kind (word_at base ram.now 8)) self.old result self.new }
+    {
+        let Asked::Of(q) = resolve::ask(s, privilege, va) else {
+            return Some(Ok(va));
+        };
+        if let Some(e) = self.get(q.tag) {
+            self.counts.add_hit(privilege.level);
+            return Some(e.judge(privilege.is_user(q.regime, kind), kind, va));
+        }
+        None
+    }
+
+    // A translation that no hint serves, and that leaves none.
+    #[inline(always)]
     fn miss(
         &mut self,
         s: Bank,
@@ -64,29 +112,64 @@ impl Tlb {
         ensures answer { result ≡ (miss_in (access_of s privilege va kind (word_at base ram.now 8)) self.old).answer }
         ensures after { self.new ≡ after_miss (access_of s privilege va kind (word_at base ram.now 8)) self.old }
     {
-        let Asked::Of(q) = resolve::ask(s, privilege, va) else {
-            return Ok(va);
-        };
-        if let Some(e) = self.get(q.tag) {
-            self.counts.add_hit(privilege.level);
-            return e.judge(privilege.is_user(q.regime, kind), kind, va);
+        match self.ready(s, privilege, va, kind, base, ram) {
+            Some(answer) => answer,
+            None => {
+                let q = resolve::query_of(s, Regime::of_level(privilege.level), va);
+                self.walk(q, s, privilege, va, kind, base, ram)
+            }
         }
-        self.walk(q, s, privilege, va, kind, base, ram)
     }
 
-    // Where the data hint sends an access, if it serves.
-    pub fn by_hint(&self, privilege: Privilege, va: u64, kind: Kind) -> Option<u64>
-        ensures { result ≡ hint_in privilege va kind self.now }
+    // What is at hand of a translation that no hint serves: an answer leaves a hint, where one may serve.
+    #[inline(always)]
+    #[tactic(auto, unfolding(crate::specs::Translate::applied))]
+    pub fn at_hand(
+        &mut self,
+        s: Bank,
+        privilege: Privilege,
+        va: u64,
+        kind: Kind,
+        base: u64,
+        ram: &[u8],
+    ) -> Option<Result<u64, Fault>>
+        ensures answer { Handed (access_of s privilege va kind (word_at base ram.now 8)) self.old result }
+        ensures after { AfterHanded (access_of s privilege va kind (word_at base ram.now 8)) self.old result self.new }
     {
-        if privilege.may_hint(kind) {
-            self.cache.hints[hint::data_slot(va, kind)].find(privilege.level, va)
-        } else {
-            None
+        match self.ready(s, privilege, va, kind, base, ram) {
+            Some(answer) => {
+                self.keep(privilege, va, kind, answer);
+                Some(answer)
+            }
+            None => None,
         }
+    }
+
+    // A translation that needs a walk. It leaves a hint, where one may serve.
+    #[inline(always)]
+    #[tactic(auto, unfolding(crate::specs::Translate::applied))]
+    pub fn by_walk(
+        &mut self,
+        s: Bank,
+        privilege: Privilege,
+        va: u64,
+        kind: Kind,
+        base: u64,
+        ram: &[u8],
+    ) -> Result<u64, Fault>
+        requires { NeedsWalk (access_of s privilege va kind (word_at base ram.now 8)) self.old }
+        ensures answer { result
+            ≡ (past_hint_in (access_of s privilege va kind (word_at base ram.now 8)) self.old).answer }
+        ensures after { self.new ≡ after_past_hint (access_of s privilege va kind (word_at base ram.now 8)) self.old }
+    {
+        let q = resolve::query_of(s, Regime::of_level(privilege.level), va);
+        let answer = self.walk(q, s, privilege, va, kind, base, ram);
+        self.keep(privilege, va, kind, answer);
+        answer
     }
 
     // A translation that no hint serves. It leaves one, where one may serve.
-    #[tactic(auto, unfolding(crate::specs::Translate::applied))]
+    #[inline(always)]
     pub fn past_hint(
         &mut self,
         s: Bank,
@@ -100,13 +183,10 @@ impl Tlb {
             ≡ (past_hint_in (access_of s privilege va kind (word_at base ram.now 8)) self.old).answer }
         ensures after { self.new ≡ after_past_hint (access_of s privilege va kind (word_at base ram.now 8)) self.old }
     {
-        let answer = self.miss(s, privilege, va, kind, base, ram);
-        if privilege.may_hint(kind)
-            && let Ok(pa) = answer
-        {
-            self.cache.hints[hint::data_slot(va, kind)] = Hint::new(va, privilege.level, pa);
+        match self.at_hand(s, privilege, va, kind, base, ram) {
+            Some(answer) => answer,
+            None => self.by_walk(s, privilege, va, kind, base, ram),
         }
-        answer
     }
 
     // Where an access of the kind to va goes: the hint first, where it may serve.

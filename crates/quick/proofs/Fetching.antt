@@ -1,0 +1,166 @@
+-- A fetch, and where one goes, by its one translation; and where a data read goes, on plain values.
+use Rattle.std.specs.Prelude.{◌≡◌, length, false, ◌+◌, ◌^◌, ◌<◌, List, ℕ, Option, Some, None, Ok, Err}
+use Rattle.std.proofs.Common.{refl, sym, ap, ◌∙◌, arith, le-ltb, lt-ltb, subst}
+use Rattle.std.proofs.lemmas.List.{set-get_or}
+use Rattle.word.specs.Ram.{word_at}
+use Rattle.fault.specs.declared.Fault.{Fault}
+use Rattle.exception.specs.Abort.{insn_abort_at}
+use Rattle.tlb.specs.Answers.{Answer}
+use Rattle.tlb.specs.Entry.{blank}
+use Rattle.tlb.specs.Hint.{no_hint, data_slot, fetch_found}
+use Rattle.tlb.specs.Cache.{entry_at, set_entry}
+use Rattle.tlb.specs.Tlb.{tlb_with}
+use Rattle.tlb.specs.Resolve.{counted_by, kept_by, fetch_after}
+use Rattle.tlb.specs.Step.{access_of, slot_for, miss_in}
+use Rattle.tlb.specs.Model.{Access}
+use Rattle.tlb.specs.Translate.{fetch_with, fetch_end as fetch_chosen, fetch_applied, applied}
+use Rattle.tlb.specs.declared.access.Kind.TheVariants.{Read, Fetch}
+use Rattle.tlb.specs.declared.{entry.Entry.Entry, hint.Hint.Hint, resolve.Resolved.Resolved}
+use Rattle.mmu.specs.Core.{after_access, bank_now}
+use Rattle.mmu.specs.Ops.{with_tlb, fetch_stepped_now, translate_of, past_hint_of, translate_fetch_of, fetch_of, fetch_pa_of, data_pa_of}
+use Rattle.mmu.specs.Step.{past_hint_step, translate_fetch_in}
+use Rattle.mmu.specs.Results.{Translated, Fetched}
+use Rattle.mmu.specs.declared.core_state.Core.{Core}
+use Rattle.operations.specs.Bytes.{insn_of}
+use Rattle.operations.specs.Ends.{external, fetch_end, fetched_from, reached_by}
+use Rattle.operations.specs.Replies.{reaching}
+use Rattle.operations.specs.Check.{missed_of, passes}
+use Rattle.operations.specs.declared.call.Call.TheVariants.{Fetch as FetchCall, FetchPa, DataPa}
+use Rattle.operations.specs.declared.call.Reply.TheVariants.{Refused}
+use Rattle.cpu.specs.Step.{Stepped, step_of, run_of, after_fetch, after_address}
+use Rattle.call_words.specs.Replies.{code_by, value_by}
+use Rattle.quick.specs.Says.{Clear, Tells, fetched_of, reached_of, hint_left}
+use Rattle.quick.proofs.ByHint.{tells}
+
+-- THE FETCH HINT
+
+module _ (c : Core) (memory : ℕ → Option ℕ) (va : ℕ) where
+  abbrev a : Access
+  a = access_of (bank_now c) c.privilege va Fetch memory
+
+  abbrev missed : Resolved
+  missed = miss_in a c.tlb
+
+  with_entries : List Entry → Core
+  with_entries es = with_tlb c (tlb_with c.tlb (record c.tlb.cache { entries = es }) c.tlb.counts)
+
+  -- the entry put back as it was
+  same : with_tlb c (tlb_with c.tlb (set_entry c.tlb.cache (slot_for a) (entry_at c.tlb.cache (slot_for a))) c.tlb.counts) ≡ c
+  unfolding after_access with_entries
+  same i = with_entries (set-get_or c.tlb.cache.entries (slot_for a) blank i)
+
+  pub fetch-serves : (pa : ℕ) → fetch_found c.tlb.cache.fetch c.privilege.level va ≡ Some pa → record { core = c; answer = Ok pa } ≡ translate_fetch_of c memory va
+  unfolding translate_fetch_of fetch_stepped_now translate_fetch_in fetch_with fetch_chosen
+  fetch-serves pa h = sym (rw h (λ i. record { core = same i; answer = Ok pa }))
+
+  with_hints : List Hint → Translated
+  with_hints hs =
+      record {
+        core =
+            with_tlb c
+            (tlb_with c.tlb
+            (record c.tlb.cache {
+              fetch = fetch_after c.privilege.level va missed.answer c.tlb.cache.fetch;
+              hints = hs;
+              entries = (set_entry c.tlb.cache (slot_for a) (kept_by missed.source (entry_at c.tlb.cache (slot_for a)) missed.made)).entries;
+            })
+            (counted_by missed.source c.privilege.level c.tlb.counts));
+        answer = missed.answer;
+      }
+
+  abbrev left : Translated → Translated
+  left t = record { core = hint_left t.core va t.answer; answer = t.answer }
+
+  fetch-misses : fetch_found c.tlb.cache.fetch c.privilege.level va ≡ None → left (past_hint_of c memory va Fetch) ≡ translate_fetch_of c memory va
+  unfolding translate_fetch_of fetch_stepped_now translate_fetch_in fetch_with fetch_chosen fetch_applied past_hint_of past_hint_step applied after_access with_hints
+  fetch-misses h = rw h (λ i. with_hints (set-get_or c.tlb.cache.hints (data_slot va Fetch) no_hint i))
+
+  pub fetch-missed : (d e : Core) (x : Answer) → fetch_found c.tlb.cache.fetch c.privilege.level va ≡ None
+      → record { core = d; answer = x } ≡ past_hint_of c memory va Fetch → e ≡ hint_left d va x → record { core = e; answer = x } ≡ translate_fetch_of c memory va
+  fetch-missed d e x h ed ee = ap (λ (y : Core). record { core = y; answer = x }) ee ∙ ap left ed ∙ fetch-misses h
+
+-- THE ENDS OF A FETCH
+
+module _ (d : Core) (base : ℕ) (ram : List ℕ) (va : ℕ) where
+  abbrev by : Answer → Fetched
+  by x = fetched_of d x base ram va
+
+  pub end-fault : (f : Fault) (x : Answer) → x ≡ Err f → record { core = d; answer = Err (insn_abort_at va f) } ≡ by x
+  unfolding fetch_end after_access
+  end-fault f x e = ap by (sym e)
+
+  module _ (x : Answer) (pa : ℕ) (e : x ≡ Ok pa) (w : Option ℕ) (ew : w ≡ insn_of base ram pa) where
+    abbrev from_ram : Option ℕ → Fetched
+    from_ram i = record { core = after_access d d.tlb d.last_pa (fetched_from pa i d.abort_pa va).abort_pa; answer = (fetched_from pa i d.abort_pa va).answer }
+
+    pub end-insn : (v : ℕ) → w ≡ Some v → record { core = d; answer = Ok v } ≡ by x
+    unfolding fetch_end after_access
+    end-insn v q = ap from_ram (sym q ∙ ew) ∙ ap by (sym e)
+
+    pub end-outside : w ≡ None → record { core = record d { abort_pa = pa }; answer = Err (insn_abort_at va external) } ≡ by x
+    unfolding fetch_end after_access
+    end-outside q = ap from_ram (sym q ∙ ew) ∙ ap by (sym e)
+
+-- PAST THE CHECKS, by the translation
+
+module _ (c : Core) (base : ℕ) (ram : List ℕ) (va : ℕ) (clear : Clear c base (length ram)) (long : length ram < 2 ^ 64) where
+  fetch-step : after_fetch (fetch_of c base ram va) ≡ step_of c base ram (FetchCall va)
+  unfolding step_of run_of missed_of
+  fetch-step =
+      let level = le-ltb 3 c.privilege.level (omega (arith, clear.0)) in
+      let window : passes base (length ram) ≡ false = le-ltb (2 ^ 64) (base + length ram) (omega (arith, long, clear.1)) in
+      rw (level, window) refl
+
+  pa-step : after_address (fetch_pa_of c (word_at base ram 8) va) ≡ step_of c base ram (FetchPa va)
+  unfolding step_of run_of missed_of
+  pa-step =
+      let level = le-ltb 3 c.privilege.level (omega (arith, clear.0)) in
+      let window : passes base (length ram) ≡ false = le-ltb (2 ^ 64) (base + length ram) (omega (arith, long, clear.1)) in
+      rw (level, window) refl
+
+  data-step : after_address (data_pa_of c (word_at base ram 8) va) ≡ step_of c base ram (DataPa va)
+  unfolding step_of run_of missed_of
+  data-step =
+      let level = le-ltb 3 c.privilege.level (omega (arith, clear.0)) in
+      let window : passes base (length ram) ≡ false = le-ltb (2 ^ 64) (base + length ram) (omega (arith, long, clear.1)) in
+      rw (level, window) refl
+
+  module _ (e : Core) (x : Answer) where
+    fetched-is : record { core = e; answer = x } ≡ translate_fetch_of c (word_at base ram 8) va → fetched_of e x base ram va ≡ fetch_of c base ram va
+    unfolding fetch_of translate_fetch_of after_access
+    fetched-is et = ap (λ (t : Translated). fetched_of t.core t.answer base ram va) et
+
+    pub told-fetch : record { core = e; answer = x } ≡ translate_fetch_of c (word_at base ram 8) va → (old n v : ℕ) (f : Core)
+        → Tells (after_fetch (fetched_of e x base ram va)) old n v f → Tells (step_of c base ram (FetchCall va)) old n v f
+    told-fetch et old n v f t = subst (λ (s : Stepped). Tells s old n v f) (ap after_fetch (fetched-is et) ∙ fetch-step) t
+
+    reached-is : record { core = e; answer = x } ≡ translate_fetch_of c (word_at base ram 8) va → reached_of e x ≡ fetch_pa_of c (word_at base ram 8) va
+    unfolding fetch_pa_of translate_fetch_of
+    reached-is et = ap (λ (t : Translated). reached_of t.core t.answer) et
+
+    pub told-pa : record { core = e; answer = x } ≡ translate_fetch_of c (word_at base ram 8) va → (old n v : ℕ)
+        → n ≡ code_by (reaching (reached_by x)) → v ≡ value_by (reaching (reached_by x)) old → Tells (step_of c base ram (FetchPa va)) old n v e
+    told-pa et old n v en ev = tells _ e (reaching (reached_by x)) n old v (ap after_address (reached-is et) ∙ pa-step) en ev
+
+    data-is : record { core = e; answer = x } ≡ translate_of c (word_at base ram 8) va Read → reached_of e x ≡ data_pa_of c (word_at base ram 8) va
+    unfolding data_pa_of translate_of
+    data-is et = ap (λ (t : Translated). reached_of t.core t.answer) et
+
+    pub told-data : record { core = e; answer = x } ≡ translate_of c (word_at base ram 8) va Read → (old n v : ℕ)
+        → n ≡ code_by (reaching (reached_by x)) → v ≡ value_by (reaching (reached_by x)) old → Tells (step_of c base ram (DataPa va)) old n v e
+    told-data et old n v en ev = tells _ e (reaching (reached_by x)) n old v (ap after_address (data-is et) ∙ data-step) en ev
+
+-- A LEVEL ABOVE 3
+
+module _ (c : Core) (base : ℕ) (ram : List ℕ) (va : ℕ) (h : 3 < c.privilege.level) where
+  pub high-fetch : record { core = c; reply = Refused 1 } ≡ step_of c base ram (FetchCall va)
+  unfolding step_of run_of missed_of
+  high-fetch = rw (lt-ltb 3 c.privilege.level h) refl
+
+  pub high-pa : record { core = c; reply = Refused 1 } ≡ step_of c base ram (FetchPa va)
+  unfolding step_of run_of missed_of
+  high-pa = rw (lt-ltb 3 c.privilege.level h) refl
+
+  pub high-data : record { core = c; reply = Refused 1 } ≡ step_of c base ram (DataPa va)
+  unfolding step_of run_of missed_of
+  high-data = rw (lt-ltb 3 c.privilege.level h) refl

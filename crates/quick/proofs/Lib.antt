@@ -1,0 +1,8 @@
+-- Laws that the answers cite.
+mod ByHint
+mod OnePage
+mod OneStore
+mod Fetching
+mod Checks
+mod Setting
+mod Line

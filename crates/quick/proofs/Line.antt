@@ -1,0 +1,52 @@
+-- DC ZVA by a hint: where the hint of the line's page serves, its stores are one.
+use Rattle.std.specs.Prelude.{if◌then◌else◌, ◌≡◌, Bool, true, false, ◌+◌, ◌-◌, ◌*◌, ◌/◌, ◌%◌, ◌^◌, ◌<◌, ◌≤◌, ◌==◌, List, ℕ, length, Option, Some, None, bit_or}
+use Rattle.std.proofs.Common.{refl, sym, ap, ◌∙◌, arith}
+use Rattle.std.proofs.lemmas.Nat.{or_mod, or_block}
+use Rattle.std.specs.Int.Bits.{or_zero_l, or_zero_r}
+use Rattle.word.specs.Ram.{within, stored}
+use Rattle.tlb.specs.Access.{may_hint}
+use Rattle.tlb.specs.Cache.{hint_at}
+use Rattle.tlb.specs.Hint.{on_page, data_slot, hint_key, hint_found}
+use Rattle.tlb.specs.Step.{hint_in}
+use Rattle.tlb.specs.declared.access.Kind.TheVariants.{Write}
+use Rattle.mmu.specs.declared.core_state.Core.{Core}
+use Rattle.exec.specs.ZeroLine.{zero-steady}
+use Rattle.quick.specs.Says.{Cleared}
+use Rattle.quick.proofs.ByHint.{address, chosen, hint-serves}
+
+-- a frame whose address of a line's first byte is a line's: it adds up with each byte of it
+or-line : (p v i : ℕ) → v % 64 ≡ 0 → bit_or p v % 64 ≡ 0 → i < 64 → bit_or p (v + i) ≡ bit_or p v + i
+or-line p v i low flat small =
+    let bare : p % 64 ≡ 0 = sym (or_zero_r (p % 64)) ∙ ap (bit_or (p % 64)) (sym low) ∙ sym (or_mod p v 6) ∙ flat in
+    let frame : p / 64 * 64 + 0 ≡ p = omega arith in
+    let byte : v / 64 * 64 + i ≡ v + i = omega arith in
+    let first : v / 64 * 64 + 0 ≡ v = omega arith in
+    let one : bit_or p (v + i) ≡ bit_or (p / 64) (v / 64) * 64 + i
+    = (λ k. bit_or (sym frame k) (sym byte k)) ∙ or_block 6 (p / 64) (v / 64) 0 i (omega arith) small
+    ∙ ap (λ (x : ℕ). bit_or (p / 64) (v / 64) * 64 + x) (or_zero_l i) in
+    let none : bit_or p v ≡ bit_or (p / 64) (v / 64) * 64 + 0
+    = (λ k. bit_or (sym frame k) (sym first k)) ∙ or_block 6 (p / 64) (v / 64) 0 0 (omega arith) (omega arith)
+    ∙ ap (λ (x : ℕ). bit_or (p / 64) (v / 64) * 64 + x) (or_zero_l 0) in
+    omega (arith, one, none)
+
+module _ (c : Core) (va pa : ℕ) (line : va % 64 ≡ 0) (found : hint_in c.privilege va Write c.tlb ≡ Some pa) (flat : pa % 64 ≡ 0) where
+  -- each store of the line by the same hint
+  found_at : (j : ℕ) → j < 8 → hint_in c.privilege (va + 8 * j) Write c.tlb ≡ Some (pa + 8 * j)
+  found_at j h =
+      let page : (va + 8 * j) / 4096 ≡ va / 4096 = omega arith in
+      let low : (va + 8 * j) % 4096 ≡ va % 4096 + 8 * j = omega arith in
+      let may : (may_hint c.privilege Write ≡ true) × (hint_found (hint_at c.tlb.cache (data_slot va Write)) c.privilege.level va ≡ Some pa)
+      = chosen (may_hint c.privilege Write) (hint_found (hint_at c.tlb.cache (data_slot va Write)) c.privilege.level va) pa found in
+      let key : (((hint_at c.tlb.cache (data_slot va Write)).key == hint_key va c.privilege.level) ≡ true) × (Some (on_page (hint_at c.tlb.cache (data_slot va Write)).pa va) ≡ Some pa)
+      = chosen ((hint_at c.tlb.cache (data_slot va Write)).key == hint_key va c.privilege.level) (Some (on_page (hint_at c.tlb.cache (data_slot va Write)).pa va)) pa may.1 in
+      let sum : on_page (hint_at c.tlb.cache (data_slot va Write)).pa va ≡ pa = ap address key.1 in
+      let each = or-line (hint_at c.tlb.cache (data_slot va Write)).pa (va % 4096) (8 * j) (omega arith) (ap (λ (x : ℕ). x % 64) sum ∙ flat) (omega arith) in
+      rw (page, may.0, key.0, low) (ap Some (each ∙ ap (λ (x : ℕ). x + 8 * j) sum))
+
+  pub cleared : (base : ℕ) (ram : List ℕ) → va + 64 ≤ 2 ^ 64 → (f : Bool) (ys : List ℕ) → f ≡ within base (length ram) 64 pa → ys ≡ stored base ram 64 pa 0
+      → Cleared c base ram va f ys
+  unfolding stored
+  cleared base ram room true ys ef ey =
+      let z = zero-steady base c 8 ram va pa (omega arith) (omega arith) (sym ef) (λ memory j h. hint-serves c memory (va + 8 * j) Write (pa + 8 * j) (found_at j h)) in
+      (z.0, ey ∙ sym z.1)
+  cleared base ram room false ys ef ey = ey ∙ rw (← ef) refl

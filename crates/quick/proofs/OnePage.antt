@@ -1,0 +1,124 @@
+-- A load of one page, by its one translation, on plain values.
+use Rattle.std.specs.Prelude.{if◌then◌else◌, ◌≡◌, not, length, Bool, true, false, ◌&&◌, ◌+◌, ◌^◌, ◌<◌, ◌≤◌, List, ℕ, Option, Some, None, Ok, Err}
+use Rattle.std.proofs.Common.{refl, sym, ap, ◌∙◌, arith, le-ltb, lt-ltb, subst}
+use native.Mathlib.Nat.{mod-eq_of_lt}
+use Rattle.word.specs.Bits.{wrap}
+use Rattle.word.specs.Ram.{word_at, bytes_in, width_of}
+use Rattle.walk.specs.Regime.{regime_of, stage1_on}
+use Rattle.tlb.specs.Answers.{Answer}
+use Rattle.tlb.specs.declared.access.Kind.TheVariants.{Read}
+use Rattle.fault.specs.declared.Fault.{Fault}
+use Rattle.mmu.specs.Core.{after_access, bank_now}
+use Rattle.mmu.specs.Ops.{stepped_now, located_now, translate_of, loaded_by, read_of}
+use Rattle.mmu.specs.Step.{located_of, both_pages, one_page, translate_in}
+use Rattle.mmu.specs.Results.{Translated, Loaded, Located, Stepped as Stepped₁}
+use Rattle.mmu.specs.declared.core_state.Core.{Core}
+use Rattle.operations.specs.Answers.{Got}
+use Rattle.operations.specs.Place.{in_page, next_page, crosses, goes_on, placed_one, placed_both}
+use Rattle.operations.specs.Ends.{data_abort, external, load_end, loaded_from}
+use Rattle.operations.specs.declared.place.Place.TheVariants.{Whole, Split}
+use Rattle.operations.proofs.Moves.{whole-value, whole-abort}
+use Rattle.word.specs.declared.ram.Width.{Width}
+use Rattle.word.specs.declared.ram.Width.TheVariants.{Byte, Half, Word, Double}
+use Rattle.operations.specs.Check.{missed_of, passes, known}
+use Rattle.operations.specs.declared.call.Call.TheVariants.{Load}
+use Rattle.operations.specs.declared.call.Reply.TheVariants.{Refused}
+use Rattle.cpu.specs.Step.{Stepped, step_of, run_of, after_load, load_by, refused_or, ends}
+use Rattle.quick.specs.Says.{Clear, Tells, ended_of}
+use Rattle.tlb.specs.Step.{hint_in}
+use Rattle.operations.specs.Bytes.{load_of}
+use Rattle.quick.proofs.ByHint.{hint-serves}
+
+and-false : (x : Bool) → x && false ≡ false
+and-false true = refl
+and-false false = refl
+
+goes-not : (a : Answer) → goes_on a false ≡ false
+goes-not (Ok pa) = refl
+goes-not (Err f) = refl
+
+module _ (c : Core) (base : ℕ) (ram : List ℕ) (va n : ℕ) (near : n ≤ in_page va) where
+  pub stays_in : (a : Answer) → goes_on a (crosses (stage1_on (bank_now c) (regime_of c.privilege.level)) va n) ≡ false
+  stays_in a = ap (λ (b : Bool). goes_on a (stage1_on (bank_now c) (regime_of c.privilege.level) && b)) (le-ltb (in_page va) n near) ∙ ap (goes_on a) (and-false (stage1_on (bank_now c) (regime_of c.privilege.level))) ∙ goes-not a
+
+  abbrev ended : Translated → Loaded
+  ended t = loaded_by t.core t.core.tlb (load_end (placed_one va t.answer) t.core.last_pa t.core.abort_pa base ram va n)
+
+  read_one : read_of c base ram va n ≡ ended (translate_of c (word_at base ram 8) va Read)
+  unfolding read_of located_now located_of translate_of stepped_now after_access
+  read_one = rw (stays_in (translate_of c (word_at base ram 8) va Read).answer) refl
+
+  pub ended-is : (d : Core) (a : Answer) → record { core = d; answer = a } ≡ translate_of c (word_at base ram 8) va Read → ended_of d a base ram va n ≡ read_of c base ram va n
+  ended-is d a et = ap ended et ∙ sym read_one
+
+-- the ends
+module _ (d : Core) (base : ℕ) (ram : List ℕ) (va n : ℕ) where
+  abbrev by : Answer → Loaded
+  by x = ended_of d x base ram va n
+
+  pub end-fault : (f : Fault) (a : Answer) → a ≡ Err f → record { core = d; answer = Err (data_abort va false f) } ≡ by a
+  unfolding load_end after_access
+  end-fault f a e = ap by (sym e)
+
+  module _ (a : Answer) (pa : ℕ) (e : a ≡ Ok pa) (w : Option ℕ) (ew : w ≡ word_at base ram n pa) where
+    abbrev from_ram : Got → Loaded
+    from_ram g = loaded_by d d.tlb (loaded_from (Whole pa) g d.abort_pa va)
+
+    pub end-value : (v : ℕ) → w ≡ Some v → record { core = record d { last_pa = pa }; answer = Ok v } ≡ by a
+    unfolding load_end after_access
+    end-value v q = ap from_ram (whole-value base ram pa n w v ew q) ∙ ap by (sym e)
+
+    pub end-outside : w ≡ None → va < 2 ^ 64 → record { core = record d { last_pa = pa; abort_pa = pa }; answer = Err (data_abort va false external) } ≡ by a
+    unfolding load_end after_access
+    end-outside q h =
+        let z : va + 0 ≡ va = omega arith in
+        let same : va ≡ wrap (va + 0) = sym (ap wrap z ∙ mod-eq_of_lt h) in
+        ap (λ (x : ℕ). record { core = record d { last_pa = pa; abort_pa = pa }; answer = Err (data_abort x false external) }) same
+        ∙ ap from_ram (whole-abort base ram pa n w ew q) ∙ ap by (sym e)
+
+-- a load past the checks
+pub load-step : (c : Core) (base : ℕ) (ram : List ℕ) (va : ℕ) (w : Width) → Clear c base (length ram) → length ram < 2 ^ 64 → after_load (read_of c base ram va (bytes_in w)) ≡ step_of c base ram (Load va (bytes_in w))
+unfolding step_of run_of missed_of
+load-step c base ram va w clear long =
+    let level = le-ltb 3 c.privilege.level (omega (arith, clear.0)) in
+    let window : passes base (length ram) ≡ false = le-ltb (2 ^ 64) (base + length ram) (omega (arith, long, clear.1)) in
+    rw (level, window) (go w)
+  where
+    go : (w : Width) → after_load (read_of c base ram va (bytes_in w)) ≡ refused_or (if not (known (bytes_in w)) then 3 else 0) (λ n. ends c (Refused n)) (load_by (width_of (bytes_in w)) c base ram va)
+    go Byte = refl
+    go Half = refl
+    go Word = refl
+    go Double = refl
+
+pub high-load : (c : Core) (base : ℕ) (ram : List ℕ) (va n : ℕ) → 3 < c.privilege.level → record { core = c; reply = Refused 1 } ≡ step_of c base ram (Load va n)
+unfolding step_of run_of missed_of
+high-load c base ram va n h = rw (lt-ltb 3 c.privilege.level h) refl
+
+-- a load of one page, by its translation
+pub told : (c : Core) (base : ℕ) (ram : List ℕ) (va : ℕ) (w : Width) (d : Core) (a : Answer) (old n v : ℕ) (e : Core) → Clear c base (length ram) → length ram < 2 ^ 64 → bytes_in w ≤ in_page va
+    → record { core = d; answer = a } ≡ translate_of c (word_at base ram 8) va Read → Tells (after_load (ended_of d a base ram va (bytes_in w))) old n v e
+    → Tells (step_of c base ram (Load va (bytes_in w))) old n v e
+told c base ram va w d a old n v e clear long near et t =
+    subst (λ (s : Stepped). Tells s old n v e) (ap after_load (ended-is c base ram va (bytes_in w) near d a et) ∙ load-step c base ram va w clear long) t
+
+-- two pages by their hints
+module _ (c : Core) (base : ℕ) (ram : List ℕ) (va n pa pa2 v : ℕ) where
+  abbrev memory : ℕ → Option ℕ
+  memory = word_at base ram 8
+
+  abbrev go : Stepped₁ → Located
+  go a = if goes_on a.answer (crosses (stage1_on (bank_now c) (regime_of c.privilege.level)) va n) then both_pages va a.answer (translate_in (bank_now c) c.privilege memory (next_page va) Read a.tlb) else one_page va a
+
+  stepped : (x p : ℕ) → hint_in c.privilege x Read c.tlb ≡ Some p → translate_in (bank_now c) c.privilege memory x Read c.tlb ≡ record { tlb = c.tlb; answer = Ok p }
+  unfolding translate_of stepped_now after_access
+  stepped x p h = ap (λ (t : Translated). record { tlb = t.core.tlb; answer = t.answer }) (hint-serves c memory x Read p h)
+
+  pub two-read : crosses (stage1_on (bank_now c) (regime_of c.privilege.level)) va n ≡ true → hint_in c.privilege va Read c.tlb ≡ Some pa → hint_in c.privilege (next_page va) Read c.tlb ≡ Some pa2
+      → load_of base ram (Split (record { in_page = in_page va; pa = pa; pa2 = pa2 })) n ≡ Ok v → record { core = record c { last_pa = pa }; answer = Ok v } ≡ read_of c base ram va n
+  unfolding read_of located_now located_of load_end after_access
+  two-read k h h2 w =
+      let second : both_pages va (Ok pa) (translate_in (bank_now c) c.privilege memory (next_page va) Read c.tlb) ≡ record { tlb = c.tlb; placed = placed_both va (Ok pa) (Ok pa2) } = ap (both_pages va (Ok pa)) (stepped (next_page va) pa2 h2) in
+      let first : located_of (bank_now c) c.privilege memory va n Read c.tlb ≡ go (record { tlb = c.tlb; answer = Ok pa }) = ap go (stepped va pa h) in
+      let chosen : go (record { tlb = c.tlb; answer = Ok pa }) ≡ both_pages va (Ok pa) (translate_in (bank_now c) c.privilege memory (next_page va) Read c.tlb) = rw k refl in
+      sym (ap (λ (a : Located). loaded_by c a.tlb (load_end a.placed c.last_pa c.abort_pa base ram va n)) (first ∙ chosen ∙ second)
+      ∙ ap (λ (g : Got). loaded_by c c.tlb (loaded_from (Split (record { in_page = in_page va; pa = pa; pa2 = pa2 })) g c.abort_pa va)) w)

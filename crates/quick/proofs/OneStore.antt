@@ -1,0 +1,185 @@
+-- A store of one page, by its one translation, and of two by their hints, on plain values.
+use Rattle.std.specs.Prelude.{if◌then◌else◌, ◌≡◌, not, length, Bool, true, false, ◌+◌, ◌^◌, ◌<◌, ◌≤◌, List, ℕ, Option, Some, Ok, Err}
+use Rattle.std.proofs.Common.{refl, sym, ap, ◌∙◌, arith, le-ltb, lt-ltb, subst}
+use native.Mathlib.Nat.{mod-eq_of_lt}
+use Rattle.word.specs.Bits.{wrap}
+use Rattle.word.specs.Ram.{word_at, within, stored, bytes_in, width_of}
+use Rattle.walk.specs.Regime.{regime_of, stage1_on}
+use Rattle.tlb.specs.Answers.{Answer}
+use Rattle.tlb.specs.Step.{hint_in}
+use Rattle.tlb.specs.declared.access.Kind.TheVariants.{Write}
+use Rattle.fault.specs.declared.Fault.{Fault}
+use Rattle.mmu.specs.Core.{after_access, bank_now}
+use Rattle.mmu.specs.Ops.{stepped_now, located_now, translate_of, stored_by, write_of, ram_after_write}
+use Rattle.mmu.specs.Step.{located_of, both_pages, one_page, translate_in}
+use Rattle.mmu.specs.Results.{Translated, Stored, Located, Stepped as Stepped₁}
+use Rattle.mmu.specs.declared.core_state.Core.{Core}
+use Rattle.operations.specs.Answers.{Verdict}
+use Rattle.operations.specs.Place.{in_page, next_page, crosses, goes_on, placed_both}
+use Rattle.operations.specs.Bytes.{store_ram}
+use Rattle.operations.specs.AtOnce.{both_inside, both_stored}
+use Rattle.operations.specs.Ends.{data_abort, external, store_end, store_end_by, store_ram_end}
+use Rattle.operations.specs.declared.place.Pages.{Pages}
+use Rattle.operations.specs.declared.place.Place.TheVariants.{Split}
+use Rattle.operations.proofs.Moves.{whole-inside, whole-outside}
+use Rattle.operations.proofs.Both.{both-judged, both-stores}
+use Rattle.word.specs.declared.ram.Width.{Width}
+use Rattle.word.specs.declared.ram.Width.TheVariants.{Byte, Half, Word, Double}
+use Rattle.operations.specs.Check.{missed_of, passes, known}
+use Rattle.operations.specs.declared.call.Call.TheVariants.{Store}
+use Rattle.operations.specs.declared.call.Reply.TheVariants.{Refused}
+use Rattle.cpu.specs.Step.{Stepped, step_of, run_of, ram_of, ram_after, after_store, store_by, store_ram_by, refused_or, ends}
+use Rattle.quick.specs.Says.{Clear, Tells, PutTwo, stored_of, put_of}
+use Rattle.quick.proofs.ByHint.{hint-serves}
+use Rattle.quick.proofs.OnePage.{stays_in}
+
+module _ (c : Core) (base : ℕ) (ram : List ℕ) (va n : ℕ) (near : n ≤ in_page va) where
+  abbrev moved : Translated
+  moved = translate_of c (word_at base ram 8) va Write
+
+  write_one : write_of c base ram va n ≡ stored_of moved.core moved.answer base ram va n
+  unfolding write_of located_now located_of translate_of stepped_now after_access
+  write_one = rw (stays_in c base ram va n near (translate_of c (word_at base ram 8) va Write).answer) refl
+
+  put_one : (v : ℕ) → ram_after_write c base ram va n v ≡ put_of moved.answer base ram va n v
+  unfolding ram_after_write located_now located_of translate_of stepped_now after_access
+  put_one v = rw (stays_in c base ram va n near (translate_of c (word_at base ram 8) va Write).answer) refl
+
+  module _ (d : Core) (a : Answer) (et : record { core = d; answer = a } ≡ translate_of c (word_at base ram 8) va Write) where
+    pub stored-is : stored_of d a base ram va n ≡ write_of c base ram va n
+    stored-is = ap (λ (t : Translated). stored_of t.core t.answer base ram va n) et ∙ sym write_one
+
+    pub put-is : (v : ℕ) → put_of a base ram va n v ≡ ram_after_write c base ram va n v
+    put-is v = ap (λ (t : Translated). put_of t.answer base ram va n v) et ∙ sym (put_one v)
+
+-- the ends
+module _ (d : Core) (base : ℕ) (ram : List ℕ) (va n : ℕ) where
+  abbrev by : Answer → Stored
+  by x = stored_of d x base ram va n
+
+  abbrev put : ℕ → Answer → List ℕ
+  put v x = put_of x base ram va n v
+
+  abbrev judged : Verdict → Stored
+  judged x = stored_by d d.tlb (store_end_by x d.abort_pa va)
+
+  module _ (f : Fault) (a : Answer) (e : a ≡ Err f) where
+    pub end-fault : record { core = d; answer = Err (data_abort va true f) } ≡ by a
+    unfolding store_end after_access
+    end-fault = ap by (sym e)
+
+    pub put-fault : (v : ℕ) → ram ≡ put v a
+    unfolding store_ram_end
+    put-fault v = ap (put v) (sym e)
+
+  module _ (a : Answer) (pa : ℕ) (e : a ≡ Ok pa) where
+    pub put-whole : (v : ℕ) (ys : List ℕ) → ys ≡ stored base ram n pa v → ys ≡ put v a
+    unfolding store_ram_end store_ram
+    put-whole v ys q = q ∙ ap (put v) (sym e)
+
+    module _ (f : Bool) (ef : f ≡ within base (length ram) n pa) where
+      pub end-made : f ≡ true → record { core = d; answer = Ok tt } ≡ by a
+      unfolding store_end after_access
+      end-made t = ap judged (whole-inside base ram pa n f t ef) ∙ ap by (sym e)
+
+      pub end-outside : f ≡ false → va < 2 ^ 64 → record { core = record d { abort_pa = pa }; answer = Err (data_abort va true external) } ≡ by a
+      unfolding store_end after_access
+      end-outside t h =
+          let z : va + 0 ≡ va = omega arith in
+          let same : va ≡ wrap (va + 0) = sym (ap wrap z ∙ mod-eq_of_lt h) in
+          ap (λ (x : ℕ). record { core = record d { abort_pa = pa }; answer = Err (data_abort x true external) }) same
+          ∙ ap judged (whole-outside base ram pa n f t ef) ∙ ap by (sym e)
+
+-- a store past the checks
+module _ (c : Core) (base : ℕ) (ram : List ℕ) (va v : ℕ) (w : Width) (clear : Clear c base (length ram)) (long : length ram < 2 ^ 64) where
+  pub store-step : after_store (write_of c base ram va (bytes_in w)) ≡ step_of c base ram (Store va (bytes_in w) v)
+  unfolding step_of run_of missed_of
+  store-step =
+      let level = le-ltb 3 c.privilege.level (omega (arith, clear.0)) in
+      let window : passes base (length ram) ≡ false = le-ltb (2 ^ 64) (base + length ram) (omega (arith, long, clear.1)) in
+      rw (level, window) (go w)
+    where
+      go : (w : Width) → after_store (write_of c base ram va (bytes_in w)) ≡ refused_or (if not (known (bytes_in w)) then 3 else 0) (λ n. ends c (Refused n)) (store_by (width_of (bytes_in w)) c base ram va)
+      go Byte = refl
+      go Half = refl
+      go Word = refl
+      go Double = refl
+
+  pub store-ram : ram_after_write c base ram va (bytes_in w) v ≡ ram_after c base ram (Store va (bytes_in w) v)
+  unfolding ram_after ram_of missed_of
+  store-ram =
+      let level = le-ltb 3 c.privilege.level (omega (arith, clear.0)) in
+      let window : passes base (length ram) ≡ false = le-ltb (2 ^ 64) (base + length ram) (omega (arith, long, clear.1)) in
+      rw (level, window) (go w)
+    where
+      go : (w : Width) → ram_after_write c base ram va (bytes_in w) v ≡ refused_or (if not (known (bytes_in w)) then 3 else 0) (λ n. ram) (store_ram_by (width_of (bytes_in w)) c base ram va v)
+      go Byte = refl
+      go Half = refl
+      go Word = refl
+      go Double = refl
+
+  -- of one page, by its translation
+  module _ (near : bytes_in w ≤ in_page va) (d : Core) (a : Answer) (et : record { core = d; answer = a } ≡ translate_of c (word_at base ram 8) va Write) where
+    pub told : (old n x : ℕ) (e : Core) → Tells (after_store (stored_of d a base ram va (bytes_in w))) old n x e → Tells (step_of c base ram (Store va (bytes_in w) v)) old n x e
+    told old n x e t =
+        subst (λ (s : Stepped). Tells s old n x e) (ap after_store (stored-is c base ram va (bytes_in w) near d a et) ∙ store-step) t
+
+    pub put-told : (ys : List ℕ) → ys ≡ put_of a base ram va (bytes_in w) v → ys ≡ ram_after c base ram (Store va (bytes_in w) v)
+    put-told ys q = q ∙ put-is c base ram va (bytes_in w) near d a et v ∙ store-ram
+
+pub high-store : (c : Core) (base : ℕ) (ram : List ℕ) (va n v : ℕ) → 3 < c.privilege.level → record { core = c; reply = Refused 1 } ≡ step_of c base ram (Store va n v)
+unfolding step_of run_of missed_of
+high-store c base ram va n v h = rw (lt-ltb 3 c.privilege.level h) refl
+
+pub high-ram : (c : Core) (base : ℕ) (ram : List ℕ) (va n v : ℕ) → 3 < c.privilege.level → ram ≡ ram_after c base ram (Store va n v)
+unfolding ram_after ram_of missed_of
+high-ram c base ram va n v h = rw (lt-ltb 3 c.privilege.level h) refl
+
+-- two pages by their hints
+module _ (c : Core) (base : ℕ) (ram : List ℕ) (va n pa pa2 : ℕ) where
+  abbrev memory : ℕ → Option ℕ
+  memory = word_at base ram 8
+
+  abbrev pages : Pages
+  pages = record { in_page = in_page va; pa = pa; pa2 = pa2 }
+
+  abbrev go : Stepped₁ → Located
+  go a = if goes_on a.answer (crosses (stage1_on (bank_now c) (regime_of c.privilege.level)) va n) then both_pages va a.answer (translate_in (bank_now c) c.privilege memory (next_page va) Write a.tlb) else one_page va a
+
+  stepped : (x p : ℕ) → hint_in c.privilege x Write c.tlb ≡ Some p → translate_in (bank_now c) c.privilege memory x Write c.tlb ≡ record { tlb = c.tlb; answer = Ok p }
+  unfolding translate_of stepped_now after_access
+  stepped x p h = ap (λ (t : Translated). record { tlb = t.core.tlb; answer = t.answer }) (hint-serves c memory x Write p h)
+
+  module _ (k : crosses (stage1_on (bank_now c) (regime_of c.privilege.level)) va n ≡ true) (h : hint_in c.privilege va Write c.tlb ≡ Some pa)
+      (h2 : hint_in c.privilege (next_page va) Write c.tlb ≡ Some pa2) where
+    located-two : located_now c memory va n Write ≡ record { tlb = c.tlb; placed = Ok (Split pages) }
+    unfolding located_now located_of
+    located-two =
+        let second : both_pages va (Ok pa) (translate_in (bank_now c) c.privilege memory (next_page va) Write c.tlb) ≡ record { tlb = c.tlb; placed = placed_both va (Ok pa) (Ok pa2) } = ap (both_pages va (Ok pa)) (stepped (next_page va) pa2 h2) in
+        let first : located_of (bank_now c) c.privilege memory va n Write c.tlb ≡ go (record { tlb = c.tlb; answer = Ok pa }) = ap go (stepped va pa h) in
+        let chosen : go (record { tlb = c.tlb; answer = Ok pa }) ≡ both_pages va (Ok pa) (translate_in (bank_now c) c.privilege memory (next_page va) Write c.tlb) = rw k refl in
+        first ∙ chosen ∙ second
+
+    module _ (long : length ram < 2 ^ 64) where
+      two-write : both_inside base (length ram) pages n ≡ true → record { core = c; answer = Ok tt } ≡ write_of c base ram va n
+      unfolding write_of store_end after_access
+      two-write t =
+          sym (ap (λ (x : Verdict). stored_by c c.tlb (store_end_by x c.abort_pa va)) (both-judged base ram pages n long t))
+          ∙ sym (ap (λ (a : Located). stored_by c a.tlb (store_end a.placed c.abort_pa base ram va n)) located-two)
+
+      two-put : (v : ℕ) → both_inside base (length ram) pages n ≡ true → both_stored base ram pages n v ≡ ram_after_write c base ram va n v
+      unfolding ram_after_write store_ram_end
+      two-put v t =
+          sym (both-stores base ram pages n long v t)
+          ∙ sym (ap (λ (a : Located). store_ram_end a.placed base ram n v) located-two)
+
+      -- by the one test
+      pub put-two : (v : ℕ) (f : Bool) (ys : List ℕ) → f ≡ both_inside base (length ram) pages n → ys ≡ both_stored base ram pages n v
+          → PutTwo c base ram va n v f ys
+      unfolding both_stored
+      put-two v true ys ef ey = (two-write (sym ef), ey ∙ two-put v (sym ef))
+      put-two v false ys ef ey = ey ∙ rw (← ef) refl
+
+-- a store that was made
+pub made : (c : Core) (base : ℕ) (ram : List ℕ) (va n v : ℕ) (f : Bool) (ys : List ℕ) → f ≡ true → PutTwo c base ram va n v f ys → PutTwo c base ram va n v true ys
+made c base ram va n v f ys e p = subst (λ (b : Bool). PutTwo c base ram va n v b ys) e p

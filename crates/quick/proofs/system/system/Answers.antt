@@ -1,0 +1,22 @@
+use Rattle.std.proofs.Common.{refl, sym, ap, ◌∙◌}
+use Rattle.operations.specs.Check.{number_of, number_missed}
+use Rattle.operations.specs.declared.call.Reply.TheVariants.{Refused}
+use Rattle.quick.proofs.ByHint.{tells}
+use Rattle.quick.proofs.Checks.{refused, refused-ram, system-told, system-ram}
+use Rattle.quick.proofs.system.system.Goals as goal
+
+pub returns-in-Ok : goal.returns-in-Ok
+returns-in-Ok c =
+    let passed = ap number_missed (sym c.in-Ok.is) ∙ c.system.ensures in
+    record {
+      tells = system-told _ _ _ _ passed _ _ _ _ c.operate.ensures.tells;
+      ram = system-ram _ _ _ _ passed _ c.operate.ensures.ram;
+    }
+
+pub returns-in-Err : goal.returns-in-Err
+returns-in-Err c =
+    let missed = ap number_missed (sym c.in-Err.is) ∙ c.system.ensures in
+    record {
+      tells = tells _ _ (Refused (number_of c.in-Err.missed)) _ _ _ (refused _ _ _ _ c.in-Err.missed missed) c.number.ensures refl;
+      ram = refused-ram _ _ _ _ c.in-Err.missed missed;
+    }

@@ -1,0 +1,2 @@
+-- What the contracts of `quick` cite.
+pub mod Says

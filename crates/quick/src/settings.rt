@@ -1,0 +1,68 @@
+// What sets a register, the level, the mark or a general register of a core that is lent: its number.
+ghost use Rattle.operations.specs.declared.call.Call.TheVariants as Call;
+ghost use Rattle.call_words.specs.declared.op.DecodedCall.TheVariants as DecodedCall;
+ghost use Rattle.call_words.specs.Ops.{key_of, mark_call};
+ghost use Rattle.quick.specs.Says.{Sets};
+
+use call_words::op;
+use exec::ops;
+use mmu::core_state::Core;
+use operations::check;
+use sysreg::write::WriteError;
+
+// A register write, by the register's key.
+pub fn register(core: &mut Core, key: u64, value: u64) -> u64
+    ensures { Sets (DecodedCall.Known (Call.Register (key_of key) value)) core.old result core.new }
+{
+    let known = op::key_of(key);
+    match check::register(core.privilege.level, known) {
+        Ok(()) => match ops::write_register(core, known, value) {
+            Ok(()) => 0,
+            Err(WriteError::Undefined) => 65,
+            Err(WriteError::NoRegister) => 6,
+        },
+        Err(missed) => missed.number() as u64,
+    }
+}
+
+// The present level, 0 to 3.
+pub fn level(core: &mut Core, level: u64) -> u64
+    ensures { Sets (DecodedCall.Known (Call.Level level)) core.old result core.new }
+{
+    if 3 < core.privilege.level {
+        return 1;
+    }
+    if 3 < level {
+        return 1;
+    }
+    ops::set_level(core, level as u8);
+    0
+}
+
+// The mark of unprivileged accesses, 0 or 1.
+pub fn mark(core: &mut Core, mark: u64) -> u64
+    ensures { Sets (mark_call mark) core.old result core.new }
+{
+    if 1 < mark {
+        return 64;
+    }
+    if 3 < core.privilege.level {
+        return 1;
+    }
+    ops::set_mark(core, mark == 1);
+    0
+}
+
+// A general register, X0 to X30; 31 takes nothing.
+pub fn general(core: &mut Core, number: u64, value: u64) -> u64
+    ensures { Sets (DecodedCall.Known (Call.General number value)) core.old result core.new }
+{
+    if 3 < core.privilege.level {
+        return 1;
+    }
+    if 31 < number {
+        return 5;
+    }
+    core.set_reg(number, value);
+    0
+}

@@ -1,0 +1,4 @@
+pub mod Places
+pub mod CoreOf
+pub mod WordsOf
+pub mod Fits
