@@ -1,5 +1,5 @@
 -- The parts of a core that a caller sets.
-use Rattle.std.specs.Prelude.{if◌then◌else◌, ℕ, ◌%◌, ◌^◌, ◌==◌, nat_lt, Option, Some, None, bit_and, map}
+use Rattle.std.specs.Prelude.{if◌then◌else◌, ℕ, ◌^◌, ◌==◌, nat_lt, Option, Some, None, bit_and, map}
 use Rattle.word.specs.Bits.{bit0}
 use Rattle.exception.specs.declared.flags.Flags.{Flags}
 use Rattle.tlb.specs.Entry.{blank, stamped}
