@@ -1,5 +1,5 @@
 -- How a promise is met: by the call's exact definition.
-use Rattle.std.specs.Prelude.{◌≡◌, List, [], ℕ, zero, suc, ◌<◌, Bool, true, false, get_or, Ok, Err}
+use Rattle.std.specs.Prelude.{◌≡◌, List, [], ℕ, zero, suc, Bool, true, false, Ok, Err}
 use Rattle.std.proofs.Common.{refl, sym, ap, ◌∙◌, arith, ne_eqb}
 use Rattle.exception.specs.declared.kind.Exception.{Exception}
 use Rattle.sysreg.specs.Write.{WriteAnswer}
@@ -10,7 +10,7 @@ use Rattle.operations.specs.Check.{missed_of}
 use Rattle.operations.specs.Replies.{registering}
 use Rattle.operations.specs.declared.{call.Call.Call, call.Reply.Reply}
 use Rattle.operations.specs.declared.call.Reply.TheVariants.{Refused}
-use Rattle.cpu.specs.Step.{Stepped, ends, run_of, step_of, ram_of, ram_after, refused_or, missed_by}
+use Rattle.cpu.specs.Step.{Stepped, ends, run_of, step_of, ram_after, refused_or, missed_by}
 use Rattle.cpu.specs.EveryCallEnds.{writes, quiet, outcome_of}
 use Rattle.transparency.specs.Faithful.{FaithfulCall}
 use Rattle.transparency.proofs.Faithful.{faithful-step}

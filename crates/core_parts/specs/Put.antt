@@ -1,9 +1,10 @@
 -- The parts of a core that a caller sets.
-use Rattle.std.specs.Prelude.{if◌then◌else◌, ℕ, ◌%◌, ◌^◌, ◌==◌, nat_lt, Option, Some, None, bit_and}
+use Rattle.std.specs.Prelude.{if◌then◌else◌, ℕ, ◌^◌, ◌==◌, nat_lt, Option, Some, None, bit_and, map}
 use Rattle.word.specs.Bits.{bit0}
 use Rattle.exception.specs.declared.flags.Flags.{Flags}
+use Rattle.tlb.specs.Entry.{blank, stamped}
 use Rattle.tlb.specs.Tlb.{invalidate_of}
-use Rattle.tlb.specs.declared.Inval.{Inval}
+use Rattle.tlb.specs.declared.{entry.Entry.Entry, Inval.Inval}
 use Rattle.tlb.specs.declared.Inval.TheVariants.{All, Page, Asid}
 use Rattle.mmu.specs.Ops.{with_tlb}
 use Rattle.mmu.specs.declared.core_state.Core.{Core}
@@ -35,3 +36,27 @@ received c None = c
 abbrev pub number_received : Option Inval → ℕ
 number_received (Some what) = 0
 number_received None = 64
+
+-- an entry when the cache takes another generation: one that is live stays live, any other goes
+abbrev pub moved : ℕ → ℕ → Entry → Entry
+moved from to e = if e.generation == from then stamped e to else blank
+
+abbrev pub with_generation : Core → ℕ → Core
+with_generation c to =
+    record c {
+      tlb =
+          record c.tlb {
+            cache =
+                record c.tlb.cache {
+                  current = record c.tlb.cache.current { generation = to };
+                  entries = map (moved c.tlb.cache.current.generation to) c.tlb.cache.entries;
+                };
+          };
+    }
+
+-- a generation has 32 bits
+abbrev pub restamped : Core → ℕ → Core
+restamped c to = if nat_lt to (2 ^ 32) then with_generation c to else c
+
+abbrev pub number_restamped : ℕ → ℕ
+number_restamped to = if nat_lt to (2 ^ 32) then 0 else 64

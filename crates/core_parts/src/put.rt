@@ -1,12 +1,14 @@
 // What an emulator sets beside the calls: each changes its part and nothing else.
-ghost use Rattle.std.specs.Prelude.{◌≡◌};
+ghost use Rattle.std.specs.Prelude.{◌≡◌, map};
 ghost use Rattle.core_parts.specs.Read.{pending_words};
+ghost use Rattle.core_parts.specs.Put.{moved, number_restamped, restamped};
 ghost use Rattle.core_parts.specs.Put.{with_pc, flags_in, with_flags, without_pending, inval_named, received, number_received};
 
 use crate::read;
 use exception::flags::Flags;
 use mmu::core_state::Core;
 use tlb::Inval;
+use tlb::entry::Entry;
 
 /// The PC: an exception that is taken saves it.
 pub fn pc(core: &mut Core, pc: u64)
@@ -71,5 +73,42 @@ pub fn receive(core: &mut Core, kind: u64, value: u64) -> u64
             0
         }
         None => 64,
+    }
+}
+
+// An entry when the cache takes another generation: one that is live stays live, any other goes.
+fn moved(entry: Entry, from: u32, to: u32) -> Entry
+    ensures { result ≡ moved from to entry }
+{
+    if entry.generation == from {
+        entry.stamped(to)
+    } else {
+        Entry::blank()
+    }
+}
+
+#[tactic(auto, using(tlb::specs::Lists::sweep))]
+fn move_entries(entries: &mut [Entry; 1024], from: u32, to: u32)
+    ensures { entries.new ≡ map (moved from to) entries.old }
+{
+    for e in entries.iter_mut() {
+        *e = moved(*e, from, to);
+    }
+}
+
+/// The cache's generation: the entries that are live stay live, the others go, and the hints stay. 0; or 64 where no 32
+/// bits hold it, and nothing changes.
+pub fn generation(core: &mut Core, generation: u64) -> u64
+    ensures number { result ≡ number_restamped generation }
+    ensures core { core.new ≡ restamped core.old generation }
+{
+    if generation < 0x1_0000_0000 {
+        let from = core.tlb.cache.current.generation;
+        let to = generation as u32;
+        move_entries(&mut core.tlb.cache.entries, from, to);
+        core.tlb.cache.current.generation = to;
+        0
+    } else {
+        64
     }
 }

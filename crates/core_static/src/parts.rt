@@ -7,6 +7,7 @@ ghost use Rattle.tlb.specs.Count.{tally_at};
 ghost use Rattle.mmu.specs.Core.{reg_of};
 ghost use Rattle.core_parts.specs.Read.{register_of, number_found, value_found, pending_words, entry_words};
 ghost use Rattle.core_parts.specs.Read.{hint_words, fetch_words};
+ghost use Rattle.core_parts.specs.Put.{number_restamped, restamped};
 ghost use Rattle.core_parts.specs.Put.{with_pc, with_flags, without_pending, inval_named, received, number_received};
 
 use core_parts::{put, read};
@@ -216,4 +217,13 @@ pub extern "C" fn a72h_receive(handle: &mut Handle, kind: u64, value: u64) -> u6
     ensures core { handle.new.core ≡ received handle.old.core (inval_named kind value) }
 {
     put::receive(handle.core(), kind, value)
+}
+
+/// The cache's generation: the entries that are live stay live, the others go. 0; or 64 where no 32 bits hold it.
+#[unsafe(no_mangle)]
+pub extern "C" fn a72h_set_generation(handle: &mut Handle, generation: u64) -> u64
+    ensures number { result ≡ number_restamped generation }
+    ensures core { handle.new.core ≡ restamped handle.old.core generation }
+{
+    put::generation(handle.core(), generation)
 }

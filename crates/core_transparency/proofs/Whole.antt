@@ -1,6 +1,6 @@
 -- No call writes place 0 of an array by level.
-use Rattle.std.specs.Prelude.{if◌then◌else◌, ◌≡◌, ℕ, zero, suc, List, [], ◌∷◌, ◌++◌, Bool, true, false, ◌==◌, get_or, Option, Some, None, Ok, Err}
-use Rattle.std.proofs.Common.{refl, sym, ap, ◌∙◌}
+use Rattle.std.specs.Prelude.{if◌then◌else◌, ◌≡◌, ℕ, List, [], ◌∷◌, Bool, true, false, ◌==◌, get_or, Option, Some, None, Err}
+use Rattle.std.proofs.Common.{sym, ap, ◌∙◌}
 use Rattle.sysreg.specs.Encoding.{register_at}
 use Rattle.sysreg.specs.Write.{bank, control_after, sys_after, control_with, sys_with, ended, wrote, write_found, write_reg}
 use Rattle.sysreg.specs.declared.write.WriteError.TheVariants.{Undefined}
@@ -8,29 +8,23 @@ use Rattle.sysreg.specs.declared.{regs.Control.Control, regs.SysRegs.SysRegs, re
 use Rattle.sysreg.specs.declared.regs.ControlReg.TheVariants.{Sctlr, Tcr, Ttbr0}
 use Rattle.sysreg.specs.declared.regs.SysReg.TheVariants.{Mair, Vbar, Elr, Spsr, Esr, Far}
 use Rattle.sysreg.specs.declared.regs.Register.TheVariants.{InControl, InSys}
-use Rattle.exception.specs.declared.{kind.Exception.Exception, flags.Flags.Flags, report.Report.Report}
+use Rattle.exception.specs.declared.{report.Report.Report}
 use Rattle.exception.specs.Entry.{same_el, at_target, far_after, entered_sys, take_exception, take_sync}
 use Rattle.sysop.specs.declared.op.SysOp.{SysOp}
 use Rattle.mmu.specs.Bare.{Bare, bare_of}
-use Rattle.mmu.specs.Core.{fresh_core}
 use Rattle.mmu.specs.declared.core_state.Core.{Core}
 use Rattle.operations.specs.declared.call.Call.{Call}
 use Rattle.cpu.specs.Step.{step_of}
-use Rattle.history.specs.Calls.{Lent}
-use Rattle.history.specs.Instance.{Ram, window_of, real}
+use Rattle.history.specs.Instance.{Ram, window_of}
 use Rattle.transparency.specs.Bare.{Ruling, allowed, number, undefined, unimplemented, ruling_in, if_allowed, bare_does, bare_step, sys_does, op_in, operand_in, par_at}
-use Rattle.transparency.specs.Machine.{machine}
 use Rattle.transparency.proofs.Bridge.{fits}
 use Rattle.call_words.specs.declared.op.DecodedCall.{DecodedCall}
 use Rattle.call_words.specs.declared.op.DecodedCall.TheVariants.{Known, Unknown}
-use Rattle.saved.specs.CoreOf.{core_of}
-use Rattle.saved.specs.Fits.{Fits}
-use Rattle.saved.specs.WordsOf.{words_of, placed, held_control, held_sys, held}
+use Rattle.saved.specs.WordsOf.{placed, held_control, held_sys, held}
 use Rattle.saved.proofs.Saving.{saved_again}
 use Rattle.saved.proofs.Whole.{fresh_whole}
 use Rattle.core_calls.specs.Named.{call_core}
-use Rattle.core_calls.specs.Promise.{Promise}
-use Rattle.core_transparency.specs.OnCore.{Made, fresh, called, set, stepped, looked}
+use Rattle.core_transparency.specs.OnCore.{fresh, called, set, stepped, looked}
 use Rattle.core_transparency.specs.Whole.{call_keeps_whole, made_is_whole, made_is_saved}
 
 -- ARRAYS BY LEVEL

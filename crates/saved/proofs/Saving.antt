@@ -20,24 +20,24 @@ use Rattle.saved.proofs.Filling.{table_is}
 -- A WORD OF A CORE BY ITS PLACE
 
 module _ (c : Core) where
-  general-word : (n : ℕ) → n < 31 → word_of c (GENERAL + n) ≡ slice_index c.x n
+  pub general_word : (n : ℕ) → n < 31 → word_of c (GENERAL + n) ≡ slice_index c.x n
   unfolding word_of
-  general-word n h =
+  general_word n h =
       rw (le-ltb (GENERAL + n) 37 (omega arith), lt-ltb (GENERAL + n) LEVEL (omega arith))
       (let z : GENERAL + n - GENERAL ≡ n = omega arith in ap (slice_index c.x) z)
 
-  hint-words : (i k : ℕ) → i < 512 → k < 2 → word_of c (HINTS + i * 2 + k) ≡ hint_word (hint_at c.tlb.cache i) k
+  pub hint_words : (i k : ℕ) → i < 512 → k < 2 → word_of c (HINTS + i * 2 + k) ≡ hint_word (hint_at c.tlb.cache i) k
   unfolding word_of
-  hint-words i k h l =
+  hint_words i k h l =
       let p : ℕ = HINTS + i * 2 + k in
       let at : (p - HINTS) / 2 ≡ i = omega arith in
       let part : (p - HINTS) % 2 ≡ k = omega arith in
       rw (le-ltb p 37 (omega arith), le-ltb p LEVEL (omega arith), le-ltb p HINTS (omega arith), lt-ltb p ENTRIES (omega arith))
       (λ q. hint_word (hint_at c.tlb.cache (at q)) (part q))
 
-  entry-words : (j k : ℕ) → j < 1024 → k < 4 → word_of c (ENTRIES + j * 4 + k) ≡ entry_word (entry_at c.tlb.cache j) k
+  pub entry_words : (j k : ℕ) → j < 1024 → k < 4 → word_of c (ENTRIES + j * 4 + k) ≡ entry_word (entry_at c.tlb.cache j) k
   unfolding word_of
-  entry-words j k h l =
+  entry_words j k h l =
       let p : ℕ = ENTRIES + j * 4 + k in
       let at : (p - ENTRIES) / 4 ≡ j = omega arith in
       let part : (p - ENTRIES) % 4 ≡ k = omega arith in
@@ -138,15 +138,15 @@ module _ (c : Core) (f : Fits c) where
   w = word_of c
 
   general-back : table 31 (λ n. w (GENERAL + n)) ≡ c.x
-  general-back = table-back 31 (λ n. w (GENERAL + n)) c.x 0 f.parts.general (general-word c)
+  general-back = table-back 31 (λ n. w (GENERAL + n)) c.x 0 f.parts.general (general_word c)
 
   hints-back : table 512 (hint_in w) ≡ c.tlb.cache.hints
   hints-back = table-back 512 (hint_in w) c.tlb.cache.hints no_hint f.parts.hints back
     where
       back : (i : ℕ) → i < 512 → hint_in w i ≡ hint_at c.tlb.cache i
       back i h =
-          let k : w (HINTS + i * 2) ≡ (hint_at c.tlb.cache i).key = (let z : HINTS + i * 2 ≡ HINTS + i * 2 + 0 = omega arith in ap w z) ∙ hint-words c i 0 h (omega arith) in
-          let p : w (HINT-PA + i * 2) ≡ (hint_at c.tlb.cache i).pa = (let z : HINT-PA + i * 2 ≡ HINTS + i * 2 + 1 = omega arith in ap w z) ∙ hint-words c i 1 h (omega arith) in
+          let k : w (HINTS + i * 2) ≡ (hint_at c.tlb.cache i).key = (let z : HINTS + i * 2 ≡ HINTS + i * 2 + 0 = omega arith in ap w z) ∙ hint_words c i 0 h (omega arith) in
+          let p : w (HINT-PA + i * 2) ≡ (hint_at c.tlb.cache i).pa = (let z : HINT-PA + i * 2 ≡ HINTS + i * 2 + 1 = omega arith in ap w z) ∙ hint_words c i 1 h (omega arith) in
           λ q. record { key = k q; pa = p q }
 
   entries-back : table 1024 (entry_in w) ≡ c.tlb.cache.entries
@@ -156,10 +156,10 @@ module _ (c : Core) (f : Fits c) where
       back j h =
           let e : Entry = entry_at c.tlb.cache j in
           let fits : EntryFits e = f.entries j h in
-          let t : w (ENTRIES + j * 4) ≡ e.tag = (let z : ENTRIES + j * 4 ≡ ENTRIES + j * 4 + 0 = omega arith in ap w z) ∙ entry-words c j 0 h (omega arith) in
-          let g : w (ENTRY-GENERATION + j * 4) ≡ e.generation = (let z : ENTRY-GENERATION + j * 4 ≡ ENTRIES + j * 4 + 1 = omega arith in ap w z) ∙ entry-words c j 1 h (omega arith) in
-          let a : w (ENTRY-ATTRIBUTES + j * 4) ≡ attributes e = (let z : ENTRY-ATTRIBUTES + j * 4 ≡ ENTRIES + j * 4 + 2 = omega arith in ap w z) ∙ entry-words c j 2 h (omega arith) in
-          let p : w (ENTRY-PA + j * 4) ≡ e.pa = (let z : ENTRY-PA + j * 4 ≡ ENTRIES + j * 4 + 3 = omega arith in ap w z) ∙ entry-words c j 3 h (omega arith) in
+          let t : w (ENTRIES + j * 4) ≡ e.tag = (let z : ENTRIES + j * 4 ≡ ENTRIES + j * 4 + 0 = omega arith in ap w z) ∙ entry_words c j 0 h (omega arith) in
+          let g : w (ENTRY-GENERATION + j * 4) ≡ e.generation = (let z : ENTRY-GENERATION + j * 4 ≡ ENTRIES + j * 4 + 1 = omega arith in ap w z) ∙ entry_words c j 1 h (omega arith) in
+          let a : w (ENTRY-ATTRIBUTES + j * 4) ≡ attributes e = (let z : ENTRY-ATTRIBUTES + j * 4 ≡ ENTRIES + j * 4 + 2 = omega arith in ap w z) ∙ entry_words c j 2 h (omega arith) in
+          let p : w (ENTRY-PA + j * 4) ≡ e.pa = (let z : ENTRY-PA + j * 4 ≡ ENTRIES + j * 4 + 3 = omega arith in ap w z) ∙ entry_words c j 3 h (omega arith) in
           (λ q. entry_of (t q) (g q) (a q) (p q)) ∙ entry-back e fits.perms fits.level fits.asid fits.generation
 
   by-words : core_by w ≡ held c

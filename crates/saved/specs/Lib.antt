@@ -2,3 +2,4 @@ pub mod Places
 pub mod CoreOf
 pub mod WordsOf
 pub mod Fits
+pub mod NamedPlaces

@@ -5,6 +5,8 @@ ghost use Rattle.mmu.specs.declared.core_state.Core.{Core};
 ghost use Rattle.words.specs.CoreOf as Lent;
 ghost use Rattle.saved.specs.CoreOf.{word, core_of};
 ghost use Rattle.saved.specs.Fits.{Fits};
+ghost use Rattle.saved.specs.NamedPlaces.{control_named, sys_named, general_named, parts_named};
+ghost use Rattle.saved.specs.NamedPlaces.{hints_named, entries_named, tallies_named};
 ghost use Rattle.saved.specs.WordsOf.{word_of, words_of, held};
 
 /// The words of a core, one by one and as they are saved, are the same. It rules out a word that `save` writes and `word`
@@ -21,6 +23,18 @@ pub fn saved_and_restored()
     ensures every { (c : Core) → Fits c → core_of (words_of c) ≡ held c }
     ensures fresh { held fresh_core ≡ fresh_core }
     ensures restored { (words : List ℕ) → held (core_of words) ≡ core_of words }
+{}
+
+/// Each part of a core stands at the place that bears its name. It rules out two parts that change places in `save`,
+/// `restore` and their definitions alike.
+pub fn named_places()
+    ensures controls { control_named }
+    ensures systems { sys_named }
+    ensures generals { general_named }
+    ensures parts { parts_named }
+    ensures hints { hints_named }
+    ensures entries { entries_named }
+    ensures tallies { tallies_named }
 {}
 
 /// The core that saved words hold is the core that the calls on words see in them.
