@@ -1,0 +1,2 @@
+pub mod Ends
+mod Set

@@ -1,0 +1,3 @@
+pub mod Read
+pub mod Put
+pub mod Set

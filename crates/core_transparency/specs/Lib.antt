@@ -1,0 +1,4 @@
+pub mod OnCore
+pub mod Run
+pub mod Counters
+pub mod Whole

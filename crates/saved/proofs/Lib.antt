@@ -1,0 +1,4 @@
+pub mod Filling
+pub mod Saving
+pub mod Whole
+pub mod Named

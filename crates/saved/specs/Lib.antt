@@ -1,0 +1,5 @@
+pub mod Places
+pub mod CoreOf
+pub mod WordsOf
+pub mod Fits
+pub mod NamedPlaces

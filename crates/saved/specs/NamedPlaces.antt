@@ -1,0 +1,96 @@
+-- The word of each part of a core, by the name of its place.
+use Rattle.std.specs.Prelude.{◌≡◌, ℕ, ◌+◌, ◌-◌, ◌*◌, ◌<◌}
+use Rattle.word.specs.Bits.{flag}
+use Rattle.sysreg.specs.Regs.{level_of, control_at, sys_at}
+use Rattle.sysreg.specs.declared.{regs.El.El, regs.ControlReg.ControlReg, regs.SysReg.SysReg}
+use Rattle.sysreg.specs.declared.regs.ControlReg.TheVariants.{Sctlr, Tcr, Ttbr0, Ttbr1, Scr, Hcr}
+use Rattle.sysreg.specs.declared.regs.SysReg.TheVariants.{Mair, Vbar, Elr, Spsr, Esr, Far, Vpidr, Vmpidr, Par}
+use Rattle.tlb.specs.Cache.{hint_at, entry_at}
+use Rattle.tlb.specs.Count.{tally_at}
+use Rattle.mmu.specs.Core.{reg_of}
+use Rattle.mmu.specs.declared.core_state.Core.{Core}
+use Rattle.saved.specs.Places.{SCTLR, TCR, TTBR0, TTBR1-EL1, MAIR, VBAR, ELR, SPSR, ESR, FAR, SCR-EL3, HCR-EL2, VPIDR-EL2, VMPIDR-EL2, PAR-EL1, PC, NZCV}
+use Rattle.saved.specs.Places.{DAIF, SPSEL, GENERAL, LEVEL, UNPRIVILEGED, FLUSHES, DROPS, EPOCH, LAST-PA, ABORT-PA, GENERATION, ASID}
+use Rattle.saved.specs.Places.{FETCH, FETCH-PAGE, FETCH-LEVEL, FETCH-PA, HINTS, HINT-PA, ENTRIES, ENTRY-GENERATION, ENTRY-ATTRIBUTES, ENTRY-PA}
+use Rattle.saved.specs.Places.{LEVEL-HITS, LEVEL-WALKS}
+use Rattle.saved.specs.WordsOf.{attributes, word_of}
+
+-- of three words, by the level that the register belongs to
+abbrev pub by_level : ℕ → El → ℕ
+by_level place el = place + (level_of el - 1)
+
+abbrev pub control_place : ControlReg → ℕ
+control_place (Sctlr el) = by_level SCTLR el
+control_place (Tcr el) = by_level TCR el
+control_place (Ttbr0 el) = by_level TTBR0 el
+control_place Ttbr1 = TTBR1-EL1
+control_place Scr = SCR-EL3
+control_place Hcr = HCR-EL2
+
+abbrev pub sys_place : SysReg → ℕ
+sys_place (Mair el) = by_level MAIR el
+sys_place (Vbar el) = by_level VBAR el
+sys_place (Elr el) = by_level ELR el
+sys_place (Spsr el) = by_level SPSR el
+sys_place (Esr el) = by_level ESR el
+sys_place (Far el) = by_level FAR el
+sys_place Vpidr = VPIDR-EL2
+sys_place Vmpidr = VMPIDR-EL2
+sys_place Par = PAR-EL1
+
+-- the parts that stand alone
+pub record Named (c : Core) : Type 0 where
+  pub pc : word_of c PC ≡ c.pc
+  pub nzcv : word_of c NZCV ≡ c.flags.nzcv
+  pub daif : word_of c DAIF ≡ c.flags.daif
+  pub spsel : word_of c SPSEL ≡ flag c.flags.spsel 1
+  pub level : word_of c LEVEL ≡ c.privilege.level
+  pub unprivileged : word_of c UNPRIVILEGED ≡ flag c.privilege.unprivileged 1
+  pub flushes : word_of c FLUSHES ≡ c.tlb.counts.flushes
+  pub drops : word_of c DROPS ≡ c.tlb.counts.drops
+  pub epoch : word_of c EPOCH ≡ c.tlb.counts.epoch
+  pub last : word_of c LAST-PA ≡ c.last_pa
+  pub abort : word_of c ABORT-PA ≡ c.abort_pa
+  pub generation : word_of c GENERATION ≡ c.tlb.cache.current.generation
+  pub asid : word_of c ASID ≡ c.tlb.cache.current.asid
+  pub fetch : word_of c FETCH ≡ flag c.tlb.cache.fetch.some 1
+  pub fetch_page : word_of c FETCH-PAGE ≡ c.tlb.cache.fetch.page
+  pub fetch_level : word_of c FETCH-LEVEL ≡ c.tlb.cache.fetch.level
+  pub fetch_pa : word_of c FETCH-PA ≡ c.tlb.cache.fetch.pa
+
+pub record HintNamed (c : Core) (i : ℕ) : Type 0 where
+  pub key : word_of c (HINTS + i * 2) ≡ (hint_at c.tlb.cache i).key
+  pub pa : word_of c (HINT-PA + i * 2) ≡ (hint_at c.tlb.cache i).pa
+
+pub record EntryNamed (c : Core) (j : ℕ) : Type 0 where
+  pub tag : word_of c (ENTRIES + j * 4) ≡ (entry_at c.tlb.cache j).tag
+  pub generation : word_of c (ENTRY-GENERATION + j * 4) ≡ (entry_at c.tlb.cache j).generation
+  pub attributes : word_of c (ENTRY-ATTRIBUTES + j * 4) ≡ attributes (entry_at c.tlb.cache j)
+  pub pa : word_of c (ENTRY-PA + j * 4) ≡ (entry_at c.tlb.cache j).pa
+
+pub record TallyNamed (c : Core) (l : ℕ) : Type 0 where
+  pub hits : word_of c (LEVEL-HITS + l) ≡ (tally_at c.tlb.counts l).hits
+  pub walks : word_of c (LEVEL-WALKS + l) ≡ (tally_at c.tlb.counts l).walks
+
+-- THE STATEMENTS
+
+abbrev pub control_named : Type 0
+control_named = (c : Core) (r : ControlReg) → word_of c (control_place r) ≡ control_at c.control r
+
+abbrev pub sys_named : Type 0
+sys_named = (c : Core) (r : SysReg) → word_of c (sys_place r) ≡ sys_at c.sys r
+
+abbrev pub general_named : Type 0
+general_named = (c : Core) (n : ℕ) → n < 31 → word_of c (GENERAL + n) ≡ reg_of c n
+
+abbrev pub parts_named : Type 0
+parts_named = (c : Core) → Named c
+
+abbrev pub hints_named : Type 0
+hints_named = (c : Core) (i : ℕ) → i < 512 → HintNamed c i
+
+abbrev pub entries_named : Type 0
+entries_named = (c : Core) (j : ℕ) → j < 1024 → EntryNamed c j
+
+abbrev pub tallies_named : Type 0
+tallies_named = (c : Core) (l : ℕ) → l < 4 → TallyNamed c l

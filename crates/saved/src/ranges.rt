@@ -1,0 +1,91 @@
+// What the type of a core says of its parts: ranges and lengths. Each function computes nothing.
+ghost use Rattle.std.specs.Prelude.{◌≡◌, ◌^◌, ◌<◌, length};
+ghost use Rattle.saved.specs.Fits.{EntryFits, PendingFits, PartsFit, Fits};
+
+use exception::flags::Flags;
+use mmu::core_state::Core;
+use tlb::Inval;
+use tlb::access::Privilege;
+use tlb::count::Tally;
+use tlb::entry::{Current, Entry};
+use tlb::hint::{FetchHint, Hint};
+
+fn privilege_fits(privilege: Privilege)
+    ensures { privilege.level < 2 ^ 8 }
+{}
+
+fn flags_fit(flags: Flags)
+    ensures { (flags.nzcv < 2 ^ 32) × (flags.daif < 2 ^ 32) }
+{}
+
+fn current_fits(current: Current)
+    ensures { (current.generation < 2 ^ 32) × (current.asid < 2 ^ 16) }
+{}
+
+fn fetch_fits(fetch: FetchHint)
+    ensures { fetch.level < 2 ^ 8 }
+{}
+
+fn entry_fits(entry: Entry)
+    ensures { EntryFits entry }
+{}
+
+fn pending_fits(pending: Option<Inval>)
+    ensures { PendingFits pending }
+{
+    match pending {
+        None => {}
+        Some(Inval::All) => {}
+        Some(Inval::Page(_)) => {}
+        Some(Inval::Asid(_)) => {}
+    }
+}
+
+fn general_long(x: &[u64; 31])
+    ensures { length x.now ≡ 31 }
+{
+    let _all: &[u64] = x;
+}
+
+fn levels_long(levels: &[Tally; 4])
+    ensures { length levels.now ≡ 4 }
+{
+    let _all: &[Tally] = levels;
+}
+
+fn hints_long(hints: &[Hint; 512])
+    ensures { length hints.now ≡ 512 }
+{
+    let _all: &[Hint] = hints;
+}
+
+fn entries_long(entries: &[Entry; 1024])
+    ensures { length entries.now ≡ 1024 }
+{
+    let _all: &[Entry] = entries;
+}
+
+fn parts_fit(core: &Core)
+    ensures { PartsFit core.now }
+{
+    privilege_fits(core.privilege);
+    flags_fit(core.flags);
+    current_fits(core.tlb.cache.current);
+    fetch_fits(core.tlb.cache.fetch);
+    pending_fits(core.tlb.broadcast);
+    general_long(&core.x);
+    levels_long(&core.tlb.counts.levels);
+    hints_long(&core.tlb.cache.hints);
+    entries_long(&core.tlb.cache.entries);
+}
+
+pub fn fits(core: &Core)
+    ensures { Fits core.now }
+{
+    parts_fit(core);
+    let mut i: usize = 0;
+    while i < 1024 {
+        entry_fits(core.tlb.cache.entries[i]);
+        i += 1;
+    }
+}

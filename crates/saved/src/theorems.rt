@@ -1,0 +1,44 @@
+// What holds of every core's words. Each function computes nothing: its contract is the theorem.
+ghost use Rattle.std.specs.Prelude.{◌≡◌, ℕ, List};
+ghost use Rattle.mmu.specs.Core.{fresh_core};
+ghost use Rattle.mmu.specs.declared.core_state.Core.{Core};
+ghost use Rattle.words.specs.CoreOf as Lent;
+ghost use Rattle.saved.specs.CoreOf.{word, core_of};
+ghost use Rattle.saved.specs.Fits.{Fits};
+ghost use Rattle.saved.specs.NamedPlaces.{control_named, sys_named, general_named, parts_named};
+ghost use Rattle.saved.specs.NamedPlaces.{hints_named, entries_named, tallies_named};
+ghost use Rattle.saved.specs.WordsOf.{word_of, words_of, held};
+
+/// The words of a core, one by one and as they are saved, are the same. It rules out a word that `save` writes and `word`
+/// reads elsewhere.
+#[tactic(auto, using(crate::proofs::Saving::word_of_saved))]
+pub fn word_by_word()
+    ensures { (c : Core) (p : ℕ) → word (words_of c) p ≡ word_of c p }
+{}
+
+/// A core that a program holds comes back out of its words, but for what no word holds, and a core after reset and each
+/// core that words hold comes back whole. It rules out a part that is saved nowhere, and two parts in one word.
+#[tactic(auto, using(crate::proofs::Saving::saved_again, crate::proofs::Whole::fresh_whole, crate::proofs::Whole::restored_whole))]
+pub fn saved_and_restored()
+    ensures every { (c : Core) → Fits c → core_of (words_of c) ≡ held c }
+    ensures fresh { held fresh_core ≡ fresh_core }
+    ensures restored { (words : List ℕ) → held (core_of words) ≡ core_of words }
+{}
+
+/// Each part of a core stands at the place that bears its name. It rules out two parts that change places in `save`,
+/// `restore` and their definitions alike.
+pub fn named_places()
+    ensures controls { control_named }
+    ensures systems { sys_named }
+    ensures generals { general_named }
+    ensures parts { parts_named }
+    ensures hints { hints_named }
+    ensures entries { entries_named }
+    ensures tallies { tallies_named }
+{}
+
+/// The core that saved words hold is the core that the calls on words see in them.
+#[tactic(auto, using(crate::proofs::Whole::one_table))]
+pub fn one_table()
+    ensures { (words : List ℕ) → core_of words ≡ Lent.core_of words }
+{}
