@@ -1,3 +1,4 @@
 mod Unchanged
 pub mod Promised
 pub mod Census
+pub mod Said

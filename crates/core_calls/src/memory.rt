@@ -6,30 +6,14 @@ ghost use Rattle.call_words.specs.declared.op.DecodedCall.TheVariants as Decoded
 ghost use Rattle.call_words.specs.Ops.{kind_of, translate_call};
 ghost use Rattle.core_calls.specs.Promise.{Promise};
 
-use crate::checked;
-use call_words::op::DecodedKind;
-use call_words::{op, reply};
 use mmu::core_state::Core;
-use operations::call::Call;
-use tlb::access::Kind;
-
-fn translate_as(core: &mut Core, va: u64, kind: Kind, ans: &mut u64, base: u64, ram: &[u8]) -> u64
-    ensures { Promise (DecodedCall.Known (Call.Translate kind va)) base ram.now core.old result
-        ans.old ans.new ram.now core.new }
-{
-    let answer = checked::translate(core, base, ram, va, kind);
-    reply::answer(answer, ans)
-}
 
 /// The translation of `va` for an access of a kind: 1 read, 2 write, 4 fetch.
 pub fn translate(core: &mut Core, va: u64, kind: u64, ans: &mut u64, base: u64, ram: &[u8]) -> u64
     ensures { Promise (translate_call (kind_of kind) va) base ram.now core.old result
         ans.old ans.new ram.now core.new }
 {
-    match op::kind_of(kind) {
-        DecodedKind::Known(known) => translate_as(core, va, known, ans, base, ram),
-        DecodedKind::Unknown => 64,
-    }
+    quick::translation::translate(core, va, kind, ans, base, ram)
 }
 
 /// Where a data read of `va` goes.
@@ -37,8 +21,7 @@ pub fn data_pa(core: &mut Core, va: u64, ans: &mut u64, base: u64, ram: &[u8]) -
     ensures { Promise (DecodedCall.Known (Call.DataPa va)) base ram.now core.old result
         ans.old ans.new ram.now core.new }
 {
-    let answer = checked::data_pa(core, base, ram, va);
-    reply::answer(answer, ans)
+    quick::reach::data_pa(core, va, ans, base, ram)
 }
 
 /// Where a fetch of `va` goes.
@@ -46,8 +29,7 @@ pub fn fetch_pa(core: &mut Core, va: u64, ans: &mut u64, base: u64, ram: &[u8]) 
     ensures { Promise (DecodedCall.Known (Call.FetchPa va)) base ram.now core.old result
         ans.old ans.new ram.now core.new }
 {
-    let answer = checked::fetch_pa(core, base, ram, va);
-    reply::answer(answer, ans)
+    quick::fetch::fetch_pa(core, va, ans, base, ram)
 }
 
 /// A load of 1, 2, 4 or 8 bytes.
@@ -55,8 +37,7 @@ pub fn load(core: &mut Core, va: u64, size: u64, ans: &mut u64, base: u64, ram: 
     ensures { Promise (DecodedCall.Known (Call.Load va size)) base ram.now core.old result
         ans.old ans.new ram.now core.new }
 {
-    let answer = checked::load(core, base, ram, va, size);
-    reply::answer(answer, ans)
+    quick::load::load(core, va, size, ans, base, ram)
 }
 
 /// A store of the low 1, 2, 4 or 8 bytes of a value.
@@ -72,8 +53,7 @@ pub fn store(
     ensures { Promise (DecodedCall.Known (Call.Store va size value)) base ram.old core.old result
         ans.old ans.new ram.new core.new }
 {
-    let answer = cpu::run::step(core, base, ram, Call::Store(va, size, value));
-    reply::answer(answer, ans)
+    quick::store::store(core, va, size, value, ans, base, ram)
 }
 
 /// The instruction at `va`.
@@ -81,6 +61,5 @@ pub fn fetch(core: &mut Core, va: u64, ans: &mut u64, base: u64, ram: &[u8]) -> 
     ensures { Promise (DecodedCall.Known (Call.Fetch va)) base ram.now core.old result
         ans.old ans.new ram.now core.new }
 {
-    let answer = checked::fetch(core, base, ram, va);
-    reply::answer(answer, ans)
+    quick::fetch::fetch(core, va, ans, base, ram)
 }

@@ -14,43 +14,28 @@ use operations::call::Call;
 pub fn register(core: &mut Core, key: u64, value: u64) -> u64
     ensures { Setting (DecodedCall.Known (Call.Register (key_of key) value)) core.old result core.new }
 {
-    let known = op::key_of(key);
-    let answer = cpu::run::step(core, 0, &mut [], Call::Register(known, value));
-    reply::number(answer)
+    quick::settings::register(core, key, value)
 }
 
 /// The present level, 0 to 3.
 pub fn level(core: &mut Core, level: u64) -> u64
     ensures { Setting (DecodedCall.Known (Call.Level level)) core.old result core.new }
 {
-    let answer = cpu::run::step(core, 0, &mut [], Call::Level(level));
-    reply::number(answer)
+    quick::settings::level(core, level)
 }
 
 /// A general register, X0 to X30; 31 takes nothing.
 pub fn general(core: &mut Core, number: u64, value: u64) -> u64
     ensures { Setting (DecodedCall.Known (Call.General number value)) core.old result core.new }
 {
-    let answer = cpu::run::step(core, 0, &mut [], Call::General(number, value));
-    reply::number(answer)
-}
-
-fn mark_as(core: &mut Core, mark: bool) -> u64
-    ensures { Setting (DecodedCall.Known (Call.Mark mark)) core.old result core.new }
-{
-    let answer = cpu::run::step(core, 0, &mut [], Call::Mark(mark));
-    reply::number(answer)
+    quick::settings::general(core, number, value)
 }
 
 /// The mark of unprivileged accesses, 0 or 1.
 pub fn mark(core: &mut Core, mark: u64) -> u64
     ensures { Setting (mark_call mark) core.old result core.new }
 {
-    match mark {
-        0 => mark_as(core, false),
-        1 => mark_as(core, true),
-        _ => 64,
-    }
+    quick::settings::mark(core, mark)
 }
 
 fn abort_as(core: &mut Core, exception: Exception) -> u64

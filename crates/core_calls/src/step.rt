@@ -7,7 +7,6 @@ ghost use Rattle.core_calls.specs.Promise.{Promise, StepPromise};
 use call_words::op::DecodedCall;
 use call_words::{op, reply};
 use mmu::core_state::Core;
-use operations::call::{Call, Encoding};
 
 /// A system operation: SYS op1, CRn, CRm, op2 with the register rt.
 pub fn system(
@@ -24,15 +23,7 @@ pub fn system(
     ensures { Promise (DecodedCall.Known (Call.System (encoding_of op1 crn crm op2 rt))) base ram.old
         core.old result ans.old ans.new ram.new core.new }
 {
-    let encoding = Encoding {
-        op1,
-        crn,
-        crm,
-        op2,
-        rt,
-    };
-    let answer = cpu::run::step(core, base, ram, Call::System(encoding));
-    reply::answer(answer, ans)
+    quick::system::system(core, op1, crn, crm, op2, rt, ans, base, ram)
 }
 
 /// The call that eight words name: 0, and its answer in four words; 64 where they name none.

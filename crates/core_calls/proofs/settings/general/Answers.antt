@@ -1,5 +1,6 @@
-use Rattle.core_calls.proofs.Promised.{set-general}
+use Rattle.std.proofs.Common.{refl}
+use Rattle.core_calls.proofs.Said.{set-said}
 use Rattle.core_calls.proofs.settings.general.Goals as goal
 
 pub returns : goal.returns
-returns c = set-general _ _ _ _ _ _ c.step-answer.ensures.core c.number.ensures
+returns c = set-said _ _ refl _ _ c.general.ensures
