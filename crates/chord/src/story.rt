@@ -98,15 +98,17 @@ fn third_part<W: Write>(out: &mut W, state: &mut State, ram: &mut [u8]) -> io::R
     Ok(h.lost == 0)
 }
 
-// All three parts. Whether the proved core lost no tone in any is the last line.
-pub fn tell<W: Write>(out: &mut W, ram: &mut [u8]) -> io::Result<()> {
+// All three parts. Whether the proved core lost no tone in any is the last line, and the answer.
+pub fn tell<W: Write>(out: &mut W, ram: &mut [u8]) -> io::Result<bool> {
     let mut state = [0u64; WORDS];
     let held = first_part(out, &mut state, ram)?;
     let changed = second_part(out, &mut state, ram)?;
     let ordered = third_part(out, &mut state, ram)?;
-    if held & changed & ordered {
-        writeln!(out, "\nthe chord is whole")
+    let whole = held & changed & ordered;
+    if whole {
+        writeln!(out, "\nthe chord is whole")?;
     } else {
-        writeln!(out, "\nTHE CHORD LOST A TONE")
+        writeln!(out, "\nTHE CHORD LOST A TONE")?;
     }
+    Ok(whole)
 }
