@@ -1,3 +1,4 @@
+mod Counting
 mod Folding
 mod Parting
 mod Wording

@@ -1,3 +1,4 @@
 pub mod Fold
 pub mod Parts
+pub mod Count
 pub mod Window
