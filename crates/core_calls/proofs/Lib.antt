@@ -1,0 +1,3 @@
+mod Unchanged
+pub mod Promised
+pub mod Census

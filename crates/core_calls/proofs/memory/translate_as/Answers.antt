@@ -1,0 +1,6 @@
+use Rattle.std.proofs.Common.{refl}
+use Rattle.core_calls.proofs.Promised.{by-reading}
+use Rattle.core_calls.proofs.memory.translate_as.Goals as goal
+
+pub returns : goal.returns
+returns c = by-reading _ _ _ _ refl _ _ _ _ _ c.translate-answer.ensures c.answer.ensures.value c.answer.ensures.ans_after

@@ -1,0 +1,86 @@
+// Translations, loads, stores and fetches. Each gives a number, and in `ans` the address or value, or the address of a
+// data abort.
+ghost use Rattle.std.specs.Prelude.{◌≡◌};
+ghost use Rattle.operations.specs.declared.call.Call.TheVariants as Call;
+ghost use Rattle.call_words.specs.declared.op.DecodedCall.TheVariants as DecodedCall;
+ghost use Rattle.call_words.specs.Ops.{kind_of, translate_call};
+ghost use Rattle.core_calls.specs.Promise.{Promise};
+
+use crate::checked;
+use call_words::op::DecodedKind;
+use call_words::{op, reply};
+use mmu::core_state::Core;
+use operations::call::Call;
+use tlb::access::Kind;
+
+fn translate_as(core: &mut Core, va: u64, kind: Kind, ans: &mut u64, base: u64, ram: &[u8]) -> u64
+    ensures { Promise (DecodedCall.Known (Call.Translate kind va)) base ram.now core.old result
+        ans.old ans.new ram.now core.new }
+{
+    let answer = checked::translate(core, base, ram, va, kind);
+    reply::answer(answer, ans)
+}
+
+/// The translation of `va` for an access of a kind: 1 read, 2 write, 4 fetch.
+pub fn translate(core: &mut Core, va: u64, kind: u64, ans: &mut u64, base: u64, ram: &[u8]) -> u64
+    ensures { Promise (translate_call (kind_of kind) va) base ram.now core.old result
+        ans.old ans.new ram.now core.new }
+{
+    match op::kind_of(kind) {
+        DecodedKind::Known(known) => translate_as(core, va, known, ans, base, ram),
+        DecodedKind::Unknown => 64,
+    }
+}
+
+/// Where a data read of `va` goes.
+pub fn data_pa(core: &mut Core, va: u64, ans: &mut u64, base: u64, ram: &[u8]) -> u64
+    ensures { Promise (DecodedCall.Known (Call.DataPa va)) base ram.now core.old result
+        ans.old ans.new ram.now core.new }
+{
+    let answer = checked::data_pa(core, base, ram, va);
+    reply::answer(answer, ans)
+}
+
+/// Where a fetch of `va` goes.
+pub fn fetch_pa(core: &mut Core, va: u64, ans: &mut u64, base: u64, ram: &[u8]) -> u64
+    ensures { Promise (DecodedCall.Known (Call.FetchPa va)) base ram.now core.old result
+        ans.old ans.new ram.now core.new }
+{
+    let answer = checked::fetch_pa(core, base, ram, va);
+    reply::answer(answer, ans)
+}
+
+/// A load of 1, 2, 4 or 8 bytes.
+pub fn load(core: &mut Core, va: u64, size: u64, ans: &mut u64, base: u64, ram: &[u8]) -> u64
+    ensures { Promise (DecodedCall.Known (Call.Load va size)) base ram.now core.old result
+        ans.old ans.new ram.now core.new }
+{
+    let answer = checked::load(core, base, ram, va, size);
+    reply::answer(answer, ans)
+}
+
+/// A store of the low 1, 2, 4 or 8 bytes of a value.
+pub fn store(
+    core: &mut Core,
+    va: u64,
+    size: u64,
+    value: u64,
+    ans: &mut u64,
+    base: u64,
+    ram: &mut [u8],
+) -> u64
+    ensures { Promise (DecodedCall.Known (Call.Store va size value)) base ram.old core.old result
+        ans.old ans.new ram.new core.new }
+{
+    let answer = cpu::run::step(core, base, ram, Call::Store(va, size, value));
+    reply::answer(answer, ans)
+}
+
+/// The instruction at `va`.
+pub fn fetch(core: &mut Core, va: u64, ans: &mut u64, base: u64, ram: &[u8]) -> u64
+    ensures { Promise (DecodedCall.Known (Call.Fetch va)) base ram.now core.old result
+        ans.old ans.new ram.now core.new }
+{
+    let answer = checked::fetch(core, base, ram, va);
+    reply::answer(answer, ans)
+}

@@ -1,0 +1,37 @@
+-- The parts of a core that a caller sets.
+use Rattle.std.specs.Prelude.{if◌then◌else◌, ℕ, ◌%◌, ◌^◌, ◌==◌, nat_lt, Option, Some, None, bit_and}
+use Rattle.word.specs.Bits.{bit0}
+use Rattle.exception.specs.declared.flags.Flags.{Flags}
+use Rattle.tlb.specs.Tlb.{invalidate_of}
+use Rattle.tlb.specs.declared.Inval.{Inval}
+use Rattle.tlb.specs.declared.Inval.TheVariants.{All, Page, Asid}
+use Rattle.mmu.specs.Ops.{with_tlb}
+use Rattle.mmu.specs.declared.core_state.Core.{Core}
+
+abbrev pub with_pc : Core → ℕ → Core
+with_pc c pc = record c { pc = pc }
+
+-- PSTATE by an SPSR's word: NZCV are bits 31 to 28, DAIF bits 9 to 6, SP bit 0; the level is not set by it
+abbrev pub flags_in : ℕ → Flags
+flags_in psr = record { nzcv = bit_and psr 0xF000_0000; daif = bit_and psr 0x3C0; spsel = bit0 psr }
+
+abbrev pub with_flags : Core → ℕ → Core
+with_flags c psr = record c { flags = flags_in psr }
+
+-- nothing pending
+abbrev pub without_pending : Core → Core
+without_pending c = record c { tlb = record c.tlb { broadcast = None } }
+
+-- what two words of another core's broadcast name; an ASID has 16 bits
+abbrev pub inval_named : ℕ → ℕ → Option Inval
+inval_named kind v =
+    if kind == 1 then Some All else if kind == 2 then Some (Page v) else if kind == 3 then (if nat_lt v (2 ^ 16) then Some (Asid v) else None) else None
+
+-- it is done; 64 where they name nothing, and nothing changes
+abbrev pub received : Core → Option Inval → Core
+received c (Some what) = with_tlb c (invalidate_of c.tlb what)
+received c None = c
+
+abbrev pub number_received : Option Inval → ℕ
+number_received (Some what) = 0
+number_received None = 64

@@ -1,0 +1,65 @@
+-- `a72h_init` writes a core after reset where there is room for one.
+use Rattle.std.proofs.Common.{◌≡◌, [], ◌∷◌, refl}
+use Rattle.std.proofs.raw_atomic.Walks.{proved}
+use base.Fraction.{full_share}
+use base.Logic.{id⊢}
+use base.Fml.{ftrue}
+use mir.Val.{vunit}
+use prog.Wp.{WpFn}
+use contract.Monad.{fact}
+use contract.Running.{tables}
+use types.Kit.{‵, raw, ◌⊛◌, some, later, prop, ◌$◌, ◌∵◌, !, qed, move, drop, use1, use2, split, join, pick, await, rewrite, feq_i, regoal, suffices, group, done}
+use types.Run.{enter, of_opd, unit_lit, init, stop, no_more, assigns, returns}
+use types.ByLocal.{alloc_all, pass_all, free_all, look_at, get, through, sets, lands_as}
+use borrow.Table.OneValue.{part_in}
+use denote.Exit.{yes}
+use denote.Laws.{shows}
+use denote.RawPtr.{Ptr, RawPtr, block_ptr, room_at, lies_at, in_a_block, rawptr_vals, rawptr_Tells}
+use denote.Signature.{plain}
+use denote.Steps.{nothing, heard, peeks}
+use denote.Triple.Call.{calls_at}
+use denote.Triple.Clauses.{lasts}
+use denote.Triple.Entry.{on_entry}
+use denote.Triple.Spec.{triple_of}
+use denote.Triple.Table.{framed}
+use denote.Triple.Walked.{Stays, stay_dropped, Goes-dropped, walk_of, ends_at}
+use Rattle.mmu.specs.Core.{fresh_core}
+use Rattle.mmu.specs.declared.core_state.Core.{Core}
+use Rattle.mmu.specs.contracts.core_state.Core.{the_row as T}
+use Rattle.mmu.proofs.core_state.Core.TheLaws.{the_row_laws}
+use Rattle.mmu.specs.contracts.core_state.Core.new as g
+use Rattle.mmu.proofs.core_state.Core.new.Met.{met}
+use Rattle.core_static.specs.contracts.a72h_init as f
+use Rattle.core_static.proofs.a72h_init.Statement.{statement}
+use Rattle.core_static.proofs.a72h_init.Code as code
+
+abbrev stayed : Stays f.ended.signature.params f.ended.kept
+stayed = (stay_dropped _ yes, tt)
+
+pub a72h_init_spec : {M : Type 1} → statement M
+a72h_init_spec 𝓤 𝓛 𝓜 𝓡 wired =
+    let c = f.clauses 𝓛 𝓜.mem 𝓡.returns in let W = walk_of 𝓛 f.ended stayed c in let 𝓣 = tables 𝓤 𝓛.H 𝓜 𝓡 𝓡.env in
+    proved 𝓛 f.ended stayed c 𝓜 𝓡 (Goes-dropped 𝓛 0 (plain (λ _. RawPtr)) yes (λ κs x w. refl), tt)
+    f.Key.name code.function (code.unfolded 𝓤 𝓛.H 𝓜 𝓡 wired)
+    (λ κs. (rawptr_vals, tt)) (λ κs. (rawptr_Tells, tt)) (λ κs qs bounds a _ are.
+    let y : Ptr → W.Ghost = λ p. ((κs, qs, bounds, (p, tt), (rawptr_vals p, tt)), tt) in
+    qed 𝓛 (raw (on_entry 𝓛 f.signature κs qs a (y a.0).0.4) ∷ ‵ (room_at T a.0) ∷ []) ∵ drop ! $
+    in_a_block ! a.0 (λ p. room_at T p) (id⊢ 𝓤 _) (λ b o e.
+    regoal ! (λ p. prop (WpFn 𝓤 𝓛.H 𝓣.C 𝓣.Λ code.function (rawptr_vals p) (W.post (y p)))) e refl $
+    enter ! _ _ _ _ _ $ alloc_all ! (λ l. pass_all ! refl ((tt, tt), tt) $
+    -- [the room; the locals]
+    let G = triple_of 𝓛 g.signature (g.spec 𝓛 𝓜.mem 𝓡.returns) in let z : G.Ghost = ((tt, tt, tt, tt, tt), tt) in
+    nothing ! $ nothing ! $ join ! $ nothing ! $ move ! (1 ∷ 0 ∷ []) $ use2 𝓛 (raw (G.pre z)) (id⊢ 𝓤 _) $
+    calls_at ! (framed 𝓤 𝓛.H 𝓜 (tables 𝓤 𝓛.H 𝓜 𝓡 𝓡.env)) G (met 𝓤 𝓛 𝓜 𝓡 (code.calls-mmu::core_state::Core::new 𝓡.env wired)) z (no_more !) (λ v.
+    use1 𝓛 (later (some (λ (r : Core). (‵ ftrue ⊛ ‵ (T.own_val r (v ∷ []))) ⊛ some (λ (ws : Unit {0}). ‵ (lasts g.ended tt tt ws) ⊛ raw (fact 𝓤 (r ≡ fresh_core)))))) (id⊢ 𝓤 _) $
+    await ! tt $ pick ! (λ r. split ! $ move ! (1 ∷ []) $ pick ! (λ ws. split ! $ drop ! $ heard ! (r ≡ fresh_core) (λ is_fresh. split ! $ drop ! $
+    rewrite ! 0 (λ (x : Core). ‵ (T.own_val x (v ∷ []))) is_fresh refl $
+    peeks ! T _ (shows 𝓛 T) fresh_core (v ∷ []) (λ is. let typed = ((the_row_laws.lawful 𝓛).typed fresh_core (v ∷ []) is).0 in
+    lands_as ! refl refl typed $
+    -- [the core; the room; the locals]
+    assigns ! (of_opd ! (get ! refl)) (through ! refl (stop !)) (init ! 1 refl typed) $
+    sets ! (of_opd ! (unit_lit !)) refl (tt, tt) $
+    returns ! (look_at ! 0 refl) $ free_all ! refl $ move ! (1 ∷ 0 ∷ []) $
+    use2 𝓛 (‵ (lies_at T full_share (block_ptr b o) fresh_core)) (part_in 𝓛 T refl full_share fresh_core b o v) $
+    suffices ! _ (ends_at 𝓛 f.ended stayed c (y (block_ptr b o)) vunit tt (tt, tt) (tt, tt)) $
+    feq_i ! _ (vunit ∷ []) _ refl $ nothing ! $ nothing ! $ join ! $ nothing ! $ group ! 3 $ done !))))))))
