@@ -3,13 +3,12 @@ use crate::stop::Stop;
 use counters_report::report;
 use std::io::Write;
 use std::rt::Files;
-use trace_core::counters;
 use trace_core::machine::Machine;
 use trace_file::run;
 
 pub fn show<R: Files + AllocGlobal, W: Write>(rt: &R, out: &mut W, path: &str) -> Result<(), Stop> {
     let mut machine = Machine::new(rt.alloc())?;
     run::silently(rt, path, &mut machine)?;
-    report::show(out, &counters::counts(&machine.state))?;
+    report::show(out, &machine.core.tlb.counts)?;
     Ok(())
 }

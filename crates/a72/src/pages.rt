@@ -1,9 +1,9 @@
 // `a72 census TRACE FIRST PAGES [LEVEL] [--svg]`: a trace in silence, then a census of its core's pages.
 use crate::arguments;
 use crate::stop::Stop;
-use a72abi::calls;
 use census_report::report;
 use census_report::report::Form;
+use core_calls::settings;
 use std::io::Write;
 use std::rt::Files;
 use trace_core::machine::Machine;
@@ -46,10 +46,10 @@ pub fn census<R: Files + AllocGlobal, W: Write>(
     let mut machine = Machine::new(rt.alloc())?;
     run::silently(rt, path, &mut machine)?;
     if let Some(level) = q.level {
-        calls::a72_level(&mut machine.state, level);
+        settings::level(&mut machine.core, level);
     }
     let ram = machine.ram.as_slice();
-    let found = report::census(&machine.state, machine.base, ram, q.first, q.pages)?;
+    let found = report::census(&machine.core, machine.base, ram, q.first, q.pages)?;
     report::show(out, rt.alloc(), &found, form)?;
     Ok(())
 }

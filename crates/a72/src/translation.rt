@@ -1,7 +1,7 @@
 // `a72 walk TRACE ADDRESS [read|write|fetch] [LEVEL]`: a trace in silence, then one translation step by step.
 use crate::arguments;
 use crate::stop::{Stop, Wrong};
-use a72abi::calls;
+use core_calls::settings;
 use std::io::Write;
 use std::rt::Files;
 use tlb::access::Kind;
@@ -50,13 +50,13 @@ pub fn walk<R: Files + AllocGlobal, W: Write>(
     let q = asked(words)?;
     let mut machine = Machine::new(rt.alloc())?;
     run::silently(rt, path, &mut machine)?;
-    let state = &mut machine.state;
+    let core = &mut machine.core;
     if let Some(level) = q.level {
-        calls::a72_level(state, level);
+        settings::level(core, level);
     }
     explain::explain(
         out,
-        state,
+        core,
         machine.base,
         machine.ram.as_mut_slice(),
         q.kind,

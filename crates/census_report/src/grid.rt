@@ -2,8 +2,8 @@
 ghost use Rattle.std.specs.Prelude.{◌≡◌, ◌*◌, ◌<◌, ◌≤◌, min};
 
 use crate::letter;
-use a72abi::inspect;
-use words::place::State;
+use core_calls::inspect;
+use mmu::core_state::Core;
 
 // Where the range starts, its pages, the pages of a cell and the number of cells.
 #[derive(Clone, Copy)]
@@ -55,15 +55,15 @@ pub fn row_bytes(g: Grid) -> u64 {
 }
 
 // A cell's letter: a census of its own pages.
-fn cell(state: &State, base: u64, ram: &[u8], start: u64, from: u64, pages: u64) -> u8 {
+fn cell(core: &Core, base: u64, ram: &[u8], start: u64, from: u64, pages: u64) -> u8 {
     let mut counts = [0u64; 129];
     let first = start.wrapping_add(from % 0x10_0000 * 4096);
-    inspect::a72_census(state, first, pages, &mut counts, base, ram);
+    inspect::census(core, first, pages, &mut counts, base, ram);
     letter::of_counts(&counts)
 }
 
 // The letters of all cells, each from where the one before it ended. Where the last one ends: with the range.
-pub fn fill(state: &State, base: u64, ram: &[u8], g: Grid, cells: &mut [u8; 4096]) -> u64
+pub fn fill(core: &Core, base: u64, ram: &[u8], g: Grid, cells: &mut [u8; 4096]) -> u64
     ensures { g.pages ≤ g.per * 4096 → result ≡ g.pages }
 {
     let per = g.per;
@@ -73,7 +73,7 @@ pub fn fill(state: &State, base: u64, ram: &[u8], g: Grid, cells: &mut [u8; 4096
     let mut i: usize = 0;
     while from < pages && i < CELLS {
         let n = per.min(pages - from);
-        cells[i] = cell(state, base, ram, start, from, n);
+        cells[i] = cell(core, base, ram, start, from, n);
         from += n;
         i += 1;
     }

@@ -2,14 +2,13 @@
 use crate::grid::Grid;
 use crate::head::Title;
 use crate::{draw, grid, letter, map, table};
-use a72abi::inspect;
+use core_calls::inspect;
+use mmu::core_state::Core;
 use std::alloc::Global;
 use std::io::Write;
 use std::{fmt, io};
 use walk::regime::Regime;
 use walk_report::explain;
-use words::place::State;
-use words::state;
 
 // Why there is no census.
 #[derive(Clone, Copy, Debug)]
@@ -65,26 +64,25 @@ fn why_not(number: u64, pages: u64) -> Refused {
 
 // The census of so many pages at the core's level.
 pub fn census(
-    state: &State,
+    core: &Core,
     base: u64,
     ram: &[u8],
     first: u64,
     pages: u64,
 ) -> Result<Found, Refused> {
     let mut counts = [0u64; 129];
-    let number = inspect::a72_census(state, first, pages, &mut counts, base, ram);
+    let number = inspect::census(core, first, pages, &mut counts, base, ram);
     if number != 0 {
         return Err(why_not(number, pages));
     }
     let grid = grid::of_range(first, pages);
     let mut letters = [letter::NONE; 4096];
-    grid::fill(state, base, ram, grid, &mut letters);
-    let privilege = state::privilege_at(state);
+    grid::fill(core, base, ram, grid, &mut letters);
     Ok(Found {
         counts,
         letters,
         grid,
-        level: privilege.level,
+        level: core.privilege.level,
     })
 }
 

@@ -1,11 +1,10 @@
 // The board: tables, frames and pages in RAM, and what the firmware does to them at note-on and note-off.
-use a72abi::{bytes, calls};
+use core_calls::{memory, settings, step};
+use mmu::core_state::Core;
 use tlb::access::Kind;
 use tlb::hint;
 use word::ram;
 use word::ram::Width;
-use words::cells;
-use words::place::State;
 
 // The first address of RAM.
 pub const BASE: u64 = 0x4000_0000;
@@ -79,14 +78,14 @@ fn unmap_all(ram: &mut [u8]) {
 }
 
 // A fresh core at EL1 with stage 1 on, and no page mapped.
-pub fn start(state: &mut State, ram: &mut [u8]) {
+pub fn start(core: &mut Core, ram: &mut [u8]) {
     tables(ram);
     unmap_all(ram);
-    calls::a72_fresh(state);
-    calls::a72_register(state, 0xC102, TCR);
-    calls::a72_register(state, 0xC100, LEVEL1);
-    calls::a72_register(state, 0xC080, 0x30D0_0801);
-    calls::a72_level(state, 1);
+    *core = Core::new();
+    settings::register(core, 0xC102, TCR);
+    settings::register(core, 0xC100, LEVEL1);
+    settings::register(core, 0xC080, 0x30D0_0801);
+    settings::level(core, 1);
 }
 
 // Note-on: the tone goes into a frame, and the voice's page is mapped to it.
@@ -96,33 +95,33 @@ pub fn note_on(ram: &mut [u8], voice: u64, n: u64, tone: u64) {
 }
 
 // TLBI VAE1 of a voice's page.
-fn invalidate(state: &mut State, ram: &mut [u8], voice: u64) {
+fn invalidate(core: &mut Core, ram: &mut [u8], voice: u64) {
     let mut ans = 0u64;
-    calls::a72_general(state, 1, page(voice));
-    calls::a72_system(state, 0, 8, 7, 1, 1, &mut ans, BASE, ram);
+    settings::general(core, 1, page(voice));
+    step::system(core, 0, 8, 7, 1, 1, &mut ans, BASE, ram);
 }
 
 // The same on a core that lets one translation outlive it: the hint of the page is put back.
-fn invalidate_stale(state: &mut State, ram: &mut [u8], voice: u64) {
+fn invalidate_stale(core: &mut Core, ram: &mut [u8], voice: u64) {
     let slot = hint::data_slot(address(voice), Kind::Read);
-    let old = cells::hint_at(state, slot);
-    invalidate(state, ram, voice);
-    cells::put_hint(state, slot, old);
+    let old = core.tlb.cache.hints[slot];
+    invalidate(core, ram, voice);
+    core.tlb.cache.hints[slot] = old;
 }
 
 // Note-off: the page is taken back, and its old translation is invalidated.
-pub fn note_off(state: &mut State, ram: &mut [u8], voice: u64, off: Off) {
+pub fn note_off(core: &mut Core, ram: &mut [u8], voice: u64, off: Off) {
     put(ram, descriptor_at(voice), 0);
     match off {
-        Off::Invalidated => invalidate(state, ram, voice),
-        Off::HintKept => invalidate_stale(state, ram, voice),
+        Off::Invalidated => invalidate(core, ram, voice),
+        Off::HintKept => invalidate_stale(core, ram, voice),
         Off::Forgotten => {}
     }
 }
 
 // What a voice gives, read through the core.
-pub fn hear(state: &mut State, ram: &[u8], voice: u64) -> u64 {
+pub fn hear(core: &mut Core, ram: &[u8], voice: u64) -> u64 {
     let mut tone = SILENCE;
-    let code = bytes::a72_load(state, address(voice), 8, &mut tone, BASE, ram);
+    let code = memory::load(core, address(voice), 8, &mut tone, BASE, ram);
     if code == 0 { tone } else { SILENCE }
 }

@@ -1,7 +1,7 @@
 // The keys that are held: which frame each voice has and which tone it is to give, and whether it is heard.
 use crate::board;
 use crate::board::Off;
-use words::place::State;
+use mmu::core_state::Core;
 
 #[derive(Clone, Copy)]
 pub struct Desk {
@@ -63,9 +63,9 @@ pub fn press(d: Desk, ram: &mut [u8], voice: u64, tone: u64) -> Desk {
     out
 }
 
-pub fn release(d: Desk, state: &mut State, ram: &mut [u8], voice: u64, off: Off) -> Desk {
+pub fn release(d: Desk, core: &mut Core, ram: &mut [u8], voice: u64, off: Off) -> Desk {
     let v = (voice % 16) as usize;
-    board::note_off(state, ram, voice, off);
+    board::note_off(core, ram, voice, off);
     let n = d.frames[v] % 32;
     let mut out = d;
     out.used = d.used & !(1 << n);
@@ -74,12 +74,12 @@ pub fn release(d: Desk, state: &mut State, ram: &mut [u8], voice: u64, off: Off)
 }
 
 // One voice: nothing where it is silent; else whether its own tone is heard.
-fn listen(d: Desk, state: &mut State, ram: &[u8], voice: u64) -> Heard {
+fn listen(d: Desk, core: &mut Core, ram: &[u8], voice: u64) -> Heard {
     let tone = tone_of(d, voice);
     if tone == 0 {
         return nothing();
     }
-    let heard = board::hear(state, ram, voice);
+    let heard = board::hear(core, ram, voice);
     let lost = heard != tone;
     Heard {
         reads: 1,
@@ -88,10 +88,10 @@ fn listen(d: Desk, state: &mut State, ram: &[u8], voice: u64) -> Heard {
 }
 
 // Every voice that is held.
-pub fn listen_all(d: Desk, state: &mut State, ram: &[u8]) -> Heard {
+pub fn listen_all(d: Desk, core: &mut Core, ram: &[u8]) -> Heard {
     let mut h = nothing();
     for v in 0..16u64 {
-        h = sum(h, listen(d, state, ram, v));
+        h = sum(h, listen(d, core, ram, v));
     }
     h
 }

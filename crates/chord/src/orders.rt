@@ -4,9 +4,9 @@ use crate::board::Off;
 use crate::hold::{Desk, Heard};
 use crate::note::Note;
 use crate::{board, hold};
+use mmu::core_state::Core;
 use std::io::Write;
 use std::{fmt, io};
-use words::place::State;
 
 // Numbers of ten such digits.
 const ALL: u64 = 0x10_0000;
@@ -57,23 +57,23 @@ fn is_order(order: u64) -> bool {
 }
 
 // A key is pressed if it is not held, and let go if it is.
-fn event(d: Desk, state: &mut State, ram: &mut [u8], key: u64, off: Off) -> Desk {
+fn event(d: Desk, core: &mut Core, ram: &mut [u8], key: u64, off: Off) -> Desk {
     let v = voice(key);
     if hold::tone_of(d, v) == 0 {
         hold::press(d, ram, v, tone(key))
     } else {
-        hold::release(d, state, ram, v, off)
+        hold::release(d, core, ram, v, off)
     }
 }
 
 // One order: after each event every key that is held is heard.
-fn play(state: &mut State, ram: &mut [u8], order: u64, off: Off) -> Heard {
-    board::start(state, ram);
+fn play(core: &mut Core, ram: &mut [u8], order: u64, off: Off) -> Heard {
+    board::start(core, ram);
     let mut d = hold::silent();
     let mut h = hold::nothing();
     for i in 0..10u64 {
-        d = event(d, state, ram, key(order, i), off);
-        h = hold::sum(h, hold::listen_all(d, state, ram));
+        d = event(d, core, ram, key(order, i), off);
+        h = hold::sum(h, hold::listen_all(d, core, ram));
     }
     h
 }
@@ -103,10 +103,10 @@ fn counted(t: Tally, order: u64, h: Heard) -> Tally {
     }
 }
 
-fn tried(t: Tally, state: &mut State, ram: &mut [u8], order: u64, off: Off) -> Tally {
+fn tried(t: Tally, core: &mut Core, ram: &mut [u8], order: u64, off: Off) -> Tally {
     let whole = is_order(order);
     if whole {
-        let h = play(state, ram, order, off);
+        let h = play(core, ram, order, off);
         counted(t, order, h)
     } else {
         t
@@ -114,10 +114,10 @@ fn tried(t: Tally, state: &mut State, ram: &mut [u8], order: u64, off: Off) -> T
 }
 
 // All orders.
-pub fn all(state: &mut State, ram: &mut [u8], off: Off) -> Tally {
+pub fn all(core: &mut Core, ram: &mut [u8], off: Off) -> Tally {
     let mut t = none();
     for order in 0..ALL {
-        t = tried(t, state, ram, order, off);
+        t = tried(t, core, ram, order, off);
     }
     t
 }
@@ -146,13 +146,13 @@ impl fmt::Display for Gives {
 }
 
 // What a key gives; one that is not held is not read.
-fn given(d: Desk, state: &mut State, ram: &[u8], k: u64) -> Gives {
+fn given(d: Desk, core: &mut Core, ram: &[u8], k: u64) -> Gives {
     let v = voice(k);
     let expected = hold::tone_of(d, v);
     let heard = if expected == 0 {
         board::SILENCE
     } else {
-        board::hear(state, ram, v)
+        board::hear(core, ram, v)
     };
     Gives { expected, heard }
 }
@@ -160,7 +160,7 @@ fn given(d: Desk, state: &mut State, ram: &[u8], k: u64) -> Gives {
 fn show_event<W: Write>(
     out: &mut W,
     d: Desk,
-    state: &mut State,
+    core: &mut Core,
     ram: &[u8],
     k: u64,
 ) -> io::Result<()> {
@@ -169,7 +169,7 @@ fn show_event<W: Write>(
     write!(out, "     {}", Note(tone(k)))?;
     write!(out, "{end}")?;
     for other in 0..4u64 {
-        write!(out, "{}", given(d, state, ram, other))?;
+        write!(out, "{}", given(d, core, ram, other))?;
     }
     writeln!(out)
 }
@@ -177,17 +177,17 @@ fn show_event<W: Write>(
 // One order, event by event.
 pub fn show<W: Write>(
     out: &mut W,
-    state: &mut State,
+    core: &mut Core,
     ram: &mut [u8],
     order: u64,
     off: Off,
 ) -> io::Result<()> {
-    board::start(state, ram);
+    board::start(core, ram);
     let mut d = hold::silent();
     for i in 0..10u64 {
         let k = key(order, i);
-        d = event(d, state, ram, k, off);
-        show_event(out, d, state, ram, k)?;
+        d = event(d, core, ram, k, off);
+        show_event(out, d, core, ram, k)?;
     }
     Ok(())
 }

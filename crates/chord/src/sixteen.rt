@@ -4,9 +4,9 @@ use crate::board::Off;
 use crate::hold::{Desk, Heard};
 use crate::note::Note;
 use crate::{board, hold};
+use mmu::core_state::Core;
 use std::io;
 use std::io::Write;
-use words::place::State;
 
 // The first sixteen partials of a low C, as numbers of notes.
 pub fn partial(voice: u64) -> u64 {
@@ -44,14 +44,8 @@ pub fn press_all(ram: &mut [u8]) -> Desk {
 }
 
 // A row: the voice, its note, its page, the slot of its entry, its frame, and what is heard.
-fn row<W: Write>(
-    out: &mut W,
-    d: Desk,
-    state: &mut State,
-    ram: &[u8],
-    voice: u64,
-) -> io::Result<()> {
-    let heard = Note(board::hear(state, ram, voice));
+fn row<W: Write>(out: &mut W, d: Desk, core: &mut Core, ram: &[u8], voice: u64) -> io::Result<()> {
+    let heard = Note(board::hear(core, ram, voice));
     let note = Note(hold::tone_of(d, voice));
     let address = board::address(voice);
     let slot = board::page(voice) % 1024;
@@ -62,14 +56,14 @@ fn row<W: Write>(
 }
 
 // All sixteen are held, and shown.
-pub fn table<W: Write>(out: &mut W, state: &mut State, ram: &mut [u8]) -> io::Result<Heard> {
-    board::start(state, ram);
+pub fn table<W: Write>(out: &mut W, core: &mut Core, ram: &mut [u8]) -> io::Result<Heard> {
+    board::start(core, ram);
     let d = press_all(ram);
     writeln!(out, "   voice   note  page      slot  frame      heard")?;
     for v in 0..16u64 {
-        row(out, d, state, ram, v)?;
+        row(out, d, core, ram, v)?;
     }
-    Ok(hold::listen_all(d, state, ram))
+    Ok(hold::listen_all(d, core, ram))
 }
 
 // The voices as they are held, and what was heard so far.
@@ -80,49 +74,49 @@ pub struct Round {
 }
 
 // All that are held now are heard.
-fn listened(r: Round, d: Desk, state: &mut State, ram: &[u8]) -> Round {
+fn listened(r: Round, d: Desk, core: &mut Core, ram: &[u8]) -> Round {
     let before = r.heard;
-    let now = hold::listen_all(d, state, ram);
+    let now = hold::listen_all(d, core, ram);
     let heard = hold::sum(before, now);
     Round { desk: d, heard }
 }
 
-fn let_go(r: Round, state: &mut State, ram: &mut [u8], voice: u64, off: Off) -> Round {
+fn let_go(r: Round, core: &mut Core, ram: &mut [u8], voice: u64, off: Off) -> Round {
     let before = r.desk;
-    let d = hold::release(before, state, ram, voice, off);
-    listened(r, d, state, ram)
+    let d = hold::release(before, core, ram, voice, off);
+    listened(r, d, core, ram)
 }
 
 // The note a semitone above, in the lowest frame that is free.
-fn take_up(r: Round, state: &mut State, ram: &mut [u8], voice: u64) -> Round {
+fn take_up(r: Round, core: &mut Core, ram: &mut [u8], voice: u64) -> Round {
     let before = r.desk;
     let d = hold::press(before, ram, voice, sharp(voice));
-    listened(r, d, state, ram)
+    listened(r, d, core, ram)
 }
 
 // Two neighbours let go.
-fn both_go(r: Round, state: &mut State, ram: &mut [u8], voice: u64, off: Off) -> Round {
-    let one = let_go(r, state, ram, voice, off);
-    let_go(one, state, ram, voice % 16 + 1, off)
+fn both_go(r: Round, core: &mut Core, ram: &mut [u8], voice: u64, off: Off) -> Round {
+    let one = let_go(r, core, ram, voice, off);
+    let_go(one, core, ram, voice % 16 + 1, off)
 }
 
 // Then each takes the other's frame.
-fn swap(r: Round, state: &mut State, ram: &mut [u8], voice: u64, off: Off) -> Round {
-    let gone = both_go(r, state, ram, voice, off);
-    let one = take_up(gone, state, ram, voice % 16 + 1);
-    take_up(one, state, ram, voice)
+fn swap(r: Round, core: &mut Core, ram: &mut [u8], voice: u64, off: Off) -> Round {
+    let gone = both_go(r, core, ram, voice, off);
+    let one = take_up(gone, core, ram, voice % 16 + 1);
+    take_up(one, core, ram, voice)
 }
 
 // Every pair of neighbours in turn, from all sixteen held.
-pub fn changes(state: &mut State, ram: &mut [u8], off: Off) -> Heard {
-    board::start(state, ram);
+pub fn changes(core: &mut Core, ram: &mut [u8], off: Off) -> Heard {
+    board::start(core, ram);
     let d = press_all(ram);
     let mut r = Round {
         desk: d,
-        heard: hold::listen_all(d, state, ram),
+        heard: hold::listen_all(d, core, ram),
     };
     for pair in 0..8u64 {
-        r = swap(r, state, ram, 2 * pair, off);
+        r = swap(r, core, ram, 2 * pair, off);
     }
     r.heard
 }

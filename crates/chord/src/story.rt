@@ -4,9 +4,9 @@ use crate::board::Off;
 use crate::hold::Heard;
 use crate::orders::Tally;
 use crate::{orders, sixteen};
+use mmu::core_state::Core;
 use std::io::Write;
 use std::{fmt, io};
-use words::place::{State, WORDS};
 
 impl fmt::Display for Heard {
     fn fmt<W: fmt::Write>(&self, f: &mut fmt::Formatter<W>) -> fmt::Result {
@@ -23,39 +23,34 @@ fn name(off: Off) -> &'static str {
     }
 }
 
-fn first_part<W: Write>(out: &mut W, state: &mut State, ram: &mut [u8]) -> io::Result<bool> {
+fn first_part<W: Write>(out: &mut W, core: &mut Core, ram: &mut [u8]) -> io::Result<bool> {
     writeln!(
         out,
         "1. Sixteen voices, a page each; voices 1 and 9, 2 and 10 .. share a slot of the cache.\n"
     )?;
-    let h = sixteen::table(out, state, ram)?;
+    let h = sixteen::table(out, core, ram)?;
     writeln!(out, "\n   sixteen voices held: {h}")?;
     Ok(h.lost == 0)
 }
 
-fn changed<W: Write>(out: &mut W, state: &mut State, ram: &mut [u8], off: Off) -> io::Result<bool> {
-    let h = sixteen::changes(state, ram, off);
+fn changed<W: Write>(out: &mut W, core: &mut Core, ram: &mut [u8], off: Off) -> io::Result<bool> {
+    let h = sixteen::changes(core, ram, off);
     writeln!(out, "{}{h}", name(off))?;
     Ok(h.lost == 0)
 }
 
-fn second_part<W: Write>(out: &mut W, state: &mut State, ram: &mut [u8]) -> io::Result<bool> {
+fn second_part<W: Write>(out: &mut W, core: &mut Core, ram: &mut [u8]) -> io::Result<bool> {
     writeln!(
         out,
         "\n2. Every voice changes its note and its frame: note-off, TLBI by address, note-on.\n"
     )?;
-    let whole = changed(out, state, ram, Off::Invalidated)?;
-    changed(out, state, ram, Off::HintKept)?;
-    changed(out, state, ram, Off::Forgotten)?;
+    let whole = changed(out, core, ram, Off::Invalidated)?;
+    changed(out, core, ram, Off::HintKept)?;
+    changed(out, core, ram, Off::Forgotten)?;
     Ok(whole)
 }
 
-fn first_loss<W: Write>(
-    out: &mut W,
-    state: &mut State,
-    ram: &mut [u8],
-    t: Tally,
-) -> io::Result<()> {
+fn first_loss<W: Write>(out: &mut W, core: &mut Core, ram: &mut [u8], t: Tally) -> io::Result<()> {
     if t.wrong == 0 {
         return Ok(());
     }
@@ -68,42 +63,37 @@ fn first_loss<W: Write>(
         out,
         " The first of them, where two held keys read one page:\n"
     )?;
-    orders::show(out, state, ram, t.first, Off::HintKept)?;
+    orders::show(out, core, ram, t.first, Off::HintKept)?;
     writeln!(out, "\n   The same order on the proved core:\n")?;
-    orders::show(out, state, ram, t.first, Off::Invalidated)
+    orders::show(out, core, ram, t.first, Off::Invalidated)
 }
 
-fn ordered<W: Write>(
-    out: &mut W,
-    state: &mut State,
-    ram: &mut [u8],
-    off: Off,
-) -> io::Result<Tally> {
-    let t = orders::all(state, ram, off);
+fn ordered<W: Write>(out: &mut W, core: &mut Core, ram: &mut [u8], off: Off) -> io::Result<Tally> {
+    let t = orders::all(core, ram, off);
     writeln!(out, "{}{} orders, {}", name(off), t.orders, t.heard)?;
     Ok(t)
 }
 
-fn third_part<W: Write>(out: &mut W, state: &mut State, ram: &mut [u8]) -> io::Result<bool> {
+fn third_part<W: Write>(out: &mut W, core: &mut Core, ram: &mut [u8]) -> io::Result<bool> {
     write!(
         out,
         "\n3. Every order of a chord: C4 and E4 pressed twice, G4 and B4 once;"
     )?;
     writeln!(out, " C4 and E4 share a slot, and so do G4 and B4.\n")?;
-    let right = ordered(out, state, ram, Off::Invalidated)?;
-    let stale = ordered(out, state, ram, Off::HintKept)?;
-    ordered(out, state, ram, Off::Forgotten)?;
-    first_loss(out, state, ram, stale)?;
+    let right = ordered(out, core, ram, Off::Invalidated)?;
+    let stale = ordered(out, core, ram, Off::HintKept)?;
+    ordered(out, core, ram, Off::Forgotten)?;
+    first_loss(out, core, ram, stale)?;
     let h = right.heard;
     Ok(h.lost == 0)
 }
 
 // All three parts. Whether the proved core lost no tone in any is the last line, and the answer.
 pub fn tell<W: Write>(out: &mut W, ram: &mut [u8]) -> io::Result<bool> {
-    let mut state = [0u64; WORDS];
-    let held = first_part(out, &mut state, ram)?;
-    let changed = second_part(out, &mut state, ram)?;
-    let ordered = third_part(out, &mut state, ram)?;
+    let mut core = Core::new();
+    let held = first_part(out, &mut core, ram)?;
+    let changed = second_part(out, &mut core, ram)?;
+    let ordered = third_part(out, &mut core, ram)?;
     let whole = held & changed & ordered;
     if whole {
         writeln!(out, "\nthe chord is whole")?;

@@ -4,15 +4,20 @@ use Rattle.word.specs.Bits.{flag}
 use Rattle.tlb.specs.Cache.{entry_at, hint_at}
 use Rattle.tlb.specs.declared.{cache.Cache.Cache, entry.Entry.Entry, entry.Current.Current, hint.FetchHint.FetchHint}
 use Rattle.digest.specs.Fold.{gathered}
-use Rattle.words.specs.Places.{LEVEL}
+use Rattle.mmu.specs.declared.core_state.Core.{Core}
+use Rattle.saved.specs.Places.{LEVEL}
+use Rattle.saved.specs.WordsOf.{word_of}
 
--- a word of a state by its place
+-- a word of a list
 abbrev pub word_alone : List ℕ → ℕ → List ℕ
 word_alone ws i = slice_index ws i ∷ []
 
--- the registers, the flags and the general registers
-abbrev pub register_words : List ℕ → List ℕ
-register_words ws = gathered (word_alone ws) LEVEL 0
+-- the registers, the flags and the general registers: the words of a core before its level
+abbrev pub core_word : Core → ℕ → List ℕ
+core_word c place = word_of c place ∷ []
+
+abbrev pub register_words : Core → List ℕ
+register_words c = gathered (core_word c) LEVEL 0
 
 -- an entry answers where it has a tag and is of the present generation
 abbrev pub live : Entry → Current → Bool

@@ -1,18 +1,18 @@
-// The digests of a core's words.
-ghost use Rattle.std.specs.Prelude.{◌≡◌, ◌+◌, ◌≤◌, [], ◌∷◌};
+// The digests of a core's parts.
+ghost use Rattle.std.specs.Prelude.{◌≡◌, ◌+◌, ◌<◌, ◌≤◌, [], ◌∷◌};
 ghost use Rattle.word.specs.Bits.{wrap, flag};
-ghost use Rattle.words.specs.CoreOf.{core_of};
 ghost use Rattle.digest.specs.Fold.{digest_from, digest_of, gathered};
 ghost use Rattle.digest.specs.Count.{live_at, live_entries, set, set_at, set_data_hints, set_hints};
 ghost use Rattle.digest.specs.Parts.{live, register_words, record_words, entry_words, entries_words, hint_words};
 ghost use Rattle.digest.specs.Parts.{fetch_words, hints_words};
 
 use crate::fold;
+use mmu::core_state::Core;
+use saved::{place, save};
+use tlb::cache::Cache;
 use tlb::entry::{Current, Entry};
-use tlb::hint::Hint;
+use tlb::hint::{FetchHint, Hint};
 use word::bits;
-use words::place::State;
-use words::{cells, counts, place};
 
 // How many there are, and their digest.
 #[derive(Clone, Copy)]
@@ -52,14 +52,12 @@ fn counted(s: Sum, digest: u64) -> Sum
 }
 
 // The registers, the flags and the general registers: the words before the level.
-pub fn registers(state: &State) -> u64
-    ensures { result ≡ digest_of (register_words state.now) }
+pub fn registers(core: &Core) -> u64
+    ensures { result ≡ digest_of (register_words core.now) }
 {
     let mut h = fold::START;
-    let mut i: usize = 0;
-    while i < place::LEVEL {
-        h = fold::join(h, state[i]);
-        i += 1;
+    for i in 0..place::LEVEL {
+        h = fold::join(h, save::word(core, i));
     }
     h
 }
@@ -84,13 +82,13 @@ fn is_live(e: Entry, now: Current) -> bool
 
 // A sum with an entry, where it is live.
 #[tactic(auto, unfolding(crate::specs::Fold::digest_from, crate::specs::Parts::entry_words))]
-fn with_live(s: Sum, state: &State, j: usize) -> Sum
-    ensures digest_value { result.digest ≡ digest_from s.digest (entry_words (core_of state.now).tlb.cache j) }
-    ensures count_value { result.count ≡ wrap (s.count + flag (live_at (core_of state.now).tlb.cache j) 1) }
+fn with_live(s: Sum, cache: &Cache, j: usize) -> Sum
+    requires { j < 1024 }
+    ensures digest_value { result.digest ≡ digest_from s.digest (entry_words cache.now j) }
+    ensures count_value { result.count ≡ wrap (s.count + flag (live_at cache.now j) 1) }
 {
-    let e = cells::entry_at(state, j);
-    let now = counts::current_at(state);
-    if is_live(e, now) {
+    let e = cache.entries[j];
+    if is_live(e, cache.current) {
         let d = with_entry(s.digest, j as u64, e);
         counted(s, d)
     } else {
@@ -99,15 +97,13 @@ fn with_live(s: Sum, state: &State, j: usize) -> Sum
 }
 
 // The live entries by rising slot.
-pub fn entries(state: &State) -> Sum
-    ensures digest_value { result.digest ≡ digest_of (entries_words (core_of state.now).tlb.cache) }
-    ensures count_value { result.count ≡ live_entries (core_of state.now).tlb.cache }
+pub fn entries(core: &Core) -> Sum
+    ensures digest_value { result.digest ≡ digest_of (entries_words core.now.tlb.cache) }
+    ensures count_value { result.count ≡ live_entries core.now.tlb.cache }
 {
     let mut s = start();
-    let mut j: usize = 0;
-    while j < 1024 {
-        s = with_live(s, state, j);
-        j += 1;
+    for j in 0..1024usize {
+        s = with_live(s, &core.tlb.cache, j);
     }
     s
 }
@@ -120,11 +116,12 @@ fn is_set(h: Hint) -> bool
 }
 
 #[tactic(auto, unfolding(crate::specs::Fold::digest_from, crate::specs::Parts::hint_words))]
-fn with_hint(s: Sum, state: &State, i: usize) -> Sum
-    ensures digest_value { result.digest ≡ digest_from s.digest (hint_words (core_of state.now).tlb.cache i) }
-    ensures count_value { result.count ≡ wrap (s.count + flag (set_at (core_of state.now).tlb.cache i) 1) }
+fn with_hint(s: Sum, cache: &Cache, i: usize) -> Sum
+    requires { i < 512 }
+    ensures digest_value { result.digest ≡ digest_from s.digest (hint_words cache.now i) }
+    ensures count_value { result.count ≡ wrap (s.count + flag (set_at cache.now i) 1) }
 {
-    let h = cells::hint_at(state, i);
+    let h = cache.hints[i];
     if is_set(h) {
         let d = joined_three(s.digest, i as u64, h.key, h.pa);
         counted(s, d)
@@ -134,11 +131,10 @@ fn with_hint(s: Sum, state: &State, i: usize) -> Sum
 }
 
 #[tactic(auto, unfolding(crate::specs::Fold::digest_from, crate::specs::Parts::fetch_words))]
-fn with_fetch(s: Sum, state: &State) -> Sum
-    ensures digest_value { result.digest ≡ digest_from s.digest (fetch_words (core_of state.now).tlb.cache.fetch) }
-    ensures count_value { result.count ≡ wrap (s.count + flag (core_of state.now).tlb.cache.fetch.some 1) }
+fn with_fetch(s: Sum, f: FetchHint) -> Sum
+    ensures digest_value { result.digest ≡ digest_from s.digest (fetch_words f) }
+    ensures count_value { result.count ≡ wrap (s.count + flag f.some 1) }
 {
-    let f = cells::fetch_at(state);
     if f.some {
         let d = joined_three(s.digest, f.page, f.level as u64, f.pa);
         counted(s, d)
@@ -147,25 +143,23 @@ fn with_fetch(s: Sum, state: &State) -> Sum
     }
 }
 
-fn data_hints(state: &State) -> Sum
-    ensures digest_value { result.digest ≡ digest_of (gathered (hint_words (core_of state.now).tlb.cache) 512 0) }
-    ensures count_value { result.count ≡ set_data_hints (core_of state.now).tlb.cache }
+fn data_hints(cache: &Cache) -> Sum
+    ensures digest_value { result.digest ≡ digest_of (gathered (hint_words cache.now) 512 0) }
+    ensures count_value { result.count ≡ set_data_hints cache.now }
     ensures upper_bound { result.count ≤ 512 }
 {
     let mut s = start();
-    let mut i: usize = 0;
-    while i < 512 {
-        s = with_hint(s, state, i);
-        i += 1;
+    for i in 0..512usize {
+        s = with_hint(s, cache, i);
     }
     s
 }
 
 // The data hints that are set, by rising slot, then the fetch hint.
-pub fn hints(state: &State) -> Sum
-    ensures digest_value { result.digest ≡ digest_of (hints_words (core_of state.now).tlb.cache) }
-    ensures count_value { result.count ≡ set_hints (core_of state.now).tlb.cache }
+pub fn hints(core: &Core) -> Sum
+    ensures digest_value { result.digest ≡ digest_of (hints_words core.now.tlb.cache) }
+    ensures count_value { result.count ≡ set_hints core.now.tlb.cache }
 {
-    let s = data_hints(state);
-    with_fetch(s, state)
+    let s = data_hints(&core.tlb.cache);
+    with_fetch(s, core.tlb.cache.fetch)
 }

@@ -1,6 +1,5 @@
 // Cases that another implementation answered: what the core must come to, and for a class of difference what it must
 // not.
-use crate::parts;
 use crate::replay::Replay;
 use crate::stop::{Fault, Stop};
 use record_report::difference::Difference;
@@ -36,10 +35,10 @@ impl Case {
 }
 
 impl<W: Write> Replay<'_, W> {
-    // A word of the state or of the last answer.
+    // A word of the core or of the last answer.
     fn found(&self, place: u64) -> u64 {
         if place < ANSWER {
-            return parts::get(&self.machine.state, place);
+            return self.machine.word(place as usize);
         }
         match place - ANSWER {
             0 => self.ans[0],
@@ -112,7 +111,7 @@ impl<W: Write> Replay<'_, W> {
                 };
             }
             71 => {
-                let is = parts::get(&self.machine.state, first);
+                let is = self.machine.word(first as usize);
                 self.due(first, is, second)?;
             }
             72 => self.other(first, second),

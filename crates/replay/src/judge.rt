@@ -5,40 +5,66 @@ use crate::stop::{Fault, Stop};
 use crate::{parts, rows};
 use record_report::difference::Difference;
 use std::io::Write;
+use tlb::Inval;
+use trace_core::machine::Machine;
 use trace_text::line::Operation;
 use word::bits;
-use words::place;
-use words::place::State;
 
-// The words of the state, by the table.
-fn put_state(state: &State, is: &mut Words) {
-    for i in 0..rows::STATE {
-        is[rows::ANSWER + i] = parts::get(state, rows::PLACES[i] as u64);
+// What is pending for the other cores, and its page or ASID.
+fn pending(broadcast: Option<Inval>) -> (u64, u64) {
+    match broadcast {
+        None => (0, 0),
+        Some(Inval::All) => (1, 0),
+        Some(Inval::Page(page)) => (2, page),
+        Some(Inval::Asid(asid)) => (3, u64::from(asid)),
     }
 }
 
-// The numbers of entries and hints, and the digests of registers, entries, hints and RAM.
-fn put_digests(sum: u64, state: &State, is: &mut Words) {
-    let e = digest::parts::entries(state);
-    let h = digest::parts::hints(state);
-    let r = digest::parts::registers(state);
-    let at = rows::ANSWER + rows::STATE;
-    is[at] = e.count;
-    is[at + 1] = h.count;
-    is[at + 2] = r;
-    is[at + 3] = e.digest;
-    is[at + 4] = h.digest;
-    is[at + 5] = sum;
+// Parts of the core, the numbers of entries and hints, and the digests, that of RAM last.
+fn core_words(machine: &Machine, ram: u64) -> [u64; rows::CORE] {
+    let core = &machine.core;
+    let levels = &core.tlb.counts.levels;
+    let current = core.tlb.cache.current;
+    let (kind, value) = pending(core.tlb.broadcast);
+    let entries = digest::parts::entries(core);
+    let hints = digest::parts::hints(core);
+    [
+        levels[0].hits,
+        levels[0].walks,
+        levels[1].hits,
+        levels[1].walks,
+        levels[2].hits,
+        levels[2].walks,
+        levels[3].hits,
+        levels[3].walks,
+        core.tlb.counts.flushes,
+        core.tlb.counts.drops,
+        core.tlb.counts.epoch,
+        kind,
+        value,
+        core.last_pa,
+        core.abort_pa,
+        machine.level(),
+        u64::from(core.privilege.unprivileged),
+        u64::from(current.generation),
+        u64::from(current.asid),
+        core.sys.par_el1,
+        entries.count,
+        hints.count,
+        digest::parts::registers(core),
+        entries.digest,
+        hints.digest,
+        ram,
+    ]
 }
 
 impl<W: Write> Replay<'_, W> {
     // As the core has them.
     fn words_after(&mut self) -> Words {
-        let sum = self.machine.window_digest();
+        let ram = self.machine.window_digest();
         let mut is = [0; rows::AFTER];
         is[..rows::ANSWER].copy_from_slice(&self.ans);
-        put_state(&self.machine.state, &mut is);
-        put_digests(sum, &self.machine.state, &mut is);
+        is[rows::ANSWER..].copy_from_slice(&core_words(&self.machine, ram));
         is
     }
 
@@ -65,7 +91,7 @@ impl<W: Write> Replay<'_, W> {
         if want.len() < rows::BYTES {
             return Err(Stop::Broken(Fault::ShortLine));
         }
-        let par = self.machine.state[place::PAR_EL1];
+        let par = self.machine.core.sys.par_el1;
         self.tally.note(operation, &self.ans, par);
         if let Some(difference) = self.first_wrong(want) {
             self.counts.wrong = bits::more(self.counts.wrong);

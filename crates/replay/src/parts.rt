@@ -1,7 +1,6 @@
-// Words of a line and of a state, read by number: 0 past the last. And a record's bytes, in their order.
+// Words of a line, read by number: 0 past the last. And a record's bytes, in their order.
 use word::ram;
 use word::ram::Width;
-use words::place::{State, WORDS};
 
 // Word i of a line's bytes.
 pub fn word_of(buf: &[u8], i: u64) -> u64 {
@@ -9,11 +8,6 @@ pub fn word_of(buf: &[u8], i: u64) -> u64 {
         Some(v) => v,
         None => 0,
     }
-}
-
-pub fn get(state: &State, at: u64) -> u64 {
-    let i = at as usize;
-    if i < WORDS { state[i] } else { 0 }
 }
 
 // A first word, and the seven after it.

@@ -1,37 +1,13 @@
-// The words that an operation's line has after the operation, in a line's order: the answer, words of the state by
-// their places, numbers and digests. A word that a later form adds is one place and one name more here.
+// The words that an operation's line has after the operation, in a line's order: the answer, parts of the core, numbers
+// and digests. A word that a later form adds is one value in `judge` and one name more here.
 use record_report::tables;
-use words::place;
 
 pub const ANSWER: usize = 4;
 
-pub const PLACES: [usize; STATE] = [
-    place::LEVEL_HITS,
-    place::LEVEL_WALKS,
-    place::LEVEL_HITS + 1,
-    place::LEVEL_WALKS + 1,
-    place::LEVEL_HITS + 2,
-    place::LEVEL_WALKS + 2,
-    place::LEVEL_HITS + 3,
-    place::LEVEL_WALKS + 3,
-    place::FLUSHES,
-    place::DROPS,
-    place::EPOCH,
-    place::PENDING,
-    place::PENDING_VALUE,
-    place::LAST_PA,
-    place::ABORT_PA,
-    place::LEVEL,
-    place::UNPRIVILEGED,
-    place::GENERATION,
-    place::ASID,
-    place::PAR_EL1,
-];
+pub const CORE: usize = 26;
 
-pub const STATE: usize = 20;
-
-// All of them with the six numbers and digests, in bytes too, and with the operation's own eight words.
-pub const AFTER: usize = ANSWER + STATE + 6;
+// All of them, in bytes too, and with the operation's own eight words.
+pub const AFTER: usize = ANSWER + CORE;
 
 pub const BYTES: usize = 8 * AFTER;
 

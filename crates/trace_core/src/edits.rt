@@ -1,17 +1,11 @@
 // Lines that overwrite a part of the core.
+use crate::machine::Machine;
+use mmu::core_state::Core;
+use saved::{place, restore, save};
+use tlb::count::{Counts, Tally};
 use tlb::entry::Entry;
-use tlb::hint::Hint;
+use tlb::hint::{FetchHint, Hint};
 use trace_text::line::{Part, Poke};
-use words::place::State;
-use words::{cells, counts, place, state};
-
-// Sets word i, where there is one.
-fn put(words: &mut State, i: usize, value: u64) {
-    state::whole(words);
-    if i < place::WORDS {
-        words[i] = value;
-    }
-}
 
 // An entry when the generation is overwritten: a live one stays live; of the others those that were and are of a later
 // generation stay, if they may.
@@ -24,80 +18,53 @@ fn moved(e: Entry, current: u32, to: u32, later: bool) -> Entry {
     if kept { e } else { Entry::blank() }
 }
 
-fn move_generation(words: &mut State, to: u32, later: bool) {
-    let current = counts::current_at(words);
-    let generation = current.generation;
-    for j in 0..1024usize {
-        let e = cells::entry_at(words, j);
-        let made = moved(e, generation, to, later);
-        cells::put_entry(words, j, made);
+fn move_generation(core: &mut Core, to: u32, later: bool) {
+    let current = core.tlb.cache.current;
+    for e in core.tlb.cache.entries.iter_mut() {
+        *e = moved(*e, current.generation, to, later);
     }
-    counts::put_generation(words, to);
+    core.tlb.cache.current.generation = to;
 }
 
-// The hits and walks of a level.
-fn put_pair(words: &mut State, level: usize, hits: u64, walks: u64) {
-    let l = level % 4;
-    put(words, place::LEVEL_HITS + l, hits);
-    put(words, place::LEVEL_WALKS + l, walks);
-}
-
-// EL0's, and those that are not kept by level; EL1 to EL3 counted nothing, so that the sums are the value too.
-fn put_counters(words: &mut State, value: u64) {
-    put_pair(words, 0, value, value);
-    put_pair(words, 1, 0, 0);
-    put_pair(words, 2, 0, 0);
-    put_pair(words, 3, 0, 0);
-    put(words, place::FLUSHES, value);
-    put(words, place::DROPS, value);
-    put(words, place::EPOCH, value);
-}
-
-fn take_broadcast(words: &mut State) {
-    put(words, place::PENDING, 0);
-    put(words, place::PENDING_VALUE, 0);
-}
-
-// The bits of a word that a core can hold.
-fn fitting(i: usize, v: u64) -> u64 {
-    match i {
-        place::NZCV => v & 0xF000_0000,
-        place::DAIF => v & 0x3C0,
-        place::SPSEL | place::UNPRIVILEGED => v % 2,
-        place::LEVEL | place::GENERATION => v % 0x1_0000_0000,
-        place::PENDING => v % 4,
-        place::ASID => v % 0x1_0000,
-        _ => v,
-    }
-}
-
-// The bits that a pending invalidation's value has: an address, an ASID, or none.
-fn fit_broadcast(words: &mut State) {
-    let value = match words[place::PENDING] {
-        2 => words[place::PENDING_VALUE],
-        3 => words[place::PENDING_VALUE] % 0x1_0000,
-        _ => 0,
+// Each counter at a value: by level EL0's alone, so that the sums are the value too.
+fn counts_at(value: u64) -> Counts {
+    let none = Tally::new();
+    let counted = Tally {
+        hits: value,
+        walks: value,
     };
-    put(words, place::PENDING_VALUE, value);
+    Counts {
+        levels: [counted, none, none, none],
+        flushes: value,
+        drops: value,
+        epoch: value,
+    }
+}
+
+// The bits of a word that a line sets.
+fn fitting(place: usize, value: u64) -> u64 {
+    match place {
+        place::NZCV => value & 0xF000_0000,
+        place::DAIF => value & 0x3C0,
+        place::SPSEL | place::UNPRIVILEGED => value % 2,
+        place::PENDING => value % 4,
+        _ => value,
+    }
 }
 
 // A word before the fetch hint, or a counter of a level.
-fn put_word(words: &mut State, i: usize, v: u64) {
-    let value = fitting(i, v);
-    if i == place::GENERATION {
-        move_generation(words, (value % 0x1_0000_0000) as u32, true);
-        return;
-    }
-    if i < place::FETCH || place::LEVEL_HITS <= i {
-        put(words, i, value);
-        fit_broadcast(words);
+fn put_word(core: &mut Core, place: usize, value: u64) {
+    if place < place::FETCH || (place::LEVEL_HITS <= place && place < place::WORDS) {
+        let mut words = [0; place::WORDS];
+        save::save(core, &mut words);
+        words[place] = fitting(place, value);
+        restore::restore(core, &words);
     }
 }
 
 // No core holds a generation of more than 32 bits: an entry of one is blank.
-fn put_entry(words: &mut State, slot: u16, tag: u64, generation: u64, bits: u64, pa: u64) {
-    let j = usize::from(slot) % 1024;
-    let e = match u32::try_from(generation) {
+fn entry_of(tag: u64, generation: u64, bits: u64, pa: u64) -> Entry {
+    match u32::try_from(generation) {
         Ok(generation) => Entry {
             tag,
             generation,
@@ -108,33 +75,31 @@ fn put_entry(words: &mut State, slot: u16, tag: u64, generation: u64, bits: u64,
             pa,
         },
         Err(_) => Entry::blank(),
-    };
-    cells::put_entry(words, j, e);
-}
-
-fn put_fetch(words: &mut State, page: u64, level: u64, pa: u64) {
-    put(words, place::FETCH, 1);
-    put(words, place::FETCH_PAGE, page);
-    put(words, place::FETCH_LEVEL, level);
-    put(words, place::FETCH_PA, pa);
-}
-
-pub fn poke(words: &mut State, poke: Poke) {
-    match poke {
-        Poke::Level(level) => put(words, place::LEVEL, level),
-        Poke::Pc(pc) => put(words, place::PC, pc),
-        Poke::Spsel(on) => put(words, place::SPSEL, u64::from(on)),
-        Poke::Generation(to) => move_generation(words, to, false),
-        Poke::Counters(value) => put_counters(words, value),
-        Poke::Broadcast => take_broadcast(words),
     }
 }
 
-pub fn overwrite(words: &mut State, part: Part) {
+pub fn poke(machine: &mut Machine, poke: Poke) {
+    let core = &mut machine.core;
+    match poke {
+        Poke::Level(level) => machine.set_level(level),
+        Poke::Pc(pc) => core.pc = pc,
+        Poke::Spsel(on) => core.flags.spsel = on,
+        Poke::Generation(to) => move_generation(core, to, false),
+        Poke::Counters(value) => core.tlb.counts = counts_at(value),
+        Poke::Broadcast => core.tlb.broadcast = None,
+    }
+}
+
+pub fn overwrite(machine: &mut Machine, part: Part) {
+    let core = &mut machine.core;
     match part {
-        Part::Word { place, value } => put_word(words, usize::from(place), value),
+        Part::Word { place, value } => match usize::from(place) {
+            place::LEVEL => machine.set_level(value % 0x1_0000_0000),
+            place::GENERATION => move_generation(core, (value % 0x1_0000_0000) as u32, true),
+            place => put_word(core, place, value),
+        },
         Part::Hint { slot, key, pa } => {
-            cells::put_hint(words, usize::from(slot) % 512, Hint { key, pa });
+            core.tlb.cache.hints[usize::from(slot) % 512] = Hint { key, pa };
         }
         Part::Entry {
             slot,
@@ -142,7 +107,17 @@ pub fn overwrite(words: &mut State, part: Part) {
             generation,
             bits,
             pa,
-        } => put_entry(words, slot, tag, generation, bits, pa),
-        Part::FetchHint { page, level, pa } => put_fetch(words, page, level, pa),
+        } => {
+            core.tlb.cache.entries[usize::from(slot) % 1024] = entry_of(tag, generation, bits, pa);
+        }
+        Part::FetchHint { page, level, pa } => {
+            let level = (level % 256) as u8;
+            core.tlb.cache.fetch = FetchHint {
+                some: true,
+                page,
+                level,
+                pa,
+            };
+        }
     }
 }

@@ -1,15 +1,14 @@
 // Leaves: functions of the registers as they stand, which change nothing.
 use exception::kind::Exception;
 use exception::{report, take};
+use mmu::core_state::Core;
 use sysreg::encoding;
 use sysreg::regs::{ControlReg, El, Register, SysReg};
 use trace_text::line;
 use walk::level::Leaf;
-use walk::regime::Regime;
+use walk::regime::{Bank, Regime};
 use walk::{rights, size, table, tag};
 use word::bits::flag_word;
-use words::place::State;
-use words::regs::{bank_at, control_at};
 
 fn value(v: u64) -> [u64; 4] {
     [1, v, 0, 0]
@@ -19,17 +18,16 @@ fn pair(a: u64, b: u64) -> [u64; 4] {
     [4, a, b, 0]
 }
 
-fn asid(state: &State) -> [u64; 4] {
-    let c = control_at(state);
-    value(c.asid() as u64)
+fn asid(core: &Core) -> [u64; 4] {
+    value(core.control.asid() as u64)
 }
 
-fn stage1_on(state: &State, r: Regime) -> [u64; 4] {
-    value(flag_word(bank_at(state, r).stage1_on(r)))
+fn stage1_on(core: &Core, r: Regime) -> [u64; 4] {
+    value(flag_word(Bank::new(&core.control, r).stage1_on(r)))
 }
 
-fn untag(state: &State, r: Regime, va: u64) -> [u64; 4] {
-    let b = bank_at(state, r);
+fn untag(core: &Core, r: Regime, va: u64) -> [u64; 4] {
+    let b = Bank::new(&core.control, r);
     value(tag::untag(b.tcr, r, va))
 }
 
@@ -41,8 +39,8 @@ fn leaf_words(l: Leaf) -> [u64; 4] {
     [3, l.oa, l.perms as u64 + l.level as u64 * 256, kind]
 }
 
-fn walk_of(state: &State, r: Regime, va: u64, base: u64, ram: &[u8]) -> [u64; 4] {
-    match table::walk(bank_at(state, r), r, va, base, ram) {
+fn walk_of(core: &Core, r: Regime, va: u64, base: u64, ram: &[u8]) -> [u64; 4] {
+    match table::walk(Bank::new(&core.control, r), r, va, base, ram) {
         Ok(l) => leaf_words(l),
         Err(status) => [8, va, status as u64, 0],
     }
@@ -108,12 +106,12 @@ fn syndrome(from: u64, to: u64, pc: u64, e: Exception) -> [u64; 4] {
     }
 }
 
-pub fn answer(state: &State, leaf: line::Leaf, base: u64, ram: &[u8]) -> [u64; 4] {
+pub fn answer(core: &Core, leaf: line::Leaf, base: u64, ram: &[u8]) -> [u64; 4] {
     match leaf {
-        line::Leaf::Asid => asid(state),
-        line::Leaf::Stage1On(r) => stage1_on(state, r),
-        line::Leaf::Untag(r, va) => untag(state, r, va),
-        line::Leaf::Walk(r, va) => walk_of(state, r, va, base, ram),
+        line::Leaf::Asid => asid(core),
+        line::Leaf::Stage1On(r) => stage1_on(core, r),
+        line::Leaf::Untag(r, va) => untag(core, r, va),
+        line::Leaf::Walk(r, va) => walk_of(core, r, va, base, ram),
         line::Leaf::PaBits(code) => value(size::pa_bits(code)),
         line::Leaf::Permissions(bits) => perms(bits),
         line::Leaf::Bank(key) => bank(key),

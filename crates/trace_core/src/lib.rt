@@ -1,6 +1,5 @@
 #![tactic(auto)]
 // The core and its window of RAM, and what each line of a trace does to them.
-pub mod counters;
 pub mod edits;
 pub mod leaves;
 pub mod machine;

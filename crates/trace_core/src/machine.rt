@@ -1,15 +1,19 @@
 // The core, its window of RAM, and what a trace's lines do to them.
 use crate::{edits, leaves, memory};
-use a72abi::{calls, inspect};
+use call_words::reply;
+use core_calls::inspect;
 use digest::counts;
+use mmu::core_state::Core;
 use operations::call::Call;
+use saved::{place, save};
 use std::alloc::{AllocError, Global};
 use trace_text::line::{LONGEST_WINDOW, Operation, Setup};
-use words::place::{State, WORDS};
 
 #[derive(Drop)]
 pub struct Machine {
-    pub state: State,
+    pub core: Core,
+    // the last level that a line gave the core
+    given_level: u64,
     // the window: its base and its bytes
     pub base: u64,
     pub ram: Vec<u8>,
@@ -20,29 +24,50 @@ pub struct Machine {
 impl Machine {
     // A fresh core, and a window without bytes. Memory for the longest window is taken here.
     pub fn new(alloc: Global) -> Result<Machine, AllocError> {
-        let mut machine = Machine {
-            state: [0; WORDS],
+        Ok(Machine {
+            core: Core::new(),
+            given_level: 0,
             base: 0,
             ram: Vec::with_capacity(alloc, LONGEST_WINDOW)?,
             digest: None,
-        };
-        calls::a72_fresh(&mut machine.state);
-        Ok(machine)
+        })
     }
 
     // As it was when it was made.
     pub fn restart(&mut self) {
-        calls::a72_fresh(&mut self.state);
+        self.core = Core::new();
         self.base = 0;
         self.ram.clear();
         self.digest = None;
+    }
+
+    // A core has a byte for its level. A larger one is 255 there, and is refused like each above 3.
+    pub fn set_level(&mut self, level: u64) {
+        self.core.privilege.level = if level < 255 { level as u8 } else { 255 };
+        self.given_level = level;
+    }
+
+    // The level, as it was given.
+    pub fn level(&self) -> u64 {
+        match self.core.privilege.level {
+            255 => self.given_level,
+            level => u64::from(level),
+        }
+    }
+
+    // The word of the core at a place; 0 past the last.
+    pub fn word(&self, place: usize) -> u64 {
+        match place {
+            place::LEVEL => self.level(),
+            _ => save::word(&self.core, place),
+        }
     }
 
     // How many of a census's counts are not 0, and their digest; or the number of the check that it misses.
     fn census(&self, first: u64, pages: u64) -> [u64; 4] {
         let mut found = [0u64; 129];
         let ram = self.ram.as_slice();
-        match inspect::a72_census(&self.state, first, pages, &mut found, self.base, ram) {
+        match inspect::census(&self.core, first, pages, &mut found, self.base, ram) {
             0 => {
                 let s = counts::counts(&found);
                 [11, s.count, s.digest, 0]
@@ -59,13 +84,14 @@ impl Machine {
         match operation {
             Operation::Call(Call::Census(first, pages)) => self.census(first, pages),
             Operation::Call(call) => {
-                calls::step(&mut self.state, self.base, self.ram.as_mut_slice(), call)
+                let ram = self.ram.as_mut_slice();
+                reply::words(cpu::run::step(&mut self.core, self.base, ram, call))
             }
             Operation::Leaf(leaf) => {
-                leaves::answer(&self.state, leaf, self.base, self.ram.as_slice())
+                leaves::answer(&self.core, leaf, self.base, self.ram.as_slice())
             }
             Operation::Poke(poke) => {
-                edits::poke(&mut self.state, poke);
+                edits::poke(self, poke);
                 [0; 4]
             }
         }
@@ -77,7 +103,7 @@ impl Machine {
             self.digest = None;
         }
         match setup {
-            Setup::Fresh => calls::a72_fresh(&mut self.state),
+            Setup::Fresh => self.core = Core::new(),
             Setup::Window { base, len } => {
                 self.base = base;
                 self.ram.resize(len, 0)?;
@@ -86,7 +112,7 @@ impl Machine {
             Setup::Write { addr, value } => {
                 memory::poke(self.base, self.ram.as_mut_slice(), addr, value);
             }
-            Setup::Part(part) => edits::overwrite(&mut self.state, part),
+            Setup::Part(part) => edits::overwrite(self, part),
         }
         Ok(())
     }

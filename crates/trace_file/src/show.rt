@@ -1,77 +1,64 @@
 // A line of output for an operation: its number in the trace, the operation, the answer, and the core after it.
 use counters_report::line::Levels;
 use digest::parts;
+use mmu::core_state::Core;
 use std::io::Write;
 use std::{fmt, io};
-use trace_core::counters;
+use tlb::Inval;
 use trace_core::machine::Machine;
 use trace_text::line::Operation;
 use trace_text::write::Answer;
-use words::place;
-use words::place::State;
 
-// The counters that a core's words hold.
+// What the cache counted, and what is pending for the other cores: 0 nothing, 1 all, 2 a page, 3 an ASID.
 #[derive(Clone, Copy)]
-struct Counts<'a>(&'a State);
+struct Counts<'a>(&'a Core);
 
 impl fmt::Display for Counts<'_> {
     fn fmt<W: fmt::Write>(&self, f: &mut fmt::Formatter<W>) -> fmt::Result {
-        let state = self.0;
-        let counts = counters::counts(state);
+        let counts = &self.0.tlb.counts;
         write!(f, "{}", Levels(&counts.levels))?;
         write!(f, " fl={:x} dr={:x}", counts.flushes, counts.drops)?;
         write!(f, " ep={:x}", counts.epoch)?;
-        let value = state[place::PENDING_VALUE];
-        write!(f, " bc={}:{value:x}", state[place::PENDING])
+        match self.0.tlb.broadcast {
+            None => write!(f, " bc=0:0"),
+            Some(Inval::All) => write!(f, " bc=1:0"),
+            Some(Inval::Page(page)) => write!(f, " bc=2:{page:x}"),
+            Some(Inval::Asid(asid)) => write!(f, " bc=3:{asid:x}"),
+        }
     }
 }
 
 // The registers that a line of output names.
 #[derive(Clone, Copy)]
-struct Kept<'a>(&'a State);
+struct Kept<'a> {
+    core: &'a Core,
+    level: u64,
+}
 
 impl fmt::Display for Kept<'_> {
     fn fmt<W: fmt::Write>(&self, f: &mut fmt::Formatter<W>) -> fmt::Result {
-        let state = self.0;
-        write!(
-            f,
-            "lp={:x} ap={:x}",
-            state[place::LAST_PA],
-            state[place::ABORT_PA]
-        )?;
-        write!(
-            f,
-            " el={} um={}",
-            state[place::LEVEL],
-            state[place::UNPRIVILEGED]
-        )?;
-        write!(
-            f,
-            " as={:x} gen={:x}",
-            state[place::ASID],
-            state[place::GENERATION]
-        )?;
-        write!(
-            f,
-            " par={:x} pc={:x}",
-            state[place::PAR_EL1],
-            state[place::PC]
-        )
+        let core = self.core;
+        let current = core.tlb.cache.current;
+        let mark = u8::from(core.privilege.unprivileged);
+        write!(f, "lp={:x} ap={:x}", core.last_pa, core.abort_pa)?;
+        write!(f, " el={} um={mark}", self.level)?;
+        write!(f, " as={:x} gen={:x}", current.asid, current.generation)?;
+        write!(f, " par={:x} pc={:x}", core.sys.par_el1, core.pc)
     }
 }
 
 // The digests of registers, entries, hints and the window.
 #[derive(Clone, Copy)]
 struct Digests<'a> {
-    state: &'a State,
+    core: &'a Core,
     ram: u64,
 }
 
 impl fmt::Display for Digests<'_> {
     fn fmt<W: fmt::Write>(&self, f: &mut fmt::Formatter<W>) -> fmt::Result {
-        let entries = parts::entries(self.state);
-        let hints = parts::hints(self.state);
-        write!(f, "R={:016x}", parts::registers(self.state))?;
+        let entries = parts::entries(self.core);
+        let hints = parts::hints(self.core);
+        write!(f, "R={:016x}", parts::registers(self.core))?;
         write!(f, " T={}:{:016x}", entries.count, entries.digest)?;
         write!(f, " H={}:{:016x}", hints.count, hints.digest)?;
         write!(f, " M={:016x}", self.ram)
@@ -86,8 +73,9 @@ pub fn operation<W: Write>(
     machine: &mut Machine,
 ) -> io::Result<()> {
     let ram = machine.window_digest();
-    let state = &machine.state;
+    let level = machine.level();
+    let core = &machine.core;
     write!(out, "{number} {operation} => {}", Answer(ans))?;
-    write!(out, " | {} {}", Counts(state), Kept(state))?;
-    writeln!(out, " {}", Digests { state, ram })
+    write!(out, " | {} {}", Counts(core), Kept { core, level })?;
+    writeln!(out, " {}", Digests { core, ram })
 }

@@ -1,13 +1,12 @@
 // What an access gets: from a walk made now, and from the core, cache and all.
 use crate::fields::{Rights, Status};
-use a72abi::calls;
+use mmu::core_state::Core;
+use operations::call::{Call, Reply};
 use std::fmt;
-use tlb::access::{Kind, Privilege};
+use tlb::access::Kind;
 use tlb::resolve;
 use walk::level::{Leaf, Walked};
 use walk::regime::Regime;
-use words::counts;
-use words::place::State;
 
 // An address, a fault's status, or the number of the check for which there is no answer.
 #[derive(Clone, Copy, PartialEq, Eq)]
@@ -24,14 +23,6 @@ impl fmt::Display for Told {
             Told::Fault(code) => write!(f, "fault 0x{:02x}, {}", *code, Status(*code)),
             Told::Nothing(check) => write!(f, "no answer, check {check}"),
         }
-    }
-}
-
-pub fn kind_word(kind: Kind) -> u64 {
-    match kind {
-        Kind::Read => 1,
-        Kind::Write => 2,
-        Kind::Fetch => 4,
     }
 }
 
@@ -58,19 +49,11 @@ impl fmt::Display for Reach {
 }
 
 // A walk's end, judged for the access.
-pub fn of_walk(
-    state: &State,
-    w: Walked,
-    regime: Regime,
-    privilege: Privilege,
-    kind: Kind,
-    va: u64,
-) -> Told {
+pub fn of_walk(core: &Core, w: Walked, regime: Regime, kind: Kind, va: u64) -> Told {
     match w {
         Ok(leaf) => {
-            let at = counts::current_at(state);
-            let e = resolve::entry_for(leaf, at, 0);
-            let user = privilege.is_user(regime, kind);
+            let e = resolve::entry_for(leaf, core.tlb.cache.current, 0);
+            let user = core.privilege.is_user(regime, kind);
             match e.judge(user, kind, va) {
                 Ok(pa) => Told::Address(pa),
                 Err(fault) => Told::Fault(u64::from(fault.fsc)),
@@ -81,13 +64,12 @@ pub fn of_walk(
 }
 
 // The core's own answer to the translation.
-pub fn of_core(state: &mut State, base: u64, ram: &mut [u8], kind: Kind, va: u64) -> Told {
-    let op = [1, kind_word(kind), va, 0, 0, 0, 0, 0];
-    let mut ans = [99; 4];
-    calls::a72_step(&op, state, base, ram, &mut ans);
-    match ans[0] {
-        1 => Told::Address(ans[1]),
-        8 => Told::Fault(ans[2]),
-        _ => Told::Nothing(ans[1]),
+pub fn of_core(core: &mut Core, base: u64, ram: &mut [u8], kind: Kind, va: u64) -> Told {
+    match cpu::run::step(core, base, ram, Call::Translate(kind, va)) {
+        Reply::Value(pa) => Told::Address(pa),
+        Reply::Fault { fault, .. } => Told::Fault(u64::from(fault.fsc)),
+        Reply::Refused(check) => Told::Nothing(u64::from(check)),
+        // no answer of a translation
+        Reply::Done | Reply::Faults | Reply::Stopped(_) => Told::Nothing(0),
     }
 }

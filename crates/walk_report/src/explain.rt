@@ -1,14 +1,14 @@
 // A translation explained: what a walk made now gives, beside what the core answers.
 use crate::answer::{Reach, Told};
 use crate::{answer, levels, registers};
+use mmu::core_state::Core;
 use std::io;
 use std::io::Write;
 use tlb::access::{Kind, Privilege};
+use tlb::count;
 use tlb::count::Tally;
 use walk::regime::{Bank, Regime};
 use walk::tag;
-use words::place::State;
-use words::{place, regs, state};
 
 fn kind_name(kind: Kind) -> &'static str {
     match kind {
@@ -46,12 +46,11 @@ fn head<W: Write>(
 // With stage 1 on: untagged, walked, judged.
 fn walked<W: Write>(
     out: &mut W,
-    words: &State,
+    core: &Core,
     base: u64,
     ram: &[u8],
     s: Bank,
     r: Regime,
-    privilege: Privilege,
     kind: Kind,
     va: u64,
 ) -> io::Result<Told> {
@@ -65,45 +64,38 @@ fn walked<W: Write>(
     if let Ok(leaf) = w {
         writeln!(out, "rights     {}", Reach { regime: r, leaf })?;
     }
-    Ok(answer::of_walk(words, w, r, privilege, kind, va))
+    Ok(answer::of_walk(core, w, r, kind, va))
 }
 
 // Whether stage 1 is on in the regime of the core's level.
-fn is_on(words: &State) -> bool {
-    let privilege = state::privilege_at(words);
-    let r = Regime::of_level(privilege.level);
-    regs::bank_at(words, r).stage1_on(r)
+fn is_on(core: &Core) -> bool {
+    core.bank()
+        .stage1_on(Regime::of_level(core.privilege.level))
 }
 
 // The answer of a walk made now, each step shown.
 fn now<W: Write>(
     out: &mut W,
-    words: &State,
+    core: &Core,
     base: u64,
     ram: &[u8],
     kind: Kind,
     va: u64,
 ) -> io::Result<Told> {
-    let privilege = state::privilege_at(words);
-    let r = Regime::of_level(privilege.level);
-    let s = regs::bank_at(words, r);
-    head(out, privilege, kind, r, va)?;
+    let r = Regime::of_level(core.privilege.level);
+    let s = core.bank();
+    head(out, core.privilege, kind, r, va)?;
     registers::show(out, s, r)?;
-    if is_on(words) {
-        return walked(out, words, base, ram, s, r, privilege, kind, va);
+    if s.stage1_on(r) {
+        return walked(out, core, base, ram, s, r, kind, va);
     }
     writeln!(out, "stage 1 is off: the address is the physical address")?;
     Ok(Told::Address(va))
 }
 
 // The counters of the core's own level. A core whose level is above 3 counts nothing.
-fn counters(words: &State) -> Tally {
-    let privilege = state::privilege_at(words);
-    let l = (privilege.level % 4) as usize;
-    Tally {
-        hits: words[place::LEVEL_HITS + l],
-        walks: words[place::LEVEL_WALKS + l],
-    }
+fn counters(core: &Core) -> Tally {
+    core.tlb.counts.levels[count::level_place(core.privilege.level)]
 }
 
 // Where the core's answer came from: the counters tell a walk and an entry.
@@ -135,18 +127,18 @@ fn verdict(now: Told, core: Told) -> &'static str {
 // One translation on a core and its window.
 pub fn explain<W: Write>(
     out: &mut W,
-    words: &mut State,
+    core: &mut Core,
     base: u64,
     ram: &mut [u8],
     kind: Kind,
     va: u64,
 ) -> io::Result<()> {
-    let by_walk = now(out, words, base, ram, kind, va)?;
+    let by_walk = now(out, core, base, ram, kind, va)?;
     writeln!(out, "walk now   {by_walk}")?;
-    let on = is_on(words);
-    let before = counters(words);
-    let by_core = answer::of_core(words, base, ram, kind, va);
-    let after = counters(words);
+    let on = is_on(core);
+    let before = counters(core);
+    let by_core = answer::of_core(core, base, ram, kind, va);
+    let after = counters(core);
     writeln!(out, "the core   {by_core}, {}", source(on, before, after))?;
     writeln!(out, "{}", verdict(by_walk, by_core))
 }

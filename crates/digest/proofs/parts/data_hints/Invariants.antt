@@ -1,5 +1,4 @@
 use Rattle.std.proofs.Common.{◌≡◌, ◌+◌, ◌-◌, ◌≤◌}
-use Rattle.words.specs.CoreOf.{core_of}
 use Rattle.digest.specs.Fold.{digest_from, digest_of, gathered}
 use Rattle.digest.specs.Parts.{hint_words}
 use Rattle.digest.specs.Count.{how_many, set_at, set_data_hints}
@@ -8,11 +7,8 @@ use Rattle.digest.proofs.parts.data_hints.Given as goal
 abbrev pub invariant-loop-i : goal.invariant-loop-i
 invariant-loop-i l = record {
   within : l.i ≤ 512;
-  rest : digest_from l.s.digest (gathered (hint_words (core_of l.state).tlb.cache) (512 - l.i) l.i)
-      ≡ digest_of (gathered (hint_words (core_of l.state).tlb.cache) 512 0);
+  rest : digest_from l.s.digest (gathered (hint_words l.cache) (512 - l.i) l.i)
+      ≡ digest_of (gathered (hint_words l.cache) 512 0);
   few : l.s.count ≤ l.i;
-  left : l.s.count + how_many (set_at (core_of l.state).tlb.cache) (512 - l.i) l.i ≡ set_data_hints (core_of l.state).tlb.cache;
+  left : l.s.count + how_many (set_at l.cache) (512 - l.i) l.i ≡ set_data_hints l.cache;
 }
-
-abbrev pub decreases-loop-i : goal.decreases-loop-i
-decreases-loop-i l = 512 - l.i

@@ -1,5 +1,4 @@
 use Rattle.std.proofs.Common.{◌≡◌, ◌+◌, ◌-◌, ◌≤◌}
-use Rattle.words.specs.CoreOf.{core_of}
 use Rattle.digest.specs.Fold.{digest_from, digest_of, gathered}
 use Rattle.digest.specs.Parts.{entry_words}
 use Rattle.digest.specs.Count.{how_many, live_at, live_entries}
@@ -8,11 +7,8 @@ use Rattle.digest.proofs.parts.entries.Given as goal
 abbrev pub invariant-loop-j : goal.invariant-loop-j
 invariant-loop-j l = record {
   within : l.j ≤ 1024;
-  rest : digest_from l.s.digest (gathered (entry_words (core_of l.state).tlb.cache) (1024 - l.j) l.j)
-      ≡ digest_of (gathered (entry_words (core_of l.state).tlb.cache) 1024 0);
+  rest : digest_from l.s.digest (gathered (entry_words l.core.tlb.cache) (1024 - l.j) l.j)
+      ≡ digest_of (gathered (entry_words l.core.tlb.cache) 1024 0);
   few : l.s.count ≤ l.j;
-  left : l.s.count + how_many (live_at (core_of l.state).tlb.cache) (1024 - l.j) l.j ≡ live_entries (core_of l.state).tlb.cache;
+  left : l.s.count + how_many (live_at l.core.tlb.cache) (1024 - l.j) l.j ≡ live_entries l.core.tlb.cache;
 }
-
-abbrev pub decreases-loop-j : goal.decreases-loop-j
-decreases-loop-j l = 1024 - l.j
