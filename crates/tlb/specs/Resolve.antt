@@ -66,15 +66,6 @@ by_walk (Err code) q privilege at va kind = record { answer = Err (first code); 
 unfoldable pub resolve_with : Walked → Query → Privilege → Current → Entry → ℕ → Kind → Resolved
 resolve_with w q privilege at e va kind = if serves e at q.tag then by_entry q privilege e va kind else by_walk w q privilege at va kind
 
--- the same with the registers' own walk
-unfoldable pub resolve_of : Query → Bank → Privilege → Current → Entry → ℕ → Kind → (ℕ → Option ℕ) → Resolved
-resolve_of q s privilege at e va kind memory = resolve_with (walk_of s q.regime q.page memory) q privilege at e va kind
-
--- with stage 1 off the address itself
-abbrev pub changes_of : Asked → Bank → Privilege → Current → Entry → ℕ → Kind → (ℕ → Option ℕ) → Resolved
-changes_of Flat s privilege at e va kind memory = by_itself va
-changes_of (Of q) s privilege at e va kind memory = resolve_of q s privilege at e va kind memory
-
 -- a hit is counted where an entry answered, a walk where one was made, each at the level of the access: the mark does not lower it
 abbrev pub counted_by : Source → ℕ → Counts → Counts
 counted_by FromHint level k = k
