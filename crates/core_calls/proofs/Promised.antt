@@ -155,7 +155,8 @@ module _ (c d : Core) (r : Reply) (n : ℕ) where
   unfolding step_of run_of missed_of
   set-register key v =
       setting (Call.Register key v) c (λ base ram. refl) refl
-      (λ old. no_value (missed_by c 0 [] (Call.Register key v)) c (run_of c 0 [] (Call.Register key v)) old (register-value (after_register_write c key v).answer old)) d r n
+      (λ old. no_value (missed_by c 0 [] (Call.Register key v)) c (run_of c 0 [] (Call.Register key v)) old
+      (register-value (after_register_write c key v).answer old)) d r n
 
   pub set-mark : (mark : Bool) → record { core = d; reply = r } ≡ step_of c 0 [] (Call.Mark mark) → n ≡ code_by r
       → Setting (Known (Call.Mark mark)) c n d
