@@ -117,8 +117,8 @@ pub extern "C" fn a72h_system(
     base: u64,
     ram: &mut [u8],
 ) -> u64
-    ensures { Promise (DecodedCall.Known (Call.System (encoding_of op1 crn crm op2 rt))) base ram.old handle.old.core result
-        ans.old ans.new ram.new handle.new.core }
+    ensures { Promise (DecodedCall.Known (Call.System (encoding_of op1 crn crm op2 rt))) base ram.old
+        handle.old.core result ans.old ans.new ram.new handle.new.core }
 {
     step::system(handle.core(), op1, crn, crm, op2, rt, ans, base, ram)
 }
@@ -178,7 +178,8 @@ pub extern "C" fn a72h_step(
     step::step(handle.core(), op, base, ram, ans)
 }
 
-/// How many of so many 4 KiB pages, from the page of `first` on, end at each status, at each permission byte, and flat.
+/// How many of so many 4 KiB pages, from the page of `first` on, end at each status, at each permission byte, and
+/// flat.
 #[unsafe(no_mangle)]
 pub extern "C" fn a72h_census(
     handle: &mut Handle,
