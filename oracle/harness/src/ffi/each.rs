@@ -2,56 +2,62 @@
 //!
 //! Each gives one of the numbers in [`crate::number`]. `ans` takes the value, or the address of a data abort; where
 //! there is neither it stays as it was.
-use super::{census, exception, Words, UNWRITTEN};
+use super::{census, exception, Held, UNWRITTEN};
 use crate::library::*;
 use crate::number::{status, DONE, LAST_CHECK, UNDEFINED, UNIMPLEMENTED};
 use crate::op::{Ans, Op};
-use crate::{place, Ram};
+use crate::Ram;
 
-/// A state's words and the window lent with them, as the functions take them. Sound throughout: each pointer is that
-/// of an array or a slice, with its own length, and the exclusive borrows keep them apart.
+/// A core and the window lent with it, as the functions take them. Sound throughout: the core is borrowed exclusively by
+/// [`Lent::new`], each other pointer is that of an array or a slice, with its own length, and the exclusive borrows keep
+/// them apart.
 pub struct Lent<'a> {
-    pub words: &'a mut place::State,
-    pub base: u64,
-    pub ram: &'a mut [u8],
+    core: *mut Handle,
+    base: u64,
+    ram: &'a mut [u8],
 }
 
-impl Lent<'_> {
+impl<'a> Lent<'a> {
+    pub fn new(core: &'a mut Held, base: u64, ram: &'a mut [u8]) -> Lent<'a> {
+        let core = core.handle();
+        Lent { core, base, ram }
+    }
+
     #[inline(always)]
     pub fn translate(&mut self, va: u64, kind: u64, ans: &mut u64) -> u64 {
         let ram = &*self.ram;
-        unsafe { a72_translate(self.words, va, kind, ans, self.base, ram.as_ptr(), ram.len()) }
+        unsafe { a72_translate(self.core, va, kind, ans, self.base, ram.as_ptr(), ram.len()) }
     }
 
     #[inline(always)]
     pub fn data_pa(&mut self, va: u64, ans: &mut u64) -> u64 {
         let ram = &*self.ram;
-        unsafe { a72_data_pa(self.words, va, ans, self.base, ram.as_ptr(), ram.len()) }
+        unsafe { a72_data_pa(self.core, va, ans, self.base, ram.as_ptr(), ram.len()) }
     }
 
     #[inline(always)]
     pub fn fetch_pa(&mut self, va: u64, ans: &mut u64) -> u64 {
         let ram = &*self.ram;
-        unsafe { a72_fetch_pa(self.words, va, ans, self.base, ram.as_ptr(), ram.len()) }
+        unsafe { a72_fetch_pa(self.core, va, ans, self.base, ram.as_ptr(), ram.len()) }
     }
 
     #[inline(always)]
     pub fn load(&mut self, va: u64, size: u64, ans: &mut u64) -> u64 {
         let ram = &*self.ram;
-        unsafe { a72_load(self.words, va, size, ans, self.base, ram.as_ptr(), ram.len()) }
+        unsafe { a72_load(self.core, va, size, ans, self.base, ram.as_ptr(), ram.len()) }
     }
 
     #[inline(always)]
     pub fn store(&mut self, va: u64, size: u64, value: u64, ans: &mut u64) -> u64 {
         let ram = &mut *self.ram;
         let (at, len) = (ram.as_mut_ptr(), ram.len());
-        unsafe { a72_store(self.words, va, size, value, ans, self.base, at, len) }
+        unsafe { a72_store(self.core, va, size, value, ans, self.base, at, len) }
     }
 
     #[inline(always)]
     pub fn fetch(&mut self, va: u64, ans: &mut u64) -> u64 {
         let ram = &*self.ram;
-        unsafe { a72_fetch(self.words, va, ans, self.base, ram.as_ptr(), ram.len()) }
+        unsafe { a72_fetch(self.core, va, ans, self.base, ram.as_ptr(), ram.len()) }
     }
 
     /// `fields`: op1, CRn, CRm, op2, register.
@@ -60,32 +66,32 @@ impl Lent<'_> {
         let [op1, crn, crm, op2, rt] = fields;
         let ram = &mut *self.ram;
         let (at, len) = (ram.as_mut_ptr(), ram.len());
-        unsafe { a72_system(self.words, op1, crn, crm, op2, rt, ans, self.base, at, len) }
+        unsafe { a72_system(self.core, op1, crn, crm, op2, rt, ans, self.base, at, len) }
     }
 
     #[inline(always)]
     pub fn register(&mut self, key: u64, value: u64) -> u64 {
-        unsafe { a72_register(self.words, key, value) }
+        unsafe { a72_register(self.core, key, value) }
     }
 
     #[inline(always)]
     pub fn level(&mut self, level: u64) -> u64 {
-        unsafe { a72_level(self.words, level) }
+        unsafe { a72_level(self.core, level) }
     }
 
     #[inline(always)]
     pub fn mark(&mut self, mark: u64) -> u64 {
-        unsafe { a72_mark(self.words, mark) }
+        unsafe { a72_mark(self.core, mark) }
     }
 
     #[inline(always)]
     pub fn general(&mut self, number: u64, value: u64) -> u64 {
-        unsafe { a72_general(self.words, number, value) }
+        unsafe { a72_general(self.core, number, value) }
     }
 
     #[inline(always)]
     pub fn abort(&mut self, e: &[u64; 4]) -> u64 {
-        unsafe { a72_abort(self.words, e) }
+        unsafe { a72_abort(self.core, e) }
     }
 }
 
@@ -118,15 +124,14 @@ fn other(n: u64) -> Ans {
 }
 
 /// One operation of the list, by its function.
-pub(super) fn step(words: &mut Words, op: &Op, ram: &mut Ram) -> Ans {
+pub(super) fn step(core: &mut Held, op: &Op, ram: &mut Ram) -> Ans {
     use Op::*;
+    if let Census(first, pages) = *op {
+        return census(core, first, pages, ram);
+    }
     let (at, len) = (ram.bytes.lent(op.may_write_ram()), ram.bytes.len());
-    let mut lent = Lent {
-        words,
-        base: ram.base,
-        // Sound: the window's bytes, which `ram` lends. Where they are sealed nobody here writes them.
-        ram: unsafe { std::slice::from_raw_parts_mut(at, len) },
-    };
+    // Sound: the window's bytes, which `ram` lends. Where they are sealed nobody here writes them.
+    let mut lent = Lent::new(core, ram.base, unsafe { std::slice::from_raw_parts_mut(at, len) });
     let quiet = |n| done(n, UNWRITTEN);
     let mut ans = UNWRITTEN;
     let a = &mut ans;
@@ -146,7 +151,21 @@ pub(super) fn step(words: &mut Words, op: &Op, ram: &mut Ram) -> Ans {
         Mark(m) => quiet(lent.mark(m.into())),
         SetX(r, v) => quiet(lent.general(r.into(), v)),
         Abort(e) => quiet(lent.abort(&exception(&e))),
-        Census(first, pages) => census(words, first, pages, ram),
         _ => unreachable!("{op} is none of the list"),
     }
+}
+
+/// A poke by the library's own setter; whether there is one for it.
+pub(super) fn set(core: &mut Held, op: &Op) -> bool {
+    // Sound: a core, borrowed exclusively, and a local array.
+    match *op {
+        Op::PokePc(v) => unsafe { a72_set_pc(core.handle(), v) },
+        Op::PokeGeneration(g) => {
+            let n = unsafe { a72_set_generation(core.handle(), g.into()) };
+            assert_eq!(n, DONE, "{op}");
+        }
+        Op::TakeBroadcast => unsafe { a72_take_pending(core.handle(), &mut [0; 2]) },
+        _ => return false,
+    }
+    true
 }
