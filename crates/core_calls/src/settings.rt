@@ -4,11 +4,9 @@ ghost use Rattle.call_words.specs.declared.op.DecodedCall.TheVariants as Decoded
 ghost use Rattle.call_words.specs.Ops.{key_of, exception_at, abort_call, mark_call};
 ghost use Rattle.core_calls.specs.Promise.{Setting};
 
+use call_words::op;
 use call_words::op::DecodedException;
-use call_words::{op, reply};
-use exception::kind::Exception;
 use mmu::core_state::Core;
-use operations::call::Call;
 
 /// A register write, by the register's key.
 pub fn register(core: &mut Core, key: u64, value: u64) -> u64
@@ -38,19 +36,12 @@ pub fn mark(core: &mut Core, mark: u64) -> u64
     quick::settings::mark(core, mark)
 }
 
-fn abort_as(core: &mut Core, exception: Exception) -> u64
-    ensures { Setting (DecodedCall.Known (Call.Abort exception)) core.old result core.new }
-{
-    let answer = cpu::run::step(core, 0, &mut [], Call::Abort(exception));
-    reply::number(answer)
-}
-
 /// Abort entry, of an exception in four words.
 pub fn abort(core: &mut Core, exception: &[u64; 4]) -> u64
     ensures { Setting (abort_call (exception_at exception.now)) core.old result core.new }
 {
     match op::exception_of(exception[0], exception[1], exception[2], exception[3]) {
-        DecodedException::Known(known) => abort_as(core, known),
+        DecodedException::Known(known) => quick::settings::abort(core, known),
         DecodedException::Unknown => 64,
     }
 }

@@ -5,12 +5,13 @@ use native.Mathlib.Nat.{mod-eq_of_lt}
 use Rattle.sysreg.specs.Write.{WriteAnswer}
 use Rattle.sysreg.specs.declared.write.WriteError.TheVariants.{Undefined, NoRegister}
 use Rattle.mmu.specs.Core.{set_reg}
+use Rattle.exception.specs.declared.kind.Exception.{Exception}
 use Rattle.mmu.specs.declared.core_state.Core.{Core}
-use Rattle.exec.specs.Ops.{Registered, after_register_write, set_level, set_mark}
+use Rattle.exec.specs.Ops.{after_register_write, set_level, set_mark, abort_of}
 use Rattle.operations.specs.Check.{missed_of, first_of, kept, number_of}
 use Rattle.operations.specs.Replies.{registering}
 use Rattle.operations.specs.declared.check.Check.{Check}
-use Rattle.operations.specs.declared.call.Call.TheVariants.{Register, Level, Mark, General}
+use Rattle.operations.specs.declared.call.Call.TheVariants.{Register, Level, Mark, General, Abort}
 use Rattle.operations.specs.declared.call.Reply.TheVariants.{Refused, Done}
 use Rattle.cpu.specs.Step.{step_of, run_of, after_write, ends}
 use Rattle.call_words.specs.Replies.{code_by, value_by}
@@ -114,3 +115,12 @@ module _ (c : Core) where
           on = λ base ram old.
               tells _ c (Refused 5) 5 old old (rw (le-ltb 3 c.privilege.level (omega arith), lt-ltb 31 n k) refl) refl refl;
         }
+
+  module _ (e : Exception) where
+    pub abort-set : c.privilege.level < 4 → Sets (Known (Abort e)) c 0 (abort_of c e)
+    unfolding step_of run_of missed_of
+    abort-set h = record { on = λ base ram old. tells _ (abort_of c e) Done 0 old old (rw (le-ltb 3 c.privilege.level (omega arith)) refl) refl refl }
+
+    pub abort-high : 3 < c.privilege.level → Sets (Known (Abort e)) c 1 c
+    unfolding step_of run_of missed_of
+    abort-high h = record { on = λ base ram old. tells _ c (Refused 1) 1 old old (rw (lt-ltb 3 c.privilege.level h) refl) refl refl }

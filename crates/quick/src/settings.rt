@@ -1,10 +1,11 @@
-// What sets a register, the level, the mark or a general register of a core that is lent: its number.
+// What sets a register, the level, the mark or a general register of a core that is lent, and abort entry: the number.
 ghost use Rattle.operations.specs.declared.call.Call.TheVariants as Call;
 ghost use Rattle.call_words.specs.declared.op.DecodedCall.TheVariants as DecodedCall;
 ghost use Rattle.call_words.specs.Ops.{key_of, mark_call};
 ghost use Rattle.quick.specs.Says.{Sets};
 
 use call_words::op;
+use exception::kind::Exception;
 use exec::ops;
 use mmu::core_state::Core;
 use operations::check;
@@ -64,5 +65,16 @@ pub fn general(core: &mut Core, number: u64, value: u64) -> u64
         return 5;
     }
     core.set_reg(number, value);
+    0
+}
+
+// Abort entry.
+pub fn abort(core: &mut Core, e: Exception) -> u64
+    ensures { Sets (DecodedCall.Known (Call.Abort e)) core.old result core.new }
+{
+    if 3 < core.privilege.level {
+        return 1;
+    }
+    ops::abort(core, e);
     0
 }

@@ -1,7 +1,7 @@
 // A system operation on a core that is lent: its number, RAM, and in ans the address of a data abort.
 ghost use Rattle.std.specs.Prelude.{◌≡◌, ◌+◌, ◌%◌, ◌^◌, ◌≤◌};
 ghost use Rattle.word.specs.Bits.{align_down};
-ghost use Rattle.exec.specs.Sys.{zero_of, zero_ram, sys_of, sys_ram};
+ghost use Rattle.exec.specs.Sys.{tlbi_core, zero_of, zero_ram, sys_of, sys_ram};
 ghost use Rattle.operations.specs.declared.call.Call.TheVariants as Call;
 ghost use Rattle.call_words.specs.Ops.{encoding_of};
 ghost use Rattle.cpu.specs.Step.{step_of, ram_after, after_store};
@@ -41,6 +41,14 @@ fn zva(core: &mut Core, ans: &mut u64, base: u64, ram: &mut [u8], x: u64) -> u64
     reply::stored(answer, ans)
 }
 
+// TLBI, out of line, so that its loop over the entries has the registers to itself.
+#[inline(never)]
+fn tlbi(core: &mut Core, op1: u64, crm: u64, op2: u64, x: u64)
+    ensures { core.new ≡ tlbi_core core.old op1 crm op2 x }
+{
+    sys::tlbi(core, op1, crm, op2, x);
+}
+
 // The operation past its checks.
 #[tactic(auto, unfolding(exec::specs::Sys::sys_of, exec::specs::Sys::sys_ram))]
 fn operate(core: &mut Core, e: Encoding, ans: &mut u64, base: u64, ram: &mut [u8]) -> u64
@@ -61,7 +69,7 @@ fn operate(core: &mut Core, e: Encoding, ans: &mut u64, base: u64, ram: &mut [u8
             0
         }
         SysOp::Tlbi => {
-            sys::tlbi(core, e.op1, e.crm, e.op2, x);
+            tlbi(core, e.op1, e.crm, e.op2, x);
             0
         }
         SysOp::Zva => zva(core, ans, base, ram, x),
