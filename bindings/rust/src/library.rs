@@ -58,14 +58,8 @@ extern "C" {
         ram: *mut u8,
         len: usize,
     ) -> u64;
-    pub fn a72_fetch(
-        core: *mut Handle,
-        va: u64,
-        ans: *mut u64,
-        base: u64,
-        ram: *const u8,
-        len: usize,
-    ) -> u64;
+    pub fn a72_fetch(core: *mut Handle, va: u64, ans: *mut u64, base: u64, ram: *const u8, len: usize)
+        -> u64;
     pub fn a72_system(
         core: *mut Handle,
         op1: u64,

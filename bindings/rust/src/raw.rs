@@ -17,7 +17,8 @@ use crate::number::DONE;
 pub fn translate(core: &mut Held, va: u64, kind: u64, base: u64, ram: &[u8]) -> (u64, u64) {
     let mut ans = 0;
     // Sound: a core, a slice with its own length, and a local word.
-    let n = unsafe { library::a72_translate(core.handle(), va, kind, &mut ans, base, ram.as_ptr(), ram.len()) };
+    let n =
+        unsafe { library::a72_translate(core.handle(), va, kind, &mut ans, base, ram.as_ptr(), ram.len()) };
     (n, ans)
 }
 
@@ -74,7 +75,17 @@ pub fn system(core: &mut Held, fields: [u64; 5], base: u64, ram: &mut [u8]) -> (
 pub fn census(core: &Held, first: u64, pages: u64, base: u64, ram: &[u8]) -> (u64, Counts) {
     let mut counts = [0; COUNTS];
     // Sound: a core, a slice with its own length, and a local array.
-    let n = unsafe { library::a72_census(core.handle(), first, pages, &mut counts, base, ram.as_ptr(), ram.len()) };
+    let n = unsafe {
+        library::a72_census(
+            core.handle(),
+            first,
+            pages,
+            &mut counts,
+            base,
+            ram.as_ptr(),
+            ram.len(),
+        )
+    };
     (n, counts)
 }
 

@@ -169,3 +169,141 @@ pub(super) fn set(core: &mut Held, op: &Op) -> bool {
     }
     true
 }
+
+#[cfg(test)]
+mod tests {
+    use super::*;
+    use crate::ffi::{saved, CCore};
+    use crate::generate::{trace, Rng, Style};
+    use crate::rust::RustCore;
+    use crate::{feed, place, Core};
+    use pimu::aarch64::access::{mmu, Inval};
+    use pimu::aarch64::sysreg::key;
+
+    /// The core after a trace of wild states, and pimu's.
+    fn after(seed: u64, n: usize) -> (CCore, RustCore) {
+        let (mut core, mut rust) = (CCore::by_each(), RustCore::new());
+        let mut rams = [Ram::sealable(), Ram::default()];
+        for line in trace(seed, n, Style::Wild) {
+            feed(&line, &mut core, &mut rams[0]);
+            feed(&line, &mut rust, &mut rams[1]);
+        }
+        assert!(core.holds(&rust));
+        (core, rust)
+    }
+
+    /// What each reader by name gives is what is saved at its place.
+    #[test]
+    fn readers_give_what_is_saved() {
+        for seed in 0..40 {
+            let held = after(seed, 200).0.core;
+            let (core, w) = (held.handle(), saved(&held));
+            // Sound: a core, and local words and arrays.
+            unsafe {
+                for (name, at) in [
+                    ([0, 1, 0, 0], place::SCTLR),
+                    ([4, 2, 0, 2], place::TCR + 1),
+                    ([6, 2, 0, 0], place::TTBR0 + 2),
+                    ([0, 2, 0, 1], place::TTBR1_EL1),
+                    ([4, 10, 2, 0], place::MAIR + 1),
+                    ([6, 12, 0, 0], place::VBAR + 2),
+                    ([0, 4, 0, 1], place::ELR),
+                    ([4, 4, 0, 0], place::SPSR + 1),
+                    ([6, 5, 2, 0], place::ESR + 2),
+                    ([0, 6, 0, 0], place::FAR),
+                    ([6, 1, 1, 0], place::SCR_EL3),
+                    ([4, 1, 1, 0], place::HCR_EL2),
+                    ([4, 0, 0, 0], place::VPIDR_EL2),
+                    ([4, 0, 0, 5], place::VMPIDR_EL2),
+                    ([0, 7, 4, 0], place::PAR_EL1),
+                ] {
+                    let ([op1, crn, crm, op2], mut v) = (name, 0);
+                    let n = a72_get_register(core, key(3, op1, crn, crm, op2).into(), &mut v);
+                    assert_eq!((n, v), (DONE, w[at]), "{name:?}");
+                }
+                let level = w[place::LEVEL];
+                let flags = w[place::NZCV] | w[place::DAIF] | level << 2 | w[place::SPSEL];
+                assert!(level > 3 || a72_get_pstate(core) == flags);
+                for (is, at) in [
+                    (a72_get_pc(core), place::PC),
+                    (a72_get_level(core), place::LEVEL),
+                    (a72_get_unprivileged(core), place::UNPRIVILEGED),
+                    (a72_get_flushes(core), place::FLUSHES),
+                    (a72_get_drops(core), place::DROPS),
+                    (a72_get_epoch(core), place::EPOCH),
+                    (a72_get_last_pa(core), place::LAST_PA),
+                    (a72_get_abort_pa(core), place::ABORT_PA),
+                    (a72_get_generation(core), place::GENERATION),
+                    (a72_get_asid(core), place::ASID),
+                ] {
+                    assert_eq!(is, w[at], "{at}");
+                }
+                for n in 0..31 {
+                    assert_eq!(a72_get_general(core, n), w[place::GENERAL + n as usize]);
+                }
+                for l in 0..4 {
+                    assert_eq!(a72_get_hits(core, l), w[place::LEVEL_HITS + l as usize]);
+                    assert_eq!(a72_get_walks(core, l), w[place::LEVEL_WALKS + l as usize]);
+                }
+                let (mut two, mut four, mut seven) = ([UNWRITTEN; 2], [UNWRITTEN; 4], [UNWRITTEN; 7]);
+                a72_get_pending(core, &mut two);
+                assert_eq!(two, w[place::PENDING..=place::PENDING_VALUE]);
+                a72_get_fetch_hint(core, &mut four);
+                assert_eq!(four, w[place::FETCH..=place::FETCH_PA]);
+                for slot in 0..512 {
+                    a72_get_hint(core, slot, &mut two);
+                    assert_eq!(two, w[place::HINTS + 2 * slot as usize..][..2]);
+                }
+                for slot in 0..1024 {
+                    a72_get_entry(core, slot, &mut seven);
+                    let [tag, generation, perms, level, global, asid, pa] = seven;
+                    let bits = perms | level << 8 | global << 16 | asid << 32;
+                    let entry = &w[place::ENTRIES + 4 * slot as usize..][..4];
+                    assert_eq!([tag, generation, bits, pa], entry);
+                }
+                for at in 0..place::WORDS {
+                    assert_eq!(a72_word(core, at), w[at]);
+                }
+            }
+            assert!(saved(&held) == w);
+        }
+    }
+
+    /// A broadcast that is received is pimu's own invalidation.
+    #[test]
+    fn what_is_received_is_dropped() {
+        let mut r = Rng::new(7);
+        for seed in 0..150 {
+            let (core, mut rust) = after(seed, 100);
+            for _ in 0..6 {
+                let live: Vec<u64> = (0..1024)
+                    .map(|slot| mmu::record(&rust.cpu.tlb, slot).tag >> 2)
+                    .collect();
+                let (page, asid) = (
+                    live[r.below(1024) as usize],
+                    [0, 1, 2, 0x101][r.below(4) as usize],
+                );
+                let (kind, value, inval) = match r.below(10) {
+                    0 => (1, r.wild(), Inval::All),
+                    1..=4 => (3, asid, Inval::Asid(asid as u16)),
+                    5 => {
+                        let odd = page | r.wild() << 44;
+                        (2, odd, Inval::Page(odd))
+                    }
+                    _ => (2, page, Inval::Page(page)),
+                };
+                rust.cpu.tlb.invalidate(inval);
+                // Sound: a core.
+                assert_eq!(unsafe { a72_receive(core.core.handle(), kind, value) }, DONE);
+                assert!(core.holds(&rust), "{seed} {kind} {value:x}");
+            }
+            let before = core.words();
+            for (kind, value) in [(0, 0), (4, 0), (3, 0x1_0000), (u64::MAX, 1)] {
+                // Sound: a core.
+                let n = unsafe { a72_receive(core.core.handle(), kind, value) };
+                assert_eq!(n, crate::number::NAMES_NOTHING);
+            }
+            assert!(core.words() == before);
+        }
+    }
+}
