@@ -1,9 +1,8 @@
--- Cores of which words hold all, and the words that calls are lent.
+-- Cores of which words hold all.
 use Rattle.std.specs.Prelude.{◌≡◌, List, ℕ}
 use Rattle.std.proofs.Common.{refl}
 use Rattle.sysreg.specs.Regs.{fresh_control, fresh_sys}
 use Rattle.mmu.specs.Core.{fresh_core}
-use Rattle.words.specs.CoreOf as Lent
 use Rattle.saved.specs.CoreOf.{core_on, core_by, core_of}
 use Rattle.saved.specs.WordsOf.{held}
 
@@ -14,7 +13,3 @@ fresh_whole = refl
 pub restored_whole : (words : List ℕ) → held (core_of words) ≡ core_of words
 unfolding held core_of core_by core_on
 restored_whole words = refl
-
-pub one_table : (words : List ℕ) → core_of words ≡ Lent.core_of words
-unfolding core_of core_by core_on Lent.core_of Lent.core_by Lent.core_on
-one_table words = refl

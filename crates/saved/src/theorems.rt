@@ -2,7 +2,6 @@
 ghost use Rattle.std.specs.Prelude.{◌≡◌, ℕ, List};
 ghost use Rattle.mmu.specs.Core.{fresh_core};
 ghost use Rattle.mmu.specs.declared.core_state.Core.{Core};
-ghost use Rattle.words.specs.CoreOf as Lent;
 ghost use Rattle.saved.specs.CoreOf.{word, core_of};
 ghost use Rattle.saved.specs.Fits.{Fits};
 ghost use Rattle.saved.specs.NamedPlaces.{control_named, sys_named, general_named, parts_named};
@@ -36,10 +35,4 @@ pub fn named_places()
     ensures hints { hints_named }
     ensures entries { entries_named }
     ensures tallies { tallies_named }
-{}
-
-/// The core that saved words hold is the core that the calls on words see in them.
-#[tactic(auto, using(crate::proofs::Whole::one_table))]
-pub fn one_table()
-    ensures { (words : List ℕ) → core_of words ≡ Lent.core_of words }
 {}

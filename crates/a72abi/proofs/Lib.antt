@@ -1,9 +1,0 @@
-pub mod Checking
-pub mod Passing
-pub mod Addressing
-pub mod Bytewise
-pub mod OnePage
-pub mod Sizes
-pub mod Apart
-pub mod Splitting
-pub mod Stepping

@@ -1,2 +1,0 @@
--- What the loop that measures gives.
-pub mod Many

@@ -1,3 +1,0 @@
-pub mod Reading
-pub mod Clearing
-pub mod Resets

@@ -1,4 +1,0 @@
-pub mod Finding
-pub mod Looking
-pub mod Changing
-pub mod Accessing

@@ -1,5 +1,0 @@
-pub mod Caches
-pub mod Registers
-pub mod Systems
-pub mod Aborts
-pub mod Zeroes

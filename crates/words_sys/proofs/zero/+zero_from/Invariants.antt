@@ -1,4 +1,0 @@
-use Rattle.words_sys.proofs.zero.+zero_from.Given as goal
-
-abbrev pub decreases-zero_from : goal.decreases-zero_from
-decreases-zero_from l = l.n

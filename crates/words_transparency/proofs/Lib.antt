@@ -1,2 +1,0 @@
--- The counters by level, on words.
-pub mod Counters

@@ -1,3 +1,0 @@
-pub mod OnWords
-pub mod Run
-pub mod Counters
