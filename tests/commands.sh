@@ -213,11 +213,13 @@ for command in ./run ./check; do
     [ -z "$(ls "$TMPDIR")" ] && pass || fail "$command stopped: scratch files stay"
 done
 
-# The tool's script: by a link, before it is built, and with a program that is killed.
+# The tool's script: by a link, with the program's status, with one that is killed, and before it is built.
 ln -s "$here/a72" "$work/bin/tool"
 cp crates/a72/out/a72 target/bin/a72
 in_out 0 tool run x && has out 'played run x'
 in_out 0 tool counters x && has out 'played counters x'
+printf '#!/bin/sh\necho "wrong $*" >&2\nexit 2\n' >target/bin/a72
+in_out 2 ./a72 tune && { has err 'wrong tune'; [ ! -s "$work/out" ] && pass || fail 'the tool writes'; }
 printf '#!/bin/sh\nkill -KILL $$\n' >target/bin/a72
 chmod +x target/bin/a72
 in_out 137 ./a72 chord

@@ -1,6 +1,6 @@
 #!/bin/sh
-# The tool beside the Rust: `a72 run` against the oracle's `run` on every recorded trace and on generated ones, then the counters by level, the census, bad
-# files and arguments.
+# The tool beside the Rust: `a72 run` against the oracle's `run` on every recorded trace and on generated ones; then the samples of the documents, the counters by
+# level, the census, bad files and arguments.
 # Wants target/bin/a72 (tools/build a72) and oracle/target/release (cargo build --offline --release in oracle/). Usage: tests/tool.sh [SEEDS]
 set -u
 cd "$(dirname "$0")/.."
@@ -36,6 +36,48 @@ for seed in $(seq 1 "$seeds"); do
     done
 done
 
+# The samples of the documents: each command, and what is shown below it.
+mkdir -p target
+awk -v to="$work/sample" -f tests/samples.awk README.md docs/TOOL.md tests/samples.md >"$work/samples"
+held=0
+left=0
+while read -r number what rest; do
+    case $number in
+    !) fail "$what: a block that is no sample, and does not say why it is not run" ;;
+    -) left=$((left + 1)) && echo "not run: $what $rest" ;;
+    *)
+        held=$((held + 1))
+        sed "s|oracle/target/release|$rust|g" "$work/sample.$number.run" >"$work/command"
+        sh "$work/command" >"$work/out" 2>&1 </dev/null
+        if awk -f tests/shown.awk "$work/sample.$number.want" "$work/out" >"$work/told"; then pass; else fail "$rest: $(cat "$work/command")" && cat "$work/told"; fi
+        ;;
+    esac
+done <"$work/samples"
+[ "$held" -gt 0 ] && pass || fail 'no sample was found'
+echo "samples: $held held, $left blocks not run"
+
+# Every text of the tool's sources stands in a sample, but these, which no input of a test reaches, or which are read and not written.
+cat "$work"/sample.*.want >"$work/shown"
+cat >"$work/unshown" <<'UNSHOWN'
+walk_report/src/fields.rt: another fault
+census_report/src/letter.rt: another fault
+census_report/src/letter.rt: no right
+chord/src/note.rt: C#
+chord/src/note.rt: Eb
+chord/src/note.rt: G#
+chord/src/story.rt: THE CHORD LOST A TONE
+trace_file/src/report.rt:  (os error 
+trace_file/src/report.rt: : more than 1000000000 lines
+a72/src/main.rt: --help
+a72/src/main.rt: -h
+a72/src/stop.rt: no command
+a72/src/stop.rt: the proved core lost a tone of the chord
+a72/src/stop.rt: out of memory
+UNSHOWN
+(cd crates && awk -v shown="$work/shown" -f ../tests/texts.awk walk_report/src/*.rt census_report/src/*.rt counters_report/src/*.rt chord/src/*.rt trace_file/src/*.rt \
+    a72/src/*.rt trace_text/src/reason.rt) | grep -vxF -f "$work/unshown" >"$work/told"
+[ ! -s "$work/told" ] && pass || { fail 'texts of the tool that no sample shows' && sed 's/^/    /' "$work/told"; }
+
 # counted_as TRACE: the rows of `a72 counters` are the levels' own and the sums of the last line of `a72 run`.
 counted_as() {
     "$tool" counters "$1" >"$work/out" 2>"$work/err"
@@ -55,20 +97,6 @@ says() {
 
 layout=tests/instrument.trace
 for t in recorded/*.trace "$layout"; do counted_as "$t"; done
-"$tool" counters "$layout" >"$work/out" 2>&1
-cmp -s "$work/out" - <<'COUNTERS' && pass || fail 'the counters of the sample'
-cache counters by exception level: answers by entries (.) and walks (#)
-           entries        walks   share of walks
-  EL0            5           15    75.0%  ##############################..........
-  EL1            3            3    50.0%  ####################....................
-  EL2            0            0        -
-  EL3            0            0        -
-  all            8           18    69.2%  ############################............
-flushes 2, pages dropped 0, epoch 2
-counted at the level of the access, which the unprivileged mark does not lower;
-not counted: answers by a hint, and answers with stage 1 off
-EL0 walks most: 15 of 18 walks
-COUNTERS
 says 'nothing was walked' ''
 says '  all            0            0        -' ''
 says 'EL0 walks most: 5 of 5 walks' 'p-cnt 5'
@@ -125,10 +153,6 @@ counted 1000 1 fff 3e8 0
 counted 64 1 0 40 2
 counted 1 1 ffffffffffffffff 1 3
 counted 0 1 0 0
-"$tool" census "$layout" 0 10000 >"$work/out" 2>&1
-grep -qx '  \. *translation fault, level 2 *49664 *75%' "$work/out" && grep -qx '  # *EL0 ---  EL1 rwx   permissions 38 *512 *<1%' "$work/out" && pass ||
-    fail 'the rows of the sample'
-
 # The picture is well-formed, has as many cells as the map, and is all that is written.
 drawn() {
     cells=$1
@@ -238,7 +262,13 @@ for word in -h --help; do "$tool" "$word" 2>&1 | cmp -s - "$work/help" && pass |
 # On a terminal the lines are those of a file.
 if command -v python3 >/dev/null; then
     "$tool" run recorded/cases.trace >"$work/ours" 2>&1
-    python3 -c 'import pty, sys; pty.spawn(sys.argv[1:])' "$tool" run recorded/cases.trace </dev/null | tr -d '\r' | cmp -s - "$work/ours" && pass || fail 'lines on a terminal'
+    on_terminal() { python3 -c 'import pty, sys; pty.spawn(sys.argv[1:])' "$tool" "$@" </dev/null | tr -d '\r'; }
+    on_terminal run recorded/cases.trace | cmp -s - "$work/ours" && pass || fail 'lines on a terminal'
+    # The map has colours there, and the same letters.
+    on_terminal census "$layout" 0 10000 >"$work/coloured"
+    "$tool" census "$layout" 0 10000 >"$work/ours" 2>&1
+    escape=$(printf '\033')
+    grep -q "$escape\[48;5;" "$work/coloured" && sed "s/$escape\[[0-9;]*m//g" "$work/coloured" | cmp -s - "$work/ours" && pass || fail 'the map on a terminal'
 fi
 
 # A trace is read as the Rust reads it.

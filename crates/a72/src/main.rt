@@ -11,6 +11,7 @@ use census_report::report::Form;
 use std::alloc::Global;
 use std::io;
 use std::io::{BufWriter, IsTerminal, LineWriter, Write};
+use std::process::ExitCode;
 use std::rt::Files;
 use stop::Stop;
 use trace_core::machine::Machine;
@@ -117,8 +118,11 @@ fn chord_command<W: Write>(alloc: Global, out: &mut W, words: &[String]) -> Resu
         return Err(Stop::Usage("chord wants nothing more"));
     }
     let mut ram = memory::zeros(alloc)?;
-    chord::story::tell(out, ram.as_mut_slice())?;
-    Ok(())
+    if chord::story::tell(out, ram.as_mut_slice())? {
+        return Ok(());
+    }
+    out.flush()?;
+    Err(Stop::LostTone)
 }
 
 fn help<W: Write>(out: &mut W) -> Result<(), Stop> {
@@ -151,26 +155,35 @@ fn command<R: Files + AllocGlobal, W: Write>(
     Ok(())
 }
 
-fn main(rt: HostRuntime) -> io::Result<()> {
+// The command of the words, on standard output. On a terminal each line is written as it is made.
+fn carry_out(rt: &HostRuntime, words: &[String]) -> Result<(), Stop> {
     let alloc = rt.alloc();
+    let terminal = rt.stdout().is_terminal();
+    if terminal {
+        let mut out = LineWriter::new(alloc, io::writer(rt))?;
+        command(rt, &mut out, words, terminal)
+    } else {
+        let mut out = BufWriter::new(alloc, io::writer(rt))?;
+        command(rt, &mut out, words, terminal)
+    }
+}
+
+// What is wrong is said on standard error; the status is the same where that takes nothing.
+fn stopped(rt: &HostRuntime, path: &str, stop: Stop) -> ExitCode {
+    let _ = stop::show(&mut rt.stderr(), rt.alloc(), path, stop);
+    stop.status()
+}
+
+fn main(rt: HostRuntime) -> ExitCode {
     let words = match arguments::words(&rt) {
         Ok(words) => words,
-        Err(stop) => return stop::show(&mut rt.stderr(), alloc, "", stop),
+        Err(stop) => return stopped(&rt, "", stop),
     };
-    let terminal = rt.stdout().is_terminal();
-    // On a terminal each line is written as it is made.
-    let done = if terminal {
-        let mut out = LineWriter::new(alloc, io::writer(&rt))?;
-        command(&rt, &mut out, words.as_slice(), terminal)
-    } else {
-        let mut out = BufWriter::new(alloc, io::writer(&rt))?;
-        command(&rt, &mut out, words.as_slice(), terminal)
-    };
-    match done {
-        Ok(()) => Ok(()),
+    match carry_out(&rt, words.as_slice()) {
+        Ok(()) => ExitCode::SUCCESS,
         Err(stop) => {
             let path = words.get(1).map_or("", |word| word.as_str());
-            stop::show(&mut rt.stderr(), alloc, path, stop)
+            stopped(&rt, path, stop)
         }
     }
 }

@@ -1,8 +1,13 @@
 // What keeps a command from being carried out, and what is said of it on standard error.
+ghost use Rattle.std.specs.Prelude.{◌≡◌};
+ghost use Rattle.std.specs.Process.{exit_status};
+ghost use Rattle.a72.specs.Status.{status_of};
+
 use census_report::report::Refused;
 use std::alloc::{AllocError, Global};
 use std::io;
 use std::io::Write;
+use std::process::ExitCode;
 use thiserror::Error;
 use trace_file::report;
 use trace_file::report::Trouble;
@@ -35,11 +40,25 @@ pub enum Stop {
     Trace(#[from] Trouble),
     #[error(transparent)]
     Census(#[from] Refused),
+    #[error("the proved core lost a tone of the chord")]
+    LostTone,
     // standard output takes no more
     #[error("write: {0}")]
     Output(#[from] io::Error),
     #[error("out of memory")]
     Memory(#[from] AllocError),
+}
+
+impl Stop {
+    // The status that the tool ends with: 2 where the call is wrong, else 1.
+    pub fn status(&self) -> ExitCode
+        ensures { exit_status result ≡ status_of self.now }
+    {
+        match self {
+            Stop::NoCommand | Stop::Usage(_) => ExitCode::from(2u8),
+            _ => ExitCode::FAILURE,
+        }
+    }
 }
 
 pub fn usage<W: Write>(out: &mut W) -> io::Result<()> {

@@ -88,15 +88,17 @@ fn third_part<W: Write>(out: &mut W, core: &mut Core, ram: &mut [u8]) -> io::Res
     Ok(h.lost == 0)
 }
 
-// All three parts. Whether the proved core lost no tone in any is the last line.
-pub fn tell<W: Write>(out: &mut W, ram: &mut [u8]) -> io::Result<()> {
+// All three parts. Whether the proved core lost no tone in any is the last line, and the answer.
+pub fn tell<W: Write>(out: &mut W, ram: &mut [u8]) -> io::Result<bool> {
     let mut core = Core::new();
     let held = first_part(out, &mut core, ram)?;
     let changed = second_part(out, &mut core, ram)?;
     let ordered = third_part(out, &mut core, ram)?;
-    if held & changed & ordered {
-        writeln!(out, "\nthe chord is whole")
+    let whole = held & changed & ordered;
+    if whole {
+        writeln!(out, "\nthe chord is whole")?;
     } else {
-        writeln!(out, "\nTHE CHORD LOST A TONE")
+        writeln!(out, "\nTHE CHORD LOST A TONE")?;
     }
+    Ok(whole)
 }

@@ -32,7 +32,7 @@ impl fmt::Display for Attributes {
         let desc = self.0;
         write!(f, "AttrIndx={} NS={}", (desc >> 2) % 8, bit(desc, 5))?;
         write!(f, " AP={} SH={}", (desc >> 6) % 4, (desc >> 8) % 4)?;
-        write!(f, " AF={} not_global={}", bit(desc, 10), bit(desc, 11))?;
+        write!(f, " AF={} nG={}", bit(desc, 10), bit(desc, 11))?;
         write!(f, " PXN={} UXN={}", bit(desc, 53), bit(desc, 54))
     }
 }
