@@ -1,37 +1,92 @@
 /*
  * Stage 1 address translation of the Cortex-A72: the C interface of liba72abi.a, which `tools/build a72abi` makes
- * (x86-64, ELF). The library keeps no pointer and no data of its own, allocates nothing, and calls nothing but memset.
+ * (x86-64, ELF). The library keeps no pointer and no data of its own, allocates nothing, and calls nothing but memcpy
+ * and memset.
  *
- * The state. A core is an array of A72_WORDS words of 64 bits (a72_state), aligned as uint64_t is and owned by the
- * caller; a copy of the words is a copy of the core. a72_fresh writes every word. Any words are a core: whatever they
- * hold, each function ends and stays inside. A place (A72_PLACE_..) never moves: new words are appended, and A72_WORDS
- * grows. Words 70 and 71, once the counters of all hits and walks, hold nothing: a72_fresh makes them 0, and no other
- * function reads or writes them. The functions a72_get_.. below read the parts of a core.
+ * A core. It lies in memory of the caller's: A72_CORE_SIZE bytes at a multiple of A72_CORE_ALIGN, from malloc or a
+ * variable (a72_memory). a72_init makes a core there and gives the a72_core * that each function takes. The memory
+ * stays where it is and is written by nobody else as long as the core is used, and there is nothing to release: it is
+ * freed or used otherwise as any memory. a72_copy copies a core; so do a72_save and a72_restore, by numbered words
+ * for a file or another program.
  *
- * RAM. A function that needs memory is lent a window of it: `base`, the physical address of its first byte, then `ram`
- * and `len`, its bytes and their number. What lies outside the window is an external abort (status 0x10; on a table
- * walk 0x14 to 0x17). Memory is little-endian.
+ * RAM. A function that needs memory is lent a window of it: `base`, the physical address of its first byte, then
+ * `ram` and `len`, its bytes and their number. What lies outside the window is an external abort (status 0x10; on a
+ * table walk 0x14 to 0x17). Memory is little-endian.
  *
- * Pointers. No pointer is null, each is to as much memory as is said, and what a function writes overlaps nothing else
- * that it is lent. Several cores over one window take turns.
+ * What is asked. The core is one that a72_init or a72_copy made, and one call at a time uses it: the library takes it
+ * for its own as long as a call lasts, also where it only reads, so no core is const. No pointer is null, each is to
+ * as much memory as is said, and what a function writes overlaps nothing else that it is lent. Of values nothing is
+ * asked: whatever numbers, words and bytes stand there, each function ends and stays inside. Cores in several threads
+ * are independent; several cores over one window take turns.
  *
- * Numbers. Each function gives a number: A72_DONE, that of a check that the call misses, A72_NAMES_NOTHING,
- * A72_UNDEFINED, A72_UNIMPLEMENTED, or A72_FAULT plus the status of a fault. From 1 to 66 nothing is written: not the
- * state, not RAM, not the answer's word or counts. A fault has been taken by nobody: a72_abort takes it.
+ * Numbers. Each function that may be refused gives a number: A72_DONE, that of a check that the call misses,
+ * A72_NAMES_NOTHING, A72_UNDEFINED, A72_UNIMPLEMENTED, or A72_FAULT plus the status of a fault. From 1 to 66 nothing
+ * is written: not the core, not RAM, not the answer's word or counts. A fault has been taken by nobody: a72_abort
+ * takes it.
  */
 #ifndef A72_H
 #define A72_H
 
 #include <stddef.h>
 #include <stdint.h>
+#include <string.h>
 
 #ifdef __cplusplus
 extern "C" {
 #endif
 
-/* ---- Places: where each part of a core stands among its words ---- */
+/* ---- A core, and memory for it ---- */
 
+typedef struct a72_core a72_core;
+
+/* The core's address, in A72_HANDLE_SIZE bytes, and after it the core. */
+#define A72_CORE_SIZE 41744
+#define A72_CORE_ALIGN 8
+#define A72_HANDLE_SIZE 8
+
+/* A variable that holds a core: `static a72_memory memory; a72_core *core = a72_init(&memory);`. */
+typedef union a72_memory {
+    uint64_t aligned;
+    unsigned char bytes[A72_CORE_SIZE];
+} a72_memory;
+
+/* The core itself becomes one out of reset, past its address: a72_init does both. */
+void a72_init_at(void *at);
+
+/* Memory becomes a core out of reset: EL3, stage 1 off, the cache empty; whatever it held, a core too. The core
+ * has the memory's address. */
+static inline a72_core *a72_init(void *memory) {
+    void *at = (unsigned char *)memory + A72_HANDLE_SIZE;
+    memcpy(memory, &at, sizeof at);
+    a72_init_at(at);
+    return (a72_core *)memory;
+}
+
+/* Other memory becomes a core that holds the same. */
+static inline a72_core *a72_copy(void *memory, const a72_core *core) {
+    void *at = (unsigned char *)memory + A72_HANDLE_SIZE;
+    memcpy(memory, &at, sizeof at);
+    memcpy(at, (const unsigned char *)core + A72_HANDLE_SIZE, A72_CORE_SIZE - A72_HANDLE_SIZE);
+    return (a72_core *)memory;
+}
+
+/* ---- Saved cores: words, and where each part of a core stands among them ---- */
+
+/* Places never move: new words are appended, and A72_WORDS grows. Words 70 and 71 hold nothing: 0 is saved there,
+ * and they are not read. */
 #define A72_WORDS 5213
+
+typedef uint64_t a72_saved[A72_WORDS];
+
+/* The core's words, every one written. */
+void a72_save(a72_core *core, uint64_t words[A72_WORDS]);
+
+/* The core becomes the one that these words hold: of any words, also such as nothing saved. Of a word that is
+ * larger than its part some bits count; a level above 255 is 255, which every call refuses as it does 4. */
+void a72_restore(a72_core *core, const uint64_t words[A72_WORDS]);
+
+/* The one word at a place, as a72_save writes it; 0 past the last. */
+uint64_t a72_word(a72_core *core, size_t place);
 
 /* Registers of EL1, EL2 and EL3, three words each. */
 #define A72_PLACE_SCTLR 0
@@ -87,8 +142,6 @@ extern "C" {
 
 #define A72_HINTS 512
 #define A72_ENTRIES 1024
-
-typedef uint64_t a72_state[A72_WORDS];
 
 /* ---- Numbers that the functions give ---- */
 
@@ -173,73 +226,70 @@ static inline uint8_t a72_status(uint64_t number) { return (uint8_t)(number - A7
 #define A72_VMPIDR_EL2 A72_KEY(3, 4, 0, 0, 5)
 #define A72_PAR_EL1 A72_KEY(3, 0, 7, 4, 0)
 
-/* ---- The functions ---- */
-
-/* A core out of reset: EL3, stage 1 off, the cache empty. */
-void a72_fresh(uint64_t state[A72_WORDS]);
+/* ---- The calls ---- */
 
 /* The physical address of `va` for an access of this kind at the present level, in *ans. A fault is at `va`. */
-uint64_t a72_translate(uint64_t state[A72_WORDS], uint64_t va, uint64_t kind, uint64_t *ans, uint64_t base,
+uint64_t a72_translate(a72_core *core, uint64_t va, uint64_t kind, uint64_t *ans, uint64_t base,
                        const uint8_t *ram, size_t len);
 
 /* Where a data read of `va` would go, and where a fetch; A72_FAULT, with no status, where it would fault. */
-uint64_t a72_data_pa(uint64_t state[A72_WORDS], uint64_t va, uint64_t *ans, uint64_t base, const uint8_t *ram,
+uint64_t a72_data_pa(a72_core *core, uint64_t va, uint64_t *ans, uint64_t base, const uint8_t *ram,
                      size_t len);
-uint64_t a72_fetch_pa(uint64_t state[A72_WORDS], uint64_t va, uint64_t *ans, uint64_t base, const uint8_t *ram,
+uint64_t a72_fetch_pa(a72_core *core, uint64_t va, uint64_t *ans, uint64_t base, const uint8_t *ram,
                       size_t len);
 
 /* `size` bytes (1, 2, 4, 8) at `va`, zero-extended, in *ans. Of a fault *ans has the address, which may lie in the
  * second page of two. */
-uint64_t a72_load(uint64_t state[A72_WORDS], uint64_t va, uint64_t size, uint64_t *ans, uint64_t base,
+uint64_t a72_load(a72_core *core, uint64_t va, uint64_t size, uint64_t *ans, uint64_t base,
                   const uint8_t *ram, size_t len);
 
 /* The low `size` bytes of `value` to `va`. Of a fault *ans has the address; otherwise *ans stays. Both pages are
  * translated before a byte is written. */
-uint64_t a72_store(uint64_t state[A72_WORDS], uint64_t va, uint64_t size, uint64_t value, uint64_t *ans,
+uint64_t a72_store(a72_core *core, uint64_t va, uint64_t size, uint64_t value, uint64_t *ans,
                    uint64_t base, uint8_t *ram, size_t len);
 
 /* The instruction at `va`, in the low 32 bits of *ans. A fault is at `va`. */
-uint64_t a72_fetch(uint64_t state[A72_WORDS], uint64_t va, uint64_t *ans, uint64_t base, const uint8_t *ram,
+uint64_t a72_fetch(a72_core *core, uint64_t va, uint64_t *ans, uint64_t base, const uint8_t *ram,
                    size_t len);
 
 /* SYS: TLBI, AT, DC ZVA; other cache maintenance does nothing. `rt` is the number of the general register. Of a fault
  * of DC ZVA *ans has the address; otherwise *ans stays. AT answers in PAR_EL1. */
-uint64_t a72_system(uint64_t state[A72_WORDS], uint64_t op1, uint64_t crn, uint64_t crm, uint64_t op2, uint64_t rt,
+uint64_t a72_system(a72_core *core, uint64_t op1, uint64_t crn, uint64_t crm, uint64_t op2, uint64_t rt,
                     uint64_t *ans, uint64_t base, uint8_t *ram, size_t len);
 
 /* Writes a system register by its key: its mask applies, and the cache forgets what the write unsettles. */
-uint64_t a72_register(uint64_t state[A72_WORDS], uint64_t key, uint64_t value);
+uint64_t a72_register(a72_core *core, uint64_t key, uint64_t value);
 
 /* Sets the present level, 0 to 3. */
-uint64_t a72_level(uint64_t state[A72_WORDS], uint64_t level);
+uint64_t a72_level(a72_core *core, uint64_t level);
 
 /* Marks the accesses that follow as unprivileged (LDTR, STTR): 0 or 1. */
-uint64_t a72_mark(uint64_t state[A72_WORDS], uint64_t mark);
+uint64_t a72_mark(a72_core *core, uint64_t mark);
 
 /* Sets a general register, X0 to X30; 31 is the zero register and takes nothing. */
-uint64_t a72_general(uint64_t state[A72_WORDS], uint64_t number, uint64_t value);
+uint64_t a72_general(a72_core *core, uint64_t number, uint64_t value);
 
 /* Takes an exception (A72_EXCEPTION_..): ELR, SPSR, ESR and FAR of the level that it goes to are written, and the
  * level and the PC are the vector's. */
-uint64_t a72_abort(uint64_t state[A72_WORDS], const uint64_t exception[4]);
+uint64_t a72_abort(a72_core *core, const uint64_t exception[4]);
 
-/* How pages are mapped now: `pages` pages of 4 KiB, at most A72_MOST_PAGES, from that in which `first` lies; the last
- * may end at 2^64. Each is walked afresh by its own address in the regime of the present level, and counted at one
- * place: A72_COUNT_FLAT where stage 1 is off, A72_COUNT_STATUS plus the status of a fault, or A72_COUNT_RIGHTS plus the
- * permissions of the page (as in an entry). So the counts add up to `pages`. With A72_DONE all are written, otherwise
- * none. Neither core nor RAM changes, and the cache is not asked. */
-uint64_t a72_census(const uint64_t state[A72_WORDS], uint64_t first, uint64_t pages, uint64_t counts[A72_COUNTS],
+/* How pages are mapped now: `pages` pages of 4 KiB, at most A72_MOST_PAGES, from that in which `first` lies; the
+ * last may end at 2^64. Each is walked afresh by its own address in the regime of the present level, and counted
+ * at one place: A72_COUNT_FLAT where stage 1 is off, A72_COUNT_STATUS plus the status of a fault, or
+ * A72_COUNT_RIGHTS plus the permissions of the page (as in an entry). So the counts add up to `pages`. With
+ * A72_DONE all are written, otherwise none. Neither core nor RAM changes, and the cache is not asked. */
+uint64_t a72_census(a72_core *core, uint64_t first, uint64_t pages, uint64_t counts[A72_COUNTS],
                     uint64_t base, const uint8_t *ram, size_t len);
 
-/* One walk of the tables without a core, for those who keep a cache of their own. `registers`: SCTLR, TCR and TTBR0 of
- * the regime, TTBR1_EL1, SCR_EL3, HCR_EL2. `regime`: 1 EL1 and EL0, 2 EL2, 3 EL3. `va` has no tag. `leaf`: output
- * address, descriptor, permissions (as in an entry), level, and 1 where it holds for every ASID. */
+/* One walk of the tables without a core, for those who keep a cache of their own. `registers`: SCTLR, TCR and
+ * TTBR0 of the regime, TTBR1_EL1, SCR_EL3, HCR_EL2. `regime`: 1 EL1 and EL0, 2 EL2, 3 EL3. `va` has no tag.
+ * `leaf`: output address, descriptor, permissions (as in an entry), level, and 1 where it holds for every ASID. */
 uint64_t a72_walk(const uint64_t registers[6], uint64_t regime, uint64_t va, uint64_t leaf[5], uint64_t base,
                   const uint8_t *ram, size_t len);
 
 /* Any operation by its words. A72_DONE, and all four words of `ans` are written, also where the operation is refused
  * or faults; or A72_NAMES_NOTHING, and nothing is written. */
-uint64_t a72_step(const uint64_t op[8], uint64_t state[A72_WORDS], uint64_t base, uint8_t *ram, size_t len,
+uint64_t a72_step(const uint64_t op[8], a72_core *core, uint64_t base, uint8_t *ram, size_t len,
                   uint64_t ans[4]);
 
 /* The eight words of an operation: its code and its arguments; all else is 0. */
@@ -268,100 +318,129 @@ uint64_t a72_step(const uint64_t op[8], uint64_t state[A72_WORDS], uint64_t base
 #define A72_ANSWER_DATA_ABORT 9 /* address, status, write (0 or 1) */
 #define A72_ANSWER_INSN_ABORT 10 /* address, status */
 
-/* ---- Readers ---- */
+/* ---- What a core holds: read, and set where an emulator has to ---- */
+
+/* A system register by its key, in *value: A72_DONE, or A72_CHECK_KEY where no register has it, and *value stays. */
+uint64_t a72_get_register(a72_core *core, uint64_t key, uint64_t *value);
 
 /* The present level. */
-static inline uint64_t a72_get_level(const uint64_t state[A72_WORDS]) { return state[A72_PLACE_LEVEL]; }
+uint64_t a72_get_level(a72_core *core);
 
-/* Whether accesses are marked unprivileged. */
-static inline int a72_get_unprivileged(const uint64_t state[A72_WORDS]) { return state[A72_PLACE_UNPRIVILEGED] == 1; }
+/* 1 where accesses are marked unprivileged, or 0. */
+uint64_t a72_get_unprivileged(a72_core *core);
+
+/* PSTATE as an SPSR has it: NZCV in bits 31 to 28, DAIF in 9 to 6, the level in 3 and 2, SP in 0. */
+uint64_t a72_get_pstate(a72_core *core);
+
+/* NZCV, DAIF and SP become those of an SPSR's word; the level stays (a72_level sets it). */
+void a72_set_pstate(a72_core *core, uint64_t spsr);
 
 /* X0 to X30; all others are zero. */
-static inline uint64_t a72_get_general(const uint64_t state[A72_WORDS], uint64_t number) {
-    return number < 31 ? state[A72_PLACE_GENERAL + number] : 0;
-}
+uint64_t a72_get_general(a72_core *core, uint64_t number);
 
-static inline uint64_t a72_get_pc(const uint64_t state[A72_WORDS]) { return state[A72_PLACE_PC]; }
+uint64_t a72_get_pc(a72_core *core);
 
 /* An exception that is taken saves the PC. */
-static inline void a72_set_pc(uint64_t state[A72_WORDS], uint64_t pc) { state[A72_PLACE_PC] = pc; }
+void a72_set_pc(a72_core *core, uint64_t pc);
 
-static inline uint64_t a72_get_par_el1(const uint64_t state[A72_WORDS]) { return state[A72_PLACE_PAR_EL1]; }
-static inline uint64_t a72_get_ttbr1_el1(const uint64_t state[A72_WORDS]) { return state[A72_PLACE_TTBR1_EL1]; }
-static inline uint64_t a72_get_scr_el3(const uint64_t state[A72_WORDS]) { return state[A72_PLACE_SCR_EL3]; }
-static inline uint64_t a72_get_hcr_el2(const uint64_t state[A72_WORDS]) { return state[A72_PLACE_HCR_EL2]; }
-
-/* A register of EL1, EL2 or EL3, by the place of the first; zero for any other level. */
-static inline uint64_t a72_get_by_level(const uint64_t state[A72_WORDS], size_t place, uint64_t level) {
-    return 1 <= level && level <= 3 ? state[place + (size_t)level - 1] : 0;
+/* A system register, or zero where no register has the key. */
+static inline uint64_t a72_get(a72_core *core, uint64_t key) {
+    uint64_t value = 0;
+    a72_get_register(core, key, &value);
+    return value;
 }
 
-static inline uint64_t a72_get_sctlr(const uint64_t state[A72_WORDS], uint64_t level) {
-    return a72_get_by_level(state, A72_PLACE_SCTLR, level);
+static inline uint64_t a72_get_par_el1(a72_core *core) { return a72_get(core, A72_PAR_EL1); }
+static inline uint64_t a72_get_ttbr1_el1(a72_core *core) { return a72_get(core, A72_TTBR1_EL1); }
+static inline uint64_t a72_get_scr_el3(a72_core *core) { return a72_get(core, A72_SCR_EL3); }
+static inline uint64_t a72_get_hcr_el2(a72_core *core) { return a72_get(core, A72_HCR_EL2); }
+
+/* A register of EL1, EL2 or EL3, by the key of EL1's; zero for any other level. */
+static inline uint64_t a72_get_by_level(a72_core *core, uint64_t key, uint64_t level) {
+    return 1 <= level && level <= 3 ? a72_get(core, level == 1 ? key : key + (level << 12)) : 0;
 }
 
-static inline uint64_t a72_get_tcr(const uint64_t state[A72_WORDS], uint64_t level) {
-    return a72_get_by_level(state, A72_PLACE_TCR, level);
+static inline uint64_t a72_get_sctlr(a72_core *core, uint64_t level) {
+    return a72_get_by_level(core, A72_SCTLR_EL1, level);
 }
 
-static inline uint64_t a72_get_ttbr0(const uint64_t state[A72_WORDS], uint64_t level) {
-    return a72_get_by_level(state, A72_PLACE_TTBR0, level);
+static inline uint64_t a72_get_tcr(a72_core *core, uint64_t level) {
+    return a72_get_by_level(core, A72_TCR_EL1, level);
 }
 
-static inline uint64_t a72_get_mair(const uint64_t state[A72_WORDS], uint64_t level) {
-    return a72_get_by_level(state, A72_PLACE_MAIR, level);
+static inline uint64_t a72_get_ttbr0(a72_core *core, uint64_t level) {
+    return a72_get_by_level(core, A72_TTBR0_EL1, level);
 }
 
-static inline uint64_t a72_get_vbar(const uint64_t state[A72_WORDS], uint64_t level) {
-    return a72_get_by_level(state, A72_PLACE_VBAR, level);
+static inline uint64_t a72_get_mair(a72_core *core, uint64_t level) {
+    return a72_get_by_level(core, A72_MAIR_EL1, level);
 }
 
-static inline uint64_t a72_get_elr(const uint64_t state[A72_WORDS], uint64_t level) {
-    return a72_get_by_level(state, A72_PLACE_ELR, level);
+static inline uint64_t a72_get_vbar(a72_core *core, uint64_t level) {
+    return a72_get_by_level(core, A72_VBAR_EL1, level);
 }
 
-static inline uint64_t a72_get_spsr(const uint64_t state[A72_WORDS], uint64_t level) {
-    return a72_get_by_level(state, A72_PLACE_SPSR, level);
+static inline uint64_t a72_get_elr(a72_core *core, uint64_t level) {
+    return a72_get_by_level(core, A72_ELR_EL1, level);
 }
 
-static inline uint64_t a72_get_esr(const uint64_t state[A72_WORDS], uint64_t level) {
-    return a72_get_by_level(state, A72_PLACE_ESR, level);
+static inline uint64_t a72_get_spsr(a72_core *core, uint64_t level) {
+    return a72_get_by_level(core, A72_SPSR_EL1, level);
 }
 
-static inline uint64_t a72_get_far(const uint64_t state[A72_WORDS], uint64_t level) {
-    return a72_get_by_level(state, A72_PLACE_FAR, level);
+static inline uint64_t a72_get_esr(a72_core *core, uint64_t level) {
+    return a72_get_by_level(core, A72_ESR_EL1, level);
+}
+
+static inline uint64_t a72_get_far(a72_core *core, uint64_t level) {
+    return a72_get_by_level(core, A72_FAR_EL1, level);
 }
 
 /* The physical address of the last load that was translated. */
-static inline uint64_t a72_get_last_pa(const uint64_t state[A72_WORDS]) { return state[A72_PLACE_LAST_PA]; }
+uint64_t a72_get_last_pa(a72_core *core);
 
 /* The physical address of the last external abort: of a load or store with status 0x10, a device's address. */
-static inline uint64_t a72_get_abort_pa(const uint64_t state[A72_WORDS]) { return state[A72_PLACE_ABORT_PA]; }
+uint64_t a72_get_abort_pa(a72_core *core);
 
-/* The cache's counters; each wraps at 2^64. level_hits and level_walks are by the exception level of the access, 0 to 3, which the
- * mark (a72_mark) does not lower. */
+/* Translations that an entry of the cache answered, with a permission fault too, and walks, however they ended; by
+ * the exception level of the access, 0 to 3, which the mark (a72_mark) does not lower. 0 for a level above 3. This
+ * and the next three wrap at 2^64. */
+uint64_t a72_get_hits(a72_core *core, uint64_t level);
+uint64_t a72_get_walks(a72_core *core, uint64_t level);
+
+/* Flushes of the whole cache; invalidations of a page. */
+uint64_t a72_get_flushes(a72_core *core);
+uint64_t a72_get_drops(a72_core *core);
+
+/* Moves whenever a translation that was looked up may no longer hold. */
+uint64_t a72_get_epoch(a72_core *core);
+
+/* All of these. */
 struct a72_counters {
-    uint64_t level_hits[4];  /* translations that an entry of the cache answered, with a permission fault too */
-    uint64_t level_walks[4]; /* however they ended */
-    uint64_t flushes;  /* of the whole cache */
-    uint64_t drops;    /* invalidations of a page */
-    uint64_t epoch;    /* moves whenever a translation that was looked up may no longer hold */
+    uint64_t level_hits[4];
+    uint64_t level_walks[4];
+    uint64_t flushes;
+    uint64_t drops;
+    uint64_t epoch;
 };
 
-static inline struct a72_counters a72_get_counters(const uint64_t state[A72_WORDS]) {
+static inline struct a72_counters a72_get_counters(a72_core *core) {
     struct a72_counters c;
     for (size_t level = 0; level < 4; level++) {
-        c.level_hits[level] = state[A72_PLACE_LEVEL_HITS + level];
-        c.level_walks[level] = state[A72_PLACE_LEVEL_WALKS + level];
+        c.level_hits[level] = a72_get_hits(core, level);
+        c.level_walks[level] = a72_get_walks(core, level);
     }
-    c.flushes = state[A72_PLACE_FLUSHES];
-    c.drops = state[A72_PLACE_DROPS];
-    c.epoch = state[A72_PLACE_EPOCH];
+    c.flushes = a72_get_flushes(core);
+    c.drops = a72_get_drops(core);
+    c.epoch = a72_get_epoch(core);
     return c;
 }
 
 /* The hits of all levels, and the walks: their sums, wrapped at 2^64. */
-static inline uint64_t a72_total_hits(struct a72_counters c) { return c.level_hits[0] + c.level_hits[1] + c.level_hits[2] + c.level_hits[3]; }
+static inline uint64_t a72_total_hits(struct a72_counters c) {
+    return c.level_hits[0] + c.level_hits[1] + c.level_hits[2] + c.level_hits[3];
+}
+
 static inline uint64_t a72_total_walks(struct a72_counters c) {
     return c.level_walks[0] + c.level_walks[1] + c.level_walks[2] + c.level_walks[3];
 }
@@ -377,62 +456,47 @@ struct a72_pending {
     uint64_t value; /* of a page or an ASID; otherwise 0 */
 };
 
-static inline struct a72_pending a72_get_pending(const uint64_t state[A72_WORDS]) {
-    struct a72_pending p;
-    p.kind = state[A72_PLACE_PENDING];
-    p.value = state[A72_PLACE_PENDING_VALUE];
-    return p;
-}
+void a72_get_pending(a72_core *core, struct a72_pending *pending);
 
 /* The same; afterwards nothing is pending. */
-static inline struct a72_pending a72_take_pending(uint64_t state[A72_WORDS]) {
-    struct a72_pending p = a72_get_pending(state);
-    state[A72_PLACE_PENDING] = A72_PENDING_NONE;
-    state[A72_PLACE_PENDING_VALUE] = 0;
-    return p;
-}
+void a72_take_pending(a72_core *core, struct a72_pending *pending);
+
+/* On another core, with the kind and the value that a72_take_pending gave: it forgets the same, and what is
+ * pending there stays. A72_DONE, or A72_NAMES_NOTHING where the kind is none (A72_PENDING_NONE too), or an ASID
+ * has more than 16 bits. */
+uint64_t a72_receive(a72_core *core, uint64_t kind, uint64_t value);
 
 /* The cache's generation: a flush moves it, and entries of another are dead. */
-static inline uint32_t a72_get_generation(const uint64_t state[A72_WORDS]) {
-    return (uint32_t)state[A72_PLACE_GENERATION];
-}
+uint64_t a72_get_generation(a72_core *core);
+
+/* Sets it, as if many flushes had gone by: the entries that are live stay live, all others become blank, and the
+ * hints stay. A72_DONE, or A72_NAMES_NOTHING where no 32 bits hold it. */
+uint64_t a72_set_generation(a72_core *core, uint64_t generation);
 
 /* The ASID in force. */
-static inline uint16_t a72_get_asid(const uint64_t state[A72_WORDS]) { return (uint16_t)state[A72_PLACE_ASID]; }
+uint64_t a72_get_asid(a72_core *core);
 
 /* An entry of the cache. It stands in slot page number % A72_ENTRIES. */
 struct a72_entry {
-    uint64_t tag;        /* the untagged page number * 4 + regime; 0 where it was dropped */
-    uint32_t generation;
-    uint8_t permissions; /* read 1, write 2, fetch 4 for EL0; eight times that for the regime's own level */
-    uint8_t level;       /* of the tables */
-    uint8_t global;      /* 1: for every ASID */
-    uint16_t asid;
-    uint64_t pa;         /* the physical page's address */
+    uint64_t tag; /* the untagged page number * 4 + regime; 0 where it was dropped */
+    uint64_t generation;
+    uint64_t permissions; /* read 1, write 2, fetch 4 for EL0; eight times that for the regime's own level */
+    uint64_t level;       /* of the tables */
+    uint64_t global;      /* 1: for every ASID */
+    uint64_t asid;
+    uint64_t pa; /* the physical page's address */
 };
 
 /* The entry in a slot; past the last a blank one. */
-static inline struct a72_entry a72_get_entry(const uint64_t state[A72_WORDS], size_t slot) {
-    struct a72_entry e = {0, 0, 0, 0, 0, 0, 0};
-    if (slot < A72_ENTRIES) {
-        uint64_t attributes = state[A72_PLACE_ENTRY_ATTRIBUTES + 4 * slot];
-        e.tag = state[A72_PLACE_ENTRIES + 4 * slot];
-        e.generation = (uint32_t)state[A72_PLACE_ENTRY_GENERATION + 4 * slot];
-        e.permissions = (uint8_t)attributes;
-        e.level = (uint8_t)(attributes >> 8);
-        e.global = (uint8_t)(attributes >> 16 & 1);
-        e.asid = (uint16_t)(attributes >> 32);
-        e.pa = state[A72_PLACE_ENTRY_PA + 4 * slot];
-    }
-    return e;
-}
+void a72_get_entry(a72_core *core, uint64_t slot, struct a72_entry *entry);
 
 /* Whether an entry may answer: it was not dropped, and is of the present generation. */
-static inline int a72_is_live(const uint64_t state[A72_WORDS], struct a72_entry entry) {
-    return entry.tag != 0 && entry.generation == a72_get_generation(state);
+static inline int a72_is_live(a72_core *core, struct a72_entry entry) {
+    return entry.tag != 0 && entry.generation == a72_get_generation(core);
 }
 
-/* A data hint. That of page number p for reads stands in slot (p ^ p >> 5 ^ p >> 10) % 256, for writes 256 further. */
+/* A data hint. That of page number p for reads stands in slot (p ^ p >> 5 ^ p >> 10) % 256, for writes 256
+ * further. */
 struct a72_hint {
     uint64_t key; /* the page's address plus the level; A72_NO_HINT where there is none */
     uint64_t pa;  /* the physical page's address */
@@ -441,31 +505,17 @@ struct a72_hint {
 #define A72_NO_HINT UINT64_MAX
 
 /* The data hint in a slot; past the last none. */
-static inline struct a72_hint a72_get_hint(const uint64_t state[A72_WORDS], size_t slot) {
-    struct a72_hint h = {A72_NO_HINT, 0};
-    if (slot < A72_HINTS) {
-        h.key = state[A72_PLACE_HINTS + 2 * slot];
-        h.pa = state[A72_PLACE_HINT_PA + 2 * slot];
-    }
-    return h;
-}
+void a72_get_hint(a72_core *core, uint64_t slot, struct a72_hint *hint);
 
 /* The fetch hint. */
 struct a72_fetch_hint {
-    int present;
-    uint8_t level;
-    uint64_t page; /* the page's address */
-    uint64_t pa;   /* the physical page's address */
+    uint64_t present; /* 1, or 0 where there is none */
+    uint64_t page;    /* the page's address */
+    uint64_t level;
+    uint64_t pa; /* the physical page's address */
 };
 
-static inline struct a72_fetch_hint a72_get_fetch_hint(const uint64_t state[A72_WORDS]) {
-    struct a72_fetch_hint f;
-    f.present = state[A72_PLACE_FETCH] == 1;
-    f.level = (uint8_t)state[A72_PLACE_FETCH_LEVEL];
-    f.page = state[A72_PLACE_FETCH_PAGE];
-    f.pa = state[A72_PLACE_FETCH_PA];
-    return f;
-}
+void a72_get_fetch_hint(a72_core *core, struct a72_fetch_hint *hint);
 
 #ifdef __cplusplus
 }

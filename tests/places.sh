@@ -1,6 +1,6 @@
 #!/bin/sh
-# The C interface is one wherever it is written: the places of a state's words, the numbers that the functions give, the counts of a census, the keys of
-# the registers, and each function's parameters. Compares the library (crates/), include/a72.h and bindings/rust/src, line by line. Wants nothing.
+# The C interface is one wherever it is written: the places of a saved core's words, the memory of a core, the numbers that the functions give, the counts of
+# a census, the keys of the registers, and each function's parameters. Compares the library (crates/), include/a72.h and bindings/rust/src, line by line. Wants nothing.
 # Its last line is 'N lines are one in all tables'; where two differ it names both and the place, and ends with 1.
 set -eu
 cd "$(dirname "$0")/.."
@@ -33,21 +33,33 @@ table() { mkdir -p "$work/$(dirname "$1")" && cat >"$work/$1"; }
 # Places: NAME NUMBER.
 # shellcheck disable=SC2016 # awk's own dollars
 constants='/^pub const [A-Z0-9_]+: (usize|u64) = [0-9]+;$/ { gsub(/[:;]/, ""); print $3, $6 }'
-awk "$constants" crates/words/src/place.rt | table crates/words/src/place.rt
+awk "$constants" crates/saved/src/place.rt | table crates/saved/src/place.rt
 awk "$constants" bindings/rust/src/place.rs | table bindings/rust/src/place.rs
-awk '/^[A-Z0-9-]+ = [0-9]+$/ { gsub("-", "_", $1); print $1, $3 }' crates/words/specs/Places.antt | table crates/words/specs/Places.antt
+awk '/^[A-Z0-9-]+ = [0-9]+$/ { gsub("-", "_", $1); print $1, $3 }' crates/saved/specs/Places.antt | table crates/saved/specs/Places.antt
 awk '/^#define A72_(WORDS|PLACE_[A-Z0-9_]+) [0-9]+/ { sub(/^A72_(PLACE_)?/, "", $2); print $2, $3 }' $header | table $header
-for other in crates/words/specs/Places.antt $header bindings/rust/src/place.rs; do one place crates/words/src/place.rt "$other"; done
+for other in crates/saved/specs/Places.antt $header bindings/rust/src/place.rs; do one place crates/saved/src/place.rt "$other"; done
 
 # A table with one number changed is noticed, and the place is named.
 sed 's/^LEVEL .*/LEVEL 0/' "$work/bindings/rust/src/place.rs" | table wrong
-said=$(one place crates/words/src/place.rt wrong) && { echo "places.sh: a changed number is not noticed"; exit 1; }
+said=$(one place crates/saved/src/place.rt wrong) && { echo "places.sh: a changed number is not noticed"; exit 1; }
 case $said in 'place LEVEL: '*) ;; *) echo "places.sh: of a changed number it says: $said"; exit 1 ;; esac
 
 # A place is after the one before it, and before the end.
 awk '$1 == "WORDS" { end = $2; next }
     $2 <= last && NR > 2 || $2 >= end { print "place " $1 ": " $2 " is not between the one before it and " end; exit 1 }
-    { last = $2 }' "$work/crates/words/src/place.rt"
+    { last = $2 }' "$work/crates/saved/src/place.rt"
+
+# A core's memory: NAME NUMBER. The library proves its parts: the handle, the core, its alignment.
+sed -n 's/^const _: () = prove!(\(.*\)_of::<\(.*\)>() == \([0-9]*\));$/\1 \2 \3/p' crates/core_static/src/state.rt | awk '
+    { of[$1 " " $2] = $3 }
+    END {
+        if (of["size Core"] && of["size Handle"]) print "CORE_SIZE", of["size Core"] + of["size Handle"]
+        print "CORE_ALIGN", of["align Core"]
+        print "HANDLE_SIZE", of["size Handle"]
+    }' | table crates/core_static/src/state.rt
+awk '/^#define A72_(CORE_SIZE|CORE_ALIGN|HANDLE_SIZE) [0-9]+$/ { sub("A72_", "", $2); print $2, $3 }' $header | table $header
+awk "$constants" bindings/rust/src/held.rs | table bindings/rust/src/held.rs
+for other in $header bindings/rust/src/held.rs; do one memory crates/core_static/src/state.rt "$other"; done
 
 # Numbers that the functions give: those of bindings/rust/src/number.rs, and of the checks by their order in answer.rs.
 awk "$constants" bindings/rust/src/number.rs | table bindings/rust/src/number.rs
@@ -71,9 +83,9 @@ sed -n 's/^#define A72_\([A-Z0-9_]*\) A72_KEY(\(.*\))$/\1 \2/p' $header | tr -d 
 one key bindings/rust/src/registers.rs $header
 
 # Functions, sorted: NAME, then each parameter as a C type without its name; `-` where nothing is given back.
-awk -f tools/functions.awk crates/a72_static/src/*.rt | sort | table crates/a72_static/src
+awk -f tools/functions.awk crates/core_static/src/*.rt | sort | table crates/core_static/src/all
 sed "s/A72_COUNTS]/$counts]/" $header | awk -f tools/functions.awk | sort | table $header
 awk -f tools/functions.awk bindings/rust/src/library.rs | sort | table bindings/rust/src/library.rs
-for other in $header bindings/rust/src/library.rs; do one function crates/a72_static/src "$other"; done
+for other in $header bindings/rust/src/library.rs; do one function crates/core_static/src/all "$other"; done
 
 echo "$lines lines are one in all tables"

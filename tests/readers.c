@@ -11,7 +11,8 @@
 #define PAGE (VA >> 12)
 #define UNMAPPED 0x1000
 
-static a72_state core;
+static a72_memory memory, other;
+static a72_core *core;
 static uint8_t ram[LEN];
 static int tried, failed;
 
@@ -22,6 +23,12 @@ static void put(uint64_t address, uint64_t value) {
         ram[address - BASE + i] = (uint8_t)(value >> 8 * i);
 }
 
+static struct a72_entry entry(a72_core *c, uint64_t slot) {
+    struct a72_entry e;
+    a72_get_entry(c, slot, &e);
+    return e;
+}
+
 /* Pages of RAM at their own addresses, and page 9 outside it; stage 1 on, at EL1. */
 static void set_up(void) {
     put(BASE + 0x1008, (BASE + 0x2000) | 3);
@@ -29,7 +36,7 @@ static void set_up(void) {
     for (uint64_t page = 0; page < LEN >> 12; page++)
         put(BASE + 0x3000 + 8 * page, BASE + (page << 12) + 0x403);
     put(BASE + 0x3000 + 8 * 9, 0x80000403);
-    a72_fresh(core);
+    core = a72_init(&memory);
     MUST(a72_get_level(core) == 3 && a72_get_pc(core) == 0 && a72_total_walks(a72_get_counters(core)) == 0);
     MUST(a72_register(core, A72_TCR_EL1, 25 | UINT64_C(2) << 30) == A72_DONE);
     MUST(a72_register(core, A72_TTBR0_EL1, BASE + 0x1000) == A72_DONE);
@@ -39,8 +46,8 @@ static void set_up(void) {
 
 /* A register that is written by its key is where its reader looks. */
 static void registers(void) {
-    a72_state c;
-    memcpy(c, core, sizeof c);
+    a72_core *c = a72_copy(&other, core);
+    uint64_t value = 7;
     MUST(a72_register(c, A72_SCTLR_EL2, 0x1004) == A72_DONE && a72_get_sctlr(c, 2) == 0x1004);
     MUST(a72_register(c, A72_TCR_EL3, 25) == A72_DONE && a72_get_tcr(c, 3) == 25);
     MUST(a72_register(c, A72_TTBR0_EL3, 0x7000) == A72_DONE && a72_get_ttbr0(c, 3) == 0x7000);
@@ -54,6 +61,9 @@ static void registers(void) {
     MUST(a72_register(c, A72_SCR_EL3, 1) == A72_DONE && a72_get_scr_el3(c) & 1);
     MUST(a72_register(c, A72_HCR_EL2, UINT64_C(1) << 31) == A72_DONE && a72_get_hcr_el2(c) >> 31 & 1);
     MUST(a72_register(c, A72_PAR_EL1, 0x77) == A72_DONE && a72_get_par_el1(c) == 0x77);
+    MUST(a72_get_register(c, A72_VPIDR_EL2, &value) == A72_DONE && value == 0x410FD083);
+    MUST(a72_get_register(c, A72_KEY(3, 0, 0, 0, 0), &value) == A72_CHECK_KEY && value == 0x410FD083);
+    MUST(a72_get(c, A72_KEY(3, 0, 0, 0, 0)) == 0 && a72_get(c, A72_FAR_EL2) == 0x66);
     MUST(a72_get_esr(c, 0) == 0 && a72_get_esr(c, 4) == 0);
     MUST(a72_general(c, 30, 9) == A72_DONE && a72_get_general(c, 30) == 9 && a72_get_general(c, 31) == 0);
     MUST(a72_mark(c, 1) == A72_DONE && a72_get_unprivileged(c) && !a72_get_unprivileged(core));
@@ -62,10 +72,10 @@ static void registers(void) {
 
 /* A refused call has its number, and writes nothing. */
 static void refusals(void) {
-    a72_state before;
+    a72_saved before, after;
     uint64_t ans = 7;
     const uint64_t wide[4] = {A72_EXCEPTION_SVC, 0x10000, 0, 0};
-    memcpy(before, core, sizeof before);
+    a72_save(core, before);
     MUST(a72_level(core, 4) == A72_CHECK_LEVEL);
     MUST(a72_load(core, VA, 4, &ans, UINT64_MAX, ram, LEN) == A72_CHECK_WINDOW);
     MUST(a72_load(core, VA, 3, &ans, BASE, ram, LEN) == A72_CHECK_SIZE);
@@ -78,7 +88,11 @@ static void refusals(void) {
     a72_level(core, 0);
     MUST(a72_system(core, 0, 8, 7, 0, 0, &ans, BASE, ram, LEN) == A72_UNDEFINED);
     a72_level(core, 1);
-    MUST(ans == 7 && memcmp(before, core, sizeof before) == 0);
+    MUST(a72_receive(core, A72_PENDING_NONE, 0) == A72_NAMES_NOTHING);
+    MUST(a72_receive(core, A72_PENDING_ASID, 0x10000) == A72_NAMES_NOTHING);
+    MUST(a72_set_generation(core, UINT64_C(1) << 32) == A72_NAMES_NOTHING);
+    a72_save(core, after);
+    MUST(ans == 7 && memcmp(before, after, sizeof before) == 0);
 }
 
 static void accesses(void) {
@@ -93,28 +107,44 @@ static void accesses(void) {
     MUST(a72_load(core, BASE + 0x9010, 4, &ans, BASE, ram, LEN) == A72_FAULT + 0x10);
     MUST(ans == BASE + 0x9010 && a72_get_abort_pa(core) == 0x80000010);
     MUST(!a72_is_fault(A72_UNIMPLEMENTED) && !a72_is_fault(A72_FAULT + 256) && a72_status(A72_FAULT + 0x10) == 0x10);
-    struct a72_entry e = a72_get_entry(core, PAGE % A72_ENTRIES);
+    struct a72_entry e = entry(core, PAGE % A72_ENTRIES);
     MUST(e.tag == PAGE * 4 + 1 && e.pa == PAGE << 12 && e.level == 3 && e.permissions == 0x3C);
     MUST(e.global && e.asid == 0 && e.generation == a72_get_generation(core) && a72_is_live(core, e));
-    MUST(a72_get_entry(core, A72_ENTRIES).tag == 0);
-    struct a72_hint read = a72_get_hint(core, slot), write = a72_get_hint(core, 256 + slot);
+    MUST(entry(core, A72_ENTRIES).tag == 0);
+    struct a72_hint read, write, past;
+    a72_get_hint(core, slot, &read);
+    a72_get_hint(core, 256 + slot, &write);
+    a72_get_hint(core, A72_HINTS, &past);
     MUST(read.key == (PAGE << 12) + 1 && read.pa == PAGE << 12 && write.key == read.key && write.pa == read.pa);
-    MUST(a72_get_hint(core, A72_HINTS).key == A72_NO_HINT);
-    struct a72_fetch_hint f = a72_get_fetch_hint(core);
+    MUST(past.key == A72_NO_HINT);
+    struct a72_fetch_hint f;
+    a72_get_fetch_hint(core, &f);
     MUST(f.present && f.page == PAGE << 12 && f.level == 1 && f.pa == PAGE << 12);
 }
 
-/* A TLBI of the Inner Shareable forms drops the page here, and is pending for others. */
+/* A TLBI of the Inner Shareable forms drops the page here, and is pending for others: another core that receives it drops the
+ * same. */
 static void invalidation(void) {
     uint64_t ans = 0, x = UINT64_C(3) << 48 | PAGE;
     struct a72_counters before = a72_get_counters(core);
+    struct a72_fetch_hint f;
+    struct a72_pending p, none;
+    a72_core *c = a72_copy(&other, core);
     a72_general(core, 1, x);
     MUST(a72_system(core, 0, 8, 3, 1, 1, &ans, BASE, ram, LEN) == A72_DONE);
     struct a72_counters after = a72_get_counters(core);
     MUST(after.drops == before.drops + 1 && after.epoch == before.epoch + 1 && after.flushes == before.flushes);
-    MUST(!a72_is_live(core, a72_get_entry(core, PAGE % A72_ENTRIES)) && !a72_get_fetch_hint(core).present);
-    struct a72_pending p = a72_take_pending(core);
-    MUST(p.kind == A72_PENDING_PAGE && p.value == x && a72_get_pending(core).kind == A72_PENDING_NONE);
+    MUST(!a72_is_live(core, entry(core, PAGE % A72_ENTRIES)));
+    a72_get_fetch_hint(core, &f);
+    a72_get_pending(core, &none);
+    a72_take_pending(core, &p);
+    MUST(!f.present && p.kind == A72_PENDING_PAGE && p.value == x && none.kind == p.kind && none.value == p.value);
+    a72_get_pending(core, &none);
+    MUST(none.kind == A72_PENDING_NONE && none.value == 0);
+    MUST(a72_is_live(c, entry(c, PAGE % A72_ENTRIES)) && a72_receive(c, p.kind, p.value) == A72_DONE);
+    MUST(!a72_is_live(c, entry(c, PAGE % A72_ENTRIES)) && a72_get_drops(c) == after.drops);
+    a72_get_pending(c, &none);
+    MUST(none.kind == A72_PENDING_NONE);
     MUST(a72_load(core, VA, 4, &ans, BASE, ram, LEN) == A72_DONE);
     MUST(a72_get_counters(core).level_walks[1] == after.level_walks[1] + 1 && a72_get_counters(core).level_hits[1] == after.level_hits[1]);
 }
@@ -137,13 +167,58 @@ static void levels(void) {
     for (int level = 2; level < 4; level++)
         MUST(after.level_hits[level] == before.level_hits[level] && after.level_walks[level] == before.level_walks[level]);
     MUST(a72_total_hits(after) == a72_total_hits(before) + 2 && a72_total_walks(after) == a72_total_walks(before) + 1);
-    a72_state c;
-    memcpy(c, core, sizeof c);
-    c[A72_PLACE_LEVEL_HITS + 3] = UINT64_MAX - after.level_hits[1];
-    c[A72_PLACE_LEVEL_WALKS + 2] = UINT64_MAX;
+    a72_core *c = a72_init(&other);
+    a72_saved words;
+    a72_save(core, words);
+    words[A72_PLACE_LEVEL_HITS + 3] = UINT64_MAX - after.level_hits[1];
+    words[A72_PLACE_LEVEL_WALKS + 2] = UINT64_MAX;
+    a72_restore(c, words);
     MUST(a72_get_counters(c).level_hits[3] == UINT64_MAX - after.level_hits[1] && a72_get_counters(c).level_walks[2] == UINT64_MAX);
     MUST(a72_total_hits(a72_get_counters(c)) == UINT64_MAX + after.level_hits[0]);
     MUST(a72_total_walks(a72_get_counters(c)) == a72_total_walks(after) - 1);
+}
+
+/* PSTATE as an SPSR's word; the level is not set by it. */
+static void flags(void) {
+    a72_set_pstate(core, 0xA00003C4);
+    MUST(a72_get_pstate(core) == 0xA00003C4 && a72_word(core, A72_PLACE_NZCV) == 0xA0000000);
+    MUST(a72_word(core, A72_PLACE_DAIF) == 0x3C0 && a72_word(core, A72_PLACE_SPSEL) == 0);
+    a72_set_pstate(core, 0x4D);
+    MUST(a72_get_pstate(core) == 0x45 && a72_get_level(core) == 1);
+    a72_set_pstate(core, 0x3C5);
+}
+
+/* A core that is restored from saved words is the same, and each word is the one at its place. */
+static void saved(void) {
+    a72_core *c = a72_init(&other);
+    a72_saved words, again;
+    size_t same = 0;
+    a72_save(core, words);
+    a72_restore(c, words);
+    a72_save(c, again);
+    MUST(memcmp(words, again, sizeof words) == 0);
+    for (size_t place = 0; place < A72_WORDS; place++)
+        same += a72_word(core, place) == words[place];
+    MUST(same == A72_WORDS && a72_word(core, A72_WORDS) == 0);
+    MUST(words[A72_PLACE_PC] == a72_get_pc(core) && words[A72_PLACE_SCTLR] == a72_get_sctlr(core, 1));
+    for (size_t place = 0; place < A72_WORDS; place++)
+        words[place] = UINT64_MAX;
+    a72_restore(c, words);
+    MUST(a72_get_level(c) == 255 && a72_mark(c, 1) == A72_CHECK_LEVEL && a72_word(c, 70) == 0);
+    MUST(a72_get_generation(c) == UINT32_MAX && a72_get_asid(c) == UINT16_MAX && a72_get_unprivileged(c) == 0);
+    c = a72_init(c);
+    a72_save(c, again);
+    a72_save(a72_init(&other), words);
+    MUST(a72_get_level(c) == 3 && memcmp(words, again, sizeof words) == 0);
+}
+
+/* As if flushes had gone by: what is live stays live. */
+static void generations(void) {
+    uint64_t ans = 0;
+    a72_core *c = a72_copy(&other, core);
+    MUST(a72_load(c, VA, 4, &ans, BASE, ram, LEN) == A72_DONE);
+    MUST(a72_set_generation(c, 77) == A72_DONE && a72_get_generation(c) == 77);
+    MUST(a72_is_live(c, entry(c, PAGE % A72_ENTRIES)) && entry(c, PAGE % A72_ENTRIES).generation == 77);
 }
 
 static void walk(void) {
@@ -158,9 +233,9 @@ static void walk(void) {
 
 /* The counts of a census, the core as it was; and of one that is refused none. */
 static void census(void) {
-    a72_state before;
+    a72_saved before, after;
     uint64_t counts[A72_COUNTS], all = 0;
-    memcpy(before, core, sizeof before);
+    a72_save(core, before);
     memset(counts, 0x55, sizeof counts);
     MUST(a72_census(core, VA, A72_MOST_PAGES + 1, counts, BASE, ram, LEN) == A72_CHECK_RANGE);
     MUST(a72_census(core, UINT64_MAX, 2, counts, BASE, ram, LEN) == A72_CHECK_RANGE);
@@ -171,7 +246,8 @@ static void census(void) {
     MUST(counts[A72_COUNT_STATUS + 5] == 1 && counts[A72_COUNT_STATUS + 7] == 512 - (LEN >> 12));
     for (size_t i = 0; i < A72_COUNTS; i++)
         all += counts[i];
-    MUST(all == A72_MOST_PAGES && memcmp(before, core, sizeof before) == 0);
+    a72_save(core, after);
+    MUST(all == A72_MOST_PAGES && memcmp(before, after, sizeof before) == 0);
     a72_level(core, 3);
     MUST(a72_census(core, UINT64_MAX, 1, counts, BASE, ram, LEN) == A72_DONE && counts[A72_COUNT_FLAT] == 1);
     a72_level(core, 1);
@@ -214,6 +290,9 @@ int main(void) {
     accesses();
     invalidation();
     levels();
+    flags();
+    saved();
+    generations();
     walk();
     census();
     steps();

@@ -8,13 +8,15 @@ room=$(mktemp -d)
 trap 'rm -rf "$room"' EXIT
 cp crates/replay/data/*.rec "$room"
 
-# One byte of a record changed at an offset: the program must say so, in its last line too.
+# One byte of a record changed at an offset: the program must say so, in its last line too, and end with status 1.
 notice() {
     cp "crates/replay/data/$1" "$room/$1"
     old=$(od -An -tu1 -j "$2" -N 1 "$room/$1")
     printf "\\$(printf %o $((old ^ 1)))" | dd of="$room/$1" bs=1 seek="$2" conv=notrunc 2>/dev/null
-    said=$(cd "$room" && "$program" $(cat "$OLDPWD/crates/replay/args") | diff - "$OLDPWD/crates/replay/stdout" | sed -n 's/^< //p')
-    if ! echo "$said" | tail -n 1 | grep -q 'differences [1-9]'; then
+    status=0
+    (cd "$room" && "$program" $(cat "$OLDPWD/crates/replay/args")) >"$room/said" || status=$?
+    said=$(diff "$room/said" crates/replay/stdout | sed -n 's/^< //p')
+    if [ "$status" != 1 ] || ! echo "$said" | tail -n 1 | grep -q 'differences [1-9]'; then
         echo "$1, byte $2: not noticed"
         exit 1
     fi

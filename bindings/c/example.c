@@ -16,7 +16,8 @@
 #define PAGE 0x403
 #define READ_ONLY 0x483
 
-static a72_state core;
+static a72_memory memory;
+static a72_core *core; /* in it */
 static uint8_t ram[LEN];
 
 /* Another agent's write to RAM, little-endian. */
@@ -94,20 +95,21 @@ static void census(uint64_t first, uint64_t pages) {
 /* The cache, and the entry of a page. */
 static void show(uint64_t va) {
     struct a72_counters c = a72_get_counters(core);
-    struct a72_entry e = a72_get_entry(core, va >> 12 & (A72_ENTRIES - 1));
+    struct a72_entry e;
+    a72_get_entry(core, va >> 12 & (A72_ENTRIES - 1), &e);
     for (int level = 0; level < 4; level++)
         printf("EL%d: hits %" PRIu64 ", walks %" PRIu64 "\n", level, c.level_hits[level], c.level_walks[level]);
     printf("in all: hits %" PRIu64 ", walks %" PRIu64, a72_total_hits(c), a72_total_walks(c));
     printf(", flushes %" PRIu64 ", drops %" PRIu64, c.flushes, c.drops);
     printf(", last load at 0x%" PRIx64 "\n", a72_get_last_pa(core));
-    printf("page 0x%" PRIx64 ": physical 0x%" PRIx64 ", level %u", e.tag >> 2, e.pa, e.level);
-    printf(", permissions 0x%02x, %s\n", e.permissions, a72_is_live(core, e) ? "live" : "dead");
+    printf("page 0x%" PRIx64 ": physical 0x%" PRIx64 ", level %" PRIu64, e.tag >> 2, e.pa, e.level);
+    printf(", permissions 0x%02" PRIx64 ", %s\n", e.permissions, a72_is_live(core, e) ? "live" : "dead");
 }
 
 int main(void) {
     const uint64_t va = BASE + 0x40FFC;
     uint64_t pa = 0;
-    a72_fresh(core); /* at EL3, stage 1 off */
+    core = a72_init(&memory); /* at EL3, stage 1 off */
     map();
     put(BASE + 0x41FF8, UINT64_C(0xCAFE) << 32);
     a72_register(core, A72_TCR_EL1, 25 | UINT64_C(2) << 30); /* 39 bits of address, pages of 4 KiB in both ranges */

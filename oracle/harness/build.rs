@@ -1,5 +1,4 @@
-//! With the feature `rattle` or `walk`: link the static library that A72_LIB (folder) and A72_NAME (name) give; with `lent`, the
-//! folder's `liblent_bench.a` too.
+//! With the feature `rattle` or `walk`: link the static library that A72_LIB (folder) and A72_NAME (name) give.
 use std::env;
 
 fn main() {
@@ -15,8 +14,4 @@ fn main() {
     println!("cargo:rustc-link-search=native={dir}");
     println!("cargo:rustc-link-lib=static={name}");
     println!("cargo:rerun-if-changed={dir}/lib{name}.a");
-    if env::var_os("CARGO_FEATURE_LENT").is_some() {
-        println!("cargo:rustc-link-lib=static=lent_bench");
-        println!("cargo:rerun-if-changed={dir}/liblent_bench.a");
-    }
 }

@@ -137,7 +137,7 @@ fn main() {
         equal &= theirs == ours;
         println!("{:32} {:24} {}", line.to_string(), theirs.to_string(), ours);
     }
-    equal &= state_of(core.words()) == rust.state() && window == rust_ram;
+    equal &= state_of(&core.words()[..]) == rust.state() && window == rust_ram;
     println!(
         "answers, states and RAM {}",
         if equal { "equal" } else { "DIFFER" }

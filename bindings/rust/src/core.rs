@@ -1,17 +1,30 @@
 //! The core: its state, and every operation as a method.
 use crate::answer::Stop;
 use crate::census::Census;
+use crate::edit::Edit;
+use crate::held::Held;
 use crate::number::{DONE, FAULT};
 use crate::operation::{Access, Exception, SystemOperation, Width};
-use crate::place::{State, WORDS};
+use crate::place::WORDS;
 use crate::ram::Ram;
 use crate::raw;
 
-/// One core: its registers, its cache of translations and their counters, in 5,213 words.
-#[derive(Clone, PartialEq, Eq)]
+/// One core: its registers, its cache of translations and their counters, in 41,744 bytes of its own.
+///
+/// It is `Send`, and not `Sync`: the library takes a core for its own as long as a call lasts, also where it only reads.
+#[derive(Clone)]
 pub struct Core {
-    pub(crate) words: Box<State>,
+    pub(crate) held: Held,
 }
+
+/// Two cores are equal where their words are.
+impl PartialEq for Core {
+    fn eq(&self, other: &Core) -> bool {
+        self.words() == other.words()
+    }
+}
+
+impl Eq for Core {}
 
 impl Default for Core {
     fn default() -> Core {
@@ -31,36 +44,47 @@ fn done(number: u64) -> Result<(), Stop> {
 impl Core {
     /// A core out of reset: EL3, stage 1 off, the cache empty.
     pub fn new() -> Core {
-        let mut core = Core::from_words(vec![0; WORDS].try_into().expect("as many words as a state has"));
-        raw::fresh(&mut core.words);
+        Core { held: Held::new() }
+    }
+
+    /// The core of these words, as [`Self::words`] gave them, or any others: of a word that is larger than its part some
+    /// bits count.
+    pub fn from_words(words: Box<[u64; WORDS]>) -> Core {
+        let mut core = Core::new();
+        core.restore(&words);
         core
     }
 
-    /// The core of these words, as [`Self::words`] gave them.
-    pub fn from_words(words: Box<[u64; WORDS]>) -> Core {
-        Core { words }
+    /// Become the core of these words.
+    pub fn restore(&mut self, words: &[u64; WORDS]) {
+        self.held.restore(words);
     }
 
-    /// All that the core holds: a copy of the words is a copy of the core. [`crate::place`] has the layout.
-    pub fn words(&self) -> &[u64; WORDS] {
-        &self.words
+    /// All that the core holds, saved as words. [`crate::place`] has the layout.
+    pub fn words(&self) -> Box<[u64; WORDS]> {
+        self.held.save()
     }
 
-    /// The words, to be changed. The library stays inside whatever they hold; that the cache holds only what the
-    /// tables said is then the caller's affair.
-    pub fn words_mut(&mut self) -> &mut [u64; WORDS] {
-        &mut self.words
+    /// The word at a place, as [`Self::words`] has it; 0 past the last.
+    pub fn word(&self, place: usize) -> u64 {
+        raw::word(&self.held, place)
     }
 
-    /// The words themselves.
+    /// The words, to be changed: the core becomes the one that they hold when what this gives is dropped. The library
+    /// stays inside whatever they hold; that the cache holds only what the tables said is then the caller's affair.
+    pub fn words_mut(&mut self) -> Edit<'_> {
+        Edit::new(self)
+    }
+
+    /// The words alone.
     pub fn into_words(self) -> Box<[u64; WORDS]> {
-        self.words
+        self.words()
     }
 
     /// The physical address of `va` for an access of this kind at the present level.
     #[inline]
     pub fn translate(&mut self, ram: &Ram, va: u64, access: Access) -> Result<u64, Stop> {
-        match raw::translate(&mut self.words, va, access as u64, ram.base, ram.bytes) {
+        match raw::translate(&mut self.held, va, access as u64, ram.base, ram.bytes) {
             (DONE, pa) => Ok(pa),
             (n, _) => Err(Stop::of(n, access, va)),
         }
@@ -69,7 +93,7 @@ impl Core {
     /// Where a data read of `va` would go; `None` where it would fault.
     #[inline]
     pub fn data_pa(&mut self, ram: &Ram, va: u64) -> Result<Option<u64>, Stop> {
-        match raw::data_pa(&mut self.words, va, ram.base, ram.bytes) {
+        match raw::data_pa(&mut self.held, va, ram.base, ram.bytes) {
             (DONE, pa) => Ok(Some(pa)),
             (FAULT.., _) => Ok(None),
             (n, _) => Err(Stop::of(n, Access::Read, va)),
@@ -79,7 +103,7 @@ impl Core {
     /// Where an instruction fetch from `va` would go; `None` where it would fault.
     #[inline]
     pub fn fetch_pa(&mut self, ram: &Ram, va: u64) -> Result<Option<u64>, Stop> {
-        match raw::fetch_pa(&mut self.words, va, ram.base, ram.bytes) {
+        match raw::fetch_pa(&mut self.held, va, ram.base, ram.bytes) {
             (DONE, pa) => Ok(Some(pa)),
             (FAULT.., _) => Ok(None),
             (n, _) => Err(Stop::of(n, Access::Fetch, va)),
@@ -95,7 +119,7 @@ impl Core {
     /// [`Self::load`] of a size in bytes, which is refused where it is none of 1, 2, 4 and 8.
     #[inline]
     pub fn load_bytes(&mut self, ram: &Ram, va: u64, size: u64) -> Result<u64, Stop> {
-        match raw::load(&mut self.words, va, size, ram.base, ram.bytes) {
+        match raw::load(&mut self.held, va, size, ram.base, ram.bytes) {
             (DONE, v) => Ok(v),
             (n, address) => Err(Stop::of(n, Access::Read, address)),
         }
@@ -110,7 +134,7 @@ impl Core {
     /// [`Self::store`] of a size in bytes, which is refused where it is none of 1, 2, 4 and 8.
     #[inline]
     pub fn store_bytes(&mut self, ram: &mut Ram, va: u64, size: u64, value: u64) -> Result<(), Stop> {
-        match raw::store(&mut self.words, va, size, value, ram.base, ram.bytes) {
+        match raw::store(&mut self.held, va, size, value, ram.base, ram.bytes) {
             (DONE, _) => Ok(()),
             (n, address) => Err(Stop::of(n, Access::Write, address)),
         }
@@ -119,7 +143,7 @@ impl Core {
     /// The instruction at `va`.
     #[inline]
     pub fn fetch(&mut self, ram: &Ram, va: u64) -> Result<u32, Stop> {
-        match raw::fetch(&mut self.words, va, ram.base, ram.bytes) {
+        match raw::fetch(&mut self.held, va, ram.base, ram.bytes) {
             (DONE, instruction) => Ok(instruction as u32),
             (n, _) => Err(Stop::of(n, Access::Fetch, va)),
         }
@@ -127,7 +151,7 @@ impl Core {
 
     /// Carry out a SYS instruction: TLBI, AT, DC ZVA; other cache maintenance does nothing.
     pub fn system(&mut self, ram: &mut Ram, operation: SystemOperation) -> Result<(), Stop> {
-        match raw::system(&mut self.words, operation.fields(), ram.base, ram.bytes) {
+        match raw::system(&mut self.held, operation.fields(), ram.base, ram.bytes) {
             (DONE, _) => Ok(()),
             (n, address) => Err(Stop::of(n, Access::Write, address)),
         }
@@ -137,7 +161,7 @@ impl Core {
     /// and RAM as they are: the cache is not asked, and nothing changes. More than [`crate::MOST_PAGES`] pages are
     /// refused, and a range that passes 2^64; it may end there.
     pub fn census(&self, ram: &Ram, first: u64, pages: u64) -> Result<Census, Stop> {
-        match raw::census(&self.words, first, pages, ram.base, ram.bytes) {
+        match raw::census(&self.held, first, pages, ram.base, ram.bytes) {
             (DONE, counts) => Ok(Census::of(&counts)),
             (n, _) => Err(Stop::of(n, Access::Read, first)),
         }
@@ -146,27 +170,27 @@ impl Core {
     /// Write a system register by its key ([`crate::registers`]): the register's mask applies, and the cache forgets
     /// what the write unsettles.
     pub fn write_register(&mut self, key: u64, value: u64) -> Result<(), Stop> {
-        done(raw::register(&mut self.words, key, value))
+        done(raw::register(&mut self.held, key, value))
     }
 
     /// Set the present exception level.
     pub fn set_level(&mut self, level: u64) -> Result<(), Stop> {
-        done(raw::level(&mut self.words, level))
+        done(raw::level(&mut self.held, level))
     }
 
     /// Mark the accesses that follow as unprivileged (LDTR and STTR), or not.
     pub fn set_unprivileged(&mut self, on: bool) -> Result<(), Stop> {
-        done(raw::mark(&mut self.words, on.into()))
+        done(raw::mark(&mut self.held, on.into()))
     }
 
     /// Set a general register, X0 to X30; 31 is the zero register and takes nothing.
     pub fn set_general(&mut self, number: u64, value: u64) -> Result<(), Stop> {
-        done(raw::general(&mut self.words, number, value))
+        done(raw::general(&mut self.held, number, value))
     }
 
     /// Take an exception: it is routed by SCR_EL3 and HCR_EL2; ELR, SPSR, ESR and FAR are written, the level and the PC
     /// are those of the vector.
     pub fn take(&mut self, exception: &Exception) -> Result<(), Stop> {
-        done(raw::abort(&mut self.words, &exception.words()))
+        done(raw::abort(&mut self.held, &exception.words()))
     }
 }

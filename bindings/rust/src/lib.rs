@@ -3,7 +3,7 @@
 //! work is done by a static library written in Rattle, in which every function is proved to meet its contract; this
 //! crate gives it types.
 //!
-//! A [`Core`] owns its state. It owns no memory: each call is lent a window of RAM, a base address and bytes ([`Ram`]).
+//! A [`Core`] owns its state, in memory of its own. It owns no RAM: each call is lent a window of RAM, a base address and bytes ([`Ram`]).
 //! An answer is a [`Result`] whose error is a [`Stop`]: the call was refused, or the operation is undefined or
 //! unimplemented, and nothing was changed; or it ended in a fault.
 //!
@@ -63,7 +63,9 @@ mod answer;
 mod census;
 mod core;
 mod count;
-// `count`, `library`, `number` and `place` are the oracle's too, and it uses all of them.
+mod edit;
+// `count`, `held`, `library`, `number` and `place` are the oracle's too, and it uses all of them.
+mod held;
 #[allow(dead_code)]
 mod library;
 #[allow(dead_code)]
@@ -79,7 +81,8 @@ pub use answer::{Check, Fault, Stop};
 pub use census::{Census, Rights};
 pub use core::Core;
 pub use count::MOST_PAGES;
+pub use edit::Edit;
 pub use operation::{Access, Exception, Status, SystemOperation, Width};
 pub use place::WORDS;
 pub use ram::Ram;
-pub use view::{Broadcast, Counters, LevelCounters};
+pub use view::{Broadcast, Counters, Entry, FetchHint, Hint, LevelCounters};

@@ -1,11 +1,21 @@
-//! The functions of liba72abi.a; `include/a72.h` says what each does. An array is one pointer, RAM a pointer and its
-//! length.
+//! The functions of liba72abi.a; `include/a72.h` says what each does. A core is a pointer to its handle; an array is one
+//! pointer, a struct of words too, RAM a pointer and its length.
 use super::place::State;
+use std::ffi::c_void;
+
+/// What stands before a core in its memory: the core's address.
+#[repr(C)]
+pub struct Handle {
+    pub at: *mut c_void,
+}
 
 extern "C" {
-    pub fn a72_fresh(state: *mut State);
+    pub fn a72_init_at(at: *mut c_void);
+    pub fn a72_save(core: *mut Handle, words: *mut State);
+    pub fn a72_restore(core: *mut Handle, words: *const State);
+    pub fn a72_word(core: *mut Handle, place: usize) -> u64;
     pub fn a72_translate(
-        state: *mut State,
+        core: *mut Handle,
         va: u64,
         kind: u64,
         ans: *mut u64,
@@ -14,7 +24,7 @@ extern "C" {
         len: usize,
     ) -> u64;
     pub fn a72_data_pa(
-        state: *mut State,
+        core: *mut Handle,
         va: u64,
         ans: *mut u64,
         base: u64,
@@ -22,7 +32,7 @@ extern "C" {
         len: usize,
     ) -> u64;
     pub fn a72_fetch_pa(
-        state: *mut State,
+        core: *mut Handle,
         va: u64,
         ans: *mut u64,
         base: u64,
@@ -30,7 +40,7 @@ extern "C" {
         len: usize,
     ) -> u64;
     pub fn a72_load(
-        state: *mut State,
+        core: *mut Handle,
         va: u64,
         size: u64,
         ans: *mut u64,
@@ -39,7 +49,7 @@ extern "C" {
         len: usize,
     ) -> u64;
     pub fn a72_store(
-        state: *mut State,
+        core: *mut Handle,
         va: u64,
         size: u64,
         value: u64,
@@ -48,10 +58,10 @@ extern "C" {
         ram: *mut u8,
         len: usize,
     ) -> u64;
-    pub fn a72_fetch(state: *mut State, va: u64, ans: *mut u64, base: u64, ram: *const u8, len: usize)
+    pub fn a72_fetch(core: *mut Handle, va: u64, ans: *mut u64, base: u64, ram: *const u8, len: usize)
         -> u64;
     pub fn a72_system(
-        state: *mut State,
+        core: *mut Handle,
         op1: u64,
         crn: u64,
         crm: u64,
@@ -62,13 +72,13 @@ extern "C" {
         ram: *mut u8,
         len: usize,
     ) -> u64;
-    pub fn a72_register(state: *mut State, key: u64, value: u64) -> u64;
-    pub fn a72_level(state: *mut State, level: u64) -> u64;
-    pub fn a72_mark(state: *mut State, mark: u64) -> u64;
-    pub fn a72_general(state: *mut State, number: u64, value: u64) -> u64;
-    pub fn a72_abort(state: *mut State, exception: *const [u64; 4]) -> u64;
+    pub fn a72_register(core: *mut Handle, key: u64, value: u64) -> u64;
+    pub fn a72_level(core: *mut Handle, level: u64) -> u64;
+    pub fn a72_mark(core: *mut Handle, mark: u64) -> u64;
+    pub fn a72_general(core: *mut Handle, number: u64, value: u64) -> u64;
+    pub fn a72_abort(core: *mut Handle, exception: *const [u64; 4]) -> u64;
     pub fn a72_census(
-        state: *const State,
+        core: *mut Handle,
         first: u64,
         pages: u64,
         counts: *mut [u64; 129],
@@ -87,10 +97,34 @@ extern "C" {
     ) -> u64;
     pub fn a72_step(
         op: *const [u64; 8],
-        state: *mut State,
+        core: *mut Handle,
         base: u64,
         ram: *mut u8,
         len: usize,
         ans: *mut [u64; 4],
     ) -> u64;
+    pub fn a72_get_register(core: *mut Handle, key: u64, value: *mut u64) -> u64;
+    pub fn a72_get_level(core: *mut Handle) -> u64;
+    pub fn a72_get_unprivileged(core: *mut Handle) -> u64;
+    pub fn a72_get_pstate(core: *mut Handle) -> u64;
+    pub fn a72_set_pstate(core: *mut Handle, spsr: u64);
+    pub fn a72_get_general(core: *mut Handle, number: u64) -> u64;
+    pub fn a72_get_pc(core: *mut Handle) -> u64;
+    pub fn a72_set_pc(core: *mut Handle, pc: u64);
+    pub fn a72_get_last_pa(core: *mut Handle) -> u64;
+    pub fn a72_get_abort_pa(core: *mut Handle) -> u64;
+    pub fn a72_get_hits(core: *mut Handle, level: u64) -> u64;
+    pub fn a72_get_walks(core: *mut Handle, level: u64) -> u64;
+    pub fn a72_get_flushes(core: *mut Handle) -> u64;
+    pub fn a72_get_drops(core: *mut Handle) -> u64;
+    pub fn a72_get_epoch(core: *mut Handle) -> u64;
+    pub fn a72_get_pending(core: *mut Handle, pending: *mut [u64; 2]);
+    pub fn a72_take_pending(core: *mut Handle, pending: *mut [u64; 2]);
+    pub fn a72_receive(core: *mut Handle, kind: u64, value: u64) -> u64;
+    pub fn a72_get_generation(core: *mut Handle) -> u64;
+    pub fn a72_set_generation(core: *mut Handle, generation: u64) -> u64;
+    pub fn a72_get_asid(core: *mut Handle) -> u64;
+    pub fn a72_get_entry(core: *mut Handle, slot: u64, entry: *mut [u64; 7]);
+    pub fn a72_get_hint(core: *mut Handle, slot: u64, hint: *mut [u64; 2]);
+    pub fn a72_get_fetch_hint(core: *mut Handle, hint: *mut [u64; 4]);
 }

@@ -1,4 +1,4 @@
-//! The system registers kept: their keys, and where a state's words hold them.
+//! The system registers kept: their keys, and where a core's words hold them.
 use crate::place;
 
 /// The key of a register's encoding, as MSR and MRS name it.

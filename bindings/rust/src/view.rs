@@ -1,7 +1,7 @@
-//! What a core holds, read from its words.
+//! What a core holds, by name.
+use crate::census::Rights;
 use crate::core::Core;
-use crate::place;
-use crate::registers;
+use crate::raw;
 
 /// What the cache counted at one exception level.
 #[derive(Clone, Copy, Debug, Default, PartialEq, Eq)]
@@ -52,74 +52,190 @@ pub enum Broadcast {
     Asid(u16),
 }
 
+impl Broadcast {
+    /// By the library's two words.
+    fn of(words: [u64; 2]) -> Option<Broadcast> {
+        match words {
+            [1, _] => Some(Broadcast::All),
+            [2, value] => Some(Broadcast::Page(value)),
+            [3, value] => Some(Broadcast::Asid(value as u16)),
+            _ => None,
+        }
+    }
+
+    fn words(self) -> [u64; 2] {
+        match self {
+            Broadcast::All => [1, 0],
+            Broadcast::Page(value) => [2, value],
+            Broadcast::Asid(asid) => [3, asid.into()],
+        }
+    }
+}
+
+/// An entry of the cache. It stands in slot page number % 1,024.
+#[derive(Clone, Copy, Debug, PartialEq, Eq)]
+pub struct Entry {
+    /// The untagged page number * 4 + regime; 0 where it was dropped.
+    pub tag: u64,
+    /// That of the cache when it was made: an entry of another generation is dead.
+    pub generation: u32,
+    /// What EL0 and the regime's own level may do.
+    pub rights: Rights,
+    /// The level of the tables.
+    pub level: u8,
+    /// Whether it is for every ASID.
+    pub global: bool,
+    /// The ASID.
+    pub asid: u16,
+    /// The physical page's address.
+    pub pa: u64,
+}
+
+/// A data hint. That of page number p for reads stands in slot (p ^ p >> 5 ^ p >> 10) % 256, for writes 256 further.
+#[derive(Clone, Copy, Debug, PartialEq, Eq)]
+pub struct Hint {
+    /// The page's address plus the exception level.
+    pub key: u64,
+    /// The physical page's address.
+    pub pa: u64,
+}
+
+/// The fetch hint.
+#[derive(Clone, Copy, Debug, PartialEq, Eq)]
+pub struct FetchHint {
+    /// The page's address.
+    pub page: u64,
+    /// The exception level.
+    pub level: u8,
+    /// The physical page's address.
+    pub pa: u64,
+}
+
 impl Core {
-    /// A system register by its key ([`registers`]); `None` for a key of no register kept.
+    /// A system register by its key ([`crate::registers`]); `None` for a key of no register kept.
     pub fn register(&self, key: u64) -> Option<u64> {
-        registers::place(key).map(|at| self.words[at])
+        raw::get_register(&self.held, key)
     }
 
     /// The present exception level.
     pub fn level(&self) -> u64 {
-        self.words[place::LEVEL]
+        raw::get_level(&self.held)
     }
 
     /// Whether accesses are marked unprivileged.
     pub fn unprivileged(&self) -> bool {
-        self.words[place::UNPRIVILEGED] == 1
+        raw::get_unprivileged(&self.held) == 1
+    }
+
+    /// PSTATE as an SPSR has it: NZCV in bits 31 to 28, DAIF in 9 to 6, the level in 3 and 2, SP in 0.
+    pub fn pstate(&self) -> u64 {
+        raw::get_pstate(&self.held)
+    }
+
+    /// Set NZCV, DAIF and SP by an SPSR's word; the level stays ([`Core::set_level`] sets it).
+    pub fn set_pstate(&mut self, spsr: u64) {
+        raw::set_pstate(&mut self.held, spsr);
     }
 
     /// A general register, X0 to X30; all others are zero.
     pub fn general(&self, number: usize) -> u64 {
-        match number {
-            0..=30 => self.words[place::GENERAL + number],
-            _ => 0,
-        }
+        raw::get_general(&self.held, number as u64)
     }
 
     /// The PC.
     pub fn pc(&self) -> u64 {
-        self.words[place::PC]
+        raw::get_pc(&self.held)
     }
 
     /// Set the PC: an exception that is taken saves it.
     pub fn set_pc(&mut self, pc: u64) {
-        self.words[place::PC] = pc;
+        raw::set_pc(&mut self.held, pc);
     }
 
     /// The cache's counters.
     pub fn counters(&self) -> Counters {
         Counters {
-            levels: std::array::from_fn(|level| LevelCounters {
-                hits: self.words[place::LEVEL_HITS + level],
-                walks: self.words[place::LEVEL_WALKS + level],
+            levels: [0, 1, 2, 3].map(|level| LevelCounters {
+                hits: raw::get_hits(&self.held, level),
+                walks: raw::get_walks(&self.held, level),
             }),
-            flushes: self.words[place::FLUSHES],
-            drops: self.words[place::DROPS],
-            epoch: self.words[place::EPOCH],
+            flushes: raw::get_flushes(&self.held),
+            drops: raw::get_drops(&self.held),
+            epoch: raw::get_epoch(&self.held),
         }
     }
 
     /// The physical address of the last load that was translated.
     pub fn last_pa(&self) -> u64 {
-        self.words[place::LAST_PA]
+        raw::get_last_pa(&self.held)
     }
 
     /// The physical address of the last external abort.
     pub fn abort_pa(&self) -> u64 {
-        self.words[place::ABORT_PA]
+        raw::get_abort_pa(&self.held)
     }
 
-    /// What the other cores are to forget; afterwards nothing is pending.
+    /// What the other cores are to forget.
+    pub fn broadcast(&self) -> Option<Broadcast> {
+        Broadcast::of(raw::get_pending(&self.held))
+    }
+
+    /// The same; afterwards nothing is pending.
     pub fn take_broadcast(&mut self) -> Option<Broadcast> {
-        let value = self.words[place::PENDING_VALUE];
-        let pending = match self.words[place::PENDING] {
-            1 => Some(Broadcast::All),
-            2 => Some(Broadcast::Page(value)),
-            3 => Some(Broadcast::Asid(value as u16)),
-            _ => None,
-        };
-        self.words[place::PENDING] = 0;
-        self.words[place::PENDING_VALUE] = 0;
-        pending
+        Broadcast::of(raw::take_pending(&mut self.held))
+    }
+
+    /// Forget what another core's TLBI asks for. What is pending here stays.
+    pub fn receive(&mut self, broadcast: Broadcast) {
+        let [kind, value] = broadcast.words();
+        raw::receive(&mut self.held, kind, value);
+    }
+
+    /// The cache's generation: a flush moves it, and entries of another are dead.
+    pub fn generation(&self) -> u32 {
+        raw::get_generation(&self.held) as u32
+    }
+
+    /// Set the cache's generation, as if many flushes had gone by: the entries that are live stay live, all others become
+    /// blank, and the hints stay.
+    pub fn set_generation(&mut self, generation: u32) {
+        raw::set_generation(&mut self.held, generation.into());
+    }
+
+    /// The ASID in force.
+    pub fn asid(&self) -> u16 {
+        raw::get_asid(&self.held) as u16
+    }
+
+    /// The cache's entry in a slot, live or dead; past the last slot, 1,023, a blank one.
+    pub fn entry(&self, slot: usize) -> Entry {
+        let [tag, generation, rights, level, global, asid, pa] = raw::get_entry(&self.held, slot as u64);
+        Entry {
+            tag,
+            generation: generation as u32,
+            rights: Rights(rights as u8),
+            level: level as u8,
+            global: global == 1,
+            asid: asid as u16,
+            pa,
+        }
+    }
+
+    /// Whether an entry may answer: it was not dropped, and is of the present generation.
+    pub fn is_live(&self, entry: &Entry) -> bool {
+        entry.tag != 0 && entry.generation == self.generation()
+    }
+
+    /// The data hint in a slot, 0 to 511, if there is one.
+    pub fn hint(&self, slot: usize) -> Option<Hint> {
+        let [key, pa] = raw::get_hint(&self.held, slot as u64);
+        (key != u64::MAX).then_some(Hint { key, pa })
+    }
+
+    /// The fetch hint, if there is one.
+    pub fn fetch_hint(&self) -> Option<FetchHint> {
+        let [present, page, level, pa] = raw::get_fetch_hint(&self.held);
+        let level = level as u8;
+        (present == 1).then_some(FetchHint { page, level, pa })
     }
 }

@@ -2,8 +2,8 @@
 mod common;
 
 use a72::{
-    place, registers, Access, Broadcast, Check, Core, Exception, Fault, Ram, Status, Stop, SystemOperation,
-    Width, WORDS,
+    place, registers, Access, Broadcast, Check, Core, Exception, Fault, FetchHint, Hint, Ram, Rights, Status,
+    Stop, SystemOperation, Width, WORDS,
 };
 use common::{bytes, core, BASE};
 
@@ -160,8 +160,95 @@ fn a_shared_tlbi_is_pending_for_the_others() {
     core.set_general(3, 0x77).unwrap();
     core.system(&mut ram, SystemOperation::new(0, 8, 3, 1, 3))
         .unwrap();
+    assert_eq!(core.broadcast(), Some(Broadcast::Page(0x77)));
     assert_eq!(core.take_broadcast(), Some(Broadcast::Page(0x77)));
-    assert_eq!(core.take_broadcast(), None);
+    assert_eq!((core.broadcast(), core.take_broadcast()), (None, None));
+}
+
+#[test]
+fn what_is_received_is_forgotten() {
+    let mut bytes = bytes();
+    let mut ram = Ram::new(BASE, &mut bytes);
+    // Page 5 is of ASID 0, page 1 of every ASID.
+    for (broadcast, forgotten) in [
+        (Broadcast::All, [true, true]),
+        (Broadcast::Page(5), [false, true]),
+        (Broadcast::Asid(0), [false, true]),
+        (Broadcast::Asid(1), [false, false]),
+    ] {
+        let mut core = core();
+        let pages = [0x1000, 0x5000].map(|va| (va, core.translate(&ram, va, Access::Read).unwrap()));
+        let old = pages.map(|(va, _)| ram.read_u64(BASE + 0x3000 + 8 * (va >> 12)).unwrap());
+        for ((va, _), old) in pages.iter().zip(old) {
+            ram.write_u64(BASE + 0x3000 + 8 * (va >> 12), old + 0x4000);
+        }
+        core.receive(broadcast);
+        assert_eq!(core.broadcast(), None);
+        for (((va, before), old), gone) in pages.into_iter().zip(old).zip(forgotten) {
+            let now = before + if gone { 0x4000 } else { 0 };
+            assert_eq!(
+                core.translate(&ram, va, Access::Read),
+                Ok(now),
+                "{broadcast:?} {va:x}"
+            );
+            ram.write_u64(BASE + 0x3000 + 8 * (va >> 12), old);
+        }
+    }
+}
+
+/// What a core holds by name is what its words have.
+#[test]
+fn parts_by_name() {
+    let mut bytes = bytes();
+    let ram = Ram::new(BASE, &mut bytes);
+    let mut core = core();
+    core.translate(&ram, 0x5000, Access::Write).unwrap();
+    core.fetch(&ram, 0x1000).unwrap();
+    let entry = core.entry(5);
+    let rights = Rights(0x3C);
+    assert_eq!(
+        (entry.tag, entry.pa, entry.level, entry.rights),
+        (5 << 2 | 1, BASE + 0xA000, 3, rights)
+    );
+    assert_eq!(
+        (entry.global, entry.asid, entry.generation),
+        (false, core.asid(), core.generation())
+    );
+    assert!(core.is_live(&entry) && core.entry(1).global && !core.is_live(&core.entry(2)));
+    assert_eq!(core.entry(1024), Core::new().entry(0));
+    let pa = BASE + 0xA000;
+    assert_eq!(core.hint(256 + 5), Some(Hint { key: 0x5001, pa }));
+    assert_eq!((core.hint(0), core.hint(512)), (None, None));
+    let (page, level, pa) = (0x1000, 1, BASE + 0x8000);
+    assert_eq!(core.fetch_hint(), Some(FetchHint { page, level, pa }));
+    assert_eq!(Core::new().fetch_hint(), None);
+    // As if flushes had gone by: what is live stays live.
+    core.set_generation(u32::MAX);
+    assert_eq!(
+        (core.generation(), core.entry(5).generation),
+        (u32::MAX, u32::MAX)
+    );
+    assert!(core.is_live(&core.entry(5)));
+    // NZCV, DAIF and SP are set, the level is not.
+    core.set_pstate(0xA000_03CC);
+    assert_eq!((core.pstate(), core.level()), (0xA000_03C4, 1));
+    assert_eq!(core.word(place::NZCV), 0xA000_0000);
+    let words = core.words();
+    assert!((0..=WORDS).all(|at| core.word(at) == words.get(at).copied().unwrap_or(0)));
+}
+
+/// A copy is a core of its own, and a core may go to another thread.
+#[test]
+fn copies_and_moves() {
+    let mut core = core();
+    let copy = core.clone();
+    core.set_pc(0x1234);
+    assert_eq!((core.pc(), copy.pc()), (0x1234, 0));
+    let moved = std::thread::spawn(move || (core.set_pc(0x5678), core).1)
+        .join()
+        .unwrap();
+    assert_eq!(moved.pc(), 0x5678);
+    assert!(moved != copy);
 }
 
 #[test]

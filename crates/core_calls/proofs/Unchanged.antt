@@ -7,7 +7,9 @@ use Rattle.mmu.specs.declared.core_state.Core.{Core}
 use Rattle.operations.specs.declared.{call.Call.Call, call.Reply.Reply}
 use Rattle.operations.specs.declared.call.Reply.TheVariants.{Refused, Done, Value, Faults, Fault, Stopped}
 use Rattle.cpu.specs.Step.{step_of, ram_after}
-use Rattle.cpu.specs.EveryCallEnds.{Outcome, number, says, outcome_of, Wrote, did, faulted, Ran, is-undefined, is-unimplemented, valued, unreached, stopped, wrote-ram, Ended, is-refused, has-run, each_call_ends}
+use Rattle.cpu.specs.EveryCallEnds.{Outcome, number, says, outcome_of, Wrote, did, faulted}
+use Rattle.cpu.specs.EveryCallEnds.{Ran, is-undefined, is-unimplemented, valued, unreached, stopped, wrote-ram, Ended, is-refused, has-run}
+use Rattle.cpu.proofs.Refusing.{each_call_ends}
 use Rattle.call_words.specs.Replies.{code_by, value_by, words_by}
 
 -- a refusal, Undefined, Unimplemented, and the exceptions that stop no operation

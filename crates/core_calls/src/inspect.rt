@@ -16,8 +16,8 @@ fn missed_check(core: &Core, base: u64, len: u64, first: u64, pages: u64) -> u8
     check::number_missed(check::census(core.privilege.level, base, len, first, pages))
 }
 
-/// How many of so many 4 KiB pages, from the page of `first` on, end at each status, at each permission byte, and flat:
-/// 0 and all 129 counts, or the number of the first check that it misses, and no count is written.
+/// How many of so many 4 KiB pages, from the page of `first` on, end at each status, at each permission byte, and
+/// flat: 0 and all 129 counts, or the number of the first check that it misses, and no count is written.
 pub fn census(
     core: &Core,
     first: u64,

@@ -1,5 +1,5 @@
-// Translations, loads, stores and fetches. Each gives a number, and in `ans` the address or value, or the address of a
-// data abort.
+// Translations, loads, stores and fetches. Each gives a number, and in `ans` the address or value, or the address
+// of a data abort.
 ghost use Rattle.std.specs.Prelude.{◌≡◌};
 ghost use Rattle.operations.specs.declared.call.Call.TheVariants as Call;
 ghost use Rattle.call_words.specs.declared.op.DecodedCall.TheVariants as DecodedCall;

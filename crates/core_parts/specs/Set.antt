@@ -25,4 +25,6 @@ InRange (Asid n) = n < 2 ^ 16
 
 -- the two words that one core gives are the broadcast that another receives
 abbrev pub broadcast_arrives : Type 0
-broadcast_arrives = (what : Inval) → InRange what → inval_named (slice_index (pending_words (Some what)) 0) (slice_index (pending_words (Some what)) 1) ≡ Some what
+broadcast_arrives =
+    (what : Inval) → InRange what
+    → inval_named (slice_index (pending_words (Some what)) 0) (slice_index (pending_words (Some what)) 1) ≡ Some what

@@ -2,7 +2,8 @@
 ghost use Rattle.std.specs.Prelude.{◌≡◌, map};
 ghost use Rattle.core_parts.specs.Read.{pending_words};
 ghost use Rattle.core_parts.specs.Put.{moved, number_restamped, restamped};
-ghost use Rattle.core_parts.specs.Put.{with_pc, flags_in, with_flags, without_pending, inval_named, received, number_received};
+ghost use Rattle.core_parts.specs.Put.{with_pc, flags_in, with_flags, without_pending};
+ghost use Rattle.core_parts.specs.Put.{inval_named, received, number_received};
 
 use crate::read;
 use exception::flags::Flags;
@@ -61,8 +62,8 @@ fn inval_named(kind: u64, value: u64) -> Option<Inval>
     }
 }
 
-/// Another core's broadcast, in its two words: this core drops the same. 0; or 64 where they name nothing, and nothing
-/// changes.
+/// Another core's broadcast, in its two words: this core drops the same. 0; or 64 where they name nothing, and
+/// nothing changes.
 pub fn receive(core: &mut Core, kind: u64, value: u64) -> u64
     ensures number { result ≡ number_received (inval_named kind value) }
     ensures core { core.new ≡ received core.old (inval_named kind value) }
@@ -96,8 +97,8 @@ fn move_entries(entries: &mut [Entry; 1024], from: u32, to: u32)
     }
 }
 
-/// The cache's generation: the entries that are live stay live, the others go, and the hints stay. 0; or 64 where no 32
-/// bits hold it, and nothing changes.
+/// The cache's generation: the entries that are live stay live, the others go, and the hints stay. 0; or 64 where
+/// no 32 bits hold it, and nothing changes.
 pub fn generation(core: &mut Core, generation: u64) -> u64
     ensures number { result ≡ number_restamped generation }
     ensures core { core.new ≡ restamped core.old generation }

@@ -240,8 +240,8 @@ fn entry_in(core: &Core, slot: u64) -> Entry
     }
 }
 
-/// The entry in a slot, in seven words: tag, generation, permissions, level, 1 where it is for every ASID, ASID, physical
-/// page. Past the last a blank one.
+/// The entry in a slot, in seven words: tag, generation, permissions, level, 1 where it is for every ASID, ASID,
+/// physical page. Past the last a blank one.
 pub fn entry(core: &Core, slot: u64, out: &mut [u64; 7])
     ensures { out.new ≡ entry_words (entry_at core.now.tlb.cache slot) }
 {

@@ -1,16 +1,16 @@
 // What holds of what is set and read. Each function computes nothing: its contract is the theorem.
 ghost use Rattle.core_parts.specs.Set.{general_set, general_alone, general_none, broadcast_arrives};
 
-/// A general register is read as it was set, and no other one moves; 31 and above take nothing and read as zero. It rules
-/// out a write that goes to the next register, and a zero register that keeps a value.
+/// A general register is read as it was set, and no other one moves; 31 and above take nothing and read as zero. It
+/// rules out a write that goes to the next register, and a zero register that keeps a value.
 pub fn set_and_read()
     ensures there { general_set }
     ensures alone { general_alone }
     ensures none { general_none }
 {}
 
-/// The two words of what is pending on one core name that very broadcast to another. It rules out a page that arrives as
-/// an ASID.
+/// The two words of what is pending on one core name that very broadcast to another. It rules out a page that
+/// arrives as an ASID.
 pub fn broadcast()
     ensures { broadcast_arrives }
 {}

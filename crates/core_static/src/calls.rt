@@ -12,7 +12,7 @@ use handle::Handle;
 
 /// The translation of `va` for an access of a kind: 1 read, 2 write, 4 fetch.
 #[unsafe(no_mangle)]
-pub extern "C" fn a72h_translate(
+pub extern "C" fn a72_translate(
     handle: &mut Handle,
     va: u64,
     kind: u64,
@@ -28,7 +28,7 @@ pub extern "C" fn a72h_translate(
 
 /// Where a data read of `va` goes.
 #[unsafe(no_mangle)]
-pub extern "C" fn a72h_data_pa(
+pub extern "C" fn a72_data_pa(
     handle: &mut Handle,
     va: u64,
     ans: &mut u64,
@@ -43,7 +43,7 @@ pub extern "C" fn a72h_data_pa(
 
 /// Where a fetch of `va` goes.
 #[unsafe(no_mangle)]
-pub extern "C" fn a72h_fetch_pa(
+pub extern "C" fn a72_fetch_pa(
     handle: &mut Handle,
     va: u64,
     ans: &mut u64,
@@ -58,7 +58,7 @@ pub extern "C" fn a72h_fetch_pa(
 
 /// A load of 1, 2, 4 or 8 bytes.
 #[unsafe(no_mangle)]
-pub extern "C" fn a72h_load(
+pub extern "C" fn a72_load(
     handle: &mut Handle,
     va: u64,
     size: u64,
@@ -74,7 +74,7 @@ pub extern "C" fn a72h_load(
 
 /// A store of the low 1, 2, 4 or 8 bytes of a value.
 #[unsafe(no_mangle)]
-pub extern "C" fn a72h_store(
+pub extern "C" fn a72_store(
     handle: &mut Handle,
     va: u64,
     size: u64,
@@ -91,7 +91,7 @@ pub extern "C" fn a72h_store(
 
 /// The instruction at `va`.
 #[unsafe(no_mangle)]
-pub extern "C" fn a72h_fetch(
+pub extern "C" fn a72_fetch(
     handle: &mut Handle,
     va: u64,
     ans: &mut u64,
@@ -106,7 +106,7 @@ pub extern "C" fn a72h_fetch(
 
 /// A system operation: SYS op1, CRn, CRm, op2 with the register rt.
 #[unsafe(no_mangle)]
-pub extern "C" fn a72h_system(
+pub extern "C" fn a72_system(
     handle: &mut Handle,
     op1: u64,
     crn: u64,
@@ -117,15 +117,15 @@ pub extern "C" fn a72h_system(
     base: u64,
     ram: &mut [u8],
 ) -> u64
-    ensures { Promise (DecodedCall.Known (Call.System (encoding_of op1 crn crm op2 rt))) base ram.old handle.old.core result
-        ans.old ans.new ram.new handle.new.core }
+    ensures { Promise (DecodedCall.Known (Call.System (encoding_of op1 crn crm op2 rt))) base ram.old
+        handle.old.core result ans.old ans.new ram.new handle.new.core }
 {
     step::system(handle.core(), op1, crn, crm, op2, rt, ans, base, ram)
 }
 
 /// A register write, by the register's key.
 #[unsafe(no_mangle)]
-pub extern "C" fn a72h_register(handle: &mut Handle, key: u64, value: u64) -> u64
+pub extern "C" fn a72_register(handle: &mut Handle, key: u64, value: u64) -> u64
     ensures { Setting (DecodedCall.Known (Call.Register (key_of key) value)) handle.old.core result handle.new.core }
 {
     settings::register(handle.core(), key, value)
@@ -133,7 +133,7 @@ pub extern "C" fn a72h_register(handle: &mut Handle, key: u64, value: u64) -> u6
 
 /// The present level, 0 to 3.
 #[unsafe(no_mangle)]
-pub extern "C" fn a72h_level(handle: &mut Handle, level: u64) -> u64
+pub extern "C" fn a72_level(handle: &mut Handle, level: u64) -> u64
     ensures { Setting (DecodedCall.Known (Call.Level level)) handle.old.core result handle.new.core }
 {
     settings::level(handle.core(), level)
@@ -141,7 +141,7 @@ pub extern "C" fn a72h_level(handle: &mut Handle, level: u64) -> u64
 
 /// The mark of unprivileged accesses, 0 or 1.
 #[unsafe(no_mangle)]
-pub extern "C" fn a72h_mark(handle: &mut Handle, mark: u64) -> u64
+pub extern "C" fn a72_mark(handle: &mut Handle, mark: u64) -> u64
     ensures { Setting (mark_call mark) handle.old.core result handle.new.core }
 {
     settings::mark(handle.core(), mark)
@@ -149,7 +149,7 @@ pub extern "C" fn a72h_mark(handle: &mut Handle, mark: u64) -> u64
 
 /// A general register, X0 to X30; 31 takes nothing.
 #[unsafe(no_mangle)]
-pub extern "C" fn a72h_general(handle: &mut Handle, number: u64, value: u64) -> u64
+pub extern "C" fn a72_general(handle: &mut Handle, number: u64, value: u64) -> u64
     ensures { Setting (DecodedCall.Known (Call.General number value)) handle.old.core result handle.new.core }
 {
     settings::general(handle.core(), number, value)
@@ -157,7 +157,7 @@ pub extern "C" fn a72h_general(handle: &mut Handle, number: u64, value: u64) -> 
 
 /// Abort entry, of an exception in four words.
 #[unsafe(no_mangle)]
-pub extern "C" fn a72h_abort(handle: &mut Handle, exception: &[u64; 4]) -> u64
+pub extern "C" fn a72_abort(handle: &mut Handle, exception: &[u64; 4]) -> u64
     ensures { Setting (abort_call (exception_at exception.now)) handle.old.core result handle.new.core }
 {
     settings::abort(handle.core(), exception)
@@ -165,7 +165,7 @@ pub extern "C" fn a72h_abort(handle: &mut Handle, exception: &[u64; 4]) -> u64
 
 /// The call that eight words name: 0, and its answer in four words; 64 where they name none.
 #[unsafe(no_mangle)]
-pub extern "C" fn a72h_step(
+pub extern "C" fn a72_step(
     op: &[u64; 8],
     handle: &mut Handle,
     base: u64,
@@ -178,9 +178,10 @@ pub extern "C" fn a72h_step(
     step::step(handle.core(), op, base, ram, ans)
 }
 
-/// How many of so many 4 KiB pages, from the page of `first` on, end at each status, at each permission byte, and flat.
+/// How many of so many 4 KiB pages, from the page of `first` on, end at each status, at each permission byte, and
+/// flat.
 #[unsafe(no_mangle)]
-pub extern "C" fn a72h_census(
+pub extern "C" fn a72_census(
     handle: &mut Handle,
     first: u64,
     pages: u64,
@@ -197,7 +198,7 @@ pub extern "C" fn a72h_census(
 /// One walk of an untagged address: 0 and the leaf, or 256 plus the fault's status; 64 for no regime, 2 for a window
 /// that passes 2^64.
 #[unsafe(no_mangle)]
-pub extern "C" fn a72h_walk(
+pub extern "C" fn a72_walk(
     words: &[u64; 6],
     number: u64,
     va: u64,

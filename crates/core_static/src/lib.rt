@@ -1,6 +1,6 @@
 #![tactic(auto)]
-// The static library over handles: each call under its name for C, on the core that the handle lends. A crate that others
-// see exports nothing, so the exports stand alone here.
+// The static library over handles: each call under its name for C, on the core that the handle lends. A crate that
+// others see exports nothing, so the exports stand alone here.
 mod calls;
 mod parts;
 mod state;

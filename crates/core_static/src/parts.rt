@@ -15,7 +15,7 @@ use handle::Handle;
 
 /// A register by its key: 0, and its value in `ans`; 6 where the key names none, and `ans` stays.
 #[unsafe(no_mangle)]
-pub extern "C" fn a72h_get_register(handle: &mut Handle, key: u64, ans: &mut u64) -> u64
+pub extern "C" fn a72_get_register(handle: &mut Handle, key: u64, ans: &mut u64) -> u64
     ensures number { result ≡ number_found (register_of handle.old.core key) }
     ensures value { ans.new ≡ value_found (register_of handle.old.core key) ans.old }
     ensures unchanged { handle.new.core ≡ handle.old.core }
@@ -25,7 +25,7 @@ pub extern "C" fn a72h_get_register(handle: &mut Handle, key: u64, ans: &mut u64
 
 /// The present level.
 #[unsafe(no_mangle)]
-pub extern "C" fn a72h_get_level(handle: &mut Handle) -> u64
+pub extern "C" fn a72_get_level(handle: &mut Handle) -> u64
     ensures value { result ≡ handle.old.core.privilege.level }
     ensures unchanged { handle.new.core ≡ handle.old.core }
 {
@@ -34,7 +34,7 @@ pub extern "C" fn a72h_get_level(handle: &mut Handle) -> u64
 
 /// 1 where accesses are marked unprivileged, or 0.
 #[unsafe(no_mangle)]
-pub extern "C" fn a72h_get_unprivileged(handle: &mut Handle) -> u64
+pub extern "C" fn a72_get_unprivileged(handle: &mut Handle) -> u64
     ensures value { result ≡ flag handle.old.core.privilege.unprivileged 1 }
     ensures unchanged { handle.new.core ≡ handle.old.core }
 {
@@ -43,7 +43,7 @@ pub extern "C" fn a72h_get_unprivileged(handle: &mut Handle) -> u64
 
 /// PSTATE as an SPSR holds it.
 #[unsafe(no_mangle)]
-pub extern "C" fn a72h_get_pstate(handle: &mut Handle) -> u64
+pub extern "C" fn a72_get_pstate(handle: &mut Handle) -> u64
     ensures value { result ≡ spsr_of handle.old.core.privilege.level handle.old.core.flags }
     ensures unchanged { handle.new.core ≡ handle.old.core }
 {
@@ -52,7 +52,7 @@ pub extern "C" fn a72h_get_pstate(handle: &mut Handle) -> u64
 
 /// A general register, X0 to X30; all others are zero.
 #[unsafe(no_mangle)]
-pub extern "C" fn a72h_get_general(handle: &mut Handle, number: u64) -> u64
+pub extern "C" fn a72_get_general(handle: &mut Handle, number: u64) -> u64
     ensures value { result ≡ reg_of handle.old.core number }
     ensures unchanged { handle.new.core ≡ handle.old.core }
 {
@@ -61,7 +61,7 @@ pub extern "C" fn a72h_get_general(handle: &mut Handle, number: u64) -> u64
 
 /// The PC.
 #[unsafe(no_mangle)]
-pub extern "C" fn a72h_get_pc(handle: &mut Handle) -> u64
+pub extern "C" fn a72_get_pc(handle: &mut Handle) -> u64
     ensures value { result ≡ handle.old.core.pc }
     ensures unchanged { handle.new.core ≡ handle.old.core }
 {
@@ -70,7 +70,7 @@ pub extern "C" fn a72h_get_pc(handle: &mut Handle) -> u64
 
 /// The physical address of the last load that was translated.
 #[unsafe(no_mangle)]
-pub extern "C" fn a72h_get_last_pa(handle: &mut Handle) -> u64
+pub extern "C" fn a72_get_last_pa(handle: &mut Handle) -> u64
     ensures value { result ≡ handle.old.core.last_pa }
     ensures unchanged { handle.new.core ≡ handle.old.core }
 {
@@ -79,7 +79,7 @@ pub extern "C" fn a72h_get_last_pa(handle: &mut Handle) -> u64
 
 /// The physical address of the last external abort.
 #[unsafe(no_mangle)]
-pub extern "C" fn a72h_get_abort_pa(handle: &mut Handle) -> u64
+pub extern "C" fn a72_get_abort_pa(handle: &mut Handle) -> u64
     ensures value { result ≡ handle.old.core.abort_pa }
     ensures unchanged { handle.new.core ≡ handle.old.core }
 {
@@ -88,7 +88,7 @@ pub extern "C" fn a72h_get_abort_pa(handle: &mut Handle) -> u64
 
 /// Translations made at a level that an entry of the cache answered; 0 for a level above 3.
 #[unsafe(no_mangle)]
-pub extern "C" fn a72h_get_hits(handle: &mut Handle, level: u64) -> u64
+pub extern "C" fn a72_get_hits(handle: &mut Handle, level: u64) -> u64
     ensures value { result ≡ (tally_at handle.old.core.tlb.counts level).hits }
     ensures unchanged { handle.new.core ≡ handle.old.core }
 {
@@ -97,7 +97,7 @@ pub extern "C" fn a72h_get_hits(handle: &mut Handle, level: u64) -> u64
 
 /// Walks made at a level; 0 for a level above 3.
 #[unsafe(no_mangle)]
-pub extern "C" fn a72h_get_walks(handle: &mut Handle, level: u64) -> u64
+pub extern "C" fn a72_get_walks(handle: &mut Handle, level: u64) -> u64
     ensures value { result ≡ (tally_at handle.old.core.tlb.counts level).walks }
     ensures unchanged { handle.new.core ≡ handle.old.core }
 {
@@ -106,7 +106,7 @@ pub extern "C" fn a72h_get_walks(handle: &mut Handle, level: u64) -> u64
 
 /// Flushes of the whole cache.
 #[unsafe(no_mangle)]
-pub extern "C" fn a72h_get_flushes(handle: &mut Handle) -> u64
+pub extern "C" fn a72_get_flushes(handle: &mut Handle) -> u64
     ensures value { result ≡ handle.old.core.tlb.counts.flushes }
     ensures unchanged { handle.new.core ≡ handle.old.core }
 {
@@ -115,7 +115,7 @@ pub extern "C" fn a72h_get_flushes(handle: &mut Handle) -> u64
 
 /// Invalidations of a page.
 #[unsafe(no_mangle)]
-pub extern "C" fn a72h_get_drops(handle: &mut Handle) -> u64
+pub extern "C" fn a72_get_drops(handle: &mut Handle) -> u64
     ensures value { result ≡ handle.old.core.tlb.counts.drops }
     ensures unchanged { handle.new.core ≡ handle.old.core }
 {
@@ -124,7 +124,7 @@ pub extern "C" fn a72h_get_drops(handle: &mut Handle) -> u64
 
 /// Moves whenever a translation that was looked up may no longer hold.
 #[unsafe(no_mangle)]
-pub extern "C" fn a72h_get_epoch(handle: &mut Handle) -> u64
+pub extern "C" fn a72_get_epoch(handle: &mut Handle) -> u64
     ensures value { result ≡ handle.old.core.tlb.counts.epoch }
     ensures unchanged { handle.new.core ≡ handle.old.core }
 {
@@ -133,7 +133,7 @@ pub extern "C" fn a72h_get_epoch(handle: &mut Handle) -> u64
 
 /// The cache's generation.
 #[unsafe(no_mangle)]
-pub extern "C" fn a72h_get_generation(handle: &mut Handle) -> u64
+pub extern "C" fn a72_get_generation(handle: &mut Handle) -> u64
     ensures value { result ≡ handle.old.core.tlb.cache.current.generation }
     ensures unchanged { handle.new.core ≡ handle.old.core }
 {
@@ -142,7 +142,7 @@ pub extern "C" fn a72h_get_generation(handle: &mut Handle) -> u64
 
 /// The ASID in force.
 #[unsafe(no_mangle)]
-pub extern "C" fn a72h_get_asid(handle: &mut Handle) -> u64
+pub extern "C" fn a72_get_asid(handle: &mut Handle) -> u64
     ensures value { result ≡ handle.old.core.tlb.cache.current.asid }
     ensures unchanged { handle.new.core ≡ handle.old.core }
 {
@@ -151,7 +151,7 @@ pub extern "C" fn a72h_get_asid(handle: &mut Handle) -> u64
 
 /// What the other cores are to drop: 0 nothing, 1 all, 2 a page, 3 an ASID; and the page or the ASID.
 #[unsafe(no_mangle)]
-pub extern "C" fn a72h_get_pending(handle: &mut Handle, out: &mut [u64; 2])
+pub extern "C" fn a72_get_pending(handle: &mut Handle, out: &mut [u64; 2])
     ensures value { out.new ≡ pending_words handle.old.core.tlb.broadcast }
     ensures unchanged { handle.new.core ≡ handle.old.core }
 {
@@ -160,7 +160,7 @@ pub extern "C" fn a72h_get_pending(handle: &mut Handle, out: &mut [u64; 2])
 
 /// The entry in a slot, in seven words; past the last a blank one.
 #[unsafe(no_mangle)]
-pub extern "C" fn a72h_get_entry(handle: &mut Handle, slot: u64, out: &mut [u64; 7])
+pub extern "C" fn a72_get_entry(handle: &mut Handle, slot: u64, out: &mut [u64; 7])
     ensures value { out.new ≡ entry_words (entry_at handle.old.core.tlb.cache slot) }
     ensures unchanged { handle.new.core ≡ handle.old.core }
 {
@@ -169,7 +169,7 @@ pub extern "C" fn a72h_get_entry(handle: &mut Handle, slot: u64, out: &mut [u64;
 
 /// The data hint in a slot, in two words; past the last none.
 #[unsafe(no_mangle)]
-pub extern "C" fn a72h_get_hint(handle: &mut Handle, slot: u64, out: &mut [u64; 2])
+pub extern "C" fn a72_get_hint(handle: &mut Handle, slot: u64, out: &mut [u64; 2])
     ensures value { out.new ≡ hint_words (hint_at handle.old.core.tlb.cache slot) }
     ensures unchanged { handle.new.core ≡ handle.old.core }
 {
@@ -178,7 +178,7 @@ pub extern "C" fn a72h_get_hint(handle: &mut Handle, slot: u64, out: &mut [u64; 
 
 /// The fetch hint, in four words.
 #[unsafe(no_mangle)]
-pub extern "C" fn a72h_get_fetch_hint(handle: &mut Handle, out: &mut [u64; 4])
+pub extern "C" fn a72_get_fetch_hint(handle: &mut Handle, out: &mut [u64; 4])
     ensures value { out.new ≡ fetch_words handle.old.core.tlb.cache.fetch }
     ensures unchanged { handle.new.core ≡ handle.old.core }
 {
@@ -187,7 +187,7 @@ pub extern "C" fn a72h_get_fetch_hint(handle: &mut Handle, out: &mut [u64; 4])
 
 /// The PC: an exception that is taken saves it.
 #[unsafe(no_mangle)]
-pub extern "C" fn a72h_set_pc(handle: &mut Handle, pc: u64)
+pub extern "C" fn a72_set_pc(handle: &mut Handle, pc: u64)
     ensures { handle.new.core ≡ with_pc handle.old.core pc }
 {
     put::pc(handle.core(), pc);
@@ -195,7 +195,7 @@ pub extern "C" fn a72h_set_pc(handle: &mut Handle, pc: u64)
 
 /// PSTATE by an SPSR's word: NZCV, DAIF and SP are set by it, the level is not.
 #[unsafe(no_mangle)]
-pub extern "C" fn a72h_set_pstate(handle: &mut Handle, psr: u64)
+pub extern "C" fn a72_set_pstate(handle: &mut Handle, psr: u64)
     ensures { handle.new.core ≡ with_flags handle.old.core psr }
 {
     put::pstate(handle.core(), psr);
@@ -203,7 +203,7 @@ pub extern "C" fn a72h_set_pstate(handle: &mut Handle, psr: u64)
 
 /// What the other cores are to drop; afterwards nothing is pending.
 #[unsafe(no_mangle)]
-pub extern "C" fn a72h_take_pending(handle: &mut Handle, out: &mut [u64; 2])
+pub extern "C" fn a72_take_pending(handle: &mut Handle, out: &mut [u64; 2])
     ensures words { out.new ≡ pending_words handle.old.core.tlb.broadcast }
     ensures core { handle.new.core ≡ without_pending handle.old.core }
 {
@@ -212,7 +212,7 @@ pub extern "C" fn a72h_take_pending(handle: &mut Handle, out: &mut [u64; 2])
 
 /// Another core's broadcast, in its two words: this core drops the same. 0; or 64 where they name nothing.
 #[unsafe(no_mangle)]
-pub extern "C" fn a72h_receive(handle: &mut Handle, kind: u64, value: u64) -> u64
+pub extern "C" fn a72_receive(handle: &mut Handle, kind: u64, value: u64) -> u64
     ensures number { result ≡ number_received (inval_named kind value) }
     ensures core { handle.new.core ≡ received handle.old.core (inval_named kind value) }
 {
@@ -221,7 +221,7 @@ pub extern "C" fn a72h_receive(handle: &mut Handle, kind: u64, value: u64) -> u6
 
 /// The cache's generation: the entries that are live stay live, the others go. 0; or 64 where no 32 bits hold it.
 #[unsafe(no_mangle)]
-pub extern "C" fn a72h_set_generation(handle: &mut Handle, generation: u64) -> u64
+pub extern "C" fn a72_set_generation(handle: &mut Handle, generation: u64) -> u64
     ensures number { result ≡ number_restamped generation }
     ensures core { handle.new.core ≡ restamped handle.old.core generation }
 {

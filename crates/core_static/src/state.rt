@@ -12,14 +12,16 @@ use handle::Handle;
 use mmu::core_state::Core;
 use saved::place::Saved;
 
-// What the header says of a core's memory.
+// What the header says of a core's memory: the handle, then the core that it names.
+const _: () = prove!(size_of::<Handle>() == 8);
+
 const _: () = prove!(size_of::<Core>() == 41736);
 
 const _: () = prove!(align_of::<Core>() == 8);
 
 /// Memory for a core becomes one after reset.
 #[unsafe(no_mangle)]
-pub unsafe extern "C" fn a72h_init(at: *mut Core)
+pub unsafe extern "C" fn a72_init_at(at: *mut Core)
     requires* { sem 𝓛 (room_at core_row at) }
     ensures* { sem 𝓛 (lies_at core_row full_share at fresh_core) }
 {
@@ -28,15 +30,15 @@ pub unsafe extern "C" fn a72h_init(at: *mut Core)
 
 /// The core becomes the one that these words hold, whatever they are.
 #[unsafe(no_mangle)]
-pub extern "C" fn a72h_restore(handle: &mut Handle, words: &Saved)
+pub extern "C" fn a72_restore(handle: &mut Handle, words: &Saved)
     ensures { handle.new.core ≡ core_of words.now }
 {
     saved::restore::restore(handle.core(), words);
 }
 
-/// The core's words, every one written: those that `a72h_restore` makes the core of again.
+/// The core's words, every one written: those that `a72_restore` makes the core of again.
 #[unsafe(no_mangle)]
-pub extern "C" fn a72h_save(handle: &mut Handle, words: &mut Saved)
+pub extern "C" fn a72_save(handle: &mut Handle, words: &mut Saved)
     ensures words { words.new ≡ words_of handle.old.core }
     ensures core { core_of words.new ≡ held handle.old.core }
     ensures unchanged { handle.new.core ≡ handle.old.core }
@@ -44,9 +46,9 @@ pub extern "C" fn a72h_save(handle: &mut Handle, words: &mut Saved)
     saved::save::save(handle.core(), words);
 }
 
-/// The core's word at a place, as `a72h_save` writes it; 0 past the last.
+/// The core's word at a place, as `a72_save` writes it; 0 past the last.
 #[unsafe(no_mangle)]
-pub extern "C" fn a72h_word(handle: &mut Handle, place: usize) -> u64
+pub extern "C" fn a72_word(handle: &mut Handle, place: usize) -> u64
     ensures word { result ≡ word_of handle.old.core place }
     ensures unchanged { handle.new.core ≡ handle.old.core }
 {

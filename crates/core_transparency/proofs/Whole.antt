@@ -4,7 +4,8 @@ use Rattle.std.proofs.Common.{sym, ap, ◌∙◌}
 use Rattle.sysreg.specs.Encoding.{register_at}
 use Rattle.sysreg.specs.Write.{bank, control_after, sys_after, control_with, sys_with, ended, wrote, write_found, write_reg}
 use Rattle.sysreg.specs.declared.write.WriteError.TheVariants.{Undefined}
-use Rattle.sysreg.specs.declared.{regs.Control.Control, regs.SysRegs.SysRegs, regs.El.El, regs.ControlReg.ControlReg, regs.SysReg.SysReg, regs.Register.Register}
+use Rattle.sysreg.specs.declared.{regs.Control.Control, regs.SysRegs.SysRegs, regs.El.El}
+use Rattle.sysreg.specs.declared.{regs.ControlReg.ControlReg, regs.SysReg.SysReg, regs.Register.Register}
 use Rattle.sysreg.specs.declared.regs.ControlReg.TheVariants.{Sctlr, Tcr, Ttbr0}
 use Rattle.sysreg.specs.declared.regs.SysReg.TheVariants.{Mair, Vbar, Elr, Spsr, Esr, Far}
 use Rattle.sysreg.specs.declared.regs.Register.TheVariants.{InControl, InSys}
@@ -16,7 +17,8 @@ use Rattle.mmu.specs.declared.core_state.Core.{Core}
 use Rattle.operations.specs.declared.call.Call.{Call}
 use Rattle.cpu.specs.Step.{step_of}
 use Rattle.history.specs.Instance.{Ram, window_of}
-use Rattle.transparency.specs.Bare.{Ruling, allowed, number, undefined, unimplemented, ruling_in, if_allowed, bare_does, bare_step, sys_does, op_in, operand_in, par_at}
+use Rattle.transparency.specs.Bare.{Ruling, allowed, number, undefined, unimplemented, ruling_in}
+use Rattle.transparency.specs.Bare.{if_allowed, bare_does, bare_step, sys_does, op_in, operand_in, par_at}
 use Rattle.transparency.proofs.Bridge.{fits}
 use Rattle.call_words.specs.declared.op.DecodedCall.{DecodedCall}
 use Rattle.call_words.specs.declared.op.DecodedCall.TheVariants.{Known, Unknown}

@@ -26,8 +26,8 @@ fn op_at(ops: &[u64], at: usize) -> [u64; 8]
     ]
 }
 
-// The core as after reset; then the calls of ops, eight words to a call, each on RAM as the last one left it; then one call
-// more, whose number and answer are given. Whatever the calls were, the last one's answer is faithful.
+// The core as after reset; then the calls of ops, eight words to a call, each on RAM as the last one left it; then
+// one call more, whose number and answer are given. Whatever the calls were, the last one's answer is faithful.
 pub fn run(
     core: &mut Core,
     ops: &[u64],

@@ -1,5 +1,5 @@
-// What is proved of every list of calls: each function does nothing, and its contract is the theorem. `Made` says that a
-// core was as after reset, and then calls changed it, each as its contract promises.
+// What is proved of every list of calls: each function does nothing, and its contract is the theorem. `Made` says
+// that a core was as after reset, and then calls changed it, each as its contract promises.
 ghost use Rattle.core_transparency.specs.OnCore.{made_is_core};
 ghost use Rattle.core_transparency.specs.OnCore.{faithful_on_core, faithful_step_on_core, counts_on_core};
 ghost use Rattle.core_transparency.specs.Counters.{hits_on_core, walks_on_core, sums_on_core};
@@ -10,26 +10,26 @@ pub fn made_core()
     ensures hold { made_is_core }
 {}
 
-/// On such a core each further call is faithful: settled pages are answered as by the core without a cache, by number and
-/// by words; and a census counts, and answers, as that core does. Rules out a call whose own fast path answers by an entry
-/// or a hint that an earlier call should have dropped.
+/// On such a core each further call is faithful: settled pages are answered as by the core without a cache, by
+/// number and by words; and a census counts, and answers, as that core does. Rules out a call whose own fast path
+/// answers by an entry or a hint that an earlier call should have dropped.
 pub fn every_call_on_core()
     ensures call { faithful_on_core }
     ensures step { faithful_step_on_core }
     ensures census { counts_on_core }
 {}
 
-/// The counters by level of such a core are the number of the list's translations made at each level that an
-/// entry answered, that were walked; their sums are the Rust's two counters. Rules out a hit counted at another level.
+/// The counters by level of such a core are the number of the list's translations made at each level that an entry
+/// answered, that were walked; their sums are the Rust's two counters. Rules out a hit counted at another level.
 pub fn counters_on_core()
     ensures hits { hits_on_core }
     ensures walks { walks_on_core }
     ensures sums { sums_on_core }
 {}
 
-/// What words hold of a core is all of it, after every list of calls: place 0 of the arrays by level, which has no word,
-/// stays 0, and the core comes back out of its words whole. So it does where words were restored before. Rules out a call
-/// that writes a part of which nothing is saved.
+/// What words hold of a core is all of it, after every list of calls: place 0 of the arrays by level, which has no
+/// word, stays 0, and the core comes back out of its words whole. So it does where words were restored before.
+/// Rules out a call that writes a part of which nothing is saved.
 pub fn whole_core()
     ensures call { call_keeps_whole }
     ensures list { made_is_whole }

@@ -1,6 +1,6 @@
 #![tactic(auto)]
 // Replays recorded answers on the proved core: each argument names a record; each difference is shown, then what was
-// replayed.
+// replayed. The status is 1 where there is a difference.
 mod cases;
 mod judge;
 mod lines;
@@ -11,13 +11,18 @@ mod stop;
 
 use replay::Replay;
 use std::io::BufWriter;
+use std::process::ExitCode;
 use std::{env, io};
 
-fn main(rt: HostRuntime) -> io::Result<()> {
+fn main(rt: HostRuntime) -> io::Result<ExitCode> {
     let mut out = BufWriter::new(rt.alloc(), io::writer(&rt))?;
     let mut replay = Replay::new(&mut out, rt.alloc())?;
     for name in env::args(&rt)?.skip(1) {
         replay.file(&rt, name.as_str())?;
     }
-    replay.finish()
+    if replay.finish()? {
+        Ok(ExitCode::SUCCESS)
+    } else {
+        Ok(ExitCode::FAILURE)
+    }
 }

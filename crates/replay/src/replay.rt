@@ -74,13 +74,14 @@ impl<'a, W: Write> Replay<'a, W> {
         writeln!(self.out, "{}", self.counts)
     }
 
-    // The summary. A run without a record shows nothing.
-    pub fn finish(&mut self) -> io::Result<()> {
+    // The summary, and whether all was as recorded. A run without a record shows nothing.
+    pub fn finish(&mut self) -> io::Result<bool> {
         if self.records == 0 {
             self.total.wrong = bits::more(self.total.wrong);
             writeln!(self.out, "no record was replayed")?;
         }
         report::all(self.out, self.records, &self.total, &self.tally)?;
-        self.out.flush()
+        self.out.flush()?;
+        Ok(self.total.wrong == 0)
     }
 }

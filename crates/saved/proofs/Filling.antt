@@ -18,7 +18,8 @@ table_is f zero [] l h = refl
 table_is f zero (x ∷ xs) l h = absurd (omega (arith, l))
 table_is f (suc n) [] l h = absurd (omega (arith, l))
 table_is f (suc n) (x ∷ xs) l h =
-    ap (λ y. y ∷ xs) (h zero x (zero-lt-suc n)) ∙ ap (λ ys. f zero ∷ ys) (table_is (λ k. f (suc k)) n xs (omega (arith, l)) (λ k d lt. h (suc k) d (suc-le-suc lt)))
+    ap (λ y. y ∷ xs) (h zero x (zero-lt-suc n))
+    ∙ ap (λ ys. f zero ∷ ys) (table_is (λ k. f (suc k)) n xs (omega (arith, l)) (λ k d lt. h (suc k) d (suc-le-suc lt)))
 
 module _ {A : Type 0} (f : ℕ → A) (n : ℕ) where
   pub filled_start : (xs : List A) → length xs ≡ n → Filled f n 0 xs

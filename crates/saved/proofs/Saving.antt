@@ -41,13 +41,25 @@ module _ (c : Core) where
       let p : ℕ = ENTRIES + j * 4 + k in
       let at : (p - ENTRIES) / 4 ≡ j = omega arith in
       let part : (p - ENTRIES) % 4 ≡ k = omega arith in
-      rw (le-ltb p 37 (omega arith), le-ltb p LEVEL (omega arith), le-ltb p HINTS (omega arith), le-ltb p ENTRIES (omega arith), lt-ltb p LEVEL-HITS (omega arith))
+      rw (
+        le-ltb p 37 (omega arith),
+        le-ltb p LEVEL (omega arith),
+        le-ltb p HINTS (omega arith),
+        le-ltb p ENTRIES (omega arith),
+        lt-ltb p LEVEL-HITS (omega arith),
+      )
       (λ q. entry_word (entry_at c.tlb.cache (at q)) (part q))
 
   pub past_words : (p : ℕ) → WORDS ≤ p → word_of c p ≡ 0
   unfolding word_of
   past_words p h =
-      rw (le-ltb p 37 (omega arith), le-ltb p LEVEL (omega arith), le-ltb p HINTS (omega arith), le-ltb p ENTRIES (omega arith), le-ltb p LEVEL-HITS (omega arith))
+      rw (
+        le-ltb p 37 (omega arith),
+        le-ltb p LEVEL (omega arith),
+        le-ltb p HINTS (omega arith),
+        le-ltb p ENTRIES (omega arith),
+        le-ltb p LEVEL-HITS (omega arith),
+      )
       (get_or_past (level_words c) (p - LEVEL-HITS) 0 (omega arith))
 
   -- among the saved words
@@ -145,8 +157,10 @@ module _ (c : Core) (f : Fits c) where
     where
       back : (i : ℕ) → i < 512 → hint_in w i ≡ hint_at c.tlb.cache i
       back i h =
-          let k : w (HINTS + i * 2) ≡ (hint_at c.tlb.cache i).key = (let z : HINTS + i * 2 ≡ HINTS + i * 2 + 0 = omega arith in ap w z) ∙ hint_words c i 0 h (omega arith) in
-          let p : w (HINT-PA + i * 2) ≡ (hint_at c.tlb.cache i).pa = (let z : HINT-PA + i * 2 ≡ HINTS + i * 2 + 1 = omega arith in ap w z) ∙ hint_words c i 1 h (omega arith) in
+          let k : w (HINTS + i * 2) ≡ (hint_at c.tlb.cache i).key =
+          (let z : HINTS + i * 2 ≡ HINTS + i * 2 + 0 = omega arith in ap w z) ∙ hint_words c i 0 h (omega arith) in
+          let p : w (HINT-PA + i * 2) ≡ (hint_at c.tlb.cache i).pa =
+          (let z : HINT-PA + i * 2 ≡ HINTS + i * 2 + 1 = omega arith in ap w z) ∙ hint_words c i 1 h (omega arith) in
           λ q. record { key = k q; pa = p q }
 
   entries-back : table 1024 (entry_in w) ≡ c.tlb.cache.entries
@@ -156,10 +170,14 @@ module _ (c : Core) (f : Fits c) where
       back j h =
           let e : Entry = entry_at c.tlb.cache j in
           let fits : EntryFits e = f.entries j h in
-          let t : w (ENTRIES + j * 4) ≡ e.tag = (let z : ENTRIES + j * 4 ≡ ENTRIES + j * 4 + 0 = omega arith in ap w z) ∙ entry_words c j 0 h (omega arith) in
-          let g : w (ENTRY-GENERATION + j * 4) ≡ e.generation = (let z : ENTRY-GENERATION + j * 4 ≡ ENTRIES + j * 4 + 1 = omega arith in ap w z) ∙ entry_words c j 1 h (omega arith) in
-          let a : w (ENTRY-ATTRIBUTES + j * 4) ≡ attributes e = (let z : ENTRY-ATTRIBUTES + j * 4 ≡ ENTRIES + j * 4 + 2 = omega arith in ap w z) ∙ entry_words c j 2 h (omega arith) in
-          let p : w (ENTRY-PA + j * 4) ≡ e.pa = (let z : ENTRY-PA + j * 4 ≡ ENTRIES + j * 4 + 3 = omega arith in ap w z) ∙ entry_words c j 3 h (omega arith) in
+          let t : w (ENTRIES + j * 4) ≡ e.tag =
+          (let z : ENTRIES + j * 4 ≡ ENTRIES + j * 4 + 0 = omega arith in ap w z) ∙ entry_words c j 0 h (omega arith) in
+          let g : w (ENTRY-GENERATION + j * 4) ≡ e.generation =
+          (let z : ENTRY-GENERATION + j * 4 ≡ ENTRIES + j * 4 + 1 = omega arith in ap w z) ∙ entry_words c j 1 h (omega arith) in
+          let a : w (ENTRY-ATTRIBUTES + j * 4) ≡ attributes e =
+          (let z : ENTRY-ATTRIBUTES + j * 4 ≡ ENTRIES + j * 4 + 2 = omega arith in ap w z) ∙ entry_words c j 2 h (omega arith) in
+          let p : w (ENTRY-PA + j * 4) ≡ e.pa =
+          (let z : ENTRY-PA + j * 4 ≡ ENTRIES + j * 4 + 3 = omega arith in ap w z) ∙ entry_words c j 3 h (omega arith) in
           (λ q. entry_of (t q) (g q) (a q) (p q)) ∙ entry-back e fits.perms fits.level fits.asid fits.generation
 
   by-words : core_by w ≡ held c

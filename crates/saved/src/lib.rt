@@ -1,5 +1,6 @@
 #![tactic(auto)]
-// A core as 5,213 words of 64 bits, in and out: what records, comparisons and callers keep of it. Any words are a core.
+// A core as 5,213 words of 64 bits, in and out: what records, comparisons and callers keep of it. Any words are a
+// core.
 mod parts;
 pub mod place;
 mod ranges;

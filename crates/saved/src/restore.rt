@@ -43,8 +43,8 @@ fn read_entries(entries: &mut [Entry; 1024], words: &Saved)
     }
 }
 
-/// The core becomes the one that the words hold, whatever they are: of a word that is too large for its part only some
-/// bits count.
+/// The core becomes the one that the words hold, whatever they are: of a word that is too large for its part only
+/// some bits count.
 #[tactic(auto, unfolding(crate::specs::CoreOf::core_of, crate::specs::CoreOf::core_by, crate::specs::CoreOf::core_on))]
 pub fn restore(core: &mut Core, words: &Saved)
     ensures { core.new ≡ core_of words.now }

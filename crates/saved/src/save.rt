@@ -174,8 +174,8 @@ pub fn word(core: &Core, place: usize) -> u64
     }
 }
 
-/// Every word of a core, in order of their places. The core that they hold is this one, but for what no word holds: place
-/// 0 of the nine arrays by level, which is 0 there.
+/// Every word of a core, in order of their places. The core that they hold is this one, but for what no word holds:
+/// place 0 of the nine arrays by level, which is 0 there.
 #[tactic(auto, unfolding(crate::specs::WordsOf::words_of), using(crate::proofs::Filling::filled_start, crate::proofs::Filling::filled_on, crate::proofs::Filling::filled_end))]
 pub fn save(core: &Core, words: &mut Saved)
     ensures words { words.new ≡ words_of core.now }

@@ -8,15 +8,16 @@ ghost use Rattle.saved.specs.NamedPlaces.{control_named, sys_named, general_name
 ghost use Rattle.saved.specs.NamedPlaces.{hints_named, entries_named, tallies_named};
 ghost use Rattle.saved.specs.WordsOf.{word_of, words_of, held};
 
-/// The words of a core, one by one and as they are saved, are the same. It rules out a word that `save` writes and `word`
-/// reads elsewhere.
+/// The words of a core, one by one and as they are saved, are the same. It rules out a word that `save` writes and
+/// `word` reads elsewhere.
 #[tactic(auto, using(crate::proofs::Saving::word_of_saved))]
 pub fn word_by_word()
     ensures { (c : Core) (p : ℕ) → word (words_of c) p ≡ word_of c p }
 {}
 
-/// A core that a program holds comes back out of its words, but for what no word holds, and a core after reset and each
-/// core that words hold comes back whole. It rules out a part that is saved nowhere, and two parts in one word.
+/// A core that a program holds comes back out of its words, but for what no word holds, and a core after reset and
+/// each core that words hold comes back whole. It rules out a part that is saved nowhere, and two parts in one
+/// word.
 #[tactic(auto, using(crate::proofs::Saving::saved_again, crate::proofs::Whole::fresh_whole, crate::proofs::Whole::restored_whole))]
 pub fn saved_and_restored()
     ensures every { (c : Core) → Fits c → core_of (words_of c) ≡ held c }

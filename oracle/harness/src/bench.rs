@@ -1,12 +1,10 @@
-//! pimu's Rust and the library's functions on words, side by side in one process: the same cases, the same inputs.
+//! pimu's Rust and the library's functions on a core, side by side in one process: the same cases, the same inputs.
 //!
 //! On the Rust's side the operation itself is called, behind one call that is not inlined, with RAM at its quickest;
 //! the checks are not made there. On the library's side its exported function is called. Translations,
 //! loads, stores and censuses have a third side: the Rust behind the library's signatures, with the checks.
 mod cases;
 mod checked;
-#[cfg(feature = "lent")]
-mod lent;
 mod ours;
 mod rust;
 mod scene;
@@ -16,7 +14,7 @@ pub use cases::cases;
 pub use time::{time, Times};
 
 use crate::census::Counts;
-use crate::ffi::{boxed, Words};
+use crate::ffi::{boxed, saved, state_of, Held};
 use crate::rust::RustCore;
 use crate::{Core, Ram};
 use scene::Scene;
@@ -47,9 +45,6 @@ pub enum Work {
     Svc,
     /// The number of pages; the argument is the first address.
     Census(u64),
-    /// Kind; translations of a core by reference inside the library, many in a row.
-    #[cfg(feature = "lent")]
-    Lent(u8),
 }
 
 /// One line of the table.
@@ -99,17 +94,19 @@ pub struct Pair {
     args: [u64; 2],
     rust: Box<RustCore>,
     rust_ram: Ram,
-    words: Words,
+    core: Held,
     ram: Ram,
 }
 
 impl Pair {
     pub fn new(case: &Case) -> Pair {
         let (rust, ram) = case.scene.build();
+        let mut core = Held::new();
+        core.restore(&boxed(&rust.state()));
         Pair {
             work: case.work,
             args: case.args,
-            words: boxed(&rust.state()),
+            core,
             rust: Box::new(rust),
             rust_ram: ram.clone(),
             ram,
@@ -124,11 +121,7 @@ impl Pair {
             Side::Checked => self
                 .rust
                 .counting(|c| checked::run(work, args, &mut c.cpu, ram, n)),
-            #[cfg(feature = "lent")]
-            Side::Ours if matches!(self.work, Work::Lent(_)) => {
-                lent::run(self.work, self.args, &self.words, &self.ram, n)
-            }
-            Side::Ours => ours::run(self.work, self.args, &mut self.words, &mut self.ram, n),
+            Side::Ours => ours::run(self.work, self.args, &mut self.core, &mut self.ram, n),
         }
     }
 
@@ -137,14 +130,9 @@ impl Pair {
         checked::has(self.work)
     }
 
-    /// Whether both sides hold the same: whole state and RAM. A core inside the library cannot be seen: its answers
-    /// alone are compared.
+    /// Whether both sides hold the same: whole state and RAM.
     pub fn agree(&self) -> bool {
-        #[cfg(feature = "lent")]
-        if let Work::Lent(_) = self.work {
-            return true;
-        }
-        crate::ffi::state_of(&self.words[..]) == self.rust.state() && self.ram == self.rust_ram
+        state_of(&saved(&self.core)[..]) == self.rust.state() && self.ram == self.rust_ram
     }
 }
 

@@ -3,12 +3,12 @@
 //! # The functions
 //!
 //! A core is a static library that exports the functions of `include/a72.h`, which says what each does, which number it
-//! gives ([`crate::number`]) and where a state's words hold what ([`crate::place`]). What an operation means is the
-//! scope's: the Rust function of that name. `a72_fresh` makes the state that `Cpu::new` makes.
+//! gives ([`crate::number`]) and where a saved core's words hold what ([`crate::place`]). What an operation means is the
+//! scope's: the Rust function of that name. `a72_init_at` makes the core that `Cpu::new` makes.
 //!
-//! [`CCore`] runs by `a72_fresh` and `a72_step`, or, with the feature `rattle`, by the function for each operation
-//! (`ffi/each.rs`); the counts of a census are `a72_census`'s in both. Without the feature the model stands behind
-//! these three functions.
+//! [`CCore`] runs by `a72_step`, or, with the feature `rattle`, by the function for each operation (`ffi/each.rs`); the
+//! counts of a census are `a72_census`'s in both. What the core holds is what `a72_save` gives, after every operation, and
+//! what it shall hold goes in by `a72_restore`. Without the feature the model stands behind these functions.
 //!
 //! # An operation: 8 words
 //!
@@ -46,8 +46,8 @@
 //!
 //! Codes 1 to 13 are the list, and only they reach `a72_step`. 20 to 28
 //! are leaves, which change nothing: the core behind the boundary has none, so they are left out for it and counted
-//! ([`Core::has`]). 40 to 45 are pokes, which only the comparer uses: the harness edits the state's words itself. The
-//! lines of a trace around the operations have codes in files: 60 `fresh`; 61 `window` base, length; 62 `zero`; 63
+//! ([`Core::has`]). 40 to 45 are pokes, which only the comparer uses: the harness restores the core from saved words that
+//! it edited, or, by each function, calls the library's own setter where there is one (41, 43, 45). The lines of a trace around the operations have codes in files: 60 `fresh`; 61 `window` base, length; 62 `zero`; 63
 //! `poke` address, value; 64 `w-word` place, value; 65 `w-hint` slot, key, page; 66 `w-entry` slot, four words; 67
 //! `w-fetch` page, level, physical page.
 //!
@@ -78,13 +78,18 @@
 //! # A state
 //!
 //! [`crate::place`] has its words, and `include/a72.h` the slots, tags and keys of entries and hints. Words 70 and 71 hold
-//! nothing: a fresh state has 0 there, a wild one anything, and an operation that moves one of them is a difference.
+//! nothing: 0 is saved there, whatever a wild core was restored from.
+//!
+//! A level is a byte in the library. A poke may put a larger one, which is 255 there and refused as every level above 3 is:
+//! [`CCore`] keeps the number beside the core.
 //!
 //! An entry is live where its tag is not 0 and its generation is the present one. One of a later generation, which only
 //! a wild core has, is compared too: it would be live once that generation comes. What stands in other entries and
 //! behind the keys and flags that say 'none' is free.
 #[cfg(feature = "rattle")]
 pub mod each;
+#[path = "../../../bindings/rust/src/held.rs"]
+mod held;
 mod poke;
 mod state;
 mod words;
@@ -95,19 +100,22 @@ mod stand_in;
 use crate::census::{Counts, COUNTS};
 use crate::number;
 use crate::op::{Ans, Line, Op};
-use crate::place::{self, WORDS};
+use crate::place;
 use crate::rust::RustCore;
 use crate::wild::Part;
 use crate::{Core, Ram, State};
+pub use held::Held;
 pub use state::{levels_of, state_of, words_of, ENTRY_WORDS, HINT_WORDS, LEVEL_WORDS, RETIRED};
 pub use words::{decode, decode_answer, encode, encode_answer, exception};
 
 #[cfg(feature = "rattle")]
-use crate::library::{a72_census, a72_fresh, a72_step};
+use crate::library;
 #[cfg(not(feature = "rattle"))]
-use stand_in::{a72_census, a72_fresh, a72_step};
+use stand_in as library;
 
-/// What stands where the library has to write: no answer and no part of a fresh state.
+use library::{a72_census, a72_step};
+
+/// What stands where the library has to write: no answer and no saved word.
 const UNWRITTEN: u64 = 0xA5A5_A5A5_A5A5_A5A5;
 
 /// A state's words.
@@ -118,57 +126,48 @@ pub fn boxed(state: &State) -> Words {
     words_of(state).try_into().expect("as many words as a state has")
 }
 
-/// The words that `a72_fresh` writes.
-pub fn fresh() -> Words {
-    let mut words: Words = vec![UNWRITTEN; WORDS].try_into().expect("as many words");
-    // Sound: the pointer is that of an array of this length, which nobody else uses.
-    unsafe { a72_fresh(&mut *words) };
-    assert_eq!(
-        words[RETIRED], [0; 2],
-        "of a fresh state's words that hold nothing"
-    );
+/// The words that `a72_save` writes.
+pub fn saved(core: &Held) -> Words {
+    let mut words: Words = vec![UNWRITTEN; place::WORDS].try_into().expect("as many words");
+    core.save_to(&mut words);
+    assert_eq!(words[RETIRED], [0; 2], "of the words that hold nothing");
     words
 }
 
-/// One operation of the list on a state's words.
-type Step = fn(&mut Words, &Op, &mut Ram) -> Ans;
+/// One operation of the list on a core.
+type Step = fn(&mut Held, &Op, &mut Ram) -> Ans;
+/// A poke by the library's own setter, where it has one.
+type Set = fn(&mut Held, &Op) -> bool;
 
 /// By `a72_step`.
-fn step(words: &mut Words, op: &Op, ram: &mut Ram) -> Ans {
+fn step(core: &mut Held, op: &Op, ram: &mut Ram) -> Ans {
     let (at, len) = (ram.bytes.lent(op.may_write_ram()), ram.bytes.len());
     let (line, mut ans) = (encode(&Line::Op(*op)), [UNWRITTEN; 4]);
     // Sound: each pointer is that of an array or a vector, with its own length, and no two overlap.
-    let code = unsafe { a72_step(&line, &mut **words, ram.base, at, len, &mut ans) };
+    let code = unsafe { a72_step(&line, core.handle(), ram.base, at, len, &mut ans) };
     let said = match code {
         number::DONE => decode_answer(&ans),
         _ => Ans::Panic,
     };
     match *op {
-        Op::Census(first, pages) => counted(said, census(words, first, pages, ram)),
+        Op::Census(first, pages) => counted(said, census(core, first, pages, ram)),
         _ => said,
     }
 }
 
 /// `a72_census`: its number.
 #[inline(always)]
-pub fn count(
-    words: &place::State,
-    first: u64,
-    pages: u64,
-    counts: &mut Counts,
-    base: u64,
-    ram: &[u8],
-) -> u64 {
-    // Sound: each pointer is that of an array or a slice, with its own length; the counts are borrowed exclusively.
-    unsafe { a72_census(words, first, pages, counts, base, ram.as_ptr(), ram.len()) }
+pub fn count(core: &Held, first: u64, pages: u64, counts: &mut Counts, base: u64, ram: &[u8]) -> u64 {
+    // Sound: each pointer is that of a core, an array or a slice, with its own length; the counts are borrowed exclusively.
+    unsafe { a72_census(core.handle(), first, pages, counts, base, ram.as_ptr(), ram.len()) }
 }
 
 /// By `a72_census`. Where it is refused no count may be written.
-fn census(words: &Words, first: u64, pages: u64, ram: &mut Ram) -> Ans {
+fn census(core: &Held, first: u64, pages: u64, ram: &mut Ram) -> Ans {
     let mut counts = Box::new([UNWRITTEN; COUNTS]);
     // Sound: the window's bytes, which `ram` lends to be read.
     let bytes = unsafe { std::slice::from_raw_parts(ram.bytes.lent(false), ram.bytes.len()) };
-    match count(words, first, pages, &mut counts, ram.base, bytes) {
+    match count(core, first, pages, &mut counts, ram.base, bytes) {
         number::DONE => Ans::Counts(counts),
         n @ 1..=number::LAST_CHECK if *counts == [UNWRITTEN; COUNTS] => Ans::Number(n as u8),
         _ => Ans::Panic,
@@ -187,34 +186,65 @@ fn counted(said: Ans, answer: Ans) -> Ans {
 /// The core behind the C boundary.
 #[derive(Clone)]
 pub struct CCore {
-    words: Words,
+    core: Held,
+    /// The level that was put, where it is above 255.
+    level: Option<u64>,
     step: Step,
+    set: Set,
 }
 
 impl CCore {
     /// By `a72_step`.
     pub fn new() -> CCore {
-        CCore { words: fresh(), step }
+        CCore {
+            core: Held::new(),
+            level: None,
+            step,
+            set: |_, _| false,
+        }
     }
 
     /// By the function for each operation.
     #[cfg(feature = "rattle")]
     pub fn by_each() -> CCore {
         CCore {
-            words: fresh(),
             step: each::step,
+            set: each::set,
+            ..CCore::new()
         }
     }
 
-    fn retired(&self) -> [u64; 2] {
-        [self.words[RETIRED.start], self.words[RETIRED.start + 1]]
+    /// All that it holds, as words.
+    pub fn words(&self) -> Words {
+        let mut words = saved(&self.core);
+        if let (Some(level), 255) = (self.level, words[place::LEVEL]) {
+            words[place::LEVEL] = level;
+        }
+        words
+    }
+
+    /// Hold what these words hold.
+    fn hold(&mut self, words: &Words) {
+        let level = words[place::LEVEL];
+        self.level = (level > 255).then_some(level);
+        self.core.restore(words);
+    }
+
+    /// A poke, by a setter or as an edit of the saved words.
+    fn poke(&mut self, op: &Op) -> Ans {
+        if !(self.set)(&mut self.core, op) {
+            let mut words = self.words();
+            poke::poke(&mut words, op);
+            self.hold(&words);
+        }
+        Ans::Ok
     }
 
     /// An operation that moves no word of the state, dead records included.
     fn inspect(&mut self, op: &Op, ram: &mut Ram) -> Ans {
-        let before = self.words.clone();
-        let answer = (self.step)(&mut self.words, op, ram);
-        if self.words == before {
+        let before = self.words();
+        let answer = (self.step)(&mut self.core, op, ram);
+        if self.words() == before {
             answer
         } else {
             Ans::Panic
@@ -230,7 +260,8 @@ impl Default for CCore {
 
 impl Core for CCore {
     fn reset(&mut self) {
-        self.words = fresh();
+        self.core = Held::new();
+        self.level = None;
     }
 
     fn has(&self, op: &Op) -> bool {
@@ -238,21 +269,15 @@ impl Core for CCore {
     }
 
     fn step(&mut self, op: &Op, ram: &mut Ram) -> Ans {
-        let retired = self.retired();
-        let answer = match op {
+        match op {
             Op::Census(..) => self.inspect(op, ram),
-            _ if op.is_poke() => poke::poke(&mut self.words, op),
-            _ => (self.step)(&mut self.words, op, ram),
-        };
-        if self.retired() == retired {
-            answer
-        } else {
-            Ans::Panic
+            _ if op.is_poke() => self.poke(op),
+            _ => (self.step)(&mut self.core, op, ram),
         }
     }
 
     fn state(&self) -> State {
-        state_of(&self.words[..])
+        state_of(&self.words()[..])
     }
 
     fn seals(&self) -> bool {
@@ -260,25 +285,24 @@ impl Core for CCore {
     }
 
     fn holds(&self, rust: &RustCore) -> bool {
-        rust.is_held_by(&self.words)
+        rust.is_held_by(&self.words())
     }
 
     fn load(&mut self, state: &State) {
-        self.words = boxed(state);
+        self.hold(&boxed(state));
     }
 
-    /// What is put into the words that hold nothing stays there.
+    /// What is put into the words that hold nothing is restored from too: nothing of it stays.
     fn put(&mut self, part: &Part) {
-        let retired = self.retired();
         let mut state = self.state();
         state.put(part);
-        self.load(&state);
-        self.words[RETIRED].copy_from_slice(&retired);
+        let mut words = boxed(&state);
         if let Part::Word(at, v) = *part {
             if RETIRED.contains(&at.into()) {
-                self.words[usize::from(at)] = v;
+                words[usize::from(at)] = v;
             }
         }
+        self.hold(&words);
     }
 
     fn copy(&self) -> Box<dyn Core> {
@@ -290,24 +314,37 @@ impl Core for CCore {
 mod tests {
     use super::*;
 
-    /// A core that writes a word which holds nothing.
     #[test]
-    fn retired_words_stay() {
-        fn moves(words: &mut Words, _: &Op, _: &mut Ram) -> Ans {
-            words[RETIRED.start + 1] += 1;
-            Ans::Ok
-        }
-        let (mut ram, op) = (Ram::default(), Op::Level(1));
+    fn retired_words_hold_nothing() {
         let mut core = CCore::new();
         core.put(&Part::Word(70, 7));
-        assert_eq!((core.step(&op, &mut ram), core.retired()), (Ans::Ok, [7, 0]));
-        core.step = moves;
-        assert_eq!(core.step(&op, &mut ram), Ans::Panic);
+        core.put(&Part::Word(71, u64::MAX));
+        assert_eq!(core.words()[RETIRED], [0; 2]);
+        assert!(core.words() == CCore::new().words());
+    }
+
+    /// A level that no byte holds stands beside the core, until another is put.
+    #[test]
+    fn a_large_level_is_kept() {
+        let (mut core, mut ram) = (CCore::new(), Ram::default());
+        for level in [0xFFFF_FFFF, 256, 255, 4, 3] {
+            core.step(&Op::PokeLevel(level), &mut ram);
+            assert_eq!(core.state().level, level);
+            assert_eq!(core.copy().state().level, level);
+            let answer = core.step(&Op::Mark(true), &mut ram);
+            assert_eq!(answer, if level > 3 { Ans::Number(1) } else { Ans::Ok });
+            assert_eq!(core.state().level, level);
+        }
+        core.step(&Op::PokeLevel(256), &mut ram);
+        core.reset();
+        core.step(&Op::PokeLevel(255), &mut ram);
+        assert_eq!(core.state().level, 255);
     }
 
     #[test]
     fn words_that_name_nothing() {
-        let before = fresh();
+        let core = Held::new();
+        let before = saved(&core);
         for words in [
             &[0][..],
             &[14],
@@ -321,13 +358,13 @@ mod tests {
             &[12, 5, 0, 1, 0x100],
             &[12, 6, 0, 0x100],
         ] {
-            let (mut op, mut ans, mut state) = ([0; 8], [UNWRITTEN; 4], before.clone());
+            let (mut op, mut ans) = ([0; 8], [UNWRITTEN; 4]);
             op[..words.len()].copy_from_slice(words);
             let mut ram = [UNWRITTEN as u8; 8];
-            // Sound: each pointer is that of an array, with its own length, and no two overlap.
-            let code = unsafe { a72_step(&op, &mut *state, 0, ram.as_mut_ptr(), 8, &mut ans) };
+            // Sound: each pointer is that of a core or an array, with its own length, and no two overlap.
+            let code = unsafe { a72_step(&op, core.handle(), 0, ram.as_mut_ptr(), 8, &mut ans) };
             assert_eq!(code, number::NAMES_NOTHING, "{words:?}");
-            assert!(ans == [UNWRITTEN; 4] && state == before && ram == [UNWRITTEN as u8; 8]);
+            assert!(ans == [UNWRITTEN; 4] && saved(&core) == before && ram == [UNWRITTEN as u8; 8]);
         }
     }
 }

@@ -25,11 +25,10 @@ pub mod text;
 pub mod walk;
 pub mod wild;
 
-// The C boundary as the Rust crate declares it: the functions, the numbers that they give, the places of a state's
-// words and of a census's counts.
+// The C boundary as the Rust crate declares it: the functions, the numbers that they give, the places of a saved core's
+// words and of a census's counts; `ffi` has its memory for a core.
 #[path = "../../../bindings/rust/src/count.rs"]
 pub mod count;
-#[cfg(any(feature = "rattle", feature = "walk"))]
 #[allow(dead_code)]
 #[path = "../../../bindings/rust/src/library.rs"]
 mod library;

@@ -91,7 +91,7 @@ fn each_level_is_judged_in_place() {
     }
 }
 
-/// What stands in the words that hold nothing does not matter, and stays.
+/// What a core is restored from in the words that hold nothing does not matter.
 #[test]
 fn retired_words_do_not_matter() {
     let lines = trace(104, 2000, Style::Full);

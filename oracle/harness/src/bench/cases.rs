@@ -45,25 +45,18 @@ fn walk(levels: usize) -> Scene {
     Scene { levels, ..scene() }
 }
 
-/// On a core by reference, inside the library.
-#[cfg(feature = "lent")]
+/// Translations again, under the bars of a core that was lent by reference inside the library.
 fn lent() -> Vec<Case> {
     let here = [page(PAGE), page(PAGE) | 8];
     let (hints, entries) = ([page(PAGE), page(same_hint())], [page(PAGE), page(same_entry())]);
-    let (read, fetch) = (Work::Lent(1), Work::Lent(4));
     vec![
-        case("lent: hint hit", LENT_HINT, read, here, scene()),
-        case("lent: entry hit, read", LENT_ENTRY, read, hints, scene()),
-        case("lent: entry hit, fetch", LENT_ENTRY, fetch, here, scene()),
-        case("lent: walk of 2 levels", LENT_WALK, read, entries, walk(2)),
-        case("lent: walk of 3 levels", LENT_WALK, read, entries, walk(3)),
-        case("lent: walk of 4 levels", LENT_WALK, read, entries, walk(4)),
+        case("lent: hint hit", LENT_HINT, READ, here, scene()),
+        case("lent: entry hit, read", LENT_ENTRY, READ, hints, scene()),
+        case("lent: entry hit, fetch", LENT_ENTRY, FETCH, here, scene()),
+        case("lent: walk of 2 levels", LENT_WALK, READ, entries, walk(2)),
+        case("lent: walk of 3 levels", LENT_WALK, READ, entries, walk(3)),
+        case("lent: walk of 4 levels", LENT_WALK, READ, entries, walk(4)),
     ]
-}
-
-#[cfg(not(feature = "lent"))]
-fn lent() -> Vec<Case> {
-    Vec::new()
 }
 
 pub fn cases() -> Vec<Case> {

@@ -99,19 +99,12 @@ fn census(c: &Cpu, first: u64, pages: u64, counts: &mut Counts, base: u64, ram: 
     0
 }
 
-/// The kind of a translation, of words or of a core by reference.
-fn kind_of(work: Work) -> Option<u64> {
-    match work {
-        Work::Translate(kind) => Some(kind.into()),
-        #[cfg(feature = "lent")]
-        Work::Lent(kind) => Some(kind.into()),
-        _ => None,
-    }
-}
-
 /// Whether a case has this side.
 pub fn has(work: Work) -> bool {
-    kind_of(work).is_some() || matches!(work, Work::Load(_) | Work::Store(_) | Work::Census(_))
+    matches!(
+        work,
+        Work::Translate(_) | Work::Load(_) | Work::Store(_) | Work::Census(_)
+    )
 }
 
 pub fn run(work: Work, args: [u64; 2], c: &mut Cpu, ram: &mut Ram, n: usize) -> u64 {
@@ -119,13 +112,13 @@ pub fn run(work: Work, args: [u64; 2], c: &mut Cpu, ram: &mut Ram, n: usize) -> 
     let bytes = &mut ram.bytes[..];
     let mut ans = 0;
     let a = &mut ans;
-    let work = black_box(work);
-    if let Some(kind) = kind_of(work) {
-        return repeat(n, args, |va| {
-            summed(translate(c, va, kind, a, base, bytes), *a, 0)
-        });
-    }
-    match work {
+    match black_box(work) {
+        Work::Translate(kind) => {
+            let kind = kind.into();
+            repeat(n, args, |va| {
+                summed(translate(c, va, kind, a, base, bytes), *a, 0)
+            })
+        }
         Work::Load(size) => repeat(n, args, |va| {
             summed(load(c, va, size.into(), a, base, bytes), *a, *a)
         }),

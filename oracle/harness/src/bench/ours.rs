@@ -1,8 +1,8 @@
-//! The library's side: its function for each operation, on a state's words.
+//! The library's side: its function for each operation, on a core.
 use super::{fault, repeat, told, Work, DONE, STORED};
 use crate::census::COUNTS;
 use crate::ffi::each::Lent;
-use crate::ffi::{count, Words};
+use crate::ffi::{count, Held};
 use crate::number::FAULT;
 use crate::Ram;
 use std::hint::black_box;
@@ -17,14 +17,18 @@ pub(super) fn summed(n: u64, v: u64, addr: u64) -> u64 {
     }
 }
 
-pub fn run(work: Work, args: [u64; 2], words: &mut Words, ram: &mut Ram, n: usize) -> u64 {
-    let mut lent = Lent {
-        words,
-        base: black_box(ram.base),
-        ram: &mut ram.bytes,
-    };
+pub fn run(work: Work, args: [u64; 2], core: &mut Held, ram: &mut Ram, n: usize) -> u64 {
+    let base = black_box(ram.base);
     let mut ans = 0;
     let a = &mut ans;
+    if let Work::Census(pages) = work {
+        let counts = &mut [0; COUNTS];
+        return repeat(n, args, |first| {
+            let n = count(core, first, pages, counts, base, &ram.bytes);
+            summed(n, told(counts), 0)
+        });
+    }
+    let mut lent = Lent::new(core, base, &mut ram.bytes);
     match black_box(work) {
         Work::Translate(kind) => {
             let kind = kind.into();
@@ -65,15 +69,7 @@ pub fn run(work: Work, args: [u64; 2], words: &mut Words, ram: &mut Ram, n: usiz
             repeat(n, args, |v| summed(lent.general(r, v), DONE, 0))
         }
         Work::DataAbort => repeat(n, args, |addr| summed(lent.abort(&[5, addr, 1, 7]), DONE, 0)),
-        Work::Census(pages) => {
-            let counts = &mut [0; COUNTS];
-            repeat(n, args, |first| {
-                let n = count(lent.words, first, pages, counts, lent.base, lent.ram);
-                summed(n, told(counts), 0)
-            })
-        }
-        #[cfg(feature = "lent")]
-        Work::Lent(_) => unreachable!("another function's"),
+        Work::Census(_) => unreachable!("made above"),
         Work::Svc => repeat(n, args, |i| summed(lent.abort(&[1, i, 0, 0]), DONE, 0)),
     }
 }

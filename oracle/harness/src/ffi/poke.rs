@@ -1,10 +1,9 @@
-//! The pokes, as edits of a state's words: states that no list reaches, or not soon. The harness makes
-//! them itself, so that a core behind the boundary needs none.
+//! The pokes, as edits of a saved core's words: states that no list reaches, or not soon.
 use super::{Words, ENTRY_WORDS, LEVEL_WORDS};
-use crate::op::{Ans, Op};
+use crate::op::Op;
 use crate::place;
 
-pub fn poke(w: &mut Words, op: &Op) -> Ans {
+pub fn poke(w: &mut Words, op: &Op) {
     match *op {
         Op::PokeLevel(level) => w[place::LEVEL] = level.into(),
         Op::PokePc(v) => w[place::PC] = v,
@@ -14,7 +13,6 @@ pub fn poke(w: &mut Words, op: &Op) -> Ans {
         Op::TakeBroadcast => w[place::PENDING..=place::PENDING_VALUE].fill(0),
         _ => unreachable!("{op} is no poke"),
     }
-    Ans::Ok
 }
 
 /// All of EL0 and those that are single; EL1 to EL3 counted nothing, so that the sums are this too.

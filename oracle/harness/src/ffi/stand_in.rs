@@ -1,43 +1,65 @@
-//! Without the feature `rattle` the model stands behind the three functions, so that the boundary itself is tested.
+//! Without the feature `rattle` the model stands behind these functions, so that the boundary itself is tested. Where the
+//! library has a core there the model's words stand, in the same memory.
 use super::{boxed, decode, encode_answer, state_of, RETIRED};
 use crate::census::Counts;
+pub use crate::library::Handle;
 use crate::model::DocCore;
 use crate::number::{DONE, NAMES_NOTHING};
 use crate::op::{Ans, Line, Op};
 use crate::{place, Core, Ram};
+use std::ffi::c_void;
 use std::slice::{from_raw_parts, from_raw_parts_mut};
 
-/// The model with what a state's words hold.
+const _: () = assert!(size_of::<place::State>() <= super::held::CORE_SIZE - super::held::HANDLE_SIZE);
+
+/// The words in a core's memory.
+///
+/// # Safety
+/// `core` is a core that [`a72_init_at`] made, and nobody else uses it.
+unsafe fn words<'a>(core: *mut Handle) -> &'a mut place::State {
+    &mut *(*core).at.cast()
+}
+
+/// The model with what the words hold.
 fn held(state: &place::State) -> DocCore {
     let mut core = DocCore::new();
     core.load(&state_of(state));
     core
 }
 
-/// What the model holds, into a state's words; those that hold nothing stay.
-fn hold(state: &mut place::State, core: &DocCore) {
-    let retired = state[RETIRED].to_vec();
-    *state = *boxed(&core.state());
-    state[RETIRED].copy_from_slice(&retired);
+/// # Safety
+/// `at` is as much memory as a core takes, and nobody else uses it.
+pub unsafe fn a72_init_at(at: *mut c_void) {
+    *at.cast() = *boxed(&DocCore::new().state());
 }
 
 /// # Safety
-/// `state` is an array that nobody else uses.
-pub unsafe fn a72_fresh(state: *mut place::State) {
-    *state = *boxed(&DocCore::new().state());
+/// As of [`words`]; `saved` is an array that nobody else uses.
+pub unsafe fn a72_save(core: *mut Handle, saved: *mut place::State) {
+    *saved = *words(core);
 }
 
 /// # Safety
-/// Each pointer is an array, or the start of as many bytes as the length after it says, and nobody else uses them.
+/// As above.
+pub unsafe fn a72_restore(core: *mut Handle, saved: *const place::State) {
+    let state = words(core);
+    *state = *saved;
+    state[RETIRED].fill(0);
+    state[place::LEVEL] = state[place::LEVEL].min(255);
+}
+
+/// # Safety
+/// As of [`words`]; each pointer is an array, or the start of as many bytes as the length after it says, and nobody else uses
+/// them.
 pub unsafe fn a72_step(
     op: *const [u64; 8],
-    state: *mut place::State,
+    core: *mut Handle,
     base: u64,
     ram: *mut u8,
     ram_bytes: usize,
     ans: *mut [u64; 4],
 ) -> u64 {
-    let state = &mut *state;
+    let state = words(core);
     let bytes = from_raw_parts_mut(ram, ram_bytes);
     let op = match decode(&*op) {
         Some(Line::Op(op)) if op.is_step() => op,
@@ -49,7 +71,7 @@ pub unsafe fn a72_step(
     if window.writes != 0 {
         bytes.copy_from_slice(&window.bytes);
     }
-    hold(state, &core);
+    *state = *boxed(&core.state());
     // The counts of a census are the other function's.
     *ans = encode_answer(match &answer {
         Ans::Counts(_) => &Ans::Ok,
@@ -61,7 +83,7 @@ pub unsafe fn a72_step(
 /// # Safety
 /// As above.
 pub unsafe fn a72_census(
-    state: *const place::State,
+    core: *mut Handle,
     first: u64,
     pages: u64,
     counts: *mut Counts,
@@ -70,7 +92,7 @@ pub unsafe fn a72_census(
     ram_bytes: usize,
 ) -> u64 {
     let mut window = Ram::of(base, from_raw_parts(ram, ram_bytes).to_vec());
-    match held(&*state).step(&Op::Census(first, pages), &mut window) {
+    match held(words(core)).step(&Op::Census(first, pages), &mut window) {
         Ans::Counts(all) => {
             *counts = *all;
             DONE

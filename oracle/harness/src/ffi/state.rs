@@ -1,4 +1,4 @@
-//! A state as words; [`crate::place`] has the layout.
+//! A state as the words of a saved core; [`crate::place`] has the layout.
 use crate::place;
 use crate::state::{Entry, LevelCounters, State};
 use std::ops::Range;

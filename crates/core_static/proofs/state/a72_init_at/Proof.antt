@@ -1,4 +1,4 @@
--- `a72h_init` writes a core after reset where there is room for one.
+-- `a72_init_at` writes a core after reset where there is room for one.
 use Rattle.std.proofs.Common.{◌≡◌, [], ◌∷◌, refl}
 use Rattle.std.proofs.raw_atomic.Walks.{proved}
 use base.Fraction.{full_share}
@@ -29,15 +29,15 @@ use Rattle.mmu.specs.contracts.core_state.Core.{the_row as T}
 use Rattle.mmu.proofs.core_state.Core.TheLaws.{the_row_laws}
 use Rattle.mmu.specs.contracts.core_state.Core.new as g
 use Rattle.mmu.proofs.core_state.Core.new.Met.{met}
-use Rattle.core_static.specs.contracts.state.a72h_init as f
-use Rattle.core_static.proofs.state.a72h_init.Statement.{statement}
-use Rattle.core_static.proofs.state.a72h_init.Code as code
+use Rattle.core_static.specs.contracts.state.a72_init_at as f
+use Rattle.core_static.proofs.state.a72_init_at.Statement.{statement}
+use Rattle.core_static.proofs.state.a72_init_at.Code as code
 
 abbrev stayed : Stays f.ended.signature.params f.ended.kept
 stayed = (stay_dropped _ yes, tt)
 
-pub a72h_init_spec : {M : Type 1} → statement M
-a72h_init_spec 𝓤 𝓛 𝓜 𝓡 wired =
+pub a72_init_at_spec : {M : Type 1} → statement M
+a72_init_at_spec 𝓤 𝓛 𝓜 𝓡 wired =
     let c = f.clauses 𝓛 𝓜.mem 𝓡.returns in let W = walk_of 𝓛 f.ended stayed c in let 𝓣 = tables 𝓤 𝓛.H 𝓜 𝓡 𝓡.env in
     proved 𝓛 f.ended stayed c 𝓜 𝓡 (Goes-dropped 𝓛 0 (plain (λ _. RawPtr)) yes (λ κs x w. refl), tt)
     f.Key.name code.function (code.unfolded 𝓤 𝓛.H 𝓜 𝓡 wired)
