@@ -131,6 +131,10 @@ reported level pc r = record { target = r.target; ret = r.ret; report = report_o
 unfoldable pub sync_report : ℕ → ℕ → ℕ → ℕ → Exception → Reported
 sync_report level pc scr hcr e = reported (level % 2 ^ 2) pc (routed_to (origin_of level pc scr hcr) e)
 
+-- what its entry changes
+unfoldable pub sync_changes : ℕ → Flags → Reported → Taken
+sync_changes level f r = changes_of (level % 2 ^ 2) f r.target r.report r.ret
+
 -- and it is taken
 abbrev pub take_routed : ℕ → Flags → ℕ → SysRegs → Routed → Entered
 take_routed level f pc s r = take_exception level f s r.target (report_of level pc r) r.ret

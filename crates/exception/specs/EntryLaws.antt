@@ -15,7 +15,7 @@ use Rattle.exception.specs.Pstate.{spsr_of}
 use Rattle.exception.specs.Syndrome.{syndrome_of}
 use Rattle.exception.specs.Route.{default_target, smc_trapped, call_target, target_el, generated, routed_to}
 use Rattle.exception.specs.Entry.{same_el, entered_sys, register_after, of_entry, far_after, updated, given, entered_with, taken_to}
-use Rattle.exception.specs.Entry.{take_exception, origin_of, take_sync}
+use Rattle.exception.specs.Entry.{take_exception, origin_of, sync_report, sync_changes, take_sync}
 
 module _ (s : SysRegs) (target : El) (r : Report) (spsr ret : ℕ) where
   abbrev Holds : SysReg → Type 0
@@ -70,6 +70,12 @@ entered-report f s t = rw (far-as t.report.far)
     far-as : (far : Option ℕ) → updated t.target far s.far ≡ far_after t.target far s.far
     far-as (Some v) = refl
     far-as None = refl
+
+-- a synchronous exception is taken by what it changes
+pub take-changes : (level pc scr hcr : ℕ) (f : Flags) (s : SysRegs) (e : Exception)
+    → taken_to f s (sync_changes level f (sync_report level pc scr hcr e)) ≡ take_sync level f pc scr hcr s e
+unfolding sync_report sync_changes take_sync take_exception
+take-changes level pc scr hcr f s e = refl
 
 -- The target level.
 module _ (scr hcr pc : ℕ) where

@@ -1,7 +1,7 @@
 // Exception entry. A synchronous one takes a level modulo 4, as PSTATE.EL has two bits; levels are 0 to 3 below it.
 ghost use Rattle.std.specs.Prelude.{◌≡◌};
 ghost use Rattle.exception.specs.Entry.{vect_offset, updated, updated_sys, enter_of};
-ghost use Rattle.exception.specs.Entry.{sync_report, take_sync};
+ghost use Rattle.exception.specs.Entry.{sync_report, sync_changes, take_sync};
 
 use crate::flags::{DAIF_ALL, Flags, pstate};
 use crate::kind::Exception;
@@ -129,6 +129,21 @@ pub fn report_sync(level: u8, pc: u64, scr_el3: u64, hcr_el2: u64, e: Exception)
         target,
         ret: routed.ret,
         report: syndrome(routed.exception, el, target.index() as u8, pc),
+    }
+}
+
+// What its entry changes.
+#[tactic(auto, unfolding(crate::specs::Entry::sync_changes))]
+pub fn sync_changes(level: u8, flags: Flags, r: Reported) -> Taken
+    ensures { result ≡ sync_changes level flags r }
+{
+    let el = level % 4;
+    Taken {
+        target: r.target,
+        group: vector_group(el, r.target.index() as u8, flags.spsel),
+        spsr: pstate(el, flags),
+        ret: r.ret,
+        report: r.report,
     }
 }
 
