@@ -1,10 +1,9 @@
 -- A translation that no hint serves, as its changes: what it asks of the cache, its answer, where that came from, the entry that a walk
 -- made; and what becomes of the counters, the entry and the hint.
-use Rattle.std.specs.Prelude.{if◌then◌else◌, ℕ, Bool, true, false, Option, Ok, Err}
+use Rattle.std.specs.Prelude.{if◌then◌else◌, ℕ, Bool, true, false, Ok, Err}
 use Rattle.fault.specs.First.{first}
 use Rattle.walk.specs.Regime.{stage1_on, regime_of}
 use Rattle.walk.specs.Tag.{untagged}
-use Rattle.walk.specs.Walk.{walk_of}
 use Rattle.walk.specs.declared.{regime.Regime.Regime, regime.Bank.Bank, level.Leaf.Leaf}
 use Rattle.tlb.specs.Access.{tag_of, user_of, judged}
 use Rattle.tlb.specs.Entry.{blank, serves}

@@ -1,5 +1,5 @@
 -- One translation over small values, for any walk: the hint, or the changes of a translation that no hint serves, applied.
-use Rattle.std.specs.Prelude.{if◌then◌else◌, ℕ, Bool, true, false, ◌&&◌, ◌==◌, Option, Some, None, Ok}
+use Rattle.std.specs.Prelude.{if◌then◌else◌, ℕ, Bool, ◌&&◌, ◌==◌, Option, Some, None, Ok}
 use Rattle.walk.specs.Regime.{stage1_on, regime_of}
 use Rattle.walk.specs.Tag.{untagged}
 use Rattle.walk.specs.Walk.{walk_of}
