@@ -1,5 +1,5 @@
 -- A reply as a number and a word, and as four words.
-use Rattle.std.specs.Prelude.{if◌then◌else◌, List, [], ◌∷◌, ℕ, ◌+◌, ◌-◌, eqb, ltb}
+use Rattle.std.specs.Prelude.{List, [], ◌∷◌, ℕ, ◌+◌}
 use Rattle.word.specs.Bits.{flag}
 use Rattle.exception.specs.declared.{kind.Exception.Exception, kind.Stop.Stop}
 use Rattle.exception.specs.declared.kind.Exception.TheVariants.{Undefined, Svc, Hvc, Smc, Brk, DataAbort, InsnAbort, PcAlignment}
@@ -78,7 +78,3 @@ words_by (Value v) = four 1 v 0 0
 words_by Faults = four 2 0 0 0
 words_by (Fault addr f) = four 8 addr f.fsc 0
 words_by (Stopped s) = stop_words s
-
--- the words of a number: the answer's first two, a refusal's, or a fault's first two and its last
-abbrev pub words_from : ℕ → ℕ → ℕ → ℕ → ℕ → ℕ → List ℕ
-words_from n tag a fault b last = if eqb n 0 then four tag a 0 0 else if ltb n 256 then four 5 n 0 0 else four fault b (n - 256) last

@@ -1,8 +1,8 @@
 // A reply as a number and a word, and as four words.
 ghost use Rattle.std.specs.Prelude.{◌≡◌};
 ghost use Rattle.call_words.specs.Replies.{exception_code, stop_code, code_by, exception_value, stop_value, value_by};
-ghost use Rattle.call_words.specs.Replies.{exception_words, stop_words, words_by, words_from};
-ghost use Rattle.operations.specs.Replies.{loading, storing};
+ghost use Rattle.call_words.specs.Replies.{exception_words, stop_words, words_by};
+ghost use Rattle.operations.specs.Replies.{storing};
 
 use exception::kind::{Exception, Stop};
 use operations::call::Reply;
@@ -38,20 +38,7 @@ fn stopped(stop: Stop, ans: &mut u64) -> u64
     }
 }
 
-// The number of a load's or a store's answer, and in ans its value or the address of its data abort.
-pub fn loaded(answer: Result<u64, Stop>, ans: &mut u64) -> u64
-    ensures value { result ≡ code_by (loading answer) }
-    ensures ans_after { ans.new ≡ value_by (loading answer) ans.old }
-{
-    match answer {
-        Ok(v) => {
-            *ans = v;
-            0
-        }
-        Err(stop) => stopped(stop, ans),
-    }
-}
-
+// The number of a store's answer, and in ans the address of its data abort.
 pub fn stored(answer: Result<(), Stop>, ans: &mut u64) -> u64
     ensures value { result ≡ code_by (storing answer) }
     ensures ans_after { ans.new ≡ value_by (storing answer) ans.old }
@@ -59,20 +46,6 @@ pub fn stored(answer: Result<(), Stop>, ans: &mut u64) -> u64
     match answer {
         Ok(()) => 0,
         Err(stop) => stopped(stop, ans),
-    }
-}
-
-// The four words of a number: of what it did by its first two, of a fault by its first two and its last.
-pub fn words_by(n: u64, tag: u64, a: u64, fault: u64, b: u64, flag: u64) -> [u64; 4]
-    ensures { result ≡ words_from n tag a fault b flag }
-{
-    if n == 0 {
-        return [tag, a, 0, 0];
-    }
-    if n < 256 {
-        [5, n, 0, 0]
-    } else {
-        [fault, b, n - 256, flag]
     }
 }
 

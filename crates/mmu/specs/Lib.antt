@@ -6,9 +6,6 @@ pub mod Step
 pub mod Ops
 pub mod Hand
 -- Laws that the crates above cite.
-pub mod Parts
-pub mod Changes
-pub mod Pairs
 pub mod PageLaws
 pub mod PageGiven
 pub mod Says

@@ -3,12 +3,7 @@ use Rattle.std.specs.Prelude.{if◌then◌else◌, Option, Some, None, Ok, Err}
 use Rattle.std.proofs.Common.{◌≡◌, ℕ, zero, suc, ◌+◌, ◌-◌, ◌*◌, ◌/◌, ◌^◌, ◌<◌, ◌≤◌, Bool, true, false, ◌&&◌, leb, List, length, get_or, sym, refl, ap, ◌∙◌, pow-suc, arith, leb-true}
 use native.Mathlib.Nat.{pow-le-pow_right}
 use Rattle.word.specs.Ram.{little_endian, within, word_at, stored}
-use Rattle.walk.specs.Regime.{regime_of, stage1_on}
-use Rattle.tlb.specs.declared.access.Kind.{Kind}
-use Rattle.operations.specs.Change.{answered_of}
-use Rattle.operations.specs.Loads.{two_translations, both_of}
-use Rattle.operations.specs.declared.{change.Page.Page, change.Answered.Answered}
-use Rattle.operations.specs.Place.{crosses, byte_at, first_outside, verdict_of}
+use Rattle.operations.specs.Place.{byte_at, first_outside, verdict_of}
 use Rattle.operations.specs.Bytes.{byte_in, split_value, split_stored, got_by, load_of}
 use Rattle.operations.specs.BytesLaws.{stored-length}
 use Rattle.operations.specs.declared.place.Pages.{Pages}
@@ -126,12 +121,3 @@ module _ (base : ℕ) (ram : List ℕ) where
   pub whole-outside : (pa n : ℕ) (f : Bool) → f ≡ false → f ≡ within base (length ram) n pa → Err (outside_at 0 pa) ≡ verdict_of base (length ram) (Whole pa) n
   unfolding verdict_of
   whole-outside pa n f t e = rw (← e, t)
-
--- TWO PAGES: after a first that was allowed
-pub both_two : (x y : Page) (va n pa : ℕ) (kind : Kind) (memory : ℕ → Option ℕ) (f : Answered) (on b : Bool) → f ≡ answered_of x va kind memory
-    → on ≡ stage1_on x.lookup.bank (regime_of x.lookup.privilege.level) → b ≡ crosses on va n → f.answer ≡ Ok pa → b ≡ true
-    → two_translations (record { change = f.change; answer = Ok pa }) y va kind memory ≡ both_of x y va n kind memory
-unfolding both_of two_translations
-both_two x y va n pa kind memory f on b e o c a h =
-    let split : crosses (stage1_on x.lookup.bank (regime_of x.lookup.privilege.level)) va n ≡ true = rw (← o, ← c) h in
-    rw (← e, a, split)

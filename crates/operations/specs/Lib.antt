@@ -8,9 +8,6 @@ pub mod Bytes
 pub mod AtOnce
 pub mod Ends
 pub mod Replies
-pub mod Hinted
-pub mod Change
-pub mod Loads
 -- Laws that the crates above cite.
 pub mod PlaceLaws
 pub mod BytesLaws

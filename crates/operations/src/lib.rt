@@ -4,11 +4,8 @@
 // here.
 pub mod bytes;
 pub mod call;
-pub mod change;
 pub mod check;
 pub mod ends;
-pub mod hinted;
-pub mod loads;
 pub mod lookup;
 pub mod place;
 pub mod reply;

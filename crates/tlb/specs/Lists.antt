@@ -1,5 +1,5 @@
 -- Lists that stand for arrays: what holds of each element, an element after a store, a loop that maps every element. No list is unfolded.
-use Rattle.std.specs.Prelude.{if◌then◌else◌, ◌≡◌, ℕ, zero, suc, ◌+◌, ◌<◌, ◌≤◌, Bool, true, false, List, [], ◌∷◌, ◌++◌, map, length, take, drop, replicate, ◌==◌, slice_index_or, slice_set, refl}
+use Rattle.std.specs.Prelude.{if◌then◌else◌, ◌≡◌, ℕ, zero, suc, ◌+◌, ◌<◌, Bool, true, false, List, [], ◌∷◌, ◌++◌, map, length, take, drop, replicate, ◌==◌, slice_index_or, slice_set, refl}
 use Rattle.std.proofs.Common.{ap, add-one, not-suc-le-zero, le_of_suc-le-suc, eqb-true, get_or-set_same, get_or-set_other}
 use Rattle.std.proofs.lemmas.Bool.{eqb-false}
 
@@ -60,15 +60,6 @@ module _ {A : Type 0} where
   swept_step g (x ∷ l) d zero h = refl
   swept_step g (x ∷ l) d (suc i) h = ap {B = List A} (λ (k : List A). g x ∷ k) (swept_step g l d i (le_of_suc-le-suc h))
 
-  swept_all : (g : A → A) (l : List A) (n : ℕ) → length l ≤ n → swept g n l ≡ map g l
-  swept_all g [] zero h = refl
-  swept_all g [] (suc n) h = refl
-  swept_all g (x ∷ l) zero h = absurd (not-suc-le-zero h)
-  swept_all g (x ∷ l) (suc n) h = ap {B = List A} (λ (k : List A). g x ∷ k) (swept_all g l n (le_of_suc-le-suc h))
-
   pub sweep : (g : A → A) (l out : List A) (i : ℕ) (d e : A) → i < length l → out ≡ swept g i l → e ≡ g (slice_index_or out i d)
       → slice_set out i e ≡ swept g (i + 1) l
   sweep g l out i d e h o x = rw (x, o, add-one) (swept_step g l d i h)
-
-  pub sweep-end : (g : A → A) (l out : List A) (n i : ℕ) → length l ≡ n → n ≤ i → out ≡ swept g i l → out ≡ map g l
-  sweep-end g l out n i e h o = rw o (swept_all g l i (rw e h))

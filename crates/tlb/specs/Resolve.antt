@@ -1,10 +1,9 @@
 -- A translation that no hint serves, as its changes: what it asks of the cache, its answer, where that came from, the entry that a walk
 -- made; and what becomes of the counters, the entry and the hint.
-use Rattle.std.specs.Prelude.{if◌then◌else◌, ℕ, Bool, true, false, Option, Ok, Err}
+use Rattle.std.specs.Prelude.{if◌then◌else◌, ℕ, Bool, true, false, Ok, Err}
 use Rattle.fault.specs.First.{first}
 use Rattle.walk.specs.Regime.{stage1_on, regime_of}
 use Rattle.walk.specs.Tag.{untagged}
-use Rattle.walk.specs.Walk.{walk_of}
 use Rattle.walk.specs.declared.{regime.Regime.Regime, regime.Bank.Bank, level.Leaf.Leaf}
 use Rattle.tlb.specs.Access.{tag_of, user_of, judged}
 use Rattle.tlb.specs.Entry.{blank, serves}
@@ -65,15 +64,6 @@ by_walk (Err code) q privilege at va kind = record { answer = Err (first code); 
 -- by the entry, where it answers for the tag; else by the walk
 unfoldable pub resolve_with : Walked → Query → Privilege → Current → Entry → ℕ → Kind → Resolved
 resolve_with w q privilege at e va kind = if serves e at q.tag then by_entry q privilege e va kind else by_walk w q privilege at va kind
-
--- the same with the registers' own walk
-unfoldable pub resolve_of : Query → Bank → Privilege → Current → Entry → ℕ → Kind → (ℕ → Option ℕ) → Resolved
-resolve_of q s privilege at e va kind memory = resolve_with (walk_of s q.regime q.page memory) q privilege at e va kind
-
--- with stage 1 off the address itself
-abbrev pub changes_of : Asked → Bank → Privilege → Current → Entry → ℕ → Kind → (ℕ → Option ℕ) → Resolved
-changes_of Flat s privilege at e va kind memory = by_itself va
-changes_of (Of q) s privilege at e va kind memory = resolve_of q s privilege at e va kind memory
 
 -- a hit is counted where an entry answered, a walk where one was made, each at the level of the access: the mark does not lower it
 abbrev pub counted_by : Source → ℕ → Counts → Counts

@@ -1,5 +1,5 @@
 -- One translation as a step of the whole cache: its cells taken out, its translation, the cells put back.
-use Rattle.std.specs.Prelude.{if◌then◌else◌, ◌≡◌, ℕ, refl, Option, None}
+use Rattle.std.specs.Prelude.{if◌then◌else◌, ℕ, Option, None}
 use Rattle.walk.specs.Regime.{regime_of}
 use Rattle.walk.specs.declared.regime.Bank.{Bank}
 use Rattle.tlb.specs.Entry.{slot_of}
@@ -7,11 +7,10 @@ use Rattle.tlb.specs.Hint.{data_slot, hint_found}
 use Rattle.tlb.specs.Cache.{entry_at, hint_at, set_entry, set_hint, set_fetch}
 use Rattle.tlb.specs.Tlb.{tlb_with}
 use Rattle.tlb.specs.Access.{tag_of, may_hint}
-use Rattle.tlb.specs.Translate.{Translation, FetchTranslation, on_now, untagged_now, walk_now, miss_with, applied, translation_with, fetch_with, translation_of, fetch_of}
+use Rattle.tlb.specs.Translate.{Translation, FetchTranslation, on_now, untagged_now, walk_now, miss_with, applied, translation_with, fetch_with}
 use Rattle.tlb.specs.Resolve.{counted_by, kept_by}
 use Rattle.tlb.specs.Model.{Access}
 use Rattle.tlb.specs.declared.{access.Kind.Kind, access.Privilege.Privilege, resolve.Resolved.Resolved, Tlb.Tlb}
-use Rattle.tlb.specs.declared.access.Kind.TheVariants.{Fetch}
 
 -- the access that registers and tables make of an address
 abbrev pub access_of : Bank → Privilege → ℕ → Kind → (ℕ → Option ℕ) → Access
@@ -80,17 +79,3 @@ fetch_in a t =
 
 abbrev pub fetched_in : Access → Tlb → Tlb
 fetched_in a t = with_fetch t (slot_for a) (fetch_in a t)
-
--- the code's translation is that of its access
-pub translation-is : (s : Bank) (privilege : Privilege) (va : ℕ) (kind : Kind) (memory : ℕ → Option ℕ) (t : Tlb)
-    → translation_of s privilege t.cache.current t.counts (hint_at t.cache (data_slot va kind))
-    (entry_at t.cache (slot_for (access_of s privilege va kind memory))) va kind memory
-    ≡ translation_in (access_of s privilege va kind memory) t
-unfolding translation_of
-translation-is s privilege va kind memory t = refl
-
-pub fetch-is : (s : Bank) (privilege : Privilege) (va : ℕ) (memory : ℕ → Option ℕ) (t : Tlb)
-    → fetch_of s privilege t.cache.current t.counts t.cache.fetch (entry_at t.cache (slot_for (access_of s privilege va Fetch memory))) va memory
-    ≡ fetch_in (access_of s privilege va Fetch memory) t
-unfolding fetch_of
-fetch-is s privilege va memory t = refl

@@ -1,23 +1,20 @@
 -- One translation over small values, for any walk: the hint, or the changes of a translation that no hint serves, applied.
-use Rattle.std.specs.Prelude.{if◌then◌else◌, ◌≡◌, ℕ, Bool, true, false, ◌&&◌, ◌==◌, Option, Some, None, Ok}
-use Rattle.std.proofs.Math.Path.{refl}
-use Rattle.std.proofs.Common.{sym, ap, ◌∙◌}
+use Rattle.std.specs.Prelude.{if◌then◌else◌, ℕ, Bool, ◌&&◌, ◌==◌, Option, Some, None, Ok}
 use Rattle.walk.specs.Regime.{stage1_on, regime_of}
 use Rattle.walk.specs.Tag.{untagged}
 use Rattle.walk.specs.Walk.{walk_of}
 use Rattle.walk.specs.declared.{regime.Regime.Regime, regime.Bank.Bank}
 use Rattle.tlb.specs.Access.{may_hint}
 use Rattle.tlb.specs.Hint.{on_page, hint_key, fetch_found}
-use Rattle.tlb.specs.Resolve.{query_of, ask_with, ask_of, by_itself, resolve_with, resolve_of, changes_of, counted_by, kept_by, hint_after, fetch_after}
+use Rattle.tlb.specs.Resolve.{query_of, by_itself, resolve_with, counted_by, kept_by, hint_after, fetch_after}
 use Rattle.tlb.specs.declared.{entry.Entry.Entry, entry.Current.Current, access.Kind.Kind, hint.Hint.Hint}
 use Rattle.tlb.specs.declared.{hint.FetchHint.FetchHint, count.Counts.Counts}
-use Rattle.tlb.specs.declared.{access.Privilege.Privilege, resolve.Query.Query, resolve.Asked.Asked}
+use Rattle.tlb.specs.declared.{access.Privilege.Privilege}
 use Rattle.tlb.specs.declared.resolve.Resolved.{Resolved}
 use Rattle.tlb.specs.declared.access.Kind.TheVariants.{Fetch}
 use Rattle.tlb.specs.Answers.{Answer}
 use Rattle.tlb.specs.declared.resolve.Source.{Source}
 use Rattle.tlb.specs.declared.resolve.Source.TheVariants.{FromHint}
-use Rattle.tlb.specs.declared.resolve.Asked.TheVariants.{Flat, Of}
 use Rattle.walk.specs.Answers.{Walked}
 
 -- what a translation leaves, its answer, and where that came from
@@ -89,48 +86,3 @@ module _ (s : Bank) (level va : ℕ) where
 
   abbrev pub walk_now : (ℕ → Option ℕ) → Walked
   walk_now memory = walk_of s (regime_of level) untagged_now memory
-
-module _ (s : Bank) (privilege : Privilege) (at : Current) where
-  unfoldable pub miss_of : Entry → ℕ → Kind → (ℕ → Option ℕ) → Resolved
-  miss_of e va kind memory =
-      miss_with (on_now s privilege.level va) (untagged_now s privilege.level va) (walk_now s privilege.level va memory)
-      (regime_of privilege.level) privilege at e va kind
-
-  unfoldable pub translation_of : Counts → Hint → Entry → ℕ → Kind → (ℕ → Option ℕ) → Translation
-  translation_of k h e va kind memory =
-      translation_with (on_now s privilege.level va) (untagged_now s privilege.level va) (walk_now s privilege.level va memory)
-      (regime_of privilege.level) privilege at k h e va kind
-
-  unfoldable pub fetch_of : Counts → FetchHint → Entry → ℕ → (ℕ → Option ℕ) → FetchTranslation
-  fetch_of k f e va memory =
-      fetch_with (on_now s privilege.level va) (untagged_now s privilege.level va) (walk_now s privilege.level va memory)
-      (regime_of privilege.level) privilege at k f e va
-
-  -- the changes of what is asked
-  pub changes-are : (e : Entry) (va : ℕ) (kind : Kind) (memory : ℕ → Option ℕ)
-      → changes_of (ask_of s privilege va) s privilege at e va kind memory ≡ miss_of e va kind memory
-  unfolding ask_of miss_of miss_with resolve_of
-  changes-are e va kind memory = go (stage1_on s (regime_of privilege.level))
-    where
-      go : (on : Bool)
-          → changes_of (ask_with on (regime_of privilege.level) (untagged_now s privilege.level va)) s privilege at e va kind memory
-          ≡ miss_with on (untagged_now s privilege.level va) (walk_now s privilege.level va memory) (regime_of privilege.level) privilege at e va kind
-      go true = refl
-      go false = refl
-
--- what is asked is the query of the untagged address
-abbrev query_in : Query → Asked → Query
-query_in other Flat = other
-query_in other (Of q) = q
-
-pub asked-query : (s : Bank) (privilege : Privilege) (va : ℕ) (q : Query) → ask_of s privilege va ≡ Of q
-    → q ≡ query_of (regime_of privilege.level) (untagged_now s privilege.level va)
-unfolding ask_of
-asked-query s privilege va q e = sym (ap (query_in own) e) ∙ go (stage1_on s (regime_of privilege.level))
-  where
-    own : Query
-    own = query_of (regime_of privilege.level) (untagged_now s privilege.level va)
-
-    go : (on : Bool) → query_in own (ask_with on (regime_of privilege.level) (untagged_now s privilege.level va)) ≡ own
-    go true = refl
-    go false = refl

@@ -1,13 +1,11 @@
-// A translation that no hint serves, over small values, in two steps: what it asks of the cache, and its changes from
-// the cell so named.
+// A translation that no hint serves, over small values: what it asks of the cache, and the entry that it may leave
+// there.
 ghost use Rattle.std.specs.Prelude.{◌≡◌};
-ghost use Rattle.word.specs.Ram.{word_at};
 ghost use Rattle.walk.specs.Tag.{untagged};
-ghost use Rattle.walk.specs.Walk.{walk_of};
-ghost use Rattle.tlb.specs.Resolve.{query_of, ask_of, entry_for, by_entry, by_walk, resolve_of};
+ghost use Rattle.tlb.specs.Resolve.{query_of, ask_of, entry_for};
 
 use crate::access;
-use crate::access::{Kind, Privilege};
+use crate::access::Privilege;
 use crate::entry::{Current, Entry};
 use fault::Fault;
 use walk::level::Leaf;
@@ -84,70 +82,5 @@ pub fn entry_for(leaf: Leaf, at: Current, tag: u64) -> Entry
         global: leaf.global,
         asid: at.asid,
         pa: leaf.oa / 4096 * 4096,
-    }
-}
-
-// By a walk: a leaf becomes an entry and is judged, a fault makes none.
-#[tactic(auto, unfolding(crate::specs::Resolve::by_walk))]
-pub fn walked(
-    q: Query,
-    s: Bank,
-    privilege: Privilege,
-    at: Current,
-    va: u64,
-    kind: Kind,
-    base: u64,
-    ram: &[u8],
-) -> Resolved
-    ensures { result ≡ by_walk (walk_of s q.regime q.page
-        (word_at base ram.now 8)) q privilege at va kind }
-{
-    match walk::table::walk(s, q.regime, q.page, base, ram) {
-        Ok(leaf) => {
-            let made = entry_for(leaf, at, q.tag);
-            Resolved {
-                answer: made.judge(privilege.is_user(q.regime, kind), kind, va),
-                source: Source::FromWalk,
-                made,
-            }
-        }
-        Err(code) => Resolved {
-            answer: Err(fault::first(code)),
-            source: Source::NoLeaf,
-            made: Entry::blank(),
-        },
-    }
-}
-
-// By the entry, which is judged.
-pub fn by_entry(q: Query, privilege: Privilege, e: Entry, va: u64, kind: Kind) -> Resolved
-    ensures { result ≡ by_entry q privilege e va kind }
-{
-    Resolved {
-        answer: e.judge(privilege.is_user(q.regime, kind), kind, va),
-        source: Source::FromEntry,
-        made: Entry::blank(),
-    }
-}
-
-// By the entry that the query's tag names, or by a walk.
-#[tactic(auto, unfolding(crate::specs::Resolve::resolve_of, crate::specs::Resolve::resolve_with))]
-pub fn resolve(
-    q: Query,
-    s: Bank,
-    privilege: Privilege,
-    at: Current,
-    e: Entry,
-    va: u64,
-    kind: Kind,
-    base: u64,
-    ram: &[u8],
-) -> Resolved
-    ensures { result ≡ resolve_of q s privilege at e va kind (word_at base ram.now 8) }
-{
-    if e.serves(at, q.tag) {
-        by_entry(q, privilege, e, va, kind)
-    } else {
-        walked(q, s, privilege, at, va, kind, base, ram)
     }
 }
