@@ -17,7 +17,7 @@ use Rattle.mmu.specs.declared.core_state.Core.{Core}
 use Rattle.operations.specs.Answers.{Verdict}
 use Rattle.operations.specs.Place.{in_page, next_page, crosses, goes_on, placed_both}
 use Rattle.operations.specs.Bytes.{store_ram}
-use Rattle.operations.specs.AtOnce.{both_inside, both_stored}
+use Rattle.operations.specs.AtOnce.{both_inside, both_stored, pair_at}
 use Rattle.operations.specs.Ends.{data_abort, external, store_end, store_end_by, store_ram_end}
 use Rattle.operations.specs.declared.place.Pages.{Pages}
 use Rattle.operations.specs.declared.place.Place.TheVariants.{Split}
@@ -183,3 +183,10 @@ module _ (c : Core) (base : ℕ) (ram : List ℕ) (va n pa pa2 : ℕ) where
 -- a store that was made
 pub made : (c : Core) (base : ℕ) (ram : List ℕ) (va n v : ℕ) (f : Bool) (ys : List ℕ) → f ≡ true → PutTwo c base ram va n v f ys → PutTwo c base ram va n v true ys
 made c base ram va n v f ys e p = subst (λ (b : Bool). PutTwo c base ram va n v b ys) e p
+
+-- two bytes, one in each page
+pub pair-is : (p : Pages) (w : Width) → w ≡ Half → 0 < p.in_page → p.in_page < bytes_in w → p ≡ pair_at p.pa p.pa2
+pair-is p w e some few =
+    let small : p.in_page < 2 = subst (λ (x : Width). p.in_page < bytes_in x) e few in
+    let one : p.in_page ≡ 1 = omega arith in
+    ap (λ (n : ℕ). record p { in_page = n }) one

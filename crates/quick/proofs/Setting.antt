@@ -1,5 +1,5 @@
 -- What a register write and a setting leave, whatever RAM stands there.
-use Rattle.std.specs.Prelude.{◌≡◌, ◌%◌, ◌<◌, ◌≤◌, ◌==◌, ◌||◌, ◌∷◌, [], nat_lt, not, Bool, true, false, List, ℕ, zero, suc, Ok, Err}
+use Rattle.std.specs.Prelude.{◌≡◌, ◌<◌, ◌≤◌, ◌==◌, ◌||◌, ◌∷◌, [], nat_lt, not, Bool, true, false, ℕ, zero, suc, Ok, Err}
 use Rattle.std.proofs.Common.{refl, sym, ap, ◌∙◌, arith, le-ltb, lt-ltb, subst}
 use native.Mathlib.Nat.{mod-eq_of_lt}
 use Rattle.sysreg.specs.Write.{WriteAnswer}
@@ -11,9 +11,9 @@ use Rattle.exec.specs.Ops.{after_register_write, set_level, set_mark, abort_of}
 use Rattle.operations.specs.Check.{missed_of, first_of, kept, number_of}
 use Rattle.operations.specs.Replies.{registering}
 use Rattle.operations.specs.declared.check.Check.{Check}
-use Rattle.operations.specs.declared.call.Call.TheVariants.{Register, Level, Mark, General, Abort}
+use Rattle.operations.specs.declared.call.Call.TheVariants.{Register, Level, General, Abort}
 use Rattle.operations.specs.declared.call.Reply.TheVariants.{Refused, Done}
-use Rattle.cpu.specs.Step.{step_of, run_of, after_write, ends}
+use Rattle.cpu.specs.Step.{step_of, run_of, after_write}
 use Rattle.call_words.specs.Replies.{code_by, value_by}
 use Rattle.call_words.specs.Ops.{mark_call}
 use Rattle.call_words.specs.declared.op.DecodedCall.{DecodedCall}

@@ -1,4 +1,4 @@
-use Rattle.std.proofs.Common.{◌<◌, arith}
+use Rattle.std.proofs.Common.{arith}
 use Rattle.quick.proofs.Setting.{becomes, abort-set, abort-high}
 use Rattle.quick.proofs.settings.abort.Goals as goal
 
