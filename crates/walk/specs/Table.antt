@@ -1,7 +1,7 @@
 -- The VMSAv8-64 stage 1 translation table walk: DDI 0487, AArch64.TranslationTableWalk of ARMv8.0, with its variables' names. Written from
 -- knowledge of that pseudocode; the document itself was not at hand. x<hi:lo> is `field x lo (hi + 1 - lo)`.
 -- Where the pseudocode has something else, a comment names the row of docs/DIFFERENCES.md. Left out of it are: ns_table, and with it what it does to
--- not_global (M1), to the NS of the output (A6, M17) and to that of the descriptors' addresses (M17); reversedescriptors (A10); stage 2 of a descriptor's address (M3);
+-- nG (M1), to the NS of the output (A6, M17) and to that of the descriptors' addresses (M17); reversedescriptors (A10); stage 2 of a descriptor's address (M3);
 -- the contiguous bit (O4); a memory type (D3, D4, O7). What it leaves open is settled by B1, O1, O2 and O3.
 use Rattle.std.specs.Prelude.{if◌then◌else◌, Bool, true, false, not, ◌&&◌, ◌||◌, ℕ, zero, suc, ◌+◌, ◌-◌, ◌*◌, ◌/◌, ◌%◌, ◌^◌, min, max, eqb, ltb, Option, Some, None}
 use Rattle.word.specs.Bits.{bit_on, field, align_down}
@@ -197,7 +197,7 @@ permissions_one l desc =
 unfoldable pub leaf_permissions : Params → Lookup → ℕ → Permissions
 leaf_permissions p l desc = if p.singlepriv then permissions_one l desc else permissions_two l desc
 
--- with one privilege level not_global is zero. M1: in Secure EL1&0 not_global would be not_global OR ns_table
+-- with one privilege level nG is zero. M1: in Secure EL1&0 nG would be nG OR ns_table
 unfoldable pub leaf_translation : Params → ℕ → Lookup → ℕ → Translation
 leaf_translation p va l desc =
     record {

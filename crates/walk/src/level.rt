@@ -37,7 +37,7 @@ pub struct Leaf {
     pub desc: u64,
     pub perms: u8,
     pub level: u8,
-    // not_global clear: the same for every ASID
+    // nG clear: the same for every ASID
     pub global: bool,
 }
 
