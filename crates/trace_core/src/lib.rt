@@ -1,5 +1,6 @@
 #![tactic(auto)]
 // The core and its window of RAM, and what each line of a trace does to them.
+mod calls;
 pub mod edits;
 pub mod leaves;
 pub mod machine;

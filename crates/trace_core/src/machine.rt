@@ -1,6 +1,5 @@
 // The core, its window of RAM, and what a trace's lines do to them.
-use crate::{edits, leaves, memory};
-use call_words::reply;
+use crate::{calls, edits, leaves, memory};
 use core_calls::inspect;
 use digest::counts;
 use mmu::core_state::Core;
@@ -84,8 +83,7 @@ impl Machine {
         match operation {
             Operation::Call(Call::Census(first, pages)) => self.census(first, pages),
             Operation::Call(call) => {
-                let ram = self.ram.as_mut_slice();
-                reply::words(cpu::run::step(&mut self.core, self.base, ram, call))
+                calls::carry_out(&mut self.core, self.base, self.ram.as_mut_slice(), call)
             }
             Operation::Leaf(leaf) => {
                 leaves::answer(&self.core, leaf, self.base, self.ram.as_slice())

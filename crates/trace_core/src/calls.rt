@@ -1,0 +1,45 @@
+// A call on the core, by the function that C calls, and its answer in four words.
+use call_words::reply;
+use core_calls::memory;
+use mmu::core_state::Core;
+use operations::call::Call;
+use tlb::access::Kind;
+
+fn kind_number(kind: Kind) -> u64 {
+    match kind {
+        Kind::Read => 1,
+        Kind::Write => 2,
+        Kind::Fetch => 4,
+    }
+}
+
+pub fn carry_out(core: &mut Core, base: u64, ram: &mut [u8], call: Call) -> [u64; 4] {
+    let mut value = 0;
+    match call {
+        Call::Translate(kind, va) => {
+            let n = memory::translate(core, va, kind_number(kind), &mut value, base, ram);
+            reply::words_by(n, 1, value, 8, va, 0)
+        }
+        Call::DataPa(va) => {
+            let n = memory::data_pa(core, va, &mut value, base, ram);
+            reply::words_by(n, 1, value, 2, 0, 0)
+        }
+        Call::FetchPa(va) => {
+            let n = memory::fetch_pa(core, va, &mut value, base, ram);
+            reply::words_by(n, 1, value, 2, 0, 0)
+        }
+        Call::Load(va, size) => {
+            let n = memory::load(core, va, size, &mut value, base, ram);
+            reply::words_by(n, 1, value, 9, value, 0)
+        }
+        Call::Store(va, size, stored) => {
+            let n = memory::store(core, va, size, stored, &mut value, base, ram);
+            reply::words_by(n, 0, 0, 9, value, 1)
+        }
+        Call::Fetch(va) => {
+            let n = memory::fetch(core, va, &mut value, base, ram);
+            reply::words_by(n, 1, value, 10, va, 0)
+        }
+        _ => reply::words(cpu::run::step(core, base, ram, call)),
+    }
+}
