@@ -1,14 +1,13 @@
 #!/bin/sh
 # Writes ../docs/BENCHMARKS.md: builds `bench` with the library lib$A72_NAME.a of the folder $A72_LIB, counts instructions, times all
-# cases and reads the frames; about two minutes. FEATURE=harness/lent where the folder has liblent_bench.a too; NOTE is a sentence
-# about the run.
+# cases and reads the frames; about two minutes. NOTE is a sentence about the run.
 #   A72_LIB=/absolute/path/target/staticlib A72_NAME=a72abi ./benchmarks.sh
 set -eu
 cd "$(dirname "$0")"
 work=$(mktemp -d)
 trap 'rm -r "$work"' EXIT
 
-cargo build --offline --release -j1 --features "${FEATURE:-harness/rattle}" --target-dir target-rattle
+cargo build --offline --release -j1 --features harness/rattle --target-dir target-rattle
 bench=target-rattle/release/bench
 ./ir.sh $bench "$work/counts" >/dev/null
 $bench time 900 --counts "$work/counts" >"$work/table"
@@ -31,7 +30,7 @@ instructions a call. A ratio is the library's number by the Rust's.
 
 On the Rust's side pimu's own function, behind one call that is not inlined, with RAM as a slice at its quickest (one test of the window, then
 a load or store of the size). The checks 1 to 7 are not made there: pimu has none. A register write is `write_reg` with the scope's
-rule. On the library's side the exported function on the state's words, with its checks.
+rule. On the library's side the exported function on a core behind its handle, with its checks.
 
 So the library does more: it checks level, window, kind, size and range, and takes and gives numbers. For translations, loads, stores and censuses a third column has
 the *checked Rust*: the same function of pimu behind the library's own signature, with the same checks before it (`oracle/harness/src/bench/checked.rs`).
@@ -50,7 +49,7 @@ end. One argument of each call alternates between two values, so that a case sta
 | translation fault | the last table is empty, so no entry is ever made |
 | split | eight bytes cut in the middle and after seven, two bytes cut in the middle; both pages' hints serve |
 | TLBI | 1,024 live entries at the start |
-| lent | with FEATURE=harness/lent: a loop in `liblent_bench.a` over `lent::translate` on a core that is a local there, from a fresh one in each run; answers alone are compared |
+| lent | the translations of the same names again, under the bars of a core that was lent by reference inside the library |
 | census | 65,536 pages, from two addresses of one page; the Rust's side is a loop over `stage1_on`, `untag` and `walk` page by page into 129 counts; times and instructions are those of one page |
 | register write | TCR_EL1 between two values; TTBR0_EL1 between two ASIDs; VBAR_EL1; SCTLR_EL1 to what it is |
 
@@ -60,11 +59,11 @@ had 0.95 (translations) and 1.0 (loads and stores), entry hits of translations 1
 
 ## How it was run
 
-    tools/build a72abi && tools/build lent_bench
+    tools/build a72abi
     cd oracle
-    FEATURE=harness/lent A72_LIB=$PWD/../target/staticlib A72_NAME=a72abi ./benchmarks.sh
+    A72_LIB=$PWD/../target/staticlib A72_NAME=a72abi ./benchmarks.sh
 
-builds `bench` with the libraries, counts instructions (`ir.sh`: valgrind's callgrind, two runs of different length for each case and side), runs
+builds `bench` with the library, counts instructions (`ir.sh`: valgrind's callgrind, two runs of different length for each case and side), runs
 `bench time 900` in a thread of 2 MiB of stack, reads the frames (`stack.sh`) and writes this file. 900 runs of each side in turn, in six passes over
 all cases, each run of about 40 µs (of a census a tenth as many runs, of two calls each); the time of no call is subtracted. A call takes whole cycles, so that small ratios move in steps.
 TEXT

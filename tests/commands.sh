@@ -18,12 +18,12 @@ cp tools/said.sh tools/build tools/requires.awk "$here/tools"
 echo 'echo the places are one' >"$here/tests/places.sh"
 printf '#!/bin/sh\necho all is as counted\n' >"$here/tools/counts"
 chmod +x "$here/tools/counts"
-printf 'word:\na72: word io\nreplay: word\ncases: word\na72_static staticlib: word\n' >"$here/crates.txt"
+printf 'word:\na72: word io\nreplay: word\ncases: word\ncore_static staticlib: word\n' >"$here/crates.txt"
 echo 'kit of the test' >"$here/kit"
 : >"$here/crates/word/src/lib.rt"
-mkdir -p "$here/crates/a72_static/src" "$here/crates/a72_static/out"
-: >"$here/crates/a72_static/src/lib.rt"
-: >"$here/crates/a72_static/out/liba72_static.a"
+mkdir -p "$here/crates/core_static/src" "$here/crates/core_static/out"
+: >"$here/crates/core_static/src/lib.rt"
+: >"$here/crates/core_static/out/libcore_static.a"
 for name in a72 replay cases; do
     mkdir -p "$here/crates/$name/src" "$here/crates/$name/out"
     : >"$here/crates/$name/src/main.rt"
@@ -144,9 +144,9 @@ in_out 0 ./check && {
     hasnt out 'check: note'
     has out 'check: target/staticlib/liba72abi.a is linked'
 }
-mv crates/a72_static/out/liba72_static.a crates/a72_static/out/kept
+mv crates/core_static/out/libcore_static.a crates/core_static/out/kept
 in_out 1 ./check && { has err 'check: liba72abi.a is not linked'; last out '3 passed, 1 failed'; }
-mv crates/a72_static/out/kept crates/a72_static/out/liba72_static.a
+mv crates/core_static/out/kept crates/core_static/out/libcore_static.a
 echo 'another kit' >kit
 in_out 0 ./check && { has out 'check: note: this kit is..'; last out '3 passed, 0 failed'; }
 for code in 1 2; do

@@ -3,29 +3,20 @@ use crate::replay::Replay;
 use crate::rows::Words;
 use crate::stop::{Fault, Stop};
 use crate::{parts, rows};
+use core_parts::read;
 use record_report::difference::Difference;
 use std::io::Write;
-use tlb::Inval;
 use trace_core::machine::Machine;
 use trace_text::line::Operation;
 use word::bits;
-
-// What is pending for the other cores, and its page or ASID.
-fn pending(broadcast: Option<Inval>) -> (u64, u64) {
-    match broadcast {
-        None => (0, 0),
-        Some(Inval::All) => (1, 0),
-        Some(Inval::Page(page)) => (2, page),
-        Some(Inval::Asid(asid)) => (3, u64::from(asid)),
-    }
-}
 
 // Parts of the core, the numbers of entries and hints, and the digests, that of RAM last.
 fn core_words(machine: &Machine, ram: u64) -> [u64; rows::CORE] {
     let core = &machine.core;
     let levels = &core.tlb.counts.levels;
     let current = core.tlb.cache.current;
-    let (kind, value) = pending(core.tlb.broadcast);
+    let mut pending = [0; 2];
+    read::pending(core, &mut pending);
     let entries = digest::parts::entries(core);
     let hints = digest::parts::hints(core);
     [
@@ -40,8 +31,8 @@ fn core_words(machine: &Machine, ram: u64) -> [u64; rows::CORE] {
         core.tlb.counts.flushes,
         core.tlb.counts.drops,
         core.tlb.counts.epoch,
-        kind,
-        value,
+        pending[0],
+        pending[1],
         core.last_pa,
         core.abort_pa,
         machine.level(),

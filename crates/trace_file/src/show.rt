@@ -1,15 +1,15 @@
 // A line of output for an operation: its number in the trace, the operation, the answer, and the core after it.
+use core_parts::read;
 use counters_report::line::Levels;
 use digest::parts;
 use mmu::core_state::Core;
 use std::io::Write;
 use std::{fmt, io};
-use tlb::Inval;
 use trace_core::machine::Machine;
 use trace_text::line::Operation;
 use trace_text::write::Answer;
 
-// What the cache counted, and what is pending for the other cores: 0 nothing, 1 all, 2 a page, 3 an ASID.
+// What the cache counted, and what is pending for the other cores.
 #[derive(Clone, Copy)]
 struct Counts<'a>(&'a Core);
 
@@ -19,12 +19,9 @@ impl fmt::Display for Counts<'_> {
         write!(f, "{}", Levels(&counts.levels))?;
         write!(f, " fl={:x} dr={:x}", counts.flushes, counts.drops)?;
         write!(f, " ep={:x}", counts.epoch)?;
-        match self.0.tlb.broadcast {
-            None => write!(f, " bc=0:0"),
-            Some(Inval::All) => write!(f, " bc=1:0"),
-            Some(Inval::Page(page)) => write!(f, " bc=2:{page:x}"),
-            Some(Inval::Asid(asid)) => write!(f, " bc=3:{asid:x}"),
-        }
+        let mut pending = [0; 2];
+        read::pending(self.0, &mut pending);
+        write!(f, " bc={}:{:x}", pending[0], pending[1])
     }
 }
 
