@@ -12,6 +12,11 @@ use crate::raw;
 /// One core: its registers, its cache of translations and their counters, in 41,744 bytes of its own.
 ///
 /// It is `Send`, and not `Sync`: the library takes a core for its own as long as a call lasts, also where it only reads.
+///
+/// ```compile_fail
+/// fn shared<T: Sync>() {}
+/// shared::<a72::Core>();
+/// ```
 #[derive(Clone)]
 pub struct Core {
     pub(crate) held: Held,
