@@ -19,7 +19,7 @@ most() {
 }
 
 # What stands at the end, measured apart.
-kept=$(sed -n '/^## On a core behind a handle/,$p' ../docs/BENCHMARKS.md)
+kept=$(sed -n '/^## Before there was a handle/,$p' ../docs/BENCHMARKS.md)
 machine=$(sed -n 's/^model name[^:]*: //p' /proc/cpuinfo | head -n 1)
 {
     cat <<'TEXT'
