@@ -18,6 +18,8 @@ most() {
     sort -k"$1","$1"rn "$work/frames" | awk -v f="$1" 'NR == 1 { print $f " bytes (`" $3 "`)" }'
 }
 
+# What stands at the end, measured apart.
+kept=$(sed -n '/^## Before there was a handle/,$p' ../docs/BENCHMARKS.md)
 machine=$(sed -n 's/^model name[^:]*: //p' /proc/cpuinfo | head -n 1)
 {
     cat <<'TEXT'
@@ -80,5 +82,6 @@ TEXT
     echo
     echo "The deepest frame takes $(most 1), the deepest chain of calls $(most 2): pushes, the stack pointer's"
     echo "step and the return address of each function, summed along the calls. There is no recursion. All of the above ran in a thread of 2 MiB."
+    [ -z "$kept" ] || printf '\n%s\n' "$kept"
 } >../docs/BENCHMARKS.md
 tail -n 1 "$work/table"

@@ -14,11 +14,11 @@ def crates():
 
 
 def functions(crate):
-    """Each theorems' function of a crate, with the names of its clauses."""
+    """Each theorems' function of a crate, with the names of its clauses; a clause alone may have none."""
     path = ROOT / "crates" / crate / "src/theorems.rt"
     text = path.read_text() if path.exists() else ""
     parts = re.split(r"^pub fn (\w+)\(", text, flags=re.M)[1:]
-    return [(name, re.findall(r"^    ensures (\w+) \{", body, re.M)) for name, body in zip(parts[::2], parts[1::2])]
+    return [(name, [c.strip() for c in re.findall(r"^    ensures (\w+ )?\{", body, re.M)]) for name, body in zip(parts[::2], parts[1::2])]
 
 
 def answers(crate, function):
@@ -28,10 +28,20 @@ def answers(crate, function):
     imported = re.findall(r"^use Rattle\.(?!std\.)\S*?\.\{(.*?)\}", text, re.M)
     known = {name.strip() for names in imported for name in names.split(",")}
     given = dict(re.findall(r"^returns-clause-(\w+) \S+ =(.*?)(?=^pub|^returns|\Z)", text, re.M | re.S))
+    given.update(("", said) for said in re.findall(r"^returns \w+ = (\w\S*)$", text, re.M))
     for record in re.findall(r"^returns \S+ = record \{(.*?)\}", text, re.M | re.S):
         given.update(part.strip().split(" = ", 1) for part in record.split(";") if " = " in part)
     laws = {clause: [w for w in dict.fromkeys(re.findall(r"[\w-]+", said)) if w in known] for clause, said in given.items()}
-    return {clause: [w for w in found if w not in HANDED] or found for clause, found in laws.items()}
+    return using(crate, function) | {clause: [w for w in found if w not in HANDED] or found for clause, found in laws.items()}
+
+
+def using(crate, function):
+    """The laws that a function's own attribute names, where there is one for each clause, in their order."""
+    path = ROOT / "crates" / crate / "src/theorems.rt"
+    named = re.search(rf"using\(([^)]*)\)\)\]\npub fn {function}\(", path.read_text()) if path.exists() else None
+    laws = [law.strip().split("::")[-1] for law in named[1].split(",")] if named else []
+    stated = dict(functions(crate)).get(function, [])
+    return {clause: [law] for clause, law in zip(stated, laws)} if len(laws) == len(stated) else {}
 
 
 def cell(stated, laws):
@@ -40,7 +50,7 @@ def cell(stated, laws):
     for clause in stated:
         named = [law.replace("-", "_") for law in laws.get(clause, [])]
         if named:
-            parts.append(f"`{laws[clause][0]}`" if named == [clause] else f"{clause}: " + ", ".join(f"`{law}`" for law in laws[clause]))
+            parts.append(f"`{laws[clause][0]}`" if named in ([clause], [""]) or not clause else f"{clause}: " + ", ".join(f"`{law}`" for law in laws[clause]))
     return "; ".join(parts + ([", ".join(alone) + ": found"] if alone else []))
 
 
