@@ -14,6 +14,7 @@ use sysreg::write;
 use sysreg::write::WriteError;
 
 // A register write: the register, then the cache. One that is not done changes nothing.
+#[inline(always)]
 #[tactic(auto, unfolding(crate::specs::Ops::after_register_write, crate::specs::Ops::applied_of, crate::specs::Ops::with_regs, mmu::specs::Core::after_access))]
 pub fn write_register(core: &mut Core, key: u32, value: u64) -> Result<(), WriteError>
     ensures { record { core = core.new; answer = result } ≡ after_register_write core.old key value }
@@ -84,6 +85,7 @@ fn enter(core: &mut Core, t: Taken)
 }
 
 // A synchronous exception at the PC is routed, reported and taken.
+#[inline(always)]
 pub fn abort(core: &mut Core, e: Exception)
     ensures { core.new ≡ abort_of core.old e }
 {

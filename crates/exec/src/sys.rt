@@ -25,6 +25,7 @@ fn mair_of(sys: SysRegs, regime: Regime) -> u64
 }
 
 // AT: a fresh walk into PAR_EL1.
+#[inline(always)]
 #[tactic(auto, unfolding(crate::specs::Sys::at_of, crate::specs::Sys::with_par))]
 pub fn at(core: &mut Core, base: u64, ram: &[u8], form: AtForm, va: u64)
     ensures { core.new ≡ at_of core.old (word_at base ram.now 8) form va }

@@ -46,6 +46,7 @@ fn refusal(level: u8) -> SysOp
 
 // What SYS op1, CRn, CRm, op2 is at an exception level: Undefined or Unimplemented where the level has no such
 // operation.
+#[inline(always)]
 #[tactic(auto, unfolding(crate::specs::Op::decode_of, crate::specs::Op::named))]
 pub fn decode(level: u8, at: Encoding) -> SysOp
     ensures { result ≡ decode_of level at.op1 at.crn at.crm at.op2 }

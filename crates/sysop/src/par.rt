@@ -91,6 +91,7 @@ pub fn par_in(s: Bank, mair: u64, form: AtForm, va: u64, base: u64, ram: &[u8]) 
 }
 
 // PAR_EL1 after an AT of the form at va; mair is the MAIR of the form's regime.
+#[inline(always)]
 #[tactic(auto, unfolding(crate::specs::Par::at_par))]
 pub fn at_par(control: Control, mair: u64, form: AtForm, va: u64, base: u64, ram: &[u8]) -> u64
     ensures { result ≡ at_par control mair form va (word_at base ram.now 8) }

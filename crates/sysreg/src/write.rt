@@ -67,6 +67,7 @@ impl SysRegs {
 
 // A key that names no register kept is refused; else EL0 may write none; else the register is written. One that is
 // refused changes nothing.
+#[inline(always)]
 #[tactic(auto, unfolding(crate::specs::Write::write_reg))]
 pub fn write_reg(
     control: &mut Control,
