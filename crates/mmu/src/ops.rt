@@ -32,12 +32,12 @@ impl Core {
         self.tlb.at_hand(s, privilege, va, kind, base, ram)
     }
 
-    // A translation that needs a walk.
+    // A translation by a walk: where one is needed, the translation.
     #[inline(always)]
     #[tactic(auto, unfolding(crate::specs::Ops::past_hint_of, crate::specs::Step::past_hint_step, crate::specs::Core::after_access))]
     pub fn by_walk(&mut self, base: u64, ram: &[u8], va: u64, kind: Kind) -> Result<u64, Fault>
-        requires { NeedsWalkNow self.old (word_at base ram.now 8) va kind }
-        ensures { record { core = self.new; answer = result } ≡ past_hint_of self.old (word_at base ram.now 8) va kind }
+        ensures { NeedsWalkNow self.old (word_at base ram.now 8) va kind
+            → record { core = self.new; answer = result } ≡ past_hint_of self.old (word_at base ram.now 8) va kind }
     {
         let s = self.bank();
         let privilege = self.privilege;

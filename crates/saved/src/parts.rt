@@ -136,7 +136,7 @@ pub fn fetch_at(words: &Saved) -> FetchHint
     }
 }
 
-pub fn hint_at(words: &Saved, i: usize) -> Hint
+pub(crate) fn hint_at(words: &Saved, i: usize) -> Hint
     requires { i < 512 }
     ensures { result ≡ hint_in (word words.now) i }
 {
@@ -146,7 +146,7 @@ pub fn hint_at(words: &Saved, i: usize) -> Hint
     }
 }
 
-pub fn entry_at(words: &Saved, j: usize) -> Entry
+pub(crate) fn entry_at(words: &Saved, j: usize) -> Entry
     requires { j < 1024 }
     ensures { result ≡ entry_in (word words.now) j }
 {

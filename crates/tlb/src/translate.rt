@@ -16,7 +16,7 @@ use walk::regime::{Bank, Regime};
 impl Tlb {
     ghost use Rattle.tlb.specs.Step.{access_of, stored, miss_in, after_miss, hint_in, past_hint_in, after_past_hint};
     ghost use Rattle.tlb.specs.Step.{translation_in, tlb_after, fetch_in, fetched_in};
-    ghost use Rattle.tlb.specs.Hand.{Handed, AfterHanded, Ready, AfterReady, NeedsWalk, hinted_by};
+    ghost use Rattle.tlb.specs.Hand.{Handed, AfterHanded, Ready, AfterReady, NeedsWalk, walked_by, hinted_by};
 
     // By a walk: a leaf becomes an entry and is judged, a fault makes none.
     #[inline(always)]
@@ -145,7 +145,8 @@ impl Tlb {
         }
     }
 
-    // A translation that needs a walk. It leaves a hint, where one may serve.
+    // A translation by a walk, whatever is at hand: where a walk is needed, the translation. It leaves a hint, where one
+    // may serve.
     #[inline(always)]
     #[tactic(auto, unfolding(crate::specs::Translate::applied))]
     pub fn by_walk(
@@ -157,10 +158,11 @@ impl Tlb {
         base: u64,
         ram: &[u8],
     ) -> Result<u64, Fault>
-        requires { NeedsWalk (access_of s privilege va kind (word_at base ram.now 8)) self.old }
-        ensures answer { result
-            ≡ (past_hint_in (access_of s privilege va kind (word_at base ram.now 8)) self.old).answer }
-        ensures after { self.new ≡ after_past_hint (access_of s privilege va kind (word_at base ram.now 8)) self.old }
+        ensures walked { result ≡ (walked_by (access_of s privilege va kind (word_at base ram.now 8)) self.old).answer }
+        ensures answer { NeedsWalk (access_of s privilege va kind (word_at base ram.now 8)) self.old
+            → result ≡ (past_hint_in (access_of s privilege va kind (word_at base ram.now 8)) self.old).answer }
+        ensures after { NeedsWalk (access_of s privilege va kind (word_at base ram.now 8)) self.old
+            → self.new ≡ after_past_hint (access_of s privilege va kind (word_at base ram.now 8)) self.old }
     {
         let q = resolve::query_of(s, Regime::of_level(privilege.level), va);
         let answer = self.walk(q, s, privilege, va, kind, base, ram);
