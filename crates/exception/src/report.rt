@@ -59,6 +59,7 @@ fn data_status(write: bool, fsc: u8) -> u16
 }
 
 // ESR_ELx and FAR_ELx of an exception at the PC, taken from one level to another.
+#[inline(always)]
 #[tactic(auto, unfolding(crate::specs::Syndrome::syndrome_of))]
 pub fn syndrome(e: Exception, from: u8, to: u8, pc: u64) -> Report
     ensures { result ≡ syndrome_of e from to pc }
