@@ -66,6 +66,7 @@ fn comes_from_lower(from: u8, to: u8) -> bool
 }
 
 // ESR_ELx and FAR_ELx of an exception at the PC, taken from one level to another.
+#[inline(always)]
 #[tactic(auto, unfolding(crate::specs::Syndrome::syndrome_of))]
 pub fn syndrome(e: Exception, from: u8, to: u8, pc: u64) -> Report
     ensures { result ≡ syndrome_of e from to pc }

@@ -104,6 +104,7 @@ fn route_smc(o: Origin, imm: u16) -> Routed
 }
 
 // An exception is taken as it is, or as UNDEFINED. A call returns past itself, the others to their instruction.
+#[inline(always)]
 #[tactic(auto, unfolding(crate::specs::Route::routed_to))]
 pub fn route(o: Origin, e: Exception) -> Routed
     ensures { result ≡ routed_to o e }

@@ -112,6 +112,7 @@ pub fn enter(
 }
 
 // A synchronous exception at the PC is routed and reported.
+#[inline(always)]
 #[tactic(auto, unfolding(crate::specs::Entry::sync_report))]
 pub fn report_sync(level: u8, pc: u64, scr_el3: u64, hcr_el2: u64, e: Exception) -> Reported
     ensures { result ≡ sync_report level pc scr_el3 hcr_el2 e }
@@ -133,6 +134,7 @@ pub fn report_sync(level: u8, pc: u64, scr_el3: u64, hcr_el2: u64, e: Exception)
 }
 
 // What its entry changes.
+#[inline(always)]
 #[tactic(auto, unfolding(crate::specs::Entry::sync_changes))]
 pub fn sync_changes(level: u8, flags: Flags, r: Reported) -> Taken
     ensures { result ≡ sync_changes level flags r }

@@ -77,6 +77,7 @@ fn leaf_par(mair: u64, ns: bool, form: AtForm, leaf: Leaf) -> u64
 }
 
 // PAR by the registers of the form's regime.
+#[inline(always)]
 #[tactic(auto, unfolding(crate::specs::Par::par_in), using(crate::proofs::Pars::low_leaf))]
 pub fn par_in(s: Bank, mair: u64, form: AtForm, va: u64, base: u64, ram: &[u8]) -> u64
     ensures { result ≡ par_in s mair form va (word_at base ram.now 8) }
