@@ -1,4 +1,5 @@
-// What holds of every zeroing, AT, register write and TLBI. Each function computes nothing: its contract is the theorem.
+// What holds of every zeroing, AT, register write and TLBI. Each function computes nothing: its contract is the
+// theorem.
 ghost use Rattle.mmu.specs.declared.core_state.Core.{Core};
 ghost use Rattle.exec.specs.Cases.{Attributes, Refits, Invalidations};
 ghost use Rattle.exec.specs.ZeroMeaning.{LineZeroed, ZvaZeroes};
@@ -24,8 +25,8 @@ pub fn effect_of_register_writes()
     ensures refits { (c : Core) → Refits c }
 {}
 
-// What TLBI VMALLE1, VAE1 and ASIDE1 count and leave pending for the other cores, computed on every core. It rules out a
-// TLBI that drops nothing, and local forms that are broadcast in place of the Inner Shareable ones.
+// What TLBI VMALLE1, VAE1 and ASIDE1 count and leave pending for the other cores, computed on every core. It rules
+// out a TLBI that drops nothing, and local forms that are broadcast in place of the Inner Shareable ones.
 pub fn effect_of_invalidations()
     ensures invalidations { (c : Core) → Invalidations c }
 {}

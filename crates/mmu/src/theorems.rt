@@ -48,9 +48,9 @@ pub fn bytes_at_their_own_addresses()
     ensures others_stay { StoreLeavesOthers }
 {}
 
-// General registers: what is written to one of the 31 is read from it, X30 too, and the others stay; register 31 reads as
-// zero and drops what is written. Of every core, and in numbers. It rules out writes of X30 that are dropped, and a
-// register 31 that reads X30.
+// General registers: what is written to one of the 31 is read from it, X30 too, and the others stay; register 31
+// reads as zero and drops what is written. Of every core, and in numbers. It rules out writes of X30 that are
+// dropped, and a register 31 that reads X30.
 pub fn general_registers()
     ensures written { ReadsWhatIsWritten }
     ensures last_written { LastIsWritten }
@@ -62,16 +62,16 @@ pub fn general_registers()
     ensures neighbours { NeighbourRows }
 {}
 
-// Who sets the physical addresses that the core keeps: `last_pa` a load alone, `abort_pa` a load, a store or a fetch. It
-// rules out a translation or a question where an access would go that leaves its answer there.
+// Who sets the physical addresses that the core keeps: `last_pa` a load alone, `abort_pa` a load, a store or a fetch.
+// It rules out a translation or a question where an access would go that leaves its answer there.
 pub fn setters_of_addresses()
     ensures last { OnlyLoadsSetLast }
     ensures abort { TranslationsKeepAbort }
 {}
 
-// Which physical addresses an access leaves: in `last_pa` a load's what its own address translates to, also where it then
-// aborts; in `abort_pa` what the failing byte's own address translates to. It rules out a `last_pa` that is the failing
-// byte's, and an abort that leaves `abort_pa`.
+// Which physical addresses an access leaves: in `last_pa` a load's what its own address translates to, also where it
+// then aborts; in `abort_pa` what the failing byte's own address translates to. It rules out a `last_pa` that is the
+// failing byte's, and an abort that leaves `abort_pa`.
 pub fn addresses_left()
     ensures own_first { LoadsLeaveOwnFirst }
     ensures load_failing { LoadLeavesFailing }

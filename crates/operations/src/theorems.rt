@@ -81,9 +81,9 @@ pub fn worked_places()
     ensures faults { FaultRows }
 {}
 
-// Loads, stores and fetches in numbers, on one page and on two: what the core keeps, the value or the abort, and RAM. It
-// rules out an abort after which `last_pa` is the failing byte's, a store's abort that leaves `abort_pa`, and a fetch
-// that reads two bytes.
+// Loads, stores and fetches in numbers, on one page and on two: what the core keeps, the value or the abort, and RAM.
+// It rules out an abort after which `last_pa` is the failing byte's, a store's abort that leaves `abort_pa`, and a
+// fetch that reads two bytes.
 pub fn worked_ends()
     ensures loads { LoadRows }
     ensures stores { StoreRows }

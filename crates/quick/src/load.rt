@@ -96,7 +96,8 @@ fn ended(
     base: u64,
     ram: &[u8],
 ) -> u64
-    ensures { Tells (after_load (ended_of core.old answer base ram.now va (bytes_in width))) ans.old result ans.new core.new }
+    ensures { Tells (after_load (ended_of core.old answer base ram.now va (bytes_in width)))
+        ans.old result ans.new core.new }
 {
     match answer {
         Ok(pa) => {

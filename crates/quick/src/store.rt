@@ -61,7 +61,8 @@ fn rest(
     base: u64,
     ram: &mut [u8],
 ) -> u64
-    ensures tells { Tells (step_of core.old base ram.old (Call.Store va (bytes_in width) value)) ans.old result ans.new core.new }
+    ensures tells { Tells (step_of core.old base ram.old (Call.Store va (bytes_in width) value))
+        ans.old result ans.new core.new }
     ensures ram { ram.new ≡ ram_after core.old base ram.old (Call.Store va (bytes_in width) value) }
 {
     if core.privilege.level < 4 {
@@ -154,7 +155,8 @@ fn by_walk(
     requires near { bytes_in width ≤ in_page va }
     requires no_hint { hint_in core.old.privilege va Write core.old.tlb ≡ None }
     requires needs_walk { NeedsWalkNow core.old (word_at base ram.old 8) va Write }
-    ensures tells { Tells (step_of core.old base ram.old (Call.Store va (bytes_in width) value)) ans.old result ans.new core.new }
+    ensures tells { Tells (step_of core.old base ram.old (Call.Store va (bytes_in width) value))
+        ans.old result ans.new core.new }
     ensures ram { ram.new ≡ ram_after core.old base ram.old (Call.Store va (bytes_in width) value) }
 {
     let answer = core.by_walk(base, ram, va, Kind::Write);
@@ -222,7 +224,8 @@ fn past_hint(
     requires clear { Clear core.old base (length ram.old) }
     requires near { bytes_in width ≤ in_page va }
     requires no_hint { hint_in core.old.privilege va Write core.old.tlb ≡ None }
-    ensures tells { Tells (step_of core.old base ram.old (Call.Store va (bytes_in width) value)) ans.old result ans.new core.new }
+    ensures tells { Tells (step_of core.old base ram.old (Call.Store va (bytes_in width) value))
+        ans.old result ans.new core.new }
     ensures ram { ram.new ≡ ram_after core.old base ram.old (Call.Store va (bytes_in width) value) }
 {
     match core.at_hand(base, ram, va, Kind::Write) {
@@ -318,7 +321,8 @@ fn store_as(
     base: u64,
     ram: &mut [u8],
 ) -> u64
-    ensures tells { Tells (step_of core.old base ram.old (Call.Store va (bytes_in width) value)) ans.old result ans.new core.new }
+    ensures tells { Tells (step_of core.old base ram.old (Call.Store va (bytes_in width) value))
+        ans.old result ans.new core.new }
     ensures ram { ram.new ≡ ram_after core.old base ram.old (Call.Store va (bytes_in width) value) }
 {
     if 3 < core.privilege.level {

@@ -31,7 +31,8 @@ fn clear(core: &Core, base: u64, ram: &mut [u8], va: u64) -> bool
 
 // DC ZVA: by one hint, or by its eight stores.
 fn zva(core: &mut Core, ans: &mut u64, base: u64, ram: &mut [u8], x: u64) -> u64
-    ensures tells { Tells (after_store (zero_of 8 core.old base ram.old (align_down x 6))) ans.old result ans.new core.new }
+    ensures tells { Tells (after_store (zero_of 8 core.old base ram.old (align_down x 6)))
+        ans.old result ans.new core.new }
     ensures ram { ram.new ≡ zero_ram 8 core.old base ram.old (align_down x 6) }
 {
     if clear(core, base, ram, x - x % 64) {

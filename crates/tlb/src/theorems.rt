@@ -70,10 +70,10 @@ pub fn counters_of_translations()
 {}
 
 // Worked runs, the same rows in numbers of the cache and of the plain model: a 2 MiB block and its invalidations,
-// accesses at several levels, which pages share a slot or a hint's place, what a Page and an Asid cover, which right each
-// access needs, the fetch hint, and what is pending. They rule out hints that outlive an invalidation, and a slot, a
-// place, a span, a mask or a right of other bits, a mark that counts for a fetch, and a broadcast that forgets an earlier
-// one, in code, definition and plain model alike.
+// accesses at several levels, which pages share a slot or a hint's place, what a Page and an Asid cover, which right
+// each access needs, the fetch hint, and what is pending. They rule out hints that outlive an invalidation, and a
+// slot, a place, a span, a mask or a right of other bits, a mark that counts for a fetch, and a broadcast that
+// forgets an earlier one, in code, definition and plain model alike.
 pub fn worked_runs()
     ensures block { WorkedRun }
     ensures levels { WorkedAtLevels }

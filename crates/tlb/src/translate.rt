@@ -145,8 +145,8 @@ impl Tlb {
         }
     }
 
-    // A translation by a walk, whatever is at hand: where a walk is needed, the translation. It leaves a hint, where one
-    // may serve.
+    // A translation by a walk, whatever is at hand: where a walk is needed, the translation. It leaves a hint, where
+    // one may serve.
     #[inline(always)]
     #[tactic(auto, unfolding(crate::specs::Translate::applied))]
     pub fn by_walk(
