@@ -7,22 +7,23 @@
  * variable (a72_memory). a72_init makes a core there and gives the a72_core * that each function takes. The memory
  * stays where it is and is written by nobody else as long as the core is used, and there is nothing to release: it is
  * freed or used otherwise as any memory. a72_copy copies a core; so do a72_save and a72_restore, by numbered words
- * for a file or another program.
+ * for a file or another program. Memory copied by assignment, memcpy or realloc is no core: it leads to the old one.
+ * a72_init takes some 8 KiB of stack, every other function about 1 KiB.
  *
  * RAM. A function that needs memory is lent a window of it: `base`, the physical address of its first byte, then
  * `ram` and `len`, its bytes and their number. What lies outside the window is an external abort (status 0x10; on a
  * table walk 0x14 to 0x17). Memory is little-endian.
  *
  * What is asked. The core is one that a72_init or a72_copy made, and one call at a time uses it: the library takes it
- * for its own as long as a call lasts, also where it only reads, so no core is const. No pointer is null, each is to
- * as much memory as is said, and what a function writes overlaps nothing else that it is lent. Of values nothing is
- * asked: whatever numbers, words and bytes stand there, each function ends and stays inside. Cores in several threads
- * are independent; several cores over one window take turns.
+ * for its own as long as a call lasts, also where it only reads, so no core is const. No pointer is null, `ram`
+ * neither where `len` is 0; each is to as much memory as is said, and what a function writes overlaps nothing else
+ * that it is lent. Of values nothing is asked: whatever numbers, words and bytes stand there, each function ends and
+ * stays inside. Cores in several threads are independent; several cores over one window take turns.
  *
  * Numbers. Each function that may be refused gives a number: A72_DONE, that of a check that the call misses,
  * A72_NAMES_NOTHING, A72_UNDEFINED, A72_UNIMPLEMENTED, or A72_FAULT plus the status of a fault. From 1 to 66 nothing
- * is written: not the core, not RAM, not the answer's word or counts. A fault has been taken by nobody: a72_abort
- * takes it.
+ * is written: not the core, not RAM, not the answer's word or counts. Where a fault's address is not said to stand in
+ * *ans, *ans stays. A fault has been taken by nobody: a72_abort takes it.
  */
 #ifndef A72_H
 #define A72_H
@@ -72,7 +73,7 @@ static inline a72_core *a72_copy(void *memory, const a72_core *core) {
 
 /* ---- Saved cores: words, and where each part of a core stands among them ---- */
 
-/* Places never move: new words are appended, and A72_WORDS grows. Words 70 and 71 hold nothing: 0 is saved there,
+/* Places never move: new words are appended, and A72_WORDS grows, so header and archive are of one version. Words 70 and 71 hold nothing: 0 is saved there,
  * and they are not read. */
 #define A72_WORDS 5213
 
@@ -179,7 +180,7 @@ static inline uint8_t a72_status(uint64_t number) { return (uint8_t)(number - A7
 
 #define A72_MOST_PAGES 65536
 
-/* An exception, four words: its code and what is said beside it; all else is 0. */
+/* An exception, four words: its code and what is said beside it; the others are not read. */
 #define A72_EXCEPTION_UNDEFINED 0
 #define A72_EXCEPTION_SVC 1        /* immediate, 16 bits; HVC, SMC and BRK the same */
 #define A72_EXCEPTION_HVC 2
@@ -260,7 +261,8 @@ uint64_t a72_system(a72_core *core, uint64_t op1, uint64_t crn, uint64_t crm, ui
 /* Writes a system register by its key: its mask applies, and the cache forgets what the write unsettles. */
 uint64_t a72_register(a72_core *core, uint64_t key, uint64_t value);
 
-/* Sets the present level, 0 to 3. */
+/* Sets the present level, 0 to 3. Refused where the present one is above 3 (of words restored): a72_restore or
+ * a72_init mends that. */
 uint64_t a72_level(a72_core *core, uint64_t level);
 
 /* Marks the accesses that follow as unprivileged (LDTR, STTR): 0 or 1. */
