@@ -73,8 +73,8 @@ static inline a72_core *a72_copy(void *memory, const a72_core *core) {
 
 /* ---- Saved cores: words, and where each part of a core stands among them ---- */
 
-/* Places never move: new words are appended, and A72_WORDS grows, so header and archive are of one version. Words 70 and 71 hold nothing: 0 is saved there,
- * and they are not read. */
+/* Places never move: new words are appended, and A72_WORDS grows, so header and archive are of one version. Words 70
+ * and 71 hold nothing: 0 is saved there, and they are not read. */
 #define A72_WORDS 5213
 
 typedef uint64_t a72_saved[A72_WORDS];
