@@ -13,32 +13,44 @@ fn kind_number(kind: Kind) -> u64 {
     }
 }
 
+// The answer of a call that gave the number n: where it is done, a code and a value; where it faults, a code, an address
+// and whether it is a write.
+fn answered(n: u64, done: [u64; 2], fault: u64, addr: u64, write: u64) -> [u64; 4] {
+    if n == 0 {
+        [done[0], done[1], 0, 0]
+    } else if n < 256 {
+        [5, n, 0, 0]
+    } else {
+        [fault, addr, n - 256, write]
+    }
+}
+
 pub fn carry_out(core: &mut Core, base: u64, ram: &mut [u8], call: Call) -> [u64; 4] {
     let mut value = 0;
     match call {
         Call::Translate(kind, va) => {
             let n = memory::translate(core, va, kind_number(kind), &mut value, base, ram);
-            reply::words_by(n, 1, value, 8, va, 0)
+            answered(n, [1, value], 8, va, 0)
         }
         Call::DataPa(va) => {
             let n = memory::data_pa(core, va, &mut value, base, ram);
-            reply::words_by(n, 1, value, 2, 0, 0)
+            answered(n, [1, value], 2, 0, 0)
         }
         Call::FetchPa(va) => {
             let n = memory::fetch_pa(core, va, &mut value, base, ram);
-            reply::words_by(n, 1, value, 2, 0, 0)
+            answered(n, [1, value], 2, 0, 0)
         }
         Call::Load(va, size) => {
             let n = memory::load(core, va, size, &mut value, base, ram);
-            reply::words_by(n, 1, value, 9, value, 0)
+            answered(n, [1, value], 9, value, 0)
         }
         Call::Store(va, size, stored) => {
             let n = memory::store(core, va, size, stored, &mut value, base, ram);
-            reply::words_by(n, 0, 0, 9, value, 1)
+            answered(n, [0, 0], 9, value, 1)
         }
         Call::Fetch(va) => {
             let n = memory::fetch(core, va, &mut value, base, ram);
-            reply::words_by(n, 1, value, 10, va, 0)
+            answered(n, [1, value], 10, va, 0)
         }
         _ => reply::words(cpu::run::step(core, base, ram, call)),
     }
