@@ -3,7 +3,7 @@ ghost use Rattle.std.specs.Prelude.{◌≡◌, ◌*◌, ◌<◌, ◌≤◌, min}
 
 use crate::letter;
 use core_calls::inspect;
-use mmu::core_state::Core;
+use cpu::Core;
 
 // Where the range starts, its pages, the pages of a cell and the number of cells.
 #[derive(Clone, Copy)]

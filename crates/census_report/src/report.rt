@@ -3,7 +3,7 @@ use crate::grid::Grid;
 use crate::head::Title;
 use crate::{draw, grid, letter, map, table};
 use core_calls::inspect;
-use mmu::core_state::Core;
+use cpu::Core;
 use std::alloc::Global;
 use std::io::Write;
 use std::{fmt, io};

@@ -1,6 +1,6 @@
 // The board: tables, frames and pages in RAM, and what the firmware does to them at note-on and note-off.
 use core_calls::{memory, settings, step};
-use mmu::core_state::Core;
+use cpu::Core;
 use tlb::access::Kind;
 use tlb::hint;
 use word::ram;

@@ -1,7 +1,7 @@
 // The keys that are held: which frame each voice has and which tone it is to give, and whether it is heard.
 use crate::board;
 use crate::board::Off;
-use mmu::core_state::Core;
+use cpu::Core;
 
 #[derive(Clone, Copy)]
 pub struct Desk {

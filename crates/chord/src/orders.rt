@@ -4,7 +4,7 @@ use crate::board::Off;
 use crate::hold::{Desk, Heard};
 use crate::note::Note;
 use crate::{board, hold};
-use mmu::core_state::Core;
+use cpu::Core;
 use std::io::Write;
 use std::{fmt, io};
 

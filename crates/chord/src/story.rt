@@ -4,7 +4,7 @@ use crate::board::Off;
 use crate::hold::Heard;
 use crate::orders::Tally;
 use crate::{orders, sixteen};
-use mmu::core_state::Core;
+use cpu::Core;
 use std::io::Write;
 use std::{fmt, io};
 

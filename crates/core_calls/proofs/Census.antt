@@ -9,7 +9,7 @@ use Rattle.census.specs.Count.{census_of}
 use Rattle.operations.specs.Check.{missed_of}
 use Rattle.operations.specs.declared.call.Call.TheVariants.{Census}
 use Rattle.operations.specs.declared.call.Reply.TheVariants.{Refused}
-use Rattle.mmu.specs.declared.core_state.Core.{Core}
+use Rattle.cpu.specs.declared.Core.{Core}
 use Rattle.cpu.specs.Step.{ends, refused_or, missed_by, run_of, step_of}
 use Rattle.cpu.specs.Inspect.{counts_of, counts_after}
 use Rattle.history.specs.Calls.{Lent}

@@ -1,7 +1,7 @@
 -- How a promise is met: by the call's exact definition.
 use Rattle.std.specs.Prelude.{◌≡◌, List, ℕ, true}
 use Rattle.std.proofs.Common.{refl, ap, ◌∙◌, arith}
-use Rattle.mmu.specs.declared.core_state.Core.{Core}
+use Rattle.cpu.specs.declared.Core.{Core}
 use Rattle.operations.specs.declared.{call.Call.Call, call.Reply.Reply}
 use Rattle.cpu.specs.Step.{Stepped, step_of, ram_after}
 use Rattle.cpu.specs.EveryCallEnds.{outcome_of}

@@ -1,7 +1,7 @@
 -- How a promise is met: by what the quick call says of its number, its word and its core.
 use Rattle.std.specs.Prelude.{if◌then◌else◌, ◌≡◌, eqb, List, ℕ, Bool, true, false}
 use Rattle.std.proofs.Common.{refl, sym}
-use Rattle.mmu.specs.declared.core_state.Core.{Core}
+use Rattle.cpu.specs.declared.Core.{Core}
 use Rattle.operations.specs.declared.call.Call.{Call}
 use Rattle.cpu.specs.Step.{step_of, ram_after}
 use Rattle.cpu.specs.EveryCallEnds.{writes, quiet}

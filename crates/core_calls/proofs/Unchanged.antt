@@ -2,8 +2,8 @@
 use Rattle.std.specs.Prelude.{if◌then◌else◌, ◌≡◌, Bool, true, false, List, ℕ, ◌<◌, get_or}
 use Rattle.std.proofs.Common.{refl, ap, arith}
 use Rattle.exception.specs.declared.{kind.Exception.Exception, kind.Stop.Stop}
-use Rattle.mmu.specs.Says.{Said, value, lies, done, fault, faults, undefined, unimplemented, call, misaligned}
-use Rattle.mmu.specs.declared.core_state.Core.{Core}
+use Rattle.cpu.specs.Says.{Said, value, lies, done, fault, faults, undefined, unimplemented, call, misaligned}
+use Rattle.cpu.specs.declared.Core.{Core}
 use Rattle.operations.specs.declared.{call.Call.Call, call.Reply.Reply}
 use Rattle.operations.specs.declared.call.Reply.TheVariants.{Refused, Done, Value, Faults, Fault, Stopped}
 use Rattle.cpu.specs.Step.{step_of, ram_after}

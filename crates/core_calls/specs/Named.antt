@@ -1,6 +1,6 @@
 -- A call by its words: what is given where they name one; else 64, and nothing changes.
 use Rattle.std.specs.Prelude.{List, ℕ}
-use Rattle.mmu.specs.declared.core_state.Core.{Core}
+use Rattle.cpu.specs.declared.Core.{Core}
 use Rattle.cpu.specs.Step.{step_of, ram_after}
 use Rattle.call_words.specs.Replies.{code_by, value_by, words_by}
 use Rattle.call_words.specs.declared.op.DecodedCall.{DecodedCall}

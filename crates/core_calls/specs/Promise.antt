@@ -1,6 +1,6 @@
 -- What a call promises: of the core c, and of RAM's bytes from base on.
 use Rattle.std.specs.Prelude.{◌≡◌, List, ℕ, ◌<◌, get_or}
-use Rattle.mmu.specs.declared.core_state.Core.{Core}
+use Rattle.cpu.specs.declared.Core.{Core}
 use Rattle.cpu.specs.Step.{step_of}
 use Rattle.cpu.specs.Inspect.{counts_after}
 use Rattle.operations.specs.declared.{call.Call.Call, call.Reply.Reply}

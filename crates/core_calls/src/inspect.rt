@@ -5,7 +5,7 @@ ghost use Rattle.operations.specs.declared.call.Call.TheVariants as Call;
 ghost use Rattle.core_calls.specs.Promise.{CensusPromise};
 
 use census::count;
-use mmu::core_state::Core;
+use cpu::Core;
 use operations::check;
 use walk::regime::{Bank, Regime};
 

@@ -6,7 +6,7 @@ ghost use Rattle.call_words.specs.declared.op.DecodedCall.TheVariants as Decoded
 ghost use Rattle.call_words.specs.Ops.{kind_of, translate_call};
 ghost use Rattle.core_calls.specs.Promise.{Promise};
 
-use mmu::core_state::Core;
+use cpu::Core;
 
 /// The translation of `va` for an access of a kind: 1 read, 2 write, 4 fetch.
 pub fn translate(core: &mut Core, va: u64, kind: u64, ans: &mut u64, base: u64, ram: &[u8]) -> u64

@@ -6,7 +6,7 @@ ghost use Rattle.core_calls.specs.Promise.{Setting};
 
 use call_words::op;
 use call_words::op::DecodedException;
-use mmu::core_state::Core;
+use cpu::Core;
 
 /// A register write, by the register's key.
 pub fn register(core: &mut Core, key: u64, value: u64) -> u64

@@ -6,7 +6,7 @@ ghost use Rattle.core_calls.specs.Promise.{Promise, StepPromise};
 
 use call_words::op::DecodedCall;
 use call_words::{op, reply};
-use mmu::core_state::Core;
+use cpu::Core;
 
 /// A system operation: SYS op1, CRn, CRm, op2 with the register rt.
 pub fn system(
@@ -32,7 +32,7 @@ pub fn step(core: &mut Core, op: &[u64; 8], base: u64, ram: &mut [u8], ans: &mut
 {
     match op::call_of(op) {
         DecodedCall::Known(call) => {
-            let answer = cpu::run::step(core, base, ram, call);
+            let answer = cpu::step::step(core, base, ram, call);
             *ans = reply::words(answer);
             0
         }

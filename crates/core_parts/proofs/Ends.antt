@@ -4,8 +4,8 @@ use Rattle.std.proofs.Common.{sym, ap, ◌∙◌}
 use Rattle.std.proofs.lemmas.List.{get_or_past}
 use Rattle.tlb.specs.Tlb.{invalidate_of}
 use Rattle.tlb.specs.declared.{Inval.Inval, Tlb.Tlb}
-use Rattle.mmu.specs.Core.{after_access}
-use Rattle.mmu.specs.declared.core_state.Core.{Core}
+use Rattle.cpu.specs.Core.{after_access}
+use Rattle.cpu.specs.declared.Core.{Core}
 use Rattle.core_parts.specs.Put.{received}
 
 pub past_last : {A : Type 0} (xs : List A) (i : ℕ) (d x : A) → x ≡ d → length xs ≤ i → x ≡ slice_index_or xs i d

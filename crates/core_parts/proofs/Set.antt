@@ -3,7 +3,7 @@ use Rattle.std.specs.Prelude.{if◌then◌else◌, slice_index, slice_set}
 use Rattle.std.proofs.Common.{◌≡◌, ◌^◌, Bool, true, false, ltb, refl, lt-ltb, le-ltb}
 use Rattle.std.proofs.lemmas.List.{get_or-set_same, get_or-set_other}
 use Rattle.tlb.specs.declared.Inval.TheVariants.{All, Page, Asid}
-use Rattle.mmu.specs.Core.{reg_of, set_reg}
+use Rattle.cpu.specs.Core.{reg_of, set_reg}
 use Rattle.core_parts.specs.Set.{general_set, general_alone, general_none, broadcast_arrives}
 
 pub set_there : general_set

@@ -6,8 +6,8 @@ use Rattle.tlb.specs.Entry.{blank, stamped}
 use Rattle.tlb.specs.Tlb.{invalidate_of}
 use Rattle.tlb.specs.declared.{entry.Entry.Entry, Inval.Inval}
 use Rattle.tlb.specs.declared.Inval.TheVariants.{All, Page, Asid}
-use Rattle.mmu.specs.Ops.{with_tlb}
-use Rattle.mmu.specs.declared.core_state.Core.{Core}
+use Rattle.cpu.specs.Memory.{with_tlb}
+use Rattle.cpu.specs.declared.Core.{Core}
 
 abbrev pub with_pc : Core → ℕ → Core
 with_pc c pc = record c { pc = pc }

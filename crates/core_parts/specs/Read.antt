@@ -7,7 +7,7 @@ use Rattle.sysreg.specs.declared.regs.Register.{Register}
 use Rattle.sysreg.specs.declared.regs.Register.TheVariants.{InControl, InSys}
 use Rattle.tlb.specs.declared.{entry.Entry.Entry, hint.Hint.Hint, hint.FetchHint.FetchHint, Inval.Inval}
 use Rattle.tlb.specs.declared.Inval.TheVariants.{All, Page, Asid}
-use Rattle.mmu.specs.declared.core_state.Core.{Core}
+use Rattle.cpu.specs.declared.Core.{Core}
 
 -- what a register holds, where there is one
 abbrev pub held_by : Core → Option Register → Option ℕ

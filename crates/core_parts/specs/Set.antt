@@ -2,8 +2,8 @@
 use Rattle.std.specs.Prelude.{◌≡◌, ◌≢◌, ℕ, ◌<◌, ◌≤◌, ◌^◌, length, slice_index, Some}
 use Rattle.tlb.specs.declared.Inval.{Inval}
 use Rattle.tlb.specs.declared.Inval.TheVariants.{All, Page, Asid}
-use Rattle.mmu.specs.Core.{reg_of, set_reg}
-use Rattle.mmu.specs.declared.core_state.Core.{Core}
+use Rattle.cpu.specs.Core.{reg_of, set_reg}
+use Rattle.cpu.specs.declared.Core.{Core}
 use Rattle.core_parts.specs.Read.{pending_words}
 use Rattle.core_parts.specs.Put.{inval_named}
 

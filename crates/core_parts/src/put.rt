@@ -6,8 +6,8 @@ ghost use Rattle.core_parts.specs.Put.{with_pc, flags_in, with_flags, without_pe
 ghost use Rattle.core_parts.specs.Put.{inval_named, received, number_received};
 
 use crate::read;
+use cpu::Core;
 use exception::flags::Flags;
-use mmu::core_state::Core;
 use tlb::Inval;
 use tlb::entry::Entry;
 

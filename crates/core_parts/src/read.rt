@@ -5,12 +5,12 @@ ghost use Rattle.sysreg.specs.Regs.{control_at, sys_at};
 ghost use Rattle.exception.specs.Pstate.{spsr_of};
 ghost use Rattle.tlb.specs.Cache.{entry_at, hint_at};
 ghost use Rattle.tlb.specs.Count.{tally_at};
-ghost use Rattle.mmu.specs.Core.{reg_of};
+ghost use Rattle.cpu.specs.Core.{reg_of};
 ghost use Rattle.core_parts.specs.Read.{held_by, register_of, number_found, value_found, pending_words, entry_words};
 ghost use Rattle.core_parts.specs.Read.{hint_words, fetch_words};
 
+use cpu::Core;
 use exception::flags;
-use mmu::core_state::Core;
 use sysreg::encoding;
 use sysreg::regs::{Control, ControlReg, Register, SysReg, SysRegs};
 use tlb::Inval;

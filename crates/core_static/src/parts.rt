@@ -4,7 +4,7 @@ ghost use Rattle.word.specs.Bits.{flag};
 ghost use Rattle.exception.specs.Pstate.{spsr_of};
 ghost use Rattle.tlb.specs.Cache.{entry_at, hint_at};
 ghost use Rattle.tlb.specs.Count.{tally_at};
-ghost use Rattle.mmu.specs.Core.{reg_of};
+ghost use Rattle.cpu.specs.Core.{reg_of};
 ghost use Rattle.core_parts.specs.Read.{register_of, number_found, value_found, pending_words, entry_words};
 ghost use Rattle.core_parts.specs.Read.{hint_words, fetch_words};
 ghost use Rattle.core_parts.specs.Put.{number_restamped, restamped};

@@ -3,13 +3,13 @@ ghost use Rattle.std.specs.Prelude.{◌≡◌};
 ghost use Rattle.std.specs.Borrow.{full_share};
 ghost use Rattle.std.specs.Ptr.{lies_at, room_at};
 ghost use types.Logic.{sem};
-ghost use Rattle.mmu.specs.Core.{fresh_core};
-ghost use Rattle.mmu.specs.contracts.core_state.Core.{the_row as core_row};
+ghost use Rattle.cpu.specs.Core.{fresh_core};
+ghost use Rattle.cpu.specs.contracts.Core.{the_row as core_row};
 ghost use Rattle.saved.specs.CoreOf.{core_of};
 ghost use Rattle.saved.specs.WordsOf.{word_of, words_of, held};
 
 use handle::Handle;
-use mmu::core_state::Core;
+use cpu::Core;
 use saved::place::Saved;
 
 // What the header says of a core's memory: the handle, then the core that it names.

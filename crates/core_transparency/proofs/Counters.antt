@@ -1,7 +1,7 @@
 -- The counters by level of a core that calls made are those of the core after the list.
 use Rattle.std.proofs.Common.{ap, ◌∙◌}
 use Rattle.tlb.specs.Count.{tally_at}
-use Rattle.mmu.specs.declared.core_state.Core.{Core}
+use Rattle.cpu.specs.declared.Core.{Core}
 use Rattle.transparency.specs.LevelCounts.{totals_of}
 use Rattle.transparency.proofs.LevelCounts.{level-hits, level-walks, sums-list}
 use Rattle.core_transparency.specs.OnCore.{made-core}

@@ -12,8 +12,8 @@ use Rattle.sysreg.specs.declared.regs.Register.TheVariants.{InControl, InSys}
 use Rattle.exception.specs.declared.{report.Report.Report}
 use Rattle.exception.specs.Entry.{same_el, at_target, far_after, entered_sys, take_exception, take_sync}
 use Rattle.sysop.specs.declared.op.SysOp.{SysOp}
-use Rattle.mmu.specs.Bare.{Bare, bare_of}
-use Rattle.mmu.specs.declared.core_state.Core.{Core}
+use Rattle.cpu.specs.Bare.{Bare, bare_of}
+use Rattle.cpu.specs.declared.Core.{Core}
 use Rattle.operations.specs.declared.call.Call.{Call}
 use Rattle.cpu.specs.Step.{step_of}
 use Rattle.history.specs.Instance.{Ram, window_of}

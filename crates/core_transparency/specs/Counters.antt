@@ -7,7 +7,7 @@ use Rattle.history.specs.Instance.{real}
 use Rattle.history.specs.Tallies.{by_line, by_walk, how_many, at, rust_after}
 use Rattle.transparency.specs.Machine.{machine}
 use Rattle.transparency.specs.LevelCounts.{made_by, totals_of}
-use Rattle.mmu.specs.declared.core_state.Core.{Core}
+use Rattle.cpu.specs.declared.Core.{Core}
 use Rattle.core_transparency.specs.OnCore.{Made}
 
 abbrev pub hits_on_core : Type 0

@@ -2,8 +2,8 @@
 use Rattle.std.specs.Prelude.{◌≡◌, List, [], ◌∷◌, ◌++◌, ℕ, zero, suc, ◌+◌, ◌*◌, ◌≤◌, get_or}
 use Rattle.std.proofs.Math.Path.{refl}
 use Rattle.std.proofs.Common.{add-one, arith}
-use Rattle.mmu.specs.Core.{fresh_core}
-use Rattle.mmu.specs.declared.core_state.Core.{Core}
+use Rattle.cpu.specs.Core.{fresh_core}
+use Rattle.cpu.specs.declared.Core.{Core}
 use Rattle.history.specs.Calls.{Lent}
 use Rattle.history.specs.Instance.{window_of, real}
 use Rattle.transparency.specs.Machine.{machine}

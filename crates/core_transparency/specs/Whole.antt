@@ -1,6 +1,6 @@
 -- Cores of which words hold all: nothing is lost where one is saved.
 use Rattle.std.specs.Prelude.{◌≡◌, List, ℕ}
-use Rattle.mmu.specs.declared.core_state.Core.{Core}
+use Rattle.cpu.specs.declared.Core.{Core}
 use Rattle.cpu.specs.Step.{step_of}
 use Rattle.operations.specs.declared.call.Call.{Call}
 use Rattle.history.specs.Calls.{Lent}

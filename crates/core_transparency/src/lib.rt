@@ -7,7 +7,7 @@ ghost use Rattle.core_transparency.specs.Run.{eight, reached, RunPromise};
 pub mod theorems;
 
 use core_calls::step;
-use mmu::core_state::Core;
+use cpu::Core;
 
 // The eight words of a call.
 fn op_at(ops: &[u64], at: usize) -> [u64; 8]

@@ -7,13 +7,13 @@ use Rattle.word.specs.declared.ram.Width.{Width}
 use Rattle.sysreg.specs.Write.{WriteAnswer}
 use Rattle.sysreg.specs.declared.write.WriteError.TheVariants.{Undefined, NoRegister}
 use Rattle.sysop.specs.declared.op.SysOp.{SysOp}
-use Rattle.mmu.specs.Results.{Stored}
-use Rattle.mmu.specs.Core.{reg_of, set_reg, after_access}
-use Rattle.mmu.specs.Ops.{translate_of, write_of, ram_after_write, fetch_of, fetch_pa_of, data_pa_of}
-use Rattle.mmu.specs.OpLaws.{store-last}
-use Rattle.mmu.specs.declared.core_state.Core.{Core}
-use Rattle.exec.specs.Ops.{registered, written, applied_of, with_regs, after_register_write, set_level, set_mark, abort_of}
-use Rattle.exec.specs.Sys.{with_par, at_of, tlbi_core, on_stored, zero_of, sys_by, op_of, sys_of}
+use Rattle.cpu.specs.Results.{Stored}
+use Rattle.cpu.specs.Core.{reg_of, set_reg, after_access}
+use Rattle.cpu.specs.Memory.{translate_of, write_of, ram_after_write, fetch_of, fetch_pa_of, data_pa_of}
+use Rattle.cpu.specs.OpLaws.{store-last}
+use Rattle.cpu.specs.declared.Core.{Core}
+use Rattle.cpu.specs.Registers.{registered, written, applied_of, with_regs, after_register_write, set_level, set_mark, abort_of}
+use Rattle.cpu.specs.System.{with_par, at_of, tlbi_core, on_stored, zero_of, sys_by, op_of, sys_of}
 use Rattle.operations.specs.Answers.{StoreAnswer}
 use Rattle.operations.specs.declared.call.Call.{Call}
 use Rattle.operations.specs.declared.call.Call.TheVariants.{Translate, DataPa, FetchPa, Load as LoadCall, Store as StoreCall, Fetch, System, Register, Level}

@@ -24,15 +24,15 @@ use Rattle.exception.specs.Pstate.{fresh_flags, spsr_of}
 use Rattle.exception.specs.Route.{routed_to}
 use Rattle.exception.specs.Syndrome.{syndrome_of}
 use Rattle.exception.specs.Abort.{data_abort_at}
-use Rattle.mmu.specs.Core.{reg_of, after_access}
-use Rattle.mmu.specs.Step.{translate_in as translation_of}
-use Rattle.mmu.specs.Ops.{stepped_now, translate_of}
-use Rattle.mmu.specs.declared.core_state.Core.{Core}
+use Rattle.cpu.specs.Core.{reg_of, after_access}
+use Rattle.cpu.specs.Translations.{translate_in as translation_of}
+use Rattle.cpu.specs.Memory.{stepped_now, translate_of}
+use Rattle.cpu.specs.declared.Core.{Core}
 use Rattle.sysop.specs.Op.{named, decode_of}
 use Rattle.walk.specs.Fresh.{fresh_of}
 use Rattle.sysop.specs.Par.{success, abort, leaf_par, par_in, at_par}
-use Rattle.exec.specs.Ops.{abort_of}
-use Rattle.exec.specs.Sys.{with_par, at_of, sys_of}
+use Rattle.cpu.specs.Registers.{abort_of}
+use Rattle.cpu.specs.System.{with_par, at_of, sys_of}
 use Rattle.operations.specs.Check.{missed_of}
 use Rattle.cpu.specs.Step.{run_of, step_of}
 use Rattle.operations.specs.declared.{call.Call.Call, call.Reply.Reply}

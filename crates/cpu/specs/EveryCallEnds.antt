@@ -1,5 +1,5 @@
 -- Every call ends: a number and nothing changed, or its value, its fault, Undefined or Unimplemented.
-use Rattle.mmu.specs.Results.{Stored}
+use Rattle.cpu.specs.Results.{Stored}
 use Rattle.std.specs.Prelude.{if◌then◌else◌, ◌≡◌, ℕ, zero, suc, ◌+◌, ◌≤◌, Bool, true, false, ◌&&◌, List, [], ◌∷◌, length, ◌==◌, nat_le, Option, Some, None, Ok, Err}
 use Rattle.std.proofs.Math.Path.{refl, ap, subst⁻¹}
 use Rattle.std.proofs.Common.{sym, ◌∙◌, arith, leb-true}
@@ -16,17 +16,17 @@ use Rattle.tlb.specs.Answers.{Answer}
 use Rattle.operations.specs.Answers.{Placed, Verdict, LoadAnswer, StoreAnswer, FetchAnswer}
 use Rattle.tlb.specs.declared.access.Kind.TheVariants as Kind
 use Rattle.sysop.specs.declared.op.SysOp.{SysOp}
-use Rattle.mmu.specs.Core.{reg_of}
+use Rattle.cpu.specs.Core.{reg_of}
 use Rattle.operations.specs.Place.{verdict_of as judged}
 use Rattle.operations.specs.Bytes.{value_at}
-use Rattle.mmu.specs.Says.{Said, value, done, fault, faults, undefined, unimplemented, stop_says, load_says, store_says, fetch_says, memory_says, access_says}
-use Rattle.mmu.specs.Says.{insn_says, load-says, store-says, fetch-says}
-use Rattle.mmu.specs.Ops.{translate_of, read_of, write_of, ram_after_write, fetch_of, fetch_pa_of, data_pa_of, located_now, fetch_stepped_now}
-use Rattle.mmu.specs.OpLaws.{ram-length, store}
-use Rattle.mmu.specs.declared.core_state.Core.{Core}
+use Rattle.cpu.specs.Says.{Said, value, done, fault, faults, undefined, unimplemented, stop_says, load_says, store_says, fetch_says, memory_says, access_says}
+use Rattle.cpu.specs.Says.{insn_says, load-says, store-says, fetch-says}
+use Rattle.cpu.specs.Memory.{translate_of, read_of, write_of, ram_after_write, fetch_of, fetch_pa_of, data_pa_of, located_now, fetch_stepped_now}
+use Rattle.cpu.specs.OpLaws.{ram-length, store}
+use Rattle.cpu.specs.declared.Core.{Core}
 use Rattle.operations.specs.declared.{call.Call.Call, call.Reply.Reply}
-use Rattle.exec.specs.Ops.{registered, written, after_register_write}
-use Rattle.exec.specs.Sys.{on_stored, zero_of, zero_ram, sys_by, sys_ram_by, op_of, sys_of, sys_ram}
+use Rattle.cpu.specs.Registers.{registered, written, after_register_write}
+use Rattle.cpu.specs.System.{on_stored, zero_of, zero_ram, sys_by, sys_ram_by, op_of, sys_of, sys_ram}
 use Rattle.operations.specs.Check.{Row, checks_of, first_of, missed_of, is_width, known, kept}
 use Rattle.operations.specs.Replies.{translation, loading, storing, fetching, reaching, registering}
 use Rattle.cpu.specs.Step.{load_by, store_by, store_ram_by, refused_or, missed_by, run_of, ram_of, ram_after}

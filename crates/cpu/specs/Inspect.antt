@@ -3,7 +3,7 @@ use Rattle.std.specs.Prelude.{◌≡◌, ℕ, zero, suc, List, replicate}
 use Rattle.std.proofs.Math.Path.{refl}
 use Rattle.word.specs.Ram.{word_at}
 use Rattle.census.specs.Count.{census_at}
-use Rattle.mmu.specs.declared.core_state.Core.{Core}
+use Rattle.cpu.specs.declared.Core.{Core}
 use Rattle.operations.specs.declared.call.Call.TheVariants.{Census}
 use Rattle.operations.specs.declared.call.Reply.TheVariants.{Refused}
 use Rattle.cpu.specs.declared.inspect.Censused.{Censused}

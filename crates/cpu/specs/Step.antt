@@ -1,13 +1,13 @@
 -- One call on the core: a number where a check is missed, and else the operation.
-use Rattle.mmu.specs.Results.{Translated, Loaded, Stored, Fetched, Addressed}
-use Rattle.exec.specs.Ops.{Registered}
+use Rattle.cpu.specs.Results.{Translated, Loaded, Stored, Fetched, Addressed}
+use Rattle.cpu.specs.Registers.{Registered}
 use Rattle.std.specs.Prelude.{ℕ, zero, suc, ◌%◌, List, length, Option, Some, None}
 use Rattle.word.specs.Ram.{word_at, width_of, bytes_in}
-use Rattle.mmu.specs.Core.{set_reg}
-use Rattle.mmu.specs.Ops.{translate_of, read_of, write_of, ram_after_write, fetch_of, fetch_pa_of, data_pa_of}
-use Rattle.mmu.specs.declared.core_state.Core.{Core}
-use Rattle.exec.specs.Ops.{after_register_write, set_level, set_mark, abort_of}
-use Rattle.exec.specs.Sys.{sys_of, sys_ram}
+use Rattle.cpu.specs.Core.{set_reg}
+use Rattle.cpu.specs.Memory.{translate_of, read_of, write_of, ram_after_write, fetch_of, fetch_pa_of, data_pa_of}
+use Rattle.cpu.specs.declared.Core.{Core}
+use Rattle.cpu.specs.Registers.{after_register_write, set_level, set_mark, abort_of}
+use Rattle.cpu.specs.System.{sys_of, sys_ram}
 use Rattle.operations.specs.Check.{missed_of}
 use Rattle.operations.specs.declared.{call.Call.Call, call.Reply.Reply}
 use Rattle.operations.specs.declared.call.Call.TheVariants.{Translate, DataPa, FetchPa, Load as LoadCall, Store as StoreCall, Fetch, System, Register, Level}

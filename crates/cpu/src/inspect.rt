@@ -2,8 +2,8 @@
 ghost use Rattle.std.specs.Prelude.{◌≡◌};
 ghost use Rattle.cpu.specs.Inspect.{census_by};
 
+use crate::Core;
 use census::count;
-use mmu::core_state::Core;
 use operations::call::Reply;
 use operations::check;
 use walk::regime::{Bank, Regime};

@@ -4,7 +4,7 @@ use Rattle.word.specs.Bits.{flag}
 use Rattle.tlb.specs.Cache.{entry_at, hint_at}
 use Rattle.tlb.specs.declared.{cache.Cache.Cache, entry.Entry.Entry, entry.Current.Current, hint.FetchHint.FetchHint}
 use Rattle.digest.specs.Fold.{gathered}
-use Rattle.mmu.specs.declared.core_state.Core.{Core}
+use Rattle.cpu.specs.declared.Core.{Core}
 use Rattle.saved.specs.Places.{LEVEL}
 use Rattle.saved.specs.WordsOf.{word_of}
 

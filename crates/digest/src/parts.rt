@@ -7,7 +7,7 @@ ghost use Rattle.digest.specs.Parts.{live, register_words, record_words, entry_w
 ghost use Rattle.digest.specs.Parts.{fetch_words, hints_words};
 
 use crate::fold;
-use mmu::core_state::Core;
+use cpu::Core;
 use saved::{place, save};
 use tlb::cache::Cache;
 use tlb::entry::{Current, Entry};

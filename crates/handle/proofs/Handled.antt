@@ -13,9 +13,9 @@ use denote.RawPtr.{Ptr, ptr_val, block_ptr, lies_at}
 use denote.Shadow.{makes_shadow}
 use denote.Struct.Struct.{Struct}
 use denote.Struct.Owning.{shape}
-use Rattle.mmu.specs.declared.core_state.Core.{Core}
+use Rattle.cpu.specs.declared.Core.{Core}
 use Rattle.handle.specs.declared.Handle.{Handle}
-use Rattle.mmu.specs.contracts.core_state.Core.{the_row as T}
+use Rattle.cpu.specs.contracts.Core.{the_row as T}
 use Rattle.handle.specs.contracts.Handle.{the_row as R, the_type as type}
 use Rattle.handle.specs.Lending.{with_core}
 

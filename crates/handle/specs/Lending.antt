@@ -2,9 +2,9 @@
 use base.Fml.{Fml}
 use denote.Ref.{MutBor}
 use denote.Follow.{follows}
-use Rattle.mmu.specs.declared.core_state.Core.{Core}
+use Rattle.cpu.specs.declared.Core.{Core}
 use Rattle.handle.specs.declared.Handle.{Handle}
-use Rattle.mmu.specs.contracts.core_state.Core.{the_row as core_row}
+use Rattle.cpu.specs.contracts.Core.{the_row as core_row}
 use Rattle.handle.specs.contracts.Handle.{the_row as handle_row}
 
 -- the handle with another core

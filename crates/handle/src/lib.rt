@@ -5,10 +5,10 @@ ghost use Rattle.std.specs.Prelude.{◌≡◌};
 ghost use Rattle.std.specs.Borrow.{full_share};
 ghost use Rattle.std.specs.Ptr.{lies_at};
 ghost use types.Logic.{sem};
-ghost use Rattle.mmu.specs.declared.core_state.Core.{Core};
-ghost use Rattle.mmu.specs.contracts.core_state.Core.{the_row as core_row};
+ghost use Rattle.cpu.specs.declared.Core.{Core};
+ghost use Rattle.cpu.specs.contracts.Core.{the_row as core_row};
 
-use mmu::core_state::Core;
+use cpu::Core;
 use std::marker::Model;
 
 /// The address of a core in memory that the caller keeps. The core that lies there is the handle's own: nothing else

@@ -11,10 +11,10 @@ use Rattle.tlb.specs.Tlb.{tlb_with}
 use Rattle.tlb.specs.Step.{hint_in}
 use Rattle.tlb.specs.Translate.{translation_with}
 use Rattle.tlb.specs.declared.{access.Kind.Kind, entry.Entry.Entry, hint.Hint.Hint}
-use Rattle.mmu.specs.Core.{after_access, bank_now}
-use Rattle.mmu.specs.Ops.{with_tlb, stepped_now, translate_of, past_hint_of}
-use Rattle.mmu.specs.Step.{slot_at, translate_in, past_hint_step}
-use Rattle.mmu.specs.declared.core_state.Core.{Core}
+use Rattle.cpu.specs.Core.{after_access, bank_now}
+use Rattle.cpu.specs.Memory.{with_tlb, stepped_now, translate_of, past_hint_of}
+use Rattle.cpu.specs.Translations.{slot_at, translate_in, past_hint_step}
+use Rattle.cpu.specs.declared.Core.{Core}
 use Rattle.operations.specs.Check.{missed_of, passes}
 use Rattle.operations.specs.declared.call.Call.TheVariants.{Translate}
 use Rattle.operations.specs.declared.call.Reply.TheVariants.{Value, Refused}

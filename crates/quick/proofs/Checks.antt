@@ -1,11 +1,11 @@
 -- A call by its checks: past them it is its operation, and where one is missed nothing changes.
 use Rattle.std.specs.Prelude.{◌≡◌, List, ℕ}
 use Rattle.std.proofs.Common.{refl, ◌∙◌, subst}
-use Rattle.mmu.specs.declared.core_state.Core.{Core}
+use Rattle.cpu.specs.declared.Core.{Core}
 use Rattle.operations.specs.Check.{number_of}
 use Rattle.operations.specs.declared.{call.Call.Call, check.Check.Check}
 use Rattle.operations.specs.declared.call.Reply.TheVariants.{Refused}
-use Rattle.exec.specs.Sys.{sys_of, sys_ram}
+use Rattle.cpu.specs.System.{sys_of, sys_ram}
 use Rattle.operations.specs.declared.call.Encoding.{Encoding}
 use Rattle.operations.specs.declared.call.Call.TheVariants.{System}
 use Rattle.cpu.specs.Step.{Stepped, after_store, ends, missed_by, run_of, ram_of, step_of, ram_after}

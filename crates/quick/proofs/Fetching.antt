@@ -16,11 +16,11 @@ use Rattle.tlb.specs.Model.{Access}
 use Rattle.tlb.specs.Translate.{fetch_with, fetch_end as fetch_chosen, fetch_applied, applied}
 use Rattle.tlb.specs.declared.access.Kind.TheVariants.{Read, Fetch}
 use Rattle.tlb.specs.declared.{entry.Entry.Entry, hint.Hint.Hint, resolve.Resolved.Resolved}
-use Rattle.mmu.specs.Core.{after_access, bank_now}
-use Rattle.mmu.specs.Ops.{with_tlb, fetch_stepped_now, translate_of, past_hint_of, translate_fetch_of, fetch_of, fetch_pa_of, data_pa_of}
-use Rattle.mmu.specs.Step.{past_hint_step, translate_fetch_in}
-use Rattle.mmu.specs.Results.{Translated, Fetched}
-use Rattle.mmu.specs.declared.core_state.Core.{Core}
+use Rattle.cpu.specs.Core.{after_access, bank_now}
+use Rattle.cpu.specs.Memory.{with_tlb, fetch_stepped_now, translate_of, past_hint_of, translate_fetch_of, fetch_of, fetch_pa_of, data_pa_of}
+use Rattle.cpu.specs.Translations.{past_hint_step, translate_fetch_in}
+use Rattle.cpu.specs.Results.{Translated, Fetched}
+use Rattle.cpu.specs.declared.Core.{Core}
 use Rattle.operations.specs.Bytes.{insn_of}
 use Rattle.operations.specs.Ends.{external, fetch_end, fetched_from, reached_by}
 use Rattle.operations.specs.Replies.{reaching}

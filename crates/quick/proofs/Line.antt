@@ -9,8 +9,8 @@ use Rattle.tlb.specs.Cache.{hint_at}
 use Rattle.tlb.specs.Hint.{on_page, data_slot, hint_key, hint_found}
 use Rattle.tlb.specs.Step.{hint_in}
 use Rattle.tlb.specs.declared.access.Kind.TheVariants.{Write}
-use Rattle.mmu.specs.declared.core_state.Core.{Core}
-use Rattle.exec.specs.ZeroLine.{zero-steady}
+use Rattle.cpu.specs.declared.Core.{Core}
+use Rattle.cpu.specs.ZeroLine.{zero-steady}
 use Rattle.quick.specs.Says.{Cleared}
 use Rattle.quick.proofs.ByHint.{address, chosen, hint-serves}
 

@@ -9,11 +9,11 @@ use Rattle.tlb.specs.Answers.{Answer}
 use Rattle.tlb.specs.Step.{hint_in}
 use Rattle.tlb.specs.declared.access.Kind.TheVariants.{Write}
 use Rattle.fault.specs.declared.Fault.{Fault}
-use Rattle.mmu.specs.Core.{after_access, bank_now}
-use Rattle.mmu.specs.Ops.{stepped_now, located_now, translate_of, stored_by, write_of, ram_after_write}
-use Rattle.mmu.specs.Step.{located_of, both_pages, one_page, translate_in}
-use Rattle.mmu.specs.Results.{Translated, Stored, Located, Stepped as Stepped₁}
-use Rattle.mmu.specs.declared.core_state.Core.{Core}
+use Rattle.cpu.specs.Core.{after_access, bank_now}
+use Rattle.cpu.specs.Memory.{stepped_now, located_now, translate_of, stored_by, write_of, ram_after_write}
+use Rattle.cpu.specs.Translations.{located_of, both_pages, one_page, translate_in}
+use Rattle.cpu.specs.Results.{Translated, Stored, Located, Stepped as Stepped₁}
+use Rattle.cpu.specs.declared.Core.{Core}
 use Rattle.operations.specs.Answers.{Verdict}
 use Rattle.operations.specs.Place.{in_page, next_page, crosses, goes_on, placed_both}
 use Rattle.operations.specs.Bytes.{store_ram}

@@ -4,10 +4,10 @@ use Rattle.std.proofs.Common.{refl, sym, ap, ◌∙◌, arith, le-ltb, lt-ltb, s
 use native.Mathlib.Nat.{mod-eq_of_lt}
 use Rattle.sysreg.specs.Write.{WriteAnswer}
 use Rattle.sysreg.specs.declared.write.WriteError.TheVariants.{Undefined, NoRegister}
-use Rattle.mmu.specs.Core.{set_reg}
+use Rattle.cpu.specs.Core.{set_reg}
 use Rattle.exception.specs.declared.kind.Exception.{Exception}
-use Rattle.mmu.specs.declared.core_state.Core.{Core}
-use Rattle.exec.specs.Ops.{after_register_write, set_level, set_mark, abort_of}
+use Rattle.cpu.specs.declared.Core.{Core}
+use Rattle.cpu.specs.Registers.{after_register_write, set_level, set_mark, abort_of}
 use Rattle.operations.specs.Check.{missed_of, first_of, kept, number_of}
 use Rattle.operations.specs.Replies.{registering}
 use Rattle.operations.specs.declared.check.Check.{Check}

@@ -1,15 +1,15 @@
 -- What a call on a core says: its number, its word, and the core that it leaves.
 use Rattle.std.specs.Prelude.{◌≡◌, ◌<◌, ◌≤◌, ◌-◌, ◌^◌, Bool, true, false, List, ℕ, Option, Some, None, Ok}
-use Rattle.mmu.specs.declared.core_state.Core.{Core}
-use Rattle.mmu.specs.Ops.{with_tlb, loaded_by, read_of, stored_by, write_of, ram_after_write, fetched_by}
-use Rattle.mmu.specs.Results.{Loaded, Stored, Fetched, Addressed}
+use Rattle.cpu.specs.declared.Core.{Core}
+use Rattle.cpu.specs.Memory.{with_tlb, loaded_by, read_of, stored_by, write_of, ram_after_write, fetched_by}
+use Rattle.cpu.specs.Results.{Loaded, Stored, Fetched, Addressed}
 use Rattle.tlb.specs.Answers.{Answer}
 use Rattle.tlb.specs.Cache.{set_fetch}
 use Rattle.tlb.specs.Tlb.{tlb_with}
 use Rattle.tlb.specs.Resolve.{fetch_after}
 use Rattle.operations.specs.Place.{placed_one}
 use Rattle.operations.specs.Ends.{load_end, store_end, store_ram_end, fetch_end, reached_by}
-use Rattle.exec.specs.Sys.{done_with, zero_of, zero_ram}
+use Rattle.cpu.specs.System.{done_with, zero_of, zero_ram}
 use Rattle.cpu.specs.Step.{Stepped, step_of}
 use Rattle.call_words.specs.Replies.{code_by, value_by}
 use Rattle.call_words.specs.declared.op.DecodedCall.{DecodedCall}

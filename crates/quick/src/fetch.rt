@@ -4,14 +4,14 @@ ghost use Rattle.word.specs.Ram.{word_at};
 ghost use Rattle.tlb.specs.Hint.{fetch_found};
 ghost use Rattle.tlb.specs.declared.access.Kind.TheVariants.{Fetch};
 ghost use Rattle.operations.specs.declared.call.Call.TheVariants as Call;
-ghost use Rattle.mmu.specs.Hand.{NeedsWalkNow};
+ghost use Rattle.cpu.specs.Hand.{NeedsWalkNow};
 ghost use Rattle.cpu.specs.Step.{step_of, after_fetch};
 ghost use Rattle.quick.specs.Says.{Tells, Clear, fetched_of, hint_left};
 
 use crate::reach;
 use call_words::reply;
+use cpu::Core;
 use fault::Fault;
-use mmu::core_state::Core;
 use operations::call::Reply;
 use operations::{bytes, check};
 use tlb::access::Kind;
@@ -85,7 +85,7 @@ fn ended(
 
 // An allowed address becomes the fetch hint.
 #[inline(always)]
-#[tactic(auto, unfolding(mmu::specs::Core::after_access))]
+#[tactic(auto, unfolding(cpu::specs::Core::after_access))]
 fn leave(core: &mut Core, va: u64, answer: Result<u64, Fault>)
     ensures { core.new ≡ hint_left core.old va answer }
 {

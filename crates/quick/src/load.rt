@@ -6,14 +6,14 @@ ghost use Rattle.tlb.specs.Step.{hint_in};
 ghost use Rattle.tlb.specs.declared.access.Kind.TheVariants.{Read};
 ghost use Rattle.operations.specs.Place.{in_page};
 ghost use Rattle.operations.specs.declared.call.Call.TheVariants as Call;
-ghost use Rattle.mmu.specs.Hand.{NeedsWalkNow};
+ghost use Rattle.cpu.specs.Hand.{NeedsWalkNow};
 ghost use Rattle.cpu.specs.Step.{step_of, after_load};
 ghost use Rattle.quick.specs.Says.{Tells, Clear, ended_of};
 
 use crate::split;
 use call_words::reply;
+use cpu::Core;
 use fault::Fault;
-use mmu::core_state::Core;
 use operations::call::Reply;
 use operations::{check, place};
 use tlb::access::Kind;

@@ -7,13 +7,13 @@ ghost use Rattle.operations.specs.declared.call.Call.TheVariants as Call;
 ghost use Rattle.operations.specs.Ends.{reached_by};
 ghost use Rattle.operations.specs.Replies.{reaching};
 ghost use Rattle.call_words.specs.Replies.{code_by, value_by};
-ghost use Rattle.mmu.specs.Hand.{NeedsWalkNow};
+ghost use Rattle.cpu.specs.Hand.{NeedsWalkNow};
 ghost use Rattle.cpu.specs.Step.{step_of};
 ghost use Rattle.quick.specs.Says.{Tells, Clear};
 
 use call_words::reply;
+use cpu::Core;
 use fault::Fault;
-use mmu::core_state::Core;
 use operations::call::Reply;
 use operations::check;
 use tlb::access::Kind;

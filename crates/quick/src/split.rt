@@ -4,7 +4,7 @@ ghost use Rattle.word.specs.Ram.{bytes_in};
 ghost use Rattle.operations.specs.AtOnce.{both_inside, both_stored};
 ghost use Rattle.quick.specs.Says.{OfTwo, PutTwo};
 
-use mmu::core_state::Core;
+use cpu::Core;
 use operations::place::Pages;
 use operations::{bytes, lookup, place};
 use tlb::access::Kind;

@@ -1,15 +1,14 @@
 // A system operation on a core that is lent: its number, RAM, and in ans the address of a data abort.
 ghost use Rattle.std.specs.Prelude.{◌≡◌, ◌+◌, ◌%◌, ◌^◌, ◌≤◌};
 ghost use Rattle.word.specs.Bits.{align_down};
-ghost use Rattle.exec.specs.Sys.{tlbi_core, zero_of, zero_ram, sys_of, sys_ram};
+ghost use Rattle.cpu.specs.System.{tlbi_core, zero_of, zero_ram, sys_of, sys_ram};
 ghost use Rattle.operations.specs.declared.call.Call.TheVariants as Call;
 ghost use Rattle.call_words.specs.Ops.{encoding_of};
 ghost use Rattle.cpu.specs.Step.{step_of, ram_after, after_store};
 ghost use Rattle.quick.specs.Says.{Tells, Cleared};
 
 use call_words::reply;
-use exec::sys;
-use mmu::core_state::Core;
+use cpu::{Core, system};
 use operations::call::Encoding;
 use operations::check;
 use sysop::op;
@@ -38,7 +37,7 @@ fn zva(core: &mut Core, ans: &mut u64, base: u64, ram: &mut [u8], x: u64) -> u64
     if clear(core, base, ram, x - x % 64) {
         return 0;
     }
-    let answer = sys::zva(core, base, ram, x);
+    let answer = system::zva(core, base, ram, x);
     reply::stored(answer, ans)
 }
 
@@ -47,11 +46,11 @@ fn zva(core: &mut Core, ans: &mut u64, base: u64, ram: &mut [u8], x: u64) -> u64
 fn tlbi(core: &mut Core, op1: u64, crm: u64, op2: u64, x: u64)
     ensures { core.new ≡ tlbi_core core.old op1 crm op2 x }
 {
-    sys::tlbi(core, op1, crm, op2, x);
+    system::tlbi(core, op1, crm, op2, x);
 }
 
 // The operation past its checks.
-#[tactic(auto, unfolding(exec::specs::Sys::sys_of, exec::specs::Sys::sys_ram))]
+#[tactic(auto, unfolding(cpu::specs::System::sys_of, cpu::specs::System::sys_ram))]
 fn operate(core: &mut Core, e: Encoding, ans: &mut u64, base: u64, ram: &mut [u8]) -> u64
     ensures tells { Tells (after_store (sys_of core.old base ram.old e.op1 e.crn e.crm e.op2 e.rt))
         ans.old result ans.new core.new }
@@ -66,7 +65,7 @@ fn operate(core: &mut Core, e: Encoding, ans: &mut u64, base: u64, ram: &mut [u8
     };
     match op::decode(core.privilege.level, at) {
         SysOp::At(form) => {
-            sys::at(core, base, ram, form, x);
+            system::at(core, base, ram, form, x);
             0
         }
         SysOp::Tlbi => {

@@ -3,14 +3,14 @@ ghost use Rattle.std.specs.Prelude.{◌≡◌, ◌<◌, ◌≤◌, ◌-◌, ◌^
 ghost use Rattle.word.specs.Ram.{word_at};
 ghost use Rattle.tlb.specs.Step.{hint_in};
 ghost use Rattle.tlb.specs.declared.access.Kind.TheVariants as Kinds;
-ghost use Rattle.mmu.specs.Hand.{NeedsWalkNow};
+ghost use Rattle.cpu.specs.Hand.{NeedsWalkNow};
 ghost use Rattle.operations.specs.declared.call.Call.TheVariants as Call;
 ghost use Rattle.call_words.specs.Ops.{kind_of, translate_call};
 ghost use Rattle.cpu.specs.Step.{step_of};
 ghost use Rattle.quick.specs.Says.{Says, Tells, Clear};
 
 use call_words::reply;
-use mmu::core_state::Core;
+use cpu::Core;
 use operations::call::Reply;
 use operations::check;
 use tlb::access::Kind;

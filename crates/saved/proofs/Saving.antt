@@ -10,7 +10,7 @@ use Rattle.tlb.specs.Entry.{blank}
 use Rattle.tlb.specs.Hint.{no_hint}
 use Rattle.tlb.specs.declared.{count.Tally.Tally, entry.Entry.Entry, Inval.Inval}
 use Rattle.tlb.specs.declared.Inval.TheVariants.{All, Page, Asid}
-use Rattle.mmu.specs.declared.core_state.Core.{Core}
+use Rattle.cpu.specs.declared.Core.{Core}
 use Rattle.saved.specs.CoreOf.{word, level_in, pending_of, hint_in, entry_of, entry_in, core_on, core_by, core_of}
 use Rattle.saved.specs.WordsOf.{level_words, pending_kind, pending_value, hint_word, attributes, entry_word, word_of, words_of, held}
 use Rattle.saved.specs.Places.{WORDS, GENERAL, LEVEL, HINTS, HINT-PA, ENTRIES, ENTRY-GENERATION, ENTRY-ATTRIBUTES, ENTRY-PA, LEVEL-HITS}

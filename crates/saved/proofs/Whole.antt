@@ -2,7 +2,7 @@
 use Rattle.std.specs.Prelude.{◌≡◌, List, ℕ}
 use Rattle.std.proofs.Common.{refl}
 use Rattle.sysreg.specs.Regs.{fresh_control, fresh_sys}
-use Rattle.mmu.specs.Core.{fresh_core}
+use Rattle.cpu.specs.Core.{fresh_core}
 use Rattle.saved.specs.CoreOf.{core_on, core_by, core_of}
 use Rattle.saved.specs.WordsOf.{held}
 

@@ -3,7 +3,7 @@ use Rattle.std.specs.Prelude.{◌≡◌, ℕ, ◌<◌, ◌^◌, length, Option, 
 use Rattle.tlb.specs.Cache.{entry_at}
 use Rattle.tlb.specs.declared.{entry.Entry.Entry, Inval.Inval}
 use Rattle.tlb.specs.declared.Inval.TheVariants.{All, Page, Asid}
-use Rattle.mmu.specs.declared.core_state.Core.{Core}
+use Rattle.cpu.specs.declared.Core.{Core}
 
 pub record EntryFits (e : Entry) : Type 0 where
   pub generation : e.generation < 2 ^ 32

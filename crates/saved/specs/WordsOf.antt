@@ -8,7 +8,7 @@ use Rattle.tlb.specs.Cache.{hint_at, entry_at}
 use Rattle.tlb.specs.Count.{tally_at}
 use Rattle.tlb.specs.declared.{entry.Entry.Entry, hint.Hint.Hint, Inval.Inval}
 use Rattle.tlb.specs.declared.Inval.TheVariants.{All, Page, Asid}
-use Rattle.mmu.specs.declared.core_state.Core.{Core}
+use Rattle.cpu.specs.declared.Core.{Core}
 use Rattle.saved.specs.Places.{WORDS, GENERAL, LEVEL, HINTS, ENTRIES, LEVEL-HITS}
 
 -- a register of EL1, EL2 and EL3, and the words after it

@@ -2,8 +2,8 @@
 ghost use Rattle.std.specs.Prelude.{◌≡◌, ◌^◌, ◌<◌, length};
 ghost use Rattle.saved.specs.Fits.{EntryFits, PendingFits, PartsFit, Fits};
 
+use cpu::Core;
 use exception::flags::Flags;
-use mmu::core_state::Core;
 use tlb::Inval;
 use tlb::access::Privilege;
 use tlb::count::Tally;

@@ -6,7 +6,7 @@ ghost use Rattle.saved.specs.Places.{GENERAL};
 
 use crate::place::Saved;
 use crate::{parts, place};
-use mmu::core_state::Core;
+use cpu::Core;
 use tlb::entry::Entry;
 use tlb::hint::Hint;
 

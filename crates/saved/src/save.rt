@@ -6,7 +6,7 @@ ghost use Rattle.saved.specs.WordsOf.{attributes, hint_word, entry_word, word_of
 
 use crate::place::Saved;
 use crate::{place, ranges};
-use mmu::core_state::Core;
+use cpu::Core;
 use tlb::Inval;
 use tlb::entry::Entry;
 use tlb::hint::Hint;

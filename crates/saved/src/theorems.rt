@@ -1,7 +1,7 @@
 // What holds of every core's words. Each function computes nothing: its contract is the theorem.
 ghost use Rattle.std.specs.Prelude.{◌≡◌, ℕ, List};
-ghost use Rattle.mmu.specs.Core.{fresh_core};
-ghost use Rattle.mmu.specs.declared.core_state.Core.{Core};
+ghost use Rattle.cpu.specs.Core.{fresh_core};
+ghost use Rattle.cpu.specs.declared.Core.{Core};
 ghost use Rattle.saved.specs.CoreOf.{word, core_of};
 ghost use Rattle.saved.specs.Fits.{Fits};
 ghost use Rattle.saved.specs.NamedPlaces.{control_named, sys_named, general_named, parts_named};

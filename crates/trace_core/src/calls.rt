@@ -1,7 +1,7 @@
 // A call on the core, by the function that C calls, and its answer in four words.
 use call_words::reply;
 use core_calls::memory;
-use mmu::core_state::Core;
+use cpu::Core;
 use operations::call::Call;
 use tlb::access::Kind;
 
@@ -52,6 +52,6 @@ pub fn carry_out(core: &mut Core, base: u64, ram: &mut [u8], call: Call) -> [u64
             let n = memory::fetch(core, va, &mut value, base, ram);
             answered(n, [1, value], 10, va, 0)
         }
-        _ => reply::words(cpu::run::step(core, base, ram, call)),
+        _ => reply::words(cpu::step::step(core, base, ram, call)),
     }
 }

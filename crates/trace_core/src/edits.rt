@@ -1,6 +1,6 @@
 // Lines that overwrite a part of the core.
 use crate::machine::Machine;
-use mmu::core_state::Core;
+use cpu::Core;
 use saved::{place, restore, save};
 use tlb::count::{Counts, Tally};
 use tlb::entry::Entry;

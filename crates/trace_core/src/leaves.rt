@@ -1,7 +1,7 @@
 // Leaves: functions of the registers as they stand, which change nothing.
 use exception::kind::Exception;
 use exception::{report, take};
-use mmu::core_state::Core;
+use cpu::Core;
 use sysreg::encoding;
 use sysreg::regs::{ControlReg, El, Register, SysReg};
 use trace_text::line;

@@ -2,7 +2,7 @@
 use crate::{calls, edits, leaves, memory};
 use core_calls::inspect;
 use digest::counts;
-use mmu::core_state::Core;
+use cpu::Core;
 use operations::call::Call;
 use saved::{place, save};
 use std::alloc::{AllocError, Global};

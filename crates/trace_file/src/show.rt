@@ -2,7 +2,7 @@
 use core_parts::read;
 use counters_report::line::Levels;
 use digest::parts;
-use mmu::core_state::Core;
+use cpu::Core;
 use std::io::Write;
 use std::{fmt, io};
 use trace_core::machine::Machine;

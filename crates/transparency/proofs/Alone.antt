@@ -8,11 +8,11 @@ use Rattle.tlb.specs.declared.access.Kind.TheVariants as Kind
 use Rattle.tlb.specs.declared.Tlb.{Tlb}
 use Rattle.sysop.specs.declared.op.SysOp.{SysOp}
 use Rattle.sysop.specs.declared.op.SysOp.TheVariants as Op
-use Rattle.mmu.specs.Bare.{Bare, bare_of}
-use Rattle.mmu.specs.declared.core_state.Core.{Core}
+use Rattle.cpu.specs.Bare.{Bare, bare_of}
+use Rattle.cpu.specs.declared.Core.{Core}
 use Rattle.operations.specs.declared.{call.Encoding.Encoding, call.Call.Call}
 use Rattle.operations.specs.Answers.{StoreAnswer}
-use Rattle.exec.specs.Sys.{zero_of, zero_ram}
+use Rattle.cpu.specs.System.{zero_of, zero_ram}
 use Rattle.operations.specs.Replies.{storing}
 use Rattle.operations.specs.declared.call.Call.TheVariants.{Translate, DataPa, FetchPa, Load, Store, Fetch, System, Register, Level, Mark, General}
 use Rattle.operations.specs.declared.call.Call.TheVariants.{Abort, Census}

@@ -3,11 +3,11 @@ use Rattle.std.specs.Prelude.{◌≡◌, refl, List, ℕ, zero, suc, Ok, Err}
 use Rattle.std.proofs.Common.{ap, subst, ◌∙◌}
 use Rattle.sysop.specs.declared.{op.SysOp.SysOp}
 use Rattle.sysop.specs.declared.op.SysOp.TheVariants as Op
-use Rattle.mmu.specs.Bare.{Bare, fresh_bare, with_par, bare_of}
-use Rattle.mmu.specs.Core.{fresh_core, reg_of}
-use Rattle.mmu.specs.declared.core_state.Core.{Core}
-use Rattle.exec.specs.Ops.{registered, after_register_write}
-use Rattle.exec.specs.Sys.{sys_by, sys_ram_by, sys_of, sys_ram}
+use Rattle.cpu.specs.Bare.{Bare, fresh_bare, with_par, bare_of}
+use Rattle.cpu.specs.Core.{fresh_core, reg_of}
+use Rattle.cpu.specs.declared.Core.{Core}
+use Rattle.cpu.specs.Registers.{registered, after_register_write}
+use Rattle.cpu.specs.System.{sys_by, sys_ram_by, sys_of, sys_ram}
 use Rattle.cpu.specs.Step.{ends, after_store, after_write, run_of, ram_of, refused_or, step_of, ram_after}
 use Rattle.operations.specs.declared.{call.Call.Call}
 use Rattle.operations.specs.declared.call.Call.TheVariants.{Translate, DataPa, FetchPa, Load, Store, Fetch, System, Register, Level, Mark, General}
@@ -36,7 +36,7 @@ fresh-bare = refl
 pub two-cores : Statement.two_cores
 two-cores list = runs-agree real machine bridge fresh_core list ∙ ap (λ (b : Bare). bare_run real machine b list) fresh-bare
 
--- WHAT A CALL OF THE CORE WITHOUT A CACHE LEAVES: its updates are the core's own (mmu/specs/Bare.antt), so each says
+-- WHAT A CALL OF THE CORE WITHOUT A CACHE LEAVES: its updates are the core's own (cpu/specs/Bare.antt), so each says
 -- what else stays
 
 pub abort-leaves : Statement.abort_leaves

@@ -7,16 +7,16 @@ use Rattle.word.specs.Ram.{width_of, bytes_in}
 use Rattle.tlb.specs.declared.access.Kind.{Kind}
 use Rattle.sysop.specs.declared.op.SysOp.{SysOp}
 use Rattle.sysop.specs.declared.op.SysOp.TheVariants as Op
-use Rattle.mmu.specs.Bare.{Bare, with_privilege, bare_of, with_regs}
-use Rattle.mmu.specs.Core.{reg_of, set_reg, after_access}
-use Rattle.mmu.specs.Ops.{write_of}
-use Rattle.mmu.specs.OpLaws as Laws
-use Rattle.mmu.specs.declared.core_state.Core.{Core}
+use Rattle.cpu.specs.Bare.{Bare, with_privilege, bare_of, with_regs}
+use Rattle.cpu.specs.Core.{reg_of, set_reg, after_access}
+use Rattle.cpu.specs.Memory.{write_of}
+use Rattle.cpu.specs.OpLaws as Laws
+use Rattle.cpu.specs.declared.Core.{Core}
 use Rattle.operations.specs.declared.{call.Encoding.Encoding, call.Call.Call}
 use Rattle.operations.specs.Answers.{StoreAnswer}
-use Rattle.exec.specs.Fit.{refit_of}
-use Rattle.exec.specs.Ops.{with_regs as coreRegs, applied_of, registered, after_register_write, with_privilege as coreWho, set_level, set_mark, abort_of}
-use Rattle.exec.specs.Sys.{with_par as corePar, at_of, invalidated_of, tlbi_core, on_stored, done_with, zero_of, sys_by, sys_of}
+use Rattle.cpu.specs.Fit.{refit_of}
+use Rattle.cpu.specs.Registers.{with_regs as coreRegs, applied_of, registered, after_register_write, with_privilege as coreWho, set_level, set_mark, abort_of}
+use Rattle.cpu.specs.System.{with_par as corePar, at_of, invalidated_of, tlbi_core, on_stored, done_with, zero_of, sys_by, sys_of}
 use Rattle.operations.specs.Check.{missed_of}
 use Rattle.cpu.specs.EveryCallEnds.{all-passed}
 use Rattle.cpu.specs.Step.{ends, load_by, store_by, run_of, refused_or, step_of}
@@ -35,7 +35,7 @@ use Rattle.transparency.specs.Machine.{machine}
 use Rattle.word.specs.declared.ram.Width.{Width}
 use Rattle.sysreg.specs.Write.{WriteAnswer, Written}
 use Rattle.sysreg.specs.declared.write.WriteError.TheVariants.{Undefined, NoRegister}
-use Rattle.mmu.specs.Results.{Stored}
+use Rattle.cpu.specs.Results.{Stored}
 
 -- The core d that a call made of c, the state b without a cache after it, and the call's events.
 pub record Fits (c d : Core) (b : Bare) (es : List (Event real)) : Type 0 where

@@ -1,6 +1,6 @@
 -- Of every core that calls reach: each byte of a load or a store is the byte at the translation of its own address, and
 -- DC ZVA leaves 64 zero bytes at the translation of the aligned address and every other byte as it was. The laws are
--- mmu's and exec's, of cores that are well-formed; `read_of`, `write_of`, `ram_after_write`, `sys_of` and `sys_ram` are what
+-- the core's, of cores that are well-formed; `read_of`, `write_of`, `ram_after_write`, `sys_of` and `sys_ram` are what
 -- `step_of` and `ram_after` make of a call that misses no check.
 use Rattle.std.specs.Prelude.{◌≡◌, refl, false, List, [], ◌∷◌, ◌++◌, ℕ, ◌+◌, ◌^◌, ◌≤◌, ◌<◌}
 use Rattle.std.proofs.Common.{sym, ap, ◌∙◌}
@@ -9,14 +9,14 @@ use Rattle.std.proofs.Math.ListN.{length}
 use Rattle.tlb.specs.Asks.{translates}
 use Rattle.tlb.specs.declared.access.Kind.{Kind}
 use Rattle.tlb.specs.declared.access.Kind.TheVariants.{Read, Write}
-use Rattle.mmu.specs.Bare.{Bare, fresh_bare, bare_of}
-use Rattle.mmu.specs.Core.{fresh_core}
-use Rattle.mmu.specs.Step.{translate_in}
-use Rattle.mmu.specs.Ops.{stepped_now, translate_of}
-use Rattle.mmu.specs.OpLaws.{on_now}
-use Rattle.mmu.specs.OwnAddress.{Ready}
-use Rattle.mmu.specs.ByteMeaning.{load_byte, store_byte, store-others}
-use Rattle.exec.specs.ZeroMeaning.{zva-zeroes}
+use Rattle.cpu.specs.Bare.{Bare, fresh_bare, bare_of}
+use Rattle.cpu.specs.Core.{fresh_core}
+use Rattle.cpu.specs.Translations.{translate_in}
+use Rattle.cpu.specs.Memory.{stepped_now, translate_of}
+use Rattle.cpu.specs.OpLaws.{on_now}
+use Rattle.cpu.specs.OwnAddress.{Ready}
+use Rattle.cpu.specs.ByteMeaning.{load_byte, store_byte, store-others}
+use Rattle.cpu.specs.ZeroMeaning.{zva-zeroes}
 use Rattle.operations.specs.Check.{missed_of}
 use Rattle.cpu.specs.Step.{run_of, step_of}
 use Rattle.operations.specs.declared.call.Call.TheVariants.{Translate}

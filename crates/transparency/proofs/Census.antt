@@ -13,9 +13,9 @@ use Rattle.census.specs.Count.{page_at, census_at}
 use Rattle.census.specs.Laws.{faults_with, has_rights}
 use Rattle.census.proofs.Laws.{sound-at, status-count}
 use Rattle.tlb.specs.declared.access.Kind.{Kind}
-use Rattle.mmu.specs.Bare.{Bare, fresh_bare, bare_of}
-use Rattle.mmu.specs.Core.{fresh_core}
-use Rattle.mmu.specs.declared.core_state.Core.{Core}
+use Rattle.cpu.specs.Bare.{Bare, fresh_bare, bare_of}
+use Rattle.cpu.specs.Core.{fresh_core}
+use Rattle.cpu.specs.declared.Core.{Core}
 use Rattle.operations.specs.declared.call.Call.TheVariants.{Census}
 use Rattle.operations.specs.declared.call.Reply.TheVariants.{Refused, Done}
 use Rattle.cpu.specs.Step.{ends, run_of, refused_or, step_of}

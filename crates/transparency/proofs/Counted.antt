@@ -15,7 +15,7 @@ use Rattle.tlb.proofs.Levels.{counters-tell}
 use Rattle.tlb.specs.Asks.{Ask, translates, fetches, onward-same}
 use Rattle.tlb.specs.declared.{access.Kind.Kind, Inval.Inval, Tlb.Tlb}
 use Rattle.sysop.specs.declared.op.SysOp.TheVariants as Op
-use Rattle.mmu.specs.Bare.{Bare}
+use Rattle.cpu.specs.Bare.{Bare}
 use Rattle.operations.specs.declared.{call.Encoding.Encoding, call.Call.Call}
 use Rattle.operations.specs.declared.call.Call.TheVariants.{Translate, DataPa, FetchPa, Fetch, System, Register}
 use Rattle.history.specs.World.{access_of}

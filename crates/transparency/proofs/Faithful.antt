@@ -4,8 +4,8 @@ use Rattle.std.proofs.Common.{sym, ap, ◌∙◌}
 use Rattle.std.proofs.Math.Path.{subst}
 use mathlib.Core.List.{List, ◌∷◌, ◌++◌}
 use Rattle.tlb.specs.Lists.{Each}
-use Rattle.mmu.specs.Bare.{Bare, fresh_bare}
-use Rattle.mmu.specs.Core.{fresh_core}
+use Rattle.cpu.specs.Bare.{Bare, fresh_bare}
+use Rattle.cpu.specs.Core.{fresh_core}
 use Rattle.operations.specs.declared.call.Call.{Call}
 use Rattle.history.specs.History.{Step, Event, steps}
 use Rattle.history.specs.Invisible.{Tidy, answers_run}

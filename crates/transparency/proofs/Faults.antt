@@ -15,11 +15,11 @@ use Rattle.tlb.specs.Asks.{Ask, translates, fetches, address_of, Given, onward, 
 use Rattle.tlb.specs.declared.{access.Kind.Kind, Tlb.Tlb}
 use Rattle.tlb.specs.Answers.{Answer}
 use Rattle.operations.specs.Answers.{Placed, Verdict, fault_at, outside_at}
-use Rattle.mmu.specs.Bare.{Bare}
+use Rattle.cpu.specs.Bare.{Bare}
 use Rattle.operations.specs.Place.{next_page, crosses, byte_at, first_outside, verdict_of}
 use Rattle.operations.specs.PlaceLaws.{same-outside, same-fault}
 use Rattle.operations.specs.Bytes.{got_by, value_at, load_of, insn_of}
-use Rattle.mmu.specs.Asks.{asks_by, placed_from}
+use Rattle.cpu.specs.Asks.{asks_by, placed_from}
 use Rattle.operations.specs.Ends.{reached_by, loaded_from, load_end, store_end_by, store_end, fetched_from, fetch_end}
 use Rattle.operations.specs.declared.{place.Pages.Pages, place.Place.Place}
 use Rattle.operations.specs.declared.call.Call.{Call}

@@ -1,7 +1,7 @@
 -- Faithfulness of every list of calls of the core, from the fresh core that `Cpu::new` gives.
 use Rattle.std.specs.Prelude.{refl}
 use Rattle.std.proofs.Common.{arith}
-use Rattle.mmu.specs.Core.{fresh_core}
+use Rattle.cpu.specs.Core.{fresh_core}
 use Rattle.history.specs.Calls.{EveryCallFaithful, SameReplies, InvisibleCalls}
 use Rattle.history.proofs.EveryCall.{every_call_faithful}
 use Rattle.history.proofs.EveryReply.{same-replies, invisible-calls}

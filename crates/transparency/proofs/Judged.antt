@@ -6,7 +6,7 @@ use Rattle.std.proofs.Common.{ap₂, subst, arith}
 use Rattle.tlb.specs.Lists.{Each, done, more}
 use Rattle.tlb.specs.Asks.{Given}
 use Rattle.tlb.specs.declared.Tlb.{Tlb}
-use Rattle.mmu.specs.Core.{fresh_core}
+use Rattle.cpu.specs.Core.{fresh_core}
 use Rattle.history.specs.World.{Plain}
 use Rattle.history.specs.Lists.{each_append, plain-append, tlb-append}
 use Rattle.history.specs.History.{Event, steps, receives, after_event, plain_run, tlb_event, tlb_run}

@@ -12,8 +12,8 @@ use Rattle.tlb.specs.Tlb.{fresh}
 use Rattle.tlb.specs.Model.{Model}
 use Rattle.tlb.specs.Live.{live, WellFormed}
 use Rattle.tlb.specs.declared.Tlb.{Tlb}
-use Rattle.mmu.specs.Bare.{Bare, fresh_bare, bare_of}
-use Rattle.mmu.specs.Core.{fresh_core}
+use Rattle.cpu.specs.Bare.{Bare, fresh_bare, bare_of}
+use Rattle.cpu.specs.Core.{fresh_core}
 use Rattle.operations.specs.declared.call.Call.{Call}
 use Rattle.history.specs.World.{Plain}
 use Rattle.history.specs.History.{plain_run, tlb_run}

@@ -32,15 +32,15 @@ use Rattle.tlb.specs.Translate.{miss_with, applied, translation_with, fetch_appl
 use Rattle.tlb.specs.Asks.{translates}
 use Rattle.tlb.specs.declared.access.Kind.TheVariants.{Read}
 use Rattle.tlb.specs.declared.Inval.TheVariants.{Page}
-use Rattle.mmu.specs.Bare.{fresh_bare}
-use Rattle.mmu.specs.Core.{zeros, fresh_core, reg_of, set_reg, after_access}
-use Rattle.mmu.specs.Step.{translate_in, translate_fetch_in}
-use Rattle.mmu.specs.Ops.{stepped_now, translate_of, fetch_stepped_now, fetch_pa_of}
+use Rattle.cpu.specs.Bare.{fresh_bare}
+use Rattle.cpu.specs.Core.{zeros, fresh_core, reg_of, set_reg, after_access}
+use Rattle.cpu.specs.Translations.{translate_in, translate_fetch_in}
+use Rattle.cpu.specs.Memory.{stepped_now, translate_of, fetch_stepped_now, fetch_pa_of}
 use Rattle.sysop.specs.Op.{named, decode_of}
 use Rattle.sysop.specs.Tlbi.{scope_of, what_of, tlbi_of}
-use Rattle.exec.specs.Fit.{refit_of}
-use Rattle.exec.specs.Ops.{with_regs, applied_of, after_register_write, set_level, set_mark}
-use Rattle.exec.specs.Sys.{tlbi_core, sys_of}
+use Rattle.cpu.specs.Fit.{refit_of}
+use Rattle.cpu.specs.Registers.{with_regs, applied_of, after_register_write, set_level, set_mark}
+use Rattle.cpu.specs.System.{tlbi_core, sys_of}
 use Rattle.operations.specs.Check.{missed_of}
 use Rattle.operations.specs.Replies.{translation}
 use Rattle.cpu.specs.Step.{run_of, step_of}

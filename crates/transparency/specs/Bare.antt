@@ -8,8 +8,8 @@ use Rattle.sysop.specs.Op.{decode_of}
 use Rattle.sysop.specs.Par.{at_par}
 use Rattle.sysop.specs.declared.{op.AtForm.AtForm, op.SysOp.SysOp}
 use Rattle.sysop.specs.declared.op.SysOp.TheVariants as Op
-use Rattle.mmu.specs.Bare.{Bare, reg_in, with_privilege, with_general, with_regs, with_par, with_entered}
-use Rattle.exec.specs.Sys.{mair_of}
+use Rattle.cpu.specs.Bare.{Bare, reg_in, with_privilege, with_general, with_regs, with_par, with_entered}
+use Rattle.cpu.specs.System.{mair_of}
 use Rattle.operations.specs.Check.{missed_of}
 use Rattle.cpu.specs.Step.{refused_or}
 use Rattle.operations.specs.declared.{call.Encoding.Encoding, call.Call.Call, call.Reply.Reply}
@@ -21,7 +21,7 @@ use Rattle.history.specs.Instance.{Ram, memory_of, real}
 use Rattle.sysreg.specs.declared.write.WriteError.TheVariants.{Undefined, NoRegister}
 
 -- Its state is the level, the mark, the registers kept and the general registers, at first those of `Cpu::new`; and
--- what abort entry reads and sets besides: flags and PC. The record and its updates are mmu's (`Bare`, `fresh_bare`); what
+-- what abort entry reads and sets besides: flags and PC. The record and its updates are the core's (`Bare`, `fresh_bare`); what
 -- each call does with them is said here, on its own.
 
 -- what a translation reads of it

@@ -3,9 +3,9 @@ use Rattle.std.specs.Prelude.{◌≡◌, Bool, List, ℕ}
 use Rattle.sysop.specs.declared.{op.AtForm.AtForm}
 use Rattle.sysop.specs.declared.op.SysOp.TheVariants as Op
 use Rattle.exception.specs.declared.kind.Exception.{Exception}
-use Rattle.mmu.specs.Bare.{Bare, fresh_bare, bare_of}
-use Rattle.mmu.specs.Core.{fresh_core}
-use Rattle.mmu.specs.declared.core_state.Core.{Core}
+use Rattle.cpu.specs.Bare.{Bare, fresh_bare, bare_of}
+use Rattle.cpu.specs.Core.{fresh_core}
+use Rattle.cpu.specs.declared.Core.{Core}
 use Rattle.cpu.specs.Step.{ends, step_of, ram_after}
 use Rattle.operations.specs.declared.{call.Encoding.Encoding, call.Call.Call}
 use Rattle.operations.specs.declared.call.Call.TheVariants.{System, Register, Level, Mark, General}
@@ -43,7 +43,7 @@ AfterEveryRun says = (list : List (Fed real machine)) → Shown real machine fre
 abbrev pub two_cores : Type 0
 two_cores = (list : List (Lent real machine)) → bare_of (core_after list) ≡ bare_after list
 
--- WHAT A CALL OF THE CORE WITHOUT A CACHE LEAVES: its updates are the core's own (mmu/specs/Bare.antt), so each says
+-- WHAT A CALL OF THE CORE WITHOUT A CACHE LEAVES: its updates are the core's own (cpu/specs/Bare.antt), so each says
 -- what else stays
 
 abbrev pub abort_leaves : Type 0

@@ -1,20 +1,20 @@
 -- Of every core that calls reach: each byte of a load or a store is the byte at the translation of its own address, and
 -- DC ZVA leaves 64 zero bytes at the translation of the aligned address and every other byte as it was. The laws are
--- mmu's and exec's, of cores that are well-formed; `read_of`, `write_of`, `ram_after_write`, `sys_of` and `sys_ram` are what
+-- the core's, of cores that are well-formed; `read_of`, `write_of`, `ram_after_write`, `sys_of` and `sys_ram` are what
 -- `step_of` and `ram_after` make of a call that misses no check.
 use Rattle.std.specs.Prelude.{◌≡◌, false, List, ℕ, ◌+◌, ◌/◌, ◌%◌, ◌^◌, ◌≤◌, ◌<◌, get_or, Ok}
 use Rattle.std.proofs.Math.ListN.{length}
 use Rattle.word.specs.Bits.{align_down, wrap}
 use Rattle.tlb.specs.declared.access.Kind.{Kind}
 use Rattle.tlb.specs.declared.access.Kind.TheVariants.{Read, Write}
-use Rattle.mmu.specs.Core.{fresh_core, reg_of}
+use Rattle.cpu.specs.Core.{fresh_core, reg_of}
 use Rattle.operations.specs.Bytes.{byte_in}
-use Rattle.mmu.specs.Ops.{translate_of, read_of, write_of, ram_after_write}
-use Rattle.mmu.specs.OwnAddress.{own_answer}
-use Rattle.mmu.specs.ByteMeaning.{OwnByte}
+use Rattle.cpu.specs.Memory.{translate_of, read_of, write_of, ram_after_write}
+use Rattle.cpu.specs.OwnAddress.{own_answer}
+use Rattle.cpu.specs.ByteMeaning.{OwnByte}
 use Rattle.sysop.specs.declared.op.SysOp.TheVariants as Op
-use Rattle.exec.specs.Sys.{op_of, sys_of, sys_ram}
-use Rattle.exec.specs.ZeroMeaning.{Zeroed}
+use Rattle.cpu.specs.System.{op_of, sys_of, sys_ram}
+use Rattle.cpu.specs.ZeroMeaning.{Zeroed}
 use Rattle.history.specs.World as World
 use Rattle.history.specs.Calls.{Fed, Shown}
 use Rattle.history.specs.Instance.{Ram, memory_of, real}

@@ -9,7 +9,7 @@ use Rattle.census.specs.Count.{page_at, census_at}
 use Rattle.census.specs.Laws.{has_rights}
 use Rattle.tlb.specs.declared.access.Kind.{Kind}
 use Rattle.tlb.specs.Answers.{Answer}
-use Rattle.mmu.specs.Bare.{Bare}
+use Rattle.cpu.specs.Bare.{Bare}
 use Rattle.operations.specs.declared.call.Call.TheVariants.{Census}
 use Rattle.cpu.specs.Step.{step_of}
 use Rattle.cpu.specs.Inspect.{counts_after}

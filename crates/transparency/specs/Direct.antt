@@ -9,11 +9,11 @@ use Rattle.tlb.specs.Asks.{address_of}
 use Rattle.tlb.specs.declared.access.Kind.{Kind}
 use Rattle.tlb.specs.Answers.{Answer}
 use Rattle.operations.specs.Answers.{Placed}
-use Rattle.mmu.specs.Bare.{Bare, fresh_bare, bare_of}
+use Rattle.cpu.specs.Bare.{Bare, fresh_bare, bare_of}
 use Rattle.operations.specs.Place.{next_page, crosses, placed_one, placed_both}
 use Rattle.operations.specs.Ends.{reached_by, load_end, store_end, store_ram_end, fetch_end}
-use Rattle.mmu.specs.Ops.{located_now}
-use Rattle.mmu.specs.declared.core_state.Core.{Core}
+use Rattle.cpu.specs.Memory.{located_now}
+use Rattle.cpu.specs.declared.Core.{Core}
 use Rattle.operations.specs.declared.call.Encoding.{Encoding}
 use Rattle.sysop.specs.declared.op.SysOp.TheVariants as Op
 use Rattle.operations.specs.Replies.{translation, reaching, loading, storing, fetching}

@@ -16,8 +16,8 @@ use Rattle.exception.specs.declared.kind.Exception.{Exception}
 use Rattle.sysop.specs.Tlbi.{tlbi_of, reaches_others}
 use Rattle.sysop.specs.declared.op.SysOp.{SysOp}
 use Rattle.sysop.specs.declared.op.SysOp.TheVariants as Op
-use Rattle.mmu.specs.Bare.{Bare}
-use Rattle.mmu.specs.Asks.{access_asks}
+use Rattle.cpu.specs.Bare.{Bare}
+use Rattle.cpu.specs.Asks.{access_asks}
 use Rattle.operations.specs.declared.{call.Encoding.Encoding, call.Call.Call}
 use Rattle.operations.specs.declared.call.Call.TheVariants.{Translate, DataPa, FetchPa, Load, Store, Fetch, System, Register, Level, Mark, General}
 use Rattle.operations.specs.declared.call.Call.TheVariants.{Abort, Census}

@@ -3,9 +3,9 @@ use Rattle.std.specs.Prelude.{◌≡◌, ℕ}
 use mathlib.Core.List.{List, ◌∷◌, ◌++◌}
 use Rattle.tlb.specs.Lists.{Each}
 use Rattle.tlb.specs.Asks.{Given}
-use Rattle.mmu.specs.Bare.{fresh_bare}
-use Rattle.mmu.specs.Core.{fresh_core}
-use Rattle.mmu.specs.declared.core_state.Core.{Core}
+use Rattle.cpu.specs.Bare.{fresh_bare}
+use Rattle.cpu.specs.Core.{fresh_core}
+use Rattle.cpu.specs.declared.Core.{Core}
 use Rattle.cpu.specs.Step.{step_of, ram_after, Stepped}
 use Rattle.operations.specs.declared.call.Call.{Call}
 use Rattle.history.specs.History.{Step, Event, steps, after_event, plain_run, tlb_event, tlb_run, answers}

@@ -8,7 +8,7 @@ use Rattle.fault.specs.declared.Fault.{Fault}
 use Rattle.tlb.specs.Asks.{address_of, Given}
 use Rattle.exception.specs.declared.kind.Exception.TheVariants as Exception
 use Rattle.exception.specs.declared.kind.Stop.TheVariants as Stop
-use Rattle.mmu.specs.Core.{fresh_core}
+use Rattle.cpu.specs.Core.{fresh_core}
 use Rattle.operations.specs.declared.{call.Call.Call, call.Reply.Reply}
 use Rattle.cpu.specs.Step.{step_of}
 use Rattle.history.specs.Calls.{Fed, lent_of, Shown}

@@ -4,8 +4,8 @@ use Rattle.std.specs.Prelude.{◌≡◌, List, [], ◌++◌, Err}
 use Rattle.fault.specs.declared.Fault.{Fault}
 use Rattle.tlb.specs.Lists.{Each}
 use Rattle.tlb.specs.Asks.{Given}
-use Rattle.mmu.specs.Bare.{fresh_bare}
-use Rattle.mmu.specs.Core.{fresh_core}
+use Rattle.cpu.specs.Bare.{fresh_bare}
+use Rattle.cpu.specs.Core.{fresh_core}
 use Rattle.history.specs.History.{Step, Event, tlb_run, answers}
 use Rattle.history.specs.Invisible.{answers_run}
 use Rattle.history.specs.Calls.{Fed, lent_of, events_run, Shown, plain_after}

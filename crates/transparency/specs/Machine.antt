@@ -1,6 +1,6 @@
 -- The core as a machine of the theory: its step is `step_of` of `cpu`, which the contract of the code's `step` cites.
-use Rattle.mmu.specs.Bare.{Bare, bare_of}
-use Rattle.mmu.specs.declared.core_state.Core.{Core}
+use Rattle.cpu.specs.Bare.{Bare, bare_of}
+use Rattle.cpu.specs.declared.Core.{Core}
 use Rattle.cpu.specs.Step.{step_of}
 use Rattle.operations.specs.declared.call.Call.{Call}
 use Rattle.history.specs.Calls.{Machine}

@@ -10,8 +10,8 @@ use Rattle.tlb.specs.Model.{Model, empty_model}
 use Rattle.tlb.specs.Live.{counters_of, pending_of, live, WellFormed}
 use Rattle.tlb.specs.Asks.{Given}
 use Rattle.tlb.specs.declared.Tlb.{Tlb}
-use Rattle.mmu.specs.Bare.{fresh_bare}
-use Rattle.mmu.specs.declared.core_state.Core.{Core}
+use Rattle.cpu.specs.Bare.{fresh_bare}
+use Rattle.cpu.specs.declared.Core.{Core}
 use Rattle.cpu.specs.Step.{step_of}
 use Rattle.operations.specs.declared.call.Call.{Call}
 use Rattle.history.specs.History.{Event}

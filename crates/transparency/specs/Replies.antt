@@ -8,10 +8,10 @@ use Rattle.tlb.specs.Asks.{Ask, Given}
 use Rattle.tlb.specs.declared.access.Kind.TheVariants as Kind
 use Rattle.sysop.specs.declared.op.SysOp.{SysOp}
 use Rattle.sysop.specs.declared.op.SysOp.TheVariants as Op
-use Rattle.mmu.specs.Bare.{Bare}
-use Rattle.mmu.specs.Asks.{first_of, placed_from}
+use Rattle.cpu.specs.Bare.{Bare}
+use Rattle.cpu.specs.Asks.{first_of, placed_from}
 use Rattle.operations.specs.Ends.{load_end, store_end, store_ram_end, fetch_end, reached_by}
-use Rattle.mmu.specs.declared.core_state.Core.{Core}
+use Rattle.cpu.specs.declared.Core.{Core}
 use Rattle.operations.specs.Replies.{translation, loading, storing, fetching, reaching}
 use Rattle.cpu.specs.Step.{step_of, ram_after}
 use Rattle.operations.specs.declared.{call.Call.Call, call.Reply.Reply}

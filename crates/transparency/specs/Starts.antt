@@ -7,10 +7,10 @@ use Rattle.std.specs.Prelude.{List, [], ◌∷◌, ℕ, zero, suc, ◌+◌}
 use Rattle.word.specs.Bits.{align_down, wrap}
 use Rattle.sysop.specs.declared.op.SysOp.{SysOp}
 use Rattle.sysop.specs.declared.op.SysOp.TheVariants as Op
-use Rattle.mmu.specs.Bare.{bare_of}
-use Rattle.mmu.specs.Ops.{write_of, ram_after_write}
-use Rattle.mmu.specs.declared.core_state.Core.{Core}
-use Rattle.exec.specs.Sys.{on_stored}
+use Rattle.cpu.specs.Bare.{bare_of}
+use Rattle.cpu.specs.Memory.{write_of, ram_after_write}
+use Rattle.cpu.specs.declared.Core.{Core}
+use Rattle.cpu.specs.System.{on_stored}
 use Rattle.operations.specs.declared.call.Call.{Call}
 use Rattle.operations.specs.declared.call.Call.TheVariants.{Translate, DataPa, FetchPa, Load, Store, Fetch, System, Register, Level, Mark, General}
 use Rattle.operations.specs.declared.call.Call.TheVariants.{Abort, Census}

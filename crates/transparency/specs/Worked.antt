@@ -5,7 +5,7 @@ use Rattle.word.specs.Ram.{bytes_of}
 use Rattle.tlb.specs.Step.{translation_in}
 use Rattle.tlb.specs.declared.access.Kind.TheVariants.{Read}
 use Rattle.tlb.specs.declared.resolve.Source.TheVariants.{FromHint}
-use Rattle.mmu.specs.Bare.{bare_of}
+use Rattle.cpu.specs.Bare.{bare_of}
 use Rattle.cpu.specs.Step.{step_of}
 use Rattle.operations.specs.declared.call.Call.{Call}
 use Rattle.operations.specs.declared.call.Call.TheVariants.{Translate, FetchPa, Register, Level, Mark, General, System}

@@ -1,6 +1,6 @@
 // What is proved of every list of calls: each function does nothing, and its contract is the theorem. The lists begin
 // at the fresh core, hold calls of every kind, refused ones too, and RAM at each step is any.
-ghost use Rattle.mmu.specs.Core.{fresh_core};
+ghost use Rattle.cpu.specs.Core.{fresh_core};
 ghost use Rattle.history.specs.Calls.{Bridge, EveryCallFaithful, RepliesByAnswers, SameReplies, InvisibleCalls};
 ghost use Rattle.history.specs.Instance.{real};
 ghost use Rattle.transparency.specs.Machine.{machine};

@@ -1,6 +1,6 @@
 // What an access gets: from a walk made now, and from the core, cache and all.
 use crate::fields::{Rights, Status};
-use mmu::core_state::Core;
+use cpu::Core;
 use operations::call::{Call, Reply};
 use std::fmt;
 use tlb::access::Kind;
@@ -65,7 +65,7 @@ pub fn of_walk(core: &Core, w: Walked, regime: Regime, kind: Kind, va: u64) -> T
 
 // The core's own answer to the translation.
 pub fn of_core(core: &mut Core, base: u64, ram: &mut [u8], kind: Kind, va: u64) -> Told {
-    match cpu::run::step(core, base, ram, Call::Translate(kind, va)) {
+    match cpu::step::step(core, base, ram, Call::Translate(kind, va)) {
         Reply::Value(pa) => Told::Address(pa),
         Reply::Fault { fault, .. } => Told::Fault(u64::from(fault.fsc)),
         Reply::Refused(check) => Told::Nothing(u64::from(check)),

@@ -1,7 +1,7 @@
 // A translation explained: what a walk made now gives, beside what the core answers.
 use crate::answer::{Reach, Told};
 use crate::{answer, levels, registers};
-use mmu::core_state::Core;
+use cpu::Core;
 use std::io;
 use std::io::Write;
 use tlb::access::{Kind, Privilege};

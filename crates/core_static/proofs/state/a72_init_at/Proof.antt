@@ -23,12 +23,12 @@ use denote.Triple.Entry.{on_entry}
 use denote.Triple.Spec.{triple_of}
 use denote.Triple.Table.{framed}
 use denote.Triple.Walked.{Stays, stay_dropped, Goes-dropped, walk_of, ends_at}
-use Rattle.mmu.specs.Core.{fresh_core}
-use Rattle.mmu.specs.declared.core_state.Core.{Core}
-use Rattle.mmu.specs.contracts.core_state.Core.{the_row as T}
-use Rattle.mmu.proofs.core_state.Core.TheLaws.{the_row_laws}
-use Rattle.mmu.specs.contracts.core_state.Core.new as g
-use Rattle.mmu.proofs.core_state.Core.new.Met.{met}
+use Rattle.cpu.specs.Core.{fresh_core}
+use Rattle.cpu.specs.declared.Core.{Core}
+use Rattle.cpu.specs.contracts.Core.{the_row as T}
+use Rattle.cpu.proofs.Core.TheLaws.{the_row_laws}
+use Rattle.cpu.specs.contracts.Core.new as g
+use Rattle.cpu.proofs.Core.new.Met.{met}
 use Rattle.core_static.specs.contracts.state.a72_init_at as f
 use Rattle.core_static.proofs.state.a72_init_at.Statement.{statement}
 use Rattle.core_static.proofs.state.a72_init_at.Code as code
@@ -50,7 +50,7 @@ a72_init_at_spec 𝓤 𝓛 𝓜 𝓡 wired =
     -- [the room; the locals]
     let G = triple_of 𝓛 g.signature (g.spec 𝓛 𝓜.mem 𝓡.returns) in let z : G.Ghost = ((tt, tt, tt, tt, tt), tt) in
     nothing ! $ nothing ! $ join ! $ nothing ! $ move ! (1 ∷ 0 ∷ []) $ use2 𝓛 (raw (G.pre z)) (id⊢ 𝓤 _) $
-    calls_at ! (framed 𝓤 𝓛.H 𝓜 (tables 𝓤 𝓛.H 𝓜 𝓡 𝓡.env)) G (met 𝓤 𝓛 𝓜 𝓡 (code.calls-mmu::core_state::Core::new 𝓡.env wired)) z (no_more !) (λ v.
+    calls_at ! (framed 𝓤 𝓛.H 𝓜 (tables 𝓤 𝓛.H 𝓜 𝓡 𝓡.env)) G (met 𝓤 𝓛 𝓜 𝓡 (code.calls-cpu::Core::new 𝓡.env wired)) z (no_more !) (λ v.
     use1 𝓛 (later (some (λ (r : Core). (‵ ftrue ⊛ ‵ (T.own_val r (v ∷ []))) ⊛ some (λ (ws : Unit {0}). ‵ (lasts g.ended tt tt ws) ⊛ raw (fact 𝓤 (r ≡ fresh_core)))))) (id⊢ 𝓤 _) $
     await ! tt $ pick ! (λ r. split ! $ move ! (1 ∷ []) $ pick ! (λ ws. split ! $ drop ! $ heard ! (r ≡ fresh_core) (λ is_fresh. split ! $ drop ! $
     rewrite ! 0 (λ (x : Core). ‵ (T.own_val x (v ∷ []))) is_fresh refl $

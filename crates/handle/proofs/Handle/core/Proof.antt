@@ -22,10 +22,10 @@ use denote.Signature.{plain, mut_ref_to}
 use denote.Steps.{nothing, opens, peeks}
 use denote.Triple.Walked.{says, Stays, stay_dropped, walk_of, ends_at, Goes-spent_ref}
 use Rattle.std.proofs.VecSteps.Shapes.{after}
-use Rattle.mmu.specs.declared.core_state.Core.{Core}
+use Rattle.cpu.specs.declared.Core.{Core}
 use Rattle.handle.specs.Lending.{with_core}
 use Rattle.handle.proofs.Handled.{word, back}
-use Rattle.mmu.specs.contracts.core_state.Core.{the_row as T}
+use Rattle.cpu.specs.contracts.Core.{the_row as T}
 use Rattle.handle.specs.contracts.Handle.{the_row as R}
 use Rattle.handle.proofs.Handle.TheLaws.{lowers}
 use Rattle.handle.specs.contracts.Handle.core as f

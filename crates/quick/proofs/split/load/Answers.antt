@@ -4,7 +4,7 @@ use Rattle.walk.specs.Regime.{regime_of, stage1_on}
 use Rattle.walk.specs.declared.regime.Bank.{Bank}
 use Rattle.tlb.specs.Step.{hint_in}
 use Rattle.tlb.specs.declared.access.Kind.TheVariants.{Read}
-use Rattle.mmu.specs.Core.{bank_now}
+use Rattle.cpu.specs.Core.{bank_now}
 use Rattle.operations.specs.Place.{in_page, next_page, crosses}
 use Rattle.operations.specs.AtOnce.{both_at}
 use Rattle.operations.proofs.Both.{both-loads}

@@ -1,0 +1,32 @@
+use Rattle.std.specs.Prelude.{refl}
+use Rattle.tlb.specs.Cache.{flushed, without_page, without_asid}
+use Rattle.tlb.specs.Tlb.{flush_of, drop_page_of, drop_asid_of, invalidate_of, broadcast_of}
+use Rattle.tlb.specs.Maintenance.{invalidated_of}
+use Rattle.sysop.specs.Op.{named, decode_of}
+use Rattle.sysop.specs.Tlbi.{scope_of, what_of, tlbi_of}
+use Rattle.cpu.specs.Core.{after_access, reg_of}
+use Rattle.cpu.specs.System.{tlbi_core, sys_of}
+use Rattle.cpu.proofs.theorems.effect_of_invalidations.Goals as goal
+
+pub returns : goal.returns
+unfolding sys_of reg_of named decode_of tlbi_core after_access tlbi_of what_of scope_of invalidated_of invalidate_of broadcast_of flush_of drop_page_of
+    drop_asid_of flushed without_page without_asid
+returns c = record {
+  invalidations = λ x. record {
+    all = refl;
+    page = refl;
+    an_asid = refl;
+    all_shared = refl;
+    page_shared = refl;
+    an_asid_shared = refl;
+    left_all = refl;
+    left_page = refl;
+    left_asid = refl;
+    pending_all = refl;
+    pending_page = refl;
+    pending_asid = refl;
+    same_again = refl;
+    another = refl;
+    pending_stays = refl;
+  };
+}

@@ -1,0 +1,148 @@
+-- What every operation leaves as it was, the cache that it leaves, and RAM after it.
+use Rattle.cpu.specs.Results.{Located}
+use Rattle.std.specs.Prelude.{◌≡◌, ℕ, ◌+◌, ◌<◌, Bool, List, [], ◌∷◌, length, ◌≢◌, slice_index, refl, Ok, Err}
+use Rattle.std.proofs.Common.{sym}
+use Rattle.std.proofs.Math.Path.{ap}
+use Rattle.word.specs.Ram.{word_at}
+use Rattle.walk.specs.Regime.{stage1_on, regime_of}
+use Rattle.tlb.specs.Model.{Access}
+use Rattle.tlb.specs.Asks.{Ask, translates, fetches, onward-same, answer_of, tlb_ask, answers, tlb_asks}
+use Rattle.tlb.specs.declared.access.Kind.{Kind}
+use Rattle.tlb.specs.declared.access.Kind.TheVariants.{Read, Write}
+use Rattle.cpu.specs.Bare.{bare_of}
+use Rattle.cpu.specs.Core.{after_access, bank_now}
+use Rattle.operations.specs.BytesLaws.{address_in, store_length, store-leaves}
+use Rattle.operations.specs.Ends.{store_ram_end}
+use Rattle.cpu.specs.Memory.{stepped_now, fetch_stepped_now, located_now, translate_of, translate_access_of, read_of, write_of, ram_after_write, fetch_of, fetch_pa_of}
+use Rattle.cpu.specs.Memory.{data_pa_of}
+use Rattle.cpu.specs.Translations.{translate_in, translate_fetch_in}
+use Rattle.cpu.specs.Asks.{access_asks, access_at, placed_from, located-asks}
+use Rattle.cpu.specs.declared.Core.{Core}
+use Rattle.operations.specs.declared.place.Place.{Place}
+use Rattle.operations.specs.Answers.{Placed}
+
+-- the operations; n is a number of bytes
+pub data Operation : Type 0 where
+  translate : (va : ℕ) → Kind → Operation
+  access : (va n : ℕ) → Kind → Operation
+  load : (va n : ℕ) → Operation
+  store : (va n value : ℕ) → Operation
+  fetch : (va : ℕ) → Operation
+  fetch_pa : (va : ℕ) → Operation
+  data_pa : (va : ℕ) → Operation
+
+-- the core and RAM after each
+abbrev pub operation_core : Core → ℕ → List ℕ → Operation → Core
+operation_core c base ram (translate va kind) = (translate_of c (word_at base ram 8) va kind).core
+operation_core c base ram (access va n kind) = (translate_access_of c (word_at base ram 8) va n kind).core
+operation_core c base ram (load va n) = (read_of c base ram va n).core
+operation_core c base ram (store va n v) = (write_of c base ram va n).core
+operation_core c base ram (fetch va) = (fetch_of c base ram va).core
+operation_core c base ram (fetch_pa va) = (fetch_pa_of c (word_at base ram 8) va).core
+operation_core c base ram (data_pa va) = (data_pa_of c (word_at base ram 8) va).core
+
+abbrev pub operation_ram : Core → ℕ → List ℕ → Operation → List ℕ
+operation_ram c base ram (store va n v) = ram_after_write c base ram va n v
+operation_ram c base ram (translate va kind) = ram
+operation_ram c base ram (access va n kind) = ram
+operation_ram c base ram (load va n) = ram
+operation_ram c base ram (fetch va) = ram
+operation_ram c base ram (fetch_pa va) = ram
+operation_ram c base ram (data_pa va) = ram
+
+-- its translations, by whether stage 1 is on
+abbrev pub asks_of : Bool → Operation → List Ask
+asks_of on (translate va kind) = translates kind va ∷ []
+asks_of on (access va n kind) = access_asks on va n kind
+asks_of on (load va n) = access_asks on va n Read
+asks_of on (store va n v) = access_asks on va n Write
+asks_of on (fetch va) = fetches va ∷ []
+asks_of on (fetch_pa va) = fetches va ∷ []
+asks_of on (data_pa va) = translates Read va ∷ []
+
+abbrev pub on_now : Core → Bool
+on_now c = stage1_on (bank_now c) (regime_of c.privilege.level)
+
+-- THE CORE
+
+-- no operation changes the level, the mark, flags, PC or a register
+pub kept : (c : Core) (base : ℕ) (ram : List ℕ) (o : Operation) → bare_of (operation_core c base ram o) ≡ bare_of c
+unfolding translate_of translate_access_of read_of write_of fetch_of fetch_pa_of data_pa_of after_access
+kept c base ram (translate va kind) = refl
+kept c base ram (access va n kind) = refl
+kept c base ram (load va n) = refl
+kept c base ram (store va n v) = refl
+kept c base ram (fetch va) = refl
+kept c base ram (fetch_pa va) = refl
+kept c base ram (data_pa va) = refl
+
+module _ (c : Core) (base : ℕ) (ram : List ℕ) where
+  -- the access of a kind at an address
+  abbrev pub access_now : Kind → ℕ → Access
+  access_now kind va = access_at (bank_now c) c.privilege (word_at base ram 8) kind va
+
+  -- one translation
+  one-asked : (a : Ask) → tlb_ask access_now a c.tlb ≡ tlb_asks access_now (a ∷ []) c.tlb
+  one-asked a = sym (onward-same (answer_of access_now a c.tlb) (tlb_ask access_now a c.tlb))
+
+  accessed : (va n : ℕ) (kind : Kind) → located_now c (word_at base ram 8) va n kind
+      ≡ record {
+        tlb = tlb_asks access_now (access_asks (on_now c) va n kind) c.tlb;
+        placed = placed_from va (answers access_now (access_asks (on_now c) va n kind) c.tlb);
+      }
+  unfolding located_now
+  accessed va n kind = located-asks (bank_now c) c.privilege (word_at base ram 8) va n kind c.tlb
+
+  -- the cache is the one that its translations leave
+  pub tlb-after : (o : Operation) → (operation_core c base ram o).tlb ≡ tlb_asks access_now (asks_of (on_now c) o) c.tlb
+  unfolding translate_of translate_access_of read_of write_of fetch_of fetch_pa_of data_pa_of stepped_now fetch_stepped_now translate_in translate_fetch_in after_access
+  tlb-after (translate va kind) = one-asked (translates kind va)
+  tlb-after (access va n kind) = ap (λ (r : Located). r.tlb) (accessed va n kind)
+  tlb-after (load va n) = ap (λ (r : Located). r.tlb) (accessed va n Read)
+  tlb-after (store va n v) = ap (λ (r : Located). r.tlb) (accessed va n Write)
+  tlb-after (fetch va) = one-asked (fetches va)
+  tlb-after (fetch_pa va) = one-asked (fetches va)
+  tlb-after (data_pa va) = one-asked (translates Read va)
+
+  -- and an access's place is what their answers say
+  pub placed_by : (va n : ℕ) (kind : Kind)
+      → (located_now c (word_at base ram 8) va n kind).placed ≡ placed_from va (answers access_now (access_asks (on_now c) va n kind) c.tlb)
+  placed_by va n kind = ap (λ (r : Located). r.placed) (accessed va n kind)
+
+-- only a load sets `last_pa`
+pub store-last : (c : Core) (base : ℕ) (ram : List ℕ) (va n : ℕ) → (write_of c base ram va n).core.last_pa ≡ c.last_pa
+unfolding write_of after_access
+store-last c base ram va n = refl
+
+pub fetch-last : (c : Core) (base : ℕ) (ram : List ℕ) (va : ℕ) → (fetch_of c base ram va).core.last_pa ≡ c.last_pa
+unfolding fetch_of after_access
+fetch-last c base ram va = refl
+
+-- RAM
+
+pub ram-length : (c : Core) (base : ℕ) (ram : List ℕ) (o : Operation) → length (operation_ram c base ram o) ≡ length ram
+unfolding ram_after_write store_ram_end
+ram-length c base ram (store va n v) = go (located_now c (word_at base ram 8) va n Write).placed
+  where
+    go : (x : Placed) → length (store_ram_end x base ram n v) ≡ length ram
+    go (Ok place) = store_length base ram place n v
+    go (Err failed) = refl
+ram-length c base ram (translate va kind) = refl
+ram-length c base ram (access va n kind) = refl
+ram-length c base ram (load va n) = refl
+ram-length c base ram (fetch va) = refl
+ram-length c base ram (fetch_pa va) = refl
+ram-length c base ram (data_pa va) = refl
+
+-- a store changes no byte but its own
+pub write-leaves : (c : Core) (base : ℕ) (ram : List ℕ) (va n v k : ℕ)
+    → ((place : Place) → (located_now c (word_at base ram 8) va n Write).placed ≡ Ok place
+    → (i : ℕ) → i < n → base + k ≢ address_in place i)
+    → slice_index (ram_after_write c base ram va n v) k ≡ slice_index ram k
+unfolding ram_after_write store_ram_end
+write-leaves c base ram va n v k none = go (located_now c (word_at base ram 8) va n Write).placed none
+  where
+    go : (x : Placed) → ((place : Place) → x ≡ Ok place → (i : ℕ) → i < n → base + k ≢ address_in place i)
+        → slice_index (store_ram_end x base ram n v) k ≡ slice_index ram k
+    go (Ok place) free = store-leaves base ram place n v k (free place refl)
+    go (Err failed) free = refl

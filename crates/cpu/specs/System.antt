@@ -1,0 +1,88 @@
+-- System operations on the core.
+use Rattle.cpu.specs.Results.{Stored}
+use Rattle.std.specs.Prelude.{ℕ, zero, suc, ◌+◌, List, Option, Ok, Err}
+use Rattle.word.specs.Bits.{align_down, wrap}
+use Rattle.word.specs.Ram.{word_at}
+use Rattle.sysreg.specs.Regs.{sys_at}
+use Rattle.sysreg.specs.declared.regs.SysRegs.{SysRegs}
+use Rattle.sysreg.specs.declared.regs.SysReg.TheVariants.{Mair}
+use Rattle.walk.specs.Regime.{level_of}
+use Rattle.walk.specs.declared.regime.Regime.{Regime}
+unfoldable pub use Rattle.tlb.specs.Maintenance.{invalidated_of}
+use Rattle.exception.specs.declared.kind.Exception.TheVariants as Exception
+use Rattle.exception.specs.declared.kind.Stop.TheVariants as Stop
+use Rattle.sysop.specs.Op.{decode_of}
+use Rattle.sysop.specs.Tlbi.{tlbi_of, reaches_others}
+use Rattle.sysop.specs.Par.{at_par}
+use Rattle.sysop.specs.declared.{op.AtForm.AtForm, op.SysOp.SysOp}
+use Rattle.sysop.specs.declared.op.SysOp.TheVariants.{At, Tlbi, Zva, Nothing, Undefined, Unimplemented}
+use Rattle.cpu.specs.Bare as Bare
+use Rattle.cpu.specs.Bare.{bare_of, in_core}
+use Rattle.cpu.specs.Core.{reg_of}
+use Rattle.cpu.specs.Memory.{with_tlb, write_of, ram_after_write}
+use Rattle.cpu.specs.declared.Core.{Core}
+use Rattle.operations.specs.Answers.{StoreAnswer}
+
+-- MAIR of a regime
+abbrev pub mair_of : SysRegs → Regime → ℕ
+mair_of s r = sys_at s (Mair (level_of r))
+
+unfoldable pub with_par : Core → ℕ → Core
+with_par c par = in_core c (Bare.with_par (bare_of c) par)
+
+-- AT walks afresh, and PAR_EL1 alone changes
+unfoldable pub at_of : Core → (ℕ → Option ℕ) → AtForm → ℕ → Core
+at_of c memory form va = with_par c (at_par c.control (mair_of c.sys form.regime) form va memory)
+
+unfoldable pub tlbi_core : Core → ℕ → ℕ → ℕ → ℕ → Core
+tlbi_core c op1 crm op2 x = with_tlb c (invalidated_of c.tlb (tlbi_of c.control op1 crm op2 x) (reaches_others crm))
+
+-- n stores of eight zero bytes from va on, up to the first that stops; `ZeroMeaning` says what they leave in RAM
+abbrev pub done_with : Core → Stored
+done_with c = record { core = c; answer = Ok tt }
+
+abbrev pub on_stored : {A : Type 0} → StoreAnswer → A → A → A
+on_stored (Ok x) more end = more
+on_stored (Err s) more end = end
+
+unfoldable pub zero_of : ℕ → Core → ℕ → List ℕ → ℕ → Stored
+zero_of zero c base ram va = done_with c
+zero_of (suc n) c base ram va =
+    on_stored (write_of c base ram va 8).answer
+    (zero_of n (write_of c base ram va 8).core base (ram_after_write c base ram va 8 0) (wrap (va + 8)))
+    (write_of c base ram va 8)
+
+unfoldable pub zero_ram : ℕ → Core → ℕ → List ℕ → ℕ → List ℕ
+zero_ram zero c base ram va = ram
+zero_ram (suc n) c base ram va =
+    on_stored (write_of c base ram va 8).answer
+    (zero_ram n (write_of c base ram va 8).core base (ram_after_write c base ram va 8 0) (wrap (va + 8)))
+    (ram_after_write c base ram va 8 0)
+
+-- What a system operation does, by what its encoding names. DC ZVA: A8, its stores, and so a fault's address, begin at
+-- the register's value aligned down to 64; M21, the mark holds for them; D4, they are made to Device memory too.
+abbrev pub sys_by : SysOp → Core → ℕ → List ℕ → ℕ → ℕ → ℕ → ℕ → Stored
+sys_by (At form) c base ram op1 crm op2 x = done_with (at_of c (word_at base ram 8) form x)
+sys_by Tlbi c base ram op1 crm op2 x = done_with (tlbi_core c op1 crm op2 x)
+sys_by Zva c base ram op1 crm op2 x = zero_of 8 c base ram (align_down x 6)
+sys_by Nothing c base ram op1 crm op2 x = done_with c
+sys_by Undefined c base ram op1 crm op2 x = record { core = c; answer = Err (Stop.Exception Exception.Undefined) }
+sys_by Unimplemented c base ram op1 crm op2 x = record { core = c; answer = Err Stop.Unimplemented }
+
+-- only a zeroing writes RAM
+abbrev pub sys_ram_by : SysOp → Core → ℕ → List ℕ → ℕ → List ℕ
+sys_ram_by (At form) c base ram x = ram
+sys_ram_by Tlbi c base ram x = ram
+sys_ram_by Zva c base ram x = zero_ram 8 c base ram (align_down x 6)
+sys_ram_by Nothing c base ram x = ram
+sys_ram_by Undefined c base ram x = ram
+sys_ram_by Unimplemented c base ram x = ram
+
+abbrev pub op_of : Core → ℕ → ℕ → ℕ → ℕ → SysOp
+op_of c op1 crn crm op2 = decode_of c.privilege.level op1 crn crm op2
+
+unfoldable pub sys_of : Core → ℕ → List ℕ → ℕ → ℕ → ℕ → ℕ → ℕ → Stored
+sys_of c base ram op1 crn crm op2 rt = sys_by (op_of c op1 crn crm op2) c base ram op1 crm op2 (reg_of c rt)
+
+unfoldable pub sys_ram : Core → ℕ → List ℕ → ℕ → ℕ → ℕ → ℕ → ℕ → List ℕ
+sys_ram c base ram op1 crn crm op2 rt = sys_ram_by (op_of c op1 crn crm op2) c base ram (reg_of c rt)

@@ -1,0 +1,260 @@
+-- A zeroing store by store: each store's own translation, what the stores before it leave, and what they do to RAM.
+use Rattle.cpu.specs.Results.{Located, Stored}
+use Rattle.std.specs.Prelude.{if◌then◌else◌, ◌≡◌, ℕ, zero, suc, ◌+◌, ◌-◌, ◌*◌, ◌/◌, ◌%◌, ◌^◌, ◌<◌, ◌≤◌, Bool, true, false, ltb, List, length, ◌≢◌}
+use Rattle.std.specs.Prelude.{nat_le, nat_lt, slice_index, Ok, Err}
+use Rattle.std.proofs.Math.Path.{refl, sym, ap}
+use Rattle.std.proofs.Common.{◌∙◌, mod-eq_of_lt, pos_of_ne-zero, leb-true, leb-false, ltb-true, ltb-false, le-ltb}
+use Rattle.std.proofs.Math.Nat.{zero-div}
+use native.Mathlib.Omega.{arith}
+use Rattle.word.specs.Bits.{wrap}
+use Rattle.word.specs.Ram.{within, word_at, stored}
+use Rattle.word.specs.RamLaws.{within_low, within-high, written_byte}
+use Rattle.tlb.specs.declared.access.Kind.TheVariants.{Write}
+use Rattle.fault.specs.declared.Fault.{Fault}
+use Rattle.tlb.specs.Answers.{Answer}
+use Rattle.operations.specs.Answers.{Placed, StoreAnswer, fault_at}
+use Rattle.exception.specs.declared.kind.Stop.{Stop}
+use Rattle.cpu.specs.Core.{after_access, bank_now}
+use Rattle.operations.specs.Place.{in_page, crosses, goes_on, placed_one, verdict_of}
+use Rattle.operations.specs.Bytes.{store_ram}
+use Rattle.operations.specs.BytesLaws.{stored-leaves}
+use Rattle.cpu.specs.Translations.{one_page, translate_in, located_of}
+use Rattle.operations.specs.Ends.{store_end, store_ram_end}
+use Rattle.cpu.specs.Memory.{stepped_now, located_now, translate_of, write_of, ram_after_write}
+use Rattle.cpu.specs.OpLaws.{on_now}
+use Rattle.cpu.specs.declared.Core.{Core}
+use Rattle.operations.specs.declared.place.Place.TheVariants.{Whole}
+use Rattle.cpu.specs.System.{done_with, on_stored, zero_of, zero_ram}
+
+-- ONE STORE OF EIGHT ZERO BYTES, at an address of which it is a multiple
+
+module _ (c : Core) (base : ℕ) (ram : List ℕ) (a : ℕ) (even : a % 8 ≡ 0) where
+  abbrev answer_for : Answer
+  answer_for = (translate_of c (word_at base ram 8) a Write).answer
+
+  one-page-only : (on : Bool) → crosses on a 8 ≡ false
+  one-page-only on = go on
+    where
+      long : 8 ≤ in_page a
+      long = omega arith
+
+      short : ltb (in_page a) 8 ≡ false
+      short = le-ltb _ _ long
+
+      go : (b : Bool) → crosses b a 8 ≡ false
+      go true = short
+      go false = refl
+
+  -- it takes one translation
+  pub one-located : located_now c (word_at base ram 8) a 8 Write ≡ one_page a (translate_in (bank_now c) c.privilege (word_at base ram 8) a Write c.tlb)
+  unfolding located_now located_of
+  one-located = rw (one-page-only (on_now c)) (go (translate_in (bank_now c) c.privilege (word_at base ram 8) a Write c.tlb).answer _ _)
+    where
+      go : (x : Answer) (y z : Located) → (if goes_on x false then y else z) ≡ z
+      go (Ok pa) y z = refl
+      go (Err fault) y z = refl
+
+  one_placed : (located_now c (word_at base ram 8) a 8 Write).placed ≡ placed_one a answer_for
+  unfolding translate_of stepped_now
+  one_placed = ap (λ (l : Located). l.placed) one-located
+
+  pub one-tlb : (write_of c base ram a 8).core.tlb ≡ (translate_in (bank_now c) c.privilege (word_at base ram 8) a Write c.tlb).tlb
+  unfolding write_of after_access
+  one-tlb = ap (λ (l : Located). l.tlb) one-located
+
+  -- what it does to RAM, by its translation's answer
+  pub one-ram : (pa : ℕ) → answer_for ≡ Ok pa → ram_after_write c base ram a 8 0 ≡ stored base ram 8 pa 0
+  unfolding ram_after_write store_ram_end store_ram
+  one-ram pa e = rw (one_placed, e)
+
+  pub none-ram : (f : Fault) → answer_for ≡ Err f → ram_after_write c base ram a 8 0 ≡ ram
+  unfolding ram_after_write store_ram_end
+  none-ram f e = rw (one_placed, e)
+
+  -- a store that is done has an address, of eight bytes of RAM
+  pub one-done : (write_of c base ram a 8).answer ≡ Ok tt → (pa : ℕ) × ((answer_for ≡ Ok pa) × (within base (length ram) 8 pa ≡ true))
+  unfolding write_of store_end verdict_of
+  one-done = go (located_now c (word_at base ram 8) a 8 Write).placed one_placed answer_for refl
+    where
+      go : (x : Placed) → x ≡ placed_one a answer_for → (y : Answer) → answer_for ≡ y → (store_end x c.abort_pa base ram a 8).answer ≡ Ok tt
+          → (pa : ℕ) × ((answer_for ≡ Ok pa) × (within base (length ram) 8 pa ≡ true))
+      go x p (Err fault) e q =
+          let f : (store_end (Err (fault_at a fault)) c.abort_pa base ram a 8).answer ≡ Ok tt
+          = ap (λ (w : Placed). (store_end w c.abort_pa base ram a 8).answer) (sym (p ∙ ap (placed_one a) e)) ∙ q in
+          let z : ◌≡◌ {A = ℕ} 0 1 = cc in
+          absurd (omega arith)
+      go x p (Ok pa) e q =
+          let f : (store_end (Ok (Whole pa)) c.abort_pa base ram a 8).answer ≡ Ok tt
+          = ap (λ (w : Placed). (store_end w c.abort_pa base ram a 8).answer) (sym (p ∙ ap (placed_one a) e)) ∙ q in
+          (pa, (e, inside (within base (length ram) 8 pa) refl f))
+        where
+          inside : (b : Bool) → within base (length ram) 8 pa ≡ b → (store_end (Ok (Whole pa)) c.abort_pa base ram a 8).answer ≡ Ok tt
+              → within base (length ram) 8 pa ≡ true
+          inside true w f = w
+          inside false w f = let r = rw w at f in let z : ◌≡◌ {A = ℕ} 0 1 = cc in absurd (omega arith)
+
+-- ZEROS
+
+-- bytes of a store of zeros
+zero-digit : (i : ℕ) → 0 / 256 ^ i % 256 ≡ 0
+zero-digit i = rw (zero-div (256 ^ i))
+
+module _ (base : ℕ) (ram : List ℕ) (n pa : ℕ) where
+  module _ (w : within base (length ram) n pa ≡ true) where
+    pub zeros-there : (i : ℕ) → i < n → slice_index (stored base ram n pa 0) (pa + i - base) ≡ 0
+    unfolding stored
+    zeros-there i h =
+        let l = within_low base (length ram) n pa w in
+        let k = within-high base (length ram) n pa w in
+        let x : pa + i - base ≡ pa - base + i = omega arith in
+        rw (w, x) (written_byte ram (pa - base) n 0 i (omega arith) h ∙ zero-digit i)
+
+  unstored : (k : ℕ) → within base (length ram) n pa ≡ false → slice_index (stored base ram n pa 0) k ≡ slice_index ram k
+  unfolding stored
+  unstored k w = rw w
+
+  -- a zero byte stays zero
+  pub zeros-stay : (k : ℕ) → slice_index ram k ≡ 0 → slice_index (stored base ram n pa 0) k ≡ 0
+  zeros-stay k z = go (within base (length ram) n pa) refl
+    where
+      go : (b : Bool) → within base (length ram) n pa ≡ b → slice_index (stored base ram n pa 0) k ≡ 0
+      go false w = unstored k w ∙ z
+      go true w = side (nat_le pa (base + k)) (nat_lt (base + k) (pa + n)) refl refl
+        where
+          l : base ≤ pa
+          l = within_low base (length ram) n pa w
+
+          side : (x y : Bool) → nat_le pa (base + k) ≡ x → nat_lt (base + k) (pa + n) ≡ y → slice_index (stored base ram n pa 0) k ≡ 0
+          side true true ex ey =
+              let a : pa ≤ base + k = leb-true _ _ ex in
+              let b : base + k < pa + n = ltb-true _ _ ey in
+              let low = l in
+              let here : pa + (base + k - pa) - base ≡ k = omega arith in
+              rw here at (zeros-there w (base + k - pa) (omega arith))
+          side true false ex ey =
+              let b : pa + n ≤ base + k = ltb-false _ _ ey in
+              stored-leaves base ram n pa 0 k (λ i h q. omega arith) ∙ z
+          side false y ex ey =
+              let a : base + k < pa = leb-false _ _ ex in
+              stored-leaves base ram n pa 0 k (λ i h q. omega arith) ∙ z
+
+-- STORE AFTER STORE
+
+pub some_left : (n : ℕ) → (n ≢ 0) → 1 ≤ n
+some_left n h = pos_of_ne-zero h
+
+pub fewer-left : (n t : ℕ) → (n ≢ 0) → n ≡ t → n - 1 < t
+fewer-left n t h e = let k = some_left n h in omega arith
+
+more : (n : ℕ) → (n ≢ 0) → n ≡ suc (n - 1)
+more n h = let k = some_left n h in omega arith
+
+-- no store, one that stops, and one that goes on
+module _ (n : ℕ) (c : Core) (base : ℕ) (ram : List ℕ) (va : ℕ) where
+  pub zero-none : n ≡ 0 → (done_with c ≡ zero_of n c base ram va) × (ram ≡ zero_ram n c base ram va)
+  unfolding zero_of zero_ram
+  zero-none e = (rw e, rw e)
+
+  zero-next : (m : ℕ) → n ≡ suc m → (write_of c base ram va 8).answer ≡ Ok tt
+      → (zero_of m (write_of c base ram va 8).core base (ram_after_write c base ram va 8 0) (wrap (va + 8)) ≡ zero_of n c base ram va)
+      × (zero_ram m (write_of c base ram va 8).core base (ram_after_write c base ram va 8 0) (wrap (va + 8)) ≡ zero_ram n c base ram va)
+  unfolding zero_of zero_ram
+  zero-next m k e = (rw (k, zero_of, e), rw (k, zero_ram, e))
+
+  module _ (h : n ≡ 0 → ⊥) where
+    pub zero-stops : (s : Stop) → (write_of c base ram va 8).answer ≡ Err s
+        → (write_of c base ram va 8 ≡ zero_of n c base ram va) × (ram_after_write c base ram va 8 0 ≡ zero_ram n c base ram va)
+    unfolding zero_of zero_ram
+    zero-stops s e = (rw (more n h, zero_of, e), rw (more n h, zero_ram, e))
+
+    pub zero-goes : (write_of c base ram va 8).answer ≡ Ok tt
+        → (zero_of (n - 1) (write_of c base ram va 8).core base (ram_after_write c base ram va 8 0) (wrap (va + 8)) ≡ zero_of n c base ram va)
+        × (zero_ram (n - 1) (write_of c base ram va 8).core base (ram_after_write c base ram va 8 0) (wrap (va + 8)) ≡ zero_ram n c base ram va)
+    zero-goes e = zero-next (n - 1) (more n h) e
+
+-- the address of store n
+abbrev pub store_va : ℕ → ℕ → ℕ
+store_va va zero = va
+store_va va (suc n) = store_va (wrap (va + 8)) n
+
+-- which is va + 8 * n where the stores end in the address space
+pub store-va : (n va : ℕ) → va + 8 * n < 2 ^ 64 → store_va va n ≡ va + 8 * n
+store-va zero va h = omega arith
+store-va (suc n) va h =
+    let w : wrap (va + 8) ≡ va + 8 = mod-eq_of_lt (omega arith) in
+    ap (λ (x : ℕ). store_va x n) w ∙ store-va n (va + 8) (omega arith) ∙ omega arith
+
+module _ (base : ℕ) where
+  abbrev after : ℕ → Core → List ℕ → ℕ → Stored
+  after n c ram va = zero_of n c base ram va
+
+  abbrev left : ℕ → Core → List ℕ → ℕ → List ℕ
+  left n c ram va = zero_ram n c base ram va
+
+  -- n + 1 stores are n, and one more where all of them were done
+  pub zero-last : (n : ℕ) (c : Core) (ram : List ℕ) (va : ℕ)
+      → after (suc n) c ram va
+      ≡ on_stored (after n c ram va).answer (write_of (after n c ram va).core base (left n c ram va) (store_va va n) 8) (after n c ram va)
+  unfolding zero_of zero_ram
+  zero-last zero c ram va = go (write_of c base ram va 8).answer refl
+    where
+      go : (x : StoreAnswer) → (write_of c base ram va 8).answer ≡ x
+          → on_stored (write_of c base ram va 8).answer (done_with (write_of c base ram va 8).core) (write_of c base ram va 8) ≡ write_of c base ram va 8
+      go (Ok x) e =
+          ap (λ (y : StoreAnswer). on_stored y (done_with (write_of c base ram va 8).core) (write_of c base ram va 8)) e
+          ∙ (λ i. record { core = (write_of c base ram va 8).core; answer = sym e i })
+      go (Err s) e = rw e
+  zero-last (suc n) c ram va =
+      go (write_of c base ram va 8).answer refl (zero-last n (write_of c base ram va 8).core (ram_after_write c base ram va 8 0) (wrap (va + 8)))
+    where
+      go : (x : StoreAnswer) → (write_of c base ram va 8).answer ≡ x
+          → after (suc n) (write_of c base ram va 8).core (ram_after_write c base ram va 8 0) (wrap (va + 8))
+          ≡ on_stored (after n (write_of c base ram va 8).core (ram_after_write c base ram va 8 0) (wrap (va + 8))).answer
+          (write_of (after n (write_of c base ram va 8).core (ram_after_write c base ram va 8 0) (wrap (va + 8))).core base
+          (left n (write_of c base ram va 8).core (ram_after_write c base ram va 8 0) (wrap (va + 8))) (store_va (wrap (va + 8)) n) 8)
+          (after n (write_of c base ram va 8).core (ram_after_write c base ram va 8 0) (wrap (va + 8)))
+          → after (suc (suc n)) c ram va
+          ≡ on_stored (after (suc n) c ram va).answer
+          (write_of (after (suc n) c ram va).core base (left (suc n) c ram va) (store_va va (suc n)) 8) (after (suc n) c ram va)
+      go (Ok x) e ih = rw e ih
+      go (Err s) e ih = rw e
+
+  pub zero-ram-last : (n : ℕ) (c : Core) (ram : List ℕ) (va : ℕ)
+      → left (suc n) c ram va
+      ≡ on_stored (after n c ram va).answer (ram_after_write (after n c ram va).core base (left n c ram va) (store_va va n) 8 0) (left n c ram va)
+  unfolding zero_of zero_ram
+  zero-ram-last zero c ram va = go (write_of c base ram va 8).answer
+    where
+      go : (x : StoreAnswer) → on_stored x (ram_after_write c base ram va 8 0) (ram_after_write c base ram va 8 0) ≡ ram_after_write c base ram va 8 0
+      go (Ok x) = refl
+      go (Err s) = refl
+  zero-ram-last (suc n) c ram va =
+      go (write_of c base ram va 8).answer refl (zero-ram-last n (write_of c base ram va 8).core (ram_after_write c base ram va 8 0) (wrap (va + 8)))
+    where
+      go : (x : StoreAnswer) → (write_of c base ram va 8).answer ≡ x
+          → left (suc n) (write_of c base ram va 8).core (ram_after_write c base ram va 8 0) (wrap (va + 8))
+          ≡ on_stored (after n (write_of c base ram va 8).core (ram_after_write c base ram va 8 0) (wrap (va + 8))).answer
+          (ram_after_write (after n (write_of c base ram va 8).core (ram_after_write c base ram va 8 0) (wrap (va + 8))).core base
+          (left n (write_of c base ram va 8).core (ram_after_write c base ram va 8 0) (wrap (va + 8))) (store_va (wrap (va + 8)) n) 8 0)
+          (left n (write_of c base ram va 8).core (ram_after_write c base ram va 8 0) (wrap (va + 8)))
+          → left (suc (suc n)) c ram va
+          ≡ on_stored (after (suc n) c ram va).answer
+          (ram_after_write (after (suc n) c ram va).core base (left (suc n) c ram va) (store_va va (suc n)) 8 0) (left (suc n) c ram va)
+      go (Ok x) e ih = rw e ih
+      go (Err s) e ih = rw e
+
+  -- where n + 1 are done, n are, and the last is
+  pub zero-done : (n : ℕ) (c : Core) (ram : List ℕ) (va : ℕ) → (after (suc n) c ram va).answer ≡ Ok tt
+      → ((after n c ram va).answer ≡ Ok tt) × ((write_of (after n c ram va).core base (left n c ram va) (store_va va n) 8).answer ≡ Ok tt)
+  zero-done n c ram va e = go (after n c ram va).answer refl (ap (λ (r : Stored). r.answer) (sym (zero-last n c ram va)) ∙ e)
+    where
+      last : Stored
+      last = write_of (after n c ram va).core base (left n c ram va) (store_va va n) 8
+
+      go : (x : StoreAnswer) → (after n c ram va).answer ≡ x → (on_stored (after n c ram va).answer last (after n c ram va)).answer ≡ Ok tt
+          → ((after n c ram va).answer ≡ Ok tt) × (last.answer ≡ Ok tt)
+      go (Ok x) q f = (q, rw q at f)
+      go (Err s) q f =
+          let r : ◌≡◌ {A = StoreAnswer} (Err s) (Ok tt) = rw q at f in
+          let z : ◌≡◌ {A = ℕ} 0 1 = cc in
+          absurd (omega arith)

@@ -1,3 +1,0 @@
-pub mod Ram
-pub mod Keeping
-pub mod Aborting
