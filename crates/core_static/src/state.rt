@@ -8,8 +8,8 @@ ghost use Rattle.cpu.specs.contracts.Core.{the_row as core_row};
 ghost use Rattle.saved.specs.CoreOf.{core_of};
 ghost use Rattle.saved.specs.WordsOf.{word_of, words_of, held};
 
-use handle::Handle;
 use cpu::Core;
+use handle::Handle;
 use saved::place::Saved;
 
 // What the header says of a core's memory: the handle, then the core that it names.

@@ -1,7 +1,7 @@
 // Leaves: functions of the registers as they stand, which change nothing.
+use cpu::Core;
 use exception::kind::Exception;
 use exception::{report, take};
-use cpu::Core;
 use sysreg::encoding;
 use sysreg::regs::{ControlReg, El, Register, SysReg};
 use trace_text::line;

@@ -1,8 +1,8 @@
 // The core, its window of RAM, and what a trace's lines do to them.
 use crate::{calls, edits, leaves, memory};
 use core_calls::inspect;
-use digest::counts;
 use cpu::Core;
+use digest::counts;
 use operations::call::Call;
 use saved::{place, save};
 use std::alloc::{AllocError, Global};
