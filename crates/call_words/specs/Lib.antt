@@ -2,3 +2,4 @@
 pub mod Ops
 pub mod Replies
 pub mod Walk
+pub mod Codes

@@ -3,3 +3,4 @@
 pub mod op;
 pub mod reply;
 pub mod tables;
+pub mod theorems;

@@ -1,3 +1,4 @@
 pub mod Read
 pub mod Put
 pub mod Set
+pub mod Numbers

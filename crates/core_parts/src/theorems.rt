@@ -1,4 +1,7 @@
 // What holds of what is set and read. Each function computes nothing: its contract is the theorem.
+ghost use Rattle.std.specs.Prelude.{ℕ};
+ghost use Rattle.cpu.specs.declared.Core.{Core};
+ghost use Rattle.core_parts.specs.Numbers.{PstateSet, PstateRead, PendingNumbers, EntryNumbers, Answers};
 ghost use Rattle.core_parts.specs.Set.{general_set, general_alone, general_none, broadcast_arrives};
 
 /// A general register is read as it was set, and no other one moves; 31 and above take nothing and read as zero. It
@@ -13,4 +16,15 @@ pub fn set_and_read()
 /// arrives as an ASID.
 pub fn broadcast()
     ensures { broadcast_arrives }
+{}
+
+/// What is set and read, in numbers: the bits of PSTATE that a word sets, and the word that is read of it; what is
+/// pending, an entry and the hints by their words; the answers. It rules out a D that no word sets, and two words of
+/// an entry that change places.
+pub fn parts_as_words()
+    ensures pstate_set { (c : Core) → PstateSet c }
+    ensures pstate_read { (c : Core) → PstateRead c }
+    ensures pending { (page value : ℕ) → PendingNumbers page value }
+    ensures entries { EntryNumbers }
+    ensures answers { (value : ℕ) → Answers value }
 {}

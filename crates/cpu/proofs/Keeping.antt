@@ -1,8 +1,9 @@
 -- What the core keeps: general registers, `last_pa` and `abort_pa`.
-use Rattle.std.proofs.Common.{◌≡◌, Bool, true, false, length, refl, arith, lt-ltb, le-ltb, ltb}
+use Rattle.std.proofs.Common.{◌≡◌, ℕ, Bool, true, false, length, refl, arith, lt-ltb, le-ltb, ltb}
 use Rattle.std.specs.Prelude.{if◌then◌else◌, slice_index, slice_set}
 use Rattle.std.proofs.lemmas.List.{get_or-set_same, get_or-set_other}
 use Rattle.std.proofs.Math.ListN.{length-set}
+use Rattle.tlb.specs.Lists.{replicate-at}
 use Rattle.cpu.specs.Bare.{zeros}
 use Rattle.cpu.specs.Core.{fresh_core, reg_of, set_reg, after_access}
 use Rattle.cpu.specs.Memory.{translate_of, translate_access_of, write_of, fetch_of, fetch_pa_of, data_pa_of}
@@ -51,6 +52,14 @@ register-rows = refl
 pub neighbour-rows : NeighbourRows
 unfolding reg_of set_reg fresh_core zeros
 neighbour-rows = refl
+
+pub fresh-general : (n : ℕ) → reg_of fresh_core n ≡ 0
+unfolding reg_of fresh_core zeros
+fresh-general n = go (ltb n 31)
+  where
+    go : (a : Bool) → (if a then slice_index zeros n else 0) ≡ 0
+    go true = replicate-at 0 31 n
+    go false = refl
 
 -- OPERATIONS
 

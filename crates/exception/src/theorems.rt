@@ -68,6 +68,16 @@ pub fn worked_entries()
     ensures interrupts { WorkedInterrupts }
 {}
 
+/// PSTATE out of reset, computed: its fields, and the word that SPSR_EL3 has of it. It rules out an interrupt that is
+/// not masked out of reset, and SP_EL0 in use.
+#[tactic(auto, unfolding(crate::specs::Pstate::spsr_of))]
+pub fn pstate_of_reset()
+    ensures nzcv { fresh_flags.nzcv ≡ 0 }
+    ensures daif { fresh_flags.daif ≡ 0x3C0 }
+    ensures sp { fresh_flags.spsel ≡ true }
+    ensures saved { spsr_of 3 fresh_flags ≡ 0x3CD }
+{}
+
 // The level that each kind of exception is taken to, computed: HCR_EL2.TGE takes each that is usual from Non-secure EL0
 // to EL2, and an HVC or SMC that is UNDEFINED; from Secure EL0, EL1 and above it takes none. It rules out a BRK that
 // ignores TGE, and TSC that traps SMC at Secure EL1.

@@ -3,3 +3,4 @@ pub mod CoreOf
 pub mod WordsOf
 pub mod Fits
 pub mod NamedPlaces
+pub mod PartWords

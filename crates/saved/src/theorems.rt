@@ -6,6 +6,7 @@ ghost use Rattle.saved.specs.CoreOf.{word, core_of};
 ghost use Rattle.saved.specs.Fits.{Fits};
 ghost use Rattle.saved.specs.NamedPlaces.{control_named, sys_named, general_named, parts_named};
 ghost use Rattle.saved.specs.NamedPlaces.{hints_named, entries_named, tallies_named};
+ghost use Rattle.saved.specs.PartWords.{PendingSaved, PendingRestored, AttributesSaved, AttributesRestored, LevelRestored};
 ghost use Rattle.saved.specs.WordsOf.{word_of, words_of, held};
 
 /// The words of a core, one by one and as they are saved, are the same. It rules out a word that `save` writes and
@@ -35,4 +36,15 @@ pub fn named_places()
     ensures hints { hints_named }
     ensures entries { entries_named }
     ensures tallies { tallies_named }
+{}
+
+/// What the words of some parts say, in numbers, and the parts that words give: what is pending, the attributes of an
+/// entry, the level. It rules out two kinds of what is pending, and two fields of the attributes, that change places in
+/// `save`, `restore` and their definitions alike.
+pub fn words_of_parts()
+    ensures pending_saved { (c : Core) (page asid : ℕ) → PendingSaved c page asid }
+    ensures pending_restored { (words : List ℕ) (value : ℕ) → PendingRestored words value }
+    ensures attributes_saved { AttributesSaved }
+    ensures attributes_restored { AttributesRestored }
+    ensures level_restored { (words : List ℕ) → LevelRestored words }
 {}

@@ -1,11 +1,18 @@
 // A call on the core, by the function that C calls, and its answer in four words.
+ghost use Rattle.std.specs.Prelude.{◌≡◌};
+ghost use Rattle.call_words.specs.Ops.{kind_of};
+ghost use Rattle.call_words.specs.declared.op.DecodedKind.TheVariants as DecodedKind;
+ghost use Rattle.cpu.specs.Step.{step_of, ram_after};
+
 use call_words::reply;
 use core_calls::memory;
 use cpu::Core;
 use operations::call::Call;
 use tlb::access::Kind;
 
-fn kind_number(kind: Kind) -> u64 {
+fn kind_number(kind: Kind) -> u64
+    ensures { kind_of result ≡ DecodedKind.Known kind }
+{
     match kind {
         Kind::Read => 1,
         Kind::Write => 2,
@@ -25,7 +32,12 @@ fn answered(n: u64, done: [u64; 2], fault: u64, addr: u64, write: u64) -> [u64; 
     }
 }
 
-pub fn carry_out(core: &mut Core, base: u64, ram: &mut [u8], call: Call) -> [u64; 4] {
+/// The call, by the function that C calls where it has one for it: its answer in four words.
+#[tactic(auto, unfolding(call_words::specs::Ops::translate_call))]
+pub fn carry_out(core: &mut Core, base: u64, ram: &mut [u8], call: Call) -> [u64; 4]
+    ensures core { core.new ≡ (step_of core.old base ram.old call).core }
+    ensures ram { ram.new ≡ ram_after core.old base ram.old call }
+{
     let mut value = 0;
     match call {
         Call::Translate(kind, va) => {

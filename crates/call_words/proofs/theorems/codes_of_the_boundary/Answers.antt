@@ -1,0 +1,66 @@
+use Rattle.std.specs.Prelude.{refl}
+use Rattle.call_words.specs.Ops.{data_abort_of, call_exception_of, exception_of, translate_call, call_of}
+use Rattle.call_words.specs.Replies.{words_by}
+use Rattle.call_words.proofs.theorems.codes_of_the_boundary.Goals as goal
+
+pub returns-clause-calls : goal.returns-clause-calls
+unfolding call_of translate_call exception_of call_exception_of data_abort_of
+returns-clause-calls _ a b c d e rest = record {
+  translate_read = refl;
+  translate_write = refl;
+  translate_fetch = refl;
+  data_pa = refl;
+  fetch_pa = refl;
+  load = refl;
+  store = refl;
+  fetch = refl;
+  system = refl;
+  register = refl;
+  last_key = refl;
+  long_key = refl;
+  level = refl;
+  mark_off = refl;
+  mark_on = refl;
+  general = refl;
+  abort = refl;
+  census = refl;
+  code_0 = refl;
+  code_14 = refl;
+  kind_0 = refl;
+  kind_3 = refl;
+  mark_2 = refl;
+  exception_8 = refl;
+}
+
+pub returns-clause-exceptions : goal.returns-clause-exceptions
+unfolding exception_of call_exception_of data_abort_of
+returns-clause-exceptions _ a b c = record {
+  undefined = refl;
+  svc = refl;
+  hvc = refl;
+  smc = refl;
+  brk = refl;
+  load = refl;
+  store = refl;
+  insn_abort = refl;
+  pc_alignment = refl;
+  imm_too_long = refl;
+  write_2 = refl;
+  status_too_long = refl;
+  code_8 = refl;
+}
+
+pub returns-clause-replies : goal.returns-clause-replies
+unfolding words_by
+returns-clause-replies _ a old = record {
+  done = record { by_number = refl; by_value = refl; by_words = refl };
+  value = record { by_number = refl; by_value = refl; by_words = refl };
+  faults = record { by_number = refl; by_value = refl; by_words = refl };
+  refused = record { by_number = refl; by_value = refl; by_words = refl };
+  undefined = record { by_number = refl; by_value = refl; by_words = refl };
+  unimplemented = record { by_number = refl; by_value = refl; by_words = refl };
+  fault = record { by_number = refl; by_value = refl; by_words = refl };
+  load = record { by_number = refl; by_value = refl; by_words = refl };
+  store = record { by_number = refl; by_value = refl; by_words = refl };
+  insn_abort = record { by_number = refl; by_value = refl; by_words = refl };
+}

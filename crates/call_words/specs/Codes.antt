@@ -1,0 +1,91 @@
+-- The codes of the boundary, in numbers: the call and the exception that words name, and what is told of a reply.
+use Rattle.std.specs.Prelude.{◌≡◌, ℕ, false, true, List, [], ◌∷◌}
+use Rattle.fault.specs.First.{first}
+use Rattle.tlb.specs.declared.access.Kind.TheVariants.{Read, Write, Fetch}
+use Rattle.exception.specs.Abort.{data_abort_at, insn_abort_at}
+use Rattle.exception.specs.declared.{kind.Exception.Exception, kind.Stop.Stop}
+use Rattle.operations.specs.declared.{call.Call.Call, call.Reply.Reply}
+use Rattle.call_words.specs.declared.{op.DecodedCall.DecodedCall, op.DecodedException.DecodedException}
+use Rattle.call_words.specs.Ops.{exception_of, call_of}
+use Rattle.call_words.specs.Replies.{code_by, value_by, words_by}
+
+-- CALLS
+
+abbrev pub Names : Call → List ℕ → Type 0
+Names call words = call_of words ≡ DecodedCall.Known call
+
+abbrev pub NamesNothing : List ℕ → Type 0
+NamesNothing words = call_of words ≡ DecodedCall.Unknown
+
+-- a code, the words that its call takes, and whatever the rest holds
+pub record CallCodes (a b c d e : ℕ) (rest : List ℕ) : Type 0 where
+  pub translate_read : Names (Call.Translate Read a) (1 ∷ 1 ∷ a ∷ rest)
+  pub translate_write : Names (Call.Translate Write a) (1 ∷ 2 ∷ a ∷ rest)
+  pub translate_fetch : Names (Call.Translate Fetch a) (1 ∷ 4 ∷ a ∷ rest)
+  pub data_pa : Names (Call.DataPa a) (2 ∷ a ∷ rest)
+  pub fetch_pa : Names (Call.FetchPa a) (3 ∷ a ∷ rest)
+  pub load : Names (Call.Load a b) (4 ∷ a ∷ b ∷ rest)
+  pub store : Names (Call.Store a b c) (5 ∷ a ∷ b ∷ c ∷ rest)
+  pub fetch : Names (Call.Fetch a) (6 ∷ a ∷ rest)
+  pub system : Names (Call.System (record { op1 = a; crn = b; crm = c; op2 = d; rt = e })) (7 ∷ a ∷ b ∷ c ∷ d ∷ e ∷ rest)
+  pub register : Names (Call.Register 0xC080 a) (8 ∷ 0xC080 ∷ a ∷ rest)
+  pub last_key : Names (Call.Register 0xFFFF_FFFF a) (8 ∷ 0xFFFF_FFFF ∷ a ∷ rest)
+  -- 32 bits do not hold it: the key of no register
+  pub long_key : Names (Call.Register 0 a) (8 ∷ 0x1_0000_C080 ∷ a ∷ rest)
+  pub level : Names (Call.Level a) (9 ∷ a ∷ rest)
+  pub mark_off : Names (Call.Mark false) (10 ∷ 0 ∷ rest)
+  pub mark_on : Names (Call.Mark true) (10 ∷ 1 ∷ rest)
+  pub general : Names (Call.General a b) (11 ∷ a ∷ b ∷ rest)
+  pub abort : Names (Call.Abort (Exception.Svc 0x1234)) (12 ∷ 1 ∷ 0x1234 ∷ rest)
+  pub census : Names (Call.Census a b) (13 ∷ a ∷ b ∷ rest)
+  pub code_0 : NamesNothing (0 ∷ rest)
+  pub code_14 : NamesNothing (14 ∷ rest)
+  pub kind_0 : NamesNothing (1 ∷ 0 ∷ rest)
+  pub kind_3 : NamesNothing (1 ∷ 3 ∷ rest)
+  pub mark_2 : NamesNothing (10 ∷ 2 ∷ rest)
+  pub exception_8 : NamesNothing (12 ∷ 8 ∷ rest)
+
+-- EXCEPTIONS
+
+abbrev pub Raises : Exception → DecodedException → Type 0
+Raises e decoded = decoded ≡ DecodedException.Known e
+
+-- an immediate of 16 bits, a status of 8; words that an exception does not take may be any
+pub record ExceptionCodes (a b c : ℕ) : Type 0 where
+  pub undefined : Raises Exception.Undefined (exception_of 0 a b c)
+  pub svc : Raises (Exception.Svc 0xFFFF) (exception_of 1 0xFFFF b c)
+  pub hvc : Raises (Exception.Hvc 0xFFFF) (exception_of 2 0xFFFF b c)
+  pub smc : Raises (Exception.Smc 0xFFFF) (exception_of 3 0xFFFF b c)
+  pub brk : Raises (Exception.Brk 0xFFFF) (exception_of 4 0xFFFF b c)
+  pub load : Raises (data_abort_at a false (first 0xFF)) (exception_of 5 a 0 0xFF)
+  pub store : Raises (data_abort_at a true (first 0xFF)) (exception_of 5 a 1 0xFF)
+  pub insn_abort : Raises (insn_abort_at a (first 0xFF)) (exception_of 6 a 0xFF c)
+  pub pc_alignment : Raises Exception.PcAlignment (exception_of 7 a b c)
+  pub imm_too_long : exception_of 1 0x1_0000 b c ≡ DecodedException.Unknown
+  pub write_2 : exception_of 5 a 2 0xFF ≡ DecodedException.Unknown
+  pub status_too_long : exception_of 6 a 0x100 c ≡ DecodedException.Unknown
+  pub code_8 : exception_of 8 a b c ≡ DecodedException.Unknown
+
+-- REPLIES
+
+-- a reply's number, its value in a word that was `old`, and its four words
+pub record Gives (reply : Reply) (old number value : ℕ) (words : List ℕ) : Type 0 where
+  pub by_number : code_by reply ≡ number
+  pub by_value : value_by reply old ≡ value
+  pub by_words : words_by reply ≡ words
+
+abbrev pub stopped_by : Exception → Reply
+stopped_by e = Reply.Stopped (Stop.Exception e)
+
+-- the faults have status 0x21
+pub record ReplyCodes (a old : ℕ) : Type 0 where
+  pub done : Gives Reply.Done old 0 old (0 ∷ 0 ∷ 0 ∷ 0 ∷ [])
+  pub value : Gives (Reply.Value a) old 0 a (1 ∷ a ∷ 0 ∷ 0 ∷ [])
+  pub faults : Gives Reply.Faults old 0x100 old (2 ∷ 0 ∷ 0 ∷ 0 ∷ [])
+  pub refused : Gives (Reply.Refused 7) old 7 old (5 ∷ 7 ∷ 0 ∷ 0 ∷ [])
+  pub undefined : Gives (stopped_by Exception.Undefined) old 65 old (6 ∷ 0 ∷ 0 ∷ 0 ∷ [])
+  pub unimplemented : Gives (Reply.Stopped Stop.Unimplemented) old 66 old (7 ∷ 0 ∷ 0 ∷ 0 ∷ [])
+  pub fault : Gives (Reply.Fault a (first 0x21)) old 0x121 old (8 ∷ a ∷ 0x21 ∷ 0 ∷ [])
+  pub load : Gives (stopped_by (data_abort_at a false (first 0x21))) old 0x121 a (9 ∷ a ∷ 0x21 ∷ 0 ∷ [])
+  pub store : Gives (stopped_by (data_abort_at a true (first 0x21))) old 0x121 a (9 ∷ a ∷ 0x21 ∷ 1 ∷ [])
+  pub insn_abort : Gives (stopped_by (insn_abort_at a (first 0x21))) old 0x121 old (10 ∷ a ∷ 0x21 ∷ 0 ∷ [])
