@@ -1,11 +1,15 @@
 -- The codes of the boundary, in numbers: the call and the exception that words name, and what is told of a reply.
-use Rattle.std.specs.Prelude.{◌≡◌, ℕ, false, true, List, [], ◌∷◌}
+use Rattle.std.specs.Prelude.{◌≡◌, ℕ, false, true, List, [], ◌∷◌, Ok, Err}
 use Rattle.fault.specs.First.{first}
 use Rattle.tlb.specs.declared.access.Kind.TheVariants.{Read, Write, Fetch}
 use Rattle.exception.specs.Abort.{data_abort_at, insn_abort_at}
 use Rattle.exception.specs.declared.{kind.Exception.Exception, kind.Stop.Stop}
 use Rattle.operations.specs.declared.{call.Call.Call, call.Reply.Reply}
 use Rattle.call_words.specs.declared.{op.DecodedCall.DecodedCall, op.DecodedException.DecodedException}
+use Rattle.walk.specs.declared.level.Leaf.{Leaf}
+use Rattle.walk.specs.declared.regime.Regime.TheVariants.{El1, El2, El3}
+use Rattle.call_words.specs.declared.tables.Named.{Named}
+use Rattle.call_words.specs.Walk.{regime_at, bank_at, leaf_after, code_of, walk_code}
 use Rattle.call_words.specs.Ops.{exception_of, call_of}
 use Rattle.call_words.specs.Replies.{code_by, value_by, words_by}
 
@@ -89,3 +93,22 @@ pub record ReplyCodes (a old : ℕ) : Type 0 where
   pub load : Gives (stopped_by (data_abort_at a false (first 0x21))) old 0x121 a (9 ∷ a ∷ 0x21 ∷ 0 ∷ [])
   pub store : Gives (stopped_by (data_abort_at a true (first 0x21))) old 0x121 a (9 ∷ a ∷ 0x21 ∷ 1 ∷ [])
   pub insn_abort : Gives (stopped_by (insn_abort_at a (first 0x21))) old 0x121 old (10 ∷ a ∷ 0x21 ∷ 0 ∷ [])
+
+-- WALKS of the tables by lent words
+
+abbrev a_leaf : Leaf
+a_leaf = record { oa = 11; desc = 12; perms = 13; level = 3; global = true }
+
+-- regimes 1 to 3, the words of the registers and of a leaf, and the numbers
+pub record WalkCodes (words : List ℕ) (va : ℕ) : Type 0 where
+  pub el1 : regime_at 1 ≡ Named.Known El1
+  pub el2 : regime_at 2 ≡ Named.Known El2
+  pub el3 : regime_at 3 ≡ Named.Known El3
+  pub registers : bank_at (11 ∷ 12 ∷ 13 ∷ 14 ∷ 15 ∷ 16 ∷ []) ≡ record { sctlr = 11; tcr = 12; ttbr0 = 13; ttbr1_el1 = 14; scr_el3 = 15; hcr_el2 = 16 }
+  pub leaf : leaf_after a_leaf ≡ (11 ∷ 12 ∷ 13 ∷ 3 ∷ 1 ∷ [])
+  pub no_regime_0 : walk_code words 0 va 0 [] ≡ 64
+  pub no_regime_4 : walk_code words 4 va 0 [] ≡ 64
+  -- two bytes at the last address
+  pub window : walk_code words 1 va 0xFFFF_FFFF_FFFF_FFFF (0 ∷ 0 ∷ []) ≡ 2
+  pub found : code_of (Ok a_leaf) ≡ 0
+  pub fault : code_of (Err 0x21) ≡ 0x121

@@ -1,2 +1,3 @@
 pub mod Ends
 mod Set
+pub mod Accesses

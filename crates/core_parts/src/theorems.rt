@@ -1,6 +1,8 @@
 // What holds of what is set and read. Each function computes nothing: its contract is the theorem.
 ghost use Rattle.std.specs.Prelude.{ℕ};
 ghost use Rattle.cpu.specs.declared.Core.{Core};
+ghost use Rattle.core_parts.specs.Accesses.{SameAccesses};
+ghost use Rattle.core_parts.specs.Put.{with_pc, with_flags};
 ghost use Rattle.core_parts.specs.Numbers.{PstateSet, PstateRead, PendingNumbers, EntryNumbers, Answers};
 ghost use Rattle.core_parts.specs.Set.{general_set, general_alone, general_none, broadcast_arrives};
 
@@ -27,4 +29,11 @@ pub fn parts_as_words()
     ensures pending { (page value : ℕ) → PendingNumbers page value }
     ensures entries { EntryNumbers }
     ensures answers { (value : ℕ) → Answers value }
+{}
+
+/// The PC and PSTATE that are set decide of no access: each answers, and leaves RAM and the cache, as it would have
+/// before. It rules out a PSTATE whose word sets the level or the mark.
+pub fn accesses_after_setting()
+    ensures pc { (c : Core) (pc : ℕ) → SameAccesses c (with_pc c pc) }
+    ensures pstate { (c : Core) (psr : ℕ) → SameAccesses c (with_flags c psr) }
 {}

@@ -2,7 +2,9 @@
 ghost use Rattle.std.specs.Prelude.{◌≡◌};
 ghost use Rattle.call_words.specs.Ops.{kind_of};
 ghost use Rattle.call_words.specs.declared.op.DecodedKind.TheVariants as DecodedKind;
+ghost use Rattle.call_words.specs.Replies.{words_by};
 ghost use Rattle.cpu.specs.Step.{step_of, ram_after};
+ghost use Rattle.trace_core.specs.Told.{told};
 
 use call_words::reply;
 use core_calls::memory;
@@ -22,7 +24,9 @@ fn kind_number(kind: Kind) -> u64
 
 // The answer of a call that gave the number n: where it is done, a code and a value; where it faults, a code, an address
 // and whether it is a write.
-fn answered(n: u64, done: [u64; 2], fault: u64, addr: u64, write: u64) -> [u64; 4] {
+fn answered(n: u64, done: [u64; 2], fault: u64, addr: u64, write: u64) -> [u64; 4]
+    ensures { result ≡ told n done fault addr write }
+{
     if n == 0 {
         [done[0], done[1], 0, 0]
     } else if n < 256 {
@@ -33,8 +37,9 @@ fn answered(n: u64, done: [u64; 2], fault: u64, addr: u64, write: u64) -> [u64; 
 }
 
 /// The call, by the function that C calls where it has one for it: its answer in four words.
-#[tactic(auto, unfolding(call_words::specs::Ops::translate_call))]
+#[tactic(auto, unfolding(call_words::specs::Ops::translate_call), using(crate::proofs::Told::told_translation, crate::proofs::Told::told_data_pa, crate::proofs::Told::told_fetch_pa, crate::proofs::Told::told_load, crate::proofs::Told::told_store, crate::proofs::Told::told_fetch))]
 pub fn carry_out(core: &mut Core, base: u64, ram: &mut [u8], call: Call) -> [u64; 4]
+    ensures words { result ≡ words_by (step_of core.old base ram.old call).reply }
     ensures core { core.new ≡ (step_of core.old base ram.old call).core }
     ensures ram { ram.new ≡ ram_after core.old base ram.old call }
 {

@@ -1,6 +1,7 @@
 use Rattle.std.specs.Prelude.{refl}
 use Rattle.call_words.specs.Ops.{data_abort_of, call_exception_of, exception_of, translate_call, call_of}
 use Rattle.call_words.specs.Replies.{words_by}
+use Rattle.call_words.specs.Walk.{walk_code}
 use Rattle.call_words.proofs.theorems.codes_of_the_boundary.Goals as goal
 
 pub returns-clause-calls : goal.returns-clause-calls
@@ -63,4 +64,19 @@ returns-clause-replies _ a old = record {
   load = record { by_number = refl; by_value = refl; by_words = refl };
   store = record { by_number = refl; by_value = refl; by_words = refl };
   insn_abort = record { by_number = refl; by_value = refl; by_words = refl };
+}
+
+pub returns-clause-walks : goal.returns-clause-walks
+unfolding walk_code
+returns-clause-walks _ words va = record {
+  el1 = refl;
+  el2 = refl;
+  el3 = refl;
+  registers = refl;
+  leaf = refl;
+  no_regime_0 = refl;
+  no_regime_4 = refl;
+  window = refl;
+  found = refl;
+  fault = refl;
 }

@@ -1,0 +1,2 @@
+-- What the contracts of `trace_core` cite.
+pub mod Told
