@@ -21,7 +21,7 @@ pub fn data_pa(core: &mut Core, va: u64, ans: &mut u64, base: u64, ram: &[u8]) -
     ensures { Promise (DecodedCall.Known (Call.DataPa va)) base ram.now core.old result
         ans.old ans.new ram.now core.new }
 {
-    quick::reach::data_pa(core, va, ans, base, ram)
+    quick::translation::data_pa(core, va, ans, base, ram)
 }
 
 /// Where a fetch of `va` goes.

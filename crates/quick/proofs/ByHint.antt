@@ -1,9 +1,9 @@
--- A translation that its hint serves, past the checks, on plain values.
-use Rattle.std.specs.Prelude.{◌&&◌, if◌then◌else◌, ◌≡◌, ◌==◌, Bool, true, false, ◌+◌, ◌-◌, ◌^◌, ◌<◌, ◌≤◌, List, ℕ, length, Option, Some, None, Ok}
-use Rattle.std.proofs.Common.{refl, sym, ap, ◌∙◌, arith, subst, le-ltb, lt-ltb}
+-- A translation that its hint serves, or that no hint serves, on plain values.
+use Rattle.std.specs.Prelude.{◌&&◌, if◌then◌else◌, ◌≡◌, ◌==◌, Bool, true, false, List, ℕ, Option, Some, None, Ok}
+use Rattle.std.proofs.Common.{refl, sym, ap, ◌∙◌, subst}
 use Rattle.std.proofs.lemmas.List.{set-get_or}
-use Rattle.word.specs.Ram.{word_at}
 use Rattle.tlb.specs.Access.{may_hint}
+use Rattle.tlb.specs.Answers.{Answer}
 use Rattle.tlb.specs.Entry.{blank}
 use Rattle.tlb.specs.Hint.{no_hint, data_slot, hint_key, hint_found, on_page}
 use Rattle.tlb.specs.Cache.{entry_at, hint_at, set_entry, set_hint}
@@ -12,19 +12,14 @@ use Rattle.tlb.specs.Step.{hint_in}
 use Rattle.tlb.specs.Translate.{translation_with}
 use Rattle.tlb.specs.declared.{access.Kind.Kind, entry.Entry.Entry, hint.Hint.Hint}
 use Rattle.cpu.specs.Core.{after_access, bank_now}
+use Rattle.cpu.specs.Hand.{NeedsWalkNow}
 use Rattle.cpu.specs.Memory.{with_tlb, stepped_now, translate_of, past_hint_of}
 use Rattle.cpu.specs.Translations.{slot_at, translate_in, past_hint_step}
 use Rattle.cpu.specs.declared.Core.{Core}
-use Rattle.operations.specs.Check.{missed_of, passes}
-use Rattle.operations.specs.declared.call.Call.TheVariants.{Translate}
-use Rattle.operations.specs.declared.call.Reply.TheVariants.{Value, Refused}
 use Rattle.operations.specs.declared.call.Reply.{Reply}
-use Rattle.operations.specs.Replies.{translation}
-use Rattle.tlb.specs.Answers.{Answer}
 use Rattle.call_words.specs.Replies.{code_by, value_by}
 use Rattle.cpu.specs.Step.{Stepped}
-use Rattle.quick.specs.Says.{Clear, Tells}
-use Rattle.cpu.specs.Step.{step_of, run_of, after_translation}
+use Rattle.quick.specs.Says.{Tells, asked_reply, asked_run}
 
 abbrev is_at : Option ℕ → Type 0
 is_at (Some n) = Unit {0}
@@ -63,15 +58,6 @@ module _ (c : Core) (memory : ℕ → Option ℕ) (va : ℕ) (kind : Kind) where
       let at : on_page (hint_at c.tlb.cache place).pa va ≡ pa = ap address key.1 in
       rw (may.0, key.0, at) (λ i. record { core = same i; answer = Ok pa })
 
--- a level up to 3, a window that ends at the last address or before
-pub hinted : (c : Core) (base : ℕ) (ram : List ℕ) (va : ℕ) (kind : Kind) (pa : ℕ) → c.privilege.level < 4 → length ram < 2 ^ 64 → base ≤ 2 ^ 64 - 1 - length ram
-    → hint_in c.privilege va kind c.tlb ≡ Some pa → record { core = c; reply = Value pa } ≡ step_of c base ram (Translate kind va)
-unfolding step_of run_of missed_of
-hinted c base ram va kind pa low long fits h =
-    let level = le-ltb 3 c.privilege.level (omega (arith, low)) in
-    let window : passes base (length ram) ≡ false = le-ltb (2 ^ 64) (base + length ram) (omega (arith, long, fits)) in
-    rw (level, window) (sym (ap (after_translation va) (hint-serves c (word_at base ram 8) va kind pa h)))
-
 -- a hint that does not serve
 unserved : (b k : Bool) (pa : ℕ) → (if b then (if k then Some pa else None) else None) ≡ None → b && k ≡ false
 unserved false k pa e = refl
@@ -83,18 +69,16 @@ module _ (c : Core) (memory : ℕ → Option ℕ) (va : ℕ) (kind : Kind) where
   unfolding translate_of stepped_now translate_in translation_with past_hint_of past_hint_step
   unhinted h = rw (unserved (may_hint c.privilege kind) ((hint_at c.tlb.cache (data_slot va kind)).key == hint_key va c.privilege.level) (on_page (hint_at c.tlb.cache (data_slot va kind)).pa va) h) refl
 
-pub missed : (c : Core) (base : ℕ) (ram : List ℕ) (va : ℕ) (kind : Kind) (d : Core) (a : Answer) (r : Reply) → Clear c base (length ram) → length ram < 2 ^ 64
-    → hint_in c.privilege va kind c.tlb ≡ None → record { core = d; answer = a } ≡ past_hint_of c (word_at base ram 8) va kind → r ≡ translation va a
-    → record { core = d; reply = r } ≡ step_of c base ram (Translate kind va)
-unfolding step_of run_of missed_of
-missed c base ram va kind d a r clear long h e er =
-    let level = le-ltb 3 c.privilege.level (omega (arith, clear.0)) in
-    let window : passes base (length ram) ≡ false = le-ltb (2 ^ 64) (base + length ram) (omega (arith, long, clear.1)) in
-    rw (level, window) (ap (λ (x : Reply). record { core = d; reply = x }) er ∙ ap (after_translation va) (e ∙ unhinted c (word_at base ram 8) va kind h))
+-- a translation that no hint serves, in its two parts, by the kind that the instance reads
+module _ (c d : Core) (memory : ℕ → Option ℕ) (va : ℕ) (read kind : Kind) (a : Answer) (is : read ≡ kind) (none : hint_in c.privilege va kind c.tlb ≡ None) where
+  abbrev past : Kind → Type 0
+  past k = record { core = d; answer = a } ≡ past_hint_of c memory va k
 
-pub high : (c : Core) (base : ℕ) (ram : List ℕ) (va : ℕ) (kind : Kind) → 3 < c.privilege.level → record { core = c; reply = Refused 1 } ≡ step_of c base ram (Translate kind va)
-unfolding step_of run_of missed_of
-high c base ram va kind h = rw (lt-ltb 3 c.privilege.level h) refl
+  pub handed : past read → record { core = d; answer = a } ≡ translate_of c memory va kind
+  handed e = subst past is e ∙ unhinted c memory va kind none
+
+  pub walked : (NeedsWalkNow c memory va read → past read) → NeedsWalkNow c memory va kind → record { core = d; answer = a } ≡ translate_of c memory va kind
+  walked f needs = handed (f (subst (λ (k : Kind). NeedsWalkNow c memory va k) (sym is) needs))
 
 -- a step by its reply
 pub tells : (s : Stepped) (d : Core) (r : Reply) (n old v : ℕ) → record { core = d; reply = r } ≡ s → n ≡ code_by r → v ≡ value_by r old → Tells s old n v d
@@ -104,3 +88,8 @@ tells s d r n old v e en ev =
       value = ev ∙ ap (λ (x : Stepped). value_by x.reply old) e;
       core = ap (λ (x : Stepped). x.core) e;
     }
+
+-- a translation by its reply
+pub asked-told : (c : Core) (memory : ℕ → Option ℕ) (va : ℕ) (kind : Kind) (d : Core) (a : Answer) (b : Bool) → record { core = d; answer = a } ≡ translate_of c memory va kind
+    → (old n v : ℕ) → (n ≡ code_by (asked_reply b va a)) × (v ≡ value_by (asked_reply b va a) old) → Tells (asked_run b va (translate_of c memory va kind)) old n v d
+asked-told c memory va kind d a b e old n v told = tells _ d (asked_reply b va a) n old v (ap (asked_run b va) e) told.0 told.1

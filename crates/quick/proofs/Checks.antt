@@ -1,15 +1,23 @@
 -- A call by its checks: past them it is its operation, and where one is missed nothing changes.
-use Rattle.std.specs.Prelude.{◌≡◌, List, ℕ}
-use Rattle.std.proofs.Common.{refl, ◌∙◌, subst}
+use Rattle.std.specs.Prelude.{◌≡◌, ◌+◌, ◌-◌, ◌^◌, ◌<◌, ◌≤◌, true, false, List, ℕ, length, Option, Some}
+use Rattle.std.proofs.Common.{refl, sym, ap, ◌∙◌, arith, subst, le-ltb, lt-ltb}
+use Rattle.word.specs.Ram.{word_at, width_of, bytes_in}
+use Rattle.word.specs.declared.ram.Width.{Width}
+use Rattle.word.specs.declared.ram.Width.TheVariants.{Byte, Half, Word, Double}
+use Rattle.tlb.specs.declared.access.Kind.{Kind}
+use Rattle.tlb.specs.declared.access.Kind.TheVariants.{Read}
+use Rattle.cpu.specs.Memory.{translate_of, data_pa_of, read_of, write_of, ram_after_write}
 use Rattle.cpu.specs.declared.Core.{Core}
-use Rattle.operations.specs.Check.{number_of}
+use Rattle.operations.specs.Check.{number_of, first_of, passes, ram_rows, sized_rows, missed_of}
 use Rattle.operations.specs.declared.{call.Call.Call, check.Check.Check}
 use Rattle.operations.specs.declared.call.Reply.TheVariants.{Refused}
 use Rattle.cpu.specs.System.{sys_of, sys_ram}
 use Rattle.operations.specs.declared.call.Encoding.{Encoding}
-use Rattle.operations.specs.declared.call.Call.TheVariants.{System}
-use Rattle.cpu.specs.Step.{Stepped, after_store, ends, missed_by, run_of, ram_of, step_of, ram_after}
-use Rattle.quick.specs.Says.{Tells}
+use Rattle.operations.specs.declared.call.Call.TheVariants.{Translate, DataPa, FetchPa, Load, Store, Fetch, System}
+use Rattle.cpu.specs.Step.{Stepped, after_load, after_store, load_by, store_by, store_ram_by}
+use Rattle.cpu.specs.Step.{ends, missed_by, run_of, ram_of, step_of, ram_after}
+use Rattle.quick.specs.Says.{Tells, ram_checked, asked_run, fetch_run}
+use Rattle.quick.proofs.ByHint.{tells}
 
 module _ (c : Core) (base : ℕ) (ram : List ℕ) (x : Call) where
   module _ (e : 0 ≡ missed_by c base ram x) where
@@ -21,15 +29,21 @@ module _ (c : Core) (base : ℕ) (ram : List ℕ) (x : Call) where
     unfolding ram_after
     passed-ram = rw (← e) refl
 
-  pub refused : (k : Check) → number_of k ≡ missed_by c base ram x → ends c (Refused (number_of k)) ≡ step_of c base ram x
+    pub told : (old n v : ℕ) (d : Core) → Tells (run_of c base ram x) old n v d → Tells (step_of c base ram x) old n v d
+    told old n v d t = subst (λ (s : Stepped). Tells s old n v d) passed t
+
+  pub refuses : (k : Check) → number_of k ≡ missed_by c base ram x → ends c (Refused (number_of k)) ≡ step_of c base ram x
   unfolding step_of
-  refused Check.Level e = rw (← e) refl
-  refused Check.Window e = rw (← e) refl
-  refused Check.Size e = rw (← e) refl
-  refused Check.Encoding e = rw (← e) refl
-  refused Check.General e = rw (← e) refl
-  refused Check.Key e = rw (← e) refl
-  refused Check.Pages e = rw (← e) refl
+  refuses Check.Level e = rw (← e) refl
+  refuses Check.Window e = rw (← e) refl
+  refuses Check.Size e = rw (← e) refl
+  refuses Check.Encoding e = rw (← e) refl
+  refuses Check.General e = rw (← e) refl
+  refuses Check.Key e = rw (← e) refl
+  refuses Check.Pages e = rw (← e) refl
+
+  pub refused : (k : Check) → number_of k ≡ missed_by c base ram x → (old n : ℕ) → n ≡ number_of k → Tells (step_of c base ram x) old n old c
+  refused k e old n en = tells _ c (Refused (number_of k)) n old old (refuses k e) en refl
 
   pub refused-ram : (k : Check) → number_of k ≡ missed_by c base ram x → ram ≡ ram_after c base ram x
   unfolding ram_after
@@ -41,11 +55,103 @@ module _ (c : Core) (base : ℕ) (ram : List ℕ) (x : Call) where
   refused-ram Check.Key e = rw (← e) refl
   refused-ram Check.Pages e = rw (← e) refl
 
+-- the checks at their quickest: a level up to 3, and a window that ends at the last address or before
+pub known : (w : Width) → width_of (bytes_in w) ≡ Some w
+known Byte = refl
+known Half = refl
+known Word = refl
+known Double = refl
+
+module _ (c : Core) (base : ℕ) (ram : List ℕ) where
+  pub high : 3 < c.privilege.level → 1 ≡ first_of (ram_rows c.privilege.level base (length ram))
+  high h = rw (lt-ltb 3 c.privilege.level h) refl
+
+  pub high-sized : (size : ℕ) → 3 < c.privilege.level → 1 ≡ first_of (sized_rows c.privilege.level base (length ram) size)
+  high-sized size h = rw (lt-ltb 3 c.privilege.level h) refl
+
+  pub clear : c.privilege.level < 4 → length ram < 2 ^ 64 → base ≤ 2 ^ 64 - 1 - length ram → 0 ≡ first_of (ram_rows c.privilege.level base (length ram))
+  clear low long fits =
+      let level = le-ltb 3 c.privilege.level (omega (arith, low)) in
+      let window : passes base (length ram) ≡ false = le-ltb (2 ^ 64) (base + length ram) (omega (arith, long, fits)) in
+      rw (level, window) refl
+
+  pub clear-sized : (w : Width) → c.privilege.level < 4 → length ram < 2 ^ 64 → base ≤ 2 ^ 64 - 1 - length ram
+      → 0 ≡ first_of (sized_rows c.privilege.level base (length ram) (bytes_in w))
+  clear-sized w low long fits =
+      let level = le-ltb 3 c.privilege.level (omega (arith, low)) in
+      let window : passes base (length ram) ≡ false = le-ltb (2 ^ 64) (base + length ram) (omega (arith, long, fits)) in
+      rw (level, window, known w) refl
+
+-- a call that is handed RAM and no more
+module _ (c : Core) (base : ℕ) (ram : List ℕ) (s : Stepped) where
+  pub ram-told : 0 ≡ first_of (ram_rows c.privilege.level base (length ram)) → (old n v : ℕ) (d : Core) → Tells s old n v d → Tells (ram_checked c base ram s) old n v d
+  ram-told e old n v d t = rw (← e) t
+
+  ram-refuses : (k : Check) → number_of k ≡ first_of (ram_rows c.privilege.level base (length ram)) → ends c (Refused (number_of k)) ≡ ram_checked c base ram s
+  ram-refuses Check.Level e = rw (← e) refl
+  ram-refuses Check.Window e = rw (← e) refl
+  ram-refuses Check.Size e = rw (← e) refl
+  ram-refuses Check.Encoding e = rw (← e) refl
+  ram-refuses Check.General e = rw (← e) refl
+  ram-refuses Check.Key e = rw (← e) refl
+  ram-refuses Check.Pages e = rw (← e) refl
+
+  pub ram-refused : (k : Check) → number_of k ≡ first_of (ram_rows c.privilege.level base (length ram)) → (old n : ℕ) → n ≡ number_of k → Tells (ram_checked c base ram s) old n old c
+  ram-refused k e old n en = tells _ c (Refused (number_of k)) n old old (ram-refuses k e) en refl
+
+module _ (c : Core) (base : ℕ) (ram : List ℕ) (va old n v : ℕ) (d : Core) where
+  pub translate-told : (kind : Kind) → Tells (ram_checked c base ram (asked_run true va (translate_of c (word_at base ram 8) va kind))) old n v d → Tells (step_of c base ram (Translate kind va)) old n v d
+  unfolding step_of run_of missed_of
+  translate-told kind t = t
+
+  pub data-told : Tells (ram_checked c base ram (asked_run false va (translate_of c (word_at base ram 8) va Read))) old n v d → Tells (step_of c base ram (DataPa va)) old n v d
+  unfolding step_of run_of missed_of data_pa_of translate_of
+  data-told t = t
+
+  pub fetch-told : Tells (ram_checked c base ram (fetch_run true c base ram va)) old n v d → Tells (step_of c base ram (Fetch va)) old n v d
+  unfolding step_of run_of missed_of
+  fetch-told t = t
+
+  pub pa-told : Tells (ram_checked c base ram (fetch_run false c base ram va)) old n v d → Tells (step_of c base ram (FetchPa va)) old n v d
+  unfolding step_of run_of missed_of
+  pa-told t = t
+
+-- a load, a store
+module _ (c : Core) (base : ℕ) (ram : List ℕ) (va : ℕ) where
+  pub load-rows : (size n : ℕ) → n ≡ first_of (sized_rows c.privilege.level base (length ram) size) → n ≡ missed_by c base ram (Load va size)
+  unfolding missed_of
+  load-rows size n e = e
+
+  pub store-rows : (size value n : ℕ) → n ≡ first_of (sized_rows c.privilege.level base (length ram) size) → n ≡ missed_by c base ram (Store va size value)
+  unfolding missed_of
+  store-rows size value n e = e
+
+  module _ (size : ℕ) (w : Width) (sized : width_of size ≡ Some w) (e : 0 ≡ first_of (sized_rows c.privilege.level base (length ram) size)) where
+    pub loaded : (old n v : ℕ) (d : Core) → Tells (after_load (read_of c base ram va (bytes_in w))) old n v d → Tells (step_of c base ram (Load va size)) old n v d
+    unfolding run_of
+    loaded old n v d t =
+        told c base ram (Load va size) (load-rows size 0 e) old n v d
+        (subst (λ (x : Option Width). Tells (load_by x c base ram va) old n v d) (sym sized) t)
+
+    module _ (value : ℕ) where
+      pub stored : (old n v : ℕ) (d : Core) → Tells (after_store (write_of c base ram va (bytes_in w))) old n v d
+          → Tells (step_of c base ram (Store va size value)) old n v d
+      unfolding run_of
+      stored old n v d t =
+          told c base ram (Store va size value) (store-rows size value 0 e) old n v d
+          (subst (λ (x : Option Width). Tells (store_by x c base ram va) old n v d) (sym sized) t)
+
+      pub stored-ram : (ys : List ℕ) → ys ≡ ram_after_write c base ram va (bytes_in w) value → ys ≡ ram_after c base ram (Store va size value)
+      unfolding ram_of
+      stored-ram ys q =
+          q ∙ ap (λ (x : Option Width). store_ram_by x c base ram va value) (sym sized)
+          ∙ passed-ram c base ram (Store va size value) (store-rows size value 0 e)
+
 -- a system operation
 module _ (c : Core) (base : ℕ) (ram : List ℕ) (e : Encoding) (p : 0 ≡ missed_by c base ram (System e)) where
   pub system-told : (old n v : ℕ) (d : Core) → Tells (after_store (sys_of c base ram e.op1 e.crn e.crm e.op2 e.rt)) old n v d → Tells (step_of c base ram (System e)) old n v d
   unfolding run_of
-  system-told old n v d t = subst (λ (s : Stepped). Tells s old n v d) (passed c base ram (System e) p) t
+  system-told old n v d t = told c base ram (System e) p old n v d t
 
   pub system-ram : (ys : List ℕ) → ys ≡ sys_ram c base ram e.op1 e.crn e.crm e.op2 e.rt → ys ≡ ram_after c base ram (System e)
   unfolding ram_of

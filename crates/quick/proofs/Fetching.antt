@@ -1,6 +1,6 @@
 -- A fetch, and where one goes, by its one translation; and where a data read goes, on plain values.
-use Rattle.std.specs.Prelude.{◌≡◌, length, false, ◌+◌, ◌^◌, ◌<◌, List, ℕ, Option, Some, None, Ok, Err}
-use Rattle.std.proofs.Common.{refl, sym, ap, ◌∙◌, arith, le-ltb, lt-ltb, subst}
+use Rattle.std.specs.Prelude.{◌≡◌, Bool, true, false, List, ℕ, Option, Some, None, Ok, Err}
+use Rattle.std.proofs.Common.{sym, ap, ◌∙◌, subst}
 use Rattle.std.proofs.lemmas.List.{set-get_or}
 use Rattle.word.specs.Ram.{word_at}
 use Rattle.fault.specs.declared.Fault.{Fault}
@@ -14,23 +14,17 @@ use Rattle.tlb.specs.Resolve.{counted_by, kept_by, fetch_after}
 use Rattle.tlb.specs.Step.{access_of, slot_for, miss_in}
 use Rattle.tlb.specs.Model.{Access}
 use Rattle.tlb.specs.Translate.{fetch_with, fetch_end as fetch_chosen, fetch_applied, applied}
-use Rattle.tlb.specs.declared.access.Kind.TheVariants.{Read, Fetch}
+use Rattle.tlb.specs.declared.access.Kind.TheVariants.{Fetch}
 use Rattle.tlb.specs.declared.{entry.Entry.Entry, hint.Hint.Hint, resolve.Resolved.Resolved}
 use Rattle.cpu.specs.Core.{after_access, bank_now}
-use Rattle.cpu.specs.Memory.{with_tlb, fetch_stepped_now, translate_of, past_hint_of, translate_fetch_of, fetch_of, fetch_pa_of, data_pa_of}
+use Rattle.cpu.specs.Memory.{with_tlb, fetch_stepped_now, past_hint_of, translate_fetch_of, fetch_of, fetch_pa_of}
 use Rattle.cpu.specs.Translations.{past_hint_step, translate_fetch_in}
 use Rattle.cpu.specs.Results.{Translated, Fetched}
 use Rattle.cpu.specs.declared.Core.{Core}
 use Rattle.operations.specs.Bytes.{insn_of}
-use Rattle.operations.specs.Ends.{external, fetch_end, fetched_from, reached_by}
-use Rattle.operations.specs.Replies.{reaching}
-use Rattle.operations.specs.Check.{missed_of, passes}
-use Rattle.operations.specs.declared.call.Call.TheVariants.{Fetch as FetchCall, FetchPa, DataPa}
-use Rattle.operations.specs.declared.call.Reply.TheVariants.{Refused}
-use Rattle.cpu.specs.Step.{Stepped, step_of, run_of, after_fetch, after_address}
-use Rattle.call_words.specs.Replies.{code_by, value_by}
-use Rattle.quick.specs.Says.{Clear, Tells, fetched_of, reached_of, hint_left}
-use Rattle.quick.proofs.ByHint.{tells}
+use Rattle.operations.specs.Ends.{external, fetch_end, fetched_from}
+use Rattle.cpu.specs.Step.{Stepped, after_fetch, after_address}
+use Rattle.quick.specs.Says.{Tells, fetched_of, reached_of, hint_left, fetch_run, fetch_ended}
 
 -- THE FETCH HINT
 
@@ -101,66 +95,21 @@ module _ (d : Core) (base : ℕ) (ram : List ℕ) (va : ℕ) where
     unfolding fetch_end after_access
     end-outside q = ap from_ram (sym q ∙ ew) ∙ ap by (sym e)
 
--- PAST THE CHECKS, by the translation
+-- BY THE TRANSLATION
 
-module _ (c : Core) (base : ℕ) (ram : List ℕ) (va : ℕ) (clear : Clear c base (length ram)) (long : length ram < 2 ^ 64) where
-  fetch-step : after_fetch (fetch_of c base ram va) ≡ step_of c base ram (FetchCall va)
-  unfolding step_of run_of missed_of
-  fetch-step =
-      let level = le-ltb 3 c.privilege.level (omega (arith, clear.0)) in
-      let window : passes base (length ram) ≡ false = le-ltb (2 ^ 64) (base + length ram) (omega (arith, long, clear.1)) in
-      rw (level, window) refl
-
-  pa-step : after_address (fetch_pa_of c (word_at base ram 8) va) ≡ step_of c base ram (FetchPa va)
-  unfolding step_of run_of missed_of
-  pa-step =
-      let level = le-ltb 3 c.privilege.level (omega (arith, clear.0)) in
-      let window : passes base (length ram) ≡ false = le-ltb (2 ^ 64) (base + length ram) (omega (arith, long, clear.1)) in
-      rw (level, window) refl
-
-  data-step : after_address (data_pa_of c (word_at base ram 8) va) ≡ step_of c base ram (DataPa va)
-  unfolding step_of run_of missed_of
-  data-step =
-      let level = le-ltb 3 c.privilege.level (omega (arith, clear.0)) in
-      let window : passes base (length ram) ≡ false = le-ltb (2 ^ 64) (base + length ram) (omega (arith, long, clear.1)) in
-      rw (level, window) refl
-
-  module _ (e : Core) (x : Answer) where
-    fetched-is : record { core = e; answer = x } ≡ translate_fetch_of c (word_at base ram 8) va → fetched_of e x base ram va ≡ fetch_of c base ram va
+module _ (c : Core) (base : ℕ) (ram : List ℕ) (va : ℕ) (e : Core) (x : Answer) where
+  module _ (et : record { core = e; answer = x } ≡ translate_fetch_of c (word_at base ram 8) va) where
+    fetched-is : fetched_of e x base ram va ≡ fetch_of c base ram va
     unfolding fetch_of translate_fetch_of after_access
-    fetched-is et = ap (λ (t : Translated). fetched_of t.core t.answer base ram va) et
+    fetched-is = ap (λ (t : Translated). fetched_of t.core t.answer base ram va) et
 
-    pub told-fetch : record { core = e; answer = x } ≡ translate_fetch_of c (word_at base ram 8) va → (old n v : ℕ) (f : Core)
-        → Tells (after_fetch (fetched_of e x base ram va)) old n v f → Tells (step_of c base ram (FetchCall va)) old n v f
-    told-fetch et old n v f t = subst (λ (s : Stepped). Tells s old n v f) (ap after_fetch (fetched-is et) ∙ fetch-step) t
+    told-fetch : (old n v : ℕ) (f : Core) → Tells (after_fetch (fetched_of e x base ram va)) old n v f → Tells (after_fetch (fetch_of c base ram va)) old n v f
+    told-fetch old n v f t = subst (λ (s : Stepped). Tells s old n v f) (ap after_fetch fetched-is) t
 
-    reached-is : record { core = e; answer = x } ≡ translate_fetch_of c (word_at base ram 8) va → reached_of e x ≡ fetch_pa_of c (word_at base ram 8) va
+    reached-is : reached_of e x ≡ fetch_pa_of c (word_at base ram 8) va
     unfolding fetch_pa_of translate_fetch_of
-    reached-is et = ap (λ (t : Translated). reached_of t.core t.answer) et
+    reached-is = ap (λ (t : Translated). reached_of t.core t.answer) et
 
-    pub told-pa : record { core = e; answer = x } ≡ translate_fetch_of c (word_at base ram 8) va → (old n v : ℕ)
-        → n ≡ code_by (reaching (reached_by x)) → v ≡ value_by (reaching (reached_by x)) old → Tells (step_of c base ram (FetchPa va)) old n v e
-    told-pa et old n v en ev = tells _ e (reaching (reached_by x)) n old v (ap after_address (reached-is et) ∙ pa-step) en ev
-
-    data-is : record { core = e; answer = x } ≡ translate_of c (word_at base ram 8) va Read → reached_of e x ≡ data_pa_of c (word_at base ram 8) va
-    unfolding data_pa_of translate_of
-    data-is et = ap (λ (t : Translated). reached_of t.core t.answer) et
-
-    pub told-data : record { core = e; answer = x } ≡ translate_of c (word_at base ram 8) va Read → (old n v : ℕ)
-        → n ≡ code_by (reaching (reached_by x)) → v ≡ value_by (reaching (reached_by x)) old → Tells (step_of c base ram (DataPa va)) old n v e
-    told-data et old n v en ev = tells _ e (reaching (reached_by x)) n old v (ap after_address (data-is et) ∙ data-step) en ev
-
--- A LEVEL ABOVE 3
-
-module _ (c : Core) (base : ℕ) (ram : List ℕ) (va : ℕ) (h : 3 < c.privilege.level) where
-  pub high-fetch : record { core = c; reply = Refused 1 } ≡ step_of c base ram (FetchCall va)
-  unfolding step_of run_of missed_of
-  high-fetch = rw (lt-ltb 3 c.privilege.level h) refl
-
-  pub high-pa : record { core = c; reply = Refused 1 } ≡ step_of c base ram (FetchPa va)
-  unfolding step_of run_of missed_of
-  high-pa = rw (lt-ltb 3 c.privilege.level h) refl
-
-  pub high-data : record { core = c; reply = Refused 1 } ≡ step_of c base ram (DataPa va)
-  unfolding step_of run_of missed_of
-  high-data = rw (lt-ltb 3 c.privilege.level h) refl
+    pub told : (insn : Bool) (old n v : ℕ) (f : Core) → Tells (fetch_ended insn e x base ram va) old n v f → Tells (fetch_run insn c base ram va) old n v f
+    told true old n v f t = told-fetch old n v f t
+    told false old n v f t = subst (λ (s : Stepped). Tells s old n v f) (ap after_address reached-is) t

@@ -1,9 +1,9 @@
 -- A load of one page, by its one translation, on plain values.
-use Rattle.std.specs.Prelude.{if◌then◌else◌, ◌≡◌, not, length, Bool, true, false, ◌&&◌, ◌+◌, ◌^◌, ◌<◌, ◌≤◌, List, ℕ, Option, Some, None, Ok, Err}
-use Rattle.std.proofs.Common.{refl, sym, ap, ◌∙◌, arith, le-ltb, lt-ltb, subst}
+use Rattle.std.specs.Prelude.{if◌then◌else◌, ◌≡◌, Bool, true, false, ◌&&◌, ◌+◌, ◌^◌, ◌<◌, ◌≤◌, List, ℕ, Option, Some, None, Ok, Err}
+use Rattle.std.proofs.Common.{refl, sym, ap, ◌∙◌, arith, le-ltb, subst}
 use native.Mathlib.Nat.{mod-eq_of_lt}
 use Rattle.word.specs.Bits.{wrap}
-use Rattle.word.specs.Ram.{word_at, bytes_in, width_of}
+use Rattle.word.specs.Ram.{word_at}
 use Rattle.walk.specs.Regime.{regime_of, stage1_on}
 use Rattle.tlb.specs.Answers.{Answer}
 use Rattle.tlb.specs.declared.access.Kind.TheVariants.{Read}
@@ -18,13 +18,8 @@ use Rattle.operations.specs.Place.{in_page, next_page, crosses, goes_on, placed_
 use Rattle.operations.specs.Ends.{data_abort, external, load_end, loaded_from}
 use Rattle.operations.specs.declared.place.Place.TheVariants.{Whole, Split}
 use Rattle.operations.proofs.Moves.{whole-value, whole-abort}
-use Rattle.word.specs.declared.ram.Width.{Width}
-use Rattle.word.specs.declared.ram.Width.TheVariants.{Byte, Half, Word, Double}
-use Rattle.operations.specs.Check.{missed_of, passes, known}
-use Rattle.operations.specs.declared.call.Call.TheVariants.{Load}
-use Rattle.operations.specs.declared.call.Reply.TheVariants.{Refused}
-use Rattle.cpu.specs.Step.{Stepped, step_of, run_of, after_load, load_by, refused_or, ends}
-use Rattle.quick.specs.Says.{Clear, Tells, ended_of}
+use Rattle.cpu.specs.Step.{Stepped, after_load}
+use Rattle.quick.specs.Says.{Tells, ended_of}
 use Rattle.tlb.specs.Step.{hint_in}
 use Rattle.operations.specs.Bytes.{load_of}
 use Rattle.quick.proofs.ByHint.{hint-serves}
@@ -76,30 +71,11 @@ module _ (d : Core) (base : ℕ) (ram : List ℕ) (va n : ℕ) where
         ap (λ (x : ℕ). record { core = record d { last_pa = pa; abort_pa = pa }; answer = Err (data_abort x false external) }) same
         ∙ ap from_ram (whole-abort base ram pa n w ew q) ∙ ap by (sym e)
 
--- a load past the checks
-pub load-step : (c : Core) (base : ℕ) (ram : List ℕ) (va : ℕ) (w : Width) → Clear c base (length ram) → length ram < 2 ^ 64 → after_load (read_of c base ram va (bytes_in w)) ≡ step_of c base ram (Load va (bytes_in w))
-unfolding step_of run_of missed_of
-load-step c base ram va w clear long =
-    let level = le-ltb 3 c.privilege.level (omega (arith, clear.0)) in
-    let window : passes base (length ram) ≡ false = le-ltb (2 ^ 64) (base + length ram) (omega (arith, long, clear.1)) in
-    rw (level, window) (go w)
-  where
-    go : (w : Width) → after_load (read_of c base ram va (bytes_in w)) ≡ refused_or (if not (known (bytes_in w)) then 3 else 0) (λ n. ends c (Refused n)) (load_by (width_of (bytes_in w)) c base ram va)
-    go Byte = refl
-    go Half = refl
-    go Word = refl
-    go Double = refl
-
-pub high-load : (c : Core) (base : ℕ) (ram : List ℕ) (va n : ℕ) → 3 < c.privilege.level → record { core = c; reply = Refused 1 } ≡ step_of c base ram (Load va n)
-unfolding step_of run_of missed_of
-high-load c base ram va n h = rw (lt-ltb 3 c.privilege.level h) refl
-
 -- a load of one page, by its translation
-pub told : (c : Core) (base : ℕ) (ram : List ℕ) (va : ℕ) (w : Width) (d : Core) (a : Answer) (old n v : ℕ) (e : Core) → Clear c base (length ram) → length ram < 2 ^ 64 → bytes_in w ≤ in_page va
-    → record { core = d; answer = a } ≡ translate_of c (word_at base ram 8) va Read → Tells (after_load (ended_of d a base ram va (bytes_in w))) old n v e
-    → Tells (step_of c base ram (Load va (bytes_in w))) old n v e
-told c base ram va w d a old n v e clear long near et t =
-    subst (λ (s : Stepped). Tells s old n v e) (ap after_load (ended-is c base ram va (bytes_in w) near d a et) ∙ load-step c base ram va w clear long) t
+pub told : (c : Core) (base : ℕ) (ram : List ℕ) (va n : ℕ) (d : Core) (a : Answer) (old m v : ℕ) (e : Core) → n ≤ in_page va
+    → record { core = d; answer = a } ≡ translate_of c (word_at base ram 8) va Read → Tells (after_load (ended_of d a base ram va n)) old m v e
+    → Tells (after_load (read_of c base ram va n)) old m v e
+told c base ram va n d a old m v e near et t = subst (λ (s : Stepped). Tells s old m v e) (ap after_load (ended-is c base ram va n near d a et)) t
 
 -- two pages by their hints
 module _ (c : Core) (base : ℕ) (ram : List ℕ) (va n pa pa2 v : ℕ) where

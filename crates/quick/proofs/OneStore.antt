@@ -1,9 +1,9 @@
 -- A store of one page, by its one translation, and of two by their hints, on plain values.
-use Rattle.std.specs.Prelude.{if◌then◌else◌, ◌≡◌, not, length, Bool, true, false, ◌+◌, ◌^◌, ◌<◌, ◌≤◌, List, ℕ, Option, Some, Ok, Err}
-use Rattle.std.proofs.Common.{refl, sym, ap, ◌∙◌, arith, le-ltb, lt-ltb, subst}
+use Rattle.std.specs.Prelude.{if◌then◌else◌, ◌≡◌, length, Bool, true, false, ◌+◌, ◌^◌, ◌<◌, ◌≤◌, List, ℕ, Option, Some, Ok, Err}
+use Rattle.std.proofs.Common.{refl, sym, ap, ◌∙◌, arith, subst}
 use native.Mathlib.Nat.{mod-eq_of_lt}
 use Rattle.word.specs.Bits.{wrap}
-use Rattle.word.specs.Ram.{word_at, within, stored, bytes_in, width_of}
+use Rattle.word.specs.Ram.{word_at, within, stored, bytes_in}
 use Rattle.walk.specs.Regime.{regime_of, stage1_on}
 use Rattle.tlb.specs.Answers.{Answer}
 use Rattle.tlb.specs.Step.{hint_in}
@@ -24,12 +24,9 @@ use Rattle.operations.specs.declared.place.Place.TheVariants.{Split}
 use Rattle.operations.proofs.Moves.{whole-inside, whole-outside}
 use Rattle.operations.proofs.Both.{both-judged, both-stores}
 use Rattle.word.specs.declared.ram.Width.{Width}
-use Rattle.word.specs.declared.ram.Width.TheVariants.{Byte, Half, Word, Double}
-use Rattle.operations.specs.Check.{missed_of, passes, known}
-use Rattle.operations.specs.declared.call.Call.TheVariants.{Store}
-use Rattle.operations.specs.declared.call.Reply.TheVariants.{Refused}
-use Rattle.cpu.specs.Step.{Stepped, step_of, run_of, ram_of, ram_after, after_store, store_by, store_ram_by, refused_or, ends}
-use Rattle.quick.specs.Says.{Clear, Tells, PutTwo, stored_of, put_of}
+use Rattle.word.specs.declared.ram.Width.TheVariants.{Half}
+use Rattle.cpu.specs.Step.{Stepped, after_store}
+use Rattle.quick.specs.Says.{Tells, PutTwo, stored_of, put_of}
 use Rattle.quick.proofs.ByHint.{hint-serves}
 use Rattle.quick.proofs.OnePage.{stays_in}
 
@@ -90,50 +87,13 @@ module _ (d : Core) (base : ℕ) (ram : List ℕ) (va n : ℕ) where
           ap (λ (x : ℕ). record { core = record d { abort_pa = pa }; answer = Err (data_abort x true external) }) same
           ∙ ap judged (whole-outside base ram pa n f t ef) ∙ ap by (sym e)
 
--- a store past the checks
-module _ (c : Core) (base : ℕ) (ram : List ℕ) (va v : ℕ) (w : Width) (clear : Clear c base (length ram)) (long : length ram < 2 ^ 64) where
-  pub store-step : after_store (write_of c base ram va (bytes_in w)) ≡ step_of c base ram (Store va (bytes_in w) v)
-  unfolding step_of run_of missed_of
-  store-step =
-      let level = le-ltb 3 c.privilege.level (omega (arith, clear.0)) in
-      let window : passes base (length ram) ≡ false = le-ltb (2 ^ 64) (base + length ram) (omega (arith, long, clear.1)) in
-      rw (level, window) (go w)
-    where
-      go : (w : Width) → after_store (write_of c base ram va (bytes_in w)) ≡ refused_or (if not (known (bytes_in w)) then 3 else 0) (λ n. ends c (Refused n)) (store_by (width_of (bytes_in w)) c base ram va)
-      go Byte = refl
-      go Half = refl
-      go Word = refl
-      go Double = refl
+-- a store of one page, by its translation
+module _ (c : Core) (base : ℕ) (ram : List ℕ) (va n : ℕ) (near : n ≤ in_page va) (d : Core) (a : Answer) (et : record { core = d; answer = a } ≡ translate_of c (word_at base ram 8) va Write) where
+  pub told : (old m x : ℕ) (e : Core) → Tells (after_store (stored_of d a base ram va n)) old m x e → Tells (after_store (write_of c base ram va n)) old m x e
+  told old m x e t = subst (λ (s : Stepped). Tells s old m x e) (ap after_store (stored-is c base ram va n near d a et)) t
 
-  pub store-ram : ram_after_write c base ram va (bytes_in w) v ≡ ram_after c base ram (Store va (bytes_in w) v)
-  unfolding ram_after ram_of missed_of
-  store-ram =
-      let level = le-ltb 3 c.privilege.level (omega (arith, clear.0)) in
-      let window : passes base (length ram) ≡ false = le-ltb (2 ^ 64) (base + length ram) (omega (arith, long, clear.1)) in
-      rw (level, window) (go w)
-    where
-      go : (w : Width) → ram_after_write c base ram va (bytes_in w) v ≡ refused_or (if not (known (bytes_in w)) then 3 else 0) (λ n. ram) (store_ram_by (width_of (bytes_in w)) c base ram va v)
-      go Byte = refl
-      go Half = refl
-      go Word = refl
-      go Double = refl
-
-  -- of one page, by its translation
-  module _ (near : bytes_in w ≤ in_page va) (d : Core) (a : Answer) (et : record { core = d; answer = a } ≡ translate_of c (word_at base ram 8) va Write) where
-    pub told : (old n x : ℕ) (e : Core) → Tells (after_store (stored_of d a base ram va (bytes_in w))) old n x e → Tells (step_of c base ram (Store va (bytes_in w) v)) old n x e
-    told old n x e t =
-        subst (λ (s : Stepped). Tells s old n x e) (ap after_store (stored-is c base ram va (bytes_in w) near d a et) ∙ store-step) t
-
-    pub put-told : (ys : List ℕ) → ys ≡ put_of a base ram va (bytes_in w) v → ys ≡ ram_after c base ram (Store va (bytes_in w) v)
-    put-told ys q = q ∙ put-is c base ram va (bytes_in w) near d a et v ∙ store-ram
-
-pub high-store : (c : Core) (base : ℕ) (ram : List ℕ) (va n v : ℕ) → 3 < c.privilege.level → record { core = c; reply = Refused 1 } ≡ step_of c base ram (Store va n v)
-unfolding step_of run_of missed_of
-high-store c base ram va n v h = rw (lt-ltb 3 c.privilege.level h) refl
-
-pub high-ram : (c : Core) (base : ℕ) (ram : List ℕ) (va n v : ℕ) → 3 < c.privilege.level → ram ≡ ram_after c base ram (Store va n v)
-unfolding ram_after ram_of missed_of
-high-ram c base ram va n v h = rw (lt-ltb 3 c.privilege.level h) refl
+  pub put-told : (v : ℕ) (ys : List ℕ) → ys ≡ put_of a base ram va n v → ys ≡ ram_after_write c base ram va n v
+  put-told v ys q = q ∙ put-is c base ram va n near d a et v
 
 -- two pages by their hints
 module _ (c : Core) (base : ℕ) (ram : List ℕ) (va n pa pa2 : ℕ) where

@@ -20,7 +20,7 @@ use Rattle.call_words.specs.declared.op.DecodedCall.{DecodedCall}
 use Rattle.call_words.specs.declared.op.DecodedCall.TheVariants.{Known}
 use Rattle.quick.specs.Says.{Sets}
 use Rattle.quick.proofs.ByHint.{tells}
-use Rattle.quick.proofs.Checks.{passed, refused}
+use Rattle.quick.proofs.Checks.{passed, refuses}
 
 -- REGISTERS
 
@@ -49,7 +49,7 @@ module _ (c : Core) (k key v : ℕ) (ek : k ≡ key) where
   pub register-refused : (x : Check) (n : ℕ) → number_of x ≡ missed → n ≡ number_of x → Sets (Known (Register key v)) c n c
   unfolding missed_of
   register-refused x n e en =
-      named n c (record { on = λ base ram old. tells _ c (Refused (number_of x)) n old old (refused c base ram (Register k v) x e) en refl })
+      named n c (record { on = λ base ram old. tells _ c (Refused (number_of x)) n old old (refuses c base ram (Register k v) x e) en refl })
 
 -- SETTINGS
 

@@ -1,8 +1,9 @@
 -- What a call on a core says: its number, its word, and the core that it leaves.
-use Rattle.std.specs.Prelude.{◌≡◌, ◌<◌, ◌≤◌, ◌-◌, ◌^◌, Bool, true, false, List, ℕ, Option, Some, None, Ok}
+use Rattle.std.specs.Prelude.{◌≡◌, Bool, true, false, List, ℕ, length, Option, Some, None, Ok}
 use Rattle.cpu.specs.declared.Core.{Core}
-use Rattle.cpu.specs.Memory.{with_tlb, loaded_by, read_of, stored_by, write_of, ram_after_write, fetched_by}
-use Rattle.cpu.specs.Results.{Loaded, Stored, Fetched, Addressed}
+use Rattle.word.specs.Ram.{word_at}
+use Rattle.cpu.specs.Memory.{with_tlb, loaded_by, read_of, stored_by, write_of, ram_after_write, fetched_by, fetch_of, fetch_pa_of}
+use Rattle.cpu.specs.Results.{Translated, Loaded, Stored, Fetched, Addressed}
 use Rattle.tlb.specs.Answers.{Answer}
 use Rattle.tlb.specs.Cache.{set_fetch}
 use Rattle.tlb.specs.Tlb.{tlb_with}
@@ -10,14 +11,14 @@ use Rattle.tlb.specs.Resolve.{fetch_after}
 use Rattle.operations.specs.Place.{placed_one}
 use Rattle.operations.specs.Ends.{load_end, store_end, store_ram_end, fetch_end, reached_by}
 use Rattle.cpu.specs.System.{done_with, zero_of, zero_ram}
-use Rattle.cpu.specs.Step.{Stepped, step_of}
+use Rattle.operations.specs.Check.{first_of, ram_rows}
+use Rattle.operations.specs.Replies.{translation, reaching}
+use Rattle.operations.specs.declared.call.Reply.{Reply}
+use Rattle.operations.specs.declared.call.Reply.TheVariants.{Refused}
+use Rattle.cpu.specs.Step.{Stepped, ends, refused_or, step_of, after_fetch, after_address}
 use Rattle.call_words.specs.Replies.{code_by, value_by}
 use Rattle.call_words.specs.declared.op.DecodedCall.{DecodedCall}
 use Rattle.call_words.specs.declared.op.DecodedCall.TheVariants.{Known, Unknown}
-
--- a level up to 3, and a window that ends at the last address or before
-abbrev pub Clear : Core → ℕ → ℕ → Type 0
-Clear c base len = (c.privilege.level < 4) × (base ≤ 2 ^ 64 - 1 - len)
 
 -- the number n, the word v that was old, and the core d tell a step
 pub record Tells (s : Stepped) (old n v : ℕ) (d : Core) : Type 0 where
@@ -39,6 +40,18 @@ Says Unknown c base ram old n v d = Nothing c old n v d
 pub record Sets (call : DecodedCall) (c : Core) (n : ℕ) (d : Core) : Type 0 where
   pub on : (base : ℕ) (ram : List ℕ) (old : ℕ) → Says call c base ram old n old d
 
+-- a call that is handed RAM and no more, by its checks and its operation
+abbrev pub ram_checked : Core → ℕ → List ℕ → Stepped → Stepped
+ram_checked c base ram s = refused_or (first_of (ram_rows c.privilege.level base (length ram))) (λ n. ends c (Refused n)) s
+
+-- a translation, or where an access goes: its reply, and its operation
+abbrev pub asked_reply : Bool → ℕ → Answer → Reply
+asked_reply true va a = translation va a
+asked_reply false va a = reaching (reached_by a)
+
+abbrev pub asked_run : Bool → ℕ → Translated → Stepped
+asked_run tells va t = ends t.core (asked_reply tells va t.answer)
+
 -- AN ACCESS OF ONE PAGE, on the core that its translation left
 
 abbrev pub ended_of : Core → Answer → ℕ → List ℕ → ℕ → ℕ → Loaded
@@ -55,6 +68,15 @@ fetched_of d a base ram va = fetched_by d d.tlb (fetch_end a d.abort_pa base ram
 
 abbrev pub reached_of : Core → Answer → Addressed
 reached_of d a = record { core = d; answer = reached_by a }
+
+-- a fetch, or where one goes: its operation, and its end by the answer of its translation
+abbrev pub fetch_run : Bool → Core → ℕ → List ℕ → ℕ → Stepped
+fetch_run true c base ram va = after_fetch (fetch_of c base ram va)
+fetch_run false c base ram va = after_address (fetch_pa_of c (word_at base ram 8) va)
+
+abbrev pub fetch_ended : Bool → Core → Answer → ℕ → List ℕ → ℕ → Stepped
+fetch_ended true d a base ram va = after_fetch (fetched_of d a base ram va)
+fetch_ended false d a base ram va = after_address (reached_of d a)
 
 -- the fetch hint that an answer leaves
 abbrev pub hint_left : Core → ℕ → Answer → Core

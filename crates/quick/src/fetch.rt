@@ -1,64 +1,24 @@
-// A fetch on a core that is lent, and where one goes: the number, and the instruction or the address in ans.
-ghost use Rattle.std.specs.Prelude.{◌≡◌, ◌<◌, ◌≤◌, length, None};
+// A fetch on a core that is lent, and where one goes: the number, and the instruction or the address in ans. Both are one
+// text: INSN says whether the instruction is read.
+ghost use Rattle.std.specs.Prelude.{◌≡◌, None};
 ghost use Rattle.word.specs.Ram.{word_at};
 ghost use Rattle.tlb.specs.Hint.{fetch_found};
 ghost use Rattle.tlb.specs.declared.access.Kind.TheVariants.{Fetch};
 ghost use Rattle.operations.specs.declared.call.Call.TheVariants as Call;
 ghost use Rattle.cpu.specs.Hand.{NeedsWalkNow};
 ghost use Rattle.cpu.specs.Step.{step_of, after_fetch};
-ghost use Rattle.quick.specs.Says.{Tells, Clear, fetched_of, hint_left};
+ghost use Rattle.quick.specs.Says.{Tells, fetched_of, hint_left, ram_checked, fetch_run, fetch_ended};
 
-use crate::reach;
-use call_words::reply;
+use crate::translation;
 use cpu::Core;
 use fault::Fault;
-use operations::call::Reply;
 use operations::{bytes, check};
 use tlb::access::Kind;
 use tlb::hint::FetchHint;
 
-// The long way, for a window that may pass 2^64: the checks in their order, and the core's own operation.
-#[tactic(auto, unfolding(operations::specs::Check::missed_of, cpu::specs::Step::step_of, cpu::specs::Step::run_of, cpu::specs::Step::ram_of))]
-fn reply_of(core: &mut Core, va: u64, base: u64, ram: &[u8]) -> Reply
-    ensures { record { core = core.new; reply = result } ≡ step_of core.old base ram.now (Call.Fetch va) }
-{
-    match check::with_ram(core.privilege.level, base, ram.len() as u64) {
-        Ok(()) => Reply::from(core.fetch(base, ram, va)),
-        Err(check) => Reply::from(check),
-    }
-}
-
-#[cold]
-#[inline(never)]
-fn long(core: &mut Core, va: u64, ans: &mut u64, base: u64, ram: &[u8]) -> u64
-    ensures { Tells (step_of core.old base ram.now (Call.Fetch va)) ans.old result ans.new core.new }
-{
-    let r = reply_of(core, va, base, ram);
-    reply::answer(r, ans)
-}
-
-#[tactic(auto, unfolding(operations::specs::Check::missed_of, cpu::specs::Step::step_of, cpu::specs::Step::run_of, cpu::specs::Step::ram_of))]
-fn reply_of_pa(core: &mut Core, va: u64, base: u64, ram: &[u8]) -> Reply
-    ensures { record { core = core.new; reply = result } ≡ step_of core.old base ram.now (Call.FetchPa va) }
-{
-    match check::with_ram(core.privilege.level, base, ram.len() as u64) {
-        Ok(()) => Reply::reached(core.fetch_pa(base, ram, va)),
-        Err(check) => Reply::from(check),
-    }
-}
-
-#[cold]
-#[inline(never)]
-fn long_pa(core: &mut Core, va: u64, ans: &mut u64, base: u64, ram: &[u8]) -> u64
-    ensures { Tells (step_of core.old base ram.now (Call.FetchPa va)) ans.old result ans.new core.new }
-{
-    let r = reply_of_pa(core, va, base, ram);
-    reply::answer(r, ans)
-}
-
 // The end of a fetch, after its translation.
 #[inline(always)]
-fn ended(
+fn read(
     core: &mut Core,
     va: u64,
     answer: Result<u64, Fault>,
@@ -83,6 +43,24 @@ fn ended(
     }
 }
 
+#[inline(always)]
+fn ended<const INSN: bool>(
+    core: &mut Core,
+    va: u64,
+    answer: Result<u64, Fault>,
+    ans: &mut u64,
+    base: u64,
+    ram: &[u8],
+) -> u64
+    ensures { Tells (fetch_ended INSN core.old answer base ram.now va) ans.old result ans.new core.new }
+{
+    if INSN {
+        read(core, va, answer, ans, base, ram)
+    } else {
+        translation::reached(answer, ans)
+    }
+}
+
 // An allowed address becomes the fetch hint.
 #[inline(always)]
 #[tactic(auto, unfolding(cpu::specs::Core::after_access))]
@@ -96,90 +74,83 @@ fn leave(core: &mut Core, va: u64, answer: Result<u64, Fault>)
 
 // By a walk.
 #[inline(never)]
-fn by_walk(core: &mut Core, va: u64, ans: &mut u64, base: u64, ram: &[u8]) -> u64
-    requires clear { Clear core.old base (length ram.now) }
+fn by_walk<const INSN: bool>(core: &mut Core, va: u64, ans: &mut u64, base: u64, ram: &[u8]) -> u64
     requires no_hint { fetch_found core.old.tlb.cache.fetch core.old.privilege.level va ≡ None }
     requires needs_walk { NeedsWalkNow core.old (word_at base ram.now 8) va Fetch }
-    ensures { Tells (step_of core.old base ram.now (Call.Fetch va)) ans.old result ans.new core.new }
+    ensures { Tells (fetch_run INSN core.old base ram.now va) ans.old result ans.new core.new }
 {
     let answer = core.by_walk(base, ram, va, Kind::Fetch);
     leave(core, va, answer);
-    ended(core, va, answer, ans, base, ram)
+    ended::<INSN>(core, va, answer, ans, base, ram)
 }
 
 #[inline(never)]
-fn past_hint(core: &mut Core, va: u64, ans: &mut u64, base: u64, ram: &[u8]) -> u64
-    requires clear { Clear core.old base (length ram.now) }
+fn past_hint<const INSN: bool>(
+    core: &mut Core,
+    va: u64,
+    ans: &mut u64,
+    base: u64,
+    ram: &[u8],
+) -> u64
     requires no_hint { fetch_found core.old.tlb.cache.fetch core.old.privilege.level va ≡ None }
-    ensures { Tells (step_of core.old base ram.now (Call.Fetch va)) ans.old result ans.new core.new }
+    ensures { Tells (fetch_run INSN core.old base ram.now va) ans.old result ans.new core.new }
 {
     match core.at_hand(base, ram, va, Kind::Fetch) {
         Some(answer) => {
             leave(core, va, answer);
-            ended(core, va, answer, ans, base, ram)
+            ended::<INSN>(core, va, answer, ans, base, ram)
         }
-        None => by_walk(core, va, ans, base, ram),
+        None => by_walk::<INSN>(core, va, ans, base, ram),
     }
 }
 
-// The instruction at va.
+#[inline(always)]
+fn by_hint<const INSN: bool>(core: &mut Core, va: u64, ans: &mut u64, base: u64, ram: &[u8]) -> u64
+    ensures { Tells (fetch_run INSN core.old base ram.now va) ans.old result ans.new core.new }
+{
+    match core.tlb.cache.fetch.find(core.privilege.level, va) {
+        Some(pa) => ended::<INSN>(core, va, Ok(pa), ans, base, ram),
+        None => past_hint::<INSN>(core, va, ans, base, ram),
+    }
+}
+
+// A window that ends at 2^64 or past it: the checks by name.
+#[cold]
+#[inline(never)]
+fn checked<const INSN: bool>(core: &mut Core, va: u64, ans: &mut u64, base: u64, ram: &[u8]) -> u64
+    ensures { Tells (ram_checked core.old base ram.now (fetch_run INSN core.old base ram.now va))
+        ans.old result ans.new core.new }
+{
+    match check::with_ram(core.privilege.level, base, ram.len() as u64) {
+        Ok(()) => by_hint::<INSN>(core, va, ans, base, ram),
+        Err(missed) => missed.number() as u64,
+    }
+}
+
+#[inline(always)]
+fn asked<const INSN: bool>(core: &mut Core, va: u64, ans: &mut u64, base: u64, ram: &[u8]) -> u64
+    ensures { Tells (ram_checked core.old base ram.now (fetch_run INSN core.old base ram.now va))
+        ans.old result ans.new core.new }
+{
+    if 3 < core.privilege.level {
+        1
+    } else if u64::MAX - (ram.len() as u64) < base {
+        checked::<INSN>(core, va, ans, base, ram)
+    } else {
+        by_hint::<INSN>(core, va, ans, base, ram)
+    }
+}
+
+/// The instruction at va.
 pub fn fetch(core: &mut Core, va: u64, ans: &mut u64, base: u64, ram: &[u8]) -> u64
     ensures { Tells (step_of core.old base ram.now (Call.Fetch va)) ans.old result ans.new core.new }
 {
-    if 3 < core.privilege.level {
-        return 1;
-    }
-    if u64::MAX - (ram.len() as u64) < base {
-        return long(core, va, ans, base, ram);
-    }
-    match core.tlb.cache.fetch.find(core.privilege.level, va) {
-        Some(pa) => ended(core, va, Ok(pa), ans, base, ram),
-        None => past_hint(core, va, ans, base, ram),
-    }
+    asked::<true>(core, va, ans, base, ram)
 }
 
-#[inline(never)]
-fn by_walk_pa(core: &mut Core, va: u64, ans: &mut u64, base: u64, ram: &[u8]) -> u64
-    requires clear { Clear core.old base (length ram.now) }
-    requires no_hint { fetch_found core.old.tlb.cache.fetch core.old.privilege.level va ≡ None }
-    requires needs_walk { NeedsWalkNow core.old (word_at base ram.now 8) va Fetch }
-    ensures { Tells (step_of core.old base ram.now (Call.FetchPa va)) ans.old result ans.new core.new }
-{
-    let answer = core.by_walk(base, ram, va, Kind::Fetch);
-    leave(core, va, answer);
-    reach::ended(answer, ans)
-}
-
-#[inline(never)]
-fn past_hint_pa(core: &mut Core, va: u64, ans: &mut u64, base: u64, ram: &[u8]) -> u64
-    requires clear { Clear core.old base (length ram.now) }
-    requires no_hint { fetch_found core.old.tlb.cache.fetch core.old.privilege.level va ≡ None }
-    ensures { Tells (step_of core.old base ram.now (Call.FetchPa va)) ans.old result ans.new core.new }
-{
-    match core.at_hand(base, ram, va, Kind::Fetch) {
-        Some(answer) => {
-            leave(core, va, answer);
-            reach::ended(answer, ans)
-        }
-        None => by_walk_pa(core, va, ans, base, ram),
-    }
-}
-
-// Where a fetch of va goes, by the same hint, which a new page refreshes.
+/// Where a fetch of va goes, by the same hint, which a new page refreshes.
 pub fn fetch_pa(core: &mut Core, va: u64, ans: &mut u64, base: u64, ram: &[u8]) -> u64
     ensures { Tells (step_of core.old base ram.now (Call.FetchPa va)) ans.old result ans.new core.new }
 {
-    if 3 < core.privilege.level {
-        return 1;
-    }
-    if u64::MAX - (ram.len() as u64) < base {
-        return long_pa(core, va, ans, base, ram);
-    }
-    match core.tlb.cache.fetch.find(core.privilege.level, va) {
-        Some(pa) => {
-            *ans = pa;
-            0
-        }
-        None => past_hint_pa(core, va, ans, base, ram),
-    }
+    asked::<false>(core, va, ans, base, ram)
 }

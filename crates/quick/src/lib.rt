@@ -2,8 +2,8 @@
 // The calls on a core that is lent, each in the shape that costs least: the hint on scalars first, and what it does not
 // serve out of line. Each gives the call's number, and in `ans` its value.
 pub mod fetch;
+mod instance;
 pub mod load;
-pub mod reach;
 pub mod settings;
 mod split;
 pub mod store;

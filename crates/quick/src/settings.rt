@@ -10,7 +10,7 @@ use exception::kind::Exception;
 use operations::check;
 use sysreg::write::WriteError;
 
-// A register write, by the register's key.
+/// A register write, by the register's key.
 pub fn register(core: &mut Core, key: u64, value: u64) -> u64
     ensures { Sets (DecodedCall.Known (Call.Register (key_of key) value)) core.old result core.new }
 {
@@ -25,7 +25,7 @@ pub fn register(core: &mut Core, key: u64, value: u64) -> u64
     }
 }
 
-// The present level, 0 to 3.
+/// The present level, 0 to 3.
 pub fn level(core: &mut Core, level: u64) -> u64
     ensures { Sets (DecodedCall.Known (Call.Level level)) core.old result core.new }
 {
@@ -39,7 +39,7 @@ pub fn level(core: &mut Core, level: u64) -> u64
     0
 }
 
-// The mark of unprivileged accesses, 0 or 1.
+/// The mark of unprivileged accesses, 0 or 1.
 pub fn mark(core: &mut Core, mark: u64) -> u64
     ensures { Sets (mark_call mark) core.old result core.new }
 {
@@ -53,7 +53,7 @@ pub fn mark(core: &mut Core, mark: u64) -> u64
     0
 }
 
-// A general register, X0 to X30; 31 takes nothing.
+/// A general register, X0 to X30; 31 takes nothing.
 pub fn general(core: &mut Core, number: u64, value: u64) -> u64
     ensures { Sets (DecodedCall.Known (Call.General number value)) core.old result core.new }
 {
@@ -67,7 +67,7 @@ pub fn general(core: &mut Core, number: u64, value: u64) -> u64
     0
 }
 
-// Abort entry.
+/// Abort entry.
 pub fn abort(core: &mut Core, e: Exception) -> u64
     ensures { Sets (DecodedCall.Known (Call.Abort e)) core.old result core.new }
 {

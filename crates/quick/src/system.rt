@@ -79,7 +79,7 @@ fn operate(core: &mut Core, e: Encoding, ans: &mut u64, base: u64, ram: &mut [u8
     }
 }
 
-// A system operation: SYS op1, CRn, CRm, op2 with the register rt.
+/// A system operation: SYS op1, CRn, CRm, op2 with the register rt.
 pub fn system(
     core: &mut Core,
     op1: u64,

@@ -1,8 +1,6 @@
-use Rattle.std.proofs.Common.{◌<◌, ◌^◌, length, arith}
-use Rattle.quick.proofs.Fetching.{fetch-missed, told-fetch}
+use Rattle.quick.proofs.Fetching.{fetch-missed, told}
 use Rattle.quick.proofs.fetch.past_hint.Goals as goal
 
 pub returns-in-Some : goal.returns-in-Some
-returns-in-Some c =
-    let long : length c.args.ram.now < 2 ^ 64 = omega arith in
-    told-fetch _ _ _ _ c.requires.clear long _ _ (fetch-missed _ _ _ _ _ _ c.requires.no_hint c.in-Some.ensures.answer c.leave.ensures) _ _ _ _ c.ended.ensures
+returns-in-Some g c =
+    told _ _ _ _ _ _ (fetch-missed _ _ _ _ _ _ c.requires.no_hint c.in-Some.ensures.answer c.leave.ensures) _ _ _ _ _ c.ended.ensures

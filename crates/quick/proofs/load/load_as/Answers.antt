@@ -1,20 +1,17 @@
-use Rattle.std.proofs.Common.{◌<◌, ◌≤◌, ◌-◌, ◌^◌, length, refl, sym, ◌∙◌, arith}
+use Rattle.std.proofs.Common.{◌<◌, ◌≤◌, ◌-◌, ◌^◌, length, refl, arith}
 use Rattle.word.specs.Ram.{bytes_in}
-use Rattle.operations.specs.Place.{in_page}
-use Rattle.operations.specs.declared.call.Reply.TheVariants.{Refused}
-use Rattle.quick.proofs.ByHint.{hint-serves, tells}
-use Rattle.quick.proofs.OnePage.{told, high-load}
+use Rattle.operations.specs.declared.check.Check.TheVariants.{Level}
+use Rattle.quick.proofs.Checks.{refused, load-rows, loaded, high-sized, clear-sized, known}
 use Rattle.quick.proofs.load.load_as.Goals as goal
 
 pub returns-then-core-gt3 : goal.returns-then-core-gt3
-returns-then-core-gt3 c =
+returns-then-core-gt3 g c =
     let over : 3 < c.args.core.now.privilege.level = omega (arith, c.if-core-gt3.true) in
-    tells _ _ (Refused 1) _ _ _ (high-load _ _ _ _ _ over) refl refl
+    refused c.args.core.now c.args.base c.args.ram.now _ Level (load-rows c.args.core.now c.args.base c.args.ram.now c.args.va (bytes_in g.W.Datum.WIDTH) 1 (high-sized c.args.core.now c.args.base c.args.ram.now (bytes_in g.W.Datum.WIDTH) over)) _ _ refl
 
-pub returns-in-Some : goal.returns-in-Some
-returns-in-Some c =
+pub returns-else-ram-base : goal.returns-else-ram-base
+returns-else-ram-base g c =
     let low : c.args.core.now.privilege.level < 4 = omega (arith, c.if-core-gt3.false) in
     let long : length c.args.ram.now < 2 ^ 64 = omega arith in
     let fits : c.args.base ≤ 2 ^ 64 - 1 - length c.args.ram.now = omega (arith, c.if-ram-base.false) in
-    let near : bytes_in c.args.width ≤ in_page c.args.va = omega (arith, c.if-in_page-bytes.false, c.in_page.ensures.value, c.bytes.ensures.value) in
-    told _ _ _ _ _ _ _ _ _ _ _ (low, fits) long near (sym (hint-serves _ _ _ _ c.in-Some.pa (sym c.by_hint.ensures ∙ c.in-Some.is))) c.ended.ensures
+    loaded _ _ _ _ _ _ (known g.W.Datum.WIDTH) (clear-sized c.args.core.now c.args.base c.args.ram.now g.W.Datum.WIDTH low long fits) _ _ _ _ c.by_hint.ensures

@@ -1,13 +1,12 @@
-use Rattle.std.proofs.Common.{◌<◌, ◌^◌, length, ◌∙◌, arith}
+use Rattle.std.proofs.Common.{◌∙◌}
 use Rattle.quick.proofs.ByHint.{unhinted}
 use Rattle.quick.proofs.OneStore.{told, put-told}
 use Rattle.quick.proofs.store.past_hint.Goals as goal
 
 pub returns-in-Some : goal.returns-in-Some
-returns-in-Some c =
-    let long : length c.args.ram.now < 2 ^ 64 = omega arith in
+returns-in-Some g c =
     let moved = c.in-Some.ensures.answer ∙ unhinted _ _ _ _ c.requires.no_hint in
     record {
-      tells = told _ _ _ _ _ _ c.requires.clear long c.requires.near _ _ moved _ _ _ _ c.ended.ensures.tells;
-      ram = put-told _ _ _ _ _ _ c.requires.clear long c.requires.near _ _ moved _ c.ended.ensures.ram;
+      tells = told _ _ _ _ _ c.requires.near _ _ moved _ _ _ _ c.ended.ensures.tells;
+      ram = put-told _ _ _ _ _ c.requires.near _ _ moved _ _ c.ended.ensures.ram;
     }

@@ -1,27 +1,26 @@
-use Rattle.std.proofs.Common.{◌<◌, ◌≤◌, ◌-◌, ◌^◌, length, refl, sym, ◌∙◌, arith}
+use Rattle.std.proofs.Common.{◌<◌, ◌≤◌, ◌-◌, ◌^◌, length, refl, arith}
 use Rattle.word.specs.Ram.{bytes_in}
-use Rattle.operations.specs.Place.{in_page}
-use Rattle.operations.specs.declared.call.Reply.TheVariants.{Refused}
-use Rattle.quick.proofs.ByHint.{hint-serves, tells}
-use Rattle.quick.proofs.OneStore.{told, put-told, high-store, high-ram}
+use Rattle.operations.specs.declared.check.Check.TheVariants.{Level}
+use Rattle.quick.proofs.Checks.{refused, refused-ram, store-rows, stored, stored-ram, high-sized, clear-sized, known}
 use Rattle.quick.proofs.store.store_as.Goals as goal
 
 pub returns-then-core-gt3 : goal.returns-then-core-gt3
-returns-then-core-gt3 c =
+returns-then-core-gt3 g c =
     let over : 3 < c.args.core.now.privilege.level = omega (arith, c.if-core-gt3.true) in
+    let missed = store-rows c.args.core.now c.args.base c.args.ram.now c.args.va (bytes_in g.W.Datum.WIDTH) c.args.value 1 (high-sized c.args.core.now c.args.base c.args.ram.now (bytes_in g.W.Datum.WIDTH) over) in
     record {
-      tells = tells _ _ (Refused 1) _ _ _ (high-store _ _ _ _ _ _ over) refl refl;
-      ram = high-ram _ _ _ _ _ _ over;
+      tells = refused c.args.core.now c.args.base c.args.ram.now _ Level missed _ _ refl;
+      ram = refused-ram c.args.core.now c.args.base c.args.ram.now _ Level missed;
     }
 
-pub returns-in-Some : goal.returns-in-Some
-returns-in-Some c =
+pub returns-else-ram-base : goal.returns-else-ram-base
+returns-else-ram-base g c =
     let low : c.args.core.now.privilege.level < 4 = omega (arith, c.if-core-gt3.false) in
     let long : length c.args.ram.now < 2 ^ 64 = omega arith in
     let fits : c.args.base ≤ 2 ^ 64 - 1 - length c.args.ram.now = omega (arith, c.if-ram-base.false) in
-    let near : bytes_in c.args.width ≤ in_page c.args.va = omega (arith, c.if-in_page-bytes.false, c.in_page.ensures.value, c.bytes.ensures.value) in
-    let moved = sym (hint-serves _ _ _ _ c.in-Some.pa (sym c.by_hint.ensures ∙ c.in-Some.is)) in
+    let sized = known g.W.Datum.WIDTH in
+    let passed = clear-sized c.args.core.now c.args.base c.args.ram.now g.W.Datum.WIDTH low long fits in
     record {
-      tells = told _ _ _ _ _ _ (low, fits) long near _ _ moved _ _ _ _ c.ended.ensures.tells;
-      ram = put-told _ _ _ _ _ _ (low, fits) long near _ _ moved _ c.ended.ensures.ram;
+      tells = stored _ _ _ _ _ _ sized passed _ _ _ _ _ c.by_hint.ensures.tells;
+      ram = stored-ram _ _ _ _ _ _ sized passed _ _ c.by_hint.ensures.ram;
     }

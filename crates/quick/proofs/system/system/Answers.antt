@@ -1,7 +1,5 @@
-use Rattle.std.proofs.Common.{refl, sym, ap, ◌∙◌}
-use Rattle.operations.specs.Check.{number_of, number_missed}
-use Rattle.operations.specs.declared.call.Reply.TheVariants.{Refused}
-use Rattle.quick.proofs.ByHint.{tells}
+use Rattle.std.proofs.Common.{sym, ap, ◌∙◌}
+use Rattle.operations.specs.Check.{number_missed}
 use Rattle.quick.proofs.Checks.{refused, refused-ram, system-told, system-ram}
 use Rattle.quick.proofs.system.system.Goals as goal
 
@@ -17,6 +15,6 @@ pub returns-in-Err : goal.returns-in-Err
 returns-in-Err c =
     let missed = ap number_missed (sym c.in-Err.is) ∙ c.system.ensures in
     record {
-      tells = tells _ _ (Refused (number_of c.in-Err.missed)) _ _ _ (refused _ _ _ _ c.in-Err.missed missed) c.number.ensures refl;
+      tells = refused _ _ _ _ c.in-Err.missed missed _ _ c.number.ensures;
       ram = refused-ram _ _ _ _ c.in-Err.missed missed;
     }

@@ -2,7 +2,7 @@ use Rattle.std.proofs.Common.{refl, ap}
 use Rattle.cpu.specs.Step.{after_fetch}
 use Rattle.quick.proofs.ByHint.{tells}
 use Rattle.quick.proofs.Fetching.{end-insn, end-outside, end-fault}
-use Rattle.quick.proofs.fetch.ended.Goals as goal
+use Rattle.quick.proofs.fetch.read.Goals as goal
 
 pub returns-in-Some : goal.returns-in-Some
 returns-in-Some c = tells _ _ _ _ _ _ (ap after_fetch (end-insn _ _ _ _ _ c.in-Ok.pa c.in-Ok.is _ c.insn_at.ensures _ c.in-Some.is)) refl refl

@@ -1,8 +1,0 @@
-use Rattle.std.proofs.Common.{◌<◌, ◌^◌, length, arith}
-use Rattle.quick.proofs.Fetching.{fetch-missed, told-pa}
-use Rattle.quick.proofs.fetch.past_hint_pa.Goals as goal
-
-pub returns-in-Some : goal.returns-in-Some
-returns-in-Some c =
-    let long : length c.args.ram.now < 2 ^ 64 = omega arith in
-    told-pa _ _ _ _ c.requires.clear long _ _ (fetch-missed _ _ _ _ _ _ c.requires.no_hint c.in-Some.ensures.answer c.leave.ensures) _ _ _ c.ended.ensures.number c.ended.ensures.value
