@@ -12,7 +12,7 @@ use Rattle.tlb.specs.Asks.{Ask, kind_of, address_of, Given, onward}
 use Rattle.tlb.specs.declared.Tlb.{Tlb}
 use Rattle.tlb.specs.Answers.{Answer}
 use Rattle.tlb.specs.declared.Inval.TheVariants.{All}
-use Rattle.history.specs.Lists.{each_left, each_right, each-head, plain-append, tlb-append}
+use Rattle.history.proofs.Lists.{each_left, each_right, each-head, plain-append, tlb-append}
 use Rattle.history.specs.World.{World, Laws, covers, Plain, uncached}
 use Rattle.history.specs.History.{Effect, nothing, carries, writes, sets, Step, Event, steps, receives, after, plain_run, drops, drops_run, answer_of}
 use Rattle.history.specs.History.{tlb_ask, answers, tlb_run, Settled, SettledFor, FaithfulAnswer}

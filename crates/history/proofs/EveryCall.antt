@@ -6,7 +6,7 @@ use Rattle.tlb.specs.Tlb.{fresh}
 use Rattle.tlb.specs.Asks.{kind_of, address_of, Given}
 use Rattle.tlb.specs.declared.Tlb.{Tlb}
 use Rattle.history.specs.World.{World, Laws, Plain, regime_now, page_now, uncached}
-use Rattle.history.specs.Lists.{plain-append, tlb-append}
+use Rattle.history.proofs.Lists.{plain-append, tlb-append}
 use Rattle.history.specs.History.{Step, Event, plain_run, answers, tlb_run, Settled, FaithfulAnswer}
 use Rattle.history.proofs.Theorem.{every_history_faithful}
 use Rattle.history.specs.Calls.{Machine, Lent, Fed, run, lent_of, bare_run, events_fed, events_run, ShownIn, Shown, shown, plain_of, events_of, Bridge}

@@ -2,9 +2,11 @@
 use Rattle.std.specs.Prelude.{List}
 use Rattle.std.proofs.Common.{subst, arith}
 use Rattle.tlb.specs.Lists.{Each, done, more}
-use Rattle.history.specs.Instance.{real, real-laws, fresh_plain, fresh-asid}
+use Rattle.history.specs.Instance.{real, fresh_plain}
+use Rattle.history.proofs.Instance.{real-laws, fresh-asid}
 use Rattle.history.proofs.Origins.{origin}
-use Rattle.history.specs.Judgement.{Judged, judged-from, status-row}
+use Rattle.history.specs.Judgement.{Judged}
+use Rattle.history.proofs.Judgement.{judged-from, status-row}
 use Rattle.history.specs.Theorems.{every_origin, every_judgement, every_fault_row}
 
 each_map : {A : Type 0} {P Q : A → Type 0} {l : List A} → ((a : A) → P a → Q a) → Each P l → Each Q l

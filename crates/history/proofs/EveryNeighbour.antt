@@ -11,8 +11,10 @@ use Rattle.tlb.specs.Asks.{Ask, kind_of, address_of}
 use Rattle.history.specs.World.{World, Laws, Plain, regime_now, untag_now, uncached}
 use Rattle.history.specs.History.{Event, plain_run, tlb_run, answer_of}
 use Rattle.history.proofs.Corollaries.{one-settled}
-use Rattle.history.specs.Instance.{window_of, real, real-laws, fresh_plain, fresh-asid}
-use Rattle.history.specs.Neighbours.{OwnFor, own-settled}
+use Rattle.history.specs.Instance.{window_of, real, fresh_plain}
+use Rattle.history.proofs.Instance.{real-laws, fresh-asid}
+use Rattle.history.specs.Neighbours.{OwnFor}
+use Rattle.history.proofs.Neighbours.{own-settled}
 
 module _ (w : World) where
   -- Two histories that come to the same registers, level and mark, with RAMs now under which the address has one walk.
@@ -23,7 +25,6 @@ module _ (w : World) where
         ≡ w.walk (plain_run w c₀ one).regs n (regime_now w (plain_run w c₀ one)) (untag_now w (plain_run w c₀ one) (address_of a))
         → OwnFor w c₀ one m a → OwnFor w c₀ two n a
         → answer_of w (plain_run w c₀ one) m a (tlb_run w c₀ one fresh) ≡ answer_of w (plain_run w c₀ two) n a (tlb_run w c₀ two fresh)
-    unfolding uncached
     neighbours same walks own₁ own₂ =
         alone one m own₁ ∙ rw walks (ap (λ (c : Plain w). uncached w c n (kind_of a) (address_of a)) same) ∙ sym (alone two n own₂)
       where

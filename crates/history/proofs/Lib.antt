@@ -1,8 +1,15 @@
 -- Every law that leans on what an event does, and faithfulness itself.
+pub mod Lists
+pub mod Instance
 pub mod Traced
 pub mod Right
 pub mod ModelLaws
 pub mod Theorem
+pub mod Tallies
+pub mod Fresh
+pub mod Judgement
+pub mod StepByStep
+pub mod Neighbours
 pub mod EveryHistory
 pub mod Corollaries
 pub mod Origins

@@ -19,7 +19,7 @@ use Rattle.history.specs.World.{World, Laws, Plain, regime_now, untag_now, acces
 use Rattle.history.specs.History.{Effect, nothing, carries, writes, sets, Event, steps, receives, after, after_event, plain_run, answer_of, tlb_ask, answers}
 use Rattle.history.specs.History.{tlb_asks, tlb_after, tlb_event, tlb_run}
 use Rattle.history.specs.Invisible.{answers_run}
-use Rattle.history.specs.Lists.{event-low, run-low}
+use Rattle.history.proofs.Lists.{event-low, run-low}
 use Rattle.history.specs.ModelRun.{model_ask, model_answers, model_asks, model_flushed, model_retagged, model_after, model_event, model_run, model_answers_run, StandsFor}
 
 module _ (w : World) (laws : Laws w) where

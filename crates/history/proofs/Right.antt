@@ -17,7 +17,7 @@ use Rattle.tlb.specs.Model.{tried, hinted, hintable, translate, noting_fetch, no
 use Rattle.tlb.specs.declared.access.Kind.{Kind}
 use Rattle.tlb.specs.Answers.{Answer}
 use Rattle.tlb.specs.declared.access.Kind.TheVariants.{Read, Write, Fetch}
-use Rattle.history.specs.World.{World, Laws, LeavesEqual, leaf_answer, walk_answer, page_walk, Plain, regime_now, on_now, untag_now, page_now, need_now, uncached}
+use Rattle.history.specs.World.{World, Laws, LeavesEqual, leaf_answer, page_walk, Plain, regime_now, on_now, untag_now, page_now, need_now, uncached}
 use Rattle.history.specs.World.{access_of}
 use Rattle.history.proofs.Traced.{Moment, at, Seen, Today, LineFrom, LineOk, allows, HintFrom, flat, kept, HintOk, kind_at, Traced, traced-counting}
 use Rattle.history.proofs.Traced.{traced-keep, traced-hint, traced-fetch-hint}
@@ -66,7 +66,6 @@ module _ (w : World) where
   kind-at Fetch mark va e = absurd (false≢true e)
 
   pub leaf-equal : {ℓ ℓ' : Leaf} (bit va : ℕ) → LeavesEqual ℓ ℓ' → leaf_answer ℓ bit va ≡ leaf_answer ℓ' bit va
-  unfolding leaf_answer
   leaf-equal bit va g =
       λ i.
       if g.perms i / bit % 2 == 1 then Ok (g.pages i * 4096 + va % 4096) else Err (first (12 + g.levels i))
@@ -87,7 +86,6 @@ module _ (w : World) where
           → Answered x
 
     pub answered-right : {x : Answer} → Agreed h c.regs m (regime_now w c) (page_now w c va) → Answered x → x ≡ uncached w c m k va
-    unfolding uncached walk_answer
     answered-right st (itself o e) = rw o e
     answered-right st (by ℓ a o seen d e) =
         let (ℓ', e', g) = st ℓ a seen d in
@@ -104,7 +102,6 @@ module _ (w : World) where
 
     answered-hint : (pa : ℕ) → Unmarked c.privilege.unprivileged k → Answered (Ok pa)
         → HintFrom w h c.regs k (va / 4096) c.privilege.level (pa / 4096)
-    unfolding leaf_answer
     answered-hint pa u (itself o e) = let q : pa ≡ va = cc in flat o (ap (λ (n : ℕ). n / 4096) q)
     answered-hint pa u (by ℓ a o seen d e) = go (allows w ℓ (need_now w c k)) refl e
       where
@@ -118,7 +115,6 @@ module _ (w : World) where
     answered-hint pa u (failed code o f e) = let z : ◌≡◌ {A = ℕ} 0 1 = cc in absurd (omega arith)
 
     hint-answered : (q : ℕ) → Unmarked c.privilege.unprivileged k → HintFrom w h c.regs k (va / 4096) c.privilege.level q → Answered (address_in q va)
-    unfolding leaf_answer
     hint-answered q u (flat o e) = let x : q * 4096 + va % 4096 ≡ va = omega arith in itself o (ap Ok x)
     hint-answered q u (kept ℓ a o seen d al e) =
         by ℓ a o (subst (λ (p : ℕ). Seen w h (regime_now w c) p ℓ a) (sym untag-first) seen) d
@@ -130,7 +126,7 @@ module _ (w : World) where
       pub answered : Answered o.answer
 
     line-judged : (l : Line) (o : LineFrom w h l) → judgeLine l (access_of w c m k va) ≡ leaf_answer o.leaf (need_now w c k) va
-    unfolding judgeLine leaf_answer
+    unfolding judgeLine
     line-judged l o = rw (o.frame, o.perms, o.level)
 
   -- a step has begun on the registers and RAM of now

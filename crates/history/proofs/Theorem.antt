@@ -14,7 +14,7 @@ use Rattle.tlb.specs.declared.access.Kind.TheVariants.{Fetch}
 use Rattle.tlb.specs.declared.Inval.{Inval}
 use Rattle.tlb.specs.Answers.{Answer}
 use Rattle.tlb.specs.declared.Inval.TheVariants.{All}
-use Rattle.history.specs.Lists.{each_append}
+use Rattle.history.proofs.Lists.{each_append}
 use Rattle.history.specs.World.{World, Laws, LeavesEqual, covers, Plain, page_walk}
 use Rattle.history.specs.History.{Effect, nothing, carries, writes, sets, Step, Event, steps, receives, after, after_event, plain_run, drops, drops_event}
 use Rattle.history.specs.History.{drops_run, tlb_run, Settled, FaithfulAnswer, EveryHistoryFaithful}

@@ -1,13 +1,12 @@
 -- The core without a cache answers by the fresh answer of the address (walk/specs/Fresh.antt), which AT and the page
 -- census go by too.
-use Rattle.std.specs.Prelude.{if◌then◌else◌, ◌≡◌, refl, Bool, true, false, ℕ, Ok}
+use Rattle.std.specs.Prelude.{ℕ, Ok}
 use Rattle.walk.specs.Regime.{bank_of}
 use Rattle.walk.specs.Fresh.{fresh_of}
 use Rattle.walk.specs.declared.{fresh.Fresh.Fresh}
 use Rattle.walk.specs.declared.fresh.Fresh.TheVariants.{Flat, Ended}
-use Rattle.tlb.specs.declared.access.Kind.{Kind}
 use Rattle.tlb.specs.Answers.{Answer}
-use Rattle.history.specs.World.{Plain, walk_answer, regime_now, on_now, untag_now, need_now, uncached}
+use Rattle.history.specs.World.{Plain, walk_answer, regime_now}
 use Rattle.history.specs.Instance.{Ram, memory_of, real}
 
 -- the fresh answer of an address under the registers and the level of a core
@@ -18,13 +17,3 @@ fresh_now c m va = fresh_of (bank_of c.regs (regime_now real c)) (regime_now rea
 abbrev pub fresh_answer : Fresh → ℕ → ℕ → Answer
 fresh_answer (Flat pa) bit va = Ok pa
 fresh_answer (Ended w) bit va = walk_answer w bit va
-
-pub uncached-fresh : (c : Plain real) (m : Ram) (k : Kind) (va : ℕ) → uncached real c m k va ≡ fresh_answer (fresh_now c m va) (need_now real c k) va
-unfolding uncached fresh_of
-uncached-fresh c m k va = go (on_now real c)
-  where
-    go : (b : Bool)
-        → if b then walk_answer (real.walk c.regs m (regime_now real c) (untag_now real c va)) (need_now real c k) va else Ok va
-        ≡ fresh_answer (if b then Ended (real.walk c.regs m (regime_now real c) (untag_now real c va)) else Flat va) (need_now real c k) va
-    go true = refl
-    go false = refl

@@ -1,36 +1,13 @@
--- The real registers and walk as a `World`, its laws, and faithfulness of it.
-use Rattle.std.specs.Prelude.{◌≡◌, refl, false, List, ℕ, ◌+◌, ◌*◌, ◌/◌, ◌%◌, Option}
-use Rattle.std.proofs.Common.{arith}
-use Rattle.word.specs.Ram.{word_at}
+-- The real registers and walk as a `World`.
+use Rattle.std.specs.Prelude.{false}
 use Rattle.sysreg.specs.Regs.{fresh_control}
-use Rattle.sysreg.specs.Shape.{same_shape, asid_base, asid_of}
-use Rattle.sysreg.specs.ShapeLaws.{SameShape, shape-agrees}
+use Rattle.sysreg.specs.Shape.{same_shape, asid_of}
 use Rattle.sysreg.specs.declared.regs.Control.{Control}
-use Rattle.sysreg.specs.declared.regs.El.TheVariants as El
-use Rattle.walk.specs.Regime.{regime_of, level_of, bank_of, stage1_on}
+use Rattle.walk.specs.Regime.{bank_of, stage1_on}
 use Rattle.walk.specs.Tag.{untagged}
-use Rattle.walk.specs.TagLaws.{untagged-page}
 use Rattle.walk.specs.Walk.{walk_of}
-use Rattle.walk.proofs.WalkBounds.{leaf-bounds}
-use Rattle.walk.specs.PageLaws.{leaf_at}
-use Rattle.walk.proofs.PageLaws.{leaf-of-page}
-use Rattle.walk.specs.declared.regime.Regime.{Regime}
-use Rattle.walk.specs.declared.regime.Regime.TheVariants.{El1, El2, El3}
-use Rattle.tlb.specs.Step as Step
-use Rattle.tlb.specs.declared.access.Kind.{Kind}
-use Rattle.history.specs.World.{World, Laws, Plain, access_of}
-
--- RAM as a lent window: its first address and its bytes
-pub record Ram : Type 0 where
-  pub base : ℕ
-  pub bytes : List ℕ
-
-abbrev pub window_of : ℕ → List ℕ → Ram
-window_of base bytes = record { base = base; bytes = bytes }
-
--- the descriptor at an address
-abbrev pub memory_of : Ram → ℕ → Option ℕ
-memory_of m = word_at m.base m.bytes 8
+pub use Rattle.history.specs.Window.{Ram, window_of, memory_of}
+use Rattle.history.specs.World.{World, Plain}
 
 abbrev pub real : World
 real =
@@ -44,40 +21,6 @@ real =
       same-shape = same_shape;
     }
 
--- A translation's access is the one that the contracts of `tlb` make of the regime's registers.
-pub access-is : (c : Plain real) (m : Ram) (k : Kind) (va : ℕ) →
-    access_of real c m k va ≡ Step.access_of (bank_of c.regs (regime_of c.privilege.level)) c.privilege va k (memory_of m)
-access-is c m k va = refl
-
--- LAWS
-
-shape_on : (R S : Control) → SameShape R S → (r : Regime) → stage1_on (bank_of R r) r ≡ stage1_on (bank_of S r) r
-shape_on R S h El1 = rw (h.sctlr El.El1, h.scr, h.hcr)
-shape_on R S h El2 = rw (h.sctlr El.El2)
-shape_on R S h El3 = rw (h.sctlr El.El3)
-
-same-page : (x v : ℕ) → x / 4096 ≡ (x / 4096 * 4096 + v % 4096) / 4096
-same-page x v = omega arith
-
-pub real-laws : Laws real
-real-laws =
-    record {
-      shape_on = λ R S e r. shape_on R S (shape-agrees R S e) r;
-      shape-untag = λ R S e r va. rw ((shape-agrees R S e).tcr (level_of r));
-      untag-page = λ R r va vb e. untagged-page (bank_of R r).tcr r va vb e;
-      leaf-level = λ R m r va ℓ e. (leaf-bounds (bank_of R r) r va (memory_of m) ℓ e).level-high;
-      walk-page = λ R m r va vb p ℓ e. (
-        leaf_at ℓ vb,
-        leaf-of-page (bank_of R r) r va vb (memory_of m) p ℓ e,
-        record { pages = same-page ℓ.oa vb; perms = refl; levels = refl },
-        refl,
-      );
-    }
-
 -- The fresh core that `Cpu::new` gives: EL3, the mark clear.
 abbrev pub fresh_plain : Plain real
 fresh_plain = record { regs = fresh_control; privilege = record { level = 3; unprivileged = false } }
-
-pub fresh-asid : asid_of fresh_control ≡ 0
-unfolding asid_of asid_base fresh_control
-fresh-asid = refl

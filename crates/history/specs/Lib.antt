@@ -7,6 +7,7 @@ pub mod Calls
 pub mod ModelRun
 pub mod Tallies
 -- The real registers and walk.
+pub mod Window
 pub mod Instance
 pub mod Fresh
 -- What follows from it, and how to show the premise.
@@ -14,7 +15,5 @@ pub mod Origin
 pub mod Judgement
 pub mod StepByStep
 pub mod Neighbours
--- The proof.
-pub mod Lists
 -- What is proved, as src/theorems.rt promises it.
 pub mod Theorems

@@ -1,7 +1,6 @@
 -- The plain model over a history: what each event does to it and what it answers, by the model's own functions; and
 -- that the cache of History.antt does the same, answers, counters and what is pending included.
 use Rattle.std.specs.Prelude.{if◌then◌else◌, ◌≡◌, List, [], ◌∷◌, ◌++◌, ℕ, ◌==◌}
-use Rattle.std.proofs.Math.Path.{refl}
 use Rattle.std.proofs.Math.Bool.{true, false}
 use Rattle.tlb.specs.Model.{Model, Outcome, invalidate, retag, broadcast, translate, fetch}
 use Rattle.tlb.specs.Live.{live, WellFormed}
@@ -10,7 +9,7 @@ use Rattle.tlb.specs.declared.{Tlb.Tlb}
 use Rattle.tlb.specs.declared.access.Kind.TheVariants.{Fetch}
 use Rattle.tlb.specs.declared.Inval.TheVariants.{All}
 use Rattle.history.specs.World.{World, Plain, access_of}
-use Rattle.history.specs.History.{Effect, nothing, carries, writes, sets, Event, steps, receives, after, after_event, plain_run}
+use Rattle.history.specs.History.{Effect, nothing, carries, writes, sets, Event, steps, receives, after, after_event}
 
 module _ (w : World) where
   -- a translation: its answer, and the model after it
@@ -61,10 +60,6 @@ module _ (w : World) where
   model_answers_run c (steps m s ∷ xs) u =
       model_answers c m s.asks u ++ model_answers_run (after w s.effect c) xs (model_event (steps m s) c u)
   model_answers_run c (receives v ∷ xs) u = model_answers_run c xs (model_event (receives v) c u)
-
-  pub model-append : (c : Plain w) (l k : List (Event w)) (u : Model) → model_run c (l ++ k) u ≡ model_run (plain_run w c l) k (model_run c l u)
-  model-append c [] k u = refl
-  model-append c (x ∷ l) k u = model-append (after_event w x c) l k (model_event x c u)
 
 -- THE CACHE DOES THE SAME
 

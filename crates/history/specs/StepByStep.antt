@@ -1,11 +1,10 @@
 -- The premise step by step: what is to be shown of a list that is given.
-use Rattle.std.specs.Prelude.{◌≡◌, true, false, List, [], ◌∷◌, ◌++◌, ◌⊎◌, ℕ, Ok}
-use Rattle.std.proofs.Common.{subst}
+use Rattle.std.specs.Prelude.{◌≡◌, true, false, List, [], ◌∷◌, ◌⊎◌, ℕ, Ok}
 use Rattle.walk.specs.declared.{regime.Regime.Regime, level.Leaf.Leaf}
 use Rattle.tlb.specs.Lists.{Each}
 use Rattle.tlb.specs.declared.Inval.{Inval}
 use Rattle.history.specs.World.{World, LeavesEqual, covers, Plain, page_walk}
-use Rattle.history.specs.History.{Step, Event, steps, receives, after_event, plain_run, drops_run, Settled}
+use Rattle.history.specs.History.{Event, steps, receives, after_event, drops_run}
 
 module _ (w : World) (R : w.Regs) (m : w.Ram) (r : Regime) (p : ℕ) where
   -- at a step that begins on c and m', with the invalidations vs from then on; now the registers are R and RAM is m
@@ -21,18 +20,3 @@ module _ (w : World) (R : w.Regs) (m : w.Ram) (r : Regime) (p : ℕ) where
   HoldsFrom c (steps m' s ∷ l) =
       HoldsAt c m' (drops_run w c (steps m' s ∷ l)) × HoldsFrom (after_event w (steps m' s) c) l
   HoldsFrom c (receives v ∷ l) = HoldsFrom c l
-
-  holds_later : (before : List (Event w)) (m' : w.Ram) (s : Step w) (later : List (Event w)) (c : Plain w)
-      → HoldsFrom c (before ++ steps m' s ∷ later) → HoldsAt (plain_run w c before) m' (drops_run w (plain_run w c before) (steps m' s ∷ later))
-  holds_later [] m' s later c h = h.0
-  holds_later (steps n t ∷ l) m' s later c h = holds_later l m' s later (after_event w (steps n t) c) h.1
-  holds_later (receives v ∷ l) m' s later c h = holds_later l m' s later c h
-
-pub steps-settled : (w : World) (c₀ : Plain w) (past : List (Event w)) (m : w.Ram) (r : Regime) (p : ℕ)
-    → HoldsFrom w (plain_run w c₀ past).regs m r p c₀ past → Settled w c₀ past m r p
-steps-settled w c₀ past m r p h =
-    record {
-      holds = λ before m' s later split.
-          holds_later w (plain_run w c₀ past).regs m r p before m' s later c₀
-          (subst (λ (l : List (Event w)). HoldsFrom w (plain_run w c₀ past).regs m r p c₀ l) split h);
-    }

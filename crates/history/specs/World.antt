@@ -47,12 +47,12 @@ covers (Asid b) p ℓ a = not ℓ.global && a == b
 -- CORE WITHOUT A CACHE
 
 -- 0x0C plus the leaf's level where the leaf lacks the bit that the access needs; else its physical page with the low twelve bits of the address
-unfoldable pub leaf_answer : Leaf → ℕ → ℕ → Answer
+abbrev pub leaf_answer : Leaf → ℕ → ℕ → Answer
 leaf_answer ℓ bit va =
     if ℓ.perms / bit % 2 == 1 then Ok (ℓ.oa / 4096 * 4096 + va % 4096) else Err (first (12 + ℓ.level))
 
 -- a fault of the walk is the answer
-unfoldable pub walk_answer : Walked → ℕ → ℕ → Answer
+abbrev pub walk_answer : Walked → ℕ → ℕ → Answer
 walk_answer (Err code) bit va = Err (first code)
 walk_answer (Ok ℓ) bit va = leaf_answer ℓ bit va
 
@@ -85,7 +85,7 @@ module _ (w : World) where
   -- Its answer to a translation that isn't refused: "with stage 1 off, the address itself. Else it untags the address
   -- and walks, by the walk's definition, on its own registers and the step's RAM." A fault is its status and the
   -- address translated, va.
-  unfoldable pub uncached : Plain → w.Ram → Kind → ℕ → Answer
+  abbrev pub uncached : Plain → w.Ram → Kind → ℕ → Answer
   uncached c m k va =
       if on_now c then walk_answer (w.walk c.regs m (regime_now c) (untag_now c va)) (need_now c k) va else Ok va
 

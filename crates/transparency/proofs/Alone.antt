@@ -3,7 +3,7 @@ use Rattle.std.specs.Prelude.{◌≡◌, refl, List, [], ◌∷◌, ◌++◌, �
 use Rattle.std.proofs.Common.{sym, ap, subst, ◌∙◌, append-nil}
 use Rattle.word.specs.Bits.{align_down, wrap}
 use Rattle.word.specs.Ram.{width_of}
-use Rattle.tlb.specs.Asks.{translates, Given, onward-same}
+use Rattle.tlb.specs.Asks.{Ask, translates, Given, kind_of, address_of, onward, onward-same}
 use Rattle.tlb.specs.declared.access.Kind.TheVariants as Kind
 use Rattle.tlb.specs.declared.Tlb.{Tlb}
 use Rattle.sysop.specs.declared.op.SysOp.{SysOp}
@@ -14,16 +14,19 @@ use Rattle.operations.specs.declared.{call.Encoding.Encoding, call.Call.Call}
 use Rattle.operations.specs.Answers.{StoreAnswer}
 use Rattle.cpu.specs.System.{zero_of, zero_ram}
 use Rattle.operations.specs.Replies.{storing}
-use Rattle.operations.specs.declared.call.Call.TheVariants.{Translate, DataPa, FetchPa, Load, Store, Fetch, System, Register, Level, Mark, General}
-use Rattle.operations.specs.declared.call.Call.TheVariants.{Abort, Census}
+use Rattle.operations.specs.declared.call.Call.TheVariants.{Translate, DataPa, FetchPa, Load, Store, Fetch, System}
 use Rattle.history.specs.World.{on_now, uncached}
 use Rattle.history.specs.History.{Event, steps}
-use Rattle.history.specs.Invisible.{answers_run, plain_answers_run}
-use Rattle.history.specs.Instance.{Ram, real}
-use Rattle.transparency.specs.Bare.{plain_in, op_in, operand_in, Ruling, allowed, number, undefined, unimplemented, ruling_in, refusal_of, if_allowed}
-use Rattle.transparency.specs.Events.{idle, access_in, sized_in, zero_steps, sys_steps, steps_in, events_in}
-use Rattle.transparency.specs.Starts.{ram_with, ram_zeroed, zero_later, sys_later, later_of, later_in}
-use Rattle.transparency.specs.Replies.{Outcome, outcome, outcome_of, store_says, load_by_size, store_by_size, sys_says, call_says, bare_answers, bare_zero_one, on_done}
+use Rattle.history.specs.Invisible.{answers_run, plain_answers, plain_answers_run}
+use Rattle.history.specs.Instance.{Ram, window_of, real}
+use Rattle.transparency.specs.Bare.{op_in, operand_in, Ruling, allowed, ruling_in, refusal_of, if_allowed}
+use Rattle.transparency.specs.Events.{plain_in}
+use Rattle.transparency.specs.Events.{idle, zero_steps, sys_steps, steps_in, events_in}
+use Rattle.transparency.specs.Claim.{access_in, sized_in}
+use Rattle.transparency.specs.Starts.{ram_zeroed, zero_later, sys_later, later_of, later_in}
+use Rattle.transparency.specs.Steps.{on_done}
+use Rattle.transparency.specs.Replies.{Outcome, outcome, outcome_of, store_says, load_by_size, store_by_size, bare_answers, bare_zero_one}
+use Rattle.transparency.specs.Says.{sys_says, call_says}
 use Rattle.transparency.specs.Replies.{bare_zero, bare_sys, bare_call, bare_reply}
 use Rattle.transparency.proofs.Bridge.{stored-bare, stored-tlb}
 use Rattle.transparency.proofs.Answered.{one-page, next-aligned, start-aligned, access_given, store-answered, zero_outcome, zero_given, store_ends, core_then}
@@ -35,6 +38,13 @@ cons_head e = cc
 
 cons_tail : {g h : Given} {l k : List Given} → ◌≡◌ {A = List Given} (g ∷ l) (h ∷ k) → l ≡ k
 cons_tail e = cc
+
+-- the answers of the core without a cache are those of the theory
+answers-alone : (b : Bare) (m : Ram) (l : List Ask) → plain_answers real (plain_in b) m l ≡ bare_answers b m l
+answers-alone b m [] = refl
+answers-alone b m (a ∷ l) =
+    let x = uncached real (plain_in b) m (kind_of a) (address_of a) in
+    ap {B = List Given} (λ k. record { ask = a; answer = x } ∷ onward x k []) (answers-alone b m l)
 
 -- ZEROING
 
@@ -52,9 +62,9 @@ module _ (c : Core) (m : Ram) (va : ℕ) (al : va % 8 ≡ 0) where
       (ap {B = List Given} (λ (l : List Given). plain_given ∷ l) (onward-same plain_given.answer []))
 
   -- the first answers are equal, and so are the rest
-  module _ (l k : List Given) (e : access_given c m va 8 Kind.Write ++ l ≡ bare_answers (bare_of c) m (access_in (bare_of c) va 8 Kind.Write) ++ k) where
+  module _ (l k : List Given) (e : access_given c m va 8 Kind.Write ++ l ≡ plain_answers real (plain_in (bare_of c)) m (access_in (bare_of c) va 8 Kind.Write) ++ k) where
     both : ◌≡◌ {A = List Given} (store_given (bare_of c) c.tlb m va ∷ l) (plain_given ∷ k)
-    both = ap (λ (x : List Given). x ++ l) (sym (one-given (bare_of c) c.tlb m va al)) ∙ e ∙ ap (λ (x : List Given). x ++ k) first_plain
+    both = ap (λ (x : List Given). x ++ l) (sym (one-given (bare_of c) c.tlb m va al)) ∙ e ∙ ap (λ (x : List Given). x ++ k) (answers-alone (bare_of c) m (access_in (bare_of c) va 8 Kind.Write) ∙ first_plain)
 
     rest-same : l ≡ k
     rest-same = cons_tail both
@@ -92,7 +102,7 @@ zero-alone (suc n) c m va al e =
 
     -- what follows the first store, by its outcome
     on : Outcome → Outcome
-    on o = on_done o.reply (bare_zero n (bare_of c) (ram_with m o.bytes) next) o
+    on o = on_done o.reply (bare_zero n (bare_of c) (window_of m.base o.bytes) next) o
 
     go : (a : StoreAnswer) → store_ends c m va ≡ a → Rest (bare_of c) (tlb_then c m va) → zero_outcome (suc n) c m va ≡ bare_zero (suc n) (bare_of c) m va
     go (Ok x) q more =
@@ -110,12 +120,12 @@ zero-alone (suc n) c m va al e =
 
 -- the answers of one access, as the run and the access alone list them
 load-alone : (s : Option Width) (b : Bare) (m : Ram) (va : ℕ)
-    → load_by_size s m va (bare_answers b m (sized_in b va s Kind.Read) ++ []) ≡ load_by_size s m va (bare_answers b m (sized_in b va s Kind.Read))
-load-alone s b m va = ap (load_by_size s m va) (append-nil (bare_answers b m (sized_in b va s Kind.Read)))
+    → load_by_size s m va (plain_answers real (plain_in b) m (sized_in b va s Kind.Read) ++ []) ≡ load_by_size s m va (bare_answers b m (sized_in b va s Kind.Read))
+load-alone s b m va = ap (load_by_size s m va) (append-nil (plain_answers real (plain_in b) m (sized_in b va s Kind.Read)) ∙ answers-alone b m (sized_in b va s Kind.Read))
 
 store-alone : (s : Option Width) (b : Bare) (m : Ram) (va v : ℕ)
-    → store_by_size s m va v (bare_answers b m (sized_in b va s Kind.Write) ++ []) ≡ store_by_size s m va v (bare_answers b m (sized_in b va s Kind.Write))
-store-alone s b m va v = ap (store_by_size s m va v) (append-nil (bare_answers b m (sized_in b va s Kind.Write)))
+    → store_by_size s m va v (plain_answers real (plain_in b) m (sized_in b va s Kind.Write) ++ []) ≡ store_by_size s m va v (bare_answers b m (sized_in b va s Kind.Write))
+store-alone s b m va v = ap (store_by_size s m va v) (append-nil (plain_answers real (plain_in b) m (sized_in b va s Kind.Write)) ∙ answers-alone b m (sized_in b va s Kind.Write))
 
 module _ (c : Core) (m : Ram) where
   abbrev b : Bare
@@ -135,10 +145,7 @@ module _ (c : Core) (m : Ram) where
       sym (zero-said 7 c m (align_down (operand_in b e) 6) (start-aligned (operand_in b e)))
       ∙ zero-alone 7 c m (align_down (operand_in b e) 6) (start-aligned (operand_in b e)) h
   sys-alone (Op.At form) e h = refl
-  sys-alone Op.Tlbi e h = refl
-  sys-alone Op.Nothing e h = refl
-  sys-alone Op.Undefined e h = refl
-  sys-alone Op.Unimplemented e h = refl
+  sys-alone _ e h = refl
 
   call-alone : (x : Call) → with-cache (steps_in b m (later_of c m x) x) ≡ without (steps_in b m (later_of c m x) x)
       → call_says b m (later_of c m x) x (with-cache (steps_in b m (later_of c m x) x)) ≡ bare_call b m x
@@ -149,12 +156,7 @@ module _ (c : Core) (m : Ram) where
   call-alone (Store va size value) h = ap (call_says b m [] (Store va size value)) h ∙ store-alone (width_of size) b m va value
   call-alone (Fetch va) h = ap (call_says b m [] (Fetch va)) h
   call-alone (System e) h = sys-alone (op_in b e) e h
-  call-alone (Register key value) h = refl
-  call-alone (Level level) h = refl
-  call-alone (Mark mark) h = refl
-  call-alone (General n value) h = refl
-  call-alone (Abort e) h = refl
-  call-alone (Census first pages) h = refl
+  call-alone _ h = refl
 
   pub alone-same : (x : Call) → with-cache (events_in b m (later_in c m x) x) ≡ without (events_in b m (later_in c m x) x) → outcome_of c m x ≡ bare_reply b m x
   alone-same x h = reply-is c m x ∙ go (ruling_in b m x) h
@@ -168,6 +170,4 @@ module _ (c : Core) (m : Ram) where
           (outcome (refusal_of v) m.bytes)
           ≡ if_allowed v (bare_call b m x) (outcome (refusal_of v) m.bytes)
       go allowed k = call-alone x k
-      go (number n) k = refl
-      go undefined k = refl
-      go unimplemented k = refl
+      go _ k = refl

@@ -25,17 +25,19 @@ use Rattle.cpu.specs.Registers.{registered, after_register_write}
 use Rattle.cpu.specs.System.{on_stored, done_with, zero_of, zero_ram, sys_by, sys_ram_by, sys_of, sys_ram}
 use Rattle.operations.specs.Replies.{loading, storing, fetching}
 use Rattle.cpu.specs.Step.{ends, after_store, after_write, load_by, store_by, store_ram_by, run_of, ram_of, refused_or, step_of, ram_after}
-use Rattle.operations.specs.declared.call.Call.TheVariants.{Translate, DataPa, FetchPa, Load, Store, Fetch, System, Register, Level, Mark, General}
-use Rattle.operations.specs.declared.call.Call.TheVariants.{Abort, Census}
+use Rattle.operations.specs.declared.call.Call.TheVariants.{Translate, DataPa, FetchPa, Load, Store, Fetch, System, Register}
 use Rattle.operations.specs.declared.call.Reply.TheVariants.{Refused, Done}
 use Rattle.history.specs.World.{on_now}
 use Rattle.history.specs.History.{steps, answer_of, answers, tlb_asks}
 use Rattle.history.specs.Invisible.{answers_run}
 use Rattle.history.specs.Instance.{Ram, real}
-use Rattle.transparency.specs.Bare.{plain_in, number, missed_in, op_in, operand_in, written_in, by_sys, by_write, ruled_in, refusal_of, if_allowed}
-use Rattle.transparency.specs.Events.{idle, access_in, sized_in, zero_steps, sys_steps, steps_in, events_in}
+use Rattle.transparency.specs.Bare.{number, missed_in, op_in, operand_in, written_in, by_sys, by_write, ruled_in, refusal_of, if_allowed}
+use Rattle.transparency.specs.Events.{plain_in}
+use Rattle.transparency.specs.Events.{idle, zero_steps, sys_steps, steps_in, events_in}
+use Rattle.transparency.specs.Claim.{access_in, sized_in}
 use Rattle.transparency.specs.Starts.{ram_zeroed, zero_later, sys_later, later_of, later_in}
-use Rattle.transparency.specs.Replies.{Outcome, outcome, outcome_of, load_says, store_says, load_by_size, store_by_size, zero_says, sys_says, call_says, says_in}
+use Rattle.transparency.specs.Replies.{Outcome, outcome, outcome_of, load_says, store_says, load_by_size, store_by_size}
+use Rattle.transparency.specs.Says.{zero_says, sys_says, call_says, says_in}
 use Rattle.transparency.proofs.Bridge.{stored-bare, stored-tlb}
 use Rattle.word.specs.declared.ram.Width.{Width}
 use Rattle.sysreg.specs.Write.{WriteAnswer, Written}
@@ -216,9 +218,7 @@ sys-said (Op.At form) c m e = refl
 sys-said Op.Tlbi c m e = refl
 sys-said Op.Zva c m e =
     zero-said 7 c m (align_down (operand_in (bare_of c) e) 6) (start-aligned (operand_in (bare_of c) e))
-sys-said Op.Nothing c m e = refl
-sys-said Op.Undefined c m e = refl
-sys-said Op.Unimplemented c m e = refl
+sys-said _ c m e = refl
 
 write-said : (c : Core) (m : Ram) (w : Written) (a : WriteAnswer)
     → outcome (after_write (registered c w a)).reply m.bytes
@@ -243,11 +243,7 @@ run-said c m (Store va size value) = store-sized c m va value (width_of size)
 run-said c m (Fetch va) = ap (λ a. outcome (fetching a) m.bytes) (fetch-end _ _ m.base m.bytes va)
 run-said c m (System e) = sys-said (op_in (bare_of c) e) c m e
 run-said c m (Register key value) = write-said c m (written_in (bare_of c) key value) (written_in (bare_of c) key value).answer
-run-said c m (Level level) = refl
-run-said c m (Mark mark) = refl
-run-said c m (General n value) = refl
-run-said c m (Abort e) = refl
-run-said c m (Census first pages) = refl
+run-said c m _ = refl
 
 pub reply-is : (c : Core) (m : Ram) (x : Call)
     → outcome_of c m x

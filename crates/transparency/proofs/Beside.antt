@@ -10,14 +10,13 @@ use Rattle.cpu.specs.Registers.{registered, after_register_write}
 use Rattle.cpu.specs.System.{sys_by, sys_ram_by, sys_of, sys_ram}
 use Rattle.cpu.specs.Step.{ends, after_store, after_write, run_of, ram_of, refused_or, step_of, ram_after}
 use Rattle.operations.specs.declared.{call.Call.Call}
-use Rattle.operations.specs.declared.call.Call.TheVariants.{Translate, DataPa, FetchPa, Load, Store, Fetch, System, Register, Level, Mark, General}
-use Rattle.operations.specs.declared.call.Call.TheVariants.{Abort, Census}
+use Rattle.operations.specs.declared.call.Call.TheVariants.{System, Register}
 use Rattle.operations.specs.declared.call.Reply.TheVariants.{Refused}
 use Rattle.cpu.specs.Step.{Stepped}
 use Rattle.history.specs.Calls.{bare_run}
 use Rattle.history.proofs.EveryCall.{run-bare as runs-agree}
 use Rattle.history.specs.Instance.{Ram, real}
-use Rattle.transparency.specs.Bare.{Ruling, allowed, number, undefined, unimplemented, missed_in, op_in, operand_in, written_in, by_sys, by_write, ruled_in}
+use Rattle.transparency.specs.Bare.{Ruling, allowed, number, missed_in, op_in, operand_in, written_in, by_sys, by_write, ruled_in}
 use Rattle.transparency.specs.Bare.{ruling_in, refusal_of, if_allowed, par_at, bare_does, bare_step}
 use Rattle.transparency.specs.Machine.{machine}
 use Rattle.transparency.proofs.Bridge.{bridge, fits}
@@ -80,9 +79,7 @@ refused-bare b m x refuses = go (ruling_in b m x) refuses
   where
     go : (v : Ruling) → (v ≡ allowed → ⊥) → if_allowed v (bare_does b m x) b ≡ b
     go allowed n = absurd (n refl)
-    go (number k) n = refl
-    go undefined n = refl
-    go unimplemented n = refl
+    go _ n = refl
 
 abbrev Unchanged : Core → Ram → Ruling → Stepped → List ℕ → Type 0
 Unchanged c m v s bytes = (s ≡ ends c (refusal_of v)) × (bytes ≡ m.bytes)
@@ -91,10 +88,7 @@ sys-refused : (o : SysOp) (c : Core) (m : Ram) (op1 crm op2 x : ℕ) → (by_sys
     → Unchanged c m (by_sys o) (after_store (sys_by o c m.base m.bytes op1 crm op2 x)) (sys_ram_by o c m.base m.bytes x)
 sys-refused Op.Undefined c m op1 crm op2 x refuses = (refl, refl)
 sys-refused Op.Unimplemented c m op1 crm op2 x refuses = (refl, refl)
-sys-refused (Op.At form) c m op1 crm op2 x refuses = absurd (refuses refl)
-sys-refused Op.Tlbi c m op1 crm op2 x refuses = absurd (refuses refl)
-sys-refused Op.Zva c m op1 crm op2 x refuses = absurd (refuses refl)
-sys-refused Op.Nothing c m op1 crm op2 x refuses = absurd (refuses refl)
+sys-refused _ c m op1 crm op2 x refuses = absurd (refuses refl)
 
 write-refused : (c : Core) (m : Ram) (w : Written) (a : WriteAnswer) → (by_write a ≡ allowed → ⊥)
     → Unchanged c m (by_write a) (after_write (registered c w a)) m.bytes
@@ -107,17 +101,7 @@ run-refused : (c : Core) (m : Ram) (x : Call) → (ruled_in (bare_of c) x ≡ al
 unfolding run_of ram_of sys_of sys_ram reg_of after_register_write
 run-refused c m (System e) refuses = sys-refused (op_in (bare_of c) e) c m e.op1 e.crm e.op2 (operand_in (bare_of c) e) refuses
 run-refused c m (Register key value) refuses = write-refused c m (written_in (bare_of c) key value) (written_in (bare_of c) key value).answer refuses
-run-refused c m (Translate kind va) refuses = absurd (refuses refl)
-run-refused c m (DataPa va) refuses = absurd (refuses refl)
-run-refused c m (FetchPa va) refuses = absurd (refuses refl)
-run-refused c m (Load va size) refuses = absurd (refuses refl)
-run-refused c m (Store va size value) refuses = absurd (refuses refl)
-run-refused c m (Fetch va) refuses = absurd (refuses refl)
-run-refused c m (Level level) refuses = absurd (refuses refl)
-run-refused c m (Mark mark) refuses = absurd (refuses refl)
-run-refused c m (General n value) refuses = absurd (refuses refl)
-run-refused c m (Abort e) refuses = absurd (refuses refl)
-run-refused c m (Census first pages) refuses = absurd (refuses refl)
+run-refused c m _ refuses = absurd (refuses refl)
 
 -- A refused call leaves core, cache, counters and RAM as they are, and its reply is that refusal, by the state without
 -- a cache.

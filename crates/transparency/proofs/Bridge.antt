@@ -20,16 +20,17 @@ use Rattle.cpu.specs.System.{with_par as corePar, at_of, invalidated_of, tlbi_co
 use Rattle.operations.specs.Check.{missed_of}
 use Rattle.cpu.specs.EveryCallEnds.{all-passed}
 use Rattle.cpu.specs.Step.{ends, load_by, store_by, run_of, refused_or, step_of}
-use Rattle.operations.specs.declared.call.Call.TheVariants.{Translate, DataPa, FetchPa, Load, Store, Fetch, System, Register, Level, Mark, General}
-use Rattle.operations.specs.declared.call.Call.TheVariants.{Abort, Census}
+use Rattle.operations.specs.declared.call.Call.TheVariants.{Translate, DataPa, FetchPa, Load, Store, Fetch, System, Register, Level, Mark}
 use Rattle.operations.specs.declared.call.Reply.TheVariants.{Refused}
 use Rattle.history.specs.World.{Plain}
 use Rattle.history.specs.History.{writes, Event, steps, plain_run, tlb_asks, tlb_run}
 use Rattle.history.specs.Calls.{Bridge}
 use Rattle.history.specs.Instance.{Ram, real}
-use Rattle.transparency.specs.Bare.{plain_in, missed_in, op_in, operand_in, written_in, number, by_sys, by_write, ruled_in, if_allowed, sys_does, bare_does}
+use Rattle.transparency.specs.Bare.{missed_in, op_in, operand_in, written_in, number, by_sys, by_write, ruled_in, if_allowed, sys_does, bare_does}
+use Rattle.transparency.specs.Events.{plain_in}
 use Rattle.transparency.specs.Bare.{bare_step}
-use Rattle.transparency.specs.Events.{does, asking, idle, access_in, sized_in, set_by, setting, zero_steps, sys_steps, steps_in, events_in}
+use Rattle.transparency.specs.Events.{does, asking, idle, set_by, setting, zero_steps, sys_steps, steps_in, events_in, tlbi_event}
+use Rattle.transparency.specs.Claim.{access_in, sized_in}
 use Rattle.transparency.specs.Starts.{ram_zeroed, zero_later, sys_later, later_of, later_in}
 use Rattle.transparency.specs.Machine.{machine}
 use Rattle.word.specs.declared.ram.Width.{Width}
@@ -134,9 +135,7 @@ unfolding at_of corePar tlbi_core invalidated_of after_access
 sys-fits (Op.At form) c m e = record { bare = refl; plain = refl; tlb = refl }
 sys-fits Op.Tlbi c m e = record { bare = refl; plain = refl; tlb = refl }
 sys-fits Op.Zva c m e = zero-fits 7 c m (align_down (operand_in (bare_of c) e) 6)
-sys-fits Op.Nothing c m e = fits-idle c m
-sys-fits Op.Undefined c m e = fits-idle c m
-sys-fits Op.Unimplemented c m e = fits-idle c m
+sys-fits _ c m e = fits-idle c m
 
 -- REGISTER WRITES
 
@@ -198,9 +197,7 @@ run_fits c m (System e) p = sys-fits (op_in (bare_of c) e) c m e
 run_fits c m (Register key value) p = write-fits c m (written_in (bare_of c) key value) (written_in (bare_of c) key value).answer
 run_fits c m (Level level) p = level-fits c m level (level-low c.privilege.level m.base (length m.bytes) level p)
 run_fits c m (Mark mark) p = setting-fits c m c.privilege.level mark (mark-low c.privilege.level m.base (length m.bytes) mark p)
-run_fits c m (General n value) p = record { bare = refl; plain = refl; tlb = refl }
-run_fits c m (Abort e) p = record { bare = refl; plain = refl; tlb = refl }
-run_fits c m (Census first pages) p = record { bare = refl; plain = refl; tlb = refl }
+run_fits c m _ p = record { bare = refl; plain = refl; tlb = refl }
 
 pub fits : (c : Core) (m : Ram) (x : Call)
     → Fits c (step_of c m.base m.bytes x).core (bare_step (bare_of c) m x) (events_in (bare_of c) m (later_in c m x) x)
@@ -223,3 +220,7 @@ bridge =
       plain-is = λ c m x. (fits c m x).plain;
       tlb-is = λ c m x. (fits c m x).tlb;
     }
+
+-- each TLBI that is not refused has its event
+pub tlbi-event : tlbi_event
+tlbi-event b m ms e passed named = rw (passed, named) refl

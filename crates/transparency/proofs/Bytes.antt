@@ -25,8 +25,10 @@ use Rattle.history.specs.World as World
 use Rattle.history.proofs.Corollaries.{off-settled}
 use Rattle.history.specs.Calls.{Fed, lent_of, Shown, showing}
 use Rattle.history.proofs.EveryReply.{run-one, bare-one, shown-one}
-use Rattle.history.specs.Instance.{Ram, memory_of, real, real-laws}
-use Rattle.transparency.specs.Bare.{plain_in, missed_in, Ruling, allowed, number, undefined, unimplemented, ruling_in, if_allowed, bare_step}
+use Rattle.history.specs.Instance.{Ram, memory_of, real}
+use Rattle.history.proofs.Instance.{real-laws}
+use Rattle.transparency.specs.Bare.{missed_in, Ruling, allowed, ruling_in, if_allowed, bare_step}
+use Rattle.transparency.specs.Events.{plain_in}
 use Rattle.transparency.specs.Machine.{machine}
 use Rattle.transparency.proofs.Beside.{two-cores}
 use Rattle.transparency.specs.Direct.{core_now, bare_now, past, SettledAt}
@@ -43,7 +45,7 @@ module _ (list : List (Fed real machine)) (seen : Shown real machine fresh_core 
       (ap (λ (p : World.Plain real). real.on p.regs (World.regime_now real (plain_in (bare_now list)))) (begins list seen m) ∙ off)
 
   pub flat-after : Statement.flat_after list m
-  unfolding translate_of stepped_now translate_in uncached
+  unfolding translate_of stepped_now translate_in
   flat-after off kind va = one-ask list seen m (translates kind va) (off-here off va) ∙ rw off
 
   -- a translation after the list is a call that misses no check
@@ -63,9 +65,7 @@ unmoved b m kind va = go (ruling_in b m (Translate kind va))
   where
     go : (v : Ruling) → if_allowed v b b ≡ b
     go allowed = refl
-    go (number n) = refl
-    go undefined = refl
-    go unimplemented = refl
+    go _ = refl
 
 -- what a law of bytes asks of the core, the window and the access
 pub ready-after : (list : List (Fed real machine)) (seen : Shown real machine fresh_core list) (m : Ram) (va n : ℕ) (kind : Kind)

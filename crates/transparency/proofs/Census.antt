@@ -6,7 +6,8 @@ use Rattle.word.specs.Bits.{flag}
 use Rattle.fault.specs.First.{first as status-of}
 use Rattle.fault.specs.declared.Fault.{Fault}
 use Rattle.walk.specs.FreshLaws.{SoundFresh}
-use Rattle.walk.specs.declared.{level.Leaf.Leaf, fresh.Fresh.Fresh}
+use Rattle.walk.specs.Regime.{bank_of, regime_of}
+use Rattle.walk.specs.declared.{regime.Regime.Regime, regime.Bank.Bank, level.Leaf.Leaf, fresh.Fresh.Fresh}
 use Rattle.walk.specs.declared.fresh.Fresh.TheVariants.{Flat, Ended}
 use Rattle.census.specs.Tally.{how_many, many-same}
 use Rattle.census.specs.Count.{page_at, census_at}
@@ -20,18 +21,27 @@ use Rattle.operations.specs.declared.call.Call.TheVariants.{Census}
 use Rattle.operations.specs.declared.call.Reply.TheVariants.{Refused, Done}
 use Rattle.cpu.specs.Step.{ends, run_of, refused_or, step_of}
 use Rattle.cpu.specs.Inspect.{counts_of, counts_after, census-core}
-use Rattle.history.specs.World.{leaf_answer, walk_answer, need_now, uncached}
-use Rattle.history.specs.Fresh.{fresh_now, fresh_answer, uncached-fresh}
+use Rattle.history.specs.World.{leaf_answer, need_now, uncached}
+use Rattle.history.specs.Fresh.{fresh_now, fresh_answer}
+use Rattle.history.proofs.Fresh.{uncached-fresh}
 use Rattle.history.specs.Calls.{Lent, run, bare_run}
 use Rattle.history.specs.Instance.{Ram, memory_of, real}
-use Rattle.transparency.specs.Bare.{Ruling, allowed, number, undefined, unimplemented, plain_in, missed_in, ruling_in, refusal_of}
+use Rattle.transparency.specs.Bare.{Ruling, allowed, number, missed_in, ruling_in, refusal_of}
+use Rattle.transparency.specs.Events.{plain_in}
 use Rattle.transparency.specs.Bare.{if_allowed, bare_step}
 use Rattle.transparency.specs.Replies.{outcome, bare_reply}
 use Rattle.transparency.specs.Machine.{machine}
 use Rattle.transparency.specs.Beside.{core_after}
 use Rattle.transparency.proofs.Beside.{two-cores}
-use Rattle.transparency.specs.Census.{regime_in, bank_in, bare_counts, census, answers_fault, NoPermission, answers_address}
+use Rattle.transparency.specs.Census.{bare_counts, census, answers_fault, NoPermission, answers_address}
 use Rattle.transparency.specs.Census as Statement
+
+-- the regime of its level, and that regime's registers
+abbrev regime_in : Bare → Regime
+regime_in b = regime_of b.privilege.level
+
+abbrev bank_in : Bare → Bank
+bank_in b = bank_of b.control (regime_in b)
 
 counts-bare : (c : Core) (m : Ram) (first pages : ℕ) (old : List ℕ)
     → counts_after c m.base m.bytes first pages old ≡ bare_counts (bare_of c) m first pages old
@@ -74,9 +84,7 @@ bare-stays b m first pages = go (ruling_in b m (Census first pages))
   where
     go : (v : Ruling) → if_allowed v b b ≡ b
     go allowed = refl
-    go (number n) = refl
-    go undefined = refl
-    go unimplemented = refl
+    go _ = refl
 
 bare-skips : (b : Bare) (before after : List (Lent real machine)) (m : Ram) (first pages : ℕ)
     → bare_run real machine b (before ++ (census m first pages ∷ after)) ≡ bare_run real machine b (before ++ after)
@@ -90,7 +98,6 @@ census-skipped before after m first pages = (core-skips fresh_core before after 
 
 leaf-answers : (status bit va : ℕ) → NoPermission status → (leaf : Leaf) → 1 ≤ leaf.level → leaf.level ≤ 3
     → answers_fault status (leaf_answer leaf bit va) ≡ false
-unfolding leaf_answer
 leaf-answers status bit va h leaf low high = go (eqb (leaf.perms / bit % 2) 1)
   where
     go : (b : Bool) → answers_fault status (if b then Ok (leaf.oa / 4096 * 4096 + va % 4096) else Err (status-of (12 + leaf.level))) ≡ false
@@ -98,7 +105,6 @@ leaf-answers status bit va h leaf low high = go (eqb (leaf.perms / bit % 2) 1)
     go false = ne_eqb (12 + leaf.level) status (λ e. ⊎_elim (λ k. omega arith) (λ k. omega arith) h)
 
 fresh-answers : (status bit va : ℕ) → NoPermission status → (x : Fresh) → SoundFresh x → answers_fault status (fresh_answer x bit va) ≡ faults_with status x
-unfolding walk_answer
 fresh-answers status bit va h (Ended (Err n)) sound = refl
 fresh-answers status bit va h (Ended (Ok leaf)) sound = leaf-answers status bit va h leaf sound.level-low sound.level-high
 fresh-answers status bit va h (Flat pa) sound = refl
@@ -125,7 +131,6 @@ picked true pa f = refl
 picked false pa f = refl
 
 rights-fresh : (perms bit va : ℕ) (x : Fresh) → has_rights perms x ≡ true → answers_address (fresh_answer x bit va) ≡ eqb (perms / bit % 2) 1
-unfolding walk_answer leaf_answer
 rights-fresh perms bit va (Ended (Ok leaf)) h =
     picked (eqb (leaf.perms / bit % 2) 1) (leaf.oa / 4096 * 4096 + va % 4096) (status-of (12 + leaf.level))
     ∙ ap (λ (p : ℕ). eqb (p / bit % 2) 1) (eqb-true leaf.perms perms h)

@@ -23,8 +23,10 @@ use Rattle.history.specs.History.{carries, writes, Event, steps}
 use Rattle.history.specs.ModelRun.{model_ask, model_after, model_flushed, model_retagged, model_run}
 use Rattle.history.specs.Calls.{Lent}
 use Rattle.history.specs.Instance.{Ram, real}
-use Rattle.transparency.specs.Bare.{plain_in, missed_in, op_in, written_in}
-use Rattle.transparency.specs.Events.{does, asking, inval_in, shared_in, tlbi-event}
+use Rattle.transparency.specs.Bare.{missed_in, op_in, written_in}
+use Rattle.transparency.specs.Events.{plain_in}
+use Rattle.transparency.proofs.Bridge.{tlbi-event}
+use Rattle.transparency.specs.Events.{does, asking, inval_in, shared_in}
 use Rattle.transparency.specs.Starts.{later_in}
 use Rattle.transparency.specs.Machine.{machine}
 use Rattle.transparency.specs.Beside.{core_after, bare_after}

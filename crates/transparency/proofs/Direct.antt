@@ -28,9 +28,12 @@ use Rattle.history.specs.Invisible.{plain_answers, Tidy}
 use Rattle.history.proofs.Corollaries.{all_settled}
 use Rattle.history.specs.Calls.{Fed, lent_of, Shown, showing}
 use Rattle.history.proofs.EveryCall.{now-plain, fresh-run}
-use Rattle.history.specs.Instance.{Ram, real, real-laws, fresh-asid}
-use Rattle.transparency.specs.Bare.{plain_in, operand_in}
-use Rattle.transparency.specs.Events.{access_in, zero_steps, events_in}
+use Rattle.history.specs.Instance.{Ram, real}
+use Rattle.history.proofs.Instance.{real-laws, fresh-asid}
+use Rattle.transparency.specs.Bare.{operand_in}
+use Rattle.transparency.specs.Events.{plain_in}
+use Rattle.transparency.specs.Events.{zero_steps, events_in}
+use Rattle.transparency.specs.Claim.{access_in}
 use Rattle.transparency.specs.Replies.{Outcome, bare_zero, bare_reply}
 use Rattle.transparency.specs.Starts.{later_in}
 use Rattle.transparency.specs.Machine.{machine}

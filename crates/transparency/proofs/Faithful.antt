@@ -9,15 +9,16 @@ use Rattle.cpu.specs.Core.{fresh_core}
 use Rattle.operations.specs.declared.call.Call.{Call}
 use Rattle.history.specs.History.{Step, Event, steps}
 use Rattle.history.specs.Invisible.{Tidy, answers_run}
-use Rattle.history.specs.Lists.{answers-split}
+use Rattle.history.proofs.Lists.{answers-split}
 use Rattle.history.specs.Calls.{Lent, Fed, lent_of, events_run, showing, FaithfulIn}
 use Rattle.history.proofs.EveryCall.{shown-lent, shown-shown}
 use Rattle.history.specs.Instance.{Ram, window_of, real}
-use Rattle.transparency.specs.Bare.{plain_in}
+use Rattle.transparency.specs.Events.{plain_in}
 use Rattle.transparency.specs.Events.{events_in}
 use Rattle.transparency.specs.Starts.{later_in}
 use Rattle.transparency.specs.Machine.{machine}
-use Rattle.transparency.specs.Replies.{outcome, outcome_of, says_in, bare_reply}
+use Rattle.transparency.specs.Replies.{outcome, outcome_of, bare_reply}
+use Rattle.transparency.specs.Says.{says_in}
 use Rattle.transparency.proofs.Answered.{reply-is}
 use Rattle.transparency.proofs.Instance.{every-translation, every-reply}
 use Rattle.transparency.specs.Beside.{core_after, bare_after}

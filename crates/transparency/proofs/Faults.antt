@@ -27,17 +27,19 @@ use Rattle.operations.specs.declared.place.Place.TheVariants.{Whole, Split}
 use Rattle.sysop.specs.declared.op.SysOp.{SysOp}
 use Rattle.sysop.specs.declared.op.SysOp.TheVariants as Op
 use Rattle.operations.specs.Replies.{translation, loading, storing, fetching, reaching}
-use Rattle.operations.specs.declared.call.Call.TheVariants.{Translate, DataPa, FetchPa, Load, Store, Fetch, System, Register, Level, Mark, General}
-use Rattle.operations.specs.declared.call.Call.TheVariants.{Abort, Census}
+use Rattle.operations.specs.declared.call.Call.TheVariants.{Translate, DataPa, FetchPa, Load, Store, Fetch, System}
 use Rattle.history.specs.World.{Plain, on_now}
 use Rattle.history.specs.History.{steps, answer_of, tlb_ask, answers, tlb_asks}
 use Rattle.history.specs.Invisible.{answers_run}
 use Rattle.history.specs.Calls.{Lent, lent_of}
 use Rattle.history.specs.Instance.{Ram, real}
 use Rattle.history.specs.Judgement.{Row}
-use Rattle.transparency.specs.Bare.{plain_in, op_in, operand_in, Ruling, allowed, number, undefined, unimplemented, ruling_in, refusal_of, if_allowed}
-use Rattle.transparency.specs.Events.{idle, access_in, sized_in, zero_steps, sys_steps, steps_in, events_in}
-use Rattle.transparency.specs.Replies.{Outcome, outcome, load_says, store_says, load_by_size, store_by_size, zero_says, sys_says, call_says, says_in}
+use Rattle.transparency.specs.Bare.{op_in, operand_in, Ruling, allowed, ruling_in, refusal_of, if_allowed}
+use Rattle.transparency.specs.Events.{plain_in}
+use Rattle.transparency.specs.Events.{idle, zero_steps, sys_steps, steps_in, events_in}
+use Rattle.transparency.specs.Claim.{access_in, sized_in}
+use Rattle.transparency.specs.Replies.{Outcome, outcome, load_says, store_says, load_by_size, store_by_size}
+use Rattle.transparency.specs.Says.{zero_says, sys_says, call_says, says_in}
 use Rattle.transparency.proofs.Answered.{next-aligned, start-aligned, store_given, one-given}
 use Rattle.transparency.specs.Machine.{machine}
 use Rattle.transparency.specs.Beside.{core_after, bare_after}
@@ -128,9 +130,7 @@ module _ (va : ℕ) (kind : Kind) where
 
 some_bytes : (w : Width) → (0 < bytes_in w) × (bytes_in w ≤ 8)
 some_bytes Width.Byte = (omega arith, omega arith)
-some_bytes Width.Half = (omega arith, omega arith)
-some_bytes Width.Word = (omega arith, omega arith)
-some_bytes Width.Double = (omega arith, omega arith)
+some_bytes _ = (omega arith, omega arith)
 
 module _ (m : Ram) (va n : ℕ) (some : 0 < n) (few : n ≤ 8) (gs : List Given) (from : PlacedFrom va gs) (addr : ℕ) (fault : Fault) where
   -- a byte outside
@@ -250,17 +250,8 @@ module _ (b : Bare) (m : Ram) (t : Tlb) (addr : ℕ) (fault : Fault) where
       go : (o : SysOp) → RepliesFault (sys_says o m ms (operand_in b e) (answers_run real (plain_in b) (sys_steps o b m ms e) t)).reply addr fault
           → FaultFrom (answers_run real (plain_in b) (sys_steps o b m ms e) t) addr fault
       go Op.Zva y = zero-from b m ms (align_down (operand_in b e) 6) t addr fault (start-aligned (operand_in b e)) y
-      go (Op.At form) y = absurd y
-      go Op.Tlbi y = absurd y
-      go Op.Nothing y = absurd y
-      go Op.Undefined y = absurd y
-      go Op.Unimplemented y = absurd y
-  call_from ms (Register key value) w = absurd w
-  call_from ms (Level level) w = absurd w
-  call_from ms (Mark mark) w = absurd w
-  call_from ms (General n value) w = absurd w
-  call_from ms (Abort e) w = absurd w
-  call_from ms (Census first pages) w = absurd w
+      go _ y = absurd y
+  call_from ms _ w = absurd w
 
   said-from : (ms : List Ram) (x : Call) → RepliesFault (says_in b m ms x (answers_run real (plain_in b) (events_in b m ms x) t)).reply addr fault
       → FaultFrom (answers_run real (plain_in b) (events_in b m ms x) t) addr fault
@@ -271,9 +262,7 @@ module _ (b : Bare) (m : Ram) (t : Tlb) (addr : ℕ) (fault : Fault) where
           (outcome (refusal_of v) m.bytes)).reply addr fault
           → FaultFrom (answers_run real (plain_in b) (if_allowed v (steps_in b m ms x) (steps m idle ∷ [])) t) addr fault
       go allowed w = call_from ms x w
-      go (number k) w = absurd w
-      go undefined w = absurd w
-      go unimplemented w = absurd w
+      go _ w = absurd w
 
 -- OF EVERY CORE THAT CALLS REACH
 

@@ -5,7 +5,8 @@ use Rattle.cpu.specs.Core.{fresh_core}
 use Rattle.history.specs.Calls.{EveryCallFaithful, SameReplies, InvisibleCalls}
 use Rattle.history.proofs.EveryCall.{every_call_faithful}
 use Rattle.history.proofs.EveryReply.{same-replies, invisible-calls}
-use Rattle.history.specs.Instance.{real, real-laws, fresh-asid}
+use Rattle.history.specs.Instance.{real}
+use Rattle.history.proofs.Instance.{real-laws, fresh-asid}
 use Rattle.transparency.specs.Machine.{machine}
 use Rattle.transparency.specs.Instance.{replies}
 use Rattle.transparency.proofs.Bridge.{bridge}

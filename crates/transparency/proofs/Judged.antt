@@ -8,15 +8,17 @@ use Rattle.tlb.specs.Asks.{Given}
 use Rattle.tlb.specs.declared.Tlb.{Tlb}
 use Rattle.cpu.specs.Core.{fresh_core}
 use Rattle.history.specs.World.{Plain}
-use Rattle.history.specs.Lists.{each_append, plain-append, tlb-append}
+use Rattle.history.proofs.Lists.{each_append, plain-append, tlb-append}
 use Rattle.history.specs.History.{Event, steps, receives, after_event, plain_run, tlb_event, tlb_run}
 use Rattle.history.specs.Invisible.{answers_run}
 use Rattle.history.specs.Calls.{Fed, lent_of, Shown}
 use Rattle.history.proofs.EveryCall.{lifted}
-use Rattle.history.specs.Instance.{Ram, real, real-laws, fresh-asid}
-use Rattle.history.specs.Judgement.{Judged, status-row}
+use Rattle.history.specs.Instance.{Ram, real}
+use Rattle.history.proofs.Instance.{real-laws, fresh-asid}
+use Rattle.history.specs.Judgement.{Judged}
+use Rattle.history.proofs.Judgement.{status-row}
 use Rattle.history.proofs.EveryJudgement.{every-judgement}
-use Rattle.transparency.specs.Bare.{plain_in}
+use Rattle.transparency.specs.Events.{plain_in}
 use Rattle.transparency.specs.Machine.{machine}
 use Rattle.transparency.proofs.Bridge.{bridge}
 use Rattle.transparency.specs.Beside.{core_after, bare_after}

@@ -18,15 +18,17 @@ use Rattle.sysop.specs.declared.op.SysOp.{SysOp}
 use Rattle.sysop.specs.declared.op.SysOp.TheVariants as Op
 use Rattle.cpu.specs.Bare.{Bare, fresh_bare}
 use Rattle.operations.specs.declared.{call.Encoding.Encoding, call.Call.Call}
-use Rattle.operations.specs.declared.call.Call.TheVariants.{Translate, DataPa, FetchPa, Load, Store, Fetch, System, Register, Level, Mark, General}
-use Rattle.operations.specs.declared.call.Call.TheVariants.{Abort, Census}
+use Rattle.operations.specs.declared.call.Call.TheVariants.{Translate, DataPa, FetchPa, Load, Store, Fetch, System}
 use Rattle.history.specs.History.{Step, steps}
 use Rattle.history.specs.Calls.{Lent}
 use Rattle.history.specs.Instance.{Ram, real}
 use Rattle.history.specs.ModelRun.{model_event}
-use Rattle.history.specs.Tallies.{Made, by_line, by_walk, how_many, at, rust_after, made_run, each_append, made-level, run-hits, run-walks, run-sums, run-other}
-use Rattle.transparency.specs.Bare.{plain_in, op_in, operand_in, Ruling, allowed, number, undefined, unimplemented, ruling_in, if_allowed}
-use Rattle.transparency.specs.Events.{asking, idle, access_in, sized_in, zero_steps, sys_steps, steps_in, events_in}
+use Rattle.history.specs.Tallies.{Made, by_line, by_walk, how_many, at, rust_after, made_run}
+use Rattle.history.proofs.Tallies.{each_append, made-level, run-hits, run-walks, run-sums, run-other}
+use Rattle.transparency.specs.Bare.{op_in, operand_in, Ruling, allowed, ruling_in, if_allowed}
+use Rattle.transparency.specs.Events.{plain_in}
+use Rattle.transparency.specs.Events.{asking, idle, zero_steps, sys_steps, steps_in, events_in}
+use Rattle.transparency.specs.Claim.{access_in, sized_in}
 use Rattle.transparency.specs.Starts.{later_in}
 use Rattle.transparency.specs.Machine.{machine}
 use Rattle.transparency.specs.Beside.{core_after, bare_after}
@@ -89,11 +91,7 @@ module _ (b : Bare) where
 
   sys-level : (op : SysOp) (m : Ram) (ms : List Ram) (e : Encoding) (u : Model) → AtLevel (made_run real (plain_in b) (sys_steps op b m ms e) u)
   sys-level Op.Zva m ms e u = zero-level m ms (align_down (operand_in b e) 6) u
-  sys-level Op.Tlbi m ms e u = done
-  sys-level (Op.At form) m ms e u = done
-  sys-level Op.Nothing m ms e u = done
-  sys-level Op.Undefined m ms e u = done
-  sys-level Op.Unimplemented m ms e u = done
+  sys-level _ m ms e u = done
 
   steps-level : (x : Call) (m : Ram) (ms : List Ram) (u : Model) → AtLevel (made_run real (plain_in b) (steps_in b m ms x) u)
   steps-level (Translate kind va) m ms u = one m (asking (translates kind va ∷ [])) u
@@ -103,21 +101,14 @@ module _ (b : Bare) where
   steps-level (Store va size value) m ms u = one m (asking (sized_in b va (width_of size) Kind.Write)) u
   steps-level (Fetch va) m ms u = one m (asking (fetches va ∷ [])) u
   steps-level (System e) m ms u = sys-level (op_in b e) m ms e u
-  steps-level (Register key value) m ms u = done
-  steps-level (Level level) m ms u = done
-  steps-level (Mark mark) m ms u = done
-  steps-level (General n value) m ms u = done
-  steps-level (Abort e) m ms u = done
-  steps-level (Census first pages) m ms u = done
+  steps-level _ m ms u = done
 
   events-level : (x : Call) (m : Ram) (ms : List Ram) (u : Model) → AtLevel (made_run real (plain_in b) (events_in b m ms x) u)
   events-level x m ms u = go (ruling_in b m x)
     where
       go : (r : Ruling) → AtLevel (made_run real (plain_in b) (if_allowed r (steps_in b m ms x) (steps m idle ∷ [])) u)
       go allowed = steps-level x m ms u
-      go (number n) = done
-      go undefined = done
-      go unimplemented = done
+      go _ = done
 
 module _ (list : List (Lent real machine)) (m : Ram) (x : Call) where
   -- the level of the call: the core's own, whatever the mark
@@ -168,11 +159,7 @@ module _ (list : List (Lent real machine)) (m : Ram) (x : Call) where
 module _ (b : Bare) (m : Ram) (ms : List Ram) (u : Model) where
   sys-none : (op : SysOp) (e : Encoding) → quiet_op op ≡ true → made_run real (plain_in b) (sys_steps op b m ms e) u ≡ []
   sys-none Op.Zva e q = absurd (false≢true q)
-  sys-none Op.Tlbi e q = refl
-  sys-none (Op.At form) e q = refl
-  sys-none Op.Nothing e q = refl
-  sys-none Op.Undefined e q = refl
-  sys-none Op.Unimplemented e q = refl
+  sys-none _ e q = refl
 
   steps-none : (x : Call) → translates_nothing b x ≡ true → made_run real (plain_in b) (steps_in b m ms x) u ≡ []
   steps-none (Translate kind va) q = absurd (false≢true q)
@@ -182,21 +169,14 @@ module _ (b : Bare) (m : Ram) (ms : List Ram) (u : Model) where
   steps-none (Store va size value) q = absurd (false≢true q)
   steps-none (Fetch va) q = absurd (false≢true q)
   steps-none (System e) q = sys-none (op_in b e) e q
-  steps-none (Register key value) q = refl
-  steps-none (Level n) q = refl
-  steps-none (Mark mark) q = refl
-  steps-none (General n value) q = refl
-  steps-none (Abort e) q = refl
-  steps-none (Census first pages) q = refl
+  steps-none _ q = refl
 
   events-none : (x : Call) → translates_nothing b x ≡ true → made_run real (plain_in b) (events_in b m ms x) u ≡ []
   events-none x q = go (ruling_in b m x)
     where
       go : (r : Ruling) → made_run real (plain_in b) (if_allowed r (steps_in b m ms x) (steps m idle ∷ [])) u ≡ []
       go allowed = steps-none x q
-      go (number n) = refl
-      go undefined = refl
-      go unimplemented = refl
+      go _ = refl
 
 -- a refused call makes none either
 refused_none : (b : Bare) (m : Ram) (ms : List Ram) (u : Model) (x : Call) → (ruling_in b m x ≡ allowed → ⊥)
@@ -205,9 +185,7 @@ refused_none b m ms u x not = go (ruling_in b m x) refl
   where
     go : (r : Ruling) → ruling_in b m x ≡ r → made_run real (plain_in b) (if_allowed r (steps_in b m ms x) (steps m idle ∷ [])) u ≡ []
     go allowed e = absurd (not e)
-    go (number n) e = refl
-    go undefined e = refl
-    go unimplemented e = refl
+    go _ e = refl
 
 pub refused-stays : Statement.refused_stays
 refused-stays list m x not l =

@@ -3,6 +3,9 @@ pub mod Bridge
 pub mod Answered
 pub mod Alone
 pub mod Instance
+pub mod Steps
+pub mod StepEvents
+pub mod Claim
 pub mod Beside
 pub mod Census
 pub mod Direct

@@ -17,16 +17,18 @@ use Rattle.cpu.specs.Core.{fresh_core}
 use Rattle.operations.specs.declared.call.Call.{Call}
 use Rattle.history.specs.World.{Plain}
 use Rattle.history.specs.History.{plain_run, tlb_run}
-use Rattle.history.specs.Lists.{run-low}
+use Rattle.history.proofs.Lists.{run-low}
 use Rattle.history.proofs.Theorem.{history-asid, history-well}
 use Rattle.history.specs.ModelRun.{StandsFor}
 use Rattle.history.proofs.ModelLaws.{run-stands, fresh-stands, answers-run-live}
 use Rattle.history.specs.Calls.{Lent}
 use Rattle.history.proofs.EveryCall.{shown-lent, shown-shown, run-plain, run-tlb}
-use Rattle.history.specs.Instance.{Ram, real, real-laws, fresh-asid}
-use Rattle.transparency.specs.Bare.{plain_in}
+use Rattle.history.specs.Instance.{Ram, real}
+use Rattle.history.proofs.Instance.{real-laws, fresh-asid}
+use Rattle.transparency.specs.Events.{plain_in}
 use Rattle.transparency.specs.Events.{events_in}
-use Rattle.transparency.specs.Replies.{outcome_of, says_in}
+use Rattle.transparency.specs.Replies.{outcome_of}
+use Rattle.transparency.specs.Says.{says_in}
 use Rattle.transparency.specs.Starts.{later_in}
 use Rattle.transparency.specs.Machine.{machine}
 use Rattle.transparency.proofs.Bridge.{bridge, fits}

@@ -45,13 +45,14 @@ use Rattle.operations.specs.Check.{missed_of}
 use Rattle.operations.specs.Replies.{translation}
 use Rattle.cpu.specs.Step.{run_of, step_of}
 use Rattle.operations.specs.declared.call.Reply.TheVariants.{Value}
-use Rattle.history.specs.World.{LeavesEqual, covers, leaf_answer, walk_answer, page_walk, uncached}
-use Rattle.history.specs.Lists.{each-head}
+use Rattle.history.specs.World.{LeavesEqual, covers, page_walk}
+use Rattle.history.proofs.Lists.{each-head}
 use Rattle.history.specs.History.{carries, writes, Event, steps}
-use Rattle.history.specs.StepByStep.{HoldsFrom, steps-settled}
+use Rattle.history.specs.StepByStep.{HoldsFrom}
+use Rattle.history.proofs.StepByStep.{steps-settled}
 use Rattle.history.proofs.EveryCall.{shown-shown}
 use Rattle.history.specs.Instance.{Ram, real}
-use Rattle.transparency.specs.Bare.{plain_in}
+use Rattle.transparency.specs.Events.{plain_in}
 use Rattle.transparency.specs.Events.{does, asking, idle, setting}
 use Rattle.transparency.specs.Machine.{machine}
 use Rattle.transparency.specs.Faithful.{fed_by}
@@ -149,7 +150,7 @@ tidied-settled = steps-settled real (plain_in fresh_bare) events new El1 0x40001
 
 pub by-cache : Statement.by_cache
 unfolding step_of run_of translate_of stepped_now translate_in after_access reg_of set_reg after_register_write applied_of with_regs refit_of retagged_of reshaped_of set_level
-    sys_of tlbi_core invalidated_of uncached walk_answer leaf_answer same_shape asid_of asid_base fresh_core zeros fresh_control fresh_sys banked_at register_at
+    sys_of tlbi_core invalidated_of same_shape asid_of asid_base fresh_core zeros fresh_control fresh_sys banked_at register_at
     control_with sys_with write_reg missed_of named decode_of scope_of what_of tlbi_of flush_of flushed invalidate_of drop_page_of without_page page_dropped translation_with
     miss_with resolve_with by_walk applied judged walk_of table_walk walk_range walk_from lookup_next level_next leaf_result leaf_translation leaf_permissions table_next
     descaddr range_of params_of pa_size untagged word_at little_endian bytes_of place_of blanks no_hints
@@ -159,7 +160,7 @@ by-cache = (refl, refl, refl)
 
 pub start-stale : Statement.start_stale
 unfolding step_of run_of translate_of stepped_now translate_in after_access reg_of set_reg after_register_write applied_of with_regs refit_of retagged_of reshaped_of set_level
-    uncached walk_answer leaf_answer same_shape asid_of asid_base fresh_core zeros fresh_control fresh_sys banked_at register_at control_with sys_with write_reg missed_of
+    same_shape asid_of asid_base fresh_core zeros fresh_control fresh_sys banked_at register_at control_with sys_with write_reg missed_of
     flush_of flushed translation_with miss_with resolve_with by_walk applied judged walk_of table_walk walk_range walk_from lookup_next level_next leaf_result
     leaf_translation leaf_permissions table_next descaddr range_of params_of pa_size untagged word_at little_endian bytes_of place_of blanks no_hints
 start-stale = (refl, refl, refl)

@@ -13,20 +13,15 @@ use Rattle.cpu.specs.System.{mair_of}
 use Rattle.operations.specs.Check.{missed_of}
 use Rattle.cpu.specs.Step.{refused_or}
 use Rattle.operations.specs.declared.{call.Encoding.Encoding, call.Call.Call, call.Reply.Reply}
-use Rattle.operations.specs.declared.call.Call.TheVariants.{Translate, DataPa, FetchPa, Load, Store, Fetch, System, Register, Level, Mark, General}
-use Rattle.operations.specs.declared.call.Call.TheVariants.{Abort, Census}
+use Rattle.operations.specs.declared.call.Call.TheVariants.{System, Register, Level, Mark, General}
+use Rattle.operations.specs.declared.call.Call.TheVariants.{Abort}
 use Rattle.operations.specs.declared.call.Reply.TheVariants.{Refused, Done, Stopped}
-use Rattle.history.specs.World.{Plain}
-use Rattle.history.specs.Instance.{Ram, memory_of, real}
+use Rattle.history.specs.Window.{Ram, memory_of}
 use Rattle.sysreg.specs.declared.write.WriteError.TheVariants.{Undefined, NoRegister}
 
 -- Its state is the level, the mark, the registers kept and the general registers, at first those of `Cpu::new`; and
 -- what abort entry reads and sets besides: flags and PC. The record and its updates are the core's (`Bare`, `fresh_bare`); what
 -- each call does with them is said here, on its own.
-
--- what a translation reads of it
-abbrev pub plain_in : Bare → Plain real
-plain_in b = record { regs = b.control; privilege = b.privilege }
 
 -- REFUSALS: a number, Undefined or Unimplemented
 
@@ -53,12 +48,9 @@ written_in b key value = write_reg b.control b.sys b.privilege.level key value
 
 -- "as `sys` and `write_reg` say: Undefined or Unimplemented"
 abbrev pub by_sys : SysOp → Ruling
-by_sys (Op.At form) = allowed
-by_sys Op.Tlbi = allowed
-by_sys Op.Zva = allowed
-by_sys Op.Nothing = allowed
 by_sys Op.Undefined = undefined
 by_sys Op.Unimplemented = unimplemented
+by_sys _ = allowed
 
 abbrev pub by_write : WriteAnswer → Ruling
 by_write (Ok x) = allowed
@@ -68,17 +60,7 @@ by_write (Err NoRegister) = number 6
 abbrev pub ruled_in : Bare → Call → Ruling
 ruled_in b (System e) = by_sys (op_in b e)
 ruled_in b (Register key value) = by_write (written_in b key value).answer
-ruled_in b (Translate kind va) = allowed
-ruled_in b (DataPa va) = allowed
-ruled_in b (FetchPa va) = allowed
-ruled_in b (Load va size) = allowed
-ruled_in b (Store va size value) = allowed
-ruled_in b (Fetch va) = allowed
-ruled_in b (Level level) = allowed
-ruled_in b (Mark mark) = allowed
-ruled_in b (General n value) = allowed
-ruled_in b (Abort e) = allowed
-ruled_in b (Census first pages) = allowed
+ruled_in b _ = allowed
 
 -- the table, from top to bottom
 abbrev pub ruling_in : Bare → Ram → Call → Ruling
@@ -93,9 +75,7 @@ refusal_of allowed = Done
 
 abbrev pub if_allowed {ℓ} : {A : Type ℓ} → Ruling → A → A → A
 if_allowed allowed x y = x
-if_allowed (number n) x y = y
-if_allowed undefined x y = y
-if_allowed unimplemented x y = y
+if_allowed _ x y = y
 
 -- WHAT A CALL THAT IS NOT REFUSED DOES
 
@@ -108,11 +88,7 @@ taken_in b e = take_sync b.privilege.level b.flags b.pc b.control.scr_el3 b.cont
 
 abbrev pub sys_does : SysOp → Bare → Ram → ℕ → Bare
 sys_does (Op.At form) b m va = with_par b (par_at b m form va)
-sys_does Op.Tlbi b m va = b
-sys_does Op.Zva b m va = b
-sys_does Op.Nothing b m va = b
-sys_does Op.Undefined b m va = b
-sys_does Op.Unimplemented b m va = b
+sys_does _ b m va = b
 
 -- A setting stores its value; register 31 drops it. A register write does `write_reg` and no more. Every other call leaves the state as it is.
 abbrev pub bare_does : Bare → Ram → Call → Bare
@@ -122,13 +98,7 @@ bare_does b m (General n value) = with_general b n value
 bare_does b m (Register key value) = with_regs b (written_in b key value).control (written_in b key value).sys
 bare_does b m (System e) = sys_does (op_in b e) b m (operand_in b e)
 bare_does b m (Abort e) = with_entered b (taken_in b e)
-bare_does b m (Translate kind va) = b
-bare_does b m (DataPa va) = b
-bare_does b m (FetchPa va) = b
-bare_does b m (Load va size) = b
-bare_does b m (Store va size value) = b
-bare_does b m (Fetch va) = b
-bare_does b m (Census first pages) = b
+bare_does b m _ = b
 
 -- A call that the table refuses (a number, Undefined or Unimplemented) changes nothing.
 abbrev pub bare_step : Bare → Ram → Call → Bare

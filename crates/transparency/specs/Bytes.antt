@@ -18,7 +18,7 @@ use Rattle.cpu.specs.ZeroMeaning.{Zeroed}
 use Rattle.history.specs.World as World
 use Rattle.history.specs.Calls.{Fed, Shown}
 use Rattle.history.specs.Instance.{Ram, memory_of, real}
-use Rattle.transparency.specs.Bare.{plain_in}
+use Rattle.transparency.specs.Events.{plain_in}
 use Rattle.transparency.specs.Machine.{machine}
 use Rattle.transparency.specs.Direct.{core_now, bare_now}
 

@@ -1,8 +1,6 @@
 -- The page census after every list of calls: it counts what the core without a cache would, page by page, and is a step
 -- that does nothing.
 use Rattle.std.specs.Prelude.{◌≡◌, Bool, true, false, List, ◌∷◌, ◌++◌, ◌⊎◌, ℕ, ◌/◌, ◌%◌, ◌<◌, eqb, get_or, Ok, Err}
-use Rattle.walk.specs.Regime.{bank_of, regime_of}
-use Rattle.walk.specs.declared.{regime.Regime.Regime, regime.Bank.Bank}
 use Rattle.walk.specs.declared.fresh.Fresh.TheVariants.{Flat}
 use Rattle.census.specs.Tally.{how_many}
 use Rattle.census.specs.Count.{page_at, census_at}
@@ -17,18 +15,12 @@ use Rattle.history.specs.World.{need_now, uncached}
 use Rattle.history.specs.Fresh.{fresh_now}
 use Rattle.history.specs.Calls.{Lent}
 use Rattle.history.specs.Instance.{Ram, memory_of, real}
-use Rattle.transparency.specs.Bare.{allowed, plain_in, ruling_in}
+use Rattle.transparency.specs.Bare.{allowed, ruling_in}
+use Rattle.transparency.specs.Events.{plain_in}
 use Rattle.transparency.specs.Bare.{if_allowed}
 use Rattle.transparency.specs.Replies.{bare_reply}
 use Rattle.transparency.specs.Machine.{machine}
 use Rattle.transparency.specs.Beside.{core_after, bare_after}
-
--- the regime of its level, and that regime's registers
-abbrev pub regime_in : Bare → Regime
-regime_in b = regime_of b.privilege.level
-
-abbrev pub bank_in : Bare → Bank
-bank_in b = bank_of b.control (regime_in b)
 
 -- what the core without a cache would count, on its own registers and level and the step's RAM; a refused census leaves
 -- the counts as they were

@@ -12,13 +12,14 @@ use Rattle.tlb.specs.declared.{Inval.Inval, Tlb.Tlb}
 use Rattle.tlb.specs.declared.access.Kind.{Kind}
 use Rattle.tlb.specs.declared.Inval.TheVariants.{All, Page, Asid}
 use Rattle.sysop.specs.declared.op.SysOp.TheVariants as Op
-use Rattle.operations.specs.declared.{call.Encoding.Encoding}
+use Rattle.operations.specs.declared.{call.Encoding.Encoding, call.Call.Call}
 use Rattle.operations.specs.declared.call.Call.TheVariants.{Translate, DataPa, FetchPa, Fetch, System, Register}
 use Rattle.history.specs.World.{access_of}
 use Rattle.history.specs.ModelRun.{model_flushed, model_retagged}
 use Rattle.history.specs.Calls.{Lent}
 use Rattle.history.specs.Instance.{Ram, real}
-use Rattle.transparency.specs.Bare.{plain_in, missed_in, op_in, written_in}
+use Rattle.transparency.specs.Bare.{missed_in, op_in, written_in}
+use Rattle.transparency.specs.Events.{plain_in}
 use Rattle.transparency.specs.Events.{inval_in}
 use Rattle.transparency.specs.Machine.{machine}
 use Rattle.transparency.specs.Beside.{core_after, bare_after}
@@ -44,29 +45,22 @@ module _ (list : List (Lent real machine)) (m : Ram) where
 
   -- One that a line of the model answers counts one in `hits` of the core's level, one that is walked one in `walks` of
   -- it, whether it faults or not; a hint, and the address itself with stage 1 off, count nothing.
+  abbrev pub CountsOne : Call → Ask → Type 0
+  CountsOne x a =
+      missed_in (bare_after list) m x ≡ 0
+      → counters_of (tlb_after_call list m x).counts ≡ how_counted (how_answered a) level (counters_of now.counts)
+
   abbrev pub translate_counted : Type 0
-  translate_counted =
-      (kind : Kind) (va : ℕ) → missed_in (bare_after list) m (Translate kind va) ≡ 0
-      → counters_of (tlb_after_call list m (Translate kind va)).counts
-      ≡ how_counted (how_answered (translates kind va)) level (counters_of now.counts)
+  translate_counted = (kind : Kind) (va : ℕ) → CountsOne (Translate kind va) (translates kind va)
 
   abbrev pub data_pa_counted : Type 0
-  data_pa_counted =
-      (va : ℕ) → missed_in (bare_after list) m (DataPa va) ≡ 0
-      → counters_of (tlb_after_call list m (DataPa va)).counts
-      ≡ how_counted (how_answered (translates Kind.Read va)) level (counters_of now.counts)
+  data_pa_counted = (va : ℕ) → CountsOne (DataPa va) (translates Kind.Read va)
 
   abbrev pub fetch_pa_counted : Type 0
-  fetch_pa_counted =
-      (va : ℕ) → missed_in (bare_after list) m (FetchPa va) ≡ 0
-      → counters_of (tlb_after_call list m (FetchPa va)).counts
-      ≡ how_counted (how_answered (fetches va)) level (counters_of now.counts)
+  fetch_pa_counted = (va : ℕ) → CountsOne (FetchPa va) (fetches va)
 
   abbrev pub fetch_counted : Type 0
-  fetch_counted =
-      (va : ℕ) → missed_in (bare_after list) m (Fetch va) ≡ 0
-      → counters_of (tlb_after_call list m (Fetch va)).counts
-      ≡ how_counted (how_answered (fetches va)) level (counters_of now.counts)
+  fetch_counted = (va : ℕ) → CountsOne (Fetch va) (fetches va)
 
   -- TLBI, not refused
 

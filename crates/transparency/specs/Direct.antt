@@ -24,8 +24,10 @@ use Rattle.history.specs.History.{Event, Settled}
 use Rattle.history.specs.Invisible.{Tidy}
 use Rattle.history.specs.Calls.{Fed, lent_of, events_run}
 use Rattle.history.specs.Instance.{Ram, memory_of, real}
-use Rattle.transparency.specs.Bare.{plain_in, missed_in, op_in, operand_in}
-use Rattle.transparency.specs.Events.{access_in, zero_steps}
+use Rattle.transparency.specs.Bare.{missed_in, op_in, operand_in}
+use Rattle.transparency.specs.Events.{plain_in}
+use Rattle.transparency.specs.Events.{zero_steps}
+use Rattle.transparency.specs.Claim.{access_in}
 use Rattle.transparency.specs.Replies.{outcome_of, bare_zero}
 use Rattle.transparency.specs.Starts.{later_in}
 use Rattle.transparency.specs.Machine.{machine}

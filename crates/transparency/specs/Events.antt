@@ -5,11 +5,10 @@
 -- here: the event of a TLBI that is not refused carries its invalidation whatever the core did (`tlbi-event`), the
 -- theory's cache loses what it names, and the core's own `Tlb` has to be that one after every call (`tlb-is` of the
 -- bridge). Nor could one that made an invalidation up: no other call carries one.
-use Rattle.std.specs.Prelude.{◌≡◌, refl, Bool, true, false, List, [], ◌∷◌, ℕ, ◌+◌, leb, Option, Some, None}
+use Rattle.std.specs.Prelude.{◌≡◌, refl, Bool, true, false, List, [], ◌∷◌, ℕ, ◌+◌, leb}
 use Rattle.std.proofs.Common.{leb-true}
 use Rattle.word.specs.Bits.{align_down, wrap}
-use Rattle.word.specs.Ram.{width_of, bytes_in}
-use Rattle.tlb.specs.Asks.{Ask, translates, fetches}
+use Rattle.tlb.specs.Asks.{Ask}
 use Rattle.tlb.specs.declared.{access.Kind.Kind, access.Privilege.Privilege, Inval.Inval}
 use Rattle.exception.specs.EntryLaws.{take_level}
 use Rattle.exception.specs.declared.kind.Exception.{Exception}
@@ -17,15 +16,18 @@ use Rattle.sysop.specs.Tlbi.{tlbi_of, reaches_others}
 use Rattle.sysop.specs.declared.op.SysOp.{SysOp}
 use Rattle.sysop.specs.declared.op.SysOp.TheVariants as Op
 use Rattle.cpu.specs.Bare.{Bare}
-use Rattle.cpu.specs.Asks.{access_asks}
 use Rattle.operations.specs.declared.{call.Encoding.Encoding, call.Call.Call}
-use Rattle.operations.specs.declared.call.Call.TheVariants.{Translate, DataPa, FetchPa, Load, Store, Fetch, System, Register, Level, Mark, General}
-use Rattle.operations.specs.declared.call.Call.TheVariants.{Abort, Census}
-use Rattle.history.specs.World.{on_now}
+use Rattle.operations.specs.declared.call.Call.TheVariants.{System, Register, Level, Mark}
+use Rattle.operations.specs.declared.call.Call.TheVariants.{Abort}
+use Rattle.history.specs.World.{Plain}
 use Rattle.history.specs.History.{Effect, nothing, carries, writes, sets, Step, Event, steps}
 use Rattle.history.specs.Instance.{Ram, real}
-use Rattle.transparency.specs.Bare.{plain_in, missed_in, op_in, operand_in, written_in, taken_in, ruling_in, if_allowed}
-use Rattle.word.specs.declared.ram.Width.{Width}
+use Rattle.transparency.specs.Claim.{access_in, asks_of}
+use Rattle.transparency.specs.Bare.{missed_in, op_in, operand_in, written_in, taken_in, ruling_in, if_allowed}
+
+-- what a translation reads of the core without a cache
+abbrev pub plain_in : Bare → Plain real
+plain_in b = record { regs = b.control; privilege = b.privilege }
 
 -- STEPS
 
@@ -39,15 +41,6 @@ asking l = record { asks = l; effect = nothing }
 -- translation reads
 abbrev pub idle : Step real
 idle = does nothing
-
--- an access of n bytes: its own page; and the next page, where it crosses with stage 1 on
-abbrev pub access_in : Bare → ℕ → ℕ → Kind → List Ask
-access_in b va n kind = access_asks (on_now real (plain_in b)) va n kind
-
--- a size that is none is refused before
-abbrev pub sized_in : Bare → ℕ → Option Width → Kind → List Ask
-sized_in b va (Some w) kind = access_in b va (bytes_in w) kind
-sized_in b va None kind = []
 
 -- a level above 3 is refused before
 abbrev pub set_by : (privilege : Privilege) (b : Bool) → leb privilege.level 3 ≡ b → Effect real
@@ -82,26 +75,16 @@ zero_steps b m (n ∷ ms) va = steps m (asking (access_in b va 8 Kind.Write)) �
 abbrev pub sys_steps : SysOp → Bare → Ram → List Ram → Encoding → List (Event real)
 sys_steps Op.Tlbi b m ms e = steps m (does (carries (inval_in b e) (shared_in e))) ∷ []
 sys_steps Op.Zva b m ms e = zero_steps b m ms (align_down (operand_in b e) 6)
-sys_steps (Op.At form) b m ms e = steps m idle ∷ []
-sys_steps Op.Nothing b m ms e = steps m idle ∷ []
-sys_steps Op.Undefined b m ms e = steps m idle ∷ []
-sys_steps Op.Unimplemented b m ms e = steps m idle ∷ []
+sys_steps _ b m ms e = steps m idle ∷ []
 
 -- the steps of a call that is not refused
 abbrev pub steps_in : Bare → Ram → List Ram → Call → List (Event real)
-steps_in b m ms (Translate kind va) = steps m (asking (translates kind va ∷ [])) ∷ []
-steps_in b m ms (DataPa va) = steps m (asking (translates Kind.Read va ∷ [])) ∷ []
-steps_in b m ms (FetchPa va) = steps m (asking (fetches va ∷ [])) ∷ []
-steps_in b m ms (Load va size) = steps m (asking (sized_in b va (width_of size) Kind.Read)) ∷ []
-steps_in b m ms (Store va size value) = steps m (asking (sized_in b va (width_of size) Kind.Write)) ∷ []
-steps_in b m ms (Fetch va) = steps m (asking (fetches va ∷ [])) ∷ []
 steps_in b m ms (System e) = sys_steps (op_in b e) b m ms e
 steps_in b m ms (Register key value) = steps m (does (writes (written_in b key value).control)) ∷ []
 steps_in b m ms (Level level) = steps m (setting (record { level = level; unprivileged = b.privilege.unprivileged })) ∷ []
 steps_in b m ms (Mark mark) = steps m (setting (record { level = b.privilege.level; unprivileged = mark })) ∷ []
-steps_in b m ms (General n value) = steps m idle ∷ []
 steps_in b m ms (Abort e) = steps m (abort_step b e) ∷ []
-steps_in b m ms (Census first pages) = steps m idle ∷ []
+steps_in b m ms x = steps m (asking (asks_of b x)) ∷ []
 
 -- a refused call is a step that does nothing
 abbrev pub events_in : Bare → Ram → List Ram → Call → List (Event real)
@@ -112,6 +95,3 @@ abbrev pub tlbi_event : Type 0
 tlbi_event =
     (b : Bare) (m : Ram) (ms : List Ram) (e : Encoding) → missed_in b m (System e) ≡ 0 → op_in b e ≡ Op.Tlbi
     → events_in b m ms (System e) ≡ steps m (does (carries (inval_in b e) (shared_in e))) ∷ []
-
-pub tlbi-event : tlbi_event
-tlbi-event b m ms e passed named = rw (passed, named) refl

@@ -12,11 +12,12 @@ use Rattle.history.specs.History.{Step, Event, steps, after_event, plain_run, tl
 use Rattle.history.specs.Invisible.{Tidy, answers_run}
 use Rattle.history.specs.Calls.{Lent, Fed, lent_of, events_run, Shown, shown, FaithfulIn}
 use Rattle.history.specs.Instance.{Ram, window_of, real}
-use Rattle.transparency.specs.Bare.{plain_in}
+use Rattle.transparency.specs.Events.{plain_in}
 use Rattle.transparency.specs.Events.{events_in}
 use Rattle.transparency.specs.Starts.{later_in}
 use Rattle.transparency.specs.Machine.{machine}
-use Rattle.transparency.specs.Replies.{Outcome, outcome, says_in, bare_reply}
+use Rattle.transparency.specs.Replies.{Outcome, outcome, bare_reply}
+use Rattle.transparency.specs.Says.{says_in}
 use Rattle.transparency.specs.Beside.{core_after, bare_after, EveryList}
 
 -- the list, each call with RAM at its steps as the run from the fresh core shows it

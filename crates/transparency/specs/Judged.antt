@@ -11,7 +11,7 @@ use Rattle.history.specs.Invisible.{answers_run}
 use Rattle.history.specs.Calls.{Fed, lent_of, events_run, Shown, plain_after}
 use Rattle.history.specs.Instance.{Ram, real}
 use Rattle.history.specs.Judgement.{Judged, Row}
-use Rattle.transparency.specs.Bare.{plain_in}
+use Rattle.transparency.specs.Events.{plain_in}
 use Rattle.transparency.specs.Machine.{machine}
 use Rattle.transparency.specs.Beside.{core_after, bare_after}
 

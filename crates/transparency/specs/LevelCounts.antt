@@ -13,12 +13,12 @@ use Rattle.sysop.specs.declared.op.SysOp.{SysOp}
 use Rattle.sysop.specs.declared.op.SysOp.TheVariants as Op
 use Rattle.cpu.specs.Bare.{Bare, fresh_bare}
 use Rattle.operations.specs.declared.{call.Call.Call}
-use Rattle.operations.specs.declared.call.Call.TheVariants.{Translate, DataPa, FetchPa, Load, Store, Fetch, System, Register, Level, Mark, General}
-use Rattle.operations.specs.declared.call.Call.TheVariants.{Abort, Census}
+use Rattle.operations.specs.declared.call.Call.TheVariants.{Translate, DataPa, FetchPa, Load, Store, Fetch, System}
 use Rattle.history.specs.Calls.{Lent}
 use Rattle.history.specs.Instance.{Ram, real}
 use Rattle.history.specs.Tallies.{Made, by_line, by_walk, how_many, at, rust_after, made_run}
-use Rattle.transparency.specs.Bare.{plain_in, op_in, allowed, ruling_in}
+use Rattle.transparency.specs.Bare.{op_in, allowed, ruling_in}
+use Rattle.transparency.specs.Events.{plain_in}
 use Rattle.transparency.specs.Machine.{machine}
 use Rattle.transparency.specs.Beside.{core_after, bare_after, EveryCall}
 use Rattle.transparency.specs.Faithful.{events_after}
@@ -92,11 +92,7 @@ module _ (list : List (Lent real machine)) (m : Ram) (x : Call) where
 -- census
 abbrev pub quiet_op : SysOp → Bool
 quiet_op Op.Zva = false
-quiet_op Op.Tlbi = true
-quiet_op (Op.At form) = true
-quiet_op Op.Nothing = true
-quiet_op Op.Undefined = true
-quiet_op Op.Unimplemented = true
+quiet_op _ = true
 
 abbrev pub translates_nothing : Bare → Call → Bool
 translates_nothing b (Translate kind va) = false
@@ -106,27 +102,20 @@ translates_nothing b (Load va size) = false
 translates_nothing b (Store va size value) = false
 translates_nothing b (Fetch va) = false
 translates_nothing b (System e) = quiet_op (op_in b e)
-translates_nothing b (Register key value) = true
-translates_nothing b (Level n) = true
-translates_nothing b (Mark mark) = true
-translates_nothing b (General n value) = true
-translates_nothing b (Abort e) = true
-translates_nothing b (Census first pages) = true
+translates_nothing b _ = true
 
--- after every list such a call leaves the counters of every level, and so does a refused one
+-- a call leaves the counters of every level
+abbrev pub Leaves : List (Lent real machine) → Ram → Call → Type 0
+Leaves list m x =
+    (l : ℕ) → (hits_of (tlb_after_call list m x) l ≡ hits_of (core_after list).tlb l)
+    × (walks_of (tlb_after_call list m x) l ≡ walks_of (core_after list).tlb l)
+
+-- after every list such a call does, and so does a refused one
 abbrev pub quiet_stays : Type 0
-quiet_stays =
-    EveryCall
-    (λ list m x. translates_nothing (bare_after list) x ≡ true → (l : ℕ)
-    → (hits_of (tlb_after_call list m x) l ≡ hits_of (core_after list).tlb l)
-    × (walks_of (tlb_after_call list m x) l ≡ walks_of (core_after list).tlb l))
+quiet_stays = EveryCall (λ list m x. translates_nothing (bare_after list) x ≡ true → Leaves list m x)
 
 abbrev pub refused_stays : Type 0
-refused_stays =
-    EveryCall
-    (λ list m x. (ruling_in (bare_after list) m x ≡ allowed → ⊥) → (l : ℕ)
-    → (hits_of (tlb_after_call list m x) l ≡ hits_of (core_after list).tlb l)
-    × (walks_of (tlb_after_call list m x) l ≡ walks_of (core_after list).tlb l))
+refused_stays = EveryCall (λ list m x. (ruling_in (bare_after list) m x ≡ allowed → ⊥) → Leaves list m x)
 
 -- THE MARK, of the translation that a fetch begins with (of others: `mark-free`, tlb/specs/Counting.antt): the counters
 -- are a function of how it was answered and of the level

@@ -1,10 +1,15 @@
--- Faithfulness of every list of calls: what a reader believes, top to bottom.
+-- The claim for every history: what a reader believes, top to bottom.
+pub mod Claim
+pub mod Steps
 pub mod Bare
-pub mod Events
 pub mod Replies
+-- The theory of histories on it.
+pub mod Events
 pub mod Starts
 pub mod Machine
 pub mod Instance
+pub mod Premise
+pub mod Says
 -- What is proved beside it.
 pub mod Beside
 pub mod Census

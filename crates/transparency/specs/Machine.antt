@@ -5,7 +5,8 @@ use Rattle.cpu.specs.Step.{step_of}
 use Rattle.operations.specs.declared.call.Call.{Call}
 use Rattle.history.specs.Calls.{Machine}
 use Rattle.history.specs.Instance.{real}
-use Rattle.transparency.specs.Bare.{plain_in, bare_step}
+use Rattle.transparency.specs.Bare.{bare_step}
+use Rattle.transparency.specs.Events.{plain_in}
 use Rattle.transparency.specs.Events.{events_in}
 use Rattle.transparency.specs.Starts.{later_in}
 

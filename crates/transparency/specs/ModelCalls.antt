@@ -18,8 +18,9 @@ use Rattle.history.specs.History.{Event}
 use Rattle.history.specs.ModelRun.{model_run, model_answers_run, StandsFor}
 use Rattle.history.specs.Calls.{Lent, events_run}
 use Rattle.history.specs.Instance.{Ram, real}
-use Rattle.transparency.specs.Bare.{plain_in}
-use Rattle.transparency.specs.Replies.{outcome_of, says_in}
+use Rattle.transparency.specs.Events.{plain_in}
+use Rattle.transparency.specs.Replies.{outcome_of}
+use Rattle.transparency.specs.Says.{says_in}
 use Rattle.transparency.specs.Starts.{later_in}
 use Rattle.transparency.specs.Machine.{machine}
 use Rattle.transparency.specs.Beside.{core_after, bare_after, EveryList, EveryCall}

@@ -12,17 +12,13 @@ use Rattle.cpu.specs.Memory.{write_of, ram_after_write}
 use Rattle.cpu.specs.declared.Core.{Core}
 use Rattle.cpu.specs.System.{on_stored}
 use Rattle.operations.specs.declared.call.Call.{Call}
-use Rattle.operations.specs.declared.call.Call.TheVariants.{Translate, DataPa, FetchPa, Load, Store, Fetch, System, Register, Level, Mark, General}
-use Rattle.operations.specs.declared.call.Call.TheVariants.{Abort, Census}
+use Rattle.operations.specs.declared.call.Call.TheVariants.{System}
 use Rattle.history.specs.Instance.{Ram, window_of}
 use Rattle.transparency.specs.Bare.{op_in, operand_in, ruling_in, if_allowed}
 
-abbrev pub ram_with : Ram → List ℕ → Ram
-ram_with m bytes = window_of m.base bytes
-
 -- RAM after a store of eight zero bytes
 abbrev pub ram_zeroed : Core → Ram → ℕ → Ram
-ram_zeroed c m va = ram_with m (ram_after_write c m.base m.bytes va 8 0)
+ram_zeroed c m va = window_of m.base (ram_after_write c m.base m.bytes va 8 0)
 
 -- of n further stores of eight zero bytes after the one at va, those begun
 abbrev pub zero_later : ℕ → Core → Ram → ℕ → List Ram
@@ -34,26 +30,11 @@ zero_later (suc n) c m va =
 
 abbrev pub sys_later : SysOp → Core → Ram → ℕ → List Ram
 sys_later Op.Zva c m va = zero_later 7 c m (align_down va 6)
-sys_later (Op.At form) c m va = []
-sys_later Op.Tlbi c m va = []
-sys_later Op.Nothing c m va = []
-sys_later Op.Undefined c m va = []
-sys_later Op.Unimplemented c m va = []
+sys_later _ c m va = []
 
 abbrev pub later_of : Core → Ram → Call → List Ram
 later_of c m (System e) = sys_later (op_in (bare_of c) e) c m (operand_in (bare_of c) e)
-later_of c m (Translate kind va) = []
-later_of c m (DataPa va) = []
-later_of c m (FetchPa va) = []
-later_of c m (Load va size) = []
-later_of c m (Store va size value) = []
-later_of c m (Fetch va) = []
-later_of c m (Register key value) = []
-later_of c m (Level level) = []
-later_of c m (Mark mark) = []
-later_of c m (General n value) = []
-later_of c m (Abort e) = []
-later_of c m (Census first pages) = []
+later_of c m _ = []
 
 -- a refused call has one step
 abbrev pub later_in : Core → Ram → Call → List Ram

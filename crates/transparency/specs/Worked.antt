@@ -13,7 +13,8 @@ use Rattle.operations.specs.declared.call.Reply.TheVariants.{Value}
 use Rattle.history.specs.World.{uncached, access_of}
 use Rattle.history.specs.Calls.{Lent}
 use Rattle.history.specs.Instance.{Ram, real}
-use Rattle.transparency.specs.Bare.{plain_in, missed_in}
+use Rattle.transparency.specs.Bare.{missed_in}
+use Rattle.transparency.specs.Events.{plain_in}
 use Rattle.transparency.specs.Machine.{machine}
 use Rattle.transparency.specs.Beside.{core_after, bare_after}
 use Rattle.transparency.specs.Faithful.{fed_by}

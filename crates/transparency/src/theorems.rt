@@ -3,6 +3,10 @@
 ghost use Rattle.cpu.specs.Core.{fresh_core};
 ghost use Rattle.history.specs.Calls.{Bridge, EveryCallFaithful, RepliesByAnswers, SameReplies, InvisibleCalls};
 ghost use Rattle.history.specs.Instance.{real};
+ghost use Rattle.transparency.specs.Claim.{every_list, steps_are_calls};
+ghost use Rattle.transparency.specs.Replies.{every_step_replies};
+ghost use Rattle.transparency.specs.Says.{answered_step};
+ghost use Rattle.transparency.specs.Premise.{same_premise};
 ghost use Rattle.transparency.specs.Machine.{machine};
 ghost use Rattle.transparency.specs.Events.{tlbi_event};
 ghost use Rattle.transparency.specs.Instance.{replies};
@@ -28,6 +32,19 @@ ghost use Rattle.transparency.specs.LevelCounts.{own_hits, own_walks, sums_call,
 ghost use Rattle.transparency.specs.LevelCounts.{fetch_mark_free};
 ghost use Rattle.transparency.specs.Bytes.{flat_after, load_byte_after, store_byte_after, store_others_after};
 ghost use Rattle.transparency.specs.Bytes.{zva_after};
+
+/// The claim for every history, as `specs/Claim.antt` states it: at each step of every list of calls, whatever RAM is,
+/// each translation of a settled page is answered as by the core without a cache, and where all pages of a step are
+/// settled so are its reply and RAM. A step's reply is made from its answers. The steps of a list, each store of a
+/// zeroing by itself, leave the core as its calls do, and a page is settled just where the theory of histories has it
+/// so. Rules out an entry or a hint that outlives its invalidation, and a premise that asks for more than it says.
+pub fn every_list()
+    ensures faithful { every_list }
+    ensures replies { every_step_replies }
+    ensures answered { answered_step }
+    ensures steps { steps_are_calls }
+    ensures premise { same_premise }
+{}
 
 /// In every call after every list, each translation of a settled page is answered as by the core without a cache: those
 /// inside a load, a store, a fetch and a zeroing too. RAM at each step can be shown of every list, so that no list is

@@ -1,5 +1,6 @@
 use Rattle.std.proofs.Common.{arith}
-use Rattle.history.specs.Instance.{real, real-laws, fresh_plain, fresh-asid}
+use Rattle.history.specs.Instance.{real, fresh_plain}
+use Rattle.history.proofs.Instance.{real-laws, fresh-asid}
 use Rattle.history.proofs.ModelLaws.{run-stands, fresh-stands, history-answers}
 use Rattle.history.proofs.Theorem.{history-asid}
 use Rattle.history.proofs.theorems.every_cache.Goals as goal

@@ -1,5 +1,5 @@
 use Rattle.history.specs.Instance.{real}
-use Rattle.history.specs.Tallies.{run-hits, run-walks, run-sums, run-other}
+use Rattle.history.proofs.Tallies.{run-hits, run-walks, run-sums, run-other}
 use Rattle.history.proofs.theorems.every_count.Goals as goal
 
 pub returns-clause-hits : goal.returns-clause-hits

@@ -1,4 +1,4 @@
-use Rattle.history.specs.Instance.{real-laws}
+use Rattle.history.proofs.Instance.{real-laws}
 use Rattle.history.proofs.theorems.registers_and_walk.Goals as goal
 
 pub returns : goal.returns

@@ -1,6 +1,7 @@
-use Rattle.history.specs.Instance.{real, real-laws, fresh_plain}
-use Rattle.history.specs.Neighbours.{own-settled}
-use Rattle.history.specs.StepByStep.{steps-settled}
+use Rattle.history.specs.Instance.{real, fresh_plain}
+use Rattle.history.proofs.Instance.{real-laws}
+use Rattle.history.proofs.Neighbours.{own-settled}
+use Rattle.history.proofs.StepByStep.{steps-settled}
 use Rattle.history.proofs.Corollaries.{off-settled}
 use Rattle.history.proofs.theorems.settled_pages.Goals as goal
 

@@ -1,5 +1,5 @@
-use Rattle.history.specs.Fresh.{uncached-fresh}
-use Rattle.history.specs.Judgement.{uncached-checked}
+use Rattle.history.proofs.Fresh.{uncached-fresh}
+use Rattle.history.proofs.Judgement.{uncached-checked}
 use Rattle.history.proofs.theorems.without_cache.Goals as goal
 
 pub returns-clause-fresh : goal.returns-clause-fresh

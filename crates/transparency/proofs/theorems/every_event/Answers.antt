@@ -1,5 +1,4 @@
-use Rattle.transparency.proofs.Bridge.{bridge}
-use Rattle.transparency.specs.Events.{tlbi-event}
+use Rattle.transparency.proofs.Bridge.{bridge, tlbi-event}
 use Rattle.transparency.proofs.theorems.every_event.Goals as goal
 
 pub returns-clause-bridge : goal.returns-clause-bridge

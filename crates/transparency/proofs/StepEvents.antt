@@ -1,0 +1,161 @@
+-- A step of a list, one that zeroes nothing, as the theory of histories has it: an event, and what it asks, invalidates
+-- and leaves.
+use Rattle.std.specs.Prelude.{◌≡◌, refl, Bool, true, false, List, [], ◌∷◌, ◌++◌, ℕ, leb, Option, None}
+use Rattle.std.proofs.Common.{sym, ap, ap₂, subst, ◌∙◌, arith, append_assoc}
+use Rattle.sysop.specs.declared.op.SysOp.{SysOp}
+use Rattle.sysop.specs.declared.op.SysOp.TheVariants as Op
+use Rattle.tlb.specs.Asks.{Ask}
+use Rattle.tlb.specs.Tlb.{fresh}
+use Rattle.tlb.specs.declared.{access.Privilege.Privilege, Inval.Inval}
+use Rattle.cpu.specs.Bare.{Bare, bare_of, core_from}
+use Rattle.cpu.specs.declared.Core.{Core}
+use Rattle.operations.specs.declared.{call.Call.Call, call.Encoding.Encoding}
+use Rattle.operations.specs.declared.call.Call.TheVariants.{Load, Store, System, Register, Level, Mark, General}
+use Rattle.operations.specs.declared.call.Call.TheVariants.{Abort, Census}
+use Rattle.history.specs.World.{Plain}
+use Rattle.history.specs.History.{Effect, carries, writes, Event, steps, after, after_event, plain_run, drops, drops_event}
+use Rattle.history.specs.History as History
+use Rattle.history.proofs.Lists.{plain-append}
+use Rattle.history.specs.Calls.{Fed, run, lent_of, events_fed, events_run, Shown, FaithfulIn}
+use Rattle.history.specs.Calls as Calls
+use Rattle.history.specs.Instance.{Ram, real}
+use Rattle.transparency.specs.Bare.{Ruling, allowed, op_in, operand_in, ruling_in, if_allowed, bare_step}
+use Rattle.transparency.specs.Events.{plain_in}
+use Rattle.transparency.specs.Events.{does, asking, idle, set_by, abort_step, inval_in, shared_in, sys_steps, steps_in, events_in}
+use Rattle.transparency.specs.Starts.{sys_later, later_in}
+use Rattle.transparency.specs.Machine.{machine}
+use Rattle.transparency.specs.Steps.{Step, core_run, bare_run, zeroing, zeroed}
+use Rattle.transparency.specs.Claim.{asks_of, asked, tlbi_drops, drops_of, drops_run}
+use Rattle.transparency.specs.Premise.{feeds}
+use Rattle.transparency.proofs.Bridge.{bridge}
+use Rattle.transparency.proofs.Steps.{Apart}
+
+-- A STEP AS AN EVENT of the theory
+
+-- its only event is e, which asks and invalidates what the step does
+record One (b : Bare) (m : Ram) (es : List (Event real)) (qs : List Ask) (ds : List Inval) : Type 0 where
+  done : History.Step real
+  is : es ≡ steps m done ∷ []
+  asks : done.asks ≡ qs
+  dropped : drops real done.effect (plain_in b) ≡ ds
+
+module _ (b : Bare) (m : Ram) where
+  quiet : One b m (steps m idle ∷ []) [] []
+  quiet = record { done = idle; is = refl; asks = refl; dropped = refl }
+
+  asks-only : (l : List Ask) → One b m (steps m (asking l) ∷ []) l []
+  asks-only l = record { done = asking l; is = refl; asks = refl; dropped = refl }
+
+  set-only : (p : Privilege) (v : Bool) (e : leb p.level 3 ≡ v) → One b m (steps m (does (set_by p v e)) ∷ []) [] []
+  set-only p true e = record { done = does (set_by p true e); is = refl; asks = refl; dropped = refl }
+  set-only p false e = quiet
+
+  one-sys : (v : Ruling) (o : SysOp) (e : Encoding) → zeroing v o (operand_in b e) ≡ None
+      → One b m (if_allowed v (sys_steps o b m [] e) (steps m idle ∷ [])) (if_allowed v [] []) (if_allowed v (tlbi_drops o b e) [])
+  one-sys allowed Op.Zva e z = absurd (let y : ◌≡◌ {A = ℕ} 0 1 = cc in omega arith)
+  one-sys allowed Op.Tlbi e z = record { done = does (carries (inval_in b e) (shared_in e)); is = refl; asks = refl; dropped = refl }
+  one-sys allowed _ e z = quiet
+  one-sys _ o e z = quiet
+
+  abbrev zeroed_by : Ruling → Call → Option ℕ
+  zeroed_by v (System e) = zeroing v (op_in b e) (operand_in b e)
+  zeroed_by v _ = None
+
+  one-call : (v : Ruling) (x : Call) → zeroed_by v x ≡ None
+      → One b m (if_allowed v (steps_in b m [] x) (steps m idle ∷ [])) (if_allowed v (asks_of b x) []) (if_allowed v (drops_of b x) [])
+  one-call v (System e) z = one-sys v (op_in b e) e z
+  one-call allowed (Register key value) z = record { done = _; is = refl; asks = refl; dropped = refl }
+  one-call allowed (Level level) z = set-only _ _ refl
+  one-call allowed (Mark mark) z = set-only _ _ refl
+  one-call allowed (Abort e) z = record { done = abort_step b e; is = refl; asks = refl; dropped = refl }
+  one-call allowed (General n value) z = quiet
+  one-call allowed (Census first pages) z = quiet
+  one-call allowed (Load va size) z = asks-only _
+  one-call allowed (Store va size value) z = asks-only _
+  one-call allowed _ z = asks-only _
+  one-call _ x z = quiet
+
+  zeroed-is : (x : Call) → zeroed b m x ≡ None → zeroed_by (ruling_in b m x) x ≡ None
+  zeroed-is (System e) z = z
+  zeroed-is _ z = refl
+
+-- a step that zeroes nothing has no later RAM
+later-sys : (v : Ruling) (o : SysOp) (c : Core) (m : Ram) (x : ℕ) → zeroing v o x ≡ None → if_allowed v (sys_later o c m x) [] ≡ []
+later-sys allowed Op.Zva c m x z = absurd (let y : ◌≡◌ {A = ℕ} 0 1 = cc in omega arith)
+later-sys allowed _ c m x z = refl
+later-sys _ o c m x z = refl
+
+if-same : (v : Ruling) → ◌≡◌ {A = List Ram} (if_allowed v [] []) []
+if-same allowed = refl
+if-same _ = refl
+
+pub later-none : (c : Core) (m : Ram) (x : Call) → zeroed (bare_of c) m x ≡ None → later_in c m x ≡ []
+later-none c m (System e) z = later-sys (ruling_in (bare_of c) m (System e)) (op_in (bare_of c) e) c m (operand_in (bare_of c) e) z
+later-none c m x z = if-same (ruling_in (bare_of c) m x)
+
+-- THE LIST, as the theory is fed it
+
+abbrev pub events : Bare → List Step → List (Event real)
+events b l = events_run real machine b (feeds l)
+
+pub core-same : (c : Core) (l : List Step) → run real machine c (lent_of real machine (feeds l)) ≡ core_run c l
+core-same c [] = refl
+core-same c (s ∷ l) = core-same (machine.step c s.ram s.call) l
+
+pub bare-same : (b : Bare) (l : List Step) → Calls.bare_run real machine b (lent_of real machine (feeds l)) ≡ bare_run b l
+bare-same b [] = refl
+bare-same b (s ∷ l) = bare-same (bare_step b s.ram s.call) l
+
+pub shown-feeds : (c : Core) (l : List Step) → Apart (bare_of c) l → Shown real machine c (feeds l)
+shown-feeds c [] a = tt
+shown-feeds c (s ∷ l) a = (
+  sym (later-none c s.ram s.call a.0),
+  shown-feeds (machine.step c s.ram s.call) l (subst (λ (b : Bare). Apart b l) (sym (bridge.bare-is c s.ram s.call)) a.1),
+)
+
+-- one step: its event, and what translations read after it
+pub record Made (b : Bare) (s : Step) : Type 0 where
+  pub done : History.Step real
+  pub is : events_in b s.ram [] s.call ≡ steps s.ram done ∷ []
+  pub asks : done.asks ≡ asked b s
+  pub dropped : drops real done.effect (plain_in b) ≡ if_allowed (ruling_in b s.ram s.call) (drops_of b s.call) []
+  pub next : after real done.effect (plain_in b) ≡ plain_in (bare_step b s.ram s.call)
+
+plain-one : (b : Bare) (s : Step) → zeroed b s.ram s.call ≡ None
+    → plain_in (bare_step b s.ram s.call) ≡ plain_run real (plain_in b) (events_in b s.ram [] s.call)
+plain-one b s z =
+    let c = core_from b fresh 0 0 in
+    bridge.plain-is c s.ram s.call
+    ∙ ap (λ (ms : List Ram). plain_run real (plain_in b) (events_in b s.ram ms s.call)) (later-none c s.ram s.call z)
+
+pub made : (b : Bare) (s : Step) → zeroed b s.ram s.call ≡ None → Made b s
+made b s z =
+    let o = one-call b s.ram (ruling_in b s.ram s.call) s.call (zeroed-is b s.ram s.call z) in
+    record {
+      done = o.done;
+      is = o.is;
+      asks = o.asks;
+      dropped = o.dropped;
+      next = ap (plain_run real (plain_in b)) (sym o.is) ∙ sym (plain-one b s z);
+    }
+
+pub plain-many : (b : Bare) (l : List Step) → Apart b l → plain_run real (plain_in b) (events b l) ≡ plain_in (bare_run b l)
+plain-many b [] a = refl
+plain-many b (s ∷ l) a =
+    plain-append real (plain_in b) (events_in b s.ram [] s.call) (events (bare_step b s.ram s.call) l)
+    ∙ ap (λ (q : Plain real). plain_run real q (events (bare_step b s.ram s.call) l)) (sym (plain-one b s a.0))
+    ∙ plain-many (bare_step b s.ram s.call) l a.1
+
+pub drops-many : (b : Bare) (l : List Step) → Apart b l → History.drops_run real (plain_in b) (events b l) ≡ drops_run b l
+drops-many b [] a = refl
+drops-many b (s ∷ l) a =
+    let o = made b s a.0 in
+    ap (λ (es : List (Event real)). History.drops_run real (plain_in b) (es ++ events (bare_step b s.ram s.call) l)) o.is
+    ∙ ap₂ (λ (d : List Inval) (q : Plain real). d ++ History.drops_run real q (events (bare_step b s.ram s.call) l)) o.dropped o.next
+    ∙ ap (λ (k : List Inval). if_allowed (ruling_in b s.ram s.call) (drops_of b s.call) [] ++ k) (drops-many (bare_step b s.ram s.call) l a.1)
+
+pub events-append : (b : Bare) (l k : List Step) → events b (l ++ k) ≡ events b l ++ events (bare_run b l) k
+events-append b [] k = refl
+events-append b (s ∷ l) k =
+    ap (λ (es : List (Event real)). events_in b s.ram [] s.call ++ es) (events-append (bare_step b s.ram s.call) l k)
+    ∙ sym (append_assoc (events_in b s.ram [] s.call) _ _)
