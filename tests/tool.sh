@@ -59,6 +59,8 @@ echo "samples: $held held, $left blocks not run"
 # Every text of the tool's sources stands in a sample, but these, which no input of a test reaches, or which are read and not written.
 cat "$work"/sample.*.want >"$work/shown"
 cat >"$work/unshown" <<'UNSHOWN'
+walk_report/src/fields.rt: -w-
+walk_report/src/fields.rt: -wx
 walk_report/src/fields.rt: another fault
 census_report/src/letter.rt: another fault
 census_report/src/letter.rt: no right

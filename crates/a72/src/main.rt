@@ -117,8 +117,7 @@ fn chord_command<W: Write>(alloc: Global, out: &mut W, words: &[String]) -> Resu
     if !words.is_empty() {
         return Err(Stop::Usage("chord wants nothing more"));
     }
-    let mut ram = memory::zeros(alloc)?;
-    if chord::story::tell(out, ram.as_mut_slice())? {
+    if chord::story::tell(out, memory::zeros(alloc)?)? {
         return Ok(());
     }
     out.flush()?;

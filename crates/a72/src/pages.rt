@@ -1,8 +1,7 @@
 // `a72 census TRACE FIRST PAGES [LEVEL] [--svg]`: a trace in silence, then a census of its core's pages.
 use crate::arguments;
 use crate::stop::Stop;
-use census_report::report;
-use census_report::report::Form;
+use census_report::report::{Census, Form};
 use core_calls::settings;
 use std::io::Write;
 use std::rt::Files;
@@ -49,7 +48,7 @@ pub fn census<R: Files + AllocGlobal, W: Write>(
         settings::level(&mut machine.core, level);
     }
     let ram = machine.ram.as_slice();
-    let found = report::census(&machine.core, machine.base, ram, q.first, q.pages)?;
-    report::show(out, rt.alloc(), &found, form)?;
+    let census = Census::new(&machine.core, machine.base, ram, q.first, q.pages)?;
+    census.show(out, rt.alloc(), form)?;
     Ok(())
 }

@@ -3,9 +3,10 @@
 // 25, other registers zero.
 use std::{fmt, io};
 use walk::regime::{Bank, Regime};
+use walk::{table, tag};
 
 // What a row gives: the word at 0x1008, TTBR0_EL1, the window's base, the address, and the permission bit that the
-// access needs.
+// access needs. Shown, it is how the translation ends with an empty cache.
 #[derive(Clone, Copy)]
 struct Row {
     word: u64,
@@ -15,43 +16,24 @@ struct Row {
     need: u8,
 }
 
-// How a translation ends: with an address, or with a fault's status.
-#[derive(Clone, Copy)]
-enum End {
-    Address(u64),
-    Fault(u8),
-}
-
-impl fmt::Display for End {
+impl fmt::Display for Row {
     fn fmt<W: fmt::Write>(&self, f: &mut fmt::Formatter<W>) -> fmt::Result {
-        match self {
-            End::Address(pa) => write!(f, "0x{pa:x}"),
-            End::Fault(status) => write!(f, "fault 0x{status:02x}"),
-        }
-    }
-}
-
-// The answer of a translation with an empty cache.
-fn answer(row: Row) -> End {
-    let bank = Bank {
-        sctlr: 1,
-        tcr: 25,
-        ttbr0: row.ttbr0,
-        ttbr1_el1: 0,
-        scr_el3: 0,
-        hcr_el2: 0,
-    };
-    let va = walk::tag::untag(bank.tcr, Regime::El1, row.va);
-    match walk::table::walk(bank, Regime::El1, va, row.base, &row.word.to_le_bytes()) {
-        Ok(leaf) => {
-            let allowed = (leaf.perms >> (row.need % 8)) % 2 == 1;
-            if allowed {
-                End::Address(leaf.oa - leaf.oa % 4096 + row.va % 4096)
-            } else {
-                End::Fault(12 + leaf.level % 4)
+        let bank = Bank {
+            sctlr: 1,
+            tcr: 25,
+            ttbr0: self.ttbr0,
+            ttbr1_el1: 0,
+            scr_el3: 0,
+            hcr_el2: 0,
+        };
+        let va = tag::untag(bank.tcr, Regime::El1, self.va);
+        match table::walk(bank, Regime::El1, va, self.base, &self.word.to_le_bytes()) {
+            Ok(leaf) if leaf.perms >> (self.need % 8) & 1 == 1 => {
+                write!(f, "0x{:x}", leaf.oa & !0xFFF | self.va & 0xFFF)
             }
+            Ok(leaf) => write!(f, "fault 0x{:02x}", 12 | leaf.level % 4),
+            Err(status) => write!(f, "fault 0x{status:02x}"),
         }
-        Err(status) => End::Fault(status),
     }
 }
 
@@ -64,28 +46,28 @@ fn main(rt: HostRuntime) -> io::Result<()> {
         need: 3,
     };
     let mut row = first;
-    println!(rt; "1  0x80000401, EL1 read     {}", answer(row))?;
+    println!(rt; "1  0x80000401, EL1 read     {row}")?;
     row.need = 0;
-    println!(rt; "2  same, EL0 read           {}", answer(row))?;
+    println!(rt; "2  same, EL0 read           {row}")?;
     row.need = 2;
-    println!(rt; "3  same, EL0 fetch          {}", answer(row))?;
+    println!(rt; "3  same, EL0 fetch          {row}")?;
     row = first;
     row.word = 0x8000_0001;
-    println!(rt; "4  0x80000001               {}", answer(row))?;
+    println!(rt; "4  0x80000001               {row}")?;
     row.word = 0;
-    println!(rt; "5  0                        {}", answer(row))?;
+    println!(rt; "5  0                        {row}")?;
     row.word = 0x1_0000_0001;
-    println!(rt; "6  0x100000001              {}", answer(row))?;
+    println!(rt; "6  0x100000001              {row}")?;
     row = first;
     row.va = 0x80_0000_0000;
-    println!(rt; "7  address 0x8000000000     {}", answer(row))?;
+    println!(rt; "7  address 0x8000000000     {row}")?;
     row = first;
     row.ttbr0 = 0x1_0000_0000;
-    println!(rt; "8  TTBR0 0x100000000        {}", answer(row))?;
+    println!(rt; "8  TTBR0 0x100000000        {row}")?;
     row = first;
     row.base = 0x1010;
-    println!(rt; "9  word outside RAM         {}", answer(row))?;
+    println!(rt; "9  word outside RAM         {row}")?;
     let tcr = 0x40_0000_0000;
-    let plain = walk::tag::untag(tcr, Regime::El1, 0x12FF_FFFF_FFFF_F000);
+    let plain = tag::untag(tcr, Regime::El1, 0x12FF_FFFF_FFFF_F000);
     println!(rt; "12 untag 12fffffffffff000   0x{plain:x}")
 }

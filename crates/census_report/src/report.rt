@@ -1,16 +1,14 @@
 // A census of a core and its window, shown as a table and a map, or as a picture.
-use crate::grid::Grid;
-use crate::head::Title;
-use crate::{draw, grid, letter, map, table};
+use crate::grid::{Grid, Map};
+use crate::letter::{End, Letter};
+use crate::{picture, text};
 use core_calls::inspect;
 use cpu::Core;
 use std::alloc::Global;
 use std::io::Write;
 use std::{fmt, io};
-use walk::regime::Regime;
-use walk_report::explain;
 
-// Why there is no census.
+/// Why there is no census.
 #[derive(Clone, Copy, Debug)]
 pub enum Refused {
     Level,
@@ -30,7 +28,7 @@ impl fmt::Display for Refused {
     }
 }
 
-// How a census is shown; colour is for a terminal.
+/// How a census is shown; colour is for a terminal.
 #[derive(Clone, Copy)]
 pub enum Form {
     Plain,
@@ -38,72 +36,70 @@ pub enum Form {
     Picture,
 }
 
-// The counts of a range, the letters of its map's cells, and the level that it was made at.
+/// The counts of a range's pages by how they end, the map of its cells, and the level that it was made at.
 #[derive(Clone, Copy)]
-pub struct Found {
-    counts: [u64; 129],
-    letters: [u8; 4096],
-    grid: Grid,
-    level: u8,
+pub struct Census {
+    pub(crate) counts: [u64; 129],
+    pub(crate) map: Map,
+    pub(crate) grid: Grid,
+    pub(crate) level: u8,
 }
 
-// What the number of the check that is missed says.
-fn why_not(number: u64, pages: u64) -> Refused {
-    match number {
-        1 => Refused::Level,
-        2 => Refused::Window,
-        _ => {
-            if 0x1_0000 < pages {
-                Refused::Pages
-            } else {
-                Refused::Range
-            }
+impl Census {
+    /// The census of so many pages at the core's level.
+    pub fn new(
+        core: &Core,
+        base: u64,
+        ram: &[u8],
+        first: u64,
+        pages: u64,
+    ) -> Result<Self, Refused> {
+        let mut counts = [0u64; 129];
+        match inspect::census(core, first, pages, &mut counts, base, ram) {
+            0 => {}
+            1 => return Err(Refused::Level),
+            2 => return Err(Refused::Window),
+            _ if 0x1_0000 < pages => return Err(Refused::Pages),
+            _ => return Err(Refused::Range),
+        }
+        let grid = Grid::new(first, pages);
+        let mut map = [[None; 64]; 64];
+        grid.fill(core, base, ram, &mut map);
+        Ok(Census {
+            counts,
+            map,
+            grid,
+            level: core.privilege.level,
+        })
+    }
+
+    // How many cells have a letter.
+    pub(crate) fn cells(&self, letter: Letter) -> usize {
+        let cells = self.map.as_flattened();
+        cells.iter().filter(|cell| **cell == Some(letter)).count()
+    }
+
+    // How many pages end as a letter says.
+    pub(crate) fn pages(&self, letter: Letter) -> u64 {
+        self.counts
+            .iter()
+            .enumerate()
+            .filter(|(place, _)| Letter::from(End::of_place(*place)) == letter)
+            .fold(0, |sum, (_, count)| sum.wrapping_add(*count))
+    }
+
+    /// Shows it.
+    pub fn show<W: Write>(&self, out: &mut W, alloc: Global, form: Form) -> io::Result<()> {
+        match form {
+            Form::Plain => text::show(out, alloc, self, false),
+            Form::Coloured => text::show(out, alloc, self, true),
+            Form::Picture => picture::show(out, self),
         }
     }
 }
 
-// The census of so many pages at the core's level.
-pub fn census(
-    core: &Core,
-    base: u64,
-    ram: &[u8],
-    first: u64,
-    pages: u64,
-) -> Result<Found, Refused> {
-    let mut counts = [0u64; 129];
-    let number = inspect::census(core, first, pages, &mut counts, base, ram);
-    if number != 0 {
-        return Err(why_not(number, pages));
-    }
-    let grid = grid::of_range(first, pages);
-    let mut letters = [letter::NONE; 4096];
-    grid::fill(core, base, ram, grid, &mut letters);
-    Ok(Found {
-        counts,
-        letters,
-        grid,
-        level: core.privilege.level,
-    })
-}
-
-fn text<W: Write>(out: &mut W, alloc: Global, found: &Found, colour: bool) -> io::Result<()> {
-    let grid = found.grid;
-    let level = found.level;
-    let regime = Regime::of_level(level);
-    let title = Title { grid, level };
-    let name = explain::regime_name(regime);
-    writeln!(out, "{title}: the regime is {name}")?;
-    table::show(out, alloc, &found.counts, grid, regime)?;
-    if grid.cells != 0 {
-        map::show(out, &found.letters, grid, colour)?;
-    }
-    Ok(())
-}
-
-pub fn show<W: Write>(out: &mut W, alloc: Global, found: &Found, form: Form) -> io::Result<()> {
-    match form {
-        Form::Plain => text(out, alloc, found, false),
-        Form::Coloured => text(out, alloc, found, true),
-        Form::Picture => draw::show(out, &found.counts, &found.letters, found.grid, found.level),
+impl fmt::Display for Census {
+    fn fmt<W: fmt::Write>(&self, f: &mut fmt::Formatter<W>) -> fmt::Result {
+        write!(f, "census of {} at EL{}", self.grid, self.level)
     }
 }

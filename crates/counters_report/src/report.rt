@@ -1,7 +1,8 @@
 // What `a72 counters` shows: a row for each level with a bar, the sums, the other counters, and who walks most.
-use crate::{most, share, total};
+use crate::share::Share;
+use crate::total;
+use std::io;
 use std::io::Write;
-use std::{fmt, io};
 use tlb::count::{Counts, Tally};
 
 // Counters below this have at most eleven digits, and sums twelve.
@@ -10,109 +11,76 @@ const NARROW: u64 = 0x10_0000_0000;
 // The sum of four counters below this is below 2^64.
 const SUMS_FIT: u64 = 0x4000_0000_0000_0000;
 
-// Two counts of a row, right-aligned in their columns, narrow or wide.
-#[derive(Clone, Copy)]
-struct Pair {
-    tally: Tally,
-    narrow: bool,
-}
-
-impl fmt::Display for Pair {
-    fn fmt<W: fmt::Write>(&self, f: &mut fmt::Formatter<W>) -> fmt::Result {
-        let Tally { hits, walks } = self.tally;
-        if self.narrow {
-            write!(f, "{hits:>13}{walks:>13}")
-        } else {
-            write!(f, "{hits:>22}{walks:>22}")
-        }
-    }
-}
-
-// The share of walks in percent with one decimal, and a bar of forty cells.
-#[derive(Clone, Copy)]
-struct Share(Tally);
-
-impl fmt::Display for Share {
-    fn fmt<W: fmt::Write>(&self, f: &mut fmt::Formatter<W>) -> fmt::Result {
-        let Tally { hits, walks } = self.0;
-        let s = share::of_walks(hits, walks);
-        if s == 0 && walks != 0 {
-            f.write_str("    <0.1")?;
-        } else {
-            write!(f, "{:>6}.{}", s / 10, s % 10)?;
-        }
-        let n = share::cells(s, walks);
-        let rest = 40 - n;
-        write!(f, "%  {:#>n$}{:.>rest$}", "", "")
-    }
-}
-
-// Two counts, and the share of walks; no share of nothing.
-fn row<W: Write>(out: &mut W, pair: Pair) -> io::Result<()> {
-    let Tally { hits, walks } = pair.tally;
+// Two counts in their columns, and the share of walks; no share of nothing.
+fn row<W: Write>(out: &mut W, tally: Tally, width: usize) -> io::Result<()> {
+    let Tally { hits, walks } = tally;
+    write!(out, "{hits:>width$}{walks:>width$}")?;
     if hits == 0 && walks == 0 {
-        writeln!(out, "{pair}        -")
+        writeln!(out, "        -")
     } else {
-        writeln!(out, "{pair}{}", Share(pair.tally))
+        writeln!(out, "{}", Share(tally))
     }
 }
 
-// A row for each level, then the sums, with a share where none wrapped.
-fn rows<W: Write>(out: &mut W, levels: &[Tally; 4], narrow: bool, whole: bool) -> io::Result<()> {
+// Who walks most, of so many walks where their sum did not wrap.
+fn most<W: Write>(out: &mut W, levels: &[Tally; 4], sum: Option<u64>) -> io::Result<()> {
+    let most = levels.iter().map(|level| level.walks).max().unwrap_or(0);
+    if most == 0 {
+        return writeln!(out, "nothing was walked");
+    }
+    let mut before = "";
+    for (level, tally) in levels.iter().enumerate() {
+        if tally.walks == most {
+            write!(out, "{before}EL{level}")?;
+            before = " and ";
+        }
+    }
+    match levels.iter().filter(|level| level.walks == most).count() {
+        1 => write!(out, " walks most: {most}")?,
+        _ => write!(out, " walk most: each {most}")?,
+    }
+    if let Some(sum) = sum {
+        write!(out, " of {sum}")?;
+    }
+    writeln!(out, " walks")
+}
+
+/// The table of a cache's counters.
+pub fn show<W: Write>(out: &mut W, counts: &Counts) -> io::Result<()> {
+    let levels = &counts.levels;
+    let all = total::of_levels(levels);
+    let largest = levels
+        .iter()
+        .map(|level| level.hits.max(level.walks))
+        .max()
+        .unwrap_or(0);
+    let width = if largest < NARROW { 13 } else { 22 };
+    write!(out, "cache counters by exception level:")?;
+    writeln!(out, " answers by entries (.) and walks (#)")?;
+    write!(out, "     {:>width$}{:>width$}", "entries", "walks")?;
+    writeln!(out, "   share of walks")?;
     for (level, tally) in levels.iter().enumerate() {
         write!(out, "  EL{level}")?;
-        row(
-            out,
-            Pair {
-                tally: *tally,
-                narrow,
-            },
-        )?;
+        row(out, *tally, width)?;
     }
-    let all = Pair {
-        tally: Tally {
-            hits: total::hits(levels),
-            walks: total::walks(levels),
-        },
-        narrow,
-    };
     write!(out, "  all")?;
+    let whole = largest < SUMS_FIT;
     if whole {
-        row(out, all)
+        row(out, all, width)?;
     } else {
-        writeln!(out, "{all}  modulo 2^64")
+        write!(out, "{:>width$}{:>width$}", all.hits, all.walks)?;
+        writeln!(out, "  modulo 2^64")?;
     }
-}
-
-pub fn show<W: Write>(out: &mut W, c: &Counts) -> io::Result<()> {
-    let bits = total::bits(&c.levels);
-    let whole = bits < SUMS_FIT;
-    let narrow = bits < NARROW;
-    writeln!(
-        out,
-        "cache counters by exception level: answers by entries (.) and walks (#)"
-    )?;
-    if narrow {
-        writeln!(out, "           entries        walks   share of walks")?;
-    } else {
-        writeln!(
-            out,
-            "                    entries                 walks   share of walks"
-        )?;
-    }
-    rows(out, &c.levels, narrow, whole)?;
     writeln!(
         out,
         "flushes {}, pages dropped {}, epoch {}",
-        c.flushes, c.drops, c.epoch
+        counts.flushes, counts.drops, counts.epoch
     )?;
-    writeln!(
-        out,
-        "counted at the level of the access, which the unprivileged mark does not lower;"
-    )?;
+    write!(out, "counted at the level of the access,")?;
+    writeln!(out, " which the unprivileged mark does not lower;")?;
     writeln!(
         out,
         "not counted: answers by a hint, and answers with stage 1 off"
     )?;
-    most::show(out, &c.levels, whole)
+    most(out, levels, whole.then_some(all.walks))
 }

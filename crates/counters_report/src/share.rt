@@ -1,6 +1,9 @@
 // The share of walks among the translations that are counted.
 ghost use Rattle.std.specs.Prelude.{◌≡◌, ◌+◌, ◌*◌, ◌/◌, ◌^◌, ◌<◌, ◌≤◌};
 
+use std::fmt;
+use tlb::count::Tally;
+
 // Numbers below this are taken whole; where one is not, both are taken in 4,096ths.
 const WHOLE: u64 = 0x10_0000_0000_0000;
 
@@ -18,7 +21,7 @@ fn of_whole(hits: u64, walks: u64) -> u64
     walks * 1000 / all
 }
 
-// The share of walks, in parts of a thousand, rounded down: exact where both numbers are below 2^52.
+/// The share of walks, in parts of a thousand, rounded down: exact where both numbers are below 2^52.
 pub fn of_walks(hits: u64, walks: u64) -> u64
     ensures upper_bound { result ≤ 1000 }
     ensures value { hits < 2 ^ 52 → walks < 2 ^ 52 → 0 < hits + walks → result ≡ walks * 1000 / (hits + walks) }
@@ -30,10 +33,28 @@ pub fn of_walks(hits: u64, walks: u64) -> u64
     }
 }
 
-// The cells of a bar of 40 for a share: the nearest number, and one at least where there was a walk.
+/// The cells of a bar of 40 for a share: the nearest number, and one at least where there was a walk.
 pub fn cells(share: u64, walks: u64) -> usize
     ensures { result ≤ 40 }
 {
     let n = (share % 1001 * 40 + 500) / 1000;
     if n == 0 && walks != 0 { 1 } else { n as usize }
+}
+
+/// The share of walks in percent with one decimal, and a bar of forty cells.
+#[derive(Clone, Copy)]
+pub struct Share(pub Tally);
+
+impl fmt::Display for Share {
+    fn fmt<W: fmt::Write>(&self, f: &mut fmt::Formatter<W>) -> fmt::Result {
+        let Tally { hits, walks } = self.0;
+        let share = of_walks(hits, walks);
+        match share {
+            0 if walks != 0 => f.write_str("    <0.1")?,
+            _ => write!(f, "{:>6}.{}", share / 10, share % 10)?,
+        }
+        let cells = cells(share, walks);
+        let rest = 40 - cells;
+        write!(f, "%  {:#>cells$}{:.>rest$}", "", "")
+    }
 }

@@ -9,24 +9,14 @@ fn of_four(a: u64, b: u64, c: u64, d: u64) -> u64
     a.wrapping_add(b).wrapping_add(c).wrapping_add(d)
 }
 
-// The hits of all levels, wrapped at 2^64 as the counters are.
-pub fn hits(levels: &[Tally; 4]) -> u64
-    ensures { result ≡ sum_by (λ level. level.hits) levels.now % 2 ^ 64 }
+/// The hits and the walks of all levels, each wrapped at 2^64 as the counters are.
+pub fn of_levels(levels: &[Tally; 4]) -> Tally
+    ensures hits { result.hits ≡ sum_by (λ level. level.hits) levels.now % 2 ^ 64 }
+    ensures walks { result.walks ≡ sum_by (λ level. level.walks) levels.now % 2 ^ 64 }
 {
     let [el0, el1, el2, el3] = *levels;
-    of_four(el0.hits, el1.hits, el2.hits, el3.hits)
-}
-
-pub fn walks(levels: &[Tally; 4]) -> u64
-    ensures { result ≡ sum_by (λ level. level.walks) levels.now % 2 ^ 64 }
-{
-    let [el0, el1, el2, el3] = *levels;
-    of_four(el0.walks, el1.walks, el2.walks, el3.walks)
-}
-
-// Every bit that one of the eight counters has: below a power of two where they all are.
-pub fn bits(levels: &[Tally; 4]) -> u64 {
-    levels
-        .iter()
-        .fold(0, |bits, level| bits | level.hits | level.walks)
+    Tally {
+        hits: of_four(el0.hits, el1.hits, el2.hits, el3.hits),
+        walks: of_four(el0.walks, el1.walks, el2.walks, el3.walks),
+    }
 }

@@ -1,13 +1,13 @@
 // A translation explained: what a walk made now gives, beside what the core answers.
-use crate::answer::{Reach, Told};
-use crate::{answer, levels, registers};
+use crate::answer::Told;
+use crate::{levels, registers};
 use cpu::Core;
 use std::io;
 use std::io::Write;
-use tlb::access::{Kind, Privilege};
+use tlb::access::Kind;
 use tlb::count;
 use tlb::count::Tally;
-use walk::regime::{Bank, Regime};
+use walk::regime::Regime;
 use walk::tag;
 
 fn kind_name(kind: Kind) -> &'static str {
@@ -18,79 +18,13 @@ fn kind_name(kind: Kind) -> &'static str {
     }
 }
 
-pub fn regime_name(r: Regime) -> &'static str {
-    match r {
+/// A regime's name.
+pub fn regime_name(regime: Regime) -> &'static str {
+    match regime {
         Regime::El1 => "EL1&0",
         Regime::El2 => "EL2",
         Regime::El3 => "EL3",
     }
-}
-
-fn head<W: Write>(
-    out: &mut W,
-    privilege: Privilege,
-    kind: Kind,
-    r: Regime,
-    va: u64,
-) -> io::Result<()> {
-    let mark = if privilege.unprivileged {
-        ", unprivileged"
-    } else {
-        ""
-    };
-    write!(out, "{} of {va:016x}", kind_name(kind))?;
-    write!(out, " at EL{}{mark}", privilege.level)?;
-    writeln!(out, ": the regime is {}", regime_name(r))
-}
-
-// With stage 1 on: untagged, walked, judged.
-fn walked<W: Write>(
-    out: &mut W,
-    core: &Core,
-    base: u64,
-    ram: &[u8],
-    s: Bank,
-    r: Regime,
-    kind: Kind,
-    va: u64,
-) -> io::Result<Told> {
-    let page = tag::untag(s.tcr, r, va);
-    if page != va {
-        writeln!(out, "untagged   {page:016x}")?;
-    }
-    let steps = levels::walk(s, r, page, base, ram);
-    write!(out, "{steps}")?;
-    let w = steps.answer;
-    if let Ok(leaf) = w {
-        writeln!(out, "rights     {}", Reach { regime: r, leaf })?;
-    }
-    Ok(answer::of_walk(core, w, r, kind, va))
-}
-
-// Whether stage 1 is on in the regime of the core's level.
-fn is_on(core: &Core) -> bool {
-    core.bank()
-        .stage1_on(Regime::of_level(core.privilege.level))
-}
-
-// The answer of a walk made now, each step shown.
-fn now<W: Write>(
-    out: &mut W,
-    core: &Core,
-    base: u64,
-    ram: &[u8],
-    kind: Kind,
-    va: u64,
-) -> io::Result<Told> {
-    let r = Regime::of_level(core.privilege.level);
-    let s = core.bank();
-    head(out, core.privilege, kind, r, va)?;
-    registers::show(out, s, r)?;
-    if s.stage1_on(r) {
-        return walked(out, core, base, ram, s, r, kind, va);
-    }
-    writeln!(out, "stage 1 is off: the address is the physical address")?;
-    Ok(Told::Address(va))
 }
 
 // The counters of the core's own level. A core whose level is above 3 counts nothing.
@@ -124,7 +58,8 @@ fn verdict(now: Told, core: Told) -> &'static str {
     }
 }
 
-// One translation on a core and its window.
+/// One translation on a core and its window, which starts at `base`: what is asked, the registers, a walk made now, and
+/// what the core answers.
 pub fn explain<W: Write>(
     out: &mut W,
     core: &mut Core,
@@ -133,12 +68,33 @@ pub fn explain<W: Write>(
     kind: Kind,
     va: u64,
 ) -> io::Result<()> {
-    let by_walk = now(out, core, base, ram, kind, va)?;
-    writeln!(out, "walk now   {by_walk}")?;
-    let on = is_on(core);
+    let privilege = core.privilege;
+    let regime = Regime::of_level(privilege.level);
+    let bank = core.bank();
+    let kind_name = kind_name(kind);
+    write!(out, "{kind_name} of {va:016x} at EL{}", privilege.level)?;
+    if privilege.unprivileged {
+        write!(out, ", unprivileged")?;
+    }
+    writeln!(out, ": the regime is {}", regime_name(regime))?;
+    registers::show(out, bank, regime)?;
+    let on = bank.stage1_on(regime);
+    let now = if on {
+        let page = tag::untag(bank.tcr, regime, va);
+        if page != va {
+            writeln!(out, "untagged   {page:016x}")?;
+        }
+        let steps = levels::walk(bank, regime, page, base, ram);
+        write!(out, "{steps}")?;
+        Told::of_walk(core, steps.answer, regime, kind, va)
+    } else {
+        writeln!(out, "stage 1 is off: the address is the physical address")?;
+        Told::Address(va)
+    };
+    writeln!(out, "walk now   {now}")?;
     let before = counters(core);
-    let by_core = answer::of_core(core, base, ram, kind, va);
-    let after = counters(core);
-    writeln!(out, "the core   {by_core}, {}", source(on, before, after))?;
-    writeln!(out, "{}", verdict(by_walk, by_core))
+    let by_core = Told::of_core(core, base, ram, kind, va);
+    let source = source(on, before, counters(core));
+    writeln!(out, "the core   {by_core}, {source}")?;
+    writeln!(out, "{}", verdict(now, by_core))
 }

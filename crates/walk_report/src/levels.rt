@@ -3,10 +3,9 @@ ghost use Rattle.std.specs.Prelude.{◌≡◌};
 ghost use Rattle.word.specs.Ram.{word_at};
 ghost use Rattle.walk.specs.Walk.{walk_of};
 
-use crate::fields::{Attributes, Status, Table};
+use crate::fields::{Rights, Status, bit};
 use std::fmt;
-use walk::level::{Params, Step, Walked};
-use walk::range::Range;
+use walk::level::{Leaf, Step, Walked};
 use walk::regime::{Bank, Regime};
 use walk::table::Visit;
 use walk::{range, table};
@@ -24,91 +23,27 @@ fn size(lsb: u64) -> &'static str {
     }
 }
 
-// What a descriptor leads to.
-#[derive(Clone, Copy)]
-struct Meaning {
-    lsb: u64,
-    desc: u64,
-    step: Step,
+// What a table descriptor says of all below it.
+fn show_table<W: fmt::Write>(f: &mut fmt::Formatter<W>, desc: u64) -> fmt::Result {
+    write!(f, "APTable={} UXNTable={}", desc >> 61 & 3, bit(desc, 60))?;
+    writeln!(f, " PXNTable={} NSTable={}", bit(desc, 59), bit(desc, 63))
 }
 
-impl fmt::Display for Meaning {
-    fn fmt<W: fmt::Write>(&self, f: &mut fmt::Formatter<W>) -> fmt::Result {
-        let desc = self.desc;
-        match self.step {
-            Step::Next(next) => {
-                let next = next.table;
-                write!(f, "{}", Table { desc, next })
-            }
-            Step::Leaf(leaf) => {
-                write!(f, "{}, output {:x}", size(self.lsb), leaf.oa)?;
-                write!(f, "\n           {}", Attributes(leaf.desc))
-            }
-            Step::Fault(status) => write!(f, "{}", Status(u64::from(status))),
-        }
-    }
+// The attributes of a block's or a page's descriptor.
+fn show_attributes<W: fmt::Write>(f: &mut fmt::Formatter<W>, desc: u64) -> fmt::Result {
+    write!(
+        f,
+        "           AttrIndx={} NS={}",
+        desc >> 2 & 7,
+        bit(desc, 5)
+    )?;
+    write!(f, " AP={} SH={}", desc >> 6 & 3, desc >> 8 & 3)?;
+    write!(f, " AF={} nG={}", bit(desc, 10), bit(desc, 11))?;
+    writeln!(f, " PXN={} UXN={}", bit(desc, 53), bit(desc, 54))
 }
 
-// One level: the table, the index, the descriptor's address and value, and what it leads to.
-fn show_level<W: fmt::Write>(
-    f: &mut fmt::Formatter<W>,
-    v: Visit,
-    base: u64,
-    ram: &[u8],
-) -> fmt::Result {
-    let w = v.state;
-    let index = v.at.wrapping_sub(w.table) / 8;
-    write!(f, "level {}    table {:x}", w.level, w.table)?;
-    write!(f, "[{index:x}]  at {:x}  ", v.at)?;
-    let lsb = w.lsb;
-    let step = v.step;
-    match ram::read(base, ram, Width::Double, v.at) {
-        Some(desc) => {
-            let meaning = Meaning { lsb, desc, step };
-            writeln!(f, "{desc:016x}  {meaning}")
-        }
-        None => {
-            let desc = 0;
-            let meaning = Meaning { lsb, desc, step };
-            writeln!(f, "outside RAM  {meaning}")
-        }
-    }
-}
-
-fn show_range<W: fmt::Write>(f: &mut fmt::Formatter<W>, g: Range, p: Params) -> fmt::Result {
-    let half = if g.upper {
-        "upper (TTBR1)"
-    } else {
-        "lower (TTBR0)"
-    };
-    let granule = if g.largegrain { 64 } else { 4 };
-    write!(f, "range      {half} {:016x}", g.baseregister)?;
-    write!(f, ", TxSZ {}, granule {granule} KiB", g.txsz)?;
-    write!(f, ", output of {} bits", p.outputsize)?;
-    if g.disabled {
-        write!(f, ", walks disabled (EPD)")?;
-    }
-    writeln!(f)
-}
-
-// Why a walk reads no table.
-fn show_refused<W: fmt::Write>(f: &mut fmt::Formatter<W>, answer: Walked) -> fmt::Result {
-    write!(f, "start      ")?;
-    match answer {
-        Ok(_) => Ok(()),
-        Err(code) => {
-            let why = if code == 4 {
-                "the address is out of range, or walks are disabled"
-            } else {
-                "the table lies beyond the output size"
-            };
-            writeln!(f, "{}: {why}", Status(u64::from(code)))
-        }
-    }
-}
-
-// A walk and its answer. Shown, it is the range and the tables that the walk reads, each a line; where it reads none,
-// why.
+/// A walk and its answer. Shown, it is the range and the tables that the walk reads, each a line; then the rights, or
+/// where it reads no table, why.
 #[derive(Clone, Copy)]
 pub struct Steps<'a> {
     bank: Bank,
@@ -119,37 +54,96 @@ pub struct Steps<'a> {
     pub answer: Walked,
 }
 
-impl fmt::Display for Steps<'_> {
-    fn fmt<W: fmt::Write>(&self, f: &mut fmt::Formatter<W>) -> fmt::Result {
-        let bank = self.bank;
-        let regime = self.regime;
-        let va = self.va;
-        let base = self.base;
-        let ram = self.ram;
-        let g = range::range_of(bank, regime, va);
-        show_range(f, g, range::params_of(bank, regime, g))?;
-        for n in 0..4u8 {
-            match table::visit_nth(bank, regime, va, base, ram, n) {
-                Some(v) => show_level(f, v, base, ram)?,
-                None => {
-                    if n == 0 {
-                        show_refused(f, self.answer)?;
-                    }
-                    return Ok(());
-                }
-            }
+impl Steps<'_> {
+    fn show_range<W: fmt::Write>(&self, f: &mut fmt::Formatter<W>) -> fmt::Result {
+        let range = range::range_of(self.bank, self.regime, self.va);
+        let params = range::params_of(self.bank, self.regime, range);
+        let half = if range.upper { "upper" } else { "lower" };
+        let ttbr = u8::from(range.upper);
+        let granule = if range.largegrain { 64 } else { 4 };
+        write!(
+            f,
+            "range      {half} (TTBR{ttbr}) {:016x}",
+            range.baseregister
+        )?;
+        write!(f, ", TxSZ {}, granule {granule} KiB", range.txsz)?;
+        write!(f, ", output of {} bits", params.outputsize)?;
+        if range.disabled {
+            write!(f, ", walks disabled (EPD)")?;
         }
-        Ok(())
+        writeln!(f)
+    }
+
+    // One level: the table, the index, the descriptor's address and value, and what it leads to.
+    fn show_level<W: fmt::Write>(&self, f: &mut fmt::Formatter<W>, visit: Visit) -> fmt::Result {
+        let Visit { state, at, step } = visit;
+        let index = at.wrapping_sub(state.table) / 8;
+        write!(f, "level {}    table {:x}", state.level, state.table)?;
+        write!(f, "[{index:x}]  at {at:x}  ")?;
+        let read = ram::read(self.base, self.ram, Width::Double, at);
+        match read {
+            Some(desc) => write!(f, "{desc:016x}  ")?,
+            None => f.write_str("outside RAM  ")?,
+        }
+        match step {
+            Step::Next(next) => {
+                write!(f, "table at {:x}  ", next.table)?;
+                show_table(f, read.unwrap_or(0))
+            }
+            Step::Leaf(leaf) => {
+                writeln!(f, "{}, output {:x}", size(state.lsb), leaf.oa)?;
+                show_attributes(f, leaf.desc)
+            }
+            Step::Fault(status) => writeln!(f, "{}", Status(status)),
+        }
+    }
+
+    // The rights of the leaf, and for whom it is; or why the walk reads no table.
+    fn show_end<W: fmt::Write>(&self, f: &mut fmt::Formatter<W>, tables: u8) -> fmt::Result {
+        let regime = self.regime;
+        match self.answer {
+            Ok(Leaf { perms, global, .. }) => {
+                let whom = if global {
+                    "every ASID"
+                } else {
+                    "its ASID alone"
+                };
+                writeln!(f, "rights     {}  for {whom}", Rights { regime, perms })
+            }
+            Err(status) if tables == 0 => {
+                let why = match status {
+                    4 => "the address is out of range, or walks are disabled",
+                    _ => "the table lies beyond the output size",
+                };
+                writeln!(f, "start      {}: {why}", Status(status))
+            }
+            Err(_) => Ok(()),
+        }
     }
 }
 
-// The walk of va, which is untagged, with its steps. It is the walk that translations make.
-pub fn walk<'a>(s: Bank, regime: Regime, va: u64, base: u64, ram: &'a [u8]) -> Steps<'a>
-    ensures { result.answer ≡ walk_of s regime va (word_at base ram.now 8) }
+impl fmt::Display for Steps<'_> {
+    fn fmt<W: fmt::Write>(&self, f: &mut fmt::Formatter<W>) -> fmt::Result {
+        self.show_range(f)?;
+        let mut tables = 0;
+        for n in 0..4u8 {
+            let visit = table::visit_nth(self.bank, self.regime, self.va, self.base, self.ram, n);
+            if let Some(visit) = visit {
+                self.show_level(f, visit)?;
+                tables = n + 1;
+            }
+        }
+        self.show_end(f, tables)
+    }
+}
+
+/// The walk of `va`, which is untagged, with its steps. It is the walk that translations make.
+pub fn walk<'a>(bank: Bank, regime: Regime, va: u64, base: u64, ram: &'a [u8]) -> Steps<'a>
+    ensures { result.answer ≡ walk_of bank regime va (word_at base ram.now 8) }
 {
-    let answer = table::walk(s, regime, va, base, ram);
+    let answer = table::walk(bank, regime, va, base, ram);
     Steps {
-        bank: s,
+        bank,
         regime,
         va,
         base,

@@ -1,88 +1,54 @@
-// The registers that a translation reads.
+// The registers that a translation reads, each with its fields.
 use crate::fields::bit;
+use std::io;
 use std::io::Write;
-use std::{fmt, io};
 use walk::regime::{Bank, Regime};
 
 fn granule(large: bool) -> &'static str {
     if large { "64K" } else { "4K" }
 }
 
-// TCR_EL1: two ranges, each with its size, granule and EPD; top byte ignore; the ASID's place and width.
-#[derive(Clone, Copy)]
-struct TcrEl1(u64);
-
-impl fmt::Display for TcrEl1 {
-    fn fmt<W: fmt::Write>(&self, f: &mut fmt::Formatter<W>) -> fmt::Result {
-        let t = self.0;
-        write!(f, "T0SZ={} TG0={}", t % 64, granule((t >> 14) % 4 == 1))?;
-        write!(f, " EPD0={} TBI0={}", bit(t, 7), bit(t, 37))?;
-        write!(
-            f,
-            " | T1SZ={} TG1={}",
-            (t >> 16) % 64,
-            granule((t >> 30) % 4 == 3)
-        )?;
-        write!(f, " EPD1={} TBI1={}", bit(t, 23), bit(t, 38))?;
-        write!(
-            f,
-            " | IPS={} A1={} AS={}",
-            (t >> 32) % 8,
-            bit(t, 22),
-            bit(t, 36)
-        )
+// TCR_EL1: two ranges, each with its size, granule, EPD and top byte ignore; output size, the ASID's place and width.
+fn tcr_el1<W: Write>(out: &mut W, tcr: u64) -> io::Result<()> {
+    write!(out, "TCR        {tcr:016x}  ")?;
+    for (n, large) in [(0, 1), (1, 3)] {
+        let half = tcr >> (n * 16);
+        let granule = granule(half >> 14 & 3 == large);
+        let tbi = bit(tcr, 37 + n);
+        write!(out, "T{n}SZ={} TG{n}={granule}", half & 63)?;
+        write!(out, " EPD{n}={} TBI{n}={tbi} | ", bit(half, 7))?;
     }
+    let ips = tcr >> 32 & 7;
+    writeln!(out, "IPS={ips} A1={} AS={}", bit(tcr, 22), bit(tcr, 36))
 }
 
 // TCR_EL2 and TCR_EL3: one range.
-#[derive(Clone, Copy)]
-struct TcrOne(u64);
-
-impl fmt::Display for TcrOne {
-    fn fmt<W: fmt::Write>(&self, f: &mut fmt::Formatter<W>) -> fmt::Result {
-        let t = self.0;
-        write!(f, "T0SZ={} TG0={}", t % 64, granule((t >> 14) % 4 == 1))?;
-        write!(f, " TBI={} PS={}", bit(t, 20), (t >> 16) % 8)
-    }
+fn tcr_single<W: Write>(out: &mut W, tcr: u64) -> io::Result<()> {
+    let granule = granule(tcr >> 14 & 3 == 1);
+    write!(out, "TCR        {tcr:016x}  ")?;
+    write!(out, "T0SZ={} TG0={granule}", tcr & 63)?;
+    writeln!(out, " TBI={} PS={}", bit(tcr, 20), tcr >> 16 & 7)
 }
 
-// A TTBR: an ASID and a table's address.
-#[derive(Clone, Copy)]
-struct Ttbr(u64);
-
-impl fmt::Display for Ttbr {
-    fn fmt<W: fmt::Write>(&self, f: &mut fmt::Formatter<W>) -> fmt::Result {
-        let v = self.0;
-        let asid = v >> 48;
-        let base = v % 0x1_0000_0000_0000;
-        write!(f, "{v:016x}  ASID={asid:x} base={base:x}")
-    }
+// TTBR0 or TTBR1.
+fn ttbr<W: Write>(out: &mut W, n: u64, ttbr: u64) -> io::Result<()> {
+    let (asid, base) = (ttbr >> 48, ttbr & 0xFFFF_FFFF_FFFF);
+    write!(out, "TTBR{n}      {ttbr:016x}")?;
+    writeln!(out, "  ASID={asid:x} base={base:x}")
 }
 
-// What only the EL1&0 regime reads besides.
-fn second<W: Write>(out: &mut W, s: Bank) -> io::Result<()> {
-    writeln!(out, "TTBR1      {}", Ttbr(s.ttbr1_el1))?;
-    write!(out, "SCR.NS={}", bit(s.scr_el3, 0))?;
-    writeln!(
-        out,
-        " HCR.TGE={} HCR.DC={}",
-        bit(s.hcr_el2, 27),
-        bit(s.hcr_el2, 12)
-    )
-}
-
-// The registers of a regime, with their fields.
-pub fn show<W: Write>(out: &mut W, s: Bank, regime: Regime) -> io::Result<()> {
-    write!(out, "SCTLR      {:016x}", s.sctlr)?;
-    writeln!(out, "  M={} WXN={}", bit(s.sctlr, 0), bit(s.sctlr, 19))?;
-    write!(out, "TCR        {:016x}  ", s.tcr)?;
-    match regime {
-        Regime::El1 => writeln!(out, "{}", TcrEl1(s.tcr))?,
-        Regime::El2 | Regime::El3 => writeln!(out, "{}", TcrOne(s.tcr))?,
+/// The registers of a regime.
+pub fn show<W: Write>(out: &mut W, bank: Bank, regime: Regime) -> io::Result<()> {
+    let (sctlr, scr, hcr) = (bank.sctlr, bank.scr_el3, bank.hcr_el2);
+    write!(out, "SCTLR      {sctlr:016x}")?;
+    writeln!(out, "  M={} WXN={}", bit(sctlr, 0), bit(sctlr, 19))?;
+    if regime.is_single() {
+        tcr_single(out, bank.tcr)?;
+        return ttbr(out, 0, bank.ttbr0);
     }
-    writeln!(out, "TTBR0      {}", Ttbr(s.ttbr0))?;
-    match regime {
-        Regime::El1 => second(out, s),
-        Regime::El2 | Regime::El3 => Ok(()),
-    }
+    tcr_el1(out, bank.tcr)?;
+    ttbr(out, 0, bank.ttbr0)?;
+    ttbr(out, 1, bank.ttbr1_el1)?;
+    write!(out, "SCR.NS={} HCR.TGE={}", bit(scr, 0), bit(hcr, 27))?;
+    writeln!(out, " HCR.DC={}", bit(hcr, 12))
 }
