@@ -36,7 +36,8 @@ outcome r bytes = record { reply = r; bytes = bytes }
 abbrev pub outcome_of : Core → Ram → Call → Outcome
 outcome_of c m x = outcome (step_of c m.base m.bytes x).reply (ram_after c m.base m.bytes x)
 
--- FROM THE ANSWERS to its translations: loads and stores of n bytes; `last_pa` and `abort_pa` reach no answer, and 0 stands for them
+-- FROM THE ANSWERS to its translations: loads and stores of n bytes. `last_pa` and `abort_pa` reach no answer, and 0
+-- stands for them.
 abbrev pub load_says : Ram → ℕ → ℕ → List Given → Outcome
 load_says m va n gs = outcome (loading (load_end (placed_from va gs) 0 0 m.base m.bytes va n).answer) m.bytes
 

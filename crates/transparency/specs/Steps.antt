@@ -26,7 +26,7 @@ abbrev pub bare_run : Bare → List Step → Bare
 bare_run b [] = b
 bare_run b (s ∷ l) = bare_run (bare_step b s.ram s.call) l
 
--- A DC ZVA that is not refused: the address of its first store
+-- a DC ZVA that is not refused: the address of its first store
 abbrev pub zeroing : Ruling → SysOp → ℕ → Option ℕ
 zeroing allowed Op.Zva x = Some (align_down x 6)
 zeroing _ _ x = None
@@ -35,7 +35,7 @@ abbrev pub zeroed : Bare → Ram → Call → Option ℕ
 zeroed b m (System e) = zeroing (ruling_in b m (System e)) (op_in b e) (operand_in b e)
 zeroed b m _ = None
 
--- those of its n stores of eight zero bytes that it begins, each on the RAM that the last one left
+-- those of n stores of eight zero bytes that it begins, each on the RAM that the last one left
 abbrev pub on_done {ℓ} : {A : Type ℓ} → Reply → A → A → A
 on_done Done more end = more
 on_done _ more end = end
