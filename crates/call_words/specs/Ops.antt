@@ -5,7 +5,8 @@ use Rattle.tlb.specs.declared.access.Kind.TheVariants.{Read, Write, Fetch}
 use Rattle.exception.specs.Abort.{data_abort_at, insn_abort_at}
 use Rattle.exception.specs.declared.kind.Exception.{Exception}
 use Rattle.exception.specs.declared.kind.Exception.TheVariants.{Undefined, Svc, Hvc, Smc, Brk, PcAlignment}
-use Rattle.operations.specs.declared.{call.Call.Call, call.Encoding.Encoding}
+use Rattle.system.specs.declared.decode.Encoding.{Encoding}
+use Rattle.operations.specs.declared.call.Call.{Call}
 use Rattle.call_words.specs.declared.{op.DecodedKind.DecodedKind, op.DecodedException.DecodedException}
 use Rattle.call_words.specs.declared.op.DecodedCall.{DecodedCall}
 

@@ -5,7 +5,8 @@ ghost use Rattle.call_words.specs.Ops.{kind_of, in_range, data_abort_of, insn_ab
 ghost use Rattle.call_words.specs.Ops.{key_of, translate_call, abort_call, mark_call, call_of};
 
 use exception::kind::{DataAbort, Exception, InsnAbort};
-use operations::call::{Call, Encoding};
+use operations::call::Call;
+use system::decode::Encoding;
 use tlb::access::Kind;
 
 // What a word names, or nothing.

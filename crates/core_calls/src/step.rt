@@ -23,7 +23,7 @@ pub fn system(
     ensures { Promise (DecodedCall.Known (Call.System (encoding_of op1 crn crm op2 rt))) base ram.old
         core.old result ans.old ans.new ram.new core.new }
 {
-    quick::system::system(core, op1, crn, crm, op2, rt, ans, base, ram)
+    quick::sys::system(core, op1, crn, crm, op2, rt, ans, base, ram)
 }
 
 /// The call that eight words name: 0, and its answer in four words; 64 where they name none.

@@ -10,7 +10,6 @@ ghost use Rattle.core_parts.specs.Read.{held_by, register_of, number_found, valu
 ghost use Rattle.core_parts.specs.Read.{hint_words, fetch_words};
 
 use cpu::Core;
-use exception::flags;
 use sysreg::encoding;
 use sysreg::regs::{Control, ControlReg, Register, SysReg, SysRegs};
 use tlb::Inval;
@@ -97,7 +96,7 @@ pub fn mark(core: &Core) -> u64
 pub fn pstate(core: &Core) -> u64
     ensures { result ≡ spsr_of core.now.privilege.level core.now.flags }
 {
-    flags::pstate(core.privilege.level, core.flags)
+    core.flags.pstate(core.privilege.level)
 }
 
 /// A general register, X0 to X30; all others are zero.

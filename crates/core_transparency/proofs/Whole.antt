@@ -9,9 +9,8 @@ use Rattle.sysreg.specs.declared.{regs.ControlReg.ControlReg, regs.SysReg.SysReg
 use Rattle.sysreg.specs.declared.regs.ControlReg.TheVariants.{Sctlr, Tcr, Ttbr0}
 use Rattle.sysreg.specs.declared.regs.SysReg.TheVariants.{Mair, Vbar, Elr, Spsr, Esr, Far}
 use Rattle.sysreg.specs.declared.regs.Register.TheVariants.{InControl, InSys}
-use Rattle.exception.specs.declared.{report.Report.Report}
-use Rattle.exception.specs.Entry.{same_el, at_target, far_after, entered_sys, take_exception, take_sync}
-use Rattle.sysop.specs.declared.op.SysOp.{SysOp}
+use Rattle.exception.specs.Entry.{same_el, at_target, updated, entered_sys, enter_of, take_sync}
+use Rattle.system.specs.declared.decode.SysOp.{SysOp}
 use Rattle.cpu.specs.Bare.{Bare, bare_of}
 use Rattle.cpu.specs.declared.Core.{Core}
 use Rattle.operations.specs.declared.call.Call.{Call}
@@ -82,21 +81,22 @@ found-whole k s level (Some r) v w = go (level == 0) r
 target-whole : (el : El) (v : ℕ) (l : List ℕ) → placed l ≡ l → placed (at_target el v l) ≡ at_target el v l
 target-whole el v l e = bank-whole (λ (x : El) (h : ℕ). if same_el x el then v else h) l e
 
-far-whole : (el : El) (a : Option ℕ) (l : List ℕ) → placed l ≡ l → placed (far_after el a l) ≡ far_after el a l
-far-whole el (Some v) l e = target-whole el v l e
-far-whole el None l e = e
+updated-whole : (el : El) (a : Option ℕ) (l : List ℕ) → placed l ≡ l → placed (updated el a l) ≡ updated el a l
+updated-whole el (Some v) l e = target-whole el v l e
+updated-whole el None l e = e
 
-entered-whole : (s : SysRegs) (el : El) (r : Report) (spsr ret : ℕ) → held_sys s ≡ s → held_sys (entered_sys s el r spsr ret) ≡ entered_sys s el r spsr ret
+entered-whole : (s : SysRegs) (el : El) (esr far : Option ℕ) (spsr ret : ℕ) → held_sys s ≡ s
+    → held_sys (entered_sys s el esr far spsr ret) ≡ entered_sys s el esr far spsr ret
 unfolding entered_sys
-entered-whole s el r spsr ret e =
+entered-whole s el esr far spsr ret e =
     λ i.
     record {
       mair = (e i).mair;
       vbar = (e i).vbar;
       elr = target-whole el ret s.elr (ap (λ (t : SysRegs). t.elr) e) i;
       spsr = target-whole el spsr s.spsr (ap (λ (t : SysRegs). t.spsr) e) i;
-      esr = target-whole el r.esr s.esr (ap (λ (t : SysRegs). t.esr) e) i;
-      far = far-whole el r.far s.far (ap (λ (t : SysRegs). t.far) e) i;
+      esr = updated-whole el esr s.esr (ap (λ (t : SysRegs). t.esr) e) i;
+      far = updated-whole el far s.far (ap (λ (t : SysRegs). t.far) e) i;
       vpidr_el2 = s.vpidr_el2;
       vmpidr_el2 = s.vmpidr_el2;
       par_el1 = s.par_el1;
@@ -117,7 +117,7 @@ module _ (b : Bare) (w : WholeRegs b.control b.sys) where
   system-whole SysOp.Unimplemented m va = w
 
   does-whole : (m : Ram) (x : Call) → Keeps (bare_does b m x)
-  unfolding write_reg take_sync take_exception
+  unfolding write_reg take_sync enter_of
   does-whole m (Call.Translate kind va) = w
   does-whole m (Call.DataPa va) = w
   does-whole m (Call.FetchPa va) = w
@@ -129,7 +129,7 @@ module _ (b : Bare) (w : WholeRegs b.control b.sys) where
   does-whole m (Call.Level level) = w
   does-whole m (Call.Mark mark) = w
   does-whole m (Call.General n v) = w
-  does-whole m (Call.Abort e) = record { control = w.control; sys = entered-whole b.sys _ _ _ _ w.sys }
+  does-whole m (Call.Abort e) = record { control = w.control; sys = entered-whole b.sys _ _ _ _ _ w.sys }
   does-whole m (Call.Census first pages) = w
 
   step-whole : (m : Ram) (x : Call) → Keeps (bare_step b m x)

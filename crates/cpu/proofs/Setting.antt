@@ -6,7 +6,7 @@ use Rattle.word.specs.Ram.{width_of, bytes_in}
 use Rattle.word.specs.declared.ram.Width.{Width}
 use Rattle.sysreg.specs.Write.{WriteAnswer}
 use Rattle.sysreg.specs.declared.write.WriteError.TheVariants.{Undefined, NoRegister}
-use Rattle.sysop.specs.declared.op.SysOp.{SysOp}
+use Rattle.system.specs.declared.decode.SysOp.{SysOp}
 use Rattle.cpu.specs.Results.{Stored}
 use Rattle.cpu.specs.Core.{reg_of, set_reg, after_access}
 use Rattle.cpu.specs.Memory.{translate_of, write_of, ram_after_write, fetch_of, fetch_pa_of, data_pa_of}

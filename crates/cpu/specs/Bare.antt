@@ -6,7 +6,8 @@ use Rattle.sysreg.specs.Regs.{fresh_control, fresh_sys}
 use Rattle.sysreg.specs.declared.{regs.Control.Control, regs.SysRegs.SysRegs}
 use Rattle.tlb.specs.declared.{access.Privilege.Privilege, Tlb.Tlb}
 use Rattle.exception.specs.Pstate.{fresh_flags}
-use Rattle.exception.specs.declared.{flags.Flags.Flags, take.Entered.Entered}
+use Rattle.exception.specs.Entry.{Entered}
+use Rattle.exception.specs.declared.flags.Flags.{Flags}
 use Rattle.cpu.specs.declared.Core.{Core}
 
 pub record Bare : Type 0 where

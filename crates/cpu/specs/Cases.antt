@@ -19,7 +19,7 @@ use Rattle.tlb.specs.Resolve.{by_walk, resolve_with}
 use Rattle.tlb.specs.Translate.{miss_with, applied, translation_with, fetch_applied, fetch_end, fetch_with}
 use Rattle.tlb.specs.declared.access.Kind.{Kind}
 use Rattle.tlb.specs.declared.access.Kind.TheVariants.{Read, Fetch}
-use Rattle.exception.specs.Entry.{entered_sys, take_exception, take_sync}
+use Rattle.exception.specs.Entry.{entered_sys, enter_of, take_sync}
 use Rattle.exception.specs.Pstate.{fresh_flags, spsr_of}
 use Rattle.exception.specs.Route.{routed_to}
 use Rattle.exception.specs.Syndrome.{syndrome_of}
@@ -28,9 +28,9 @@ use Rattle.cpu.specs.Core.{reg_of, after_access}
 use Rattle.cpu.specs.Translations.{translate_in as translation_of}
 use Rattle.cpu.specs.Memory.{stepped_now, translate_of}
 use Rattle.cpu.specs.declared.Core.{Core}
-use Rattle.sysop.specs.Op.{named, decode_of}
+use Rattle.system.specs.Decode.{named, decode_of}
 use Rattle.walk.specs.Fresh.{fresh_of}
-use Rattle.sysop.specs.Par.{success, abort, leaf_par, par_in, at_par}
+use Rattle.system.specs.Par.{success, abort, leaf_par, par_in, at_par}
 use Rattle.cpu.specs.Registers.{abort_of}
 use Rattle.cpu.specs.System.{with_par, at_of, sys_of}
 use Rattle.operations.specs.Check.{missed_of}
@@ -122,7 +122,7 @@ ProvedCases =
 
 pub proved-cases : ProvedCases
 unfolding row elsewhere par esr at called step_of run_of missed_of translate_of stepped_now translation_of register_at fresh_sys reg_of after_access sys_of at_of with_par
-    abort_of take_sync take_exception entered_sys spsr_of routed_to syndrome_of named decode_of success abort leaf_par par_in fresh_of at_par judged blanks
+    abort_of take_sync enter_of entered_sys spsr_of routed_to syndrome_of named decode_of success abort leaf_par par_in fresh_of at_par judged blanks
     no_hints place_of by_walk
     resolve_with miss_with applied translation_with fetch_applied fetch_end fetch_with walk_of table_walk walk_range walk_from lookup_next level_next leaf_result
     leaf_translation leaf_permissions table_next descaddr range_of params_of pa_size untagged word_at little_endian bytes_of

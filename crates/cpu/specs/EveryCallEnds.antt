@@ -15,7 +15,7 @@ use Rattle.sysreg.specs.declared.regs.Register.TheVariants.{InControl, InSys}
 use Rattle.tlb.specs.Answers.{Answer}
 use Rattle.operations.specs.Answers.{Placed, Verdict, LoadAnswer, StoreAnswer, FetchAnswer}
 use Rattle.tlb.specs.declared.access.Kind.TheVariants as Kind
-use Rattle.sysop.specs.declared.op.SysOp.{SysOp}
+use Rattle.system.specs.declared.decode.SysOp.{SysOp}
 use Rattle.cpu.specs.Core.{reg_of}
 use Rattle.operations.specs.Place.{verdict_of as judged}
 use Rattle.operations.specs.Bytes.{value_at}

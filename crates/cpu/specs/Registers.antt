@@ -2,8 +2,8 @@
 use Rattle.std.specs.Prelude.{ℕ, Bool, Ok, Err}
 use Rattle.sysreg.specs.Write.{write_reg, WriteAnswer, Written}
 use Rattle.sysreg.specs.declared.{regs.Control.Control, regs.SysRegs.SysRegs}
-use Rattle.exception.specs.Entry.{take_sync, taken_to}
-use Rattle.exception.specs.declared.{kind.Exception.Exception, take.Entered.Entered, take.Taken.Taken}
+use Rattle.exception.specs.Entry.{take_sync}
+use Rattle.exception.specs.declared.kind.Exception.{Exception}
 use Rattle.cpu.specs.Bare as Bare
 use Rattle.cpu.specs.Bare.{with_entered, bare_of, in_core}
 use Rattle.cpu.specs.Memory.{with_tlb}
@@ -46,14 +46,7 @@ unfoldable pub set_mark : Core → Bool → Core
 set_mark c mark = with_privilege c c.privilege.level mark
 
 -- level, flags, PC and registers after an exception; all else stays
-abbrev pub entering : Core → Entered → Core
-entering c e = in_core c (with_entered (bare_of c) e)
-
--- by what an entry changes
-abbrev pub entered : Core → Taken → Core
-entered c t = entering c (taken_to c.flags c.sys t)
-
 unfoldable pub abort_of : Core → Exception → Core
 abort_of c e =
-    entering c
-    (take_sync c.privilege.level c.flags c.pc c.control.scr_el3 c.control.hcr_el2 c.sys e)
+    in_core c
+    (with_entered (bare_of c) (take_sync c.privilege.level c.flags c.pc c.control.scr_el3 c.control.hcr_el2 c.sys e))

@@ -11,11 +11,11 @@ use Rattle.walk.specs.declared.regime.Regime.{Regime}
 unfoldable pub use Rattle.tlb.specs.Maintenance.{invalidated_of}
 use Rattle.exception.specs.declared.kind.Exception.TheVariants as Exception
 use Rattle.exception.specs.declared.kind.Stop.TheVariants as Stop
-use Rattle.sysop.specs.Op.{decode_of}
-use Rattle.sysop.specs.Tlbi.{tlbi_of, reaches_others}
-use Rattle.sysop.specs.Par.{at_par}
-use Rattle.sysop.specs.declared.{op.AtForm.AtForm, op.SysOp.SysOp}
-use Rattle.sysop.specs.declared.op.SysOp.TheVariants.{At, Tlbi, Zva, Nothing, Undefined, Unimplemented}
+use Rattle.system.specs.Decode.{decode_of}
+use Rattle.system.specs.Tlbi.{tlbi_of, reaches_others}
+use Rattle.system.specs.Par.{at_par}
+use Rattle.system.specs.declared.{decode.AtForm.AtForm, decode.SysOp.SysOp}
+use Rattle.system.specs.declared.decode.SysOp.TheVariants.{At, Tlbi, Zva, Nothing, Undefined, Unimplemented}
 use Rattle.cpu.specs.Bare as Bare
 use Rattle.cpu.specs.Bare.{bare_of, in_core}
 use Rattle.cpu.specs.Core.{reg_of}

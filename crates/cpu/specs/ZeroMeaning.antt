@@ -9,7 +9,7 @@ use native.Mathlib.Omega.{arith}
 use borrow.Author.Tests.{ltb-true, ltb-false, le-leb}
 use Rattle.word.specs.Bits.{align_down}
 use Rattle.word.specs.Ram.{within, word_at, stored}
-use Rattle.sysop.specs.declared.op.SysOp.TheVariants.{Zva}
+use Rattle.system.specs.declared.decode.SysOp.TheVariants.{Zva}
 use Rattle.walk.specs.Regime.{bank_of, regime_of}
 use Rattle.tlb.specs.Live.{WellFormed}
 use Rattle.tlb.specs.declared.access.Kind.TheVariants.{Write}

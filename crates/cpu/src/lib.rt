@@ -14,7 +14,7 @@ pub mod inspect;
 pub mod memory;
 pub mod registers;
 pub mod step;
-pub mod system;
+pub mod sys;
 pub mod theorems;
 
 #[derive(Clone, Copy)]

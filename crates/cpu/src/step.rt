@@ -27,9 +27,7 @@ fn run(core: &mut Core, base: u64, ram: &mut [u8], call: Call) -> Reply
             None => Reply::from(Check::Size),
         },
         Call::Fetch(va) => Reply::from(core.fetch(base, ram, va)),
-        Call::System(e) => {
-            Reply::from(crate::system::sys(core, base, ram, e.op1, e.crn, e.crm, e.op2, e.rt))
-        }
+        Call::System(e) => { Reply::from(crate::sys::sys(core, base, ram, e)) }
         Call::Register(key, value) => Reply::from(crate::registers::write_register(
             core, key, value,
         )),
@@ -46,7 +44,7 @@ fn run(core: &mut Core, base: u64, ram: &mut [u8], call: Call) -> Reply
             Reply::Done
         }
         Call::Abort(e) => {
-            crate::registers::abort(core, e);
+            crate::registers::take_sync(core, e);
             Reply::Done
         }
         Call::Census(_, _) => Reply::Done,

@@ -1,4 +1,4 @@
 -- What the proofs share.
 pub mod Words
-pub mod Entries
-pub mod EnterSync
+pub mod EntryLaws
+pub mod FieldLaws

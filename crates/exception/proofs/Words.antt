@@ -1,24 +1,43 @@
 -- Numbers joined by OR: a data abort's status, and PSTATE's words.
-use Rattle.std.proofs.Common.{◌≡◌, ℕ, zero, suc, ◌+◌, ◌*◌, ◌/◌, ◌%◌, ◌^◌, ◌<◌, ◌≤◌, max, Bool, true, false, sym, refl, ap, ◌∙◌, ap₂, pow-suc, arith}
+use Rattle.std.proofs.Common.{◌≡◌, ℕ, zero, suc, ◌+◌, ◌*◌, ◌/◌, ◌%◌, ◌^◌, ◌<◌, ◌≤◌, max, Bool, true, false, sym, refl, ap, ◌∙◌, ap₂, pow-suc, mod-eq_of_lt, arith}
 use native.Mathlib.Nat.{max-le}
-use lib.Bits.{bit_or, or_comm, or_lt, or_zero_l, or_zero_r, or_block, or_shifted, or_shifted_r, or_shr, or_step}
+use lib.Bits.{bit_and, and_mask, bit_or, or_comm, or_lt, or_zero_l, or_zero_r, or_block, or_shifted, or_shifted_r, or_shr, or_step}
 use lib.Pow.{split}
-use Rattle.word.specs.Bits.{field, align_down}
+use mir.Val.{bool_byte}
+use Rattle.std.proofs.lemmas.Nat.Bits.{and_pow}
+use Rattle.word.specs.Bits.{field, align_down, flag}
 use Rattle.exception.specs.declared.flags.Flags.{Flags}
 use Rattle.exception.specs.Pstate.{stray_bits, spsr_of}
-use Rattle.exception.specs.Syndrome.{data_status}
+use Rattle.exception.specs.Syndrome.{esr_of, data_status}
 
--- a status with WnR, and without
-pub status-joined : (s : ℕ) (write : Bool) → write ≡ true → bit_or s 0x40 ≡ data_status write s
-status-joined s write e =
-    rw e
-    (ap (λ (n : ℕ). bit_or n 0x40) (sym (split s 6)) ∙ or_block 6 (s / 2 ^ 6) 1 (s % 2 ^ 6) 0 (omega arith) (omega arith)
-    ∙ ap (λ (n : ℕ). bit_or (s / 2 ^ 6) 1 * 2 ^ 6 + n) (or_zero_r (s % 2 ^ 6)))
+-- ESR_ELx of a class and a syndrome
+pub esr_joined : (class iss : ℕ) → class < 2 ^ 8 → iss < 2 ^ 16 → bit_or (bit_or (class * 2 ^ 26 % 2 ^ 64) 0x200_0000) iss ≡ esr_of class iss
+esr_joined class iss h k =
+    let e : class * 2 ^ 26 + 0x200_0000 ≡ (class * 2 + 1) * 2 ^ 25 = omega arith in
+    let m : class * 2 ^ 26 % 2 ^ 64 ≡ class * 2 ^ 26 = mod-eq_of_lt (omega arith) in
+    rw (m, or_shifted class 26 0x200_0000 (omega arith), e, or_shifted (class * 2 + 1) 25 iss (omega arith)) (omega arith)
 
-pub status-alone : (s : ℕ) (write : Bool) → write ≡ false → s ≡ data_status write s
-status-alone s write e = rw (e, or_zero_r (s / 2 ^ 6)) (sym (split s 6))
+-- a status below WnR
+pub status_word : (write : Bool) (s : ℕ) → bit_or (bool_byte write * 2 ^ 6) s ≡ data_status write s
+status_word true s =
+    ap (bit_or 0x40) (sym (split s 6)) ∙ or_block 6 1 (s / 2 ^ 6) 0 (s % 2 ^ 6) (omega arith) (omega arith)
+    ∙ ap₂ (λ (m n : ℕ). m * 2 ^ 6 + n) (or_comm 1 (s / 2 ^ 6)) (or_zero_l (s % 2 ^ 6))
+status_word false s = or_zero_l s ∙ rw or_zero_r (sym (split s 6))
 
-pub ruleset status_words = (status-joined, status-alone)
+-- a control bit and its mask
+pub scr_smd : (x : ℕ) → bit_and x 0x80 ≡ x / 2 ^ 7 % 2 * 2 ^ 7
+scr_smd x = and_pow x 7
+
+pub scr_hce : (x : ℕ) → bit_and x 0x100 ≡ x / 2 ^ 8 % 2 * 2 ^ 8
+scr_hce x = and_pow x 8
+
+pub hcr_tsc : (x : ℕ) → bit_and x 0x8_0000 ≡ x / 2 ^ 19 % 2 * 2 ^ 19
+hcr_tsc x = and_pow x 19
+
+pub hcr_tge : (x : ℕ) → bit_and x 0x800_0000 ≡ x / 2 ^ 27 % 2 * 2 ^ 27
+hcr_tge x = and_pow x 27
+
+pub ruleset control_bits = (scr_smd, scr_hce, hcr_tsc, hcr_tge)
 
 -- OR is associative
 low : (a b : ℕ) → bit_or a b % 2 ≡ max (a % 2) (b % 2)
@@ -103,12 +122,17 @@ module _ (level : ℕ) (f : Flags) (hn : f.nzcv < 2 ^ 32) (hd : f.daif < 2 ^ 32)
       (omega arith) (omega arith) (omega arith) (omega arith) (omega arith) (omega arith)
       ∙ ap (λ (u : ℕ). bit_or u (stray_bits f)) (fields_join q m l s (omega arith) (omega arith) hs)
 
-  pub psr-elx : f.spsel ≡ true → bit_or (bit_or (bit_or f.nzcv f.daif) (level % 4 * 4)) 1 ≡ spsr_of level f
+  pub psr_word : bit_or (bit_or (bit_or f.nzcv f.daif) (bit_and level 3 * 4 % 2 ^ 64)) (bool_byte f.spsel) ≡ spsr_of level f
   unfolding spsr_of
-  psr-elx e = joined 1 (omega arith) ∙ simp e
+  psr_word =
+      let l : bit_and level 3 * 4 % 2 ^ 64 ≡ level % 4 * 4 = rw (and_mask level 2) (mod-eq_of_lt (omega arith)) in
+      rw l (joined (bool_byte f.spsel) (small f.spsel))
+      ∙ ap (λ (n : ℕ). bit_or (field f.nzcv 28 4 * 2 ^ 28 + field f.daif 6 4 * 2 ^ 6 + level % 4 * 4 + n) (stray_bits f)) (as_flag f.spsel)
+    where
+      small : (b : Bool) → bool_byte b < 4
+      small true = omega arith
+      small false = omega arith
 
-  pub psr-el0 : f.spsel ≡ false → bit_or (bit_or f.nzcv f.daif) (level % 4 * 4) ≡ spsr_of level f
-  unfolding spsr_of
-  psr-el0 e = sym (or_zero_r (bit_or (bit_or f.nzcv f.daif) (level % 4 * 4))) ∙ joined 0 (omega arith) ∙ simp e
-
-pub ruleset psr_words = (psr-elx, psr-el0)
+      as_flag : (b : Bool) → bool_byte b ≡ flag b 1
+      as_flag true = refl
+      as_flag false = refl

@@ -6,10 +6,10 @@ use Rattle.sysreg.specs.Regs.{levels, sys_at}
 use Rattle.sysreg.specs.declared.{regs.El.El, regs.SysRegs.SysRegs}
 use Rattle.sysreg.specs.declared.regs.El.TheVariants.{El1, El2, El3}
 use Rattle.sysreg.specs.declared.regs.SysReg.TheVariants.{Elr, Spsr, Esr, Far}
-use Rattle.exception.specs.declared.{kind.Exception.Exception, flags.Flags.Flags, take.Entered.Entered}
+use Rattle.exception.specs.declared.{kind.Exception.Exception, flags.Flags.Flags}
 use Rattle.exception.specs.declared.kind.Exception.TheVariants.{Svc, Hvc, Smc, Brk, PcAlignment}
 use Rattle.exception.specs.Abort.{data_abort_at, insn_abort_at}
-use Rattle.exception.specs.Entry.{enter_of, take_sync}
+use Rattle.exception.specs.Entry.{Entered, enter_of, take_sync}
 
 abbrev pub registers : SysRegs
 registers =

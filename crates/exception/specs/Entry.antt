@@ -6,10 +6,8 @@ use Rattle.sysreg.specs.Regs.{level_of, sys_at}
 use Rattle.sysreg.specs.Write.{bank}
 use Rattle.sysreg.specs.declared.{regs.El.El, regs.SysReg.SysReg, regs.SysRegs.SysRegs}
 use Rattle.sysreg.specs.declared.regs.SysReg.TheVariants.{Mair, Vbar, Elr, Spsr, Esr, Far, Vpidr, Vmpidr, Par}
-use Rattle.exception.specs.declared.{kind.Exception.Exception, flags.Flags.Flags, report.Report.Report}
-use Rattle.exception.specs.declared.{route.Origin.Origin, route.Routed.Routed, take.Entered.Entered}
-use Rattle.exception.specs.declared.{take.Reported.Reported, take.Taken.Taken}
-use Rattle.exception.specs.Pstate.{daif_all, spsr_of}
+use Rattle.exception.specs.declared.{kind.Exception.Exception, flags.Flags.Flags, route.Origin.Origin, route.Routed.Routed}
+use Rattle.exception.specs.Pstate.{daif_all, flags, spsr_of}
 use Rattle.exception.specs.Syndrome.{syndrome_of}
 use Rattle.exception.specs.Route.{routed_to}
 
@@ -25,18 +23,20 @@ same_el a b = level_of a == level_of b
 abbrev pub at_target : El → ℕ → List ℕ → List ℕ
 at_target target v l = bank (λ el held. if same_el el target then v else held) l
 
--- SPSR and ELR of the target level, the ESRs and FARs that are given, and no other register
-abbrev after_entry : SysRegs → El → ℕ → ℕ → List ℕ → List ℕ → SysRegs
-after_entry s target spsr ret esr far =
-    record s { elr = at_target target ret s.elr; spsr = at_target target spsr s.spsr; esr = esr; far = far }
+-- where a value is given
+abbrev pub updated : El → Option ℕ → List ℕ → List ℕ
+updated target (Some v) l = at_target target v l
+updated target None l = l
 
--- FAR is written where the exception has an address
-abbrev pub far_after : El → Option ℕ → List ℕ → List ℕ
-far_after target (Some v) l = at_target target v l
-far_after target None l = l
-
-unfoldable pub entered_sys : SysRegs → El → Report → ℕ → ℕ → SysRegs
-entered_sys s target r spsr ret = after_entry s target spsr ret (at_target target r.esr s.esr) (far_after target r.far s.far)
+-- SPSR and ELR of the target level, its ESR and FAR where they are given, and no other register
+unfoldable pub entered_sys : SysRegs → El → Option ℕ → Option ℕ → ℕ → ℕ → SysRegs
+entered_sys s target esr far spsr ret =
+    record s {
+      elr = at_target target ret s.elr;
+      spsr = at_target target spsr s.spsr;
+      esr = updated target esr s.esr;
+      far = updated target far s.far;
+    }
 
 -- of one register: the value that is given, where it is the target's; else what it held
 abbrev pub given : Option ℕ → Bool → ℕ → ℕ
@@ -44,16 +44,16 @@ given (Some v) same held = if same then v else held
 given None same held = held
 
 -- register by register: what one holds after an entry, from what it held
-abbrev pub register_after : El → Report → ℕ → ℕ → SysReg → ℕ → ℕ
-register_after target r spsr ret (Spsr el) held = if same_el el target then spsr else held
-register_after target r spsr ret (Elr el) held = if same_el el target then ret else held
-register_after target r spsr ret (Esr el) held = if same_el el target then r.esr else held
-register_after target r spsr ret (Far el) held = given r.far (same_el el target) held
-register_after target r spsr ret (Mair el) held = held
-register_after target r spsr ret (Vbar el) held = held
-register_after target r spsr ret Vpidr held = held
-register_after target r spsr ret Vmpidr held = held
-register_after target r spsr ret Par held = held
+abbrev pub register_after : El → Option ℕ → Option ℕ → ℕ → ℕ → SysReg → ℕ → ℕ
+register_after target esr far spsr ret (Spsr el) held = if same_el el target then spsr else held
+register_after target esr far spsr ret (Elr el) held = if same_el el target then ret else held
+register_after target esr far spsr ret (Esr el) held = given esr (same_el el target) held
+register_after target esr far spsr ret (Far el) held = given far (same_el el target) held
+register_after target esr far spsr ret (Mair el) held = held
+register_after target esr far spsr ret (Vbar el) held = held
+register_after target esr far spsr ret Vpidr held = held
+register_after target esr far spsr ret Vmpidr held = held
+register_after target esr far spsr ret Par held = held
 
 -- the registers that an entry may change: SPSR, ELR, ESR and FAR of its target
 abbrev pub of_entry : El → SysReg → Bool
@@ -69,75 +69,44 @@ of_entry target Par = false
 
 -- PSTATE.SP = '1', PSTATE.<D,A,I,F> = '1111'; N, Z, C, V stay
 abbrev pub entry_flags : Flags → Flags
-entry_flags f = record { nzcv = f.nzcv; daif = daif_all; spsel = true }
+entry_flags f = flags f.nzcv daif_all true
 
--- what a synchronous entry changes, whatever holds the registers
-abbrev pub changes_of : ℕ → Flags → El → Report → ℕ → Taken
-changes_of level f target r ret =
-    record {
-      target = target;
-      group = vect_offset level (level_of target) f.spsel;
-      spsr = spsr_of level f;
-      ret = ret;
-      report = r;
-    }
+-- what an entry leaves
+pub record Entered : Type 0 where
+  pub level : ℕ
+  pub flags : Flags
+  pub pc : ℕ
+  pub sys : SysRegs
 
--- PSTATE.EL = target_el, and the branch to VBAR_ELx plus the offset
-abbrev pub taken_to : Flags → SysRegs → Taken → Entered
-taken_to f s t =
-    record {
-      level = level_of t.target;
-      flags = entry_flags f;
-      pc = wrap (sys_at s (Vbar t.target) + t.group);
-      sys = entered_sys s t.target t.report t.spsr t.ret;
-    }
-
-unfoldable pub take_exception : ℕ → Flags → SysRegs → El → Report → ℕ → Entered
-take_exception level f s target r ret = taken_to f s (changes_of level f target r ret)
-
--- An entry of any kind, which is added to the offset (0x000 for a synchronous exception, 0x080 for an IRQ, 0x100 for an FIQ); ESR and FAR are
--- written, or kept as an interrupt keeps both. A synchronous one is `take_exception` (`enter-sync` of EntryLaws).
-abbrev pub updated : El → Option ℕ → List ℕ → List ℕ
-updated target (Some v) l = at_target target v l
-updated target None l = l
-
-abbrev pub updated_sys : SysRegs → El → Option ℕ → Option ℕ → ℕ → ℕ → SysRegs
-updated_sys s target esr far spsr ret = after_entry s target spsr ret (updated target esr s.esr) (updated target far s.far)
-
-abbrev pub entered_with : Flags → SysRegs → El → ℕ → Option ℕ → Option ℕ → ℕ → ℕ → Entered
-entered_with f s target offset esr far spsr ret =
+-- An entry of any kind, which is added to the offset (0x000 for a synchronous exception, 0x080 for an IRQ, 0x100 for an FIQ): PSTATE.EL = target_el,
+-- and the branch to VBAR_ELx plus the offset. ESR and FAR are written, or kept as an interrupt keeps both.
+unfoldable pub enter_of : ℕ → Flags → SysRegs → El → ℕ → Option ℕ → Option ℕ → ℕ → Entered
+enter_of level f s target kind esr far ret =
     record {
       level = level_of target;
       flags = entry_flags f;
-      pc = wrap (sys_at s (Vbar target) + offset);
-      sys = updated_sys s target esr far spsr ret;
+      pc = wrap (sys_at s (Vbar target) + vect_offset level (level_of target) f.spsel + kind);
+      sys = entered_sys s target esr far (spsr_of level f) ret;
     }
-
-unfoldable pub enter_of : ℕ → Flags → SysRegs → El → ℕ → Option ℕ → Option ℕ → ℕ → Entered
-enter_of level f s target kind esr far ret =
-    entered_with f s target (vect_offset level (level_of target) f.spsel + kind) esr far (spsr_of level f) ret
-
--- a routed exception is reported
-abbrev pub report_of : ℕ → ℕ → Routed → Report
-report_of level pc r = syndrome_of r.exception level (level_of r.target) pc
 
 -- PSTATE.EL has two bits: a level above 3 counts by those
 abbrev pub origin_of : ℕ → ℕ → ℕ → ℕ → Origin
 origin_of level pc scr hcr = record { level = level % 2 ^ 2; scr_el3 = scr; hcr_el2 = hcr; pc = pc }
 
-abbrev pub reported : ℕ → ℕ → Routed → Reported
-reported level pc r = record { target = r.target; ret = r.ret; report = report_of level pc r }
+-- what a routed exception reports
+abbrev pub report_of : ℕ → ℕ → Routed → ℕ × Option ℕ
+report_of level pc r = syndrome_of r.exception level (level_of r.target) pc
 
-unfoldable pub sync_report : ℕ → ℕ → ℕ → ℕ → Exception → Reported
-sync_report level pc scr hcr e = reported (level % 2 ^ 2) pc (routed_to (origin_of level pc scr hcr) e)
-
--- what its entry changes
-unfoldable pub sync_changes : ℕ → Flags → Reported → Taken
-sync_changes level f r = changes_of (level % 2 ^ 2) f r.target r.report r.ret
-
--- and it is taken
+-- it is taken, as its report has it
 abbrev pub take_routed : ℕ → Flags → ℕ → SysRegs → Routed → Entered
-take_routed level f pc s r = take_exception level f s r.target (report_of level pc r) r.ret
+take_routed level f pc s r = enter_of level f s r.target 0 (Some (report_of level pc r).0) (report_of level pc r).1 r.ret
 
 unfoldable pub take_sync : ℕ → Flags → ℕ → ℕ → ℕ → SysRegs → Exception → Entered
 take_sync level f pc scr hcr s e = take_routed (level % 2 ^ 2) f pc s (routed_to (origin_of level pc scr hcr) e)
+
+-- a fact of every synchronous exception: where it is taken to, ESR and FAR, SPSR and the return address, and the registers before and after
+abbrev pub EachEntry : (El → ℕ → Option ℕ → ℕ → ℕ → SysRegs → SysRegs → Type 0) → Type 0
+EachEntry P =
+    (level pc scr hcr : ℕ) (f : Flags) (s : SysRegs) (e : Exception)
+    → let r = routed_to (origin_of level pc scr hcr) e in
+    P r.target (report_of (level % 2 ^ 2) pc r).0 (report_of (level % 2 ^ 2) pc r).1 (spsr_of (level % 2 ^ 2) f) r.ret s (take_sync level f pc scr hcr s e).sys

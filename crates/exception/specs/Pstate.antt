@@ -1,6 +1,6 @@
 -- PSTATE, and SPSR_ELx as an entry to AArch64 saves it: DDI 0487, GetPSRFromPSTATE, from knowledge of ARMv8.0: the document itself was not at
 -- hand. A15 is a row of docs/DIFFERENCES.md.
-use Rattle.std.specs.Prelude.{◌≡◌, ℕ, ◌+◌, ◌*◌, ◌%◌, ◌^◌, true, bit_or}
+use Rattle.std.specs.Prelude.{◌≡◌, ℕ, ◌+◌, ◌*◌, ◌%◌, ◌^◌, Bool, true, bit_or}
 use Rattle.word.specs.Bits.{field, align_down, flag}
 use Rattle.exception.specs.declared.flags.Flags.{Flags}
 
@@ -8,9 +8,13 @@ use Rattle.exception.specs.declared.flags.Flags.{Flags}
 abbrev pub daif_all : ℕ
 daif_all = 15 * 2 ^ 6
 
+-- PSTATE by its words
+abbrev pub flags : ℕ → ℕ → Bool → Flags
+flags nzcv daif spsel = record { nzcv = nzcv; daif = daif; spsel = spsel }
+
 -- after reset
 abbrev pub fresh_flags : Flags
-fresh_flags = record { nzcv = 0; daif = daif_all; spsel = true }
+fresh_flags = flags 0 daif_all true
 
 -- SPSR_ELx: N, Z, C, V are <31:28>, D, A, I, F <9:6>, EL <3:2>, SP <0>. The words of PSTATE hold their bits at the same places.
 -- A15: SP is saved as it stands, at EL0 too.

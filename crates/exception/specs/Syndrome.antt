@@ -1,8 +1,8 @@
 -- What an exception reports: DDI 0487, AArch64.ExceptionClass, AArch64.ReportException, and the layout of ESR_ELx, from knowledge of ARMv8.0: the
 -- document itself was not at hand. M16, O6 and the like are rows of docs/DIFFERENCES.md.
-use Rattle.std.specs.Prelude.{if◌then◌else◌, ℕ, ◌+◌, ◌*◌, ◌/◌, ◌%◌, ◌^◌, Bool, true, false, bit_or, nat_lt, Some, None}
+use Rattle.std.specs.Prelude.{if◌then◌else◌, ℕ, ◌+◌, ◌*◌, ◌/◌, ◌%◌, ◌^◌, Bool, true, false, bit_or, nat_lt, Option, Some, None}
 use Rattle.word.specs.Bits.{flag}
-use Rattle.exception.specs.declared.{kind.Exception.Exception, report.Report.Report}
+use Rattle.exception.specs.declared.kind.Exception.{Exception}
 use Rattle.exception.specs.declared.kind.Exception.TheVariants.{Undefined, Svc, Hvc, Smc, Brk, DataAbort, InsnAbort, PcAlignment}
 
 -- ESR_ELx: EC is <31:26>, IL <25>, ISS <24:0>. IL is 1: the instruction has 32 bits, or the class has no use for it.
@@ -62,7 +62,6 @@ far_of pc PcAlignment = pc
 far_of pc (DataAbort a) = a.addr
 far_of pc (Brk imm) = 0
 
--- the report of an exception at the PC, taken from one level to another
-unfoldable pub syndrome_of : Exception → ℕ → ℕ → ℕ → Report
-syndrome_of e from to pc =
-    record { esr = esr_of (class_of (nat_lt from to) e) (iss_of e); far = if far_written e then Some (far_of pc e) else None }
+-- ESR_ELx and any FAR_ELx of an exception at the PC, taken from one level to another
+unfoldable pub syndrome_of : Exception → ℕ → ℕ → ℕ → ℕ × Option ℕ
+syndrome_of e from to pc = (esr_of (class_of (nat_lt from to) e) (iss_of e), if far_written e then Some (far_of pc e) else None)

@@ -4,13 +4,12 @@ use Rattle.std.specs.Prelude.{◌≡◌, ℕ, ◌+◌, Bool, true, false, List, 
 use Rattle.fault.specs.First.{first}
 use Rattle.sysreg.specs.declared.{regs.El.El, regs.SysRegs.SysRegs}
 use Rattle.sysreg.specs.declared.regs.El.TheVariants.{El1, El2, El3}
-use Rattle.exception.specs.declared.{kind.Exception.Exception, flags.Flags.Flags, report.Report.Report}
+use Rattle.exception.specs.declared.{kind.Exception.Exception, flags.Flags.Flags}
 use Rattle.exception.specs.declared.kind.Exception.TheVariants.{Undefined, Svc, Hvc, Smc, Brk, PcAlignment}
 use Rattle.exception.specs.Abort.{data_abort_at, insn_abort_at}
 use Rattle.exception.specs.Syndrome.{syndrome_of}
-use Rattle.exception.specs.Pstate.{spsr_of}
+use Rattle.exception.specs.Pstate.{flags, spsr_of}
 use Rattle.exception.specs.Entry.{enter_of, take_sync}
-use Rattle.exception.specs.Flags.{flags}
 use Rattle.exception.specs.Cases.{registers, user, masked}
 
 -- WHERE TO
@@ -52,7 +51,7 @@ pub record Targets : Type 0 where
 -- WHAT IS REPORTED
 
 -- an exception at the PC, from EL0 to EL1, EL1 to EL3 and EL2 to EL3, and within EL1, EL2 and EL3
-abbrev reports : Exception → ℕ → List Report
+abbrev reports : Exception → ℕ → List (ℕ × Option ℕ)
 reports e pc =
     syndrome_of e 0 1 pc
     ∷ syndrome_of e 1 3 pc
@@ -63,9 +62,8 @@ reports e pc =
     ∷ []
 
 -- ESR_ELx from a lower level and from the same, and FAR_ELx where it is written
-abbrev reported : ℕ → ℕ → Option ℕ → List Report
-reported lower same far = let low : Report = record { esr = lower; far = far } in let level : Report = record { esr = same; far = far } in
-    low ∷ low ∷ low ∷ level ∷ level ∷ level ∷ []
+abbrev reported : ℕ → ℕ → Option ℕ → List (ℕ × Option ℕ)
+reported lower same far = (lower, far) ∷ (lower, far) ∷ (lower, far) ∷ (same, far) ∷ (same, far) ∷ (same, far) ∷ []
 
 -- each kind, with every bit of its immediate or status set
 pub record Reports (pc addr : ℕ) : Type 0 where

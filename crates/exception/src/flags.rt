@@ -1,19 +1,23 @@
-// PSTATE: NZCV in bits 31 to 28, DAIF in bits 9 to 6, and SP.
+// PSTATE but for the exception level.
 ghost use Rattle.std.specs.Prelude.{◌≡◌};
 ghost use Rattle.exception.specs.Pstate.{fresh_flags, spsr_of};
 
+/// The flags, the interrupt masks and the stack pointer in use.
 #[derive(Clone, Copy)]
 pub struct Flags {
+    /// `PSTATE.{N,Z,C,V}`, bits 31 to 28 (the `NZCV` register's layout).
     pub nzcv: u32,
+    /// `PSTATE.{D,A,I,F}`, bits 9 to 6 (the `DAIF` register's layout).
     pub daif: u32,
+    /// `PSTATE.SP`: `SP_ELx` is used rather than `SP_EL0`.
     pub spsel: bool,
 }
 
-// D, A, I and F, all set.
-pub const DAIF_ALL: u32 = 0x3C0;
+/// D, A, I and F, all set.
+pub const DAIF_ALL: u32 = 0xF << 6;
 
 impl Flags {
-    // After reset the interrupts are masked, and SP_ELx is used.
+    /// Out of reset: interrupts masked, `SP_ELx` used.
     pub fn new() -> Self
         ensures { result ≡ fresh_flags }
     {
@@ -23,14 +27,12 @@ impl Flags {
             spsel: true,
         }
     }
-}
 
-// PSTATE as SPSR_ELx holds it. Of the level two bits count.
-#[tactic(auto, using(crate::proofs::Words::psr_words))]
-pub fn pstate(level: u8, flags: Flags) -> u64
-    ensures { result ≡ spsr_of level flags }
-{
-    let el = (level % 4) as u64;
-    let psr = flags.nzcv as u64 | flags.daif as u64 | el * 4;
-    if flags.spsel { psr | 1 } else { psr }
+    /// `PSTATE` in `SPSR` layout (AArch64): NZCV, DAIF, `M[3:0]` = EL:SP. Of the level two bits count.
+    #[tactic(auto, using(crate::proofs::Words::psr_word))]
+    pub fn pstate(self, level: u8) -> u64
+        ensures { result ≡ spsr_of level self }
+    {
+        self.nzcv as u64 | self.daif as u64 | ((level & 3) as u64) << 2 | self.spsel as u64
+    }
 }

@@ -1,7 +1,7 @@
-// The synchronous exceptions, each raised by the instruction at the PC, and what stops an operation.
+// The synchronous exceptions, and what stops an operation.
 use fault::Fault;
 
-// The virtual address of an access, whether it was a write, and its fault.
+/// A faulted data access; `addr` is virtual.
 #[derive(Clone, Copy)]
 pub struct DataAbort {
     pub addr: u64,
@@ -9,17 +9,17 @@ pub struct DataAbort {
     pub fault: Fault,
 }
 
-// The same of a fetch.
+/// A faulted fetch; `addr` is virtual.
 #[derive(Clone, Copy)]
 pub struct InsnAbort {
     pub addr: u64,
     pub fault: Fault,
 }
 
+/// A synchronous exception, raised by the instruction at the PC. SVC, HVC, SMC and BRK have their immediate.
 #[derive(Clone, Copy)]
 pub enum Exception {
     Undefined,
-    // SVC, HVC, SMC and BRK carry their immediate.
     Svc(u16),
     Hvc(u16),
     Smc(u16),
@@ -29,9 +29,10 @@ pub enum Exception {
     PcAlignment,
 }
 
+/// What stops an operation.
 #[derive(Clone, Copy)]
 pub enum Stop {
     Exception(Exception),
-    // Defined by the architecture, and not done here.
+    /// A defined encoding that this core does not implement, so that a gap never passes for guest behaviour.
     Unimplemented,
 }

@@ -1,8 +1,8 @@
 #![tactic(auto)]
-// Exception entry: the syndrome of a synchronous exception, its routing, and the state that it leaves.
+// Exceptions: what stops an operation, what a synchronous exception reports, where it goes, and how it is taken.
+pub mod enter;
 pub mod flags;
 pub mod kind;
-pub mod report;
 pub mod route;
-pub mod take;
+pub mod syndrome;
 pub mod theorems;

@@ -1,20 +1,24 @@
 // Where a synchronous exception is taken to, as what, and the address that it returns to.
 ghost use Rattle.std.specs.Prelude.{◌≡◌};
-ghost use Rattle.exception.specs.declared.kind.Exception.TheVariants.{Hvc, Smc};
-ghost use Rattle.exception.specs.Route.{is_secure, default_target, call_target, routed_to};
-ghost use Rattle.exception.specs.Parts.{usually};
+ghost use Rattle.exception.specs.Route.{is_secure, default_target, hvc_undefined, smc_undefined, smc_trapped};
+ghost use Rattle.exception.specs.Route.{routed_to};
 
 use crate::kind::Exception;
 use sysreg::regs::El;
 
-#[derive(Clone, Copy)]
-pub struct Routed {
-    pub exception: Exception,
-    pub target: El,
-    pub ret: u64,
-}
+/// `SCR_EL3` bits that routing consults.
+pub const SCR_NS: u64 = 1 << 0;
 
-// What routing reads.
+pub const SCR_SMD: u64 = 1 << 7;
+
+pub const SCR_HCE: u64 = 1 << 8;
+
+/// `HCR_EL2` bits that routing consults.
+pub const HCR_TSC: u64 = 1 << 19;
+
+pub const HCR_TGE: u64 = 1 << 27;
+
+/// Where an exception was raised: what routing reads.
 #[derive(Clone, Copy)]
 pub struct Origin {
     pub level: u8,
@@ -23,19 +27,27 @@ pub struct Origin {
     pub pc: u64,
 }
 
+/// The exception that is taken, its target level, and the preferred return address.
+#[derive(Clone, Copy)]
+pub struct Routed {
+    pub exception: Exception,
+    pub target: El,
+    pub ret: u64,
+}
+
 impl Origin {
-    // EL3, and every other level while SCR_EL3.NS is clear.
     fn is_secure(self) -> bool
         ensures { result ≡ is_secure self }
     {
-        self.level == 3 || self.scr_el3 % 2 == 0
+        self.level == 3 || self.scr_el3 & SCR_NS == 0
     }
 
-    // Where most exceptions go: to the level itself, and EL1 for EL0. HCR_EL2.TGE takes those of Non-secure EL0 to EL2.
+    // The level itself, EL1 for EL0; HCR_EL2.TGE takes the exceptions of Non-secure EL0 to EL2.
+    #[tactic(auto, using(crate::proofs::Words::control_bits))]
     fn default_target(self) -> El
         ensures { result ≡ default_target self }
     {
-        let tge = (self.hcr_el2 >> 27) % 2 == 1;
+        let tge = self.hcr_el2 & HCR_TGE != 0;
         match self.level {
             0 if tge && !self.is_secure() => El::El2,
             2 => El::El2,
@@ -44,75 +56,54 @@ impl Origin {
         }
     }
 
-    // An exception on the usual way, back to an address.
-    fn usual(self, exception: Exception, ret: u64) -> Routed
-        ensures { result ≡ usually self exception ret }
+    // HVC is UNDEFINED without SCR_EL3.HCE, and at Secure EL1.
+    #[tactic(auto, using(crate::proofs::Words::control_bits))]
+    fn hvc_undefined(self) -> bool
+        ensures { result ≡ hvc_undefined self }
     {
+        self.scr_el3 & SCR_HCE == 0 || (self.level == 1 && self.is_secure())
+    }
+
+    #[tactic(auto, using(crate::proofs::Words::control_bits))]
+    fn smc_undefined(self) -> bool
+        ensures { result ≡ smc_undefined self }
+    {
+        self.scr_el3 & SCR_SMD != 0
+    }
+
+    // HCR_EL2.TSC traps SMC of Non-secure EL1.
+    #[tactic(auto, using(crate::proofs::Words::control_bits))]
+    fn smc_trapped(self) -> bool
+        ensures { result ≡ smc_trapped self }
+    {
+        self.level == 1 && !self.is_secure() && self.hcr_el2 & HCR_TSC != 0
+    }
+
+    /// Routes a synchronous exception (DDI 0487, D1.10.3). HVC and SMC are UNDEFINED where `SCR_EL3` disables them; a
+    /// call returns past itself, the others to their instruction.
+    #[inline(always)]
+    #[tactic(auto, unfolding(crate::specs::Route::routed_to))]
+    pub fn route(self, e: Exception) -> Routed
+        ensures { result ≡ routed_to self e }
+    {
+        let pc = self.pc;
+        let next = pc.wrapping_add(4);
+        let default = self.default_target();
+        let undefined = (Exception::Undefined, default, pc);
+        let (exception, target, ret) = match e {
+            Exception::Svc(_) => (e, default, next),
+            Exception::Hvc(_) if self.hvc_undefined() => undefined,
+            Exception::Hvc(_) if self.level == 3 => (e, El::El3, next),
+            Exception::Hvc(_) => (e, El::El2, next),
+            Exception::Smc(_) if self.smc_undefined() => undefined,
+            Exception::Smc(_) if self.smc_trapped() => (e, El::El2, pc),
+            Exception::Smc(_) => (e, El::El3, next),
+            _ => (e, default, pc),
+        };
         Routed {
             exception,
-            target: self.default_target(),
+            target,
             ret,
         }
-    }
-}
-
-// To EL2, and at EL3 to itself.
-fn hypervisor_target(level: u8) -> El
-    ensures { result ≡ call_target level }
-{
-    if level == 3 { El::El3 } else { El::El2 }
-}
-
-// UNDEFINED where SCR_EL3.HCE is clear, and at Secure EL1.
-#[tactic(auto, unfolding(crate::specs::Route::routed_to))]
-fn route_hvc(o: Origin, imm: u16) -> Routed
-    ensures { result ≡ routed_to o (Hvc imm) }
-{
-    let hce = (o.scr_el3 >> 8) % 2 == 1;
-    if !hce || (o.level == 1 && o.is_secure()) {
-        return o.usual(Exception::Undefined, o.pc);
-    }
-    Routed {
-        exception: Exception::Hvc(imm),
-        target: hypervisor_target(o.level),
-        ret: o.pc.wrapping_add(4),
-    }
-}
-
-// UNDEFINED where SCR_EL3.SMD is set; else HCR_EL2.TSC traps it at Non-secure EL1.
-#[tactic(auto, unfolding(crate::specs::Route::routed_to))]
-fn route_smc(o: Origin, imm: u16) -> Routed
-    ensures { result ≡ routed_to o (Smc imm) }
-{
-    let smd = (o.scr_el3 >> 7) % 2 == 1;
-    if smd {
-        return o.usual(Exception::Undefined, o.pc);
-    }
-    let tsc = (o.hcr_el2 >> 19) % 2 == 1;
-    if o.level == 1 && !o.is_secure() && tsc {
-        return Routed {
-            exception: Exception::Smc(imm),
-            target: El::El2,
-            ret: o.pc,
-        };
-    }
-    Routed {
-        exception: Exception::Smc(imm),
-        target: El::El3,
-        ret: o.pc.wrapping_add(4),
-    }
-}
-
-// An exception is taken as it is, or as UNDEFINED. A call returns past itself, the others to their instruction.
-#[inline(always)]
-#[tactic(auto, unfolding(crate::specs::Route::routed_to))]
-pub fn route(o: Origin, e: Exception) -> Routed
-    ensures { result ≡ routed_to o e }
-{
-    match e {
-        Exception::Hvc(imm) => route_hvc(o, imm),
-        Exception::Smc(imm) => route_smc(o, imm),
-        Exception::Svc(_) => o.usual(e, o.pc.wrapping_add(4)),
-        _ => o.usual(e, o.pc),
     }
 }

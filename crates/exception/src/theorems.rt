@@ -1,20 +1,18 @@
 // What holds of every exception entry. Each function computes nothing: its contract is the theorem.
-ghost use Rattle.std.specs.Prelude.{◌≡◌, ℕ, ◌+◌, ◌%◌, ◌^◌, ◌<◌, ◌≤◌, Bool, true, false};
+ghost use Rattle.std.specs.Prelude.{◌≡◌, ℕ, ◌+◌, ◌%◌, ◌^◌, ◌<◌, ◌≤◌, Bool, true, false, Some};
 ghost use Rattle.word.specs.Bits.{flag, wrap};
 ghost use Rattle.word.specs.Places.{bit};
 ghost use Rattle.sysreg.specs.Regs.{sys_at};
 ghost use Rattle.sysreg.specs.declared.regs.SysReg.{SysReg};
 ghost use Rattle.sysreg.specs.declared.regs.SysRegs.{SysRegs};
 ghost use Rattle.fault.specs.First.{first};
-ghost use Rattle.exception.specs.Pstate.{daif_all, fresh_flags, psr, OwnBits, spsr_of};
+ghost use Rattle.exception.specs.Pstate.{daif_all, flags, fresh_flags, psr, OwnBits, spsr_of};
 ghost use Rattle.exception.specs.Abort.{data_abort_at};
 ghost use Rattle.exception.specs.Syndrome.{esr_of, data_status, syndrome_of};
 ghost use Rattle.exception.specs.Route.{ns, smd, hce, tsc, tge};
-ghost use Rattle.exception.specs.Entry.{entry_flags, vect_offset, register_after, of_entry, take_sync};
-ghost use Rattle.exception.specs.Flags.{flags};
+ghost use Rattle.exception.specs.Entry.{entry_flags, vect_offset, register_after, of_entry, take_sync, EachEntry};
 ghost use Rattle.exception.specs.Cases.{WorkedEntries, WorkedDepartures, WorkedInterrupts};
 ghost use Rattle.exception.specs.Tables.{Targets, Reports, Vectors, Masked, Saved};
-ghost use Rattle.exception.specs.EntryLaws.{EachEntry};
 ghost use Rattle.exception.specs.declared.kind.Exception.{Exception};
 ghost use Rattle.exception.specs.declared.flags.Flags.{Flags};
 ghost use Rattle.exception.specs.declared.route.Origin.{Origin};
@@ -23,9 +21,9 @@ ghost use Rattle.exception.specs.declared.route.Origin.{Origin};
 // as the entry has them, every other register as it was, and never down. It rules out an entry that writes the
 // registers of the level that it comes from.
 pub fn effect_of_entry()
-    ensures each_register { EachEntry (λ target report spsr ret before after. (q : SysReg)
-        → sys_at after q ≡ register_after target report spsr ret q (sys_at before q)) }
-    ensures other_registers { EachEntry (λ target report spsr ret before after. (q : SysReg)
+    ensures each_register { EachEntry (λ target esr far spsr ret before after. (q : SysReg)
+        → sys_at after q ≡ register_after target (Some esr) far spsr ret q (sys_at before q)) }
+    ensures other_registers { EachEntry (λ target esr far spsr ret before after. (q : SysReg)
         → of_entry target q ≡ false → sys_at after q ≡ sys_at before q) }
     ensures target_level { (level pc scr hcr : ℕ) (f : Flags) (s : SysRegs) (e : Exception)
         → (1 ≤ (take_sync level f pc scr hcr s e).level) × ((take_sync level f pc scr hcr s e).level ≤ 3) }
@@ -62,7 +60,7 @@ pub fn places_in_reports()
 // SPSR after each. It rules out an SVC that returns to itself, the vector of the other stack pointer, FAR of another
 // address.
 pub fn worked_entries()
-    ensures case_13 { (syndrome_of (data_abort_at 0x40001234 true (first 0x0D)) 0 1 0x8000).esr ≡ 0x9200004D }
+    ensures case_13 { (syndrome_of (data_abort_at 0x40001234 true (first 0x0D)) 0 1 0x8000).0 ≡ 0x9200004D }
     ensures entries { WorkedEntries }
     ensures departures { WorkedDepartures }
     ensures interrupts { WorkedInterrupts }

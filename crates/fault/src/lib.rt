@@ -3,13 +3,13 @@
 ghost use Rattle.std.specs.Prelude.{◌≡◌};
 ghost use Rattle.fault.specs.First.{first};
 
-// The fault status code is that of DFSC and IFSC.
+/// A fault; `fsc` is its `DFSC` or `IFSC`.
 #[derive(Clone, Copy)]
 pub struct Fault {
     pub fsc: u8,
 }
 
-// A fault of stage 1.
+/// A fault of stage 1.
 pub fn first(fsc: u8) -> Fault
     ensures { result ≡ first fsc }
 {

@@ -4,7 +4,8 @@ use Rattle.word.specs.Bits.{align_down}
 use Rattle.word.specs.Ram.{width_of}
 use Rattle.sysreg.specs.Encoding.{register_at}
 use Rattle.sysreg.specs.Write.{names}
-use Rattle.operations.specs.declared.{call.Encoding.Encoding, call.Call.Call, check.Check.Check}
+use Rattle.system.specs.declared.decode.Encoding.{Encoding}
+use Rattle.operations.specs.declared.{call.Call.Call, check.Check.Check}
 use Rattle.operations.specs.declared.call.Call.TheVariants.{Translate, DataPa, FetchPa, Load, Store, Fetch, System, Register, Level, Mark, General}
 use Rattle.operations.specs.declared.call.Call.TheVariants.{Abort, Census}
 use Rattle.word.specs.declared.ram.Width.{Width}

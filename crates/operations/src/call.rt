@@ -1,17 +1,8 @@
 // Calls and replies.
 use exception::kind::{Exception, Stop};
 use fault::Fault;
+use system::decode::Encoding;
 use tlb::access::Kind;
-
-// SYS op1, CRn, CRm, op2 with a general register.
-#[derive(Clone, Copy)]
-pub struct Encoding {
-    pub op1: u64,
-    pub crn: u64,
-    pub crm: u64,
-    pub op2: u64,
-    pub rt: u64,
-}
 
 #[derive(Clone, Copy)]
 pub enum Call {

@@ -6,8 +6,9 @@ ghost use Rattle.operations.specs.Check.{passes, overlong, kept, ram_rows, sized
 ghost use Rattle.operations.specs.Check.{number_of, number_missed};
 ghost use Rattle.operations.specs.declared.call.Call.TheVariants as Call;
 
-use crate::call::{Call, Encoding};
+use crate::call::Call;
 use sysreg::encoding;
+use system::decode::Encoding;
 use word::ram::Width;
 
 // The checks, in the order of their numbers, which begin at 1.

@@ -12,7 +12,7 @@ use Rattle.operations.specs.Check.{number_of, first_of, passes, ram_rows, sized_
 use Rattle.operations.specs.declared.{call.Call.Call, check.Check.Check}
 use Rattle.operations.specs.declared.call.Reply.TheVariants.{Refused}
 use Rattle.cpu.specs.System.{sys_of, sys_ram}
-use Rattle.operations.specs.declared.call.Encoding.{Encoding}
+use Rattle.system.specs.declared.decode.Encoding.{Encoding}
 use Rattle.operations.specs.declared.call.Call.TheVariants.{Translate, DataPa, FetchPa, Load, Store, Fetch, System}
 use Rattle.cpu.specs.Step.{Stepped, after_load, after_store, load_by, store_by, store_ram_by}
 use Rattle.cpu.specs.Step.{ends, missed_by, run_of, ram_of, step_of, ram_after}

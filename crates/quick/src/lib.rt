@@ -7,5 +7,5 @@ pub mod load;
 pub mod settings;
 mod split;
 pub mod store;
-pub mod system;
+pub mod sys;
 pub mod translation;

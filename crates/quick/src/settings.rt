@@ -74,6 +74,6 @@ pub fn abort(core: &mut Core, e: Exception) -> u64
     if 3 < core.privilege.level {
         return 1;
     }
-    registers::abort(core, e);
+    registers::take_sync(core, e);
     0
 }

@@ -1,6 +1,7 @@
 // Names of kinds of operation, of answers, and of classes of difference (outside/README.md).
-use operations::call::{Call, Encoding};
+use operations::call::Call;
 use std::fmt;
+use system::decode::Encoding;
 use tlb::access::Kind as Access;
 use trace_text::line;
 use trace_text::line::Operation;

@@ -1,7 +1,7 @@
 // Leaves: functions of the registers as they stand, which change nothing.
 use cpu::Core;
+use exception::enter;
 use exception::kind::Exception;
-use exception::{report, take};
 use sysreg::encoding;
 use sysreg::regs::{ControlReg, El, Register, SysReg};
 use trace_text::line;
@@ -94,15 +94,14 @@ fn bank(key: u32) -> [u64; 4] {
 // The group depends on whether the two levels are one.
 fn vector(from: u64, to: u64, spsel: bool) -> [u64; 4] {
     let below = if from == to { 1 } else { 0 };
-    value(take::vector_group(below, 1, spsel))
+    value(enter::vector_group(below, 1, spsel))
 }
 
 fn syndrome(from: u64, to: u64, pc: u64, e: Exception) -> [u64; 4] {
     let below = if from < to { 0 } else { 1 };
-    let r = report::syndrome(e, below, 1, pc);
-    match r.far {
-        Some(far) => pair(r.esr, far),
-        None => value(r.esr),
+    match e.syndrome(below, 1, pc) {
+        (esr, Some(far)) => pair(esr, far),
+        (esr, None) => value(esr),
     }
 }
 

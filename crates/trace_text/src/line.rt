@@ -1,6 +1,7 @@
 // The lines of a trace.
 use exception::kind::Exception;
-use operations::call::{Call, Encoding};
+use operations::call::Call;
+use system::decode::Encoding;
 use walk::regime::Regime;
 
 #[derive(Clone, Copy)]

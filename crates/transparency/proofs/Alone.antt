@@ -6,11 +6,12 @@ use Rattle.word.specs.Ram.{width_of}
 use Rattle.tlb.specs.Asks.{Ask, translates, Given, kind_of, address_of, onward, onward-same}
 use Rattle.tlb.specs.declared.access.Kind.TheVariants as Kind
 use Rattle.tlb.specs.declared.Tlb.{Tlb}
-use Rattle.sysop.specs.declared.op.SysOp.{SysOp}
-use Rattle.sysop.specs.declared.op.SysOp.TheVariants as Op
+use Rattle.system.specs.declared.decode.SysOp.{SysOp}
+use Rattle.system.specs.declared.decode.SysOp.TheVariants as Op
 use Rattle.cpu.specs.Bare.{Bare, bare_of}
 use Rattle.cpu.specs.declared.Core.{Core}
-use Rattle.operations.specs.declared.{call.Encoding.Encoding, call.Call.Call}
+use Rattle.system.specs.declared.decode.Encoding.{Encoding}
+use Rattle.operations.specs.declared.call.Call.{Call}
 use Rattle.operations.specs.Answers.{StoreAnswer}
 use Rattle.cpu.specs.System.{zero_of, zero_ram}
 use Rattle.operations.specs.Replies.{storing}

@@ -9,8 +9,8 @@ use Rattle.tlb.specs.declared.access.Kind.TheVariants as Kind
 use Rattle.tlb.specs.declared.Tlb.{Tlb}
 use Rattle.tlb.specs.Answers.{Answer}
 use Rattle.operations.specs.Answers.{Placed, Verdict, Got, StoreAnswer}
-use Rattle.sysop.specs.declared.op.SysOp.{SysOp}
-use Rattle.sysop.specs.declared.op.SysOp.TheVariants as Op
+use Rattle.system.specs.declared.decode.SysOp.{SysOp}
+use Rattle.system.specs.declared.decode.SysOp.TheVariants as Op
 use Rattle.cpu.specs.Bare.{Bare, bare_of}
 use Rattle.cpu.specs.Core.{reg_of}
 use Rattle.operations.specs.Place.{in_page, crosses, verdict_of}
@@ -20,7 +20,8 @@ use Rattle.cpu.specs.Translations.{translate_in, translate_fetch_in}
 use Rattle.cpu.specs.Memory.{stepped_now, fetch_stepped_now, translate_of, read_of, write_of, ram_after_write, fetch_of, fetch_pa_of, data_pa_of}
 use Rattle.cpu.specs.OpLaws.{placed_by}
 use Rattle.cpu.specs.declared.Core.{Core}
-use Rattle.operations.specs.declared.{call.Encoding.Encoding, call.Call.Call}
+use Rattle.system.specs.declared.decode.Encoding.{Encoding}
+use Rattle.operations.specs.declared.call.Call.{Call}
 use Rattle.cpu.specs.Registers.{registered, after_register_write}
 use Rattle.cpu.specs.System.{on_stored, done_with, zero_of, zero_ram, sys_by, sys_ram_by, sys_of, sys_ram}
 use Rattle.operations.specs.Replies.{loading, storing, fetching}

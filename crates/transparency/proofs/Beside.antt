@@ -1,8 +1,8 @@
 -- Beside faithfulness: the two cores agree, AT is a fresh walk, and a refused call changes nothing in either.
 use Rattle.std.specs.Prelude.{◌≡◌, refl, List, ℕ, zero, suc, Ok, Err}
 use Rattle.std.proofs.Common.{ap, subst, ◌∙◌}
-use Rattle.sysop.specs.declared.{op.SysOp.SysOp}
-use Rattle.sysop.specs.declared.op.SysOp.TheVariants as Op
+use Rattle.system.specs.declared.{decode.SysOp.SysOp}
+use Rattle.system.specs.declared.decode.SysOp.TheVariants as Op
 use Rattle.cpu.specs.Bare.{Bare, fresh_bare, with_par, bare_of}
 use Rattle.cpu.specs.Core.{fresh_core, reg_of}
 use Rattle.cpu.specs.declared.Core.{Core}

@@ -5,14 +5,15 @@ use mathlib.Core.List.{List, [], ◌∷◌}
 use Rattle.word.specs.Bits.{align_down, wrap}
 use Rattle.word.specs.Ram.{width_of, bytes_in}
 use Rattle.tlb.specs.declared.access.Kind.{Kind}
-use Rattle.sysop.specs.declared.op.SysOp.{SysOp}
-use Rattle.sysop.specs.declared.op.SysOp.TheVariants as Op
+use Rattle.system.specs.declared.decode.SysOp.{SysOp}
+use Rattle.system.specs.declared.decode.SysOp.TheVariants as Op
 use Rattle.cpu.specs.Bare.{Bare, with_privilege, bare_of, with_regs}
 use Rattle.cpu.specs.Core.{reg_of, set_reg, after_access}
 use Rattle.cpu.specs.Memory.{write_of}
 use Rattle.cpu.specs.OpLaws as Laws
 use Rattle.cpu.specs.declared.Core.{Core}
-use Rattle.operations.specs.declared.{call.Encoding.Encoding, call.Call.Call}
+use Rattle.system.specs.declared.decode.Encoding.{Encoding}
+use Rattle.operations.specs.declared.call.Call.{Call}
 use Rattle.operations.specs.Answers.{StoreAnswer}
 use Rattle.cpu.specs.Fit.{refit_of}
 use Rattle.cpu.specs.Registers.{with_regs as coreRegs, applied_of, registered, after_register_write, with_privilege as coreWho, set_level, set_mark, abort_of}

@@ -14,9 +14,10 @@ use Rattle.tlb.specs.Live.{counters_of, pending_of, live}
 use Rattle.tlb.proofs.Levels.{counters-tell}
 use Rattle.tlb.specs.Asks.{Ask, translates, fetches, onward-same}
 use Rattle.tlb.specs.declared.{access.Kind.Kind, Inval.Inval, Tlb.Tlb}
-use Rattle.sysop.specs.declared.op.SysOp.TheVariants as Op
+use Rattle.system.specs.declared.decode.SysOp.TheVariants as Op
 use Rattle.cpu.specs.Bare.{Bare}
-use Rattle.operations.specs.declared.{call.Encoding.Encoding, call.Call.Call}
+use Rattle.system.specs.declared.decode.Encoding.{Encoding}
+use Rattle.operations.specs.declared.call.Call.{Call}
 use Rattle.operations.specs.declared.call.Call.TheVariants.{Translate, DataPa, FetchPa, Fetch, System, Register}
 use Rattle.history.specs.World.{access_of}
 use Rattle.history.specs.History.{carries, writes, Event, steps}

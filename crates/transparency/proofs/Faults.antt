@@ -24,8 +24,8 @@ use Rattle.operations.specs.Ends.{reached_by, loaded_from, load_end, store_end_b
 use Rattle.operations.specs.declared.{place.Pages.Pages, place.Place.Place}
 use Rattle.operations.specs.declared.call.Call.{Call}
 use Rattle.operations.specs.declared.place.Place.TheVariants.{Whole, Split}
-use Rattle.sysop.specs.declared.op.SysOp.{SysOp}
-use Rattle.sysop.specs.declared.op.SysOp.TheVariants as Op
+use Rattle.system.specs.declared.decode.SysOp.{SysOp}
+use Rattle.system.specs.declared.decode.SysOp.TheVariants as Op
 use Rattle.operations.specs.Replies.{translation, loading, storing, fetching, reaching}
 use Rattle.operations.specs.declared.call.Call.TheVariants.{Translate, DataPa, FetchPa, Load, Store, Fetch, System}
 use Rattle.history.specs.World.{Plain, on_now}

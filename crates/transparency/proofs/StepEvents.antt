@@ -2,14 +2,15 @@
 -- and leaves.
 use Rattle.std.specs.Prelude.{◌≡◌, refl, Bool, true, false, List, [], ◌∷◌, ◌++◌, ℕ, leb, Option, None}
 use Rattle.std.proofs.Common.{sym, ap, ap₂, subst, ◌∙◌, arith, append_assoc}
-use Rattle.sysop.specs.declared.op.SysOp.{SysOp}
-use Rattle.sysop.specs.declared.op.SysOp.TheVariants as Op
+use Rattle.system.specs.declared.decode.SysOp.{SysOp}
+use Rattle.system.specs.declared.decode.SysOp.TheVariants as Op
 use Rattle.tlb.specs.Asks.{Ask}
 use Rattle.tlb.specs.Tlb.{fresh}
 use Rattle.tlb.specs.declared.{access.Privilege.Privilege, Inval.Inval}
 use Rattle.cpu.specs.Bare.{Bare, bare_of, core_from}
 use Rattle.cpu.specs.declared.Core.{Core}
-use Rattle.operations.specs.declared.{call.Call.Call, call.Encoding.Encoding}
+use Rattle.system.specs.declared.decode.Encoding.{Encoding}
+use Rattle.operations.specs.declared.{call.Call.Call}
 use Rattle.operations.specs.declared.call.Call.TheVariants.{Load, Store, System, Register, Level, Mark, General}
 use Rattle.operations.specs.declared.call.Call.TheVariants.{Abort, Census}
 use Rattle.history.specs.World.{Plain}

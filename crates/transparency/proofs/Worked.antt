@@ -36,8 +36,8 @@ use Rattle.cpu.specs.Bare.{fresh_bare}
 use Rattle.cpu.specs.Core.{zeros, fresh_core, reg_of, set_reg, after_access}
 use Rattle.cpu.specs.Translations.{translate_in, translate_fetch_in}
 use Rattle.cpu.specs.Memory.{stepped_now, translate_of, fetch_stepped_now, fetch_pa_of}
-use Rattle.sysop.specs.Op.{named, decode_of}
-use Rattle.sysop.specs.Tlbi.{scope_of, what_of, tlbi_of}
+use Rattle.system.specs.Decode.{named, decode_of}
+use Rattle.system.specs.Tlbi.{scope_of, what_of, tlbi_of}
 use Rattle.cpu.specs.Fit.{refit_of}
 use Rattle.cpu.specs.Registers.{with_regs, applied_of, after_register_write, set_level, set_mark}
 use Rattle.cpu.specs.System.{tlbi_core, sys_of}

@@ -1,18 +1,19 @@
 -- The core without a cache of docs/SCOPE.md, as a machine of its own: fed each step's call and RAM, and no answers.
 use Rattle.std.specs.Prelude.{ℕ, length, Ok, Err}
 use Rattle.sysreg.specs.Write.{write_reg, WriteAnswer, Written}
-use Rattle.exception.specs.Entry.{take_sync}
-use Rattle.exception.specs.declared.{kind.Exception.Exception, take.Entered.Entered}
+use Rattle.exception.specs.Entry.{Entered, take_sync}
+use Rattle.exception.specs.declared.kind.Exception.{Exception}
 use Rattle.exception.specs.declared.kind.Stop.TheVariants as Stop
-use Rattle.sysop.specs.Op.{decode_of}
-use Rattle.sysop.specs.Par.{at_par}
-use Rattle.sysop.specs.declared.{op.AtForm.AtForm, op.SysOp.SysOp}
-use Rattle.sysop.specs.declared.op.SysOp.TheVariants as Op
+use Rattle.system.specs.Decode.{decode_of}
+use Rattle.system.specs.Par.{at_par}
+use Rattle.system.specs.declared.{decode.AtForm.AtForm, decode.SysOp.SysOp}
+use Rattle.system.specs.declared.decode.SysOp.TheVariants as Op
 use Rattle.cpu.specs.Bare.{Bare, reg_in, with_privilege, with_general, with_regs, with_par, with_entered}
 use Rattle.cpu.specs.System.{mair_of}
 use Rattle.operations.specs.Check.{missed_of}
 use Rattle.cpu.specs.Step.{refused_or}
-use Rattle.operations.specs.declared.{call.Encoding.Encoding, call.Call.Call, call.Reply.Reply}
+use Rattle.system.specs.declared.decode.Encoding.{Encoding}
+use Rattle.operations.specs.declared.{call.Call.Call, call.Reply.Reply}
 use Rattle.operations.specs.declared.call.Call.TheVariants.{System, Register, Level, Mark, General}
 use Rattle.operations.specs.declared.call.Call.TheVariants.{Abort}
 use Rattle.operations.specs.declared.call.Reply.TheVariants.{Refused, Done, Stopped}

@@ -1,13 +1,14 @@
 -- Beside faithfulness: the two cores agree, AT is a fresh walk, and a refused call changes nothing in either.
 use Rattle.std.specs.Prelude.{◌≡◌, Bool, List, ℕ}
-use Rattle.sysop.specs.declared.{op.AtForm.AtForm}
-use Rattle.sysop.specs.declared.op.SysOp.TheVariants as Op
+use Rattle.system.specs.declared.{decode.AtForm.AtForm}
+use Rattle.system.specs.declared.decode.SysOp.TheVariants as Op
 use Rattle.exception.specs.declared.kind.Exception.{Exception}
 use Rattle.cpu.specs.Bare.{Bare, fresh_bare, bare_of}
 use Rattle.cpu.specs.Core.{fresh_core}
 use Rattle.cpu.specs.declared.Core.{Core}
 use Rattle.cpu.specs.Step.{ends, step_of, ram_after}
-use Rattle.operations.specs.declared.{call.Encoding.Encoding, call.Call.Call}
+use Rattle.system.specs.declared.decode.Encoding.{Encoding}
+use Rattle.operations.specs.declared.call.Call.{Call}
 use Rattle.operations.specs.declared.call.Call.TheVariants.{System, Register, Level, Mark, General}
 use Rattle.operations.specs.declared.call.Call.TheVariants.{Abort}
 use Rattle.history.specs.Calls.{Lent, Fed, run, bare_run, Shown}

@@ -12,7 +12,7 @@ use Rattle.operations.specs.Bytes.{byte_in}
 use Rattle.cpu.specs.Memory.{translate_of, read_of, write_of, ram_after_write}
 use Rattle.cpu.specs.OwnAddress.{own_answer}
 use Rattle.cpu.specs.ByteMeaning.{OwnByte}
-use Rattle.sysop.specs.declared.op.SysOp.TheVariants as Op
+use Rattle.system.specs.declared.decode.SysOp.TheVariants as Op
 use Rattle.cpu.specs.System.{op_of, sys_of, sys_ram}
 use Rattle.cpu.specs.ZeroMeaning.{Zeroed}
 use Rattle.history.specs.World as World

@@ -11,8 +11,9 @@ use Rattle.tlb.specs.Asks.{Ask, translates, fetches}
 use Rattle.tlb.specs.declared.{Inval.Inval, Tlb.Tlb}
 use Rattle.tlb.specs.declared.access.Kind.{Kind}
 use Rattle.tlb.specs.declared.Inval.TheVariants.{All, Page, Asid}
-use Rattle.sysop.specs.declared.op.SysOp.TheVariants as Op
-use Rattle.operations.specs.declared.{call.Encoding.Encoding, call.Call.Call}
+use Rattle.system.specs.declared.decode.SysOp.TheVariants as Op
+use Rattle.system.specs.declared.decode.Encoding.{Encoding}
+use Rattle.operations.specs.declared.{call.Call.Call}
 use Rattle.operations.specs.declared.call.Call.TheVariants.{Translate, DataPa, FetchPa, Fetch, System, Register}
 use Rattle.history.specs.World.{access_of}
 use Rattle.history.specs.ModelRun.{model_flushed, model_retagged}

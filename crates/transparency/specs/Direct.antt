@@ -14,8 +14,8 @@ use Rattle.operations.specs.Place.{next_page, crosses, placed_one, placed_both}
 use Rattle.operations.specs.Ends.{reached_by, load_end, store_end, store_ram_end, fetch_end}
 use Rattle.cpu.specs.Memory.{located_now}
 use Rattle.cpu.specs.declared.Core.{Core}
-use Rattle.operations.specs.declared.call.Encoding.{Encoding}
-use Rattle.sysop.specs.declared.op.SysOp.TheVariants as Op
+use Rattle.system.specs.declared.decode.Encoding.{Encoding}
+use Rattle.system.specs.declared.decode.SysOp.TheVariants as Op
 use Rattle.operations.specs.Replies.{translation, reaching, loading, storing, fetching}
 use Rattle.cpu.specs.Step.{step_of, ram_after}
 use Rattle.operations.specs.declared.call.Call.TheVariants.{Translate, DataPa, FetchPa, Load, Store, Fetch, System}

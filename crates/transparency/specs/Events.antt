@@ -10,13 +10,14 @@ use Rattle.std.proofs.Common.{leb-true}
 use Rattle.word.specs.Bits.{align_down, wrap}
 use Rattle.tlb.specs.Asks.{Ask}
 use Rattle.tlb.specs.declared.{access.Kind.Kind, access.Privilege.Privilege, Inval.Inval}
-use Rattle.exception.specs.EntryLaws.{take_level}
+use Rattle.exception.proofs.EntryLaws.{take_level}
 use Rattle.exception.specs.declared.kind.Exception.{Exception}
-use Rattle.sysop.specs.Tlbi.{tlbi_of, reaches_others}
-use Rattle.sysop.specs.declared.op.SysOp.{SysOp}
-use Rattle.sysop.specs.declared.op.SysOp.TheVariants as Op
+use Rattle.system.specs.Tlbi.{tlbi_of, reaches_others}
+use Rattle.system.specs.declared.decode.SysOp.{SysOp}
+use Rattle.system.specs.declared.decode.SysOp.TheVariants as Op
 use Rattle.cpu.specs.Bare.{Bare}
-use Rattle.operations.specs.declared.{call.Encoding.Encoding, call.Call.Call}
+use Rattle.system.specs.declared.decode.Encoding.{Encoding}
+use Rattle.operations.specs.declared.{call.Call.Call}
 use Rattle.operations.specs.declared.call.Call.TheVariants.{System, Register, Level, Mark}
 use Rattle.operations.specs.declared.call.Call.TheVariants.{Abort}
 use Rattle.history.specs.World.{Plain}

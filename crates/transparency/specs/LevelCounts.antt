@@ -9,8 +9,8 @@ use Rattle.tlb.specs.Live.{counters_of}
 use Rattle.tlb.specs.Lists.{Each}
 use Rattle.tlb.specs.Model.{Model, Access, empty_model, fetch}
 use Rattle.tlb.specs.declared.Tlb.{Tlb}
-use Rattle.sysop.specs.declared.op.SysOp.{SysOp}
-use Rattle.sysop.specs.declared.op.SysOp.TheVariants as Op
+use Rattle.system.specs.declared.decode.SysOp.{SysOp}
+use Rattle.system.specs.declared.decode.SysOp.TheVariants as Op
 use Rattle.cpu.specs.Bare.{Bare, fresh_bare}
 use Rattle.operations.specs.declared.{call.Call.Call}
 use Rattle.operations.specs.declared.call.Call.TheVariants.{Translate, DataPa, FetchPa, Load, Store, Fetch, System}

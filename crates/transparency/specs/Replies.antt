@@ -5,8 +5,8 @@ use Rattle.word.specs.Bits.{align_down, wrap}
 use Rattle.word.specs.Ram.{width_of, bytes_in}
 use Rattle.tlb.specs.Asks.{Ask, Given, kind_of, address_of, onward}
 use Rattle.tlb.specs.declared.access.Kind.TheVariants as Kind
-use Rattle.sysop.specs.declared.op.SysOp.{SysOp}
-use Rattle.sysop.specs.declared.op.SysOp.TheVariants as Op
+use Rattle.system.specs.declared.decode.SysOp.{SysOp}
+use Rattle.system.specs.declared.decode.SysOp.TheVariants as Op
 use Rattle.tlb.specs.Lists.{Each}
 use Rattle.cpu.specs.Bare.{Bare, fresh_bare}
 use Rattle.cpu.specs.Core.{fresh_core}

@@ -4,8 +4,8 @@ use Rattle.std.specs.Prelude.{◌≡◌, List, None, [], ◌∷◌, ℕ, ◌+◌
 use Rattle.word.specs.Bits.{align_down, wrap}
 use Rattle.word.specs.Ram.{width_of}
 use Rattle.tlb.specs.Asks.{Given}
-use Rattle.sysop.specs.declared.op.SysOp.{SysOp}
-use Rattle.sysop.specs.declared.op.SysOp.TheVariants as Op
+use Rattle.system.specs.declared.decode.SysOp.{SysOp}
+use Rattle.system.specs.declared.decode.SysOp.TheVariants as Op
 use Rattle.cpu.specs.Bare.{Bare, bare_of}
 use Rattle.cpu.specs.declared.Core.{Core}
 use Rattle.cpu.specs.Asks.{first_of}

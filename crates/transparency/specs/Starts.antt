@@ -5,8 +5,8 @@
 -- is fed so.
 use Rattle.std.specs.Prelude.{List, [], ◌∷◌, ℕ, zero, suc, ◌+◌}
 use Rattle.word.specs.Bits.{align_down, wrap}
-use Rattle.sysop.specs.declared.op.SysOp.{SysOp}
-use Rattle.sysop.specs.declared.op.SysOp.TheVariants as Op
+use Rattle.system.specs.declared.decode.SysOp.{SysOp}
+use Rattle.system.specs.declared.decode.SysOp.TheVariants as Op
 use Rattle.cpu.specs.Bare.{bare_of}
 use Rattle.cpu.specs.Memory.{write_of, ram_after_write}
 use Rattle.cpu.specs.declared.Core.{Core}

@@ -2,8 +2,8 @@
 -- is eight steps, one for each of its stores.
 use Rattle.std.specs.Prelude.{List, [], ◌∷◌, ◌++◌, ℕ, zero, suc, ◌+◌, Option, Some, None}
 use Rattle.word.specs.Bits.{align_down, wrap}
-use Rattle.sysop.specs.declared.op.SysOp.{SysOp}
-use Rattle.sysop.specs.declared.op.SysOp.TheVariants as Op
+use Rattle.system.specs.declared.decode.SysOp.{SysOp}
+use Rattle.system.specs.declared.decode.SysOp.TheVariants as Op
 use Rattle.cpu.specs.Bare.{Bare, bare_of}
 use Rattle.cpu.specs.declared.Core.{Core}
 use Rattle.operations.specs.declared.{call.Call.Call, call.Reply.Reply}

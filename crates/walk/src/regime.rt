@@ -44,7 +44,7 @@ impl Regime {
     }
 
     // The place of the regime's own registers.
-    fn index(self) -> usize
+    pub fn index(self) -> usize
         ensures value { result ≡ elLevel (level_of self) }
         ensures upper_bound { result < 4 }
     {

@@ -6,8 +6,8 @@ use Rattle.walk.specs.Table.{range_of, params_of, table_next, leaf_permissions, 
 use Rattle.walk.specs.Table.{table_walk}
 use Rattle.walk.specs.Fresh.{fresh_of}
 use Rattle.walk.specs.Walk.{walk_of}
-use Rattle.sysop.specs.Op.{named, decode_of}
-use Rattle.sysop.specs.Par.{success, abort, leaf_par, par_in, at_par}
+use Rattle.system.specs.Decode.{named, decode_of}
+use Rattle.system.specs.Par.{success, abort, leaf_par, par_in, at_par}
 use Rattle.cpu.specs.Core.{reg_of}
 use Rattle.cpu.specs.System.{with_par, at_of, sys_of}
 use Rattle.cpu.proofs.theorems.attributes_of_translations.Goals as goal

@@ -2,8 +2,8 @@ use Rattle.std.specs.Prelude.{refl}
 use Rattle.tlb.specs.Cache.{flushed, without_page, without_asid}
 use Rattle.tlb.specs.Tlb.{flush_of, drop_page_of, drop_asid_of, invalidate_of, broadcast_of}
 use Rattle.tlb.specs.Maintenance.{invalidated_of}
-use Rattle.sysop.specs.Op.{named, decode_of}
-use Rattle.sysop.specs.Tlbi.{scope_of, what_of, tlbi_of}
+use Rattle.system.specs.Decode.{named, decode_of}
+use Rattle.system.specs.Tlbi.{scope_of, what_of, tlbi_of}
 use Rattle.cpu.specs.Core.{after_access, reg_of}
 use Rattle.cpu.specs.System.{tlbi_core, sys_of}
 use Rattle.cpu.proofs.theorems.effect_of_invalidations.Goals as goal

@@ -1,4 +1,4 @@
-use Rattle.exception.specs.EntryLaws.{take_at, take-others, take_level, take-up}
+use Rattle.exception.proofs.EntryLaws.{take_at, take-others, take_level, take-up}
 use Rattle.exception.proofs.theorems.effect_of_entry.Goals as goal
 
 pub returns-clause-each_register : goal.returns-clause-each_register

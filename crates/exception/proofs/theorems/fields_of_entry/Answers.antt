@@ -1,4 +1,4 @@
-use Rattle.exception.specs.FieldLaws.{spsr-fields, status-fields, vector-fields}
+use Rattle.exception.proofs.FieldLaws.{spsr-fields, status-fields, vector-fields}
 use Rattle.exception.proofs.theorems.fields_of_entry.Goals as goal
 
 pub returns-clause-spsr : goal.returns-clause-spsr

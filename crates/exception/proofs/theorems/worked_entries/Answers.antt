@@ -2,11 +2,11 @@ use Rattle.std.specs.Prelude.{refl}
 use Rattle.exception.specs.Pstate.{spsr_of}
 use Rattle.exception.specs.Syndrome.{syndrome_of}
 use Rattle.exception.specs.Route.{routed_to}
-use Rattle.exception.specs.Entry.{entered_sys, take_exception, enter_of, take_sync}
+use Rattle.exception.specs.Entry.{entered_sys, enter_of, take_sync}
 use Rattle.exception.proofs.theorems.worked_entries.Goals as goal
 
 pub returns : goal.returns
-unfolding take_sync take_exception entered_sys enter_of syndrome_of routed_to spsr_of
+unfolding take_sync enter_of entered_sys syndrome_of routed_to spsr_of
 returns c =
     record {
       case_13 = refl;

@@ -1,0 +1,10 @@
+-- A store that stops ends the zeroing.
+use Rattle.std.proofs.Common.{rules}
+use Rattle.cpu.proofs.Zeroing.{stops-is, stops-ram}
+use Rattle.cpu.proofs.sys.+zero_from.Goals as goal
+
+pub returns-in_err-write-clause-value : goal.returns-in_err-write-clause-value
+returns-in_err-write-clause-value t c = search (stops-is, rules)
+
+pub returns-in_err-write-clause-ram_after : goal.returns-in_err-write-clause-ram_after
+returns-in_err-write-clause-ram_after t c = search (stops-ram, rules)

@@ -1,8 +1,0 @@
-use Rattle.sysop.specs.TlbiLaws.{page-operand, asid-small}
-use Rattle.sysop.proofs.theorems.operands_of_tlbi.Goals as goal
-
-pub returns-clause-page : goal.returns-clause-page
-returns-clause-page c = page-operand
-
-pub returns-clause-asid : goal.returns-clause-asid
-returns-clause-asid c = asid-small

@@ -1,0 +1,5 @@
+pub mod Words
+pub mod Pars
+pub mod DecodeLaws
+pub mod TlbiLaws
+pub mod ParLaws

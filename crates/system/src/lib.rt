@@ -1,0 +1,6 @@
+#![tactic(auto)]
+// System operations on small values: which one a SYS encoding names, what a TLBI drops, and PAR_EL1 after an AT.
+pub mod decode;
+pub mod par;
+pub mod theorems;
+pub mod tlbi;

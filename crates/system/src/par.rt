@@ -1,0 +1,80 @@
+// PAR_EL1 after an AT. It walks afresh: no cache stands here.
+ghost use Rattle.std.specs.Prelude.{◌≡◌, ◌<◌, ◌≤◌};
+ghost use Rattle.word.specs.Ram.{word_at};
+ghost use Rattle.system.specs.Par.{kind_of, from_non_secure, success, abort, leaf_par, at_par};
+
+use crate::decode::AtForm;
+use sysreg::regs::Control;
+use tlb::access;
+use tlb::access::Kind;
+use walk::fresh;
+use walk::fresh::Fresh;
+use walk::level::Leaf;
+use walk::regime::{Bank, Regime};
+
+// PA<47:12>, and bit 11, which is RES1.
+const PAR_PA: u64 = 0xFFFF_FFFF_F000;
+
+const PAR_RES1: u64 = 1 << 11;
+
+fn kind_of(write: bool) -> Kind
+    ensures { result ≡ kind_of write }
+{
+    if write { Kind::Write } else { Kind::Read }
+}
+
+// SCR_EL3.NS; EL3 is always Secure.
+fn from_non_secure(s: Bank, regime: Regime) -> bool
+    ensures { result ≡ from_non_secure s regime }
+{
+    regime != Regime::El3 && s.scr_el3 & 1 != 0
+}
+
+// A translation: ATTR<63:56>, PA<47:12>, NS<9>, SH<8:7>.
+#[tactic(auto, unfolding(crate::specs::Par::success), using(crate::proofs::Words::success_word))]
+fn success_par(attr: u64, pa: u64, ns: bool, sh: u64) -> u64
+    requires { (attr < 256) × (sh < 4) }
+    ensures { result ≡ success attr pa ns sh }
+{
+    attr << 56 | pa & PAR_PA | PAR_RES1 | (ns as u64) << 9 | sh << 7
+}
+
+// A fault: FST<6:1>, F<0>.
+#[tactic(auto, unfolding(crate::specs::Par::abort), using(crate::proofs::Words::fault_word))]
+fn fault_par(fsc: u8) -> u64
+    ensures { result ≡ abort fsc }
+{
+    1 | (fsc as u64) << 1 | PAR_RES1
+}
+
+// A leaf: its page and attributes, or a permission fault of its level.
+#[tactic(auto, unfolding(crate::specs::Par::leaf_par))]
+fn leaf_par(mair: u64, ns: bool, form: AtForm, leaf: Leaf) -> u64
+    requires { leaf.level ≤ 3 }
+    ensures { result ≡ leaf_par mair ns form leaf }
+{
+    let right = access::right_of(kind_of(form.write), form.user);
+    if leaf.perms >> right & 1 == 0 {
+        return fault_par(12 + leaf.level);
+    }
+    let attr = mair >> (8 * (leaf.desc >> 2 & 7)) & 0xFF;
+    let ns = ns || leaf.desc >> 5 & 1 != 0;
+    success_par(attr, leaf.oa, ns, leaf.desc >> 8 & 3)
+}
+
+/// PAR_EL1 after an AT of the form at `va`, stage 1 alone (DDI 0487, D17.2.113); `mair` is the regime's. It never uses
+/// or fills the cache.
+#[inline(always)]
+#[tactic(auto, unfolding(crate::specs::Par::at_par, crate::specs::Par::par_in), using(crate::proofs::Pars::low_leaf))]
+pub fn at(control: &Control, mair: u64, form: AtForm, va: u64, base: u64, ram: &[u8]) -> u64
+    ensures { result ≡ at_par control.now mair form va (word_at base ram.now 8) }
+{
+    let regime = form.regime;
+    let s = Bank::new(control, regime);
+    let ns = from_non_secure(s, regime);
+    match fresh::fresh_of(s, regime, va, base, ram) {
+        Fresh::Ended(Ok(leaf)) => leaf_par(mair, ns, form, leaf),
+        Fresh::Ended(Err(fsc)) => fault_par(fsc),
+        Fresh::Flat(pa) => success_par(0, pa, ns, 0),
+    }
+}
