@@ -75,7 +75,7 @@ pub fn walk_words(
                 return 2;
             }
             let bank = bank_at(words);
-            match walk::table::walk(bank, regime, va, base, ram) {
+            match bank.walk(regime, va, base, ram) {
                 Ok(leaf) => {
                     put_leaf(out, leaf);
                     0

@@ -3,7 +3,6 @@
 // 25, other registers zero.
 use std::{fmt, io};
 use walk::regime::{Bank, Regime};
-use walk::{table, tag};
 
 // What a row gives: the word at 0x1008, TTBR0_EL1, the window's base, the address, and the permission bit that the
 // access needs. Shown, it is how the translation ends with an empty cache.
@@ -16,18 +15,23 @@ struct Row {
     need: u8,
 }
 
+// SCTLR_EL1.M set, TCR_EL1 and TTBR0_EL1 as given, other registers zero.
+fn registers(tcr: u64, ttbr0: u64) -> Bank {
+    Bank {
+        sctlr: 1,
+        tcr,
+        ttbr0,
+        ttbr1_el1: 0,
+        scr_el3: 0,
+        hcr_el2: 0,
+    }
+}
+
 impl fmt::Display for Row {
     fn fmt<W: fmt::Write>(&self, f: &mut fmt::Formatter<W>) -> fmt::Result {
-        let bank = Bank {
-            sctlr: 1,
-            tcr: 25,
-            ttbr0: self.ttbr0,
-            ttbr1_el1: 0,
-            scr_el3: 0,
-            hcr_el2: 0,
-        };
-        let va = tag::untag(bank.tcr, Regime::El1, self.va);
-        match table::walk(bank, Regime::El1, va, self.base, &self.word.to_le_bytes()) {
+        let bank = registers(25, self.ttbr0);
+        let va = bank.untag(Regime::El1, self.va);
+        match bank.walk(Regime::El1, va, self.base, &self.word.to_le_bytes()) {
             Ok(leaf) if leaf.perms >> (self.need % 8) & 1 == 1 => {
                 write!(f, "0x{:x}", leaf.oa & !0xFFF | self.va & 0xFFF)
             }
@@ -67,7 +71,6 @@ fn main(rt: HostRuntime) -> io::Result<()> {
     row = first;
     row.base = 0x1010;
     println!(rt; "9  word outside RAM         {row}")?;
-    let tcr = 0x40_0000_0000;
-    let plain = tag::untag(tcr, Regime::El1, 0x12FF_FFFF_FFFF_F000);
+    let plain = registers(0x40_0000_0000, 0).untag(Regime::El1, 0x12FF_FFFF_FFFF_F000);
     println!(rt; "12 untag 12fffffffffff000   0x{plain:x}")
 }

@@ -4,9 +4,11 @@ use Rattle.std.proofs.Common.{sym, ap, ap₂, subst, ◌∙◌, ⊎_elim, arith,
 use Rattle.word.specs.Bits.{align_down, wrap}
 use Rattle.walk.specs.Regime.{stage1_on}
 use Rattle.walk.specs.Table.{Fault as Kind, address_size, translation, access_flag, external_abort, status_of}
-use Rattle.walk.specs.FreshLaws.{SoundFresh, fresh_on, fresh-off}
+use Rattle.walk.specs.WalkBounds.{SoundFresh}
+use Rattle.walk.proofs.FreshLaws.{fresh_on, fresh-off}
 use Rattle.walk.proofs.FreshLaws.{answer-sound}
-use Rattle.walk.specs.WalkBounds.{Status, Levelled, status-small}
+use Rattle.walk.specs.WalkBounds.{Status, Levelled}
+use Rattle.walk.proofs.WalkBounds.{status-small}
 use Rattle.walk.specs.declared.{regime.Regime.Regime, regime.Bank.Bank, fresh.Fresh.Fresh}
 use Rattle.walk.specs.declared.fresh.Fresh.TheVariants.{Flat, Ended}
 use Rattle.census.specs.Tally.{how_many, total, many-same, many-none, many-all, many-joins, shift-eqb, adds-up, at_place}

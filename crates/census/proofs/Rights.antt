@@ -2,7 +2,7 @@
 use Rattle.std.specs.Prelude.{if◌then◌else◌, ◌≡◌, ℕ, ◌+◌, ◌<◌, Bool, true, false, ◌&&◌, ◌==◌, refl, Option, Ok, Err}
 use Rattle.std.proofs.Common.{sym, ap, ◌∙◌, arith, ne_eqb}
 use Rattle.word.specs.Bits.{flag}
-use Rattle.word.specs.BitLaws.{both}
+use Rattle.word.proofs.BitLaws.{both}
 use Rattle.walk.specs.Regime.{single_priv, wxn_of, stage1_on}
 use Rattle.walk.specs.Tag.{untagged}
 use Rattle.walk.specs.Table.{Result, mapped, faults, table_walk}
@@ -11,8 +11,8 @@ use Rattle.walk.specs.Walk.{walked_of, walk_of}
 use Rattle.walk.specs.Fresh.{fresh_of}
 use Rattle.walk.specs.declared.{regime.Regime.Regime, regime.Bank.Bank, rights.Permissions.Permissions}
 use Rattle.walk.specs.declared.fresh.Fresh.TheVariants.{Flat, Ended}
-use Rattle.walk.specs.FreshLaws.{SoundFresh}
-use Rattle.walk.specs.WalkBounds.{status-small}
+use Rattle.walk.specs.WalkBounds.{SoundFresh}
+use Rattle.walk.proofs.WalkBounds.{status-small}
 use Rattle.walk.specs.declared.fresh.Fresh.{Fresh}
 use Rattle.census.specs.Tally.{many-none, shift-eqb}
 use Rattle.census.specs.Count.{place_of, page_at}

@@ -1,10 +1,9 @@
 // The counts of a range, from the fresh answer of each page.
 ghost use Rattle.std.specs.Prelude.{◌≡◌, ◌<◌};
 ghost use Rattle.word.specs.Ram.{word_at};
-ghost use Rattle.walk.specs.FreshLaws.{SoundFresh};
+ghost use Rattle.walk.specs.WalkBounds.{SoundFresh};
 ghost use Rattle.census.specs.Count.{place_of, place_at, census_of};
 
-use walk::fresh;
 use walk::fresh::Fresh;
 use walk::regime::{Bank, Regime};
 
@@ -27,7 +26,7 @@ fn place_at(s: Bank, regime: Regime, va: u64, base: u64, ram: &[u8]) -> usize
     ensures value { result ≡ place_at s regime (word_at base ram.now 8) va }
     ensures upper_bound { result < 129 }
 {
-    place_of(fresh::fresh_of(s, regime, va, base, ram))
+    place_of(s.fresh(regime, va, base, ram))
 }
 
 // The counts of so many pages from the page of first, each by its own address: places 0 to 63 by status, 64 to 127 by

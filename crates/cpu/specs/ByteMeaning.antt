@@ -8,7 +8,7 @@ use Rattle.std.proofs.Math.Nat.{mod-mod, zero-add}
 use native.Mathlib.Omega.{arith}
 use Rattle.word.specs.Bits.{wrap}
 use Rattle.word.specs.Ram.{within, word_at, written, stored}
-use Rattle.word.specs.RamLaws.{within_low, within-high, digit-next, byte_of, written_byte}
+use Rattle.word.proofs.RamLaws.{within_low, within-high, digit-next, byte_of, written_byte}
 use Rattle.tlb.specs.declared.access.Kind.{Kind}
 use Rattle.tlb.specs.declared.access.Kind.TheVariants.{Read, Write}
 use Rattle.operations.specs.Answers.{Placed, Verdict, LoadAnswer, outside_at}

@@ -5,7 +5,7 @@ use Rattle.std.proofs.Math.Path.{refl, ap, subst⁻¹}
 use Rattle.std.proofs.Common.{sym, ◌∙◌, arith, leb-true}
 use Rattle.std.proofs.lemmas.Bool.{not-false}
 use Rattle.word.specs.Bits.{wrap, align_down}
-use Rattle.word.specs.BitLaws.{both}
+use Rattle.word.proofs.BitLaws.{both}
 use Rattle.word.specs.Ram.{word_at, width_of, bytes_in, within}
 use Rattle.sysreg.specs.Encoding.{register_at}
 use Rattle.sysreg.specs.Write.{names, ended, wrote, write_found, write_reg, WriteAnswer}

@@ -6,11 +6,11 @@ use Rattle.std.proofs.Common.{◌∙◌, mod-lt, arith}
 use borrow.Author.Tests.{eqb-true, eq-eqb}
 use Rattle.std.proofs.lemmas.List.{set-get_or}
 use Rattle.std.proofs.Math.Seq.{get_or-set_same}
-use Rattle.word.specs.BitLaws.{both}
+use Rattle.word.proofs.BitLaws.{both}
 use Rattle.fault.specs.First.{first}
 use Rattle.walk.specs.Regime.{stage1_on, regime_of}
 use Rattle.walk.specs.Tag.{untagged}
-use Rattle.walk.specs.TagLaws.{untagged-page}
+use Rattle.walk.proofs.TagLaws.{untagged-page}
 use Rattle.walk.specs.declared.{regime.Regime.Regime, regime.Bank.Bank, level.Leaf.Leaf}
 use Rattle.tlb.specs.Access.{may_hint, tag_of, user_of, right_of, has_right, judged}
 use Rattle.tlb.specs.Entry.{blank, serves}

@@ -5,7 +5,7 @@ use Rattle.std.proofs.Common.{sym, ◌∙◌, arith}
 use Rattle.fault.specs.First.{first}
 use Rattle.walk.specs.Regime.{stage1_on, regime_of}
 use Rattle.walk.specs.Tag.{untagged}
-use Rattle.walk.specs.TagLaws.{untagged-page}
+use Rattle.walk.proofs.TagLaws.{untagged-page}
 use Rattle.walk.specs.PageLaws.{paged, paged_leaf}
 use Rattle.walk.proofs.PageLaws.{walk_of-page}
 use Rattle.walk.specs.declared.{regime.Regime.Regime, regime.Bank.Bank, level.Leaf.Leaf}

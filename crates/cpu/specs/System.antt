@@ -6,7 +6,7 @@ use Rattle.word.specs.Ram.{word_at}
 use Rattle.sysreg.specs.Regs.{sys_at}
 use Rattle.sysreg.specs.declared.regs.SysRegs.{SysRegs}
 use Rattle.sysreg.specs.declared.regs.SysReg.TheVariants.{Mair}
-use Rattle.walk.specs.Regime.{level_of}
+use Rattle.walk.specs.Regime.{own_level}
 use Rattle.walk.specs.declared.regime.Regime.{Regime}
 unfoldable pub use Rattle.tlb.specs.Maintenance.{invalidated_of}
 use Rattle.exception.specs.declared.kind.Exception.TheVariants as Exception
@@ -25,7 +25,7 @@ use Rattle.operations.specs.Answers.{StoreAnswer}
 
 -- MAIR of a regime
 abbrev pub mair_of : SysRegs → Regime → ℕ
-mair_of s r = sys_at s (Mair (level_of r))
+mair_of s r = sys_at s (Mair (own_level r))
 
 unfoldable pub with_par : Core → ℕ → Core
 with_par c par = in_core c (Bare.with_par (bare_of c) par)

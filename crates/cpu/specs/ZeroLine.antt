@@ -6,7 +6,7 @@ use Rattle.std.proofs.Common.{◌∙◌, suc-add, le-leb, take-append-drop}
 use native.Mathlib.Omega.{arith}
 use Rattle.word.specs.Bits.{wrap}
 use Rattle.word.specs.Ram.{within, word_at, written, stored, bytes_of}
-use Rattle.word.specs.RamLaws.{within_low, within-high, written_next}
+use Rattle.word.proofs.RamLaws.{within_low, within-high, written_next}
 use Rattle.tlb.specs.declared.access.Kind.TheVariants.{Write}
 use Rattle.tlb.specs.declared.Tlb.{Tlb}
 use Rattle.tlb.specs.Answers.{Answer}

@@ -26,7 +26,7 @@ use Rattle.cpu.specs.Bare.{Bare, bare_of}
 use Rattle.cpu.specs.OpLaws.{store as storing, kept, ram-length}
 use Rattle.cpu.specs.declared.Core.{Core}
 use Rattle.cpu.specs.System.{on_stored, zero_of, zero_ram, op_of, sys_of, sys_ram}
-use Rattle.word.specs.RamLaws.{within_low, within-high}
+use Rattle.word.proofs.RamLaws.{within_low, within-high}
 use Rattle.cpu.specs.ZeroLaws.{one-ram, none-ram, one-done, one-tlb, zeros-there, zeros-stay, store_va, store-va, zero-last, zero-ram-last, zero-done}
 
 -- the translation that store j makes: of its own address, in the core and the RAM that the stores before it leave

@@ -11,7 +11,7 @@ use tlb::Tlb;
 pub fn refit(t: &mut Tlb, before: Control, after: Control)
     ensures { t.new ≡ refit_of t.old before after }
 {
-    if !before.same_shape(&after) {
+    if !before.same_shaping(&after) {
         t.flush();
     }
     let asid = after.asid();

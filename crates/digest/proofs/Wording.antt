@@ -3,7 +3,7 @@ use Rattle.std.specs.Prelude.{if◌then◌else◌, Option, Some, None}
 use Rattle.std.proofs.Common.{◌≡◌, ℕ, zero, suc, ◌+◌, ◌-◌, ◌*◌, ◌/◌, Bool, true, false, List, [], ◌∷◌, ◌++◌, length, get_or, sym, ap, ◌∙◌, arith}
 use native.Mathlib.Nat.{sub-zero}
 use Rattle.word.specs.Ram.{little_endian, word_at, within}
-use Rattle.word.specs.RamLaws.{le_join}
+use Rattle.word.proofs.RamLaws.{le_join}
 use Rattle.digest.specs.Fold.{joined, digest_from, digest_of, gathered}
 use Rattle.digest.specs.Window.{whole_word, window_words}
 use Rattle.digest.proofs.Folding.{digest-append}

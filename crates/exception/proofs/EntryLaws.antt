@@ -4,7 +4,7 @@ use Rattle.std.proofs.Math.Path.{refl}
 use Rattle.std.proofs.Common.{◌∙◌, arith}
 use Rattle.std.proofs.Math.Nat.{mod-eq_of_lt}
 use Rattle.sysreg.specs.Regs.{level_of, sys_at}
-use Rattle.sysreg.specs.EncodingLaws.{by_level}
+use Rattle.sysreg.proofs.EncodingLaws.{by_level}
 use Rattle.sysreg.specs.declared.{regs.El.El, regs.SysReg.SysReg, regs.SysRegs.SysRegs}
 use Rattle.sysreg.specs.declared.regs.El.TheVariants.{El1, El2, El3}
 use Rattle.sysreg.specs.declared.regs.SysReg.TheVariants.{Mair, Vbar, Elr, Spsr, Esr, Far, Vpidr, Vmpidr, Par}

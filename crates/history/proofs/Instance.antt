@@ -3,11 +3,12 @@ use Rattle.std.specs.Prelude.{◌≡◌, refl, ℕ, ◌+◌, ◌*◌, ◌/◌, �
 use Rattle.std.proofs.Common.{arith}
 use Rattle.sysreg.specs.Regs.{fresh_control}
 use Rattle.sysreg.specs.Shape.{asid_base, asid_of}
-use Rattle.sysreg.specs.ShapeLaws.{SameShape, shape-agrees}
+use Rattle.sysreg.specs.Shape.{SameShape}
+use Rattle.sysreg.proofs.ShapeLaws.{shape-agrees}
 use Rattle.sysreg.specs.declared.regs.Control.{Control}
 use Rattle.sysreg.specs.declared.regs.El.TheVariants as El
 use Rattle.walk.specs.Regime.{regime_of, level_of, bank_of, stage1_on}
-use Rattle.walk.specs.TagLaws.{untagged-page}
+use Rattle.walk.proofs.TagLaws.{untagged-page}
 use Rattle.walk.proofs.WalkBounds.{leaf-bounds}
 use Rattle.walk.specs.PageLaws.{leaf_at}
 use Rattle.walk.proofs.PageLaws.{leaf-of-page}

@@ -7,7 +7,8 @@ use Rattle.fault.specs.declared.Fault.{Fault}
 use Rattle.walk.specs.Regime.{single_priv, wxn_of, bank_of}
 use Rattle.walk.specs.Table.{Fault as WalkFault, address_size, translation, access_flag, external_abort, status_of, Translation, Result, mapped, faults, table_walk}
 use Rattle.walk.specs.Permission.{allowed}
-use Rattle.walk.specs.PermissionLaws.{kind_bit, first_bit, permission-bit}
+use Rattle.walk.specs.Permission.{kind_bit, first_bit}
+use Rattle.walk.proofs.PermissionLaws.{permission-bit}
 use Rattle.walk.specs.Walk.{leaf_of, walked_of, walk_of}
 use Rattle.walk.specs.WalkBounds.{Levelled, Found, Sound}
 use Rattle.walk.proofs.WalkBounds.{table-walk-sound}

@@ -7,7 +7,7 @@ use Rattle.std.proofs.lemmas.Bool.{false≢true}
 use Rattle.std.proofs.Math.Logic.{inl, inr}
 use native.Mathlib.Omega.{arith}
 use borrow.Author.Tests.{eqb-true, lt-ltb, le-ltb}
-use Rattle.word.specs.BitLaws.{both}
+use Rattle.word.proofs.BitLaws.{both}
 use Rattle.fault.specs.First.{first}
 use Rattle.walk.specs.declared.{regime.Regime.Regime, level.Leaf.Leaf}
 use Rattle.walk.specs.declared.regime.Regime.TheVariants.{El1, El2, El3}

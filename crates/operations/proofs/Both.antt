@@ -4,7 +4,7 @@ use Rattle.std.proofs.Common.{◌≡◌, ℕ, zero, suc, ◌+◌, ◌-◌, ◌*�
 use native.Mathlib.Nat.{pow-zero}
 use Rattle.word.specs.Bits.{wrap}
 use Rattle.word.specs.Ram.{within, written, stored, bytes_of}
-use Rattle.word.specs.RamLaws.{digit-next, written_next}
+use Rattle.word.proofs.RamLaws.{digit-next, written_next}
 use Rattle.operations.specs.Place.{byte_at, first_outside, verdict_of}
 use Rattle.operations.specs.Bytes.{split_value, split_stored, load_of, store_ram}
 use Rattle.operations.specs.BytesLaws.{stored-length}

@@ -5,7 +5,7 @@ use Rattle.std.specs.Prelude.{nat_le, nat_lt, slice_index, refl, Ok, Err}
 use Rattle.std.proofs.Common.{sym, ap, ◌∙◌, arith, leb-true, leb-false, ltb-true, ltb-false, le-leb, length-append, length-drop, length-take-le, get_or-append-add, get_or-take, get_or-drop}
 use Rattle.std.proofs.Math.ListN.{get_or-append}
 use Rattle.word.specs.Ram.{little_endian, bytes_of, within, written, stored}
-use Rattle.word.specs.RamLaws.{length-bytes}
+use Rattle.word.proofs.RamLaws.{length-bytes}
 use Rattle.operations.specs.Place.{byte_at, first_outside, verdict_of, bytes_before}
 use Rattle.operations.specs.PlaceLaws.{before-le}
 use Rattle.operations.specs.Bytes.{byte_in, split_value, split_stored, store_ram}

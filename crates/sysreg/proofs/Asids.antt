@@ -2,7 +2,7 @@
 use Rattle.std.specs.Prelude.{◌≡◌, true, false, ℕ, ◌+◌, ◌-◌, ◌/◌, ◌%◌, ◌^◌, ◌≤◌, ◌==◌}
 use Rattle.std.proofs.Common.{sym, ap, ◌∙◌, arith}
 use Rattle.word.specs.Bits.{bit_on, field}
-use Rattle.word.specs.BitLaws.{cut_field}
+use Rattle.word.proofs.BitLaws.{cut_field}
 use Rattle.word.specs.Places.{bits, bit}
 use Rattle.sysreg.specs.declared.regs.Control.{Control}
 use Rattle.sysreg.specs.declared.regs.El.TheVariants.{El1}

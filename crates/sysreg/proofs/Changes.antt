@@ -8,9 +8,10 @@ use Rattle.sysreg.specs.declared.regs.Register.TheVariants.{InSys}
 use Rattle.sysreg.specs.Regs.{control_at}
 use Rattle.sysreg.specs.Encoding.{register_at}
 use Rattle.sysreg.specs.Write.{control_with, write_reg}
-use Rattle.sysreg.specs.WriteLaws.{control-written, write-sys}
+use Rattle.sysreg.proofs.WriteLaws.{control-written, write-sys}
 use Rattle.sysreg.specs.Shape.{same_shape}
-use Rattle.sysreg.specs.ShapeLaws.{SameShape, shape-agrees, shape-self, shape-kept}
+use Rattle.sysreg.specs.Shape.{SameShape}
+use Rattle.sysreg.proofs.ShapeLaws.{shape-agrees, shape-self, shape-kept}
 
 not_so : (b : Bool) → (b ≡ true → ⊥) → b ≡ false
 not_so true h = absurd (h refl)

@@ -23,7 +23,7 @@ below v m k =
     sym (sym (mod-eq_of_lt l) ∙ e ∙ ap (bit_and (v % 2 ^ k)) h)
 
 -- a mask whose top is a run of n ones from bit lo up
-run : (v m lo n : ℕ) → m / 2 ^ lo ≡ 2 ^ n - 1 → bit_and v m ≡ in_place v lo n + bit_and v (m % 2 ^ lo)
+pub run : (v m lo n : ℕ) → m / 2 ^ lo ≡ 2 ^ n - 1 → bit_and v m ≡ in_place v lo n + bit_and v (m % 2 ^ lo)
 run v m lo n e =
     cut v m lo
     ∙ ap₂ (λ (a b : ℕ). a * 2 ^ lo + b) (ap (bit_and (v / 2 ^ lo)) e ∙ and_mask (v / 2 ^ lo) n) (below v m lo)

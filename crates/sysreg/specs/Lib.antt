@@ -5,7 +5,3 @@ pub mod Write
 pub mod Tcr
 pub mod Shape
 pub mod Cases
-pub mod Parts
-pub mod EncodingLaws
-pub mod WriteLaws
-pub mod ShapeLaws

@@ -1,7 +1,7 @@
 -- What of the registers shapes a translation, and the ASID of the EL1&0 regime.
-use Rattle.std.specs.Prelude.{if◌then◌else◌, Bool, true, false, not, ◌&&◌, ◌||◌, List, [], ◌∷◌, ℕ, eqb, Some, Option, None}
+use Rattle.std.specs.Prelude.{if◌then◌else◌, ◌≡◌, Bool, true, false, not, ◌&&◌, ◌||◌, List, [], ◌∷◌, ℕ, eqb, get_or, Some, Option, None}
 use Rattle.word.specs.Bits.{field}
-use Rattle.sysreg.specs.declared.{regs.Control.Control, regs.ControlReg.ControlReg, regs.Register.Register}
+use Rattle.sysreg.specs.declared.{regs.Control.Control, regs.El.El, regs.ControlReg.ControlReg, regs.Register.Register}
 use Rattle.sysreg.specs.declared.regs.El.TheVariants.{El1, El2, El3}
 use Rattle.sysreg.specs.declared.regs.ControlReg.TheVariants.{Sctlr, Tcr, Ttbr0, Ttbr1, Scr, Hcr}
 use Rattle.sysreg.specs.declared.regs.Register.TheVariants.{InControl, InSys}
@@ -31,6 +31,19 @@ agree_on (r ∷ rs) a b = eqb (control_at a r) (control_at b r) && agree_on rs a
 
 unfoldable pub same_shape : Control → Control → Bool
 same_shape a b = agree_on shape a b
+
+-- two arrays hold the same at EL1, EL2 and EL3
+abbrev pub same_levels : List ℕ → List ℕ → Bool
+same_levels a b = eqb (get_or a 1 0) (get_or b 1 0) && eqb (get_or a 2 0) (get_or b 2 0) && eqb (get_or a 3 0) (get_or b 3 0)
+
+-- Two settings of one shape agree in all that translation reads but TTBR0_EL1 and TTBR1_EL1.
+pub record SameShape (a b : Control) : Type 0 where
+  pub sctlr : (el : El) → control_at a (Sctlr el) ≡ control_at b (Sctlr el)
+  pub tcr : (el : El) → control_at a (Tcr el) ≡ control_at b (Tcr el)
+  pub ttbr0-el2 : control_at a (Ttbr0 El2) ≡ control_at b (Ttbr0 El2)
+  pub ttbr0-el3 : control_at a (Ttbr0 El3) ≡ control_at b (Ttbr0 El3)
+  pub hcr : control_at a Hcr ≡ control_at b Hcr
+  pub scr : control_at a Scr ≡ control_at b Scr
 
 -- by TCR_EL1.A1, TTBR1_EL1 and not TTBR0_EL1 holds the ASID
 unfoldable pub asid_base : Control → ℕ

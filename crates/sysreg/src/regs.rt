@@ -1,9 +1,9 @@
-// The registers as two structs: what translation reads, and the rest. An array is indexed by exception level; index
-// 0 is never written.
+// The registers as two structs: what translation reads, and the rest. Arrays are indexed by exception level; index 0 is
+// never written.
 ghost use Rattle.std.specs.Prelude.{◌≡◌, ◌<◌};
 ghost use Rattle.sysreg.specs.Regs.{level_of, fresh_control, fresh_sys};
 
-// All that translation reads.
+/// All that translation reads.
 #[derive(Clone, Copy)]
 pub struct Control {
     pub sctlr: [u64; 4],
@@ -14,7 +14,7 @@ pub struct Control {
     pub hcr_el2: u64,
 }
 
-// The other registers kept.
+/// The other registers kept.
 #[derive(Clone, Copy)]
 pub struct SysRegs {
     pub mair: [u64; 4],
@@ -28,15 +28,15 @@ pub struct SysRegs {
     pub par_el1: u64,
 }
 
-// The exception level whose instance of a register is meant.
+/// The exception level whose instance of a register is meant.
 #[derive(Clone, Copy)]
 pub enum El {
-    El1,
+    El1 = 1,
     El2,
     El3,
 }
 
-// A register of Control.
+/// A register of `Control`.
 #[derive(Clone, Copy)]
 pub enum ControlReg {
     Sctlr(El),
@@ -47,7 +47,7 @@ pub enum ControlReg {
     Hcr,
 }
 
-// A register of SysRegs.
+/// A register of `SysRegs`.
 #[derive(Clone, Copy)]
 pub enum SysReg {
     Mair(El),
@@ -61,7 +61,7 @@ pub enum SysReg {
     Par,
 }
 
-// A register, by the struct that holds it.
+/// A register, by the struct that holds it.
 #[derive(Clone, Copy)]
 pub enum Register {
     InControl(ControlReg),
@@ -69,21 +69,17 @@ pub enum Register {
 }
 
 impl El {
-    // The place of the level's instance in an array.
+    /// The place of the level's instance in an array.
     pub fn index(self) -> usize
         ensures value { result ≡ level_of self }
         ensures upper_bound { result < 4 }
     {
-        match self {
-            El::El1 => 1,
-            El::El2 => 2,
-            El::El3 => 3,
-        }
+        self as usize
     }
 }
 
 impl Control {
-    // SCTLR_ELx have their RES1 bits, and what reset leaves unknown is 0.
+    /// Reset: `SCTLR_ELx` have their RES1 bits (A72 TRM), what is left UNKNOWN is 0.
     #[tactic(auto, unfolding(crate::specs::Regs::fresh_control))]
     pub fn new() -> Self
         ensures { result ≡ fresh_control }
@@ -100,7 +96,7 @@ impl Control {
 }
 
 impl SysRegs {
-    // VPIDR_EL2 and VMPIDR_EL2 start as the identity of core 0, so that EL1 sees it where EL2 sets nothing.
+    /// Reset: `VPIDR_EL2` and `VMPIDR_EL2` are the IDs of core 0, so that EL1 sees them where EL2 sets nothing.
     #[tactic(auto, unfolding(crate::specs::Regs::fresh_sys))]
     pub fn new() -> Self
         ensures { result ≡ fresh_sys }

@@ -7,7 +7,7 @@ ghost use Rattle.sysreg.specs.Encoding.{encode, key_word, key_of, each_control, 
 ghost use Rattle.sysreg.specs.Tcr.{t0sz, tg0, epd0, t1sz, a1, epd1, tg1, ips, «as», tbi0, tbi1, ps, tbi};
 ghost use Rattle.sysreg.specs.Write.{kept, control_with, sys_with, ended, wrote, write_reg};
 ghost use Rattle.sysreg.specs.Shape.{outside_shape, same_shape, asid_of};
-ghost use Rattle.sysreg.specs.ShapeLaws.{SameShape};
+ghost use Rattle.sysreg.specs.Shape.{SameShape};
 ghost use Rattle.sysreg.specs.Cases.{control_registers, system_registers, keeps_fresh_shape, asids_under};
 ghost use Rattle.sysreg.specs.declared.regs.El.{El};
 ghost use Rattle.sysreg.specs.declared.regs.El.TheVariants.{El1};

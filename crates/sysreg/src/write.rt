@@ -1,32 +1,17 @@
 // MSR to the registers kept.
 ghost use Rattle.std.specs.Prelude.{◌≡◌, Err};
-ghost use Rattle.sysreg.specs.Write.{kept as keptOf, control_with, sys_with, write_reg, reply_of, reply_to};
+ghost use Rattle.sysreg.specs.Write.{control_with, sys_with, write_reg, reply_of, reply_to};
 
 use crate::encoding::named;
 use crate::regs::{Control, ControlReg, Register, SysReg, SysRegs};
 
-// What keeps a register from being written.
+/// What keeps a register from being written.
 #[derive(Clone, Copy)]
 pub enum WriteError {
-    // The level may not write it.
+    /// EL0 may write none.
     Undefined,
-    // The key names no register kept.
+    /// The key names no register kept.
     NoRegister,
-}
-
-impl SysReg {
-    // What the register keeps of a value: VBAR, SPSR, ESR and VPIDR_EL2 only the bits that are not RES0.
-    #[tactic(auto, using(crate::proofs::Masks::masks))]
-    pub fn kept_bits(self, value: u64) -> u64
-        ensures { result ≡ keptOf self value }
-    {
-        match self {
-            SysReg::Vbar(_) => value & !0x7FF,
-            SysReg::Spsr(_) => value & 0xF03F_03DF,
-            SysReg::Esr(_) | SysReg::Vpidr => value & 0xFFFF_FFFF,
-            _ => value,
-        }
-    }
 }
 
 impl Control {
@@ -46,27 +31,27 @@ impl Control {
 }
 
 impl SysRegs {
-    #[tactic(auto, using(crate::proofs::Stores::four), unfolding(crate::specs::Write::sys_with))]
+    // VBAR, SPSR, ESR and VPIDR_EL2 keep the bits that are not RES0.
+    #[tactic(auto, using(crate::proofs::Stores::four, crate::proofs::Masks::masks), unfolding(crate::specs::Write::sys_with))]
     fn write(&mut self, register: SysReg, value: u64)
         ensures { self.new ≡ sys_with self.old register value }
     {
-        let kept = register.kept_bits(value);
         match register {
-            SysReg::Mair(el) => self.mair[el.index()] = kept,
-            SysReg::Vbar(el) => self.vbar[el.index()] = kept,
-            SysReg::Elr(el) => self.elr[el.index()] = kept,
-            SysReg::Spsr(el) => self.spsr[el.index()] = kept,
-            SysReg::Esr(el) => self.esr[el.index()] = kept,
-            SysReg::Far(el) => self.far[el.index()] = kept,
-            SysReg::Vpidr => self.vpidr_el2 = kept,
-            SysReg::Vmpidr => self.vmpidr_el2 = kept,
-            SysReg::Par => self.par_el1 = kept,
+            SysReg::Mair(el) => self.mair[el.index()] = value,
+            SysReg::Vbar(el) => self.vbar[el.index()] = value & !0x7FF,
+            SysReg::Elr(el) => self.elr[el.index()] = value,
+            SysReg::Spsr(el) => self.spsr[el.index()] = value & 0xF03F_03DF,
+            SysReg::Esr(el) => self.esr[el.index()] = value & 0xFFFF_FFFF,
+            SysReg::Far(el) => self.far[el.index()] = value,
+            SysReg::Vpidr => self.vpidr_el2 = value & 0xFFFF_FFFF,
+            SysReg::Vmpidr => self.vmpidr_el2 = value,
+            SysReg::Par => self.par_el1 = value,
         }
     }
 }
 
-// A key that names no register kept is refused; else EL0 may write none; else the register is written. One that is
-// refused changes nothing.
+/// `MSR`: a key that names no register kept is refused; else EL0 may write none; else the register is written. A write
+/// that is refused changes nothing.
 #[inline(always)]
 #[tactic(auto, unfolding(crate::specs::Write::write_reg))]
 pub fn write_reg(

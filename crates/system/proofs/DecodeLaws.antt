@@ -4,7 +4,7 @@ use Rattle.std.proofs.Math.Path.{refl}
 use Rattle.std.proofs.Common.{sym, ap, subst, ◌∙◌, inl, inr, arith, eqb-true, ne_eqb, le-leb, leb-true}
 use Rattle.std.proofs.lemmas.Bool.{false≢true, lt-leb}
 use Rattle.std.proofs.Math.Dec.{leb}
-use Rattle.word.specs.BitLaws.{both}
+use Rattle.word.proofs.BitLaws.{both}
 use Rattle.walk.specs.declared.regime.Regime.{Regime}
 use Rattle.walk.specs.declared.regime.Regime.TheVariants.{El1, El2, El3}
 use Rattle.system.specs.declared.{decode.AtForm.AtForm, decode.SysOp.SysOp}

@@ -8,10 +8,12 @@ use Rattle.walk.specs.Regime.{bank_of, single_priv, wxn_of, stage1_on}
 use Rattle.walk.specs.Descriptor.{attr_indx, ns, sh}
 use Rattle.walk.specs.Table.{Translation, Result, mapped, faults, table_walk}
 use Rattle.walk.specs.Permission.{permission_byte}
-use Rattle.walk.specs.PermissionLaws.{kind_bit, first_bit, permission-bit}
+use Rattle.walk.specs.Permission.{kind_bit, first_bit}
+use Rattle.walk.proofs.PermissionLaws.{permission-bit}
 use Rattle.walk.specs.Walk.{leaf_of, walked_of, walk_of}
 use Rattle.walk.specs.Fresh.{fresh_of}
-use Rattle.walk.specs.WalkBounds.{SoundWalked, status-small}
+use Rattle.walk.specs.WalkBounds.{SoundWalked}
+use Rattle.walk.proofs.WalkBounds.{status-small}
 use Rattle.walk.proofs.WalkBounds.{walk-sound}
 use Rattle.walk.specs.declared.regime.Bank.{Bank}
 use Rattle.walk.specs.declared.fresh.Fresh.TheVariants.{Flat, Ended}

@@ -7,7 +7,6 @@ use crate::decode::AtForm;
 use sysreg::regs::Control;
 use tlb::access;
 use tlb::access::Kind;
-use walk::fresh;
 use walk::fresh::Fresh;
 use walk::level::Leaf;
 use walk::regime::{Bank, Regime};
@@ -72,7 +71,7 @@ pub fn at(control: &Control, mair: u64, form: AtForm, va: u64, base: u64, ram: &
     let regime = form.regime;
     let s = Bank::new(control, regime);
     let ns = from_non_secure(s, regime);
-    match fresh::fresh_of(s, regime, va, base, ram) {
+    match s.fresh(regime, va, base, ram) {
         Fresh::Ended(Ok(leaf)) => leaf_par(mair, ns, form, leaf),
         Fresh::Ended(Err(fsc)) => fault_par(fsc),
         Fresh::Flat(pa) => success_par(0, pa, ns, 0),

@@ -49,7 +49,7 @@ pub struct Resolved {
 pub fn query_of(s: Bank, regime: Regime, va: u64) -> Query
     ensures { result ≡ query_of regime (untagged s.tcr regime va) }
 {
-    let page = walk::tag::untag(s.tcr, regime, va);
+    let page = s.untag(regime, va);
     Query {
         regime,
         page,

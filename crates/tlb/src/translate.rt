@@ -38,7 +38,7 @@ impl Tlb {
             (by_walk (walk_of s q.regime q.page (word_at base ram.now 8)) q privilege self.old.cache.current va kind) }
     {
         self.counts.add_walk(privilege.level);
-        match walk::table::walk(s, q.regime, q.page, base, ram) {
+        match s.walk(q.regime, q.page, base, ram) {
             Ok(leaf) => {
                 let e = resolve::entry_for(leaf, self.cache.current, q.tag);
                 self.put(e);

@@ -7,7 +7,7 @@ use sysreg::regs::{ControlReg, El, Register, SysReg};
 use trace_text::line;
 use walk::level::Leaf;
 use walk::regime::{Bank, Regime};
-use walk::{rights, size, table, tag};
+use walk::{range, rights};
 use word::bits::flag_word;
 
 fn value(v: u64) -> [u64; 4] {
@@ -28,7 +28,7 @@ fn stage1_on(core: &Core, r: Regime) -> [u64; 4] {
 
 fn untag(core: &Core, r: Regime, va: u64) -> [u64; 4] {
     let b = Bank::new(&core.control, r);
-    value(tag::untag(b.tcr, r, va))
+    value(b.untag(r, va))
 }
 
 // Attribute index, shareability and NS are the descriptor's own bits.
@@ -40,7 +40,7 @@ fn leaf_words(l: Leaf) -> [u64; 4] {
 }
 
 fn walk_of(core: &Core, r: Regime, va: u64, base: u64, ram: &[u8]) -> [u64; 4] {
-    match table::walk(Bank::new(&core.control, r), r, va, base, ram) {
+    match Bank::new(&core.control, r).walk(r, va, base, ram) {
         Ok(l) => leaf_words(l),
         Err(status) => [8, va, status as u64, 0],
     }
@@ -111,7 +111,7 @@ pub fn answer(core: &Core, leaf: line::Leaf, base: u64, ram: &[u8]) -> [u64; 4] 
         line::Leaf::Stage1On(r) => stage1_on(core, r),
         line::Leaf::Untag(r, va) => untag(core, r, va),
         line::Leaf::Walk(r, va) => walk_of(core, r, va, base, ram),
-        line::Leaf::PaBits(code) => value(size::pa_bits(code)),
+        line::Leaf::PaBits(code) => value(range::pa_bits(code)),
         line::Leaf::Permissions(bits) => perms(bits),
         line::Leaf::Bank(key) => bank(key),
         line::Leaf::Vector { from, to, spsel } => vector(from, to, spsel),

@@ -5,7 +5,7 @@ use Rattle.std.proofs.Common.{sym, ap, ◌∙◌, ⊎_elim, arith, eqb-true, ne_
 use Rattle.word.specs.Bits.{flag}
 use Rattle.fault.specs.First.{first as status-of}
 use Rattle.fault.specs.declared.Fault.{Fault}
-use Rattle.walk.specs.FreshLaws.{SoundFresh}
+use Rattle.walk.specs.WalkBounds.{SoundFresh}
 use Rattle.walk.specs.Regime.{bank_of, regime_of}
 use Rattle.walk.specs.declared.{regime.Regime.Regime, regime.Bank.Bank, level.Leaf.Leaf, fresh.Fresh.Fresh}
 use Rattle.walk.specs.declared.fresh.Fresh.TheVariants.{Flat, Ended}

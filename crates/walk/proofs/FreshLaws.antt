@@ -6,11 +6,10 @@ use Rattle.walk.specs.Regime.{stage1_on}
 use Rattle.walk.specs.Tag.{untagged}
 use Rattle.walk.specs.Walk.{walk_of}
 use Rattle.walk.specs.Fresh.{fresh_of}
-use Rattle.walk.specs.WalkBounds.{LeafBounds, SoundWalked}
+use Rattle.walk.specs.WalkBounds.{LeafBounds, SoundWalked, SoundEnd, SoundFresh}
 use Rattle.walk.proofs.WalkBounds.{walk-sound}
 use Rattle.walk.specs.declared.{regime.Regime.Regime, regime.Bank.Bank, level.Leaf.Leaf, fresh.Fresh.Fresh}
 use Rattle.walk.specs.declared.fresh.Fresh.TheVariants.{Flat, Ended}
-use Rattle.walk.specs.FreshLaws.{SoundEnd, SoundFresh}
 use Rattle.walk.specs.Answers.{Walked}
 
 walk_end : (va : ℕ) (w : Walked) → SoundWalked va w → SoundEnd w
@@ -32,3 +31,13 @@ module _ (s : Bank) (r : Regime) (va : ℕ) (memory : ℕ → Option ℕ) where
   -- a leaf that it ends in
   pub fresh-leaf : (x : Fresh) (w : Walked) (leaf : Leaf) → x ≡ fresh_of s r va memory → x ≡ Ended w → w ≡ Ok leaf → LeafBounds leaf
   fresh-leaf x w leaf e x-is w-is = subst SoundEnd w-is (subst SoundFresh x-is (is-sound x e))
+
+module _ (s : Bank) (r : Regime) (va : ℕ) (memory : ℕ → Option ℕ) where
+  -- stage 1 on: the walk of the untagged address; off: the address
+  pub fresh_on : stage1_on s r ≡ true → fresh_of s r va memory ≡ Ended (walk_of s r (untagged s.tcr r va) memory)
+  unfolding fresh_of
+  fresh_on e = rw e
+
+  pub fresh-off : stage1_on s r ≡ false → fresh_of s r va memory ≡ Flat va
+  unfolding fresh_of
+  fresh-off e = rw e

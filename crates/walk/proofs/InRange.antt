@@ -5,7 +5,7 @@ use Rattle.std.proofs.Math.Nat.{div-lt_iff_lt-mul, div-eq_of_lt}
 use borrow.Author.Tests.{ne_eqb}
 use lib.Pow.{high_ones}
 use Rattle.walk.specs.Table.{inputsize, in_range}
-use Rattle.walk.specs.SizeLaws.{input-high}
+use Rattle.walk.proofs.SizeLaws.{input-high}
 use Rattle.walk.specs.declared.range.Range.{Range}
 
 below : (va n : ℕ) → eqb (va / 2 ^ n) 0 ≡ ltb va (2 ^ n)

@@ -8,7 +8,7 @@ use native.Mathlib.Omega.{arith}
 use lib.Bits.{bit_or}
 use lib.Pow.{shl-shr, shr-shr, mod-pow-add, high, pow_pos, pow_mono}
 use Rattle.word.specs.Bits.{field, align_down}
-use Rattle.word.specs.BitLaws.{place, cut_field, or-bit, align-le}
+use Rattle.word.proofs.BitLaws.{place, cut_field, or-bit, align-le}
 use Rattle.walk.specs.Table.{grainsize, stride, addrselectbottom, beyond, descaddr, table_next}
 use Rattle.walk.specs.State.{lookup_of, answers, stepped, meant, Standing, Onwards, Leads, next, found, fault}
 use Rattle.walk.specs.declared.{level.Params.Params, level.WalkState.WalkState, level.Leaf.Leaf}

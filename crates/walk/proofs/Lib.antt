@@ -9,3 +9,7 @@ pub mod Order
 pub mod Numbers
 pub mod InRange
 pub mod Permissions
+pub mod TagLaws
+pub mod SizeLaws
+pub mod PermissionLaws
+pub mod FetchLaws

@@ -6,7 +6,7 @@ use mathlib.Core.Bool.{Bool, true, false, not, ◌&&◌, ◌||◌}
 use Prim.Native.Nat.{ℕ, suc, ◌-◌, ◌≤◌, ◌<◌, ◌%◌, ◌^◌}
 use native.Mathlib.Omega.{arith}
 use Rattle.word.specs.Bits.{align_down}
-use Rattle.word.specs.BitLaws.{align-le}
+use Rattle.word.proofs.BitLaws.{align-le}
 use Rattle.walk.specs.Table.{Lookup, Result, Next, deeper, ends, lookup_next}
 use Rattle.walk.specs.Table.{walk_from, walk_range, table_walk, range_of, params_of, first_lookup, startlevel, inputsize, in_range, beyond, addrselectbottom}
 use Rattle.walk.specs.Table.{startlevel_of, baselowerbound}

@@ -2,7 +2,7 @@
 use Rattle.std.specs.Prelude.{if◌then◌else◌, ◌≡◌, refl, Bool, true, false, not, ◌&&◌, ◌||◌, ltb, eqb, ℕ, zero, suc, ◌+◌, ◌-◌, ◌%◌, ◌^◌, ◌≤◌, ◌<◌, Option, Some, None, Ok, Err}
 use Rattle.std.proofs.Common.{sym, ap, ap₂, ◌∙◌, subst, arith}
 use Rattle.word.specs.Bits.{bit_on, field, align_down}
-use Rattle.word.specs.BitLaws.{cut_field}
+use Rattle.word.proofs.BitLaws.{cut_field}
 use Rattle.word.specs.Places.{bits}
 use Rattle.walk.specs.Regime.{single_priv, wxn_of}
 use Rattle.walk.specs.Descriptor.{valid, table_or_page, af, not_global}
@@ -11,8 +11,7 @@ use Rattle.walk.specs.Table.{addrselectbottom, in_range, beyond, outputaddress, 
 use Rattle.walk.specs.Table.{table_next, leaf_translation, leaf_result, level_next, descaddr, on_word, lookup_next, on_next, walk_from, walk_range, table_walk}
 use Rattle.walk.specs.Walk.{walked_of, walk_of}
 use Rattle.walk.specs.Answers.{Walked}
-use Rattle.walk.specs.Begins.{Begins}
-use Rattle.walk.specs.Numbers.{LeafMaps, TableMaps, FirstMaps, EachLeaf}
+use Rattle.walk.specs.Numbers.{StartsAt, LeafMaps, TableMaps, FirstMaps, EachLeaf}
 use Rattle.walk.specs.declared.{regime.Regime.Regime, regime.Bank.Bank, range.Range.Range}
 use Rattle.walk.specs.declared.{level.Params.Params, level.Leaf.Leaf}
 
@@ -182,7 +181,7 @@ table-maps large level grain high low eg et eb h p va l k desc ep el e =
     let base : k.baseaddress ≡ align_down (desc % 2 ^ 48) grain = d.base ∙ ap (λ (n : ℕ). align_down (desc % 2 ^ 48) n) (ap grainsize ep ∙ eg) in
     rw (base, top, bottom, index-bits va low high h) refl
 
-pub first-maps : (large : Bool) (from to level n : ℕ) → Begins large from to level → addrselectbottom large level ≡ n → n < from → FirstMaps large from to n
+pub first-maps : (large : Bool) (from to level n : ℕ) → StartsAt large from to level → addrselectbottom large level ≡ n → n < from → FirstMaps large from to n
 unfolding descaddr
 first-maps large from to level n begins eb low p g va ep eg a b =
     let s : startlevel g ≡ level = ap (λ (x : Bool). startlevel_of x (inputsize g)) eg ∙ begins (inputsize g) a b in

@@ -14,7 +14,7 @@ use Rattle.walk.specs.Table.{Result, mapped, faults, address_size, translation, 
 use Rattle.walk.specs.Table.{deeper, ends, first_lookup, range_of, params_of, table_next, leaf_translation, leaf_result, level_next, descaddr, lookup_next}
 use Rattle.walk.specs.Table.{walk_from, walk_range, table_walk}
 use Rattle.walk.specs.Walk.{leaf_of, walked_of, walk_of}
-use Rattle.walk.specs.SizeLaws.{pa-size-low, pa-size-high, start-level}
+use Rattle.walk.proofs.SizeLaws.{pa-size-low, pa-size-high, start-level}
 use Rattle.walk.proofs.WalkBounds.{next_level}
 use Rattle.walk.specs.Fetches.{fetches_range, fetches_of}
 use Rattle.walk.specs.declared.{regime.Regime.Regime, regime.Bank.Bank, level.Params.Params}

@@ -6,14 +6,14 @@ use Rattle.std.proofs.Math.Bool.{Bool, not}
 use mathlib.Core.List.{List, ◌∷◌}
 use Prim.Native.Nat.{ℕ, zero, suc, ◌+◌, ◌-◌, ◌/◌, ◌%◌, ◌^◌, ◌≤◌}
 use Rattle.word.specs.Bits.{align_down}
-use Rattle.word.specs.BitLaws.{same_above, join-above}
+use Rattle.word.proofs.BitLaws.{same_above, join-above}
 use Rattle.walk.specs.Regime.{single_priv, wxn_of}
 use Rattle.walk.specs.Descriptor.{valid, table_or_page, af}
 use Rattle.walk.specs.Table.{Translation, Result, mapped, faults, address_size, translation, access_flag, external_abort, firstblocklevel, inputsize}
 use Rattle.walk.specs.Table.{in_range, startlevel, addrselectbottom, beyond, outputaddress, Lookup, Next, deeper, ends, first_lookup, range_of, params_of}
 use Rattle.walk.specs.Table.{table_next, leaf_translation, leaf_result, level_next, descaddr, on_word, lookup_next, on_next, walk_from, walk_range, table_walk}
 use Rattle.walk.specs.Walk.{walked_of, walk_of}
-use Rattle.walk.specs.SizeLaws.{input-low, index-above-page}
+use Rattle.walk.proofs.SizeLaws.{input-low, index-above-page}
 use Rattle.walk.specs.WalkBounds.{SoundWalked}
 use Rattle.walk.proofs.WalkBounds.{walk-sound}
 use Rattle.walk.specs.Fetches.{after_next, fetches_from, fetches_range, fetches_of}

@@ -2,7 +2,7 @@
 use Rattle.std.specs.Prelude.{if◌then◌else◌, ◌≡◌, refl, Bool, true, false, not, ◌&&◌, ◌||◌, ℕ}
 use Rattle.walk.specs.Descriptor.{ap1, ap2, pxn, uxn}
 use Rattle.walk.specs.Permission.{data_access, data_access_only, execute_el1, execute_el0, execute_only, under_ap_table, under_xn_table, rights, rights_of}
-use Rattle.walk.specs.PermissionLaws.{made, attributes}
+use Rattle.walk.specs.Permission.{made, attributes}
 use Rattle.walk.specs.Table.{Lookup, leaf_permissions, permissions_one, permissions_two}
 use Rattle.walk.specs.declared.{level.Params.Params, rights.Permissions.Permissions}
 

@@ -3,23 +3,71 @@ use Rattle.std.specs.Prelude.{if◌then◌else◌, ◌≡◌, Bool, not, ◌&&�
 use Rattle.std.proofs.Math.Path.{refl}
 use Rattle.std.proofs.Common.{subst, ltb-false, pow_mono}
 use Rattle.std.proofs.Math.Bool.{true, false}
-use Prim.Native.Nat.{ℕ, zero, suc, ◌+◌, ◌-◌, ◌%◌, ◌^◌, ◌≤◌, ◌<◌}
+use Prim.Native.Nat.{ℕ, zero, suc, ◌+◌, ◌-◌, ◌*◌, ◌%◌, ◌^◌, ◌≤◌, ◌<◌}
 use Rattle.std.proofs.Math.Nat.{lt_of_lt_of_le}
 use native.Mathlib.Omega.{arith}
 use Rattle.std.proofs.lemmas.Bool.{eqb-false}
 use Rattle.std.proofs.Math.Arith.{lt_of_le-ne}
 use Rattle.std.proofs.Math.Dec.{eqb, ltb}
-use Rattle.word.specs.BitLaws.{join-below}
+use Rattle.word.proofs.BitLaws.{join-below}
 use Rattle.walk.specs.Regime.{single_priv, wxn_of}
 use Rattle.walk.specs.Descriptor.{valid, table_or_page, af}
 use Rattle.walk.specs.Table.{address_size, translation, access_flag, external_abort, Result, mapped, faults, firstblocklevel}
 use Rattle.walk.specs.Table.{startlevel, addrselectbottom, in_range, beyond, Lookup, Next, deeper, ends, first_lookup, range_of, params_of}
 use Rattle.walk.specs.Table.{table_next, leaf_translation, leaf_result, level_next, descaddr, on_word, lookup_next, on_next, walk_from, walk_range, table_walk}
 use Rattle.walk.specs.Walk.{walked_of, walk_of}
-use Rattle.walk.specs.SizeLaws.{pa-size-low, pa-size-high, start-level, block-level, block_size, index-above-page}
+use Rattle.walk.proofs.SizeLaws.{pa-size-low, pa-size-high, start-level, block-level, block_size, index-above-page}
 use Rattle.walk.specs.declared.{regime.Regime.Regime, regime.Bank.Bank, range.Range.Range}
 use Rattle.walk.specs.declared.{level.Params.Params, level.Leaf.Leaf}
-use Rattle.walk.specs.WalkBounds.{Status, LeafBounds, Found, Sound, SoundWalked, output-small, permission-small}
+use Rattle.walk.specs.WalkBounds.{Status, LeafBounds, Found, Sound, SoundWalked}
+use Rattle.std.proofs.Common.{eqb-true, lit≤, pow_pos, mod-lt}
+use Rattle.std.proofs.lemmas.Bool.{not-false}
+use Rattle.word.specs.Bits.{field, flag}
+use Rattle.word.proofs.BitLaws.{cut_small, join-small}
+use Rattle.walk.specs.Table.{Fault, status_of, outputaddress}
+use Rattle.walk.specs.Permission.{Rights, access_bits, permission_byte, rights_of}
+use Rattle.walk.specs.WalkBounds.{Levelled}
+use Rattle.walk.specs.declared.rights.Permissions.{Permissions}
+
+-- an address that is not beyond n bits has n bits
+pub not_beyond : (n x : ℕ) → n ≤ 48 → beyond n x ≡ false → x % 2 ^ 48 < 2 ^ n
+not_beyond n x h e = cut_small x h (eqb-true (field x n (48 - n)) 0 (not-false _ e))
+
+-- an output address whose descriptor is not beyond n bits has n bits
+pub output-small : (n bottom va desc : ℕ) → bottom ≤ n → n ≤ 48 → beyond n desc ≡ false → outputaddress bottom va desc < 2 ^ n
+output-small n bottom va desc h k e = join-small h (not_beyond n desc k e) (mod-lt va (pow_pos bottom))
+
+-- the permission byte has six bits
+access-small : (g : Rights) → access_bits g ≤ 7
+access-small g = go g.r g.w g.x
+  where
+    go : (a b c : Bool) → flag a 1 + flag b 2 + flag c 4 ≤ 7
+    go true true true = lit≤ tt
+    go true true false = lit≤ tt
+    go true false true = lit≤ tt
+    go true false false = lit≤ tt
+    go false true true = lit≤ tt
+    go false true false = lit≤ tt
+    go false false true = lit≤ tt
+    go false false false = lit≤ tt
+
+sum-small : (a b : ℕ) → a ≤ 7 → b ≤ 7 → a + b * 8 < 64
+sum-small a b h k = omega arith
+
+pub permission-small : (singlepriv wxn : Bool) (t : Permissions) → permission_byte singlepriv wxn t < 64
+permission-small singlepriv wxn t =
+    sum-small (access_bits (rights_of singlepriv false wxn t)) (access_bits (rights_of singlepriv true wxn t)) (access-small (rights_of singlepriv false wxn t))
+    (access-small (rights_of singlepriv true wxn t))
+
+-- and a number below 24
+pub status-small : (n : ℕ) → Status n → n < 24
+status-small n h = go h.fault h.level h.code
+  where
+    go : (f : Fault) → Levelled f → n ≡ status_of f → n < 24
+    go (address_size k) l e = omega arith
+    go (translation k) l e = omega arith
+    go (access_flag k) l e = omega arith
+    go (external_abort k) l e = omega arith
 
 -- a step from a level leads one level down, or ends so
 abbrev SoundNext : ℕ → ℕ → Next → Type 0

@@ -1,11 +1,8 @@
 -- The worked cases of docs/SCOPE.md that are translations with an empty cache, and the untagging: rows 1 to 9 and 12, as one computed statement.
-use Rattle.std.specs.Prelude.{if◌then◌else◌, ◌≡◌, refl, Bool, true, false, [], ◌∷◌, ℕ, ◌+◌, ◌%◌, ◌^◌, Ok, Err}
+use Rattle.std.specs.Prelude.{if◌then◌else◌, ◌≡◌, Bool, true, false, [], ◌∷◌, ℕ, ◌+◌, ◌%◌, ◌^◌, Ok, Err}
 use Rattle.word.specs.Bits.{bit_on, align_down}
-use Rattle.word.specs.Ram.{word_at, little_endian, bytes_of}
+use Rattle.word.specs.Ram.{word_at, bytes_of}
 use Rattle.walk.specs.Tag.{untagged}
-use Rattle.walk.specs.Size.{pa_size}
-use Rattle.walk.specs.Table.{range_of, params_of, table_next, leaf_permissions, leaf_translation, leaf_result, level_next, descaddr, lookup_next, walk_from}
-use Rattle.walk.specs.Table.{walk_range, table_walk}
 use Rattle.walk.specs.Permission.{Access, reading, fetching, kind_bit, first_bit}
 use Rattle.walk.specs.Walk.{walk_of}
 use Rattle.walk.specs.declared.regime.Regime.TheVariants.{El1}
@@ -13,28 +10,28 @@ use Rattle.walk.specs.declared.regime.Bank.{Bank}
 use Rattle.walk.specs.Answers.{Walked}
 
 -- a translation's answer: an address, or a fault status code
-pub data Answer : Type 0 where
-  address : ℕ → Answer
-  status : ℕ → Answer
+pub data WorkedAnswer : Type 0 where
+  address : ℕ → WorkedAnswer
+  status : ℕ → WorkedAnswer
 
 -- the leaf's page with the address's low twelve bits, where the leaf has the bit that the access needs
-pub judged : Bool → Access → ℕ → Walked → Answer
+unfoldable pub judged : Bool → Access → ℕ → Walked → WorkedAnswer
 judged privileged a va (Ok leaf) =
     if bit_on leaf.perms (kind_bit a + first_bit privileged) then address (align_down leaf.oa 12 + va % 2 ^ 12) else status (12 + leaf.level)
 judged privileged a va (Err code) = status code
 
 -- SCTLR_EL1.M set, TCR_EL1 = 25, TTBR0_EL1 as given, other registers zero
-pub registers : ℕ → Bank
+unfoldable pub registers : ℕ → Bank
 registers ttbr0 = record { sctlr = 1; tcr = 25; ttbr0 = ttbr0; ttbr1_el1 = 0; scr_el3 = 0; hcr_el2 = 0 }
 
 -- a translation in the EL1&0 regime: TTBR0, the address of a window of eight bytes and the word there, the access
-pub translated : ℕ → ℕ → ℕ → Bool → Access → ℕ → Answer
+unfoldable pub translated : ℕ → ℕ → ℕ → Bool → Access → ℕ → WorkedAnswer
 unfolding judged registers
 translated ttbr0 at word privileged a va =
     judged privileged a va (walk_of (registers ttbr0) El1 (untagged 25 El1 va) (word_at at (bytes_of 8 word) 8))
 
 -- the word at 0x1008, at address 0x40001234
-pub row : ℕ → Bool → Access → Answer
+unfoldable pub row : ℕ → Bool → Access → WorkedAnswer
 unfolding translated
 row word privileged a = translated 0x1000 0x1008 word privileged a 0x40001234
 
@@ -65,8 +62,3 @@ WorkedTranslations =
     ∷ address 0xBFFFFFFF
     ∷ address 0xFFFFFFFFFFFFF000
     ∷ [])
-
-pub worked-translations : WorkedTranslations
-unfolding row translated judged registers walk_of table_walk walk_range walk_from lookup_next level_next leaf_result leaf_translation leaf_permissions table_next
-    descaddr range_of params_of pa_size untagged word_at little_endian bytes_of
-worked-translations = refl

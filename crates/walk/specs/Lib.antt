@@ -9,15 +9,10 @@ pub mod Table
 pub mod Walk
 pub mod Fresh
 -- What `theorems` says of levels, and worked cases.
-pub mod Begins
 pub mod Cases
 pub mod Numbers
--- Laws that the crates above cite in place of the definitions.
-pub mod TagLaws
-pub mod SizeLaws
-pub mod PermissionLaws
+-- What holds of every walk.
 pub mod WalkBounds
-pub mod FreshLaws
 pub mod Fetches
 pub mod PageLaws
 pub mod Order

@@ -4,10 +4,14 @@ use Rattle.std.specs.Prelude.{◌≡◌, Bool, true, false, List, [], ◌∷◌,
 use Rattle.word.specs.Places.{bits}
 use Rattle.sysreg.specs.declared.regs.Control.{Control}
 use Rattle.walk.specs.Permission.{permission_byte}
-use Rattle.walk.specs.Table.{inputsize, Lookup, deeper, first_lookup, range_of, level_next, leaf_permissions, descaddr}
+use Rattle.walk.specs.Table.{startlevel_of, inputsize, Lookup, deeper, first_lookup, range_of, level_next, leaf_permissions, descaddr}
 use Rattle.walk.specs.Walk.{walk_of}
 use Rattle.walk.specs.declared.{regime.Regime.Regime, regime.Bank.Bank, range.Range.Range}
 use Rattle.walk.specs.declared.{level.Params.Params, level.Leaf.Leaf}
+
+-- with so many bits of input, from low to high, a walk begins at the level; by whether the granule is 64 KiB
+abbrev pub StartsAt : Bool → ℕ → ℕ → ℕ → Type 0
+StartsAt largegrain low high level = (n : ℕ) → low ≤ n → n ≤ high → startlevel_of largegrain n ≡ level
 
 -- a leaf of the level maps with its descriptor's bits 47 to low, and the address's bits below
 abbrev pub LeafMaps : Bool → ℕ → ℕ → Type 0

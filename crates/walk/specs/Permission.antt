@@ -114,3 +114,11 @@ kind_bit fetching = 2
 abbrev pub first_bit : Bool → ℕ
 first_bit true = 3
 first_bit false = 0
+
+-- AArch64.CheckPermission: r, w, and xn negated
+abbrev pub made : Bool → Bool → Bool → Rights
+made r w x = record { r = r; w = w; x = x }
+
+-- AP<2>, AP<1>, xn and pxn as AArch64.TranslationTableWalk's last lines leave them
+abbrev pub attributes : Bool → Bool → Bool → Bool → Permissions
+attributes a2 a1 x p = record { ap2 = a2; ap1 = a1; xn = x; pxn = p }

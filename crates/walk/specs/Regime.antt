@@ -15,18 +15,18 @@ abbrev pub regime_of : ℕ → Regime
 regime_of level = if eqb level 2 then El2 else if eqb level 3 then El3 else El1
 
 -- the exception level whose registers a regime uses
-abbrev pub level_of : Regime → El
-level_of El1 = El.El1
-level_of El2 = El.El2
-level_of El3 = El.El3
+abbrev pub own_level : Regime → El
+own_level El1 = El.El1
+own_level El2 = El.El2
+own_level El3 = El.El3
 
 -- SCTLR, TCR and TTBR0 of the regime's own level; TTBR1_EL1, SCR_EL3 and HCR_EL2
 abbrev pub bank_of : Control → Regime → Bank
 bank_of c r =
     record {
-      sctlr = control_at c (Sctlr (level_of r));
-      tcr = control_at c (Tcr (level_of r));
-      ttbr0 = control_at c (Ttbr0 (level_of r));
+      sctlr = control_at c (Sctlr (own_level r));
+      tcr = control_at c (Tcr (own_level r));
+      ttbr0 = control_at c (Ttbr0 (own_level r));
       ttbr1_el1 = control_at c Ttbr1;
       scr_el3 = control_at c Scr;
       hcr_el2 = control_at c Hcr;

@@ -1,11 +1,11 @@
 -- How the code keeps the manual's variables: the bits of all table descriptors passed in one word, and the bit at which an index begins. These
 -- are the code's own states, for the contracts of its parts; no definition of the walk reads this file.
-use Rattle.std.specs.Prelude.{◌≡◌, Bool, not, ◌&&◌, ℕ, ◌+◌, ◌%◌, ◌^◌, ◌≤◌, ◌<◌, Ok, Err}
+use Rattle.std.specs.Prelude.{◌≡◌, not, ◌&&◌, ℕ, ◌+◌, ◌%◌, ◌^◌, ◌≤◌, ◌<◌, Ok, Err}
 use Rattle.word.specs.Bits.{align_down}
 use Rattle.walk.specs.Descriptor.{ap_table0, ap_table1, uxn_table, pxn_table}
-use Rattle.walk.specs.Table.{status_of, entered, Lookup, Next, deeper, ends, inputsize, startlevel, startlevel_of, addrselectbottom, baselowerbound}
+use Rattle.walk.specs.Table.{status_of, entered, Lookup, Next, deeper, ends, inputsize, startlevel, addrselectbottom, baselowerbound}
 use Rattle.walk.specs.Walk.{walked_of}
-use Rattle.walk.specs.declared.{range.Range.Range, range.Start.Start, level.Params.Params}
+use Rattle.walk.specs.declared.{range.Range.Range, level.Params.Params}
 use Rattle.walk.specs.declared.{level.WalkState.WalkState, level.Leaf.Leaf, level.Step.Step}
 use Rattle.walk.specs.declared.level.Step.TheVariants.{Next as Onward, Leaf as Found, Fault}
 use Rattle.walk.specs.Answers.{Begin, Walked}
@@ -24,16 +24,16 @@ lookup_of p w =
     }
 
 -- what a step comes to, for the code and for the manual
-pub data Outcome : Type 0 where
-  onward : Lookup → Outcome
-  answers : Walked → Outcome
+pub data StepEnd : Type 0 where
+  onward : Lookup → StepEnd
+  answers : Walked → StepEnd
 
-abbrev pub stepped : Params → Step → Outcome
+abbrev pub stepped : Params → Step → StepEnd
 stepped p (Onward w) = onward (lookup_of p w)
 stepped p (Found leaf) = answers (Ok leaf)
 stepped p (Fault status) = answers (Err status)
 
-abbrev pub meant : Params → Next → Outcome
+abbrev pub meant : Params → Next → StepEnd
 meant p (deeper l) = onward l
 meant p (ends r) = answers (walked_of p.singlepriv p.wxn r)
 
@@ -54,11 +54,6 @@ pub data Leads (p : Params) (w : WalkState) : Step → Type 0 where
   next : {v : WalkState} → Onwards p w v → Leads p w (Onward v)
   found : {leaf : Leaf} → Leads p w (Found leaf)
   fault : {status : ℕ} → Leads p w (Fault status)
-
--- the first level of a granule and input size, and the bit at which its index begins
-abbrev pub start_of : Bool → ℕ → Start
-start_of largegrain size =
-    record { level = startlevel_of largegrain size; lsb = addrselectbottom largegrain (startlevel_of largegrain size) }
 
 -- where the code begins a walk
 unfoldable pub begin_of : Range → ℕ → ℕ → Begin

@@ -1,13 +1,13 @@
 -- The tables that a walk reads, one by one, for those who show a walk: the table, the address of its descriptor, and what that leads to.
 use Rattle.std.specs.Prelude.{ℕ, zero, suc, Option, Some, None}
 use Rattle.walk.specs.Table.{Lookup, Next, deeper, ends, first_lookup, entered, range_of, params_of, descaddr, lookup_next}
-use Rattle.walk.specs.State.{Outcome, lookup_of, stepped, meant}
+use Rattle.walk.specs.State.{StepEnd, lookup_of, stepped, meant}
 use Rattle.walk.specs.declared.{regime.Regime.Regime, regime.Bank.Bank, level.Params.Params}
 use Rattle.walk.specs.Answers.{Visited}
 
 -- a table read, or that the walk ended before
 pub data Seen : Type 0 where
-  seen : Lookup → ℕ → Outcome → Seen
+  seen : Lookup → ℕ → StepEnd → Seen
   past : Seen
 
 abbrev pub seen_after : Next → (Lookup → Seen) → Seen

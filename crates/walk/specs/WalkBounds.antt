@@ -1,17 +1,9 @@
 -- What holds of every walk's answer, for those who know the walk by its definition alone: the leaf's level, output address and
 -- permission byte, and the status of a fault.
-use Rattle.std.specs.Prelude.{◌≡◌, Bool, Ok, Err}
-use Rattle.std.proofs.Common.{mod-lt, eqb-true, lit≤, pow_pos}
-use Rattle.std.proofs.Math.Bool.{true, false}
-use Prim.Native.Nat.{ℕ, ◌+◌, ◌-◌, ◌*◌, ◌%◌, ◌^◌, ◌≤◌, ◌<◌}
-use native.Mathlib.Omega.{arith}
-use Rattle.std.proofs.lemmas.Bool.{not-false}
-use Rattle.word.specs.Bits.{field, flag}
-use Rattle.word.specs.BitLaws.{cut_small, join-small}
+use Rattle.std.specs.Prelude.{◌≡◌, ℕ, ◌%◌, ◌^◌, ◌≤◌, ◌<◌, Ok, Err}
 use Rattle.walk.specs.Table.{Fault, address_size, translation, access_flag, external_abort, status_of, Translation, Result, mapped, faults}
-use Rattle.walk.specs.Table.{beyond, outputaddress}
-use Rattle.walk.specs.Permission.{Rights, access_bits, permission_byte, rights_of}
-use Rattle.walk.specs.declared.{rights.Permissions.Permissions, level.Leaf.Leaf}
+use Rattle.walk.specs.declared.{level.Leaf.Leaf, fresh.Fresh.Fresh}
+use Rattle.walk.specs.declared.fresh.Fresh.TheVariants.{Flat, Ended}
 use Rattle.walk.specs.Answers.{Walked}
 
 -- the levels at which a fault of each kind can be: an access flag is read in a leaf, and no leaf is above level 1
@@ -45,46 +37,15 @@ abbrev pub Sound : ℕ → Result → Type 0
 Sound va (mapped t) = Found va t
 Sound va (faults f) = Levelled f
 
--- an address that is not beyond n bits has n bits
-pub not_beyond : (n x : ℕ) → n ≤ 48 → beyond n x ≡ false → x % 2 ^ 48 < 2 ^ n
-not_beyond n x h e = cut_small x h (eqb-true (field x n (48 - n)) 0 (not-false _ e))
-
--- an output address whose descriptor is not beyond n bits has n bits
-pub output-small : (n bottom va desc : ℕ) → bottom ≤ n → n ≤ 48 → beyond n desc ≡ false → outputaddress bottom va desc < 2 ^ n
-output-small n bottom va desc h k e = join-small h (not_beyond n desc k e) (mod-lt va (pow_pos bottom))
-
--- the permission byte has six bits
-access-small : (g : Rights) → access_bits g ≤ 7
-access-small g = go g.r g.w g.x
-  where
-    go : (a b c : Bool) → flag a 1 + flag b 2 + flag c 4 ≤ 7
-    go true true true = lit≤ tt
-    go true true false = lit≤ tt
-    go true false true = lit≤ tt
-    go true false false = lit≤ tt
-    go false true true = lit≤ tt
-    go false true false = lit≤ tt
-    go false false true = lit≤ tt
-    go false false false = lit≤ tt
-
-sum-small : (a b : ℕ) → a ≤ 7 → b ≤ 7 → a + b * 8 < 64
-sum-small a b h k = omega arith
-
-pub permission-small : (singlepriv wxn : Bool) (t : Permissions) → permission_byte singlepriv wxn t < 64
-permission-small singlepriv wxn t =
-    sum-small (access_bits (rights_of singlepriv false wxn t)) (access_bits (rights_of singlepriv true wxn t)) (access-small (rights_of singlepriv false wxn t))
-    (access-small (rights_of singlepriv true wxn t))
-
 abbrev pub SoundWalked : ℕ → Walked → Type 0
 SoundWalked va (Ok leaf) = LeafBounds leaf × (leaf.oa % 2 ^ 12 ≡ va % 2 ^ 12)
 SoundWalked va (Err n) = Status n
 
--- and a number below 24
-pub status-small : (n : ℕ) → Status n → n < 24
-status-small n h = go h.fault h.level h.code
-  where
-    go : (f : Fault) → Levelled f → n ≡ status_of f → n < 24
-    go (address_size k) l e = omega arith
-    go (translation k) l e = omega arith
-    go (access_flag k) l e = omega arith
-    go (external_abort k) l e = omega arith
+-- of a fresh answer: a leaf within its bounds, a status of the table of answers, or flat
+abbrev pub SoundEnd : Walked → Type 0
+SoundEnd (Ok leaf) = LeafBounds leaf
+SoundEnd (Err n) = Status n
+
+abbrev pub SoundFresh : Fresh → Type 0
+SoundFresh (Ended w) = SoundEnd w
+SoundFresh (Flat pa) = Unit {0}

@@ -1,50 +1,60 @@
 // One level of a walk: where its descriptor lies, and what the descriptor says.
-ghost use Rattle.std.specs.Prelude.{◌≡◌, ℕ, ◌≤◌, ◌<◌};
-ghost use Rattle.walk.specs.Table.{grainsize, stride, firstblocklevel, beyond, descaddr, table_next};
-ghost use Rattle.walk.specs.Table.{leaf_permissions, leaf_result, level_next, ends};
+ghost use Rattle.std.specs.Prelude.{◌≡◌, ◌≤◌, ◌<◌};
+ghost use Rattle.word.specs.Ram.{word_at};
+ghost use Rattle.walk.specs.Table.{grainsize, addrselectbottom, descaddr, table_next, lookup_next};
+ghost use Rattle.walk.specs.Table.{leaf_permissions, leaf_result, ends};
 ghost use Rattle.walk.specs.State.{lookup_of, stepped, meant, Standing, Leads};
 
-use crate::rights;
+use crate::descriptor;
+use crate::descriptor::Descriptor;
+use crate::fsc::{FSC_ACCESS_FLAG, FSC_ADDR_SIZE, FSC_TRANSLATION, FSC_WALK_EXTERNAL};
 use crate::rights::Permissions;
-use word::bits;
+use word::ram::Width;
+use word::{bits, ram};
 
-// What the registers say of every level.
+/// What the registers say of every level.
 #[derive(Clone, Copy)]
 pub struct Params {
+    /// A granule of 64 KiB, and not of 4 KiB.
     pub largegrain: bool,
-    // how many bits an output address may have
+    /// How many bits an output address may have.
     pub outputsize: u64,
-    // the regime has one privilege level and one range
+    /// The regime has one privilege level and one range.
     pub singlepriv: bool,
+    /// `SCTLR_ELx.WXN`.
     pub wxn: bool,
 }
 
-// Where a walk stands: the bits of the table descriptors passed, the table, the bit above those that index it, and
-// the lowest of those.
+/// Where a walk stands.
 #[derive(Clone, Copy)]
 pub struct WalkState {
+    /// The bits of all table descriptors passed, whose hierarchical attributes add up.
     pub tables: u64,
+    /// The address of the table.
     pub table: u64,
+    /// The address bit above those that index the table, and the lowest of these.
     pub top: u64,
     pub lsb: u64,
     pub level: u8,
 }
 
-// A block or page descriptor, with the attributes of the tables above it.
+/// A block or page descriptor, with the attributes of the tables above it.
 #[derive(Clone, Copy)]
 pub struct Leaf {
+    /// The output address.
     pub oa: u64,
     pub desc: u64,
+    /// EL0's rights in bits 0 to 2, the regime's own in bits 3 to 5: read, write, fetch.
     pub perms: u8,
     pub level: u8,
-    // nG clear: the same for every ASID
+    /// nG clear: the same for every ASID.
     pub global: bool,
 }
 
-// What a walk ends in: a leaf, or a fault status code.
+/// What a walk ends in: a leaf, or a fault status code.
 pub type Walked = Result<Leaf, u8>;
 
-// What a level's descriptor leads to: the next level, or the walk's end.
+/// What a level's descriptor leads to: the next level, or the walk's end.
 #[derive(Clone, Copy)]
 pub enum Step {
     Next(WalkState),
@@ -53,33 +63,20 @@ pub enum Step {
 }
 
 // log2 of the granule's bytes.
-fn grain_bits(largegrain: bool) -> u64
+fn granule(largegrain: bool) -> u64
     ensures value { result ≡ grainsize largegrain }
-    ensures upper_bound { result ≤ 16 }
+    ensures bounds { (12 ≤ result) × (result ≤ 16) }
 {
     if largegrain { 16 } else { 12 }
 }
 
-// How many address bits a table resolves.
-fn stride_bits(largegrain: bool) -> u64
-    ensures { result ≡ stride largegrain }
+// The lowest address bit that indexes a table of the level.
+pub(crate) fn lsb_of(largegrain: bool, level: u64) -> u64
+    requires { level ≤ 3 }
+    ensures value { result ≡ addrselectbottom largegrain level }
 {
-    if largegrain { 13 } else { 9 }
-}
-
-// The first level whose tables may hold blocks.
-fn first_block_level(largegrain: bool) -> u8
-    ensures { result ≡ firstblocklevel largegrain }
-{
-    if largegrain { 2 } else { 1 }
-}
-
-// Whether bits 47 to n of a descriptor or base register hold an address beyond n bits.
-pub(crate) fn too_large(x: u64, n: u64) -> bool
-    requires { n ≤ 44 }
-    ensures { result ≡ beyond n x }
-{
-    (x % 0x1_0000_0000_0000) >> n != 0
+    let granule = granule(largegrain);
+    granule + (granule - 3) * (3 - level)
 }
 
 // The address of the descriptor that va selects.
@@ -95,82 +92,87 @@ pub(crate) fn descriptor_address(p: Params, w: WalkState, va: u64) -> u64
 
 // A table descriptor: the next level, unless the table lies beyond the output size.
 #[tactic(auto, using(crate::proofs::Levels::tables))]
-fn table_step(p: Params, w: WalkState, desc: u64) -> Step
+fn table_step(p: Params, w: WalkState, desc: Descriptor) -> Step
     requires standing { Standing p w }
     requires level_bound { (w.level < 3) × (p.outputsize ≤ 44) }
-    ensures result_value { stepped p result ≡ meant p (table_next p (lookup_of p w) desc) }
+    ensures result_value { stepped p result ≡ meant p (table_next p (lookup_of p w) desc.0) }
     ensures leads { Leads p w result }
 {
-    if too_large(desc, p.outputsize) {
-        return Step::Fault(w.level);
+    if descriptor::beyond(desc.0, p.outputsize) {
+        return Step::Fault(FSC_ADDR_SIZE | w.level);
     }
+    let granule = granule(p.largegrain);
     Step::Next(WalkState {
-        tables: w.tables | desc,
-        table: bits::align_down(desc % 0x1_0000_0000_0000, grain_bits(p.largegrain)),
+        tables: w.tables | desc.0,
+        table: descriptor::address(desc.0, granule),
         top: w.lsb,
-        lsb: w.lsb - stride_bits(p.largegrain),
+        lsb: w.lsb - (granule - 3),
         level: w.level + 1,
     })
 }
 
 // The attributes of a leaf that decide permission.
 #[tactic(auto, unfolding(crate::specs::Table::leaf_permissions))]
-fn permissions(p: Params, w: WalkState, desc: u64) -> Permissions
-    ensures { result ≡ leaf_permissions p (lookup_of p w) desc }
+fn permissions(p: Params, w: WalkState, desc: Descriptor) -> Permissions
+    ensures { result ≡ leaf_permissions p (lookup_of p w) desc.0 }
 {
     let two = !p.singlepriv;
-    let tables = w.tables;
+    let tables = Descriptor(w.tables);
     Permissions {
-        ap2: ((desc >> 7) % 2 == 1) | ((tables >> 62) % 2 == 1),
-        ap1: p.singlepriv | (((desc >> 6) % 2 == 1) & !(two & ((tables >> 61) % 2 == 1))),
-        xn: ((desc >> 54) % 2 == 1) | ((tables >> 60) % 2 == 1),
-        pxn: two & (((desc >> 53) % 2 == 1) | (two & ((tables >> 59) % 2 == 1))),
+        ap2: desc.ap2() || tables.ap_table1(),
+        ap1: p.singlepriv || (desc.ap1() && !tables.ap_table0()),
+        xn: desc.uxn() || tables.uxn_table(),
+        pxn: two && (desc.pxn() || tables.pxn_table()),
     }
 }
 
 // A block or page descriptor: the leaf, unless blocks are not allowed there, its output lies beyond the output size,
 // or its access flag is clear.
 #[tactic(auto, using(crate::proofs::Levels::leaves), unfolding(crate::specs::Table::leaf_result, crate::specs::Table::leaf_translation))]
-fn leaf_step(p: Params, w: WalkState, va: u64, desc: u64) -> Step
+fn leaf_step(p: Params, w: WalkState, va: u64, desc: Descriptor) -> Step
     requires standing { Standing p w }
     requires outputsize_bound { p.outputsize ≤ 44 }
-    ensures result_value { stepped p result ≡ meant p (ends (leaf_result p va (lookup_of p w) desc)) }
+    ensures result_value { stepped p result ≡ meant p (ends (leaf_result p va (lookup_of p w) desc.0)) }
     ensures leads { Leads p w result }
 {
-    if w.level < first_block_level(p.largegrain) {
-        return Step::Fault(4 + w.level);
+    let first_block_level = if p.largegrain { 2 } else { 1 };
+    if w.level < first_block_level {
+        return Step::Fault(FSC_TRANSLATION | w.level);
     }
-    if too_large(desc, p.outputsize) {
-        return Step::Fault(w.level);
+    if descriptor::beyond(desc.0, p.outputsize) {
+        return Step::Fault(FSC_ADDR_SIZE | w.level);
     }
-    if (desc >> 10) % 2 == 0 {
-        return Step::Fault(8 + w.level);
+    if !desc.af() {
+        return Step::Fault(FSC_ACCESS_FLAG | w.level);
     }
-    let frame = bits::align_down(desc % 0x1_0000_0000_0000, w.lsb);
+    let frame = descriptor::address(desc.0, w.lsb);
     let offset = bits::low_bits(va, w.lsb);
     Step::Leaf(Leaf {
         oa: frame + offset,
-        desc,
-        perms: rights::perm_byte(p.singlepriv, p.wxn, permissions(p, w, desc)),
+        desc: desc.0,
+        perms: permissions(p, w, desc).byte(p.singlepriv, p.wxn),
         level: w.level,
-        global: p.singlepriv || (desc >> 11) % 2 == 0,
+        global: p.singlepriv || !desc.not_global(),
     })
 }
 
-// What a descriptor of the level says.
-#[tactic(auto, using(crate::proofs::Levels::fault_leads), unfolding(crate::specs::Table::level_next))]
-pub(crate) fn level_step(p: Params, w: WalkState, va: u64, desc: u64) -> Step
+// What the descriptor of the level leads to.
+#[tactic(auto, using(crate::proofs::Levels::fault_leads), unfolding(crate::specs::Table::lookup_next, crate::specs::Table::level_next))]
+pub(crate) fn lookup(p: Params, w: WalkState, va: u64, base: u64, ram: &[u8]) -> Step
     requires standing { Standing p w }
     requires outputsize_bound { p.outputsize ≤ 44 }
-    ensures result_value { stepped p result ≡ meant p (level_next p va (lookup_of p w) desc) }
+    ensures result_value { stepped p result ≡ meant p (lookup_next (word_at base ram.now 8) p va (lookup_of p w)) }
     ensures leads { Leads p w result }
 {
-    let valid = desc % 2 == 1;
-    let table = (desc >> 1) % 2 == 1;
-    let last = w.level == 3;
-    if !valid || (last && !table) {
-        Step::Fault(4 + w.level)
-    } else if table && !last {
+    let at = descriptor_address(p, w, va);
+    let desc = match ram::read(base, ram, Width::Double, at) {
+        Some(word) => Descriptor(word),
+        None => return Step::Fault(FSC_WALK_EXTERNAL | w.level),
+    };
+    let table = desc.table_or_page();
+    if !desc.valid() || (w.level == 3 && !table) {
+        Step::Fault(FSC_TRANSLATION | w.level)
+    } else if w.level < 3 && table {
         table_step(p, w, desc)
     } else {
         leaf_step(p, w, va, desc)

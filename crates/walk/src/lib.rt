@@ -1,11 +1,11 @@
 #![tactic(auto)]
 // Stage 1 of VMSAv8-64: the address leaves and the translation table walk. Nothing here keeps state.
+pub mod descriptor;
 pub mod fresh;
+pub mod fsc;
 pub mod level;
 pub mod range;
 pub mod regime;
 pub mod rights;
-pub mod size;
 pub mod table;
-pub mod tag;
 pub mod theorems;

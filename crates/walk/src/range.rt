@@ -1,141 +1,150 @@
 // What the registers say of a walk, and where it begins.
-ghost use Rattle.std.specs.Prelude.{◌≡◌, ℕ, ◌-◌, ◌≤◌, ◌<◌};
-ghost use Rattle.walk.specs.Table.{range_of, params_of, inputsize, in_range};
-ghost use Rattle.walk.specs.State.{start_of, begin_of};
+ghost use Rattle.std.specs.Prelude.{◌≡◌, ◌%◌, ◌≤◌, ◌<◌};
+ghost use Rattle.walk.specs.Size.{pa_size};
+ghost use Rattle.walk.specs.Table.{range_of, params_of, inputsize, in_range, startlevel_of, addrselectbottom};
+ghost use Rattle.walk.specs.State.{begin_of};
 
+use crate::fsc::{FSC_ADDR_SIZE, FSC_TRANSLATION};
 use crate::level::{Params, WalkState};
 use crate::regime::{Bank, Regime};
-use crate::{level, size};
-use word::bits;
+use crate::{descriptor, level};
 
-// The fields of TCR and TTBR for the range that an address lies in.
+const SCTLR_WXN: u64 = 1 << 19;
+
+/// The fields of TCR and TTBR for the range that an address lies in.
 #[derive(Clone, Copy)]
 pub struct Range {
-    // a granule of 64 KiB, and not of 4 KiB
+    /// A granule of 64 KiB, and not of 4 KiB.
     pub largegrain: bool,
-    // TTBR0 or TTBR1
+    /// TTBR0 or TTBR1.
     pub baseregister: u64,
     pub txsz: u64,
-    // EPD: walks of the range fault
+    /// EPD: walks of the range fault.
     pub disabled: bool,
-    // IPS or PS
+    /// IPS or PS.
     pub ps: u64,
     pub upper: bool,
 }
 
-// The first level, and the lowest address bit that indexes its table.
-#[derive(Clone, Copy)]
-pub struct Start {
-    pub level: u8,
-    pub lsb: u64,
-}
-
-// Where a walk begins, or the status of the fault that keeps it from beginning.
+/// Where a walk begins, or the status of the fault that keeps it from beginning.
 pub type Begin = Result<WalkState, u8>;
 
-// The range that va lies in: one of two in the EL1&0 regime, the only one in the others.
-#[tactic(auto, unfolding(crate::specs::Table::range_of))]
-pub fn range_of(s: Bank, regime: Regime, va: u64) -> Range
-    ensures { result ≡ range_of s regime va }
+/// `TCR.{I}PS` to a number of bits, capped at what the A72 implements.
+#[tactic(auto, unfolding(crate::specs::Size::pa_size))]
+pub fn pa_bits(ps: u64) -> u64
+    ensures value { result ≡ pa_size (ps % 8) }
+    ensures bounds { (32 ≤ result) × (result ≤ 44) }
 {
-    let upper = regime == Regime::El1 && (va >> 55) % 2 == 1;
-    if upper {
-        return Range {
-            largegrain: (s.tcr >> 30) % 4 == 3,
-            baseregister: s.ttbr1_el1,
-            txsz: (s.tcr >> 16) % 64,
-            disabled: (s.tcr >> 23) % 2 == 1,
-            ps: (s.tcr >> 32) % 8,
+    match ps % 8 {
+        0 => 32,
+        1 => 36,
+        2 => 40,
+        3 => 42,
+        _ => 44,
+    }
+}
+
+impl Bank {
+    /// The range that `va` lies in: one of two in the EL1&0 regime, the only one in the others.
+    #[tactic(auto, unfolding(crate::specs::Table::range_of))]
+    pub fn range(self, regime: Regime, va: u64) -> Range
+        ensures { result ≡ range_of self regime va }
+    {
+        let tcr = self.tcr;
+        let upper = regime == Regime::El1 && va >> 55 & 1 != 0;
+        if upper {
+            return Range {
+                largegrain: tcr >> 30 & 3 == 3,
+                baseregister: self.ttbr1_el1,
+                txsz: tcr >> 16 & 63,
+                disabled: tcr >> 23 & 1 != 0,
+                ps: tcr >> 32 & 7,
+                upper,
+            };
+        }
+        let only = regime.is_single();
+        let ps = if only { tcr >> 16 } else { tcr >> 32 };
+        Range {
+            largegrain: tcr >> 14 & 3 == 1,
+            baseregister: self.ttbr0,
+            txsz: tcr & 63,
+            disabled: !only && tcr >> 7 & 1 != 0,
+            ps: ps & 7,
             upper,
-        };
+        }
     }
-    let only = regime.is_single();
-    Range {
-        largegrain: (s.tcr >> 14) % 4 == 1,
-        baseregister: s.ttbr0,
-        txsz: s.tcr % 64,
-        disabled: !only && (s.tcr >> 7) % 2 == 1,
-        ps: if only {
-            (s.tcr >> 16) % 8
+
+    /// What holds at every level of a walk.
+    #[tactic(auto, using(crate::proofs::Leaves::masks), unfolding(crate::specs::Table::params_of))]
+    pub fn params(self, regime: Regime, g: Range) -> Params
+        ensures value { result ≡ params_of self regime g }
+        ensures outputsize_bound { result.outputsize ≤ 44 }
+    {
+        Params {
+            largegrain: g.largegrain,
+            outputsize: pa_bits(g.ps),
+            singlepriv: regime.is_single(),
+            wxn: self.sctlr & SCTLR_WXN != 0,
+        }
+    }
+}
+
+impl Range {
+    // How many bits an input address has: TxSZ is held to 16..39.
+    fn input_size(self) -> u64
+        ensures value { result ≡ inputsize self }
+        ensures bounds { (25 ≤ result) × (result ≤ 48) }
+    {
+        64 - self.txsz.clamp(16, 39)
+    }
+
+    #[tactic(auto, using(crate::proofs::Leaves::ones_shifted))]
+    fn has(self, va: u64) -> bool
+        ensures { result ≡ in_range self va }
+    {
+        let inputsize = self.input_size();
+        let high = va >> inputsize;
+        if self.upper {
+            high == u64::MAX >> inputsize
         } else {
-            (s.tcr >> 32) % 8
-        },
-        upper,
+            high == 0
+        }
     }
-}
 
-// What holds at every level of a walk.
-#[tactic(auto, unfolding(crate::specs::Table::params_of))]
-pub fn params_of(s: Bank, regime: Regime, g: Range) -> Params
-    ensures value { result ≡ params_of s regime g }
-    ensures outputsize_bound { result.outputsize ≤ 44 }
-{
-    Params {
-        largegrain: g.largegrain,
-        outputsize: size::pa_bits(g.ps),
-        singlepriv: regime.is_single(),
-        wxn: (s.sctlr >> 19) % 2 == 1,
+    // The level of the first table: each granule has a quotient of its own, by a constant, which costs no division.
+    fn start(self, inputsize: u64) -> u64
+        requires { (25 ≤ inputsize) × (inputsize ≤ 48) }
+        ensures value { result ≡ startlevel_of self.largegrain inputsize }
+        ensures bounds { (result ≤ 3) × (addrselectbottom self.largegrain result < inputsize) }
+    {
+        if self.largegrain {
+            4 - (inputsize - 16).div_ceil(13)
+        } else {
+            4 - (inputsize - 12).div_ceil(9)
+        }
     }
-}
 
-// 64 - TxSZ, with TxSZ held to 16..39.
-fn input_size(g: Range) -> u64
-    ensures value { result ≡ inputsize g }
-    ensures lower_bound { (25 ≤ result) × (result ≤ 48) }
-{
-    64 - g.txsz.clamp(16, 39)
-}
-
-#[tactic(auto, using(crate::proofs::Leaves::ones_shifted))]
-fn in_range(g: Range, va: u64) -> bool
-    ensures { result ≡ in_range g va }
-{
-    let n = input_size(g);
-    let high = va >> n;
-    if g.upper {
-        high == u64::MAX >> n
-    } else {
-        high == 0
+    // The first table, unless the address is out of range, walks are disabled or the table lies beyond the output size.
+    #[tactic(auto, unfolding(crate::specs::State::begin_of))]
+    pub(crate) fn begin(self, outputsize: u64, va: u64) -> Begin
+        requires { outputsize ≤ 44 }
+        ensures { result ≡ begin_of self outputsize va }
+    {
+        if !self.has(va) || self.disabled {
+            return Err(FSC_TRANSLATION);
+        }
+        if descriptor::beyond(self.baseregister, outputsize) {
+            return Err(FSC_ADDR_SIZE);
+        }
+        let inputsize = self.input_size();
+        let start = self.start(inputsize);
+        let lsb = level::lsb_of(self.largegrain, start);
+        Ok(WalkState {
+            tables: 0,
+            table: descriptor::address(self.baseregister, 3 + inputsize - lsb),
+            top: inputsize,
+            lsb,
+            level: start as u8,
+        })
     }
-}
-
-// The level of the first table: 4 less the strides that the bits above the granule take, rounded up. Each granule has a
-// quotient of its own, by a constant, which costs no division.
-fn start_of(largegrain: bool, n: u64) -> Start
-    requires { (25 ≤ n) × (n ≤ 48) }
-    ensures value { result ≡ start_of largegrain n }
-    ensures level_bound { (result.level ≤ 3) × (result.lsb < n) }
-{
-    let (grain, stride, strides) = if largegrain {
-        (16, 13, (n - 16).div_ceil(13))
-    } else {
-        (12, 9, (n - 12).div_ceil(9))
-    };
-    Start {
-        level: (4 - strides) as u8,
-        lsb: grain + (strides - 1) * stride,
-    }
-}
-
-// The first table, unless the address is out of range or walks are disabled, or the table lies beyond the output size.
-#[tactic(auto, unfolding(crate::specs::State::begin_of))]
-pub(crate) fn begin_walk(g: Range, outputsize: u64, va: u64) -> Begin
-    requires { outputsize ≤ 44 }
-    ensures { result ≡ begin_of g outputsize va }
-{
-    if !in_range(g, va) || g.disabled {
-        return Err(4);
-    }
-    if level::too_large(g.baseregister, outputsize) {
-        return Err(0);
-    }
-    let n = input_size(g);
-    let start = start_of(g.largegrain, n);
-    Ok(WalkState {
-        tables: 0,
-        table: bits::align_down(g.baseregister % 0x1_0000_0000_0000, 3 + n - start.lsb),
-        top: n,
-        lsb: start.lsb,
-        level: start.level,
-    })
 }

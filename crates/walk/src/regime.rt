@@ -1,19 +1,29 @@
-// The translation regimes and their registers.
+// The translation regimes, their registers, and what of an address a walk sees.
 ghost use Rattle.std.specs.Prelude.{◌≡◌, ◌<◌};
-ghost use Rattle.sysreg.specs.Regs.{level_of as elLevel};
-ghost use Rattle.walk.specs.Regime.{bank_of, level_of, regime_of, single_priv, stage1_on};
+ghost use Rattle.sysreg.specs.Regs.{level_of};
+ghost use Rattle.walk.specs.Regime.{bank_of, own_level, regime_of, single_priv, stage1_on};
+ghost use Rattle.walk.specs.Tag.{untagged};
 
 use sysreg::regs::Control;
 
-// EL1&0, EL2 and EL3.
+/// `SCR_EL3` bits that stage 1 reads.
+const SCR_NS: u64 = 1 << 0;
+/// `HCR_EL2` bits that stage 1 reads.
+const HCR_DC: u64 = 1 << 12;
+
+const HCR_TGE: u64 = 1 << 27;
+/// `SCTLR_ELx.M`: stage 1 translation on.
+const SCTLR_M: u64 = 1 << 0;
+
+/// EL1&0, EL2 and EL3.
 #[derive(Clone, Copy, PartialEq, Eq)]
 pub enum Regime {
-    El1,
+    El1 = 1,
     El2,
     El3,
 }
 
-// The registers that translation in one regime reads: its own SCTLR, TCR and TTBR0, and TTBR1_EL1, SCR_EL3 and HCR_EL2.
+/// The registers that translation in one regime reads: its own SCTLR, TCR and TTBR0, and those that all share.
 #[derive(Clone, Copy)]
 pub struct Bank {
     pub sctlr: u64,
@@ -25,7 +35,7 @@ pub struct Bank {
 }
 
 impl Regime {
-    // The regime of an exception level.
+    /// The regime of an exception level.
     pub fn of_level(level: u8) -> Self
         ensures { result ≡ regime_of level }
     {
@@ -36,7 +46,7 @@ impl Regime {
         }
     }
 
-    // Whether the regime has one privilege level and one range of addresses.
+    /// Whether the regime has one privilege level and one range of addresses.
     pub fn is_single(self) -> bool
         ensures { result ≡ single_priv self }
     {
@@ -45,41 +55,54 @@ impl Regime {
 
     // The place of the regime's own registers.
     pub fn index(self) -> usize
-        ensures value { result ≡ elLevel (level_of self) }
+        ensures value { result ≡ level_of (own_level self) }
         ensures upper_bound { result < 4 }
     {
-        match self {
-            Regime::El1 => 1,
-            Regime::El2 => 2,
-            Regime::El3 => 3,
-        }
+        self as usize
     }
 }
 
 impl Bank {
-    // The registers of a regime.
+    /// The registers of a regime.
     pub fn new(c: &Control, regime: Regime) -> Self
         ensures { result ≡ bank_of c.now regime }
     {
-        let el = regime.index();
+        let r = regime.index();
         Bank {
-            sctlr: c.sctlr[el],
-            tcr: c.tcr[el],
-            ttbr0: c.ttbr0[el],
+            sctlr: c.sctlr[r],
+            tcr: c.tcr[r],
+            ttbr0: c.ttbr0[r],
             ttbr1_el1: c.ttbr1_el1,
             scr_el3: c.scr_el3,
             hcr_el2: c.hcr_el2,
         }
     }
 
-    // Is stage 1 on for the regime?
+    /// Is stage 1 on for the regime? `HCR_EL2.{TGE,DC}` turn it off for Non-secure EL1&0 (DDI 0487, D5.2.9).
     pub fn stage1_on(&self, regime: Regime) -> bool
         ensures { result ≡ stage1_on self.now regime }
     {
-        let on = self.sctlr % 2 == 1;
-        let ns = self.scr_el3 % 2 == 1;
-        let tge = (self.hcr_el2 >> 27) % 2 == 1;
-        let dc = (self.hcr_el2 >> 12) % 2 == 1;
-        on && !(regime == Regime::El1 && ns && (tge || dc))
+        let on = self.sctlr & SCTLR_M != 0;
+        match regime {
+            Regime::El1 => on
+                && (self.scr_el3 & SCR_NS == 0 || self.hcr_el2 & (HCR_TGE | HCR_DC) == 0),
+            Regime::El2 | Regime::El3 => on,
+        }
+    }
+
+    /// `va` as the walk sees it, with top byte ignore applied.
+    #[tactic(auto, unfolding(crate::specs::Tag::untagged))]
+    pub fn untag(&self, regime: Regime, va: u64) -> u64
+        ensures { result ≡ untagged self.now.tcr regime va }
+    {
+        if regime == Regime::El1 {
+            let tbi = if va >> 55 & 1 == 0 { 37 } else { 38 };
+            if self.tcr >> tbi & 1 != 0 {
+                return ((va << 8).cast_signed() >> 8).cast_unsigned();
+            }
+        } else if self.tcr >> 20 & 1 != 0 {
+            return va & 0x00FF_FFFF_FFFF_FFFF;
+        }
+        va
     }
 }

@@ -3,35 +3,44 @@ ghost use Rattle.std.specs.Prelude.{◌≡◌, ◌+◌, ◌≤◌};
 ghost use Rattle.word.specs.Bits.{flag};
 ghost use Rattle.walk.specs.Permission.{permission_byte};
 
-// The attributes of a leaf that decide permission, as the tables above it leave them: AP<2>, AP<1>, UXN (XN) and PXN.
+// How far the rights of the regime's own level stand above those of EL0.
+const PRIV: u32 = 3;
+
+/// The attributes of a leaf that decide permission, as the tables above it leave them.
 #[derive(Clone, Copy)]
 pub struct Permissions {
+    /// AP<2>: none may write.
     pub ap2: bool,
+    /// AP<1>: EL0 may read.
     pub ap1: bool,
+    /// UXN, or XN.
     pub xn: bool,
     pub pxn: bool,
 }
 
-// Read 1, write 2, fetch 4.
+/// Read 1, write 2, fetch 4.
 pub fn perm_bits(r: bool, w: bool, x: bool) -> u8
     ensures value { result ≡ flag r 1 + flag w 2 + flag x 4 }
     ensures upper_bound { result ≤ 7 }
 {
-    u8::from(r) + u8::from(w) * 2 + u8::from(x) * 4
+    u8::from(r) | u8::from(w) << 1 | u8::from(x) << 2
 }
 
-// The rights that a leaf gives: EL0's in bits 0 to 2, the regime's own in bits 3 to 5.
-pub fn perm_byte(singlepriv: bool, wxn: bool, a: Permissions) -> u8
-    ensures { result ≡ permission_byte singlepriv wxn a }
-{
-    let priv_w = !a.ap2;
-    if singlepriv {
-        let x = !(a.xn || (priv_w && wxn));
-        perm_bits(true, priv_w, x) * 8
-    } else {
-        let user_w = a.ap1 && !a.ap2;
-        let user_x = !(a.xn || (user_w && wxn));
-        let priv_x = !(a.pxn || (priv_w && wxn) || user_w);
-        perm_bits(a.ap1, user_w, user_x) + perm_bits(true, priv_w, priv_x) * 8
+impl Permissions {
+    /// The rights that a leaf gives: EL0's in bits 0 to 2, the regime's own in bits 3 to 5. ARMv8.0: EL0 may execute what
+    /// it cannot read, and EL1 not what EL0 may write.
+    pub fn byte(self, singlepriv: bool, wxn: bool) -> u8
+        ensures { result ≡ permission_byte singlepriv wxn self }
+    {
+        let priv_w = !self.ap2;
+        if singlepriv {
+            let x = !(self.xn || (priv_w && wxn));
+            perm_bits(true, priv_w, x) << PRIV
+        } else {
+            let user_w = self.ap1 && !self.ap2;
+            let user_x = !(self.xn || (user_w && wxn));
+            let priv_x = !(self.pxn || (priv_w && wxn) || user_w);
+            perm_bits(self.ap1, user_w, user_x) | perm_bits(true, priv_w, priv_x) << PRIV
+        }
     }
 }

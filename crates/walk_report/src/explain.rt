@@ -8,7 +8,6 @@ use tlb::access::Kind;
 use tlb::count;
 use tlb::count::Tally;
 use walk::regime::Regime;
-use walk::tag;
 
 fn kind_name(kind: Kind) -> &'static str {
     match kind {
@@ -80,7 +79,7 @@ pub fn explain<W: Write>(
     registers::show(out, bank, regime)?;
     let on = bank.stage1_on(regime);
     let now = if on {
-        let page = tag::untag(bank.tcr, regime, va);
+        let page = bank.untag(regime, va);
         if page != va {
             writeln!(out, "untagged   {page:016x}")?;
         }

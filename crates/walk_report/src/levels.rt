@@ -8,7 +8,6 @@ use std::fmt;
 use walk::level::{Leaf, Step, Walked};
 use walk::regime::{Bank, Regime};
 use walk::table::Visit;
-use walk::{range, table};
 use word::ram;
 use word::ram::Width;
 
@@ -56,8 +55,8 @@ pub struct Steps<'a> {
 
 impl Steps<'_> {
     fn show_range<W: fmt::Write>(&self, f: &mut fmt::Formatter<W>) -> fmt::Result {
-        let range = range::range_of(self.bank, self.regime, self.va);
-        let params = range::params_of(self.bank, self.regime, range);
+        let range = self.bank.range(self.regime, self.va);
+        let params = self.bank.params(self.regime, range);
         let half = if range.upper { "upper" } else { "lower" };
         let ttbr = u8::from(range.upper);
         let granule = if range.largegrain { 64 } else { 4 };
@@ -127,7 +126,7 @@ impl fmt::Display for Steps<'_> {
         self.show_range(f)?;
         let mut tables = 0;
         for n in 0..4u8 {
-            let visit = table::visit_nth(self.bank, self.regime, self.va, self.base, self.ram, n);
+            let visit = self.bank.visit(self.regime, self.va, self.base, self.ram, n);
             if let Some(visit) = visit {
                 self.show_level(f, visit)?;
                 tables = n + 1;
@@ -141,7 +140,7 @@ impl fmt::Display for Steps<'_> {
 pub fn walk<'a>(bank: Bank, regime: Regime, va: u64, base: u64, ram: &'a [u8]) -> Steps<'a>
     ensures { result.answer ≡ walk_of bank regime va (word_at base ram.now 8) }
 {
-    let answer = table::walk(bank, regime, va, base, ram);
+    let answer = bank.walk(regime, va, base, ram);
     Steps {
         bank,
         regime,

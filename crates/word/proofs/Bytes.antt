@@ -1,6 +1,7 @@
--- The value of four bytes, byte by byte.
-use Rattle.std.specs.Prelude.{◌≡◌, ℕ, ◌+◌, ◌*◌, List, slice_index}
+-- The value of four bytes, byte by byte, and the bytes of the rest of a slice.
+use Rattle.std.specs.Prelude.{◌≡◌, ℕ, ◌+◌, ◌-◌, ◌*◌, List, length, take, drop, slice_index}
 use Rattle.std.proofs.Common.{arith}
+use Rattle.std.proofs.lemmas.List.{take_rest, get_or-drop}
 use Rattle.word.specs.Ram.{little_endian}
 
 pub four-bytes : (ram : List ℕ) (at : ℕ) → little_endian ram 4 at
@@ -10,3 +11,6 @@ four-bytes ram at =
     let two : at + 1 + 1 ≡ at + 2 = omega arith in
     let three : at + 2 + 1 ≡ at + 3 = omega arith in
     rw (two, three) (omega arith)
+
+pub rest-index : (ram : List ℕ) (at i j : ℕ) → j ≡ at + i → slice_index (take (length ram - at) (drop at ram)) i ≡ slice_index ram j
+rest-index ram at i j e = rw (take_rest ram at, get_or-drop at ram i 0, e)

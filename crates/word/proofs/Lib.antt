@@ -1,2 +1,4 @@
 pub mod Window
 pub mod Bytes
+pub mod BitLaws
+pub mod RamLaws

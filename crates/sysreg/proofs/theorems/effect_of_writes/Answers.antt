@@ -1,4 +1,4 @@
-use Rattle.sysreg.specs.WriteLaws.{write-el0, write-nothing, write_done, write-control, write-sys, control-written, control-others, sys-written, sys-others}
+use Rattle.sysreg.proofs.WriteLaws.{write-el0, write-nothing, write_done, write-control, write-sys, control-written, control-others, sys-written, sys-others}
 use Rattle.sysreg.proofs.theorems.effect_of_writes.Goals as goal
 
 pub returns-clause-undefined_at_el0 : goal.returns-clause-undefined_at_el0

@@ -1,4 +1,4 @@
-use Rattle.sysreg.specs.EncodingLaws.{key-names, key_one}
+use Rattle.sysreg.proofs.EncodingLaws.{key-names, key_one}
 use Rattle.sysreg.proofs.Encodings.{named-key, wide_key, key-in-range}
 use Rattle.sysreg.proofs.theorems.encodings_of_registers.Goals as goal
 

@@ -1,4 +1,4 @@
-use Rattle.sysreg.specs.ShapeLaws.{shape-agrees, write-keeps-shape}
+use Rattle.sysreg.proofs.ShapeLaws.{shape-agrees, write-keeps-shape}
 use Rattle.sysreg.proofs.theorems.shape_of_translations.Goals as goal
 
 pub returns-clause-agrees : goal.returns-clause-agrees

@@ -1,6 +1,6 @@
 use Rattle.std.proofs.Common.{sym, ap}
 use Rattle.std.specs.Prelude.{ℕ, not, ◌==◌}
-use Rattle.word.specs.BitLaws.{cut_field}
+use Rattle.word.proofs.BitLaws.{cut_field}
 use Rattle.walk.proofs.theorems.ends_of_addresses.Goals as goal
 
 pub returns-clause-too_large : goal.returns-clause-too_large

@@ -1,4 +1,4 @@
-use Rattle.walk.specs.Fetches.{few-fetches, agrees, agrees-fetches}
+use Rattle.walk.proofs.FetchLaws.{few-fetches, agrees, agrees-fetches}
 use Rattle.walk.proofs.PageLaws.{fetches-of-page, leaf-of-page, fault-of-page}
 use Rattle.walk.proofs.theorems.fetches_of_walks.Goals as goal
 

@@ -1,4 +1,4 @@
-use Rattle.walk.specs.TagLaws.{sign-copies, untagged-low, untagged-small, untagged-page, untagged-twice}
+use Rattle.walk.proofs.TagLaws.{sign-copies, untagged-low, untagged-small, untagged-page, untagged-twice}
 use Rattle.walk.proofs.theorems.meaning_of_untagging.Goals as goal
 
 pub returns-clause-sign_copies : goal.returns-clause-sign_copies

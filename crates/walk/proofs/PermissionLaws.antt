@@ -1,20 +1,11 @@
--- The words of the pseudocode's expressions (proofs/Permissions.antt); and: bit k of the permission byte is set exactly where the permission check
--- allows that access.
+-- Bit k of the permission byte is set exactly where the permission check allows that access.
 use Rattle.std.specs.Prelude.{◌≡◌, refl, Bool, true, false, ℕ, ◌+◌, ◌*◌, ◌/◌, ◌%◌, ◌^◌, ◌≤◌, eqb}
 use Rattle.std.proofs.Common.{arith}
 use Rattle.word.specs.Bits.{bit_on, flag}
 use Rattle.walk.specs.Permission.{Access, reading, writing, fetching}
 use Rattle.walk.specs.Permission.{Rights, grants, rights_of, allowed, access_bits, permission_byte}
-pub use Rattle.walk.specs.Permission.{kind_bit, first_bit}
+use Rattle.walk.specs.Permission.{kind_bit, first_bit}
 use Rattle.walk.specs.declared.{rights.Permissions.Permissions}
-
--- AArch64.CheckPermission: r, w, and xn negated
-abbrev pub made : Bool → Bool → Bool → Rights
-made r w x = record { r = r; w = w; x = x }
-
--- AP<2>, AP<1>, xn and pxn as AArch64.TranslationTableWalk's last lines leave them
-abbrev pub attributes : Bool → Bool → Bool → Bool → Permissions
-attributes a2 a1 x p = record { ap2 = a2; ap1 = a1; xn = x; pxn = p }
 
 flag_one : (b : Bool) → eqb (flag b 1) 1 ≡ b
 flag_one true = refl

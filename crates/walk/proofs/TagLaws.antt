@@ -3,7 +3,7 @@ use Rattle.std.specs.Prelude.{if◌then◌else◌, ◌≡◌, refl, Bool, true, 
 use Rattle.std.proofs.Common.{sym, ap, ◌∙◌, arith, shr-shr}
 use Rattle.std.proofs.Math.Nat.{zero-div}
 use Rattle.word.specs.Bits.{bit_on}
-use Rattle.word.specs.BitLaws.{same_above}
+use Rattle.word.proofs.BitLaws.{same_above}
 use Rattle.walk.specs.Tag.{tbi, sign_extend56, tag_dropped, untagged}
 use Rattle.walk.specs.declared.regime.Regime.{Regime}
 use Rattle.walk.specs.declared.regime.Regime.TheVariants.{El1, El2, El3}

@@ -3,7 +3,7 @@ use Rattle.std.specs.Prelude.{if◌then◌else◌, ◌≡◌, ℕ, zero, suc, �
 use Rattle.std.proofs.Common.{sym, ap, ◌∙◌, pow-suc, zero-add, suc-add, mul_assoc, mul_comm, div-one, add-one, arith, leb-true, length-take-le, get_or-append-add}
 use Rattle.std.proofs.Math.Nat.{div-div-eq-div-mul}
 use Rattle.std.proofs.Math.ListN.{get_or-append}
-use Rattle.word.specs.BitLaws.{both}
+use Rattle.word.proofs.BitLaws.{both}
 use Rattle.word.specs.Ram.{little_endian, bytes_of, within, word_at, written}
 use Rattle.std.specs.Prelude.{Some, None}
 

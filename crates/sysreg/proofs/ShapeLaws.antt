@@ -3,29 +3,20 @@ use Rattle.std.specs.Prelude.{if◌then◌else◌, ◌≡◌, refl, Bool, true, 
 use Rattle.std.proofs.Common.{sym, arith, eqb-true, eq-eqb}
 use Rattle.std.proofs.lemmas.Bool.{false≢true, not-true}
 use Rattle.word.specs.Bits.{field}
-use Rattle.word.specs.BitLaws.{both}
-use Rattle.sysreg.specs.declared.{regs.Control.Control, regs.SysRegs.SysRegs, regs.El.El}
+use Rattle.word.proofs.BitLaws.{both}
+use Rattle.sysreg.specs.declared.{regs.Control.Control, regs.SysRegs.SysRegs}
 use Rattle.sysreg.specs.declared.{regs.ControlReg.ControlReg, regs.Register.Register}
 use Rattle.sysreg.specs.declared.regs.El.TheVariants.{El1, El2, El3}
-use Rattle.sysreg.specs.declared.regs.ControlReg.TheVariants.{Sctlr, Tcr, Ttbr0, Ttbr1, Scr, Hcr}
+use Rattle.sysreg.specs.declared.regs.ControlReg.TheVariants.{Sctlr, Tcr, Ttbr0, Ttbr1}
 use Rattle.sysreg.specs.declared.regs.Register.TheVariants.{InControl, InSys}
 use Rattle.sysreg.specs.declared.write.WriteError.TheVariants.{Undefined}
 use Rattle.sysreg.specs.Regs.{control_at}
 use Rattle.sysreg.specs.Encoding.{control_key, register_at}
-use Rattle.sysreg.specs.EncodingLaws.{by_level}
+use Rattle.sysreg.proofs.EncodingLaws.{by_level}
 use Rattle.sysreg.specs.Write.{control_with, ended, wrote, write_found, write_reg}
-use Rattle.sysreg.specs.WriteLaws.{control-after}
+use Rattle.sysreg.proofs.WriteLaws.{control-after}
 use Rattle.sysreg.specs.Tcr.{«as»}
-use Rattle.sysreg.specs.Shape.{shape, member, outside_shape, agree_on, same_shape, asid_base, asid_of}
-
--- Two settings of one shape agree in all that translation reads but TTBR0_EL1 and TTBR1_EL1.
-pub record SameShape (a b : Control) : Type 0 where
-  pub sctlr : (el : El) → control_at a (Sctlr el) ≡ control_at b (Sctlr el)
-  pub tcr : (el : El) → control_at a (Tcr el) ≡ control_at b (Tcr el)
-  pub ttbr0-el2 : control_at a (Ttbr0 El2) ≡ control_at b (Ttbr0 El2)
-  pub ttbr0-el3 : control_at a (Ttbr0 El3) ≡ control_at b (Ttbr0 El3)
-  pub hcr : control_at a Hcr ≡ control_at b Hcr
-  pub scr : control_at a Scr ≡ control_at b Scr
+use Rattle.sysreg.specs.Shape.{SameShape, shape, member, outside_shape, agree_on, same_shape, asid_base, asid_of}
 
 module _ (a b : Control) where
   -- what a list of registers holds in both

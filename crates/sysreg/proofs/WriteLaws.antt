@@ -11,7 +11,7 @@ use Rattle.sysreg.specs.declared.regs.Register.TheVariants.{InControl, InSys}
 use Rattle.sysreg.specs.declared.write.WriteError.TheVariants.{Undefined, NoRegister}
 use Rattle.sysreg.specs.Regs.{control_at, sys_at}
 use Rattle.sysreg.specs.Encoding.{control_key, sys_key, register_at}
-use Rattle.sysreg.specs.EncodingLaws.{by_level, key_one}
+use Rattle.sysreg.proofs.EncodingLaws.{by_level, key_one}
 use Rattle.sysreg.specs.Write.{kept, control_after, sys_after, control_with, sys_with, ended, wrote, write_reg}
 
 module _ (c : Control) (r : ControlReg) (v : ℕ) where

@@ -1,0 +1,118 @@
+-- A walk sees of memory only the descriptors that it fetches, and these are few.
+use Rattle.std.specs.Prelude.{if◌then◌else◌, ◌≡◌, Bool, true, false, not, ◌||◌, length, get_or, Option}
+use Rattle.std.proofs.Math.Path.{refl}
+use Rattle.std.proofs.Common.{ap, le_trans}
+use mathlib.Core.List.{List, [], ◌∷◌, Memᴰ}
+use Prim.Native.Nat.{ℕ, zero, suc, ◌+◌, ◌-◌, ◌≤◌, ◌<◌, zero-le, suc-le-suc}
+use Rattle.word.specs.Ram.{word_at}
+use Rattle.word.proofs.RamLaws.{word-agree}
+use Rattle.walk.specs.Table.{Result, faults, address_size, translation, in_range, beyond, startlevel, levels_of, Lookup, Next, deeper, ends}
+use Rattle.walk.specs.Table.{first_lookup, range_of, params_of, descaddr, lookup_next, on_next, walk_from, walk_range, table_walk}
+use Rattle.walk.specs.Walk.{walk_of}
+use Rattle.walk.proofs.SizeLaws.{level-count}
+use Rattle.walk.specs.declared.{regime.Regime.Regime, regime.Bank.Bank, range.Range.Range, level.Params.Params}
+use Rattle.walk.specs.Fetches.{after_next, fetches_from, fetches_range, fetches_of, Agree, none, one}
+
+-- that is, at each of its members
+pub agree-all : (m m' : ℕ → Option ℕ) (l : List ℕ) → ((a : ℕ) → Memᴰ a l → m a ≡ m' a) → Agree m m' l
+agree-all m m' [] h = none
+agree-all m m' (a ∷ l) h = one (h a (Memᴰ.head refl)) (agree-all m m' l (λ b k. h b (Memᴰ.tail k)))
+
+agree-head : (m m' : ℕ → Option ℕ) (a : ℕ) (l : List ℕ) → Agree m m' (a ∷ l) → m a ≡ m' a
+agree-head m m' a l (one e t) = e
+
+agree-tail : (m m' : ℕ → Option ℕ) (a : ℕ) (l : List ℕ) → Agree m m' (a ∷ l) → Agree m m' l
+agree-tail m m' a l (one e t) = t
+
+same_next : (m m' : ℕ → Option ℕ) (p : Params) (va : ℕ) (l : Lookup) → m (descaddr p va l) ≡ m' (descaddr p va l)
+    → lookup_next m p va l ≡ lookup_next m' p va l
+unfolding lookup_next
+same_next m m' p va l e = rw e
+
+module _ (m m' : ℕ → Option ℕ) (p : Params) (va : ℕ) where
+  from-agrees : (n : ℕ) (l : Lookup) → Agree m m' (fetches_from n m p va l)
+      → (walk_from n m p va l ≡ walk_from n m' p va l) × (fetches_from n m p va l ≡ fetches_from n m' p va l)
+  unfolding walk_from fetches_from
+  from-agrees zero l h = (refl, refl)
+  from-agrees (suc n) l h = go (lookup_next m p va l) refl (from-agrees n)
+    where
+      same : lookup_next m p va l ≡ lookup_next m' p va l
+      same = same_next m m' p va l (agree-head m m' _ _ h)
+
+      go : (x : Next) → lookup_next m p va l ≡ x
+          → ((k : Lookup) → Agree m m' (fetches_from n m p va k)
+          → (walk_from n m p va k ≡ walk_from n m' p va k) × (fetches_from n m p va k ≡ fetches_from n m' p va k))
+          → (on_next (lookup_next m p va l) (walk_from n m p va) ≡ on_next (lookup_next m' p va l) (walk_from n m' p va))
+          × (◌≡◌ {A = List ℕ} (descaddr p va l ∷ after_next (lookup_next m p va l) (fetches_from n m p va))
+          (descaddr p va l ∷ after_next (lookup_next m' p va l) (fetches_from n m' p va)))
+      go (deeper k) e ih =
+          let both = ih k (rw e at (agree-tail m m' _ _ h)) in
+          rw (← same, e) (both.0, ap (λ (t : List ℕ). descaddr p va l ∷ t) both.1)
+      go (ends r) e ih = rw (← same, e) (refl, refl)
+
+  range-agrees : (g : Range) → Agree m m' (fetches_range p g va m)
+      → (walk_range p g va m ≡ walk_range p g va m') × (fetches_range p g va m ≡ fetches_range p g va m')
+  unfolding walk_range fetches_range
+  range-agrees g = go (not (in_range g va) || g.disabled) (beyond p.outputsize g.baseregister)
+    where
+      from : (ℕ → Option ℕ) → Result
+      from memory = walk_from (4 - startlevel g) memory p va (first_lookup g)
+
+      list : (ℕ → Option ℕ) → List ℕ
+      list memory = fetches_from (4 - startlevel g) memory p va (first_lookup g)
+
+      go : (a b : Bool)
+          → Agree m m' (if a then [] else if b then [] else list m)
+          → (if a then faults (translation 0) else if b then faults (address_size 0) else from m
+          ≡ (if a then faults (translation 0) else if b then faults (address_size 0) else from m'))
+          × ((if a then [] else if b then [] else list m) ≡ (if a then [] else if b then [] else list m'))
+      go true b h = (refl, refl)
+      go false true h = (refl, refl)
+      go false false h = from-agrees (4 - startlevel g) (first_lookup g) h
+
+-- memories that agree where the walk fetches give one walk
+pub agrees : (s : Bank) (r : Regime) (va : ℕ) (m m' : ℕ → Option ℕ) → Agree m m' (fetches_of s r va m) → walk_of s r va m ≡ walk_of s r va m'
+unfolding walk_of table_walk fetches_of
+agrees s r va m m' h = rw (range-agrees m m' (params_of s r (range_of s r va)) va (range_of s r va) h).0
+
+-- and the walk fetches the same descriptors
+pub agrees-fetches : (s : Bank) (r : Regime) (va : ℕ) (m m' : ℕ → Option ℕ) → Agree m m' (fetches_of s r va m) → fetches_of s r va m ≡ fetches_of s r va m'
+unfolding fetches_of
+agrees-fetches s r va m m' h = (range-agrees m m' (params_of s r (range_of s r va)) va (range_of s r va) h).1
+
+few-from : (n : ℕ) (m : ℕ → Option ℕ) (p : Params) (va : ℕ) (l : Lookup) → length (fetches_from n m p va l) ≤ n
+unfolding fetches_from
+few-from zero m p va l = zero-le
+few-from (suc n) m p va l = go (lookup_next m p va l) (few-from n m p va)
+  where
+    go : (x : Next) → ((k : Lookup) → length (fetches_from n m p va k) ≤ n)
+        → length (descaddr p va l ∷ after_next x (fetches_from n m p va)) ≤ suc n
+    go (deeper k) ih = suc-le-suc (ih k)
+    go (ends r) ih = suc-le-suc zero-le
+
+few-range : (p : Params) (g : Range) (va : ℕ) (m : ℕ → Option ℕ) → length (fetches_range p g va m) ≤ levels_of g.largegrain
+unfolding fetches_range
+few-range p g va m = go (not (in_range g va) || g.disabled) (beyond p.outputsize g.baseregister)
+  where
+    go : (a b : Bool) → length (if a then [] else if b then [] else fetches_from (4 - startlevel g) m p va (first_lookup g)) ≤ levels_of g.largegrain
+    go true b = zero-le
+    go false true = zero-le
+    go false false = le_trans (few-from (4 - startlevel g) m p va (first_lookup g)) (level-count g)
+
+-- at most four descriptors with a granule of 4 KiB, three with one of 64 KiB
+pub few-fetches : (s : Bank) (r : Regime) (va : ℕ) (m : ℕ → Option ℕ) → length (fetches_of s r va m) ≤ levels_of (range_of s r va).largegrain
+unfolding fetches_of
+few-fetches s r va m = few-range (params_of s r (range_of s r va)) (range_of s r va) va m
+
+-- two windows of RAM whose words agree where the walk fetches give one walk
+pub ram-agrees : (s : Bank) (r : Regime) (va base : ℕ) (ram : List ℕ) (base' : ℕ) (ram' : List ℕ)
+    → ((a : ℕ) → Memᴰ a (fetches_of s r va (word_at base ram 8)) → word_at base ram 8 a ≡ word_at base' ram' 8 a)
+    → walk_of s r va (word_at base ram 8) ≡ walk_of s r va (word_at base' ram' 8)
+ram-agrees s r va base ram base' ram' h = agrees s r va _ _ (agree-all _ _ _ h)
+
+-- and so do two of one base and length that agree on the bytes of each descriptor fetched, where it lies inside
+pub bytes-agree : (s : Bank) (r : Regime) (va base : ℕ) (ram ram' : List ℕ) → length ram ≡ length ram'
+    → ((a : ℕ) → Memᴰ a (fetches_of s r va (word_at base ram 8)) → base ≤ a → a + 8 ≤ base + length ram
+    → (i : ℕ) → i < 8 → get_or ram (a - base + i) 0 ≡ get_or ram' (a - base + i) 0)
+    → walk_of s r va (word_at base ram 8) ≡ walk_of s r va (word_at base ram' 8)
+bytes-agree s r va base ram ram' e h = ram-agrees s r va base ram base ram' (λ a k. word-agree base ram ram' 8 a e (h a k))
