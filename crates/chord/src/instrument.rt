@@ -176,9 +176,9 @@ impl Instrument {
             System::Proved => self.invalidate(voice),
             System::StaleCache => {
                 let slot = hint::data_slot(address(voice), Kind::Read);
-                let old = self.core.tlb.cache.hints[slot];
+                let old = self.core.tlb.hints[slot];
                 self.invalidate(voice);
-                self.core.tlb.cache.hints[slot] = old;
+                self.core.tlb.hints[slot] = old;
             }
             System::NoTlbi => {}
         }

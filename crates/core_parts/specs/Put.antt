@@ -49,7 +49,7 @@ with_generation c to =
             cache =
                 record c.tlb.cache {
                   current = record c.tlb.cache.current { generation = to };
-                  entries = map (moved c.tlb.cache.current.generation to) c.tlb.cache.entries;
+                  entries = map (moved c.tlb.generation to) c.tlb.entries;
                 };
           };
     }

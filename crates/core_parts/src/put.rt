@@ -104,10 +104,10 @@ pub fn generation(core: &mut Core, generation: u64) -> u64
     ensures core { core.new ≡ restamped core.old generation }
 {
     if generation < 0x1_0000_0000 {
-        let from = core.tlb.cache.current.generation;
+        let from = core.tlb.generation;
         let to = generation as u32;
-        move_entries(&mut core.tlb.cache.entries, from, to);
-        core.tlb.cache.current.generation = to;
+        move_entries(&mut core.tlb.entries, from, to);
+        core.tlb.generation = to;
         0
     } else {
         64

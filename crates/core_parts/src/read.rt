@@ -3,7 +3,7 @@ ghost use Rattle.std.specs.Prelude.{◌≡◌};
 ghost use Rattle.word.specs.Bits.{flag};
 ghost use Rattle.sysreg.specs.Regs.{control_at, sys_at};
 ghost use Rattle.exception.specs.Pstate.{spsr_of};
-ghost use Rattle.tlb.specs.Cache.{entry_at, hint_at};
+ghost use Rattle.tlb.specs.Tlb.{entry_at, hint_at};
 ghost use Rattle.tlb.specs.Count.{tally_at};
 ghost use Rattle.cpu.specs.Core.{reg_of};
 ghost use Rattle.core_parts.specs.Read.{held_by, register_of, number_found, value_found, pending_words, entry_words};
@@ -130,9 +130,9 @@ pub fn abort_pa(core: &Core) -> u64
 // What was counted at a level, 0 past the last.
 #[tactic(auto, using(crate::proofs::Ends::past_last))]
 fn tally(core: &Core, level: u64) -> Tally
-    ensures { result ≡ tally_at core.now.tlb.counts level }
+    ensures { result ≡ tally_at core.now.tlb level }
 {
-    let levels: &[Tally] = &core.tlb.counts.levels;
+    let levels: &[Tally] = &core.tlb.levels;
     let at = level as usize;
     if at < levels.len() {
         levels[at]
@@ -143,42 +143,42 @@ fn tally(core: &Core, level: u64) -> Tally
 
 /// Translations made at a level that an entry of the cache answered; 0 for a level above 3.
 pub fn hits(core: &Core, level: u64) -> u64
-    ensures { result ≡ (tally_at core.now.tlb.counts level).hits }
+    ensures { result ≡ (tally_at core.now.tlb level).hits }
 {
     tally(core, level).hits
 }
 
 /// Walks made at a level, however they ended; 0 for a level above 3.
 pub fn walks(core: &Core, level: u64) -> u64
-    ensures { result ≡ (tally_at core.now.tlb.counts level).walks }
+    ensures { result ≡ (tally_at core.now.tlb level).walks }
 {
     tally(core, level).walks
 }
 
 /// Flushes of the whole cache.
 pub fn flushes(core: &Core) -> u64
-    ensures { result ≡ core.now.tlb.counts.flushes }
+    ensures { result ≡ core.now.tlb.flushes }
 {
-    core.tlb.counts.flushes
+    core.tlb.flushes
 }
 
 /// Invalidations of a page.
 pub fn drops(core: &Core) -> u64
-    ensures { result ≡ core.now.tlb.counts.drops }
+    ensures { result ≡ core.now.tlb.drops }
 {
-    core.tlb.counts.drops
+    core.tlb.drops
 }
 
 /// Moves whenever a translation that was looked up may no longer hold.
 pub fn epoch(core: &Core) -> u64
-    ensures { result ≡ core.now.tlb.counts.epoch }
+    ensures { result ≡ core.now.tlb.epoch }
 {
-    core.tlb.counts.epoch
+    core.tlb.epoch
 }
 
 /// The cache's generation: a flush moves it, and entries of another are dead.
 pub fn generation(core: &Core) -> u64
-    ensures { result ≡ core.now.tlb.cache.current.generation }
+    ensures { result ≡ core.now.tlb.generation }
 {
     let current = core.tlb.cache.current;
     current.generation as u64
@@ -186,7 +186,7 @@ pub fn generation(core: &Core) -> u64
 
 /// The ASID in force.
 pub fn asid(core: &Core) -> u64
-    ensures { result ≡ core.now.tlb.cache.current.asid }
+    ensures { result ≡ core.now.tlb.asid }
 {
     let current = core.tlb.cache.current;
     current.asid as u64
@@ -228,9 +228,9 @@ fn entry_words(entry: Entry) -> [u64; 7]
 // The entry in a slot, blank past the last.
 #[tactic(auto, using(crate::proofs::Ends::past_last))]
 fn entry_in(core: &Core, slot: u64) -> Entry
-    ensures { result ≡ entry_at core.now.tlb.cache slot }
+    ensures { result ≡ entry_at core.now.tlb slot }
 {
-    let entries: &[Entry] = &core.tlb.cache.entries;
+    let entries: &[Entry] = &core.tlb.entries;
     let at = slot as usize;
     if at < entries.len() {
         entries[at]
@@ -242,7 +242,7 @@ fn entry_in(core: &Core, slot: u64) -> Entry
 /// The entry in a slot, in seven words: tag, generation, permissions, level, 1 where it is for every ASID, ASID,
 /// physical page. Past the last a blank one.
 pub fn entry(core: &Core, slot: u64, out: &mut [u64; 7])
-    ensures { out.new ≡ entry_words (entry_at core.now.tlb.cache slot) }
+    ensures { out.new ≡ entry_words (entry_at core.now.tlb slot) }
 {
     *out = entry_words(entry_in(core, slot));
 }
@@ -250,9 +250,9 @@ pub fn entry(core: &Core, slot: u64, out: &mut [u64; 7])
 // The data hint in a slot, none past the last.
 #[tactic(auto, using(crate::proofs::Ends::past_last))]
 fn hint_in(core: &Core, slot: u64) -> Hint
-    ensures { result ≡ hint_at core.now.tlb.cache slot }
+    ensures { result ≡ hint_at core.now.tlb slot }
 {
-    let hints: &[Hint] = &core.tlb.cache.hints;
+    let hints: &[Hint] = &core.tlb.hints;
     let at = slot as usize;
     if at < hints.len() {
         hints[at]
@@ -263,7 +263,7 @@ fn hint_in(core: &Core, slot: u64) -> Hint
 
 /// The data hint in a slot, in two words: key and physical page. Past the last none.
 pub fn hint(core: &Core, slot: u64, out: &mut [u64; 2])
-    ensures { out.new ≡ hint_words (hint_at core.now.tlb.cache slot) }
+    ensures { out.new ≡ hint_words (hint_at core.now.tlb slot) }
 {
     let hint = hint_in(core, slot);
     *out = [hint.key, hint.pa];
@@ -271,9 +271,9 @@ pub fn hint(core: &Core, slot: u64, out: &mut [u64; 2])
 
 /// The fetch hint, in four words: 1 where there is one, page, level, physical page.
 pub fn fetch_hint(core: &Core, out: &mut [u64; 4])
-    ensures { out.new ≡ fetch_words core.now.tlb.cache.fetch }
+    ensures { out.new ≡ fetch_words core.now.tlb.fetch }
 {
-    let fetch = core.tlb.cache.fetch;
+    let fetch = core.tlb.fetch;
     *out = [
         bits::flag_word(fetch.some),
         fetch.page,

@@ -2,7 +2,7 @@
 ghost use Rattle.std.specs.Prelude.{◌≡◌};
 ghost use Rattle.word.specs.Bits.{flag};
 ghost use Rattle.exception.specs.Pstate.{spsr_of};
-ghost use Rattle.tlb.specs.Cache.{entry_at, hint_at};
+ghost use Rattle.tlb.specs.Tlb.{entry_at, hint_at};
 ghost use Rattle.tlb.specs.Count.{tally_at};
 ghost use Rattle.cpu.specs.Core.{reg_of};
 ghost use Rattle.core_parts.specs.Read.{register_of, number_found, value_found, pending_words, entry_words};
@@ -89,7 +89,7 @@ pub extern "C" fn a72_get_abort_pa(handle: &mut Handle) -> u64
 /// Translations made at a level that an entry of the cache answered; 0 for a level above 3.
 #[unsafe(no_mangle)]
 pub extern "C" fn a72_get_hits(handle: &mut Handle, level: u64) -> u64
-    ensures value { result ≡ (tally_at handle.old.core.tlb.counts level).hits }
+    ensures value { result ≡ (tally_at handle.old.core.tlb level).hits }
     ensures unchanged { handle.new.core ≡ handle.old.core }
 {
     read::hits(handle.core(), level)
@@ -98,7 +98,7 @@ pub extern "C" fn a72_get_hits(handle: &mut Handle, level: u64) -> u64
 /// Walks made at a level; 0 for a level above 3.
 #[unsafe(no_mangle)]
 pub extern "C" fn a72_get_walks(handle: &mut Handle, level: u64) -> u64
-    ensures value { result ≡ (tally_at handle.old.core.tlb.counts level).walks }
+    ensures value { result ≡ (tally_at handle.old.core.tlb level).walks }
     ensures unchanged { handle.new.core ≡ handle.old.core }
 {
     read::walks(handle.core(), level)
@@ -107,7 +107,7 @@ pub extern "C" fn a72_get_walks(handle: &mut Handle, level: u64) -> u64
 /// Flushes of the whole cache.
 #[unsafe(no_mangle)]
 pub extern "C" fn a72_get_flushes(handle: &mut Handle) -> u64
-    ensures value { result ≡ handle.old.core.tlb.counts.flushes }
+    ensures value { result ≡ handle.old.core.tlb.flushes }
     ensures unchanged { handle.new.core ≡ handle.old.core }
 {
     read::flushes(handle.core())
@@ -116,7 +116,7 @@ pub extern "C" fn a72_get_flushes(handle: &mut Handle) -> u64
 /// Invalidations of a page.
 #[unsafe(no_mangle)]
 pub extern "C" fn a72_get_drops(handle: &mut Handle) -> u64
-    ensures value { result ≡ handle.old.core.tlb.counts.drops }
+    ensures value { result ≡ handle.old.core.tlb.drops }
     ensures unchanged { handle.new.core ≡ handle.old.core }
 {
     read::drops(handle.core())
@@ -125,7 +125,7 @@ pub extern "C" fn a72_get_drops(handle: &mut Handle) -> u64
 /// Moves whenever a translation that was looked up may no longer hold.
 #[unsafe(no_mangle)]
 pub extern "C" fn a72_get_epoch(handle: &mut Handle) -> u64
-    ensures value { result ≡ handle.old.core.tlb.counts.epoch }
+    ensures value { result ≡ handle.old.core.tlb.epoch }
     ensures unchanged { handle.new.core ≡ handle.old.core }
 {
     read::epoch(handle.core())
@@ -134,7 +134,7 @@ pub extern "C" fn a72_get_epoch(handle: &mut Handle) -> u64
 /// The cache's generation.
 #[unsafe(no_mangle)]
 pub extern "C" fn a72_get_generation(handle: &mut Handle) -> u64
-    ensures value { result ≡ handle.old.core.tlb.cache.current.generation }
+    ensures value { result ≡ handle.old.core.tlb.generation }
     ensures unchanged { handle.new.core ≡ handle.old.core }
 {
     read::generation(handle.core())
@@ -143,7 +143,7 @@ pub extern "C" fn a72_get_generation(handle: &mut Handle) -> u64
 /// The ASID in force.
 #[unsafe(no_mangle)]
 pub extern "C" fn a72_get_asid(handle: &mut Handle) -> u64
-    ensures value { result ≡ handle.old.core.tlb.cache.current.asid }
+    ensures value { result ≡ handle.old.core.tlb.asid }
     ensures unchanged { handle.new.core ≡ handle.old.core }
 {
     read::asid(handle.core())
@@ -161,7 +161,7 @@ pub extern "C" fn a72_get_pending(handle: &mut Handle, out: &mut [u64; 2])
 /// The entry in a slot, in seven words; past the last a blank one.
 #[unsafe(no_mangle)]
 pub extern "C" fn a72_get_entry(handle: &mut Handle, slot: u64, out: &mut [u64; 7])
-    ensures value { out.new ≡ entry_words (entry_at handle.old.core.tlb.cache slot) }
+    ensures value { out.new ≡ entry_words (entry_at handle.old.core.tlb slot) }
     ensures unchanged { handle.new.core ≡ handle.old.core }
 {
     read::entry(handle.core(), slot, out);
@@ -170,7 +170,7 @@ pub extern "C" fn a72_get_entry(handle: &mut Handle, slot: u64, out: &mut [u64; 
 /// The data hint in a slot, in two words; past the last none.
 #[unsafe(no_mangle)]
 pub extern "C" fn a72_get_hint(handle: &mut Handle, slot: u64, out: &mut [u64; 2])
-    ensures value { out.new ≡ hint_words (hint_at handle.old.core.tlb.cache slot) }
+    ensures value { out.new ≡ hint_words (hint_at handle.old.core.tlb slot) }
     ensures unchanged { handle.new.core ≡ handle.old.core }
 {
     read::hint(handle.core(), slot, out);
@@ -179,7 +179,7 @@ pub extern "C" fn a72_get_hint(handle: &mut Handle, slot: u64, out: &mut [u64; 2
 /// The fetch hint, in four words.
 #[unsafe(no_mangle)]
 pub extern "C" fn a72_get_fetch_hint(handle: &mut Handle, out: &mut [u64; 4])
-    ensures value { out.new ≡ fetch_words handle.old.core.tlb.cache.fetch }
+    ensures value { out.new ≡ fetch_words handle.old.core.tlb.fetch }
     ensures unchanged { handle.new.core ≡ handle.old.core }
 {
     read::fetch_hint(handle.core(), out);

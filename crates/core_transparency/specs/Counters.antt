@@ -13,12 +13,12 @@ use Rattle.core_transparency.specs.OnCore.{Made}
 abbrev pub hits_on_core : Type 0
 hits_on_core =
     (c : Core) (list : List (Lent real machine)) → Made c list → (l : ℕ) → l < 4
-    → (tally_at c.tlb.counts l).hits ≡ how_many (at l by_line) (made_by list) % 2 ^ 64
+    → (tally_at c.tlb l).hits ≡ how_many (at l by_line) (made_by list) % 2 ^ 64
 
 abbrev pub walks_on_core : Type 0
 walks_on_core =
     (c : Core) (list : List (Lent real machine)) → Made c list → (l : ℕ) → l < 4
-    → (tally_at c.tlb.counts l).walks ≡ how_many (at l by_walk) (made_by list) % 2 ^ 64
+    → (tally_at c.tlb l).walks ≡ how_many (at l by_walk) (made_by list) % 2 ^ 64
 
 abbrev pub sums_on_core : Type 0
 sums_on_core =

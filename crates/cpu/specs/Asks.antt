@@ -7,7 +7,7 @@ use Rattle.fault.specs.First.{first}
 use Rattle.walk.specs.Regime.{stage1_on, regime_of}
 use Rattle.walk.specs.declared.regime.Bank.{Bank}
 use Rattle.tlb.specs.Model.{Access}
-use Rattle.tlb.specs.Step.{access_of}
+use Rattle.tlb.specs.Translate.{access_of}
 use Rattle.tlb.specs.Asks.{Ask, translates, Given, onward, answers, tlb_asks}
 use Rattle.tlb.specs.declared.{access.Kind.Kind, access.Privilege.Privilege, Tlb.Tlb}
 use Rattle.tlb.specs.Answers.{Answer}

@@ -12,7 +12,7 @@ use Rattle.walk.specs.Table.{table_walk}
 use Rattle.walk.specs.Walk.{walk_of}
 use Rattle.walk.specs.declared.regime.Regime.TheVariants.{El1}
 use Rattle.tlb.specs.Access.{judged}
-use Rattle.tlb.specs.Cache.{blanks, no_hints}
+use Rattle.tlb.specs.Tlb.{blanks, no_hints}
 use Rattle.tlb.specs.Hint.{place_of}
 use Rattle.tlb.specs.Tlb.{fresh}
 use Rattle.tlb.specs.Resolve.{by_walk, resolve_with}

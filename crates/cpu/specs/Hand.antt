@@ -1,7 +1,7 @@
 -- A translation that no hint serves, in two parts, on the core: what is at hand, and what needs a walk.
 use Rattle.std.specs.Prelude.{◌≡◌, ℕ, Option, Some, None}
 use Rattle.tlb.specs.Answers.{Answer}
-use Rattle.tlb.specs.Step.{access_of}
+use Rattle.tlb.specs.Translate.{access_of}
 use Rattle.tlb.specs.Hand.{NeedsWalk}
 use Rattle.tlb.specs.declared.access.Kind.{Kind}
 use Rattle.cpu.specs.Core.{bank_now}

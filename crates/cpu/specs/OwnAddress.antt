@@ -12,7 +12,7 @@ use Rattle.walk.specs.WalkBounds.{SoundWalked}
 use Rattle.walk.proofs.WalkBounds.{walk-sound}
 use Rattle.tlb.specs.Live.{WellFormed}
 use Rattle.tlb.proofs.Translations.{translation-follows}
-use Rattle.tlb.specs.Step.{access_of}
+use Rattle.tlb.specs.Translate.{access_of}
 use Rattle.tlb.specs.declared.{access.Kind.Kind, Tlb.Tlb}
 use Rattle.tlb.specs.Answers.{Answer}
 use Rattle.operations.specs.Answers.{Placed, fault_at}

@@ -15,7 +15,7 @@ use Rattle.walk.specs.declared.{regime.Regime.Regime, regime.Bank.Bank, level.Le
 use Rattle.tlb.specs.Access.{may_hint, tag_of, user_of, right_of, has_right, judged}
 use Rattle.tlb.specs.Entry.{blank, serves}
 use Rattle.tlb.specs.Hint.{no_hint, page_of, on_page, place_of, data_slot, hint_key, hint_for}
-use Rattle.tlb.specs.Cache.{entry_at, hint_at}
+use Rattle.tlb.specs.Tlb.{entry_at, hint_at}
 use Rattle.tlb.specs.Live.{WellFormed}
 use Rattle.tlb.specs.Cells.{or-page}
 use Rattle.tlb.specs.Resolve.{query_of, entry_for, by_walk, resolve_with}
@@ -143,7 +143,7 @@ module _ (s : Bank) (privilege : Privilege) (kind : Kind) where
     step = translate_in s privilege memory a kind t
 
     abbrev its_hint : Hint
-    its_hint = hint_at t.cache (data_slot a kind)
+    its_hint = hint_at t (data_slot a kind)
 
     abbrev its_entry : Entry
     its_entry = entry_from s privilege t.cache a
@@ -161,7 +161,7 @@ module _ (s : Bank) (privilege : Privilege) (kind : Kind) where
 
     abbrev cache_with : Hint → Entry → Cache
     cache_with h e =
-        record t.cache { hints = slice_set t.cache.hints (data_slot a kind) h; entries = slice_set t.cache.entries (slot_at s privilege.level a) e }
+        record t.cache { hints = slice_set t.hints (data_slot a kind) h; entries = slice_set t.entries (slot_at s privilege.level a) e }
 
     -- a translation that leaves its cells as they were leaves the cache
     unmoved : (its.hint ≡ its_hint) × (its.entry ≡ its_entry) → step.tlb.cache ≡ t.cache
@@ -248,10 +248,10 @@ module _ (s : Bank) (privilege : Privilege) (kind : Kind) where
       unfolding translate_in
       goes_to = e
 
-      place_in : may_hint privilege kind ≡ true → data_slot a kind < length t.cache.hints
+      place_in : may_hint privilege kind ≡ true → data_slot a kind < length t.hints
       place_in m = rw f.cache.places (place-low privilege kind a m)
 
-      slot-in : slot_at s privilege.level a < length t.cache.entries
+      slot-in : slot_at s privilege.level a < length t.entries
       slot-in = rw f.cache.slots (mod-lt (tag_in s privilege a / 4) (omega arith))
 
       kept-hint : may_hint privilege kind ≡ true → hit ≡ true → Gives s privilege kind a pa step.tlb.cache
@@ -268,7 +268,7 @@ module _ (s : Bank) (privilege : Privilege) (kind : Kind) where
       unfolding translate_in
       made-hint m q =
           by-its-hint m
-          (get_or-set_same t.cache.hints (data_slot a kind) its.hint no_hint (place_in m)
+          (get_or-set_same t.hints (data_slot a kind) its.hint no_hint (place_in m)
           ∙ new-hint (is_on s privilege) (page_in s privilege a) its_walk (regime_of privilege.level) privilege t.cache.current
           t.counts its_hint its_entry a kind pa m q goes_to)
 
@@ -305,7 +305,7 @@ module _ (s : Bank) (privilege : Privilege) (kind : Kind) where
               (sym (ap (λ (y : Walked). (by_walk y (query_of (regime_of privilege.level) (page_in s privilege a)) privilege t.cache.current a kind).answer) x)
               ∙ sym (walk-answer o q) ∙ sym (miss-answer (no_hit m)) ∙ goes_to) in
               let there : entry_from s privilege step.tlb.cache a ≡ new
-              = get_or-set_same t.cache.entries (slot_at s privilege.level a) its.entry blank slot-in ∙ cells.1 in
+              = get_or-set_same t.entries (slot_at s privilege.level a) its.entry blank slot-in ∙ cells.1 in
               let sum = or-page (page_of leaf.oa) a (omega arith) in
               let frame : on_page (page_of leaf.oa) a ≡ pa = j.1 in
               by-its-entry m o (rw there (new-serves leaf t.cache.current (tag_in s privilege a))) (rw there j.0) (rw there (omega arith))

@@ -12,7 +12,7 @@ use Rattle.walk.specs.declared.{regime.Regime.Regime, regime.Bank.Bank, level.Le
 use Rattle.tlb.specs.Access.{may_hint, tag_of, user_of, right_of, has_right, judged}
 use Rattle.tlb.specs.Entry.{blank, serves}
 use Rattle.tlb.specs.Hint.{no_hint, on_page, data_slot, hint_key}
-use Rattle.tlb.specs.Cache.{entry_at, hint_at}
+use Rattle.tlb.specs.Tlb.{entry_at, hint_at}
 use Rattle.tlb.specs.Lists.{each-getD, each-imp}
 use Rattle.tlb.specs.Live.{Made, Aligned, WellFormed}
 use Rattle.tlb.specs.Cells.{or-page}
@@ -136,13 +136,13 @@ module _ (a b pa pb : ℕ) (v w : Walked) (same : a / 4096 ≡ b / 4096) (same_t
           rw (by-miss on pb w r privilege at k h e b kind q, by-miss on pa v r privilege at k h e a kind (key ∙ q)) (missed on refl)
 
 module _ (s : Bank) (privilege : Privilege) (memory : ℕ → Option ℕ) (kind : Kind) (t : Tlb) (f : WellFormed t) where
-  pub hint-aligned : (i : ℕ) → (hint_at t.cache i).pa % 4096 ≡ 0
+  pub hint-aligned : (i : ℕ) → (hint_at t i).pa % 4096 ≡ 0
   hint-aligned i = each-getD {P = Aligned} no_hint refl f.cache.hints i
 
-  pub entry-aligned : (i : ℕ) → (entry_at t.cache i).pa % 4096 ≡ 0
+  pub entry-aligned : (i : ℕ) → (entry_at t i).pa % 4096 ≡ 0
   entry-aligned i =
       each-getD {P = λ (e : Entry). e.pa % 4096 ≡ 0} blank refl
-      (each-imp {P = Made t.cache.current.generation} (λ e m. m.aligned) f.cache.entries) i
+      (each-imp {P = Made t.generation} (λ e m. m.aligned) f.cache.entries) i
 
   -- addresses of one page get one answer, each with its own offset
   pub step-page : (a b : ℕ) → a / 4096 ≡ b / 4096 → (translate_in s privilege memory b kind t).answer
@@ -155,14 +155,14 @@ module _ (s : Bank) (privilege : Privilege) (memory : ℕ → Option ℕ) (kind 
       let slots : slot_at s privilege.level b ≡ slot_at s privilege.level a = rw tags in
       let answers : ℕ → ℕ → Answer = λ i j.
       (translation_with (stage1_on s r) (untagged s.tcr r b) (walk_now s privilege.level b memory) r privilege t.cache.current t.counts
-      (hint_at t.cache i)
-      (entry_at t.cache j) b kind).answer in
+      (hint_at t i)
+      (entry_at t j) b kind).answer in
       ap (λ (i : ℕ). answers i (slot_at s privilege.level b)) places
       ∙ ap (answers (data_slot a kind)) slots
       ∙ translation-page a b (untagged s.tcr r a) (untagged s.tcr r b) (walk_now s privilege.level a memory)
       (walk_now s privilege.level b memory) same tags
       (walk_of-page (untagged s.tcr r a) (untagged s.tcr r b) tags s r memory) (stage1_on s r) r privilege t.cache.current t.counts
-      (hint_at t.cache (data_slot a kind)) (entry_at t.cache (slot_at s privilege.level a)) kind (hint-aligned (data_slot a kind))
+      (hint_at t (data_slot a kind)) (entry_at t (slot_at s privilege.level a)) kind (hint-aligned (data_slot a kind))
       (entry-aligned (slot_at s privilege.level a))
 
   -- so an address that is answered has the offset of the one that was asked for

@@ -58,7 +58,7 @@ written_to c =
 
 -- the flushes and the changes that are counted, and the cache's generation and ASID
 abbrev counted : Tlb → List ℕ
-counted t = t.counts.flushes ∷ t.counts.epoch ∷ t.cache.current.generation ∷ t.cache.current.asid ∷ []
+counted t = t.counts.flushes ∷ t.counts.epoch ∷ t.generation ∷ t.asid ∷ []
 
 -- after a write of a value to the register of op0:op1:CRn:CRm:op2
 abbrev after_write : Core → ℕ → ℕ → List ℕ
@@ -123,7 +123,7 @@ after_tlbi c pending op1 crm op2 = (sys_of (invalidating c pending) 0 [] op1 8 c
 abbrev kept : Core → ℕ → ℕ → ℕ → List ℕ
 kept c op1 crm op2 =
     let t = after_tlbi c None op1 crm op2 in
-    t.counts.flushes ∷ t.counts.drops ∷ t.counts.epoch ∷ t.cache.current.generation ∷ []
+    t.counts.flushes ∷ t.counts.drops ∷ t.counts.epoch ∷ t.generation ∷ []
 
 abbrev left : Core → Option Inval → ℕ → ℕ → ℕ → Option Inval
 left c pending op1 crm op2 = (after_tlbi c pending op1 crm op2).broadcast

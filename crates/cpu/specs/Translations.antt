@@ -8,7 +8,7 @@ use Rattle.walk.specs.Tag.{untagged}
 use Rattle.walk.specs.declared.regime.Bank.{Bank}
 use Rattle.tlb.specs.Entry.{slot_of}
 use Rattle.tlb.specs.Access.{tag_of}
-use Rattle.tlb.specs.Step.{access_of, past_hint_in, after_past_hint, translation_in, tlb_after, fetch_in, fetched_in}
+use Rattle.tlb.specs.Translate.{access_of, past_hint_in, after_past_hint, translation_in, tlb_after, fetch_in, fetched_in}
 use Rattle.tlb.specs.declared.{access.Kind.Kind, access.Privilege.Privilege, Tlb.Tlb}
 use Rattle.tlb.specs.Answers.{Answer}
 use Rattle.tlb.specs.declared.access.Kind.TheVariants.{Fetch}

@@ -15,7 +15,7 @@ pub fn refit(t: &mut Tlb, before: Control, after: Control)
         t.flush();
     }
     let asid = after.asid();
-    if t.cache.current.asid != asid {
+    if t.asid != asid {
         t.retag(asid);
     }
 }

@@ -27,9 +27,8 @@ impl Core {
         ensures answer { HandedNow self.old (word_at base ram.now 8) va kind result self.new }
         ensures kept { KeptNow self.old result self.new }
     {
-        let s = self.bank();
-        let privilege = self.privilege;
-        self.tlb.at_hand(s, privilege, va, kind, base, ram)
+        let a = self.request(va, kind);
+        self.tlb.at_hand(a, base, ram)
     }
 
     // A translation by a walk: where one is needed, the translation.
@@ -39,9 +38,8 @@ impl Core {
         ensures { NeedsWalkNow self.old (word_at base ram.now 8) va kind
             → record { core = self.new; answer = result } ≡ past_hint_of self.old (word_at base ram.now 8) va kind }
     {
-        let s = self.bank();
-        let privilege = self.privilege;
-        self.tlb.by_walk(s, privilege, va, kind, base, ram)
+        let a = self.request(va, kind);
+        self.tlb.by_walk(a, base, ram)
     }
 
     // A translation that no hint serves. Out of line, and reads the registers itself, so that a hint pays nothing for
@@ -58,7 +56,7 @@ impl Core {
 
     // Where an access of the kind to va goes: the data hint first, which is asked once. The fetch hint is neither used
     // nor set.
-    #[tactic(auto, unfolding(crate::specs::Memory::translate_of, crate::specs::Memory::stepped_now, crate::specs::Memory::past_hint_of, crate::specs::Translations::translate_in, crate::specs::Translations::past_hint_step, crate::specs::Core::after_access, tlb::specs::Translate::translation_with))]
+    #[tactic(auto, unfolding(crate::specs::Memory::translate_of, crate::specs::Memory::stepped_now, crate::specs::Memory::past_hint_of, crate::specs::Translations::translate_in, crate::specs::Translations::past_hint_step, crate::specs::Core::after_access))]
     pub fn translate(&mut self, base: u64, ram: &[u8], va: u64, kind: Kind) -> Result<u64, Fault>
         ensures { record { core = self.new; answer = result } ≡ translate_of self.old (word_at base ram.now 8) va kind }
     {
@@ -74,9 +72,8 @@ impl Core {
         ensures { record { core = self.new; answer = result }
             ≡ translate_fetch_of self.old (word_at base ram.now 8) va }
     {
-        let s = self.bank();
-        let privilege = self.privilege;
-        self.tlb.translate_fetch(s, privilege, va, base, ram)
+        let a = self.request(va, Kind::Fetch);
+        self.tlb.translate_fetch(a, base, ram)
     }
 
     // The translations of an access, before a byte moves: one, or two where it crosses a page. The first one's effects

@@ -1,6 +1,6 @@
 -- The words of the hints.
 use Rattle.std.proofs.Common.{◌≡◌, ℕ, sym, ap, ◌∙◌}
-use Rattle.tlb.specs.declared.cache.Cache.{Cache}
+use Rattle.tlb.specs.declared.Tlb.{Tlb}
 use Rattle.digest.specs.Fold.{digest_from, digest_of, gathered}
 use Rattle.digest.specs.Parts.{hint_words, fetch_words, hints_words}
 use Rattle.digest.proofs.Folding.{digest-append}

@@ -1,7 +1,7 @@
 -- How many there are of the things that a digest is taken of.
 use Rattle.std.specs.Prelude.{ℕ, zero, suc, ◌+◌, ◌-◌, ◌^◌, Bool, not, List, ◌==◌, slice_index}
 use Rattle.word.specs.Bits.{flag}
-use Rattle.tlb.specs.Cache.{entry_at, hint_at}
+use Rattle.tlb.specs.Tlb.{entry_at, hint_at}
 use Rattle.tlb.specs.declared.{cache.Cache.Cache, hint.Hint.Hint}
 use Rattle.digest.specs.Parts.{live}
 

@@ -1,7 +1,7 @@
 -- The words that the digests of a core are taken of.
 use Rattle.std.specs.Prelude.{if◌then◌else◌, ℕ, ◌-◌, ◌^◌, Bool, not, ◌&&◌, List, [], ◌∷◌, ◌++◌, ◌==◌, slice_index}
 use Rattle.word.specs.Bits.{flag}
-use Rattle.tlb.specs.Cache.{entry_at, hint_at}
+use Rattle.tlb.specs.Tlb.{entry_at, hint_at}
 use Rattle.tlb.specs.declared.{cache.Cache.Cache, entry.Entry.Entry, entry.Current.Current, hint.FetchHint.FetchHint}
 use Rattle.digest.specs.Fold.{gathered}
 use Rattle.cpu.specs.declared.Core.{Core}

@@ -161,5 +161,5 @@ pub fn hints(core: &Core) -> Sum
     ensures count_value { result.count ≡ set_hints core.now.tlb.cache }
 {
     let s = data_hints(&core.tlb.cache);
-    with_fetch(s, core.tlb.cache.fetch)
+    with_fetch(s, core.tlb.fetch)
 }

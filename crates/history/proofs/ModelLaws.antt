@@ -93,8 +93,8 @@ module _ (w : World) (laws : Laws w) where
   retagged-stands : (a : ℕ) {t : Tlb} {u : Model} → StandsFor t u → StandsFor (retagged_of t a) (model_retagged w a u)
   unfolding retagged_of model_retagged
   retagged-stands a {t} r =
-      subst (λ (u : Model). StandsFor (if t.cache.current.asid == a then t else retag_of t a) (if u.asid == a then u else retag a u)) r.is
-      (go (t.cache.current.asid == a))
+      subst (λ (u : Model). StandsFor (if t.asid == a then t else retag_of t a) (if u.asid == a then u else retag a u)) r.is
+      (go (t.asid == a))
     where
       go : (b : Bool) → StandsFor (if b then t else retag_of t a) (if b then live t else retag a (live t))
       go true = record { well = r.well; is = refl }

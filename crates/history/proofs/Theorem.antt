@@ -204,7 +204,7 @@ module _ (w : World) (laws : Laws w) where
         (answers-right c₀ past m s.asks (model_run w c₀ past empty_model) (traced-at w m (history-traced past)))
 
     -- beside it: after every history the cache's ASID is that of the registers, and the cache is well-formed
-    pub history-asid : (past : List (Event w)) → (tlb_run w c₀ past fresh).cache.current.asid ≡ w.asid (plain_run w c₀ past).regs
+    pub history-asid : (past : List (Event w)) → (tlb_run w c₀ past fresh).asid ≡ w.asid (plain_run w c₀ past).regs
     history-asid past = ap (λ (u : Model). u.asid) (history-model w laws c₀ low past) ∙ (history-traced past).asid-is
 
     pub history-well : (past : List (Event w)) → WellFormed (tlb_run w c₀ past fresh)

@@ -71,7 +71,7 @@ every_answer_modelled =
 -- the ASID that the cache holds is that of the registers
 abbrev pub every_asid_current : Type 0
 every_asid_current =
-    (past : History) → (tlb_run real fresh_plain past fresh).cache.current.asid ≡ asid_of (plain_after past).regs
+    (past : History) → (tlb_run real fresh_plain past fresh).asid ≡ asid_of (plain_after past).regs
 
 -- THE COUNTERS that the model has after a history from any start
 

@@ -6,9 +6,9 @@ use Rattle.tlb.specs.Access.{may_hint}
 use Rattle.tlb.specs.Answers.{Answer}
 use Rattle.tlb.specs.Entry.{blank}
 use Rattle.tlb.specs.Hint.{no_hint, data_slot, hint_key, hint_found, on_page}
-use Rattle.tlb.specs.Cache.{entry_at, hint_at, set_entry, set_hint}
+use Rattle.tlb.specs.Tlb.{entry_at, hint_at, set_entry, set_hint}
 use Rattle.tlb.specs.Tlb.{tlb_with}
-use Rattle.tlb.specs.Step.{hint_in}
+use Rattle.tlb.specs.Translate.{hint_in}
 use Rattle.tlb.specs.Translate.{translation_with}
 use Rattle.tlb.specs.declared.{access.Kind.Kind, entry.Entry.Entry, hint.Hint.Hint}
 use Rattle.cpu.specs.Core.{after_access, bank_now}
@@ -45,17 +45,17 @@ module _ (c : Core) (memory : ℕ → Option ℕ) (va : ℕ) (kind : Kind) where
   celled hs es = with_tlb c (tlb_with c.tlb (record c.tlb.cache { hints = hs; entries = es }) c.tlb.counts)
 
   -- the cells put back as they were
-  same : with_tlb c (tlb_with c.tlb (set_hint (set_entry c.tlb.cache slot (entry_at c.tlb.cache slot)) place (hint_at c.tlb.cache place)) c.tlb.counts) ≡ c
+  same : with_tlb c (tlb_with c.tlb (set_hint (set_entry c.tlb.cache slot (entry_at c.tlb slot)) place (hint_at c.tlb place)) c.tlb.counts) ≡ c
   unfolding after_access celled
-  same i = celled (set-get_or c.tlb.cache.hints place no_hint i) (set-get_or c.tlb.cache.entries slot blank i)
+  same i = celled (set-get_or c.tlb.hints place no_hint i) (set-get_or c.tlb.entries slot blank i)
 
   pub hint-serves : (pa : ℕ) → hint_in c.privilege va kind c.tlb ≡ Some pa → translate_of c memory va kind ≡ record { core = c; answer = Ok pa }
   unfolding translate_of stepped_now translate_in translation_with
   hint-serves pa h =
-      let may : (may_hint c.privilege kind ≡ true) × (hint_found (hint_at c.tlb.cache place) c.privilege.level va ≡ Some pa) = chosen (may_hint c.privilege kind) (hint_found (hint_at c.tlb.cache place) c.privilege.level va) pa h in
-      let key : (((hint_at c.tlb.cache place).key == hint_key va c.privilege.level) ≡ true) × (Some (on_page (hint_at c.tlb.cache place).pa va) ≡ Some pa) =
-      chosen ((hint_at c.tlb.cache place).key == hint_key va c.privilege.level) (Some (on_page (hint_at c.tlb.cache place).pa va)) pa may.1 in
-      let at : on_page (hint_at c.tlb.cache place).pa va ≡ pa = ap address key.1 in
+      let may : (may_hint c.privilege kind ≡ true) × (hint_found (hint_at c.tlb place) c.privilege.level va ≡ Some pa) = chosen (may_hint c.privilege kind) (hint_found (hint_at c.tlb place) c.privilege.level va) pa h in
+      let key : (((hint_at c.tlb place).key == hint_key va c.privilege.level) ≡ true) × (Some (on_page (hint_at c.tlb place).pa va) ≡ Some pa) =
+      chosen ((hint_at c.tlb place).key == hint_key va c.privilege.level) (Some (on_page (hint_at c.tlb place).pa va)) pa may.1 in
+      let at : on_page (hint_at c.tlb place).pa va ≡ pa = ap address key.1 in
       rw (may.0, key.0, at) (λ i. record { core = same i; answer = Ok pa })
 
 -- a hint that does not serve
@@ -67,7 +67,7 @@ unserved true true pa e = absurd (subst is_at e tt)
 module _ (c : Core) (memory : ℕ → Option ℕ) (va : ℕ) (kind : Kind) where
   pub unhinted : hint_in c.privilege va kind c.tlb ≡ None → past_hint_of c memory va kind ≡ translate_of c memory va kind
   unfolding translate_of stepped_now translate_in translation_with past_hint_of past_hint_step
-  unhinted h = rw (unserved (may_hint c.privilege kind) ((hint_at c.tlb.cache (data_slot va kind)).key == hint_key va c.privilege.level) (on_page (hint_at c.tlb.cache (data_slot va kind)).pa va) h) refl
+  unhinted h = rw (unserved (may_hint c.privilege kind) ((hint_at c.tlb (data_slot va kind)).key == hint_key va c.privilege.level) (on_page (hint_at c.tlb (data_slot va kind)).pa va) h) refl
 
 -- a translation that no hint serves, in its two parts, by the kind that the instance reads
 module _ (c d : Core) (memory : ℕ → Option ℕ) (va : ℕ) (read kind : Kind) (a : Answer) (is : read ≡ kind) (none : hint_in c.privilege va kind c.tlb ≡ None) where

@@ -8,10 +8,10 @@ use Rattle.exception.specs.Abort.{insn_abort_at}
 use Rattle.tlb.specs.Answers.{Answer}
 use Rattle.tlb.specs.Entry.{blank}
 use Rattle.tlb.specs.Hint.{no_hint, data_slot, fetch_found}
-use Rattle.tlb.specs.Cache.{entry_at, set_entry}
+use Rattle.tlb.specs.Tlb.{entry_at, set_entry}
 use Rattle.tlb.specs.Tlb.{tlb_with}
 use Rattle.tlb.specs.Resolve.{counted_by, kept_by, fetch_after}
-use Rattle.tlb.specs.Step.{access_of, slot_for, miss_in}
+use Rattle.tlb.specs.Translate.{access_of, slot_for, miss_in}
 use Rattle.tlb.specs.Model.{Access}
 use Rattle.tlb.specs.Translate.{fetch_with, fetch_end as fetch_chosen, fetch_applied, applied}
 use Rattle.tlb.specs.declared.access.Kind.TheVariants.{Fetch}
@@ -39,11 +39,11 @@ module _ (c : Core) (memory : ℕ → Option ℕ) (va : ℕ) where
   with_entries es = with_tlb c (tlb_with c.tlb (record c.tlb.cache { entries = es }) c.tlb.counts)
 
   -- the entry put back as it was
-  same : with_tlb c (tlb_with c.tlb (set_entry c.tlb.cache (slot_for a) (entry_at c.tlb.cache (slot_for a))) c.tlb.counts) ≡ c
+  same : with_tlb c (tlb_with c.tlb (set_entry c.tlb.cache (slot_for a) (entry_at c.tlb (slot_for a))) c.tlb.counts) ≡ c
   unfolding after_access with_entries
-  same i = with_entries (set-get_or c.tlb.cache.entries (slot_for a) blank i)
+  same i = with_entries (set-get_or c.tlb.entries (slot_for a) blank i)
 
-  pub fetch-serves : (pa : ℕ) → fetch_found c.tlb.cache.fetch c.privilege.level va ≡ Some pa → record { core = c; answer = Ok pa } ≡ translate_fetch_of c memory va
+  pub fetch-serves : (pa : ℕ) → fetch_found c.tlb.fetch c.privilege.level va ≡ Some pa → record { core = c; answer = Ok pa } ≡ translate_fetch_of c memory va
   unfolding translate_fetch_of fetch_stepped_now translate_fetch_in fetch_with fetch_chosen
   fetch-serves pa h = sym (rw h (λ i. record { core = same i; answer = Ok pa }))
 
@@ -54,9 +54,9 @@ module _ (c : Core) (memory : ℕ → Option ℕ) (va : ℕ) where
             with_tlb c
             (tlb_with c.tlb
             (record c.tlb.cache {
-              fetch = fetch_after c.privilege.level va missed.answer c.tlb.cache.fetch;
+              fetch = fetch_after c.privilege.level va missed.answer c.tlb.fetch;
               hints = hs;
-              entries = (set_entry c.tlb.cache (slot_for a) (kept_by missed.source (entry_at c.tlb.cache (slot_for a)) missed.made)).entries;
+              entries = (set_entry c.tlb.cache (slot_for a) (kept_by missed.source (entry_at c.tlb (slot_for a)) missed.made)).entries;
             })
             (counted_by missed.source c.privilege.level c.tlb.counts));
         answer = missed.answer;
@@ -65,11 +65,11 @@ module _ (c : Core) (memory : ℕ → Option ℕ) (va : ℕ) where
   abbrev left : Translated → Translated
   left t = record { core = hint_left t.core va t.answer; answer = t.answer }
 
-  fetch-misses : fetch_found c.tlb.cache.fetch c.privilege.level va ≡ None → left (past_hint_of c memory va Fetch) ≡ translate_fetch_of c memory va
+  fetch-misses : fetch_found c.tlb.fetch c.privilege.level va ≡ None → left (past_hint_of c memory va Fetch) ≡ translate_fetch_of c memory va
   unfolding translate_fetch_of fetch_stepped_now translate_fetch_in fetch_with fetch_chosen fetch_applied past_hint_of past_hint_step applied after_access with_hints
-  fetch-misses h = rw h (λ i. with_hints (set-get_or c.tlb.cache.hints (data_slot va Fetch) no_hint i))
+  fetch-misses h = rw h (λ i. with_hints (set-get_or c.tlb.hints (data_slot va Fetch) no_hint i))
 
-  pub fetch-missed : (d e : Core) (x : Answer) → fetch_found c.tlb.cache.fetch c.privilege.level va ≡ None
+  pub fetch-missed : (d e : Core) (x : Answer) → fetch_found c.tlb.fetch c.privilege.level va ≡ None
       → record { core = d; answer = x } ≡ past_hint_of c memory va Fetch → e ≡ hint_left d va x → record { core = e; answer = x } ≡ translate_fetch_of c memory va
   fetch-missed d e x h ed ee = ap (λ (y : Core). record { core = y; answer = x }) ee ∙ ap left ed ∙ fetch-misses h
 

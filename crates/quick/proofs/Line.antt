@@ -5,9 +5,9 @@ use Rattle.std.proofs.lemmas.Nat.{or_mod, or_block}
 use Rattle.std.specs.Int.Bits.{or_zero_l, or_zero_r}
 use Rattle.word.specs.Ram.{within, stored}
 use Rattle.tlb.specs.Access.{may_hint}
-use Rattle.tlb.specs.Cache.{hint_at}
+use Rattle.tlb.specs.Tlb.{hint_at}
 use Rattle.tlb.specs.Hint.{on_page, data_slot, hint_key, hint_found}
-use Rattle.tlb.specs.Step.{hint_in}
+use Rattle.tlb.specs.Translate.{hint_in}
 use Rattle.tlb.specs.declared.access.Kind.TheVariants.{Write}
 use Rattle.cpu.specs.declared.Core.{Core}
 use Rattle.cpu.specs.ZeroLine.{zero-steady}
@@ -35,12 +35,12 @@ module _ (c : Core) (va pa : ℕ) (line : va % 64 ≡ 0) (found : hint_in c.priv
   found_at j h =
       let page : (va + 8 * j) / 4096 ≡ va / 4096 = omega arith in
       let low : (va + 8 * j) % 4096 ≡ va % 4096 + 8 * j = omega arith in
-      let may : (may_hint c.privilege Write ≡ true) × (hint_found (hint_at c.tlb.cache (data_slot va Write)) c.privilege.level va ≡ Some pa)
-      = chosen (may_hint c.privilege Write) (hint_found (hint_at c.tlb.cache (data_slot va Write)) c.privilege.level va) pa found in
-      let key : (((hint_at c.tlb.cache (data_slot va Write)).key == hint_key va c.privilege.level) ≡ true) × (Some (on_page (hint_at c.tlb.cache (data_slot va Write)).pa va) ≡ Some pa)
-      = chosen ((hint_at c.tlb.cache (data_slot va Write)).key == hint_key va c.privilege.level) (Some (on_page (hint_at c.tlb.cache (data_slot va Write)).pa va)) pa may.1 in
-      let sum : on_page (hint_at c.tlb.cache (data_slot va Write)).pa va ≡ pa = ap address key.1 in
-      let each = or-line (hint_at c.tlb.cache (data_slot va Write)).pa (va % 4096) (8 * j) (omega arith) (ap (λ (x : ℕ). x % 64) sum ∙ flat) (omega arith) in
+      let may : (may_hint c.privilege Write ≡ true) × (hint_found (hint_at c.tlb (data_slot va Write)) c.privilege.level va ≡ Some pa)
+      = chosen (may_hint c.privilege Write) (hint_found (hint_at c.tlb (data_slot va Write)) c.privilege.level va) pa found in
+      let key : (((hint_at c.tlb (data_slot va Write)).key == hint_key va c.privilege.level) ≡ true) × (Some (on_page (hint_at c.tlb (data_slot va Write)).pa va) ≡ Some pa)
+      = chosen ((hint_at c.tlb (data_slot va Write)).key == hint_key va c.privilege.level) (Some (on_page (hint_at c.tlb (data_slot va Write)).pa va)) pa may.1 in
+      let sum : on_page (hint_at c.tlb (data_slot va Write)).pa va ≡ pa = ap address key.1 in
+      let each = or-line (hint_at c.tlb (data_slot va Write)).pa (va % 4096) (8 * j) (omega arith) (ap (λ (x : ℕ). x % 64) sum ∙ flat) (omega arith) in
       rw (page, may.0, key.0, low) (ap Some (each ∙ ap (λ (x : ℕ). x + 8 * j) sum))
 
   pub cleared : (base : ℕ) (ram : List ℕ) → va + 64 ≤ 2 ^ 64 → (f : Bool) (ys : List ℕ) → f ≡ within base (length ram) 64 pa → ys ≡ stored base ram 64 pa 0

@@ -20,7 +20,7 @@ use Rattle.operations.specs.declared.place.Place.TheVariants.{Whole, Split}
 use Rattle.operations.proofs.Moves.{whole-value, whole-abort}
 use Rattle.cpu.specs.Step.{Stepped, after_load}
 use Rattle.quick.specs.Says.{Tells, ended_of}
-use Rattle.tlb.specs.Step.{hint_in}
+use Rattle.tlb.specs.Translate.{hint_in}
 use Rattle.operations.specs.Bytes.{load_of}
 use Rattle.quick.proofs.ByHint.{hint-serves}
 

@@ -6,7 +6,7 @@ use Rattle.word.specs.Bits.{wrap}
 use Rattle.word.specs.Ram.{word_at, within, stored, bytes_in}
 use Rattle.walk.specs.Regime.{regime_of, stage1_on}
 use Rattle.tlb.specs.Answers.{Answer}
-use Rattle.tlb.specs.Step.{hint_in}
+use Rattle.tlb.specs.Translate.{hint_in}
 use Rattle.tlb.specs.declared.access.Kind.TheVariants.{Write}
 use Rattle.fault.specs.declared.Fault.{Fault}
 use Rattle.cpu.specs.Core.{after_access, bank_now}

@@ -5,7 +5,7 @@ use Rattle.word.specs.Ram.{word_at}
 use Rattle.cpu.specs.Memory.{with_tlb, loaded_by, read_of, stored_by, write_of, ram_after_write, fetched_by, fetch_of, fetch_pa_of}
 use Rattle.cpu.specs.Results.{Translated, Loaded, Stored, Fetched, Addressed}
 use Rattle.tlb.specs.Answers.{Answer}
-use Rattle.tlb.specs.Cache.{set_fetch}
+use Rattle.tlb.specs.Tlb.{set_fetch}
 use Rattle.tlb.specs.Tlb.{tlb_with}
 use Rattle.tlb.specs.Resolve.{fetch_after}
 use Rattle.operations.specs.Place.{placed_one}
@@ -81,7 +81,7 @@ fetch_ended false d a base ram va = after_address (reached_of d a)
 -- the fetch hint that an answer leaves
 abbrev pub hint_left : Core → ℕ → Answer → Core
 hint_left d va a =
-    with_tlb d (tlb_with d.tlb (set_fetch d.tlb.cache (fetch_after d.privilege.level va a d.tlb.cache.fetch)) d.tlb.counts)
+    with_tlb d (tlb_with d.tlb (set_fetch d.tlb.cache (fetch_after d.privilege.level va a d.tlb.fetch)) d.tlb.counts)
 
 -- AN ACCESS OF TWO PAGES by their hints
 

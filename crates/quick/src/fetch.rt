@@ -68,14 +68,14 @@ fn leave(core: &mut Core, va: u64, answer: Result<u64, Fault>)
     ensures { core.new ≡ hint_left core.old va answer }
 {
     if let Ok(pa) = answer {
-        core.tlb.cache.fetch = FetchHint::new(va, core.privilege.level, pa);
+        core.tlb.fetch = Some(FetchHint::new(va, core.privilege.level, pa));
     }
 }
 
 // By a walk.
 #[inline(never)]
 fn by_walk<const INSN: bool>(core: &mut Core, va: u64, ans: &mut u64, base: u64, ram: &[u8]) -> u64
-    requires no_hint { fetch_found core.old.tlb.cache.fetch core.old.privilege.level va ≡ None }
+    requires no_hint { fetch_found core.old.tlb.fetch core.old.privilege.level va ≡ None }
     requires needs_walk { NeedsWalkNow core.old (word_at base ram.now 8) va Fetch }
     ensures { Tells (fetch_run INSN core.old base ram.now va) ans.old result ans.new core.new }
 {
@@ -92,7 +92,7 @@ fn past_hint<const INSN: bool>(
     base: u64,
     ram: &[u8],
 ) -> u64
-    requires no_hint { fetch_found core.old.tlb.cache.fetch core.old.privilege.level va ≡ None }
+    requires no_hint { fetch_found core.old.tlb.fetch core.old.privilege.level va ≡ None }
     ensures { Tells (fetch_run INSN core.old base ram.now va) ans.old result ans.new core.new }
 {
     match core.at_hand(base, ram, va, Kind::Fetch) {
@@ -108,7 +108,7 @@ fn past_hint<const INSN: bool>(
 fn by_hint<const INSN: bool>(core: &mut Core, va: u64, ans: &mut u64, base: u64, ram: &[u8]) -> u64
     ensures { Tells (fetch_run INSN core.old base ram.now va) ans.old result ans.new core.new }
 {
-    match core.tlb.cache.fetch.find(core.privilege.level, va) {
+    match core.tlb.by_fetch_hint(core.privilege.level, va) {
         Some(pa) => ended::<INSN>(core, va, Ok(pa), ans, base, ram),
         None => past_hint::<INSN>(core, va, ans, base, ram),
     }

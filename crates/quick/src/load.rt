@@ -1,7 +1,7 @@
 // A load on a core that is lent: its number, and its value in ans.
 ghost use Rattle.std.specs.Prelude.{◌≡◌, ◌≤◌, None};
 ghost use Rattle.word.specs.Ram.{word_at, bytes_in};
-ghost use Rattle.tlb.specs.Step.{hint_in};
+ghost use Rattle.tlb.specs.Translate.{hint_in};
 ghost use Rattle.tlb.specs.declared.access.Kind.TheVariants.{Read};
 ghost use Rattle.operations.specs.Place.{in_page};
 ghost use Rattle.operations.specs.declared.call.Call.TheVariants as Call;

@@ -1,7 +1,7 @@
 // A store on a core that is lent: its number, RAM, and in ans the address of a data abort.
 ghost use Rattle.std.specs.Prelude.{◌≡◌, ◌≤◌, None};
 ghost use Rattle.word.specs.Ram.{word_at, bytes_in};
-ghost use Rattle.tlb.specs.Step.{hint_in};
+ghost use Rattle.tlb.specs.Translate.{hint_in};
 ghost use Rattle.tlb.specs.declared.access.Kind.TheVariants.{Write};
 ghost use Rattle.operations.specs.Place.{in_page};
 ghost use Rattle.operations.specs.declared.call.Call.TheVariants as Call;

@@ -2,7 +2,7 @@
 // text: TELLS says whether a fault is told by its status, or as no more than that.
 ghost use Rattle.std.specs.Prelude.{◌≡◌, ℕ, None};
 ghost use Rattle.word.specs.Ram.{word_at};
-ghost use Rattle.tlb.specs.Step.{hint_in};
+ghost use Rattle.tlb.specs.Translate.{hint_in};
 ghost use Rattle.operations.specs.Ends.{reached_by};
 ghost use Rattle.operations.specs.Replies.{reaching};
 ghost use Rattle.operations.specs.declared.call.Call.TheVariants as Call;

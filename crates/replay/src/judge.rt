@@ -13,7 +13,7 @@ use word::bits;
 // Parts of the core, the numbers of entries and hints, and the digests, that of RAM last.
 fn core_words(machine: &Machine, ram: u64) -> [u64; rows::CORE] {
     let core = &machine.core;
-    let levels = &core.tlb.counts.levels;
+    let levels = &core.tlb.levels;
     let current = core.tlb.cache.current;
     let mut pending = [0; 2];
     read::pending(core, &mut pending);
@@ -28,9 +28,9 @@ fn core_words(machine: &Machine, ram: u64) -> [u64; rows::CORE] {
         levels[2].walks,
         levels[3].hits,
         levels[3].walks,
-        core.tlb.counts.flushes,
-        core.tlb.counts.drops,
-        core.tlb.counts.epoch,
+        core.tlb.flushes,
+        core.tlb.drops,
+        core.tlb.epoch,
         pending[0],
         pending[1],
         core.last_pa,

@@ -5,7 +5,7 @@ use Rattle.std.proofs.Common.{sym, refl, ap, ◌∙◌, arith, lt-ltb, le-ltb, l
 use Rattle.std.proofs.lemmas.List.{get_or_past}
 use Rattle.word.specs.Bits.{flag, bit_on, field}
 use Rattle.word.specs.Tables.{table, table_at, table-past}
-use Rattle.tlb.specs.Cache.{hint_at, entry_at}
+use Rattle.tlb.specs.Tlb.{hint_at, entry_at}
 use Rattle.tlb.specs.Entry.{blank}
 use Rattle.tlb.specs.Hint.{no_hint}
 use Rattle.tlb.specs.declared.{count.Tally.Tally, entry.Entry.Entry, Inval.Inval}
@@ -26,16 +26,16 @@ module _ (c : Core) where
       rw (le-ltb (GENERAL + n) 37 (omega arith), lt-ltb (GENERAL + n) LEVEL (omega arith))
       (let z : GENERAL + n - GENERAL ≡ n = omega arith in ap (slice_index c.x) z)
 
-  pub hint_words : (i k : ℕ) → i < 512 → k < 2 → word_of c (HINTS + i * 2 + k) ≡ hint_word (hint_at c.tlb.cache i) k
+  pub hint_words : (i k : ℕ) → i < 512 → k < 2 → word_of c (HINTS + i * 2 + k) ≡ hint_word (hint_at c.tlb i) k
   unfolding word_of
   hint_words i k h l =
       let p : ℕ = HINTS + i * 2 + k in
       let at : (p - HINTS) / 2 ≡ i = omega arith in
       let part : (p - HINTS) % 2 ≡ k = omega arith in
       rw (le-ltb p 37 (omega arith), le-ltb p LEVEL (omega arith), le-ltb p HINTS (omega arith), lt-ltb p ENTRIES (omega arith))
-      (λ q. hint_word (hint_at c.tlb.cache (at q)) (part q))
+      (λ q. hint_word (hint_at c.tlb (at q)) (part q))
 
-  pub entry_words : (j k : ℕ) → j < 1024 → k < 4 → word_of c (ENTRIES + j * 4 + k) ≡ entry_word (entry_at c.tlb.cache j) k
+  pub entry_words : (j k : ℕ) → j < 1024 → k < 4 → word_of c (ENTRIES + j * 4 + k) ≡ entry_word (entry_at c.tlb j) k
   unfolding word_of
   entry_words j k h l =
       let p : ℕ = ENTRIES + j * 4 + k in
@@ -48,7 +48,7 @@ module _ (c : Core) where
         le-ltb p ENTRIES (omega arith),
         lt-ltb p LEVEL-HITS (omega arith),
       )
-      (λ q. entry_word (entry_at c.tlb.cache (at q)) (part q))
+      (λ q. entry_word (entry_at c.tlb (at q)) (part q))
 
   pub past_words : (p : ℕ) → WORDS ≤ p → word_of c p ≡ 0
   unfolding word_of
@@ -152,23 +152,23 @@ module _ (c : Core) (f : Fits c) where
   general-back : table 31 (λ n. w (GENERAL + n)) ≡ c.x
   general-back = table-back 31 (λ n. w (GENERAL + n)) c.x 0 f.parts.general (general_word c)
 
-  hints-back : table 512 (hint_in w) ≡ c.tlb.cache.hints
-  hints-back = table-back 512 (hint_in w) c.tlb.cache.hints no_hint f.parts.hints back
+  hints-back : table 512 (hint_in w) ≡ c.tlb.hints
+  hints-back = table-back 512 (hint_in w) c.tlb.hints no_hint f.parts.hints back
     where
-      back : (i : ℕ) → i < 512 → hint_in w i ≡ hint_at c.tlb.cache i
+      back : (i : ℕ) → i < 512 → hint_in w i ≡ hint_at c.tlb i
       back i h =
-          let k : w (HINTS + i * 2) ≡ (hint_at c.tlb.cache i).key =
+          let k : w (HINTS + i * 2) ≡ (hint_at c.tlb i).key =
           (let z : HINTS + i * 2 ≡ HINTS + i * 2 + 0 = omega arith in ap w z) ∙ hint_words c i 0 h (omega arith) in
-          let p : w (HINT-PA + i * 2) ≡ (hint_at c.tlb.cache i).pa =
+          let p : w (HINT-PA + i * 2) ≡ (hint_at c.tlb i).pa =
           (let z : HINT-PA + i * 2 ≡ HINTS + i * 2 + 1 = omega arith in ap w z) ∙ hint_words c i 1 h (omega arith) in
           λ q. record { key = k q; pa = p q }
 
-  entries-back : table 1024 (entry_in w) ≡ c.tlb.cache.entries
-  entries-back = table-back 1024 (entry_in w) c.tlb.cache.entries blank f.parts.entries back
+  entries-back : table 1024 (entry_in w) ≡ c.tlb.entries
+  entries-back = table-back 1024 (entry_in w) c.tlb.entries blank f.parts.entries back
     where
-      back : (j : ℕ) → j < 1024 → entry_in w j ≡ entry_at c.tlb.cache j
+      back : (j : ℕ) → j < 1024 → entry_in w j ≡ entry_at c.tlb j
       back j h =
-          let e : Entry = entry_at c.tlb.cache j in
+          let e : Entry = entry_at c.tlb j in
           let fits : EntryFits e = f.entries j h in
           let t : w (ENTRIES + j * 4) ≡ e.tag =
           (let z : ENTRIES + j * 4 ≡ ENTRIES + j * 4 + 0 = omega arith in ap w z) ∙ entry_words c j 0 h (omega arith) in
@@ -207,20 +207,20 @@ module _ (c : Core) (f : Fits c) where
                     current = record { generation = mod-eq_of_lt f.parts.generation i; asid = mod-eq_of_lt f.parts.asid i };
                     fetch =
                         record {
-                          some = flag-is c.tlb.cache.fetch.some i;
-                          page = c.tlb.cache.fetch.page;
+                          some = flag-is c.tlb.fetch.some i;
+                          page = c.tlb.fetch.page;
                           level = mod-eq_of_lt f.parts.fetch i;
-                          pa = c.tlb.cache.fetch.pa;
+                          pa = c.tlb.fetch.pa;
                         };
                     hints = hints-back i;
                     entries = entries-back i;
                   };
               counts =
                   record {
-                    levels = tallies-back c.tlb.counts.levels (record { hits = 0; walks = 0 }) f.parts.levels i;
-                    flushes = c.tlb.counts.flushes;
-                    drops = c.tlb.counts.drops;
-                    epoch = c.tlb.counts.epoch;
+                    levels = tallies-back c.tlb.levels (record { hits = 0; walks = 0 }) f.parts.levels i;
+                    flushes = c.tlb.flushes;
+                    drops = c.tlb.drops;
+                    epoch = c.tlb.epoch;
                   };
               broadcast = pending-is c.tlb.broadcast f.parts.pending i;
             };

@@ -1,6 +1,6 @@
 -- What the parts of every core that a program holds are: numbers as their types have them, lists as long as their arrays.
 use Rattle.std.specs.Prelude.{◌≡◌, ℕ, ◌<◌, ◌^◌, length, Option, Some, None}
-use Rattle.tlb.specs.Cache.{entry_at}
+use Rattle.tlb.specs.Tlb.{entry_at}
 use Rattle.tlb.specs.declared.{entry.Entry.Entry, Inval.Inval}
 use Rattle.tlb.specs.declared.Inval.TheVariants.{All, Page, Asid}
 use Rattle.cpu.specs.declared.Core.{Core}
@@ -23,14 +23,14 @@ pub record PartsFit (c : Core) : Type 0 where
   pub nzcv : c.flags.nzcv < 2 ^ 32
   pub daif : c.flags.daif < 2 ^ 32
   pub general : length c.x ≡ 31
-  pub generation : c.tlb.cache.current.generation < 2 ^ 32
-  pub asid : c.tlb.cache.current.asid < 2 ^ 16
-  pub fetch : c.tlb.cache.fetch.level < 2 ^ 8
-  pub levels : length c.tlb.counts.levels ≡ 4
-  pub hints : length c.tlb.cache.hints ≡ 512
-  pub entries : length c.tlb.cache.entries ≡ 1024
+  pub generation : c.tlb.generation < 2 ^ 32
+  pub asid : c.tlb.asid < 2 ^ 16
+  pub fetch : c.tlb.fetch.level < 2 ^ 8
+  pub levels : length c.tlb.levels ≡ 4
+  pub hints : length c.tlb.hints ≡ 512
+  pub entries : length c.tlb.entries ≡ 1024
   pub pending : PendingFits c.tlb.broadcast
 
 pub record Fits (c : Core) : Type 0 where
   pub parts : PartsFit c
-  pub entries : (j : ℕ) → j < 1024 → EntryFits (entry_at c.tlb.cache j)
+  pub entries : (j : ℕ) → j < 1024 → EntryFits (entry_at c.tlb j)

@@ -5,7 +5,7 @@ use Rattle.sysreg.specs.Regs.{level_of, control_at, sys_at}
 use Rattle.sysreg.specs.declared.{regs.El.El, regs.ControlReg.ControlReg, regs.SysReg.SysReg}
 use Rattle.sysreg.specs.declared.regs.ControlReg.TheVariants.{Sctlr, Tcr, Ttbr0, Ttbr1, Scr, Hcr}
 use Rattle.sysreg.specs.declared.regs.SysReg.TheVariants.{Mair, Vbar, Elr, Spsr, Esr, Far, Vpidr, Vmpidr, Par}
-use Rattle.tlb.specs.Cache.{hint_at, entry_at}
+use Rattle.tlb.specs.Tlb.{hint_at, entry_at}
 use Rattle.tlb.specs.Count.{tally_at}
 use Rattle.cpu.specs.Core.{reg_of}
 use Rattle.cpu.specs.declared.Core.{Core}
@@ -46,31 +46,31 @@ pub record Named (c : Core) : Type 0 where
   pub spsel : word_of c SPSEL ≡ flag c.flags.spsel 1
   pub level : word_of c LEVEL ≡ c.privilege.level
   pub unprivileged : word_of c UNPRIVILEGED ≡ flag c.privilege.unprivileged 1
-  pub flushes : word_of c FLUSHES ≡ c.tlb.counts.flushes
-  pub drops : word_of c DROPS ≡ c.tlb.counts.drops
-  pub epoch : word_of c EPOCH ≡ c.tlb.counts.epoch
+  pub flushes : word_of c FLUSHES ≡ c.tlb.flushes
+  pub drops : word_of c DROPS ≡ c.tlb.drops
+  pub epoch : word_of c EPOCH ≡ c.tlb.epoch
   pub last : word_of c LAST-PA ≡ c.last_pa
   pub abort : word_of c ABORT-PA ≡ c.abort_pa
-  pub generation : word_of c GENERATION ≡ c.tlb.cache.current.generation
-  pub asid : word_of c ASID ≡ c.tlb.cache.current.asid
-  pub fetch : word_of c FETCH ≡ flag c.tlb.cache.fetch.some 1
-  pub fetch_page : word_of c FETCH-PAGE ≡ c.tlb.cache.fetch.page
-  pub fetch_level : word_of c FETCH-LEVEL ≡ c.tlb.cache.fetch.level
-  pub fetch_pa : word_of c FETCH-PA ≡ c.tlb.cache.fetch.pa
+  pub generation : word_of c GENERATION ≡ c.tlb.generation
+  pub asid : word_of c ASID ≡ c.tlb.asid
+  pub fetch : word_of c FETCH ≡ flag c.tlb.fetch.some 1
+  pub fetch_page : word_of c FETCH-PAGE ≡ c.tlb.fetch.page
+  pub fetch_level : word_of c FETCH-LEVEL ≡ c.tlb.fetch.level
+  pub fetch_pa : word_of c FETCH-PA ≡ c.tlb.fetch.pa
 
 pub record HintNamed (c : Core) (i : ℕ) : Type 0 where
-  pub key : word_of c (HINTS + i * 2) ≡ (hint_at c.tlb.cache i).key
-  pub pa : word_of c (HINT-PA + i * 2) ≡ (hint_at c.tlb.cache i).pa
+  pub key : word_of c (HINTS + i * 2) ≡ (hint_at c.tlb i).key
+  pub pa : word_of c (HINT-PA + i * 2) ≡ (hint_at c.tlb i).pa
 
 pub record EntryNamed (c : Core) (j : ℕ) : Type 0 where
-  pub tag : word_of c (ENTRIES + j * 4) ≡ (entry_at c.tlb.cache j).tag
-  pub generation : word_of c (ENTRY-GENERATION + j * 4) ≡ (entry_at c.tlb.cache j).generation
-  pub attributes : word_of c (ENTRY-ATTRIBUTES + j * 4) ≡ attributes (entry_at c.tlb.cache j)
-  pub pa : word_of c (ENTRY-PA + j * 4) ≡ (entry_at c.tlb.cache j).pa
+  pub tag : word_of c (ENTRIES + j * 4) ≡ (entry_at c.tlb j).tag
+  pub generation : word_of c (ENTRY-GENERATION + j * 4) ≡ (entry_at c.tlb j).generation
+  pub attributes : word_of c (ENTRY-ATTRIBUTES + j * 4) ≡ attributes (entry_at c.tlb j)
+  pub pa : word_of c (ENTRY-PA + j * 4) ≡ (entry_at c.tlb j).pa
 
 pub record TallyNamed (c : Core) (l : ℕ) : Type 0 where
-  pub hits : word_of c (LEVEL-HITS + l) ≡ (tally_at c.tlb.counts l).hits
-  pub walks : word_of c (LEVEL-WALKS + l) ≡ (tally_at c.tlb.counts l).walks
+  pub hits : word_of c (LEVEL-HITS + l) ≡ (tally_at c.tlb l).hits
+  pub walks : word_of c (LEVEL-WALKS + l) ≡ (tally_at c.tlb l).walks
 
 -- THE STATEMENTS
 

@@ -4,7 +4,7 @@ use Rattle.word.specs.Bits.{flag}
 use Rattle.word.specs.Tables.{table}
 use Rattle.sysreg.specs.Regs.{levels}
 use Rattle.sysreg.specs.declared.{regs.Control.Control, regs.SysRegs.SysRegs}
-use Rattle.tlb.specs.Cache.{hint_at, entry_at}
+use Rattle.tlb.specs.Tlb.{hint_at, entry_at}
 use Rattle.tlb.specs.Count.{tally_at}
 use Rattle.tlb.specs.declared.{entry.Entry.Entry, hint.Hint.Hint, Inval.Inval}
 use Rattle.tlb.specs.declared.Inval.TheVariants.{All, Page, Asid}
@@ -60,19 +60,19 @@ state_words c =
     ∷ flag c.privilege.unprivileged 1
     ∷ 0
     ∷ 0
-    ∷ c.tlb.counts.flushes
-    ∷ c.tlb.counts.drops
-    ∷ c.tlb.counts.epoch
+    ∷ c.tlb.flushes
+    ∷ c.tlb.drops
+    ∷ c.tlb.epoch
     ∷ pending_kind c.tlb.broadcast
     ∷ pending_value c.tlb.broadcast
     ∷ c.last_pa
     ∷ c.abort_pa
-    ∷ c.tlb.cache.current.generation
-    ∷ c.tlb.cache.current.asid
-    ∷ flag c.tlb.cache.fetch.some 1
-    ∷ c.tlb.cache.fetch.page
-    ∷ c.tlb.cache.fetch.level
-    ∷ c.tlb.cache.fetch.pa
+    ∷ c.tlb.generation
+    ∷ c.tlb.asid
+    ∷ flag c.tlb.fetch.some 1
+    ∷ c.tlb.fetch.page
+    ∷ c.tlb.fetch.level
+    ∷ c.tlb.fetch.pa
     ∷ []
 
 -- a data hint's two words
@@ -90,14 +90,14 @@ entry_word e k = if k == 0 then e.tag else if k == 1 then e.generation else if k
 -- the last eight words: hits by level, EL0 to EL3, then walks
 abbrev pub level_words : Core → List ℕ
 level_words c =
-    (tally_at c.tlb.counts 0).hits
-    ∷ (tally_at c.tlb.counts 1).hits
-    ∷ (tally_at c.tlb.counts 2).hits
-    ∷ (tally_at c.tlb.counts 3).hits
-    ∷ (tally_at c.tlb.counts 0).walks
-    ∷ (tally_at c.tlb.counts 1).walks
-    ∷ (tally_at c.tlb.counts 2).walks
-    ∷ (tally_at c.tlb.counts 3).walks
+    (tally_at c.tlb 0).hits
+    ∷ (tally_at c.tlb 1).hits
+    ∷ (tally_at c.tlb 2).hits
+    ∷ (tally_at c.tlb 3).hits
+    ∷ (tally_at c.tlb 0).walks
+    ∷ (tally_at c.tlb 1).walks
+    ∷ (tally_at c.tlb 2).walks
+    ∷ (tally_at c.tlb 3).walks
     ∷ []
 
 -- the word at a place; 0 past the last
@@ -106,8 +106,8 @@ word_of c p =
     if nat_lt p GENERAL then slice_index (register_words c) p
     else if nat_lt p LEVEL then slice_index c.x (p - GENERAL)
     else if nat_lt p HINTS then slice_index (state_words c) (p - LEVEL)
-    else if nat_lt p ENTRIES then hint_word (hint_at c.tlb.cache ((p - HINTS) / 2)) ((p - HINTS) % 2)
-    else if nat_lt p LEVEL-HITS then entry_word (entry_at c.tlb.cache ((p - ENTRIES) / 4)) ((p - ENTRIES) % 4)
+    else if nat_lt p ENTRIES then hint_word (hint_at c.tlb ((p - HINTS) / 2)) ((p - HINTS) % 2)
+    else if nat_lt p LEVEL-HITS then entry_word (entry_at c.tlb ((p - ENTRIES) / 4)) ((p - ENTRIES) % 4)
     else slice_index (level_words c) (p - LEVEL-HITS)
 
 -- all of them, in order

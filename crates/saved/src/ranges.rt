@@ -71,12 +71,12 @@ fn parts_fit(core: &Core)
     privilege_fits(core.privilege);
     flags_fit(core.flags);
     current_fits(core.tlb.cache.current);
-    fetch_fits(core.tlb.cache.fetch);
+    fetch_fits(core.tlb.fetch);
     pending_fits(core.tlb.broadcast);
     general_long(&core.x);
-    levels_long(&core.tlb.counts.levels);
-    hints_long(&core.tlb.cache.hints);
-    entries_long(&core.tlb.cache.entries);
+    levels_long(&core.tlb.levels);
+    hints_long(&core.tlb.hints);
+    entries_long(&core.tlb.entries);
 }
 
 pub fn fits(core: &Core)
@@ -85,7 +85,7 @@ pub fn fits(core: &Core)
     parts_fit(core);
     let mut i: usize = 0;
     while i < 1024 {
-        entry_fits(core.tlb.cache.entries[i]);
+        entry_fits(core.tlb.entries[i]);
         i += 1;
     }
 }

@@ -56,9 +56,9 @@ pub fn restore(core: &mut Core, words: &Saved)
     core.control = parts::control_at(words);
     core.sys = parts::sys_at(words);
     core.tlb.cache.current = parts::current_at(words);
-    core.tlb.cache.fetch = parts::fetch_at(words);
-    read_hints(&mut core.tlb.cache.hints, words);
-    read_entries(&mut core.tlb.cache.entries, words);
+    core.tlb.fetch = parts::fetch_at(words);
+    read_hints(&mut core.tlb.hints, words);
+    read_entries(&mut core.tlb.entries, words);
     core.tlb.counts = parts::counts_at(words);
     core.tlb.broadcast = parts::pending_at(words);
     core.last_pa = words[place::LAST_PA];

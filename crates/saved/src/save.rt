@@ -79,7 +79,7 @@ fn state_words(core: &Core) -> [u64; 17]
     let privilege = core.privilege;
     let counts = &core.tlb.counts;
     let current = core.tlb.cache.current;
-    let fetch = core.tlb.cache.fetch;
+    let fetch = core.tlb.fetch;
     let pending = pending_words(core.tlb.broadcast);
     [
         privilege.level as u64,
@@ -106,7 +106,7 @@ fn state_words(core: &Core) -> [u64; 17]
 fn level_words(core: &Core) -> [u64; 8]
     ensures { result ≡ level_words core.now }
 {
-    let levels = &core.tlb.counts.levels;
+    let levels = &core.tlb.levels;
     [
         levels[0].hits,
         levels[1].hits,
@@ -163,10 +163,10 @@ pub fn word(core: &Core, place: usize) -> u64
         state_words(core)[place - place::LEVEL]
     } else if place < place::ENTRIES {
         let at = place - place::HINTS;
-        hint_word(core.tlb.cache.hints[at / 2], at % 2)
+        hint_word(core.tlb.hints[at / 2], at % 2)
     } else if place < place::LEVEL_HITS {
         let at = place - place::ENTRIES;
-        entry_word(core.tlb.cache.entries[at / 4], at % 4)
+        entry_word(core.tlb.entries[at / 4], at % 4)
     } else if place < place::WORDS {
         level_words(core)[place - place::LEVEL_HITS]
     } else {

@@ -20,10 +20,10 @@ fn moved(e: Entry, current: u32, to: u32, later: bool) -> Entry {
 
 fn move_generation(core: &mut Core, to: u32, later: bool) {
     let current = core.tlb.cache.current;
-    for e in core.tlb.cache.entries.iter_mut() {
+    for e in core.tlb.entries.iter_mut() {
         *e = moved(*e, current.generation, to, later);
     }
-    core.tlb.cache.current.generation = to;
+    core.tlb.generation = to;
 }
 
 // Each counter at a value: by level EL0's alone, so that the sums are the value too.
@@ -99,7 +99,7 @@ pub fn overwrite(machine: &mut Machine, part: Part) {
             place => put_word(core, place, value),
         },
         Part::Hint { slot, key, pa } => {
-            core.tlb.cache.hints[usize::from(slot) % 512] = Hint { key, pa };
+            core.tlb.hints[usize::from(slot) % 512] = Hint { key, pa };
         }
         Part::Entry {
             slot,
@@ -108,11 +108,11 @@ pub fn overwrite(machine: &mut Machine, part: Part) {
             bits,
             pa,
         } => {
-            core.tlb.cache.entries[usize::from(slot) % 1024] = entry_of(tag, generation, bits, pa);
+            core.tlb.entries[usize::from(slot) % 1024] = entry_of(tag, generation, bits, pa);
         }
         Part::FetchHint { page, level, pa } => {
             let level = (level % 256) as u8;
-            core.tlb.cache.fetch = FetchHint {
+            core.tlb.fetch = FetchHint {
                 some: true,
                 page,
                 level,

@@ -55,7 +55,7 @@ module _ (list : List (Lent real machine)) (m : Ram) where
   one-step x es e =
       (every-call-modelled list m x).after ∙ ap (λ (l : List (Event real)). model_run real (plain_in (bare_after list)) l model) e
 
-  model-counts : model.counts ≡ counters_of now.counts
+  model-counts : model.counts ≡ counters_of now
   model-counts = ap (λ (u : Model). u.counts) (sym (every-call-modelled list m (Fetch 0)).before)
 
   model-pending : model.pending ≡ pending_of now.broadcast
@@ -68,7 +68,7 @@ module _ (list : List (Lent real machine)) (m : Ram) where
   translation-counts (fetches va) = fetch-counts (access_of real (plain_in (bare_after list)) m Kind.Fetch va) model
 
   one-counted : (x : Call) (a : Ask) → events_after list m x ≡ steps m (asking (a ∷ [])) ∷ []
-      → counters_of (tlb_after_call list m x).counts ≡ how_counted (how_answered list m a) level (counters_of now.counts)
+      → counters_of (tlb_after_call list m x) ≡ how_counted (how_answered list m a) level (counters_of now)
   one-counted x a e =
       ap (λ (u : Model). u.counts) (one-step x (steps m (asking (a ∷ [])) ∷ []) e ∙ onward-same (model_ask real (plain_in (bare_after list)) m a model).answer _)
       ∙ translation-counts a
@@ -117,17 +117,17 @@ module _ (list : List (Lent real machine)) (m : Ram) where
     -- a Page adds just one to `drops` and one to `epoch`
     pub page-counted : Statement.page_counted list m e passed named
     page-counted n q = counters-tell _ _ (levels-after list m (System e)) (levels-now list)
-        (tlbi-counted ∙ ap (λ (v : Inval). inval_counted v (counters_of now.counts)) q)
+        (tlbi-counted ∙ ap (λ (v : Inval). inval_counted v (counters_of now)) q)
 
     -- an All one to `flushes` and one to `epoch`
     pub tlbi-all-counted : Statement.tlbi_all_counted list m e passed named
     tlbi-all-counted q = counters-tell _ _ (levels-after list m (System e)) (levels-now list)
-        (tlbi-counted ∙ ap (λ (v : Inval). inval_counted v (counters_of now.counts)) q)
+        (tlbi-counted ∙ ap (λ (v : Inval). inval_counted v (counters_of now)) q)
 
     -- an Asid one to `epoch` alone
     pub asid-counted : Statement.asid_counted list m e passed named
     asid-counted a q = counters-tell _ _ (levels-after list m (System e)) (levels-now list)
-        (tlbi-counted ∙ ap (λ (v : Inval). inval_counted v (counters_of now.counts)) q)
+        (tlbi-counted ∙ ap (λ (v : Inval). inval_counted v (counters_of now)) q)
 
     -- A second broadcast that differs from the pending one becomes All, an equal one stays: of an Inner Shareable
     -- form, whose CRm is 3

@@ -51,7 +51,7 @@ module _ (list : List (Lent real machine)) where
   abbrev now : Tlb
   now = (core_after list).tlb
 
-  counts-are : counters_of now.counts ≡ (model_after_list list).counts
+  counts-are : counters_of now ≡ (model_after_list list).counts
   counts-are = ap (λ (u : Model). u.counts) (every-list-modelled list).is
 
   -- each level's counts are the number of its translations that an entry answered, that were walked

@@ -69,7 +69,7 @@ every-core-well list =
       level = subst (λ (p : Plain real). p.privilege.level ≤ 3) (sym (plain-run list)) (run-low real (events_by list) (plain_in fresh_bare) (fresh-low list));
       cache = subst WellFormed (sym (tlb-run list)) (history-well real real-laws (plain_in fresh_bare) fresh-asid (fresh-low list) (events_by list));
       asid =
-          ap (λ (t : Tlb). t.cache.current.asid) (tlb-run list)
+          ap (λ (t : Tlb). t.asid) (tlb-run list)
           ∙ history-asid real real-laws (plain_in fresh_bare) fresh-asid (fresh-low list) (events_by list)
           ∙ ap (λ (p : Plain real). asid_of p.regs) (sym (plain-run list));
     }
@@ -114,5 +114,5 @@ module _ (list : List (Lent real machine)) (m : Ram) (x : Call) where
   pub levels-after : length (tlb_after_call list m x).counts.levels ≡ 4
   levels-after = stands-then.well.levels
 
-pub levels-now : (list : List (Lent real machine)) → length (core_after list).tlb.counts.levels ≡ 4
+pub levels-now : (list : List (Lent real machine)) → length (core_after list).tlb.levels ≡ 4
 levels-now list = (every-core-well list).cache.levels

@@ -23,7 +23,7 @@ use Rattle.tlb.specs.Maintenance.{invalidated_of, reshaped_of, retagged_of}
 use Rattle.tlb.specs.Lists.{Each}
 use Rattle.tlb.specs.Entry.{page_dropped}
 use Rattle.tlb.specs.Hint.{place_of}
-use Rattle.tlb.specs.Cache.{blanks, no_hints, flushed, without_page}
+use Rattle.tlb.specs.Tlb.{blanks, no_hints, flushed, without_page}
 use Rattle.tlb.specs.Count.{no_tallies}
 use Rattle.tlb.specs.Tlb.{flush_of, drop_page_of, invalidate_of}
 use Rattle.tlb.specs.Access.{judged}

@@ -49,7 +49,7 @@ module _ (list : List (Lent real machine)) (m : Ram) where
   abbrev pub CountsOne : Call → Ask → Type 0
   CountsOne x a =
       missed_in (bare_after list) m x ≡ 0
-      → counters_of (tlb_after_call list m x).counts ≡ how_counted (how_answered a) level (counters_of now.counts)
+      → counters_of (tlb_after_call list m x) ≡ how_counted (how_answered a) level (counters_of now)
 
   abbrev pub translate_counted : Type 0
   translate_counted = (kind : Kind) (va : ℕ) → CountsOne (Translate kind va) (translates kind va)
@@ -75,7 +75,7 @@ module _ (list : List (Lent real machine)) (m : Ram) where
 
     -- it counts what it names, once, whether it is an Inner Shareable form or not
     abbrev pub tlbi_counted : Type 0
-    tlbi_counted = counters_of then.counts ≡ inval_counted what (counters_of now.counts)
+    tlbi_counted = counters_of then ≡ inval_counted what (counters_of now)
 
     -- a Page adds just one to `drops` and one to `epoch`
     abbrev pub page_counted : Type 0
@@ -133,13 +133,13 @@ module _ (list : List (Lent real machine)) (m : Ram) where
     abbrev pub write_flushes : Type 0
     write_flushes =
         same_shape (bare_after list).control registers ≡ false → asid_of registers ≡ asid_of (bare_after list).control
-        → counters_of written.counts ≡ one_epoch (one_flush (counters_of now.counts))
+        → counters_of written ≡ one_epoch (one_flush (counters_of now))
 
     -- the ASID alone: a retag, one in `epoch`
     abbrev pub write_retags : Type 0
     write_retags =
         same_shape (bare_after list).control registers ≡ true → (asid_of registers ≡ asid_of (bare_after list).control → ⊥)
-        → counters_of written.counts ≡ one_epoch (counters_of now.counts)
+        → counters_of written ≡ one_epoch (counters_of now)
 
 -- OF EACH SUCH CALL after every list
 

@@ -33,14 +33,14 @@ made_after list m x = made_run real (plain_in (bare_after list)) (events_after l
 
 -- the two counters of a level
 abbrev pub hits_of : Tlb → ℕ → ℕ
-hits_of t l = (tally_at t.counts l).hits
+hits_of t l = (tally_at t l).hits
 
 abbrev pub walks_of : Tlb → ℕ → ℕ
-walks_of t l = (tally_at t.counts l).walks
+walks_of t l = (tally_at t l).walks
 
 -- their sums over the four levels, wrapped
 abbrev pub totals_of : Tlb → Totals
-totals_of t = sums (counters_of t.counts)
+totals_of t = sums (counters_of t)
 
 -- FROM THE FRESH CORE
 

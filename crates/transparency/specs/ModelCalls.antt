@@ -55,7 +55,7 @@ every_list_modelled = EveryList (λ list. StandsFor (core_after list).tlb (model
 pub record Well (c : Core) : Type 0 where
   pub level : c.privilege.level ≤ 3
   pub cache : WellFormed c.tlb
-  pub asid : c.tlb.cache.current.asid ≡ asid_of c.control
+  pub asid : c.tlb.asid ≡ asid_of c.control
 
 abbrev pub every_core_well : Type 0
 every_core_well = EveryList (λ list. Well (core_after list))
@@ -73,7 +73,7 @@ pub record Modelled (list : List (Lent real machine)) (m : Ram) (x : Call) : Typ
   pub reply : outcome_of (core_after list) m x
       ≡ says_in (bare_after list) m (later_in (core_after list) m x) x (model_answers_after list m x)
   pub after : live (tlb_after_call list m x) ≡ model_after_call list m x
-  pub counts : counters_of (tlb_after_call list m x).counts ≡ (model_after_call list m x).counts
+  pub counts : counters_of (tlb_after_call list m x) ≡ (model_after_call list m x).counts
   pub pending : pending_of (tlb_after_call list m x).broadcast ≡ (model_after_call list m x).pending
 
 abbrev pub every_call_modelled : Type 0

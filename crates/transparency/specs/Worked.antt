@@ -2,7 +2,7 @@
 -- fails where a table was changed without a TLBI.
 use Rattle.std.specs.Prelude.{◌≡◌, true, List, [], ◌∷◌, ◌++◌, ℕ, Ok}
 use Rattle.word.specs.Ram.{bytes_of}
-use Rattle.tlb.specs.Step.{translation_in}
+use Rattle.tlb.specs.Translate.{translation_in}
 use Rattle.tlb.specs.declared.access.Kind.TheVariants.{Read}
 use Rattle.tlb.specs.declared.resolve.Source.TheVariants.{FromHint}
 use Rattle.cpu.specs.Bare.{bare_of}
@@ -92,6 +92,6 @@ counted =
 
 abbrev pub counted_by_level : Type 0
 counted_by_level =
-    (core_after counted).tlb.counts.levels
+    (core_after counted).tlb.levels
     ≡ record { hits = 1; walks = 0 } ∷ record { hits = 2; walks = 1 } ∷ record { hits = 0; walks = 0 }
     ∷ record { hits = 0; walks = 0 } ∷ []

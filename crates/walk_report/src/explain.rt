@@ -28,7 +28,7 @@ pub fn regime_name(regime: Regime) -> &'static str {
 
 // The counters of the core's own level. A core whose level is above 3 counts nothing.
 fn counters(core: &Core) -> Tally {
-    core.tlb.counts.levels[count::level_place(core.privilege.level)]
+    core.tlb.levels[count::level_place(core.privilege.level)]
 }
 
 // Where the core's answer came from: the counters tell a walk and an entry.

@@ -1,5 +1,5 @@
 use Rattle.std.specs.Prelude.{refl}
-use Rattle.tlb.specs.Cache.{flushed, without_page, without_asid}
+use Rattle.tlb.specs.Tlb.{flushed, without_page, without_asid}
 use Rattle.tlb.specs.Tlb.{flush_of, drop_page_of, drop_asid_of, invalidate_of, broadcast_of}
 use Rattle.tlb.specs.Maintenance.{invalidated_of}
 use Rattle.system.specs.Decode.{named, decode_of}

@@ -2,7 +2,7 @@ use Rattle.std.specs.Prelude.{refl}
 use Rattle.sysreg.specs.Encoding.{banked_at, register_at}
 use Rattle.sysreg.specs.Write.{control_with, sys_with, write_reg}
 use Rattle.sysreg.specs.Shape.{same_shape, asid_base, asid_of}
-use Rattle.tlb.specs.Cache.{flushed, retagged}
+use Rattle.tlb.specs.Tlb.{flushed, retagged}
 use Rattle.tlb.specs.Tlb.{flush_of, retag_of}
 use Rattle.tlb.specs.Maintenance.{reshaped_of, retagged_of}
 use Rattle.cpu.specs.Core.{after_access}

@@ -2,7 +2,7 @@ use Rattle.std.proofs.Common.{◌≡◌, ◌<◌, ◌^◌, ℕ, Bool, length, tr
 use Rattle.word.specs.Ram.{bytes_in}
 use Rattle.walk.specs.Regime.{regime_of, stage1_on}
 use Rattle.walk.specs.declared.regime.Bank.{Bank}
-use Rattle.tlb.specs.Step.{hint_in}
+use Rattle.tlb.specs.Translate.{hint_in}
 use Rattle.tlb.specs.declared.access.Kind.TheVariants.{Read}
 use Rattle.cpu.specs.Core.{bank_now}
 use Rattle.operations.specs.Place.{in_page, next_page, crosses}

@@ -1,7 +1,7 @@
 use Rattle.std.specs.Prelude.{◌≡◌, Some}
 use Rattle.std.proofs.Common.{sym, ap, ◌∙◌}
 use Rattle.word.specs.Ram.{word_at}
-use Rattle.tlb.specs.Step.{hint_in}
+use Rattle.tlb.specs.Translate.{hint_in}
 use Rattle.tlb.specs.declared.access.Kind.{Kind}
 use Rattle.quick.proofs.ByHint.{hint-serves, asked-told}
 use Rattle.quick.proofs.translation.by_hint.Goals as goal
