@@ -124,7 +124,7 @@ uint64_t a72_word(a72_core *core, size_t place);
 /* The cache's generation, and its ASID. */
 #define A72_PLACE_GENERATION 79
 #define A72_PLACE_ASID 80
-/* The fetch hint: 1 where there is one, page address, level, physical page address. */
+/* The fetch hint: 1 where there is one, page address, level, physical page address; zeros where there is none. */
 #define A72_PLACE_FETCH 81
 #define A72_PLACE_FETCH_PAGE 82
 #define A72_PLACE_FETCH_LEVEL 83

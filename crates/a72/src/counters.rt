@@ -9,6 +9,6 @@ use trace_file::run;
 pub fn show<R: Files + AllocGlobal, W: Write>(rt: &R, out: &mut W, path: &str) -> Result<(), Stop> {
     let mut machine = Machine::new(rt.alloc())?;
     run::silently(rt, path, &mut machine)?;
-    report::show(out, &machine.core.tlb.counts)?;
+    report::show(out, &machine.core.tlb)?;
     Ok(())
 }

@@ -43,16 +43,7 @@ moved from to e = if e.generation == from then stamped e to else blank
 
 abbrev pub with_generation : Core → ℕ → Core
 with_generation c to =
-    record c {
-      tlb =
-          record c.tlb {
-            cache =
-                record c.tlb.cache {
-                  current = record c.tlb.cache.current { generation = to };
-                  entries = map (moved c.tlb.generation to) c.tlb.entries;
-                };
-          };
-    }
+    record c { tlb = record c.tlb { generation = to; entries = map (moved c.tlb.generation to) c.tlb.entries } }
 
 -- a generation has 32 bits
 abbrev pub restamped : Core → ℕ → Core

@@ -43,6 +43,7 @@ entry_words e = e.tag ∷ e.generation ∷ e.perms ∷ e.level ∷ flag e.global
 abbrev pub hint_words : Hint → List ℕ
 hint_words h = h.key ∷ h.pa ∷ []
 
--- the fetch hint: whether there is one, page, level, physical page
-abbrev pub fetch_words : FetchHint → List ℕ
-fetch_words f = flag f.some 1 ∷ f.page ∷ f.level ∷ f.pa ∷ []
+-- the fetch hint: whether there is one, page, level, physical page; zeros where there is none
+abbrev pub fetch_words : Option FetchHint → List ℕ
+fetch_words None = 0 ∷ 0 ∷ 0 ∷ 0 ∷ []
+fetch_words (Some f) = 1 ∷ f.page ∷ f.level ∷ f.pa ∷ []

@@ -82,9 +82,12 @@ fn moved(entry: Entry, from: u32, to: u32) -> Entry
     ensures { result ≡ moved from to entry }
 {
     if entry.generation == from {
-        entry.stamped(to)
+        Entry {
+            generation: to,
+            ..entry
+        }
     } else {
-        Entry::blank()
+        Entry::default()
     }
 }
 

@@ -15,7 +15,7 @@ use sysreg::regs::{Control, ControlReg, Register, SysReg, SysRegs};
 use tlb::Inval;
 use tlb::count::Tally;
 use tlb::entry::Entry;
-use tlb::hint::Hint;
+use tlb::hint::{Hint, NO_HINT};
 use word::bits;
 
 fn control_at(control: &Control, register: ControlReg) -> u64
@@ -180,16 +180,14 @@ pub fn epoch(core: &Core) -> u64
 pub fn generation(core: &Core) -> u64
     ensures { result ≡ core.now.tlb.generation }
 {
-    let current = core.tlb.cache.current;
-    current.generation as u64
+    core.tlb.generation as u64
 }
 
 /// The ASID in force.
 pub fn asid(core: &Core) -> u64
     ensures { result ≡ core.now.tlb.asid }
 {
-    let current = core.tlb.cache.current;
-    current.asid as u64
+    core.tlb.asid as u64
 }
 
 // What is pending, in two words.
@@ -235,7 +233,7 @@ fn entry_in(core: &Core, slot: u64) -> Entry
     if at < entries.len() {
         entries[at]
     } else {
-        Entry::blank()
+        Entry::default()
     }
 }
 
@@ -254,11 +252,7 @@ fn hint_in(core: &Core, slot: u64) -> Hint
 {
     let hints: &[Hint] = &core.tlb.hints;
     let at = slot as usize;
-    if at < hints.len() {
-        hints[at]
-    } else {
-        Hint::none()
-    }
+    if at < hints.len() { hints[at] } else { NO_HINT }
 }
 
 /// The data hint in a slot, in two words: key and physical page. Past the last none.
@@ -269,15 +263,12 @@ pub fn hint(core: &Core, slot: u64, out: &mut [u64; 2])
     *out = [hint.key, hint.pa];
 }
 
-/// The fetch hint, in four words: 1 where there is one, page, level, physical page.
+/// The fetch hint, in four words: 1 where there is one, page, level, physical page; zeros where there is none.
 pub fn fetch_hint(core: &Core, out: &mut [u64; 4])
     ensures { out.new ≡ fetch_words core.now.tlb.fetch }
 {
-    let fetch = core.tlb.fetch;
-    *out = [
-        bits::flag_word(fetch.some),
-        fetch.page,
-        fetch.level as u64,
-        fetch.pa,
-    ];
+    *out = match core.tlb.fetch {
+        None => [0, 0, 0, 0],
+        Some(hint) => [1, hint.page, hint.level as u64, hint.pa],
+    };
 }

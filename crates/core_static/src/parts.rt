@@ -176,7 +176,7 @@ pub extern "C" fn a72_get_hint(handle: &mut Handle, slot: u64, out: &mut [u64; 2
     read::hint(handle.core(), slot, out);
 }
 
-/// The fetch hint, in four words.
+/// The fetch hint, in four words; zeros where there is none.
 #[unsafe(no_mangle)]
 pub extern "C" fn a72_get_fetch_hint(handle: &mut Handle, out: &mut [u64; 4])
     ensures value { out.new ≡ fetch_words handle.old.core.tlb.fetch }

@@ -3,7 +3,8 @@ use crate::share::Share;
 use crate::total;
 use std::io;
 use std::io::Write;
-use tlb::count::{Counts, Tally};
+use tlb::Tlb;
+use tlb::count::Tally;
 
 // Counters below this have at most eleven digits, and sums twelve.
 const NARROW: u64 = 0x10_0000_0000;
@@ -46,8 +47,8 @@ fn most<W: Write>(out: &mut W, levels: &[Tally; 4], sum: Option<u64>) -> io::Res
 }
 
 /// The table of a cache's counters.
-pub fn show<W: Write>(out: &mut W, counts: &Counts) -> io::Result<()> {
-    let levels = &counts.levels;
+pub fn show<W: Write>(out: &mut W, tlb: &Tlb) -> io::Result<()> {
+    let levels = &tlb.levels;
     let all = total::of_levels(levels);
     let largest = levels
         .iter()
@@ -74,7 +75,7 @@ pub fn show<W: Write>(out: &mut W, counts: &Counts) -> io::Result<()> {
     writeln!(
         out,
         "flushes {}, pages dropped {}, epoch {}",
-        counts.flushes, counts.drops, counts.epoch
+        tlb.flushes, tlb.drops, tlb.epoch
     )?;
     write!(out, "counted at the level of the access,")?;
     writeln!(out, " which the unprivileged mark does not lower;")?;

@@ -12,11 +12,10 @@ use Rattle.walk.specs.Table.{table_walk}
 use Rattle.walk.specs.Walk.{walk_of}
 use Rattle.walk.specs.declared.regime.Regime.TheVariants.{El1}
 use Rattle.tlb.specs.Access.{judged}
-use Rattle.tlb.specs.Tlb.{blanks, no_hints}
+use Rattle.tlb.specs.Tlb.{blanks, no_hints, get_of, put_of}
 use Rattle.tlb.specs.Hint.{place_of}
 use Rattle.tlb.specs.Tlb.{fresh}
-use Rattle.tlb.specs.Resolve.{by_walk, resolve_with}
-use Rattle.tlb.specs.Translate.{miss_with, applied, translation_with, fetch_applied, fetch_end, fetch_with}
+use Rattle.tlb.specs.Translate.{walked_in, miss_in}
 use Rattle.tlb.specs.declared.access.Kind.{Kind}
 use Rattle.tlb.specs.declared.access.Kind.TheVariants.{Read, Fetch}
 use Rattle.exception.specs.Entry.{entered_sys, enter_of, take_sync}
@@ -123,7 +122,6 @@ ProvedCases =
 pub proved-cases : ProvedCases
 unfolding row elsewhere par esr at called step_of run_of missed_of translate_of stepped_now translation_of register_at fresh_sys reg_of after_access sys_of at_of with_par
     abort_of take_sync enter_of entered_sys spsr_of routed_to syndrome_of named decode_of success abort leaf_par par_in fresh_of at_par judged blanks
-    no_hints place_of by_walk
-    resolve_with miss_with applied translation_with fetch_applied fetch_end fetch_with walk_of table_walk walk_range walk_from lookup_next level_next leaf_result
+    no_hints place_of get_of put_of miss_in walked_in walk_of table_walk walk_range walk_from lookup_next level_next leaf_result
     leaf_translation leaf_permissions table_next descaddr range_of params_of pa_size untagged word_at little_endian bytes_of
 proved-cases = refl

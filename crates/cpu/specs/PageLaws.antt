@@ -1,70 +1,31 @@
 -- Translations go by pages: in one cache the addresses of a page get one answer but for the offset in the page, which is each address's own.
-use Rattle.std.specs.Prelude.{if◌then◌else◌, ◌≡◌, ℕ, ◌+◌, ◌*◌, ◌/◌, ◌%◌, Bool, true, false, ◌&&◌, ◌==◌, bit_or, Option, Ok, Err}
+use Rattle.std.specs.Prelude.{if◌then◌else◌, ◌≡◌, ℕ, ◌+◌, ◌*◌, ◌/◌, ◌%◌, Bool, true, false, ◌==◌, bit_or, Option, Some, None, Ok, Err}
 use Rattle.std.proofs.Math.Path.{refl, ap}
 use Rattle.std.proofs.Common.{sym, ◌∙◌, arith}
 use Rattle.fault.specs.First.{first}
-use Rattle.walk.specs.Regime.{stage1_on, regime_of}
-use Rattle.walk.specs.Tag.{untagged}
+use Rattle.walk.specs.Answers.{Walked}
+use Rattle.walk.specs.Regime.{regime_of}
 use Rattle.walk.proofs.TagLaws.{untagged-page}
 use Rattle.walk.specs.PageLaws.{paged, paged_leaf}
 use Rattle.walk.proofs.PageLaws.{walk_of-page}
-use Rattle.walk.specs.declared.{regime.Regime.Regime, regime.Bank.Bank, level.Leaf.Leaf}
-use Rattle.tlb.specs.Access.{may_hint, tag_of, user_of, right_of, has_right, judged}
-use Rattle.tlb.specs.Entry.{blank, serves}
+use Rattle.walk.specs.declared.{regime.Bank.Bank, level.Leaf.Leaf}
+use Rattle.tlb.specs.Access.{may_hint, regime_number, user_of, right_of, has_right, judged}
+use Rattle.tlb.specs.Answers.{Answer, Outcome}
+use Rattle.tlb.specs.Cells.{or-page}
+use Rattle.tlb.specs.Entry.{blank, slot_of, serves, entry_for}
 use Rattle.tlb.specs.Hint.{no_hint, on_page, data_slot, hint_key}
-use Rattle.tlb.specs.Tlb.{entry_at, hint_at}
 use Rattle.tlb.specs.Lists.{each-getD, each-imp}
 use Rattle.tlb.specs.Live.{Made, Aligned, WellFormed}
-use Rattle.tlb.specs.Cells.{or-page}
-use Rattle.tlb.specs.Resolve.{query_of, entry_for, by_walk, resolve_with}
-use Rattle.tlb.specs.Translate.{miss_with, applied, translation_with, walk_now}
-use Rattle.tlb.specs.declared.{access.Kind.Kind, access.Privilege.Privilege, count.Counts.Counts}
-use Rattle.tlb.specs.Answers.{Answer}
-use Rattle.tlb.specs.declared.{entry.Entry.Entry, entry.Current.Current, hint.Hint.Hint, resolve.Query.Query}
-use Rattle.tlb.specs.declared.{resolve.Resolved.Resolved, Tlb.Tlb}
-use Rattle.tlb.specs.Translate.{Translation}
-use Rattle.cpu.specs.Translations.{slot_at, translate_in}
-use Rattle.walk.specs.Answers.{Walked}
+use Rattle.tlb.specs.Model.{Access}
+use Rattle.tlb.specs.Tlb.{entry_at, hint_at, get_of}
+use Rattle.tlb.specs.Translate.{access_of, tag_in, walked_in, looked_in, miss_in, tried_in}
+use Rattle.tlb.specs.declared.{access.Kind.Kind, access.Privilege.Privilege, entry.Entry.Entry, hint.Hint.Hint, Tlb.Tlb}
+use Rattle.cpu.specs.Translations.{translate_in}
 
 -- an answer as another address of its page gets it
 abbrev pub answer_at : Answer → ℕ → Answer
 answer_at (Ok pa) b = Ok (pa / 4096 * 4096 + b % 4096)
 answer_at (Err f) b = Err f
-
--- THE ANSWER OF A TURN, by its tests
-
-module _ (on : Bool) (page : ℕ) (w : Walked) (r : Regime) (privilege : Privilege) (at : Current) (k : Counts) (h : Hint) (e : Entry) (va : ℕ)
-    (kind : Kind) where
-  abbrev pub turn : Translation
-  turn = translation_with on page w r privilege at k h e va kind
-
-  abbrev pub miss : Resolved
-  miss = miss_with on page w r privilege at e va kind
-
-  abbrev pub hits : Bool
-  hits = may_hint privilege kind && h.key == hint_key va privilege.level
-
-  pub by-hint : hits ≡ true → turn.answer ≡ Ok (on_page h.pa va)
-  unfolding translation_with
-  by-hint q = rw q
-
-  pub by-miss : hits ≡ false → turn.answer ≡ miss.answer
-  unfolding translation_with applied
-  by-miss q = rw q
-
-  pub by-flat : on ≡ false → miss.answer ≡ Ok va
-  unfolding miss_with
-  by-flat q = rw q
-
-  pub by-entry : on ≡ true → serves e at (tag_of r page) ≡ true → miss.answer ≡ judged e (user_of r privilege kind) kind va
-  unfolding miss_with resolve_with
-  by-entry q p = rw (q, p)
-
-  pub by-walk : on ≡ true → serves e at (tag_of r page) ≡ false → miss.answer ≡ (by_walk w (query_of r page) privilege at va kind).answer
-  unfolding miss_with resolve_with
-  by-walk q p = rw (q, p)
-
--- IN ONE CACHE
 
 module _ (a b : ℕ) where
   on-page : (pa : ℕ) → pa % 4096 ≡ 0 → on_page pa b ≡ on_page pa a / 4096 * 4096 + b % 4096
@@ -80,95 +41,89 @@ module _ (a b : ℕ) where
       go true = ap Ok (on-page e.pa q)
       go false = refl
 
-  -- an entry is made of a leaf's page
-  abbrev entry_of : Current → ℕ → Leaf → Entry
-  entry_of at tag leaf =
-      record { tag = tag; generation = at.generation; perms = leaf.perms; level = leaf.level; global = leaf.global; asid = at.asid; pa = leaf.oa }
+-- an entry is made of a leaf's page
+abbrev entry_of : ℕ → ℕ → Leaf → Entry
+entry_of asid tag leaf =
+    record { tag = tag; generation = 0; perms = leaf.perms; level = leaf.level; global = leaf.global; asid = asid; pa = leaf.oa }
 
-  walk-page : (v w : Walked) (p q : Query) (privilege : Privilege) (at : Current) (kind : Kind) → paged v ≡ paged w → p.regime ≡ q.regime → p.tag ≡ q.tag
-      → (by_walk w q privilege at b kind).answer ≡ answer_at (by_walk v p privilege at a kind).answer b
-  unfolding by_walk
-  walk-page (Ok x) (Ok y) p q privilege at kind e er et =
-      let leaf : paged_leaf x ≡ paged_leaf y = cc in
-      let same : entry_for x at p.tag ≡ entry_for y at q.tag = λ i. entry_of at (et i) (leaf i) in
-      (λ i. judged (sym same i) (user_of (sym er i) privilege kind) kind b)
-      ∙ judged-page (entry_for x at p.tag) (user_of p.regime privilege kind) kind (omega arith)
-  walk-page (Err n) (Err m) p q privilege at kind e er et = let x : n ≡ m = cc in rw x
-  walk-page (Ok x) (Err m) p q privilege at kind e er et = let z : ◌≡◌ {A = ℕ} 0 1 = cc in absurd (omega arith)
-  walk-page (Err n) (Ok y) p q privilege at kind e er et = let z : ◌≡◌ {A = ℕ} 0 1 = cc in absurd (omega arith)
+-- IN ONE CACHE
 
-module _ (a b pa pb : ℕ) (v w : Walked) (same : a / 4096 ≡ b / 4096) (same_tag : pa / 4096 ≡ pb / 4096) (walks : paged v ≡ paged w)
-    (on : Bool) (r : Regime) (privilege : Privilege) (at : Current) (k : Counts) (h : Hint) (e : Entry) (kind : Kind)
-    (ah : h.pa % 4096 ≡ 0) (ae : e.pa % 4096 ≡ 0) where
-  abbrev at_a : Answer
-  at_a = (translation_with on pa v r privilege at k h e a kind).answer
-
-  abbrev at_b : Answer
-  at_b = (translation_with on pb w r privilege at k h e b kind).answer
-
-  translation-page : at_b ≡ answer_at at_a b
-  translation-page = hint (hits on pb w r privilege at k h e b kind) refl
-    where
-      key : hits on pa v r privilege at k h e a kind ≡ hits on pb w r privilege at k h e b kind
-      key = rw same
-
-      tags : serves e at (tag_of r pa) ≡ serves e at (tag_of r pb)
-      tags = rw same_tag
-
-      missed : (x : Bool) → on ≡ x → (miss_with on pb w r privilege at e b kind).answer ≡ answer_at (miss_with on pa v r privilege at e a kind).answer b
-      missed false q =
-          rw (by-flat on pb w r privilege at k h e b kind q, by-flat on pa v r privilege at k h e a kind q) (ap Ok (omega arith))
-      missed true q = go (serves e at (tag_of r pb)) refl
-        where
-          go : (y : Bool) → serves e at (tag_of r pb) ≡ y
-              → (miss_with on pb w r privilege at e b kind).answer ≡ answer_at (miss_with on pa v r privilege at e a kind).answer b
-          go true z =
-              rw (by-entry on pb w r privilege at k h e b kind q z, by-entry on pa v r privilege at k h e a kind q (tags ∙ z))
-              (judged-page a b e (user_of r privilege kind) kind ae)
-          go false z =
-              rw (by-walk on pb w r privilege at k h e b kind q z, by-walk on pa v r privilege at k h e a kind q (tags ∙ z))
-              (walk-page a b v w (query_of r pa) (query_of r pb) privilege at kind walks refl (rw same_tag))
-
-      hint : (x : Bool) → hits on pb w r privilege at k h e b kind ≡ x → at_b ≡ answer_at at_a b
-      hint true q =
-          rw (by-hint on pb w r privilege at k h e b kind q, by-hint on pa v r privilege at k h e a kind (key ∙ q)) (ap Ok (on-page a b h.pa ah))
-      hint false q =
-          rw (by-miss on pb w r privilege at k h e b kind q, by-miss on pa v r privilege at k h e a kind (key ∙ q)) (missed on refl)
-
-module _ (s : Bank) (privilege : Privilege) (memory : ℕ → Option ℕ) (kind : Kind) (t : Tlb) (f : WellFormed t) where
+module _ (t : Tlb) (f : WellFormed t) where
   pub hint-aligned : (i : ℕ) → (hint_at t i).pa % 4096 ≡ 0
-  hint-aligned i = each-getD {P = Aligned} no_hint refl f.cache.hints i
+  hint-aligned i = each-getD {P = Aligned} no_hint refl f.hints i
 
   pub entry-aligned : (i : ℕ) → (entry_at t i).pa % 4096 ≡ 0
   entry-aligned i =
-      each-getD {P = λ (e : Entry). e.pa % 4096 ≡ 0} blank refl
-      (each-imp {P = Made t.generation} (λ e m. m.aligned) f.cache.entries) i
+      each-getD {P = λ (e : Entry). e.pa % 4096 ≡ 0} blank refl (each-imp {P = Made t.generation} (λ e m. m.aligned) f.entries) i
+
+module _ (s : Bank) (privilege : Privilege) (memory : ℕ → Option ℕ) (kind : Kind) (t : Tlb) (f : WellFormed t) (a b : ℕ)
+    (same : a / 4096 ≡ b / 4096) where
+  abbrev of : ℕ → Access
+  of va = access_of s privilege va kind memory
+
+  abbrev user : Bool
+  user = user_of (regime_of privilege.level) privilege kind
+
+  untagged-is : (of a).untagged / 4096 ≡ (of b).untagged / 4096
+  untagged-is = untagged-page s.tcr (regime_of privilege.level) a b same
+
+  tags : tag_in (of a) ≡ tag_in (of b)
+  tags = ap (λ (n : ℕ). n * 4 + regime_number (regime_of privilege.level)) untagged-is
+
+  walk-page : (v w : Walked) → paged v ≡ paged w → (walked_in w (of b) t).answer ≡ answer_at (walked_in v (of a) t).answer b
+  unfolding walked_in
+  walk-page (Ok x) (Ok y) e =
+      let leaf : paged_leaf x ≡ paged_leaf y = cc in
+      let one : entry_for x t.asid (tag_in (of a)) ≡ entry_for y t.asid (tag_in (of b)) = λ i. entry_of t.asid (tags i) (leaf i) in
+      (λ i. judged (sym one i) user kind b) ∙ judged-page a b (entry_for x t.asid (tag_in (of a))) user kind (omega arith)
+  walk-page (Err n) (Err m) e = let x : n ≡ m = cc in rw x
+  walk-page (Ok x) (Err m) e = let z : ◌≡◌ {A = ℕ} 0 1 = cc in absurd (omega arith)
+  walk-page (Err n) (Ok y) e = let z : ◌≡◌ {A = ℕ} 0 1 = cc in absurd (omega arith)
+
+  abbrev entry : Entry
+  entry = entry_at t (slot_of (tag_in (of b)))
+
+  look-page : (x : Bool) → (looked_in (if x then Some entry else None) (of b) t).answer
+      ≡ answer_at (looked_in (if x then Some entry else None) (of a) t).answer b
+  look-page true = judged-page a b entry user kind (entry-aligned t f (slot_of (tag_in (of b))))
+  look-page false =
+      walk-page (of a).walk (of b).walk
+      (walk_of-page (of a).untagged (of b).untagged untagged-is s (regime_of privilege.level) memory)
+
+  abbrev missed : Bool → ℕ → ℕ → Outcome Tlb
+  missed on tag va = if on then looked_in (get_of t tag) (of va) t else record { answer = Ok va; after = t }
+
+  stage-page : (on : Bool) → (missed on (tag_in (of b)) b).answer ≡ answer_at (missed on (tag_in (of b)) a).answer b
+  unfolding get_of
+  stage-page true = look-page (serves entry t (tag_in (of b)))
+  stage-page false = ap Ok (omega arith)
+
+  miss-page : (miss_in (of b) t).answer ≡ answer_at (miss_in (of a) t).answer b
+  unfolding miss_in
+  miss-page = stage-page (of a).on ∙ ap (λ (tag : ℕ). answer_at (missed (of a).on tag a).answer b) (sym tags)
+
+  abbrev hint : Hint
+  hint = hint_at t (data_slot b kind)
+
+  abbrev served : Bool → Bool → ℕ → Option ℕ
+  served may hit va = if may then (if hit then Some (on_page hint.pa va) else None) else None
+
+  hint-page : (may hit : Bool) → (tried_in (served may hit b) (of b) t).answer ≡ answer_at (tried_in (served may hit a) (of a) t).answer b
+  hint-page true true = ap Ok (on-page a b hint.pa (hint-aligned t f (data_slot b kind)))
+  hint-page true false = miss-page
+  hint-page false hit = miss-page
 
   -- addresses of one page get one answer, each with its own offset
-  pub step-page : (a b : ℕ) → a / 4096 ≡ b / 4096 → (translate_in s privilege memory b kind t).answer
-      ≡ answer_at (translate_in s privilege memory a kind t).answer b
+  pub step-page : (translate_in s privilege memory b kind t).answer ≡ answer_at (translate_in s privilege memory a kind t).answer b
   unfolding translate_in
-  step-page a b same =
-      let r = regime_of privilege.level in
-      let tags : untagged s.tcr r a / 4096 ≡ untagged s.tcr r b / 4096 = untagged-page s.tcr r a b same in
-      let places : data_slot b kind ≡ data_slot a kind = rw same in
-      let slots : slot_at s privilege.level b ≡ slot_at s privilege.level a = rw tags in
-      let answers : ℕ → ℕ → Answer = λ i j.
-      (translation_with (stage1_on s r) (untagged s.tcr r b) (walk_now s privilege.level b memory) r privilege t.cache.current t.counts
-      (hint_at t i)
-      (entry_at t j) b kind).answer in
-      ap (λ (i : ℕ). answers i (slot_at s privilege.level b)) places
-      ∙ ap (answers (data_slot a kind)) slots
-      ∙ translation-page a b (untagged s.tcr r a) (untagged s.tcr r b) (walk_now s privilege.level a memory)
-      (walk_now s privilege.level b memory) same tags
-      (walk_of-page (untagged s.tcr r a) (untagged s.tcr r b) tags s r memory) (stage1_on s r) r privilege t.cache.current t.counts
-      (hint_at t (data_slot a kind)) (entry_at t (slot_at s privilege.level a)) kind (hint-aligned (data_slot a kind))
-      (entry-aligned (slot_at s privilege.level a))
+  step-page = rw same (hint-page (may_hint privilege kind) (hint.key == hint_key b privilege.level))
 
-  -- so an address that is answered has the offset of the one that was asked for
+-- so an address that is answered has the offset of the one that was asked for
+module _ (s : Bank) (privilege : Privilege) (memory : ℕ → Option ℕ) (kind : Kind) (t : Tlb) (f : WellFormed t) where
   pub step-offset : (a pa : ℕ) → (translate_in s privilege memory a kind t).answer ≡ Ok pa → pa % 4096 ≡ a % 4096
   step-offset a pa e =
-      let q : (translate_in s privilege memory a kind t).answer ≡ answer_at (translate_in s privilege memory a kind t).answer a = step-page a a refl in
+      let q : (translate_in s privilege memory a kind t).answer ≡ answer_at (translate_in s privilege memory a kind t).answer a =
+      step-page s privilege memory kind t f a a refl in
       let p : ◌≡◌ {A = Answer} (Ok pa) (Ok (pa / 4096 * 4096 + a % 4096)) = rw e at q in
       let n : pa ≡ pa / 4096 * 4096 + a % 4096 = cc in
       omega arith

@@ -50,15 +50,12 @@ written_to c =
         scr_el3 = 0;
         hcr_el2 = 0;
       };
-      tlb = record c.tlb {
-        cache = record c.tlb.cache { current = record { generation = 7; asid = 3 } };
-        counts = record c.tlb.counts { flushes = 20; epoch = 30 };
-      };
+      tlb = record c.tlb { generation = 7; asid = 3; flushes = 20; epoch = 30 };
     }
 
 -- the flushes and the changes that are counted, and the cache's generation and ASID
 abbrev counted : Tlb → List ℕ
-counted t = t.counts.flushes ∷ t.counts.epoch ∷ t.generation ∷ t.asid ∷ []
+counted t = t.flushes ∷ t.epoch ∷ t.generation ∷ t.asid ∷ []
 
 -- after a write of a value to the register of op0:op1:CRn:CRm:op2
 abbrev after_write : Core → ℕ → ℕ → List ℕ
@@ -109,11 +106,7 @@ invalidating c pending =
         scr_el3 = 0;
         hcr_el2 = 0;
       };
-      tlb = record {
-        cache = record c.tlb.cache { current = record { generation = 7; asid = 3 } };
-        counts = record c.tlb.counts { flushes = 20; drops = 25; epoch = 30 };
-        broadcast = pending;
-      };
+      tlb = record c.tlb { generation = 7; asid = 3; flushes = 20; drops = 25; epoch = 30; broadcast = pending };
     }
 
 abbrev after_tlbi : Core → Option Inval → ℕ → ℕ → ℕ → Tlb
@@ -123,7 +116,7 @@ after_tlbi c pending op1 crm op2 = (sys_of (invalidating c pending) 0 [] op1 8 c
 abbrev kept : Core → ℕ → ℕ → ℕ → List ℕ
 kept c op1 crm op2 =
     let t = after_tlbi c None op1 crm op2 in
-    t.counts.flushes ∷ t.counts.drops ∷ t.counts.epoch ∷ t.generation ∷ []
+    t.flushes ∷ t.drops ∷ t.epoch ∷ t.generation ∷ []
 
 abbrev left : Core → Option Inval → ℕ → ℕ → ℕ → Option Inval
 left c pending op1 crm op2 = (after_tlbi c pending op1 crm op2).broadcast

@@ -4,19 +4,12 @@
 use Rattle.cpu.specs.Results.{Stepped, Located}
 use Rattle.std.specs.Prelude.{if◌then◌else◌, ℕ, Option}
 use Rattle.walk.specs.Regime.{stage1_on, regime_of}
-use Rattle.walk.specs.Tag.{untagged}
 use Rattle.walk.specs.declared.regime.Bank.{Bank}
-use Rattle.tlb.specs.Entry.{slot_of}
-use Rattle.tlb.specs.Access.{tag_of}
-use Rattle.tlb.specs.Translate.{access_of, past_hint_in, after_past_hint, translation_in, tlb_after, fetch_in, fetched_in}
+use Rattle.tlb.specs.Translate.{access_of, past_hint_in, translation_in, tlb_after, fetch_in, fetched_in}
 use Rattle.tlb.specs.declared.{access.Kind.Kind, access.Privilege.Privilege, Tlb.Tlb}
 use Rattle.tlb.specs.Answers.{Answer}
 use Rattle.tlb.specs.declared.access.Kind.TheVariants.{Fetch}
 use Rattle.operations.specs.Place.{next_page, crosses, goes_on, placed_one, placed_both}
-
--- the slot of the entry that may serve an address
-abbrev pub slot_at : Bank → ℕ → ℕ → ℕ
-slot_at s level va = slot_of (tag_of (regime_of level) (untagged s.tcr (regime_of level) va))
 
 abbrev pub one_page : ℕ → Stepped → Located
 one_page va a = record { tlb = a.tlb; placed = placed_one va a.answer }
@@ -37,7 +30,7 @@ module _ (s : Bank) (privilege : Privilege) (memory : ℕ → Option ℕ) where
   unfoldable pub past_hint_step : ℕ → Kind → Tlb → Stepped
   past_hint_step va kind t =
       record {
-        tlb = after_past_hint (access_of s privilege va kind memory) t;
+        tlb = (past_hint_in (access_of s privilege va kind memory) t).after;
         answer = (past_hint_in (access_of s privilege va kind memory) t).answer;
       }
 

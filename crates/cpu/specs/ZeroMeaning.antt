@@ -13,7 +13,6 @@ use Rattle.system.specs.declared.decode.SysOp.TheVariants.{Zva}
 use Rattle.walk.specs.Regime.{bank_of, regime_of}
 use Rattle.tlb.specs.Live.{WellFormed}
 use Rattle.tlb.specs.declared.access.Kind.TheVariants.{Write}
-use Rattle.tlb.specs.declared.Tlb.{Tlb}
 use Rattle.tlb.specs.Answers.{Answer}
 use Rattle.operations.specs.Answers.{StoreAnswer}
 use Rattle.cpu.specs.Core.{bank_now, reg_of}
@@ -174,16 +173,17 @@ module _ (c : Core) (base : ℕ) (ram : List ℕ) (va : ℕ) where
 
 -- a store to a page whose frame the cache gives
 module _ (c d : Core) (base : ℕ) (ram : List ℕ) (va pa a : ℕ) (ew : d.privilege ≡ c.privilege) (ec : d.control ≡ c.control)
-    (g : Gives (bank_now c) c.privilege Write va pa d.tlb.cache) (same : va / 4096 ≡ a / 4096) (even : a % 8 ≡ 0) where
+    (g : Gives (bank_now c) c.privilege Write va pa d.tlb) (same : va / 4096 ≡ a / 4096) (even : a % 8 ≡ 0) where
   again : ((translate_of d (word_at base ram 8) a Write).answer ≡ Ok (pa / 4096 * 4096 + a % 4096))
-      × ((write_of d base ram a 8).core.tlb.cache ≡ d.tlb.cache)
+      × Gives (bank_now c) c.privilege Write va pa (write_of d base ram a 8).core.tlb
   unfolding translate_of stepped_now
   again =
       let q = given (bank_now c) c.privilege Write (word_at base ram 8) d.tlb a pa (gives-page (bank_now c) c.privilege Write a same g) in (
         (λ i. (translate_in (bank_of (ec i) (regime_of (ew i).level)) (ew i) (word_at base ram 8) a Write d.tlb).answer) ∙ q.0,
-        ap (λ (t : Tlb). t.cache) (one-tlb d base ram a even)
-            ∙ (λ i. (translate_in (bank_of (ec i) (regime_of (ew i).level)) (ew i) (word_at base ram 8) a Write d.tlb).tlb.cache)
-            ∙ q.1,
+        subst (Gives (bank_now c) c.privilege Write va pa)
+            (sym (one-tlb d base ram a even
+            ∙ λ i. (translate_in (bank_of (ec i) (regime_of (ew i).level)) (ew i) (word_at base ram 8) a Write d.tlb).tlb))
+            (gives-page (bank_now c) c.privilege Write va (sym same) q.1),
       )
 
 module _ (c : Core) (base : ℕ) (ram : List ℕ) (va pa : ℕ) (well : WellFormed c.tlb) (line : va % 64 ≡ 0) (room : va + 64 ≤ 2 ^ 64)
@@ -192,13 +192,13 @@ module _ (c : Core) (base : ℕ) (ram : List ℕ) (va pa : ℕ) (well : WellForm
   unfolding translate_of stepped_now
   offset = step-offset (bank_now c) c.privilege (word_at base ram 8) Write c.tlb well va pa first
 
-  begins : Gives (bank_now c) c.privilege Write va pa (write_of c base ram va 8).core.tlb.cache
+  begins : Gives (bank_now c) c.privilege Write va pa (write_of c base ram va 8).core.tlb
   unfolding translate_of stepped_now
   begins = rw (one-tlb c base ram va (omega arith)) (step_gives (bank_now c) c.privilege Write (word_at base ram 8) c.tlb va well pa first)
 
   record Agrees (n : ℕ) : Type 0 where
     answer : store_answer c base ram va n ≡ Ok (pa + 8 * n)
-    gives : Gives (bank_now c) c.privilege Write va pa (zero_of (suc n) c base ram va).core.tlb.cache
+    gives : Gives (bank_now c) c.privilege Write va pa (zero_of (suc n) c base ram va).core.tlb
 
   -- the core after one store more
   core-then : (n : ℕ) → n < 8 → (zero_of n c base ram va).answer ≡ Ok tt
@@ -216,7 +216,7 @@ module _ (c : Core) (base : ℕ) (ram : List ℕ) (va pa : ℕ) (well : WellForm
       let p : pa + 8 * 0 ≡ pa = omega arith in
       record {
         answer = first-answer c base ram va ∙ first ∙ ap Ok (sym p);
-        gives = subst (λ (d : Core). Gives (bank_now c) c.privilege Write va pa d.tlb.cache) (sym (core-then 0 h e)) (rw z begins);
+        gives = subst (λ (d : Core). Gives (bank_now c) c.privilege Write va pa d.tlb) (sym (core-then 0 h e)) (rw z begins);
       }
   agree (suc n) h e =
       let before = agree n (omega arith) (zero-fewer c base ram va (suc n) n (omega arith) e) in
@@ -226,7 +226,7 @@ module _ (c : Core) (base : ℕ) (ram : List ℕ) (va pa : ℕ) (well : WellForm
       (ap (λ (b : Bare). b.control) (bare-kept c base ram va (suc n))) before.gives (omega arith) (omega arith) in
       record {
         answer = q.0 ∙ ap Ok (omega arith);
-        gives = subst (Gives (bank_now c) c.privilege Write va pa) (sym (ap (λ (d : Core). d.tlb.cache) (core-then (suc n) h e) ∙ q.1)) before.gives;
+        gives = subst (λ (d : Core). Gives (bank_now c) c.privilege Write va pa d.tlb) (sym (core-then (suc n) h e)) q.1;
       }
 
 -- DC ZVA

@@ -1,6 +1,7 @@
 // The core's operations on memory.
 ghost use Rattle.std.specs.Prelude.{◌≡◌};
 ghost use Rattle.word.specs.Ram.{word_at, bytes_in};
+ghost use Rattle.cpu.specs.Core.{bank_now};
 ghost use Rattle.cpu.specs.Memory.{translate_of, past_hint_of, translate_fetch_of, translate_access_of};
 ghost use Rattle.cpu.specs.Hand.{HandedNow, KeptNow, NeedsWalkNow};
 ghost use Rattle.cpu.specs.Memory.{read_of, write_of, ram_after_write, fetch_of, fetch_pa_of, data_pa_of};
@@ -10,10 +11,23 @@ use exception::kind::{Exception, Stop};
 use fault::Fault;
 use operations::place::{FaultAt, Pages, Place};
 use operations::{ends, lookup, place};
-use tlb::access::Kind;
+use tlb::access::{Kind, Request};
 use word::ram::Width;
 
 impl Core {
+    // An access as the core makes it.
+    #[inline(always)]
+    fn request(&self, va: u64, kind: Kind) -> Request
+        ensures { result ≡ record { bank = bank_now self.now; privilege = self.now.privilege; va = va; kind = kind } }
+    {
+        Request {
+            bank: self.bank(),
+            privilege: self.privilege,
+            va,
+            kind,
+        }
+    }
+
     // The answer of a translation that no hint serves, where no walk is needed. RAM is read by no code here.
     #[inline(always)]
     #[tactic(auto, unfolding(crate::specs::Memory::past_hint_of, crate::specs::Translations::past_hint_step, crate::specs::Core::after_access))]

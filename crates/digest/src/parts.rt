@@ -2,15 +2,15 @@
 ghost use Rattle.std.specs.Prelude.{◌≡◌, ◌+◌, ◌<◌, ◌≤◌, [], ◌∷◌};
 ghost use Rattle.word.specs.Bits.{wrap, flag};
 ghost use Rattle.digest.specs.Fold.{digest_from, digest_of, gathered};
-ghost use Rattle.digest.specs.Count.{live_at, live_entries, set, set_at, set_data_hints, set_hints};
+ghost use Rattle.digest.specs.Count.{live_at, live_entries, set, set_at, set_data_hints, how_many_fetch, set_hints};
 ghost use Rattle.digest.specs.Parts.{live, register_words, record_words, entry_words, entries_words, hint_words};
 ghost use Rattle.digest.specs.Parts.{fetch_words, hints_words};
 
 use crate::fold;
 use cpu::Core;
 use saved::{place, save};
-use tlb::cache::Cache;
-use tlb::entry::{Current, Entry};
+use tlb::Tlb;
+use tlb::entry::Entry;
 use tlb::hint::{FetchHint, Hint};
 use word::bits;
 
@@ -74,21 +74,21 @@ fn with_entry(digest: u64, slot: u64, e: Entry) -> u64
 }
 
 // An entry is live where it has a tag and is of the present generation.
-fn is_live(e: Entry, now: Current) -> bool
-    ensures { result ≡ live e now }
+fn is_live(e: Entry, generation: u32) -> bool
+    ensures { result ≡ live e generation }
 {
-    (e.tag != 0) & (e.generation == now.generation)
+    (e.tag != 0) & (e.generation == generation)
 }
 
 // A sum with an entry, where it is live.
 #[tactic(auto, unfolding(crate::specs::Fold::digest_from, crate::specs::Parts::entry_words))]
-fn with_live(s: Sum, cache: &Cache, j: usize) -> Sum
+fn with_live(s: Sum, tlb: &Tlb, j: usize) -> Sum
     requires { j < 1024 }
-    ensures digest_value { result.digest ≡ digest_from s.digest (entry_words cache.now j) }
-    ensures count_value { result.count ≡ wrap (s.count + flag (live_at cache.now j) 1) }
+    ensures digest_value { result.digest ≡ digest_from s.digest (entry_words tlb.now j) }
+    ensures count_value { result.count ≡ wrap (s.count + flag (live_at tlb.now j) 1) }
 {
-    let e = cache.entries[j];
-    if is_live(e, cache.current) {
+    let e = tlb.entries[j];
+    if is_live(e, tlb.generation) {
         let d = with_entry(s.digest, j as u64, e);
         counted(s, d)
     } else {
@@ -98,12 +98,12 @@ fn with_live(s: Sum, cache: &Cache, j: usize) -> Sum
 
 // The live entries by rising slot.
 pub fn entries(core: &Core) -> Sum
-    ensures digest_value { result.digest ≡ digest_of (entries_words core.now.tlb.cache) }
-    ensures count_value { result.count ≡ live_entries core.now.tlb.cache }
+    ensures digest_value { result.digest ≡ digest_of (entries_words core.now.tlb) }
+    ensures count_value { result.count ≡ live_entries core.now.tlb }
 {
     let mut s = start();
     for j in 0..1024usize {
-        s = with_live(s, &core.tlb.cache, j);
+        s = with_live(s, &core.tlb, j);
     }
     s
 }
@@ -116,12 +116,12 @@ fn is_set(h: Hint) -> bool
 }
 
 #[tactic(auto, unfolding(crate::specs::Fold::digest_from, crate::specs::Parts::hint_words))]
-fn with_hint(s: Sum, cache: &Cache, i: usize) -> Sum
+fn with_hint(s: Sum, tlb: &Tlb, i: usize) -> Sum
     requires { i < 512 }
-    ensures digest_value { result.digest ≡ digest_from s.digest (hint_words cache.now i) }
-    ensures count_value { result.count ≡ wrap (s.count + flag (set_at cache.now i) 1) }
+    ensures digest_value { result.digest ≡ digest_from s.digest (hint_words tlb.now i) }
+    ensures count_value { result.count ≡ wrap (s.count + flag (set_at tlb.now i) 1) }
 {
-    let h = cache.hints[i];
+    let h = tlb.hints[i];
     if is_set(h) {
         let d = joined_three(s.digest, i as u64, h.key, h.pa);
         counted(s, d)
@@ -131,35 +131,36 @@ fn with_hint(s: Sum, cache: &Cache, i: usize) -> Sum
 }
 
 #[tactic(auto, unfolding(crate::specs::Fold::digest_from, crate::specs::Parts::fetch_words))]
-fn with_fetch(s: Sum, f: FetchHint) -> Sum
-    ensures digest_value { result.digest ≡ digest_from s.digest (fetch_words f) }
-    ensures count_value { result.count ≡ wrap (s.count + flag f.some 1) }
+fn with_fetch(s: Sum, fetch: Option<FetchHint>) -> Sum
+    ensures digest_value { result.digest ≡ digest_from s.digest (fetch_words fetch) }
+    ensures count_value { result.count ≡ wrap (s.count + how_many_fetch fetch) }
 {
-    if f.some {
-        let d = joined_three(s.digest, f.page, f.level as u64, f.pa);
-        counted(s, d)
-    } else {
-        s
+    match fetch {
+        Some(f) => {
+            let d = joined_three(s.digest, f.page, f.level as u64, f.pa);
+            counted(s, d)
+        }
+        None => s,
     }
 }
 
-fn data_hints(cache: &Cache) -> Sum
-    ensures digest_value { result.digest ≡ digest_of (gathered (hint_words cache.now) 512 0) }
-    ensures count_value { result.count ≡ set_data_hints cache.now }
+fn data_hints(tlb: &Tlb) -> Sum
+    ensures digest_value { result.digest ≡ digest_of (gathered (hint_words tlb.now) 512 0) }
+    ensures count_value { result.count ≡ set_data_hints tlb.now }
     ensures upper_bound { result.count ≤ 512 }
 {
     let mut s = start();
     for i in 0..512usize {
-        s = with_hint(s, cache, i);
+        s = with_hint(s, tlb, i);
     }
     s
 }
 
 // The data hints that are set, by rising slot, then the fetch hint.
 pub fn hints(core: &Core) -> Sum
-    ensures digest_value { result.digest ≡ digest_of (hints_words core.now.tlb.cache) }
-    ensures count_value { result.count ≡ set_hints core.now.tlb.cache }
+    ensures digest_value { result.digest ≡ digest_of (hints_words core.now.tlb) }
+    ensures count_value { result.count ≡ set_hints core.now.tlb }
 {
-    let s = data_hints(&core.tlb.cache);
+    let s = data_hints(&core.tlb);
     with_fetch(s, core.tlb.fetch)
 }

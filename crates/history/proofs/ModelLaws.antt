@@ -29,12 +29,12 @@ module _ (w : World) (laws : Laws w) where
     leaf-fits : (k : Kind) (va : ℕ) → LeafLevel (access_of w c m k va).walk
     leaf-fits k va leaf e = laws.leaf-level c.regs m (regime_now w c) (untag_now w c va) leaf e
 
-    ask-follows : (a : Ask) (t : Tlb) → WellFormed t → Follows (answer_of w c m a t) (tlb_ask w c m a t) (model_ask w c m a (live t))
+    ask-follows : (a : Ask) (t : Tlb) → WellFormed t → Follows (record { answer = answer_of w c m a t; after = tlb_ask w c m a t }) (model_ask w c m a (live t))
     ask-follows (translates k va) t s = translation-follows (access_of w c m k va) t s (leaf-fits k va) low
-    ask-follows (fetches va) t s = fetch-follows (access_of w c m Fetch va) t s (leaf-fits Fetch va) low refl
+    ask-follows (fetches va) t s = fetch-follows (access_of w c m Fetch va) t s (leaf-fits Fetch va) low
 
     -- the first translation, and the rest of them where it does not fault
-    module _ (a : Ask) (l : List Ask) (t : Tlb) (f : Follows (answer_of w c m a t) (tlb_ask w c m a t) (model_ask w c m a (live t))) where
+    module _ (a : Ask) (l : List Ask) (t : Tlb) (f : Follows (record { answer = answer_of w c m a t; after = tlb_ask w c m a t }) (model_ask w c m a (live t))) where
       more-stands : StandsFor (tlb_asks w c m l (tlb_ask w c m a t)) (model_asks w c m l (live (tlb_ask w c m a t)))
           → StandsFor (tlb_asks w c m (a ∷ l) t) (model_asks w c m (a ∷ l) (live t))
       more-stands rest =

@@ -11,7 +11,8 @@ use Rattle.word.proofs.BitLaws.{both}
 use Rattle.fault.specs.First.{first}
 use Rattle.walk.specs.declared.{regime.Regime.Regime, level.Leaf.Leaf}
 use Rattle.walk.specs.declared.regime.Regime.TheVariants.{El1, El2, El3}
-use Rattle.tlb.specs.Model.{Slot, empty, holds, Line, Known, Model, one_hit, one_walk, same_regime, folded, hint_place, Access, Outcome, as_user, need, reach_of}
+use Rattle.tlb.specs.Answers.{Outcome}
+use Rattle.tlb.specs.Model.{Slot, empty, holds, Line, Known, Model, one_hit, one_walk, same_regime, folded, hint_place, Access, as_user, need, reach_of}
 use Rattle.tlb.specs.Model.{reaches, serving, line_for, address_in, judge as judgeLine, line_of_leaf, walked, looked, unhinted, known_of, noting, noted, knowing}
 use Rattle.tlb.specs.Model.{tried, hinted, hintable, translate, noting_fetch, noted_fetch, fetched, fetch}
 use Rattle.tlb.specs.declared.access.Kind.{Kind}
@@ -121,7 +122,7 @@ module _ (w : World) where
         (rw (same-need u, al) (ap (λ (n : ℕ). Ok (n * 4096 + va % 4096)) e))
 
     -- an answer that came so, and a model that is traced
-    pub record Done (o : Outcome) : Type 0 where
+    pub record Done (o : Outcome Model) : Type 0 where
       pub traced : Traced w h c.regs o.after
       pub answered : Answered o.answer
 
@@ -134,7 +135,7 @@ module _ (w : World) where
     abbrev h : List (Moment w)
     h = at c.regs m ∷ past
 
-    abbrev Fine : Outcome → Type 0
+    abbrev Fine : Outcome Model → Type 0
     Fine o = Done laws h c m k va o
 
     abbrev a : Access
@@ -217,7 +218,7 @@ module _ (w : World) where
           go true o = look-done o (t.lines (page_now w c va % 1024)) (s.lines_ok (page_now w c va % 1024))
 
       -- a data translation that came out sets a hint that holds
-      hint-done : hintable k c.privilege.unprivileged ≡ true → (o : Outcome) → Fine o → Fine (noted a o)
+      hint-done : hintable k c.privilege.unprivileged ≡ true → (o : Outcome Model) → Fine o → Fine (noted a o)
       unfolding noted
       hint-done b o d = record { traced = go o.answer refl; answered = d.answered }
         where

@@ -2,7 +2,8 @@
 -- that the cache of History.antt does the same, answers, counters and what is pending included.
 use Rattle.std.specs.Prelude.{if◌then◌else◌, ◌≡◌, List, [], ◌∷◌, ◌++◌, ℕ, ◌==◌}
 use Rattle.std.proofs.Math.Bool.{true, false}
-use Rattle.tlb.specs.Model.{Model, Outcome, invalidate, retag, broadcast, translate, fetch}
+use Rattle.tlb.specs.Answers.{Outcome}
+use Rattle.tlb.specs.Model.{Model, invalidate, retag, broadcast, translate, fetch}
 use Rattle.tlb.specs.Live.{live, WellFormed}
 use Rattle.tlb.specs.Asks.{Ask, translates, fetches, Given, onward}
 use Rattle.tlb.specs.declared.{Tlb.Tlb}
@@ -13,7 +14,7 @@ use Rattle.history.specs.History.{Effect, nothing, carries, writes, sets, Event,
 
 module _ (w : World) where
   -- a translation: its answer, and the model after it
-  abbrev pub model_ask : Plain w → w.Ram → Ask → Model → Outcome
+  abbrev pub model_ask : Plain w → w.Ram → Ask → Model → Outcome Model
   model_ask c m (translates k va) u = translate (access_of w c m k va) u
   model_ask c m (fetches va) u = fetch (access_of w c m Fetch va) u
 

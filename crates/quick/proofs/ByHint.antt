@@ -1,20 +1,13 @@
 -- A translation that its hint serves, or that no hint serves, on plain values.
-use Rattle.std.specs.Prelude.{◌&&◌, if◌then◌else◌, ◌≡◌, ◌==◌, Bool, true, false, List, ℕ, Option, Some, None, Ok}
+use Rattle.std.specs.Prelude.{if◌then◌else◌, ◌≡◌, Bool, true, false, List, ℕ, Option, Some, None, Ok}
 use Rattle.std.proofs.Common.{refl, sym, ap, ◌∙◌, subst}
-use Rattle.std.proofs.lemmas.List.{set-get_or}
-use Rattle.tlb.specs.Access.{may_hint}
 use Rattle.tlb.specs.Answers.{Answer}
-use Rattle.tlb.specs.Entry.{blank}
-use Rattle.tlb.specs.Hint.{no_hint, data_slot, hint_key, hint_found, on_page}
-use Rattle.tlb.specs.Tlb.{entry_at, hint_at, set_entry, set_hint}
-use Rattle.tlb.specs.Tlb.{tlb_with}
 use Rattle.tlb.specs.Translate.{hint_in}
-use Rattle.tlb.specs.Translate.{translation_with}
-use Rattle.tlb.specs.declared.{access.Kind.Kind, entry.Entry.Entry, hint.Hint.Hint}
-use Rattle.cpu.specs.Core.{after_access, bank_now}
+use Rattle.tlb.specs.declared.{access.Kind.Kind}
+use Rattle.cpu.specs.Core.{after_access}
 use Rattle.cpu.specs.Hand.{NeedsWalkNow}
-use Rattle.cpu.specs.Memory.{with_tlb, stepped_now, translate_of, past_hint_of}
-use Rattle.cpu.specs.Translations.{slot_at, translate_in, past_hint_step}
+use Rattle.cpu.specs.Memory.{stepped_now, translate_of, past_hint_of}
+use Rattle.cpu.specs.Translations.{translate_in, past_hint_step}
 use Rattle.cpu.specs.declared.Core.{Core}
 use Rattle.operations.specs.declared.call.Reply.{Reply}
 use Rattle.call_words.specs.Replies.{code_by, value_by}
@@ -35,39 +28,15 @@ chosen true x pa e = (refl, e)
 chosen false x pa e = absurd (subst is_at (sym e) tt)
 
 module _ (c : Core) (memory : ℕ → Option ℕ) (va : ℕ) (kind : Kind) where
-  abbrev slot : ℕ
-  slot = slot_at (bank_now c) c.privilege.level va
-
-  abbrev place : ℕ
-  place = data_slot va kind
-
-  celled : List Hint → List Entry → Core
-  celled hs es = with_tlb c (tlb_with c.tlb (record c.tlb.cache { hints = hs; entries = es }) c.tlb.counts)
-
-  -- the cells put back as they were
-  same : with_tlb c (tlb_with c.tlb (set_hint (set_entry c.tlb.cache slot (entry_at c.tlb slot)) place (hint_at c.tlb place)) c.tlb.counts) ≡ c
-  unfolding after_access celled
-  same i = celled (set-get_or c.tlb.hints place no_hint i) (set-get_or c.tlb.entries slot blank i)
-
   pub hint-serves : (pa : ℕ) → hint_in c.privilege va kind c.tlb ≡ Some pa → translate_of c memory va kind ≡ record { core = c; answer = Ok pa }
-  unfolding translate_of stepped_now translate_in translation_with
-  hint-serves pa h =
-      let may : (may_hint c.privilege kind ≡ true) × (hint_found (hint_at c.tlb place) c.privilege.level va ≡ Some pa) = chosen (may_hint c.privilege kind) (hint_found (hint_at c.tlb place) c.privilege.level va) pa h in
-      let key : (((hint_at c.tlb place).key == hint_key va c.privilege.level) ≡ true) × (Some (on_page (hint_at c.tlb place).pa va) ≡ Some pa) =
-      chosen ((hint_at c.tlb place).key == hint_key va c.privilege.level) (Some (on_page (hint_at c.tlb place).pa va)) pa may.1 in
-      let at : on_page (hint_at c.tlb place).pa va ≡ pa = ap address key.1 in
-      rw (may.0, key.0, at) (λ i. record { core = same i; answer = Ok pa })
+  unfolding translate_of stepped_now translate_in after_access
+  hint-serves pa h = rw h refl
 
 -- a hint that does not serve
-unserved : (b k : Bool) (pa : ℕ) → (if b then (if k then Some pa else None) else None) ≡ None → b && k ≡ false
-unserved false k pa e = refl
-unserved true false pa e = refl
-unserved true true pa e = absurd (subst is_at e tt)
-
 module _ (c : Core) (memory : ℕ → Option ℕ) (va : ℕ) (kind : Kind) where
   pub unhinted : hint_in c.privilege va kind c.tlb ≡ None → past_hint_of c memory va kind ≡ translate_of c memory va kind
-  unfolding translate_of stepped_now translate_in translation_with past_hint_of past_hint_step
-  unhinted h = rw (unserved (may_hint c.privilege kind) ((hint_at c.tlb (data_slot va kind)).key == hint_key va c.privilege.level) (on_page (hint_at c.tlb (data_slot va kind)).pa va) h) refl
+  unfolding translate_of stepped_now translate_in past_hint_of past_hint_step
+  unhinted h = rw h refl
 
 -- a translation that no hint serves, in its two parts, by the kind that the instance reads
 module _ (c d : Core) (memory : ℕ → Option ℕ) (va : ℕ) (read kind : Kind) (a : Answer) (is : read ≡ kind) (none : hint_in c.privilege va kind c.tlb ≡ None) where

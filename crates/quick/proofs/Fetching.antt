@@ -1,21 +1,15 @@
 -- A fetch, and where one goes, by its one translation; and where a data read goes, on plain values.
 use Rattle.std.specs.Prelude.{◌≡◌, Bool, true, false, List, ℕ, Option, Some, None, Ok, Err}
-use Rattle.std.proofs.Common.{sym, ap, ◌∙◌, subst}
-use Rattle.std.proofs.lemmas.List.{set-get_or}
+use Rattle.std.proofs.Common.{refl, sym, ap, ◌∙◌, subst}
 use Rattle.word.specs.Ram.{word_at}
 use Rattle.fault.specs.declared.Fault.{Fault}
 use Rattle.exception.specs.Abort.{insn_abort_at}
 use Rattle.tlb.specs.Answers.{Answer}
-use Rattle.tlb.specs.Entry.{blank}
-use Rattle.tlb.specs.Hint.{no_hint, data_slot, fetch_found}
-use Rattle.tlb.specs.Tlb.{entry_at, set_entry}
-use Rattle.tlb.specs.Tlb.{tlb_with}
-use Rattle.tlb.specs.Resolve.{counted_by, kept_by, fetch_after}
-use Rattle.tlb.specs.Translate.{access_of, slot_for, miss_in}
+use Rattle.tlb.specs.Hint.{fetch_found}
+use Rattle.tlb.specs.Translate.{access_of, miss_in, hint_left as data_hint_left, fetch_left}
 use Rattle.tlb.specs.Model.{Access}
-use Rattle.tlb.specs.Translate.{fetch_with, fetch_end as fetch_chosen, fetch_applied, applied}
 use Rattle.tlb.specs.declared.access.Kind.TheVariants.{Fetch}
-use Rattle.tlb.specs.declared.{entry.Entry.Entry, hint.Hint.Hint, resolve.Resolved.Resolved}
+use Rattle.tlb.specs.declared.Tlb.{Tlb}
 use Rattle.cpu.specs.Core.{after_access, bank_now}
 use Rattle.cpu.specs.Memory.{with_tlb, fetch_stepped_now, past_hint_of, translate_fetch_of, fetch_of, fetch_pa_of}
 use Rattle.cpu.specs.Translations.{past_hint_step, translate_fetch_in}
@@ -32,42 +26,23 @@ module _ (c : Core) (memory : ℕ → Option ℕ) (va : ℕ) where
   abbrev a : Access
   a = access_of (bank_now c) c.privilege va Fetch memory
 
-  abbrev missed : Resolved
-  missed = miss_in a c.tlb
-
-  with_entries : List Entry → Core
-  with_entries es = with_tlb c (tlb_with c.tlb (record c.tlb.cache { entries = es }) c.tlb.counts)
-
-  -- the entry put back as it was
-  same : with_tlb c (tlb_with c.tlb (set_entry c.tlb.cache (slot_for a) (entry_at c.tlb (slot_for a))) c.tlb.counts) ≡ c
-  unfolding after_access with_entries
-  same i = with_entries (set-get_or c.tlb.entries (slot_for a) blank i)
-
   pub fetch-serves : (pa : ℕ) → fetch_found c.tlb.fetch c.privilege.level va ≡ Some pa → record { core = c; answer = Ok pa } ≡ translate_fetch_of c memory va
-  unfolding translate_fetch_of fetch_stepped_now translate_fetch_in fetch_with fetch_chosen
-  fetch-serves pa h = sym (rw h (λ i. record { core = same i; answer = Ok pa }))
-
-  with_hints : List Hint → Translated
-  with_hints hs =
-      record {
-        core =
-            with_tlb c
-            (tlb_with c.tlb
-            (record c.tlb.cache {
-              fetch = fetch_after c.privilege.level va missed.answer c.tlb.fetch;
-              hints = hs;
-              entries = (set_entry c.tlb.cache (slot_for a) (kept_by missed.source (entry_at c.tlb (slot_for a)) missed.made)).entries;
-            })
-            (counted_by missed.source c.privilege.level c.tlb.counts));
-        answer = missed.answer;
-      }
+  unfolding translate_fetch_of fetch_stepped_now translate_fetch_in after_access
+  fetch-serves pa h = sym (rw h refl)
 
   abbrev left : Translated → Translated
   left t = record { core = hint_left t.core va t.answer; answer = t.answer }
 
+  -- a fetch leaves no data hint
+  hint-kept : (x : Answer) (t : Tlb) → left (record { core = with_tlb c (data_hint_left c.privilege va Fetch x t); answer = x })
+      ≡ record { core = with_tlb c (fetch_left c.privilege.level va x t); answer = x }
+  unfolding after_access
+  hint-kept (Ok pa) t = refl
+  hint-kept (Err f) t = refl
+
   fetch-misses : fetch_found c.tlb.fetch c.privilege.level va ≡ None → left (past_hint_of c memory va Fetch) ≡ translate_fetch_of c memory va
-  unfolding translate_fetch_of fetch_stepped_now translate_fetch_in fetch_with fetch_chosen fetch_applied past_hint_of past_hint_step applied after_access with_hints
-  fetch-misses h = rw h (λ i. with_hints (set-get_or c.tlb.hints (data_slot va Fetch) no_hint i))
+  unfolding translate_fetch_of fetch_stepped_now translate_fetch_in past_hint_of past_hint_step
+  fetch-misses h = rw h (hint-kept (miss_in a c.tlb).answer (miss_in a c.tlb).after)
 
   pub fetch-missed : (d e : Core) (x : Answer) → fetch_found c.tlb.fetch c.privilege.level va ≡ None
       → record { core = d; answer = x } ≡ past_hint_of c memory va Fetch → e ≡ hint_left d va x → record { core = e; answer = x } ≡ translate_fetch_of c memory va

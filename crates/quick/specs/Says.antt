@@ -5,9 +5,7 @@ use Rattle.word.specs.Ram.{word_at}
 use Rattle.cpu.specs.Memory.{with_tlb, loaded_by, read_of, stored_by, write_of, ram_after_write, fetched_by, fetch_of, fetch_pa_of}
 use Rattle.cpu.specs.Results.{Translated, Loaded, Stored, Fetched, Addressed}
 use Rattle.tlb.specs.Answers.{Answer}
-use Rattle.tlb.specs.Tlb.{set_fetch}
-use Rattle.tlb.specs.Tlb.{tlb_with}
-use Rattle.tlb.specs.Resolve.{fetch_after}
+use Rattle.tlb.specs.Translate.{fetch_left}
 use Rattle.operations.specs.Place.{placed_one}
 use Rattle.operations.specs.Ends.{load_end, store_end, store_ram_end, fetch_end, reached_by}
 use Rattle.cpu.specs.System.{done_with, zero_of, zero_ram}
@@ -80,8 +78,7 @@ fetch_ended false d a base ram va = after_address (reached_of d a)
 
 -- the fetch hint that an answer leaves
 abbrev pub hint_left : Core → ℕ → Answer → Core
-hint_left d va a =
-    with_tlb d (tlb_with d.tlb (set_fetch d.tlb.cache (fetch_after d.privilege.level va a d.tlb.fetch)) d.tlb.counts)
+hint_left d va a = with_tlb d (fetch_left d.privilege.level va a d.tlb)
 
 -- AN ACCESS OF TWO PAGES by their hints
 

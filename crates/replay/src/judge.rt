@@ -14,7 +14,6 @@ use word::bits;
 fn core_words(machine: &Machine, ram: u64) -> [u64; rows::CORE] {
     let core = &machine.core;
     let levels = &core.tlb.levels;
-    let current = core.tlb.cache.current;
     let mut pending = [0; 2];
     read::pending(core, &mut pending);
     let entries = digest::parts::entries(core);
@@ -37,8 +36,8 @@ fn core_words(machine: &Machine, ram: u64) -> [u64; rows::CORE] {
         core.abort_pa,
         machine.level(),
         u64::from(core.privilege.unprivileged),
-        u64::from(current.generation),
-        u64::from(current.asid),
+        u64::from(core.tlb.generation),
+        u64::from(core.tlb.asid),
         core.sys.par_el1,
         entries.count,
         hints.count,

@@ -1,5 +1,5 @@
 -- A core out of its own words: nothing is lost but what no word holds.
-use Rattle.std.specs.Prelude.{◌==◌, slice_index, slice_index_or}
+use Rattle.std.specs.Prelude.{if◌then◌else◌, ◌==◌, slice_index, slice_index_or}
 use Rattle.std.proofs.Common.{◌≡◌, ℕ, zero, suc, ◌+◌, ◌-◌, ◌*◌, ◌/◌, ◌%◌, ◌^◌, ◌<◌, ◌≤◌, Bool, true, false, ltb, List, [], ◌∷◌, length, Option, Some, None}
 use Rattle.std.proofs.Common.{sym, refl, ap, ◌∙◌, arith, lt-ltb, le-ltb, ltb-true, ltb-false, mod-eq_of_lt}
 use Rattle.std.proofs.lemmas.List.{get_or_past}
@@ -8,13 +8,13 @@ use Rattle.word.specs.Tables.{table, table_at, table-past}
 use Rattle.tlb.specs.Tlb.{hint_at, entry_at}
 use Rattle.tlb.specs.Entry.{blank}
 use Rattle.tlb.specs.Hint.{no_hint}
-use Rattle.tlb.specs.declared.{count.Tally.Tally, entry.Entry.Entry, Inval.Inval}
+use Rattle.tlb.specs.declared.{count.Tally.Tally, entry.Entry.Entry, hint.FetchHint.FetchHint, Inval.Inval}
 use Rattle.tlb.specs.declared.Inval.TheVariants.{All, Page, Asid}
 use Rattle.cpu.specs.declared.Core.{Core}
 use Rattle.saved.specs.CoreOf.{word, level_in, pending_of, hint_in, entry_of, entry_in, core_on, core_by, core_of}
-use Rattle.saved.specs.WordsOf.{level_words, pending_kind, pending_value, hint_word, attributes, entry_word, word_of, words_of, held}
+use Rattle.saved.specs.WordsOf.{level_words, pending_kind, pending_value, fetch_known, fetch_or_zeros, hint_word, attributes, entry_word, word_of, words_of, held}
 use Rattle.saved.specs.Places.{WORDS, GENERAL, LEVEL, HINTS, HINT-PA, ENTRIES, ENTRY-GENERATION, ENTRY-ATTRIBUTES, ENTRY-PA, LEVEL-HITS}
-use Rattle.saved.specs.Fits.{EntryFits, PendingFits, Fits}
+use Rattle.saved.specs.Fits.{EntryFits, FetchFits, PendingFits, Fits}
 use Rattle.saved.proofs.Filling.{table_is}
 
 -- A WORD OF A CORE BY ITS PLACE
@@ -143,6 +143,12 @@ same-default (x ∷ xs) (suc k) e d h = same-default xs k e d (omega arith)
 table-back : {A : Type 0} (n : ℕ) (f : ℕ → A) (xs : List A) (d : A) → length xs ≡ n → ((k : ℕ) → k < n → f k ≡ slice_index_or xs k d) → table n f ≡ xs
 table-back n f xs d l h = sym (table_is f n xs l (λ k e q. same-default xs k e d (omega (arith, l)) ∙ sym (h k q)))
 
+fetch-back : (x : Option FetchHint) → FetchFits x
+    → (if fetch_known x == 1 then Some (record { page = (fetch_or_zeros x).page; level = (fetch_or_zeros x).level % 2 ^ 8; pa = (fetch_or_zeros x).pa })
+    else None) ≡ x
+fetch-back None q = refl
+fetch-back (Some f) q = λ i. Some (record { page = f.page; level = mod-eq_of_lt q i; pa = f.pa })
+
 -- THE LAW
 
 module _ (c : Core) (f : Fits c) where
@@ -202,26 +208,15 @@ module _ (c : Core) (f : Fits c) where
         sys = (held c).sys;
         tlb =
             record {
-              cache =
-                  record {
-                    current = record { generation = mod-eq_of_lt f.parts.generation i; asid = mod-eq_of_lt f.parts.asid i };
-                    fetch =
-                        record {
-                          some = flag-is c.tlb.fetch.some i;
-                          page = c.tlb.fetch.page;
-                          level = mod-eq_of_lt f.parts.fetch i;
-                          pa = c.tlb.fetch.pa;
-                        };
-                    hints = hints-back i;
-                    entries = entries-back i;
-                  };
-              counts =
-                  record {
-                    levels = tallies-back c.tlb.levels (record { hits = 0; walks = 0 }) f.parts.levels i;
-                    flushes = c.tlb.flushes;
-                    drops = c.tlb.drops;
-                    epoch = c.tlb.epoch;
-                  };
+              generation = mod-eq_of_lt f.parts.generation i;
+              asid = mod-eq_of_lt f.parts.asid i;
+              entries = entries-back i;
+              fetch = fetch-back c.tlb.fetch f.parts.fetch i;
+              hints = hints-back i;
+              levels = tallies-back c.tlb.levels (record { hits = 0; walks = 0 }) f.parts.levels i;
+              flushes = c.tlb.flushes;
+              drops = c.tlb.drops;
+              epoch = c.tlb.epoch;
               broadcast = pending-is c.tlb.broadcast f.parts.pending i;
             };
         last_pa = c.last_pa;

@@ -5,8 +5,8 @@ use Rattle.word.specs.Bits.{bit_on, field}
 use Rattle.sysreg.specs.Regs.{levels}
 use Rattle.sysreg.specs.declared.{regs.Control.Control, regs.SysRegs.SysRegs}
 use Rattle.exception.specs.declared.flags.Flags.{Flags}
-use Rattle.tlb.specs.declared.{access.Privilege.Privilege, count.Counts.Counts, count.Tally.Tally, entry.Entry.Entry}
-use Rattle.tlb.specs.declared.{entry.Current.Current, hint.Hint.Hint, hint.FetchHint.FetchHint, Inval.Inval}
+use Rattle.tlb.specs.declared.{access.Privilege.Privilege, count.Tally.Tally, entry.Entry.Entry}
+use Rattle.tlb.specs.declared.{hint.Hint.Hint, hint.FetchHint.FetchHint, Inval.Inval}
 use Rattle.tlb.specs.declared.Inval.TheVariants.{All, Page, Asid}
 use Rattle.cpu.specs.declared.Core.{Core}
 use Rattle.word.specs.Tables.{table}
@@ -64,28 +64,17 @@ privilege_in w = record { level = level_in (w LEVEL); unprivileged = (w UNPRIVIL
 abbrev pub tally_in : (ℕ → ℕ) → ℕ → Tally
 tally_in w l = record { hits = w (LEVEL-HITS + l); walks = w (LEVEL-WALKS + l) }
 
--- those, and words 72 to 74
-abbrev pub counts_in : (ℕ → ℕ) → Counts
-counts_in w =
-    record {
-      levels = tally_in w 0 ∷ tally_in w 1 ∷ tally_in w 2 ∷ tally_in w 3 ∷ [];
-      flushes = w FLUSHES;
-      drops = w DROPS;
-      epoch = w EPOCH;
-    }
+abbrev pub tallies_in : (ℕ → ℕ) → List Tally
+tallies_in w = tally_in w 0 ∷ tally_in w 1 ∷ tally_in w 2 ∷ tally_in w 3 ∷ []
 
 -- words 75 and 76
 abbrev pub pending_of : ℕ → ℕ → Option Inval
 pending_of what v =
     if what == 1 then Some All else if what == 2 then Some (Page v) else if what == 3 then Some (Asid (v % 2 ^ 16)) else None
 
--- words 79 and 80
-abbrev pub current_in : (ℕ → ℕ) → Current
-current_in w = record { generation = w GENERATION % 2 ^ 32; asid = w ASID % 2 ^ 16 }
-
--- words 81 to 84
-abbrev pub fetch_in : (ℕ → ℕ) → FetchHint
-fetch_in w = record { some = (w FETCH == 1); page = w FETCH-PAGE; level = w FETCH-LEVEL % 2 ^ 8; pa = w FETCH-PA }
+-- words 81 to 84: where word 81 is not 1 there is none, and the three after it hold nothing
+abbrev pub fetch_in : (ℕ → ℕ) → Option FetchHint
+fetch_in w = if w FETCH == 1 then Some (record { page = w FETCH-PAGE; level = w FETCH-LEVEL % 2 ^ 8; pa = w FETCH-PA }) else None
 
 -- two words from 85 on for each data hint
 abbrev pub hint_in : (ℕ → ℕ) → ℕ → Hint
@@ -119,8 +108,15 @@ core_on w xs hs es =
       sys = sys_in w;
       tlb =
           record {
-            cache = record { current = current_in w; fetch = fetch_in w; hints = hs; entries = es };
-            counts = counts_in w;
+            generation = w GENERATION % 2 ^ 32;
+            asid = w ASID % 2 ^ 16;
+            entries = es;
+            fetch = fetch_in w;
+            hints = hs;
+            levels = tallies_in w;
+            flushes = w FLUSHES;
+            drops = w DROPS;
+            epoch = w EPOCH;
             broadcast = pending_of (w PENDING) (w PENDING-VALUE);
           };
       last_pa = w LAST-PA;

@@ -13,7 +13,7 @@ use Rattle.saved.specs.Places.{SCTLR, TCR, TTBR0, TTBR1-EL1, MAIR, VBAR, ELR, SP
 use Rattle.saved.specs.Places.{DAIF, SPSEL, GENERAL, LEVEL, UNPRIVILEGED, FLUSHES, DROPS, EPOCH, LAST-PA, ABORT-PA, GENERATION, ASID}
 use Rattle.saved.specs.Places.{FETCH, FETCH-PAGE, FETCH-LEVEL, FETCH-PA, HINTS, HINT-PA, ENTRIES, ENTRY-GENERATION, ENTRY-ATTRIBUTES, ENTRY-PA}
 use Rattle.saved.specs.Places.{LEVEL-HITS, LEVEL-WALKS}
-use Rattle.saved.specs.WordsOf.{attributes, word_of}
+use Rattle.saved.specs.WordsOf.{attributes, fetch_known, fetch_or_zeros, word_of}
 
 -- of three words, by the level that the register belongs to
 abbrev pub by_level : ℕ → El → ℕ
@@ -53,10 +53,10 @@ pub record Named (c : Core) : Type 0 where
   pub abort : word_of c ABORT-PA ≡ c.abort_pa
   pub generation : word_of c GENERATION ≡ c.tlb.generation
   pub asid : word_of c ASID ≡ c.tlb.asid
-  pub fetch : word_of c FETCH ≡ flag c.tlb.fetch.some 1
-  pub fetch_page : word_of c FETCH-PAGE ≡ c.tlb.fetch.page
-  pub fetch_level : word_of c FETCH-LEVEL ≡ c.tlb.fetch.level
-  pub fetch_pa : word_of c FETCH-PA ≡ c.tlb.fetch.pa
+  pub fetch : word_of c FETCH ≡ fetch_known c.tlb.fetch
+  pub fetch_page : word_of c FETCH-PAGE ≡ (fetch_or_zeros c.tlb.fetch).page
+  pub fetch_level : word_of c FETCH-LEVEL ≡ (fetch_or_zeros c.tlb.fetch).level
+  pub fetch_pa : word_of c FETCH-PA ≡ (fetch_or_zeros c.tlb.fetch).pa
 
 pub record HintNamed (c : Core) (i : ℕ) : Type 0 where
   pub key : word_of c (HINTS + i * 2) ≡ (hint_at c.tlb i).key

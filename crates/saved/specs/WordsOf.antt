@@ -6,7 +6,7 @@ use Rattle.sysreg.specs.Regs.{levels}
 use Rattle.sysreg.specs.declared.{regs.Control.Control, regs.SysRegs.SysRegs}
 use Rattle.tlb.specs.Tlb.{hint_at, entry_at}
 use Rattle.tlb.specs.Count.{tally_at}
-use Rattle.tlb.specs.declared.{entry.Entry.Entry, hint.Hint.Hint, Inval.Inval}
+use Rattle.tlb.specs.declared.{entry.Entry.Entry, hint.Hint.Hint, hint.FetchHint.FetchHint, Inval.Inval}
 use Rattle.tlb.specs.declared.Inval.TheVariants.{All, Page, Asid}
 use Rattle.cpu.specs.declared.Core.{Core}
 use Rattle.saved.specs.Places.{WORDS, GENERAL, LEVEL, HINTS, ENTRIES, LEVEL-HITS}
@@ -52,6 +52,15 @@ pending_value (Some All) = 0
 pending_value (Some (Page p)) = p
 pending_value (Some (Asid n)) = n
 
+-- whether there is a fetch hint, and the hint, or zeros where there is none
+abbrev pub fetch_known : Option FetchHint → ℕ
+fetch_known None = 0
+fetch_known (Some f) = 1
+
+abbrev pub fetch_or_zeros : Option FetchHint → FetchHint
+fetch_or_zeros None = record { page = 0; level = 0; pa = 0 }
+fetch_or_zeros (Some f) = f
+
 -- words 68 to 84: level and mark, two words that hold nothing, the other counters, what is pending, the addresses kept, generation and
 -- ASID, and the fetch hint
 abbrev pub state_words : Core → List ℕ
@@ -69,10 +78,10 @@ state_words c =
     ∷ c.abort_pa
     ∷ c.tlb.generation
     ∷ c.tlb.asid
-    ∷ flag c.tlb.fetch.some 1
-    ∷ c.tlb.fetch.page
-    ∷ c.tlb.fetch.level
-    ∷ c.tlb.fetch.pa
+    ∷ fetch_known c.tlb.fetch
+    ∷ (fetch_or_zeros c.tlb.fetch).page
+    ∷ (fetch_or_zeros c.tlb.fetch).level
+    ∷ (fetch_or_zeros c.tlb.fetch).pa
     ∷ []
 
 -- a data hint's two words

@@ -1,8 +1,8 @@
 // The small parts of a core, read among its words.
 ghost use Rattle.std.specs.Prelude.{◌≡◌, ◌+◌, ◌<◌};
 ghost use Rattle.sysreg.specs.Regs.{levels};
-ghost use Rattle.saved.specs.CoreOf.{word, level_in, control_in, sys_in, flags_in, privilege_in, tally_in, counts_in};
-ghost use Rattle.saved.specs.CoreOf.{pending_of, current_in, fetch_in, hint_in, entry_in};
+ghost use Rattle.saved.specs.CoreOf.{word, level_in, control_in, sys_in, flags_in, privilege_in, tally_in, tallies_in};
+ghost use Rattle.saved.specs.CoreOf.{pending_of, fetch_in, hint_in, entry_in};
 ghost use Rattle.saved.specs.Places.{PENDING, PENDING-VALUE};
 
 use crate::place;
@@ -11,8 +11,8 @@ use exception::flags::Flags;
 use sysreg::regs::{Control, SysRegs};
 use tlb::Inval;
 use tlb::access::Privilege;
-use tlb::count::{Counts, Tally};
-use tlb::entry::{Current, Entry};
+use tlb::count::Tally;
+use tlb::entry::Entry;
 use tlb::hint::{FetchHint, Hint};
 
 pub fn control_at(words: &Saved) -> Control
@@ -88,20 +88,15 @@ fn tally_at(words: &Saved, level: usize) -> Tally
     }
 }
 
-pub fn counts_at(words: &Saved) -> Counts
-    ensures { result ≡ counts_in (word words.now) }
+pub fn tallies_at(words: &Saved) -> [Tally; 4]
+    ensures { result ≡ tallies_in (word words.now) }
 {
-    Counts {
-        levels: [
-            tally_at(words, 0),
-            tally_at(words, 1),
-            tally_at(words, 2),
-            tally_at(words, 3),
-        ],
-        flushes: words[place::FLUSHES],
-        drops: words[place::DROPS],
-        epoch: words[place::EPOCH],
-    }
+    [
+        tally_at(words, 0),
+        tally_at(words, 1),
+        tally_at(words, 2),
+        tally_at(words, 3),
+    ]
 }
 
 pub fn pending_at(words: &Saved) -> Option<Inval>
@@ -116,24 +111,14 @@ pub fn pending_at(words: &Saved) -> Option<Inval>
     }
 }
 
-pub fn current_at(words: &Saved) -> Current
-    ensures { result ≡ current_in (word words.now) }
-{
-    Current {
-        generation: (words[place::GENERATION] % 0x1_0000_0000) as u32,
-        asid: (words[place::ASID] % 0x1_0000) as u16,
-    }
-}
-
-pub fn fetch_at(words: &Saved) -> FetchHint
+pub fn fetch_at(words: &Saved) -> Option<FetchHint>
     ensures { result ≡ fetch_in (word words.now) }
 {
-    FetchHint {
-        some: words[place::FETCH] == 1,
+    (words[place::FETCH] == 1).then_some(FetchHint {
         page: words[place::FETCH_PAGE],
         level: (words[place::FETCH_LEVEL] % 256) as u8,
         pa: words[place::FETCH_PA],
-    }
+    })
 }
 
 pub(crate) fn hint_at(words: &Saved, i: usize) -> Hint

@@ -1,13 +1,13 @@
 // What the type of a core says of its parts: ranges and lengths. Each function computes nothing.
 ghost use Rattle.std.specs.Prelude.{◌≡◌, ◌^◌, ◌<◌, length};
-ghost use Rattle.saved.specs.Fits.{EntryFits, PendingFits, PartsFit, Fits};
+ghost use Rattle.saved.specs.Fits.{EntryFits, FetchFits, PendingFits, PartsFit, Fits};
 
 use cpu::Core;
 use exception::flags::Flags;
 use tlb::Inval;
 use tlb::access::Privilege;
 use tlb::count::Tally;
-use tlb::entry::{Current, Entry};
+use tlb::entry::Entry;
 use tlb::hint::{FetchHint, Hint};
 
 fn privilege_fits(privilege: Privilege)
@@ -18,13 +18,18 @@ fn flags_fit(flags: Flags)
     ensures { (flags.nzcv < 2 ^ 32) × (flags.daif < 2 ^ 32) }
 {}
 
-fn current_fits(current: Current)
-    ensures { (current.generation < 2 ^ 32) × (current.asid < 2 ^ 16) }
+fn stamps_fit(generation: u32, asid: u16)
+    ensures { (generation < 2 ^ 32) × (asid < 2 ^ 16) }
 {}
 
-fn fetch_fits(fetch: FetchHint)
-    ensures { fetch.level < 2 ^ 8 }
-{}
+fn fetch_fits(fetch: Option<FetchHint>)
+    ensures { FetchFits fetch }
+{
+    match fetch {
+        None => {}
+        Some(_) => {}
+    }
+}
 
 fn entry_fits(entry: Entry)
     ensures { EntryFits entry }
@@ -70,7 +75,7 @@ fn parts_fit(core: &Core)
 {
     privilege_fits(core.privilege);
     flags_fit(core.flags);
-    current_fits(core.tlb.cache.current);
+    stamps_fit(core.tlb.generation, core.tlb.asid);
     fetch_fits(core.tlb.fetch);
     pending_fits(core.tlb.broadcast);
     general_long(&core.x);

@@ -55,11 +55,15 @@ pub fn restore(core: &mut Core, words: &Saved)
     read_general(&mut core.x, words);
     core.control = parts::control_at(words);
     core.sys = parts::sys_at(words);
-    core.tlb.cache.current = parts::current_at(words);
+    core.tlb.generation = (words[place::GENERATION] % 0x1_0000_0000) as u32;
+    core.tlb.asid = (words[place::ASID] % 0x1_0000) as u16;
     core.tlb.fetch = parts::fetch_at(words);
     read_hints(&mut core.tlb.hints, words);
     read_entries(&mut core.tlb.entries, words);
-    core.tlb.counts = parts::counts_at(words);
+    core.tlb.levels = parts::tallies_at(words);
+    core.tlb.flushes = words[place::FLUSHES];
+    core.tlb.drops = words[place::DROPS];
+    core.tlb.epoch = words[place::EPOCH];
     core.tlb.broadcast = parts::pending_at(words);
     core.last_pa = words[place::LAST_PA];
     core.abort_pa = words[place::ABORT_PA];

@@ -1,7 +1,8 @@
 // The words of a core, place by place.
 ghost use Rattle.std.specs.Prelude.{◌≡◌, [], ◌∷◌};
 ghost use Rattle.saved.specs.CoreOf.{core_of};
-ghost use Rattle.saved.specs.WordsOf.{register_words, state_words, level_words, pending_kind, pending_value, held};
+ghost use Rattle.saved.specs.WordsOf.{register_words, state_words, level_words, pending_kind, pending_value, fetch_known};
+ghost use Rattle.saved.specs.WordsOf.{fetch_or_zeros, held};
 ghost use Rattle.saved.specs.WordsOf.{attributes, hint_word, entry_word, word_of, words_of};
 
 use crate::place::Saved;
@@ -9,7 +10,7 @@ use crate::{place, ranges};
 use cpu::Core;
 use tlb::Inval;
 use tlb::entry::Entry;
-use tlb::hint::Hint;
+use tlb::hint::{FetchHint, Hint};
 use word::bits;
 
 // Words 0 to 36.
@@ -72,33 +73,42 @@ fn pending_words(pending: Option<Inval>) -> [u64; 2]
     }
 }
 
+// Whether there is a fetch hint, its page, level and physical page; or zeros.
+pub fn fetch_words(fetch: Option<FetchHint>) -> [u64; 4]
+    ensures { result ≡ fetch_known fetch ∷ (fetch_or_zeros fetch).page ∷ (fetch_or_zeros fetch).level
+        ∷ (fetch_or_zeros fetch).pa ∷ [] }
+{
+    match fetch {
+        None => [0, 0, 0, 0],
+        Some(hint) => [1, hint.page, hint.level as u64, hint.pa],
+    }
+}
+
 // Words 68 to 84.
 fn state_words(core: &Core) -> [u64; 17]
     ensures { result ≡ state_words core.now }
 {
     let privilege = core.privilege;
-    let counts = &core.tlb.counts;
-    let current = core.tlb.cache.current;
-    let fetch = core.tlb.fetch;
+    let fetch = fetch_words(core.tlb.fetch);
     let pending = pending_words(core.tlb.broadcast);
     [
         privilege.level as u64,
         bits::flag_word(privilege.unprivileged),
         0,
         0,
-        counts.flushes,
-        counts.drops,
-        counts.epoch,
+        core.tlb.flushes,
+        core.tlb.drops,
+        core.tlb.epoch,
         pending[0],
         pending[1],
         core.last_pa,
         core.abort_pa,
-        current.generation as u64,
-        current.asid as u64,
-        bits::flag_word(fetch.some),
-        fetch.page,
-        fetch.level as u64,
-        fetch.pa,
+        core.tlb.generation as u64,
+        core.tlb.asid as u64,
+        fetch[0],
+        fetch[1],
+        fetch[2],
+        fetch[3],
     ]
 }
 

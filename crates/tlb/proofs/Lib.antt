@@ -5,4 +5,3 @@ pub mod Misses
 pub mod Translations
 pub mod EveryRun
 pub mod Worked
-mod Hands

@@ -1,23 +1,22 @@
 -- Each operation on the cache does to the plain model what the requirement says, and keeps the cache well-formed.
 use Rattle.std.specs.Prelude.{if◌then◌else◌, ◌≡◌, ℕ, ◌+◌, ◌*◌, ◌/◌, ◌%◌, ◌^◌, ◌<◌, ◌≤◌, Bool, true, false, List, map, length, ◌==◌, Option, Some, None, slice_index_or, slice_set}
-use Rattle.std.proofs.Math.Path.{refl, ap}
+use Rattle.std.proofs.Math.Path.{refl, ap, subst}
 use Rattle.std.proofs.Common.{sym, ◌∙◌, arith, length-set}
 use borrow.Author.Tests.{eqb-true, eqb-false}
 use Rattle.std.proofs.lemmas.List.{length-map}
 use Rattle.std.proofs.Math.ListN.{length-replicate, get_or-map}
 use Rattle.walk.specs.declared.regime.Regime.{Regime}
 use Rattle.tlb.specs.Entry.{blank, slot_of, serves, stamped, untagged, named, page_dropped, walked_for, asid_dropped}
-use Rattle.tlb.specs.Hint.{no_hint, no_fetch}
+use Rattle.tlb.specs.Hint.{no_hint}
 use Rattle.tlb.specs.Lists.{Each, each_map, each-imp, each_set, each-getD, each-replicate, replicate-at, get_d_set}
-use Rattle.tlb.specs.Count.{no_tally, no_tallies, no_counts, flush_counted, drop_counted, epoch_counted}
-use Rattle.tlb.specs.Cache.{blanks, no_hints, hintless, entry_at, set_entry, next_generation, flushed, without_page, without_asid, retagged}
-use Rattle.tlb.specs.Tlb.{fresh, get_of, put_of, flush_of, drop_page_of, drop_asid_of, retag_of, invalidate_of, same_inval, pending_after, broadcast_of}
+use Rattle.tlb.specs.Count.{more, no_tally, no_tallies}
+use Rattle.tlb.specs.Tlb.{blanks, no_hints, fresh, entry_at, hintless, next_generation, get_of, put_of, flush_of, drop_page_of, drop_asid_of}
+use Rattle.tlb.specs.Tlb.{retag_of, invalidate_of, same_inval, pending_after, broadcast_of}
 use Rattle.tlb.specs.Access.{regime_number}
 use Rattle.tlb.specs.Model.{Slot, empty, holds, Line, empty_model, uncovered, invalidate, retag, equal, joined, broadcast, serving, line_for, keep}
-use Rattle.tlb.specs.Live.{line_in, line_of, hint_of, fetch_hint_of, pending_of, lines_of, hints_of, counters_of, live, Made, Aligned, Sound, WellFormed}
+use Rattle.tlb.specs.Live.{line_in, line_of, hint_of, fetch_hint_of, pending_of, lines_of, hints_of, counters_of, live, Made, Aligned, FetchAligned, WellFormed}
 use Rattle.tlb.specs.Cells.{same-pick, regime-low, found, line_made, page-drops, asid-drops, all-covered, flush-drops}
-use Rattle.tlb.specs.declared.{entry.Entry.Entry, entry.Current.Current, count.Counts.Counts, cache.Cache.Cache}
-use Rattle.tlb.specs.declared.{Tlb.Tlb, Inval.Inval}
+use Rattle.tlb.specs.declared.{entry.Entry.Entry, hint.Hint.Hint, Tlb.Tlb, Inval.Inval}
 use Rattle.tlb.specs.declared.Inval.TheVariants.{All, Page, Asid}
 
 -- WITHOUT HINTS
@@ -30,40 +29,37 @@ no-hints-at : (i : ℕ) → hints_of no_hints i ≡ empty
 unfolding hints_of no_hints hint_of
 no-hints-at i = ap hint_of (replicate-at no_hint 512 i)
 
-no-fetch : fetch_hint_of no_fetch ≡ empty
-unfolding fetch_hint_of
-no-fetch = refl
-
 pub blank-made : (g : ℕ) → Made g blank
 blank-made g = record { early = omega arith; aligned = refl; level = omega arith }
 
-module _ (p : Current) (es : List Entry) where
-  hintless-sound : 1 ≤ p.generation → p.generation < 2 ^ 32 → length es ≡ 1024 → Each (Made p.generation) es → Sound (hintless p es)
+-- a cache without hints
+module _ (t : Tlb) (f : t.fetch ≡ None) (h : t.hints ≡ no_hints) where
+  cleared-well : 1 ≤ t.generation → t.generation < 2 ^ 32 → length t.entries ≡ 1024 → length t.levels ≡ 4 → Each (Made t.generation) t.entries → WellFormed t
   unfolding no_hints
-  hintless-sound f l n q =
+  cleared-well first last slots levels entries =
       record {
-        first = f;
-        last = l;
-        slots = n;
-        places = length-replicate 512 no_hint;
-        entries = q;
-        hints = each-replicate Aligned no_hint refl 512;
-        fetch-page = refl;
-        fetch-pa = refl;
+        first = first;
+        last = last;
+        slots = slots;
+        places = ap length h ∙ length-replicate 512 no_hint;
+        levels = levels;
+        entries = entries;
+        hints = subst (Each Aligned) (sym h) (each-replicate Aligned no_hint refl 512);
+        fetch = subst FetchAligned (sym f) tt;
       }
 
-  hintless-live : (k : Counts) (b : Option Inval) (ls : ℕ → Slot Line) → ((i : ℕ) → lines_of p.generation es i ≡ ls i)
-      → live (record { cache = hintless p es; counts = k; broadcast = b })
-      ≡ record { asid = p.asid; lines = ls; hints = λ i. empty; fetch = empty; counts = counters_of k; pending = pending_of b }
-  hintless-live k b ls q =
+  cleared-live : (ls : ℕ → Slot Line) → ((i : ℕ) → lines_of t.generation t.entries i ≡ ls i)
+      → live t ≡ record { asid = t.asid; lines = ls; hints = λ i. empty; fetch = empty; counts = counters_of t; pending = pending_of t.broadcast }
+  unfolding fetch_hint_of
+  cleared-live ls q =
       λ n.
       record {
-        asid = p.asid;
+        asid = t.asid;
         lines = λ i. q i n;
-        hints = λ i. no-hints-at i n;
-        fetch = no-fetch n;
-        counts = counters_of k;
-        pending = pending_of b;
+        hints = λ i. (ap (λ (hs : List Hint). hints_of hs i) h ∙ no-hints-at i) n;
+        fetch = ap fetch_hint_of f n;
+        counts = counters_of t;
+        pending = pending_of t.broadcast;
       }
 
 blank-lines : (i : ℕ) → lines_of 1 blanks i ≡ empty
@@ -80,7 +76,7 @@ blanks-made g = each-replicate (Made g) blank (blank-made g) 1024
 
 -- NEW
 
-no-counts : counters_of no_counts ≡ empty_model.counts
+no-counts : counters_of fresh ≡ empty_model.counts
 unfolding no_tallies
 no-counts =
     λ n.
@@ -94,16 +90,12 @@ no-counts =
 
 pub fresh-live : live fresh ≡ empty_model
 fresh-live =
-    hintless-live (record { generation = 1; asid = 0 }) blanks no_counts None (λ i. empty) blank-lines
+    cleared-live fresh refl refl (λ i. empty) blank-lines
     ∙ λ n. record { asid = 0; lines = λ i. empty; hints = λ i. empty; fetch = empty; counts = no-counts n; pending = empty }
 
 pub fresh-sound : WellFormed fresh
 unfolding no_tallies
-fresh-sound =
-    record {
-      cache = hintless-sound _ blanks (omega arith) (omega arith) blanks-long (blanks-made 1);
-      levels = length-replicate 4 no_tally;
-    }
+fresh-sound = cleared-well fresh refl refl (omega arith) (omega arith) blanks-long (length-replicate 4 no_tally) (blanks-made 1)
 
 -- INVALIDATIONS
 
@@ -113,11 +105,6 @@ module _ (what : Inval) (g : ℕ) (f : Entry → Entry) (es : List Entry) where
       → lines_of g (map f es) i ≡ uncovered what (lines_of g es i)
   unfolding lines_of
   mapped-lines b q i = ap (line_of g) (rw b at (get_or-map f es i blank)) ∙ q (slice_index_or es i blank)
-
-mapped-sound : (c : Cache) (f : Entry → Entry) → ((e : Entry) → Made c.current.generation e → Made c.current.generation (f e))
-    → Sound c → Sound (hintless c.current (map f c.entries))
-mapped-sound c f q s =
-    hintless-sound c.current (map f c.entries) s.first s.last (length-map c.entries f ∙ s.slots) (each_map f q s.entries)
 
 made-still : (g : ℕ) (e : Entry) (b : Bool) → Made g e → Made g (if b then untagged e else e)
 made-still g e true m = record { early = m.early; aligned = m.aligned; level = m.level }
@@ -143,70 +130,74 @@ older : (g : ℕ) (e : Entry) → Made g e → Made (g + 1) e
 older g e m = record { early = omega arith; aligned = m.aligned; level = m.level }
 
 -- a flush either wraps, and clears the entries, or goes to the next generation, which no entry is of
-flush-wraps : (c : Cache) → (next_generation c.current.generation == 0) ≡ true
-    → flushed c ≡ hintless (record { generation = 1; asid = c.current.asid }) blanks
-unfolding flushed
-flush-wraps c f = rw f
+abbrev wrapped : Tlb → Tlb
+wrapped t = record (hintless t) { flushes = more t.flushes; generation = 1; entries = blanks }
 
-flush-next : (c : Cache) → Sound c → (next_generation c.current.generation == 0) ≡ false
-    → flushed c ≡ hintless (record { generation = c.current.generation + 1; asid = c.current.asid }) c.entries
-unfolding flushed
-flush-next c s f =
-    let ne : next_generation c.current.generation ≡ 0 → ⊥ = eqb-false _ _ f in
-    let below : c.current.generation < 2 ^ 32 = s.last in
-    let n : next_generation c.current.generation ≡ c.current.generation + 1 = omega arith in
+abbrev advanced : Tlb → Tlb
+advanced t = record (hintless t) { flushes = more t.flushes; generation = t.generation + 1 }
+
+flush-wraps : (t : Tlb) → (next_generation t.generation == 0) ≡ true → flush_of t ≡ wrapped t
+unfolding flush_of
+flush-wraps t f = rw f
+
+flush-next : (t : Tlb) → WellFormed t → (next_generation t.generation == 0) ≡ false → flush_of t ≡ advanced t
+unfolding flush_of
+flush-next t s f =
+    let ne : next_generation t.generation ≡ 0 → ⊥ = eqb-false _ _ f in
+    let below : t.generation < 2 ^ 32 = s.last in
+    let n : next_generation t.generation ≡ t.generation + 1 = omega arith in
     rw (f, n)
 
 module _ (t : Tlb) (s : WellFormed t) where
   pub flush-live : live (flush_of t) ≡ invalidate All (live t)
-  unfolding flush_of invalidate lines_of
-  flush-live = go (next_generation t.cache.current.generation == 0) refl
+  unfolding invalidate lines_of
+  flush-live = go (next_generation t.generation == 0) refl
     where
-      emptied : (i : ℕ) → lines_of (t.cache.current.generation + 1) t.cache.entries i ≡ empty
-      emptied i = flush-drops _ _ (each-getD {P = Made t.cache.current.generation} blank (blank-made _) s.cache.entries i).early
+      emptied : (i : ℕ) → lines_of (t.generation + 1) t.entries i ≡ empty
+      emptied i = flush-drops _ _ (each-getD {P = Made t.generation} blank (blank-made _) s.entries i).early
 
-      go : (b : Bool) → (next_generation t.cache.current.generation == 0) ≡ b → live (flush_of t) ≡ invalidate All (live t)
+      go : (b : Bool) → (next_generation t.generation == 0) ≡ b → live (flush_of t) ≡ invalidate All (live t)
       go true f =
-          rw (flush-wraps t.cache f)
-          (hintless-live (record { generation = 1; asid = t.cache.current.asid }) blanks (flush_counted t.counts) t.broadcast
-          (λ i. uncovered All ((live t).lines i)) (λ i. blank-lines i ∙ sym (all-covered ((live t).lines i))))
+          rw (flush-wraps t f)
+          (cleared-live (wrapped t) refl refl (λ i. uncovered All ((live t).lines i)) (λ i. blank-lines i ∙ sym (all-covered ((live t).lines i))))
       go false f =
-          rw (flush-next t.cache s.cache f)
-          (hintless-live (record { generation = t.cache.current.generation + 1; asid = t.cache.current.asid }) t.cache.entries
-          (flush_counted t.counts) t.broadcast (λ i. uncovered All ((live t).lines i))
-          (λ i. emptied i ∙ sym (all-covered ((live t).lines i))))
+          rw (flush-next t s f)
+          (cleared-live (advanced t) refl refl (λ i. uncovered All ((live t).lines i)) (λ i. emptied i ∙ sym (all-covered ((live t).lines i))))
 
   pub flush-sound : WellFormed (flush_of t)
-  unfolding flush_of
-  flush-sound = record { cache = go (next_generation t.cache.current.generation == 0) refl; levels = s.levels }
+  flush-sound = go (next_generation t.generation == 0) refl
     where
-      go : (b : Bool) → (next_generation t.cache.current.generation == 0) ≡ b → Sound (flushed t.cache)
-      go true f = rw (flush-wraps t.cache f) (hintless-sound _ blanks (omega arith) (omega arith) blanks-long (blanks-made 1))
+      go : (b : Bool) → (next_generation t.generation == 0) ≡ b → WellFormed (flush_of t)
+      go true f = rw (flush-wraps t f) (cleared-well (wrapped t) refl refl (omega arith) (omega arith) blanks-long s.levels (blanks-made 1))
       go false f =
-          let ne : next_generation t.cache.current.generation ≡ 0 → ⊥ = eqb-false _ _ f in
-          let below : t.cache.current.generation < 2 ^ 32 = s.cache.last in
-          rw (flush-next t.cache s.cache f)
-          (hintless-sound _ _ (omega arith) (omega arith) s.cache.slots (each-imp (older t.cache.current.generation) s.cache.entries))
+          let ne : next_generation t.generation ≡ 0 → ⊥ = eqb-false _ _ f in
+          let below : t.generation < 2 ^ 32 = s.last in
+          rw (flush-next t s f)
+          (cleared-well (advanced t) refl refl (omega arith) (omega arith) s.slots s.levels (each-imp (older t.generation) s.entries))
 
   pub page-live : (page : ℕ) → live (drop_page_of t page) ≡ invalidate (Page page) (live t)
-  unfolding drop_page_of without_page invalidate
+  unfolding drop_page_of invalidate
   page-live page =
-      hintless-live t.cache.current _ (drop_counted t.counts) t.broadcast _
-      (mapped-lines (Page page) _ _ t.cache.entries (page-blank t.cache.current.generation page) (page-drops _ page))
+      cleared-live (drop_page_of t page) refl refl _
+      (mapped-lines (Page page) _ _ t.entries (page-blank t.generation page) (page-drops _ page))
 
   pub page-sound : (page : ℕ) → WellFormed (drop_page_of t page)
-  unfolding drop_page_of without_page
-  page-sound page = record { cache = mapped-sound t.cache _ (page-made _ _ page) s.cache; levels = s.levels }
+  unfolding drop_page_of
+  page-sound page =
+      cleared-well (drop_page_of t page) refl refl s.first s.last (length-map t.entries (page_dropped t.generation page) ∙ s.slots) s.levels
+      (each_map (page_dropped t.generation page) (page-made _ _ page) s.entries)
 
   pub asid-live : (asid : ℕ) → live (drop_asid_of t asid) ≡ invalidate (Asid asid) (live t)
-  unfolding drop_asid_of without_asid invalidate
+  unfolding drop_asid_of retag_of invalidate
   asid-live asid =
-      hintless-live t.cache.current _ (epoch_counted t.counts) t.broadcast _
-      (mapped-lines (Asid asid) t.cache.current.generation _ t.cache.entries (asid-blank asid) (asid-drops _ asid))
+      cleared-live (drop_asid_of t asid) refl refl _
+      (mapped-lines (Asid asid) t.generation _ t.entries (asid-blank asid) (asid-drops _ asid))
 
   pub asid-sound : (asid : ℕ) → WellFormed (drop_asid_of t asid)
-  unfolding drop_asid_of without_asid
-  asid-sound asid = record { cache = mapped-sound t.cache _ (asid-made _ asid) s.cache; levels = s.levels }
+  unfolding drop_asid_of retag_of
+  asid-sound asid =
+      cleared-well (drop_asid_of t asid) refl refl s.first s.last (length-map t.entries (asid_dropped asid) ∙ s.slots) s.levels
+      (each_map (asid_dropped asid) (asid-made _ asid) s.entries)
 
   -- every TLBI
   pub invalidate-live : (what : Inval) → live (invalidate_of t what) ≡ invalidate what (live t)
@@ -222,15 +213,12 @@ module _ (t : Tlb) (s : WellFormed t) where
   invalidate-sound (Asid asid) = asid-sound asid
 
   pub retag-live : (asid : ℕ) → live (retag_of t asid) ≡ retag asid (live t)
-  unfolding retag_of retagged retag
-  retag-live asid =
-      hintless-live (record { generation = t.cache.current.generation; asid = asid }) t.cache.entries (epoch_counted t.counts) t.broadcast _
-      (λ i. refl)
+  unfolding retag_of retag
+  retag-live asid = cleared-live (retag_of t asid) refl refl _ (λ i. refl)
 
   pub retag-sound : (asid : ℕ) → WellFormed (retag_of t asid)
-  unfolding retag_of retagged
-  retag-sound asid =
-      record { cache = hintless-sound _ _ s.cache.first s.cache.last s.cache.slots s.cache.entries; levels = s.levels }
+  unfolding retag_of
+  retag-sound asid = cleared-well (retag_of t asid) refl refl s.first s.last s.slots s.levels s.entries
 
 -- BROADCAST
 
@@ -272,7 +260,7 @@ unfolding broadcast_of broadcast
 broadcast-live t what =
     λ n.
     record {
-      asid = t.cache.current.asid;
+      asid = t.asid;
       lines = (live t).lines;
       hints = (live t).hints;
       fetch = (live t).fetch;
@@ -282,7 +270,17 @@ broadcast-live t what =
 
 pub broadcast-sound : (t : Tlb) (what : Inval) → WellFormed t → WellFormed (broadcast_of t what)
 unfolding broadcast_of
-broadcast-sound t what s = record { cache = s.cache; levels = s.levels }
+broadcast-sound t what s =
+    record {
+      first = s.first;
+      last = s.last;
+      slots = s.slots;
+      places = s.places;
+      levels = s.levels;
+      entries = s.entries;
+      hints = s.hints;
+      fetch = s.fetch;
+    }
 
 -- LINES
 
@@ -300,19 +298,19 @@ found_in r None = empty
 
 pub line-is : (t : Tlb) (r : Regime) (p : ℕ)
     → line_for (live t) r p
-    ≡ (if serves (entry_at t.cache (slot_of (p * 4 + regime_number r))) t.cache.current (p * 4 + regime_number r) then holds (line_in r (entry_at t.cache (slot_of (p * 4 + regime_number r))))
+    ≡ (if serves (entry_at t (slot_of (p * 4 + regime_number r))) t (p * 4 + regime_number r) then holds (line_in r (entry_at t (slot_of (p * 4 + regime_number r))))
     else empty)
 unfolding line_for lines_of
 line-is t r p =
-    ap (λ (i : ℕ). serving t.cache.current.asid r p (line_of t.cache.current.generation (slice_index_or t.cache.entries i blank)))
+    ap (λ (i : ℕ). serving t.asid r p (line_of t.generation (slice_index_or t.entries i blank)))
     (sym (slot_is r p))
-    ∙ found t.cache.current r p (entry_at t.cache (slot_of (p * 4 + regime_number r)))
+    ∙ found t r p (entry_at t (slot_of (p * 4 + regime_number r)))
 
 pub get-live : (t : Tlb) (r : Regime) (p : ℕ) → found_in r (get_of t (p * 4 + regime_number r)) ≡ line_for (live t) r p
 unfolding get_of
 get-live t r p =
-    let e = entry_at t.cache (slot_of (p * 4 + regime_number r)) in
-    pushed (serves e t.cache.current (p * 4 + regime_number r)) e ∙ sym (line-is t r p)
+    let e = entry_at t (slot_of (p * 4 + regime_number r)) in
+    pushed (serves e t (p * 4 + regime_number r)) e ∙ sym (line-is t r p)
   where
     pushed : (b : Bool) (e : Entry) → found_in r (if b then Some e else None) ≡ (if b then holds (line_in r e) else empty)
     pushed true e = refl
@@ -332,27 +330,14 @@ kept-lines g p r es e long q w i =
     pushed true y = refl
     pushed false y = refl
 
-pub set-sound : (c : Cache) (i : ℕ) (e : Entry) → Sound c → Made c.current.generation e → Sound (set_entry c i e)
-set-sound c i e s m =
-    record {
-      first = s.first;
-      last = s.last;
-      slots = length-set c.entries i e ∙ s.slots;
-      places = s.places;
-      entries = each_set e m s.entries i;
-      hints = s.hints;
-      fetch-page = s.fetch-page;
-      fetch-pa = s.fetch-pa;
-    }
-
 module _ (t : Tlb) (s : WellFormed t) (r : Regime) (p : ℕ) (e : Entry) where
   pub put-live : e.tag ≡ p * 4 + regime_number r → live (put_of t e) ≡ keep (line_in r e) (live t)
   unfolding put_of keep
   put-live w =
       λ n.
       record {
-        asid = t.cache.current.asid;
-        lines = λ i. kept-lines _ p r t.cache.entries (stamped e t.cache.current.generation) s.cache.slots refl w i n;
+        asid = t.asid;
+        lines = λ i. kept-lines _ p r t.entries (stamped e t.generation) s.slots refl w i n;
         hints = (live t).hints;
         fetch = (live t).fetch;
         counts = (live t).counts;
@@ -361,4 +346,15 @@ module _ (t : Tlb) (s : WellFormed t) (r : Regime) (p : ℕ) (e : Entry) where
 
   pub put-sound : e.pa % 4096 ≡ 0 → e.level ≤ 3 → WellFormed (put_of t e)
   unfolding put_of
-  put-sound a l = record { cache = set-sound t.cache _ _ s.cache (record { early = omega arith; aligned = a; level = l }); levels = s.levels }
+  put-sound a l =
+      let made : Made t.generation (stamped e t.generation) = record { early = omega arith; aligned = a; level = l } in
+      record {
+        first = s.first;
+        last = s.last;
+        slots = length-set t.entries (slot_of e.tag) (stamped e t.generation) ∙ s.slots;
+        places = s.places;
+        levels = s.levels;
+        entries = each_set (stamped e t.generation) made s.entries (slot_of e.tag);
+        hints = s.hints;
+        fetch = s.fetch;
+      }

@@ -5,48 +5,46 @@ use Rattle.tlb.specs.Model.{noted_fetch, fetched, fetch}
 use Rattle.tlb.specs.Entry.{page_dropped, asid_dropped}
 use Rattle.tlb.specs.Hint.{place_of}
 use Rattle.tlb.specs.Count.{no_tallies}
-use Rattle.tlb.specs.Cache.{blanks, no_hints, flushed, without_page, without_asid, retagged}
-use Rattle.tlb.specs.Tlb.{flush_of, drop_page_of, drop_asid_of, retag_of, invalidate_of, broadcast_of}
+use Rattle.tlb.specs.Tlb.{blanks, no_hints, get_of, put_of, flush_of, drop_page_of, drop_asid_of, retag_of, invalidate_of, broadcast_of}
 use Rattle.tlb.specs.Access.{judged}
-use Rattle.tlb.specs.Resolve.{by_walk, resolve_with}
-use Rattle.tlb.specs.Translate.{miss_with, applied, translation_with, fetch_applied, fetch_end, fetch_with}
+use Rattle.tlb.specs.Translate.{walked_in, miss_in}
 use Rattle.tlb.specs.Runs.{run, model_run}
 use Rattle.tlb.specs.Worked.{WorkedRun, WorkedAtLevels, WorkedSlots, WorkedCovers, WorkedRights, WorkedFetches, WorkedPending}
 
 pub worked-run : WorkedRun
 unfolding run model_run translate hinted tried noted unhinted looked walked judge keep line_for invalidate retag folded
-    flush_of flushed drop_page_of without_page page_dropped drop_asid_of without_asid asid_dropped retag_of retagged invalidate_of
-    translation_with miss_with resolve_with by_walk applied judged place_of blanks no_hints no_tallies
+    flush_of drop_page_of page_dropped drop_asid_of asid_dropped retag_of invalidate_of
+    miss_in walked_in get_of put_of judged place_of blanks no_hints no_tallies
 worked-run = record { cache = refl; model = refl }
 
 pub worked-at-levels : WorkedAtLevels
 unfolding run model_run translate hinted tried noted unhinted looked walked judge keep line_for invalidate folded
-    translation_with miss_with resolve_with by_walk applied judged place_of blanks no_hints no_tallies
+    miss_in walked_in get_of put_of judged place_of blanks no_hints no_tallies
 worked-at-levels = record { cache = refl; model = refl }
 
 pub worked-slots : WorkedSlots
 unfolding run model_run translate hinted tried noted unhinted looked walked judge keep line_for invalidate folded
-    translation_with miss_with resolve_with by_walk applied judged place_of blanks no_hints no_tallies
+    miss_in walked_in get_of put_of judged place_of blanks no_hints no_tallies
 worked-slots = record { cache = refl; model = refl }
 
 pub worked-covers : WorkedCovers
 unfolding run model_run translate hinted tried noted unhinted looked walked judge keep line_for invalidate retag folded
-    flush_of flushed drop_page_of without_page page_dropped drop_asid_of without_asid asid_dropped retag_of retagged invalidate_of
-    translation_with miss_with resolve_with by_walk applied judged place_of blanks no_hints no_tallies
+    flush_of drop_page_of page_dropped drop_asid_of asid_dropped retag_of invalidate_of
+    miss_in walked_in get_of put_of judged place_of blanks no_hints no_tallies
 worked-covers = record { cache = refl; model = refl }
 
 pub worked-rights : WorkedRights
 unfolding run model_run translate hinted tried noted unhinted looked walked judge keep line_for folded
-    translation_with miss_with resolve_with by_walk applied judged place_of blanks no_hints no_tallies
+    miss_in walked_in get_of put_of judged place_of blanks no_hints no_tallies
 worked-rights = ((refl, refl, refl, refl, refl, refl), (refl, refl, refl, refl, refl, refl))
 
 pub worked-fetches : WorkedFetches
 unfolding run model_run translate fetch fetched noted_fetch hinted tried noted unhinted looked walked judge keep line_for invalidate folded
-    drop_asid_of without_asid asid_dropped invalidate_of fetch_with fetch_end fetch_applied
-    translation_with miss_with resolve_with by_walk applied judged place_of blanks no_hints no_tallies
+    drop_asid_of retag_of asid_dropped invalidate_of
+    miss_in walked_in get_of put_of judged place_of blanks no_hints no_tallies
 worked-fetches = record { cache = refl; model = refl }
 
 pub worked-pending : WorkedPending
-unfolding run model_run invalidate broadcast flush_of flushed drop_page_of without_page page_dropped invalidate_of broadcast_of
+unfolding run model_run invalidate broadcast flush_of drop_page_of page_dropped invalidate_of broadcast_of
     blanks no_hints no_tallies
 worked-pending = ((refl, refl, refl), (refl, refl, refl))

@@ -2,7 +2,7 @@
 -- cache.
 use Rattle.std.specs.Prelude.{◌≡◌, ℕ, List, [], ◌∷◌, refl, Ok, Err}
 use Rattle.tlb.specs.Model.{Access}
-use Rattle.tlb.specs.Step.{translation_in, tlb_after, fetch_in, fetched_in}
+use Rattle.tlb.specs.Translate.{translation_in, tlb_after, fetch_in, fetched_in}
 use Rattle.tlb.specs.declared.{access.Kind.Kind, Tlb.Tlb}
 use Rattle.tlb.specs.Answers.{Answer}
 use Rattle.tlb.specs.declared.access.Kind.TheVariants.{Fetch}

@@ -1,6 +1,6 @@
 -- One entry and one hint against the line and the hint that they stand for.
 use Rattle.std.specs.Prelude.{if◌then◌else◌, ◌≡◌, ℕ, zero, suc, ◌+◌, ◌*◌, ◌/◌, ◌%◌, ◌^◌, ◌<◌, ◌≤◌, Bool, true, false, not, ◌&&◌, ◌||◌, ◌==◌, ◌≢◌}
-use Rattle.std.specs.Prelude.{bit_or, nat_eq, nat_le, refl, Ok, Err}
+use Rattle.std.specs.Prelude.{bit_or, nat_eq, nat_le, refl, Some, Ok, Err}
 use Rattle.std.proofs.Common.{sym, ap, ap₂, ◌∙◌, div-add-mod', mod-eq_of_lt, arith}
 use Rattle.std.proofs.Math.Nat.{mul-add-div_right, mul-add-mod_self_right, div-eq_of_lt}
 use borrow.Author.Tests.{eq-eqb, ne_eqb, eqb-true, eqb-false, leb-false, le-leb}
@@ -15,7 +15,7 @@ use Rattle.tlb.specs.Access.{is_fetch, may_hint, regime_number, if_two_ranges, u
 use Rattle.tlb.specs.Model.{Slot, empty, holds, Line, reach_of, reaches, belongs_to, span_bits, covers, uncovered, same_regime, serving, knowing, Access}
 use Rattle.tlb.specs.Model.{as_user, need, need_in, judge, hintable}
 use Rattle.tlb.specs.Live.{line_in, tagged, line_of, hint_of, fetch_hint_of, Made}
-use Rattle.tlb.specs.declared.{entry.Entry.Entry, entry.Current.Current, access.Kind.Kind, hint.Hint.Hint}
+use Rattle.tlb.specs.declared.{entry.Entry.Entry, access.Kind.Kind, hint.Hint.Hint, Tlb.Tlb}
 use Rattle.tlb.specs.declared.{hint.FetchHint.FetchHint, access.Privilege.Privilege, Inval.Inval}
 use Rattle.tlb.specs.declared.access.Kind.TheVariants.{Read, Write, Fetch}
 use Rattle.tlb.specs.declared.Inval.TheVariants.{All, Page, Asid}
@@ -87,17 +87,17 @@ module _ (a p : ℕ) (e : Entry) where
       let none : n ≡ 0 = omega arith in rw none (in-regime r El3 (e.tag / 4 == p))
 
 -- an entry serves a tag just where its line serves the page and the regime
-pub found : (at : Current) (r : Regime) (p : ℕ) (e : Entry)
-    → serving at.asid r p (line_of at.generation e)
-    ≡ (if serves e at (p * 4 + regime_number r) then holds (line_in r e) else empty)
+pub found : (t : Tlb) (r : Regime) (p : ℕ) (e : Entry)
+    → serving t.asid r p (line_of t.generation e)
+    ≡ (if serves e t (p * 4 + regime_number r) then holds (line_in r e) else empty)
 unfolding line_of
-found at r p e = rw (both-parts 4 e.tag p (regime_number r) (omega arith) (regime-low r)) (go (e.generation == at.generation) refl)
+found t r p e = rw (both-parts 4 e.tag p (regime_number r) (omega arith) (regime-low r)) (go (e.generation == t.generation) refl)
   where
-    go : (b : Bool) → (e.generation == at.generation) ≡ b
-        → serving at.asid r p (if e.generation == at.generation then tagged (e.tag % 4) e else empty)
-        ≡ (if ((e.tag / 4 == p && e.tag % 4 == regime_number r) && e.generation == at.generation) && (e.global || e.asid == at.asid) then holds (line_in r e)
+    go : (b : Bool) → (e.generation == t.generation) ≡ b
+        → serving t.asid r p (if e.generation == t.generation then tagged (e.tag % 4) e else empty)
+        ≡ (if ((e.tag / 4 == p && e.tag % 4 == regime_number r) && e.generation == t.generation) && (e.global || e.asid == t.asid) then holds (line_in r e)
         else empty)
-    go true f = rw (f, and-true) (by-tag at.asid p e r (e.tag % 4) refl)
+    go true f = rw (f, and-true) (by-tag t.asid p e r (e.tag % 4) refl)
     go false f = rw (f, and-false)
 
 -- an entry of the present generation with a regime's tag is a line
@@ -251,22 +251,17 @@ hint-made va level pa low =
     rw (l, p, f, le-leb level 3 low)
 
 pub fetch-known-is : (f : FetchHint) (va level : ℕ) → f.page % 4096 ≡ 0
-    → knowing (va / 4096) level (fetch_hint_of f) ≡ (if fetch_serves f level va then holds (f.pa / 4096) else empty)
+    → knowing (va / 4096) level (fetch_hint_of (Some f)) ≡ (if fetch_serves f level va then holds (f.pa / 4096) else empty)
 unfolding fetch_hint_of
-fetch-known-is f va level q = go f.some refl
+fetch-known-is f va level q = rw page-is
   where
     page-is : nat_eq f.page (va / 4096 * 4096) ≡ (f.page / 4096 == va / 4096)
     page-is =
         let z : va / 4096 * 4096 + 0 ≡ va / 4096 * 4096 = omega arith in
         rw (z, q, and-true) at (both-parts 4096 f.page (va / 4096) 0 (omega arith) (omega arith))
 
-    go : (b : Bool) → f.some ≡ b
-        → knowing (va / 4096) level (fetch_hint_of f) ≡ (if fetch_serves f level va then holds (f.pa / 4096) else empty)
-    go true w = rw (w, page-is)
-    go false w = rw w
-
 pub fetch-made : (va level pa : ℕ)
-    → fetch_hint_of (fetch_for va level pa) ≡ holds (record { page = va / 4096; level = level; frame = pa / 4096 })
+    → fetch_hint_of (Some (fetch_for va level pa)) ≡ holds (record { page = va / 4096; level = level; frame = pa / 4096 })
 unfolding fetch_hint_of
 fetch-made va level pa =
     let p : va / 4096 * 4096 / 4096 ≡ va / 4096 = omega arith in

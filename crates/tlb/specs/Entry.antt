@@ -1,18 +1,33 @@
 -- One entry as the code keeps it: by a tag and a generation.
 use Rattle.std.specs.Prelude.{if◌then◌else◌, ℕ, ◌/◌, ◌%◌, ◌^◌, Bool, false, not, ◌&&◌, ◌||◌, ◌==◌}
-use Rattle.tlb.specs.declared.{entry.Entry.Entry, entry.Current.Current}
+use Rattle.walk.specs.declared.level.Leaf.{Leaf}
+use Rattle.tlb.specs.Hint.{page_of}
+use Rattle.tlb.specs.declared.{entry.Entry.Entry, Tlb.Tlb}
 
 -- an entry that answers for no tag
 abbrev pub blank : Entry
 blank = record { tag = 0; generation = 0; perms = 0; level = 0; global = false; asid = 0; pa = 0 }
+
+-- the entry that a leaf becomes
+abbrev pub entry_for : Leaf → ℕ → ℕ → Entry
+entry_for leaf asid tag =
+    record {
+      tag = tag;
+      generation = 0;
+      perms = leaf.perms;
+      level = leaf.level;
+      global = leaf.global;
+      asid = asid;
+      pa = page_of leaf.oa;
+    }
 
 -- the low ten bits of the page of a tag
 abbrev pub slot_of : ℕ → ℕ
 slot_of tag = tag / 4 % 1024
 
 -- it has the tag, is of the present generation, and is global or of the ASID in force
-abbrev pub serves : Entry → Current → ℕ → Bool
-serves e at tag = (e.tag == tag && e.generation == at.generation) && (e.global || e.asid == at.asid)
+abbrev pub serves : Entry → Tlb → ℕ → Bool
+serves e t tag = (e.tag == tag && e.generation == t.generation) && (e.global || e.asid == t.asid)
 
 abbrev pub stamped : Entry → ℕ → Entry
 stamped e g =
@@ -20,8 +35,7 @@ stamped e g =
 
 abbrev pub untagged : Entry → Entry
 untagged e =
-    record
-    { tag = 0; generation = e.generation; perms = e.perms; level = e.level; global = e.global; asid = e.asid; pa = e.pa }
+    record e { tag = 0 }
 
 -- how many low bits of a page number a leaf of the level spans
 abbrev pub span_of : ℕ → ℕ

@@ -1,14 +1,11 @@
 -- Hints as the code keeps them: by a key that holds the raw page and the level.
-use Rattle.std.specs.Prelude.{if◌then◌else◌, ℕ, ◌+◌, ◌-◌, ◌*◌, ◌/◌, ◌%◌, ◌^◌, Bool, true, false, ◌&&◌, ◌==◌, Option, Some, None, bit_or, bit_xor}
+use Rattle.std.specs.Prelude.{if◌then◌else◌, ℕ, ◌+◌, ◌-◌, ◌*◌, ◌/◌, ◌%◌, ◌^◌, Bool, ◌&&◌, ◌==◌, Option, Some, None, bit_or, bit_xor}
 use Rattle.tlb.specs.declared.{access.Kind.Kind, hint.Hint.Hint, hint.FetchHint.FetchHint}
 use Rattle.tlb.specs.declared.access.Kind.TheVariants.{Read, Write, Fetch}
 
 -- the hint that matches no key
 abbrev pub no_hint : Hint
 no_hint = record { key = 2 ^ 64 - 1; pa = 0 }
-
-abbrev pub no_fetch : FetchHint
-no_fetch = record { some = false; page = 0; level = 0; pa = 0 }
 
 -- the address of an address's page
 abbrev pub page_of : ℕ → ℕ
@@ -41,10 +38,11 @@ abbrev pub hint_found : Hint → ℕ → ℕ → Option ℕ
 hint_found h level va = if h.key == hint_key va level then Some (on_page h.pa va) else None
 
 abbrev pub fetch_for : ℕ → ℕ → ℕ → FetchHint
-fetch_for va level pa = record { some = true; page = page_of va; level = level; pa = page_of pa }
+fetch_for va level pa = record { page = page_of va; level = level; pa = page_of pa }
 
 abbrev pub fetch_serves : FetchHint → ℕ → ℕ → Bool
-fetch_serves f level va = (f.some && f.page == page_of va) && f.level == level
+fetch_serves f level va = f.page == page_of va && f.level == level
 
-abbrev pub fetch_found : FetchHint → ℕ → ℕ → Option ℕ
-fetch_found f level va = if fetch_serves f level va then Some (on_page f.pa va) else None
+abbrev pub fetch_found : Option FetchHint → ℕ → ℕ → Option ℕ
+fetch_found None level va = None
+fetch_found (Some f) level va = if fetch_serves f level va then Some (on_page f.pa va) else None

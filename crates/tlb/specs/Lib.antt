@@ -5,14 +5,11 @@ pub mod Hint
 pub mod Count
 pub mod Access
 pub mod Lists
-pub mod Cache
 pub mod Tlb
-pub mod Resolve
 pub mod Translate
 pub mod Model
 pub mod Live
 pub mod Cells
-pub mod Step
 pub mod Hand
 pub mod Asks
 pub mod Maintenance

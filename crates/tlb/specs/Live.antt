@@ -6,10 +6,10 @@ use Rattle.tlb.specs.Entry.{blank}
 use Rattle.tlb.specs.Hint.{no_hint}
 use Rattle.tlb.specs.Count.{tally_at}
 use Rattle.tlb.specs.Lists.{Each}
-use Rattle.tlb.specs.Model.{Slot, empty, holds, Line, Known, Counters, Model, Outcome, reach_of}
+use Rattle.tlb.specs.Model.{Slot, empty, holds, Line, Known, Counters, Model, reach_of}
 use Rattle.tlb.specs.declared.{entry.Entry.Entry, hint.Hint.Hint, hint.FetchHint.FetchHint}
-use Rattle.tlb.specs.Answers.{Answer}
-use Rattle.tlb.specs.declared.{count.Counts.Counts, cache.Cache.Cache, Tlb.Tlb, Inval.Inval}
+use Rattle.tlb.specs.Answers.{Outcome}
+use Rattle.tlb.specs.declared.{Tlb.Tlb, Inval.Inval}
 use Rattle.walk.specs.Answers.{Walked}
 
 -- what an entry says of its page, in the regime r
@@ -39,8 +39,9 @@ line_of g e = if e.generation == g then tagged (e.tag % 4) e else empty
 unfoldable pub hint_of : Hint → Slot Known
 hint_of h = if nat_le (h.key % 4096) 3 then holds (record { page = h.key / 4096; level = h.key % 4096; frame = h.pa / 4096 }) else empty
 
-unfoldable pub fetch_hint_of : FetchHint → Slot Known
-fetch_hint_of f = if f.some then holds (record { page = f.page / 4096; level = f.level; frame = f.pa / 4096 }) else empty
+unfoldable pub fetch_hint_of : Option FetchHint → Slot Known
+fetch_hint_of None = empty
+fetch_hint_of (Some f) = holds (record { page = f.page / 4096; level = f.level; frame = f.pa / 4096 })
 
 abbrev pub pending_of : Option Inval → Slot Inval
 pending_of None = empty
@@ -52,24 +53,24 @@ lines_of g es i = line_of g (slice_index_or es i blank)
 unfoldable pub hints_of : List Hint → ℕ → Slot Known
 hints_of hs i = hint_of (slice_index_or hs i no_hint)
 
-abbrev pub counters_of : Counts → Counters
-counters_of k =
+abbrev pub counters_of : Tlb → Counters
+counters_of t =
     record {
-      hits = λ l. (tally_at k l).hits;
-      walks = λ l. (tally_at k l).walks;
-      flushes = k.flushes;
-      drops = k.drops;
-      epoch = k.epoch;
+      hits = λ l. (tally_at t l).hits;
+      walks = λ l. (tally_at t l).walks;
+      flushes = t.flushes;
+      drops = t.drops;
+      epoch = t.epoch;
     }
 
 abbrev pub live : Tlb → Model
 live t =
     record {
-      asid = t.cache.current.asid;
-      lines = lines_of t.cache.current.generation t.cache.entries;
-      hints = hints_of t.cache.hints;
-      fetch = fetch_hint_of t.cache.fetch;
-      counts = counters_of t.counts;
+      asid = t.asid;
+      lines = lines_of t.generation t.entries;
+      hints = hints_of t.hints;
+      fetch = fetch_hint_of t.fetch;
+      counts = counters_of t;
       pending = pending_of t.broadcast;
     }
 
@@ -82,27 +83,26 @@ pub record Made (g : ℕ) (e : Entry) : Type 0 where
 abbrev pub Aligned : Hint → Type 0
 Aligned h = h.pa % 4096 ≡ 0
 
-pub record Sound (c : Cache) : Type 0 where
-  pub first : 1 ≤ c.current.generation
-  pub last : c.current.generation < 2 ^ 32
-  pub slots : length c.entries ≡ 1024
-  pub places : length c.hints ≡ 512
-  pub entries : Each (Made c.current.generation) c.entries
-  pub hints : Each Aligned c.hints
-  pub fetch-page : c.fetch.page % 4096 ≡ 0
-  pub fetch-pa : c.fetch.pa % 4096 ≡ 0
+abbrev pub FetchAligned : Option FetchHint → Type 0
+FetchAligned None = Unit {0}
+FetchAligned (Some f) = (f.page % 4096 ≡ 0) × (f.pa % 4096 ≡ 0)
 
--- and counters of four levels
 pub record WellFormed (t : Tlb) : Type 0 where
-  pub cache : Sound t.cache
-  pub levels : length t.counts.levels ≡ 4
+  pub first : 1 ≤ t.generation
+  pub last : t.generation < 2 ^ 32
+  pub slots : length t.entries ≡ 1024
+  pub places : length t.hints ≡ 512
+  pub levels : length t.levels ≡ 4
+  pub entries : Each (Made t.generation) t.entries
+  pub hints : Each Aligned t.hints
+  pub fetch : FetchAligned t.fetch
 
 -- a leaf that the walk ends in is of level 3 at most
 abbrev pub LeafLevel : Walked → Type 0
 LeafLevel w = (leaf : Leaf) → w ≡ Ok leaf → leaf.level ≤ 3
 
 -- an answer and the cache that is left are those of the plain model
-pub record Follows (answered : Answer) (u : Tlb) (o : Outcome) : Type 0 where
-  pub answer : answered ≡ o.answer
-  pub after : live u ≡ o.after
-  pub well : WellFormed u
+pub record Follows (code : Outcome Tlb) (model : Outcome Model) : Type 0 where
+  pub answer : code.answer ≡ model.answer
+  pub after : live code.after ≡ model.after
+  pub well : WellFormed code.after

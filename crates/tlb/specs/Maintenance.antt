@@ -13,7 +13,7 @@ unfoldable pub reshaped_of : Tlb → Bool → Tlb
 reshaped_of t same = if same then t else flush_of t
 
 unfoldable pub retagged_of : Tlb → ℕ → Tlb
-retagged_of t asid = if t.cache.current.asid == asid then t else retag_of t asid
+retagged_of t asid = if t.asid == asid then t else retag_of t asid
 
 abbrev pub refit_by : Tlb → Bool → ℕ → Tlb
 refit_by t same asid = retagged_of (reshaped_of t same) asid

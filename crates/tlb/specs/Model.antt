@@ -6,7 +6,7 @@ use Rattle.fault.specs.First.{first}
 use Rattle.walk.specs.declared.{regime.Regime.Regime, level.Leaf.Leaf}
 use Rattle.walk.specs.declared.regime.Regime.TheVariants.{El1, El2, El3}
 use Rattle.tlb.specs.declared.{access.Kind.Kind, access.Privilege.Privilege, Inval.Inval}
-use Rattle.tlb.specs.Answers.{Answer}
+use Rattle.tlb.specs.Answers.{Answer, Outcome}
 use Rattle.tlb.specs.declared.access.Kind.TheVariants.{Read, Write, Fetch}
 use Rattle.tlb.specs.declared.Inval.TheVariants.{All, Page, Asid}
 use Rattle.walk.specs.Answers.{Walked}
@@ -239,10 +239,6 @@ pub record Access : Type 0 where
   pub untagged : ℕ
   pub walk : Walked
 
-pub record Outcome : Type 0 where
-  pub answer : Answer
-  pub after : Model
-
 -- the physical page with the address's low twelve bits
 abbrev pub address_in : ℕ → ℕ → Answer
 address_in frame va = Ok (frame * 4096 + va % 4096)
@@ -289,7 +285,7 @@ line_of_leaf leaf a asid =
 
 -- a walk counts one at the level of the access, which the mark does not lower; a leaf is kept and judged; a fault is the answer and leaves no
 -- line
-unfoldable pub walked : Walked → Access → Model → Outcome
+unfoldable pub walked : Walked → Access → Model → Outcome Model
 walked (Err code) a m = record { answer = Err (first code); after = counting (one_walk a.privilege.level) m }
 walked (Ok leaf) a m =
     record {
@@ -298,12 +294,12 @@ walked (Ok leaf) a m =
     }
 
 -- a line that serves is a hit at that level; where none does, the page is walked
-unfoldable pub looked : Slot Line → Access → Model → Outcome
+unfoldable pub looked : Slot Line → Access → Model → Outcome Model
 looked (holds l) a m = record { answer = judge l a; after = counting (one_hit a.privilege.level) m }
 looked empty a m = walked a.walk a m
 
 -- with stage 1 off the answer is the address itself
-unfoldable pub unhinted : Bool → Access → Model → Outcome
+unfoldable pub unhinted : Bool → Access → Model → Outcome Model
 unhinted true a m = looked (line_for m a.regime (a.untagged / 4096)) a m
 unhinted false a m = record { answer = Ok a.va; after = m }
 
@@ -315,15 +311,15 @@ abbrev pub noting : Answer → Access → Model → Model
 noting (Ok pa) a m = keep_hint (hint_place a.kind a.va) (known_of a pa) m
 noting (Err f) a m = m
 
-unfoldable pub noted : Access → Outcome → Outcome
+unfoldable pub noted : Access → Outcome Model → Outcome Model
 noted a o = record { answer = o.answer; after = noting o.answer a o.after }
 
 -- a hint answers and changes nothing
-unfoldable pub tried : Slot ℕ → Access → Model → Outcome
+unfoldable pub tried : Slot ℕ → Access → Model → Outcome Model
 tried (holds frame) a m = record { answer = address_in frame a.va; after = m }
 tried empty a m = noted a (unhinted a.on a m)
 
-unfoldable pub hinted : Bool → Access → Model → Outcome
+unfoldable pub hinted : Bool → Access → Model → Outcome Model
 hinted true a m = tried (knowing (a.va / 4096) a.privilege.level (m.hints (hint_place a.kind a.va))) a m
 hinted false a m = unhinted a.on a m
 
@@ -333,7 +329,7 @@ hintable Read mark = not mark
 hintable Write mark = not mark
 hintable Fetch mark = false
 
-unfoldable pub translate : Access → Model → Outcome
+unfoldable pub translate : Access → Model → Outcome Model
 translate a m = hinted (hintable a.kind a.privilege.unprivileged) a m
 
 -- a fetch asks the fetch hint first, whatever the mark, and leaves one
@@ -341,12 +337,12 @@ abbrev pub noting_fetch : Answer → Access → Model → Model
 noting_fetch (Ok pa) a m = keep_fetch (known_of a pa) m
 noting_fetch (Err f) a m = m
 
-unfoldable pub noted_fetch : Access → Outcome → Outcome
+unfoldable pub noted_fetch : Access → Outcome Model → Outcome Model
 noted_fetch a o = record { answer = o.answer; after = noting_fetch o.answer a o.after }
 
-unfoldable pub fetched : Slot ℕ → Access → Model → Outcome
+unfoldable pub fetched : Slot ℕ → Access → Model → Outcome Model
 fetched (holds frame) a m = record { answer = address_in frame a.va; after = m }
 fetched empty a m = noted_fetch a (unhinted a.on a m)
 
-unfoldable pub fetch : Access → Model → Outcome
+unfoldable pub fetch : Access → Model → Outcome Model
 fetch a m = fetched (knowing (a.va / 4096) a.privilege.level m.fetch) a m

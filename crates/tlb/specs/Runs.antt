@@ -4,7 +4,7 @@ use Rattle.std.specs.Prelude.{◌≡◌, ℕ, ◌≤◌, List, [], ◌∷◌}
 use Rattle.tlb.specs.Tlb.{invalidate_of, retag_of, broadcast_of}
 use Rattle.tlb.specs.Model.{Slot, empty, holds, Counters, Model, invalidate, retag, broadcast, Access, translate, fetch}
 use Rattle.tlb.specs.Live.{counters_of, pending_of, LeafLevel}
-use Rattle.tlb.specs.Step.{translation_in, tlb_after, fetch_in, fetched_in}
+use Rattle.tlb.specs.Translate.{translation_in, tlb_after, fetch_in, fetched_in}
 use Rattle.tlb.specs.declared.{Tlb.Tlb, Inval.Inval}
 use Rattle.tlb.specs.Answers.{Answer}
 use Rattle.tlb.specs.declared.access.Kind.TheVariants.{Fetch}
@@ -47,7 +47,7 @@ answer_of (translates a) t = holds (translation_in a t).answer
 answer_of (fetches a) t = holds (fetch_in a t).answer
 
 abbrev pub seen_of : Op → Tlb → Seen
-seen_of o t = record { answer = answer_of o t; counts = counters_of (after_op o t).counts; pending = pending_of (after_op o t).broadcast }
+seen_of o t = record { answer = answer_of o t; counts = counters_of (after_op o t); pending = pending_of (after_op o t).broadcast }
 
 unfoldable pub run : List Op → Tlb → List Seen
 run [] t = []

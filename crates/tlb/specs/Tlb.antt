@@ -1,43 +1,79 @@
 -- What each operation of the cache does, on the code's own types.
-use Rattle.std.specs.Prelude.{if◌then◌else◌, ℕ, Bool, true, false, ◌==◌, Option, Some, None}
-use Rattle.tlb.specs.Entry.{slot_of, serves, stamped}
-use Rattle.tlb.specs.Count.{no_counts, epoch_counted, flush_counted, drop_counted}
-use Rattle.tlb.specs.Cache.{empty_cache, entry_at, set_entry, flushed, without_page, without_asid, retagged}
-use Rattle.tlb.specs.declared.{entry.Entry.Entry, cache.Cache.Cache, count.Counts.Counts, Tlb.Tlb, Inval.Inval}
+use Rattle.std.specs.Prelude.{if◌then◌else◌, ℕ, ◌+◌, ◌%◌, ◌^◌, Bool, true, false, ◌==◌, List, map, replicate, Option, Some, None, slice_index_or, slice_set}
+use Rattle.tlb.specs.Count.{more, no_tallies}
+use Rattle.tlb.specs.Entry.{blank, slot_of, serves, stamped, page_dropped, asid_dropped}
+use Rattle.tlb.specs.Hint.{no_hint}
+use Rattle.tlb.specs.declared.{entry.Entry.Entry, hint.Hint.Hint, Tlb.Tlb, Inval.Inval}
 use Rattle.tlb.specs.declared.Inval.TheVariants.{All, Page, Asid}
 
+unfoldable pub blanks : List Entry
+blanks = replicate 1024 blank
+
+unfoldable pub no_hints : List Hint
+no_hints = replicate 512 no_hint
+
 abbrev pub fresh : Tlb
-fresh = record { cache = empty_cache; counts = no_counts; broadcast = None }
+fresh =
+    record {
+      generation = 1;
+      asid = 0;
+      entries = blanks;
+      fetch = None;
+      hints = no_hints;
+      levels = no_tallies;
+      flushes = 0;
+      drops = 0;
+      epoch = 0;
+      broadcast = None;
+    }
+
+abbrev pub entry_at : Tlb → ℕ → Entry
+entry_at t i = slice_index_or t.entries i blank
+
+abbrev pub hint_at : Tlb → ℕ → Hint
+hint_at t i = slice_index_or t.hints i no_hint
+
+-- ENTRIES
 
 -- the entry in the slot of the tag, where it answers for it
 unfoldable pub get_of : Tlb → ℕ → Option Entry
-get_of t tag =
-    if serves (entry_at t.cache (slot_of tag)) t.cache.current tag then Some (entry_at t.cache (slot_of tag)) else None
-
--- another cache and other counters; what is pending stays
-abbrev pub tlb_with : Tlb → Cache → Counts → Tlb
-tlb_with t c k = record { cache = c; counts = k; broadcast = t.broadcast }
+get_of t tag = if serves (entry_at t (slot_of tag)) t tag then Some (entry_at t (slot_of tag)) else None
 
 -- into its slot, in the present generation
 unfoldable pub put_of : Tlb → Entry → Tlb
-put_of t e = tlb_with t (set_entry t.cache (slot_of e.tag) (stamped e t.cache.current.generation)) t.counts
+put_of t e = record t { entries = slice_set t.entries (slot_of e.tag) (stamped e t.generation) }
 
+-- INVALIDATIONS: each empties all hints, which the epoch counts
+
+abbrev pub hintless : Tlb → Tlb
+hintless t = record t { fetch = None; hints = no_hints; epoch = more t.epoch }
+
+-- the generation wraps at 2^32
+abbrev pub next_generation : ℕ → ℕ
+next_generation g = (g + 1) % 2 ^ 32
+
+-- all out: the next generation; where it wraps, the entries are cleared and it is 1
 unfoldable pub flush_of : Tlb → Tlb
-flush_of t = tlb_with t (flushed t.cache) (flush_counted t.counts)
+flush_of t =
+    if next_generation t.generation == 0
+    then record (hintless t) { flushes = more t.flushes; generation = 1; entries = blanks }
+    else record (hintless t) { flushes = more t.flushes; generation = next_generation t.generation }
 
 unfoldable pub drop_page_of : Tlb → ℕ → Tlb
-drop_page_of t page = tlb_with t (without_page t.cache page) (drop_counted t.counts)
+drop_page_of t page = record (hintless t) { drops = more t.drops; entries = map (page_dropped t.generation page) t.entries }
 
 unfoldable pub retag_of : Tlb → ℕ → Tlb
-retag_of t n = tlb_with t (retagged t.cache n) (epoch_counted t.counts)
+retag_of t n = record (hintless t) { asid = n }
 
 unfoldable pub drop_asid_of : Tlb → ℕ → Tlb
-drop_asid_of t n = tlb_with t (without_asid t.cache n) (epoch_counted t.counts)
+drop_asid_of t n = retag_of (record t { entries = map (asid_dropped n) t.entries }) t.asid
 
 unfoldable pub invalidate_of : Tlb → Inval → Tlb
 invalidate_of t All = flush_of t
 invalidate_of t (Page page) = drop_page_of t page
 invalidate_of t (Asid n) = drop_asid_of t n
+
+-- WHAT IS PENDING
 
 abbrev pub same_inval : Inval → Inval → Bool
 same_inval All All = true

@@ -1,88 +1,108 @@
--- One translation over small values, for any walk: the hint, or the changes of a translation that no hint serves, applied.
-use Rattle.std.specs.Prelude.{if◌then◌else◌, ℕ, Bool, ◌&&◌, ◌==◌, Option, Some, None, Ok}
+-- One translation as a step of the cache: by its hint, by the entry of its page, by a walk; and what it leaves.
+use Rattle.std.specs.Prelude.{if◌then◌else◌, ℕ, Option, Some, None, slice_set, Ok, Err}
+use Rattle.fault.specs.First.{first}
+use Rattle.walk.specs.Answers.{Walked}
 use Rattle.walk.specs.Regime.{stage1_on, regime_of}
 use Rattle.walk.specs.Tag.{untagged}
 use Rattle.walk.specs.Walk.{walk_of}
-use Rattle.walk.specs.declared.{regime.Regime.Regime, regime.Bank.Bank}
-use Rattle.tlb.specs.Access.{may_hint}
-use Rattle.tlb.specs.Hint.{on_page, hint_key, fetch_found}
-use Rattle.tlb.specs.Resolve.{query_of, by_itself, resolve_with, counted_by, kept_by, hint_after, fetch_after}
-use Rattle.tlb.specs.declared.{entry.Entry.Entry, entry.Current.Current, access.Kind.Kind, hint.Hint.Hint}
-use Rattle.tlb.specs.declared.{hint.FetchHint.FetchHint, count.Counts.Counts}
-use Rattle.tlb.specs.declared.{access.Privilege.Privilege}
-use Rattle.tlb.specs.declared.resolve.Resolved.{Resolved}
-use Rattle.tlb.specs.declared.access.Kind.TheVariants.{Fetch}
-use Rattle.tlb.specs.Answers.{Answer}
-use Rattle.tlb.specs.declared.resolve.Source.{Source}
-use Rattle.tlb.specs.declared.resolve.Source.TheVariants.{FromHint}
-use Rattle.walk.specs.Answers.{Walked}
+use Rattle.walk.specs.declared.regime.Bank.{Bank}
+use Rattle.tlb.specs.Access.{tag_of, may_hint, user_of, judged}
+use Rattle.tlb.specs.Answers.{Answer, Outcome}
+use Rattle.tlb.specs.Count.{hit_counted, walk_counted}
+use Rattle.tlb.specs.Entry.{entry_for}
+use Rattle.tlb.specs.Hint.{data_slot, hint_for, hint_found, fetch_for, fetch_found}
+use Rattle.tlb.specs.Model.{Access}
+use Rattle.tlb.specs.Tlb.{hint_at, get_of, put_of}
+use Rattle.tlb.specs.declared.{access.Kind.Kind, access.Privilege.Privilege, access.Request.Request, entry.Entry.Entry, Tlb.Tlb}
 
--- what a translation leaves, its answer, and where that came from
-pub record Translation : Type 0 where
-  pub counts : Counts
-  pub hint : Hint
-  pub entry : Entry
-  pub answer : Answer
-  pub source : Source
-
--- the same of the translation that a fetch begins with
-pub record FetchTranslation : Type 0 where
-  pub counts : Counts
-  pub fetch : FetchHint
-  pub entry : Entry
-  pub answer : Answer
-  pub source : Source
-
--- without a hint: with stage 1 off the address itself
-unfoldable pub miss_with : Bool → ℕ → Walked → Regime → Privilege → Current → Entry → ℕ → Kind → Resolved
-miss_with on page w r privilege at e va kind = if on then resolve_with w (query_of r page) privilege at e va kind else by_itself va
-
--- the changes applied to the counters, the hint and the entry
-unfoldable pub applied : Resolved → Bool → ℕ → Counts → Hint → Entry → ℕ → Translation
-applied t hinted level k h e va =
+-- the access that registers and tables make of an address
+abbrev pub access_of : Bank → Privilege → ℕ → Kind → (ℕ → Option ℕ) → Access
+access_of s privilege va kind memory =
     record {
-      counts = counted_by t.source level k;
-      hint = hint_after hinted level va t.answer h;
-      entry = kept_by t.source e t.made;
-      answer = t.answer;
-      source = t.source;
+      privilege = privilege;
+      kind = kind;
+      va = va;
+      on = stage1_on s (regime_of privilege.level);
+      regime = regime_of privilege.level;
+      untagged = untagged s.tcr (regime_of privilege.level) va;
+      walk = walk_of s (regime_of privilege.level) (untagged s.tcr (regime_of privilege.level) va) memory;
     }
 
--- A translation, of: whether stage 1 is on, the untagged address, its walk, the regime, who asks, the cache's generation and ASID, the
--- counters, the hint and the entry that the address may use, the address, the kind. The hint comes first, where it may serve.
-unfoldable pub translation_with : Bool → ℕ → Walked → Regime → Privilege → Current → Counts → Hint → Entry → ℕ → Kind → Translation
-translation_with on page w r privilege at k h e va kind =
-    if may_hint privilege kind && h.key == hint_key va privilege.level
-    then record { counts = k; hint = h; entry = e; answer = Ok (on_page h.pa va); source = FromHint }
-    else applied (miss_with on page w r privilege at e va kind) (may_hint privilege kind) privilege.level k h e va
+abbrev pub asked : Request → (ℕ → Option ℕ) → Access
+asked a memory = access_of a.bank a.privilege a.va a.kind memory
 
--- the same with the fetch hint
-unfoldable pub fetch_applied : Resolved → ℕ → Counts → FetchHint → Entry → ℕ → FetchTranslation
-fetch_applied t level k f e va =
+abbrev pub tag_in : Access → ℕ
+tag_in a = tag_of a.regime a.untagged
+
+abbrev pub judged_in : Access → Entry → Answer
+judged_in a e = judged e (user_of a.regime a.privilege a.kind) a.kind a.va
+
+-- WITHOUT A HINT
+
+-- by a walk: a leaf becomes an entry and is judged; a fault makes none
+unfoldable pub walked_in : Walked → Access → Tlb → Outcome Tlb
+walked_in (Ok leaf) a t =
     record {
-      counts = counted_by t.source level k;
-      fetch = fetch_after level va t.answer f;
-      entry = kept_by t.source e t.made;
-      answer = t.answer;
-      source = t.source;
+      answer = judged_in a (entry_for leaf t.asid (tag_in a));
+      after = put_of (walk_counted a.privilege.level t) (entry_for leaf t.asid (tag_in a));
     }
+walked_in (Err code) a t = record { answer = Err (first code); after = walk_counted a.privilege.level t }
 
-unfoldable pub fetch_end : Option ℕ → Bool → ℕ → Walked → Regime → Privilege → Current → Counts → FetchHint → Entry → ℕ → FetchTranslation
-fetch_end (Some pa) on page w r privilege at k f e va =
-    record { counts = k; fetch = f; entry = e; answer = Ok pa; source = FromHint }
-fetch_end None on page w r privilege at k f e va = fetch_applied (miss_with on page w r privilege at e va Fetch) privilege.level k f e va
+-- by the entry that serves; else by a walk
+abbrev pub looked_in : Option Entry → Access → Tlb → Outcome Tlb
+looked_in (Some e) a t = record { answer = judged_in a e; after = hit_counted a.privilege.level t }
+looked_in None a t = walked_in a.walk a t
 
--- the translation that a fetch begins with: the fetch hint first, whatever the mark
-unfoldable pub fetch_with : Bool → ℕ → Walked → Regime → Privilege → Current → Counts → FetchHint → Entry → ℕ → FetchTranslation
-fetch_with on page w r privilege at k f e va = fetch_end (fetch_found f privilege.level va) on page w r privilege at k f e va
+-- with stage 1 off the address itself
+unfoldable pub miss_in : Access → Tlb → Outcome Tlb
+miss_in a t = if a.on then looked_in (get_of t (tag_in a)) a t else record { answer = Ok a.va; after = t }
 
--- the same with what the registers say, and their own walk of the untagged address
-module _ (s : Bank) (level va : ℕ) where
-  abbrev pub on_now : Bool
-  on_now = stage1_on s (regime_of level)
+-- BY A HINT
 
-  abbrev pub untagged_now : ℕ
-  untagged_now = untagged s.tcr (regime_of level) va
+-- where the hint of an access sends it, if it may serve
+abbrev pub hint_in : Privilege → ℕ → Kind → Tlb → Option ℕ
+hint_in privilege va kind t = if may_hint privilege kind then hint_found (hint_at t (data_slot va kind)) privilege.level va else None
 
-  abbrev pub walk_now : (ℕ → Option ℕ) → Walked
-  walk_now memory = walk_of s (regime_of level) untagged_now memory
+-- an address that was allowed becomes a hint, where one may serve
+abbrev pub hint_left : Privilege → ℕ → Kind → Answer → Tlb → Tlb
+hint_left privilege va kind (Ok pa) t =
+    if may_hint privilege kind then record t { hints = slice_set t.hints (data_slot va kind) (hint_for va privilege.level pa) } else t
+hint_left privilege va kind (Err f) t = t
+
+-- a translation that no hint serves, with the hint that it leaves
+abbrev pub noted_in : Access → Outcome Tlb → Outcome Tlb
+noted_in a o = record { answer = o.answer; after = hint_left a.privilege a.va a.kind o.answer o.after }
+
+abbrev pub past_hint_in : Access → Tlb → Outcome Tlb
+past_hint_in a t = noted_in a (miss_in a t)
+
+-- the hint first
+abbrev pub tried_in : Option ℕ → Access → Tlb → Outcome Tlb
+tried_in (Some pa) a t = record { answer = Ok pa; after = t }
+tried_in None a t = past_hint_in a t
+
+abbrev pub translation_in : Access → Tlb → Outcome Tlb
+translation_in a t = tried_in (hint_in a.privilege a.va a.kind t) a t
+
+abbrev pub tlb_after : Access → Tlb → Tlb
+tlb_after a t = (translation_in a t).after
+
+-- BY THE FETCH HINT, whatever the mark
+
+-- an address that a fetch was allowed becomes the fetch hint
+abbrev pub fetch_left : ℕ → ℕ → Answer → Tlb → Tlb
+fetch_left level va (Ok pa) t = record t { fetch = Some (fetch_for va level pa) }
+fetch_left level va (Err f) t = t
+
+abbrev pub fetch_noted : Access → Outcome Tlb → Outcome Tlb
+fetch_noted a o = record { answer = o.answer; after = fetch_left a.privilege.level a.va o.answer o.after }
+
+abbrev pub fetch_tried : Option ℕ → Access → Tlb → Outcome Tlb
+fetch_tried (Some pa) a t = record { answer = Ok pa; after = t }
+fetch_tried None a t = fetch_noted a (miss_in a t)
+
+abbrev pub fetch_in : Access → Tlb → Outcome Tlb
+fetch_in a t = fetch_tried (fetch_found t.fetch a.privilege.level a.va) a t
+
+abbrev pub fetched_in : Access → Tlb → Tlb
+fetched_in a t = (fetch_in a t).after

@@ -1,95 +1,92 @@
 // An access: what it wants, who makes it, what it needs, and its answer.
 ghost use Rattle.std.specs.Prelude.{◌≡◌, ◌≤◌};
-ghost use Rattle.tlb.specs.Access.{is_fetch, may_hint, regime_number, tag_of, user_of, right_of, judged};
+ghost use Rattle.tlb.specs.Access.{is_fetch, may_hint, tag_of, user_of, right_of, judged};
 
 use crate::entry::Entry;
 use crate::hint;
 use fault::Fault;
-use walk::regime::Regime;
+use walk::regime::{Bank, Regime};
 
+/// What an access wants.
 #[derive(Clone, Copy, PartialEq, Eq)]
 pub enum Kind {
-    Read,
-    Write,
-    Fetch,
+    Read = 1,
+    Write = 2,
+    Fetch = 4,
 }
 
-// The exception level, and whether accesses count as EL0's.
+/// The exception level, and whether loads and stores count as EL0's.
 #[derive(Clone, Copy)]
 pub struct Privilege {
     pub level: u8,
     pub unprivileged: bool,
 }
 
-fn regime_number(regime: Regime) -> u64
-    ensures value { result ≡ regime_number regime }
-    ensures upper_bound { result ≤ 3 }
-{
-    match regime {
-        Regime::El1 => 1,
-        Regime::El2 => 2,
-        Regime::El3 => 3,
-    }
+/// Who asks for what, and the registers of the level's regime.
+#[derive(Clone, Copy)]
+pub struct Request {
+    pub bank: Bank,
+    pub privilege: Privilege,
+    pub va: u64,
+    pub kind: Kind,
 }
 
-// The tag of the page of an untagged address.
+/// The tag of the page of an untagged address.
 pub fn tag_of(regime: Regime, va: u64) -> u64
     ensures { result ≡ tag_of regime va }
 {
-    va / 4096 * 4 + regime_number(regime)
-}
-
-impl Kind {
-    fn is_fetch(self) -> bool
-        ensures { result ≡ is_fetch self }
-    {
-        self == Kind::Fetch
-    }
+    let number = match regime {
+        Regime::El1 => 1,
+        Regime::El2 => 2,
+        Regime::El3 => 3,
+    };
+    (va >> 12) << 2 | number
 }
 
 impl Privilege {
-    // Whether a data hint may serve the access.
+    /// Whether a data hint may serve the access.
     pub fn may_hint(self, kind: Kind) -> bool
         ensures { result ≡ may_hint self kind }
     {
-        !kind.is_fetch() && !self.unprivileged
+        kind != Kind::Fetch && !self.unprivileged
     }
 
-    // Whether the access is judged by EL0's rights: in the EL1&0 regime EL0's own, and data accesses that count as its.
+    /// Whether the access is judged by EL0's rights: in the EL1&0 regime EL0's own, and data accesses that count as its.
     pub fn is_user(self, regime: Regime, kind: Kind) -> bool
         ensures { result ≡ user_of regime self kind }
     {
-        match regime {
-            Regime::El1 => self.level == 0 || (self.unprivileged && !kind.is_fetch()),
-            Regime::El2 | Regime::El3 => false,
-        }
+        regime == Regime::El1 && (self.level == 0 || (self.unprivileged && kind != Kind::Fetch))
     }
 }
 
-// The bit among an entry's rights that the access needs: EL0's come first, then the regime's own.
+// The rights of the regime's own level stand above EL0's.
+const PRIV: u8 = 3;
+
+// With the table level in bits 0 and 1.
+const FSC_PERMISSION: u8 = 0x0C;
+
+/// The bit among an entry's rights that the access needs.
 pub fn right_of(kind: Kind, user: bool) -> u8
     ensures value { result ≡ right_of kind user }
     ensures upper_bound { result ≤ 5 }
 {
-    let own = if user { 0 } else { 3 };
     let place = match kind {
         Kind::Read => 0,
         Kind::Write => 1,
         Kind::Fetch => 2,
     };
-    own + place
+    place + if user { 0 } else { PRIV }
 }
 
 impl Entry {
-    // The entry's page, if it has the right that the access needs.
+    /// Where va lies on the entry's page, or a permission fault of the entry's level.
     #[tactic(auto, unfolding(crate::specs::Access::judged))]
     pub fn judge(&self, user: bool, kind: Kind, va: u64) -> Result<u64, Fault>
         ensures { result ≡ judged self.now user kind va }
     {
-        if (self.perms >> right_of(kind, user)) % 2 == 1 {
-            Ok(hint::on_page(self.pa, va))
-        } else {
-            Err(fault::first(12 | self.level))
+        if self.perms >> right_of(kind, user) & 1 == 0 {
+            return Err(fault::first(FSC_PERMISSION | self.level));
         }
+        Ok(hint::on_page(self.pa, va))
     }
 }

@@ -1,117 +1,102 @@
 #![tactic(auto)]
-// The cache of stage 1: what walks found, the hints of recent accesses, the counters, and what other cores are to drop.
-ghost use Rattle.std.specs.Prelude.{◌≡◌};
-ghost use Rattle.tlb.specs.Tlb.{fresh, get_of, put_of, flush_of, drop_page_of, drop_asid_of, invalidate_of, retag_of};
-ghost use Rattle.tlb.specs.Tlb.{pending_after, broadcast_of};
+// The TLB of stage 1: what walks found, the hints of recent accesses, the counters, and what other cores are to drop.
+ghost use Rattle.std.specs.Prelude.{◌≡◌, ◌<◌};
+ghost use Rattle.tlb.specs.Entry.{slot_of};
+ghost use Rattle.tlb.specs.Tlb.{fresh, get_of, put_of, hintless, flush_of, drop_page_of, drop_asid_of};
+ghost use Rattle.tlb.specs.Tlb.{retag_of, invalidate_of, pending_after, broadcast_of};
 
-use cache::Cache;
-use count::Counts;
+use count::Tally;
 use entry::Entry;
+use hint::{FetchHint, Hint, NO_HINT};
 
 pub mod access;
-pub mod cache;
 pub mod count;
 pub mod entry;
 pub mod hint;
-pub mod resolve;
 pub mod theorems;
 pub mod translate;
 
-// What a TLBI drops. A page is VA[55:12]; an ASID's entries are those that are not global.
+const TLB_ENTRIES: usize = 1024;
+
+/// What a TLBI drops.
 #[derive(Clone, Copy, PartialEq, Eq)]
 pub enum Inval {
     All,
+    /// The 4 KiB page VA[55:12], in every regime and for every ASID.
     Page(u64),
+    /// What is not global, for this ASID.
     Asid(u16),
 }
 
+/// Each counter wraps at 2^64.
 #[derive(Clone, Copy)]
 pub struct Tlb {
-    pub cache: Cache,
-    pub counts: Counts,
-    // what the other cores are to drop
+    /// An entry of another generation answers for nothing.
+    pub generation: u32,
+    /// The EL1&0 regime's ASID.
+    pub asid: u16,
+    /// Direct-mapped by page.
+    pub entries: [Entry; TLB_ENTRIES],
+    /// The page of the last fetch.
+    pub fetch: Option<FetchHint>,
+    /// Pages of data, direct-mapped by page: for reads in the first half, for writes in the other.
+    pub hints: [Hint; 512],
+    /// Hits and walks of EL0 to EL3.
+    pub levels: [Tally; 4],
+    /// Whole flushes, and pages that a TLBI dropped.
+    pub flushes: u64,
+    pub drops: u64,
+    /// How often all hints were emptied.
+    pub epoch: u64,
+    /// Set by a broadcast TLBI: what the other cores' TLBs are to drop.
     pub broadcast: Option<Inval>,
 }
 
-// What is pending after a broadcast: the same stays, another makes it All.
-pub fn pending_after(pending: Option<Inval>, what: Inval) -> Option<Inval>
-    ensures { result ≡ pending_after pending what }
-{
-    match pending {
-        Some(earlier) if earlier != what => Some(Inval::All),
-        _ => Some(what),
-    }
-}
-
 impl Tlb {
+    /// Empty, as after reset.
+    #[tactic(auto, unfolding(crate::specs::Tlb::blanks, crate::specs::Tlb::no_hints, crate::specs::Count::no_tallies))]
     pub fn new() -> Self
         ensures { result ≡ fresh }
     {
         Tlb {
-            cache: Cache::new(),
-            counts: Counts::new(),
+            generation: 1,
+            asid: 0,
+            entries: [Entry::default(); TLB_ENTRIES],
+            fetch: None,
+            hints: [NO_HINT; 512],
+            levels: [Tally::default(); 4],
+            flushes: 0,
+            drops: 0,
+            epoch: 0,
             broadcast: None,
         }
     }
 
-    // The entry that answers for a tag.
-    #[tactic(auto, unfolding(crate::specs::Tlb::get_of))]
-    pub fn get(&self, tag: u64) -> Option<Entry>
-        ensures { result ≡ get_of self.now tag }
+    // Every hint out.
+    #[tactic(auto, unfolding(crate::specs::Tlb::no_hints))]
+    fn clear_hints(&mut self)
+        ensures { self.new ≡ hintless self.old }
     {
-        let e = self.cache.entries[entry::slot(tag)];
-        if e.serves(self.cache.current, tag) {
-            Some(e)
-        } else {
-            None
-        }
+        self.fetch = None;
+        self.hints = [NO_HINT; 512];
+        self.epoch = self.epoch.wrapping_add(1);
     }
 
-    // An entry goes to its slot, in the present generation.
-    #[tactic(auto, unfolding(crate::specs::Tlb::put_of))]
-    pub fn put(&mut self, e: Entry)
-        ensures { self.new ≡ put_of self.old e }
-    {
-        self.cache.entries[entry::slot(e.tag)] = e.stamped(self.cache.current.generation);
-    }
-
-    // Every entry and every hint out.
-    #[tactic(auto, unfolding(crate::specs::Tlb::flush_of))]
+    /// Everything out: the next generation. Where that count wraps, the entries are cleared and it is 1.
+    #[tactic(auto, unfolding(crate::specs::Tlb::flush_of, crate::specs::Tlb::blanks))]
     pub fn flush(&mut self)
         ensures { self.new ≡ flush_of self.old }
     {
-        self.cache.flush();
-        self.counts.add_flush();
+        self.flushes = self.flushes.wrapping_add(1);
+        self.clear_hints();
+        self.generation = self.generation.wrapping_add(1);
+        if self.generation == 0 {
+            self.entries = [Entry::default(); TLB_ENTRIES];
+            self.generation = 1;
+        }
     }
 
-    // What translates the page out, blocks that cover it included, and every hint.
-    #[tactic(auto, unfolding(crate::specs::Tlb::drop_page_of))]
-    pub fn drop_page(&mut self, page: u64)
-        ensures { self.new ≡ drop_page_of self.old page }
-    {
-        self.cache.drop_page(page);
-        self.counts.add_drop();
-    }
-
-    // What was walked for the ASID and is not global out, and every hint.
-    #[tactic(auto, unfolding(crate::specs::Tlb::drop_asid_of))]
-    pub fn drop_asid(&mut self, asid: u16)
-        ensures { self.new ≡ drop_asid_of self.old asid }
-    {
-        self.cache.drop_asid(asid);
-        self.counts.add_epoch();
-    }
-
-    // The ASID in force is now asid: the entries stay, every hint goes.
-    #[tactic(auto, unfolding(crate::specs::Tlb::retag_of))]
-    pub fn retag(&mut self, asid: u16)
-        ensures { self.new ≡ retag_of self.old asid }
-    {
-        self.cache.retag(asid);
-        self.counts.add_epoch();
-    }
-
-    // What a TLBI asks for.
+    /// What a TLBI asks for.
     #[tactic(auto, unfolding(crate::specs::Tlb::invalidate_of))]
     pub fn invalidate(&mut self, what: Inval)
         ensures { self.new ≡ invalidate_of self.old what }
@@ -123,11 +108,79 @@ impl Tlb {
         }
     }
 
-    // The other cores are to drop what too.
+    /// What translates the page VA[55:12] out, each block that covers it too, and every hint.
+    #[tactic(auto, using(crate::specs::Lists::sweep), unfolding(crate::specs::Tlb::drop_page_of))]
+    pub fn drop_page(&mut self, page: u64)
+        ensures { self.new ≡ drop_page_of self.old page }
+    {
+        self.drops = self.drops.wrapping_add(1);
+        let generation = self.generation;
+        for e in self.entries.iter_mut() {
+            e.drop_page(generation, page);
+        }
+        self.clear_hints();
+    }
+
+    /// Asks the other cores to drop it too, along with anything asked since they last looked: a second one that
+    /// differs makes it All.
     #[tactic(auto, unfolding(crate::specs::Tlb::broadcast_of))]
     pub fn broadcast(&mut self, what: Inval)
         ensures { self.new ≡ broadcast_of self.old what }
     {
-        self.broadcast = pending_after(self.broadcast, what);
+        let pending = self.broadcast;
+        self.broadcast = Some(match pending {
+            None => what,
+            Some(earlier) if earlier == what => what,
+            Some(_) => Inval::All,
+        });
+    }
+
+    fn slot(tag: u64) -> usize
+        ensures value { result ≡ slot_of tag }
+        ensures upper_bound { result < 1024 }
+    {
+        (tag >> 2) as usize & (TLB_ENTRIES - 1)
+    }
+
+    /// The entry that answers for a tag.
+    #[tactic(auto, unfolding(crate::specs::Tlb::get_of))]
+    pub fn get(&self, tag: u64) -> Option<Entry>
+        ensures { result ≡ get_of self.now tag }
+    {
+        let e = self.entries[Self::slot(tag)];
+        (e.tag == tag
+            && e.generation == self.generation
+            && (e.global || e.asid == self.asid)).then_some(e)
+    }
+
+    /// The EL1&0 regime's ASID is now asid: the entries stay, every hint goes.
+    #[tactic(auto, unfolding(crate::specs::Tlb::retag_of))]
+    pub fn retag(&mut self, asid: u16)
+        ensures { self.new ≡ retag_of self.old asid }
+    {
+        self.asid = asid;
+        self.clear_hints();
+    }
+
+    /// What is not global and was walked for asid out, and every hint.
+    #[tactic(auto, using(crate::specs::Lists::sweep), unfolding(crate::specs::Tlb::drop_asid_of, crate::specs::Tlb::retag_of))]
+    pub fn drop_asid(&mut self, asid: u16)
+        ensures { self.new ≡ drop_asid_of self.old asid }
+    {
+        for e in self.entries.iter_mut() {
+            e.drop_asid(asid);
+        }
+        self.retag(self.asid);
+    }
+
+    /// An entry into its slot, in the present generation.
+    #[tactic(auto, unfolding(crate::specs::Tlb::put_of))]
+    pub fn put(&mut self, e: Entry)
+        ensures { self.new ≡ put_of self.old e }
+    {
+        self.entries[Self::slot(e.tag)] = Entry {
+            generation: self.generation,
+            ..e
+        };
     }
 }

@@ -7,14 +7,13 @@ ghost use Rattle.tlb.specs.Live.{counters_of, live, WellFormed, LeafLevel, Follo
 ghost use Rattle.tlb.specs.Model.{Access, Counters, Model, empty_model, one_hit, one_walk};
 ghost use Rattle.tlb.specs.Model.{translate, fetch, invalidate, retag, broadcast};
 ghost use Rattle.tlb.specs.Runs.{Op, Fair, run, model_run};
-ghost use Rattle.tlb.specs.Step.{translation_in, tlb_after, fetch_in, fetched_in};
+ghost use Rattle.tlb.specs.Translate.{translation_in, tlb_after, fetch_in, fetched_in};
 ghost use Rattle.tlb.specs.Tlb.{fresh, flush_of, invalidate_of, retag_of, broadcast_of};
 ghost use Rattle.tlb.specs.Worked.{WorkedRun, WorkedAtLevels, WorkedSlots, WorkedCovers};
 ghost use Rattle.tlb.specs.Worked.{WorkedRights, WorkedFetches, WorkedPending};
 ghost use Rattle.tlb.specs.declared.Tlb.{Tlb};
 ghost use Rattle.tlb.specs.declared.Inval.{Inval};
 ghost use Rattle.tlb.specs.declared.Inval.TheVariants.{All};
-ghost use Rattle.tlb.specs.declared.count.Counts.{Counts};
 ghost use Rattle.tlb.specs.declared.access.Kind.TheVariants.{Fetch};
 
 // Each operation does to a well-formed cache what it does to the plain model: the same answer, the same counters, the
@@ -23,9 +22,9 @@ ghost use Rattle.tlb.specs.declared.access.Kind.TheVariants.{Fetch};
 pub fn refinement_of_the_model()
     ensures new { live fresh ≡ empty_model }
     ensures translation { (a : Access) (t : Tlb) → WellFormed t → LeafLevel a.walk → a.privilege.level ≤ 3
-        → Follows (translation_in a t).answer (tlb_after a t) (translate a (live t)) }
+        → Follows (translation_in a t) (translate a (live t)) }
     ensures fetch { (a : Access) (t : Tlb) → WellFormed t → LeafLevel a.walk → a.privilege.level ≤ 3
-        → a.kind ≡ Fetch → Follows (fetch_in a t).answer (fetched_in a t) (fetch a (live t)) }
+        → a.kind ≡ Fetch → Follows (fetch_in a t) (fetch a (live t)) }
     ensures flush { (t : Tlb) → WellFormed t → live (flush_of t) ≡ invalidate All (live t) }
     ensures invalidation { (t : Tlb) → WellFormed t → (what : Inval)
         → live (invalidate_of t what) ≡ invalidate what (live t) }
@@ -63,10 +62,10 @@ pub fn counters_of_translations()
         → how_translated a m ≡ how_translated b m → (translate a m).after.counts ≡ (translate b m).after.counts }
     ensures sums { (how : How) (level : ℕ) (k : Counters) → level ≤ 3
         → sums (how_counted how level k) ≡ rust_counted how (sums k) }
-    ensures hit { (k : Counts) → length k.levels ≡ 4 → (level : ℕ) → level ≤ 3
-        → counters_of (hit_counted level k) ≡ one_hit level (counters_of k) }
-    ensures walk { (k : Counts) → length k.levels ≡ 4 → (level : ℕ) → level ≤ 3
-        → counters_of (walk_counted level k) ≡ one_walk level (counters_of k) }
+    ensures hit { (t : Tlb) → length t.levels ≡ 4 → (level : ℕ) → level ≤ 3
+        → counters_of (hit_counted level t) ≡ one_hit level (counters_of t) }
+    ensures walk { (t : Tlb) → length t.levels ≡ 4 → (level : ℕ) → level ≤ 3
+        → counters_of (walk_counted level t) ≡ one_walk level (counters_of t) }
 {}
 
 // Worked runs, the same rows in numbers of the cache and of the plain model: a 2 MiB block and its invalidations,

@@ -1,59 +1,24 @@
-// One translation in the cache, in place: the hint, the entry, the walk.
+// One translation, in place: the hint, the entry, the walk.
 ghost use Rattle.std.specs.Prelude.{◌≡◌};
 ghost use Rattle.word.specs.Ram.{word_at};
-ghost use Rattle.walk.specs.Walk.{walk_of};
-ghost use Rattle.tlb.specs.Entry.{slot_of};
-ghost use Rattle.tlb.specs.Resolve.{by_walk};
-ghost use Rattle.tlb.specs.declared.access.Kind.TheVariants.{Fetch};
+ghost use Rattle.tlb.specs.Translate.{asked, hint_left, hint_in, walked_in, miss_in, past_hint_in, translation_in};
+ghost use Rattle.tlb.specs.Translate.{tlb_after, fetch_in, fetched_in};
+ghost use Rattle.tlb.specs.Hand.{Handed, AfterHanded, Ready, AfterReady, NeedsWalk};
 
-use crate::access::{Kind, Privilege};
-use crate::hint::{FetchHint, Hint};
-use crate::resolve::{Asked, Query};
-use crate::{Tlb, hint, resolve};
+use crate::Tlb;
+use crate::access::{self, Kind, Privilege, Request};
+use crate::entry::Entry;
+use crate::hint::{self, FetchHint, Hint};
 use fault::Fault;
-use walk::regime::{Bank, Regime};
+use walk::regime::Regime;
 
 impl Tlb {
-    ghost use Rattle.tlb.specs.Step.{access_of, stored, miss_in, after_miss, hint_in, past_hint_in, after_past_hint};
-    ghost use Rattle.tlb.specs.Step.{translation_in, tlb_after, fetch_in, fetched_in};
-    ghost use Rattle.tlb.specs.Hand.{Handed, AfterHanded, Ready, AfterReady, NeedsWalk, walked_by, hinted_by};
-
-    // By a walk: a leaf becomes an entry and is judged, a fault makes none.
-    #[inline(always)]
-    #[tactic(auto, unfolding(crate::specs::Resolve::by_walk, crate::specs::Tlb::put_of))]
-    fn walk(
-        &mut self,
-        q: Query,
-        s: Bank,
-        privilege: Privilege,
-        va: u64,
-        kind: Kind,
-        base: u64,
-        ram: &[u8],
-    ) -> Result<u64, Fault>
-        ensures answer { result
-            ≡ (by_walk (walk_of s q.regime q.page (word_at base ram.now 8)) q privilege
-            self.old.cache.current va kind).answer }
-        ensures after { self.new ≡ stored self.old (slot_of q.tag) privilege.level
-            (by_walk (walk_of s q.regime q.page (word_at base ram.now 8)) q privilege self.old.cache.current va kind) }
-    {
-        self.counts.add_walk(privilege.level);
-        match s.walk(q.regime, q.page, base, ram) {
-            Ok(leaf) => {
-                let e = resolve::entry_for(leaf, self.cache.current, q.tag);
-                self.put(e);
-                e.judge(privilege.is_user(q.regime, kind), kind, va)
-            }
-            Err(code) => Err(fault::first(code)),
-        }
-    }
-
-    // Where the data hint sends an access, if it serves.
+    /// Where the data hint sends an access, if one serves.
     pub fn by_hint(&self, privilege: Privilege, va: u64, kind: Kind) -> Option<u64>
         ensures { result ≡ hint_in privilege va kind self.now }
     {
         if privilege.may_hint(kind) {
-            self.cache.hints[hint::data_slot(va, kind)].find(privilege.level, va)
+            self.hints[hint::data_slot(va, kind)].find(privilege.level, va)
         } else {
             None
         }
@@ -61,177 +26,116 @@ impl Tlb {
 
     // An allowed address becomes a hint, where one may serve.
     #[inline(always)]
-    #[tactic(auto, using(crate::proofs::Hands::hint_kept))]
-    fn keep(&mut self, privilege: Privilege, va: u64, kind: Kind, answer: Result<u64, Fault>)
-        ensures { self.new ≡ hinted_by self.old privilege va kind answer }
+    fn leave_hint(&mut self, a: Request, answer: Result<u64, Fault>)
+        ensures { self.new ≡ hint_left a.privilege a.va a.kind answer self.old }
     {
-        if privilege.may_hint(kind)
+        if a.privilege.may_hint(a.kind)
             && let Ok(pa) = answer
         {
-            self.cache.hints[hint::data_slot(va, kind)] = Hint::new(va, privilege.level, pa);
+            self.hints[hint::data_slot(a.va, a.kind)] = Hint::new(a.va, a.privilege.level, pa);
         }
     }
 
     // The answer where no walk is needed: with stage 1 off the address itself, or by the entry of its page. RAM is read
     // by no code here.
     #[inline(always)]
-    #[tactic(auto, unfolding(crate::specs::Resolve::ask_of, crate::specs::Resolve::resolve_with, crate::specs::Translate::miss_with, crate::specs::Tlb::get_of))]
-    fn ready(
-        &mut self,
-        s: Bank,
-        privilege: Privilege,
-        va: u64,
-        kind: Kind,
-        base: u64,
-        ram: &[u8],
-    ) -> Option<Result<u64, Fault>>
-        ensures answer { Ready (access_of s privilege va kind (word_at base ram.now 8)) self.old result }
-        ensures after { AfterReady (access_of s privilege va kind (word_at base ram.now 8)) self.old result self.new }
+    #[tactic(auto, unfolding(crate::specs::Translate::miss_in))]
+    fn ready(&mut self, a: Request, base: u64, ram: &[u8]) -> Option<Result<u64, Fault>>
+        ensures answer { Ready (asked a (word_at base ram.now 8)) self.old result }
+        ensures after { AfterReady (asked a (word_at base ram.now 8)) self.old result self.new }
     {
-        let Asked::Of(q) = resolve::ask(s, privilege, va) else {
-            return Some(Ok(va));
-        };
-        if let Some(e) = self.get(q.tag) {
-            self.counts.add_hit(privilege.level);
-            return Some(e.judge(privilege.is_user(q.regime, kind), kind, va));
+        let regime = Regime::of_level(a.privilege.level);
+        if !a.bank.stage1_on(regime) {
+            return Some(Ok(a.va));
+        }
+        let va = walk::tag::untag(a.bank.tcr, regime, a.va);
+        if let Some(e) = self.get(access::tag_of(regime, va)) {
+            self.count_hit(a.privilege.level);
+            return Some(e.judge(a.privilege.is_user(regime, a.kind), a.kind, a.va));
         }
         None
     }
 
+    // By a walk: a leaf becomes an entry and is judged, a fault makes none.
+    #[inline(always)]
+    #[tactic(auto, unfolding(crate::specs::Translate::walked_in))]
+    fn walk(&mut self, a: Request, base: u64, ram: &[u8]) -> Result<u64, Fault>
+        ensures answer { result
+            ≡ (walked_in (asked a (word_at base ram.now 8)).walk (asked a (word_at base ram.now 8)) self.old).answer }
+        ensures after { self.new
+            ≡ (walked_in (asked a (word_at base ram.now 8)).walk (asked a (word_at base ram.now 8)) self.old).after }
+    {
+        let regime = Regime::of_level(a.privilege.level);
+        let va = walk::tag::untag(a.bank.tcr, regime, a.va);
+        self.count_walk(a.privilege.level);
+        let leaf = a.bank.walk(regime, va, base, ram).map_err(fault::first)?;
+        let e = Entry::new(leaf, self.asid, access::tag_of(regime, va));
+        self.put(e);
+        e.judge(a.privilege.is_user(regime, a.kind), a.kind, a.va)
+    }
+
     // A translation that no hint serves, and that leaves none.
     #[inline(always)]
-    fn miss(
-        &mut self,
-        s: Bank,
-        privilege: Privilege,
-        va: u64,
-        kind: Kind,
-        base: u64,
-        ram: &[u8],
-    ) -> Result<u64, Fault>
-        ensures answer { result ≡ (miss_in (access_of s privilege va kind (word_at base ram.now 8)) self.old).answer }
-        ensures after { self.new ≡ after_miss (access_of s privilege va kind (word_at base ram.now 8)) self.old }
+    fn translate_slow(&mut self, a: Request, base: u64, ram: &[u8]) -> Result<u64, Fault>
+        ensures answer { result ≡ (miss_in (asked a (word_at base ram.now 8)) self.old).answer }
+        ensures after { self.new ≡ (miss_in (asked a (word_at base ram.now 8)) self.old).after }
     {
-        match self.ready(s, privilege, va, kind, base, ram) {
+        match self.ready(a, base, ram) {
             Some(answer) => answer,
-            None => {
-                let q = resolve::query_of(s, Regime::of_level(privilege.level), va);
-                self.walk(q, s, privilege, va, kind, base, ram)
-            }
+            None => self.walk(a, base, ram),
         }
     }
 
-    // What is at hand of a translation that no hint serves: an answer leaves a hint, where one may serve.
+    /// What is at hand of a translation that no hint serves: an answer leaves a hint, where one may serve.
     #[inline(always)]
-    #[tactic(auto, unfolding(crate::specs::Translate::applied))]
-    pub fn at_hand(
-        &mut self,
-        s: Bank,
-        privilege: Privilege,
-        va: u64,
-        kind: Kind,
-        base: u64,
-        ram: &[u8],
-    ) -> Option<Result<u64, Fault>>
-        ensures answer { Handed (access_of s privilege va kind (word_at base ram.now 8)) self.old result }
-        ensures after { AfterHanded (access_of s privilege va kind (word_at base ram.now 8)) self.old result self.new }
+    pub fn at_hand(&mut self, a: Request, base: u64, ram: &[u8]) -> Option<Result<u64, Fault>>
+        ensures answer { Handed (asked a (word_at base ram.now 8)) self.old result }
+        ensures after { AfterHanded (asked a (word_at base ram.now 8)) self.old result self.new }
     {
-        match self.ready(s, privilege, va, kind, base, ram) {
-            Some(answer) => {
-                self.keep(privilege, va, kind, answer);
-                Some(answer)
-            }
-            None => None,
-        }
+        let answer = self.ready(a, base, ram)?;
+        self.leave_hint(a, answer);
+        Some(answer)
     }
 
-    // A translation by a walk, whatever is at hand: where a walk is needed, the translation. It leaves a hint, where
-    // one may serve.
+    /// A translation by a walk, whatever is at hand: where a walk is needed, the translation. It leaves a hint, where
+    /// one may serve.
     #[inline(always)]
-    #[tactic(auto, unfolding(crate::specs::Translate::applied))]
-    pub fn by_walk(
-        &mut self,
-        s: Bank,
-        privilege: Privilege,
-        va: u64,
-        kind: Kind,
-        base: u64,
-        ram: &[u8],
-    ) -> Result<u64, Fault>
-        ensures walked { result ≡ (walked_by (access_of s privilege va kind (word_at base ram.now 8)) self.old).answer }
-        ensures answer { NeedsWalk (access_of s privilege va kind (word_at base ram.now 8)) self.old
-            → result ≡ (past_hint_in (access_of s privilege va kind (word_at base ram.now 8)) self.old).answer }
-        ensures after { NeedsWalk (access_of s privilege va kind (word_at base ram.now 8)) self.old
-            → self.new ≡ after_past_hint (access_of s privilege va kind (word_at base ram.now 8)) self.old }
+    pub fn by_walk(&mut self, a: Request, base: u64, ram: &[u8]) -> Result<u64, Fault>
+        ensures walked { result
+            ≡ (walked_in (asked a (word_at base ram.now 8)).walk (asked a (word_at base ram.now 8)) self.old).answer }
+        ensures answer { NeedsWalk (asked a (word_at base ram.now 8)) self.old
+            → result ≡ (past_hint_in (asked a (word_at base ram.now 8)) self.old).answer }
+        ensures after { NeedsWalk (asked a (word_at base ram.now 8)) self.old
+            → self.new ≡ (past_hint_in (asked a (word_at base ram.now 8)) self.old).after }
     {
-        let q = resolve::query_of(s, Regime::of_level(privilege.level), va);
-        let answer = self.walk(q, s, privilege, va, kind, base, ram);
-        self.keep(privilege, va, kind, answer);
+        let answer = self.walk(a, base, ram);
+        self.leave_hint(a, answer);
         answer
     }
 
-    // A translation that no hint serves. It leaves one, where one may serve.
-    #[inline(always)]
-    pub fn past_hint(
-        &mut self,
-        s: Bank,
-        privilege: Privilege,
-        va: u64,
-        kind: Kind,
-        base: u64,
-        ram: &[u8],
-    ) -> Result<u64, Fault>
-        ensures answer { result
-            ≡ (past_hint_in (access_of s privilege va kind (word_at base ram.now 8)) self.old).answer }
-        ensures after { self.new ≡ after_past_hint (access_of s privilege va kind (word_at base ram.now 8)) self.old }
+    /// Where an access goes: the hint first, where it may serve.
+    pub fn translate(&mut self, a: Request, base: u64, ram: &[u8]) -> Result<u64, Fault>
+        ensures answer { result ≡ (translation_in (asked a (word_at base ram.now 8)) self.old).answer }
+        ensures after { self.new ≡ tlb_after (asked a (word_at base ram.now 8)) self.old }
     {
-        match self.at_hand(s, privilege, va, kind, base, ram) {
-            Some(answer) => answer,
-            None => self.by_walk(s, privilege, va, kind, base, ram),
-        }
-    }
-
-    // Where an access of the kind to va goes: the hint first, where it may serve.
-    #[tactic(auto, unfolding(crate::specs::Translate::translation_with))]
-    pub fn translate(
-        &mut self,
-        s: Bank,
-        privilege: Privilege,
-        va: u64,
-        kind: Kind,
-        base: u64,
-        ram: &[u8],
-    ) -> Result<u64, Fault>
-        ensures answer { result
-            ≡ (translation_in (access_of s privilege va kind (word_at base ram.now 8)) self.old).answer }
-        ensures after { self.new ≡ tlb_after (access_of s privilege va kind (word_at base ram.now 8)) self.old }
-    {
-        match self.by_hint(privilege, va, kind) {
-            Some(pa) => Ok(pa),
-            None => self.past_hint(s, privilege, va, kind, base, ram),
-        }
-    }
-
-    // The translation that a fetch begins with: the fetch hint, and else one that leaves it.
-    #[tactic(auto, unfolding(crate::specs::Translate::fetch_with, crate::specs::Translate::fetch_end, crate::specs::Translate::fetch_applied))]
-    pub fn translate_fetch(
-        &mut self,
-        s: Bank,
-        privilege: Privilege,
-        va: u64,
-        base: u64,
-        ram: &[u8],
-    ) -> Result<u64, Fault>
-        ensures answer { result ≡ (fetch_in (access_of s privilege va Fetch (word_at base ram.now 8)) self.old).answer }
-        ensures after { self.new ≡ fetched_in (access_of s privilege va Fetch (word_at base ram.now 8)) self.old }
-    {
-        if let Some(pa) = self.cache.fetch.find(privilege.level, va) {
+        if let Some(pa) = self.by_hint(a.privilege, a.va, a.kind) {
             return Ok(pa);
         }
-        let answer = self.miss(s, privilege, va, Kind::Fetch, base, ram);
-        if let Ok(pa) = answer {
-            self.cache.fetch = FetchHint::new(va, privilege.level, pa);
-        }
+        let answer = self.translate_slow(a, base, ram);
+        self.leave_hint(a, answer);
         answer
+    }
+
+    /// The translation that a fetch begins with: the fetch hint, and else one that leaves it.
+    pub fn translate_fetch(&mut self, a: Request, base: u64, ram: &[u8]) -> Result<u64, Fault>
+        ensures answer { result ≡ (fetch_in (asked a (word_at base ram.now 8)) self.old).answer }
+        ensures after { self.new ≡ fetched_in (asked a (word_at base ram.now 8)) self.old }
+    {
+        if let Some(pa) = self.by_fetch_hint(a.privilege.level, a.va) {
+            return Ok(pa);
+        }
+        let pa = self.translate_slow(a, base, ram)?;
+        self.fetch = Some(FetchHint::new(a.va, a.privilege.level, pa));
+        Ok(pa)
     }
 }

@@ -2,43 +2,44 @@
 use crate::machine::Machine;
 use cpu::Core;
 use saved::{place, restore, save};
-use tlb::count::{Counts, Tally};
+use tlb::Tlb;
+use tlb::count::Tally;
 use tlb::entry::Entry;
 use tlb::hint::{FetchHint, Hint};
 use trace_text::line::{Part, Poke};
 
 // An entry when the generation is overwritten: a live one stays live; of the others those that were and are of a later
 // generation stay, if they may.
-fn moved(e: Entry, current: u32, to: u32, later: bool) -> Entry {
-    let live = e.generation == current;
-    let kept = later & (current < e.generation) & (to < e.generation);
+fn moved(e: Entry, from: u32, to: u32, later: bool) -> Entry {
+    let live = e.generation == from;
+    let kept = later & (from < e.generation) & (to < e.generation);
     if live {
-        return e.stamped(to);
+        return Entry {
+            generation: to,
+            ..e
+        };
     }
-    if kept { e } else { Entry::blank() }
+    if kept { e } else { Entry::default() }
 }
 
 fn move_generation(core: &mut Core, to: u32, later: bool) {
-    let current = core.tlb.cache.current;
+    let from = core.tlb.generation;
     for e in core.tlb.entries.iter_mut() {
-        *e = moved(*e, current.generation, to, later);
+        *e = moved(*e, from, to, later);
     }
     core.tlb.generation = to;
 }
 
 // Each counter at a value: by level EL0's alone, so that the sums are the value too.
-fn counts_at(value: u64) -> Counts {
-    let none = Tally::new();
-    let counted = Tally {
+fn put_counters(tlb: &mut Tlb, value: u64) {
+    tlb.levels = [Tally::default(); 4];
+    tlb.levels[0] = Tally {
         hits: value,
         walks: value,
     };
-    Counts {
-        levels: [counted, none, none, none],
-        flushes: value,
-        drops: value,
-        epoch: value,
-    }
+    tlb.flushes = value;
+    tlb.drops = value;
+    tlb.epoch = value;
 }
 
 // The bits of a word that a line sets.
@@ -74,7 +75,7 @@ fn entry_of(tag: u64, generation: u64, bits: u64, pa: u64) -> Entry {
             asid: (bits / 0x1_0000_0000 % 0x1_0000) as u16,
             pa,
         },
-        Err(_) => Entry::blank(),
+        Err(_) => Entry::default(),
     }
 }
 
@@ -85,7 +86,7 @@ pub fn poke(machine: &mut Machine, poke: Poke) {
         Poke::Pc(pc) => core.pc = pc,
         Poke::Spsel(on) => core.flags.spsel = on,
         Poke::Generation(to) => move_generation(core, to, false),
-        Poke::Counters(value) => core.tlb.counts = counts_at(value),
+        Poke::Counters(value) => put_counters(&mut core.tlb, value),
         Poke::Broadcast => core.tlb.broadcast = None,
     }
 }
@@ -112,12 +113,7 @@ pub fn overwrite(machine: &mut Machine, part: Part) {
         }
         Part::FetchHint { page, level, pa } => {
             let level = (level % 256) as u8;
-            core.tlb.fetch = FetchHint {
-                some: true,
-                page,
-                level,
-                pa,
-            };
+            core.tlb.fetch = Some(FetchHint { page, level, pa });
         }
     }
 }

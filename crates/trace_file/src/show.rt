@@ -15,10 +15,10 @@ struct Counts<'a>(&'a Core);
 
 impl fmt::Display for Counts<'_> {
     fn fmt<W: fmt::Write>(&self, f: &mut fmt::Formatter<W>) -> fmt::Result {
-        let counts = &self.0.tlb.counts;
-        write!(f, "{}", Levels(&counts.levels))?;
-        write!(f, " fl={:x} dr={:x}", counts.flushes, counts.drops)?;
-        write!(f, " ep={:x}", counts.epoch)?;
+        let tlb = &self.0.tlb;
+        write!(f, "{}", Levels(&tlb.levels))?;
+        write!(f, " fl={:x} dr={:x}", tlb.flushes, tlb.drops)?;
+        write!(f, " ep={:x}", tlb.epoch)?;
         let mut pending = [0; 2];
         read::pending(self.0, &mut pending);
         write!(f, " bc={}:{:x}", pending[0], pending[1])
@@ -35,11 +35,10 @@ struct Kept<'a> {
 impl fmt::Display for Kept<'_> {
     fn fmt<W: fmt::Write>(&self, f: &mut fmt::Formatter<W>) -> fmt::Result {
         let core = self.core;
-        let current = core.tlb.cache.current;
         let mark = u8::from(core.privilege.unprivileged);
         write!(f, "lp={:x} ap={:x}", core.last_pa, core.abort_pa)?;
         write!(f, " el={} um={mark}", self.level)?;
-        write!(f, " as={:x} gen={:x}", current.asid, current.generation)?;
+        write!(f, " as={:x} gen={:x}", core.tlb.asid, core.tlb.generation)?;
         write!(f, " par={:x} pc={:x}", core.sys.par_el1, core.pc)
     }
 }

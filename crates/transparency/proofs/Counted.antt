@@ -116,17 +116,17 @@ module _ (list : List (Lent real machine)) (m : Ram) where
 
     -- a Page adds just one to `drops` and one to `epoch`
     pub page-counted : Statement.page_counted list m e passed named
-    page-counted n q = counters-tell _ _ (levels-after list m (System e)) (levels-now list)
+    page-counted n q = counters-tell then now _ _ _ (levels-after list m (System e)) (levels-now list)
         (tlbi-counted ∙ ap (λ (v : Inval). inval_counted v (counters_of now)) q)
 
     -- an All one to `flushes` and one to `epoch`
     pub tlbi-all-counted : Statement.tlbi_all_counted list m e passed named
-    tlbi-all-counted q = counters-tell _ _ (levels-after list m (System e)) (levels-now list)
+    tlbi-all-counted q = counters-tell then now _ _ _ (levels-after list m (System e)) (levels-now list)
         (tlbi-counted ∙ ap (λ (v : Inval). inval_counted v (counters_of now)) q)
 
     -- an Asid one to `epoch` alone
     pub asid-counted : Statement.asid_counted list m e passed named
-    asid-counted a q = counters-tell _ _ (levels-after list m (System e)) (levels-now list)
+    asid-counted a q = counters-tell then now _ _ _ (levels-after list m (System e)) (levels-now list)
         (tlbi-counted ∙ ap (λ (v : Inval). inval_counted v (counters_of now)) q)
 
     -- A second broadcast that differs from the pending one becomes All, an equal one stays: of an Inner Shareable

@@ -122,7 +122,7 @@ module _ (list : List (Lent real machine)) (m : Ram) (x : Call) where
   pub call-level : Statement.call_level list m x
   call-level = events-level (bare_after list) x m (later_in (core_after list) m x) (model_after_list list)
 
-  counts-before : counters_of (now list).counts ≡ (model_after_list list).counts
+  counts-before : counters_of (now list) ≡ (model_after_list list).counts
   counts-before = counts-are list
 
   -- a level at which it makes no translation keeps its counters

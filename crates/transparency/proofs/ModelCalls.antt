@@ -111,7 +111,7 @@ module _ (list : List (Lent real machine)) (m : Ram) (x : Call) where
       }
 
   -- the counters are of four levels
-  pub levels-after : length (tlb_after_call list m x).counts.levels ≡ 4
+  pub levels-after : length (tlb_after_call list m x).levels ≡ 4
   levels-after = stands-then.well.levels
 
 pub levels-now : (list : List (Lent real machine)) → length (core_after list).tlb.levels ≡ 4

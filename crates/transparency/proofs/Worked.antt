@@ -23,12 +23,11 @@ use Rattle.tlb.specs.Maintenance.{invalidated_of, reshaped_of, retagged_of}
 use Rattle.tlb.specs.Lists.{Each}
 use Rattle.tlb.specs.Entry.{page_dropped}
 use Rattle.tlb.specs.Hint.{place_of}
-use Rattle.tlb.specs.Tlb.{blanks, no_hints, flushed, without_page}
+use Rattle.tlb.specs.Tlb.{blanks, no_hints, get_of, put_of}
 use Rattle.tlb.specs.Count.{no_tallies}
 use Rattle.tlb.specs.Tlb.{flush_of, drop_page_of, invalidate_of}
 use Rattle.tlb.specs.Access.{judged}
-use Rattle.tlb.specs.Resolve.{by_walk, resolve_with}
-use Rattle.tlb.specs.Translate.{miss_with, applied, translation_with, fetch_applied, fetch_end, fetch_with}
+use Rattle.tlb.specs.Translate.{walked_in, miss_in}
 use Rattle.tlb.specs.Asks.{translates}
 use Rattle.tlb.specs.declared.access.Kind.TheVariants.{Read}
 use Rattle.tlb.specs.declared.Inval.TheVariants.{Page}
@@ -151,8 +150,8 @@ tidied-settled = steps-settled real (plain_in fresh_bare) events new El1 0x40001
 pub by-cache : Statement.by_cache
 unfolding step_of run_of translate_of stepped_now translate_in after_access reg_of set_reg after_register_write applied_of with_regs refit_of retagged_of reshaped_of set_level
     sys_of tlbi_core invalidated_of same_shape asid_of asid_base fresh_core zeros fresh_control fresh_sys banked_at register_at
-    control_with sys_with write_reg missed_of named decode_of scope_of what_of tlbi_of flush_of flushed invalidate_of drop_page_of without_page page_dropped translation_with
-    miss_with resolve_with by_walk applied judged walk_of table_walk walk_range walk_from lookup_next level_next leaf_result leaf_translation leaf_permissions table_next
+    control_with sys_with write_reg missed_of named decode_of scope_of what_of tlbi_of flush_of invalidate_of drop_page_of page_dropped get_of put_of
+    miss_in walked_in judged walk_of table_walk walk_range walk_from lookup_next level_next leaf_result leaf_translation leaf_permissions table_next
     descaddr range_of params_of pa_size untagged word_at little_endian bytes_of place_of blanks no_hints
 by-cache = (refl, refl, refl)
 
@@ -161,7 +160,7 @@ by-cache = (refl, refl, refl)
 pub start-stale : Statement.start_stale
 unfolding step_of run_of translate_of stepped_now translate_in after_access reg_of set_reg after_register_write applied_of with_regs refit_of retagged_of reshaped_of set_level
     same_shape asid_of asid_base fresh_core zeros fresh_control fresh_sys banked_at register_at control_with sys_with write_reg missed_of
-    flush_of flushed translation_with miss_with resolve_with by_walk applied judged walk_of table_walk walk_range walk_from lookup_next level_next leaf_result
+    flush_of get_of put_of miss_in walked_in judged walk_of table_walk walk_range walk_from lookup_next level_next leaf_result
     leaf_translation leaf_permissions table_next descaddr range_of params_of pa_size untagged word_at little_endian bytes_of place_of blanks no_hints
 start-stale = (refl, refl, refl)
 
@@ -178,9 +177,9 @@ start-unsettled st =
     same e = cc
 
 pub counted-by-level : Statement.counted_by_level
-unfolding step_of run_of translate_of stepped_now fetch_pa_of fetch_stepped_now translate_fetch_in fetch_with fetch_end fetch_applied translate_in after_access
+unfolding step_of run_of translate_of stepped_now fetch_pa_of fetch_stepped_now translate_fetch_in translate_in after_access
     after_register_write applied_of with_regs refit_of retagged_of reshaped_of set_level set_mark
     same_shape asid_of asid_base fresh_core fresh_control fresh_sys banked_at register_at control_with sys_with write_reg missed_of
-    flush_of flushed translation_with miss_with resolve_with by_walk applied judged walk_of table_walk walk_range walk_from lookup_next level_next leaf_result
+    flush_of get_of put_of miss_in walked_in judged walk_of table_walk walk_range walk_from lookup_next level_next leaf_result
     leaf_translation leaf_permissions table_next descaddr range_of params_of pa_size untagged word_at little_endian bytes_of place_of blanks no_hints no_tallies
 counted-by-level = refl

@@ -77,26 +77,22 @@ module _ (list : List (Lent real machine)) (m : Ram) where
     abbrev pub tlbi_counted : Type 0
     tlbi_counted = counters_of then ≡ inval_counted what (counters_of now)
 
+    -- the counters by level stay, and the others are these
+    abbrev pub CountersAre : ℕ → ℕ → ℕ → Type 0
+    CountersAre flushes drops epoch =
+        (then.levels ≡ now.levels) × (then.flushes ≡ flushes) × (then.drops ≡ drops) × (then.epoch ≡ epoch)
+
     -- a Page adds just one to `drops` and one to `epoch`
     abbrev pub page_counted : Type 0
-    page_counted =
-        (n : ℕ) → what ≡ Page n
-        → then.counts
-        ≡ record now.counts { drops = (now.counts.drops + 1) % 2 ^ 64; epoch = (now.counts.epoch + 1) % 2 ^ 64 }
+    page_counted = (n : ℕ) → what ≡ Page n → CountersAre now.flushes ((now.drops + 1) % 2 ^ 64) ((now.epoch + 1) % 2 ^ 64)
 
     -- an All one to `flushes` and one to `epoch`
     abbrev pub tlbi_all_counted : Type 0
-    tlbi_all_counted =
-        what ≡ All
-        → then.counts
-        ≡ record now.counts { flushes = (now.counts.flushes + 1) % 2 ^ 64; epoch = (now.counts.epoch + 1) % 2 ^ 64 }
+    tlbi_all_counted = what ≡ All → CountersAre ((now.flushes + 1) % 2 ^ 64) now.drops ((now.epoch + 1) % 2 ^ 64)
 
     -- an Asid one to `epoch` alone
     abbrev pub asid_counted : Type 0
-    asid_counted =
-        (a : ℕ) → what ≡ Asid a
-        → then.counts
-        ≡ record now.counts { epoch = (now.counts.epoch + 1) % 2 ^ 64 }
+    asid_counted = (a : ℕ) → what ≡ Asid a → CountersAre now.flushes now.drops ((now.epoch + 1) % 2 ^ 64)
 
     -- A second broadcast that differs from the pending one becomes All, an equal one stays: of an Inner Shareable
     -- form, whose CRm is 3

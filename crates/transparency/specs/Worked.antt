@@ -1,16 +1,15 @@
 -- A worked list of calls, by computation on the core itself: the premise of faithfulness holds where the cache answers, and
 -- fails where a table was changed without a TLBI.
-use Rattle.std.specs.Prelude.{◌≡◌, true, List, [], ◌∷◌, ◌++◌, ℕ, Ok}
+use Rattle.std.specs.Prelude.{◌≡◌, true, List, [], ◌∷◌, ◌++◌, ℕ, Some, Ok}
 use Rattle.word.specs.Ram.{bytes_of}
-use Rattle.tlb.specs.Translate.{translation_in}
+use Rattle.tlb.specs.Translate.{hint_in}
 use Rattle.tlb.specs.declared.access.Kind.TheVariants.{Read}
-use Rattle.tlb.specs.declared.resolve.Source.TheVariants.{FromHint}
 use Rattle.cpu.specs.Bare.{bare_of}
 use Rattle.cpu.specs.Step.{step_of}
 use Rattle.operations.specs.declared.call.Call.{Call}
 use Rattle.operations.specs.declared.call.Call.TheVariants.{Translate, FetchPa, Register, Level, Mark, General, System}
 use Rattle.operations.specs.declared.call.Reply.TheVariants.{Value}
-use Rattle.history.specs.World.{uncached, access_of}
+use Rattle.history.specs.World.{uncached}
 use Rattle.history.specs.Calls.{Lent}
 use Rattle.history.specs.Instance.{Ram, real}
 use Rattle.transparency.specs.Bare.{missed_in}
@@ -66,8 +65,7 @@ tidied_settled = SettledAt (fed_by tidied) new 0x40001234
 
 abbrev pub by_cache : Type 0
 by_cache =
-    ((translation_in (access_of real (plain_in (bare_after tidied)) new Read 0x40001234) (core_after tidied).tlb).source
-    ≡ FromHint)
+    (hint_in (core_after tidied).privilege 0x40001234 Read (core_after tidied).tlb ≡ Some 0xC0001234)
     × ((step_of (core_after tidied) new.base new.bytes read).reply ≡ Value 0xC0001234)
     × (uncached real (plain_in (bare_after tidied)) new Read 0x40001234 ≡ Ok 0xC0001234)
 

@@ -5,7 +5,7 @@ use fault::Fault;
 use operations::call::{Call, Reply};
 use std::fmt;
 use tlb::access::Kind;
-use tlb::resolve;
+use tlb::entry::Entry;
 use walk::level::Walked;
 use walk::regime::Regime;
 
@@ -46,7 +46,7 @@ impl Told {
     pub fn of_walk(core: &Core, walked: Walked, regime: Regime, kind: Kind, va: u64) -> Self {
         match walked {
             Ok(leaf) => {
-                let entry = resolve::entry_for(leaf, core.tlb.cache.current, 0);
+                let entry = Entry::new(leaf, core.tlb.asid, 0);
                 let user = core.privilege.is_user(regime, kind);
                 Told::from(entry.judge(user, kind, va))
             }

@@ -1,6 +1,5 @@
 use Rattle.std.specs.Prelude.{refl}
-use Rattle.tlb.specs.Tlb.{flushed, without_page, without_asid}
-use Rattle.tlb.specs.Tlb.{flush_of, drop_page_of, drop_asid_of, invalidate_of, broadcast_of}
+use Rattle.tlb.specs.Tlb.{flush_of, drop_page_of, drop_asid_of, retag_of, invalidate_of, broadcast_of}
 use Rattle.tlb.specs.Maintenance.{invalidated_of}
 use Rattle.system.specs.Decode.{named, decode_of}
 use Rattle.system.specs.Tlbi.{scope_of, what_of, tlbi_of}
@@ -10,7 +9,7 @@ use Rattle.cpu.proofs.theorems.effect_of_invalidations.Goals as goal
 
 pub returns : goal.returns
 unfolding sys_of reg_of named decode_of tlbi_core after_access tlbi_of what_of scope_of invalidated_of invalidate_of broadcast_of flush_of drop_page_of
-    drop_asid_of flushed without_page without_asid
+    drop_asid_of retag_of
 returns c = record {
   invalidations = λ x. record {
     all = refl;

@@ -7,8 +7,8 @@ use Rattle.digest.proofs.parts.entries.Given as goal
 abbrev pub invariant-loop-j : goal.invariant-loop-j
 invariant-loop-j l = record {
   within : l.j ≤ 1024;
-  rest : digest_from l.s.digest (gathered (entry_words l.core.tlb.cache) (1024 - l.j) l.j)
-      ≡ digest_of (gathered (entry_words l.core.tlb.cache) 1024 0);
+  rest : digest_from l.s.digest (gathered (entry_words l.core.tlb) (1024 - l.j) l.j)
+      ≡ digest_of (gathered (entry_words l.core.tlb) 1024 0);
   few : l.s.count ≤ l.j;
-  left : l.s.count + how_many (live_at l.core.tlb.cache) (1024 - l.j) l.j ≡ live_entries l.core.tlb.cache;
+  left : l.s.count + how_many (live_at l.core.tlb) (1024 - l.j) l.j ≡ live_entries l.core.tlb;
 }
